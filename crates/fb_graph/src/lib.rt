@@ -1,1 +1,13 @@
+//! Decoding graphs, the problem of minimum-weight decoding over them, and its definitions.
+
 #![tactic(auto)]
+
+pub mod faults;
+pub mod lists;
+pub mod parts;
+pub mod scope_of;
+
+pub use faults::{GraphFault, NoMemory};
+pub use lists::{CutList, NumberList};
+pub use parts::{Cut, Edge, Row};
+pub use scope_of::Scope;

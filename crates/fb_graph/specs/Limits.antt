@@ -1,0 +1,58 @@
+-- What every problem that is solved keeps, and the problem of a whole graph.
+use Rattle.std.specs.Prelude.{ℕ, ◌≡◌, ◌≢◌, ◌<◌, ◌≤◌, ◌%◌, ◌^◌, ◌&&◌, Bool, true, false, not, nat_lt, List, length, All}
+use Rattle.std.specs.List.Sorted.{IsStrictlyIncreasing}
+use Rattle.fb_graph.specs.Parity.{is_in}
+use Rattle.fb_graph.specs.Problem.{Problem}
+use Rattle.fb_graph.specs.declared.parts.Edge.{Edge}
+
+-- the most vertices and edges of a graph, and the greatest weight
+abbrev pub most_vertices : ℕ
+most_vertices = 2 ^ 20
+
+abbrev pub most_edges : ℕ
+most_edges = 2 ^ 22
+
+abbrev pub most_weight : ℕ
+most_weight = 2 ^ 30
+
+-- two different ends in range, and an even weight within its limit
+pub record IsEdge (vertices : ℕ) (e : Edge) : Type 0 where
+  pub first : e.first < vertices
+  pub second : e.second < vertices
+  pub loopless : e.first ≢ e.second
+  pub even : e.weight % 2 ≡ 0
+  pub light : e.weight ≤ most_weight
+
+pub record IsWithinLimits (p : Problem) : Type 0 where
+  pub vertices : p.vertices ≤ most_vertices
+  pub edges : length p.edges ≤ most_edges
+  pub each_edge : All (IsEdge p.vertices) p.edges
+  pub real_below : (v : ℕ) → p.is_real v ≡ true → v < p.vertices
+
+-- a decoding graph as contracts see it: edges by their places, virtual vertices strictly rising
+pub record DecodingGraph : Type 0 where
+  pub vertices : ℕ
+  pub edges : List Edge
+  pub virtuals : List ℕ
+
+-- a real vertex is one in range that isn't virtual
+abbrev pub is_real_in : DecodingGraph → ℕ → Bool
+is_real_in g v = nat_lt v g.vertices && not (is_in g.virtuals v)
+
+-- the whole graph as a problem, with these vertices as its defects
+abbrev pub problem_of : DecodingGraph → List ℕ → Problem
+problem_of g defects =
+    record { vertices = g.vertices; edges = g.edges; is_real = is_real_in g; is_defect = is_in defects }
+
+-- what every graph keeps
+pub record IsGraph (g : DecodingGraph) : Type 0 where
+  pub vertices : g.vertices ≤ most_vertices
+  pub edges : length g.edges ≤ most_edges
+  pub each_edge : All (IsEdge g.vertices) g.edges
+  pub virtuals : All (λ v. v < g.vertices) g.virtuals
+  pub rising : IsStrictlyIncreasing g.virtuals
+
+-- the defects of a shot: real vertices, strictly rising
+pub record IsShot (g : DecodingGraph) (defects : List ℕ) : Type 0 where
+  pub rising : IsStrictlyIncreasing defects
+  pub real : All (λ v. is_real_in g v ≡ true) defects
