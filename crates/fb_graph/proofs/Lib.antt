@@ -1,0 +1,3 @@
+pub mod BuildSteps
+pub mod Ranges
+pub mod Layouts
