@@ -3,11 +3,13 @@
 #![tactic(auto)]
 
 pub mod faults;
+pub mod laws;
 pub mod lists;
 pub mod parts;
 pub mod scope_of;
 
 pub use faults::{GraphFault, NoMemory};
+pub use laws::weak_duality;
 pub use lists::{CutList, NumberList};
 pub use parts::{Cut, Edge, Row};
 pub use scope_of::Scope;

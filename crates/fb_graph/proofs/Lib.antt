@@ -1,0 +1,4 @@
+pub mod ParitySums
+pub mod Sums
+pub mod Sets
+pub mod Duality
