@@ -2,3 +2,5 @@ pub mod ParitySums
 pub mod Sums
 pub mod Sets
 pub mod Duality
+pub mod Walks
+pub mod OddComponents

@@ -1,11 +1,13 @@
 -- Sets of numbers as lists, and the edges that cross them.
-use Rattle.std.proofs.Common.{ℕ, ◌+◌, ◌<◌, ◌≤◌, ◌≡◌, ◌==◌, ◌||◌, Bool, true, false, List, [], ◌∷◌, length, refl, sym, ap, ◌∙◌, arith}
-use Rattle.std.proofs.lemmas.Bool.{eqb-true}
+use Rattle.std.proofs.Common.{ℕ, ◌+◌, ◌<◌, ◌≤◌, ◌≡◌, ◌==◌, ◌||◌, Bool, true, false, List, [], ◌∷◌, length, get_or, All, ◌⊎◌, inl, inr, subst, le_of_eq, refl, sym, ap, ◌∙◌, arith}
+use Rattle.std.proofs.lemmas.Bool.{eqb-true, eq-eqb, or_cases, or_left, or_right, false≢true, cases_lt}
+use Rattle.std.proofs.lemmas.List.Elements.{All-head, All-tail}
+use Rattle.std.proofs.lemmas.List.Folds.{list_any_at}
 use Rattle.fb_graph.specs.Parity.{differ, is_odd_count, is_in}
 use Rattle.fb_graph.specs.Problem.{touches, crosses}
 use Rattle.fb_graph.specs.Certificate.{AreDistinct}
 use Rattle.fb_graph.specs.declared.parts.Edge.{Edge}
-use Rattle.fb_graph.proofs.ParitySums.{odd-differ}
+use Rattle.fb_graph.proofs.ParitySums.{odd-differ, false-differ}
 
 -- in a distinct list a number stands an odd number of times exactly where it stands at all
 pub odd_equal : (vs : List ℕ) (v : ℕ) → AreDistinct vs → is_odd_count (λ u. u == v) vs ≡ is_in vs v
@@ -32,3 +34,70 @@ crosses_as_touches set e distinct =
     sym (odd-differ (λ v. v == e.first) (λ v. v == e.second) set
     ∙ (ap (λ a. differ a (is_odd_count (λ v. v == e.second) set)) (odd_equal set e.first distinct)
     ∙ ap (differ (is_in set e.first)) (odd_equal set e.second distinct)))
+
+-- each entry of a list is in it
+pub is_in_at : (set : List ℕ) (k d : ℕ) → k < length set → is_in set (get_or set k d) ≡ true
+is_in_at set k d less = list_any_at (λ u. u == get_or set k d) set k d less (eq-eqb _ _ refl)
+
+pub All-from_is_in : (P : ℕ → Type 0) (set : List ℕ) → ((v : ℕ) → is_in set v ≡ true → P v) → All P set
+All-from_is_in P set each k d less = each (get_or set k d) (is_in_at set k d less)
+
+pub is_in-cases : (w : ℕ) (ws : List ℕ) (v : ℕ) → is_in (w ∷ ws) v ≡ true → (w ≡ v) ⊎ (is_in ws v ≡ true)
+is_in-cases w ws v h = elim (or_cases (w == v) (is_in ws v) h) [ inl e ↦ inl (eqb-true w v e) | inr e ↦ inr e ]
+
+pub is_in-head : (w : ℕ) (ws : List ℕ) → is_in (w ∷ ws) w ≡ true
+is_in-head w ws = or_left (w == w) (is_in ws w) (eq-eqb w w refl)
+
+pub is_in-tail : (w : ℕ) (ws : List ℕ) (v : ℕ) → is_in ws v ≡ true → is_in (w ∷ ws) v ≡ true
+is_in-tail w ws v h = or_right (w == v) (is_in ws v) h
+
+pub is_in-All : (P : ℕ → Type 0) (set : List ℕ) → All P set → (v : ℕ) → is_in set v ≡ true → P v
+is_in-All P [] all v h = absurd (false≢true h)
+is_in-All P (w ∷ ws) all v h = step (is_in-cases w ws v h) (is_in-All P ws (All-tail P w ws all) v)
+  where
+    step : (w ≡ v) ⊎ (is_in ws v ≡ true) → (is_in ws v ≡ true → P v) → P v
+    step (inl e) rest = subst P e (All-head P w ws all)
+    step (inr e) rest = rest e
+
+-- an odd number of members that pass the test is at least one
+pub member_of_odd : (test : ℕ → Bool) (set : List ℕ) → is_odd_count test set ≡ true
+    → (v : ℕ) × (is_in set v ≡ true) × (test v ≡ true)
+member_of_odd test [] odd = absurd (false≢true odd)
+member_of_odd test (w ∷ ws) odd = step (test w) refl (member_of_odd test ws)
+  where
+    step : (b : Bool) → test w ≡ b
+        → (is_odd_count test ws ≡ true → (v : ℕ) × (is_in ws v ≡ true) × (test v ≡ true))
+        → (v : ℕ) × (is_in (w ∷ ws) v ≡ true) × (test v ≡ true)
+    step true e rest = (w, is_in-head w ws, e)
+    step false e rest =
+        let (v, within, passes) =
+        rest (sym (false-differ (is_odd_count test ws)) ∙ (ap (λ b. differ b (is_odd_count test ws)) (sym e) ∙ odd)) in
+        (v, is_in-tail w ws v within, passes)
+
+-- the least member of a set that isn't empty
+pub least_member : (set : List ℕ) (v : ℕ) → is_in set v ≡ true
+    → (m : ℕ) × (is_in set m ≡ true) × ((u : ℕ) → is_in set u ≡ true → m ≤ u)
+least_member [] v within = absurd (false≢true within)
+least_member (w ∷ []) v within = (w, is_in-head w [], λ u h. le_of_eq (only u (is_in-cases w [] u h)))
+  where
+    only : (u : ℕ) → (w ≡ u) ⊎ (is_in [] u ≡ true) → w ≡ u
+    only u (inl e) = e
+    only u (inr e) = absurd (false≢true e)
+least_member (w ∷ x ∷ xs) v within = step (least_member (x ∷ xs) x (is_in-head x xs))
+  where
+    pick : (m : ℕ) → is_in (x ∷ xs) m ≡ true → ((u : ℕ) → is_in (x ∷ xs) u ≡ true → m ≤ u) → (w < m) ⊎ (m ≤ w)
+        → (m : ℕ) × (is_in (w ∷ x ∷ xs) m ≡ true) × ((u : ℕ) → is_in (w ∷ x ∷ xs) u ≡ true → m ≤ u)
+    pick m in' least (inl less) = (w, is_in-head w (x ∷ xs), λ u h. bound u (is_in-cases w (x ∷ xs) u h))
+      where
+        bound : (u : ℕ) → (w ≡ u) ⊎ (is_in (x ∷ xs) u ≡ true) → w ≤ u
+        bound u (inl e) = le_of_eq e
+        bound u (inr e) = let f : m ≤ u = least u e in omega arith
+    pick m in' least (inr more) = (m, is_in-tail w (x ∷ xs) m in', λ u h. bound u (is_in-cases w (x ∷ xs) u h))
+      where
+        bound : (u : ℕ) → (w ≡ u) ⊎ (is_in (x ∷ xs) u ≡ true) → m ≤ u
+        bound u (inl e) = omega arith
+        bound u (inr e) = least u e
+
+    step : (m : ℕ) × (is_in (x ∷ xs) m ≡ true) × ((u : ℕ) → is_in (x ∷ xs) u ≡ true → m ≤ u)
+        → (m : ℕ) × (is_in (w ∷ x ∷ xs) m ≡ true) × ((u : ℕ) → is_in (w ∷ x ∷ xs) u ≡ true → m ≤ u)
+    step (m, in', least) = pick m in' least (cases_lt w m)
