@@ -4,3 +4,4 @@ pub mod Sets
 pub mod Duality
 pub mod Walks
 pub mod OddComponents
+pub mod Examples

@@ -1,8 +1,9 @@
 -- Sets of numbers as lists, and the edges that cross them.
-use Rattle.std.proofs.Common.{ℕ, ◌+◌, ◌<◌, ◌≤◌, ◌≡◌, ◌==◌, ◌||◌, Bool, true, false, List, [], ◌∷◌, length, get_or, All, ◌⊎◌, inl, inr, subst, le_of_eq, refl, sym, ap, ◌∙◌, arith}
-use Rattle.std.proofs.lemmas.Bool.{eqb-true, eq-eqb, or_cases, or_left, or_right, false≢true, cases_lt}
+use Rattle.std.proofs.Common.{ℕ, ◌+◌, ◌<◌, ◌≤◌, ◌≡◌, ◌==◌, ◌||◌, Bool, true, false, List, [], ◌∷◌, length, get_or, All, zero, suc, ◌⊎◌, inl, inr, subst, le_of_eq, lt_irrefl, refl, sym, ap, ◌∙◌, arith}
+use Rattle.std.proofs.lemmas.Bool.{eqb-true, eq-eqb, or_cases, or_left, or_right, false≢true, false_from_ne_true, cases_lt}
 use Rattle.std.proofs.lemmas.List.Elements.{All-head, All-tail}
 use Rattle.std.proofs.lemmas.List.Folds.{list_any_at}
+use Rattle.std.specs.List.Sorted.{IsStrictlyIncreasing}
 use Rattle.fb_graph.specs.Parity.{differ, is_odd_count, is_in}
 use Rattle.fb_graph.specs.Problem.{touches, crosses}
 use Rattle.fb_graph.specs.Certificate.{AreDistinct}
@@ -101,3 +102,41 @@ least_member (w ∷ x ∷ xs) v within = step (least_member (x ∷ xs) x (is_in-
     step : (m : ℕ) × (is_in (x ∷ xs) m ≡ true) × ((u : ℕ) → is_in (x ∷ xs) u ≡ true → m ≤ u)
         → (m : ℕ) × (is_in (w ∷ x ∷ xs) m ≡ true) × ((u : ℕ) → is_in (w ∷ x ∷ xs) u ≡ true → m ≤ u)
     step (m, in', least) = pick m in' least (cases_lt w m)
+
+-- rising lists, from the front
+pub rising-nil : IsStrictlyIncreasing []
+rising-nil k less = absurd (omega arith)
+
+pub rising-one : (v : ℕ) → IsStrictlyIncreasing (v ∷ [])
+rising-one v k less = absurd (omega arith)
+
+pub rising-cons : (v w : ℕ) (ws : List ℕ) → v < w → IsStrictlyIncreasing (w ∷ ws) → IsStrictlyIncreasing (v ∷ w ∷ ws)
+rising-cons v w ws before rising zero less = before
+rising-cons v w ws before rising (suc k) less =
+    let e : suc k + 1 ≡ suc (k + 1) = omega arith in
+    rw e (rising k (omega arith))
+
+pub rising-tail : (v : ℕ) (ws : List ℕ) → IsStrictlyIncreasing (v ∷ ws) → IsStrictlyIncreasing ws
+rising-tail v ws rising k less =
+    let e : suc k + 1 ≡ suc (k + 1) = omega arith in
+    rw e at (rising (suc k) (omega arith))
+
+-- what stands behind the first entry of a rising list is above it
+pub rising_above : (v : ℕ) (ws : List ℕ) → IsStrictlyIncreasing (v ∷ ws) → (u : ℕ) → is_in ws u ≡ true → v < u
+rising_above v [] rising u within = absurd (false≢true within)
+rising_above v (w ∷ ws) rising u within =
+    step (is_in-cases w ws u within) (rising_above w ws (rising-tail v (w ∷ ws) rising) u)
+  where
+    first : v < w
+    first = rising 0 (omega arith)
+
+    step : (w ≡ u) ⊎ (is_in ws u ≡ true) → (is_in ws u ≡ true → w < u) → v < u
+    step (inl e) rest = omega (arith, first)
+    step (inr e) rest = omega (arith, first, rest e)
+
+pub distinct_from_rising : (vs : List ℕ) → IsStrictlyIncreasing vs → AreDistinct vs
+distinct_from_rising [] rising = tt
+distinct_from_rising (v ∷ vs) rising = (
+  false_from_ne_true (is_in vs v) (λ within. lt_irrefl v (rising_above v vs rising v within)),
+  distinct_from_rising vs (rising-tail v vs rising),
+)
