@@ -5,3 +5,4 @@ pub mod Duality
 pub mod Walks
 pub mod OddComponents
 pub mod Examples
+pub mod ClosedSets

@@ -1,6 +1,6 @@
 //! What follows from the definitions alone. Each function does nothing: its clauses are the law.
 
-ghost use Rattle.fb_graph.specs.Laws.{WeakDuality, LeastWeight, EqualWeights, NoCorrection, BestHasNoOdd, ClosedIsOdd, LeastIsFirstOdd, SomeIsFirstOdd};
+ghost use Rattle.fb_graph.specs.Laws.{WeakDuality, LeastWeight, EqualWeights, NoCorrection, BestHasNoOdd, ClosedIsOdd, LeastIsFirstOdd, SomeIsFirstOdd, PartHasNoOddClosed, EdgeLeaves, PackingOfPart, PackingsJoined};
 
 /// Weak duality (Edmonds and Johnson 1973): feasible odd cuts add up to at most what any correction weighs.
 pub fn weak_duality()
@@ -27,4 +27,18 @@ pub fn closed_odd_set()
     ensures odd { ClosedIsOdd }
     ensures first { LeastIsFirstOdd }
     ensures some { SomeIsFirstOdd }
+{}
+
+/// A part of a problem without odd closed sets (Wu and Zhong 2023) has none either, and in such a problem some edge
+/// leaves each odd cut.
+pub fn no_odd_closed_set()
+    ensures part { PartHasNoOddClosed }
+    ensures leaves { EdgeLeaves }
+{}
+
+/// Feasible odd cuts of a part of a problem are such of the whole (Wu and Zhong 2023), and so are those of two parts
+/// that share no real vertex and that no edge links.
+pub fn packings_of_parts()
+    ensures part { PackingOfPart }
+    ensures joined { PackingsJoined }
 {}

@@ -9,7 +9,10 @@ pub mod parts;
 pub mod scope_of;
 
 pub use faults::{GraphFault, NoMemory};
-pub use laws::{closed_odd_set, least_weight, odd_has_no_correction, weak_duality};
+pub use laws::{
+    closed_odd_set, least_weight, no_odd_closed_set, odd_has_no_correction, packings_of_parts,
+    weak_duality,
+};
 pub use lists::{CutList, NumberList};
 pub use parts::{Cut, Edge, Row};
 pub use scope_of::Scope;
