@@ -1,3 +1,11 @@
 pub mod BuildSteps
-pub mod Ranges
+pub mod ClosedSets
+pub mod Duality
+pub mod Examples
 pub mod Layouts
+pub mod OddComponents
+pub mod ParitySums
+pub mod Ranges
+pub mod Sets
+pub mod Sums
+pub mod Walks

@@ -4,6 +4,7 @@
 
 mod building;
 pub mod faults;
+pub mod laws;
 pub mod lists;
 pub mod network;
 pub mod parts;
@@ -11,6 +12,10 @@ pub mod scope_of;
 pub mod whole;
 
 pub use faults::{GraphFault, NoMemory};
+pub use laws::{
+    closed_odd_set, least_weight, no_odd_closed_set, odd_has_no_correction, packings_of_parts,
+    weak_duality,
+};
 pub use lists::{CutList, NumberList};
 pub use network::Graph;
 pub use parts::{Cut, Edge, Row};

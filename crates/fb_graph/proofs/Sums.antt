@@ -1,0 +1,72 @@
+-- Sums of numbers over lists.
+use Rattle.std.proofs.Common.{ℕ, ◌+◌, ◌<◌, ◌≤◌, ◌≡◌, Bool, true, false, cond, List, [], ◌∷◌, length, All, sum_by, get_or, refl, sym, ap, ◌∙◌, le_trans, le_refl, arith}
+use Rattle.std.proofs.lemmas.List.Elements.{All-head, All-tail}
+use Rattle.std.proofs.lemmas.List.Sums.{sum_by-cons}
+use Rattle.std.proofs.lemmas.Bool.{false≢true}
+use Rattle.fb_graph.specs.Parity.{differ, is_odd_count}
+use Rattle.fb_graph.proofs.ParitySums.{false-differ}
+
+-- an odd number of elements that pass is at least one
+pub le-sum_of_odd : {X : Type 0} (q : X → Bool) (y : ℕ) (xs : List X) → is_odd_count q xs ≡ true
+    → y ≤ sum_by (λ x. cond (q x) y 0) xs
+le-sum_of_odd q y [] odd = absurd (false≢true odd)
+le-sum_of_odd {X = X} q y (x ∷ xs) odd = step (q x) refl (le-sum_of_odd q y xs)
+  where
+    part : X → ℕ
+    part z = cond (q z) y 0
+
+    step : (b : Bool) → q x ≡ b → (is_odd_count q xs ≡ true → y ≤ sum_by part xs)
+        → y ≤ sum_by part (x ∷ xs)
+    step true e ih = omega (arith, sum_by-cons part x xs, ap (λ b. cond b y 0) e)
+    step false e ih =
+        omega (
+          arith,
+          sum_by-cons part x xs,
+          ih (sym (false-differ (is_odd_count q xs)) ∙ (ap (λ b. differ b (is_odd_count q xs)) (sym e) ∙ odd)),
+        )
+
+pub sum_zero : {X : Type 0} (xs : List X) → sum_by (λ x. 0) xs ≡ 0
+sum_zero [] = refl
+sum_zero {X = X} (x ∷ xs) = omega (arith, sum_by-cons (λ (y : X). 0) x xs, sum_zero xs)
+
+pub sum_add : {X : Type 0} (f g : X → ℕ) (xs : List X)
+    → sum_by (λ x. f x + g x) xs ≡ sum_by f xs + sum_by g xs
+sum_add f g [] = refl
+sum_add f g (x ∷ xs) =
+    omega (arith, sum_by-cons (λ y. f y + g y) x xs, sum_by-cons f x xs, sum_by-cons g x xs, sum_add f g xs)
+
+pub sum_same : {X : Type 0} (f g : X → ℕ) (xs : List X) → All (λ x. f x ≡ g x) xs → sum_by f xs ≡ sum_by g xs
+sum_same f g [] all = refl
+sum_same f g (x ∷ xs) all =
+    omega (
+      arith,
+      sum_by-cons f x xs,
+      sum_by-cons g x xs,
+      All-head (λ y. f y ≡ g y) x xs all,
+      sum_same f g xs (All-tail (λ y. f y ≡ g y) x xs all),
+    )
+
+pub sum_le : {X : Type 0} (f g : X → ℕ) (xs : List X) → All (λ x. f x ≤ g x) xs → sum_by f xs ≤ sum_by g xs
+sum_le f g [] all = le_refl _
+sum_le f g (x ∷ xs) all =
+    omega (
+      arith,
+      sum_by-cons f x xs,
+      sum_by-cons g x xs,
+      All-head (λ y. f y ≤ g y) x xs all,
+      sum_le f g xs (All-tail (λ y. f y ≤ g y) x xs all),
+    )
+
+-- sums in either order
+pub sum_exchange : {X Y : Type 0} (f : X → Y → ℕ) (xs : List X) (ys : List Y)
+    → sum_by (λ x. sum_by (f x) ys) xs ≡ sum_by (λ y. sum_by (λ x. f x y) xs) ys
+sum_exchange f [] ys = sym (sum_zero ys)
+sum_exchange f (x ∷ xs) ys =
+    omega (
+      arith,
+      sum_by-cons (λ z. sum_by (f z) ys) x xs,
+      sum_exchange f xs ys,
+      sum_same (λ y. sum_by (λ z. f z y) (x ∷ xs)) (λ y. f x y + sum_by (λ z. f z y) xs) ys
+          (λ k d less. sum_by-cons (λ z. f z (get_or ys k d)) x xs),
+      sum_add (f x) (λ y. sum_by (λ z. f z y) xs) ys,
+    )
