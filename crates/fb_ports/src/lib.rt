@@ -1,1 +1,15 @@
 #![tactic(auto)]
+
+//! The ports to the outside: files that are read by name, and sinks that take bytes.
+//!
+//! Each port counts its faults, and answers [`Failed`] only where that count rose in the call.
+
+mod reading;
+mod writing;
+
+pub use reading::Files;
+pub use writing::{Sink, put_all, put_parts};
+
+/// A call on the outside failed. Its port counted the fault.
+#[derive(Clone, Copy, Debug, PartialEq, Eq)]
+pub struct Failed;
