@@ -4,12 +4,18 @@
 //!
 //! Each port counts its faults, and answers [`Failed`] only where that count rose in the call.
 
+mod memory;
 mod reading;
 mod writing;
 
+pub use memory::MemFiles;
 pub use reading::Files;
 pub use writing::{Sink, put_all, put_parts};
 
 /// A call on the outside failed. Its port counted the fault.
 #[derive(Clone, Copy, Debug, PartialEq, Eq)]
 pub struct Failed;
+
+/// Memory ran out.
+#[derive(Clone, Copy, Debug, PartialEq, Eq)]
+pub struct NoMemory;
