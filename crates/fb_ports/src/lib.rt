@@ -8,7 +8,7 @@ mod memory;
 mod reading;
 mod writing;
 
-pub use memory::MemFiles;
+pub use memory::{MemFiles, MemSink};
 pub use reading::Files;
 pub use writing::{Sink, put_all, put_parts};
 
