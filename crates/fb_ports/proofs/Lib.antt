@@ -1,2 +1,3 @@
 pub mod Onward
 pub mod Lookups
+pub mod Streams

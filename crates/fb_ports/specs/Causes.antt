@@ -1,8 +1,7 @@
 -- What calls on the outside say of their faults, of the names that they ask for, and of the bytes that they move.
 --
 -- A port counts its faults. Its other meanings are optional: `None` tells nothing, and a clause claims nothing of it.
-use Rattle.std.specs.Prelude.{◌≡◌, ℕ, ◌+◌, ◌-◌, ◌^◌, ◌<◌, ◌≤◌, min, List, [], ◌∷◌, ◌++◌, Option, None, Some, IsSome, Result, MatchResult, OnErr, ⊤}
-pub use Rattle.std.specs.Prelude.{length}
+use Rattle.std.specs.Prelude.{◌≡◌, ℕ, ◌+◌, ◌-◌, ◌^◌, ◌<◌, ◌≤◌, min, List, [], ◌∷◌, ◌++◌, Option, None, Some, IsSome, Result, MatchResult, OnErr, ⊤, length, drop}
 pub use Rattle.std.specs.List.{concat}
 pub use Rattle.std.specs.Io.{ReadsAtMost, WritesAtMost}
 pub use Rattle.std.specs.Io.KnownBytes.{Appends, Consumes, Keeps, IsAtEnd, ReadConsumes, WriteAppends}
@@ -34,3 +33,9 @@ Opens (Some named) left name r = MatchResult r (λ _. (left ≡ named name) × I
 -- what a failed write of `bs` in several parts has appended: a front part of `bs`
 abbrev pub AppendsFront : Option (List ℕ) → Option (List ℕ) → List ℕ → Type 0
 AppendsFront old new bs = (front rest : List ℕ) × (bs ≡ front ++ rest) × Appends old new front
+
+-- bytes that are told have lost at most n from their front, and nothing else
+abbrev pub ConsumesAtMost : Option (List ℕ) → Option (List ℕ) → ℕ → Type 0
+ConsumesAtMost None new n = ⊤
+ConsumesAtMost (Some xs) None n = ⊥
+ConsumesAtMost (Some xs) (Some ys) n = (length xs ≤ length ys + n) × (ys ≡ drop (length xs - length ys) xs)

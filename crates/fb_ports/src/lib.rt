@@ -9,7 +9,7 @@ mod reading;
 mod writing;
 
 pub use memory::{MemFiles, MemSink};
-pub use reading::Files;
+pub use reading::{Files, ReadError, read_whole};
 pub use writing::{Sink, put_all, put_parts};
 
 /// A call on the outside failed. Its port counted the fault.
