@@ -6,10 +6,12 @@
 
 mod memory;
 mod reading;
+mod system;
 mod writing;
 
 pub use memory::{MemFiles, MemSink};
 pub use reading::{Files, ReadError, read_whole};
+pub use system::{OsFiles, OsSink};
 pub use writing::{Sink, put_all, put_parts};
 
 /// A call on the outside failed. Its port counted the fault.

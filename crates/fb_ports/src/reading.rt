@@ -1,4 +1,4 @@
-ghost use Rattle.std.specs.Prelude.{◌≡◌, ℕ, ◌+◌, ◌^◌, ◌<◌, ◌≤◌, Option, List, length, vec_len, string_bytes, OnOk, IfOk, IfSome, IsErrOf};
+ghost use Rattle.std.specs.Prelude.{◌≡◌, ◌≢◌, ℕ, ◌+◌, ◌^◌, ◌<◌, ◌≤◌, Option, List, length, vec_len, string_bytes, OnOk, IfOk, IfSome, IsErrOf};
 ghost use Rattle.fb_ports.specs.Causes.{HasCause, HasRoom, TellsMore, Opens, ReadsAtMost, ReadConsumes, ConsumesAtMost, IsAtEnd, Rose};
 
 use std::alloc::Global;
@@ -88,6 +88,8 @@ pub fn read_whole<F: Files>(alloc: Global, files: &mut F, limit: usize) -> Resul
     ensures later { F.faults files.old ≤ F.faults files.new }
     ensures seen {
         F.faults files.old < F.faults files.new → IsErrOf result ReadError.ReadFault }
+    ensures calm {
+        result ≢ Err ReadError.ReadFault → F.faults files.new ≡ F.faults files.old }
 
     ensures names { F.named files.new ≡ F.named files.old }
     ensures asks { F.asked files.new ≡ F.asked files.old }
