@@ -2,6 +2,7 @@ ghost use Rattle.std.specs.Prelude.{◌≡◌, ℕ};
 
 use std::fs;
 use std::io::{Read, Write};
+use std::marker::Model;
 use std::rt;
 
 use crate::{Failed, Files, Sink};
@@ -14,7 +15,8 @@ enum Current<F, S> {
     Input(S),
 }
 
-/// The files of the system, by name. The name `-` is standard input. It tells no bytes and no names.
+/// The files of the system, by name. The name `-` is standard input. It tells no bytes and no names,
+/// and contracts see it as its count of faults.
 #[derive(Drop)]
 pub struct OsFiles<'a, R: rt::Files + Input> {
     rt: &'a R,
@@ -22,10 +24,18 @@ pub struct OsFiles<'a, R: rt::Files + Input> {
     faults: u64,
 }
 
+impl<'a, R: rt::Files + Input> Model for OsFiles<'a, R> {
+    ghost use Rattle.std.specs.Prelude.{ℕ};
+
+    ghost Value = { ℕ };
+
+    ghost view = { λ f. f.faults };
+}
+
 impl<'a, R: rt::Files + Input> OsFiles<'a, R> {
     /// No file is open yet, and no fault came.
     pub fn new(rt: &'a R) -> Self
-        ensures { result.faults ≡ 0 }
+        ensures { result ≡ 0 }
     {
         OsFiles {
             rt,
@@ -41,7 +51,7 @@ impl<R: rt::Files + Input> Files for OsFiles<'_, R> {
     ghost named = { λ _. None };
     ghost left = { λ _. None };
     ghost asked = { λ _. None };
-    ghost faults = { λ f. f.faults };
+    ghost faults = { λ n. n };
 
     fn open_file(&mut self, name: String) -> Result<(), Failed> {
         // What was open is closed first, so that its descriptor is free again.
@@ -73,17 +83,25 @@ impl<R: rt::Files + Input> Files for OsFiles<'_, R> {
 }
 
 /// A stream of the system that takes bytes, as standard output and standard error do. It tells no
-/// bytes.
+/// bytes, and contracts see it as its count of faults.
 #[derive(Drop)]
 pub struct OsSink<W: Write + Drop> {
     inner: W,
     faults: u64,
 }
 
+impl<W: Write + Drop> Model for OsSink<W> {
+    ghost use Rattle.std.specs.Prelude.{ℕ};
+
+    ghost Value = { ℕ };
+
+    ghost view = { λ s. s.faults };
+}
+
 impl<W: Write + Drop> OsSink<W> {
     /// Puts go to `inner`, and no fault came yet.
     pub fn new(inner: W) -> Self
-        ensures { result.faults ≡ 0 }
+        ensures { result ≡ 0 }
     {
         OsSink { inner, faults: 0 }
     }
@@ -93,7 +111,7 @@ impl<W: Write + Drop> Sink for OsSink<W> {
     ghost use Rattle.std.specs.Prelude.{None};
 
     ghost taken = { λ _. None };
-    ghost faults = { λ s. s.faults };
+    ghost faults = { λ n. n };
 
     fn put(&mut self, piece: &[u8]) -> Result<usize, Failed> {
         if piece.is_empty() {
