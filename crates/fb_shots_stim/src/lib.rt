@@ -1,1 +1,9 @@
+//! Readers of detector shots in Stim's result formats `01`, `b8` and `dets`, from bytes that come in any pieces.
 #![tactic(auto)]
+
+mod answer;
+mod dense;
+mod pending;
+
+pub use answer::{Detectors, Kind, Next, NoMemory};
+pub use dense::Records01;
