@@ -1,5 +1,5 @@
 -- What an answer of a reader says of the bytes that it was fed.
-use Rattle.std.specs.Prelude.{◌≡◌, ℕ, Bool, true, false, List, [], ◌∷◌, ◌++◌, if◌then◌else◌}
+use Rattle.std.specs.Prelude.{◌≡◌, ℕ, true, false, List, [], ◌∷◌, ◌++◌, if◌then◌else◌}
 use Rattle.fb_shots_stim.specs.declared.answer.Kind.{Kind}
 use Rattle.fb_shots_stim.specs.declared.answer.Next.{Next}
 use Rattle.fb_shots_stim.specs.declared.answer.Next.TheVariants.{Shot, NotYet, End, Refused}

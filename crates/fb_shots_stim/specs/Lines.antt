@@ -1,6 +1,8 @@
--- The lines of a text.
-use Rattle.std.specs.Prelude.{ℕ, ◌==◌, Bool, List, [], ◌∷◌, ◌++◌, map, if◌then◌else◌}
+-- The lines of a text, and what a text holds whose records are lines.
+use Rattle.std.specs.Prelude.{ℕ, ◌==◌, Bool, List, [], ◌∷◌, ◌++◌, map, if◌then◌else◌, Option, Result}
 use Rattle.std.specs.List.{list_any}
+use Rattle.fb_shots_stim.specs.declared.answer.Kind.{Kind}
+use Rattle.fb_shots_stim.specs.Records.{Ending, at_end, Records, go_down}
 
 -- whether the byte stands in the bytes
 abbrev pub holds : ℕ → List ℕ → Bool
@@ -48,3 +50,11 @@ begun_line bytes = without_return (last_part 10 bytes)
 abbrev pub after_line : List ℕ → List ℕ
 after_line [] = []
 after_line (b ∷ bytes) = if b == 10 then bytes else after_line bytes
+
+-- What a whole input holds whose lines are judged so.
+abbrev pub records_by_lines : (List ℕ → Result (Option (List ℕ)) Kind) → List ℕ → Records
+records_by_lines judge bytes = go_down judge (lines_of bytes) at_end
+
+-- What is settled by bytes that may go on, where the line that may go on is judged by begun.
+abbrev pub front_by_lines : (List ℕ → Result (Option (List ℕ)) Kind) → (List ℕ → Ending) → List ℕ → Records
+front_by_lines judge begun bytes = go_down judge (whole_lines bytes) (begun (begun_line bytes))

@@ -1,10 +1,10 @@
 -- The format `01` of Stim's result formats: a line for each shot, a byte `0` or `1` for each detector.
-use Rattle.std.specs.Prelude.{ℕ, ◌+◌, ◌==◌, nat_lt, Bool, ◌||◌, List, [], ◌∷◌, length, take, if◌then◌else◌, Option, Some, None, Result, Ok, Err}
+use Rattle.std.specs.Prelude.{ℕ, ◌+◌, ◌==◌, nat_lt, Bool, ◌||◌, List, [], ◌∷◌, length, take, if◌then◌else◌, Option, Some, Result, Ok, Err}
 use Rattle.std.specs.List.{list_all}
 use Rattle.fb_shots_stim.specs.declared.answer.Kind.{Kind}
 use Rattle.fb_shots_stim.specs.declared.answer.Kind.TheVariants.{BadByte, ShortRecord, LongRecord}
-use Rattle.fb_shots_stim.specs.Records.{Ending, at_end, still_open, refused, Records, go_down, Reader}
-use Rattle.fb_shots_stim.specs.Lines.{whole_lines, lines_of, begun_line}
+use Rattle.fb_shots_stim.specs.Records.{Ending, still_open, refused, Records, Reader}
+use Rattle.fb_shots_stim.specs.Lines.{records_by_lines, front_by_lines}
 use Rattle.fb_shots_stim.specs.Answers.{reading}
 
 -- the byte `0` or `1`
@@ -32,11 +32,11 @@ begun_01 n line =
 
 -- what a whole input holds
 abbrev pub records_01 : ℕ → List ℕ → Records
-records_01 n bytes = go_down (line_01 n) (lines_of bytes) at_end
+records_01 n = records_by_lines (line_01 n)
 
 -- what is settled by bytes that may go on
 abbrev pub front_01 : ℕ → List ℕ → Records
-front_01 n bytes = go_down (line_01 n) (whole_lines bytes) (begun_01 n (begun_line bytes))
+front_01 n = front_by_lines (line_01 n) (begun_01 n)
 
 abbrev pub reading_01 : Reader → Records
 reading_01 = reading records_01 front_01
