@@ -1,7 +1,7 @@
 -- What is read of a text whose records are lines: by its first line, and in two pieces.
-use Rattle.std.proofs.Common.{◌≡◌, ℕ, Bool, true, false, List, [], ◌∷◌, ◌++◌, map, Option, Some, None, Result, Ok, Err, refl, sym, ap, subst, ◌∙◌, append_assoc, inl, inr}
+use Rattle.std.proofs.Common.{◌≡◌, ℕ, Bool, true, false, List, [], ◌∷◌, ◌++◌, map, Option, Some, None, Result, Ok, Err, refl, sym, ap, subst, ◌∙◌, append_assoc, inl, inr, length, ◌+◌, ◌<◌, arith}
 use Rattle.std.proofs.lemmas.Bool.{cases_Bool}
-use Rattle.std.proofs.lemmas.List.{map-append, append-nil}
+use Rattle.std.proofs.lemmas.List.{map-append, append-nil, length-append}
 use Rattle.fb_shots_stim.specs.declared.answer.Kind.{Kind}
 use Rattle.fb_shots_stim.specs.Records.{Ending, at_end, still_open, refused, Records, only, in_front, with_line, go_down, GoesOn, Reader}
 use Rattle.fb_shots_stim.specs.declared.answer.Next.{Next}
@@ -124,6 +124,7 @@ pub gives_line : (judge : Judge) (begun : List ℕ → Ending) (old new : Reader
 gives_line judge begun old new line shot cut h j =
     let is_shot = λ (r : Records). ap (λ (given : Result (Option (List ℕ)) Kind). with_line given r) j in
     record {
+      shorter = omega (arith, ap length cut, length-append line (10 ∷ new.rest));
       now = ap (records_by_lines judge) cut ∙ records_one judge line new.rest h ∙ is_shot (records_by_lines judge new.rest);
       so_far = λ _. ap (front_by_lines judge begun) cut ∙ front_one judge begun line new.rest h ∙ is_shot (front_by_lines judge begun new.rest);
       later = λ _ more. ap (λ (l : List ℕ). records_by_lines judge (l ++ more)) cut
@@ -134,6 +135,7 @@ gives_line judge begun old new line shot cut h j =
 -- the last line of a whole input, which is a shot
 pub gives_last : (judge : Judge) (begun : List ℕ → Ending) (old new : Reader) (b : ℕ) (line : List ℕ) (shot : List ℕ) → old.finished ≡ true → old.rest ≡ b ∷ line → new.rest ≡ [] → holds 10 (b ∷ line) ≡ false → judge (without_return (b ∷ line)) ≡ Ok (Some shot) → Gives (records_by_lines judge) (front_by_lines judge begun) old new shot
 gives_last judge begun old new b line shot done old-is new-is h j = record {
+  shorter = omega (arith, ap length old-is, ap length new-is);
   now = ap (records_by_lines judge) old-is ∙ records_none judge b line h
       ∙ ap (λ (given : Result (Option (List ℕ)) Kind). with_line given (only at_end)) j
       ∙ ap (λ (l : List ℕ). in_front shot (records_by_lines judge l)) (sym new-is);

@@ -21,6 +21,10 @@ only ending = record { shots = []; ending = ending }
 abbrev pub in_front : List ℕ → Records → Records
 in_front shot r = record { shots = shot ∷ r.shots; ending = r.ending }
 
+-- so many shots before all the others
+abbrev pub all_in_front : List (List ℕ) → Records → Records
+all_in_front shots r = record { shots = shots ++ r.shots; ending = r.ending }
+
 -- A line or block is a shot, or is skipped, or is refused; then nothing after it counts.
 abbrev pub with_line : Result (Option (List ℕ)) Kind → Records → Records
 with_line (Ok (Some shot)) r = in_front shot r

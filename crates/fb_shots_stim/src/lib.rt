@@ -3,7 +3,12 @@
 
 mod answer;
 mod dense;
+mod laws;
 mod pending;
 
 pub use answer::{Detectors, Kind, Next, NoMemory};
 pub use dense::Records01;
+pub use laws::goes_on_01;
+
+#[cfg(test)]
+mod tests;
