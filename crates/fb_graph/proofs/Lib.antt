@@ -6,3 +6,5 @@ pub mod Walks
 pub mod OddComponents
 pub mod Examples
 pub mod ClosedSets
+pub mod OddOnes
+pub mod Resolving

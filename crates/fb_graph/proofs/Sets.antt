@@ -1,8 +1,11 @@
 -- Sets of numbers as lists, and the edges that cross them.
-use Rattle.std.proofs.Common.{ℕ, ◌+◌, ◌<◌, ◌≤◌, ◌≡◌, ◌==◌, ◌||◌, Bool, true, false, List, [], ◌∷◌, length, get_or, All, zero, suc, ◌⊎◌, inl, inr, subst, le_of_eq, lt_irrefl, refl, sym, ap, ◌∙◌, arith}
-use Rattle.std.proofs.lemmas.Bool.{eqb-true, eq-eqb, or_cases, or_left, or_right, false≢true, false_from_ne_true, cases_lt}
+use Rattle.std.proofs.Common.{ℕ, ◌+◌, ◌<◌, ◌≤◌, ◌≡◌, ◌==◌, ◌||◌, Bool, true, false, List, [], ◌∷◌, length, get_or, All, zero, suc, ◌⊎◌, inl, inr, subst, cond, count_by, le_trans, le_of_eq, lt_irrefl, refl, sym, ap, ◌∙◌, arith}
+use Rattle.std.proofs.lemmas.Bool.{eqb-true, eq-eqb, or_cases, or_left, or_right, cond_both, false≢true, false_from_ne_true, cases_lt}
 use Rattle.std.proofs.lemmas.List.Elements.{All-head, All-tail}
 use Rattle.std.proofs.lemmas.List.Folds.{list_any_at}
+use Rattle.std.proofs.lemmas.List.FromFn.{length-range_with_len, get_or-range_with_len}
+use Rattle.std.proofs.lemmas.List.Sums.{sum_by-cons}
+use Rattle.std.specs.List.{range_with_len}
 use Rattle.std.specs.List.Sorted.{IsStrictlyIncreasing}
 use Rattle.fb_graph.specs.Parity.{differ, is_odd_count, is_in}
 use Rattle.fb_graph.specs.Problem.{touches, crosses}
@@ -27,6 +30,34 @@ odd_equal (w ∷ vs) v distinct = step (w == v) refl (odd_equal vs v distinct.1)
     step true e ih =
         rw e (here (is_in vs v) (is_odd_count (λ u. u == v) vs) (ap (is_in vs) (sym (eqb-true w v e)) ∙ distinct.0) ih)
     step false e ih = rw e (there (is_in vs v) (is_odd_count (λ u. u == v) vs) ih)
+
+-- 1 where the test holds, else 0
+abbrev pub one_if : Bool → ℕ
+one_if b = cond b 1 0
+
+-- and once exactly there
+pub count_equal : (vs : List ℕ) (v : ℕ) → AreDistinct vs → count_by (λ u. u == v) vs ≡ one_if (is_in vs v)
+count_equal [] v distinct = refl
+count_equal (w ∷ vs) v distinct = step (w == v) refl (count_equal vs v distinct.1)
+  where
+    one : ℕ → ℕ
+    one u = one_if (u == v)
+
+    absent : (w == v) ≡ true → one_if (is_in vs v) ≡ 0
+    absent e = ap one_if (ap (is_in vs) (sym (eqb-true w v e)) ∙ distinct.0)
+
+    step : (t : Bool) → (w == v) ≡ t → count_by (λ u. u == v) vs ≡ one_if (is_in vs v)
+        → count_by (λ u. u == v) (w ∷ vs) ≡ one_if ((w == v) || is_in vs v)
+    step true e ih =
+        sum_by-cons one w vs
+        ∙ omega (arith, ap one_if e, ap (λ b. one_if (b || is_in vs v)) e, ih, absent e)
+    step false e ih =
+        sum_by-cons one w vs ∙ omega (arith, ap one_if e, ap (λ b. one_if (b || is_in vs v)) e, ih)
+
+pub count_equal-le : (vs : List ℕ) (v : ℕ) → AreDistinct vs → count_by (λ u. u == v) vs ≤ 1
+count_equal-le vs v distinct =
+    le_trans (le_of_eq (count_equal vs v distinct))
+    (cond_both {A = ℕ} (is_in vs v) 1 0 (λ x. x ≤ 1) (λ e. omega arith) (λ e. omega arith))
 
 -- an edge crosses a set exactly where it touches an odd number of the set's members
 pub crosses_as_touches : (set : List ℕ) (e : Edge) → AreDistinct set
@@ -140,3 +171,19 @@ distinct_from_rising (v ∷ vs) rising = (
   false_from_ne_true (is_in vs v) (λ within. lt_irrefl v (rising_above v vs rising v within)),
   distinct_from_rising vs (rising-tail v vs rising),
 )
+
+pub range_rises : (a n : ℕ) → IsStrictlyIncreasing (range_with_len a n)
+range_rises a n k less =
+    let after : k + 1 < n = omega (arith, length-range_with_len a n) in
+    omega (arith, get_or-range_with_len a n k 0 (omega arith), get_or-range_with_len a n (k + 1) 0 after)
+
+pub range_below : (n : ℕ) → All (λ k. k < n) (range_with_len 0 n)
+range_below n k d less =
+    let below : k < n = omega (arith, length-range_with_len 0 n) in
+    omega (arith, get_or-range_with_len 0 n k d below)
+
+pub is_in-range : (n v : ℕ) → v < n → is_in (range_with_len 0 n) v ≡ true
+is_in-range n v below =
+    let at_v : get_or (range_with_len 0 n) v 0 ≡ v = omega (arith, get_or-range_with_len 0 n v 0 below) in
+    ap (is_in (range_with_len 0 n)) (sym at_v)
+    ∙ is_in_at (range_with_len 0 n) v 0 (omega (arith, length-range_with_len 0 n))
