@@ -7,4 +7,4 @@ pub mod OddComponents
 pub mod Examples
 pub mod ClosedSets
 pub mod OddOnes
-pub mod Resolving
+pub mod Matching
