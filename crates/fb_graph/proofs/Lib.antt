@@ -8,3 +8,4 @@ pub mod Examples
 pub mod ClosedSets
 pub mod OddOnes
 pub mod Matching
+pub mod ClosedComponents

@@ -7,9 +7,9 @@ use Rattle.std.proofs.lemmas.List.Kept.{IsStrictlyIncreasing-filter}
 use Rattle.fb_graph.specs.Parity.{differ, is_odd_count, is_in}
 use Rattle.fb_graph.specs.Certificate.{AreDistinct}
 use Rattle.fb_graph.specs.Laws.{odd_ones, OddOnesRise, OddOnesCount, OddOnesWeigh}
-use Rattle.fb_graph.proofs.ParitySums.{odd_same, odd_agree, odd_exchange, odd-and, odd-filter}
+use Rattle.fb_graph.proofs.ParitySums.{odd_same, odd_agree, odd_exchange, odd-and, odd-filter, and_comm, and-true, and-false}
 use Rattle.fb_graph.proofs.Sums.{sum_le, sum_same, sum_exchange, sum-filter, le-sum_of_odd, sum_of_once}
-use Rattle.fb_graph.proofs.Sets.{odd_equal, count_equal-le, distinct_from_rising, range_rises, range_below, is_in-range}
+use Rattle.fb_graph.proofs.Sets.{equal_sym, odd_equal, count_equal-le, distinct_from_rising, range_rises, range_below, is_in-range}
 
 pub odd_ones_rise : OddOnesRise
 odd_ones_rise n ks = (
@@ -21,30 +21,9 @@ odd_ones_rise n ks = (
 and_equal : (test : ℕ → Bool) (j k : ℕ) → (test k && (j == k)) ≡ ((j == k) && test j)
 and_equal test j k = step (j == k) refl
   where
-    with_true : (a : Bool) → (a && true) ≡ a
-    with_true true = refl
-    with_true false = refl
-
-    with_false : (a : Bool) → (a && false) ≡ false
-    with_false true = refl
-    with_false false = refl
-
     step : (b : Bool) → (j == k) ≡ b → (test k && (j == k)) ≡ ((j == k) && test j)
-    step true e = rw e (with_true (test k) ∙ ap test (sym (eqb-true j k e)))
-    step false e = rw e (with_false (test k))
-
-equal_sym : (j k : ℕ) → (j == k) ≡ (k == j)
-equal_sym j k = step (k == j) refl
-  where
-    step : (b : Bool) → (k == j) ≡ b → (j == k) ≡ b
-    step true e = eq-eqb j k (sym (eqb-true k j e))
-    step false e = ne_eqb j k (λ same. eqb-false k j e (sym same))
-
-and_comm : (a b : Bool) → (a && b) ≡ (b && a)
-and_comm true true = refl
-and_comm true false = refl
-and_comm false true = refl
-and_comm false false = refl
+    step true e = rw e (and-true (test k) ∙ ap test (sym (eqb-true j k e)))
+    step false e = rw e (and-false (test k))
 
 range_distinct : (n : ℕ) → AreDistinct (range_with_len 0 n)
 range_distinct n = distinct_from_rising (range_with_len 0 n) (range_rises 0 n)

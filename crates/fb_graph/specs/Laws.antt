@@ -164,3 +164,11 @@ pub record IsSolved (p : Problem) (cuts : List Cut) (chosen : List ℕ) : Type 0
 abbrev pub Resolving : Type 0
 Resolving = (p : Problem) (cuts : List Cut) (links : List Link) → IsPacking p cuts → IsPerfect p cuts links
     → IsSolved p cuts (odd_edges p links)
+
+-- Where no component is odd, no closed set is, since a closed set is made of components.
+abbrev pub NoOddComponent : Type 0
+NoOddComponent = (p : Problem) → ((v : ℕ) → p.is_real v ≡ true → v < p.vertices) → IsFirstOdd p None → HasNoOddClosed p
+
+-- Where no closed set is odd, no component is.
+abbrev pub NoOddClosedSet : Type 0
+NoOddClosedSet = (p : Problem) → HasNoOddClosed p → IsFirstOdd p None

@@ -1,6 +1,6 @@
 //! What follows from the definitions alone. Each function does nothing: its clauses are the law.
 
-ghost use Rattle.fb_graph.specs.Laws.{WeakDuality, LeastWeight, EqualWeights, NoCorrection, BestHasNoOdd, ClosedIsOdd, LeastIsFirstOdd, SomeIsFirstOdd, PartHasNoOddClosed, EdgeLeaves, PackingOfPart, PackingsJoined, WalkParity, OddOnesRise, OddOnesCount, OddOnesWeigh, Resolving};
+ghost use Rattle.fb_graph.specs.Laws.{WeakDuality, LeastWeight, EqualWeights, NoCorrection, BestHasNoOdd, ClosedIsOdd, LeastIsFirstOdd, SomeIsFirstOdd, PartHasNoOddClosed, EdgeLeaves, PackingOfPart, PackingsJoined, WalkParity, OddOnesRise, OddOnesCount, OddOnesWeigh, Resolving, NoOddComponent, NoOddClosedSet};
 
 /// Weak duality (Edmonds and Johnson 1973): feasible odd cuts add up to at most what any correction weighs.
 pub fn weak_duality()
@@ -59,4 +59,11 @@ pub fn odd_ones()
 /// The walks of a perfect matching of tight links add up to a correction of least weight (Edmonds 1965).
 pub fn resolving()
     ensures { Resolving }
+{}
+
+/// Where no component without boundary holds an odd number of defects, no set of real vertices that no edge leaves
+/// does, and the other way round.
+pub fn no_odd_component()
+    ensures closed { NoOddComponent }
+    ensures component { NoOddClosedSet }
 {}
