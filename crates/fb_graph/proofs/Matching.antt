@@ -1,11 +1,11 @@
 -- A perfect matching of tight links adds up to a correction of least weight.
-use Rattle.std.proofs.Common.{ℕ, ◌+◌, ◌<◌, ◌≤◌, ◌≡◌, Bool, true, false, cond, List, [], ◌∷◌, ◌++◌, length, get_or, All, sum_by, count_by, flat_map, refl, sym, ap, ◌∙◌, le_trans, le_of_eq, le_antisymm, arith}
+use Rattle.std.proofs.Common.{ℕ, ◌<◌, ◌≤◌, cond, List, [], ◌∷◌, length, get_or, All, sum_by, flat_map, ◌∙◌, le_trans, le_of_eq, le_antisymm}
 use Rattle.std.proofs.lemmas.List.Elements.{All-nil, All-append, All-head, All-tail}
 use Rattle.fb_graph.specs.Parity.{is_odd_count}
 use Rattle.fb_graph.specs.Problem.{Problem, Flips, edge_at, touches, crosses, weight_of}
-use Rattle.fb_graph.specs.Certificate.{IsPacking, load_of, total_value}
+use Rattle.fb_graph.specs.Certificate.{load_of, total_value}
 use Rattle.fb_graph.specs.Components.{IsWalkBy}
-use Rattle.fb_graph.specs.Laws.{Link, ends_of, IsPerfect, IsSolved, odd_edges, Resolving}
+use Rattle.fb_graph.specs.Laws.{Link, ends_of, IsPerfect, odd_edges, Resolving}
 use Rattle.fb_graph.specs.declared.parts.Cut.{Cut}
 use Rattle.fb_graph.proofs.ParitySums.{odd_agree, odd-flat_map}
 use Rattle.fb_graph.proofs.Sums.{sum_le, sum_same, sum_exchange, sum-flat_map, sum_of_once}

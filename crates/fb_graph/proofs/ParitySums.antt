@@ -1,5 +1,5 @@
 -- Sums of parities: `differ` is their addition, `is_odd_count` the sum over a list.
-use Rattle.std.proofs.Common.{ℕ, ◌<◌, ◌≡◌, ◌≢◌, ◌&&◌, Bool, true, false, cond, filter, flat_map, List, [], ◌∷◌, ◌++◌, length, All, refl, sym, ap, ◌∙◌}
+use Rattle.std.proofs.Common.{◌≡◌, ◌&&◌, Bool, true, false, filter, flat_map, List, [], ◌∷◌, ◌++◌, All, refl, sym, ap, ◌∙◌}
 use Rattle.std.proofs.lemmas.List.Elements.{All-head, All-tail}
 use Rattle.fb_graph.specs.Parity.{differ, is_odd_count}
 

@@ -12,7 +12,7 @@ use Rattle.fb_graph.specs.Problem.{touches, crosses}
 use Rattle.fb_graph.specs.Certificate.{AreDistinct}
 use Rattle.fb_graph.specs.declared.parts.Edge.{Edge}
 use Rattle.fb_graph.proofs.Sums.{sum_le, sum_same, sum_ones, sum_exchange}
-use Rattle.fb_graph.proofs.ParitySums.{and-true, and-false, odd_same, odd_agree, odd_exchange, odd-and, odd-differ, false-differ}
+use Rattle.fb_graph.proofs.ParitySums.{and-true, and-false, odd_same, odd_agree, odd_exchange, odd-and, odd-differ, differ-false, false-differ}
 
 pub equal_sym : (j k : ℕ) → (j == k) ≡ (k == j)
 equal_sym j k = step (k == j) refl
@@ -284,3 +284,13 @@ distinct-filter test (x ∷ xs) distinct = step (test x) (distinct-filter test x
     step : (b : Bool) → AreDistinct (filter test xs) → AreDistinct (cond b (x ∷ filter test xs) (filter test xs))
     step true ih = (is_in-filter test xs x ∙ ap (λ b. b && test x) distinct.0, ih)
     step false ih = ih
+
+-- of two distinct lists, as many members of the one stand in the other as the other way round
+pub odd_shared : (xs ys : List ℕ) → AreDistinct xs → AreDistinct ys
+    → is_odd_count (is_in ys) xs ≡ is_odd_count (is_in xs) ys
+odd_shared xs ys first second = odd_meet (λ x. true) xs ys first second
+
+-- a distinct list that holds v holds an odd number of the members of v alone
+pub odd_single : (v : ℕ) (set : List ℕ) → AreDistinct set → is_in set v ≡ true → is_odd_count (is_in (v ∷ [])) set ≡ true
+odd_single v set distinct within =
+    odd_shared set (v ∷ []) distinct (refl, tt) ∙ (differ-false (is_in set v) ∙ within)

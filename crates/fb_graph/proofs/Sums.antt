@@ -1,5 +1,5 @@
 -- Sums of numbers over lists.
-use Rattle.std.proofs.Common.{ℕ, ◌+◌, ◌<◌, ◌≤◌, ◌≡◌, Bool, true, false, cond, List, [], ◌∷◌, length, All, sum_by, count_by, filter, flat_map, ◌*◌, mul-le-mul_right, get_or, refl, sym, ap, ◌∙◌, le_trans, le_refl, arith}
+use Rattle.std.proofs.Common.{ℕ, ◌+◌, ◌≤◌, ◌≡◌, Bool, true, false, cond, List, [], ◌∷◌, length, All, sum_by, count_by, filter, flat_map, ◌*◌, mul-le-mul_right, get_or, refl, sym, ap, ◌∙◌, le_refl, arith}
 use Rattle.std.proofs.lemmas.List.Elements.{All-head, All-tail}
 use Rattle.std.proofs.lemmas.List.Sums.{sum_by-cons, sum_by-append}
 use Rattle.std.proofs.lemmas.Bool.{false≢true}
