@@ -1,5 +1,5 @@
 -- Worked examples, which show that the definitions say what they should.
-use Rattle.std.proofs.Common.{ℕ, ◌+◌, ◌<◌, ◌≤◌, ◌≡◌, ◌&&◌, Bool, true, false, not, Some, None, List, [], ◌∷◌, length, get_or, All, ltb, leb, refl, sym, ap, ◌∙◌, zero-le, arith}
+use Rattle.std.proofs.Common.{ℕ, ◌<◌, ◌≤◌, ◌≡◌, ◌&&◌, Bool, true, false, not, Some, None, List, [], ◌∷◌, All, ltb, leb, refl, sym, ap, ◌∙◌, zero-le, arith}
 use Rattle.std.proofs.lemmas.Bool.{false≢true, not-true, agree_below, agree_below_at, leb-true, ltb-true, and_parts}
 use Rattle.std.proofs.lemmas.List.Elements.{All-from_recursion, All-weaker}
 use Rattle.std.proofs.lemmas.List.Sums.{AllPass-from_list_all}
@@ -7,7 +7,7 @@ use Rattle.std.specs.List.{list_all}
 use Rattle.std.specs.List.Sorted.{IsStrictlyIncreasing}
 use Rattle.fb_graph.specs.Parity.{differ, is_odd_count, is_in}
 use Rattle.fb_graph.specs.Problem.{Problem, Flips, edge_at, no_edge, touches, crosses}
-use Rattle.fb_graph.specs.Certificate.{IsOddCut, IsPrintedCut, IsBest, Fits, load_of}
+use Rattle.fb_graph.specs.Certificate.{IsPrintedCut, IsBest, Fits, load_of}
 use Rattle.fb_graph.specs.Components.{IsJoined, IsFirstOdd}
 use Rattle.fb_graph.specs.Limits.{DecodingGraph, is_real_in, problem_of}
 use Rattle.fb_graph.specs.declared.parts.Edge.{Edge}

@@ -1,9 +1,12 @@
 pub mod BuildSteps
+pub mod ClosedComponents
 pub mod ClosedSets
 pub mod Duality
 pub mod Examples
 pub mod Layouts
+pub mod Matching
 pub mod OddComponents
+pub mod OddOnes
 pub mod ParitySums
 pub mod Ranges
 pub mod Sets

@@ -13,8 +13,8 @@ pub mod whole;
 
 pub use faults::{GraphFault, NoMemory};
 pub use laws::{
-    closed_odd_set, least_weight, no_odd_closed_set, odd_has_no_correction, packings_of_parts,
-    weak_duality,
+    closed_odd_set, least_weight, no_odd_closed_set, no_odd_component, odd_has_no_correction,
+    odd_ones, packings_of_parts, resolving, walk_parity, weak_duality,
 };
 pub use lists::{CutList, NumberList};
 pub use network::Graph;
