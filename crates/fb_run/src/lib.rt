@@ -3,6 +3,7 @@
 #![tactic(auto)]
 
 mod ending;
+mod shots;
 mod words;
 
 pub use ending::{Cause, Ended, Refusal, UsageKind};
