@@ -1,4 +1,4 @@
-ghost use Rattle.std.specs.Prelude.{◌≡◌, ℕ, ◌+◌, ◌-◌, ◌^◌, ◌<◌, ◌≤◌, min, ◌||◌, List, [], ◌∷◌, ◌++◌, length, map, take, drop, Option, None, Some, IsSome, IsNone, IfSome, IfOk, OnOk, OnErr, is_err, is_none, IsOk, nat_eq, nat_le, if◌then◌else◌, string_bytes};
+ghost use Rattle.std.specs.Prelude.{◌≡◌, ℕ, ◌-◌, ◌^◌, ◌<◌, ◌≤◌, min, ◌||◌, List, [], ◌∷◌, ◌++◌, length, map, take, drop, Option, None, Some, IsNone, IfSome, IfOk, OnOk, OnErr, is_err, is_none, IsOk, nat_eq, nat_le, if◌then◌else◌, string_bytes};
 ghost use Rattle.fb_ports.specs.Causes.{HasCause, HasRoom, TellsMore, Opens, ReadsAtMost, ReadConsumes, WritesAtMost, WriteAppends};
 ghost use Rattle.std.specs.Str.{bytes_eq};
 ghost use Rattle.fb_ports.specs.Memory.{bytes_at, bytes_named, no_files, empty_sink, is_to_fail, one_more};
