@@ -24,6 +24,11 @@ abbrev pub HasRoom : {X : Type 0} → Option (List X) → ℕ → Type 0
 HasRoom None n = ⊤
 HasRoom (Some xs) n = length xs < n
 
+-- a list that is told is empty
+abbrev pub IsEmptyIfTold : {X : Type 0} → Option (List X) → Type 0
+IsEmptyIfTold None = ⊤
+IsEmptyIfTold (Some xs) = xs ≡ []
+
 -- opening a file by its name: Ok makes the named bytes those that are left, and the name is one that is there;
 -- after a failure nothing is left. `named` is the bytes by name, where told
 abbrev pub Opens : {T E : Type 0} → Option (List ℕ → Option (List ℕ)) → Option (List ℕ) → List ℕ → Result T E → Type 0

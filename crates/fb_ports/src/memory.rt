@@ -1,4 +1,4 @@
-ghost use Rattle.std.specs.Prelude.{◌≡◌, ℕ, ◌+◌, ◌-◌, ◌^◌, ◌<◌, ◌≤◌, min, ◌||◌, List, [], ◌∷◌, ◌++◌, length, take, drop, Option, None, Some, IsSome, IsNone, IfSome, IfOk, OnOk, OnErr, is_err, is_none, IsOk, nat_eq, nat_le, if◌then◌else◌, string_bytes};
+ghost use Rattle.std.specs.Prelude.{◌≡◌, ℕ, ◌-◌, ◌^◌, ◌<◌, ◌≤◌, min, ◌||◌, List, [], ◌∷◌, ◌++◌, length, map, take, drop, Option, None, Some, IsNone, IfSome, IfOk, OnOk, OnErr, is_err, is_none, IsOk, nat_eq, nat_le, if◌then◌else◌, string_bytes};
 ghost use Rattle.fb_ports.specs.Causes.{HasCause, HasRoom, TellsMore, Opens, ReadsAtMost, ReadConsumes, WritesAtMost, WriteAppends};
 ghost use Rattle.std.specs.Str.{bytes_eq};
 ghost use Rattle.fb_ports.specs.Memory.{bytes_at, bytes_named, no_files, empty_sink, is_to_fail, one_more};
@@ -52,7 +52,8 @@ impl NamedFile {
 /// The place of the first file of this name.
 #[tactic(auto, using(crate::proofs::Lookups::lookups))]
 fn place_of(files: &[NamedFile], name: &str) -> Option<usize>
-    ensures found { IfSome result (λ i. (i < length files.now) × (bytes_named files.now name.now ≡ Some (bytes_at files.now i))) }
+    ensures found { IfSome result (λ i. (i < length files.now)
+        × (bytes_named files.now name.now ≡ Some (bytes_at files.now i))) }
     ensures absent { IsNone result → bytes_named files.now name.now ≡ None }
 {
     for (i, file) in files.iter().enumerate() {
@@ -164,6 +165,13 @@ impl MemFiles {
         self.failing = calls;
     }
 
+    /// The names asked for so far, oldest first.
+    pub fn asked(&self) -> &[String]
+        ensures { map string_bytes result.now ≡ self.now.asked }
+    {
+        self.asked.as_slice()
+    }
+
     /// Sets the greatest piece, in bytes, that a read gives.
     pub fn give_at_most(&mut self, most: usize)
         requires { 0 < most }
@@ -189,7 +197,8 @@ impl Files for MemFiles {
         requires { HasRoom (Some self.old.asked) 16 }
         ensures asks { TellsMore (Some self.old.asked) (Some self.new.asked) (string_bytes name) }
         ensures names { Some (bytes_named self.new.files) ≡ Some (bytes_named self.old.files) }
-        ensures opens { Opens (Some (bytes_named self.old.files)) (Some self.new.left) (string_bytes name) result }
+        ensures opens { Opens (Some (bytes_named self.old.files)) (Some self.new.left)
+            (string_bytes name) result }
         ensures cause { HasCause self.old.faults self.new.faults result }
 
         // It fails exactly at a call that is to fail and at a name that no file has.

@@ -70,7 +70,7 @@ fn a_failed_put_takes_nothing(rt: HostRuntime) -> Result<(), Fail> {
 
 #[test]
 fn reads_a_file_of_the_system(rt: HostRuntime) -> Result<(), Fail> {
-    // The folder that a test runs in is empty.
+    // A test runs in an empty folder.
     let mut sink = OsSink::new(fs::create(&rt, "graph-a.json")?);
     put_all(&mut sink, GRAPH)?;
     drop(sink);
@@ -80,6 +80,7 @@ fn reads_a_file_of_the_system(rt: HostRuntime) -> Result<(), Fail> {
     assert_eq!(rt; bytes.as_slice(), GRAPH);
     let absent = String::from_str(rt.alloc(), "absent")?;
     assert_eq!(rt; files.open_file(absent), Err(Failed));
+    fs::remove_file(&rt, "graph-a.json")?;
     Ok(())
 }
 
