@@ -60,6 +60,7 @@ opening k = codes "shot " ++ (decimal k ++ (codes "\nedges"))
 -- the text of a correction, in the parts in which it is put
 pub row_text-best : (k : ℕ) (edges : List ℕ) (weight : ℕ) (cuts : List Cut) → row_text k (Best edges weight cuts)
     ≡ opening k ++ (line_end (map decimal edges) ++ (line (codes "weight") (decimal weight ∷ []) ++ concat (map cut_line cuts)))
+unfolding row_text
 row_text-best k edges weight cuts = simp append_assoc
 
 -- a cut's line before its vertices, as the writer puts it

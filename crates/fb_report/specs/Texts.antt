@@ -16,7 +16,7 @@ abbrev pub line : List ℕ → List (List ℕ) → List ℕ
 line w ws = w ++ line_end ws
 
 -- the first line: what the text is, and the version of its format
-abbrev pub head_text : List ℕ
+unfoldable pub head_text : List ℕ
 head_text = line (codes "fusion-report") (codes "1" ∷ [])
 
 -- a cut: its value, and then its vertices
@@ -25,7 +25,7 @@ cut_line c = line (codes "cut") (decimal c.value ∷ map decimal c.vertices)
 
 -- the row of a shot: its correction, the correction's weight and the cuts, or one line where there is no correction or
 -- the shot was not solved
-abbrev pub row_text : ℕ → Row → List ℕ
+unfoldable pub row_text : ℕ → Row → List ℕ
 row_text k (Best edges weight cuts) =
     line (codes "shot") (decimal k ∷ [])
     ++ (line (codes "edges") (map decimal edges)
@@ -40,12 +40,12 @@ rows_text k [] = []
 rows_text k (r ∷ rs) = row_text k r ++ rows_text (k + 1) rs
 
 -- an event of the board: a worker took a node of a shot, or gave what it had made of it
-abbrev pub trace_line : Bool → ℕ → ℕ → ℕ → List ℕ
+unfoldable pub trace_line : Bool → ℕ → ℕ → ℕ → List ℕ
 trace_line gave worker shot node =
     line (if gave then codes "gave" else codes "took") (decimal worker ∷ decimal shot ∷ decimal node ∷ [])
 
 -- the last line: the numbers of rows, of odd rows among them, and of units and fusions that were solved
-abbrev pub done_text : ℕ → ℕ → ℕ → ℕ → List ℕ
+unfoldable pub done_text : ℕ → ℕ → ℕ → ℕ → List ℕ
 done_text rows odd units fusions =
     line (codes "done") (decimal rows ∷ codes "odd" ∷ decimal odd
     ∷ codes "units" ∷ decimal units ∷ codes "fusions" ∷ decimal fusions ∷ [])

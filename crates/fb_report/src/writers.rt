@@ -9,6 +9,7 @@ use fb_ports::{Failed, Sink, put_all, put_parts};
 use itoa::Buffer;
 
 /// Puts the first line of a report.
+#[tactic(auto, unfolding(crate::specs::Texts::head_text))]
 pub fn write_head<S: Sink>(sink: &mut S) -> Result<(), Failed>
     ensures all { OnOk result (Appends (S.taken sink.old) (S.taken sink.new) head_text) }
     ensures front { OnErr result (AppendsFront (S.taken sink.old) (S.taken sink.new) head_text) }
@@ -25,6 +26,7 @@ fn event_word(gave: bool) -> &'static [u8]
 }
 
 /// Puts a trace line: this worker took this node of this shot, or `gave` what it had made of it.
+#[tactic(auto, unfolding(crate::specs::Texts::trace_line))]
 pub fn write_trace<S: Sink>(
     sink: &mut S,
     gave: bool,
@@ -61,6 +63,7 @@ pub fn write_trace<S: Sink>(
 
 /// Puts the last line of a report: how many rows it has, how many of them are odd, and how many units
 /// and fusions were solved for the others.
+#[tactic(auto, unfolding(crate::specs::Texts::done_text))]
 pub fn write_done<S: Sink>(
     sink: &mut S,
     rows: u64,
@@ -99,6 +102,7 @@ pub fn write_done<S: Sink>(
 }
 
 /// Puts the text of a correction: its lines, and then the lines of its cuts.
+#[tactic(auto, unfolding(crate::specs::Texts::row_text))]
 fn put_best<S: Sink>(
     sink: &mut S,
     shot: u64,
@@ -125,6 +129,7 @@ fn put_best<S: Sink>(
 }
 
 /// Puts the line of a shot that has no correction.
+#[tactic(auto, unfolding(crate::specs::Texts::row_text))]
 fn put_odd<S: Sink>(sink: &mut S, shot: u32, vertex: u32) -> Result<(), Failed>
     ensures all { OnOk result (Appends (S.taken sink.old) (S.taken sink.new) (row_text shot (Odd vertex))) }
     ensures front { OnErr result (AppendsFront (S.taken sink.old) (S.taken sink.new) (row_text shot (Odd vertex))) }
@@ -138,6 +143,7 @@ fn put_odd<S: Sink>(sink: &mut S, shot: u32, vertex: u32) -> Result<(), Failed>
 }
 
 /// Puts the line of a shot that was not solved.
+#[tactic(auto, unfolding(crate::specs::Texts::row_text))]
 fn put_over<S: Sink>(sink: &mut S, shot: u32) -> Result<(), Failed>
     ensures all { OnOk result (Appends (S.taken sink.old) (S.taken sink.new) (row_text shot Over)) }
     ensures front { OnErr result (AppendsFront (S.taken sink.old) (S.taken sink.new) (row_text shot Over)) }

@@ -2,7 +2,7 @@ use Rattle.std.proofs.Common.{sym, subst, [], ◌∷◌, codes, decimal}
 use Rattle.std.proofs.lemmas.Result.{on_err_weaker}
 use Rattle.fb_ports.specs.Causes.{AppendsFront}
 use Rattle.fb_report.specs.Texts.{line}
-use Rattle.fb_report.proofs.Fronts.{appends_then, front_then, front_of_more}
+use Rattle.fb_report.proofs.Fronts.{front_then, front_of_more}
 use Rattle.fb_report.proofs.Lines.{opening, row_text-best}
 use Rattle.fb_report.proofs.writers.put_best.Goals as goal
 
