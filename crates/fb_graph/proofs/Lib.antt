@@ -4,7 +4,9 @@ pub mod Duality
 pub mod Examples
 pub mod Layouts
 pub mod OddComponents
+pub mod OddOnes
 pub mod ParitySums
+pub mod PrintedCuts
 pub mod Ranges
 pub mod Sets
 pub mod Sums

@@ -8,6 +8,7 @@ pub mod laws;
 pub mod lists;
 pub mod network;
 pub mod parts;
+pub mod printed;
 pub mod scope_of;
 pub mod whole;
 
@@ -19,5 +20,6 @@ pub use laws::{
 pub use lists::{CutList, NumberList};
 pub use network::Graph;
 pub use parts::{Cut, Edge, Row};
+pub use printed::{odd_ones, printed_cuts};
 pub use scope_of::Scope;
 pub use whole::Whole;

@@ -1,0 +1,1 @@
+-- Cuts in the form in which a report prints them.
