@@ -1,4 +1,5 @@
 pub mod BuildSteps
+pub mod CancelledPairs
 pub mod ClosedComponents
 pub mod ClosedSets
 pub mod Duality
@@ -8,6 +9,7 @@ pub mod Matching
 pub mod OddComponents
 pub mod OddOnes
 pub mod ParitySums
+pub mod PrintedCuts
 pub mod Ranges
 pub mod Sets
 pub mod Sums

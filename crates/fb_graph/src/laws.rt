@@ -50,7 +50,7 @@ pub fn walk_parity()
 
 /// The numbers that stand in a list an odd number of times are a strictly rising list below the bound, of the list's
 /// parity for every test and of at most its weight for all weights.
-pub fn odd_ones()
+pub fn odd_occurrences()
     ensures rise { OddOnesRise }
     ensures count { OddOnesCount }
     ensures weigh { OddOnesWeigh }

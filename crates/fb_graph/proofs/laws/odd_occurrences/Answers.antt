@@ -1,7 +1,7 @@
 use Rattle.fb_graph.proofs.OddOnes.{odd_ones_count}
 use Rattle.fb_graph.proofs.OddOnes.{odd_ones_rise}
 use Rattle.fb_graph.proofs.OddOnes.{odd_ones_weigh}
-use Rattle.fb_graph.proofs.laws.odd_ones.Goals as goal
+use Rattle.fb_graph.proofs.laws.odd_occurrences.Goals as goal
 
 pub returns-clause-rise : goal.returns-clause-rise
 returns-clause-rise c = odd_ones_rise
