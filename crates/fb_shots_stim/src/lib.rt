@@ -4,10 +4,12 @@
 mod answer;
 mod dense;
 mod laws;
+mod packed;
 mod pending;
 
 pub use answer::{Detectors, Kind, Next, NoMemory};
 pub use dense::Records01;
+pub use packed::RecordsB8;
 pub use laws::goes_on_01;
 
 #[cfg(test)]
