@@ -1,9 +1,9 @@
 -- The format `b8` of Stim's result formats: a block of bytes for each shot, a bit for each detector.
-use Rattle.std.specs.Prelude.{ℕ, zero, suc, ◌+◌, ◌/◌, ◌%◌, ◌==◌, Bool, List, [], ◌∷◌, length, take, drop, if◌then◌else◌, Option, Some, None, Result, Ok, Err}
+use Rattle.std.specs.Prelude.{ℕ, zero, suc, ◌+◌, ◌/◌, ◌%◌, ◌==◌, Bool, List, [], ◌∷◌, length, take, drop, if◌then◌else◌, Option, Some, Result, Ok, Err}
 use Rattle.std.specs.List.{list_any, flat_map}
 use Rattle.fb_shots_stim.specs.declared.answer.Kind.{Kind}
 use Rattle.fb_shots_stim.specs.declared.answer.Kind.TheVariants.{ShortRecord, LongRecord, PaddingBit}
-use Rattle.fb_shots_stim.specs.Records.{Ending, at_end, still_open, refused, Records, only, go_down, places_from, Reader}
+use Rattle.fb_shots_stim.specs.Records.{at_end, still_open, refused, Records, only, go_down, places_from, Reader}
 use Rattle.fb_shots_stim.specs.Answers.{reading}
 
 -- how many bytes have a bit for each of n detectors
@@ -11,7 +11,7 @@ abbrev pub block_len : ℕ → ℕ
 block_len n = (n + 7) / 8
 
 -- the lowest bits of a number, so many, the least significant first
-abbrev pub low_bits : ℕ → ℕ → List ℕ
+unfoldable pub low_bits : ℕ → ℕ → List ℕ
 low_bits zero b = []
 low_bits (suc count) b = (b % 2) ∷ low_bits count (b / 2)
 
@@ -41,7 +41,7 @@ records_b8 zero [] = only at_end
 records_b8 zero (b ∷ bytes) = only (refused LongRecord)
 records_b8 (suc n) bytes =
     go_down (block_b8 (suc n)) (whole_blocks (block_len (suc n)) bytes)
-      (if length bytes % block_len (suc n) == 0 then at_end else refused ShortRecord)
+    (if length bytes % block_len (suc n) == 0 then at_end else refused ShortRecord)
 
 -- what is settled by bytes that may go on
 abbrev pub front_b8 : ℕ → List ℕ → Records

@@ -9,8 +9,8 @@ mod pending;
 
 pub use answer::{Detectors, Kind, Next, NoMemory};
 pub use dense::Records01;
+pub use laws::{goes_on_01, goes_on_b8};
 pub use packed::RecordsB8;
-pub use laws::goes_on_01;
 
 #[cfg(test)]
 mod tests;

@@ -1,6 +1,6 @@
 //! The format `b8`: a block of bytes for each shot, a bit for each detector, the least significant first.
 
-ghost use Rattle.std.specs.Prelude.{◌≡◌, ℕ, ◌+◌, ◌*◌, ◌^◌, ◌<◌, ◌≤◌, ◌++◌, [], Bool, true, false, length, drop, IfOk, OnOk, OnErr};
+ghost use Rattle.std.specs.Prelude.{◌≡◌, ℕ, ◌+◌, ◌*◌, ◌^◌, ◌<◌, ◌≤◌, ◌∷◌, ◌++◌, [], if◌then◌else◌, Bool, true, false, length, drop, IfOk, OnOk, OnErr};
 ghost use Rattle.std.specs.List.{list_any};
 ghost use Rattle.fb_shots_stim.specs.Records.{Reader, places_from};
 ghost use Rattle.fb_shots_stim.specs.Answers.{answer_of, Answers};
@@ -80,8 +80,9 @@ impl RecordsB8 {
 
 /// The answer to bytes that hold no whole block.
 fn unfilled(detectors: u32, finished: bool, rest: &[u8]) -> Next
-    requires { length rest.now < block_len detectors ⊎ detectors ≡ 0 }
-    ensures { result ≡ answer_of (reading_b8 (record { detectors = detectors; rest = rest.now; finished = finished })) }
+    requires { 0 < detectors → length rest.now < block_len detectors }
+    ensures { let r : Reader = record { detectors = detectors; rest = rest.now; finished = finished } in
+        Answers records_b8 front_b8 (drop (block_len detectors)) r r result }
 {
     if rest.is_empty() {
         if finished { Next::End } else { Next::NotYet }
@@ -124,11 +125,19 @@ fn push_set_bits(places: &mut Vec<u32>, first: usize, byte: u8) -> Result<(), No
     let mut place = first;
     let mut left = byte;
     while left != 0 {
-        if left % 2 == 1 && places.push(place as u32).is_err() {
-            return Err(NoMemory);
-        }
+        push_if(places, left % 2 == 1, place)?;
         place += 1;
         left /= 2;
+    }
+    Ok(())
+}
+
+fn push_if(places: &mut Vec<u32>, set: bool, place: usize) -> Result<(), NoMemory>
+    requires { place < 2 ^ 32 }
+    ensures { OnOk result (places.new.items ≡ places.old.items ++ (if set then place ∷ [] else [])) }
+{
+    if set && places.push(place as u32).is_err() {
+        return Err(NoMemory);
     }
     Ok(())
 }
