@@ -1,2 +1,5 @@
-pub mod Walks
+pub mod Codes
 pub mod Dual
+pub mod Kept
+pub mod Moves
+pub mod Walks
