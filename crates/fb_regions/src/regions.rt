@@ -56,7 +56,7 @@ impl<S: Scope> Regions<S> {
     pub fn keeps(&self)
         ensures { IsDual (S.problem self.now.scope) self.now.nodes }
     {
-        let _nodes = &self.nodes;
+        self.scope.limits();
     }
 
     /// Makes the vertex a defect: a node of its own with one layer of value 0.
@@ -156,10 +156,10 @@ impl<S: Scope> Regions<S> {
     pub fn potential(&self, v: u32) -> u64
         ensures { result ≡ height_of (all_cuts self.now.nodes) v }
     {
-        match mark_at(&self.marks, v) {
-            Some(mark) => self.nodes[mark.place].radius() - mark.distance,
-            None => 0,
-        }
+        let Some(mark) = mark_at(&self.marks, v) else {
+            return 0;
+        };
+        self.nodes[mark.place].radius() - mark.distance
     }
 
     /// What the edge can still bear where no outer node holds both of its ends: its weight less its load.
@@ -179,7 +179,9 @@ impl<S: Scope> Regions<S> {
     pub fn cover_of(&self, v: u32) -> Option<NodeId>
         ensures { result ≡ cover_of self.now.nodes v }
     {
-        let mark = mark_at(&self.marks, v)?;
+        let Some(mark) = mark_at(&self.marks, v) else {
+            return None;
+        };
         Some(self.nodes[mark.place].name())
     }
 
