@@ -4,3 +4,4 @@ pub mod Nodes
 pub mod Covers
 pub mod Duals
 pub mod Readings
+pub mod Grown

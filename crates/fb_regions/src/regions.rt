@@ -91,6 +91,7 @@ impl<S: Scope> Regions<S> {
         ensures ok { OnOk result (self.new ≡ record { scope = self.old.scope; nodes = change_at node (thicker k) self.old.nodes }) }
         ensures err { OnErr result (self.new ≡ self.old) }
     {
+        self.scope.limits();
         let Some(place) = place_of(&self.nodes, node) else {
             unreachable!()
         };
