@@ -5,3 +5,5 @@ pub mod Covers
 pub mod Duals
 pub mod Readings
 pub mod Grown
+pub mod Marked
+pub mod Opened
