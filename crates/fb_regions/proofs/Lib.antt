@@ -7,3 +7,5 @@ pub mod Readings
 pub mod Grown
 pub mod Marked
 pub mod Opened
+pub mod Raised
+pub mod Absorbed

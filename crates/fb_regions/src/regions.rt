@@ -109,6 +109,7 @@ impl<S: Scope> Regions<S> {
         ensures ok { OnOk result (self.new ≡ record { scope = self.old.scope; nodes = absorbed self.old.nodes (edge_at (S.problem self.old.scope).edges edge) }) }
         ensures err { OnErr result (self.new ≡ self.old) }
     {
+        self.scope.limits();
         let step = self.step_over(edge);
         let Some(mark) = mark_at(&self.marks, step.from) else {
             unreachable!()
