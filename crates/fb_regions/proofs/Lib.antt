@@ -9,3 +9,4 @@ pub mod Marked
 pub mod Opened
 pub mod Raised
 pub mod Absorbed
+pub mod Backward

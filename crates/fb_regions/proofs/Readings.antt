@@ -1,6 +1,8 @@
 -- What a read of a mark or a node gives.
 use Rattle.std.proofs.Common.{◌≡◌, ℕ, ◌+◌, ◌-◌, ◌^◌, ◌<◌, ◌≤◌, ◌==◌, List, length, get_or, Option, Some, None, sym, ◌∙◌, ap, arith}
 use Rattle.std.specs.List.{position}
+use Rattle.std.specs.Option.{option_and_then}
+use Rattle.fb_regions.specs.declared.walk.Step.{Step}
 use Rattle.std.proofs.lemmas.List.{get_or_read}
 use Rattle.std.proofs.lemmas.List.Quantifiers.{position-Some}
 use Rattle.fb_graph.specs.Certificate.{load_of, total_value}
@@ -56,3 +58,7 @@ residue r w a b s t cuts e hr hw ha hs hb ht load =
     let a' : a ≡ height_of cuts e.first = ha ∙ ap (λ v. height_of cuts v) hs in
     let b' : b ≡ height_of cuts e.second = hb ∙ ap (λ v. height_of cuts v) ht in
     omega (arith, hr, hw, a', b', load)
+
+pub read_step : (marks seen : List (Option Mark)) (v : ℕ) (o : Option Step) → seen ≡ marks → o ≡ option_and_then (λ m. m.by) (get_or seen v None)
+    → option_and_then (λ m. m.by) (mark_of marks v) ≡ o
+read_step marks seen v o e h = ap (λ l. option_and_then (λ (m : Mark). m.by) (get_or l v None)) (sym e) ∙ sym h

@@ -1,4 +1,4 @@
-ghost use Rattle.std.specs.Prelude.{◌≡◌, get_or};
+ghost use Rattle.std.specs.Prelude.{◌≡◌, get_or, option_and_then};
 
 use crate::walk::Step;
 
@@ -22,4 +22,11 @@ pub fn mark_at(marks: &[Option<Mark>], v: u32) -> Option<Mark>
         Some(mark) => *mark,
         None => None,
     }
+}
+
+/// The step by which a vertex came; none for a defect and for a vertex without mark.
+pub fn step_to(marks: &[Option<Mark>], v: u32) -> Option<Step>
+    ensures { result ≡ option_and_then (λ m. m.by) (get_or marks.now v None) }
+{
+    mark_at(marks, v)?.by
 }

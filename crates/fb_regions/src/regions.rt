@@ -5,7 +5,7 @@ ghost use Rattle.fb_graph.specs.Certificate.{load_of};
 ghost use Rattle.fb_regions.specs.Dual.{AreUnderOne, IsDual, all_cuts, change_at, cover_of, height_of, is_live, is_outer, leaf, leaves, thicker};
 ghost use Rattle.fb_regions.specs.Moves.{AllowsGrowth, IsCrossed, IsSourceWalk, absorbed, inner_end, layers_at, outer_end, top_at};
 
-use crate::marks::{Mark, mark_at};
+use crate::marks::{Mark, mark_at, step_to};
 use crate::region::{Region, place_of};
 use crate::walk::{Step, Walk};
 use crate::{Layer, NodeId};
@@ -194,7 +194,7 @@ impl<S: Scope> Regions<S> {
     {
         let mut steps = Vec::new(alloc);
         let mut at = v;
-        while let Some(step) = self.step_to(at) {
+        while let Some(step) = step_to(&self.marks, at) {
             let Ok(()) = steps.push(step) else {
                 return Err(NoMemory);
             };
@@ -202,10 +202,6 @@ impl<S: Scope> Regions<S> {
         }
         steps.reverse();
         Ok(Walk::from_vec(steps))
-    }
-
-    fn step_to(&self, v: u32) -> Option<Step> {
-        mark_at(&self.marks, v)?.by
     }
 
     /// Copies of the node's own layers, from the first to the top.
