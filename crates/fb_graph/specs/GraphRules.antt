@@ -48,11 +48,11 @@ graph_from n edges virtuals = record {
   virtuals = filter (is_in virtuals) (range_with_len 0 n);
 }
 
+-- what the first broken rule leaves of the graph
+abbrev pub or_fault : Option GraphFault → DecodingGraph → Result DecodingGraph GraphFault
+or_fault (Some fault) g = Err fault
+or_fault None g = Ok g
+
 -- the graph, or the first rule that is broken
 abbrev pub graph_of : ℕ → List (ℕ × ℕ × ℤ) → List ℕ → Result DecodingGraph GraphFault
-graph_of n edges virtuals =
-    unless (graph_fault n edges virtuals) (graph_from n edges virtuals)
-  where
-    unless : Option GraphFault → DecodingGraph → Result DecodingGraph GraphFault
-    unless (Some fault) g = Err fault
-    unless None g = Ok g
+graph_of n edges virtuals = or_fault (graph_fault n edges virtuals) (graph_from n edges virtuals)

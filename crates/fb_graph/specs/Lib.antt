@@ -6,3 +6,5 @@ pub mod Answers
 pub mod GraphRules
 pub mod Limits
 pub mod Laws
+pub mod Layout
+pub mod Printed

@@ -1,5 +1,6 @@
-ghost use Rattle.std.specs.Prelude.{◌≡◌, length};
+ghost use Rattle.std.specs.Prelude.{◌≡◌, [], ◌∷◌, ◌++◌, if◌then◌else◌, OnOk, OnErr};
 
+use crate::faults::NoMemory;
 use crate::parts::Cut;
 use std::marker::Model;
 
@@ -34,6 +35,22 @@ impl NumberList {
         ensures { result.now ≡ self.now }
     {
         self.numbers.as_slice()
+    }
+
+    /// Adds a number at the end where it is wanted.
+    pub fn push_if(&mut self, is_wanted: bool, number: u32) -> Result<(), NoMemory>
+        ensures ok { OnOk result (self.new ≡ self.old ++ (if is_wanted then number ∷ [] else [])) }
+        ensures err { OnErr result (self.new ≡ self.old) }
+    {
+        if is_wanted { self.push(number) } else { Ok(()) }
+    }
+
+    /// Adds a number at the end.
+    pub fn push(&mut self, number: u32) -> Result<(), NoMemory>
+        ensures ok { OnOk result (self.new ≡ self.old ++ number ∷ []) }
+        ensures err { OnErr result (self.new ≡ self.old) }
+    {
+        self.numbers.push(number).map_err(|_| NoMemory)
     }
 }
 

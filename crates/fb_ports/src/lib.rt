@@ -1,1 +1,26 @@
 #![tactic(auto)]
+
+//! The ports to the outside: files that are read by name, and sinks that take bytes.
+//!
+//! Each port counts its faults, and answers [`Failed`] only where that count rose in the call.
+
+mod memory;
+mod reading;
+mod system;
+mod writing;
+
+pub use memory::{MemFiles, MemSink};
+pub use reading::{Files, ReadError, read_whole};
+pub use system::{OsFiles, OsSink};
+pub use writing::{Sink, put_all, put_parts};
+
+/// A call on the outside failed. Its port counted the fault.
+#[derive(Clone, Copy, Debug, PartialEq, Eq)]
+pub struct Failed;
+
+/// Memory ran out.
+#[derive(Clone, Copy, Debug, PartialEq, Eq)]
+pub struct NoMemory;
+
+#[cfg(test)]
+mod tests;

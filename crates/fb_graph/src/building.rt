@@ -1,0 +1,172 @@
+//! The parts of a graph, each made from plain numbers.
+
+ghost use Rattle.std.specs.Prelude.{◌≡◌, ◌≢◌, ℕ, ◌+◌, ◌<◌, ◌≤◌, ◌^◌, ◌==◌, ◌&&◌, not, List, [], length, vec_len, map, get_or, filter, All, IfOk, IfErr, OnOk, None, Some, ℤ, false};
+ghost use Rattle.std.specs.List.{range_with_len};
+ghost use Rattle.std.specs.Bool.{beq};
+ghost use Rattle.fb_graph.specs.Parity.{is_in};
+ghost use Rattle.fb_graph.specs.Layout.{edges_at, with_edge};
+ghost use Rattle.fb_graph.specs.Limits.{IsEdge, most_edges, most_vertices};
+ghost use Rattle.fb_graph.specs.GraphRules.{edge_fault, edges_fault, virtuals_fault, edge_from};
+
+use crate::faults::{GraphFault, NoMemory};
+use crate::lists::NumberList;
+use crate::parts::Edge;
+use std::alloc::Global;
+
+const MOST_WEIGHT: i128 = 1 << 30;
+
+/// The first rule that edge `i` breaks in a graph of `n` vertices.
+pub fn judge_edge(n: u32, i: usize, edge: (u64, u64, i128)) -> Option<GraphFault>
+    ensures { result ≡ edge_fault n i edge }
+{
+    let (first, second, weight) = edge;
+    let place = i as u64;
+    if u64::from(n) <= first || u64::from(n) <= second {
+        Some(GraphFault::EndOutOfRange(place))
+    } else if first == second {
+        Some(GraphFault::SelfLoop(place))
+    } else if weight.unsigned_abs() % 2 == 1 {
+        Some(GraphFault::OddWeight(place))
+    } else if MOST_WEIGHT < weight {
+        Some(GraphFault::WeightTooLarge(place))
+    } else if weight < 0 {
+        Some(GraphFault::NegativeWeight(place))
+    } else {
+        None
+    }
+}
+
+/// The edge of these numbers, or the first rule that they break.
+fn checked_edge(n: u32, i: usize, edge: (u64, u64, i128)) -> Result<Edge, GraphFault>
+    ensures good { OnOk result (edge_fault n i edge ≡ None) }
+    ensures value { IfOk result (λ e. e ≡ edge_from edge) }
+    ensures each { IfOk result (IsEdge n) }
+    ensures err { IfErr result (λ fault. edge_fault n i edge ≡ Some fault) }
+{
+    if let Some(fault) = judge_edge(n, i, edge) {
+        return Err(fault);
+    }
+    let (first, second, weight) = edge;
+    Ok(Edge {
+        first: first as u32,
+        second: second as u32,
+        weight: weight.unsigned_abs() as u64,
+    })
+}
+
+/// The edges, or the first rule that one of them breaks.
+#[tactic(auto, using(crate::proofs::BuildSteps::edge_steps))]
+pub fn build_edges(
+    alloc: Global,
+    n: u32,
+    edges: &[(u64, u64, i128)],
+) -> Result<Vec<Edge>, GraphFault>
+    ensures good { OnOk result (edges_fault n 0 edges.now ≡ None) }
+    ensures items { IfOk result (λ v. v.items ≡ map edge_from edges.now) }
+    ensures each { IfOk result (λ v. All (IsEdge n) v.items) }
+    ensures err { IfErr result (λ e. e ≢ GraphFault.NoMemory → edges_fault n 0 edges.now ≡ Some e) }
+{
+    let mut built = Vec::new(alloc);
+    for (i, edge) in edges.iter().enumerate() {
+        match checked_edge(n, i, *edge) {
+            Ok(edge) => {
+                if built.push(edge).is_err() {
+                    return Err(GraphFault::NoMemory);
+                }
+            }
+            Err(fault) => return Err(fault),
+        }
+    }
+    Ok(built)
+}
+
+/// A flag for each vertex, set where it is virtual, or the first rule that a virtual vertex breaks.
+#[tactic(auto, using(crate::proofs::BuildSteps::flag_steps))]
+pub fn mark_virtuals(alloc: Global, n: u32, virtuals: &[u64]) -> Result<Vec<bool>, GraphFault>
+    ensures good { IfOk result (λ v. virtuals_fault n [] 0 virtuals.now ≡ None) }
+    ensures len { IfOk result (λ v. length v.items ≡ n) }
+    ensures each { IfOk result (λ v. (k : ℕ) → k < n → get_or v.items k false ≡ is_in virtuals.now k) }
+    ensures below { IfOk result (λ v. All (λ u. u < n) virtuals.now) }
+    ensures err { IfErr result (λ e. e ≢ GraphFault.NoMemory → virtuals_fault n [] 0 virtuals.now ≡ Some e) }
+{
+    let Ok(mut flags) = vec![in alloc; false; n as usize] else {
+        return Err(GraphFault::NoMemory);
+    };
+    for (i, vertex) in virtuals.iter().enumerate() {
+        if u64::from(n) <= *vertex {
+            return Err(GraphFault::VirtualOutOfRange(i as u64));
+        }
+        if flags[*vertex as usize] {
+            return Err(GraphFault::VirtualRepeated(i as u64));
+        }
+        flags[*vertex as usize] = true;
+    }
+    Ok(flags)
+}
+
+/// The numbers of the vertices whose flag is as wanted, rising.
+#[tactic(auto, using(crate::proofs::BuildSteps::range_steps))]
+pub fn vertices_flagged(
+    alloc: Global,
+    flags: &[bool],
+    wanted: bool,
+) -> Result<NumberList, GraphFault>
+    requires { length flags.now ≤ most_vertices }
+    ensures ok { IfOk result (λ v. v ≡ filter (λ k. beq (get_or flags.now k false) wanted) (range_with_len 0 (length flags.now))) }
+    ensures err { IfErr result (λ e. e ≡ GraphFault.NoMemory) }
+{
+    let mut found = NumberList::from_vec(Vec::new(alloc));
+    for (vertex, flag) in flags.iter().enumerate() {
+        if found.push_if(*flag == wanted, vertex as u32).is_err() {
+            return Err(GraphFault::NoMemory);
+        }
+    }
+    Ok(found)
+}
+
+/// For each vertex the numbers of the edges at it, rising.
+#[tactic(auto, using(crate::proofs::BuildSteps::adjacent_steps))]
+pub fn edges_by_vertex(alloc: Global, n: u32, edges: &[Edge]) -> Result<Vec<NumberList>, GraphFault>
+    requires count { length edges.now ≤ most_edges }
+    requires each { All (IsEdge n) edges.now }
+    ensures len { IfOk result (λ v. length v.items ≡ n) }
+    ensures each { IfOk result (λ a. (v : ℕ) → v < n → get_or a.items v [] ≡ edges_at edges.now (length edges.now) v) }
+    ensures err { IfErr result (λ e. e ≡ GraphFault.NoMemory) }
+{
+    let Ok(mut adjacent) = empty_lists(alloc, n) else {
+        return Err(GraphFault::NoMemory);
+    };
+    for (k, edge) in edges.iter().enumerate() {
+        if put_edge(&mut adjacent, *edge, k as u32).is_err() {
+            return Err(GraphFault::NoMemory);
+        }
+    }
+    Ok(adjacent)
+}
+
+/// Puts the edge's number at the end of the lists of its two ends.
+fn put_edge(adjacent: &mut Vec<NumberList>, edge: Edge, k: u32) -> Result<(), NoMemory>
+    requires first { edge.first < vec_len adjacent.old }
+    requires second { edge.second < vec_len adjacent.old }
+    requires apart { edge.first ≢ edge.second }
+    ensures { OnOk result (adjacent.new.items ≡ with_edge adjacent.old.items edge k) }
+{
+    adjacent[edge.first as usize].push(k)?;
+    adjacent[edge.second as usize].push(k)?;
+    Ok(())
+}
+
+/// So many empty lists.
+fn empty_lists(alloc: Global, n: u32) -> Result<Vec<NumberList>, GraphFault>
+    ensures len { IfOk result (λ v. length v.items ≡ n) }
+    ensures each { IfOk result (λ a. (v : ℕ) → v < n → get_or a.items v [] ≡ []) }
+    ensures err { IfErr result (λ e. e ≡ GraphFault.NoMemory) }
+{
+    let mut lists = Vec::new(alloc);
+    for i in 0..n {
+        if lists.push(NumberList::from_vec(Vec::new(alloc))).is_err() {
+            return Err(GraphFault::NoMemory);
+        }
+    }
+    Ok(lists)
+}

@@ -1,0 +1,69 @@
+//! What follows from the definitions alone. Each function does nothing: its clauses are the law.
+
+ghost use Rattle.fb_graph.specs.Laws.{WeakDuality, LeastWeight, EqualWeights, NoCorrection, BestHasNoOdd, ClosedIsOdd, LeastIsFirstOdd, SomeIsFirstOdd, PartHasNoOddClosed, EdgeLeaves, PackingOfPart, PackingsJoined, WalkParity, OddOnesRise, OddOnesCount, OddOnesWeigh, Resolving, NoOddComponent, NoOddClosedSet};
+
+/// Weak duality (Edmonds and Johnson 1973): feasible odd cuts add up to at most what any correction weighs.
+pub fn weak_duality()
+    ensures { WeakDuality }
+{}
+
+/// A correction whose weight is the sum of feasible odd cuts weighs least (Edmonds and Johnson 1973), so two of them
+/// weigh the same.
+pub fn least_weight()
+    ensures least { LeastWeight }
+    ensures same { EqualWeights }
+{}
+
+/// A component without boundary that holds an odd number of defects has no correction, since each edge has both
+/// ends in it or none. So a problem with a certified correction has no such component.
+pub fn odd_has_no_correction()
+    ensures none { NoCorrection }
+    ensures best { BestHasNoOdd }
+{}
+
+/// A set of real vertices that no edge leaves, all of it joined to one of them, is a component; if it holds an odd
+/// number of defects, it is odd. If it holds all defects, its least vertex is the first of an odd component.
+pub fn closed_odd_set()
+    ensures odd { ClosedIsOdd }
+    ensures first { LeastIsFirstOdd }
+    ensures some { SomeIsFirstOdd }
+{}
+
+/// A part of a problem without odd closed sets (Wu and Zhong 2023) has none either, and in such a problem some edge
+/// leaves each odd cut.
+pub fn no_odd_closed_set()
+    ensures part { PartHasNoOddClosed }
+    ensures leaves { EdgeLeaves }
+{}
+
+/// Feasible odd cuts of a part of a problem are such of the whole (Wu and Zhong 2023), and so are those of two parts
+/// that share no real vertex and that no edge links.
+pub fn packings_of_parts()
+    ensures part { PackingOfPart }
+    ensures joined { PackingsJoined }
+{}
+
+/// Of a walk's edges an odd number end at a vertex exactly where just one of the walk's own ends is there.
+pub fn walk_parity()
+    ensures { WalkParity }
+{}
+
+/// The numbers that stand in a list an odd number of times are a strictly rising list below the bound, of the list's
+/// parity for every test and of at most its weight for all weights.
+pub fn odd_occurrences()
+    ensures rise { OddOnesRise }
+    ensures count { OddOnesCount }
+    ensures weigh { OddOnesWeigh }
+{}
+
+/// The walks of a perfect matching of tight links add up to a correction of least weight (Edmonds 1965).
+pub fn resolving()
+    ensures { Resolving }
+{}
+
+/// Where no component without boundary holds an odd number of defects, no set of real vertices that no edge leaves
+/// does, and the other way round.
+pub fn no_odd_component()
+    ensures closed { NoOddComponent }
+    ensures component { NoOddClosedSet }
+{}

@@ -1,0 +1,43 @@
+ghost use Rattle.std.specs.Prelude.{◌≡◌, ℕ, ◌<◌, [], length, filter};
+ghost use Rattle.std.specs.List.{range_with_len};
+ghost use Rattle.fb_graph.specs.Problem.{edge_at, touches};
+ghost use Rattle.fb_graph.specs.Limits.{problem_of};
+
+use crate::network::Graph;
+use crate::scope_of::Scope;
+
+/// The sub-problem of everything: a whole graph as a scope.
+#[derive(Clone, Copy)]
+pub struct Whole<'a>(pub &'a Graph);
+
+impl Scope for Whole<'_> {
+    ghost problem = { λ w. problem_of w.0.now [] };
+
+    fn vertices(&self) -> u32 {
+        self.0.vertices()
+    }
+
+    fn edge_count(&self) -> u32 {
+        self.0.edge_count()
+    }
+
+    fn ends(&self, e: u32) -> (u32, u32) {
+        self.0.ends(e)
+    }
+
+    fn weight(&self, e: u32) -> u64 {
+        self.0.weight(e)
+    }
+
+    fn edges_at(&self, v: u32) -> &[u32] {
+        self.0.edges_at(v)
+    }
+
+    fn is_real(&self, v: u32) -> bool {
+        !self.0.is_virtual(v)
+    }
+
+    fn limits(&self) {
+        self.0.limits();
+    }
+}

@@ -1,0 +1,77 @@
+-- Bytes that are appended in several puts.
+use Rattle.std.proofs.Common.{◌≡◌, ℕ, zero, suc, zero-add, ◌+◌, ◌≤◌, ◌<◌, get_or, List, [], ◌∷◌, ◌++◌, Option, length, take, drop, map, refl, sym, ap, ◌∙◌, append_assoc, subst, arith, take-append-drop}
+use Rattle.std.proofs.KnownBytes.{Appends-trans, Appends-nil, Appends-kept}
+use Rattle.std.proofs.lemmas.List.Folds.{concat-append}
+use Rattle.std.proofs.lemmas.List.{take_all, map_more, map-append, append-nil}
+use Rattle.fb_ports.specs.Causes.{Appends, AppendsFront, Keeps, concat}
+
+-- nothing is the front of nothing
+take-nil : (n : ℕ) → take {A = ℕ} n [] ≡ []
+take-nil zero = refl
+take-nil (suc n) = refl
+
+-- the first i bytes, and then n bytes of the rest, are the first i + n
+pub take-plus : (i n : ℕ) (xs : List ℕ) → take (i + n) xs ≡ take i xs ++ take n (drop i xs)
+take-plus zero n xs = ap (λ k. take k xs) (zero-add n)
+take-plus (suc i) n [] = take-nil (suc i + n) ∙ sym (take-nil n)
+take-plus (suc i) n (x ∷ xs) = let e : suc i + n ≡ suc (i + n) = omega arith in rw e (ap (λ l. x ∷ l) (take-plus i n xs))
+
+pub appends_onward : (a b c : Option (List ℕ)) (i n : ℕ) (xs : List ℕ)
+    → Appends a b (take i xs) → Appends b c (take n (drop i xs)) → Appends a c (take (i + n) xs)
+appends_onward a b c i n xs p q = subst (Appends a c) (sym (take-plus i n xs)) (Appends-trans a b c _ _ p q)
+
+-- a front part that is as long as the whole
+pub appends_whole : (a b : Option (List ℕ)) (i : ℕ) (xs : List ℕ) → length xs ≤ i → Appends a b (take i xs) → Appends a b xs
+appends_whole a b i xs le p = subst (Appends a b) (take_all i xs le) p
+
+-- what was taken before a put that failed is a front part
+pub front_at : (a b c : Option (List ℕ)) (i : ℕ) (xs : List ℕ) → Appends a b (take i xs) → Keeps b c → AppendsFront a c xs
+front_at a b c i xs p q = (take i xs, drop i xs, sym (take-append-drop i xs), Appends-kept a b c _ p q)
+
+pub ruleset onward = (appends_onward, appends_whole, front_at)
+
+-- the whole parts before place i, and then the part there
+concat-step : {X : Type 0} (f : X → List ℕ) (xs : List X) (i : ℕ) (d : X) → i < length xs
+    → concat (map f (take (i + 1) xs)) ≡ concat (map f (take i xs)) ++ f (get_or xs i d)
+concat-step f xs i d lt = ap concat (map_more f xs i d lt) ∙ concat-append (map f (take i xs)) (f (get_or xs i d) ∷ [])
+    ∙ ap (λ l. concat (map f (take i xs)) ++ l) (append-nil (f (get_or xs i d)))
+
+-- the whole parts before place i, the part there, and the parts after it
+concat-split : {X : Type 0} (f : X → List ℕ) (xs : List X) (i : ℕ) (d : X) → i < length xs
+    → concat (map f xs) ≡ (concat (map f (take i xs)) ++ f (get_or xs i d)) ++ concat (map f (drop (i + 1) xs))
+concat-split f xs i d lt = ap (λ l. concat (map f l)) (sym (take-append-drop (i + 1) xs)) ∙ ap concat (map-append f (take (i + 1) xs) (drop (i + 1) xs))
+    ∙ concat-append (map f (take (i + 1) xs)) (map f (drop (i + 1) xs)) ∙ ap (λ l. l ++ concat (map f (drop (i + 1) xs))) (concat-step f xs i d lt)
+
+regrouped : (a b c d : List ℕ) → (a ++ (b ++ c)) ++ d ≡ (a ++ b) ++ (c ++ d)
+regrouped a b c d = simp append_assoc
+
+-- a front of a part, after what stands before the part, is a front of the whole
+pub front_within : (a b c : Option (List ℕ)) (before part after all : List ℕ)
+    → Appends a b before → AppendsFront b c part → all ≡ (before ++ part) ++ after → AppendsFront a c all
+front_within a b c before part after all p q e = (
+  before ++ q.0,
+  q.1 ++ after,
+  e ∙ ap (λ l. (before ++ l) ++ after) q.2 ∙ regrouped before q.0 q.1 after,
+  Appends-trans a b c _ _ p q.3,
+)
+
+-- a front of the second part, after the whole first one, is a front of both
+pub front_second : (a b c : Option (List ℕ)) (xs ys : List ℕ) → Appends a b xs → AppendsFront b c ys → AppendsFront a c (xs ++ ys)
+front_second a b c xs ys p q = front_within a b c xs ys [] (xs ++ ys) p q (sym (append-nil (xs ++ ys)))
+
+-- a front of the first part is a front of both
+pub front_first : (a b : Option (List ℕ)) (xs ys : List ℕ) → AppendsFront a b xs → AppendsFront a b (xs ++ ys)
+front_first a b xs ys p = (p.0, p.1 ++ ys, ap (λ l. l ++ ys) p.2 ∙ append_assoc p.0 p.1 ys, p.3)
+
+-- one more part was put whole
+pub parts_onward : {X : Type 0} (a b c : Option (List ℕ)) (f : X → List ℕ) (xs : List X) (i : ℕ) (d : X) → i < length xs
+    → Appends a b (concat (map f (take i xs))) → Appends b c (f (get_or xs i d)) → Appends a c (concat (map f (take (i + 1) xs)))
+parts_onward a b c f xs i d lt p q = subst (Appends a c) (sym (concat-step f xs i d lt)) (Appends-trans a b c _ _ p q)
+
+-- a front of a part, after whole parts, is a front of all of them together
+pub parts_front : {X : Type 0} (a b c : Option (List ℕ)) (f : X → List ℕ) (xs : List X) (i : ℕ) (d : X) → i < length xs
+    → Appends a b (concat (map f (take i xs))) → AppendsFront b c (f (get_or xs i d)) → AppendsFront a c (concat (map f xs))
+parts_front a b c f xs i d lt p q = front_within a b c _ _ _ _ p q (concat-split f xs i d lt)
+
+-- what joins writes that follow one another
+pub ruleset fronts = (Appends-trans, Appends-nil, front_second, front_first)

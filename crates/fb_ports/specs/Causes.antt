@@ -1,0 +1,46 @@
+-- What calls on the outside say of their faults, of the names that they ask for, and of the bytes that they move.
+--
+-- A port counts its faults. Its other meanings are optional: `None` tells nothing, and a clause claims nothing of it.
+use Rattle.std.specs.Prelude.{◌≡◌, ℕ, ◌+◌, ◌-◌, ◌^◌, ◌<◌, ◌≤◌, min, List, [], ◌∷◌, ◌++◌, Option, None, Some, IsSome, Result, MatchResult, OnErr, ⊤, length, drop}
+pub use Rattle.std.specs.List.{concat}
+pub use Rattle.std.specs.Io.{ReadsAtMost, WritesAtMost}
+pub use Rattle.std.specs.Io.KnownBytes.{Appends, Consumes, Keeps, IsAtEnd, ReadConsumes, WriteAppends}
+
+-- the count of faults rose, or stands at the end of its range, 2^64 - 1, where it stays
+abbrev pub Rose : ℕ → ℕ → Type 0
+Rose before now = min (before + 1) (2 ^ 64 - 1) ≤ now
+
+-- a call that is Ok leaves the count of faults as it was; a call that failed raised it, and it never falls
+abbrev pub HasCause : {T E : Type 0} → ℕ → ℕ → Result T E → Type 0
+HasCause before now r = MatchResult r (λ _. now ≡ before) (λ _. Rose before now × (before ≤ now))
+
+-- a list that is told has gained x at its end
+abbrev pub TellsMore : {X : Type 0} → Option (List X) → Option (List X) → X → Type 0
+TellsMore None new x = ⊤
+TellsMore (Some xs) new x = new ≡ Some (xs ++ x ∷ [])
+
+-- a list that is told has fewer than n entries
+abbrev pub HasRoom : {X : Type 0} → Option (List X) → ℕ → Type 0
+HasRoom None n = ⊤
+HasRoom (Some xs) n = length xs < n
+
+-- a list that is told is empty
+abbrev pub IsEmptyIfTold : {X : Type 0} → Option (List X) → Type 0
+IsEmptyIfTold None = ⊤
+IsEmptyIfTold (Some xs) = xs ≡ []
+
+-- opening a file by its name: Ok makes the named bytes those that are left, and the name is one that is there;
+-- after a failure nothing is left. `named` is the bytes by name, where told
+abbrev pub Opens : {T E : Type 0} → Option (List ℕ → Option (List ℕ)) → Option (List ℕ) → List ℕ → Result T E → Type 0
+Opens None left name r = OnErr r (IsAtEnd left)
+Opens (Some named) left name r = MatchResult r (λ _. (left ≡ named name) × IsSome (named name)) (λ _. left ≡ Some [])
+
+-- what a failed write of `bs` in several parts has appended: a front part of `bs`
+abbrev pub AppendsFront : Option (List ℕ) → Option (List ℕ) → List ℕ → Type 0
+AppendsFront old new bs = (front rest : List ℕ) × (bs ≡ front ++ rest) × Appends old new front
+
+-- bytes that are told have lost at most n from their front, and nothing else
+abbrev pub ConsumesAtMost : Option (List ℕ) → Option (List ℕ) → ℕ → Type 0
+ConsumesAtMost None new n = ⊤
+ConsumesAtMost (Some xs) None n = ⊥
+ConsumesAtMost (Some xs) (Some ys) n = (length xs ≤ length ys + n) × (ys ≡ drop (length xs - length ys) xs)

@@ -1,0 +1,51 @@
+-- The text of a report, line by line. A line is words parted by one space, and ends by a newline; no line ends with a
+-- space. A number is a word of decimal digits without sign or leading zero.
+use Rattle.std.specs.Prelude.{ℕ, ◌+◌, Bool, if◌then◌else◌, List, [], ◌∷◌, ◌++◌, map, codes, decimal}
+use Rattle.std.specs.List.{concat}
+use Rattle.fb_graph.specs.declared.parts.Cut.{Cut}
+use Rattle.fb_graph.specs.declared.parts.Row.{Row}
+use Rattle.fb_graph.specs.declared.parts.Row.TheVariants.{Best, Odd, Over}
+
+-- the rest of a line after a word: the further words, each after one space, and the newline
+abbrev pub line_end : List (List ℕ) → List ℕ
+line_end [] = codes "\n"
+line_end (w ∷ ws) = codes " " ++ (w ++ line_end ws)
+
+-- a line of a first word and further words
+abbrev pub line : List ℕ → List (List ℕ) → List ℕ
+line w ws = w ++ line_end ws
+
+-- the first line: what the text is, and the version of its format
+unfoldable pub head_text : List ℕ
+head_text = line (codes "fusion-report") (codes "1" ∷ [])
+
+-- a cut: its value, and then its vertices
+abbrev pub cut_line : Cut → List ℕ
+cut_line c = line (codes "cut") (decimal c.value ∷ map decimal c.vertices)
+
+-- the row of a shot: its correction, the correction's weight and the cuts, or one line where there is no correction or
+-- the shot was not solved
+unfoldable pub row_text : ℕ → Row → List ℕ
+row_text k (Best edges weight cuts) =
+    line (codes "shot") (decimal k ∷ [])
+    ++ (line (codes "edges") (map decimal edges)
+    ++ (line (codes "weight") (decimal weight ∷ [])
+    ++ concat (map cut_line cuts)))
+row_text k (Odd v) = line (codes "shot") (decimal k ∷ codes "odd" ∷ decimal v ∷ [])
+row_text k Over = line (codes "shot") (decimal k ∷ codes "over" ∷ [])
+
+-- the rows of shots one after another, the first of which is shot k
+abbrev pub rows_text : ℕ → List Row → List ℕ
+rows_text k [] = []
+rows_text k (r ∷ rs) = row_text k r ++ rows_text (k + 1) rs
+
+-- an event of the board: a worker took a node of a shot, or gave what it had made of it
+unfoldable pub trace_line : Bool → ℕ → ℕ → ℕ → List ℕ
+trace_line gave worker shot node =
+    line (if gave then codes "gave" else codes "took") (decimal worker ∷ decimal shot ∷ decimal node ∷ [])
+
+-- the last line: the numbers of rows, of odd rows among them, and of units and fusions that were solved
+unfoldable pub done_text : ℕ → ℕ → ℕ → ℕ → List ℕ
+done_text rows odd units fusions =
+    line (codes "done") (decimal rows ∷ codes "odd" ∷ decimal odd
+    ∷ codes "units" ∷ decimal units ∷ codes "fusions" ∷ decimal fusions ∷ [])

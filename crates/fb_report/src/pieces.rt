@@ -1,0 +1,68 @@
+ghost use Rattle.std.specs.Prelude.{◌≡◌, [], ◌∷◌, ◌++◌, map, codes, decimal, OnOk, OnErr};
+ghost use Rattle.fb_ports.specs.Causes.{Appends, AppendsFront, HasCause, concat};
+ghost use Rattle.fb_report.specs.Texts.{line, line_end, cut_line};
+
+use fb_graph::Cut;
+use fb_ports::{Failed, Sink, put_all, put_parts};
+use itoa::Buffer;
+
+/// Puts a number between two texts.
+pub fn put_number<S: Sink>(
+    sink: &mut S,
+    before: &[u8],
+    number: u64,
+    after: &[u8],
+) -> Result<(), Failed>
+    ensures all { OnOk result (Appends (S.taken sink.old) (S.taken sink.new)
+        (before.now ++ (decimal number ++ after.now))) }
+    ensures front { OnErr result (AppendsFront (S.taken sink.old) (S.taken sink.new)
+        (before.now ++ (decimal number ++ after.now))) }
+    ensures cause { HasCause (S.faults sink.old) (S.faults sink.new) result }
+{
+    let mut buffer = Buffer::new();
+    put_parts(sink, &[before, buffer.format(number).as_bytes(), after])
+}
+
+/// Ends a line with these numbers as its further words.
+pub fn put_line_end<S: Sink>(sink: &mut S, numbers: &[u32]) -> Result<(), Failed>
+    ensures all { OnOk result (Appends (S.taken sink.old) (S.taken sink.new)
+        (line_end (map decimal numbers.now))) }
+    ensures front { OnErr result (AppendsFront (S.taken sink.old) (S.taken sink.new)
+        (line_end (map decimal numbers.now))) }
+    ensures cause { HasCause (S.faults sink.old) (S.faults sink.new) result }
+{
+    for number in numbers {
+        let Ok(()) = put_number(sink, b" ", u64::from(*number), b"") else {
+            return Err(Failed);
+        };
+    }
+    put_all(sink, b"\n")
+}
+
+/// Puts the line of a cut.
+pub fn put_cut<S: Sink>(sink: &mut S, cut: &Cut) -> Result<(), Failed>
+    ensures all { OnOk result (Appends (S.taken sink.old) (S.taken sink.new) (cut_line cut.now)) }
+    ensures front { OnErr result (AppendsFront (S.taken sink.old) (S.taken sink.new) (cut_line cut.now)) }
+    ensures cause { HasCause (S.faults sink.old) (S.faults sink.new) result }
+{
+    let Ok(()) = put_number(sink, b"cut ", cut.value, b"") else {
+        return Err(Failed);
+    };
+    put_line_end(sink, cut.vertices.as_slice())
+}
+
+/// Puts the lines of cuts.
+pub fn put_cuts<S: Sink>(sink: &mut S, cuts: &[Cut]) -> Result<(), Failed>
+    ensures all { OnOk result (Appends (S.taken sink.old) (S.taken sink.new)
+        (concat (map cut_line cuts.now))) }
+    ensures front { OnErr result (AppendsFront (S.taken sink.old) (S.taken sink.new)
+        (concat (map cut_line cuts.now))) }
+    ensures cause { HasCause (S.faults sink.old) (S.faults sink.new) result }
+{
+    for cut in cuts {
+        let Ok(()) = put_cut(sink, cut) else {
+            return Err(Failed);
+        };
+    }
+    Ok(())
+}

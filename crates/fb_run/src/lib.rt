@@ -1,0 +1,9 @@
+//! The top call of `fusion`: from words and files to a report.
+
+#![tactic(auto)]
+
+mod ending;
+mod shots;
+mod words;
+
+pub use ending::{Cause, Ended, Refusal, UsageKind};

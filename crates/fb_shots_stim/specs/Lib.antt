@@ -1,0 +1,5 @@
+pub mod Records
+pub mod Lines
+pub mod Answers
+pub mod Text01
+pub mod Step01
