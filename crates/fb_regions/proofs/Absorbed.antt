@@ -1,5 +1,5 @@
 -- The absorption of the outer end of an edge without residue.
-use Rattle.std.proofs.Common.{◌≡◌, ℕ, ◌+◌, ◌<◌, inl, inr, Bool, true, false, cond, List, length, set, Option, Some, None, refl, sym, ◌∙◌, ap, arith, if◌then◌else◌}
+use Rattle.std.proofs.Common.{◌≡◌, ℕ, ◌+◌, ◌<◌, inl, inr, Bool, true, false, List, length, set, Option, Some, None, refl, sym, ◌∙◌, ap, arith, if◌then◌else◌}
 use Rattle.std.specs.Option.{IsSome, is_some, unwrap_or}
 use Rattle.fb_graph.specs.Problem.{Problem, edge_at}
 use Rattle.fb_graph.specs.Certificate.{load_of, total_value}
@@ -69,9 +69,9 @@ module _ (p : Problem) (nodes : List Node) (marks : List (Option Mark)) (kept : 
       let outer : height_of (all_cuts nodes) (outer_end nodes e) ≡ 0 = rw (← may.to) (height-unmarked p nodes marks kept s.to free) in
       let inner : height_of (all_cuts nodes) (inner_end nodes e) ≡ height_of (all_cuts nodes) s.from = ap (λ v. height_of (all_cuts nodes) v) (sym may.from) in
       let far : total_value (layers_of (node_at nodes m.place)) ≡ m.distance + s.weight =
-          sums (height_of (all_cuts nodes) e.first) (height_of (all_cuts nodes) e.second) (height_of (all_cuts nodes) (inner_end nodes e)) (height_of (all_cuts nodes) (outer_end nodes e))
-            (height_of (all_cuts nodes) s.from) (load_of (all_cuts nodes) e) e.weight s.weight m.distance (total_value (layers_of (node_at nodes m.place)))
-            load two.sum outer inner may.tight may.weight (kept.marked s.from m at).balance in
+      sums (height_of (all_cuts nodes) e.first) (height_of (all_cuts nodes) e.second) (height_of (all_cuts nodes) (inner_end nodes e)) (height_of (all_cuts nodes) (outer_end nodes e))
+      (height_of (all_cuts nodes) s.from) (load_of (all_cuts nodes) e) e.weight s.weight m.distance (total_value (layers_of (node_at nodes m.place)))
+      load two.sum outer inner may.tight may.weight (kept.marked s.from m at).balance in
       record {
         place = (kept.marked s.from m at).place;
         below = below;

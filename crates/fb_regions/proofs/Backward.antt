@@ -1,7 +1,7 @@
 -- The walk back from a vertex to its source, step by step.
-use Rattle.std.proofs.Common.{◌≡◌, ℕ, ◌+◌, ◌<◌, ◌||◌, inl, inr, Bool, true, false, List, [], ◌∷◌, ◌++◌, reverse, Option, Some, None, refl, sym, ◌∙◌, ap, arith}
-use Rattle.std.specs.List.{All, sum_by}
-use Rattle.std.specs.Option.{IsSome, is_some, option_and_then}
+use Rattle.std.proofs.Common.{◌≡◌, ℕ, ◌+◌, ◌<◌, inl, inr, true, List, [], ◌∷◌, ◌++◌, reverse, Option, Some, None, refl, sym, ◌∙◌, ap, arith}
+use Rattle.std.specs.List.{All}
+use Rattle.std.specs.Option.{IsSome, option_and_then}
 use Rattle.std.proofs.lemmas.Bool.{or_left, or_right}
 use Rattle.std.proofs.lemmas.List.{reverse-append}
 use Rattle.std.proofs.lemmas.List.Elements.{All-cons, All-nil, All-from_get_or}
@@ -13,10 +13,10 @@ use Rattle.fb_graph.specs.Certificate.{total_value}
 use Rattle.fb_graph.specs.declared.parts.Edge.{Edge}
 use Rattle.fb_regions.specs.declared.walk.Step.{Step}
 use Rattle.fb_regions.specs.declared.marks.Mark.{Mark}
-use Rattle.fb_regions.specs.Walks.{IsStep, IsWalk, walk_weight}
-use Rattle.fb_regions.specs.Dual.{Node, layers_of, all_cuts, cover_of, height_of, leaves}
-use Rattle.fb_regions.specs.Moves.{IsSourceWalk, IsWalkFrom, has_real_end}
-use Rattle.fb_regions.specs.Kept.{CameBy, IsAfter, IsKept, IsMarked, no_node, node_at, mark_of, is_at}
+use Rattle.fb_regions.specs.Walks.{IsWalk, walk_weight}
+use Rattle.fb_regions.specs.Dual.{Node, layers_of, cover_of, leaves}
+use Rattle.fb_regions.specs.Moves.{IsSourceWalk, has_real_end}
+use Rattle.fb_regions.specs.Kept.{CameBy, IsAfter, IsKept, no_node, node_at, mark_of, is_at}
 use Rattle.fb_regions.proofs.Covers.{mark_from_covered}
 
 abbrev no_mark : Mark
@@ -64,7 +64,7 @@ module _ (p : Problem) (nodes : List Node) (marks : List (Option Mark)) (kept : 
 
   before : (s : Step) (m : Mark) → IsAfter m s (mark_of marks s.from)
       → IsSome (mark_of marks s.from) × ((the_mark (mark_of marks s.from)).place ≡ m.place) × ((the_mark (mark_of marks s.from)).rank < m.rank)
-        × (m.distance ≡ (the_mark (mark_of marks s.from)).distance + s.weight)
+      × (m.distance ≡ (the_mark (mark_of marks s.from)).distance + s.weight)
   before s m h = by (mark_of marks s.from) h
     where
       by : (o : Option Mark) → IsAfter m s o → IsSome o × ((the_mark o).place ≡ m.place) × ((the_mark o).rank < m.rank) × (m.distance ≡ (the_mark o).distance + s.weight)
@@ -82,7 +82,7 @@ module _ (p : Problem) (nodes : List Node) (marks : List (Option Mark)) (kept : 
       let old = before s (the_mark (mark_of marks at)) step.2 in
       let list : reverse (steps ++ s ∷ []) ≡ s ∷ reverse steps = reverse-append steps (s ∷ []) in
       let weight : walk_weight (reverse (steps ++ s ∷ [])) ≡ s.weight + walk_weight (reverse steps) =
-          ap walk_weight list ∙ sum_by-cons (λ (x : Step). x.weight) s (reverse steps) in
+      ap walk_weight list ∙ sum_by-cons (λ (x : Step). x.weight) s (reverse steps) in
       let real : p.is_real s.to ≡ true = rw (step.1) (kept.marked at (the_mark (mark_of marks at)) (some_is (mark_of marks at) back.marked)).real in
       let R : Step → Type 0 = λ x. has_real_end p (edge_at p.edges x.edge) ≡ true in
       let leads : IsWalk p (s ∷ reverse steps) s.from v = (refl, step.0, rw (step.1) back.leads) in
@@ -105,13 +105,15 @@ module _ (p : Problem) (nodes : List Node) (marks : List (Option Mark)) (kept : 
       let origin : CameBy p (leaves nodes) marks at m None = rw by_none at (kept.marked at m is).came in
       let place : m.place ≡ mv.0.place = back.place ∙ ap (λ o. (the_mark o).place) mv.1 in
       let far : m.distance + walk_weight (reverse steps) ≡ mv.0.distance = back.distance ∙ ap (λ o. (the_mark o).distance) mv.1 in
-      let radius : total_value (layers_of (node_at nodes m.place)) ≡ total_value (layers_of (node_at nodes mv.0.place)) = ap (λ i. total_value (layers_of (node_at nodes i))) place in
-      (at, record {
-        defect = origin.0;
-        together = All-from_get_or (λ (n : Node). is_in n.top.vertices at ≡ is_in n.top.vertices v) nodes no_node
-            (λ i lt. kept.held at i ∙ (ap (λ o. is_at o i) is ∙ (ap (λ j. is_at (Some (record m { place = j })) i) place
-            ∙ (sym (ap (λ o. is_at o i) mv.1) ∙ sym (kept.held v i)))));
-        leads = back.leads;
-        weighs = omega (arith, (kept.marked at m is).balance, (kept.marked v mv.0 mv.1).balance, origin.1, far, radius);
-        real = back.real;
-      })
+      let radius : total_value (layers_of (node_at nodes m.place)) ≡ total_value (layers_of (node_at nodes mv.0.place)) = ap (λ i. total_value (layers_of (node_at nodes i))) place in (
+        at,
+        record {
+          defect = origin.0;
+          together = All-from_get_or (λ (n : Node). is_in n.top.vertices at ≡ is_in n.top.vertices v) nodes no_node
+              (λ i lt. kept.held at i ∙ (ap (λ o. is_at o i) is ∙ (ap (λ j. is_at (Some (record m { place = j })) i) place
+              ∙ (sym (ap (λ o. is_at o i) mv.1) ∙ sym (kept.held v i)))));
+          leads = back.leads;
+          weighs = omega (arith, (kept.marked at m is).balance, (kept.marked v mv.0 mv.1).balance, origin.1, far, radius);
+          real = back.real;
+        },
+      )

@@ -1,10 +1,10 @@
 -- What marks tell of the outer nodes over vertices, of potentials and of loads.
-use Rattle.std.proofs.Common.{◌≡◌, ℕ, ◌+◌, ◌<◌, ◌≤◌, ◌==◌, ◌&&◌, ◌||◌, Bool, true, false, cond, List, [], ◌∷◌, ◌++◌, length, get_or, Option, Some, None, refl, sym, ◌∙◌, ap, arith, if◌then◌else◌}
-use Rattle.std.specs.List.{find, All, AllPairs}
+use Rattle.std.proofs.Common.{◌≡◌, ℕ, ◌+◌, ◌<◌, ◌==◌, ◌&&◌, Bool, true, false, cond, List, [], ◌∷◌, ◌++◌, length, get_or, Option, Some, None, refl, sym, ◌∙◌, ap, arith, if◌then◌else◌}
+use Rattle.std.specs.List.{find, All}
 use Rattle.std.specs.Option.{option_map, IsSome}
-use Rattle.std.proofs.lemmas.Bool.Decides.{nat_tests}
+use Rattle.std.proofs.lemmas.Bool.{eqb-true, eq-eqb, ne_eqb, or_from}
 use Rattle.std.proofs.lemmas.List.{get_or_default}
-use Rattle.std.proofs.lemmas.List.Elements.{All-head, All-tail, All-cons, All-nil, All-weaker, All-get_or, All-from_get_or}
+use Rattle.std.proofs.lemmas.List.Elements.{All-head, All-tail, All-weaker, All-get_or, All-from_get_or}
 use Rattle.std.proofs.lemmas.List.Sums.{sum_by-cons}
 use Rattle.fb_graph.specs.Parity.{differ, is_in}
 use Rattle.fb_graph.specs.Problem.{Problem, crosses}
@@ -13,9 +13,9 @@ use Rattle.fb_graph.specs.declared.parts.Cut.{Cut}
 use Rattle.fb_graph.specs.declared.parts.Edge.{Edge}
 use Rattle.fb_regions.specs.declared.marks.Mark.{Mark}
 use Rattle.fb_regions.specs.Dual.{Node, AreGrown, AreOuterApart, AreUnderOne, HasRadius, IsWithin, layers_of, all_cuts, leaves, defects_of, first_vertices, is_empty, is_outer, cover_of, height_of}
-use Rattle.fb_regions.specs.Kept.{IsKept, IsMarked, no_node, node_at, mark_of, is_at}
-use Rattle.fb_regions.proofs.Sets.{is_in-append, or_both_false, or_false}
-use Rattle.fb_regions.proofs.Sums.{weigh, weigh_none, weigh-either}
+use Rattle.fb_regions.specs.Kept.{IsKept, no_node, node_at, mark_of, is_at}
+use Rattle.fb_regions.proofs.Sets.{is_in-append}
+use Rattle.fb_regions.proofs.Sums.{weigh_none, weigh-either}
 use Rattle.fb_regions.proofs.Nodes.{All-flat_map, layers_within, layers_hold, is_outer-childless, find-agree, find_none, find_first}
 
 -- no set holds what no node's top holds
@@ -63,7 +63,7 @@ pub leaves_without : (nodes : List Node) (v : ℕ) → All (λ c. is_in c.vertic
 leaves_without [] v h = refl
 leaves_without (n ∷ ns) v h =
     is_in-append (defects_of n) (leaves ns) v
-    ∙ or_both_false (is_in (defects_of n) v) (is_in (leaves ns) v) (own (is_empty n.children)) (leaves_without ns v (behind n.below h))
+    ∙ or_from (is_in (defects_of n) v) (is_in (leaves ns) v) (own (is_empty n.children)) (leaves_without ns v (behind n.below h))
   where
     P : Cut → Type 0
     P c = is_in c.vertices v ≡ false
@@ -115,19 +115,16 @@ load-heights cuts e h =
     one false true x k = omega arith
     one false false x k = refl
 
-same_place : (i j : ℕ) → (i == j) ≡ true → i ≡ j
-same_place i j h = grind (arith, nat_tests)
-
 module _ (p : Problem) (nodes : List Node) (marks : List (Option Mark)) (kept : IsKept p nodes marks) where
   -- a vertex whose mark names the place, and so the top there that holds it
   pub held_at : (v : ℕ) (m : Mark) → mark_of marks v ≡ Some m → is_in (node_at nodes m.place).top.vertices v ≡ true
-  held_at v m e = kept.held v m.place ∙ (ap (λ o. is_at o m.place) e ∙ (let t : (m.place == m.place) ≡ true = grind (arith, nat_tests) in t))
+  held_at v m e = kept.held v m.place ∙ (ap (λ o. is_at o m.place) e ∙ eq-eqb m.place m.place refl)
 
   pub not_held : (v : ℕ) → mark_of marks v ≡ None → (i : ℕ) → is_in (node_at nodes i).top.vertices v ≡ false
   not_held v e i = kept.held v i ∙ ap (λ o. is_at o i) e
 
   pub not_held_elsewhere : (v : ℕ) (m : Mark) (i : ℕ) → mark_of marks v ≡ Some m → (i ≡ m.place → ⊥) → is_in (node_at nodes i).top.vertices v ≡ false
-  not_held_elsewhere v m i e ne = kept.held v i ∙ (ap (λ o. is_at o i) e ∙ (let t : (i == m.place) ≡ false = grind (arith, nat_tests) in t))
+  not_held_elsewhere v m i e ne = kept.held v i ∙ (ap (λ o. is_at o i) e ∙ ne_eqb i m.place ne)
 
   covers : (v : ℕ) → cover_of nodes v ≡ option_map (λ n. n.name) (find (λ n. is_in n.top.vertices v) nodes)
   covers v =
@@ -157,10 +154,7 @@ module _ (p : Problem) (nodes : List Node) (marks : List (Option Mark)) (kept : 
   mark_from_covered v e = by (mark_of marks v) refl
     where
       by : (o : Option Mark) → mark_of marks v ≡ o → (m : Mark) × (mark_of marks v ≡ Some m)
-      by None h = let n : IsSome (cover_of nodes v) ≡ IsSome {T = ℕ} None = ap IsSome (cover-None v h) in absurd (none (rw (cover-None v h) at e))
-        where
-          none : IsSome {T = ℕ} None → ⊥
-          none x = cc
+      by None h = let none : IsSome {T = ℕ} None = rw (cover-None v h) at e in absurd (cc)
       by (Some m) h = (m, h)
 
   pub mark_from_uncovered : (v : ℕ) → cover_of nodes v ≡ None → mark_of marks v ≡ None
@@ -191,7 +185,7 @@ module _ (p : Problem) (nodes : List Node) (marks : List (Option Mark)) (kept : 
           by None q = let f : is_in (node_at nodes i).top.vertices v ≡ false = not_held v q i in cc
           by (Some m) q =
               let t : (i == m.place) ≡ true = ap (λ o. is_at o i) (sym q) ∙ (sym (kept.held v i) ∙ h) in
-              let s : i ≡ m.place = same_place i m.place t in
+              let s : i ≡ m.place = eqb-true i m.place t in
               cover-Some v m q ∙ ap (λ j. Some (node_at nodes j).name) (sym s)
 
       both : (i : ℕ) (a b : Bool) → is_in (node_at nodes i).top.vertices e.first ≡ a → is_in (node_at nodes i).top.vertices e.second ≡ b → (a && b) ≡ false
@@ -206,7 +200,7 @@ module _ (p : Problem) (nodes : List Node) (marks : List (Option Mark)) (kept : 
       by None q = not_held v q j
       by (Some m) q =
           let t : (i == m.place) ≡ true = ap (λ o. is_at o i) (sym q) ∙ (sym (kept.held v i) ∙ h) in
-          let s : i ≡ m.place = same_place i m.place t in
+          let s : i ≡ m.place = eqb-true i m.place t in
           not_held_elsewhere v m j q (λ r. omega arith)
 
   pub outer-apart : AreOuterApart nodes

@@ -1,18 +1,17 @@
 -- What every dual state keeps, from what its marks tell.
-use Rattle.std.proofs.Common.{◌≡◌, ℕ, zero, suc, ◌+◌, ◌%◌, ◌<◌, ◌≤◌, ◌==◌, inl, inr, Bool, true, false, List, [], ◌∷◌, ◌++◌, length, get_or, Option, Some, None, refl, sym, ◌∙◌, ap, arith}
+use Rattle.std.proofs.Common.{◌≡◌, ℕ, zero, suc, ◌+◌, ◌%◌, ◌<◌, inl, inr, true, false, List, [], ◌∷◌, ◌++◌, length, Option, Some, None, refl, ◌∙◌, ap, arith}
 use Rattle.std.specs.List.{All, AllPairs}
 use Rattle.std.specs.Option.{IsSome}
-use Rattle.std.proofs.lemmas.List.Elements.{All-nil, All-cons, All-head, All-tail, All-append, All-weaker, All-get_or, All-from_get_or}
+use Rattle.std.proofs.lemmas.List.Elements.{All-nil, All-cons, All-head, All-tail, All-append, All-weaker}
 use Rattle.fb_graph.specs.Parity.{is_in}
-use Rattle.fb_graph.specs.Problem.{Problem, edge_at, no_edge, with_defects}
+use Rattle.fb_graph.specs.Problem.{Problem, edge_at, no_edge}
 use Rattle.fb_graph.specs.Certificate.{total_value}
-use Rattle.fb_graph.specs.Limits.{IsEdge, IsWithinLimits}
+use Rattle.fb_graph.specs.Limits.{IsWithinLimits}
 use Rattle.fb_graph.specs.declared.parts.Cut.{Cut}
-use Rattle.fb_graph.specs.declared.parts.Edge.{Edge}
 use Rattle.fb_regions.specs.declared.marks.Mark.{Mark}
 use Rattle.fb_regions.specs.declared.walk.Step.{Step}
-use Rattle.fb_regions.specs.Dual.{Node, AreApart, AreGrown, HasRadius, HasSourceParity, IsDual, IsNestedOrApart, IsWithin, layers_of, all_cuts, leaves, cover_of, height_of}
-use Rattle.fb_regions.specs.Kept.{CameBy, IsAfter, IsKept, no_node, node_at, mark_of}
+use Rattle.fb_regions.specs.Dual.{Node, AreGrown, HasRadius, HasSourceParity, IsDual, IsNestedOrApart, IsWithin, layers_of, all_cuts, leaves, cover_of, height_of}
+use Rattle.fb_regions.specs.Kept.{CameBy, IsAfter, IsKept, node_at, mark_of}
 use Rattle.fb_regions.specs.Walks.{IsStep}
 use Rattle.fb_regions.proofs.Nodes.{layers_within}
 use Rattle.fb_regions.proofs.Covers.{tops_without, radius-holds, cover-Some, height-unmarked, load-is, mark_from_cover, mark_from_covered, mark_from_uncovered, no_leaf, outer-apart, tops-apart}
@@ -100,9 +99,10 @@ module _ (p : Problem) (nodes : List Node) (marks : List (Option Mark)) (kept : 
           let back : (before.distance % 2 ≡ 0) × ((d : ℕ) × IsFrom nodes marks before d) = earlier s.from before (omega (arith, k.1)) q in
           let even : (edge_at p.edges s.edge).weight % 2 ≡ 0 = (limits.each_edge s.edge no_edge step.within).even in
           let weight : s.weight % 2 ≡ 0 = rw step.weighs even in
-          let from : IsFrom nodes marks before back.1.0 = back.1.1 in
-          (rw (k.2) (even_sum before.distance s.weight back.0 weight),
-           (back.1.0, record { defect = from.defect; start = from.start; mark = from.mark; place = from.place ∙ k.0; distance = from.distance }))
+          let from : IsFrom nodes marks before back.1.0 = back.1.1 in (
+            rw (k.2) (even_sum before.distance s.weight back.0 weight),
+            (back.1.0, record { defect = from.defect; start = from.start; mark = from.mark; place = from.place ∙ k.0; distance = from.distance }),
+          )
 
       by : AreSourced nodes marks bound → (o : Option Step) → CameBy p (leaves nodes) marks v m o → (m.distance % 2 ≡ 0) × ((d : ℕ) × IsFrom nodes marks m d)
       by earlier None h = (rw (h.1) refl, (v, record { defect = h.0; start = m; mark = e; place = refl; distance = h.1 }))
@@ -113,12 +113,14 @@ module _ (p : Problem) (nodes : List Node) (marks : List (Option Mark)) (kept : 
       let at : (m : Mark) × (mark_of marks v ≡ Some m) × ((node_at nodes m.place).name ≡ name) = mark_from_cover p nodes marks kept v name h in
       let m : Mark = at.0 in
       let found : (m.distance % 2 ≡ 0) × ((d : ℕ) × IsFrom nodes marks m d) = source (m.rank + 1) v m (omega arith) at.1 in
-      let from : IsFrom nodes marks m found.1.0 = found.1.1 in
-      (found.1.0, from.defect,
-       cover-Some p nodes marks kept found.1.0 from.start from.mark ∙ (ap (λ i. Some (node_at nodes i).name) from.place ∙ ap Some at.2),
-       balanced m.distance from.start.distance (height_of (all_cuts nodes) v) (height_of (all_cuts nodes) found.1.0) (total_value (layers_of (node_at nodes m.place)))
-         (kept.marked v m at.1).balance
-         ((kept.marked found.1.0 from.start from.mark).balance ∙ ap (λ i. total_value (layers_of (node_at nodes i))) from.place) found.0 from.distance)
+      let from : IsFrom nodes marks m found.1.0 = found.1.1 in (
+        found.1.0,
+        from.defect,
+        cover-Some p nodes marks kept found.1.0 from.start from.mark ∙ (ap (λ i. Some (node_at nodes i).name) from.place ∙ ap Some at.2),
+        balanced m.distance from.start.distance (height_of (all_cuts nodes) v) (height_of (all_cuts nodes) found.1.0) (total_value (layers_of (node_at nodes m.place)))
+            (kept.marked v m at.1).balance
+            ((kept.marked found.1.0 from.start from.mark).balance ∙ ap (λ i. total_value (layers_of (node_at nodes i))) from.place) found.0 from.distance,
+      )
     where
       balanced : (a b hv hd t : ℕ) → a + hv ≡ t → b + hd ≡ t → a % 2 ≡ 0 → b ≡ 0 → hd % 2 ≡ hv % 2
       balanced a b hv hd t e f g z = omega arith

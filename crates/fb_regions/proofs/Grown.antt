@@ -1,5 +1,5 @@
 -- What a dual state keeps when the top layer of a node grows.
-use Rattle.std.proofs.Common.{◌≡◌, ℕ, zero, suc, ◌+◌, ◌^◌, ◌<◌, ◌≤◌, ◌==◌, ◌⊎◌, inl, inr, Bool, true, false, cond, List, [], ◌∷◌, ◌++◌, map, length, get_or, set, Option, Some, refl, sym, ◌∙◌, ap, arith}
+use Rattle.std.proofs.Common.{◌≡◌, ℕ, zero, suc, ◌+◌, ◌^◌, ◌<◌, ◌≤◌, ◌==◌, ◌⊎◌, inl, inr, Bool, true, false, cond, List, [], ◌∷◌, length, get_or, set, Option, Some, refl, sym, ◌∙◌, ap, arith}
 use Rattle.std.specs.List.{All, position}
 use Rattle.std.proofs.lemmas.Bool.{cases_eq, eqb-true}
 use Rattle.std.proofs.lemmas.List.{length-set, get_or-set_same, get_or-set_other}
@@ -8,14 +8,14 @@ use Rattle.std.proofs.lemmas.List.Quantifiers.{position-Some}
 use Rattle.std.proofs.lemmas.List.Sums.{get_or-le-sum_by}
 use Rattle.fb_graph.specs.Parity.{is_in}
 use Rattle.fb_graph.specs.Problem.{Problem, edge_at, no_edge, crosses, with_defects}
-use Rattle.fb_graph.specs.Certificate.{AreDistinct, Fits, IsOddCut, load_of, total_value}
-use Rattle.fb_graph.specs.Limits.{IsEdge, IsWithinLimits}
+use Rattle.fb_graph.specs.Certificate.{Fits, IsOddCut, load_of, total_value}
+use Rattle.fb_graph.specs.Limits.{IsWithinLimits}
 use Rattle.fb_graph.specs.declared.parts.Cut.{Cut}
 use Rattle.fb_graph.specs.declared.parts.Edge.{Edge}
 use Rattle.fb_regions.specs.declared.marks.Mark.{Mark}
 use Rattle.fb_regions.specs.Dual.{Node, AreGrown, IsHeld, layers_of, all_cuts, leaves, height_of, change_at, thicker}
 use Rattle.fb_regions.specs.Moves.{AllowsGrowth, IsCrossed, top_at}
-use Rattle.fb_regions.specs.Kept.{CameBy, IsKept, IsMarked, no_node, node_at, mark_of}
+use Rattle.fb_regions.specs.Kept.{IsKept, IsMarked, no_node, node_at, mark_of}
 use Rattle.fb_regions.proofs.Sums.{weigh, weigh-set, weigh-thicker, total-le, sum_by-flat_map}
 use Rattle.fb_regions.proofs.Nodes.{All-below, All-top, All-cuts-at, All-cuts-set, AreGrown-thicker, change_at-place, defects_of-thicker, leaves-set, names-set, top_at-place}
 use Rattle.fb_regions.proofs.Covers.{held_at, not_held_elsewhere}
@@ -60,7 +60,7 @@ module _ (p : Problem) (nodes : List Node) (marks : List (Option Mark)) (kept : 
       by b h =
           let e : Edge = get_or p.edges j d in
           let new : load_of (all_cuts (set nodes i (thicker k (node_at nodes i)))) e ≡ load_of (all_cuts nodes) e + cond b k 0 =
-              weigh-grown (λ s. crosses s e) ∙ ap (λ c. load_of (all_cuts nodes) e + cond c k 0) h in
+          weigh-grown (λ s. crosses s e) ∙ ap (λ c. load_of (all_cuts nodes) e + cond c k 0) h in
           bound b h new
         where
           bound : (c : Bool) → crosses (node_at nodes i).top.vertices (get_or p.edges j d) ≡ c
@@ -88,16 +88,16 @@ module _ (p : Problem) (nodes : List Node) (marks : List (Option Mark)) (kept : 
       by (inl same) =
           let here : is_in (node_at nodes i).top.vertices v ≡ true = ap (λ j. is_in (node_at nodes j).top.vertices v) (sym same) ∙ held_at p nodes marks kept v m e in
           let old : m.distance + height_of (all_cuts nodes) v ≡ total_value (layers_of (node_at nodes i)) =
-              (kept.marked v m e).balance ∙ ap (λ j. total_value (layers_of (node_at nodes j))) same in
+          (kept.marked v m e).balance ∙ ap (λ j. total_value (layers_of (node_at nodes j))) same in
           let at : node_at (set nodes i (thicker k (node_at nodes i))) m.place ≡ thicker k (node_at nodes i) =
-              ap (node_at (set nodes i (thicker k (node_at nodes i)))) same ∙ get_or-set_same nodes i (thicker k (node_at nodes i)) no_node lt in
+          ap (node_at (set nodes i (thicker k (node_at nodes i)))) same ∙ get_or-set_same nodes i (thicker k (node_at nodes i)) no_node lt in
           let total : total_value (layers_of (node_at (set nodes i (thicker k (node_at nodes i))) m.place)) ≡ total_value (layers_of (node_at nodes i)) + k =
-              ap (λ n. total_value (layers_of n)) at ∙ weigh-thicker (λ _. true) k (node_at nodes i) in
+          ap (λ n. total_value (layers_of n)) at ∙ weigh-thicker (λ _. true) k (node_at nodes i) in
           omega (arith, old, total, new true here)
       by (inr other) =
           let out : is_in (node_at nodes i).top.vertices v ≡ false = not_held_elsewhere p nodes marks kept v m i e (λ s. other (sym s)) in
           let at : node_at (set nodes i (thicker k (node_at nodes i))) m.place ≡ node_at nodes m.place =
-              get_or-set_other nodes i m.place (thicker k (node_at nodes i)) no_node other in
+          get_or-set_other nodes i m.place (thicker k (node_at nodes i)) no_node other in
           omega (arith, (kept.marked v m e).balance, ap (λ n. total_value (layers_of n)) at, new false out)
 
   pub kept-grown : IsKept p (set nodes i (thicker k (node_at nodes i))) marks
@@ -105,7 +105,7 @@ module _ (p : Problem) (nodes : List Node) (marks : List (Option Mark)) (kept : 
       let n : Node = node_at nodes i in
       let own : All (IsOddCut (with_defects p (leaves nodes))) (layers_of n) = All-cuts-at (IsOddCut (with_defects p (leaves nodes))) nodes i lt kept.odd in
       let odd : All (IsOddCut (with_defects p (leaves nodes))) (all_cuts (set nodes i (thicker k n))) =
-          All-cuts-set (IsOddCut (with_defects p (leaves nodes))) nodes i (thicker k n) kept.odd (grown-odd n (with_defects p (leaves nodes)) own) in
+      All-cuts-set (IsOddCut (with_defects p (leaves nodes))) nodes i (thicker k n) kept.odd (grown-odd n (with_defects p (leaves nodes)) own) in
       record {
         odd = rw same_leaves odd;
         fits = fits-grown;

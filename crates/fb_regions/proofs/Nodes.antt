@@ -1,10 +1,9 @@
 -- Layers of nodes, and lists of nodes of which one is changed.
-use Rattle.std.proofs.Common.{◌≡◌, ℕ, zero, suc, ◌+◌, ◌<◌, ◌≤◌, ◌==◌, ◌&&◌, ◌||◌, not, Bool, true, false, cond, List, [], ◌∷◌, ◌++◌, map, length, get_or, set, Option, Some, None, refl, sym, ◌∙◌, ap, subst, arith, if◌then◌else◌, nat_lt}
-use Rattle.std.specs.List.{list_any, find, flat_map, All, AllPairs, position, position_or_len}
-use Rattle.std.specs.Option.{option_map}
+use Rattle.std.proofs.Common.{◌≡◌, ℕ, zero, suc, ◌+◌, ◌<◌, ◌==◌, not, Bool, true, false, cond, List, [], ◌∷◌, ◌++◌, map, length, set, Some, None, refl, ◌∙◌, ap, arith, if◌then◌else◌, nat_lt}
+use Rattle.std.specs.List.{list_any, find, flat_map, All, position, position_or_len}
+use Rattle.std.proofs.lemmas.Bool.{or_left, or_parts}
 use Rattle.std.proofs.lemmas.Bool.Decides.{nat_tests}
-use Rattle.std.proofs.lemmas.List.{append_assoc, length-set, get_or-set_same, get_or-set_other, map-set, set-get_or}
-use Rattle.std.proofs.lemmas.List.Elements.{All-nil, All-cons, All-head, All-tail, All-append, All-push, All-get_or, All-from_get_or, All-weaker}
+use Rattle.std.proofs.lemmas.List.Elements.{All-nil, All-cons, All-head, All-tail, All-append, All-get_or, All-from_get_or}
 use Rattle.std.proofs.lemmas.List.Folds.{list_any_none}
 use Rattle.std.proofs.lemmas.List.Quantifiers.{position-Some}
 use Rattle.std.proofs.lemmas.List.Sums.{fails_before_first}
@@ -14,7 +13,8 @@ use Rattle.fb_graph.specs.declared.parts.Cut.{Cut}
 use Rattle.fb_regions.specs.Dual.{Node, AreGrown, IsWithin, layers_of, all_cuts, leaves, defects_of, is_empty, first_vertices, is_live, is_outer, change_at, taller, thicker}
 use Rattle.fb_regions.specs.Kept.{no_node, node_at}
 use Rattle.fb_regions.specs.Moves.{layers_at, top_at}
-use Rattle.fb_regions.proofs.Sets.{is_in_push, or_false, eqb_sym, or_left_false, or_right_false}
+use Rattle.fb_graph.proofs.Sets.{equal_sym}
+use Rattle.fb_regions.proofs.Sets.{is_in_push}
 
 -- All of the pieces of a flattened list
 pub All-flat_map : {X Y : Type 0} (P : Y → Type 0) (f : X → List Y) (xs : List X) → All (λ x. All P (f x)) xs → All P (flat_map f xs)
@@ -69,11 +69,7 @@ AreGrown-thicker (c ∷ []) top k h = (h.0, AreGrown-thicker [] top k h.1)
 AreGrown-thicker (c ∷ d ∷ ds) top k h = (h.0, AreGrown-thicker (d ∷ ds) top k h.1)
 
 within_pushed : (xs : List ℕ) (y v : ℕ) → is_in xs v ≡ true → is_in (xs ++ y ∷ []) v ≡ true
-within_pushed xs y v h = is_in_push xs y v ∙ left (is_in xs v) (y == v) h
-  where
-    left : (a b : Bool) → a ≡ true → (a || b) ≡ true
-    left true b e = refl
-    left false b e = cc
+within_pushed xs y v h = is_in_push xs y v ∙ or_left (is_in xs v) (y == v) h
 
 -- each layer lies within the top one
 pub layers_within : (below : List Cut) (top : Cut) → AreGrown (below ++ top ∷ []) → All (λ c. IsWithin c.vertices top.vertices) (below ++ top ∷ [])
@@ -106,18 +102,18 @@ change_at-place f (n ∷ ns) zero d lt =
     unchanged : (name : ℕ) (ms : List Node) → is_in (map (λ m. m.name) ms) name ≡ false → change_at name f ms ≡ ms
     unchanged name [] e = refl
     unchanged name (m ∷ ms) e =
-        let no : (m.name == name) ≡ false = or_left_false (m.name == name) (is_in (map (λ x. x.name) ms) name) e in
-        rw no (ap (λ l. m ∷ l) (unchanged name ms (or_right_false (m.name == name) (is_in (map (λ x. x.name) ms) name) e)))
+        let no : (m.name == name) ≡ false = (or_parts (m.name == name) (is_in (map (λ x. x.name) ms) name) e).0 in
+        rw no (ap (λ l. m ∷ l) (unchanged name ms (or_parts (m.name == name) (is_in (map (λ x. x.name) ms) name) e).1))
 change_at-place f (n ∷ ns) (suc i) d lt =
     let lt' : i < length ns = omega arith in
     let other : (n.name == (node_at ns i).name) ≡ false =
-        eqb_sym n.name (node_at ns i).name ∙ absent (n.name) ns i d.0 lt' in
+    equal_sym n.name (node_at ns i).name ∙ absent (n.name) ns i d.0 lt' in
     rw other (ap (λ l. n ∷ l) (change_at-place f ns i d.1 lt'))
   where
     absent : (name : ℕ) (ms : List Node) (j : ℕ) → is_in (map (λ m. m.name) ms) name ≡ false → j < length ms → ((node_at ms j).name == name) ≡ false
     absent name [] j e l = absurd (omega arith)
-    absent name (m ∷ ms) zero e l = or_left_false (m.name == name) (is_in (map (λ x. x.name) ms) name) e
-    absent name (m ∷ ms) (suc j) e l = absent name ms j (or_right_false (m.name == name) (is_in (map (λ x. x.name) ms) name) e) (omega arith)
+    absent name (m ∷ ms) zero e l = (or_parts (m.name == name) (is_in (map (λ x. x.name) ms) name) e).0
+    absent name (m ∷ ms) (suc j) e l = absent name ms j (or_parts (m.name == name) (is_in (map (λ x. x.name) ms) name) e).1 (omega arith)
 
 pub names-set : (nodes : List Node) (i : ℕ) (n : Node) → n.name ≡ (node_at nodes i).name → map (λ x. x.name) (set nodes i n) ≡ map (λ x. x.name) nodes
 names-set [] i n e = refl

@@ -1,22 +1,22 @@
 -- What a dual state keeps when a vertex becomes a defect with a node of its own.
-use Rattle.std.proofs.Common.{◌≡◌, ℕ, ◌+◌, ◌^◌, ◌<◌, ◌≤◌, ◌==◌, ◌||◌, ◌⊎◌, inl, inr, Bool, true, false, cond, List, [], ◌∷◌, ◌++◌, map, length, get_or, set, Option, Some, None, refl, sym, ◌∙◌, ap, arith}
+use Rattle.std.proofs.Common.{◌≡◌, ℕ, ◌+◌, ◌<◌, ◌≤◌, ◌==◌, ◌||◌, ◌⊎◌, inl, inr, Bool, true, false, cond, List, [], ◌∷◌, ◌++◌, map, length, get_or, set, Option, Some, None, refl, sym, ◌∙◌, ap, arith}
 use Rattle.std.specs.List.{All}
 use Rattle.std.proofs.lemmas.Bool.{cases_eq, cases_order, eq-eqb, ne_eqb, or_left}
-use Rattle.std.proofs.lemmas.List.{length-set, length_push, map_push, get_or_append_left, get_or_push, get_or_past, append-nil}
+use Rattle.std.proofs.lemmas.List.{length-set, length_push, map_push, get_or_append_left, get_or_push, get_or_past}
 use Rattle.std.proofs.lemmas.List.Concat.{flat_map-append}
-use Rattle.std.proofs.lemmas.List.Elements.{All-nil, All-cons, All-append, All-push, All-get_or}
+use Rattle.std.proofs.lemmas.List.Elements.{All-nil, All-cons, All-push}
 use Rattle.std.proofs.lemmas.List.Sums.{sum_by_push}
-use Rattle.fb_graph.specs.Parity.{differ, is_odd_count, is_in}
+use Rattle.fb_graph.specs.Parity.{differ, is_in}
 use Rattle.fb_graph.specs.Problem.{Problem, crosses, with_defects}
-use Rattle.fb_graph.specs.Certificate.{AreDistinct, Fits, IsOddCut, load_of, total_value}
+use Rattle.fb_graph.specs.Certificate.{IsOddCut, total_value}
 use Rattle.fb_graph.specs.declared.parts.Cut.{Cut}
 use Rattle.fb_regions.specs.declared.marks.Mark.{Mark}
-use Rattle.fb_regions.specs.Dual.{Node, AreGrown, IsHeld, layers_of, all_cuts, defects_of, leaf, leaves, height_of, is_live}
-use Rattle.fb_regions.specs.Kept.{CameBy, IsKept, IsMarked, no_node, node_at, mark_of, is_at}
+use Rattle.fb_regions.specs.Dual.{Node, AreGrown, IsHeld, layers_of, all_cuts, defects_of, leaf, leaves, is_live}
+use Rattle.fb_regions.specs.Kept.{IsKept, IsMarked, no_node, node_at, mark_of, is_at}
 use Rattle.fb_regions.proofs.Sets.{AreDistinct_push, is_in_push, is_in_pushed, is_odd_count-agree, or_false}
-use Rattle.fb_regions.proofs.Sums.{weigh}
+use Rattle.fb_regions.proofs.Sums.{cond_zero, weigh}
 use Rattle.fb_regions.proofs.Covers.{height-unmarked, not_held, unmarked}
-use Rattle.fb_regions.proofs.Marked.{KeepsMarks, came_still, mark_new, mark_other, marks_stay}
+use Rattle.fb_regions.proofs.Marked.{came_still, mark_new, mark_other, marks_stay}
 
 abbrev pub opened : ℕ → Mark
 opened place = record { place = place; rank = 0; distance = 0; by = None }
@@ -28,10 +28,6 @@ first_cut v = record { value = 0; vertices = v ∷ [] }
 named : (nodes : List Node) (name : ℕ) → is_in (map (λ n. n.name) nodes) name ≡ is_live nodes name
 named [] name = refl
 named (n ∷ ns) name = ap (λ b. (n.name == name) || b) (named ns name)
-
-cond_zero : (b : Bool) → cond {A = ℕ} b 0 0 ≡ 0
-cond_zero true = refl
-cond_zero false = refl
 
 -- an odd cut without the new defect stays odd
 odd_still : (p : Problem) (defects : List ℕ) (v : ℕ) (c : Cut) → IsOddCut (with_defects p defects) c → is_in c.vertices v ≡ false

@@ -1,18 +1,17 @@
 -- What a dual state keeps when a node takes up a further vertex.
-use Rattle.std.proofs.Common.{◌≡◌, ℕ, ◌+◌, ◌^◌, ◌<◌, ◌≤◌, ◌==◌, ◌||◌, ◌⊎◌, inl, inr, Bool, true, false, cond, List, [], ◌∷◌, ◌++◌, map, length, get_or, set, Option, Some, None, refl, sym, ◌∙◌, ap, arith}
+use Rattle.std.proofs.Common.{◌≡◌, ℕ, ◌+◌, ◌<◌, ◌==◌, ◌||◌, ◌⊎◌, inl, inr, Bool, true, false, List, [], ◌∷◌, ◌++◌, length, get_or, set, Option, Some, None, refl, sym, ◌∙◌, ap, arith}
 use Rattle.std.specs.List.{All}
 use Rattle.std.proofs.lemmas.Bool.{cases_eq, eq-eqb, ne_eqb}
 use Rattle.std.proofs.lemmas.List.{length-set, length_push, get_or-set_same, get_or-set_other}
 use Rattle.std.proofs.lemmas.List.Elements.{All-push, All-set, All-get_or}
 use Rattle.fb_graph.specs.Parity.{is_in}
-use Rattle.fb_graph.specs.Problem.{Problem, crosses, edge_at, with_defects}
-use Rattle.fb_graph.specs.Certificate.{AreDistinct, Fits, IsOddCut, load_of, total_value}
-use Rattle.fb_graph.specs.declared.parts.Cut.{Cut}
+use Rattle.fb_graph.specs.Problem.{Problem, crosses, with_defects}
+use Rattle.fb_graph.specs.Certificate.{IsOddCut, total_value}
 use Rattle.fb_regions.specs.declared.walk.Step.{Step}
 use Rattle.fb_regions.specs.declared.marks.Mark.{Mark}
 use Rattle.fb_regions.specs.Walks.{IsStep}
-use Rattle.fb_regions.specs.Dual.{Node, AreGrown, IsHeld, layers_of, all_cuts, change_at, leaves, height_of, taller}
-use Rattle.fb_regions.specs.Kept.{CameBy, IsKept, IsMarked, no_node, node_at, mark_of, is_at}
+use Rattle.fb_regions.specs.Dual.{Node, AreGrown, IsHeld, layers_of, all_cuts, leaves, taller}
+use Rattle.fb_regions.specs.Kept.{IsKept, IsMarked, no_node, node_at, mark_of, is_at}
 use Rattle.fb_regions.proofs.Sets.{AreDistinct_push, is_in_push, is_in_pushed, is_odd_count_push, or_false}
 use Rattle.fb_regions.proofs.Sums.{weigh, weigh-set, weigh-taller}
 use Rattle.fb_regions.proofs.Nodes.{All-top, All-cuts-at, All-cuts-set, AreGrown-taller, defects_of-taller, leaves-set, names-set}
@@ -138,7 +137,7 @@ module _ (p : Problem) (nodes : List Node) (marks : List (Option Mark)) (kept : 
       by : (v ≡ s.to) ⊎ (v ≡ s.to → ⊥) → IsMarked p (set nodes m.place (taller s.to (node_at nodes m.place))) (set marks s.to (Some (raised nodes m.place s))) v x
       by (inl i) =
           let h : Some x ≡ Some (raised nodes m.place s) =
-              sym e ∙ (ap (mark_of (set marks s.to (Some (raised nodes m.place s)))) i ∙ mark_new marks s.to (raised nodes m.place s) below) in
+          sym e ∙ (ap (mark_of (set marks s.to (Some (raised nodes m.place s)))) i ∙ mark_new marks s.to (raised nodes m.place s) below) in
           let same : x ≡ raised nodes m.place s = cc in
           rw (i, same) new_mark
       by (inr ne) = old_mark (sym (mark_other marks s.to v (raised nodes m.place s) ne) ∙ e)

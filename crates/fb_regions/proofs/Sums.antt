@@ -1,11 +1,11 @@
 -- Sums over cuts: of the values of those whose sets pass a test.
-use Rattle.std.proofs.Common.{◌≡◌, ℕ, ◌+◌, ◌*◌, ◌^◌, ◌<◌, ◌≤◌, ◌⊎◌, inl, inr, Bool, true, false, cond, List, [], ◌∷◌, ◌++◌, length, get_or, set, refl, sym, ◌∙◌, ap, arith}
+use Rattle.std.proofs.Common.{◌≡◌, ℕ, ◌+◌, ◌*◌, ◌^◌, ◌<◌, ◌≤◌, inl, inr, Bool, true, false, cond, List, [], ◌∷◌, ◌++◌, length, set, refl, sym, ◌∙◌, ap, arith}
 use Rattle.std.specs.List.{sum_by, flat_map, All}
 use Rattle.std.proofs.lemmas.List.Sums.{sum_by-cons, sum_by-append, sum_by_push, sum_by-set, sum_by-le-sum_by, sum_by-le, get_or-le-sum_by}
 use Rattle.std.proofs.lemmas.List.Elements.{All-head, All-tail}
 use Rattle.fb_graph.specs.Problem.{Problem, edge_at, no_edge, crosses}
 use Rattle.fb_graph.specs.Certificate.{Fits, load_of, total_value}
-use Rattle.fb_graph.specs.Limits.{IsEdge, IsWithinLimits}
+use Rattle.fb_graph.specs.Limits.{IsWithinLimits}
 use Rattle.fb_graph.specs.declared.parts.Cut.{Cut}
 use Rattle.fb_graph.specs.declared.parts.Edge.{Edge}
 use Rattle.fb_regions.specs.Dual.{Node, IsHeld, layers_of, all_cuts, taller, thicker}
@@ -24,7 +24,7 @@ cond_add : (b : Bool) (m n : ℕ) → cond b (m + n) 0 ≡ cond b m 0 + cond b n
 cond_add true m n = refl
 cond_add false m n = refl
 
-cond_zero : (b : Bool) → cond {A = ℕ} b 0 0 ≡ 0
+pub cond_zero : (b : Bool) → cond {A = ℕ} b 0 0 ≡ 0
 cond_zero true = refl
 cond_zero false = refl
 
@@ -94,7 +94,7 @@ total-le-loads p (c ∷ cs) h =
     let rest : total_value cs ≤ sum_by (λ e. load_of cs e) p.edges = total-le-loads p cs (All-tail (IsHeld p) c cs h) in
     let here : c.value ≤ sum_by f p.edges = borne c (All-head (IsHeld p) c cs h) in
     let both : sum_by (λ e. load_of (c ∷ cs) e) p.edges ≡ sum_by f p.edges + sum_by (λ e. load_of cs e) p.edges =
-        split p.edges in
+    split p.edges in
     let all : total_value (c ∷ cs) ≡ c.value + total_value cs = sum_by-cons (λ (x : Cut). x.value) c cs in
     omega (arith, rest, here, both, all)
   where
@@ -126,5 +126,5 @@ total-le p cuts limits fits held =
     let loads : total_value cuts ≤ sum_by (λ e. load_of cuts e) p.edges = total-le-loads p cuts held in
     let weights : sum_by (λ e. load_of cuts e) p.edges ≤ sum_by (λ e. e.weight) p.edges = loads-le cuts p.edges fits in
     let light : sum_by (λ (e : Edge). e.weight) p.edges ≤ length p.edges * (2 ^ 30) =
-        sum_by-le (λ (e : Edge). e.weight) (2 ^ 30) p.edges (λ k d lt. (limits.each_edge k d lt).light) in
+    sum_by-le (λ (e : Edge). e.weight) (2 ^ 30) p.edges (λ k d lt. (limits.each_edge k d lt).light) in
     omega (arith, loads, weights, light, limits.edges)

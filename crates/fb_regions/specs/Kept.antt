@@ -1,9 +1,8 @@
 -- What a dual state keeps beside its value: for each vertex that a node holds, by which step it came.
-use Rattle.std.specs.Prelude.{ℕ, ◌≡◌, ◌+◌, ◌<◌, ◌≤◌, ◌^◌, ◌==◌, Bool, true, false, List, [], ◌∷◌, length, map, get_or, All, Option, Some, None}
+use Rattle.std.specs.Prelude.{ℕ, ◌≡◌, ◌+◌, ◌<◌, ◌≤◌, ◌^◌, ◌==◌, Bool, true, false, List, [], length, map, get_or, All, Option, Some, None}
 use Rattle.fb_graph.specs.Parity.{is_in}
 use Rattle.fb_graph.specs.Problem.{Problem, with_defects}
 use Rattle.fb_graph.specs.Certificate.{AreDistinct, Fits, IsOddCut, total_value}
-use Rattle.fb_graph.specs.declared.parts.Cut.{Cut}
 use Rattle.fb_regions.specs.declared.walk.Step.{Step}
 use Rattle.fb_regions.specs.declared.marks.Mark.{Mark}
 use Rattle.fb_regions.specs.Dual.{Node, AreGrown, IsHeld, layers_of, all_cuts, leaves, height_of}

@@ -8,6 +8,9 @@ pub mod regions;
 pub mod roles;
 pub mod walk;
 
+#[cfg(test)]
+mod tests;
+
 pub use fb_graph::Cut as Layer;
 pub use regions::Regions;
 pub use roles::{Role, Roles};

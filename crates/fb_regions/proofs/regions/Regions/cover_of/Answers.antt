@@ -1,4 +1,4 @@
-use Rattle.std.proofs.Common.{◌≡◌, ◌∙◌, ap, refl, sym, Some, None}
+use Rattle.std.proofs.Common.{sym, None}
 use Rattle.fb_regions.proofs.Covers.{cover-None}
 use Rattle.fb_regions.proofs.Readings.{cover, read_mark}
 use Rattle.fb_regions.proofs.regions.Regions.cover_of.Goals as goal

@@ -1,4 +1,4 @@
-use Rattle.std.proofs.Common.{◌≡◌, ◌∙◌, ap, refl, sym, Some, None}
+use Rattle.std.proofs.Common.{sym, None}
 use Rattle.fb_regions.proofs.Covers.{height-unmarked}
 use Rattle.fb_regions.proofs.Readings.{read_mark, potential}
 use Rattle.fb_regions.proofs.regions.Regions.potential.Goals as goal

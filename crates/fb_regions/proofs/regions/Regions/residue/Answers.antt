@@ -1,7 +1,6 @@
-use Rattle.std.proofs.Common.{◌≡◌, ◌+◌, ◌^◌, ◌≤◌, ap, arith}
+use Rattle.std.proofs.Common.{◌^◌, ◌≤◌, arith}
 use Rattle.fb_graph.specs.Problem.{edge_at}
-use Rattle.fb_graph.specs.Certificate.{load_of}
-use Rattle.fb_regions.specs.Dual.{AreUnderOne, all_cuts, height_of}
+use Rattle.fb_regions.specs.Dual.{all_cuts}
 use Rattle.fb_regions.proofs.Covers.{load-is}
 use Rattle.fb_regions.proofs.Readings.{height-le, residue}
 use Rattle.fb_regions.proofs.regions.Regions.residue.Goals as goal
@@ -19,4 +18,4 @@ returns-clause-load g c =
     let e = edge_at (g.S.Scope.problem c.self.inside.scope).edges c.args.edge in
     rw (← c.self.view_is)
     (λ apart. residue _ _ _ _ _ _ (all_cuts c.self.inside.nodes.items) e c.saturating_sub.ensures c.weight.ensures first c.ends-first.ensures.first second c.ends-first.ensures.second
-      (load-is _ _ _ c.self.invariant e apart))
+    (load-is _ _ _ c.self.invariant e apart))
