@@ -1,10 +1,10 @@
 -- Pairs of equal numbers cancel: what is left has the parities of the whole.
 use Rattle.std.proofs.Common.{ℕ, ◌+◌, ◌-◌, ◌%◌, ◌<◌, ◌≤◌, ◌≡◌, ◌≢◌, ◌==◌, Bool, true, false, cond, List, [], ◌∷◌, ◌++◌, length, get_or, set, take, All, sum_by, refl, sym, ap, ◌∙◌, subst, inl, inr, ◌⊎◌, arith, length-append, get_or-set_other}
 use Rattle.std.proofs.Math.ListN.{get_or-append}
-use Rattle.std.proofs.lemmas.Bool.{eqb-true, eqb-false, eq-eqb, ne_eqb, cases_lt, cases_eq}
+use Rattle.std.proofs.lemmas.Bool.{eqb-true, eq-eqb, ne_eqb, cases_lt, cases_eq}
 use Rattle.std.proofs.lemmas.List.{take_more, take_more_set, length-take-le, get_or-take, get_or_default, get_or-append_right}
 use Rattle.std.proofs.lemmas.List.Sums.{sum_by-cons, sum_by_push}
-use Rattle.std.proofs.lemmas.List.Sorted.{sum_by-IsPermutation, list_any-IsPermutation}
+use Rattle.std.proofs.lemmas.List.Sorted.{sum_by-IsPermutation}
 use Rattle.std.specs.List.Sorted.{IsNonDecreasing, IsPermutation, IsStrictlyIncreasing}
 use Rattle.fb_graph.specs.Parity.{differ, is_odd_count, is_in}
 use Rattle.fb_graph.specs.Printed.{CancelsTo}
@@ -99,12 +99,12 @@ cancels_pop : (xs ks : List ℕ) (x : ℕ) → CancelsTo xs (ks ++ x ∷ []) →
 cancels_pop xs ks x left = record {
   rising = rising-front ks x left.rising;
   parity = λ test.
-    let t = is_odd_count test (x ∷ []) in
-    sym (differ-false (is_odd_count test ks))
-    ∙ (ap (differ (is_odd_count test ks)) (sym (differ_self t))
-    ∙ (sym (differ_assoc (is_odd_count test ks) t t)
-    ∙ (ap (λ b. differ b t) (sym (odd-append test ks (x ∷ [])) ∙ left.parity test)
-    ∙ sym (odd-append test xs (x ∷ [])))));
+      let t = is_odd_count test (x ∷ []) in
+      sym (differ-false (is_odd_count test ks))
+      ∙ (ap (differ (is_odd_count test ks)) (sym (differ_self t))
+      ∙ (sym (differ_assoc (is_odd_count test ks) t t)
+      ∙ (ap (λ b. differ b t) (sym (odd-append test ks (x ∷ [])) ∙ left.parity test)
+      ∙ sym (odd-append test xs (x ∷ [])))));
   weight = λ f. omega (arith, left.weight f, sum_by_push f ks x, sum_by_push f xs x);
 }
 
@@ -114,8 +114,8 @@ cancels_push : (xs ks : List ℕ) (x : ℕ) → (0 < length ks → get_or ks (le
 cancels_push xs ks x last left = record {
   rising = rising_push ks x left.rising last;
   parity = λ test.
-    odd-append test ks (x ∷ [])
-    ∙ (ap (λ b. differ b (is_odd_count test (x ∷ []))) (left.parity test) ∙ sym (odd-append test xs (x ∷ [])));
+      odd-append test ks (x ∷ [])
+      ∙ (ap (λ b. differ b (is_odd_count test (x ∷ []))) (left.parity test) ∙ sym (odd-append test xs (x ∷ [])));
   weight = λ f. omega (arith, left.weight f, sum_by_push f ks x, sum_by_push f xs x);
 }
 
@@ -132,13 +132,13 @@ part_cancelled-back xs ys i k long less some same part = record {
   behind = omega (arith, part.behind);
   unread = λ n more. part.unread n (omega arith);
   cancelled =
-    let e : k - 1 + 1 ≡ k = omega arith in
-    let top : take k ys ≡ take (k - 1) ys ++ get_or xs i 0 ∷ [] =
-    ap (λ n. take n ys) (sym e)
-    ∙ (take_more ys (k - 1) 0 (omega (arith, part.behind))
-    ∙ ap (λ v. take (k - 1) ys ++ v ∷ []) (same ∙ part.unread i (omega arith))) in
-    subst (λ l. CancelsTo l (take (k - 1) ys)) (sym (take_more xs i 0 less))
-    (cancels_pop (take i xs) (take (k - 1) ys) (get_or xs i 0) (subst (CancelsTo (take i xs)) top part.cancelled));
+      let e : k - 1 + 1 ≡ k = omega arith in
+      let top : take k ys ≡ take (k - 1) ys ++ get_or xs i 0 ∷ [] =
+      ap (λ n. take n ys) (sym e)
+      ∙ (take_more ys (k - 1) 0 (omega (arith, part.behind))
+      ∙ ap (λ v. take (k - 1) ys ++ v ∷ []) (same ∙ part.unread i (omega arith))) in
+      subst (λ l. CancelsTo l (take (k - 1) ys)) (sym (take_more xs i 0 less))
+      (cancels_pop (take i xs) (take (k - 1) ys) (get_or xs i 0) (subst (CancelsTo (take i xs)) top part.cancelled));
 }
 
 -- it is another one: it is left too
@@ -148,13 +148,13 @@ pub part_cancelled-onward : (xs ys : List ℕ) (i k : ℕ) → IsNonDecreasing x
 part_cancelled-onward xs ys i k sorted long less other part = record {
   behind = omega (arith, part.behind);
   unread = λ n more.
-    let ne : n ≢ k = omega (arith, part.behind) in
-    get_or-set_other ys k n (get_or ys i 0) 0 ne ∙ part.unread n (omega arith);
+      let ne : n ≢ k = omega (arith, part.behind) in
+      get_or-set_other ys k n (get_or ys i 0) 0 ne ∙ part.unread n (omega arith);
   cancelled =
-    subst (λ l. CancelsTo l (take (k + 1) (set ys k x))) (sym (take_more xs i 0 less))
-    (subst (CancelsTo (take i xs ++ get_or xs i 0 ∷ [])) (sym (take_more_set ys k x (omega (arith, part.behind))))
-    (subst (λ v. CancelsTo (take i xs ++ v ∷ []) (take k ys ++ x ∷ [])) here
-    (cancels_push (take i xs) (take k ys) x last part.cancelled)));
+      subst (λ l. CancelsTo l (take (k + 1) (set ys k x))) (sym (take_more xs i 0 less))
+      (subst (CancelsTo (take i xs ++ get_or xs i 0 ∷ [])) (sym (take_more_set ys k x (omega (arith, part.behind))))
+      (subst (λ v. CancelsTo (take i xs ++ v ∷ []) (take k ys ++ x ∷ [])) here
+      (cancels_push (take i xs) (take k ys) x last part.cancelled)));
 }
   where
     x : ℕ

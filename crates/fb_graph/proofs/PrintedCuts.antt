@@ -1,12 +1,12 @@
 -- Cuts in the form in which a report prints them.
-use Rattle.std.proofs.Common.{ℕ, ◌+◌, ◌<◌, ◌≤◌, ◌≡◌, ◌≢◌, ◌==◌, Bool, true, false, cond, List, [], ◌∷◌, length, get_or, All, AllPairs, filter, nat_lt, nat_eq, sum_by, zero, suc, refl, sym, ap, ◌∙◌, subst, le_trans, le_of_eq, arith}
+use Rattle.std.proofs.Common.{ℕ, ◌+◌, ◌<◌, ◌≡◌, ◌==◌, Bool, true, false, cond, List, [], ◌∷◌, length, get_or, All, AllPairs, filter, nat_eq, sum_by, suc, refl, sym, ap, ◌∙◌, subst, le_trans, le_of_eq, arith}
 use Rattle.std.specs.Cmp.Lexicographic.{slice_cmp}
-use Rattle.std.specs.List.{AllZip, IsDistinct, AllByRecursion}
-use Rattle.std.specs.List.Sorted.{IsPermutation, IsSortedBy, IsStrictlyIncreasing}
+use Rattle.std.specs.List.{AllZip, IsDistinct}
+use Rattle.std.specs.List.Sorted.{IsSortedBy, IsStrictlyIncreasing}
 use Rattle.std.specs.Ordering.{nat_cmp, is_lt, is_eq, ordering_reverse}
 use Rattle.std.specs.declared.cmp.Ordering.{Ordering}
 use Rattle.std.specs.declared.cmp.Ordering.TheVariants.{Less, Equal, Greater}
-use Rattle.std.proofs.lemmas.Bool.{true≢false, false≢true, both_ways, cases_Bool, false_from_ne_true, eqb-true, ltb-true, ltb-false}
+use Rattle.std.proofs.lemmas.Bool.{true≢false, both_ways, false_from_ne_true, eqb-true, ltb-true, ltb-false}
 use Rattle.std.proofs.lemmas.Cmp.{nat_list_cmp_total, nat_eq_equiv, eq_by_cmp_equiv}
 use Rattle.std.proofs.lemmas.List.Elements.{All-cons, All-filter, All-head, All-nil, All-tail, AllZip-get_or, filter_passes, length_all_zip, recursion_from_All}
 use Rattle.std.proofs.lemmas.List.Kept.{AllPairs-filter}
@@ -15,7 +15,7 @@ use Rattle.std.proofs.lemmas.List.Sums.{sum_by-cons}
 use Rattle.std.proofs.lemmas.Map.Keys.{IsDistinct-IsPermutation, IsStrictlyIncreasing-from_distinct}
 use Rattle.std.proofs.lemmas.Map.Text.{is_eq-slice_cmp}
 use Rattle.std.proofs.lemmas.Slice.Eq.{bytes_eq-Decides}
-use Rattle.fb_graph.specs.Parity.{differ, is_odd_count, is_in}
+use Rattle.fb_graph.specs.Parity.{differ, is_in}
 use Rattle.fb_graph.specs.Problem.{Problem, crosses}
 use Rattle.fb_graph.specs.Certificate.{AreDistinct, IsOddCut, IsPrintedCut, AreRising, Fits, load_of, total_value}
 use Rattle.fb_graph.specs.Printed.{DifferAsSets, IsResorted, is_positive, HasPositiveCuts}
@@ -48,10 +48,10 @@ unfolding IsDistinct
 IsDistinct-from_distinct [] distinct = tt
 IsDistinct-from_distinct (v ∷ vs) distinct = (
   recursion_from_All (λ u. nat_eq v u ≡ false) vs
-  (All-from_is_in (λ u. nat_eq v u ≡ false) vs
-  (λ u within.
-    false_from_ne_true (nat_eq v u)
-    (λ same. both_ways (is_in vs v) distinct.0 (subst (λ w. is_in vs w ≡ true) (sym (eqb-true v u same)) within)))),
+      (All-from_is_in (λ u. nat_eq v u ≡ false) vs
+      (λ u within.
+      false_from_ne_true (nat_eq v u)
+      (λ same. both_ways (is_in vs v) distinct.0 (subst (λ w. is_in vs w ≡ true) (sym (eqb-true v u same)) within)))),
   IsDistinct-from_distinct vs distinct.1,
 )
 
@@ -153,17 +153,17 @@ printed-All p cuts printed by odd =
     (resorted-All (λ c. IsOddCut p c × (is_positive c ≡ true)) (IsPrintedCut p)
     (λ c d same (is, positive). printed_from_odd p c d same is positive) (filter is_positive cuts) by.resorted by.each
     (λ k d less.
-      (All-filter is_positive (IsOddCut p) cuts odd k d less, filter_passes is_positive cuts k d less)))
+    (All-filter is_positive (IsOddCut p) cuts odd k d less, filter_passes is_positive cuts k d less)))
 
 -- cuts that differ as sets have other lists, however they are sorted
 other_lists : (b c d e : Cut) → IsResorted b d → IsResorted c e → DifferAsSets b c → are_same_lists d e ≡ false
 other_lists b c d e first second (v, apart) =
     false_from_ne_true (are_same_lists d e)
     (λ same.
-      let lists : d.vertices ≡ e.vertices =
-      (bytes_eq-Decides d.vertices e.vertices).0 (sym (is_eq-slice_cmp d.vertices e.vertices) ∙ same) in
-      apart
-      (sym (resorted-is_in b d first v) ∙ (ap (λ l. is_in l v) lists ∙ resorted-is_in c e second v)))
+    let lists : d.vertices ≡ e.vertices =
+    (bytes_eq-Decides d.vertices e.vertices).0 (sym (is_eq-slice_cmp d.vertices e.vertices) ∙ same) in
+    apart
+    (sym (resorted-is_in b d first v) ∙ (ap (λ l. is_in l v) lists ∙ resorted-is_in c e second v)))
 
 resorted-distinct : (cs ds : List Cut) → AllZip IsResorted cs ds → AllPairs DifferAsSets cs
     → IsDistinct are_same_lists ds
@@ -173,14 +173,14 @@ resorted-distinct [] (d ∷ ds) each apart = absurd each
 resorted-distinct (c ∷ cs) [] each apart = absurd each
 resorted-distinct (c ∷ cs) (d ∷ ds) each apart = (
   recursion_from_All (λ e. are_same_lists d e ≡ false) ds
-  (λ k x less.
-    let long : length cs ≡ length ds = length_all_zip IsResorted cs ds each.1 in
-    other_lists c (get_or cs k x) d (get_or ds k x) each.0
-    (AllZip-get_or IsResorted cs ds k x x each.1 (omega arith)) (apart 0 (suc k) x (omega arith) (omega arith))),
+      (λ k x less.
+      let long : length cs ≡ length ds = length_all_zip IsResorted cs ds each.1 in
+      other_lists c (get_or cs k x) d (get_or ds k x) each.0
+      (AllZip-get_or IsResorted cs ds k x x each.1 (omega arith)) (apart 0 (suc k) x (omega arith) (omega arith))),
   resorted-distinct cs ds each.1 (λ i j x before less. apart (suc i) (suc j) x (omega arith) (omega arith)),
 )
 
--- neither below nor the same: above
+-- the later one isn't below the earlier one, nor the same: the earlier one is below it
 less_from_not_below : (o r : Ordering) → r ≡ ordering_reverse o → is_lt r ≡ false → is_eq o ≡ false → o ≡ Less
 less_from_not_below Less r e below same = refl
 less_from_not_below Equal r e below same = absurd (true≢false same)
@@ -192,12 +192,12 @@ rising_from_sorted [] sorted distinct = tt
 rising_from_sorted (c ∷ []) sorted distinct = (tt, tt)
 rising_from_sorted (c ∷ d ∷ ds) sorted distinct = (
   less_from_not_below (cut_cmp c d) (cut_cmp d c) (nat_list_cmp_total.antisymm d.vertices c.vertices)
-  (sorted 0 c (omega arith) (omega arith)) distinct.0.0,
+      (sorted 0 c (omega arith) (omega arith)) distinct.0.0,
   rising_from_sorted (d ∷ ds)
-  (λ k x low less.
-    let e : suc k + 1 ≡ suc (k + 1) = omega arith in
-    rw e at (sorted (suc k) x (omega arith) (omega arith)))
-  distinct.1,
+      (λ k x low less.
+      let e : suc k + 1 ≡ suc (k + 1) = omega arith in
+      rw e at (sorted (suc k) x (omega arith) (omega arith)))
+      distinct.1,
 )
 
 pub printed-rising : (cuts printed : List Cut) → HasPositiveCuts cuts printed → IsSortedBy is_cut_below printed
