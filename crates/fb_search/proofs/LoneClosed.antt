@@ -25,7 +25,7 @@ module _ (p : Problem) (nodes : List Node) (name defect : ℕ) (members : List �
   top_is_odd : IsOddCut (with_defects p (defect ∷ [])) is_lone.top
   top_is_odd = last_of (IsOddCut (with_defects p (defect ∷ []))) is_lone.below is_lone.top
       (subst (All (IsOddCut (with_defects p (defect ∷ [])))) (cuts_lone p nodes name defect members is_lone)
-        (subst (λ ds. All (IsOddCut (with_defects p ds)) (all_cuts nodes)) is_lone.leaf dual.packing.odd))
+      (subst (λ ds. All (IsOddCut (with_defects p ds)) (all_cuts nodes)) is_lone.leaf dual.packing.odd))
 
   pub members_distinct : AreDistinct members
   members_distinct = subst AreDistinct is_lone.holds top_is_odd.distinct
@@ -54,9 +54,9 @@ module _ (p : Problem) (nodes : List Node) (name defect : ℕ) (members : List �
         closed = record { distinct = members_distinct; real = members_real; uncrossed = uncrossed };
         below = members_below limits;
         holds = holds_defect;
-        joined = joined
+        joined = joined;
       })
       members_odd (λ u is_defect real. ap (is_in members) (sym (one_defect u is_defect)) ∙ holds_defect)
     where
-    joined : (u : ℕ) → is_in members u ≡ true → IsJoined (with_defects p (defect ∷ [])) defect u
-    joined u held = is_lone.joined u held
+      joined : (u : ℕ) → is_in members u ≡ true → IsJoined (with_defects p (defect ∷ [])) defect u
+      joined u held = is_lone.joined u held
