@@ -2,6 +2,8 @@
 use Rattle.std.proofs.Common.{◌≡◌, ℕ, ◌+◌, ◌<◌, ◌≤◌, ◌||◌, Bool, true, false, List, [], ◌∷◌, ◌++◌, length, get_or, All, Some, eqb, refl, sym, ap, subst, ◌∙◌, arith, length-append, lit<}
 use Rattle.std.proofs.lemmas.Bool.{eqb-true}
 use Rattle.std.proofs.lemmas.List.Elements.{All-tail}
+use Rattle.std.specs.List.{range_with_len}
+use Rattle.std.proofs.lemmas.List.FromFn.{length-range_with_len}
 use Rattle.fb_graph.specs.Parity.{is_in, is_odd_count}
 use Rattle.fb_graph.specs.Problem.{Problem, crosses, with_defects}
 use Rattle.fb_graph.specs.Certificate.{AreDistinct, IsOddCut, IsPacking}
@@ -10,7 +12,7 @@ use Rattle.fb_graph.specs.Limits.{IsWithinLimits}
 use Rattle.fb_graph.specs.Laws.{IsClosedRound}
 use Rattle.fb_graph.specs.declared.parts.Cut.{Cut}
 use Rattle.fb_graph.proofs.OddComponents.{some_is_first_odd}
-use Rattle.fb_graph.proofs.Sets.{All-from_is_in, is_in-All, member_of_odd}
+use Rattle.fb_graph.proofs.Sets.{All-from_is_in, is_in-All, member_of_odd, length-le_from_within, distinct_from_rising, range_rises, is_in-range}
 use Rattle.fb_regions.specs.Dual.{Node, IsDual, all_cuts, leaves}
 use Rattle.fb_search.specs.Lone.{lone, IsLone}
 use Rattle.fb_search.proofs.LoneSteps.{cuts_lone, or_nothing}
@@ -60,3 +62,12 @@ module _ (p : Problem) (nodes : List Node) (name defect : ℕ) (members : List �
     where
       joined : (u : ℕ) → is_in members u ≡ true → IsJoined (with_defects p (defect ∷ [])) defect u
       joined u held = is_lone.joined u held
+
+  -- there are no more members than vertices
+  pub members_few : IsWithinLimits p → length members ≤ p.vertices
+  members_few limits = omega (
+    arith,
+    length-range_with_len 0 p.vertices,
+    length-le_from_within members (range_with_len 0 p.vertices) members_distinct (distinct_from_rising (range_with_len 0 p.vertices) (range_rises 0 p.vertices))
+        (λ v held. is_in-range p.vertices v (is_in-All (λ u. u < p.vertices) members (members_below limits) v held)),
+  )

@@ -3,21 +3,23 @@ use Rattle.std.proofs.Common.{◌≡◌, ◌≢◌, ℕ, zero, suc, ◌+◌, ◌
 use Rattle.std.specs.Option.{is_some}
 use Rattle.std.specs.List.{range_with_len}
 use Rattle.std.specs.Bool.{beq}
-use Rattle.std.proofs.lemmas.Bool.{false≢true, cases_Bool, eqb-true, eqb-false, eq-eqb, ne_eqb, cond-true, cond-false}
+use Rattle.std.proofs.lemmas.Bool.{false≢true, cases_Bool, eqb-true, eqb-false, eq-eqb, ne_eqb, or_left, or_right, cond-true, cond-false}
 use Rattle.std.proofs.lemmas.List.{get_or_default}
+use Rattle.std.proofs.lemmas.List.Folds.{list_any-append}
 use Rattle.std.proofs.lemmas.List.Elements.{All-filter, filter_passes}
 use Rattle.fb_graph.specs.Parity.{is_in, differ}
 use Rattle.fb_graph.specs.Problem.{Problem, no_edge, edge_at, touches, crosses}
 use Rattle.fb_graph.specs.Certificate.{load_of, IsPacking}
-use Rattle.fb_graph.specs.Components.{Leads}
+use Rattle.fb_graph.specs.Components.{Leads, IsJoined}
 use Rattle.fb_graph.specs.Limits.{IsWithinLimits}
 use Rattle.fb_graph.specs.declared.parts.Edge.{Edge}
 use Rattle.fb_graph.proofs.Sets.{equal_sym, is_in-All, is_in_at, is_in-filter, is_in-range, range_below}
 use Rattle.fb_graph.proofs.Ranges.{is_in-filter-range}
-use Rattle.fb_regions.specs.Dual.{Node, IsDual, AreUnderOne, all_cuts, cover_of, height_of}
-use Rattle.fb_regions.specs.Moves.{AllowsGrowth, IsCrossed}
-use Rattle.fb_search.specs.Lone.{IsLone, IsClear, Bounds, BoundsRound, IsBound, IsNoHigher, far_end, lesser_of}
-use Rattle.fb_search.proofs.LoneSteps.{cover_lone, within_lone, uncovered_lone}
+use Rattle.fb_graph.proofs.Walks.{IsWalkBy-one}
+use Rattle.fb_regions.specs.Dual.{Node, IsDual, AreUnderOne, is_live, is_outer, all_cuts, cover_of, height_of}
+use Rattle.fb_regions.specs.Moves.{AllowsGrowth, IsCrossed, absorbed}
+use Rattle.fb_search.specs.Lone.{lone, IsLone, HasTaken, IsClear, IsClearRound, Bounds, BoundsRound, IsBound, IsNoHigher, far_end, lesser_of}
+use Rattle.fb_search.proofs.LoneSteps.{cover_lone, within_lone, uncovered_lone, taken_lone, has_taken_lone}
 
 true_of : (b : Bool) → differ false b ≡ true → b ≡ true
 true_of true h = refl
@@ -30,7 +32,6 @@ leads_far e v at_v = by_first (eqb e.first v) refl
     by_first : (b : Bool) → eqb e.first v ≡ b → Leads e v (cond b e.second e.first)
     by_first true is = inl (eqb-true e.first v is, refl)
     by_first false is = inr (sym (eqb-true v e.second (true_of (eqb v e.second) (sym (ap (λ b. differ b (eqb v e.second)) (equal_sym v e.first ∙ is)) ∙ at_v))), refl)
-
 
 -- an edge at a member leaves the set exactly where its far end isn't in it
 pub crosses_far : (members : List ℕ) (e : Edge) (v : ℕ) → touches v e ≡ true → is_in members v ≡ true
@@ -131,29 +132,35 @@ round_lower p nodes members new old v lower round k below at_v = bounds_lower no
 pub crossing_end : (members : List ℕ) (e : Edge) → crosses members e ≡ true → (v : ℕ) × (is_in members v ≡ true) × (touches v e ≡ true)
 crossing_end members e cross = by_first (is_in members e.first) (is_in members e.second) refl refl cross
   where
-  by_first : (a b : Bool) → is_in members e.first ≡ a → is_in members e.second ≡ b → differ a b ≡ true
-      → (v : ℕ) × (is_in members v ≡ true) × (touches v e ≡ true)
-  by_first true false in_first out_second h = (e.first, in_first,
+    by_first : (a b : Bool) → is_in members e.first ≡ a → is_in members e.second ≡ b → differ a b ≡ true
+        → (v : ℕ) × (is_in members v ≡ true) × (touches v e ≡ true)
+    by_first true false in_first out_second h = (
+      e.first,
+      in_first,
       ap (λ x. differ x (eqb e.first e.second)) (eq-eqb e.first e.first refl)
-      ∙ ap (differ true) (ne_eqb e.first e.second (λ same. false≢true (sym out_second ∙ ap (is_in members) (sym same) ∙ in_first))))
-  by_first false true out_first in_second h = (e.second, in_second,
+          ∙ ap (differ true) (ne_eqb e.first e.second (λ same. false≢true (sym out_second ∙ ap (is_in members) (sym same) ∙ in_first))),
+    )
+    by_first false true out_first in_second h = (
+      e.second,
+      in_second,
       ap (λ x. differ x (eqb e.second e.second)) (ne_eqb e.second e.first (λ same. false≢true (sym out_first ∙ ap (is_in members) (sym same) ∙ in_second)))
-      ∙ ap (differ false) (eq-eqb e.second e.second refl))
-  by_first true true in_first in_second h = cc
-  by_first false false out_first out_second h = cc
+          ∙ ap (differ false) (eq-eqb e.second e.second refl),
+    )
+    by_first true true in_first in_second h = cc
+    by_first false false out_first out_second h = cc
 
 -- bounds at each member are bounds for each edge
 pub bounds_all : (p : Problem) (nodes : List Node) (members : List ℕ) (least : Option ℕ) → All (BoundsRound p nodes members least) members
     → All (Bounds nodes members least) p.edges
 bounds_all p nodes members least rounds k d below =
     subst (Bounds nodes members least) (get_or_default p.edges k no_edge d below)
-      (at_once (crosses members (edge_at p.edges k)) refl)
+    (at_once (crosses members (edge_at p.edges k)) refl)
   where
-  at_once : (b : Bool) → crosses members (edge_at p.edges k) ≡ b → Bounds nodes members least (edge_at p.edges k)
-  at_once true cross =
-      let (v, within, at_v) = crossing_end members (edge_at p.edges k) cross in
-      is_in-All (BoundsRound p nodes members least) members rounds v within k below at_v
-  at_once false none = bounds_uncrossed nodes members least (edge_at p.edges k) none
+    at_once : (b : Bool) → crosses members (edge_at p.edges k) ≡ b → Bounds nodes members least (edge_at p.edges k)
+    at_once true cross =
+        let (v, within, at_v) = crossing_end members (edge_at p.edges k) cross in
+        is_in-All (BoundsRound p nodes members least) members rounds v within k below at_v
+    at_once false none = bounds_uncrossed nodes members least (edge_at p.edges k) none
 
 pub allows_growth : (p : Problem) (nodes : List Node) (members : List ℕ) (least : Option ℕ) → IsBound p members least
     → All (Bounds nodes members least) p.edges
@@ -165,3 +172,55 @@ pub uncrossed_all : (p : Problem) (nodes : List Node) (members : List ℕ) (leas
     → All (Bounds nodes members least) p.edges → IfNone least (All (λ e. crosses members e ≡ false) p.edges)
 uncrossed_all p nodes members (Some k) all = tt
 uncrossed_all p nodes members None all = all
+
+pub far_below : (p : Problem) (k v : ℕ) → IsWithinLimits p → k < length p.edges → far_end (edge_at p.edges k) v < p.vertices
+far_below p k v limits below = by_first (eqb (edge_at p.edges k).first v)
+  where
+    by_first : (b : Bool) → cond b (edge_at p.edges k).second (edge_at p.edges k).first < p.vertices
+    by_first true = (limits.each_edge k no_edge below).second
+    by_first false = (limits.each_edge k no_edge below).first
+
+-- once its far end is taken up, an edge no longer leaves the set
+pub uncrossed_after : (members : List ℕ) (e : Edge) (v : ℕ) → touches v e ≡ true → is_in members v ≡ true
+    → crosses (members ++ far_end e v ∷ []) e ≡ false
+uncrossed_after members e v at_v within =
+    crosses_far (members ++ far_end e v ∷ []) e v at_v
+    (list_any-append (λ u. eqb u v) members (far_end e v ∷ []) ∙ or_left (is_in members v) (is_in (far_end e v ∷ []) v) within)
+    ∙ ap not (list_any-append (λ u. eqb u (far_end e v)) members (far_end e v ∷ [])
+    ∙ or_right (is_in members (far_end e v)) (is_in (far_end e v ∷ []) (far_end e v)) (or_left (eqb (far_end e v) (far_end e v)) false (eq-eqb (far_end e v) (far_end e v) refl)))
+
+-- what taking up the far end of an edge leaves
+module _ (p : Problem) (nodes after : List Node) (name defect : ℕ) (members longer : List ℕ) (v k : ℕ) (is_lone : IsLone p nodes name defect members)
+    (within : is_in members v ≡ true) (below : k < length p.edges) (at_v : touches v (edge_at p.edges k) ≡ true)
+    (without : is_in members (far_end (edge_at p.edges k) v) ≡ false)
+    (absorbs : after ≡ absorbed nodes (edge_at p.edges k)) (pushes : longer ≡ members ++ far_end (edge_at p.edges k) v ∷ []) where
+  joined_far : IsJoined p v (far_end (edge_at p.edges k) v)
+  joined_far = (k ∷ [], IsWalkBy-one p k v (far_end (edge_at p.edges k) v) below (leads_far (edge_at p.edges k) v at_v))
+
+  pub lone_after : IsLone p after name defect longer
+  lone_after = rw (absorbs, pushes) (taken_lone p nodes name defect members is_lone (edge_at p.edges k) v (far_end (edge_at p.edges k) v)
+      joined_far (leads_far (edge_at p.edges k) v at_v) within without)
+
+  pub taken_after : HasTaken p nodes after members longer
+  taken_after = rw (absorbs, pushes) (has_taken_lone p nodes name defect members is_lone (edge_at p.edges k) v (far_end (edge_at p.edges k) v)
+      joined_far (leads_far (edge_at p.edges k) v at_v) within without)
+
+  pub inside_after : crosses longer (edge_at p.edges k) ≡ false
+  inside_after = rw pushes (uncrossed_after members (edge_at p.edges k) v at_v within)
+
+-- what is clear round each member is clear everywhere
+pub clear_all : (p : Problem) (nodes : List Node) (members : List ℕ) → All (IsClearRound p nodes members) members
+    → All (IsClear nodes members) p.edges
+clear_all p nodes members rounds k d below =
+    subst (IsClear nodes members) (get_or_default p.edges k no_edge d below)
+    (λ cross. let (v, within, at_v) = crossing_end members (edge_at p.edges k) cross in
+    is_in-All (IsClearRound p nodes members) members rounds v within k below at_v cross)
+
+-- the one node is live, and outer
+pub live_lone : (p : Problem) (nodes : List Node) (name defect : ℕ) (members : List ℕ) → IsLone p nodes name defect members
+    → is_live nodes name ≡ true
+live_lone p nodes name defect members is_lone = ap (λ ns. is_live ns name) is_lone.only ∙ or_left (eqb name name) false (eq-eqb name name refl)
+
+pub outer_lone_node : (p : Problem) (nodes : List Node) (name defect : ℕ) (members : List ℕ) → IsLone p nodes name defect members
+    → is_outer nodes name ≡ true
+outer_lone_node p nodes name defect members is_lone = ap (λ ns. is_outer ns name) is_lone.only

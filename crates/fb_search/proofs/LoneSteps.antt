@@ -1,11 +1,12 @@
 -- What growing one region does, over plain values.
-use Rattle.std.proofs.Common.{◌≡◌, ◌≢◌, ℕ, zero, suc, ◌+◌, ◌<◌, ◌≤◌, ◌||◌, ◌&&◌, ◌⊎◌, Bool, true, false, not, cond, List, [], ◌∷◌, ◌++◌, length, take, get_or, map, All, sum_by, Option, Some, None, eqb, refl, sym, ap, subst, ◌∙◌, inl, inr, arith, append_assoc, append-nil}
+use Rattle.std.proofs.Common.{◌≡◌, ◌≢◌, ℕ, zero, suc, ◌+◌, ◌<◌, ◌≤◌, ◌||◌, ◌&&◌, ◌⊎◌, Bool, true, false, not, cond, List, [], ◌∷◌, ◌++◌, length, take, get_or, map, All, sum_by, Option, Some, None, eqb, refl, sym, ap, subst, ◌∙◌, inl, inr, arith, append_assoc, append-nil, length-append}
 use Rattle.std.specs.Option.{option_map, is_some, unwrap_or}
 use Rattle.std.specs.List.{list_any, flat_map, find}
 use Rattle.std.proofs.lemmas.Bool.{or_cases, or_parts, or_left, eqb-true, cases_Bool, cases_eq, eq-eqb, ne_eqb, cond-true, cond-false}
 use Rattle.std.proofs.lemmas.List.Folds.{list_any-append}
 use Rattle.std.proofs.lemmas.List.Sums.{sum_by-append}
-use Rattle.std.proofs.lemmas.List.Elements.{All-more}
+use Rattle.std.proofs.lemmas.List.{take-append-le, length-take, get_or-take, get_or_append_left}
+use Rattle.fb_graph.proofs.Sets.{is_in_at}
 use Rattle.fb_graph.specs.Parity.{is_in, differ}
 use Rattle.fb_graph.specs.Problem.{Problem, edge_at, touches, crosses}
 use Rattle.fb_graph.specs.Certificate.{load_of, total_value}
@@ -225,3 +226,25 @@ module _ (p : Problem) (old new : List Node) (before after : List ℕ) (taken : 
 
   pub round_kept : (v : ℕ) → is_in before v ≡ true → IsClearRound p old before v → IsClearRound p new after v
   round_kept v held round k below at_v = clear_kept v (edge_at p.edges k) held at_v (round k below at_v)
+
+-- what was clear round the first members stays so
+pub rounds_kept : (p : Problem) (old new : List Node) (before after : List ℕ) (i : ℕ) → HasTaken p old new before after → i ≤ length before
+    → All (IsClearRound p old before) (take i before) → All (IsClearRound p new after) (take i after)
+rounds_kept p old new before after i taken fits rounds =
+    subst (All (IsClearRound p new after)) (sym same_front)
+    (λ k d less. round_kept p old new before after taken (get_or (take i before) k d) (held k d less) (rounds k d less))
+  where
+    same_front : take i after ≡ take i before
+    same_front = ap (take i) taken.longer ∙ take-append-le i before taken.more fits
+
+    held : (k d : ℕ) → k < length (take i before) → is_in before (get_or (take i before) k d) ≡ true
+    held k d less =
+        let short : k < i = omega (arith, length-take i before) in
+        ap (is_in before) (get_or-take i before k d short) ∙ is_in_at before k d (omega (arith, length-take i before))
+
+pub length_kept : (p : Problem) (old new : List Node) (before after : List ℕ) → HasTaken p old new before after → length before ≤ length after
+length_kept p old new before after taken = omega (arith, ap length taken.longer ∙ length-append before taken.more)
+
+pub place_kept : (p : Problem) (old new : List Node) (before after : List ℕ) (i : ℕ) → HasTaken p old new before after → i < length before
+    → get_or after i 0 ≡ get_or before i 0
+place_kept p old new before after i taken less = ap (λ xs. get_or xs i 0) taken.longer ∙ get_or_append_left before taken.more 0 i less

@@ -35,10 +35,13 @@ pub record HasTaken (p : Problem) (old new : List Node) (before after : List ℕ
 abbrev pub IsClear : List Node → List ℕ → Edge → Type 0
 IsClear nodes members e = crosses members e ≡ true → load_of (all_cuts nodes) e < e.weight
 
+-- if the edge is one at the vertex, it is clear
+abbrev pub IsClearAt : Problem → List Node → List ℕ → ℕ → ℕ → Type 0
+IsClearAt p nodes members v k = touches v (edge_at p.edges k) ≡ true → IsClear nodes members (edge_at p.edges k)
+
 -- each edge at the vertex is clear
 abbrev pub IsClearRound : Problem → List Node → List ℕ → ℕ → Type 0
-IsClearRound p nodes members v =
-    (k : ℕ) → k < length p.edges → touches v (edge_at p.edges k) ≡ true → IsClear nodes members (edge_at p.edges k)
+IsClearRound p nodes members v = (k : ℕ) → k < length p.edges → IsClearAt p nodes members v k
 
 -- an edge without residue that leads from the set to the boundary
 pub record IsWayOut (p : Problem) (nodes : List Node) (members : List ℕ) (k : ℕ) : Type 0 where
