@@ -1,3 +1,4 @@
+pub mod GrownCuts
 pub mod LoneBest
 pub mod LoneClosed
 pub mod LoneEdges

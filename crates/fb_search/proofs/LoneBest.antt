@@ -17,7 +17,7 @@ use Rattle.fb_regions.specs.declared.walk.Step.{Step}
 use Rattle.fb_regions.specs.Walks.{IsWalk, walk_weight}
 use Rattle.fb_regions.specs.Dual.{Node, IsDual, HasRadius, first_vertices, AreUnderOne, all_cuts, leaves, cover_of, height_of, layers_of}
 use Rattle.fb_regions.specs.Moves.{IsWalkFrom}
-use Rattle.fb_search.specs.Lone.{lone, IsLone, IsWayOut}
+use Rattle.fb_search.specs.Lone.{lone, IsLone, IsWayOut, edges_out}
 use Rattle.fb_search.proofs.LoneSteps.{cuts_lone, or_nothing}
 
 -- a walk step by step is a walk by its edges
@@ -42,10 +42,6 @@ weight_by_edges p (s ∷ ss) from to walk = omega (
 module _ (p : Problem) (nodes : List Node) (name defect : ℕ) (members : List ℕ) (k : ℕ) (steps : List Step) (source : ℕ)
     (is_lone : IsLone p nodes name defect members) (dual : IsDual p nodes) (way : IsWayOut p nodes members k)
     (walk : IsWalkFrom p nodes steps source way.inner) where
-  -- the edges of the walk and of the way out
-  pub edges_out : List ℕ
-  edges_out = map (λ s. s.edge) steps ++ k ∷ []
-
   source_is : source ≡ defect
   source_is = sym (eqb-true defect source (only_one (subst (λ ds. is_in ds source ≡ true) is_lone.leaf walk.defect)))
     where
@@ -56,8 +52,7 @@ module _ (p : Problem) (nodes : List Node) (name defect : ℕ) (members : List �
           go true h = refl
           go false h = h
 
-  leads_out : IsWalkBy p edges_out defect way.outer
-  unfolding edges_out
+  leads_out : IsWalkBy p (edges_out steps k) defect way.outer
   leads_out = IsWalkBy-append p (map (λ s. s.edge) steps) (k ∷ []) defect way.inner way.outer
       (subst (λ d. IsWalkBy p (map (λ s. s.edge) steps) d way.inner) source_is (walk_by_edges p steps source way.inner walk.leads))
       (IsWalkBy-one p k way.inner way.outer way.below way.leads)
@@ -98,8 +93,7 @@ module _ (p : Problem) (nodes : List Node) (name defect : ℕ) (members : List �
     )
   ]
 
-  pub edges_weigh : weight_of p edges_out ≡ height_of (all_cuts nodes) defect
-  unfolding edges_out
+  pub edges_weigh : weight_of p (edges_out steps k) ≡ height_of (all_cuts nodes) defect
   edges_weigh = omega (
     arith,
     sum_by-append (λ j. (edge_at p.edges j).weight) (map (λ s. s.edge) steps) (k ∷ []),
@@ -132,17 +126,17 @@ module _ (p : Problem) (nodes : List Node) (name defect : ℕ) (members : List �
   packing : IsPacking (with_defects p (defect ∷ [])) (all_cuts nodes)
   packing = subst (λ ds. IsPacking (with_defects p ds) (all_cuts nodes)) is_lone.leaf dual.packing
 
-  pub edges_within : All (λ j. j < length p.edges) edges_out
-  edges_within = walk_within p edges_out defect way.outer leads_out
+  pub edges_within : All (λ j. j < length p.edges) (edges_out steps k)
+  edges_within = walk_within p (edges_out steps k) defect way.outer leads_out
 
   boundary_apart : (v : ℕ) → p.is_real v ≡ true → eqb v way.outer ≡ false
   boundary_apart v real = ne_eqb v way.outer (λ e. false≢true (sym way.boundary ∙ ap p.is_real (sym e) ∙ real))
 
   -- a list of edges with the parities of the walk's, and no weight beyond it, is the best correction
   pub lone_is_best : (chosen : List ℕ) (weight : ℕ) (cuts : List Cut) → IsStrictlyIncreasing chosen
-      → ((test : ℕ → Bool) → is_odd_count test chosen ≡ is_odd_count test edges_out)
-      → ((f : ℕ → ℕ) → sum_by f chosen ≤ sum_by f edges_out)
-      → ((v : ℕ) → is_in chosen v ≡ true → is_in edges_out v ≡ true)
+      → ((test : ℕ → Bool) → is_odd_count test chosen ≡ is_odd_count test (edges_out steps k))
+      → ((f : ℕ → ℕ) → sum_by f chosen ≤ sum_by f (edges_out steps k))
+      → ((v : ℕ) → is_in chosen v ≡ true → is_in (edges_out steps k) v ≡ true)
       → weight ≡ height_of (all_cuts nodes) defect
       → All (IsPrintedCut (with_defects p (defect ∷ []))) cuts → AreRising cuts
       → ((e : Edge) → load_of cuts e ≡ load_of (all_cuts nodes) e) → total_value cuts ≡ total_value (all_cuts nodes)
@@ -159,10 +153,10 @@ module _ (p : Problem) (nodes : List Node) (name defect : ℕ) (members : List �
     where
       within : All (λ j. j < length p.edges) chosen
       within = All-from_is_in (λ j. j < length p.edges) chosen
-          (λ v held. is_in-All (λ j. j < length p.edges) edges_out edges_within v (inside v held))
+          (λ v held. is_in-All (λ j. j < length p.edges) (edges_out steps k) edges_within v (inside v held))
 
       flips : Flips (with_defects p (defect ∷ [])) chosen
-      flips v real = parity (λ j. touches v (edge_at p.edges j)) ∙ walk_parity p edges_out defect way.outer leads_out v
+      flips v real = parity (λ j. touches v (edge_at p.edges j)) ∙ walk_parity p (edges_out steps k) defect way.outer leads_out v
           ∙ ap (λ b. differ (eqb v defect) b) (boundary_apart v real) ∙ differ-false (eqb v defect)
           ∙ equal_sym v defect ∙ sym (or_nothing (eqb defect v))
 

@@ -1,5 +1,5 @@
 -- A region that no edge leaves is an odd component without boundary.
-use Rattle.std.proofs.Common.{◌≡◌, ℕ, ◌+◌, ◌<◌, ◌≤◌, ◌||◌, Bool, true, false, List, [], ◌∷◌, ◌++◌, length, get_or, All, Some, eqb, refl, sym, ap, subst, ◌∙◌, arith, length-append, lit<}
+use Rattle.std.proofs.Common.{◌≡◌, ℕ, ◌+◌, ◌<◌, ◌≤◌, ◌||◌, Bool, true, false, List, [], ◌∷◌, ◌++◌, length, get_or, All, AllPairs, Some, eqb, refl, sym, ap, subst, ◌∙◌, arith, length-append, lit<}
 use Rattle.std.proofs.lemmas.Bool.{eqb-true}
 use Rattle.std.proofs.lemmas.List.Elements.{All-tail}
 use Rattle.std.specs.List.{range_with_len}
@@ -9,12 +9,14 @@ use Rattle.fb_graph.specs.Problem.{Problem, crosses, with_defects}
 use Rattle.fb_graph.specs.Certificate.{AreDistinct, IsOddCut, IsPacking}
 use Rattle.fb_graph.specs.Components.{IsJoined, IsFirstOdd}
 use Rattle.fb_graph.specs.Limits.{IsWithinLimits}
+use Rattle.fb_graph.specs.Printed.{DifferAsSets}
 use Rattle.fb_graph.specs.Laws.{IsClosedRound}
 use Rattle.fb_graph.specs.declared.parts.Cut.{Cut}
 use Rattle.fb_graph.proofs.OddComponents.{some_is_first_odd}
 use Rattle.fb_graph.proofs.Sets.{All-from_is_in, is_in-All, member_of_odd, length-le_from_within, distinct_from_rising, range_rises, is_in-range}
-use Rattle.fb_regions.specs.Dual.{Node, IsDual, all_cuts, leaves}
+use Rattle.fb_regions.specs.Dual.{Node, IsDual, AreGrown, all_cuts, layers_of, leaves}
 use Rattle.fb_search.specs.Lone.{lone, IsLone}
+use Rattle.fb_search.proofs.GrownCuts.{grown_differ}
 use Rattle.fb_search.proofs.LoneSteps.{cuts_lone, or_nothing}
 
 -- the last of some cuts
@@ -71,3 +73,19 @@ module _ (p : Problem) (nodes : List Node) (name defect : ℕ) (members : List �
     length-le_from_within members (range_with_len 0 p.vertices) members_distinct (distinct_from_rising (range_with_len 0 p.vertices) (range_rises 0 p.vertices))
         (λ v held. is_in-range p.vertices v (is_in-All (λ u. u < p.vertices) members (members_below limits) v held)),
   )
+
+  grown_one : (n : Node) → All (λ m. AreGrown (layers_of m)) (n ∷ []) → AreGrown (layers_of n)
+  grown_one n all = all 0 n (lit< tt)
+
+  -- the layers differ as sets
+  pub layers_differ : AllPairs DifferAsSets (all_cuts nodes)
+  layers_differ = subst (AllPairs DifferAsSets) (sym (cuts_lone p nodes name defect members is_lone))
+      (grown_differ (is_lone.below ++ is_lone.top ∷ []) grown (λ k d less. (layers_odd k d less).distinct))
+    where
+      grown : AreGrown (is_lone.below ++ is_lone.top ∷ [])
+      grown = grown_one (record { name = name; children = []; below = is_lone.below; top = is_lone.top })
+          (subst (All (λ n. AreGrown (layers_of n))) is_lone.only dual.grown)
+
+      layers_odd : All (IsOddCut (with_defects p (defect ∷ []))) (is_lone.below ++ is_lone.top ∷ [])
+      layers_odd = subst (All (IsOddCut (with_defects p (defect ∷ [])))) (cuts_lone p nodes name defect members is_lone)
+          (subst (λ ds. All (IsOddCut (with_defects p ds)) (all_cuts nodes)) is_lone.leaf dual.packing.odd)

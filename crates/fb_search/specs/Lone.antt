@@ -1,5 +1,5 @@
 -- One region round one defect, while it grows.
-use Rattle.std.specs.Prelude.{ℕ, ◌≡◌, ◌+◌, ◌<◌, ◌≤◌, ◌^◌, ◌==◌, min, Bool, true, false, List, [], ◌∷◌, ◌++◌, length, All, Option, Some, None, IfSome, if◌then◌else◌}
+use Rattle.std.specs.Prelude.{ℕ, ◌≡◌, ◌+◌, ◌<◌, ◌≤◌, ◌^◌, ◌==◌, min, Bool, true, false, List, [], ◌∷◌, ◌++◌, length, map, All, Option, Some, None, IfSome, if◌then◌else◌}
 use Rattle.fb_graph.specs.Parity.{is_in}
 use Rattle.fb_graph.specs.Problem.{Problem, edge_at, touches, crosses, with_defects}
 use Rattle.fb_graph.specs.Certificate.{load_of, total_value, IsBest}
@@ -8,6 +8,7 @@ use Rattle.fb_graph.specs.declared.parts.Edge.{Edge}
 use Rattle.fb_graph.specs.declared.parts.Cut.{Cut}
 use Rattle.fb_graph.specs.declared.parts.Row.{Row}
 use Rattle.fb_graph.specs.declared.parts.Row.TheVariants.{Best, Odd, Over}
+use Rattle.fb_regions.specs.declared.walk.Step.{Step}
 use Rattle.fb_regions.specs.Dual.{Node, all_cuts, leaves}
 use Rattle.fb_regions.specs.Moves.{IsCrossed}
 
@@ -83,6 +84,10 @@ BoundsRound p nodes members least v =
 abbrev pub lesser_of : Option ℕ → ℕ → ℕ
 lesser_of None r = r
 lesser_of (Some k) r = min k r
+
+-- the edges of a walk, and one more
+abbrev pub edges_out : List Step → ℕ → List ℕ
+edges_out steps k = map (λ s. s.edge) steps ++ k ∷ []
 
 -- the row of a shot of one defect: a correction with its certificate, or over where no correction exists
 abbrev pub IsRowOfOne : Problem → Row → Type 0

@@ -4,3 +4,6 @@
 
 mod growing;
 mod leaving;
+mod rows;
+
+pub use rows::search_one;
