@@ -15,3 +15,5 @@ front_then a b c xs ys p q =
 -- a front of a text is a front of that text with more behind it
 pub front_of_more : (a b : Option (List ℕ)) (xs ys : List ℕ) → AppendsFront a b xs → AppendsFront a b (xs ++ ys)
 front_of_more a b xs ys q = (q.0, q.1 ++ ys, ap (λ l. l ++ ys) q.2 ∙ append_assoc q.0 q.1 ys, q.3)
+
+pub ruleset fronts = (appends_then, front_then, front_of_more)

@@ -33,27 +33,29 @@ pub rows_text-split : (k : ℕ) (rs : List Row) (i : ℕ) → i ≤ length rs
 rows_text-split k rs i le = ap (rows_text k) (sym (take-append-drop i rs)) ∙ rows_text-append k (take i rs) (drop i rs)
     ∙ ap (λ n. rows_text k (take i rs) ++ rows_text (k + n) (drop i rs)) (length-take-le i rs le)
 
--- one more row was put, r, which stands at place i
-pub rows_onward : (a b c : Option (List ℕ)) (k : ℕ) (rs : List Row) (i : ℕ) (r d : Row) → i < length rs → r ≡ get_or rs i d
-    → Appends a b (rows_text k (take i rs)) → Appends b c (row_text (k + i) r) → Appends a c (rows_text k (take (i + 1) rs))
-rows_onward a b c k rs i r d lt e p q = subst (Appends a c) (sym (rows_text-take k rs i d lt))
-    (appends_then a b c _ _ p (subst (λ s. Appends b c (row_text (k + i) s)) e q))
+-- row n was put, r, which stands at place i
+pub rows_onward : (a b c : Option (List ℕ)) (k : ℕ) (rs : List Row) (i n : ℕ) (r d : Row) → i < length rs → n ≡ k + i → r ≡ get_or rs i d
+    → Appends a b (rows_text k (take i rs)) → Appends b c (row_text n r) → Appends a c (rows_text k (take (i + 1) rs))
+rows_onward a b c k rs i n r d lt e f p q = subst (Appends a c) (sym (rows_text-take k rs i d lt))
+    (appends_then a b c _ _ p (subst (λ s. Appends b c (row_text (k + i) s)) f (subst (λ m. Appends b c (row_text m r)) e q)))
 
--- a put of one more row stopped midway: what was taken is a front of all rows' text
-pub rows_front : (a b c : Option (List ℕ)) (k : ℕ) (rs : List Row) (i : ℕ) (r d : Row) → i < length rs → r ≡ get_or rs i d
-    → Appends a b (rows_text k (take i rs)) → AppendsFront b c (row_text (k + i) r) → AppendsFront a c (rows_text k rs)
-rows_front a b c k rs i r d lt e p q =
+-- a put of row n, r, which stands at place i, stopped midway: what was taken is a front of all rows' text
+pub rows_front : (a b c : Option (List ℕ)) (k : ℕ) (rs : List Row) (i n : ℕ) (r d : Row) → i < length rs → n ≡ k + i → r ≡ get_or rs i d
+    → Appends a b (rows_text k (take i rs)) → AppendsFront b c (row_text n r) → AppendsFront a c (rows_text k rs)
+rows_front a b c k rs i n r d lt e f p q =
     let le : i + 1 ≤ length rs = omega arith in
     subst (AppendsFront a c) (sym (rows_text-split k rs (i + 1) le))
     (front_of_more a c (rows_text k (take (i + 1) rs)) _ (subst (AppendsFront a c) (sym (rows_text-take k rs i d lt))
-    (front_then a b c _ _ p (subst (λ s. AppendsFront b c (row_text (k + i) s)) e q))))
+    (front_then a b c _ _ p (subst (λ s. AppendsFront b c (row_text (k + i) s)) f (subst (λ m. AppendsFront b c (row_text m r)) e q)))))
 
--- a row was put behind all rows so far
-pub rows_pushed : (a b c : Option (List ℕ)) (k : ℕ) (rs : List Row) (r : Row)
-    → Appends a b (rows_text k rs) → Appends b c (row_text (k + length rs) r) → Appends a c (rows_text k (rs ++ r ∷ []))
-rows_pushed a b c k rs r p q = subst (Appends a c) (sym (rows_text-push k rs r)) (appends_then a b c _ _ p q)
+-- row n was put behind all rows so far
+pub rows_pushed : (a b c : Option (List ℕ)) (k : ℕ) (rs : List Row) (n : ℕ) (r : Row) → n ≡ k + length rs
+    → Appends a b (rows_text k rs) → Appends b c (row_text n r) → Appends a c (rows_text k (rs ++ r ∷ []))
+rows_pushed a b c k rs n r e p q = subst (Appends a c) (sym (rows_text-push k rs r))
+    (appends_then a b c _ _ p (subst (λ m. Appends b c (row_text m r)) e q))
 
--- a put of a row behind all rows so far stopped midway
-pub rows_pushed_front : (a b c : Option (List ℕ)) (k : ℕ) (rs : List Row) (r : Row)
-    → Appends a b (rows_text k rs) → AppendsFront b c (row_text (k + length rs) r) → AppendsFront a c (rows_text k (rs ++ r ∷ []))
-rows_pushed_front a b c k rs r p q = subst (AppendsFront a c) (sym (rows_text-push k rs r)) (front_then a b c _ _ p q)
+-- a put of row n behind all rows so far stopped midway
+pub rows_pushed_front : (a b c : Option (List ℕ)) (k : ℕ) (rs : List Row) (n : ℕ) (r : Row) → n ≡ k + length rs
+    → Appends a b (rows_text k rs) → AppendsFront b c (row_text n r) → AppendsFront a c (rows_text k (rs ++ r ∷ []))
+rows_pushed_front a b c k rs n r e p q = subst (AppendsFront a c) (sym (rows_text-push k rs r))
+    (front_then a b c _ _ p (subst (λ m. AppendsFront b c (row_text m r)) e q))
