@@ -1,12 +1,12 @@
 -- Closed sets and packings of a problem and of its parts.
-use Rattle.std.proofs.Common.{ℕ, ◌+◌, ◌<◌, ◌≤◌, ◌≡◌, ◌⊎◌, ◌||◌, Bool, true, false, cond, List, [], ◌∷◌, ◌++◌, length, get_or, All, sum_by, refl, sym, ap, ◌∙◌, subst, inl, inr, zero, suc, arith, add-one}
-use Rattle.std.proofs.lemmas.Bool.{false≢true, both_ways, false_from_ne_true, or_parts, or_left, or_right, cases_Bool}
-use Rattle.std.proofs.lemmas.List.Elements.{All-head, All-tail, All-nil, All-cons, All-append}
+use Rattle.std.proofs.Common.{ℕ, ◌+◌, ◌<◌, ◌≤◌, ◌≡◌, ◌⊎◌, Bool, true, false, cond, List, [], ◌∷◌, ◌++◌, length, get_or, All, sym, ap, ◌∙◌, subst, inl, inr, suc, arith}
+use Rattle.std.proofs.lemmas.Bool.{both_ways, false_from_ne_true, or_parts, cases_Bool}
+use Rattle.std.proofs.lemmas.List.Elements.{All-nil, All-cons, All-append}
 use Rattle.std.proofs.lemmas.List.Sums.{sum_by-append}
 use Rattle.fb_graph.specs.Parity.{differ, is_odd_count, is_in}
 use Rattle.fb_graph.specs.Problem.{Problem, edge_at, no_edge, crosses}
-use Rattle.fb_graph.specs.Certificate.{IsOddCut, IsPacking, load_of}
-use Rattle.fb_graph.specs.Laws.{IsClosed, HasNoOddClosed, IsPart, has_real_end, AreSeparated, PartHasNoOddClosed, EdgeLeaves, PackingOfPart, PackingsJoined}
+use Rattle.fb_graph.specs.Certificate.{IsOddCut, load_of}
+use Rattle.fb_graph.specs.Laws.{IsPart, has_real_end, PartHasNoOddClosed, EdgeLeaves, PackingOfPart, PackingsJoined}
 use Rattle.fb_graph.specs.declared.parts.Edge.{Edge}
 use Rattle.fb_graph.specs.declared.parts.Cut.{Cut}
 use Rattle.fb_graph.proofs.ParitySums.{odd_agree}

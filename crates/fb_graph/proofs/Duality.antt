@@ -1,9 +1,8 @@
 -- Weak duality: every correction crosses every odd cut, so feasible odd cuts add up to at most its weight.
-use Rattle.std.proofs.Common.{ℕ, ◌+◌, ◌<◌, ◌≤◌, ◌≡◌, Bool, true, false, cond, List, [], ◌∷◌, length, get_or, All, sum_by, refl, sym, ap, ◌∙◌, le_trans, le_of_eq, arith}
-use Rattle.std.proofs.lemmas.List.Elements.{All-get_or}
-use Rattle.fb_graph.specs.Parity.{differ, is_odd_count, is_in}
+use Rattle.std.proofs.Common.{ℕ, ◌≤◌, ◌≡◌, true, cond, List, get_or, All, sum_by, ◌∙◌, le_trans, le_of_eq, arith}
+use Rattle.fb_graph.specs.Parity.{is_odd_count}
 use Rattle.fb_graph.specs.Problem.{Problem, Flips, edge_at, no_edge, touches, crosses, weight_of}
-use Rattle.fb_graph.specs.Certificate.{AreDistinct, IsOddCut, IsPacking, IsBest, load_of, total_value}
+use Rattle.fb_graph.specs.Certificate.{AreDistinct, IsOddCut, IsPacking, IsBest, load_of}
 use Rattle.fb_graph.specs.Laws.{WeakDuality, LeastWeight, EqualWeights}
 use Rattle.fb_graph.specs.declared.parts.Cut.{Cut}
 use Rattle.fb_graph.proofs.ParitySums.{odd_same, odd_agree, odd_exchange}

@@ -1,20 +1,24 @@
 -- Worked examples, which show that the definitions say what they should.
-use Rattle.std.proofs.Common.{ℕ, ◌+◌, ◌<◌, ◌≤◌, ◌≡◌, ◌&&◌, Bool, true, false, not, Some, None, List, [], ◌∷◌, length, get_or, All, ltb, leb, refl, sym, ap, ◌∙◌, zero-le, arith}
+use Rattle.std.proofs.Common.{count_by, inr, ℕ, ◌<◌, ◌≤◌, ◌≡◌, ◌&&◌, Bool, true, false, not, Some, None, List, [], ◌∷◌, All, ltb, leb, refl, sym, ap, ◌∙◌, zero-le, arith}
 use Rattle.std.proofs.lemmas.Bool.{false≢true, not-true, agree_below, agree_below_at, leb-true, ltb-true, and_parts}
 use Rattle.std.proofs.lemmas.List.Elements.{All-from_recursion, All-weaker}
 use Rattle.std.proofs.lemmas.List.Sums.{AllPass-from_list_all}
 use Rattle.std.specs.List.{list_all}
 use Rattle.std.specs.List.Sorted.{IsStrictlyIncreasing}
 use Rattle.fb_graph.specs.Parity.{differ, is_odd_count, is_in}
-use Rattle.fb_graph.specs.Problem.{Problem, Flips, edge_at, no_edge, touches, crosses}
-use Rattle.fb_graph.specs.Certificate.{IsOddCut, IsPrintedCut, IsBest, Fits, load_of}
-use Rattle.fb_graph.specs.Components.{IsJoined, IsFirstOdd}
+use Rattle.fb_graph.specs.Problem.{Problem, edge_at, no_edge, touches, crosses}
+use Rattle.fb_graph.specs.Certificate.{IsPrintedCut, IsBest, Fits, load_of}
+use Rattle.fb_graph.specs.Components.{IsWalkBy, IsJoined, IsFirstOdd}
+use Rattle.fb_graph.specs.Laws.{HasNoOddClosed, Link, ends_of, IsTight, IsPerfect, IsSolved}
 use Rattle.fb_graph.specs.Limits.{DecodingGraph, is_real_in, problem_of}
 use Rattle.fb_graph.specs.declared.parts.Edge.{Edge}
 use Rattle.fb_graph.specs.declared.parts.Cut.{Cut}
 use Rattle.fb_graph.proofs.ParitySums.{same_from_differ}
 use Rattle.fb_graph.proofs.Sets.{is_in-All, rising-one, rising-cons, distinct_from_rising}
 use Rattle.fb_graph.proofs.Walks.{joined_self, joined_ends, joined_trans}
+use Rattle.fb_graph.proofs.Duality.{packing_of_best}
+use Rattle.fb_graph.proofs.Matching.{resolving}
+use Rattle.fb_graph.proofs.ClosedComponents.{no_odd_component}
 use Rattle.fb_graph.proofs.OddComponents.{best_has_no_odd, least_is_first_odd}
 
 abbrev edge : ℕ → ℕ → ℕ → Edge
@@ -23,20 +27,23 @@ edge u v w = record { first = u; second = v; weight = w }
 abbrev cut : ℕ → List ℕ → Cut
 cut y vs = record { value = y; vertices = vs }
 
--- whether a real vertex has the wrong parity
-abbrev is_wrong : Problem → List ℕ → ℕ → Bool
-is_wrong p chosen v =
-    p.is_real v && differ (is_odd_count (λ k. touches v (edge_at p.edges k)) chosen) (p.is_defect v)
+-- whether the vertex is real and has another parity than the defects ask for
+abbrev is_wrong : DecodingGraph → List ℕ → (ℕ → Bool) → ℕ → Bool
+is_wrong g defects parity v = is_real_in g v && differ (parity v) (is_in defects v)
 
--- a correction of a whole graph, by a look at each vertex
-flips_by_cases : (g : DecodingGraph) (defects chosen : List ℕ)
-    → agree_below (is_wrong (problem_of g defects) chosen) (λ v. false) g.vertices ≡ true
-    → Flips (problem_of g defects) chosen
-flips_by_cases g defects chosen right v real =
-    same_from_differ _ _
-    (ap (λ b. b && differ (is_odd_count (λ k. touches v (edge_at g.edges k)) chosen) (is_in defects v)) (sym real)
-    ∙ agree_below_at (is_wrong (problem_of g defects) chosen) (λ u. false) g.vertices v right
+-- right parities of a whole graph, by a look at each vertex
+parity_by_cases : (g : DecodingGraph) (defects : List ℕ) (parity : ℕ → Bool)
+    → agree_below (is_wrong g defects parity) (λ v. false) g.vertices ≡ true
+    → (v : ℕ) → is_real_in g v ≡ true → parity v ≡ is_in defects v
+parity_by_cases g defects parity right v real =
+    same_from_differ (parity v) (is_in defects v)
+    (ap (λ b. b && differ (parity v) (is_in defects v)) (sym real)
+    ∙ agree_below_at (is_wrong g defects parity) (λ u. false) g.vertices v right
     (ltb-true v g.vertices (and_parts (ltb v g.vertices) _ real).0))
+
+-- at each vertex, whether an odd number of the chosen edges end there
+abbrev parity_of : DecodingGraph → List ℕ → ℕ → Bool
+parity_of g chosen v = is_odd_count (λ k. touches v (edge_at g.edges k)) chosen
 
 fits_by_cases : (p : Problem) (cuts : List Cut) → list_all (λ e. leb (load_of cuts e) e.weight) p.edges ≡ true
     → Fits p cuts
@@ -86,7 +93,7 @@ middle_is_best = record {
     rising = rising-cons 0 1 [] (omega arith) (rising-one 1);
     within = below_by_cases 4 (0 ∷ 1 ∷ []) refl;
   };
-  flips = flips_by_cases row (2 ∷ []) (0 ∷ 1 ∷ []) refl;
+  flips = parity_by_cases row (2 ∷ []) (parity_of row (0 ∷ 1 ∷ [])) refl;
   weighs = refl;
   printed =
       All-from_recursion (IsPrintedCut (problem_of row (2 ∷ []))) middle_cuts (
@@ -106,7 +113,7 @@ middle_is_best = record {
 beside_is_best : IsBest (problem_of row (1 ∷ [])) (0 ∷ []) 2 (cut 2 (1 ∷ []) ∷ [])
 beside_is_best = record {
   edge_set = record { rising = rising-one 0; within = below_by_cases 4 (0 ∷ []) refl };
-  flips = flips_by_cases row (1 ∷ []) (0 ∷ []) refl;
+  flips = parity_by_cases row (1 ∷ []) (parity_of row (0 ∷ [])) refl;
   weighs = refl;
   printed =
       All-from_recursion (IsPrintedCut (problem_of row (1 ∷ []))) (cut 2 (1 ∷ []) ∷ [])
@@ -178,7 +185,7 @@ odd_with_boundary =
     best_has_no_odd (problem_of two_components (3 ∷ [])) (2 ∷ []) 2 (cut 2 (3 ∷ []) ∷ [])
     (record {
       edge_set = record { rising = rising-one 2; within = below_by_cases 3 (2 ∷ []) refl };
-      flips = flips_by_cases two_components (3 ∷ []) (2 ∷ []) refl;
+      flips = parity_by_cases two_components (3 ∷ []) (parity_of two_components (2 ∷ [])) refl;
       weighs = refl;
       printed =
           All-from_recursion (IsPrintedCut (problem_of two_components (3 ∷ []))) (cut 2 (3 ∷ []) ∷ [])
@@ -187,3 +194,31 @@ odd_with_boundary =
       fits = fits_by_cases (problem_of two_components (3 ∷ [])) (cut 2 (3 ∷ []) ∷ []) refl;
       total = refl;
     })
+
+-- so no closed set of that problem is odd
+boundary_settles : HasNoOddClosed (problem_of two_components (3 ∷ []))
+boundary_settles =
+    no_odd_component (problem_of two_components (3 ∷ []))
+    (λ v real. ltb-true v 5 (and_parts (ltb v 5) _ real).0) odd_with_boundary
+
+-- the walk from the defect in the middle to the nearer boundary, as a link
+abbrev to_boundary : List Link
+to_boundary = record { from = 2; to = 0; walk = 1 ∷ 0 ∷ [] } ∷ []
+
+middle_is_perfect : IsPerfect (problem_of row (2 ∷ [])) middle_cuts to_boundary
+middle_is_perfect = record {
+  walks =
+      All-from_recursion (λ l. IsWalkBy (problem_of row (2 ∷ [])) l.walk l.from l.to) to_boundary
+      ((1, omega arith, inr (refl, refl), (0, omega arith, inr (refl, refl), refl)), tt);
+  tight = All-from_recursion (IsTight (problem_of row (2 ∷ [])) middle_cuts) to_boundary (refl, tt);
+  flips = parity_by_cases row (2 ∷ []) (λ v. is_odd_count (λ l. touches v (ends_of l)) to_boundary) refl;
+  once =
+      All-from_recursion (λ c. count_by (λ l. crosses c.vertices (ends_of l)) to_boundary ≤ 1) middle_cuts
+      (omega arith, (omega arith, (omega arith, tt)));
+}
+
+-- it opens to the correction
+middle_is_solved : IsSolved (problem_of row (2 ∷ [])) middle_cuts (0 ∷ 1 ∷ [])
+middle_is_solved =
+    resolving (problem_of row (2 ∷ [])) middle_cuts to_boundary
+    (packing_of_best (problem_of row (2 ∷ [])) (0 ∷ 1 ∷ []) 6 middle_cuts middle_is_best) middle_is_perfect

@@ -1,10 +1,15 @@
 pub mod BuildSteps
+pub mod CancelledPairs
+pub mod ClosedComponents
 pub mod ClosedSets
 pub mod Duality
 pub mod Examples
 pub mod Layouts
+pub mod Matching
 pub mod OddComponents
+pub mod OddOnes
 pub mod ParitySums
+pub mod PrintedCuts
 pub mod Ranges
 pub mod Sets
 pub mod Sums

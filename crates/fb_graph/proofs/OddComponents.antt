@@ -1,13 +1,12 @@
 -- Odd components without boundary: they have no correction, and closed odd sets are such.
-use Rattle.std.proofs.Common.{ℕ, ◌+◌, ◌<◌, ◌≤◌, ◌≡◌, Bool, true, false, Some, None, List, [], ◌∷◌, length, get_or, All, refl, sym, ap, ◌∙◌, le_trans, le_of_eq, arith}
-use Rattle.std.proofs.lemmas.Bool.{false≢true, both_ways, false_from_ne_true}
+use Rattle.std.proofs.Common.{ℕ, ◌<◌, ◌≤◌, ◌≡◌, Bool, true, false, List, length, get_or, refl, sym, ap, ◌∙◌, arith}
+use Rattle.std.proofs.lemmas.Bool.{false≢true, both_ways}
 use Rattle.fb_graph.specs.Parity.{differ, is_odd_count, is_in}
-use Rattle.fb_graph.specs.Problem.{Problem, Flips, edge_at, no_edge, crosses}
-use Rattle.fb_graph.specs.Components.{IsJoined, IsComponent, IsOddAt, IsFirstOdd}
+use Rattle.fb_graph.specs.Problem.{Problem, edge_at, crosses}
+use Rattle.fb_graph.specs.Components.{IsJoined, IsComponent, IsOddAt}
 use Rattle.fb_graph.specs.Laws.{NoCorrection, BestHasNoOdd, ClosedIsOdd, LeastIsFirstOdd, SomeIsFirstOdd}
-use Rattle.fb_graph.specs.declared.parts.Edge.{Edge}
-use Rattle.fb_graph.proofs.ParitySums.{odd_agree, odd_none, differ_self}
-use Rattle.fb_graph.proofs.Sets.{All-from_is_in, is_in-All, is_in_at, member_of_odd, least_member}
+use Rattle.fb_graph.proofs.ParitySums.{odd_agree, odd_none}
+use Rattle.fb_graph.proofs.Sets.{All-from_is_in, is_in-All, member_of_odd, least_member}
 use Rattle.fb_graph.proofs.Walks.{joined_trans, joined_sym, joined_ends, walk_stays}
 use Rattle.fb_graph.proofs.Duality.{odd-crosses}
 

@@ -1,7 +1,21 @@
 -- Sums of parities: `differ` is their addition, `is_odd_count` the sum over a list.
-use Rattle.std.proofs.Common.{ℕ, ◌<◌, ◌≡◌, ◌≢◌, Bool, true, false, cond, List, [], ◌∷◌, ◌++◌, length, All, refl, sym, ap, ◌∙◌}
+use Rattle.std.proofs.Common.{◌≡◌, ◌&&◌, Bool, true, false, filter, flat_map, List, [], ◌∷◌, ◌++◌, All, refl, sym, ap, ◌∙◌}
 use Rattle.std.proofs.lemmas.List.Elements.{All-head, All-tail}
 use Rattle.fb_graph.specs.Parity.{differ, is_odd_count}
+
+pub and_comm : (a b : Bool) → (a && b) ≡ (b && a)
+and_comm true true = refl
+and_comm true false = refl
+and_comm false true = refl
+and_comm false false = refl
+
+pub and-true : (a : Bool) → (a && true) ≡ a
+and-true true = refl
+and-true false = refl
+
+pub and-false : (a : Bool) → (a && false) ≡ false
+and-false true = refl
+and-false false = refl
 
 pub differ_comm : (a b : Bool) → differ a b ≡ differ b a
 differ_comm true true = refl
@@ -43,6 +57,17 @@ differ_swap a b c d =
     ∙ ap (differ a) (sym (differ_assoc b c d) ∙ (ap (λ x. differ x d) (differ_comm b c) ∙ differ_assoc c b d))
     ∙ sym (differ_assoc a c (differ b d))
 
+-- what differs from both sides drops out
+pub differ_through : (a b c : Bool) → differ (differ a b) (differ b c) ≡ differ a c
+differ_through true true true = refl
+differ_through true true false = refl
+differ_through true false true = refl
+differ_through true false false = refl
+differ_through false true true = refl
+differ_through false true false = refl
+differ_through false false true = refl
+differ_through false false false = refl
+
 pub odd_none : {X : Type 0} (xs : List X) → is_odd_count (λ x. false) xs ≡ false
 odd_none [] = refl
 odd_none (x ∷ xs) = ap (differ false) (odd_none xs)
@@ -83,3 +108,25 @@ odd_exchange r [] ys = sym (odd_none ys)
 odd_exchange r (x ∷ xs) ys =
     ap (differ (is_odd_count (r x) ys)) (odd_exchange r xs ys)
     ∙ sym (odd-differ (r x) (λ y. is_odd_count (λ z. r z y) xs) ys)
+
+pub odd-and : {X : Type 0} (a : Bool) (test : X → Bool) (xs : List X)
+    → is_odd_count (λ x. a && test x) xs ≡ (a && is_odd_count test xs)
+odd-and true test xs = refl
+odd-and false test xs = odd_none xs
+
+pub odd-filter : {X : Type 0} (keep test : X → Bool) (xs : List X)
+    → is_odd_count test (filter keep xs) ≡ is_odd_count (λ x. keep x && test x) xs
+odd-filter keep test [] = refl
+odd-filter keep test (x ∷ xs) = step (keep x) refl (odd-filter keep test xs)
+  where
+    step : (b : Bool) → keep x ≡ b
+        → is_odd_count test (filter keep xs) ≡ is_odd_count (λ y. keep y && test y) xs
+        → is_odd_count test (filter keep (x ∷ xs)) ≡ is_odd_count (λ y. keep y && test y) (x ∷ xs)
+    step true e ih = rw e (ap (differ (test x)) ih)
+    step false e ih = rw e (ih ∙ sym (false-differ (is_odd_count (λ y. keep y && test y) xs)))
+
+pub odd-flat_map : {X Y : Type 0} (f : X → List Y) (test : Y → Bool) (xs : List X)
+    → is_odd_count test (flat_map f xs) ≡ is_odd_count (λ x. is_odd_count test (f x)) xs
+odd-flat_map f test [] = refl
+odd-flat_map f test (x ∷ xs) =
+    odd-append test (f x) (flat_map f xs) ∙ ap (differ (is_odd_count test (f x))) (odd-flat_map f test xs)

@@ -1,14 +1,25 @@
 -- Sets of numbers as lists, and the edges that cross them.
-use Rattle.std.proofs.Common.{ℕ, ◌+◌, ◌<◌, ◌≤◌, ◌≡◌, ◌==◌, ◌||◌, Bool, true, false, List, [], ◌∷◌, length, get_or, All, zero, suc, ◌⊎◌, inl, inr, subst, le_of_eq, lt_irrefl, refl, sym, ap, ◌∙◌, arith}
-use Rattle.std.proofs.lemmas.Bool.{eqb-true, eq-eqb, or_cases, or_left, or_right, false≢true, false_from_ne_true, cases_lt}
+use Rattle.std.proofs.Common.{ℕ, ◌+◌, ◌<◌, ◌≤◌, ◌≡◌, ◌==◌, ◌||◌, ◌&&◌, filter, Bool, true, false, List, [], ◌∷◌, length, get_or, All, zero, suc, ◌⊎◌, inl, inr, subst, cond, sum_by, count_by, le_trans, le_of_eq, lt_irrefl, refl, sym, ap, ◌∙◌, arith}
+use Rattle.std.proofs.lemmas.Bool.{eqb-true, eqb-false, eq-eqb, ne_eqb, or_cases, or_left, or_right, cond_both, false≢true, false_from_ne_true, cases_lt}
 use Rattle.std.proofs.lemmas.List.Elements.{All-head, All-tail}
 use Rattle.std.proofs.lemmas.List.Folds.{list_any_at}
+use Rattle.std.proofs.lemmas.List.FromFn.{length-range_with_len, get_or-range_with_len}
+use Rattle.std.proofs.lemmas.List.Sums.{sum_by-cons}
+use Rattle.std.specs.List.{range_with_len}
 use Rattle.std.specs.List.Sorted.{IsStrictlyIncreasing}
 use Rattle.fb_graph.specs.Parity.{differ, is_odd_count, is_in}
 use Rattle.fb_graph.specs.Problem.{touches, crosses}
 use Rattle.fb_graph.specs.Certificate.{AreDistinct}
 use Rattle.fb_graph.specs.declared.parts.Edge.{Edge}
-use Rattle.fb_graph.proofs.ParitySums.{odd-differ, false-differ}
+use Rattle.fb_graph.proofs.Sums.{sum_le, sum_same, sum_ones, sum_exchange}
+use Rattle.fb_graph.proofs.ParitySums.{and-true, and-false, odd_same, odd_agree, odd_exchange, odd-and, odd-differ, differ-false, false-differ}
+
+pub equal_sym : (j k : ℕ) → (j == k) ≡ (k == j)
+equal_sym j k = step (k == j) refl
+  where
+    step : (b : Bool) → (k == j) ≡ b → (j == k) ≡ b
+    step true e = eq-eqb j k (sym (eqb-true k j e))
+    step false e = ne_eqb j k (λ same. eqb-false k j e (sym same))
 
 -- in a distinct list a number stands an odd number of times exactly where it stands at all
 pub odd_equal : (vs : List ℕ) (v : ℕ) → AreDistinct vs → is_odd_count (λ u. u == v) vs ≡ is_in vs v
@@ -27,6 +38,34 @@ odd_equal (w ∷ vs) v distinct = step (w == v) refl (odd_equal vs v distinct.1)
     step true e ih =
         rw e (here (is_in vs v) (is_odd_count (λ u. u == v) vs) (ap (is_in vs) (sym (eqb-true w v e)) ∙ distinct.0) ih)
     step false e ih = rw e (there (is_in vs v) (is_odd_count (λ u. u == v) vs) ih)
+
+-- 1 where the test holds, else 0
+abbrev pub one_if : Bool → ℕ
+one_if b = cond b 1 0
+
+-- and once exactly there
+pub count_equal : (vs : List ℕ) (v : ℕ) → AreDistinct vs → count_by (λ u. u == v) vs ≡ one_if (is_in vs v)
+count_equal [] v distinct = refl
+count_equal (w ∷ vs) v distinct = step (w == v) refl (count_equal vs v distinct.1)
+  where
+    one : ℕ → ℕ
+    one u = one_if (u == v)
+
+    absent : (w == v) ≡ true → one_if (is_in vs v) ≡ 0
+    absent e = ap one_if (ap (is_in vs) (sym (eqb-true w v e)) ∙ distinct.0)
+
+    step : (t : Bool) → (w == v) ≡ t → count_by (λ u. u == v) vs ≡ one_if (is_in vs v)
+        → count_by (λ u. u == v) (w ∷ vs) ≡ one_if ((w == v) || is_in vs v)
+    step true e ih =
+        sum_by-cons one w vs
+        ∙ omega (arith, ap one_if e, ap (λ b. one_if (b || is_in vs v)) e, ih, absent e)
+    step false e ih =
+        sum_by-cons one w vs ∙ omega (arith, ap one_if e, ap (λ b. one_if (b || is_in vs v)) e, ih)
+
+pub count_equal-le : (vs : List ℕ) (v : ℕ) → AreDistinct vs → count_by (λ u. u == v) vs ≤ 1
+count_equal-le vs v distinct =
+    le_trans (le_of_eq (count_equal vs v distinct))
+    (cond_both {A = ℕ} (is_in vs v) 1 0 (λ x. x ≤ 1) (λ e. omega arith) (λ e. omega arith))
 
 -- an edge crosses a set exactly where it touches an odd number of the set's members
 pub crosses_as_touches : (set : List ℕ) (e : Edge) → AreDistinct set
@@ -140,3 +179,118 @@ distinct_from_rising (v ∷ vs) rising = (
   false_from_ne_true (is_in vs v) (λ within. lt_irrefl v (rising_above v vs rising v within)),
   distinct_from_rising vs (rising-tail v vs rising),
 )
+
+pub range_rises : (a n : ℕ) → IsStrictlyIncreasing (range_with_len a n)
+range_rises a n k less =
+    let after : k + 1 < n = omega (arith, length-range_with_len a n) in
+    omega (arith, get_or-range_with_len a n k 0 (omega arith), get_or-range_with_len a n (k + 1) 0 after)
+
+pub range_below : (n : ℕ) → All (λ k. k < n) (range_with_len 0 n)
+range_below n k d less =
+    let below : k < n = omega (arith, length-range_with_len 0 n) in
+    omega (arith, get_or-range_with_len 0 n k d below)
+
+pub is_in-range : (n v : ℕ) → v < n → is_in (range_with_len 0 n) v ≡ true
+is_in-range n v below =
+    let at_v : get_or (range_with_len 0 n) v 0 ≡ v = omega (arith, get_or-range_with_len 0 n v 0 below) in
+    ap (is_in (range_with_len 0 n)) (sym at_v)
+    ∙ is_in_at (range_with_len 0 n) v 0 (omega (arith, length-range_with_len 0 n))
+
+-- distinct sets that are met by a test in the members that they share
+pub odd_meet : (test : ℕ → Bool) (xs ys : List ℕ) → AreDistinct xs → AreDistinct ys
+    → is_odd_count (λ x. test x && is_in ys x) xs ≡ is_odd_count (λ y. test y && is_in xs y) ys
+odd_meet test xs ys first second =
+    odd_same (λ x. test x && is_in ys x) (λ x. is_odd_count (λ y. test x && (y == x)) ys)
+    (λ x. ap (λ b. test x && b) (sym (odd_equal ys x second)) ∙ sym (odd-and (test x) (λ y. y == x) ys)) xs
+    ∙ (odd_exchange (λ x y. test x && (y == x)) xs ys
+    ∙ odd_same (λ y. is_odd_count (λ x. test x && (y == x)) xs) (λ y. test y && is_in xs y)
+    (λ y. odd_same (λ x. test x && (y == x)) (λ x. test y && (x == y)) (λ x. swapped x y) xs
+    ∙ (odd-and (test y) (λ x. x == y) xs ∙ ap (λ b. test y && b) (odd_equal xs y first))) ys)
+  where
+    swapped : (x y : ℕ) → (test x && (y == x)) ≡ (test y && (x == y))
+    swapped x y = step (y == x) refl
+      where
+        step : (b : Bool) → (y == x) ≡ b → (test x && (y == x)) ≡ (test y && (x == y))
+        step true e =
+            let same : x ≡ y = sym (eqb-true y x e) in
+            ap (λ z. test z && (y == z)) same ∙ ap (λ z. test y && (z == y)) (sym same)
+        step false e =
+            ap (λ b. test x && b) e
+            ∙ (and-false (test x) ∙ (sym (and-false (test y)) ∙ ap (λ b. test y && b) (sym (equal_sym x y ∙ e))))
+
+-- distinct lists with the same members have the same parity for every test
+pub odd_same_set : (test : ℕ → Bool) (xs ys : List ℕ) → AreDistinct xs → AreDistinct ys
+    → ((v : ℕ) → is_in xs v ≡ is_in ys v) → is_odd_count test xs ≡ is_odd_count test ys
+odd_same_set test xs ys first second same =
+    sym (inside xs ys (λ v h. sym (same v) ∙ h))
+    ∙ (odd_meet test xs ys first second ∙ inside ys xs (λ v h. same v ∙ h))
+  where
+    inside : (us vs : List ℕ) → ((v : ℕ) → is_in us v ≡ true → is_in vs v ≡ true)
+        → is_odd_count (λ u. test u && is_in vs u) us ≡ is_odd_count test us
+    inside us vs within =
+        odd_agree (λ u. test u && is_in vs u) test us
+        (λ k d less.
+        ap (λ b. test (get_or us k d) && b) (within (get_or us k d) (is_in_at us k d less))
+        ∙ and-true (test (get_or us k d)))
+
+-- a distinct list whose members are all in another distinct one is no longer than it
+pub length-le_from_within : (xs ys : List ℕ) → AreDistinct xs → AreDistinct ys
+    → ((v : ℕ) → is_in xs v ≡ true → is_in ys v ≡ true) → length xs ≤ length ys
+length-le_from_within xs ys first second within =
+    le_trans (le_of_eq (sym (sum_ones xs)))
+    (le_trans
+    (sum_le (λ x. 1) (λ x. sum_by (λ y. one_if (y == x)) ys) xs
+    (λ k d less. le_of_eq (sym (count_equal ys (get_or xs k d) second
+    ∙ ap one_if (within (get_or xs k d) (is_in_at xs k d less))))))
+    (le_trans (le_of_eq (sum_exchange (λ x y. one_if (y == x)) xs ys))
+    (le_trans
+    (sum_le (λ y. sum_by (λ x. one_if (y == x)) xs) (λ y. 1) ys (λ k d less. each (get_or ys k d)))
+    (le_of_eq (sum_ones ys)))))
+  where
+    each : (y : ℕ) → sum_by (λ x. one_if (y == x)) xs ≤ 1
+    each y =
+        le_trans
+        (le_of_eq
+        (sum_same (λ x. one_if (y == x)) (λ x. one_if (x == y)) xs
+        (λ k d less. ap one_if (equal_sym y (get_or xs k d)))))
+        (count_equal-le xs y first)
+
+pub is_in-filter : (test : ℕ → Bool) (xs : List ℕ) (v : ℕ) → is_in (filter test xs) v ≡ (is_in xs v && test v)
+is_in-filter test [] v = refl
+is_in-filter test (x ∷ xs) v = step (test x) refl (is_in-filter test xs v)
+  where
+    kept : (a i t : Bool) → (a ≡ true → t ≡ true) → (a || (i && t)) ≡ ((a || i) && t)
+    kept true i true h = refl
+    kept true i false h = absurd (false≢true (h refl))
+    kept false i t h = refl
+
+    dropped : (a i t : Bool) → (a ≡ true → t ≡ false) → (i && t) ≡ ((a || i) && t)
+    dropped true i true h = absurd (false≢true (sym (h refl)))
+    dropped true i false h = and-false i
+    dropped false i t h = refl
+
+    step : (b : Bool) → test x ≡ b → is_in (filter test xs) v ≡ (is_in xs v && test v)
+        → is_in (cond b (x ∷ filter test xs) (filter test xs)) v ≡ (((x == v) || is_in xs v) && test v)
+    step true e ih =
+        ap (λ b. (x == v) || b) ih
+        ∙ kept (x == v) (is_in xs v) (test v) (λ h. ap test (sym (eqb-true x v h)) ∙ e)
+    step false e ih =
+        ih ∙ dropped (x == v) (is_in xs v) (test v) (λ h. ap test (sym (eqb-true x v h)) ∙ e)
+
+pub distinct-filter : (test : ℕ → Bool) (xs : List ℕ) → AreDistinct xs → AreDistinct (filter test xs)
+distinct-filter test [] distinct = tt
+distinct-filter test (x ∷ xs) distinct = step (test x) (distinct-filter test xs distinct.1)
+  where
+    step : (b : Bool) → AreDistinct (filter test xs) → AreDistinct (cond b (x ∷ filter test xs) (filter test xs))
+    step true ih = (is_in-filter test xs x ∙ ap (λ b. b && test x) distinct.0, ih)
+    step false ih = ih
+
+-- of two distinct lists, as many members of the one stand in the other as the other way round
+pub odd_shared : (xs ys : List ℕ) → AreDistinct xs → AreDistinct ys
+    → is_odd_count (is_in ys) xs ≡ is_odd_count (is_in xs) ys
+odd_shared xs ys first second = odd_meet (λ x. true) xs ys first second
+
+-- a distinct list that holds v holds an odd number of the members of v alone
+pub odd_single : (v : ℕ) (set : List ℕ) → AreDistinct set → is_in set v ≡ true → is_odd_count (is_in (v ∷ [])) set ≡ true
+odd_single v set distinct within =
+    odd_shared set (v ∷ []) distinct (refl, tt) ∙ (differ-false (is_in set v) ∙ within)

@@ -1,7 +1,7 @@
 -- Sums of numbers over lists.
-use Rattle.std.proofs.Common.{ℕ, ◌+◌, ◌<◌, ◌≤◌, ◌≡◌, Bool, true, false, cond, List, [], ◌∷◌, length, All, sum_by, get_or, refl, sym, ap, ◌∙◌, le_trans, le_refl, arith}
+use Rattle.std.proofs.Common.{ℕ, ◌+◌, ◌≤◌, ◌≡◌, Bool, true, false, cond, List, [], ◌∷◌, length, All, sum_by, count_by, filter, flat_map, ◌*◌, mul-le-mul_right, get_or, refl, sym, ap, ◌∙◌, le_refl, arith}
 use Rattle.std.proofs.lemmas.List.Elements.{All-head, All-tail}
-use Rattle.std.proofs.lemmas.List.Sums.{sum_by-cons}
+use Rattle.std.proofs.lemmas.List.Sums.{sum_by-cons, sum_by-append}
 use Rattle.std.proofs.lemmas.Bool.{false≢true}
 use Rattle.fb_graph.specs.Parity.{differ, is_odd_count}
 use Rattle.fb_graph.proofs.ParitySums.{false-differ}
@@ -28,6 +28,10 @@ le-sum_of_odd {X = X} q y (x ∷ xs) odd = step (q x) refl (le-sum_of_odd q y xs
 pub sum_zero : {X : Type 0} (xs : List X) → sum_by (λ x. 0) xs ≡ 0
 sum_zero [] = refl
 sum_zero {X = X} (x ∷ xs) = omega (arith, sum_by-cons (λ (y : X). 0) x xs, sum_zero xs)
+
+pub sum_ones : {X : Type 0} (xs : List X) → sum_by (λ x. 1) xs ≡ length xs
+sum_ones [] = refl
+sum_ones {X = X} (x ∷ xs) = omega (arith, sum_by-cons (λ (y : X). 1) x xs, sum_ones xs)
 
 pub sum_add : {X : Type 0} (f g : X → ℕ) (xs : List X)
     → sum_by (λ x. f x + g x) xs ≡ sum_by f xs + sum_by g xs
@@ -70,3 +74,65 @@ sum_exchange f (x ∷ xs) ys =
           (λ k d less. sum_by-cons (λ z. f z (get_or ys k d)) x xs),
       sum_add (f x) (λ y. sum_by (λ z. f z y) xs) ys,
     )
+
+pub sum-filter : {X : Type 0} (keep : X → Bool) (f : X → ℕ) (xs : List X)
+    → sum_by f (filter keep xs) ≡ sum_by (λ x. cond (keep x) (f x) 0) xs
+sum-filter keep f [] = refl
+sum-filter {X = X} keep f (x ∷ xs) = step (keep x) refl (sum-filter keep f xs)
+  where
+    part : X → ℕ
+    part y = cond (keep y) (f y) 0
+
+    filtered : (b : Bool) → keep x ≡ b → filter keep (x ∷ xs) ≡ cond b (x ∷ filter keep xs) (filter keep xs)
+    filtered b e = ap (λ a. cond a (x ∷ filter keep xs) (filter keep xs)) e
+
+    step : (b : Bool) → keep x ≡ b → sum_by f (filter keep xs) ≡ sum_by part xs
+        → sum_by f (filter keep (x ∷ xs)) ≡ sum_by part (x ∷ xs)
+    step true e ih =
+        ap (sum_by f) (filtered true e)
+        ∙ omega (arith, sum_by-cons f x (filter keep xs), sum_by-cons part x xs, ap (λ b. cond b (f x) 0) e, ih)
+    step false e ih =
+        ap (sum_by f) (filtered false e)
+        ∙ omega (arith, sum_by-cons part x xs, ap (λ b. cond b (f x) 0) e, ih)
+
+pub sum-flat_map : {X Y : Type 0} (g : X → List Y) (f : Y → ℕ) (xs : List X)
+    → sum_by f (flat_map g xs) ≡ sum_by (λ x. sum_by f (g x)) xs
+sum-flat_map g f [] = refl
+sum-flat_map g f (x ∷ xs) =
+    omega (arith, sum_by-append f (g x) (flat_map g xs), sum_by-cons (λ y. sum_by f (g y)) x xs, sum-flat_map g f xs)
+
+-- a number added as often as elements pass
+pub sum_of_count : {X : Type 0} (q : X → Bool) (y : ℕ) (xs : List X)
+    → sum_by (λ x. cond (q x) y 0) xs ≡ count_by q xs * y
+sum_of_count q y [] = omega arith
+sum_of_count {X = X} q y (x ∷ xs) = step (q x) refl (sum_of_count q y xs)
+  where
+    part : X → ℕ
+    part z = cond (q z) y 0
+
+    one : X → ℕ
+    one z = cond (q z) 1 0
+
+    step : (b : Bool) → q x ≡ b → sum_by part xs ≡ sum_by one xs * y
+        → sum_by part (x ∷ xs) ≡ sum_by one (x ∷ xs) * y
+    step true e ih =
+        omega (
+          arith,
+          sum_by-cons part x xs,
+          ap (λ b. cond b y 0) e,
+          ap (λ n. n * y) (sum_by-cons one x xs ∙ ap (λ b. cond b 1 0 + sum_by one xs) e),
+          ih,
+        )
+    step false e ih =
+        omega (
+          arith,
+          sum_by-cons part x xs,
+          ap (λ b. cond b y 0) e,
+          ap (λ n. n * y) (sum_by-cons one x xs ∙ ap (λ b. cond b 1 0 + sum_by one xs) e),
+          ih,
+        )
+
+pub sum_of_once : {X : Type 0} (q : X → Bool) (y : ℕ) (xs : List X) → count_by q xs ≤ 1
+    → sum_by (λ x. cond (q x) y 0) xs ≤ y
+sum_of_once q y xs once =
+    omega (arith, sum_of_count q y xs, mul-le-mul_right y once)

@@ -1,11 +1,13 @@
 -- Walks by edge numbers: joined, turned round, and kept within closed sets.
-use Rattle.std.proofs.Common.{ℕ, ◌+◌, ◌<◌, ◌≤◌, ◌≡◌, ◌⊎◌, Bool, true, false, List, [], ◌∷◌, ◌++◌, reverse, length, get_or, All, refl, sym, ap, ◌∙◌, subst, inl, inr}
+use Rattle.std.proofs.Common.{ℕ, ◌<◌, ◌≡◌, ◌==◌, false, List, [], ◌∷◌, ◌++◌, reverse, length, All, refl, sym, ap, ◌∙◌, subst, inl, inr}
 use Rattle.std.proofs.lemmas.List.{reverse-append}
+use Rattle.std.proofs.lemmas.List.Elements.{All-nil, All-cons}
 use Rattle.fb_graph.specs.Parity.{differ, is_odd_count, is_in}
-use Rattle.fb_graph.specs.Problem.{Problem, edge_at, no_edge, crosses}
+use Rattle.fb_graph.specs.Problem.{Problem, edge_at, no_edge, touches, crosses}
 use Rattle.fb_graph.specs.Components.{Leads, IsWalkBy, IsJoined}
+use Rattle.fb_graph.specs.Laws.{WalkParity}
 use Rattle.fb_graph.specs.declared.parts.Edge.{Edge}
-use Rattle.fb_graph.proofs.ParitySums.{same_from_differ}
+use Rattle.fb_graph.proofs.ParitySums.{differ_comm, differ_self, differ_through, same_from_differ}
 
 pub Leads_flip : (e : Edge) (from to : ℕ) → Leads e from to → Leads e to from
 Leads_flip e from to (inl h) = inr (h.1, h.0)
@@ -57,3 +59,24 @@ walk_stays p set [] a b uncrossed walk = ap (is_in set) walk
 walk_stays p set (k ∷ ks) a b uncrossed (next, within, leads, rest) =
     same_side set (edge_at p.edges k) a next (uncrossed k no_edge within) leads
     ∙ walk_stays p set ks next b uncrossed rest
+
+-- what the edge touches, by the ends in the order of a step over it
+pub touches_as_leads : (v : ℕ) (e : Edge) (from to : ℕ) → Leads e from to → touches v e ≡ differ (v == from) (v == to)
+touches_as_leads v e from to (inl (first, second)) =
+    ap (λ a. differ (v == a) (v == e.second)) first ∙ ap (λ b. differ (v == from) (v == b)) second
+touches_as_leads v e from to (inr (second, first)) =
+    differ_comm (v == e.first) (v == e.second)
+    ∙ (ap (λ a. differ (v == a) (v == e.first)) second ∙ ap (λ b. differ (v == from) (v == b)) first)
+
+pub walk_parity : WalkParity
+walk_parity p [] from to walk v = sym (ap (λ a. differ (v == a) (v == to)) walk ∙ differ_self (v == to))
+walk_parity p (k ∷ ks) from to (next, within, leads, rest) v =
+    ap (λ a. differ a (is_odd_count (λ j. touches v (edge_at p.edges j)) ks))
+    (touches_as_leads v (edge_at p.edges k) from next leads)
+    ∙ (ap (differ (differ (v == from) (v == next))) (walk_parity p ks next to rest v)
+    ∙ differ_through (v == from) (v == next) (v == to))
+
+pub walk_within : (p : Problem) (ks : List ℕ) (from to : ℕ) → IsWalkBy p ks from to → All (λ k. k < length p.edges) ks
+walk_within p [] from to walk = All-nil (λ k. k < length p.edges)
+walk_within p (k ∷ ks) from to (next, within, leads, rest) =
+    All-cons (λ j. j < length p.edges) k ks within (walk_within p ks next to rest)

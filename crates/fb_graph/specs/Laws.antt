@@ -1,9 +1,11 @@
 -- What follows from the definitions alone.
-use Rattle.std.specs.Prelude.{ℕ, ◌≡◌, ◌≤◌, ◌<◌, ◌||◌, Bool, true, false, Some, None, List, ◌++◌, length, All}
-use Rattle.fb_graph.specs.Parity.{is_odd_count, is_in}
-use Rattle.fb_graph.specs.Problem.{Problem, Flips, IsEdgeSet, edge_at, weight_of, crosses}
+use Rattle.std.specs.Prelude.{ℕ, ◌≡◌, ◌≤◌, ◌<◌, ◌==◌, ◌||◌, Bool, true, false, Some, None, List, ◌++◌, length, All, filter, sum_by, count_by, flat_map}
+use Rattle.std.specs.List.{range_with_len}
+use Rattle.std.specs.List.Sorted.{IsStrictlyIncreasing}
+use Rattle.fb_graph.specs.Parity.{differ, is_odd_count, is_in}
+use Rattle.fb_graph.specs.Problem.{Problem, Flips, IsEdgeSet, edge_at, weight_of, touches, crosses}
 use Rattle.fb_graph.specs.Certificate.{AreDistinct, IsOddCut, IsPacking, IsBest, load_of, total_value}
-use Rattle.fb_graph.specs.Components.{IsJoined, IsOddAt, IsFirstOdd}
+use Rattle.fb_graph.specs.Components.{IsWalkBy, IsJoined, IsOddAt, IsFirstOdd}
 use Rattle.fb_graph.specs.declared.parts.Edge.{Edge}
 use Rattle.fb_graph.specs.declared.parts.Cut.{Cut}
 
@@ -102,3 +104,71 @@ PackingOfPart = (small large : Problem) (cuts : List Cut) → IsPart small large
 abbrev pub PackingsJoined : Type 0
 PackingsJoined = (left right whole : Problem) (cuts more : List Cut) → IsPart left whole → IsPart right whole
     → AreSeparated left right → IsPacking left cuts → IsPacking right more → IsPacking whole (cuts ++ more)
+
+-- Of a walk's edges, an odd number end at a vertex exactly where just one of the walk's own ends is there.
+abbrev pub WalkParity : Type 0
+WalkParity = (p : Problem) (ks : List ℕ) (from to : ℕ) → IsWalkBy p ks from to
+    → (v : ℕ) → is_odd_count (λ k. touches v (edge_at p.edges k)) ks ≡ differ (v == from) (v == to)
+
+-- the numbers below n that stand in the list an odd number of times, rising
+abbrev pub odd_ones : ℕ → List ℕ → List ℕ
+odd_ones n ks = filter (λ k. is_odd_count (λ j. j == k) ks) (range_with_len 0 n)
+
+-- They rise strictly, and are below n.
+abbrev pub OddOnesRise : Type 0
+OddOnesRise = (n : ℕ) (ks : List ℕ) → IsStrictlyIncreasing (odd_ones n ks) × All (λ k. k < n) (odd_ones n ks)
+
+-- As many of them pass a test as of the list, but for an even number.
+abbrev pub OddOnesCount : Type 0
+OddOnesCount = (n : ℕ) (ks : List ℕ) → All (λ k. k < n) ks
+    → (test : ℕ → Bool) → is_odd_count test (odd_ones n ks) ≡ is_odd_count test ks
+
+-- They weigh at most what the list weighs.
+abbrev pub OddOnesWeigh : Type 0
+OddOnesWeigh = (n : ℕ) (ks : List ℕ) → All (λ k. k < n) ks
+    → (weight : ℕ → ℕ) → sum_by weight (odd_ones n ks) ≤ sum_by weight ks
+
+-- a walk between two vertices, by its edge numbers
+pub record Link : Type 0 where
+  pub from : ℕ
+  pub to : ℕ
+  pub walk : List ℕ
+
+-- the link's ends, as those of an edge
+abbrev pub ends_of : Link → Edge
+ends_of l = record { first = l.from; second = l.to; weight = 0 }
+
+-- the link's walk weighs what the cuts between its ends are worth (complementary slackness)
+abbrev pub IsTight : Problem → List Cut → Link → Type 0
+IsTight p cuts l = weight_of p l.walk ≡ load_of cuts (ends_of l)
+
+-- Tight links that match the defects with one another or with the boundary: an odd number of ends at a real vertex
+-- exactly where it is a defect, and no cut crossed by two of them (Edmonds 1965).
+pub record IsPerfect (p : Problem) (cuts : List Cut) (links : List Link) : Type 0 where
+  pub walks : All (λ l. IsWalkBy p l.walk l.from l.to) links
+  pub tight : All (IsTight p cuts) links
+  pub flips : (v : ℕ) → p.is_real v ≡ true → is_odd_count (λ l. touches v (ends_of l)) links ≡ p.is_defect v
+  pub once : All (λ c. count_by (λ l. crosses c.vertices (ends_of l)) links ≤ 1) cuts
+
+-- the edges that lie on an odd number of the links' walks
+abbrev pub odd_edges : Problem → List Link → List ℕ
+odd_edges p links = odd_ones (length p.edges) (flat_map (λ l. l.walk) links)
+
+-- a correction that weighs what the cuts are worth
+pub record IsSolved (p : Problem) (cuts : List Cut) (chosen : List ℕ) : Type 0 where
+  pub edge_set : IsEdgeSet p chosen
+  pub flips : Flips p chosen
+  pub weighs : weight_of p chosen ≡ total_value cuts
+
+-- The walks of a perfect matching of tight links add up to a correction of least weight.
+abbrev pub Resolving : Type 0
+Resolving = (p : Problem) (cuts : List Cut) (links : List Link) → IsPacking p cuts → IsPerfect p cuts links
+    → IsSolved p cuts (odd_edges p links)
+
+-- Where no component is odd, no closed set is, since a closed set is made of components.
+abbrev pub NoOddComponent : Type 0
+NoOddComponent = (p : Problem) → ((v : ℕ) → p.is_real v ≡ true → v < p.vertices) → IsFirstOdd p None → HasNoOddClosed p
+
+-- Where no closed set is odd, no component is.
+abbrev pub NoOddClosedSet : Type 0
+NoOddClosedSet = (p : Problem) → HasNoOddClosed p → IsFirstOdd p None

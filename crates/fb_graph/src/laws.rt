@@ -1,6 +1,6 @@
 //! What follows from the definitions alone. Each function does nothing: its clauses are the law.
 
-ghost use Rattle.fb_graph.specs.Laws.{WeakDuality, LeastWeight, EqualWeights, NoCorrection, BestHasNoOdd, ClosedIsOdd, LeastIsFirstOdd, SomeIsFirstOdd, PartHasNoOddClosed, EdgeLeaves, PackingOfPart, PackingsJoined};
+ghost use Rattle.fb_graph.specs.Laws.{WeakDuality, LeastWeight, EqualWeights, NoCorrection, BestHasNoOdd, ClosedIsOdd, LeastIsFirstOdd, SomeIsFirstOdd, PartHasNoOddClosed, EdgeLeaves, PackingOfPart, PackingsJoined, WalkParity, OddOnesRise, OddOnesCount, OddOnesWeigh, Resolving, NoOddComponent, NoOddClosedSet};
 
 /// Weak duality (Edmonds and Johnson 1973): feasible odd cuts add up to at most what any correction weighs.
 pub fn weak_duality()
@@ -41,4 +41,29 @@ pub fn no_odd_closed_set()
 pub fn packings_of_parts()
     ensures part { PackingOfPart }
     ensures joined { PackingsJoined }
+{}
+
+/// Of a walk's edges an odd number end at a vertex exactly where just one of the walk's own ends is there.
+pub fn walk_parity()
+    ensures { WalkParity }
+{}
+
+/// The numbers that stand in a list an odd number of times are a strictly rising list below the bound, of the list's
+/// parity for every test and of at most its weight for all weights.
+pub fn odd_occurrences()
+    ensures rise { OddOnesRise }
+    ensures count { OddOnesCount }
+    ensures weigh { OddOnesWeigh }
+{}
+
+/// The walks of a perfect matching of tight links add up to a correction of least weight (Edmonds 1965).
+pub fn resolving()
+    ensures { Resolving }
+{}
+
+/// Where no component without boundary holds an odd number of defects, no set of real vertices that no edge leaves
+/// does, and the other way round.
+pub fn no_odd_component()
+    ensures closed { NoOddComponent }
+    ensures component { NoOddClosedSet }
 {}

@@ -8,16 +8,18 @@ pub mod laws;
 pub mod lists;
 pub mod network;
 pub mod parts;
+pub mod printed;
 pub mod scope_of;
 pub mod whole;
 
 pub use faults::{GraphFault, NoMemory};
 pub use laws::{
-    closed_odd_set, least_weight, no_odd_closed_set, odd_has_no_correction, packings_of_parts,
-    weak_duality,
+    closed_odd_set, least_weight, no_odd_closed_set, no_odd_component, odd_has_no_correction,
+    odd_occurrences, packings_of_parts, resolving, walk_parity, weak_duality,
 };
 pub use lists::{CutList, NumberList};
 pub use network::Graph;
 pub use parts::{Cut, Edge, Row};
+pub use printed::{odd_ones, printed_cuts};
 pub use scope_of::Scope;
 pub use whole::Whole;

@@ -1,8 +1,8 @@
 -- Finding the first file of a name.
-use Rattle.std.proofs.Common.{◌≡◌, ℕ, zero, suc, ◌+◌, ◌<◌, ◌≤◌, List, [], ◌∷◌, Option, None, Some, length, drop, get_or, refl, sym, ap, ◌∙◌, arith, drop-cons, add-one, if◌then◌else◌, Bool, true, false}
+use Rattle.std.proofs.Common.{◌≡◌, ℕ, ◌+◌, ◌<◌, ◌≤◌, List, None, Some, length, drop, get_or, refl, drop-cons, add-one, true, false}
 use Rattle.std.proofs.lemmas.List.{drop_all}
 use Rattle.std.specs.Str.{bytes_eq}
-use Rattle.fb_ports.specs.Memory.{bytes_named, bytes_at}
+use Rattle.fb_ports.specs.Memory.{bytes_named}
 
 -- the first file of the rest has the name
 pub named_here : (files : List (List ℕ × List ℕ)) (i : ℕ) (d : List ℕ × List ℕ) (name : List ℕ) → i < length files

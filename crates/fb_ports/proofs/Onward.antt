@@ -1,12 +1,12 @@
 -- Bytes that are appended in several puts.
 use Rattle.std.proofs.Common.{◌≡◌, ℕ, zero, suc, zero-add, ◌+◌, ◌≤◌, ◌<◌, get_or, List, [], ◌∷◌, ◌++◌, Option, length, take, drop, map, refl, sym, ap, ◌∙◌, append_assoc, subst, arith, take-append-drop}
-use Rattle.std.proofs.KnownBytes.{Appends-trans, Appends-kept}
+use Rattle.std.proofs.KnownBytes.{Appends-trans, Appends-nil, Appends-kept}
 use Rattle.std.proofs.lemmas.List.Folds.{concat-append}
 use Rattle.std.proofs.lemmas.List.{take_all, map_more, map-append, append-nil}
 use Rattle.fb_ports.specs.Causes.{Appends, AppendsFront, Keeps, concat}
 
 -- nothing is the front of nothing
-take-nil : (n : ℕ) → take n (let e : List ℕ = [] in e) ≡ []
+take-nil : (n : ℕ) → take {A = ℕ} n [] ≡ []
 take-nil zero = refl
 take-nil (suc n) = refl
 
@@ -45,6 +45,24 @@ concat-split f xs i d lt = ap (λ l. concat (map f l)) (sym (take-append-drop (i
 regrouped : (a b c d : List ℕ) → (a ++ (b ++ c)) ++ d ≡ (a ++ b) ++ (c ++ d)
 regrouped a b c d = simp append_assoc
 
+-- a front of a part, after what stands before the part, is a front of the whole
+pub front_within : (a b c : Option (List ℕ)) (before part after all : List ℕ)
+    → Appends a b before → AppendsFront b c part → all ≡ (before ++ part) ++ after → AppendsFront a c all
+front_within a b c before part after all p q e = (
+  before ++ q.0,
+  q.1 ++ after,
+  e ∙ ap (λ l. (before ++ l) ++ after) q.2 ∙ regrouped before q.0 q.1 after,
+  Appends-trans a b c _ _ p q.3,
+)
+
+-- a front of the second part, after the whole first one, is a front of both
+pub front_second : (a b c : Option (List ℕ)) (xs ys : List ℕ) → Appends a b xs → AppendsFront b c ys → AppendsFront a c (xs ++ ys)
+front_second a b c xs ys p q = front_within a b c xs ys [] (xs ++ ys) p q (sym (append-nil (xs ++ ys)))
+
+-- a front of the first part is a front of both
+pub front_first : (a b : Option (List ℕ)) (xs ys : List ℕ) → AppendsFront a b xs → AppendsFront a b (xs ++ ys)
+front_first a b xs ys p = (p.0, p.1 ++ ys, ap (λ l. l ++ ys) p.2 ∙ append_assoc p.0 p.1 ys, p.3)
+
 -- one more part was put whole
 pub parts_onward : {X : Type 0} (a b c : Option (List ℕ)) (f : X → List ℕ) (xs : List X) (i : ℕ) (d : X) → i < length xs
     → Appends a b (concat (map f (take i xs))) → Appends b c (f (get_or xs i d)) → Appends a c (concat (map f (take (i + 1) xs)))
@@ -53,11 +71,7 @@ parts_onward a b c f xs i d lt p q = subst (Appends a c) (sym (concat-step f xs 
 -- a front of a part, after whole parts, is a front of all of them together
 pub parts_front : {X : Type 0} (a b c : Option (List ℕ)) (f : X → List ℕ) (xs : List X) (i : ℕ) (d : X) → i < length xs
     → Appends a b (concat (map f (take i xs))) → AppendsFront b c (f (get_or xs i d)) → AppendsFront a c (concat (map f xs))
-parts_front a b c f xs i d lt p q =
-    let before = concat (map f (take i xs)) in
-    let after = concat (map f (drop (i + 1) xs)) in (
-      before ++ q.0,
-      q.1 ++ after,
-      concat-split f xs i d lt ∙ ap (λ l. (before ++ l) ++ after) q.2 ∙ regrouped before q.0 q.1 after,
-      Appends-trans a b c _ _ p q.3,
-    )
+parts_front a b c f xs i d lt p q = front_within a b c _ _ _ _ p q (concat-split f xs i d lt)
+
+-- what joins writes that follow one another
+pub ruleset fronts = (Appends-trans, Appends-nil, front_second, front_first)

@@ -14,15 +14,20 @@ Rose before now = min (before + 1) (2 ^ 64 - 1) ≤ now
 abbrev pub HasCause : {T E : Type 0} → ℕ → ℕ → Result T E → Type 0
 HasCause before now r = MatchResult r (λ _. now ≡ before) (λ _. Rose before now × (before ≤ now))
 
--- a list that is told has gained x at its end
+-- a list that is told has gained x at its end; one that isn't told stays untold
 abbrev pub TellsMore : {X : Type 0} → Option (List X) → Option (List X) → X → Type 0
-TellsMore None new x = ⊤
+TellsMore None new x = new ≡ None
 TellsMore (Some xs) new x = new ≡ Some (xs ++ x ∷ [])
 
 -- a list that is told has fewer than n entries
 abbrev pub HasRoom : {X : Type 0} → Option (List X) → ℕ → Type 0
 HasRoom None n = ⊤
 HasRoom (Some xs) n = length xs < n
+
+-- a list that is told is empty
+abbrev pub IsEmptyIfTold : {X : Type 0} → Option (List X) → Type 0
+IsEmptyIfTold None = ⊤
+IsEmptyIfTold (Some xs) = xs ≡ []
 
 -- opening a file by its name: Ok makes the named bytes those that are left, and the name is one that is there;
 -- after a failure nothing is left. `named` is the bytes by name, where told

@@ -21,3 +21,6 @@ pub struct Failed;
 /// Memory ran out.
 #[derive(Clone, Copy, Debug, PartialEq, Eq)]
 pub struct NoMemory;
+
+#[cfg(test)]
+mod tests;

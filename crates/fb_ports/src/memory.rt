@@ -1,12 +1,11 @@
-ghost use Rattle.std.specs.Prelude.{◌≡◌, ℕ, ◌+◌, ◌-◌, ◌^◌, ◌<◌, ◌≤◌, min, ◌||◌, List, [], ◌∷◌, ◌++◌, length, take, drop, Option, None, Some, IsSome, IsNone, IfSome, IfOk, OnOk, OnErr, is_err, is_none, IsOk, nat_eq, nat_le, if◌then◌else◌, string_bytes};
+ghost use Rattle.std.specs.Prelude.{◌≡◌, ℕ, ◌-◌, ◌^◌, ◌<◌, ◌≤◌, min, ◌||◌, List, [], ◌∷◌, ◌++◌, length, map, take, drop, Option, None, Some, IsNone, IfSome, IfOk, OnOk, OnErr, is_err, is_none, IsOk, nat_eq, nat_le, if◌then◌else◌, string_bytes};
 ghost use Rattle.fb_ports.specs.Causes.{HasCause, HasRoom, TellsMore, Opens, ReadsAtMost, ReadConsumes, WritesAtMost, WriteAppends};
 ghost use Rattle.std.specs.Str.{bytes_eq};
 ghost use Rattle.fb_ports.specs.Memory.{bytes_at, bytes_named, no_files, empty_sink, is_to_fail, one_more};
 
+use crate::{Failed, Files, NoMemory, Sink};
 use std::alloc::Global;
 use std::marker::Model;
-
-use crate::{Failed, Files, NoMemory, Sink};
 
 /// A name and the bytes of the file that has it.
 #[derive(Drop)]
@@ -27,7 +26,7 @@ impl NamedFile {
     fn new(alloc: Global, name: &str, bytes: &[u8]) -> Result<NamedFile, NoMemory>
         ensures { IfOk result (λ f. f ≡ (name.now, bytes.now)) }
     {
-        let Ok(name) = String::from_str(alloc, name) else{
+        let Ok(name) = String::from_str(alloc, name) else {
             return Err(NoMemory);
         };
         let mut held = Vec::new(alloc);
@@ -53,7 +52,8 @@ impl NamedFile {
 /// The place of the first file of this name.
 #[tactic(auto, using(crate::proofs::Lookups::lookups))]
 fn place_of(files: &[NamedFile], name: &str) -> Option<usize>
-    ensures found { IfSome result (λ i. (i < length files.now) × (bytes_named files.now name.now ≡ Some (bytes_at files.now i))) }
+    ensures found { IfSome result (λ i. (i < length files.now)
+        × (bytes_named files.now name.now ≡ Some (bytes_at files.now i))) }
     ensures absent { IsNone result → bytes_named files.now name.now ≡ None }
 {
     for (i, file) in files.iter().enumerate() {
@@ -107,13 +107,14 @@ impl Model for MemFiles {
     ghost Value = { FilesInMemory };
 
     ghost view = { λ m. record {
-        files = m.files.items;
-        left = rest_of m.files.items m.current m.at;
-        asked = map string_bytes m.asked.items;
-        failing = m.failing.items;
-        calls = m.calls;
-        most = m.most;
-        faults = m.faults } };
+      files = m.files.items;
+      left = rest_of m.files.items m.current m.at;
+      asked = map string_bytes m.asked.items;
+      failing = m.failing.items;
+      calls = m.calls;
+      most = m.most;
+      faults = m.faults;
+    } };
 
     ghost invariant = { λ m.
         StandsIn m.files.items m.current m.at
@@ -164,6 +165,13 @@ impl MemFiles {
         self.failing = calls;
     }
 
+    /// The names asked for so far, oldest first.
+    pub fn asked(&self) -> &[String]
+        ensures { map string_bytes result.now ≡ self.now.asked }
+    {
+        self.asked.as_slice()
+    }
+
     /// Sets the greatest piece, in bytes, that a read gives.
     pub fn give_at_most(&mut self, most: usize)
         requires { 0 < most }
@@ -178,28 +186,30 @@ impl Files for MemFiles {
     ghost use Rattle.fb_ports.specs.Memory.{bytes_named};
 
     ghost named = { λ m. Some (bytes_named m.files) };
+
     ghost left = { λ m. Some m.left };
+
     ghost asked = { λ m. Some m.asked };
+
     ghost faults = { λ m. m.faults };
 
     fn open_file(&mut self, name: String) -> Result<(), Failed>
         requires { HasRoom (Some self.old.asked) 16 }
         ensures asks { TellsMore (Some self.old.asked) (Some self.new.asked) (string_bytes name) }
         ensures names { Some (bytes_named self.new.files) ≡ Some (bytes_named self.old.files) }
-        ensures opens {
-            Opens (Some (bytes_named self.old.files)) (Some self.new.left) (string_bytes name) result }
+        ensures opens { Opens (Some (bytes_named self.old.files)) (Some self.new.left)
+            (string_bytes name) result }
         ensures cause { HasCause self.old.faults self.new.faults result }
 
         // It fails exactly at a call that is to fail and at a name that no file has.
-        ensures fails {
-            is_err result ≡ (is_to_fail self.old.failing self.old.calls
-                || is_none (bytes_named self.old.files (string_bytes name))) }
-        ensures others {
-            self.new ≡ record self.old {
-                left = self.new.left;
-                asked = self.new.asked;
-                calls = one_more self.old.calls;
-                faults = self.new.faults } }
+        ensures fails { is_err result ≡ (is_to_fail self.old.failing self.old.calls
+            || is_none (bytes_named self.old.files (string_bytes name))) }
+        ensures others { self.new ≡ record self.old {
+          left = self.new.left;
+          asked = self.new.asked;
+          calls = one_more self.old.calls;
+          faults = self.new.faults;
+        } }
     {
         let planned = count_call(self.failing.as_slice(), &mut self.calls);
         let place = place_of(self.files.as_slice(), name.as_str());
@@ -224,13 +234,12 @@ impl Files for MemFiles {
 
         // It fails exactly at a call that is to fail.
         ensures fails { is_err result ≡ is_to_fail self.old.failing self.old.calls }
-        ensures piece {
-            IfOk result (λ n. n ≡ min self.old.most (min (length buf.old) (length self.old.left))) }
-        ensures others {
-            self.new ≡ record self.old {
-                left = self.new.left;
-                calls = one_more self.old.calls;
-                faults = self.new.faults } }
+        ensures piece { IfOk result (λ n. n ≡ min self.old.most (min (length buf.old) (length self.old.left))) }
+        ensures others { self.new ≡ record self.old {
+          left = self.new.left;
+          calls = one_more self.old.calls;
+          faults = self.new.faults;
+        } }
     {
         if count_call(self.failing.as_slice(), &mut self.calls) {
             self.faults = self.faults.saturating_add(1);
@@ -264,12 +273,13 @@ impl Model for MemSink {
     ghost Value = { SinkInMemory };
 
     ghost view = { λ s. record {
-        taken = s.taken.items;
-        room = s.room;
-        failing = s.failing.items;
-        calls = s.calls;
-        most = s.most;
-        faults = s.faults } };
+      taken = s.taken.items;
+      room = s.room;
+      failing = s.failing.items;
+      calls = s.calls;
+      most = s.most;
+      faults = s.faults;
+    } };
 
     ghost invariant = { λ s. (vec_len s.taken ≤ s.room) × (s.room ≤ vec_capacity s.taken) × (0 < s.most) };
 }
@@ -321,6 +331,7 @@ impl Sink for MemSink {
     ghost use Rattle.std.specs.Prelude.{Some};
 
     ghost taken = { λ s. Some s.taken };
+
     ghost faults = { λ s. s.faults };
 
     fn put(&mut self, piece: &[u8]) -> Result<usize, Failed>
@@ -331,17 +342,15 @@ impl Sink for MemSink {
         ensures cause { HasCause self.old.faults self.new.faults result }
 
         // A put of some bytes fails exactly where it is to fail and where the sink is full.
-        ensures fails {
-            0 < length piece.now → is_err result ≡ (is_to_fail self.old.failing self.old.calls
-                || nat_le self.old.room (length self.old.taken)) }
-        ensures piece {
-            IfOk result (λ n. n ≡ min self.old.most
-                (min (length piece.now) (self.old.room - length self.old.taken))) }
-        ensures others {
-            self.new ≡ record self.old {
-                taken = self.new.taken;
-                calls = if nat_eq (length piece.now) 0 then self.old.calls else one_more self.old.calls;
-                faults = self.new.faults } }
+        ensures fails { 0 < length piece.now → is_err result ≡ (is_to_fail self.old.failing self.old.calls
+            || nat_le self.old.room (length self.old.taken)) }
+        ensures piece { IfOk result (λ n. n ≡ min self.old.most
+            (min (length piece.now) (self.old.room - length self.old.taken))) }
+        ensures others { self.new ≡ record self.old {
+          taken = self.new.taken;
+          calls = if nat_eq (length piece.now) 0 then self.old.calls else one_more self.old.calls;
+          faults = self.new.faults;
+        } }
     {
         if piece.is_empty() {
             return Ok(0);

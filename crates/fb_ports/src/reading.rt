@@ -1,9 +1,8 @@
 ghost use Rattle.std.specs.Prelude.{◌≡◌, ◌≢◌, ℕ, ◌+◌, ◌^◌, ◌<◌, ◌≤◌, Option, List, length, vec_len, string_bytes, OnOk, IfOk, IfSome, IsErrOf};
 ghost use Rattle.fb_ports.specs.Causes.{HasCause, HasRoom, TellsMore, Opens, ReadsAtMost, ReadConsumes, ConsumesAtMost, IsAtEnd, Rose};
 
-use std::alloc::Global;
-
 use crate::Failed;
+use std::alloc::Global;
 
 /// Files that are opened by name and read one at a time.
 ///
@@ -71,25 +70,25 @@ fn read_at_most<F: Files>(files: &mut F, chunk: &mut [u8], most: usize) -> Resul
 /// asks for at most 65,536 bytes at a time. After an error a front part of the file may have been
 /// read.
 #[tactic(auto, using(crate::proofs::Streams::streams))]
-pub fn read_whole<F: Files>(alloc: Global, files: &mut F, limit: usize) -> Result<Vec<u8>, ReadError>
+pub fn read_whole<F: Files>(
+    alloc: Global,
+    files: &mut F,
+    limit: usize,
+) -> Result<Vec<u8>, ReadError>
     requires { limit < 2 ^ 32 }
     ensures bytes { IfOk result (λ v. IfSome (F.left files.old) (λ xs. v.items ≡ xs)) }
     ensures short { IfOk result (λ v. vec_len v ≤ limit) }
     ensures end { OnOk result (IsAtEnd (F.left files.new)) }
 
     // A file that is too long was read to the first byte past the limit.
-    ensures long {
-        IsErrOf result ReadError.TooLong → IfSome (F.left files.old) (λ xs. limit < length xs) }
+    ensures long { IsErrOf result ReadError.TooLong → IfSome (F.left files.old) (λ xs. limit < length xs) }
     ensures taken { ConsumesAtMost (F.left files.old) (F.left files.new) (limit + 1) }
 
     // The answer is a fault exactly where one came.
-    ensures fault {
-        IsErrOf result ReadError.ReadFault → Rose (F.faults files.old) (F.faults files.new) }
+    ensures fault { IsErrOf result ReadError.ReadFault → Rose (F.faults files.old) (F.faults files.new) }
     ensures later { F.faults files.old ≤ F.faults files.new }
-    ensures seen {
-        F.faults files.old < F.faults files.new → IsErrOf result ReadError.ReadFault }
-    ensures calm {
-        result ≢ Err ReadError.ReadFault → F.faults files.new ≡ F.faults files.old }
+    ensures seen { F.faults files.old < F.faults files.new → IsErrOf result ReadError.ReadFault }
+    ensures calm { result ≢ Err ReadError.ReadFault → F.faults files.new ≡ F.faults files.old }
 
     ensures names { F.named files.new ≡ F.named files.old }
     ensures asks { F.asked files.new ≡ F.asked files.old }

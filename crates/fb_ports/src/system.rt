@@ -1,11 +1,9 @@
 ghost use Rattle.std.specs.Prelude.{◌≡◌, ℕ};
 
-use std::fs;
+use crate::{Failed, Files, Sink};
 use std::io::{Read, Write};
 use std::marker::Model;
-use std::rt;
-
-use crate::{Failed, Files, Sink};
+use std::{fs, rt};
 
 /// What is open: nothing, a file, or standard input.
 #[derive(Drop)]
@@ -49,8 +47,11 @@ impl<R: rt::Files + Input> Files for OsFiles<'_, R> {
     ghost use Rattle.std.specs.Prelude.{None};
 
     ghost named = { λ _. None };
+
     ghost left = { λ _. None };
+
     ghost asked = { λ _. None };
+
     ghost faults = { λ n. n };
 
     fn open_file(&mut self, name: String) -> Result<(), Failed> {
@@ -111,6 +112,7 @@ impl<W: Write + Drop> Sink for OsSink<W> {
     ghost use Rattle.std.specs.Prelude.{None};
 
     ghost taken = { λ _. None };
+
     ghost faults = { λ n. n };
 
     fn put(&mut self, piece: &[u8]) -> Result<usize, Failed> {

@@ -1,7 +1,7 @@
 -- The dual state of the blossom algorithm on a decoding graph (Edmonds 1965; Wu and Zhong 2023): nested families of
 -- vertex sets with values. A node is a defect, or an odd number of nodes joined; it has layers, each with a vertex
 -- more than the one below it.
-use Rattle.std.specs.Prelude.{ℕ, ◌≡◌, ◌≢◌, ◌+◌, ◌-◌, ◌<◌, ◌≤◌, ◌^◌, ◌==◌, ◌&&◌, ◌⊎◌, Bool, true, false, not, cond, List, [], ◌∷◌, ◌++◌, map, length, All, AllPairs, sum_by, flat_map, find, option_map, Option, is_some, if◌then◌else◌}
+use Rattle.std.specs.Prelude.{ℕ, ◌≡◌, ◌+◌, ◌%◌, ◌<◌, ◌≤◌, ◌^◌, ◌==◌, ◌&&◌, ◌⊎◌, Bool, true, false, not, cond, List, [], ◌∷◌, ◌++◌, map, length, All, AllPairs, sum_by, flat_map, find, option_map, Option, Some, None, IsSome, if◌then◌else◌}
 use Rattle.std.specs.List.{list_any}
 use Rattle.fb_graph.specs.Parity.{is_in}
 use Rattle.fb_graph.specs.Problem.{Problem, edge_at, crosses, with_defects}
@@ -102,6 +102,24 @@ AreGrown (c ∷ cs) = IsGrownBy c cs × AreGrown cs
 abbrev pub IsHeld : Problem → Cut → Type 0
 IsHeld p c = (c.value ≡ 0) ⊎ ((k : ℕ) × (k < length p.edges) × (crosses c.vertices (edge_at p.edges k) ≡ true))
 
+-- one outer node holds both vertices
+abbrev pub AreUnderOne : List Node → ℕ → ℕ → Type 0
+AreUnderOne nodes u v = (name : ℕ) × (cover_of nodes u ≡ Some name) × (cover_of nodes v ≡ Some name)
+
+-- the sets of outer nodes share no vertex
+abbrev pub AreOuterApart : List Node → Type 0
+AreOuterApart nodes =
+    AllPairs (λ m n. is_outer nodes m.name ≡ true → is_outer nodes n.name ≡ true → AreApart m.top.vertices n.top.vertices) nodes
+
+-- each layer of the node holds its defect, so that the values of its layers add up to the defect's potential in it
+abbrev pub HasRadius : Node → Type 0
+HasRadius n = (d : ℕ) → is_in (defects_of n) d ≡ true → height_of (layers_of n) d ≡ total_value (layers_of n)
+
+-- some defect under the same outer node has a potential of the same parity
+abbrev pub HasSourceParity : List Node → ℕ → ℕ → Type 0
+HasSourceParity nodes name v =
+    (d : ℕ) × (is_in (leaves nodes) d ≡ true) × (cover_of nodes d ≡ Some name) × (height_of (all_cuts nodes) d % 2 ≡ height_of (all_cuts nodes) v % 2)
+
 -- what every dual state keeps: its cuts are a feasible list of odd cuts (for its own defects), any two of them nested
 -- or apart; each loads an edge, so that together they are at most the sum of the weights
 pub record IsDual (p : Problem) (nodes : List Node) : Type 0 where
@@ -111,3 +129,14 @@ pub record IsDual (p : Problem) (nodes : List Node) : Type 0 where
   pub grown : All (λ n. AreGrown (layers_of n)) nodes
   pub held : All (IsHeld p) (all_cuts nodes)
   pub total : total_value (all_cuts nodes) ≤ 2 ^ 52
+  pub apart : AreOuterApart nodes
+  pub radii : All HasRadius nodes
+  -- every defect is covered, and every covered vertex is real
+  pub defects : (d : ℕ) → is_in (leaves nodes) d ≡ true → IsSome (cover_of nodes d)
+  pub real : (v : ℕ) → IsSome (cover_of nodes v) → p.is_real v ≡ true
+  -- no set holds an uncovered vertex
+  pub uncovered : (v : ℕ) → cover_of nodes v ≡ None → height_of (all_cuts nodes) v ≡ 0
+  -- no set holds both ends of an edge, or of any pair, that aren't under one outer node
+  pub loads : (e : Edge) → ¬ AreUnderOne nodes e.first e.second
+      → load_of (all_cuts nodes) e ≡ height_of (all_cuts nodes) e.first + height_of (all_cuts nodes) e.second
+  pub parity : (v name : ℕ) → cover_of nodes v ≡ Some name → HasSourceParity nodes name v

@@ -1,1 +1,10 @@
+//! The top call of `fusion`: from words and files to a report.
+
 #![tactic(auto)]
+
+mod ending;
+mod input;
+mod shots;
+mod words;
+
+pub use ending::{Cause, Ended, Refusal, UsageKind};

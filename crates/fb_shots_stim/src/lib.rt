@@ -1,1 +1,16 @@
+//! Readers of detector shots in Stim's result formats `01`, `b8` and `dets`, from bytes that come in any pieces.
 #![tactic(auto)]
+
+mod answer;
+mod dense;
+mod laws;
+mod packed;
+mod pending;
+
+pub use answer::{Detectors, Kind, Next, NoMemory};
+pub use dense::Records01;
+pub use laws::{goes_on_01, goes_on_b8};
+pub use packed::RecordsB8;
+
+#[cfg(test)]
+mod tests;

@@ -1,0 +1,33 @@
+-- From what a solver found to the row that a report prints.
+use Rattle.std.specs.Prelude.{ℕ, ◌≡◌, ◌≢◌, ◌≤◌, Bool, List, filter, nat_lt, sum_by}
+use Rattle.std.specs.List.{AllZip}
+use Rattle.std.specs.List.Sorted.{IsPermutation, IsNonDecreasing, IsStrictlyIncreasing}
+use Rattle.fb_graph.specs.Parity.{is_odd_count, is_in}
+use Rattle.fb_graph.specs.declared.parts.Cut.{Cut}
+
+-- The second list has, rising, the numbers that occur an odd number of times in the first. Pairs of equal
+-- numbers have gone, so each parity stays.
+pub record CancelsTo (numbers odd_ones : List ℕ) : Type 0 where
+  pub rising : IsStrictlyIncreasing odd_ones
+  pub parity : (test : ℕ → Bool) → is_odd_count test odd_ones ≡ is_odd_count test numbers
+  pub weight : (f : ℕ → ℕ) → sum_by f odd_ones ≤ sum_by f numbers
+
+-- some vertex lies in exactly one of the two cuts
+abbrev pub DifferAsSets : Cut → Cut → Type 0
+DifferAsSets c d = (v : ℕ) × (is_in c.vertices v ≢ is_in d.vertices v)
+
+-- the same cut with its vertices sorted
+pub record IsResorted (old new : Cut) : Type 0 where
+  pub value : new.value ≡ old.value
+  pub moved : IsPermutation old.vertices new.vertices
+  pub sorted : IsNonDecreasing new.vertices
+
+-- the cut has a value of at least 1
+abbrev pub is_positive : Cut → Bool
+is_positive c = nat_lt 0 c.value
+
+-- the second list has the cuts of positive value of the first, each with its vertices sorted, in any order
+pub record HasPositiveCuts (cuts printed : List Cut) : Type 0 where
+  pub resorted : List Cut
+  pub each : AllZip IsResorted (filter is_positive cuts) resorted
+  pub moved : IsPermutation resorted printed

@@ -1,0 +1,69 @@
+//! The numbers of a graph, as its text has them.
+
+ghost use Rattle.std.specs.Prelude.{◌≡◌, ◌≢◌, IfOk, IfErr};
+ghost use Rattle.serde_json.specs.View.{view};
+ghost use Rattle.fb_graph_in.specs.GraphText.{numbers_of, numbers_of_text};
+
+use crate::entries::{edges, virtuals};
+use crate::faults::{Member, Place, TextFault};
+use serde_json::Value;
+use std::alloc::Global;
+
+const MOST_BYTES: usize = 1 << 28;
+
+/// The numbers of a graph, before its rules are judged.
+#[derive(Drop)]
+pub struct Numbers {
+    pub vertex_num: u64,
+    pub edges: Vec<(u64, u64, i128)>,
+    pub virtuals: Vec<u64>,
+}
+
+/// The numbers that a value has, or the first rule that it breaks.
+fn numbers_in(alloc: Global, value: &Value) -> Result<Numbers, TextFault>
+    ensures ok { IfOk result (λ n. numbers_of (view value.now) ≡ Ok (n.vertex_num, n.edges.items, n.virtuals.items)) }
+    ensures err { IfErr result (λ e. e ≢ TextFault.NoMemory → numbers_of (view value.now) ≡ Err e) }
+{
+    let Some(vertex_num) = value.get("vertex_num") else {
+        return Err(TextFault::Missing(Member::VertexNum));
+    };
+    let Some(weighted_edges) = value.get("weighted_edges") else {
+        return Err(TextFault::Missing(Member::WeightedEdges));
+    };
+    let Some(virtual_vertices) = value.get("virtual_vertices") else {
+        return Err(TextFault::Missing(Member::VirtualVertices));
+    };
+    let Some(vertex_num) = vertex_num.as_u64() else {
+        return Err(TextFault::NotWhole(Place::VertexNum));
+    };
+    let Some(weighted_edges) = weighted_edges.as_array() else {
+        return Err(TextFault::NotWhole(Place::WeightedEdges));
+    };
+    let Some(virtual_vertices) = virtual_vertices.as_array() else {
+        return Err(TextFault::NotWhole(Place::VirtualVertices));
+    };
+    let edges = edges(alloc, weighted_edges)?;
+    let virtuals = virtuals(alloc, virtual_vertices)?;
+    Ok(Numbers {
+        vertex_num,
+        edges,
+        virtuals,
+    })
+}
+
+/// The numbers that a text has, or the first rule that it breaks. The JSON value, several times as large as they, is
+/// gone when they are given.
+#[tactic(auto, using(crate::proofs::Readings::readings))]
+pub fn read_numbers(alloc: Global, bytes: &[u8]) -> Result<Numbers, TextFault>
+    ensures ok { IfOk result (λ n. numbers_of_text bytes.now ≡ Ok (n.vertex_num, n.edges.items, n.virtuals.items)) }
+    ensures err { IfErr result (λ e. e ≢ TextFault.NoMemory → numbers_of_text bytes.now ≡ Err e) }
+{
+    if bytes.len() > MOST_BYTES {
+        return Err(TextFault::TooLong);
+    }
+    match Value::from_slice(alloc, bytes) {
+        Ok(value) => numbers_in(alloc, &value),
+        Err(error) if error.is_memory() => Err(TextFault::NoMemory),
+        Err(_) => Err(TextFault::NotJson),
+    }
+}

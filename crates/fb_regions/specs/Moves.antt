@@ -1,0 +1,57 @@
+-- What the calls on a dual state ask for and give.
+use Rattle.std.specs.Prelude.{ℕ, ◌≡◌, ◌+◌, ◌<◌, ◌≤◌, ◌||◌, Bool, true, List, [], ◌∷◌, length, All, Option, is_some, unwrap_or, if◌then◌else◌, ◌==◌}
+use Rattle.fb_graph.specs.Parity.{is_in}
+use Rattle.fb_graph.specs.Problem.{Problem, edge_at, crosses}
+use Rattle.fb_graph.specs.Certificate.{load_of}
+use Rattle.fb_graph.specs.declared.parts.Edge.{Edge}
+use Rattle.fb_graph.specs.declared.parts.Cut.{Cut}
+use Rattle.fb_regions.specs.declared.walk.Step.{Step}
+use Rattle.fb_regions.specs.Dual.{Node, layers_of, all_cuts, leaves, cover_of, height_of, taller, change_at}
+use Rattle.fb_regions.specs.Walks.{IsWalk, walk_weight}
+
+-- the layers of the node of this name, from the first to the top; none where no node has the name
+abbrev pub layers_at : List Node → ℕ → List Cut
+layers_at [] name = []
+layers_at (n ∷ ns) name = if n.name == name then layers_of n else layers_at ns name
+
+-- the set of the top layer of the node of this name
+abbrev pub top_at : List Node → ℕ → List ℕ
+top_at [] name = []
+top_at (n ∷ ns) name = if n.name == name then n.top.vertices else top_at ns name
+
+-- some edge has exactly one end in the set
+abbrev pub IsCrossed : Problem → List ℕ → Type 0
+IsCrossed p set = (k : ℕ) × (k < length p.edges) × (crosses set (edge_at p.edges k) ≡ true)
+
+-- each edge that crosses the set can bear a load of k more
+abbrev pub AllowsGrowth : Problem → List Node → List ℕ → ℕ → Type 0
+AllowsGrowth p nodes set k = All (λ e. crosses set e ≡ true → load_of (all_cuts nodes) e + k ≤ e.weight) p.edges
+
+-- the end of the edge that a node holds: the first one where both are held
+abbrev pub inner_end : List Node → Edge → ℕ
+inner_end nodes e = if is_some (cover_of nodes e.first) then e.first else e.second
+
+-- the other end
+abbrev pub outer_end : List Node → Edge → ℕ
+outer_end nodes e = if is_some (cover_of nodes e.first) then e.second else e.first
+
+-- the node that holds the inner end of the edge takes up the outer end, in a further layer of value 0
+abbrev pub absorbed : List Node → Edge → List Node
+absorbed nodes e = change_at (unwrap_or (cover_of nodes (inner_end nodes e)) 0) (taller (outer_end nodes e)) nodes
+
+-- an end of the edge is real
+abbrev pub has_real_end : Problem → Edge → Bool
+has_real_end p e = p.is_real e.first || p.is_real e.second
+
+-- a walk from a defect to the vertex, in the same nodes as it, as long as the values of the sets that hold the defect
+-- are more than those that hold the vertex
+pub record IsWalkFrom (p : Problem) (nodes : List Node) (walk : List Step) (d v : ℕ) : Type 0 where
+  pub defect : is_in (leaves nodes) d ≡ true
+  pub together : All (λ n. is_in n.top.vertices d ≡ is_in n.top.vertices v) nodes
+  pub leads : IsWalk p walk d v
+  pub weighs : walk_weight walk + height_of (all_cuts nodes) v ≡ height_of (all_cuts nodes) d
+  pub real : All (λ s. has_real_end p (edge_at p.edges s.edge) ≡ true) walk
+
+-- the walk leads to the vertex from its source, some defect
+abbrev pub IsSourceWalk : Problem → List Node → ℕ → List Step → Type 0
+IsSourceWalk p nodes v walk = (d : ℕ) × IsWalkFrom p nodes walk d v

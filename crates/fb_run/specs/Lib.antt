@@ -1,0 +1,4 @@
+pub mod Words
+pub mod Causes
+pub mod Seen
+pub mod Judging

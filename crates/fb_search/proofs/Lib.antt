@@ -1,0 +1,3 @@
+pub mod LoneBest
+pub mod LoneClosed
+pub mod LoneSteps

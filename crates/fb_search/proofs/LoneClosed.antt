@@ -1,0 +1,62 @@
+-- A region that no edge leaves is an odd component without boundary.
+use Rattle.std.proofs.Common.{◌≡◌, ℕ, ◌+◌, ◌<◌, ◌≤◌, ◌||◌, Bool, true, false, List, [], ◌∷◌, ◌++◌, length, get_or, All, Some, eqb, refl, sym, ap, subst, ◌∙◌, arith, length-append, lit<}
+use Rattle.std.proofs.lemmas.Bool.{eqb-true}
+use Rattle.std.proofs.lemmas.List.Elements.{All-tail}
+use Rattle.fb_graph.specs.Parity.{is_in, is_odd_count}
+use Rattle.fb_graph.specs.Problem.{Problem, crosses, with_defects}
+use Rattle.fb_graph.specs.Certificate.{AreDistinct, IsOddCut, IsPacking}
+use Rattle.fb_graph.specs.Components.{IsJoined, IsFirstOdd}
+use Rattle.fb_graph.specs.Limits.{IsWithinLimits}
+use Rattle.fb_graph.specs.Laws.{IsClosedRound}
+use Rattle.fb_graph.specs.declared.parts.Cut.{Cut}
+use Rattle.fb_graph.proofs.OddComponents.{some_is_first_odd}
+use Rattle.fb_graph.proofs.Sets.{All-from_is_in, is_in-All, member_of_odd}
+use Rattle.fb_regions.specs.Dual.{Node, IsDual, all_cuts, leaves}
+use Rattle.fb_search.specs.Lone.{lone, IsLone}
+use Rattle.fb_search.proofs.LoneSteps.{cuts_lone, or_nothing}
+
+-- the last of some cuts
+last_of : (P : Cut → Type 0) (cuts : List Cut) (c : Cut) → All P (cuts ++ c ∷ []) → P c
+last_of P [] c all = all 0 c (lit< tt)
+last_of P (b ∷ cuts) c all = last_of P cuts c (All-tail P b (cuts ++ c ∷ []) all)
+
+module _ (p : Problem) (nodes : List Node) (name defect : ℕ) (members : List ℕ)
+    (is_lone : IsLone p nodes name defect members) (dual : IsDual p nodes) where
+  top_is_odd : IsOddCut (with_defects p (defect ∷ [])) is_lone.top
+  top_is_odd = last_of (IsOddCut (with_defects p (defect ∷ []))) is_lone.below is_lone.top
+      (subst (All (IsOddCut (with_defects p (defect ∷ [])))) (cuts_lone p nodes name defect members is_lone)
+        (subst (λ ds. All (IsOddCut (with_defects p ds)) (all_cuts nodes)) is_lone.leaf dual.packing.odd))
+
+  pub members_distinct : AreDistinct members
+  members_distinct = subst AreDistinct is_lone.holds top_is_odd.distinct
+
+  pub members_real : All (λ v. p.is_real v ≡ true) members
+  members_real = subst (All (λ v. p.is_real v ≡ true)) is_lone.holds top_is_odd.real
+
+  members_odd : is_odd_count (is_in (defect ∷ [])) members ≡ true
+  members_odd = subst (λ vs. is_odd_count (is_in (defect ∷ [])) vs ≡ true) is_lone.holds top_is_odd.odd
+
+  one_defect : (u : ℕ) → is_in (defect ∷ []) u ≡ true → defect ≡ u
+  one_defect u h = eqb-true defect u (sym (or_nothing (eqb defect u)) ∙ h)
+
+  pub holds_defect : is_in members defect ≡ true
+  holds_defect = let (u, within, is_defect) = member_of_odd (is_in (defect ∷ [])) members members_odd in
+      ap (is_in members) (one_defect u is_defect) ∙ within
+
+  pub members_below : IsWithinLimits p → All (λ v. v < p.vertices) members
+  members_below limits = All-from_is_in (λ v. v < p.vertices) members
+      (λ v held. limits.real_below v (is_in-All (λ u. p.is_real u ≡ true) members members_real v held))
+
+  pub closed_is_odd : IsWithinLimits p → All (λ e. crosses members e ≡ false) p.edges
+      → (v : ℕ) × IsFirstOdd (with_defects p (defect ∷ [])) (Some v)
+  closed_is_odd limits uncrossed = some_is_first_odd (with_defects p (defect ∷ [])) defect members
+      (record {
+        closed = record { distinct = members_distinct; real = members_real; uncrossed = uncrossed };
+        below = members_below limits;
+        holds = holds_defect;
+        joined = joined
+      })
+      members_odd (λ u is_defect real. ap (is_in members) (sym (one_defect u is_defect)) ∙ holds_defect)
+    where
+    joined : (u : ℕ) → is_in members u ≡ true → IsJoined (with_defects p (defect ∷ [])) defect u
+    joined u held = is_lone.joined u held

@@ -1,0 +1,171 @@
+//! The format `01`: a line for each shot, a byte `0` or `1` for each detector.
+
+ghost use Rattle.std.specs.Prelude.{◌≡◌, ℕ, ◌+◌, ◌^◌, ◌<◌, ◌≤◌, ◌++◌, [], Bool, true, false, length, take, slice_index, IfOk, OnOk, OnErr};
+ghost use Rattle.std.specs.List.{list_all};
+ghost use Rattle.fb_shots_stim.specs.Records.{places_from};
+ghost use Rattle.fb_shots_stim.specs.Lines.{after_line};
+ghost use Rattle.fb_shots_stim.specs.Answers.{answer_of, Answers};
+ghost use Rattle.fb_shots_stim.specs.Text01.{is_bit, is_one, records_01, front_01, reading_01};
+ghost use Rattle.fb_shots_stim.specs.Step01.{step_01, line_end_01};
+
+use crate::answer::{Detectors, Kind, Next, NoMemory};
+use crate::pending::Pending;
+use std::alloc::Global;
+use std::marker::Model;
+
+/// A reader of shots in the format `01`. Contracts see the bytes fed that no answer has used, and whether they are all.
+#[derive(Drop)]
+pub struct Records01 {
+    alloc: Global,
+    detectors: u32,
+    pending: Pending,
+    /// How far the bytes of the record begun are known to be bits.
+    scanned: usize,
+    finished: bool,
+}
+
+impl Model for Records01 {
+    ghost use Rattle.std.specs.Prelude.{◌≡◌, ◌≤◌, true, length, take};
+    ghost use Rattle.std.specs.List.{list_all};
+    ghost use Rattle.fb_shots_stim.specs.Records.{Reader};
+    ghost use Rattle.fb_shots_stim.specs.Text01.{is_bit};
+
+    ghost Value = { Reader };
+
+    ghost view = { λ r. record { detectors = r.detectors; rest = r.pending; finished = r.finished } };
+
+    ghost invariant = { λ r. (r.scanned ≤ length r.pending) × (r.scanned ≤ r.detectors) × (list_all is_bit (take r.scanned r.pending) ≡ true) };
+}
+
+impl Records01 {
+    /// A reader of shots of so many detectors, with no bytes yet.
+    pub fn new(alloc: Global, detectors: u32) -> Self
+        ensures { result ≡ record { detectors = detectors; rest = []; finished = false } }
+    {
+        Records01 {
+            alloc,
+            detectors,
+            pending: Pending::new(alloc),
+            scanned: 0,
+            finished: false,
+        }
+    }
+
+    /// Takes the next piece of the input.
+    pub fn feed(&mut self, piece: &[u8]) -> Result<(), NoMemory>
+        requires { self.old.finished ≡ false }
+        ensures ok { OnOk result (self.new ≡ record self.old { rest = self.old.rest ++ piece.now }) }
+        ensures err { OnErr result (self.new ≡ self.old) }
+    {
+        self.pending.put(piece)
+    }
+
+    /// Says that the input is whole.
+    pub fn finish(&mut self)
+        ensures { self.new ≡ record self.old { finished = true } }
+    {
+        self.finished = true;
+    }
+
+    /// Answers by the first record of the bytes that no answer has used, and uses up the line of a shot.
+    pub fn next(&mut self) -> Result<Next, NoMemory>
+        ensures answer { IfOk result (λ a. a ≡ answer_of (reading_01 self.old)) }
+        ensures meaning { IfOk result (Answers records_01 front_01 after_line self.old self.new) }
+        ensures err { OnErr result (self.new ≡ self.old) }
+    {
+        let rest = self.pending.as_slice();
+        let good = leading_bits(rest, self.scanned, self.detectors as usize);
+        match step_at(self.detectors, self.finished, good, &rest[good..]) {
+            Step::Line(used) => {
+                let shot = ones(self.alloc, &rest[..good])?;
+                self.pending.take_off(used);
+                self.scanned = 0;
+                Ok(Next::Shot(shot))
+            }
+            Step::NotYet => {
+                self.scanned = good;
+                Ok(Next::NotYet)
+            }
+            Step::End => Ok(Next::End),
+            Step::Refused(kind) => {
+                self.scanned = good;
+                Ok(Next::Refused(kind))
+            }
+        }
+    }
+}
+
+/// What follows the bits that a line begins with.
+enum Step {
+    /// The line's end: so many bytes are the line with its end.
+    Line(usize),
+    NotYet,
+    End,
+    Refused(Kind),
+}
+
+/// How many bits the bytes begin with, at most `limit`. The first `known` bytes are known to be bits.
+fn leading_bits(bytes: &[u8], known: usize, limit: usize) -> usize
+    requires within { known ≤ length bytes.now }
+    requires most { known ≤ limit }
+    requires bits { list_all is_bit (take known bytes.now) ≡ true }
+    ensures within { result ≤ length bytes.now }
+    ensures most { result ≤ limit }
+    ensures bits { list_all is_bit (take result bytes.now) ≡ true }
+    ensures stops { result < limit → result < length bytes.now → is_bit (slice_index bytes.now result) ≡ false }
+{
+    let mut i = known;
+    while i < limit && i < bytes.len() && (bytes[i] == b'0' || bytes[i] == b'1') {
+        i += 1;
+    }
+    i
+}
+
+/// What a line comes to that begins by `good` bits, of the `detectors` that it is to have, and goes on by `tail`.
+fn step_at(detectors: u32, finished: bool, good: usize, tail: &[u8]) -> Step
+    requires { good ≤ detectors }
+    ensures { result ≡ step_01 detectors finished good tail.now }
+{
+    match tail {
+        [] if !finished => Step::NotYet,
+        [] if good == 0 => Step::End,
+        [] => line_end(detectors, good, 0),
+        [b'\n', ..] => line_end(detectors, good, 1),
+        [b'\r'] if !finished => Step::NotYet,
+        [b'\r'] => line_end(detectors, good, 1),
+        [b'\r', b'\n', ..] => line_end(detectors, good, 2),
+        _ => {
+            if good == detectors as usize {
+                Step::Refused(Kind::LongRecord)
+            } else {
+                Step::Refused(Kind::BadByte)
+            }
+        }
+    }
+}
+
+fn line_end(detectors: u32, good: usize, ending: usize) -> Step
+    requires bits { good ≤ detectors }
+    requires ending { ending ≤ 2 }
+    ensures { result ≡ line_end_01 detectors good ending }
+{
+    if good == detectors as usize {
+        Step::Line(good + ending)
+    } else {
+        Step::Refused(Kind::ShortRecord)
+    }
+}
+
+/// The places of `1` among bits.
+fn ones(alloc: Global, bits: &[u8]) -> Result<Detectors, NoMemory>
+    requires { length bits.now < 2 ^ 32 }
+    ensures { IfOk result (λ shot. shot ≡ places_from is_one 0 bits.now) }
+{
+    let mut places = Vec::new(alloc);
+    for (i, bit) in bits.iter().enumerate() {
+        if *bit == b'1' && places.push(i as u32).is_err() {
+            return Err(NoMemory);
+        }
+    }
+    Ok(Detectors::from_vec(places))
+}
