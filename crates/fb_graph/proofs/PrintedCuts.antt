@@ -1,12 +1,12 @@
 -- Cuts in the form in which a report prints them.
-use Rattle.std.proofs.Common.{ℕ, ◌+◌, ◌<◌, ◌≤◌, ◌≡◌, ◌≢◌, ◌==◌, Bool, true, false, cond, List, [], ◌∷◌, length, get_or, All, AllPairs, filter, nat_lt, nat_eq, sum_by, zero, suc, refl, sym, ap, ◌∙◌, subst, le_trans, le_of_eq, arith}
+use Rattle.std.proofs.Common.{ℕ, ◌+◌, ◌<◌, ◌≡◌, ◌==◌, Bool, true, false, cond, List, [], ◌∷◌, length, get_or, All, AllPairs, filter, nat_eq, sum_by, suc, refl, sym, ap, ◌∙◌, subst, le_trans, le_of_eq, arith}
 use Rattle.std.specs.Cmp.Lexicographic.{slice_cmp}
-use Rattle.std.specs.List.{AllZip, IsDistinct, AllByRecursion}
-use Rattle.std.specs.List.Sorted.{IsPermutation, IsSortedBy, IsStrictlyIncreasing}
+use Rattle.std.specs.List.{AllZip, IsDistinct}
+use Rattle.std.specs.List.Sorted.{IsSortedBy, IsStrictlyIncreasing}
 use Rattle.std.specs.Ordering.{nat_cmp, is_lt, is_eq, ordering_reverse}
 use Rattle.std.specs.declared.cmp.Ordering.{Ordering}
 use Rattle.std.specs.declared.cmp.Ordering.TheVariants.{Less, Equal, Greater}
-use Rattle.std.proofs.lemmas.Bool.{true≢false, false≢true, both_ways, cases_Bool, false_from_ne_true, eqb-true, ltb-true, ltb-false}
+use Rattle.std.proofs.lemmas.Bool.{true≢false, both_ways, false_from_ne_true, eqb-true, ltb-true, ltb-false}
 use Rattle.std.proofs.lemmas.Cmp.{nat_list_cmp_total, nat_eq_equiv, eq_by_cmp_equiv}
 use Rattle.std.proofs.lemmas.List.Elements.{All-cons, All-filter, All-head, All-nil, All-tail, AllZip-get_or, filter_passes, length_all_zip, recursion_from_All}
 use Rattle.std.proofs.lemmas.List.Kept.{AllPairs-filter}
@@ -15,7 +15,7 @@ use Rattle.std.proofs.lemmas.List.Sums.{sum_by-cons}
 use Rattle.std.proofs.lemmas.Map.Keys.{IsDistinct-IsPermutation, IsStrictlyIncreasing-from_distinct}
 use Rattle.std.proofs.lemmas.Map.Text.{is_eq-slice_cmp}
 use Rattle.std.proofs.lemmas.Slice.Eq.{bytes_eq-Decides}
-use Rattle.fb_graph.specs.Parity.{differ, is_odd_count, is_in}
+use Rattle.fb_graph.specs.Parity.{differ, is_in}
 use Rattle.fb_graph.specs.Problem.{Problem, crosses}
 use Rattle.fb_graph.specs.Certificate.{AreDistinct, IsOddCut, IsPrintedCut, AreRising, Fits, load_of, total_value}
 use Rattle.fb_graph.specs.Printed.{DifferAsSets, IsResorted, is_positive, HasPositiveCuts}
@@ -180,7 +180,7 @@ resorted-distinct (c ∷ cs) (d ∷ ds) each apart = (
   resorted-distinct cs ds each.1 (λ i j x before less. apart (suc i) (suc j) x (omega arith) (omega arith)),
 )
 
--- neither below nor the same: above
+-- the later one isn't below the earlier one, nor the same: the earlier one is below it
 less_from_not_below : (o r : Ordering) → r ≡ ordering_reverse o → is_lt r ≡ false → is_eq o ≡ false → o ≡ Less
 less_from_not_below Less r e below same = refl
 less_from_not_below Equal r e below same = absurd (true≢false same)

@@ -50,7 +50,7 @@ fn cancel_pairs(numbers: &mut [u32]) -> usize
 }
 
 /// The cuts of value at least 1 as a report prints them: the vertices of each rise, and so do the cuts, compared
-/// entry by entry, a proper prefix first. Takes no memory.
+/// entry by entry, a proper prefix first. Any two of the cuts have to differ as sets. Takes no memory.
 pub fn printed_cuts(mut cuts: Vec<Cut>) -> CutList
     requires { AllPairs DifferAsSets cuts.items }
     ensures kept { HasPositiveCuts cuts.items result }

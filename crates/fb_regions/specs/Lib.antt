@@ -1,3 +1,6 @@
-pub mod Walks
+pub mod Codes
 pub mod Dual
+pub mod Kept
+pub mod Line
 pub mod Moves
+pub mod Walks

@@ -1,9 +1,19 @@
-//! The dual state: regions that grow round defects.
+//! The dual state of the blossom algorithm: regions that grow round defects (Edmonds 1965; Wu and Zhong 2023).
 
 #![tactic(auto)]
 
+pub mod marks;
+pub mod region;
+pub mod regions;
+pub mod roles;
 pub mod walk;
 
+#[cfg(test)]
+mod tests;
+
+pub use fb_graph::Cut as Layer;
+pub use regions::Regions;
+pub use roles::{Role, Roles};
 pub use walk::{Step, Walk};
 
 /// The name of a node, chosen by the caller.

@@ -1,7 +1,7 @@
-ghost use Rattle.std.specs.Prelude.{◌≡◌, ◌≤◌, ◌^◌, ◌<◌, length, All, IfOk, vec_len, Err};
+ghost use Rattle.std.specs.Prelude.{◌≡◌, ◌≤◌, ◌^◌, ◌<◌, length, IfOk, vec_len, Err};
 ghost use Rattle.fb_shots_stim.specs.Records.{at_end, refused};
 ghost use Rattle.fb_shots_stim.specs.Text01.{records_01};
-ghost use Rattle.fb_run.specs.Judging.{IsInRange, IsRefusedShots};
+ghost use Rattle.fb_run.specs.Judging.{IsRefusedShots};
 
 use fb_shots_stim::{Detectors, Next, Records01};
 use std::alloc::Global;
@@ -14,10 +14,8 @@ pub enum ShotsFault {
 }
 
 /// The shots of a whole text in the format `01`.
-#[tactic(auto, using(crate::proofs::ShotRanges::records_in_range))]
 pub fn read_shots(alloc: Global, detectors: u32, text: &[u8]) -> Result<Vec<Detectors>, ShotsFault>
     ensures ok { IfOk result (λ v. records_01 detectors text.now ≡ record { shots = v.items; ending = at_end }) }
-    ensures range { IfOk result (λ v. All (IsInRange detectors) v.items) }
     ensures few { IfOk result (λ v. vec_len v ≤ length text.now) }
     ensures refused { result ≡ Err ShotsFault.Refused → IsRefusedShots detectors text.now }
 {

@@ -3,7 +3,7 @@ use Rattle.std.proofs.lemmas.List.{take_at}
 use Rattle.std.proofs.lemmas.Cmp.{nat_list_cmp_total}
 use Rattle.std.proofs.lemmas.Fn.{filter_same}
 use Rattle.std.proofs.lemmas.List.Sorted.{answers_always, ranks_by}
-use Rattle.fb_graph.specs.Printed.{HasPositiveCuts, is_positive}
+use Rattle.fb_graph.specs.Printed.{is_positive}
 use Rattle.fb_graph.proofs.PrintedCuts.{is_cut_below, printed-All, printed-load, printed-rising, printed-total}
 use Rattle.fb_graph.proofs.printed.printed_cuts.Goals as goal
 
@@ -11,11 +11,11 @@ pub returns-clause-kept : goal.returns-clause-kept
 returns-clause-kept c = record {
   resorted = c.sort_each.new.cuts;
   each =
-    rw (← filter_same _ is_positive _ (λ d b f k. search (rules, tests)) _ _ c.retain.ensures.filtered, ← c.deref_mut.ensures.value)
-    c.sort_each.ensures;
+      rw (← filter_same _ is_positive _ (λ d b f k. search (rules, tests)) _ _ c.retain.ensures.filtered, ← c.deref_mut.ensures.value)
+      c.sort_each.ensures;
   moved =
-    let whole = take_at c.sort_each.new.cuts (drop (length c.sort_each.new.cuts) c.retain.new.self.items) (vec_len c.retain.new.self) (omega arith) in
-    rw c.from_vec.ensures (rw whole at c.sort_unstable_by.ensures.permutation);
+      let whole = take_at c.sort_each.new.cuts (drop (length c.sort_each.new.cuts) c.retain.new.self.items) (vec_len c.retain.new.self) (omega arith) in
+      rw c.from_vec.ensures (rw whole at c.sort_unstable_by.ensures.permutation);
 }
 
 pub returns-clause-odd : goal.returns-clause-odd

@@ -1,0 +1,12 @@
+pub mod Sets
+pub mod Sums
+pub mod Nodes
+pub mod Covers
+pub mod Duals
+pub mod Readings
+pub mod Grown
+pub mod Marked
+pub mod Opened
+pub mod Raised
+pub mod Absorbed
+pub mod Backward

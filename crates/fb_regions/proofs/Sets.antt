@@ -1,0 +1,42 @@
+-- Sets of vertices as lists: members, distinct lists and parities after a push.
+use Rattle.std.proofs.Common.{◌≡◌, ℕ, ◌==◌, Bool, true, false, ◌||◌, List, [], ◌∷◌, ◌++◌, refl, ◌∙◌, ap}
+use Rattle.std.proofs.lemmas.Bool.{eq-eqb, or_from, or_parts, or_right}
+use Rattle.fb_graph.proofs.Sets.{equal_sym, is_in-head, is_in-tail}
+use Rattle.fb_graph.specs.Parity.{differ, is_odd_count, is_in}
+use Rattle.fb_graph.specs.Certificate.{AreDistinct}
+
+pub or_false : (b : Bool) → (b || false) ≡ b
+or_false true = refl
+or_false false = refl
+
+pub is_in-append : (xs ys : List ℕ) (v : ℕ) → is_in (xs ++ ys) v ≡ (is_in xs v || is_in ys v)
+is_in-append [] ys v = refl
+is_in-append (x ∷ xs) ys v = rw (is_in-append xs ys v) (assoc (x == v) (is_in xs v) (is_in ys v))
+  where
+    assoc : (a b c : Bool) → (a || (b || c)) ≡ ((a || b) || c)
+    assoc true b c = refl
+    assoc false b c = refl
+
+pub is_in_push : (xs : List ℕ) (y v : ℕ) → is_in (xs ++ y ∷ []) v ≡ (is_in xs v || (y == v))
+is_in_push xs y v = is_in-append xs (y ∷ []) v ∙ ap (λ b. is_in xs v || b) (or_false (y == v))
+
+pub is_in_pushed : (xs : List ℕ) (y : ℕ) → is_in (xs ++ y ∷ []) y ≡ true
+is_in_pushed xs y = is_in_push xs y y ∙ or_right (is_in xs y) (y == y) (eq-eqb y y refl)
+
+pub AreDistinct_push : (xs : List ℕ) (y : ℕ) → AreDistinct xs → is_in xs y ≡ false → AreDistinct (xs ++ y ∷ [])
+AreDistinct_push [] y d h = (refl, tt)
+AreDistinct_push (x ∷ xs) y d h =
+    let parts = or_parts (x == y) (is_in xs y) h in
+    (is_in_push xs y x ∙ or_from (is_in xs x) (y == x) d.0 (equal_sym y x ∙ parts.0), AreDistinct_push xs y d.1 parts.1)
+
+pub is_odd_count_push : (test : ℕ → Bool) (xs : List ℕ) (y : ℕ) → test y ≡ false → is_odd_count test (xs ++ y ∷ []) ≡ is_odd_count test xs
+is_odd_count_push test [] y h = rw h refl
+is_odd_count_push test (x ∷ xs) y h = ap (differ (test x)) (is_odd_count_push test xs y h)
+
+-- tests that agree on each member have the same parity
+pub is_odd_count-agree : (p q : ℕ → Bool) (xs : List ℕ) → ((v : ℕ) → is_in xs v ≡ true → p v ≡ q v) → is_odd_count p xs ≡ is_odd_count q xs
+is_odd_count-agree p q [] h = refl
+is_odd_count-agree p q (x ∷ xs) h =
+    let here : p x ≡ q x = h x (is_in-head x xs) in
+    let rest : is_odd_count p xs ≡ is_odd_count q xs = is_odd_count-agree p q xs (λ v i. h v (is_in-tail x xs v i)) in
+    cc

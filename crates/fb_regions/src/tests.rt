@@ -1,0 +1,74 @@
+ghost use Rattle.std.specs.Prelude.{◌≡◌, IfOk};
+ghost use Rattle.fb_regions.specs.Line.{line, line_nodes};
+
+use crate::{Regions, Step};
+use fb_graph::{Graph, GraphFault, NoMemory, Whole};
+use std::alloc::Global;
+use std::test::Fail;
+
+fn line_graph(alloc: Global) -> Result<Graph, GraphFault>
+    ensures { IfOk result (λ g. g ≡ line) }
+{
+    Graph::build(alloc, 5, &[(0, 1, 2), (1, 2, 4), (2, 3, 2), (3, 4, 6)], &[0, 4])
+}
+
+fn grown<'a>(alloc: Global, graph: &'a Graph) -> Result<Regions<Whole<'a>>, NoMemory>
+    requires { graph.now ≡ line }
+    ensures { IfOk result (λ r. r ≡ record { scope = record { 0 = graph.entry }; nodes = line_nodes }) }
+{
+    let mut regions = Regions::new(alloc, &Whole(graph))?;
+    regions.open_leaf(alloc, 7, 2)?;
+    regions.grow(7, 2)?;
+    regions.absorb(alloc, 2)?;
+    regions.grow(7, 2)?;
+    regions.absorb(alloc, 1)?;
+    regions.grow(7, 2)?;
+    Ok(regions)
+}
+
+#[test]
+fn potentials(rt: HostRuntime) -> Result<(), Fail> {
+    let alloc = rt.alloc();
+    let graph = line_graph(alloc)?;
+    let regions = grown(alloc, &graph)?;
+    regions.keeps();
+    assert_eq!(rt; regions.residue(0), 0);
+    assert_eq!(rt; regions.residue(3), 2);
+    assert_eq!(rt; regions.radius(2), 6);
+    assert_eq!(rt; regions.potential(1), 2);
+    assert_eq!(rt; regions.cover_of(3), Some(7));
+    assert_eq!(rt; regions.cover_of(4), None);
+    Ok(())
+}
+
+#[test]
+fn walks(rt: HostRuntime) -> Result<(), Fail> {
+    let alloc = rt.alloc();
+    let graph = line_graph(alloc)?;
+    let regions = grown(alloc, &graph)?;
+    let walk = regions.source_walk(alloc, 1)?;
+    let step = Step {
+        from: 2,
+        to: 1,
+        edge: 1,
+        weight: 4,
+    };
+    assert_eq!(rt; walk.steps(), [step].as_slice());
+    Ok(())
+}
+
+#[test]
+fn layers(rt: HostRuntime) -> Result<(), Fail> {
+    let alloc = rt.alloc();
+    let graph = line_graph(alloc)?;
+    let regions = grown(alloc, &graph)?;
+    let layers = regions.layers(alloc, 7)?;
+    assert_eq!(rt; layers.len(), 3);
+    assert_eq!(rt; layers[0].value, 2);
+    assert_eq!(rt; layers[0].vertices.as_slice(), [2].as_slice());
+    assert_eq!(rt; layers[1].value, 2);
+    assert_eq!(rt; layers[1].vertices.as_slice(), [2, 3].as_slice());
+    assert_eq!(rt; layers[2].value, 2);
+    assert_eq!(rt; layers[2].vertices.as_slice(), [2, 3, 1].as_slice());
+    Ok(())
+}
