@@ -1,12 +1,12 @@
 -- The lines of a report, put piece by piece.
 use Rattle.std.proofs.Common.{◌≡◌, ℕ, ◌+◌, ◌<◌, ◌≤◌, List, [], ◌∷◌, ◌++◌, Option, length, take, map, get_or, refl, sym, ap, ◌∙◌, append_assoc, append-nil, subst, codes, decimal}
+use Rattle.std.proofs.KnownBytes.{Appends-trans}
 use Rattle.std.proofs.lemmas.List.{take_all}
 use Rattle.fb_ports.specs.Causes.{Appends, AppendsFront, concat}
-use Rattle.fb_ports.proofs.Onward.{parts_onward, parts_front}
+use Rattle.fb_ports.proofs.Onward.{parts_onward, parts_front, front_second, front_first}
 use Rattle.fb_graph.specs.declared.parts.Cut.{Cut}
 use Rattle.fb_graph.specs.declared.parts.Row.TheVariants.{Best}
 use Rattle.fb_report.specs.Texts.{line, line_end, cut_line, row_text}
-use Rattle.fb_report.proofs.Fronts.{appends_then, front_then, front_of_more}
 
 -- a number with the space before it, as the writer puts it
 abbrev pub spaced : ℕ → List ℕ
@@ -29,7 +29,7 @@ numbers_onward a b c ns i n d lt e p q = parts_onward a b c spaced ns i d lt p (
 pub numbers_front : (a b c : Option (List ℕ)) (ns : List ℕ) (i n d : ℕ) → i < length ns → n ≡ get_or ns i d
     → Appends a b (concat (map spaced (take i ns))) → AppendsFront b c (spaced n) → AppendsFront a c (line_end (map decimal ns))
 numbers_front a b c ns i n d lt e p q = subst (AppendsFront a c) (sym (line_end-numbers ns))
-    (front_of_more a c _ (codes "\n") (parts_front a b c spaced ns i d lt p (subst (λ k. AppendsFront b c (spaced k)) e q)))
+    (front_first a c _ (codes "\n") (parts_front a b c spaced ns i d lt p (subst (λ k. AppendsFront b c (spaced k)) e q)))
 
 -- one more cut's line was put
 pub cuts_onward : (a b c : Option (List ℕ)) (cs : List Cut) (i : ℕ) (t d : Cut) → i < length cs → t ≡ get_or cs i d
@@ -45,17 +45,17 @@ cuts_front a b c cs i t d lt e p q = parts_front a b c cut_line cs i d lt p (sub
 pub numbers_whole : (a b c : Option (List ℕ)) (ns : List ℕ) (i : ℕ) → length ns ≤ i
     → Appends a b (concat (map spaced (take i ns))) → Appends b c (codes "\n") → Appends a c (line_end (map decimal ns))
 numbers_whole a b c ns i le p q = subst (Appends a c) (sym (line_end-numbers ns))
-    (appends_then a b c _ _ (subst (λ l. Appends a b (concat (map spaced l))) (take_all i ns le) p) q)
+    (Appends-trans a b c _ _ (subst (λ l. Appends a b (concat (map spaced l))) (take_all i ns le) p) q)
 
 -- all numbers were put, and the put of the newline failed
 pub newline_front : (a b c : Option (List ℕ)) (ns : List ℕ) (i : ℕ) → length ns ≤ i
     → Appends a b (concat (map spaced (take i ns))) → AppendsFront b c (codes "\n") → AppendsFront a c (line_end (map decimal ns))
 newline_front a b c ns i le p q = subst (AppendsFront a c) (sym (line_end-numbers ns))
-    (front_then a b c _ _ (subst (λ l. Appends a b (concat (map spaced l))) (take_all i ns le) p) q)
+    (front_second a b c _ _ (subst (λ l. Appends a b (concat (map spaced l))) (take_all i ns le) p) q)
 
 -- the front of a correction's text, up to its edges, as the writer puts it
 abbrev pub opening : ℕ → List ℕ
-opening k = codes "shot " ++ (decimal k ++ (codes "\nedges"))
+opening k = codes "shot " ++ (decimal k ++ codes "\nedges")
 
 -- the text of a correction, in the parts in which it is put
 pub row_text-best : (k : ℕ) (edges : List ℕ) (weight : ℕ) (cuts : List Cut) → row_text k (Best edges weight cuts)
@@ -75,4 +75,4 @@ cut_line-parts c = simp append-nil
 pub vertices_front : (a b c : Option (List ℕ)) (t : Cut) (vertices : List ℕ) → vertices ≡ t.vertices
     → Appends a b (cut_opening t.value) → AppendsFront b c (line_end (map decimal vertices)) → AppendsFront a c (cut_line t)
 vertices_front a b c t vertices e p q = subst (AppendsFront a c) (sym (cut_line-parts t))
-    (front_then a b c (cut_opening t.value) _ p (subst (λ l. AppendsFront b c (line_end (map decimal l))) e q))
+    (front_second a b c (cut_opening t.value) _ p (subst (λ l. AppendsFront b c (line_end (map decimal l))) e q))

@@ -19,12 +19,12 @@ line w ws = w ++ line_end ws
 unfoldable pub head_text : List ℕ
 head_text = line (codes "fusion-report") (codes "1" ∷ [])
 
--- a cut: its value, and then its vertices
+-- a weighted odd cut (Edmonds and Johnson 1973): its value, and then its vertices
 abbrev pub cut_line : Cut → List ℕ
 cut_line c = line (codes "cut") (decimal c.value ∷ map decimal c.vertices)
 
--- the row of a shot: its correction, the correction's weight and the cuts, or one line where there is no correction or
--- the shot was not solved
+-- the row of a shot: the edges of its correction, their weight and the cuts, each in lines of its own; or one line,
+-- where there is no correction or the shot was not solved
 unfoldable pub row_text : ℕ → Row → List ℕ
 row_text k (Best edges weight cuts) =
     line (codes "shot") (decimal k ∷ [])
@@ -39,12 +39,12 @@ abbrev pub rows_text : ℕ → List Row → List ℕ
 rows_text k [] = []
 rows_text k (r ∷ rs) = row_text k r ++ rows_text (k + 1) rs
 
--- an event of the board: a worker took a node of a shot, or gave what it had made of it
+-- an event of a run: a worker took a node of the plan for a shot, or gave what it had made of it
 unfoldable pub trace_line : Bool → ℕ → ℕ → ℕ → List ℕ
 trace_line gave worker shot node =
     line (if gave then codes "gave" else codes "took") (decimal worker ∷ decimal shot ∷ decimal node ∷ [])
 
--- the last line: the numbers of rows, of odd rows among them, and of units and fusions that were solved
+-- the last line: the numbers of rows, of the odd ones among them, and of units and fusions that were solved
 unfoldable pub done_text : ℕ → ℕ → ℕ → ℕ → List ℕ
 done_text rows odd units fusions =
     line (codes "done") (decimal rows ∷ codes "odd" ∷ decimal odd

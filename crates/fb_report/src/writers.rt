@@ -8,7 +8,9 @@ use fb_graph::{Cut, Row};
 use fb_ports::{Failed, Sink, put_all, put_parts};
 use itoa::Buffer;
 
-/// Puts the first line of a report.
+/// Puts the first line of a report, `fusion-report 1`.
+///
+/// After [`Failed`], here and in the other writers, the sink has taken a front part of the text.
 #[tactic(auto, unfolding(crate::specs::Texts::head_text))]
 pub fn write_head<S: Sink>(sink: &mut S) -> Result<(), Failed>
     ensures all { OnOk result (Appends (S.taken sink.old) (S.taken sink.new) head_text) }
@@ -25,7 +27,8 @@ fn event_word(gave: bool) -> &'static [u8]
     if gave { b"gave" } else { b"took" }
 }
 
-/// Puts a trace line: this worker took this node of this shot, or `gave` what it had made of it.
+/// Puts the trace line `took W K N`, or where `gave` the line `gave W K N`: worker W took node N of the
+/// plan for shot K, or gave what it had made of it.
 #[tactic(auto, unfolding(crate::specs::Texts::trace_line))]
 pub fn write_trace<S: Sink>(
     sink: &mut S,
@@ -61,8 +64,8 @@ pub fn write_trace<S: Sink>(
     )
 }
 
-/// Puts the last line of a report: how many rows it has, how many of them are odd, and how many units
-/// and fusions were solved for the others.
+/// Puts the last line of a report, `done N odd M units U fusions F`: how many rows it has, how many of
+/// them are odd, and how many units and fusions were solved for the others.
 #[tactic(auto, unfolding(crate::specs::Texts::done_text))]
 pub fn write_done<S: Sink>(
     sink: &mut S,
@@ -152,7 +155,10 @@ fn put_over<S: Sink>(sink: &mut S, shot: u32) -> Result<(), Failed>
     put_number(sink, b"shot ", u64::from(shot), b" over\n")
 }
 
-/// Puts the row of a shot, which is numbered from 0.
+/// Puts the row of a shot, numbered from 0. The row of a correction is the line `shot K`, the line
+/// `edges E1 E2 ..` with its edges, the line `weight W` and, for each of its cuts (Edmonds and Johnson
+/// 1973), a line `cut Y V1 V2 ..` with the cut's value and vertices. The row of a shot that has no
+/// correction, or was not solved, is the one line `shot K odd V` or `shot K over`.
 pub fn write_row<S: Sink>(sink: &mut S, shot: u32, row: &Row) -> Result<(), Failed>
     ensures all { OnOk result (Appends (S.taken sink.old) (S.taken sink.new) (row_text shot row.now)) }
     ensures front { OnErr result (AppendsFront (S.taken sink.old) (S.taken sink.new) (row_text shot row.now)) }
