@@ -6,10 +6,9 @@ pub mod marks;
 pub mod region;
 pub mod regions;
 pub mod roles;
-pub mod walk;
-
 #[cfg(test)]
 mod tests;
+pub mod walk;
 
 pub use fb_graph::Cut as Layer;
 pub use regions::Regions;
