@@ -2,8 +2,8 @@
 
 #![tactic(auto)]
 
-pub mod marks;
-pub mod region;
+mod marks;
+mod region;
 pub mod regions;
 pub mod roles;
 #[cfg(test)]
