@@ -1,12 +1,12 @@
 -- Cuts in the form in which a report prints them.
-use Rattle.std.proofs.Common.{ℕ, ◌+◌, ◌<◌, ◌≤◌, ◌≡◌, ◌≢◌, ◌==◌, Bool, true, false, cond, List, [], ◌∷◌, length, get_or, All, AllPairs, filter, nat_lt, nat_eq, sum_by, zero, suc, refl, sym, ap, ◌∙◌, subst, inl, inr, ◌⊎◌, arith}
+use Rattle.std.proofs.Common.{ℕ, ◌+◌, ◌<◌, ◌≡◌, ◌==◌, Bool, true, false, cond, List, [], ◌∷◌, length, get_or, All, AllPairs, filter, nat_eq, sum_by, suc, refl, sym, ap, ◌∙◌, subst, le_trans, le_of_eq, arith}
 use Rattle.std.specs.Cmp.Lexicographic.{slice_cmp}
-use Rattle.std.specs.List.{AllZip, IsDistinct, AllByRecursion}
-use Rattle.std.specs.List.Sorted.{IsPermutation, IsSortedBy, IsStrictlyIncreasing}
+use Rattle.std.specs.List.{AllZip, IsDistinct}
+use Rattle.std.specs.List.Sorted.{IsSortedBy, IsStrictlyIncreasing}
 use Rattle.std.specs.Ordering.{nat_cmp, is_lt, is_eq, ordering_reverse}
 use Rattle.std.specs.declared.cmp.Ordering.{Ordering}
 use Rattle.std.specs.declared.cmp.Ordering.TheVariants.{Less, Equal, Greater}
-use Rattle.std.proofs.lemmas.Bool.{true≢false, false≢true, both_ways, cases_Bool, false_from_ne_true, eqb-true, ltb-true, ltb-false}
+use Rattle.std.proofs.lemmas.Bool.{true≢false, both_ways, false_from_ne_true, eqb-true, ltb-true, ltb-false}
 use Rattle.std.proofs.lemmas.Cmp.{nat_list_cmp_total, nat_eq_equiv, eq_by_cmp_equiv}
 use Rattle.std.proofs.lemmas.List.Elements.{All-cons, All-filter, All-head, All-nil, All-tail, AllZip-get_or, filter_passes, length_all_zip, recursion_from_All}
 use Rattle.std.proofs.lemmas.List.Kept.{AllPairs-filter}
@@ -15,10 +15,10 @@ use Rattle.std.proofs.lemmas.List.Sums.{sum_by-cons}
 use Rattle.std.proofs.lemmas.Map.Keys.{IsDistinct-IsPermutation, IsStrictlyIncreasing-from_distinct}
 use Rattle.std.proofs.lemmas.Map.Text.{is_eq-slice_cmp}
 use Rattle.std.proofs.lemmas.Slice.Eq.{bytes_eq-Decides}
-use Rattle.fb_graph.specs.Parity.{differ, is_odd_count, is_in}
+use Rattle.fb_graph.specs.Parity.{differ, is_in}
 use Rattle.fb_graph.specs.Problem.{Problem, crosses}
-use Rattle.fb_graph.specs.Certificate.{AreDistinct, IsOddCut, IsPrintedCut, IsBefore, AreRising, load_of, total_value}
-use Rattle.fb_graph.specs.Printed.{DifferAsSets, IsResorted}
+use Rattle.fb_graph.specs.Certificate.{AreDistinct, IsOddCut, IsPrintedCut, AreRising, Fits, load_of, total_value}
+use Rattle.fb_graph.specs.Printed.{DifferAsSets, IsResorted, is_positive, HasPositiveCuts}
 use Rattle.fb_graph.specs.declared.parts.Cut.{Cut}
 use Rattle.fb_graph.specs.declared.parts.Edge.{Edge}
 use Rattle.fb_graph.proofs.CancelledPairs.{odd-IsPermutation}
@@ -33,16 +33,6 @@ is_cut_below c d = is_lt (cut_cmp c d)
 
 abbrev are_same_lists : Cut → Cut → Bool
 are_same_lists c d = is_eq (cut_cmp c d)
-
-abbrev pub is_positive : Cut → Bool
-is_positive c = nat_lt 0 c.value
-
--- the steps from a list of cuts to the printed one
-pub record ArePrinted (cuts printed : List Cut) : Type 0 where
-  pub resorted : List Cut
-  pub each : AllZip IsResorted (filter is_positive cuts) resorted
-  pub moved : IsPermutation resorted printed
-  pub sorted : IsSortedBy is_cut_below printed
 
 -- a cut and the same cut with its vertices sorted
 resorted-is_in : (c d : Cut) → IsResorted c d → (v : ℕ) → is_in d.vertices v ≡ is_in c.vertices v
@@ -130,12 +120,12 @@ positive-sum f none (c ∷ cs) = step (is_positive c) refl (positive-sum f none 
         omega (arith, sum_by-cons f c cs, none c (omega (arith, ltb-false 0 c.value e)), ih)
 
 printed-sum : (f : Cut → ℕ) → ((c d : Cut) → IsResorted c d → f d ≡ f c) → ((c : Cut) → c.value ≡ 0 → f c ≡ 0)
-    → (cuts printed : List Cut) → ArePrinted cuts printed → sum_by f printed ≡ sum_by f cuts
+    → (cuts printed : List Cut) → HasPositiveCuts cuts printed → sum_by f printed ≡ sum_by f cuts
 printed-sum f same none cuts printed by =
     sum_by-IsPermutation f by.resorted printed by.moved
     ∙ (resorted-sum f same (filter is_positive cuts) by.resorted by.each ∙ positive-sum f none cuts)
 
-pub printed-load : (cuts printed : List Cut) → ArePrinted cuts printed → (e : Edge)
+pub printed-load : (cuts printed : List Cut) → HasPositiveCuts cuts printed → (e : Edge)
     → load_of printed e ≡ load_of cuts e
 printed-load cuts printed by e = printed-sum part same none cuts printed by
   where
@@ -153,10 +143,10 @@ printed-load cuts printed by e = printed-sum part same none cuts printed by
         zeros true n is = is
         zeros false n is = refl
 
-pub printed-total : (cuts printed : List Cut) → ArePrinted cuts printed → total_value printed ≡ total_value cuts
+pub printed-total : (cuts printed : List Cut) → HasPositiveCuts cuts printed → total_value printed ≡ total_value cuts
 printed-total = printed-sum (λ c. c.value) (λ c d same. same.value) (λ c none. none)
 
-pub printed-All : (p : Problem) (cuts printed : List Cut) → ArePrinted cuts printed → All (IsOddCut p) cuts
+pub printed-All : (p : Problem) (cuts printed : List Cut) → HasPositiveCuts cuts printed → All (IsOddCut p) cuts
     → All (IsPrintedCut p) printed
 printed-All p cuts printed by odd =
     All-permutation (IsPrintedCut p) by.resorted printed by.moved
@@ -190,7 +180,7 @@ resorted-distinct (c ∷ cs) (d ∷ ds) each apart = (
   resorted-distinct cs ds each.1 (λ i j x before less. apart (suc i) (suc j) x (omega arith) (omega arith)),
 )
 
--- neither below nor the same: above
+-- the later one isn't below the earlier one, nor the same: the earlier one is below it
 less_from_not_below : (o r : Ordering) → r ≡ ordering_reverse o → is_lt r ≡ false → is_eq o ≡ false → o ≡ Less
 less_from_not_below Less r e below same = refl
 less_from_not_below Equal r e below same = absurd (true≢false same)
@@ -210,11 +200,17 @@ rising_from_sorted (c ∷ d ∷ ds) sorted distinct = (
       distinct.1,
 )
 
-pub printed-rising : (cuts printed : List Cut) → ArePrinted cuts printed → AllPairs DifferAsSets cuts
-    → AreRising printed
-printed-rising cuts printed by apart =
-    rising_from_sorted printed by.sorted
+pub printed-rising : (cuts printed : List Cut) → HasPositiveCuts cuts printed → IsSortedBy is_cut_below printed
+    → AllPairs DifferAsSets cuts → AreRising printed
+printed-rising cuts printed by sorted apart =
+    rising_from_sorted printed sorted
     (IsDistinct-IsPermutation are_same_lists
     (λ c d. (eq_by_cmp_equiv nat_list_cmp_total).symm c.vertices d.vertices) by.resorted printed by.moved
     (resorted-distinct (filter is_positive cuts) by.resorted by.each
     (AllPairs-filter DifferAsSets is_positive cuts apart)))
+
+-- cuts with the same loads are feasible alike
+pub Fits-same_loads : (p : Problem) (cuts printed : List Cut) → ((e : Edge) → load_of printed e ≡ load_of cuts e)
+    → Fits p cuts → Fits p printed
+Fits-same_loads p cuts printed same fits k d less =
+    le_trans (le_of_eq (same (get_or p.edges k d))) (fits k d less)

@@ -1,12 +1,12 @@
 //! What a solver found, in the form in which a report prints it.
 
-ghost use Rattle.std.specs.Prelude.{◌≡◌, ℕ, ◌≤◌, Bool, true, All, AllPairs, length, sum_by, take};
+ghost use Rattle.std.specs.Prelude.{◌≡◌, ℕ, ◌≤◌, Bool, true, All, AllPairs, IfOk, length, sum_by, take};
 ghost use Rattle.std.specs.List.{AllZip};
 ghost use Rattle.std.specs.List.Sorted.{IsNonDecreasing, IsStrictlyIncreasing};
 ghost use Rattle.fb_graph.specs.Parity.{is_odd_count, is_in};
 ghost use Rattle.fb_graph.specs.Problem.{Problem};
 ghost use Rattle.fb_graph.specs.Certificate.{IsOddCut, IsPrintedCut, AreRising, load_of, total_value};
-ghost use Rattle.fb_graph.specs.Printed.{CancelsTo, DifferAsSets, IsResorted};
+ghost use Rattle.fb_graph.specs.Printed.{CancelsTo, DifferAsSets, HasPositiveCuts, IsResorted};
 ghost use Rattle.fb_graph.specs.declared.parts.Edge.{Edge};
 
 use crate::lists::{CutList, NumberList};
@@ -50,9 +50,10 @@ fn cancel_pairs(numbers: &mut [u32]) -> usize
 }
 
 /// The cuts of value at least 1 as a report prints them: the vertices of each rise, and so do the cuts, compared
-/// entry by entry, a proper prefix first. Takes no memory.
+/// entry by entry, a proper prefix first. Any two of the cuts have to differ as sets. Takes no memory.
 pub fn printed_cuts(mut cuts: Vec<Cut>) -> CutList
     requires { AllPairs DifferAsSets cuts.items }
+    ensures kept { HasPositiveCuts cuts.items result }
     ensures odd { (p : Problem) → All (IsOddCut p) cuts.items → All (IsPrintedCut p) result }
     ensures rising { AreRising result }
     ensures loads { (e : Edge) → load_of result e ≡ load_of cuts.items e }
@@ -82,4 +83,42 @@ fn sort_vertices(alloc: Global, cut: &mut Cut)
     let mut vertices = mem::replace(&mut cut.vertices, empty).into_vec();
     vertices.sort_unstable();
     cut.vertices = NumberList::from_vec(vertices);
+}
+
+#[cfg(test)]
+mod tests {
+    use super::*;
+    use std::alloc::AllocError;
+    use std::test::Fail;
+
+    fn layer(alloc: Global, value: u64, vertices: &[u32]) -> Result<Cut, AllocError>
+        ensures { IfOk result (λ c. c.vertices ≡ vertices.now) }
+    {
+        let vertices = NumberList::from_vec(Vec::from_slice(alloc, vertices)?);
+        Ok(Cut { value, vertices })
+    }
+
+    #[test]
+    fn leaves_odd_ones(rt: HostRuntime) -> Result<(), Fail> {
+        let numbers = Vec::from_slice(rt.alloc(), &[3, 1, 3, 2, 1, 1])?;
+        assert_eq!(rt; odd_ones(numbers).into_vec().as_slice(), [1, 2].as_slice());
+        Ok(())
+    }
+
+    #[test]
+    fn prints_layers(rt: HostRuntime) -> Result<(), Fail> {
+        let alloc = rt.alloc();
+        let one = layer(alloc, 2, &[2])?;
+        let two = layer(alloc, 2, &[2, 3])?;
+        let three = layer(alloc, 2, &[2, 3, 1])?;
+        let empty = layer(alloc, 0, &[2, 3, 1, 0])?;
+        let printed = printed_cuts(vec![in alloc; one, two, three, empty]?);
+        assert_eq!(rt; printed.as_slice().len(), 3);
+        let lists: [&[u32]; 3] = [&[1, 2, 3], &[2], &[2, 3]];
+        for (cut, vertices) in printed.as_slice().iter().zip(lists) {
+            assert_eq!(rt; cut.value, 2);
+            assert_eq!(rt; cut.vertices.as_slice(), vertices);
+        }
+        Ok(())
+    }
 }

@@ -14,9 +14,9 @@ Rose before now = min (before + 1) (2 ^ 64 - 1) ≤ now
 abbrev pub HasCause : {T E : Type 0} → ℕ → ℕ → Result T E → Type 0
 HasCause before now r = MatchResult r (λ _. now ≡ before) (λ _. Rose before now × (before ≤ now))
 
--- a list that is told has gained x at its end
+-- a list that is told has gained x at its end; one that isn't told stays untold
 abbrev pub TellsMore : {X : Type 0} → Option (List X) → Option (List X) → X → Type 0
-TellsMore None new x = ⊤
+TellsMore None new x = new ≡ None
 TellsMore (Some xs) new x = new ≡ Some (xs ++ x ∷ [])
 
 -- a list that is told has fewer than n entries

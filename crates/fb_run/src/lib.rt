@@ -3,6 +3,7 @@
 #![tactic(auto)]
 
 mod ending;
+mod input;
 mod shots;
 mod words;
 

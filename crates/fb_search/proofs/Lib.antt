@@ -1,3 +1,4 @@
 pub mod LoneBest
 pub mod LoneClosed
+pub mod LoneEdges
 pub mod LoneSteps

@@ -30,9 +30,13 @@ walk_by_edges p (s ∷ ss) from to walk =
 pub weight_by_edges : (p : Problem) (steps : List Step) (from to : ℕ) → IsWalk p steps from to
     → weight_of p (map (λ s. s.edge) steps) ≡ walk_weight steps
 weight_by_edges p [] from to walk = refl
-weight_by_edges p (s ∷ ss) from to walk = omega (arith,
-    sum_by-cons (λ k. (edge_at p.edges k).weight) s.edge (map (λ t. t.edge) ss), sum_by-cons (λ t. t.weight) s ss,
-    walk.1.weighs, weight_by_edges p ss s.to to walk.2)
+weight_by_edges p (s ∷ ss) from to walk = omega (
+  arith,
+  sum_by-cons (λ k. (edge_at p.edges k).weight) s.edge (map (λ t. t.edge) ss),
+  sum_by-cons (λ t. t.weight) s ss,
+  walk.1.weighs,
+  weight_by_edges p ss s.to to walk.2,
+)
 
 -- the state of one region that has reached the boundary, with a walk to the region's end of the way out
 module _ (p : Problem) (nodes : List Node) (name defect : ℕ) (members : List ℕ) (k : ℕ) (steps : List Step) (source : ℕ)
@@ -45,12 +49,12 @@ module _ (p : Problem) (nodes : List Node) (name defect : ℕ) (members : List �
   source_is : source ≡ defect
   source_is = sym (eqb-true defect source (only_one (subst (λ ds. is_in ds source ≡ true) is_lone.leaf walk.defect)))
     where
-    only_one : (eqb defect source || false) ≡ true → eqb defect source ≡ true
-    only_one h = go (eqb defect source) h
-      where
-      go : (b : Bool) → (b || false) ≡ true → b ≡ true
-      go true h = refl
-      go false h = h
+      only_one : (eqb defect source || false) ≡ true → eqb defect source ≡ true
+      only_one h = go (eqb defect source) h
+        where
+          go : (b : Bool) → (b || false) ≡ true → b ≡ true
+          go true h = refl
+          go false h = h
 
   leads_out : IsWalkBy p edges_out defect way.outer
   unfolding edges_out
@@ -61,49 +65,69 @@ module _ (p : Problem) (nodes : List Node) (name defect : ℕ) (members : List �
   outer_uncovered : cover_of nodes way.outer ≡ None
   outer_uncovered = go (cover_of nodes way.outer) (λ covered. dual.real way.outer covered)
     where
-    go : (o : Option ℕ) → (IsSome o → p.is_real way.outer ≡ true) → o ≡ None
-    go None h = refl
-    go (Some name) h = absurd (false≢true (sym way.boundary ∙ h refl))
+      go : (o : Option ℕ) → (IsSome o → p.is_real way.outer ≡ true) → o ≡ None
+      go None h = refl
+      go (Some name) h = absurd (false≢true (sym way.boundary ∙ h refl))
 
   not_under : ¬ AreUnderOne nodes (edge_at p.edges k).first (edge_at p.edges k).second
   not_under under = elim way.leads [
-      inl there ↦ absurd (none_some (sym outer_uncovered ∙ ap (cover_of nodes) (sym there.1) ∙ under.2))
+    | inl there ↦ absurd (none_some (sym outer_uncovered ∙ ap (cover_of nodes) (sym there.1) ∙ under.2))
     | inr back ↦ absurd (none_some (sym outer_uncovered ∙ ap (cover_of nodes) (sym back.1) ∙ under.1))
-    ]
+  ]
     where
-    none_some : ◌≡◌ {A = Option ℕ} None (Some under.0) → ⊥
-    none_some e = cc
+      none_some : ◌≡◌ {A = Option ℕ} None (Some under.0) → ⊥
+      none_some e = cc
 
   way_weighs : (edge_at p.edges k).weight ≡ height_of (all_cuts nodes) way.inner
   way_weighs = elim way.leads [
-      inl there ↦ omega (arith, way.tight, dual.loads (edge_at p.edges k) not_under, dual.uncovered way.outer outer_uncovered,
-        ap (height_of (all_cuts nodes)) there.0, ap (height_of (all_cuts nodes)) there.1)
-    | inr back ↦ omega (arith, way.tight, dual.loads (edge_at p.edges k) not_under, dual.uncovered way.outer outer_uncovered,
-        ap (height_of (all_cuts nodes)) back.0, ap (height_of (all_cuts nodes)) back.1)
-    ]
+    | inl there ↦ omega (
+      arith,
+      way.tight,
+      dual.loads (edge_at p.edges k) not_under,
+      dual.uncovered way.outer outer_uncovered,
+      ap (height_of (all_cuts nodes)) there.0,
+      ap (height_of (all_cuts nodes)) there.1,
+    )
+    | inr back ↦ omega (
+      arith,
+      way.tight,
+      dual.loads (edge_at p.edges k) not_under,
+      dual.uncovered way.outer outer_uncovered,
+      ap (height_of (all_cuts nodes)) back.0,
+      ap (height_of (all_cuts nodes)) back.1,
+    )
+  ]
 
   pub edges_weigh : weight_of p edges_out ≡ height_of (all_cuts nodes) defect
   unfolding edges_out
-  edges_weigh = omega (arith,
-      sum_by-append (λ j. (edge_at p.edges j).weight) (map (λ s. s.edge) steps) (k ∷ []),
-      sum_by-cons (λ j. (edge_at p.edges j).weight) k [],
-      weight_by_edges p steps source way.inner walk.leads, walk.weighs, way_weighs, ap (height_of (all_cuts nodes)) source_is)
+  edges_weigh = omega (
+    arith,
+    sum_by-append (λ j. (edge_at p.edges j).weight) (map (λ s. s.edge) steps) (k ∷ []),
+    sum_by-cons (λ j. (edge_at p.edges j).weight) k [],
+    weight_by_edges p steps source way.inner walk.leads,
+    walk.weighs,
+    way_weighs,
+    ap (height_of (all_cuts nodes)) source_is,
+  )
 
   pub total_is : total_value (all_cuts nodes) ≡ height_of (all_cuts nodes) defect
   total_is =
       ap total_value (cuts_lone p nodes name defect members is_lone) ∙ sym radius
       ∙ ap (λ cs. height_of cs defect) (sym (cuts_lone p nodes name defect members is_lone))
     where
-    node : Node
-    node = record { name = name; children = []; below = is_lone.below; top = is_lone.top }
-    here : (n : Node) → All HasRadius (n ∷ []) → HasRadius n
-    here n all = all 0 n (lit< tt)
-    held : is_in (first_vertices (is_lone.below ++ is_lone.top ∷ [])) defect ≡ true
-    held = ap (λ ds. is_in ds defect) (sym (append-nil (first_vertices (is_lone.below ++ is_lone.top ∷ []))) ∙ ap leaves (sym is_lone.only) ∙ is_lone.leaf)
-        ∙ ap (λ b. b || false) (eq-eqb defect defect refl)
-    radius : height_of (is_lone.below ++ is_lone.top ∷ []) defect ≡ total_value (is_lone.below ++ is_lone.top ∷ [])
-    radius = here (record { name = name; children = []; below = is_lone.below; top = is_lone.top })
-        (subst (All HasRadius) is_lone.only dual.radii) defect held
+      node : Node
+      node = record { name = name; children = []; below = is_lone.below; top = is_lone.top }
+
+      here : (n : Node) → All HasRadius (n ∷ []) → HasRadius n
+      here n all = all 0 n (lit< tt)
+
+      held : is_in (first_vertices (is_lone.below ++ is_lone.top ∷ [])) defect ≡ true
+      held = ap (λ ds. is_in ds defect) (sym (append-nil (first_vertices (is_lone.below ++ is_lone.top ∷ []))) ∙ ap leaves (sym is_lone.only) ∙ is_lone.leaf)
+          ∙ ap (λ b. b || false) (eq-eqb defect defect refl)
+
+      radius : height_of (is_lone.below ++ is_lone.top ∷ []) defect ≡ total_value (is_lone.below ++ is_lone.top ∷ [])
+      radius = here (record { name = name; children = []; below = is_lone.below; top = is_lone.top })
+          (subst (All HasRadius) is_lone.only dual.radii) defect held
 
   packing : IsPacking (with_defects p (defect ∷ [])) (all_cuts nodes)
   packing = subst (λ ds. IsPacking (with_defects p ds) (all_cuts nodes)) is_lone.leaf dual.packing
@@ -130,15 +154,17 @@ module _ (p : Problem) (nodes : List Node) (name defect : ℕ) (members : List �
     printed = printed;
     rising = cuts_rise;
     fits = λ j d less. omega (arith, loads (get_or p.edges j d), packing.fits j d less);
-    total = omega (arith, weighs, total, total_is)
+    total = omega (arith, weighs, total, total_is);
   }
     where
-    within : All (λ j. j < length p.edges) chosen
-    within = All-from_is_in (λ j. j < length p.edges) chosen
-        (λ v held. is_in-All (λ j. j < length p.edges) edges_out edges_within v (inside v held))
-    flips : Flips (with_defects p (defect ∷ [])) chosen
-    flips v real = parity (λ j. touches v (edge_at p.edges j)) ∙ walk_parity p edges_out defect way.outer leads_out v
-        ∙ ap (λ b. differ (eqb v defect) b) (boundary_apart v real) ∙ differ-false (eqb v defect)
-        ∙ equal_sym v defect ∙ sym (or_nothing (eqb defect v))
-    least : total_value (all_cuts nodes) ≤ weight_of p chosen
-    least = weak_duality (with_defects p (defect ∷ [])) (all_cuts nodes) chosen packing within flips
+      within : All (λ j. j < length p.edges) chosen
+      within = All-from_is_in (λ j. j < length p.edges) chosen
+          (λ v held. is_in-All (λ j. j < length p.edges) edges_out edges_within v (inside v held))
+
+      flips : Flips (with_defects p (defect ∷ [])) chosen
+      flips v real = parity (λ j. touches v (edge_at p.edges j)) ∙ walk_parity p edges_out defect way.outer leads_out v
+          ∙ ap (λ b. differ (eqb v defect) b) (boundary_apart v real) ∙ differ-false (eqb v defect)
+          ∙ equal_sym v defect ∙ sym (or_nothing (eqb defect v))
+
+      least : total_value (all_cuts nodes) ≤ weight_of p chosen
+      least = weak_duality (with_defects p (defect ∷ [])) (all_cuts nodes) chosen packing within flips

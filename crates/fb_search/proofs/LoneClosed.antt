@@ -2,6 +2,8 @@
 use Rattle.std.proofs.Common.{◌≡◌, ℕ, ◌+◌, ◌<◌, ◌≤◌, ◌||◌, Bool, true, false, List, [], ◌∷◌, ◌++◌, length, get_or, All, Some, eqb, refl, sym, ap, subst, ◌∙◌, arith, length-append, lit<}
 use Rattle.std.proofs.lemmas.Bool.{eqb-true}
 use Rattle.std.proofs.lemmas.List.Elements.{All-tail}
+use Rattle.std.specs.List.{range_with_len}
+use Rattle.std.proofs.lemmas.List.FromFn.{length-range_with_len}
 use Rattle.fb_graph.specs.Parity.{is_in, is_odd_count}
 use Rattle.fb_graph.specs.Problem.{Problem, crosses, with_defects}
 use Rattle.fb_graph.specs.Certificate.{AreDistinct, IsOddCut, IsPacking}
@@ -10,7 +12,7 @@ use Rattle.fb_graph.specs.Limits.{IsWithinLimits}
 use Rattle.fb_graph.specs.Laws.{IsClosedRound}
 use Rattle.fb_graph.specs.declared.parts.Cut.{Cut}
 use Rattle.fb_graph.proofs.OddComponents.{some_is_first_odd}
-use Rattle.fb_graph.proofs.Sets.{All-from_is_in, is_in-All, member_of_odd}
+use Rattle.fb_graph.proofs.Sets.{All-from_is_in, is_in-All, member_of_odd, length-le_from_within, distinct_from_rising, range_rises, is_in-range}
 use Rattle.fb_regions.specs.Dual.{Node, IsDual, all_cuts, leaves}
 use Rattle.fb_search.specs.Lone.{lone, IsLone}
 use Rattle.fb_search.proofs.LoneSteps.{cuts_lone, or_nothing}
@@ -25,7 +27,7 @@ module _ (p : Problem) (nodes : List Node) (name defect : ℕ) (members : List �
   top_is_odd : IsOddCut (with_defects p (defect ∷ [])) is_lone.top
   top_is_odd = last_of (IsOddCut (with_defects p (defect ∷ []))) is_lone.below is_lone.top
       (subst (All (IsOddCut (with_defects p (defect ∷ [])))) (cuts_lone p nodes name defect members is_lone)
-        (subst (λ ds. All (IsOddCut (with_defects p ds)) (all_cuts nodes)) is_lone.leaf dual.packing.odd))
+      (subst (λ ds. All (IsOddCut (with_defects p ds)) (all_cuts nodes)) is_lone.leaf dual.packing.odd))
 
   pub members_distinct : AreDistinct members
   members_distinct = subst AreDistinct is_lone.holds top_is_odd.distinct
@@ -54,9 +56,18 @@ module _ (p : Problem) (nodes : List Node) (name defect : ℕ) (members : List �
         closed = record { distinct = members_distinct; real = members_real; uncrossed = uncrossed };
         below = members_below limits;
         holds = holds_defect;
-        joined = joined
+        joined = joined;
       })
       members_odd (λ u is_defect real. ap (is_in members) (sym (one_defect u is_defect)) ∙ holds_defect)
     where
-    joined : (u : ℕ) → is_in members u ≡ true → IsJoined (with_defects p (defect ∷ [])) defect u
-    joined u held = is_lone.joined u held
+      joined : (u : ℕ) → is_in members u ≡ true → IsJoined (with_defects p (defect ∷ [])) defect u
+      joined u held = is_lone.joined u held
+
+  -- there are no more members than vertices
+  pub members_few : IsWithinLimits p → length members ≤ p.vertices
+  members_few limits = omega (
+    arith,
+    length-range_with_len 0 p.vertices,
+    length-le_from_within members (range_with_len 0 p.vertices) members_distinct (distinct_from_rising (range_with_len 0 p.vertices) (range_rises 0 p.vertices))
+        (λ v held. is_in-range p.vertices v (is_in-All (λ u. u < p.vertices) members (members_below limits) v held)),
+  )

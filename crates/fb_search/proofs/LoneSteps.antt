@@ -1,11 +1,12 @@
 -- What growing one region does, over plain values.
-use Rattle.std.proofs.Common.{◌≡◌, ◌≢◌, ℕ, zero, suc, ◌+◌, ◌<◌, ◌≤◌, ◌||◌, ◌&&◌, ◌⊎◌, Bool, true, false, not, cond, List, [], ◌∷◌, ◌++◌, length, take, get_or, map, All, sum_by, Option, Some, None, eqb, refl, sym, ap, subst, ◌∙◌, inl, inr, arith, append_assoc, append-nil}
+use Rattle.std.proofs.Common.{◌≡◌, ◌≢◌, ℕ, zero, suc, ◌+◌, ◌<◌, ◌≤◌, ◌||◌, ◌&&◌, ◌⊎◌, Bool, true, false, not, cond, List, [], ◌∷◌, ◌++◌, length, take, get_or, map, All, sum_by, Option, Some, None, eqb, refl, sym, ap, subst, ◌∙◌, inl, inr, arith, append_assoc, append-nil, length-append}
 use Rattle.std.specs.Option.{option_map, is_some, unwrap_or}
 use Rattle.std.specs.List.{list_any, flat_map, find}
 use Rattle.std.proofs.lemmas.Bool.{or_cases, or_parts, or_left, eqb-true, cases_Bool, cases_eq, eq-eqb, ne_eqb, cond-true, cond-false}
 use Rattle.std.proofs.lemmas.List.Folds.{list_any-append}
 use Rattle.std.proofs.lemmas.List.Sums.{sum_by-append}
-use Rattle.std.proofs.lemmas.List.Elements.{All-more}
+use Rattle.std.proofs.lemmas.List.{take-append-le, length-take, get_or-take, get_or_append_left}
+use Rattle.fb_graph.proofs.Sets.{is_in_at}
 use Rattle.fb_graph.specs.Parity.{is_in, differ}
 use Rattle.fb_graph.specs.Problem.{Problem, edge_at, touches, crosses}
 use Rattle.fb_graph.specs.Certificate.{load_of, total_value}
@@ -25,9 +26,9 @@ lone_cover name members v = cond (is_in members v) (Some name) None
 cover_one : (name : ℕ) (below : List Cut) (top : Cut) (v : ℕ) → cover_of (lone name below top) v ≡ lone_cover name top.vertices v
 cover_one name below top v = go (is_in top.vertices v)
   where
-  go : (b : Bool) → option_map (λ (m : Node). m.name) (cond b (Some (record { name = name; children = []; below = below; top = top })) None) ≡ cond b (Some name) None
-  go true = refl
-  go false = refl
+    go : (b : Bool) → option_map (λ (m : Node). m.name) (cond b (Some (record { name = name; children = []; below = below; top = top })) None) ≡ cond b (Some name) None
+    go true = refl
+    go false = refl
 
 module _ (p : Problem) (nodes : List Node) (name defect : ℕ) (members : List ℕ) (is_lone : IsLone p nodes name defect members) where
   pub cover_lone : (v : ℕ) → cover_of nodes v ≡ lone_cover name members v
@@ -44,9 +45,9 @@ module _ (p : Problem) (nodes : List Node) (name defect : ℕ) (members : List �
   pub within_lone : (v : ℕ) → is_some (cover_of nodes v) ≡ is_in members v
   within_lone v = ap is_some (cover_lone v) ∙ go (is_in members v)
     where
-    go : (b : Bool) → is_some (cond {A = Option ℕ} b (Some name) None) ≡ b
-    go true = refl
-    go false = refl
+      go : (b : Bool) → is_some (cond {A = Option ℕ} b (Some name) None) ≡ b
+      go true = refl
+      go false = refl
 
   pub top_lone : top_at nodes name ≡ members
   top_lone = ap (λ ns. top_at ns name) is_lone.only
@@ -77,9 +78,9 @@ first_vertices-top (b ∷ below) top new e = refl
 load-push : (cuts : List Cut) (set : List ℕ) (e : Edge) → load_of (cuts ++ record { value = 0; vertices = set } ∷ []) e ≡ load_of cuts e
 load-push cuts set e = load-append cuts (record { value = 0; vertices = set } ∷ []) e ∙ omega (arith, nothing (crosses set e))
   where
-  nothing : (b : Bool) → sum_by {X = ℕ} (λ _. cond {A = ℕ} b 0 0) (0 ∷ []) ≡ 0
-  nothing true = refl
-  nothing false = refl
+    nothing : (b : Bool) → sum_by {X = ℕ} (λ _. cond {A = ℕ} b 0 0) (0 ∷ []) ≡ 0
+    nothing true = refl
+    nothing false = refl
 
 total-push : (cuts : List Cut) (set : List ℕ) → total_value (cuts ++ record { value = 0; vertices = set } ∷ []) ≡ total_value cuts
 total-push cuts set = sum_by-append (λ c. c.value) cuts (record { value = 0; vertices = set } ∷ []) ∙ omega arith
@@ -96,15 +97,15 @@ module _ (p : Problem) (nodes : List Node) (name defect : ℕ) (members : List �
     (joined_edge : IsJoined p v w) (leads : Leads e v w) (within : is_in members v ≡ true) (without : is_in members w ≡ false) where
   pub inner_lone : inner_end nodes e ≡ v
   inner_lone = elim leads [
-      inl there ↦ ap (λ b. cond b e.first e.second) (within_lone p nodes name defect members is_lone e.first ∙ ap (is_in members) there.0 ∙ within) ∙ there.0
+    | inl there ↦ ap (λ b. cond b e.first e.second) (within_lone p nodes name defect members is_lone e.first ∙ ap (is_in members) there.0 ∙ within) ∙ there.0
     | inr back ↦ ap (λ b. cond b e.first e.second) (within_lone p nodes name defect members is_lone e.first ∙ ap (is_in members) back.1 ∙ without) ∙ back.0
-    ]
+  ]
 
   pub outer_lone : outer_end nodes e ≡ w
   outer_lone = elim leads [
-      inl there ↦ ap (λ b. cond b e.second e.first) (within_lone p nodes name defect members is_lone e.first ∙ ap (is_in members) there.0 ∙ within) ∙ there.1
+    | inl there ↦ ap (λ b. cond b e.second e.first) (within_lone p nodes name defect members is_lone e.first ∙ ap (is_in members) there.0 ∙ within) ∙ there.1
     | inr back ↦ ap (λ b. cond b e.second e.first) (within_lone p nodes name defect members is_lone e.first ∙ ap (is_in members) back.1 ∙ without) ∙ back.1
-    ]
+  ]
 
   pub absorbed_lone : absorbed nodes e ≡ lone name (is_lone.below ++ is_lone.top ∷ []) (new_layer is_lone.top w)
   absorbed_lone =
@@ -124,15 +125,16 @@ module _ (p : Problem) (nodes : List Node) (name defect : ℕ) (members : List �
         ∙ ap (λ vs. vs ++ []) (first_vertices-push is_lone.below is_lone.top (new_layer is_lone.top w))
         ∙ ap leaves (sym is_lone.only) ∙ is_lone.leaf;
     joined = λ u held. elim (or_cases (is_in members u) (is_in (w ∷ []) u) (sym (list_any-append (λ x. eqb x u) members (w ∷ [])) ∙ held)) [
-        inl old ↦ is_lone.joined u old
+      | inl old ↦ is_lone.joined u old
       | inr new ↦ subst (λ x. IsJoined p defect x) (is_in_one w u new) step
-      ]
+    ];
   }
     where
-    is_in_one : (x u : ℕ) → is_in (x ∷ []) u ≡ true → x ≡ u
-    is_in_one x u h = eqb-true x u (sym (or_nothing (eqb x u)) ∙ h)
-    step : IsJoined p defect w
-    step = joined_trans p defect v w (is_lone.joined v within) joined_edge
+      is_in_one : (x u : ℕ) → is_in (x ∷ []) u ≡ true → x ≡ u
+      is_in_one x u h = eqb-true x u (sym (or_nothing (eqb x u)) ∙ h)
+
+      step : IsJoined p defect w
+      step = joined_trans p defect v w (is_lone.joined v within) joined_edge
 
   pub has_taken_lone : HasTaken p nodes (absorbed nodes e) members (members ++ w ∷ [])
   has_taken_lone = record {
@@ -145,7 +147,7 @@ module _ (p : Problem) (nodes : List Node) (name defect : ℕ) (members : List �
     total = ap (λ ns. total_value (all_cuts ns)) absorbed_lone
         ∙ ap total_value (append-nil ((is_lone.below ++ is_lone.top ∷ []) ++ new_layer is_lone.top w ∷ []))
         ∙ total-push (is_lone.below ++ is_lone.top ∷ []) (is_lone.top.vertices ++ w ∷ [])
-        ∙ ap total_value (sym (cuts_lone p nodes name defect members is_lone))
+        ∙ ap total_value (sym (cuts_lone p nodes name defect members is_lone));
   }
 
 -- the top layer grows
@@ -163,7 +165,7 @@ module _ (p : Problem) (nodes : List Node) (name defect : ℕ) (members : List �
     leaf = ap leaves thicker_lone
         ∙ ap (λ vs. vs ++ []) (first_vertices-top is_lone.below is_lone.top (record is_lone.top { value = is_lone.top.value + k }) refl)
         ∙ ap leaves (sym is_lone.only) ∙ is_lone.leaf;
-    joined = is_lone.joined
+    joined = is_lone.joined;
   }
 
   pub total_grown : total_value (all_cuts (change_at name (thicker k) nodes)) ≡ total_value (all_cuts nodes) + k
@@ -171,8 +173,11 @@ module _ (p : Problem) (nodes : List Node) (name defect : ℕ) (members : List �
       ap (λ ns. total_value (all_cuts ns)) thicker_lone
       ∙ ap total_value (append-nil (is_lone.below ++ record is_lone.top { value = is_lone.top.value + k } ∷ []))
       ∙ sum_by-append (λ c. c.value) is_lone.below (record is_lone.top { value = is_lone.top.value + k } ∷ [])
-      ∙ omega (arith, sum_by-append {X = Cut} (λ c. c.value) is_lone.below (is_lone.top ∷ []),
-          ap total_value (cuts_lone p nodes name defect members is_lone))
+      ∙ omega (
+        arith,
+        sum_by-append {X = Cut} (λ c. c.value) is_lone.below (is_lone.top ∷ []),
+        ap total_value (cuts_lone p nodes name defect members is_lone),
+      )
 
 pub has_taken_refl : (p : Problem) (nodes : List Node) (members : List ℕ) → HasTaken p nodes nodes members members
 has_taken_refl p nodes members = record { more = []; longer = sym (append-nil members); loads = λ e. refl; total = refl }
@@ -182,7 +187,7 @@ has_taken_trans p a b c xs ys zs first second = record {
   more = first.more ++ second.more;
   longer = second.longer ∙ ap (λ us. us ++ second.more) first.longer ∙ append_assoc xs first.more second.more;
   loads = λ e. second.loads e ∙ first.loads e;
-  total = second.total ∙ first.total
+  total = second.total ∙ first.total;
 }
 
 module _ (p : Problem) (old new : List Node) (before after : List ℕ) (taken : HasTaken p old new before after) where
@@ -209,15 +214,37 @@ module _ (p : Problem) (old new : List Node) (before after : List ℕ) (taken : 
   pub clear_kept : (v : ℕ) (e : Edge) → is_in before v ≡ true → touches v e ≡ true → IsClear old before e → IsClear new after e
   clear_kept v e held at_v clear cross =
       rw (taken.loads e) (clear (crossed_before (is_in after e.first) (is_in after e.second) (is_in before e.first) (is_in before e.second) cross
-        (kept_member e.first) (kept_member e.second) (an_end (cases_Bool (eqb v e.first)))))
+      (kept_member e.first) (kept_member e.second) (an_end (cases_Bool (eqb v e.first)))))
     where
-    an_end : (eqb v e.first ≡ true) ⊎ (eqb v e.first ≡ false) → (is_in before e.first ≡ true) ⊎ (is_in before e.second ≡ true)
-    an_end (inl first) = inl (ap (is_in before) (sym (eqb-true v e.first first)) ∙ held)
-    an_end (inr not_first) = inr (ap (is_in before) (sym (eqb-true v e.second (second_of (eqb v e.second) (sym (ap (λ b. differ b (eqb v e.second)) not_first) ∙ at_v)))) ∙ held)
-      where
-      second_of : (b : Bool) → differ false b ≡ true → b ≡ true
-      second_of true h = refl
-      second_of false h = cc
+      an_end : (eqb v e.first ≡ true) ⊎ (eqb v e.first ≡ false) → (is_in before e.first ≡ true) ⊎ (is_in before e.second ≡ true)
+      an_end (inl first) = inl (ap (is_in before) (sym (eqb-true v e.first first)) ∙ held)
+      an_end (inr not_first) = inr (ap (is_in before) (sym (eqb-true v e.second (second_of (eqb v e.second) (sym (ap (λ b. differ b (eqb v e.second)) not_first) ∙ at_v)))) ∙ held)
+        where
+          second_of : (b : Bool) → differ false b ≡ true → b ≡ true
+          second_of true h = refl
+          second_of false h = cc
 
   pub round_kept : (v : ℕ) → is_in before v ≡ true → IsClearRound p old before v → IsClearRound p new after v
   round_kept v held round k below at_v = clear_kept v (edge_at p.edges k) held at_v (round k below at_v)
+
+-- what was clear round the first members stays so
+pub rounds_kept : (p : Problem) (old new : List Node) (before after : List ℕ) (i : ℕ) → HasTaken p old new before after → i ≤ length before
+    → All (IsClearRound p old before) (take i before) → All (IsClearRound p new after) (take i after)
+rounds_kept p old new before after i taken fits rounds =
+    subst (All (IsClearRound p new after)) (sym same_front)
+    (λ k d less. round_kept p old new before after taken (get_or (take i before) k d) (held k d less) (rounds k d less))
+  where
+    same_front : take i after ≡ take i before
+    same_front = ap (take i) taken.longer ∙ take-append-le i before taken.more fits
+
+    held : (k d : ℕ) → k < length (take i before) → is_in before (get_or (take i before) k d) ≡ true
+    held k d less =
+        let short : k < i = omega (arith, length-take i before) in
+        ap (is_in before) (get_or-take i before k d short) ∙ is_in_at before k d (omega (arith, length-take i before))
+
+pub length_kept : (p : Problem) (old new : List Node) (before after : List ℕ) → HasTaken p old new before after → length before ≤ length after
+length_kept p old new before after taken = omega (arith, ap length taken.longer ∙ length-append before taken.more)
+
+pub place_kept : (p : Problem) (old new : List Node) (before after : List ℕ) (i : ℕ) → HasTaken p old new before after → i < length before
+    → get_or after i 0 ≡ get_or before i 0
+place_kept p old new before after i taken less = ap (λ xs. get_or xs i 0) taken.longer ∙ get_or_append_left before taken.more 0 i less

@@ -1,5 +1,5 @@
 -- One region round one defect, while it grows.
-use Rattle.std.specs.Prelude.{ℕ, ◌≡◌, ◌+◌, ◌<◌, ◌≤◌, ◌^◌, ◌==◌, Bool, true, false, List, [], ◌∷◌, ◌++◌, length, All, Option, Some, None, IfSome, if◌then◌else◌}
+use Rattle.std.specs.Prelude.{ℕ, ◌≡◌, ◌+◌, ◌<◌, ◌≤◌, ◌^◌, ◌==◌, min, Bool, true, false, List, [], ◌∷◌, ◌++◌, length, All, Option, Some, None, IfSome, if◌then◌else◌}
 use Rattle.fb_graph.specs.Parity.{is_in}
 use Rattle.fb_graph.specs.Problem.{Problem, edge_at, touches, crosses, with_defects}
 use Rattle.fb_graph.specs.Certificate.{load_of, total_value, IsBest}
@@ -35,10 +35,13 @@ pub record HasTaken (p : Problem) (old new : List Node) (before after : List ℕ
 abbrev pub IsClear : List Node → List ℕ → Edge → Type 0
 IsClear nodes members e = crosses members e ≡ true → load_of (all_cuts nodes) e < e.weight
 
+-- if the edge is one at the vertex, it is clear
+abbrev pub IsClearAt : Problem → List Node → List ℕ → ℕ → ℕ → Type 0
+IsClearAt p nodes members v k = touches v (edge_at p.edges k) ≡ true → IsClear nodes members (edge_at p.edges k)
+
 -- each edge at the vertex is clear
 abbrev pub IsClearRound : Problem → List Node → List ℕ → ℕ → Type 0
-IsClearRound p nodes members v =
-    (k : ℕ) → k < length p.edges → touches v (edge_at p.edges k) ≡ true → IsClear nodes members (edge_at p.edges k)
+IsClearRound p nodes members v = (k : ℕ) → k < length p.edges → IsClearAt p nodes members v k
 
 -- an edge without residue that leads from the set to the boundary
 pub record IsWayOut (p : Problem) (nodes : List Node) (members : List ℕ) (k : ℕ) : Type 0 where
@@ -54,7 +57,7 @@ pub record IsWayOut (p : Problem) (nodes : List Node) (members : List ℕ) (k : 
 abbrev pub far_end : Edge → ℕ → ℕ
 far_end e v = if e.first == v then e.second else e.first
 
--- a bound on growth: none yet only if no edge leaves the set
+-- a bound on growth: none only where the edge doesn't leave the set
 abbrev pub Bounds : List Node → List ℕ → Option ℕ → Edge → Type 0
 Bounds nodes members (Some k) e = crosses members e ≡ true → load_of (all_cuts nodes) e + k ≤ e.weight
 Bounds nodes members None e = crosses members e ≡ false
@@ -63,6 +66,23 @@ Bounds nodes members None e = crosses members e ≡ false
 abbrev pub IsBound : Problem → List ℕ → Option ℕ → Type 0
 IsBound p members (Some k) = (1 ≤ k) × IsCrossed p members
 IsBound p members None = Unit {0}
+
+-- the new bound is no higher than the old one, if there was one
+abbrev pub IsNoHigher : Option ℕ → Option ℕ → Type 0
+IsNoHigher (Some new) (Some old) = new ≤ old
+IsNoHigher (Some new) None = Unit {0}
+IsNoHigher None (Some old) = ⊥
+IsNoHigher None None = Unit {0}
+
+-- the bound holds for each edge at the vertex
+abbrev pub BoundsRound : Problem → List Node → List ℕ → Option ℕ → ℕ → Type 0
+BoundsRound p nodes members least v =
+    (k : ℕ) → k < length p.edges → touches v (edge_at p.edges k) ≡ true → Bounds nodes members least (edge_at p.edges k)
+
+-- the lesser of a bound, if there is one, and a number
+abbrev pub lesser_of : Option ℕ → ℕ → ℕ
+lesser_of None r = r
+lesser_of (Some k) r = min k r
 
 -- the row of a shot of one defect: a correction with its certificate, or over where no correction exists
 abbrev pub IsRowOfOne : Problem → Row → Type 0

@@ -1,1 +1,6 @@
+//! The search for a best correction: at this stage for a shot of one defect, by growing one region to the boundary.
+
 #![tactic(auto)]
+
+mod growing;
+mod leaving;

@@ -10,10 +10,10 @@ use Rattle.fb_shots_stim.specs.declared.answer.Next.{Next}
 use Rattle.fb_shots_stim.specs.declared.answer.Next.TheVariants as answers
 use Rattle.fb_shots_stim.specs.declared.dense.Step.{Step}
 use Rattle.fb_shots_stim.specs.declared.dense.Step.TheVariants.{Line, NotYet, End, Refused}
-use Rattle.fb_shots_stim.specs.Records.{at_end, still_open, refused, only, with_line, Reader}
+use Rattle.fb_shots_stim.specs.Records.{at_end, still_open, refused, only, with_line, Reader, places_from}
 use Rattle.fb_shots_stim.specs.Lines.{holds, without_return, after_line}
 use Rattle.fb_shots_stim.specs.Answers.{Answers}
-use Rattle.fb_shots_stim.specs.Text01.{is_bit, ones_from, line_01, begun_01, records_01, front_01}
+use Rattle.fb_shots_stim.specs.Text01.{is_bit, is_one, line_01, begun_01, records_01, front_01}
 use Rattle.fb_shots_stim.specs.Step01.{line_end_01, bad_01, step_01}
 use Rattle.fb_shots_stim.proofs.LineLemmas.{after_line_one, after_line_none, holds_none, without_return_end, without_return_at}
 use Rattle.fb_shots_stim.proofs.RecordLemmas.{Stays, records_none, front_one, front_none, refused_part, refuses_front, refuses_last, gives_line, gives_last}
@@ -40,7 +40,7 @@ begun_bits n bits h le = rw (take_all n bits le, h, le-ltb n (length bits) le) r
 pub line_short : (n : ℕ) (bits : List ℕ) → list_all is_bit bits ≡ true → length bits < n → line_01 n bits ≡ Err ShortRecord
 line_short n bits h lt = rw (take_all n bits (omega arith), h, le-ltb n (length bits) (omega arith), lt-ltb (length bits) n lt) refl
 
-pub line_exact : (n : ℕ) (bits : List ℕ) → list_all is_bit bits ≡ true → length bits ≡ n → line_01 n bits ≡ Ok (Some (ones_from 0 bits))
+pub line_exact : (n : ℕ) (bits : List ℕ) → list_all is_bit bits ≡ true → length bits ≡ n → line_01 n bits ≡ Ok (Some (places_from is_one 0 bits))
 line_exact n bits h e = rw (take_all n bits (omega arith), h, le-ltb n (length bits) (omega arith), le-ltb (length bits) n (omega arith)) refl
 
 stays_bad : (n : ℕ) (part more : List ℕ) → list_all is_bit (take n part) ≡ false → (kind : Kind) → begun_01 n part ≡ refused kind → (line_01 n (part ++ more) ≡ Err kind) × (begun_01 n (part ++ more) ≡ refused kind)
@@ -120,7 +120,7 @@ reader n rest finished = record { detectors = n; rest = rest; finished = finishe
 
 -- the answer that a step leads to, and what it leaves of the rest
 abbrev pub answer_at : List ℕ → Step → Next
-answer_at bits (Line used) = answers.Shot (ones_from 0 bits)
+answer_at bits (Line used) = answers.Shot (places_from is_one 0 bits)
 answer_at bits NotYet = answers.NotYet
 answer_at bits End = answers.End
 answer_at bits (Refused kind) = answers.Refused kind
@@ -150,10 +150,10 @@ line_right : (n : ℕ) (finished : Bool) (bits tail line more : List ℕ) (endin
     → drop (length bits + ending) (bits ++ tail) ≡ more → IsRight n finished bits tail (line_end_01 n (length bits) ending)
 line_right n finished bits tail line more ending known cut h r rest = elim (cases_Bool (eqb (length bits) n)) [
   | inl e ↦
-      let judged : line_01 n (without_return line) ≡ Ok (Some (ones_from 0 bits)) = ap (line_01 n) r ∙ line_exact n bits known.each (eqb-true _ _ e) in
+      let judged : line_01 n (without_return line) ≡ Ok (Some (places_from is_one 0 bits)) = ap (line_01 n) r ∙ line_exact n bits known.each (eqb-true _ _ e) in
       let whole : bits ++ tail ≡ line ++ 10 ∷ drop (length bits + ending) (bits ++ tail) = cut ∙ ap (λ (l : List ℕ). line ++ 10 ∷ l) (sym rest) in
       subst (IsRight n finished bits tail) (sym (cond-true (eqb (length bits) n) (Line (length bits + ending)) (Refused ShortRecord) e)) (
-        gives_line (line_01 n) (begun_01 n) (reader n (bits ++ tail) finished) (reader n (drop (length bits + ending) (bits ++ tail)) finished) line (ones_from 0 bits) whole h judged,
+        gives_line (line_01 n) (begun_01 n) (reader n (bits ++ tail) finished) (reader n (drop (length bits + ending) (bits ++ tail)) finished) line (places_from is_one 0 bits) whole h judged,
         ap (λ (l : List ℕ). reader n l finished) (rest ∙ sym (ap after_line cut ∙ after_line_one line more h)),
       )
   | inr e ↦
@@ -169,9 +169,9 @@ last_right : (n : ℕ) (bits tail : List ℕ) (b : ℕ) (line : List ℕ) (endin
     → drop (length bits + ending) (bits ++ tail) ≡ [] → IsRight n true bits tail (line_end_01 n (length bits) ending)
 last_right n bits tail b line ending known cut h r rest = elim (cases_Bool (eqb (length bits) n)) [
   | inl e ↦
-      let judged : line_01 n (without_return (b ∷ line)) ≡ Ok (Some (ones_from 0 bits)) = ap (line_01 n) r ∙ line_exact n bits known.each (eqb-true _ _ e) in
+      let judged : line_01 n (without_return (b ∷ line)) ≡ Ok (Some (places_from is_one 0 bits)) = ap (line_01 n) r ∙ line_exact n bits known.each (eqb-true _ _ e) in
       subst (IsRight n true bits tail) (sym (cond-true (eqb (length bits) n) (Line (length bits + ending)) (Refused ShortRecord) e)) (
-        gives_last (line_01 n) (begun_01 n) (reader n (bits ++ tail) true) (reader n (drop (length bits + ending) (bits ++ tail)) true) b line (ones_from 0 bits) refl cut rest h judged,
+        gives_last (line_01 n) (begun_01 n) (reader n (bits ++ tail) true) (reader n (drop (length bits + ending) (bits ++ tail)) true) b line (places_from is_one 0 bits) refl cut rest h judged,
         ap (λ (l : List ℕ). reader n l true) (rest ∙ sym (ap after_line cut ∙ after_line_none (b ∷ line) h)),
       )
   | inr e ↦

@@ -1,3 +1,4 @@
 pub mod LineLemmas
 pub mod RecordLemmas
 pub mod Lemmas01
+pub mod LemmasB8

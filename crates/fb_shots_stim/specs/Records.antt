@@ -1,5 +1,5 @@
 -- What a text of shots holds: its shots in order, and how it ends.
-use Rattle.std.specs.Prelude.{◌≡◌, ℕ, Bool, List, [], ◌∷◌, ◌++◌, Option, Some, None, Result, Ok, Err}
+use Rattle.std.specs.Prelude.{◌≡◌, ℕ, ◌+◌, if◌then◌else◌, Bool, List, [], ◌∷◌, ◌++◌, Option, Some, None, Result, Ok, Err}
 use Rattle.fb_shots_stim.specs.declared.answer.Kind.{Kind}
 
 -- how a text of shots ends: at its end, inside what may still go on, or at the first thing that is refused
@@ -12,6 +12,11 @@ pub data Ending : Type 0 where
 pub record Records : Type 0 where
   pub shots : List (List ℕ)
   pub ending : Ending
+
+-- the places, counted from i, of the elements that pass
+abbrev pub places_from : (ℕ → Bool) → ℕ → List ℕ → List ℕ
+places_from passes i [] = []
+places_from passes i (x ∷ xs) = if passes x then i ∷ places_from passes (i + 1) xs else places_from passes (i + 1) xs
 
 -- no shot, and this ending
 abbrev pub only : Ending → Records

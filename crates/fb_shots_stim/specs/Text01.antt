@@ -1,9 +1,9 @@
 -- The format `01` of Stim's result formats: a line for each shot, a byte `0` or `1` for each detector.
-use Rattle.std.specs.Prelude.{ℕ, ◌+◌, ◌==◌, nat_lt, Bool, ◌||◌, List, [], ◌∷◌, length, take, if◌then◌else◌, Option, Some, Result, Ok, Err}
+use Rattle.std.specs.Prelude.{ℕ, ◌==◌, nat_lt, Bool, ◌||◌, List, length, take, if◌then◌else◌, Option, Some, Result, Ok, Err}
 use Rattle.std.specs.List.{list_all}
 use Rattle.fb_shots_stim.specs.declared.answer.Kind.{Kind}
 use Rattle.fb_shots_stim.specs.declared.answer.Kind.TheVariants.{BadByte, ShortRecord, LongRecord}
-use Rattle.fb_shots_stim.specs.Records.{Ending, still_open, refused, Records, Reader}
+use Rattle.fb_shots_stim.specs.Records.{Ending, still_open, refused, Records, Reader, places_from}
 use Rattle.fb_shots_stim.specs.Lines.{records_by_lines, front_by_lines}
 use Rattle.fb_shots_stim.specs.Answers.{reading}
 
@@ -11,16 +11,14 @@ use Rattle.fb_shots_stim.specs.Answers.{reading}
 abbrev pub is_bit : ℕ → Bool
 is_bit b = b == 48 || b == 49
 
--- the places of `1` in a line, counted from the place of its first byte
-abbrev pub ones_from : ℕ → List ℕ → List ℕ
-ones_from i [] = []
-ones_from i (b ∷ line) = if b == 49 then i ∷ ones_from (i + 1) line else ones_from (i + 1) line
+abbrev pub is_one : ℕ → Bool
+is_one b = b == 49
 
 -- A line of n detectors. Its bytes are judged in order, and its end after them.
 abbrev pub line_01 : ℕ → List ℕ → Result (Option (List ℕ)) Kind
 line_01 n line =
     if list_all is_bit (take n line)
-    then (if nat_lt n (length line) then Err LongRecord else (if nat_lt (length line) n then Err ShortRecord else Ok (Some (ones_from 0 line))))
+    then (if nat_lt n (length line) then Err LongRecord else (if nat_lt (length line) n then Err ShortRecord else Ok (Some (places_from is_one 0 line))))
     else Err BadByte
 
 -- the bytes of a line that may go on

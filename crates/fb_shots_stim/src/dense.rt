@@ -2,9 +2,10 @@
 
 ghost use Rattle.std.specs.Prelude.{◌≡◌, ℕ, ◌+◌, ◌^◌, ◌<◌, ◌≤◌, ◌++◌, [], Bool, true, false, length, take, slice_index, IfOk, OnOk, OnErr};
 ghost use Rattle.std.specs.List.{list_all};
+ghost use Rattle.fb_shots_stim.specs.Records.{places_from};
 ghost use Rattle.fb_shots_stim.specs.Lines.{after_line};
 ghost use Rattle.fb_shots_stim.specs.Answers.{answer_of, Answers};
-ghost use Rattle.fb_shots_stim.specs.Text01.{is_bit, ones_from, records_01, front_01, reading_01};
+ghost use Rattle.fb_shots_stim.specs.Text01.{is_bit, is_one, records_01, front_01, reading_01};
 ghost use Rattle.fb_shots_stim.specs.Step01.{step_01, line_end_01};
 
 use crate::answer::{Detectors, Kind, Next, NoMemory};
@@ -158,7 +159,7 @@ fn line_end(detectors: u32, good: usize, ending: usize) -> Step
 /// The places of `1` among bits.
 fn ones(alloc: Global, bits: &[u8]) -> Result<Detectors, NoMemory>
     requires { length bits.now < 2 ^ 32 }
-    ensures { IfOk result (λ shot. shot ≡ ones_from 0 bits.now) }
+    ensures { IfOk result (λ shot. shot ≡ places_from is_one 0 bits.now) }
 {
     let mut places = Vec::new(alloc);
     for (i, bit) in bits.iter().enumerate() {

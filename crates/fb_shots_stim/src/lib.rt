@@ -4,11 +4,13 @@
 mod answer;
 mod dense;
 mod laws;
+mod packed;
 mod pending;
 
 pub use answer::{Detectors, Kind, Next, NoMemory};
 pub use dense::Records01;
-pub use laws::goes_on_01;
+pub use laws::{goes_on_01, goes_on_b8};
+pub use packed::RecordsB8;
 
 #[cfg(test)]
 mod tests;

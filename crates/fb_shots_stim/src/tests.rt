@@ -90,3 +90,28 @@ fn reads_01(rt: HostRuntime) -> Result<(), Fail> {
     );
     Ok(())
 }
+
+#[test]
+fn reads_b8(rt: HostRuntime) {
+    let alloc = rt.alloc();
+    let mut reader = RecordsB8::new(alloc, 9);
+    assert!(rt; reader.feed(b"\x01").is_ok());
+    assert!(rt; is_not_yet(reader.next()));
+    assert!(rt; reader.feed(b"\x01\x01\x02").is_ok());
+    assert!(rt; is_shot(reader.next(), &[0, 8]));
+    assert!(rt; is_refused(reader.next(), Kind::PaddingBit));
+    reader.finish();
+    assert!(rt; is_refused(reader.next(), Kind::PaddingBit));
+    let mut reader = RecordsB8::new(alloc, 9);
+    assert!(rt; reader.feed(b"\x01\x01\x01").is_ok());
+    reader.finish();
+    assert!(rt; is_shot(reader.next(), &[0, 8]));
+    assert!(rt; is_refused(reader.next(), Kind::ShortRecord));
+    let mut reader = RecordsB8::new(alloc, 0);
+    assert!(rt; is_not_yet(reader.next()));
+    assert!(rt; reader.feed(b"\x00").is_ok());
+    assert!(rt; is_refused(reader.next(), Kind::LongRecord));
+    let mut reader = RecordsB8::new(alloc, 0);
+    reader.finish();
+    assert!(rt; is_end(reader.next()));
+}

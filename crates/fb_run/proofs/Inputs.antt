@@ -1,0 +1,57 @@
+-- One read of a named file after another.
+use Rattle.std.proofs.Common.{◌≡◌, ℕ, ◌<◌, ◌≤◌, ◌^◌, ◌⊎◌, List, [], ◌∷◌, ◌++◌, length, Option, Some, None, Ok, Err, refl, sym, ap, ◌∙◌, subst, inl, inr, arith, append_assoc, append-nil, lit<}
+use Rattle.fb_ports.specs.Causes.{TellsMore, HasRoom, IsEmptyIfTold}
+use Rattle.fb_run.specs.Judging.{Asks, AsksFront}
+
+some_same : (xs ys : List (List ℕ)) → ◌≡◌ {A = Option (List (List ℕ))} (Some xs) (Some ys) → xs ≡ ys
+some_same xs ys e = cc
+
+pub asks_one : (old new : Option (List (List ℕ))) (name : List ℕ) → TellsMore old new name → Asks old new (name ∷ [])
+asks_one None new name told = told
+asks_one (Some names) new name told = told
+
+pub asks_none : (old new : Option (List (List ℕ))) (wanted : List (List ℕ)) → new ≡ old → AsksFront old new wanted
+asks_none None new wanted same = ([], wanted, refl, same)
+asks_none (Some names) new wanted same = ([], wanted, refl, same ∙ ap Some (sym (append-nil names)))
+
+pub asks_front_one : (old new : Option (List (List ℕ))) (name : List ℕ) → TellsMore old new name → AsksFront old new (name ∷ [])
+asks_front_one old new name told = (name ∷ [], [], refl, asks_one old new name told)
+
+asks_onward : (old mid new : Option (List (List ℕ))) (name : List ℕ) (asked : List (List ℕ)) → Asks old mid (name ∷ []) → Asks mid new asked → Asks old new (name ∷ asked)
+asks_onward None mid new name asked first second = go mid first second
+  where
+    go : (m : Option (List (List ℕ))) → m ≡ None → Asks m new asked → new ≡ None
+    go None e s = s
+    go (Some xs) e s = cc
+asks_onward (Some names) mid new name asked first second = go mid first second
+  where
+    go : (m : Option (List (List ℕ))) → m ≡ Some (names ++ name ∷ []) → Asks m new asked → new ≡ Some (names ++ name ∷ asked)
+    go None e s = cc
+    go (Some xs) e s = s ∙ ap (λ ys. Some (ys ++ asked)) (some_same xs (names ++ name ∷ []) e) ∙ ap Some (append_assoc names (name ∷ []) asked)
+
+
+pub asks_front_onward : (old mid new : Option (List (List ℕ))) (name : List ℕ) (wanted : List (List ℕ))
+    → Asks old mid (name ∷ []) → AsksFront mid new wanted → AsksFront old new (name ∷ wanted)
+asks_front_onward old mid new name wanted first (asked, more, e, second) =
+    (name ∷ asked, more, ap (λ xs. name ∷ xs) e, asks_onward old mid new name asked first second)
+
+pub room_after : (old mid : Option (List (List ℕ))) (name : List ℕ) → IsEmptyIfTold old → Asks old mid (name ∷ []) → HasRoom mid 16
+room_after None mid name empty asked = go mid asked
+  where
+    go : (m : Option (List (List ℕ))) → m ≡ None → HasRoom m 16
+    go None e = tt
+    go (Some xs) e = cc
+room_after (Some names) mid name empty asked = go mid (asked ∙ ap (λ xs. Some (xs ++ name ∷ [])) empty)
+  where
+    go : (m : Option (List (List ℕ))) → m ≡ Some (name ∷ []) → HasRoom m 16
+    go None e = tt
+    go (Some xs) e = rw (some_same xs (name ∷ []) e) (lit< tt)
+
+
+pub room_at_first : (old : Option (List (List ℕ))) → IsEmptyIfTold old → HasRoom old 16
+room_at_first None empty = tt
+room_at_first (Some names) empty = rw empty (lit< tt)
+
+pub ruleset asking = (asks_one, asks_none, asks_front_one)
+
+pub ruleset asking_on = (asks_front_onward, room_after, room_at_first)

@@ -1,0 +1,143 @@
+//! The format `b8`: a block of bytes for each shot, a bit for each detector, the least significant first.
+
+ghost use Rattle.std.specs.Prelude.{◌≡◌, ℕ, ◌+◌, ◌*◌, ◌^◌, ◌<◌, ◌≤◌, ◌∷◌, ◌++◌, [], if◌then◌else◌, Bool, true, false, length, drop, IfOk, OnOk, OnErr};
+ghost use Rattle.std.specs.List.{list_any};
+ghost use Rattle.fb_shots_stim.specs.Records.{Reader, places_from};
+ghost use Rattle.fb_shots_stim.specs.Answers.{answer_of, Answers};
+ghost use Rattle.fb_shots_stim.specs.BlocksB8.{block_len, low_bits, bits_of, is_set, records_b8, front_b8, reading_b8};
+
+use crate::answer::{Detectors, Kind, Next, NoMemory};
+use crate::pending::Pending;
+use std::alloc::Global;
+use std::marker::Model;
+
+/// A reader of shots in the format `b8`. Contracts see the bytes fed that no answer has used, and whether they are all.
+#[derive(Drop)]
+pub struct RecordsB8 {
+    alloc: Global,
+    detectors: u32,
+    pending: Pending,
+    finished: bool,
+}
+
+impl Model for RecordsB8 {
+    ghost use Rattle.fb_shots_stim.specs.Records.{Reader};
+
+    ghost Value = { Reader };
+
+    ghost view = { λ r. record { detectors = r.detectors; rest = r.pending; finished = r.finished } };
+}
+
+impl RecordsB8 {
+    /// A reader of shots of so many detectors, with no bytes yet.
+    pub fn new(alloc: Global, detectors: u32) -> Self
+        ensures { result ≡ record { detectors = detectors; rest = []; finished = false } }
+    {
+        RecordsB8 {
+            alloc,
+            detectors,
+            pending: Pending::new(alloc),
+            finished: false,
+        }
+    }
+
+    /// Takes the next piece of the input.
+    pub fn feed(&mut self, piece: &[u8]) -> Result<(), NoMemory>
+        requires { self.old.finished ≡ false }
+        ensures ok { OnOk result (self.new ≡ record self.old { rest = self.old.rest ++ piece.now }) }
+        ensures err { OnErr result (self.new ≡ self.old) }
+    {
+        self.pending.put(piece)
+    }
+
+    /// Says that the input is whole.
+    pub fn finish(&mut self)
+        ensures { self.new ≡ record self.old { finished = true } }
+    {
+        self.finished = true;
+    }
+
+    /// Answers by the first record of the bytes that no answer has used, and uses up the block of a shot.
+    pub fn next(&mut self) -> Result<Next, NoMemory>
+        ensures answer { IfOk result (λ a. a ≡ answer_of (reading_b8 self.old)) }
+        ensures meaning { IfOk result (Answers records_b8 front_b8 (drop (block_len self.old.detectors)) self.old self.new) }
+        ensures err { OnErr result (self.new ≡ self.old) }
+    {
+        let size = (self.detectors as usize + 7) / 8;
+        let rest = self.pending.as_slice();
+        if size == 0 || rest.len() < size {
+            return Ok(unfilled(self.detectors, self.finished, rest));
+        }
+        let block = &rest[..size];
+        if has_padding(self.detectors, block) {
+            return Ok(Next::Refused(Kind::PaddingBit));
+        }
+        let shot = set_bits(self.alloc, block)?;
+        self.pending.take_off(size);
+        Ok(Next::Shot(shot))
+    }
+}
+
+/// The answer to bytes that hold no whole block.
+fn unfilled(detectors: u32, finished: bool, rest: &[u8]) -> Next
+    requires { 0 < detectors → length rest.now < block_len detectors }
+    ensures { let r : Reader = record { detectors = detectors; rest = rest.now; finished = finished } in
+        Answers records_b8 front_b8 (drop (block_len detectors)) r r result }
+{
+    if rest.is_empty() {
+        if finished { Next::End } else { Next::NotYet }
+    } else if detectors == 0 {
+        Next::Refused(Kind::LongRecord)
+    } else if finished {
+        Next::Refused(Kind::ShortRecord)
+    } else {
+        Next::NotYet
+    }
+}
+
+/// Whether a bit after the detectors' is set in their block.
+fn has_padding(detectors: u32, block: &[u8]) -> bool
+    requires some { 0 < detectors }
+    requires size { length block.now ≡ block_len detectors }
+    ensures { result ≡ list_any is_set (drop detectors (bits_of block.now)) }
+{
+    let taken = detectors % 8;
+    taken != 0 && block[block.len() - 1] >> taken != 0
+}
+
+/// The places of the set bits, the first byte's first.
+fn set_bits(alloc: Global, block: &[u8]) -> Result<Detectors, NoMemory>
+    requires { length block.now * 8 ≤ 2 ^ 32 }
+    ensures { IfOk result (λ shot. shot ≡ places_from is_set 0 (bits_of block.now)) }
+{
+    let mut places = Vec::new(alloc);
+    for (i, byte) in block.iter().enumerate() {
+        push_set_bits(&mut places, i * 8, *byte)?;
+    }
+    Ok(Detectors::from_vec(places))
+}
+
+/// Pushes the places of a byte's set bits, of which the least significant stands at `first`.
+fn push_set_bits(places: &mut Vec<u32>, first: usize, byte: u8) -> Result<(), NoMemory>
+    requires { first + 8 ≤ 2 ^ 32 }
+    ensures { OnOk result (places.new.items ≡ places.old.items ++ places_from is_set first (low_bits 8 byte)) }
+{
+    let mut place = first;
+    let mut left = byte;
+    while left != 0 {
+        push_if(places, left % 2 == 1, place)?;
+        place += 1;
+        left /= 2;
+    }
+    Ok(())
+}
+
+fn push_if(places: &mut Vec<u32>, set: bool, place: usize) -> Result<(), NoMemory>
+    requires { place < 2 ^ 32 }
+    ensures { OnOk result (places.new.items ≡ places.old.items ++ (if set then place ∷ [] else [])) }
+{
+    if set && places.push(place as u32).is_err() {
+        return Err(NoMemory);
+    }
+    Ok(())
+}
