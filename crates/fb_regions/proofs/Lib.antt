@@ -10,3 +10,4 @@ pub mod Opened
 pub mod Raised
 pub mod Absorbed
 pub mod Backward
+pub mod Rooms

@@ -8,15 +8,25 @@ abbrev pub line : DecodingGraph
 line = record {
   vertices = 5;
   edges =
-    record { first = 0; second = 1; weight = 2 } ∷ record { first = 1; second = 2; weight = 4 } ∷ record { first = 2; second = 3; weight = 2 }
-    ∷ record { first = 3; second = 4; weight = 6 } ∷ [];
+      record { first = 0; second = 1; weight = 2 } ∷ record { first = 1; second = 2; weight = 4 } ∷ record { first = 2; second = 3; weight = 2 }
+      ∷ record { first = 3; second = 4; weight = 6 } ∷ [];
   virtuals = 0 ∷ 4 ∷ [];
 }
 
 abbrev cut : ℕ → List ℕ → Cut
 cut value vertices = record { value = value; vertices = vertices }
 
--- node 7 round the defect 2, which took up 3 and then 1
-abbrev pub line_nodes : List Node
-line_nodes =
-    record { name = 7; children = []; below = cut 2 (2 ∷ []) ∷ cut 2 (2 ∷ 3 ∷ []) ∷ []; top = cut 2 (2 ∷ 3 ∷ 1 ∷ []) } ∷ []
+abbrev node : List Cut → Cut → List Node
+node below top = record { name = 7; children = []; below = below; top = top } ∷ []
+
+-- node 7 grew round the defect 2
+abbrev pub sprout : List Node
+sprout = node [] (cut 2 (2 ∷ []))
+
+-- then it took up 3
+abbrev pub stem : List Node
+stem = node (cut 2 (2 ∷ []) ∷ []) (cut 2 (2 ∷ 3 ∷ []))
+
+-- and then 1
+abbrev pub bloom : List Node
+bloom = node (cut 2 (2 ∷ []) ∷ cut 2 (2 ∷ 3 ∷ []) ∷ []) (cut 2 (2 ∷ 3 ∷ 1 ∷ []))

@@ -39,6 +39,13 @@ outer_end nodes e = if is_some (cover_of nodes e.first) then e.second else e.fir
 abbrev pub absorbed : List Node → Edge → List Node
 absorbed nodes e = change_at (unwrap_or (cover_of nodes (inner_end nodes e)) 0) (taller (outer_end nodes e)) nodes
 
+-- the step over edge k from its inner end to its outer one
+pub record IsOver (p : Problem) (nodes : List Node) (k : ℕ) (s : Step) : Type 0 where
+  pub from : s.from ≡ inner_end nodes (edge_at p.edges k)
+  pub to : s.to ≡ outer_end nodes (edge_at p.edges k)
+  pub edge : s.edge ≡ k
+  pub weight : s.weight ≡ (edge_at p.edges k).weight
+
 -- an end of the edge is real
 abbrev pub has_real_end : Problem → Edge → Bool
 has_real_end p e = p.is_real e.first || p.is_real e.second

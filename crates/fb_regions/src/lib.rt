@@ -2,14 +2,13 @@
 
 #![tactic(auto)]
 
-pub mod marks;
-pub mod region;
+mod marks;
+mod region;
 pub mod regions;
 pub mod roles;
-pub mod walk;
-
 #[cfg(test)]
 mod tests;
+pub mod walk;
 
 pub use fb_graph::Cut as Layer;
 pub use regions::Regions;

@@ -15,6 +15,7 @@ pub struct Mark {
     pub by: Option<Step>,
 }
 
+/// The mark of a vertex; none where no node holds it.
 pub fn mark_at(marks: &[Option<Mark>], v: u32) -> Option<Mark>
     ensures { result ≡ get_or marks.now v None }
 {

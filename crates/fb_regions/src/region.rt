@@ -11,7 +11,7 @@ use std::marker::Model;
 #[derive(Drop)]
 pub struct Region {
     name: NodeId,
-    /// The sum of its layers' values.
+    /// The sum of the layers' values.
     radius: u64,
     below: Vec<Cut>,
     top: Cut,
@@ -33,6 +33,7 @@ impl Model for Region {
 }
 
 impl Region {
+    /// The node of one defect, with one layer of value 0.
     pub fn leaf(alloc: Global, name: NodeId, v: u32) -> Result<Region, NoMemory>
         ensures { IfOk result (λ r. r ≡ leaf name v) }
     {
@@ -51,6 +52,7 @@ impl Region {
         self.name
     }
 
+    /// The sum of the layers' values.
     pub fn radius(&self) -> u64
         ensures { result ≡ total_value (layers_of self.now) }
     {
@@ -64,6 +66,7 @@ impl Region {
         self.top.vertices.as_slice().len()
     }
 
+    /// Adds k to the value of the top layer.
     pub fn thicken(&mut self, k: u64)
         requires { total_value (layers_of self.old) + k < 2 ^ 64 }
         ensures { self.new ≡ thicker k self.old }

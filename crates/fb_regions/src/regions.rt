@@ -3,7 +3,7 @@ ghost use Rattle.fb_graph.specs.Parity.{is_in};
 ghost use Rattle.fb_graph.specs.Problem.{edge_at};
 ghost use Rattle.fb_graph.specs.Certificate.{load_of};
 ghost use Rattle.fb_regions.specs.Dual.{AreUnderOne, IsDual, all_cuts, change_at, cover_of, height_of, is_live, is_outer, leaf, leaves, thicker};
-ghost use Rattle.fb_regions.specs.Moves.{AllowsGrowth, IsCrossed, IsSourceWalk, absorbed, inner_end, layers_at, outer_end, top_at};
+ghost use Rattle.fb_regions.specs.Moves.{AllowsGrowth, IsCrossed, IsOver, IsSourceWalk, absorbed, inner_end, layers_at, outer_end, top_at};
 
 use crate::marks::{Mark, mark_at, step_to};
 use crate::region::{Region, place_of};
@@ -130,10 +130,7 @@ impl<S: Scope> Regions<S> {
     /// The step over the edge from its inner end to its outer one.
     fn step_over(&self, edge: u32) -> Step
         requires { edge < length (S.problem self.now.scope).edges }
-        ensures from { result.from ≡ inner_end self.now.nodes (edge_at (S.problem self.now.scope).edges edge) }
-        ensures to { result.to ≡ outer_end self.now.nodes (edge_at (S.problem self.now.scope).edges edge) }
-        ensures edge { result.edge ≡ edge }
-        ensures weight { result.weight ≡ (edge_at (S.problem self.now.scope).edges edge).weight }
+        ensures { IsOver (S.problem self.now.scope) self.now.nodes edge result }
     {
         let (first, second) = self.scope.ends(edge);
         let weight = self.scope.weight(edge);

@@ -1,5 +1,5 @@
-ghost use Rattle.std.specs.Prelude.{◌≡◌, IfOk};
-ghost use Rattle.fb_regions.specs.Line.{line, line_nodes};
+ghost use Rattle.std.specs.Prelude.{◌≡◌, IfOk, OnOk};
+ghost use Rattle.fb_regions.specs.Line.{bloom, line, sprout, stem};
 
 use crate::{Regions, Step};
 use fb_graph::{Graph, GraphFault, NoMemory, Whole};
@@ -9,20 +9,51 @@ use std::test::Fail;
 fn line_graph(alloc: Global) -> Result<Graph, GraphFault>
     ensures { IfOk result (λ g. g ≡ line) }
 {
-    Graph::build(alloc, 5, &[(0, 1, 2), (1, 2, 4), (2, 3, 2), (3, 4, 6)], &[0, 4])
+    Graph::build(
+        alloc,
+        5,
+        &[(0, 1, 2), (1, 2, 4), (2, 3, 2), (3, 4, 6)],
+        &[0, 4],
+    )
 }
 
-fn grown<'a>(alloc: Global, graph: &'a Graph) -> Result<Regions<Whole<'a>>, NoMemory>
+fn sprouted<'a>(alloc: Global, graph: &'a Graph) -> Result<Regions<Whole<'a>>, NoMemory>
     requires { graph.now ≡ line }
-    ensures { IfOk result (λ r. r ≡ record { scope = record { 0 = graph.entry }; nodes = line_nodes }) }
+    ensures { IfOk result (λ r. r ≡ record { scope = record { 0 = graph.entry }; nodes = sprout }) }
 {
     let mut regions = Regions::new(alloc, &Whole(graph))?;
     regions.open_leaf(alloc, 7, 2)?;
     regions.grow(7, 2)?;
+    Ok(regions)
+}
+
+fn take_up_three(alloc: Global, regions: &mut Regions<Whole<'_>>) -> Result<(), NoMemory>
+    requires graph { regions.old.scope.0.now ≡ line }
+    requires nodes { regions.old.nodes ≡ sprout }
+    ensures { OnOk result (regions.new ≡ record { scope = regions.old.scope; nodes = stem }) }
+{
     regions.absorb(alloc, 2)?;
     regions.grow(7, 2)?;
+    Ok(())
+}
+
+fn take_up_one(alloc: Global, regions: &mut Regions<Whole<'_>>) -> Result<(), NoMemory>
+    requires graph { regions.old.scope.0.now ≡ line }
+    requires nodes { regions.old.nodes ≡ stem }
+    ensures { OnOk result (regions.new ≡ record { scope = regions.old.scope; nodes = bloom }) }
+{
     regions.absorb(alloc, 1)?;
     regions.grow(7, 2)?;
+    Ok(())
+}
+
+fn grown<'a>(alloc: Global, graph: &'a Graph) -> Result<Regions<Whole<'a>>, NoMemory>
+    requires { graph.now ≡ line }
+    ensures { IfOk result (λ r. r ≡ record { scope = record { 0 = graph.entry }; nodes = bloom }) }
+{
+    let mut regions = sprouted(alloc, graph)?;
+    take_up_three(alloc, &mut regions)?;
+    take_up_one(alloc, &mut regions)?;
     Ok(regions)
 }
 

@@ -2,7 +2,7 @@ ghost use Rattle.std.specs.Prelude.{◌≡◌};
 
 use std::marker::Model;
 
-/// One edge of a walk, gone over from one of its ends to the other.
+/// One edge of a walk, by its number, gone over from one of its ends to the other.
 #[derive(Clone, Copy, Debug, PartialEq, Eq)]
 pub struct Step {
     pub from: u32,
@@ -27,18 +27,21 @@ impl Model for Walk {
 }
 
 impl Walk {
+    /// The walk of these steps.
     pub fn from_vec(steps: Vec<Step>) -> Walk
         ensures { result ≡ steps.items }
     {
         Walk { steps }
     }
 
+    /// The steps of the walk.
     pub fn into_vec(self) -> Vec<Step>
         ensures { result.items ≡ self }
     {
         self.steps
     }
 
+    /// The steps of the walk, in their order.
     pub fn steps(&self) -> &[Step]
         ensures { result.now ≡ self.now }
     {
