@@ -10,5 +10,6 @@ pub mod OddOnes
 pub mod ParitySums
 pub mod Ranges
 pub mod Sets
+pub mod Shots
 pub mod Sums
 pub mod Walks

@@ -9,6 +9,7 @@ pub mod lists;
 pub mod network;
 pub mod parts;
 pub mod scope_of;
+pub mod shot;
 pub mod whole;
 
 pub use faults::{GraphFault, NoMemory};
@@ -20,4 +21,5 @@ pub use lists::{CutList, NumberList};
 pub use network::Graph;
 pub use parts::{Cut, Edge, Row};
 pub use scope_of::Scope;
+pub use shot::Shot;
 pub use whole::Whole;
