@@ -3,9 +3,11 @@ pub mod ClosedComponents
 pub mod ClosedSets
 pub mod Duality
 pub mod Examples
+pub mod LabelSteps
 pub mod Layouts
 pub mod Matching
 pub mod OddComponents
+pub mod OddLabels
 pub mod OddOnes
 pub mod ParitySums
 pub mod Ranges

@@ -7,3 +7,4 @@ pub mod GraphRules
 pub mod Limits
 pub mod Laws
 pub mod Layout
+pub mod Labelling

@@ -3,6 +3,7 @@
 #![tactic(auto)]
 
 mod building;
+pub mod connected;
 pub mod faults;
 pub mod laws;
 pub mod lists;
@@ -12,6 +13,7 @@ pub mod scope_of;
 pub mod shot;
 pub mod whole;
 
+pub use connected::{Components, first_odd};
 pub use faults::{GraphFault, NoMemory};
 pub use laws::{
     closed_odd_set, least_weight, no_odd_closed_set, no_odd_component, odd_has_no_correction,
