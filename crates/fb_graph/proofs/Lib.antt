@@ -1,8 +1,10 @@
+pub mod Boundaries
 pub mod BuildSteps
 pub mod ClosedComponents
 pub mod ClosedSets
 pub mod Duality
 pub mod Examples
+pub mod Floods
 pub mod LabelSteps
 pub mod Layouts
 pub mod Matching

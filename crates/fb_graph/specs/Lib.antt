@@ -8,3 +8,4 @@ pub mod Limits
 pub mod Laws
 pub mod Layout
 pub mod Labelling
+pub mod Flooding

@@ -4,7 +4,9 @@
 
 mod building;
 pub mod connected;
+pub mod connecting;
 pub mod faults;
+mod flooding;
 pub mod laws;
 pub mod lists;
 pub mod network;
@@ -14,6 +16,7 @@ pub mod shot;
 pub mod whole;
 
 pub use connected::{Components, first_odd};
+pub use connecting::components;
 pub use faults::{GraphFault, NoMemory};
 pub use laws::{
     closed_odd_set, least_weight, no_odd_closed_set, no_odd_component, odd_has_no_correction,
