@@ -1,5 +1,5 @@
 -- The vertices of one label are a component, so that the first odd component is found by its label.
-use Rattle.std.proofs.Common.{ℕ, ◌<◌, ◌≤◌, ◌≡◌, ◌==◌, ◌⊎◌, ◌&&◌, Bool, true, false, not, nat_lt, min, List, [], ◌∷◌, length, map, get_or, All, filter, Option, Some, None, refl, sym, ap, subst, ◌∙◌, inl, inr, arith}
+use Rattle.std.proofs.Common.{ℕ, ◌<◌, ◌≤◌, ◌≡◌, ◌==◌, ◌⊎◌, ◌&&◌, Bool, true, false, not, nat_lt, min, List, [], ◌∷◌, length, map, get_or, All, filter, Option, Some, None, IfNone, refl, sym, ap, subst, ◌∙◌, inl, inr, arith}
 use Rattle.std.specs.List.{range_with_len, list_any}
 use Rattle.std.proofs.lemmas.Bool.{false≢true, both_ways, eq-eqb, eqb-true, lt-ltb, ltb-true, and_from, and_parts, or_left, or_right, not-true, not_from_false, false_from_ne_true}
 use Rattle.std.proofs.lemmas.List.Folds.{list_any_none}
@@ -8,8 +8,10 @@ use Rattle.fb_graph.specs.Problem.{Problem, edge_at, no_edge}
 use Rattle.fb_graph.specs.Certificate.{AreDistinct}
 use Rattle.fb_graph.specs.Components.{Leads, IsWalkBy, IsJoined, IsComponent, IsOddAt, IsFirstOdd}
 use Rattle.fb_graph.specs.Limits.{DecodingGraph, IsGraph, IsShot, is_real_in, problem_of}
+use Rattle.fb_graph.specs.Laws.{HasNoOddClosed}
 use Rattle.fb_graph.specs.Labelling.{IsLabelling, IsBounded, AreOdd, IsLeast, label_of, has_virtual, odd_labels}
 use Rattle.fb_graph.specs.declared.parts.Edge.{Edge}
+use Rattle.fb_graph.proofs.ClosedComponents.{no_odd_component}
 use Rattle.fb_graph.proofs.LabelSteps.{any_from_is_in}
 use Rattle.fb_graph.proofs.ParitySums.{odd_agree}
 use Rattle.fb_graph.proofs.Ranges.{filter-range_below, is_in-filter-range}
@@ -55,6 +57,14 @@ leads_label : (labels : List ℕ) (e : Edge) (a b : ℕ) → label_of labels e.f
     → label_of labels a ≡ label_of labels b
 leads_label labels e a b same (inl h) = ap (label_of labels) (sym h.0) ∙ (same ∙ ap (label_of labels) h.1)
 leads_label labels e a b same (inr h) = ap (label_of labels) (sym h.0) ∙ (sym same ∙ ap (label_of labels) h.1)
+
+-- where there is no odd component, no closed set is odd
+pub closed_from_first : (g : DecodingGraph) (defects : List ℕ) (result : Option ℕ)
+    → IsFirstOdd (problem_of g defects) result → IfNone result (HasNoOddClosed (problem_of g defects))
+closed_from_first g defects None first =
+    no_odd_component (problem_of g defects)
+    (λ v real. ltb-true v g.vertices (and_parts (nat_lt v g.vertices) (not (is_in g.virtuals v)) real).0) first
+closed_from_first g defects (Some r) first = tt
 
 module _ (g : DecodingGraph) (labels : List ℕ) (graph : IsGraph g) (labelling : IsLabelling g labels)
     (defects : List ℕ) where

@@ -1,9 +1,10 @@
 //! Whether a shot has a correction: the components of a graph, and the defects in them.
 
-ghost use Rattle.std.specs.Prelude.{◌≡◌, ◌<◌, ℕ, min, length, All};
+ghost use Rattle.std.specs.Prelude.{◌≡◌, ◌<◌, ℕ, min, length, All, IfNone};
 ghost use Rattle.std.specs.List.{reduce};
 ghost use Rattle.fb_graph.specs.Components.{IsFirstOdd};
 ghost use Rattle.fb_graph.specs.Limits.{IsShot, problem_of};
+ghost use Rattle.fb_graph.specs.Laws.{HasNoOddClosed};
 ghost use Rattle.fb_graph.specs.Labelling.{AreClear, AreOdd, AreOf, odd_labels};
 
 use crate::network::Graph;
@@ -35,6 +36,7 @@ impl<'a> Model for Components<'a> {
 pub fn first_odd(parts: &mut Components, shot: &Shot) -> Option<u32>
     requires { IsShot parts.old shot.now }
     ensures first { IsFirstOdd (problem_of parts.old shot.now) result }
+    ensures closed { IfNone result (HasNoOddClosed (problem_of parts.old shot.now)) }
     ensures same { parts.new ≡ parts.old }
 {
     parts.graph.limits();

@@ -2,7 +2,7 @@ use Rattle.std.proofs.Common.{◌≡◌, ◌∙◌, length, ap, arith}
 use Rattle.fb_graph.specs.Limits.{IsShot}
 use Rattle.fb_graph.specs.Labelling.{AreOdd}
 use Rattle.fb_graph.proofs.LabelSteps.{least_from_reduce, of_odd}
-use Rattle.fb_graph.proofs.OddLabels.{first_from_least}
+use Rattle.fb_graph.proofs.OddLabels.{closed_from_first, first_from_least}
 use Rattle.fb_graph.proofs.connected.first_odd.Goals as goal
 
 pub clear_counts-requires-clause-set : goal.clear_counts-requires-clause-set
@@ -26,3 +26,7 @@ returns-clause-first c =
     (first_from_least c.parts.inside.graph.now c.parts.inside.labels.items c.limits.ensures
     c.parts.invariant.labelling c.args.shot.now c.parts.inside.bounded.items c.count_defects.new.odd
     c.parts.invariant.boundary counts shot _ (least_from_reduce _))
+
+pub returns-clause-closed : goal.returns-clause-closed
+returns-clause-closed c =
+    closed_from_first c.args.parts.now c.args.shot.now c.least_odd-first.result (returns-clause-first c)
