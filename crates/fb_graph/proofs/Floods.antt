@@ -1,7 +1,7 @@
 -- A search that gives each vertex the label of its component: one more vertex, one more edge, one more component.
-use Rattle.std.proofs.Common.{ℕ, zero, suc, ◌+◌, ◌<◌, ◌≤◌, ◌≡◌, ◌≢◌, ◌==◌, ◌⊎◌, ◌&&◌, ◌||◌, Bool, true, false, cond, if◌then◌else◌, List, [], ◌∷◌, ◌++◌, length, take, drop, get_or, set, All, filter, le_refl, le_trans, refl, sym, ap, subst, ◌∙◌, inl, inr, arith, length-set, length-append}
-use Rattle.std.specs.List.{range_with_len, list_any}
-use Rattle.std.proofs.lemmas.Bool.{false≢true, both_ways, cases_eq, cases_lt, cases_Bool, eq-eqb, eqb-true, ne_eqb, or_cases, or_left, or_right, and_parts, true≢false, false_from_ne_true}
+use Rattle.std.proofs.Common.{ℕ, ◌+◌, ◌<◌, ◌≤◌, ◌≡◌, ◌≢◌, ◌==◌, ◌⊎◌, ◌||◌, Bool, true, false, cond, List, [], ◌∷◌, ◌++◌, length, take, drop, get_or, set, All, le_refl, le_trans, refl, sym, ap, subst, ◌∙◌, inl, inr, arith, length-set}
+use Rattle.std.specs.List.{range_with_len}
+use Rattle.std.proofs.lemmas.Bool.{false≢true, both_ways, cases_eq, cases_lt, cases_Bool, eq-eqb, eqb-true, ne_eqb, or_cases, or_left, or_right, false_from_ne_true}
 use Rattle.std.proofs.lemmas.List.{get_or-set_same, get_or-set_other, get_or_append_left, take-append-le, drop-append-le, take-append-drop, take_all, take_more, drop_all, drop_more, length_push}
 use Rattle.std.proofs.lemmas.List.Elements.{All-from_get_or, All-nil, All-cons, All-append}
 use Rattle.std.proofs.lemmas.List.Folds.{list_any-append}
@@ -9,15 +9,14 @@ use Rattle.std.proofs.lemmas.List.FromFn.{length-range_with_len}
 use Rattle.fb_graph.specs.Parity.{differ, is_in}
 use Rattle.fb_graph.specs.Problem.{edge_at, no_edge, touches}
 use Rattle.fb_graph.specs.Certificate.{AreDistinct}
-use Rattle.fb_graph.specs.Components.{Leads, IsWalkBy, IsJoined}
+use Rattle.fb_graph.specs.Components.{IsJoined}
 use Rattle.fb_graph.specs.Flooding.{Reached, IsReached, reached, with_ends, Grows, IsSettled, IsFlooding}
 use Rattle.fb_graph.specs.Labelling.{IsLabelling, label_of}
 use Rattle.fb_graph.specs.Layout.{edges_at}
 use Rattle.fb_graph.specs.Limits.{DecodingGraph, IsGraph, problem_of}
 use Rattle.fb_graph.specs.declared.parts.Edge.{Edge}
-use Rattle.fb_graph.proofs.ParitySums.{differ_comm}
 use Rattle.fb_graph.proofs.Ranges.{filter-range_below, is_in-filter-range}
-use Rattle.fb_graph.proofs.Sets.{All-from_is_in, distinct_from_rising, is_in-All, is_in-cases, is_in-filter, is_in-head, is_in-range, is_in-tail, is_in_at, length-le_from_within, range_below, range_rises}
+use Rattle.fb_graph.proofs.Sets.{distinct_from_rising, is_in-All, is_in-cases, is_in-head, is_in-range, is_in-tail, is_in_at, length-le_from_within, range_rises}
 use Rattle.fb_graph.proofs.Walks.{joined_ends, joined_self, joined_sym, joined_trans}
 
 -- lists with one number more
@@ -194,10 +193,10 @@ module _ (g : DecodingGraph) (graph : IsGraph g) where
         joined = λ u h. joined_to u (is_in-push s.order v u h);
         passed = λ u before. is_in-left s.order (v ∷ []) u (flooding.passed u before);
         settled = λ u h k less touched.
-        settled_grows s _ (edge_at g.edges k) grows
+            settled_grows s _ (edge_at g.edges k) grows
             (flooding.settled u (ap (λ xs. is_in xs u) (sym (take-append-le head s.order (v ∷ []) place)) ∙ h) k less touched);
         waiting = λ u h.
-        waits u (is_in-push (drop head s.order) v u (ap (λ xs. is_in xs u) (sym (drop-append-le head s.order (v ∷ []) place)) ∙ h));
+            waits u (is_in-push (drop head s.order) v u (ap (λ xs. is_in xs u) (sym (drop-append-le head s.order (v ∷ []) place)) ∙ h));
       }
         where
           grows : Grows s (record { labels = set s.labels v label; order = s.order ++ v ∷ [] })

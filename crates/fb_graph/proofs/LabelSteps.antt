@@ -1,11 +1,11 @@
 -- The steps of the loops over the labels of a shot's defects.
-use Rattle.std.proofs.Common.{ℕ, ◌+◌, ◌<◌, ◌≤◌, ◌≡◌, ◌==◌, ◌||◌, Bool, true, false, not, min, List, [], ◌∷◌, ◌++◌, length, get_or, set, take, drop, Option, Some, None, refl, sym, ap, ◌∙◌, ◌⊎◌, inl, inr, le_refl, arith}
+use Rattle.std.proofs.Common.{ℕ, ◌+◌, ◌<◌, ◌≤◌, ◌≡◌, ◌==◌, ◌||◌, Bool, true, false, not, min, List, [], ◌∷◌, length, get_or, set, take, drop, All, Option, Some, None, refl, sym, ap, ◌∙◌, ◌⊎◌, inl, inr, le_refl, arith}
 use Rattle.std.specs.List.{list_any, reduce, fold}
 use Rattle.std.proofs.lemmas.Bool.{cases_eq, cases_lt, eq-eqb, ne_eqb, true≢false, false_from_ne_true, false≢true, or_left, or_right}
 use Rattle.std.proofs.lemmas.List.{take_more, drop_more, get_or-set_same, get_or-set_other, set_past, get_or_past}
 use Rattle.std.proofs.lemmas.List.Elements.{All-nil, All-cons, All-head, All-tail}
 use Rattle.fb_graph.specs.Parity.{differ, is_odd_count, is_in}
-use Rattle.fb_graph.specs.Labelling.{AreClear, AreOdd, AreOf, IsLeast, label_of}
+use Rattle.fb_graph.specs.Labelling.{AreClear, AreOdd, AreOf, label_of}
 use Rattle.fb_graph.proofs.ParitySums.{odd-append, differ-false}
 use Rattle.fb_graph.proofs.Sets.{is_in-head, is_in-tail, is_in-cases, member_of_odd}
 
@@ -103,6 +103,11 @@ clear_more labels defects odd i less told label is_set =
 pub clear_all : (labels : List ℕ) (odd : List Bool) → AreOf labels [] odd → AreClear odd
 clear_all labels odd told label =
     false_from_ne_true (get_or odd label false) (λ is_set. true≢false (sym (told label is_set)))
+
+-- the least of the numbers; None where there is none
+abbrev pub IsLeast : List ℕ → Option ℕ → Type 0
+IsLeast xs None = xs ≡ []
+IsLeast xs (Some least) = (is_in xs least ≡ true) × All (λ x. least ≤ x) xs
 
 -- the least of some numbers is one of them, and no other is below it
 least_of_fold : (a : ℕ) (xs : List ℕ) → IsLeast (a ∷ xs) (Some (fold min a xs))

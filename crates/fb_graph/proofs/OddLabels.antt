@@ -1,18 +1,18 @@
 -- The vertices of one label are a component, so that the first odd component is found by its label.
-use Rattle.std.proofs.Common.{ℕ, ◌<◌, ◌≤◌, ◌≡◌, ◌==◌, ◌⊎◌, ◌&&◌, Bool, true, false, not, nat_lt, min, List, [], ◌∷◌, length, map, get_or, All, filter, Option, Some, None, IfNone, refl, sym, ap, subst, ◌∙◌, inl, inr, arith}
-use Rattle.std.specs.List.{range_with_len, list_any}
-use Rattle.std.proofs.lemmas.Bool.{false≢true, both_ways, eq-eqb, eqb-true, lt-ltb, ltb-true, and_from, and_parts, or_left, or_right, not-true, not_from_false, false_from_ne_true}
+use Rattle.std.proofs.Common.{ℕ, ◌<◌, ◌≤◌, ◌≡◌, ◌==◌, ◌⊎◌, ◌&&◌, Bool, true, false, not, nat_lt, List, [], ◌∷◌, length, map, get_or, filter, Option, Some, None, IfNone, refl, sym, ap, subst, ◌∙◌, inl, inr, arith}
+use Rattle.std.specs.List.{range_with_len}
+use Rattle.std.proofs.lemmas.Bool.{false≢true, both_ways, eq-eqb, eqb-true, lt-ltb, ltb-true, and_from, and_parts, not-true, not_from_false, false_from_ne_true}
 use Rattle.std.proofs.lemmas.List.Folds.{list_any_none}
 use Rattle.fb_graph.specs.Parity.{is_odd_count, is_in}
-use Rattle.fb_graph.specs.Problem.{Problem, edge_at, no_edge}
+use Rattle.fb_graph.specs.Problem.{edge_at, no_edge}
 use Rattle.fb_graph.specs.Certificate.{AreDistinct}
 use Rattle.fb_graph.specs.Components.{Leads, IsWalkBy, IsJoined, IsComponent, IsOddAt, IsFirstOdd}
 use Rattle.fb_graph.specs.Limits.{DecodingGraph, IsGraph, IsShot, is_real_in, problem_of}
 use Rattle.fb_graph.specs.Laws.{HasNoOddClosed}
-use Rattle.fb_graph.specs.Labelling.{IsLabelling, IsBounded, AreOdd, IsLeast, label_of, has_virtual, odd_labels}
+use Rattle.fb_graph.specs.Labelling.{IsLabelling, IsBounded, AreOdd, label_of, has_virtual, odd_labels}
 use Rattle.fb_graph.specs.declared.parts.Edge.{Edge}
 use Rattle.fb_graph.proofs.ClosedComponents.{no_odd_component}
-use Rattle.fb_graph.proofs.LabelSteps.{any_from_is_in}
+use Rattle.fb_graph.proofs.LabelSteps.{IsLeast, any_from_is_in}
 use Rattle.fb_graph.proofs.ParitySums.{odd_agree}
 use Rattle.fb_graph.proofs.Ranges.{filter-range_below, is_in-filter-range}
 use Rattle.fb_graph.proofs.Sets.{All-from_is_in, distinct_from_rising, distinct-filter, is_in-All, is_in-cases, is_in-filter, is_in-head, is_in-range, is_in-tail, member_of_odd, odd_same_set, odd_shared, range_below, range_rises}
@@ -117,10 +117,10 @@ module _ (g : DecodingGraph) (labels : List ℕ) (graph : IsGraph g) (labelling 
   component_of v below = record {
     distinct = members_distinct (label_of labels v);
     inside = λ u within.
-    joined_same u v (members_below (label_of labels v) u within) below (members_label (label_of labels v) u within);
+        joined_same u v (members_below (label_of labels v) u within) below (members_label (label_of labels v) u within);
     whole = λ u joined.
-    in_members (label_of labels v) u (walk_below joined.0 v u joined.1 below)
-    ∙ eq-eqb (label_of labels u) (label_of labels v) (sym (walk_label joined.0 v u joined.1));
+        in_members (label_of labels v) u (walk_below joined.0 v u joined.1 below)
+        ∙ eq-eqb (label_of labels u) (label_of labels v) (sym (walk_label joined.0 v u joined.1));
   }
 
   module _ (bounded odd : List Bool) (boundary : IsBounded g labels bounded) (counts : AreOdd labels defects odd)
@@ -238,7 +238,7 @@ module _ (g : DecodingGraph) (labels : List ℕ) (graph : IsGraph g) (labelling 
     first_from_least (Some r) least = (
       odd_at_label r least.0,
       λ v less at.
-      let low : label_of labels v ≤ v = labelling.low v at.below in
-      let bound : r ≤ label_of labels v = is_in-All (λ l. r ≤ l) _ least.1 (label_of labels v) (odd_label v at) in
-      omega arith,
+          let low : label_of labels v ≤ v = labelling.low v at.below in
+          let bound : r ≤ label_of labels v = is_in-All (λ l. r ≤ l) _ least.1 (label_of labels v) (odd_label v at) in
+          omega arith,
     )

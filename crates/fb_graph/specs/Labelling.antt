@@ -1,10 +1,9 @@
 -- How the components of a graph are told apart: the label of a vertex is the least vertex of its component.
-use Rattle.std.specs.Prelude.{ℕ, ◌≡◌, ◌<◌, ◌≤◌, ◌==◌, ◌&&◌, Bool, true, false, not, List, [], length, map, get_or, filter, All, Option, Some, None}
+use Rattle.std.specs.Prelude.{ℕ, ◌≡◌, ◌<◌, ◌≤◌, ◌==◌, ◌&&◌, Bool, true, false, not, List, [], length, map, get_or, filter, All}
 use Rattle.std.specs.List.{range_with_len, list_any}
 use Rattle.fb_graph.specs.Parity.{is_odd_count, is_in}
 use Rattle.fb_graph.specs.Components.{IsJoined}
 use Rattle.fb_graph.specs.Limits.{DecodingGraph, problem_of}
-use Rattle.fb_graph.specs.declared.parts.Edge.{Edge}
 
 abbrev pub label_of : List ℕ → ℕ → ℕ
 label_of labels v = get_or labels v 0
@@ -51,8 +50,3 @@ AreOf labels defects flags =
 abbrev pub odd_labels : List ℕ → List Bool → List Bool → List ℕ → List ℕ
 odd_labels labels bounded odd defects =
     filter (λ label. get_or odd label false && not (get_or bounded label false)) (map (label_of labels) defects)
-
--- the least of the numbers; None where there is none
-abbrev pub IsLeast : List ℕ → Option ℕ → Type 0
-IsLeast xs None = xs ≡ []
-IsLeast xs (Some least) = (is_in xs least ≡ true) × All (λ x. least ≤ x) xs

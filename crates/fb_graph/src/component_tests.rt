@@ -25,6 +25,8 @@ fn copies_a_shot(rt: HostRuntime) -> Result<(), Fail> {
     let shot = Shot::from_defects(&graph, vec![in rt.alloc(); 1, 0]?)?;
     let copy = shot.copy(rt.alloc())?;
     assert_eq!(rt; copy.as_slice(), shot.as_slice());
-    assert_eq!(rt; (copy.len(), copy.is_empty()), (2, false));
+    assert_eq!(rt; copy.is_empty(), false);
+    assert_eq!(rt; copy.len(), 2);
+    assert_eq!(rt; copy.defect(1), 1);
     Ok(())
 }

@@ -15,8 +15,11 @@ use std::marker::Model;
 #[derive(Debug, Drop)]
 pub struct Components<'a> {
     pub(crate) graph: &'a Graph,
+    /// The least vertex of each vertex's component, as its label.
     pub(crate) labels: Vec<u32>,
+    /// For each label, whether its component has a virtual vertex.
     pub(crate) bounded: Vec<bool>,
+    /// For each label, the parity of a shot's defects. It is clear between calls.
     pub(crate) odd: Vec<bool>,
 }
 
@@ -32,7 +35,7 @@ impl<'a> Model for Components<'a> {
 }
 
 /// The least vertex of the first component, by least vertex, that has no virtual vertex and an odd number of the
-/// shot's defects; `None` where there is none. It takes time linear in the number of defects.
+/// shot's defects; `None` where there is none. It takes no memory, and time linear in the number of defects.
 pub fn first_odd(parts: &mut Components, shot: &Shot) -> Option<u32>
     requires { IsShot parts.old shot.now }
     ensures first { IsFirstOdd (problem_of parts.old shot.now) result }

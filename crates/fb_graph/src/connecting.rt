@@ -43,7 +43,12 @@ fn label_vertices(alloc: Global, graph: &Graph) -> Result<Vec<u32>, NoMemory>
 }
 
 /// Reaches what is joined to the vertices from place `start` on, which have this label.
-fn flood_component(graph: &Graph, flood: &mut Flood, start: usize, label: u32) -> Result<(), NoMemory>
+fn flood_component(
+    graph: &Graph,
+    flood: &mut Flood,
+    start: usize,
+    label: u32,
+) -> Result<(), NoMemory>
     requires place { start ≤ length flood.old.order }
     requires flooding { IsFlooding graph.now flood.old start label }
     ensures flooding { OnOk result (IsFlooding graph.now flood.new (length flood.new.order) label) }
@@ -58,7 +63,12 @@ fn flood_component(graph: &Graph, flood: &mut Flood, start: usize, label: u32) -
 }
 
 /// Reaches the neighbours of the vertex at this place, which has this label.
-fn flood_neighbours(graph: &Graph, flood: &mut Flood, place: usize, label: u32) -> Result<(), NoMemory>
+fn flood_neighbours(
+    graph: &Graph,
+    flood: &mut Flood,
+    place: usize,
+    label: u32,
+) -> Result<(), NoMemory>
     requires place { place < length flood.old.order }
     requires flooding { IsFlooding graph.now flood.old place label }
     ensures flooding { OnOk result (IsFlooding graph.now flood.new (place + 1) label) }

@@ -1,4 +1,4 @@
-use Rattle.std.proofs.Common.{◌≡◌, ◌∙◌, length, ap, arith}
+use Rattle.std.proofs.Common.{length, ap, arith}
 use Rattle.fb_graph.specs.Limits.{IsShot}
 use Rattle.fb_graph.specs.Labelling.{AreOdd}
 use Rattle.fb_graph.proofs.LabelSteps.{least_from_reduce, of_odd}

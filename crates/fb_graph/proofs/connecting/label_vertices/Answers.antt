@@ -1,5 +1,4 @@
-use Rattle.std.proofs.Common.{◌<◌, ◌≡◌, true, ap, ◌∙◌, sym, subst, arith}
-use Rattle.fb_graph.specs.Flooding.{IsFlooding}
+use Rattle.std.proofs.Common.{◌≡◌, true, arith}
 use Rattle.fb_graph.specs.Parity.{is_in}
 use Rattle.fb_graph.proofs.Floods.{flooding_end, flooding_start, is_in-reached, labelling_from_flood}
 use Rattle.fb_graph.proofs.connecting.label_vertices.Goals as goal

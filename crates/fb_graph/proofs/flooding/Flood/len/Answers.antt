@@ -1,4 +1,4 @@
-use Rattle.std.proofs.Common.{◌≤◌, length, ap, arith}
+use Rattle.std.proofs.Common.{length, ap, arith}
 use Rattle.fb_graph.proofs.Floods.{length-order}
 use Rattle.fb_graph.proofs.flooding.Flood.len.Goals as goal
 

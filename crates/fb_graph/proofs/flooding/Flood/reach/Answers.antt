@@ -1,5 +1,4 @@
 use Rattle.std.proofs.Common.{◌<◌, ◌≡◌, ◌∙◌, false, length, get_or, sym}
-use Rattle.fb_graph.specs.Parity.{is_in}
 use Rattle.fb_graph.proofs.Floods.{reached_more}
 use Rattle.fb_graph.proofs.flooding.Flood.reach.Goals as goal
 
