@@ -1,10 +1,12 @@
-pub mod Parity
-pub mod Problem
+pub mod Answers
 pub mod Certificate
 pub mod Components
-pub mod Answers
+pub mod Flooding
 pub mod GraphRules
-pub mod Limits
+pub mod Labelling
 pub mod Laws
 pub mod Layout
+pub mod Limits
+pub mod Parity
 pub mod Printed
+pub mod Problem

@@ -3,15 +3,23 @@
 #![tactic(auto)]
 
 mod building;
+#[cfg(test)]
+mod component_tests;
+pub mod connected;
+pub mod connecting;
 pub mod faults;
+mod flooding;
 pub mod laws;
 pub mod lists;
 pub mod network;
 pub mod parts;
 pub mod printed;
 pub mod scope_of;
+pub mod shot;
 pub mod whole;
 
+pub use connected::{Components, first_odd};
+pub use connecting::components;
 pub use faults::{GraphFault, NoMemory};
 pub use laws::{
     closed_odd_set, least_weight, no_odd_closed_set, no_odd_component, odd_has_no_correction,
@@ -22,4 +30,5 @@ pub use network::Graph;
 pub use parts::{Cut, Edge, Row};
 pub use printed::{odd_ones, printed_cuts};
 pub use scope_of::Scope;
+pub use shot::Shot;
 pub use whole::Whole;

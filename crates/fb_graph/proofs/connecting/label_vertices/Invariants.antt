@@ -1,0 +1,6 @@
+use Rattle.std.proofs.Common.{length}
+use Rattle.fb_graph.specs.Flooding.{IsFlooding}
+use Rattle.fb_graph.proofs.connecting.label_vertices.Given as goal
+
+abbrev pub invariant-loop-v : goal.invariant-loop-v
+invariant-loop-v l = IsFlooding l.graph l.flood (length l.flood.order) l.v

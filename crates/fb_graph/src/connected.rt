@@ -1,0 +1,96 @@
+//! Whether a shot has a correction: the components of a graph, and the defects in them.
+
+ghost use Rattle.std.specs.Prelude.{◌≡◌, ◌<◌, ℕ, min, length, All, IfNone};
+ghost use Rattle.std.specs.List.{reduce};
+ghost use Rattle.fb_graph.specs.Components.{IsFirstOdd};
+ghost use Rattle.fb_graph.specs.Limits.{IsShot, problem_of};
+ghost use Rattle.fb_graph.specs.Laws.{HasNoOddClosed};
+ghost use Rattle.fb_graph.specs.Labelling.{AreClear, AreOdd, AreOf, odd_labels};
+
+use crate::network::Graph;
+use crate::shot::Shot;
+use std::marker::Model;
+
+/// The components of a graph, which contracts see as the graph that they serve.
+#[derive(Debug, Drop)]
+pub struct Components<'a> {
+    pub(crate) graph: &'a Graph,
+    /// The least vertex of each vertex's component, as its label.
+    pub(crate) labels: Vec<u32>,
+    /// For each label, whether its component has a virtual vertex.
+    pub(crate) bounded: Vec<bool>,
+    /// For each label, the parity of a shot's defects. It is clear between calls.
+    pub(crate) odd: Vec<bool>,
+}
+
+impl<'a> Model for Components<'a> {
+    ghost use Rattle.fb_graph.specs.Limits.{DecodingGraph};
+    ghost use Rattle.fb_graph.specs.Labelling.{IsServed};
+
+    ghost Value = { DecodingGraph };
+
+    ghost view = { λ c. c.graph.now };
+
+    ghost invariant = { λ c. IsServed c.graph.now c.labels.items c.bounded.items c.odd.items };
+}
+
+/// The least vertex of the first component, by least vertex, that has no virtual vertex and an odd number of the
+/// shot's defects; `None` where there is none. It takes no memory, and time linear in the number of defects.
+pub fn first_odd(parts: &mut Components, shot: &Shot) -> Option<u32>
+    requires { IsShot parts.old shot.now }
+    ensures first { IsFirstOdd (problem_of parts.old shot.now) result }
+    ensures closed { IfNone result (HasNoOddClosed (problem_of parts.old shot.now)) }
+    ensures same { parts.new ≡ parts.old }
+{
+    parts.graph.limits();
+    let defects = shot.as_slice();
+    let labels = parts.labels.as_slice();
+    let bounded = parts.bounded.as_slice();
+    let odd = parts.odd.as_mut_slice();
+    count_defects(labels, odd, defects);
+    let first = least_odd(labels, bounded, odd, defects);
+    clear_counts(labels, odd, defects);
+    first
+}
+
+/// Sets the flag of each label that an odd number of the defects have.
+fn count_defects(labels: &[u32], odd: &mut [bool], defects: &[u32])
+    requires room { length odd.old ≡ length labels.now }
+    requires labels { All (λ label. label < length labels.now) labels.now }
+    requires within { All (λ d. d < length labels.now) defects.now }
+    requires clear { AreClear odd.old }
+    ensures { AreOdd labels.now defects.now odd.new }
+{
+    for defect in defects {
+        let label = labels[*defect as usize] as usize;
+        odd[label] = !odd[label];
+    }
+}
+
+/// The least of the labels that an odd number of the defects have, and no virtual vertex.
+fn least_odd(labels: &[u32], bounded: &[bool], odd: &[bool], defects: &[u32]) -> Option<u32>
+    requires room { length odd.now ≡ length labels.now }
+    requires boundary { length bounded.now ≡ length labels.now }
+    requires labels { All (λ label. label < length labels.now) labels.now }
+    requires within { All (λ d. d < length labels.now) defects.now }
+    ensures { result ≡ reduce min (odd_labels labels.now bounded.now odd.now defects.now) }
+{
+    defects
+        .iter()
+        .map(|defect| labels[*defect as usize])
+        .filter(|label| odd[*label as usize] && !bounded[*label as usize])
+        .min()
+}
+
+/// Clears the flags of the defects' labels, where no other flags are set.
+fn clear_counts(labels: &[u32], odd: &mut [bool], defects: &[u32])
+    requires room { length odd.old ≡ length labels.now }
+    requires labels { All (λ label. label < length labels.now) labels.now }
+    requires within { All (λ d. d < length labels.now) defects.now }
+    requires set { AreOf labels.now defects.now odd.old }
+    ensures { AreClear odd.new }
+{
+    for defect in defects {
+        odd[labels[*defect as usize] as usize] = false;
+    }
+}
