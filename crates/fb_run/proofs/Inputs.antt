@@ -29,7 +29,6 @@ asks_onward (Some names) mid new name asked first second = go mid first second
     go None e s = cc
     go (Some xs) e s = s ∙ ap (λ ys. Some (ys ++ asked)) (some_same xs (names ++ name ∷ []) e) ∙ ap Some (append_assoc names (name ∷ []) asked)
 
-
 pub asks_front_onward : (old mid new : Option (List (List ℕ))) (name : List ℕ) (wanted : List (List ℕ))
     → Asks old mid (name ∷ []) → AsksFront mid new wanted → AsksFront old new (name ∷ wanted)
 asks_front_onward old mid new name wanted first (asked, more, e, second) =
@@ -46,7 +45,6 @@ room_after (Some names) mid name empty asked = go mid (asked ∙ ap (λ xs. Some
     go : (m : Option (List (List ℕ))) → m ≡ Some (name ∷ []) → HasRoom m 16
     go None e = tt
     go (Some xs) e = rw (some_same xs (name ∷ []) e) (lit< tt)
-
 
 pub room_at_first : (old : Option (List (List ℕ))) → IsEmptyIfTold old → HasRoom old 16
 room_at_first None empty = tt

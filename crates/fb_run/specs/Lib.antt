@@ -2,3 +2,4 @@ pub mod Words
 pub mod Causes
 pub mod Seen
 pub mod Judging
+pub mod Decoding

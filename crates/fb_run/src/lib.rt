@@ -5,6 +5,7 @@
 mod ending;
 mod input;
 mod shots;
+mod solving;
 mod words;
 
 pub use ending::{Cause, Ended, Refusal, UsageKind};
