@@ -6,11 +6,13 @@ mod dense;
 mod laws;
 mod packed;
 mod pending;
+mod sparse;
 
 pub use answer::{Detectors, Kind, Next, NoMemory};
 pub use dense::Records01;
 pub use laws::{goes_on_01, goes_on_b8};
 pub use packed::RecordsB8;
+pub use sparse::goes_on_dets;
 
 #[cfg(test)]
 mod tests;
