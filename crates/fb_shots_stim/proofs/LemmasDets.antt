@@ -10,7 +10,7 @@ use Rattle.fb_shots_stim.specs.declared.answer.Kind.TheVariants.{BadToken, Index
 use Rattle.fb_shots_stim.specs.Records.{Ending, at_end, still_open, refused, Records, only, in_front, with_line, Reader}
 use Rattle.fb_shots_stim.specs.Answers.{Gives, Refuses, Answers}
 use Rattle.fb_shots_stim.specs.Lines.{holds, whole_parts, last_part, if_not_empty, without_return, lines_of, after_line}
-use Rattle.fb_shots_stim.specs.TextDets.{ended_words, words_of, with_word, with_words, with_detector, decimal_from, rising, shot_of, ending_of, line_dets, begun_dets, records_dets, front_dets, is_nothing, is_blank, after_lines, after_record}
+use Rattle.fb_shots_stim.specs.TextDets.{ended_words, words_of, with_word, with_words, with_detector, with_letter, index_of, rising, shot_of, ending_of, line_dets, begun_dets, records_dets, front_dets, is_nothing, is_blank, after_lines, after_record}
 use Rattle.fb_shots_stim.proofs.LineLemmas.{whole_parts_none, whole_parts_one, last_part_none, last_part_one, parts_of, holds_none, after_line_one, after_line_none}
 use Rattle.fb_shots_stim.proofs.RecordLemmas.{Stays, records_one, front_one, records_none, front_none, refused_part, refuses_front, refuses_last, gives_line, gives_last}
 
@@ -134,13 +134,15 @@ either_named false x y hx hy = hy
 detector_named : (n : ℕ) (named : List ℕ) (k : ℕ) → NotNone (with_detector n named k)
 detector_named n named k = either_named _ _ _ (either_named _ _ _ (refused_named RepeatedIndex) (some_named (named ++ k ∷ []))) (refused_named IndexOutOfRange)
 
+letter_named : (n : ℕ) (named : List ℕ) (letter : ℕ) (index : Option ℕ) → NotNone (with_letter n named letter index)
+letter_named n named letter None = refused_named BadToken
+letter_named n named letter (Some k) =
+    either_named _ _ _ (detector_named n named k)
+      (either_named _ _ _ (some_named named) (either_named _ _ _ (refused_named MeasurementToken) (refused_named BadToken)))
+
 word_named : (n : ℕ) (named word : List ℕ) → NotNone (with_word n (Some named) word)
 word_named n named [] = refused_named BadToken
-word_named n named (letter ∷ digits) =
-    either_named _ _ _
-      (either_named _ _ _ (detector_named n named (decimal_from 0 digits))
-        (either_named _ _ _ (some_named named) (either_named _ _ _ (refused_named MeasurementToken) (refused_named BadToken))))
-      (refused_named BadToken)
+word_named n named (letter ∷ digits) = letter_named n named letter (index_of digits)
 
 -- once a word has come, some word has come
 never_none : (n : ℕ) (r : Words) (words : List (List ℕ)) → NotNone r → NotNone (with_words n r words)

@@ -4,3 +4,4 @@ pub mod Lemmas01
 pub mod LemmasB8
 pub mod LemmasDets
 pub mod StopsDets
+pub mod NamedLemmas

@@ -5,3 +5,5 @@ pub mod Text01
 pub mod Step01
 pub mod BlocksB8
 pub mod TextDets
+pub mod WordsDets
+pub mod Stops

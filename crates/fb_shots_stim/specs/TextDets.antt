@@ -21,15 +21,15 @@ words_of line = flat_map if_not_empty (whole_parts 32 line ++ last_part 32 line 
 abbrev pub is_digit : ℕ → Bool
 is_digit c = nat_le 48 c && nat_le c 57
 
--- one digit or more
-abbrev pub is_index : List ℕ → Bool
-is_index [] = false
-is_index (c ∷ digits) = list_all is_digit (c ∷ digits)
+-- the number that digits write, however many, behind those that write this one
+abbrev pub number_from : ℕ → List ℕ → Option ℕ
+number_from value [] = Some value
+number_from value (c ∷ digits) = if is_digit c then number_from (value * 10 + (c - 48)) digits else None
 
--- the number that digits write, however many, where the ones before them write this one
-abbrev pub decimal_from : ℕ → List ℕ → ℕ
-decimal_from value [] = value
-decimal_from value (c ∷ digits) = decimal_from (value * 10 + (c - 48)) digits
+-- one digit or more
+abbrev pub index_of : List ℕ → Option ℕ
+index_of [] = None
+index_of (c ∷ digits) = number_from 0 (c ∷ digits)
 
 -- ---- a record, word by word
 
@@ -39,16 +39,19 @@ with_detector n named k =
     if nat_lt k n then (if list_any (nat_eq k) named then Err RepeatedIndex else Ok (Some (named ++ k ∷ [])))
     else Err IndexOutOfRange
 
+-- A letter with an index: a detector, an observable, which is ignored, or a measurement.
+abbrev pub with_letter : ℕ → List ℕ → ℕ → Option ℕ → Result (Option (List ℕ)) Kind
+with_letter n named letter None = Err BadToken
+with_letter n named letter (Some k) =
+    if letter == 68 then with_detector n named k
+    else (if letter == 76 then Ok (Some named)
+    else (if letter == 77 then Err MeasurementToken else Err BadToken))
+
 -- What a record is so far is nothing, or `shot` and the detectors that it names. This is a word of it.
 abbrev pub with_word : ℕ → Option (List ℕ) → List ℕ → Result (Option (List ℕ)) Kind
 with_word n None word = if bytes_eq word (codes "shot") then Ok (Some []) else Err BadToken
 with_word n (Some named) [] = Err BadToken
-with_word n (Some named) (letter ∷ digits) =
-    if is_index digits
-    then (if letter == 68 then with_detector n named (decimal_from 0 digits)
-      else (if letter == 76 then Ok (Some named)
-      else (if letter == 77 then Err MeasurementToken else Err BadToken)))
-    else Err BadToken
+with_word n (Some named) (letter ∷ digits) = with_letter n named letter (index_of digits)
 
 abbrev pub with_words : ℕ → Result (Option (List ℕ)) Kind → List (List ℕ) → Result (Option (List ℕ)) Kind
 with_words n (Err kind) words = Err kind

@@ -7,6 +7,7 @@ mod laws;
 mod packed;
 mod pending;
 mod sparse;
+mod words;
 
 pub use answer::{Detectors, Kind, Next, NoMemory};
 pub use dense::Records01;
