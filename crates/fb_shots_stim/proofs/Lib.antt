@@ -5,3 +5,4 @@ pub mod LemmasB8
 pub mod LemmasDets
 pub mod StopsDets
 pub mod NamedLemmas
+pub mod PlaceLemmas

@@ -6,4 +6,5 @@ pub mod Step01
 pub mod BlocksB8
 pub mod TextDets
 pub mod WordsDets
-pub mod Stops
+pub mod StopsDets
+pub mod WordStops

@@ -11,9 +11,9 @@ mod words;
 
 pub use answer::{Detectors, Kind, Next, NoMemory};
 pub use dense::Records01;
-pub use laws::{goes_on_01, goes_on_b8};
+pub use laws::{goes_on_01, goes_on_b8, goes_on_dets};
 pub use packed::RecordsB8;
-pub use sparse::goes_on_dets;
+pub use sparse::RecordsDets;
 
 #[cfg(test)]
 mod tests;

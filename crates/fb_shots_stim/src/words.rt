@@ -5,7 +5,7 @@ ghost use Rattle.std.specs.List.{list_any};
 ghost use Rattle.fb_shots_stim.specs.Lines.{if_not_empty};
 ghost use Rattle.fb_shots_stim.specs.TextDets.{index_of, with_detector, with_words, rising};
 ghost use Rattle.fb_shots_stim.specs.WordsDets.{IsMarked};
-ghost use Rattle.fb_shots_stim.specs.Stops.{IfRefused};
+ghost use Rattle.fb_shots_stim.specs.WordStops.{IfRefused};
 
 use crate::answer::{Detectors, Kind, NoMemory};
 use std::alloc::Global;
@@ -81,7 +81,13 @@ impl Words {
             return Err(Stop::Refused(Kind::BadToken));
         };
         match letter {
-            b'D' => name(self.alloc, self.detectors, &mut self.marks, &mut self.named, index),
+            b'D' => name(
+                self.alloc,
+                self.detectors,
+                &mut self.marks,
+                &mut self.named,
+                index,
+            ),
             b'L' => Ok(()),
             b'M' => Err(Stop::Refused(Kind::MeasurementToken)),
             _ => Err(Stop::Refused(Kind::BadToken)),

@@ -1,4 +1,4 @@
-use Rattle.std.proofs.Common.{◌≡◌, ◌≤◌, ℕ, min, drop}
+use Rattle.std.proofs.Common.{◌≡◌, ◌≤◌, min, drop}
 use Rattle.std.specs.Prelude.{option_map}
 use Rattle.fb_shots_stim.specs.TextDets.{number_from, index_of}
 use Rattle.fb_shots_stim.proofs.words.index_of.Given as goal

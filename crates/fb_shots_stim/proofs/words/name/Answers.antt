@@ -1,7 +1,6 @@
-use Rattle.std.proofs.Common.{◌≡◌, ◌<◌, List, ℕ, Bool, false, true, length, get_or, set, sym, ap, ◌∙◌, ◌++◌, ◌∷◌, [], eqb, arith}
+use Rattle.std.proofs.Common.{◌≡◌, ◌<◌, false, length, get_or, sym, ◌∙◌, eqb, arith}
 use Rattle.std.specs.List.{list_any}
 use Rattle.std.proofs.lemmas.List.{get_or_default}
-use Rattle.fb_shots_stim.specs.WordsDets.{IsMarked}
 use Rattle.fb_shots_stim.proofs.NamedLemmas.{marked_made, marked_more}
 use Rattle.fb_shots_stim.proofs.words.name.Goals as goal
 

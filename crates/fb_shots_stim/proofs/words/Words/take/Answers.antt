@@ -1,8 +1,5 @@
-use Rattle.std.proofs.Common.{◌≡◌, List, ℕ, Option, Some, sym, ap, subst, ◌∙◌}
-use Rattle.std.specs.Prelude.{option_map}
+use Rattle.std.proofs.Common.{List, ℕ, Some, ap}
 use Rattle.std.specs.List.Sorted.{IsPermutation}
-use Rattle.fb_shots_stim.specs.TextDets.{rising}
-use Rattle.fb_shots_stim.specs.WordsDets.{RecordSoFar}
 use Rattle.fb_shots_stim.proofs.NamedLemmas.{sorted_rising}
 use Rattle.fb_shots_stim.proofs.words.Words.take.Goals as goal
 
