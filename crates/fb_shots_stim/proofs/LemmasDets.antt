@@ -155,7 +155,7 @@ first_named : (n : ℕ) (word : List ℕ) → NotNone (with_word n None word)
 first_named n word = either_named _ _ _ (some_named []) (refused_named BadToken)
 
 -- a line is skipped exactly where it has no word
-no_words : (n : ℕ) (words : List (List ℕ)) → with_words n (Ok None) words ≡ Ok None → words ≡ []
+pub no_words : (n : ℕ) (words : List (List ℕ)) → with_words n (Ok None) words ≡ Ok None → words ≡ []
 no_words n [] e = refl
 no_words n (word ∷ words) e = absurd (never_none n (with_word n None word) words (first_named n word) e)
 
@@ -217,7 +217,7 @@ at_space n skipped line word so_far now at e = record {
 skipped_line : (skipped line more : List ℕ) → (skipped ++ line ++ 10 ∷ []) ++ more ≡ skipped ++ (line ++ 10 ∷ more)
 skipped_line skipped line more = append_assoc (skipped ++ line) (10 ∷ []) more ∙ append_assoc skipped line (10 ∷ more)
 
-blank_after : (line more : List ℕ) → holds 10 line ≡ false → words_of (without_return line) ≡ [] → after_record (line ++ 10 ∷ more) ≡ after_record more
+pub blank_after : (line more : List ℕ) → holds 10 line ≡ false → words_of (without_return line) ≡ [] → after_record (line ++ 10 ∷ more) ≡ after_record more
 blank_after line more h blank =
     let lines : lines_of (line ++ 10 ∷ more) ≡ without_return line ∷ lines_of more = rw (whole_parts_one 10 line more h, last_part_one 10 line more) refl in
     let count : prefix_len is_blank (without_return line ∷ lines_of more) ≡ suc (prefix_len is_blank (lines_of more)) =

@@ -6,3 +6,4 @@ pub mod LemmasDets
 pub mod StopsDets
 pub mod NamedLemmas
 pub mod PlaceLemmas
+pub mod FirstRecords

@@ -82,7 +82,7 @@ newline_refused n skipped line word tail so_far kind rest finished at e cut =
       refl,
     )
 
-record_after : (line more : List ℕ) → holds 10 line ≡ false → is_blank (without_return line) ≡ false → after_record (line ++ 10 ∷ more) ≡ more
+pub record_after : (line more : List ℕ) → holds 10 line ≡ false → is_blank (without_return line) ≡ false → after_record (line ++ 10 ∷ more) ≡ more
 record_after line more h some =
     let lines : lines_of (line ++ 10 ∷ more) ≡ without_return line ∷ lines_of more = rw (whole_parts_one 10 line more h, last_part_one 10 line more) refl in
     let count : prefix_len is_blank (without_return line ∷ lines_of more) ≡ 0 =
