@@ -55,16 +55,12 @@ impl RecordsDets {
         RecordsDets {
             pending: Pending::new(alloc),
             words: Words::new(alloc, detectors),
-            place: Place {
-                line: 0,
-                word: 0,
-                seen: 0,
-            },
+            place: START,
             finished: false,
         }
     }
 
-    /// Takes the next piece of the input.
+    /// Takes the next piece of the input. Without memory nothing is taken.
     pub fn feed(&mut self, piece: &[u8]) -> Result<(), NoMemory>
         requires { self.old.finished ≡ false }
         ensures ok { OnOk result (self.new ≡ record self.old { rest = self.old.rest ++ piece.now }) }
@@ -73,15 +69,15 @@ impl RecordsDets {
         self.pending.put(piece)
     }
 
-    /// Says that the input is whole.
+    /// Says that the input has no further piece.
     pub fn finish(&mut self)
         ensures { self.new ≡ record self.old { finished = true } }
     {
         self.finished = true;
     }
 
-    /// Answers by the first record of the bytes that no answer has used, and uses up the line of a shot and the
-    /// lines before it, which have no word.
+    /// Answers by the first record of the bytes that no answer has used. A shot uses up its line and the lines
+    /// without a word before it, and nothing else uses any byte.
     pub fn next(&mut self) -> Result<Next, NoMemory>
         ensures answer { IfOk result (λ a. a ≡ answer_of (reading_dets self.old)) }
         ensures meaning { IfOk result (Answers records_dets front_dets after_record self.old self.new) }
