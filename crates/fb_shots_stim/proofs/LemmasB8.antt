@@ -173,7 +173,7 @@ records_short n b bytes lt =
     ap (λ (bs : List (List ℕ)). go_down (block_b8 (suc n)) bs (if eqb (length (b ∷ bytes) % size) 0 then at_end else refused ShortRecord)) (blocks_none size (b ∷ bytes) lt)
     ∙ ap (λ (t : Bool). only (if t then at_end else refused ShortRecord)) some
 
-front_short : (n : ℕ) (bytes : List ℕ) → length bytes < block_len (suc n) → front_b8 (suc n) bytes ≡ only still_open
+pub front_short : (n : ℕ) (bytes : List ℕ) → length bytes < block_len (suc n) → front_b8 (suc n) bytes ≡ only still_open
 front_short n bytes lt = ap (λ (bs : List (List ℕ)). go_down (block_b8 (suc n)) bs still_open) (blocks_none (block_len (suc n)) bytes lt)
 
 -- ---- two pieces
@@ -246,7 +246,7 @@ short_open zero rest finished some lt e = absurd (omega arith)
 short_open (suc n) rest finished some lt e = (e, front_short n rest lt, refl)
 
 -- a whole block
-block_gives : (n : ℕ) (rest : List ℕ) (finished : Bool) (given : Result (Option (List ℕ)) Kind) → block_len (suc n) ≤ length rest → block_b8 (suc n) (take (block_len (suc n)) rest) ≡ given
+pub block_gives : (n : ℕ) (rest : List ℕ) (finished : Bool) (given : Result (Option (List ℕ)) Kind) → block_len (suc n) ≤ length rest → block_b8 (suc n) (take (block_len (suc n)) rest) ≡ given
     → (records_b8 (suc n) rest ≡ with_line given (records_b8 (suc n) (drop (block_len (suc n)) rest))) × (front_b8 (suc n) rest ≡ with_line given (front_b8 (suc n) (drop (block_len (suc n)) rest)))
     × ((more : List ℕ) → records_b8 (suc n) (rest ++ more) ≡ with_line given (records_b8 (suc n) (drop (block_len (suc n)) rest ++ more)))
 block_gives n rest finished given le e =

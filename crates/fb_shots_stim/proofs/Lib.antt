@@ -2,3 +2,8 @@ pub mod LineLemmas
 pub mod RecordLemmas
 pub mod Lemmas01
 pub mod LemmasB8
+pub mod LemmasDets
+pub mod StopsDets
+pub mod NamedLemmas
+pub mod PlaceLemmas
+pub mod FirstRecords

@@ -10,7 +10,7 @@ use Rattle.fb_shots_stim.specs.Answers.{answer_of, reading, Gives, Refuses, Answ
 use Rattle.fb_shots_stim.specs.Lines.{holds, whole_parts, last_part, if_not_empty, without_return, whole_lines, lines_of, begun_line, records_by_lines, front_by_lines}
 use Rattle.fb_shots_stim.proofs.LineLemmas.{whole_parts_none, last_part_none, whole_parts_one, last_part_one, without, within, splits, holds_none, parts_of, holds_last, without_return_append}
 
-abbrev Judge : Type 0
+abbrev pub Judge : Type 0
 Judge = List ℕ → Result (Option (List ℕ)) Kind
 
 -- ---- the first line

@@ -47,3 +47,10 @@ Answers records front after old new (Refused kind) =
 abbrev pub GoesOnAnywhere : (records front : ℕ → List ℕ → Records) → Type 0
 GoesOnAnywhere records front =
     (n : ℕ) (bytes more : List ℕ) → GoesOn (front n bytes) (records n (bytes ++ more)) × GoesOn (front n bytes) (front n (bytes ++ more))
+
+-- Without the bytes of its first record a text gives the same without its first shot.
+abbrev pub FirstRecordLeaves : (records front : ℕ → List ℕ → Records) → (ℕ → List ℕ → List ℕ) → Type 0
+FirstRecordLeaves records front after =
+    (n : ℕ) (bytes shot : List ℕ) (shots : List (List ℕ)) → (front n bytes).shots ≡ shot ∷ shots
+    → (front n bytes ≡ in_front shot (front n (after n bytes)))
+    × ((more : List ℕ) → records n (bytes ++ more) ≡ in_front shot (records n (after n bytes ++ more)))

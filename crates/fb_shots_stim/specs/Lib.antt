@@ -4,3 +4,7 @@ pub mod Answers
 pub mod Text01
 pub mod Step01
 pub mod BlocksB8
+pub mod TextDets
+pub mod WordsDets
+pub mod StopsDets
+pub mod WordStops

@@ -29,7 +29,7 @@ pub enum Kind {
 #[derive(Clone, Copy, Debug, PartialEq, Eq)]
 pub struct NoMemory;
 
-/// The detectors of a shot that fired, rising. Contracts see the list.
+/// The detectors that fired in a shot, in rising order where a reader gave them. Contracts see the list.
 #[derive(Debug, Drop)]
 pub struct Detectors {
     items: Vec<u32>,
@@ -44,12 +44,14 @@ impl Model for Detectors {
 }
 
 impl Detectors {
+    /// The detectors of a vector.
     pub fn from_vec(items: Vec<u32>) -> Self
         ensures { result ≡ items.items }
     {
         Detectors { items }
     }
 
+    /// The vector of the detectors.
     pub fn into_vec(self) -> Vec<u32>
         ensures { result.items ≡ self }
     {
@@ -57,6 +59,7 @@ impl Detectors {
         items
     }
 
+    /// The detectors, rising where a reader gave them.
     pub fn as_slice(&self) -> &[u32]
         ensures { result.now ≡ self.now }
     {

@@ -1,16 +1,28 @@
 //! Theorems on the definitions alone: functions that do nothing, and ensure them.
 
-ghost use Rattle.fb_shots_stim.specs.Answers.{GoesOnAnywhere};
+ghost use Rattle.std.specs.Prelude.{drop};
+ghost use Rattle.fb_shots_stim.specs.Lines.{after_line};
+ghost use Rattle.fb_shots_stim.specs.Answers.{FirstRecordLeaves, GoesOnAnywhere};
 ghost use Rattle.fb_shots_stim.specs.Text01.{records_01, front_01};
-ghost use Rattle.fb_shots_stim.specs.BlocksB8.{records_b8, front_b8};
+ghost use Rattle.fb_shots_stim.specs.BlocksB8.{block_len, records_b8, front_b8};
+ghost use Rattle.fb_shots_stim.specs.TextDets.{after_record, records_dets, front_dets};
 
 /// However an input in the format `01` is cut into pieces, the answers are the same: what is settled by its front
-/// part are the first shots of the whole, and what that part refuses is refused.
+/// part are the first shots of the whole, and what that part refuses is refused. Without its first record's bytes it
+/// gives the same without its first shot.
 pub fn goes_on_01()
-    ensures { GoesOnAnywhere records_01 front_01 }
+    ensures whole { GoesOnAnywhere records_01 front_01 }
+    ensures first { FirstRecordLeaves records_01 front_01 (λ n. after_line) }
 {}
 
 /// The same of the format `b8`.
 pub fn goes_on_b8()
-    ensures { GoesOnAnywhere records_b8 front_b8 }
+    ensures whole { GoesOnAnywhere records_b8 front_b8 }
+    ensures first { FirstRecordLeaves records_b8 front_b8 (λ n. drop (block_len n)) }
+{}
+
+/// The same of the format `dets`.
+pub fn goes_on_dets()
+    ensures whole { GoesOnAnywhere records_dets front_dets }
+    ensures first { FirstRecordLeaves records_dets front_dets (λ n. after_record) }
 {}

@@ -41,7 +41,7 @@ impl RecordsB8 {
         }
     }
 
-    /// Takes the next piece of the input.
+    /// Takes the next piece of the input. Without memory nothing is taken.
     pub fn feed(&mut self, piece: &[u8]) -> Result<(), NoMemory>
         requires { self.old.finished ≡ false }
         ensures ok { OnOk result (self.new ≡ record self.old { rest = self.old.rest ++ piece.now }) }
@@ -50,14 +50,15 @@ impl RecordsB8 {
         self.pending.put(piece)
     }
 
-    /// Says that the input is whole.
+    /// Says that the input has no further piece.
     pub fn finish(&mut self)
         ensures { self.new ≡ record self.old { finished = true } }
     {
         self.finished = true;
     }
 
-    /// Answers by the first record of the bytes that no answer has used, and uses up the block of a shot.
+    /// Answers by the first record of the bytes that no answer has used. A shot uses up its block, and
+    /// nothing else uses any byte.
     pub fn next(&mut self) -> Result<Next, NoMemory>
         ensures answer { IfOk result (λ a. a ≡ answer_of (reading_b8 self.old)) }
         ensures meaning { IfOk result (Answers records_b8 front_b8 (drop (block_len self.old.detectors)) self.old self.new) }

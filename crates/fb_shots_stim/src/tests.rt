@@ -115,3 +115,52 @@ fn reads_b8(rt: HostRuntime) {
     reader.finish();
     assert!(rt; is_end(reader.next()));
 }
+
+#[test]
+fn reads_dets(rt: HostRuntime) {
+    let alloc = rt.alloc();
+    let mut reader = RecordsDets::new(alloc, 3);
+    assert!(rt; reader.feed(b"sho").is_ok());
+    assert!(rt; is_not_yet(reader.next()));
+    assert!(rt; reader.feed(b"t D1 D").is_ok());
+    assert!(rt; is_not_yet(reader.next()));
+    assert!(rt; reader.feed(b"7\n").is_ok());
+    assert!(rt; is_refused(reader.next(), Kind::IndexOutOfRange));
+    assert!(rt; is_refused(reader.next(), Kind::IndexOutOfRange));
+    let mut reader = RecordsDets::new(alloc, 3);
+    assert!(rt;
+        reader
+            .feed(b"shot D2 L0  D00\n\n \r\nshot\nshot D1 D")
+            .is_ok()
+    );
+    assert!(rt; is_shot(reader.next(), &[0, 2]));
+    assert!(rt; is_shot(reader.next(), &[]));
+    assert!(rt; is_not_yet(reader.next()));
+    assert!(rt; reader.feed(b"1 ").is_ok());
+    assert!(rt; is_refused(reader.next(), Kind::RepeatedIndex));
+    for (text, kind) in [
+        (b"shot D0 D0".as_slice(), Kind::RepeatedIndex),
+        (
+            b"shot D99999999999999999999999999999999".as_slice(),
+            Kind::IndexOutOfRange,
+        ),
+        (b"shot M0 x".as_slice(), Kind::MeasurementToken),
+        (b"shot D M0".as_slice(), Kind::BadToken),
+        (b"D0".as_slice(), Kind::BadToken),
+        (b"shot D0\r D1".as_slice(), Kind::BadToken),
+    ] {
+        let mut reader = RecordsDets::new(alloc, 3);
+        assert!(rt; reader.feed(text).is_ok());
+        reader.finish();
+        assert!(rt; is_refused(reader.next(), kind));
+    }
+    let mut reader = RecordsDets::new(alloc, 3);
+    assert!(rt; reader.feed(b"shot D1\r").is_ok());
+    reader.finish();
+    assert!(rt; is_shot(reader.next(), &[1]));
+    assert!(rt; is_end(reader.next()));
+    let mut reader = RecordsDets::new(alloc, 3);
+    assert!(rt; reader.feed(b"\n  \n\r").is_ok());
+    reader.finish();
+    assert!(rt; is_end(reader.next()));
+}

@@ -1,0 +1,253 @@
+-- Parts of some bytes between places, and a reader of `dets` at a place.
+use Rattle.std.proofs.Common.{◌≡◌, ℕ, zero, suc, ◌+◌, ◌-◌, ◌<◌, ◌≤◌, Bool, true, false, List, [], ◌∷◌, ◌++◌, length, get_or, take, drop, Option, Some, None, Ok, Err, refl, sym, ap, subst, ◌∙◌, append_assoc, inl, inr, arith}
+use Rattle.std.proofs.lemmas.Bool.{cases_lt, ne_eqb, eq-eqb}
+use Rattle.std.proofs.lemmas.List.{append-nil, length-drop, length-append, take-append-drop, take-append-le, drop-append-le, drop_all, drop-drop, drop_more}
+use Rattle.fb_shots_stim.specs.declared.answer.Kind.{Kind}
+use Rattle.fb_shots_stim.specs.declared.answer.Next.TheVariants.{Shot, NotYet, End, Refused}
+use Rattle.fb_shots_stim.specs.Lines.{holds, if_not_empty, without_return}
+use Rattle.fb_shots_stim.specs.TextDets.{with_words, shot_of, rising}
+use Rattle.fb_shots_stim.specs.WordsDets.{RecordSoFar, IsAt, IsPlace, part_of}
+use Rattle.fb_shots_stim.specs.StopsDets.{AnswersDets}
+use Rattle.fb_shots_stim.specs.declared.words.Stop.{Stop}
+use Rattle.fb_shots_stim.specs.declared.words.Stop.TheVariants as stops
+use Rattle.fb_shots_stim.specs.WordStops.{IfRefused}
+use Rattle.fb_shots_stim.proofs.LineLemmas.{holds_none}
+use Rattle.fb_shots_stim.proofs.LemmasDets.{Words, never_none, at_start, at_more, at_space, at_newline}
+use Rattle.fb_shots_stim.proofs.StopsDets.{space_refused, newline_refused, newline_shot, open_so_far, end_refused, end_nothing, end_shot}
+
+-- ---- parts
+
+take_two : (m n : ℕ) (xs : List ℕ) → take (m + n) xs ≡ take m xs ++ take n (drop m xs)
+take_two zero n xs = ap (λ (k : ℕ). take k xs) (let e : 0 + n ≡ n = omega arith in e)
+take_two (suc m) n [] = ap (λ (k : ℕ). take k []) (let e : suc m + n ≡ suc (m + n) = omega arith in e) ∙ sym (nothing n) where
+  nothing : (n : ℕ) → take {A = ℕ} n [] ≡ []
+  nothing zero = refl
+  nothing (suc n) = refl
+take_two (suc m) n (x ∷ xs) = ap (λ (k : ℕ). take k (x ∷ xs)) (let e : suc m + n ≡ suc (m + n) = omega arith in e) ∙ ap (λ (l : List ℕ). x ∷ l) (take_two m n xs)
+
+pub part_none : (xs : List ℕ) (a : ℕ) → part_of xs a a ≡ []
+part_none xs a = ap (λ (k : ℕ). take k (drop a xs)) (let e : a - a ≡ 0 = omega arith in e)
+
+part_two : (xs : List ℕ) (a b c : ℕ) → a ≤ b → b ≤ c → part_of xs a c ≡ part_of xs a b ++ part_of xs b c
+part_two xs a b c ab bc =
+    ap (λ (k : ℕ). take k (drop a xs)) (let e : c - a ≡ (b - a) + (c - b) = omega arith in e)
+    ∙ take_two (b - a) (c - b) (drop a xs)
+    ∙ ap (λ (l : List ℕ). part_of xs a b ++ take (c - b) l) (drop-drop (b - a) a xs ∙ ap (λ (k : ℕ). drop k xs) (let e : a + (b - a) ≡ b = omega arith in e))
+
+take_part : (xs : List ℕ) (a b : ℕ) → a ≤ b → take b xs ≡ take a xs ++ part_of xs a b
+take_part xs a b ab = ap (λ (k : ℕ). take k xs) (let e : b ≡ a + (b - a) = omega arith in e) ∙ take_two a (b - a) xs
+
+part_one : (xs : List ℕ) (i : ℕ) → i < length xs → part_of xs i (i + 1) ≡ get_or xs i 0 ∷ []
+part_one xs i lt =
+    ap (λ (k : ℕ). take k (drop i xs)) (let e : i + 1 - i ≡ 1 = omega arith in e) ∙ ap (take 1) (drop_more xs i 0 lt)
+
+-- one more byte
+part_more : (xs : List ℕ) (a i : ℕ) → a ≤ i → i < length xs → part_of xs a (i + 1) ≡ part_of xs a i ++ get_or xs i 0 ∷ []
+part_more xs a i le lt = part_two xs a i (i + 1) le (omega arith) ∙ ap (λ (l : List ℕ). part_of xs a i ++ l) (part_one xs i lt)
+
+-- more bytes behind change no part
+part_kept : (xs more : List ℕ) (a b : ℕ) → b ≤ length xs → part_of (xs ++ more) a b ≡ part_of xs a b
+part_kept xs more a b le = elim (cases_lt a b) [
+  | inl lt ↦ ap (take (b - a)) (drop-append-le a xs more (omega arith)) ∙ take-append-le (b - a) (drop a xs) more (omega (arith, length-drop a xs))
+  | inr ge ↦ let none : b - a ≡ 0 = omega arith in ap (λ (k : ℕ). take k (drop a (xs ++ more))) none ∙ sym (ap (λ (k : ℕ). take k (drop a xs)) none)
+]
+
+-- a part whose next byte is none that is looked for
+pub holds_more : (s : ℕ) (xs : List ℕ) (a i : ℕ) → a ≤ i → i < length xs → (get_or xs i 0 ≡ s → ⊥) → holds s (part_of xs a i) ≡ false → holds s (part_of xs a (i + 1)) ≡ false
+holds_more s xs a i le lt other h =
+    ap (holds s) (part_more xs a i le lt) ∙ holds_none s (part_of xs a i) (get_or xs i 0 ∷ []) h (rw (ne_eqb (get_or xs i 0) s other) refl)
+
+-- ---- carriage returns
+
+pub return_dropped : (word : List ℕ) → 0 < length word → get_or word (length word - 1) 0 ≡ 13 → take (length word - 1) word ≡ without_return word
+return_dropped [] some e = absurd (omega arith)
+return_dropped (x ∷ []) some e = rw (eq-eqb x 13 e) refl
+return_dropped (x ∷ y ∷ word) some e =
+    let len : length (x ∷ y ∷ word) - 1 ≡ suc (length (y ∷ word) - 1) = omega arith in
+    ap (λ (k : ℕ). take k (x ∷ y ∷ word)) len
+    ∙ ap (λ (l : List ℕ). x ∷ l) (return_dropped (y ∷ word) (omega arith) (sym (ap (λ (k : ℕ). get_or (x ∷ y ∷ word) k 0) len) ∙ e))
+
+pub return_kept : (word : List ℕ) → (0 < length word → get_or word (length word - 1) 0 ≡ 13 → ⊥) → word ≡ without_return word
+return_kept [] h = refl
+return_kept (x ∷ []) h = rw (ne_eqb x 13 (λ (e : x ≡ 13). h (omega arith) e)) refl
+return_kept (x ∷ y ∷ word) h =
+    let len : length (x ∷ y ∷ word) - 1 ≡ suc (length (y ∷ word) - 1) = omega arith in
+    ap (λ (l : List ℕ). x ∷ l) (return_kept (y ∷ word) (λ some e. h (omega arith) (ap (λ (k : ℕ). get_or (x ∷ y ∷ word) k 0) len ∙ e)))
+
+-- ---- places
+
+-- the bytes, by the place
+place_cut : (now : RecordSoFar) (bytes : List ℕ) (line word seen : ℕ) → IsPlace now bytes line word seen
+    → bytes ≡ take line bytes ++ (part_of bytes line word ++ (part_of bytes word seen ++ drop seen bytes))
+place_cut now bytes line word seen p =
+    let first = p.line_first in
+    let next = p.word_next in
+    sym (take-append-drop seen bytes)
+    ∙ ap (λ (l : List ℕ). l ++ drop seen bytes) (take_part bytes line seen (omega arith) ∙ ap (λ (l : List ℕ). take line bytes ++ l) (part_two bytes line word seen first next))
+    ∙ append_assoc (take line bytes) (part_of bytes line word ++ part_of bytes word seen) (drop seen bytes)
+    ∙ ap (λ (l : List ℕ). take line bytes ++ l) (append_assoc (part_of bytes line word) (part_of bytes word seen) (drop seen bytes))
+
+pub place_start : (now : RecordSoFar) (bytes : List ℕ) → now.named ≡ None → IsPlace now bytes 0 0 0
+place_start now bytes e = record {
+  line_first = omega arith;
+  word_next = omega arith;
+  within = omega arith;
+  parts = subst (λ (o : Option (List ℕ)). IsAt now.detectors [] [] [] o) (sym e) (at_start now.detectors);
+}
+
+pub place_fed : (now : RecordSoFar) (bytes more : List ℕ) (line word seen : ℕ) → IsPlace now bytes line word seen → IsPlace now (bytes ++ more) line word seen
+place_fed now bytes more line word seen p =
+    let first = p.line_first in
+    let next = p.word_next in
+    let within = p.within in
+    record {
+      line_first = first;
+      word_next = next;
+      within = omega (arith, length-append bytes more);
+      parts = subst (λ (l : List ℕ). IsAt now.detectors (take line (bytes ++ more)) (part_of (bytes ++ more) line word) l now.named) (sym (part_kept bytes more word seen (omega arith)))
+          (subst (λ (l : List ℕ). IsAt now.detectors (take line (bytes ++ more)) l (part_of bytes word seen) now.named) (sym (part_kept bytes more line word (omega arith)))
+          (subst (λ (l : List ℕ). IsAt now.detectors l (part_of bytes line word) (part_of bytes word seen) now.named) (sym (take-append-le line bytes more (omega arith))) p.parts));
+    }
+
+pub place_seen : (now : RecordSoFar) (bytes : List ℕ) (line word seen on : ℕ) → IsPlace now bytes line word seen → seen ≤ on → on ≤ length bytes → holds 10 (part_of bytes seen on) ≡ false → holds 32 (part_of bytes seen on) ≡ false
+    → IsPlace now bytes line word on
+place_seen now bytes line word seen on p le within h10 h32 =
+    let next = p.word_next in
+    record {
+      line_first = p.line_first;
+      word_next = omega arith;
+      within = within;
+      parts = subst (λ (l : List ℕ). IsAt now.detectors (take line bytes) (part_of bytes line word) l now.named) (sym (part_two bytes word seen on next le))
+          (at_more now.detectors (take line bytes) (part_of bytes line word) (part_of bytes word seen) (part_of bytes seen on) now.named p.parts h10 h32);
+    }
+
+-- a space after the word that is seen
+pub place_space : (old new : RecordSoFar) (bytes : List ℕ) (line word seen : ℕ) → IsPlace old bytes line word seen → seen < length bytes → get_or bytes seen 0 ≡ 32 → new.detectors ≡ old.detectors
+    → with_words old.detectors (Ok old.named) (if_not_empty (part_of bytes word seen)) ≡ Ok new.named → IsPlace new bytes line (seen + 1) (seen + 1)
+place_space old new bytes line word seen p lt space same e =
+    let first = p.line_first in
+    let next = p.word_next in
+    let longer : part_of bytes line (seen + 1) ≡ part_of bytes line word ++ (part_of bytes word seen ++ 32 ∷ []) =
+    part_two bytes line word (seen + 1) first (omega arith)
+    ∙ ap (λ (l : List ℕ). part_of bytes line word ++ l) (part_more bytes word seen next lt ∙ ap (λ (b : ℕ). part_of bytes word seen ++ b ∷ []) space) in
+    record {
+      line_first = omega arith;
+      word_next = omega arith;
+      within = omega arith;
+      parts = subst (λ (n : ℕ). IsAt n (take line bytes) (part_of bytes line (seen + 1)) (part_of bytes (seen + 1) (seen + 1)) new.named) (sym same)
+          (subst (λ (l : List ℕ). IsAt old.detectors (take line bytes) (part_of bytes line (seen + 1)) l new.named) (sym (part_none bytes (seen + 1)))
+          (subst (λ (l : List ℕ). IsAt old.detectors (take line bytes) l [] new.named) (sym longer)
+          (at_space old.detectors (take line bytes) (part_of bytes line word) (part_of bytes word seen) old.named new.named p.parts e)));
+    }
+
+pub place_space_refused : (old : RecordSoFar) (bytes : List ℕ) (line word seen : ℕ) (kind : Kind) → IsPlace old bytes line word seen → seen < length bytes → get_or bytes seen 0 ≡ 32
+    → with_words old.detectors (Ok old.named) (if_not_empty (part_of bytes word seen)) ≡ Err kind → (finished : Bool) → AnswersDets old.detectors bytes finished bytes (Refused kind)
+place_space_refused old bytes line word seen kind p lt space e finished =
+    let tail : drop seen bytes ≡ 32 ∷ drop (seen + 1) bytes = drop_more bytes seen 0 lt ∙ ap (λ (b : ℕ). b ∷ drop (seen + 1) bytes) space in
+    let cut = place_cut old bytes line word seen p ∙ ap (λ (l : List ℕ). take line bytes ++ (part_of bytes line word ++ (part_of bytes word seen ++ l))) tail in
+    space_refused old.detectors (take line bytes) (part_of bytes line word) (part_of bytes word seen) (drop (seen + 1) bytes) old.named kind bytes finished p.parts e cut
+
+-- a newline after the word that is seen
+newline_cut : (old : RecordSoFar) (bytes : List ℕ) (line word seen : ℕ) → IsPlace old bytes line word seen → seen < length bytes → get_or bytes seen 0 ≡ 10
+    → bytes ≡ take line bytes ++ ((part_of bytes line word ++ part_of bytes word seen) ++ 10 ∷ drop (seen + 1) bytes)
+newline_cut old bytes line word seen p lt newline =
+    let tail : drop seen bytes ≡ 10 ∷ drop (seen + 1) bytes = drop_more bytes seen 0 lt ∙ ap (λ (b : ℕ). b ∷ drop (seen + 1) bytes) newline in
+    place_cut old bytes line word seen p
+    ∙ ap (λ (l : List ℕ). take line bytes ++ (part_of bytes line word ++ (part_of bytes word seen ++ l))) tail
+    ∙ ap (λ (l : List ℕ). take line bytes ++ l) (sym (append_assoc (part_of bytes line word) (part_of bytes word seen) (10 ∷ drop (seen + 1) bytes)))
+
+pub place_newline_refused : (old : RecordSoFar) (bytes : List ℕ) (line word seen : ℕ) (kind : Kind) → IsPlace old bytes line word seen → seen < length bytes → get_or bytes seen 0 ≡ 10
+    → with_words old.detectors (Ok old.named) (if_not_empty (without_return (part_of bytes word seen))) ≡ Err kind → (finished : Bool) → AnswersDets old.detectors bytes finished bytes (Refused kind)
+place_newline_refused old bytes line word seen kind p lt newline e finished =
+    newline_refused old.detectors (take line bytes) (part_of bytes line word) (part_of bytes word seen) (drop (seen + 1) bytes) old.named kind bytes finished p.parts e (newline_cut old bytes line word seen p lt newline)
+
+-- what the words come to that make a shot, or nothing
+shot_cases : (n : ℕ) (r : Words) (shot : List ℕ) → shot_of n r ≡ Ok (Some shot) → (named : List ℕ) × (r ≡ Ok (Some named)) × (rising n named ≡ shot)
+shot_cases n (Ok None) shot e = absurd cc
+shot_cases n (Ok (Some named)) shot e = (named, refl, cc)
+shot_cases n (Err kind) shot e = absurd cc
+
+blank_case : (n : ℕ) (r : Words) → shot_of n r ≡ Ok None → r ≡ Ok None
+blank_case n (Ok None) e = refl
+blank_case n (Ok (Some named)) e = absurd cc
+blank_case n (Err kind) e = absurd cc
+
+pub place_newline_shot : (old : RecordSoFar) (bytes : List ℕ) (line word seen : ℕ) (shot : List ℕ) → IsPlace old bytes line word seen → seen < length bytes → get_or bytes seen 0 ≡ 10
+    → shot_of old.detectors (with_words old.detectors (Ok old.named) (if_not_empty (without_return (part_of bytes word seen)))) ≡ Ok (Some shot)
+    → (finished : Bool) → AnswersDets old.detectors bytes finished (drop (seen + 1) bytes) (Shot shot)
+place_newline_shot old bytes line word seen shot p lt newline e finished =
+    let s = shot_cases old.detectors _ shot e in
+    subst (λ (l : List ℕ). AnswersDets old.detectors bytes finished (drop (seen + 1) bytes) (Shot l)) s.2
+    (newline_shot old.detectors (take line bytes) (part_of bytes line word) (part_of bytes word seen) (drop (seen + 1) bytes) old.named s.0 bytes finished p.parts s.1 (newline_cut old bytes line word seen p lt newline))
+
+pub place_newline : (old new : RecordSoFar) (bytes : List ℕ) (line word seen : ℕ) → IsPlace old bytes line word seen → seen < length bytes → get_or bytes seen 0 ≡ 10 → new.detectors ≡ old.detectors → new.named ≡ None
+    → shot_of old.detectors (with_words old.detectors (Ok old.named) (if_not_empty (without_return (part_of bytes word seen)))) ≡ Ok None → IsPlace new bytes (seen + 1) (seen + 1) (seen + 1)
+place_newline old new bytes line word seen p lt newline same none e =
+    let first = p.line_first in
+    let next = p.word_next in
+    let longer : take (seen + 1) bytes ≡ take line bytes ++ (part_of bytes line word ++ part_of bytes word seen) ++ 10 ∷ [] =
+    take_part bytes line (seen + 1) (omega arith)
+    ∙ ap (λ (l : List ℕ). take line bytes ++ l) (part_more bytes line seen (omega arith) lt
+    ∙ ap (λ (l : List ℕ). l ++ get_or bytes seen 0 ∷ []) (part_two bytes line word seen first next)
+    ∙ ap (λ (b : ℕ). (part_of bytes line word ++ part_of bytes word seen) ++ b ∷ []) newline)
+    ∙ sym (append_assoc (take line bytes) (part_of bytes line word ++ part_of bytes word seen) (10 ∷ [])) in
+    let at = at_newline old.detectors (take line bytes) (part_of bytes line word) (part_of bytes word seen) old.named p.parts (blank_case old.detectors _ e) in
+    record {
+      line_first = omega arith;
+      word_next = omega arith;
+      within = omega arith;
+      parts = subst (λ (n : ℕ). IsAt n (take (seen + 1) bytes) (part_of bytes (seen + 1) (seen + 1)) (part_of bytes (seen + 1) (seen + 1)) new.named) (sym same)
+          (subst (λ (o : Option (List ℕ)). IsAt old.detectors (take (seen + 1) bytes) (part_of bytes (seen + 1) (seen + 1)) (part_of bytes (seen + 1) (seen + 1)) o) (sym none)
+          (subst (λ (l : List ℕ). IsAt old.detectors (take (seen + 1) bytes) l l None) (sym (part_none bytes (seen + 1)))
+          (subst (λ (l : List ℕ). IsAt old.detectors l [] [] None) (sym longer) at)));
+    }
+
+-- the end of what was fed
+end_cut : (old : RecordSoFar) (bytes : List ℕ) (line word seen : ℕ) → IsPlace old bytes line word seen → seen ≡ length bytes → bytes ≡ take line bytes ++ (part_of bytes line word ++ part_of bytes word seen)
+end_cut old bytes line word seen p all =
+    place_cut old bytes line word seen p
+    ∙ ap (λ (l : List ℕ). take line bytes ++ (part_of bytes line word ++ (part_of bytes word seen ++ l))) (drop_all seen bytes (omega arith))
+    ∙ ap (λ (l : List ℕ). take line bytes ++ (part_of bytes line word ++ l)) (append-nil (part_of bytes word seen))
+
+pub place_open : (old : RecordSoFar) (bytes : List ℕ) (line word seen : ℕ) (finished : Bool) → IsPlace old bytes line word seen → seen ≡ length bytes → finished ≡ false → AnswersDets old.detectors bytes finished bytes NotYet
+place_open old bytes line word seen finished p all e =
+    open_so_far old.detectors (take line bytes) (part_of bytes line word) (part_of bytes word seen) old.named bytes finished p.parts e (end_cut old bytes line word seen p all)
+
+pub place_end_refused : (old : RecordSoFar) (bytes : List ℕ) (line word seen : ℕ) (kind : Kind) → IsPlace old bytes line word seen → seen ≡ length bytes
+    → with_words old.detectors (Ok old.named) (if_not_empty (without_return (part_of bytes word seen))) ≡ Err kind → AnswersDets old.detectors bytes true bytes (Refused kind)
+place_end_refused old bytes line word seen kind p all e =
+    end_refused old.detectors (take line bytes) (part_of bytes line word) (part_of bytes word seen) old.named kind bytes true p.parts refl e (end_cut old bytes line word seen p all)
+
+pub place_end_shot : (old : RecordSoFar) (bytes : List ℕ) (line word seen : ℕ) (shot : List ℕ) → IsPlace old bytes line word seen → seen ≡ length bytes
+    → shot_of old.detectors (with_words old.detectors (Ok old.named) (if_not_empty (without_return (part_of bytes word seen)))) ≡ Ok (Some shot) → AnswersDets old.detectors bytes true [] (Shot shot)
+place_end_shot old bytes line word seen shot p all e =
+    let s = shot_cases old.detectors _ shot e in
+    subst (λ (l : List ℕ). AnswersDets old.detectors bytes true [] (Shot l)) s.2
+    (end_shot old.detectors (take line bytes) (part_of bytes line word) (part_of bytes word seen) old.named s.0 bytes true p.parts refl s.1 (end_cut old bytes line word seen p all))
+
+-- words that come to nothing left the record as it was
+still_nothing : (n : ℕ) (so_far : Option (List ℕ)) (words : List (List ℕ)) → with_words n (Ok so_far) words ≡ Ok None → so_far ≡ None
+still_nothing n None words e = refl
+still_nothing n (Some named) words e = absurd (never_none n (Ok (Some named)) words (λ (z : Ok (Some named) ≡ Ok None). absurd cc) e)
+
+pub place_end_nothing : (old new : RecordSoFar) (bytes : List ℕ) (line word seen : ℕ) → IsPlace old bytes line word seen → seen ≡ length bytes → new.detectors ≡ old.detectors → new.named ≡ None
+    → shot_of old.detectors (with_words old.detectors (Ok old.named) (if_not_empty (without_return (part_of bytes word seen)))) ≡ Ok None
+    → AnswersDets old.detectors bytes true bytes End × IsPlace new bytes line word seen
+place_end_nothing old new bytes line word seen p all same none e =
+    let blank = blank_case old.detectors _ e in
+    let before = still_nothing old.detectors old.named _ blank in (
+      end_nothing old.detectors (take line bytes) (part_of bytes line word) (part_of bytes word seen) old.named bytes true p.parts refl blank (end_cut old bytes line word seen p all),
+      record {
+        line_first = p.line_first;
+        word_next = p.word_next;
+        within = p.within;
+        parts = subst (λ (n : ℕ). IsAt n (take line bytes) (part_of bytes line word) (part_of bytes word seen) new.named) (sym same)
+            (subst (λ (o : Option (List ℕ)). IsAt old.detectors (take line bytes) (part_of bytes line word) (part_of bytes word seen) o) (before ∙ sym none) p.parts);
+      },
+    )
+
+-- ---- refusals
+
+pub refused_then : (P Q : Kind → Type 0) (stop : Stop) → ((kind : Kind) → P kind → Q kind) → IfRefused P stop → IfRefused Q stop
+refused_then P Q stops.NoMemory h r = tt
+refused_then P Q (stops.Refused kind) h r = h kind r

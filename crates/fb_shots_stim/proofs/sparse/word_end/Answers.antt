@@ -1,0 +1,13 @@
+use Rattle.std.proofs.Common.{arith}
+use Rattle.fb_shots_stim.proofs.PlaceLemmas.{holds_more}
+use Rattle.fb_shots_stim.proofs.sparse.word_end.Goals as goal
+
+pub loop-i-preserved : goal.loop-i-preserved
+loop-i-preserved c =
+    let at = c.loop-i.invariant in
+    record {
+      onward = omega arith;
+      within = omega arith;
+      in_line = holds_more 10 c.args.bytes.now c.args.from c.loop-i.i at.onward (omega arith) c.if-bytes-i-ne10.true at.in_line;
+      in_word = holds_more 32 c.args.bytes.now c.args.from c.loop-i.i at.onward (omega arith) c.if-bytes-i-ne32.true at.in_word;
+    }

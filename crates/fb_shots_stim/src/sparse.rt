@@ -1,0 +1,271 @@
+//! The format `dets`: a line for each shot, the word `shot` and a word for each detector that fired.
+
+ghost use Rattle.std.specs.Prelude.{◌≡◌, ℕ, ◌+◌, ◌-◌, ◌<◌, ◌≤◌, ◌++◌, ◌∷◌, [], List, Bool, true, false, ◌||◌, ◌==◌, length, take, drop, slice_index, Ok, Err, Some, None, IfOk, IfErr, IfSome, IfNone, OnOk, OnErr};
+ghost use Rattle.fb_shots_stim.specs.Records.{Reader};
+ghost use Rattle.fb_shots_stim.specs.Lines.{holds, if_not_empty, without_return};
+ghost use Rattle.fb_shots_stim.specs.Answers.{answer_of, Answers};
+ghost use Rattle.fb_shots_stim.specs.TextDets.{records_dets, front_dets, reading_dets, after_record, shot_of, with_words};
+ghost use Rattle.fb_shots_stim.specs.WordsDets.{IsPlace, part_of, is_word_end};
+ghost use Rattle.fb_shots_stim.specs.WordStops.{IfRefused};
+ghost use Rattle.fb_shots_stim.specs.StopsDets.{AnswersDets, used_of, answer_at};
+ghost use Rattle.fb_shots_stim.specs.declared.answer.Next.TheVariants as next;
+
+use crate::answer::{Detectors, Kind, Next, NoMemory};
+use crate::pending::Pending;
+use crate::words::{Stop, Words};
+use std::alloc::Global;
+use std::marker::Model;
+
+/// A reader of shots in the format `dets`. Contracts see the bytes fed that no answer has used, and whether they are all.
+#[derive(Drop)]
+pub struct RecordsDets {
+    pending: Pending,
+    words: Words,
+    place: Place,
+    finished: bool,
+}
+
+/// How far a reader has come in the bytes that no answer has used.
+#[derive(Clone, Copy)]
+struct Place {
+    /// The line that is read starts here. The lines before it have no word.
+    line: usize,
+    /// The word that is read starts here. The words before it are taken.
+    word: usize,
+    /// From the word's start to here there is no space and no newline.
+    seen: usize,
+}
+
+impl Model for RecordsDets {
+    ghost use Rattle.fb_shots_stim.specs.Records.{Reader};
+    ghost use Rattle.fb_shots_stim.specs.WordsDets.{IsPlace};
+
+    ghost Value = { Reader };
+
+    ghost view = { λ r. record { detectors = r.words.detectors; rest = r.pending; finished = r.finished } };
+
+    ghost invariant = { λ r. IsPlace r.words r.pending r.place.line r.place.word r.place.seen };
+}
+
+impl RecordsDets {
+    /// A reader of shots of so many detectors, with no bytes yet.
+    pub fn new(alloc: Global, detectors: u32) -> Self
+        ensures { result ≡ record { detectors = detectors; rest = []; finished = false } }
+    {
+        RecordsDets {
+            pending: Pending::new(alloc),
+            words: Words::new(alloc, detectors),
+            place: START,
+            finished: false,
+        }
+    }
+
+    /// Takes the next piece of the input. Without memory nothing is taken.
+    pub fn feed(&mut self, piece: &[u8]) -> Result<(), NoMemory>
+        requires { self.old.finished ≡ false }
+        ensures ok { OnOk result (self.new ≡ record self.old { rest = self.old.rest ++ piece.now }) }
+        ensures err { OnErr result (self.new ≡ self.old) }
+    {
+        self.pending.put(piece)
+    }
+
+    /// Says that the input has no further piece.
+    pub fn finish(&mut self)
+        ensures { self.new ≡ record self.old { finished = true } }
+    {
+        self.finished = true;
+    }
+
+    /// Answers by the first record of the bytes that no answer has used. A shot uses up its line and the lines
+    /// without a word before it, and nothing else uses any byte.
+    pub fn next(&mut self) -> Result<Next, NoMemory>
+        ensures answer { IfOk result (λ a. a ≡ answer_of (reading_dets self.old)) }
+        ensures meaning { IfOk result (Answers records_dets front_dets after_record self.old self.new) }
+        ensures err { OnErr result (self.new ≡ self.old) }
+    {
+        let rest = self.pending.as_slice();
+        match advance(&mut self.words, &mut self.place, rest, self.finished) {
+            Ok(Step::Shot(shot, used)) => {
+                self.pending.take_off(used);
+                Ok(Next::Shot(shot))
+            }
+            Ok(Step::NotYet) => Ok(Next::NotYet),
+            Ok(Step::End) => Ok(Next::End),
+            Err(Stop::Refused(kind)) => Ok(Next::Refused(kind)),
+            Err(Stop::NoMemory) => Err(NoMemory),
+        }
+    }
+}
+
+/// Where reading stops.
+enum Step {
+    /// A shot, of which so many bytes are used.
+    Shot(Detectors, usize),
+    NotYet,
+    End,
+}
+
+const START: Place = Place {
+    line: 0,
+    word: 0,
+    seen: 0,
+};
+
+/// Reads words up to the end of a record or of the bytes.
+fn advance(words: &mut Words, place: &mut Place, rest: &[u8], finished: bool) -> Result<Step, Stop>
+    requires { IsPlace words.old rest.now place.old.line place.old.word place.old.seen }
+    ensures ok { IfOk result (λ step. AnswersDets words.old.detectors rest.now finished (drop (used_of step) rest.now) (answer_at step)
+        × IsPlace words.new (drop (used_of step) rest.now) place.new.line place.new.word place.new.seen
+        × (words.new.detectors ≡ words.old.detectors)) }
+    ensures used { IfOk result (λ step. used_of step ≤ length rest.now) }
+    ensures refused { IfErr result (IfRefused (λ kind. AnswersDets words.old.detectors rest.now finished rest.now (next.Refused kind))) }
+    ensures err { OnErr result (IsPlace words.new rest.now place.new.line place.new.word place.new.seen
+        × (words.new.detectors ≡ words.old.detectors)) }
+{
+    loop {
+        place.seen = word_end(rest, place.seen);
+        if place.seen == rest.len() {
+            if !finished {
+                return Ok(Step::NotYet);
+            }
+            return match take_last(words, *place, rest) {
+                Ok(Some(shot)) => {
+                    *place = START;
+                    Ok(Step::Shot(shot, rest.len()))
+                }
+                Ok(None) => Ok(Step::End),
+                Err(stop) => Err(stop),
+            };
+        }
+        let used = place.seen + 1;
+        if rest[place.seen] == b' ' {
+            match take_word(words, place, rest) {
+                Ok(()) => {}
+                Err(stop) => return Err(stop),
+            }
+        } else {
+            match take_line(words, place, rest) {
+                Ok(None) => {}
+                Ok(Some(shot)) => {
+                    *place = START;
+                    return Ok(Step::Shot(shot, used));
+                }
+                Err(stop) => return Err(stop),
+            }
+        }
+    }
+}
+
+/// Where the word ends that goes on from a place: at a space, a newline or the end of the bytes.
+fn word_end(bytes: &[u8], from: usize) -> usize
+    requires { from ≤ length bytes.now }
+    ensures onward { from ≤ result }
+    ensures within { result ≤ length bytes.now }
+    ensures in_line { holds 10 (part_of bytes.now from result) ≡ false }
+    ensures in_word { holds 32 (part_of bytes.now from result) ≡ false }
+    ensures stops { result < length bytes.now → is_word_end (slice_index bytes.now result) ≡ true }
+{
+    let mut i = from;
+    while i < bytes.len() && bytes[i] != b' ' && bytes[i] != b'\n' {
+        i += 1;
+    }
+    i
+}
+
+/// Takes the word that a space has ended.
+fn take_word(words: &mut Words, place: &mut Place, rest: &[u8]) -> Result<(), Stop>
+    requires at { IsPlace words.old rest.now place.old.line place.old.word place.old.seen }
+    requires more { place.old.seen < length rest.now }
+    requires space { slice_index rest.now place.old.seen ≡ 32 }
+    ensures ok { OnOk result (IsPlace words.new rest.now place.new.line place.new.word place.new.seen) }
+    ensures onward { OnOk result (place.new.seen ≡ place.old.seen + 1) }
+    ensures same { words.new.detectors ≡ words.old.detectors }
+    ensures refused { IfErr result (IfRefused (λ kind. (finished : Bool) →
+        AnswersDets words.old.detectors rest.now finished rest.now (next.Refused kind))) }
+    ensures err { OnErr result (IsPlace words.new rest.now place.new.line place.new.word place.new.seen) }
+{
+    match words.read(&rest[place.word..place.seen]) {
+        Ok(()) => {
+            place.seen += 1;
+            place.word = place.seen;
+            Ok(())
+        }
+        Err(stop) => Err(stop),
+    }
+}
+
+/// Takes the last word of a line that its newline has ended: the shot of the line, if it has a word.
+fn take_line(words: &mut Words, place: &mut Place, rest: &[u8]) -> Result<Option<Detectors>, Stop>
+    requires at { IsPlace words.old rest.now place.old.line place.old.word place.old.seen }
+    requires more { place.old.seen < length rest.now }
+    requires newline { slice_index rest.now place.old.seen ≡ 10 }
+    ensures blank { IfOk result (λ found. IfNone found (IsPlace words.new rest.now place.new.line place.new.word place.new.seen)) }
+    ensures onward { IfOk result (λ found. IfNone found (place.new.seen ≡ place.old.seen + 1)) }
+    ensures shot { IfOk result (λ found. IfSome found (λ shot. (words.new.named ≡ None) × ((finished : Bool) →
+        AnswersDets words.old.detectors rest.now finished (drop (place.old.seen + 1) rest.now) (next.Shot shot)))) }
+    ensures same { words.new.detectors ≡ words.old.detectors }
+    ensures refused { IfErr result (IfRefused (λ kind. (finished : Bool) →
+        AnswersDets words.old.detectors rest.now finished rest.now (next.Refused kind))) }
+    ensures err { OnErr result (IsPlace words.new rest.now place.new.line place.new.word place.new.seen) }
+{
+    match end_line(words, &rest[place.word..place.seen]) {
+        Ok(None) => {
+            place.seen += 1;
+            place.word = place.seen;
+            place.line = place.seen;
+            Ok(None)
+        }
+        Ok(Some(shot)) => Ok(Some(shot)),
+        Err(stop) => Err(stop),
+    }
+}
+
+/// Takes the last word of the input: the shot of its line, if it has a word.
+fn take_last(words: &mut Words, place: Place, rest: &[u8]) -> Result<Option<Detectors>, Stop>
+    requires at { IsPlace words.old rest.now place.line place.word place.seen }
+    requires all { place.seen ≡ length rest.now }
+    ensures nothing { IfOk result (λ found. IfNone found (AnswersDets words.old.detectors rest.now true rest.now next.End
+        × IsPlace words.new rest.now place.line place.word place.seen)) }
+    ensures shot { IfOk result (λ found. IfSome found (λ shot. (words.new.named ≡ None)
+        × AnswersDets words.old.detectors rest.now true [] (next.Shot shot))) }
+    ensures same { words.new.detectors ≡ words.old.detectors }
+    ensures refused { IfErr result (IfRefused (λ kind. AnswersDets words.old.detectors rest.now true rest.now (next.Refused kind))) }
+    ensures err { OnErr result (IsPlace words.new rest.now place.line place.word place.seen) }
+{
+    match end_line(words, &rest[place.word..place.seen]) {
+        Ok(None) => Ok(None),
+        Ok(Some(shot)) => Ok(Some(shot)),
+        Err(stop) => Err(stop),
+    }
+}
+
+/// Takes the last word of a line and ends the record.
+fn end_line(words: &mut Words, word: &[u8]) -> Result<Option<Detectors>, Stop>
+    ensures ok { IfOk result (λ found. shot_of words.old.detectors
+        (with_words words.old.detectors (Ok words.old.named) (if_not_empty (without_return word.now))) ≡ Ok found) }
+    ensures ended { OnOk result (words.new.named ≡ None) }
+    ensures same { words.new.detectors ≡ words.old.detectors }
+    ensures refused { IfErr result (IfRefused (λ kind.
+        with_words words.old.detectors (Ok words.old.named) (if_not_empty (without_return word.now)) ≡ Err kind)) }
+    ensures err { OnErr result (words.new ≡ words.old) }
+{
+    match words.read(without_return(word)) {
+        Ok(()) => Ok(words.take()),
+        Err(stop) => Err(stop),
+    }
+}
+
+/// Without one carriage return at the end.
+fn without_return(word: &[u8]) -> &[u8]
+    ensures { result.now ≡ without_return word.now }
+{
+    if word.is_empty() {
+        return word;
+    }
+    let end = word.len() - 1;
+    if word[end] == b'\r' {
+        &word[..end]
+    } else {
+        word
+    }
+}
