@@ -9,7 +9,7 @@ use Rattle.fb_graph.specs.Limits.{DecodingGraph, problem_of}
 use Rattle.fb_graph.specs.declared.parts.Row.{Row}
 use Rattle.fb_graph.specs.declared.parts.Row.TheVariants.{Best, Odd, Over}
 use Rattle.fb_ports.specs.Causes.{Appends, AppendsFront}
-use Rattle.fb_report.specs.Texts.{head_text, rows_text, done_text}
+use Rattle.fb_report.specs.Texts.{head_text, row_text, rows_text, done_text}
 
 -- the vertices of a shot's detectors
 abbrev pub vertices_of : DecodingGraph → List ℕ → List ℕ
@@ -55,3 +55,14 @@ pub record WritesFront (g : DecodingGraph) (shots : List (List ℕ)) (old new : 
   pub answers : AllZip (IsShotRow g) first rows
   pub written : AppendsFront old new (head_text ++ rows_text 0 rows)
       ⊎ ((others ≡ []) × AppendsFront old new (report_text rows))
+
+-- the row of a shot was added to a text
+pub record WritesRow (g : DecodingGraph) (k : ℕ) (shot old new : List ℕ) (over : Bool) : Type 0 where
+  pub row : Row
+  pub answer : IsShotRow g shot row
+  pub longer : new ≡ old ++ row_text k row
+  pub is : over ≡ is_over row
+
+-- the front of a text that waits has been written
+abbrev pub Moves : Option (List ℕ) → Option (List ℕ) → List ℕ → List ℕ → Type 0
+Moves taken_old taken_new old new = (moved : List ℕ) × Appends taken_old taken_new moved × (old ≡ moved ++ new)

@@ -3,3 +3,4 @@ pub mod Causes
 pub mod Seen
 pub mod Judging
 pub mod Decoding
+pub mod Outboxes

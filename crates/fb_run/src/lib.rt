@@ -4,6 +4,8 @@
 
 mod ending;
 mod input;
+mod outbox;
+mod report;
 mod shots;
 mod solving;
 mod words;
