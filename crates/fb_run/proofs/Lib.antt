@@ -1,3 +1,4 @@
 pub mod Inputs
 pub mod ShotRanges
 pub mod Solved
+pub mod Writing

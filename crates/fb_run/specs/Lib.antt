@@ -4,3 +4,4 @@ pub mod Seen
 pub mod Judging
 pub mod Decoding
 pub mod Outboxes
+pub mod Endings

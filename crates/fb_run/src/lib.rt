@@ -6,8 +6,10 @@ mod ending;
 mod input;
 mod outbox;
 mod report;
+mod running;
 mod shots;
 mod solving;
 mod words;
 
 pub use ending::{Cause, Ended, Refusal, UsageKind};
+pub use running::run;
