@@ -13,3 +13,6 @@ mod words;
 
 pub use ending::{Cause, Ended, Refusal, UsageKind};
 pub use running::run;
+
+#[cfg(test)]
+mod tests;
