@@ -1,15 +1,14 @@
 -- Layers of which each has a vertex more than the one below it differ as sets.
-use Rattle.std.proofs.Common.{◌≡◌, ℕ, ◌||◌, Bool, true, false, List, [], ◌∷◌, ◌++◌, All, AllPairs, eqb, refl, sym, ap, subst, ◌∙◌, arith}
-use Rattle.std.proofs.lemmas.Bool.{false≢true, or_left, or_right, or_from, or_parts, eq-eqb}
+use Rattle.std.proofs.Common.{◌≡◌, ℕ, true, false, List, [], ◌∷◌, ◌++◌, All, AllPairs, eqb, refl, sym, ap, subst, ◌∙◌, arith}
+use Rattle.std.proofs.lemmas.Bool.{false≢true, or_left, or_from, or_parts}
 use Rattle.std.proofs.lemmas.List.Elements.{All-cons, All-nil, All-tail, All-head}
-use Rattle.std.proofs.lemmas.List.Folds.{list_any-append}
 use Rattle.std.proofs.lemmas.List.Kept.{AllPairs-cons}
 use Rattle.fb_graph.specs.Parity.{is_in}
 use Rattle.fb_graph.specs.Certificate.{AreDistinct}
 use Rattle.fb_graph.specs.Printed.{DifferAsSets}
 use Rattle.fb_graph.specs.declared.parts.Cut.{Cut}
 use Rattle.fb_graph.proofs.Sets.{equal_sym}
-use Rattle.fb_search.proofs.LoneSteps.{or_nothing}
+use Rattle.fb_regions.proofs.Sets.{is_in-append, is_in_push, is_in_pushed}
 use Rattle.fb_regions.specs.Dual.{AreGrown}
 
 -- a number after distinct ones isn't among them
@@ -17,7 +16,7 @@ distinct_last : (vs : List ℕ) (w : ℕ) → AreDistinct (vs ++ w ∷ []) → i
 distinct_last [] w distinct = refl
 distinct_last (v ∷ vs) w distinct =
     or_from (eqb v w) (is_in vs w)
-    (equal_sym v w ∙ sym (or_nothing (eqb w v)) ∙ (or_parts (is_in vs v) (is_in (w ∷ []) v) (sym (list_any-append (λ u. eqb u v) vs (w ∷ [])) ∙ distinct.0)).1)
+    (equal_sym v w ∙ (or_parts (is_in vs v) (eqb w v) (sym (is_in_push vs w v) ∙ distinct.0)).1)
     (distinct_last vs w distinct.1)
 
 -- what a layer holds, all above it hold
@@ -26,15 +25,14 @@ grown_holds v c [] grown held = All-cons (λ (d : Cut). is_in d.vertices v ≡ t
 grown_holds v c (d ∷ ds) grown held =
     let (w, e) = grown.0 in
     All-cons (λ (x : Cut). is_in x.vertices v ≡ true) c (d ∷ ds) held
-    (grown_holds v d ds grown.1 (ap (λ vs. is_in vs v) e ∙ list_any-append (λ u. eqb u v) c.vertices (w ∷ []) ∙ or_left (is_in c.vertices v) (is_in (w ∷ []) v) held))
+    (grown_holds v d ds grown.1 (ap (λ vs. is_in vs v) e ∙ is_in-append c.vertices (w ∷ []) v ∙ or_left (is_in c.vertices v) (is_in (w ∷ []) v) held))
 
 differ_from_first : (c : Cut) (cs : List Cut) → AreGrown (c ∷ cs) → All (λ d. AreDistinct d.vertices) cs → All (DifferAsSets c) cs
 differ_from_first c [] grown distinct = All-nil (DifferAsSets c)
 differ_from_first c (d ∷ ds) grown distinct =
     let (w, e) = grown.0 in
     let without : is_in c.vertices w ≡ false = distinct_last c.vertices w (subst AreDistinct e (All-head (λ (x : Cut). AreDistinct x.vertices) d ds distinct)) in
-    let within : is_in d.vertices w ≡ true = ap (λ vs. is_in vs w) e ∙ list_any-append (λ u. eqb u w) c.vertices (w ∷ [])
-    ∙ or_right (is_in c.vertices w) (is_in (w ∷ []) w) (or_left (eqb w w) false (eq-eqb w w refl)) in
+    let within : is_in d.vertices w ≡ true = ap (λ vs. is_in vs w) e ∙ is_in_pushed c.vertices w in
     λ k x less. (w, λ same. false≢true (sym without ∙ same ∙ grown_holds w d ds grown.1 within k x less))
 
 pub grown_differ : (cs : List Cut) → AreGrown cs → All (λ d. AreDistinct d.vertices) cs → AllPairs DifferAsSets cs

@@ -1,11 +1,12 @@
 -- The walk out of a region that has reached the boundary is a correction with its certificate.
-use Rattle.std.proofs.Common.{◌≡◌, ◌≢◌, ℕ, ◌+◌, ◌<◌, ◌≤◌, ◌||◌, ◌⊎◌, Bool, true, false, cond, List, [], ◌∷◌, ◌++◌, length, map, get_or, All, sum_by, Option, Some, None, IsSome, eqb, refl, sym, ap, subst, ◌∙◌, inl, inr, arith, append-nil, lit<}
+use Rattle.std.proofs.Common.{◌≡◌, ℕ, ◌<◌, ◌≤◌, ◌||◌, Bool, true, false, List, [], ◌∷◌, ◌++◌, length, map, get_or, All, sum_by, Option, Some, None, IsSome, eqb, refl, sym, ap, subst, ◌∙◌, inl, inr, arith, append-nil, lit<}
 use Rattle.std.specs.List.Sorted.{IsStrictlyIncreasing}
-use Rattle.std.proofs.lemmas.Bool.{false≢true, eqb-true, ne_eqb, eq-eqb}
+use Rattle.std.proofs.lemmas.Bool.{false≢true, ne_eqb, eq-eqb}
+use Rattle.std.proofs.Math.Bool.{or-false}
 use Rattle.std.proofs.lemmas.List.Sums.{sum_by-append, sum_by-cons}
 use Rattle.fb_graph.specs.Parity.{is_in, differ, is_odd_count}
 use Rattle.fb_graph.specs.Problem.{Problem, edge_at, touches, weight_of, with_defects, Flips}
-use Rattle.fb_graph.specs.Certificate.{IsOddCut, IsPrintedCut, IsPacking, AreRising, IsBest, load_of, total_value, Fits}
+use Rattle.fb_graph.specs.Certificate.{IsPrintedCut, IsPacking, AreRising, IsBest, load_of, total_value}
 use Rattle.fb_graph.specs.Components.{Leads, IsWalkBy}
 use Rattle.fb_graph.specs.declared.parts.Edge.{Edge}
 use Rattle.fb_graph.specs.declared.parts.Cut.{Cut}
@@ -15,10 +16,11 @@ use Rattle.fb_graph.proofs.Sets.{equal_sym, All-from_is_in, is_in-All}
 use Rattle.fb_graph.proofs.Walks.{IsWalkBy-append, IsWalkBy-one, walk_parity, walk_within}
 use Rattle.fb_regions.specs.declared.walk.Step.{Step}
 use Rattle.fb_regions.specs.Walks.{IsWalk, walk_weight}
-use Rattle.fb_regions.specs.Dual.{Node, IsDual, HasRadius, first_vertices, AreUnderOne, all_cuts, leaves, cover_of, height_of, layers_of}
+use Rattle.fb_regions.specs.Dual.{Node, IsDual, HasRadius, first_vertices, AreUnderOne, all_cuts, leaves, cover_of, height_of}
 use Rattle.fb_regions.specs.Moves.{IsWalkFrom}
-use Rattle.fb_search.specs.Lone.{lone, IsLone, IsWayOut, edges_out}
-use Rattle.fb_search.proofs.LoneSteps.{cuts_lone, or_nothing}
+use Rattle.fb_search.specs.Lone.{IsLone, IsWayOut, edges_out}
+use Rattle.fb_search.proofs.LoneEdges.{not_under_far}
+use Rattle.fb_search.proofs.LoneSteps.{cuts_lone, only_member}
 
 -- a walk step by step is a walk by its edges
 pub walk_by_edges : (p : Problem) (steps : List Step) (from to : ℕ) → IsWalk p steps from to → IsWalkBy p (map (λ s. s.edge) steps) from to
@@ -43,14 +45,7 @@ module _ (p : Problem) (nodes : List Node) (name defect : ℕ) (members : List �
     (is_lone : IsLone p nodes name defect members) (dual : IsDual p nodes) (way : IsWayOut p nodes members k)
     (walk : IsWalkFrom p nodes steps source way.inner) where
   source_is : source ≡ defect
-  source_is = sym (eqb-true defect source (only_one (subst (λ ds. is_in ds source ≡ true) is_lone.leaf walk.defect)))
-    where
-      only_one : (eqb defect source || false) ≡ true → eqb defect source ≡ true
-      only_one h = go (eqb defect source) h
-        where
-          go : (b : Bool) → (b || false) ≡ true → b ≡ true
-          go true h = refl
-          go false h = h
+  source_is = sym (only_member defect source (subst (λ ds. is_in ds source ≡ true) is_lone.leaf walk.defect))
 
   leads_out : IsWalkBy p (edges_out steps k) defect way.outer
   leads_out = IsWalkBy-append p (map (λ s. s.edge) steps) (k ∷ []) defect way.inner way.outer
@@ -65,13 +60,7 @@ module _ (p : Problem) (nodes : List Node) (name defect : ℕ) (members : List �
       go (Some name) h = absurd (false≢true (sym way.boundary ∙ h refl))
 
   not_under : ¬ AreUnderOne nodes (edge_at p.edges k).first (edge_at p.edges k).second
-  not_under under = elim way.leads [
-    | inl there ↦ absurd (none_some (sym outer_uncovered ∙ ap (cover_of nodes) (sym there.1) ∙ under.2))
-    | inr back ↦ absurd (none_some (sym outer_uncovered ∙ ap (cover_of nodes) (sym back.1) ∙ under.1))
-  ]
-    where
-      none_some : ◌≡◌ {A = Option ℕ} None (Some under.0) → ⊥
-      none_some e = cc
+  not_under = not_under_far nodes (edge_at p.edges k) way.inner way.outer way.leads outer_uncovered
 
   way_weighs : (edge_at p.edges k).weight ≡ height_of (all_cuts nodes) way.inner
   way_weighs = elim way.leads [
@@ -158,7 +147,7 @@ module _ (p : Problem) (nodes : List Node) (name defect : ℕ) (members : List �
       flips : Flips (with_defects p (defect ∷ [])) chosen
       flips v real = parity (λ j. touches v (edge_at p.edges j)) ∙ walk_parity p (edges_out steps k) defect way.outer leads_out v
           ∙ ap (λ b. differ (eqb v defect) b) (boundary_apart v real) ∙ differ-false (eqb v defect)
-          ∙ equal_sym v defect ∙ sym (or_nothing (eqb defect v))
+          ∙ equal_sym v defect ∙ sym (or-false (eqb defect v))
 
       least : total_value (all_cuts nodes) ≤ weight_of p chosen
       least = weak_duality (with_defects p (defect ∷ [])) (all_cuts nodes) chosen packing within flips

@@ -1,23 +1,21 @@
 -- A region that no edge leaves is an odd component without boundary.
-use Rattle.std.proofs.Common.{◌≡◌, ℕ, ◌+◌, ◌<◌, ◌≤◌, ◌||◌, Bool, true, false, List, [], ◌∷◌, ◌++◌, length, get_or, All, AllPairs, Some, eqb, refl, sym, ap, subst, ◌∙◌, arith, length-append, lit<}
-use Rattle.std.proofs.lemmas.Bool.{eqb-true}
+use Rattle.std.proofs.Common.{◌≡◌, ℕ, ◌<◌, ◌≤◌, true, false, List, [], ◌∷◌, ◌++◌, length, All, AllPairs, Some, sym, ap, subst, ◌∙◌, arith, lit<}
 use Rattle.std.proofs.lemmas.List.Elements.{All-tail}
 use Rattle.std.specs.List.{range_with_len}
 use Rattle.std.proofs.lemmas.List.FromFn.{length-range_with_len}
 use Rattle.fb_graph.specs.Parity.{is_in, is_odd_count}
 use Rattle.fb_graph.specs.Problem.{Problem, crosses, with_defects}
-use Rattle.fb_graph.specs.Certificate.{AreDistinct, IsOddCut, IsPacking}
+use Rattle.fb_graph.specs.Certificate.{AreDistinct, IsOddCut}
 use Rattle.fb_graph.specs.Components.{IsJoined, IsFirstOdd}
 use Rattle.fb_graph.specs.Limits.{IsWithinLimits}
 use Rattle.fb_graph.specs.Printed.{DifferAsSets}
-use Rattle.fb_graph.specs.Laws.{IsClosedRound}
 use Rattle.fb_graph.specs.declared.parts.Cut.{Cut}
 use Rattle.fb_graph.proofs.OddComponents.{some_is_first_odd}
 use Rattle.fb_graph.proofs.Sets.{All-from_is_in, is_in-All, member_of_odd, length-le_from_within, distinct_from_rising, range_rises, is_in-range}
-use Rattle.fb_regions.specs.Dual.{Node, IsDual, AreGrown, all_cuts, layers_of, leaves}
-use Rattle.fb_search.specs.Lone.{lone, IsLone}
+use Rattle.fb_regions.specs.Dual.{Node, IsDual, AreGrown, all_cuts, layers_of}
+use Rattle.fb_search.specs.Lone.{IsLone}
 use Rattle.fb_search.proofs.GrownCuts.{grown_differ}
-use Rattle.fb_search.proofs.LoneSteps.{cuts_lone, or_nothing}
+use Rattle.fb_search.proofs.LoneSteps.{cuts_lone, only_member}
 
 -- the last of some cuts
 last_of : (P : Cut → Type 0) (cuts : List Cut) (c : Cut) → All P (cuts ++ c ∷ []) → P c
@@ -40,12 +38,9 @@ module _ (p : Problem) (nodes : List Node) (name defect : ℕ) (members : List �
   members_odd : is_odd_count (is_in (defect ∷ [])) members ≡ true
   members_odd = subst (λ vs. is_odd_count (is_in (defect ∷ [])) vs ≡ true) is_lone.holds top_is_odd.odd
 
-  one_defect : (u : ℕ) → is_in (defect ∷ []) u ≡ true → defect ≡ u
-  one_defect u h = eqb-true defect u (sym (or_nothing (eqb defect u)) ∙ h)
-
   pub holds_defect : is_in members defect ≡ true
   holds_defect = let (u, within, is_defect) = member_of_odd (is_in (defect ∷ [])) members members_odd in
-      ap (is_in members) (one_defect u is_defect) ∙ within
+      ap (is_in members) (only_member defect u is_defect) ∙ within
 
   pub members_below : IsWithinLimits p → All (λ v. v < p.vertices) members
   members_below limits = All-from_is_in (λ v. v < p.vertices) members
@@ -60,7 +55,7 @@ module _ (p : Problem) (nodes : List Node) (name defect : ℕ) (members : List �
         holds = holds_defect;
         joined = joined;
       })
-      members_odd (λ u is_defect real. ap (is_in members) (sym (one_defect u is_defect)) ∙ holds_defect)
+      members_odd (λ u is_defect real. ap (is_in members) (sym (only_member defect u is_defect)) ∙ holds_defect)
     where
       joined : (u : ℕ) → is_in members u ≡ true → IsJoined (with_defects p (defect ∷ [])) defect u
       joined u held = is_lone.joined u held

@@ -1,29 +1,24 @@
 -- The edges that leave one region, and how far it may grow.
-use Rattle.std.proofs.Common.{◌≡◌, ◌≢◌, ℕ, zero, suc, ◌+◌, ◌-◌, ◌<◌, ◌≤◌, ◌||◌, ◌⊎◌, min, Bool, true, false, not, cond, List, [], ◌∷◌, ◌++◌, length, take, get_or, All, filter, Option, Some, None, IfSome, IfNone, eqb, refl, sym, ap, subst, ◌∙◌, inl, inr, arith, lit<}
+use Rattle.std.proofs.Common.{◌≡◌, ℕ, ◌<◌, ◌≤◌, Bool, true, false, not, cond, List, [], ◌∷◌, ◌++◌, length, get_or, All, filter, Option, Some, None, IfSome, IfNone, eqb, refl, sym, ap, subst, ◌∙◌, inl, inr, arith}
 use Rattle.std.specs.Option.{is_some}
 use Rattle.std.specs.List.{range_with_len}
-use Rattle.std.specs.Bool.{beq}
-use Rattle.std.proofs.lemmas.Bool.{false≢true, cases_Bool, eqb-true, eqb-false, eq-eqb, ne_eqb, or_left, or_right, cond-true, cond-false}
+use Rattle.std.proofs.lemmas.Bool.{false≢true, eqb-true, eq-eqb, ne_eqb, or_left}
 use Rattle.std.proofs.lemmas.List.{get_or_default}
-use Rattle.std.proofs.lemmas.List.Folds.{list_any-append}
 use Rattle.std.proofs.lemmas.List.Elements.{All-filter, filter_passes}
 use Rattle.fb_graph.specs.Parity.{is_in, differ}
 use Rattle.fb_graph.specs.Problem.{Problem, no_edge, edge_at, touches, crosses}
-use Rattle.fb_graph.specs.Certificate.{load_of, IsPacking}
 use Rattle.fb_graph.specs.Components.{Leads, IsJoined}
 use Rattle.fb_graph.specs.Limits.{IsWithinLimits}
 use Rattle.fb_graph.specs.declared.parts.Edge.{Edge}
-use Rattle.fb_graph.proofs.Sets.{equal_sym, is_in-All, is_in_at, is_in-filter, is_in-range, range_below}
+use Rattle.fb_graph.proofs.ParitySums.{false-differ}
+use Rattle.fb_graph.proofs.Sets.{equal_sym, is_in-All, range_below}
 use Rattle.fb_graph.proofs.Ranges.{is_in-filter-range}
 use Rattle.fb_graph.proofs.Walks.{IsWalkBy-one}
-use Rattle.fb_regions.specs.Dual.{Node, IsDual, AreUnderOne, is_live, is_outer, all_cuts, cover_of, height_of}
+use Rattle.fb_regions.proofs.Sets.{is_in-append, is_in_pushed}
+use Rattle.fb_regions.specs.Dual.{Node, AreUnderOne, is_live, is_outer, cover_of}
 use Rattle.fb_regions.specs.Moves.{AllowsGrowth, IsCrossed, absorbed}
-use Rattle.fb_search.specs.Lone.{lone, IsLone, HasTaken, IsClear, IsClearRound, Bounds, BoundsRound, IsBound, IsNoHigher, far_end, lesser_of}
-use Rattle.fb_search.proofs.LoneSteps.{cover_lone, within_lone, uncovered_lone, taken_lone, has_taken_lone}
-
-true_of : (b : Bool) → differ false b ≡ true → b ≡ true
-true_of true h = refl
-true_of false h = cc
+use Rattle.fb_search.specs.Lone.{IsLone, HasTaken, IsClear, IsClearRound, Bounds, BoundsRound, IsBound, IsNoHigher, far_end, lesser_of}
+use Rattle.fb_search.proofs.LoneSteps.{within_lone, taken_lone, has_taken_lone}
 
 -- an edge at v leads from v to its far end
 pub leads_far : (e : Edge) (v : ℕ) → touches v e ≡ true → Leads e v (far_end e v)
@@ -31,7 +26,7 @@ leads_far e v at_v = by_first (eqb e.first v) refl
   where
     by_first : (b : Bool) → eqb e.first v ≡ b → Leads e v (cond b e.second e.first)
     by_first true is = inl (eqb-true e.first v is, refl)
-    by_first false is = inr (sym (eqb-true v e.second (true_of (eqb v e.second) (sym (ap (λ b. differ b (eqb v e.second)) (equal_sym v e.first ∙ is)) ∙ at_v))), refl)
+    by_first false is = inr (sym (eqb-true v e.second (sym (false-differ (eqb v e.second)) ∙ sym (ap (λ b. differ b (eqb v e.second)) (equal_sym v e.first ∙ is)) ∙ at_v)), refl)
 
 -- an edge at a member leaves the set exactly where its far end isn't in it
 pub crosses_far : (members : List ℕ) (e : Edge) (v : ℕ) → touches v e ≡ true → is_in members v ≡ true
@@ -185,9 +180,8 @@ pub uncrossed_after : (members : List ℕ) (e : Edge) (v : ℕ) → touches v e 
     → crosses (members ++ far_end e v ∷ []) e ≡ false
 uncrossed_after members e v at_v within =
     crosses_far (members ++ far_end e v ∷ []) e v at_v
-    (list_any-append (λ u. eqb u v) members (far_end e v ∷ []) ∙ or_left (is_in members v) (is_in (far_end e v ∷ []) v) within)
-    ∙ ap not (list_any-append (λ u. eqb u (far_end e v)) members (far_end e v ∷ [])
-    ∙ or_right (is_in members (far_end e v)) (is_in (far_end e v ∷ []) (far_end e v)) (or_left (eqb (far_end e v) (far_end e v)) false (eq-eqb (far_end e v) (far_end e v) refl)))
+    (is_in-append members (far_end e v ∷ []) v ∙ or_left (is_in members v) (is_in (far_end e v ∷ []) v) within)
+    ∙ ap not (is_in_pushed members (far_end e v))
 
 -- what taking up the far end of an edge leaves
 module _ (p : Problem) (nodes after : List Node) (name defect : ℕ) (members longer : List ℕ) (v k : ℕ) (is_lone : IsLone p nodes name defect members)

@@ -1,21 +1,22 @@
 -- What growing one region does, over plain values.
-use Rattle.std.proofs.Common.{◌≡◌, ◌≢◌, ℕ, zero, suc, ◌+◌, ◌<◌, ◌≤◌, ◌||◌, ◌&&◌, ◌⊎◌, Bool, true, false, not, cond, List, [], ◌∷◌, ◌++◌, length, take, get_or, map, All, sum_by, Option, Some, None, eqb, refl, sym, ap, subst, ◌∙◌, inl, inr, arith, append_assoc, append-nil, length-append}
+use Rattle.std.proofs.Common.{◌≡◌, ℕ, ◌+◌, ◌<◌, ◌≤◌, ◌⊎◌, Bool, true, false, cond, List, [], ◌∷◌, ◌++◌, length, take, get_or, All, sum_by, Option, Some, None, eqb, refl, sym, ap, subst, ◌∙◌, inl, inr, arith, append_assoc, append-nil, length-append}
 use Rattle.std.specs.Option.{option_map, is_some, unwrap_or}
-use Rattle.std.specs.List.{list_any, flat_map, find}
-use Rattle.std.proofs.lemmas.Bool.{or_cases, or_parts, or_left, eqb-true, cases_Bool, cases_eq, eq-eqb, ne_eqb, cond-true, cond-false}
-use Rattle.std.proofs.lemmas.List.Folds.{list_any-append}
+use Rattle.std.proofs.lemmas.Bool.{or_cases, or_parts, or_left, eqb-true, cases_Bool, eq-eqb, cond-true}
+use Rattle.std.proofs.Math.Bool.{or-false}
 use Rattle.std.proofs.lemmas.List.Sums.{sum_by-append}
 use Rattle.std.proofs.lemmas.List.{take-append-le, length-take, get_or-take, get_or_append_left}
 use Rattle.fb_graph.proofs.Sets.{is_in_at}
 use Rattle.fb_graph.specs.Parity.{is_in, differ}
 use Rattle.fb_graph.specs.Problem.{Problem, edge_at, touches, crosses}
 use Rattle.fb_graph.specs.Certificate.{load_of, total_value}
-use Rattle.fb_graph.specs.Components.{Leads, IsJoined, IsWalkBy}
+use Rattle.fb_graph.specs.Components.{Leads, IsJoined}
 use Rattle.fb_graph.specs.declared.parts.Edge.{Edge}
 use Rattle.fb_graph.specs.declared.parts.Cut.{Cut}
 use Rattle.fb_graph.proofs.ClosedSets.{load-append}
-use Rattle.fb_graph.proofs.Walks.{joined_trans, IsWalkBy-one}
-use Rattle.fb_regions.specs.Dual.{Node, layers_of, all_cuts, leaves, defects_of, first_vertices, is_outer, cover_of, thicker, taller, change_at}
+use Rattle.fb_graph.proofs.ParitySums.{false-differ}
+use Rattle.fb_graph.proofs.Walks.{joined_trans}
+use Rattle.fb_regions.proofs.Sets.{is_in-append}
+use Rattle.fb_regions.specs.Dual.{Node, all_cuts, leaves, first_vertices, cover_of, thicker, taller, change_at}
 use Rattle.fb_regions.specs.Moves.{inner_end, outer_end, absorbed, layers_at, top_at}
 use Rattle.fb_search.specs.Lone.{lone, IsLone, HasTaken, IsClear, IsClearRound}
 
@@ -85,9 +86,9 @@ load-push cuts set e = load-append cuts (record { value = 0; vertices = set } �
 total-push : (cuts : List Cut) (set : List ℕ) → total_value (cuts ++ record { value = 0; vertices = set } ∷ []) ≡ total_value cuts
 total-push cuts set = sum_by-append (λ c. c.value) cuts (record { value = 0; vertices = set } ∷ []) ∙ omega arith
 
-pub or_nothing : (b : Bool) → (b || false) ≡ b
-or_nothing true = refl
-or_nothing false = refl
+-- a list of one holds just that one
+pub only_member : (x u : ℕ) → is_in (x ∷ []) u ≡ true → x ≡ u
+only_member x u h = eqb-true x u (sym (or-false (eqb x u)) ∙ h)
 
 -- the layer that a new vertex is taken up by
 abbrev pub new_layer : Cut → ℕ → Cut
@@ -124,15 +125,12 @@ module _ (p : Problem) (nodes : List Node) (name defect : ℕ) (members : List �
     leaf = ap leaves absorbed_lone
         ∙ ap (λ vs. vs ++ []) (first_vertices-push is_lone.below is_lone.top (new_layer is_lone.top w))
         ∙ ap leaves (sym is_lone.only) ∙ is_lone.leaf;
-    joined = λ u held. elim (or_cases (is_in members u) (is_in (w ∷ []) u) (sym (list_any-append (λ x. eqb x u) members (w ∷ [])) ∙ held)) [
+    joined = λ u held. elim (or_cases (is_in members u) (is_in (w ∷ []) u) (sym (is_in-append members (w ∷ []) u) ∙ held)) [
       | inl old ↦ is_lone.joined u old
-      | inr new ↦ subst (λ x. IsJoined p defect x) (is_in_one w u new) step
+      | inr new ↦ subst (λ x. IsJoined p defect x) (only_member w u new) step
     ];
   }
     where
-      is_in_one : (x u : ℕ) → is_in (x ∷ []) u ≡ true → x ≡ u
-      is_in_one x u h = eqb-true x u (sym (or_nothing (eqb x u)) ∙ h)
-
       step : IsJoined p defect w
       step = joined_trans p defect v w (is_lone.joined v within) joined_edge
 
@@ -192,12 +190,12 @@ has_taken_trans p a b c xs ys zs first second = record {
 
 module _ (p : Problem) (old new : List Node) (before after : List ℕ) (taken : HasTaken p old new before after) where
   pub kept_member : (v : ℕ) → is_in before v ≡ true → is_in after v ≡ true
-  kept_member v held = ap (λ xs. is_in xs v) taken.longer ∙ list_any-append (λ u. eqb u v) before taken.more
+  kept_member v held = ap (λ xs. is_in xs v) taken.longer ∙ is_in-append before taken.more v
       ∙ or_left (is_in before v) (is_in taken.more v) held
 
   pub never_member : (v : ℕ) → is_in after v ≡ false → is_in before v ≡ false
   never_member v out = (or_parts (is_in before v) (is_in taken.more v)
-      (sym (list_any-append (λ u. eqb u v) before taken.more) ∙ sym (ap (λ xs. is_in xs v) taken.longer) ∙ out)).0
+      (sym (is_in-append before taken.more v) ∙ sym (ap (λ xs. is_in xs v) taken.longer) ∙ out)).0
 
   crossed_before : (a b c d : Bool) → differ a b ≡ true → (c ≡ true → a ≡ true) → (d ≡ true → b ≡ true) → (c ≡ true) ⊎ (d ≡ true) → differ c d ≡ true
   crossed_before true true c d cross f g one = cc
@@ -218,11 +216,7 @@ module _ (p : Problem) (old new : List Node) (before after : List ℕ) (taken : 
     where
       an_end : (eqb v e.first ≡ true) ⊎ (eqb v e.first ≡ false) → (is_in before e.first ≡ true) ⊎ (is_in before e.second ≡ true)
       an_end (inl first) = inl (ap (is_in before) (sym (eqb-true v e.first first)) ∙ held)
-      an_end (inr not_first) = inr (ap (is_in before) (sym (eqb-true v e.second (second_of (eqb v e.second) (sym (ap (λ b. differ b (eqb v e.second)) not_first) ∙ at_v)))) ∙ held)
-        where
-          second_of : (b : Bool) → differ false b ≡ true → b ≡ true
-          second_of true h = refl
-          second_of false h = cc
+      an_end (inr not_first) = inr (ap (is_in before) (sym (eqb-true v e.second (sym (false-differ (eqb v e.second)) ∙ sym (ap (λ b. differ b (eqb v e.second)) not_first) ∙ at_v))) ∙ held)
 
   pub round_kept : (v : ℕ) → is_in before v ≡ true → IsClearRound p old before v → IsClearRound p new after v
   round_kept v held round k below at_v = clear_kept v (edge_at p.edges k) held at_v (round k below at_v)

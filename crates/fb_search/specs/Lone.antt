@@ -1,7 +1,7 @@
 -- One region round one defect, while it grows.
-use Rattle.std.specs.Prelude.{ℕ, ◌≡◌, ◌+◌, ◌<◌, ◌≤◌, ◌^◌, ◌==◌, min, Bool, true, false, List, [], ◌∷◌, ◌++◌, length, map, All, Option, Some, None, IfSome, if◌then◌else◌}
+use Rattle.std.specs.Prelude.{ℕ, ◌≡◌, ◌+◌, ◌<◌, ◌≤◌, ◌==◌, min, true, false, List, [], ◌∷◌, ◌++◌, length, map, Option, Some, None, if◌then◌else◌}
 use Rattle.fb_graph.specs.Parity.{is_in}
-use Rattle.fb_graph.specs.Problem.{Problem, edge_at, touches, crosses, with_defects}
+use Rattle.fb_graph.specs.Problem.{Problem, edge_at, touches, crosses}
 use Rattle.fb_graph.specs.Certificate.{load_of, total_value, IsBest}
 use Rattle.fb_graph.specs.Components.{Leads, IsJoined, IsFirstOdd}
 use Rattle.fb_graph.specs.declared.parts.Edge.{Edge}

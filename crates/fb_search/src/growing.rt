@@ -45,35 +45,6 @@ fn take_in<S: Scope>(
     Ok(())
 }
 
-/// Takes up what edges without residue lead to from a member. Answers the first such edge that leads to the boundary.
-fn absorb_round<S: Scope>(
-    alloc: Global,
-    scope: S,
-    regions: &mut Regions<S>,
-    defect: u32,
-    members: &mut Vec<u32>,
-    v: u32,
-) -> Result<Option<u32>, NoMemory>
-    requires scope { regions.old.scope ≡ scope }
-    requires lone { IsLone (S.problem scope) regions.old.nodes NODE defect members.old.items }
-    requires member { is_in members.old.items v ≡ true }
-    requires in_range { v < (S.problem scope).vertices }
-    ensures scope { OnOk result (regions.new.scope ≡ scope) }
-    ensures lone { OnOk result (IsLone (S.problem scope) regions.new.nodes NODE defect members.new.items) }
-    ensures taken { OnOk result (HasTaken (S.problem scope) regions.old.nodes regions.new.nodes members.old.items members.new.items) }
-    ensures some { IfOk result (λ o. IfSome o (IsWayOut (S.problem scope) regions.new.nodes members.new.items)) }
-    ensures none { IfOk result (λ o. IfNone o (IsClearRound (S.problem scope) regions.new.nodes members.new.items v)) }
-{
-    for edge in scope.edges_at(v) {
-        match absorb_over(alloc, scope, regions, defect, members, v, *edge) {
-            Ok(true) => return Ok(Some(*edge)),
-            Ok(false) => {}
-            Err(_) => return Err(NoMemory),
-        }
-    }
-    Ok(None)
-}
-
 /// Takes up what an edge at a member leads to, where it has no residue. Whether that is the boundary.
 fn absorb_over<S: Scope>(
     alloc: Global,
@@ -108,6 +79,35 @@ fn absorb_over<S: Scope>(
         Ok(()) => Ok(false),
         Err(_) => Err(NoMemory),
     }
+}
+
+/// Takes up what edges without residue lead to from a member. Answers the first such edge that leads to the boundary.
+fn absorb_round<S: Scope>(
+    alloc: Global,
+    scope: S,
+    regions: &mut Regions<S>,
+    defect: u32,
+    members: &mut Vec<u32>,
+    v: u32,
+) -> Result<Option<u32>, NoMemory>
+    requires scope { regions.old.scope ≡ scope }
+    requires lone { IsLone (S.problem scope) regions.old.nodes NODE defect members.old.items }
+    requires member { is_in members.old.items v ≡ true }
+    requires in_range { v < (S.problem scope).vertices }
+    ensures scope { OnOk result (regions.new.scope ≡ scope) }
+    ensures lone { OnOk result (IsLone (S.problem scope) regions.new.nodes NODE defect members.new.items) }
+    ensures taken { OnOk result (HasTaken (S.problem scope) regions.old.nodes regions.new.nodes members.old.items members.new.items) }
+    ensures some { IfOk result (λ o. IfSome o (IsWayOut (S.problem scope) regions.new.nodes members.new.items)) }
+    ensures none { IfOk result (λ o. IfNone o (IsClearRound (S.problem scope) regions.new.nodes members.new.items v)) }
+{
+    for edge in scope.edges_at(v) {
+        match absorb_over(alloc, scope, regions, defect, members, v, *edge) {
+            Ok(true) => return Ok(Some(*edge)),
+            Ok(false) => {}
+            Err(_) => return Err(NoMemory),
+        }
+    }
+    Ok(None)
 }
 
 /// Takes up all that edges without residue lead to. Answers the first such edge that leads to the boundary.

@@ -31,8 +31,7 @@ fn lesser(least: Option<u64>, other: u64) -> u64
     }
 }
 
-/// The residue of an edge at a member, where it leaves the region and is less than the least so far.
-
+/// The least residue so far, with an edge at a member counted too where it leaves the region.
 fn least_over<S: Scope>(
     scope: S,
     regions: &Regions<S>,
@@ -61,8 +60,7 @@ fn least_over<S: Scope>(
     }
 }
 
-/// The least residue of the edges that leave the region at a member, and of those before.
-
+/// The least residue so far, with each edge counted that leaves the region at a member.
 fn least_round<S: Scope>(
     scope: S,
     regions: &Regions<S>,
@@ -89,7 +87,6 @@ fn least_round<S: Scope>(
 }
 
 /// The least residue of the edges that leave the region; None where no edge does.
-
 pub fn least_residue<S: Scope>(
     scope: S,
     regions: &Regions<S>,

@@ -5,5 +5,7 @@
 mod growing;
 mod leaving;
 mod rows;
+#[cfg(test)]
+mod tests;
 
 pub use rows::search_one;

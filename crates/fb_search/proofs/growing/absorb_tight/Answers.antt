@@ -1,10 +1,10 @@
-use Rattle.std.proofs.Common.{◌≡◌, ◌<◌, ◌≤◌, ℕ, ◌+◌, ◌-◌, true, length, get_or, take, All, sym, subst, ◌∙◌, arith}
+use Rattle.std.proofs.Common.{◌≡◌, ◌<◌, ◌≤◌, ◌+◌, ◌-◌, length, get_or, All, sym, subst, ◌∙◌, arith}
 use Rattle.std.proofs.lemmas.List.{take_all, get_or_default}
 use Rattle.std.proofs.lemmas.List.Elements.{All-more}
 use Rattle.fb_regions.specs.Dual.{IsDual}
 use Rattle.fb_search.specs.declared.leaving.TheConstants.{NODE}
 use Rattle.fb_search.specs.Lone.{IsClearRound}
-use Rattle.fb_search.proofs.LoneClosed.{members_few, members_below}
+use Rattle.fb_search.proofs.LoneClosed.{members_few}
 use Rattle.fb_search.proofs.LoneEdges.{clear_all}
 use Rattle.fb_search.proofs.LoneSteps.{has_taken_trans, rounds_kept, length_kept, place_kept}
 use Rattle.fb_search.proofs.growing.absorb_tight.Goals as goal

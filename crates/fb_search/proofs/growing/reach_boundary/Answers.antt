@@ -1,4 +1,4 @@
-use Rattle.std.proofs.Common.{◌≡◌, ◌∙◌, ap, subst, sym}
+use Rattle.std.proofs.Common.{◌∙◌, ap, subst, sym}
 use Rattle.fb_search.specs.declared.leaving.TheConstants.{NODE}
 use Rattle.fb_search.specs.Lone.{IsLone}
 use Rattle.fb_search.proofs.LoneSteps.{grown_lone}

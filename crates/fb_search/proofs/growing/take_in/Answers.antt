@@ -1,4 +1,4 @@
-use Rattle.std.proofs.Common.{◌≡◌, ◌++◌, ◌∷◌, [], ℕ, ap, subst, ◌∙◌, sym}
+use Rattle.std.proofs.Common.{◌≡◌, ◌++◌, ◌∷◌, [], ap, ◌∙◌}
 use Rattle.fb_graph.specs.Problem.{edge_at}
 use Rattle.fb_regions.specs.Moves.{absorbed}
 use Rattle.fb_search.specs.declared.leaving.TheConstants.{NODE}

@@ -1,10 +1,10 @@
-use Rattle.std.proofs.Common.{◌≡◌, ◌<◌, ◌≤◌, ℕ, true, length, get_or, take, All, sym, subst, arith}
+use Rattle.std.proofs.Common.{get_or, take, All, subst}
 use Rattle.std.proofs.lemmas.List.{take_all}
 use Rattle.std.proofs.lemmas.List.Elements.{All-more}
-use Rattle.fb_graph.proofs.Sets.{is_in_at, is_in-All}
+use Rattle.fb_graph.proofs.Sets.{is_in_at}
 use Rattle.fb_regions.specs.Dual.{IsDual}
 use Rattle.fb_search.specs.declared.leaving.TheConstants.{NODE}
-use Rattle.fb_search.specs.Lone.{Bounds, BoundsRound}
+use Rattle.fb_search.specs.Lone.{BoundsRound}
 use Rattle.fb_search.proofs.LoneClosed.{members_below}
 use Rattle.fb_search.proofs.LoneEdges.{round_lower, bounds_all, allows_growth, uncrossed_all}
 use Rattle.fb_search.proofs.leaving.least_residue.Goals as goal

@@ -1,8 +1,7 @@
-use Rattle.std.proofs.Common.{◌≡◌, ◌<◌, ℕ, true, length, get_or, take, All, filter, sym, subst, arith}
-use Rattle.std.specs.List.{range_with_len}
+use Rattle.std.proofs.Common.{get_or, take}
 use Rattle.std.proofs.lemmas.List.{take_all}
 use Rattle.std.proofs.lemmas.List.Elements.{All-more}
-use Rattle.fb_graph.specs.Problem.{edge_at, touches}
+use Rattle.fb_graph.specs.Problem.{edge_at}
 use Rattle.fb_search.specs.Lone.{Bounds}
 use Rattle.fb_search.proofs.LoneEdges.{bounds_lower, no_higher_trans, listed_within, listed_touches, each_listed}
 use Rattle.fb_search.proofs.leaving.least_round.Goals as goal

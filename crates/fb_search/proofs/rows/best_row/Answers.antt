@@ -1,14 +1,12 @@
-use Rattle.std.proofs.Common.{◌≡◌, ◌≤◌, ℕ, Bool, true, false, List, [], ◌∷◌, map, All, AllPairs, sum_by, ap, subst, sym, ◌∙◌}
+use Rattle.std.proofs.Common.{◌≡◌, ◌≤◌, true, [], ◌∷◌, All, AllPairs, sum_by, ap, subst, sym, ◌∙◌}
 use Rattle.std.proofs.lemmas.Bool.{false≢true, false_from_ne_true}
 use Rattle.fb_graph.specs.Parity.{is_in, is_odd_count}
 use Rattle.fb_graph.specs.Problem.{edge_at, with_defects}
 use Rattle.fb_graph.specs.Certificate.{IsOddCut, load_of, total_value}
 use Rattle.fb_graph.specs.Printed.{DifferAsSets}
-use Rattle.fb_graph.specs.declared.parts.Edge.{Edge}
-use Rattle.fb_graph.specs.declared.parts.Cut.{Cut}
 use Rattle.fb_graph.proofs.Sets.{is_in-All}
 use Rattle.fb_graph.proofs.Walks.{IsWalkBy-one}
-use Rattle.fb_regions.specs.Dual.{IsDual, all_cuts, AreGrown, layers_of}
+use Rattle.fb_regions.specs.Dual.{IsDual, all_cuts}
 use Rattle.fb_regions.specs.Moves.{IsSourceWalk}
 use Rattle.fb_search.specs.declared.leaving.TheConstants.{NODE}
 use Rattle.fb_search.specs.Lone.{edges_out}

@@ -1,4 +1,4 @@
-use Rattle.std.proofs.Common.{◌≡◌, subst}
+use Rattle.std.proofs.Common.{subst}
 use Rattle.fb_regions.specs.Dual.{IsDual}
 use Rattle.fb_search.specs.declared.leaving.TheConstants.{NODE}
 use Rattle.fb_search.proofs.LoneClosed.{closed_is_odd}
