@@ -1,6 +1,5 @@
 -- The edges that leave one region, and how far it may grow.
 use Rattle.std.proofs.Common.{◌≡◌, ℕ, ◌<◌, ◌≤◌, Bool, true, false, not, cond, List, [], ◌∷◌, ◌++◌, length, get_or, All, filter, Option, Some, None, IfSome, IfNone, eqb, refl, sym, ap, subst, ◌∙◌, inl, inr, arith}
-use Rattle.std.specs.Option.{is_some}
 use Rattle.std.specs.List.{range_with_len}
 use Rattle.std.proofs.lemmas.Bool.{false≢true, eqb-true, eq-eqb, ne_eqb, or_left}
 use Rattle.std.proofs.lemmas.List.{get_or_default}
@@ -15,10 +14,10 @@ use Rattle.fb_graph.proofs.Sets.{equal_sym, is_in-All, range_below}
 use Rattle.fb_graph.proofs.Ranges.{is_in-filter-range}
 use Rattle.fb_graph.proofs.Walks.{IsWalkBy-one}
 use Rattle.fb_regions.proofs.Sets.{is_in-append, is_in_pushed}
-use Rattle.fb_regions.specs.Dual.{Node, AreUnderOne, is_live, is_outer, cover_of}
+use Rattle.fb_regions.specs.Dual.{Node, AreUnderOne, cover_of}
 use Rattle.fb_regions.specs.Moves.{AllowsGrowth, IsCrossed, absorbed}
 use Rattle.fb_search.specs.Lone.{IsLone, HasTaken, IsClear, IsClearRound, Bounds, BoundsRound, IsBound, IsNoHigher, far_end, lesser_of}
-use Rattle.fb_search.proofs.LoneSteps.{within_lone, taken_lone, has_taken_lone}
+use Rattle.fb_search.proofs.LoneSteps.{taken_lone, has_taken_lone}
 
 -- an edge at v leads from v to its far end
 pub leads_far : (e : Edge) (v : ℕ) → touches v e ≡ true → Leads e v (far_end e v)
@@ -83,25 +82,6 @@ not_under_far nodes e v w leads none under = elim leads [
   where
     none_some : ◌≡◌ {A = Option ℕ} None (Some under.0) → ⊥
     none_some e = cc
-
-module _ (p : Problem) (nodes : List Node) (name defect : ℕ) (members : List ℕ) (v k : ℕ) (is_lone : IsLone p nodes name defect members)
-    (within : is_in members v ≡ true) (below : k < length p.edges) (at_v : touches v (edge_at p.edges k) ≡ true) where
-  pub held_far : is_some (cover_of nodes (far_end (edge_at p.edges k) v)) ≡ true → crosses members (edge_at p.edges k) ≡ false
-  held_far held = crosses_far members (edge_at p.edges k) v at_v within
-      ∙ ap not (sym (within_lone p nodes name defect members is_lone (far_end (edge_at p.edges k) v)) ∙ held)
-
-  pub free_far : is_some (cover_of nodes (far_end (edge_at p.edges k) v)) ≡ false → crosses members (edge_at p.edges k) ≡ true
-  free_far free = crosses_far members (edge_at p.edges k) v at_v within
-      ∙ ap not (sym (within_lone p nodes name defect members is_lone (far_end (edge_at p.edges k) v)) ∙ free)
-
-  pub residue_far : is_some (cover_of nodes (far_end (edge_at p.edges k) v)) ≡ false
-      → ¬ AreUnderOne nodes (edge_at p.edges k).first (edge_at p.edges k).second
-  residue_far free = not_under_far nodes (edge_at p.edges k) v (far_end (edge_at p.edges k) v)
-      (leads_far (edge_at p.edges k) v at_v) (none_from (cover_of nodes (far_end (edge_at p.edges k) v)) free)
-    where
-      none_from : (o : Option ℕ) → is_some o ≡ false → o ≡ None
-      none_from None e = refl
-      none_from (Some x) e = cc
 
 -- the edges at v that are listed are edges at v
 pub listed_within : (edges : List Edge) (v i : ℕ) → i < length (filter (λ j. touches v (edge_at edges j)) (range_with_len 0 (length edges)))
@@ -209,12 +189,3 @@ clear_all p nodes members rounds k d below =
     subst (IsClear nodes members) (get_or_default p.edges k no_edge d below)
     (λ cross. let (v, within, at_v) = crossing_end members (edge_at p.edges k) cross in
     is_in-All (IsClearRound p nodes members) members rounds v within k below at_v cross)
-
--- the one node is live, and outer
-pub live_lone : (p : Problem) (nodes : List Node) (name defect : ℕ) (members : List ℕ) → IsLone p nodes name defect members
-    → is_live nodes name ≡ true
-live_lone p nodes name defect members is_lone = ap (λ ns. is_live ns name) is_lone.only ∙ or_left (eqb name name) false (eq-eqb name name refl)
-
-pub outer_lone_node : (p : Problem) (nodes : List Node) (name defect : ℕ) (members : List ℕ) → IsLone p nodes name defect members
-    → is_outer nodes name ≡ true
-outer_lone_node p nodes name defect members is_lone = ap (λ ns. is_outer ns name) is_lone.only

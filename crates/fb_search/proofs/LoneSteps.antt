@@ -1,7 +1,7 @@
 -- What growing one region does, over plain values.
 use Rattle.std.proofs.Common.{◌≡◌, ℕ, ◌+◌, ◌<◌, ◌≤◌, ◌⊎◌, Bool, true, false, cond, List, [], ◌∷◌, ◌++◌, length, take, get_or, All, sum_by, Option, Some, None, eqb, refl, sym, ap, subst, ◌∙◌, inl, inr, arith, append_assoc, append-nil, length-append}
 use Rattle.std.specs.Option.{option_map, is_some, unwrap_or}
-use Rattle.std.proofs.lemmas.Bool.{or_cases, or_parts, or_left, eqb-true, cases_Bool, eq-eqb, cond-true}
+use Rattle.std.proofs.lemmas.Bool.{or_cases, or_left, eqb-true, cases_Bool, eq-eqb, cond-true}
 use Rattle.std.proofs.Math.Bool.{or-false}
 use Rattle.std.proofs.lemmas.List.Sums.{sum_by-append}
 use Rattle.std.proofs.lemmas.List.{take-append-le, length-take, get_or-take, get_or_append_left}
@@ -17,7 +17,7 @@ use Rattle.fb_graph.proofs.ParitySums.{false-differ}
 use Rattle.fb_graph.proofs.Walks.{joined_trans}
 use Rattle.fb_regions.proofs.Sets.{is_in-append}
 use Rattle.fb_regions.specs.Dual.{Node, all_cuts, leaves, first_vertices, cover_of, thicker, taller, change_at}
-use Rattle.fb_regions.specs.Moves.{inner_end, outer_end, absorbed, layers_at, top_at}
+use Rattle.fb_regions.specs.Moves.{inner_end, outer_end, absorbed, layers_at}
 use Rattle.fb_search.specs.Lone.{lone, IsLone, HasTaken, IsClear, IsClearRound}
 
 -- the cover of a vertex where there is one node
@@ -40,19 +40,12 @@ module _ (p : Problem) (nodes : List Node) (name defect : ℕ) (members : List �
   pub covered_lone : (v : ℕ) → is_in members v ≡ true → cover_of nodes v ≡ Some name
   covered_lone v within = cover_lone v ∙ ap (λ b. cond b (Some name) None) within
 
-  pub uncovered_lone : (v : ℕ) → is_in members v ≡ false → cover_of nodes v ≡ None
-  uncovered_lone v without = cover_lone v ∙ ap (λ b. cond b (Some name) None) without
-
   pub within_lone : (v : ℕ) → is_some (cover_of nodes v) ≡ is_in members v
   within_lone v = ap is_some (cover_lone v) ∙ go (is_in members v)
     where
       go : (b : Bool) → is_some (cond {A = Option ℕ} b (Some name) None) ≡ b
       go true = refl
       go false = refl
-
-  pub top_lone : top_at nodes name ≡ members
-  top_lone = ap (λ ns. top_at ns name) is_lone.only
-      ∙ cond-true (eqb name name) is_lone.top.vertices [] (eq-eqb name name refl) ∙ is_lone.holds
 
   pub layers_lone : layers_at nodes name ≡ is_lone.below ++ is_lone.top ∷ []
   layers_lone = ap (λ ns. layers_at ns name) is_lone.only
@@ -166,20 +159,6 @@ module _ (p : Problem) (nodes : List Node) (name defect : ℕ) (members : List �
     joined = is_lone.joined;
   }
 
-  pub total_grown : total_value (all_cuts (change_at name (thicker k) nodes)) ≡ total_value (all_cuts nodes) + k
-  total_grown =
-      ap (λ ns. total_value (all_cuts ns)) thicker_lone
-      ∙ ap total_value (append-nil (is_lone.below ++ record is_lone.top { value = is_lone.top.value + k } ∷ []))
-      ∙ sum_by-append (λ c. c.value) is_lone.below (record is_lone.top { value = is_lone.top.value + k } ∷ [])
-      ∙ omega (
-        arith,
-        sum_by-append {X = Cut} (λ c. c.value) is_lone.below (is_lone.top ∷ []),
-        ap total_value (cuts_lone p nodes name defect members is_lone),
-      )
-
-pub has_taken_refl : (p : Problem) (nodes : List Node) (members : List ℕ) → HasTaken p nodes nodes members members
-has_taken_refl p nodes members = record { more = []; longer = sym (append-nil members); loads = λ e. refl; total = refl }
-
 pub has_taken_trans : (p : Problem) (a b c : List Node) (xs ys zs : List ℕ) → HasTaken p a b xs ys → HasTaken p b c ys zs → HasTaken p a c xs zs
 has_taken_trans p a b c xs ys zs first second = record {
   more = first.more ++ second.more;
@@ -192,10 +171,6 @@ module _ (p : Problem) (old new : List Node) (before after : List ℕ) (taken : 
   pub kept_member : (v : ℕ) → is_in before v ≡ true → is_in after v ≡ true
   kept_member v held = ap (λ xs. is_in xs v) taken.longer ∙ is_in-append before taken.more v
       ∙ or_left (is_in before v) (is_in taken.more v) held
-
-  pub never_member : (v : ℕ) → is_in after v ≡ false → is_in before v ≡ false
-  never_member v out = (or_parts (is_in before v) (is_in taken.more v)
-      (sym (is_in-append before taken.more v) ∙ sym (ap (λ xs. is_in xs v) taken.longer) ∙ out)).0
 
   crossed_before : (a b c d : Bool) → differ a b ≡ true → (c ≡ true → a ≡ true) → (d ≡ true → b ≡ true) → (c ≡ true) ⊎ (d ≡ true) → differ c d ≡ true
   crossed_before true true c d cross f g one = cc

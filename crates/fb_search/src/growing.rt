@@ -36,9 +36,7 @@ fn take_in<S: Scope>(
     ensures inside { OnOk result (crosses members.new.items (edge_at (S.problem scope).edges edge) ≡ false) }
 {
     let far = far_end(scope, edge, v);
-    let Ok(()) = regions.absorb(alloc, edge) else {
-        return Err(NoMemory);
-    };
+    regions.absorb(alloc, edge)?;
     let Ok(()) = members.push(far) else {
         return Err(NoMemory);
     };
@@ -75,10 +73,8 @@ fn absorb_over<S: Scope>(
     if !scope.is_real(far) {
         return Ok(true);
     }
-    match take_in(alloc, scope, regions, defect, members, v, edge) {
-        Ok(()) => Ok(false),
-        Err(_) => Err(NoMemory),
-    }
+    take_in(alloc, scope, regions, defect, members, v, edge)?;
+    Ok(false)
 }
 
 /// Takes up what edges without residue lead to from a member. Answers the first such edge that leads to the boundary.
@@ -101,10 +97,8 @@ fn absorb_round<S: Scope>(
     ensures none { IfOk result (λ o. IfNone o (IsClearRound (S.problem scope) regions.new.nodes members.new.items v)) }
 {
     for edge in scope.edges_at(v) {
-        match absorb_over(alloc, scope, regions, defect, members, v, *edge) {
-            Ok(true) => return Ok(Some(*edge)),
-            Ok(false) => {}
-            Err(_) => return Err(NoMemory),
+        if absorb_over(alloc, scope, regions, defect, members, v, *edge)? {
+            return Ok(Some(*edge));
         }
     }
     Ok(None)
@@ -131,10 +125,8 @@ fn absorb_tight<S: Scope>(
     while i < members.len() {
         regions.keeps();
         let v = members[i];
-        match absorb_round(alloc, scope, regions, defect, members, v) {
-            Ok(Some(edge)) => return Ok(Some(edge)),
-            Ok(None) => {}
-            Err(_) => return Err(NoMemory),
+        if let Some(edge) = absorb_round(alloc, scope, regions, defect, members, v)? {
+            return Ok(Some(edge));
         }
         i += 1;
     }
@@ -158,17 +150,13 @@ pub fn reach_boundary<S: Scope>(
     ensures none { IfOk result (λ o. IfNone o (All (λ e. crosses members.new.items e ≡ false) (S.problem scope).edges)) }
 {
     'growth: loop {
-        match absorb_tight(alloc, scope, regions, defect, members) {
-            Ok(Some(edge)) => return Ok(Some(edge)),
-            Ok(None) => {}
-            Err(_) => return Err(NoMemory),
+        if let Some(edge) = absorb_tight(alloc, scope, regions, defect, members)? {
+            return Ok(Some(edge));
         }
         let Some(k) = least_residue(scope, regions, defect, members) else {
             return Ok(None);
         };
-        let Ok(()) = regions.grow(NODE, k) else {
-            return Err(NoMemory);
-        };
+        regions.grow(NODE, k)?;
         regions.keeps();
     }
 }

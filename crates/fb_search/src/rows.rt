@@ -26,13 +26,12 @@ pub fn search_one<S: Scope>(alloc: Global, scope: S, defect: u32) -> Result<Row,
     let Ok(()) = members.push(defect) else {
         return Err(NoMemory);
     };
-    match reach_boundary(alloc, scope, &mut regions, defect, &mut members) {
-        Ok(Some(edge)) => best_row(alloc, scope, &regions, defect, members.as_slice(), edge),
-        Ok(None) => {
+    match reach_boundary(alloc, scope, &mut regions, defect, &mut members)? {
+        Some(edge) => best_row(alloc, scope, &regions, defect, members.as_slice(), edge),
+        None => {
             regions.keeps();
             Ok(Row::Over)
         }
-        Err(_) => Err(NoMemory),
     }
 }
 

@@ -15,10 +15,10 @@ pub absorb_over-requires-clause-at_v : goal.absorb_over-requires-clause-at_v
 absorb_over-requires-clause-at_v g c =
     rw c.edges_at-edge-items.ensures (listed_touches _ c.args.v c.loop-edge.edge-index (rw (← c.edges_at-edge-items.ensures) c.loop-edge-test.true))
 
-pub returns-in-Ok-true-clause-taken : goal.returns-in-Ok-true-clause-taken
-returns-in-Ok-true-clause-taken g c = has_taken_trans (g.S.Scope.problem c.args.scope) c.args.regions.now.nodes c.loop-edge.regions.nodes
+pub returns-then-branch-clause-taken : goal.returns-then-branch-clause-taken
+returns-then-branch-clause-taken g c = has_taken_trans (g.S.Scope.problem c.args.scope) c.args.regions.now.nodes c.loop-edge.regions.nodes
     c.absorb_over.new.regions.nodes c.args.members.now.items c.loop-edge.members.items c.absorb_over.new.members.items
-    c.loop-edge.invariant.2 c.in-Ok-true.ensures.taken
+    c.loop-edge.invariant.2 c.in_ok-absorb_over.ensures.taken
 
 pub loop-edge-preserved : goal.loop-edge-preserved
 loop-edge-preserved g c =
@@ -27,15 +27,15 @@ loop-edge-preserved g c =
     let ms = c.loop-edge.members.items in
     let new = c.absorb_over.new.regions.nodes in
     let ns = c.absorb_over.new.members.items in (
-      c.in-Ok-false.ensures.scope,
-      c.in-Ok-false.ensures.lone,
-      has_taken_trans p c.args.regions.now.nodes mid new c.args.members.now.items ms ns c.loop-edge.invariant.2 c.in-Ok-false.ensures.taken,
+      c.in_ok-absorb_over.ensures.scope,
+      c.in_ok-absorb_over.ensures.lone,
+      has_taken_trans p c.args.regions.now.nodes mid new c.args.members.now.items ms ns c.loop-edge.invariant.2 c.in_ok-absorb_over.ensures.taken,
       All-more (IsClearAt p new ns c.args.v) c.edges_at-edge-items.result.now c.loop-edge.edge-index 0 c.loop-edge-test.true
-          (λ k d less at_v. clear_kept p mid new ms ns c.in-Ok-false.ensures.taken c.args.v
+          (λ k d less at_v. clear_kept p mid new ms ns c.in_ok-absorb_over.ensures.taken c.args.v
           (edge_at p.edges (get_or (take c.loop-edge.edge-index c.edges_at-edge-items.result.now) k d))
           (kept_member p c.args.regions.now.nodes mid c.args.members.now.items ms c.loop-edge.invariant.2 c.args.v c.requires.member)
           at_v (c.loop-edge.invariant.3 k d less at_v))
-          (λ at_v. c.in-Ok-false.ensures.clear (ap Ok c.in-Ok-false.field-0-test)),
+          (λ at_v. c.in_ok-absorb_over.ensures.clear (ap Ok c.if-branch.false)),
     )
 
 pub returns-clause-none : goal.returns-clause-none

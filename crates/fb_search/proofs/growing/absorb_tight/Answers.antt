@@ -8,9 +8,9 @@ use Rattle.fb_search.proofs.LoneClosed.{members_few}
 use Rattle.fb_search.proofs.LoneEdges.{clear_all}
 use Rattle.fb_search.proofs.LoneSteps.{has_taken_trans, rounds_kept, length_kept, place_kept}
 use Rattle.fb_search.proofs.growing.absorb_tight.Goals as goal
-use Rattle.fb_search.proofs.growing.absorb_tight.Goals.{In-Ok-None}
+use Rattle.fb_search.proofs.growing.absorb_tight.Goals.{In_default}
 
-dual_at : (g : _) (c : In-Ok-None g) → IsDual (g.S.Scope.problem c.args.scope) c.loop-i.regions.nodes
+dual_at : (g : _) (c : In_default g) → IsDual (g.S.Scope.problem c.args.scope) c.loop-i.regions.nodes
 dual_at g c = subst (λ s. IsDual (g.S.Scope.problem s) c.loop-i.regions.nodes) c.loop-i.invariant.0 c.keeps.ensures
 
 pub loop-i-preserved : goal.loop-i-preserved
@@ -22,15 +22,15 @@ loop-i-preserved g c =
     let ns = c.absorb_round.new.members.items in
     let here : c.loop-i.i < length ms = omega (arith, c.loop-i-test.true, c.loop-i.members.ok.0) in
     let member_is : c.index-v.result.now ≡ get_or ms c.loop-i.i 0 = c.index-v.ensures ∙ get_or_default ms c.loop-i.i c.index-v.result.now 0 here in
-    let there : c.loop-i.i < length ns = omega (arith, length_kept p mid new ms ns c.in-Ok-None.ensures.taken) in (
-      c.in-Ok-None.ensures.scope,
-      c.in-Ok-None.ensures.lone,
-      has_taken_trans p c.args.regions.now.nodes mid new c.args.members.now.items ms ns c.loop-i.invariant.2 c.in-Ok-None.ensures.taken,
+    let there : c.loop-i.i < length ns = omega (arith, length_kept p mid new ms ns c.in_ok-edge.ensures.taken) in (
+      c.in_ok-edge.ensures.scope,
+      c.in_ok-edge.ensures.lone,
+      has_taken_trans p c.args.regions.now.nodes mid new c.args.members.now.items ms ns c.loop-i.invariant.2 c.in_ok-edge.ensures.taken,
       omega arith,
       All-more (IsClearRound p new ns) ns c.loop-i.i 0 there
-          (rounds_kept p mid new ms ns c.loop-i.i c.in-Ok-None.ensures.taken c.loop-i.invariant.3 c.loop-i.invariant.4)
-          (subst (IsClearRound p new ns) (sym (place_kept p mid new ms ns c.loop-i.i c.in-Ok-None.ensures.taken here))
-          (subst (IsClearRound p new ns) member_is (rw c.in-Ok-None.field-0-is at c.in-Ok-None.ensures.none))),
+          (rounds_kept p mid new ms ns c.loop-i.i c.in_ok-edge.ensures.taken c.loop-i.invariant.3 c.loop-i.invariant.4)
+          (subst (IsClearRound p new ns) (sym (place_kept p mid new ms ns c.loop-i.i c.in_ok-edge.ensures.taken here))
+          (subst (IsClearRound p new ns) member_is (rw c.in_default.is at c.in_ok-edge.ensures.none))),
     )
 
 pub loop-i-smaller : goal.loop-i-smaller

@@ -5,15 +5,15 @@ use Rattle.fb_search.specs.declared.leaving.TheConstants.{NODE}
 use Rattle.fb_search.specs.Lone.{far_end}
 use Rattle.fb_search.proofs.LoneEdges.{lone_after, taken_after, inside_after}
 use Rattle.fb_search.proofs.growing.take_in.Goals as goal
-use Rattle.fb_search.proofs.growing.take_in.Goals.{In-Ok-push}
+use Rattle.fb_search.proofs.growing.take_in.Goals.{In-Ok}
 
-members_are : (g : _) (c : In-Ok-push g)
+members_are : (g : _) (c : In-Ok g)
     → c.push.new.self.items ≡ c.args.members.now.items ++ far_end (edge_at (g.S.Scope.problem c.args.scope).edges c.args.edge) c.args.v ∷ []
-members_are g c = c.in-Ok-push.ensures.items ∙ ap (λ w. c.args.members.now.items ++ w ∷ []) c.far_end-far.ensures
+members_are g c = c.in-Ok.ensures.items ∙ ap (λ w. c.args.members.now.items ++ w ∷ []) c.far_end-far.ensures
 
-nodes_are : (g : _) (c : In-Ok-push g)
+nodes_are : (g : _) (c : In-Ok g)
     → c.absorb.new.self.nodes ≡ absorbed c.args.regions.now.nodes (edge_at (g.S.Scope.problem c.args.scope).edges c.args.edge)
-nodes_are g c = ap (λ d. d.nodes) c.in-Ok.ensures.ok
+nodes_are g c = ap (λ d. d.nodes) c.in_ok-absorb.ensures.ok
     ∙ ap (λ s. absorbed c.args.regions.now.nodes (edge_at (g.S.Scope.problem s).edges c.args.edge)) c.requires.scope
 
 pub returns-clause-lone : goal.returns-clause-lone

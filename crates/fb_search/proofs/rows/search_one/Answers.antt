@@ -4,9 +4,9 @@ use Rattle.fb_search.specs.declared.leaving.TheConstants.{NODE}
 use Rattle.fb_search.proofs.LoneClosed.{closed_is_odd}
 use Rattle.fb_search.proofs.rows.search_one.Goals as goal
 
-pub returns-in-Ok-None : goal.returns-in-Ok-None
-returns-in-Ok-None g c =
+pub returns : goal.returns
+returns g c =
     closed_is_odd (g.S.Scope.problem c.args.scope) c.reach_boundary.new.regions.nodes NODE c.args.defect c.reach_boundary.new.members.items
-    c.in-Ok-None.ensures.lone
-    (subst (λ s. IsDual (g.S.Scope.problem s) c.reach_boundary.new.regions.nodes) c.in-Ok-None.ensures.scope c.keeps.ensures)
-    c.limits.ensures (rw c.in-Ok-None.field-0-is at c.in-Ok-None.ensures.none)
+    c.in_ok-edge.ensures.lone
+    (subst (λ s. IsDual (g.S.Scope.problem s) c.reach_boundary.new.regions.nodes) c.in_ok-edge.ensures.scope c.keeps.ensures)
+    c.limits.ensures (rw c.in-None.is at c.in_ok-edge.ensures.none)
