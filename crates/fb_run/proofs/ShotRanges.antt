@@ -1,11 +1,11 @@
 -- The detectors of a shot are among those that there are.
-use Rattle.std.proofs.Common.{◌≡◌, ℕ, ◌+◌, ◌<◌, ◌≤◌, Bool, true, false, cond, nat_lt, if◌then◌else◌, List, [], ◌∷◌, ◌++◌, length, take, All, Option, Some, None, Result, Ok, Err, refl, sym, ap, ◌∙◌, subst, arith}
+use Rattle.std.proofs.Common.{◌≡◌, ℕ, ◌+◌, ◌<◌, ◌≤◌, Bool, true, false, nat_lt, if◌then◌else◌, List, [], ◌∷◌, length, take, All, Option, Some, None, Result, Ok, Err, refl, subst, arith}
 use Rattle.std.proofs.lemmas.Bool.{cond_both, ltb-false}
 use Rattle.std.proofs.lemmas.List.Elements.{All-cons, All-nil}
 use Rattle.std.specs.List.{list_all}
 use Rattle.fb_shots_stim.specs.declared.answer.Kind.{Kind}
 use Rattle.fb_shots_stim.specs.declared.answer.Kind.TheVariants.{BadByte, ShortRecord, LongRecord}
-use Rattle.fb_shots_stim.specs.Records.{Ending, at_end, Records, go_down, with_line, only, places_from}
+use Rattle.fb_shots_stim.specs.Records.{Ending, at_end, Records, go_down, with_line, places_from}
 use Rattle.fb_shots_stim.specs.Lines.{lines_of}
 use Rattle.fb_shots_stim.specs.Text01.{is_bit, is_one, line_01, records_01}
 use Rattle.fb_run.specs.Judging.{IsInRange}

@@ -1,11 +1,11 @@
 -- The row of a shot of no defect or of one.
-use Rattle.std.proofs.Common.{◌≡◌, ℕ, ◌<◌, ◌≤◌, ◌&&◌, ◌⊎◌, Bool, true, false, not, List, [], ◌∷◌, length, map, get_or, All, filter, Some, None, nat_lt, refl, sym, ap, subst, ◌∙◌, inl, inr, arith, lit<, zero-le}
+use Rattle.std.proofs.Common.{◌≡◌, ℕ, ◌<◌, true, false, not, List, [], ◌∷◌, length, get_or, Result, Ok, Err, IfOk, nat_lt, refl, sym, ap, subst, ◌∙◌, inr, arith, lit<}
 use Rattle.std.specs.List.{range_with_len}
 use Rattle.std.proofs.lemmas.Bool.{and_from, lt-ltb}
 use Rattle.std.proofs.lemmas.List.Elements.{All-filter, All-nil, filter_passes}
 use Rattle.fb_graph.specs.Parity.{is_in}
 use Rattle.fb_graph.specs.Problem.{Problem, with_defects}
-use Rattle.fb_graph.specs.Certificate.{IsBest, IsOddCut, IsPrintedCut}
+use Rattle.fb_graph.specs.Certificate.{IsBest, IsPrintedCut}
 use Rattle.fb_graph.specs.Limits.{DecodingGraph, is_real_in, problem_of}
 use Rattle.fb_graph.specs.Layout.{detectors_of}
 use Rattle.fb_graph.specs.declared.parts.Row.{Row}
@@ -14,7 +14,7 @@ use Rattle.fb_graph.proofs.OddComponents.{best_has_no_odd}
 use Rattle.fb_graph.proofs.Ranges.{range_below}
 use Rattle.fb_graph.proofs.Sets.{rising-nil}
 use Rattle.fb_search.specs.Lone.{IsRowOfOne}
-use Rattle.fb_run.specs.Decoding.{IsRow, IsShotRow, vertices_of}
+use Rattle.fb_run.specs.Decoding.{IsRow, IsShotRow}
 
 -- a detector's vertex is real
 pub detector_is_real : (g : DecodingGraph) (k : ℕ) → k < length (detectors_of g) → is_real_in g (get_or (detectors_of g) k 0) ≡ true
@@ -55,3 +55,10 @@ one_solved g (j ∷ []) k d row len first is solved =
     one_row (problem_of g (get_or (detectors_of g) j 0 ∷ [])) row
     (subst (λ v. IsRowOfOne (problem_of g (v ∷ [])) row) (is ∙ ap (λ i. get_or (detectors_of g) i 0) first) solved)
 one_solved g (j ∷ i ∷ is) k d row len first eq solved = absurd (omega arith)
+
+-- what the search answers, also where memory is wanting
+pub one_solved_if : {E : Type 0} (g : DecodingGraph) (shot : List ℕ) (k d : ℕ) (answer : Result Row E) → length shot ≡ 1 → k ≡ get_or shot 0 0
+    → d ≡ get_or (detectors_of g) k 0 → IfOk answer (IsRowOfOne (with_defects (problem_of g []) (d ∷ [])))
+    → IfOk answer (IsShotRow g shot)
+one_solved_if g shot k d (Ok row) len first is solved = one_solved g shot k d row len first is solved
+one_solved_if g shot k d (Err e) len first is solved = tt

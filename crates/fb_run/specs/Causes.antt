@@ -1,10 +1,7 @@
 -- How a run ends: its status and what it says on standard error.
-use Rattle.std.specs.Prelude.{ℕ, List, [], codes, ◌++◌}
+use Rattle.std.specs.Prelude.{ℕ, List, [], codes}
 use Rattle.fb_run.specs.declared.ending.Cause.{Cause}
 use Rattle.fb_run.specs.declared.ending.Cause.TheVariants.{Done, Over, Refused, ReadFault, WriteFault, NoMemory, Usage}
-use Rattle.fb_run.specs.declared.ending.Refusal.{Refusal}
-use Rattle.fb_run.specs.declared.ending.Refusal.TheVariants.{NotBuilt}
-use Rattle.fb_run.specs.declared.ending.UsageKind.{UsageKind}
 
 abbrev pub status_of : Cause → ℕ
 status_of Done = 0

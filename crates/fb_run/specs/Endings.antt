@@ -1,5 +1,5 @@
 -- What each end of a run says of what was written and read.
-use Rattle.std.specs.Prelude.{ℕ, ◌≡◌, ◌≤◌, ◌⊎◌, List, [], ◌∷◌, Option, Some, None}
+use Rattle.std.specs.Prelude.{ℕ, ◌≤◌, ◌⊎◌, List, [], ◌∷◌, Option, Some, None}
 use Rattle.fb_graph.specs.Limits.{DecodingGraph}
 use Rattle.fb_ports.specs.Causes.{Appends}
 use Rattle.fb_run.specs.Decoding.{WritesFront, WritesReport}

@@ -1,5 +1,5 @@
 -- The words of a command line.
-use Rattle.std.specs.Prelude.{ℕ, ◌&&◌, Bool, true, false, not, List, [], ◌∷◌, codes, bytes_eq, if◌then◌else◌, Option, Some, None}
+use Rattle.std.specs.Prelude.{ℕ, ◌&&◌, Bool, not, List, [], ◌∷◌, codes, bytes_eq, if◌then◌else◌, Option, Some, None}
 
 -- what a command line asks for: the names of the graph and of the shots
 pub record Errand : Type 0 where

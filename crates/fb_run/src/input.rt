@@ -133,11 +133,7 @@ pub fn read_input<F: Files>(
     ensures seen { F.faults files.old < F.faults files.new → IsErrOf result InputFault.ReadFault }
     ensures calm { result ≢ Err InputFault.ReadFault → F.faults files.new ≡ F.faults files.old }
 {
-    match read_graph_file(alloc, files, errand.graph) {
-        Ok(graph) => match read_shots_file(alloc, files, errand.shots, &graph) {
-            Ok(shots) => Ok(Input { graph, shots }),
-            Err(fault) => Err(fault),
-        },
-        Err(fault) => Err(fault),
-    }
+    let graph = read_graph_file(alloc, files, errand.graph)?;
+    let shots = read_shots_file(alloc, files, errand.shots, &graph)?;
+    Ok(Input { graph, shots })
 }

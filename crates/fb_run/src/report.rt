@@ -40,13 +40,11 @@ fn write_shot(
     requires { IsInRange (length (detectors_of graph.now)) shot.now }
     ensures { IfOk result (WritesRow graph.now k shot.now outbox.old.text outbox.new.text) }
 {
-    match solve_shot(alloc, graph, shot) {
-        Ok(row) => match write_row(outbox, k, &row) {
-            Ok(()) => Ok(is_over(&row)),
-            Err(_) => Err(NoMemory),
-        },
-        Err(NoMemory) => Err(NoMemory),
-    }
+    let row = solve_shot(alloc, graph, shot)?;
+    let Ok(()) = write_row(outbox, k, &row) else {
+        return Err(NoMemory);
+    };
+    Ok(is_over(&row))
 }
 
 /// Writes the report of the shots. Answers `Done`, `Over` where some shot is more than this version solves,

@@ -15,10 +15,7 @@ pub fn solve_shot(alloc: Global, graph: &Graph, shot: &Detectors) -> Result<Row,
 {
     match shot.as_slice() {
         [] => Ok(empty_row(alloc)),
-        [detector] => match search_one(alloc, Whole(graph), graph.detector_vertex(*detector)) {
-            Ok(row) => Ok(row),
-            Err(NoMemory) => Err(NoMemory),
-        },
+        [detector] => search_one(alloc, Whole(graph), graph.detector_vertex(*detector)),
         _ => Ok(Row::Over),
     }
 }

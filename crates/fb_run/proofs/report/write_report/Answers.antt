@@ -1,6 +1,6 @@
-use Rattle.std.proofs.Common.{◌≡◌, ◌≤◌, ◌<◌, ◌+◌, ◌-◌, ◌++◌, ℕ, Bool, true, false, List, [], cond, length, sym, ap, subst, ◌∙◌, refl, arith}
+use Rattle.std.proofs.Common.{◌≡◌, ◌≤◌, ◌+◌, ◌++◌, ℕ, Bool, true, false, cond, length, sym, ap, subst, ◌∙◌, refl, arith}
 use Rattle.fb_ports.specs.Causes.{Appends, AppendsFront}
-use Rattle.fb_report.specs.Texts.{head_text, done_text}
+use Rattle.fb_report.specs.Texts.{head_text}
 use Rattle.fb_run.specs.Decoding.{WritesReport}
 use Rattle.fb_run.proofs.Writing.{IsWriting, writing_begins, writing_row, writing_moved, front_so_far, front_at_fault, front_at_end, whole_at_end}
 use Rattle.fb_run.proofs.report.write_report.Goals as goal
