@@ -1,0 +1,8 @@
+//! A check of a printed row: whether its correction and certificate are right for the shot.
+
+#![tactic(auto)]
+
+mod numbers;
+pub mod verdicts;
+
+pub use verdicts::Verdict;
