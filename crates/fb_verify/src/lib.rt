@@ -3,6 +3,8 @@
 #![tactic(auto)]
 
 mod numbers;
+mod parities;
+mod sums;
 pub mod verdicts;
 
 pub use verdicts::Verdict;
