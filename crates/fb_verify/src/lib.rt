@@ -2,6 +2,7 @@
 
 #![tactic(auto)]
 
+mod cuts;
 mod numbers;
 mod parities;
 mod sums;

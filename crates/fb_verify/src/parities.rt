@@ -23,12 +23,20 @@ pub(crate) fn wrong_parity(
     ensures { IfOk result (λ v. v ≡ least_below graph.now.vertices (has_wrong_parity graph.now shot.now edges.now)) }
 {
     graph.limits();
-    let mut marks = both_ends(alloc, graph, edges)?;
-    if marks.extend_from_slice(shot.as_slice()).is_err() {
-        return Err(NoMemory);
-    }
-    let odd = odd_ones(marks);
+    let odd = odd_ones(marks(alloc, graph, shot, edges)?);
     Ok(first_real(graph, odd.as_slice()))
+}
+
+/// Both ends of each of the edges, and the defects.
+fn marks(alloc: Global, graph: &Graph, shot: &Shot, edges: &[u32]) -> Result<Vec<u32>, NoMemory>
+    requires { All (λ k. k < length graph.now.edges) edges.now }
+    ensures { IfOk result (λ v. v.items ≡ ends_of graph.now.edges edges.now ++ shot.now) }
+{
+    let mut marks = both_ends(alloc, graph, edges)?;
+    let Ok(()) = marks.extend_from_slice(shot.as_slice()) else {
+        return Err(NoMemory);
+    };
+    Ok(marks)
 }
 
 /// Both ends of each of the edges.
