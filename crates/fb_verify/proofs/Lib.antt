@@ -1,2 +1,4 @@
 pub mod Leasts
 pub mod Marked
+pub mod Overloads
+pub mod Sharing

@@ -3,8 +3,10 @@
 #![tactic(auto)]
 
 mod cuts;
+mod loads;
 mod numbers;
 mod parities;
+mod shares;
 mod sums;
 pub mod verdicts;
 
