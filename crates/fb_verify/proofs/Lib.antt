@@ -1,3 +1,4 @@
+pub mod Goods
 pub mod Leasts
 pub mod Marked
 pub mod Overloads

@@ -2,6 +2,7 @@
 
 #![tactic(auto)]
 
+mod checking;
 mod cuts;
 mod loads;
 mod numbers;
