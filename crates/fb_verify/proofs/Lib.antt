@@ -1,3 +1,4 @@
+pub mod Certified
 pub mod Goods
 pub mod Leasts
 pub mod Marked

@@ -29,7 +29,7 @@ ends_below g (k ∷ ks) graph all =
     (All-cons (λ v. v < g.vertices) (edge_at g.edges k).second (ends_of g.edges ks) edge.second
     (ends_below g ks graph (All-tail (λ j. j < length g.edges) k ks all)))
 
-real-below : (g : DecodingGraph) (v : ℕ) → is_real_in g v ≡ true → v < g.vertices
+pub real-below : (g : DecodingGraph) (v : ℕ) → is_real_in g v ≡ true → v < g.vertices
 real-below g v real = ltb-true v g.vertices (and_parts (nat_lt v g.vertices) (not (is_in g.virtuals v)) real).0
 
 pub marks_below : (g : DecodingGraph) (defects ks : List ℕ) → IsGraph g → IsShot g defects → All (λ k. k < length g.edges) ks

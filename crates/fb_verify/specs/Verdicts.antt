@@ -1,12 +1,12 @@
 -- What a check of a row finds: the first rule that the row breaks. For a correction these are the rules of its
 -- certificate (Edmonds and Johnson 1973).
-use Rattle.std.specs.Prelude.{ℕ, ◌≡◌, ◌==◌, ◌+◌, ◌&&◌, ◌⊎◌, Bool, true, false, not, if◌then◌else◌, nat_lt, List, [], ◌∷◌, length, Option, Some, None}
+use Rattle.std.specs.Prelude.{ℕ, ◌≡◌, ◌≤◌, ◌==◌, ◌+◌, ◌&&◌, ◌⊎◌, ⊤, All, Bool, true, false, not, if◌then◌else◌, nat_lt, List, [], ◌∷◌, length, Option, Some, None}
 use Rattle.std.specs.List.{find, range_with_len}
 use Rattle.std.specs.Option.{option_map, option_or, is_some, unwrap_or}
 use Rattle.std.specs.Ordering.{nat_cmp, is_lt}
 use Rattle.std.specs.Cmp.Lexicographic.{slice_cmp}
 use Rattle.fb_graph.specs.Parity.{differ, is_odd_count, is_in}
-use Rattle.fb_graph.specs.Problem.{edge_at, touches, weight_of}
+use Rattle.fb_graph.specs.Problem.{Problem, Flips, IsEdgeSet, edge_at, touches, weight_of}
 use Rattle.fb_graph.specs.Certificate.{load_of, total_value}
 use Rattle.fb_graph.specs.Components.{IsFirstOdd}
 use Rattle.fb_graph.specs.Limits.{DecodingGraph, is_real_in, problem_of}
@@ -74,9 +74,9 @@ cuts_fault g defects j before [] = None
 cuts_fault g defects j before (c ∷ cs) =
     option_or (cut_fault g defects j before c.vertices) (cuts_fault g defects (j + 1) c.vertices cs)
 
--- what a check finds of a correction with its certificate
-abbrev pub best_verdict : DecodingGraph → List ℕ → List ℕ → ℕ → List Cut → Verdict
-best_verdict g defects edges weight cuts = unwrap_or (first_of (
+-- the first fault of a correction with its certificate
+abbrev pub best_fault : DecodingGraph → List ℕ → List ℕ → ℕ → List Cut → Option Verdict
+best_fault g defects edges weight cuts = first_of (
     option_map EdgeOutOfRange (first_beyond (length g.edges) edges)
     ∷ option_map EdgesNotRising (first_fall edges)
     ∷ option_map WrongParity (least_below g.vertices (has_wrong_parity g defects edges))
@@ -84,12 +84,32 @@ best_verdict g defects edges weight cuts = unwrap_or (first_of (
     ∷ cuts_fault g defects 0 [] cuts
     ∷ option_map Overloaded (least_below (length g.edges) (is_overloaded g cuts))
     ∷ fault_of_two SumDiffers weight (total_value cuts)
-    ∷ [])) Good
+    ∷ [])
 
--- What a check finds of a row. That of an odd row is a relation, since which component is the first odd one is.
-abbrev pub IsVerdict : DecodingGraph → List ℕ → Row → Verdict → Type 0
-IsVerdict g defects (Best edges weight cuts) verdict = verdict ≡ best_verdict g defects edges weight cuts
-IsVerdict g defects (Odd v) verdict =
+-- what a check finds of a correction with its certificate
+abbrev pub best_verdict : DecodingGraph → List ℕ → List ℕ → ℕ → List Cut → Verdict
+best_verdict g defects edges weight cuts = unwrap_or (best_fault g defects edges weight cuts) Good
+
+-- What a check finds of an odd row. Which component is the first odd one is a relation, and so this is one.
+abbrev pub IsOddVerdict : DecodingGraph → List ℕ → ℕ → Verdict → Type 0
+IsOddVerdict g defects v verdict =
     (IsFirstOdd (problem_of g defects) (Some v) × (verdict ≡ Good))
     ⊎ ((¬ IsFirstOdd (problem_of g defects) (Some v)) × (verdict ≡ OddWrong v))
+
+-- what a check finds of a row
+abbrev pub IsVerdict : DecodingGraph → List ℕ → Row → Verdict → Type 0
+IsVerdict g defects (Best edges weight cuts) verdict = verdict ≡ best_verdict g defects edges weight cuts
+IsVerdict g defects (Odd v) verdict = IsOddVerdict g defects v verdict
 IsVerdict g defects OverRow verdict = verdict ≡ Over
+
+-- the row's cuts have values of at least 1, as a report that is read has them
+abbrev pub HasPositiveValues : Row → Type 0
+HasPositiveValues (Best edges weight cuts) = All (λ c. 1 ≤ c.value) cuts
+HasPositiveValues (Odd v) = ⊤
+HasPositiveValues OverRow = ⊤
+
+-- no edge set that flips the shot weighs less than the row's correction; none flips a shot whose row is odd
+abbrev pub IsLeastWeight : Problem → Row → Type 0
+IsLeastWeight p (Best edges weight cuts) = (other : List ℕ) → IsEdgeSet p other → Flips p other → weight ≤ weight_of p other
+IsLeastWeight p (Odd v) = (other : List ℕ) → IsEdgeSet p other → ¬ Flips p other
+IsLeastWeight p OverRow = ⊤

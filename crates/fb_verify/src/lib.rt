@@ -2,7 +2,7 @@
 
 #![tactic(auto)]
 
-mod checking;
+pub mod checking;
 mod cuts;
 mod loads;
 mod numbers;
@@ -11,4 +11,5 @@ mod shares;
 mod sums;
 pub mod verdicts;
 
+pub use checking::check_row;
 pub use verdicts::Verdict;
