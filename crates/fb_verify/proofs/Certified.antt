@@ -1,12 +1,12 @@
 -- A row has the verdict `Good` just where it is right.
-use Rattle.std.proofs.Common.{ℕ, ◌+◌, ◌<◌, ◌≤◌, ◌≡◌, ◌≢◌, ◌==◌, ◌&&◌, ◌⊎◌, ◌↔◌, inl, inr, not, nat_lt, cond, Bool, true, false, List, [], ◌∷◌, length, get_or, All, Option, Some, None, refl, sym, ap, subst, ◌∙◌, suc, zero, arith}
+use Rattle.std.proofs.Common.{ℕ, ◌+◌, ◌<◌, ◌≤◌, ◌≡◌, ◌≢◌, ◌==◌, ◌&&◌, ◌⊎◌, ◌↔◌, inl, inr, not, nat_lt, cond, Bool, true, false, List, [], ◌∷◌, length, get_or, All, Option, Some, None, Result, Ok, Err, IfOk, refl, sym, ap, subst, ◌∙◌, suc, zero, arith}
 use Rattle.std.specs.List.{find}
 use Rattle.std.specs.List.Sorted.{IsStrictlyIncreasing}
 use Rattle.std.specs.Option.{option_map, option_or, is_some, unwrap_or}
 use Rattle.std.specs.Ordering.{nat_cmp, is_lt}
 use Rattle.std.specs.Cmp.Lexicographic.{slice_cmp}
 use Rattle.std.specs.declared.cmp.Ordering.TheVariants.{Less}
-use Rattle.std.proofs.lemmas.Bool.{and_parts, cases_lt, eq-eqb, false≢true, le-ltb, ltb-false}
+use Rattle.std.proofs.lemmas.Bool.{and_parts, cases_lt, eq-eqb, ne_eqb, false≢true, le-ltb, ltb-false}
 use Rattle.std.proofs.lemmas.List.{get_or_default}
 use Rattle.std.proofs.lemmas.List.Elements.{All-head, All-tail}
 use Rattle.fb_graph.specs.Answers.{IsRight}
@@ -113,7 +113,7 @@ not_empty p c odd = step c.vertices odd.odd
   where
     step : (vs : List ℕ) → is_odd_count p.is_defect vs ≡ true → (length vs == 0) ≡ false
     step [] e = absurd (false≢true e)
-    step (v ∷ vs) e = refl
+    step (v ∷ vs) e = ne_eqb (length (v ∷ vs)) 0 (λ h. absurd (omega (arith, h)))
 
 virtual-from_real : (a b : Bool) → (a && not b) ≡ true → b ≡ false
 virtual-from_real true true e = absurd (false≢true e)
@@ -185,6 +185,15 @@ first_odd_once p (Some u) None f g = absurd (g u f.0)
 first_odd_once p (Some u) (Some v) f g =
     ap Some (elim (cases_lt u v) [ inl less ↦ absurd (g.1 u less f.0) | inr more ↦ elim (cases_lt v u) [ inl less ↦ absurd (f.1 v less g.0) | inr low ↦ omega arith ] ])
 
+pub odd_good : (g : DecodingGraph) (defects : List ℕ) (v : ℕ) (first : Option ℕ) → IsFirstOdd (problem_of g defects) first
+    → first ≡ Some v → IsOddVerdict g defects v Good
+odd_good g defects v first odd same = inl (subst (IsFirstOdd (problem_of g defects)) same odd, refl)
+
+pub odd_wrong : (g : DecodingGraph) (defects : List ℕ) (v : ℕ) (first : Option ℕ) → IsFirstOdd (problem_of g defects) first
+    → first ≢ Some v → IsOddVerdict g defects v (OddWrong v)
+odd_wrong g defects v first odd other =
+    inr (λ f. other (first_odd_once (problem_of g defects) first (Some v) odd f), refl)
+
 pub right-from_good : (g : DecodingGraph) (defects : List ℕ) (row : Row) (v : Verdict) → HasPositiveValues row
     → IsVerdict g defects row v → v ≡ Good → IsRight (problem_of g defects) row
 right-from_good g defects (Best edges weight cuts) v positive is good =
@@ -207,3 +216,17 @@ pub least-from_right : (p : Problem) (row : Row) → IsRight p row → IsLeastWe
 least-from_right p (Best edges weight cuts) right = least_weight p edges weight cuts right.1
 least-from_right p (Odd v) right = λ other set flips. no_correction p v right.0 other set.within flips
 least-from_right p OverRow right = tt
+
+pub some_same : (u v : ℕ) → Some u ≡ Some v → u ≡ v
+some_same u v e = ap (λ o. unwrap_or o 0) e
+
+pub ok_good : {E : Type 0} (g : DecodingGraph) (defects : List ℕ) (row : Row) (r : Result Verdict E) → HasPositiveValues row
+    → IfOk r (IsVerdict g defects row) → IfOk r (λ v. v ≡ Good ↔ IsRight (problem_of g defects) row)
+ok_good g defects row (Ok v) positive is = (right-from_good g defects row v positive is, good-from_right g defects row v is)
+ok_good g defects row (Err e) positive is = is
+
+pub ok_least : {E : Type 0} (g : DecodingGraph) (defects : List ℕ) (row : Row) (r : Result Verdict E) → HasPositiveValues row
+    → IfOk r (IsVerdict g defects row) → IfOk r (λ v. v ≡ Good → IsLeastWeight (problem_of g defects) row)
+ok_least g defects row (Ok v) positive is =
+    λ good. least-from_right (problem_of g defects) row (right-from_good g defects row v positive is good)
+ok_least g defects row (Err e) positive is = is

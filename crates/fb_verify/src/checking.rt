@@ -82,7 +82,10 @@ fn compare_odd(graph: &Graph, shot: &Shot, first: Option<u32>, vertex: u32) -> V
     requires { IsFirstOdd (problem_of graph.now shot.now) first }
     ensures { IsOddVerdict graph.now shot.now vertex result }
 {
-    if first == Some(vertex) {
+    let Some(found) = first else {
+        return Verdict::OddWrong(vertex);
+    };
+    if found == vertex {
         Verdict::Good
     } else {
         Verdict::OddWrong(vertex)
