@@ -1,30 +1,29 @@
 -- A row has the verdict `Good` just where it is right.
-use Rattle.std.proofs.Common.{ℕ, ◌+◌, ◌<◌, ◌≤◌, ◌≡◌, ◌≢◌, ◌==◌, ◌&&◌, ◌⊎◌, ◌↔◌, inl, inr, not, nat_lt, cond, Bool, true, false, List, [], ◌∷◌, length, get_or, All, Option, Some, None, Result, Ok, Err, IfOk, refl, sym, ap, subst, ◌∙◌, suc, zero, arith}
+use Rattle.std.proofs.Common.{ℕ, ◌+◌, ◌≤◌, ◌≡◌, ◌≢◌, ◌==◌, ◌&&◌, ◌↔◌, inl, inr, not, nat_lt, cond, Bool, true, false, List, [], ◌∷◌, length, get_or, All, Option, Some, None, Result, Ok, Err, IfOk, refl, sym, ap, subst, ◌∙◌, arith}
 use Rattle.std.specs.List.{find}
-use Rattle.std.specs.List.Sorted.{IsStrictlyIncreasing}
 use Rattle.std.specs.Option.{option_map, option_or, is_some, unwrap_or}
 use Rattle.std.specs.Ordering.{nat_cmp, is_lt}
 use Rattle.std.specs.Cmp.Lexicographic.{slice_cmp}
 use Rattle.std.specs.declared.cmp.Ordering.TheVariants.{Less}
-use Rattle.std.proofs.lemmas.Bool.{and_parts, cases_lt, eq-eqb, ne_eqb, false≢true, le-ltb, ltb-false}
+use Rattle.std.proofs.lemmas.Bool.{cases_lt, eq-eqb, ne_eqb, false≢true, le-ltb, ltb-false}
 use Rattle.std.proofs.lemmas.List.{get_or_default}
 use Rattle.std.proofs.lemmas.List.Elements.{All-head, All-tail}
 use Rattle.fb_graph.specs.Answers.{IsRight}
 use Rattle.fb_graph.specs.Certificate.{AreRising, Fits, IsBefore, IsBest, IsOddCut, IsPrintedCut, load_of, total_value}
-use Rattle.fb_graph.specs.Components.{IsFirstOdd, IsOddAt}
-use Rattle.fb_graph.specs.Limits.{DecodingGraph, IsShot, is_real_in, problem_of}
+use Rattle.fb_graph.specs.Components.{IsFirstOdd}
+use Rattle.fb_graph.specs.Limits.{DecodingGraph, is_real_in, problem_of}
 use Rattle.fb_graph.specs.Parity.{differ, is_in, is_odd_count}
-use Rattle.fb_graph.specs.Problem.{Problem, Flips, IsEdgeSet, edge_at, no_edge, touches, weight_of}
+use Rattle.fb_graph.specs.Problem.{Problem, Flips, edge_at, no_edge, touches, weight_of}
 use Rattle.fb_graph.specs.declared.parts.Cut.{Cut}
 use Rattle.fb_graph.specs.declared.parts.Row.{Row}
 use Rattle.fb_graph.specs.declared.parts.Row.TheVariants.{Best, Odd, Over as OverRow}
 use Rattle.fb_graph.proofs.Duality.{least_weight}
 use Rattle.fb_graph.proofs.OddComponents.{best_has_no_odd, no_correction}
 use Rattle.fb_graph.proofs.ParitySums.{differ_self, same_from_differ, and-false}
-use Rattle.fb_verify.specs.Verdicts.{HasPositiveValues, IsLeastWeight, IsOddVerdict, IsVerdict, best_fault, best_verdict, cut_fault, cuts_fault, fault_of_two, fault_where, first_beyond, first_fall, has_wrong_parity, is_overloaded, least_below}
+use Rattle.fb_verify.specs.Verdicts.{HasPositiveValues, IsLeastWeight, IsOddVerdict, IsVerdict, best_fault, cut_fault, cuts_fault, fault_of_two, fault_where, first_beyond, first_fall, has_wrong_parity, is_overloaded, least_below}
 use Rattle.fb_verify.specs.declared.verdicts.Verdict.{Verdict}
-use Rattle.fb_verify.specs.declared.verdicts.Verdict.TheVariants.{Good, EdgeOutOfRange, EdgesNotRising, WrongParity, WeightNotSum, CutEmpty, VertexOutOfRange, CutsNotRising, CutHoldsVirtual, CutEven, Overloaded, SumDiffers, OddWrong, Over}
-use Rattle.fb_verify.proofs.Goods.{IsListed, as_cut, before_same, both_true, cuts-from_none, cuts_bad, fall-from_rising, least-none, map_bad, map_none, none-from_all, none-least, or_bad, or_none, rising-from_fall, two_bad, two_none}
+use Rattle.fb_verify.specs.declared.verdicts.Verdict.TheVariants.{Good, EdgeOutOfRange, EdgesNotRising, WrongParity, WeightNotSum, CutEmpty, VertexOutOfRange, CutsNotRising, CutHoldsVirtual, CutEven, Overloaded, SumDiffers, OddWrong}
+use Rattle.fb_verify.proofs.Goods.{as_cut, before_same, cuts-from_none, cuts_bad, fall-from_rising, least-none, map_bad, map_none, none-from_all, none-least, or_bad, or_none, rising-from_fall, two_bad, two_none}
 use Rattle.fb_verify.proofs.Leasts.{below-from_beyond, beyond-from_below}
 use Rattle.fb_verify.proofs.Marked.{real-below}
 
@@ -127,15 +126,15 @@ none-from_cut g defects j before c printed order =
     let beyond = beyond-from_below g.vertices c.vertices (λ k d less. real-below g (get_or c.vertices k d) (printed.odd.real k d less)) in
     let fall = fall-from_rising c.vertices printed.rising in
     let virtual = none-from_all (is_in g.virtuals) c.vertices
-        (λ k d less. virtual-from_real (nat_lt (get_or c.vertices k d) g.vertices) (is_in g.virtuals (get_or c.vertices k d)) (printed.odd.real k d less)) in
+    (λ k d less. virtual-from_real (nat_lt (get_or c.vertices k d) g.vertices) (is_in g.virtuals (get_or c.vertices k d)) (printed.odd.real k d less)) in
     none_of_six (length c.vertices == 0) (is_some (first_fall c.vertices)) (is_lt (slice_cmp nat_cmp before c.vertices))
     (is_odd_count (is_in defects) c.vertices) (first_beyond g.vertices c.vertices) (find (is_in g.virtuals) c.vertices)
     empty (ap is_some fall) (ap is_lt order) printed.odd.odd beyond virtual
   where
     none_of_six : (a b l o : Bool) (x y : Option ℕ) → a ≡ false → b ≡ false → l ≡ true → o ≡ true → x ≡ None → y ≡ None
         → option_or (fault_where a (CutEmpty j)) (option_or (option_map VertexOutOfRange x) (option_or (fault_where b (CutsNotRising j))
-            (option_or (fault_where (not l) (CutsNotRising j)) (option_or (option_map CutHoldsVirtual y)
-            (option_or (fault_where (not o) (CutEven j)) None))))) ≡ None
+        (option_or (fault_where (not l) (CutsNotRising j)) (option_or (option_map CutHoldsVirtual y)
+        (option_or (fault_where (not o) (CutEven j)) None))))) ≡ None
     none_of_six false false true true None None e f h i u v = refl
     none_of_six true b l o x y e f h i u v = absurd (false≢true (sym e))
     none_of_six false true l o x y e f h i u v = absurd (false≢true (sym f))
@@ -198,7 +197,7 @@ pub right-from_good : (g : DecodingGraph) (defects : List ℕ) (row : Row) (v : 
     → IsVerdict g defects row v → v ≡ Good → IsRight (problem_of g defects) row
 right-from_good g defects (Best edges weight cuts) v positive is good =
     let best = best-from_none g defects edges weight cuts positive
-        (none_from_good (best_fault g defects edges weight cuts) (best_bad g defects edges weight cuts) (sym is ∙ good)) in
+    (none_from_good (best_fault g defects edges weight cuts) (best_bad g defects edges weight cuts) (sym is ∙ good)) in
     (best_has_no_odd (problem_of g defects) edges weight cuts best, best)
 right-from_good g defects (Odd u) v positive (inl (first, is)) good = first
 right-from_good g defects (Odd u) v positive (inr (other, is)) good = cc

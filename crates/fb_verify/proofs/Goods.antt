@@ -1,26 +1,24 @@
 -- A row is good just where it is right.
-use Rattle.std.proofs.Common.{ℕ, ◌+◌, ◌<◌, ◌≤◌, ◌≡◌, ◌≢◌, ◌==◌, ◌&&◌, ◌⊎◌, inl, inr, not, nat_lt, cond, if◌then◌else◌, Bool, true, false, List, [], ◌∷◌, length, get_or, All, sum_by, Option, Some, None, refl, sym, ap, ◌∙◌, suc, zero, arith}
+use Rattle.std.proofs.Common.{ℕ, ◌+◌, ◌<◌, ◌≡◌, ◌≢◌, ◌==◌, ◌&&◌, not, nat_lt, cond, Bool, true, false, List, [], ◌∷◌, length, get_or, All, Option, Some, None, refl, sym, ap, ◌∙◌, arith}
 use Rattle.std.specs.List.{find, range_with_len}
 use Rattle.std.specs.List.Sorted.{IsStrictlyIncreasing}
-use Rattle.std.specs.Option.{option_map, option_or, is_some, unwrap_or}
+use Rattle.std.specs.Option.{option_map, option_or, is_some}
 use Rattle.std.specs.Ordering.{nat_cmp, is_lt}
 use Rattle.std.specs.Cmp.Lexicographic.{slice_cmp}
 use Rattle.std.specs.declared.cmp.Ordering.{Ordering}
 use Rattle.std.specs.declared.cmp.Ordering.TheVariants.{Less, Equal, Greater}
-use Rattle.std.proofs.lemmas.Bool.{and_parts, cases_lt, eq-eqb, eqb-true, false≢true, lt-ltb, le-ltb, ltb-true, ltb-false}
-use Rattle.std.proofs.lemmas.List.{get_or_default}
+use Rattle.std.proofs.lemmas.Bool.{eqb-true, false≢true, lt-ltb, ltb-true}
 use Rattle.std.proofs.lemmas.List.Elements.{All-cons, All-head, All-nil, All-tail}
-use Rattle.fb_graph.specs.Certificate.{AreDistinct, AreRising, Fits, IsBefore, IsBest, IsOddCut, IsPrintedCut, load_of, total_value}
-use Rattle.fb_graph.specs.Limits.{DecodingGraph, IsShot, is_real_in, problem_of}
-use Rattle.fb_graph.specs.Parity.{differ, is_in, is_odd_count}
-use Rattle.fb_graph.specs.Problem.{Problem, Flips, IsEdgeSet, edge_at, no_edge, touches, weight_of}
+use Rattle.fb_graph.specs.Certificate.{AreDistinct, AreRising, IsBefore, IsOddCut}
+use Rattle.fb_graph.specs.Limits.{DecodingGraph, problem_of}
+use Rattle.fb_graph.specs.Parity.{is_in, is_odd_count}
+use Rattle.fb_graph.specs.Problem.{Problem}
 use Rattle.fb_graph.specs.declared.parts.Cut.{Cut}
-use Rattle.fb_graph.proofs.ParitySums.{differ_self, same_from_differ}
 use Rattle.fb_graph.proofs.Sets.{distinct_from_rising, is_in-All, is_in-range, range_below, rising-cons, rising-nil, rising-one, rising-tail}
 use Rattle.fb_verify.proofs.Marked.{real-below}
-use Rattle.fb_verify.specs.Verdicts.{best_fault, best_verdict, cut_fault, cuts_fault, fault_of_two, fault_where, first_beyond, first_fall, first_fall_after, first_of, has_wrong_parity, is_overloaded, least_below}
+use Rattle.fb_verify.specs.Verdicts.{cut_fault, cuts_fault, fault_of_two, fault_where, first_beyond, first_fall, first_fall_after, least_below}
 use Rattle.fb_verify.specs.declared.verdicts.Verdict.{Verdict}
-use Rattle.fb_verify.specs.declared.verdicts.Verdict.TheVariants.{Good, EdgeOutOfRange, EdgesNotRising, WrongParity, WeightNotSum, CutEmpty, VertexOutOfRange, CutsNotRising, CutHoldsVirtual, CutEven, Overloaded, SumDiffers, OddWrong, Over}
+use Rattle.fb_verify.specs.declared.verdicts.Verdict.TheVariants.{Good, CutEmpty, VertexOutOfRange, CutsNotRising, CutHoldsVirtual, CutEven}
 use Rattle.fb_verify.proofs.Leasts.{below-from_beyond, beyond-from_below, is_in-range-below, least_below_is_least}
 
 -- the parts of the first of two faults
@@ -166,8 +164,7 @@ cut-from_none g defects j before c none =
     let rising : IsStrictlyIncreasing c.vertices =
     rising-from_fall c.vertices (is_some-none (first_fall c.vertices) (where_none (is_some (first_fall c.vertices)) (CutsNotRising j) fall)) in
     let below = below-from_beyond g.vertices c.vertices (map_none VertexOutOfRange (first_beyond g.vertices c.vertices) beyond) in
-    let real = all-from_none (is_in g.virtuals) c.vertices (map_none CutHoldsVirtual (find (is_in g.virtuals) c.vertices) virtual) in
-    (
+    let real = all-from_none (is_in g.virtuals) c.vertices (map_none CutHoldsVirtual (find (is_in g.virtuals) c.vertices) virtual) in (
       record {
         odd = record {
           distinct = distinct_from_rising c.vertices rising;
@@ -190,8 +187,7 @@ cuts-from_none g defects j before [] none = (All-nil _, (tt, tt))
 cuts-from_none g defects j before (c ∷ cs) none =
     let (here, later) = or_none (cut_fault g defects j before c.vertices) (cuts_fault g defects (j + 1) c.vertices cs) none in
     let (listed, order) = cut-from_none g defects j before c here in
-    let (all, rising) = cuts-from_none g defects (j + 1) c.vertices cs later in
-    (
+    let (all, rising) = cuts-from_none g defects (j + 1) c.vertices cs later in (
       All-cons (IsListed (problem_of g defects)) c cs listed all,
       (order, (before_same (as_cut c.vertices) c refl cs rising.0, rising.1)),
     )

@@ -1,5 +1,5 @@
 -- The first number of a rising list that passes a test is the least one.
-use Rattle.std.proofs.Common.{ℕ, ◌+◌, ◌<◌, ◌≤◌, ◌≡◌, ◌==◌, ◌||◌, ◌&&◌, ◌⊎◌, inl, inr, not, nat_lt, cond, Bool, true, false, List, [], ◌∷◌, length, get_or, All, Option, Some, None, Result, Ok, Err, zero, suc, ◌≢◌, le_refl, refl, sym, ap, ◌∙◌, subst, lt_irrefl, arith}
+use Rattle.std.proofs.Common.{ℕ, ◌<◌, ◌≤◌, ◌≡◌, ◌&&◌, ◌⊎◌, inl, inr, not, nat_lt, cond, Bool, true, false, List, [], ◌∷◌, length, get_or, All, Option, Some, None, Result, Ok, Err, zero, suc, ◌≢◌, le_refl, refl, sym, ap, ◌∙◌, arith}
 use Rattle.std.specs.List.{find, range_with_len}
 use Rattle.std.specs.Result.{MatchResult, is_ok}
 use Rattle.std.specs.Ordering.{nat_cmp}

@@ -1,6 +1,6 @@
 -- The vertices where the edges' parity isn't the shot's occur an odd number of times among the edges' ends and the
 -- defects together.
-use Rattle.std.proofs.Common.{ℕ, ◌+◌, ◌<◌, ◌≤◌, ◌≡◌, ◌==◌, ◌||◌, ◌&&◌, ◌⊎◌, inl, inr, not, nat_lt, cond, Bool, true, false, List, [], ◌∷◌, ◌++◌, length, get_or, All, Option, Some, None, flat_map, refl, sym, ap, ◌∙◌, subst, arith}
+use Rattle.std.proofs.Common.{ℕ, ◌<◌, ◌≡◌, ◌==◌, ◌&&◌, not, nat_lt, Bool, true, List, [], ◌∷◌, ◌++◌, length, get_or, All, sym, ap, ◌∙◌}
 use Rattle.std.specs.List.{find}
 use Rattle.std.specs.List.Sorted.{IsStrictlyIncreasing}
 use Rattle.std.proofs.lemmas.Bool.{and_parts, lt-ltb, ltb-true}
@@ -8,7 +8,6 @@ use Rattle.std.proofs.lemmas.List.Elements.{All-head, All-tail, All-cons, All-ni
 use Rattle.fb_graph.specs.Parity.{differ, is_in, is_odd_count}
 use Rattle.fb_graph.specs.Problem.{touches, edge_at, no_edge}
 use Rattle.fb_graph.specs.Limits.{DecodingGraph, IsEdge, IsGraph, IsShot, is_real_in}
-use Rattle.fb_graph.specs.declared.parts.Edge.{Edge}
 use Rattle.fb_graph.proofs.ParitySums.{and_comm, differ-false, odd-append, odd_same, odd-flat_map, differ_assoc}
 use Rattle.fb_graph.proofs.Sets.{All-from_is_in, is_in-All, distinct_from_rising, odd_equal, equal_sym}
 use Rattle.fb_verify.specs.Marks.{ends_of}
@@ -40,7 +39,7 @@ marks_below g defects ks graph shot within =
 
 pub odd-marks : (g : DecodingGraph) (defects ks : List ℕ) → IsShot g defects → (v : ℕ)
     → is_odd_count (λ u. u == v) (ends_of g.edges ks ++ defects)
-        ≡ differ (is_odd_count (λ k. touches v (edge_at g.edges k)) ks) (is_in defects v)
+    ≡ differ (is_odd_count (λ k. touches v (edge_at g.edges k)) ks) (is_in defects v)
 odd-marks g defects ks shot v =
     odd-append (λ u. u == v) (ends_of g.edges ks) defects
     ∙ (ap (λ b. differ b (is_odd_count (λ u. u == v) defects)) ends
@@ -71,6 +70,6 @@ least_wrong g defects ks odd shot rising below parity =
     same : (v : ℕ) → v < g.vertices → (is_in odd v && not (is_in g.virtuals v)) ≡ has_wrong_parity g defects ks v
     same v less =
         ap (λ b. b && not (is_in g.virtuals v))
-            (sym (odd_equal odd v (distinct_from_rising odd rising)) ∙ (parity (λ u. u == v) ∙ odd-marks g defects ks shot v))
+        (sym (odd_equal odd v (distinct_from_rising odd rising)) ∙ (parity (λ u. u == v) ∙ odd-marks g defects ks shot v))
         ∙ (and_comm (differ (is_odd_count (λ k. touches v (edge_at g.edges k)) ks) (is_in defects v)) (not (is_in g.virtuals v))
         ∙ ap (λ b. (b && not (is_in g.virtuals v)) && differ (is_odd_count (λ k. touches v (edge_at g.edges k)) ks) (is_in defects v)) (sym (lt-ltb v g.vertices less)))

@@ -1,5 +1,5 @@
 -- Lists from which a check finds parities and loads without a table over the whole graph.
-use Rattle.std.specs.Prelude.{ℕ, ◌==◌, Bool, true, false, cond, List, [], ◌∷◌, ◌++◌, flat_map, length, sum_by}
+use Rattle.std.specs.Prelude.{ℕ, List, [], ◌∷◌, flat_map, length}
 use Rattle.fb_graph.specs.Layout.{edges_at}
 use Rattle.fb_graph.specs.Problem.{edge_at}
 use Rattle.fb_graph.specs.declared.parts.Edge.{Edge}

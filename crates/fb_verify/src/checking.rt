@@ -19,12 +19,7 @@ use std::alloc::Global;
 /// What a check finds of the row of a shot: the first rule that it breaks, or that it is right. A row of a correction
 /// takes time by its own length, the number of defects and that of the edges at its cuts' vertices; an odd row takes
 /// time by the size of the graph.
-pub fn check_row(
-    alloc: Global,
-    graph: &Graph,
-    shot: &Shot,
-    row: &Row,
-) -> Result<Verdict, NoMemory>
+pub fn check_row(alloc: Global, graph: &Graph, shot: &Shot, row: &Row) -> Result<Verdict, NoMemory>
     requires shot { IsShot graph.now shot.now }
     requires values { HasPositiveValues row.now }
     ensures verdict { IfOk result (IsVerdict graph.now shot.now row.now) }
@@ -35,12 +30,7 @@ pub fn check_row(
 }
 
 /// The verdict alone.
-fn find_verdict(
-    alloc: Global,
-    graph: &Graph,
-    shot: &Shot,
-    row: &Row,
-) -> Result<Verdict, NoMemory>
+fn find_verdict(alloc: Global, graph: &Graph, shot: &Shot, row: &Row) -> Result<Verdict, NoMemory>
     requires { IsShot graph.now shot.now }
     ensures { IfOk result (IsVerdict graph.now shot.now row.now) }
 {
@@ -63,12 +53,7 @@ fn find_verdict(
 }
 
 /// What a check finds of an odd row.
-fn check_odd(
-    alloc: Global,
-    graph: &Graph,
-    shot: &Shot,
-    vertex: u32,
-) -> Result<Verdict, NoMemory>
+fn check_odd(alloc: Global, graph: &Graph, shot: &Shot, vertex: u32) -> Result<Verdict, NoMemory>
     requires { IsShot graph.now shot.now }
     ensures { IfOk result (IsOddVerdict graph.now shot.now vertex) }
 {

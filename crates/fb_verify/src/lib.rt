@@ -9,6 +9,8 @@ mod numbers;
 mod parities;
 mod shares;
 mod sums;
+#[cfg(test)]
+mod tests;
 pub mod verdicts;
 
 pub use checking::check_row;

@@ -1,4 +1,3 @@
-use Rattle.fb_graph.specs.Limits.{problem_of}
 use Rattle.fb_verify.proofs.Certified.{ok_good, ok_least}
 use Rattle.fb_verify.proofs.checking.check_row.Goals as goal
 

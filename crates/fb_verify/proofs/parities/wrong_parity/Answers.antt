@@ -1,4 +1,4 @@
-use Rattle.std.proofs.Common.{◌≡◌, ◌<◌, All, ◌∙◌, sym, ap, subst, not}
+use Rattle.std.proofs.Common.{◌<◌, All, ◌∙◌, sym, ap, subst, not}
 use Rattle.std.specs.List.{find}
 use Rattle.fb_graph.specs.Parity.{is_in, is_odd_count}
 use Rattle.fb_verify.proofs.Marked.{marks_below, odd-below, least_wrong}
