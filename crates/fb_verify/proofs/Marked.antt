@@ -1,0 +1,75 @@
+-- The vertices where the edges' parity isn't the shot's occur an odd number of times among the edges' ends and the
+-- defects together.
+use Rattle.std.proofs.Common.{ℕ, ◌<◌, ◌≡◌, ◌==◌, ◌&&◌, not, nat_lt, Bool, true, List, [], ◌∷◌, ◌++◌, length, get_or, All, sym, ap, ◌∙◌}
+use Rattle.std.specs.List.{find}
+use Rattle.std.specs.List.Sorted.{IsStrictlyIncreasing}
+use Rattle.std.proofs.lemmas.Bool.{and_parts, lt-ltb, ltb-true}
+use Rattle.std.proofs.lemmas.List.Elements.{All-head, All-tail, All-cons, All-nil, All-append}
+use Rattle.fb_graph.specs.Parity.{differ, is_in, is_odd_count}
+use Rattle.fb_graph.specs.Problem.{touches, edge_at, no_edge}
+use Rattle.fb_graph.specs.Limits.{DecodingGraph, IsEdge, IsGraph, IsShot, is_real_in}
+use Rattle.fb_graph.proofs.ParitySums.{and_comm, differ-false, odd-append, odd_same, odd-flat_map, differ_assoc}
+use Rattle.fb_graph.proofs.Sets.{All-from_is_in, is_in-All, distinct_from_rising, odd_equal, equal_sym}
+use Rattle.fb_verify.specs.Marks.{ends_of}
+use Rattle.fb_verify.specs.Verdicts.{least_below, has_wrong_parity}
+use Rattle.fb_verify.proofs.Leasts.{least-from_rising}
+
+-- one step of a count's parity
+pub odd_step : {X : Type 0} (test : X → Bool) (all odd : Bool) (x : X) (xs : List X)
+    → all ≡ differ odd (is_odd_count test (x ∷ xs)) → all ≡ differ (differ odd (test x)) (is_odd_count test xs)
+odd_step test all odd x xs e = e ∙ sym (differ_assoc odd (test x) (is_odd_count test xs))
+
+pub ends_below : (g : DecodingGraph) (ks : List ℕ) → IsGraph g → All (λ k. k < length g.edges) ks
+    → All (λ v. v < g.vertices) (ends_of g.edges ks)
+ends_below g [] graph all = All-nil _
+ends_below g (k ∷ ks) graph all =
+    let edge : IsEdge g.vertices (edge_at g.edges k) = graph.each_edge k no_edge (All-head (λ j. j < length g.edges) k ks all) in
+    All-cons (λ v. v < g.vertices) (edge_at g.edges k).first ((edge_at g.edges k).second ∷ ends_of g.edges ks) edge.first
+    (All-cons (λ v. v < g.vertices) (edge_at g.edges k).second (ends_of g.edges ks) edge.second
+    (ends_below g ks graph (All-tail (λ j. j < length g.edges) k ks all)))
+
+pub real-below : (g : DecodingGraph) (v : ℕ) → is_real_in g v ≡ true → v < g.vertices
+real-below g v real = ltb-true v g.vertices (and_parts (nat_lt v g.vertices) (not (is_in g.virtuals v)) real).0
+
+pub marks_below : (g : DecodingGraph) (defects ks : List ℕ) → IsGraph g → IsShot g defects → All (λ k. k < length g.edges) ks
+    → All (λ v. v < g.vertices) (ends_of g.edges ks ++ defects)
+marks_below g defects ks graph shot within =
+    All-append (λ v. v < g.vertices) (ends_of g.edges ks) defects (ends_below g ks graph within)
+    (λ k d less. real-below g (get_or defects k d) (shot.real k d less))
+
+pub odd-marks : (g : DecodingGraph) (defects ks : List ℕ) → IsShot g defects → (v : ℕ)
+    → is_odd_count (λ u. u == v) (ends_of g.edges ks ++ defects)
+    ≡ differ (is_odd_count (λ k. touches v (edge_at g.edges k)) ks) (is_in defects v)
+odd-marks g defects ks shot v =
+    odd-append (λ u. u == v) (ends_of g.edges ks) defects
+    ∙ (ap (λ b. differ b (is_odd_count (λ u. u == v) defects)) ends
+    ∙ ap (differ (is_odd_count (λ k. touches v (edge_at g.edges k)) ks)) (odd_equal defects v (distinct_from_rising defects shot.rising)))
+  where
+    two : (k : ℕ) → is_odd_count (λ u. u == v) ((edge_at g.edges k).first ∷ (edge_at g.edges k).second ∷ []) ≡ touches v (edge_at g.edges k)
+    two k =
+        ap (differ ((edge_at g.edges k).first == v)) (differ-false ((edge_at g.edges k).second == v))
+        ∙ (ap (λ b. differ b ((edge_at g.edges k).second == v)) (equal_sym (edge_at g.edges k).first v)
+        ∙ ap (differ (v == (edge_at g.edges k).first)) (equal_sym (edge_at g.edges k).second v))
+
+    ends : is_odd_count (λ u. u == v) (ends_of g.edges ks) ≡ is_odd_count (λ k. touches v (edge_at g.edges k)) ks
+    ends =
+        odd-flat_map (λ k. (edge_at g.edges k).first ∷ (edge_at g.edges k).second ∷ []) (λ u. u == v) ks
+        ∙ odd_same (λ k. is_odd_count (λ u. u == v) ((edge_at g.edges k).first ∷ (edge_at g.edges k).second ∷ [])) (λ k. touches v (edge_at g.edges k)) two ks
+
+pub odd-below : (odd marks : List ℕ) (n : ℕ) → ((v : ℕ) → is_in odd v ≡ true → is_in marks v ≡ true)
+    → All (λ v. v < n) marks → All (λ v. v < n) odd
+odd-below odd marks n inside below = All-from_is_in (λ v. v < n) odd (λ v h. is_in-All (λ u. u < n) marks below v (inside v h))
+
+pub least_wrong : (g : DecodingGraph) (defects ks odd : List ℕ) → IsShot g defects → IsStrictlyIncreasing odd
+    → All (λ v. v < g.vertices) odd
+    → ((test : ℕ → Bool) → is_odd_count test odd ≡ is_odd_count test (ends_of g.edges ks ++ defects))
+    → find (λ v. not (is_in g.virtuals v)) odd ≡ least_below g.vertices (has_wrong_parity g defects ks)
+least_wrong g defects ks odd shot rising below parity =
+    least-from_rising (λ v. not (is_in g.virtuals v)) (has_wrong_parity g defects ks) odd g.vertices rising below same
+  where
+    same : (v : ℕ) → v < g.vertices → (is_in odd v && not (is_in g.virtuals v)) ≡ has_wrong_parity g defects ks v
+    same v less =
+        ap (λ b. b && not (is_in g.virtuals v))
+        (sym (odd_equal odd v (distinct_from_rising odd rising)) ∙ (parity (λ u. u == v) ∙ odd-marks g defects ks shot v))
+        ∙ (and_comm (differ (is_odd_count (λ k. touches v (edge_at g.edges k)) ks) (is_in defects v)) (not (is_in g.virtuals v))
+        ∙ ap (λ b. (b && not (is_in g.virtuals v)) && differ (is_odd_count (λ k. touches v (edge_at g.edges k)) ks) (is_in defects v)) (sym (lt-ltb v g.vertices less)))

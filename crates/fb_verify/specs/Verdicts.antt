@@ -1,0 +1,115 @@
+-- What a check of a row finds: the first rule that the row breaks. For a correction these are the rules of its
+-- certificate (Edmonds and Johnson 1973).
+use Rattle.std.specs.Prelude.{ℕ, ◌≡◌, ◌≤◌, ◌==◌, ◌+◌, ◌&&◌, ◌⊎◌, ⊤, All, Bool, not, if◌then◌else◌, nat_lt, List, [], ◌∷◌, length, Option, Some, None}
+use Rattle.std.specs.List.{find, range_with_len}
+use Rattle.std.specs.Option.{option_map, option_or, is_some, unwrap_or}
+use Rattle.std.specs.Ordering.{nat_cmp, is_lt}
+use Rattle.std.specs.Cmp.Lexicographic.{slice_cmp}
+use Rattle.fb_graph.specs.Parity.{differ, is_odd_count, is_in}
+use Rattle.fb_graph.specs.Problem.{Problem, Flips, IsEdgeSet, edge_at, touches, weight_of}
+use Rattle.fb_graph.specs.Certificate.{load_of, total_value}
+use Rattle.fb_graph.specs.Components.{IsFirstOdd}
+use Rattle.fb_graph.specs.Limits.{DecodingGraph, is_real_in, problem_of}
+use Rattle.fb_graph.specs.declared.parts.Cut.{Cut}
+use Rattle.fb_graph.specs.declared.parts.Row.{Row}
+use Rattle.fb_graph.specs.declared.parts.Row.TheVariants.{Best, Odd, Over as OverRow}
+use Rattle.fb_verify.specs.declared.verdicts.Verdict.{Verdict}
+use Rattle.fb_verify.specs.declared.verdicts.Verdict.TheVariants.{Good, EdgeOutOfRange, EdgesNotRising, WrongParity, WeightNotSum, CutEmpty, VertexOutOfRange, CutsNotRising, CutHoldsVirtual, CutEven, Overloaded, SumDiffers, OddWrong, Over}
+
+-- the first number of the list that isn't below the bound
+abbrev pub first_beyond : ℕ → List ℕ → Option ℕ
+first_beyond bound numbers = find (λ k. not (nat_lt k bound)) numbers
+
+-- the first number of the list that isn't above the one before it, that of the first number being `before`
+abbrev pub first_fall_after : ℕ → List ℕ → Option ℕ
+first_fall_after before [] = None
+first_fall_after before (k ∷ ks) = if nat_lt before k then first_fall_after k ks else Some k
+
+-- the first number of the list that isn't above the one before it
+abbrev pub first_fall : List ℕ → Option ℕ
+first_fall [] = None
+first_fall (k ∷ ks) = first_fall_after k ks
+
+-- the least number below n that passes the test
+abbrev pub least_below : ℕ → (ℕ → Bool) → Option ℕ
+least_below n test = find test (range_with_len 0 n)
+
+-- the vertex is real, and the parity of the edges there isn't the shot's
+abbrev pub has_wrong_parity : DecodingGraph → List ℕ → List ℕ → ℕ → Bool
+has_wrong_parity g defects edges v =
+    is_real_in g v && differ (is_odd_count (λ k. touches v (edge_at g.edges k)) edges) (is_in defects v)
+
+-- the cuts load the edge above its weight
+abbrev pub is_overloaded : DecodingGraph → List Cut → ℕ → Bool
+is_overloaded g cuts k = nat_lt (edge_at g.edges k).weight (load_of cuts (edge_at g.edges k))
+
+-- the fault where the condition holds
+abbrev pub fault_where : Bool → Verdict → Option Verdict
+fault_where holds fault = if holds then Some fault else None
+
+-- the fault of two numbers where they differ
+abbrev pub fault_of_two : (ℕ → ℕ → Verdict) → ℕ → ℕ → Option Verdict
+fault_of_two fault a b = if a == b then None else Some (fault a b)
+
+-- the first fault of several
+abbrev pub first_of : List (Option Verdict) → Option Verdict
+first_of [] = None
+first_of (fault ∷ faults) = option_or fault (first_of faults)
+
+-- the first fault of cut j, given the vertices of the cut before it (none before the first: the empty list stands
+-- before all others)
+abbrev pub cut_fault : DecodingGraph → List ℕ → ℕ → List ℕ → List ℕ → Option Verdict
+cut_fault g defects j before vertices = first_of (
+    fault_where (length vertices == 0) (CutEmpty j)
+    ∷ option_map VertexOutOfRange (first_beyond g.vertices vertices)
+    ∷ fault_where (is_some (first_fall vertices)) (CutsNotRising j)
+    ∷ fault_where (not (is_lt (slice_cmp nat_cmp before vertices))) (CutsNotRising j)
+    ∷ option_map CutHoldsVirtual (find (is_in g.virtuals) vertices)
+    ∷ fault_where (not (is_odd_count (is_in defects) vertices)) (CutEven j)
+    ∷ [])
+
+-- the first fault of the first faulty cut, the cuts being counted from j on
+abbrev pub cuts_fault : DecodingGraph → List ℕ → ℕ → List ℕ → List Cut → Option Verdict
+cuts_fault g defects j before [] = None
+cuts_fault g defects j before (c ∷ cs) =
+    option_or (cut_fault g defects j before c.vertices) (cuts_fault g defects (j + 1) c.vertices cs)
+
+-- the first fault of a correction with its certificate
+abbrev pub best_fault : DecodingGraph → List ℕ → List ℕ → ℕ → List Cut → Option Verdict
+best_fault g defects edges weight cuts = first_of (
+    option_map EdgeOutOfRange (first_beyond (length g.edges) edges)
+    ∷ option_map EdgesNotRising (first_fall edges)
+    ∷ option_map WrongParity (least_below g.vertices (has_wrong_parity g defects edges))
+    ∷ fault_of_two WeightNotSum weight (weight_of (problem_of g defects) edges)
+    ∷ cuts_fault g defects 0 [] cuts
+    ∷ option_map Overloaded (least_below (length g.edges) (is_overloaded g cuts))
+    ∷ fault_of_two SumDiffers weight (total_value cuts)
+    ∷ [])
+
+-- what a check finds of a correction with its certificate
+abbrev pub best_verdict : DecodingGraph → List ℕ → List ℕ → ℕ → List Cut → Verdict
+best_verdict g defects edges weight cuts = unwrap_or (best_fault g defects edges weight cuts) Good
+
+-- What a check finds of an odd row. Which component is the first odd one is a relation, and so this is one.
+abbrev pub IsOddVerdict : DecodingGraph → List ℕ → ℕ → Verdict → Type 0
+IsOddVerdict g defects v verdict =
+    (IsFirstOdd (problem_of g defects) (Some v) × (verdict ≡ Good))
+    ⊎ ((¬ IsFirstOdd (problem_of g defects) (Some v)) × (verdict ≡ OddWrong v))
+
+-- what a check finds of a row
+abbrev pub IsVerdict : DecodingGraph → List ℕ → Row → Verdict → Type 0
+IsVerdict g defects (Best edges weight cuts) verdict = verdict ≡ best_verdict g defects edges weight cuts
+IsVerdict g defects (Odd v) verdict = IsOddVerdict g defects v verdict
+IsVerdict g defects OverRow verdict = verdict ≡ Over
+
+-- the row's cuts have values of at least 1, as a report that is read has them
+abbrev pub HasPositiveValues : Row → Type 0
+HasPositiveValues (Best edges weight cuts) = All (λ c. 1 ≤ c.value) cuts
+HasPositiveValues (Odd v) = ⊤
+HasPositiveValues OverRow = ⊤
+
+-- no edge set that flips the shot weighs less than the row's correction; none flips a shot whose row is odd
+abbrev pub IsLeastWeight : Problem → Row → Type 0
+IsLeastWeight p (Best edges weight cuts) = (other : List ℕ) → IsEdgeSet p other → Flips p other → weight ≤ weight_of p other
+IsLeastWeight p (Odd v) = (other : List ℕ) → IsEdgeSet p other → ¬ Flips p other
+IsLeastWeight p OverRow = ⊤

@@ -1,0 +1,117 @@
+//! The check of a row.
+
+ghost use Rattle.std.specs.Prelude.{◌≡◌, ◌↔◌, IfOk};
+ghost use Rattle.fb_graph.specs.Answers.{IsRight};
+ghost use Rattle.fb_graph.specs.Components.{IsFirstOdd};
+ghost use Rattle.fb_graph.specs.Limits.{IsShot, problem_of};
+ghost use Rattle.fb_verify.specs.Verdicts.{HasPositiveValues, IsLeastWeight, IsOddVerdict, IsVerdict, best_verdict};
+ghost use Rattle.fb_verify.specs.declared.verdicts.Verdict.TheVariants.{Good};
+
+use crate::cuts::first_cut_fault;
+use crate::loads::overloaded;
+use crate::numbers::{beyond, fall};
+use crate::parities::wrong_parity;
+use crate::sums::{sum_of_values, sum_of_weights};
+use crate::verdicts::Verdict;
+use fb_graph::{Cut, Graph, NoMemory, Row, Shot, components, first_odd};
+use std::alloc::Global;
+
+/// What a check finds of the row of a shot: the first rule that it breaks, or that it is right. A row of a correction
+/// takes time by its own length, the number of defects and that of the edges at its cuts' vertices; an odd row takes
+/// time by the size of the graph.
+pub fn check_row(alloc: Global, graph: &Graph, shot: &Shot, row: &Row) -> Result<Verdict, NoMemory>
+    requires shot { IsShot graph.now shot.now }
+    requires values { HasPositiveValues row.now }
+    ensures verdict { IfOk result (IsVerdict graph.now shot.now row.now) }
+    ensures good { IfOk result (λ v. (v ≡ Good) ↔ IsRight (problem_of graph.now shot.now) row.now) }
+    ensures least { IfOk result (λ v. v ≡ Good → IsLeastWeight (problem_of graph.now shot.now) row.now) }
+{
+    find_verdict(alloc, graph, shot, row)
+}
+
+/// The verdict alone.
+fn find_verdict(alloc: Global, graph: &Graph, shot: &Shot, row: &Row) -> Result<Verdict, NoMemory>
+    requires { IsShot graph.now shot.now }
+    ensures { IfOk result (IsVerdict graph.now shot.now row.now) }
+{
+    match row {
+        Row::Best {
+            edges,
+            weight,
+            cuts,
+        } => check_best(
+            alloc,
+            graph,
+            shot,
+            edges.as_slice(),
+            *weight,
+            cuts.as_slice(),
+        ),
+        Row::Odd(vertex) => check_odd(alloc, graph, shot, *vertex),
+        Row::Over => Ok(Verdict::Over),
+    }
+}
+
+/// What a check finds of an odd row.
+fn check_odd(alloc: Global, graph: &Graph, shot: &Shot, vertex: u32) -> Result<Verdict, NoMemory>
+    requires { IsShot graph.now shot.now }
+    ensures { IfOk result (IsOddVerdict graph.now shot.now vertex) }
+{
+    let mut parts = components(alloc, graph)?;
+    let first = first_odd(&mut parts, shot);
+    Ok(compare_odd(graph, shot, first, vertex))
+}
+
+/// The verdict of an odd row, given the first odd component's vertex.
+fn compare_odd(graph: &Graph, shot: &Shot, first: Option<u32>, vertex: u32) -> Verdict
+    requires { IsFirstOdd (problem_of graph.now shot.now) first }
+    ensures { IsOddVerdict graph.now shot.now vertex result }
+{
+    let Some(found) = first else {
+        return Verdict::OddWrong(vertex);
+    };
+    if found == vertex {
+        Verdict::Good
+    } else {
+        Verdict::OddWrong(vertex)
+    }
+}
+
+/// What a check finds of a correction with its certificate.
+#[tactic(auto, using(crate::proofs::Goods::checked))]
+fn check_best(
+    alloc: Global,
+    graph: &Graph,
+    shot: &Shot,
+    edges: &[u32],
+    weight: u64,
+    cuts: &[Cut],
+) -> Result<Verdict, NoMemory>
+    requires { IsShot graph.now shot.now }
+    ensures { IfOk result (λ v. v ≡ best_verdict graph.now shot.now edges.now weight cuts.now) }
+{
+    if let Some(edge) = beyond(edges, graph.edge_count()) {
+        return Ok(Verdict::EdgeOutOfRange(edge));
+    }
+    if let Some(edge) = fall(edges) {
+        return Ok(Verdict::EdgesNotRising(edge));
+    }
+    if let Some(vertex) = wrong_parity(alloc, graph, shot, edges)? {
+        return Ok(Verdict::WrongParity(vertex));
+    }
+    let sum = sum_of_weights(graph, edges);
+    if u128::from(weight) != sum {
+        return Ok(Verdict::WeightNotSum(weight, sum));
+    }
+    if let Some(fault) = first_cut_fault(graph, shot, cuts) {
+        return Ok(fault);
+    }
+    if let Some(edge) = overloaded(alloc, graph, cuts)? {
+        return Ok(Verdict::Overloaded(edge));
+    }
+    let total = sum_of_values(cuts);
+    if u128::from(weight) != total {
+        return Ok(Verdict::SumDiffers(weight, total));
+    }
+    Ok(Verdict::Good)
+}

@@ -1,0 +1,99 @@
+//! The parity of edges and of defects at vertices.
+
+ghost use Rattle.std.specs.Prelude.{◌≡◌, ◌<◌, ◌++◌, All, IfOk, length, not};
+ghost use Rattle.std.specs.List.{find};
+ghost use Rattle.fb_graph.specs.Limits.{IsShot};
+ghost use Rattle.fb_graph.specs.Parity.{is_in, is_odd_count};
+ghost use Rattle.fb_verify.specs.Marks.{ends_of};
+ghost use Rattle.fb_verify.specs.Verdicts.{least_below, has_wrong_parity};
+
+use fb_graph::{Graph, NoMemory, Shot, odd_ones};
+use std::alloc::Global;
+
+/// The least real vertex at which the parity of the edges isn't the shot's. It takes time by the number of edges and
+/// defects, whatever the size of the graph.
+pub(crate) fn wrong_parity(
+    alloc: Global,
+    graph: &Graph,
+    shot: &Shot,
+    edges: &[u32],
+) -> Result<Option<u32>, NoMemory>
+    requires shot { IsShot graph.now shot.now }
+    requires within { All (λ k. k < length graph.now.edges) edges.now }
+    ensures { IfOk result (λ v. v ≡ least_below graph.now.vertices (has_wrong_parity graph.now shot.now edges.now)) }
+{
+    graph.limits();
+    let odd = odd_ones(marks(alloc, graph, shot, edges)?);
+    Ok(first_real(graph, odd.as_slice()))
+}
+
+/// Both ends of each of the edges, and the defects.
+fn marks(alloc: Global, graph: &Graph, shot: &Shot, edges: &[u32]) -> Result<Vec<u32>, NoMemory>
+    requires { All (λ k. k < length graph.now.edges) edges.now }
+    ensures { IfOk result (λ v. v.items ≡ ends_of graph.now.edges edges.now ++ shot.now) }
+{
+    let mut marks = both_ends(alloc, graph, edges)?;
+    let Ok(()) = marks.extend_from_slice(shot.as_slice()) else {
+        return Err(NoMemory);
+    };
+    Ok(marks)
+}
+
+/// Both ends of each of the edges.
+fn both_ends(alloc: Global, graph: &Graph, edges: &[u32]) -> Result<Vec<u32>, NoMemory>
+    requires { All (λ k. k < length graph.now.edges) edges.now }
+    ensures { IfOk result (λ v. v.items ≡ ends_of graph.now.edges edges.now) }
+{
+    let mut ends = Vec::new(alloc);
+    for edge in edges {
+        let (first, second) = graph.ends(*edge);
+        if ends.push(first).is_err() || ends.push(second).is_err() {
+            return Err(NoMemory);
+        }
+    }
+    Ok(ends)
+}
+
+/// The first of the vertices that is real.
+fn first_real(graph: &Graph, vertices: &[u32]) -> Option<u32>
+    requires { All (λ v. v < graph.now.vertices) vertices.now }
+    ensures { result ≡ find (λ v. not (is_in graph.now.virtuals v)) vertices.now }
+{
+    for vertex in vertices {
+        if !graph.is_virtual(*vertex) {
+            return Some(*vertex);
+        }
+    }
+    None
+}
+
+/// The first of the vertices that is virtual.
+pub(crate) fn first_virtual(graph: &Graph, vertices: &[u32]) -> Option<u32>
+    requires { All (λ v. v < graph.now.vertices) vertices.now }
+    ensures { result ≡ find (is_in graph.now.virtuals) vertices.now }
+{
+    for vertex in vertices {
+        if graph.is_virtual(*vertex) {
+            return Some(*vertex);
+        }
+    }
+    None
+}
+
+/// Whether an odd number of the vertices are defects.
+pub(crate) fn has_odd_defects(shot: &Shot, vertices: &[u32]) -> bool
+    ensures { result ≡ is_odd_count (is_in shot.now) vertices.now }
+{
+    let mut odd = false;
+    for vertex in vertices {
+        odd = odd != is_defect(shot, *vertex);
+    }
+    odd
+}
+
+/// Whether a vertex is a defect.
+fn is_defect(shot: &Shot, vertex: u32) -> bool
+    ensures { result ≡ is_in shot.now vertex }
+{
+    shot.as_slice().binary_search(&vertex).is_ok()
+}

@@ -1,0 +1,6 @@
+/// What one cut adds to the load of one edge.
+#[derive(Clone, Copy, Debug, PartialEq, Eq)]
+pub(crate) struct Share {
+    pub edge: u32,
+    pub value: u64,
+}

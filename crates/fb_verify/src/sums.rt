@@ -1,0 +1,30 @@
+//! Sums of weights and of values.
+
+ghost use Rattle.std.specs.Prelude.{◌≡◌, ◌<◌, All, length, sum_by};
+ghost use Rattle.fb_graph.specs.Problem.{edge_at};
+ghost use Rattle.fb_graph.specs.Certificate.{total_value};
+
+use fb_graph::{Cut, Graph};
+
+/// The sum of the edges' weights.
+pub(crate) fn sum_of_weights(graph: &Graph, edges: &[u32]) -> u128
+    requires { All (λ k. k < length graph.now.edges) edges.now }
+    ensures { result ≡ sum_by (λ k. (edge_at graph.now.edges k).weight) edges.now }
+{
+    let mut total: u128 = 0;
+    for edge in edges {
+        total += u128::from(graph.weight(*edge));
+    }
+    total
+}
+
+/// The sum of the cuts' values.
+pub(crate) fn sum_of_values(cuts: &[Cut]) -> u128
+    ensures { result ≡ total_value cuts.now }
+{
+    let mut total: u128 = 0;
+    for cut in cuts {
+        total += u128::from(cut.value);
+    }
+    total
+}
