@@ -1,1 +1,6 @@
 pub mod Readings
+pub mod LineLemmas
+pub mod RecordLemmas
+pub mod Defects
+pub mod TextLemmas
+pub mod PlaceLemmas

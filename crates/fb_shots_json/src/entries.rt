@@ -1,6 +1,6 @@
 //! The entries of `defect_vertices`.
 
-ghost use Rattle.std.specs.Prelude.{◌≡◌, ℕ, ◌≤◌, [], IfOk, IfErr, OnOk, Ok, Err, All, option_map};
+ghost use Rattle.std.specs.Prelude.{◌≡◌, ◌<◌, ◌^◌, ◌↔◌, [], IsTrue, None, IfOk, IfErr, OnOk, Ok, Err, option_map};
 ghost use Rattle.std.specs.List.Sorted.{IsStrictlyIncreasing};
 ghost use Rattle.serde_json.specs.View.{view, items_view};
 ghost use Rattle.fb_shots_json.specs.TextJson.{naturals_of, vertex_fault, defects_from, rising};
@@ -33,7 +33,8 @@ pub fn naturals(alloc: Global, values: &[Value]) -> Result<Option<Vec<u64>>, NoM
 
 /// Why a number is no real vertex of the graph.
 fn vertex_fault(graph: &Graph, entry: u64) -> Option<Kind>
-    ensures { result ≡ vertex_fault graph.now entry }
+    ensures fault { result ≡ vertex_fault graph.now entry }
+    ensures fits { result ≡ None → entry < 2 ^ 32 }
 {
     if entry >= u64::from(graph.vertices()) {
         Some(Kind::DefectOutOfRange)

@@ -3,7 +3,7 @@
 ghost use Rattle.std.specs.Prelude.{◌≡◌, IfOk, IfErr, Ok, Err, option_map};
 ghost use Rattle.serde_json.specs.View.{view};
 ghost use Rattle.fb_shots_json.specs.Lines.{without_return};
-ghost use Rattle.fb_shots_json.specs.TextJson.{is_plain, says_nothing, shot_in, shot_of_line};
+ghost use Rattle.fb_shots_json.specs.TextJson.{is_plain, is_too_long, says_nothing, shot_in, shot_of_line};
 ghost use Rattle.fb_shots_json.specs.Stops.{IfRefused};
 
 use crate::answer::{Kind, Vertices};
@@ -23,7 +23,7 @@ pub enum Stop {
 
 /// Whether a member isn't there, or says nothing.
 fn says_nothing(member: Option<&Value>) -> bool
-    ensures { result ≡ says_nothing (option_map (λ v. view v.now) member) }
+    ensures { result ≡ says_nothing (option_map (λ v. view v.now) member.entry) }
 {
     match member {
         None | Some(Value::Null) => true,
