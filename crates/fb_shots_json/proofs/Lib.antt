@@ -4,3 +4,5 @@ pub mod RecordLemmas
 pub mod Defects
 pub mod TextLemmas
 pub mod PlaceLemmas
+pub mod Members
+pub mod FirstRecords

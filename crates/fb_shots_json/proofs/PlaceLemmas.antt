@@ -76,17 +76,21 @@ place_fed g bytes more line seen blank p =
       tells = p.tells ∙ ap is_blank (sym kept);
     }
 
-pub place_seen : (g : DecodingGraph) (bytes : List ℕ) (line seen on : ℕ) (blank still : Bool) → IsPlace g bytes line seen blank → seen ≤ on → on ≤ length bytes → has_newline (part_of bytes seen on) ≡ false
-    → still ≡ (blank && is_blank (part_of bytes seen on)) → IsPlace g bytes line on still
-place_seen g bytes line seen on blank still p le within h e =
+pub place_seen : (g : DecodingGraph) (bytes : List ℕ) (line same seen on : ℕ) (blank still : Bool) → IsPlace g bytes line seen blank → same ≡ line → seen ≤ on → on ≤ length bytes
+    → has_newline (part_of bytes seen on) ≡ false → still ≡ (blank && is_blank (part_of bytes seen on)) → IsPlace g bytes same on still
+place_seen g bytes line same seen on blank still p here le within h e =
     let order = p.order in
     let two = part_two bytes line seen on order le in
-    record {
+    subst (λ (start : ℕ). IsPlace g bytes start on still) (sym here)
+    (record {
       order = omega arith;
       within = within;
       parts = subst (λ (l : List ℕ). IsAt g (take line bytes) l) (sym two) (text.at_more g (take line bytes) (part_of bytes line seen) (part_of bytes seen on) p.parts h);
       tells = e ∙ ap (λ (b : Bool). b && is_blank (part_of bytes seen on)) p.tells ∙ sym (list_all-append is_blank_byte (part_of bytes line seen) (part_of bytes seen on)) ∙ ap is_blank (sym two);
-    }
+    })
+
+pub place_known : (g : DecodingGraph) (bytes : List ℕ) (line seen : ℕ) (blank known : Bool) → IsPlace g bytes line seen blank → blank ≡ known → IsPlace g bytes line seen known
+place_known g bytes line seen blank known p e = subst (λ (b : Bool). IsPlace g bytes line seen b) e p
 
 -- the bytes, by the place
 place_cut : (g : DecodingGraph) (bytes : List ℕ) (line seen : ℕ) (blank : Bool) → IsPlace g bytes line seen blank → bytes ≡ take line bytes ++ (part_of bytes line seen ++ drop seen bytes)

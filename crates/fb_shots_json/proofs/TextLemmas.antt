@@ -24,10 +24,10 @@ Given = Result (Option (List ℕ)) Kind
 
 -- ---- one line
 
-blank_line : (g : DecodingGraph) (line : List ℕ) → is_blank line ≡ true → line_json g line ≡ Ok None
+pub blank_line : (g : DecodingGraph) (line : List ℕ) → is_blank line ≡ true → line_json g line ≡ Ok None
 blank_line g line blank = ap (λ (b : Bool). if b then Ok None else as_shot (shot_of_line g line)) blank
 
-some_line : (g : DecodingGraph) (line : List ℕ) → is_blank line ≡ false → line_json g line ≡ as_shot (shot_of_line g line)
+pub some_line : (g : DecodingGraph) (line : List ℕ) → is_blank line ≡ false → line_json g line ≡ as_shot (shot_of_line g line)
 some_line g line some = ap (λ (b : Bool). if b then Ok None else as_shot (shot_of_line g line)) some
 
 long_line : (g : DecodingGraph) (line : List ℕ) → is_blank line ≡ false → is_too_long line ≡ true → line_json g line ≡ Err LineTooLong

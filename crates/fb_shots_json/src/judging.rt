@@ -1,6 +1,6 @@
 //! The shot that a line says.
 
-ghost use Rattle.std.specs.Prelude.{◌≡◌, IfOk, IfErr, Ok, Err, option_map};
+ghost use Rattle.std.specs.Prelude.{◌≡◌, IfOk, IfErr, Ok, Err, Some, option_map};
 ghost use Rattle.serde_json.specs.View.{view};
 ghost use Rattle.fb_shots_json.specs.Lines.{without_return};
 ghost use Rattle.fb_shots_json.specs.TextJson.{is_plain, is_too_long, says_nothing, shot_in, shot_of_line};
@@ -21,14 +21,24 @@ pub enum Stop {
     Refused(Kind),
 }
 
+/// Whether a value says nothing: null or an empty list.
+fn is_void(value: &Value) -> bool
+    ensures { result ≡ says_nothing (Some (view value.now)) }
+{
+    match value {
+        Value::Null => true,
+        Value::Array(entries) => entries.is_empty(),
+        _ => false,
+    }
+}
+
 /// Whether a member isn't there, or says nothing.
 fn says_nothing(member: Option<&Value>) -> bool
     ensures { result ≡ says_nothing (option_map (λ v. view v.now) member.entry) }
 {
     match member {
-        None | Some(Value::Null) => true,
-        Some(Value::Array(entries)) => entries.is_empty(),
-        Some(_) => false,
+        Some(value) => is_void(value),
+        None => true,
     }
 }
 
