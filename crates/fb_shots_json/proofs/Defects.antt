@@ -1,16 +1,16 @@
 -- The entries of a shot as defects: real vertices up to the first entry that is none, none of them twice.
-use Rattle.std.specs.Prelude.{nat_le, ◌==◌, All, count_by, if◌then◌else◌}
+use Rattle.std.specs.Prelude.{nat_le, nat_lt, ◌==◌, ◌&&◌, not, All, count_by, if◌then◌else◌}
 use Rattle.std.proofs.Common.{◌≡◌, ℕ, ◌+◌, ◌<◌, ◌≤◌, Bool, true, false, ◌||◌, eqb, List, [], ◌∷◌, ◌++◌, Some, None, Ok, Err, refl, sym, ap, subst, ◌∙◌, inl, inr, append_assoc, append-nil, arith}
 use Rattle.std.specs.Ordering.{nat_cmp}
 use Rattle.std.specs.List.{filter, range_with_len}
 use Rattle.std.specs.List.Sorted.{IsPermutation, IsSorted, IsStrictlyIncreasing}
-use Rattle.std.proofs.lemmas.Bool.{cases_Bool, cases_eq, cases_lt, eq-eqb, ne_eqb, leb-false}
+use Rattle.std.proofs.lemmas.Bool.{cases_Bool, cases_eq, cases_lt, eq-eqb, ne_eqb, leb-false, lt-ltb}
 use Rattle.std.proofs.lemmas.List.Elements.{All-cons}
 use Rattle.std.proofs.lemmas.List.Folds.{list_any-append}
 use Rattle.std.proofs.lemmas.List.Sums.{sum_by-cons}
 use Rattle.std.proofs.lemmas.List.Sorted.{All-permutation, sum_by-IsPermutation, list_any-IsPermutation}
 use Rattle.fb_graph.specs.Certificate.{AreDistinct}
-use Rattle.fb_graph.specs.Limits.{DecodingGraph}
+use Rattle.fb_graph.specs.Limits.{DecodingGraph, IsShot, is_real_in}
 use Rattle.fb_graph.specs.Parity.{is_in}
 use Rattle.fb_graph.proofs.Ranges.{filter-range_below, filter-range_rises, is_in-filter-range, not_in_below}
 use Rattle.fb_graph.proofs.Sets.{one_if, count_equal-le, distinct_from_rising, is_in-cases, is_in-head, is_in-tail, rising-tail, rising_above}
@@ -135,6 +135,19 @@ front_below g (v ∷ vs) = elim (cases_Bool (nat_le g.vertices v)) [
   ]
 ]
 
+front_real : (g : DecodingGraph) (vs : List ℕ) → All (λ v. is_real_in g v ≡ true) (real_front g vs)
+front_real g [] = λ k d lt. absurd (omega arith)
+front_real g (v ∷ vs) = elim (cases_Bool (nat_le g.vertices v)) [
+  | inl out ↦ rw out (λ k d lt. absurd (omega arith))
+  | inr within ↦ elim (cases_Bool (is_in g.virtuals v)) [
+    | inl virtual ↦ rw (within, virtual) (λ k d lt. absurd (omega arith))
+    | inr real ↦
+        let below : nat_lt v g.vertices ≡ true = lt-ltb v g.vertices (leb-false g.vertices v within) in
+        let here : is_real_in g v ≡ true = ap (λ (b : Bool). nat_lt v g.vertices && not b) real ∙ ap (λ (b : Bool). b && true) below in
+        rw (within, real) (All-cons (λ u. is_real_in g u ≡ true) v (real_front g vs) here (front_real g vs))
+  ]
+]
+
 -- ---- the rising list
 
 -- strictly rising lists with the same members are the same
@@ -190,6 +203,12 @@ defects_good g vs sorted none permuted rises =
       without_repeats g [] vs (distinct_from_sorted (real_front g vs) sorted permuted rises) ∙ ap (λ o. unless o (Ok vs)) none,
       subst (λ (l : List ℕ). sorted ≡ rising g l) whole (sorted_rises g (real_front g vs) sorted (front_below g vs) permuted rises),
     )
+
+pub defects_shot : (g : DecodingGraph) (vs sorted : List ℕ) → IsPermutation (real_front g vs) sorted → IsStrictlyIncreasing sorted → IsShot g sorted
+defects_shot g vs sorted permuted rises = record {
+  rising = rises;
+  real = All-permutation (λ v. is_real_in g v ≡ true) (real_front g vs) sorted permuted (front_real g vs);
+}
 
 pub defects_bad : (g : DecodingGraph) (vs sorted : List ℕ) (kind : Kind) → first_fault g vs ≡ Some kind → IsPermutation (real_front g vs) sorted → IsStrictlyIncreasing sorted
     → defects_from g [] vs ≡ Err kind

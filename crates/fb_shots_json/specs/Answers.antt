@@ -38,6 +38,13 @@ Answers old new NotYet = (old.finished ≡ false) × (front_json old.graph old.r
 Answers old new End = (old.finished ≡ true) × (records_json old.graph old.rest ≡ only at_end) × (new ≡ old)
 Answers old new (Refused kind) = Refuses (records_json old.graph) (front_json old.graph) old kind × (new ≡ old)
 
+-- the fact of the shot, where an answer is one
+abbrev pub IfShot : (List ℕ → Type 0) → Next → Type 0
+IfShot P (Shot shot) = P shot
+IfShot P NotYet = Unit {0}
+IfShot P End = Unit {0}
+IfShot P (Refused kind) = Unit {0}
+
 -- Wherever some bytes are cut in two, what is settled by the first part stands before all that they hold.
 abbrev pub GoesOnAnywhere : Type 0
 GoesOnAnywhere =

@@ -2,6 +2,7 @@
 
 ghost use Rattle.std.specs.Prelude.{◌≡◌, ◌<◌, ◌^◌, ◌↔◌, [], IsTrue, None, IfOk, IfErr, OnOk, Ok, Err, option_map};
 ghost use Rattle.std.specs.List.Sorted.{IsStrictlyIncreasing};
+ghost use Rattle.fb_graph.specs.Limits.{IsShot};
 ghost use Rattle.serde_json.specs.View.{view, items_view};
 ghost use Rattle.fb_shots_json.specs.TextJson.{naturals_of, vertex_fault, defects_from, rising};
 ghost use Rattle.fb_shots_json.specs.Entries.{real_front, first_fault};
@@ -79,6 +80,7 @@ fn is_rising(numbers: &[u32]) -> bool
 pub fn defects(alloc: Global, graph: &Graph, listed: &[u64]) -> Result<Vec<u32>, Stop>
     ensures ok { OnOk result (defects_from graph.now [] listed.now ≡ Ok listed.now) }
     ensures rising { IfOk result (λ v. v.items ≡ rising graph.now listed.now) }
+    ensures shot { IfOk result (λ v. IsShot graph.now v.items) }
     ensures refused { IfErr result (IfRefused (λ kind. defects_from graph.now [] listed.now ≡ Err kind)) }
 {
     let Ok((mut found, fault)) = real_front(alloc, graph, listed) else {

@@ -1,6 +1,7 @@
 //! The shot that a line says.
 
 ghost use Rattle.std.specs.Prelude.{◌≡◌, IfOk, IfErr, Ok, Err, Some, option_map};
+ghost use Rattle.fb_graph.specs.Limits.{IsShot};
 ghost use Rattle.serde_json.specs.View.{view};
 ghost use Rattle.fb_shots_json.specs.Lines.{without_return};
 ghost use Rattle.fb_shots_json.specs.TextJson.{is_plain, is_too_long, says_nothing, shot_in, shot_of_line};
@@ -52,6 +53,7 @@ fn is_plain(value: &Value) -> bool
 /// The shot that a value says.
 fn shot_in(alloc: Global, graph: &Graph, value: &Value) -> Result<Vertices, Stop>
     ensures ok { IfOk result (λ shot. shot_in graph.now (view value.now) ≡ Ok shot) }
+    ensures shot { IfOk result (IsShot graph.now) }
     ensures refused { IfErr result (IfRefused (λ kind. shot_in graph.now (view value.now) ≡ Err kind)) }
 {
     let Some(member) = value.get("defect_vertices") else {
@@ -83,6 +85,7 @@ pub fn is_too_long(line: &[u8]) -> bool
 #[tactic(auto, using(crate::proofs::Readings::readings))]
 pub fn shot_of_line(alloc: Global, graph: &Graph, line: &[u8]) -> Result<Vertices, Stop>
     ensures ok { IfOk result (λ shot. shot_of_line graph.now line.now ≡ Ok shot) }
+    ensures shot { IfOk result (IsShot graph.now) }
     ensures refused { IfErr result (IfRefused (λ kind. shot_of_line graph.now line.now ≡ Err kind)) }
 {
     if is_too_long(line) {

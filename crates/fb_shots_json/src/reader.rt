@@ -4,7 +4,8 @@ ghost use Rattle.std.specs.Prelude.{◌≡◌, ℕ, ◌+◌, ◌-◌, ◌<◌, �
 ghost use Rattle.fb_shots_json.specs.Records.{Reader};
 ghost use Rattle.fb_shots_json.specs.Lines.{has_newline};
 ghost use Rattle.fb_shots_json.specs.TextJson.{is_blank, reading_json};
-ghost use Rattle.fb_shots_json.specs.Answers.{answer_of, Answers};
+ghost use Rattle.fb_shots_json.specs.Answers.{answer_of, Answers, IfShot};
+ghost use Rattle.fb_graph.specs.Limits.{IsShot};
 ghost use Rattle.fb_shots_json.specs.Places.{IsPlace, part_of};
 ghost use Rattle.fb_shots_json.specs.Stops.{IfRefused, AnswersTo, used_of, answer_at};
 ghost use Rattle.fb_shots_json.specs.declared.answer.Next.TheVariants as next;
@@ -84,6 +85,9 @@ impl<'a> RecordsJson<'a> {
     pub fn next(&mut self) -> Result<Next, NoMemory>
         ensures answer { IfOk result (λ a. a ≡ answer_of (reading_json self.old)) }
         ensures meaning { IfOk result (Answers self.old self.new) }
+        ensures graph { self.new.graph ≡ self.old.graph }
+        ensures finished { self.new.finished ≡ self.old.finished }
+        ensures shot { IfOk result (IfShot (IsShot self.old.graph)) }
         ensures err { OnErr result (self.new ≡ self.old) }
     {
         let rest = self.pending.as_slice();
@@ -126,6 +130,7 @@ fn advance(
     ensures ok { IfOk result (λ step. AnswersTo graph.now rest.now finished (drop (used_of step) rest.now) (answer_at step)
         × IsPlace graph.now (drop (used_of step) rest.now) place.new.line place.new.seen place.new.is_blank) }
     ensures used { IfOk result (λ step. used_of step ≤ length rest.now) }
+    ensures shot { IfOk result (λ step. IfShot (IsShot graph.now) (answer_at step)) }
     ensures refused { IfErr result (IfRefused (λ kind. AnswersTo graph.now rest.now finished rest.now (next.Refused kind))) }
     ensures err { OnErr result (IsPlace graph.now rest.now place.new.line place.new.seen place.new.is_blank) }
 {

@@ -1,6 +1,6 @@
 use Rattle.std.proofs.Common.{ℕ, List, ◌∙◌, sym, subst}
 use Rattle.std.specs.List.Sorted.{IsPermutation}
-use Rattle.fb_shots_json.proofs.Defects.{defects_good, defects_bad, defects_repeat}
+use Rattle.fb_shots_json.proofs.Defects.{defects_good, defects_bad, defects_repeat, defects_shot}
 use Rattle.fb_shots_json.proofs.entries.defects.Goals as goal
 
 pub returns-then-not-is_rising-clause-refused : goal.returns-then-not-is_rising-clause-refused
@@ -30,3 +30,10 @@ returns-in-None-clause-rising c =
     (defects_good c.args.graph.now c.args.listed.now c.sort_unstable.new.self.items (sym c.in-Ok.ensures.fault ∙ c.in-None.is)
     (subst (λ (l : List ℕ). IsPermutation l c.sort_unstable.new.self.items) c.in-Ok.ensures.front c.sort_unstable.ensures.permutation)
     (rw c.deref.ensures.value at rises)).1
+
+pub returns-in-None-clause-shot : goal.returns-in-None-clause-shot
+returns-in-None-clause-shot c =
+    let rises = c.is_rising.ensures.0 c.if-not-is_rising.false in
+    defects_shot c.args.graph.now c.args.listed.now c.sort_unstable.new.self.items
+    (subst (λ (l : List ℕ). IsPermutation l c.sort_unstable.new.self.items) c.in-Ok.ensures.front c.sort_unstable.ensures.permutation)
+    (rw c.deref.ensures.value at rises)
