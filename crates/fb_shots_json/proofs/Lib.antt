@@ -1,0 +1,8 @@
+pub mod Readings
+pub mod LineLemmas
+pub mod RecordLemmas
+pub mod Defects
+pub mod TextLemmas
+pub mod PlaceLemmas
+pub mod Members
+pub mod FirstRecords

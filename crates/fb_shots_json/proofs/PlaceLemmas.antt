@@ -1,0 +1,177 @@
+-- Parts of some bytes between places, and a reader of JSON lines at a place.
+use Rattle.std.proofs.Common.{◌≡◌, ℕ, zero, suc, ◌+◌, ◌-◌, ◌<◌, ◌≤◌, Bool, true, false, ◌&&◌, List, [], ◌∷◌, ◌++◌, length, get_or, take, drop, Ok, Err, refl, sym, ap, subst, ◌∙◌, append_assoc, inl, inr, arith}
+use Rattle.std.proofs.lemmas.Bool.{cases_lt, ne_eqb}
+use Rattle.std.proofs.lemmas.List.{append-nil, length-drop, length-append, take-append-drop, take-append-le, drop-append-le, drop_all, drop-drop, drop_more}
+use Rattle.std.proofs.lemmas.List.Folds.{list_all-append}
+use Rattle.fb_graph.specs.Limits.{DecodingGraph}
+use Rattle.fb_shots_json.specs.declared.answer.Kind.{Kind}
+use Rattle.fb_shots_json.specs.declared.answer.Kind.TheVariants.{LineTooLong}
+use Rattle.fb_shots_json.specs.declared.answer.Next.TheVariants.{Shot, NotYet, End, Refused}
+use Rattle.fb_shots_json.specs.declared.judging.Stop.{Stop}
+use Rattle.fb_shots_json.specs.declared.judging.Stop.TheVariants as stops
+use Rattle.fb_shots_json.specs.Lines.{has_newline}
+use Rattle.fb_shots_json.specs.TextJson.{is_blank, is_blank_byte, is_too_long, shot_of_line}
+use Rattle.fb_shots_json.specs.Places.{IsAt, IsPlace, part_of}
+use Rattle.fb_shots_json.specs.Stops.{AnswersTo, IfRefused}
+use Rattle.fb_shots_json.proofs.LineLemmas.{holds_none}
+use Rattle.fb_shots_json.proofs.TextLemmas as text
+
+-- ---- parts
+
+take_two : (m n : ℕ) (xs : List ℕ) → take (m + n) xs ≡ take m xs ++ take n (drop m xs)
+take_two zero n xs = ap (λ (k : ℕ). take k xs) (let e : 0 + n ≡ n = omega arith in e)
+take_two (suc m) n [] = ap (λ (k : ℕ). take k []) (let e : suc m + n ≡ suc (m + n) = omega arith in e) ∙ sym (nothing n) where
+  nothing : (n : ℕ) → take {A = ℕ} n [] ≡ []
+  nothing zero = refl
+  nothing (suc n) = refl
+take_two (suc m) n (x ∷ xs) = ap (λ (k : ℕ). take k (x ∷ xs)) (let e : suc m + n ≡ suc (m + n) = omega arith in e) ∙ ap (λ (l : List ℕ). x ∷ l) (take_two m n xs)
+
+pub part_none : (xs : List ℕ) (a : ℕ) → part_of xs a a ≡ []
+part_none xs a = ap (λ (k : ℕ). take k (drop a xs)) (let e : a - a ≡ 0 = omega arith in e)
+
+part_two : (xs : List ℕ) (a b c : ℕ) → a ≤ b → b ≤ c → part_of xs a c ≡ part_of xs a b ++ part_of xs b c
+part_two xs a b c ab bc =
+    ap (λ (k : ℕ). take k (drop a xs)) (let e : c - a ≡ (b - a) + (c - b) = omega arith in e)
+    ∙ take_two (b - a) (c - b) (drop a xs)
+    ∙ ap (λ (l : List ℕ). part_of xs a b ++ take (c - b) l) (drop-drop (b - a) a xs ∙ ap (λ (k : ℕ). drop k xs) (let e : a + (b - a) ≡ b = omega arith in e))
+
+take_part : (xs : List ℕ) (a b : ℕ) → a ≤ b → take b xs ≡ take a xs ++ part_of xs a b
+take_part xs a b ab = ap (λ (k : ℕ). take k xs) (let e : b ≡ a + (b - a) = omega arith in e) ∙ take_two a (b - a) xs
+
+part_one : (xs : List ℕ) (i : ℕ) → i < length xs → part_of xs i (i + 1) ≡ get_or xs i 0 ∷ []
+part_one xs i lt =
+    ap (λ (k : ℕ). take k (drop i xs)) (let e : i + 1 - i ≡ 1 = omega arith in e) ∙ ap (take 1) (drop_more xs i 0 lt)
+
+-- one more byte
+part_more : (xs : List ℕ) (a i : ℕ) → a ≤ i → i < length xs → part_of xs a (i + 1) ≡ part_of xs a i ++ get_or xs i 0 ∷ []
+part_more xs a i le lt = part_two xs a i (i + 1) le (omega arith) ∙ ap (λ (l : List ℕ). part_of xs a i ++ l) (part_one xs i lt)
+
+-- more bytes behind change no part
+part_kept : (xs more : List ℕ) (a b : ℕ) → b ≤ length xs → part_of (xs ++ more) a b ≡ part_of xs a b
+part_kept xs more a b le = elim (cases_lt a b) [
+  | inl lt ↦ ap (take (b - a)) (drop-append-le a xs more (omega arith)) ∙ take-append-le (b - a) (drop a xs) more (omega (arith, length-drop a xs))
+  | inr ge ↦ let none : b - a ≡ 0 = omega arith in ap (λ (k : ℕ). take k (drop a (xs ++ more))) none ∙ sym (ap (λ (k : ℕ). take k (drop a xs)) none)
+]
+
+-- a part whose next byte is no newline
+pub newline_none_more : (xs : List ℕ) (a i : ℕ) → a ≤ i → i < length xs → (get_or xs i 0 ≡ 10 → ⊥) → has_newline (part_of xs a i) ≡ false → has_newline (part_of xs a (i + 1)) ≡ false
+newline_none_more xs a i le lt other h =
+    ap has_newline (part_more xs a i le lt) ∙ holds_none (part_of xs a i) (get_or xs i 0 ∷ []) h (rw (ne_eqb (get_or xs i 0) 10 other) refl)
+
+-- ---- places
+
+pub place_start : (g : DecodingGraph) (bytes : List ℕ) → IsPlace g bytes 0 0 true
+place_start g bytes = record { order = omega arith; within = omega arith; parts = text.at_start g; tells = refl }
+
+pub place_fed : (g : DecodingGraph) (bytes more : List ℕ) (line seen : ℕ) (blank : Bool) → IsPlace g bytes line seen blank → IsPlace g (bytes ++ more) line seen blank
+place_fed g bytes more line seen blank p =
+    let order = p.order in
+    let within = p.within in
+    let kept = part_kept bytes more line seen within in
+    record {
+      order = order;
+      within = omega (arith, length-append bytes more);
+      parts = subst (λ (l : List ℕ). IsAt g (take line (bytes ++ more)) l) (sym kept)
+          (subst (λ (l : List ℕ). IsAt g l (part_of bytes line seen)) (sym (take-append-le line bytes more (omega arith))) p.parts);
+      tells = p.tells ∙ ap is_blank (sym kept);
+    }
+
+pub place_seen : (g : DecodingGraph) (bytes : List ℕ) (line same seen on : ℕ) (blank still : Bool) → IsPlace g bytes line seen blank → same ≡ line → seen ≤ on → on ≤ length bytes
+    → has_newline (part_of bytes seen on) ≡ false → still ≡ (blank && is_blank (part_of bytes seen on)) → IsPlace g bytes same on still
+place_seen g bytes line same seen on blank still p here le within h e =
+    let order = p.order in
+    let two = part_two bytes line seen on order le in
+    subst (λ (start : ℕ). IsPlace g bytes start on still) (sym here)
+    (record {
+      order = omega arith;
+      within = within;
+      parts = subst (λ (l : List ℕ). IsAt g (take line bytes) l) (sym two) (text.at_more g (take line bytes) (part_of bytes line seen) (part_of bytes seen on) p.parts h);
+      tells = e ∙ ap (λ (b : Bool). b && is_blank (part_of bytes seen on)) p.tells ∙ sym (list_all-append is_blank_byte (part_of bytes line seen) (part_of bytes seen on)) ∙ ap is_blank (sym two);
+    })
+
+pub place_known : (g : DecodingGraph) (bytes : List ℕ) (line seen : ℕ) (blank known : Bool) → IsPlace g bytes line seen blank → blank ≡ known → IsPlace g bytes line seen known
+place_known g bytes line seen blank known p e = subst (λ (b : Bool). IsPlace g bytes line seen b) e p
+
+-- the bytes, by the place
+place_cut : (g : DecodingGraph) (bytes : List ℕ) (line seen : ℕ) (blank : Bool) → IsPlace g bytes line seen blank → bytes ≡ take line bytes ++ (part_of bytes line seen ++ drop seen bytes)
+place_cut g bytes line seen blank p =
+    sym (take-append-drop seen bytes)
+    ∙ ap (λ (l : List ℕ). l ++ drop seen bytes) (take_part bytes line seen p.order)
+    ∙ append_assoc (take line bytes) (part_of bytes line seen) (drop seen bytes)
+
+newline_cut : (g : DecodingGraph) (bytes : List ℕ) (line seen : ℕ) (blank : Bool) → IsPlace g bytes line seen blank → seen < length bytes → get_or bytes seen 0 ≡ 10
+    → bytes ≡ take line bytes ++ (part_of bytes line seen ++ 10 ∷ drop (seen + 1) bytes)
+newline_cut g bytes line seen blank p lt newline =
+    let tail : drop seen bytes ≡ 10 ∷ drop (seen + 1) bytes = drop_more bytes seen 0 lt ∙ ap (λ (b : ℕ). b ∷ drop (seen + 1) bytes) newline in
+    place_cut g bytes line seen blank p ∙ ap (λ (l : List ℕ). take line bytes ++ (part_of bytes line seen ++ l)) tail
+
+end_cut : (g : DecodingGraph) (bytes : List ℕ) (line seen : ℕ) (blank : Bool) → IsPlace g bytes line seen blank → seen ≡ length bytes → bytes ≡ take line bytes ++ part_of bytes line seen
+end_cut g bytes line seen blank p all =
+    place_cut g bytes line seen blank p
+    ∙ ap (λ (l : List ℕ). take line bytes ++ (part_of bytes line seen ++ l)) (drop_all seen bytes (omega arith))
+    ∙ ap (λ (l : List ℕ). take line bytes ++ l) (append-nil (part_of bytes line seen))
+
+-- ---- a newline
+
+pub place_newline : (g : DecodingGraph) (bytes : List ℕ) (line seen : ℕ) → IsPlace g bytes line seen true → seen < length bytes → get_or bytes seen 0 ≡ 10
+    → IsPlace g bytes (seen + 1) (seen + 1) true
+place_newline g bytes line seen p lt newline =
+    let order = p.order in
+    let longer : take (seen + 1) bytes ≡ take line bytes ++ part_of bytes line seen ++ 10 ∷ [] =
+    take_part bytes line (seen + 1) (omega arith)
+    ∙ ap (λ (l : List ℕ). take line bytes ++ l) (part_more bytes line seen order lt ∙ ap (λ (b : ℕ). part_of bytes line seen ++ b ∷ []) newline)
+    ∙ sym (append_assoc (take line bytes) (part_of bytes line seen) (10 ∷ [])) in
+    record {
+      order = omega arith;
+      within = omega arith;
+      parts = subst (λ (l : List ℕ). IsAt g (take (seen + 1) bytes) l) (sym (part_none bytes (seen + 1)))
+          (subst (λ (l : List ℕ). IsAt g l []) (sym longer) (text.at_newline g (take line bytes) (part_of bytes line seen) p.parts (sym p.tells)));
+      tells = sym (ap is_blank (part_none bytes (seen + 1)));
+    }
+
+-- ---- answers
+
+pub place_shot : (g : DecodingGraph) (bytes : List ℕ) (line seen : ℕ) (finished : Bool) (shot : List ℕ) → IsPlace g bytes line seen false → seen < length bytes → get_or bytes seen 0 ≡ 10
+    → shot_of_line g (part_of bytes line seen) ≡ Ok shot → AnswersTo g bytes finished (drop (seen + 1) bytes) (Shot shot)
+place_shot g bytes line seen finished shot p lt newline e =
+    text.newline_shot g (take line bytes) (part_of bytes line seen) (drop (seen + 1) bytes) shot bytes finished p.parts (sym p.tells) e (newline_cut g bytes line seen false p lt newline)
+
+pub place_last_shot : (g : DecodingGraph) (bytes : List ℕ) (line seen : ℕ) (finished : Bool) (shot : List ℕ) → IsPlace g bytes line seen false → seen ≡ length bytes → finished ≡ true
+    → shot_of_line g (part_of bytes line seen) ≡ Ok shot → AnswersTo g bytes finished (drop seen bytes) (Shot shot)
+place_last_shot g bytes line seen finished shot p all done e =
+    subst (λ (l : List ℕ). AnswersTo g bytes finished l (Shot shot)) (sym (drop_all seen bytes (omega arith)))
+    (text.end_shot g (take line bytes) (part_of bytes line seen) shot bytes finished p.parts done (sym p.tells) e (end_cut g bytes line seen false p all))
+
+pub place_refused : (g : DecodingGraph) (bytes : List ℕ) (line seen : ℕ) (finished : Bool) (kind : Kind) → IsPlace g bytes line seen false → (seen < length bytes → get_or bytes seen 0 ≡ 10) → (seen ≡ length bytes → finished ≡ true)
+    → shot_of_line g (part_of bytes line seen) ≡ Err kind → AnswersTo g bytes finished bytes (Refused kind)
+place_refused g bytes line seen finished kind p newline done e = elim (cases_lt seen (length bytes)) [
+  | inl lt ↦ text.newline_refused g (take line bytes) (part_of bytes line seen) (drop (seen + 1) bytes) kind bytes finished p.parts (sym p.tells) e (newline_cut g bytes line seen false p lt (newline lt))
+  | inr ge ↦
+      let within = p.within in
+      let all : seen ≡ length bytes = omega arith in
+      text.end_refused g (take line bytes) (part_of bytes line seen) kind bytes finished p.parts (done all) (sym p.tells) e (end_cut g bytes line seen false p all)
+]
+
+pub place_long : (g : DecodingGraph) (bytes : List ℕ) (line seen : ℕ) (finished : Bool) → IsPlace g bytes line seen false → seen ≡ length bytes → is_too_long (part_of bytes line seen) ≡ true
+    → AnswersTo g bytes finished bytes (Refused LineTooLong)
+place_long g bytes line seen finished p all long =
+    text.open_refused g (take line bytes) (part_of bytes line seen) bytes finished p.parts (sym p.tells) long (end_cut g bytes line seen false p all)
+
+pub place_open_blank : (g : DecodingGraph) (bytes : List ℕ) (line seen : ℕ) (finished : Bool) → IsPlace g bytes line seen true → seen ≡ length bytes → finished ≡ false → AnswersTo g bytes finished bytes NotYet
+place_open_blank g bytes line seen finished p all e =
+    text.open_blank g (take line bytes) (part_of bytes line seen) bytes finished p.parts e (sym p.tells) (end_cut g bytes line seen true p all)
+
+pub place_open_short : (g : DecodingGraph) (bytes : List ℕ) (line seen : ℕ) (blank finished : Bool) → IsPlace g bytes line seen blank → seen ≡ length bytes → finished ≡ false → is_too_long (part_of bytes line seen) ≡ false
+    → AnswersTo g bytes finished bytes NotYet
+place_open_short g bytes line seen blank finished p all e short =
+    text.open_short g (take line bytes) (part_of bytes line seen) bytes finished p.parts e short (end_cut g bytes line seen blank p all)
+
+pub place_end : (g : DecodingGraph) (bytes : List ℕ) (line seen : ℕ) (finished : Bool) → IsPlace g bytes line seen true → seen ≡ length bytes → finished ≡ true → AnswersTo g bytes finished bytes End
+place_end g bytes line seen finished p all done =
+    text.end_nothing g (take line bytes) (part_of bytes line seen) bytes finished p.parts done (sym p.tells) (end_cut g bytes line seen true p all)
+
+-- ---- refusals
+
+pub refused_then : (P Q : Kind → Type 0) (stop : Stop) → ((kind : Kind) → P kind → Q kind) → IfRefused P stop → IfRefused Q stop
+refused_then P Q stops.NoMemory h r = tt
+refused_then P Q (stops.Refused kind) h r = h kind r

@@ -1,0 +1,12 @@
+use Rattle.std.proofs.Common.{arith}
+use Rattle.fb_shots_json.proofs.PlaceLemmas.{newline_none_more}
+use Rattle.fb_shots_json.proofs.reader.line_end.Goals as goal
+
+pub loop-i-preserved : goal.loop-i-preserved
+loop-i-preserved c =
+    let at = c.loop-i.invariant in
+    record {
+      onward = omega arith;
+      within = omega arith;
+      in_line = newline_none_more c.args.bytes.now c.args.from c.loop-i.i at.onward (omega arith) c.if-bytes-i-ne10.true at.in_line;
+    }

@@ -1,0 +1,150 @@
+-- Shots as JSON values (RFC 8259), one to a line: the syndrome of Fusion Blossom (Wu and Zhong 2023), an object whose
+-- member `defect_vertices` lists the defects.
+use Rattle.std.specs.Prelude.{ℕ, zero, suc, ◌==◌, ◌^◌, nat_lt, nat_le, Bool, true, false, not, ◌&&◌, ◌||◌, if◌then◌else◌, List, [], ◌∷◌, ◌++◌, length, filter, codes, Option, Some, None, option_and_then, Result, Ok, Err}
+use Rattle.std.specs.List.{list_all, prefix_len, range_with_len}
+use Rattle.std.specs.Str.{is_utf8}
+use Rattle.serde_json.specs.Data.{Data, null, array, Items, no_items, item}
+use Rattle.serde_json.specs.Find.{get, as_array, as_number, as_u64}
+use Rattle.serde_json.specs.Read.{read}
+use Rattle.fb_graph.specs.Parity.{is_in}
+use Rattle.fb_graph.specs.Limits.{DecodingGraph}
+use Rattle.fb_shots_json.specs.declared.answer.Kind.{Kind}
+use Rattle.fb_shots_json.specs.declared.answer.Kind.TheVariants.{LineTooLong, NotJson, NoDefects, DefectOutOfRange, DefectOnVirtual, DefectRepeated, ErasureNotTaken}
+use Rattle.fb_shots_json.specs.Records.{Ending, still_open, refused, Records, Reader}
+use Rattle.fb_shots_json.specs.Lines.{lines_of, without_return, after_line, records_by_lines, front_by_lines}
+
+-- ---- a value
+
+-- the value that bytes are: None where they are no UTF-8 or no JSON
+abbrev pub value_of : List ℕ → Option Data
+value_of bytes = if is_utf8 bytes then read bytes else None
+
+-- a whole number of at least 0
+abbrev pub natural_of : Data → Option ℕ
+natural_of d = option_and_then as_u64 (as_number d)
+
+-- numbers before those that are there
+abbrev pub onto : List ℕ → Option (List ℕ) → Option (List ℕ)
+onto before None = None
+onto before (Some more) = Some (before ++ more)
+
+-- the entries of a list where all are whole numbers of at least 0
+abbrev pub naturals_of : Items → Option (List ℕ)
+naturals_of no_items = Some []
+naturals_of (item d ds) = option_and_then (λ v. onto (v ∷ []) (naturals_of ds)) (natural_of d)
+
+-- the entries of `defect_vertices`, where it is such a list
+abbrev pub listed_in : Data → Option (List ℕ)
+listed_in d = option_and_then naturals_of (option_and_then as_array (get (codes "defect_vertices") d))
+
+-- a member that isn't there, or says nothing: null or an empty list
+abbrev pub says_nothing : Option Data → Bool
+says_nothing None = true
+says_nothing (Some null) = true
+says_nothing (Some (array no_items)) = true
+says_nothing (Some d) = false
+
+-- neither erasures nor changed weights are there
+abbrev pub is_plain : Data → Bool
+is_plain d = says_nothing (get (codes "erasures") d) && says_nothing (get (codes "dynamic_weights") d)
+
+-- ---- a shot
+
+-- why a number is no real vertex of the graph
+abbrev pub vertex_fault : DecodingGraph → ℕ → Option Kind
+vertex_fault g v =
+    if nat_le g.vertices v then Some DefectOutOfRange else (if is_in g.virtuals v then Some DefectOnVirtual else None)
+
+-- why an entry is no defect, where those before it are `before`
+abbrev pub defect_fault : DecodingGraph → List ℕ → ℕ → Option Kind
+defect_fault g before v =
+    if nat_le g.vertices v then Some DefectOutOfRange
+    else (if is_in g.virtuals v then Some DefectOnVirtual
+    else (if is_in before v then Some DefectRepeated else None))
+
+-- what is refused, or else this
+abbrev pub unless : {A : Type 0} → Option Kind → Result A Kind → Result A Kind
+unless (Some kind) r = Err kind
+unless None r = r
+
+-- the entries as defects, or why the first entry that is none is refused, where those before them are `before`
+abbrev pub defects_from : DecodingGraph → List ℕ → List ℕ → Result (List ℕ) Kind
+defects_from g before [] = Ok before
+defects_from g before (v ∷ vs) = unless (defect_fault g before v) (defects_from g (before ++ v ∷ []) vs)
+
+-- the vertices of the graph that are listed, rising
+abbrev pub rising : DecodingGraph → List ℕ → List ℕ
+rising g listed = filter (is_in listed) (range_with_len 0 g.vertices)
+
+-- the next step on a value that is there, else this refusal
+abbrev pub with_option : {A B : Type 0} → Option A → Kind → (A → Result B Kind) → Result B Kind
+with_option None kind next = Err kind
+with_option (Some a) kind next = next a
+
+-- the next step on a value, or the refusal that stands in its place
+abbrev pub with_result : {A B : Type 0} → Result A Kind → (A → Result B Kind) → Result B Kind
+with_result (Err kind) next = Err kind
+with_result (Ok a) next = next a
+
+-- the shot that a value says
+abbrev pub shot_in : DecodingGraph → Data → Result (List ℕ) Kind
+shot_in g d =
+    with_option (listed_in d) NoDefects (λ listed.
+    with_result (defects_from g [] listed) (λ defects.
+    if is_plain d then Ok (rising g defects) else Err ErasureNotTaken))
+
+-- ---- a line
+
+-- the most bytes of a line that isn't blank, its carriage return counted
+abbrev pub most_bytes : ℕ
+most_bytes = 2 ^ 28
+
+-- a space, a tab or a carriage return
+abbrev pub is_blank_byte : ℕ → Bool
+is_blank_byte b = b == 32 || b == 9 || b == 13
+
+abbrev pub is_blank : List ℕ → Bool
+is_blank line = list_all is_blank_byte line
+
+abbrev pub is_too_long : List ℕ → Bool
+is_too_long line = nat_lt most_bytes (length line)
+
+abbrev pub as_shot : Result (List ℕ) Kind → Result (Option (List ℕ)) Kind
+as_shot (Ok shot) = Ok (Some shot)
+as_shot (Err kind) = Err kind
+
+-- the shot of a line that isn't blank
+abbrev pub shot_of_line : DecodingGraph → List ℕ → Result (List ℕ) Kind
+shot_of_line g line =
+    if is_too_long line then Err LineTooLong
+    else with_option (value_of (without_return line)) NotJson (shot_in g)
+
+-- A line, without its newline. A blank one is skipped, however long.
+abbrev pub line_json : DecodingGraph → List ℕ → Result (Option (List ℕ)) Kind
+line_json g line = if is_blank line then Ok None else as_shot (shot_of_line g line)
+
+-- A line that may go on is judged once it is too long and not blank.
+abbrev pub begun_json : List ℕ → Ending
+begun_json line = if is_blank line then still_open else (if is_too_long line then refused LineTooLong else still_open)
+
+-- what a whole input holds
+abbrev pub records_json : DecodingGraph → List ℕ → Records
+records_json g = records_by_lines (line_json g)
+
+-- what is settled by bytes that may go on
+abbrev pub front_json : DecodingGraph → List ℕ → Records
+front_json g = front_by_lines (line_json g) begun_json
+
+-- what is read of a reader's rest: bytes that are all, or that may go on
+abbrev pub reading_json : Reader → Records
+reading_json r = if r.finished then records_json r.graph r.rest else front_json r.graph r.rest
+
+-- ---- what an answer uses
+
+abbrev pub after_lines : ℕ → List ℕ → List ℕ
+after_lines zero bytes = bytes
+after_lines (suc count) bytes = after_lines count (after_line bytes)
+
+-- what stands after the first line that isn't blank
+abbrev pub after_record : List ℕ → List ℕ
+after_record bytes = after_lines (suc (prefix_len is_blank (lines_of bytes))) bytes

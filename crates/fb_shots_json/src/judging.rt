@@ -1,0 +1,114 @@
+//! The shot that a line says.
+
+ghost use Rattle.std.specs.Prelude.{◌≡◌, IfOk, IfErr, Ok, Err, Some, option_map};
+ghost use Rattle.fb_graph.specs.Limits.{IsShot};
+ghost use Rattle.serde_json.specs.View.{view};
+ghost use Rattle.fb_shots_json.specs.Lines.{without_return};
+ghost use Rattle.fb_shots_json.specs.TextJson.{is_plain, is_too_long, says_nothing, shot_in, shot_of_line};
+ghost use Rattle.fb_shots_json.specs.Stops.{IfRefused};
+
+use crate::answer::{Kind, Vertices};
+use crate::entries::{defects, naturals};
+use fb_graph::Graph;
+use serde_json::Value;
+use std::alloc::Global;
+
+const MOST_BYTES: usize = 1 << 28;
+
+/// Why a line gives no shot.
+#[derive(Drop)]
+pub enum Stop {
+    NoMemory,
+    Refused(Kind),
+}
+
+/// Whether a value says nothing: null or an empty list.
+fn is_void(value: &Value) -> bool
+    ensures { result ≡ says_nothing (Some (view value.now)) }
+{
+    match value {
+        Value::Null => true,
+        Value::Array(entries) => entries.is_empty(),
+        _ => false,
+    }
+}
+
+/// Whether a member isn't there, or says nothing.
+fn says_nothing(member: Option<&Value>) -> bool
+    ensures { result ≡ says_nothing (option_map (λ v. view v.now) member.entry) }
+{
+    match member {
+        Some(value) => is_void(value),
+        None => true,
+    }
+}
+
+/// Whether neither erasures nor changed weights are there.
+fn is_plain(value: &Value) -> bool
+    ensures { result ≡ is_plain (view value.now) }
+{
+    says_nothing(value.get("erasures")) && says_nothing(value.get("dynamic_weights"))
+}
+
+/// The shot that a value says.
+fn shot_in(alloc: Global, graph: &Graph, value: &Value) -> Result<Vertices, Stop>
+    ensures ok { IfOk result (λ shot. shot_in graph.now (view value.now) ≡ Ok shot) }
+    ensures shot { IfOk result (IsShot graph.now) }
+    ensures refused { IfErr result (IfRefused (λ kind. shot_in graph.now (view value.now) ≡ Err kind)) }
+{
+    let Some(member) = value.get("defect_vertices") else {
+        return Err(Stop::Refused(Kind::NoDefects));
+    };
+    let Some(entries) = member.as_array() else {
+        return Err(Stop::Refused(Kind::NoDefects));
+    };
+    let listed = match naturals(alloc, entries) {
+        Ok(Some(listed)) => listed,
+        Ok(None) => return Err(Stop::Refused(Kind::NoDefects)),
+        Err(_) => return Err(Stop::NoMemory),
+    };
+    match defects(alloc, graph, &listed) {
+        Ok(found) if is_plain(value) => Ok(Vertices::from_vec(found)),
+        Ok(_) => Err(Stop::Refused(Kind::ErasureNotTaken)),
+        Err(stop) => Err(stop),
+    }
+}
+
+/// Whether a line has more bytes than one that isn't blank may have.
+pub fn is_too_long(line: &[u8]) -> bool
+    ensures { result ≡ is_too_long line.now }
+{
+    line.len() > MOST_BYTES
+}
+
+/// The shot of a line that isn't blank.
+#[tactic(auto, using(crate::proofs::Readings::readings))]
+pub fn shot_of_line(alloc: Global, graph: &Graph, line: &[u8]) -> Result<Vertices, Stop>
+    ensures ok { IfOk result (λ shot. shot_of_line graph.now line.now ≡ Ok shot) }
+    ensures shot { IfOk result (IsShot graph.now) }
+    ensures refused { IfErr result (IfRefused (λ kind. shot_of_line graph.now line.now ≡ Err kind)) }
+{
+    if is_too_long(line) {
+        return Err(Stop::Refused(Kind::LineTooLong));
+    }
+    match Value::from_slice(alloc, without_return(line)) {
+        Ok(value) => shot_in(alloc, graph, &value),
+        Err(error) if error.is_memory() => Err(Stop::NoMemory),
+        Err(_) => Err(Stop::Refused(Kind::NotJson)),
+    }
+}
+
+/// Without one carriage return at the end.
+fn without_return(line: &[u8]) -> &[u8]
+    ensures { result.now ≡ without_return line.now }
+{
+    if line.is_empty() {
+        return line;
+    }
+    let end = line.len() - 1;
+    if line[end] == b'\r' {
+        &line[..end]
+    } else {
+        line
+    }
+}

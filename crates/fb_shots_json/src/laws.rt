@@ -1,0 +1,11 @@
+//! Theorems on the definitions alone: a function that does nothing, and ensures them.
+
+ghost use Rattle.fb_shots_json.specs.Answers.{FirstRecordLeaves, GoesOnAnywhere};
+
+/// However an input of JSON lines is cut into pieces, the answers are the same: what is settled by its front part are
+/// the first shots of the whole, and what that part refuses is refused. Without its first record's bytes it gives the
+/// same without its first shot.
+pub fn goes_on_json()
+    ensures whole { GoesOnAnywhere }
+    ensures first { FirstRecordLeaves }
+{}

@@ -1,0 +1,202 @@
+//! The reader of JSON lines.
+
+ghost use Rattle.std.specs.Prelude.{◌≡◌, ℕ, ◌+◌, ◌-◌, ◌<◌, ◌≤◌, ◌++◌, ◌&&◌, [], Bool, true, false, length, take, drop, slice_index, IfOk, IfErr, IfSome, IfNone, OnOk, OnErr};
+ghost use Rattle.fb_shots_json.specs.Records.{Reader};
+ghost use Rattle.fb_shots_json.specs.Lines.{has_newline};
+ghost use Rattle.fb_shots_json.specs.TextJson.{is_blank, reading_json};
+ghost use Rattle.fb_shots_json.specs.Answers.{answer_of, Answers, IfShot};
+ghost use Rattle.fb_graph.specs.Limits.{IsShot};
+ghost use Rattle.fb_shots_json.specs.Places.{IsPlace, part_of};
+ghost use Rattle.fb_shots_json.specs.Stops.{IfRefused, AnswersTo, used_of, answer_at};
+ghost use Rattle.fb_shots_json.specs.declared.answer.Next.TheVariants as next;
+
+use crate::answer::{Kind, Next, NoMemory, Vertices};
+use crate::judging::{Stop, is_too_long, shot_of_line};
+use crate::pending::Pending;
+use fb_graph::Graph;
+use std::alloc::Global;
+use std::marker::Model;
+
+/// A reader of shots as JSON values, one to a line: objects whose `defect_vertices` lists the defects. Contracts see
+/// the graph, the bytes fed that no answer has used, and whether they are all.
+#[derive(Drop)]
+pub struct RecordsJson<'a> {
+    alloc: Global,
+    graph: &'a Graph,
+    pending: Pending,
+    place: Place,
+    finished: bool,
+}
+
+/// How far a reader has come in the bytes that no answer has used.
+#[derive(Clone, Copy)]
+struct Place {
+    /// The line that is read starts here. The lines before it are blank.
+    line: usize,
+    /// From the line's start to here there is no newline.
+    seen: usize,
+    /// Whether the line is blank as far as it is seen.
+    is_blank: bool,
+}
+
+impl<'a> Model for RecordsJson<'a> {
+    ghost use Rattle.fb_shots_json.specs.Records.{Reader};
+    ghost use Rattle.fb_shots_json.specs.Places.{IsPlace};
+
+    ghost Value = { Reader };
+
+    ghost view = { λ r. record { graph = r.graph.now; rest = r.pending; finished = r.finished } };
+
+    ghost invariant = { λ r. IsPlace r.graph.now r.pending r.place.line r.place.seen r.place.is_blank };
+}
+
+impl<'a> RecordsJson<'a> {
+    /// A reader of shots of a graph, with no bytes yet.
+    pub fn new(alloc: Global, graph: &'a Graph) -> Self
+        ensures { result ≡ record { graph = graph.now; rest = []; finished = false } }
+    {
+        RecordsJson {
+            alloc,
+            graph,
+            pending: Pending::new(alloc),
+            place: START,
+            finished: false,
+        }
+    }
+
+    /// Takes the next piece of the input. Without memory nothing is taken.
+    pub fn feed(&mut self, piece: &[u8]) -> Result<(), NoMemory>
+        requires { self.old.finished ≡ false }
+        ensures ok { OnOk result (self.new ≡ record self.old { rest = self.old.rest ++ piece.now }) }
+        ensures err { OnErr result (self.new ≡ self.old) }
+    {
+        self.pending.put(piece)
+    }
+
+    /// Says that the input has no further piece.
+    pub fn finish(&mut self)
+        ensures { self.new ≡ record self.old { finished = true } }
+    {
+        self.finished = true;
+    }
+
+    /// Answers by the first record of the bytes that no answer has used. A shot uses up its line and the blank lines
+    /// before it, and nothing else uses any byte.
+    pub fn next(&mut self) -> Result<Next, NoMemory>
+        ensures answer { IfOk result (λ a. a ≡ answer_of (reading_json self.old)) }
+        ensures meaning { IfOk result (Answers self.old self.new) }
+        ensures graph { self.new.graph ≡ self.old.graph }
+        ensures finished { self.new.finished ≡ self.old.finished }
+        ensures shot { IfOk result (IfShot (IsShot self.old.graph)) }
+        ensures err { OnErr result (self.new ≡ self.old) }
+    {
+        let rest = self.pending.as_slice();
+        match advance(self.alloc, self.graph, &mut self.place, rest, self.finished) {
+            Ok(Step::Shot(shot, used)) => {
+                self.pending.take_off(used);
+                Ok(Next::Shot(shot))
+            }
+            Ok(Step::NotYet) => Ok(Next::NotYet),
+            Ok(Step::End) => Ok(Next::End),
+            Err(Stop::Refused(kind)) => Ok(Next::Refused(kind)),
+            Err(Stop::NoMemory) => Err(NoMemory),
+        }
+    }
+}
+
+/// Where reading stops.
+enum Step {
+    /// A shot, of which so many bytes are used.
+    Shot(Vertices, usize),
+    NotYet,
+    End,
+}
+
+const START: Place = Place {
+    line: 0,
+    seen: 0,
+    is_blank: true,
+};
+
+/// Reads lines up to the end of a record or of the bytes.
+fn advance(
+    alloc: Global,
+    graph: &Graph,
+    place: &mut Place,
+    rest: &[u8],
+    finished: bool,
+) -> Result<Step, Stop>
+    requires { IsPlace graph.now rest.now place.old.line place.old.seen place.old.is_blank }
+    ensures ok { IfOk result (λ step. AnswersTo graph.now rest.now finished (drop (used_of step) rest.now) (answer_at step)
+        × IsPlace graph.now (drop (used_of step) rest.now) place.new.line place.new.seen place.new.is_blank) }
+    ensures used { IfOk result (λ step. used_of step ≤ length rest.now) }
+    ensures shot { IfOk result (λ step. IfShot (IsShot graph.now) (answer_at step)) }
+    ensures refused { IfErr result (IfRefused (λ kind. AnswersTo graph.now rest.now finished rest.now (next.Refused kind))) }
+    ensures err { OnErr result (IsPlace graph.now rest.now place.new.line place.new.seen place.new.is_blank) }
+{
+    loop {
+        *place = see_line(*place, rest);
+        let is_last = place.seen == rest.len();
+        if is_last && !finished {
+            if !place.is_blank && is_too_long(&rest[place.line..place.seen]) {
+                return Err(Stop::Refused(Kind::LineTooLong));
+            }
+            return Ok(Step::NotYet);
+        }
+        if !place.is_blank {
+            let shot = match shot_of_line(alloc, graph, &rest[place.line..place.seen]) {
+                Ok(shot) => shot,
+                Err(stop) => return Err(stop),
+            };
+            let used = if is_last { place.seen } else { place.seen + 1 };
+            *place = START;
+            return Ok(Step::Shot(shot, used));
+        }
+        if is_last {
+            return Ok(Step::End);
+        }
+        place.seen += 1;
+        place.line = place.seen;
+    }
+}
+
+/// Goes on to the end of the line: its newline or the end of the bytes.
+fn see_line(place: Place, bytes: &[u8]) -> Place
+    requires { place.seen ≤ length bytes.now }
+    ensures line { result.line ≡ place.line }
+    ensures onward { place.seen ≤ result.seen }
+    ensures within { result.seen ≤ length bytes.now }
+    ensures in_line { has_newline (part_of bytes.now place.seen result.seen) ≡ false }
+    ensures tells { result.is_blank ≡ (place.is_blank && is_blank (part_of bytes.now place.seen result.seen)) }
+    ensures stops { result.seen < length bytes.now → slice_index bytes.now result.seen ≡ 10 }
+{
+    let seen = line_end(bytes, place.seen);
+    Place {
+        line: place.line,
+        seen,
+        is_blank: place.is_blank && is_blank(&bytes[place.seen..seen]),
+    }
+}
+
+/// Where the line ends that goes on from a place: at a newline or the end of the bytes.
+fn line_end(bytes: &[u8], from: usize) -> usize
+    requires { from ≤ length bytes.now }
+    ensures onward { from ≤ result }
+    ensures within { result ≤ length bytes.now }
+    ensures in_line { has_newline (part_of bytes.now from result) ≡ false }
+    ensures stops { result < length bytes.now → slice_index bytes.now result ≡ 10 }
+{
+    let mut i = from;
+    while i < bytes.len() && bytes[i] != b'\n' {
+        i += 1;
+    }
+    i
+}
+
+fn is_blank(bytes: &[u8]) -> bool
+    ensures { result ≡ is_blank bytes.now }
+{
+    bytes
+        .iter()
+        .all(|b| *b == b' ' || *b == b'\t' || *b == b'\r')
+}
