@@ -41,10 +41,10 @@ fn reads_pieces(rt: HostRuntime) {
         assert!(rt; is_not_yet(reader.next()));
         assert!(rt; reader.feed(b" \t\r\n\n{\"defect_ver").is_ok());
         assert!(rt; is_not_yet(reader.next()));
-        assert!(rt; reader.feed(b"tices\":[3,1]}\r\n{\"defect_vertices\":[]").is_ok());
+        let piece =
+            "tices\":[3,1]}\r\n{\"defect_vertices\":[],\"erasures\":[],\"dynamic_weights\":null}\r";
+        assert!(rt; reader.feed(piece.as_bytes()).is_ok());
         assert!(rt; is_shot(reader.next(), &[1, 3]));
-        assert!(rt; is_not_yet(reader.next()));
-        assert!(rt; reader.feed(b",\"erasures\":[],\"dynamic_weights\":null}\r").is_ok());
         assert!(rt; is_not_yet(reader.next()));
         reader.finish();
         assert!(rt; is_shot(reader.next(), &[]));
