@@ -1,7 +1,7 @@
 -- Parts of some bytes between places, and a reader of JSON lines at a place.
 use Rattle.std.proofs.Common.{◌≡◌, ℕ, zero, suc, ◌+◌, ◌-◌, ◌<◌, ◌≤◌, Bool, true, false, ◌&&◌, List, [], ◌∷◌, ◌++◌, length, get_or, take, drop, Ok, Err, refl, sym, ap, subst, ◌∙◌, append_assoc, inl, inr, arith}
 use Rattle.std.proofs.lemmas.Bool.{cases_lt, ne_eqb}
-use Rattle.std.proofs.lemmas.List.{append-nil, length-drop, take-append-drop, take-append-le, drop-append-le, drop_all, drop-drop, drop_more}
+use Rattle.std.proofs.lemmas.List.{append-nil, take-append-drop, drop_all, drop-drop, drop_more}
 use Rattle.std.proofs.lemmas.List.Folds.{list_all-append}
 use Rattle.fb_graph.specs.Limits.{DecodingGraph}
 use Rattle.fb_shots_json.specs.declared.answer.Kind.{Kind}
@@ -45,13 +45,6 @@ part_one xs i lt =
 -- one more byte
 part_more : (xs : List ℕ) (a i : ℕ) → a ≤ i → i < length xs → part_of xs a (i + 1) ≡ part_of xs a i ++ get_or xs i 0 ∷ []
 part_more xs a i le lt = part_two xs a i (i + 1) le (omega arith) ∙ ap (λ (l : List ℕ). part_of xs a i ++ l) (part_one xs i lt)
-
--- more bytes behind change no part
-part_kept : (xs more : List ℕ) (a b : ℕ) → b ≤ length xs → part_of (xs ++ more) a b ≡ part_of xs a b
-part_kept xs more a b le = elim (cases_lt a b) [
-  | inl lt ↦ ap (take (b - a)) (drop-append-le a xs more (omega arith)) ∙ take-append-le (b - a) (drop a xs) more (omega (arith, length-drop a xs))
-  | inr ge ↦ let none : b - a ≡ 0 = omega arith in ap (λ (k : ℕ). take k (drop a (xs ++ more))) none ∙ sym (ap (λ (k : ℕ). take k (drop a xs)) none)
-]
 
 -- a part whose next byte is no newline
 pub newline_none_more : (xs : List ℕ) (a i : ℕ) → a ≤ i → i < length xs → (get_or xs i 0 ≡ 10 → ⊥) → has_newline (part_of xs a i) ≡ false → has_newline (part_of xs a (i + 1)) ≡ false
