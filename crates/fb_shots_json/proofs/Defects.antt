@@ -1,8 +1,7 @@
 -- The entries of a shot as defects: real vertices up to the first entry that is none, none of them twice.
-use Rattle.std.specs.Prelude.{nat_le, nat_lt, ◌==◌, ◌&&◌, not, All, count_by, if◌then◌else◌}
-use Rattle.std.proofs.Common.{◌≡◌, ℕ, ◌+◌, ◌<◌, ◌≤◌, Bool, true, false, ◌||◌, eqb, List, [], ◌∷◌, ◌++◌, Some, None, Ok, Err, refl, sym, ap, subst, ◌∙◌, inl, inr, append_assoc, append-nil, arith}
+use Rattle.std.specs.Prelude.{nat_le, nat_lt, ◌==◌, ◌&&◌, not, All, count_by}
+use Rattle.std.proofs.Common.{◌≡◌, ℕ, ◌<◌, ◌≤◌, Bool, true, false, ◌||◌, eqb, List, [], ◌∷◌, ◌++◌, Some, None, Ok, Err, refl, sym, ap, subst, ◌∙◌, inl, inr, append_assoc, append-nil, arith}
 use Rattle.std.specs.Ordering.{nat_cmp}
-use Rattle.std.specs.List.{filter, range_with_len}
 use Rattle.std.specs.List.Sorted.{IsPermutation, IsSorted, IsStrictlyIncreasing}
 use Rattle.std.proofs.lemmas.Bool.{cases_Bool, cases_eq, cases_lt, eq-eqb, ne_eqb, leb-false, lt-ltb}
 use Rattle.std.proofs.lemmas.List.Elements.{All-cons}
@@ -38,9 +37,9 @@ distinct_push [] v d e = (refl, tt)
 distinct_push (x ∷ xs) v d e = elim (cases_eq x v) [
   | inl same ↦ absurd (let here : is_in (x ∷ xs) v ≡ true = subst (λ (u : ℕ). is_in (x ∷ xs) u ≡ true) same (is_in-head x xs) in cc)
   | inr other ↦ (
-      list_any-append (λ (u : ℕ). eqb u x) xs (v ∷ []) ∙ rw (d.0, ne_eqb v x (λ (z : v ≡ x). other (sym z))) refl,
-      distinct_push xs v d.1 (tail_not x xs v e),
-    )
+    list_any-append (λ (u : ℕ). eqb u x) xs (v ∷ []) ∙ rw (d.0, ne_eqb v x (λ (z : v ≡ x). other (sym z))) refl,
+    distinct_push xs v d.1 (tail_not x xs v e),
+  )
 ]
   where
     tail_not : (x : ℕ) (xs : List ℕ) (v : ℕ) → is_in (x ∷ xs) v ≡ false → is_in xs v ≡ false

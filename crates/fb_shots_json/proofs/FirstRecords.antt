@@ -1,6 +1,5 @@
 -- What is left of a text without its first record.
-use Rattle.std.specs.Prelude.{if◌then◌else◌}
-use Rattle.std.proofs.Common.{◌≡◌, ℕ, zero, suc, ◌<◌, Bool, true, false, List, [], ◌∷◌, ◌++◌, length, Option, Some, None, Result, Ok, Err, refl, sym, ap, ◌∙◌, append_assoc, inl, inr, arith}
+use Rattle.std.proofs.Common.{◌≡◌, ℕ, zero, suc, ◌<◌, true, false, List, [], ◌∷◌, ◌++◌, length, Option, Some, None, Result, Ok, Err, refl, sym, ap, ◌∙◌, append_assoc, inl, inr, arith}
 use Rattle.std.proofs.lemmas.Bool.{cases_Bool}
 use Rattle.std.proofs.lemmas.List.{length-append}
 use Rattle.fb_graph.specs.Limits.{DecodingGraph}
@@ -11,7 +10,7 @@ use Rattle.fb_shots_json.specs.TextJson.{is_blank, as_shot, shot_of_line, line_j
 use Rattle.fb_shots_json.specs.Answers.{FirstRecordLeaves}
 use Rattle.fb_shots_json.proofs.LineLemmas.{without, within, splits}
 use Rattle.fb_shots_json.proofs.RecordLemmas.{Judge, records_one, front_one, front_none}
-use Rattle.fb_shots_json.proofs.TextLemmas.{Given, blank_line, some_line, blank_after, record_after}
+use Rattle.fb_shots_json.proofs.TextLemmas.{blank_line, some_line, blank_after, record_after}
 
 -- ---- lines
 

@@ -29,9 +29,6 @@ holds_after (b ∷ p) more = or_right_true (eqb b 10) _ (holds_after p more) whe
   or_right_true true y e = refl
   or_right_true false y e = e
 
-holds_here : (b : ℕ) (bytes : List ℕ) → eqb b 10 ≡ true → has_newline (b ∷ bytes) ≡ true
-holds_here b bytes e = rw e refl
-
 last_line_skip : (b : ℕ) (bytes : List ℕ) → has_newline (b ∷ bytes) ≡ true → last_line (b ∷ bytes) ≡ last_line bytes
 last_line_skip b bytes h = rw h refl
 

@@ -10,4 +10,3 @@ use Rattle.fb_shots_json.specs.TextJson.{says_nothing}
 pub array_says : (vs : List Value) → eqb (length vs) 0 ≡ says_nothing (Some (array (items_view vs)))
 array_says [] = refl
 array_says (v ∷ vs) = ne_eqb (length (v ∷ vs)) 0 (λ (e : length (v ∷ vs) ≡ 0). omega arith)
-

@@ -1,7 +1,7 @@
 -- Parts of some bytes between places, and a reader of JSON lines at a place.
 use Rattle.std.proofs.Common.{◌≡◌, ℕ, zero, suc, ◌+◌, ◌-◌, ◌<◌, ◌≤◌, Bool, true, false, ◌&&◌, List, [], ◌∷◌, ◌++◌, length, get_or, take, drop, Ok, Err, refl, sym, ap, subst, ◌∙◌, append_assoc, inl, inr, arith}
 use Rattle.std.proofs.lemmas.Bool.{cases_lt, ne_eqb}
-use Rattle.std.proofs.lemmas.List.{append-nil, length-drop, length-append, take-append-drop, take-append-le, drop-append-le, drop_all, drop-drop, drop_more}
+use Rattle.std.proofs.lemmas.List.{append-nil, take-append-drop, drop_all, drop-drop, drop_more}
 use Rattle.std.proofs.lemmas.List.Folds.{list_all-append}
 use Rattle.fb_graph.specs.Limits.{DecodingGraph}
 use Rattle.fb_shots_json.specs.declared.answer.Kind.{Kind}
@@ -46,13 +46,6 @@ part_one xs i lt =
 part_more : (xs : List ℕ) (a i : ℕ) → a ≤ i → i < length xs → part_of xs a (i + 1) ≡ part_of xs a i ++ get_or xs i 0 ∷ []
 part_more xs a i le lt = part_two xs a i (i + 1) le (omega arith) ∙ ap (λ (l : List ℕ). part_of xs a i ++ l) (part_one xs i lt)
 
--- more bytes behind change no part
-part_kept : (xs more : List ℕ) (a b : ℕ) → b ≤ length xs → part_of (xs ++ more) a b ≡ part_of xs a b
-part_kept xs more a b le = elim (cases_lt a b) [
-  | inl lt ↦ ap (take (b - a)) (drop-append-le a xs more (omega arith)) ∙ take-append-le (b - a) (drop a xs) more (omega (arith, length-drop a xs))
-  | inr ge ↦ let none : b - a ≡ 0 = omega arith in ap (λ (k : ℕ). take k (drop a (xs ++ more))) none ∙ sym (ap (λ (k : ℕ). take k (drop a xs)) none)
-]
-
 -- a part whose next byte is no newline
 pub newline_none_more : (xs : List ℕ) (a i : ℕ) → a ≤ i → i < length xs → (get_or xs i 0 ≡ 10 → ⊥) → has_newline (part_of xs a i) ≡ false → has_newline (part_of xs a (i + 1)) ≡ false
 newline_none_more xs a i le lt other h =
@@ -62,19 +55,6 @@ newline_none_more xs a i le lt other h =
 
 pub place_start : (g : DecodingGraph) (bytes : List ℕ) → IsPlace g bytes 0 0 true
 place_start g bytes = record { order = omega arith; within = omega arith; parts = text.at_start g; tells = refl }
-
-pub place_fed : (g : DecodingGraph) (bytes more : List ℕ) (line seen : ℕ) (blank : Bool) → IsPlace g bytes line seen blank → IsPlace g (bytes ++ more) line seen blank
-place_fed g bytes more line seen blank p =
-    let order = p.order in
-    let within = p.within in
-    let kept = part_kept bytes more line seen within in
-    record {
-      order = order;
-      within = omega (arith, length-append bytes more);
-      parts = subst (λ (l : List ℕ). IsAt g (take line (bytes ++ more)) l) (sym kept)
-          (subst (λ (l : List ℕ). IsAt g l (part_of bytes line seen)) (sym (take-append-le line bytes more (omega arith))) p.parts);
-      tells = p.tells ∙ ap is_blank (sym kept);
-    }
 
 pub place_seen : (g : DecodingGraph) (bytes : List ℕ) (line same seen on : ℕ) (blank still : Bool) → IsPlace g bytes line seen blank → same ≡ line → seen ≤ on → on ≤ length bytes
     → has_newline (part_of bytes seen on) ≡ false → still ≡ (blank && is_blank (part_of bytes seen on)) → IsPlace g bytes same on still

@@ -1,13 +1,9 @@
 -- What is read of a text whose records are lines: by its first line, and in two pieces.
-use Rattle.std.proofs.Common.{◌≡◌, ℕ, Bool, true, false, List, [], ◌∷◌, ◌++◌, Option, Some, None, Result, Ok, Err, refl, sym, ap, subst, ◌∙◌, append_assoc, inl, inr, length, arith}
-use Rattle.std.proofs.lemmas.Bool.{cases_Bool}
+use Rattle.std.proofs.Common.{◌≡◌, ℕ, Bool, true, false, List, [], ◌∷◌, ◌++◌, Option, Some, None, Result, Ok, Err, refl, sym, ap, subst, ◌∙◌, append_assoc, length, arith}
 use Rattle.std.proofs.lemmas.List.{append-nil, length-append}
 use Rattle.fb_shots_json.specs.declared.answer.Kind.{Kind}
 use Rattle.fb_shots_json.specs.Records.{Ending, at_end, still_open, refused, Records, only, in_front, with_line, go_down, GoesOn, Reader}
-use Rattle.fb_shots_json.specs.declared.answer.Next.{Next}
-use Rattle.fb_shots_json.specs.declared.answer.Next.TheVariants.{Shot, NotYet, End, Refused}
-use Rattle.fb_shots_json.specs.TextJson.{records_json, front_json, reading_json}
-use Rattle.fb_shots_json.specs.Answers.{answer_of, Gives, Refuses, Answers}
+use Rattle.fb_shots_json.specs.Answers.{Gives, Refuses}
 use Rattle.fb_shots_json.specs.Lines.{has_newline, whole_lines, last_line, if_not_empty, lines_of, records_by_lines, front_by_lines}
 use Rattle.fb_shots_json.proofs.LineLemmas.{whole_lines_none, last_line_none, whole_lines_one, last_line_one, without, within, splits, holds_none, two_pieces, holds_last}
 
@@ -135,22 +131,3 @@ gives_last judge begun old new b line shot done old-is new-is h j = record {
   so_far = λ f. absurd (false_true old.finished done f);
   later = λ f. absurd (false_true old.finished done f);
 }
-
-reading_done : (r : Reader) → r.finished ≡ true → reading_json r ≡ records_json r.graph r.rest
-reading_done r e = rw e refl
-
-reading_open : (r : Reader) → r.finished ≡ false → reading_json r ≡ front_json r.graph r.rest
-reading_open r e = rw e refl
-
--- an answer is the one that the first of what was read gives
-pub answer_from : (old new : Reader) (a : Next) → Answers old new a → a ≡ answer_of (reading_json old)
-answer_from old new (Shot shot) h = elim (cases_Bool old.finished) [
-  | inl e ↦ sym (ap answer_of (reading_done old e ∙ h.0.now))
-  | inr e ↦ sym (ap answer_of (reading_open old e ∙ h.0.so_far e))
-]
-answer_from old new NotYet h = sym (ap answer_of (reading_open old h.0 ∙ h.1))
-answer_from old new End h = sym (ap answer_of (reading_done old h.0 ∙ h.1))
-answer_from old new (Refused kind) h = elim (cases_Bool old.finished) [
-  | inl e ↦ sym (ap answer_of (reading_done old e ∙ h.0.now))
-  | inr e ↦ sym (ap answer_of (reading_open old e ∙ h.0.so_far e))
-]

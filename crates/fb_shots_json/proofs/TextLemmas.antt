@@ -1,23 +1,22 @@
 -- What JSON lines come to, line by line.
-use Rattle.std.specs.Prelude.{nat_lt, if◌then◌else◌}
-use Rattle.std.proofs.Common.{◌≡◌, ℕ, suc, ◌+◌, ◌<◌, Bool, true, false, ◌&&◌, List, [], ◌∷◌, ◌++◌, length, Option, Some, None, Result, Ok, Err, refl, sym, ap, subst, ◌∙◌, inl, inr, append_assoc, arith}
-use Rattle.std.specs.List.{list_all, prefix_len}
+use Rattle.std.specs.Prelude.{if◌then◌else◌}
+use Rattle.std.proofs.Common.{◌≡◌, ℕ, suc, ◌+◌, ◌<◌, Bool, true, false, ◌&&◌, List, [], ◌∷◌, ◌++◌, length, Option, Some, None, Result, Ok, Err, refl, sym, ap, ◌∙◌, inl, inr, append_assoc, arith}
+use Rattle.std.specs.List.{prefix_len}
 use Rattle.std.proofs.lemmas.Bool.{cases_Bool, ltb-true, lt-ltb}
 use Rattle.std.proofs.lemmas.List.{length-append}
 use Rattle.std.proofs.lemmas.List.Folds.{list_all-append}
 use Rattle.fb_graph.specs.Limits.{DecodingGraph}
 use Rattle.fb_shots_json.specs.declared.answer.Kind.{Kind}
 use Rattle.fb_shots_json.specs.declared.answer.Kind.TheVariants.{LineTooLong}
-use Rattle.fb_shots_json.specs.declared.answer.Next.{Next}
 use Rattle.fb_shots_json.specs.declared.answer.Next.TheVariants.{Shot, NotYet, End, Refused}
-use Rattle.fb_shots_json.specs.Records.{Ending, at_end, still_open, refused, only, with_line, Reader}
+use Rattle.fb_shots_json.specs.Records.{at_end, still_open, refused, only, with_line, Reader}
 use Rattle.fb_shots_json.specs.Lines.{has_newline, lines_of}
 use Rattle.fb_shots_json.specs.TextJson.{is_blank, is_blank_byte, is_too_long, most_bytes, as_shot, shot_of_line, line_json, begun_json, records_json, front_json, after_lines, after_record}
-use Rattle.fb_shots_json.specs.Answers.{Gives, Refuses, Answers}
+use Rattle.fb_shots_json.specs.Answers.{Gives, Refuses}
 use Rattle.fb_shots_json.specs.Places.{IsAt}
 use Rattle.fb_shots_json.specs.Stops.{AnswersTo}
 use Rattle.fb_shots_json.proofs.LineLemmas.{whole_lines_none, whole_lines_one, last_line_none, last_line_one, after_line_one, after_line_none, holds_none}
-use Rattle.fb_shots_json.proofs.RecordLemmas.{Stays, records_one, front_one, records_none, front_none, refused_part, refuses_front, refuses_last, gives_line, gives_last}
+use Rattle.fb_shots_json.proofs.RecordLemmas.{Stays, records_one, front_one, records_none, front_none, refuses_front, refuses_last, gives_line, gives_last}
 
 abbrev pub Given : Type 0
 Given = Result (Option (List ℕ)) Kind

@@ -1,4 +1,4 @@
-use Rattle.std.proofs.Common.{◌≡◌, ◌≢◌, ℕ, ◌+◌, ◌<◌, Bool, true, false, List, length, drop, Err, sym, subst, ◌∙◌, arith}
+use Rattle.std.proofs.Common.{◌≡◌, ◌≢◌, ℕ, ◌+◌, ◌<◌, Bool, true, false, length, drop, Err, sym, subst, ◌∙◌, arith}
 use Rattle.fb_shots_json.specs.declared.answer.Next.TheVariants as next
 use Rattle.fb_shots_json.specs.TextJson.{shot_of_line}
 use Rattle.fb_shots_json.specs.Places.{IsPlace, part_of}
