@@ -44,6 +44,17 @@ impl Shot {
         })
     }
 
+    /// The shot of these defects: real vertices of the graph, strictly rising.
+    pub fn from_rising(graph: &Graph, defects: Vec<u32>) -> Shot
+        requires { IsShot graph.now defects.items }
+        ensures { result ≡ defects.items }
+    {
+        graph.limits();
+        Shot {
+            defects: NumberList::from_vec(defects),
+        }
+    }
+
     /// The number of defects.
     pub fn len(&self) -> u32
         ensures length { result ≡ length self.now }
