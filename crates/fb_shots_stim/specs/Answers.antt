@@ -25,6 +25,7 @@ pub record Gives (records front : List ℕ → Records) (old new : Reader) (shot
   pub now : records old.rest ≡ in_front shot (records new.rest)
   pub so_far : old.finished ≡ false → front old.rest ≡ in_front shot (front new.rest)
   pub later : old.finished ≡ false → (more : List ℕ) → records (old.rest ++ more) ≡ in_front shot (records (new.rest ++ more))
+  pub onward : old.finished ≡ false → (more : List ℕ) → front (old.rest ++ more) ≡ in_front shot (front (new.rest ++ more))
 
 -- The rest begins by what is refused, whatever is fed later.
 pub record Refuses (records front : List ℕ → Records) (old : Reader) (kind : Kind) : Type 0 where
@@ -54,3 +55,4 @@ FirstRecordLeaves records front after =
     (n : ℕ) (bytes shot : List ℕ) (shots : List (List ℕ)) → (front n bytes).shots ≡ shot ∷ shots
     → (front n bytes ≡ in_front shot (front n (after n bytes)))
     × ((more : List ℕ) → records n (bytes ++ more) ≡ in_front shot (records n (after n bytes ++ more)))
+    × ((more : List ℕ) → front n (bytes ++ more) ≡ in_front shot (front n (after n bytes ++ more)))
