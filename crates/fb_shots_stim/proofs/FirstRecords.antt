@@ -29,6 +29,7 @@ abbrev IsLeft : (judge : Judge) (begun : List ℕ → Ending) → (bytes shot le
 IsLeft judge begun bytes shot left =
     (front_by_lines judge begun bytes ≡ in_front shot (front_by_lines judge begun left))
     × ((more : List ℕ) → records_by_lines judge (bytes ++ more) ≡ in_front shot (records_by_lines judge (left ++ more)))
+    × ((more : List ℕ) → front_by_lines judge begun (bytes ++ more) ≡ in_front shot (front_by_lines judge begun (left ++ more)))
 
 no_shots : {P : Type 0} (r : Records) (ending : Ending) (shot : List ℕ) (shots : List (List ℕ)) → r ≡ only ending → r.shots ≡ shot ∷ shots → P
 no_shots r ending shot shots e h = absurd (let none : r.shots ≡ [] = ap (λ (x : Records). x.shots) e in cc)
@@ -56,6 +57,9 @@ first_left (suc fuel) judge begun after leaves bytes shot shots lt e =
           λ more. ap (records_by_lines judge) (append_assoc line (10 ∷ m) more) ∙ records_one judge line (m ++ more) h
               ∙ ap (λ (r : Result (Option (List ℕ)) Kind). with_line r (records_by_lines judge (m ++ more))) judged
               ∙ left.1 more ∙ ap (λ (l : List ℕ). in_front shot (records_by_lines judge (l ++ more))) (sym skipped),
+          λ more. ap (front_by_lines judge begun) (append_assoc line (10 ∷ m) more) ∙ front_one judge begun line (m ++ more) h
+              ∙ ap (λ (r : Result (Option (List ℕ)) Kind). with_line r (front_by_lines judge begun (m ++ more))) judged
+              ∙ left.2 more ∙ ap (λ (l : List ℕ). in_front shot (front_by_lines judge begun (l ++ more))) (sym skipped),
         )
     by_line line m h (Ok (Some first)) judged later e =
         let front : front_by_lines judge begun (line ++ 10 ∷ m) ≡ in_front first (front_by_lines judge begun m) =
@@ -66,6 +70,9 @@ first_left (suc fuel) judge begun after leaves bytes shot shots lt e =
           λ more. ap (records_by_lines judge) (append_assoc line (10 ∷ m) more) ∙ records_one judge line (m ++ more) h
               ∙ ap (λ (r : Result (Option (List ℕ)) Kind). with_line r (records_by_lines judge (m ++ more))) judged
               ∙ ap (λ (l : List ℕ). in_front l (records_by_lines judge (m ++ more))) same ∙ ap (λ (l : List ℕ). in_front shot (records_by_lines judge (l ++ more))) (sym left),
+          λ more. ap (front_by_lines judge begun) (append_assoc line (10 ∷ m) more) ∙ front_one judge begun line (m ++ more) h
+              ∙ ap (λ (r : Result (Option (List ℕ)) Kind). with_line r (front_by_lines judge begun (m ++ more))) judged
+              ∙ ap (λ (l : List ℕ). in_front l (front_by_lines judge begun (m ++ more))) same ∙ ap (λ (l : List ℕ). in_front shot (front_by_lines judge begun (l ++ more))) (sym left),
         )
 
 -- ---- `01`
@@ -125,12 +132,15 @@ leaves_b8 (suc n) bytes shot shots e = elim (cases_lt (length bytes) (block_len 
     block_left : (n : ℕ) (bytes shot : List ℕ) (shots : List (List ℕ)) {first : List ℕ} → block_len (suc n) ≤ length bytes
         → (records_b8 (suc n) bytes ≡ in_front first (records_b8 (suc n) (drop (block_len (suc n)) bytes))) × (front_b8 (suc n) bytes ≡ in_front first (front_b8 (suc n) (drop (block_len (suc n)) bytes)))
         × ((more : List ℕ) → records_b8 (suc n) (bytes ++ more) ≡ in_front first (records_b8 (suc n) (drop (block_len (suc n)) bytes ++ more)))
+        × ((more : List ℕ) → front_b8 (suc n) (bytes ++ more) ≡ in_front first (front_b8 (suc n) (drop (block_len (suc n)) bytes ++ more)))
         → (front_b8 (suc n) bytes).shots ≡ shot ∷ shots
         → (front_b8 (suc n) bytes ≡ in_front shot (front_b8 (suc n) (drop (block_len (suc n)) bytes)))
         × ((more : List ℕ) → records_b8 (suc n) (bytes ++ more) ≡ in_front shot (records_b8 (suc n) (drop (block_len (suc n)) bytes ++ more)))
+        × ((more : List ℕ) → front_b8 (suc n) (bytes ++ more) ≡ in_front shot (front_b8 (suc n) (drop (block_len (suc n)) bytes ++ more)))
     block_left n bytes shot shots {first} le given e =
         let left = drop (block_len (suc n)) bytes in
         let same : first ≡ shot = (let shown : first ∷ (front_b8 (suc n) left).shots ≡ shot ∷ shots = sym (ap (λ (x : Records). x.shots) given.1) ∙ e in cc) in (
           given.1 ∙ ap (λ (l : List ℕ). in_front l (front_b8 (suc n) left)) same,
           λ more. given.2 more ∙ ap (λ (l : List ℕ). in_front l (records_b8 (suc n) (left ++ more))) same,
+          λ more. given.3 more ∙ ap (λ (l : List ℕ). in_front l (front_b8 (suc n) (left ++ more))) same,
         )

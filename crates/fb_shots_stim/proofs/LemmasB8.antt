@@ -249,6 +249,7 @@ short_open (suc n) rest finished some lt e = (e, front_short n rest lt, refl)
 pub block_gives : (n : ℕ) (rest : List ℕ) (finished : Bool) (given : Result (Option (List ℕ)) Kind) → block_len (suc n) ≤ length rest → block_b8 (suc n) (take (block_len (suc n)) rest) ≡ given
     → (records_b8 (suc n) rest ≡ with_line given (records_b8 (suc n) (drop (block_len (suc n)) rest))) × (front_b8 (suc n) rest ≡ with_line given (front_b8 (suc n) (drop (block_len (suc n)) rest)))
     × ((more : List ℕ) → records_b8 (suc n) (rest ++ more) ≡ with_line given (records_b8 (suc n) (drop (block_len (suc n)) rest ++ more)))
+    × ((more : List ℕ) → front_b8 (suc n) (rest ++ more) ≡ with_line given (front_b8 (suc n) (drop (block_len (suc n)) rest ++ more)))
 block_gives n rest finished given le e =
     let size = block_len (suc n) in (
       records_first n rest le ∙ ap (λ (g : Result (Option (List ℕ)) Kind). with_line g (records_b8 (suc n) (drop size rest))) e,
@@ -257,6 +258,10 @@ block_gives n rest finished given le e =
           ∙ ap (λ (l : List ℕ). with_line (block_b8 (suc n) l) (records_b8 (suc n) (drop size (rest ++ more)))) (take-append-le size rest more le)
           ∙ ap (λ (l : List ℕ). with_line (block_b8 (suc n) (take size rest)) (records_b8 (suc n) l)) (drop-append-le size rest more le)
           ∙ ap (λ (g : Result (Option (List ℕ)) Kind). with_line g (records_b8 (suc n) (drop size rest ++ more))) e,
+      λ more. front_first n (rest ++ more) (omega (arith, length-append rest more))
+          ∙ ap (λ (l : List ℕ). with_line (block_b8 (suc n) l) (front_b8 (suc n) (drop size (rest ++ more)))) (take-append-le size rest more le)
+          ∙ ap (λ (l : List ℕ). with_line (block_b8 (suc n) (take size rest)) (front_b8 (suc n) l)) (drop-append-le size rest more le)
+          ∙ ap (λ (g : Result (Option (List ℕ)) Kind). with_line g (front_b8 (suc n) (drop size rest ++ more))) e,
     )
 
 pub block_refused : (n : ℕ) (rest : List ℕ) (finished : Bool) → 0 < n → block_len n ≤ length rest → list_any is_set (drop n (bits_of (take (block_len n) rest))) ≡ true → IsRight n rest finished rest (Refused PaddingBit)
@@ -274,7 +279,7 @@ block_shot (suc n) rest finished shot some le h e =
     let judged : block_b8 (suc n) block ≡ Ok (Some shot) =
     cond-false _ _ _ h ∙ ap (λ (l : List ℕ). Ok (Some l)) (sym (e ∙ places_of_block (suc n) (bits_of block) h)) in
     let given = block_gives n rest finished (Ok (Some shot)) le judged in
-    (record { shorter = omega (arith, length-drop size rest); now = given.0; so_far = λ _. given.1; later = λ _ more. given.2 more }, refl)
+    (record { shorter = omega (arith, length-drop size rest); now = given.0; so_far = λ _. given.1; later = λ _ more. given.2 more; onward = λ _ more. given.3 more }, refl)
 
 -- the same, as the code has the rest at hand
 pub next_refused : (old : Reader) (n : ℕ) (rest : List ℕ) (finished : Bool) (slice : List ℕ) → reader n rest finished ≡ old → slice ≡ rest → 0 < n → block_len n ≤ length slice

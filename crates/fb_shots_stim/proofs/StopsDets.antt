@@ -33,6 +33,7 @@ skip_gives n skipped line word so_far rest old new shot at cut g = record {
   now = ap (records_dets n) cut ∙ at.all rest ∙ g.now;
   so_far = λ open_. ap (front_dets n) cut ∙ at.front rest ∙ g.so_far open_;
   later = λ open_ more. ap (λ (l : List ℕ). records_dets n (l ++ more)) cut ∙ ap (records_dets n) (append_assoc skipped rest more) ∙ at.all (rest ++ more) ∙ g.later open_ more;
+  onward = λ open_ more. ap (λ (l : List ℕ). front_dets n (l ++ more)) cut ∙ ap (front_dets n) (append_assoc skipped rest more) ∙ at.front (rest ++ more) ∙ g.onward open_ more;
 }
 
 skip_refuses : (n : ℕ) (skipped line word : List ℕ) (so_far : Option (List ℕ)) (rest : List ℕ) (old : Reader) (kind : Kind) → IsAt n skipped line word so_far → old.rest ≡ skipped ++ rest
