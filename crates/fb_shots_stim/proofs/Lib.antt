@@ -7,3 +7,4 @@ pub mod StopsDets
 pub mod NamedLemmas
 pub mod PlaceLemmas
 pub mod FirstRecords
+pub mod ShotLemmas

@@ -89,7 +89,7 @@ marked_more n marks named index m size lt new = record {
 
 -- ---- the rising list
 
-abbrev Rises : ℕ → ℕ → List ℕ → Type 0
+abbrev pub Rises : ℕ → ℕ → List ℕ → Type 0
 Rises low high [] = Unit {0}
 Rises low high (x ∷ xs) = (low ≤ x) × (x < high) × Rises (x + 1) high xs
 

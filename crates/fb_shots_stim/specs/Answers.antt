@@ -44,6 +44,13 @@ Answers records front after old new End =
 Answers records front after old new (Refused kind) =
     Refuses (records old.detectors) (front old.detectors) old kind × (new ≡ old)
 
+-- the fact of the shot, where an answer is one
+abbrev pub IfShot : (List ℕ → Type 0) → Next → Type 0
+IfShot P (Shot shot) = P shot
+IfShot P NotYet = Unit {0}
+IfShot P End = Unit {0}
+IfShot P (Refused kind) = Unit {0}
+
 -- Wherever some bytes are cut in two, what is settled by the first part stands before all that they hold.
 abbrev pub GoesOnAnywhere : (records front : ℕ → List ℕ → Records) → Type 0
 GoesOnAnywhere records front =

@@ -1,5 +1,6 @@
 -- What a text of shots holds: its shots in order, and how it ends.
-use Rattle.std.specs.Prelude.{◌≡◌, ℕ, ◌+◌, if◌then◌else◌, Bool, List, [], ◌∷◌, ◌++◌, Option, Some, None, Result, Ok, Err}
+use Rattle.std.specs.Prelude.{◌≡◌, ℕ, ◌+◌, ◌<◌, if◌then◌else◌, Bool, List, [], ◌∷◌, ◌++◌, Option, Some, None, Result, Ok, Err, All}
+use Rattle.std.specs.List.Sorted.{IsStrictlyIncreasing}
 use Rattle.fb_shots_stim.specs.declared.answer.Kind.{Kind}
 
 -- how a text of shots ends: at its end, inside what may still go on, or at the first thing that is refused
@@ -12,6 +13,11 @@ pub data Ending : Type 0 where
 pub record Records : Type 0 where
   pub shots : List (List ℕ)
   pub ending : Ending
+
+-- a shot of n detectors: those that fired, strictly rising, each below n
+pub record IsShotOf (n : ℕ) (shot : List ℕ) : Type 0 where
+  pub rising : IsStrictlyIncreasing shot
+  pub below : All (λ k. k < n) shot
 
 -- the places, counted from i, of the elements that pass
 abbrev pub places_from : (ℕ → Bool) → ℕ → List ℕ → List ℕ

@@ -2,9 +2,9 @@
 
 ghost use Rattle.std.specs.Prelude.{◌≡◌, ℕ, ◌+◌, ◌^◌, ◌<◌, ◌≤◌, ◌++◌, [], Bool, true, false, length, take, slice_index, IfOk, OnOk, OnErr};
 ghost use Rattle.std.specs.List.{list_all};
-ghost use Rattle.fb_shots_stim.specs.Records.{places_from};
+ghost use Rattle.fb_shots_stim.specs.Records.{IsShotOf, places_from};
 ghost use Rattle.fb_shots_stim.specs.Lines.{after_line};
-ghost use Rattle.fb_shots_stim.specs.Answers.{answer_of, Answers};
+ghost use Rattle.fb_shots_stim.specs.Answers.{answer_of, Answers, IfShot};
 ghost use Rattle.fb_shots_stim.specs.Text01.{is_bit, is_one, records_01, front_01, reading_01};
 ghost use Rattle.fb_shots_stim.specs.Step01.{step_01, line_end_01};
 
@@ -72,6 +72,9 @@ impl Records01 {
     pub fn next(&mut self) -> Result<Next, NoMemory>
         ensures answer { IfOk result (λ a. a ≡ answer_of (reading_01 self.old)) }
         ensures meaning { IfOk result (Answers records_01 front_01 after_line self.old self.new) }
+        ensures detectors { self.new.detectors ≡ self.old.detectors }
+        ensures finished { self.new.finished ≡ self.old.finished }
+        ensures shot { IfOk result (IfShot (IsShotOf self.old.detectors)) }
         ensures err { OnErr result (self.new ≡ self.old) }
     {
         let rest = self.pending.as_slice();

@@ -2,8 +2,8 @@
 
 ghost use Rattle.std.specs.Prelude.{◌≡◌, ℕ, ◌+◌, ◌*◌, ◌^◌, ◌<◌, ◌≤◌, ◌∷◌, ◌++◌, [], if◌then◌else◌, Bool, true, false, length, drop, IfOk, OnOk, OnErr};
 ghost use Rattle.std.specs.List.{list_any};
-ghost use Rattle.fb_shots_stim.specs.Records.{Reader, places_from};
-ghost use Rattle.fb_shots_stim.specs.Answers.{answer_of, Answers};
+ghost use Rattle.fb_shots_stim.specs.Records.{IsShotOf, Reader, places_from};
+ghost use Rattle.fb_shots_stim.specs.Answers.{answer_of, Answers, IfShot};
 ghost use Rattle.fb_shots_stim.specs.BlocksB8.{block_len, low_bits, bits_of, is_set, records_b8, front_b8, reading_b8};
 
 use crate::answer::{Detectors, Kind, Next, NoMemory};
@@ -62,6 +62,9 @@ impl RecordsB8 {
     pub fn next(&mut self) -> Result<Next, NoMemory>
         ensures answer { IfOk result (λ a. a ≡ answer_of (reading_b8 self.old)) }
         ensures meaning { IfOk result (Answers records_b8 front_b8 (drop (block_len self.old.detectors)) self.old self.new) }
+        ensures detectors { self.new.detectors ≡ self.old.detectors }
+        ensures finished { self.new.finished ≡ self.old.finished }
+        ensures shot { IfOk result (IfShot (IsShotOf self.old.detectors)) }
         ensures err { OnErr result (self.new ≡ self.old) }
     {
         let size = (self.detectors as usize + 7) / 8;

@@ -1,9 +1,9 @@
 //! The format `dets`: a line for each shot, the word `shot` and a word for each detector that fired.
 
 ghost use Rattle.std.specs.Prelude.{◌≡◌, ℕ, ◌+◌, ◌-◌, ◌<◌, ◌≤◌, ◌++◌, ◌∷◌, [], List, Bool, true, false, ◌||◌, ◌==◌, length, take, drop, slice_index, Ok, Err, Some, None, IfOk, IfErr, IfSome, IfNone, OnOk, OnErr};
-ghost use Rattle.fb_shots_stim.specs.Records.{Reader};
+ghost use Rattle.fb_shots_stim.specs.Records.{IsShotOf, Reader};
 ghost use Rattle.fb_shots_stim.specs.Lines.{holds, if_not_empty, without_return};
-ghost use Rattle.fb_shots_stim.specs.Answers.{answer_of, Answers};
+ghost use Rattle.fb_shots_stim.specs.Answers.{answer_of, Answers, IfShot};
 ghost use Rattle.fb_shots_stim.specs.TextDets.{records_dets, front_dets, reading_dets, after_record, shot_of, with_words};
 ghost use Rattle.fb_shots_stim.specs.WordsDets.{IsPlace, part_of, is_word_end};
 ghost use Rattle.fb_shots_stim.specs.WordStops.{IfRefused};
@@ -81,6 +81,9 @@ impl RecordsDets {
     pub fn next(&mut self) -> Result<Next, NoMemory>
         ensures answer { IfOk result (λ a. a ≡ answer_of (reading_dets self.old)) }
         ensures meaning { IfOk result (Answers records_dets front_dets after_record self.old self.new) }
+        ensures detectors { self.new.detectors ≡ self.old.detectors }
+        ensures finished { self.new.finished ≡ self.old.finished }
+        ensures shot { IfOk result (IfShot (IsShotOf self.old.detectors)) }
         ensures err { OnErr result (self.new ≡ self.old) }
     {
         let rest = self.pending.as_slice();

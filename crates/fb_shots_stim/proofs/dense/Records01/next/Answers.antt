@@ -4,6 +4,7 @@ use Rattle.fb_shots_stim.specs.Text01.{records_01, front_01}
 use Rattle.fb_shots_stim.specs.declared.dense.Step.TheVariants.{Line, NotYet, Refused}
 use Rattle.fb_shots_stim.proofs.RecordLemmas.{answer_from}
 use Rattle.fb_shots_stim.proofs.Lemmas01.{next_right}
+use Rattle.fb_shots_stim.proofs.ShotLemmas.{shots_01, given_shot}
 use Rattle.fb_shots_stim.proofs.dense.Records01.next.Goals as goal
 
 pub returns-in-NotYet-clause-meaning : goal.returns-in-NotYet-clause-meaning
@@ -30,3 +31,8 @@ returns-in-Refused-clause-answer c = answer_from records_01 front_01 after_line 
 
 pub returns-in_ok-shot-in-Line-clause-answer : goal.returns-in_ok-shot-in-Line-clause-answer
 returns-in_ok-shot-in-Line-clause-answer c = answer_from records_01 front_01 after_line _ _ _ (returns-in_ok-shot-in-Line-clause-meaning c)
+
+pub returns-in_ok-shot-in-Line-clause-shot : goal.returns-in_ok-shot-in-Line-clause-shot
+returns-in_ok-shot-in-Line-clause-shot c =
+    let n = c.args.self.now.detectors in
+    given_shot n (records_01 n) (front_01 n) _ _ _ (shots_01 n) (returns-in_ok-shot-in-Line-clause-meaning c).0

@@ -2,6 +2,7 @@ use Rattle.std.proofs.Common.{drop, arith}
 use Rattle.fb_shots_stim.specs.BlocksB8.{block_len, records_b8, front_b8}
 use Rattle.fb_shots_stim.proofs.RecordLemmas.{answer_from}
 use Rattle.fb_shots_stim.proofs.LemmasB8.{next_refused, next_shot}
+use Rattle.fb_shots_stim.proofs.ShotLemmas.{shots_b8, given_shot}
 use Rattle.fb_shots_stim.proofs.packed.RecordsB8.next.Goals as goal
 
 pub returns-then-has_padding-clause-meaning : goal.returns-then-has_padding-clause-meaning
@@ -20,3 +21,8 @@ returns-clause-meaning c =
 pub returns-clause-answer : goal.returns-clause-answer
 returns-clause-answer c =
     answer_from records_b8 front_b8 (drop (block_len c.args.self.now.detectors)) _ _ _ (returns-clause-meaning c)
+
+pub returns-clause-shot : goal.returns-clause-shot
+returns-clause-shot c =
+    let n = c.args.self.now.detectors in
+    given_shot n (records_b8 n) (front_b8 n) _ _ _ (shots_b8 n) (returns-clause-meaning c).0
