@@ -1,6 +1,6 @@
 -- The detectors of a shot rise, and are among those that there are.
 use Rattle.std.specs.Prelude.{if◌then◌else◌}
-use Rattle.std.proofs.Common.{◌≡◌, ℕ, zero, suc, ◌+◌, ◌<◌, ◌≤◌, Bool, cond, nat_lt, eqb, List, [], ◌∷◌, length, take, All, Option, Some, None, Result, Ok, Err, refl, subst, arith}
+use Rattle.std.proofs.Common.{◌≡◌, ℕ, zero, suc, ◌+◌, ◌<◌, ◌≤◌, Bool, nat_lt, eqb, List, [], ◌∷◌, length, take, All, Option, Some, None, Result, Ok, Err, subst, arith}
 use Rattle.std.specs.List.{list_any, list_all, filter, range_with_len}
 use Rattle.std.specs.List.Sorted.{IsStrictlyIncreasing}
 use Rattle.std.proofs.lemmas.Bool.{cond_both, ltb-false}
