@@ -23,6 +23,7 @@ abbrev IsLeft : (judge : Judge) (begun : List ℕ → Ending) → (bytes shot le
 IsLeft judge begun bytes shot left =
     (front_by_lines judge begun bytes ≡ in_front shot (front_by_lines judge begun left))
     × ((more : List ℕ) → records_by_lines judge (bytes ++ more) ≡ in_front shot (records_by_lines judge (left ++ more)))
+    × ((more : List ℕ) → front_by_lines judge begun (bytes ++ more) ≡ in_front shot (front_by_lines judge begun (left ++ more)))
 
 no_shots : {P : Type 0} (r : Records) (ending : Ending) (shot : List ℕ) (shots : List (List ℕ)) → r ≡ only ending → r.shots ≡ shot ∷ shots → P
 no_shots r ending shot shots e h = absurd (let none : r.shots ≡ [] = ap (λ (x : Records). x.shots) e in cc)
@@ -50,6 +51,9 @@ first_left (suc fuel) judge begun after leaves bytes shot shots lt e =
           λ more. ap (records_by_lines judge) (append_assoc line (10 ∷ m) more) ∙ records_one judge line (m ++ more) h
               ∙ ap (λ (r : Result (Option (List ℕ)) Kind). with_line r (records_by_lines judge (m ++ more))) judged
               ∙ left.1 more ∙ ap (λ (l : List ℕ). in_front shot (records_by_lines judge (l ++ more))) (sym skipped),
+          λ more. ap (front_by_lines judge begun) (append_assoc line (10 ∷ m) more) ∙ front_one judge begun line (m ++ more) h
+              ∙ ap (λ (r : Result (Option (List ℕ)) Kind). with_line r (front_by_lines judge begun (m ++ more))) judged
+              ∙ left.2 more ∙ ap (λ (l : List ℕ). in_front shot (front_by_lines judge begun (l ++ more))) (sym skipped),
         )
     by_line line m h (Ok (Some first)) judged later e =
         let front : front_by_lines judge begun (line ++ 10 ∷ m) ≡ in_front first (front_by_lines judge begun m) =
@@ -60,6 +64,9 @@ first_left (suc fuel) judge begun after leaves bytes shot shots lt e =
           λ more. ap (records_by_lines judge) (append_assoc line (10 ∷ m) more) ∙ records_one judge line (m ++ more) h
               ∙ ap (λ (r : Result (Option (List ℕ)) Kind). with_line r (records_by_lines judge (m ++ more))) judged
               ∙ ap (λ (l : List ℕ). in_front l (records_by_lines judge (m ++ more))) same ∙ ap (λ (l : List ℕ). in_front shot (records_by_lines judge (l ++ more))) (sym left),
+          λ more. ap (front_by_lines judge begun) (append_assoc line (10 ∷ m) more) ∙ front_one judge begun line (m ++ more) h
+              ∙ ap (λ (r : Result (Option (List ℕ)) Kind). with_line r (front_by_lines judge begun (m ++ more))) judged
+              ∙ ap (λ (l : List ℕ). in_front l (front_by_lines judge begun (m ++ more))) same ∙ ap (λ (l : List ℕ). in_front shot (front_by_lines judge begun (l ++ more))) (sym left),
         )
 
 -- ---- JSON lines

@@ -119,6 +119,9 @@ gives_line judge begun old new line shot cut h j =
       later = λ _ more. ap (λ (l : List ℕ). records_by_lines judge (l ++ more)) cut
           ∙ ap (records_by_lines judge) (append_assoc line (10 ∷ new.rest) more)
           ∙ records_one judge line (new.rest ++ more) h ∙ is_shot (records_by_lines judge (new.rest ++ more));
+      onward = λ _ more. ap (λ (l : List ℕ). front_by_lines judge begun (l ++ more)) cut
+          ∙ ap (front_by_lines judge begun) (append_assoc line (10 ∷ new.rest) more)
+          ∙ front_one judge begun line (new.rest ++ more) h ∙ is_shot (front_by_lines judge begun (new.rest ++ more));
     }
 
 -- the last line of a whole input, which is a shot
@@ -130,4 +133,5 @@ gives_last judge begun old new b line shot done old-is new-is h j = record {
       ∙ ap (λ (l : List ℕ). in_front shot (records_by_lines judge l)) (sym new-is);
   so_far = λ f. absurd (false_true old.finished done f);
   later = λ f. absurd (false_true old.finished done f);
+  onward = λ f. absurd (false_true old.finished done f);
 }

@@ -137,6 +137,7 @@ skip_gives g skipped line rest old new shot at cut given = record {
   now = ap (records_json g) cut ∙ at.all rest ∙ given.now;
   so_far = λ open_. ap (front_json g) cut ∙ at.front rest ∙ given.so_far open_;
   later = λ open_ more. ap (λ (l : List ℕ). records_json g (l ++ more)) cut ∙ ap (records_json g) (append_assoc skipped rest more) ∙ at.all (rest ++ more) ∙ given.later open_ more;
+  onward = λ open_ more. ap (λ (l : List ℕ). front_json g (l ++ more)) cut ∙ ap (front_json g) (append_assoc skipped rest more) ∙ at.front (rest ++ more) ∙ given.onward open_ more;
 }
 
 skip_refuses : (g : DecodingGraph) (skipped line rest : List ℕ) (old : Reader) (kind : Kind) → IsAt g skipped line → old.rest ≡ skipped ++ rest

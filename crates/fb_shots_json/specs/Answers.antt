@@ -23,6 +23,7 @@ pub record Gives (records front : List ℕ → Records) (old new : Reader) (shot
   pub now : records old.rest ≡ in_front shot (records new.rest)
   pub so_far : old.finished ≡ false → front old.rest ≡ in_front shot (front new.rest)
   pub later : old.finished ≡ false → (more : List ℕ) → records (old.rest ++ more) ≡ in_front shot (records (new.rest ++ more))
+  pub onward : old.finished ≡ false → (more : List ℕ) → front (old.rest ++ more) ≡ in_front shot (front (new.rest ++ more))
 
 -- The rest begins by what is refused, whatever is fed later.
 pub record Refuses (records front : List ℕ → Records) (old : Reader) (kind : Kind) : Type 0 where
@@ -56,3 +57,4 @@ FirstRecordLeaves =
     (g : DecodingGraph) (bytes shot : List ℕ) (shots : List (List ℕ)) → (front_json g bytes).shots ≡ shot ∷ shots
     → (front_json g bytes ≡ in_front shot (front_json g (after_record bytes)))
     × ((more : List ℕ) → records_json g (bytes ++ more) ≡ in_front shot (records_json g (after_record bytes ++ more)))
+    × ((more : List ℕ) → front_json g (bytes ++ more) ≡ in_front shot (front_json g (after_record bytes ++ more)))

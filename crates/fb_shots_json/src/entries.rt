@@ -21,7 +21,7 @@ pub fn naturals(alloc: Global, values: &[Value]) -> Result<Option<Vec<u64>>, NoM
     let Ok(mut found) = Vec::with_capacity(alloc, values.len()) else {
         return Err(NoMemory);
     };
-    for (i, value) in values.iter().enumerate() {
+    for value in values {
         let Some(entry) = value.as_u64() else {
             return Ok(None);
         };
@@ -58,7 +58,7 @@ fn real_front(
     let Ok(mut found) = Vec::with_capacity(alloc, listed.len()) else {
         return Err(NoMemory);
     };
-    for (i, entry) in listed.iter().enumerate() {
+    for entry in listed {
         if let Some(kind) = vertex_fault(graph, *entry) {
             return Ok((found, Some(kind)));
         }

@@ -4,5 +4,5 @@ use Rattle.fb_shots_json.specs.TextJson.{naturals_of, onto}
 use Rattle.fb_shots_json.proofs.entries.naturals.Given as goal
 
 -- the entries so far, and the rest
-abbrev pub invariant-loop-i : goal.invariant-loop-i
-invariant-loop-i l = naturals_of (items_view l.values) ≡ onto l.found.items (naturals_of (items_view (drop l.i l.values)))
+abbrev pub invariant-loop-value : goal.invariant-loop-value
+invariant-loop-value l = naturals_of (items_view l.values) ≡ onto l.found.items (naturals_of (items_view (drop l.value-index l.values)))
