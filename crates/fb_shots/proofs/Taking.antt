@@ -1,0 +1,185 @@
+-- Bytes that are taken before an answer.
+use Rattle.std.proofs.Common.{◌≡◌, ℕ, ◌+◌, ◌<◌, Bool, true, false, List, [], ◌∷◌, ◌++◌, Option, Some, None, IfSome, refl, sym, ap, subst, subst₂, ◌∙◌, inl, inr, append_assoc, append-nil}
+use Rattle.std.proofs.lemmas.Bool.{cases_Bool}
+use Rattle.std.specs.Io.KnownBytes.{Consumes, Keeps, IsAtEnd}
+use Rattle.std.proofs.KnownBytes.{Consumes-trans}
+use Rattle.fb_graph.specs.Limits.{DecodingGraph, IsShot}
+use Rattle.fb_shots.specs.declared.answer.Format.{Format}
+use Rattle.fb_shots.specs.declared.answer.ShotFault.{ShotFault}
+use Rattle.fb_shots.specs.declared.answer.Step.{Step}
+use Rattle.fb_shots.specs.declared.answer.Step.TheVariants as step
+use Rattle.fb_shots.specs.Shots.{only, in_front, at_end, refused}
+use Rattle.fb_shots.specs.Formats.{front_of}
+use Rattle.fb_shots.specs.Streams.{Stream, follows}
+use Rattle.fb_shots.specs.Steps.{IfTold, IsReadOut, OnlyTakes, GivesShot, Ends, Refuses, FailsToRead, Answers}
+
+abbrev pub Left : Type 0
+Left = Option (List ℕ)
+
+-- ---- what is told
+
+pub told_same : (P : List ℕ → List ℕ → Type 0) (l : Left) → ((left : List ℕ) → P left left) → IfTold P l l
+told_same P None h = tt
+told_same P (Some left) h = h left
+
+pub told_kept : (P : List ℕ → List ℕ → Type 0) (l m : Left) → Keeps l m → ((left : List ℕ) → P left left) → IfTold P l m
+told_kept P None m k h = tt
+told_kept P (Some left) None k h = absurd k
+told_kept P (Some left) (Some later) k h = subst (P left) (sym k) (h left)
+
+pub told_taken : (P : List ℕ → List ℕ → Type 0) (l m : Left) (bytes : List ℕ) → Consumes l m bytes
+    → ((later : List ℕ) → P (bytes ++ later) later) → IfTold P l m
+told_taken P None m bytes t h = tt
+told_taken P (Some left) None bytes t h = absurd t
+told_taken P (Some left) (Some later) bytes t h = subst (λ (x : List ℕ). P x later) (sym t) (h later)
+
+pub told_end : (P : List ℕ → List ℕ → Type 0) (l m : Left) → Consumes l m [] → IsAtEnd m → P [] [] → IfTold P l m
+told_end P None m t e h = tt
+told_end P (Some left) None t e h = absurd t
+told_end P (Some left) (Some later) t e h = subst₂ P (sym (t ∙ e)) (sym e) h
+
+pub told_then : (P Q R : List ℕ → List ℕ → Type 0) (l m r : Left) → ((x y z : List ℕ) → P x y → Q y z → R x z)
+    → IfTold P l m → IfTold Q m r → IfTold R l r
+told_then P Q R None m r h p q = tt
+told_then P Q R (Some x) None r h p q = absurd p
+told_then P Q R (Some x) (Some y) None h p q = absurd q
+told_then P Q R (Some x) (Some y) (Some z) h p q = h x y z p q
+
+pub told_some : (P : List ℕ → List ℕ → Type 0) (Q R : List ℕ → Type 0) (l m : Left) → ((x y : List ℕ) → P x y → Q y → R x)
+    → IfTold P l m → IfSome m Q → IfSome l R
+told_some P Q R None m h p q = tt
+told_some P Q R (Some x) None h p q = absurd p
+told_some P Q R (Some x) (Some y) h p q = h x y p q
+
+pub each_some : (P : List ℕ → Type 0) (l : Left) → ((left : List ℕ) → P left) → IfSome l P
+each_some P None h = tt
+each_some P (Some left) h = h left
+
+nothing_of : (bs ys : List ℕ) → [] ≡ bs ++ ys → ys ≡ []
+nothing_of [] ys e = sym e
+nothing_of (b ∷ bs) ys e = absurd cc
+
+pub stays_read_out : (l m r : Left) (bytes : List ℕ) → IsReadOut l m → Consumes m r bytes → IsReadOut l r
+stays_read_out None m r bytes e t = tt
+stays_read_out (Some x) None r bytes e t = absurd e
+stays_read_out (Some x) (Some y) None bytes e t = absurd t
+stays_read_out (Some x) (Some y) (Some z) bytes e t = nothing_of bytes z (sym e ∙ t)
+
+pub later_read_out : (l m r : Left) (bytes : List ℕ) → Consumes l m bytes → IsReadOut m r → IsReadOut l r
+later_read_out None m r bytes t e = tt
+later_read_out (Some x) None r bytes t e = absurd t
+later_read_out (Some x) (Some y) None bytes t e = absurd e
+later_read_out (Some x) (Some y) (Some z) bytes t e = e
+
+-- ---- bytes that are taken, and then more
+
+true_false : {P : Type 0} (b : Bool) → b ≡ true → b ≡ false → P
+true_false b t f = absurd cc
+
+pub open_before : (a b : Stream) (l m : Left) → OnlyTakes a b l m → b.finished ≡ false → a.finished ≡ false
+open_before a b l m p still = elim (cases_Bool a.finished) [
+  | inl done ↦ true_false b.finished (ap (λ (s : Stream). s.finished) (p.ended done) ∙ done) still
+  | inr still ↦ still
+]
+
+-- the end was seen by the first or by the second
+read_out_by : (a b c : Stream) (l m r : Left) (bytes : List ℕ) → OnlyTakes a b l m → Consumes m r bytes
+    → (b.finished ≡ false → IsReadOut m r) → a.finished ≡ false → IsReadOut l r
+read_out_by a b c l m r bytes p t q still = elim (cases_Bool b.finished) [
+  | inl done ↦ stays_read_out l m r bytes (p.end still done) t
+  | inr still ↦ later_read_out l m r p.piece p.taken (q still)
+]
+
+pub takes_nothing : (a : Stream) (l m : Left) → a.finished ≡ false → Keeps l m → OnlyTakes a a l m
+takes_nothing a l m still k = record {
+  piece = [];
+  taken = kept l m k;
+  rest = sym (append-nil a.rest);
+  room = refl;
+  gives = told_kept (λ left later. follows a left ≡ follows a later) l m k (λ left. refl);
+  end = λ still done. true_false a.finished done still;
+  ended = λ done. refl;
+  unread = λ done. true_false a.finished done still;
+  others = refl;
+}
+  where
+    kept : (l m : Left) → Keeps l m → Consumes l m []
+    kept None m k = tt
+    kept (Some x) None k = absurd k
+    kept (Some x) (Some y) k = sym k
+
+-- a stream that had seen the file's end before
+unread_by : (a b : Stream) (l m r : Left) → OnlyTakes a b l m → (b.finished ≡ true → r ≡ m) → a.finished ≡ true → r ≡ l
+unread_by a b l m r p q done = q (ap (λ (s : Stream). s.finished) (p.ended done) ∙ done) ∙ p.unread done
+
+pub then_takes : (a b c : Stream) (l m r : Left) → OnlyTakes a b l m → OnlyTakes b c m r → OnlyTakes a c l r
+then_takes a b c l m r p q = record {
+  piece = p.piece ++ q.piece;
+  taken = Consumes-trans l m r p.piece q.piece p.taken q.taken;
+  rest = q.rest ∙ ap (λ (x : List ℕ). x ++ q.piece) p.rest ∙ append_assoc a.rest p.piece q.piece;
+  room = q.room ∙ p.room;
+  gives = told_then (λ x y. follows a x ≡ follows b y) (λ y z. follows b y ≡ follows c z) (λ x z. follows a x ≡ follows c z)
+      l m r (λ x y z e f. e ∙ f) p.gives q.gives;
+  end = λ still done. read_out_by a b c l m r q.piece p q.taken (λ still. q.end still done) still;
+  ended = λ done. q.ended (ap (λ (s : Stream). s.finished) (p.ended done) ∙ done) ∙ p.ended done;
+  unread = unread_by a b l m r p q.unread;
+  others = q.others ∙ ap (λ (s : Stream). record s { rest = c.rest; finished = c.finished; untaken = c.untaken }) p.others;
+}
+
+then_gives : (a b c : Stream) (l m r : Left) (shot : List ℕ) → OnlyTakes a b l m → GivesShot b c m r shot → GivesShot a c l r shot
+then_gives a b c l m r shot p q =
+    let format : b.format ≡ a.format = ap (λ (s : Stream). s.format) p.others in
+    let graph : b.graph ≡ a.graph = ap (λ (s : Stream). s.graph) p.others in
+    let given : b.given ≡ a.given = ap (λ (s : Stream). s.given) p.others in
+    let limit : b.limit ≡ a.limit = ap (λ (s : Stream). s.limit) p.others in record {
+      piece = p.piece ++ q.piece;
+      taken = Consumes-trans l m r p.piece q.piece p.taken q.taken;
+      gives = told_then (λ x y. follows a x ≡ follows b y) (λ y z. follows b y ≡ in_front shot (follows c z))
+          (λ x z. follows a x ≡ in_front shot (follows c z)) l m r (λ x y z e f. e ∙ f) p.gives q.gives;
+      unfinished = λ still. open_before a b l m p (q.unfinished still);
+      front = λ still more.
+          ap (front_of a.format a.graph) (ap (λ (x : List ℕ). a.rest ++ x) (append_assoc p.piece q.piece more)
+          ∙ sym (append_assoc a.rest p.piece (q.piece ++ more)) ∙ ap (λ (x : List ℕ). x ++ (q.piece ++ more)) (sym p.rest))
+          ∙ subst₂ (λ (f : Format) (g : DecodingGraph). front_of f g (b.rest ++ (q.piece ++ more)) ≡ in_front shot (front_of f g (c.rest ++ more)))
+          format graph (q.front still more);
+      end = λ still done. read_out_by a b c l m r q.piece p q.taken (λ still. q.end still done) still;
+      unread = unread_by a b l m r p q.unread;
+      is_shot = subst (λ (g : DecodingGraph). IsShot g shot) graph q.is_shot;
+      counts = q.counts ∙ ap (λ (n : ℕ). n + 1) given;
+      below = subst₂ (λ (n k : ℕ). n < k) given limit q.below;
+      others = q.others ∙ ap (λ (s : Stream). record s { rest = c.rest; finished = c.finished; untaken = c.untaken; given = c.given }) p.others;
+    }
+
+then_ends : (a b c : Stream) (l m r : Left) → OnlyTakes a b l m → Ends b c m r → Ends a c l r
+then_ends a b c l m r p q = record {
+  piece = p.piece ++ q.piece;
+  taken = Consumes-trans l m r p.piece q.piece p.taken q.taken;
+  gives = told_some (λ x y. follows a x ≡ follows b y) (λ y. follows b y ≡ only at_end) (λ x. follows a x ≡ only at_end)
+      l m (λ x y e f. e ∙ f) p.gives q.gives;
+  finished = q.finished;
+  end = λ still. read_out_by a b c l m r q.piece p q.taken q.end still;
+  unread = unread_by a b l m r p q.unread;
+  again = q.again;
+  others = q.others ∙ ap (λ (s : Stream). record s { rest = c.rest; finished = c.finished; untaken = c.untaken }) p.others;
+}
+
+then_refuses : (a b c : Stream) (l m : Left) (fault : ShotFault) → OnlyTakes a b l m → Refuses b c m fault → Refuses a c l fault
+then_refuses a b c l m fault p q = record {
+  number = q.number ∙ ap (λ (s : Stream). s.given) p.others;
+  gives = told_some (λ x y. follows a x ≡ follows b y) (λ y. follows b y ≡ only (refused fault.kind))
+      (λ x. follows a x ≡ only (refused fault.kind)) l m (λ x y e f. e ∙ f) p.gives q.gives;
+  stops = q.stops;
+  again = q.again;
+  others = q.others
+      ∙ ap (λ (s : Stream). record s { rest = c.rest; finished = c.finished; untaken = c.untaken; stopped = c.stopped }) p.others;
+}
+
+then_fails : (a b c : Stream) (l m r : Left) → OnlyTakes a b l m → FailsToRead b c m r → FailsToRead a c l r
+then_fails a b c l m r p q =
+    record { takes = then_takes a b c l m r p q.takes; unfinished = q.unfinished; runs = q.runs; undecided = q.undecided }
+
+pub then_answers : (a b c : Stream) (l m r : Left) (s : Step) → OnlyTakes a b l m → Answers b c m r s → Answers a c l r s
+then_answers a b c l m r (step.Shot shot) p q = then_gives a b c l m r shot p q
+then_answers a b c l m r step.End p q = then_ends a b c l m r p q
+then_answers a b c l m r (step.Refused fault) p q = then_refuses a b c l m fault p q
+then_answers a b c l m r step.ReadFault p q = then_fails a b c l m r p q

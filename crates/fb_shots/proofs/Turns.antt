@@ -1,0 +1,372 @@
+-- What one turn of a stream does: its bytes are fed, its reader is asked, and where that decides nothing a read is made.
+use Rattle.std.proofs.Common.{◌≡◌, ℕ, suc, ◌+◌, ◌-◌, ◌<◌, ◌≤◌, Bool, true, false, List, [], ◌++◌, length, if◌then◌else◌, Option, Some, None, IfSome, refl, sym, ap, subst, subst₂, ◌∙◌, inl, inr, append-nil, length-append, arith}
+use Rattle.std.proofs.lemmas.Bool.{cases_Bool, cond-false, cond-true}
+use Rattle.std.specs.Io.KnownBytes.{Consumes, Keeps, IsAtEnd}
+use Rattle.std.proofs.KnownBytes.{Consumes-nil}
+use Rattle.fb_shots.specs.declared.answer.Kind.{Kind}
+use Rattle.fb_shots.specs.declared.answer.Kind.TheVariants.{TooManyShots, InputTooLong}
+use Rattle.fb_shots.specs.declared.answer.Step.{Step}
+use Rattle.fb_shots.specs.declared.answer.Step.TheVariants as step
+use Rattle.fb_shots.specs.declared.reader.Next.{Next}
+use Rattle.fb_shots.specs.declared.reader.Next.TheVariants as next
+use Rattle.fb_shots.specs.declared.stream.Read.TheVariants as read
+use Rattle.fb_shots.specs.Shots.{Shots, only, in_front, at_end, refused, capped}
+use Rattle.fb_shots.specs.Formats.{records_of, front_of}
+use Rattle.fb_shots.specs.Sources.{Source}
+use Rattle.fb_shots.specs.Answers.{Gives}
+use Rattle.fb_shots.specs.Answers as reader
+use Rattle.fb_shots.specs.Streams.{most_bytes, Stream, stream_by, stream_of, or_refusal, follows}
+use Rattle.fb_shots.specs.Steps.{OnlyTakes, GivesShot, Ends, Refuses, FailsToRead, Answers, may_read}
+use Rattle.fb_shots.specs.Reads.{ReadsOn}
+use Rattle.fb_shots.proofs.Follows.{fed, held, capped_only, capped_shot, capped_none, held_shot, held_refused, held_piece, held_end, held_long, follows_open, follows_done}
+use Rattle.fb_shots.proofs.Taking.{Left, told_same, told_taken, told_end, each_some, takes_nothing}
+
+-- once the piece that was read is fed
+pub when_fed : (a b : Source) (piece : List ℕ) (u k l : ℕ) (stopped : Option Kind) → b ≡ record a { rest = a.rest ++ piece }
+    → stream_by a piece u k l stopped ≡ fed b u k l stopped
+when_fed a b piece u k l stopped e = ap (λ (s : Source). fed s u k l stopped) (sym e)
+
+pub when_empty : (a : Source) (piece : List ℕ) (u k l : ℕ) (stopped : Option Kind) → piece ≡ [] → stream_by a piece u k l stopped ≡ fed a u k l stopped
+when_empty a piece u k l stopped e =
+    let made : List ℕ → Stream = λ rest. fed (record a { rest = rest }) u k l stopped in
+    ap made (ap (λ (p : List ℕ). a.rest ++ p) e ∙ append-nil a.rest)
+
+true_false : {P : Type 0} (b : Bool) → b ≡ true → b ≡ false → P
+true_false b t f = absurd cc
+
+capped_onward : (l k : ℕ) (shot : List ℕ) (r : Shots) → k < l → capped (l - k) (in_front shot r) ≡ in_front shot (capped (l - (k + 1)) r)
+capped_onward l k shot r less =
+    let one : l - k ≡ suc (l - (k + 1)) = omega arith in
+    ap (λ (n : ℕ). capped n (in_front shot r)) one ∙ capped_shot (l - (k + 1)) shot r
+
+-- ---- a shot
+
+follows_shot : (a : Source) (new shot : List ℕ) (u k l : ℕ) (left : List ℕ)
+    → Gives (records_of a.format a.graph) (front_of a.format a.graph) a.finished a.rest new shot → k < l
+    → follows (fed a u k l None) left ≡ in_front shot (follows (fed (record a { rest = new }) u (k + 1) l None) left)
+follows_shot a new shot u k l left h less =
+    let b : Source = record a { rest = new } in
+    elim (cases_Bool a.finished) [
+      | inl done ↦
+          follows_done a u k l left done ∙ ap (capped (l - k)) h.now ∙ capped_onward l k shot (records_of a.format a.graph new) less
+          ∙ ap (in_front shot) (sym (follows_done b u (k + 1) l left done))
+      | inr still ↦
+          follows_open a u k l left still ∙ ap (capped (l - k)) (held_shot a.format a.graph a.rest new shot u left a.finished still h)
+          ∙ capped_onward l k shot (held a.format a.graph new u left) less
+          ∙ ap (in_front shot) (sym (follows_open b u (k + 1) l left still))
+    ]
+
+gives_from : (a : Source) (new shot : List ℕ) (u k l : ℕ) (left : Left) → reader.Answers a (record a { rest = new }) (next.Shot shot) → k < l
+    → GivesShot (fed a u k l None) (fed (record a { rest = new }) u (k + 1) l None) left left shot
+gives_from a new shot u k l left h less = record {
+  piece = [];
+  taken = Consumes-nil left;
+  gives = told_same (λ x y. follows (fed a u k l None) x ≡ in_front shot (follows (fed (record a { rest = new }) u (k + 1) l None) y)) left
+      (λ x. follows_shot a new shot u k l x h.0 less);
+  unfinished = λ still. still;
+  front = λ still more. h.0.onward still more;
+  end = λ still done. true_false a.finished done still;
+  unread = λ done. refl;
+  is_shot = h.1;
+  counts = refl;
+  below = less;
+  others = refl;
+}
+
+pub turn_gives : (a b : Source) (shot : List ℕ) (u k l : ℕ) (left : Left) → reader.Answers a b (next.Shot shot) → k < l
+    → GivesShot (fed a u k l None) (fed b u (k + 1) l None) left left shot
+turn_gives a b shot u k l left h less =
+    let from = gives_from a b.rest shot u k l left (subst (λ (s : Source). reader.Answers a s (next.Shot shot)) h.2 h) less in
+    subst (λ (s : Source). GivesShot (fed a u k l None) (fed s u (k + 1) l None) left left shot) (sym h.2) from
+
+-- ---- what stops a stream
+
+same_but_rest : (a b : Source) (u v k l : ℕ) (why : Kind) → b ≡ record a { rest = b.rest }
+    → fed b v k l (Some why) ≡ record (fed a u k l None) { rest = b.rest; finished = b.finished; untaken = v; stopped = Some why }
+same_but_rest a b u v k l why same =
+    let made : Source → Stream = λ s. record {
+      format = s.format;
+      graph = s.graph;
+      rest = b.rest;
+      finished = b.finished;
+      untaken = v;
+      given = k;
+      limit = l;
+      stopped = Some why;
+    } in
+    ap made same
+
+stops : (a b : Source) (u v k l : ℕ) (left : Left) (why : Kind) → b ≡ record a { rest = b.rest }
+    → IfSome left (λ x. follows (fed a u k l None) x ≡ only (refused why))
+    → Refuses (fed a u k l None) (fed b v k l (Some why)) left (record { shot = k; kind = why })
+stops a b u v k l left why same gives = record {
+  number = refl;
+  gives = gives;
+  stops = refl;
+  again = λ x. refl;
+  others = same_but_rest a b u v k l why same;
+}
+
+follows_too_many : (a : Source) (new shot : List ℕ) (u k l : ℕ) (left : List ℕ)
+    → Gives (records_of a.format a.graph) (front_of a.format a.graph) a.finished a.rest new shot → l ≤ k
+    → follows (fed a u k l None) left ≡ only (refused TooManyShots)
+follows_too_many a new shot u k l left h full =
+    let none : l - k ≡ 0 = omega arith in
+    let capped_here : (r : Shots) → capped (l - k) (in_front shot r) ≡ only (refused TooManyShots) =
+    λ r. ap (λ (n : ℕ). capped n (in_front shot r)) none ∙ capped_none shot r in
+    elim (cases_Bool a.finished) [
+      | inl done ↦
+          follows_done a u k l left done ∙ ap (capped (l - k)) h.now ∙ capped_here (records_of a.format a.graph new)
+      | inr still ↦
+          follows_open a u k l left still ∙ ap (capped (l - k)) (held_shot a.format a.graph a.rest new shot u left a.finished still h)
+          ∙ capped_here (held a.format a.graph new u left)
+    ]
+
+pub turn_too_many : (a b : Source) (shot : List ℕ) (u k l : ℕ) (left : Left) → reader.Answers a b (next.Shot shot) → l ≤ k
+    → Refuses (fed a u k l None) (fed b u k l (Some TooManyShots)) left (record { shot = k; kind = TooManyShots })
+turn_too_many a b shot u k l left h full =
+    stops a b u u k l left TooManyShots h.2
+    (each_some (λ x. follows (fed a u k l None) x ≡ only (refused TooManyShots)) left (λ x. follows_too_many a b.rest shot u k l x h.0 full))
+
+follows_refused : (a : Source) (why : Kind) (u k l : ℕ) (left : List ℕ)
+    → reader.Refuses (records_of a.format a.graph) (front_of a.format a.graph) a.finished a.rest why
+    → follows (fed a u k l None) left ≡ only (refused why)
+follows_refused a why u k l left h = elim (cases_Bool a.finished) [
+  | inl done ↦ follows_done a u k l left done ∙ ap (capped (l - k)) h.now ∙ capped_only (l - k) (refused why)
+  | inr still ↦
+      follows_open a u k l left still ∙ ap (capped (l - k)) (held_refused a.format a.graph a.rest why u left a.finished still h)
+      ∙ capped_only (l - k) (refused why)
+]
+
+pub turn_refuses : (a b : Source) (why : Kind) (u k l : ℕ) (left : Left) → reader.Answers a b (next.Refused why)
+    → Refuses (fed a u k l None) (fed b u k l (Some why)) left (record { shot = k; kind = why })
+turn_refuses a b why u k l left h =
+    stops a b u u k l left why (h.1 ∙ ap (λ (s : Source). record a { rest = s.rest }) (sym h.1))
+    (each_some (λ x. follows (fed a u k l None) x ≡ only (refused why)) left (λ x. follows_refused a why u k l x h.0))
+
+pub turn_too_long : (a b : Source) (u v k l : ℕ) (left : Left) → reader.Answers a b next.NotYet → u ≡ 0 → IfSome left (λ x. 0 < length x)
+    → Refuses (fed a u k l None) (fed b v k l (Some InputTooLong)) left (record { shot = k; kind = InputTooLong })
+turn_too_long a b u v k l left h none more =
+    stops a b u v k l left InputTooLong (h.2 ∙ ap (λ (s : Source). record a { rest = s.rest }) (sym h.2)) (in_left left more)
+  where
+    in_left : (left : Left) → IfSome left (λ x. 0 < length x) → IfSome left (λ x. follows (fed a u k l None) x ≡ only (refused InputTooLong))
+    in_left None more = tt
+    in_left (Some x) more =
+        follows_open a u k l x h.0
+        ∙ ap (capped (l - k)) (ap (λ (n : ℕ). held a.format a.graph a.rest n x) none ∙ held_long a.format a.graph a.rest x more h.1)
+        ∙ capped_only (l - k) (refused InputTooLong)
+
+stopped_gives : (stopped : Option Kind) (why : Kind) (r : Shots) → stopped ≡ Some why → or_refusal stopped r ≡ only (refused why)
+stopped_gives stopped why r e = ap (λ (o : Option Kind). or_refusal o r) e
+
+-- it was refused before
+pub stays_stopped : (s : Stream) (left : Left) (why : Kind) → s.stopped ≡ Some why → Refuses s s left (record { shot = s.given; kind = why })
+stays_stopped s left why e =
+    let again : (x : List ℕ) → follows s x ≡ only (refused why) = λ x. stopped_gives s.stopped why _ e in
+    record { number = refl; gives = each_some (λ x. follows s x ≡ only (refused why)) left again; stops = e; again = again; others = refl }
+
+-- ---- the end
+
+follows_end : (a : Source) (u k l : ℕ) (left : List ℕ) → a.finished ≡ true → records_of a.format a.graph a.rest ≡ only at_end
+    → follows (fed a u k l None) left ≡ only at_end
+follows_end a u k l left done e = follows_done a u k l left done ∙ ap (capped (l - k)) e ∙ capped_only (l - k) at_end
+
+pub turn_ends : (a b : Source) (u k l : ℕ) (left : Left) → reader.Answers a b next.End
+    → Ends (fed a u k l None) (fed b u k l None) left left
+turn_ends a b u k l left h = subst (λ (s : Source). Ends (fed a u k l None) (fed s u k l None) left left) (sym h.2) from
+  where
+    from : Ends (fed a u k l None) (fed a u k l None) left left
+    from = record {
+      piece = [];
+      taken = Consumes-nil left;
+      gives = each_some (λ x. follows (fed a u k l None) x ≡ only at_end) left (λ x. follows_end a u k l x h.0 h.1);
+      finished = h.0;
+      end = λ still. true_false a.finished h.0 still;
+      unread = λ done. refl;
+      again = λ x. follows_end a u k l x h.0 h.1;
+      others = refl;
+    }
+
+-- ---- a read
+
+takes_piece : (a : Source) (u v k l : ℕ) (before after : Left) (bytes : List ℕ) → a.finished ≡ false → Consumes before after bytes
+    → u ≡ v + length bytes → OnlyTakes (fed a u k l None) (stream_by a bytes v k l None) before after
+takes_piece a u v k l before after bytes still taken room =
+    let b : Source = record a { rest = a.rest ++ bytes } in record {
+      piece = bytes;
+      taken = taken;
+      rest = refl;
+      room = omega (arith, length-append a.rest bytes);
+      gives = told_taken (λ x y. follows (fed a u k l None) x ≡ follows (fed b v k l None) y) before after bytes taken
+          (λ later. follows_open a u k l (bytes ++ later) still
+          ∙ ap (capped (l - k)) (held_piece a.format a.graph a.rest bytes u v later room)
+          ∙ sym (follows_open b v k l later still));
+      end = λ still done. true_false a.finished done still;
+      ended = λ done. true_false a.finished done still;
+      unread = λ done. true_false a.finished done still;
+      others = refl;
+    }
+
+pub turn_takes : (a b c : Source) (u v k l : ℕ) (before after : Left) (bytes : List ℕ) → reader.Answers a b next.NotYet → c ≡ b
+    → Consumes before after bytes → u ≡ v + length bytes → OnlyTakes (fed a u k l None) (stream_by c bytes v k l None) before after
+turn_takes a b c u v k l before after bytes h same taken room =
+    subst (λ (s : Source). OnlyTakes (fed a u k l None) (stream_by s bytes v k l None) before after) (sym (same ∙ h.2))
+    (takes_piece a u v k l before after bytes h.0 taken room)
+
+sees_end : (a : Source) (u k l : ℕ) (before after : Left) → a.finished ≡ false → Consumes before after [] → IsAtEnd after
+    → OnlyTakes (fed a u k l None) (fed (record a { finished = true }) u k l None) before after
+sees_end a u k l before after still taken at =
+    let b : Source = record a { finished = true } in record {
+      piece = [];
+      taken = taken;
+      rest = sym (append-nil a.rest);
+      room = refl;
+      gives = told_end (λ x y. follows (fed a u k l None) x ≡ follows (fed b u k l None) y) before after taken at
+          (follows_open a u k l [] still ∙ ap (capped (l - k)) (held_end a.format a.graph a.rest u) ∙ sym (follows_done b u k l [] refl));
+      end = λ still done. told_end (λ x y. y ≡ []) before after taken at refl;
+      ended = λ done. true_false a.finished done still;
+      unread = λ done. true_false a.finished done still;
+      others = refl;
+    }
+
+pub turn_sees_end : (a b c : Source) (u v k l : ℕ) (before after : Left) (piece : List ℕ) → reader.Answers a b next.NotYet → c ≡ record b { finished = true }
+    → piece ≡ [] → Consumes before after [] → IsAtEnd after → v ≡ u → OnlyTakes (fed a u k l None) (stream_by c piece v k l None) before after
+turn_sees_end a b c u v k l before after piece h same empty taken at count =
+    let is : stream_by c piece v k l None ≡ fed (record a { finished = true }) u k l None =
+    when_empty c piece v k l None empty
+    ∙ ap (λ (s : Source). fed s v k l None) (same ∙ ap (λ (s : Source). record s { finished = true }) h.2)
+    ∙ ap (λ (n : ℕ). fed (record a { finished = true }) n k l None) count in
+    subst (λ (s : Stream). OnlyTakes (fed a u k l None) s before after) (sym is) (sees_end a u k l before after h.0 taken at)
+
+pub turn_fails : (a b c : Source) (u v k l : ℕ) (before after : Left) (piece : List ℕ) → reader.Answers a b next.NotYet → c ≡ b
+    → piece ≡ [] → Keeps before after → v ≡ u → FailsToRead (fed a u k l None) (stream_by c piece v k l None) before after
+turn_fails a b c u v k l before after piece h same empty kept count =
+    let is : stream_by c piece v k l None ≡ fed a u k l None =
+    when_empty c piece v k l None empty ∙ ap (λ (s : Source). fed s v k l None) (same ∙ h.2) ∙ ap (λ (n : ℕ). fed a n k l None) count in
+    subst (λ (s : Stream). FailsToRead (fed a u k l None) s before after) (sym is)
+    (record { takes = takes_nothing (fed a u k l None) before after h.0 kept; unfinished = h.0; runs = refl; undecided = h.1 })
+
+-- ---- a stream that begins
+
+pub new_gives : (a b : Source) (piece : List ℕ) (l : ℕ) (bytes : List ℕ) → a ≡ b → b.rest ≡ [] → b.finished ≡ false → piece ≡ []
+    → follows (stream_by a piece most_bytes 0 l None) bytes ≡ stream_of b.format b.graph l most_bytes bytes
+new_gives a b piece l bytes same none still empty =
+    ap (λ (s : Stream). follows s bytes) (when_empty a piece most_bytes 0 l None empty ∙ ap (λ (s : Source). fed s most_bytes 0 l None) same)
+    ∙ cond-false b.finished _ _ still
+    ∙ ap (λ (rest : List ℕ). stream_of b.format b.graph (l - 0) (length rest + most_bytes) (rest ++ bytes)) none
+    ∙ ap (λ (n : ℕ). stream_of b.format b.graph n most_bytes bytes) whole
+  where
+    whole : l - 0 ≡ l
+    whole = omega arith
+
+-- ---- a turn, as the code has its parts at hand
+
+-- The stream `now` has fed its piece p to its reader a, which is b then, and the reader, t after that, has answered.
+pub record Asked (now : Stream) (a b t : Source) (p q : List ℕ) (u k l : ℕ) (stopped : Option Kind) (answer : Next) : Type 0 where
+  pub view : stream_by a p u k l stopped ≡ now
+  pub runs : stopped ≡ None
+  pub feeds : (b ≡ record a { rest = a.rest ++ p }) × (q ≡ [])
+  pub answers : reader.Answers b t answer
+
+was : (now : Stream) (a b t : Source) (p q : List ℕ) (u k l : ℕ) (stopped : Option Kind) (answer : Next)
+    → Asked now a b t p q u k l stopped answer → fed b u k l None ≡ now
+was now a b t p q u k l stopped answer h =
+    sym (when_fed a b p u k l None h.feeds.0) ∙ ap (λ (o : Option Kind). stream_by a p u k l o) (sym h.runs) ∙ h.view
+
+answered : (now : Stream) (a b t : Source) (p q : List ℕ) (u k l : ℕ) (stopped : Option Kind) (answer given : Next)
+    → Asked now a b t p q u k l stopped answer → answer ≡ given → reader.Answers b t given
+answered now a b t p q u k l stopped answer given h e = subst (λ (n : Next). reader.Answers b t n) e h.answers
+
+pub shot_turn : (now : Stream) (a b t : Source) (p q : List ℕ) (u k l : ℕ) (stopped : Option Kind) (answer : Next) (shot : List ℕ) (left : Left)
+    → Asked now a b t p q u k l stopped answer → answer ≡ next.Shot shot → k < l
+    → GivesShot now (stream_by t q u (k + 1) l stopped) left left shot
+shot_turn now a b t p q u k l stopped answer shot left h e less =
+    let is : fed t u (k + 1) l None ≡ stream_by t q u (k + 1) l stopped =
+    sym (when_empty t q u (k + 1) l None h.feeds.1) ∙ ap (λ (o : Option Kind). stream_by t q u (k + 1) l o) (sym h.runs) in
+    subst₂ (λ (x y : Stream). GivesShot x y left left shot) (was now a b t p q u k l stopped answer h) is
+    (turn_gives b t shot u k l left (answered now a b t p q u k l stopped answer (next.Shot shot) h e) less)
+
+pub end_turn : (now : Stream) (a b t : Source) (p q : List ℕ) (u k l : ℕ) (stopped : Option Kind) (answer : Next) (left : Left)
+    → Asked now a b t p q u k l stopped answer → answer ≡ next.End → Ends now (stream_by t q u k l stopped) left left
+end_turn now a b t p q u k l stopped answer left h e =
+    let is : fed t u k l None ≡ stream_by t q u k l stopped =
+    sym (when_empty t q u k l None h.feeds.1) ∙ ap (λ (o : Option Kind). stream_by t q u k l o) (sym h.runs) in
+    subst₂ (λ (x y : Stream). Ends x y left left) (was now a b t p q u k l stopped answer h) is
+    (turn_ends b t u k l left (answered now a b t p q u k l stopped answer next.End h e))
+
+-- a refusal as the code answers it
+refused_as : (now old new : Stream) (t : Source) (q : List ℕ) (v k l : ℕ) (why : Kind) (before after : Left) (s : Step)
+    → old ≡ now → q ≡ [] → new ≡ stream_by t q v k l (Some why) → s ≡ step.Refused (record { shot = k; kind = why })
+    → Refuses old (fed t v k l (Some why)) before (record { shot = k; kind = why }) → Answers now new before after s
+refused_as now old new t q v k l why before after s old-is empty new-is s-is h =
+    let is : fed t v k l (Some why) ≡ new = sym (new-is ∙ when_empty t q v k l (Some why) empty) in
+    subst (λ (x : Step). Answers now new before after x) (sym s-is)
+    (subst₂ (λ (x y : Stream). Refuses x y before (record { shot = k; kind = why })) old-is is h)
+
+pub too_many_turn : (now new : Stream) (a b t : Source) (p q : List ℕ) (u k l : ℕ) (stopped : Option Kind) (answer : Next) (shot : List ℕ) (left : Left) (s : Step)
+    → Asked now a b t p q u k l stopped answer → answer ≡ next.Shot shot → l ≤ k
+    → new ≡ stream_by t q u k l (Some TooManyShots) → s ≡ step.Refused (record { shot = k; kind = TooManyShots })
+    → Answers now new left left s
+too_many_turn now new a b t p q u k l stopped answer shot left s h e full new-is s-is =
+    refused_as now (fed b u k l None) new t q u k l TooManyShots left left s (was now a b t p q u k l stopped answer h) h.feeds.1 new-is s-is
+    (turn_too_many b t shot u k l left (answered now a b t p q u k l stopped answer (next.Shot shot) h e) full)
+
+pub refused_turn : (now new : Stream) (a b t : Source) (p q : List ℕ) (u k l : ℕ) (stopped : Option Kind) (answer : Next) (why : Kind) (left : Left) (s : Step)
+    → Asked now a b t p q u k l stopped answer → answer ≡ next.Refused why
+    → new ≡ stream_by t q u k l (Some why) → s ≡ step.Refused (record { shot = k; kind = why })
+    → Answers now new left left s
+refused_turn now new a b t p q u k l stopped answer why left s h e new-is s-is =
+    refused_as now (fed b u k l None) new t q u k l why left left s (was now a b t p q u k l stopped answer h) h.feeds.1 new-is s-is
+    (turn_refuses b t why u k l left (answered now a b t p q u k l stopped answer (next.Refused why) h e))
+
+pub too_long_turn : (now new : Stream) (a b t c : Source) (p q r : List ℕ) (u v k l : ℕ) (stopped : Option Kind) (answer : Next) (before after : Left) (s : Step)
+    → Asked now a b t p q u k l stopped answer → answer ≡ next.NotYet → ReadsOn t c r u v before after read.TooLong
+    → new ≡ stream_by c r v k l (Some InputTooLong) → s ≡ step.Refused (record { shot = k; kind = InputTooLong })
+    → Answers now new before after s
+too_long_turn now new a b t c p q r u v k l stopped answer before after s h e reads new-is s-is =
+    let asked = answered now a b t p q u k l stopped answer next.NotYet h e in
+    refused_as now (fed b u k l None) new c r v k l InputTooLong before after s (was now a b t p q u k l stopped answer h) reads.1 new-is s-is
+    (turn_too_long b c u v k l before (asked.0, asked.1, reads.0 ∙ asked.2) reads.3 reads.2)
+
+reads_less : (a c : Source) (piece : List ℕ) (u v k l : ℕ) (stopped : Option Kind) → a.finished ≡ false
+    → v + (if c.finished then 0 else 1) < u + 1 → may_read (stream_by c piece v k l stopped) < may_read (fed a u k l None)
+reads_less a c piece u v k l stopped still less =
+    omega (arith, cond-false {A = ℕ} a.finished 0 1 still, less)
+
+pub piece_turn : (now : Stream) (a b t c : Source) (p q r : List ℕ) (u v k l : ℕ) (stopped : Option Kind) (answer : Next) (before after : Left)
+    → Asked now a b t p q u k l stopped answer → answer ≡ next.NotYet → ReadsOn t c r u v before after read.Piece
+    → OnlyTakes now (stream_by c r v k l stopped) before after × (may_read (stream_by c r v k l stopped) < may_read now)
+piece_turn now a b t c p q r u v k l stopped answer before after h e reads =
+    let asked = answered now a b t p q u k l stopped answer next.NotYet h e in
+    let is : stream_by c r v k l None ≡ stream_by c r v k l stopped = ap (λ (o : Option Kind). stream_by c r v k l o) (sym h.runs) in
+    let old = was now a b t p q u k l stopped answer h in
+    let still : c.finished ≡ false = ap (λ (s : Source). s.finished) (reads.0 ∙ asked.2) ∙ asked.0 in
+    let some : 0 < length r = reads.2 in
+    let room : u ≡ v + length r = reads.3 in (
+      subst₂ (λ (x y : Stream). OnlyTakes x y before after) old is (turn_takes b t c u v k l before after r asked reads.0 reads.1 reads.3),
+      subst (λ (x : Stream). may_read (stream_by c r v k l stopped) < may_read x) old
+          (reads_less b c r u v k l stopped asked.0 (omega (arith, cond-false {A = ℕ} c.finished 0 1 still))),
+    )
+
+pub file_end_turn : (now : Stream) (a b t c : Source) (p q r : List ℕ) (u v k l : ℕ) (stopped : Option Kind) (answer : Next) (before after : Left)
+    → Asked now a b t p q u k l stopped answer → answer ≡ next.NotYet → ReadsOn t c r u v before after read.End
+    → OnlyTakes now (stream_by c r v k l stopped) before after × (may_read (stream_by c r v k l stopped) < may_read now)
+file_end_turn now a b t c p q r u v k l stopped answer before after h e reads =
+    let asked = answered now a b t p q u k l stopped answer next.NotYet h e in
+    let is : stream_by c r v k l None ≡ stream_by c r v k l stopped = ap (λ (o : Option Kind). stream_by c r v k l o) (sym h.runs) in
+    let old = was now a b t p q u k l stopped answer h in
+    let done : c.finished ≡ true = ap (λ (s : Source). s.finished) reads.0 in
+    let count : v ≡ u = reads.4 in (
+      subst₂ (λ (x y : Stream). OnlyTakes x y before after) old is (turn_sees_end b t c u v k l before after r asked reads.0 reads.1 reads.2 reads.3 reads.4),
+      subst (λ (x : Stream). may_read (stream_by c r v k l stopped) < may_read x) old
+          (reads_less b c r u v k l stopped asked.0 (omega (arith, cond-true {A = ℕ} c.finished 0 1 done))),
+    )
+
+pub fault_turn : (now : Stream) (a b t c : Source) (p q r : List ℕ) (u v k l : ℕ) (stopped : Option Kind) (answer : Next) (before after : Left)
+    → Asked now a b t p q u k l stopped answer → answer ≡ next.NotYet → ReadsOn t c r u v before after read.Fault
+    → FailsToRead now (stream_by c r v k l stopped) before after
+fault_turn now a b t c p q r u v k l stopped answer before after h e reads =
+    let asked = answered now a b t p q u k l stopped answer next.NotYet h e in
+    let is : stream_by c r v k l None ≡ stream_by c r v k l stopped = ap (λ (o : Option Kind). stream_by c r v k l o) (sym h.runs) in
+    subst₂ (λ (x y : Stream). FailsToRead x y before after) (was now a b t p q u k l stopped answer h) is
+    (turn_fails b t c u v k l before after r asked reads.0 reads.1 reads.2 reads.3)

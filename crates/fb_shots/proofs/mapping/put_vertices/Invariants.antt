@@ -1,0 +1,8 @@
+use Rattle.std.proofs.Common.{◌≡◌, ◌++◌, map, take, drop, get_or}
+use Rattle.fb_graph.specs.Layout.{detectors_of}
+use Rattle.fb_shots.proofs.mapping.put_vertices.Given as goal
+
+abbrev pub invariant-loop-detector : goal.invariant-loop-detector
+invariant-loop-detector l =
+    l.detectors
+    ≡ map (λ k. get_or (detectors_of l.graph) k 0) (take l.detector-index l.initial.detectors) ++ drop l.detector-index l.initial.detectors

@@ -1,0 +1,53 @@
+//! What a stream of shots is asked for, and what it answers.
+
+use fb_graph::Shot;
+
+/// How shots are written: the first three are result formats of Stim.
+#[derive(Clone, Copy, Debug, PartialEq, Eq)]
+pub enum Format {
+    /// `01`: a line for each shot, a byte `0` or `1` for each detector.
+    Text01,
+    /// `b8`: a block of bytes for each shot, a bit for each detector.
+    B8,
+    /// `dets`: a line for each shot, a word for each detector that fired.
+    Dets,
+    /// `json`: a JSON value on a line for each shot, as Fusion Blossom writes a syndrome.
+    Json,
+}
+
+/// Why a record is refused, or why no further one is given.
+#[derive(Clone, Copy, Debug, PartialEq, Eq)]
+pub enum Kind {
+    /// A record in a format of Stim isn't in its form.
+    Stim(fb_shots_stim::Kind),
+    /// A line isn't the JSON value of a shot.
+    Json(fb_shots_json::Kind),
+    /// As many shots as the limit says were given, and a good record follows.
+    TooManyShots,
+    /// As many bytes as are read at most, 2^62, don't tell how the next record ends, and a byte follows.
+    InputTooLong,
+}
+
+/// A refusal: the number of the record, counted from 0, that it stands in place of, and why.
+#[derive(Clone, Copy, Debug, PartialEq, Eq)]
+pub struct ShotFault {
+    pub shot: u32,
+    pub kind: Kind,
+}
+
+/// There was not enough memory.
+#[derive(Clone, Copy, Debug, PartialEq, Eq)]
+pub struct NoMemory;
+
+/// The answer of a stream that was asked for its next shot.
+#[derive(Debug, Drop)]
+pub enum Step {
+    /// A shot.
+    Shot(Shot),
+    /// The file was read to its end, and no record is left.
+    End,
+    /// The next record is refused, and so is each further call.
+    Refused(ShotFault),
+    /// A read failed. Asked again, the stream goes on reading.
+    ReadFault,
+}

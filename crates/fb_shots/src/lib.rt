@@ -1,0 +1,16 @@
+//! The shots of a file in order, in any of four formats, read in pieces.
+#![tactic(auto)]
+
+mod answer;
+mod laws;
+mod mapping;
+mod pieces;
+mod reader;
+mod stream;
+
+pub use answer::{Format, Kind, NoMemory, ShotFault, Step};
+pub use laws::goes_on;
+pub use stream::ShotStream;
+
+#[cfg(test)]
+mod tests;

@@ -1,0 +1,197 @@
+//! One reader for all formats.
+
+ghost use Rattle.std.specs.Prelude.{◌≡◌, ◌++◌, [], false, true, length, IfOk, OnOk, OnErr};
+ghost use Rattle.fb_graph.specs.Layout.{detectors_of};
+ghost use Rattle.fb_graph.specs.Limits.{IsShot};
+ghost use Rattle.fb_shots_stim.specs.Records.{IsShotOf};
+ghost use Rattle.fb_shots_stim.specs.Answers.{IfShot as IfStimShot};
+ghost use Rattle.fb_shots.specs.Answers.{Answers, stim_answer, json_answer};
+ghost use Rattle.fb_shots_json.specs.Answers.{IfShot as IfJsonShot};
+ghost use Rattle.fb_shots.specs.Readers.{source_of, IsReaderOf};
+
+use crate::answer::{Format, Kind, NoMemory};
+use crate::mapping::shot_of_detectors;
+use fb_graph::{Graph, Shot};
+use fb_shots_json::RecordsJson;
+use fb_shots_stim::{Records01, RecordsB8, RecordsDets};
+use std::alloc::Global;
+use std::marker::Model;
+
+/// The answer of a reader that was asked for its next shot.
+#[derive(Drop)]
+pub enum Next {
+    /// A shot.
+    Shot(Shot),
+    /// The bytes fed hold no further whole record, and more may be fed.
+    NotYet,
+    /// The input is finished, and no record is left.
+    End,
+    /// The next record is refused, and so is each further call.
+    Refused(Kind),
+}
+
+/// The reader of a format.
+#[derive(Drop)]
+enum FormatReader<'a> {
+    Text01(Records01),
+    B8(RecordsB8),
+    Dets(RecordsDets),
+    Json(RecordsJson<'a>),
+}
+
+impl<'a> FormatReader<'a> {
+    fn new(alloc: Global, format: Format, graph: &'a Graph) -> Self
+        ensures source { source_of graph.now result
+            ≡ record { format = format; graph = graph.now; rest = []; finished = false } }
+        ensures reader { IsReaderOf graph.now result }
+    {
+        let detectors = graph.detectors();
+        match format {
+            Format::Text01 => FormatReader::Text01(Records01::new(alloc, detectors)),
+            Format::B8 => FormatReader::B8(RecordsB8::new(alloc, detectors)),
+            Format::Dets => FormatReader::Dets(RecordsDets::new(alloc, detectors)),
+            Format::Json => FormatReader::Json(RecordsJson::new(alloc, graph)),
+        }
+    }
+
+    fn feed(&mut self, graph: &Graph, piece: &[u8]) -> Result<(), NoMemory>
+        requires reader { IsReaderOf graph.now self.old }
+        requires open { (source_of graph.now self.old).finished ≡ false }
+        ensures ok { OnOk result (source_of graph.now self.new
+            ≡ record (source_of graph.now self.old) { rest = (source_of graph.now self.old).rest ++ piece.now }) }
+        ensures err { OnErr result (self.new ≡ self.old) }
+        ensures reader { IsReaderOf graph.now self.new }
+    {
+        let fed = match self {
+            FormatReader::Text01(reader) => reader.feed(piece).is_ok(),
+            FormatReader::B8(reader) => reader.feed(piece).is_ok(),
+            FormatReader::Dets(reader) => reader.feed(piece).is_ok(),
+            FormatReader::Json(reader) => reader.feed(piece).is_ok(),
+        };
+        if fed { Ok(()) } else { Err(NoMemory) }
+    }
+
+    fn finish(&mut self, graph: &Graph)
+        requires { IsReaderOf graph.now self.old }
+        ensures source { source_of graph.now self.new ≡ record (source_of graph.now self.old) { finished = true } }
+        ensures reader { IsReaderOf graph.now self.new }
+    {
+        match self {
+            FormatReader::Text01(reader) => reader.finish(),
+            FormatReader::B8(reader) => reader.finish(),
+            FormatReader::Dets(reader) => reader.finish(),
+            FormatReader::Json(reader) => reader.finish(),
+        }
+    }
+
+    fn next(&mut self, graph: &Graph) -> Result<Next, NoMemory>
+        requires { IsReaderOf graph.now self.old }
+        ensures meaning { IfOk result (Answers (source_of graph.now self.old) (source_of graph.now self.new)) }
+        ensures err { OnErr result (self.new ≡ self.old) }
+        ensures reader { IsReaderOf graph.now self.new }
+    {
+        match self {
+            FormatReader::Text01(reader) => match reader.next() {
+                Ok(answer) => Ok(on_vertices(graph, answer)),
+                Err(_) => Err(NoMemory),
+            },
+            FormatReader::B8(reader) => match reader.next() {
+                Ok(answer) => Ok(on_vertices(graph, answer)),
+                Err(_) => Err(NoMemory),
+            },
+            FormatReader::Dets(reader) => match reader.next() {
+                Ok(answer) => Ok(on_vertices(graph, answer)),
+                Err(_) => Err(NoMemory),
+            },
+            FormatReader::Json(reader) => match reader.next() {
+                Ok(answer) => Ok(of_vertices(graph, answer)),
+                Err(_) => Err(NoMemory),
+            },
+        }
+    }
+}
+
+/// The answer of a reader of detectors, as one of vertices.
+fn on_vertices(graph: &Graph, answer: fb_shots_stim::Next) -> Next
+    requires { IfStimShot (IsShotOf (length (detectors_of graph.now))) answer }
+    ensures { result ≡ stim_answer graph.now answer }
+{
+    match answer {
+        fb_shots_stim::Next::Shot(detectors) => {
+            Next::Shot(shot_of_detectors(graph, detectors.into_vec()))
+        }
+        fb_shots_stim::Next::NotYet => Next::NotYet,
+        fb_shots_stim::Next::End => Next::End,
+        fb_shots_stim::Next::Refused(kind) => Next::Refused(Kind::Stim(kind)),
+    }
+}
+
+/// The answer of a reader of vertices.
+fn of_vertices(graph: &Graph, answer: fb_shots_json::Next) -> Next
+    requires { IfJsonShot (IsShot graph.now) answer }
+    ensures { result ≡ json_answer answer }
+{
+    match answer {
+        fb_shots_json::Next::Shot(vertices) => {
+            Next::Shot(Shot::from_rising(graph, vertices.into_vec()))
+        }
+        fb_shots_json::Next::NotYet => Next::NotYet,
+        fb_shots_json::Next::End => Next::End,
+        fb_shots_json::Next::Refused(kind) => Next::Refused(Kind::Json(kind)),
+    }
+}
+
+/// A reader of the shots of a graph in one of the formats, from bytes that come in pieces. Contracts see its format and
+/// graph, the bytes fed that no answer has used, and whether they are all.
+#[derive(Drop)]
+pub struct Reader<'a> {
+    graph: &'a Graph,
+    by_format: FormatReader<'a>,
+}
+
+impl<'a> Model for Reader<'a> {
+    ghost use Rattle.fb_shots.specs.Sources.{Source};
+    ghost use Rattle.fb_shots.specs.Readers.{source_of, IsReaderOf};
+
+    ghost Value = { Source };
+
+    ghost view = { λ r. source_of r.graph.now r.by_format };
+
+    ghost invariant = { λ r. IsReaderOf r.graph.now r.by_format };
+}
+
+impl<'a> Reader<'a> {
+    pub fn new(alloc: Global, format: Format, graph: &'a Graph) -> Self
+        ensures { result ≡ record { format = format; graph = graph.now; rest = []; finished = false } }
+    {
+        Reader {
+            graph,
+            by_format: FormatReader::new(alloc, format, graph),
+        }
+    }
+
+    /// Takes the next piece of the input. Without memory nothing is taken.
+    pub fn feed(&mut self, piece: &[u8]) -> Result<(), NoMemory>
+        requires { self.old.finished ≡ false }
+        ensures ok { OnOk result (self.new ≡ record self.old { rest = self.old.rest ++ piece.now }) }
+        ensures err { OnErr result (self.new ≡ self.old) }
+    {
+        self.by_format.feed(self.graph, piece)
+    }
+
+    /// Says that the input has no further piece.
+    pub fn finish(&mut self)
+        ensures { self.new ≡ record self.old { finished = true } }
+    {
+        self.by_format.finish(self.graph);
+    }
+
+    /// Answers by the first record of the bytes that no answer has used. A shot uses up its record, and nothing else
+    /// uses any byte.
+    pub fn next(&mut self) -> Result<Next, NoMemory>
+        ensures meaning { IfOk result (Answers self.old self.new) }
+        ensures err { OnErr result (self.new ≡ self.old) }
+    {
+        self.by_format.next(self.graph)
+    }
+}
