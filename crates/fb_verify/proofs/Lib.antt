@@ -1,6 +1,12 @@
 pub mod Certified
 pub mod Goods
+pub mod KeptRows
 pub mod Leasts
+pub mod LineAfterLine
 pub mod Marked
+pub mod Numerals
 pub mod Overloads
+pub mod Parts
+pub mod PrintedWords
+pub mod ReadRows
 pub mod Sharing

@@ -1,3 +1,6 @@
 pub mod Loads
 pub mod Marks
+pub mod ReadBack
+pub mod Reports
 pub mod Verdicts
+pub mod WordsLeft

@@ -1,17 +1,31 @@
-//! A check of a printed row: whether its correction and certificate are right for the shot.
+//! The reader of a report, and a check of its rows: whether each correction with its certificate is right for its shot.
 
 #![tactic(auto)]
 
 pub mod checking;
 mod cuts;
+mod laws;
+mod line_words;
+mod lines;
 mod loads;
 mod numbers;
 mod parities;
+pub mod report_faults;
+#[cfg(test)]
+mod report_tests;
+pub mod report_text;
+pub mod reports;
 mod shares;
+mod splitting;
 mod sums;
 #[cfg(test)]
 mod tests;
 pub mod verdicts;
+mod walking;
 
 pub use checking::check_row;
+pub use laws::reads_back;
+pub use report_faults::ReportFault;
+pub use report_text::read_report;
+pub use reports::{Report, RowList, Totals};
 pub use verdicts::Verdict;
