@@ -1,4 +1,10 @@
+pub mod Commands
 pub mod Inputs
-pub mod ShotRanges
 pub mod Solved
 pub mod Writing
+pub mod Finishing
+pub mod Gathered
+pub mod Answered
+pub mod Lines
+pub mod Checked
+pub mod Reported

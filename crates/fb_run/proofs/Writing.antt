@@ -1,5 +1,5 @@
--- How far a report has been written.
-use Rattle.std.proofs.Common.{◌≡◌, ℕ, ◌+◌, ◌-◌, ◌<◌, ◌≤◌, Bool, cond, List, [], ◌∷◌, ◌++◌, length, take, drop, get_or, Option, refl, sym, ap, subst, ◌∙◌, inl, inr, arith, append_assoc, append-nil}
+-- How far the rows of shots have been written.
+use Rattle.std.proofs.Common.{◌≡◌, ℕ, ◌+◌, ◌<◌, ◌≤◌, cond, Bool, true, false, List, [], ◌∷◌, ◌++◌, length, take, drop, get_or, count_by, Option, refl, sym, ap, subst, ◌∙◌, arith, append_assoc, append-nil}
 use Rattle.std.specs.List.{AllZip}
 use Rattle.std.proofs.KnownBytes.{Appends-trans, Appends-nil}
 use Rattle.std.proofs.lemmas.List.{take-append-drop, take_all, take_more, length-take}
@@ -7,135 +7,140 @@ use Rattle.std.proofs.lemmas.List.Sums.{sum_by_push}
 use Rattle.std.proofs.lemmas.Slice.Zip.{AllZip-long}
 use Rattle.fb_graph.specs.Limits.{DecodingGraph}
 use Rattle.fb_graph.specs.declared.parts.Row.{Row}
+use Rattle.fb_graph.specs.declared.parts.Row.TheVariants.{Best, Odd, Over}
 use Rattle.fb_ports.specs.Causes.{Appends, AppendsFront}
 use Rattle.fb_ports.proofs.Onward.{front_second}
-use Rattle.fb_report.specs.Texts.{head_text, row_text, rows_text, done_text}
+use Rattle.fb_report.specs.Texts.{row_text, rows_text}
 use Rattle.fb_report.proofs.Rows.{rows_text-push}
-use Rattle.fb_run.specs.Decoding.{IsShotRow, WritesRow, WritesReport, WritesFront, Moves, is_over, over_count, report_text}
+use Rattle.fb_run.specs.Decoding.{Moves}
+use Rattle.fb_run.specs.Rows.{AreRows, Counts, IsShotRow, counts_of, is_best, is_odd, is_over}
+use Rattle.fb_run.specs.Writes.{WritesFirstRows, WritesRows, counted, counts_in}
+use Rattle.fb_run.specs.declared.report.Tally.{Tally}
 
--- The rows of the first `count` shots have been made. Their text, with the head, is what was written and then what waits.
-pub record IsWriting (g : DecodingGraph) (shots : List (List ℕ)) (start now : Option (List ℕ)) (pending : List ℕ) (count over : ℕ) : Type 0 where
+-- The rows of the first `count` shots have been made. Their text is what was written and then what waits.
+pub record IsWriting (g : DecodingGraph) (shots : List (List ℕ)) (start now : Option (List ℕ)) (pending : List ℕ) (count : ℕ) (tally : Tally) : Type 0 where
   pub within : count ≤ length shots
   pub rows : List Row
-  pub answers : AllZip (IsShotRow g) (take count shots) rows
-  pub counts : over ≡ over_count rows
+  pub answers : AreRows g (take count shots) rows
+  pub counts : counts_in tally ≡ counts_of rows
+  pub few : (tally.best + tally.odd) + tally.over ≡ count
   pub flushed : List ℕ
   pub appended : Appends start now flushed
-  pub text : flushed ++ pending ≡ head_text ++ rows_text 0 rows
+  pub text : flushed ++ pending ≡ rows_text 0 rows
 
 -- one more pair at the end of two lists of pairs
-zip_more : {A B : Type 0} (R : A → B → Type 0) (xs : List A) (ys : List B) (x : A) (y : B) → AllZip R xs ys → R x y
+pub zip_more : {A B : Type 0} (R : A → B → Type 0) (xs : List A) (ys : List B) (x : A) (y : B) → AllZip R xs ys → R x y
     → AllZip R (xs ++ x ∷ []) (ys ++ y ∷ [])
 zip_more R [] [] x y all here = (here, tt)
 zip_more R [] (z ∷ ys) x y all here = absurd all
 zip_more R (w ∷ xs) [] x y all here = absurd all
 zip_more R (w ∷ xs) (z ∷ ys) x y all here = (all.0, zip_more R xs ys x y all.1 here)
 
-over-push : (rows : List Row) (r : Row) → over_count (rows ++ r ∷ []) ≡ over_count rows + cond (is_over r) 1 0
-over-push rows r = sum_by_push (λ x. cond (is_over x) 1 0) rows r
+pub count-push : (p : Row → Bool) (rows : List Row) (r : Row) → count_by p (rows ++ r ∷ []) ≡ count_by p rows + cond (p r) 1 0
+count-push p rows r = sum_by_push (λ x. cond (p x) 1 0) rows r
+
+-- a row more in the counts
+abbrev counts_more : Counts → Row → Counts
+counts_more counts r = record {
+  best = counts.best + cond (is_best r) 1 0;
+  odd = counts.odd + cond (is_odd r) 1 0;
+  over = counts.over + cond (is_over r) 1 0;
+}
+
+same_counts : (a b c d e f : ℕ) → a ≡ d → b ≡ e → c ≡ f
+    → ◌≡◌ {A = Counts} (record { best = a; odd = b; over = c }) (record { best = d; odd = e; over = f })
+same_counts a b c d e f p q r = cc
+
+counts-push : (rows : List Row) (r : Row) → counts_of (rows ++ r ∷ []) ≡ counts_more (counts_of rows) r
+counts-push rows r = same_counts _ _ _ _ _ _ (count-push is_best rows r) (count-push is_odd rows r) (count-push is_over rows r)
+
+counts-counted : (t : Tally) (r : Row) → counts_in (counted t r) ≡ counts_more (counts_in t) r
+counts-counted t (Best edges weight cuts) = same_counts _ _ _ _ _ _ refl (omega arith) (omega arith)
+counts-counted t (Odd v) = same_counts _ _ _ _ _ _ (omega arith) refl (omega arith)
+counts-counted t Over = same_counts _ _ _ _ _ _ (omega arith) (omega arith) refl
+
+few_counted : (t : Tally) (r : Row) (count : ℕ) → (t.best + t.odd) + t.over ≡ count
+    → ((counted t r).best + (counted t r).odd) + (counted t r).over ≡ count + 1
+few_counted t (Best edges weight cuts) count e = omega (arith, e)
+few_counted t (Odd v) count e = omega (arith, e)
+few_counted t Over count e = omega (arith, e)
 
 module _ (g : DecodingGraph) (shots : List (List ℕ)) (start : Option (List ℕ)) where
-  pub writing_begins : IsWriting g shots start start head_text 0 0
-  writing_begins = record {
+  pub writing_begins : (t : Tally) → t.best ≡ 0 → t.odd ≡ 0 → t.over ≡ 0 → IsWriting g shots start start [] 0 t
+  writing_begins t best odd over = record {
     within = omega arith;
     rows = [];
     answers = tt;
-    counts = refl;
+    counts = same_counts _ _ _ _ _ _ best odd over;
+    few = omega (arith, best, odd, over);
     flushed = [];
     appended = Appends-nil start;
-    text = sym (append-nil head_text);
+    text = refl;
   }
 
-  pub writing_row : (now : Option (List ℕ)) (pending longer : List ℕ) (count over : ℕ) (o : Bool) (shot d : List ℕ) → count < length shots
-      → shot ≡ get_or shots count d → IsWriting g shots start now pending count over → WritesRow g count shot pending longer o
-      → IsWriting g shots start now longer (count + 1) (over + cond o 1 0)
-  writing_row now pending longer count over o shot d less is writing wrote = record {
+  pub writing_row : (now : Option (List ℕ)) (pending longer : List ℕ) (count : ℕ) (tally : Tally) (row : Row) (shot d : List ℕ) → count < length shots
+      → shot ≡ get_or shots count d → IsWriting g shots start now pending count tally → IsShotRow g shot row
+      → longer ≡ pending ++ row_text count row
+      → IsWriting g shots start now longer (count + 1) (counted tally row)
+  writing_row now pending longer count tally row shot d less is writing answer wrote = record {
     within = omega arith;
-    rows = writing.rows ++ wrote.row ∷ [];
-    answers = subst (λ first. AllZip (IsShotRow g) first (writing.rows ++ wrote.row ∷ []))
+    rows = writing.rows ++ row ∷ [];
+    answers = subst (λ first. AreRows g first (writing.rows ++ row ∷ []))
         (ap (λ s. take count shots ++ s ∷ []) is ∙ sym (take_more shots count d less))
-        (zip_more (IsShotRow g) (take count shots) writing.rows shot wrote.row writing.answers wrote.answer);
-    counts = ap (λ n. n + cond o 1 0) writing.counts ∙ ap (λ b. over_count writing.rows + cond b 1 0) wrote.is ∙ sym (over-push writing.rows wrote.row);
+        (zip_more (IsShotRow g) (take count shots) writing.rows shot row writing.answers answer);
+    counts = counts-counted tally row ∙ ap (λ c. counts_more c row) writing.counts ∙ sym (counts-push writing.rows row);
+    few = few_counted tally row count writing.few;
     flushed = writing.flushed;
     appended = writing.appended;
-    text = ap (λ xs. writing.flushed ++ xs) wrote.longer ∙ sym (append_assoc writing.flushed pending (row_text count wrote.row))
-        ∙ ap (λ xs. xs ++ row_text count wrote.row) writing.text
-        ∙ append_assoc head_text (rows_text 0 writing.rows) (row_text count wrote.row)
-        ∙ ap (λ n. head_text ++ (rows_text 0 writing.rows ++ row_text n wrote.row)) as_many
-        ∙ ap (λ xs. head_text ++ xs) (sym (rows_text-push 0 writing.rows wrote.row));
+    text = ap (λ xs. writing.flushed ++ xs) wrote ∙ sym (append_assoc writing.flushed pending (row_text count row))
+        ∙ ap (λ xs. xs ++ row_text count row) writing.text
+        ∙ ap (λ n. rows_text 0 writing.rows ++ row_text n row) as_many
+        ∙ sym (rows_text-push 0 writing.rows row);
   }
     where
       as_many : count ≡ 0 + length writing.rows
       as_many = omega (arith, AllZip-long (IsShotRow g) (take count shots) writing.rows writing.answers, length-take count shots)
 
-  pub writing_moved : (now after : Option (List ℕ)) (pending rest : List ℕ) (count over : ℕ) → IsWriting g shots start now pending count over
-      → Moves now after pending rest → IsWriting g shots start after rest count over
-  writing_moved now after pending rest count over writing (moved, appended, e) = record {
+  pub writing_moved : (now after : Option (List ℕ)) (pending rest : List ℕ) (count : ℕ) (tally : Tally) → IsWriting g shots start now pending count tally
+      → Moves now after pending rest → IsWriting g shots start after rest count tally
+  writing_moved now after pending rest count tally writing (moved, appended, e) = record {
     within = writing.within;
     rows = writing.rows;
     answers = writing.answers;
     counts = writing.counts;
+    few = writing.few;
     flushed = writing.flushed ++ moved;
     appended = Appends-trans start now after writing.flushed moved writing.appended appended;
     text = append_assoc writing.flushed moved rest ∙ ap (λ xs. writing.flushed ++ xs) (sym e) ∙ writing.text;
   }
 
-  pub front_so_far : (now : Option (List ℕ)) (pending : List ℕ) (count over : ℕ) → IsWriting g shots start now pending count over → WritesFront g shots start now
-  front_so_far now pending count over writing = record {
+  pub first_so_far : (now : Option (List ℕ)) (pending : List ℕ) (count : ℕ) (tally : Tally) → IsWriting g shots start now pending count tally → WritesFirstRows g shots start now
+  first_so_far now pending count tally writing = record {
     first = take count shots;
     others = drop count shots;
     parts = sym (take-append-drop count shots);
     rows = writing.rows;
     answers = writing.answers;
-    written = inl (writing.flushed, pending, sym writing.text, writing.appended);
+    written = (writing.flushed, pending, sym writing.text, writing.appended);
   }
 
-  pub front_at_fault : (now after : Option (List ℕ)) (pending : List ℕ) (count over : ℕ) → IsWriting g shots start now pending count over
-      → AppendsFront now after pending → WritesFront g shots start after
-  front_at_fault now after pending count over writing front = record {
+  pub first_at_fault : (now after : Option (List ℕ)) (pending : List ℕ) (count : ℕ) (tally : Tally) → IsWriting g shots start now pending count tally
+      → AppendsFront now after pending → WritesFirstRows g shots start after
+  first_at_fault now after pending count tally writing front = record {
     first = take count shots;
     others = drop count shots;
     parts = sym (take-append-drop count shots);
     rows = writing.rows;
     answers = writing.answers;
-    written = inl (subst (AppendsFront start after) writing.text
-        (front_second start now after writing.flushed pending writing.appended front));
+    written = subst (AppendsFront start after) writing.text
+        (front_second start now after writing.flushed pending writing.appended front);
   }
 
-  rows_of_all : (now : Option (List ℕ)) (pending : List ℕ) (over : ℕ) (writing : IsWriting g shots start now pending (length shots) over)
-      → AllZip (IsShotRow g) shots writing.rows
-  rows_of_all now pending over writing = subst (λ first. AllZip (IsShotRow g) first writing.rows) (take_all (length shots) shots (omega arith)) writing.answers
-
-  text_of_all : (now : Option (List ℕ)) (pending : List ℕ) (over : ℕ) (writing : IsWriting g shots start now pending (length shots) over)
-      → writing.flushed ++ (pending ++ done_text (length shots) 0 (length shots - over) 0) ≡ report_text writing.rows
-  text_of_all now pending over writing =
-      sym (append_assoc writing.flushed pending (done_text (length shots) 0 (length shots - over) 0))
-      ∙ ap (λ xs. xs ++ done_text (length shots) 0 (length shots - over) 0) writing.text
-      ∙ ap (λ n. (head_text ++ rows_text 0 writing.rows) ++ done_text n 0 (n - over) 0)
-      (sym (AllZip-long (IsShotRow g) shots writing.rows (rows_of_all now pending over writing)))
-      ∙ ap (λ n. (head_text ++ rows_text 0 writing.rows) ++ done_text (length writing.rows) 0 (length writing.rows - n) 0) writing.counts
-
-  pub front_at_end : (now after : Option (List ℕ)) (pending : List ℕ) (over : ℕ) → IsWriting g shots start now pending (length shots) over
-      → AppendsFront now after (pending ++ done_text (length shots) 0 (length shots - over) 0) → WritesFront g shots start after
-  front_at_end now after pending over writing front = record {
-    first = shots;
-    others = [];
-    parts = sym (append-nil shots);
+  pub all_at_end : (now after : Option (List ℕ)) (pending : List ℕ) (count : ℕ) (tally : Tally) → count ≡ length shots
+      → IsWriting g shots start now pending count tally → Appends now after pending → WritesRows g shots start after tally
+  all_at_end now after pending count tally e writing appended = record {
     rows = writing.rows;
-    answers = rows_of_all now pending over writing;
-    written = inr (
-      refl,
-      subst (AppendsFront start after) (text_of_all now pending over writing)
-          (front_second start now after writing.flushed (pending ++ done_text (length shots) 0 (length shots - over) 0) writing.appended front),
-    );
-  }
-
-  pub whole_at_end : (now after : Option (List ℕ)) (pending : List ℕ) (over : ℕ) → IsWriting g shots start now pending (length shots) over
-      → Appends now after (pending ++ done_text (length shots) 0 (length shots - over) 0) → WritesReport g shots start after over
-  whole_at_end now after pending over writing all = record {
-    rows = writing.rows;
-    answers = rows_of_all now pending over writing;
+    answers = subst (λ first. AreRows g first writing.rows) (take_all count shots (omega (arith, e))) writing.answers;
+    written = subst (Appends start after) writing.text (Appends-trans start now after writing.flushed pending writing.appended appended);
     counts = writing.counts;
-    written = subst (Appends start after) (text_of_all now pending over writing)
-        (Appends-trans start now after writing.flushed (pending ++ done_text (length shots) 0 (length shots - over) 0) writing.appended all);
   }

@@ -1,23 +1,77 @@
 -- How a run ends: its status and what it says on standard error.
-use Rattle.std.specs.Prelude.{ℕ, List, [], codes}
+use Rattle.std.specs.Prelude.{ℕ, List, [], ◌∷◌, ◌++◌, map, codes, decimal, Option, Some, None}
+use Rattle.fb_report.specs.Texts.{line}
+use Rattle.fb_run.specs.Faults.{graph_name, graph_number, graph_place, kind_name, report_name, report_number, report_place}
 use Rattle.fb_run.specs.declared.ending.Cause.{Cause}
-use Rattle.fb_run.specs.declared.ending.Cause.TheVariants.{Done, Over, Refused, ReadFault, WriteFault, NoMemory, Usage}
+use Rattle.fb_run.specs.declared.ending.Cause.TheVariants.{Done, Odd, Over, Bad, Refused, ReadFault, WriteFault, NoMemory, Usage}
+use Rattle.fb_run.specs.declared.ending.Refusal.{Refusal}
+use Rattle.fb_run.specs.declared.ending.Refusal.TheVariants as refusal
+use Rattle.fb_run.specs.declared.ending.UsageKind.TheVariants as usage
 
 abbrev pub status_of : Cause → ℕ
 status_of Done = 0
+status_of Odd = 1
 status_of Over = 1
-status_of (Refused refusal) = 2
+status_of (Bad count) = 1
+status_of (Refused r) = 2
 status_of ReadFault = 3
 status_of WriteFault = 4
 status_of NoMemory = 5
 status_of (Usage kind) = 6
 
+-- what is refused, and where it stands
+abbrev pub refusal_name : Refusal → List ℕ
+refusal_name (refusal.Graph fault) = graph_name fault
+refusal_name (refusal.Report fault) = report_name fault
+refusal_name (refusal.Shot fault) = kind_name fault.kind
+
+abbrev pub refusal_place : Refusal → Option (List ℕ)
+refusal_place (refusal.Graph fault) = graph_place fault
+refusal_place (refusal.Report fault) = report_place fault
+refusal_place (refusal.Shot fault) = Some (codes "shot")
+
+abbrev pub refusal_number : Refusal → Option ℕ
+refusal_number (refusal.Graph fault) = graph_number fault
+refusal_number (refusal.Report fault) = report_number fault
+refusal_number (refusal.Shot fault) = Some fault.shot
+
+-- a word, where there is one
+abbrev pub if_any : Option (List ℕ) → List (List ℕ)
+if_any None = []
+if_any (Some word) = word ∷ []
+
+abbrev pub number_if_any : Option ℕ → List (List ℕ)
+number_if_any None = []
+number_if_any (Some number) = decimal number ∷ []
+
+-- the line of a refusal: its name, and then its place
+abbrev pub refusal_line : Refusal → List ℕ
+refusal_line r = line (codes "fusion:")
+    (codes "refused" ∷ refusal_name r ∷ if_any (refusal_place r) ++ number_if_any (refusal_number r))
+
+-- The line of a cause that isn't a refusal. What is said of words that have no reading is the command line reader's
+-- own text, and isn't told here.
+abbrev pub fixed_line : Cause → List ℕ
+fixed_line Done = []
+fixed_line Odd = []
+fixed_line Over = []
+fixed_line (Bad count) = []
+fixed_line (Refused r) = []
+fixed_line ReadFault = codes "fusion: read fault\n"
+fixed_line WriteFault = codes "fusion: write fault\n"
+fixed_line NoMemory = codes "fusion: out of memory\n"
+fixed_line (Usage usage.Parse) = []
+fixed_line (Usage usage.Format) = codes "fusion: unknown format\n"
+fixed_line (Usage usage.TwoInputs) = codes "fusion: two names for standard input\n"
+
 -- what standard error gets
 abbrev pub line_of : Cause → List ℕ
-line_of Done = []
-line_of Over = []
-line_of (Refused refusal) = codes "fusion: refused NotBuilt\n"
-line_of ReadFault = codes "fusion: read fault\n"
-line_of WriteFault = codes "fusion: write fault\n"
-line_of NoMemory = codes "fusion: out of memory\n"
-line_of (Usage kind) = codes "fusion: usage\n"
+line_of Done = fixed_line Done
+line_of Odd = fixed_line Odd
+line_of Over = fixed_line Over
+line_of (Bad count) = fixed_line (Bad count)
+line_of (Refused r) = refusal_line r
+line_of ReadFault = fixed_line ReadFault
+line_of WriteFault = fixed_line WriteFault
+line_of NoMemory = fixed_line NoMemory
+line_of (Usage kind) = fixed_line (Usage kind)

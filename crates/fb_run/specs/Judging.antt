@@ -1,65 +1,83 @@
 -- Which input is accepted, and which names are asked for.
-use Rattle.std.specs.Prelude.{ℕ, ◌≡◌, ◌<◌, ◌≤◌, ◌^◌, ◌⊎◌, List, ◌++◌, length, All, Option, Some, None, Ok, Err, ⊤}
+use Rattle.std.specs.Prelude.{ℕ, ◌≡◌, ◌^◌, ◌-◌, ◌⊎◌, List, [], ◌++◌, length, Option, Some, None, IfSome, Ok, Err, ⊤}
 use Rattle.fb_graph.specs.Limits.{DecodingGraph}
-use Rattle.fb_graph.specs.Layout.{detectors_of}
 use Rattle.fb_graph_in.specs.GraphText.{graph_of_text}
 use Rattle.fb_graph_in.specs.declared.faults.TextFault.{TextFault}
-use Rattle.fb_shots_stim.specs.declared.answer.Kind.{Kind}
-use Rattle.fb_shots_stim.specs.Records.{at_end, refused}
-use Rattle.fb_shots_stim.specs.Text01.{records_01}
-use Rattle.fb_run.specs.Words.{Errand}
+use Rattle.fb_shots.specs.Shots.{Ending, at_end, still_open, refused, Shots}
+use Rattle.fb_shots.specs.Formats.{front_of}
+use Rattle.fb_shots.specs.Streams.{most_bytes, stream_of}
+use Rattle.fb_shots.specs.declared.answer.Format.{Format}
+use Rattle.fb_run.specs.declared.graphs.NoGraph.{NoGraph}
+use Rattle.fb_run.specs.declared.graphs.NoGraph.TheVariants as no_graph
+use Rattle.fb_run.specs.declared.shots.ShotsEnd.{ShotsEnd}
+use Rattle.fb_run.specs.declared.shots.ShotsEnd.TheVariants as end
 
 -- the bytes of files by their names, where told
 abbrev pub Named : Type 0
 Named = Option (List ℕ → Option (List ℕ))
-
--- the most bytes of a file of shots
-abbrev pub most_shot_bytes : ℕ
-most_shot_bytes = 2 ^ 28
-
--- the shots of the text end by a refusal
-abbrev pub IsRefusedShots : ℕ → List ℕ → Type 0
-IsRefusedShots detectors text = (kind : Kind) × ((records_01 detectors text).ending ≡ refused kind)
-
--- the detectors of a shot are among the first n
-abbrev pub IsInRange : ℕ → List ℕ → Type 0
-IsInRange n shot = All (λ k. k < n) shot
-
--- the text holds these shots of the graph
-pub record HasShots (g : DecodingGraph) (shots : List (List ℕ)) (text : List ℕ) : Type 0 where
-  pub short : length text ≤ most_shot_bytes
-  pub whole : records_01 (length (detectors_of g)) text ≡ record { shots = shots; ending = at_end }
-
--- the texts are those of this graph and of these shots
-pub record IsAccepted (graph_text shot_text : List ℕ) (g : DecodingGraph) (shots : List (List ℕ)) : Type 0 where
-  pub graph : graph_of_text graph_text ≡ Ok g
-  pub shots_held : HasShots g shots shot_text
-
--- the files of these names hold this graph and these shots
-abbrev pub HoldInput : Named → Errand → DecodingGraph → List (List ℕ) → Type 0
-HoldInput None errand g shots = ⊤
-HoldInput (Some named) errand g shots =
-    (graph_text shot_text : List ℕ) × (named errand.graph ≡ Some graph_text) × (named errand.shots ≡ Some shot_text)
-    × IsAccepted graph_text shot_text g shots
-
--- the text is no graph
-abbrev pub IsNoGraph : List ℕ → Type 0
-IsNoGraph text = (fault : TextFault) × (graph_of_text text ≡ Err fault)
-
--- the text is too long for shots, or is refused
-abbrev pub AreNoShots : DecodingGraph → List ℕ → Type 0
-AreNoShots g text = (most_shot_bytes < length text) ⊎ IsRefusedShots (length (detectors_of g)) text
 
 -- the file of the name holds a text with the property
 abbrev pub Holds : Named → List ℕ → (List ℕ → Type 0) → Type 0
 Holds None name P = ⊤
 Holds (Some named) name P = (text : List ℕ) × (named name ≡ Some text) × P text
 
--- the graph's file holds no graph, or it holds one for which the shots' file holds no shots
-abbrev pub HoldNoInput : Named → Errand → Type 0
-HoldNoInput named errand =
-    Holds named errand.graph IsNoGraph
-    ⊎ ((g : DecodingGraph) × Holds named errand.graph (λ text. graph_of_text text ≡ Ok g) × Holds named errand.shots (AreNoShots g))
+-- the text is that of the graph
+abbrev pub IsGraphText : DecodingGraph → List ℕ → Type 0
+IsGraphText g text = graph_of_text text ≡ Ok g
+
+-- the text is no graph, for this reason
+abbrev pub IsNoGraph : TextFault → List ℕ → Type 0
+IsNoGraph fault text = graph_of_text text ≡ Err fault
+
+-- the fact of the fault, where there is no graph since its text is refused
+abbrev pub IfRefused : (TextFault → Type 0) → NoGraph → Type 0
+IfRefused P (no_graph.Refused fault) = P fault
+IfRefused P no_graph.ReadFault = ⊤
+IfRefused P no_graph.NoMemory = ⊤
+
+-- the most shots that are taken
+abbrev pub most_shots : ℕ
+most_shots = 2 ^ 32 - 1
+
+-- the shots of a text, and how they end
+abbrev pub shots_of : Format → DecodingGraph → List ℕ → Shots
+shots_of format g text = stream_of format g most_shots most_bytes text
+
+-- the text's shots are these, and end so
+abbrev pub HasShots : Format → DecodingGraph → List (List ℕ) → Ending → List ℕ → Type 0
+HasShots format g shots ending text = shots_of format g text ≡ record { shots = shots; ending = ending }
+
+-- these are the first shots of the text
+abbrev pub HasFirstShots : Format → DecodingGraph → List (List ℕ) → List ℕ → Type 0
+HasFirstShots format g shots text = (more : List (List ℕ)) × ((shots_of format g text).shots ≡ shots ++ more)
+
+-- The text was read up to some place, and what was read settles these shots and nothing more.
+pub record IsReadInPart (format : Format) (g : DecodingGraph) (shots : List (List ℕ)) (text : List ℕ) : Type 0 where
+  pub given : List ℕ
+  pub left : List ℕ
+  pub parts : text ≡ given ++ left
+  pub settled : front_of format g given ≡ record { shots = shots; ending = still_open }
+  pub first : HasFirstShots format g shots text
+
+-- the shots that were gathered from what was left of a file, where told, by how that ended
+abbrev pub GathersFrom : Option (List ℕ) → Format → DecodingGraph → List (List ℕ) → ShotsEnd → Type 0
+GathersFrom left format g shots end.End = IfSome left (HasShots format g shots at_end)
+GathersFrom left format g shots (end.Refused fault) =
+    IfSome left (HasShots format g shots (refused fault.kind)) × (fault.shot ≡ length shots)
+GathersFrom left format g shots end.ReadFault = IfSome left (IsReadInPart format g shots)
+
+-- The shots that were gathered from the file of a name, by how that ended. Where reading failed, they may be none
+-- since the file couldn't be opened.
+abbrev pub Gathers : Named → List ℕ → Format → DecodingGraph → List (List ℕ) → ShotsEnd → Type 0
+Gathers named name format g shots end.End = Holds named name (HasShots format g shots at_end)
+Gathers named name format g shots (end.Refused fault) =
+    Holds named name (HasShots format g shots (refused fault.kind)) × (fault.shot ≡ length shots)
+Gathers named name format g shots end.ReadFault = (shots ≡ []) ⊎ Holds named name (IsReadInPart format g shots)
+
+-- nothing is left of the current file, where files tell what they hold
+abbrev pub IsReadOutIfNamed : Named → Option (List ℕ) → Type 0
+IsReadOutIfNamed None left = ⊤
+IsReadOutIfNamed (Some named) left = left ≡ Some []
 
 -- the names asked for since are these, where told
 abbrev pub Asks : Option (List (List ℕ)) → Option (List (List ℕ)) → List (List ℕ) → Type 0

@@ -1,7 +1,17 @@
+pub mod Command
 pub mod Words
+pub mod Faults
 pub mod Causes
 pub mod Seen
 pub mod Judging
+pub mod Rows
 pub mod Decoding
+pub mod Writes
 pub mod Outboxes
 pub mod Endings
+pub mod Checks
+pub mod Numbers
+pub mod Judges
+pub mod NoReports
+pub mod CheckEndings
+pub mod RunEndings

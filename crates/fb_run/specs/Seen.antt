@@ -1,6 +1,33 @@
-use Rattle.fb_run.specs.Words.{Errand}
-use Rattle.fb_run.specs.declared.words.Errand.{Errand as Borrowed}
+-- What the words ask for, without where its texts lie in memory.
+use Rattle.std.specs.Prelude.{◌≡◌, Option, Some, None, IfSome, Result, Err}
+use Rattle.fb_run.specs.Words.{Checking, Decoding, Errand, check, decode}
+use Rattle.fb_run.specs.declared.words.Checking.{Checking as BorrowedChecking}
+use Rattle.fb_run.specs.declared.words.Decoding.{Decoding as BorrowedDecoding}
+use Rattle.fb_run.specs.declared.words.Errand.{Errand as BorrowedErrand}
+use Rattle.fb_run.specs.declared.words.Errand.TheVariants.{Check, Decode}
+use Rattle.fb_run.specs.declared.ending.UsageKind.{UsageKind}
+use Rattle.fb_run.specs.declared.ending.UsageKind.TheVariants as usage
+use Rattle.fb_run.specs.declared.words.WordsFault.{WordsFault}
+use Rattle.fb_run.specs.declared.words.WordsFault.TheVariants as fault
 
--- a reading without where its names lie in memory
-abbrev pub seen : Borrowed → Errand
-seen e = record { graph = e.graph.now; shots = e.shots.now }
+abbrev pub seen_decoding : BorrowedDecoding → Decoding
+seen_decoding d = record { graph = d.graph.now; shots = d.shots.now; format = d.format }
+
+abbrev pub seen_checking : BorrowedChecking → Checking
+seen_checking c =
+    record { graph = c.graph.now; shots = c.shots.now; format = c.format; report = c.report.now }
+
+abbrev pub seen : BorrowedErrand → Errand
+seen (Decode d) = decode (seen_decoding d)
+seen (Check c) = check (seen_checking c)
+
+-- what a fault says is wrong with the words; none where memory was wanting
+abbrev pub usage_of : WordsFault → Option UsageKind
+usage_of (fault.Parse text) = Some usage.Parse
+usage_of fault.Format = Some usage.Format
+usage_of fault.TwoInputs = Some usage.TwoInputs
+usage_of fault.NoMemory = None
+
+-- the fault is what is wrong with words that mean this; or memory was wanting
+abbrev pub IsFaultOf : {A : Type 0} → Result A UsageKind → WordsFault → Type 0
+IsFaultOf meaning fault = IfSome (usage_of fault) (λ kind. meaning ≡ Err kind)

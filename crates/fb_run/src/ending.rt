@@ -1,36 +1,51 @@
-ghost use Rattle.std.specs.Prelude.{◌≡◌, OnErr, ◌<◌, ◌^◌, ◌-◌};
-ghost use Rattle.fb_ports.specs.Causes.{AppendsFront, HasCause};
-ghost use Rattle.std.specs.Io.KnownBytes.{Appends};
-ghost use Rattle.fb_run.specs.Causes.{line_of, status_of};
+//! How a run ends.
 
-use fb_ports::{Failed, Sink, put_all};
+ghost use Rattle.std.specs.Prelude.{◌≡◌};
+ghost use Rattle.fb_run.specs.Causes.{status_of};
+
+use fb_graph_in::TextFault;
+use fb_shots::ShotFault;
+use fb_verify::ReportFault;
 
 /// What is wrong with the words.
 #[derive(Clone, Copy, Debug, PartialEq, Eq)]
 pub enum UsageKind {
     /// They have no reading.
     Parse,
+    /// The word after `--format` names no format.
+    Format,
+    /// More than one name is that of standard input.
+    TwoInputs,
 }
 
 /// Why the input isn't accepted.
 #[derive(Clone, Copy, Debug, PartialEq, Eq)]
 pub enum Refusal {
-    /// The graph or the shots are none that this version takes.
-    NotBuilt,
+    /// The graph's text is no decoding graph. It is never the want of memory.
+    Graph(TextFault),
+    /// The report's text is none. It is never the want of memory.
+    Report(ReportFault),
+    /// A shot, or what stands in its place.
+    Shot(ShotFault),
 }
 
 /// Why a run ended.
 #[derive(Clone, Copy, Debug, PartialEq, Eq)]
 pub enum Cause {
-    /// The input was read to its end, and every row has a correction.
+    /// The input was read to its end, and every row has a correction; or every row that is checked is good, and there are
+    /// as many as shots.
     Done,
+    /// The input was read to its end, and some shot has no correction.
+    Odd,
     /// The input was read to its end, and some shot is more than this version solves.
     Over,
+    /// The input was read to its end, and so many rows are bad, or there are more or fewer than shots.
+    Bad(u64),
     /// The input isn't accepted.
     Refused(Refusal),
     /// A file could not be opened or read.
     ReadFault,
-    /// The report could not be written.
+    /// The output could not be written.
     WriteFault,
     /// Memory ran out.
     NoMemory,
@@ -52,35 +67,12 @@ impl Cause {
     {
         match self {
             Cause::Done => 0,
-            Cause::Over => 1,
+            Cause::Odd | Cause::Over | Cause::Bad(_) => 1,
             Cause::Refused(_) => 2,
             Cause::ReadFault => 3,
             Cause::WriteFault => 4,
             Cause::NoMemory => 5,
             Cause::Usage(_) => 6,
         }
-    }
-
-    /// What standard error gets.
-    fn line(self) -> &'static str
-        ensures { result.now ≡ line_of self }
-    {
-        match self {
-            Cause::Done | Cause::Over => "",
-            Cause::Refused(Refusal::NotBuilt) => "fusion: refused NotBuilt\n",
-            Cause::ReadFault => "fusion: read fault\n",
-            Cause::WriteFault => "fusion: write fault\n",
-            Cause::NoMemory => "fusion: out of memory\n",
-            Cause::Usage(UsageKind::Parse) => "fusion: usage\n",
-        }
-    }
-
-    /// Says on a sink why the run ended. A fault of that sink changes nothing.
-    pub fn say<E: Sink>(self, err: &mut E)
-        ensures front { AppendsFront (E.taken err.old) (E.taken err.new) (line_of self) }
-        ensures whole { E.faults err.old < 2 ^ 64 - 1 → E.faults err.new ≡ E.faults err.old
-            → Appends (E.taken err.old) (E.taken err.new) (line_of self) }
-    {
-        let _ = put_all(err, self.line().as_bytes());
     }
 }

@@ -2,11 +2,15 @@
 
 #![tactic(auto)]
 
+mod check_text;
+mod checking;
+mod command;
 mod ending;
-mod input;
+mod graphs;
 mod outbox;
 mod report;
 mod running;
+mod saying;
 mod shots;
 mod solving;
 mod words;
@@ -15,4 +19,8 @@ pub use ending::{Cause, Ended, Refusal, UsageKind};
 pub use running::run;
 
 #[cfg(test)]
+mod check_tests;
+#[cfg(test)]
 mod tests;
+#[cfg(test)]
+mod words_tests;

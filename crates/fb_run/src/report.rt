@@ -1,87 +1,130 @@
-//! The report of the shots of a graph.
+//! The rows of the shots of a graph.
 
-ghost use Rattle.std.specs.Prelude.{◌≡◌, ◌≢◌, ℕ, ◌≤◌, ◌<◌, length, All, IfOk, if◌then◌else◌};
-ghost use Rattle.fb_graph.specs.Layout.{detectors_of};
+ghost use Rattle.std.specs.Prelude.{◌≡◌, ◌≢◌, ◌++◌, ◌^◌, ◌<◌, ◌≤◌, length, All, IfOk, OnErr, Err};
+ghost use Rattle.fb_graph.specs.Limits.{IsShot};
 ghost use Rattle.fb_ports.specs.Causes.{Rose};
-ghost use Rattle.fb_run.specs.Decoding.{WritesRow, is_over};
-ghost use Rattle.fb_run.specs.Endings.{IsWriteEnd};
-ghost use Rattle.fb_run.specs.Judging.{IsInRange, most_shot_bytes};
+ghost use Rattle.fb_report.specs.Texts.{row_text};
+ghost use Rattle.fb_run.specs.Decoding.{cause_of};
+ghost use Rattle.fb_run.specs.Rows.{IsShotRow};
+ghost use Rattle.fb_run.specs.Writes.{counted, counts_in, WritesRows, WritesFirstRows};
 
 use crate::ending::Cause;
 use crate::outbox::Outbox;
 use crate::solving::solve_shot;
-use fb_graph::{Graph, NoMemory, Row};
+use fb_graph::{Components, Graph, NoMemory, Row, Shot};
 use fb_ports::Sink;
-use fb_report::{write_done, write_head, write_row};
-use fb_shots_stim::Detectors;
+use fb_report::write_row;
 use std::alloc::Global;
 
-/// Whether a shot is more than this version solves.
-fn is_over(row: &Row) -> bool
-    ensures { result ≡ is_over row.now }
-{
-    matches!(row, Row::Over)
+/// How many rows are corrections, odd and over.
+#[derive(Clone, Copy, Debug, PartialEq, Eq)]
+pub struct Tally {
+    pub best: u64,
+    pub odd: u64,
+    pub over: u64,
 }
 
-fn one_if(counts: bool) -> u64
-    ensures { result ≡ (if counts then 1 else 0) }
-{
-    if counts { 1 } else { 0 }
+/// Why rows were not written.
+#[derive(Clone, Copy, Debug, PartialEq, Eq)]
+pub enum RowsFault {
+    WriteFault,
+    NoMemory,
 }
 
-/// Adds the row of a shot to the outbox. Whether the shot is more than this version solves.
-fn write_shot(
+impl Tally {
+    /// How a decode of all shots ends.
+    pub fn cause(self) -> Cause
+        ensures { result ≡ cause_of (counts_in self) }
+    {
+        if self.over > 0 {
+            Cause::Over
+        } else if self.odd > 0 {
+            Cause::Odd
+        } else {
+            Cause::Done
+        }
+    }
+
+    /// The tally with one row more.
+    fn counted(self, row: &Row) -> Tally
+        requires best { self.best < 2 ^ 32 }
+        requires odd { self.odd < 2 ^ 32 }
+        requires over { self.over < 2 ^ 32 }
+        ensures { result ≡ counted self row.now }
+    {
+        match row {
+            Row::Best { .. } => Tally {
+                best: self.best + 1,
+                ..self
+            },
+            Row::Odd(_) => Tally {
+                odd: self.odd + 1,
+                ..self
+            },
+            Row::Over => Tally {
+                over: self.over + 1,
+                ..self
+            },
+        }
+    }
+}
+
+/// Adds the row of a shot to the outbox, and answers it.
+fn add_row(
     alloc: Global,
     graph: &Graph,
+    parts: &mut Components,
     k: u32,
-    shot: &Detectors,
+    shot: &Shot,
     outbox: &mut Outbox,
-) -> Result<bool, NoMemory>
-    requires { IsInRange (length (detectors_of graph.now)) shot.now }
-    ensures { IfOk result (WritesRow graph.now k shot.now outbox.old.text outbox.new.text) }
+) -> Result<Row, NoMemory>
+    requires parts { parts.old ≡ graph.now }
+    requires shot { IsShot graph.now shot.now }
+    ensures row { IfOk result (IsShotRow graph.now shot.now) }
+    ensures text { IfOk result (λ row. outbox.new.text ≡ outbox.old.text ++ row_text k row) }
+    ensures same { parts.new ≡ parts.old }
 {
-    let row = solve_shot(alloc, graph, shot)?;
+    let row = solve_shot(alloc, graph, parts, shot)?;
     let Ok(()) = write_row(outbox, k, &row) else {
         return Err(NoMemory);
     };
-    Ok(is_over(&row))
+    Ok(row)
 }
 
-/// Writes the report of the shots. Answers `Done`, `Over` where some shot is more than this version solves,
-/// `WriteFault` or `NoMemory`.
-pub fn write_report<O: Sink>(
+/// Writes the rows of the shots.
+pub fn write_rows<O: Sink>(
     alloc: Global,
     graph: &Graph,
-    shots: &[Detectors],
+    parts: &mut Components,
+    shots: &[Shot],
     out: &mut O,
-) -> Cause
-    requires range { All (IsInRange (length (detectors_of graph.now))) shots.now }
-    requires few { length shots.now ≤ most_shot_bytes }
-    ensures end { IsWriteEnd graph.now shots.now (O.taken out.old) (O.taken out.new) result }
-    ensures fault { result ≡ Cause.WriteFault → Rose (O.faults out.old) (O.faults out.new) }
+) -> Result<Tally, RowsFault>
+    requires parts { parts.old ≡ graph.now }
+    requires shots { All (IsShot graph.now) shots.now }
+    requires few { length shots.now < 2 ^ 32 }
+    ensures rows { IfOk result (WritesRows graph.now shots.now (O.taken out.old) (O.taken out.new)) }
+    ensures front { OnErr result (WritesFirstRows graph.now shots.now (O.taken out.old) (O.taken out.new)) }
+    ensures fault { result ≡ Err RowsFault.WriteFault → Rose (O.faults out.old) (O.faults out.new) }
     ensures later { O.faults out.old ≤ O.faults out.new }
-    ensures calm { result ≢ Cause.WriteFault → O.faults out.new ≡ O.faults out.old }
+    ensures calm { result ≢ Err RowsFault.WriteFault → O.faults out.new ≡ O.faults out.old }
 {
     let mut outbox = Outbox::new(alloc);
-    let Ok(()) = write_head(&mut outbox) else {
-        return Cause::NoMemory;
+    let mut tally = Tally {
+        best: 0,
+        odd: 0,
+        over: 0,
     };
-    let mut over: u64 = 0;
     for (k, shot) in shots.iter().enumerate() {
-        let Ok(is_over) = write_shot(alloc, graph, k as u32, shot, &mut outbox) else {
-            return Cause::NoMemory;
+        let Ok(row) = add_row(alloc, graph, parts, k as u32, shot, &mut outbox) else {
+            return Err(RowsFault::NoMemory);
         };
-        over += one_if(is_over);
+        tally = tally.counted(&row);
         let Ok(()) = outbox.flush_if_full(out) else {
-            return Cause::WriteFault;
+            return Err(RowsFault::WriteFault);
         };
     }
-    let rows = shots.len() as u64;
-    let Ok(()) = write_done(&mut outbox, rows, 0, rows - over, 0) else {
-        return Cause::NoMemory;
-    };
     let Ok(()) = outbox.flush(out) else {
-        return Cause::WriteFault;
+        return Err(RowsFault::WriteFault);
     };
-    if over > 0 { Cause::Over } else { Cause::Done }
+    Ok(tally)
 }

@@ -1,20 +1,29 @@
-ghost use Rattle.std.specs.Prelude.{◌≡◌, ◌≢◌, ◌↔◌, ◌<◌, ◌≤◌, ◌^◌, ◌-◌, [], ◌∷◌, None, map, string_bytes};
-ghost use Rattle.fb_ports.specs.Causes.{Appends, AppendsFront, IsEmptyIfTold, Rose};
-ghost use Rattle.fb_run.specs.Causes.{line_of, status_of};
-ghost use Rattle.fb_run.specs.Endings.{AsksAsTold, DecodeEnds, EndsRight};
-ghost use Rattle.fb_run.specs.Judging.{AsksFront};
-ghost use Rattle.fb_run.specs.Seen.{seen};
-ghost use Rattle.fb_run.specs.Words.{errand_of};
+//! The top call.
 
+ghost use Rattle.std.specs.Prelude.{◌≡◌, ◌≢◌, ◌<◌, ◌≤◌, ◌^◌, ◌-◌, [], ◌∷◌, map, string_bytes};
+ghost use Rattle.fb_ports.specs.Causes.{Appends, AppendsFront, HasRoom, IsEmptyIfTold, Rose};
+ghost use Rattle.fb_run.specs.Causes.{line_of, status_of};
+ghost use Rattle.fb_run.specs.Endings.{DecodeEnds, EndsOn, IsReadToItsEnd, MayFollowReadFault};
+ghost use Rattle.fb_run.specs.RunEndings.{AsksAsTold, EndsRight, ErrandEnds, cause_of_fault, names_of};
+ghost use Rattle.fb_run.specs.Judging.{AsksFront, IsReadOutIfNamed};
+ghost use Rattle.fb_run.specs.Seen.{seen_decoding, seen};
+ghost use Rattle.fb_run.specs.Words.{errand_of};
+ghost use Rattle.fb_run.specs.Writes.{EndsReport, counts_in};
+
+use crate::checking::check;
 use crate::ending::{Cause, Ended, Refusal, UsageKind};
-use crate::input::{InputFault, read_input};
-use crate::report::write_report;
-use crate::words::{Errand, read_words};
-use fb_ports::{Files, Sink};
+use crate::graphs::{NoGraph, read_graph_file};
+use crate::report::{RowsFault, Tally, write_rows};
+use crate::saying::say;
+use crate::shots::{ShotsEnd, read_shots};
+use crate::words::{Decoding, Errand, WordsFault, read_words};
+use fb_graph::{Graph, components};
+use fb_ports::{Files, Sink, put_all};
+use fb_report::{write_done, write_head};
 use std::alloc::Global;
 
 /// Runs the program on the words of a command line, the program's name first: reads the files that they name, writes
-/// the report to `out`, and says on `err` why it ended where that isn't `Done` or `Over`.
+/// the report to `out`, and says on `err` why it ended, where a report alone doesn't.
 pub fn run<F: Files, O: Sink, E: Sink>(
     alloc: Global,
     words: &[String],
@@ -24,60 +33,177 @@ pub fn run<F: Files, O: Sink, E: Sink>(
 ) -> Ended
     requires { IsEmptyIfTold (F.asked files.old) }
     ensures status { result.status ≡ status_of result.cause }
-    ensures usage { (result.cause ≡ Cause.Usage UsageKind.Parse) ↔ (errand_of (map string_bytes words.now) ≡ None) }
 
-    // What was written, and what the files held, by the cause.
+    // What was written, and what the files held, by the cause. Faulty words are answered by their fault.
     ensures ends { EndsRight (errand_of (map string_bytes words.now)) (F.named files.old) (O.taken out.old) (O.taken out.new) result.cause }
+    ensures at_end { IsReadToItsEnd result.cause → IsReadOutIfNamed (F.named files.old) (F.left files.new) }
 
-    // A fault is answered where it came, and only there.
+    // A fault is answered where it came, and only there. Where the rows of the shots before it can't be written, that
+    // is answered in its place.
     ensures read_fault { result.cause ≡ Cause.ReadFault → Rose (F.faults files.old) (F.faults files.new) }
-    ensures read_risen { F.faults files.old < F.faults files.new → result.cause ≡ Cause.ReadFault }
-    ensures read_calm { result.cause ≢ Cause.ReadFault → F.faults files.new ≡ F.faults files.old }
+    ensures read_risen { F.faults files.old < F.faults files.new → MayFollowReadFault result.cause }
     ensures write_fault { result.cause ≡ Cause.WriteFault → Rose (O.faults out.old) (O.faults out.new) }
     ensures write_risen { O.faults out.old < O.faults out.new → result.cause ≡ Cause.WriteFault }
-    ensures write_calm { result.cause ≢ Cause.WriteFault → O.faults out.new ≡ O.faults out.old }
 
     // The names asked for are those of the words, in their order.
     ensures asks { AsksAsTold (errand_of (map string_bytes words.now)) (F.asked files.old) (F.asked files.new) }
 
-    // What was said on standard error.
-    ensures said { AppendsFront (E.taken err.old) (E.taken err.new) (line_of result.cause) }
-    ensures said_whole { E.faults err.old < 2 ^ 64 - 1 → E.faults err.new ≡ E.faults err.old
-        → Appends (E.taken err.old) (E.taken err.new) (line_of result.cause) }
+    // What was said on standard error. Of words that have no reading it is the command line reader's own text.
+    ensures said { result.cause ≢ Cause.Usage UsageKind.Parse
+        → AppendsFront (E.taken err.old) (E.taken err.new) (line_of result.cause) }
+    ensures said_whole { result.cause ≢ Cause.Usage UsageKind.Parse → E.faults err.old < 2 ^ 64 - 1
+        → E.faults err.new ≡ E.faults err.old → Appends (E.taken err.old) (E.taken err.new) (line_of result.cause) }
 {
-    let cause = match read_words(words) {
-        Some(errand) => decode(alloc, &errand, files, out),
-        None => Cause::Usage(UsageKind::Parse),
-    };
-    cause.say(err);
+    let cause = answer(alloc, words, files, out, err);
+    say(cause, err);
     Ended {
         status: cause.status(),
         cause,
     }
 }
 
-/// Decodes the shots of the files that are named.
-fn decode<F: Files, O: Sink>(
+/// Does what the words ask for, or says on `err` what is wrong with words that have no reading.
+fn answer<F: Files, O: Sink, E: Sink>(
+    alloc: Global,
+    words: &[String],
+    files: &mut F,
+    out: &mut O,
+    err: &mut E,
+) -> Cause
+    requires { IsEmptyIfTold (F.asked files.old) }
+    ensures ends { EndsRight (errand_of (map string_bytes words.now)) (F.named files.old) (O.taken out.old) (O.taken out.new) result }
+    ensures at_end { IsReadToItsEnd result → IsReadOutIfNamed (F.named files.old) (F.left files.new) }
+    ensures asks { AsksAsTold (errand_of (map string_bytes words.now)) (F.asked files.old) (F.asked files.new) }
+    ensures read_fault { result ≡ Cause.ReadFault → Rose (F.faults files.old) (F.faults files.new) }
+    ensures read_risen { F.faults files.old < F.faults files.new → MayFollowReadFault result }
+    ensures write_fault { result ≡ Cause.WriteFault → Rose (O.faults out.old) (O.faults out.new) }
+    ensures write_risen { O.faults out.old < O.faults out.new → result ≡ Cause.WriteFault }
+    ensures quiet { result ≢ Cause.Usage UsageKind.Parse → (E.taken err.new ≡ E.taken err.old) × (E.faults err.new ≡ E.faults err.old) }
+{
+    match read_words(alloc, words) {
+        Ok(errand) => run_errand(alloc, &errand, files, out),
+        Err(fault) => refuse_words(&fault, err),
+    }
+}
+
+/// Does what the words ask for.
+fn run_errand<F: Files, O: Sink>(
     alloc: Global,
     errand: &Errand<'_>,
     files: &mut F,
     out: &mut O,
 ) -> Cause
     requires { IsEmptyIfTold (F.asked files.old) }
-    ensures ends { DecodeEnds (F.named files.old) (seen errand.now) (O.taken out.old) (O.taken out.new) result }
+    ensures ends { ErrandEnds (seen errand.now) (F.named files.old) (O.taken out.old) (O.taken out.new) result }
+    ensures at_end { IsReadToItsEnd result → IsReadOutIfNamed (F.named files.old) (F.left files.new) }
+    ensures asks { AsksFront (F.asked files.old) (F.asked files.new) (names_of (seen errand.now)) }
     ensures read_fault { result ≡ Cause.ReadFault → Rose (F.faults files.old) (F.faults files.new) }
     ensures read_later { F.faults files.old ≤ F.faults files.new }
-    ensures read_risen { F.faults files.old < F.faults files.new → result ≡ Cause.ReadFault }
-    ensures read_calm { result ≢ Cause.ReadFault → F.faults files.new ≡ F.faults files.old }
+    ensures read_risen { F.faults files.old < F.faults files.new → MayFollowReadFault result }
     ensures write_fault { result ≡ Cause.WriteFault → Rose (O.faults out.old) (O.faults out.new) }
     ensures write_later { O.faults out.old ≤ O.faults out.new }
     ensures write_calm { result ≢ Cause.WriteFault → O.faults out.new ≡ O.faults out.old }
-    ensures asks { AsksFront (F.asked files.old) (F.asked files.new) (errand.now.graph.now ∷ errand.now.shots.now ∷ []) }
 {
-    match read_input(alloc, files, errand) {
-        Ok(input) => write_report(alloc, &input.graph, &input.shots, out),
-        Err(InputFault::NotBuilt) => Cause::Refused(Refusal::NotBuilt),
-        Err(InputFault::ReadFault) => Cause::ReadFault,
-        Err(InputFault::NoMemory) => Cause::NoMemory,
+    match errand {
+        Errand::Decode(decoding) => decode(alloc, decoding, files, out),
+        Errand::Check(checking) => check(alloc, checking, files, out),
+    }
+}
+
+/// Answers what is wrong with the words. Where they have no reading, it puts the command line reader's text on a sink.
+fn refuse_words<E: Sink>(fault: &WordsFault, err: &mut E) -> Cause
+    ensures cause { result ≡ cause_of_fault fault.now }
+    ensures quiet { result ≢ Cause.Usage UsageKind.Parse → (E.taken err.new ≡ E.taken err.old) × (E.faults err.new ≡ E.faults err.old) }
+{
+    match fault {
+        WordsFault::Parse(text) => {
+            let _ = put_all(err, text.as_bytes());
+            Cause::Usage(UsageKind::Parse)
+        }
+        WordsFault::Format => Cause::Usage(UsageKind::Format),
+        WordsFault::TwoInputs => Cause::Usage(UsageKind::TwoInputs),
+        WordsFault::NoMemory => Cause::NoMemory,
+    }
+}
+
+/// Decodes the shots of the files that are named: the graph is read and judged, the head is written, the shots are read,
+/// and their rows are written.
+fn decode<F: Files, O: Sink>(
+    alloc: Global,
+    errand: &Decoding<'_>,
+    files: &mut F,
+    out: &mut O,
+) -> Cause
+    requires { IsEmptyIfTold (F.asked files.old) }
+    ensures ends { DecodeEnds (F.named files.old) (seen_decoding errand.now) (O.taken out.old) (O.taken out.new) result }
+    ensures at_end { IsReadToItsEnd result → IsReadOutIfNamed (F.named files.old) (F.left files.new) }
+    ensures asks { AsksFront (F.asked files.old) (F.asked files.new) (errand.now.graph.now ∷ errand.now.shots.now ∷ []) }
+    ensures read_fault { result ≡ Cause.ReadFault → Rose (F.faults files.old) (F.faults files.new) }
+    ensures read_later { F.faults files.old ≤ F.faults files.new }
+    ensures read_risen { F.faults files.old < F.faults files.new → MayFollowReadFault result }
+    ensures write_fault { result ≡ Cause.WriteFault → Rose (O.faults out.old) (O.faults out.new) }
+    ensures write_later { O.faults out.old ≤ O.faults out.new }
+    ensures write_calm { result ≢ Cause.WriteFault → O.faults out.new ≡ O.faults out.old }
+{
+    match read_graph_file(alloc, files, errand.graph) {
+        Ok(graph) => decode_on(alloc, errand, &graph, files, out),
+        Err(NoGraph::Refused(fault)) => Cause::Refused(Refusal::Graph(fault)),
+        Err(NoGraph::ReadFault) => Cause::ReadFault,
+        Err(NoGraph::NoMemory) => Cause::NoMemory,
+    }
+}
+
+/// Decodes the shots of the file that is named, for a graph.
+fn decode_on<F: Files, O: Sink>(
+    alloc: Global,
+    errand: &Decoding<'_>,
+    graph: &Graph,
+    files: &mut F,
+    out: &mut O,
+) -> Cause
+    requires { HasRoom (F.asked files.old) 16 }
+    ensures ends { EndsOn (F.named files.old) (seen_decoding errand.now) graph.now (O.taken out.old) (O.taken out.new) result }
+    ensures at_end { IsReadToItsEnd result → IsReadOutIfNamed (F.named files.old) (F.left files.new) }
+    ensures asks { AsksFront (F.asked files.old) (F.asked files.new) (errand.now.shots.now ∷ []) }
+    ensures read_fault { result ≡ Cause.ReadFault → Rose (F.faults files.old) (F.faults files.new) }
+    ensures read_later { F.faults files.old ≤ F.faults files.new }
+    ensures read_risen { F.faults files.old < F.faults files.new → MayFollowReadFault result }
+    ensures write_fault { result ≡ Cause.WriteFault → Rose (O.faults out.old) (O.faults out.new) }
+    ensures write_later { O.faults out.old ≤ O.faults out.new }
+    ensures write_calm { result ≢ Cause.WriteFault → O.faults out.new ≡ O.faults out.old }
+{
+    let Ok(mut parts) = components(alloc, graph) else {
+        return Cause::NoMemory;
+    };
+    let Ok(()) = write_head(out) else {
+        return Cause::WriteFault;
+    };
+    let Ok(gathered) = read_shots(alloc, files, errand.shots, errand.format, graph) else {
+        return Cause::NoMemory;
+    };
+    let shots = gathered.shots.as_slice();
+    match write_rows(alloc, graph, &mut parts, shots, out) {
+        Ok(tally) => end_report(gathered.end, shots.len() as u64, tally, out),
+        Err(RowsFault::WriteFault) => Cause::WriteFault,
+        Err(RowsFault::NoMemory) => Cause::NoMemory,
+    }
+}
+
+/// Ends the report of so many rows: by its last line where the shots were read to their end.
+fn end_report<O: Sink>(end: ShotsEnd, rows: u64, tally: Tally, out: &mut O) -> Cause
+    ensures end { EndsReport end rows (counts_in tally) (O.taken out.old) (O.taken out.new) result }
+    ensures write_fault { result ≡ Cause.WriteFault → Rose (O.faults out.old) (O.faults out.new) }
+    ensures write_later { O.faults out.old ≤ O.faults out.new }
+    ensures write_calm { result ≢ Cause.WriteFault → O.faults out.new ≡ O.faults out.old }
+{
+    match end {
+        ShotsEnd::End => {
+            let Ok(()) = write_done(out, rows, tally.odd, tally.best, 0) else {
+                return Cause::WriteFault;
+            };
+            tally.cause()
+        }
+        ShotsEnd::Refused(fault) => Cause::Refused(Refusal::Shot(fault)),
+        ShotsEnd::ReadFault => Cause::ReadFault,
     }
 }

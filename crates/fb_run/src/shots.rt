@@ -1,41 +1,118 @@
-ghost use Rattle.std.specs.Prelude.{◌≡◌, ◌≤◌, ◌^◌, ◌<◌, length, IfOk, vec_len, Err};
-ghost use Rattle.fb_shots_stim.specs.Records.{at_end, refused};
-ghost use Rattle.fb_shots_stim.specs.Text01.{records_01};
-ghost use Rattle.fb_run.specs.Judging.{IsRefusedShots};
+//! The shots of a file.
 
-use fb_shots_stim::{Detectors, Next, Records01};
+ghost use Rattle.std.specs.Prelude.{◌≡◌, ◌≢◌, ◌<◌, ◌≤◌, ◌^◌, ◌∷◌, [], length, All, IfOk, OnErr};
+ghost use Rattle.fb_graph.specs.Limits.{IsShot};
+ghost use Rattle.fb_ports.specs.Causes.{HasRoom, Rose};
+ghost use Rattle.fb_shots.specs.Streams.{fresh};
+ghost use Rattle.fb_shots.specs.Steps.{IsReadOut};
+ghost use Rattle.fb_run.specs.Judging.{AsksFront, Gathers, GathersFrom, IsReadOutIfNamed, most_shots};
+
+use fb_graph::{Graph, NoMemory, Shot};
+use fb_ports::Files;
+use fb_shots::{Format, ShotFault, ShotStream, Step};
 use std::alloc::Global;
 
-/// Why there are no shots.
+/// How the shots of a file end.
 #[derive(Clone, Copy, Debug, PartialEq, Eq)]
-pub enum ShotsFault {
-    Refused,
-    NoMemory,
+pub enum ShotsEnd {
+    /// The file was read to its end.
+    End,
+    /// What stands in the place of the next shot is refused.
+    Refused(ShotFault),
+    /// The file could not be opened, or not be read further.
+    ReadFault,
 }
 
-/// The shots of a whole text in the format `01`.
-pub fn read_shots(alloc: Global, detectors: u32, text: &[u8]) -> Result<Vec<Detectors>, ShotsFault>
-    ensures ok { IfOk result (λ v. records_01 detectors text.now ≡ record { shots = v.items; ending = at_end }) }
-    ensures few { IfOk result (λ v. vec_len v ≤ length text.now) }
-    ensures refused { result ≡ Err ShotsFault.Refused → IsRefusedShots detectors text.now }
+/// The shots of a file, in order, and how they end.
+#[derive(Drop)]
+pub struct Gathered {
+    pub shots: Vec<Shot>,
+    pub end: ShotsEnd,
+}
+
+/// Reads the shots of the file of a name. Where reading fails, the shots are those that the bytes read until then settle.
+#[tactic(auto, using(crate::proofs::Inputs::asking))]
+pub fn read_shots<F: Files>(
+    alloc: Global,
+    files: &mut F,
+    name: &str,
+    format: Format,
+    graph: &Graph,
+) -> Result<Gathered, NoMemory>
+    requires { HasRoom (F.asked files.old) 16 }
+    ensures asks { AsksFront (F.asked files.old) (F.asked files.new) (name.now ∷ []) }
+    ensures names { F.named files.new ≡ F.named files.old }
+    ensures gathers { IfOk result (λ r. Gathers (F.named files.old) name.now format graph.now r.shots.items r.end) }
+    ensures shots { IfOk result (λ r. All (IsShot graph.now) r.shots.items) }
+    ensures few { IfOk result (λ r. length r.shots.items < 2 ^ 32) }
+    ensures at_end { IfOk result (λ r. r.end ≡ ShotsEnd.End → IsReadOutIfNamed (F.named files.old) (F.left files.new)) }
+    ensures fault { IfOk result (λ r. r.end ≡ ShotsEnd.ReadFault → Rose (F.faults files.old) (F.faults files.new)) }
+    ensures later { F.faults files.old ≤ F.faults files.new }
+    ensures calm { IfOk result (λ r. r.end ≢ ShotsEnd.ReadFault → F.faults files.new ≡ F.faults files.old) }
+    ensures unread { OnErr result (F.faults files.new ≡ F.faults files.old) }
 {
-    let mut reader = Records01::new(alloc, detectors);
-    if reader.feed(text).is_err() {
-        return Err(ShotsFault::NoMemory);
-    }
-    reader.finish();
+    let Ok(name) = String::from_str(alloc, name) else {
+        return Err(NoMemory);
+    };
+    let Ok(()) = files.open_file(name) else {
+        return Ok(Gathered {
+            shots: Vec::new(alloc),
+            end: ShotsEnd::ReadFault,
+        });
+    };
+    let Ok(stream) = ShotStream::new(alloc, format, graph, u32::MAX) else {
+        return Err(NoMemory);
+    };
+    gather(alloc, files, stream)
+}
+
+/// Takes all shots of a stream that has read nothing yet.
+fn gather<F: Files>(
+    alloc: Global,
+    files: &mut F,
+    mut stream: ShotStream<'_>,
+) -> Result<Gathered, NoMemory>
+    requires { stream ≡ fresh stream.format stream.graph most_shots }
+    ensures asks { F.asked files.new ≡ F.asked files.old }
+    ensures names { F.named files.new ≡ F.named files.old }
+    ensures gathers { IfOk result (λ r. GathersFrom (F.left files.old) stream.entry.format stream.entry.graph r.shots.items r.end) }
+    ensures shots { IfOk result (λ r. All (IsShot stream.entry.graph) r.shots.items) }
+    ensures few { IfOk result (λ r. length r.shots.items < 2 ^ 32) }
+    ensures at_end { IfOk result (λ r. r.end ≡ ShotsEnd.End → IsReadOut (F.left files.old) (F.left files.new)) }
+    ensures fault { IfOk result (λ r. r.end ≡ ShotsEnd.ReadFault → Rose (F.faults files.old) (F.faults files.new)) }
+    ensures later { F.faults files.old ≤ F.faults files.new }
+    ensures calm { IfOk result (λ r. r.end ≢ ShotsEnd.ReadFault → F.faults files.new ≡ F.faults files.old) }
+    ensures unread { OnErr result (F.faults files.new ≡ F.faults files.old) }
+{
     let mut shots = Vec::new(alloc);
     loop {
-        match reader.next() {
-            Ok(Next::Shot(shot)) => {
-                if shots.push(shot).is_err() {
-                    return Err(ShotsFault::NoMemory);
-                }
+        let Ok(step) = stream.next_shot(files) else {
+            return Err(NoMemory);
+        };
+        match step {
+            Step::Shot(shot) => {
+                let Ok(()) = shots.push(shot) else {
+                    return Err(NoMemory);
+                };
             }
-            Ok(Next::End) => return Ok(shots),
-            Ok(Next::Refused(_)) => return Err(ShotsFault::Refused),
-            Ok(Next::NotYet) => unreachable!(),
-            Err(_) => return Err(ShotsFault::NoMemory),
+            Step::End => {
+                return Ok(Gathered {
+                    shots,
+                    end: ShotsEnd::End,
+                });
+            }
+            Step::Refused(fault) => {
+                return Ok(Gathered {
+                    shots,
+                    end: ShotsEnd::Refused(fault),
+                });
+            }
+            Step::ReadFault => {
+                return Ok(Gathered {
+                    shots,
+                    end: ShotsEnd::ReadFault,
+                });
+            }
         }
     }
 }

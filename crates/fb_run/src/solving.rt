@@ -1,21 +1,41 @@
-ghost use Rattle.std.specs.Prelude.{◌≡◌, [], IfOk, length};
-ghost use Rattle.fb_graph.specs.Layout.{detectors_of};
-ghost use Rattle.fb_run.specs.Decoding.{IsShotRow};
-ghost use Rattle.fb_run.specs.Judging.{IsInRange};
+//! The row of a shot.
 
-use fb_graph::{CutList, Graph, NoMemory, NumberList, Row, Whole};
+ghost use Rattle.std.specs.Prelude.{◌≡◌, [], None, IfOk};
+ghost use Rattle.fb_graph.specs.Components.{IsFirstOdd};
+ghost use Rattle.fb_graph.specs.Limits.{IsShot, problem_of};
+ghost use Rattle.fb_run.specs.Rows.{IsShotRow};
+
+use fb_graph::{Components, CutList, Graph, NoMemory, NumberList, Row, Shot, Whole, first_odd};
 use fb_search::search_one;
-use fb_shots_stim::Detectors;
 use std::alloc::Global;
 
-/// The row of a shot.
-pub fn solve_shot(alloc: Global, graph: &Graph, shot: &Detectors) -> Result<Row, NoMemory>
-    requires { IsInRange (length (detectors_of graph.now)) shot.now }
-    ensures { IfOk result (IsShotRow graph.now shot.now) }
+/// The row of a shot: odd where no correction exists, and over where it is more than this version solves.
+pub fn solve_shot(
+    alloc: Global,
+    graph: &Graph,
+    parts: &mut Components,
+    shot: &Shot,
+) -> Result<Row, NoMemory>
+    requires parts { parts.old ≡ graph.now }
+    requires shot { IsShot graph.now shot.now }
+    ensures row { IfOk result (IsShotRow graph.now shot.now) }
+    ensures same { parts.new ≡ parts.old }
 {
-    match shot.as_slice() {
+    if let Some(vertex) = first_odd(parts, shot) {
+        return Ok(Row::Odd(vertex));
+    }
+    solve_even(alloc, graph, shot.as_slice())
+}
+
+/// The row of a shot that has a correction.
+fn solve_even(alloc: Global, graph: &Graph, defects: &[u32]) -> Result<Row, NoMemory>
+    requires shot { IsShot graph.now defects.now }
+    requires even { IsFirstOdd (problem_of graph.now defects.now) None }
+    ensures { IfOk result (IsShotRow graph.now defects.now) }
+{
+    match defects {
         [] => Ok(empty_row(alloc)),
-        [detector] => search_one(alloc, Whole(graph), graph.detector_vertex(*detector)),
+        [defect] => search_one(alloc, Whole(graph), *defect),
         _ => Ok(Row::Over),
     }
 }

@@ -1,55 +1,193 @@
-ghost use Rattle.std.specs.Prelude.{◌≡◌, map, option_map, string_bytes};
-ghost use Rattle.fb_run.specs.Words.{are_in_form, errand_of};
-ghost use Rattle.fb_run.specs.Seen.{seen};
+//! What the words of a command line ask for.
 
-/// What a command line asks for: the names of the graph and of the shots, `-` for standard input.
+ghost use Rattle.std.specs.Prelude.{◌≡◌, ◌≢◌, true, map, string_bytes, IfOk, IfErr, IfSome};
+ghost use Rattle.clap.specs.Words.{found_of, kind_of, rows_of, subcommand_rows_of, takes};
+ghost use Rattle.fb_run.specs.Command.{fusion_app};
+ghost use Rattle.fb_run.specs.declared.ending.UsageKind.{UsageKind};
+ghost use Rattle.fb_run.specs.Seen.{IsFaultOf, seen, usage_of};
+ghost use Rattle.fb_run.specs.Words.{accepted_format, checking_of, command_errand, decoding_of, errand_of, format_of, has_two_inputs, is_command, option_of};
+
+use crate::command::fusion;
+use clap::ArgMatches;
+use clap::error::{Error, ErrorKind};
+use fb_shots::Format;
+use std::alloc::Global;
+
+/// What a command line asks for.
 #[derive(Clone, Copy)]
-pub struct Errand<'a> {
+pub enum Errand<'a> {
+    Decode(Decoding<'a>),
+    Check(Checking<'a>),
+}
+
+/// Shots to decode: the names of the graph and of the shots, `-` for standard input.
+#[derive(Clone, Copy)]
+pub struct Decoding<'a> {
     pub graph: &'a str,
     pub shots: &'a str,
+    pub format: Format,
+}
+
+/// A report to check: the names of the graph, of the shots and of the report, `-` for standard input.
+#[derive(Clone, Copy)]
+pub struct Checking<'a> {
+    pub graph: &'a str,
+    pub shots: &'a str,
+    pub format: Format,
+    pub report: &'a str,
+}
+
+/// Why the words give no errand.
+#[derive(Debug, Drop)]
+pub enum WordsFault {
+    /// They are no command with its options, or they ask for help or the version. The text is for the user, of whole lines.
+    Parse(String),
+    /// `--format` is none of the four.
+    Format,
+    /// More than one name is that of standard input.
+    TwoInputs,
+    /// Memory ran out.
+    NoMemory,
 }
 
 /// Reads the words of a command line, the program's name first.
-pub fn read_words(words: &[String]) -> Option<Errand<'_>>
-    ensures { option_map seen result ≡ errand_of (map string_bytes words.now) }
+pub fn read_words<'a>(alloc: Global, words: &'a [String]) -> Result<Errand<'a>, WordsFault>
+    ensures errand { IfOk result (λ e. errand_of (map string_bytes words.entry.now) ≡ Ok (seen e)) }
+    ensures fault { IfErr result (IsFaultOf (errand_of (map string_bytes words.entry.now))) }
+
+    // Words that `clap` takes aren't refused as a whole.
+    ensures takes { takes fusion_app (map string_bytes words.entry.now) ≡ true
+        → IfErr result (λ f. usage_of f ≢ Some UsageKind.Parse) }
 {
-    if words.len() != 8 {
-        return None;
-    }
-    let graph = words[3].as_str();
-    let shots = words[5].as_str();
-    let is_in_form = are_in_form(
-        words[1].as_str(),
-        words[2].as_str(),
-        graph,
-        words[4].as_str(),
-        shots,
-        words[6].as_str(),
-        words[7].as_str(),
-    );
-    if is_in_form {
-        Some(Errand { graph, shots })
-    } else {
-        None
+    match parse(alloc, words) {
+        Ok(matches) => read_errand(&matches),
+        Err(fault) => Err(fault),
     }
 }
 
-/// Whether the words stand as they have to, but for the two names, which aren't both standard input.
-fn are_in_form(
-    command: &str,
-    graph_option: &str,
-    graph: &str,
-    shots_option: &str,
-    shots: &str,
-    format_option: &str,
-    format: &str,
-) -> bool
-    ensures { result ≡ are_in_form command.now graph_option.now graph.now shots_option.now shots.now format_option.now format.now }
+/// What `clap` makes of the words.
+fn parse<'a>(alloc: Global, words: &'a [String]) -> Result<ArgMatches<'a>, WordsFault>
+    ensures command { IfOk result (λ m. is_command (subcommand_rows_of m) ≡ true) }
+    ensures errand { IfOk result (λ m. errand_of (map string_bytes words.entry.now)
+        ≡ command_errand (subcommand_rows_of m)) }
+    ensures fault { IfErr result (IsFaultOf (errand_of (map string_bytes words.entry.now))) }
+    ensures takes { takes fusion_app (map string_bytes words.entry.now) ≡ true
+        → IfErr result (λ f. usage_of f ≢ Some UsageKind.Parse) }
 {
-    command == "decode"
-        && graph_option == "--graph"
-        && shots_option == "--shots"
-        && format_option == "--format"
-        && format == "01"
-        && !(graph == "-" && shots == "-")
+    let Ok(command) = fusion(alloc) else {
+        return Err(WordsFault::NoMemory);
+    };
+    match command.try_get_matches_from(words) {
+        Ok(matches) => Ok(matches),
+        Err(error) => Err(refusal(alloc, &error)),
+    }
+}
+
+/// The errand of the command that was parsed.
+fn read_errand<'a>(matches: &ArgMatches<'a>) -> Result<Errand<'a>, WordsFault>
+    requires { is_command (subcommand_rows_of matches.now) ≡ true }
+    ensures errand { IfOk result (λ e. command_errand (subcommand_rows_of matches.now) ≡ Ok (seen e)) }
+    ensures fault { IfErr result (IsFaultOf (command_errand (subcommand_rows_of matches.now))) }
+    ensures parsed { IfErr result (λ f. usage_of f ≢ Some UsageKind.Parse) }
+{
+    match matches.subcommand() {
+        Some(("decode", options)) => read_decoding(options),
+        Some(("check", options)) => read_checking(options),
+        _ => unreachable!(),
+    }
+}
+
+/// The errand of the command `decode` with these options.
+fn read_decoding<'a>(options: &ArgMatches<'a>) -> Result<Errand<'a>, WordsFault>
+    ensures errand { IfOk result (λ e. decoding_of (rows_of (found_of options.now)) ≡ Ok (seen e)) }
+    ensures fault { IfErr result (IsFaultOf (decoding_of (rows_of (found_of options.now)))) }
+    ensures parsed { IfErr result (λ f. usage_of f ≢ Some UsageKind.Parse) }
+{
+    let graph = option(options, "graph");
+    let shots = option(options, "shots");
+    match accepted_format(option(options, "format"), &[graph, shots]) {
+        Ok(format) => Ok(Errand::Decode(Decoding {
+            graph,
+            shots,
+            format,
+        })),
+        Err(fault) => Err(fault),
+    }
+}
+
+/// The errand of the command `check` with these options.
+fn read_checking<'a>(options: &ArgMatches<'a>) -> Result<Errand<'a>, WordsFault>
+    ensures errand { IfOk result (λ e. checking_of (rows_of (found_of options.now)) ≡ Ok (seen e)) }
+    ensures fault { IfErr result (IsFaultOf (checking_of (rows_of (found_of options.now)))) }
+    ensures parsed { IfErr result (λ f. usage_of f ≢ Some UsageKind.Parse) }
+{
+    let graph = option(options, "graph");
+    let shots = option(options, "shots");
+    let report = option(options, "report");
+    match accepted_format(option(options, "format"), &[graph, shots, report]) {
+        Ok(format) => Ok(Errand::Check(Checking {
+            graph,
+            shots,
+            format,
+            report,
+        })),
+        Err(fault) => Err(fault),
+    }
+}
+
+/// The format that a word names, where the inputs of these names are read.
+fn accepted_format(word: &str, names: &[&str]) -> Result<Format, WordsFault>
+    ensures format { IfOk result (λ f. accepted_format (format_of word.now) (map (λ name. name.now) names.now) ≡ Ok f) }
+    ensures fault { IfErr result (IsFaultOf (accepted_format (format_of word.now) (map (λ name. name.now) names.now))) }
+    ensures parsed { IfErr result (λ f. usage_of f ≢ Some UsageKind.Parse) }
+{
+    let Some(format) = format_of(word) else {
+        return Err(WordsFault::Format);
+    };
+    if has_two_inputs(names) {
+        return Err(WordsFault::TwoInputs);
+    }
+    Ok(format)
+}
+
+/// The value of an option.
+#[tactic(auto, using(crate::proofs::Commands::rows))]
+fn option<'a>(options: &ArgMatches<'a>, name: &str) -> &'a str
+    ensures { result.now ≡ option_of name.now (rows_of (found_of options.now)) }
+{
+    options.get_str(name).unwrap_or("")
+}
+
+/// The format that a word names.
+fn format_of(word: &str) -> Option<Format>
+    ensures { result ≡ format_of word.now }
+{
+    match word {
+        "01" => Some(Format::Text01),
+        "b8" => Some(Format::B8),
+        "dets" => Some(Format::Dets),
+        "json" => Some(Format::Json),
+        _ => None,
+    }
+}
+
+/// Whether more than one of the names is that of standard input.
+fn has_two_inputs(names: &[&str]) -> bool
+    ensures { result ≡ has_two_inputs (map (λ name. name.now) names.now) }
+{
+    names.iter().filter(|name| **name == "-").count() > 1
+}
+
+/// What `clap` says of words that it doesn't take.
+fn refusal(alloc: Global, error: &Error) -> WordsFault
+    ensures memory { kind_of error.now ≡ ErrorKind.OutOfMemory → result ≡ WordsFault.NoMemory }
+    ensures parse { IfSome (usage_of result) (λ kind. kind ≡ UsageKind.Parse) }
+{
+    if matches!(error.kind(), ErrorKind::OutOfMemory) {
+        return WordsFault::NoMemory;
+    }
+    match format!(in alloc; "{error}") {
+        Ok(text) => WordsFault::Parse(text),
+        Err(_) => WordsFault::NoMemory,
+    }
 }

@@ -1,0 +1,393 @@
+"""Reads graphs, shots and reports, each by a plain walk over its whole text, or names the first rule that it breaks.
+
+Nothing here is shared with the program. JSON is RFC 8259; the shots are those of Stim's result formats `01`, `b8` and
+`dets`, and Fusion Blossom's syndromes, a JSON value to a line; the report is the text of docs/reports.md.
+"""
+
+import json
+import math
+import re
+from collections import namedtuple
+
+MOST_GRAPH_BYTES = 2**28
+MOST_LINE_BYTES = 2**28
+MOST_REPORT_BYTES = 2**30
+MOST_VERTICES = 1_048_576
+MOST_EDGES = 4_194_304
+MOST_WEIGHT = 2**30
+MOST_NESTING = 127
+
+
+class Refused(Exception):
+    """A text that breaks a rule: the first one's name and place."""
+
+
+# JSON.
+
+
+class Float(float):
+    """A JSON number that isn't held as a whole number."""
+
+
+def whole_or_float(digits):
+    number = int(digits) if len(digits) < 40 else None
+    if digits == "-0" or number is None or not -(2**63) <= number < 2**64:
+        return finite_float(digits)
+    return number
+
+
+def finite_float(digits):
+    number = Float(digits)
+    if math.isinf(number):
+        raise ValueError("a number beyond all floats")
+    return number
+
+
+def no_constant(word):
+    raise ValueError(word)
+
+
+def nesting(text):
+    """The most lists and objects that are open at one place of a JSON text."""
+    most = opened = 0
+    in_string = escaped = False
+    for c in text:
+        if escaped:
+            escaped = False
+        elif in_string:
+            escaped = c == "\\"
+            in_string = c != '"'
+        else:
+            in_string = c == '"'
+            opened += (c in "[{") - (c in "]}")
+            most = max(most, opened)
+    return most
+
+
+def holds_lone_surrogate(value):
+    waiting = [value]
+    while waiting:
+        each = waiting.pop()
+        if isinstance(each, str) and any("\ud800" <= c <= "\udfff" for c in each):
+            return True
+        if isinstance(each, dict):
+            waiting.extend(each.keys())
+            waiting.extend(each.values())
+        if isinstance(each, list):
+            waiting.extend(each)
+    return False
+
+
+def read_json(text):
+    """The value of a JSON text, of duplicate members the last."""
+    kept = []
+
+    def keep(pairs):
+        kept.append(pairs)
+        return dict(pairs)
+
+    try:
+        value = json.loads(
+            text.decode("utf-8"),
+            parse_int=whole_or_float,
+            parse_float=finite_float,
+            parse_constant=no_constant,
+            object_pairs_hook=keep,
+        )
+    except (ValueError, RecursionError):
+        raise Refused("NotJson") from None
+    members = [[name, part] for pairs in kept for name, part in pairs]
+    if holds_lone_surrogate([value, members]) or nesting(text.decode("utf-8")) > MOST_NESTING:
+        raise Refused("NotJson")
+    return value
+
+
+def is_whole(value):
+    return isinstance(value, int) and not isinstance(value, bool)
+
+
+def is_count(value):
+    return is_whole(value) and value >= 0
+
+
+# The graph.
+
+Graph = namedtuple("Graph", "vertices edges virtuals")
+
+
+def detectors(graph):
+    """The vertices that aren't virtual, in rising order; detector k is the k-th of them."""
+    virtuals = set(graph.virtuals)
+    return [v for v in range(graph.vertices) if v not in virtuals]
+
+
+def is_edge(value):
+    return (
+        isinstance(value, list)
+        and len(value) == 3
+        and is_count(value[0])
+        and is_count(value[1])
+        and is_whole(value[2])
+    )
+
+
+def read_graph(text):
+    """The graph of a solver initializer."""
+    if len(text) > MOST_GRAPH_BYTES:
+        raise Refused("TooLong graph")
+    value = read_json(text)
+    for member in ["vertex_num", "weighted_edges", "virtual_vertices"]:
+        if not isinstance(value, dict) or member not in value:
+            raise Refused(f"Missing {member}")
+    vertices, edges, virtuals = (value[m] for m in ["vertex_num", "weighted_edges", "virtual_vertices"])
+    if not is_count(vertices):
+        raise Refused("NotWhole vertex_num")
+    if not isinstance(edges, list):
+        raise Refused("NotWhole weighted_edges")
+    if not isinstance(virtuals, list):
+        raise Refused("NotWhole virtual_vertices")
+    for i, edge in enumerate(edges):
+        if not is_edge(edge):
+            raise Refused(f"NotWhole weighted_edges {i}")
+    for i, vertex in enumerate(virtuals):
+        if not is_count(vertex):
+            raise Refused(f"NotWhole virtual_vertices {i}")
+    return build_graph(vertices, edges, virtuals)
+
+
+def build_graph(vertices, edges, virtuals):
+    """The graph of these numbers."""
+    if vertices > MOST_VERTICES:
+        raise Refused("TooManyVertices")
+    if len(edges) > MOST_EDGES:
+        raise Refused("TooManyEdges")
+    for i, (u, v, weight) in enumerate(edges):
+        if u >= vertices or v >= vertices:
+            raise Refused(f"EndOutOfRange {i}")
+        if u == v:
+            raise Refused(f"SelfLoop {i}")
+        if weight % 2 == 1:
+            raise Refused(f"OddWeight {i}")
+        if weight > MOST_WEIGHT:
+            raise Refused(f"WeightTooLarge {i}")
+        if weight < 0:
+            raise Refused(f"NegativeWeight {i}")
+    seen = set()
+    for i, vertex in enumerate(virtuals):
+        if vertex >= vertices:
+            raise Refused(f"VirtualOutOfRange {i}")
+        if vertex in seen:
+            raise Refused(f"VirtualRepeated {i}")
+        seen.add(vertex)
+    return Graph(vertices, [tuple(edge) for edge in edges], sorted(virtuals))
+
+
+# The shots.
+
+Shots = namedtuple("Shots", "shots refusal")
+
+
+def read_shots(form, text, graph):
+    """The defects of each shot before the first refusal, or of all; and that refusal, with the shot that it stopped."""
+    shots = []
+    try:
+        for defects in RECORDS[form](text, graph):
+            shots.append(sorted(defects))
+    except Refused as kind:
+        return Shots(shots, f"{kind} shot {len(shots)}")
+    return Shots(shots, None)
+
+
+def lines_of(text):
+    """The parts between newlines; the one after the last newline only where it isn't empty."""
+    lines = text.split(b"\n")
+    if lines[-1] == b"":
+        lines.pop()
+    return lines
+
+
+def without_return(line):
+    return line[:-1] if line.endswith(b"\r") else line
+
+
+def records_01(text, graph):
+    vertices = detectors(graph)
+    for line in lines_of(text):
+        line = without_return(line)
+        for i, byte in enumerate(line):
+            if i == len(vertices):
+                raise Refused("LongRecord")
+            if byte not in b"01":
+                raise Refused("BadByte")
+        if len(line) < len(vertices):
+            raise Refused("ShortRecord")
+        yield [vertex for vertex, byte in zip(vertices, line) if byte == ord("1")]
+
+
+def records_b8(text, graph):
+    vertices = detectors(graph)
+    size = (len(vertices) + 7) // 8
+    if size == 0 and text:
+        raise Refused("LongRecord")
+    for start in range(0, len(text), size or 1):
+        block = text[start : start + size]
+        if len(block) < size:
+            raise Refused("ShortRecord")
+        places = [k for k in range(8 * size) if block[k // 8] >> k % 8 & 1]
+        if any(k >= len(vertices) for k in places):
+            raise Refused("PaddingBit")
+        yield [vertices[k] for k in places]
+
+
+def records_dets(text, graph):
+    vertices = detectors(graph)
+    for line in lines_of(text):
+        tokens = [token for token in without_return(line).split(b" ") if token]
+        if not tokens:
+            continue
+        if tokens[0] != b"shot":
+            raise Refused("BadToken")
+        places = []
+        for token in tokens[1:]:
+            kind, digits = token[:1], token[1:]
+            if kind not in [b"D", b"L", b"M"] or not re.fullmatch(b"[0-9]+", digits):
+                raise Refused("BadToken")
+            if kind == b"M":
+                raise Refused("MeasurementToken")
+            if kind == b"D":
+                place = place_below(digits, len(vertices))
+                if place in places:
+                    raise Refused("RepeatedIndex")
+                places.append(place)
+        yield [vertices[k] for k in places]
+
+
+def place_below(digits, count):
+    """The number of some digits, where it is below a count."""
+    digits = digits.lstrip(b"0") or b"0"
+    if len(digits) > len(str(count)) or int(digits) >= count:
+        raise Refused("IndexOutOfRange")
+    return int(digits)
+
+
+def records_json(text, graph):
+    for line in lines_of(text):
+        if not line.strip(b" \t\r"):
+            continue
+        if len(line) > MOST_LINE_BYTES:
+            raise Refused("LineTooLong")
+        yield defects_of(read_json(without_return(line)), graph)
+
+
+def defects_of(value, graph):
+    """The defects of a syndrome."""
+    entries = value.get("defect_vertices") if isinstance(value, dict) else None
+    if not isinstance(entries, list) or not all(is_count(vertex) for vertex in entries):
+        raise Refused("NoDefects")
+    for i, vertex in enumerate(entries):
+        if vertex >= graph.vertices:
+            raise Refused("DefectOutOfRange")
+        if vertex in graph.virtuals:
+            raise Refused("DefectOnVirtual")
+        if vertex in entries[:i]:
+            raise Refused("DefectRepeated")
+    for member in ["erasures", "dynamic_weights"]:
+        if value.get(member) not in [None, []]:
+            raise Refused("ErasureNotTaken")
+    return entries
+
+
+RECORDS = {"01": records_01, "b8": records_b8, "dets": records_dets, "json": records_json}
+
+
+# The report. A row is ["best", edges, weight, cuts], ["odd", vertex] or ["over"]; a cut is a value and its vertices.
+
+Report = namedtuple("Report", "rows odd units fusions")
+
+NUMBER = "(0|[1-9][0-9]*)"
+NUMBERS = "((?: (?:0|[1-9][0-9]*))*)"
+SMALL, LARGE = 2**32, 2**64
+
+
+def form(text, *limits):
+    """What reads a line of a form: its numbers, each below its limit, or None."""
+    pattern = re.compile(text.encode())
+
+    def read(line):
+        found = pattern.fullmatch(line)
+        if not found:
+            return None
+        parts = [[number_of(word) for word in part.split()] for part in found.groups()]
+        if any(number >= limit for part, limit in zip(parts, limits) for number in part):
+            return None
+        return parts
+
+    return read
+
+
+def number_of(digits):
+    return int(digits) if len(digits) <= len(str(LARGE)) else LARGE
+
+
+SHOT = form(f"shot {NUMBER}", SMALL)
+OVER = form(f"shot {NUMBER} over", SMALL)
+ODD = form(f"shot {NUMBER} odd {NUMBER}", SMALL, SMALL)
+EDGES = form(f"edges{NUMBERS}", SMALL)
+WEIGHT = form(f"weight {NUMBER}", LARGE)
+CUT = form(f"cut ([1-9][0-9]*){NUMBERS}", LARGE, SMALL)
+TRACE = form(f"(?:took|gave) {NUMBER} {NUMBER} {NUMBER}", SMALL, SMALL, SMALL)
+DONE = form(f"done {NUMBER} odd {NUMBER} units {NUMBER} fusions {NUMBER}", LARGE, LARGE, LARGE, LARGE)
+
+
+def read_report(text):
+    """The rows of a report and the numbers of its last line."""
+    if len(text) > MOST_REPORT_BYTES:
+        raise Refused("TooLong report")
+    *lines, rest = text.split(b"\n")
+    rows, place = [], "start"
+    for n, line in enumerate(lines, 1):
+        place = next_place(place, line, rows)
+        if place in ["BadLine", "WrongShot"]:
+            raise Refused(f"{place} {n}")
+        if place == "done":
+            if n < len(lines) or rest:
+                raise Refused(f"BadLine {n + 1}")
+            return Report(rows, *(number for [number] in DONE(line)[1:]))
+    raise Refused("Unfinished")
+
+
+def next_place(place, line, rows):
+    """The place after a line, whose row or part of a row is added to the rows; or how the line is wrong."""
+    if place == "start":
+        return "head" if line == b"fusion-report 1" else "BadLine"
+    if place == "shot":
+        if not (edges := EDGES(line)):
+            return "BadLine"
+        rows[-1] += edges
+        return "edges"
+    if place == "edges":
+        if not (weight := WEIGHT(line)):
+            return "BadLine"
+        rows[-1] += weight[0] + [[]]
+        return "cuts"
+    if place == "cuts" and (cut := CUT(line)):
+        rows[-1][3].append((cut[0][0], cut[1]))
+        return "cuts"
+    if place != "head" and TRACE(line):
+        return "row"
+    if done := DONE(line):
+        odd = sum(row[0] == "odd" for row in rows)
+        return "done" if done[:2] == [[len(rows)], [odd]] else "BadLine"
+    return place_after_shot(line, rows)
+
+
+def place_after_shot(line, rows):
+    """The place after a line that begins a row, or how it is wrong."""
+    shot, over, odd = SHOT(line), OVER(line), ODD(line)
+    for numbers, row in [(shot, ["best"]), (over, ["over"]), (odd, ["odd", *(odd[1] if odd else [])])]:
+        if numbers:
+            if numbers[0] != [len(rows)]:
+                return "WrongShot"
+            rows.append(row)
+            return "shot" if shot else "row"
+    return "BadLine"
