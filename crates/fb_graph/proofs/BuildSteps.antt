@@ -1,21 +1,17 @@
 -- The steps of the loops that build a graph.
-use Rattle.std.proofs.Common.{◌≡◌, ◌≢◌, ℕ, zero, suc, ◌+◌, ◌%◌, ◌<◌, ◌≤◌, ◌^◌, ◌||◌, Bool, true, false, not, cond, if◌then◌else◌, List, [], ◌∷◌, ◌++◌, length, map, take, drop, set, get_or, All, filter, Option, Some, None, ℤ, pos, negsuc, int_lt, unsigned_abs, nat_le, nat_lt, nat_eq, eqb, ltb, leb, refl, sym, ap, subst, ◌∙◌, inl, inr, arith, add-one, append_assoc, append-nil, length-set}
-use Rattle.std.specs.Option.{option_or}
-use Rattle.std.specs.Bool.{beq}
-use Rattle.std.specs.List.{range_with_len, list_any}
+use Rattle.std.proofs.Common.{◌≡◌, ◌≢◌, ℕ, zero, suc, ◌+◌, ◌%◌, ◌<◌, ◌≤◌, ◌||◌, Bool, true, false, cond, List, [], ◌∷◌, ◌++◌, length, map, take, drop, set, get_or, filter, Option, Some, None, ℤ, pos, negsuc, int_lt, unsigned_abs, nat_le, eqb, refl, sym, ap, ◌∙◌, inl, inr, arith, add-one, append-nil, length-set}
+use Rattle.std.specs.List.{range_with_len}
 use Rattle.std.proofs.Math.Seq.{drop-cons}
-use Rattle.std.proofs.lemmas.Bool.{or_parts, or_right, leb-false, ltb-false, eqb-false, cases_Bool, cases_eq, eq-eqb, ne_eqb, cond-true, cond-false}
+use Rattle.std.proofs.lemmas.Bool.{or_parts, or_right, leb-false, ltb-false, eqb-false, cases_eq, eq-eqb, ne_eqb, cond-true, cond-false}
 use Rattle.std.proofs.lemmas.List.{take_more, map-append, get_or-set_same, get_or-set_other}
 use Rattle.std.proofs.lemmas.List.Elements.{filter-append}
-use Rattle.std.proofs.lemmas.List.Folds.{list_any-append, list_any_more}
-use Rattle.std.proofs.lemmas.List.FromFn.{filter_of_map_range_with_len_more}
+use Rattle.std.proofs.lemmas.List.Folds.{list_any_more}
 use Rattle.fb_graph.specs.Parity.{is_in, differ}
-use Rattle.fb_graph.specs.Problem.{edge_at, touches, no_edge}
+use Rattle.fb_graph.specs.Problem.{edge_at, touches}
 use Rattle.fb_graph.specs.Layout.{edges_at, with_edge}
 use Rattle.fb_graph.specs.Limits.{IsEdge, most_weight}
 use Rattle.fb_graph.specs.GraphRules.{edge_fault, edges_fault, virtuals_fault, edge_from}
 use Rattle.fb_graph.specs.declared.parts.Edge.{Edge}
-use Rattle.fb_graph.specs.declared.faults.GraphFault.{GraphFault}
 use Rattle.fb_graph.specs.declared.faults.GraphFault.TheVariants.{VirtualOutOfRange, VirtualRepeated}
 
 -- no fault comes first, so the rest is fine

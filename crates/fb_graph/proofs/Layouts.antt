@@ -1,13 +1,12 @@
 -- A graph that is built is laid out as it should be.
-use Rattle.std.proofs.Common.{◌≡◌, ℕ, ◌+◌, ◌<◌, ◌≤◌, Bool, true, false, not, List, [], length, map, get_or, All, filter, Option, Some, None, Ok, nat_lt, ℤ, refl, sym, ap, ◌∙◌, arith}
+use Rattle.std.proofs.Common.{◌≡◌, ℕ, ◌<◌, ◌≤◌, Bool, true, false, not, List, [], length, map, get_or, All, filter, None, Ok, ℤ, refl, sym, ap, ◌∙◌}
 use Rattle.std.specs.Bool.{beq}
 use Rattle.std.specs.List.{range_with_len}
-use Rattle.std.specs.Option.{option_or}
 use Rattle.std.proofs.lemmas.Bool.{le-ltb}
 use Rattle.fb_graph.specs.Parity.{is_in}
-use Rattle.fb_graph.specs.Limits.{DecodingGraph, IsGraph, IsEdge, most_vertices, most_edges}
-use Rattle.fb_graph.specs.GraphRules.{graph_of, graph_from, graph_fault, edges_fault, virtuals_fault, edge_from, or_fault}
-use Rattle.fb_graph.specs.Layout.{IsLaidOut, edges_at, detectors_of}
+use Rattle.fb_graph.specs.Limits.{IsEdge, most_vertices, most_edges}
+use Rattle.fb_graph.specs.GraphRules.{graph_of, edges_fault, virtuals_fault, edge_from}
+use Rattle.fb_graph.specs.Layout.{IsLaidOut, edges_at}
 use Rattle.fb_graph.specs.declared.parts.Edge.{Edge}
 use Rattle.fb_graph.proofs.Ranges.{filter-range_same, filter-range_below, filter-range_rises, is_in-filter-range}
 

@@ -3,12 +3,15 @@ pub mod BuildSteps
 pub mod CancelledPairs
 pub mod ClosedComponents
 pub mod ClosedSets
+pub mod CutSums
 pub mod Duality
 pub mod Examples
 pub mod Floods
 pub mod LabelSteps
 pub mod Layouts
 pub mod Matching
+pub mod Members
+pub mod Nodes
 pub mod OddComponents
 pub mod OddLabels
 pub mod OddOnes

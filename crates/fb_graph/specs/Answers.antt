@@ -1,5 +1,5 @@
 -- What the right row of a shot is.
-use Rattle.std.specs.Prelude.{ℕ, List, Some, None}
+use Rattle.std.specs.Prelude.{Some, None}
 use Rattle.fb_graph.specs.Problem.{Problem}
 use Rattle.fb_graph.specs.Certificate.{IsBest}
 use Rattle.fb_graph.specs.Components.{IsFirstOdd}

@@ -1,10 +1,9 @@
 -- The certificate of a correction: weighted odd cuts (Edmonds and Johnson 1973). Every correction crosses every odd
 -- cut, so cuts that load no edge above its weight add up to at most the weight of every correction.
-use Rattle.std.specs.Prelude.{ℕ, ◌≡◌, ◌≤◌, Bool, true, false, cond, List, [], ◌∷◌, All, sum_by}
+use Rattle.std.specs.Prelude.{ℕ, ◌≡◌, ◌≤◌, true, false, cond, List, [], ◌∷◌, All, sum_by}
 use Rattle.std.specs.Ordering.{nat_cmp}
 use Rattle.std.specs.Cmp.Lexicographic.{slice_cmp}
 use Rattle.std.specs.List.Sorted.{IsStrictlyIncreasing}
-use Rattle.std.specs.declared.cmp.Ordering.{Ordering}
 use Rattle.std.specs.declared.cmp.Ordering.TheVariants.{Less}
 use Rattle.fb_graph.specs.Parity.{is_odd_count, is_in}
 use Rattle.fb_graph.specs.Problem.{Problem, Flips, IsEdgeSet, weight_of, crosses}

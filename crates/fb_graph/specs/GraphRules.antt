@@ -1,6 +1,6 @@
 -- Which numbers make a graph (the solver initializer of Fusion Blossom, with the limits of this program), and the
 -- first rule that is broken. Edges are judged in rising order, each by all its rules; then the virtual vertices.
-use Rattle.std.specs.Prelude.{ℕ, ◌+◌, ◌%◌, ◌&&◌, ◌||◌, Bool, true, false, not, nat_lt, nat_le, nat_eq, if◌then◌else◌, List, [], ◌∷◌, ◌++◌, length, map, ℤ, pos, int_lt, unsigned_abs, filter, Option, Some, None, Result, Ok, Err}
+use Rattle.std.specs.Prelude.{ℕ, ◌+◌, ◌%◌, ◌||◌, nat_lt, nat_le, nat_eq, if◌then◌else◌, List, [], ◌∷◌, ◌++◌, length, map, ℤ, pos, int_lt, unsigned_abs, filter, Option, Some, None, Result, Ok, Err}
 use Rattle.std.specs.List.{range_with_len}
 use Rattle.std.specs.Option.{option_or}
 use Rattle.fb_graph.specs.Parity.{is_in}

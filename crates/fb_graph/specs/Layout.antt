@@ -1,6 +1,6 @@
 -- How a graph lies in memory: beside its edges, the edges at each vertex, a flag for each virtual vertex, and the
 -- detectors' vertices.
-use Rattle.std.specs.Prelude.{ℕ, ◌≡◌, ◌<◌, Bool, true, false, not, List, [], ◌∷◌, ◌++◌, length, get_or, slice_set, filter}
+use Rattle.std.specs.Prelude.{ℕ, ◌≡◌, ◌<◌, Bool, false, not, List, [], ◌∷◌, ◌++◌, length, get_or, slice_set, filter}
 use Rattle.std.specs.List.{range_with_len}
 use Rattle.fb_graph.specs.Parity.{is_in}
 use Rattle.fb_graph.specs.Problem.{edge_at, touches}

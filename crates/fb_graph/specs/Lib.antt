@@ -1,6 +1,7 @@
 pub mod Answers
 pub mod Certificate
 pub mod Components
+pub mod Dual
 pub mod Flooding
 pub mod GraphRules
 pub mod Labelling

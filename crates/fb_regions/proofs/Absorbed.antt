@@ -6,13 +6,13 @@ use Rattle.fb_graph.specs.Certificate.{load_of, total_value}
 use Rattle.fb_graph.specs.Components.{Leads}
 use Rattle.fb_graph.specs.Limits.{IsWithinLimits}
 use Rattle.fb_graph.specs.declared.parts.Edge.{Edge}
-use Rattle.fb_regions.specs.declared.walk.Step.{Step}
+use Rattle.fb_links.specs.declared.walk.Step.{Step}
 use Rattle.fb_regions.specs.declared.marks.Mark.{Mark}
 use Rattle.fb_regions.specs.Walks.{IsStep}
-use Rattle.fb_regions.specs.Dual.{Node, AreUnderOne, layers_of, all_cuts, change_at, cover_of, height_of, taller}
+use Rattle.fb_graph.specs.Dual.{Node, AreUnderOne, layers_of, all_cuts, change_at, cover_of, height_of, taller, node_at}
 use Rattle.fb_regions.specs.Moves.{IsOver, absorbed, inner_end, outer_end}
-use Rattle.fb_regions.specs.Kept.{IsKept, node_at, mark_of}
-use Rattle.fb_regions.proofs.Nodes.{change_at-place}
+use Rattle.fb_regions.specs.Kept.{IsKept, mark_of}
+use Rattle.fb_graph.proofs.Nodes.{change_at-place}
 use Rattle.fb_regions.proofs.Covers.{cover-None, cover-Some, height-unmarked, load-is, mark_from_uncovered}
 use Rattle.fb_regions.proofs.Raised.{kept-raised, raised}
 

@@ -11,12 +11,13 @@ use Rattle.fb_graph.specs.Problem.{Problem, edge_at}
 use Rattle.fb_graph.specs.Components.{Leads}
 use Rattle.fb_graph.specs.Certificate.{total_value}
 use Rattle.fb_graph.specs.declared.parts.Edge.{Edge}
-use Rattle.fb_regions.specs.declared.walk.Step.{Step}
+use Rattle.fb_links.specs.declared.walk.Step.{Step}
 use Rattle.fb_regions.specs.declared.marks.Mark.{Mark}
-use Rattle.fb_regions.specs.Walks.{IsWalk, walk_weight}
-use Rattle.fb_regions.specs.Dual.{Node, layers_of, cover_of, leaves}
+use Rattle.fb_regions.specs.Walks.{IsWalk}
+use Rattle.fb_links.specs.Walks.{walk_weight}
+use Rattle.fb_graph.specs.Dual.{Node, layers_of, cover_of, leaves, no_node, node_at}
 use Rattle.fb_regions.specs.Moves.{IsSourceWalk, has_real_end}
-use Rattle.fb_regions.specs.Kept.{CameBy, IsAfter, IsKept, no_node, node_at, mark_of, is_at}
+use Rattle.fb_regions.specs.Kept.{CameBy, IsAfter, IsKept, mark_of, is_at}
 use Rattle.fb_regions.proofs.Covers.{mark_from_covered}
 
 abbrev no_mark : Mark

@@ -12,11 +12,11 @@ use Rattle.fb_graph.specs.Certificate.{load_of, total_value}
 use Rattle.fb_graph.specs.declared.parts.Cut.{Cut}
 use Rattle.fb_graph.specs.declared.parts.Edge.{Edge}
 use Rattle.fb_regions.specs.declared.marks.Mark.{Mark}
-use Rattle.fb_regions.specs.Dual.{Node, AreGrown, AreOuterApart, AreUnderOne, HasRadius, IsWithin, layers_of, all_cuts, leaves, defects_of, first_vertices, is_empty, is_outer, cover_of, height_of}
-use Rattle.fb_regions.specs.Kept.{IsKept, no_node, node_at, mark_of, is_at}
-use Rattle.fb_regions.proofs.Sets.{is_in-append}
-use Rattle.fb_regions.proofs.Sums.{weigh_none, weigh-either}
-use Rattle.fb_regions.proofs.Nodes.{All-flat_map, layers_within, layers_hold, is_outer-childless, find-agree, find_none, find_first}
+use Rattle.fb_graph.specs.Dual.{Node, AreGrown, AreOuterApart, AreUnderOne, HasRadius, IsWithin, layers_of, all_cuts, leaves, defects_of, first_vertices, is_empty, is_outer, cover_of, height_of, no_node, node_at}
+use Rattle.fb_regions.specs.Kept.{IsKept, mark_of, is_at}
+use Rattle.fb_graph.proofs.Members.{is_in-append}
+use Rattle.fb_graph.proofs.CutSums.{weigh_none, weigh-either}
+use Rattle.fb_graph.proofs.Nodes.{All-flat_map, layers_within, layers_hold, is_outer-childless, find-agree, find_none, find_first}
 
 -- no set holds what no node's top holds
 pub tops_without : (nodes : List Node) (v : ℕ) → All (λ n. AreGrown (layers_of n)) nodes

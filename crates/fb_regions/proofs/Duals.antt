@@ -9,11 +9,11 @@ use Rattle.fb_graph.specs.Certificate.{total_value}
 use Rattle.fb_graph.specs.Limits.{IsWithinLimits}
 use Rattle.fb_graph.specs.declared.parts.Cut.{Cut}
 use Rattle.fb_regions.specs.declared.marks.Mark.{Mark}
-use Rattle.fb_regions.specs.declared.walk.Step.{Step}
-use Rattle.fb_regions.specs.Dual.{Node, AreGrown, HasRadius, HasSourceParity, IsDual, IsNestedOrApart, IsWithin, layers_of, all_cuts, leaves, cover_of, height_of}
-use Rattle.fb_regions.specs.Kept.{CameBy, IsAfter, IsKept, node_at, mark_of}
+use Rattle.fb_links.specs.declared.walk.Step.{Step}
+use Rattle.fb_graph.specs.Dual.{Node, AreGrown, HasRadius, HasSourceParity, IsDual, IsNestedOrApart, IsWithin, layers_of, all_cuts, leaves, cover_of, height_of, node_at}
+use Rattle.fb_regions.specs.Kept.{CameBy, IsAfter, IsKept, mark_of}
 use Rattle.fb_regions.specs.Walks.{IsStep}
-use Rattle.fb_regions.proofs.Nodes.{layers_within}
+use Rattle.fb_graph.proofs.Nodes.{layers_within}
 use Rattle.fb_regions.proofs.Covers.{tops_without, radius-holds, cover-Some, height-unmarked, load-is, mark_from_cover, mark_from_covered, mark_from_uncovered, no_leaf, outer-apart, tops-apart}
 
 AllPairs-nil : {X : Type 0} (R : X → X → Type 0) → AllPairs R []

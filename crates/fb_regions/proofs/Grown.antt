@@ -13,11 +13,10 @@ use Rattle.fb_graph.specs.Limits.{IsWithinLimits}
 use Rattle.fb_graph.specs.declared.parts.Cut.{Cut}
 use Rattle.fb_graph.specs.declared.parts.Edge.{Edge}
 use Rattle.fb_regions.specs.declared.marks.Mark.{Mark}
-use Rattle.fb_regions.specs.Dual.{Node, AreGrown, IsHeld, layers_of, all_cuts, leaves, height_of, change_at, thicker}
-use Rattle.fb_regions.specs.Moves.{AllowsGrowth, IsCrossed, top_at}
-use Rattle.fb_regions.specs.Kept.{IsKept, IsMarked, no_node, node_at, mark_of}
-use Rattle.fb_regions.proofs.Sums.{weigh, weigh-set, weigh-thicker, total-le, sum_by-flat_map}
-use Rattle.fb_regions.proofs.Nodes.{All-below, All-top, All-cuts-at, All-cuts-set, AreGrown-thicker, change_at-place, defects_of-thicker, leaves-set, names-set, top_at-place}
+use Rattle.fb_graph.specs.Dual.{Node, AreGrown, IsHeld, layers_of, all_cuts, leaves, height_of, change_at, thicker, AllowsGrowth, IsCrossed, top_at, no_node, node_at}
+use Rattle.fb_regions.specs.Kept.{IsKept, IsMarked, mark_of}
+use Rattle.fb_graph.proofs.CutSums.{weigh, weigh-set, weigh-thicker, total-le, sum_by-flat_map}
+use Rattle.fb_graph.proofs.Nodes.{All-below, All-top, All-cuts-at, All-cuts-set, AreGrown-thicker, change_at-place, defects_of-thicker, leaves-set, names-set, top_at-place}
 use Rattle.fb_regions.proofs.Covers.{held_at, not_held_elsewhere}
 
 -- a change that leaves the top's set

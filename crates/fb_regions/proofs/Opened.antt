@@ -11,10 +11,10 @@ use Rattle.fb_graph.specs.Problem.{Problem, crosses, with_defects}
 use Rattle.fb_graph.specs.Certificate.{IsOddCut, total_value}
 use Rattle.fb_graph.specs.declared.parts.Cut.{Cut}
 use Rattle.fb_regions.specs.declared.marks.Mark.{Mark}
-use Rattle.fb_regions.specs.Dual.{Node, AreGrown, IsHeld, layers_of, all_cuts, defects_of, leaf, leaves, is_live}
-use Rattle.fb_regions.specs.Kept.{IsKept, IsMarked, no_node, node_at, mark_of, is_at}
-use Rattle.fb_regions.proofs.Sets.{AreDistinct_push, is_in_push, is_in_pushed, is_odd_count-agree, or_false}
-use Rattle.fb_regions.proofs.Sums.{cond_zero, weigh}
+use Rattle.fb_graph.specs.Dual.{Node, AreGrown, IsHeld, layers_of, all_cuts, defects_of, leaf, leaves, is_live, no_node, node_at}
+use Rattle.fb_regions.specs.Kept.{IsKept, IsMarked, mark_of, is_at}
+use Rattle.fb_graph.proofs.Members.{AreDistinct_push, is_in_push, is_in_pushed, is_odd_count-agree, or_false}
+use Rattle.fb_graph.proofs.CutSums.{cond_zero, weigh}
 use Rattle.fb_regions.proofs.Covers.{height-unmarked, not_held, unmarked}
 use Rattle.fb_regions.proofs.Marked.{came_still, mark_new, mark_other, marks_stay}
 

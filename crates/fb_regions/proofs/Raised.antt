@@ -7,14 +7,14 @@ use Rattle.std.proofs.lemmas.List.Elements.{All-push, All-set, All-get_or}
 use Rattle.fb_graph.specs.Parity.{is_in}
 use Rattle.fb_graph.specs.Problem.{Problem, crosses, with_defects}
 use Rattle.fb_graph.specs.Certificate.{IsOddCut, total_value}
-use Rattle.fb_regions.specs.declared.walk.Step.{Step}
+use Rattle.fb_links.specs.declared.walk.Step.{Step}
 use Rattle.fb_regions.specs.declared.marks.Mark.{Mark}
 use Rattle.fb_regions.specs.Walks.{IsStep}
-use Rattle.fb_regions.specs.Dual.{Node, AreGrown, IsHeld, layers_of, all_cuts, leaves, taller}
-use Rattle.fb_regions.specs.Kept.{IsKept, IsMarked, no_node, node_at, mark_of, is_at}
-use Rattle.fb_regions.proofs.Sets.{AreDistinct_push, is_in_push, is_in_pushed, is_odd_count_push, or_false}
-use Rattle.fb_regions.proofs.Sums.{weigh, weigh-set, weigh-taller}
-use Rattle.fb_regions.proofs.Nodes.{All-top, All-cuts-at, All-cuts-set, AreGrown-taller, defects_of-taller, leaves-set, names-set}
+use Rattle.fb_graph.specs.Dual.{Node, AreGrown, IsHeld, layers_of, all_cuts, leaves, taller, no_node, node_at}
+use Rattle.fb_regions.specs.Kept.{IsKept, IsMarked, mark_of, is_at}
+use Rattle.fb_graph.proofs.Members.{AreDistinct_push, is_in_push, is_in_pushed, is_odd_count_push, or_false}
+use Rattle.fb_graph.proofs.CutSums.{weigh, weigh-set, weigh-taller}
+use Rattle.fb_graph.proofs.Nodes.{All-top, All-cuts-at, All-cuts-set, AreGrown-taller, defects_of-taller, leaves-set, names-set}
 use Rattle.fb_regions.proofs.Covers.{height-unmarked, no_leaf, not_held}
 use Rattle.fb_regions.proofs.Marked.{KeepsMarks, came_still, mark_new, mark_other, marks_stay}
 

@@ -2,7 +2,7 @@
 use Rattle.std.proofs.Common.{◌≡◌, ℕ, ◌+◌, ◌-◌, ◌^◌, ◌<◌, ◌≤◌, ◌==◌, List, length, get_or, Option, Some, None, sym, ◌∙◌, ap, arith}
 use Rattle.std.specs.List.{position}
 use Rattle.std.specs.Option.{option_and_then}
-use Rattle.fb_regions.specs.declared.walk.Step.{Step}
+use Rattle.fb_links.specs.declared.walk.Step.{Step}
 use Rattle.std.proofs.lemmas.List.{get_or_read}
 use Rattle.std.proofs.lemmas.List.Quantifiers.{position-Some}
 use Rattle.fb_graph.specs.Certificate.{load_of, total_value}
@@ -10,13 +10,12 @@ use Rattle.fb_graph.specs.declared.parts.Cut.{Cut}
 use Rattle.fb_graph.specs.declared.parts.Edge.{Edge}
 use Rattle.fb_graph.specs.Problem.{Problem}
 use Rattle.fb_regions.specs.declared.marks.Mark.{Mark}
-use Rattle.fb_regions.specs.Dual.{Node, layers_of, all_cuts, cover_of, height_of}
+use Rattle.fb_graph.specs.Dual.{Node, layers_of, all_cuts, cover_of, height_of, no_node, node_at, layers_at}
 use Rattle.fb_graph.specs.Parity.{is_in}
-use Rattle.fb_regions.specs.Kept.{IsKept, no_node, node_at, mark_of}
-use Rattle.fb_regions.specs.Moves.{layers_at}
-use Rattle.fb_regions.proofs.Nodes.{layers_at-place}
+use Rattle.fb_regions.specs.Kept.{IsKept, mark_of}
+use Rattle.fb_graph.proofs.Nodes.{layers_at-place}
 use Rattle.fb_regions.proofs.Covers.{cover-Some}
-use Rattle.fb_regions.proofs.Sums.{weigh-le}
+use Rattle.fb_graph.proofs.CutSums.{weigh-le}
 
 pub read_mark : (marks seen : List (Option Mark)) (v : ℕ) (o : Option Mark) → seen ≡ marks → o ≡ get_or seen v None → mark_of marks v ≡ o
 read_mark marks seen v o e h = ap (λ l. get_or l v None) (sym e) ∙ sym h

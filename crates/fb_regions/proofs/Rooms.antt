@@ -7,8 +7,7 @@ use Rattle.std.proofs.lemmas.List.Sums.{AllPass-from_list_all}
 use Rattle.fb_graph.specs.Problem.{Problem, crosses}
 use Rattle.fb_graph.specs.Certificate.{load_of}
 use Rattle.fb_graph.specs.declared.parts.Edge.{Edge}
-use Rattle.fb_regions.specs.Dual.{Node, all_cuts}
-use Rattle.fb_regions.specs.Moves.{AllowsGrowth}
+use Rattle.fb_graph.specs.Dual.{Node, all_cuts, AllowsGrowth}
 
 abbrev has_room : List Node → List ℕ → ℕ → Edge → Bool
 has_room nodes set k e = not (crosses set e) || leb (load_of (all_cuts nodes) e + k) e.weight

@@ -2,7 +2,7 @@
 use Rattle.std.specs.Prelude.{ℕ, List, refl}
 use Rattle.std.specs.Coded.{Coded, code_by, coded×, coded_list, coded_ℕ}
 use Rattle.fb_graph.specs.declared.parts.Cut.{Cut}
-use Rattle.fb_regions.specs.Dual.{Node, Dual}
+use Rattle.fb_graph.specs.Dual.{Node, Dual}
 
 abbrev pub cut_code : Coded Cut
 cut_code =

@@ -3,17 +3,10 @@ use Rattle.std.specs.Prelude.{ℕ, ◌≡◌, ◌+◌, ◌<◌, ◌≤◌, ◌^�
 use Rattle.fb_graph.specs.Parity.{is_in}
 use Rattle.fb_graph.specs.Problem.{Problem, with_defects}
 use Rattle.fb_graph.specs.Certificate.{AreDistinct, Fits, IsOddCut, total_value}
-use Rattle.fb_regions.specs.declared.walk.Step.{Step}
+use Rattle.fb_links.specs.declared.walk.Step.{Step}
 use Rattle.fb_regions.specs.declared.marks.Mark.{Mark}
-use Rattle.fb_regions.specs.Dual.{Node, AreGrown, IsHeld, layers_of, all_cuts, leaves, height_of}
+use Rattle.fb_graph.specs.Dual.{Node, AreGrown, IsHeld, layers_of, all_cuts, leaves, height_of}
 use Rattle.fb_regions.specs.Walks.{IsStep}
-
--- a node that stands at no place
-abbrev pub no_node : Node
-no_node = record { name = 0; children = []; below = []; top = record { value = 0; vertices = [] } }
-
-abbrev pub node_at : List Node → ℕ → Node
-node_at nodes i = get_or nodes i no_node
 
 abbrev pub mark_of : List (Option Mark) → ℕ → Option Mark
 mark_of marks v = get_or marks v None

@@ -1,5 +1,4 @@
 pub mod Codes
-pub mod Dual
 pub mod Kept
 pub mod Line
 pub mod Moves

@@ -2,7 +2,7 @@
 use Rattle.std.specs.Prelude.{ℕ, List, [], ◌∷◌}
 use Rattle.fb_graph.specs.Limits.{DecodingGraph}
 use Rattle.fb_graph.specs.declared.parts.Cut.{Cut}
-use Rattle.fb_regions.specs.Dual.{Node}
+use Rattle.fb_graph.specs.Dual.{Node}
 
 abbrev pub line : DecodingGraph
 line = record {

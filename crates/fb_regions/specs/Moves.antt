@@ -1,31 +1,12 @@
 -- What the calls on a dual state ask for and give.
-use Rattle.std.specs.Prelude.{ℕ, ◌≡◌, ◌+◌, ◌<◌, ◌≤◌, ◌||◌, Bool, true, List, [], ◌∷◌, length, All, is_some, unwrap_or, if◌then◌else◌, ◌==◌}
+use Rattle.std.specs.Prelude.{ℕ, ◌≡◌, ◌+◌, ◌||◌, Bool, true, List, All, is_some, unwrap_or, if◌then◌else◌}
 use Rattle.fb_graph.specs.Parity.{is_in}
-use Rattle.fb_graph.specs.Problem.{Problem, edge_at, crosses}
-use Rattle.fb_graph.specs.Certificate.{load_of}
+use Rattle.fb_graph.specs.Problem.{Problem, edge_at}
 use Rattle.fb_graph.specs.declared.parts.Edge.{Edge}
-use Rattle.fb_graph.specs.declared.parts.Cut.{Cut}
-use Rattle.fb_regions.specs.declared.walk.Step.{Step}
-use Rattle.fb_regions.specs.Dual.{Node, layers_of, all_cuts, leaves, cover_of, height_of, taller, change_at}
-use Rattle.fb_regions.specs.Walks.{IsWalk, walk_weight}
-
--- the layers of the node of this name, from the first to the top; none where no node has the name
-abbrev pub layers_at : List Node → ℕ → List Cut
-layers_at [] name = []
-layers_at (n ∷ ns) name = if n.name == name then layers_of n else layers_at ns name
-
--- the set of the top layer of the node of this name
-abbrev pub top_at : List Node → ℕ → List ℕ
-top_at [] name = []
-top_at (n ∷ ns) name = if n.name == name then n.top.vertices else top_at ns name
-
--- some edge has exactly one end in the set
-abbrev pub IsCrossed : Problem → List ℕ → Type 0
-IsCrossed p set = (k : ℕ) × (k < length p.edges) × (crosses set (edge_at p.edges k) ≡ true)
-
--- each edge that crosses the set can bear a load of k more
-abbrev pub AllowsGrowth : Problem → List Node → List ℕ → ℕ → Type 0
-AllowsGrowth p nodes set k = All (λ e. crosses set e ≡ true → load_of (all_cuts nodes) e + k ≤ e.weight) p.edges
+use Rattle.fb_links.specs.declared.walk.Step.{Step}
+use Rattle.fb_graph.specs.Dual.{Node, all_cuts, leaves, cover_of, height_of, taller, change_at}
+use Rattle.fb_regions.specs.Walks.{IsWalk}
+use Rattle.fb_links.specs.Walks.{walk_weight}
 
 -- the end of the edge that a node holds: the first one where both are held
 abbrev pub inner_end : List Node → Edge → ℕ

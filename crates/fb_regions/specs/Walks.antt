@@ -1,8 +1,8 @@
 -- Walks in a decoding graph, step by step.
-use Rattle.std.specs.Prelude.{ℕ, ◌≡◌, ◌<◌, List, [], ◌∷◌, length, sum_by}
+use Rattle.std.specs.Prelude.{ℕ, ◌≡◌, ◌<◌, List, [], ◌∷◌, length}
 use Rattle.fb_graph.specs.Problem.{Problem, edge_at}
 use Rattle.fb_graph.specs.Components.{Leads}
-use Rattle.fb_regions.specs.declared.walk.Step.{Step}
+use Rattle.fb_links.specs.declared.walk.Step.{Step}
 
 -- the step goes over an edge of the problem, from one of its ends to the other, and has its weight
 pub record IsStep (p : Problem) (s : Step) : Type 0 where
@@ -14,7 +14,3 @@ pub record IsStep (p : Problem) (s : Step) : Type 0 where
 abbrev pub IsWalk : Problem → List Step → ℕ → ℕ → Type 0
 IsWalk p [] from to = from ≡ to
 IsWalk p (s ∷ ss) from to = (s.from ≡ from) × IsStep p s × IsWalk p ss s.to to
-
--- the sum of the steps' weights
-abbrev pub walk_weight : List Step → ℕ
-walk_weight steps = sum_by (λ s. s.weight) steps

@@ -8,12 +8,8 @@ pub mod regions;
 pub mod roles;
 #[cfg(test)]
 mod tests;
-pub mod walk;
 
 pub use fb_graph::Cut as Layer;
+pub use fb_links::{NodeId, Step, Walk};
 pub use regions::Regions;
 pub use roles::{Role, Roles};
-pub use walk::{Step, Walk};
-
-/// The name of a node, chosen by the caller.
-pub type NodeId = u64;

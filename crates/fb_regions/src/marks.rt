@@ -1,6 +1,6 @@
 ghost use Rattle.std.specs.Prelude.{◌≡◌, get_or, option_and_then};
 
-use crate::walk::Step;
+use crate::Step;
 
 /// How a vertex came to the node that holds it.
 #[derive(Clone, Copy, Debug, PartialEq, Eq)]

@@ -1,6 +1,6 @@
 ghost use Rattle.std.specs.Prelude.{◌≡◌, ◌+◌, ◌^◌, ◌<◌, [], ◌∷◌, ◌++◌, length, List, IfOk, OnOk, OnErr, ℕ, Option, position, ◌==◌};
 ghost use Rattle.fb_graph.specs.Certificate.{total_value};
-ghost use Rattle.fb_regions.specs.Dual.{layers_of, leaf, thicker, taller};
+ghost use Rattle.fb_graph.specs.Dual.{layers_of, leaf, thicker, taller};
 
 use crate::NodeId;
 use fb_graph::{Cut, NoMemory, NumberList};
@@ -20,7 +20,7 @@ pub struct Region {
 impl Model for Region {
     ghost use Rattle.std.specs.Prelude.{◌≡◌, [], ◌∷◌, ◌++◌};
     ghost use Rattle.fb_graph.specs.Certificate.{total_value};
-    ghost use Rattle.fb_regions.specs.Dual.{Node};
+    ghost use Rattle.fb_graph.specs.Dual.{Node};
     ghost use Rattle.fb_regions.specs.Codes.{node_code};
 
     ghost Value = { Node };

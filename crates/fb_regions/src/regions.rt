@@ -2,13 +2,12 @@ ghost use Rattle.std.specs.Prelude.{◌≡◌, ◌+◌, ◌-◌, ◌<◌, true, 
 ghost use Rattle.fb_graph.specs.Parity.{is_in};
 ghost use Rattle.fb_graph.specs.Problem.{edge_at};
 ghost use Rattle.fb_graph.specs.Certificate.{load_of};
-ghost use Rattle.fb_regions.specs.Dual.{AreUnderOne, IsDual, all_cuts, change_at, cover_of, height_of, is_live, is_outer, leaf, leaves, thicker};
-ghost use Rattle.fb_regions.specs.Moves.{AllowsGrowth, IsCrossed, IsOver, IsSourceWalk, absorbed, inner_end, layers_at, outer_end, top_at};
+ghost use Rattle.fb_graph.specs.Dual.{AreUnderOne, IsDual, all_cuts, change_at, cover_of, height_of, is_live, is_outer, leaf, leaves, thicker, AllowsGrowth, IsCrossed, layers_at, top_at};
+ghost use Rattle.fb_regions.specs.Moves.{IsOver, IsSourceWalk, absorbed, inner_end, outer_end};
 
 use crate::marks::{Mark, mark_at, step_to};
 use crate::region::{Region, place_of};
-use crate::walk::{Step, Walk};
-use crate::{Layer, NodeId};
+use crate::{Layer, NodeId, Step, Walk};
 use fb_graph::{NoMemory, Scope};
 use std::alloc::Global;
 use std::marker::Model;
@@ -23,7 +22,7 @@ pub struct Regions<S: Scope> {
 }
 
 impl<S: Scope> Model for Regions<S> {
-    ghost use Rattle.fb_regions.specs.Dual.{Dual};
+    ghost use Rattle.fb_graph.specs.Dual.{Dual};
     ghost use Rattle.fb_regions.specs.Codes.{dual_code};
 
     ghost Value = { Dual S };

@@ -1,7 +1,6 @@
 -- How faulty words are answered.
-use Rattle.std.proofs.Common.{◌≡◌, ℕ, inl, inr, List, [], ◌∷◌, ◌++◌, Option, Some, None, Result, Ok, Err, refl, sym, ap, subst, ◌∙◌}
+use Rattle.std.proofs.Common.{◌≡◌, ℕ, inl, inr, List, [], Option, Result, Ok, Err, refl, sym, subst}
 use Rattle.std.proofs.KnownBytes.{Appends-nil}
-use Rattle.fb_ports.specs.Causes.{Appends}
 use Rattle.fb_run.specs.RunEndings.{AsksAsTold, EndsRight, cause_of_fault, names_of}
 use Rattle.fb_run.specs.Judging.{AsksFront, Named}
 use Rattle.fb_run.specs.Seen.{IsFaultOf}

@@ -1,28 +1,26 @@
 -- How a check of rows ends.
-use Rattle.std.proofs.Common.{◌≡◌, ℕ, ◌==◌, ◌&&◌, ◌⊎◌, inl, inr, Bool, true, false, if◌then◌else◌, List, [], ◌∷◌, ◌++◌, length, Option, Some, None, IfSome, Result, Ok, Err, IsOk, IfOk, OnErr, refl, sym, ap, subst, ◌∙◌, append_assoc, append-nil}
-use Rattle.std.specs.Io.KnownBytes.{Consumes}
+use Rattle.std.proofs.Common.{◌≡◌, ℕ, ◌==◌, ◌&&◌, inl, inr, Bool, true, false, if◌then◌else◌, List, [], length, Option, IfSome, Result, Ok, Err, IsOk, IfOk, OnErr, refl, sym, ap, subst, ◌∙◌, append-nil}
 use Rattle.std.proofs.KnownBytes.{Appends-nil, Appends-trans}
 use Rattle.fb_graph.specs.Limits.{DecodingGraph}
 use Rattle.fb_graph.specs.declared.parts.Row.{Row}
 use Rattle.fb_ports.specs.Causes.{Appends, AppendsFront, Opens}
 use Rattle.fb_ports.proofs.Onward.{front_first, front_second}
-use Rattle.fb_shots.specs.Shots.{Ending, at_end, refused}
+use Rattle.fb_shots.specs.Shots.{at_end}
 use Rattle.fb_shots.specs.declared.answer.Format.{Format}
 use Rattle.fb_shots.specs.Streams.{Stream, fresh}
-use Rattle.fb_verify.specs.declared.verdicts.Verdict.{Verdict}
-use Rattle.fb_run.specs.CheckEndings.{ChecksBefore, ChecksFront, ChecksGiven, ChecksOn, WritesCheck}
-use Rattle.fb_run.specs.Checks.{AreVerdicts, bad_count, check_cause, check_front, check_head, check_last, check_text, verdict_lines}
+use Rattle.fb_run.specs.CheckEndings.{ChecksFront, ChecksOn, WritesCheck}
+use Rattle.fb_run.specs.Checks.{bad_count, check_cause, check_front, check_head, check_last, verdict_lines}
 use Rattle.fb_run.specs.Judges.{EndsCheck, FirstFrom, FirstOf, JudgesAll, JudgesFirst, JudgesInto}
-use Rattle.fb_run.specs.Judging.{Gathers, GathersFrom, HasFirstShots, HasShots, Holds, IsReadInPart, Named, most_shots}
+use Rattle.fb_run.specs.Judging.{Gathers, GathersFrom, HasFirstShots, HasShots, Named, most_shots}
 use Rattle.fb_run.specs.Words.{Checking}
 use Rattle.fb_run.specs.declared.checking.Judged.{Judged}
 use Rattle.fb_run.specs.declared.ending.Cause.{Cause}
-use Rattle.fb_run.specs.declared.ending.Cause.TheVariants.{Bad, Done, ReadFault, Refused, WriteFault}
+use Rattle.fb_run.specs.declared.ending.Cause.TheVariants.{Bad, Done}
 use Rattle.fb_run.specs.declared.ending.Refusal.TheVariants as refusal
 use Rattle.fb_run.specs.declared.shots.ShotsEnd.{ShotsEnd}
 use Rattle.fb_run.specs.declared.shots.ShotsEnd.TheVariants as end
 use Rattle.fb_run.proofs.Finishing.{holds_more}
-use Rattle.fb_run.proofs.Gathered.{IsGathering, gathers_opened, given_first, gathered_first, holds_opened}
+use Rattle.fb_run.proofs.Gathered.{IsGathering, gathers_opened, given_first, holds_opened}
 use Rattle.fb_run.proofs.Lines.{IsJudging}
 
 -- A stream has given so many shots, and those that have a row are judged.

@@ -1,22 +1,20 @@
 -- How the report of a graph's shots ends.
-use Rattle.std.proofs.Common.{◌≡◌, ℕ, ◌==◌, ◌⊎◌, inl, inr, Bool, true, false, if◌then◌else◌, List, [], ◌∷◌, ◌++◌, length, Option, Some, None, refl, sym, ap, subst, ◌∙◌, arith, append_assoc, append-nil}
-use Rattle.std.specs.List.{AllZip}
+use Rattle.std.proofs.Common.{◌≡◌, ℕ, ◌==◌, ◌⊎◌, inl, inr, Bool, true, false, if◌then◌else◌, List, [], ◌∷◌, ◌++◌, length, Option, Some, None, refl, sym, ap, subst, ◌∙◌, append_assoc, append-nil}
 use Rattle.std.proofs.KnownBytes.{Appends-trans, Appends-nil}
 use Rattle.std.proofs.lemmas.Slice.Zip.{AllZip-long}
 use Rattle.fb_graph.specs.Limits.{DecodingGraph}
-use Rattle.fb_graph.specs.declared.parts.Row.{Row}
 use Rattle.fb_ports.specs.Causes.{Appends, AppendsFront}
 use Rattle.fb_ports.proofs.Onward.{front_first, front_second}
 use Rattle.fb_report.specs.Texts.{head_text, rows_text}
 use Rattle.fb_shots.specs.Shots.{Ending, at_end, refused}
-use Rattle.fb_run.specs.Decoding.{cause_of, last_line, report_front, report_text}
-use Rattle.fb_run.specs.Endings.{EndsOn, WritesBefore, WritesFront, WritesGiven, WritesReport}
-use Rattle.fb_run.specs.Judging.{Gathers, HasFirstShots, HasShots, Holds, IsReadInPart, Named, shots_of}
-use Rattle.fb_run.specs.Rows.{AreRows, Counts, IsShotRow, counts_of}
+use Rattle.fb_run.specs.Decoding.{cause_of, last_line, report_front}
+use Rattle.fb_run.specs.Endings.{EndsOn, WritesFront, WritesReport}
+use Rattle.fb_run.specs.Judging.{Gathers, HasFirstShots, HasShots, Holds, IsReadInPart, Named}
+use Rattle.fb_run.specs.Rows.{Counts, IsShotRow, counts_of}
 use Rattle.fb_run.specs.Words.{Decoding}
 use Rattle.fb_run.specs.Writes.{EndsReport, WritesFirstRows, WritesRows, counts_in}
 use Rattle.fb_run.specs.declared.ending.Cause.{Cause}
-use Rattle.fb_run.specs.declared.ending.Cause.TheVariants.{Done, Odd, Over, Refused, ReadFault, WriteFault, NoMemory}
+use Rattle.fb_run.specs.declared.ending.Cause.TheVariants.{Done, Odd, Over}
 use Rattle.fb_run.specs.declared.ending.Refusal.TheVariants as refusal
 use Rattle.fb_run.specs.declared.report.Tally.{Tally}
 use Rattle.fb_run.specs.declared.shots.ShotsEnd.{ShotsEnd}

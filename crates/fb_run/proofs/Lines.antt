@@ -1,13 +1,12 @@
 -- How far rows have been judged.
-use Rattle.std.proofs.Common.{◌≡◌, ℕ, suc, ◌+◌, ◌<◌, ◌≤◌, cond, Bool, true, false, inl, inr, List, [], ◌∷◌, ◌++◌, length, get_or, Option, refl, sym, ap, subst, ◌∙◌, arith, append_assoc, append-nil}
+use Rattle.std.proofs.Common.{◌≡◌, ℕ, suc, ◌+◌, ◌<◌, ◌≤◌, cond, Bool, false, inl, inr, List, [], ◌∷◌, ◌++◌, length, get_or, Option, refl, sym, ap, subst, ◌∙◌, arith, append_assoc, append-nil}
 use Rattle.std.specs.List.{AllZip}
 use Rattle.std.proofs.KnownBytes.{Appends-nil, Appends-trans}
 use Rattle.std.proofs.lemmas.Slice.Zip.{AllZip-long}
 use Rattle.std.proofs.lemmas.List.Sums.{sum_by_push}
 use Rattle.fb_graph.specs.Limits.{DecodingGraph}
 use Rattle.fb_graph.specs.declared.parts.Row.{Row}
-use Rattle.fb_ports.specs.Causes.{Appends, AppendsFront}
-use Rattle.fb_ports.proofs.Onward.{front_second}
+use Rattle.fb_ports.specs.Causes.{Appends}
 use Rattle.fb_verify.specs.Verdicts.{IsVerdict}
 use Rattle.fb_verify.specs.declared.verdicts.Verdict.{Verdict}
 use Rattle.fb_run.specs.Checks.{AreVerdicts, IsPairVerdict, bad_count, is_bad, pairs_of, verdict_line, verdict_lines}

@@ -1,5 +1,5 @@
 -- How a run ends: its status and what it says on standard error.
-use Rattle.std.specs.Prelude.{ℕ, List, [], ◌∷◌, ◌++◌, map, codes, decimal, Option, Some, None}
+use Rattle.std.specs.Prelude.{ℕ, List, [], ◌∷◌, ◌++◌, codes, decimal, Option, Some, None}
 use Rattle.fb_report.specs.Texts.{line}
 use Rattle.fb_run.specs.Faults.{graph_name, graph_number, graph_place, kind_name, report_name, report_number, report_place}
 use Rattle.fb_run.specs.declared.ending.Cause.{Cause}

@@ -1,10 +1,8 @@
 -- What each end of a run says of what was written and read.
-use Rattle.std.specs.Prelude.{ℕ, ◌≡◌, ◌⊎◌, List, [], ◌∷◌, length, Option, ⊤}
+use Rattle.std.specs.Prelude.{ℕ, ◌≡◌, ◌⊎◌, List, [], length, Option, ⊤}
 use Rattle.fb_graph.specs.Limits.{DecodingGraph}
 use Rattle.fb_graph.specs.declared.parts.Row.{Row}
-use Rattle.fb_graph_in.specs.declared.faults.TextFault.{TextFault}
 use Rattle.fb_ports.specs.Causes.{Appends, AppendsFront}
-use Rattle.fb_report.specs.Texts.{head_text}
 use Rattle.fb_shots.specs.Shots.{at_end, refused}
 use Rattle.fb_shots.specs.declared.answer.ShotFault.{ShotFault}
 use Rattle.fb_run.specs.Decoding.{cause_of, report_front, report_text}

@@ -1,5 +1,5 @@
 -- The rows that were judged while their shots were taken.
-use Rattle.std.specs.Prelude.{ℕ, ◌≡◌, ◌<◌, ◌≤◌, ◌⊎◌, List, [], ◌++◌, length, get_or, All, Bool, false, Option, IfSome}
+use Rattle.std.specs.Prelude.{ℕ, ◌≡◌, ◌<◌, ◌≤◌, ◌⊎◌, List, [], ◌++◌, length, get_or, Bool, false, Option, IfSome}
 use Rattle.fb_graph.specs.Limits.{DecodingGraph}
 use Rattle.fb_graph.specs.declared.parts.Row.{Row}
 use Rattle.fb_ports.specs.Causes.{Appends, AppendsFront}
@@ -7,7 +7,7 @@ use Rattle.fb_shots.specs.declared.answer.Format.{Format}
 use Rattle.fb_verify.specs.Verdicts.{IsVerdict}
 use Rattle.fb_verify.specs.declared.verdicts.Verdict.{Verdict}
 use Rattle.fb_run.specs.Checks.{AreVerdicts, bad_count, check_cause, check_last, is_bad, verdict_line, verdict_lines}
-use Rattle.fb_run.specs.Judging.{Gathers, GathersFrom, HasFirstShots, Holds, Named}
+use Rattle.fb_run.specs.Judging.{HasFirstShots, Holds, Named}
 use Rattle.fb_run.specs.declared.checking.Judged.{Judged}
 use Rattle.fb_run.specs.declared.ending.Cause.{Cause}
 use Rattle.fb_run.specs.declared.ending.Cause.TheVariants.{Refused, ReadFault, WriteFault}

@@ -1,5 +1,5 @@
 -- The rows of a decode: one for each shot, in order.
-use Rattle.std.specs.Prelude.{ℕ, ◌≡◌, ◌<◌, ◌≤◌, Bool, true, false, List, length, count_by, Some, None}
+use Rattle.std.specs.Prelude.{ℕ, ◌<◌, ◌≤◌, Bool, true, false, List, length, count_by, None}
 use Rattle.std.specs.List.{AllZip}
 use Rattle.fb_graph.specs.Problem.{Problem}
 use Rattle.fb_graph.specs.Components.{IsFirstOdd}

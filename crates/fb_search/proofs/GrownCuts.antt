@@ -8,8 +8,8 @@ use Rattle.fb_graph.specs.Certificate.{AreDistinct}
 use Rattle.fb_graph.specs.Printed.{DifferAsSets}
 use Rattle.fb_graph.specs.declared.parts.Cut.{Cut}
 use Rattle.fb_graph.proofs.Sets.{equal_sym}
-use Rattle.fb_regions.proofs.Sets.{is_in-append, is_in_push, is_in_pushed}
-use Rattle.fb_regions.specs.Dual.{AreGrown}
+use Rattle.fb_graph.proofs.Members.{is_in-append, is_in_push, is_in_pushed}
+use Rattle.fb_graph.specs.Dual.{AreGrown}
 
 -- a number after distinct ones isn't among them
 distinct_last : (vs : List ℕ) (w : ℕ) → AreDistinct (vs ++ w ∷ []) → is_in vs w ≡ false

@@ -14,9 +14,10 @@ use Rattle.fb_graph.proofs.Duality.{weak_duality}
 use Rattle.fb_graph.proofs.ParitySums.{differ-false}
 use Rattle.fb_graph.proofs.Sets.{equal_sym, All-from_is_in, is_in-All}
 use Rattle.fb_graph.proofs.Walks.{IsWalkBy-append, IsWalkBy-one, walk_parity, walk_within}
-use Rattle.fb_regions.specs.declared.walk.Step.{Step}
-use Rattle.fb_regions.specs.Walks.{IsWalk, walk_weight}
-use Rattle.fb_regions.specs.Dual.{Node, IsDual, HasRadius, first_vertices, AreUnderOne, all_cuts, leaves, cover_of, height_of}
+use Rattle.fb_links.specs.declared.walk.Step.{Step}
+use Rattle.fb_regions.specs.Walks.{IsWalk}
+use Rattle.fb_links.specs.Walks.{walk_weight}
+use Rattle.fb_graph.specs.Dual.{Node, IsDual, HasRadius, first_vertices, AreUnderOne, all_cuts, leaves, cover_of, height_of}
 use Rattle.fb_regions.specs.Moves.{IsWalkFrom}
 use Rattle.fb_search.specs.Lone.{IsLone, IsWayOut, edges_out}
 use Rattle.fb_search.proofs.LoneEdges.{not_under_far}

@@ -12,7 +12,7 @@ use Rattle.fb_graph.specs.Printed.{DifferAsSets}
 use Rattle.fb_graph.specs.declared.parts.Cut.{Cut}
 use Rattle.fb_graph.proofs.OddComponents.{some_is_first_odd}
 use Rattle.fb_graph.proofs.Sets.{All-from_is_in, is_in-All, member_of_odd, length-le_from_within, distinct_from_rising, range_rises, is_in-range}
-use Rattle.fb_regions.specs.Dual.{Node, IsDual, AreGrown, all_cuts, layers_of}
+use Rattle.fb_graph.specs.Dual.{Node, IsDual, AreGrown, all_cuts, layers_of}
 use Rattle.fb_search.specs.Lone.{IsLone}
 use Rattle.fb_search.proofs.GrownCuts.{grown_differ}
 use Rattle.fb_search.proofs.LoneSteps.{cuts_lone, only_member}

@@ -13,9 +13,9 @@ use Rattle.fb_graph.proofs.ParitySums.{false-differ}
 use Rattle.fb_graph.proofs.Sets.{equal_sym, is_in-All, range_below}
 use Rattle.fb_graph.proofs.Ranges.{is_in-filter-range}
 use Rattle.fb_graph.proofs.Walks.{IsWalkBy-one}
-use Rattle.fb_regions.proofs.Sets.{is_in-append, is_in_pushed}
-use Rattle.fb_regions.specs.Dual.{Node, AreUnderOne, cover_of}
-use Rattle.fb_regions.specs.Moves.{AllowsGrowth, IsCrossed, absorbed}
+use Rattle.fb_graph.proofs.Members.{is_in-append, is_in_pushed}
+use Rattle.fb_graph.specs.Dual.{Node, AreUnderOne, cover_of, AllowsGrowth, IsCrossed}
+use Rattle.fb_regions.specs.Moves.{absorbed}
 use Rattle.fb_search.specs.Lone.{IsLone, HasTaken, IsClear, IsClearRound, Bounds, BoundsRound, IsBound, IsNoHigher, far_end, lesser_of}
 use Rattle.fb_search.proofs.LoneSteps.{taken_lone, has_taken_lone}
 

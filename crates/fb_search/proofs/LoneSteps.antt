@@ -15,9 +15,9 @@ use Rattle.fb_graph.specs.declared.parts.Cut.{Cut}
 use Rattle.fb_graph.proofs.ClosedSets.{load-append}
 use Rattle.fb_graph.proofs.ParitySums.{false-differ}
 use Rattle.fb_graph.proofs.Walks.{joined_trans}
-use Rattle.fb_regions.proofs.Sets.{is_in-append}
-use Rattle.fb_regions.specs.Dual.{Node, all_cuts, leaves, first_vertices, cover_of, thicker, taller, change_at}
-use Rattle.fb_regions.specs.Moves.{inner_end, outer_end, absorbed, layers_at}
+use Rattle.fb_graph.proofs.Members.{is_in-append}
+use Rattle.fb_graph.specs.Dual.{Node, all_cuts, leaves, first_vertices, cover_of, thicker, taller, change_at, layers_at}
+use Rattle.fb_regions.specs.Moves.{inner_end, outer_end, absorbed}
 use Rattle.fb_search.specs.Lone.{lone, IsLone, HasTaken, IsClear, IsClearRound}
 
 -- the cover of a vertex where there is one node

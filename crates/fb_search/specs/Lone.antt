@@ -8,9 +8,8 @@ use Rattle.fb_graph.specs.declared.parts.Edge.{Edge}
 use Rattle.fb_graph.specs.declared.parts.Cut.{Cut}
 use Rattle.fb_graph.specs.declared.parts.Row.{Row}
 use Rattle.fb_graph.specs.declared.parts.Row.TheVariants.{Best, Odd, Over}
-use Rattle.fb_regions.specs.declared.walk.Step.{Step}
-use Rattle.fb_regions.specs.Dual.{Node, all_cuts, leaves}
-use Rattle.fb_regions.specs.Moves.{IsCrossed}
+use Rattle.fb_links.specs.declared.walk.Step.{Step}
+use Rattle.fb_graph.specs.Dual.{Node, all_cuts, leaves, IsCrossed}
 
 -- the one node of this name, of no children, with these layers
 abbrev pub lone : ℕ → List Cut → Cut → List Node

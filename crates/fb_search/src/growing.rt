@@ -4,7 +4,7 @@ ghost use Rattle.std.specs.Prelude.{◌≡◌, ℕ, ◌<◌, true, false, length
 ghost use Rattle.fb_graph.specs.Parity.{is_in};
 ghost use Rattle.fb_graph.specs.Certificate.{load_of};
 ghost use Rattle.fb_graph.specs.Problem.{edge_at, crosses, touches};
-ghost use Rattle.fb_regions.specs.Dual.{all_cuts};
+ghost use Rattle.fb_graph.specs.Dual.{all_cuts};
 ghost use Rattle.fb_search.specs.Lone.{HasTaken, IsClear, IsClearRound, IsLone, IsWayOut, far_end};
 
 use crate::leaving::{NODE, far_end, least_residue};

@@ -3,7 +3,7 @@
 ghost use Rattle.std.specs.Prelude.{◌≡◌, ℕ, ◌+◌, ◌<◌, ◌≤◌, true, false, length, All, Some, None, IfSome, IfNone, OnOk, IfOk};
 ghost use Rattle.fb_graph.specs.Parity.{is_in};
 ghost use Rattle.fb_graph.specs.Problem.{edge_at, crosses, touches};
-ghost use Rattle.fb_regions.specs.Moves.{AllowsGrowth, IsCrossed};
+ghost use Rattle.fb_graph.specs.Dual.{AllowsGrowth, IsCrossed};
 ghost use Rattle.fb_search.specs.Lone.{Bounds, BoundsRound, IsBound, IsClear, IsLone, IsNoHigher, far_end, lesser_of};
 
 use fb_graph::Scope;

@@ -19,7 +19,7 @@ use Rattle.fb_verify.proofs.Marked.{real-below}
 use Rattle.fb_verify.specs.Verdicts.{cut_fault, cuts_fault, fault_of_two, fault_where, first_beyond, first_fall, first_fall_after, least_below}
 use Rattle.fb_verify.specs.declared.verdicts.Verdict.{Verdict}
 use Rattle.fb_verify.specs.declared.verdicts.Verdict.TheVariants.{Good, CutEmpty, VertexOutOfRange, CutsNotRising, CutHoldsVirtual, CutEven}
-use Rattle.fb_verify.proofs.Leasts.{below-from_beyond, beyond-from_below, is_in-range-below, least_below_is_least}
+use Rattle.fb_verify.proofs.Leasts.{below-from_beyond}
 
 -- the parts of the first of two faults
 pub or_none : (a b : Option Verdict) → option_or a b ≡ None → (a ≡ None) × (b ≡ None)

@@ -1,6 +1,6 @@
 use Rattle.std.proofs.Common.{[], ◌∷◌, refl, lit<}
 use Rattle.fb_graph.specs.Limits.{problem_of}
-use Rattle.fb_regions.specs.Dual.{leaf}
+use Rattle.fb_graph.specs.Dual.{leaf}
 use Rattle.fb_regions.specs.Line.{line}
 use Rattle.fb_regions.proofs.Rooms.{room_by_cases}
 use Rattle.fb_regions.proofs.tests.sprouted.Goals as goal

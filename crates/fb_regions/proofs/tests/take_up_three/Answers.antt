@@ -2,7 +2,8 @@ use Rattle.std.proofs.Common.{[], refl, lit<}
 use Rattle.fb_graph.specs.Limits.{problem_of}
 use Rattle.fb_graph.specs.Problem.{edge_at}
 use Rattle.fb_regions.specs.Line.{line, sprout}
-use Rattle.fb_regions.specs.Moves.{absorbed, top_at}
+use Rattle.fb_regions.specs.Moves.{absorbed}
+use Rattle.fb_graph.specs.Dual.{top_at}
 use Rattle.fb_regions.proofs.Rooms.{room_by_cases}
 use Rattle.fb_regions.proofs.tests.take_up_three.Goals as goal
 

@@ -1,4 +1,4 @@
-use Rattle.std.proofs.Common.{◌≡◌, ◌∷◌, [], List, ℕ, Option, inl, sym, ap, subst, refl}
+use Rattle.std.proofs.Common.{◌∷◌, [], List, ℕ, Option, inl, sym, ap, subst, refl}
 use Rattle.fb_shots.specs.Streams.{Stream}
 use Rattle.fb_run.specs.Judges.{FirstOf}
 use Rattle.fb_run.specs.Judging.{AsksFront, Gathers}

@@ -1,4 +1,4 @@
-use Rattle.std.proofs.Common.{◌≡◌, ◌<◌, ◌≤◌, ◌+◌, length, sym, ap, subst, ◌∙◌, refl, arith}
+use Rattle.std.proofs.Common.{◌≡◌, ◌+◌, length, sym, ap, subst, ◌∙◌, refl, arith}
 use Rattle.fb_run.proofs.Writing.{IsWriting, writing_begins, writing_row, writing_moved, first_so_far, first_at_fault, all_at_end}
 use Rattle.fb_graph.specs.Limits.{IsShot}
 use Rattle.fb_run.specs.Writes.{counted}

@@ -1,7 +1,7 @@
-use Rattle.std.proofs.Common.{◌≡◌, map, string_bytes}
+use Rattle.std.proofs.Common.{map, string_bytes}
 use Rattle.fb_run.specs.Seen.{seen}
 use Rattle.fb_run.specs.Words.{errand_of}
-use Rattle.fb_run.proofs.Answered.{asks_nothing, asks_read, ends_read, refused_right}
+use Rattle.fb_run.proofs.Answered.{asks_read, ends_read}
 use Rattle.fb_run.proofs.running.answer.Goals as goal
 
 pub returns-in-Ok-clause-ends : goal.returns-in-Ok-clause-ends

@@ -1,4 +1,4 @@
-use Rattle.std.proofs.Common.{◌≡◌, ◌∷◌, [], List, ℕ, All, IfOk, Option, sym, ap, subst, refl}
+use Rattle.std.proofs.Common.{◌∷◌, [], List, ℕ, All, IfOk, Option, sym, ap, subst, refl}
 use Rattle.fb_graph.specs.Limits.{DecodingGraph, IsShot}
 use Rattle.fb_shots.specs.Streams.{Stream}
 use Rattle.fb_run.specs.Judging.{AsksFront}

@@ -1,6 +1,6 @@
 use Rattle.std.proofs.Common.{◌≡◌, ◌-◌, ◌^◌}
 use Rattle.fb_graph.specs.Certificate.{total_value}
-use Rattle.fb_regions.specs.Dual.{all_cuts}
+use Rattle.fb_graph.specs.Dual.{all_cuts}
 use Rattle.fb_search.specs.declared.leaving.TheConstants.{NODE}
 use Rattle.fb_search.specs.Lone.{IsLone}
 use Rattle.fb_search.proofs.growing.reach_boundary.Given as goal

@@ -2,13 +2,12 @@ use Rattle.std.proofs.Common.{get_or, take, All, subst}
 use Rattle.std.proofs.lemmas.List.{take_all}
 use Rattle.std.proofs.lemmas.List.Elements.{All-more}
 use Rattle.fb_graph.proofs.Sets.{is_in_at}
-use Rattle.fb_regions.specs.Dual.{IsDual}
+use Rattle.fb_graph.specs.Dual.{IsDual}
 use Rattle.fb_search.specs.declared.leaving.TheConstants.{NODE}
 use Rattle.fb_search.specs.Lone.{BoundsRound}
 use Rattle.fb_search.proofs.LoneClosed.{members_below}
 use Rattle.fb_search.proofs.LoneEdges.{round_lower, bounds_all, allows_growth, uncrossed_all}
 use Rattle.fb_search.proofs.leaving.least_residue.Goals as goal
-use Rattle.fb_search.proofs.leaving.least_residue.Goals.{After-loop-v}
 
 pub loop-v-preserved : goal.loop-v-preserved
 loop-v-preserved g c = (

@@ -6,7 +6,7 @@ use Rattle.fb_graph.specs.Certificate.{IsOddCut, load_of, total_value}
 use Rattle.fb_graph.specs.Printed.{DifferAsSets}
 use Rattle.fb_graph.proofs.Sets.{is_in-All}
 use Rattle.fb_graph.proofs.Walks.{IsWalkBy-one}
-use Rattle.fb_regions.specs.Dual.{IsDual, all_cuts}
+use Rattle.fb_graph.specs.Dual.{IsDual, all_cuts}
 use Rattle.fb_regions.specs.Moves.{IsSourceWalk}
 use Rattle.fb_search.specs.declared.leaving.TheConstants.{NODE}
 use Rattle.fb_search.specs.Lone.{edges_out}

@@ -1,5 +1,5 @@
 use Rattle.std.proofs.Common.{subst}
-use Rattle.fb_regions.specs.Dual.{IsDual}
+use Rattle.fb_graph.specs.Dual.{IsDual}
 use Rattle.fb_search.specs.declared.leaving.TheConstants.{NODE}
 use Rattle.fb_search.proofs.LoneClosed.{closed_is_odd}
 use Rattle.fb_search.proofs.rows.search_one.Goals as goal

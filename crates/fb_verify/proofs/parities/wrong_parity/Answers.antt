@@ -3,7 +3,6 @@ use Rattle.std.specs.List.{find}
 use Rattle.fb_graph.specs.Parity.{is_in, is_odd_count}
 use Rattle.fb_verify.proofs.Marked.{marks_below, odd-below, least_wrong}
 use Rattle.fb_verify.proofs.parities.wrong_parity.Goals as goal
-use Rattle.fb_verify.proofs.parities.wrong_parity.Goals.{After-as_slice, After-drop-odd-inside}
 
 pub first_real-requires : goal.first_real-requires
 first_real-requires c =

@@ -1,7 +1,6 @@
-use Rattle.std.proofs.Common.{◌≡◌, ◌≤◌, Bool, true, false, length, map, ap, ◌∙◌, sym, arith}
+use Rattle.std.proofs.Common.{◌≡◌, ◌≤◌, true, false, length, ap, ◌∙◌, arith}
 use Rattle.std.proofs.lemmas.List.{length-map}
-use Rattle.fb_graph.specs.GraphRules.{edge_from}
-use Rattle.fb_graph.specs.Limits.{most_edges, most_vertices}
+use Rattle.fb_graph.specs.Limits.{most_edges}
 use Rattle.fb_graph.proofs.Layouts.{flagged, built_is_laid_out, built_is_graph_of}
 use Rattle.fb_graph.proofs.network.Graph.build.Goals as goal
 use Rattle.fb_graph.proofs.network.Graph.build.Goals.{In_ok-adjacent}

@@ -1,6 +1,4 @@
-use Rattle.std.proofs.Common.{◌≡◌, ◌≤◌, length, not, ap, ◌∙◌, arith}
-use Rattle.fb_graph.specs.Parity.{is_in}
-use Rattle.fb_graph.specs.Layout.{detectors_of}
+use Rattle.std.proofs.Common.{◌≤◌, length, arith}
 use Rattle.fb_graph.proofs.Ranges.{length-filter-range}
 use Rattle.fb_graph.proofs.network.Graph.detectors.Goals as goal
 

@@ -1,7 +1,7 @@
 use Rattle.std.proofs.Common.{◌≡◌, refl, Some, None, false, true}
-use Rattle.fb_regions.specs.Dual.{is_live}
+use Rattle.fb_graph.specs.Dual.{is_live}
 use Rattle.fb_regions.proofs.Grown.{growth}
-use Rattle.fb_regions.proofs.Nodes.{no_place}
+use Rattle.fb_graph.proofs.Nodes.{no_place}
 use Rattle.fb_regions.proofs.Readings.{read_node, read_place}
 use Rattle.fb_regions.proofs.regions.Regions.grow.Goals as goal
 

@@ -1,7 +1,6 @@
 use Rattle.std.proofs.Common.{◌≡◌, Some, None, false, true}
-use Rattle.fb_regions.specs.Dual.{is_live, layers_of}
-use Rattle.fb_regions.specs.Moves.{layers_at}
-use Rattle.fb_regions.proofs.Nodes.{no_place}
+use Rattle.fb_graph.specs.Dual.{is_live, layers_of, layers_at}
+use Rattle.fb_graph.proofs.Nodes.{no_place}
 use Rattle.fb_regions.proofs.Readings.{layers_read, read_place}
 use Rattle.fb_regions.proofs.regions.Regions.layers.Goals as goal
 

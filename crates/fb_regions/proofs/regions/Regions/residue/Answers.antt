@@ -1,6 +1,6 @@
 use Rattle.std.proofs.Common.{◌^◌, ◌≤◌, arith}
 use Rattle.fb_graph.specs.Problem.{edge_at}
-use Rattle.fb_regions.specs.Dual.{all_cuts}
+use Rattle.fb_graph.specs.Dual.{all_cuts}
 use Rattle.fb_regions.proofs.Covers.{load-is}
 use Rattle.fb_regions.proofs.Readings.{height-le, residue}
 use Rattle.fb_regions.proofs.regions.Regions.residue.Goals as goal

@@ -19,7 +19,7 @@ pub struct Walk {
 
 impl Model for Walk {
     ghost use Rattle.std.specs.Prelude.{List};
-    ghost use Rattle.fb_regions.specs.declared.walk.Step.{Step};
+    ghost use Rattle.fb_links.specs.declared.walk.Step.{Step};
 
     ghost Value = { List Step };
 

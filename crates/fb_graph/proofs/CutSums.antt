@@ -8,8 +8,7 @@ use Rattle.fb_graph.specs.Certificate.{Fits, load_of, total_value}
 use Rattle.fb_graph.specs.Limits.{IsWithinLimits}
 use Rattle.fb_graph.specs.declared.parts.Cut.{Cut}
 use Rattle.fb_graph.specs.declared.parts.Edge.{Edge}
-use Rattle.fb_regions.specs.Dual.{Node, IsHeld, layers_of, all_cuts, taller, thicker}
-use Rattle.fb_regions.specs.Kept.{no_node, node_at}
+use Rattle.fb_graph.specs.Dual.{Node, IsHeld, layers_of, all_cuts, taller, thicker, no_node, node_at}
 
 -- the sum of the values of the cuts whose sets pass the test
 abbrev pub weigh : (List ℕ → Bool) → List Cut → ℕ

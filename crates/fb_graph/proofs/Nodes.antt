@@ -10,11 +10,9 @@ use Rattle.std.proofs.lemmas.List.Sums.{fails_before_first}
 use Rattle.fb_graph.specs.Parity.{is_in}
 use Rattle.fb_graph.specs.Certificate.{AreDistinct}
 use Rattle.fb_graph.specs.declared.parts.Cut.{Cut}
-use Rattle.fb_regions.specs.Dual.{Node, AreGrown, IsWithin, layers_of, all_cuts, leaves, defects_of, is_empty, first_vertices, is_live, is_outer, change_at, taller, thicker}
-use Rattle.fb_regions.specs.Kept.{no_node, node_at}
-use Rattle.fb_regions.specs.Moves.{layers_at, top_at}
+use Rattle.fb_graph.specs.Dual.{Node, AreGrown, IsWithin, layers_of, all_cuts, leaves, defects_of, is_empty, first_vertices, is_live, is_outer, change_at, taller, thicker, no_node, node_at, layers_at, top_at}
 use Rattle.fb_graph.proofs.Sets.{equal_sym}
-use Rattle.fb_regions.proofs.Sets.{is_in_push}
+use Rattle.fb_graph.proofs.Members.{is_in_push}
 
 -- All of the pieces of a flattened list
 pub All-flat_map : {X Y : Type 0} (P : Y → Type 0) (f : X → List Y) (xs : List X) → All (λ x. All P (f x)) xs → All P (flat_map f xs)

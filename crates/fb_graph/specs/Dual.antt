@@ -1,7 +1,7 @@
 -- The dual state of the blossom algorithm on a decoding graph (Edmonds 1965; Wu and Zhong 2023): nested families of
 -- vertex sets with values. A node is a defect, or an odd number of nodes joined; it has layers, each with a vertex
 -- more than the one below it.
-use Rattle.std.specs.Prelude.{ℕ, ◌≡◌, ◌+◌, ◌%◌, ◌<◌, ◌≤◌, ◌^◌, ◌==◌, ◌&&◌, ◌⊎◌, Bool, true, false, not, cond, List, [], ◌∷◌, ◌++◌, map, length, All, AllPairs, sum_by, flat_map, find, option_map, Option, Some, None, IsSome, if◌then◌else◌}
+use Rattle.std.specs.Prelude.{ℕ, ◌≡◌, ◌+◌, ◌%◌, ◌<◌, ◌≤◌, ◌^◌, ◌==◌, ◌&&◌, ◌⊎◌, Bool, true, false, not, cond, List, [], ◌∷◌, ◌++◌, map, length, get_or, All, AllPairs, sum_by, flat_map, find, option_map, Option, Some, None, IsSome, if◌then◌else◌}
 use Rattle.std.specs.List.{list_any}
 use Rattle.fb_graph.specs.Parity.{is_in}
 use Rattle.fb_graph.specs.Problem.{Problem, edge_at, crosses, with_defects}
@@ -62,6 +62,23 @@ cover_of nodes v = option_map (λ n. n.name) (find (λ n. is_outer nodes n.name 
 abbrev pub height_of : List Cut → ℕ → ℕ
 height_of cuts v = sum_by (λ c. cond (is_in c.vertices v) c.value 0) cuts
 
+-- a node that stands at no place
+abbrev pub no_node : Node
+no_node = record { name = 0; children = []; below = []; top = record { value = 0; vertices = [] } }
+
+abbrev pub node_at : List Node → ℕ → Node
+node_at nodes i = get_or nodes i no_node
+
+-- the layers of the node of this name, from the first to the top; none where no node has the name
+abbrev pub layers_at : List Node → ℕ → List Cut
+layers_at [] name = []
+layers_at (n ∷ ns) name = if n.name == name then layers_of n else layers_at ns name
+
+-- the set of the top layer of the node of this name
+abbrev pub top_at : List Node → ℕ → List ℕ
+top_at [] name = []
+top_at (n ∷ ns) name = if n.name == name then n.top.vertices else top_at ns name
+
 -- the node with its top layer thicker
 abbrev pub thicker : ℕ → Node → Node
 thicker k n = record n { top = record n.top { value = n.top.value + k } }
@@ -101,6 +118,14 @@ AreGrown (c ∷ cs) = IsGrownBy c cs × AreGrown cs
 -- a value above 0 is held by some edge that crosses the set
 abbrev pub IsHeld : Problem → Cut → Type 0
 IsHeld p c = (c.value ≡ 0) ⊎ ((k : ℕ) × (k < length p.edges) × (crosses c.vertices (edge_at p.edges k) ≡ true))
+
+-- some edge has exactly one end in the set
+abbrev pub IsCrossed : Problem → List ℕ → Type 0
+IsCrossed p set = (k : ℕ) × (k < length p.edges) × (crosses set (edge_at p.edges k) ≡ true)
+
+-- each edge that crosses the set can bear a load of k more
+abbrev pub AllowsGrowth : Problem → List Node → List ℕ → ℕ → Type 0
+AllowsGrowth p nodes set k = All (λ e. crosses set e ≡ true → load_of (all_cuts nodes) e + k ≤ e.weight) p.edges
 
 -- one outer node holds both vertices
 abbrev pub AreUnderOne : List Node → ℕ → ℕ → Type 0

@@ -1,0 +1,12 @@
+/// The number of a node: a defect, or a blossom of an odd number of nodes (Edmonds 1965).
+pub type NodeId = u64;
+
+/// The number of a link, which is used again only once that link is gone.
+pub type LinkId = u64;
+
+/// A node of a cycle or of a path, with the link that leads on from it.
+#[derive(Clone, Copy, Debug, PartialEq, Eq)]
+pub struct CycleStep {
+    pub node: NodeId,
+    pub link: LinkId,
+}
