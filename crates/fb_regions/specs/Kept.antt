@@ -5,7 +5,7 @@ use Rattle.fb_graph.specs.Problem.{Problem, with_defects}
 use Rattle.fb_graph.specs.Certificate.{AreDistinct, Fits, IsOddCut, total_value}
 use Rattle.fb_links.specs.declared.walk.Step.{Step}
 use Rattle.fb_regions.specs.declared.marks.Mark.{Mark}
-use Rattle.fb_graph.specs.Dual.{Node, AreGrown, IsHeld, layers_of, all_cuts, leaves, height_of}
+use Rattle.fb_graph.specs.Dual.{Node, AreGrown, IsHeld, layers_of, all_cuts, leaves, height_of, node_at}
 use Rattle.fb_regions.specs.Walks.{IsStep}
 
 abbrev pub mark_of : List (Option Mark) → ℕ → Option Mark

@@ -23,7 +23,7 @@ use crate::words::Checking;
 use fb_graph::{Graph, NoMemory, Row, Shot};
 use fb_ports::{Files, ReadError, Sink};
 use fb_shots::{Format, ShotStream, Step};
-use fb_verify::{Report, ReportFault, check_row, read_report};
+use fb_verify::{Judge, Report, ReportFault, read_report};
 use std::alloc::Global;
 
 /// The most bytes of a report's text.
@@ -284,6 +284,7 @@ fn judge_into<F: Files, O: Sink>(
     ensures write_later { O.faults out.old ≤ O.faults out.new }
     ensures write_calm { result ≢ Err RowsFault.WriteFault → O.faults out.new ≡ O.faults out.old }
 {
+    let mut judge = Judge::new(graph);
     let mut shots: u64 = 0;
     let mut bad: u64 = 0;
     loop {
@@ -292,7 +293,7 @@ fn judge_into<F: Files, O: Sink>(
         };
         match step {
             Step::Shot(shot) => {
-                let Ok(is_bad) = judge_next(alloc, graph, rows, shots, &shot, outbox) else {
+                let Ok(is_bad) = judge_next(alloc, &mut judge, rows, shots, &shot, outbox) else {
                     return Err(RowsFault::NoMemory);
                 };
                 bad += one_if(is_bad);
@@ -335,22 +336,23 @@ fn one_if(counts: bool) -> u64
 /// Adds the line of shot `k` to the outbox, if it has a row. Whether the row is bad.
 fn judge_next(
     alloc: Global,
-    graph: &Graph,
+    judge: &mut Judge<'_>,
     rows: &[Row],
     k: u64,
     shot: &Shot,
     outbox: &mut Outbox,
 ) -> Result<bool, NoMemory>
-    requires shot { IsShot graph.now shot.now }
+    requires shot { IsShot judge.old shot.now }
     requires values { All HasPositiveValues rows.now }
     requires few { k < 2 ^ 32 }
-    ensures { IfOk result (JudgesNext graph.now rows.now k shot.now outbox.old.text outbox.new.text) }
+    ensures line { IfOk result (JudgesNext judge.old rows.now k shot.now outbox.old.text outbox.new.text) }
+    ensures same { judge.new ≡ judge.old }
 {
     if k >= rows.len() as u64 {
         return Ok(false);
     }
     let row = &rows[k as usize];
-    let verdict = check_row(alloc, graph, shot, row)?;
+    let verdict = judge.check_row(alloc, shot, row)?;
     let Ok(()) = put_verdict(outbox, k as u32, verdict) else {
         return Err(NoMemory);
     };

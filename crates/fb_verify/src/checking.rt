@@ -1,6 +1,6 @@
 //! The check of a row.
 
-ghost use Rattle.std.specs.Prelude.{◌≡◌, ◌↔◌, IfOk};
+ghost use Rattle.std.specs.Prelude.{◌≡◌, ◌↔◌, IfOk, IfSome};
 ghost use Rattle.fb_graph.specs.Answers.{IsRight};
 ghost use Rattle.fb_graph.specs.Components.{IsFirstOdd};
 ghost use Rattle.fb_graph.specs.Limits.{IsShot, problem_of};
@@ -13,12 +13,13 @@ use crate::numbers::{beyond, fall};
 use crate::parities::wrong_parity;
 use crate::sums::{sum_of_values, sum_of_weights};
 use crate::verdicts::Verdict;
-use fb_graph::{Cut, Graph, NoMemory, Row, Shot, components, first_odd};
+use fb_graph::{Components, Cut, Graph, NoMemory, Row, Shot, components, first_odd};
 use std::alloc::Global;
+use std::marker::Model;
 
 /// What a check finds of the row of a shot: the first rule that it breaks, or that it is right. A row of a correction
 /// takes time by its own length, the number of defects and that of the edges at its cuts' vertices; an odd row takes
-/// time by the size of the graph.
+/// time by the size of the graph. For many rows of one graph, a `Judge` looks at the graph once.
 pub fn check_row(alloc: Global, graph: &Graph, shot: &Shot, row: &Row) -> Result<Verdict, NoMemory>
     requires shot { IsShot graph.now shot.now }
     requires values { HasPositiveValues row.now }
@@ -26,40 +27,98 @@ pub fn check_row(alloc: Global, graph: &Graph, shot: &Shot, row: &Row) -> Result
     ensures good { IfOk result (λ v. (v ≡ Good) ↔ IsRight (problem_of graph.now shot.now) row.now) }
     ensures least { IfOk result (λ v. v ≡ Good → IsLeastWeight (problem_of graph.now shot.now) row.now) }
 {
-    find_verdict(alloc, graph, shot, row)
+    Judge::new(graph).check_row(alloc, shot, row)
 }
 
-/// The verdict alone.
-fn find_verdict(alloc: Global, graph: &Graph, shot: &Shot, row: &Row) -> Result<Verdict, NoMemory>
-    requires { IsShot graph.now shot.now }
-    ensures { IfOk result (IsVerdict graph.now shot.now row.now) }
-{
-    match row {
-        Row::Best {
-            edges,
-            weight,
-            cuts,
-        } => check_best(
-            alloc,
-            graph,
-            shot,
-            edges.as_slice(),
-            *weight,
-            cuts.as_slice(),
-        ),
-        Row::Odd(vertex) => check_odd(alloc, graph, shot, *vertex),
-        Row::Over => Ok(Verdict::Over),
+/// A check of the rows of one graph, which contracts see as that graph. Its components are found for the first odd
+/// row and kept, so that each further one takes time by the number of defects.
+#[derive(Debug, Drop)]
+pub struct Judge<'a> {
+    graph: &'a Graph,
+    parts: Option<Components<'a>>,
+}
+
+impl<'a> Model for Judge<'a> {
+    ghost use Rattle.std.specs.Prelude.{◌≡◌, IfSome};
+    ghost use Rattle.fb_graph.specs.Limits.{DecodingGraph};
+
+    ghost Value = { DecodingGraph };
+
+    ghost view = { λ j. j.graph.now };
+
+    ghost invariant = { λ j. IfSome j.parts (λ parts. parts ≡ j.graph.now) };
+}
+
+impl<'a> Judge<'a> {
+    /// A check of the rows of the graph. Takes no time.
+    pub fn new(graph: &'a Graph) -> Judge<'a>
+        ensures { result ≡ graph.now }
+    {
+        Judge { graph, parts: None }
+    }
+
+    /// As the function `check_row`, for the judge's graph.
+    pub fn check_row(&mut self, alloc: Global, shot: &Shot, row: &Row) -> Result<Verdict, NoMemory>
+        requires shot { IsShot self.old shot.now }
+        requires values { HasPositiveValues row.now }
+        ensures verdict { IfOk result (IsVerdict self.old shot.now row.now) }
+        ensures good { IfOk result (λ v. (v ≡ Good) ↔ IsRight (problem_of self.old shot.now) row.now) }
+        ensures least { IfOk result (λ v. v ≡ Good → IsLeastWeight (problem_of self.old shot.now) row.now) }
+        ensures same { self.new ≡ self.old }
+    {
+        self.find_verdict(alloc, shot, row)
+    }
+
+    /// The verdict alone.
+    fn find_verdict(&mut self, alloc: Global, shot: &Shot, row: &Row) -> Result<Verdict, NoMemory>
+        requires { IsShot self.old shot.now }
+        ensures verdict { IfOk result (IsVerdict self.old shot.now row.now) }
+        ensures same { self.new ≡ self.old }
+    {
+        match row {
+            Row::Best {
+                edges,
+                weight,
+                cuts,
+            } => check_best(
+                alloc,
+                self.graph,
+                shot,
+                edges.as_slice(),
+                *weight,
+                cuts.as_slice(),
+            ),
+            Row::Odd(vertex) => self.check_odd(alloc, shot, *vertex),
+            Row::Over => Ok(Verdict::Over),
+        }
+    }
+
+    /// What a check finds of an odd row.
+    fn check_odd(&mut self, alloc: Global, shot: &Shot, vertex: u32) -> Result<Verdict, NoMemory>
+        requires { IsShot self.old shot.now }
+        ensures verdict { IfOk result (IsOddVerdict self.old shot.now vertex) }
+        ensures same { self.new ≡ self.old }
+    {
+        let mut parts = kept_or_found(alloc, self.graph, self.parts.take())?;
+        let first = first_odd(&mut parts, shot);
+        self.parts = Some(parts);
+        Ok(compare_odd(self.graph, shot, first, vertex))
     }
 }
 
-/// What a check finds of an odd row.
-fn check_odd(alloc: Global, graph: &Graph, shot: &Shot, vertex: u32) -> Result<Verdict, NoMemory>
-    requires { IsShot graph.now shot.now }
-    ensures { IfOk result (IsOddVerdict graph.now shot.now vertex) }
+/// The components that were kept, else those of the graph anew.
+fn kept_or_found<'a>(
+    alloc: Global,
+    graph: &'a Graph,
+    kept: Option<Components<'a>>,
+) -> Result<Components<'a>, NoMemory>
+    requires { IfSome kept (λ parts. parts ≡ graph.now) }
+    ensures { IfOk result (λ parts. parts ≡ graph.entry.now) }
 {
-    let mut parts = components(alloc, graph)?;
-    let first = first_odd(&mut parts, shot);
-    Ok(compare_odd(graph, shot, first, vertex))
+    match kept {
+        Some(parts) => Ok(parts),
+        None => components(alloc, graph),
+    }
 }
 
 /// The verdict of an odd row, given the first odd component's vertex.

@@ -23,7 +23,7 @@ mod tests;
 pub mod verdicts;
 mod walking;
 
-pub use checking::check_row;
+pub use checking::{Judge, check_row};
 pub use laws::reads_back;
 pub use report_faults::ReportFault;
 pub use report_text::read_report;

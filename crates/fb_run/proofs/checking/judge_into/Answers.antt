@@ -21,7 +21,7 @@ judging_at : (g : _) (c : In-Ok-judge_next g) → IsJudging c.args.graph.now c.a
     c.judge_next.new.outbox.text (c.loop-step.invariant.0.shots ++ c.in-Shot.shot ∷ []) (c.loop-step.bad + cond c.in-Ok-judge_next.is_bad 1 0)
 judging_at g c = judging_next c.args.graph.now c.args.rows.now (g.O.Sink.taken c.args.out.now) (g.O.Sink.taken c.loop-step.out) c.loop-step.outbox.text
     c.judge_next.new.outbox.text c.loop-step.invariant.0.shots c.loop-step.shots c.loop-step.bad c.in-Shot.shot c.in-Ok-judge_next.is_bad
-    c.loop-step.invariant.0.many c.loop-step.invariant.0.judging c.in-Ok-judge_next.ensures
+    c.loop-step.invariant.0.many c.loop-step.invariant.0.judging (rw c.loop-step.invariant.7 at c.in-Ok-judge_next.ensures.line)
 
 pub loop-step-init : goal.loop-step-init
 loop-step-init g c = (
@@ -37,6 +37,7 @@ loop-step-init g c = (
   refl,
   refl,
   refl,
+  c.new-judge.ensures,
 )
 
 pub returns-in_default-clause-first : goal.returns-in_default-clause-first
@@ -82,6 +83,7 @@ loop-step-preserved g c =
       calm ∙ c.loop-step.invariant.4,
       c.in-Ok.ensures.asks ∙ c.loop-step.invariant.5,
       c.in-Ok-flush_if_full.ensures.cause ∙ c.loop-step.invariant.6,
+      c.in-Ok-judge_next.ensures.same ∙ c.loop-step.invariant.7,
     )
 
 pub returns-in-End-clause-all : goal.returns-in-End-clause-all

@@ -12,6 +12,7 @@ invariant-loop-step g l =
     × (g.F.Files.faults l.files ≡ g.F.Files.faults l.initial.files)
     × (g.F.Files.asked l.files ≡ g.F.Files.asked l.initial.files)
     × (g.O.Sink.faults l.out ≡ g.O.Sink.faults l.initial.out)
+    × (l.judge ≡ l.graph)
 
 abbrev pub decreases-loop-step : goal.decreases-loop-step
 decreases-loop-step g l = l.stream.limit - l.stream.given

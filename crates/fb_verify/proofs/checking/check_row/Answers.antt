@@ -1,10 +1,7 @@
-use Rattle.fb_verify.proofs.Certified.{ok_good, ok_least}
 use Rattle.fb_verify.proofs.checking.check_row.Goals as goal
 
 pub returns-clause-good : goal.returns-clause-good
-returns-clause-good c =
-    ok_good c.args.graph.now c.args.shot.now c.args.row.now c.find_verdict.result c.requires.values c.find_verdict.ensures
+returns-clause-good c = rw c.new.ensures at c.check_row.ensures.good
 
 pub returns-clause-least : goal.returns-clause-least
-returns-clause-least c =
-    ok_least c.args.graph.now c.args.shot.now c.args.row.now c.find_verdict.result c.requires.values c.find_verdict.ensures
+returns-clause-least c = rw c.new.ensures at c.check_row.ensures.least
