@@ -3,7 +3,15 @@
 #![tactic(auto)]
 
 pub mod cycle;
+pub mod laws;
+mod link;
+pub mod links;
+mod steps;
+#[cfg(test)]
+mod tests;
 pub mod walk;
 
 pub use cycle::{CycleStep, LinkId, NodeId};
+pub use laws::{adding, joining};
+pub use links::{Links, NoMemory};
 pub use walk::{Step, Walk};

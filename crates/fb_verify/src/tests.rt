@@ -1,7 +1,7 @@
 ghost use Rattle.std.specs.Prelude.{◌≤◌, All, IfOk};
 ghost use Rattle.fb_graph.specs.Limits.{IsShot};
 
-use crate::checking::check_row;
+use crate::checking::{Judge, check_row};
 use crate::verdicts::Verdict;
 use fb_graph::{Cut, CutList, Graph, NumberList, Row, Shot};
 use std::alloc::{AllocError, Global};
@@ -80,11 +80,12 @@ fn judges_odd_rows(rt: HostRuntime) -> Result<(), Fail> {
     let alloc = rt.alloc();
     let graph = Graph::build(alloc, 2, &[(0, 1, 2)], &[])?;
     let shot = Shot::from_defects(&graph, vec![in alloc; 1]?)?;
-    for (row, verdict) in [
-        (Row::Odd(0), Verdict::Good),
-        (Row::Odd(1), Verdict::OddWrong(1)),
-    ] {
-        assert_eq!(rt; check_row(alloc, &graph, &shot, &row)?, verdict);
-    }
+    let mut judge = Judge::new(&graph);
+    assert_eq!(rt; judge.check_row(alloc, &shot, &Row::Odd(0))?, Verdict::Good);
+    assert_eq!(rt;
+        judge.check_row(alloc, &shot, &Row::Odd(1))?,
+        Verdict::OddWrong(1)
+    );
+    assert_eq!(rt; check_row(alloc, &graph, &shot, &Row::Odd(0))?, Verdict::Good);
     Ok(())
 }

@@ -1,0 +1,61 @@
+-- Walks one after another, and walks gone back.
+use Rattle.std.proofs.Common.{ℕ, ◌+◌, ◌<◌, ◌≡◌, List, [], ◌∷◌, ◌++◌, map, reverse, length, sum_by, arith, refl, sym, ap, ◌∙◌, subst}
+use Rattle.std.proofs.lemmas.List.{reverse-append, map-append, length_push}
+use Rattle.std.proofs.lemmas.List.Sums.{sum_by-cons, sum_by-append, sum_by_push}
+use Rattle.fb_links.specs.declared.walk.Step.{Step}
+use Rattle.fb_links.specs.Walks.{walk_weight, start_of, end_from, end_of, Runs, IsChained, turn, turned}
+use Rattle.fb_links.specs.Table.{IsLink}
+use Rattle.fb_links.specs.Laws.{IsTurned}
+
+pub Runs-append : (v w : List Step) (from via to : ℕ) → Runs v from via → Runs w via to → Runs (v ++ w) from to
+Runs-append [] w from via to first second = subst (λ x. Runs w x to) (sym first) second
+Runs-append (s ∷ ss) w from via to (begins, rest) second = (begins, Runs-append ss w s.to via to rest second)
+
+pub turned-cons : (s : Step) (ss : List Step) → turned (s ∷ ss) ≡ turned ss ++ turn s ∷ []
+turned-cons s ss = ap (map turn) (reverse-append (s ∷ []) ss) ∙ map-append turn (reverse ss) (s ∷ [])
+
+pub Runs-turned : (w : List Step) (from to : ℕ) → Runs w from to → Runs (turned w) to from
+Runs-turned [] from to walk = sym walk
+Runs-turned (s ∷ ss) from to (begins, rest) =
+    subst (λ l. Runs l to from) (sym (turned-cons s ss))
+    (Runs-append (turned ss) (turn s ∷ []) to s.to from (Runs-turned ss s.to to rest) (refl, begins))
+
+pub weight-turned : (w : List Step) → walk_weight (turned w) ≡ walk_weight w
+weight-turned [] = refl
+weight-turned (s ∷ ss) =
+    omega (arith, ap walk_weight (turned-cons s ss), sum_by_push (λ x. x.weight) (turned ss) (turn s), sum_by-cons (λ x. x.weight) s ss, weight-turned ss)
+
+pub length-turned : (w : List Step) → length (turned w) ≡ length w
+length-turned [] = refl
+length-turned (s ∷ ss) = omega (arith, ap length (turned-cons s ss), length_push (turned ss) (turn s), length-turned ss)
+
+pub weight-append : (v w : List Step) → walk_weight (v ++ w) ≡ walk_weight v + walk_weight w
+weight-append v w = sum_by-append (λ s. s.weight) v w
+
+pub Runs-end : (w : List Step) (from to : ℕ) → Runs w from to → end_from from w ≡ to
+Runs-end [] from to walk = walk
+Runs-end (s ∷ ss) from to (begins, rest) = Runs-end ss s.to to rest
+
+pub Runs-ends : (w : List Step) (from to : ℕ) → 0 < length w → Runs w from to → (start_of w ≡ from) × (end_of w ≡ to)
+Runs-ends [] from to some walk = absurd (omega arith)
+Runs-ends (s ∷ ss) from to some (begins, rest) = (begins, Runs-end ss s.to to rest)
+
+pub IsChained-from_Runs : (w : List Step) (from to : ℕ) → 0 < length w → Runs w from to → IsChained w
+IsChained-from_Runs w from to some walk =
+    let ends = Runs-ends w from to some walk in
+    subst (λ x. Runs w x (end_of w)) (sym ends.0) (subst (λ y. Runs w from y) (sym ends.1) walk)
+
+pub turned_link : (w : List Step) → IsLink w → IsTurned w
+turned_link w link =
+    let some : 0 < length (turned w) = omega (arith, length-turned w, link.some) in
+    let back = Runs-turned w (start_of w) (end_of w) link.chained in
+    let ends = Runs-ends (turned w) (end_of w) (start_of w) some back in
+    record {
+      link = record {
+        some = some;
+        chained = IsChained-from_Runs (turned w) (end_of w) (start_of w) some back;
+        light = omega (arith, weight-turned w, link.light);
+      };
+      start = ends.0;
+      end = ends.1;
+    }

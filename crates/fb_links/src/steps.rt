@@ -1,0 +1,117 @@
+ghost use Rattle.std.specs.Prelude.{◌≡◌, ◌+◌, ◌<◌, ◌^◌, IfOk};
+ghost use Rattle.fb_links.specs.Walks.{walk_weight, start_of, end_of, meeting, ending_at, starting_at, turned, turn, is_end, joined};
+
+use crate::Step;
+use crate::links::NoMemory;
+use std::alloc::Global;
+
+/// The sum of the steps' weights.
+pub fn weight_of(steps: &[Step]) -> u64
+    requires { walk_weight steps.now < 2 ^ 64 }
+    ensures { result ≡ walk_weight steps.now }
+{
+    let mut weight: u64 = 0;
+    for step in steps {
+        weight += step.weight;
+    }
+    weight
+}
+
+/// Where the walk begins; 0 where it has no step.
+pub fn start_of(steps: &[Step]) -> u32
+    ensures { result ≡ start_of steps.now }
+{
+    match steps {
+        [] => 0,
+        [first, ..] => first.from,
+    }
+}
+
+/// Where the walk ends; 0 where it has no step.
+pub fn end_of(steps: &[Step]) -> u32
+    ensures { result ≡ end_of steps.now }
+{
+    match steps.last() {
+        Some(last) => last.to,
+        None => 0,
+    }
+}
+
+/// The two walks as one, from the other end of the first to the other end of the second.
+pub fn joined(alloc: Global, a: &[Step], b: &[Step]) -> Result<Vec<Step>, NoMemory>
+    ensures { IfOk result (λ v. v.items ≡ joined a.now b.now) }
+{
+    let v = meeting(a, b);
+    let mut steps = ending_at(alloc, a, v)?;
+    let rest = starting_at(alloc, b, v)?;
+    let Ok(()) = steps.extend_from_slice(&rest) else {
+        return Err(NoMemory);
+    };
+    Ok(steps)
+}
+
+/// Where the two walks meet, if they share an end.
+fn meeting(a: &[Step], b: &[Step]) -> u32
+    ensures { result ≡ meeting a.now b.now }
+{
+    let end = end_of(a);
+    if is_end(b, end) { end } else { start_of(a) }
+}
+
+fn is_end(steps: &[Step], v: u32) -> bool
+    ensures { result ≡ is_end steps.now v }
+{
+    v == start_of(steps) || v == end_of(steps)
+}
+
+/// A copy of the walk, turned where it does not end at the vertex.
+fn ending_at(alloc: Global, steps: &[Step], v: u32) -> Result<Vec<Step>, NoMemory>
+    ensures { IfOk result (λ w. w.items ≡ ending_at v steps.now) }
+{
+    if v == end_of(steps) {
+        return copied(alloc, steps);
+    }
+    turned(alloc, steps)
+}
+
+/// A copy of the walk, turned where it does not begin at the vertex.
+fn starting_at(alloc: Global, steps: &[Step], v: u32) -> Result<Vec<Step>, NoMemory>
+    ensures { IfOk result (λ w. w.items ≡ starting_at v steps.now) }
+{
+    if v == start_of(steps) {
+        return copied(alloc, steps);
+    }
+    turned(alloc, steps)
+}
+
+/// A copy of the walk.
+pub fn copied(alloc: Global, steps: &[Step]) -> Result<Vec<Step>, NoMemory>
+    ensures { IfOk result (λ w. w.items ≡ steps.now) }
+{
+    let Ok(copy) = Vec::from_slice(alloc, steps) else {
+        return Err(NoMemory);
+    };
+    Ok(copy)
+}
+
+/// A copy of the walk gone back.
+fn turned(alloc: Global, steps: &[Step]) -> Result<Vec<Step>, NoMemory>
+    ensures { IfOk result (λ w. w.items ≡ turned steps.now) }
+{
+    let Ok(back) = steps.iter().rev().map(|step| turn(step)).collect(alloc) else {
+        return Err(NoMemory);
+    };
+    Ok(back)
+}
+
+/// The edge gone over the other way.
+fn turn(step: &Step) -> Step
+    ensures { result ≡ turn step.now }
+{
+    Step {
+        from: step.to,
+        to: step.from,
+        edge: step.edge,
+        weight: step.weight,
+    }
+}
