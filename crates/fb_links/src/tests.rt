@@ -58,11 +58,7 @@ fn walk_of(alloc: Global, steps: &[Step]) -> Result<Walk, NoMemory>
 }
 
 /// Two links.
-fn both(
-    alloc: Global,
-    first: &[Step],
-    second: &[Step],
-) -> Result<(Links, LinkId, LinkId), NoMemory>
+fn both(alloc: Global, first: &[Step], second: &[Step]) -> Result<(Links, LinkId, LinkId), NoMemory>
     requires first { IsLink first.now }
     requires second { IsLink second.now }
     ensures first { IfOk result (λ r. link_at r.0 r.1 ≡ Some first.now) }

@@ -86,6 +86,9 @@ fn judges_odd_rows(rt: HostRuntime) -> Result<(), Fail> {
         judge.check_row(alloc, &shot, &Row::Odd(1))?,
         Verdict::OddWrong(1)
     );
-    assert_eq!(rt; check_row(alloc, &graph, &shot, &Row::Odd(0))?, Verdict::Good);
+    assert_eq!(rt;
+        check_row(alloc, &graph, &shot, &Row::Odd(0))?,
+        Verdict::Good
+    );
     Ok(())
 }
