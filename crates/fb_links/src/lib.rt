@@ -1,4 +1,4 @@
-//! Walks between defects, and the cycles that links close.
+//! Walks between vertices, the links made of them, and the cycles that links close.
 
 #![tactic(auto)]
 

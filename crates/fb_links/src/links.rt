@@ -58,6 +58,7 @@ impl Links {
         ensures ok { IfOk result (λ id. Adds self.old self.new id walk) }
         ensures err { OnErr result (self.new ≡ self.old) }
     {
+        // The vectors grow by the allocator that they were made with.
         self.put(Link::of(walk))
     }
 
