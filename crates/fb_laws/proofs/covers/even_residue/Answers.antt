@@ -1,0 +1,5 @@
+use Rattle.fb_laws.proofs.Crossings.{even_residue}
+use Rattle.fb_laws.proofs.covers.even_residue.Goals as goal
+
+pub returns : goal.returns
+returns c = even_residue

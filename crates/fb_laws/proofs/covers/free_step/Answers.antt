@@ -1,0 +1,5 @@
+use Rattle.fb_laws.proofs.Crossings.{free_step}
+use Rattle.fb_laws.proofs.covers.free_step.Goals as goal
+
+pub returns : goal.returns
+returns c = free_step

@@ -1,0 +1,5 @@
+use Rattle.fb_laws.proofs.TightLinks.{source_stepped}
+use Rattle.fb_laws.proofs.links.source_walk_kept.Goals as goal
+
+pub returns : goal.returns
+returns c = source_stepped

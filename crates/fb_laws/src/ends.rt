@@ -1,0 +1,16 @@
+//! The ends of links in sets of vertices.
+
+ghost use Rattle.fb_laws.specs.Ends.{EndsAppend, EndsPermuted, EndsUnion, EndsByCrossings, CrossedOnce};
+
+/// The ends of links in a set add up over lists of links, and over sets that lie apart.
+pub fn ends_add()
+    ensures append { EndsAppend }
+    ensures permuted { EndsPermuted }
+    ensures union { EndsUnion }
+{}
+
+/// A set that holds one end of all links is crossed by just one of them.
+pub fn crossed_once()
+    ensures ends { EndsByCrossings }
+    ensures once { CrossedOnce }
+{}

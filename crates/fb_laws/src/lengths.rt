@@ -1,0 +1,12 @@
+//! How far an alternating tree may step.
+
+ghost use Rattle.fb_laws.specs.Lengths.{NoLength, GreatestStep, GreatestBounds, AfterGreatest};
+
+/// Where no obstacle stands there is a greatest step, since a minus node bounds it or an edge leaves the plus nodes'
+/// odd sets. After it no step is allowed.
+pub fn greatest_step()
+    ensures none { NoLength }
+    ensures greatest { GreatestStep }
+    ensures bounds { GreatestBounds }
+    ensures after { AfterGreatest }
+{}

@@ -1,0 +1,37 @@
+//! Links made, turned and joined, and what keeps them tight.
+
+ghost use Rattle.fb_laws.specs.Links.{PartedFromLow, MeetingTight, BoundaryTight, TurnedTight, JoinedTight, EmptyLayerLoads, EmptyLayerHeights, SourceStepped, LinkParity, BoundaryParity, MeetingParity, SourceParity};
+
+/// Where two nodes, or a node and the boundary, meet over an edge without residue, the source walks and the edge are a
+/// tight link.
+pub fn meeting_is_tight()
+    ensures parted { PartedFromLow }
+    ensures met { MeetingTight }
+    ensures boundary { BoundaryTight }
+{}
+
+/// Links stay tight turned round, and joined at a defect without potential.
+pub fn joined_is_tight()
+    ensures turned { TurnedTight }
+    ensures joined { JoinedTight }
+{}
+
+/// A layer without value changes no load and no potential.
+pub fn empty_layer()
+    ensures loads { EmptyLayerLoads }
+    ensures heights { EmptyLayerHeights }
+{}
+
+/// A source walk keeps its balance by a step of the tree.
+pub fn source_walk_kept()
+    ensures { SourceStepped }
+{}
+
+/// Even weights give the potentials at both ends of a tight link, of an edge without residue and of a source walk one
+/// parity.
+pub fn potential_parity()
+    ensures link { LinkParity }
+    ensures boundary { BoundaryParity }
+    ensures meeting { MeetingParity }
+    ensures source { SourceParity }
+{}
