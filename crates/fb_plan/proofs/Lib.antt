@@ -1,0 +1,13 @@
+pub mod Fusions
+pub mod Gathering
+pub mod Growth
+pub mod Leasts
+pub mod Ownership
+pub mod Queries
+pub mod Roots
+pub mod Spans
+pub mod Stages
+pub mod SubProblems
+pub mod Tables
+pub mod Tallies
+pub mod Trees

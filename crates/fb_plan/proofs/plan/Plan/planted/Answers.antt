@@ -1,0 +1,8 @@
+use Rattle.fb_plan.proofs.Tables.{laid_out}
+use Rattle.fb_plan.proofs.plan.Plan.planted.Goals as goal
+
+pub invariant_of-result : goal.invariant_of-result
+invariant_of-result c =
+    laid_out c.args.units c.args.joins.items c.as_slice-fusions.result.now c.args.owners.items c.in-Ok.parents.items c.in-Ok-spans_of.spans.items
+    c.as_slice-fusions.ensures.value c.requires.tree c.requires.owners c.requires.count
+    c.in-Ok.ensures.count c.in-Ok.ensures.each c.in-Ok-spans_of.ensures.count c.in-Ok-spans_of.ensures.placed

@@ -1,0 +1,10 @@
+use Rattle.std.proofs.Common.{◌∙◌, length-set, arith}
+use Rattle.fb_plan.specs.Layout.{tree_of}
+use Rattle.fb_plan.proofs.Tables.{parents_more}
+use Rattle.fb_plan.proofs.tree.parents_of.Goals as goal
+
+pub loop-i-preserved : goal.loop-i-preserved
+loop-i-preserved c = (
+  length-set _ _ _ ∙ length-set _ _ _ ∙ c.loop-i.invariant.0,
+  parents_more (tree_of c.args.units c.args.joins.now) c.requires c.loop-i.parents.items c.loop-i.i (omega arith) c.loop-i.invariant.0 c.loop-i.invariant.1,
+)

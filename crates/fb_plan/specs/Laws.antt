@@ -1,0 +1,65 @@
+-- What every job keeps, and what follows from the definitions alone.
+use Rattle.std.specs.Prelude.{ℕ, ◌≡◌, ◌+◌, ◌<◌, ◌^◌, ◌⊎◌, true, List, length, All, Some, None}
+use Rattle.fb_graph.specs.Components.{IsFirstOdd}
+use Rattle.fb_graph.specs.Limits.{DecodingGraph, IsShot, problem_of}
+use Rattle.fb_graph.specs.Laws.{HasNoOddClosed, IsPart, AreSeparated}
+use Rattle.fb_plan.specs.Plans.{PlanTree, JobValue, IsPlan, IsTree, children_of, is_within, node_count, parent_of, problem_at, root_of}
+
+-- what every job keeps: fewer than 2^32 shots, each with a correction
+pub record IsJob (job : JobValue) : Type 0 where
+  pub plan : IsPlan job.graph job.plan
+  pub count : length job.shots < 2 ^ 32
+  pub shots : All (IsShot job.graph) job.shots
+  pub even : All (λ defects. IsFirstOdd (problem_of job.graph defects) None) job.shots
+
+-- A node's sub-problem is a part of the whole.
+abbrev pub NodeIsPart : Type 0
+NodeIsPart = (g : DecodingGraph) (t : PlanTree) (n : ℕ) (defects : List ℕ)
+    → IsPart (problem_at g t n defects) (problem_of g defects)
+
+-- Where a shot's problem has no odd component, no sub-problem of a plan has a closed set with an odd number of defects.
+abbrev pub NodeHasNoOddClosed : Type 0
+NodeHasNoOddClosed = (g : DecodingGraph) (t : PlanTree) (n : ℕ) (defects : List ℕ)
+    → IsFirstOdd (problem_of g defects) None → HasNoOddClosed (problem_at g t n defects)
+
+-- A child's sub-problem is a part of its parent's.
+abbrev pub ChildIsPart : Type 0
+ChildIsPart = (g : DecodingGraph) (t : PlanTree) (n left right : ℕ) (defects : List ℕ) → IsPlan g t
+    → children_of t n ≡ Some (left, right)
+    → IsPart (problem_at g t left defects) (problem_at g t n defects)
+    × IsPart (problem_at g t right defects) (problem_at g t n defects)
+
+-- The sub-problems of two children share no real vertex, and no edge links them.
+abbrev pub ChildrenAreSeparated : Type 0
+ChildrenAreSeparated = (g : DecodingGraph) (t : PlanTree) (n left right : ℕ) (defects : List ℕ) → IsPlan g t
+    → children_of t n ≡ Some (left, right)
+    → AreSeparated (problem_at g t left defects) (problem_at g t right defects)
+
+-- At the root all is real that is real in the graph.
+abbrev pub RootIsWhole : Type 0
+RootIsWhole = (g : DecodingGraph) (t : PlanTree) (v : ℕ) (defects : List ℕ) → IsPlan g t
+    → (problem_at g t (root_of t) defects).is_real v ≡ (problem_of g defects).is_real v
+
+-- The nodes are one fewer than twice the units.
+abbrev pub CountOfNodes : Type 0
+CountOfNodes = (t : PlanTree) → IsTree t → node_count t + 1 ≡ t.units + t.units
+
+-- Each node but the root has a parent, which comes after it; the root has none.
+abbrev pub OneParent : Type 0
+OneParent = (t : PlanTree) → IsTree t
+    → (parent_of t (root_of t) ≡ None)
+    × ((n : ℕ) → n < root_of t → (m : ℕ) × (parent_of t n ≡ Some m) × (n < m) × (m < node_count t))
+
+-- Every node is the root or below it.
+abbrev pub AllBelowRoot : Type 0
+AllBelowRoot = (t : PlanTree) → IsTree t → (n : ℕ) → n < node_count t → is_within t (root_of t) n ≡ true
+
+-- What lies within a node that lies within another lies within that too.
+abbrev pub Nesting : Type 0
+Nesting = (t : PlanTree) → IsTree t → (a b n : ℕ) → is_within t a b ≡ true → is_within t b n ≡ true
+    → is_within t a n ≡ true
+
+-- Of two nodes that a third one lies within, one lies within the other.
+abbrev pub Ancestors : Type 0
+Ancestors = (t : PlanTree) → IsTree t → (a b n : ℕ) → is_within t a n ≡ true → is_within t b n ≡ true
+    → (is_within t a b ≡ true) ⊎ (is_within t b a ≡ true)

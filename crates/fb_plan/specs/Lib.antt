@@ -1,0 +1,5 @@
+pub mod Laws
+pub mod Layout
+pub mod Loads
+pub mod Plans
+pub mod Rules

@@ -1,0 +1,30 @@
+//! What follows from the definitions alone. Each function does nothing: its clauses are the law.
+
+ghost use Rattle.fb_plan.specs.Laws.{AllBelowRoot, Ancestors, ChildIsPart, ChildrenAreSeparated, CountOfNodes, Nesting, NodeHasNoOddClosed, NodeIsPart, OneParent, RootIsWhole};
+
+/// A node's sub-problem is a part of its parent's (Wu and Zhong 2023) and of the whole, and the root's is the whole.
+/// So where a shot has no odd component, no sub-problem has a closed set with an odd number of defects.
+pub fn sub_problems()
+    ensures part { NodeIsPart }
+    ensures child { ChildIsPart }
+    ensures root { RootIsWhole }
+    ensures even { NodeHasNoOddClosed }
+{}
+
+/// The sub-problems of a fusion's two children share no real vertex, and no edge links them.
+pub fn children_apart()
+    ensures { ChildrenAreSeparated }
+{}
+
+/// A tree's nodes are one fewer than twice its units; each but the root has one parent, and all are below the root.
+pub fn one_root()
+    ensures count { CountOfNodes }
+    ensures parent { OneParent }
+    ensures below { AllBelowRoot }
+{}
+
+/// Subtrees are nested or share no node.
+pub fn subtrees()
+    ensures nested { Nesting }
+    ensures related { Ancestors }
+{}

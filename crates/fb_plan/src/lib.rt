@@ -1,0 +1,24 @@
+//! Plans of fusion over a decoding graph (Wu and Zhong 2023), the sub-problems of their nodes, and jobs.
+
+#![tactic(auto)]
+
+mod claims;
+pub mod faults;
+pub mod job;
+mod judging;
+pub mod laws;
+mod loads;
+mod owners;
+pub mod parts;
+pub mod plan;
+pub mod scope;
+#[cfg(test)]
+mod tests;
+mod tree;
+
+pub use faults::{Member, Place, PlanFault};
+pub use job::Job;
+pub use laws::{children_apart, one_root, sub_problems, subtrees};
+pub use parts::Join;
+pub use plan::Plan;
+pub use scope::NodeScope;

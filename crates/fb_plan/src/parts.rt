@@ -1,0 +1,24 @@
+/// A fusion of two nodes that come before it. It owns the vertices of its seam, each range from its first number up
+/// to and without its second.
+#[derive(Debug, Drop)]
+pub struct Join {
+    pub left: u64,
+    pub right: u64,
+    pub seam: Vec<(u64, u64)>,
+}
+
+/// Where a node's subtree lies when the nodes are listed each before its children's subtrees: the places from
+/// `start`, which is the node's own, up to and without `end`.
+#[derive(Clone, Copy, Debug)]
+pub struct Span {
+    pub start: u32,
+    pub end: u32,
+}
+
+/// A range of a node: the vertices from `start` up to and without `end`.
+#[derive(Clone, Copy, Debug)]
+pub struct Claim {
+    pub node: u64,
+    pub start: u32,
+    pub end: u32,
+}

@@ -1,0 +1,48 @@
+ghost use Rattle.std.specs.Prelude.{◌≡◌, ℕ, ◌<◌, [], length, filter};
+ghost use Rattle.std.specs.List.{range_with_len};
+ghost use Rattle.fb_graph.specs.Problem.{edge_at, touches};
+ghost use Rattle.fb_plan.specs.Plans.{problem_at};
+
+use crate::plan::Plan;
+use fb_graph::{Graph, Scope};
+
+/// The sub-problem of a node of a plan (Wu and Zhong 2023): the vertices owned in its subtree are real, all others
+/// are boundary.
+#[derive(Clone, Copy)]
+pub struct NodeScope<'a> {
+    pub graph: &'a Graph,
+    pub plan: &'a Plan,
+    pub node: u32,
+}
+
+impl Scope for NodeScope<'_> {
+    ghost problem = { λ s. problem_at s.graph.now s.plan.now s.node [] };
+
+    fn vertices(&self) -> u32 {
+        self.graph.vertices()
+    }
+
+    fn edge_count(&self) -> u32 {
+        self.graph.edge_count()
+    }
+
+    fn ends(&self, e: u32) -> (u32, u32) {
+        self.graph.ends(e)
+    }
+
+    fn weight(&self, e: u32) -> u64 {
+        self.graph.weight(e)
+    }
+
+    fn edges_at(&self, v: u32) -> &[u32] {
+        self.graph.edges_at(v)
+    }
+
+    fn is_real(&self, v: u32) -> bool {
+        !self.graph.is_virtual(v) && self.plan.is_owned_in(self.node, v)
+    }
+
+    fn limits(&self) {
+        self.graph.limits();
+    }
+}
