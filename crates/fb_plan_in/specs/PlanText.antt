@@ -1,0 +1,143 @@
+-- The plan of a text: one JSON value (RFC 8259), an object with `units` and `fusions`, or the first rule that the text
+-- breaks. Other members are ignored.
+use Rattle.std.specs.Prelude.{ℕ, ◌+◌, ◌^◌, nat_lt, if◌then◌else◌, List, [], ◌∷◌, ◌++◌, length, map, codes, Option, Some, None, option_map, option_and_then, Result, Ok, Err}
+use Rattle.std.specs.List.{range_with_len}
+use Rattle.std.specs.Str.{is_utf8}
+use Rattle.serde_json.specs.Data.{Data, Items, no_items, item}
+use Rattle.serde_json.specs.Find.{get, as_array, as_number, as_u64}
+use Rattle.serde_json.specs.Read.{read}
+use Rattle.fb_graph.specs.Limits.{DecodingGraph}
+use Rattle.fb_plan.specs.Plans.{PlanTree}
+use Rattle.fb_plan.specs.Rules.{claims_from, owner_in, units_fault, range_fault, unowned_fault, twice_fault, child_fault, use_fault, root_fault, edge_fault, first_of_faults, or_fault}
+use Rattle.fb_plan.specs.declared.parts.Join.{Join}
+use Rattle.fb_plan.specs.declared.faults.Member.TheVariants as member
+use Rattle.fb_plan.specs.declared.faults.Place.{Place}
+use Rattle.fb_plan.specs.declared.faults.Place.TheVariants as place
+use Rattle.fb_plan.specs.declared.faults.PlanFault.{PlanFault}
+use Rattle.fb_plan.specs.declared.faults.PlanFault.TheVariants.{TooLong, NotJson, Missing, NotWhole}
+
+-- the most bytes of a text
+abbrev pub most_bytes : ℕ
+most_bytes = 2 ^ 28
+
+-- the next step on a value that is there, else this fault
+abbrev pub with_option : {A B : Type 0} → Option A → PlanFault → (A → Result B PlanFault) → Result B PlanFault
+with_option None fault next = Err fault
+with_option (Some a) fault next = next a
+
+-- the next step on a value, or the fault that stands in its place
+abbrev pub with_result : {A B : Type 0} → Result A PlanFault → (A → Result B PlanFault) → Result B PlanFault
+with_result (Err fault) next = Err fault
+with_result (Ok a) next = next a
+
+-- the value that bytes are: None where they are no UTF-8 or no JSON
+abbrev pub value_of : List ℕ → Option Data
+value_of bytes = if is_utf8 bytes then read bytes else None
+
+-- a whole number of at least 0
+abbrev pub natural_of : Data → Option ℕ
+natural_of d = option_and_then as_u64 (as_number d)
+
+-- exactly two whole numbers of at least 0
+abbrev pub two_of : Items → Option (ℕ × ℕ)
+two_of (item a (item b no_items)) =
+    option_and_then (λ first. option_map (λ second. (first, second)) (natural_of b)) (natural_of a)
+two_of _ = None
+
+-- a pair: a list of two whole numbers of at least 0
+abbrev pub pair_of : Data → Option (ℕ × ℕ)
+pair_of d = option_and_then two_of (as_array d)
+
+-- pairs before those that a result has
+abbrev pub after : {A : Type 0} → List A → Option (List A) → Option (List A)
+after before None = None
+after before (Some more) = Some (before ++ more)
+
+-- the pairs of a list; None where an entry is no pair
+abbrev pub pairs_of : Items → Option (List (ℕ × ℕ))
+pairs_of no_items = Some []
+pairs_of (item d ds) = option_and_then (λ pair. after (pair ∷ []) (pairs_of ds)) (pair_of d)
+
+-- the ranges of a node: a list of pairs
+abbrev pub ranges_of : Data → Option (List (ℕ × ℕ))
+ranges_of d = option_and_then pairs_of (as_array d)
+
+-- a fusion of two nodes, with the ranges of its seam
+pub record Fusion : Type 0 where
+  pub left : ℕ
+  pub right : ℕ
+  pub seam : List (ℕ × ℕ)
+
+-- a fusion: an object with its two nodes as `of` and the ranges of its seam as `interface`
+abbrev pub fusion_of : Data → Option Fusion
+fusion_of d =
+    option_and_then (λ nodes. option_and_then (λ interface.
+    option_and_then (λ pair.
+    option_map (λ seam. record { left = pair.0; right = pair.1; seam = seam }) (ranges_of interface))
+    (pair_of nodes)) (get (codes "interface") d)) (get (codes "of") d)
+
+-- entries before those that a result has
+abbrev pub onto : {A : Type 0} → List A → Result (List A) PlanFault → Result (List A) PlanFault
+onto before (Ok more) = Ok (before ++ more)
+onto before (Err fault) = Err fault
+
+-- the entries of a list, the first of which has number i, or the place of the first one that isn't of its form
+abbrev pub entries_of : {A : Type 0} → (Data → Option A) → (ℕ → Place) → ℕ → Items → Result (List A) PlanFault
+entries_of entry_of at i no_items = Ok []
+entries_of entry_of at i (item d ds) =
+    with_option (entry_of d) (NotWhole (at i)) (λ entry. onto (entry ∷ []) (entries_of entry_of at (i + 1) ds))
+
+-- what the value says: the ranges of each unit, and the fusions
+unfoldable pub parts_of : Data → Result (List (List (ℕ × ℕ)) × List Fusion) PlanFault
+parts_of d =
+    with_option (get (codes "units") d) (Missing member.Units) (λ units.
+    with_option (get (codes "fusions") d) (Missing member.Fusions) (λ fusions.
+    with_option (as_array units) (NotWhole place.Units) (λ units.
+    with_option (as_array fusions) (NotWhole place.Fusions) (λ fusions.
+    with_result (entries_of ranges_of place.Unit 0 units) (λ ranges.
+    with_result (entries_of fusion_of place.Fusion 0 fusions) (λ joins.
+    Ok (ranges, joins)))))))
+
+-- what a text says
+abbrev pub parts_of_text : List ℕ → Result (List (List (ℕ × ℕ)) × List Fusion) PlanFault
+parts_of_text bytes =
+    if nat_lt most_bytes (length bytes) then Err TooLong
+    else with_option (value_of bytes) NotJson parts_of
+
+-- the fusion that a join is
+abbrev pub fusion_from : Join → Fusion
+fusion_from join = record { left = join.left; right = join.right; seam = join.seam.items }
+
+-- The plan of these ranges and fusions, or the first rule that they break: just what the rules say of joins that are
+-- these fusions.
+abbrev pub node_ranges : List (List (ℕ × ℕ)) → List Fusion → List (List (ℕ × ℕ))
+node_ranges units fusions = units ++ map (λ f. f.seam) fusions
+
+abbrev pub children : List Fusion → List (ℕ × ℕ)
+children fusions = map (λ f. (f.left, f.right)) fusions
+
+abbrev pub tree_of : DecodingGraph → List (List (ℕ × ℕ)) → List Fusion → PlanTree
+tree_of g units fusions = record {
+  units = length units;
+  joins = children fusions;
+  owners = map (owner_in g (claims_from 0 (node_ranges units fusions))) (range_with_len 0 g.vertices);
+}
+
+abbrev pub fault_of : DecodingGraph → List (List (ℕ × ℕ)) → List Fusion → Option PlanFault
+fault_of g units fusions = first_of_faults (
+    units_fault units
+    ∷ range_fault g.vertices (node_ranges units fusions)
+    ∷ unowned_fault g (claims_from 0 (node_ranges units fusions))
+    ∷ twice_fault g (claims_from 0 (node_ranges units fusions))
+    ∷ child_fault (length units) (children fusions)
+    ∷ use_fault (children fusions)
+    ∷ root_fault (length units) (length fusions)
+    ∷ edge_fault g (tree_of g units fusions)
+    ∷ [])
+
+unfoldable pub plan_of : DecodingGraph → List (List (ℕ × ℕ)) → List Fusion → Result PlanTree PlanFault
+plan_of g units fusions = or_fault (fault_of g units fusions) (tree_of g units fusions)
+
+-- the plan of a text over a graph, or the first rule that the text breaks
+abbrev pub plan_of_text : List ℕ → DecodingGraph → Result PlanTree PlanFault
+plan_of_text bytes g = with_result (parts_of_text bytes) (λ parts. plan_of g parts.0 parts.1)

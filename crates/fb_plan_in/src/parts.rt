@@ -1,0 +1,60 @@
+//! What a plan's text says.
+
+ghost use Rattle.std.specs.Prelude.{◌≡◌, ◌≢◌, map, IfOk, IfErr, Ok, Err};
+ghost use Rattle.serde_json.specs.View.{view};
+ghost use Rattle.fb_plan_in.specs.PlanText.{fusion_from, parts_of, parts_of_text};
+
+use crate::entries::{fusions, units};
+use fb_plan::{Join, Member, Place, PlanFault};
+use serde_json::Value;
+use std::alloc::Global;
+
+const MOST_BYTES: usize = 1 << 28;
+
+/// The ranges of the units and the fusions, before the rules of a plan are judged.
+#[derive(Drop)]
+pub struct Parts {
+    pub units: Vec<Vec<(u64, u64)>>,
+    pub fusions: Vec<Join>,
+}
+
+/// What a value says, or the first rule that it breaks.
+#[tactic(auto, unfolding(crate::specs::PlanText::parts_of))]
+fn parts_in(alloc: Global, value: &Value) -> Result<Parts, PlanFault>
+    ensures ok { IfOk result (λ p. parts_of (view value.now)
+        ≡ Ok (map (λ u. u.items) p.units.items, map fusion_from p.fusions.items)) }
+    ensures err { IfErr result (λ e. e ≢ PlanFault.NoMemory → parts_of (view value.now) ≡ Err e) }
+{
+    let Some(unit_list) = value.get("units") else {
+        return Err(PlanFault::Missing(Member::Units));
+    };
+    let Some(fusion_list) = value.get("fusions") else {
+        return Err(PlanFault::Missing(Member::Fusions));
+    };
+    let Some(unit_list) = unit_list.as_array() else {
+        return Err(PlanFault::NotWhole(Place::Units));
+    };
+    let Some(fusion_list) = fusion_list.as_array() else {
+        return Err(PlanFault::NotWhole(Place::Fusions));
+    };
+    let units = units(alloc, unit_list)?;
+    let fusions = fusions(alloc, fusion_list)?;
+    Ok(Parts { units, fusions })
+}
+
+/// What a text says, or the first rule that it breaks. The JSON value is gone when it is given.
+#[tactic(auto, using(crate::proofs::Readings::readings))]
+pub fn read_parts(alloc: Global, bytes: &[u8]) -> Result<Parts, PlanFault>
+    ensures ok { IfOk result (λ p. parts_of_text bytes.now
+        ≡ Ok (map (λ u. u.items) p.units.items, map fusion_from p.fusions.items)) }
+    ensures err { IfErr result (λ e. e ≢ PlanFault.NoMemory → parts_of_text bytes.now ≡ Err e) }
+{
+    if bytes.len() > MOST_BYTES {
+        return Err(PlanFault::TooLong);
+    }
+    match Value::from_slice(alloc, bytes) {
+        Ok(value) => parts_in(alloc, &value),
+        Err(error) if error.is_memory() => Err(PlanFault::NoMemory),
+        Err(_) => Err(PlanFault::NotJson),
+    }
+}
