@@ -1,0 +1,186 @@
+ghost use Rattle.std.specs.Prelude.{◌≡◌, ℕ, ◌<◌, ◌==◌, ◌&&◌, not, length, vec_len, get_or, filter, IfOk, OnOk, OnErr, None, false};
+ghost use Rattle.std.specs.List.{range_with_len};
+ghost use Rattle.fb_graph.specs.Components.{IsFirstOdd};
+ghost use Rattle.fb_graph.specs.Limits.{problem_of, most_vertices};
+ghost use Rattle.fb_graph.specs.Parity.{differ, is_in, is_odd_count};
+ghost use Rattle.fb_graph.specs.Problem.{IsEdgeSet, Flips, edge_at, touches};
+ghost use Rattle.fb_gen.specs.Drawing.{next_state, state_after, drawn_after, hits_of, defects_from};
+
+use fb_graph::{Graph, NoMemory, NumberList, Shot};
+use std::alloc::Global;
+use std::marker::Model;
+
+const FACTOR: u64 = 6364136223846793005;
+
+const INCREMENT: u64 = 1442695040888963407;
+
+const DROPPED_BITS: u32 = 44;
+
+/// The state of a linear congruential generator modulo 2^64. Contracts see the state.
+#[derive(Debug, Drop)]
+pub struct Draws {
+    state: u64,
+}
+
+impl Model for Draws {
+    ghost use Rattle.std.specs.Prelude.{ℕ};
+
+    ghost Value = { ℕ };
+
+    ghost view = { λ d. d.state };
+}
+
+impl Draws {
+    /// Draws that begin at this state.
+    pub fn new(state: u64) -> Draws
+        ensures { result ≡ state }
+    {
+        Draws { state }
+    }
+
+    /// The next number, from 0 to 1,048,575: the upper 20 bits of the next state.
+    #[tactic(auto, using(crate::proofs::Hits::states))]
+    fn next_number(&mut self) -> u64
+        ensures state { self.new ≡ next_state self.old }
+        ensures number { result ≡ drawn_after self.old 0 }
+    {
+        self.state = self.state.wrapping_mul(FACTOR).wrapping_add(INCREMENT);
+        self.state >> DROPPED_BITS
+    }
+}
+
+/// Turns the flag of a vertex round.
+#[tactic(auto, using(crate::proofs::Hits::turns))]
+fn turn(flags: &mut Vec<bool>, v: u32)
+    requires { v < vec_len flags.old }
+    ensures len { vec_len flags.new ≡ vec_len flags.old }
+    ensures each { (u : ℕ) → u < vec_len flags.old
+        → get_or flags.new.items u false ≡ differ (u == v) (get_or flags.old.items u false) }
+{
+    let flag = flags[v as usize];
+    flags[v as usize] = !flag;
+}
+
+#[tactic(auto, using(crate::proofs::Hits::hits))]
+/// Draws once for each edge. A vertex gets a flag where an odd number of hit edges end there.
+fn flags_of_hits(
+    alloc: Global,
+    draws: &mut Draws,
+    rate: u32,
+    graph: &Graph,
+) -> Result<Vec<bool>, NoMemory>
+    ensures state { OnOk result (draws.new ≡ state_after draws.old (length graph.now.edges)) }
+    ensures len { IfOk result (λ v. length v.items ≡ graph.now.vertices) }
+    ensures each { IfOk result (λ flags. (v : ℕ) → v < graph.now.vertices → get_or flags.items v false
+        ≡ is_odd_count (λ k. touches v (edge_at graph.now.edges k)) (hits_of draws.old rate (length graph.now.edges))) }
+{
+    graph.limits();
+    let Ok(mut flags) = vec![in alloc; false; graph.vertices() as usize] else {
+        return Err(NoMemory);
+    };
+    for k in 0..graph.edge_count() {
+        if draws.next_number() < u64::from(rate) {
+            let (first, second) = graph.ends(k);
+            turn(&mut flags, first);
+            turn(&mut flags, second);
+        }
+    }
+    Ok(flags)
+}
+
+/// Whether a vertex is real and has a flag.
+fn is_real_flagged(graph: &Graph, flags: &[bool], v: u32) -> bool
+    requires vertex { v < graph.now.vertices }
+    requires flags { length flags.now ≡ graph.now.vertices }
+    ensures { result ≡ (not (is_in graph.now.virtuals v) && get_or flags.now v false) }
+{
+    !graph.is_virtual(v) && flags[v as usize]
+}
+
+/// The real vertices with a flag, rising.
+#[tactic(auto, using(crate::proofs::Hits::kept))]
+fn real_flagged(alloc: Global, graph: &Graph, flags: &[bool]) -> Result<Vec<u32>, NoMemory>
+    requires { length flags.now ≡ graph.now.vertices }
+    ensures { IfOk result (λ vs. vs.items ≡ filter (λ v. not (is_in graph.now.virtuals v) && get_or flags.now v false)
+        (range_with_len 0 graph.now.vertices)) }
+{
+    let mut found = NumberList::from_vec(Vec::new(alloc));
+    for v in 0..graph.vertices() {
+        let is_wanted = is_real_flagged(graph, flags, v);
+        let Ok(()) = found.push_if(is_wanted, v) else {
+            return Err(NoMemory);
+        };
+    }
+    Ok(found.into_vec())
+}
+
+/// A shot drawn at random: one draw for each edge, in order, which is hit where the draw is below the rate (of
+/// 1,048,576); the defects are the real vertices with an odd number of hit edges. The hit edges are a correction, so
+/// no component is odd.
+pub fn draw(alloc: Global, draws: &mut Draws, rate: u32, graph: &Graph) -> Result<Shot, NoMemory>
+    ensures defects { IfOk result (λ s. s ≡ defects_from graph.now (hits_of draws.old rate (length graph.now.edges))) }
+    ensures state { OnOk result (draws.new ≡ state_after draws.old (length graph.now.edges)) }
+    ensures same { OnErr result (draws.new ≡ draws.old) }
+    ensures edges { IfOk result (λ s. IsEdgeSet (problem_of graph.now s)
+        (hits_of draws.old rate (length graph.now.edges))) }
+    ensures flips { IfOk result (λ s. Flips (problem_of graph.now s)
+        (hits_of draws.old rate (length graph.now.edges))) }
+    ensures even { IfOk result (λ s. IsFirstOdd (problem_of graph.now s) None) }
+{
+    let mut later = Draws { state: draws.state };
+    let Ok(flags) = flags_of_hits(alloc, &mut later, rate, graph) else {
+        return Err(NoMemory);
+    };
+    let Ok(defects) = real_flagged(alloc, graph, &flags) else {
+        return Err(NoMemory);
+    };
+    let shot = Shot::from_rising(graph, defects);
+    draws.state = later.state;
+    Ok(shot)
+}
+
+#[cfg(test)]
+mod tests {
+    use super::*;
+    use crate::lattices::lattice;
+    use std::test::Fail;
+
+    const ALWAYS: u32 = 1 << 20;
+
+    #[test]
+    fn draws_the_first_number(rt: HostRuntime) {
+        let mut draws = Draws::new(0);
+        assert_eq!(rt; draws.next_number(), 82007);
+    }
+
+    #[test]
+    fn hits_every_edge(rt: HostRuntime) -> Result<(), Fail> {
+        let graph = lattice(rt.alloc(), 3, 3)?;
+        let mut draws = Draws::new(0);
+        let shot = draw(rt.alloc(), &mut draws, ALWAYS, &graph)?;
+        let expected: [u32; 8] = [5, 6, 13, 14, 21, 22, 29, 30];
+        assert!(rt; shot.as_slice() == &expected[..]);
+        Ok(())
+    }
+
+    #[test]
+    fn hits_no_edge(rt: HostRuntime) -> Result<(), Fail> {
+        let graph = lattice(rt.alloc(), 3, 3)?;
+        let mut draws = Draws::new(1);
+        assert!(rt; draw(rt.alloc(), &mut draws, 0, &graph)?.is_empty());
+        Ok(())
+    }
+
+    #[test]
+    fn goes_on_from_shot_to_shot(rt: HostRuntime) -> Result<(), Fail> {
+        let graph = lattice(rt.alloc(), 3, 3)?;
+        let mut draws = Draws::new(7);
+        let first = draw(rt.alloc(), &mut draws, 200_000, &graph)?;
+        let second = draw(rt.alloc(), &mut draws, 200_000, &graph)?;
+        let first_defects: [u32; 9] = [2, 6, 9, 10, 17, 18, 22, 29, 33];
+        let second_defects: [u32; 7] = [1, 6, 9, 10, 17, 29, 34];
+        assert!(rt; first.as_slice() == &first_defects[..]);
+        assert!(rt; second.as_slice() == &second_defects[..]);
+        Ok(())
+    }
+}

@@ -1,0 +1,15 @@
+use thiserror::Error;
+
+/// Why there is no such lattice, or no such plan of it.
+#[derive(Clone, Copy, Debug, PartialEq, Eq, Error)]
+pub enum GenFault {
+    /// The lattice has more than 1,048,576 vertices.
+    #[error("the lattice has more than 1,048,576 vertices")]
+    LatticeTooLarge,
+    /// There are fewer rounds than one for each unit and one between each two of them.
+    #[error("too few rounds for so many units")]
+    TooFewRounds,
+    /// Want of memory.
+    #[error("out of memory")]
+    NoMemory,
+}

@@ -1,0 +1,119 @@
+//! Which nodes of a plan by time are joined, level by level.
+
+ghost use Rattle.std.specs.Prelude.{◌≡◌, ◌+◌, ◌*◌, ◌<◌, ◌≤◌, ◌++◌, length, All, IfOk, OnOk};
+ghost use Rattle.fb_plan.specs.Plans.{most_units};
+ghost use Rattle.fb_gen.specs.TimePlan.{first_level, fusions_of_level, level_above, time_fusions};
+
+use fb_graph::NoMemory;
+use std::alloc::Global;
+
+/// A node of a level, with the number of the seam before it, which is that of the first unit below the node.
+#[derive(Clone, Copy, Debug)]
+pub struct Part {
+    pub seam: u64,
+    pub node: u64,
+}
+
+/// The fusion of two nodes by a seam.
+#[derive(Clone, Copy, Debug)]
+pub struct Fusion {
+    pub left: u64,
+    pub right: u64,
+    pub seam: u64,
+}
+
+/// The units, each with its own number as that of the seam before it.
+#[tactic(auto, using(crate::proofs::Pairings::first_steps))]
+fn units_in_order(alloc: Global, units: u64) -> Result<Vec<Part>, NoMemory>
+    ensures { IfOk result (λ v. v.items ≡ first_level units) }
+{
+    let mut level = Vec::new(alloc);
+    for j in 0..units {
+        let Ok(()) = level.push(Part { seam: j, node: j }) else {
+            return Err(NoMemory);
+        };
+    }
+    Ok(level)
+}
+
+/// Adds the fusions of a level, and gives the level above, whose new nodes are numbered from `next` on.
+#[tactic(auto, using(crate::proofs::Pairings::level_steps))]
+fn join_level(
+    alloc: Global,
+    level: &[Part],
+    next: u64,
+    fusions: &mut Vec<Fusion>,
+) -> Result<Vec<Part>, NoMemory>
+    requires { next + length level.now ≤ 2 * most_units }
+    ensures fusions { OnOk result (fusions.new.items ≡ fusions.old.items ++ fusions_of_level level.now) }
+    ensures above { IfOk result (λ v. v.items ≡ level_above next level.now) }
+{
+    let mut above = Vec::new(alloc);
+    let mut node = next;
+    let mut i = 0;
+    while i + 1 < level.len() {
+        let (left, right) = (level[i], level[i + 1]);
+        let fusion = Fusion {
+            left: left.node,
+            right: right.node,
+            seam: right.seam,
+        };
+        let Ok(()) = fusions.push(fusion) else {
+            return Err(NoMemory);
+        };
+        let part = Part {
+            seam: left.seam,
+            node,
+        };
+        let Ok(()) = above.push(part) else {
+            return Err(NoMemory);
+        };
+        node += 1;
+        i += 2;
+    }
+    let Ok(()) = above.extend_from_slice(&level[i..]) else {
+        return Err(NoMemory);
+    };
+    Ok(above)
+}
+
+/// All fusions of so many units, in the order in which they are made.
+#[tactic(auto, using(crate::proofs::Pairings::turn_steps), unfolding(crate::specs::TimePlan::time_fusions))]
+pub fn all_fusions(alloc: Global, units: u64) -> Result<Vec<Fusion>, NoMemory>
+    requires { units ≤ most_units }
+    ensures { IfOk result (λ v. v.items ≡ time_fusions units) }
+{
+    let mut fusions = Vec::new(alloc);
+    let Ok(mut level) = units_in_order(alloc, units) else {
+        return Err(NoMemory);
+    };
+    for turn in 0..units {
+        if level.len() < 2 {
+            return Ok(fusions);
+        }
+        let next = units + fusions.len() as u64;
+        let Ok(above) = join_level(alloc, &level, next, &mut fusions) else {
+            return Err(NoMemory);
+        };
+        level = above;
+    }
+    Ok(fusions)
+}
+
+#[cfg(test)]
+mod tests {
+    use super::*;
+    use std::test::Fail;
+
+    const FUSIONS_OF_FIVE: [(u64, u64, u64); 4] = [(0, 1, 1), (2, 3, 3), (5, 6, 2), (7, 4, 4)];
+
+    #[test]
+    fn joins_five_units(rt: HostRuntime) -> Result<(), Fail> {
+        let fusions = all_fusions(rt.alloc(), 5)?;
+        assert_eq!(rt; fusions.len(), 4);
+        for (fusion, expected) in fusions.iter().zip(FUSIONS_OF_FIVE.iter()) {
+            assert_eq!(rt; (fusion.left, fusion.right, fusion.seam), *expected);
+        }
+        Ok(())
+    }
+}

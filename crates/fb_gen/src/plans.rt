@@ -1,0 +1,260 @@
+ghost use Rattle.std.specs.Prelude.{◌≡◌, ◌≢◌, ℕ, ◌+◌, ◌-◌, ◌*◌, ◌<◌, ◌≤◌, ◌^◌, [], ◌∷◌, length, map, get_or, All, IfOk, IfErr, Ok, Err};
+ghost use Rattle.std.specs.List.{range_with_len};
+ghost use Rattle.fb_graph.specs.Limits.{most_vertices};
+ghost use Rattle.fb_plan.specs.Plans.{IsPlan, most_units};
+ghost use Rattle.fb_gen.specs.Lattice.{lattice_graph, lattice_of, vertex_count};
+ghost use Rattle.fb_gen.specs.TimePlan.{IsShared, rounds_of_unit, first_round, range_of_rounds, unit_range, time_fusions, time_tree, time_plan_of, plain_join, join_of};
+
+use crate::faults::GenFault;
+use crate::levels::{Fusion, all_fusions};
+use fb_graph::{Graph, NoMemory};
+use fb_plan::{Join, Plan, PlanFault};
+use std::alloc::Global;
+
+/// How the rounds of a lattice are shared out among units.
+#[derive(Clone, Copy, Debug)]
+struct Sharing {
+    distance: u64,
+    rounds: u64,
+    units: u64,
+}
+
+/// A list of one range.
+fn one_range(alloc: Global, range: (u64, u64)) -> Result<Vec<(u64, u64)>, NoMemory>
+    ensures { IfOk result (λ v. v.items ≡ range ∷ []) }
+{
+    let mut ranges = Vec::new(alloc);
+    let Ok(()) = ranges.push(range) else {
+        return Err(NoMemory);
+    };
+    Ok(ranges)
+}
+
+impl Sharing {
+    /// How many rounds a unit has.
+    fn rounds_of_unit(self, j: u64) -> u64
+        requires shared { IsShared self.rounds self.units }
+        requires limit { self.rounds < 2 ^ 32 }
+        ensures value { result ≡ rounds_of_unit self.rounds self.units j }
+        ensures limit { result ≤ 2 ^ 32 }
+    {
+        let shared = self.rounds - (self.units - 1);
+        let more = if j < shared % self.units { 1 } else { 0 };
+        shared / self.units + more
+    }
+
+    /// The first round of each unit, and one more than the last unit's seam round would be.
+    #[tactic(auto, using(crate::proofs::Rounds::firsts))]
+    fn first_rounds(self, alloc: Global) -> Result<Vec<u64>, NoMemory>
+        requires shared { IsShared self.rounds self.units }
+        requires limit { self.rounds < 2 ^ 32 }
+        ensures len { IfOk result (λ v. length v.items ≡ self.units + 1) }
+        ensures each { IfOk result (λ v. (k : ℕ) → k < self.units + 1
+            → get_or v.items k 0 ≡ first_round self.rounds self.units k) }
+    {
+        let mut found = Vec::new(alloc);
+        let mut first = 0;
+        let Ok(()) = found.push(first) else {
+            return Err(NoMemory);
+        };
+        for j in 0..self.units {
+            first += self.rounds_of_unit(j) + 1;
+            let Ok(()) = found.push(first) else {
+                return Err(NoMemory);
+            };
+        }
+        Ok(found)
+    }
+
+    /// The vertices of the rounds from `start` up to and without `end`.
+    fn range(self, start: u64, end: u64) -> (u64, u64)
+        requires vertices { vertex_count self.distance self.rounds ≤ most_vertices }
+        requires distance { self.distance < 2 ^ 32 }
+        requires start { start ≤ self.rounds }
+        requires end { end ≤ self.rounds }
+        ensures { result ≡ range_of_rounds self.distance start end }
+    {
+        let sheet = self.distance * (self.distance + 1);
+        (start * sheet, end * sheet)
+    }
+
+    /// The range of a unit.
+    #[tactic(auto, using(crate::proofs::Rounds::ranges))]
+    fn unit_range(self, firsts: &[u64], j: u64) -> (u64, u64)
+        requires shared { IsShared self.rounds self.units }
+        requires vertices { vertex_count self.distance self.rounds ≤ most_vertices }
+        requires distance { self.distance < 2 ^ 32 }
+        requires len { length firsts.now ≡ self.units + 1 }
+        requires each { (k : ℕ) → k < self.units + 1 → get_or firsts.now k 0 ≡ first_round self.rounds self.units k }
+        requires unit { j < self.units }
+        ensures { result ≡ unit_range self.distance self.rounds self.units j }
+    {
+        self.range(firsts[j as usize], firsts[j as usize + 1] - 1)
+    }
+
+    /// The ranges of each unit.
+    #[tactic(auto, using(crate::proofs::Rounds::ranges))]
+    fn unit_ranges(self, alloc: Global, firsts: &[u64]) -> Result<Vec<Vec<(u64, u64)>>, NoMemory>
+        requires shared { IsShared self.rounds self.units }
+        requires vertices { vertex_count self.distance self.rounds ≤ most_vertices }
+        requires distance { self.distance < 2 ^ 32 }
+        requires len { length firsts.now ≡ self.units + 1 }
+        requires each { (k : ℕ) → k < self.units + 1 → get_or firsts.now k 0 ≡ first_round self.rounds self.units k }
+        ensures { IfOk result (λ v. map (λ ranges. ranges.items) v.items
+            ≡ map (λ j. unit_range self.distance self.rounds self.units j ∷ []) (range_with_len 0 self.units)) }
+    {
+        let mut found = Vec::new(alloc);
+        for j in 0..self.units {
+            let range = self.unit_range(firsts, j);
+            let Ok(ranges) = one_range(alloc, range) else {
+                return Err(NoMemory);
+            };
+            let Ok(()) = found.push(ranges) else {
+                return Err(NoMemory);
+            };
+        }
+        Ok(found)
+    }
+
+    /// The join of a fusion, by the round before the unit that its seam comes before.
+    #[tactic(auto, using(crate::proofs::Rounds::ranges))]
+    fn join(self, alloc: Global, firsts: &[u64], fusion: Fusion) -> Result<Join, NoMemory>
+        requires shared { IsShared self.rounds self.units }
+        requires vertices { vertex_count self.distance self.rounds ≤ most_vertices }
+        requires distance { self.distance < 2 ^ 32 }
+        requires len { length firsts.now ≡ self.units + 1 }
+        requires each { (k : ℕ) → k < self.units + 1 → get_or firsts.now k 0 ≡ first_round self.rounds self.units k }
+        requires seam { fusion.seam < self.units }
+        ensures { IfOk result (λ join. plain_join join ≡ join_of self.distance self.rounds self.units fusion) }
+    {
+        let first = firsts[fusion.seam as usize];
+        let range = self.range(first.saturating_sub(1), first);
+        let Ok(seam) = one_range(alloc, range) else {
+            return Err(NoMemory);
+        };
+        Ok(Join {
+            left: fusion.left,
+            right: fusion.right,
+            seam,
+        })
+    }
+
+    /// The joins of all fusions.
+    #[tactic(auto, using(crate::proofs::Rounds::ranges))]
+    fn joins(self, alloc: Global, firsts: &[u64], fusions: &[Fusion]) -> Result<Vec<Join>, NoMemory>
+        requires shared { IsShared self.rounds self.units }
+        requires vertices { vertex_count self.distance self.rounds ≤ most_vertices }
+        requires distance { self.distance < 2 ^ 32 }
+        requires len { length firsts.now ≡ self.units + 1 }
+        requires each { (k : ℕ) → k < self.units + 1 → get_or firsts.now k 0 ≡ first_round self.rounds self.units k }
+        requires seams { All (λ f. f.seam < self.units) fusions.now }
+        ensures { IfOk result (λ v. map plain_join v.items
+            ≡ map (join_of self.distance self.rounds self.units) fusions.now) }
+    {
+        let mut found = Vec::new(alloc);
+        for fusion in fusions {
+            let Ok(join) = self.join(alloc, firsts, *fusion) else {
+                return Err(NoMemory);
+            };
+            let Ok(()) = found.push(join) else {
+                return Err(NoMemory);
+            };
+        }
+        Ok(found)
+    }
+
+    /// The plan of these ranges and joins, which breaks no rule.
+    #[tactic(auto, using(crate::proofs::Rulings::rulings))]
+    fn plan(
+        self,
+        alloc: Global,
+        graph: &Graph,
+        units: &[Vec<(u64, u64)>],
+        joins: &[Join],
+    ) -> Result<Plan, NoMemory>
+        requires shared { IsShared self.rounds self.units }
+        requires lattice { graph.now ≡ lattice_graph self.distance self.rounds }
+        requires units { map (λ ranges. ranges.items) units.now
+            ≡ map (λ j. unit_range self.distance self.rounds self.units j ∷ []) (range_with_len 0 self.units) }
+        requires joins { map plain_join joins.now
+            ≡ map (join_of self.distance self.rounds self.units) (time_fusions self.units) }
+        ensures plan { IfOk result (λ p. p ≡ time_tree self.distance self.rounds self.units) }
+        ensures valid { IfOk result (IsPlan graph.now) }
+    {
+        match Plan::build(alloc, graph, units, joins) {
+            Ok(plan) => Ok(plan),
+            Err(fault) => match fault {
+                PlanFault::NoMemory => Err(NoMemory),
+                _ => unreachable!(),
+            },
+        }
+    }
+}
+
+/// The plan of a lattice by time: `units` runs of rounds with one round between two of them, which are joined two and
+/// two, level by level, by the rounds between them. A run is as long as another or one round longer, the longer ones
+/// first. The graph is the lattice of this distance and so many rounds; a plan has 1 to 4,096 units.
+#[tactic(auto, using(crate::proofs::Rulings::plans))]
+pub fn time_plan(
+    alloc: Global,
+    graph: &Graph,
+    distance: u32,
+    rounds: u32,
+    units: u32,
+) -> Result<Plan, GenFault>
+    requires lattice { lattice_of distance rounds ≡ Ok graph.now }
+    requires some { 1 ≤ units }
+    requires limit { units ≤ most_units }
+    ensures ok { IfOk result (λ p. time_plan_of distance rounds units ≡ Ok p) }
+    ensures valid { IfOk result (IsPlan graph.now) }
+    ensures err { IfErr result (λ e. e ≢ GenFault.NoMemory → time_plan_of distance rounds units ≡ Err e) }
+{
+    if u64::from(rounds) < 2 * u64::from(units) - 1 {
+        return Err(GenFault::TooFewRounds);
+    }
+    let sharing = Sharing {
+        distance: u64::from(distance),
+        rounds: u64::from(rounds),
+        units: u64::from(units),
+    };
+    let Ok(firsts) = sharing.first_rounds(alloc) else {
+        return Err(GenFault::NoMemory);
+    };
+    let Ok(fusions) = all_fusions(alloc, u64::from(units)) else {
+        return Err(GenFault::NoMemory);
+    };
+    let Ok(ranges) = sharing.unit_ranges(alloc, &firsts) else {
+        return Err(GenFault::NoMemory);
+    };
+    let Ok(joins) = sharing.joins(alloc, &firsts, &fusions) else {
+        return Err(GenFault::NoMemory);
+    };
+    let Ok(plan) = sharing.plan(alloc, graph, &ranges, &joins) else {
+        return Err(GenFault::NoMemory);
+    };
+    Ok(plan)
+}
+
+#[cfg(test)]
+mod tests {
+    use super::*;
+    use crate::lattices::lattice;
+    use std::test::Fail;
+
+    #[test]
+    fn plans_three_rounds(rt: HostRuntime) -> Result<(), Fail> {
+        let graph = lattice(rt.alloc(), 3, 3)?;
+        let plan = time_plan(rt.alloc(), &graph, 3, 3, 2)?;
+        assert_eq!(rt; plan.units(), 2);
+        assert_eq!(rt; plan.nodes(), 3);
+        Ok(())
+    }
+
+    #[test]
+    fn refuses_too_few_rounds(rt: HostRuntime) -> Result<(), Fail> {
+        let graph = lattice(rt.alloc(), 2, 2)?;
+        let refused = time_plan(rt.alloc(), &graph, 2, 2, 2);
+        assert_eq!(rt; refused.err(), Some(GenFault::TooFewRounds));
+        Ok(())
+    }
+}
