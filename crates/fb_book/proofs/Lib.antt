@@ -1,0 +1,17 @@
+pub mod Beginning
+pub mod Boards
+pub mod Choosing
+pub mod Copies
+pub mod Courses
+pub mod Giving
+pub mod Heaps
+pub mod History
+pub mod Keeping
+pub mod Letting
+pub mod Openings
+pub mod Waiting
+pub mod Places
+pub mod Products
+pub mod Statuses
+pub mod Trees
+pub mod Turns

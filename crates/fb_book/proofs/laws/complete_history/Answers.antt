@@ -1,0 +1,11 @@
+use Rattle.fb_book.proofs.History.{children_before, done_is_complete, taken_and_given}
+use Rattle.fb_book.proofs.laws.complete_history.Goals as goal
+
+pub returns-clause-both : goal.returns-clause-both
+returns-clause-both c = taken_and_given
+
+pub returns-clause-children : goal.returns-clause-children
+returns-clause-children c = children_before
+
+pub returns-clause-done : goal.returns-clause-done
+returns-clause-done c = done_is_complete

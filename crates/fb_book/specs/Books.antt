@@ -1,0 +1,64 @@
+-- A book: the history of a run and the pieces that wait at its items.
+use Rattle.std.specs.Prelude.{ℕ, ◌≡◌, ◌+◌, ◌*◌, ◌<◌, ◌≤◌, Bool, is_some, Option, Some, None, List, [], length, get_or, slice_get, slice_set, All}
+use Rattle.fb_book.specs.declared.entries.Entry.{Entry}
+use Rattle.fb_book.specs.Machine.{status_at, is_given, is_held_by}
+use Rattle.fb_book.specs.Board.{Course, TakesFusion, item_count, item_status, statuses_of}
+use Rattle.fb_graph.specs.Limits.{DecodingGraph}
+use Rattle.fb_plan.specs.Plans.{JobValue, PlanTree, node_count, root_of}
+
+-- the run over a job's items with this history
+abbrev pub course_of : JobValue → List Entry → Course
+course_of job history =
+    record { units = job.plan.units; joins = job.plan.joins; slots = length job.shots; history = history }
+
+-- the piece is of this job, and of the item at this place
+pub record IsPieceAt {P : Type 0} (job_of : P → JobValue) (slot_of node_of : P → ℕ) (job : JobValue) (k : ℕ) (p : P) : Type 0 where
+  pub job_is : job_of p ≡ job
+  pub place_is : slot_of p * node_count job.plan + node_of p ≡ k
+  pub node : node_of p < node_count job.plan
+
+-- What every book keeps: a piece waits at each item that is given and at no other, and is of that item; workers are at
+-- most the run's number.
+pub record IsKept {P : Type 0} (job_of : P → JobValue) (slot_of node_of : P → ℕ) (job : JobValue) (workers : ℕ)
+    (history : List Entry) (parked : List (Option P)) : Type 0 where
+  pub by : All (λ e. e.worker ≤ workers) history
+  pub count : length parked ≡ item_count (course_of job history)
+  pub given : (k : ℕ) → is_given (status_at (statuses_of (course_of job history)) k) ≡ is_some (get_or parked k None)
+  pub pieces : (k : ℕ) (p : P) → get_or parked k None ≡ Some p → IsPieceAt job_of slot_of node_of job k p
+
+pub record IsBook {P : Type 0} (job_of : P → JobValue) (slot_of node_of : P → ℕ) (job : JobValue) (workers : ℕ)
+    (c : Course) (parked : List (Option P)) (roots : List P) (room : ℕ) : Type 0 where
+  pub course : c ≡ course_of job c.history
+  pub kept : IsKept job_of slot_of node_of job workers c.history parked
+  pub roots_are : roots ≡ []
+  pub roots_room : length job.shots ≤ room
+
+-- Fusion (slot, node) is taken, and the two pieces that wait at its children are handed out, the left one first.
+pub record HandsOut {P : Type 0} (old new : Course) (worker slot node : ℕ) (parked parked_after : List (Option P)) (a b : P) : Type 0 where
+  pub left : ℕ
+  pub right : ℕ
+  pub takes : TakesFusion old new worker slot node left right
+  pub left_is : get_or parked left None ≡ Some a
+  pub right_is : get_or parked right None ≡ Some b
+  pub unparked : parked_after ≡ slice_set (slice_set parked left None) right None
+
+abbrev pub place_of : JobValue → ℕ → ℕ → ℕ
+place_of job slot node = slot * node_count job.plan + node
+
+abbrev pub holds : JobValue → List Entry → ℕ → ℕ → ℕ → Bool
+holds job history worker slot node = is_held_by worker (item_status (course_of job history) slot node)
+
+-- the piece is the one that waits at its slot's root
+abbrev pub AreRoots : {P : Type 0} → JobValue → List (Option P) → List P → Type 0
+AreRoots job parked roots = (length roots ≡ length job.shots)
+    × ((s : ℕ) → s < length job.shots → slice_get parked (place_of job s (root_of job.plan)) ≡ Some (slice_get roots s))
+
+abbrev pub no_graph : DecodingGraph
+no_graph = record { vertices = 0; edges = []; virtuals = [] }
+
+abbrev pub no_plan : PlanTree
+no_plan = record { units = 0; joins = []; owners = [] }
+
+-- what names no run
+abbrev pub no_job : JobValue
+no_job = record { graph = no_graph; plan = no_plan; shots = [] }

@@ -1,0 +1,70 @@
+-- What holds of every history that the machine allows.
+use Rattle.std.specs.Prelude.{ℕ, ◌≡◌, ◌*◌, ◌<◌, ◌≤◌, ◌⊎◌, true, false, Some, List, [], ◌∷◌, ◌++◌, length}
+use Rattle.std.specs.List.{list_any, list_all}
+use Rattle.fb_book.specs.declared.entries.Kind.{Kind}
+use Rattle.fb_book.specs.declared.entries.Kind.TheVariants.{Took, Gave, Left}
+use Rattle.fb_book.specs.declared.entries.Entry.{Entry}
+use Rattle.fb_book.specs.declared.entries.Status.{Status}
+use Rattle.fb_book.specs.declared.entries.Status.TheVariants.{Idle, Held, Given, Used, Left as Lost}
+use Rattle.fb_book.specs.Machine.{Kids, IsForest, IsComplete, is_child, status_at, is_idle, is_held, is_left, is_over, can_take, replay, place, trace, all_idle}
+
+-- what was done with an item of this status
+abbrev pub Told : Status → List (Kind × ℕ) → Type 0
+Told Idle done = done ≡ []
+Told (Held w) done = done ≡ (Took, w) ∷ []
+Told Given done = (w : ℕ) × (done ≡ (Took, w) ∷ (Gave, w) ∷ [])
+Told Used done = (w : ℕ) × (done ≡ (Took, w) ∷ (Gave, w) ∷ [])
+Told Lost done = (w : ℕ) × (done ≡ (Took, w) ∷ (Left, w) ∷ [])
+
+-- how many entries an item of this status has
+abbrev pub entries_of : Status → ℕ
+entries_of Idle = 0
+entries_of (Held w) = 1
+entries_of Given = 2
+entries_of Used = 2
+entries_of Lost = 2
+
+-- Where nothing is held or left, some item can be taken, or every item is given or used.
+abbrev pub Progress : Type 0
+Progress = (kids : Kids) (n count : ℕ) (history : List Entry) (st : List Status) → IsForest kids
+    → replay kids n (all_idle count) history ≡ Some st
+    → list_any is_held st ≡ false → list_any is_left st ≡ false
+    → ((k : ℕ) × (k < count) × (can_take kids st k ≡ true)) ⊎ (list_all is_over st ≡ true)
+
+-- What was done with an item tells its status.
+abbrev pub TellsStatus : Type 0
+TellsStatus = (kids : Kids) (n count : ℕ) (history : List Entry) (st : List Status) → IsForest kids
+    → replay kids n (all_idle count) history ≡ Some st
+    → (k : ℕ) → k < count → Told (status_at st k) (trace n k history)
+
+-- No item has more than two entries, and so all together no more than twice their number.
+abbrev pub TwoEach : Type 0
+TwoEach = (kids : Kids) (n count : ℕ) (history : List Entry) (st : List Status) → IsForest kids
+    → replay kids n (all_idle count) history ≡ Some st
+    → (length history ≤ 2 * count) × ((k : ℕ) → k < count → length (trace n k history) ≤ 2)
+
+-- Of a complete history each item was taken once and then given once, by one worker.
+abbrev pub TakenAndGiven : Type 0
+TakenAndGiven = (kids : Kids) (n count : ℕ) (history : List Entry) → IsForest kids
+    → IsComplete kids n count history
+    → (k : ℕ) → k < count → (w : ℕ) × (trace n k history ≡ (Took, w) ∷ (Gave, w) ∷ [])
+
+-- An allowed history at whose end every item is given or used is complete.
+abbrev pub DoneIsComplete : Type 0
+DoneIsComplete = (kids : Kids) (n count : ℕ) (history : List Entry) (st : List Status) → IsForest kids
+    → replay kids n (all_idle count) history ≡ Some st → list_all is_over st ≡ true
+    → IsComplete kids n count history
+
+-- Before an item is taken each of its children was taken and given.
+abbrev pub ChildrenBefore : Type 0
+ChildrenBefore = (kids : Kids) (n count : ℕ) (before rest : List Entry) (took : Entry) (st : List Status) → IsForest kids
+    → replay kids n (all_idle count) (before ++ took ∷ rest) ≡ Some st → took.kind ≡ Took
+    → (c : ℕ) → is_child (kids (place n took)) c ≡ true
+    → (w : ℕ) × (trace n c before ≡ (Took, w) ∷ (Gave, w) ∷ [])
+
+-- An item that is used is a child of one that isn't idle.
+abbrev pub UsedByParent : Type 0
+UsedByParent = (kids : Kids) (n count : ℕ) (history : List Entry) (st : List Status) → IsForest kids
+    → replay kids n (all_idle count) history ≡ Some st
+    → (c : ℕ) → c < count → status_at st c ≡ Used
+    → (k : ℕ) × (k < count) × (is_child (kids k) c ≡ true) × (is_idle (status_at st k) ≡ false)

@@ -1,0 +1,4 @@
+pub mod Board
+pub mod Books
+pub mod Laws
+pub mod Machine

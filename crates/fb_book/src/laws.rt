@@ -1,0 +1,25 @@
+//! What holds of every history that the machine allows. Each function does nothing: its clauses are the law.
+
+ghost use Rattle.fb_book.specs.Laws.{Progress, TellsStatus, TwoEach, TakenAndGiven, ChildrenBefore, UsedByParent, DoneIsComplete};
+
+/// Where nothing is held or left, some item can be taken, or every item is given or used. Of the used ones each is a
+/// child of one that was taken.
+pub fn progress()
+    ensures progress { Progress }
+    ensures used { UsedByParent }
+{}
+
+/// What was done with an item tells its status, and no item has more than two entries.
+pub fn entries_of_item()
+    ensures told { TellsStatus }
+    ensures two { TwoEach }
+{}
+
+/// A history at whose end every item is given or used is complete. Of a complete history each item was taken once and
+/// given once, by the same worker and in this order. Of every history, both children of a fusion were given before it
+/// was taken.
+pub fn complete_history()
+    ensures done { DoneIsComplete }
+    ensures both { TakenAndGiven }
+    ensures children { ChildrenBefore }
+{}

@@ -1,0 +1,21 @@
+//! The board of a run: which unit or fusion may be taken, the history of what was, and the pieces that wait.
+
+#![tactic(auto)]
+
+pub mod book;
+pub mod entries;
+mod items;
+pub mod laws;
+mod moves;
+mod parking;
+pub mod permit;
+mod ready;
+mod tables;
+
+pub use book::{Book, Claim};
+pub use entries::{Entry, Kind, Status};
+pub use laws::{complete_history, entries_of_item, progress};
+pub use permit::{Board, Permit, Piece};
+
+#[cfg(test)]
+mod tests;
