@@ -1,0 +1,10 @@
+pub mod Climbs
+pub mod Held
+pub mod Nested
+pub mod Changes
+pub mod Moves
+pub mod Tails
+pub mod Rounds
+pub mod Sizes
+pub mod Turns
+pub mod Grown

@@ -1,0 +1,147 @@
+-- What the calls that add and take off nodes do to the store.
+use Rattle.std.proofs.Common.{◌≡◌, ◌≢◌, inl, inr, ℕ, ◌+◌, ◌<◌, Bool, true, false, List, [], ◌∷◌, get_or, set, length, Option, Some, None, refl, sym, ◌∙◌, ap, subst}
+use Rattle.std.proofs.lemmas.Bool.{both_ways}
+use Rattle.std.proofs.lemmas.List.{get_or-set_same, get_or-set_other}
+use Rattle.slab.specs.Slab.{Slab, Updates, get}
+use Rattle.fb_links.specs.declared.cycle.CycleStep.{CycleStep}
+use Rattle.fb_blossoms.specs.Items.{Item}
+use Rattle.fb_blossoms.specs.Nodes.{Adds, AreOuter, IsOddCycle, IsOuter, Node, TakesOff, blossom, cycle_at, is_in, is_on, leaf, node_at}
+use Rattle.fb_blossoms.specs.Forest.{IsItem, IsKept, cycle_in, item_at, is_kept, nodes_of, parent_at, steps_at}
+use Rattle.fb_blossoms.proofs.Held.{cycle_from, live_from}
+use Rattle.fb_blossoms.proofs.Nested.{is_in-one, leaf_node, one_in, outer_from}
+use Rattle.fb_blossoms.proofs.Changes.{adds, kept_added, kept_left, node_added, put, takes_off}
+
+abbrev pub new_blossom : ℕ → List CycleStep → Item
+new_blossom made cycle = record { parent = None; made = made; own = []; cycle = cycle }
+
+abbrev pub new_leaf : ℕ → ℕ → Item
+new_leaf made d = record { parent = None; made = made; own = d ∷ []; cycle = [] }
+
+adds_as : (old new : List (Option Node)) (key : ℕ) (n m : Node) → Adds old new key n → n ≡ m → Adds old new key m
+adds_as old new key n m h e = let P : Node → Type 0 = λ k. Adds old new key k in subst P e h
+
+module _ (old mid new : Slab Item) (leaves : List (Option ℕ)) (made : ℕ) (kept : IsKept old.slots leaves made) (key : ℕ) (cycle : List CycleStep)
+    (vacant : get old key ≡ None) (moved : (x : ℕ) → get mid x ≡ put (is_on cycle x) (Some key) (get old x))
+    (updates : Updates mid new key (Some (new_blossom made cycle)))
+    (odd : IsOddCycle (nodes_of old.slots) cycle) (outer : AreOuter (nodes_of old.slots) cycle) where
+  live : (x : ℕ) → is_on cycle x ≡ true → is_kept old.slots x ≡ true
+  live x on = sym (live_from old.slots x) ∙ odd.live x on
+
+  top : (x : ℕ) → is_on cycle x ≡ true → parent_at old.slots x ≡ None
+  top x on = outer_from old.slots made kept.forest x (outer x on)
+
+  others : (x : ℕ) → x ≢ key → item_at new.slots x ≡ put (is_on cycle x) (Some key) (item_at old.slots x)
+  others x n = updates.others x n ∙ moved x
+
+  shaped : IsItem [] cycle
+  shaped = inr (record { bare = refl; odd = odd.odd; three = odd.three; distinct = odd.distinct })
+
+  bare : (X : ℕ → Type 0) (d : ℕ) → is_in [] d ≡ true → X d
+  bare X d h = absurd (both_ways false refl h)
+
+  pub formed : IsKept new.slots leaves (made + 1)
+  formed =
+      kept_added old.slots new.slots leaves leaves made kept key (new_blossom made cycle) vacant updates.changed refl refl others live top shaped
+      (bare (λ d. get_or leaves d None ≡ Some key)) (λ d h. refl) (bare (λ d. get_or leaves d None ≡ None)) (bare (λ d. [] ≡ d ∷ []))
+
+  pub forms : Adds (nodes_of old.slots) (nodes_of new.slots) key (blossom (nodes_of old.slots) cycle)
+  forms =
+      adds_as _ _ key _ _
+      (adds old.slots new.slots leaves leaves made kept key (new_blossom made cycle) vacant updates.changed refl refl others live top shaped
+      (bare (λ d. get_or leaves d None ≡ Some key)) (λ d h. refl) (bare (λ d. get_or leaves d None ≡ None)) (bare (λ d. [] ≡ d ∷ [])))
+      (node_added old.slots new.slots leaves leaves made kept key (new_blossom made cycle) vacant updates.changed refl refl others live top shaped
+      (bare (λ d. get_or leaves d None ≡ Some key)) (λ d h. refl) (bare (λ d. get_or leaves d None ≡ None)) (bare (λ d. [] ≡ d ∷ []))
+      (record { bare = refl; odd = odd.odd; three = odd.three; distinct = odd.distinct }))
+
+module _ (old new : Slab Item) (leaves wide : List (Option ℕ)) (made : ℕ) (kept : IsKept old.slots leaves made) (key d : ℕ)
+    (vacant : get old key ≡ None) (updates : Updates old new key (Some (new_leaf made d)))
+    (widened : (k : ℕ) → get_or wide k None ≡ get_or leaves k None) (within : d < length wide)
+    (unused : (x : ℕ) → node_at (nodes_of old.slots) x ≢ Some (leaf d)) where
+  its : (e : ℕ) → is_in (d ∷ []) e ≡ true → get_or (set wide d (Some key)) e None ≡ Some key
+  its e h = ap (λ y. get_or (set wide d (Some key)) y None) (sym (is_in-one d e h)) ∙ get_or-set_same wide d (Some key) None within
+
+  not_its : (e : ℕ) → is_in (d ∷ []) e ≡ false → get_or (set wide d (Some key)) e None ≡ get_or leaves e None
+  not_its e h = get_or-set_other wide d e (Some key) None differs ∙ widened e
+    where
+      differs : e ≢ d
+      differs same = both_ways (is_in (d ∷ []) e) h (ap (is_in (d ∷ [])) same ∙ one_in d)
+
+  none_yet : (e : ℕ) → is_in (d ∷ []) e ≡ true → get_or leaves e None ≡ None
+  none_yet e h = ap (λ y. get_or leaves y None) (sym (is_in-one d e h)) ∙ at (get_or leaves d None) refl
+    where
+      at : (o : Option ℕ) → get_or leaves d None ≡ o → get_or leaves d None ≡ None
+      at None f = f
+      at (Some x) f = absurd (unused x (leaf_node old.slots made kept.forest x d (kept.leaf_at d x f)))
+
+  alone : (e : ℕ) → is_in (d ∷ []) e ≡ true → d ∷ [] ≡ e ∷ []
+  alone e h = ap (λ y. y ∷ []) (is_in-one d e h)
+
+  shape : IsItem (d ∷ []) []
+  shape = inl (record { defect = d; alone = refl; bare = refl })
+
+  off : (X : ℕ → Type 0) (x : ℕ) → is_on [] x ≡ true → X x
+  off X x h = absurd (both_ways false refl h)
+
+  pub leafed : IsKept new.slots (set wide d (Some key)) (made + 1)
+  leafed =
+      kept_added old.slots new.slots leaves (set wide d (Some key)) made kept key (new_leaf made d) vacant updates.changed refl refl updates.others
+      (off (λ x. is_kept old.slots x ≡ true)) (off (λ x. parent_at old.slots x ≡ None)) shape its not_its none_yet alone
+
+  pub leafs : Adds (nodes_of old.slots) (nodes_of new.slots) key (leaf d)
+  leafs =
+      adds old.slots new.slots leaves (set wide d (Some key)) made kept key (new_leaf made d) vacant updates.changed refl refl updates.others
+      (off (λ x. is_kept old.slots x ≡ true)) (off (λ x. parent_at old.slots x ≡ None)) shape its not_its none_yet alone
+
+module _ (old mid new : Slab Item) (leaves : List (Option ℕ)) (made : ℕ) (kept : IsKept old.slots leaves made) (key : ℕ) (i : Item)
+    (found : get old key ≡ Some i) (updates : Updates old mid key None)
+    (moved : (x : ℕ) → get new x ≡ put (is_on i.cycle x) None (get mid x))
+    (some : cycle_at (nodes_of old.slots) key ≢ []) (outer : IsOuter (nodes_of old.slots) key) where
+  steps : steps_at old.slots key ≡ i.cycle
+  steps = ap cycle_in found
+
+  some_steps : steps_at old.slots key ≡ [] → ⊥
+  some_steps e = some (cycle_from old.slots key ∙ e)
+
+  gone : item_at new.slots key ≡ None
+  gone = moved key ∙ (ap (put (is_on i.cycle key) None) updates.changed ∙ none (is_on i.cycle key))
+    where
+      none : (b : Bool) → put b None None ≡ None
+      none true = refl
+      none false = refl
+
+  still : (x : ℕ) → x ≢ key → item_at new.slots x ≡ put (is_on (steps_at old.slots key) x) None (item_at old.slots x)
+  still x n = moved x ∙ (ap (put (is_on i.cycle x) None) (updates.others x n) ∙ ap (λ c. put (is_on c x) None (item_at old.slots x)) (sym steps))
+
+  pub opened : IsKept new.slots leaves made
+  opened = kept_left old.slots new.slots leaves made kept key (outer_from old.slots made kept.forest key outer) some_steps gone still
+
+  pub opens : TakesOff (nodes_of old.slots) (nodes_of new.slots) key
+  opens = takes_off old.slots new.slots leaves made kept key (outer_from old.slots made kept.forest key outer) some_steps gone still
+
+  pub handed : i.cycle ≡ cycle_at (nodes_of old.slots) key
+  handed = sym steps ∙ sym (cycle_from old.slots key)
+
+-- what is told of the slab with more room holds of the slab
+pub vacant_from : (old roomy : Slab Item) (capacity key : ℕ) → roomy ≡ record old { capacity = capacity } → get roomy key ≡ None → get old key ≡ None
+vacant_from old roomy capacity key e h = ap (λ s. get s key) (sym e) ∙ h
+
+pub moved_from : (old roomy mid : Slab Item) (capacity : ℕ) (seen cycle : List CycleStep) (q : Option ℕ) → roomy ≡ record old { capacity = capacity }
+    → seen ≡ cycle → ((x : ℕ) → get mid x ≡ put (is_on seen x) q (get roomy x)) → (x : ℕ) → get mid x ≡ put (is_on cycle x) q (get old x)
+moved_from old roomy mid capacity seen cycle q e same h x =
+    h x ∙ (ap (λ s. put (is_on seen x) q (get s x)) e ∙ ap (λ c. put (is_on c x) q (get old x)) same)
+
+pub updates_from : (mid new : Slab Item) (at key : ℕ) (i j : Item) → at ≡ key → i ≡ j → Updates mid new at (Some i) → Updates mid new key (Some j)
+updates_from mid new at key i j e f h =
+    let P : ℕ → Type 0 = λ k. Updates mid new k (Some j) in
+    let Q : Item → Type 0 = λ k. Updates mid new at (Some k) in
+    subst P e (subst Q f h)
+
+pub updates_roomy : (old roomy new : Slab Item) (capacity key : ℕ) (o : Option Item) → roomy ≡ record old { capacity = capacity } → Updates roomy new key o → Updates old new key o
+updates_roomy old roomy new capacity key o e h = record {
+  changed = h.changed;
+  others = λ x n. h.others x n ∙ ap (λ s. get s x) e;
+}
+
+pub seen_from : (mid new : Slab Item) (seen cycle : List CycleStep) (q : Option ℕ) → seen ≡ cycle
+    → ((x : ℕ) → get new x ≡ put (is_on seen x) q (get mid x)) → (x : ℕ) → get new x ≡ put (is_on cycle x) q (get mid x)
+seen_from mid new seen cycle q same h x = h x ∙ ap (λ c. put (is_on c x) q (get mid x)) same

@@ -1,0 +1,172 @@
+-- Paths put together.
+use Rattle.std.proofs.Common.{◌≡◌, ◌⊎◌, inl, inr, ℕ, ◌+◌, ◌%◌, ◌<◌, ◌==◌, true, false, List, [], ◌∷◌, ◌++◌, length, Option, refl, sym, ◌∙◌, ap, subst, arith, append_assoc, length-append}
+use Rattle.std.proofs.lemmas.Bool.{both_ways, cases_Bool, eq-eqb, eqb-true, or_cases, or_left, or_right}
+use Rattle.std.proofs.lemmas.List.{append-nil}
+use Rattle.std.proofs.lemmas.List.Folds.{list_any-append}
+use Rattle.fb_links.specs.declared.walk.Step.{Step}
+use Rattle.fb_links.specs.Walks.{other_end}
+use Rattle.fb_links.specs.Table.{walk_at}
+use Rattle.fb_blossoms.specs.declared.legs.Leg.{Leg}
+use Rattle.fb_blossoms.specs.Nodes.{AreWithin, Node, cycle_at, defects_at, is_in}
+use Rattle.fb_blossoms.specs.Paths.{AreDifferent, IsEvenPath, IsLinkIn, Leads, has_link, reached}
+use Rattle.fb_blossoms.specs.Legs.{AllBecome, AreEnds, AreLegs, Becomes}
+
+pub in_either : (xs ys : List ℕ) (v : ℕ) → is_in (xs ++ ys) v ≡ true → (is_in xs v ≡ true) ⊎ (is_in ys v ≡ true)
+in_either xs ys v h = or_cases (is_in xs v) (is_in ys v) (sym (list_any-append (λ u. u == v) xs ys) ∙ h)
+
+pub not_in : (xs : List ℕ) (v : ℕ) → (is_in xs v ≡ true → ⊥) → is_in xs v ≡ false
+not_in xs v h = elim (cases_Bool (is_in xs v)) [ inl e ↦ absurd (h e) | inr e ↦ e ]
+
+pub in_first : (x : ℕ) (xs : List ℕ) → is_in (x ∷ xs) x ≡ true
+in_first x xs = or_left (x == x) (is_in xs x) (eq-eqb x x refl)
+
+different_append : (xs ys : List ℕ) → AreDifferent xs → AreDifferent ys → ((v : ℕ) → is_in xs v ≡ true → is_in ys v ≡ true → ⊥) → AreDifferent (xs ++ ys)
+different_append [] ys d e apart = e
+different_append (x ∷ xs) ys d e apart = (
+  not_in (xs ++ ys) x
+      (λ h. elim (in_either xs ys x h) [ inl a ↦ both_ways (is_in xs x) d.0 a | inr b ↦ apart x (in_first x xs) b ]),
+  different_append xs ys d.1 e (λ v a b. apart v (or_right (x == v) (is_in xs v) a) b),
+)
+
+module _ (links : List (Option (List Step))) where
+  leads_append : (from : ℕ) (p : List ℕ) (via : ℕ) (q : List ℕ) (to : ℕ) → Leads links from p via → Leads links via q to → Leads links from (p ++ q) to
+  leads_append from [] via q to g h = let P : ℕ → Type 0 = λ v. Leads links v q to in subst P (sym g) h
+  leads_append from (l ∷ p) via q to g h = (g.0, leads_append (other_end from (walk_at links l)) p via q to g.1 h)
+
+  reached_append : (from : ℕ) (p : List ℕ) (via : ℕ) (q : List ℕ) → Leads links from p via
+      → reached links from (p ++ q) ≡ reached links from p ++ reached links via q
+  reached_append from [] via q g = ap (λ v. reached links v q) g
+  reached_append from (l ∷ p) via q g =
+      let w : ℕ = other_end from (walk_at links l) in
+      ap (λ r. w ∷ r) (reached_append w p via q g.1)
+
+  -- the last part of a path round a cycle: it comes from the node of this place, and has passed nodes of places before
+  pub record IsTail (nodes : List (Option Node)) (name : ℕ) (node : ℕ → ℕ) (k at to : ℕ) (path : List ℕ) : Type 0 where
+    pub leads : Leads links at path to
+    pub count : length path % 2 ≡ k % 2
+    pub once : AreDifferent (reached links at path)
+    pub placed : (v : ℕ) → is_in (reached links at path) v ≡ true → (i : ℕ) × (i < k) × (is_in (defects_at nodes (node i)) v ≡ true)
+    pub inside : (l : ℕ) → is_in path l ≡ true → IsLinkIn nodes name l
+
+  pub no_tail : (nodes : List (Option Node)) (name : ℕ) (node : ℕ → ℕ) (to : ℕ) → IsTail nodes name node 0 to to []
+  no_tail nodes name node to = record {
+    leads = refl;
+    count = refl;
+    once = tt;
+    placed = λ v h. absurd (both_ways false refl h);
+    inside = λ l h. absurd (both_ways false refl h);
+  }
+
+  module _ (nodes : List (Option Node)) (name : ℕ) (node : ℕ → ℕ) (k at to : ℕ) (path : List ℕ) (tail : IsTail nodes name node k at to path)
+      (start : ℕ) (front : List ℕ) (inner : IsEvenPath links nodes (node k) start at front) (held : is_in (defects_at nodes (node k)) start ≡ true)
+      (apart : (i v : ℕ) → i < k → is_in (defects_at nodes (node i)) v ≡ true → is_in (defects_at nodes (node k)) v ≡ true → ⊥)
+      (child : AreWithin (defects_at nodes (node k)) (defects_at nodes name)) where
+    in_front : (v : ℕ) → is_in (start ∷ reached links start front) v ≡ true → is_in (defects_at nodes (node k)) v ≡ true
+    in_front v h =
+        elim (or_cases (start == v) (is_in (reached links start front) v) h) [
+          | inl e ↦ ap (is_in (defects_at nodes (node k))) (sym (eqb-true start v e)) ∙ held
+          | inr e ↦ inner.within v e
+        ]
+
+    both_reach : reached links start (front ++ path) ≡ reached links start front ++ reached links at path
+    both_reach = reached_append start front at path inner.leads
+
+    both_lead : Leads links start (front ++ path) to
+    both_lead = leads_append start front at path to inner.leads tail.leads
+
+    both_once : AreDifferent (start ∷ reached links start (front ++ path))
+    both_once =
+        let P : List ℕ → Type 0 = λ r. AreDifferent (start ∷ r) in
+        subst P (sym both_reach)
+        (different_append (start ∷ reached links start front) (reached links at path) inner.once tail.once
+        (λ v a b. let r = tail.placed v b in apart r.0 v r.1 r.2 (in_front v a)))
+
+    both_inside : (l : ℕ) → is_in (front ++ path) l ≡ true → IsLinkIn nodes name l
+    both_inside l h =
+        elim (in_either front path l h) [
+          | inl a ↦ let r = inner.inside l a in (r.0, (λ v i. child v (r.1 v i)), r.2)
+          | inr b ↦ tail.inside l b
+        ]
+
+    both_placed : (v : ℕ) → is_in (start ∷ reached links start (front ++ path)) v ≡ true → (i : ℕ) × (i < k + 1) × (is_in (defects_at nodes (node i)) v ≡ true)
+    both_placed v h =
+        elim (in_either (start ∷ reached links start front) (reached links at path) v (ap (λ r. is_in (start ∷ r) v) (sym both_reach) ∙ h)) [
+          | inl a ↦ (k, omega arith, in_front v a)
+          | inr b ↦ let r = tail.placed v b in (r.0, omega (arith, r.1), r.2)
+        ]
+
+    both_even : k % 2 ≡ 0 → length (front ++ path) % 2 ≡ 0
+    both_even e = omega (arith, length-append front path, inner.even, tail.count)
+
+    -- the whole path
+    pub path_from : k % 2 ≡ 0 → ((i : ℕ) → i < k → AreWithin (defects_at nodes (node i)) (defects_at nodes name))
+        → IsEvenPath links nodes name start to (front ++ path)
+    path_from e children = record {
+      leads = both_lead;
+      even = both_even e;
+      once = both_once;
+      within = λ v h.
+          elim (in_either (reached links start front) (reached links at path) v (ap (λ r. is_in r v) (sym both_reach) ∙ h)) [
+            | inl a ↦ child v (inner.within v a)
+            | inr b ↦ let r = tail.placed v b in children r.0 r.1 v r.2
+          ];
+      inside = both_inside;
+    }
+
+    -- a longer last part, that comes over a link
+    pub tail_more : (l outer : ℕ) → AreEnds links nodes l (node k) (node (k + 1)) start outer → has_link (cycle_at nodes name) l ≡ true
+        → IsTail nodes name node (k + 1) outer to (l ∷ (front ++ path))
+    tail_more l outer ends has = record {
+      leads = (ends.end, let P : ℕ → Type 0 = λ w. Leads links w (front ++ path) to in subst P (sym ends.other) both_lead);
+      count = omega (arith, length-append front path, inner.even, tail.count);
+      once = let P : ℕ → Type 0 = λ w. AreDifferent (w ∷ reached links w (front ++ path)) in subst P (sym ends.other) both_once;
+      placed = λ v h. both_placed v (ap (λ w. is_in (w ∷ reached links w (front ++ path)) v) (sym ends.other) ∙ h);
+      inside = λ m h.
+          elim (or_cases (l == m) (is_in (front ++ path) m) h) [
+            | inl e ↦ (name, (λ v i. i), ap (has_link (cycle_at nodes name)) (sym (eqb-true l m e)) ∙ has)
+            | inr e ↦ both_inside m e
+          ];
+    }
+
+  module _ (nodes : List (Option Node)) where
+    pub become_split : (xs ys : List Leg) (q : List ℕ) → AllBecome links nodes (xs ++ ys) q
+        → (qx : List ℕ) × (qy : List ℕ) × (q ≡ qy ++ qx) × AllBecome links nodes xs qx × AllBecome links nodes ys qy
+    become_split [] ys q h = ([], q, sym (append-nil q), refl, h)
+    become_split (x ∷ xs) ys q h =
+        let r = become_split xs ys h.1 h.4 in
+        (r.0 ++ h.0, r.1, h.2 ∙ (ap (λ f. f ++ h.0) r.2 ∙ append_assoc r.1 r.0 h.0), (h.0, r.0, refl, h.3, r.3), r.4)
+
+    pub become_both : (xs ys : List Leg) (qx qy : List ℕ) → AllBecome links nodes xs qx → AllBecome links nodes ys qy → AllBecome links nodes (xs ++ ys) (qy ++ qx)
+    become_both [] ys qx qy g h =
+        let e : qy ++ qx ≡ qy = ap (λ q. qy ++ q) g ∙ append-nil qy in
+        let P : List ℕ → Type 0 = AllBecome links nodes ys in
+        subst P (sym e) h
+    become_both (x ∷ xs) ys qx qy g h =
+        (g.0, qy ++ g.1, ap (λ q. qy ++ q) g.2 ∙ sym (append_assoc qy g.1 g.0), g.3, become_both xs ys g.1 qy g.4 h)
+
+    pub become_one : (x : Leg) (q : List ℕ) → AllBecome links nodes (x ∷ []) q → Becomes links nodes x q
+    become_one x q h =
+        let e : q ≡ h.0 = h.2 ∙ ap (λ f. f ++ h.0) h.4 in
+        let P : List ℕ → Type 0 = Becomes links nodes x in
+        subst P (sym e) h.3
+
+    pub one_become : (x : Leg) (q : List ℕ) → Becomes links nodes x q → AllBecome links nodes (x ∷ []) q
+    one_become x q h = (q, [], refl, h, refl)
+
+    pub legs_both : (xs ys : List Leg) → AreLegs nodes xs → AreLegs nodes ys → AreLegs nodes (xs ++ ys)
+    legs_both [] ys g h = h
+    legs_both (x ∷ xs) ys g h = (g.0, legs_both xs ys g.1 h)
+
+    pub legs_split : (xs ys : List Leg) → AreLegs nodes (xs ++ ys) → AreLegs nodes xs × AreLegs nodes ys
+    legs_split [] ys h = (tt, h)
+    legs_split (x ∷ xs) ys h = let r = legs_split xs ys h.1 in ((h.0, r.0), r.1)
+
+    -- no link leads from a defect to itself
+    pub stays : (name d : ℕ) → IsEvenPath links nodes name d d []
+    stays name d = record {
+      leads = refl;
+      even = refl;
+      once = (refl, tt);
+      within = λ v h. absurd (both_ways false refl h);
+      inside = λ l h. absurd (both_ways false refl h);
+    }

@@ -1,0 +1,8 @@
+pub mod Forest
+pub mod Items
+pub mod Legs
+pub mod Links
+pub mod Nodes
+pub mod Paths
+pub mod Rows
+pub mod Shapes

@@ -1,0 +1,97 @@
+ghost use Rattle.std.specs.Prelude.{◌≡◌, ◌≢◌, [], ◌∷◌, None};
+ghost use Rattle.fb_blossoms.specs.Items.{Item};
+
+use crate::{CycleStep, NodeId};
+use std::marker::Model;
+
+/// What a node is made of.
+#[derive(Drop)]
+pub enum Shape {
+    Leaf(u32),
+    Cycle(Vec<CycleStep>),
+}
+
+/// A node as it is stored. Contracts see it as the item that it is.
+#[derive(Drop)]
+pub struct Entry {
+    /// The blossom in whose cycle the node is.
+    parent: Option<NodeId>,
+    /// How many nodes were made before it.
+    made: u64,
+    shape: Shape,
+}
+
+impl Model for Entry {
+    ghost use Rattle.fb_blossoms.specs.Items.{Item, item_code};
+    ghost use Rattle.fb_blossoms.specs.Shapes.{own_of, cycle_of};
+
+    ghost Value = { Item };
+
+    ghost coded = { item_code };
+
+    ghost view = { λ e. record { parent = e.parent; made = e.made; own = own_of e.shape; cycle = cycle_of e.shape } };
+}
+
+impl Entry {
+    /// An outer node of one defect.
+    pub fn leaf(made: u64, defect: u32) -> Entry
+        ensures { result ≡ record { parent = None; made = made; own = defect ∷ []; cycle = [] } }
+    {
+        Entry {
+            parent: None,
+            made,
+            shape: Shape::Leaf(defect),
+        }
+    }
+
+    /// An outer node of a cycle.
+    pub fn blossom(made: u64, cycle: Vec<CycleStep>) -> Entry
+        ensures { result ≡ record { parent = None; made = made; own = []; cycle = cycle.items } }
+    {
+        Entry {
+            parent: None,
+            made,
+            shape: Shape::Cycle(cycle),
+        }
+    }
+
+    pub fn parent(&self) -> Option<NodeId>
+        ensures { result ≡ self.now.parent }
+    {
+        self.parent
+    }
+
+    pub fn made(&self) -> u64
+        ensures { result ≡ self.now.made }
+    {
+        self.made
+    }
+
+    /// The steps of the cycle; none for a leaf.
+    pub fn cycle(&self) -> &[CycleStep]
+        ensures { result.now ≡ self.now.cycle }
+    {
+        match &self.shape {
+            Shape::Leaf(_) => &[],
+            Shape::Cycle(cycle) => cycle.as_slice(),
+        }
+    }
+
+    /// Puts the node under the parent; with none it is outer.
+    pub fn set_parent(&mut self, parent: Option<NodeId>)
+        ensures { self.new ≡ record self.old { parent = parent } }
+    {
+        self.parent = parent;
+    }
+
+    /// The cycle of a blossom.
+    pub fn into_cycle(self) -> Vec<CycleStep>
+        requires { self.cycle ≢ [] }
+        ensures { result.items ≡ self.cycle }
+    {
+        match self.shape {
+            Shape::Leaf(_) => unreachable!(),
+            Shape::Cycle(cycle) => cycle,
+        }
+    }
+}

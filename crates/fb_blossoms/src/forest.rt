@@ -1,0 +1,100 @@
+ghost use Rattle.std.specs.Prelude.{◌≡◌, ◌+◌, ◌^◌, ◌<◌, ◌==◌, ℕ, if◌then◌else◌, option_map, true, suc, get_or, None, OnOk, vec_len};
+ghost use Rattle.slab.specs.Slab.{HasRoomFor, get};
+ghost use Rattle.fb_blossoms.specs.Nodes.{is_on};
+ghost use Rattle.fb_blossoms.specs.Forest.{Climbs, IsForest, IsTopOf, IsChildOver, is_kept, parent_at, steps_at, under};
+
+use crate::entry::Entry;
+use crate::{CycleStep, NoMemory, NodeId};
+use slab::Slab;
+
+/// The blossom in whose cycle the node is.
+pub fn parent_of(nodes: &Slab<Entry>, node: NodeId) -> Option<NodeId>
+    ensures { result ≡ parent_at nodes.now.slots node }
+{
+    nodes.get(node as usize)?.parent()
+}
+
+/// Puts the nodes of the cycle under the parent; with none they are outer.
+pub fn put_under(nodes: &mut Slab<Entry>, cycle: &[CycleStep], parent: Option<NodeId>)
+    ensures slots { (x : ℕ) → get nodes.new x ≡ (if is_on cycle.now x then option_map (under parent) (get nodes.old x) else get nodes.old x) }
+    ensures room { HasRoomFor nodes.old 1 → HasRoomFor nodes.new 1 }
+    ensures key { nodes.new.vacant_key ≡ nodes.old.vacant_key }
+{
+    for step in cycle {
+        put_one_under(nodes, step.node, parent);
+    }
+}
+
+fn put_one_under(nodes: &mut Slab<Entry>, node: NodeId, parent: Option<NodeId>)
+    ensures slots { (x : ℕ) → get nodes.new x ≡ (if node == x then option_map (under parent) (get nodes.old x) else get nodes.old x) }
+    ensures room { HasRoomFor nodes.old 1 → HasRoomFor nodes.new 1 }
+    ensures key { nodes.new.vacant_key ≡ nodes.old.vacant_key }
+{
+    if let Some(entry) = nodes.get_mut(node as usize) {
+        entry.set_parent(parent);
+    }
+}
+
+/// The outer node round the node.
+pub fn top_of(nodes: &Slab<Entry>, made: u64, node: NodeId) -> NodeId
+    requires forest { IsForest nodes.now.slots made }
+    requires live { is_kept nodes.now.slots node ≡ true }
+    ensures { IsTopOf nodes.now.slots node result }
+{
+    let mut top = node;
+    while let Some(parent) = parent_of(nodes, top) {
+        top = parent;
+    }
+    top
+}
+
+/// The child of the node on the way up to it from a leaf below it.
+pub fn child_over(nodes: &Slab<Entry>, made: u64, node: NodeId, leaf: NodeId) -> NodeId
+    requires forest { IsForest nodes.now.slots made }
+    requires below { (k : ℕ) × Climbs nodes.now.slots (suc k) leaf node }
+    ensures { IsChildOver nodes.now.slots node leaf result }
+{
+    let mut child = leaf;
+    while let Some(parent) = parent_of(nodes, child) {
+        if parent == node {
+            return child;
+        }
+        child = parent;
+    }
+    unreachable!()
+}
+
+/// The leaf of the defect.
+pub fn leaf_of(leaves: &[Option<NodeId>], defect: u32) -> Option<NodeId>
+    ensures { result ≡ get_or leaves.now defect None }
+{
+    match leaves.get(defect as usize) {
+        Some(leaf) => *leaf,
+        None => None,
+    }
+}
+
+/// Makes the list long enough to have the place, with none at the new places.
+pub fn make_place(leaves: &mut Vec<Option<NodeId>>, place: usize) -> Result<(), NoMemory>
+    requires { place + 1 < 2 ^ 64 }
+    ensures same { (k : ℕ) → get_or leaves.new.items k None ≡ get_or leaves.old.items k None }
+    ensures room { OnOk result (place < vec_len leaves.new) }
+{
+    if place < leaves.len() {
+        return Ok(());
+    }
+    let Ok(()) = leaves.resize(place + 1, None) else {
+        return Err(NoMemory);
+    };
+    Ok(())
+}
+
+/// The steps of the node's cycle; none for a leaf.
+pub fn cycle_of(nodes: &Slab<Entry>, node: NodeId) -> &[CycleStep]
+    ensures { result.now ≡ steps_at nodes.now.slots node }
+{
+    match nodes.get(node as usize) {
+        Some(entry) => entry.cycle(),
+        None => &[],
+    }
+}

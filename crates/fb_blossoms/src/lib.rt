@@ -1,0 +1,13 @@
+//! Nested odd cycles of defects: the blossoms of the matching algorithm (Edmonds 1965).
+
+#![tactic(auto)]
+
+pub mod blossoms;
+mod entry;
+mod forest;
+mod legs;
+#[cfg(test)]
+mod tests;
+
+pub use blossoms::Blossoms;
+pub use fb_links::{CycleStep, LinkId, Links, NoMemory, NodeId};
