@@ -13,9 +13,15 @@ pub mod Opening
 pub mod Parities
 pub mod Paths
 pub mod Samples
+pub mod SearchBlossoms
+pub mod SearchLayers
+pub mod SearchOpenings
+pub mod SearchWitnesses
+pub mod Searches
 pub mod Signed
 pub mod Sprouts
 pub mod Steps
+pub mod Trees
 pub mod Turns
 pub mod Witnesses
 pub mod Works

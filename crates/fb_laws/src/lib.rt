@@ -8,6 +8,8 @@ pub mod differences;
 pub mod ends;
 pub mod forming;
 pub mod fusion;
+pub mod joining;
+pub mod layers;
 pub mod lengths;
 pub mod links;
 pub mod measures;
@@ -15,7 +17,9 @@ pub mod merging;
 pub mod opening;
 pub mod parities;
 pub mod paths;
+pub mod searches;
 pub mod signed;
+pub mod splitting;
 pub mod sprouts;
 pub mod steps;
 pub mod turns;
@@ -28,6 +32,8 @@ pub use differences::cuts_differ;
 pub use ends::{crossed_once, ends_add};
 pub use forming::matching_formed;
 pub use fusion::{heights_fused, links_fused, parts_matched, seam_forgotten};
+pub use joining::search_joined;
+pub use layers::{search_layers, search_lowers};
 pub use lengths::greatest_step;
 pub use links::{
     empty_layer, joined_is_tight, meeting_is_tight, potential_parity, source_walk_kept,
@@ -37,7 +43,11 @@ pub use merging::{matchings_merged, seam_opened};
 pub use opening::{last_level, levels};
 pub use parities::{attached_parity, stepped_parity};
 pub use paths::{alternating_path, augmented};
+pub use searches::{
+    search_attached, search_begins, search_ended, search_stepped, search_tree, search_witness,
+};
 pub use signed::{shifted_parity, signed_duality, signed_solution};
+pub use splitting::{matching_opened, search_opened};
 pub use sprouts::beginning;
 pub use steps::{step_keeps_packing, step_loads, steps_add};
 pub use turns::{step_in_turns, turns_allowed};

@@ -1,0 +1,301 @@
+-- A search in which layers without value come and go.
+use Rattle.std.proofs.Common.{ℕ, ◌≡◌, ◌+◌, ◌%◌, ◌<◌, ◌==◌, ◌&&◌, ◌||◌, ◌⊎◌, inl, inr, not, Bool, true, false, cond, List, [], ◌∷◌, ◌++◌, length, All, Option, Some, None, IsSome, get_or, refl, sym, ap, ◌∙◌, subst, arith}
+use Rattle.std.specs.List.{find, list_any}
+use Rattle.std.specs.Option.{option_map}
+use Rattle.std.proofs.lemmas.Bool.{both_ways, false≢true, cases_Bool, eqb-true, false_from_ne_true}
+use Rattle.std.proofs.lemmas.List.Elements.{All-head, All-tail, All-from_get_or}
+use Rattle.std.proofs.lemmas.List.Sums.{sum_by-append}
+use Rattle.fb_graph.specs.Parity.{is_in}
+use Rattle.fb_graph.specs.Problem.{Problem, crosses}
+use Rattle.fb_graph.specs.Laws.{Link}
+use Rattle.fb_graph.specs.Dual.{Node, IsDual, all_cuts, leaves, cover_of, is_live, is_outer, node_at, no_node, top_at, layers_of, defects_of, change_at, taller}
+use Rattle.fb_graph.specs.declared.parts.Cut.{Cut}
+use Rattle.fb_graph.proofs.CutSums.{weigh, weigh-taller}
+use Rattle.fb_graph.proofs.Members.{is_in_push, is_in_pushed, or_false}
+use Rattle.fb_graph.proofs.Nodes.{defects_of-taller}
+use Rattle.fb_graph.proofs.Sets.{member_of_odd}
+use Rattle.fb_graph.proofs.Sums.{sum_same}
+use Rattle.fb_laws.specs.Counts.{as_count}
+use Rattle.fb_laws.specs.Covers.{HaveParity}
+use Rattle.fb_laws.specs.Ends.{ends_in}
+use Rattle.fb_laws.specs.Opening.{EndAtDefects}
+use Rattle.fb_laws.specs.Works.{AreMatchedLinks, IsSetOf, IsMatching, without}
+use Rattle.fb_laws.specs.Trees.{Entry, Connects, IsTree, grown_links, paired_links, tree_names}
+use Rattle.fb_laws.specs.SearchLayers.{AreAlike, SearchAlike, TallerAlike, TallerCovers, TallerCovered}
+use Rattle.fb_laws.proofs.Crossings.{cover_found, cover_holds}
+use Rattle.fb_laws.proofs.EndSums.{ends_of_one}
+use Rattle.fb_laws.proofs.FusedParts.{not_held}
+use Rattle.fb_laws.proofs.MatchedNodes.{odd_top}
+use Rattle.fb_laws.proofs.SearchTrees.{cover_set, matched_named, all_before}
+
+same_bool : (a b : Bool) → (a ≡ true → b ≡ true) → (b ≡ true → a ≡ true) → a ≡ b
+same_bool true b there back = sym (there refl)
+same_bool false true there back = back refl
+same_bool false false there back = refl
+
+-- sets that agree at the links' ends have as many
+ends_agree : (a b : List ℕ) (links : List Link)
+    → All (λ l. (is_in a l.from ≡ is_in b l.from) × (is_in a l.to ≡ is_in b l.to)) links → ends_in a links ≡ ends_in b links
+ends_agree a b links same =
+    sum_same (ends_of_one a) (ends_of_one b) links
+    (λ i d less.
+    ap (λ x. as_count x + as_count (is_in a (get_or links i d).to)) (same i d less).0
+    ∙ ap (λ x. as_count (is_in b (get_or links i d).from) + as_count x) (same i d less).1)
+
+module _ (p : Problem) (nodes others : List Node) (alike : AreAlike nodes others) (old : IsDual p nodes) (dual : IsDual p others) where
+  before : (d : ℕ) → is_in (leaves others) d ≡ true → is_in (leaves nodes) d ≡ true
+  before d leaf = ap (λ l. is_in l d) (sym alike.defects) ∙ leaf
+
+  cover_before : (d name : ℕ) → is_in (leaves others) d ≡ true → cover_of others d ≡ Some name → cover_of nodes d ≡ Some name
+  cover_before d name leaf cover = sym (alike.covers d (before d leaf)) ∙ cover
+
+  parity_alike : (test : ℕ → Bool) (r : ℕ) → HaveParity test nodes r → HaveParity test others r
+  parity_alike test r parity d name leaf cover passing =
+      ap (λ h. h % 2) (alike.heights d) ∙ parity d name (before d leaf) (cover_before d name leaf cover) passing
+
+  links_alike : (links : List Link) → AreMatchedLinks p nodes links → AreMatchedLinks p others links
+  links_alike links are = record {
+    tight = λ i d less. record {
+      walk = (are.tight i d less).walk;
+      tight = (are.tight i d less).tight ∙ sym (alike.loads (record { first = (get_or links i d).from; second = (get_or links i d).to; weight = 0 }));
+    };
+    own = are.own;
+    at_defects = subst (λ l. EndAtDefects p l links) (sym alike.defects) are.at_defects;
+  }
+
+  -- a connected end is a defect, whose cover stays
+  moved : (l : Link) (a b : ℕ) → (p.is_real l.from ≡ true → is_in (leaves nodes) l.from ≡ true) × (p.is_real l.to ≡ true → is_in (leaves nodes) l.to ≡ true)
+      → Connects nodes l a b → Connects others l a b
+  moved l a b (at_from, at_to) connects = step connects
+    where
+      kept : (v name : ℕ) → (p.is_real v ≡ true → is_in (leaves nodes) v ≡ true) → cover_of nodes v ≡ Some name → cover_of others v ≡ Some name
+      kept v name at cover = alike.covers v (at (old.real v (subst IsSome (sym cover) refl))) ∙ cover
+
+      step : Connects nodes l a b → Connects others l a b
+      step (inl (from, to)) = inl (kept l.from a at_from from, kept l.to b at_to to)
+      step (inr (to, from)) = inr (kept l.to a at_to to, kept l.from b at_from from)
+
+  tree_alike : (root : ℕ) (tree : List Entry) → EndAtDefects p (leaves nodes) (grown_links tree)
+      → EndAtDefects p (leaves nodes) (paired_links tree) → IsTree nodes root tree → IsTree others root tree
+  tree_alike root [] grown paired joined = tt
+  tree_alike root (e ∷ es) grown paired (parent, tree, matched, joined) = (
+    parent,
+    moved e.tree e.parent e.minus (All-head At e.tree (grown_links es) grown) tree,
+    moved e.matched e.minus e.plus (All-head At e.matched (paired_links es) paired) matched,
+    tree_alike root es (All-tail At e.tree (grown_links es) grown) (All-tail At e.matched (paired_links es) paired) joined,
+  )
+    where
+      At : Link → Type 0
+      At l = (p.is_real l.from ≡ true → is_in (leaves nodes) l.from ≡ true) × (p.is_real l.to ≡ true → is_in (leaves nodes) l.to ≡ true)
+
+  matching_alike : (links : List Link) (unmatched : List ℕ) → IsMatching p nodes links unmatched → IsMatching p others links unmatched
+  matching_alike links unmatched work = record {
+    dual = dual;
+    defects = λ v real. work.defects v real ∙ ap (λ l. is_in l v) (sym alike.defects);
+    links_are = links_alike links work.links_are;
+    matched =
+        All-from_get_or (λ n. is_outer others n.name ≡ true → ends_in n.top.vertices links + as_count (is_in unmatched n.name) ≡ 1) others no_node
+        matched;
+    one_parity = λ d e name leaf among cover covered.
+        ap (λ h. h % 2) (alike.heights d)
+        ∙ (work.one_parity d e name (before d leaf) (before e among) (cover_before d name leaf cover) (cover_before e name among covered)
+        ∙ ap (λ h. h % 2) (sym (alike.heights e)));
+  }
+    where
+      matched : (i : ℕ) → i < length others → is_outer others (node_at others i).name ≡ true
+          → ends_in (node_at others i).top.vertices links + as_count (is_in unmatched (node_at others i).name) ≡ 1
+      matched i less outer =
+          ap (λ m. m + as_count (is_in unmatched (node_at others i).name))
+          (ends_agree (node_at others i).top.vertices (top_at nodes (node_at others i).name) links
+          (λ j d below. (
+            same (get_or links j d).from (work.links_are.at_defects j d below).0,
+            same (get_or links j d).to (work.links_are.at_defects j d below).1,
+          )))
+          ∙ matched_named p nodes links unmatched name (top_at nodes name) work set
+        where
+          name : ℕ
+          name = (node_at others i).name
+
+          member : (u : ℕ) × (is_in (node_at others i).top.vertices u ≡ true) × (is_in (leaves others) u ≡ true)
+          member = member_of_odd (is_in (leaves others)) (node_at others i).top.vertices (odd_top p others i dual less).odd
+
+          set : IsSetOf nodes (node_at others i).name (top_at nodes (node_at others i).name)
+          set =
+              (cover_set nodes member.0 (node_at others i).name old.names
+              (cover_before member.0 (node_at others i).name member.2
+              (cover_found others member.0 dual.apart i no_node less outer member.1))).0
+
+          -- a vertex is in both or in neither
+          same : (v : ℕ) → (p.is_real v ≡ true → is_in (leaves nodes) v ≡ true)
+              → is_in (node_at others i).top.vertices v ≡ is_in (top_at nodes (node_at others i).name) v
+          same v at = step (cases_Bool (p.is_real v)) set
+            where
+              step : (p.is_real v ≡ true) ⊎ (p.is_real v ≡ false) → IsSetOf nodes (node_at others i).name (top_at nodes (node_at others i).name)
+                  → is_in (node_at others i).top.vertices v ≡ is_in (top_at nodes (node_at others i).name) v
+              step (inl real) (j, below, outer_j, named, is) =
+                  same_bool _ _
+                  (λ within.
+                  (cover_set nodes v (node_at others i).name old.names
+                  (sym (alike.covers v (at real)) ∙ cover_found others v dual.apart i no_node less outer within)).1)
+                  (λ within.
+                  cover_holds others v (node_at others i).name dual.names
+                  (alike.covers v (at real)
+                  ∙ (cover_found nodes v old.apart j no_node below (ap (is_outer nodes) named ∙ outer_j) (ap (λ s. is_in s v) is ∙ within)
+                  ∙ ap Some named)) i less refl)
+              step (inr unreal) (j, below, outer_j, named, is) =
+                  not_held p (node_at others i).top.vertices v (odd_top p others i dual less).real unreal
+                  ∙ sym (ap (λ s. is_in s v) (sym is) ∙ not_held p (node_at nodes j).top.vertices v (odd_top p nodes j old below).real unreal)
+
+pub search_alike : SearchAlike
+search_alike p nodes others tree rest unmatched root r alike dual state = record {
+  matching = matching_alike p nodes others alike state.matching.dual dual (paired_links tree ++ rest) unmatched state.matching;
+  root_is = (
+    state.root_is.0,
+    ap (λ l. is_in l state.root_is.0) alike.defects ∙ state.root_is.1,
+    alike.covers state.root_is.0 state.root_is.1 ∙ state.root_is.2,
+  );
+  open_root = state.open_root;
+  names = state.names;
+  joined =
+      tree_alike p nodes others alike state.matching.dual dual root tree state.grown.at_defects
+      (all_before (λ l. (p.is_real l.from ≡ true → is_in (leaves nodes) l.from ≡ true) × (p.is_real l.to ≡ true → is_in (leaves nodes) l.to ≡ true))
+      (paired_links tree) rest state.matching.links_are.at_defects)
+      state.joined;
+  grown = links_alike p nodes others alike state.matching.dual dual (grown_links tree) state.grown;
+  parity = parity_alike p nodes others alike state.matching.dual dual (is_in (tree_names root tree)) r state.parity;
+  even = parity_alike p nodes others alike state.matching.dual dual (is_in (without root unmatched)) 0 state.even;
+}
+
+weigh_pieces : (test : List ℕ → Bool) (n : Node) (ns : List Node) → weigh test (all_cuts (n ∷ ns)) ≡ weigh test (layers_of n) + weigh test (all_cuts ns)
+weigh_pieces test n ns = sum_by-append (λ (c : Cut). cond (test c.vertices) c.value 0) (layers_of n) (all_cuts ns)
+
+weigh_changed : (test : List ℕ → Bool) (name v : ℕ) (nodes : List Node) → weigh test (all_cuts (change_at name (taller v) nodes)) ≡ weigh test (all_cuts nodes)
+weigh_changed test name v [] = refl
+weigh_changed test name v (n ∷ ns) =
+    omega (
+      arith,
+      weigh_pieces test (cond (n.name == name) (taller v n) n) (change_at name (taller v) ns),
+      weigh_pieces test n ns,
+      weigh_changed test name v ns,
+      one (n.name == name),
+    )
+  where
+    one : (b : Bool) → weigh test (layers_of (cond b (taller v n) n)) ≡ weigh test (layers_of n)
+    one true = weigh-taller test v n
+    one false = refl
+
+pub leaves_taller : (name v : ℕ) (nodes : List Node) → leaves (change_at name (taller v) nodes) ≡ leaves nodes
+leaves_taller name v [] = refl
+leaves_taller name v (n ∷ ns) =
+    ap (λ l. l ++ leaves (change_at name (taller v) ns)) (one (n.name == name)) ∙ ap (λ l. defects_of n ++ l) (leaves_taller name v ns)
+  where
+    one : (b : Bool) → defects_of (cond b (taller v n) n) ≡ defects_of n
+    one true = defects_of-taller v n
+    one false = refl
+
+pub outer_taller : (name v n : ℕ) (nodes : List Node) → is_outer (change_at name (taller v) nodes) n ≡ is_outer nodes n
+outer_taller name v n nodes = ap not (same nodes)
+  where
+    one : (b : Bool) (m : Node) → (cond b (taller v m) m).children ≡ m.children
+    one true m = refl
+    one false m = refl
+
+    same : (ns : List Node) → list_any (λ m. is_in m.children n) (change_at name (taller v) ns) ≡ list_any (λ m. is_in m.children n) ns
+    same [] = refl
+    same (m ∷ ms) =
+        ap (λ l. is_in l n || list_any (λ x. is_in x.children n) (change_at name (taller v) ms)) (one (m.name == name) m)
+        ∙ ap (λ b. is_in m.children n || b) (same ms)
+
+abbrev name_found : (ℕ → Bool) → ℕ → List Node → Option ℕ
+name_found outer u ns = option_map (λ n. n.name) (find (λ n. outer n.name && is_in n.top.vertices u) ns)
+
+found_same : (outer other : ℕ → Bool) → ((n : ℕ) → outer n ≡ other n) → (name v u : ℕ) → (v == u) ≡ false → (ns : List Node)
+    → name_found outer u (change_at name (taller v) ns) ≡ name_found other u ns
+found_same outer other alike name v u differs [] = refl
+found_same outer other alike name v u differs (n ∷ ns) = step (n.name == name) (found_same outer other alike name v u differs ns)
+  where
+    old : Node → Bool
+    old m = outer m.name && is_in m.top.vertices u
+
+    new : Node → Bool
+    new m = other m.name && is_in m.top.vertices u
+
+    pick : (b : Bool) (m : Node) → m.name ≡ n.name → name_found outer u (change_at name (taller v) ns) ≡ name_found other u ns
+        → option_map (λ x. x.name) (cond b (Some m) (find old (change_at name (taller v) ns)))
+        ≡ option_map (λ x. x.name) (cond b (Some n) (find new ns))
+    pick true m named ih = ap Some named
+    pick false m named ih = ih
+
+    step : (b : Bool) → name_found outer u (change_at name (taller v) ns) ≡ name_found other u ns
+        → option_map (λ x. x.name) (cond (old (cond b (taller v n) n)) (Some (cond b (taller v n) n)) (find old (change_at name (taller v) ns)))
+        ≡ option_map (λ x. x.name) (cond (new n) (Some n) (find new ns))
+    step true ih =
+        ap (λ c. option_map (λ x. x.name) (cond (c && is_in (n.top.vertices ++ v ∷ []) u) (Some (taller v n)) (find old (change_at name (taller v) ns)))) (alike n.name)
+        ∙ (ap (λ c. option_map (λ x. x.name) (cond (other n.name && c) (Some (taller v n)) (find old (change_at name (taller v) ns))))
+        (is_in_push n.top.vertices v u ∙ (ap (λ c. is_in n.top.vertices u || c) differs ∙ or_false (is_in n.top.vertices u)))
+        ∙ pick (new n) (taller v n) refl ih)
+    step false ih =
+        ap (λ c. option_map (λ x. x.name) (cond (c && is_in n.top.vertices u) (Some n) (find old (change_at name (taller v) ns)))) (alike n.name)
+        ∙ pick (new n) n refl ih
+
+pub taller_covers : TallerCovers
+taller_covers nodes name v u differs =
+    found_same (is_outer (change_at name (taller v) nodes)) (is_outer nodes) (λ n. outer_taller name v n nodes) name v u differs nodes
+
+found_here : (outer other : ℕ → Bool) → ((n : ℕ) → outer n ≡ other n) → (name v : ℕ) → outer name ≡ true → (ns : List Node) → is_live ns name ≡ true
+    → name_found other v ns ≡ None → name_found outer v (change_at name (taller v) ns) ≡ Some name
+found_here outer other alike name v is [] live none = absurd (false≢true live)
+found_here outer other alike name v is (n ∷ ns) live none =
+    step (cases_Bool (n.name == name)) (cases_Bool (other n.name && is_in n.top.vertices v)) (found_here outer other alike name v is ns)
+  where
+    old : Node → Bool
+    old m = outer m.name && is_in m.top.vertices v
+
+    new : Node → Bool
+    new m = other m.name && is_in m.top.vertices v
+
+    step : ((n.name == name) ≡ true) ⊎ ((n.name == name) ≡ false) → (new n ≡ true) ⊎ (new n ≡ false)
+        → (is_live ns name ≡ true → name_found other v ns ≡ None → name_found outer v (change_at name (taller v) ns) ≡ Some name)
+        → option_map (λ x. x.name) (cond (old (cond (n.name == name) (taller v n) n)) (Some (cond (n.name == name) (taller v n) n)) (find old (change_at name (taller v) ns)))
+        ≡ Some name
+    step (inl here) test ih =
+        ap (λ b. option_map (λ x. x.name) (cond (old (cond b (taller v n) n)) (Some (cond b (taller v n) n)) (find old (change_at name (taller v) ns)))) here
+        ∙ (ap (λ b. option_map (λ x. x.name) (cond (b && is_in (n.top.vertices ++ v ∷ []) v) (Some (taller v n)) (find old (change_at name (taller v) ns))))
+        (ap outer (eqb-true n.name name here) ∙ is)
+        ∙ (ap (λ b. option_map (λ x. x.name) (cond b (Some (taller v n)) (find old (change_at name (taller v) ns)))) (is_in_pushed n.top.vertices v)
+        ∙ ap Some (eqb-true n.name name here)))
+    step (inr there) (inl test) ih =
+        let at : option_map (λ x. x.name) (cond (new n) (Some n) (find new ns)) ≡ Some n.name =
+        ap (λ b. option_map (λ x. x.name) (cond b (Some n) (find new ns))) test in
+        cc
+    step (inr there) (inr test) ih =
+        ap (λ b. option_map (λ x. x.name) (cond (old (cond b (taller v n) n)) (Some (cond b (taller v n) n)) (find old (change_at name (taller v) ns)))) there
+        ∙ (ap (λ b. option_map (λ x. x.name) (cond b (Some n) (find old (change_at name (taller v) ns))))
+        (ap (λ b. b && is_in n.top.vertices v) (alike n.name) ∙ test)
+        ∙ ih (ap (λ b. b || is_live ns name) (sym there) ∙ live)
+        (ap (λ b. option_map (λ x. x.name) (cond b (Some n) (find new ns))) (sym test) ∙ none))
+
+pub taller_covered : TallerCovered
+taller_covered nodes name v live outer none =
+    found_here (is_outer (change_at name (taller v) nodes)) (is_outer nodes) (λ n. outer_taller name v n nodes) name v
+    (outer_taller name v name nodes ∙ outer) nodes live none
+
+pub taller_alike : TallerAlike
+taller_alike nodes name v no_leaf = (
+  record {
+    defects = leaves_taller name v nodes;
+    loads = λ e. weigh_changed (λ s. crosses s e) name v nodes;
+    heights = λ u. weigh_changed (λ s. is_in s u) name v nodes;
+    covers = λ d leaf. taller_covers nodes name v d (other d leaf);
+  },
+  record {
+    defects = sym (leaves_taller name v nodes);
+    loads = λ e. sym (weigh_changed (λ s. crosses s e) name v nodes);
+    heights = λ u. sym (weigh_changed (λ s. is_in s u) name v nodes);
+    covers = λ d leaf. sym (taller_covers nodes name v d (other d (ap (λ l. is_in l d) (sym (leaves_taller name v nodes)) ∙ leaf)));
+  },
+)
+  where
+    other : (d : ℕ) → is_in (leaves nodes) d ≡ true → (v == d) ≡ false
+    other d leaf =
+        false_from_ne_true (v == d) (λ same. both_ways (is_in (leaves nodes) v) no_leaf (ap (is_in (leaves nodes)) (eqb-true v d same) ∙ leaf))

@@ -1,0 +1,40 @@
+//! The state of a search, which each step keeps until the root is matched.
+
+ghost use Rattle.fb_laws.specs.Searches.{SearchBegins, SearchPermuted, SearchRoles, RestOutside, SearchLevel, SearchPath, SearchStepped, SearchAttached, SearchEnded, SearchMet, SearchReleased};
+ghost use Rattle.fb_laws.specs.SearchWitnesses.{SearchWitness};
+
+/// A search begins with an unmatched node; the order of links beside the tree doesn't count.
+pub fn search_begins()
+    ensures begins { SearchBegins }
+    ensures permuted { SearchPermuted }
+{}
+
+/// Of the state follow the tree's roles, its paths, and that each link gains as much as it loses by a step.
+pub fn search_tree()
+    ensures roles { SearchRoles }
+    ensures outside { RestOutside }
+    ensures level { SearchLevel }
+    ensures path { SearchPath }
+{}
+
+/// A step of the tree keeps the search.
+pub fn search_stepped()
+    ensures { SearchStepped }
+{}
+
+/// Two nodes attached to the tree keep the search.
+pub fn search_attached()
+    ensures { SearchAttached }
+{}
+
+/// Augmenting ends the search: the root is matched.
+pub fn search_ended()
+    ensures boundary { SearchEnded }
+    ensures met { SearchMet }
+    ensures released { SearchReleased }
+{}
+
+/// That the premises of these laws can be met, on a line.
+pub fn search_witness()
+    ensures { SearchWitness }
+{}
