@@ -9,6 +9,8 @@ pub mod Lengths
 pub mod Links
 pub mod Measures
 pub mod Merging
+pub mod Moves
+pub mod Nests
 pub mod Opening
 pub mod Parities
 pub mod Paths

@@ -14,6 +14,7 @@ pub mod lengths;
 pub mod links;
 pub mod measures;
 pub mod merging;
+pub mod moves;
 pub mod opening;
 pub mod parities;
 pub mod paths;
@@ -40,6 +41,9 @@ pub use links::{
 };
 pub use measures::search_ends;
 pub use merging::{matchings_merged, seam_opened};
+pub use moves::{
+    nest_begins, nest_joined, nest_split, nest_stepped, nest_taken_up, nest_uncovered,
+};
 pub use opening::{last_level, levels};
 pub use parities::{attached_parity, stepped_parity};
 pub use paths::{alternating_path, augmented};

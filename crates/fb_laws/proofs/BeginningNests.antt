@@ -1,0 +1,64 @@
+-- Nodes of one defect each are a nest.
+use Rattle.std.proofs.Common.{◌≡◌, ◌==◌, inl, true, false, List, [], ◌∷◌, map, All, AllPairs, get_or, refl, sym, ap, ◌∙◌, subst, arith}
+use Rattle.std.proofs.lemmas.Bool.{both_ways, eq-eqb, eqb-true}
+use Rattle.std.proofs.lemmas.List.Elements.{All-nil, All-map}
+use Rattle.std.proofs.lemmas.List.Kept.{AllPairs-cons}
+use Rattle.fb_graph.specs.Parity.{is_in}
+use Rattle.fb_graph.specs.Certificate.{AreDistinct}
+use Rattle.fb_graph.specs.Printed.{DifferAsSets}
+use Rattle.fb_graph.specs.Dual.{AreApart, is_empty, is_live}
+use Rattle.fb_graph.proofs.Members.{or_false}
+use Rattle.fb_laws.specs.Ends.{AreAllApart}
+use Rattle.fb_laws.specs.Nests.{IsFormed, IsFilled, AreJoinedLater, HasSources, child_sets}
+use Rattle.fb_laws.specs.Moves.{NestBegins}
+use Rattle.fb_laws.specs.Sprouts.{Sprout, node_of, nodes_of, vertices_of}
+use Rattle.fb_laws.proofs.SproutStates.{cut_of, cuts_are, leaves_are, beginning_is_dual, vertex_in}
+
+joined_later : (sprouts : List Sprout) → AreJoinedLater (nodes_of sprouts)
+joined_later [] = tt
+joined_later (s ∷ ss) = (
+  All-map (λ m. is_in [] m.name ≡ false) node_of (s ∷ ss) (λ i d less. refl),
+  All-map (λ m. AreApart [] m.children) node_of ss (λ i d less v h. absurd (both_ways (is_in [] v) refl h)),
+  joined_later ss,
+)
+
+differ : (sprouts : List Sprout) → AreDistinct (vertices_of sprouts) → AllPairs DifferAsSets (map cut_of sprouts)
+differ [] distinct = λ i j d less below. absurd (omega arith)
+differ (s ∷ ss) distinct =
+    AllPairs-cons DifferAsSets (cut_of s) (map cut_of ss)
+    (All-map (DifferAsSets (cut_of s)) cut_of ss
+    (λ i d less. (
+      s.vertex,
+      λ same.
+          both_ways (is_in (vertices_of ss) s.vertex) distinct.0
+          (ap (is_in (vertices_of ss))
+          (sym (eqb-true (get_or ss i d).vertex s.vertex
+          (sym (or_false ((get_or ss i d).vertex == s.vertex))
+          ∙ (sym same ∙ (or_false (s.vertex == s.vertex) ∙ eq-eqb s.vertex s.vertex refl)))))
+          ∙ vertex_in ss i d less),
+    )))
+    (differ ss distinct.1)
+
+pub nest_begins : NestBegins
+nest_begins p sprouts names vertices real zero_ = record {
+  dual = beginning_is_dual p sprouts names vertices real zero_;
+  forest = record {
+    formed = All-map IsFormed node_of sprouts (λ i d less. inl (record { none = refl; defect = refl }));
+    live = All-map (λ n. All (λ c. is_live (nodes_of sprouts) c ≡ true) n.children) node_of sprouts
+        (λ i d less. All-nil (λ c. is_live (nodes_of sprouts) c ≡ true));
+    joined = joined_later sprouts;
+    filled = All-map (IsFilled (nodes_of sprouts)) node_of sprouts (λ i d less some v. absurd (both_ways (is_empty []) some refl));
+    parted = All-map (λ n. AreAllApart (child_sets (nodes_of sprouts) n)) node_of sprouts (λ i d less. tt);
+  };
+  defects = subst AreDistinct (sym (leaves_are sprouts)) vertices;
+  sources = All-map (λ n. HasSources (nodes_of sprouts) n.top.vertices) node_of sprouts
+      (λ i d less v within. (
+        v,
+        within,
+        ap (λ l. is_in l v) (leaves_are sprouts)
+            ∙ (ap (is_in (vertices_of sprouts)) (sym (eqb-true (get_or sprouts i d).vertex v (sym (or_false ((get_or sprouts i d).vertex == v)) ∙ within)))
+            ∙ vertex_in sprouts i d less),
+        refl,
+      ));
+  differ = subst (AllPairs DifferAsSets) (sym (cuts_are sprouts)) (differ sprouts vertices);
+}

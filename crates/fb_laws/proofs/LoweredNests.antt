@@ -1,0 +1,145 @@
+-- A top layer taken off keeps a nest.
+use Rattle.std.proofs.Common.{ℕ, ◌≡◌, ◌-◌, ◌≤◌, ◌==◌, ◌⊎◌, inl, inr, true, false, List, [], ◌∷◌, ◌++◌, length, All, refl, sym, ap, ◌∙◌, subst}
+use Rattle.std.proofs.lemmas.Bool.{both_ways, false_from_ne_true, or_cases, or_left, eqb-true}
+use Rattle.std.proofs.lemmas.List.Elements.{All-map}
+use Rattle.fb_graph.specs.Parity.{differ, is_in, is_odd_count}
+use Rattle.fb_graph.specs.Problem.{Problem, with_defects}
+use Rattle.fb_graph.specs.Certificate.{AreDistinct, IsOddCut}
+use Rattle.fb_graph.specs.Dual.{Node, AreGrown, IsWithin, all_cuts, layers_of, leaves, first_vertices, height_of}
+use Rattle.fb_graph.proofs.Members.{is_in_push}
+use Rattle.fb_graph.proofs.Nodes.{All-pieces, All-top, All-below}
+use Rattle.fb_graph.proofs.ParitySums.{odd-append}
+use Rattle.fb_laws.specs.Nests.{IsNest, HasSources}
+use Rattle.fb_laws.specs.Moves.{lower, uncovered, MayUncover, NestUncovered}
+use Rattle.fb_laws.proofs.Among.{IsAmong, All_among, among_All, apart_among}
+use Rattle.fb_laws.proofs.ChangedNodes.{change, by_name, kept_by, placed_among, layer_between, regrouped, last_split, first_below, grown_below, grown_last}
+use Rattle.fb_laws.proofs.InsertedCuts.{IsInserted, AreFit, removed_fit, same_weigh, sources_same}
+use Rattle.fb_laws.proofs.MappedNodes.{AreKept, names_mapped, forest_mapped, apart_mapped, mapped_leaves}
+use Rattle.fb_laws.proofs.NestParts.{grove_of, fit_of, nest_of}
+use Rattle.fb_laws.proofs.Places.{IsPlaced, placed, cuts_at}
+
+module _ (p : Problem) (nodes : List Node) (name : ℕ) (may : MayUncover nodes name) (nest : IsNest p nodes) where
+  at : IsPlaced nodes name
+  at = placed nodes name nest.dual.names may.live
+
+  there : IsAmong at.node nodes
+  there = placed_among nodes name at
+
+  bare : (n : Node) → IsAmong n nodes → n.name ≡ name → (1 ≤ length n.below) × (n.top.value ≡ 0)
+  bare n a = All_among (λ m. m.name ≡ name → (1 ≤ length m.below) × (m.top.value ≡ 0)) nodes may.bare n a
+
+  layers : (n : Node) → IsAmong n nodes → n.name ≡ name → layers_of (lower n) ≡ n.below
+  layers n a e = last_split n.below n.top (bare n a e).0
+
+  insertion : IsInserted at.node.top (all_cuts (uncovered name nodes)) (all_cuts nodes)
+  insertion = record {
+    before = all_cuts at.before ++ at.node.below;
+    after = all_cuts at.after;
+    old_is =
+        ap all_cuts (at.changed lower)
+        ∙ (cuts_at at.before at.after (lower at.node)
+        ∙ (ap (λ l. all_cuts at.before ++ (l ++ all_cuts at.after)) (layers at.node there at.named)
+        ∙ regrouped (all_cuts at.before) at.node.below (all_cuts at.after)));
+    new_is =
+        ap all_cuts at.whole
+        ∙ (cuts_at at.before at.after at.node ∙ layer_between (all_cuts at.before) at.node.below (all_cuts at.after) at.node.top);
+    bare = (bare at.node there at.named).1;
+  }
+
+  kept : AreKept (change name lower) nodes
+  kept =
+      kept_by name lower nodes (λ n. refl) (λ n. refl)
+      (λ n a e. ap first_vertices (layers n a e) ∙ sym (first_below n.below n.top (bare n a e).0)) may.outer
+
+  same_leaves : leaves (uncovered name nodes) ≡ leaves nodes
+  same_leaves = mapped_leaves (change name lower) kept.children nodes kept.first
+
+  height : (v : ℕ) → height_of (all_cuts (uncovered name nodes)) v ≡ height_of (all_cuts nodes) v
+  height v = sym (same_weigh (λ s. is_in s v) at.node.top (all_cuts (uncovered name nodes)) (all_cuts nodes) insertion)
+
+  fit : AreFit p (leaves (uncovered name nodes)) (all_cuts (uncovered name nodes))
+  fit =
+      subst (λ l. AreFit p l (all_cuts (uncovered name nodes))) (sym same_leaves)
+      (removed_fit p (leaves nodes) at.node.top (all_cuts (uncovered name nodes)) (all_cuts nodes) insertion (fit_of p nodes nest))
+
+  grown_at : (n : Node) → IsAmong n nodes → AreGrown (n.below ++ n.top ∷ [])
+  grown_at n a = All_among (λ m. AreGrown (layers_of m)) nodes nest.dual.grown n a
+
+  -- the vertex more of the top layer
+  added : (n : Node) → IsAmong n nodes → n.name ≡ name → (x : ℕ) × (n.top.vertices ≡ (lower n).top.vertices ++ x ∷ [])
+  added n a e =
+      grown_last (lower n).below (lower n).top n.top
+      (subst (λ l. AreGrown (l ++ n.top ∷ [])) (sym (layers n a e)) (grown_at n a))
+
+  shrinks : (n : Node) → IsAmong n nodes → n.name ≡ name → IsWithin (lower n).top.vertices n.top.vertices
+  shrinks n a e v h =
+      let (x, more) = added n a e in
+      ap (λ s. is_in s v) more ∙ (is_in_push (lower n).top.vertices x v ∙ or_left (is_in (lower n).top.vertices v) (x == v) h)
+
+  within : (n : Node) → IsAmong n nodes → IsWithin (change name lower n).top.vertices n.top.vertices
+  within n a = by_name (λ m. IsWithin m.top.vertices n.top.vertices) name lower n (shrinks n a) (λ other v h. h)
+
+  odd : (n : Node) → IsAmong n nodes → All (IsOddCut (with_defects p (leaves nodes))) (n.below ++ n.top ∷ [])
+  odd n a =
+      All_among (λ m. All (IsOddCut (with_defects p (leaves nodes))) (layers_of m)) nodes
+      (All-pieces (IsOddCut (with_defects p (leaves nodes))) layers_of nodes nest.dual.packing.odd) n a
+
+  -- it isn't a defect, since both layers hold an odd number
+  no_defect : (n : Node) → IsAmong n nodes → n.name ≡ name → (x : ℕ) → n.top.vertices ≡ (lower n).top.vertices ++ x ∷ [] → is_in (leaves nodes) x ≡ false
+  no_defect n a e x more =
+      false_from_ne_true (is_in (leaves nodes) x)
+      (λ leaf.
+      both_ways (is_odd_count (is_in (leaves nodes)) n.top.vertices)
+      (ap (is_odd_count (is_in (leaves nodes))) more
+      ∙ (odd-append (is_in (leaves nodes)) (lower n).top.vertices (x ∷ [])
+      ∙ (ap (λ b. differ b (differ (is_in (leaves nodes) x) false)) below
+      ∙ ap (λ b. differ true (differ b false)) leaf)))
+      (All-top (IsOddCut (with_defects p (leaves nodes))) n.below n.top (odd n a)).odd)
+    where
+      below : is_odd_count (is_in (leaves nodes)) (lower n).top.vertices ≡ true
+      below =
+          (All-top (IsOddCut (with_defects p (leaves nodes))) (lower n).below (lower n).top
+          (subst (All (IsOddCut (with_defects p (leaves nodes)))) (sym (layers n a e))
+          (All-below (IsOddCut (with_defects p (leaves nodes))) n.below n.top (odd n a)))).odd
+
+  sources_at : (n : Node) → IsAmong n nodes → HasSources nodes n.top.vertices
+  sources_at n a = All_among (λ m. HasSources nodes m.top.vertices) nodes nest.sources n a
+
+  lowered_sources : (n : Node) → IsAmong n nodes → n.name ≡ name → HasSources nodes (lower n).top.vertices
+  lowered_sources n a e v h =
+      let (d, holds, leaf, parity) = sources_at n a v (shrinks n a e v h) in
+      let (x, more) = added n a e in
+      (d, pick d leaf x more (or_cases (is_in (lower n).top.vertices d) (x == d) (sym (is_in_push (lower n).top.vertices x d) ∙ (ap (λ s. is_in s d) (sym more) ∙ holds))), leaf, parity)
+    where
+      pick : (d : ℕ) → is_in (leaves nodes) d ≡ true → (x : ℕ) → n.top.vertices ≡ (lower n).top.vertices ++ x ∷ []
+          → (is_in (lower n).top.vertices d ≡ true) ⊎ ((x == d) ≡ true) → is_in (lower n).top.vertices d ≡ true
+      pick d leaf x more (inl k) = k
+      pick d leaf x more (inr k) =
+          absurd (both_ways (is_in (leaves nodes) x) (no_defect n a e x more) (ap (is_in (leaves nodes)) (eqb-true x d k) ∙ leaf))
+
+  nest_kept : IsNest p (uncovered name nodes)
+  nest_kept =
+      nest_of p (uncovered name nodes) fit (record {
+        names = names_mapped (change name lower) nodes kept (grove_of p nodes nest);
+        grown = All-map (λ n. AreGrown (layers_of n)) (change name lower) nodes
+            (among_All (λ n. AreGrown (layers_of (change name lower n))) nodes
+            (λ n a.
+            by_name (λ m. AreGrown (layers_of m)) name lower n
+            (λ e. subst AreGrown (sym (layers n a e)) (grown_below n.below n.top (grown_at n a))) (λ other. grown_at n a)));
+        forest = forest_mapped (change name lower) nodes kept (grove_of p nodes nest);
+      })
+      (apart_mapped (change name lower) nodes kept (grove_of p nodes nest)
+      (λ m n a b other out_m out_n v h.
+      false_from_ne_true (is_in (change name lower n).top.vertices v)
+      (λ k.
+      both_ways (is_in n.top.vertices v)
+      (apart_among nodes nest.dual.names nest.dual.apart m n a b other out_m out_n v (within m a v h)) (within n b v k))))
+      (subst AreDistinct (sym same_leaves) nest.defects)
+      (All-map (λ n. HasSources (uncovered name nodes) n.top.vertices) (change name lower) nodes
+      (among_All (λ n. HasSources (uncovered name nodes) (change name lower n).top.vertices) nodes
+      (λ n a.
+      sources_same nodes (uncovered name nodes) (change name lower n).top.vertices same_leaves height
+      (by_name (λ m. HasSources nodes m.top.vertices) name lower n (lowered_sources n a) (λ other. sources_at n a)))))
+
+pub nest_uncovered : NestUncovered
+nest_uncovered p nodes name may nest = nest_kept p nodes name may nest

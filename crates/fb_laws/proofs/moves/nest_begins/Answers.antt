@@ -1,0 +1,5 @@
+use Rattle.fb_laws.proofs.BeginningNests.{nest_begins}
+use Rattle.fb_laws.proofs.moves.nest_begins.Goals as goal
+
+pub returns : goal.returns
+returns c = nest_begins

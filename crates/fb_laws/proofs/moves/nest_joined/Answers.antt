@@ -1,0 +1,5 @@
+use Rattle.fb_laws.proofs.JoinedNests.{nest_joined}
+use Rattle.fb_laws.proofs.moves.nest_joined.Goals as goal
+
+pub returns : goal.returns
+returns c = nest_joined

@@ -1,0 +1,5 @@
+use Rattle.fb_laws.proofs.RaisedNests.{nest_taken_up}
+use Rattle.fb_laws.proofs.moves.nest_taken_up.Goals as goal
+
+pub returns : goal.returns
+returns c = nest_taken_up

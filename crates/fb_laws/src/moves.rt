@@ -1,0 +1,33 @@
+//! The moves of a dual state with blossoms, and that they keep it.
+
+ghost use Rattle.fb_laws.specs.Moves.{NestJoined, NestSplit, NestUncovered, NestStepped, NestTakenUp, NestBegins};
+
+/// An odd number of outer nodes joined keep the dual state.
+pub fn nest_joined()
+    ensures { NestJoined }
+{}
+
+/// An outer node with one layer of value 0 split into those that it joined keeps the dual state.
+pub fn nest_split()
+    ensures { NestSplit }
+{}
+
+/// An outer node whose top layer, one of several, has value 0 may lose it: its vertex is no defect.
+pub fn nest_uncovered()
+    ensures { NestUncovered }
+{}
+
+/// A step that every edge and minus node allows keeps the dual state, where some edge leaves each plus node.
+pub fn nest_stepped()
+    ensures { NestStepped }
+{}
+
+/// The outer end of an edge without residue taken up by the node at its other end keeps the dual state, where weights are even.
+pub fn nest_taken_up()
+    ensures { NestTakenUp }
+{}
+
+/// Nodes of one defect each, without values, are such a state.
+pub fn nest_begins()
+    ensures { NestBegins }
+{}
