@@ -16,3 +16,6 @@ pub use book::{Book, Claim};
 pub use entries::{Entry, Kind, Status};
 pub use laws::{complete_history, entries_of_item, progress};
 pub use permit::{Board, Permit, Piece};
+
+#[cfg(test)]
+mod tests;
