@@ -16,7 +16,8 @@ use Rattle.fb_regions.specs.declared.marks.Mark.{Mark}
 use Rattle.fb_regions.specs.Walks.{IsWalk}
 use Rattle.fb_links.specs.Walks.{walk_weight}
 use Rattle.fb_graph.specs.Dual.{Node, layers_of, cover_of, leaves, no_node, node_at}
-use Rattle.fb_regions.specs.Moves.{IsSourceWalk, has_real_end}
+use Rattle.fb_graph.specs.Laws.{has_real_end}
+use Rattle.fb_regions.specs.Moves.{IsSourceWalk}
 use Rattle.fb_regions.specs.Kept.{CameBy, IsAfter, IsKept, mark_of, is_at}
 use Rattle.fb_regions.proofs.Covers.{mark_from_covered}
 

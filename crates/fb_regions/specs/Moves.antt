@@ -1,8 +1,9 @@
 -- What the calls on a dual state ask for and give.
-use Rattle.std.specs.Prelude.{ℕ, ◌≡◌, ◌+◌, ◌||◌, Bool, true, List, All, is_some, unwrap_or, if◌then◌else◌}
+use Rattle.std.specs.Prelude.{ℕ, ◌≡◌, ◌+◌, true, List, All, is_some, unwrap_or, if◌then◌else◌}
 use Rattle.fb_graph.specs.Parity.{is_in}
 use Rattle.fb_graph.specs.Problem.{Problem, edge_at}
 use Rattle.fb_graph.specs.declared.parts.Edge.{Edge}
+use Rattle.fb_graph.specs.Laws.{has_real_end}
 use Rattle.fb_links.specs.declared.walk.Step.{Step}
 use Rattle.fb_graph.specs.Dual.{Node, all_cuts, leaves, cover_of, height_of, taller, change_at}
 use Rattle.fb_regions.specs.Walks.{IsWalk}
@@ -26,10 +27,6 @@ pub record IsOver (p : Problem) (nodes : List Node) (k : ℕ) (s : Step) : Type 
   pub to : s.to ≡ outer_end nodes (edge_at p.edges k)
   pub edge : s.edge ≡ k
   pub weight : s.weight ≡ (edge_at p.edges k).weight
-
--- an end of the edge is real
-abbrev pub has_real_end : Problem → Edge → Bool
-has_real_end p e = p.is_real e.first || p.is_real e.second
 
 -- a walk from a defect to the vertex, in the same nodes as it, as long as the values of the sets that hold the defect
 -- are more than those that hold the vertex
