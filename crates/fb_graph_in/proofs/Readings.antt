@@ -5,7 +5,7 @@ use Rattle.std.specs.Str.{is_utf8}
 use Rattle.std.proofs.lemmas.Str.{is_utf8-from_IsUtf8, IsUtf8-from_is_utf8}
 use Rattle.serde_json.specs.Data.{Data}
 use Rattle.serde_json.specs.Read.{read}
-use Rattle.fb_graph_in.specs.GraphText.{value_of}
+use Rattle.fb_graph_in.specs.JsonText.{value_of}
 
 pub value_of_some : (bytes : List ℕ) (d : Data) → IsUtf8 bytes → read bytes ≡ Some d → value_of bytes ≡ Some d
 value_of_some bytes d utf8 e = rw (is_utf8-from_IsUtf8 bytes utf8) e

@@ -2,7 +2,8 @@
 
 ghost use Rattle.std.specs.Prelude.{◌≡◌, ◌≢◌, IfOk, IfErr};
 ghost use Rattle.serde_json.specs.View.{view, items_view};
-ghost use Rattle.fb_graph_in.specs.GraphText.{whole_of, edge_of, natural_of, entries_of};
+ghost use Rattle.fb_graph_in.specs.GraphText.{whole_of, edge_of, entries_of};
+ghost use Rattle.fb_graph_in.specs.JsonText.{natural_of};
 
 use crate::faults::{Place, TextFault};
 use serde_json::Value;
