@@ -3,14 +3,14 @@ use Rattle.std.proofs.Common.{◌≡◌, ℕ, inl, inr, List, [], Option, Result
 use Rattle.std.proofs.KnownBytes.{Appends-nil}
 use Rattle.fb_run.specs.RunEndings.{AsksAsTold, EndsRight, cause_of_fault, names_of}
 use Rattle.fb_run.specs.Judging.{AsksFront, Named}
-use Rattle.fb_run.specs.Seen.{IsFaultOf}
-use Rattle.fb_run.specs.Words.{Errand, check, decode}
-use Rattle.fb_run.specs.declared.ending.Cause.{Cause}
-use Rattle.fb_run.specs.declared.ending.Cause.TheVariants.{NoMemory, Usage}
-use Rattle.fb_run.specs.declared.ending.UsageKind.{UsageKind}
-use Rattle.fb_run.specs.declared.ending.UsageKind.TheVariants as usage
-use Rattle.fb_run.specs.declared.words.WordsFault.{WordsFault}
-use Rattle.fb_run.specs.declared.words.WordsFault.TheVariants as fault
+use Rattle.fb_words.specs.Seen.{IsFaultOf}
+use Rattle.fb_words.specs.Words.{Errand, check, decode}
+use Rattle.fb_endings.specs.declared.ending.Cause.{Cause}
+use Rattle.fb_endings.specs.declared.ending.Cause.TheVariants.{NoMemory, Usage}
+use Rattle.fb_words.specs.declared.usage.UsageKind.{UsageKind}
+use Rattle.fb_words.specs.declared.usage.UsageKind.TheVariants as usage
+use Rattle.fb_words.specs.declared.words.WordsFault.{WordsFault}
+use Rattle.fb_words.specs.declared.words.WordsFault.TheVariants as fault
 use Rattle.fb_run.proofs.Inputs.{asks_none}
 
 by_kind : (read : Result Errand UsageKind) (kind : UsageKind) (named : Named) (out : Option (List ℕ)) → read ≡ Err kind

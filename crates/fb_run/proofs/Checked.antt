@@ -12,11 +12,11 @@ use Rattle.fb_run.specs.CheckEndings.{ChecksFront, ChecksOn, WritesCheck}
 use Rattle.fb_run.specs.Checks.{bad_count, check_cause, check_front, check_head, check_last, verdict_lines}
 use Rattle.fb_run.specs.Judges.{EndsCheck, FirstFrom, FirstOf, JudgesAll, JudgesFirst, JudgesInto}
 use Rattle.fb_run.specs.Judging.{Gathers, GathersFrom, HasFirstShots, HasShots, Named, most_shots}
-use Rattle.fb_run.specs.Words.{Checking}
+use Rattle.fb_words.specs.Words.{Checking}
 use Rattle.fb_run.specs.declared.checking.Judged.{Judged}
-use Rattle.fb_run.specs.declared.ending.Cause.{Cause}
-use Rattle.fb_run.specs.declared.ending.Cause.TheVariants.{Bad, Done}
-use Rattle.fb_run.specs.declared.ending.Refusal.TheVariants as refusal
+use Rattle.fb_endings.specs.declared.ending.Cause.{Cause}
+use Rattle.fb_endings.specs.declared.ending.Cause.TheVariants.{Bad, Done}
+use Rattle.fb_endings.specs.declared.ending.Refusal.TheVariants as refusal
 use Rattle.fb_run.specs.declared.shots.ShotsEnd.{ShotsEnd}
 use Rattle.fb_run.specs.declared.shots.ShotsEnd.TheVariants as end
 use Rattle.fb_run.proofs.Finishing.{holds_more}

@@ -11,11 +11,11 @@ use Rattle.fb_run.specs.Decoding.{cause_of, last_line, report_front}
 use Rattle.fb_run.specs.Endings.{EndsOn, WritesFront, WritesReport}
 use Rattle.fb_run.specs.Judging.{Gathers, HasFirstShots, HasShots, Holds, IsReadInPart, Named}
 use Rattle.fb_run.specs.Rows.{Counts, IsShotRow, counts_of}
-use Rattle.fb_run.specs.Words.{Decoding}
+use Rattle.fb_words.specs.Words.{Decoding}
 use Rattle.fb_run.specs.Writes.{EndsReport, WritesFirstRows, WritesRows, counts_in}
-use Rattle.fb_run.specs.declared.ending.Cause.{Cause}
-use Rattle.fb_run.specs.declared.ending.Cause.TheVariants.{Done, Odd, Over}
-use Rattle.fb_run.specs.declared.ending.Refusal.TheVariants as refusal
+use Rattle.fb_endings.specs.declared.ending.Cause.{Cause}
+use Rattle.fb_endings.specs.declared.ending.Cause.TheVariants.{Done, Odd, Over}
+use Rattle.fb_endings.specs.declared.ending.Refusal.TheVariants as refusal
 use Rattle.fb_run.specs.declared.report.Tally.{Tally}
 use Rattle.fb_run.specs.declared.shots.ShotsEnd.{ShotsEnd}
 use Rattle.fb_run.specs.declared.shots.ShotsEnd.TheVariants as end

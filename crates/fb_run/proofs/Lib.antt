@@ -1,4 +1,3 @@
-pub mod Commands
 pub mod Inputs
 pub mod Solved
 pub mod Writing

@@ -12,10 +12,10 @@ use Rattle.fb_verify.specs.declared.verdicts.Verdict.{Verdict}
 use Rattle.fb_run.specs.Checks.{AreVerdicts, bad_count, check_cause, check_front, check_text}
 use Rattle.fb_run.specs.Judges.{FirstOf}
 use Rattle.fb_run.specs.Judging.{HasShots, Holds, IsGraphText, IsNoGraph, IsReadInPart, Named}
-use Rattle.fb_run.specs.Words.{Checking}
-use Rattle.fb_run.specs.declared.ending.Cause.{Cause}
-use Rattle.fb_run.specs.declared.ending.Cause.TheVariants.{Done, Odd, Over, Bad, Refused, ReadFault, WriteFault, NoMemory, Usage}
-use Rattle.fb_run.specs.declared.ending.Refusal.TheVariants as refusal
+use Rattle.fb_words.specs.Words.{Checking}
+use Rattle.fb_endings.specs.declared.ending.Cause.{Cause}
+use Rattle.fb_endings.specs.declared.ending.Cause.TheVariants.{Done, Odd, Over, Bad, Refused, ReadFault, WriteFault, NoMemory, Usage}
+use Rattle.fb_endings.specs.declared.ending.Refusal.TheVariants as refusal
 
 -- the text is that of the report
 abbrev pub IsReportText : Report → List ℕ → Type 0

@@ -4,8 +4,8 @@ use Rattle.std.specs.List.{AllZip}
 use Rattle.fb_graph.specs.Limits.{DecodingGraph}
 use Rattle.fb_graph.specs.declared.parts.Row.{Row}
 use Rattle.fb_report.specs.Texts.{line}
-use Rattle.fb_run.specs.declared.ending.Cause.{Cause}
-use Rattle.fb_run.specs.declared.ending.Cause.TheVariants.{Bad, Done}
+use Rattle.fb_endings.specs.declared.ending.Cause.{Cause}
+use Rattle.fb_endings.specs.declared.ending.Cause.TheVariants.{Bad, Done}
 use Rattle.fb_verify.specs.Verdicts.{IsVerdict}
 use Rattle.fb_verify.specs.declared.verdicts.Verdict.{Verdict}
 use Rattle.fb_verify.specs.declared.verdicts.Verdict.TheVariants.{Good, EdgeOutOfRange, EdgesNotRising, WrongParity, WeightNotSum, CutEmpty, VertexOutOfRange, CutsNotRising, CutHoldsVirtual, CutEven, Overloaded, SumDiffers, OddWrong, Over}

@@ -4,8 +4,8 @@ use Rattle.fb_graph.specs.declared.parts.Row.{Row}
 use Rattle.fb_ports.specs.Causes.{Appends}
 use Rattle.fb_report.specs.Texts.{head_text, rows_text, done_text}
 use Rattle.fb_run.specs.Rows.{Counts, counts_of}
-use Rattle.fb_run.specs.declared.ending.Cause.{Cause}
-use Rattle.fb_run.specs.declared.ending.Cause.TheVariants.{Done, Odd, Over}
+use Rattle.fb_endings.specs.declared.ending.Cause.{Cause}
+use Rattle.fb_endings.specs.declared.ending.Cause.TheVariants.{Done, Odd, Over}
 
 -- the last line after so many rows: it counts one unit for each correction
 abbrev pub last_line : ℕ → Counts → List ℕ

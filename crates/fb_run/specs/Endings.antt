@@ -8,10 +8,10 @@ use Rattle.fb_shots.specs.declared.answer.ShotFault.{ShotFault}
 use Rattle.fb_run.specs.Decoding.{cause_of, report_front, report_text}
 use Rattle.fb_run.specs.Judging.{HasFirstShots, HasShots, Holds, IsGraphText, IsNoGraph, IsReadInPart, Named}
 use Rattle.fb_run.specs.Rows.{AreRows, counts_of}
-use Rattle.fb_run.specs.Words.{Decoding}
-use Rattle.fb_run.specs.declared.ending.Cause.{Cause}
-use Rattle.fb_run.specs.declared.ending.Cause.TheVariants.{Done, Odd, Over, Bad, Refused, ReadFault, WriteFault, NoMemory, Usage}
-use Rattle.fb_run.specs.declared.ending.Refusal.TheVariants as refusal
+use Rattle.fb_words.specs.Words.{Decoding}
+use Rattle.fb_endings.specs.declared.ending.Cause.{Cause}
+use Rattle.fb_endings.specs.declared.ending.Cause.TheVariants.{Done, Odd, Over, Bad, Refused, ReadFault, WriteFault, NoMemory, Usage}
+use Rattle.fb_endings.specs.declared.ending.Refusal.TheVariants as refusal
 
 -- The shots were read to their end, and a whole report of them was written.
 pub record WritesReport (named : Named) (errand : Decoding) (g : DecodingGraph) (old new : Option (List ℕ)) (cause : Cause) : Type 0 where

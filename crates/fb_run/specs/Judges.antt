@@ -9,9 +9,9 @@ use Rattle.fb_verify.specs.declared.verdicts.Verdict.{Verdict}
 use Rattle.fb_run.specs.Checks.{AreVerdicts, bad_count, check_cause, check_last, is_bad, verdict_line, verdict_lines}
 use Rattle.fb_run.specs.Judging.{HasFirstShots, Holds, Named}
 use Rattle.fb_run.specs.declared.checking.Judged.{Judged}
-use Rattle.fb_run.specs.declared.ending.Cause.{Cause}
-use Rattle.fb_run.specs.declared.ending.Cause.TheVariants.{Refused, ReadFault, WriteFault}
-use Rattle.fb_run.specs.declared.ending.Refusal.TheVariants as refusal
+use Rattle.fb_endings.specs.declared.ending.Cause.{Cause}
+use Rattle.fb_endings.specs.declared.ending.Cause.TheVariants.{Refused, ReadFault, WriteFault}
+use Rattle.fb_endings.specs.declared.ending.Refusal.TheVariants as refusal
 use Rattle.fb_run.specs.declared.shots.ShotsEnd.{ShotsEnd}
 use Rattle.fb_run.specs.declared.shots.ShotsEnd.TheVariants as end
 

@@ -1,8 +1,3 @@
-pub mod Command
-pub mod Words
-pub mod Faults
-pub mod Causes
-pub mod Seen
 pub mod Judging
 pub mod Rows
 pub mod Decoding

@@ -4,13 +4,13 @@ use Rattle.fb_ports.specs.Causes.{Appends}
 use Rattle.fb_run.specs.CheckEndings.{CheckEnds}
 use Rattle.fb_run.specs.Endings.{DecodeEnds}
 use Rattle.fb_run.specs.Judging.{AsksFront, Named}
-use Rattle.fb_run.specs.Words.{Errand, check, decode}
-use Rattle.fb_run.specs.declared.ending.Cause.{Cause}
-use Rattle.fb_run.specs.declared.ending.Cause.TheVariants.{NoMemory, Usage}
-use Rattle.fb_run.specs.declared.ending.UsageKind.{UsageKind}
-use Rattle.fb_run.specs.declared.ending.UsageKind.TheVariants as usage
-use Rattle.fb_run.specs.declared.words.WordsFault.{WordsFault}
-use Rattle.fb_run.specs.declared.words.WordsFault.TheVariants as fault
+use Rattle.fb_words.specs.Words.{Errand, check, decode}
+use Rattle.fb_endings.specs.declared.ending.Cause.{Cause}
+use Rattle.fb_endings.specs.declared.ending.Cause.TheVariants.{NoMemory, Usage}
+use Rattle.fb_words.specs.declared.usage.UsageKind.{UsageKind}
+use Rattle.fb_words.specs.declared.usage.UsageKind.TheVariants as usage
+use Rattle.fb_words.specs.declared.words.WordsFault.{WordsFault}
+use Rattle.fb_words.specs.declared.words.WordsFault.TheVariants as fault
 
 -- the end of what the words ask for
 abbrev pub ErrandEnds : Errand → Named → Option (List ℕ) → Option (List ℕ) → Cause → Type 0

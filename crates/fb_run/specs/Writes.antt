@@ -7,9 +7,9 @@ use Rattle.fb_ports.specs.Causes.{Appends, AppendsFront}
 use Rattle.fb_report.specs.Texts.{rows_text}
 use Rattle.fb_run.specs.Decoding.{cause_of, last_line}
 use Rattle.fb_run.specs.Rows.{AreRows, Counts, counts_of}
-use Rattle.fb_run.specs.declared.ending.Cause.{Cause}
-use Rattle.fb_run.specs.declared.ending.Cause.TheVariants.{Refused, ReadFault, WriteFault}
-use Rattle.fb_run.specs.declared.ending.Refusal.TheVariants as refusal
+use Rattle.fb_endings.specs.declared.ending.Cause.{Cause}
+use Rattle.fb_endings.specs.declared.ending.Cause.TheVariants.{Refused, ReadFault, WriteFault}
+use Rattle.fb_endings.specs.declared.ending.Refusal.TheVariants as refusal
 use Rattle.fb_run.specs.declared.report.Tally.{Tally}
 use Rattle.fb_run.specs.declared.shots.ShotsEnd.{ShotsEnd}
 use Rattle.fb_run.specs.declared.shots.ShotsEnd.TheVariants as end

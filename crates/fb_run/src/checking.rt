@@ -11,19 +11,19 @@ ghost use Rattle.fb_run.specs.Endings.{IsReadToItsEnd, MayFollowReadFault};
 ghost use Rattle.fb_run.specs.Judges.{EndsCheck, FirstFrom, FirstOf, JudgesAll, JudgesFirst, JudgesInto, JudgesNext};
 ghost use Rattle.fb_run.specs.Judging.{Asks, AsksFront, Gathers, GathersFrom, Holds, IsReadOutIfNamed, most_shots};
 ghost use Rattle.fb_run.specs.NoReports.{IfNoReport};
-ghost use Rattle.fb_run.specs.Seen.{seen_checking};
+ghost use Rattle.fb_words.specs.Seen.{seen_checking};
 
 use crate::check_text::{is_bad, put_check_head, put_check_last, put_verdict};
-use crate::ending::{Cause, Refusal};
 use crate::graphs::{NoGraph, read_graph_file, read_named};
 use crate::outbox::Outbox;
 use crate::report::RowsFault;
 use crate::shots::ShotsEnd;
-use crate::words::Checking;
+use fb_endings::{Cause, Refusal};
 use fb_graph::{Graph, NoMemory, Row, Shot};
 use fb_ports::{Files, ReadError, Sink};
 use fb_shots::{Format, ShotStream, Step};
 use fb_verify::{Judge, Report, ReportFault, read_report};
+use fb_words::Checking;
 use std::alloc::Global;
 
 /// The most bytes of a report's text.

@@ -8,9 +8,9 @@ ghost use Rattle.fb_run.specs.Decoding.{cause_of};
 ghost use Rattle.fb_run.specs.Rows.{IsShotRow};
 ghost use Rattle.fb_run.specs.Writes.{counted, counts_in, WritesRows, WritesFirstRows};
 
-use crate::ending::Cause;
 use crate::outbox::Outbox;
 use crate::solving::solve_shot;
+use fb_endings::Cause;
 use fb_graph::{Components, Graph, NoMemory, Row, Shot};
 use fb_ports::Sink;
 use fb_report::write_row;

@@ -2,24 +2,23 @@
 
 ghost use Rattle.std.specs.Prelude.{◌≡◌, ◌≢◌, ◌<◌, ◌≤◌, ◌^◌, ◌-◌, [], ◌∷◌, map, string_bytes};
 ghost use Rattle.fb_ports.specs.Causes.{Appends, AppendsFront, HasRoom, IsEmptyIfTold, Rose};
-ghost use Rattle.fb_run.specs.Causes.{line_of, status_of};
+ghost use Rattle.fb_endings.specs.Causes.{line_of, status_of};
 ghost use Rattle.fb_run.specs.Endings.{DecodeEnds, EndsOn, IsReadToItsEnd, MayFollowReadFault};
 ghost use Rattle.fb_run.specs.RunEndings.{AsksAsTold, EndsRight, ErrandEnds, cause_of_fault, names_of};
 ghost use Rattle.fb_run.specs.Judging.{AsksFront, IsReadOutIfNamed};
-ghost use Rattle.fb_run.specs.Seen.{seen_decoding, seen};
-ghost use Rattle.fb_run.specs.Words.{errand_of};
+ghost use Rattle.fb_words.specs.Seen.{seen_decoding, seen};
+ghost use Rattle.fb_words.specs.Words.{errand_of};
 ghost use Rattle.fb_run.specs.Writes.{EndsReport, counts_in};
 
 use crate::checking::check;
-use crate::ending::{Cause, Ended, Refusal, UsageKind};
 use crate::graphs::{NoGraph, read_graph_file};
 use crate::report::{RowsFault, Tally, write_rows};
-use crate::saying::say;
 use crate::shots::{ShotsEnd, read_shots};
-use crate::words::{Decoding, Errand, WordsFault, read_words};
+use fb_endings::{Cause, Ended, Refusal, say};
 use fb_graph::{Graph, components};
 use fb_ports::{Files, Sink, put_all};
 use fb_report::{write_done, write_head};
+use fb_words::{Decoding, Errand, UsageKind, WordsFault, read_words};
 use std::alloc::Global;
 
 /// Runs the program on the words of a command line, the program's name first: reads the files that they name, writes

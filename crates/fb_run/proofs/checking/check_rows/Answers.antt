@@ -1,5 +1,5 @@
 use Rattle.std.proofs.Common.{refl}
-use Rattle.fb_run.specs.Seen.{seen_checking}
+use Rattle.fb_words.specs.Seen.{seen_checking}
 use Rattle.fb_run.proofs.Checked.{checks_first, checks_head, checks_on}
 use Rattle.fb_run.proofs.checking.check_rows.Goals as goal
 

@@ -1,6 +1,6 @@
 use Rattle.std.proofs.Common.{map, string_bytes}
-use Rattle.fb_run.specs.Seen.{seen}
-use Rattle.fb_run.specs.Words.{errand_of}
+use Rattle.fb_words.specs.Seen.{seen}
+use Rattle.fb_words.specs.Words.{errand_of}
 use Rattle.fb_run.proofs.Answered.{asks_read, ends_read}
 use Rattle.fb_run.proofs.running.answer.Goals as goal
 

@@ -1,5 +1,5 @@
 use Rattle.std.proofs.Common.{ap, length}
-use Rattle.fb_run.specs.Seen.{seen_decoding}
+use Rattle.fb_words.specs.Seen.{seen_decoding}
 use Rattle.fb_run.proofs.Finishing.{ends_on, front_after_head, front_of_head, front_of_nothing, front_of_rows}
 use Rattle.fb_run.proofs.running.decode_on.Goals as goal
 

@@ -2,10 +2,10 @@
 
 ghost use Rattle.std.specs.Prelude.{◌≡◌, ◌≢◌, true, map, string_bytes, IfOk, IfErr, IfSome};
 ghost use Rattle.clap.specs.Words.{found_of, kind_of, rows_of, subcommand_rows_of, takes};
-ghost use Rattle.fb_run.specs.Command.{fusion_app};
-ghost use Rattle.fb_run.specs.declared.ending.UsageKind.{UsageKind};
-ghost use Rattle.fb_run.specs.Seen.{IsFaultOf, seen, usage_of};
-ghost use Rattle.fb_run.specs.Words.{accepted_format, checking_of, command_errand, decoding_of, errand_of, format_of, has_two_inputs, is_command, option_of};
+ghost use Rattle.fb_words.specs.Command.{fusion_app};
+ghost use Rattle.fb_words.specs.declared.usage.UsageKind.{UsageKind};
+ghost use Rattle.fb_words.specs.Seen.{IsFaultOf, seen, usage_of};
+ghost use Rattle.fb_words.specs.Words.{accepted_format, checking_of, command_errand, decoding_of, errand_of, format_of, has_two_inputs, is_command, option_of};
 
 use crate::command::fusion;
 use clap::ArgMatches;

@@ -1,12 +1,12 @@
 -- How a run ends: its status and what it says on standard error.
 use Rattle.std.specs.Prelude.{ℕ, List, [], ◌∷◌, ◌++◌, codes, decimal, Option, Some, None}
 use Rattle.fb_report.specs.Texts.{line}
-use Rattle.fb_run.specs.Faults.{graph_name, graph_number, graph_place, kind_name, report_name, report_number, report_place}
-use Rattle.fb_run.specs.declared.ending.Cause.{Cause}
-use Rattle.fb_run.specs.declared.ending.Cause.TheVariants.{Done, Odd, Over, Bad, Refused, ReadFault, WriteFault, NoMemory, Usage}
-use Rattle.fb_run.specs.declared.ending.Refusal.{Refusal}
-use Rattle.fb_run.specs.declared.ending.Refusal.TheVariants as refusal
-use Rattle.fb_run.specs.declared.ending.UsageKind.TheVariants as usage
+use Rattle.fb_endings.specs.Faults.{graph_name, graph_number, graph_place, kind_name, report_name, report_number, report_place}
+use Rattle.fb_endings.specs.declared.ending.Cause.{Cause}
+use Rattle.fb_endings.specs.declared.ending.Cause.TheVariants.{Done, Odd, Over, Bad, Refused, ReadFault, WriteFault, NoMemory, Usage}
+use Rattle.fb_endings.specs.declared.ending.Refusal.{Refusal}
+use Rattle.fb_endings.specs.declared.ending.Refusal.TheVariants as refusal
+use Rattle.fb_words.specs.declared.usage.UsageKind.TheVariants as usage
 
 abbrev pub status_of : Cause → ℕ
 status_of Done = 0

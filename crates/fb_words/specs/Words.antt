@@ -2,11 +2,11 @@
 use Rattle.std.specs.Prelude.{◌||◌, Bool, false, List, [], ◌∷◌, codes, bytes_eq, count_by, nat_lt, unwrap_or, if◌then◌else◌, Option, Some, None, Result, Ok, Err}
 use Rattle.clap.specs.Kinds.{Kinds}
 use Rattle.clap.specs.Words.{Row, Text, fault_of, first_of, subcommand_of}
-use Rattle.fb_run.specs.Command.{fusion_app}
+use Rattle.fb_words.specs.Command.{fusion_app}
 use Rattle.fb_shots.specs.declared.answer.Format.{Format}
 use Rattle.fb_shots.specs.declared.answer.Format.TheVariants.{Text01, B8, Dets, Json}
-use Rattle.fb_run.specs.declared.ending.UsageKind.{UsageKind}
-use Rattle.fb_run.specs.declared.ending.UsageKind.TheVariants as usage
+use Rattle.fb_words.specs.declared.usage.UsageKind.{UsageKind}
+use Rattle.fb_words.specs.declared.usage.UsageKind.TheVariants as usage
 
 -- what `decode` asks for: the names of the graph and of the shots, and the format of the shots
 pub record Decoding : Type 0 where

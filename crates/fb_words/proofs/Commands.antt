@@ -19,13 +19,13 @@ use Rattle.clap.specs.declared.error.ErrorKind.TheVariants as kind
 use Rattle.clap.proofs.OnLiterals.{clap_on_literals}
 use Rattle.clap.proofs.SimpleLemmas.{is_nil}
 use Rattle.clap.proofs.WalkLemmas.{first_value-rows}
-use Rattle.fb_run.specs.Command.{fusion_app}
-use Rattle.fb_run.specs.Seen.{IsFaultOf, usage_of}
-use Rattle.fb_run.specs.Words.{command_errand, errand_of, errand_unless, is_command, is_command_name}
-use Rattle.fb_run.specs.declared.ending.UsageKind.{UsageKind}
-use Rattle.fb_run.specs.declared.ending.UsageKind.TheVariants as usage
-use Rattle.fb_run.specs.declared.words.WordsFault.{WordsFault}
-use Rattle.fb_run.specs.declared.words.WordsFault.TheVariants as fault
+use Rattle.fb_words.specs.Command.{fusion_app}
+use Rattle.fb_words.specs.Seen.{IsFaultOf, usage_of}
+use Rattle.fb_words.specs.Words.{command_errand, errand_of, errand_unless, is_command, is_command_name}
+use Rattle.fb_words.specs.declared.usage.UsageKind.{UsageKind}
+use Rattle.fb_words.specs.declared.usage.UsageKind.TheVariants as usage
+use Rattle.fb_words.specs.declared.words.WordsFault.{WordsFault}
+use Rattle.fb_words.specs.declared.words.WordsFault.TheVariants as fault
 
 -- ---- of faults, one after another, there is none
 

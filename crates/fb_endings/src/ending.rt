@@ -1,22 +1,12 @@
 //! How a run ends.
 
 ghost use Rattle.std.specs.Prelude.{◌≡◌};
-ghost use Rattle.fb_run.specs.Causes.{status_of};
+ghost use Rattle.fb_endings.specs.Causes.{status_of};
 
 use fb_graph_in::TextFault;
 use fb_shots::ShotFault;
 use fb_verify::ReportFault;
-
-/// What is wrong with the words.
-#[derive(Clone, Copy, Debug, PartialEq, Eq)]
-pub enum UsageKind {
-    /// They have no reading.
-    Parse,
-    /// The word after `--format` names no format.
-    Format,
-    /// More than one name is that of standard input.
-    TwoInputs,
-}
+use fb_words::UsageKind;
 
 /// Why the input isn't accepted.
 #[derive(Clone, Copy, Debug, PartialEq, Eq)]

@@ -1,14 +1,14 @@
 -- What the words ask for, without where its texts lie in memory.
 use Rattle.std.specs.Prelude.{◌≡◌, Option, Some, None, IfSome, Result, Err}
-use Rattle.fb_run.specs.Words.{Checking, Decoding, Errand, check, decode}
-use Rattle.fb_run.specs.declared.words.Checking.{Checking as BorrowedChecking}
-use Rattle.fb_run.specs.declared.words.Decoding.{Decoding as BorrowedDecoding}
-use Rattle.fb_run.specs.declared.words.Errand.{Errand as BorrowedErrand}
-use Rattle.fb_run.specs.declared.words.Errand.TheVariants.{Check, Decode}
-use Rattle.fb_run.specs.declared.ending.UsageKind.{UsageKind}
-use Rattle.fb_run.specs.declared.ending.UsageKind.TheVariants as usage
-use Rattle.fb_run.specs.declared.words.WordsFault.{WordsFault}
-use Rattle.fb_run.specs.declared.words.WordsFault.TheVariants as fault
+use Rattle.fb_words.specs.Words.{Checking, Decoding, Errand, check, decode}
+use Rattle.fb_words.specs.declared.words.Checking.{Checking as BorrowedChecking}
+use Rattle.fb_words.specs.declared.words.Decoding.{Decoding as BorrowedDecoding}
+use Rattle.fb_words.specs.declared.words.Errand.{Errand as BorrowedErrand}
+use Rattle.fb_words.specs.declared.words.Errand.TheVariants.{Check, Decode}
+use Rattle.fb_words.specs.declared.usage.UsageKind.{UsageKind}
+use Rattle.fb_words.specs.declared.usage.UsageKind.TheVariants as usage
+use Rattle.fb_words.specs.declared.words.WordsFault.{WordsFault}
+use Rattle.fb_words.specs.declared.words.WordsFault.TheVariants as fault
 
 abbrev pub seen_decoding : BorrowedDecoding → Decoding
 seen_decoding d = record { graph = d.graph.now; shots = d.shots.now; format = d.format }

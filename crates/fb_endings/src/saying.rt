@@ -3,10 +3,10 @@
 ghost use Rattle.std.specs.Prelude.{◌≡◌, ◌≢◌, ◌<◌, ◌^◌, ◌-◌, ◌∷◌, [], OnOk, OnErr, option_map};
 ghost use Rattle.fb_ports.specs.Causes.{AppendsFront, HasCause};
 ghost use Rattle.std.specs.Io.KnownBytes.{Appends};
-ghost use Rattle.fb_run.specs.Causes.{line_of, fixed_line, refusal_line, refusal_name, refusal_place, refusal_number};
-ghost use Rattle.fb_run.specs.Faults.{graph_name, graph_place, graph_number, member_name, member_of, report_name, report_number, report_place, rule_name, rule_number, kind_name, stim_name, json_name};
+ghost use Rattle.fb_endings.specs.Causes.{line_of, fixed_line, refusal_line, refusal_name, refusal_place, refusal_number};
+ghost use Rattle.fb_endings.specs.Faults.{graph_name, graph_place, graph_number, member_name, member_of, report_name, report_number, report_place, rule_name, rule_number, kind_name, stim_name, json_name};
 
-use crate::ending::{Cause, Refusal, UsageKind};
+use crate::ending::{Cause, Refusal};
 use fb_graph::GraphFault;
 use fb_graph_in::{Member, Place, TextFault};
 use fb_ports::{Failed, Sink, put_all, put_parts};
@@ -14,6 +14,7 @@ use fb_shots::Kind;
 use fb_shots_json::Kind as JsonKind;
 use fb_shots_stim::Kind as StimKind;
 use fb_verify::ReportFault;
+use fb_words::UsageKind;
 use itoa::Buffer;
 
 /// Says on a sink why a run ended, where that isn't faulty words. A fault of that sink changes nothing.

@@ -3,7 +3,7 @@
 ghost use Rattle.std.specs.Prelude.{◌≡◌, IfOk, false, codes};
 ghost use Rattle.clap.specs.Words.{app_of, rule_of};
 ghost use Rattle.clap.specs.declared.builder.Command.TheViews.{out-Command};
-ghost use Rattle.fb_run.specs.Command.{check_app, decode_app, fusion_app, option_rule, with_inputs};
+ghost use Rattle.fb_words.specs.Command.{check_app, decode_app, fusion_app, option_rule, with_inputs};
 
 use clap::{Arg, ArgAction, Command};
 use std::alloc::{AllocError, Global};

@@ -1,7 +1,7 @@
 use Rattle.std.proofs.Common.{map, string_bytes}
 use Rattle.clap.specs.Words.{app_of, found_of, rows_of, subcommand_rows_of}
-use Rattle.fb_run.proofs.Commands.{parse_failed, parse_passed}
-use Rattle.fb_run.proofs.words.parse.Goals as goal
+use Rattle.fb_words.proofs.Commands.{parse_failed, parse_passed}
+use Rattle.fb_words.proofs.words.parse.Goals as goal
 
 pub returns-in-Ok-try_get_matches_from-clause-command : goal.returns-in-Ok-try_get_matches_from-clause-command
 returns-in-Ok-try_get_matches_from-clause-command c =

@@ -1,0 +1,13 @@
+//! The words of a command line: what they ask for, or what is wrong with them.
+
+#![tactic(auto)]
+
+mod command;
+mod usage;
+mod words;
+
+pub use usage::UsageKind;
+pub use words::{Checking, Decoding, Errand, WordsFault, read_words};
+
+#[cfg(test)]
+mod tests;
