@@ -3,14 +3,16 @@ use Rattle.std.proofs.Common.{ℕ, ◌≡◌, ◌+◌, ◌*◌, ◌<◌, ◌≤�
 use Rattle.std.proofs.lemmas.Bool.{eq-eqb, false≢true, true≢false, cases_lt, and_parts, or_parts, or_from, and_from}
 use Rattle.std.proofs.lemmas.List.Sums.{sum_by-cons}
 use Rattle.std.specs.Prelude.{nat_lt}
-use Rattle.std.specs.List.{list_any, list_all}
+use Rattle.std.proofs.lemmas.List.Elements.{All-nil, All-cons}
+use Rattle.std.specs.List.{All, list_any, list_all}
+use Rattle.fb_graph.specs.Parity.{is_in}
 use Rattle.fb_book.specs.declared.entries.Kind.{Kind}
 use Rattle.fb_book.specs.declared.entries.Kind.TheVariants.{Took, Gave}
 use Rattle.fb_book.specs.declared.entries.Entry.{Entry}
 use Rattle.fb_book.specs.declared.entries.Status.{Status}
 use Rattle.fb_book.specs.declared.entries.Status.TheVariants.{Idle, Held, Given, Used, Left as Lost}
 use Rattle.fb_book.specs.Machine.{Kids, IsForest, is_child, status_at, is_idle, is_held, is_given, is_used, is_left, is_over, are_given, can_take, may, after, place, allows, replay, trace, all_idle, is_loss}
-use Rattle.fb_book.specs.Laws.{Told, entries_of, Progress, TellsStatus, TwoEach, TakenAndGiven, ChildrenBefore, UsedByParent, DoneIsComplete}
+use Rattle.fb_book.specs.Laws.{Told, entries_of, Progress, TellsStatus, TwoEach, TakenAndGiven, TakenAndGivenOn, CompleteOnSlots, ChildrenBefore, UsedByParent, DoneIsComplete}
 use Rattle.fb_book.proofs.Statuses.{child_given, MayTake, may_take}
 use Rattle.fb_book.proofs.Courses.{IsReached, reached, losses_of, loss_of}
 
@@ -156,6 +158,28 @@ taken_and_given kids n count history forest complete k less =
     over_told (status_at complete.statuses k) (trace n k history)
     (all_at is_over refl complete.statuses complete.over k)
     ((reached kids n count forest history complete.statuses complete.stands).told k less)
+
+pub taken_and_given_on : TakenAndGivenOn
+taken_and_given_on slots kids n count history forest complete slot node at within less =
+    over_told (status_at complete.statuses (slot * n + node)) (trace n (slot * n + node) history)
+    (complete.over slot node at within)
+    ((reached kids n count forest history complete.statuses complete.stands).told (slot * n + node) less)
+
+pub complete_on_slots : CompleteOnSlots
+complete_on_slots slots kids n count history complete = record {
+  statuses = complete.statuses;
+  stands = complete.stands;
+  unleft = no_losses history complete.unleft;
+  over = λ slot node at within. all_at is_over refl complete.statuses complete.over (slot * n + node);
+}
+  where
+    no_losses : (es : List Entry) → list_any is_loss es ≡ false
+        → All (λ e. is_in slots e.slot ≡ true → is_loss e ≡ false) es
+    no_losses [] h = All-nil (λ e. is_in slots e.slot ≡ true → is_loss e ≡ false)
+    no_losses (e ∷ es) h =
+        All-cons (λ e. is_in slots e.slot ≡ true → is_loss e ≡ false) e es
+        (λ at. (or_parts (is_loss e) (list_any is_loss es) h).0)
+        (no_losses es (or_parts (is_loss e) (list_any is_loss es) h).1)
 
 -- the statuses in the middle of a history, before an entry that was allowed there
 pub record Midway (kids : Kids) (n : ℕ) (start : List Status) (before : List Entry) (e : Entry) (rest : List Entry)

@@ -1,12 +1,13 @@
 -- What holds of every history that the machine allows.
-use Rattle.std.specs.Prelude.{ℕ, ◌≡◌, ◌*◌, ◌<◌, ◌≤◌, ◌⊎◌, true, false, Some, List, [], ◌∷◌, ◌++◌, length}
+use Rattle.std.specs.Prelude.{ℕ, ◌≡◌, ◌+◌, ◌*◌, ◌<◌, ◌≤◌, ◌⊎◌, true, false, Some, List, [], ◌∷◌, ◌++◌, length}
 use Rattle.std.specs.List.{list_any, list_all}
+use Rattle.fb_graph.specs.Parity.{is_in}
 use Rattle.fb_book.specs.declared.entries.Kind.{Kind}
 use Rattle.fb_book.specs.declared.entries.Kind.TheVariants.{Took, Gave, Left}
 use Rattle.fb_book.specs.declared.entries.Entry.{Entry}
 use Rattle.fb_book.specs.declared.entries.Status.{Status}
 use Rattle.fb_book.specs.declared.entries.Status.TheVariants.{Idle, Held, Given, Used, Left as Lost}
-use Rattle.fb_book.specs.Machine.{Kids, IsForest, IsComplete, is_child, status_at, is_idle, is_held, is_left, is_over, can_take, replay, place, trace, all_idle}
+use Rattle.fb_book.specs.Machine.{Kids, IsForest, IsComplete, IsCompleteOn, is_child, status_at, is_idle, is_held, is_left, is_over, can_take, replay, place, trace, all_idle}
 
 -- what was done with an item of this status
 abbrev pub Told : Status → List (Kind × ℕ) → Type 0
@@ -48,6 +49,18 @@ abbrev pub TakenAndGiven : Type 0
 TakenAndGiven = (kids : Kids) (n count : ℕ) (history : List Entry) → IsForest kids
     → IsComplete kids n count history
     → (k : ℕ) → k < count → (w : ℕ) × (trace n k history ≡ (Took, w) ∷ (Gave, w) ∷ [])
+
+-- Of a history that is complete on some slots this holds of their items.
+abbrev pub TakenAndGivenOn : Type 0
+TakenAndGivenOn = (slots : List ℕ) (kids : Kids) (n count : ℕ) (history : List Entry) → IsForest kids
+    → IsCompleteOn slots kids n count history
+    → (slot node : ℕ) → is_in slots slot ≡ true → node < n → slot * n + node < count
+    → (w : ℕ) × (trace n (slot * n + node) history ≡ (Took, w) ∷ (Gave, w) ∷ [])
+
+-- A complete history is complete on each list of slots.
+abbrev pub CompleteOnSlots : Type 0
+CompleteOnSlots = (slots : List ℕ) (kids : Kids) (n count : ℕ) (history : List Entry) → IsComplete kids n count history
+    → IsCompleteOn slots kids n count history
 
 -- An allowed history at whose end every item is given or used is complete.
 abbrev pub DoneIsComplete : Type 0

@@ -1,6 +1,7 @@
 -- The machine over the items of a run, each named by its place. Its history is a list of entries.
 use Rattle.std.specs.Prelude.{ℕ, ◌≡◌, ◌+◌, ◌*◌, ◌<◌, ◌==◌, ◌&&◌, ◌||◌, nat_lt, Bool, true, false, not, if◌then◌else◌, Option, Some, None, List, [], ◌∷◌, get_or, slice_set, filter, map, replicate}
-use Rattle.std.specs.List.{list_any, list_all}
+use Rattle.std.specs.List.{All, list_any, list_all}
+use Rattle.fb_graph.specs.Parity.{is_in}
 use Rattle.fb_book.specs.declared.entries.Kind.{Kind}
 use Rattle.fb_book.specs.declared.entries.Kind.TheVariants.{Took, Gave, Left}
 use Rattle.fb_book.specs.declared.entries.Entry.{Entry}
@@ -130,3 +131,11 @@ pub record IsComplete (kids : Kids) (n count : ℕ) (history : List Entry) : Typ
   pub stands : replay kids n (all_idle count) history ≡ Some statuses
   pub unleft : list_any is_loss history ≡ false
   pub over : list_all is_over statuses ≡ true
+
+-- The same of the items of some slots alone: none of them was left, and at the end each is given or used.
+pub record IsCompleteOn (slots : List ℕ) (kids : Kids) (n count : ℕ) (history : List Entry) : Type 0 where
+  pub statuses : List Status
+  pub stands : replay kids n (all_idle count) history ≡ Some statuses
+  pub unleft : All (λ e. is_in slots e.slot ≡ true → is_loss e ≡ false) history
+  pub over : (slot node : ℕ) → is_in slots slot ≡ true → node < n
+      → is_over (status_at statuses (slot * n + node)) ≡ true

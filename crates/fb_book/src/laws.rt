@@ -1,6 +1,6 @@
 //! What holds of every history that the machine allows. Each function does nothing: its clauses are the law.
 
-ghost use Rattle.fb_book.specs.Laws.{Progress, TellsStatus, TwoEach, TakenAndGiven, ChildrenBefore, UsedByParent, DoneIsComplete};
+ghost use Rattle.fb_book.specs.Laws.{Progress, TellsStatus, TwoEach, TakenAndGiven, TakenAndGivenOn, CompleteOnSlots, ChildrenBefore, UsedByParent, DoneIsComplete};
 
 /// Where nothing is held or left, some item can be taken, or every item is given or used. Of the used ones each is a
 /// child of one that was taken.
@@ -16,10 +16,12 @@ pub fn entries_of_item()
 {}
 
 /// A history at whose end every item is given or used is complete. Of a complete history each item was taken once and
-/// given once, by the same worker and in this order. Of every history, both children of a fusion were given before it
-/// was taken.
+/// given once, by the same worker and in this order; so too of the items of some slots, where it is complete on those.
+/// Of every history, both children of a fusion were given before it was taken.
 pub fn complete_history()
     ensures done { DoneIsComplete }
     ensures both { TakenAndGiven }
+    ensures slots { CompleteOnSlots }
+    ensures both_on { TakenAndGivenOn }
     ensures children { ChildrenBefore }
 {}
