@@ -32,6 +32,7 @@ pub mod RaisedNests
 pub mod SampleCycles
 pub mod SampleEnds
 pub mod SampleLevels
+pub mod SampleNests
 pub mod SampleParts
 pub mod SampleSearches
 pub mod SampleSeams

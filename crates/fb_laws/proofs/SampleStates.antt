@@ -48,7 +48,7 @@ pub odd_cut : (p : Problem) (c : Cut) → AreDistinct c.vertices → list_all p.
 odd_cut p c distinct real odd =
     record { distinct = distinct; real = AllPass-from_list_all p.is_real c.vertices real; odd = odd }
 
-may_by_cases : (p : Problem) (roles : Roles) (nodes : List Node) (k : ℕ)
+pub may_by_cases : (p : Problem) (roles : Roles) (nodes : List Node) (k : ℕ)
     → list_all (λ e. leb (load_of (all_cuts nodes) e + k * gains roles nodes e) (e.weight + k * losses roles nodes e)) p.edges ≡ true
     → All (λ n. roles.is_minus n.name ≡ true → k ≤ n.top.value) nodes → MayStep p roles nodes k
 may_by_cases p roles nodes k right tops = record {
