@@ -21,6 +21,7 @@ pub mod LoweredNests
 pub mod MappedNodes
 pub mod MatchedNodes
 pub mod MergedParts
+pub mod MoveBridges
 pub mod NestParts
 pub mod OpenedLevels
 pub mod OpenedSearches

@@ -19,16 +19,16 @@ use Rattle.fb_laws.proofs.NestParts.{grove_of, fit_of, nest_of}
 use Rattle.fb_laws.proofs.Places.{IsPlaced, placed, cuts_at}
 
 module _ (p : Problem) (nodes : List Node) (name : ℕ) (may : MayUncover nodes name) (nest : IsNest p nodes) where
-  at : IsPlaced nodes name
+  pub at : IsPlaced nodes name
   at = placed nodes name nest.dual.names may.live
 
-  there : IsAmong at.node nodes
+  pub there : IsAmong at.node nodes
   there = placed_among nodes name at
 
-  bare : (n : Node) → IsAmong n nodes → n.name ≡ name → (1 ≤ length n.below) × (n.top.value ≡ 0)
+  pub bare : (n : Node) → IsAmong n nodes → n.name ≡ name → (1 ≤ length n.below) × (n.top.value ≡ 0)
   bare n a = All_among (λ m. m.name ≡ name → (1 ≤ length m.below) × (m.top.value ≡ 0)) nodes may.bare n a
 
-  layers : (n : Node) → IsAmong n nodes → n.name ≡ name → layers_of (lower n) ≡ n.below
+  pub layers : (n : Node) → IsAmong n nodes → n.name ≡ name → layers_of (lower n) ≡ n.below
   layers n a e = last_split n.below n.top (bare n a e).0
 
   insertion : IsInserted at.node.top (all_cuts (uncovered name nodes)) (all_cuts nodes)
@@ -46,12 +46,12 @@ module _ (p : Problem) (nodes : List Node) (name : ℕ) (may : MayUncover nodes 
     bare = (bare at.node there at.named).1;
   }
 
-  kept : AreKept (change name lower) nodes
+  pub kept : AreKept (change name lower) nodes
   kept =
       kept_by name lower nodes (λ n. refl) (λ n. refl)
       (λ n a e. ap first_vertices (layers n a e) ∙ sym (first_below n.below n.top (bare n a e).0)) may.outer
 
-  same_leaves : leaves (uncovered name nodes) ≡ leaves nodes
+  pub same_leaves : leaves (uncovered name nodes) ≡ leaves nodes
   same_leaves = mapped_leaves (change name lower) kept.children nodes kept.first
 
   height : (v : ℕ) → height_of (all_cuts (uncovered name nodes)) v ≡ height_of (all_cuts nodes) v
@@ -66,7 +66,7 @@ module _ (p : Problem) (nodes : List Node) (name : ℕ) (may : MayUncover nodes 
   grown_at n a = All_among (λ m. AreGrown (layers_of m)) nodes nest.dual.grown n a
 
   -- the vertex more of the top layer
-  added : (n : Node) → IsAmong n nodes → n.name ≡ name → (x : ℕ) × (n.top.vertices ≡ (lower n).top.vertices ++ x ∷ [])
+  pub added : (n : Node) → IsAmong n nodes → n.name ≡ name → (x : ℕ) × (n.top.vertices ≡ (lower n).top.vertices ++ x ∷ [])
   added n a e =
       grown_last (lower n).below (lower n).top n.top
       (subst (λ l. AreGrown (l ++ n.top ∷ [])) (sym (layers n a e)) (grown_at n a))
@@ -85,7 +85,7 @@ module _ (p : Problem) (nodes : List Node) (name : ℕ) (may : MayUncover nodes 
       (All-pieces (IsOddCut (with_defects p (leaves nodes))) layers_of nodes nest.dual.packing.odd) n a
 
   -- it isn't a defect, since both layers hold an odd number
-  no_defect : (n : Node) → IsAmong n nodes → n.name ≡ name → (x : ℕ) → n.top.vertices ≡ (lower n).top.vertices ++ x ∷ [] → is_in (leaves nodes) x ≡ false
+  pub no_defect : (n : Node) → IsAmong n nodes → n.name ≡ name → (x : ℕ) → n.top.vertices ≡ (lower n).top.vertices ++ x ∷ [] → is_in (leaves nodes) x ≡ false
   no_defect n a e x more =
       false_from_ne_true (is_in (leaves nodes) x)
       (λ leaf.

@@ -10,6 +10,7 @@ pub mod Links
 pub mod Measures
 pub mod Merging
 pub mod Moves
+pub mod NestBridges
 pub mod NestWitnesses
 pub mod Nests
 pub mod Opening

@@ -1,0 +1,211 @@
+-- The moves of a nest, told as the laws of searches tell them.
+use Rattle.std.proofs.Common.{ℕ, ◌≡◌, ◌≤◌, ◌==◌, ◌⊎◌, inl, inr, not, true, false, List, [], ◌∷◌, ◌++◌, map, length, All, Option, Some, None, refl, sym, ap, ◌∙◌, subst, arith}
+use Rattle.std.specs.List.{concat}
+use Rattle.std.proofs.lemmas.Bool.{both_ways, false_from_ne_true, cases_eq}
+use Rattle.std.proofs.lemmas.List.{length-map}
+use Rattle.std.proofs.lemmas.List.Elements.{All-head, All-tail, All-map, All-weaker}
+use Rattle.fb_graph.specs.Parity.{is_in}
+use Rattle.fb_graph.specs.Problem.{Problem}
+use Rattle.fb_graph.specs.Certificate.{AreDistinct}
+use Rattle.fb_graph.specs.Dual.{Node, cover_of, is_live, is_outer, leaves, layers_of, node_at, taller, top_at, change_at}
+use Rattle.fb_graph.specs.declared.parts.Cut.{Cut}
+use Rattle.fb_graph.proofs.Members.{is_in_pushed}
+use Rattle.fb_graph.proofs.Sets.{is_in-All, is_in-head}
+use Rattle.fb_laws.specs.Forming.{Child, blossom_of, names_of, sets_of}
+use Rattle.fb_laws.specs.Works.{IsSetOf}
+use Rattle.fb_laws.specs.Nests.{IsNest}
+use Rattle.fb_laws.specs.Moves.{MayUncover, lower, taken_up, uncovered}
+use Rattle.fb_laws.specs.Measures.{IsLower}
+use Rattle.fb_laws.specs.SearchLayers.{left_to_do}
+use Rattle.fb_laws.specs.NestBridges.{BlossomNamed, BlossomOuter, IsGivenUp, JoiningAllowed, UncoveredBack, UncoveredLowers}
+use Rattle.fb_laws.proofs.Among.{IsAmong, All_among, among_either, among_live, among_map, among_outer, map_among, apart_among, cover_among, same_among}
+use Rattle.fb_laws.proofs.ChangedNodes.{change, by_name}
+use Rattle.fb_laws.proofs.LoweredNests.{at, there, bare, layers, kept, same_leaves, added, no_defect}
+use Rattle.fb_laws.proofs.LoweredParts.{uncover_lowers}
+use Rattle.fb_laws.proofs.MappedNodes.{mapped_outer}
+use Rattle.fb_laws.proofs.MergedParts.{distinct_across, live_at}
+use Rattle.fb_laws.proofs.NestParts.{top_is_odd}
+use Rattle.fb_laws.proofs.SearchTrees.{top_at_place}
+
+sets_named : (nodes : List Node) (children : List Child) → AreDistinct (map (λ n. n.name) nodes)
+    → All (λ c. IsSetOf nodes c.name c.set) children → sets_of children ≡ map (top_at nodes) (names_of children)
+sets_named nodes [] distinct are = refl
+sets_named nodes (c ∷ cs) distinct are =
+    let (i, less, outer, named, set) = All-head (λ x. IsSetOf nodes x.name x.set) c cs are in
+    let same : c.set ≡ top_at nodes c.name = sym set
+    ∙ (sym (top_at_place nodes distinct i less) ∙ ap (top_at nodes) named) in
+    ap (λ s. s ∷ sets_of cs) same
+    ∙ ap (λ l. top_at nodes c.name ∷ l)
+    (sets_named nodes cs distinct (All-tail (λ x. IsSetOf nodes x.name x.set) c cs are))
+
+-- a node with one layer, without value
+abbrev bare_node : ℕ → List ℕ → List ℕ → Node
+bare_node name children set =
+    record { name = name; children = children; below = []; top = record { value = 0; vertices = set } }
+
+pub blossom_named : BlossomNamed
+blossom_named nodes name children distinct are =
+    ap (λ s. bare_node name (names_of children) (concat s)) (sets_named nodes children distinct are)
+
+set_live : (nodes : List Node) (c : Child) → IsSetOf nodes c.name c.set → is_live nodes c.name ≡ true
+set_live nodes c (i, less, outer, named, set) = ap (is_live nodes) (sym named) ∙ live_at nodes i less
+
+children_live : (nodes : List Node) (children : List Child) → All (λ c. IsSetOf nodes c.name c.set) children
+    → All (λ n. is_live nodes n ≡ true) (names_of children)
+children_live nodes children are =
+    All-map (λ n. is_live nodes n ≡ true) (λ c. c.name) children
+    (All-weaker (λ c. IsSetOf nodes c.name c.set) (λ c. is_live nodes c.name ≡ true) (set_live nodes) children are)
+
+pub joining_allowed : JoiningAllowed
+joining_allowed nodes tree root name base others joining some fresh = record {
+  many = record {
+    three = omega (arith, some, joining.even, length-map (base ∷ others) (λ (c : Child). c.name));
+    odd = omega (arith, joining.even, length-map (base ∷ others) (λ (c : Child). c.name));
+    distinct = joining.distinct;
+  };
+  live = children_live nodes (base ∷ others) joining.nodes_are;
+  outer =
+      All-map (λ n. is_outer nodes n ≡ true) (λ c. c.name) (base ∷ others)
+      (All-weaker (λ c. IsSetOf nodes c.name c.set) (λ c. is_outer nodes c.name ≡ true) (λ c is. is.2)
+      (base ∷ others) joining.nodes_are);
+  fresh = fresh;
+}
+
+pub blossom_outer : BlossomOuter
+blossom_outer p nodes name children nest are fresh =
+    among_outer (nodes ++ blossom_of name children ∷ []) name
+    (λ q a. false_from_ne_true (is_in q.children name)
+    (λ child. both_ways (is_live nodes name) fresh (joined q (among_either nodes (blossom_of name children ∷ []) q a) child)))
+  where
+    joined : (q : Node) → IsAmong q nodes ⊎ IsAmong q (blossom_of name children ∷ [])
+        → is_in q.children name ≡ true → is_live nodes name ≡ true
+    joined q (inl b) child =
+        is_in-All (λ c. is_live nodes c ≡ true) q.children
+        (All_among (λ n. All (λ c. is_live nodes c ≡ true) n.children) nodes nest.forest.live q b) name child
+    joined q (inr (inl e)) child =
+        is_in-All (λ c. is_live nodes c ≡ true) (names_of children) (children_live nodes children are) name
+        (ap (λ n. is_in n.children name) e ∙ child)
+    joined q (inr (inr none)) child = absurd none
+
+-- a change of each node undone
+undone : (name : ℕ) (f g : Node → Node) (ns : List Node)
+    → ((n : Node) → IsAmong n ns → change name f (change name g n) ≡ n)
+    → change_at name f (change_at name g ns) ≡ ns
+undone name f g [] h = refl
+undone name f g (n ∷ ns) h =
+    ap (λ m. m ∷ change_at name f (change_at name g ns)) (h n (inl refl))
+    ∙ ap (λ l. n ∷ l) (undone name f g ns (λ m a. h m (inr a)))
+
+no_name : (o : Option ℕ) → ((n : ℕ) → o ≡ Some n → ⊥) → o ≡ None
+no_name None h = refl
+no_name (Some n) h = absurd (h n refl)
+
+module _ (p : Problem) (nodes : List Node) (name : ℕ) (may : MayUncover nodes name) (nest : IsNest p nodes) where
+  abbrev node : Node
+  node = (at p nodes name may nest).node
+
+  among : IsAmong node nodes
+  among = there p nodes name may nest
+
+  named : node.name ≡ name
+  named = (at p nodes name may nest).named
+
+  abbrev vertex : ℕ
+  vertex = (added p nodes name may nest node among named).0
+
+  pushed : node.top.vertices ≡ (lower node).top.vertices ++ vertex ∷ []
+  pushed = (added p nodes name may nest node among named).1
+
+  abbrev with_layers : List Cut → ℕ → List ℕ → Node
+  with_layers below value set = record node { below = below; top = record { value = value; vertices = set } }
+
+  raised : taller vertex (lower node) ≡ node
+  raised =
+      ap (λ b. with_layers b 0 ((lower node).top.vertices ++ vertex ∷ [])) (layers p nodes name may nest node among named)
+      ∙ (ap (with_layers node.below 0) (sym pushed)
+      ∙ ap (λ y. with_layers node.below y node.top.vertices) (sym (bare p nodes name may nest node among named).1))
+
+  outer_same : (x : ℕ) → is_outer (uncovered name nodes) x ≡ is_outer nodes x
+  outer_same x = mapped_outer (change name lower) (kept p nodes name may nest).children nodes x
+
+  given_back : taken_up name vertex (uncovered name nodes) ≡ nodes
+  given_back = undone name (taller vertex) lower nodes each
+    where
+      each : (n : Node) → IsAmong n nodes → change name (taller vertex) (change name lower n) ≡ n
+      each n a =
+          by_name (λ m. change name (taller vertex) m ≡ n) name lower n
+          (λ e.
+          by_name (λ m. m ≡ n) name (taller vertex) (lower n)
+          (λ f. subst (λ m. taller vertex (lower m) ≡ m)
+          (same_among nodes nest.dual.names node n among a (named ∙ sym e)) raised)
+          (λ other. absurd (other e)))
+          (λ other. by_name (λ m. m ≡ n) name (taller vertex) n (λ e. absurd (other e)) (λ other. refl))
+
+  not_held : is_in (lower node).top.vertices vertex ≡ false
+  not_held =
+      false_from_ne_true (is_in (lower node).top.vertices vertex)
+      (λ held.
+      both_ways (is_in (vertex ∷ []) vertex)
+      (distinct_across (lower node).top.vertices (vertex ∷ []) vertex
+      (subst AreDistinct pushed (top_is_odd p nodes nest node among).distinct) held)
+      (is_in-head vertex []))
+
+  -- another outer node lies apart, and the node itself holds it no more
+  not_over : (m : Node) → IsAmong m nodes → is_outer nodes m.name ≡ true
+      → is_in (change name lower m).top.vertices vertex ≡ true → ⊥
+  not_over m a outer held = step (cases_eq m.name name)
+    where
+      step : (m.name ≡ name) ⊎ (m.name ≡ name → ⊥) → ⊥
+      step (inl e) =
+          both_ways (is_in (lower node).top.vertices vertex) not_held
+          (subst (λ x. is_in (lower x).top.vertices vertex ≡ true)
+          (same_among nodes nest.dual.names m node a among (e ∙ sym named))
+          (by_name (λ x. is_in x.top.vertices vertex ≡ true
+          → is_in (lower m).top.vertices vertex ≡ true) name lower m (λ same h. h)
+          (λ other. absurd (other e)) held))
+      step (inr other) =
+          both_ways (is_in node.top.vertices vertex)
+          (apart_among nodes nest.dual.names nest.dual.apart m node a among (λ same. other (same ∙ named)) outer
+          (ap (is_outer nodes) named ∙ may.outer) vertex
+          (by_name (λ x. is_in x.top.vertices vertex ≡ true → is_in m.top.vertices vertex ≡ true) name lower m
+          (λ e. absurd (other e))
+          (λ same h. h) held))
+          (ap (λ l. is_in l vertex) pushed ∙ is_in_pushed (lower node).top.vertices vertex)
+
+  uncovered_vertex : cover_of (uncovered name nodes) vertex ≡ None
+  uncovered_vertex = no_name (cover_of (uncovered name nodes) vertex) none
+    where
+      none : (n : ℕ) → cover_of (uncovered name nodes) vertex ≡ Some n → ⊥
+      none n cover =
+          let over = cover_among (uncovered name nodes) vertex n cover in
+          let (m, a, same) = among_map (change name lower) nodes over.node over.among in
+          let kept_name : over.node.name ≡ m.name =
+          ap (λ x. x.name) (sym same) ∙ by_name (λ x. x.name ≡ m.name) name lower m (λ e. refl) (λ other. refl) in
+          not_over m a (sym (outer_same m.name) ∙ (ap (is_outer (uncovered name nodes)) (sym kept_name) ∙ over.outer))
+          (ap (λ x. is_in x.top.vertices vertex) same ∙ over.holds)
+
+  still_live : is_live (uncovered name nodes) name ≡ true
+  still_live =
+      among_live (uncovered name nodes) (change name lower node) name (map_among (change name lower) nodes node among)
+      (by_name (λ x. x.name ≡ name) name lower node (λ e. named) (λ other. named))
+
+pub uncovered_back : UncoveredBack
+uncovered_back p nodes name may nest = (
+  vertex p nodes name may nest,
+  record {
+    back = given_back p nodes name may nest;
+    no_defect = ap (λ l. is_in l (vertex p nodes name may nest)) (same_leaves p nodes name may nest)
+        ∙ no_defect p nodes name may nest (node p nodes name may nest) (among p nodes name may nest)
+        (named p nodes name may nest)
+        (vertex p nodes name may nest) (pushed p nodes name may nest);
+    free = uncovered_vertex p nodes name may nest;
+    live = still_live p nodes name may nest;
+    outer = outer_same p nodes name may nest name ∙ may.outer;
+  },
+)
+
+pub uncovered_lowers : UncoveredLowers
+uncovered_lowers p nodes roles name free freed may nest minus plus =
+    let (v, given) = uncovered_back p nodes name may nest in
+    subst (λ ns. IsLower (left_to_do p (uncovered name nodes) roles freed) (left_to_do p ns roles free)) given.back
+    (uncover_lowers p (uncovered name nodes) roles name v free freed given.no_defect minus plus given.live given.outer given.free)

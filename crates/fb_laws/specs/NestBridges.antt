@@ -1,0 +1,52 @@
+-- The moves of a nest, told as the laws of searches tell them.
+use Rattle.std.specs.Prelude.{ℕ, ◌≡◌, ◌≤◌, Bool, true, false, List, [], ◌∷◌, ◌++◌, map, length, All, Some, None}
+use Rattle.fb_graph.specs.Parity.{is_in}
+use Rattle.fb_graph.specs.Problem.{Problem}
+use Rattle.fb_graph.specs.Certificate.{AreDistinct}
+use Rattle.fb_graph.specs.Dual.{Node, cover_of, is_live, is_outer, leaves}
+use Rattle.fb_laws.specs.Measures.{IsLower}
+use Rattle.fb_laws.specs.Steps.{Roles}
+use Rattle.fb_laws.specs.Forming.{Child, names_of, blossom_of}
+use Rattle.fb_laws.specs.Works.{IsSetOf}
+use Rattle.fb_laws.specs.Trees.{Entry}
+use Rattle.fb_laws.specs.SearchLayers.{left_to_do}
+use Rattle.fb_laws.specs.SearchBlossoms.{IsJoining}
+use Rattle.fb_laws.specs.Nests.{IsNest}
+use Rattle.fb_laws.specs.Moves.{MayJoin, MayTakeUp, MayUncover, blossom, taken_up, uncovered}
+
+-- A blossom told by its children's names and sets is the one told by their names.
+abbrev pub BlossomNamed : Type 0
+BlossomNamed = (nodes : List Node) (name : ℕ) (children : List Child) → AreDistinct (map (λ n. n.name) nodes)
+    → All (λ c. IsSetOf nodes c.name c.set) children
+    → blossom_of name children ≡ blossom name (names_of children) nodes
+
+-- Nodes of a tree that become a blossom may be joined under a name that no node has.
+abbrev pub JoiningAllowed : Type 0
+JoiningAllowed = (nodes : List Node) (tree : List Entry) (root name : ℕ) (base : Child) (others : List Child)
+    → IsJoining nodes tree root name base others → 1 ≤ length others → is_live nodes name ≡ false
+    → MayJoin nodes name (names_of (base ∷ others))
+
+-- Then no node joins the blossom, as its joining asks.
+abbrev pub BlossomOuter : Type 0
+BlossomOuter = (p : Problem) (nodes : List Node) (name : ℕ) (children : List Child) → IsNest p nodes
+    → All (λ c. IsSetOf nodes c.name c.set) children → is_live nodes name ≡ false
+    → is_outer (nodes ++ blossom_of name children ∷ []) name ≡ true
+
+-- the vertex is the one that the node has given up: no defect, under no node, and taking it up again leads back
+pub record IsGivenUp (nodes : List Node) (name v : ℕ) : Type 0 where
+  pub back : taken_up name v (uncovered name nodes) ≡ nodes
+  pub no_defect : is_in (leaves (uncovered name nodes)) v ≡ false
+  pub free : cover_of (uncovered name nodes) v ≡ None
+  pub live : is_live (uncovered name nodes) name ≡ true
+  pub outer : is_outer (uncovered name nodes) name ≡ true
+
+-- A node whose empty top layer is taken off gives up one vertex.
+abbrev pub UncoveredBack : Type 0
+UncoveredBack = (p : Problem) (nodes : List Node) (name : ℕ) → MayUncover nodes name → IsNest p nodes
+    → (v : ℕ) × IsGivenUp nodes name v
+
+-- So a minus node whose empty layer is taken off leaves less to do,
+abbrev pub UncoveredLowers : Type 0
+UncoveredLowers = (p : Problem) (nodes : List Node) (roles : Roles) (name : ℕ) (free freed : Bool)
+    → MayUncover nodes name → IsNest p nodes → roles.is_minus name ≡ true → roles.is_plus name ≡ false
+    → IsLower (left_to_do p (uncovered name nodes) roles freed) (left_to_do p nodes roles free)

@@ -1,0 +1,17 @@
+//! The moves of a nest, told as the laws of searches tell them.
+
+ghost use Rattle.fb_laws.specs.NestBridges.{BlossomNamed, JoiningAllowed, BlossomOuter, UncoveredBack, UncoveredLowers};
+
+/// A blossom told by its children's names and sets is the one told by their names, and what may become a blossom of a
+/// tree may be joined.
+pub fn blossom_named()
+    ensures named { BlossomNamed }
+    ensures allowed { JoiningAllowed }
+    ensures outer { BlossomOuter }
+{}
+
+/// A node whose empty top layer is taken off gives up one vertex, and taking that up again leads back.
+pub fn uncovered_back()
+    ensures back { UncoveredBack }
+    ensures lowers { UncoveredLowers }
+{}
