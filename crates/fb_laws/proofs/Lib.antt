@@ -23,6 +23,7 @@ pub mod MatchedNodes
 pub mod MergedParts
 pub mod MoveBridges
 pub mod NestParts
+pub mod NestedStates
 pub mod OpenedLevels
 pub mod OpenedSearches
 pub mod OpenedTrees

@@ -12,6 +12,7 @@ pub mod Merging
 pub mod Moves
 pub mod NestBridges
 pub mod NestWitnesses
+pub mod NestedSearches
 pub mod Nests
 pub mod Opening
 pub mod Parities

@@ -17,6 +17,7 @@ pub mod links;
 pub mod measures;
 pub mod merging;
 pub mod moves;
+pub mod nested;
 pub mod opening;
 pub mod parities;
 pub mod paths;
@@ -47,6 +48,10 @@ pub use measures::search_ends;
 pub use merging::{matchings_merged, seam_opened};
 pub use moves::{
     nest_begins, nest_joined, nest_split, nest_stepped, nest_taken_up, nest_uncovered,
+};
+pub use nested::{
+    nested_attached, nested_begins, nested_ended, nested_joined, nested_layers, nested_opened,
+    nested_stepped,
 };
 pub use opening::{last_level, levels};
 pub use parities::{attached_parity, stepped_parity};

@@ -1,0 +1,120 @@
+-- The whole state of a search: its nest, its matched links and its tree. Each step keeps all three, so that none asks
+-- for the dual state that it leads to.
+use Rattle.std.specs.Prelude.{ℕ, ◌≡◌, ◌+◌, ◌%◌, ◌≤◌, true, false, List, [], ◌∷◌, ◌++◌, map, length, All}
+use Rattle.fb_graph.specs.Parity.{is_in}
+use Rattle.fb_graph.specs.Problem.{Problem}
+use Rattle.fb_graph.specs.Certificate.{AreDistinct}
+use Rattle.fb_graph.specs.Limits.{IsWithinLimits}
+use Rattle.fb_graph.specs.Laws.{Link, HasNoOddClosed}
+use Rattle.fb_graph.specs.Dual.{Node, is_live}
+use Rattle.fb_laws.specs.Steps.{MayStep, stepped}
+use Rattle.fb_laws.specs.Links.{AreEven}
+use Rattle.fb_laws.specs.Sprouts.{Sprout, nodes_of, vertices_of}
+use Rattle.fb_laws.specs.Works.{AreMatchedLinks, IsWork, without}
+use Rattle.fb_laws.specs.Forming.{Child, names_of}
+use Rattle.fb_laws.specs.Trees.{Entry, Connects, grown_links, paired_links, plus_names, roles_of, path_to, beside}
+use Rattle.fb_laws.specs.Searches.{IsOuterNode, IsSearch, LeavesNode}
+use Rattle.fb_laws.specs.SearchBlossoms.{IsJoining, joined_tree, renamed}
+use Rattle.fb_laws.specs.SearchOpenings.{IsOpenedTree}
+use Rattle.fb_laws.specs.Nests.{IsNest}
+use Rattle.fb_laws.specs.Moves.{MaySplit, MayTakeUp, MayUncover, joined, split, taken_up, uncovered}
+
+-- what holds between searches
+pub record IsNestedWork (p : Problem) (nodes : List Node) (links : List Link) (unmatched : List ℕ) : Type 0 where
+  pub nest : IsNest p nodes
+  pub work : IsWork p nodes links unmatched
+
+-- what holds while a tree grows
+pub record IsNestedSearch (p : Problem) (nodes : List Node) (tree : List Entry) (rest : List Link)
+    (unmatched : List ℕ) (root r : ℕ) : Type 0 where
+  pub nest : IsNest p nodes
+  pub search : IsSearch p nodes tree rest unmatched root r
+
+-- A part begins with its defects as nodes without values, all unmatched.
+abbrev pub NestedWorkBegins : Type 0
+NestedWorkBegins = (p : Problem) (sprouts : List Sprout) → AreDistinct (map (λ s. s.name) sprouts)
+    → AreDistinct (vertices_of sprouts) → All (λ s. p.is_real s.vertex ≡ true) sprouts
+    → All (λ s. s.value ≡ 0) sprouts
+    → ((v : ℕ) → p.is_real v ≡ true → p.is_defect v ≡ is_in (vertices_of sprouts) v)
+    → IsNestedWork p (nodes_of sprouts) [] (map (λ s. s.name) sprouts)
+
+-- A search begins with an unmatched node.
+abbrev pub NestedSearchBegins : Type 0
+NestedSearchBegins = (p : Problem) (nodes : List Node) (links : List Link) (unmatched : List ℕ) (root : ℕ)
+    → IsNestedWork p nodes links unmatched → IsOuterNode nodes root → is_in unmatched root ≡ true
+    → IsNestedSearch p nodes [] links unmatched root 0
+
+-- A free step, where no closed set is odd: then an edge leaves each plus node.
+abbrev pub NestedStepped : Type 0
+NestedStepped = (p : Problem) (nodes : List Node) (tree : List Entry) (rest : List Link) (unmatched : List ℕ)
+    (root r k : ℕ) → IsWithinLimits p → HasNoOddClosed p → MayStep p (roles_of root tree) nodes k
+    → IsNestedSearch p nodes tree rest unmatched root r
+    → IsNestedSearch p (stepped (roles_of root tree) k nodes) tree rest unmatched root ((r + k) % 2)
+
+-- A vertex taken up by any outer node.
+abbrev pub NestedTakenUp : Type 0
+NestedTakenUp = (p : Problem) (nodes : List Node) (tree : List Entry) (rest : List Link) (unmatched : List ℕ)
+    (root r name k u v : ℕ) → AreEven p → MayTakeUp p nodes name k u v
+    → IsNestedSearch p nodes tree rest unmatched root r
+    → IsNestedSearch p (taken_up name v nodes) tree rest unmatched root r
+
+-- An empty top layer taken off.
+abbrev pub NestedUncovered : Type 0
+NestedUncovered = (p : Problem) (nodes : List Node) (tree : List Entry) (rest : List Link) (unmatched : List ℕ)
+    (root r name : ℕ) → MayUncover nodes name → IsNestedSearch p nodes tree rest unmatched root r
+    → IsNestedSearch p (uncovered name nodes) tree rest unmatched root r
+
+-- Two matched nodes attached.
+abbrev pub NestedAttached : Type 0
+NestedAttached = (p : Problem) (nodes : List Node) (tree : List Entry) (e : Entry) (rest : List Link)
+    (unmatched : List ℕ) (root r : ℕ) → AreEven p → IsNestedSearch p nodes tree (e.matched ∷ rest) unmatched root r
+    → is_in (plus_names root tree) e.parent ≡ true → Connects nodes e.tree e.parent e.minus
+    → Connects nodes e.matched e.minus e.plus → AreMatchedLinks p nodes (e.tree ∷ [])
+    → IsNestedSearch p nodes (e ∷ tree) rest unmatched root r
+
+-- Branches joined with their base to a blossom, under a name that no node has.
+abbrev pub NestedJoined : Type 0
+NestedJoined = (p : Problem) (nodes : List Node) (tree : List Entry) (rest : List Link) (unmatched remaining : List ℕ)
+    (root r name : ℕ) (base : Child) (others : List Child) → IsJoining nodes tree root name base others
+    → 1 ≤ length others → is_live nodes name ≡ false → is_in remaining name ≡ is_in unmatched base.name
+    → ((n : ℕ) → is_in (names_of (base ∷ others)) n ≡ false → (n ≡ name → ⊥) → is_in remaining n ≡ is_in unmatched n)
+    → IsNestedSearch p nodes tree rest unmatched root r
+    → IsNestedSearch p (joined name (names_of (base ∷ others)) nodes)
+    (joined_tree (is_in (names_of (base ∷ others))) name tree) rest remaining
+    (renamed (is_in (names_of (base ∷ others))) name root) r
+
+-- A minus blossom without value opened.
+abbrev pub NestedOpened : Type 0
+NestedOpened = (p : Problem) (nodes : List Node) (newer older tree : List Entry) (e : Entry) (kept : ℕ)
+    (paired : List ℕ) (more rest later : List Link) (unmatched : List ℕ) (root r : ℕ) → MaySplit nodes e.minus
+    → IsOpenedTree p nodes (split e.minus nodes) newer older tree e kept paired more rest later unmatched root
+    → IsNestedSearch p nodes (newer ++ e ∷ older) rest unmatched root r
+    → IsNestedSearch p (split e.minus nodes) tree later unmatched root r
+
+-- The root matched to the boundary.
+abbrev pub NestedEnded : Type 0
+NestedEnded = (p : Problem) (nodes : List Node) (tree : List Entry) (rest : List Link) (unmatched : List ℕ)
+    (root r name : ℕ) (out : Link) (v : ℕ) → IsNestedSearch p nodes tree rest unmatched root r
+    → is_in (plus_names root tree) name ≡ true → AreMatchedLinks p nodes (out ∷ []) → LeavesNode nodes out name v
+    → p.is_real v ≡ false
+    → IsNestedWork p nodes (grown_links (path_to tree name) ++ out ∷ (paired_links (beside tree name) ++ rest))
+    (without root unmatched)
+
+-- The root matched with another unmatched node.
+abbrev pub NestedMet : Type 0
+NestedMet = (p : Problem) (nodes : List Node) (tree : List Entry) (rest : List Link) (unmatched : List ℕ)
+    (root r name other : ℕ) (out : Link) → IsNestedSearch p nodes tree rest unmatched root r
+    → is_in (plus_names root tree) name ≡ true → is_in unmatched other ≡ true → (root ≡ other → ⊥)
+    → AreMatchedLinks p nodes (out ∷ []) → Connects nodes out name other
+    → IsNestedWork p nodes (grown_links (path_to tree name) ++ out ∷ (paired_links (beside tree name) ++ rest))
+    (without root (without other unmatched))
+
+-- The root matched with a node that was matched to the boundary.
+abbrev pub NestedReleased : Type 0
+NestedReleased = (p : Problem) (nodes : List Node) (tree : List Entry) (old : Link) (rest : List Link)
+    (unmatched : List ℕ) (root r name other : ℕ) (out : Link) (b : ℕ)
+    → IsNestedSearch p nodes tree (old ∷ rest) unmatched root r → is_in (plus_names root tree) name ≡ true
+    → AreMatchedLinks p nodes (out ∷ []) → Connects nodes out name other → LeavesNode nodes old other b
+    → p.is_real b ≡ false
+    → IsNestedWork p nodes (grown_links (path_to tree name) ++ out ∷ (paired_links (beside tree name) ++ rest))
+    (without root unmatched)

@@ -1,0 +1,42 @@
+//! The whole state of a search, a nest with its matched links and its tree, which each step keeps.
+
+ghost use Rattle.fb_laws.specs.NestedSearches.{NestedWorkBegins, NestedSearchBegins, NestedStepped, NestedTakenUp, NestedUncovered, NestedAttached, NestedJoined, NestedOpened, NestedEnded, NestedMet, NestedReleased};
+
+/// A part begins with its defects as nodes, all unmatched, and a search with an unmatched node.
+pub fn nested_begins()
+    ensures work { NestedWorkBegins }
+    ensures search { NestedSearchBegins }
+{}
+
+/// A free step keeps the state where no closed set is odd, since then an edge leaves each plus node.
+pub fn nested_stepped()
+    ensures { NestedStepped }
+{}
+
+/// A vertex taken up and an empty layer taken off keep the state.
+pub fn nested_layers()
+    ensures taken_up { NestedTakenUp }
+    ensures uncovered { NestedUncovered }
+{}
+
+/// Two matched nodes attached to the tree keep the state.
+pub fn nested_attached()
+    ensures { NestedAttached }
+{}
+
+/// A blossom formed of branches and their base keeps the state.
+pub fn nested_joined()
+    ensures { NestedJoined }
+{}
+
+/// A minus blossom opened keeps the state.
+pub fn nested_opened()
+    ensures { NestedOpened }
+{}
+
+/// Augmenting leads to the state between searches.
+pub fn nested_ended()
+    ensures boundary { NestedEnded }
+    ensures met { NestedMet }
+    ensures released { NestedReleased }
+{}
