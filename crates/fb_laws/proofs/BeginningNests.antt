@@ -6,10 +6,11 @@ use Rattle.std.proofs.lemmas.List.Kept.{AllPairs-cons}
 use Rattle.fb_graph.specs.Parity.{is_in}
 use Rattle.fb_graph.specs.Certificate.{AreDistinct}
 use Rattle.fb_graph.specs.Printed.{DifferAsSets}
-use Rattle.fb_graph.specs.Dual.{AreApart, is_empty, is_live}
+use Rattle.fb_graph.specs.Problem.{Problem}
+use Rattle.fb_graph.specs.Dual.{IsDual, AreApart, is_empty, is_live}
 use Rattle.fb_graph.proofs.Members.{or_false}
 use Rattle.fb_laws.specs.Ends.{AreAllApart}
-use Rattle.fb_laws.specs.Nests.{IsFormed, IsFilled, AreJoinedLater, HasSources, child_sets}
+use Rattle.fb_laws.specs.Nests.{IsNest, IsFormed, IsFilled, AreJoinedLater, HasSources, child_sets}
 use Rattle.fb_laws.specs.Moves.{NestBegins}
 use Rattle.fb_laws.specs.Sprouts.{Sprout, node_of, nodes_of, vertices_of}
 use Rattle.fb_laws.proofs.SproutStates.{cut_of, cuts_are, leaves_are, beginning_is_dual, vertex_in}
@@ -39,9 +40,11 @@ differ (s ∷ ss) distinct =
     )))
     (differ ss distinct.1)
 
-pub nest_begins : NestBegins
-nest_begins p sprouts names vertices real zero_ = record {
-  dual = beginning_is_dual p sprouts names vertices real zero_;
+-- a dual state of nodes of one defect each is a nest
+pub sprouts_are_nest : (p : Problem) (sprouts : List Sprout) → AreDistinct (vertices_of sprouts) → IsDual p (nodes_of sprouts)
+    → IsNest p (nodes_of sprouts)
+sprouts_are_nest p sprouts vertices dual = record {
+  dual = dual;
   forest = record {
     formed = All-map IsFormed node_of sprouts (λ i d less. inl (record { none = refl; defect = refl }));
     live = All-map (λ n. All (λ c. is_live (nodes_of sprouts) c ≡ true) n.children) node_of sprouts
@@ -62,3 +65,7 @@ nest_begins p sprouts names vertices real zero_ = record {
       ));
   differ = subst (AllPairs DifferAsSets) (sym (cuts_are sprouts)) (differ sprouts vertices);
 }
+
+pub nest_begins : NestBegins
+nest_begins p sprouts names vertices real zero_ =
+    sprouts_are_nest p sprouts vertices (beginning_is_dual p sprouts names vertices real zero_)

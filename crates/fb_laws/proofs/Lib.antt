@@ -35,10 +35,12 @@ pub mod SampleCycles
 pub mod SampleEnds
 pub mod SampleLevels
 pub mod SampleNests
+pub mod SampleOpenings
 pub mod SampleParts
 pub mod SampleSearches
 pub mod SampleSeams
 pub mod SampleStates
+pub mod SampleTrees
 pub mod SearchEnds
 pub mod SearchStates
 pub mod SearchTrees

@@ -26,6 +26,7 @@ pub mod Searches
 pub mod Signed
 pub mod Sprouts
 pub mod Steps
+pub mod TreeWitnesses
 pub mod Trees
 pub mod Turns
 pub mod Witnesses
