@@ -1,27 +1,31 @@
 -- The moves of a nest, told as the laws of searches tell them.
-use Rattle.std.proofs.Common.{ℕ, ◌≡◌, ◌≤◌, ◌==◌, ◌⊎◌, inl, inr, not, true, false, List, [], ◌∷◌, ◌++◌, map, length, All, Option, Some, None, refl, sym, ap, ◌∙◌, subst, arith}
+use Rattle.std.proofs.Common.{ℕ, ◌≡◌, ◌≤◌, ◌⊎◌, inl, inr, not, Bool, true, false, cond, List, [], ◌∷◌, ◌++◌, map, length, All, Option, Some, None, refl, sym, ap, ◌∙◌, subst, arith}
 use Rattle.std.specs.List.{concat}
-use Rattle.std.proofs.lemmas.Bool.{both_ways, false_from_ne_true, cases_eq}
+use Rattle.std.specs.Option.{IsSome}
+use Rattle.std.proofs.lemmas.Bool.{both_ways, false≢true, false_from_ne_true, cases_eq}
 use Rattle.std.proofs.lemmas.List.{length-map}
 use Rattle.std.proofs.lemmas.List.Elements.{All-head, All-tail, All-map, All-weaker}
 use Rattle.fb_graph.specs.Parity.{is_in}
 use Rattle.fb_graph.specs.Problem.{Problem}
 use Rattle.fb_graph.specs.Certificate.{AreDistinct}
-use Rattle.fb_graph.specs.Dual.{Node, cover_of, is_live, is_outer, leaves, layers_of, node_at, taller, top_at, change_at}
+use Rattle.fb_graph.specs.Dual.{Node, IsDual, cover_of, is_live, is_outer, leaves, layers_of, node_at, taller, top_at, change_at}
 use Rattle.fb_graph.specs.declared.parts.Cut.{Cut}
 use Rattle.fb_graph.proofs.Members.{is_in_pushed}
-use Rattle.fb_graph.proofs.Sets.{is_in-All, is_in-head}
+use Rattle.fb_graph.proofs.Sets.{is_in-All, is_in-head, is_in-tail}
 use Rattle.fb_laws.specs.Forming.{Child, blossom_of, names_of, sets_of}
 use Rattle.fb_laws.specs.Works.{IsSetOf}
 use Rattle.fb_laws.specs.Nests.{IsNest}
-use Rattle.fb_laws.specs.Moves.{MayUncover, lower, taken_up, uncovered}
+use Rattle.fb_laws.specs.Moves.{MayUncover, joined, lower, taken_up, uncovered}
 use Rattle.fb_laws.specs.Measures.{IsLower}
+use Rattle.fb_laws.specs.SearchBlossoms.{inner_branches, joined_tree, renamed}
 use Rattle.fb_laws.specs.SearchLayers.{left_to_do}
-use Rattle.fb_laws.specs.NestBridges.{BlossomNamed, BlossomOuter, IsGivenUp, JoiningAllowed, UncoveredBack, UncoveredLowers}
+use Rattle.fb_laws.specs.Trees.{Entry, minus_names, roles_of}
+use Rattle.fb_laws.specs.NestBridges.{BlossomNamed, BlossomOuter, JoiningAllowed, JoiningLowers, TakenUpLowers, UncoveredBack, UncoveredLowers}
 use Rattle.fb_laws.proofs.Among.{IsAmong, All_among, among_either, among_live, among_map, among_outer, map_among, apart_among, cover_among, same_among}
 use Rattle.fb_laws.proofs.ChangedNodes.{change, by_name}
+use Rattle.fb_laws.proofs.JoinedNests.{nest_joined}
 use Rattle.fb_laws.proofs.LoweredNests.{at, there, bare, layers, kept, same_leaves, added, no_defect}
-use Rattle.fb_laws.proofs.LoweredParts.{uncover_lowers}
+use Rattle.fb_laws.proofs.LoweredParts.{absorb_lowers, joined_lowers, uncover_lowers}
 use Rattle.fb_laws.proofs.MappedNodes.{mapped_outer}
 use Rattle.fb_laws.proofs.MergedParts.{distinct_across, live_at}
 use Rattle.fb_laws.proofs.NestParts.{top_is_odd}
@@ -75,7 +79,8 @@ pub blossom_outer : BlossomOuter
 blossom_outer p nodes name children nest are fresh =
     among_outer (nodes ++ blossom_of name children ∷ []) name
     (λ q a. false_from_ne_true (is_in q.children name)
-    (λ child. both_ways (is_live nodes name) fresh (joined q (among_either nodes (blossom_of name children ∷ []) q a) child)))
+    (λ child. both_ways (is_live nodes name) fresh
+    (joined q (among_either nodes (blossom_of name children ∷ []) q a) child)))
   where
     joined : (q : Node) → IsAmong q nodes ⊎ IsAmong q (blossom_of name children ∷ [])
         → is_in q.children name ≡ true → is_live nodes name ≡ true
@@ -121,7 +126,8 @@ module _ (p : Problem) (nodes : List Node) (name : ℕ) (may : MayUncover nodes 
 
   raised : taller vertex (lower node) ≡ node
   raised =
-      ap (λ b. with_layers b 0 ((lower node).top.vertices ++ vertex ∷ [])) (layers p nodes name may nest node among named)
+      ap (λ b. with_layers b 0 ((lower node).top.vertices ++ vertex ∷ []))
+      (layers p nodes name may nest node among named)
       ∙ (ap (with_layers node.below 0) (sym pushed)
       ∙ ap (λ y. with_layers node.below y node.top.vertices) (sym (bare p nodes name may nest node among named).1))
 
@@ -209,3 +215,47 @@ uncovered_lowers p nodes roles name free freed may nest minus plus =
     let (v, given) = uncovered_back p nodes name may nest in
     subst (λ ns. IsLower (left_to_do p (uncovered name nodes) roles freed) (left_to_do p ns roles free)) given.back
     (uncover_lowers p (uncovered name nodes) roles name v free freed given.no_defect minus plus given.live given.outer given.free)
+
+-- an uncovered vertex is no defect
+pub no_leaf : (p : Problem) (nodes : List Node) (v : ℕ) → IsDual p nodes → cover_of nodes v ≡ None
+    → is_in (leaves nodes) v ≡ false
+no_leaf p nodes v dual none =
+    false_from_ne_true (is_in (leaves nodes) v) (λ leaf. false≢true (subst IsSome none (dual.defects v leaf)))
+
+pub taken_up_lowers : TakenUpLowers
+taken_up_lowers p nodes roles name k u v free freed limits may nest plus =
+    let over = cover_among nodes u name may.covered in
+    absorb_lowers p nodes roles name v free freed (no_leaf p nodes v nest.dual may.uncovered)
+    (limits.real_below v may.real) plus (among_live nodes over.node name over.among over.named)
+    (ap (is_outer nodes) (sym over.named) ∙ over.outer) may.uncovered
+
+-- a branch that is taken in has a minus node
+some_minus : (test : ℕ → Bool) (tree : List Entry) → 1 ≤ length (inner_branches test tree)
+    → (m : ℕ) × (is_in (minus_names tree) m ≡ true) × (test m ≡ true)
+some_minus test [] some = absurd (let none : 1 ≤ 0 = some in omega arith)
+some_minus test (e ∷ es) some = step (test e.minus) refl some (some_minus test es)
+  where
+    Found : List Entry → Type 0
+    Found tree = (m : ℕ) × (is_in (minus_names tree) m ≡ true) × (test m ≡ true)
+
+    step : (b : Bool) → test e.minus ≡ b
+        → 1 ≤ length (cond b (e ∷ inner_branches test es) (inner_branches test es))
+        → (1 ≤ length (inner_branches test es) → Found es) → Found (e ∷ es)
+    step true passing more rest = (e.minus, is_in-head e.minus (minus_names es), passing)
+    step false other more rest =
+        let (m, within, passing) = rest more in
+        (m, is_in-tail e.minus (minus_names es) m within, passing)
+
+pub joining_lowers : JoiningLowers
+joining_lowers p nodes tree rest unmatched root r name base others free freed joining some fresh nest search =
+    let test : ℕ → Bool = is_in (names_of (base ∷ others)) in
+    let (minus, among, inner) = some_minus test tree (omega (arith, some, joining.even)) in
+    let may = joining_allowed nodes tree root name base others joining some fresh in
+    let named : nodes ++ blossom_of name (base ∷ others) ∷ [] ≡ joined name (names_of (base ∷ others)) nodes =
+    ap (λ b. nodes ++ b ∷ []) (blossom_named nodes name (base ∷ others) nest.dual.names joining.nodes_are) in
+    subst
+    (λ ns. IsLower (left_to_do p ns (roles_of (renamed test name root) (joined_tree test name tree)) freed)
+    (left_to_do p nodes (roles_of root tree) free)) named
+    (joined_lowers p nodes tree rest unmatched root r name base others minus free freed joining
+    (subst (IsDual p) (sym named) (nest_joined p nodes name
+    (names_of (base ∷ others)) may nest).dual) search among inner)

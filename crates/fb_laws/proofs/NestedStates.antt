@@ -1,11 +1,9 @@
 -- Each step of a search keeps its nest with its matched links and its tree.
-use Rattle.std.proofs.Common.{ℕ, ◌≡◌, true, false, List, [], ◌∷◌, ◌++◌, All, Some, None, refl, sym, ap, ◌∙◌, subst}
-use Rattle.std.specs.Option.{IsSome}
-use Rattle.std.proofs.lemmas.Bool.{false≢true, false_from_ne_true}
+use Rattle.std.proofs.Common.{ℕ, ◌≡◌, true, List, [], ◌∷◌, ◌++◌, All, sym, ap, subst}
 use Rattle.fb_graph.specs.Parity.{is_in}
 use Rattle.fb_graph.specs.Problem.{Problem}
 use Rattle.fb_graph.specs.Laws.{Link, HasNoOddClosed}
-use Rattle.fb_graph.specs.Dual.{Node, IsCrossed, IsDual, cover_of, is_outer, leaves}
+use Rattle.fb_graph.specs.Dual.{Node, IsCrossed, IsDual}
 use Rattle.fb_graph.proofs.ClosedSets.{edge_leaves}
 use Rattle.fb_laws.specs.Forming.{Child, names_of, blossom_of}
 use Rattle.fb_laws.specs.Trees.{Entry, roles_of}
@@ -22,7 +20,7 @@ use Rattle.fb_laws.proofs.JoinedNests.{nest_joined}
 use Rattle.fb_laws.proofs.JoinedSearches.{search_joined}
 use Rattle.fb_laws.proofs.LayeredSearches.{search_alike, taller_alike}
 use Rattle.fb_laws.proofs.LoweredNests.{nest_uncovered}
-use Rattle.fb_laws.proofs.MoveBridges.{blossom_named, joining_allowed, uncovered_back}
+use Rattle.fb_laws.proofs.MoveBridges.{blossom_named, joining_allowed, no_leaf, uncovered_back}
 use Rattle.fb_laws.proofs.NestParts.{top_is_odd}
 use Rattle.fb_laws.proofs.OpenedTrees.{search_opened}
 use Rattle.fb_laws.proofs.RaisedNests.{nest_taken_up}
@@ -60,12 +58,6 @@ nested_stepped p nodes tree rest unmatched root r k limits even may state =
     (crossed p nodes tree rest unmatched root r even state.nest state.search) may state.nest in
     let search = search_stepped p nodes tree rest unmatched root r k may.tops nest.dual state.search in
     record { nest = nest; search = search }
-
--- an uncovered vertex is no defect
-no_leaf : (p : Problem) (nodes : List Node) (v : ℕ) → IsDual p nodes → cover_of nodes v ≡ None
-    → is_in (leaves nodes) v ≡ false
-no_leaf p nodes v dual none =
-    false_from_ne_true (is_in (leaves nodes) v) (λ leaf. false≢true (subst IsSome none (dual.defects v leaf)))
 
 pub nested_taken_up : NestedTakenUp
 nested_taken_up p nodes tree rest unmatched root r name k u v even may state =

@@ -3,16 +3,19 @@ use Rattle.std.specs.Prelude.{ℕ, ◌≡◌, ◌≤◌, Bool, true, false, List
 use Rattle.fb_graph.specs.Parity.{is_in}
 use Rattle.fb_graph.specs.Problem.{Problem}
 use Rattle.fb_graph.specs.Certificate.{AreDistinct}
+use Rattle.fb_graph.specs.Limits.{IsWithinLimits}
+use Rattle.fb_graph.specs.Laws.{Link}
 use Rattle.fb_graph.specs.Dual.{Node, cover_of, is_live, is_outer, leaves}
 use Rattle.fb_laws.specs.Measures.{IsLower}
 use Rattle.fb_laws.specs.Steps.{Roles}
 use Rattle.fb_laws.specs.Forming.{Child, names_of, blossom_of}
 use Rattle.fb_laws.specs.Works.{IsSetOf}
-use Rattle.fb_laws.specs.Trees.{Entry}
+use Rattle.fb_laws.specs.Trees.{Entry, roles_of}
 use Rattle.fb_laws.specs.SearchLayers.{left_to_do}
-use Rattle.fb_laws.specs.SearchBlossoms.{IsJoining}
+use Rattle.fb_laws.specs.SearchBlossoms.{IsJoining, joined_tree, renamed}
+use Rattle.fb_laws.specs.Searches.{IsSearch}
 use Rattle.fb_laws.specs.Nests.{IsNest}
-use Rattle.fb_laws.specs.Moves.{MayJoin, MayTakeUp, MayUncover, blossom, taken_up, uncovered}
+use Rattle.fb_laws.specs.Moves.{MayJoin, MayTakeUp, MayUncover, blossom, joined, taken_up, uncovered}
 
 -- A blossom told by its children's names and sets is the one told by their names.
 abbrev pub BlossomNamed : Type 0
@@ -45,8 +48,26 @@ abbrev pub UncoveredBack : Type 0
 UncoveredBack = (p : Problem) (nodes : List Node) (name : ℕ) → MayUncover nodes name → IsNest p nodes
     → (v : ℕ) × IsGivenUp nodes name v
 
--- So a minus node whose empty layer is taken off leaves less to do,
+-- So a minus node whose empty layer is taken off leaves less to do.
 abbrev pub UncoveredLowers : Type 0
 UncoveredLowers = (p : Problem) (nodes : List Node) (roles : Roles) (name : ℕ) (free freed : Bool)
     → MayUncover nodes name → IsNest p nodes → roles.is_minus name ≡ true → roles.is_plus name ≡ false
     → IsLower (left_to_do p (uncovered name nodes) roles freed) (left_to_do p nodes roles free)
+
+-- So does a plus node that takes up a vertex.
+abbrev pub TakenUpLowers : Type 0
+TakenUpLowers = (p : Problem) (nodes : List Node) (roles : Roles) (name k u v : ℕ) (free freed : Bool)
+    → IsWithinLimits p → MayTakeUp p nodes name k u v → IsNest p nodes → roles.is_plus name ≡ true
+    → IsLower (left_to_do p (taken_up name v nodes) roles freed) (left_to_do p nodes roles free)
+
+-- And nodes of a tree that are joined, since one of them is minus.
+abbrev pub JoiningLowers : Type 0
+JoiningLowers = (p : Problem) (nodes : List Node) (tree : List Entry) (rest : List Link) (unmatched : List ℕ)
+    (root r name : ℕ) (base : Child) (others : List Child) (free freed : Bool)
+    → IsJoining nodes tree root name base others → 1 ≤ length others → is_live nodes name ≡ false → IsNest p nodes
+    → IsSearch p nodes tree rest unmatched root r
+    → IsLower
+    (left_to_do p (joined name (names_of (base ∷ others)) nodes)
+    (roles_of (renamed (is_in (names_of (base ∷ others))) name root)
+    (joined_tree (is_in (names_of (base ∷ others))) name tree)) freed)
+    (left_to_do p nodes (roles_of root tree) free)

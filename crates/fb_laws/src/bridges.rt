@@ -1,6 +1,6 @@
 //! The moves of a nest, told as the laws of searches tell them.
 
-ghost use Rattle.fb_laws.specs.NestBridges.{BlossomNamed, JoiningAllowed, BlossomOuter, UncoveredBack, UncoveredLowers};
+ghost use Rattle.fb_laws.specs.NestBridges.{BlossomNamed, JoiningAllowed, BlossomOuter, UncoveredBack, UncoveredLowers, TakenUpLowers, JoiningLowers};
 
 /// A blossom told by its children's names and sets is the one told by their names, and what may become a blossom of a
 /// tree may be joined.
@@ -12,6 +12,12 @@ pub fn blossom_named()
 
 /// A node whose empty top layer is taken off gives up one vertex, and taking that up again leads back.
 pub fn uncovered_back()
-    ensures back { UncoveredBack }
-    ensures lowers { UncoveredLowers }
+    ensures { UncoveredBack }
+{}
+
+/// A minus node's layer taken off, a vertex taken up by a plus node and nodes of a tree joined each leave less to do.
+pub fn moves_lower()
+    ensures uncovered { UncoveredLowers }
+    ensures taken_up { TakenUpLowers }
+    ensures joined { JoiningLowers }
 {}

@@ -31,7 +31,7 @@ pub mod witnesses;
 pub mod works;
 
 pub use blossoms::{blossom_formed, blossom_opened, odd_cycle};
-pub use bridges::{blossom_named, uncovered_back};
+pub use bridges::{blossom_named, moves_lower, uncovered_back};
 pub use covers::{crossings_by_cover, even_residue, free_step, links_are_level, step_heights};
 pub use differences::cuts_differ;
 pub use ends::{crossed_once, ends_add};
