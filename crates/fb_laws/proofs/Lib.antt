@@ -32,6 +32,7 @@ pub mod Places
 pub mod PotentialParities
 pub mod RaisedNests
 pub mod SampleCycles
+pub mod SampleEndings
 pub mod SampleEnds
 pub mod SampleLevels
 pub mod SampleNests

@@ -68,7 +68,7 @@ crown_nest =
     (sprouts_are_dual crown crown_sprouts crown_are_sprouts)
 
 -- the corners joined
-closed_nest : IsNest crown (joined 5 (0 ∷ 1 ∷ 2 ∷ []) crown_nodes)
+pub closed_nest : IsNest crown (joined 5 (0 ∷ 1 ∷ 2 ∷ []) crown_nodes)
 closed_nest =
     nest_joined crown crown_nodes 5 (0 ∷ 1 ∷ 2 ∷ []) (record {
       many = record { three = omega arith; odd = refl; distinct = (refl, (refl, (refl, tt))) };

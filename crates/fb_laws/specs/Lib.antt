@@ -13,6 +13,7 @@ pub mod Moves
 pub mod NestBridges
 pub mod NestWitnesses
 pub mod NestedSearches
+pub mod NestedWitnesses
 pub mod Nests
 pub mod Opening
 pub mod Parities

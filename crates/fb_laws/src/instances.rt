@@ -1,6 +1,7 @@
 //! That the premises of the laws on nests and searches can be met, on small graphs.
 
 ghost use Rattle.fb_laws.specs.NestWitnesses.{NestWitness};
+ghost use Rattle.fb_laws.specs.NestedWitnesses.{NestedWitness, EndingWitness};
 ghost use Rattle.fb_laws.specs.TreeWitnesses.{LayerWitness, JoiningWitness, SplittingWitness, LevelWitness};
 
 /// Of the laws on the moves of a nest.
@@ -26,4 +27,14 @@ pub fn splitting_witness()
 /// Of the laws on a part's blossoms opened level by level.
 pub fn level_witness()
     ensures { LevelWitness }
+{}
+
+/// Of the laws on the whole state of a search, but for its end.
+pub fn nested_witness()
+    ensures { NestedWitness }
+{}
+
+/// Of the laws on attaching two nodes and on the end of a search.
+pub fn ending_witness()
+    ensures { EndingWitness }
 {}
