@@ -23,6 +23,8 @@ pub mod MatchedNodes
 pub mod MergedParts
 pub mod MoveBridges
 pub mod NestParts
+pub mod NestUnions
+pub mod NestedFusions
 pub mod NestedStates
 pub mod OpenedLevels
 pub mod OpenedSearches

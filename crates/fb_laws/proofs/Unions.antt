@@ -12,7 +12,7 @@ use Rattle.fb_graph.proofs.ParitySums.{odd-append, differ-false}
 use Rattle.fb_laws.specs.Ends.{AreAllApart}
 use Rattle.fb_laws.proofs.EndSums.{apart_union}
 
-distinct_append : (xs ys : List ℕ) → AreDistinct xs → AreDistinct ys → AreApart xs ys → AreDistinct (xs ++ ys)
+pub distinct_append : (xs ys : List ℕ) → AreDistinct xs → AreDistinct ys → AreApart xs ys → AreDistinct (xs ++ ys)
 distinct_append [] ys d e apart = e
 distinct_append (x ∷ xs) ys d e apart = (
   is_in-append xs ys x ∙ or_from (is_in xs x) (is_in ys x) d.0 (apart x (is_in-head x xs)),

@@ -11,6 +11,7 @@ pub mod Measures
 pub mod Merging
 pub mod Moves
 pub mod NestBridges
+pub mod NestFusion
 pub mod NestWitnesses
 pub mod NestedSearches
 pub mod NestedWitnesses

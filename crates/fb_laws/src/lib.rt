@@ -18,6 +18,7 @@ pub mod measures;
 pub mod merging;
 pub mod moves;
 pub mod nested;
+pub mod nested_fusion;
 pub mod opening;
 pub mod parities;
 pub mod paths;
@@ -56,6 +57,7 @@ pub use nested::{
     nested_attached, nested_begins, nested_ended, nested_joined, nested_layers, nested_opened,
     nested_stepped,
 };
+pub use nested_fusion::{nested_fused, nests_merged};
 pub use opening::{last_level, levels};
 pub use parities::{attached_parity, stepped_parity};
 pub use paths::{alternating_path, augmented};

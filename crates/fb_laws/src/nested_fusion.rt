@@ -1,0 +1,18 @@
+//! Nests of two parts as one nest, and their whole states as one.
+
+ghost use Rattle.fb_laws.specs.NestFusion.{NestsBeside, NestsMerged, NestSprouted, NestedMerged, NestedSeam};
+
+/// Two nests on real vertices and with names of their own are one nest, where their cuts fit together: so are those of
+/// separated parts, and one with nodes without values for further defects.
+pub fn nests_merged()
+    ensures beside { NestsBeside }
+    ensures merged { NestsMerged }
+    ensures sprouted { NestSprouted }
+{}
+
+/// The whole states of two separated parts are one of the whole, and one of it still when the seam is made real: then
+/// freed nodes and the seam's defects are unmatched.
+pub fn nested_fused()
+    ensures merged { NestedMerged }
+    ensures seam { NestedSeam }
+{}
