@@ -1,5 +1,5 @@
 -- The moves of a nest, told as the laws of searches tell them.
-use Rattle.std.proofs.Common.{ℕ, ◌≡◌, ◌≤◌, ◌⊎◌, inl, inr, not, Bool, true, false, cond, List, [], ◌∷◌, ◌++◌, map, length, All, Option, Some, None, refl, sym, ap, ◌∙◌, subst, arith}
+use Rattle.std.proofs.Common.{ℕ, ◌≡◌, ◌≤◌, ◌⊎◌, inl, inr, Bool, true, false, cond, List, [], ◌∷◌, ◌++◌, map, length, All, Option, Some, None, refl, sym, ap, ◌∙◌, subst, arith}
 use Rattle.std.specs.List.{concat}
 use Rattle.std.specs.Option.{IsSome}
 use Rattle.std.proofs.lemmas.Bool.{both_ways, false≢true, false_from_ne_true, cases_eq}
@@ -8,7 +8,7 @@ use Rattle.std.proofs.lemmas.List.Elements.{All-head, All-tail, All-map, All-wea
 use Rattle.fb_graph.specs.Parity.{is_in}
 use Rattle.fb_graph.specs.Problem.{Problem}
 use Rattle.fb_graph.specs.Certificate.{AreDistinct}
-use Rattle.fb_graph.specs.Dual.{Node, IsDual, cover_of, is_live, is_outer, leaves, layers_of, node_at, taller, top_at, change_at}
+use Rattle.fb_graph.specs.Dual.{Node, IsDual, cover_of, is_live, is_outer, leaves, taller, top_at, change_at}
 use Rattle.fb_graph.specs.declared.parts.Cut.{Cut}
 use Rattle.fb_graph.proofs.Members.{is_in_pushed}
 use Rattle.fb_graph.proofs.Sets.{is_in-All, is_in-head, is_in-tail}
@@ -214,7 +214,8 @@ pub uncovered_lowers : UncoveredLowers
 uncovered_lowers p nodes roles name free freed may nest minus plus =
     let (v, given) = uncovered_back p nodes name may nest in
     subst (λ ns. IsLower (left_to_do p (uncovered name nodes) roles freed) (left_to_do p ns roles free)) given.back
-    (uncover_lowers p (uncovered name nodes) roles name v free freed given.no_defect minus plus given.live given.outer given.free)
+    (uncover_lowers p (uncovered name nodes) roles name v free freed given.no_defect minus plus
+    given.live given.outer given.free)
 
 -- an uncovered vertex is no defect
 pub no_leaf : (p : Problem) (nodes : List Node) (v : ℕ) → IsDual p nodes → cover_of nodes v ≡ None

@@ -1,14 +1,14 @@
 -- The whole states of searches, on small graphs.
-use Rattle.std.proofs.Common.{ℕ, ◌≡◌, ◌+◌, ◌%◌, ◌≤◌, ◌<◌, inl, inr, true, false, List, [], ◌∷◌, refl, sym, arith}
+use Rattle.std.proofs.Common.{ℕ, ◌≡◌, ◌%◌, ◌≤◌, ◌<◌, inl, inr, true, false, List, [], ◌∷◌, refl, sym, arith}
 use Rattle.std.proofs.lemmas.Bool.{false≢true}
 use Rattle.std.proofs.lemmas.List.Elements.{All-nil, All-from_recursion}
 use Rattle.fb_graph.specs.Parity.{is_in, is_odd_count}
 use Rattle.fb_graph.specs.Problem.{Problem, Flips, edge_at, touches}
 use Rattle.fb_graph.specs.Limits.{IsWithinLimits}
-use Rattle.fb_graph.specs.Laws.{Link, HasNoOddClosed}
-use Rattle.fb_graph.specs.Dual.{Node, all_cuts, height_of, is_empty, leaves}
+use Rattle.fb_graph.specs.Laws.{HasNoOddClosed}
+use Rattle.fb_graph.specs.Dual.{Node, AreUnderOne, all_cuts, height_of, is_empty, leaves}
 use Rattle.fb_graph.proofs.Sets.{is_in-All}
-use Rattle.fb_laws.specs.Covers.{HaveParity}
+use Rattle.fb_laws.specs.Covers.{HasNoObstacle, IsClear}
 use Rattle.fb_laws.specs.Fusion.{IsLinkOf}
 use Rattle.fb_laws.specs.Links.{AreEven, IsTightLink}
 use Rattle.fb_laws.specs.Moves.{MaySplit, MayTakeUp, joined, uncovered}
@@ -18,10 +18,10 @@ use Rattle.fb_laws.specs.NestedWitnesses.{NestedWitness, EndingWitness, wide_nod
 use Rattle.fb_laws.specs.Samples.{line, link, pair_nodes, pair_sprouts}
 use Rattle.fb_laws.specs.SearchBlossoms.{IsJoining}
 use Rattle.fb_laws.specs.SearchWitnesses.{chain_nodes, chain_sprouts}
-use Rattle.fb_laws.specs.Steps.{AllowShrinking, MayStep}
+use Rattle.fb_laws.specs.Steps.{MayStep}
 use Rattle.fb_laws.specs.Trees.{roles_of}
-use Rattle.fb_laws.specs.TreeWitnesses.{long_line, thin_nodes, thin_branch, crown, crown_nodes}
-use Rattle.fb_laws.specs.Works.{AreMatchedLinks, IsMatching, IsSetOf, without}
+use Rattle.fb_laws.specs.TreeWitnesses.{long_line, thin_nodes, thin_branch, crown_nodes}
+use Rattle.fb_laws.specs.Works.{AreMatchedLinks, IsSetOf}
 use Rattle.fb_laws.proofs.BeginningNests.{sprouts_are_nest}
 use Rattle.fb_laws.proofs.NestedStates.{nested_stepped, nested_taken_up, nested_uncovered}
 use Rattle.fb_laws.proofs.SampleNests.{limits_by_cases}
@@ -77,6 +77,35 @@ may_step =
     may_by_cases long_line (roles_of 0 (thin_branch ∷ [])) wide_nodes 2 refl
     (All-from_recursion (λ n. (roles_of 0 (thin_branch ∷ [])).is_minus n.name ≡ true → 2 ≤ n.top.value) wide_nodes
     (λ e. absurd (false≢true e), (λ e. omega arith, (λ e. absurd (false≢true e), tt))))
+
+wide_clear : HasNoObstacle long_line (roles_of 0 (thin_branch ∷ [])) wide_nodes
+wide_clear = record {
+  edges =
+      All-from_recursion
+      (λ e. ¬ AreUnderOne wide_nodes e.first e.second → IsClear (roles_of 0 (thin_branch ∷ [])) wide_nodes e)
+      long_line.edges (
+        λ h. record { first = λ plus minus. absurd (false≢true plus); second = λ plus minus. omega arith },
+        (
+          λ h. absurd (h (0, refl, refl)),
+          (
+            λ h. record {
+              first = λ plus minus. absurd (false≢true (sym minus));
+              second = λ plus minus. absurd (false≢true plus);
+            },
+            (
+              λ h. record {
+                first = λ plus minus. absurd (false≢true plus);
+                second = λ plus minus. absurd (false≢true (sym minus));
+              },
+              (λ h. record { first = λ plus minus. omega arith; second = λ plus minus. absurd (false≢true plus) }, tt),
+            ),
+          ),
+        ),
+      );
+  layers =
+      All-from_recursion (λ n. (roles_of 0 (thin_branch ∷ [])).is_minus n.name ≡ true → 1 ≤ n.top.value) wide_nodes
+      (λ e. absurd (false≢true e), (λ e. omega arith, (λ e. absurd (false≢true e), tt)));
+}
 
 low_state : IsNestedSearch long_line low_nodes (thin_branch ∷ []) [] (0 ∷ []) 0 0
 low_state =
@@ -136,6 +165,7 @@ nested_witness = (
   may_widen,
   given_state,
   may_step,
+  wide_clear,
   wide_state,
   low_joining,
   refl,

@@ -1,5 +1,5 @@
 -- Blossoms opened, on small graphs.
-use Rattle.std.proofs.Common.{ℕ, ◌≡◌, ◌+◌, ◌%◌, inl, inr, true, false, List, [], ◌∷◌, Some, refl, sym, ap, arith}
+use Rattle.std.proofs.Common.{ℕ, ◌≡◌, ◌+◌, ◌%◌, inl, inr, true, false, [], ◌∷◌, Some, refl, sym, ap, arith}
 use Rattle.std.proofs.lemmas.Bool.{false≢true}
 use Rattle.std.proofs.lemmas.List.Elements.{All-from_recursion}
 use Rattle.std.proofs.lemmas.List.Sorted.{IsPermutation-refl, IsPermutation-append_comm}
@@ -17,7 +17,6 @@ use Rattle.fb_laws.specs.SearchOpenings.{IsOpenedTree, IsSplit}
 use Rattle.fb_laws.specs.Searches.{IsSearch}
 use Rattle.fb_laws.specs.Sprouts.{AreSprouts}
 use Rattle.fb_laws.specs.Steps.{stepped}
-use Rattle.fb_laws.specs.Trees.{roles_of}
 use Rattle.fb_laws.specs.TreeWitnesses.{SplittingWitness, LevelWitness, crown, crown_sprouts, crown_nodes, closed_branch, opened_branches}
 use Rattle.fb_laws.specs.Works.{IsMatching}
 use Rattle.fb_laws.proofs.BeginningNests.{sprouts_are_nest}

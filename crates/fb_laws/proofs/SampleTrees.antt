@@ -9,22 +9,19 @@ use Rattle.fb_graph.specs.Problem.{Problem, edge_at}
 use Rattle.fb_graph.specs.Certificate.{AreDistinct, IsOddCut}
 use Rattle.fb_graph.specs.Components.{IsWalkBy}
 use Rattle.fb_graph.specs.Laws.{Link, IsTight, has_real_end}
-use Rattle.fb_graph.specs.Dual.{Node, IsDual, IsHeld, all_cuts, leaves, height_of, is_outer, cover_of, is_live}
+use Rattle.fb_graph.specs.Dual.{Node, IsDual, IsHeld, all_cuts, leaves, height_of, is_outer}
 use Rattle.fb_graph.proofs.Sets.{is_in-head}
 use Rattle.fb_laws.specs.Counts.{as_count}
 use Rattle.fb_laws.specs.Ends.{ends_in}
-use Rattle.fb_laws.specs.Forming.{blossom_of}
 use Rattle.fb_laws.specs.Fusion.{IsLinkOf}
 use Rattle.fb_laws.specs.Links.{IsTightLink, AreEven}
-use Rattle.fb_laws.specs.Moves.{MayTakeUp, MayUncover, joined, uncovered}
+use Rattle.fb_laws.specs.Moves.{MayUncover, joined, uncovered}
 use Rattle.fb_laws.specs.Nests.{IsNest}
-use Rattle.fb_laws.specs.Opening.{EndAtDefects}
-use Rattle.fb_laws.specs.Samples.{link, triangle, corner_nodes, corner_sprouts}
-use Rattle.fb_laws.specs.SearchBlossoms.{AreBranches, IsJoining}
-use Rattle.fb_laws.specs.SearchLayers.{AreAlike}
+use Rattle.fb_laws.specs.Samples.{link, triangle, corner_nodes}
+use Rattle.fb_laws.specs.SearchBlossoms.{IsJoining}
 use Rattle.fb_laws.specs.Searches.{IsSearch, IsOuterNode}
 use Rattle.fb_laws.specs.Sprouts.{AreSprouts, nodes_of}
-use Rattle.fb_laws.specs.Trees.{Entry, IsTree, grown_links, paired_links, tree_names, plus_names}
+use Rattle.fb_laws.specs.Trees.{Entry, IsTree, grown_links, paired_links, tree_names}
 use Rattle.fb_laws.specs.TreeWitnesses.{LayerWitness, JoiningWitness, long_line, long_sprouts, thin_nodes, thin_branch, corner_branch, base_corner, other_corners, open_line, open_sprouts}
 use Rattle.fb_laws.specs.Works.{AreMatchedLinks, AreMatched, HasDefects, IsSetOf, without}
 use Rattle.fb_laws.proofs.BeginningNests.{sprouts_are_nest}
@@ -35,8 +32,7 @@ use Rattle.fb_laws.proofs.MoveBridges.{joining_allowed}
 use Rattle.fb_laws.proofs.RaisedNests.{nest_taken_up}
 use Rattle.fb_laws.proofs.SampleNests.{corner_nest}
 use Rattle.fb_laws.proofs.SampleParts.{corner_height, one_height}
-use Rattle.fb_laws.proofs.SampleStates.{corners_are_sprouts, fits_by_cases, odd_cut, of_three}
-use Rattle.fb_laws.proofs.SearchStates.{links_joined}
+use Rattle.fb_laws.proofs.SampleStates.{fits_by_cases, odd_cut, of_three}
 use Rattle.fb_laws.proofs.SproutStates.{sprouts_are_dual}
 
 some_walk : (k : ℕ) (ks : List ℕ) → (k ∷ ks) ≢ []

@@ -1,5 +1,5 @@
--- That the premises of the laws on the moves of a nest can be met: the corners of a triangle grow, become a blossom and
--- are split again; a defect of a line takes up a neighbour and gives it back.
+-- That the premises of the laws on the moves of a nest can be met: the corners of a triangle grow, become a blossom
+-- and are split again; a defect of a line takes up a neighbour and gives it back.
 use Rattle.std.specs.Prelude.{◌≡◌, true, List, [], ◌∷◌, map, All}
 use Rattle.fb_graph.specs.Parity.{is_in}
 use Rattle.fb_graph.specs.Certificate.{AreDistinct}

@@ -8,6 +8,8 @@ use Rattle.fb_graph.specs.Limits.{IsWithinLimits}
 use Rattle.fb_graph.specs.Laws.{Link, HasNoOddClosed}
 use Rattle.fb_graph.specs.Dual.{Node, is_live}
 use Rattle.fb_laws.specs.Steps.{MayStep, stepped}
+use Rattle.fb_laws.specs.Covers.{HasNoObstacle}
+use Rattle.fb_laws.specs.Lengths.{IsGreatestStep}
 use Rattle.fb_laws.specs.Links.{AreEven}
 use Rattle.fb_laws.specs.Sprouts.{Sprout, nodes_of, vertices_of}
 use Rattle.fb_laws.specs.Works.{AreMatchedLinks, IsWork, without}
@@ -43,6 +45,13 @@ abbrev pub NestedSearchBegins : Type 0
 NestedSearchBegins = (p : Problem) (nodes : List Node) (links : List Link) (unmatched : List ℕ) (root : ℕ)
     → IsNestedWork p nodes links unmatched → IsOuterNode nodes root → is_in unmatched root ≡ true
     → IsNestedSearch p nodes [] links unmatched root 0
+
+-- No search is stuck: where nothing stands in the tree's way, a free step is allowed, and there is a greatest one.
+abbrev pub NestedFree : Type 0
+NestedFree = (p : Problem) (nodes : List Node) (tree : List Entry) (rest : List Link) (unmatched : List ℕ)
+    (root r : ℕ) → AreEven p → HasNoOddClosed p → HasNoObstacle p (roles_of root tree) nodes
+    → IsNestedSearch p nodes tree rest unmatched root r
+    → (k : ℕ) × (1 ≤ k) × IsGreatestStep p (roles_of root tree) nodes k
 
 -- A free step, where no closed set is odd: then an edge leaves each plus node.
 abbrev pub NestedStepped : Type 0

@@ -4,6 +4,7 @@ use Rattle.fb_graph.specs.Parity.{is_in}
 use Rattle.fb_graph.specs.Limits.{IsWithinLimits}
 use Rattle.fb_graph.specs.Laws.{HasNoOddClosed}
 use Rattle.fb_graph.specs.Dual.{Node, is_live}
+use Rattle.fb_laws.specs.Covers.{HasNoObstacle}
 use Rattle.fb_laws.specs.Forming.{Child}
 use Rattle.fb_laws.specs.Links.{AreEven}
 use Rattle.fb_laws.specs.Moves.{MaySplit, MayTakeUp, MayUncover, joined, taken_up, uncovered}
@@ -39,14 +40,15 @@ NestedWitness = IsWithinLimits long_line × HasNoOddClosed long_line × AreEven 
     × MayTakeUp long_line (uncovered 1 thin_nodes) 0 1 1 2
     × IsNestedSearch long_line (uncovered 1 thin_nodes) (thin_branch ∷ []) [] (0 ∷ []) 0 0
     × MayStep long_line (roles_of 0 (thin_branch ∷ [])) wide_nodes 2
+    × HasNoObstacle long_line (roles_of 0 (thin_branch ∷ [])) wide_nodes
     × IsNestedSearch long_line wide_nodes (thin_branch ∷ []) [] (0 ∷ []) 0 0
     × IsJoining low_nodes (thin_branch ∷ []) 0 3 wide_child low_children × (is_live low_nodes 3 ≡ false)
     × IsNestedSearch long_line low_nodes (thin_branch ∷ []) [] (0 ∷ []) 0 0
     × MaySplit (joined 5 (0 ∷ 1 ∷ 2 ∷ []) crown_nodes) 5
     × IsNestedSearch crown (joined 5 (0 ∷ 1 ∷ 2 ∷ []) crown_nodes) (closed_branch ∷ []) [] (4 ∷ []) 4 0
 
--- On the line two matched nodes are met, and then the boundary. Two neighbours meet, both unmatched or the one matched
--- to the boundary.
+-- On the line two matched nodes are met, and then the boundary. Two neighbours meet, both unmatched or the one
+-- matched to the boundary.
 abbrev pub EndingWitness : Type 0
 EndingWitness = AreEven (line (1 ∷ 2 ∷ 3 ∷ []))
     × IsNestedSearch (line (1 ∷ 2 ∷ 3 ∷ [])) chain_nodes [] (chain_branch.matched ∷ []) (2 ∷ []) 2 0

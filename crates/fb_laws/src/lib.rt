@@ -54,8 +54,8 @@ pub use moves::{
     nest_begins, nest_joined, nest_split, nest_stepped, nest_taken_up, nest_uncovered,
 };
 pub use nested::{
-    nested_attached, nested_begins, nested_ended, nested_joined, nested_layers, nested_opened,
-    nested_stepped,
+    nested_attached, nested_begins, nested_ended, nested_free, nested_joined, nested_layers,
+    nested_opened, nested_stepped,
 };
 pub use nested_fusion::{nested_fused, nests_merged};
 pub use opening::{last_level, levels};

@@ -1,11 +1,17 @@
 //! The whole state of a search, a nest with its matched links and its tree, which each step keeps.
 
-ghost use Rattle.fb_laws.specs.NestedSearches.{NestedWorkBegins, NestedSearchBegins, NestedStepped, NestedTakenUp, NestedUncovered, NestedAttached, NestedJoined, NestedOpened, NestedEnded, NestedMet, NestedReleased};
+ghost use Rattle.fb_laws.specs.NestedSearches.{NestedWorkBegins, NestedSearchBegins, NestedFree, NestedStepped, NestedTakenUp, NestedUncovered, NestedAttached, NestedJoined, NestedOpened, NestedEnded, NestedMet, NestedReleased};
 
 /// A part begins with its defects as nodes, all unmatched, and a search with an unmatched node.
 pub fn nested_begins()
     ensures work { NestedWorkBegins }
     ensures search { NestedSearchBegins }
+{}
+
+/// No search is stuck: where neither an edge without residue nor an empty layer stands in the tree's way, there is a
+/// greatest free step, of at least 1.
+pub fn nested_free()
+    ensures { NestedFree }
 {}
 
 /// A free step keeps the state where no closed set is odd, since then an edge leaves each plus node.
