@@ -36,6 +36,7 @@ pub mod RaisedNests
 pub mod SampleCycles
 pub mod SampleEndings
 pub mod SampleEnds
+pub mod SampleFusions
 pub mod SampleLevels
 pub mod SampleNests
 pub mod SampleOpenings

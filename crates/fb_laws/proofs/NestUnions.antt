@@ -397,7 +397,8 @@ module _ (left right whole : Problem) (nodes others : List Node) (limits : IsWit
       (among_All (λ n. HasSources (nodes ++ others) n.top.vertices) others right_sources))
 
 pub nests_beside : NestsBeside
-nests_beside left right whole nodes others limits beside one two = merged left right whole nodes others limits beside one two
+nests_beside left right whole nodes others limits beside one two =
+    merged left right whole nodes others limits beside one two
 
 pub beside_of_parts : (left right whole : Problem) (nodes others : List Node) → AreParts left right whole
     → HaveOwnNames nodes others → IsNest left nodes → IsNest right others → AreBeside left right whole nodes others
@@ -425,7 +426,8 @@ beside_of_parts left right whole nodes others parts names one two = record {
           real = parts.right_part.real;
           defects = λ v real. sym (own_right left right nodes others parts.separated.vertices one v real);
         })
-        (record { vertices = parts.separated.vertices; edges = parts.separated.edges }) one.dual.packing two.dual.packing
+        (record { vertices = parts.separated.vertices; edges = parts.separated.edges })
+        one.dual.packing two.dual.packing
 
 pub nests_merged : NestsMerged
 nests_merged left right whole nodes others limits parts names one two =

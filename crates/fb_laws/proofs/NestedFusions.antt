@@ -47,19 +47,20 @@ parity_both nodes names more r one other d name leaf cover among =
     (sym (is_in-append names more name) ∙ among)
 
 pub nested_merged : NestedMerged
-nested_merged left right whole nodes others links more unmatched open_ limits parts covered names first second one two =
+nested_merged left right whole nodes others links more free open_ limits parts covered names first second one two =
     let beside = beside_of_parts left right whole nodes others parts names one.nest two.nest in
     let nest = nests_beside left right whole nodes others limits beside one.nest two.nest in
     record {
       nest = nest;
       work = record {
         matching =
-            matchings_merged left right whole nodes others links more unmatched open_ parts covered nest.dual first second
+            matchings_merged left right whole nodes others links more free open_
+            parts covered nest.dual first second
             one.work.matching two.work.matching;
         even =
-            parity_beside left right whole nodes others limits beside one.nest two.nest (is_in (unmatched ++ open_)) 0
-            (parity_both nodes unmatched open_ 0 one.work.even (parity_absent nodes open_ 0 first))
-            (parity_both others unmatched open_ 0 (parity_absent others unmatched 0 second) two.work.even);
+            parity_beside left right whole nodes others limits beside one.nest two.nest (is_in (free ++ open_)) 0
+            (parity_both nodes free open_ 0 one.work.even (parity_absent nodes open_ 0 first))
+            (parity_both others free open_ 0 (parity_absent others free 0 second) two.work.even);
       };
     }
 

@@ -4,6 +4,7 @@ pub mod Covers
 pub mod Differences
 pub mod Ends
 pub mod Forming
+pub mod FusedWitnesses
 pub mod Fusion
 pub mod Lengths
 pub mod Links

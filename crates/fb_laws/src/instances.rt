@@ -1,5 +1,6 @@
 //! That the premises of the laws on nests and searches can be met, on small graphs.
 
+ghost use Rattle.fb_laws.specs.FusedWitnesses.{FusedWitness};
 ghost use Rattle.fb_laws.specs.NestWitnesses.{NestWitness};
 ghost use Rattle.fb_laws.specs.NestedWitnesses.{NestedWitness, EndingWitness};
 ghost use Rattle.fb_laws.specs.TreeWitnesses.{LayerWitness, JoiningWitness, SplittingWitness, LevelWitness};
@@ -37,4 +38,9 @@ pub fn nested_witness()
 /// Of the laws on attaching two nodes and on the end of a search.
 pub fn ending_witness()
     ensures { EndingWitness }
+{}
+
+/// Of the laws on nests and whole states of two parts.
+pub fn fused_witness()
+    ensures { FusedWitness }
 {}

@@ -39,8 +39,8 @@ pub use ends::{crossed_once, ends_add};
 pub use forming::matching_formed;
 pub use fusion::{heights_fused, links_fused, parts_matched, seam_forgotten};
 pub use instances::{
-    ending_witness, joining_witness, layer_witness, level_witness, nest_witness, nested_witness,
-    splitting_witness,
+    ending_witness, fused_witness, joining_witness, layer_witness, level_witness, nest_witness,
+    nested_witness, splitting_witness,
 };
 pub use joining::search_joined;
 pub use layers::{search_layers, search_lowers};

@@ -2,8 +2,8 @@
 
 ghost use Rattle.fb_laws.specs.NestFusion.{NestsBeside, NestsMerged, NestSprouted, NestedMerged, NestedSeam};
 
-/// Two nests on real vertices and with names of their own are one nest, where their cuts fit together: so are those of
-/// separated parts, and one with nodes without values for further defects.
+/// Two nests on real vertices and with names of their own are one nest, where their cuts fit together: so are those
+/// of separated parts, and one with nodes without values for further defects.
 pub fn nests_merged()
     ensures beside { NestsBeside }
     ensures merged { NestsMerged }
