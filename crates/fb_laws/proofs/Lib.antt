@@ -58,4 +58,6 @@ pub mod StepLoads
 pub mod StepTurns
 pub mod SteppedNests
 pub mod TightLinks
+pub mod TreeCycles
+pub mod TreePaths
 pub mod Unions

@@ -30,6 +30,7 @@ pub mod Signed
 pub mod Sprouts
 pub mod Steps
 pub mod TreeWitnesses
+pub mod TreeCycles
 pub mod Trees
 pub mod Turns
 pub mod Witnesses
