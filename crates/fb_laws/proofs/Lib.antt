@@ -3,6 +3,7 @@ pub mod BeginningNests
 pub mod BlossomSums
 pub mod ChangedNodes
 pub mod Crossings
+pub mod CycleWays
 pub mod DifferingCuts
 pub mod EndSums
 pub mod FallingRanks
@@ -26,6 +27,8 @@ pub mod NestParts
 pub mod NestUnions
 pub mod NestedFusions
 pub mod NestedStates
+pub mod OpenedBlossoms
+pub mod OpenedCycles
 pub mod OpenedLevels
 pub mod OpenedSearches
 pub mod OpenedTrees
@@ -51,6 +54,7 @@ pub mod SearchTrees
 pub mod SeamStates
 pub mod Shifts
 pub mod SplitNests
+pub mod SplitStates
 pub mod SproutStates
 pub mod StepHeights
 pub mod StepLengths

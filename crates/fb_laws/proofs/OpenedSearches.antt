@@ -22,7 +22,7 @@ use Rattle.fb_laws.proofs.SearchStates.{links_joined}
 use Rattle.fb_laws.proofs.SearchTrees.{cover_set, matched_named, top_at_place}
 
 -- a set of an outer node holds a vertex where it covers it
-held_by : (p : Problem) (nodes : List Node) (n m v : ℕ) (set : List ℕ) → IsDual p nodes → IsSetOf nodes n set → cover_of nodes v ≡ Some m
+pub held_by : (p : Problem) (nodes : List Node) (n m v : ℕ) (set : List ℕ) → IsDual p nodes → IsSetOf nodes n set → cover_of nodes v ≡ Some m
     → is_in set v ≡ (m == n)
 held_by p nodes n m v set dual (j, below, outer, named, same) cover = step (cases_eq m n)
   where
@@ -145,7 +145,7 @@ module _ (p : Problem) (nodes others : List Node) (blossom : ℕ) (children : Li
   }
 
   -- a set's ends are told at the defects
-  at_ends : (P : ℕ → Type 0) (links : List Link) → EndAtDefects p (leaves nodes) links → ((v : ℕ) → p.is_real v ≡ false → P v)
+  pub at_ends : (P : ℕ → Type 0) (links : List Link) → EndAtDefects p (leaves nodes) links → ((v : ℕ) → p.is_real v ≡ false → P v)
       → ((v : ℕ) → is_in (leaves nodes) v ≡ true → P v) → All (λ l. P l.from × P l.to) links
   at_ends P links at unreal leaf i d less = (one (get_or links i d).from (at i d less).0, one (get_or links i d).to (at i d less).1)
     where
@@ -156,7 +156,7 @@ module _ (p : Problem) (nodes others : List Node) (blossom : ℕ) (children : Li
           step (inl real) = leaf v (is real)
           step (inr off) = unreal v off
 
-  unheld : (ns : List Node) (n v : ℕ) (set : List ℕ) → IsDual p ns → IsSetOf ns n set → p.is_real v ≡ false → is_in set v ≡ false
+  pub unheld : (ns : List Node) (n v : ℕ) (set : List ℕ) → IsDual p ns → IsSetOf ns n set → p.is_real v ≡ false → is_in set v ≡ false
   unheld ns n v set whole (j, below, outer, named, same) off =
       ap (λ s. is_in s v) (sym same) ∙ not_held p (node_at ns j).top.vertices v (odd_top p ns j whole below).real off
 

@@ -20,17 +20,17 @@ use Rattle.fb_laws.proofs.NestParts.{grove_of, fit_of, nest_of, map_agree}
 use Rattle.fb_laws.proofs.Places.{IsPlaced, placed, cuts_at, leaves_at, among_split, split_among, split_All, split_names, split_joined}
 
 module _ (p : Problem) (nodes : List Node) (name : ℕ) (may : MaySplit nodes name) (nest : IsNest p nodes) where
-  at : IsPlaced nodes name
+  pub at : IsPlaced nodes name
   at = placed nodes name nest.dual.names may.live
 
   there : IsAmong at.node nodes
   there = subst (IsAmong at.node) (sym at.whole) (among_right at.before (at.node ∷ at.after) at.node (inl refl))
 
-  bare : (is_empty at.node.children ≡ false) × (at.node.below ≡ []) × (at.node.top.value ≡ 0)
+  pub bare : (is_empty at.node.children ≡ false) × (at.node.below ≡ []) × (at.node.top.value ≡ 0)
   bare =
       All_among (λ n. n.name ≡ name → (is_empty n.children ≡ false) × (n.below ≡ []) × (n.top.value ≡ 0)) nodes may.bare at.node there at.named
 
-  insertion : IsInserted at.node.top (all_cuts (split name nodes)) (all_cuts nodes)
+  pub insertion : IsInserted at.node.top (all_cuts (split name nodes)) (all_cuts nodes)
   insertion = record {
     before = all_cuts at.before;
     after = all_cuts at.after;
@@ -41,14 +41,14 @@ module _ (p : Problem) (nodes : List Node) (name : ℕ) (may : MaySplit nodes na
     bare = bare.2;
   }
 
-  same_leaves : leaves (split name nodes) ≡ leaves nodes
+  pub same_leaves : leaves (split name nodes) ≡ leaves nodes
   same_leaves =
       ap leaves at.removed
       ∙ (flat_map-append defects_of at.before at.after
       ∙ (ap (λ b. leaves at.before ++ ((if b then first_vertices (layers_of at.node) else []) ++ leaves at.after)) (sym bare.0)
       ∙ (sym (leaves_at at.before at.after at.node) ∙ ap leaves (sym at.whole))))
 
-  height : (v : ℕ) → height_of (all_cuts (split name nodes)) v ≡ height_of (all_cuts nodes) v
+  pub height : (v : ℕ) → height_of (all_cuts (split name nodes)) v ≡ height_of (all_cuts nodes) v
   height v = sym (same_weigh (λ s. is_in s v) at.node.top (all_cuts (split name nodes)) (all_cuts nodes) insertion)
 
   fit : AreFit p (leaves (split name nodes)) (all_cuts (split name nodes))

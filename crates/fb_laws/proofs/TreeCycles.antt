@@ -172,9 +172,6 @@ names_at nodes (n ∷ ns) = ap (λ l. n ∷ l) (names_at nodes ns)
 module _ (p : Problem) (nodes : List Node) (tree : List Entry) (rest : List Link) (unmatched : List ℕ) (root r a b : ℕ) (shared up down : List Entry)
     (state : IsSearch p nodes tree rest unmatched root r) (plus_a : is_in (plus_names root tree) a ≡ true) (plus_b : is_in (plus_names root tree) b ≡ true)
     (paths : ArePaths tree a b shared up down) where
-  top : ℕ
-  top = last_plus root shared
-
   first_distinct : AreDistinct ((root ∷ nodes_along shared) ++ nodes_along up)
   first_distinct =
       subst (λ l. AreDistinct (root ∷ l)) (ap nodes_along paths.first ∙ along_append shared up) (path_distinct root tree state.names a)

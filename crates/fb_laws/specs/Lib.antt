@@ -17,6 +17,7 @@ pub mod NestWitnesses
 pub mod NestedSearches
 pub mod NestedWitnesses
 pub mod Nests
+pub mod OpenedCycles
 pub mod Opening
 pub mod Parities
 pub mod Paths

@@ -35,7 +35,7 @@ pub mod works;
 pub use blossoms::{blossom_formed, blossom_opened, odd_cycle};
 pub use bridges::{blossom_named, moves_lower, uncovered_back};
 pub use covers::{crossings_by_cover, even_residue, free_step, links_are_level, step_heights};
-pub use cycles::cycle_closed;
+pub use cycles::{cycle_closed, cycle_opened};
 pub use differences::cuts_differ;
 pub use ends::{crossed_once, ends_add};
 pub use forming::matching_formed;
