@@ -149,7 +149,7 @@ module _ (p : Problem) (nodes : List Node) (name : ℕ) (children : List ℕ) (m
           apart_among nodes nest.dual.names nest.dual.apart is.node under.node is.among under.among (λ same. other (sym is.named ∙ same)) is.outer under.outer u holds in
           (u, λ same. both_ways (is_in under.node.top.vertices u) out (under.within u (same ∙ there)))
 
-  insertion : IsInserted (blossom name children nodes).top (all_cuts nodes) (all_cuts (joined name children nodes))
+  pub insertion : IsInserted (blossom name children nodes).top (all_cuts nodes) (all_cuts (joined name children nodes))
   insertion = record {
     before = all_cuts nodes;
     after = [];
@@ -158,12 +158,12 @@ module _ (p : Problem) (nodes : List Node) (name : ℕ) (children : List ℕ) (m
     bare = refl;
   }
 
-  same_leaves : leaves (joined name children nodes) ≡ leaves nodes
+  pub same_leaves : leaves (joined name children nodes) ≡ leaves nodes
   same_leaves =
       leaves_merged nodes (blossom name children nodes ∷ [])
       ∙ (ap (λ l. leaves nodes ++ l) (no_leaves name children nodes may.many.three) ∙ append-nil (leaves nodes))
 
-  height : (v : ℕ) → height_of (all_cuts (joined name children nodes)) v ≡ height_of (all_cuts nodes) v
+  pub height : (v : ℕ) → height_of (all_cuts (joined name children nodes)) v ≡ height_of (all_cuts nodes) v
   height v = same_weigh (λ s. is_in s v) (blossom name children nodes).top (all_cuts nodes) (all_cuts (joined name children nodes)) insertion
 
   fit : AreFit p (leaves (joined name children nodes)) (all_cuts (joined name children nodes))

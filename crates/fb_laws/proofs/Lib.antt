@@ -53,6 +53,7 @@ pub mod SearchStates
 pub mod SearchTrees
 pub mod SeamStates
 pub mod Shifts
+pub mod SourceWalks
 pub mod SplitNests
 pub mod SplitStates
 pub mod SproutStates

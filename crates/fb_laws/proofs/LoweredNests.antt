@@ -31,7 +31,7 @@ module _ (p : Problem) (nodes : List Node) (name : ℕ) (may : MayUncover nodes 
   pub layers : (n : Node) → IsAmong n nodes → n.name ≡ name → layers_of (lower n) ≡ n.below
   layers n a e = last_split n.below n.top (bare n a e).0
 
-  insertion : IsInserted at.node.top (all_cuts (uncovered name nodes)) (all_cuts nodes)
+  pub insertion : IsInserted at.node.top (all_cuts (uncovered name nodes)) (all_cuts nodes)
   insertion = record {
     before = all_cuts at.before ++ at.node.below;
     after = all_cuts at.after;
@@ -54,7 +54,7 @@ module _ (p : Problem) (nodes : List Node) (name : ℕ) (may : MayUncover nodes 
   pub same_leaves : leaves (uncovered name nodes) ≡ leaves nodes
   same_leaves = mapped_leaves (change name lower) kept.children nodes kept.first
 
-  height : (v : ℕ) → height_of (all_cuts (uncovered name nodes)) v ≡ height_of (all_cuts nodes) v
+  pub height : (v : ℕ) → height_of (all_cuts (uncovered name nodes)) v ≡ height_of (all_cuts nodes) v
   height v = sym (same_weigh (λ s. is_in s v) at.node.top (all_cuts (uncovered name nodes)) (all_cuts nodes) insertion)
 
   fit : AreFit p (leaves (uncovered name nodes)) (all_cuts (uncovered name nodes))

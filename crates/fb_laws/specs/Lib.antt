@@ -28,6 +28,7 @@ pub mod SearchOpenings
 pub mod SearchWitnesses
 pub mod Searches
 pub mod Signed
+pub mod SourceWalks
 pub mod Sprouts
 pub mod Steps
 pub mod TreeWitnesses

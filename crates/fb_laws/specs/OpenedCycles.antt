@@ -1,5 +1,6 @@
--- A minus blossom of a search's tree opened along its cycle (Edmonds 1965): the even way round between the two children
--- at which the blossom's links end takes its place in the tree, and the children beside the way are matched in pairs.
+-- A minus blossom of a search's tree opened along its cycle (Edmonds 1965): the even way round between the two
+-- children at which the blossom's links end takes its place in the tree, and the children beside the way are matched
+-- in pairs.
 use Rattle.std.specs.Prelude.{ℕ, ◌≡◌, ◌%◌, true, false, List, [], ◌∷◌, ◌++◌, map, length, All}
 use Rattle.std.specs.List.Sorted.{IsPermutation}
 use Rattle.fb_graph.specs.Parity.{is_in}
@@ -78,8 +79,8 @@ opened_branches parent tree minus (s ∷ ss) matched plus =
 abbrev pub opened_tree : List Entry → Entry → List Entry → ℕ → List Pass → List Entry
 opened_tree newer e older from way = newer ++ (opened_branches e.parent e.tree from way e.matched e.plus ++ older)
 
--- The blossom's children along the way from the one at which the link of the tree ends to the one at which the matched
--- link ends, and the others in pairs.
+-- The blossom's children along the way from the one at which the link of the tree ends to the one at which the
+-- matched link ends, and the others in pairs.
 pub record IsOpenedCycle (p : Problem) (nodes others : List Node) (e : Entry) (from : ℕ) (way : List Pass) (couples : List Couple) (unmatched : List ℕ) : Type 0 where
   pub split : IsSplit nodes others e.minus (last_of from way ∷ paired_of from way couples)
   pub distinct : AreDistinct (last_of from way ∷ paired_of from way couples)
@@ -124,8 +125,8 @@ SplitOff = (p : Problem) (before after : List Node) (b : Node) (children : List 
     → (split b.name (before ++ b ∷ after) ≡ before ++ after)
     × IsSplit (before ++ b ∷ after) (before ++ after) b.name children
 
--- So a minus blossom with one layer of value 0 can be opened, given its cycle and the two children at which the blossom's
--- links end: there is a way between the two for which the tree is one that keeps the search.
+-- So a minus blossom with one layer of value 0 can be opened, given its cycle and the two children at which the
+-- blossom's links end: there is a way between the two for which the tree is one that keeps the search.
 abbrev pub BlossomOpened : Type 0
 BlossomOpened = (p : Problem) (before after : List Node) (b : Node) (newer older : List Entry) (e : Entry)
     (rest : List Link) (unmatched : List ℕ) (root r first : ℕ) (names : List ℕ) (links : List Link) (from to : ℕ)

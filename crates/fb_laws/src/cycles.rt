@@ -13,8 +13,8 @@ pub fn cycle_closed()
     ensures minus { CycleMinus }
 {}
 
-/// A minus blossom opened along its cycle: the even way between the children at which its two links end takes its place
-/// in the tree, and the children beside the way are matched in pairs.
+/// A minus blossom opened along its cycle: the even way between the children at which its two links end takes its
+/// place in the tree, and the children beside the way are matched in pairs.
 pub fn cycle_opened()
     ensures opened { CycleOpened }
     ensures plus { StillPlus }

@@ -1,0 +1,19 @@
+//! Source walks inside the sets of a dual state.
+
+ghost use Rattle.fb_laws.specs.SourceWalks.{WalksBegin, WalksJoined, WalksSplit, WalksTakenUp, WalksUncovered, WalksStepped, CoveredWalk};
+
+/// Each layer of each node has a source walk to each of its vertices that doesn't leave it: at the beginning, and
+/// after each move.
+pub fn walks_kept()
+    ensures begins { WalksBegin }
+    ensures joined { WalksJoined }
+    ensures split { WalksSplit }
+    ensures taken_up { WalksTakenUp }
+    ensures uncovered { WalksUncovered }
+    ensures stepped { WalksStepped }
+{}
+
+/// So a source walk leads to each covered vertex under its own outer node.
+pub fn covered_walk()
+    ensures { CoveredWalk }
+{}
