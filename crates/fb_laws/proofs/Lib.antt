@@ -40,6 +40,7 @@ pub mod SampleCycles
 pub mod SampleEndings
 pub mod SampleEnds
 pub mod SampleFusions
+pub mod SampleKites
 pub mod SampleLevels
 pub mod SampleNests
 pub mod SampleOpenings

@@ -37,7 +37,7 @@ chain_are_sprouts = record {
   total = omega arith;
 }
 
-some_walk : (k : ℕ) (ks : List ℕ) → (k ∷ ks) ≢ []
+pub some_walk : (k : ℕ) (ks : List ℕ) → (k ∷ ks) ≢ []
 some_walk k ks e = cc
 
 AtDefects : Link → Type 0

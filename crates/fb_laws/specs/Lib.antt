@@ -1,6 +1,7 @@
 pub mod Blossoms
 pub mod Counts
 pub mod Covers
+pub mod CycleWitnesses
 pub mod Differences
 pub mod Ends
 pub mod Forming

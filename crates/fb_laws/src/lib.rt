@@ -5,6 +5,7 @@
 pub mod blossoms;
 pub mod bridges;
 pub mod covers;
+pub mod cycle_witnesses;
 pub mod cycles;
 pub mod differences;
 pub mod ends;
@@ -36,6 +37,7 @@ pub mod works;
 pub use blossoms::{blossom_formed, blossom_opened, odd_cycle};
 pub use bridges::{blossom_named, moves_lower, uncovered_back};
 pub use covers::{crossings_by_cover, even_residue, free_step, links_are_level, step_heights};
+pub use cycle_witnesses::{closed_witness, opened_witness};
 pub use cycles::{cycle_closed, cycle_opened};
 pub use differences::cuts_differ;
 pub use ends::{crossed_once, ends_add};
