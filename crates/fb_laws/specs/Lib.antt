@@ -32,8 +32,8 @@ pub mod Signed
 pub mod SourceWalks
 pub mod Sprouts
 pub mod Steps
-pub mod TreeWitnesses
 pub mod TreeCycles
+pub mod TreeWitnesses
 pub mod Trees
 pub mod Turns
 pub mod Witnesses

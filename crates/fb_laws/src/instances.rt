@@ -1,5 +1,6 @@
 //! That the premises of the laws on nests and searches can be met, on small graphs.
 
+ghost use Rattle.fb_laws.specs.CycleWitnesses.{ClosedWitness, OpenedWitness};
 ghost use Rattle.fb_laws.specs.FusedWitnesses.{FusedWitness};
 ghost use Rattle.fb_laws.specs.NestWitnesses.{NestWitness};
 ghost use Rattle.fb_laws.specs.NestedWitnesses.{NestedWitness, EndingWitness};
@@ -10,34 +11,26 @@ pub fn nest_witness()
     ensures { NestWitness }
 {}
 
-/// Of the laws on layers in a search.
-pub fn layer_witness()
-    ensures { LayerWitness }
+/// Of the laws on a search's layers, on branches that become a blossom, on a blossom of the tree opened, and on a
+/// part's blossoms opened level by level.
+pub fn tree_witness()
+    ensures layers { LayerWitness }
+    ensures joining { JoiningWitness }
+    ensures splitting { SplittingWitness }
+    ensures levels { LevelWitness }
 {}
 
-/// Of the laws on branches that become a blossom.
-pub fn joining_witness()
-    ensures { JoiningWitness }
+/// Of the laws of the cycle that a link closes, on a line, and of a blossom opened along its cycle, on a triangle with a
+/// defect beside two of its corners.
+pub fn cycle_witness()
+    ensures closed { ClosedWitness }
+    ensures opened { OpenedWitness }
 {}
 
-/// Of the laws on a blossom of a search opened.
-pub fn splitting_witness()
-    ensures { SplittingWitness }
-{}
-
-/// Of the laws on a part's blossoms opened level by level.
-pub fn level_witness()
-    ensures { LevelWitness }
-{}
-
-/// Of the laws on the whole state of a search, but for its end.
+/// Of the laws on the whole state of a search, and on its end.
 pub fn nested_witness()
-    ensures { NestedWitness }
-{}
-
-/// Of the laws on attaching two nodes and on the end of a search.
-pub fn ending_witness()
-    ensures { EndingWitness }
+    ensures state { NestedWitness }
+    ensures ending { EndingWitness }
 {}
 
 /// Of the laws on nests and whole states of two parts.

@@ -5,7 +5,6 @@
 pub mod blossoms;
 pub mod bridges;
 pub mod covers;
-pub mod cycle_witnesses;
 pub mod cycles;
 pub mod differences;
 pub mod ends;
@@ -37,16 +36,12 @@ pub mod works;
 pub use blossoms::{blossom_formed, blossom_opened, odd_cycle};
 pub use bridges::{blossom_named, moves_lower, uncovered_back};
 pub use covers::{crossings_by_cover, even_residue, free_step, links_are_level, step_heights};
-pub use cycle_witnesses::{closed_witness, opened_witness};
 pub use cycles::{cycle_closed, cycle_opened};
 pub use differences::cuts_differ;
 pub use ends::{crossed_once, ends_add};
 pub use forming::matching_formed;
 pub use fusion::{heights_fused, links_fused, parts_matched, seam_forgotten};
-pub use instances::{
-    ending_witness, fused_witness, joining_witness, layer_witness, level_witness, nest_witness,
-    nested_witness, splitting_witness,
-};
+pub use instances::{cycle_witness, fused_witness, nest_witness, nested_witness, tree_witness};
 pub use joining::search_joined;
 pub use layers::{search_layers, search_lowers};
 pub use lengths::greatest_step;

@@ -1,5 +1,8 @@
-use Rattle.fb_laws.proofs.SampleEndings.{nested_witness}
+use Rattle.fb_laws.proofs.SampleEndings.{ending_witness, nested_witness}
 use Rattle.fb_laws.proofs.instances.nested_witness.Goals as goal
 
-pub returns : goal.returns
-returns c = nested_witness
+pub returns-clause-state : goal.returns-clause-state
+returns-clause-state c = nested_witness
+
+pub returns-clause-ending : goal.returns-clause-ending
+returns-clause-ending c = ending_witness
