@@ -1,15 +1,18 @@
 -- A state with a blossom, and the one without it.
 use Rattle.std.proofs.Common.{ℕ, ◌≡◌, ◌==◌, inl, inr, not, true, false, cond, List, [], ◌∷◌, ◌++◌, map, All, Some, refl, sym, ap, ◌∙◌, subst}
 use Rattle.std.proofs.lemmas.Bool.{both_ways, false_from_ne_true, eq-eqb, ne_eqb, or_parts}
+use Rattle.std.specs.Option.{IsSome}
+use Rattle.std.proofs.lemmas.List.Elements.{All-head}
 use Rattle.fb_graph.specs.Parity.{is_in}
 use Rattle.fb_graph.specs.Problem.{Problem, crosses}
 use Rattle.fb_graph.specs.Certificate.{AreDistinct}
-use Rattle.fb_graph.specs.Dual.{Node, all_cuts, first_vertices, is_empty, is_live, cover_of, top_at}
+use Rattle.fb_graph.specs.Dual.{Node, all_cuts, first_vertices, is_empty, is_live, leaves, cover_of, top_at}
 use Rattle.fb_graph.proofs.Sets.{is_in-All}
 use Rattle.fb_laws.specs.Nests.{IsNest, IsFilled, AreJoinedLater}
 use Rattle.fb_laws.specs.Moves.{split, MaySplit}
+use Rattle.fb_laws.specs.Trees.{Connects}
 use Rattle.fb_laws.specs.SearchOpenings.{IsSplit}
-use Rattle.fb_laws.specs.OpenedCycles.{SplitOff}
+use Rattle.fb_laws.specs.OpenedCycles.{SplitOff, EndUnderChild}
 use Rattle.fb_laws.proofs.Among.{IsAmong, IsOver, All_among, among_right, live_among, outer_among, among_outer, top_among, covered_by, cover_among, from_concat, same_among, other_name}
 use Rattle.fb_laws.proofs.InsertedCuts.{same_weigh}
 use Rattle.fb_laws.proofs.Places.{among_split, split_among}
@@ -140,3 +143,25 @@ split_off p before after b children may nest same =
       subst (λ l. IsSplit (before ++ b ∷ after) l b.name children) is
           (is_split p (before ++ b ∷ after) b children (among_right before (b ∷ after) b (inl refl)) may nest same),
     )
+
+pub end_under_child : EndUnderChild
+end_under_child p nodes others blossom other children l dual split are differs connects = by connects
+  where
+    at : (p.is_real l.from ≡ true → is_in (leaves nodes) l.from ≡ true) × (p.is_real l.to ≡ true → is_in (leaves nodes) l.to ≡ true)
+    at =
+        All-head
+        (λ m. (p.is_real m.from ≡ true → is_in (leaves nodes) m.from ≡ true) × (p.is_real m.to ≡ true → is_in (leaves nodes) m.to ≡ true)) l []
+        are.at_defects
+
+    -- an end that is covered is at a defect
+    leaf : (v n : ℕ) → (p.is_real v ≡ true → is_in (leaves nodes) v ≡ true) → cover_of nodes v ≡ Some n → is_in (leaves nodes) v ≡ true
+    leaf v n defect cover = defect (dual.real v (subst IsSome (sym cover) refl))
+
+    stays : (v : ℕ) → (p.is_real v ≡ true → is_in (leaves nodes) v ≡ true) → cover_of nodes v ≡ Some other → cover_of others v ≡ Some other
+    stays v defect cover = (split.outside v other (leaf v other defect cover) cover differs).0
+
+    by : Connects nodes l other blossom → (child : ℕ) × (is_in children child ≡ true) × Connects others l other child
+    by (inl (from, to)) =
+        let (child, there, is) = split.inside l.to (leaf l.to blossom at.1 to) to in (child, is, inl (stays l.from at.0 from, there))
+    by (inr (to, from)) =
+        let (child, there, is) = split.inside l.from (leaf l.from blossom at.0 from) from in (child, is, inr (stays l.to at.1 to, there))

@@ -125,6 +125,13 @@ SplitOff = (p : Problem) (before after : List Node) (b : Node) (children : List 
     → (split b.name (before ++ b ∷ after) ≡ before ++ after)
     × IsSplit (before ++ b ∷ after) (before ++ after) b.name children
 
+-- So a link that ends under the blossom ends under one of its children.
+abbrev pub EndUnderChild : Type 0
+EndUnderChild = (p : Problem) (nodes others : List Node) (blossom other : ℕ) (children : List ℕ) (l : Link)
+    → IsDual p nodes → IsSplit nodes others blossom children → AreMatchedLinks p nodes (l ∷ [])
+    → (other ≡ blossom → ⊥) → Connects nodes l other blossom
+    → (child : ℕ) × (is_in children child ≡ true) × Connects others l other child
+
 -- So a minus blossom with one layer of value 0 can be opened, given its cycle and the two children at which the
 -- blossom's links end: there is a way between the two for which the tree is one that keeps the search.
 abbrev pub BlossomOpened : Type 0

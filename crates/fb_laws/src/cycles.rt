@@ -1,7 +1,7 @@
 //! The cycle that a link between two plus nodes closes in a search's tree.
 
 ghost use Rattle.fb_laws.specs.TreeCycles.{PathsPart, CycleJoining, CycleLinked, CycleMany, CycleMinus};
-ghost use Rattle.fb_laws.specs.OpenedCycles.{CycleOpened, StillPlus, WayRound, SplitOff, BlossomOpened};
+ghost use Rattle.fb_laws.specs.OpenedCycles.{CycleOpened, StillPlus, WayRound, SplitOff, EndUnderChild, BlossomOpened};
 
 /// The paths from the root to two plus nodes, cut off where they part, and a link between the two are an odd cycle.
 /// Its nodes can become a blossom in the tree, with the plus node where the paths part as its base.
@@ -20,5 +20,6 @@ pub fn cycle_opened()
     ensures plus { StillPlus }
     ensures way { WayRound }
     ensures split { SplitOff }
+    ensures child { EndUnderChild }
     ensures blossom { BlossomOpened }
 {}
