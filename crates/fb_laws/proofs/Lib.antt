@@ -67,3 +67,4 @@ pub mod TightLinks
 pub mod TreeCycles
 pub mod TreePaths
 pub mod Unions
+pub mod UnmatchedNames

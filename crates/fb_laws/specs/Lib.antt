@@ -36,5 +36,6 @@ pub mod TreeCycles
 pub mod TreeWitnesses
 pub mod Trees
 pub mod Turns
+pub mod UnmatchedNames
 pub mod Witnesses
 pub mod Works

@@ -29,6 +29,7 @@ pub mod splitting;
 pub mod sprouts;
 pub mod steps;
 pub mod turns;
+pub mod unmatched;
 pub mod walks;
 pub mod witnesses;
 pub mod works;
@@ -69,6 +70,7 @@ pub use splitting::{matching_opened, search_opened};
 pub use sprouts::beginning;
 pub use steps::{step_keeps_packing, step_loads, steps_add};
 pub use turns::{step_in_turns, turns_allowed};
+pub use unmatched::outer_names;
 pub use walks::{covered_walk, walks_kept};
 pub use witnesses::{
     blossom_witness, cover_witness, dual_witness, end_witness, forming_witness, fusion_witness,

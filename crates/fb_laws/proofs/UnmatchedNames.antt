@@ -1,0 +1,62 @@
+-- Outer names stay outer.
+use Rattle.std.proofs.Common.{◌≡◌, ◌⊎◌, inl, inr, true, false, [], ◌∷◌, ◌++◌, refl, sym, ap, ◌∙◌}
+use Rattle.std.proofs.lemmas.Bool.{both_ways, false_from_ne_true, cases_eq}
+use Rattle.std.proofs.lemmas.List.Elements.{All-map}
+use Rattle.fb_graph.specs.Parity.{is_in}
+use Rattle.fb_graph.specs.Dual.{Node, is_outer, taller}
+use Rattle.fb_graph.proofs.Nodes.{is_outer-childless}
+use Rattle.fb_laws.specs.Steps.{stepped_node}
+use Rattle.fb_laws.specs.Sprouts.{node_of, nodes_of}
+use Rattle.fb_laws.specs.Moves.{blossom, joined, split, lower}
+use Rattle.fb_laws.specs.UnmatchedNames.{OuterBegin, OuterFewer, OuterStepped, OuterTakenUp, OuterUncovered, OuterSplit, OuterJoined, NoChildUnmatched}
+use Rattle.fb_laws.proofs.Among.{IsAmong, among_either, among_right, outer_among, among_outer}
+use Rattle.fb_laws.proofs.ChangedNodes.{change, by_name}
+use Rattle.fb_laws.proofs.MappedNodes.{mapped_outer}
+use Rattle.fb_laws.proofs.Places.{among_split}
+
+pub outer_begin : OuterBegin
+outer_begin sprouts n within = is_outer-childless (nodes_of sprouts) n (All-map (λ m. m.children ≡ []) node_of sprouts (λ i d less. refl))
+
+pub outer_fewer : OuterFewer
+outer_fewer nodes names fewer some outer n within = outer n (some n within)
+
+pub outer_stepped : OuterStepped
+outer_stepped roles nodes k names outer n within = mapped_outer (stepped_node roles k) (λ m. refl) nodes n ∙ outer n within
+
+pub outer_taken_up : OuterTakenUp
+outer_taken_up nodes name v names outer n within =
+    mapped_outer (change name (taller v)) (λ m. by_name (λ x. x.children ≡ m.children) name (taller v) m (λ e. refl) (λ other. refl)) nodes n
+    ∙ outer n within
+
+pub outer_uncovered : OuterUncovered
+outer_uncovered nodes name names outer n within =
+    mapped_outer (change name lower) (λ m. by_name (λ x. x.children ≡ m.children) name lower m (λ e. refl) (λ other. refl)) nodes n
+    ∙ outer n within
+
+pub outer_split : OuterSplit
+outer_split nodes name names outer n within =
+    among_outer (split name nodes) n (λ q a. outer_among nodes n (outer n within) q (among_split name nodes q a).0)
+
+pub outer_joined : OuterJoined
+outer_joined nodes name children names remaining top none same outer n within = step (cases_eq n name)
+  where
+    not_child : is_in children n ≡ false
+    not_child = false_from_ne_true (is_in children n) (λ child. both_ways (is_in remaining n) (none n child) within)
+
+    step : (n ≡ name) ⊎ (n ≡ name → ⊥) → is_outer (joined name children nodes) n ≡ true
+    step (inl is) = ap (is_outer (joined name children nodes)) is ∙ top
+    step (inr other) =
+        among_outer (joined name children nodes) n
+        (λ q a. by q (among_either nodes (blossom name children nodes ∷ []) q a))
+      where
+        by : (q : Node) → IsAmong q nodes ⊎ IsAmong q (blossom name children nodes ∷ []) → is_in q.children n ≡ false
+        by q (inl a) = outer_among nodes n (outer n (sym (same n not_child other) ∙ within)) q a
+        by q (inr (inl is)) = ap (λ m. is_in m.children n) (sym is) ∙ not_child
+        by q (inr (inr nothing)) = absurd nothing
+
+pub no_child_unmatched : NoChildUnmatched
+no_child_unmatched before after b names outer n child =
+    false_from_ne_true (is_in names n)
+    (λ within.
+    both_ways (is_in b.children n)
+    (outer_among (before ++ b ∷ after) n (outer n within) b (among_right before (b ∷ after) b (inl refl))) child)

@@ -1,0 +1,50 @@
+-- Unmatched names as those of outer nodes. This is kept beside a matching, which says of outer nodes alone whether
+-- they are unmatched: so no child of a blossom is when the blossom is opened.
+use Rattle.std.specs.Prelude.{ℕ, ◌≡◌, true, false, List, ◌∷◌, ◌++◌, map}
+use Rattle.fb_graph.specs.Parity.{is_in}
+use Rattle.fb_graph.specs.Dual.{Node, is_outer}
+use Rattle.fb_laws.specs.Steps.{Roles, stepped}
+use Rattle.fb_laws.specs.Sprouts.{Sprout, nodes_of}
+use Rattle.fb_laws.specs.Moves.{joined, split, taken_up, uncovered}
+
+abbrev pub AreOuterNames : List Node → List ℕ → Type 0
+AreOuterNames nodes names = (n : ℕ) → is_in names n ≡ true → is_outer nodes n ≡ true
+
+-- At the beginning all nodes are outer, and fewer names are outer where more are.
+abbrev pub OuterBegin : Type 0
+OuterBegin = (sprouts : List Sprout) → AreOuterNames (nodes_of sprouts) (map (λ s. s.name) sprouts)
+
+abbrev pub OuterFewer : Type 0
+OuterFewer = (nodes : List Node) (names fewer : List ℕ)
+    → ((n : ℕ) → is_in fewer n ≡ true → is_in names n ≡ true)
+    → AreOuterNames nodes names → AreOuterNames nodes fewer
+
+-- Steps, vertices taken up, layers taken off and blossoms split leave outer names outer.
+abbrev pub OuterStepped : Type 0
+OuterStepped = (roles : Roles) (nodes : List Node) (k : ℕ) (names : List ℕ) → AreOuterNames nodes names
+    → AreOuterNames (stepped roles k nodes) names
+
+abbrev pub OuterTakenUp : Type 0
+OuterTakenUp = (nodes : List Node) (name v : ℕ) (names : List ℕ) → AreOuterNames nodes names
+    → AreOuterNames (taken_up name v nodes) names
+
+abbrev pub OuterUncovered : Type 0
+OuterUncovered = (nodes : List Node) (name : ℕ) (names : List ℕ) → AreOuterNames nodes names
+    → AreOuterNames (uncovered name nodes) names
+
+abbrev pub OuterSplit : Type 0
+OuterSplit = (nodes : List Node) (name : ℕ) (names : List ℕ) → AreOuterNames nodes names
+    → AreOuterNames (split name nodes) names
+
+-- Where nodes are joined, their names must not stay among the unmatched ones.
+abbrev pub OuterJoined : Type 0
+OuterJoined = (nodes : List Node) (name : ℕ) (children names remaining : List ℕ)
+    → is_outer (joined name children nodes) name ≡ true
+    → ((n : ℕ) → is_in children n ≡ true → is_in remaining n ≡ false)
+    → ((n : ℕ) → is_in children n ≡ false → (n ≡ name → ⊥) → is_in remaining n ≡ is_in names n)
+    → AreOuterNames nodes names → AreOuterNames (joined name children nodes) remaining
+
+-- So no child of a blossom is unmatched.
+abbrev pub NoChildUnmatched : Type 0
+NoChildUnmatched = (before after : List Node) (b : Node) (names : List ℕ) → AreOuterNames (before ++ b ∷ after) names
+    → (n : ℕ) → is_in b.children n ≡ true → is_in names n ≡ false
