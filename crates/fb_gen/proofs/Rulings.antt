@@ -14,7 +14,7 @@ use Rattle.fb_graph.specs.Problem.{edge_at, no_edge}
 use Rattle.fb_graph.proofs.ParitySums.{and-false}
 use Rattle.fb_graph.proofs.Sets.{range_below}
 use Rattle.fb_plan.specs.Plans.{PlanTree, names, join_at, goes_across, most_units}
-use Rattle.fb_plan.specs.Rules.{claims_from, joins_of, ranges_of, tree_from, plan_from, first_of_faults, units_fault, range_fault, unowned_fault, twice_fault, child_fault, use_fault, root_fault, edge_fault, least, is_bad_node, is_bad_range, is_unowned, is_owned_twice, is_out_of_range, is_used_twice, is_named}
+use Rattle.fb_plan.specs.Rules.{claims_from, joins_of, seams_of, ranges_of, tree_by, plan_from, first_of_faults, units_fault, range_fault, unowned_fault, twice_fault, child_fault, use_fault, root_fault, edge_fault, least, is_bad_node, is_bad_range, is_unowned, is_owned_twice, is_out_of_range, is_used_twice, is_named}
 use Rattle.fb_plan.specs.declared.parts.Join.{Join}
 use Rattle.fb_plan.specs.declared.faults.PlanFault.{PlanFault}
 use Rattle.fb_plan.proofs.Trees.{names_left, names_right}
@@ -152,7 +152,7 @@ plan_is_time_tree d t u g units joins shared lattice made joined =
           (ap (λ rs. twice_fault (lattice_graph d t) (claims_from 0 rs)) ranges ∙ no_twice_fault d t u shared)
           (ap (λ n. child_fault n (joins_of joins)) count ∙ ap (child_fault u) nodes ∙ no_child_fault d t u shared)
           (ap use_fault nodes ∙ no_use_fault d t u shared)
-          (ap (λ n. root_fault n (length joins)) count ∙ no_root_fault t u (length joins) shared fusions)
+          (ap (λ n. root_fault n (length (joins_of joins))) count ∙ no_root_fault t u (length (joins_of joins)) shared fusions)
           (ap (edge_fault (lattice_graph d t)) tree ∙ no_edge_fault d t u shared),
     )
     (ap Ok tree)
@@ -166,19 +166,19 @@ plan_is_time_tree d t u g units joins shared lattice made joined =
     count : length units ≡ u
     count = ap length made ∙ length-map (range_with_len 0 u) (λ j. unit_range d t u j ∷ []) ∙ length-range_with_len 0 u
 
-    fusions : length joins ≡ length (time_fusions u)
-    fusions = sym (length-map joins plain_join) ∙ ap length joined ∙ length-map (time_fusions u) (join_of d t u)
-
     seams : map (λ j. j.seam.items) joins ≡ map (λ f. seam_range d t u f.seam ∷ []) (time_fusions u)
     seams = sym (map-map seam_part plain_join joins) ∙ ap (map seam_part) joined ∙ map-map seam_part (join_of d t u) (time_fusions u)
 
     nodes : joins_of joins ≡ (time_tree d t u).joins
     nodes = sym (map-map node_part plain_join joins) ∙ ap (map node_part) joined ∙ map-map node_part (join_of d t u) (time_fusions u)
 
+    fusions : length (joins_of joins) ≡ length (time_fusions u)
+    fusions = ap length nodes ∙ joins_length d t u
+
     ranges : ranges_of units joins ≡ time_ranges d t u
     ranges = rw (made, seams) refl
 
-    tree : tree_from (lattice_graph d t) units joins ≡ time_tree d t u
+    tree : tree_by (lattice_graph d t) units (joins_of joins) (seams_of joins) ≡ time_tree d t u
     tree = rw (count, nodes, ranges) refl
 
 -- what a lattice's graph is

@@ -1,5 +1,5 @@
 -- That ranges and fusions which break no rule make a plan.
-use Rattle.std.proofs.Common.{ℕ, zero, suc, ◌+◌, ◌^◌, ◌<◌, ◌≤◌, ◌≡◌, ◌⊎◌, Bool, true, false, cond, eqb, ltb, List, [], ◌∷◌, length, map, get_or, find, count_by, Option, Some, None, is_some, All, refl, sym, ap, ◌∙◌, subst, inl, inr, arith}
+use Rattle.std.proofs.Common.{ℕ, zero, suc, ◌+◌, ◌^◌, ◌<◌, ◌≤◌, ◌≡◌, ◌⊎◌, Bool, true, false, cond, eqb, ltb, List, [], ◌∷◌, ◌++◌, length, map, get_or, find, count_by, Option, Some, None, is_some, All, refl, sym, ap, ◌∙◌, subst, inl, inr, arith}
 use Rattle.std.specs.List.{range_with_len}
 use Rattle.std.specs.Option.{option_or}
 use Rattle.std.specs.Prelude.{option_map}
@@ -14,7 +14,7 @@ use Rattle.fb_graph.specs.declared.parts.Edge.{Edge}
 use Rattle.fb_plan.specs.Layout.{given_owner, tree_of}
 use Rattle.fb_plan.specs.Loads.{load_at}
 use Rattle.fb_plan.specs.Plans.{IsPlan, IsTree, PlanTree, goes_across, most_units, node_count, owner_of}
-use Rattle.fb_plan.specs.Rules.{child_fault, claim_of, claims_from, edge_fault, holds, is_out_of_range, is_owned_twice, is_unowned, is_used_twice, joins_of, least, owner_in, plan_fault, range_fault, ranges_of, root_fault, tree_from, twice_fault, units_fault, unowned_fault, use_fault}
+use Rattle.fb_plan.specs.Rules.{child_fault, claim_of, claims_from, edge_fault, holds, is_out_of_range, is_owned_twice, is_unowned, is_used_twice, joins_of, least, owner_in, plan_fault, range_fault, ranges_of, root_fault, seams_of, tree_by, twice_fault, units_fault, unowned_fault, use_fault}
 use Rattle.fb_plan.specs.declared.faults.PlanFault.TheVariants.{TooManyUnits, VertexUnowned, VertexTwice, ChildOutOfRange, ChildUsedTwice, NotOneRoot}
 use Rattle.fb_plan.specs.declared.loads.Measure.TheVariants.{Nodes}
 use Rattle.fb_plan.specs.declared.parts.Claim.{Claim}
@@ -174,57 +174,55 @@ given_owner_below g nodes count below v n is =
         absurd (both_ways false refl (ap is_some (sym (ap (λ b. cond b (Some (get_or nodes v 0)) None) e) ∙ found)))
 
 -- the tree of ranges and fusions that break no rule is a plan
-pub is_plan_from : (g : DecodingGraph) (units : List (List (ℕ × ℕ))) (fusions : List Join)
-    → IsTree (tree_of (length units) (joins_of fusions))
-    → length (joins_of fusions) ≡ length fusions
-    → length (ranges_of units fusions) ≡ length units + length fusions
-    → ((v : ℕ) → v < g.vertices → is_real_in g v ≡ true → count_by (holds v) (claims_from 0 (ranges_of units fusions)) ≡ 1)
-    → least (length g.edges) (λ e. goes_across (tree_from g units fusions) (edge_at g.edges e)) ≡ None
-    → IsPlan g (tree_from g units fusions)
-is_plan_from g units fusions tree join_count range_count once across = record {
-  tree = tree_with_owners (tree_of (length units) (joins_of fusions)) (tree_from g units fusions).owners tree;
-  count = length-map-range_with_len (owner_in g (claims_from 0 (ranges_of units fusions))) 0 g.vertices;
+pub is_plan_by : (g : DecodingGraph) (units : List (List (ℕ × ℕ))) (joins : List (ℕ × ℕ)) (seams : List (List (ℕ × ℕ)))
+    → IsTree (tree_of (length units) joins)
+    → length (units ++ seams) ≡ length units + length joins
+    → ((v : ℕ) → v < g.vertices → is_real_in g v ≡ true → count_by (holds v) (claims_from 0 (units ++ seams)) ≡ 1)
+    → least (length g.edges) (λ e. goes_across (tree_by g units joins seams) (edge_at g.edges e)) ≡ None
+    → IsPlan g (tree_by g units joins seams)
+is_plan_by g units joins seams tree range_count once across = record {
+  tree = tree_with_owners (tree_of (length units) joins) (tree_by g units joins seams).owners tree;
+  count = length-map-range_with_len (owner_in g (claims_from 0 (units ++ seams))) 0 g.vertices;
   owned = λ v. ap is_some (owner v) ∙ owned v (is_real_in g v) refl;
   owners = λ v n is. below v n (is_real_in g v) refl (sym (owner v) ∙ is);
-  edges = λ k d less. ap (goes_across (tree_from g units fusions)) (same_edge k d less)
-      ∙ least_failed (length g.edges) (λ e. goes_across (tree_from g units fusions) (edge_at g.edges e)) across k less;
+  edges = λ k d less. ap (goes_across (tree_by g units joins seams)) (same_edge k d less)
+      ∙ least_failed (length g.edges) (λ e. goes_across (tree_by g units joins seams) (edge_at g.edges e)) across k less;
 }
   where
-    owner : (v : ℕ) → owner_of (tree_from g units fusions) v ≡ owner_in g (claims_from 0 (ranges_of units fusions)) v
+    owner : (v : ℕ) → owner_of (tree_by g units joins seams) v ≡ owner_in g (claims_from 0 (units ++ seams)) v
     owner v =
-        owner_told (owner_in g (claims_from 0 (ranges_of units fusions))) g.vertices v
-        (λ above. ap (λ b. cond b (option_map (λ c. c.node) (find (holds v) (claims_from 0 (ranges_of units fusions)))) None) (unreal_beyond g v above))
+        owner_told (owner_in g (claims_from 0 (units ++ seams))) g.vertices v
+        (λ above. ap (λ b. cond b (option_map (λ c. c.node) (find (holds v) (claims_from 0 (units ++ seams)))) None) (unreal_beyond g v above))
 
     node : (v : ℕ) → is_real_in g v ≡ true → (v < g.vertices) ⊎ (g.vertices ≤ v) → v < g.vertices
     node v real (inl less) = less
     node v real (inr above) = absurd (both_ways (is_real_in g v) (unreal_beyond g v above) real)
 
     found : (v : ℕ) → is_real_in g v ≡ true
-        → owner_in g (claims_from 0 (ranges_of units fusions)) v ≡ Some (load_at Nodes (claims_from 0 (ranges_of units fusions)) v)
+        → owner_in g (claims_from 0 (units ++ seams)) v ≡ Some (load_at Nodes (claims_from 0 (units ++ seams)) v)
     found v real =
-        ap (λ b. cond b (option_map (λ c. c.node) (find (holds v) (claims_from 0 (ranges_of units fusions)))) None) real
-        ∙ owner_found (claims_from 0 (ranges_of units fusions)) v (once v (node v real (cases_lt v g.vertices)) real)
+        ap (λ b. cond b (option_map (λ c. c.node) (find (holds v) (claims_from 0 (units ++ seams)))) None) real
+        ∙ owner_found (claims_from 0 (units ++ seams)) v (once v (node v real (cases_lt v g.vertices)) real)
 
-    none : (v : ℕ) → is_real_in g v ≡ false → owner_in g (claims_from 0 (ranges_of units fusions)) v ≡ None
+    none : (v : ℕ) → is_real_in g v ≡ false → owner_in g (claims_from 0 (units ++ seams)) v ≡ None
     none v unreal =
-        ap (λ b. cond b (option_map (λ c. c.node) (find (holds v) (claims_from 0 (ranges_of units fusions)))) None) unreal
+        ap (λ b. cond b (option_map (λ c. c.node) (find (holds v) (claims_from 0 (units ++ seams)))) None) unreal
 
-    owned : (v : ℕ) (b : Bool) → is_real_in g v ≡ b → is_some (owner_in g (claims_from 0 (ranges_of units fusions)) v) ≡ is_real_in g v
+    owned : (v : ℕ) (b : Bool) → is_real_in g v ≡ b → is_some (owner_in g (claims_from 0 (units ++ seams)) v) ≡ is_real_in g v
     owned v true real = ap is_some (found v real) ∙ sym real
     owned v false unreal = ap is_some (none v unreal) ∙ sym unreal
 
     some_is : (x y : ℕ) → Some x ≡ Some y → x ≡ y
     some_is x y e = cc
 
-    below : (v n : ℕ) (b : Bool) → is_real_in g v ≡ b → owner_in g (claims_from 0 (ranges_of units fusions)) v ≡ Some n
-        → n < node_count (tree_from g units fusions)
+    below : (v n : ℕ) (b : Bool) → is_real_in g v ≡ b → owner_in g (claims_from 0 (units ++ seams)) v ≡ Some n
+        → n < node_count (tree_by g units joins seams)
     below v n true real is =
         omega (
           arith,
           some_is _ _ (sym (found v real) ∙ is),
-          join_count,
-          load_below (claims_from 0 (ranges_of units fusions)) v (length units + length fusions)
-              (claims_below (ranges_of units fusions) (length units + length fusions) range_count)
+          load_below (claims_from 0 (units ++ seams)) v (length units + length joins)
+              (claims_below (units ++ seams) (length units + length joins) range_count)
               (once v (node v real (cases_lt v g.vertices)) real),
         )
     below v n false unreal is = absurd (both_ways false refl (ap is_some (sym (none v unreal) ∙ is)))
@@ -284,15 +282,17 @@ pub all_but_edges : (g : DecodingGraph) (units : List (List (ℕ × ℕ))) (fusi
     → range_fault g.vertices (ranges_of units fusions) ≡ None
     → option_or (unowned_fault g (claims_from 0 (ranges_of units fusions))) (twice_fault g (claims_from 0 (ranges_of units fusions))) ≡ None
     → option_or (child_fault (length units) (joins_of fusions)) (option_or (use_fault (joins_of fusions)) (root_fault (length units) (length fusions))) ≡ None
-    → plan_fault g units fusions ≡ edge_fault g (tree_from g units fusions)
+    → plan_fault g units (joins_of fusions) (seams_of fusions)
+    ≡ edge_fault g (tree_by g units (joins_of fusions) (seams_of fusions))
 all_but_edges g units fusions limit good cover children =
     seven (units_fault units) (range_fault g.vertices (ranges_of units fusions))
     (unowned_fault g (claims_from 0 (ranges_of units fusions))) (twice_fault g (claims_from 0 (ranges_of units fusions)))
-    (child_fault (length units) (joins_of fusions)) (use_fault (joins_of fusions)) (root_fault (length units) (length fusions))
-    (edge_fault g (tree_from g units fusions))
+    (child_fault (length units) (joins_of fusions)) (use_fault (joins_of fusions)) (root_fault (length units) (length (joins_of fusions)))
+    (edge_fault g (tree_by g units (joins_of fusions) (seams_of fusions)))
     (cond-false (ltb most_units (length units)) (Some TooManyUnits) None (le-ltb most_units (length units) limit)) good
     (none_parts _ _ cover).0 (none_parts _ _ cover).1 (none_parts _ _ children).0
-    (none_parts _ _ (none_parts _ _ children).1).0 (none_parts _ _ (none_parts _ _ children).1).1
+    (none_parts _ _ (none_parts _ _ children).1).0
+    (ap (root_fault (length units)) (length-joins_of fusions) ∙ (none_parts _ _ (none_parts _ _ children).1).1)
   where
     or_none : {X : Type 0} (o : Option X) → option_or o None ≡ o
     or_none None = refl

@@ -14,9 +14,17 @@ use Rattle.fb_plan.specs.declared.faults.PlanFault.TheVariants.{TooManyUnits, Ba
 abbrev pub least : ℕ → (ℕ → Bool) → Option ℕ
 least n test = find test (range_with_len 0 n)
 
+-- the children of each fusion
+abbrev pub joins_of : List Join → List (ℕ × ℕ)
+joins_of fusions = map (λ join. (join.left, join.right)) fusions
+
+-- the ranges of each fusion's seam
+abbrev pub seams_of : List Join → List (List (ℕ × ℕ))
+seams_of fusions = map (λ join. join.seam.items) fusions
+
 -- the ranges of each node: of the units, then of the fusions
 abbrev pub ranges_of : List (List (ℕ × ℕ)) → List Join → List (List (ℕ × ℕ))
-ranges_of units fusions = units ++ map (λ join. join.seam.items) fusions
+ranges_of units fusions = units ++ seams_of fusions
 
 -- a node's range
 abbrev pub claim_of : ℕ → ℕ × ℕ → Claim
@@ -65,16 +73,12 @@ is_used_twice joins i =
     (join_at joins i).0 == (join_at joins i).1
     || is_named (take i joins) (join_at joins i).0 || is_named (take i joins) (join_at joins i).1
 
--- the children of each fusion
-abbrev pub joins_of : List Join → List (ℕ × ℕ)
-joins_of fusions = map (λ join. (join.left, join.right)) fusions
-
--- the plan of ranges and fusions that break no rule
-abbrev pub tree_from : DecodingGraph → List (List (ℕ × ℕ)) → List Join → PlanTree
-tree_from g units fusions = record {
+-- the plan of the units' ranges, the fusions' children and their seams, where these break no rule
+abbrev pub tree_by : DecodingGraph → List (List (ℕ × ℕ)) → List (ℕ × ℕ) → List (List (ℕ × ℕ)) → PlanTree
+tree_by g units joins seams = record {
   units = length units;
-  joins = joins_of fusions;
-  owners = map (owner_in g (claims_from 0 (ranges_of units fusions))) (range_with_len 0 g.vertices);
+  joins = joins;
+  owners = map (owner_in g (claims_from 0 (units ++ seams))) (range_with_len 0 g.vertices);
 }
 
 -- Each rule, with the place that breaks it first.
@@ -108,22 +112,27 @@ first_of_faults [] = None
 first_of_faults (fault ∷ faults) = option_or fault (first_of_faults faults)
 
 -- the first rule that is broken
-abbrev pub plan_fault : DecodingGraph → List (List (ℕ × ℕ)) → List Join → Option PlanFault
-plan_fault g units fusions = first_of_faults (
+abbrev pub plan_fault : DecodingGraph → List (List (ℕ × ℕ)) → List (ℕ × ℕ) → List (List (ℕ × ℕ)) → Option PlanFault
+plan_fault g units joins seams = first_of_faults (
     units_fault units
-    ∷ range_fault g.vertices (ranges_of units fusions)
-    ∷ unowned_fault g (claims_from 0 (ranges_of units fusions))
-    ∷ twice_fault g (claims_from 0 (ranges_of units fusions))
-    ∷ child_fault (length units) (joins_of fusions)
-    ∷ use_fault (joins_of fusions)
-    ∷ root_fault (length units) (length fusions)
-    ∷ edge_fault g (tree_from g units fusions)
+    ∷ range_fault g.vertices (units ++ seams)
+    ∷ unowned_fault g (claims_from 0 (units ++ seams))
+    ∷ twice_fault g (claims_from 0 (units ++ seams))
+    ∷ child_fault (length units) joins
+    ∷ use_fault joins
+    ∷ root_fault (length units) (length joins)
+    ∷ edge_fault g (tree_by g units joins seams)
     ∷ [])
 
 abbrev pub or_fault : Option PlanFault → PlanTree → Result PlanTree PlanFault
 or_fault (Some fault) t = Err fault
 or_fault None t = Ok t
 
--- the plan, or the first rule that is broken
+-- the plan of the units' ranges, the fusions' children and their seams, or the first rule that they break
+abbrev pub plan_by : DecodingGraph → List (List (ℕ × ℕ)) → List (ℕ × ℕ) → List (List (ℕ × ℕ))
+    → Result PlanTree PlanFault
+plan_by g units joins seams = or_fault (plan_fault g units joins seams) (tree_by g units joins seams)
+
+-- the plan of the units' ranges and the fusions, or the first rule that they break
 abbrev pub plan_from : DecodingGraph → List (List (ℕ × ℕ)) → List Join → Result PlanTree PlanFault
-plan_from g units fusions = or_fault (plan_fault g units fusions) (tree_from g units fusions)
+plan_from g units fusions = plan_by g units (joins_of fusions) (seams_of fusions)

@@ -1,6 +1,5 @@
 -- What the rules of a plan say of joins is what they say of the fusions that the joins are.
 use Rattle.std.proofs.Common.{◌≡◌, ℕ, List, map, refl}
-use Rattle.std.proofs.lemmas.List.{length-map}
 use Rattle.std.proofs.lemmas.Simd.{map-map}
 use Rattle.fb_graph.specs.Limits.{DecodingGraph}
 use Rattle.fb_plan.specs.Rules.{plan_from}
@@ -11,7 +10,7 @@ pub plan_of_joins : (g : DecodingGraph) (units : List (List (ℕ × ℕ))) (join
     → plan_from g units joins ≡ plan_of g units (map fusion_from joins)
 unfolding plan_of
 plan_of_joins g units joins =
-    rw (map-map seam_of fusion_from joins, map-map nodes_of fusion_from joins, length-map joins fusion_from) refl
+    rw (map-map seam_of fusion_from joins, map-map nodes_of fusion_from joins) refl
   where
     seam_of : Fusion → List (ℕ × ℕ)
     seam_of f = f.seam

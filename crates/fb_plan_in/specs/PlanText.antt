@@ -1,14 +1,13 @@
 -- The plan of a text: one JSON value (RFC 8259), an object with `units` and `fusions`, or the first rule that the text
 -- breaks. Other members are ignored.
 use Rattle.std.specs.Prelude.{ℕ, ◌+◌, ◌^◌, nat_lt, if◌then◌else◌, List, [], ◌∷◌, ◌++◌, length, map, codes, Option, Some, None, option_map, option_and_then, Result, Ok, Err}
-use Rattle.std.specs.List.{range_with_len}
 use Rattle.std.specs.Str.{is_utf8}
 use Rattle.serde_json.specs.Data.{Data, Items, no_items, item}
 use Rattle.serde_json.specs.Find.{get, as_array, as_number, as_u64}
 use Rattle.serde_json.specs.Read.{read}
 use Rattle.fb_graph.specs.Limits.{DecodingGraph}
 use Rattle.fb_plan.specs.Plans.{PlanTree}
-use Rattle.fb_plan.specs.Rules.{claims_from, owner_in, units_fault, range_fault, unowned_fault, twice_fault, child_fault, use_fault, root_fault, edge_fault, first_of_faults, or_fault}
+use Rattle.fb_plan.specs.Rules.{plan_by}
 use Rattle.fb_plan.specs.declared.parts.Join.{Join}
 use Rattle.fb_plan.specs.declared.faults.Member.TheVariants as member
 use Rattle.fb_plan.specs.declared.faults.Place.{Place}
@@ -108,35 +107,9 @@ parts_of_text bytes =
 abbrev pub fusion_from : Join → Fusion
 fusion_from join = record { left = join.left; right = join.right; seam = join.seam.items }
 
--- The plan of these ranges and fusions, or the first rule that they break: just what the rules say of joins that are
--- these fusions.
-abbrev pub node_ranges : List (List (ℕ × ℕ)) → List Fusion → List (List (ℕ × ℕ))
-node_ranges units fusions = units ++ map (λ f. f.seam) fusions
-
-abbrev pub children : List Fusion → List (ℕ × ℕ)
-children fusions = map (λ f. (f.left, f.right)) fusions
-
-abbrev pub tree_of : DecodingGraph → List (List (ℕ × ℕ)) → List Fusion → PlanTree
-tree_of g units fusions = record {
-  units = length units;
-  joins = children fusions;
-  owners = map (owner_in g (claims_from 0 (node_ranges units fusions))) (range_with_len 0 g.vertices);
-}
-
-abbrev pub fault_of : DecodingGraph → List (List (ℕ × ℕ)) → List Fusion → Option PlanFault
-fault_of g units fusions = first_of_faults (
-    units_fault units
-    ∷ range_fault g.vertices (node_ranges units fusions)
-    ∷ unowned_fault g (claims_from 0 (node_ranges units fusions))
-    ∷ twice_fault g (claims_from 0 (node_ranges units fusions))
-    ∷ child_fault (length units) (children fusions)
-    ∷ use_fault (children fusions)
-    ∷ root_fault (length units) (length fusions)
-    ∷ edge_fault g (tree_of g units fusions)
-    ∷ [])
-
+-- the plan of these ranges and fusions, or the first rule that they break
 unfoldable pub plan_of : DecodingGraph → List (List (ℕ × ℕ)) → List Fusion → Result PlanTree PlanFault
-plan_of g units fusions = or_fault (fault_of g units fusions) (tree_of g units fusions)
+plan_of g units fusions = plan_by g units (map (λ f. (f.left, f.right)) fusions) (map (λ f. f.seam) fusions)
 
 -- the plan of a text over a graph, or the first rule that the text breaks
 abbrev pub plan_of_text : List ℕ → DecodingGraph → Result PlanTree PlanFault

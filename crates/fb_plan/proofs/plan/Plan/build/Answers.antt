@@ -6,11 +6,11 @@ use Rattle.std.proofs.lemmas.List.FromFn.{length-map-range_with_len}
 use Rattle.fb_graph.specs.Problem.{edge_at}
 use Rattle.fb_plan.specs.Plans.{IsPlan, IsTree, goes_across}
 use Rattle.fb_plan.specs.Layout.{tree_of}
-use Rattle.fb_plan.specs.Rules.{child_fault, claims_from, edge_fault, joins_of, least, or_fault, owner_in, range_fault, ranges_of, root_fault, tree_from, twice_fault, unowned_fault, use_fault}
+use Rattle.fb_plan.specs.Rules.{child_fault, claims_from, edge_fault, joins_of, least, or_fault, owner_in, range_fault, ranges_of, root_fault, seams_of, tree_by, twice_fault, unowned_fault, use_fault}
 use Rattle.fb_plan.specs.declared.faults.PlanFault.TheVariants.{EdgeAcross}
 use Rattle.fb_plan.proofs.Fusions.{length-joins_of}
 use Rattle.fb_plan.proofs.Gathering.{length-ranges_of}
-use Rattle.fb_plan.proofs.Growth.{all_but_edges, claims_below, is_plan_from, once_from, same_plan, tree_from_rules}
+use Rattle.fb_plan.proofs.Growth.{all_but_edges, claims_below, is_plan_by, once_from, same_plan, tree_from_rules}
 use Rattle.fb_plan.proofs.plan.Plan.build.Goals as goal
 
 pub grown-requires-clause-nodes : goal.grown-requires-clause-nodes
@@ -42,9 +42,9 @@ returns-in-Some-first_across-clause-err c not_memory =
     let units : List (List (ℕ × ℕ)) = map (λ u. u.items) c.args.units.now in
     let claims : c.deref-2.result.now ≡ claims_from 0 (ranges_of units c.args.fusions.now) = c.deref-2.ensures.value ∙ c.in-Ok.ensures.ok in
     let count : length units ≡ length c.args.units.now = length-map c.args.units.now (λ u. u.items) in
-    let plan : c.in-Ok-grown.plan ≡ tree_from c.args.graph.now units c.args.fusions.now =
+    let plan : c.in-Ok-grown.plan ≡ tree_by c.args.graph.now units (joins_of c.args.fusions.now) (seams_of c.args.fusions.now) =
     c.in-Ok-grown.ensures ∙ same_plan c.args.graph.now _ _ c.args.fusions.now c.deref-2.result.now _ (sym count) claims in
-    ap (λ fault. or_fault fault (tree_from c.args.graph.now units c.args.fusions.now))
+    ap (λ fault. or_fault fault (tree_by c.args.graph.now units (joins_of c.args.fusions.now) (seams_of c.args.fusions.now)))
     (all_but_edges c.args.graph.now units c.args.fusions.now (omega (arith, count))
     (subst (λ n. range_fault n (ranges_of units c.args.fusions.now) ≡ None) c.vertices.ensures c.in-Ok.ensures.good)
     (subst (λ cs. option_or (unowned_fault c.args.graph.now cs) (twice_fault c.args.graph.now cs) ≡ None)
@@ -60,9 +60,9 @@ returns-clause-ok c =
     let units : List (List (ℕ × ℕ)) = map (λ u. u.items) c.args.units.now in
     let claims : c.deref-2.result.now ≡ claims_from 0 (ranges_of units c.args.fusions.now) = c.deref-2.ensures.value ∙ c.in-Ok.ensures.ok in
     let count : length units ≡ length c.args.units.now = length-map c.args.units.now (λ u. u.items) in
-    let plan : c.in-Ok-grown.plan ≡ tree_from c.args.graph.now units c.args.fusions.now =
+    let plan : c.in-Ok-grown.plan ≡ tree_by c.args.graph.now units (joins_of c.args.fusions.now) (seams_of c.args.fusions.now) =
     c.in-Ok-grown.ensures ∙ same_plan c.args.graph.now _ _ c.args.fusions.now c.deref-2.result.now _ (sym count) claims in
-    ap (λ fault. or_fault fault (tree_from c.args.graph.now units c.args.fusions.now))
+    ap (λ fault. or_fault fault (tree_by c.args.graph.now units (joins_of c.args.fusions.now) (seams_of c.args.fusions.now)))
     (all_but_edges c.args.graph.now units c.args.fusions.now (omega (arith, count))
     (subst (λ n. range_fault n (ranges_of units c.args.fusions.now) ≡ None) c.vertices.ensures c.in-Ok.ensures.good)
     (subst (λ cs. option_or (unowned_fault c.args.graph.now cs) (twice_fault c.args.graph.now cs) ≡ None)
@@ -78,15 +78,15 @@ returns-clause-valid c =
     let units : List (List (ℕ × ℕ)) = map (λ u. u.items) c.args.units.now in
     let claims : c.deref-2.result.now ≡ claims_from 0 (ranges_of units c.args.fusions.now) = c.deref-2.ensures.value ∙ c.in-Ok.ensures.ok in
     let count : length units ≡ length c.args.units.now = length-map c.args.units.now (λ u. u.items) in
-    let plan : c.in-Ok-grown.plan ≡ tree_from c.args.graph.now units c.args.fusions.now =
+    let plan : c.in-Ok-grown.plan ≡ tree_by c.args.graph.now units (joins_of c.args.fusions.now) (seams_of c.args.fusions.now) =
     c.in-Ok-grown.ensures ∙ same_plan c.args.graph.now _ _ c.args.fusions.now c.deref-2.result.now _ (sym count) claims in
     subst (IsPlan c.args.graph.now) (sym plan)
-    (is_plan_from c.args.graph.now units c.args.fusions.now
+    (is_plan_by c.args.graph.now units (joins_of c.args.fusions.now) (seams_of c.args.fusions.now)
     (subst (λ n. IsTree (tree_of n (joins_of c.args.fusions.now))) (sym count)
     (tree_from_rules (length c.args.units.now) c.args.fusions.now (omega arith)
     (sym c.in-Ok-None-judge_fusions.ensures ∙ c.in-Ok-None-judge_fusions.field-0-is)))
-    (length-joins_of c.args.fusions.now)
-    (length-ranges_of (λ u. u.items) c.args.units.now c.args.fusions.now ∙ ap (λ k. k + length c.args.fusions.now) (sym count))
+    (length-ranges_of (λ u. u.items) c.args.units.now c.args.fusions.now ∙ ap (λ k. k + length c.args.fusions.now) (sym count)
+    ∙ ap (λ k. length units + k) (sym (length-joins_of c.args.fusions.now)))
     (once_from c.args.graph.now (claims_from 0 (ranges_of units c.args.fusions.now))
     (subst (λ cs. option_or (unowned_fault c.args.graph.now cs) (twice_fault c.args.graph.now cs) ≡ None)
     (c.deref.ensures.value ∙ c.in-Ok.ensures.ok) (sym c.in-Ok-None.ensures ∙ c.in-Ok-None.field-0-is)))
