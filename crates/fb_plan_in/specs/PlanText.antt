@@ -1,11 +1,10 @@
 -- The plan of a text: one JSON value (RFC 8259), an object with `units` and `fusions`, or the first rule that the text
 -- breaks. Other members are ignored.
-use Rattle.std.specs.Prelude.{ℕ, ◌+◌, ◌^◌, nat_lt, if◌then◌else◌, List, [], ◌∷◌, ◌++◌, length, map, codes, Option, Some, None, option_map, option_and_then, Result, Ok, Err}
-use Rattle.std.specs.Str.{is_utf8}
+use Rattle.std.specs.Prelude.{ℕ, nat_lt, if◌then◌else◌, List, [], ◌∷◌, ◌++◌, length, map, codes, Option, Some, None, option_map, option_and_then, Result, Ok, Err}
 use Rattle.serde_json.specs.Data.{Data, Items, no_items, item}
-use Rattle.serde_json.specs.Find.{get, as_array, as_number, as_u64}
-use Rattle.serde_json.specs.Read.{read}
+use Rattle.serde_json.specs.Find.{get, as_array}
 use Rattle.fb_graph.specs.Limits.{DecodingGraph}
+use Rattle.fb_graph_in.specs.JsonText.{most_bytes, with_option, with_result, value_of, natural_of, entries_by}
 use Rattle.fb_plan.specs.Plans.{PlanTree}
 use Rattle.fb_plan.specs.Rules.{plan_by}
 use Rattle.fb_plan.specs.declared.parts.Join.{Join}
@@ -14,28 +13,6 @@ use Rattle.fb_plan.specs.declared.faults.Place.{Place}
 use Rattle.fb_plan.specs.declared.faults.Place.TheVariants as place
 use Rattle.fb_plan.specs.declared.faults.PlanFault.{PlanFault}
 use Rattle.fb_plan.specs.declared.faults.PlanFault.TheVariants.{TooLong, NotJson, Missing, NotWhole}
-
--- the most bytes of a text
-abbrev pub most_bytes : ℕ
-most_bytes = 2 ^ 28
-
--- the next step on a value that is there, else this fault
-abbrev pub with_option : {A B : Type 0} → Option A → PlanFault → (A → Result B PlanFault) → Result B PlanFault
-with_option None fault next = Err fault
-with_option (Some a) fault next = next a
-
--- the next step on a value, or the fault that stands in its place
-abbrev pub with_result : {A B : Type 0} → Result A PlanFault → (A → Result B PlanFault) → Result B PlanFault
-with_result (Err fault) next = Err fault
-with_result (Ok a) next = next a
-
--- the value that bytes are: None where they are no UTF-8 or no JSON
-abbrev pub value_of : List ℕ → Option Data
-value_of bytes = if is_utf8 bytes then read bytes else None
-
--- a whole number of at least 0
-abbrev pub natural_of : Data → Option ℕ
-natural_of d = option_and_then as_u64 (as_number d)
 
 -- exactly two whole numbers of at least 0
 abbrev pub two_of : Items → Option (ℕ × ℕ)
@@ -75,16 +52,9 @@ fusion_of d =
     option_map (λ seam. record { left = pair.0; right = pair.1; seam = seam }) (ranges_of interface))
     (pair_of nodes)) (get (codes "interface") d)) (get (codes "of") d)
 
--- entries before those that a result has
-abbrev pub onto : {A : Type 0} → List A → Result (List A) PlanFault → Result (List A) PlanFault
-onto before (Ok more) = Ok (before ++ more)
-onto before (Err fault) = Err fault
-
 -- the entries of a list, the first of which has number i, or the place of the first one that isn't of its form
 abbrev pub entries_of : {A : Type 0} → (Data → Option A) → (ℕ → Place) → ℕ → Items → Result (List A) PlanFault
-entries_of entry_of at i no_items = Ok []
-entries_of entry_of at i (item d ds) =
-    with_option (entry_of d) (NotWhole (at i)) (λ entry. onto (entry ∷ []) (entries_of entry_of at (i + 1) ds))
+entries_of entry_of at = entries_by entry_of (λ i. NotWhole (at i))
 
 -- what the value says: the ranges of each unit, and the fusions
 unfoldable pub parts_of : Data → Result (List (List (ℕ × ℕ)) × List Fusion) PlanFault

@@ -1,5 +1,6 @@
 use Rattle.std.proofs.Common.{arith}
-use Rattle.fb_plan_in.proofs.Readings.{value_of_some, parts_of_value}
+use Rattle.fb_graph_in.proofs.Readings.{value_of_some}
+use Rattle.fb_plan_in.proofs.Readings.{parts_of_value}
 use Rattle.fb_plan_in.proofs.parts.read_parts.Goals as goal
 
 pub returns-in-Ok-clause-err : goal.returns-in-Ok-clause-err
