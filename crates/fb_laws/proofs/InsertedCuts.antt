@@ -1,5 +1,5 @@
 -- Lists of cuts of which the one has a cut of value 0 more.
-use Rattle.std.proofs.Common.{ℕ, zero, suc, ◌≡◌, ◌+◌, ◌%◌, ◌≤◌, ◌^◌, inl, inr, cond, Bool, true, List, [], ◌∷◌, ◌++◌, All, AllPairs, get_or, sym, ap, ◌∙◌, subst, arith}
+use Rattle.std.proofs.Common.{ℕ, zero, suc, ◌≡◌, ◌%◌, ◌≤◌, ◌^◌, inl, inr, cond, Bool, true, List, [], ◌∷◌, ◌++◌, All, AllPairs, get_or, sym, ap, ◌∙◌, subst, arith}
 use Rattle.std.proofs.lemmas.Bool.{both_ways, false_from_ne_true}
 use Rattle.std.proofs.lemmas.List.Elements.{All-cons, All-head, All-tail, All-weaker}
 use Rattle.std.proofs.lemmas.List.Kept.{AllPairs-cons}

@@ -10,6 +10,7 @@ pub mod FallingRanks
 pub mod Forests
 pub mod FormedNodes
 pub mod FusedParts
+pub mod FusedStates
 pub mod HalvesKept
 pub mod InsertedCuts
 pub mod JoinedNests

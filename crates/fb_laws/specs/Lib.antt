@@ -5,6 +5,7 @@ pub mod CycleWitnesses
 pub mod Differences
 pub mod Ends
 pub mod Forming
+pub mod FusedStates
 pub mod FusedWitnesses
 pub mod Fusion
 pub mod Lengths

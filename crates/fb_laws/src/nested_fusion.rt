@@ -1,5 +1,6 @@
 //! Nests of two parts as one nest, and their whole states as one.
 
+ghost use Rattle.fb_laws.specs.FusedStates.{NestedFused, UnmatchedCounted};
 ghost use Rattle.fb_laws.specs.NestFusion.{NestsBeside, NestsMerged, NestSprouted, NestedMerged, NestedSeam};
 
 /// Two nests on real vertices and with names of their own are one nest, where their cuts fit together: so are those
@@ -11,8 +12,11 @@ pub fn nests_merged()
 {}
 
 /// The whole states of two separated parts are one of the whole, and one of it still when the seam is made real: then
-/// freed nodes and the seam's defects are unmatched.
+/// freed nodes and the seam's defects are unmatched. Both steps in one fuse two parts over their seam, with as many
+/// unmatched nodes as both had, as links led to the seam, and as it has defects.
 pub fn nested_fused()
     ensures merged { NestedMerged }
     ensures seam { NestedSeam }
+    ensures fused { NestedFused }
+    ensures count { UnmatchedCounted }
 {}
