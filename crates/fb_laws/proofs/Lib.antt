@@ -46,6 +46,7 @@ pub mod SampleLevels
 pub mod SampleNests
 pub mod SampleOpenings
 pub mod SampleParts
+pub mod SampleSeamStates
 pub mod SampleSeams
 pub mod SampleSearches
 pub mod SampleStates

@@ -23,7 +23,7 @@ use Rattle.fb_laws.proofs.SampleParts.{of_two}
 use Rattle.fb_laws.proofs.SampleSeams.{merging_witness}
 use Rattle.fb_laws.proofs.SampleStates.{of_three}
 
-own_by_cases : (nodes others : List Node) → All (λ n. is_live others n.name ≡ false) nodes → HaveOwnNames nodes others
+pub own_by_cases : (nodes others : List Node) → All (λ n. is_live others n.name ≡ false) nodes → HaveOwnNames nodes others
 own_by_cases nodes others each n live =
     let (m, a, e) = live_among nodes n live in
     subst (λ x. is_live others x ≡ false) e (All_among (λ x. is_live others x.name ≡ false) nodes each m a)
@@ -62,7 +62,7 @@ even_part = All-from_recursion (λ e. e.weight % 2 ≡ 0) (line []).edges (refl,
 either : (v : ℕ) → is_in (1 ∷ 3 ∷ []) v ≡ true → (is_in (3 ∷ []) v ≡ true) ⊎ (is_in (1 ∷ []) v ≡ true)
 either = of_two (λ v. (is_in (3 ∷ []) v ≡ true) ⊎ (is_in (1 ∷ []) v ≡ true)) 1 3 (inr refl) (inl refl)
 
-own_ends : HaveOwnNames (nodes_of (sprout 0 3 2 ∷ [])) (nodes_of (sprout 1 1 2 ∷ []))
+pub own_ends : HaveOwnNames (nodes_of (sprout 0 3 2 ∷ [])) (nodes_of (sprout 1 1 2 ∷ []))
 own_ends =
     own_by_cases (nodes_of (sprout 0 3 2 ∷ [])) (nodes_of (sprout 1 1 2 ∷ []))
     (All-from_recursion (λ n. is_live (nodes_of (sprout 1 1 2 ∷ [])) n.name ≡ false) (nodes_of (sprout 0 3 2 ∷ []))

@@ -1,7 +1,7 @@
 //! That the premises of the laws on nests and searches can be met, on small graphs.
 
 ghost use Rattle.fb_laws.specs.CycleWitnesses.{ClosedWitness, OpenedWitness};
-ghost use Rattle.fb_laws.specs.FusedWitnesses.{FusedWitness};
+ghost use Rattle.fb_laws.specs.FusedWitnesses.{FusedWitness, SeamWitness};
 ghost use Rattle.fb_laws.specs.NestWitnesses.{NestWitness};
 ghost use Rattle.fb_laws.specs.NestedWitnesses.{NestedWitness, EndingWitness};
 ghost use Rattle.fb_laws.specs.TreeWitnesses.{LayerWitness, JoiningWitness, SplittingWitness, LevelWitness};
@@ -35,5 +35,6 @@ pub fn nested_witness()
 
 /// Of the laws on nests and whole states of two parts.
 pub fn fused_witness()
-    ensures { FusedWitness }
+    ensures steps { FusedWitness }
+    ensures fused { SeamWitness }
 {}
