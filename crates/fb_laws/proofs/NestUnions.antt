@@ -1,5 +1,5 @@
 -- Two nests beside one another are a nest.
-use Rattle.std.proofs.Common.{ℕ, ◌≡◌, ◌+◌, ◌%◌, ◌≤◌, ◌<◌, ◌==◌, ◌||◌, ◌⊎◌, inl, inr, cond, Bool, true, false, List, [], ◌∷◌, ◌++◌, map, length, All, AllPairs, Option, Some, None, get_or, refl, sym, ap, ◌∙◌, subst, arith, if◌then◌else◌}
+use Rattle.std.proofs.Common.{ℕ, ◌≡◌, ◌+◌, ◌%◌, ◌≤◌, ◌<◌, ◌==◌, ◌||◌, ◌⊎◌, inl, inr, cond, Bool, true, false, List, [], ◌∷◌, ◌++◌, map, length, All, AllPairs, Option, Some, None, get_or, sum_by, refl, sym, ap, ◌∙◌, subst, arith, if◌then◌else◌}
 use Rattle.std.specs.List.{concat}
 use Rattle.std.specs.Option.{IsSome}
 use Rattle.std.proofs.lemmas.Bool.{both_ways, false≢true, false_from_ne_true, or_cases, or_left, or_parts, or_right}
@@ -24,16 +24,20 @@ use Rattle.fb_laws.specs.Covers.{HaveParity}
 use Rattle.fb_laws.specs.Ends.{AreAllApart}
 use Rattle.fb_laws.specs.Fusion.{AreParts}
 use Rattle.fb_laws.specs.Nests.{IsNest, IsForest, IsFormed, IsFilled, AreJoinedLater, HasSources, child_sets}
-use Rattle.fb_laws.specs.NestFusion.{AreBeside, HaveOwnNames, NestsBeside, NestsMerged, NestSprouted}
+use Rattle.fb_laws.specs.NestFusion.{AreBeside, HaveOwnNames, NestsBeside, NestsMerged, NestSprouted, WalksBeside, WalksMerged, WalksSprouted}
+use Rattle.fb_laws.specs.SourceWalks.{IsEdgeIn, IsWalkInside, HasWalks, HaveWalks}
 use Rattle.fb_laws.specs.Sprouts.{Sprout, nodes_of, vertices_of}
-use Rattle.fb_laws.proofs.Among.{IsAmong, All_among, among_All, among_either, among_left, among_live, among_outer, among_right, cover_among, covered_by, live_among, outer_among, top_left}
+use Rattle.fb_laws.proofs.Among.{IsAmong, All_among, among_All, among_left, among_live, among_right, cover_among, covered_by, live_among, top_left}
 use Rattle.fb_laws.proofs.BeginningNests.{nest_begins}
 use Rattle.fb_laws.proofs.FusedParts.{boundary_height, not_held}
 use Rattle.fb_laws.proofs.InsertedCuts.{AreFit, pairs_head, pairs_tail}
 use Rattle.fb_laws.proofs.MergedParts.{cuts_merged, leaf_real, leaves_merged, names_merged, outer_in}
 use Rattle.fb_laws.proofs.NestParts.{map_agree, names_live, nest_of, top_is_odd}
+use Rattle.fb_laws.proofs.Shifts.{walk_same}
+use Rattle.fb_laws.proofs.SourceWalks.{walks_begin}
 use Rattle.fb_laws.proofs.SproutStates.{cuts_are, no_sum, vertex_in}
 use Rattle.fb_laws.proofs.Unions.{distinct_append}
+use Rattle.fb_laws.proofs.UnmatchedNames.{absent_outer, outer_both}
 
 pairs_append : {X : Type 0} (R : X → X → Type 0) (xs ys : List X) → AllPairs R xs → AllPairs R ys
     → ((x y : X) → IsAmong x xs → IsAmong y ys → R x y) → AllPairs R (xs ++ ys)
@@ -88,12 +92,33 @@ own_right left right nodes others parted one v real =
     (false_from_ne_true (is_in (leaves nodes) v)
     (λ leaf. both_ways (right.is_real v) (parted v (leaf_real left nodes v one.dual leaf)) real))
 
+-- a walk inside a set stays one over the same edges, where its ends keep their potentials and its defect is one still
+walk_over : (p whole : Problem) (nodes all : List Node) (set walk : List ℕ) (d v : ℕ) → p.edges ≡ whole.edges
+    → is_in (leaves all) d ≡ true → height_of (all_cuts all) d ≡ height_of (all_cuts nodes) d
+    → height_of (all_cuts all) v ≡ height_of (all_cuts nodes) v → IsWalkInside p nodes set walk d v
+    → IsWalkInside whole all set walk d v
+walk_over p whole nodes all set walk d v edges leaf at_d at_v is = record {
+  defect = leaf;
+  begins = is.begins;
+  stays = subst (λ es. All (λ k. IsEdgeIn set (edge_at es k)) walk) edges is.stays;
+  source = record {
+    leads = walk_same p whole edges walk d v is.source.leads;
+    balance =
+        omega (
+          arith,
+          subst (λ es. sum_by (λ k. (edge_at es k).weight) walk + height_of (all_cuts nodes) v
+              ≡ height_of (all_cuts nodes) d) edges is.source.balance,
+          at_d,
+          at_v,
+        );
+  };
+}
+
 some_name : (o : Option ℕ) → IsSome o → (m : ℕ) × (o ≡ Some m)
 some_name None some = absurd (false≢true some)
 some_name (Some m) some = (m, refl)
 
-module _ (left right whole : Problem) (nodes others : List Node) (limits : IsWithinLimits whole)
-    (beside : AreBeside left right whole nodes others)
+module _ (left right whole : Problem) (nodes others : List Node) (beside : AreBeside left right whole nodes others)
     (one : IsNest left nodes) (two : IsNest right others) where
   unreal : (v : ℕ) → right.is_real v ≡ true → left.is_real v ≡ false
   unreal v real = false_from_ne_true (left.is_real v)
@@ -150,8 +175,8 @@ module _ (left right whole : Problem) (nodes others : List Node) (limits : IsWit
       (All-weaker (IsHeld right) (IsHeld whole) (λ c. held_in right whole c beside.right_edges)
       (all_cuts others) two.dual.held)
 
-  fit : AreFit whole (leaves (nodes ++ others)) (all_cuts nodes ++ all_cuts others)
-  fit = record {
+  fit : IsWithinLimits whole → AreFit whole (leaves (nodes ++ others)) (all_cuts nodes ++ all_cuts others)
+  fit limits = record {
     packing = record {
       odd =
           All-append (IsOddCut (with_defects whole (leaves (nodes ++ others)))) (all_cuts nodes) (all_cuts others)
@@ -317,28 +342,18 @@ module _ (left right whole : Problem) (nodes others : List Node) (limits : IsWit
       )
 
   outer_left : (m : Node) → IsAmong m nodes → is_outer nodes m.name ≡ true → is_outer (nodes ++ others) m.name ≡ true
-  outer_left m a outer = among_outer (nodes ++ others) m.name (λ q b. step q (among_either nodes others q b))
-    where
-      step : (q : Node) → IsAmong q nodes ⊎ IsAmong q others → is_in q.children m.name ≡ false
-      step q (inl b) = outer_among nodes m.name outer q b
-      step q (inr b) =
-          false_from_ne_true (is_in q.children m.name)
-          (λ h.
-          both_ways (is_live others m.name) (beside.names m.name (among_live nodes m m.name a refl))
-          (is_in-All (λ c. is_live others c ≡ true) q.children (right_child q b) m.name h))
+  outer_left m a outer =
+      outer_both nodes others m.name outer
+      (absent_outer others two.forest m.name (beside.names m.name (among_live nodes m m.name a refl)))
 
   outer_right : (m : Node) → IsAmong m others → is_outer others m.name ≡ true
       → is_outer (nodes ++ others) m.name ≡ true
-  outer_right m a outer = among_outer (nodes ++ others) m.name (λ q b. step q (among_either nodes others q b))
-    where
-      step : (q : Node) → IsAmong q nodes ⊎ IsAmong q others → is_in q.children m.name ≡ false
-      step q (inr b) = outer_among others m.name outer q b
-      step q (inl b) =
-          false_from_ne_true (is_in q.children m.name)
-          (λ h.
-          both_ways (is_live others m.name)
-          (beside.names m.name (is_in-All (λ c. is_live nodes c ≡ true) q.children (left_child q b) m.name h))
-          (among_live others m m.name a refl))
+  outer_right m a outer =
+      outer_both nodes others m.name
+      (absent_outer nodes one.forest m.name
+      (false_from_ne_true (is_live nodes m.name)
+      (λ h. both_ways (is_live others m.name) (beside.names m.name h) (among_live others m m.name a refl))))
+      outer
 
   cover_left : (v m : ℕ) → cover_of nodes v ≡ Some m → cover_of (nodes ++ others) v ≡ Some m
   cover_left v m cover =
@@ -371,6 +386,41 @@ module _ (left right whole : Problem) (nodes others : List Node) (limits : IsWit
           ap (λ x. x % 2) (right_height d (leaf_real right others d two.dual h))
           ∙ second d name h (own ∙ (sym (cover_right d m own) ∙ cover)) passing
 
+  left_walks : (c : Cut) → IsAmong c (all_cuts nodes) → HasWalks left nodes c.vertices
+      → HasWalks whole (nodes ++ others) c.vertices
+  left_walks c a has v within =
+      let (walk, d, is) = has v within in
+      let real : (u : ℕ) → is_in c.vertices u ≡ true → left.is_real u ≡ true =
+      is_in-All (λ u. left.is_real u ≡ true) c.vertices (left_cut c a).real in (
+        walk,
+        d,
+        walk_over left whole nodes (nodes ++ others) c.vertices walk d v beside.left_edges
+            (leaves_in d ∙ or_left (is_in (leaves nodes) d) (is_in (leaves others) d) is.defect)
+            (left_height d (real d is.begins)) (left_height v (real v within)) is,
+      )
+
+  right_walks : (c : Cut) → IsAmong c (all_cuts others) → HasWalks right others c.vertices
+      → HasWalks whole (nodes ++ others) c.vertices
+  right_walks c a has v within =
+      let (walk, d, is) = has v within in
+      let real : (u : ℕ) → is_in c.vertices u ≡ true → right.is_real u ≡ true =
+      is_in-All (λ u. right.is_real u ≡ true) c.vertices (right_cut c a).real in (
+        walk,
+        d,
+        walk_over right whole others (nodes ++ others) c.vertices walk d v beside.right_edges
+            (leaves_in d ∙ or_right (is_in (leaves nodes) d) (is_in (leaves others) d) is.defect)
+            (right_height d (real d is.begins)) (right_height v (real v within)) is,
+      )
+
+  all_walks : HaveWalks left nodes → HaveWalks right others → HaveWalks whole (nodes ++ others)
+  all_walks first second =
+      subst (All (λ c. HasWalks whole (nodes ++ others) c.vertices)) (sym (cuts_merged nodes others))
+      (All-append (λ c. HasWalks whole (nodes ++ others) c.vertices) (all_cuts nodes) (all_cuts others)
+      (among_All (λ c. HasWalks whole (nodes ++ others) c.vertices) (all_cuts nodes)
+      (λ c a. left_walks c a (All_among (λ d. HasWalks left nodes d.vertices) (all_cuts nodes) first c a)))
+      (among_All (λ c. HasWalks whole (nodes ++ others) c.vertices) (all_cuts others)
+      (λ c a. right_walks c a (All_among (λ d. HasWalks right others d.vertices) (all_cuts others) second c a))))
+
   leaves_apart : AreApart (leaves nodes) (leaves others)
   leaves_apart v leaf =
       false_from_ne_true (is_in (leaves others) v)
@@ -378,10 +428,10 @@ module _ (left right whole : Problem) (nodes others : List Node) (limits : IsWit
       both_ways (right.is_real v) (beside.parted v (leaf_real left nodes v one.dual leaf))
       (leaf_real right others v two.dual h))
 
-  merged : IsNest whole (nodes ++ others)
-  merged =
+  merged : IsWithinLimits whole → IsNest whole (nodes ++ others)
+  merged limits =
       nest_of whole (nodes ++ others)
-      (subst (AreFit whole (leaves (nodes ++ others))) (sym (cuts_merged nodes others)) fit)
+      (subst (AreFit whole (leaves (nodes ++ others))) (sym (cuts_merged nodes others)) (fit limits))
       (record {
         names = subst AreDistinct (sym (names_merged nodes others))
             (distinct_append (map (λ n. n.name) nodes) (map (λ n. n.name) others) one.dual.names two.dual.names
@@ -398,7 +448,11 @@ module _ (left right whole : Problem) (nodes others : List Node) (limits : IsWit
 
 pub nests_beside : NestsBeside
 nests_beside left right whole nodes others limits beside one two =
-    merged left right whole nodes others limits beside one two
+    merged left right whole nodes others beside one two limits
+
+pub walks_beside : WalksBeside
+walks_beside left right whole nodes others beside one two first second =
+    all_walks left right whole nodes others beside one two first second
 
 pub beside_of_parts : (left right whole : Problem) (nodes others : List Node) → AreParts left right whole
     → HaveOwnNames nodes others → IsNest left nodes → IsNest right others → AreBeside left right whole nodes others
@@ -433,6 +487,11 @@ pub nests_merged : NestsMerged
 nests_merged left right whole nodes others limits parts names one two =
     nests_beside left right whole nodes others limits
     (beside_of_parts left right whole nodes others parts names one two) one two
+
+pub walks_merged : WalksMerged
+walks_merged left right whole nodes others parts names one two first second =
+    walks_beside left right whole nodes others (beside_of_parts left right whole nodes others parts names one two)
+    one two first second
 
 -- the problem whose real vertices are those of the sprouts
 abbrev pub sprouting : Problem → List Sprout → Problem
@@ -483,3 +542,9 @@ nest_sprouted p whole nodes sprouts limits part names vertices real unreal bare 
     nests_beside p (sprouting whole sprouts) whole nodes (nodes_of sprouts) limits
     (beside_of_sprouts p whole nodes sprouts part real unreal bare own nest) nest
     (sprouting_nest whole sprouts names vertices bare)
+
+pub walks_sprouted : WalksSprouted
+walks_sprouted p whole nodes sprouts part names vertices real unreal bare own nest walks =
+    walks_beside p (sprouting whole sprouts) whole nodes (nodes_of sprouts)
+    (beside_of_sprouts p whole nodes sprouts part real unreal bare own nest) nest
+    (sprouting_nest whole sprouts names vertices bare) walks (walks_begin (sprouting whole sprouts) sprouts)

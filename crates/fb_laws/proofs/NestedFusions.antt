@@ -58,7 +58,7 @@ nested_merged left right whole nodes others links more free open_ limits parts c
             parts covered nest.dual first second
             one.work.matching two.work.matching;
         even =
-            parity_beside left right whole nodes others limits beside one.nest two.nest (is_in (free ++ open_)) 0
+            parity_beside left right whole nodes others beside one.nest two.nest (is_in (free ++ open_)) 0
             (parity_both nodes free open_ 0 one.work.even (parity_absent nodes open_ 0 first))
             (parity_both others free open_ 0 (parity_absent others free 0 second) two.work.even);
       };
@@ -142,7 +142,7 @@ nested_seam p whole nodes freed links sprouts seam unmatched even limits is dist
       work = record {
         matching = seam_opened p whole nodes freed links sprouts seam unmatched is nest.dual state.work.matching;
         even =
-            parity_beside p (sprouting whole sprouts) whole nodes (nodes_of sprouts) limits beside state.nest two
+            parity_beside p (sprouting whole sprouts) whole nodes (nodes_of sprouts) beside state.nest two
             (is_in (unmatched ++ (freed_names freed ++ map (λ s. s.name) sprouts))) 0
             (parity_both nodes unmatched (freed_names freed ++ map (λ s. s.name) sprouts) 0 state.work.even
             (parity_both nodes (freed_names freed) (map (λ s. s.name) sprouts) 0 freed_even

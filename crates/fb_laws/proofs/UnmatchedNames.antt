@@ -1,21 +1,29 @@
 -- Outer names stay outer.
-use Rattle.std.proofs.Common.{◌≡◌, ◌⊎◌, inl, inr, true, false, [], ◌∷◌, ◌++◌, refl, sym, ap, ◌∙◌}
-use Rattle.std.proofs.lemmas.Bool.{both_ways, false_from_ne_true, cases_eq}
+use Rattle.std.proofs.Common.{ℕ, ◌≡◌, ◌⊎◌, inl, inr, true, false, List, [], ◌∷◌, ◌++◌, map, All, refl, sym, ap, ◌∙◌}
+use Rattle.std.proofs.lemmas.Bool.{both_ways, false_from_ne_true, cases_eq, or_cases}
 use Rattle.std.proofs.lemmas.List.Elements.{All-map}
 use Rattle.fb_graph.specs.Parity.{is_in}
-use Rattle.fb_graph.specs.Dual.{Node, is_outer, taller}
+use Rattle.fb_graph.specs.Dual.{Node, is_live, is_outer, taller}
+use Rattle.fb_graph.proofs.Members.{is_in-append}
 use Rattle.fb_graph.proofs.Nodes.{is_outer-childless}
+use Rattle.fb_graph.proofs.Sets.{is_in-All}
 use Rattle.fb_laws.specs.Steps.{stepped_node}
-use Rattle.fb_laws.specs.Sprouts.{node_of, nodes_of}
+use Rattle.fb_laws.specs.Sprouts.{Sprout, node_of, nodes_of}
 use Rattle.fb_laws.specs.Moves.{blossom, joined, split, lower}
-use Rattle.fb_laws.specs.UnmatchedNames.{OuterBegin, OuterFewer, OuterStepped, OuterTakenUp, OuterUncovered, OuterSplit, OuterJoined, NoChildUnmatched}
-use Rattle.fb_laws.proofs.Among.{IsAmong, among_either, among_right, outer_among, among_outer}
+use Rattle.fb_laws.specs.Nests.{IsForest}
+use Rattle.fb_laws.specs.UnmatchedNames.{OuterBegin, OuterFewer, OuterStepped, OuterTakenUp, OuterUncovered, OuterSplit, OuterJoined, OuterBeside, OuterSprouted, NoChildUnmatched}
+use Rattle.fb_laws.proofs.Among.{IsAmong, All_among, among_either, among_right, outer_among, among_outer}
 use Rattle.fb_laws.proofs.ChangedNodes.{change, by_name}
 use Rattle.fb_laws.proofs.MappedNodes.{mapped_outer}
 use Rattle.fb_laws.proofs.Places.{among_split}
 
+-- no sprout joins others
+pub all_outer : (sprouts : List Sprout) (n : ℕ) → is_outer (nodes_of sprouts) n ≡ true
+all_outer sprouts n =
+    is_outer-childless (nodes_of sprouts) n (All-map (λ m. m.children ≡ []) node_of sprouts (λ i d less. refl))
+
 pub outer_begin : OuterBegin
-outer_begin sprouts n within = is_outer-childless (nodes_of sprouts) n (All-map (λ m. m.children ≡ []) node_of sprouts (λ i d less. refl))
+outer_begin sprouts n within = all_outer sprouts n
 
 pub outer_fewer : OuterFewer
 outer_fewer nodes names fewer some outer n within = outer n (some n within)
@@ -53,6 +61,47 @@ outer_joined nodes name children names remaining top none same outer n within = 
         by q (inl a) = outer_among nodes n (outer n (sym (same n not_child other) ∙ within)) q a
         by q (inr (inl is)) = ap (λ m. is_in m.children n) (sym is) ∙ not_child
         by q (inr (inr nothing)) = absurd nothing
+
+-- a name that no node has is no child
+pub absent_outer : (nodes : List Node) → IsForest nodes → (n : ℕ) → is_live nodes n ≡ false → is_outer nodes n ≡ true
+absent_outer nodes forest n absent =
+    among_outer nodes n
+    (λ q a.
+    false_from_ne_true (is_in q.children n)
+    (λ h.
+    both_ways (is_live nodes n) absent
+    (is_in-All (λ c. is_live nodes c ≡ true) q.children
+    (All_among (λ m. All (λ c. is_live nodes c ≡ true) m.children) nodes forest.live q a) n h)))
+
+pub outer_both : (nodes others : List Node) (n : ℕ) → is_outer nodes n ≡ true → is_outer others n ≡ true
+    → is_outer (nodes ++ others) n ≡ true
+outer_both nodes others n one other =
+    among_outer (nodes ++ others) n (λ q a. by q (among_either nodes others q a))
+  where
+    by : (q : Node) → IsAmong q nodes ⊎ IsAmong q others → is_in q.children n ≡ false
+    by q (inl a) = outer_among nodes n one q a
+    by q (inr a) = outer_among others n other q a
+
+pub outer_beside : OuterBeside
+outer_beside nodes others names more forest grove away clear one other n within =
+    step (or_cases (is_in names n) (is_in more n) (sym (is_in-append names more n) ∙ within))
+  where
+    step : (is_in names n ≡ true) ⊎ (is_in more n ≡ true) → is_outer (nodes ++ others) n ≡ true
+    step (inl h) = outer_both nodes others n (one n h) (absent_outer others grove n (clear n h))
+    step (inr h) = outer_both nodes others n (absent_outer nodes forest n (away n h)) (other n h)
+
+pub outer_sprouted : OuterSprouted
+outer_sprouted nodes sprouts names forest away outer n within =
+    outer_both nodes (nodes_of sprouts) n
+    (step (or_cases (is_in names n) (is_in added n) (sym (is_in-append names added n) ∙ within)))
+    (all_outer sprouts n)
+  where
+    added : List ℕ
+    added = map (λ s. s.name) sprouts
+
+    step : (is_in names n ≡ true) ⊎ (is_in added n ≡ true) → is_outer nodes n ≡ true
+    step (inl h) = outer n h
+    step (inr h) = absent_outer nodes forest n (away n h)
 
 pub no_child_unmatched : NoChildUnmatched
 no_child_unmatched before after b names outer n child =

@@ -10,6 +10,7 @@ use Rattle.fb_laws.specs.Fusion.{AreParts}
 use Rattle.fb_laws.specs.Links.{AreEven}
 use Rattle.fb_laws.specs.Merging.{Freed, IsSeam, freed_links, freed_names}
 use Rattle.fb_laws.specs.NestedSearches.{IsNestedWork}
+use Rattle.fb_laws.specs.SourceWalks.{HaveWalks}
 use Rattle.fb_laws.specs.Sprouts.{Sprout, nodes_of, vertices_of}
 use Rattle.fb_laws.specs.Nests.{IsNest}
 
@@ -47,6 +48,24 @@ NestSprouted = (p whole : Problem) (nodes : List Node) (sprouts : List Sprout) �
     → All (λ s. whole.is_real s.vertex ≡ true) sprouts → All (λ s. p.is_real s.vertex ≡ false) sprouts
     → All (λ s. s.value ≡ 0) sprouts → HaveOwnNames nodes (nodes_of sprouts) → IsNest p nodes
     → IsNest whole (nodes ++ nodes_of sprouts)
+
+-- Where each side has its source walks, both together have them.
+abbrev pub WalksBeside : Type 0
+WalksBeside = (left right whole : Problem) (nodes others : List Node) → AreBeside left right whole nodes others
+    → IsNest left nodes → IsNest right others → HaveWalks left nodes → HaveWalks right others
+    → HaveWalks whole (nodes ++ others)
+
+abbrev pub WalksMerged : Type 0
+WalksMerged = (left right whole : Problem) (nodes others : List Node) → AreParts left right whole
+    → HaveOwnNames nodes others → IsNest left nodes → IsNest right others → HaveWalks left nodes
+    → HaveWalks right others → HaveWalks whole (nodes ++ others)
+
+abbrev pub WalksSprouted : Type 0
+WalksSprouted = (p whole : Problem) (nodes : List Node) (sprouts : List Sprout) → IsPart p whole
+    → AreDistinct (map (λ s. s.name) sprouts) → AreDistinct (vertices_of sprouts)
+    → All (λ s. whole.is_real s.vertex ≡ true) sprouts → All (λ s. p.is_real s.vertex ≡ false) sprouts
+    → All (λ s. s.value ≡ 0) sprouts → HaveOwnNames nodes (nodes_of sprouts) → IsNest p nodes → HaveWalks p nodes
+    → HaveWalks whole (nodes ++ nodes_of sprouts)
 
 -- So the whole states of two separated parts are one of the whole, where its real vertices are those of the parts.
 abbrev pub NestedMerged : Type 0

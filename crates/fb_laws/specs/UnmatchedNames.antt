@@ -2,10 +2,11 @@
 -- they are unmatched: so no child of a blossom is when the blossom is opened.
 use Rattle.std.specs.Prelude.{ℕ, ◌≡◌, true, false, List, ◌∷◌, ◌++◌, map}
 use Rattle.fb_graph.specs.Parity.{is_in}
-use Rattle.fb_graph.specs.Dual.{Node, is_outer}
+use Rattle.fb_graph.specs.Dual.{Node, is_live, is_outer}
 use Rattle.fb_laws.specs.Steps.{Roles, stepped}
 use Rattle.fb_laws.specs.Sprouts.{Sprout, nodes_of}
 use Rattle.fb_laws.specs.Moves.{joined, split, taken_up, uncovered}
+use Rattle.fb_laws.specs.Nests.{IsForest}
 
 abbrev pub AreOuterNames : List Node → List ℕ → Type 0
 AreOuterNames nodes names = (n : ℕ) → is_in names n ≡ true → is_outer nodes n ≡ true
@@ -43,6 +44,19 @@ OuterJoined = (nodes : List Node) (name : ℕ) (children names remaining : List 
     → ((n : ℕ) → is_in children n ≡ true → is_in remaining n ≡ false)
     → ((n : ℕ) → is_in children n ≡ false → (n ≡ name → ⊥) → is_in remaining n ≡ is_in names n)
     → AreOuterNames nodes names → AreOuterNames (joined name children nodes) remaining
+
+-- Outer names of either side are outer in both together, where none is that of a node of the other side.
+abbrev pub OuterBeside : Type 0
+OuterBeside = (nodes others : List Node) (names more : List ℕ) → IsForest nodes → IsForest others
+    → ((n : ℕ) → is_in more n ≡ true → is_live nodes n ≡ false)
+    → ((n : ℕ) → is_in names n ≡ true → is_live others n ≡ false) → AreOuterNames nodes names
+    → AreOuterNames others more → AreOuterNames (nodes ++ others) (names ++ more)
+
+-- Beside nodes without children each outer name stays outer.
+abbrev pub OuterSprouted : Type 0
+OuterSprouted = (nodes : List Node) (sprouts : List Sprout) (names : List ℕ) → IsForest nodes
+    → ((n : ℕ) → is_in (map (λ s. s.name) sprouts) n ≡ true → is_live nodes n ≡ false) → AreOuterNames nodes names
+    → AreOuterNames (nodes ++ nodes_of sprouts) (names ++ map (λ s. s.name) sprouts)
 
 -- So no child of a blossom is unmatched.
 abbrev pub NoChildUnmatched : Type 0

@@ -1,14 +1,17 @@
 //! Nests of two parts as one nest, and their whole states as one.
 
 ghost use Rattle.fb_laws.specs.FusedStates.{NestedFused, UnmatchedCounted};
-ghost use Rattle.fb_laws.specs.NestFusion.{NestsBeside, NestsMerged, NestSprouted, NestedMerged, NestedSeam};
+ghost use Rattle.fb_laws.specs.NestFusion.{NestsBeside, NestsMerged, NestSprouted, WalksBeside, WalksMerged, WalksSprouted, NestedMerged, NestedSeam};
 
 /// Two nests on real vertices and with names of their own are one nest, where their cuts fit together: so are those
-/// of separated parts, and one with nodes without values for further defects.
+/// of separated parts, and one with nodes without values for further defects. Their source walks stay.
 pub fn nests_merged()
     ensures beside { NestsBeside }
     ensures merged { NestsMerged }
     ensures sprouted { NestSprouted }
+    ensures walks_beside { WalksBeside }
+    ensures walks_merged { WalksMerged }
+    ensures walks_sprouted { WalksSprouted }
 {}
 
 /// The whole states of two separated parts are one of the whole, and one of it still when the seam is made real: then

@@ -1,9 +1,9 @@
 //! Unmatched names as those of outer nodes.
 
-ghost use Rattle.fb_laws.specs.UnmatchedNames.{OuterBegin, OuterFewer, OuterStepped, OuterTakenUp, OuterUncovered, OuterSplit, OuterJoined, NoChildUnmatched};
+ghost use Rattle.fb_laws.specs.UnmatchedNames.{OuterBegin, OuterFewer, OuterStepped, OuterTakenUp, OuterUncovered, OuterSplit, OuterJoined, OuterBeside, OuterSprouted, NoChildUnmatched};
 
-/// Unmatched names are those of outer nodes at the beginning and after each move, so that no child of a blossom is
-/// unmatched.
+/// Unmatched names are those of outer nodes at the beginning, after each move and in two lists of nodes together, so
+/// that no child of a blossom is unmatched.
 pub fn outer_names()
     ensures begin { OuterBegin }
     ensures fewer { OuterFewer }
@@ -12,5 +12,7 @@ pub fn outer_names()
     ensures uncovered { OuterUncovered }
     ensures split { OuterSplit }
     ensures joined { OuterJoined }
+    ensures beside { OuterBeside }
+    ensures sprouted { OuterSprouted }
     ensures child { NoChildUnmatched }
 {}

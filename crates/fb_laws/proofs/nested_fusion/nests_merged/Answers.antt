@@ -1,4 +1,4 @@
-use Rattle.fb_laws.proofs.NestUnions.{nests_beside, nests_merged, nest_sprouted}
+use Rattle.fb_laws.proofs.NestUnions.{nests_beside, nests_merged, nest_sprouted, walks_beside, walks_merged, walks_sprouted}
 use Rattle.fb_laws.proofs.nested_fusion.nests_merged.Goals as goal
 
 pub returns-clause-beside : goal.returns-clause-beside
@@ -9,3 +9,12 @@ returns-clause-merged c = nests_merged
 
 pub returns-clause-sprouted : goal.returns-clause-sprouted
 returns-clause-sprouted c = nest_sprouted
+
+pub returns-clause-walks_beside : goal.returns-clause-walks_beside
+returns-clause-walks_beside c = walks_beside
+
+pub returns-clause-walks_merged : goal.returns-clause-walks_merged
+returns-clause-walks_merged c = walks_merged
+
+pub returns-clause-walks_sprouted : goal.returns-clause-walks_sprouted
+returns-clause-walks_sprouted c = walks_sprouted
