@@ -1,6 +1,7 @@
 -- The whole states of two parts as one.
-use Rattle.std.proofs.Common.{ℕ, ◌≡◌, ◌%◌, inl, inr, Bool, true, false, List, [], ◌∷◌, ◌++◌, map, All, Some, reverse, sym, ap, ◌∙◌}
-use Rattle.std.proofs.lemmas.Bool.{both_ways, false_from_ne_true}
+use Rattle.std.proofs.Common.{ℕ, ◌≡◌, ◌%◌, ◌⊎◌, inl, inr, Bool, true, false, List, [], ◌∷◌, ◌++◌, map, All, Some, reverse, sym, ap, ◌∙◌, subst}
+use Rattle.std.proofs.lemmas.Bool.{both_ways, false_from_ne_true, or_cases}
+use Rattle.std.proofs.lemmas.List.{append_assoc}
 use Rattle.std.proofs.lemmas.List.Elements.{All-nil, All-cons, All-head, All-tail, All-map, All-weaker}
 use Rattle.fb_graph.specs.Parity.{is_in}
 use Rattle.fb_graph.specs.Problem.{Problem}
@@ -14,18 +15,21 @@ use Rattle.fb_laws.specs.Merging.{Freed, freed_links, freed_names}
 use Rattle.fb_laws.specs.NestFusion.{NestedMerged, NestedSeam}
 use Rattle.fb_laws.specs.Paths.{LeadsOut}
 use Rattle.fb_laws.specs.Sprouts.{nodes_of}
+use Rattle.fb_laws.specs.UnmatchedNames.{AreOuterNames}
 use Rattle.fb_laws.specs.Works.{IsMatching, IsSetOf}
 use Rattle.fb_laws.proofs.Among.{among_live, cover_among}
 use Rattle.fb_laws.proofs.Crossings.{cover_found}
 use Rattle.fb_laws.proofs.FusedParts.{seam_parity}
 use Rattle.fb_laws.proofs.MergedParts.{matchings_merged, odd_in, real_held}
 use Rattle.fb_laws.proofs.NestParts.{names_live}
-use Rattle.fb_laws.proofs.NestUnions.{beside_of_parts, beside_of_sprouts, nests_beside, parity_beside, sprouting, sprouting_nest}
+use Rattle.fb_laws.proofs.NestUnions.{beside_of_parts, beside_of_sprouts, nests_beside, parity_beside, sprouting, sprouting_nest, walks_beside}
 use Rattle.fb_laws.proofs.PotentialParities.{parities_joined}
 use Rattle.fb_laws.proofs.SearchTrees.{all_before}
 use Rattle.fb_laws.proofs.SeamStates.{seam_opened}
+use Rattle.fb_laws.proofs.SourceWalks.{walks_begin}
 use Rattle.fb_laws.proofs.SproutStates.{cuts_are, names_are, no_sum}
 use Rattle.fb_laws.proofs.TightLinks.{turned_tight}
+use Rattle.fb_laws.proofs.UnmatchedNames.{outer_beside, outer_sprouted}
 
 -- a node that covers a vertex is there
 cover_live : (nodes : List Node) (v name : ℕ) → cover_of nodes v ≡ Some name → is_live nodes name ≡ true
@@ -62,6 +66,9 @@ nested_merged left right whole nodes others links more free open_ limits parts c
             (parity_both nodes free open_ 0 one.work.even (parity_absent nodes open_ 0 first))
             (parity_both others free open_ 0 (parity_absent others free 0 second) two.work.even);
       };
+      walks = walks_beside left right whole nodes others beside one.nest two.nest one.walks two.walks;
+      outer =
+          outer_beside nodes others free open_ one.nest.forest two.nest.forest first second one.outer two.outer;
     }
 
 module _ (p : Problem) (nodes : List Node) (seam : ℕ → Bool) (links : List Link) (unmatched : List ℕ)
@@ -149,8 +156,34 @@ nested_seam p whole nodes freed links sprouts seam unmatched even limits is dist
             (parity_absent nodes (map (λ s. s.name) sprouts) 0 away)))
             (λ d name leaf cover among. ap (λ h. h % 2) (low d));
       };
+      walks =
+          walks_beside p (sprouting whole sprouts) whole nodes (nodes_of sprouts) beside state.nest two state.walks
+          (walks_begin (sprouting whole sprouts) sprouts);
+      outer =
+          subst (AreOuterNames (nodes ++ nodes_of sprouts))
+          (append_assoc unmatched (freed_names freed) (map (λ s. s.name) sprouts))
+          (outer_sprouted nodes sprouts (unmatched ++ freed_names freed) state.nest.forest away outer_old);
     }
   where
+    -- a freed node's set is that of an outer node
+    outer_freed : (n : ℕ) → is_in (freed_names freed) n ≡ true → is_outer nodes n ≡ true
+    outer_freed =
+        is_in-All (λ n. is_outer nodes n ≡ true) (freed_names freed)
+        (All-map (λ n. is_outer nodes n ≡ true) (λ f. f.name) freed
+        (All-weaker (λ f. IsSetOf nodes f.name f.set × LeadsOut f.link f.set f.seam × (seam f.seam ≡ true))
+        (λ f. is_outer nodes f.name ≡ true) (λ f ((i, less, outer, named, same), leads, at). outer) freed
+        is.freed_are))
+
+    outer_old : AreOuterNames nodes (unmatched ++ freed_names freed)
+    outer_old n within =
+        step
+        (or_cases (is_in unmatched n) (is_in (freed_names freed) n)
+        (sym (is_in-append unmatched (freed_names freed) n) ∙ within))
+      where
+        step : (is_in unmatched n ≡ true) ⊎ (is_in (freed_names freed) n ≡ true) → is_outer nodes n ≡ true
+        step (inl h) = state.outer n h
+        step (inr h) = outer_freed n h
+
     freed_even : HaveParity (is_in (freed_names freed)) nodes 0
     freed_even =
         freed_parity p nodes seam (freed_links freed ++ links) unmatched even is.unreal state.work.matching freed

@@ -1,10 +1,12 @@
--- Each step of a search keeps its nest with its matched links and its tree.
-use Rattle.std.proofs.Common.{ℕ, ◌≡◌, true, List, [], ◌∷◌, ◌++◌, All, sym, ap, ◌∙◌, subst}
+-- Each step of a search keeps its whole state.
+use Rattle.std.proofs.Common.{ℕ, ◌≡◌, ◌==◌, not, true, List, [], ◌∷◌, ◌++◌, All, sym, ap, ◌∙◌, subst}
+use Rattle.std.proofs.lemmas.Bool.{and_parts}
 use Rattle.fb_graph.specs.Parity.{is_in}
 use Rattle.fb_graph.specs.Problem.{Problem}
 use Rattle.fb_graph.specs.Laws.{Link, HasNoOddClosed}
-use Rattle.fb_graph.specs.Dual.{Node, IsCrossed, IsDual}
+use Rattle.fb_graph.specs.Dual.{Node, IsCrossed, IsDual, is_outer}
 use Rattle.fb_graph.proofs.ClosedSets.{edge_leaves}
+use Rattle.fb_graph.proofs.Sets.{is_in-filter}
 use Rattle.fb_laws.specs.Lengths.{HasPlus}
 use Rattle.fb_laws.specs.Steps.{MayStep}
 use Rattle.fb_laws.specs.Forming.{names_of, blossom_of}
@@ -14,6 +16,8 @@ use Rattle.fb_laws.specs.SearchLayers.{AreAlike}
 use Rattle.fb_laws.specs.SearchBlossoms.{joined_tree, renamed}
 use Rattle.fb_laws.specs.Nests.{IsNest}
 use Rattle.fb_laws.specs.Moves.{joined, split, taken_up, uncovered}
+use Rattle.fb_laws.specs.UnmatchedNames.{AreOuterNames}
+use Rattle.fb_laws.specs.Works.{without}
 use Rattle.fb_laws.specs.NestedSearches.{NestedWorkBegins, NestedSearchBegins, NestedFree, NestedStepped, NestedTakenUp, NestedUncovered, NestedAttached, NestedJoined, NestedOpened, NestedEnded, NestedMet, NestedReleased}
 use Rattle.fb_laws.proofs.Among.{among_All}
 use Rattle.fb_laws.proofs.BeginningNests.{nest_begins}
@@ -32,20 +36,26 @@ use Rattle.fb_laws.proofs.RaisedNests.{nest_taken_up}
 use Rattle.fb_laws.proofs.SearchEnds.{search_ended, search_met, search_released}
 use Rattle.fb_laws.proofs.SearchStates.{search_attached, search_begins, search_roles, search_stepped}
 use Rattle.fb_laws.proofs.SearchTrees.{cover_place, plus_in_tree}
+use Rattle.fb_laws.proofs.SourceWalks.{walks_begin, walks_joined, walks_split, walks_taken_up, walks_uncovered, walks_stepped}
 use Rattle.fb_laws.proofs.SplitNests.{nest_split}
 use Rattle.fb_laws.proofs.StepLengths.{greatest_step}
 use Rattle.fb_laws.proofs.SteppedNests.{nest_stepped}
+use Rattle.fb_laws.proofs.UnmatchedNames.{outer_begin, outer_fewer, outer_joined, outer_split, outer_stepped, outer_taken_up, outer_uncovered}
 
 pub nested_work_begins : NestedWorkBegins
 nested_work_begins p sprouts names vertices real zero_ defects = record {
   nest = nest_begins p sprouts names vertices real zero_;
   work = work_begins p sprouts names vertices real zero_ defects;
+  walks = walks_begin p sprouts;
+  outer = outer_begin sprouts;
 }
 
 pub nested_search_begins : NestedSearchBegins
 nested_search_begins p nodes links unmatched root state outer open_root = record {
   nest = state.nest;
   search = search_begins p nodes links unmatched root state.work outer open_root;
+  walks = state.walks;
+  outer = state.outer;
 }
 
 pub nested_free : NestedFree
@@ -76,11 +86,16 @@ crossed p nodes tree rest unmatched root r even nest search =
 
 pub nested_stepped : NestedStepped
 nested_stepped p nodes tree rest unmatched root r k limits even may state =
+    let are = search_roles p nodes tree rest unmatched root r state.search in
     let nest =
-    nest_stepped p (roles_of root tree) nodes k limits (search_roles p nodes tree rest unmatched root r state.search)
+    nest_stepped p (roles_of root tree) nodes k limits are
     (crossed p nodes tree rest unmatched root r even state.nest state.search) may state.nest in
-    let search = search_stepped p nodes tree rest unmatched root r k may.tops nest.dual state.search in
-    record { nest = nest; search = search }
+    record {
+      nest = nest;
+      search = search_stepped p nodes tree rest unmatched root r k may.tops nest.dual state.search;
+      walks = walks_stepped p (roles_of root tree) nodes k are may.tops state.nest state.walks;
+      outer = outer_stepped (roles_of root tree) nodes k unmatched state.outer;
+    }
 
 pub nested_taken_up : NestedTakenUp
 nested_taken_up p nodes tree rest unmatched root r name k u v even may state =
@@ -90,6 +105,8 @@ nested_taken_up p nodes tree rest unmatched root r name k u v even may state =
       search =
           search_alike p nodes (taken_up name v nodes) tree rest unmatched root r
           (taller_alike nodes name v (no_leaf p nodes v state.nest.dual may.uncovered)).0 nest.dual state.search;
+      walks = walks_taken_up p nodes name k u v may state.nest state.walks;
+      outer = outer_taken_up nodes name v unmatched state.outer;
     }
 
 pub nested_uncovered : NestedUncovered
@@ -103,19 +120,23 @@ nested_uncovered p nodes tree rest unmatched root r name may state =
           (subst (λ ns. AreAlike ns (uncovered name nodes)) given.back
           (taller_alike (uncovered name nodes) name v given.no_defect).1)
           nest.dual state.search;
+      walks = walks_uncovered p nodes name may state.nest state.walks;
+      outer = outer_uncovered nodes name unmatched state.outer;
     }
 
 pub nested_attached : NestedAttached
 nested_attached p nodes tree e rest unmatched root r even state plus met matched new = record {
   nest = state.nest;
   search = search_attached p nodes tree e rest unmatched root r even state.search plus met matched new;
+  walks = state.walks;
+  outer = state.outer;
 }
 
 pub nested_joined : NestedJoined
-nested_joined p nodes tree rest unmatched remaining root r name base others joining some fresh same outside state =
-    let nest =
-    nest_joined p nodes name (names_of (base ∷ others))
-    (joining_allowed nodes tree root name base others joining some fresh) state.nest in
+nested_joined p nodes tree rest unmatched remaining root r name base others joining some fresh same none outside
+    state =
+    let may = joining_allowed nodes tree root name base others joining some fresh in
+    let nest = nest_joined p nodes name (names_of (base ∷ others)) may state.nest in
     let named : nodes ++ blossom_of name (base ∷ others) ∷ [] ≡ joined name (names_of (base ∷ others)) nodes =
     ap (λ b. nodes ++ b ∷ []) (blossom_named nodes name (base ∷ others) state.nest.dual.names joining.nodes_are) in
     record {
@@ -127,6 +148,10 @@ nested_joined p nodes tree rest unmatched remaining root r name base others join
           (search_joined p nodes tree rest unmatched remaining root r name base others joining
           (subst (IsDual p) (sym named) nest.dual) same
           outside state.search);
+      walks = walks_joined p nodes name (names_of (base ∷ others)) may state.nest state.walks;
+      outer =
+          outer_joined nodes name (names_of (base ∷ others)) unmatched remaining
+          (subst (λ ns. is_outer ns name ≡ true) named joining.fresh) none outside state.outer;
     }
 
 pub nested_opened : NestedOpened
@@ -137,23 +162,44 @@ nested_opened p nodes newer older tree e kept paired more rest later unmatched r
       search =
           search_opened p nodes (split e.minus nodes) newer older tree e kept paired more rest later unmatched root r
           opened nest.dual state.search;
+      walks = walks_split p nodes e.minus may state.nest state.walks;
+      outer = outer_split nodes e.minus unmatched state.outer;
     }
+
+-- all but one of some outer names
+outer_without : (nodes : List Node) (root : ℕ) (names : List ℕ) → AreOuterNames nodes names
+    → AreOuterNames nodes (without root names)
+outer_without nodes root names =
+    outer_fewer nodes names (without root names)
+    (λ n within.
+    (and_parts (is_in names n) (not (n == root)) (sym (is_in-filter (λ m. not (m == root)) names n) ∙ within)).0)
 
 pub nested_ended : NestedEnded
 nested_ended p nodes tree rest unmatched root r name out v state plus new leaves_node boundary = record {
   nest = state.nest;
   work = search_ended p nodes tree rest unmatched root r name out v state.search plus new leaves_node boundary;
+  walks = state.walks;
+  outer = outer_without nodes root unmatched state.outer;
 }
 
 pub nested_met : NestedMet
 nested_met p nodes tree rest unmatched root r name other out state plus open_other differs new connects =
-    let work =
-    search_met p nodes tree rest unmatched root r name other out state.search plus open_other differs new connects in
-    record { nest = state.nest; work = work }
+    record {
+      nest = state.nest;
+      work =
+          search_met p nodes tree rest unmatched root r name other out state.search plus open_other differs new
+          connects;
+      walks = state.walks;
+      outer = outer_without nodes root (without other unmatched) (outer_without nodes other unmatched state.outer);
+    }
 
 pub nested_released : NestedReleased
 nested_released p nodes tree old rest unmatched root r name other out b state plus new connects away boundary =
-    let work =
-    search_released p nodes tree old rest unmatched root r name other out b state.search plus new connects away
-    boundary in
-    record { nest = state.nest; work = work }
+    record {
+      nest = state.nest;
+      work =
+          search_released p nodes tree old rest unmatched root r name other out b state.search plus new connects away
+          boundary;
+      walks = state.walks;
+      outer = outer_without nodes root unmatched state.outer;
+    }

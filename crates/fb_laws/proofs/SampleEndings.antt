@@ -5,8 +5,8 @@ use Rattle.std.proofs.lemmas.List.Elements.{All-nil, All-from_recursion}
 use Rattle.fb_graph.specs.Parity.{is_in, is_odd_count}
 use Rattle.fb_graph.specs.Problem.{Problem, Flips, edge_at, touches}
 use Rattle.fb_graph.specs.Limits.{IsWithinLimits}
-use Rattle.fb_graph.specs.Laws.{HasNoOddClosed}
-use Rattle.fb_graph.specs.Dual.{Node, AreUnderOne, all_cuts, height_of, is_empty, leaves}
+use Rattle.fb_graph.specs.Laws.{Link, HasNoOddClosed}
+use Rattle.fb_graph.specs.Dual.{Node, AreUnderOne, all_cuts, height_of, is_empty, is_outer, leaves}
 use Rattle.fb_graph.proofs.Sets.{is_in-All}
 use Rattle.fb_laws.specs.Covers.{HasNoObstacle, IsClear}
 use Rattle.fb_laws.specs.Fusion.{IsLinkOf}
@@ -17,19 +17,22 @@ use Rattle.fb_laws.specs.NestedSearches.{IsNestedSearch}
 use Rattle.fb_laws.specs.NestedWitnesses.{NestedWitness, EndingWitness, wide_nodes, low_nodes, wide_child, low_children}
 use Rattle.fb_laws.specs.Samples.{line, link, pair_nodes, pair_sprouts}
 use Rattle.fb_laws.specs.SearchBlossoms.{IsJoining}
-use Rattle.fb_laws.specs.SearchWitnesses.{chain_nodes, chain_sprouts}
+use Rattle.fb_laws.specs.Searches.{IsSearch}
+use Rattle.fb_laws.specs.SearchWitnesses.{chain_branch, chain_nodes, chain_sprouts}
 use Rattle.fb_laws.specs.Steps.{MayStep}
-use Rattle.fb_laws.specs.Trees.{roles_of}
+use Rattle.fb_laws.specs.Trees.{Entry, roles_of}
 use Rattle.fb_laws.specs.TreeWitnesses.{long_line, thin_nodes, thin_branch, crown_nodes}
 use Rattle.fb_laws.specs.Works.{AreMatchedLinks, IsSetOf}
 use Rattle.fb_laws.proofs.BeginningNests.{sprouts_are_nest}
 use Rattle.fb_laws.proofs.NestedStates.{nested_stepped, nested_taken_up, nested_uncovered}
 use Rattle.fb_laws.proofs.SampleNests.{limits_by_cases}
-use Rattle.fb_laws.proofs.SampleOpenings.{closed_nest, splitting_witness}
+use Rattle.fb_laws.proofs.SampleOpenings.{closed_nest, closed_walks, splitting_witness}
 use Rattle.fb_laws.proofs.SampleParts.{of_two, work_witness}
 use Rattle.fb_laws.proofs.SampleSearches.{search_witness}
-use Rattle.fb_laws.proofs.SampleStates.{below_by_cases, may_by_cases, no_odd_closed_by}
-use Rattle.fb_laws.proofs.SampleTrees.{even_long, may_thin, one_link, thin_nest, thin_search}
+use Rattle.fb_laws.proofs.SampleStates.{below_by_cases, may_by_cases, no_odd_closed_by, of_three}
+use Rattle.fb_laws.proofs.SampleTrees.{elsewhere, even_long, may_thin, one_link, thin_nest, thin_outer, thin_search, thin_walks}
+use Rattle.fb_laws.proofs.SourceWalks.{walks_begin}
+use Rattle.fb_laws.proofs.UnmatchedNames.{all_outer}
 
 -- four members, one after another
 of_four : (P : ℕ → Type 0) (a b c d : ℕ) → P a → P b → P c → P d → (v : ℕ) → is_in (a ∷ b ∷ c ∷ d ∷ []) v ≡ true → P v
@@ -52,7 +55,7 @@ no_odd_part : HasNoOddClosed long_line
 no_odd_part = no_odd_closed_by long_line (0 ∷ 3 ∷ []) (below_by_cases 5 (0 ∷ 3 ∷ []) refl) long_flips
 
 thin_state : IsNestedSearch long_line thin_nodes (thin_branch ∷ []) [] (0 ∷ []) 0 0
-thin_state = record { nest = thin_nest; search = thin_search }
+thin_state = record { nest = thin_nest; search = thin_search; walks = thin_walks; outer = thin_outer }
 
 given_state : IsNestedSearch long_line (uncovered 1 thin_nodes) (thin_branch ∷ []) [] (0 ∷ []) 0 0
 given_state = nested_uncovered long_line thin_nodes (thin_branch ∷ []) [] (0 ∷ []) 0 0 1 may_thin thin_state
@@ -169,9 +172,19 @@ nested_witness = (
   wide_state,
   low_joining,
   refl,
+  refl,
+  of_three (λ n. is_in (3 ∷ []) n ≡ false) 0 1 2 refl refl refl,
+  elsewhere 3 0 (1 ∷ 2 ∷ []),
   low_state,
   may_open,
-  record { nest = closed_nest; search = splitting_witness.0 },
+  record {
+    nest = closed_nest;
+    search = splitting_witness.0;
+    walks = closed_walks;
+    outer =
+        is_in-All (λ n. is_outer (joined 5 (0 ∷ 1 ∷ 2 ∷ []) crown_nodes) n ≡ true) (4 ∷ [])
+        (All-from_recursion (λ n. is_outer (joined 5 (0 ∷ 1 ∷ 2 ∷ []) crown_nodes) n ≡ true) (4 ∷ []) (refl, tt));
+  },
 )
 
 -- three defects on the line, and two
@@ -209,6 +222,8 @@ two_open = record {
     parity = λ d name leaf cover among. pair_heights d leaf;
     even = λ d name leaf cover among. pair_heights d leaf;
   };
+  walks = walks_begin (line (1 ∷ 2 ∷ [])) pair_sprouts;
+  outer = λ n among. all_outer pair_sprouts n;
 }
 
 one_open : IsNestedSearch (line (1 ∷ 2 ∷ [])) pair_nodes [] (link 1 0 (0 ∷ []) ∷ []) (1 ∷ []) 1 0
@@ -224,21 +239,33 @@ one_open = record {
     parity = λ d name leaf cover among. pair_heights d leaf;
     even = λ d name leaf cover among. pair_heights d leaf;
   };
+  walks = walks_begin (line (1 ∷ 2 ∷ [])) pair_sprouts;
+  outer = λ n among. all_outer pair_sprouts n;
 }
 
 even_line : AreEven (line (1 ∷ 2 ∷ 3 ∷ []))
 even_line = All-from_recursion (λ e. e.weight % 2 ≡ 0) (line []).edges (refl, (refl, (refl, (refl, tt))))
 
+chain_state : (tree : List Entry) (rest : List Link)
+    → IsSearch (line (1 ∷ 2 ∷ 3 ∷ [])) chain_nodes tree rest (2 ∷ []) 2 0
+    → IsNestedSearch (line (1 ∷ 2 ∷ 3 ∷ [])) chain_nodes tree rest (2 ∷ []) 2 0
+chain_state tree rest search = record {
+  nest = chain_nest;
+  search = search;
+  walks = walks_begin (line (1 ∷ 2 ∷ 3 ∷ [])) chain_sprouts;
+  outer = λ n among. all_outer chain_sprouts n;
+}
+
 pub ending_witness : EndingWitness
 ending_witness = (
   even_line,
-  record { nest = chain_nest; search = search_witness.0 },
+  chain_state [] (chain_branch.matched ∷ []) search_witness.0,
   refl,
   inl (refl, refl),
   inl (refl, refl),
   one_link (line (1 ∷ 2 ∷ 3 ∷ [])) chain_nodes 3 2 2 [] (2, omega arith, inr (refl, refl), refl) refl refl (λ h. refl)
       (λ h. refl),
-  record { nest = chain_nest; search = search_witness.1 },
+  chain_state (chain_branch ∷ []) [] search_witness.1,
   refl,
   one_link (line (1 ∷ 2 ∷ 3 ∷ [])) chain_nodes 1 0 0 [] (0, omega arith, inr (refl, refl), refl) refl refl (λ h. refl)
       (λ h. absurd (false≢true h)),

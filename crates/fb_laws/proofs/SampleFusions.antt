@@ -13,7 +13,7 @@ use Rattle.fb_laws.specs.NestFusion.{HaveOwnNames}
 use Rattle.fb_laws.specs.Nests.{IsNest}
 use Rattle.fb_laws.specs.NestedSearches.{IsNestedWork}
 use Rattle.fb_laws.specs.Samples.{sprout, link, line, line_part, end_sprouts, middle_sprouts}
-use Rattle.fb_laws.specs.Sprouts.{nodes_of}
+use Rattle.fb_laws.specs.Sprouts.{Sprout, nodes_of}
 use Rattle.fb_laws.specs.Works.{IsMatching}
 use Rattle.fb_laws.proofs.Among.{All_among, live_among}
 use Rattle.fb_laws.proofs.BeginningNests.{sprouts_are_nest}
@@ -22,6 +22,8 @@ use Rattle.fb_laws.proofs.SampleNests.{limits_by_cases}
 use Rattle.fb_laws.proofs.SampleParts.{of_two}
 use Rattle.fb_laws.proofs.SampleSeams.{merging_witness}
 use Rattle.fb_laws.proofs.SampleStates.{of_three}
+use Rattle.fb_laws.proofs.SourceWalks.{walks_begin}
+use Rattle.fb_laws.proofs.UnmatchedNames.{all_outer}
 
 pub own_by_cases : (nodes others : List Node) → All (λ n. is_live others n.name ≡ false) nodes → HaveOwnNames nodes others
 own_by_cases nodes others each n live =
@@ -29,21 +31,23 @@ own_by_cases nodes others each n live =
     subst (λ x. is_live others x ≡ false) e (All_among (λ x. is_live others x.name ≡ false) nodes each m a)
 
 -- between searches, with nothing unmatched
-none_left : (p : Problem) (nodes : List Node) (links : List Link) → IsMatching p nodes links []
-    → IsNest p nodes → IsNestedWork p nodes links []
-none_left p nodes links matching nest = record {
+none_left : (p : Problem) (sprouts : List Sprout) (links : List Link) → IsMatching p (nodes_of sprouts) links []
+    → IsNest p (nodes_of sprouts) → IsNestedWork p (nodes_of sprouts) links []
+none_left p sprouts links matching nest = record {
   nest = nest;
   work = record { matching = matching; even = λ d name leaf cover among. absurd (false≢true among) };
+  walks = walks_begin p sprouts;
+  outer = λ n among. all_outer sprouts n;
 }
 
 right_state : IsNestedWork (line_part (3 ∷ [])) (nodes_of (sprout 0 3 2 ∷ [])) (link 3 2 (2 ∷ []) ∷ []) []
 right_state =
-    none_left (line_part (3 ∷ [])) (nodes_of (sprout 0 3 2 ∷ [])) (link 3 2 (2 ∷ []) ∷ []) merging_witness.1
+    none_left (line_part (3 ∷ [])) (sprout 0 3 2 ∷ []) (link 3 2 (2 ∷ []) ∷ []) merging_witness.1
     (sprouts_are_nest (line_part (3 ∷ [])) (sprout 0 3 2 ∷ []) (refl, tt) merging_witness.1.dual)
 
 left_state : IsNestedWork (line_part (1 ∷ [])) (nodes_of (sprout 1 1 2 ∷ [])) (link 1 0 (0 ∷ []) ∷ []) []
 left_state =
-    none_left (line_part (1 ∷ [])) (nodes_of (sprout 1 1 2 ∷ [])) (link 1 0 (0 ∷ []) ∷ []) merging_witness.2
+    none_left (line_part (1 ∷ [])) (sprout 1 1 2 ∷ []) (link 1 0 (0 ∷ []) ∷ []) merging_witness.2
     (sprouts_are_nest (line_part (1 ∷ [])) (sprout 1 1 2 ∷ []) (refl, tt) merging_witness.2.dual)
 
 part_limits : IsWithinLimits (line_part (1 ∷ 3 ∷ []))

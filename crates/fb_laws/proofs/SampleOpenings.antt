@@ -9,12 +9,13 @@ use Rattle.fb_graph.specs.Dual.{IsHeld, all_cuts, height_of, is_live, is_outer, 
 use Rattle.fb_graph.proofs.Sets.{is_in-All}
 use Rattle.fb_laws.specs.Counts.{as_count}
 use Rattle.fb_laws.specs.Ends.{ends_in}
-use Rattle.fb_laws.specs.Moves.{joined}
+use Rattle.fb_laws.specs.Moves.{MayJoin, joined}
 use Rattle.fb_laws.specs.Nests.{IsNest}
 use Rattle.fb_laws.specs.NestWitnesses.{blossom_nodes, blossom_roles}
 use Rattle.fb_laws.specs.Samples.{link, triangle, cut}
 use Rattle.fb_laws.specs.SearchOpenings.{IsOpenedTree, IsSplit}
 use Rattle.fb_laws.specs.Searches.{IsSearch}
+use Rattle.fb_laws.specs.SourceWalks.{HaveWalks}
 use Rattle.fb_laws.specs.Sprouts.{AreSprouts}
 use Rattle.fb_laws.specs.Steps.{stepped}
 use Rattle.fb_laws.specs.TreeWitnesses.{SplittingWitness, LevelWitness, crown, crown_sprouts, crown_nodes, closed_branch, opened_branches}
@@ -27,6 +28,7 @@ use Rattle.fb_laws.proofs.SampleParts.{of_two, one_height}
 use Rattle.fb_laws.proofs.SampleStates.{fits_by_cases, odd_cut, of_three}
 use Rattle.fb_laws.proofs.SampleTrees.{one_link, one_search}
 use Rattle.fb_laws.proofs.SearchStates.{links_joined}
+use Rattle.fb_laws.proofs.SourceWalks.{walks_begin, walks_joined}
 use Rattle.fb_laws.proofs.SproutStates.{sprouts_are_dual}
 use Rattle.fb_laws.proofs.TightLinks.{empty_layer_loads, empty_layer_heights}
 
@@ -66,15 +68,21 @@ crown_nest =
     sprouts_are_nest crown crown_sprouts (refl, (refl, (refl, (refl, (refl, tt)))))
     (sprouts_are_dual crown crown_sprouts crown_are_sprouts)
 
+may_close : MayJoin crown_nodes 5 (0 ∷ 1 ∷ 2 ∷ [])
+may_close = record {
+  many = record { three = omega arith; odd = refl; distinct = (refl, (refl, (refl, tt))) };
+  live = All-from_recursion (λ c. is_live crown_nodes c ≡ true) (0 ∷ 1 ∷ 2 ∷ []) (refl, (refl, (refl, tt)));
+  outer = All-from_recursion (λ c. is_outer crown_nodes c ≡ true) (0 ∷ 1 ∷ 2 ∷ []) (refl, (refl, (refl, tt)));
+  fresh = refl;
+}
+
 -- the corners joined
 pub closed_nest : IsNest crown (joined 5 (0 ∷ 1 ∷ 2 ∷ []) crown_nodes)
-closed_nest =
-    nest_joined crown crown_nodes 5 (0 ∷ 1 ∷ 2 ∷ []) (record {
-      many = record { three = omega arith; odd = refl; distinct = (refl, (refl, (refl, tt))) };
-      live = All-from_recursion (λ c. is_live crown_nodes c ≡ true) (0 ∷ 1 ∷ 2 ∷ []) (refl, (refl, (refl, tt)));
-      outer = All-from_recursion (λ c. is_outer crown_nodes c ≡ true) (0 ∷ 1 ∷ 2 ∷ []) (refl, (refl, (refl, tt)));
-      fresh = refl;
-    }) crown_nest
+closed_nest = nest_joined crown crown_nodes 5 (0 ∷ 1 ∷ 2 ∷ []) may_close crown_nest
+
+pub closed_walks : HaveWalks crown (joined 5 (0 ∷ 1 ∷ 2 ∷ []) crown_nodes)
+closed_walks =
+    walks_joined crown crown_nodes 5 (0 ∷ 1 ∷ 2 ∷ []) may_close crown_nest (walks_begin crown crown_sprouts)
 
 -- five members, one after another
 of_five : (P : ℕ → Type 0) (a b c d e : ℕ) → P a → P b → P c → P d → P e → (v : ℕ)

@@ -15,14 +15,16 @@ use Rattle.fb_laws.specs.Counts.{as_count}
 use Rattle.fb_laws.specs.Ends.{ends_in}
 use Rattle.fb_laws.specs.Fusion.{IsLinkOf}
 use Rattle.fb_laws.specs.Links.{IsTightLink, AreEven}
-use Rattle.fb_laws.specs.Moves.{MayUncover, joined, uncovered}
+use Rattle.fb_laws.specs.Moves.{MayTakeUp, MayUncover, joined, uncovered}
 use Rattle.fb_laws.specs.Nests.{IsNest}
 use Rattle.fb_laws.specs.Samples.{link, triangle, corner_nodes}
 use Rattle.fb_laws.specs.SearchBlossoms.{IsJoining}
 use Rattle.fb_laws.specs.Searches.{IsSearch, IsOuterNode}
+use Rattle.fb_laws.specs.SourceWalks.{HaveWalks}
 use Rattle.fb_laws.specs.Sprouts.{AreSprouts, nodes_of}
 use Rattle.fb_laws.specs.Trees.{Entry, IsTree, grown_links, paired_links, tree_names}
 use Rattle.fb_laws.specs.TreeWitnesses.{LayerWitness, JoiningWitness, long_line, long_sprouts, thin_nodes, thin_branch, corner_branch, base_corner, other_corners, open_line, open_sprouts}
+use Rattle.fb_laws.specs.UnmatchedNames.{AreOuterNames}
 use Rattle.fb_laws.specs.Works.{AreMatchedLinks, AreMatched, HasDefects, IsSetOf, without}
 use Rattle.fb_laws.proofs.BeginningNests.{sprouts_are_nest}
 use Rattle.fb_laws.proofs.JoinedNests.{nest_joined}
@@ -33,7 +35,9 @@ use Rattle.fb_laws.proofs.RaisedNests.{nest_taken_up}
 use Rattle.fb_laws.proofs.SampleNests.{corner_nest}
 use Rattle.fb_laws.proofs.SampleParts.{corner_height, one_height}
 use Rattle.fb_laws.proofs.SampleStates.{fits_by_cases, odd_cut, of_three}
+use Rattle.fb_laws.proofs.SourceWalks.{walks_begin, walks_taken_up}
 use Rattle.fb_laws.proofs.SproutStates.{sprouts_are_dual}
+use Rattle.fb_laws.proofs.UnmatchedNames.{all_outer, outer_taken_up}
 
 some_walk : (k : ℕ) (ks : List ℕ) → (k ∷ ks) ≢ []
 some_walk k ks e = cc
@@ -116,20 +120,31 @@ long_are_sprouts = record {
 pub even_long : AreEven long_line
 even_long = All-from_recursion (λ e. e.weight % 2 ≡ 0) long_line.edges (refl, (refl, (refl, (refl, (refl, tt)))))
 
+long_nest : IsNest long_line (nodes_of long_sprouts)
+long_nest =
+    sprouts_are_nest long_line long_sprouts (refl, (refl, (refl, tt)))
+    (sprouts_are_dual long_line long_sprouts long_are_sprouts)
+
+-- the second defect's node may take up the vertex between the first two
+may_rise : MayTakeUp long_line (nodes_of long_sprouts) 1 2 3 2
+may_rise = record {
+  within = omega arith;
+  leads = inr (refl, refl);
+  tight = refl;
+  covered = refl;
+  uncovered = refl;
+  real = refl;
+}
+
 pub thin_nest : IsNest long_line thin_nodes
-thin_nest =
-    nest_taken_up long_line (nodes_of long_sprouts) 1 2 3 2 even_long
-    (record {
-      within = omega arith;
-      leads = inr
-          (refl, refl);
-      tight = refl;
-      covered = refl;
-      uncovered = refl;
-      real = refl;
-    })
-    (sprouts_are_nest long_line long_sprouts (refl, (refl, (refl, tt)))
-    (sprouts_are_dual long_line long_sprouts long_are_sprouts))
+thin_nest = nest_taken_up long_line (nodes_of long_sprouts) 1 2 3 2 even_long may_rise long_nest
+
+pub thin_walks : HaveWalks long_line thin_nodes
+thin_walks =
+    walks_taken_up long_line (nodes_of long_sprouts) 1 2 3 2 may_rise long_nest (walks_begin long_line long_sprouts)
+
+pub thin_outer : AreOuterNames thin_nodes (0 ∷ [])
+thin_outer = outer_taken_up (nodes_of long_sprouts) 1 2 (0 ∷ []) (λ n among. all_outer long_sprouts n)
 
 pub thin_search : IsSearch long_line thin_nodes (thin_branch ∷ []) [] (0 ∷ []) 0 0
 thin_search =
@@ -254,11 +269,12 @@ open_search =
     (λ h. refl) (λ h. refl))
 
 -- neither the old root nor the blossom
-elsewhere : (n : ℕ) → is_in (2 ∷ 1 ∷ 0 ∷ []) n ≡ false → (n ≡ 3 → ⊥) → is_in (3 ∷ []) n ≡ is_in (2 ∷ []) n
-elsewhere n outside other =
-    or_from (3 == n) false (ne_eqb 3 n (λ e. other (sym e))) refl
-    ∙ sym (or_from (2 == n) false (false_from_ne_true (2 == n)
-    (λ e. both_ways (is_in (2 ∷ 1 ∷ 0 ∷ []) n) outside (or_left (2 == n) _ e))) refl)
+pub elsewhere : (name root : ℕ) (others : List ℕ) (n : ℕ) → is_in (root ∷ others) n ≡ false → (n ≡ name → ⊥)
+    → is_in (name ∷ []) n ≡ is_in (root ∷ []) n
+elsewhere name root others n outside other =
+    or_from (name == n) false (ne_eqb name n (λ e. other (sym e))) refl
+    ∙ sym (or_from (root == n) false (false_from_ne_true (root == n)
+    (λ e. both_ways (is_in (root ∷ others) n) outside (or_left (root == n) (is_in others n) e))) refl)
 
 pub joining_witness : JoiningWitness
 joining_witness = (
@@ -268,7 +284,7 @@ joining_witness = (
       (joining_allowed corner_nodes (corner_branch ∷ []) 2 3 base_corner other_corners corner_joining
       (omega arith) refl) corner_nest).dual,
   refl,
-  elsewhere,
+  elsewhere 3 2 (1 ∷ 0 ∷ []),
   refl,
   refl,
   open_search,

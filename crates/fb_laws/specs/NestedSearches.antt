@@ -1,5 +1,5 @@
--- The whole state of a search: its nest, its matched links and its tree. Each step keeps all three, so that none asks
--- for the dual state that it leads to.
+-- The whole state of a search: its nest, its matched links and its tree, with source walks inside each set and with
+-- the unmatched names all outer. Each step keeps all of it, so that none asks for the dual state that it leads to.
 use Rattle.std.specs.Prelude.{ℕ, ◌≡◌, ◌+◌, ◌%◌, ◌≤◌, true, false, List, [], ◌∷◌, ◌++◌, map, length, All}
 use Rattle.fb_graph.specs.Parity.{is_in}
 use Rattle.fb_graph.specs.Problem.{Problem}
@@ -20,17 +20,23 @@ use Rattle.fb_laws.specs.SearchBlossoms.{IsJoining, joined_tree, renamed}
 use Rattle.fb_laws.specs.SearchOpenings.{IsOpenedTree}
 use Rattle.fb_laws.specs.Nests.{IsNest}
 use Rattle.fb_laws.specs.Moves.{MaySplit, MayTakeUp, MayUncover, joined, split, taken_up, uncovered}
+use Rattle.fb_laws.specs.SourceWalks.{HaveWalks}
+use Rattle.fb_laws.specs.UnmatchedNames.{AreOuterNames}
 
 -- what holds between searches
 pub record IsNestedWork (p : Problem) (nodes : List Node) (links : List Link) (unmatched : List ℕ) : Type 0 where
   pub nest : IsNest p nodes
   pub work : IsWork p nodes links unmatched
+  pub walks : HaveWalks p nodes
+  pub outer : AreOuterNames nodes unmatched
 
 -- what holds while a tree grows
 pub record IsNestedSearch (p : Problem) (nodes : List Node) (tree : List Entry) (rest : List Link)
     (unmatched : List ℕ) (root r : ℕ) : Type 0 where
   pub nest : IsNest p nodes
   pub search : IsSearch p nodes tree rest unmatched root r
+  pub walks : HaveWalks p nodes
+  pub outer : AreOuterNames nodes unmatched
 
 -- A part begins with its defects as nodes without values, all unmatched.
 abbrev pub NestedWorkBegins : Type 0
@@ -81,11 +87,13 @@ NestedAttached = (p : Problem) (nodes : List Node) (tree : List Entry) (e : Entr
     → Connects nodes e.matched e.minus e.plus → AreMatchedLinks p nodes (e.tree ∷ [])
     → IsNestedSearch p nodes (e ∷ tree) rest unmatched root r
 
--- Branches joined with their base to a blossom, under a name that no node has.
+-- Branches joined with their base to a blossom, under a name that no node has. No child stays among the unmatched
+-- names.
 abbrev pub NestedJoined : Type 0
 NestedJoined = (p : Problem) (nodes : List Node) (tree : List Entry) (rest : List Link) (unmatched remaining : List ℕ)
     (root r name : ℕ) (base : Child) (others : List Child) → IsJoining nodes tree root name base others
     → 1 ≤ length others → is_live nodes name ≡ false → is_in remaining name ≡ is_in unmatched base.name
+    → ((n : ℕ) → is_in (names_of (base ∷ others)) n ≡ true → is_in remaining n ≡ false)
     → ((n : ℕ) → is_in (names_of (base ∷ others)) n ≡ false → (n ≡ name → ⊥) → is_in remaining n ≡ is_in unmatched n)
     → IsNestedSearch p nodes tree rest unmatched root r
     → IsNestedSearch p (joined name (names_of (base ∷ others)) nodes)

@@ -32,8 +32,8 @@ wide_child = record { name = 0; set = 1 ∷ 2 ∷ [] }
 abbrev pub low_children : List Child
 low_children = record { name = 1; set = 3 ∷ [] } ∷ record { name = 2; set = 4 ∷ [] } ∷ []
 
--- On the longer line a layer goes, a vertex comes, the tree makes a free step, and its three nodes may be joined. The
--- triangle's blossom may be split.
+-- On the longer line a layer goes, a vertex comes, the tree makes a free step, and its three nodes may be joined, the
+-- blossom unmatched in their place. The triangle's blossom may be split.
 abbrev pub NestedWitness : Type 0
 NestedWitness = IsWithinLimits long_line × HasNoOddClosed long_line × AreEven long_line
     × MayUncover thin_nodes 1 × IsNestedSearch long_line thin_nodes (thin_branch ∷ []) [] (0 ∷ []) 0 0
@@ -43,6 +43,9 @@ NestedWitness = IsWithinLimits long_line × HasNoOddClosed long_line × AreEven 
     × HasNoObstacle long_line (roles_of 0 (thin_branch ∷ [])) wide_nodes
     × IsNestedSearch long_line wide_nodes (thin_branch ∷ []) [] (0 ∷ []) 0 0
     × IsJoining low_nodes (thin_branch ∷ []) 0 3 wide_child low_children × (is_live low_nodes 3 ≡ false)
+    × (is_in (3 ∷ []) 3 ≡ is_in (0 ∷ []) 0)
+    × ((n : ℕ) → is_in (0 ∷ 1 ∷ 2 ∷ []) n ≡ true → is_in (3 ∷ []) n ≡ false)
+    × ((n : ℕ) → is_in (0 ∷ 1 ∷ 2 ∷ []) n ≡ false → (n ≡ 3 → ⊥) → is_in (3 ∷ []) n ≡ is_in (0 ∷ []) n)
     × IsNestedSearch long_line low_nodes (thin_branch ∷ []) [] (0 ∷ []) 0 0
     × MaySplit (joined 5 (0 ∷ 1 ∷ 2 ∷ []) crown_nodes) 5
     × IsNestedSearch crown (joined 5 (0 ∷ 1 ∷ 2 ∷ []) crown_nodes) (closed_branch ∷ []) [] (4 ∷ []) 4 0

@@ -1,4 +1,5 @@
-//! The whole state of a search, a nest with its matched links and its tree, which each step keeps.
+//! The whole state of a search, which each step keeps: a nest with its source walks, its matched links, its unmatched
+//! nodes and its tree.
 
 ghost use Rattle.fb_laws.specs.NestedSearches.{NestedWorkBegins, NestedSearchBegins, NestedFree, NestedStepped, NestedTakenUp, NestedUncovered, NestedAttached, NestedJoined, NestedOpened, NestedEnded, NestedMet, NestedReleased};
 
