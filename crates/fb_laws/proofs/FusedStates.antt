@@ -17,6 +17,8 @@ nested_fused left right whole nodes others links others_links rest unmatched mor
     (λ i d less. (limits.each_edge i d less).even) limits is further.names further.vertices further.real further.own
     (record {
       nest = both.nest;
+      walks = both.walks;
+      outer = both.outer;
       work = record {
         matching =
             matching_permuted (without_seam left right whole) (nodes ++ others) (links ++ others_links)
