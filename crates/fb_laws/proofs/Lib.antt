@@ -24,6 +24,8 @@ pub mod MappedNodes
 pub mod MatchedNodes
 pub mod MergedParts
 pub mod MoveBridges
+pub mod NestOpenings
+pub mod NestOrders
 pub mod NestParts
 pub mod NestUnions
 pub mod NestedFusions
@@ -46,6 +48,7 @@ pub mod SampleLevels
 pub mod SampleNests
 pub mod SampleOpenings
 pub mod SampleParts
+pub mod SampleResolutions
 pub mod SampleSeamStates
 pub mod SampleSeams
 pub mod SampleSearches
@@ -56,6 +59,7 @@ pub mod SearchEnds
 pub mod SearchStates
 pub mod SearchTrees
 pub mod Shifts
+pub mod SolvedNests
 pub mod SourceWalks
 pub mod SplitNests
 pub mod SplitStates

@@ -15,6 +15,7 @@ pub mod Merging
 pub mod Moves
 pub mod NestBridges
 pub mod NestFusion
+pub mod NestSolutions
 pub mod NestWitnesses
 pub mod NestedSearches
 pub mod NestedWitnesses
@@ -23,6 +24,7 @@ pub mod OpenedCycles
 pub mod Opening
 pub mod Parities
 pub mod Paths
+pub mod ResolvedWitnesses
 pub mod Samples
 pub mod SearchBlossoms
 pub mod SearchLayers

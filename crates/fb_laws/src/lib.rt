@@ -23,6 +23,7 @@ pub mod nested_fusion;
 pub mod opening;
 pub mod parities;
 pub mod paths;
+pub mod resolved;
 pub mod searches;
 pub mod signed;
 pub mod splitting;
@@ -62,6 +63,7 @@ pub use nested_fusion::{nested_fused, nests_merged};
 pub use opening::{last_level, levels};
 pub use parities::{attached_parity, stepped_parity};
 pub use paths::{alternating_path, augmented};
+pub use resolved::{lone_level, nest_opened, nest_resolved, resolved_witness};
 pub use searches::{
     search_attached, search_begins, search_ended, search_stepped, search_tree, search_witness,
 };
