@@ -4,6 +4,7 @@ ghost use Rattle.fb_laws.specs.CycleWitnesses.{ClosedWitness, OpenedWitness};
 ghost use Rattle.fb_laws.specs.FusedWitnesses.{FusedWitness, SeamWitness};
 ghost use Rattle.fb_laws.specs.NestWitnesses.{NestWitness};
 ghost use Rattle.fb_laws.specs.NestedWitnesses.{NestedWitness, EndingWitness};
+ghost use Rattle.fb_laws.specs.ResolvedWitnesses.{ResolvedWitness};
 ghost use Rattle.fb_laws.specs.TreeWitnesses.{LayerWitness, JoiningWitness, SplittingWitness, LevelWitness};
 
 /// Of the laws on the moves of a nest.
@@ -27,10 +28,11 @@ pub fn cycle_witness()
     ensures opened { OpenedWitness }
 {}
 
-/// Of the laws on the whole state of a search, and on its end.
+/// Of the laws on the whole state of a search, on its end, and on what a nest with nothing unmatched is solved by.
 pub fn nested_witness()
     ensures state { NestedWitness }
     ensures ending { EndingWitness }
+    ensures resolved { ResolvedWitness }
 {}
 
 /// Of the laws on nests and whole states of two parts.

@@ -63,7 +63,7 @@ pub use nested_fusion::{nested_fused, nests_merged};
 pub use opening::{last_level, levels};
 pub use parities::{attached_parity, stepped_parity};
 pub use paths::{alternating_path, augmented};
-pub use resolved::{lone_level, nest_opened, nest_resolved, resolved_witness};
+pub use resolved::nest_resolved;
 pub use searches::{
     search_attached, search_begins, search_ended, search_stepped, search_tree, search_witness,
 };
@@ -73,7 +73,7 @@ pub use sprouts::beginning;
 pub use steps::{step_keeps_packing, step_loads, steps_add};
 pub use turns::{step_in_turns, turns_allowed};
 pub use unmatched::outer_names;
-pub use walks::{covered_walk, walks_kept};
+pub use walks::walks_kept;
 pub use witnesses::{
     blossom_witness, cover_witness, dual_witness, end_witness, forming_witness, fusion_witness,
     link_witness, merging_witness, opening_witness, parity_witness, path_witness, signed_witness,

@@ -3,7 +3,7 @@
 ghost use Rattle.fb_laws.specs.SourceWalks.{WalksBegin, WalksJoined, WalksSplit, WalksTakenUp, WalksUncovered, WalksStepped, CoveredWalk};
 
 /// Each layer of each node has a source walk to each of its vertices that doesn't leave it: at the beginning, and
-/// after each move.
+/// after each move. So a source walk leads to each covered vertex under its own outer node.
 pub fn walks_kept()
     ensures begins { WalksBegin }
     ensures joined { WalksJoined }
@@ -11,9 +11,5 @@ pub fn walks_kept()
     ensures taken_up { WalksTakenUp }
     ensures uncovered { WalksUncovered }
     ensures stepped { WalksStepped }
-{}
-
-/// So a source walk leads to each covered vertex under its own outer node.
-pub fn covered_walk()
-    ensures { CoveredWalk }
+    ensures covered { CoveredWalk }
 {}

@@ -1,4 +1,5 @@
 use Rattle.fb_laws.proofs.SampleEndings.{ending_witness, nested_witness}
+use Rattle.fb_laws.proofs.SampleResolutions.{resolved_witness}
 use Rattle.fb_laws.proofs.instances.nested_witness.Goals as goal
 
 pub returns-clause-state : goal.returns-clause-state
@@ -6,3 +7,6 @@ returns-clause-state c = nested_witness
 
 pub returns-clause-ending : goal.returns-clause-ending
 returns-clause-ending c = ending_witness
+
+pub returns-clause-resolved : goal.returns-clause-resolved
+returns-clause-resolved c = resolved_witness

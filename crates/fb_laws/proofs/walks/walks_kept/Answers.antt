@@ -1,4 +1,4 @@
-use Rattle.fb_laws.proofs.SourceWalks.{walks_begin, walks_joined, walks_split, walks_taken_up, walks_uncovered, walks_stepped}
+use Rattle.fb_laws.proofs.SourceWalks.{covered_walk, walks_begin, walks_joined, walks_split, walks_taken_up, walks_uncovered, walks_stepped}
 use Rattle.fb_laws.proofs.walks.walks_kept.Goals as goal
 
 pub returns-clause-begins : goal.returns-clause-begins
@@ -18,3 +18,6 @@ returns-clause-taken_up c = walks_taken_up
 
 pub returns-clause-uncovered : goal.returns-clause-uncovered
 returns-clause-uncovered c = walks_uncovered
+
+pub returns-clause-covered : goal.returns-clause-covered
+returns-clause-covered c = covered_walk
