@@ -15,7 +15,35 @@ fn ranges(alloc: Global, pairs: &[(u64, u64)]) -> Result<Vec<(u64, u64)>, AllocE
     Vec::from_slice(alloc, pairs)
 }
 
-/// The plan of the line from two units and one fusion of nodes `left` and `right`, or its fault.
+/// The fault of these units and fusions on the line with these virtual vertices, if they have one. A fusion is its two
+/// nodes and its seam.
+fn judged(
+    rt: &HostRuntime,
+    virtuals: &[u64],
+    lists: &[&[(u64, u64)]],
+    joins: &[(u64, u64, &[(u64, u64)])],
+) -> Result<Option<PlanFault>, Fail> {
+    let graph = Graph::build(rt.alloc(), 5, &LINE, virtuals)?;
+    let mut units = Vec::new(rt.alloc());
+    for list in lists {
+        units.push(ranges(rt.alloc(), list)?)?;
+    }
+    let mut fusions = Vec::new(rt.alloc());
+    for join in joins {
+        let (left, right, seam) = *join;
+        fusions.push(Join {
+            left,
+            right,
+            seam: ranges(rt.alloc(), seam)?,
+        })?;
+    }
+    match Plan::build(rt.alloc(), &graph, &units, &fusions) {
+        Ok(_) => Ok(None),
+        Err(fault) => Ok(Some(fault)),
+    }
+}
+
+/// The fault of two units and one fusion on the line whose ends are virtual.
 fn planned(
     rt: &HostRuntime,
     first: &[(u64, u64)],
@@ -23,29 +51,32 @@ fn planned(
     children: (u64, u64),
     seam: &[(u64, u64)],
 ) -> Result<Option<PlanFault>, Fail> {
-    let graph = Graph::build(rt.alloc(), 5, &LINE, &[0, 4])?;
-    let mut units = Vec::new(rt.alloc());
-    units.push(ranges(rt.alloc(), first)?)?;
-    units.push(ranges(rt.alloc(), second)?)?;
     let (left, right) = children;
-    let mut fusions = Vec::new(rt.alloc());
-    fusions.push(Join {
-        left,
-        right,
-        seam: ranges(rt.alloc(), seam)?,
-    })?;
-    match Plan::build(rt.alloc(), &graph, &units, &fusions) {
-        Ok(_) => Ok(None),
-        Err(fault) => Ok(Some(fault)),
-    }
+    judged(rt, &[0, 4], &[first, second], &[(left, right, seam)])
 }
 
-/// The fault of units without fusions on the line.
+/// The fault of units without fusions on the line whose ends are virtual.
 fn unfused(rt: &HostRuntime, lists: &[&[(u64, u64)]]) -> Result<Option<PlanFault>, Fail> {
+    judged(rt, &[0, 4], lists, &[])
+}
+
+/// The fault of a unit for each inner vertex of the line and fusions without seams.
+fn fused(rt: &HostRuntime, pairs: &[(u64, u64)]) -> Result<Option<PlanFault>, Fail> {
+    let mut joins: Vec<(u64, u64, &[(u64, u64)])> = Vec::new(rt.alloc());
+    for pair in pairs {
+        let (left, right) = *pair;
+        joins.push((left, right, &[]))?;
+    }
+    judged(rt, &[0, 4], &[&[(1, 2)], &[(2, 3)], &[(3, 4)]], &joins)
+}
+
+/// The fault of so many units on the line, the first of one range and the others of none, without fusions.
+fn crowded(rt: &HostRuntime, first: (u64, u64), count: u32) -> Result<Option<PlanFault>, Fail> {
     let graph = Graph::build(rt.alloc(), 5, &LINE, &[0, 4])?;
     let mut units = Vec::new(rt.alloc());
-    for list in lists {
-        units.push(ranges(rt.alloc(), list)?)?;
+    units.push(ranges(rt.alloc(), &[first])?)?;
+    for _ in 1..count {
+        units.push(Vec::new(rt.alloc()))?;
     }
     match Plan::build(rt.alloc(), &graph, &units, &[]) {
         Ok(_) => Ok(None),
@@ -147,6 +178,191 @@ fn refuses_in_order(rt: HostRuntime) -> Result<(), Fail> {
         Some(PlanFault::ChildUsedTwice(0))
     );
     assert_eq!(rt; unfused(&rt, &[])?, Some(PlanFault::VertexUnowned(1)));
+    Ok(())
+}
+
+/// At most 4,096 units, whatever else they break.
+#[test]
+fn limits_the_units(rt: HostRuntime) -> Result<(), Fail> {
+    assert_eq!(rt; crowded(&rt, (2, 1), 4097)?, Some(PlanFault::TooManyUnits));
+    assert_eq!(rt; crowded(&rt, (2, 1), 4096)?, Some(PlanFault::BadRange(0)));
+    assert_eq!(rt; crowded(&rt, (1, 4), 4096)?, Some(PlanFault::NotOneRoot));
+    Ok(())
+}
+
+/// Fusions 0 and 1 are nodes 3 and 4. Their nodes come before them, and none is named again.
+#[test]
+fn judges_fusions(rt: HostRuntime) -> Result<(), Fail> {
+    for (pairs, fault) in [
+        ([(0, 1), (0, 2)], PlanFault::ChildUsedTwice(1)),
+        ([(0, 1), (2, 1)], PlanFault::ChildUsedTwice(1)),
+        ([(4, 1), (0, 2)], PlanFault::ChildOutOfRange(0)),
+        ([(0, 3), (1, 2)], PlanFault::ChildOutOfRange(0)),
+        ([(0, 1), (2, 4)], PlanFault::ChildOutOfRange(1)),
+        ([(0, 0), (3, 4)], PlanFault::ChildOutOfRange(1)),
+        ([(0, 0), (0, 0)], PlanFault::ChildUsedTwice(0)),
+        ([(0, 1), (3, 2)], PlanFault::EdgeAcross(1)),
+        ([(1, 2), (0, 3)], PlanFault::EdgeAcross(1)),
+        ([(0, 2), (3, 1)], PlanFault::EdgeAcross(1)),
+    ] {
+        assert_eq!(rt; fused(&rt, &pairs)?, Some(fault));
+    }
+    assert_eq!(rt; fused(&rt, &[(0, 2)])?, Some(PlanFault::NotOneRoot));
+    assert_eq!(rt;
+        fused(&rt, &[(0, 1), (2, 3), (4, 0)])?,
+        Some(PlanFault::ChildUsedTwice(2))
+    );
+    Ok(())
+}
+
+/// The least of several edges across is told, be it the first edge or the last.
+#[test]
+fn finds_edges_across(rt: HostRuntime) -> Result<(), Fail> {
+    for (end, fault) in [
+        (1, PlanFault::EdgeAcross(0)),
+        (3, PlanFault::EdgeAcross(2)),
+        (4, PlanFault::EdgeAcross(3)),
+    ] {
+        assert_eq!(rt;
+            judged(&rt, &[], &[&[(0, end)], &[(end, 5)]], &[(0, 1, &[])])?,
+            Some(fault)
+        );
+    }
+    assert_eq!(rt;
+        judged(&rt, &[], &[&[(0, 1), (4, 5)], &[(1, 4)]], &[(0, 1, &[])])?,
+        Some(PlanFault::EdgeAcross(0))
+    );
+    Ok(())
+}
+
+/// A line of so many units with a seam vertex between each two, fused one after another from the first on. Both ends
+/// of the line are virtual.
+fn chained(rt: &HostRuntime, count: u32) -> Result<Plan, Fail> {
+    let last = 2 * u64::from(count);
+    let mut edges = Vec::new(rt.alloc());
+    for v in 0..last {
+        edges.push((v, v + 1, 2))?;
+    }
+    let graph = Graph::build(rt.alloc(), last + 1, &edges, &[0, last])?;
+    let mut units = Vec::new(rt.alloc());
+    let mut fusions = Vec::new(rt.alloc());
+    for unit in 0..u64::from(count) {
+        units.push(ranges(rt.alloc(), &[(2 * unit + 1, 2 * unit + 2)])?)?;
+        if unit > 0 {
+            let left = if unit == 1 {
+                0
+            } else {
+                u64::from(count) + unit - 2
+            };
+            fusions.push(Join {
+                left,
+                right: unit,
+                seam: ranges(rt.alloc(), &[(2 * unit, 2 * unit + 1)])?,
+            })?;
+        }
+    }
+    Ok(Plan::build(rt.alloc(), &graph, &units, &fusions)?)
+}
+
+/// The longest chain: unit k is child k of fusion k - 1, whose seam is vertex 2k.
+#[test]
+fn plans_a_chain(rt: HostRuntime) -> Result<(), Fail> {
+    let plan = chained(&rt, 4096)?;
+    assert_eq!(rt; plan.units(), 4096);
+    assert_eq!(rt; plan.root(), 8190);
+    assert_eq!(rt; plan.is_within(8190, 0), true);
+    assert_eq!(rt; plan.is_within(8190, 4095), true);
+    assert_eq!(rt; plan.is_within(8189, 4095), false);
+    assert_eq!(rt; plan.is_within(8189, 4094), true);
+    assert_eq!(rt; plan.is_within(4096, 4097), false);
+    assert_eq!(rt; plan.is_within(4097, 4096), true);
+    assert_eq!(rt; plan.is_owned_in(4096, 3), true);
+    assert_eq!(rt; plan.is_owned_in(4096, 4), false);
+    assert_eq!(rt; plan.is_owned_in(4097, 4), true);
+    assert_eq!(rt; plan.is_owned_in(8190, 8191), true);
+    assert_eq!(rt; plan.is_owned_in(8190, 8192), false);
+    Ok(())
+}
+
+/// The units of the largest plan.
+const UNITS: u32 = 4096;
+
+/// The vertices of each of its blocks: a seam, then a unit.
+const BLOCK: u32 = 256;
+
+/// The vertices of each of its seams.
+const SEAM: u64 = 4;
+
+/// As many vertices and edges as a graph can have: an edge from each vertex to each of the four after it, the first
+/// four being after the last one. These are virtual.
+fn largest_graph(rt: &HostRuntime) -> Result<Graph, Fail> {
+    let count = u64::from(UNITS * BLOCK);
+    let mut edges = Vec::new(rt.alloc());
+    for v in 0..count {
+        for step in 0..SEAM {
+            edges.push((v, (v + step + 1) % count, 2))?;
+        }
+    }
+    Ok(Graph::build(rt.alloc(), count, &edges, &[0, 1, 2, 3])?)
+}
+
+/// Units side by side with a seam before each but the first; each fusion joins the two least nodes that are left.
+fn largest_plan(rt: &HostRuntime, graph: &Graph) -> Result<Plan, Fail> {
+    let mut units = Vec::new(rt.alloc());
+    let mut starts = Vec::new(rt.alloc());
+    for unit in 0..UNITS {
+        let start = unit * BLOCK;
+        let range = (u64::from(start) + SEAM, u64::from(start + BLOCK));
+        units.push(ranges(rt.alloc(), &[range])?)?;
+        starts.push(start)?;
+    }
+    let mut fusions = Vec::new(rt.alloc());
+    for fusion in 0..UNITS - 1 {
+        let left = 2 * fusion;
+        let right = left + 1;
+        let (Some(first), Some(seam)) = (starts.get(left as usize), starts.get(right as usize))
+        else {
+            return Err(Fail::from("a fusion's nodes come before it"));
+        };
+        let (first, seam) = (*first, u64::from(*seam));
+        fusions.push(Join {
+            left: u64::from(left),
+            right: u64::from(right),
+            seam: ranges(rt.alloc(), &[(seam, seam + SEAM)])?,
+        })?;
+        starts.push(first)?;
+    }
+    Ok(Plan::build(rt.alloc(), graph, &units, &fusions)?)
+}
+
+/// 4,096 units on 1,048,576 vertices and 4,194,304 edges. The root is fusion 4094, whose seam lies in the middle.
+#[test]
+fn plans_the_largest(rt: HostRuntime) -> Result<(), Fail> {
+    let graph = largest_graph(&rt)?;
+    assert_eq!(rt;
+        (graph.vertices(), graph.edge_count()),
+        (1_048_576, 4_194_304)
+    );
+    let plan = largest_plan(&rt, &graph)?;
+    assert_eq!(rt; (plan.units(), plan.root()), (4096, 8190));
+    for (node, v, is_owned) in [
+        (0, 255, true),
+        (0, 256, false),
+        (4096, 259, true),
+        (4096, 512, false),
+        (8188, 524_287, true),
+        (8188, 524_288, false),
+        (8189, 524_291, false),
+        (8189, 524_292, true),
+        (8190, 524_288, true),
+        (8190, 3, false),
+    ] {
+        assert_eq!(rt;
+            plan.is_owned_in(node, v),
+            is_owned,
+            "vertex {v} at node {node}"
+        );
+    }
     Ok(())
 }
 
