@@ -331,3 +331,29 @@ fn runs_a_tree(rt: HostRuntime) -> Result<(), Fail> {
     assert_eq!(rt; entries, 2032);
     Ok(())
 }
+
+/// One slot of one unit, which is the root.
+#[test]
+fn runs_one_unit(rt: HostRuntime) -> Result<(), Fail> {
+    let graph = Graph::build(rt.alloc(), 5, &LINE, &[0, 4])?;
+    let plan = Plan::single(rt.alloc(), &graph)?;
+    let shots = shots(rt.alloc(), &graph, 1)?;
+    let job = Job::new(&graph, &plan, shots);
+    let (slots, entries) = whole_run::<Brand>(rt.alloc(), &job)?;
+    assert_eq!(rt; slots.as_slice(), [0].as_slice());
+    assert_eq!(rt; entries, 2);
+    Ok(())
+}
+
+/// 64 slots of 4,096 units and 4,095 fusions: 524,224 items.
+#[test]
+fn runs_the_largest_tree(rt: HostRuntime) -> Result<(), Fail> {
+    let graph = Graph::build(rt.alloc(), 0, &[], &[])?;
+    let plan = paired(rt.alloc(), &graph, 4096)?;
+    let shots = shots(rt.alloc(), &graph, 64)?;
+    let job = Job::new(&graph, &plan, shots);
+    let (slots, entries) = whole_run::<Brand>(rt.alloc(), &job)?;
+    assert_eq!(rt; (slots.len(), slots.last()), (64, Some(&63)));
+    assert_eq!(rt; entries, 1_048_448);
+    Ok(())
+}
