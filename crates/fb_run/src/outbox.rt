@@ -1,6 +1,6 @@
 //! Text on its way to a sink, kept until there is enough of it for one write.
 
-ghost use Rattle.std.specs.Prelude.{◌≡◌, [], Some, OnOk, OnErr};
+ghost use Rattle.std.specs.Prelude.{◌≡◌, ◌<◌, ◌^◌, [], Some, length, OnOk, OnErr};
 ghost use Rattle.fb_ports.specs.Causes.{Appends, AppendsFront, HasCause};
 ghost use Rattle.fb_run.specs.Decoding.{Moves};
 
@@ -50,9 +50,11 @@ impl Outbox {
         }
     }
 
-    /// Writes the text to a sink where there is enough of it for one write.
+    /// Writes the text to a sink where there is enough of it for one write, so that less than that is left.
     pub fn flush_if_full<O: Sink>(&mut self, out: &mut O) -> Result<(), Failed>
         ensures ok { OnOk result (Moves (O.taken out.old) (O.taken out.new) self.old.text self.new.text) }
+        ensures less { OnOk result (length self.new.text < 2 ^ 16) }
+        ensures faults { self.new.faults ≡ self.old.faults }
         ensures front { OnErr result (AppendsFront (O.taken out.old) (O.taken out.new) self.old.text) }
         ensures cause { HasCause (O.faults out.old) (O.faults out.new) result }
     {
@@ -66,6 +68,7 @@ impl Outbox {
     pub fn flush<O: Sink>(&mut self, out: &mut O) -> Result<(), Failed>
         ensures ok { OnOk result (Appends (O.taken out.old) (O.taken out.new) self.old.text) }
         ensures emptied { OnOk result (self.new.text ≡ []) }
+        ensures faults { self.new.faults ≡ self.old.faults }
         ensures front { OnErr result (AppendsFront (O.taken out.old) (O.taken out.new) self.old.text) }
         ensures cause { HasCause (O.faults out.old) (O.faults out.new) result }
     {
