@@ -1,25 +1,21 @@
--- What stays where a node or a link is added.
-use Rattle.std.proofs.Common.{◌≡◌, ◌≢◌, ◌⊎◌, inl, inr, ℕ, zero, suc, ◌+◌, ◌*◌, ◌%◌, ◌<◌, ◌≤◌, ◌==◌, ◌&&◌, ◌||◌, Bool, true, false, List, [], ◌∷◌, ◌++◌, length, Option, Some, None, is_some, Result, Ok, Err, OnOk, IfOk, refl, sym, ◌∙◌, ap, subst, arith}
+-- What stays where a node or a link is added or taken off.
+use Rattle.std.proofs.Common.{◌≡◌, ◌≢◌, ◌⊎◌, inl, inr, ℕ, zero, suc, ◌+◌, ◌%◌, ◌<◌, ◌≤◌, ◌==◌, ◌&&◌, true, false, List, [], ◌∷◌, ◌++◌, length, get_or, Option, Some, None, is_some, refl, sym, ◌∙◌, ap, subst, arith, length-append}
 use Rattle.std.specs.Option.{unwrap_or}
-use Rattle.std.proofs.lemmas.Bool.{and_from, and_parts, both_ways, cases_Bool, cases_eq, cases_lt, eq-eqb, eqb-true, ne_eqb, or_cases, or_left, or_right}
+use Rattle.std.proofs.lemmas.Bool.{and_from, and_parts, both_ways, cases_Bool, cases_eq, cases_lt, eq-eqb, eqb-true, or_cases, or_left, or_right}
+use Rattle.std.proofs.lemmas.List.{get_or_append_left, get_or_default, get_or_push}
 use Rattle.fb_links.specs.declared.walk.Step.{Step}
 use Rattle.fb_links.specs.declared.cycle.CycleStep.{CycleStep}
 use Rattle.fb_links.specs.Walks.{end_of, start_of}
-use Rattle.fb_links.specs.Table.{is_live, link_at, walk_at}
+use Rattle.fb_links.specs.Table.{link_at, walk_at}
 use Rattle.fb_links.specs.Table as table
-use Rattle.fb_blossoms.specs.Nodes.{Adds, AreOuter, AreWithin, IsNested, IsOddCycle, IsOuter, Node, TakesOff, blossom, cycle_at, cycle_of, defects_at, defects_of, is_in, is_on, leaf, node_at}
+use Rattle.fb_blossoms.specs.Nodes.{Adds, AreDistinct, AreOuter, AreWithin, IsNested, IsOddCycle, IsOuter, Node, TakesOff, blossom, cycle_at, cycle_of, defects_at, defects_of, is_in, is_on, leaf, node_at}
 use Rattle.fb_blossoms.specs.Nodes as nodes_spec
-use Rattle.fb_blossoms.specs.Links.{AreLinked, IsLinkBetween, joins}
+use Rattle.fb_blossoms.specs.Links.{AreLinked, IsLinkBetween, joins, next_place, step_at}
 use Rattle.fb_blossoms.specs.Paths.{AllLinked}
-use Rattle.fb_blossoms.specs.Rows.{AreLeavesBelow, AreNewLinks, AreRing, IsDeep, IsGrown, IsNewLeaf, IsNewRing, IsOpened, IsOuterWith, IsTwoLevels, edge_walk, ring}
-use Rattle.fb_blossoms.proofs.Climbs.{none_some, same_some}
-use Rattle.fb_blossoms.proofs.Held.{to_along}
+use Rattle.fb_blossoms.specs.Fixture.{AreKept, AreSteps, AreTops, IsFixture, IsStep, IsTop, edge_walk, part_at}
+use Rattle.fb_blossoms.proofs.Climbs.{none_some}
 use Rattle.fb_blossoms.proofs.Nested.{is_in-one, one_in}
-use Rattle.fb_blossoms.proofs.Rounds.{cycle_kept}
-
-pub if_if : {T E : Type 0} (P Q : T → Type 0) (r : Result T E) → ((x : T) → P x → Q x) → IfOk r P → IfOk r Q
-if_if P Q (Ok x) f h = f x h
-if_if P Q (Err e) f h = tt
+use Rattle.fb_blossoms.proofs.Rounds.{step_on}
 
 -- a node that holds a defect is live
 pub holding_live : (nodes : List (Option Node)) (x d : ℕ) → is_in (defects_at nodes x) d ≡ true → nodes_spec.is_live nodes x ≡ true
@@ -30,19 +26,19 @@ holding_live nodes x d h = at (node_at nodes x) h
     at (Some n) h = refl
 
 -- links between the same defects
-between_grown : (links : List (Option (List Step))) (old new : List (Option Node)) (l x y : ℕ) → ((v : ℕ) → AreWithin (defects_at old v) (defects_at new v))
-    → IsLinkBetween links old l x y → IsLinkBetween links new l x y
-between_grown links old new l x y within h = (
+between_grown : (links : List (Option (List Step))) (old new : List (Option Node)) (l x y : ℕ) → AreWithin (defects_at old x) (defects_at new x)
+    → AreWithin (defects_at old y) (defects_at new y) → IsLinkBetween links old l x y → IsLinkBetween links new l x y
+between_grown links old new l x y first second h = (
   h.0,
   elim (or_cases (is_in (defects_at old x) (start_of (walk_at links l)) && is_in (defects_at old y) (end_of (walk_at links l))) _ h.1) [
     | inl a ↦
         let p = and_parts _ _ a in
         or_left (is_in (defects_at new x) (start_of (walk_at links l)) && is_in (defects_at new y) (end_of (walk_at links l))) _
-        (and_from _ _ (within x _ p.0) (within y _ p.1))
+        (and_from _ _ (first _ p.0) (second _ p.1))
     | inr b ↦
         let p = and_parts _ _ b in
         or_right (is_in (defects_at new x) (start_of (walk_at links l)) && is_in (defects_at new y) (end_of (walk_at links l))) _
-        (and_from _ _ (within y _ p.0) (within x _ p.1))
+        (and_from _ _ (second _ p.0) (first _ p.1))
   ],
 )
 
@@ -74,15 +70,6 @@ between_edge links nodes l x y d e g h i = (
 pub link_kept : (old new : List (Option (List Step))) (n x : ℕ) (m k : List Step) → table.Adds old new n m → link_at old x ≡ Some k → link_at new x ≡ Some k
 link_kept old new n x m k a e = a.others x (λ same. none_some (link_at old n) k a.fresh (ap (link_at old) (sym same) ∙ e)) ∙ e
 
-pub links_made : (t u v w : List (Option (List Step))) (a b c d e : ℕ) → table.Adds t u a (edge_walk d e) → table.Adds u v b (edge_walk e (e + 1))
-    → table.Adds v w c (edge_walk (e + 1) d) → AreNewLinks t w a b c d e
-links_made t u v w a b c d e f g h = record {
-  first = link_kept v w c a _ _ h (link_kept u v b a _ _ g f.added);
-  second = link_kept v w c b _ _ h g.added;
-  third = h.added;
-  kept = λ l walk is. link_kept v w c l _ _ h (link_kept u v b l _ _ g (link_kept t u a l _ _ f is));
-}
-
 module _ (old new : List (Option Node)) (n : ℕ) (k : Node) (made : Adds old new n k) where
   not_new : (x : ℕ) → nodes_spec.is_live old x ≡ true → x ≢ n
   not_new x live e = both_ways (nodes_spec.is_live old x) (ap (nodes_spec.is_live old) e ∙ ap (λ (o : Option Node). is_some o) made.fresh) live
@@ -107,221 +94,216 @@ module _ (old new : List (Option Node)) (n : ℕ) (k : Node) (made : Adds old ne
       P s = AreLinked links new s
 
       at : (p ≡ n) ⊎ (p ≢ n) → AreLinked links new (cycle_at new p)
-      at (inl e) = subst P (sym (ap (cycle_at new) e ∙ cycle_new)) (λ j l. between_grown links old new _ _ _ within_new (this j l))
-      at (inr o) = subst P (sym (cycle_old p o)) (λ j l. between_grown links old new _ _ _ within_new (all p j l))
-
-  module _ (nested : IsNested old) where
-    off_old : (p : ℕ) → is_on (cycle_at old p) n ≡ false
-    off_old p =
-        elim (cases_Bool (is_on (cycle_at old p) n)) [
-          | inl on ↦ absurd (not_new n ((cycle_kept old nested p n on).0.live n on) refl)
-          | inr off ↦ off
-        ]
-
-    new_outer : is_on k.cycle n ≡ false → IsOuter new n
-    new_outer off p =
-        elim (cases_eq p n) [
-          | inl e ↦ ap (λ q. is_on (cycle_at new q) n) e ∙ (ap (λ s. is_on s n) cycle_new ∙ off)
-          | inr o ↦ ap (λ s. is_on s n) (cycle_old p o) ∙ off_old p
-        ]
-
-    old_outer : (x : ℕ) → IsOuter old x → is_on k.cycle x ≡ false → IsOuter new x
-    old_outer x out off p =
-        elim (cases_eq p n) [
-          | inl e ↦ ap (λ q. is_on (cycle_at new q) x) e ∙ (ap (λ s. is_on s x) cycle_new ∙ off)
-          | inr o ↦ ap (λ s. is_on s x) (cycle_old p o) ∙ out p
-        ]
+      at (inl e) = subst P (sym (ap (cycle_at new) e ∙ cycle_new)) (λ j l. between_grown links old new _ _ _ (within_new _) (within_new _) (this j l))
+      at (inr o) = subst P (sym (cycle_old p o)) (λ j l. between_grown links old new _ _ _ (within_new _) (within_new _) (all p j l))
 
 leaf_is : (d e : ℕ) → Some (leaf d) ≡ Some (leaf e) → d ≡ e
 leaf_is d e h = is_in-one d e (ap (λ o. is_in (defects_of o) e) h ∙ one_in e)
 
-pub leaf_unused : (nodes : List (Option Node)) (d x : ℕ) → AreLeavesBelow nodes d → node_at nodes x ≢ Some (leaf d)
-leaf_unused nodes d x h e = omega (arith, h x d e)
-
-pub leaf_made : (old new : List (Option Node)) (n d : ℕ) → IsNested old → AreLeavesBelow old d → Adds old new n (leaf d) → IsNewLeaf old new n d
-leaf_made old new n d nested below made = record {
-  outer = record { outer = new_outer old new n (leaf d) made nested refl; holds = ap (λ o. is_in (defects_of o) d) made.added ∙ one_in d };
-  stays = λ x e h. record { outer = old_outer old new n (leaf d) made nested x h.outer refl; holds = within_new old new n (leaf d) made x e h.holds };
-  apart = not_new old new n (leaf d) made;
-  same = λ x live. made.others x (not_new old new n (leaf d) made x live);
-  below = λ x e is.
-      elim (cases_eq x n) [
-        | inl same ↦ let f : d ≡ e = leaf_is d e (sym made.added ∙ (ap (node_at new) (sym same) ∙ is)) in omega (arith, f)
-        | inr o ↦ omega (arith, below x e (sym (made.others x o) ∙ is))
-      ];
-  linked = λ links all. linked_new old new n (leaf d) made links all (λ j less. absurd (omega arith));
-}
-
-module _ (links : List (Option (List Step))) (nodes : List (Option Node)) (x y z a b c : ℕ) (h : AreRing links nodes x y z a b c) where
-  on_ring : (P : ℕ → Type 0) → P x → P y → P z → (v : ℕ) → is_on (ring x y z a b c) v ≡ true → P v
-  on_ring P px py pz v on =
-      elim (or_cases (x == v) _ on) [
-        | inl e ↦ subst P (eqb-true x v e) px
-        | inr on_2 ↦ elim (or_cases (y == v) _ on_2) [
-          | inl e ↦ subst P (eqb-true y v e) py
-          | inr on_3 ↦ elim (or_cases (z == v) _ on_3) [
-            | inl e ↦ subst P (eqb-true z v e) pz
-            | inr none ↦ absurd (both_ways false refl none)
-          ]
-        ]
-      ]
-
-  pub ring_linked : AreLinked links nodes (ring x y z a b c)
-  ring_linked zero less = h.first
-  ring_linked (suc zero) less = h.second
-  ring_linked (suc (suc zero)) less = h.third
-  ring_linked (suc (suc (suc k))) less = absurd (omega arith)
-
-  pub ring_cycle : IsOddCycle nodes (ring x y z a b c)
-  ring_cycle = record {
-    odd = refl;
-    three = omega arith;
-    distinct = (rw (ne_eqb y x h.apart.0, ne_eqb z x h.apart.1) refl, (rw (ne_eqb z y h.apart.2) refl, (refl, tt)));
-    live = on_ring (λ v. nodes_spec.is_live nodes v ≡ true) h.live.0 h.live.1 h.live.2;
-  }
-
-  pub ring_outer : AreOuter nodes (ring x y z a b c)
-  ring_outer = on_ring (λ v. IsOuter nodes v) h.outer.0 h.outer.1 h.outer.2
-
-  pub ring_made : (new : List (Option Node)) (n : ℕ) → IsNested nodes → Adds nodes new n (blossom nodes (ring x y z a b c)) → IsNewRing links nodes new n x y z
-  ring_made new n nested made = record {
-    outer = new_outer nodes new n k made nested off;
-    some = λ e. let f : length (ring x y z a b c) ≡ 0 = ap length (sym (cycle_new nodes new n k made) ∙ e) in omega arith;
-    first = holds x (or_left (x == x) _ (eq-eqb x x refl));
-    second = holds y (or_right (x == y) _ (or_left (y == y) _ (eq-eqb y y refl)));
-    third = holds z (or_right (x == z) _ (or_right (y == z) _ (or_left (z == z) _ (eq-eqb z z refl))));
-    apart = not_new nodes new n k made;
-    same = λ v live. made.others v (not_new nodes new n k made v live);
-    below = λ d below v e is.
-        elim (cases_eq v n) [
-          | inl same ↦
-              let f : length (ring x y z a b c) ≡ 0 = ap (λ o. length (cycle_of o)) (sym made.added ∙ (ap (node_at new) (sym same) ∙ is)) in
-              omega arith
-          | inr o ↦ below v e (sym (made.others v o) ∙ is)
-        ];
-    linked = λ all. linked_new nodes new n k made links all ring_linked;
-  }
-    where
-      k : Node
-      k = blossom nodes (ring x y z a b c)
-
-      off : is_on (ring x y z a b c) n ≡ false
-      off =
-          elim (cases_Bool (is_on (ring x y z a b c) n)) [
-            | inl on ↦ absurd (not_new nodes new n k made n (ring_cycle.live n on) refl)
-            | inr e ↦ e
-          ]
-
-      holds : (v : ℕ) → is_on (ring x y z a b c) v ≡ true → AreWithin (defects_at nodes v) (defects_at new n)
-      holds v on d i = ap (λ o. is_in (defects_of o) d) made.added ∙ to_along (defects_at nodes) (ring x y z a b c) v d on i
-
--- an outer node and two new leaves, linked
-module _ (links more : List (Option (List Step))) (old first second : List (Option Node)) (top y z d e : ℕ) (held : IsOuterWith old top d)
-    (one : IsNewLeaf old first y e) (two : IsNewLeaf first second z (e + 1)) where
-  top_live : nodes_spec.is_live old top ≡ true
-  top_live = holding_live old top d held.holds
-
-  still_live : (x : ℕ) → nodes_spec.is_live old x ≡ true → nodes_spec.is_live first x ≡ true
-  still_live x live = ap (λ (o : Option Node). is_some o) (one.same x live) ∙ live
-
-  after_live : (x : ℕ) → nodes_spec.is_live old x ≡ true → nodes_spec.is_live second x ≡ true
-  after_live x live = ap (λ (o : Option Node). is_some o) (two.same x (still_live x live)) ∙ still_live x live
-
-  y_live : nodes_spec.is_live first y ≡ true
-  y_live = holding_live first y e one.outer.holds
-
-  top_after : IsOuterWith second top d
-  top_after = two.stays top d (one.stays top d held)
-
-  y_after : IsOuterWith second y e
-  y_after = two.stays y e one.outer
-
-  pub grown_ring : (a b c : ℕ) → AreNewLinks links more a b c d e → AreRing more second top y z a b c
-  grown_ring a b c l = record {
-    outer = (top_after.outer, y_after.outer, two.outer.outer);
-    live = (holding_live second top d top_after.holds, holding_live second y e y_after.holds, holding_live second z (e + 1) two.outer.holds);
-    apart = ((λ s. one.apart top top_live (sym s)), (λ s. two.apart top (still_live top top_live) (sym s)), (λ s. two.apart y y_live (sym s)));
-    first = between_edge more second a top y d e l.first top_after.holds y_after.holds;
-    second = between_edge more second b y z e (e + 1) l.second y_after.holds two.outer.holds;
-    third = between_edge more second c z top (e + 1) d l.third two.outer.holds top_after.holds;
-  }
-
-  pub grown_from : (new : List (Option Node)) (n a b c : ℕ) → AreNewLinks links more a b c d e → AllLinked links old → IsNewRing more second new n top y z
-      → IsGrown more old new n top d e
-  grown_from new n a b c l all h = record {
-    outer = record { outer = h.outer; holds = h.first d top_after.holds };
-    some = h.some;
-    within = λ v i. h.first v (ap (λ o. is_in (defects_of o) v) (two.same top (still_live top top_live) ∙ one.same top top_live) ∙ i);
-    second = h.second e y_after.holds;
-    third = h.third (e + 1) two.outer.holds;
-    apart = λ x live. h.apart x (after_live x live);
-    live = λ x live. ap (λ (o : Option Node). is_some o) (h.same x (after_live x live)) ∙ after_live x live;
-    below = let P : ℕ → Type 0 = AreLeavesBelow new in let s : e + 1 + 1 ≡ e + 2 = omega arith in subst P s (h.below (e + 1 + 1) two.below);
-    linked = h.linked (two.linked more (one.linked more (linked_kept links more old l.kept all)));
-  }
-
-pub taken_below : (old new : List (Option Node)) (n d : ℕ) → TakesOff old new n → AreLeavesBelow old d → AreLeavesBelow new d
-taken_below old new n d h below x e is =
-    elim (cases_eq x n) [
-      | inl same ↦ absurd (none_some (node_at new n) (leaf e) h.gone (ap (node_at new) (sym same) ∙ is))
-      | inr o ↦ below x e (sym (h.others x o) ∙ is)
-    ]
-
-pub none_below : (nodes : List (Option Node)) (d : ℕ) → nodes ≡ [] → AreLeavesBelow nodes d
-none_below nodes d e x v is = absurd (none_some (node_at nodes x) (leaf v) (ap (λ t. node_at t x) e) is)
-
 pub none_linked : (links : List (Option (List Step))) (nodes : List (Option Node)) → nodes ≡ [] → AllLinked links nodes
 none_linked links nodes e p = let P : List CycleStep → Type 0 = AreLinked links nodes in subst P (sym (ap (λ t. cycle_at t p) e)) (λ i less. absurd (omega arith))
 
-pub deep_start : (links : List (Option (List Step))) (old new : List (Option Node)) (x : ℕ) → old ≡ [] → IsNewLeaf old new x 0 → IsDeep links new x x (2 * 0)
-deep_start links old new x e h = record {
-  live = holding_live new x 0 h.outer.holds;
-  outer = h.outer;
-  below = h.below;
-  linked = h.linked links (none_linked links old e);
-  held = λ d less. let P : ℕ → Type 0 = λ v. is_in (defects_at new x) v ≡ true in let s : 0 ≡ d = omega arith in subst P s h.outer.holds;
+pub fixture_empty : (links : List (Option (List Step))) (nodes : List (Option Node)) (leaves : List ℕ) → nodes ≡ [] → leaves ≡ [] → IsFixture links nodes leaves
+fixture_empty links nodes leaves e f = record {
+  leaf_of = λ d less. let z : length leaves ≡ 0 = ap length f in absurd (omega (arith, less, z));
+  below = λ x v is. absurd (none_some (node_at nodes x) (leaf v) (ap (λ t. node_at t x) e) is);
+  linked = none_linked links nodes e;
 }
 
-pub deep_more : (links more : List (Option (List Step))) (old new : List (Option Node)) (x top n level : ℕ) → IsDeep links old x top (2 * level)
-    → IsGrown more old new n top 0 (2 * level + 1) → IsDeep more new x n (2 * (level + 1))
-deep_more links more old new x top n level h g = record {
-  live = g.live x h.live;
-  outer = g.outer;
-  below = let P : ℕ → Type 0 = AreLeavesBelow new in let s : 2 * level + 1 + 2 ≡ 2 * (level + 1) + 1 = omega arith in subst P s g.below;
-  linked = g.linked;
-  held = λ d less.
-      let P : ℕ → Type 0 = λ v. is_in (defects_at new n) v ≡ true in
-      elim (cases_lt d (2 * level + 1)) [
-        | inl a ↦ g.within d (h.held d (omega (arith, a)))
-        | inr b ↦ elim (cases_eq d (2 * level + 1)) [
-          | inl e ↦ subst P (sym e) g.second
-          | inr o ↦ let s : 2 * level + 1 + 1 ≡ d = omega (arith, less, b, o) in subst P s g.third
-        ]
+-- a step of the cycle is at the node
+on_place : (cycle : List CycleStep) (x : ℕ) → is_on cycle x ≡ true → (k : ℕ) × (k < length cycle) × ((step_at cycle k).node ≡ x)
+on_place [] x on = absurd (both_ways false refl on)
+on_place (s ∷ ss) x on =
+    elim (or_cases (s.node == x) (is_on ss x) on) [
+      | inl e ↦ (zero, omega arith, eqb-true s.node x e)
+      | inr e ↦ let r : (k : ℕ) × (k < length ss) × ((step_at ss k).node ≡ x) = on_place ss x e in (suc r.0, omega (arith, r.1), r.2)
+    ]
+
+module _ (links : List (Option (List Step))) (nodes : List (Option Node)) (leaves : List ℕ) (fixture : IsFixture links nodes leaves) where
+  pub leaf_live : (d : ℕ) → d < length leaves → nodes_spec.is_live nodes (get_or leaves d 0) ≡ true
+  leaf_live d less = ap (λ (o : Option Node). is_some o) (fixture.leaf_of d less)
+
+  pub leaf_holds : (d : ℕ) → d < length leaves → is_in (defects_at nodes (get_or leaves d 0)) d ≡ true
+  leaf_holds d less = ap (λ o. is_in (defects_of o) d) (fixture.leaf_of d less) ∙ one_in d
+
+  pub leaf_free : (d x : ℕ) → d ≡ length leaves → node_at nodes x ≢ Some (leaf d)
+  leaf_free d x e is = omega (arith, fixture.below x d is, e)
+
+  -- a node that holds a defect and isn't its leaf is a blossom
+  pub no_leaf : (nested : IsNested nodes) (x d l : ℕ) → d < length leaves → is_in (defects_at nodes x) d ≡ true → l ≡ get_or leaves d l → x ≢ l → cycle_at nodes x ≢ []
+  no_leaf nested x d l less h is differ none = at (node_at nodes x) refl
+    where
+      at : (o : Option Node) → node_at nodes x ≡ o → ⊥
+      at None f = both_ways false refl (ap (λ o. is_in (defects_of o) d) (sym f) ∙ h)
+      at (Some n) f =
+          elim (nested.shaped x n f) [
+            | inl one ↦
+                let held : is_in (one.0 ∷ []) d ≡ true = ap (λ m. is_in (defects_of (Some m)) d) (sym one.1) ∙ (ap (λ o. is_in (defects_of o) d) (sym f) ∙ h) in
+                let same : one.0 ≡ d = is_in-one one.0 d held in
+                let its : l ≡ get_or leaves d 0 = is ∙ get_or_default leaves d l 0 less in
+                differ (nested.leaves x (get_or leaves d 0) d (f ∙ (ap (λ m. Some m) one.1 ∙ ap (λ e. Some (leaf e)) same)) (fixture.leaf_of d less) ∙ sym its)
+            | inr b ↦
+                let c : length n.cycle ≡ 0 = ap length (ap cycle_of (sym f) ∙ none) in
+                omega (arith, b.cycle.three, c)
+          ]
+
+  pub fixture_links : (more : List (Option (List Step))) → AreKept links more → IsFixture more nodes leaves
+  fixture_links more kept = record { leaf_of = fixture.leaf_of; below = fixture.below; linked = linked_kept links more nodes kept fixture.linked }
+
+  pub fixture_leaf : (nested : IsNested nodes) (new : List (Option Node)) (n d : ℕ) → d ≡ length leaves → Adds nodes new n (leaf d) → IsFixture links new (leaves ++ n ∷ [])
+  fixture_leaf nested new n d at made = record {
+    leaf_of = λ e less.
+        let count : length (leaves ++ n ∷ []) ≡ length leaves + 1 = length-append leaves (n ∷ []) in
+        elim (cases_lt e (length leaves)) [
+          | inl a ↦
+              ap (node_at new) (get_or_append_left leaves (n ∷ []) 0 e a)
+              ∙ (made.others _ (not_new nodes new n (leaf d) made _ (leaf_live e a)) ∙ fixture.leaf_of e a)
+          | inr b ↦
+              let same : length leaves ≡ e = omega (arith, less, b, count) in
+              ap (node_at new) (get_or_push leaves n 0 e same) ∙ (made.added ∙ ap (λ v. Some (leaf v)) (at ∙ same))
+        ];
+    below = λ x e is.
+        let count : length (leaves ++ n ∷ []) ≡ length leaves + 1 = length-append leaves (n ∷ []) in
+        elim (cases_eq x n) [
+          | inl same ↦ let f : d ≡ e = leaf_is d e (sym made.added ∙ (ap (node_at new) (sym same) ∙ is)) in omega (arith, f, at, count)
+          | inr o ↦ omega (arith, fixture.below x e (sym (made.others x o) ∙ is), count)
+        ];
+    linked = linked_new nodes new n (leaf d) made links fixture.linked (λ j less. absurd (omega arith));
+  }
+
+  pub fixture_cycle : (new : List (Option Node)) (n : ℕ) (cycle : List CycleStep) → 3 ≤ length cycle → AreLinked links nodes cycle
+      → Adds nodes new n (blossom nodes cycle) → IsFixture links new leaves
+  fixture_cycle new n cycle three linked made = record {
+    leaf_of = λ e less. made.others _ (not_new nodes new n (blossom nodes cycle) made _ (leaf_live e less)) ∙ fixture.leaf_of e less;
+    below = λ x e is.
+        elim (cases_eq x n) [
+          | inl same ↦
+              let f : length cycle ≡ 0 = ap (λ o. length (cycle_of o)) (sym made.added ∙ (ap (node_at new) (sym same) ∙ is)) in
+              absurd (omega (arith, f, three))
+          | inr o ↦ fixture.below x e (sym (made.others x o) ∙ is)
+        ];
+    linked = linked_new nodes new n (blossom nodes cycle) made links fixture.linked linked;
+  }
+
+  pub fixture_open : (new : List (Option Node)) (n : ℕ) → cycle_at nodes n ≢ [] → IsOuter nodes n → TakesOff nodes new n → IsFixture links new leaves
+  fixture_open new n some outer gone = record {
+    leaf_of = λ e less. gone.others _ (λ same. some (ap (cycle_at nodes) (sym same) ∙ ap cycle_of (fixture.leaf_of e less))) ∙ fixture.leaf_of e less;
+    below = λ x e is.
+        elim (cases_eq x n) [
+          | inl same ↦ absurd (none_some (node_at new n) (leaf e) gone.gone (ap (node_at new) (sym same) ∙ is))
+          | inr o ↦ fixture.below x e (sym (gone.others x o) ∙ is)
+        ];
+    linked = λ p.
+        elim (cases_eq p n) [
+          | inl same ↦
+              let P : List CycleStep → Type 0 = AreLinked links new in
+              subst P (sym (ap (cycle_at new) same ∙ ap cycle_of gone.gone)) (λ i less. absurd (omega arith))
+          | inr o ↦
+              let P : List CycleStep → Type 0 = AreLinked links new in
+              subst P (sym (ap cycle_of (gone.others p o))) (λ i less. still p i less (fixture.linked p i less))
+        ];
+  }
+    where
+      stays_on : (p x : ℕ) → is_on (cycle_at nodes p) x ≡ true → AreWithin (defects_at nodes x) (defects_at new x)
+      stays_on p x on d h =
+          ap (λ o. is_in (defects_of o) d) (gone.others x (λ e. both_ways (is_on (cycle_at nodes p) n) (outer p) (ap (is_on (cycle_at nodes p)) (sym e) ∙ on))) ∙ h
+
+      following : (count i : ℕ) → i < count → next_place count i < count
+      following count i less =
+          elim (cases_Bool (i + 1 == count)) [
+            | inl e ↦ rw e (omega (arith, less))
+            | inr e ↦ rw e (let differ : i + 1 ≢ count = λ f. both_ways (i + 1 == count) e (eq-eqb (i + 1) count f) in omega (arith, less, differ))
+          ]
+
+      still : (p i : ℕ) → i < length (cycle_at nodes p) → IsLinkBetween links nodes (step_at (cycle_at nodes p) i).link (step_at (cycle_at nodes p) i).node (step_at (cycle_at nodes p) (next_place (length (cycle_at nodes p)) i)).node
+          → IsLinkBetween links new (step_at (cycle_at nodes p) i).link (step_at (cycle_at nodes p) i).node (step_at (cycle_at nodes p) (next_place (length (cycle_at nodes p)) i)).node
+      still p i less =
+          between_grown links nodes new _ _ _
+          (stays_on p _ (step_on (cycle_at nodes p) i less)) (stays_on p _ (step_on (cycle_at nodes p) _ (following (length (cycle_at nodes p)) i less)))
+
+-- so many parts with their outer nodes, and steps made of them
+pub tops_start : (nodes : List (Option Node)) (parts : List (ℕ × ℕ)) → AreTops nodes parts 0 []
+tops_start nodes parts = record { counted = refl; each = λ k less. absurd (omega arith) }
+
+pub tops_more : (nodes : List (Option Node)) (parts : List (ℕ × ℕ)) (count top : ℕ) (tops : List ℕ) → AreTops nodes parts count tops
+    → IsTop nodes (part_at parts count) top → AreTops nodes parts (count + 1) (tops ++ top ∷ [])
+tops_more nodes parts count top tops h t = record {
+  counted = omega (arith, length-append tops (top ∷ []), h.counted);
+  each = λ k less.
+      let P : ℕ → Type 0 = IsTop nodes (part_at parts k) in
+      elim (cases_lt k count) [
+        | inl a ↦ subst P (sym (get_or_append_left tops (top ∷ []) 0 k (omega (arith, a, h.counted)))) (h.each k a)
+        | inr b ↦
+            let same : count ≡ k = omega (arith, less, b) in
+            let Q : ℕ → Type 0 = λ j. IsTop nodes (part_at parts j) top in
+            subst P (sym (get_or_push tops top 0 k (omega (arith, same, h.counted)))) (subst Q same t)
       ];
 }
 
-pub levels_from : (second third : List (Option (List Step))) (empty one two three : List (Option Node)) (x inner outer : ℕ) → empty ≡ []
-    → IsNewLeaf empty one x 10 → IsGrown second one two inner x 10 11 → IsGrown third two three outer inner 10 13 → IsTwoLevels third three x inner outer
-levels_from second third empty one two three x inner outer e h g f = record {
-  live = f.live x (g.live x x_live);
-  inner = f.live inner inner_live;
-  outer = f.outer;
-  some = f.some;
-  eleven = f.within 11 g.second;
-  thirteen = f.second;
-  apart = f.apart x (g.live x x_live);
-  below = f.below;
-  linked = f.linked;
-}
-  where
-    x_live : nodes_spec.is_live one x ≡ true
-    x_live = holding_live one x 10 h.outer.holds
+pub steps_start : (links : List (Option (List Step))) (parts : List (ℕ × ℕ)) (tops : List ℕ) → AreSteps links parts tops 0 []
+steps_start links parts tops = record { counted = refl; each = λ k less. absurd (omega arith) }
 
-    inner_live : nodes_spec.is_live two inner ≡ true
-    inner_live = holding_live two inner 10 g.outer.holds
-
-pub opened_from : (links : List (Option (List Step))) (old new : List (Option Node)) (x inner outer : ℕ) → IsTwoLevels links old x inner outer → TakesOff old new outer → IsOpened new x
-opened_from links old new x inner outer h t = record {
-  live = ap (λ (o : Option Node). is_some o) (t.others x h.apart) ∙ h.live;
-  below = taken_below old new outer 15 t h.below;
+pub steps_more : (old new : List (Option (List Step))) (parts : List (ℕ × ℕ)) (tops : List ℕ) (count : ℕ) (step : CycleStep) (cycle : List CycleStep)
+    → AreSteps old parts tops count cycle → AreKept old new → IsStep new parts tops count step → AreSteps new parts tops (count + 1) (cycle ++ step ∷ [])
+steps_more old new parts tops count step cycle h kept t = record {
+  counted = omega (arith, length-append cycle (step ∷ []), h.counted);
+  each = λ k less.
+      let P : CycleStep → Type 0 = IsStep new parts tops k in
+      elim (cases_lt k count) [
+        | inl a ↦
+            let s : IsStep old parts tops k (step_at cycle k) = h.each k a in
+            subst P (sym (get_or_append_left cycle (step ∷ []) (record { node = 0; link = 0 }) k (omega (arith, a, h.counted)))) (s.0, kept _ _ s.1)
+        | inr b ↦
+            let same : count ≡ k = omega (arith, less, b) in
+            let Q : ℕ → Type 0 = λ j. IsStep new parts tops j step in
+            subst P (sym (get_or_push cycle step (record { node = 0; link = 0 }) k (omega (arith, same, h.counted)))) (subst Q same t)
+      ];
 }
+
+pub kept_all : (links : List (Option (List Step))) → AreKept links links
+kept_all links l walk is = is
+
+pub kept_both : (a b c : List (Option (List Step))) → AreKept a b → AreKept b c → AreKept a c
+kept_both a b c f g l walk is = g l walk (f l walk is)
+
+module _ (links : List (Option (List Step))) (nodes : List (Option Node)) (parts : List (ℕ × ℕ)) (tops : List ℕ) (count : ℕ) (cycle : List CycleStep)
+    (full : count ≡ length parts) (over : AreTops nodes parts count tops) (made : AreSteps links parts tops count cycle) where
+  node_is : (k : ℕ) → k < length cycle → IsTop nodes (part_at parts k) (step_at cycle k).node
+  node_is k less =
+      let small : k < count = omega (arith, less, made.counted) in
+      let P : ℕ → Type 0 = IsTop nodes (part_at parts k) in
+      subst P (sym (made.each k small).0) (over.each k small)
+
+  on_is : (x : ℕ) → is_on cycle x ≡ true → (k : ℕ) × IsTop nodes (part_at parts k) x
+  on_is x on =
+      let r = on_place cycle x on in
+      let P : ℕ → Type 0 = IsTop nodes (part_at parts r.0) in
+      (r.0, subst P r.2 (node_is r.0 r.1))
+
+  pub parts_cycle : length parts % 2 ≡ 1 → 3 ≤ length parts → AreDistinct cycle → IsOddCycle nodes cycle
+  parts_cycle odd three distinct = record {
+    odd = let e : length cycle ≡ length parts = made.counted ∙ full in ap (λ n. n % 2) e ∙ odd;
+    three = omega (arith, three, made.counted, full);
+    distinct = distinct;
+    live = λ x on. let t = on_is x on in holding_live nodes x (part_at parts t.0).0 t.1.0.holds;
+  }
+
+  pub parts_outer : AreOuter nodes cycle
+  parts_outer x on = (on_is x on).1.0.outer
+
+  pub parts_linked : AreLinked links nodes cycle
+  parts_linked k less =
+      let small : k < count = omega (arith, less, made.counted) in
+      let e : length cycle ≡ length parts = made.counted ∙ full in
+      let next : next_place (length parts) k < length cycle = after k (omega (arith, less, e)) in
+      let P : ℕ → Type 0 = λ j. IsLinkBetween links nodes (step_at cycle k).link (step_at cycle k).node (step_at cycle (next_place j k)).node in
+      subst P (sym e)
+      (between_edge links nodes (step_at cycle k).link (step_at cycle k).node (step_at cycle (next_place (length parts) k)).node (part_at parts k).1 (part_at parts (next_place (length parts) k)).0
+      (made.each k small).1 (node_is k less).1.holds (node_is (next_place (length parts) k) next).0.holds)
+    where
+      after : (k : ℕ) → k < length parts → next_place (length parts) k < length cycle
+      after k less =
+          elim (cases_Bool (k + 1 == length parts)) [
+            | inl e ↦ rw e (omega (arith, less, made.counted, full))
+            | inr e ↦ rw e (let differ : k + 1 ≢ length parts = λ f. both_ways (k + 1 == length parts) e (eq-eqb (k + 1) (length parts) f) in omega (arith, less, differ, made.counted, full))
+          ]

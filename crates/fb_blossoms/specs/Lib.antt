@@ -4,5 +4,5 @@ pub mod Legs
 pub mod Links
 pub mod Nodes
 pub mod Paths
-pub mod Rows
+pub mod Fixture
 pub mod Shapes

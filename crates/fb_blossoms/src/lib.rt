@@ -4,8 +4,12 @@
 
 pub mod blossoms;
 mod entry;
+#[cfg(test)]
+mod fixture;
 mod forest;
 mod legs;
+#[cfg(test)]
+mod nested_tests;
 #[cfg(test)]
 mod tests;
 

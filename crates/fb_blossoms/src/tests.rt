@@ -1,164 +1,50 @@
-ghost use Rattle.std.specs.Prelude.{◌≡◌, ◌≢◌, ◌+◌, ◌*◌, ◌^◌, ◌<◌, ℕ, true, [], ◌∷◌, Some, IfOk, OnOk};
-ghost use Rattle.fb_links.specs.Table;
-ghost use Rattle.fb_blossoms.specs.Paths.{AllLinked};
-ghost use Rattle.fb_blossoms.specs.Rows.{AreLeavesBelow, AreNewLinks, AreRing, IsDeep, IsGrown, IsNewLeaf, IsNewRing, IsOpened, IsOuterWith, IsTwoLevels, edge_walk, ring};
-
-use crate::{Blossoms, CycleStep, LinkId, Links, NoMemory, NodeId};
-use fb_links::{Step, Walk};
+use crate::fixture::{Fixture, Refused};
+use crate::{CycleStep, LinkId, NodeId};
 use std::alloc::Global;
 use std::test::Fail;
 
-fn add_leaf(alloc: Global, blossoms: &mut Blossoms, defect: u32) -> Result<NodeId, NoMemory>
-    requires { AreLeavesBelow blossoms.old defect }
-    ensures { IfOk result (λ node. IsNewLeaf blossoms.old blossoms.new node defect) }
-{
-    blossoms.keeps();
-    blossoms.leaf(alloc, defect)
-}
-
-fn add_link(alloc: Global, links: &mut Links, from: u32, to: u32) -> Result<LinkId, NoMemory>
-    ensures { IfOk result (λ id. Table.Adds links.old links.new id (edge_walk from to)) }
-{
-    let mut steps = Vec::new(alloc);
-    let Ok(()) = steps.push(Step {
-        from,
-        to,
-        edge: 0,
-        weight: 2,
-    }) else {
-        return Err(NoMemory);
+/// A blossom of the leaves of the next three defects, the first of which is this one.
+fn triangle(alloc: Global, fixture: &mut Fixture, first: u32) -> Result<NodeId, Refused> {
+    let Some(third) = first.checked_add(2) else {
+        return Err(Refused::Misplaced);
     };
-    links.make(alloc, Walk::from_vec(steps))
-}
-
-/// Links from the one defect to the other, on to the next number, and back.
-fn add_links(
-    alloc: Global,
-    links: &mut Links,
-    first: u32,
-    defect: u32,
-) -> Result<(LinkId, LinkId, LinkId), NoMemory>
-    requires { defect + 1 < 2 ^ 32 }
-    ensures { IfOk result (λ r. AreNewLinks links.old links.new r.0 r.1 r.2 first defect) }
-{
-    let a = add_link(alloc, links, first, defect)?;
-    let b = add_link(alloc, links, defect, defect + 1)?;
-    let c = add_link(alloc, links, defect + 1, first)?;
-    Ok((a, b, c))
-}
-
-fn ring_of(
-    alloc: Global,
-    nodes: (NodeId, NodeId, NodeId),
-    ids: (LinkId, LinkId, LinkId),
-) -> Result<Vec<CycleStep>, NoMemory>
-    ensures { IfOk result (λ v. v.items ≡ ring nodes.0 nodes.1 nodes.2 ids.0 ids.1 ids.2) }
-{
-    let steps = [
-        CycleStep {
-            node: nodes.0,
-            link: ids.0,
-        },
-        CycleStep {
-            node: nodes.1,
-            link: ids.1,
-        },
-        CycleStep {
-            node: nodes.2,
-            link: ids.2,
-        },
-    ];
-    let Ok(cycle) = Vec::from_slice(alloc, &steps) else {
-        return Err(NoMemory);
-    };
-    Ok(cycle)
-}
-
-fn form_ring(
-    alloc: Global,
-    blossoms: &mut Blossoms,
-    nodes: (NodeId, NodeId, NodeId),
-    links: &Links,
-    ids: (LinkId, LinkId, LinkId),
-) -> Result<NodeId, NoMemory>
-    requires { AreRing links.now blossoms.old nodes.0 nodes.1 nodes.2 ids.0 ids.1 ids.2 }
-    ensures { IfOk result (λ node. IsNewRing links.now blossoms.old blossoms.new node nodes.0 nodes.1 nodes.2) }
-{
-    blossoms.keeps();
-    let cycle = ring_of(alloc, nodes, ids)?;
-    blossoms.form(alloc, cycle, links)
-}
-
-/// The blossom of an outer node and two new leaves.
-fn grow(
-    alloc: Global,
-    blossoms: &mut Blossoms,
-    links: &mut Links,
-    top: NodeId,
-    first: u32,
-    defect: u32,
-) -> Result<NodeId, NoMemory>
-    requires top { IsOuterWith blossoms.old top first }
-    requires below { AreLeavesBelow blossoms.old defect }
-    requires small { defect + 1 < 2 ^ 32 }
-    requires linked { AllLinked links.old blossoms.old }
-    ensures { IfOk result (λ node. IsGrown links.new blossoms.old blossoms.new node top first defect) }
-{
-    let y = add_leaf(alloc, blossoms, defect)?;
-    let z = add_leaf(alloc, blossoms, defect + 1)?;
-    let ids = add_links(alloc, links, first, defect)?;
-    form_ring(alloc, blossoms, (top, y, z), links, ids)
-}
-
-/// A leaf of the defect 0 in so many blossoms, one in another.
-fn nest(alloc: Global, levels: u32) -> Result<(Blossoms, Links, NodeId, NodeId), NoMemory>
-    requires { levels < 2 ^ 30 }
-    ensures { IfOk result (λ r. IsDeep r.1 r.0 r.2 r.3 (2 * levels)) }
-{
-    let mut blossoms = Blossoms::new(alloc)?;
-    let mut links = Links::new(alloc)?;
-    let leaf = add_leaf(alloc, &mut blossoms, 0)?;
-    let mut top = leaf;
-    for level in 0..levels {
-        top = grow(alloc, &mut blossoms, &mut links, top, 0, 2 * level + 1)?;
+    for _ in 0..3 {
+        let _ = fixture.leaf(alloc)?;
     }
-    Ok((blossoms, links, leaf, top))
+    let second = third - 1;
+    fixture.join(alloc, &[(first, first), (second, second), (third, third)])
 }
 
-/// The leaf of 10, a blossom of it and 11 and 12, and one of that and 13 and 14.
-fn two_levels(alloc: Global) -> Result<(Blossoms, Links, NodeId, NodeId, NodeId), NoMemory>
-    ensures { IfOk result (λ r. IsTwoLevels r.1 r.0 r.2 r.3 r.4) }
-{
-    let mut blossoms = Blossoms::new(alloc)?;
-    let mut links = Links::new(alloc)?;
-    let leaf = add_leaf(alloc, &mut blossoms, 10)?;
-    let inner = grow(alloc, &mut blossoms, &mut links, leaf, 10, 11)?;
-    let outer = grow(alloc, &mut blossoms, &mut links, inner, 10, 13)?;
-    Ok((blossoms, links, leaf, inner, outer))
+fn step(node: NodeId, link: LinkId) -> CycleStep {
+    CycleStep { node, link }
 }
 
-/// The outer one of the two levels opened up.
-fn open_outer(
-    blossoms: &mut Blossoms,
-    links: &Links,
-    leaf: NodeId,
-    inner: NodeId,
-    outer: NodeId,
-) -> Vec<CycleStep>
-    requires { IsTwoLevels links.now blossoms.old leaf inner outer }
-    ensures { IsOpened blossoms.new leaf }
-{
-    let _ = links;
-    blossoms.open_up(outer)
+/// Whether the cycle begins with these steps.
+fn begins(cycle: &[CycleStep], a: CycleStep, b: CycleStep, c: CycleStep) -> bool {
+    let [x, y, z, ..] = cycle else {
+        return false;
+    };
+    *x == a && *y == b && *z == c
+}
+
+/// The leaves 0 to 2 of 0 to 2, their blossom 3, the leaves 4 and 5 of 3 and 4, and the blossom 6 of 3, 4 and 5.
+fn two_levels(alloc: Global) -> Result<Fixture, Refused> {
+    let mut fixture = Fixture::new(alloc)?;
+    let _ = triangle(alloc, &mut fixture, 0)?;
+    let _ = fixture.leaf(alloc)?;
+    let _ = fixture.leaf(alloc)?;
+    let _ = fixture.join(alloc, &[(0, 0), (3, 3), (4, 4)])?;
+    Ok(fixture)
 }
 
 #[test]
 fn a_blossom_is_in_a_blossom(rt: HostRuntime) -> Result<(), Fail> {
     let alloc = rt.alloc();
-    let (blossoms, links, leaf, inner, outer) = two_levels(alloc)?;
-    assert_eq!(rt; blossoms.outer_of(leaf), outer);
-    assert_eq!(rt; blossoms.child_holding(outer, 11), inner);
-    let path = blossoms.path_between(alloc, outer, 11, 13, &links)?;
+    let fixture = two_levels(alloc)?;
+    assert_eq!(rt; fixture.outer(1)?, 6);
+    assert_eq!(rt; fixture.inside(1, 1)?, 3);
+    // 1 to 2 to 0 in the inner one, and 0 to 4 to 3.
+    let path = fixture.path(alloc, 0, 1, 3)?;
     assert_eq!(rt; path.as_slice(), [1, 2, 5, 4].as_slice());
     Ok(())
 }
@@ -166,31 +52,130 @@ fn a_blossom_is_in_a_blossom(rt: HostRuntime) -> Result<(), Fail> {
 #[test]
 fn the_outer_one_opens_up(rt: HostRuntime) -> Result<(), Fail> {
     let alloc = rt.alloc();
-    let (mut blossoms, links, leaf, inner, outer) = two_levels(alloc)?;
-    let v = blossoms.child_holding(outer, 13);
-    let cycle = open_outer(&mut blossoms, &links, leaf, inner, outer);
+    let mut fixture = two_levels(alloc)?;
+    let cycle = fixture.open(1)?;
     assert_eq!(rt; cycle.len(), 3);
-    assert_eq!(rt;
-        cycle[0],
-        CycleStep {
-            node: inner,
-            link: 3
-        }
-    );
-    assert_eq!(rt; cycle[1], CycleStep { node: v, link: 4 });
-    assert_eq!(rt; cycle[2].link, 5);
-    assert_eq!(rt; blossoms.outer_of(leaf), inner);
+    assert!(rt; begins(&cycle, step(3, 3), step(4, 4), step(5, 5)));
+    assert_eq!(rt; fixture.outer(1)?, 3);
+    assert_eq!(rt; fixture.outer(3)?, 4);
     // The number is used again.
-    assert_eq!(rt; add_leaf(alloc, &mut blossoms, 15)?, outer);
+    assert_eq!(rt; fixture.leaf(alloc)?, 6);
+    Ok(())
+}
+
+/// The blossom 3 of the leaves 0 to 2 of 0 to 2, the blossom 7 of the leaves 4 to 6 of 3 to 5, the blossom 11 of the
+/// leaves 8 to 10 of 6 to 8, and the blossom 12 of 3, 7 and 11, whose links lead from 2 to 3, from 4 to 6 and from 7
+/// to 1.
+fn triangles(alloc: Global) -> Result<Fixture, Refused> {
+    let mut fixture = Fixture::new(alloc)?;
+    let _ = triangle(alloc, &mut fixture, 0)?;
+    let _ = triangle(alloc, &mut fixture, 3)?;
+    let _ = triangle(alloc, &mut fixture, 6)?;
+    let _ = fixture.join(alloc, &[(1, 2), (3, 4), (6, 7)])?;
+    Ok(fixture)
+}
+
+#[test]
+fn a_triangle_of_triangles(rt: HostRuntime) -> Result<(), Fail> {
+    let alloc = rt.alloc();
+    let fixture = triangles(alloc)?;
+    let outer = fixture.all_inside(alloc, &[0, 4, 8], 0)?;
+    assert_eq!(rt; outer.as_slice(), [12, 12, 12].as_slice());
+    let children = fixture.all_inside(alloc, &[2, 3, 7], 1)?;
+    assert_eq!(rt; children.as_slice(), [3, 7, 11].as_slice());
+    let leaves = fixture.all_inside(alloc, &[1, 5, 6], 2)?;
+    assert_eq!(rt; leaves.as_slice(), [1, 6, 8].as_slice());
     Ok(())
 }
 
 #[test]
-fn a_deep_nest(rt: HostRuntime) -> Result<(), Fail> {
+fn paths_through_triangles(rt: HostRuntime) -> Result<(), Fail> {
     let alloc = rt.alloc();
-    let (blossoms, links, leaf, top) = nest(alloc, 1000)?;
-    assert_eq!(rt; blossoms.outer_of(leaf), top);
-    let path = blossoms.path_between(alloc, top, 1, 2000, &links)?;
-    assert_eq!(rt; path.len(), 4);
+    let fixture = triangles(alloc)?;
+    // 0, 1, 2; over to 3, 5, 4; over to 6, 7, 8.
+    let path = fixture.path(alloc, 0, 0, 8)?;
+    assert_eq!(rt; path.as_slice(), [0, 1, 9, 5, 4, 10, 6, 7].as_slice());
+    // 5, 3, 4; over to 6, 8, 7; over to 1, 2, 0.
+    let path = fixture.path(alloc, 0, 5, 0)?;
+    assert_eq!(rt; path.as_slice(), [5, 3, 10, 8, 7, 11, 1, 2].as_slice());
+    // In one child, and from a defect to itself.
+    let path = fixture.path(alloc, 1, 3, 4)?;
+    assert_eq!(rt; path.as_slice(), [5, 4].as_slice());
+    assert_eq!(rt; fixture.path(alloc, 0, 3, 4)?.as_slice(), [5, 4].as_slice());
+    assert_eq!(rt; fixture.path(alloc, 0, 7, 7)?.len(), 0);
+    Ok(())
+}
+
+#[test]
+fn triangles_open_up(rt: HostRuntime) -> Result<(), Fail> {
+    let alloc = rt.alloc();
+    let mut fixture = triangles(alloc)?;
+    let cycle = fixture.open(4)?;
+    assert_eq!(rt; cycle.len(), 3);
+    assert!(rt; begins(&cycle, step(3, 9), step(7, 10), step(11, 11)));
+    let outer = fixture.all_inside(alloc, &[0, 4, 8], 0)?;
+    assert_eq!(rt; outer.as_slice(), [3, 7, 11].as_slice());
+    let cycle = fixture.open(4)?;
+    assert_eq!(rt; cycle.len(), 3);
+    assert!(rt; begins(&cycle, step(4, 3), step(5, 4), step(6, 5)));
+    let outer = fixture.all_inside(alloc, &[1, 4, 8], 0)?;
+    assert_eq!(rt; outer.as_slice(), [3, 5, 11].as_slice());
+    Ok(())
+}
+
+#[test]
+fn numbers_are_used_again(rt: HostRuntime) -> Result<(), Fail> {
+    let alloc = rt.alloc();
+    let mut fixture = triangles(alloc)?;
+    let _ = fixture.open(4)?;
+    let _ = fixture.open(4)?;
+    // The numbers that are free, 7 and 12, and then new ones.
+    assert_eq!(rt; triangle(alloc, &mut fixture, 9)?, 14);
+    let leaves = fixture.all_inside(alloc, &[9, 10, 11], 1)?;
+    assert_eq!(rt; leaves.as_slice(), [7, 12, 13].as_slice());
+    assert_eq!(rt; fixture.join(alloc, &[(1, 2), (9, 11), (6, 7)])?, 15);
+    // 0, 1, 2; over to 9, 10, 11; over to 6, 8, 7.
+    let path = fixture.path(alloc, 0, 0, 7)?;
+    assert_eq!(rt; path.as_slice(), [0, 1, 15, 12, 13, 16, 8, 7].as_slice());
+    Ok(())
+}
+
+/// The blossom 11 of the blossom 3 of 0 to 2, the leaf 4 of 3, the blossom 8 of 4 to 6, and the leaves 9 and 10 of 7 and
+/// 8, whose links lead from 1 to 3, from 3 to 5, from 4 to 7, from 7 to 8 and from 8 to 0.
+fn cycle_of_five(alloc: Global) -> Result<Fixture, Refused> {
+    let mut fixture = Fixture::new(alloc)?;
+    let _ = triangle(alloc, &mut fixture, 0)?;
+    let _ = fixture.leaf(alloc)?;
+    let _ = triangle(alloc, &mut fixture, 4)?;
+    let _ = fixture.leaf(alloc)?;
+    let _ = fixture.leaf(alloc)?;
+    let _ = fixture.join(alloc, &[(0, 1), (3, 3), (5, 4), (7, 7), (8, 8)])?;
+    Ok(fixture)
+}
+
+#[test]
+fn blossoms_in_a_cycle_of_five(rt: HostRuntime) -> Result<(), Fail> {
+    let alloc = rt.alloc();
+    let mut fixture = cycle_of_five(alloc)?;
+    assert_eq!(rt; fixture.outer(6)?, 11);
+    let children = fixture.all_inside(alloc, &[2, 3, 6], 1)?;
+    assert_eq!(rt; children.as_slice(), [3, 4, 8].as_slice());
+    assert_eq!(rt; fixture.inside(8, 1)?, 10);
+    let cycle = fixture.open(8)?;
+    assert_eq!(rt; cycle.len(), 5);
+    assert!(rt; begins(&cycle, step(3, 6), step(4, 7), step(8, 8)));
+    Ok(())
+}
+
+#[test]
+fn paths_round_a_cycle_of_five(rt: HostRuntime) -> Result<(), Fail> {
+    let alloc = rt.alloc();
+    let fixture = cycle_of_five(alloc)?;
+    // Two steps on: 2, 0, 1; over to 3; over to 5, 4, 6.
+    let path = fixture.path(alloc, 0, 2, 6)?;
+    assert_eq!(rt; path.as_slice(), [2, 0, 6, 7, 3, 5].as_slice());
+    // Four steps back, and not one on: 2, 1, 0; over to 8, 7; over to 4, 6, 5; over to 3.
+    let path = fixture.path(alloc, 0, 2, 3)?;
+    assert_eq!(rt; path.as_slice(), [1, 0, 10, 9, 8, 5, 4, 7].as_slice());
     Ok(())
 }
