@@ -1,5 +1,5 @@
 -- What a store keeps, as its contracts see it.
-use Rattle.std.proofs.Common.{◌≡◌, ◌⊎◌, inl, inr, ℕ, zero, suc, ◌==◌, ◌||◌, Bool, true, false, List, [], ◌∷◌, ◌++◌, get_or, Option, Some, None, is_some, option_map, refl, sym, ◌∙◌, ap, subst, arith}
+use Rattle.std.proofs.Common.{◌≡◌, ◌⊎◌, inl, inr, ℕ, zero, suc, ◌==◌, ◌||◌, Bool, true, false, List, [], ◌∷◌, ◌++◌, get_or, All, Option, Some, None, is_some, option_map, Result, Ok, Err, IfOk, refl, sym, ◌∙◌, ap, subst, arith}
 use Rattle.std.specs.List.{flat_map}
 use Rattle.std.proofs.lemmas.Bool.{both_ways, cases_Bool, eq-eqb, eqb-true, or_left}
 use Rattle.std.proofs.lemmas.List.{append-nil}
@@ -7,8 +7,13 @@ use Rattle.fb_links.specs.declared.cycle.CycleStep.{CycleStep}
 use Rattle.fb_blossoms.specs.Items.{Item}
 use Rattle.fb_blossoms.specs.Nodes.{IsBlossom, IsChildHolding, IsLeaf, IsNested, IsOuter, IsOuterOf, Node, cycle_at, cycle_of, defects_along, defects_at, defects_of, is_in, is_on, leaf, node_at}
 use Rattle.fb_blossoms.specs.Forest.{Climbs, IsChildOver, IsForest, IsItem, IsKept, IsLeafItem, IsOddItem, IsTopOf, cycle_in, defects_in, held_at, is_kept, item_at, made_at, made_in, node_of, nodes_of, own_at, own_in, parent_at, steps_at}
-use Rattle.fb_blossoms.proofs.Climbs.{kept_child, none_some, same_child, same_some, same_top}
+use Rattle.fb_blossoms.specs.Ways.{AllHold}
+use Rattle.fb_blossoms.proofs.Climbs.{all_from, kept_child, none_some, same_child, same_some, same_top}
 use Rattle.fb_blossoms.proofs.Held.{along_same, cycle_from, held_along, held_from, holds_climbing, holds_some, leaf_below, live_from, node_from}
+
+-- what the list of leaves was read as
+pub leaf_read : (seen leaves : List (Option ℕ)) (d : ℕ) (r o : Option ℕ) → seen ≡ leaves → r ≡ get_or seen d None → r ≡ o → get_or leaves d None ≡ o
+leaf_read seen leaves d r o same is e = ap (λ l. get_or l d None) (sym same) ∙ (sym is ∙ e)
 
 -- a number in a list of one is that one
 pub is_in-one : (x d : ℕ) → is_in (x ∷ []) d ≡ true → x ≡ d
@@ -209,3 +214,13 @@ module _ (slots : List (Option Item)) (leaves : List (Option ℕ)) (made : ℕ) 
     child_of = child_to slots made kept.forest x child h.child_of;
     holds = holds_to slots made kept.forest child d (holds_climbing slots made kept.forest h.climbs.0 l child d h.climbs.1 (own_held slots made kept.forest l d (kept.leaf_at d l e)));
   }
+
+  -- the nodes on the way up from the leaf of a defect hold it
+  pub way_round : {V E : Type 0} (names : V → List ℕ) (x d l : ℕ) → get_or leaves d None ≡ Some l → (r : Result (ℕ × V) E)
+      → IfOk r (λ w. IsChildOver slots x l w.0 × All (λ y. (k : ℕ) × Climbs slots k l y) (names w.1))
+      → IfOk r (λ w. IsChildHolding (nodes_of slots) x d w.0 × AllHold (nodes_of slots) d (names w.1))
+  way_round names x d l e (Err f) h = tt
+  way_round names x d l e (Ok w) h = (child_round x d l w.0 e h.0, all_from (λ y. (k : ℕ) × Climbs slots k l y) (λ y. is_in (defects_at (nodes_of slots) y) d ≡ true) holding (names w.1) h.1)
+    where
+      holding : (y : ℕ) → (k : ℕ) × Climbs slots k l y → is_in (defects_at (nodes_of slots) y) d ≡ true
+      holding y c = holds_to slots made kept.forest y d (holds_climbing slots made kept.forest c.0 l y d c.1 (own_held slots made kept.forest l d (kept.leaf_at d l e)))

@@ -6,3 +6,4 @@ pub mod Nodes
 pub mod Paths
 pub mod Fixture
 pub mod Shapes
+pub mod Ways

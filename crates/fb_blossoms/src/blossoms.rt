@@ -1,10 +1,13 @@
 ghost use Rattle.std.specs.Prelude.{◌≡◌, ◌≢◌, ℕ, [], true, IfOk, OnErr, Some};
 ghost use Rattle.fb_blossoms.specs.Links.{AreLinked};
 ghost use Rattle.fb_blossoms.specs.Paths.{AllLinked, IsEvenPath};
-ghost use Rattle.fb_blossoms.specs.Nodes.{Adds, AreOuter, IsChildHolding, IsNested, IsOddCycle, IsOuter, IsOuterOf, TakesOff, blossom, cycle_at, defects_at, is_in, is_live, leaf, node_at};
+ghost use Rattle.fb_blossoms.specs.Nodes.{Adds, AreOuter, IsChildHolding, IsNested, IsOddCycle, IsOuter, IsOuterOf, TakesOff, blossom, cycle_at, defects_at, is_in, is_live, is_on, leaf, node_at};
+ghost use Rattle.fb_blossoms.specs.Ways.{AllHold};
 
 use crate::entry::Entry;
-use crate::forest::{child_over, cycle_of, leaf_of, make_place, put_under, top_of};
+use crate::forest::{
+    child_over, cycle_of, leaf_of, make_place, parent_of, put_under, top_of, way_over,
+};
 use crate::legs::even_path;
 use crate::{CycleStep, LinkId, Links, NoMemory, NodeId};
 use slab::Slab;
@@ -155,6 +158,33 @@ impl Blossoms {
         ensures { IfOk result (λ path. IsEvenPath links.now self.now node a b path.items) }
     {
         even_path(alloc, self, links, node, a, b)
+    }
+
+    /// The child of the blossom that holds the defect, and nodes below it that hold it, from its leaf up.
+    pub(crate) fn way_to(
+        &self,
+        alloc: Global,
+        node: NodeId,
+        defect: u32,
+    ) -> Result<(NodeId, Vec<NodeId>), NoMemory>
+        requires blossom { cycle_at self.now node ≢ [] }
+        requires holds { is_in (defects_at self.now node) defect ≡ true }
+        ensures { IfOk result (λ r. IsChildHolding self.now node defect r.0 × AllHold self.now defect r.1.items) }
+    {
+        let Some(leaf) = leaf_of(&self.leaves, defect) else {
+            unreachable!()
+        };
+        way_over(alloc, &self.nodes, self.made, node, leaf)
+    }
+
+    /// Whether the one node is in the cycle of the other.
+    pub(crate) fn is_child(&self, node: NodeId, child: NodeId) -> bool
+        ensures { result ≡ true → is_on (cycle_at self.now node) child ≡ true }
+    {
+        let Some(parent) = parent_of(&self.nodes, child) else {
+            return false;
+        };
+        parent == node
     }
 
     /// The steps of the blossom's cycle; none for a leaf.

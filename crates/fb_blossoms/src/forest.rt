@@ -1,4 +1,4 @@
-ghost use Rattle.std.specs.Prelude.{◌≡◌, ◌+◌, ◌^◌, ◌<◌, ◌==◌, ℕ, if◌then◌else◌, option_map, true, suc, get_or, None, OnOk, vec_len};
+ghost use Rattle.std.specs.Prelude.{◌≡◌, ◌+◌, ◌^◌, ◌<◌, ◌==◌, ℕ, if◌then◌else◌, option_map, true, suc, get_or, [], ◌∷◌, ◌++◌, All, None, IfOk, OnOk, vec_len};
 ghost use Rattle.slab.specs.Slab.{HasRoomFor, get};
 ghost use Rattle.fb_blossoms.specs.Nodes.{is_on};
 ghost use Rattle.fb_blossoms.specs.Forest.{Climbs, IsForest, IsTopOf, IsChildOver, is_kept, parent_at, steps_at, under};
@@ -6,6 +6,7 @@ ghost use Rattle.fb_blossoms.specs.Forest.{Climbs, IsForest, IsTopOf, IsChildOve
 use crate::entry::Entry;
 use crate::{CycleStep, NoMemory, NodeId};
 use slab::Slab;
+use std::alloc::Global;
 
 /// The blossom in whose cycle the node is.
 pub fn parent_of(nodes: &Slab<Entry>, node: NodeId) -> Option<NodeId>
@@ -62,6 +63,39 @@ pub fn child_over(nodes: &Slab<Entry>, made: u64, node: NodeId, leaf: NodeId) ->
         child = parent;
     }
     unreachable!()
+}
+
+/// The child of the node on the way up to it from a leaf below it, and the nodes on the way before it.
+pub fn way_over(
+    alloc: Global,
+    nodes: &Slab<Entry>,
+    made: u64,
+    node: NodeId,
+    leaf: NodeId,
+) -> Result<(NodeId, Vec<NodeId>), NoMemory>
+    requires forest { IsForest nodes.now.slots made }
+    requires below { (k : ℕ) × Climbs nodes.now.slots (suc k) leaf node }
+    ensures { IfOk result (λ r. IsChildOver nodes.now.slots node leaf r.0 × All (λ x. (k : ℕ) × Climbs nodes.now.slots k leaf x) r.1.items) }
+{
+    let mut before = Vec::new(alloc);
+    let mut child = leaf;
+    while let Some(parent) = parent_of(nodes, child) {
+        if parent == node {
+            return Ok((child, before));
+        }
+        push_node(&mut before, child)?;
+        child = parent;
+    }
+    unreachable!()
+}
+
+fn push_node(before: &mut Vec<NodeId>, node: NodeId) -> Result<(), NoMemory>
+    ensures { OnOk result (before.new.items ≡ before.old.items ++ node ∷ []) }
+{
+    let Ok(()) = before.push(node) else {
+        return Err(NoMemory);
+    };
+    Ok(())
 }
 
 /// The leaf of the defect.

@@ -3,7 +3,9 @@ ghost use Rattle.fb_blossoms.specs.Nodes.{cycle_at, defects_at, is_in, is_on};
 ghost use Rattle.fb_blossoms.specs.Links.{IsLinkBetween};
 ghost use Rattle.fb_blossoms.specs.Paths.{AllLinked, IsEvenPath};
 ghost use Rattle.fb_blossoms.specs.Legs.{AreEnds, AreLegsOf, GoesOn, IsLeg, Replaces, link_after, node_after, place_after};
+ghost use Rattle.fb_blossoms.specs.Ways.{AreWays};
 
+use crate::ways::{Ways, child_on};
 use crate::{Blossoms, CycleStep, LinkId, Links, NoMemory, NodeId};
 use std::alloc::Global;
 
@@ -168,6 +170,7 @@ fn legs_between(
     alloc: Global,
     blossoms: &Blossoms,
     links: &Links,
+    ways: &mut Ways,
     node: NodeId,
     from: u32,
     to: u32,
@@ -176,14 +179,18 @@ fn legs_between(
     requires from { is_in (defects_at blossoms.now node) from ≡ true }
     requires to { is_in (defects_at blossoms.now node) to ≡ true }
     requires linked { AllLinked links.now blossoms.now }
-    ensures { IfOk result (λ legs. AreLegsOf links.now blossoms.now node from to legs.items) }
+    requires ways { AreWays blossoms.now ways.old }
+    ensures ways { AreWays blossoms.now ways.new }
+    ensures legs { IfOk result (λ legs. AreLegsOf links.now blossoms.now node from to legs.items) }
 {
     blossoms.keeps();
     let cycle = blossoms.cycle(node);
-    let Some(start) = place_of(cycle, blossoms.child_holding(node, to)) else {
+    let last = child_on(alloc, blossoms, &mut ways.to_end, node, to)?;
+    let Some(start) = place_of(cycle, last) else {
         unreachable!()
     };
-    let Some(place) = place_of(cycle, blossoms.child_holding(node, from)) else {
+    let first = child_on(alloc, blossoms, &mut ways.to_start, node, from)?;
+    let Some(place) = place_of(cycle, first) else {
         unreachable!()
     };
     let (onward, steps) = even_way(cycle.len(), start, place);
@@ -203,6 +210,7 @@ fn go_inside(
     alloc: Global,
     blossoms: &Blossoms,
     links: &Links,
+    ways: &mut Ways,
     todo: &mut Vec<Leg>,
     node: NodeId,
     from: u32,
@@ -210,13 +218,15 @@ fn go_inside(
 ) -> Result<(), NoMemory>
     requires leg { IsLeg blossoms.now (Leg.Inside node from to) }
     requires linked { AllLinked links.now blossoms.now }
-    ensures { OnOk result (Replaces links.now blossoms.now todo.old.items (Leg.Inside node from to) [] todo.new.items) }
+    requires ways { AreWays blossoms.now ways.old }
+    ensures ways { AreWays blossoms.now ways.new }
+    ensures legs { OnOk result (Replaces links.now blossoms.now todo.old.items (Leg.Inside node from to) [] todo.new.items) }
 {
     if from == to {
         return Ok(());
     }
     blossoms.keeps();
-    let legs = legs_between(alloc, blossoms, links, node, from, to)?;
+    let legs = legs_between(alloc, blossoms, links, ways, node, from, to)?;
     let Ok(()) = todo.extend_from_slice(&legs) else {
         return Err(NoMemory);
     };
@@ -238,17 +248,22 @@ fn go(
     alloc: Global,
     blossoms: &Blossoms,
     links: &Links,
+    ways: &mut Ways,
     todo: &mut Vec<Leg>,
     path: &mut Vec<LinkId>,
     leg: Leg,
 ) -> Result<(), NoMemory>
     requires leg { IsLeg blossoms.now leg }
     requires linked { AllLinked links.now blossoms.now }
-    ensures { OnOk result (GoesOn links.now blossoms.now todo.old.items leg path.old.items todo.new.items path.new.items) }
+    requires ways { AreWays blossoms.now ways.old }
+    ensures ways { AreWays blossoms.now ways.new }
+    ensures legs { OnOk result (GoesOn links.now blossoms.now todo.old.items leg path.old.items todo.new.items path.new.items) }
 {
     match leg {
         Leg::Over(link) => go_over(path, link),
-        Leg::Inside(node, from, to) => go_inside(alloc, blossoms, links, todo, node, from, to),
+        Leg::Inside(node, from, to) => {
+            go_inside(alloc, blossoms, links, ways, todo, node, from, to)
+        }
     }
 }
 
@@ -266,11 +281,12 @@ pub fn even_path(
     requires linked { AllLinked links.now blossoms.now }
     ensures { IfOk result (λ path. IsEvenPath links.now blossoms.now node from to path.items) }
 {
+    let mut ways = Ways::new(alloc);
     let mut todo = Vec::new(alloc);
     let mut path = Vec::new(alloc);
     push_leg(&mut todo, Leg::Inside(node, from, to))?;
     while let Some(leg) = todo.pop() {
-        go(alloc, blossoms, links, &mut todo, &mut path, leg)?;
+        go(alloc, blossoms, links, &mut ways, &mut todo, &mut path, leg)?;
     }
     Ok(path)
 }

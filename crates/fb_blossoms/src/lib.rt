@@ -12,6 +12,7 @@ mod legs;
 mod nested_tests;
 #[cfg(test)]
 mod tests;
+mod ways;
 
 pub use blossoms::Blossoms;
 pub use fb_links::{CycleStep, LinkId, Links, NoMemory, NodeId};
