@@ -27,12 +27,13 @@ fn begins(cycle: &[CycleStep], a: CycleStep, b: CycleStep, c: CycleStep) -> bool
     *x == a && *y == b && *z == c
 }
 
-/// The leaves 0 to 2 of 0 to 2, their blossom 3, the leaves 4 and 5 of 3 and 4, and the blossom 6 of 3, 4 and 5.
+/// The leaves 0 to 4 of 0 to 4, the blossom 5 of the leaves 0, 1 and 2, and the blossom 6 of 5, 3 and 4.
 fn two_levels(alloc: Global) -> Result<Fixture, Refused> {
     let mut fixture = Fixture::new(alloc)?;
-    let _ = triangle(alloc, &mut fixture, 0)?;
-    let _ = fixture.leaf(alloc)?;
-    let _ = fixture.leaf(alloc)?;
+    for _ in 0..5 {
+        let _ = fixture.leaf(alloc)?;
+    }
+    let _ = fixture.join(alloc, &[(0, 0), (1, 1), (2, 2)])?;
     let _ = fixture.join(alloc, &[(0, 0), (3, 3), (4, 4)])?;
     Ok(fixture)
 }
@@ -42,7 +43,7 @@ fn a_blossom_is_in_a_blossom(rt: HostRuntime) -> Result<(), Fail> {
     let alloc = rt.alloc();
     let fixture = two_levels(alloc)?;
     assert_eq!(rt; fixture.outer(1)?, 6);
-    assert_eq!(rt; fixture.inside(1, 1)?, 3);
+    assert_eq!(rt; fixture.inside(1, 1)?, 5);
     // 1 to 2 to 0 in the inner one, and 0 to 4 to 3.
     let path = fixture.path(alloc, 0, 1, 3)?;
     assert_eq!(rt; path.as_slice(), [1, 2, 5, 4].as_slice());
@@ -55,9 +56,9 @@ fn the_outer_one_opens_up(rt: HostRuntime) -> Result<(), Fail> {
     let mut fixture = two_levels(alloc)?;
     let cycle = fixture.open(1)?;
     assert_eq!(rt; cycle.len(), 3);
-    assert!(rt; begins(&cycle, step(3, 3), step(4, 4), step(5, 5)));
-    assert_eq!(rt; fixture.outer(1)?, 3);
-    assert_eq!(rt; fixture.outer(3)?, 4);
+    assert!(rt; begins(&cycle, step(5, 3), step(3, 4), step(4, 5)));
+    assert_eq!(rt; fixture.outer(1)?, 5);
+    assert_eq!(rt; fixture.outer(3)?, 3);
     // The number is used again.
     assert_eq!(rt; fixture.leaf(alloc)?, 6);
     Ok(())
