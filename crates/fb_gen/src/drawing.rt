@@ -61,8 +61,8 @@ fn turn(flags: &mut Vec<bool>, v: u32)
     flags[v as usize] = !flag;
 }
 
-#[tactic(auto, using(crate::proofs::Hits::hits))]
 /// Draws once for each edge. A vertex gets a flag where an odd number of hit edges end there.
+#[tactic(auto, using(crate::proofs::Hits::hits))]
 fn flags_of_hits(
     alloc: Global,
     draws: &mut Draws,
