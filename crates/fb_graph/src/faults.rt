@@ -1,9 +1,7 @@
 use thiserror::Error;
 
-/// Want of memory, where it is the only error.
-#[derive(Clone, Copy, Debug, PartialEq, Eq, Error)]
-#[error("out of memory")]
-pub struct NoMemory;
+/// Want of memory, where it is the only error: what the standard library's own allocating calls return.
+pub use std::alloc::AllocError as NoMemory;
 
 /// Why numbers or a text make no decoding graph. A place is counted from 0.
 #[derive(Clone, Copy, Debug, PartialEq, Eq, Error)]

@@ -10,12 +10,12 @@ use Rattle.fb_graph.specs.Dual.{AreApart}
 use Rattle.fb_graph.proofs.Members.{is_in_pushed}
 use Rattle.fb_graph.proofs.Sums.{sum_same, sum_ones, sum_zero}
 use Rattle.fb_graph.proofs.Sets.{is_in-head}
-use Rattle.fb_laws.specs.Counts.{as_count}
-use Rattle.fb_laws.specs.Steps.{Roles, AreExclusive}
-use Rattle.fb_laws.specs.Ends.{ends_in}
+use Rattle.fb_graph.specs.Counts.{as_count}
+use Rattle.fb_graph.specs.Steps.{Roles, AreExclusive}
+use Rattle.fb_graph.specs.Ends.{ends_in}
 use Rattle.fb_laws.specs.Paths.{Joins, holds, IsWhole}
 use Rattle.fb_laws.specs.Blossoms.{IsInside, HasRole, AlternateFrom, FormedEnds, BaseAlone, PairedEnds, OpenedOnce, OpenedElsewhere, KeptChild, OddCycle, PlusBase, EvenWay}
-use Rattle.fb_laws.proofs.EndSums.{ends-cons, ends_append, ends_union, apart_sym}
+use Rattle.fb_graph.proofs.EndSums.{ends-cons, ends_append, ends_union, apart_sym}
 use Rattle.fb_laws.proofs.PathSums.{ends_between}
 
 ends_inside : (set : List ℕ) (links : List Link) → All (IsInside set) links → ends_in set links ≡ 2 * length links

@@ -6,7 +6,7 @@ use Rattle.std.proofs.lemmas.List.Sums.{sum_by-cons}
 use Rattle.std.proofs.Math.Nat.{mul-le-mul_right}
 use Rattle.fb_graph.specs.Parity.{is_in}
 use Rattle.fb_graph.proofs.Sets.{is_in-cases}
-use Rattle.fb_laws.specs.Counts.{as_count}
+use Rattle.fb_graph.specs.Counts.{as_count}
 use Rattle.fb_laws.specs.Measures.{scale_of, rank_of, IsLower, RankFalls, CountFalls}
 
 rank-le : (bound : ℕ) (xs : List ℕ) → All (λ x. x < bound) xs → rank_of bound xs + 1 ≤ scale_of bound xs

@@ -13,18 +13,19 @@ use Rattle.fb_graph.specs.Dual.{Node, IsDual, AreApart, all_cuts, leaves, cover_
 use Rattle.fb_graph.specs.declared.parts.Cut.{Cut}
 use Rattle.fb_graph.proofs.CutSums.{weigh, cond_zero}
 use Rattle.fb_graph.proofs.Members.{is_in-append, or_false}
-use Rattle.fb_laws.specs.Counts.{as_count}
-use Rattle.fb_laws.specs.Ends.{ends_in}
+use Rattle.fb_graph.specs.Counts.{as_count}
+use Rattle.fb_graph.specs.Ends.{ends_in}
 use Rattle.fb_laws.specs.Blossoms.{IsInside}
-use Rattle.fb_laws.specs.Links.{IsTightLink}
+use Rattle.fb_graph.specs.Links.{IsTightLink}
 use Rattle.fb_laws.specs.Fusion.{IsLinkOf}
 use Rattle.fb_laws.specs.Works.{IsSetOf}
 use Rattle.fb_laws.specs.Forming.{Child, sets_of, names_of, blossom_of, MatchingFormed}
 use Rattle.fb_laws.proofs.BlossomSums.{base_alone}
-use Rattle.fb_laws.proofs.Crossings.{cover_found}
-use Rattle.fb_laws.proofs.EndSums.{ends-cons, ends_append, apart_sym, apart_union}
+use Rattle.fb_graph.proofs.Crossings.{cover_found}
+use Rattle.fb_graph.proofs.EndSums.{ends-cons, ends_append, apart_sym, apart_union}
 use Rattle.fb_laws.proofs.MatchedNodes.{set_relation, all_after}
-use Rattle.fb_laws.proofs.MergedParts.{HoldsIn, cuts_merged, leaves_merged, outer_in, side_of, distinct_across, named_at, names_merged}
+use Rattle.fb_laws.proofs.MergedParts.{HoldsIn, side_of, distinct_across, named_at}
+use Rattle.fb_graph.proofs.AppendedNodes.{cuts_merged, leaves_merged, outer_in, names_merged}
 
 -- links inside a set have no end in one apart from it
 inside_elsewhere : (set union : List ℕ) (links : List Link) → AreApart set union → All (IsInside union) links → ends_in set links ≡ 0

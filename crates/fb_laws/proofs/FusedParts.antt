@@ -15,12 +15,12 @@ use Rattle.fb_graph.proofs.CutSums.{weigh_none}
 use Rattle.fb_graph.proofs.ParitySums.{differ-false, false-differ, odd-append, odd_agree, odd_none}
 use Rattle.fb_graph.proofs.Sets.{is_in-All}
 use Rattle.fb_graph.proofs.Sums.{sum_same, sum_zero}
-use Rattle.fb_laws.specs.Counts.{as_count}
+use Rattle.fb_graph.specs.Counts.{as_count}
 use Rattle.fb_laws.specs.Fusion.{IsLinkOf, AreParts, PartsTurned, LinkEndsAway, TightFused, TightFusedRight, FusedEnds, BoundaryHeight, HeightFused, Forgotten, SeamParity, FusedPerfect}
-use Rattle.fb_laws.proofs.EndSums.{ends-cons}
+use Rattle.fb_graph.proofs.EndSums.{ends-cons}
 use Rattle.fb_laws.proofs.PathSums.{ends_out}
 use Rattle.fb_laws.proofs.Shifts.{walk_same}
-use Rattle.fb_laws.proofs.TightLinks.{boundary_parity}
+use Rattle.fb_graph.proofs.TightLinks.{boundary_parity}
 
 pub parts_turned : PartsTurned
 parts_turned left right whole parts = record {

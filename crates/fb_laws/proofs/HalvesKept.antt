@@ -16,21 +16,21 @@ use Rattle.fb_graph.specs.declared.parts.Cut.{Cut}
 use Rattle.fb_graph.proofs.CutSums.{weigh}
 use Rattle.fb_graph.proofs.ParitySums.{odd_agree}
 use Rattle.fb_graph.proofs.Sets.{member_of_odd}
-use Rattle.fb_laws.specs.Counts.{as_count}
-use Rattle.fb_laws.specs.Steps.{stepped, stepped_node}
-use Rattle.fb_laws.specs.Ends.{ends_in, AreAllApart}
-use Rattle.fb_laws.specs.Links.{pair, IsTightLink}
+use Rattle.fb_graph.specs.Counts.{as_count}
+use Rattle.fb_graph.specs.Steps.{stepped, stepped_node}
+use Rattle.fb_graph.specs.Ends.{ends_in, AreAllApart}
+use Rattle.fb_graph.specs.Links.{pair, IsTightLink}
 use Rattle.fb_laws.specs.Fusion.{IsLinkOf}
 use Rattle.fb_laws.specs.Opening.{IsWithinOne, EndAtDefects}
-use Rattle.fb_laws.specs.Sprouts.{Sprout, node_of, nodes_of}
+use Rattle.fb_graph.specs.Sprouts.{Sprout, node_of, nodes_of}
 use Rattle.fb_laws.specs.Works.{HasDefects, positive_cuts, outer_nodes, outer_sets, WorkBegins, MatchingStepped, MatchingPermuted, PositivePacking, PositiveLoads, PositiveTotal, CutUnderOne, HalfLevel, HalfSolved}
-use Rattle.fb_laws.proofs.Crossings.{under_or_not, cover_holds, found_place}
-use Rattle.fb_laws.proofs.EndSums.{ends_permuted}
+use Rattle.fb_graph.proofs.Crossings.{under_or_not, cover_holds, found_place}
+use Rattle.fb_graph.proofs.EndSums.{ends_permuted}
 use Rattle.fb_laws.proofs.OpenedLevels.{first_level, levels_opened, level_solved}
 use Rattle.fb_laws.proofs.PotentialParities.{one_parity_stepped}
-use Rattle.fb_laws.proofs.SproutStates.{beginning_is_dual, leaves_are, bare_height}
-use Rattle.fb_laws.proofs.StepHeights.{outer_stepped, leaves_stepped}
-use Rattle.fb_laws.proofs.StepLoads.{tight_stepped}
+use Rattle.fb_graph.proofs.SproutStates.{beginning_is_dual, leaves_are, bare_height}
+use Rattle.fb_graph.proofs.StepHeights.{outer_stepped, leaves_stepped}
+use Rattle.fb_graph.proofs.StepLoads.{tight_stepped}
 
 pub name_in_all : (sprouts : List Sprout) → All (λ s. is_in (map (λ t. t.name) sprouts) s.name ≡ true) sprouts
 name_in_all [] = All-nil (λ s. is_in [] s.name ≡ true)

@@ -18,19 +18,20 @@ use Rattle.fb_graph.specs.declared.parts.Cut.{Cut}
 use Rattle.fb_graph.proofs.CutSums.{weigh, cond_zero}
 use Rattle.fb_graph.proofs.Members.{is_in-append}
 use Rattle.fb_graph.proofs.Sets.{is_in-cases, is_in-head, is_in-tail, is_in-filter}
-use Rattle.fb_laws.specs.Counts.{as_count}
-use Rattle.fb_laws.specs.Ends.{AreAllApart}
+use Rattle.fb_graph.specs.Counts.{as_count}
+use Rattle.fb_graph.specs.Ends.{AreAllApart}
 use Rattle.fb_laws.specs.Forming.{Child, sets_of, names_of, blossom_of, IsCycle}
 use Rattle.fb_laws.specs.Opening.{EndAtDefects}
 use Rattle.fb_laws.specs.Works.{AreMatchedLinks, IsMatching, IsSetOf, without}
 use Rattle.fb_laws.specs.Trees.{Entry, Connects, grown_links, paired_links, tree_names}
 use Rattle.fb_laws.specs.SearchBlossoms.{renamed, inner_branches, outer_branches, joined_tree, SearchJoined}
-use Rattle.fb_laws.proofs.Crossings.{cover_found, cover_holds}
+use Rattle.fb_graph.proofs.Crossings.{cover_found, cover_holds}
 use Rattle.fb_laws.proofs.FormedNodes.{matching_formed}
 use Rattle.fb_laws.proofs.HalvesKept.{matching_permuted}
 use Rattle.fb_laws.proofs.JoinedTrees.{names_kept, distinct_kept, tree_kept, inner_inside, grown_joined, paired_joined, new_in, new_out}
 use Rattle.fb_laws.proofs.MatchedNodes.{set_relation}
-use Rattle.fb_laws.proofs.MergedParts.{cuts_merged, leaves_merged, distinct_across, named_at, names_merged}
+use Rattle.fb_laws.proofs.MergedParts.{distinct_across, named_at}
+use Rattle.fb_graph.proofs.AppendedNodes.{cuts_merged, leaves_merged, names_merged}
 use Rattle.fb_laws.proofs.SearchEnds.{links_part}
 use Rattle.fb_laws.proofs.SearchStates.{named_set, unmatched_outside}
 use Rattle.fb_laws.proofs.SearchTrees.{cover_place, cover_set}

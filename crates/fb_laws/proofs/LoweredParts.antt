@@ -9,23 +9,24 @@ use Rattle.fb_graph.specs.Dual.{Node, leaves, cover_of, is_empty, is_live, is_ou
 use Rattle.fb_graph.proofs.ParitySums.{and-true}
 use Rattle.fb_graph.proofs.Sets.{is_in-head, is_in-tail, is_in-range, All-from_is_in, member_of_odd}
 use Rattle.fb_graph.proofs.Sums.{sum_same, sum_le}
-use Rattle.fb_laws.specs.Counts.{as_count}
-use Rattle.fb_laws.specs.Covers.{is_over, passes}
-use Rattle.fb_laws.specs.Steps.{Roles, stepped, stepped_node}
+use Rattle.fb_graph.specs.Counts.{as_count}
+use Rattle.fb_graph.specs.Covers.{is_over, passes}
+use Rattle.fb_graph.specs.Steps.{Roles, stepped, stepped_node}
 use Rattle.fb_laws.specs.Trees.{plus_names, minus_names, tree_names}
 use Rattle.fb_laws.specs.SearchLayers.{defects_beside, blossoms_beside, layers_in, FreeLowers, AttachLowers, AbsorbLowers, UncoverLowers}
 use Rattle.fb_laws.specs.Forming.{blossom_of, names_of}
 use Rattle.fb_laws.specs.SearchOpenings.{OpenedLowers}
 use Rattle.fb_laws.specs.SearchBlossoms.{renamed, joined_tree, JoinedLowers}
-use Rattle.fb_laws.proofs.Crossings.{cover_found, some_passes}
+use Rattle.fb_graph.proofs.Crossings.{cover_found, some_passes}
 use Rattle.fb_laws.proofs.FallingRanks.{count_falls}
 use Rattle.fb_laws.proofs.JoinedSearches.{cover_formed, leaves_formed}
 use Rattle.fb_laws.proofs.JoinedTrees.{plus_kept, new_in}
 use Rattle.fb_laws.proofs.MatchedNodes.{odd_top}
 use Rattle.fb_laws.proofs.SearchStates.{named_set}
-use Rattle.fb_laws.proofs.LayeredSearches.{leaves_taller, taller_covers, taller_covered}
+use Rattle.fb_laws.proofs.LayeredSearches.{taller_covered}
+use Rattle.fb_graph.proofs.TallerNodes.{leaves_taller, taller_covers}
 use Rattle.fb_laws.proofs.SearchTrees.{connected, connects_sym, plus_in_tree, minus_in_tree, exclusive_names}
-use Rattle.fb_laws.proofs.StepHeights.{cover_stepped, leaves_stepped}
+use Rattle.fb_graph.proofs.StepHeights.{cover_stepped, leaves_stepped}
 
 -- one number that passes fewer tests is counted less
 same_count : (test before : ℕ → Bool) (xs : List ℕ) → ((x : ℕ) → is_in xs x ≡ true → test x ≡ before x) → count_by test xs ≡ count_by before xs

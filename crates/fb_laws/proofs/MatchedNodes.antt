@@ -9,15 +9,15 @@ use Rattle.fb_graph.specs.Laws.{Link}
 use Rattle.fb_graph.specs.Dual.{Node, IsDual, all_cuts, leaves, is_outer, node_at, no_node, AreApart}
 use Rattle.fb_graph.proofs.Nodes.{All-cuts-at, All-top, All-below}
 use Rattle.fb_graph.proofs.Sets.{member_of_odd, is_in-filter}
-use Rattle.fb_laws.specs.Counts.{as_count}
-use Rattle.fb_laws.specs.Ends.{ends_in}
+use Rattle.fb_graph.specs.Counts.{as_count}
+use Rattle.fb_graph.specs.Ends.{ends_in}
 use Rattle.fb_laws.specs.Paths.{Branch, IsPath, LeadsOut, tip_of, tree_links, matched_links, holds, IsWhole, AreWholeOnPath}
-use Rattle.fb_laws.specs.Links.{IsTightLink}
+use Rattle.fb_graph.specs.Links.{IsTightLink}
 use Rattle.fb_laws.specs.Fusion.{IsLinkOf}
 use Rattle.fb_laws.specs.Works.{AreMatchedLinks, IsSetOf, IsBranchOf, without, MatchingReleased, MatchingAugmented, MatchingMet}
 use Rattle.fb_laws.proofs.BlossomSums.{whole_apart, whole_itself, holds_apart, holds_itself}
-use Rattle.fb_laws.proofs.Crossings.{one_of_name}
-use Rattle.fb_laws.proofs.EndSums.{apart_sym, ends_append, ends-cons}
+use Rattle.fb_graph.proofs.Crossings.{one_of_name}
+use Rattle.fb_graph.proofs.EndSums.{apart_sym, ends_append, ends-cons}
 use Rattle.fb_laws.proofs.FusedParts.{not_held}
 use Rattle.fb_laws.proofs.PathSums.{augmented, ends_out}
 

@@ -1,52 +1,36 @@
 -- Two states as one.
-use Rattle.std.proofs.Common.{ℕ, zero, suc, ◌≡◌, ◌+◌, ◌%◌, ◌<◌, ◌==◌, ◌&&◌, ◌||◌, ◌⊎◌, inl, inr, cond, Bool, true, false, List, [], ◌∷◌, ◌++◌, map, length, All, Option, Some, None, get_or, refl, sym, ap, ◌∙◌, subst, arith}
-use Rattle.std.specs.List.{find, list_any}
+use Rattle.std.proofs.Common.{ℕ, zero, suc, ◌≡◌, ◌+◌, ◌%◌, ◌<◌, ◌==◌, ◌&&◌, ◌||◌, ◌⊎◌, inl, inr, cond, Bool, true, false, List, ◌∷◌, ◌++◌, map, length, All, Option, Some, None, get_or, refl, sym, ap, ◌∙◌, subst, arith, []}
+use Rattle.std.specs.List.{find}
 use Rattle.std.specs.Option.{option_map, option_or}
-use Rattle.std.proofs.lemmas.Bool.{both_ways, false≢true, false_from_ne_true, or_cases, or_parts, or_left, or_right, and_parts, eq-eqb, eqb-true, not-true, not_from_false}
-use Rattle.std.proofs.lemmas.List.Concat.{flat_map-append}
+use Rattle.std.proofs.lemmas.Bool.{both_ways, false≢true, false_from_ne_true, or_cases, or_parts, or_left, or_right, and_parts, eq-eqb, eqb-true}
 use Rattle.std.proofs.lemmas.List.Elements.{All-append, All-from_get_or}
-use Rattle.std.proofs.lemmas.List.Folds.{find-append, list_any-append}
+use Rattle.std.proofs.lemmas.List.Folds.{find-append}
 use Rattle.fb_graph.specs.Parity.{is_in}
 use Rattle.fb_graph.specs.Problem.{Problem, edge_at}
 use Rattle.fb_graph.specs.Certificate.{AreDistinct, IsOddCut}
 use Rattle.fb_graph.specs.Laws.{Link, IsTight, IsPart, has_real_end}
-use Rattle.fb_graph.specs.Dual.{Node, IsDual, all_cuts, layers_of, leaves, defects_of, cover_of, height_of, is_outer, is_live, node_at, no_node}
+use Rattle.fb_graph.specs.Dual.{Node, IsDual, all_cuts, leaves, cover_of, height_of, is_outer, is_live, node_at, no_node}
 use Rattle.fb_graph.specs.declared.parts.Edge.{Edge}
 use Rattle.fb_graph.specs.declared.parts.Cut.{Cut}
 use Rattle.fb_graph.proofs.Members.{is_in-append}
 use Rattle.fb_graph.proofs.Sets.{is_in-All}
-use Rattle.fb_laws.specs.Counts.{as_count}
-use Rattle.fb_laws.specs.Ends.{ends_in}
-use Rattle.fb_laws.specs.Links.{IsTightLink}
+use Rattle.fb_graph.specs.Counts.{as_count}
+use Rattle.fb_graph.specs.Ends.{ends_in}
+use Rattle.fb_graph.specs.Links.{IsTightLink}
 use Rattle.fb_laws.specs.Fusion.{IsLinkOf, AreParts}
 use Rattle.fb_laws.specs.Works.{HasDefects}
 use Rattle.fb_laws.specs.Merging.{MatchingsMerged}
-use Rattle.fb_laws.proofs.Crossings.{cover_found, found_place}
-use Rattle.fb_laws.proofs.EndSums.{ends_append}
+use Rattle.fb_graph.proofs.Crossings.{cover_found, found_place}
+use Rattle.fb_graph.proofs.EndSums.{ends_append}
 use Rattle.fb_laws.proofs.FusedParts.{parts_turned, link_ends_away, tight_fused, tight_fused_right, fused_ends, boundary_height, height_fused}
 use Rattle.fb_laws.proofs.HalvesKept.{odd_of_part}
 use Rattle.fb_laws.proofs.MatchedNodes.{odd_top}
 use Rattle.fb_laws.proofs.Shifts.{walk_same}
 use Rattle.std.proofs.lemmas.List.Sums.{sum_by-append}
-
-pub cuts_merged : (nodes others : List Node) → all_cuts (nodes ++ others) ≡ all_cuts nodes ++ all_cuts others
-cuts_merged nodes others = flat_map-append layers_of nodes others
-
-pub leaves_merged : (nodes others : List Node) → leaves (nodes ++ others) ≡ leaves nodes ++ leaves others
-leaves_merged nodes others = flat_map-append defects_of nodes others
+use Rattle.fb_graph.proofs.AppendedNodes.{cuts_merged, leaves_merged, names_merged, outer_in}
 
 pub odd_in : (p : Problem) (nodes : List Node) → IsDual p nodes → HasDefects p nodes → All (IsOddCut p) (all_cuts nodes)
 odd_in p nodes dual defects i d less = odd_of_part p nodes (get_or (all_cuts nodes) i d) defects (dual.packing.odd i d less)
-
--- an outer node of both lists is one of each that has it
-pub outer_in : (nodes others : List Node) (name : ℕ) → is_outer (nodes ++ others) name ≡ true
-    → (is_outer nodes name ≡ true) × (is_outer others name ≡ true)
-outer_in nodes others name outer =
-    let parts = or_parts (list_any has nodes) (list_any has others) (sym (list_any-append has nodes others) ∙ not-true _ outer) in
-    (not_from_false _ parts.0, not_from_false _ parts.1)
-  where
-    has : Node → Bool
-    has n = is_in n.children name
 
 -- a node of the list has the name, is outer in both lists together, and holds the vertex
 abbrev pub HoldsIn : List Node → List Node → ℕ → ℕ → Type 0
@@ -107,10 +91,6 @@ pub named_at : (ns : List Node) (j : ℕ) → j < length ns → is_in (map (λ n
 named_at [] j less = absurd (omega arith)
 named_at (n ∷ ns) zero less = or_left (n.name == n.name) _ (eq-eqb n.name n.name refl)
 named_at (n ∷ ns) (suc j) less = or_right (n.name == (node_at ns j).name) _ (named_at ns j (omega arith))
-
-pub names_merged : (nodes others : List Node) → map (λ n. n.name) (nodes ++ others) ≡ map (λ n. n.name) nodes ++ map (λ n. n.name) others
-names_merged [] others = refl
-names_merged (n ∷ ns) others = ap (λ l. n.name ∷ l) (names_merged ns others)
 
 -- the defects of a part are real in it
 pub leaf_real : (p : Problem) (nodes : List Node) (v : ℕ) → IsDual p nodes → is_in (leaves nodes) v ≡ true → p.is_real v ≡ true

@@ -14,21 +14,21 @@ use Rattle.fb_graph.proofs.Members.{is_in_pushed}
 use Rattle.fb_graph.proofs.Sets.{is_in-All, is_in-head, is_in-tail}
 use Rattle.fb_laws.specs.Forming.{Child, blossom_of, names_of, sets_of}
 use Rattle.fb_laws.specs.Works.{IsSetOf}
-use Rattle.fb_laws.specs.Nests.{IsNest}
-use Rattle.fb_laws.specs.Moves.{MayUncover, joined, lower, taken_up, uncovered}
+use Rattle.fb_graph.specs.Nests.{IsNest}
+use Rattle.fb_graph.specs.Moves.{MayUncover, joined, lower, taken_up, uncovered}
 use Rattle.fb_laws.specs.Measures.{IsLower}
 use Rattle.fb_laws.specs.SearchBlossoms.{inner_branches, joined_tree, renamed}
 use Rattle.fb_laws.specs.SearchLayers.{left_to_do}
 use Rattle.fb_laws.specs.Trees.{Entry, minus_names, roles_of}
 use Rattle.fb_laws.specs.NestBridges.{BlossomNamed, BlossomOuter, JoiningAllowed, JoiningLowers, TakenUpLowers, UncoveredBack, UncoveredLowers}
-use Rattle.fb_laws.proofs.Among.{IsAmong, All_among, among_either, among_live, among_map, among_outer, map_among, apart_among, cover_among, same_among}
-use Rattle.fb_laws.proofs.ChangedNodes.{change, by_name}
-use Rattle.fb_laws.proofs.JoinedNests.{nest_joined}
-use Rattle.fb_laws.proofs.LoweredNests.{at, there, bare, layers, kept, same_leaves, added, no_defect}
+use Rattle.fb_graph.proofs.Among.{IsAmong, All_among, among_either, among_live, among_map, among_outer, map_among, apart_among, cover_among, same_among}
+use Rattle.fb_graph.proofs.ChangedNodes.{change, by_name}
+use Rattle.fb_graph.proofs.JoinedNests.{nest_joined}
+use Rattle.fb_graph.proofs.LoweredNests.{at, there, bare, layers, kept, same_leaves, added, no_defect}
 use Rattle.fb_laws.proofs.LoweredParts.{absorb_lowers, joined_lowers, uncover_lowers}
-use Rattle.fb_laws.proofs.MappedNodes.{mapped_outer}
+use Rattle.fb_graph.proofs.MappedNodes.{mapped_outer}
 use Rattle.fb_laws.proofs.MergedParts.{distinct_across, live_at}
-use Rattle.fb_laws.proofs.NestParts.{top_is_odd}
+use Rattle.fb_graph.proofs.NestParts.{top_is_odd}
 use Rattle.fb_laws.proofs.SearchTrees.{top_at_place}
 
 sets_named : (nodes : List Node) (children : List Child) → AreDistinct (map (λ n. n.name) nodes)

@@ -10,15 +10,15 @@ use Rattle.fb_graph.specs.Dual.{Node, AreApart, AreGrown, IsWithin, all_cuts, is
 use Rattle.fb_graph.specs.declared.parts.Cut.{Cut}
 use Rattle.fb_graph.proofs.Nodes.{All-flat_map, layers_within}
 use Rattle.fb_graph.proofs.Sets.{All-from_is_in, is_in-All, is_in-head, is_in-tail}
-use Rattle.fb_laws.specs.Ends.{AreAllApart}
+use Rattle.fb_graph.specs.Ends.{AreAllApart}
 use Rattle.fb_laws.specs.Opening.{IsAlikeOver, IsWithinOne}
 use Rattle.fb_laws.specs.Works.{positive_cuts}
-use Rattle.fb_laws.specs.Nests.{IsNest, IsFilled, child_sets, first_set}
+use Rattle.fb_graph.specs.Nests.{IsNest, IsFilled, child_sets, first_set}
 use Rattle.fb_laws.specs.NestSolutions.{NestOpened}
-use Rattle.fb_laws.proofs.Among.{IsAmong, All_among, among_All, apart_of_two, in_concat, live_among, top_among}
-use Rattle.fb_laws.proofs.Forests.{child_within, first_held}
+use Rattle.fb_graph.proofs.Among.{IsAmong, All_among, among_All, apart_of_two, in_concat, live_among, top_among}
+use Rattle.fb_graph.proofs.Forests.{child_within, first_held}
 use Rattle.fb_laws.proofs.NestOrders.{Relates, filled_by, related}
-use Rattle.fb_laws.proofs.NestParts.{grove_of}
+use Rattle.fb_graph.proofs.NestParts.{grove_of}
 
 -- sets that lie apart do so in another order
 apart_some : (f : ℕ → List ℕ) (all some : List ℕ) → AreAllApart (map f all) → AreDistinct some

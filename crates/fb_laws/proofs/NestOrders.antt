@@ -10,13 +10,14 @@ use Rattle.fb_graph.specs.Dual.{Node, AreApart, AreGrown, AreOuterApart, IsWithi
 use Rattle.fb_graph.proofs.Members.{is_in-append, or_false}
 use Rattle.fb_graph.proofs.Nodes.{All-below, All-top}
 use Rattle.fb_graph.proofs.Sets.{All-from_is_in, is_in-All}
-use Rattle.fb_laws.specs.Ends.{AreAllApart}
-use Rattle.fb_laws.specs.Nests.{IsFormed, IsFilled, AreJoinedLater, child_sets, first_set}
-use Rattle.fb_laws.proofs.Among.{IsAmong, All_among, among_All, among_either, among_left, among_live, among_outer, among_pairs, among_right, apart_among, apart_of_two, in_concat, live_among, name_among, outer_among, top_among, top_left}
-use Rattle.fb_laws.proofs.EndSums.{apart_sym}
-use Rattle.fb_laws.proofs.Forests.{IsGrove, IsUnder, child_within, first_within, under_outer}
-use Rattle.fb_laws.proofs.MergedParts.{distinct_across, names_merged}
-use Rattle.fb_laws.proofs.NestParts.{map_agree}
+use Rattle.fb_graph.specs.Ends.{AreAllApart}
+use Rattle.fb_graph.specs.Nests.{IsFormed, IsFilled, AreJoinedLater, child_sets, first_set}
+use Rattle.fb_graph.proofs.Among.{IsAmong, All_among, among_All, among_either, among_left, among_live, among_outer, among_pairs, among_right, apart_among, apart_of_two, in_concat, live_among, name_among, outer_among, top_among, top_left}
+use Rattle.fb_graph.proofs.EndSums.{apart_sym}
+use Rattle.fb_graph.proofs.Forests.{IsGrove, IsUnder, child_within, first_within, under_outer}
+use Rattle.fb_laws.proofs.MergedParts.{distinct_across}
+use Rattle.fb_graph.proofs.AppendedNodes.{names_merged}
+use Rattle.fb_graph.proofs.NestParts.{map_agree}
 
 -- a forest whose outer nodes lie apart, without what its values keep
 pub record IsStand (nodes : List Node) : Type 0 where

@@ -20,23 +20,24 @@ use Rattle.fb_graph.proofs.CutSums.{total-le}
 use Rattle.fb_graph.proofs.Members.{is_in-append, or_false}
 use Rattle.fb_graph.proofs.ParitySums.{odd_agree}
 use Rattle.fb_graph.proofs.Sets.{is_in-All, member_of_odd}
-use Rattle.fb_laws.specs.Covers.{HaveParity}
-use Rattle.fb_laws.specs.Ends.{AreAllApart}
+use Rattle.fb_graph.specs.Covers.{HaveParity}
+use Rattle.fb_graph.specs.Ends.{AreAllApart}
 use Rattle.fb_laws.specs.Fusion.{AreParts}
-use Rattle.fb_laws.specs.Nests.{IsNest, IsForest, IsFormed, IsFilled, AreJoinedLater, HasSources, child_sets}
+use Rattle.fb_graph.specs.Nests.{IsNest, IsForest, IsFormed, IsFilled, AreJoinedLater, HasSources, child_sets}
 use Rattle.fb_laws.specs.NestFusion.{AreBeside, HaveOwnNames, NestsBeside, NestsMerged, NestSprouted, WalksBeside, WalksMerged, WalksSprouted}
-use Rattle.fb_laws.specs.SourceWalks.{IsEdgeIn, IsWalkInside, HasWalks, HaveWalks}
-use Rattle.fb_laws.specs.Sprouts.{Sprout, nodes_of, vertices_of}
-use Rattle.fb_laws.proofs.Among.{IsAmong, All_among, among_All, among_left, among_live, among_right, cover_among, covered_by, live_among, top_left}
-use Rattle.fb_laws.proofs.BeginningNests.{nest_begins}
+use Rattle.fb_graph.specs.SourceWalks.{IsEdgeIn, IsWalkInside, HasWalks, HaveWalks}
+use Rattle.fb_graph.specs.Sprouts.{Sprout, nodes_of, vertices_of}
+use Rattle.fb_graph.proofs.Among.{IsAmong, All_among, among_All, among_left, among_live, among_right, cover_among, covered_by, live_among, top_left}
+use Rattle.fb_graph.proofs.BeginningNests.{nest_begins}
 use Rattle.fb_laws.proofs.FusedParts.{boundary_height, not_held}
-use Rattle.fb_laws.proofs.InsertedCuts.{AreFit, pairs_head, pairs_tail}
-use Rattle.fb_laws.proofs.MergedParts.{cuts_merged, leaf_real, leaves_merged, names_merged, outer_in}
-use Rattle.fb_laws.proofs.NestParts.{map_agree, names_live, nest_of, top_is_odd}
+use Rattle.fb_graph.proofs.InsertedCuts.{AreFit, pairs_head, pairs_tail}
+use Rattle.fb_laws.proofs.MergedParts.{leaf_real}
+use Rattle.fb_graph.proofs.AppendedNodes.{cuts_merged, leaves_merged, names_merged, outer_in}
+use Rattle.fb_graph.proofs.NestParts.{map_agree, names_live, nest_of, top_is_odd}
 use Rattle.fb_laws.proofs.Shifts.{walk_same}
-use Rattle.fb_laws.proofs.SourceWalks.{walks_begin}
-use Rattle.fb_laws.proofs.SproutStates.{cuts_are, no_sum, vertex_in}
-use Rattle.fb_laws.proofs.Unions.{distinct_append}
+use Rattle.fb_graph.proofs.SourceWalks.{walks_begin}
+use Rattle.fb_graph.proofs.SproutStates.{cuts_are, no_sum, vertex_in}
+use Rattle.fb_graph.proofs.Unions.{distinct_append}
 use Rattle.fb_laws.proofs.UnmatchedNames.{absent_outer, outer_both}
 
 pairs_append : {X : Type 0} (R : X → X → Type 0) (xs ys : List X) → AllPairs R xs → AllPairs R ys

@@ -9,26 +9,26 @@ use Rattle.fb_graph.specs.Laws.{Link}
 use Rattle.fb_graph.specs.Dual.{Node, all_cuts, cover_of, height_of, is_live, is_outer, leaves, no_node, node_at}
 use Rattle.fb_graph.proofs.Members.{is_in-append}
 use Rattle.fb_graph.proofs.Sets.{is_in-All}
-use Rattle.fb_laws.specs.Covers.{HaveParity}
-use Rattle.fb_laws.specs.Links.{AreEven, IsTightLink}
+use Rattle.fb_graph.specs.Covers.{HaveParity}
+use Rattle.fb_graph.specs.Links.{AreEven, IsTightLink}
 use Rattle.fb_laws.specs.Merging.{Freed, freed_links, freed_names}
 use Rattle.fb_laws.specs.NestFusion.{NestedMerged, NestedSeam}
 use Rattle.fb_laws.specs.Paths.{LeadsOut}
-use Rattle.fb_laws.specs.Sprouts.{nodes_of}
+use Rattle.fb_graph.specs.Sprouts.{nodes_of}
 use Rattle.fb_laws.specs.UnmatchedNames.{AreOuterNames}
 use Rattle.fb_laws.specs.Works.{IsMatching, IsSetOf}
-use Rattle.fb_laws.proofs.Among.{among_live, cover_among}
-use Rattle.fb_laws.proofs.Crossings.{cover_found}
+use Rattle.fb_graph.proofs.Among.{among_live, cover_among}
+use Rattle.fb_graph.proofs.Crossings.{cover_found}
 use Rattle.fb_laws.proofs.FusedParts.{seam_parity}
 use Rattle.fb_laws.proofs.MergedParts.{matchings_merged, odd_in, real_held}
-use Rattle.fb_laws.proofs.NestParts.{names_live}
+use Rattle.fb_graph.proofs.NestParts.{names_live}
 use Rattle.fb_laws.proofs.NestUnions.{beside_of_parts, beside_of_sprouts, nests_beside, parity_beside, sprouting, sprouting_nest, walks_beside}
 use Rattle.fb_laws.proofs.PotentialParities.{parities_joined}
 use Rattle.fb_laws.proofs.SearchTrees.{all_before}
 use Rattle.fb_laws.proofs.SeamStates.{seam_opened}
-use Rattle.fb_laws.proofs.SourceWalks.{walks_begin}
-use Rattle.fb_laws.proofs.SproutStates.{cuts_are, names_are, no_sum}
-use Rattle.fb_laws.proofs.TightLinks.{turned_tight}
+use Rattle.fb_graph.proofs.SourceWalks.{walks_begin}
+use Rattle.fb_graph.proofs.SproutStates.{cuts_are, names_are, no_sum}
+use Rattle.fb_graph.proofs.TightLinks.{turned_tight}
 use Rattle.fb_laws.proofs.UnmatchedNames.{outer_beside, outer_sprouted}
 
 -- a node that covers a vertex is there

@@ -8,38 +8,39 @@ use Rattle.fb_graph.specs.Dual.{Node, IsCrossed, IsDual, is_outer}
 use Rattle.fb_graph.proofs.ClosedSets.{edge_leaves}
 use Rattle.fb_graph.proofs.Sets.{is_in-filter}
 use Rattle.fb_laws.specs.Lengths.{HasPlus}
-use Rattle.fb_laws.specs.Steps.{MayStep}
+use Rattle.fb_graph.specs.Steps.{MayStep}
 use Rattle.fb_laws.specs.Forming.{names_of, blossom_of}
 use Rattle.fb_laws.specs.Trees.{Entry, plus_names, roles_of}
 use Rattle.fb_laws.specs.Searches.{IsSearch}
-use Rattle.fb_laws.specs.SearchLayers.{AreAlike}
+use Rattle.fb_graph.specs.Alike.{AreAlike}
 use Rattle.fb_laws.specs.SearchBlossoms.{joined_tree, renamed}
-use Rattle.fb_laws.specs.Nests.{IsNest}
-use Rattle.fb_laws.specs.Moves.{joined, split, taken_up, uncovered}
+use Rattle.fb_graph.specs.Nests.{IsNest}
+use Rattle.fb_graph.specs.Moves.{joined, split, taken_up, uncovered}
 use Rattle.fb_laws.specs.UnmatchedNames.{AreOuterNames}
 use Rattle.fb_laws.specs.Works.{without}
 use Rattle.fb_laws.specs.NestedSearches.{NestedWorkBegins, NestedSearchBegins, NestedFree, NestedStepped, NestedTakenUp, NestedUncovered, NestedAttached, NestedJoined, NestedOpened, NestedEnded, NestedMet, NestedReleased}
-use Rattle.fb_laws.proofs.Among.{among_All}
-use Rattle.fb_laws.proofs.BeginningNests.{nest_begins}
-use Rattle.fb_laws.proofs.Crossings.{free_step}
+use Rattle.fb_graph.proofs.Among.{among_All}
+use Rattle.fb_graph.proofs.BeginningNests.{nest_begins}
+use Rattle.fb_graph.proofs.Crossings.{free_step}
 use Rattle.fb_laws.proofs.HalvesKept.{work_begins, odd_of_part}
-use Rattle.fb_laws.proofs.JoinedNests.{nest_joined}
+use Rattle.fb_graph.proofs.JoinedNests.{nest_joined}
 use Rattle.fb_laws.proofs.JoinedSearches.{search_joined}
 use Rattle.fb_laws.proofs.JoinedThree.{root_plus}
-use Rattle.fb_laws.proofs.LayeredSearches.{search_alike, taller_alike}
-use Rattle.fb_laws.proofs.LoweredNests.{nest_uncovered}
+use Rattle.fb_laws.proofs.LayeredSearches.{search_alike}
+use Rattle.fb_graph.proofs.TallerNodes.{taller_alike}
+use Rattle.fb_graph.proofs.LoweredNests.{nest_uncovered}
 use Rattle.fb_laws.proofs.MergedParts.{odd_in}
 use Rattle.fb_laws.proofs.MoveBridges.{blossom_named, joining_allowed, no_leaf, uncovered_back}
-use Rattle.fb_laws.proofs.NestParts.{top_is_odd}
+use Rattle.fb_graph.proofs.NestParts.{top_is_odd}
 use Rattle.fb_laws.proofs.OpenedTrees.{search_opened}
-use Rattle.fb_laws.proofs.RaisedNests.{nest_taken_up}
+use Rattle.fb_graph.proofs.RaisedNests.{nest_taken_up}
 use Rattle.fb_laws.proofs.SearchEnds.{search_ended, search_met, search_released}
 use Rattle.fb_laws.proofs.SearchStates.{search_attached, search_begins, search_roles, search_stepped}
 use Rattle.fb_laws.proofs.SearchTrees.{cover_place, plus_in_tree}
-use Rattle.fb_laws.proofs.SourceWalks.{walks_begin, walks_joined, walks_split, walks_taken_up, walks_uncovered, walks_stepped}
-use Rattle.fb_laws.proofs.SplitNests.{nest_split}
+use Rattle.fb_graph.proofs.SourceWalks.{walks_begin, walks_joined, walks_split, walks_taken_up, walks_uncovered, walks_stepped}
+use Rattle.fb_graph.proofs.SplitNests.{nest_split}
 use Rattle.fb_laws.proofs.StepLengths.{greatest_step}
-use Rattle.fb_laws.proofs.SteppedNests.{nest_stepped}
+use Rattle.fb_graph.proofs.SteppedNests.{nest_stepped}
 use Rattle.fb_laws.proofs.UnmatchedNames.{outer_begin, outer_fewer, outer_joined, outer_split, outer_stepped, outer_taken_up, outer_uncovered}
 
 pub nested_work_begins : NestedWorkBegins

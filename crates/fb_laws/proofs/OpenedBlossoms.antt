@@ -11,17 +11,17 @@ use Rattle.fb_graph.specs.Certificate.{AreDistinct}
 use Rattle.fb_graph.specs.Laws.{Link}
 use Rattle.fb_graph.specs.Dual.{Node, is_empty}
 use Rattle.fb_graph.proofs.Sets.{equal_sym, is_in-All, is_in_at}
-use Rattle.fb_laws.specs.Nests.{IsNest, IsFormed, AreMany}
-use Rattle.fb_laws.specs.Moves.{MaySplit}
+use Rattle.fb_graph.specs.Nests.{IsNest, IsFormed, AreMany}
+use Rattle.fb_graph.specs.Moves.{MaySplit}
 use Rattle.fb_laws.specs.Works.{AreMatchedLinks}
 use Rattle.fb_laws.specs.Trees.{Entry, Connects}
 use Rattle.fb_laws.specs.Searches.{IsSearch}
 use Rattle.fb_laws.specs.SearchOpenings.{IsSplit, IsOpenedTree}
 use Rattle.fb_laws.specs.OpenedCycles.{Pass, Couple, ArePassed, AreCoupled, last_of, paired_of, matched_on, grown_on, matched_beside, opened_tree, IsOpenedCycle, BlossomOpened}
-use Rattle.fb_laws.proofs.Among.{IsAmong, All_among, among_right}
+use Rattle.fb_graph.proofs.Among.{IsAmong, All_among, among_right}
 use Rattle.fb_laws.proofs.CycleWays.{way_round}
 use Rattle.fb_laws.proofs.OpenedCycles.{cycle_opened}
-use Rattle.fb_laws.proofs.SplitNests.{nest_split}
+use Rattle.fb_graph.proofs.SplitNests.{nest_split}
 use Rattle.fb_laws.proofs.SplitStates.{split_at, split_off}
 
 -- names that differ do so in any order

@@ -11,9 +11,9 @@ use Rattle.fb_graph.specs.Certificate.{AreDistinct}
 use Rattle.fb_graph.specs.Laws.{Link}
 use Rattle.fb_graph.specs.Dual.{Node, IsDual, all_cuts, leaves, cover_of, is_outer, node_at, no_node, top_at}
 use Rattle.fb_graph.proofs.Sets.{is_in-cases, is_in-head, is_in-tail, member_of_odd}
-use Rattle.fb_laws.specs.Counts.{as_count}
-use Rattle.fb_laws.specs.Ends.{ends_in}
-use Rattle.fb_laws.specs.Links.{IsTightLink}
+use Rattle.fb_graph.specs.Counts.{as_count}
+use Rattle.fb_graph.specs.Ends.{ends_in}
+use Rattle.fb_graph.specs.Links.{IsTightLink}
 use Rattle.fb_laws.specs.Fusion.{IsLinkOf}
 use Rattle.fb_laws.specs.Works.{AreMatchedLinks, IsSetOf}
 use Rattle.fb_laws.specs.Trees.{Entry, Connects, IsTree, grown_links, paired_links, plus_names, minus_names, tree_names}
@@ -21,9 +21,9 @@ use Rattle.fb_laws.specs.Searches.{IsSearch}
 use Rattle.fb_laws.specs.SearchOpenings.{PairUp, IsOpenedTree}
 use Rattle.fb_laws.specs.TreeCycles.{nodes_along}
 use Rattle.fb_laws.specs.OpenedCycles.{Pass, Couple, ArePassed, AreCoupled, last_of, paired_on, paired_beside, paired_of, matched_on, grown_on, matched_beside, opened_branches, opened_tree, IsOpenedCycle, CycleOpened, StillPlus}
-use Rattle.fb_laws.proofs.Among.{IsAmong, All_among, among_left, among_right, map_among}
-use Rattle.fb_laws.proofs.Crossings.{cover_found}
-use Rattle.fb_laws.proofs.EndSums.{ends-cons, ends_of_one}
+use Rattle.fb_graph.proofs.Among.{IsAmong, All_among, among_left, among_right, map_among}
+use Rattle.fb_graph.proofs.Crossings.{cover_found}
+use Rattle.fb_graph.proofs.EndSums.{ends-cons, ends_of_one}
 use Rattle.fb_laws.proofs.JoinedThree.{mid_names}
 use Rattle.fb_laws.proofs.MatchedNodes.{all_after, odd_top}
 use Rattle.fb_laws.proofs.MergedParts.{distinct_across}
@@ -31,7 +31,7 @@ use Rattle.fb_laws.proofs.OpenedSearches.{held_by, links_split, at_ends, unheld}
 use Rattle.fb_laws.proofs.SearchStates.{links_joined, named_set}
 use Rattle.fb_laws.proofs.SearchTrees.{cover_set, matched_named, minus_in_tree, exclusive_names, all_before}
 use Rattle.fb_laws.proofs.TreePaths.{distinct_left, distinct_right, in_left, in_right, in_either, along_append, names_along, along_minus, among_minus, among_plus, tree_connects}
-use Rattle.fb_laws.proofs.Unions.{distinct_append}
+use Rattle.fb_graph.proofs.Unions.{distinct_append}
 
 pub links_left : (p : Problem) (nodes : List Node) (xs ys : List Link) → AreMatchedLinks p nodes (xs ++ ys) → AreMatchedLinks p nodes xs
 links_left p nodes xs ys are = record {

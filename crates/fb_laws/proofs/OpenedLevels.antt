@@ -15,12 +15,12 @@ use Rattle.fb_graph.proofs.Matching.{resolving}
 use Rattle.fb_graph.proofs.Members.{or_false, is_in-append}
 use Rattle.fb_graph.proofs.ParitySums.{differ_self, odd_agree, odd_none}
 use Rattle.fb_graph.proofs.Sets.{is_in-All, is_in-cases, is_in-head, is_in-tail}
-use Rattle.fb_laws.specs.Counts.{as_count}
-use Rattle.fb_laws.specs.Ends.{ends_in, AreAllApart, crossing_links}
+use Rattle.fb_graph.specs.Counts.{as_count}
+use Rattle.fb_graph.specs.Ends.{ends_in, AreAllApart, crossing_links}
 use Rattle.fb_laws.specs.Paths.{LeadsOut}
 use Rattle.fb_laws.specs.Blossoms.{ArePaired}
 use Rattle.fb_laws.specs.Opening.{IsWithinOne, IsAlikeOver, single_sets, WithinOnce, FirstLevel, NextLevel, LevelPermuted, LevelsOpened, LastLevel, LevelSolved}
-use Rattle.fb_laws.proofs.EndSums.{ends-cons, ends_append, ends_union, ends_by_crossings, ends_permuted, crossed_once, apart_sym}
+use Rattle.fb_graph.proofs.EndSums.{ends-cons, ends_append, ends_union, ends_by_crossings, ends_permuted, crossed_once, apart_sym}
 use Rattle.fb_laws.proofs.BlossomSums.{opened_once, opened_elsewhere}
 
 as_count-le : (a b : Bool) → (a ≡ true → b ≡ true) → as_count a ≤ as_count b

@@ -3,9 +3,9 @@ use Rattle.std.proofs.Common.{ℕ, ◌≡◌, ◌+◌, inl, inr, List, [], ◌�
 use Rattle.std.proofs.lemmas.List.Elements.{All-head, All-tail}
 use Rattle.fb_graph.specs.Parity.{is_in}
 use Rattle.fb_graph.specs.Laws.{Link}
-use Rattle.fb_laws.specs.Counts.{as_count}
+use Rattle.fb_graph.specs.Counts.{as_count}
 use Rattle.fb_laws.specs.Paths.{LeadsOut, Joins, Branch, tip_of, tree_links, matched_links, holds, IsWhole, AreWholeOnPath, PathsJoined, PathEnds, Augmented, AugmentedReleasing}
-use Rattle.fb_laws.proofs.EndSums.{ends_of_one, ends-cons, ends_append}
+use Rattle.fb_graph.proofs.EndSums.{ends_of_one, ends-cons, ends_append}
 
 -- a link out of a set that is not divided
 pub ends_out : (set part : List ℕ) (l : Link) (v : ℕ) → LeadsOut l part v → IsWhole set part

@@ -5,14 +5,14 @@ use Rattle.fb_graph.specs.Parity.{is_in}
 use Rattle.fb_graph.specs.Problem.{Problem}
 use Rattle.fb_graph.specs.Components.{Leads}
 use Rattle.fb_graph.specs.Dual.{Node, IsDual, all_cuts, leaves, cover_of, height_of, AreOuterApart}
-use Rattle.fb_laws.specs.Counts.{as_count}
-use Rattle.fb_laws.specs.Steps.{Roles, AllowShrinking, stepped}
-use Rattle.fb_laws.specs.Covers.{AreRoles, HaveParity, is_over, passes}
-use Rattle.fb_laws.specs.Links.{pair}
+use Rattle.fb_graph.specs.Counts.{as_count}
+use Rattle.fb_graph.specs.Steps.{Roles, AllowShrinking, stepped}
+use Rattle.fb_graph.specs.Covers.{AreRoles, HaveParity, is_over, passes}
+use Rattle.fb_graph.specs.Links.{pair}
 use Rattle.fb_laws.specs.Parities.{HaveOneParity, CoveredParity, MetParity, LinkedParity, ParitiesJoined, TreeParityStepped, OtherParityStepped, OneParityStepped}
-use Rattle.fb_laws.proofs.Crossings.{parity_of_covered, exclusive_over, exclusive_under}
-use Rattle.fb_laws.proofs.StepHeights.{cover_stepped, leaves_stepped, height_stepped}
-use Rattle.fb_laws.proofs.TightLinks.{link_parity}
+use Rattle.fb_graph.proofs.Crossings.{parity_of_covered, exclusive_over, exclusive_under}
+use Rattle.fb_graph.proofs.StepHeights.{cover_stepped, leaves_stepped, height_stepped}
+use Rattle.fb_graph.proofs.TightLinks.{link_parity}
 
 pub covered_parity : CoveredParity
 covered_parity = parity_of_covered

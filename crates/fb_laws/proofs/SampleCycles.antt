@@ -5,10 +5,10 @@ use Rattle.fb_graph.specs.Parity.{is_in}
 use Rattle.fb_graph.specs.Problem.{edge_at}
 use Rattle.fb_graph.specs.Laws.{has_real_end}
 use Rattle.fb_graph.specs.Dual.{all_cuts, is_outer}
-use Rattle.fb_laws.specs.Counts.{as_count}
-use Rattle.fb_laws.specs.Ends.{ends_in}
+use Rattle.fb_graph.specs.Counts.{as_count}
+use Rattle.fb_graph.specs.Ends.{ends_in}
 use Rattle.fb_laws.specs.Blossoms.{IsInside}
-use Rattle.fb_laws.specs.Links.{IsTightLink}
+use Rattle.fb_graph.specs.Links.{IsTightLink}
 use Rattle.fb_laws.specs.Fusion.{IsLinkOf}
 use Rattle.fb_laws.specs.Works.{IsSetOf}
 use Rattle.fb_laws.specs.Samples.{link, triangle, corner_nodes, corner_sprouts}
@@ -16,7 +16,7 @@ use Rattle.fb_laws.specs.Witnesses.{FormingWitness}
 use Rattle.fb_laws.proofs.SampleLevels.{corners_apart}
 use Rattle.fb_laws.proofs.SampleParts.{corner_height, one_height}
 use Rattle.fb_laws.proofs.SampleStates.{corners_are_sprouts}
-use Rattle.fb_laws.proofs.SproutStates.{sprouts_are_dual}
+use Rattle.fb_graph.proofs.SproutStates.{sprouts_are_dual}
 
 some_walk : (k : ℕ) (ks : List ℕ) → (k ∷ ks) ≢ []
 some_walk k ks e = cc

@@ -8,22 +8,22 @@ use Rattle.fb_graph.specs.Limits.{IsWithinLimits}
 use Rattle.fb_graph.specs.Laws.{Link, HasNoOddClosed}
 use Rattle.fb_graph.specs.Dual.{Node, AreUnderOne, all_cuts, height_of, is_empty, is_outer, leaves}
 use Rattle.fb_graph.proofs.Sets.{is_in-All}
-use Rattle.fb_laws.specs.Covers.{HasNoObstacle, IsClear}
+use Rattle.fb_graph.specs.Covers.{HasNoObstacle, IsClear}
 use Rattle.fb_laws.specs.Fusion.{IsLinkOf}
-use Rattle.fb_laws.specs.Links.{AreEven, IsTightLink}
-use Rattle.fb_laws.specs.Moves.{MaySplit, MayTakeUp, joined, uncovered}
-use Rattle.fb_laws.specs.Nests.{IsNest}
+use Rattle.fb_graph.specs.Links.{AreEven, IsTightLink}
+use Rattle.fb_graph.specs.Moves.{MaySplit, MayTakeUp, joined, uncovered}
+use Rattle.fb_graph.specs.Nests.{IsNest}
 use Rattle.fb_laws.specs.NestedSearches.{IsNestedSearch}
 use Rattle.fb_laws.specs.NestedWitnesses.{NestedWitness, EndingWitness, wide_nodes, low_nodes, wide_child, low_children}
 use Rattle.fb_laws.specs.Samples.{line, link, pair_nodes, pair_sprouts}
 use Rattle.fb_laws.specs.SearchBlossoms.{IsJoining}
 use Rattle.fb_laws.specs.Searches.{IsSearch}
 use Rattle.fb_laws.specs.SearchWitnesses.{chain_branch, chain_nodes, chain_sprouts}
-use Rattle.fb_laws.specs.Steps.{MayStep}
+use Rattle.fb_graph.specs.Steps.{MayStep}
 use Rattle.fb_laws.specs.Trees.{Entry, roles_of}
 use Rattle.fb_laws.specs.TreeWitnesses.{long_line, thin_nodes, thin_branch, crown_nodes}
 use Rattle.fb_laws.specs.Works.{AreMatchedLinks, IsSetOf}
-use Rattle.fb_laws.proofs.BeginningNests.{sprouts_are_nest}
+use Rattle.fb_graph.proofs.BeginningNests.{sprouts_are_nest}
 use Rattle.fb_laws.proofs.NestedStates.{nested_stepped, nested_taken_up, nested_uncovered}
 use Rattle.fb_laws.proofs.SampleNests.{limits_by_cases}
 use Rattle.fb_laws.proofs.SampleOpenings.{closed_nest, closed_walks, splitting_witness}
@@ -31,7 +31,7 @@ use Rattle.fb_laws.proofs.SampleParts.{of_two, work_witness}
 use Rattle.fb_laws.proofs.SampleSearches.{search_witness}
 use Rattle.fb_laws.proofs.SampleStates.{below_by_cases, may_by_cases, no_odd_closed_by, of_three}
 use Rattle.fb_laws.proofs.SampleTrees.{elsewhere, even_long, may_thin, one_link, thin_nest, thin_outer, thin_search, thin_walks}
-use Rattle.fb_laws.proofs.SourceWalks.{walks_begin}
+use Rattle.fb_graph.proofs.SourceWalks.{walks_begin}
 use Rattle.fb_laws.proofs.UnmatchedNames.{all_outer}
 
 -- four members, one after another

@@ -8,21 +8,21 @@ use Rattle.fb_graph.specs.Limits.{IsWithinLimits}
 use Rattle.fb_graph.specs.Laws.{Link}
 use Rattle.fb_graph.specs.Dual.{Node, is_live}
 use Rattle.fb_laws.specs.FusedWitnesses.{FusedWitness}
-use Rattle.fb_laws.specs.Links.{AreEven}
+use Rattle.fb_graph.specs.Links.{AreEven}
 use Rattle.fb_laws.specs.NestFusion.{HaveOwnNames}
-use Rattle.fb_laws.specs.Nests.{IsNest}
+use Rattle.fb_graph.specs.Nests.{IsNest}
 use Rattle.fb_laws.specs.NestedSearches.{IsNestedWork}
 use Rattle.fb_laws.specs.Samples.{sprout, link, line, line_part, end_sprouts, middle_sprouts}
-use Rattle.fb_laws.specs.Sprouts.{Sprout, nodes_of}
+use Rattle.fb_graph.specs.Sprouts.{Sprout, nodes_of}
 use Rattle.fb_laws.specs.Works.{IsMatching}
-use Rattle.fb_laws.proofs.Among.{All_among, live_among}
-use Rattle.fb_laws.proofs.BeginningNests.{sprouts_are_nest}
+use Rattle.fb_graph.proofs.Among.{All_among, live_among}
+use Rattle.fb_graph.proofs.BeginningNests.{sprouts_are_nest}
 use Rattle.fb_laws.proofs.NestedFusions.{nested_merged}
 use Rattle.fb_laws.proofs.SampleNests.{limits_by_cases}
 use Rattle.fb_laws.proofs.SampleParts.{of_two}
 use Rattle.fb_laws.proofs.SampleSeams.{merging_witness}
 use Rattle.fb_laws.proofs.SampleStates.{of_three}
-use Rattle.fb_laws.proofs.SourceWalks.{walks_begin}
+use Rattle.fb_graph.proofs.SourceWalks.{walks_begin}
 use Rattle.fb_laws.proofs.UnmatchedNames.{all_outer}
 
 pub own_by_cases : (nodes others : List Node) → All (λ n. is_live others n.name ≡ false) nodes → HaveOwnNames nodes others

@@ -10,26 +10,26 @@ use Rattle.fb_graph.specs.Laws.{Link, IsTight, has_real_end}
 use Rattle.fb_graph.specs.Limits.{IsEdge, IsWithinLimits}
 use Rattle.fb_graph.specs.Dual.{Node, IsCrossed, all_cuts, leaves, is_empty, is_live, is_outer, height_of}
 use Rattle.fb_graph.proofs.Sets.{is_in-All}
-use Rattle.fb_laws.specs.Counts.{as_count}
-use Rattle.fb_laws.specs.Steps.{Roles}
-use Rattle.fb_laws.specs.Covers.{AreRoles}
-use Rattle.fb_laws.specs.Ends.{ends_in}
+use Rattle.fb_graph.specs.Counts.{as_count}
+use Rattle.fb_graph.specs.Steps.{Roles}
+use Rattle.fb_graph.specs.Covers.{AreRoles}
+use Rattle.fb_graph.specs.Ends.{ends_in}
 use Rattle.fb_laws.specs.Fusion.{IsLinkOf}
-use Rattle.fb_laws.specs.Links.{IsTightLink}
-use Rattle.fb_laws.specs.Sprouts.{nodes_of}
-use Rattle.fb_laws.specs.Nests.{IsNest}
-use Rattle.fb_laws.specs.Moves.{MayJoin, MaySplit}
+use Rattle.fb_graph.specs.Links.{IsTightLink}
+use Rattle.fb_graph.specs.Sprouts.{nodes_of}
+use Rattle.fb_graph.specs.Nests.{IsNest}
+use Rattle.fb_graph.specs.Moves.{MayJoin, MaySplit}
 use Rattle.fb_laws.specs.Samples.{link}
 use Rattle.fb_laws.specs.Works.{AreMatchedLinks, IsMatching}
 use Rattle.fb_laws.specs.Searches.{IsSearch}
 use Rattle.fb_laws.specs.CycleWitnesses.{ClosedWitness, OpenedWitness, kite, kite_sprouts, kite_leaves, kite_blossom, kite_branch, corner_links}
-use Rattle.fb_laws.proofs.BeginningNests.{nest_begins}
-use Rattle.fb_laws.proofs.JoinedNests.{nest_joined}
+use Rattle.fb_graph.proofs.BeginningNests.{nest_begins}
+use Rattle.fb_graph.proofs.JoinedNests.{nest_joined}
 use Rattle.fb_laws.proofs.SampleParts.{one_height}
 use Rattle.fb_laws.proofs.SampleSearches.{some_walk, search_witness}
 use Rattle.fb_laws.proofs.SampleStates.{may_by_cases, outer_by_cases, of_three}
 use Rattle.fb_laws.proofs.SearchStates.{links_joined}
-use Rattle.fb_laws.proofs.SteppedNests.{nest_stepped}
+use Rattle.fb_graph.proofs.SteppedNests.{nest_stepped}
 
 pub closed_witness : ClosedWitness
 closed_witness = (

@@ -10,8 +10,8 @@ use Rattle.fb_graph.specs.Laws.{Link, IsTight, IsPart, IsPerfect, has_real_end, 
 use Rattle.fb_graph.specs.Dual.{AreApart, IsWithin}
 use Rattle.fb_graph.specs.declared.parts.Cut.{Cut}
 use Rattle.fb_graph.proofs.Sets.{is_in-All}
-use Rattle.fb_laws.specs.Ends.{ends_in, AreAllApart, crossing_links}
-use Rattle.fb_laws.specs.Links.{IsTightLink}
+use Rattle.fb_graph.specs.Ends.{ends_in, AreAllApart, crossing_links}
+use Rattle.fb_graph.specs.Links.{IsTightLink}
 use Rattle.fb_laws.specs.Fusion.{AreParts, IsLinkOf}
 use Rattle.fb_laws.specs.Opening.{IsWithinOne, IsAlikeOver, single_sets}
 use Rattle.fb_laws.specs.Samples.{cut, link, line, line_part, triangle, blossom_cuts}

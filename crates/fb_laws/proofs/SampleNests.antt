@@ -9,19 +9,19 @@ use Rattle.fb_graph.specs.Certificate.{load_of}
 use Rattle.fb_graph.specs.Limits.{IsEdge, IsWithinLimits, most_vertices, most_edges, most_weight}
 use Rattle.fb_graph.specs.Dual.{Node, IsCrossed, all_cuts, is_empty, is_live, is_outer, node_at}
 use Rattle.fb_graph.specs.declared.parts.Edge.{Edge}
-use Rattle.fb_laws.specs.Steps.{Roles, AllowShrinking, gains, losses, stepped}
-use Rattle.fb_laws.specs.Covers.{AreRoles}
-use Rattle.fb_laws.specs.Links.{AreEven}
-use Rattle.fb_laws.specs.Sprouts.{node_of, nodes_of}
-use Rattle.fb_laws.specs.Nests.{IsNest}
-use Rattle.fb_laws.specs.Moves.{MayJoin, MaySplit, MayTakeUp, MayUncover, taken_up}
+use Rattle.fb_graph.specs.Steps.{Roles, AllowShrinking, gains, losses, stepped}
+use Rattle.fb_graph.specs.Covers.{AreRoles}
+use Rattle.fb_graph.specs.Links.{AreEven}
+use Rattle.fb_graph.specs.Sprouts.{node_of, nodes_of}
+use Rattle.fb_graph.specs.Nests.{IsNest}
+use Rattle.fb_graph.specs.Moves.{MayJoin, MaySplit, MayTakeUp, MayUncover, taken_up}
 use Rattle.fb_laws.specs.Samples.{sprout, line, triangle, corner_nodes, corner_roles, grown_nodes, grown_roles}
 use Rattle.fb_laws.specs.NestWitnesses.{NestWitness, bare_corners, blossom_nodes, blossom_roles, wider_nodes}
-use Rattle.fb_laws.proofs.BeginningNests.{nest_begins}
-use Rattle.fb_laws.proofs.JoinedNests.{nest_joined}
-use Rattle.fb_laws.proofs.RaisedNests.{nest_taken_up}
+use Rattle.fb_graph.proofs.BeginningNests.{nest_begins}
+use Rattle.fb_graph.proofs.JoinedNests.{nest_joined}
+use Rattle.fb_graph.proofs.RaisedNests.{nest_taken_up}
 use Rattle.fb_laws.proofs.SampleStates.{may_by_cases, of_three, outer_by_cases}
-use Rattle.fb_laws.proofs.SteppedNests.{nest_stepped}
+use Rattle.fb_graph.proofs.SteppedNests.{nest_stepped}
 
 -- a step whose edges are looked at one by one
 pub stepped_by_cases : (p : Problem) (roles : Roles) (nodes : List Node) (k : ℕ) → IsWithinLimits p

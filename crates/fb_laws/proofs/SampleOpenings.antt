@@ -7,30 +7,30 @@ use Rattle.fb_graph.specs.Parity.{is_in}
 use Rattle.fb_graph.specs.Certificate.{IsOddCut}
 use Rattle.fb_graph.specs.Dual.{IsHeld, all_cuts, height_of, is_live, is_outer, cover_of}
 use Rattle.fb_graph.proofs.Sets.{is_in-All}
-use Rattle.fb_laws.specs.Counts.{as_count}
-use Rattle.fb_laws.specs.Ends.{ends_in}
-use Rattle.fb_laws.specs.Moves.{MayJoin, joined}
-use Rattle.fb_laws.specs.Nests.{IsNest}
+use Rattle.fb_graph.specs.Counts.{as_count}
+use Rattle.fb_graph.specs.Ends.{ends_in}
+use Rattle.fb_graph.specs.Moves.{MayJoin, joined}
+use Rattle.fb_graph.specs.Nests.{IsNest}
 use Rattle.fb_laws.specs.NestWitnesses.{blossom_nodes, blossom_roles}
 use Rattle.fb_laws.specs.Samples.{link, triangle, cut}
 use Rattle.fb_laws.specs.SearchOpenings.{IsOpenedTree, IsSplit}
 use Rattle.fb_laws.specs.Searches.{IsSearch}
-use Rattle.fb_laws.specs.SourceWalks.{HaveWalks}
-use Rattle.fb_laws.specs.Sprouts.{AreSprouts}
-use Rattle.fb_laws.specs.Steps.{stepped}
+use Rattle.fb_graph.specs.SourceWalks.{HaveWalks}
+use Rattle.fb_graph.specs.Sprouts.{AreSprouts}
+use Rattle.fb_graph.specs.Steps.{stepped}
 use Rattle.fb_laws.specs.TreeWitnesses.{SplittingWitness, LevelWitness, crown, crown_sprouts, crown_nodes, closed_branch, opened_branches}
 use Rattle.fb_laws.specs.Works.{IsMatching}
-use Rattle.fb_laws.proofs.BeginningNests.{sprouts_are_nest}
-use Rattle.fb_laws.proofs.JoinedNests.{nest_joined}
+use Rattle.fb_graph.proofs.BeginningNests.{sprouts_are_nest}
+use Rattle.fb_graph.proofs.JoinedNests.{nest_joined}
 use Rattle.fb_laws.proofs.SampleLevels.{opening_witness}
 use Rattle.fb_laws.proofs.SampleNests.{grown_blossom}
 use Rattle.fb_laws.proofs.SampleParts.{of_two, one_height}
 use Rattle.fb_laws.proofs.SampleStates.{fits_by_cases, odd_cut, of_three}
 use Rattle.fb_laws.proofs.SampleTrees.{one_link, one_search}
 use Rattle.fb_laws.proofs.SearchStates.{links_joined}
-use Rattle.fb_laws.proofs.SourceWalks.{walks_begin, walks_joined}
-use Rattle.fb_laws.proofs.SproutStates.{sprouts_are_dual}
-use Rattle.fb_laws.proofs.TightLinks.{empty_layer_loads, empty_layer_heights}
+use Rattle.fb_graph.proofs.SourceWalks.{walks_begin, walks_joined}
+use Rattle.fb_graph.proofs.SproutStates.{sprouts_are_dual}
+use Rattle.fb_graph.proofs.TightLinks.{empty_layer_loads, empty_layer_heights}
 
 crown_are_sprouts : AreSprouts crown crown_sprouts
 crown_are_sprouts = record {

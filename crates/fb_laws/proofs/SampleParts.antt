@@ -9,18 +9,18 @@ use Rattle.fb_graph.specs.Certificate.{IsOddCut}
 use Rattle.fb_graph.specs.Laws.{Link, has_real_end}
 use Rattle.fb_graph.specs.Dual.{Node, IsHeld, all_cuts, leaves, height_of, is_outer}
 use Rattle.fb_graph.proofs.Sets.{is_in-All}
-use Rattle.fb_laws.specs.Counts.{as_count}
-use Rattle.fb_laws.specs.Ends.{ends_in}
-use Rattle.fb_laws.specs.Links.{IsTightLink}
+use Rattle.fb_graph.specs.Counts.{as_count}
+use Rattle.fb_graph.specs.Ends.{ends_in}
+use Rattle.fb_graph.specs.Links.{IsTightLink}
 use Rattle.fb_laws.specs.Fusion.{IsLinkOf}
 use Rattle.fb_laws.specs.Parities.{HaveOneParity}
-use Rattle.fb_laws.specs.Sprouts.{AreSprouts}
+use Rattle.fb_graph.specs.Sprouts.{AreSprouts}
 use Rattle.fb_laws.specs.Works.{AreMatchedLinks, IsMatching, outer_sets}
 use Rattle.fb_laws.specs.Samples.{link, line, corner_nodes, bare_sprouts, young_sprouts, young_nodes, pair_sprouts, pair_nodes, pair_roles}
 use Rattle.fb_laws.specs.Witnesses.{ParityWitness, WorkWitness}
 use Rattle.fb_laws.proofs.HalvesKept.{work_begins}
 use Rattle.fb_laws.proofs.SampleStates.{fits_by_cases, odd_cut, of_three, outer_by_cases}
-use Rattle.fb_laws.proofs.SproutStates.{sprouts_are_dual}
+use Rattle.fb_graph.proofs.SproutStates.{sprouts_are_dual}
 
 pub corner_height : (d : ℕ) → is_in (leaves corner_nodes) d ≡ true → height_of (all_cuts corner_nodes) d % 2 ≡ 1
 corner_height = of_three (λ d. height_of (all_cuts corner_nodes) d % 2 ≡ 1) 0 1 2 refl refl refl

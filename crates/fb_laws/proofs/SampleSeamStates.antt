@@ -11,7 +11,7 @@ use Rattle.fb_laws.specs.FusedStates.{AreFurther, MayMerge}
 use Rattle.fb_laws.specs.FusedWitnesses.{SeamWitness, both_ends, freed_end, parted_line}
 use Rattle.fb_laws.specs.Merging.{IsSeam}
 use Rattle.fb_laws.specs.Samples.{line, line_part, link, middle_sprouts, sprout}
-use Rattle.fb_laws.specs.Sprouts.{nodes_of}
+use Rattle.fb_graph.specs.Sprouts.{nodes_of}
 use Rattle.fb_laws.proofs.SampleFusions.{own_by_cases, own_ends}
 use Rattle.fb_laws.proofs.SampleSeams.{merging_witness}
 use Rattle.fb_laws.proofs.SampleStates.{of_one, of_three}

@@ -6,12 +6,12 @@ use Rattle.fb_graph.specs.Parity.{is_in}
 use Rattle.fb_graph.specs.Certificate.{IsOddCut}
 use Rattle.fb_graph.specs.Dual.{IsDual, IsHeld, all_cuts, height_of, is_outer}
 use Rattle.fb_graph.proofs.Sets.{is_in-All}
-use Rattle.fb_laws.specs.Counts.{as_count}
-use Rattle.fb_laws.specs.Ends.{ends_in}
+use Rattle.fb_graph.specs.Counts.{as_count}
+use Rattle.fb_graph.specs.Ends.{ends_in}
 use Rattle.fb_laws.specs.Paths.{LeadsOut}
-use Rattle.fb_laws.specs.Links.{IsTightLink}
+use Rattle.fb_graph.specs.Links.{IsTightLink}
 use Rattle.fb_laws.specs.Fusion.{AreParts, IsLinkOf}
-use Rattle.fb_laws.specs.Sprouts.{AreSprouts, nodes_of}
+use Rattle.fb_graph.specs.Sprouts.{AreSprouts, nodes_of}
 use Rattle.fb_laws.specs.Works.{IsMatching, IsSetOf}
 use Rattle.fb_laws.specs.Merging.{Freed}
 use Rattle.fb_laws.specs.Samples.{sprout, link, line, line_part, end_sprouts, middle_sprouts}
@@ -21,7 +21,7 @@ use Rattle.fb_laws.proofs.MergedParts.{matchings_merged}
 use Rattle.fb_laws.proofs.SampleLevels.{two_parts, either_end, left_link, right_link}
 use Rattle.fb_laws.proofs.SampleParts.{one_height, of_two}
 use Rattle.fb_laws.proofs.SampleStates.{fits_by_cases, odd_cut, of_one}
-use Rattle.fb_laws.proofs.SproutStates.{sprouts_are_dual}
+use Rattle.fb_graph.proofs.SproutStates.{sprouts_are_dual}
 
 turned_parts : AreParts (line_part (3 ∷ [])) (line_part (1 ∷ [])) (line_part (1 ∷ 3 ∷ []))
 turned_parts = parts_turned (line_part (1 ∷ [])) (line_part (3 ∷ [])) (line_part (1 ∷ 3 ∷ [])) two_parts

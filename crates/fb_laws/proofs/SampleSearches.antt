@@ -6,19 +6,19 @@ use Rattle.fb_graph.specs.Problem.{edge_at}
 use Rattle.fb_graph.specs.Certificate.{IsOddCut}
 use Rattle.fb_graph.specs.Laws.{Link, has_real_end}
 use Rattle.fb_graph.specs.Dual.{IsHeld, all_cuts, leaves, is_outer, height_of}
-use Rattle.fb_laws.specs.Counts.{as_count}
-use Rattle.fb_laws.specs.Ends.{ends_in}
+use Rattle.fb_graph.specs.Counts.{as_count}
+use Rattle.fb_graph.specs.Ends.{ends_in}
 use Rattle.fb_laws.specs.Fusion.{IsLinkOf}
-use Rattle.fb_laws.specs.Links.{IsTightLink, AreEven}
+use Rattle.fb_graph.specs.Links.{IsTightLink, AreEven}
 use Rattle.fb_laws.specs.Samples.{line, link}
-use Rattle.fb_laws.specs.Sprouts.{AreSprouts}
+use Rattle.fb_graph.specs.Sprouts.{AreSprouts}
 use Rattle.fb_laws.specs.Works.{AreMatchedLinks, IsMatching}
 use Rattle.fb_laws.specs.Searches.{IsSearch}
 use Rattle.fb_laws.specs.SearchWitnesses.{chain_sprouts, chain_nodes, chain_branch, SearchWitness}
 use Rattle.fb_laws.proofs.SampleParts.{one_height}
 use Rattle.fb_laws.proofs.SampleStates.{fits_by_cases, odd_cut, of_three}
 use Rattle.fb_laws.proofs.SearchStates.{search_attached}
-use Rattle.fb_laws.proofs.SproutStates.{sprouts_are_dual}
+use Rattle.fb_graph.proofs.SproutStates.{sprouts_are_dual}
 
 chain_are_sprouts : AreSprouts (line (1 ∷ 2 ∷ 3 ∷ [])) chain_sprouts
 chain_are_sprouts = record {

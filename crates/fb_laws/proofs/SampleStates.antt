@@ -13,17 +13,17 @@ use Rattle.fb_graph.specs.declared.parts.Cut.{Cut}
 use Rattle.fb_graph.proofs.ParitySums.{odd_agree, odd_none}
 use Rattle.fb_graph.proofs.Sets.{is_in-All, rising-one}
 use Rattle.fb_graph.proofs.Duality.{odd-crosses}
-use Rattle.fb_laws.specs.Steps.{Roles, AreExclusive, gains, losses, MayStep, stepped}
+use Rattle.fb_graph.specs.Steps.{Roles, AreExclusive, gains, losses, MayStep, stepped}
 use Rattle.fb_laws.specs.Lengths.{IsGreatestStep}
-use Rattle.fb_laws.specs.Covers.{AreRoles, PassOuterOnly, HasNoObstacle, IsClear}
+use Rattle.fb_graph.specs.Covers.{AreRoles, PassOuterOnly, HasNoObstacle, IsClear}
 use Rattle.fb_laws.specs.Signed.{shifted}
-use Rattle.fb_laws.specs.Ends.{ends_in}
+use Rattle.fb_graph.specs.Ends.{ends_in}
 use Rattle.fb_laws.specs.Paths.{IsWhole}
 use Rattle.fb_laws.specs.Blossoms.{IsInside}
-use Rattle.fb_laws.specs.Sprouts.{AreSprouts}
+use Rattle.fb_graph.specs.Sprouts.{AreSprouts}
 use Rattle.fb_laws.specs.Samples.{cut, link, line, triangle, line_sprouts, line_nodes, line_roles, grown_nodes, grown_roles, corner_sprouts, corner_nodes, corner_roles}
 use Rattle.fb_laws.specs.Witnesses.{StepWitness, DualWitness, CoverWitness, SignedWitness, LinkWitness, PathWitness, BlossomWitness, line_path}
-use Rattle.fb_laws.proofs.SproutStates.{sprouts_are_dual}
+use Rattle.fb_graph.proofs.SproutStates.{sprouts_are_dual}
 
 -- a problem with a correction has no odd closed set, since no chosen edge crosses one
 pub no_odd_closed_by : (p : Problem) (chosen : List ℕ) → All (λ k. k < length p.edges) chosen → Flips p chosen → HasNoOddClosed p

@@ -11,32 +11,32 @@ use Rattle.fb_graph.specs.Components.{IsWalkBy}
 use Rattle.fb_graph.specs.Laws.{Link, IsTight, has_real_end}
 use Rattle.fb_graph.specs.Dual.{Node, IsDual, IsHeld, all_cuts, leaves, height_of, is_outer}
 use Rattle.fb_graph.proofs.Sets.{is_in-head}
-use Rattle.fb_laws.specs.Counts.{as_count}
-use Rattle.fb_laws.specs.Ends.{ends_in}
+use Rattle.fb_graph.specs.Counts.{as_count}
+use Rattle.fb_graph.specs.Ends.{ends_in}
 use Rattle.fb_laws.specs.Fusion.{IsLinkOf}
-use Rattle.fb_laws.specs.Links.{IsTightLink, AreEven}
-use Rattle.fb_laws.specs.Moves.{MayTakeUp, MayUncover, joined, uncovered}
-use Rattle.fb_laws.specs.Nests.{IsNest}
+use Rattle.fb_graph.specs.Links.{IsTightLink, AreEven}
+use Rattle.fb_graph.specs.Moves.{MayTakeUp, MayUncover, joined, uncovered}
+use Rattle.fb_graph.specs.Nests.{IsNest}
 use Rattle.fb_laws.specs.Samples.{link, triangle, corner_nodes}
 use Rattle.fb_laws.specs.SearchBlossoms.{IsJoining}
 use Rattle.fb_laws.specs.Searches.{IsSearch, IsOuterNode}
-use Rattle.fb_laws.specs.SourceWalks.{HaveWalks}
-use Rattle.fb_laws.specs.Sprouts.{AreSprouts, nodes_of}
+use Rattle.fb_graph.specs.SourceWalks.{HaveWalks}
+use Rattle.fb_graph.specs.Sprouts.{AreSprouts, nodes_of}
 use Rattle.fb_laws.specs.Trees.{Entry, IsTree, grown_links, paired_links, tree_names}
 use Rattle.fb_laws.specs.TreeWitnesses.{LayerWitness, JoiningWitness, long_line, long_sprouts, thin_nodes, thin_branch, corner_branch, base_corner, other_corners, open_line, open_sprouts}
 use Rattle.fb_laws.specs.UnmatchedNames.{AreOuterNames}
 use Rattle.fb_laws.specs.Works.{AreMatchedLinks, AreMatched, HasDefects, IsSetOf, without}
-use Rattle.fb_laws.proofs.BeginningNests.{sprouts_are_nest}
-use Rattle.fb_laws.proofs.JoinedNests.{nest_joined}
-use Rattle.fb_laws.proofs.LayeredSearches.{taller_alike}
-use Rattle.fb_laws.proofs.LoweredNests.{nest_uncovered}
+use Rattle.fb_graph.proofs.BeginningNests.{sprouts_are_nest}
+use Rattle.fb_graph.proofs.JoinedNests.{nest_joined}
+use Rattle.fb_graph.proofs.TallerNodes.{taller_alike}
+use Rattle.fb_graph.proofs.LoweredNests.{nest_uncovered}
 use Rattle.fb_laws.proofs.MoveBridges.{joining_allowed}
-use Rattle.fb_laws.proofs.RaisedNests.{nest_taken_up}
+use Rattle.fb_graph.proofs.RaisedNests.{nest_taken_up}
 use Rattle.fb_laws.proofs.SampleNests.{corner_nest}
 use Rattle.fb_laws.proofs.SampleParts.{corner_height, one_height}
 use Rattle.fb_laws.proofs.SampleStates.{fits_by_cases, odd_cut, of_three}
-use Rattle.fb_laws.proofs.SourceWalks.{walks_begin, walks_taken_up}
-use Rattle.fb_laws.proofs.SproutStates.{sprouts_are_dual}
+use Rattle.fb_graph.proofs.SourceWalks.{walks_begin, walks_taken_up}
+use Rattle.fb_graph.proofs.SproutStates.{sprouts_are_dual}
 use Rattle.fb_laws.proofs.UnmatchedNames.{all_outer, outer_taken_up}
 
 some_walk : (k : ℕ) (ks : List ℕ) → (k ∷ ks) ≢ []

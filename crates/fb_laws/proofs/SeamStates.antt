@@ -12,23 +12,24 @@ use Rattle.fb_graph.specs.declared.parts.Cut.{Cut}
 use Rattle.fb_graph.proofs.CutSums.{weigh}
 use Rattle.fb_graph.proofs.Members.{is_in-append, or_false}
 use Rattle.fb_graph.proofs.Sets.{equal_sym, is_in-All}
-use Rattle.fb_laws.specs.Counts.{as_count}
-use Rattle.fb_laws.specs.Ends.{ends_in}
+use Rattle.fb_graph.specs.Counts.{as_count}
+use Rattle.fb_graph.specs.Ends.{ends_in}
 use Rattle.fb_laws.specs.Paths.{LeadsOut}
-use Rattle.fb_laws.specs.Links.{IsTightLink}
+use Rattle.fb_graph.specs.Links.{IsTightLink}
 use Rattle.fb_laws.specs.Fusion.{IsLinkOf}
-use Rattle.fb_laws.specs.Sprouts.{Sprout, node_of, nodes_of, vertices_of}
+use Rattle.fb_graph.specs.Sprouts.{Sprout, node_of, nodes_of, vertices_of}
 use Rattle.fb_laws.specs.Works.{IsSetOf}
 use Rattle.fb_laws.specs.Merging.{Freed, freed_links, freed_names, EndElsewhere, SeamOpened}
-use Rattle.fb_laws.proofs.Crossings.{cover_found}
-use Rattle.fb_laws.proofs.EndSums.{ends-cons, ends_append}
+use Rattle.fb_graph.proofs.Crossings.{cover_found}
+use Rattle.fb_graph.proofs.EndSums.{ends-cons, ends_append}
 use Rattle.fb_laws.proofs.FusedParts.{boundary_height, not_held, same_weight}
 use Rattle.fb_laws.proofs.HalvesKept.{name_in_all}
 use Rattle.fb_laws.proofs.MatchedNodes.{odd_top, set_whole, set_held, all_after}
-use Rattle.fb_laws.proofs.MergedParts.{HoldsIn, cuts_merged, leaves_merged, odd_in, outer_in, side_of, distinct_across, named_at, names_merged, leaf_real, real_held, part_of_link}
+use Rattle.fb_laws.proofs.MergedParts.{HoldsIn, odd_in, side_of, distinct_across, named_at, leaf_real, real_held, part_of_link}
+use Rattle.fb_graph.proofs.AppendedNodes.{cuts_merged, leaves_merged, outer_in, names_merged}
 use Rattle.fb_laws.proofs.PathSums.{ends_out}
 use Rattle.fb_laws.proofs.Shifts.{walk_same}
-use Rattle.fb_laws.proofs.SproutStates.{cuts_are, leaves_are, names_are, no_sum}
+use Rattle.fb_graph.proofs.SproutStates.{cuts_are, leaves_are, names_are, no_sum}
 
 -- new nodes without value add nothing to any sum
 weigh_with : (test : List ℕ → Bool) (nodes : List Node) (sprouts : List Sprout) → All (λ s. s.value ≡ 0) sprouts

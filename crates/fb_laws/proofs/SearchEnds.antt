@@ -10,7 +10,7 @@ use Rattle.fb_graph.specs.Laws.{Link}
 use Rattle.fb_graph.specs.Dual.{Node, all_cuts, leaves, cover_of, top_at}
 use Rattle.fb_graph.proofs.Sets.{is_in-filter}
 use Rattle.fb_laws.specs.Paths.{LeadsOut, tip_of, tree_links, matched_links}
-use Rattle.fb_laws.specs.Links.{IsTightLink}
+use Rattle.fb_graph.specs.Links.{IsTightLink}
 use Rattle.fb_laws.specs.Fusion.{IsLinkOf}
 use Rattle.fb_laws.specs.Works.{AreMatchedLinks, IsMatching, without}
 use Rattle.fb_laws.specs.Trees.{Entry, Connects, grown_links, paired_links, plus_names, path_to, beside, branches_of}

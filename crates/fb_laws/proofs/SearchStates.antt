@@ -10,26 +10,26 @@ use Rattle.fb_graph.specs.Dual.{Node, IsDual, AreOuterApart, all_cuts, leaves, c
 use Rattle.fb_graph.proofs.ParitySums.{differ_comm}
 use Rattle.fb_graph.proofs.Sets.{is_in-cases, is_in-head, is_in-tail, is_in-filter}
 use Rattle.fb_graph.proofs.Sums.{sum_same}
-use Rattle.fb_laws.specs.Counts.{as_count}
-use Rattle.fb_laws.specs.Steps.{Roles, gains, losses, stepped}
-use Rattle.fb_laws.specs.Covers.{AreRoles, HaveParity, crossings_of, is_over, passes}
-use Rattle.fb_laws.specs.Ends.{ends_in}
-use Rattle.fb_laws.specs.Links.{pair, AreEven, IsTightLink}
+use Rattle.fb_graph.specs.Counts.{as_count}
+use Rattle.fb_graph.specs.Steps.{Roles, gains, losses, stepped}
+use Rattle.fb_graph.specs.Covers.{AreRoles, HaveParity, crossings_of, is_over, passes}
+use Rattle.fb_graph.specs.Ends.{ends_in}
+use Rattle.fb_graph.specs.Links.{pair, AreEven, IsTightLink}
 use Rattle.fb_laws.specs.Fusion.{IsLinkOf}
 use Rattle.fb_laws.specs.Parities.{HaveOneParity}
 use Rattle.fb_laws.specs.Opening.{EndAtDefects}
 use Rattle.fb_laws.specs.Works.{AreMatchedLinks, IsSetOf, IsBranchOf, without}
 use Rattle.fb_laws.specs.Trees.{Entry, Connects, IsTree, grown_links, paired_links, plus_names, minus_names, tree_names, roles_of, path_to, beside, branch_of, branches_of}
 use Rattle.fb_laws.specs.Searches.{IsSearch, SearchBegins, SearchPermuted, SearchRoles, RestOutside, SearchLevel, SearchPath, SearchStepped, SearchAttached}
-use Rattle.fb_laws.proofs.Crossings.{level_between, level_outside, some_passes}
-use Rattle.fb_laws.proofs.EndSums.{ends_append, ends-cons, ends_of_one}
+use Rattle.fb_graph.proofs.Crossings.{level_between, level_outside, some_passes}
+use Rattle.fb_graph.proofs.EndSums.{ends_append, ends-cons, ends_of_one}
 use Rattle.fb_laws.proofs.HalvesKept.{matching_stepped, matching_permuted}
 use Rattle.fb_laws.proofs.MatchedNodes.{all_after}
 use Rattle.fb_laws.proofs.PotentialParities.{linked_parity, tree_parity_stepped, other_parity_stepped}
 use Rattle.fb_laws.proofs.SearchTrees.{cover_set, connects_sym, connected, path_leads, path_beside, entries_outer, tree_set, plus_in_tree, minus_in_tree, tree_in_roles, exclusive_names, used_end, matched_named, no_ends, all_before}
-use Rattle.fb_laws.proofs.StepHeights.{cover_stepped, leaves_stepped}
-use Rattle.fb_laws.proofs.StepLoads.{tight_stepped}
-use Rattle.fb_laws.proofs.TightLinks.{turned_tight}
+use Rattle.fb_graph.proofs.StepHeights.{cover_stepped, leaves_stepped}
+use Rattle.fb_graph.proofs.StepLoads.{tight_stepped}
+use Rattle.fb_graph.proofs.TightLinks.{turned_tight}
 
 pub search_begins : SearchBegins
 search_begins p nodes links unmatched root work is open_ = record {

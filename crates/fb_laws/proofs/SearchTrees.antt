@@ -13,14 +13,14 @@ use Rattle.fb_graph.specs.Certificate.{AreDistinct}
 use Rattle.fb_graph.specs.Laws.{Link}
 use Rattle.fb_graph.specs.Dual.{Node, cover_of, is_outer, node_at, no_node, top_at}
 use Rattle.fb_graph.proofs.Sets.{is_in-cases, is_in-head, is_in-tail}
-use Rattle.fb_laws.specs.Counts.{as_count}
-use Rattle.fb_laws.specs.Ends.{ends_in}
+use Rattle.fb_graph.specs.Counts.{as_count}
+use Rattle.fb_graph.specs.Ends.{ends_in}
 use Rattle.fb_laws.specs.Paths.{Branch, IsPath, Joins, LeadsOut, tip_of, tree_links, matched_links}
 use Rattle.fb_laws.specs.Works.{IsMatching, IsSetOf, IsBranchOf}
 use Rattle.fb_laws.specs.Trees.{Entry, Connects, IsTree, grown_links, paired_links, plus_names, minus_names, tree_names, path_to, beside, branch_of, branches_of}
 use Rattle.fb_laws.specs.Searches.{LeavesNode}
-use Rattle.fb_laws.proofs.Crossings.{found_place}
-use Rattle.fb_laws.proofs.EndSums.{ends-cons, ends_of_one}
+use Rattle.fb_graph.proofs.Crossings.{found_place}
+use Rattle.fb_graph.proofs.EndSums.{ends-cons, ends_of_one}
 use Rattle.fb_laws.proofs.MergedParts.{named_at}
 use Rattle.fb_laws.proofs.PathSums.{paths_joined}
 

@@ -10,19 +10,19 @@ use Rattle.fb_graph.proofs.Members.{or_false}
 use Rattle.fb_graph.proofs.PrintedCuts.{Fits-same_loads, printed-All, printed-load, printed-total}
 use Rattle.fb_graph.proofs.Sets.{All-from_is_in, is_in-All}
 use Rattle.fb_graph.proofs.Sums.{sum_same}
-use Rattle.fb_laws.specs.Counts.{as_count}
-use Rattle.fb_laws.specs.Ends.{AreAllApart, ends_in}
-use Rattle.fb_laws.specs.Links.{pair}
+use Rattle.fb_graph.specs.Counts.{as_count}
+use Rattle.fb_graph.specs.Ends.{AreAllApart, ends_in}
+use Rattle.fb_graph.specs.Links.{pair}
 use Rattle.fb_laws.specs.Opening.{single_sets}
 use Rattle.fb_laws.specs.Works.{positive_cuts}
-use Rattle.fb_laws.specs.Nests.{IsFormed, first_set}
+use Rattle.fb_graph.specs.Nests.{IsFormed, first_set}
 use Rattle.fb_laws.specs.NestSolutions.{DefectsFirst, LoneLevel, NestResolved, lone_sets}
-use Rattle.fb_laws.proofs.Among.{IsAmong, All_among, among_All, leaf_among, map_among}
-use Rattle.fb_laws.proofs.Forests.{defects_first, first_within}
+use Rattle.fb_graph.proofs.Among.{IsAmong, All_among, among_All, leaf_among, map_among}
+use Rattle.fb_graph.proofs.Forests.{defects_first, first_within}
 use Rattle.fb_laws.proofs.HalvesKept.{positive_loads, positive_packing, positive_total}
 use Rattle.fb_laws.proofs.MergedParts.{odd_in}
 use Rattle.fb_laws.proofs.NestOrders.{Relates, related}
-use Rattle.fb_laws.proofs.NestParts.{grove_of, top_is_odd}
+use Rattle.fb_graph.proofs.NestParts.{grove_of, top_is_odd}
 use Rattle.fb_laws.proofs.OpenedLevels.{level_solved}
 
 -- a node with a defect of its own joins no others

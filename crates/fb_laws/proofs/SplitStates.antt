@@ -8,15 +8,15 @@ use Rattle.fb_graph.specs.Problem.{Problem, crosses}
 use Rattle.fb_graph.specs.Certificate.{AreDistinct}
 use Rattle.fb_graph.specs.Dual.{Node, all_cuts, first_vertices, is_empty, is_live, leaves, cover_of, top_at}
 use Rattle.fb_graph.proofs.Sets.{is_in-All}
-use Rattle.fb_laws.specs.Nests.{IsNest, IsFilled, AreJoinedLater}
-use Rattle.fb_laws.specs.Moves.{split, MaySplit}
+use Rattle.fb_graph.specs.Nests.{IsNest, IsFilled, AreJoinedLater}
+use Rattle.fb_graph.specs.Moves.{split, MaySplit}
 use Rattle.fb_laws.specs.Trees.{Connects}
 use Rattle.fb_laws.specs.SearchOpenings.{IsSplit}
 use Rattle.fb_laws.specs.OpenedCycles.{SplitOff, EndUnderChild}
-use Rattle.fb_laws.proofs.Among.{IsAmong, IsOver, All_among, among_right, live_among, outer_among, among_outer, top_among, covered_by, cover_among, from_concat, same_among, other_name}
-use Rattle.fb_laws.proofs.InsertedCuts.{same_weigh}
-use Rattle.fb_laws.proofs.Places.{among_split, split_among}
-use Rattle.fb_laws.proofs.SplitNests.{nest_split, insertion, same_leaves, height, bare, at}
+use Rattle.fb_graph.proofs.Among.{IsAmong, IsOver, All_among, among_right, live_among, outer_among, among_outer, top_among, covered_by, cover_among, from_concat, same_among, other_name}
+use Rattle.fb_graph.proofs.InsertedCuts.{same_weigh}
+use Rattle.fb_graph.proofs.Places.{among_split, split_among}
+use Rattle.fb_graph.proofs.SplitNests.{nest_split, insertion, same_leaves, height, bare, at}
 
 -- no two nodes join the same
 one_parent : (ns : List Node) → AreJoinedLater ns → (m n : Node) → IsAmong m ns → IsAmong n ns → (c : ℕ) → is_in m.children c ≡ true

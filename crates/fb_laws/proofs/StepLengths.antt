@@ -12,9 +12,9 @@ use Rattle.fb_graph.specs.declared.parts.Edge.{Edge}
 use Rattle.fb_graph.proofs.Nodes.{All-cuts-at, All-top}
 use Rattle.fb_graph.proofs.ClosedSets.{edge_leaves, none_or_some}
 use Rattle.fb_graph.proofs.Sums.{sum_same, sum_zero}
-use Rattle.fb_laws.specs.Steps.{Roles, AreExclusive, gains, losses, MayStep}
+use Rattle.fb_graph.specs.Steps.{Roles, AreExclusive, gains, losses, MayStep}
 use Rattle.fb_laws.specs.Lengths.{HasPlus, NoLength, GreatestStep, GreatestBounds, AfterGreatest}
-use Rattle.fb_laws.proofs.StepLoads.{steps_add, steps_split}
+use Rattle.fb_graph.proofs.StepLoads.{steps_add, steps_split}
 
 pub no_length : NoLength
 no_length p roles nodes packing = record {

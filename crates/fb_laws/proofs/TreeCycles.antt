@@ -15,13 +15,13 @@ use Rattle.fb_laws.specs.Trees.{Entry, Connects, plus_names, minus_names, tree_n
 use Rattle.fb_laws.specs.Searches.{IsSearch}
 use Rattle.fb_laws.specs.SearchBlossoms.{AreBranches, IsJoining, child_at, inner_branches}
 use Rattle.fb_laws.specs.TreeCycles.{nodes_along, nodes_back, links_along, links_back, last_plus, PartAtOnce, ArePaths, PathsPart, cycle_nodes, cycle_links, AreLinked, CycleJoining, CycleLinked, CycleMany, CycleMinus}
-use Rattle.fb_laws.proofs.Among.{IsAmong, among_All, among_left, among_right, among_either}
+use Rattle.fb_graph.proofs.Among.{IsAmong, among_All, among_left, among_right, among_either}
 use Rattle.fb_laws.proofs.JoinedThree.{root_plus}
 use Rattle.fb_laws.proofs.MergedParts.{distinct_across}
 use Rattle.fb_laws.proofs.SearchStates.{named_set}
 use Rattle.fb_laws.proofs.SearchTrees.{connects_sym, plus_in_tree, minus_in_tree, exclusive_names}
 use Rattle.fb_laws.proofs.TreePaths.{IsChain, distinct_left, distinct_right, in_left, in_right, in_either, along_append, names_along, along_minus, along_plus, along_among, among_minus, among_plus, minus_among, same_minus, same_branch, path_among, path_holds, path_begins, path_distinct, path_chain, chain_rest, chain_parent, last_in, last_is_plus, shared_begins, tree_connects, length_along}
-use Rattle.fb_laws.proofs.Unions.{distinct_append}
+use Rattle.fb_graph.proofs.Unions.{distinct_append}
 
 pub paths_part : PathsPart
 paths_part tree root a b distinct =

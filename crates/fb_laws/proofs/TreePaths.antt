@@ -9,10 +9,10 @@ use Rattle.fb_graph.proofs.Members.{is_in-append}
 use Rattle.fb_graph.proofs.Sets.{is_in-cases, is_in-head, is_in-tail}
 use Rattle.fb_laws.specs.Trees.{Entry, Connects, IsTree, plus_names, minus_names, tree_names, path_to}
 use Rattle.fb_laws.specs.TreeCycles.{nodes_along, last_plus, PartAtOnce}
-use Rattle.fb_laws.proofs.Among.{IsAmong, among_right, among_either}
+use Rattle.fb_graph.proofs.Among.{IsAmong, among_right, among_either}
 use Rattle.fb_laws.proofs.MergedParts.{distinct_across}
 use Rattle.fb_laws.proofs.SearchTrees.{plus_in_tree, minus_in_tree, exclusive_names}
-use Rattle.fb_laws.proofs.Unions.{distinct_append}
+use Rattle.fb_graph.proofs.Unions.{distinct_append}
 
 pub distinct_left : (xs ys : List ℕ) → AreDistinct (xs ++ ys) → AreDistinct xs
 distinct_left [] ys distinct = tt

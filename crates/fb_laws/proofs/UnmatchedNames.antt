@@ -7,15 +7,15 @@ use Rattle.fb_graph.specs.Dual.{Node, is_live, is_outer, taller}
 use Rattle.fb_graph.proofs.Members.{is_in-append}
 use Rattle.fb_graph.proofs.Nodes.{is_outer-childless}
 use Rattle.fb_graph.proofs.Sets.{is_in-All}
-use Rattle.fb_laws.specs.Steps.{stepped_node}
-use Rattle.fb_laws.specs.Sprouts.{Sprout, node_of, nodes_of}
-use Rattle.fb_laws.specs.Moves.{blossom, joined, split, lower}
-use Rattle.fb_laws.specs.Nests.{IsForest}
+use Rattle.fb_graph.specs.Steps.{stepped_node}
+use Rattle.fb_graph.specs.Sprouts.{Sprout, node_of, nodes_of}
+use Rattle.fb_graph.specs.Moves.{blossom, joined, split, lower}
+use Rattle.fb_graph.specs.Nests.{IsForest}
 use Rattle.fb_laws.specs.UnmatchedNames.{OuterBegin, OuterFewer, OuterStepped, OuterTakenUp, OuterUncovered, OuterSplit, OuterJoined, OuterBeside, OuterSprouted, NoChildUnmatched}
-use Rattle.fb_laws.proofs.Among.{IsAmong, All_among, among_either, among_right, outer_among, among_outer}
-use Rattle.fb_laws.proofs.ChangedNodes.{change, by_name}
-use Rattle.fb_laws.proofs.MappedNodes.{mapped_outer}
-use Rattle.fb_laws.proofs.Places.{among_split}
+use Rattle.fb_graph.proofs.Among.{IsAmong, All_among, among_either, among_right, outer_among, among_outer}
+use Rattle.fb_graph.proofs.ChangedNodes.{change, by_name}
+use Rattle.fb_graph.proofs.MappedNodes.{mapped_outer}
+use Rattle.fb_graph.proofs.Places.{among_split}
 
 -- no sprout joins others
 pub all_outer : (sprouts : List Sprout) (n : ℕ) → is_outer (nodes_of sprouts) n ≡ true

@@ -4,9 +4,9 @@ use Rattle.std.specs.List.{concat}
 use Rattle.fb_graph.specs.Parity.{is_in}
 use Rattle.fb_graph.specs.Laws.{Link}
 use Rattle.fb_graph.specs.Dual.{AreApart}
-use Rattle.fb_laws.specs.Counts.{as_count}
-use Rattle.fb_laws.specs.Steps.{Roles, AreExclusive}
-use Rattle.fb_laws.specs.Ends.{ends_in, AreAllApart}
+use Rattle.fb_graph.specs.Counts.{as_count}
+use Rattle.fb_graph.specs.Steps.{Roles, AreExclusive}
+use Rattle.fb_graph.specs.Ends.{ends_in, AreAllApart}
 use Rattle.fb_laws.specs.Paths.{Joins, holds, IsWhole}
 
 -- both ends of the link lie in the set

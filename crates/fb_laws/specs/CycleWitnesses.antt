@@ -8,9 +8,9 @@ use Rattle.fb_graph.specs.Certificate.{AreDistinct}
 use Rattle.fb_graph.specs.Laws.{Link}
 use Rattle.fb_graph.specs.Dual.{Node, is_outer}
 use Rattle.fb_laws.specs.Forming.{blossom_of}
-use Rattle.fb_laws.specs.Nests.{IsNest}
-use Rattle.fb_laws.specs.Moves.{MaySplit, blossom}
-use Rattle.fb_laws.specs.Sprouts.{Sprout, nodes_of}
+use Rattle.fb_graph.specs.Nests.{IsNest}
+use Rattle.fb_graph.specs.Moves.{MaySplit, blossom}
+use Rattle.fb_graph.specs.Sprouts.{Sprout, nodes_of}
 use Rattle.fb_laws.specs.Works.{AreMatchedLinks}
 use Rattle.fb_laws.specs.Samples.{edge, line, link, sprout}
 use Rattle.fb_laws.specs.Trees.{Entry, Connects, plus_names, tree_names}
@@ -27,7 +27,7 @@ ClosedWitness = IsSearch (line (1 ∷ 2 ∷ 3 ∷ [])) chain_nodes (chain_branch
     × Connects chain_nodes (link 1 3 (1 ∷ 2 ∷ [])) 0 2
     × (is_outer
     (chain_nodes
-    ++ blossom_of 3 (child_at chain_nodes (last_plus 2 []) ∷ map (child_at chain_nodes) (cycle_nodes (chain_branch ∷ []) []))
+    ++ blossom_of 3 (child_at chain_nodes (last_plus {L = Link} 2 []) ∷ map (child_at chain_nodes) (cycle_nodes (chain_branch ∷ []) []))
     ∷ []) 3 ≡ true)
 
 -- a triangle of defects, a defect beside one of its corners, and another beside the next one and the boundary

@@ -5,9 +5,9 @@ use Rattle.fb_graph.specs.Parity.{is_in}
 use Rattle.fb_graph.specs.Problem.{Problem}
 use Rattle.fb_graph.specs.Laws.{Link}
 use Rattle.fb_graph.specs.Dual.{Node, IsDual}
-use Rattle.fb_laws.specs.Counts.{as_count}
-use Rattle.fb_laws.specs.Covers.{HaveParity}
-use Rattle.fb_laws.specs.Ends.{AreAllApart}
+use Rattle.fb_graph.specs.Counts.{as_count}
+use Rattle.fb_graph.specs.Covers.{HaveParity}
+use Rattle.fb_graph.specs.Ends.{AreAllApart}
 use Rattle.fb_laws.specs.Blossoms.{IsInside}
 use Rattle.fb_laws.specs.Works.{IsMatching, IsSetOf}
 

@@ -12,7 +12,7 @@ use Rattle.fb_laws.specs.Fusion.{AreParts}
 use Rattle.fb_laws.specs.Merging.{Freed, IsSeam, freed_links, freed_names}
 use Rattle.fb_laws.specs.NestFusion.{HaveOwnNames}
 use Rattle.fb_laws.specs.NestedSearches.{IsNestedWork}
-use Rattle.fb_laws.specs.Sprouts.{Sprout, nodes_of, vertices_of}
+use Rattle.fb_graph.specs.Sprouts.{Sprout, nodes_of, vertices_of}
 
 -- two separated parts, no name of the one being one of the other
 pub record MayMerge (left right whole : Problem) (nodes others : List Node) (unmatched more : List ℕ) : Type 0 where

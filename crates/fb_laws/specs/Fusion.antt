@@ -7,10 +7,10 @@ use Rattle.fb_graph.specs.Components.{IsWalkBy}
 use Rattle.fb_graph.specs.Laws.{Link, IsTight, IsPart, AreSeparated, IsPerfect, has_real_end}
 use Rattle.fb_graph.specs.Dual.{height_of}
 use Rattle.fb_graph.specs.declared.parts.Cut.{Cut}
-use Rattle.fb_laws.specs.Counts.{as_count}
-use Rattle.fb_laws.specs.Ends.{ends_in}
+use Rattle.fb_graph.specs.Counts.{as_count}
+use Rattle.fb_graph.specs.Ends.{ends_in}
 use Rattle.fb_laws.specs.Paths.{LeadsOut, IsWhole, holds}
-use Rattle.fb_laws.specs.Links.{IsTightLink, AreEven}
+use Rattle.fb_graph.specs.Links.{IsTightLink, AreEven}
 
 -- a link of the problem: a walk that isn't empty, each of whose edges has a real end
 pub record IsLinkOf (p : Problem) (l : Link) : Type 0 where

@@ -4,7 +4,7 @@ use Rattle.fb_graph.specs.Problem.{Problem}
 use Rattle.fb_graph.specs.Certificate.{IsPacking}
 use Rattle.fb_graph.specs.Laws.{HasNoOddClosed}
 use Rattle.fb_graph.specs.Dual.{Node, all_cuts, node_at}
-use Rattle.fb_laws.specs.Steps.{Roles, AreExclusive, MayStep, stepped}
+use Rattle.fb_graph.specs.Steps.{Roles, AreExclusive, MayStep, stepped}
 
 -- some node grows
 abbrev pub HasPlus : Roles → List Node → Type 0

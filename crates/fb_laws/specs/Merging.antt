@@ -6,7 +6,7 @@ use Rattle.fb_graph.specs.Laws.{Link, IsPart}
 use Rattle.fb_graph.specs.Dual.{Node, IsDual, is_live}
 use Rattle.fb_laws.specs.Fusion.{AreParts}
 use Rattle.fb_laws.specs.Paths.{LeadsOut}
-use Rattle.fb_laws.specs.Sprouts.{Sprout, nodes_of, vertices_of}
+use Rattle.fb_graph.specs.Sprouts.{Sprout, nodes_of, vertices_of}
 use Rattle.fb_laws.specs.Works.{IsMatching, IsSetOf}
 
 -- What two parts keep, the whole keeps of both together, where its real vertices are those of the parts. Names may not

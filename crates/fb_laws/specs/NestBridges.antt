@@ -7,15 +7,15 @@ use Rattle.fb_graph.specs.Limits.{IsWithinLimits}
 use Rattle.fb_graph.specs.Laws.{Link}
 use Rattle.fb_graph.specs.Dual.{Node, cover_of, is_live, is_outer, leaves}
 use Rattle.fb_laws.specs.Measures.{IsLower}
-use Rattle.fb_laws.specs.Steps.{Roles}
+use Rattle.fb_graph.specs.Steps.{Roles}
 use Rattle.fb_laws.specs.Forming.{Child, names_of, blossom_of}
 use Rattle.fb_laws.specs.Works.{IsSetOf}
 use Rattle.fb_laws.specs.Trees.{Entry, roles_of}
 use Rattle.fb_laws.specs.SearchLayers.{left_to_do}
 use Rattle.fb_laws.specs.SearchBlossoms.{IsJoining, joined_tree, renamed}
 use Rattle.fb_laws.specs.Searches.{IsSearch}
-use Rattle.fb_laws.specs.Nests.{IsNest}
-use Rattle.fb_laws.specs.Moves.{MayJoin, MayTakeUp, MayUncover, blossom, joined, taken_up, uncovered}
+use Rattle.fb_graph.specs.Nests.{IsNest}
+use Rattle.fb_graph.specs.Moves.{MayJoin, MayTakeUp, MayUncover, blossom, joined, taken_up, uncovered}
 
 -- A blossom told by its children's names and sets is the one told by their names.
 abbrev pub BlossomNamed : Type 0

@@ -7,12 +7,12 @@ use Rattle.fb_graph.specs.Limits.{IsWithinLimits}
 use Rattle.fb_graph.specs.Laws.{Link, IsPart}
 use Rattle.fb_graph.specs.Dual.{Node, all_cuts, is_live}
 use Rattle.fb_laws.specs.Fusion.{AreParts}
-use Rattle.fb_laws.specs.Links.{AreEven}
+use Rattle.fb_graph.specs.Links.{AreEven}
 use Rattle.fb_laws.specs.Merging.{Freed, IsSeam, freed_links, freed_names}
 use Rattle.fb_laws.specs.NestedSearches.{IsNestedWork}
-use Rattle.fb_laws.specs.SourceWalks.{HaveWalks}
-use Rattle.fb_laws.specs.Sprouts.{Sprout, nodes_of, vertices_of}
-use Rattle.fb_laws.specs.Nests.{IsNest}
+use Rattle.fb_graph.specs.SourceWalks.{HaveWalks}
+use Rattle.fb_graph.specs.Sprouts.{Sprout, nodes_of, vertices_of}
+use Rattle.fb_graph.specs.Nests.{IsNest}
 
 -- no name is one of both lists
 abbrev pub HaveOwnNames : List Node → List Node → Type 0

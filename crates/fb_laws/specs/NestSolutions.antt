@@ -7,11 +7,11 @@ use Rattle.fb_graph.specs.Printed.{HasPositiveCuts}
 use Rattle.fb_graph.specs.Laws.{Link, odd_edges}
 use Rattle.fb_graph.specs.Dual.{Node, all_cuts, is_empty, is_live, leaves, top_at}
 use Rattle.fb_graph.specs.declared.parts.Cut.{Cut}
-use Rattle.fb_laws.specs.Links.{IsTightLink}
+use Rattle.fb_graph.specs.Links.{IsTightLink}
 use Rattle.fb_laws.specs.Blossoms.{ArePaired}
 use Rattle.fb_laws.specs.Opening.{EndAtDefects, IsLevel, IsOpening, single_sets}
 use Rattle.fb_laws.specs.Works.{HasDefects, positive_cuts}
-use Rattle.fb_laws.specs.Nests.{IsNest, first_set}
+use Rattle.fb_graph.specs.Nests.{IsNest, first_set}
 
 -- the names are those of the node's children, each once
 pub record AreChildrenOf (nodes : List Node) (name : ℕ) (children : List ℕ) : Type 0 where

@@ -5,12 +5,12 @@ use Rattle.fb_graph.specs.Parity.{is_in}
 use Rattle.fb_graph.specs.Certificate.{AreDistinct}
 use Rattle.fb_graph.specs.Limits.{IsWithinLimits}
 use Rattle.fb_graph.specs.Dual.{Node, IsCrossed}
-use Rattle.fb_laws.specs.Steps.{Roles, MayStep, stepped}
-use Rattle.fb_laws.specs.Covers.{AreRoles}
-use Rattle.fb_laws.specs.Links.{AreEven}
-use Rattle.fb_laws.specs.Sprouts.{Sprout, nodes_of, vertices_of}
-use Rattle.fb_laws.specs.Nests.{IsNest}
-use Rattle.fb_laws.specs.Moves.{MayJoin, MaySplit, MayTakeUp, MayUncover, joined}
+use Rattle.fb_graph.specs.Steps.{Roles, MayStep, stepped}
+use Rattle.fb_graph.specs.Covers.{AreRoles}
+use Rattle.fb_graph.specs.Links.{AreEven}
+use Rattle.fb_graph.specs.Sprouts.{Sprout, nodes_of, vertices_of}
+use Rattle.fb_graph.specs.Nests.{IsNest}
+use Rattle.fb_graph.specs.Moves.{MayJoin, MaySplit, MayTakeUp, MayUncover, joined}
 use Rattle.fb_laws.specs.Samples.{cut, sprout, line, triangle, corner_nodes, corner_roles, grown_nodes}
 
 -- the corners of the triangle before they grow

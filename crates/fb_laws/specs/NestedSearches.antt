@@ -7,20 +7,20 @@ use Rattle.fb_graph.specs.Certificate.{AreDistinct}
 use Rattle.fb_graph.specs.Limits.{IsWithinLimits}
 use Rattle.fb_graph.specs.Laws.{Link, HasNoOddClosed}
 use Rattle.fb_graph.specs.Dual.{Node, is_live}
-use Rattle.fb_laws.specs.Steps.{MayStep, stepped}
-use Rattle.fb_laws.specs.Covers.{HasNoObstacle}
+use Rattle.fb_graph.specs.Steps.{MayStep, stepped}
+use Rattle.fb_graph.specs.Covers.{HasNoObstacle}
 use Rattle.fb_laws.specs.Lengths.{IsGreatestStep}
-use Rattle.fb_laws.specs.Links.{AreEven}
-use Rattle.fb_laws.specs.Sprouts.{Sprout, nodes_of, vertices_of}
+use Rattle.fb_graph.specs.Links.{AreEven}
+use Rattle.fb_graph.specs.Sprouts.{Sprout, nodes_of, vertices_of}
 use Rattle.fb_laws.specs.Works.{AreMatchedLinks, IsWork, without}
 use Rattle.fb_laws.specs.Forming.{Child, names_of}
 use Rattle.fb_laws.specs.Trees.{Entry, Connects, grown_links, paired_links, plus_names, roles_of, path_to, beside}
 use Rattle.fb_laws.specs.Searches.{IsOuterNode, IsSearch, LeavesNode}
 use Rattle.fb_laws.specs.SearchBlossoms.{IsJoining, joined_tree, renamed}
 use Rattle.fb_laws.specs.SearchOpenings.{IsOpenedTree}
-use Rattle.fb_laws.specs.Nests.{IsNest}
-use Rattle.fb_laws.specs.Moves.{MaySplit, MayTakeUp, MayUncover, joined, split, taken_up, uncovered}
-use Rattle.fb_laws.specs.SourceWalks.{HaveWalks}
+use Rattle.fb_graph.specs.Nests.{IsNest}
+use Rattle.fb_graph.specs.Moves.{MaySplit, MayTakeUp, MayUncover, joined, split, taken_up, uncovered}
+use Rattle.fb_graph.specs.SourceWalks.{HaveWalks}
 use Rattle.fb_laws.specs.UnmatchedNames.{AreOuterNames}
 
 -- what holds between searches

@@ -2,18 +2,18 @@
 use Rattle.std.specs.Prelude.{ℕ, ◌≡◌, true, false, List, [], ◌∷◌}
 use Rattle.fb_graph.specs.Parity.{is_in}
 use Rattle.fb_graph.specs.Limits.{IsWithinLimits}
-use Rattle.fb_graph.specs.Laws.{HasNoOddClosed}
+use Rattle.fb_graph.specs.Laws.{Link, HasNoOddClosed}
 use Rattle.fb_graph.specs.Dual.{Node, is_live}
-use Rattle.fb_laws.specs.Covers.{HasNoObstacle}
+use Rattle.fb_graph.specs.Covers.{HasNoObstacle}
 use Rattle.fb_laws.specs.Forming.{Child}
-use Rattle.fb_laws.specs.Links.{AreEven}
-use Rattle.fb_laws.specs.Moves.{MaySplit, MayTakeUp, MayUncover, joined, taken_up, uncovered}
+use Rattle.fb_graph.specs.Links.{AreEven}
+use Rattle.fb_graph.specs.Moves.{MaySplit, MayTakeUp, MayUncover, joined, taken_up, uncovered}
 use Rattle.fb_laws.specs.NestedSearches.{IsNestedSearch}
 use Rattle.fb_laws.specs.Samples.{line, link, pair_nodes}
 use Rattle.fb_laws.specs.SearchBlossoms.{IsJoining}
 use Rattle.fb_laws.specs.SearchWitnesses.{chain_nodes, chain_branch}
 use Rattle.fb_laws.specs.Searches.{LeavesNode}
-use Rattle.fb_laws.specs.Steps.{MayStep, stepped}
+use Rattle.fb_graph.specs.Steps.{MayStep, stepped}
 use Rattle.fb_laws.specs.Trees.{Connects, plus_names, roles_of}
 use Rattle.fb_laws.specs.TreeWitnesses.{long_line, thin_nodes, thin_branch, crown, crown_nodes, closed_branch}
 use Rattle.fb_laws.specs.Works.{AreMatchedLinks}
@@ -55,7 +55,7 @@ NestedWitness = IsWithinLimits long_line × HasNoOddClosed long_line × AreEven 
 abbrev pub EndingWitness : Type 0
 EndingWitness = AreEven (line (1 ∷ 2 ∷ 3 ∷ []))
     × IsNestedSearch (line (1 ∷ 2 ∷ 3 ∷ [])) chain_nodes [] (chain_branch.matched ∷ []) (2 ∷ []) 2 0
-    × (is_in (plus_names 2 []) 2 ≡ true) × Connects chain_nodes chain_branch.tree 2 1
+    × (is_in (plus_names {L = Link} 2 []) 2 ≡ true) × Connects chain_nodes chain_branch.tree 2 1
     × Connects chain_nodes chain_branch.matched 1 0
     × AreMatchedLinks (line (1 ∷ 2 ∷ 3 ∷ [])) chain_nodes (chain_branch.tree ∷ [])
     × IsNestedSearch (line (1 ∷ 2 ∷ 3 ∷ [])) chain_nodes (chain_branch ∷ []) [] (2 ∷ []) 2 0

@@ -8,21 +8,24 @@ use Rattle.fb_graph.specs.Problem.{Problem}
 use Rattle.fb_graph.specs.Certificate.{AreDistinct}
 use Rattle.fb_graph.specs.Laws.{Link}
 use Rattle.fb_graph.specs.Dual.{Node, IsDual}
-use Rattle.fb_laws.specs.Nests.{IsNest}
-use Rattle.fb_laws.specs.Moves.{MaySplit, split}
+use Rattle.fb_graph.specs.Nests.{IsNest}
+use Rattle.fb_graph.specs.Moves.{MaySplit, split}
 use Rattle.fb_laws.specs.Works.{AreMatchedLinks}
-use Rattle.fb_laws.specs.Trees.{Entry, Connects, plus_names}
+use Rattle.fb_laws.specs.Trees.{Entry, EntryOf, Connects, plus_names}
 use Rattle.fb_laws.specs.Searches.{IsSearch}
 use Rattle.fb_laws.specs.SearchOpenings.{IsSplit, IsOpenedTree}
 use Rattle.fb_laws.specs.TreeCycles.{AreLinked}
 
 -- Two steps of the way: a link that is matched, to a child that becomes plus, and a link of the tree from there to a
 -- child that becomes minus.
-pub record Pass : Type 0 where
-  pub matched : Link
+pub record PassOf (L : Type 0) : Type 0 where
+  pub matched : L
   pub plus : ℕ
-  pub tree : Link
+  pub tree : L
   pub minus : ℕ
+
+abbrev pub Pass : Type 0
+Pass = PassOf Link
 
 -- two children beside the way, and the link that matches them
 pub record Couple : Type 0 where
@@ -40,12 +43,12 @@ abbrev pub AreCoupled : List Node → List Couple → Type 0
 AreCoupled nodes couples = All (λ c. Connects nodes c.link c.first c.second) couples
 
 -- the child at which the way ends
-abbrev pub last_of : ℕ → List Pass → ℕ
+abbrev pub last_of : {L : Type 0} → ℕ → List (PassOf L) → ℕ
 last_of from [] = from
 last_of from (s ∷ ss) = last_of s.minus ss
 
 -- the other children of the way, which are matched in pairs
-abbrev pub paired_on : ℕ → List Pass → List ℕ
+abbrev pub paired_on : {L : Type 0} → ℕ → List (PassOf L) → List ℕ
 paired_on from [] = []
 paired_on from (s ∷ ss) = from ∷ s.plus ∷ paired_on s.minus ss
 
@@ -57,10 +60,10 @@ paired_beside (c ∷ cs) = c.first ∷ c.second ∷ paired_beside cs
 abbrev pub paired_of : ℕ → List Pass → List Couple → List ℕ
 paired_of from way couples = paired_on from way ++ paired_beside couples
 
-abbrev pub matched_on : List Pass → List Link
+abbrev pub matched_on : {L : Type 0} → List (PassOf L) → List L
 matched_on way = map (λ s. s.matched) way
 
-abbrev pub grown_on : List Pass → List Link
+abbrev pub grown_on : {L : Type 0} → List (PassOf L) → List L
 grown_on way = map (λ s. s.tree) way
 
 abbrev pub matched_beside : List Couple → List Link
@@ -68,7 +71,7 @@ matched_beside couples = map (λ c. c.link) couples
 
 -- the branches along the way, the last one first: from the parent over a link to the minus node, and so on to the
 -- matched link to the plus node
-abbrev pub opened_branches : ℕ → Link → ℕ → List Pass → Link → ℕ → List Entry
+abbrev pub opened_branches : {L : Type 0} → ℕ → L → ℕ → List (PassOf L) → L → ℕ → List (EntryOf L)
 opened_branches parent tree minus [] matched plus =
     record { parent = parent; tree = tree; minus = minus; matched = matched; plus = plus } ∷ []
 opened_branches parent tree minus (s ∷ ss) matched plus =
@@ -76,7 +79,7 @@ opened_branches parent tree minus (s ∷ ss) matched plus =
     ++ record { parent = parent; tree = tree; minus = minus; matched = s.matched; plus = s.plus } ∷ []
 
 -- they stand in the place of the branch of the blossom
-abbrev pub opened_tree : List Entry → Entry → List Entry → ℕ → List Pass → List Entry
+abbrev pub opened_tree : {L : Type 0} → List (EntryOf L) → EntryOf L → List (EntryOf L) → ℕ → List (PassOf L) → List (EntryOf L)
 opened_tree newer e older from way = newer ++ (opened_branches e.parent e.tree from way e.matched e.plus ++ older)
 
 -- The blossom's children along the way from the one at which the link of the tree ends to the one at which the

@@ -7,9 +7,9 @@ use Rattle.fb_graph.specs.Certificate.{IsPacking}
 use Rattle.fb_graph.specs.Laws.{Link, IsPerfect, IsSolved, odd_edges}
 use Rattle.fb_graph.specs.Dual.{IsWithin}
 use Rattle.fb_graph.specs.declared.parts.Cut.{Cut}
-use Rattle.fb_laws.specs.Ends.{ends_in, AreAllApart, crossing_links}
+use Rattle.fb_graph.specs.Ends.{ends_in, AreAllApart, crossing_links}
 use Rattle.fb_laws.specs.Blossoms.{ArePaired}
-use Rattle.fb_laws.specs.Links.{IsTightLink}
+use Rattle.fb_graph.specs.Links.{IsTightLink}
 
 -- Sets that lie apart, each with one end of all links, and cuts of which each is crossed at most once.
 pub record IsLevel (cuts : List Cut) (sets : List (List ℕ)) (links : List Link) : Type 0 where

@@ -8,9 +8,9 @@ use Rattle.fb_graph.specs.Components.{Leads}
 use Rattle.fb_graph.specs.Laws.{Link}
 use Rattle.fb_graph.specs.Dual.{Node, IsDual, all_cuts, leaves, cover_of, height_of, AreUnderOne, AreOuterApart}
 use Rattle.fb_graph.specs.declared.parts.Edge.{Edge}
-use Rattle.fb_laws.specs.Steps.{Roles, AllowShrinking, stepped}
-use Rattle.fb_laws.specs.Covers.{AreRoles, HaveParity, is_over}
-use Rattle.fb_laws.specs.Links.{IsTightLink, AreEven}
+use Rattle.fb_graph.specs.Steps.{Roles, AllowShrinking, stepped}
+use Rattle.fb_graph.specs.Covers.{AreRoles, HaveParity, is_over}
+use Rattle.fb_graph.specs.Links.{IsTightLink, AreEven}
 
 -- any two defects under one outer node have potentials of one parity
 abbrev pub HaveOneParity : List Node → Type 0

@@ -2,8 +2,8 @@
 use Rattle.std.specs.Prelude.{ℕ, ◌≡◌, ◌+◌, ◌⊎◌, Bool, true, false, List, [], ◌∷◌, ◌++◌, map, All}
 use Rattle.fb_graph.specs.Parity.{is_in}
 use Rattle.fb_graph.specs.Laws.{Link}
-use Rattle.fb_laws.specs.Counts.{as_count}
-use Rattle.fb_laws.specs.Ends.{ends_in}
+use Rattle.fb_graph.specs.Counts.{as_count}
+use Rattle.fb_graph.specs.Ends.{ends_in}
 
 -- the link has an end in the one set, and its other end at the vertex
 abbrev pub LeadsOut : Link → List ℕ → ℕ → Type 0

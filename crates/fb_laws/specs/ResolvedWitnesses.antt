@@ -6,12 +6,12 @@ use Rattle.fb_graph.specs.Printed.{HasPositiveCuts}
 use Rattle.fb_graph.specs.Laws.{Link}
 use Rattle.fb_graph.specs.Dual.{Node, all_cuts, is_live, leaves, top_at}
 use Rattle.fb_graph.specs.declared.parts.Cut.{Cut}
-use Rattle.fb_laws.specs.Steps.{stepped}
-use Rattle.fb_laws.specs.Links.{IsTightLink}
+use Rattle.fb_graph.specs.Steps.{stepped}
+use Rattle.fb_graph.specs.Links.{IsTightLink}
 use Rattle.fb_laws.specs.Blossoms.{ArePaired}
 use Rattle.fb_laws.specs.Opening.{EndAtDefects, IsLevel}
 use Rattle.fb_laws.specs.Works.{HasDefects, positive_cuts}
-use Rattle.fb_laws.specs.Nests.{IsNest}
+use Rattle.fb_graph.specs.Nests.{IsNest}
 use Rattle.fb_laws.specs.NestSolutions.{AreChildrenOf, lone_sets}
 use Rattle.fb_laws.specs.NestWitnesses.{blossom_nodes, blossom_roles}
 use Rattle.fb_laws.specs.Samples.{cut, link, triangle}

@@ -6,8 +6,8 @@ use Rattle.fb_graph.specs.Laws.{Link}
 use Rattle.fb_graph.specs.Dual.{Node}
 use Rattle.fb_graph.specs.declared.parts.Edge.{Edge}
 use Rattle.fb_graph.specs.declared.parts.Cut.{Cut}
-use Rattle.fb_laws.specs.Steps.{Roles}
-use Rattle.fb_laws.specs.Sprouts.{Sprout, nodes_of}
+use Rattle.fb_graph.specs.Steps.{Roles}
+use Rattle.fb_graph.specs.Sprouts.{Sprout, nodes_of}
 
 abbrev pub edge : ℕ → ℕ → ℕ → Edge
 edge u v w = record { first = u; second = v; weight = w }

@@ -8,7 +8,7 @@ use Rattle.fb_graph.specs.Dual.{Node, IsDual, is_outer, top_at}
 use Rattle.fb_laws.specs.Forming.{Child, names_of, blossom_of}
 use Rattle.fb_laws.specs.Measures.{IsLower}
 use Rattle.fb_laws.specs.Works.{IsSetOf}
-use Rattle.fb_laws.specs.Trees.{Entry, plus_names, minus_names, tree_names, roles_of}
+use Rattle.fb_laws.specs.Trees.{Entry, EntryOf, plus_names, minus_names, tree_names, roles_of}
 use Rattle.fb_laws.specs.Searches.{IsSearch}
 use Rattle.fb_laws.specs.SearchLayers.{left_to_do}
 
@@ -16,7 +16,7 @@ use Rattle.fb_laws.specs.SearchLayers.{left_to_do}
 abbrev pub renamed : (ℕ → Bool) → ℕ → ℕ → ℕ
 renamed joined name n = if joined n then name else n
 
-abbrev pub renamed_entry : (ℕ → Bool) → ℕ → Entry → Entry
+abbrev pub renamed_entry : {L : Type 0} → (ℕ → Bool) → ℕ → EntryOf L → EntryOf L
 renamed_entry joined name e = record {
   parent = renamed joined name e.parent;
   tree = e.tree;
@@ -26,14 +26,14 @@ renamed_entry joined name e = record {
 }
 
 -- the branches that it takes in
-abbrev pub inner_branches : (ℕ → Bool) → List Entry → List Entry
+abbrev pub inner_branches : {L : Type 0} → (ℕ → Bool) → List (EntryOf L) → List (EntryOf L)
 inner_branches joined tree = filter (λ e. joined e.minus) tree
 
-abbrev pub outer_branches : (ℕ → Bool) → List Entry → List Entry
+abbrev pub outer_branches : {L : Type 0} → (ℕ → Bool) → List (EntryOf L) → List (EntryOf L)
 outer_branches joined tree = filter (λ e. not (joined e.minus)) tree
 
 -- the tree with the blossom in it
-abbrev pub joined_tree : (ℕ → Bool) → ℕ → List Entry → List Entry
+abbrev pub joined_tree : {L : Type 0} → (ℕ → Bool) → ℕ → List (EntryOf L) → List (EntryOf L)
 joined_tree joined name tree = map (renamed_entry joined name) (outer_branches joined tree)
 
 -- Each branch that is taken in hangs on the base or on another one that is, and only the base hangs on a branch that

@@ -1,46 +1,23 @@
 -- A search in which layers without value come and go, and what its steps leave to do.
-use Rattle.std.specs.Prelude.{ℕ, ◌≡◌, ◌==◌, ◌&&◌, ◌<◌, Bool, true, false, not, List, [], ◌∷◌, length, sum_by, count_by, Some, None, if◌then◌else◌}
+use Rattle.std.specs.Prelude.{ℕ, ◌≡◌, ◌==◌, ◌&&◌, ◌<◌, Bool, true, false, not, List, ◌∷◌, length, sum_by, count_by, None, if◌then◌else◌, []}
 use Rattle.std.specs.List.{range_with_len}
 use Rattle.fb_graph.specs.Parity.{is_in}
 use Rattle.fb_graph.specs.Problem.{Problem}
-use Rattle.fb_graph.specs.Certificate.{load_of}
 use Rattle.fb_graph.specs.Laws.{Link}
-use Rattle.fb_graph.specs.Dual.{Node, IsDual, all_cuts, leaves, cover_of, height_of, is_empty, is_live, is_outer, layers_of, change_at, taller}
-use Rattle.fb_graph.specs.declared.parts.Edge.{Edge}
-use Rattle.fb_laws.specs.Counts.{as_count}
-use Rattle.fb_laws.specs.Covers.{is_over}
+use Rattle.fb_graph.specs.Dual.{Node, IsDual, leaves, cover_of, is_empty, is_live, is_outer, layers_of, change_at, taller}
+use Rattle.fb_graph.specs.Counts.{as_count}
+use Rattle.fb_graph.specs.Covers.{is_over}
 use Rattle.fb_laws.specs.Measures.{IsLower}
-use Rattle.fb_laws.specs.Steps.{Roles, stepped}
+use Rattle.fb_graph.specs.Steps.{Roles, stepped}
 use Rattle.fb_laws.specs.Trees.{Entry, roles_of}
 use Rattle.fb_laws.specs.Searches.{IsSearch}
-
--- two states with the same defects, loads and potentials, and the same nodes over the defects
-pub record AreAlike (nodes others : List Node) : Type 0 where
-  pub defects : leaves others ≡ leaves nodes
-  pub loads : (e : Edge) → load_of (all_cuts others) e ≡ load_of (all_cuts nodes) e
-  pub heights : (v : ℕ) → height_of (all_cuts others) v ≡ height_of (all_cuts nodes) v
-  pub covers : (d : ℕ) → is_in (leaves nodes) d ≡ true → cover_of others d ≡ cover_of nodes d
+use Rattle.fb_graph.specs.Alike.{AreAlike}
 
 -- One is the state of a search where the other is.
 abbrev pub SearchAlike : Type 0
 SearchAlike = (p : Problem) (nodes others : List Node) (tree : List Entry) (rest : List Link) (unmatched : List ℕ)
     (root r : ℕ) → AreAlike nodes others → IsDual p others → IsSearch p nodes tree rest unmatched root r
     → IsSearch p others tree rest unmatched root r
-
--- So are the states before and after a vertex that is no defect is taken up, and the other way round where an empty
--- layer is taken off.
-abbrev pub TallerAlike : Type 0
-TallerAlike = (nodes : List Node) (name v : ℕ) → is_in (leaves nodes) v ≡ false
-    → AreAlike nodes (change_at name (taller v) nodes) × AreAlike (change_at name (taller v) nodes) nodes
-
--- Only the vertex itself gets another node over it.
-abbrev pub TallerCovers : Type 0
-TallerCovers = (nodes : List Node) (name v u : ℕ) → (v == u) ≡ false
-    → cover_of (change_at name (taller v) nodes) u ≡ cover_of nodes u
-
-abbrev pub TallerCovered : Type 0
-TallerCovered = (nodes : List Node) (name v : ℕ) → is_live nodes name ≡ true → is_outer nodes name ≡ true
-    → cover_of nodes v ≡ None → cover_of (change_at name (taller v) nodes) v ≡ Some name
 
 -- defects under no node that passes the test
 abbrev pub defects_beside : (ℕ → Bool) → List Node → ℕ

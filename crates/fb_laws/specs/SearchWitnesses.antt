@@ -2,7 +2,7 @@
 -- one, the root, meets them.
 use Rattle.std.specs.Prelude.{List, [], ◌∷◌}
 use Rattle.fb_graph.specs.Dual.{Node}
-use Rattle.fb_laws.specs.Sprouts.{Sprout, nodes_of}
+use Rattle.fb_graph.specs.Sprouts.{Sprout, nodes_of}
 use Rattle.fb_laws.specs.Samples.{line, link, sprout}
 use Rattle.fb_laws.specs.Trees.{Entry}
 use Rattle.fb_laws.specs.Searches.{IsSearch}

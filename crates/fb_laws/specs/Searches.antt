@@ -7,10 +7,10 @@ use Rattle.fb_graph.specs.Problem.{Problem}
 use Rattle.fb_graph.specs.Certificate.{AreDistinct}
 use Rattle.fb_graph.specs.Laws.{Link}
 use Rattle.fb_graph.specs.Dual.{Node, IsDual, leaves, cover_of, top_at}
-use Rattle.fb_laws.specs.Steps.{AllowShrinking, gains, losses, stepped}
-use Rattle.fb_laws.specs.Covers.{AreRoles, HaveParity}
+use Rattle.fb_graph.specs.Steps.{AllowShrinking, gains, losses, stepped}
+use Rattle.fb_graph.specs.Covers.{AreRoles, HaveParity}
 use Rattle.fb_laws.specs.Paths.{IsPath, tip_of}
-use Rattle.fb_laws.specs.Links.{pair, AreEven}
+use Rattle.fb_graph.specs.Links.{pair, AreEven}
 use Rattle.fb_laws.specs.Works.{AreMatchedLinks, IsMatching, IsWork, IsBranchOf, without}
 use Rattle.fb_laws.specs.Trees.{Entry, Connects, IsTree, grown_links, paired_links, plus_names, tree_names, roles_of, path_to, beside, branches_of}
 

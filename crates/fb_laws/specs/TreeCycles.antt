@@ -7,42 +7,42 @@ use Rattle.fb_graph.specs.Certificate.{AreDistinct}
 use Rattle.fb_graph.specs.Laws.{Link}
 use Rattle.fb_graph.specs.Dual.{Node, is_outer}
 use Rattle.fb_laws.specs.Forming.{names_of, blossom_of}
-use Rattle.fb_laws.specs.Nests.{AreMany}
-use Rattle.fb_laws.specs.Trees.{Entry, Connects, plus_names, minus_names, tree_names, path_to}
+use Rattle.fb_graph.specs.Nests.{AreMany}
+use Rattle.fb_laws.specs.Trees.{Entry, EntryOf, Connects, plus_names, minus_names, tree_names, path_to}
 use Rattle.fb_laws.specs.Searches.{IsSearch}
 use Rattle.fb_laws.specs.SearchBlossoms.{IsJoining, child_at}
 
 -- the nodes of branches that follow one another, and their links
-abbrev pub nodes_along : List Entry → List ℕ
+abbrev pub nodes_along : {L : Type 0} → List (EntryOf L) → List ℕ
 nodes_along [] = []
 nodes_along (e ∷ es) = e.minus ∷ e.plus ∷ nodes_along es
 
-abbrev pub links_along : List Entry → List Link
+abbrev pub links_along : {L : Type 0} → List (EntryOf L) → List L
 links_along [] = []
 links_along (e ∷ es) = e.tree ∷ e.matched ∷ links_along es
 
 -- both the other way round
-abbrev pub nodes_back : List Entry → List ℕ
+abbrev pub nodes_back : {L : Type 0} → List (EntryOf L) → List ℕ
 nodes_back [] = []
 nodes_back (e ∷ es) = nodes_back es ++ e.plus ∷ e.minus ∷ []
 
-abbrev pub links_back : List Entry → List Link
+abbrev pub links_back : {L : Type 0} → List (EntryOf L) → List L
 links_back [] = []
 links_back (e ∷ es) = links_back es ++ e.matched ∷ e.tree ∷ []
 
 -- the plus node to which branches lead from the node
-abbrev pub last_plus : ℕ → List Entry → ℕ
+abbrev pub last_plus : {L : Type 0} → ℕ → List (EntryOf L) → ℕ
 last_plus name [] = name
 last_plus name (e ∷ es) = last_plus e.plus es
 
 -- if both begin with a branch, it isn't the same one
-abbrev pub PartAtOnce : List Entry → List Entry → Type 0
+abbrev pub PartAtOnce : {L : Type 0} → List (EntryOf L) → List (EntryOf L) → Type 0
 PartAtOnce [] fs = Unit {0}
 PartAtOnce (e ∷ es) [] = Unit {0}
 PartAtOnce (e ∷ es) (f ∷ fs) = e.minus ≡ f.minus → ⊥
 
 -- the paths from the root to two plus nodes: the branches of both, and those of each from where they part
-pub record ArePaths (tree : List Entry) (a b : ℕ) (shared up down : List Entry) : Type 0 where
+pub record ArePaths {L : Type 0} (tree : List (EntryOf L)) (a b : ℕ) (shared up down : List (EntryOf L)) : Type 0 where
   pub first : path_to tree a ≡ shared ++ up
   pub second : path_to tree b ≡ shared ++ down
   pub parted : PartAtOnce up down
@@ -53,10 +53,10 @@ PathsPart = (tree : List Entry) (root a b : ℕ) → AreDistinct (tree_names roo
     → (shared : List Entry) × (up : List Entry) × (down : List Entry) × ArePaths tree a b shared up down
 
 -- The cycle begins at the node where they part. Its other nodes are those down the one path and back up the other.
-abbrev pub cycle_nodes : List Entry → List Entry → List ℕ
+abbrev pub cycle_nodes : {L : Type 0} → List (EntryOf L) → List (EntryOf L) → List ℕ
 cycle_nodes up down = nodes_along up ++ nodes_back down
 
-abbrev pub cycle_links : List Entry → Link → List Entry → List Link
+abbrev pub cycle_links : {L : Type 0} → List (EntryOf L) → L → List (EntryOf L) → List L
 cycle_links up closing down = links_along up ++ closing ∷ links_back down
 
 -- each of the nodes is linked with the one before it, the first one with `from`

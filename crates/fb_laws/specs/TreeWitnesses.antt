@@ -4,16 +4,16 @@ use Rattle.fb_graph.specs.Parity.{is_in}
 use Rattle.fb_graph.specs.Problem.{Problem}
 use Rattle.fb_graph.specs.Dual.{Node, IsDual, leaves, cover_of, is_live, is_outer}
 use Rattle.fb_laws.specs.Forming.{Child, blossom_of}
-use Rattle.fb_laws.specs.Moves.{joined, uncovered}
+use Rattle.fb_graph.specs.Moves.{joined, uncovered}
 use Rattle.fb_laws.specs.NestWitnesses.{blossom_nodes, blossom_roles}
 use Rattle.fb_laws.specs.Opening.{Opened, IsOpenedTo, single_sets}
 use Rattle.fb_laws.specs.Samples.{cut, edge, link, sprout, triangle, corner_nodes}
 use Rattle.fb_laws.specs.SearchBlossoms.{IsJoining, child_at}
-use Rattle.fb_laws.specs.SearchLayers.{AreAlike}
+use Rattle.fb_graph.specs.Alike.{AreAlike}
 use Rattle.fb_laws.specs.SearchOpenings.{IsOpenedTree}
 use Rattle.fb_laws.specs.Searches.{IsSearch}
-use Rattle.fb_laws.specs.Sprouts.{Sprout, node_of, nodes_of}
-use Rattle.fb_laws.specs.Steps.{stepped}
+use Rattle.fb_graph.specs.Sprouts.{Sprout, node_of, nodes_of}
+use Rattle.fb_graph.specs.Steps.{stepped}
 use Rattle.fb_laws.specs.Trees.{Entry, minus_names, roles_of}
 use Rattle.fb_laws.specs.Works.{IsMatching, positive_cuts, outer_sets}
 

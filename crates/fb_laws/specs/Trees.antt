@@ -4,36 +4,40 @@ use Rattle.std.specs.Prelude.{ℕ, ◌≡◌, ◌==◌, ◌⊎◌, true, List, [
 use Rattle.fb_graph.specs.Parity.{is_in}
 use Rattle.fb_graph.specs.Laws.{Link}
 use Rattle.fb_graph.specs.Dual.{Node, cover_of, top_at}
-use Rattle.fb_laws.specs.Steps.{Roles}
+use Rattle.fb_graph.specs.Steps.{Roles}
 use Rattle.fb_laws.specs.Paths.{Branch}
 
--- From a plus node, the parent, a link of the tree to a minus node, and the matched link from there to a plus node.
-pub record Entry : Type 0 where
+-- From a plus node, the parent, a link of the tree to a minus node, and the matched link from there to a plus node. The
+-- links are of any form: a program has their numbers, the laws have the links themselves.
+pub record EntryOf (L : Type 0) : Type 0 where
   pub parent : ℕ
-  pub tree : Link
+  pub tree : L
   pub minus : ℕ
-  pub matched : Link
+  pub matched : L
   pub plus : ℕ
 
-abbrev pub grown_links : List Entry → List Link
+abbrev pub Entry : Type 0
+Entry = EntryOf Link
+
+abbrev pub grown_links : {L : Type 0} → List (EntryOf L) → List L
 grown_links tree = map (λ e. e.tree) tree
 
-abbrev pub paired_links : List Entry → List Link
+abbrev pub paired_links : {L : Type 0} → List (EntryOf L) → List L
 paired_links tree = map (λ e. e.matched) tree
 
-abbrev pub plus_names : ℕ → List Entry → List ℕ
+abbrev pub plus_names : {L : Type 0} → ℕ → List (EntryOf L) → List ℕ
 plus_names root [] = root ∷ []
 plus_names root (e ∷ es) = e.plus ∷ plus_names root es
 
-abbrev pub minus_names : List Entry → List ℕ
+abbrev pub minus_names : {L : Type 0} → List (EntryOf L) → List ℕ
 minus_names tree = map (λ e. e.minus) tree
 
-abbrev pub tree_names : ℕ → List Entry → List ℕ
+abbrev pub tree_names : {L : Type 0} → ℕ → List (EntryOf L) → List ℕ
 tree_names root [] = root ∷ []
 tree_names root (e ∷ es) = e.minus ∷ e.plus ∷ tree_names root es
 
 -- the roles that the tree gives
-abbrev pub roles_of : ℕ → List Entry → Roles
+abbrev pub roles_of : {L : Type 0} → ℕ → List (EntryOf L) → Roles
 roles_of root tree = record { is_plus = is_in (plus_names root tree); is_minus = is_in (minus_names tree) }
 
 -- one end of the link is under the one node, the other end under the other
@@ -50,12 +54,12 @@ IsTree nodes root (e ∷ es) =
     × Connects nodes e.matched e.minus e.plus × IsTree nodes root es
 
 -- the branches from the root to a plus node, the one at the root first
-abbrev pub path_to : List Entry → ℕ → List Entry
+abbrev pub path_to : {L : Type 0} → List (EntryOf L) → ℕ → List (EntryOf L)
 path_to [] name = []
 path_to (e ∷ es) name = if e.plus == name then path_to es e.parent ++ e ∷ [] else path_to es name
 
 -- the other branches
-abbrev pub beside : List Entry → ℕ → List Entry
+abbrev pub beside : {L : Type 0} → List (EntryOf L) → ℕ → List (EntryOf L)
 beside [] name = []
 beside (e ∷ es) name = if e.plus == name then beside es e.parent else e ∷ beside es name
 

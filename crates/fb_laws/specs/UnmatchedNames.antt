@@ -3,10 +3,10 @@
 use Rattle.std.specs.Prelude.{ℕ, ◌≡◌, true, false, List, ◌∷◌, ◌++◌, map}
 use Rattle.fb_graph.specs.Parity.{is_in}
 use Rattle.fb_graph.specs.Dual.{Node, is_live, is_outer}
-use Rattle.fb_laws.specs.Steps.{Roles, stepped}
-use Rattle.fb_laws.specs.Sprouts.{Sprout, nodes_of}
-use Rattle.fb_laws.specs.Moves.{joined, split, taken_up, uncovered}
-use Rattle.fb_laws.specs.Nests.{IsForest}
+use Rattle.fb_graph.specs.Steps.{Roles, stepped}
+use Rattle.fb_graph.specs.Sprouts.{Sprout, nodes_of}
+use Rattle.fb_graph.specs.Moves.{joined, split, taken_up, uncovered}
+use Rattle.fb_graph.specs.Nests.{IsForest}
 
 abbrev pub AreOuterNames : List Node → List ℕ → Type 0
 AreOuterNames nodes names = (n : ℕ) → is_in names n ≡ true → is_outer nodes n ≡ true

@@ -7,23 +7,23 @@ use Rattle.fb_graph.specs.Certificate.{AreDistinct, IsOddCut, IsPacking, load_of
 use Rattle.fb_graph.specs.Components.{Leads}
 use Rattle.fb_graph.specs.Laws.{IsTight, HasNoOddClosed, IsSolved, IsPerfect, ends_of}
 use Rattle.fb_graph.specs.Dual.{IsDual, AreUnderOne, AreOuterApart, all_cuts, cover_of, height_of, AreGrown}
-use Rattle.fb_laws.specs.Steps.{AreExclusive, gains, losses, MayStep, stepped}
+use Rattle.fb_graph.specs.Steps.{AreExclusive, gains, losses, MayStep, stepped}
 use Rattle.fb_laws.specs.Lengths.{HasPlus, IsGreatestStep}
-use Rattle.fb_laws.specs.Covers.{AreRoles, HaveParity, HasNoObstacle, is_over}
+use Rattle.fb_graph.specs.Covers.{AreRoles, HaveParity, HasNoObstacle, is_over}
 use Rattle.fb_laws.specs.Signed.{shifted, unshifted}
-use Rattle.fb_laws.specs.Links.{IsSourceWalk, IsTightLink, ArePartedBy, AreEven}
-use Rattle.fb_laws.specs.Ends.{ends_in, AreAllApart}
+use Rattle.fb_graph.specs.Links.{IsSourceWalk, IsTightLink, ArePartedBy, AreEven}
+use Rattle.fb_graph.specs.Ends.{ends_in, AreAllApart}
 use Rattle.fb_laws.specs.Paths.{Branch, IsPath, AreWholeOnPath, IsWhole, LeadsOut, tip_of}
 use Rattle.fb_laws.specs.Blossoms.{IsInside, ArePaired, AlternateFrom}
 use Rattle.fb_laws.specs.Fusion.{AreParts, IsLinkOf}
 use Rattle.fb_laws.specs.Opening.{IsLevel, IsOpening, IsOpenedTo, IsWithinOne, EndAtDefects, single_sets}
 use Rattle.fb_laws.specs.Parities.{HaveOneParity}
-use Rattle.fb_laws.specs.Turns.{IsPartlyGrown}
+use Rattle.fb_graph.specs.Turns.{IsPartlyGrown}
 use Rattle.fb_laws.specs.Works.{AreMatchedLinks, IsMatching, IsWork, IsSetOf, positive_cuts, outer_sets}
-use Rattle.fb_laws.specs.Sprouts.{AreSprouts, nodes_of}
+use Rattle.fb_graph.specs.Sprouts.{AreSprouts, nodes_of}
 use Rattle.fb_laws.specs.Measures.{IsLower}
 use Rattle.fb_laws.specs.Merging.{IsSeam, freed_links}
-use Rattle.fb_laws.specs.Counts.{as_count}
+use Rattle.fb_graph.specs.Counts.{as_count}
 use Rattle.fb_laws.specs.Forming.{IsCycle}
 use Rattle.fb_laws.specs.Samples.{sprout, end_sprouts, middle_sprouts, link, line, triangle, cut, line_sprouts, line_nodes, line_roles, grown_nodes, grown_roles, corner_nodes, corner_roles, line_part, blossom_cuts, bare_sprouts, young_nodes, pair_nodes, pair_roles}
 

@@ -9,17 +9,17 @@ use Rattle.fb_graph.specs.Laws.{Link, IsSolved, odd_edges}
 use Rattle.fb_graph.specs.Dual.{Node, IsDual, all_cuts, leaves, cover_of, is_outer, node_at}
 use Rattle.fb_graph.specs.declared.parts.Edge.{Edge}
 use Rattle.fb_graph.specs.declared.parts.Cut.{Cut}
-use Rattle.fb_laws.specs.Counts.{as_count}
-use Rattle.fb_laws.specs.Steps.{Roles, AllowShrinking, gains, losses, stepped}
-use Rattle.fb_laws.specs.Covers.{AreRoles, HaveParity}
-use Rattle.fb_laws.specs.Ends.{ends_in}
+use Rattle.fb_graph.specs.Counts.{as_count}
+use Rattle.fb_graph.specs.Steps.{Roles, AllowShrinking, gains, losses, stepped}
+use Rattle.fb_graph.specs.Covers.{AreRoles, HaveParity}
+use Rattle.fb_graph.specs.Ends.{ends_in}
 use Rattle.fb_laws.specs.Paths.{Branch, IsPath, LeadsOut, tip_of, tree_links, matched_links}
-use Rattle.fb_laws.specs.Links.{IsTightLink}
+use Rattle.fb_graph.specs.Links.{IsTightLink}
 use Rattle.fb_laws.specs.Parities.{HaveOneParity}
 use Rattle.fb_laws.specs.Fusion.{IsLinkOf}
 use Rattle.fb_laws.specs.Opening.{IsLevel, EndAtDefects, Opened, IsOpenedTo, single_sets}
-use Rattle.fb_laws.specs.Sprouts.{Sprout, nodes_of, vertices_of}
-use Rattle.fb_laws.specs.Links.{pair}
+use Rattle.fb_graph.specs.Sprouts.{Sprout, nodes_of, vertices_of}
+use Rattle.fb_graph.specs.Links.{pair}
 
 -- tight links of the part between its defects, or from a defect to the boundary
 pub record AreMatchedLinks (p : Problem) (nodes : List Node) (links : List Link) : Type 0 where

@@ -1,6 +1,6 @@
 //! What an edge gains and loses by a step, told by the outer nodes over its ends.
 
-ghost use Rattle.fb_laws.specs.Covers.{CrossingsByCover, NoCrossingsWithin, LevelBetween, LevelWithin, LevelOutside, EvenResidue, FreeStep, CoverStepped, LeavesStepped, HeightStepped};
+ghost use Rattle.fb_graph.specs.Covers.{CrossingsByCover, NoCrossingsWithin, LevelBetween, LevelWithin, LevelOutside, EvenResidue, FreeStep, CoverStepped, LeavesStepped, HeightStepped};
 
 /// An edge crosses just the sets of the outer nodes over its two ends, and none where one node is over both.
 pub fn crossings_by_cover()

@@ -1,6 +1,6 @@
 //! The ends of links in sets of vertices.
 
-ghost use Rattle.fb_laws.specs.Ends.{EndsAppend, EndsPermuted, EndsUnion, EndsByCrossings, CrossedOnce};
+ghost use Rattle.fb_graph.specs.Ends.{EndsAppend, EndsPermuted, EndsUnion, EndsByCrossings, CrossedOnce};
 
 /// The ends of links in a set add up over lists of links, and over sets that lie apart.
 pub fn ends_add()

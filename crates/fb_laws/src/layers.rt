@@ -1,6 +1,7 @@
 //! Layers without value in a search, and how each step leaves less to do.
 
-ghost use Rattle.fb_laws.specs.SearchLayers.{SearchAlike, TallerAlike, TallerCovers, TallerCovered, FreeLowers, AttachLowers, AbsorbLowers, UncoverLowers};
+ghost use Rattle.fb_laws.specs.SearchLayers.{SearchAlike, FreeLowers, AttachLowers, AbsorbLowers, UncoverLowers};
+ghost use Rattle.fb_graph.specs.Alike.{TallerAlike, TallerCovers, TallerCovered};
 
 /// A search stays one where a vertex is taken up, or an empty layer taken off; only that vertex changes its node.
 pub fn search_layers()

@@ -1,6 +1,6 @@
 //! Links made, turned and joined, and what keeps them tight.
 
-ghost use Rattle.fb_laws.specs.Links.{PartedFromLow, MeetingTight, BoundaryTight, TurnedTight, JoinedTight, EmptyLayerLoads, EmptyLayerHeights, SourceStepped, LinkParity, BoundaryParity, MeetingParity, SourceParity};
+ghost use Rattle.fb_graph.specs.Links.{PartedFromLow, MeetingTight, BoundaryTight, TurnedTight, JoinedTight, EmptyLayerLoads, EmptyLayerHeights, SourceStepped, LinkParity, BoundaryParity, MeetingParity, SourceParity};
 
 /// Where two nodes, or a node and the boundary, meet over an edge without residue, the source walks and the edge are a
 /// tight link.

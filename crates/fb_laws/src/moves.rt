@@ -1,6 +1,6 @@
 //! The moves of a dual state with blossoms, and that they keep it.
 
-ghost use Rattle.fb_laws.specs.Moves.{NestJoined, NestSplit, NestUncovered, NestStepped, NestTakenUp, NestBegins};
+ghost use Rattle.fb_graph.specs.Moves.{NestJoined, NestSplit, NestUncovered, NestStepped, NestTakenUp, NestBegins};
 
 /// An odd number of outer nodes joined keep the dual state.
 pub fn nest_joined()

@@ -1,6 +1,6 @@
 //! One step of an alternating tree: plus nodes grow and minus nodes shrink by one length.
 
-ghost use Rattle.fb_laws.specs.Steps.{LoadStepped, PackingStepped, StepsAdd, StepsSplit, SteppedTwice, TightStepped};
+ghost use Rattle.fb_graph.specs.Steps.{LoadStepped, PackingStepped, StepsAdd, StepsSplit, SteppedTwice, TightStepped};
 
 /// A step adds its length to the load of an edge once for each plus set that the edge crosses, and takes it off once
 /// for each minus set. So a link that crosses as many plus as minus sets stays tight.

@@ -1,6 +1,6 @@
 //! A step of a tree made node by node.
 
-ghost use Rattle.fb_laws.specs.Turns.{NoTurn, ShrunkNext, GrownNext, SameRoles, TopStepped, GrowthAllowed, ShrinkAllowed};
+ghost use Rattle.fb_graph.specs.Turns.{NoTurn, ShrunkNext, GrownNext, SameRoles, TopStepped, GrowthAllowed, ShrinkAllowed};
 
 /// Nodes that shrink and grow one after another make the step.
 pub fn step_in_turns()

@@ -1,4 +1,4 @@
-use Rattle.fb_laws.proofs.Crossings.{crossings_by_cover, no_crossings_within}
+use Rattle.fb_graph.proofs.Crossings.{crossings_by_cover, no_crossings_within}
 use Rattle.fb_laws.proofs.covers.crossings_by_cover.Goals as goal
 
 pub returns-clause-apart : goal.returns-clause-apart

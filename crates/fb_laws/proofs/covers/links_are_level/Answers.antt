@@ -1,4 +1,4 @@
-use Rattle.fb_laws.proofs.Crossings.{level_between, level_within, level_outside}
+use Rattle.fb_graph.proofs.Crossings.{level_between, level_within, level_outside}
 use Rattle.fb_laws.proofs.covers.links_are_level.Goals as goal
 
 pub returns-clause-between : goal.returns-clause-between

@@ -1,4 +1,4 @@
-use Rattle.fb_laws.proofs.StepHeights.{cover_stepped, leaves_stepped, height_stepped}
+use Rattle.fb_graph.proofs.StepHeights.{cover_stepped, leaves_stepped, height_stepped}
 use Rattle.fb_laws.proofs.covers.step_heights.Goals as goal
 
 pub returns-clause-cover : goal.returns-clause-cover

@@ -1,4 +1,4 @@
-use Rattle.fb_laws.proofs.EndSums.{ends_by_crossings, crossed_once}
+use Rattle.fb_graph.proofs.EndSums.{ends_by_crossings, crossed_once}
 use Rattle.fb_laws.proofs.ends.crossed_once.Goals as goal
 
 pub returns-clause-ends : goal.returns-clause-ends

@@ -1,4 +1,4 @@
-use Rattle.fb_laws.proofs.EndSums.{ends_append, ends_permuted, ends_union}
+use Rattle.fb_graph.proofs.EndSums.{ends_append, ends_permuted, ends_union}
 use Rattle.fb_laws.proofs.ends.ends_add.Goals as goal
 
 pub returns-clause-append : goal.returns-clause-append

@@ -1,4 +1,5 @@
-use Rattle.fb_laws.proofs.LayeredSearches.{search_alike, taller_alike, taller_covers, taller_covered}
+use Rattle.fb_laws.proofs.LayeredSearches.{search_alike, taller_covered}
+use Rattle.fb_graph.proofs.TallerNodes.{taller_alike, taller_covers}
 use Rattle.fb_laws.proofs.layers.search_layers.Goals as goal
 
 pub returns-clause-alike : goal.returns-clause-alike

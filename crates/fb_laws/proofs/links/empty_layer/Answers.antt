@@ -1,4 +1,4 @@
-use Rattle.fb_laws.proofs.TightLinks.{empty_layer_loads, empty_layer_heights}
+use Rattle.fb_graph.proofs.TightLinks.{empty_layer_loads, empty_layer_heights}
 use Rattle.fb_laws.proofs.links.empty_layer.Goals as goal
 
 pub returns-clause-loads : goal.returns-clause-loads

@@ -1,4 +1,4 @@
-use Rattle.fb_laws.proofs.TightLinks.{turned_tight, joined_tight}
+use Rattle.fb_graph.proofs.TightLinks.{turned_tight, joined_tight}
 use Rattle.fb_laws.proofs.links.joined_is_tight.Goals as goal
 
 pub returns-clause-turned : goal.returns-clause-turned

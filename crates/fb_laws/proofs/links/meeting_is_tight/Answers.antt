@@ -1,4 +1,4 @@
-use Rattle.fb_laws.proofs.TightLinks.{parted_from_low, meeting_tight, boundary_tight}
+use Rattle.fb_graph.proofs.TightLinks.{parted_from_low, meeting_tight, boundary_tight}
 use Rattle.fb_laws.proofs.links.meeting_is_tight.Goals as goal
 
 pub returns-clause-parted : goal.returns-clause-parted

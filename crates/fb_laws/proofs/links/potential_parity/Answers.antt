@@ -1,4 +1,4 @@
-use Rattle.fb_laws.proofs.TightLinks.{link_parity, boundary_parity, meeting_parity, source_parity}
+use Rattle.fb_graph.proofs.TightLinks.{link_parity, boundary_parity, meeting_parity, source_parity}
 use Rattle.fb_laws.proofs.links.potential_parity.Goals as goal
 
 pub returns-clause-link : goal.returns-clause-link

@@ -1,4 +1,4 @@
-use Rattle.fb_laws.proofs.RaisedNests.{nest_taken_up}
+use Rattle.fb_graph.proofs.RaisedNests.{nest_taken_up}
 use Rattle.fb_laws.proofs.moves.nest_taken_up.Goals as goal
 
 pub returns : goal.returns

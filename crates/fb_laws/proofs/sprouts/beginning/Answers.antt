@@ -1,4 +1,4 @@
-use Rattle.fb_laws.proofs.SproutStates.{sprouts_are_dual, beginning_is_dual}
+use Rattle.fb_graph.proofs.SproutStates.{sprouts_are_dual, beginning_is_dual}
 use Rattle.fb_laws.proofs.sprouts.beginning.Goals as goal
 
 pub returns-clause-sprouts : goal.returns-clause-sprouts

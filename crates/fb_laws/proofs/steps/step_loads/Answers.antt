@@ -1,4 +1,4 @@
-use Rattle.fb_laws.proofs.StepLoads.{load_stepped, tight_stepped}
+use Rattle.fb_graph.proofs.StepLoads.{load_stepped, tight_stepped}
 use Rattle.fb_laws.proofs.steps.step_loads.Goals as goal
 
 pub returns-clause-load : goal.returns-clause-load

@@ -1,4 +1,4 @@
-use Rattle.fb_laws.proofs.StepLoads.{steps_add, steps_split, stepped_twice}
+use Rattle.fb_graph.proofs.StepLoads.{steps_add, steps_split, stepped_twice}
 use Rattle.fb_laws.proofs.steps.steps_add.Goals as goal
 
 pub returns-clause-add : goal.returns-clause-add

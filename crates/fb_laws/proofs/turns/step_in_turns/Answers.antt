@@ -1,4 +1,4 @@
-use Rattle.fb_laws.proofs.StepTurns.{no_turn, shrunk_next, grown_next, same_roles, top_stepped}
+use Rattle.fb_graph.proofs.StepTurns.{no_turn, shrunk_next, grown_next, same_roles, top_stepped}
 use Rattle.fb_laws.proofs.turns.step_in_turns.Goals as goal
 
 pub returns-clause-none : goal.returns-clause-none

@@ -1,4 +1,4 @@
-use Rattle.fb_laws.proofs.StepTurns.{growth_allowed, shrink_allowed}
+use Rattle.fb_graph.proofs.StepTurns.{growth_allowed, shrink_allowed}
 use Rattle.fb_laws.proofs.turns.turns_allowed.Goals as goal
 
 pub returns-clause-grow : goal.returns-clause-grow

@@ -1,4 +1,4 @@
-use Rattle.fb_laws.proofs.SourceWalks.{covered_walk, walks_begin, walks_joined, walks_split, walks_taken_up, walks_uncovered, walks_stepped}
+use Rattle.fb_graph.proofs.SourceWalks.{covered_walk, walks_begin, walks_joined, walks_split, walks_taken_up, walks_uncovered, walks_stepped}
 use Rattle.fb_laws.proofs.walks.walks_kept.Goals as goal
 
 pub returns-clause-begins : goal.returns-clause-begins

@@ -6,11 +6,11 @@ use Rattle.fb_graph.specs.Certificate.{AreDistinct, load_of}
 use Rattle.fb_graph.specs.Components.{Leads}
 use Rattle.fb_graph.specs.Limits.{IsWithinLimits}
 use Rattle.fb_graph.specs.Dual.{Node, IsCrossed, all_cuts, change_at, cover_of, is_empty, is_live, is_outer, taller, top_at}
-use Rattle.fb_laws.specs.Steps.{Roles, MayStep, stepped}
-use Rattle.fb_laws.specs.Covers.{AreRoles}
-use Rattle.fb_laws.specs.Links.{AreEven}
-use Rattle.fb_laws.specs.Sprouts.{Sprout, nodes_of, vertices_of}
-use Rattle.fb_laws.specs.Nests.{IsNest, AreMany}
+use Rattle.fb_graph.specs.Steps.{Roles, MayStep, stepped}
+use Rattle.fb_graph.specs.Covers.{AreRoles}
+use Rattle.fb_graph.specs.Links.{AreEven}
+use Rattle.fb_graph.specs.Sprouts.{Sprout, nodes_of, vertices_of}
+use Rattle.fb_graph.specs.Nests.{IsNest, AreMany}
 
 -- the node that joins these, with one layer of value 0 over their sets
 abbrev pub blossom : ℕ → List ℕ → List Node → Node

@@ -9,8 +9,8 @@ use Rattle.fb_graph.specs.Parity.{is_in}
 use Rattle.fb_graph.specs.Certificate.{AreDistinct}
 use Rattle.fb_graph.specs.Dual.{Node, AreApart, AreOuterApart, cover_of, is_live, is_outer, leaves, defects_of, top_at}
 use Rattle.fb_graph.proofs.Members.{is_in-append}
-use Rattle.fb_laws.specs.Ends.{AreAllApart}
-use Rattle.fb_laws.proofs.Crossings.{cover_found}
+use Rattle.fb_graph.specs.Ends.{AreAllApart}
+use Rattle.fb_graph.proofs.Crossings.{cover_found}
 
 abbrev pub IsAmong : {X : Type 0} → X → List X → Type 0
 IsAmong x [] = ⊥

@@ -6,7 +6,7 @@ use Rattle.fb_graph.specs.Parity.{is_in}
 use Rattle.fb_graph.specs.Problem.{crosses}
 use Rattle.fb_graph.specs.Laws.{Link, ends_of}
 use Rattle.fb_graph.specs.Dual.{AreApart}
-use Rattle.fb_laws.specs.Counts.{as_count}
+use Rattle.fb_graph.specs.Counts.{as_count}
 
 abbrev pub ends_in : List ℕ → List Link → ℕ
 ends_in set links = sum_by (λ l. as_count (is_in set l.from) + as_count (is_in set l.to)) links

@@ -5,8 +5,8 @@ use Rattle.fb_graph.specs.Problem.{Problem, crosses}
 use Rattle.fb_graph.specs.Certificate.{AreDistinct, load_of}
 use Rattle.fb_graph.specs.Dual.{Node, IsDual, all_cuts, leaves, cover_of, height_of, is_outer, AreUnderOne, AreOuterApart}
 use Rattle.fb_graph.specs.declared.parts.Edge.{Edge}
-use Rattle.fb_laws.specs.Counts.{as_count}
-use Rattle.fb_laws.specs.Steps.{Roles, AreExclusive, AllowShrinking, gains, losses, stepped, MayStep}
+use Rattle.fb_graph.specs.Counts.{as_count}
+use Rattle.fb_graph.specs.Steps.{Roles, AreExclusive, AllowShrinking, gains, losses, stepped, MayStep}
 
 -- the name, where there is one, passes the test
 abbrev pub passes : (ℕ → Bool) → Option ℕ → Bool

@@ -10,8 +10,8 @@ use Rattle.fb_graph.specs.Problem.{crosses}
 use Rattle.fb_graph.specs.Laws.{Link, ends_of}
 use Rattle.fb_graph.specs.Dual.{AreApart}
 use Rattle.fb_graph.proofs.Members.{is_in-append}
-use Rattle.fb_laws.specs.Counts.{as_count}
-use Rattle.fb_laws.specs.Ends.{ends_in, EndsAppend, EndsPermuted, EndsUnion, EndsByCrossings, CrossedOnce}
+use Rattle.fb_graph.specs.Counts.{as_count}
+use Rattle.fb_graph.specs.Ends.{ends_in, EndsAppend, EndsPermuted, EndsUnion, EndsByCrossings, CrossedOnce}
 
 -- the ends of one link in the set
 abbrev pub ends_of_one : List ℕ → Link → ℕ

@@ -11,7 +11,7 @@ use Rattle.fb_graph.specs.Printed.{DifferAsSets}
 use Rattle.fb_graph.specs.Dual.{Node, IsHeld, IsNestedOrApart, all_cuts, leaves, height_of}
 use Rattle.fb_graph.specs.declared.parts.Cut.{Cut}
 use Rattle.fb_graph.proofs.CutSums.{weigh, cond_zero}
-use Rattle.fb_laws.specs.Nests.{HasSources}
+use Rattle.fb_graph.specs.Nests.{HasSources}
 
 pub record IsInserted (c : Cut) (old new : List Cut) : Type 0 where
   pub before : List Cut

@@ -9,8 +9,8 @@ use Rattle.fb_graph.specs.Dual.{AreApart}
 use Rattle.fb_graph.proofs.Members.{is_in-append}
 use Rattle.fb_graph.proofs.Sets.{is_in-head, is_in-tail}
 use Rattle.fb_graph.proofs.ParitySums.{odd-append, differ-false}
-use Rattle.fb_laws.specs.Ends.{AreAllApart}
-use Rattle.fb_laws.proofs.EndSums.{apart_union}
+use Rattle.fb_graph.specs.Ends.{AreAllApart}
+use Rattle.fb_graph.proofs.EndSums.{apart_union}
 
 pub distinct_append : (xs ys : List ℕ) → AreDistinct xs → AreDistinct ys → AreApart xs ys → AreDistinct (xs ++ ys)
 distinct_append [] ys d e apart = e

@@ -9,15 +9,15 @@ use Rattle.fb_graph.specs.Problem.{Problem}
 use Rattle.fb_graph.specs.Certificate.{AreDistinct}
 use Rattle.fb_graph.specs.Dual.{Node, AreApart, AreGrown, AreOuterApart, all_cuts, layers_of, leaves, defects_of, first_vertices, height_of, is_empty, is_live, is_outer, top_at}
 use Rattle.fb_graph.proofs.Sets.{All-from_is_in, is_in-All}
-use Rattle.fb_laws.specs.Ends.{AreAllApart}
-use Rattle.fb_laws.specs.Nests.{IsNest, IsForest, IsFormed, IsFilled, HasSources, child_sets}
-use Rattle.fb_laws.specs.Moves.{split, MaySplit, NestSplit}
-use Rattle.fb_laws.proofs.Among.{IsAmong, All_among, among_All, among_right, live_among, among_live, outer_among, outer_or_not, top_among, same_among, apart_among, among_pairs, apart_of_two}
-use Rattle.fb_laws.proofs.EndSums.{apart_sym}
-use Rattle.fb_laws.proofs.Forests.{child_within}
-use Rattle.fb_laws.proofs.InsertedCuts.{IsInserted, AreFit, removed_fit, same_weigh, sources_same}
-use Rattle.fb_laws.proofs.NestParts.{grove_of, fit_of, nest_of, map_agree}
-use Rattle.fb_laws.proofs.Places.{IsPlaced, placed, cuts_at, leaves_at, among_split, split_among, split_All, split_names, split_joined}
+use Rattle.fb_graph.specs.Ends.{AreAllApart}
+use Rattle.fb_graph.specs.Nests.{IsNest, IsForest, IsFormed, IsFilled, HasSources, child_sets}
+use Rattle.fb_graph.specs.Moves.{split, MaySplit, NestSplit}
+use Rattle.fb_graph.proofs.Among.{IsAmong, All_among, among_All, among_right, live_among, among_live, outer_among, outer_or_not, top_among, same_among, apart_among, among_pairs, apart_of_two}
+use Rattle.fb_graph.proofs.EndSums.{apart_sym}
+use Rattle.fb_graph.proofs.Forests.{child_within}
+use Rattle.fb_graph.proofs.InsertedCuts.{IsInserted, AreFit, removed_fit, same_weigh, sources_same}
+use Rattle.fb_graph.proofs.NestParts.{grove_of, fit_of, nest_of, map_agree}
+use Rattle.fb_graph.proofs.Places.{IsPlaced, placed, cuts_at, leaves_at, among_split, split_among, split_All, split_names, split_joined}
 
 module _ (p : Problem) (nodes : List Node) (name : ℕ) (may : MaySplit nodes name) (nest : IsNest p nodes) where
   pub at : IsPlaced nodes name

@@ -7,8 +7,8 @@ use Rattle.fb_graph.specs.Laws.{Link, IsTight}
 use Rattle.fb_graph.specs.Dual.{Node, all_cuts, cover_of, height_of, AreOuterApart}
 use Rattle.fb_graph.specs.declared.parts.Edge.{Edge}
 use Rattle.fb_graph.specs.declared.parts.Cut.{Cut}
-use Rattle.fb_laws.specs.Steps.{Roles, AllowShrinking, stepped}
-use Rattle.fb_laws.specs.Covers.{AreRoles}
+use Rattle.fb_graph.specs.Steps.{Roles, AllowShrinking, stepped}
+use Rattle.fb_graph.specs.Covers.{AreRoles}
 
 -- two vertices as the ends of an edge without weight
 abbrev pub pair : ℕ → ℕ → Edge

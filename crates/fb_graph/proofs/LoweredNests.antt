@@ -9,14 +9,14 @@ use Rattle.fb_graph.specs.Dual.{Node, AreGrown, IsWithin, all_cuts, layers_of, l
 use Rattle.fb_graph.proofs.Members.{is_in_push}
 use Rattle.fb_graph.proofs.Nodes.{All-pieces, All-top, All-below}
 use Rattle.fb_graph.proofs.ParitySums.{odd-append}
-use Rattle.fb_laws.specs.Nests.{IsNest, HasSources}
-use Rattle.fb_laws.specs.Moves.{lower, uncovered, MayUncover, NestUncovered}
-use Rattle.fb_laws.proofs.Among.{IsAmong, All_among, among_All, apart_among}
-use Rattle.fb_laws.proofs.ChangedNodes.{change, by_name, kept_by, placed_among, layer_between, regrouped, last_split, first_below, grown_below, grown_last}
-use Rattle.fb_laws.proofs.InsertedCuts.{IsInserted, AreFit, removed_fit, same_weigh, sources_same}
-use Rattle.fb_laws.proofs.MappedNodes.{AreKept, names_mapped, forest_mapped, apart_mapped, mapped_leaves}
-use Rattle.fb_laws.proofs.NestParts.{grove_of, fit_of, nest_of}
-use Rattle.fb_laws.proofs.Places.{IsPlaced, placed, cuts_at}
+use Rattle.fb_graph.specs.Nests.{IsNest, HasSources}
+use Rattle.fb_graph.specs.Moves.{lower, uncovered, MayUncover, NestUncovered}
+use Rattle.fb_graph.proofs.Among.{IsAmong, All_among, among_All, apart_among}
+use Rattle.fb_graph.proofs.ChangedNodes.{change, by_name, kept_by, placed_among, layer_between, regrouped, last_split, first_below, grown_below, grown_last}
+use Rattle.fb_graph.proofs.InsertedCuts.{IsInserted, AreFit, removed_fit, same_weigh, sources_same}
+use Rattle.fb_graph.proofs.MappedNodes.{AreKept, names_mapped, forest_mapped, apart_mapped, mapped_leaves}
+use Rattle.fb_graph.proofs.NestParts.{grove_of, fit_of, nest_of}
+use Rattle.fb_graph.proofs.Places.{IsPlaced, placed, cuts_at}
 
 module _ (p : Problem) (nodes : List Node) (name : ℕ) (may : MayUncover nodes name) (nest : IsNest p nodes) where
   pub at : IsPlaced nodes name

@@ -6,10 +6,10 @@ use Rattle.fb_graph.specs.Problem.{Problem, with_defects}
 use Rattle.fb_graph.specs.Certificate.{AreDistinct, IsOddCut}
 use Rattle.fb_graph.specs.Dual.{Node, AreOuterApart, all_cuts, leaves, is_live}
 use Rattle.fb_graph.proofs.Sets.{member_of_odd}
-use Rattle.fb_laws.specs.Nests.{IsNest, HasSources}
-use Rattle.fb_laws.proofs.Among.{IsAmong}
-use Rattle.fb_laws.proofs.Forests.{IsGrove, dual_of, tops_odd}
-use Rattle.fb_laws.proofs.InsertedCuts.{AreFit}
+use Rattle.fb_graph.specs.Nests.{IsNest, HasSources}
+use Rattle.fb_graph.proofs.Among.{IsAmong}
+use Rattle.fb_graph.proofs.Forests.{IsGrove, dual_of, tops_odd}
+use Rattle.fb_graph.proofs.InsertedCuts.{AreFit}
 
 pub grove_of : (p : Problem) (nodes : List Node) → IsNest p nodes → IsGrove nodes
 grove_of p nodes nest = record { names = nest.dual.names; grown = nest.dual.grown; forest = nest.forest }

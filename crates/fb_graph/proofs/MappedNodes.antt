@@ -6,11 +6,11 @@ use Rattle.fb_graph.specs.Parity.{is_in}
 use Rattle.fb_graph.specs.Certificate.{AreDistinct}
 use Rattle.fb_graph.specs.Dual.{Node, AreApart, AreOuterApart, leaves, defects_of, is_empty, is_live, is_outer, top_at}
 use Rattle.fb_graph.proofs.Sets.{All-from_is_in, is_in-All}
-use Rattle.fb_laws.specs.Ends.{AreAllApart}
-use Rattle.fb_laws.specs.Nests.{IsForest, IsFormed, IsFilled, AreMany, AreJoinedLater, first_set, child_sets}
-use Rattle.fb_laws.proofs.Among.{IsAmong, All_among, among_All, among_any, among_map, map_among, live_among, among_pairs, top_among}
-use Rattle.fb_laws.proofs.Forests.{IsGrove}
-use Rattle.fb_laws.proofs.NestParts.{map_agree}
+use Rattle.fb_graph.specs.Ends.{AreAllApart}
+use Rattle.fb_graph.specs.Nests.{IsForest, IsFormed, IsFilled, AreMany, AreJoinedLater, first_set, child_sets}
+use Rattle.fb_graph.proofs.Among.{IsAmong, All_among, among_All, among_any, among_map, map_among, live_among, among_pairs, top_among}
+use Rattle.fb_graph.proofs.Forests.{IsGrove}
+use Rattle.fb_graph.proofs.NestParts.{map_agree}
 
 pub record AreKept (f : Node → Node) (nodes : List Node) : Type 0 where
   pub name : (n : Node) → (f n).name ≡ n.name

@@ -3,10 +3,10 @@ use Rattle.std.proofs.Common.{ℕ, suc, ◌≡◌, ◌-◌, ◌≤◌, ◌==◌,
 use Rattle.std.proofs.lemmas.Bool.{both_ways, eqb-true, eqb-false}
 use Rattle.fb_graph.specs.Dual.{Node, AreGrown, first_vertices, is_outer, taller}
 use Rattle.fb_graph.specs.declared.parts.Cut.{Cut}
-use Rattle.fb_laws.specs.Nests.{first_set}
-use Rattle.fb_laws.proofs.Among.{IsAmong, among_All, among_right}
-use Rattle.fb_laws.proofs.MappedNodes.{AreKept}
-use Rattle.fb_laws.proofs.Places.{IsPlaced}
+use Rattle.fb_graph.specs.Nests.{first_set}
+use Rattle.fb_graph.proofs.Among.{IsAmong, among_All, among_right}
+use Rattle.fb_graph.proofs.MappedNodes.{AreKept}
+use Rattle.fb_graph.proofs.Places.{IsPlaced}
 
 abbrev pub change : ℕ → (Node → Node) → Node → Node
 change name g n = if n.name == name then g n else n

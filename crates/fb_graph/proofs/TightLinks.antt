@@ -12,10 +12,10 @@ use Rattle.fb_graph.specs.declared.parts.Cut.{Cut}
 use Rattle.fb_graph.proofs.CutSums.{weigh, cond_zero}
 use Rattle.fb_graph.proofs.ParitySums.{differ_comm}
 use Rattle.fb_graph.proofs.Walks.{IsWalkBy-append, IsWalkBy-reverse}
-use Rattle.fb_laws.specs.Counts.{as_count}
-use Rattle.fb_laws.specs.Covers.{passes}
-use Rattle.fb_laws.specs.Links.{pair, AreEven, PartedFromLow, MeetingTight, BoundaryTight, TurnedTight, JoinedTight, EmptyLayerLoads, EmptyLayerHeights, SourceStepped, LinkParity, BoundaryParity, MeetingParity, SourceParity}
-use Rattle.fb_laws.proofs.StepHeights.{height_stepped}
+use Rattle.fb_graph.specs.Counts.{as_count}
+use Rattle.fb_graph.specs.Covers.{passes}
+use Rattle.fb_graph.specs.Links.{pair, AreEven, PartedFromLow, MeetingTight, BoundaryTight, TurnedTight, JoinedTight, EmptyLayerLoads, EmptyLayerHeights, SourceStepped, LinkParity, BoundaryParity, MeetingParity, SourceParity}
+use Rattle.fb_graph.proofs.StepHeights.{height_stepped}
 
 -- tests that agree on each set weigh the same
 weigh_agree : (one other : List ℕ → Bool) → ((s : List ℕ) → one s ≡ other s) → (cuts : List Cut) → weigh one cuts ≡ weigh other cuts

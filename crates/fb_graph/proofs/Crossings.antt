@@ -12,9 +12,9 @@ use Rattle.fb_graph.specs.Dual.{Node, IsDual, all_cuts, cover_of, height_of, is_
 use Rattle.fb_graph.specs.declared.parts.Edge.{Edge}
 use Rattle.fb_graph.proofs.ParitySums.{and-true}
 use Rattle.fb_graph.proofs.Sums.{sum_same, sum_zero, sum_add}
-use Rattle.fb_laws.specs.Counts.{as_count}
-use Rattle.fb_laws.specs.Steps.{Roles, AreExclusive, gains, losses}
-use Rattle.fb_laws.specs.Covers.{passes, is_over, PassOuterOnly, HaveParity, IsClear, CrossingsByCover, NoCrossingsWithin, LevelBetween, LevelWithin, LevelOutside, EvenResidue, FreeStep}
+use Rattle.fb_graph.specs.Counts.{as_count}
+use Rattle.fb_graph.specs.Steps.{Roles, AreExclusive, gains, losses}
+use Rattle.fb_graph.specs.Covers.{passes, is_over, PassOuterOnly, HaveParity, IsClear, CrossingsByCover, NoCrossingsWithin, LevelBetween, LevelWithin, LevelOutside, EvenResidue, FreeStep}
 
 -- the outer nodes of the list are apart
 abbrev AreApartWhere : (Node → Bool) → List Node → Type 0

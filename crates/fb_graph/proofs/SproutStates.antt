@@ -15,7 +15,7 @@ use Rattle.fb_graph.specs.declared.parts.Cut.{Cut}
 use Rattle.fb_graph.proofs.Members.{or_false}
 use Rattle.fb_graph.proofs.Sets.{is_in-head, is_in-cases}
 use Rattle.fb_graph.proofs.CutSums.{weigh, weigh-either}
-use Rattle.fb_laws.specs.Sprouts.{Sprout, node_of, nodes_of, vertices_of, SproutsAreDual, BeginningIsDual}
+use Rattle.fb_graph.specs.Sprouts.{Sprout, node_of, nodes_of, vertices_of, SproutsAreDual, BeginningIsDual}
 
 -- the cuts of the nodes, one each
 abbrev pub cut_of : Sprout → Cut

@@ -2,7 +2,7 @@
 use Rattle.std.specs.Prelude.{ℕ, ◌≡◌, ◌-◌, ◌≤◌, ◌==◌, ◌||◌, true, false, List, All}
 use Rattle.fb_graph.specs.Problem.{Problem}
 use Rattle.fb_graph.specs.Dual.{Node, AllowsGrowth, change_at, thicker, top_at}
-use Rattle.fb_laws.specs.Steps.{Roles, AreExclusive, MayStep, stepped}
+use Rattle.fb_graph.specs.Steps.{Roles, AreExclusive, MayStep, stepped}
 
 -- the node with its top layer thinner
 abbrev pub thinner : ℕ → Node → Node

@@ -12,16 +12,16 @@ use Rattle.fb_graph.specs.Dual.{Node, AreApart, AreGrown, AreOuterApart, IsNeste
 use Rattle.fb_graph.specs.declared.parts.Cut.{Cut}
 use Rattle.fb_graph.proofs.Members.{AreDistinct_push}
 use Rattle.fb_graph.proofs.Sets.{All-from_is_in, is_in-All, is_in-head, is_in-tail}
-use Rattle.fb_laws.specs.Ends.{AreAllApart}
-use Rattle.fb_laws.specs.Nests.{IsNest, IsForest, IsFormed, IsFilled, AreJoinedLater, AreMany, HasSources, child_sets}
-use Rattle.fb_laws.specs.Moves.{blossom, joined, MayJoin, NestJoined}
-use Rattle.fb_laws.proofs.Among.{IsAmong, All_among, among_All, among_left, among_either, live_among, among_live, outer_among, top_among, top_left, apart_among, among_pairs, in_concat, from_concat}
-use Rattle.fb_laws.proofs.EndSums.{apart_sym}
-use Rattle.fb_laws.proofs.Forests.{IsUnder, cuts_under}
-use Rattle.fb_laws.proofs.InsertedCuts.{IsInserted, AreFit, inserted_fit, same_weigh, sources_same}
-use Rattle.fb_laws.proofs.MergedParts.{cuts_merged, leaves_merged, names_merged, outer_in}
-use Rattle.fb_laws.proofs.NestParts.{grove_of, fit_of, nest_of, top_is_odd, top_holds, names_live, map_agree}
-use Rattle.fb_laws.proofs.Unions.{distinct_union, odd_union}
+use Rattle.fb_graph.specs.Ends.{AreAllApart}
+use Rattle.fb_graph.specs.Nests.{IsNest, IsForest, IsFormed, IsFilled, AreJoinedLater, AreMany, HasSources, child_sets}
+use Rattle.fb_graph.specs.Moves.{blossom, joined, MayJoin, NestJoined}
+use Rattle.fb_graph.proofs.Among.{IsAmong, All_among, among_All, among_left, among_either, live_among, among_live, outer_among, top_among, top_left, apart_among, among_pairs, in_concat, from_concat}
+use Rattle.fb_graph.proofs.EndSums.{apart_sym}
+use Rattle.fb_graph.proofs.Forests.{IsUnder, cuts_under}
+use Rattle.fb_graph.proofs.InsertedCuts.{IsInserted, AreFit, inserted_fit, same_weigh, sources_same}
+use Rattle.fb_graph.proofs.AppendedNodes.{cuts_merged, leaves_merged, names_merged, outer_in}
+use Rattle.fb_graph.proofs.NestParts.{grove_of, fit_of, nest_of, top_is_odd, top_holds, names_live, map_agree}
+use Rattle.fb_graph.proofs.Unions.{distinct_union, odd_union}
 
 -- a further node at the end
 joined_push : (ns : List Node) (b : Node) → AreJoinedLater ns → All (λ n. is_in n.children b.name ≡ false) ns

@@ -9,11 +9,11 @@ use Rattle.fb_graph.specs.Printed.{DifferAsSets}
 use Rattle.fb_graph.specs.Problem.{Problem}
 use Rattle.fb_graph.specs.Dual.{IsDual, AreApart, is_empty, is_live}
 use Rattle.fb_graph.proofs.Members.{or_false}
-use Rattle.fb_laws.specs.Ends.{AreAllApart}
-use Rattle.fb_laws.specs.Nests.{IsNest, IsFormed, IsFilled, AreJoinedLater, HasSources, child_sets}
-use Rattle.fb_laws.specs.Moves.{NestBegins}
-use Rattle.fb_laws.specs.Sprouts.{Sprout, node_of, nodes_of, vertices_of}
-use Rattle.fb_laws.proofs.SproutStates.{cut_of, cuts_are, leaves_are, beginning_is_dual, vertex_in}
+use Rattle.fb_graph.specs.Ends.{AreAllApart}
+use Rattle.fb_graph.specs.Nests.{IsNest, IsFormed, IsFilled, AreJoinedLater, HasSources, child_sets}
+use Rattle.fb_graph.specs.Moves.{NestBegins}
+use Rattle.fb_graph.specs.Sprouts.{Sprout, node_of, nodes_of, vertices_of}
+use Rattle.fb_graph.proofs.SproutStates.{cut_of, cuts_are, leaves_are, beginning_is_dual, vertex_in}
 
 joined_later : (sprouts : List Sprout) → AreJoinedLater (nodes_of sprouts)
 joined_later [] = tt

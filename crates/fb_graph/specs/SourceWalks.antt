@@ -5,12 +5,12 @@ use Rattle.fb_graph.specs.Parity.{is_in}
 use Rattle.fb_graph.specs.Problem.{Problem, edge_at}
 use Rattle.fb_graph.specs.Dual.{Node, all_cuts, leaves, cover_of}
 use Rattle.fb_graph.specs.declared.parts.Edge.{Edge}
-use Rattle.fb_laws.specs.Steps.{Roles, AllowShrinking, stepped}
-use Rattle.fb_laws.specs.Covers.{AreRoles}
-use Rattle.fb_laws.specs.Links.{IsSourceWalk}
-use Rattle.fb_laws.specs.Sprouts.{Sprout, nodes_of}
-use Rattle.fb_laws.specs.Nests.{IsNest}
-use Rattle.fb_laws.specs.Moves.{MayJoin, MaySplit, MayTakeUp, MayUncover, joined, split, taken_up, uncovered}
+use Rattle.fb_graph.specs.Steps.{Roles, AllowShrinking, stepped}
+use Rattle.fb_graph.specs.Covers.{AreRoles}
+use Rattle.fb_graph.specs.Links.{IsSourceWalk}
+use Rattle.fb_graph.specs.Sprouts.{Sprout, nodes_of}
+use Rattle.fb_graph.specs.Nests.{IsNest}
+use Rattle.fb_graph.specs.Moves.{MayJoin, MaySplit, MayTakeUp, MayUncover, joined, split, taken_up, uncovered}
 
 -- both ends of the edge lie in the set
 abbrev pub IsEdgeIn : List ℕ → Edge → Type 0

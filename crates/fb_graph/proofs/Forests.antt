@@ -12,8 +12,8 @@ use Rattle.fb_graph.specs.declared.parts.Cut.{Cut}
 use Rattle.fb_graph.proofs.CutSums.{weigh_none, weigh-either}
 use Rattle.fb_graph.proofs.Nodes.{All-flat_map, All-pieces, All-top, layers_within, layers_hold}
 use Rattle.fb_graph.proofs.Sets.{is_in-All}
-use Rattle.fb_laws.specs.Nests.{IsForest, IsFilled, AreJoinedLater, HasSources, first_set}
-use Rattle.fb_laws.proofs.Among.{IsAmong, All_among, among_All, outer_or_not, top_among, covered_by, cover_among, in_concat, leaf_among}
+use Rattle.fb_graph.specs.Nests.{IsForest, IsFilled, AreJoinedLater, HasSources, first_set}
+use Rattle.fb_graph.proofs.Among.{IsAmong, All_among, among_All, outer_or_not, top_among, covered_by, cover_among, in_concat, leaf_among}
 
 -- all layers hold what the first one holds
 pub first_held : (n : Node) (v : ℕ) → AreGrown (layers_of n) → is_in (first_set n) v ≡ true → All (λ c. is_in c.vertices v ≡ true) (layers_of n)

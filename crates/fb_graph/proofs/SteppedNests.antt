@@ -9,18 +9,18 @@ use Rattle.fb_graph.specs.Dual.{Node, IsHeld, IsNestedOrApart, IsCrossed, AreGro
 use Rattle.fb_graph.specs.declared.parts.Cut.{Cut}
 use Rattle.fb_graph.proofs.CutSums.{total-le}
 use Rattle.fb_graph.proofs.Nodes.{All-flat_map, All-pieces, All-top, All-below}
-use Rattle.fb_laws.specs.Counts.{as_count}
-use Rattle.fb_laws.specs.Nests.{IsNest, HasSources, first_set}
-use Rattle.fb_laws.specs.Moves.{NestStepped}
-use Rattle.fb_laws.specs.Steps.{Roles, stepped, stepped_node, stepped_value}
-use Rattle.fb_laws.specs.Covers.{passes}
-use Rattle.fb_laws.proofs.Among.{IsAmong, All_among, among_All, apart_among, covered_by}
-use Rattle.fb_laws.proofs.Forests.{under_outer}
-use Rattle.fb_laws.proofs.InsertedCuts.{AreFit, pairs_head, pairs_tail}
-use Rattle.fb_laws.proofs.MappedNodes.{AreKept, names_mapped, forest_mapped, apart_mapped, mapped_leaves}
-use Rattle.fb_laws.proofs.NestParts.{grove_of, nest_of}
-use Rattle.fb_laws.proofs.StepHeights.{height_stepped}
-use Rattle.fb_laws.proofs.StepLoads.{packing_stepped}
+use Rattle.fb_graph.specs.Counts.{as_count}
+use Rattle.fb_graph.specs.Nests.{IsNest, HasSources, first_set}
+use Rattle.fb_graph.specs.Moves.{NestStepped}
+use Rattle.fb_graph.specs.Steps.{Roles, stepped, stepped_node, stepped_value}
+use Rattle.fb_graph.specs.Covers.{passes}
+use Rattle.fb_graph.proofs.Among.{IsAmong, All_among, among_All, apart_among, covered_by}
+use Rattle.fb_graph.proofs.Forests.{under_outer}
+use Rattle.fb_graph.proofs.InsertedCuts.{AreFit, pairs_head, pairs_tail}
+use Rattle.fb_graph.proofs.MappedNodes.{AreKept, names_mapped, forest_mapped, apart_mapped, mapped_leaves}
+use Rattle.fb_graph.proofs.NestParts.{grove_of, nest_of}
+use Rattle.fb_graph.proofs.StepHeights.{height_stepped}
+use Rattle.fb_graph.proofs.StepLoads.{packing_stepped}
 
 abbrev IsNestedSets : List ℕ → List ℕ → Type 0
 IsNestedSets a b = IsNestedOrApart (record { value = 0; vertices = a }) (record { value = 0; vertices = b })

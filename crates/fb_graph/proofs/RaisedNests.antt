@@ -13,17 +13,17 @@ use Rattle.fb_graph.specs.declared.parts.Cut.{Cut}
 use Rattle.fb_graph.specs.declared.parts.Edge.{Edge}
 use Rattle.fb_graph.proofs.Members.{AreDistinct_push, is_in_push, is_in_pushed, is_odd_count_push}
 use Rattle.fb_graph.proofs.Nodes.{AreGrown-taller}
-use Rattle.fb_laws.specs.Nests.{IsNest, HasSources}
-use Rattle.fb_laws.specs.Links.{AreEven}
-use Rattle.fb_laws.specs.Moves.{taken_up, MayTakeUp, NestTakenUp}
-use Rattle.fb_laws.proofs.Among.{IsAmong, IsOver, All_among, among_All, among_live, same_among, apart_among, covered_by, cover_among}
-use Rattle.fb_laws.proofs.ChangedNodes.{change, by_name, kept_by, placed_among, layer_between, regrouped, first_taller}
-use Rattle.fb_laws.proofs.EndSums.{apart_sym}
-use Rattle.fb_laws.proofs.Forests.{IsUnder, cuts_under}
-use Rattle.fb_laws.proofs.InsertedCuts.{IsInserted, AreFit, inserted_fit, same_weigh, sources_same}
-use Rattle.fb_laws.proofs.MappedNodes.{AreKept, names_mapped, forest_mapped, apart_mapped, mapped_leaves}
-use Rattle.fb_laws.proofs.NestParts.{grove_of, fit_of, nest_of, top_is_odd}
-use Rattle.fb_laws.proofs.Places.{IsPlaced, placed, cuts_at}
+use Rattle.fb_graph.specs.Nests.{IsNest, HasSources}
+use Rattle.fb_graph.specs.Links.{AreEven}
+use Rattle.fb_graph.specs.Moves.{taken_up, MayTakeUp, NestTakenUp}
+use Rattle.fb_graph.proofs.Among.{IsAmong, IsOver, All_among, among_All, among_live, same_among, apart_among, covered_by, cover_among}
+use Rattle.fb_graph.proofs.ChangedNodes.{change, by_name, kept_by, placed_among, layer_between, regrouped, first_taller}
+use Rattle.fb_graph.proofs.EndSums.{apart_sym}
+use Rattle.fb_graph.proofs.Forests.{IsUnder, cuts_under}
+use Rattle.fb_graph.proofs.InsertedCuts.{IsInserted, AreFit, inserted_fit, same_weigh, sources_same}
+use Rattle.fb_graph.proofs.MappedNodes.{AreKept, names_mapped, forest_mapped, apart_mapped, mapped_leaves}
+use Rattle.fb_graph.proofs.NestParts.{grove_of, fit_of, nest_of, top_is_odd}
+use Rattle.fb_graph.proofs.Places.{IsPlaced, placed, cuts_at}
 
 module _ (p : Problem) (nodes : List Node) (name k u v : ℕ) (even : AreEven p) (may : MayTakeUp p nodes name k u v) (nest : IsNest p nodes) where
   over : IsOver nodes u name

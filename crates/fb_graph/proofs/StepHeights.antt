@@ -5,10 +5,10 @@ use Rattle.std.specs.Option.{option_map}
 use Rattle.fb_graph.specs.Parity.{is_in}
 use Rattle.fb_graph.specs.declared.parts.Cut.{Cut}
 use Rattle.fb_graph.specs.Dual.{Node, leaves, defects_of, first_vertices, is_empty, is_outer}
-use Rattle.fb_laws.specs.Steps.{Roles, stepped, stepped_node}
-use Rattle.fb_laws.specs.Covers.{CoverStepped, LeavesStepped, HeightStepped}
-use Rattle.fb_laws.proofs.StepLoads.{weigh_stepped}
-use Rattle.fb_laws.proofs.Crossings.{count_by_cover}
+use Rattle.fb_graph.specs.Steps.{Roles, stepped, stepped_node}
+use Rattle.fb_graph.specs.Covers.{CoverStepped, LeavesStepped, HeightStepped}
+use Rattle.fb_graph.proofs.StepLoads.{weigh_stepped}
+use Rattle.fb_graph.proofs.Crossings.{count_by_cover}
 
 pub outer_stepped : (roles : Roles) (nodes : List Node) (k name : ℕ) → is_outer (stepped roles k nodes) name ≡ is_outer nodes name
 outer_stepped roles nodes k name = ap not (same nodes)

@@ -7,10 +7,10 @@ use Rattle.std.proofs.Math.Nat.{mul-le-mul_left}
 use Rattle.fb_graph.specs.Problem.{crosses}
 use Rattle.fb_graph.specs.Dual.{Node, change_at, thicker, top_at}
 use Rattle.fb_graph.specs.declared.parts.Edge.{Edge}
-use Rattle.fb_laws.specs.Counts.{as_count}
-use Rattle.fb_laws.specs.Steps.{Roles, AreExclusive, gains, losses, stepped, stepped_node, AllowShrinking}
-use Rattle.fb_laws.specs.Turns.{thinner, also_minus, also_plus, IsPartlyGrown, NoTurn, ShrunkNext, GrownNext, SameRoles, TopStepped, GrowthAllowed, ShrinkAllowed}
-use Rattle.fb_laws.proofs.StepLoads.{load_stepped}
+use Rattle.fb_graph.specs.Counts.{as_count}
+use Rattle.fb_graph.specs.Steps.{Roles, AreExclusive, gains, losses, stepped, stepped_node, AllowShrinking}
+use Rattle.fb_graph.specs.Turns.{thinner, also_minus, also_plus, IsPartlyGrown, NoTurn, ShrunkNext, GrownNext, SameRoles, TopStepped, GrowthAllowed, ShrinkAllowed}
+use Rattle.fb_graph.proofs.StepLoads.{load_stepped}
 
 pub no_turn : NoTurn
 no_turn k [] = refl

@@ -6,7 +6,7 @@ use Rattle.fb_graph.specs.Problem.{Problem}
 use Rattle.fb_graph.specs.Certificate.{AreDistinct}
 use Rattle.fb_graph.specs.Printed.{DifferAsSets}
 use Rattle.fb_graph.specs.Dual.{Node, IsDual, AreApart, all_cuts, layers_of, first_vertices, is_empty, leaves, height_of, is_live, top_at}
-use Rattle.fb_laws.specs.Ends.{AreAllApart}
+use Rattle.fb_graph.specs.Ends.{AreAllApart}
 
 -- the vertices of a node's first layer
 abbrev pub first_set : Node → List ℕ

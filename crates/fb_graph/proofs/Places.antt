@@ -6,10 +6,10 @@ use Rattle.std.proofs.lemmas.List.Elements.{All-cons, All-head, All-tail}
 use Rattle.fb_graph.specs.Parity.{is_in}
 use Rattle.fb_graph.specs.Certificate.{AreDistinct}
 use Rattle.fb_graph.specs.Dual.{Node, AreApart, all_cuts, layers_of, leaves, defects_of, change_at, is_live}
-use Rattle.fb_laws.specs.Nests.{AreJoinedLater}
-use Rattle.fb_laws.specs.Moves.{split}
-use Rattle.fb_laws.proofs.Among.{IsAmong, All_among, among_All, live_among, other_name}
-use Rattle.fb_laws.proofs.NestParts.{names_live}
+use Rattle.fb_graph.specs.Nests.{AreJoinedLater}
+use Rattle.fb_graph.specs.Moves.{split}
+use Rattle.fb_graph.proofs.Among.{IsAmong, All_among, among_All, live_among, other_name}
+use Rattle.fb_graph.proofs.NestParts.{names_live}
 
 -- what stands before the node and after it
 pub record IsPlaced (nodes : List Node) (name : ℕ) : Type 0 where

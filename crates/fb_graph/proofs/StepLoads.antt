@@ -12,7 +12,7 @@ use Rattle.fb_graph.specs.declared.parts.Edge.{Edge}
 use Rattle.fb_graph.specs.declared.parts.Cut.{Cut}
 use Rattle.fb_graph.proofs.CutSums.{weigh}
 use Rattle.fb_graph.proofs.Nodes.{All-flat_map, All-pieces, All-top, All-below}
-use Rattle.fb_laws.specs.Steps.{Roles, AreExclusive, gains, losses, stepped_value, stepped_node, stepped, AllowShrinking, MayStep, LoadStepped, TightStepped, PackingStepped, StepsAdd, StepsSplit, SteppedTwice}
+use Rattle.fb_graph.specs.Steps.{Roles, AreExclusive, gains, losses, stepped_value, stepped_node, stepped, AllowShrinking, MayStep, LoadStepped, TightStepped, PackingStepped, StepsAdd, StepsSplit, SteppedTwice}
 
 -- one top layer: what it gains and loses, by its role and whether the edge crosses it
 one_top : (plus minus test : Bool) (v k : ℕ) → (plus ≡ true → minus ≡ false) → (minus ≡ true → k ≤ v)

@@ -16,24 +16,24 @@ use Rattle.fb_graph.proofs.Members.{is_in_push, is_in_pushed, or_false}
 use Rattle.fb_graph.proofs.Nodes.{All-flat_map, All-pieces, All-top, All-below}
 use Rattle.fb_graph.proofs.Sets.{is_in-All}
 use Rattle.fb_graph.proofs.Walks.{IsWalkBy-append}
-use Rattle.fb_laws.specs.Steps.{stepped, stepped_node}
-use Rattle.fb_laws.specs.Sprouts.{nodes_of}
-use Rattle.fb_laws.specs.Nests.{IsNest}
-use Rattle.fb_laws.specs.SearchLayers.{AreAlike}
-use Rattle.fb_laws.specs.Moves.{blossom, joined, split, taken_up, uncovered}
-use Rattle.fb_laws.specs.SourceWalks.{IsEdgeIn, IsWalkInside, HasWalks, HaveWalks, IsEdgeUnder, WalksBegin, WalksJoined, WalksSplit, WalksTakenUp, WalksUncovered, WalksStepped, CoveredWalk}
-use Rattle.fb_laws.proofs.Among.{IsAmong, All_among, among_All, live_among, top_among, same_among, covered_by, cover_among, in_concat, from_concat}
-use Rattle.fb_laws.proofs.ChangedNodes.{change, by_name}
-use Rattle.fb_laws.proofs.Forests.{IsUnder, cuts_under}
-use Rattle.fb_laws.proofs.InsertedCuts.{inserted_All, removed_All}
-use Rattle.fb_laws.proofs.JoinedNests as joining
-use Rattle.fb_laws.proofs.LayeredSearches.{taller_alike}
-use Rattle.fb_laws.proofs.LoweredNests as lowering
-use Rattle.fb_laws.proofs.NestParts.{grove_of}
-use Rattle.fb_laws.proofs.SplitNests as splitting
-use Rattle.fb_laws.proofs.SproutStates.{cut_of, cuts_are, leaves_are, vertex_in}
-use Rattle.fb_laws.proofs.StepHeights.{leaves_stepped}
-use Rattle.fb_laws.proofs.TightLinks.{source_stepped}
+use Rattle.fb_graph.specs.Steps.{stepped, stepped_node}
+use Rattle.fb_graph.specs.Sprouts.{nodes_of}
+use Rattle.fb_graph.specs.Nests.{IsNest}
+use Rattle.fb_graph.specs.Alike.{AreAlike}
+use Rattle.fb_graph.specs.Moves.{blossom, joined, split, taken_up, uncovered}
+use Rattle.fb_graph.specs.SourceWalks.{IsEdgeIn, IsWalkInside, HasWalks, HaveWalks, IsEdgeUnder, WalksBegin, WalksJoined, WalksSplit, WalksTakenUp, WalksUncovered, WalksStepped, CoveredWalk}
+use Rattle.fb_graph.proofs.Among.{IsAmong, All_among, among_All, live_among, top_among, same_among, covered_by, cover_among, in_concat, from_concat}
+use Rattle.fb_graph.proofs.ChangedNodes.{change, by_name}
+use Rattle.fb_graph.proofs.Forests.{IsUnder, cuts_under}
+use Rattle.fb_graph.proofs.InsertedCuts.{inserted_All, removed_All}
+use Rattle.fb_graph.proofs.JoinedNests as joining
+use Rattle.fb_graph.proofs.TallerNodes.{taller_alike}
+use Rattle.fb_graph.proofs.LoweredNests as lowering
+use Rattle.fb_graph.proofs.NestParts.{grove_of}
+use Rattle.fb_graph.proofs.SplitNests as splitting
+use Rattle.fb_graph.proofs.SproutStates.{cut_of, cuts_are, leaves_are, vertex_in}
+use Rattle.fb_graph.proofs.StepHeights.{leaves_stepped}
+use Rattle.fb_graph.proofs.TightLinks.{source_stepped}
 
 -- a walk stays one in a wider set, and in another state with the same defects and potentials
 walks_wider : (p : Problem) (nodes : List Node) (set wide walk : List ℕ) (d v : ℕ) → IsWithin set wide → IsWalkInside p nodes set walk d v

@@ -1,0 +1,28 @@
+-- Nodes beside others: their cuts, leaves and names, and which of them are outer.
+use Rattle.std.proofs.Common.{ℕ, ◌≡◌, ◌+◌, ◌%◌, ◌<◌, ◌==◌, ◌&&◌, ◌||◌, ◌⊎◌, Bool, true, List, ◌∷◌, ◌++◌, map, refl, sym, ap, ◌∙◌, []}
+use Rattle.std.specs.List.{list_any}
+use Rattle.std.proofs.lemmas.Bool.{or_parts, not-true, not_from_false}
+use Rattle.std.proofs.lemmas.List.Concat.{flat_map-append}
+use Rattle.std.proofs.lemmas.List.Folds.{list_any-append}
+use Rattle.fb_graph.specs.Parity.{is_in}
+use Rattle.fb_graph.specs.Dual.{Node, all_cuts, layers_of, leaves, defects_of, is_outer}
+
+pub cuts_merged : (nodes others : List Node) → all_cuts (nodes ++ others) ≡ all_cuts nodes ++ all_cuts others
+cuts_merged nodes others = flat_map-append layers_of nodes others
+
+pub leaves_merged : (nodes others : List Node) → leaves (nodes ++ others) ≡ leaves nodes ++ leaves others
+leaves_merged nodes others = flat_map-append defects_of nodes others
+
+-- an outer node of both lists is one of each that has it
+pub outer_in : (nodes others : List Node) (name : ℕ) → is_outer (nodes ++ others) name ≡ true
+    → (is_outer nodes name ≡ true) × (is_outer others name ≡ true)
+outer_in nodes others name outer =
+    let parts = or_parts (list_any has nodes) (list_any has others) (sym (list_any-append has nodes others) ∙ not-true _ outer) in
+    (not_from_false _ parts.0, not_from_false _ parts.1)
+  where
+    has : Node → Bool
+    has n = is_in n.children name
+
+pub names_merged : (nodes others : List Node) → map (λ n. n.name) (nodes ++ others) ≡ map (λ n. n.name) nodes ++ map (λ n. n.name) others
+names_merged [] others = refl
+names_merged (n ∷ ns) others = ap (λ l. n.name ∷ l) (names_merged ns others)
