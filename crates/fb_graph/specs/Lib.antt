@@ -13,6 +13,7 @@ pub mod Laws
 pub mod Layout
 pub mod Limits
 pub mod Links
+pub mod LocalPlaces
 pub mod Moves
 pub mod Nests
 pub mod Parity

@@ -13,6 +13,10 @@ pub struct Whole<'a>(pub &'a Graph);
 impl Scope for Whole<'_> {
     ghost problem = { λ w. problem_of w.0.now [] };
 
+    ghost place_of = { λ w v. v };
+
+    ghost place_count = { λ w. w.0.now.vertices };
+
     fn vertices(&self) -> u32 {
         self.0.vertices()
     }
@@ -35,6 +39,14 @@ impl Scope for Whole<'_> {
 
     fn is_real(&self, v: u32) -> bool {
         !self.0.is_virtual(v)
+    }
+
+    fn places(&self) -> u32 {
+        self.0.vertices()
+    }
+
+    fn place(&self, v: u32) -> u32 {
+        v
     }
 
     fn limits(&self) {

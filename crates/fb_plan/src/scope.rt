@@ -17,6 +17,8 @@ pub struct NodeScope<'a> {
 
 impl Scope for NodeScope<'_> {
     ghost problem = { λ s. problem_at s.graph.now s.plan.now s.node [] };
+    ghost place_of = { λ s v. v };
+    ghost place_count = { λ s. s.graph.now.vertices };
 
     fn vertices(&self) -> u32 {
         self.graph.vertices()
@@ -40,6 +42,14 @@ impl Scope for NodeScope<'_> {
 
     fn is_real(&self, v: u32) -> bool {
         !self.graph.is_virtual(v) && self.plan.is_owned_in(self.node, v)
+    }
+
+    fn places(&self) -> u32 {
+        self.graph.vertices()
+    }
+
+    fn place(&self, v: u32) -> u32 {
+        v
     }
 
     fn limits(&self) {
