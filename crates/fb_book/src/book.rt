@@ -64,9 +64,7 @@ impl<P: Piece, N: Board> Book<P, N> {
         let slots = job.shots().len();
         let items = Items::new(alloc, plan.units(), joins, parents, slots)?;
         let parked = empty_places(alloc, slots, items.nodes())?;
-        let Ok(roots) = Vec::with_capacity(alloc, slots) else {
-            return Err(NoMemory);
-        };
+        let roots = Vec::with_capacity(alloc, slots)?;
         Ok(Book {
             items,
             parked,

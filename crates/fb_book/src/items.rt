@@ -81,13 +81,9 @@ impl Items {
         let units = units as usize;
         let nodes = units + joins.as_slice().len();
         let count = count_of(slots, nodes);
-        let Ok(statuses) = vec![in alloc; Status::Idle; count] else {
-            return Err(NoMemory);
-        };
+        let statuses = vec![in alloc; Status::Idle; count]?;
         let ready = Ready::new(alloc, count)?;
-        let Ok(history) = Vec::with_capacity(alloc, 2 * count) else {
-            return Err(NoMemory);
-        };
+        let history = Vec::with_capacity(alloc, 2 * count)?;
         Ok(Items {
             units,
             nodes,

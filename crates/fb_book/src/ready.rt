@@ -32,9 +32,7 @@ impl Ready {
     pub fn new(alloc: Global, room: usize) -> Result<Ready, NoMemory>
         ensures { IfOk result (λ r. r ≡ ([], room)) }
     {
-        let Ok(heap) = BinaryHeap::with_capacity(alloc, room) else {
-            return Err(NoMemory);
-        };
+        let heap = BinaryHeap::with_capacity(alloc, room)?;
         Ok(Ready { heap, room })
     }
 

@@ -126,9 +126,7 @@ fn shots(alloc: Global, graph: &Graph, count: u32) -> Result<Vec<Shot>, NoMemory
     let mut shots = Vec::new(alloc);
     for _ in 0..count {
         let shot = Shot::from_rising(graph, Vec::new(alloc));
-        let Ok(()) = add_shot(graph, &mut parts, &mut shots, shot) else {
-            return Err(NoMemory);
-        };
+        add_shot(graph, &mut parts, &mut shots, shot)?;
     }
     Ok(shots)
 }
@@ -316,32 +314,6 @@ fn runs_several_slots(rt: HostRuntime) -> Result<(), Fail> {
     let (slots, entries) = whole_run::<Brand>(rt.alloc(), &job)?;
     assert_eq!(rt; slots.as_slice(), [0, 1, 2].as_slice());
     assert_eq!(rt; entries, 18);
-    Ok(())
-}
-
-/// Eight slots of 64 units and 63 fusions.
-#[test]
-fn runs_a_tree(rt: HostRuntime) -> Result<(), Fail> {
-    let graph = Graph::build(rt.alloc(), 0, &[], &[])?;
-    let plan = paired(rt.alloc(), &graph, 64)?;
-    let shots = shots(rt.alloc(), &graph, 8)?;
-    let job = Job::new(&graph, &plan, shots);
-    let (slots, entries) = whole_run::<Brand>(rt.alloc(), &job)?;
-    assert_eq!(rt; slots.as_slice(), [0, 1, 2, 3, 4, 5, 6, 7].as_slice());
-    assert_eq!(rt; entries, 2032);
-    Ok(())
-}
-
-/// One slot of one unit, which is the root.
-#[test]
-fn runs_one_unit(rt: HostRuntime) -> Result<(), Fail> {
-    let graph = Graph::build(rt.alloc(), 5, &LINE, &[0, 4])?;
-    let plan = Plan::single(rt.alloc(), &graph)?;
-    let shots = shots(rt.alloc(), &graph, 1)?;
-    let job = Job::new(&graph, &plan, shots);
-    let (slots, entries) = whole_run::<Brand>(rt.alloc(), &job)?;
-    assert_eq!(rt; slots.as_slice(), [0].as_slice());
-    assert_eq!(rt; entries, 2);
     Ok(())
 }
 

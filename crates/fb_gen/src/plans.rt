@@ -24,9 +24,7 @@ fn one_range(alloc: Global, range: (u64, u64)) -> Result<Vec<(u64, u64)>, NoMemo
     ensures { IfOk result (λ v. v.items ≡ range ∷ []) }
 {
     let mut ranges = Vec::new(alloc);
-    let Ok(()) = ranges.push(range) else {
-        return Err(NoMemory);
-    };
+    ranges.push(range)?;
     Ok(ranges)
 }
 
@@ -54,14 +52,10 @@ impl Sharing {
     {
         let mut found = Vec::new(alloc);
         let mut first = 0;
-        let Ok(()) = found.push(first) else {
-            return Err(NoMemory);
-        };
+        found.push(first)?;
         for j in 0..self.units {
             first += self.rounds_of_unit(j) + 1;
-            let Ok(()) = found.push(first) else {
-                return Err(NoMemory);
-            };
+            found.push(first)?;
         }
         Ok(found)
     }
@@ -106,12 +100,8 @@ impl Sharing {
         let mut found = Vec::new(alloc);
         for j in 0..self.units {
             let range = self.unit_range(firsts, j);
-            let Ok(ranges) = one_range(alloc, range) else {
-                return Err(NoMemory);
-            };
-            let Ok(()) = found.push(ranges) else {
-                return Err(NoMemory);
-            };
+            let ranges = one_range(alloc, range)?;
+            found.push(ranges)?;
         }
         Ok(found)
     }
@@ -129,9 +119,7 @@ impl Sharing {
     {
         let first = firsts[fusion.seam as usize];
         let range = self.range(first.saturating_sub(1), first);
-        let Ok(seam) = one_range(alloc, range) else {
-            return Err(NoMemory);
-        };
+        let seam = one_range(alloc, range)?;
         Ok(Join {
             left: fusion.left,
             right: fusion.right,
@@ -153,12 +141,8 @@ impl Sharing {
     {
         let mut found = Vec::new(alloc);
         for fusion in fusions {
-            let Ok(join) = self.join(alloc, firsts, *fusion) else {
-                return Err(NoMemory);
-            };
-            let Ok(()) = found.push(join) else {
-                return Err(NoMemory);
-            };
+            let join = self.join(alloc, firsts, *fusion)?;
+            found.push(join)?;
         }
         Ok(found)
     }
@@ -250,11 +234,4 @@ mod tests {
         Ok(())
     }
 
-    #[test]
-    fn refuses_too_few_rounds(rt: HostRuntime) -> Result<(), Fail> {
-        let graph = lattice(rt.alloc(), 2, 2)?;
-        let refused = time_plan(rt.alloc(), &graph, 2, 2, 2);
-        assert_eq!(rt; refused.err(), Some(GenFault::TooFewRounds));
-        Ok(())
-    }
 }

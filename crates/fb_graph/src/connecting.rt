@@ -16,9 +16,7 @@ pub fn components(alloc: Global, graph: &Graph) -> Result<Components<'_>, NoMemo
 {
     let labels = label_vertices(alloc, graph)?;
     let bounded = mark_bounded(alloc, graph, &labels)?;
-    let Ok(odd) = vec![in alloc; false; labels.len()] else {
-        return Err(NoMemory);
-    };
+    let odd = vec![in alloc; false; labels.len()]?;
     Ok(Components {
         graph,
         labels,
@@ -100,9 +98,7 @@ fn mark_bounded(alloc: Global, graph: &Graph, labels: &[u32]) -> Result<Vec<bool
     requires { IsLabelling graph.now labels.now }
     ensures { IfOk result (λ v. IsBounded graph.now labels.now v.items) }
 {
-    let Ok(mut bounded) = vec![in alloc; false; labels.len()] else {
-        return Err(NoMemory);
-    };
+    let mut bounded = vec![in alloc; false; labels.len()]?;
     for v in 0..graph.vertices() {
         if graph.is_virtual(v) {
             bounded[labels[v as usize] as usize] = true;

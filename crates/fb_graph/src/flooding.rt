@@ -29,12 +29,8 @@ impl Flood {
         ensures labels { IfOk result (λ f. length f.labels ≡ n) }
         ensures order { IfOk result (λ f. f.order ≡ []) }
     {
-        let Ok(labels) = vec![in alloc; 0; n as usize] else {
-            return Err(NoMemory);
-        };
-        let Ok(flags) = vec![in alloc; false; n as usize] else {
-            return Err(NoMemory);
-        };
+        let labels = vec![in alloc; 0; n as usize]?;
+        let flags = vec![in alloc; false; n as usize]?;
         Ok(Flood {
             labels,
             flags,
@@ -51,9 +47,7 @@ impl Flood {
         if self.flags[v as usize] {
             return Ok(());
         }
-        let Ok(()) = self.order.push(v) else {
-            return Err(NoMemory);
-        };
+        self.order.push(v)?;
         self.flags[v as usize] = true;
         self.labels[v as usize] = label;
         Ok(())

@@ -55,8 +55,11 @@ pub trait Scope: Copy + Drop {
         requires { (problem self.now).is_real v ≡ true }
         ensures { result ≡ place_of self.now v };
 
-    /// Does nothing. Its clauses say what every scope keeps.
+    /// Does nothing. Its clause states what every scope keeps.
     fn limits(&self)
-        ensures problem { IsWithinLimits (problem self.now) }
-        ensures places { ArePlaces (problem self.now) (place_of self.now) (place_count self.now) };
+        ensures { IsWithinLimits (problem self.now) };
+
+    /// Does nothing. Its clause states that the places of real vertices differ.
+    fn places_differ(&self)
+        ensures { ArePlaces (problem self.now) (place_of self.now) (place_count self.now) };
 }

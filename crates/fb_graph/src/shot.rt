@@ -36,9 +36,7 @@ impl Shot {
         ensures shot { IfOk result (IsShot graph.now) }
     {
         graph.limits();
-        let Ok(()) = defects.sort() else {
-            return Err(NoMemory);
-        };
+        defects.sort()?;
         Ok(Shot {
             defects: NumberList::from_vec(defects),
         })
@@ -90,9 +88,7 @@ impl Shot {
     pub fn copy(&self, alloc: Global) -> Result<Shot, NoMemory>
         ensures { IfOk result (λ s. s ≡ self.now) }
     {
-        let Ok(defects) = Vec::from_slice(alloc, self.defects.as_slice()) else {
-            return Err(NoMemory);
-        };
+        let defects = Vec::from_slice(alloc, self.defects.as_slice())?;
         Ok(Shot {
             defects: NumberList::from_vec(defects),
         })

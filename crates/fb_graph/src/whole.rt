@@ -52,4 +52,8 @@ impl Scope for Whole<'_> {
     fn limits(&self) {
         self.0.limits();
     }
+
+    fn places_differ(&self) {
+        self.0.limits();
+    }
 }

@@ -25,9 +25,7 @@ pub fn judge_cover(
     requires { All (IsClaim graph.now.vertices) claims.now }
     ensures { IfOk result (λ fault. fault ≡ option_or (unowned_fault graph.now claims.now) (twice_fault graph.now claims.now)) }
 {
-    let Ok(counts) = loads(alloc, graph.vertices(), claims, Measure::Ranges) else {
-        return Err(NoMemory);
-    };
+    let counts = loads(alloc, graph.vertices(), claims, Measure::Ranges)?;
     match first_unowned(graph, &counts) {
         Some(v) => return Ok(Some(PlanFault::VertexUnowned(u64::from(v)))),
         None => {}
@@ -134,9 +132,7 @@ pub fn first_used_twice(
     requires { All (λ join. (join.left < nodes) × (join.right < nodes)) fusions.now }
     ensures { IfOk result (λ i. i ≡ least (length (joins_of fusions.now)) (is_used_twice (joins_of fusions.now))) }
 {
-    let Ok(mut used) = vec![in alloc; false; nodes] else {
-        return Err(NoMemory);
-    };
+    let mut used = vec![in alloc; false; nodes]?;
     for (i, fusion) in fusions.iter().enumerate() {
         if is_used_twice(&used, fusion) {
             return Ok(Some(i));

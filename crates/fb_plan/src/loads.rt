@@ -53,9 +53,7 @@ fn sums_at(
     ensures count { IfOk result (λ s. length s.items ≡ vertices + 1) }
     ensures each { IfOk result (λ s. (v : ℕ) → v ≤ vertices → get_or s.items v 0 ≡ bounded_at measure bound claims.now v) }
 {
-    let Ok(mut sums) = vec![in alloc; 0u128; vertices as usize + 1] else {
-        return Err(NoMemory);
-    };
+    let mut sums = vec![in alloc; 0u128; vertices as usize + 1]?;
     for claim in claims {
         let at = place(bound, *claim) as usize;
         let sum = sums[at] + u128::from(weight(measure, *claim));
@@ -82,19 +80,13 @@ pub fn loads(
     ensures count { IfOk result (λ s. length s.items ≡ vertices) }
     ensures each { IfOk result (λ s. (v : ℕ) → v < vertices → get_or s.items v 0 ≡ load_at measure claims.now v) }
 {
-    let Ok(opened) = sums_at(alloc, vertices, claims, measure, Bound::Start) else {
-        return Err(NoMemory);
-    };
-    let Ok(closed) = sums_at(alloc, vertices, claims, measure, Bound::End) else {
-        return Err(NoMemory);
-    };
+    let opened = sums_at(alloc, vertices, claims, measure, Bound::Start)?;
+    let closed = sums_at(alloc, vertices, claims, measure, Bound::End)?;
     let mut sums = Vec::new(alloc);
     let mut running = 0u128;
     for v in 0..vertices {
         running = running + sum_at(&opened, v) - sum_at(&closed, v);
-        let Ok(()) = sums.push(running) else {
-            return Err(NoMemory);
-        };
+        sums.push(running)?;
     }
     Ok(sums)
 }

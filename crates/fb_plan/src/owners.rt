@@ -43,9 +43,7 @@ pub fn owned_by_one(alloc: Global, graph: &Graph) -> Result<Vec<Option<u32>>, No
 {
     let mut owners = Vec::new(alloc);
     for v in 0..graph.vertices() {
-        let Ok(()) = owners.push(owner(graph, v, 0)) else {
-            return Err(NoMemory);
-        };
+        owners.push(owner(graph, v, 0))?;
     }
     Ok(owners)
 }
@@ -58,9 +56,7 @@ pub fn owned_by(alloc: Global, graph: &Graph, nodes: &[u128]) -> Result<Vec<Opti
 {
     let mut owners = Vec::new(alloc);
     for v in 0..graph.vertices() {
-        let Ok(()) = owners.push(given_owner(graph, nodes, v)) else {
-            return Err(NoMemory);
-        };
+        owners.push(given_owner(graph, nodes, v))?;
     }
     Ok(owners)
 }

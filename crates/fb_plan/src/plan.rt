@@ -133,9 +133,7 @@ impl Plan {
         let Ok(parents) = parents_of(alloc, units, fusions) else {
             return Err(NoMemory);
         };
-        let Ok(spans) = spans_of(alloc, units, fusions) else {
-            return Err(NoMemory);
-        };
+        let spans = spans_of(alloc, units, fusions)?;
         Ok(Plan {
             units,
             joins,

@@ -55,4 +55,8 @@ impl Scope for NodeScope<'_> {
     fn limits(&self) {
         self.graph.limits();
     }
+
+    fn places_differ(&self) {
+        self.graph.limits();
+    }
 }

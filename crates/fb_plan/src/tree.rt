@@ -18,9 +18,7 @@ pub fn parents_of(
     ensures count { IfOk result (λ p. length p.items ≡ units + length joins.now) }
     ensures each { IfOk result (λ p. (n : ℕ) → n < units + length joins.now → get_or p.items n None ≡ parent_of (tree_of units joins.now) n) }
 {
-    let Ok(mut parents) = vec![in alloc; None; units as usize + joins.len()] else {
-        return Err(NoMemory);
-    };
+    let mut parents = vec![in alloc; None; units as usize + joins.len()]?;
     for (i, join) in joins.iter().enumerate() {
         let (left, right) = *join;
         let parent = units + i as u32;
@@ -35,9 +33,7 @@ fn ones(alloc: Global, count: u32) -> Result<Vec<u32>, NoMemory>
     ensures count { IfOk result (λ s. length s.items ≡ count) }
     ensures each { IfOk result (λ s. (n : ℕ) → n < count → get_or s.items n 0 ≡ 1) }
 {
-    let Ok(ones) = vec![in alloc; 1u32; count as usize] else {
-        return Err(NoMemory);
-    };
+    let ones = vec![in alloc; 1u32; count as usize]?;
     Ok(ones)
 }
 
@@ -48,15 +44,11 @@ fn sizes_of(alloc: Global, units: u32, joins: &[(u32, u32)]) -> Result<Vec<u32>,
     ensures count { IfOk result (λ s. length s.items ≡ units + length joins.now) }
     ensures each { IfOk result (λ s. (n : ℕ) → n < units + length joins.now → get_or s.items n 0 ≡ size_of (tree_of units joins.now) n) }
 {
-    let Ok(mut sizes) = ones(alloc, units) else {
-        return Err(NoMemory);
-    };
+    let mut sizes = ones(alloc, units)?;
     for join in joins {
         let (left, right) = *join;
         let size = sizes[left as usize] + sizes[right as usize] + 1;
-        let Ok(()) = sizes.push(size) else {
-            return Err(NoMemory);
-        };
+        sizes.push(size)?;
     }
     Ok(sizes)
 }
@@ -67,9 +59,7 @@ pub fn spans_of(alloc: Global, units: u32, joins: &[(u32, u32)]) -> Result<Vec<S
     ensures count { IfOk result (λ s. length s.items ≡ units + length joins.now) }
     ensures placed { IfOk result (λ s. IsPlaced (tree_of units joins.now) s.items) }
 {
-    let Ok(sizes) = sizes_of(alloc, units, joins) else {
-        return Err(NoMemory);
-    };
+    let sizes = sizes_of(alloc, units, joins)?;
     spans_by(alloc, units, joins, &sizes)
 }
 
@@ -87,9 +77,7 @@ fn spans_by(
     ensures count { IfOk result (λ s. length s.items ≡ units + length joins.now) }
     ensures placed { IfOk result (λ s. IsPlaced (tree_of units joins.now) s.items) }
 {
-    let Ok(mut spans) = unplaced(alloc, sizes) else {
-        return Err(NoMemory);
-    };
+    let mut spans = unplaced(alloc, sizes)?;
     let mut i = joins.len();
     while i > 0 {
         i -= 1;

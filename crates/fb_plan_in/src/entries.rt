@@ -26,9 +26,7 @@ fn pair(value: &Value) -> Option<(u64, u64)>
 fn pairs(alloc: Global, values: &[Value]) -> Result<Option<Vec<(u64, u64)>>, NoMemory>
     ensures { IfOk result (λ o. option_map (λ v. v.items) o ≡ pairs_of (items_view values.now)) }
 {
-    let Ok(mut found) = Vec::with_capacity(alloc, values.len()) else {
-        return Err(NoMemory);
-    };
+    let mut found = Vec::with_capacity(alloc, values.len())?;
     for (i, value) in values.iter().enumerate() {
         let Some(entry) = pair(value) else {
             return Ok(None);
@@ -63,9 +61,7 @@ fn fusion(alloc: Global, value: &Value) -> Result<Option<Join>, NoMemory>
     let Some((left, right)) = pair(nodes) else {
         return Ok(None);
     };
-    let Ok(seam) = ranges(alloc, interface) else {
-        return Err(NoMemory);
-    };
+    let seam = ranges(alloc, interface)?;
     match seam {
         Some(seam) => Ok(Some(Join { left, right, seam })),
         None => Ok(None),

@@ -19,8 +19,7 @@ pub use writing::{Sink, put_all, put_parts};
 pub struct Failed;
 
 /// Memory ran out.
-#[derive(Clone, Copy, Debug, PartialEq, Eq)]
-pub struct NoMemory;
+pub use std::alloc::AllocError as NoMemory;
 
 #[cfg(test)]
 mod tests;

@@ -26,9 +26,7 @@ impl NamedFile {
     fn new(alloc: Global, name: &str, bytes: &[u8]) -> Result<NamedFile, NoMemory>
         ensures { IfOk result (λ f. f ≡ (name.now, bytes.now)) }
     {
-        let Ok(name) = String::from_str(alloc, name) else {
-            return Err(NoMemory);
-        };
+        let name = String::from_str(alloc, name)?;
         let mut held = Vec::new(alloc);
         if held.extend_from_slice(bytes).is_err() {
             return Err(NoMemory);
@@ -128,9 +126,7 @@ impl MemFiles {
     pub fn new(alloc: Global) -> Result<MemFiles, NoMemory>
         ensures { IfOk result (λ m. m ≡ no_files (2 ^ 64 - 1)) }
     {
-        let Ok(asked) = Vec::with_capacity(alloc, 16) else {
-            return Err(NoMemory);
-        };
+        let asked = Vec::with_capacity(alloc, 16)?;
         Ok(MemFiles {
             files: Vec::new(alloc),
             current: None,
@@ -149,9 +145,7 @@ impl MemFiles {
             ≡ record self.old { files = self.old.files ++ (name.now, bytes.now) ∷ [] }) }
         ensures kept { OnErr result (self.new ≡ self.old) }
     {
-        let Ok(file) = NamedFile::new(alloc, name, bytes) else {
-            return Err(NoMemory);
-        };
+        let file = NamedFile::new(alloc, name, bytes)?;
         if self.files.push(file).is_err() {
             return Err(NoMemory);
         }
@@ -290,9 +284,7 @@ impl MemSink {
     pub fn new(alloc: Global, room: usize) -> Result<MemSink, NoMemory>
         ensures { IfOk result (λ s. s ≡ empty_sink room (2 ^ 64 - 1)) }
     {
-        let Ok(taken) = Vec::with_capacity(alloc, room) else {
-            return Err(NoMemory);
-        };
+        let taken = Vec::with_capacity(alloc, room)?;
         Ok(MemSink {
             taken,
             room,

@@ -18,9 +18,7 @@ use std::alloc::Global;
 pub fn naturals(alloc: Global, values: &[Value]) -> Result<Option<Vec<u64>>, NoMemory>
     ensures { IfOk result (λ found. option_map (λ v. v.items) found ≡ naturals_of (items_view values.now)) }
 {
-    let Ok(mut found) = Vec::with_capacity(alloc, values.len()) else {
-        return Err(NoMemory);
-    };
+    let mut found = Vec::with_capacity(alloc, values.len())?;
     for value in values {
         let Some(entry) = value.as_u64() else {
             return Ok(None);
@@ -55,9 +53,7 @@ fn real_front(
     ensures front { IfOk result (λ r. r.0.items ≡ real_front graph.now listed.now) }
     ensures fault { IfOk result (λ r. r.1 ≡ first_fault graph.now listed.now) }
 {
-    let Ok(mut found) = Vec::with_capacity(alloc, listed.len()) else {
-        return Err(NoMemory);
-    };
+    let mut found = Vec::with_capacity(alloc, listed.len())?;
     for entry in listed {
         if let Some(kind) = vertex_fault(graph, *entry) {
             return Ok((found, Some(kind)));

@@ -26,8 +26,7 @@ pub enum Kind {
 }
 
 /// There was not enough memory.
-#[derive(Clone, Copy, Debug, PartialEq, Eq)]
-pub struct NoMemory;
+pub use std::alloc::AllocError as NoMemory;
 
 /// The detectors that fired in a shot, in rising order where a reader gave them. Contracts see the list.
 #[derive(Debug, Drop)]

@@ -8,9 +8,9 @@ use Rattle.fb_plan.proofs.judging.judge_cover.Goals as goal
 pub returns-in-Some-first_twice : goal.returns-in-Some-first_twice
 returns-in-Some-first_twice c =
     let told : AreCounts c.args.graph.now c.args.claims.now c.deref.result.now =
-    λ v less. ap (λ s. get_or s v 0) c.deref.ensures.value ∙ c.in-Ok.ensures.each v (subst (λ n. v < n) (sym c.vertices.ensures) less) in
+    λ v less. ap (λ s. get_or s v 0) c.deref.ensures.value ∙ c.in_ok-counts.ensures.each v (subst (λ n. v < n) (sym c.vertices.ensures) less) in
     let told_again : AreCounts c.args.graph.now c.args.claims.now c.deref-2.result.now =
-    λ v less. ap (λ s. get_or s v 0) c.deref-2.ensures.value ∙ c.in-Ok.ensures.each v (subst (λ n. v < n) (sym c.vertices.ensures) less) in
+    λ v less. ap (λ s. get_or s v 0) c.deref-2.ensures.value ∙ c.in_ok-counts.ensures.each v (subst (λ n. v < n) (sym c.vertices.ensures) less) in
     second_fault (unowned_fault c.args.graph.now c.args.claims.now) (twice_fault c.args.graph.now c.args.claims.now) _
     (ap (option_map VertexUnowned) (sym (unowned_counted c.args.graph.now c.args.claims.now c.deref.result.now told)
     ∙ sym c.first_unowned.ensures ∙ c.in-None.is))
@@ -21,9 +21,9 @@ returns-in-Some-first_twice c =
 pub returns : goal.returns
 returns c =
     let told : AreCounts c.args.graph.now c.args.claims.now c.deref.result.now =
-    λ v less. ap (λ s. get_or s v 0) c.deref.ensures.value ∙ c.in-Ok.ensures.each v (subst (λ n. v < n) (sym c.vertices.ensures) less) in
+    λ v less. ap (λ s. get_or s v 0) c.deref.ensures.value ∙ c.in_ok-counts.ensures.each v (subst (λ n. v < n) (sym c.vertices.ensures) less) in
     let told_again : AreCounts c.args.graph.now c.args.claims.now c.deref-2.result.now =
-    λ v less. ap (λ s. get_or s v 0) c.deref-2.ensures.value ∙ c.in-Ok.ensures.each v (subst (λ n. v < n) (sym c.vertices.ensures) less) in
+    λ v less. ap (λ s. get_or s v 0) c.deref-2.ensures.value ∙ c.in_ok-counts.ensures.each v (subst (λ n. v < n) (sym c.vertices.ensures) less) in
     no_fault (unowned_fault c.args.graph.now c.args.claims.now) (twice_fault c.args.graph.now c.args.claims.now)
     (ap (option_map VertexUnowned) (sym (unowned_counted c.args.graph.now c.args.claims.now c.deref.result.now told)
     ∙ sym c.first_unowned.ensures ∙ c.in-None.is))

@@ -10,8 +10,8 @@ loop-v-init c = (sym (open_first c.args.measure c.args.claims.now), search rules
 pub overflow_add-running : goal.overflow_add-running
 overflow_add-running c =
     let started : c.sum_at.result ≡ bounded_at c.args.measure Start c.args.claims.now c.loop-v.v =
-    c.sum_at.ensures ∙ ap (λ s. get_or s c.loop-v.v 0) c.deref.ensures.value ∙ c.in-Ok.ensures.each c.loop-v.v (omega arith) in
-    let few : length c.args.claims.now < 2 ^ 64 = c.in-Ok.ensures.few in
+    c.sum_at.ensures ∙ ap (λ s. get_or s c.loop-v.v 0) c.deref.ensures.value ∙ c.in_ok-opened.ensures.each c.loop-v.v (omega arith) in
+    let few : length c.args.claims.now < 2 ^ 64 = c.in_ok-opened.ensures.few in
     omega (
       arith,
       c.loop-v.invariant.0,
@@ -24,9 +24,9 @@ overflow_add-running c =
 pub overflow_sub-running : goal.overflow_sub-running
 overflow_sub-running c =
     let started : c.sum_at.result ≡ bounded_at c.args.measure Start c.args.claims.now c.loop-v.v =
-    c.sum_at.ensures ∙ ap (λ s. get_or s c.loop-v.v 0) c.deref.ensures.value ∙ c.in-Ok.ensures.each c.loop-v.v (omega arith) in
+    c.sum_at.ensures ∙ ap (λ s. get_or s c.loop-v.v 0) c.deref.ensures.value ∙ c.in_ok-opened.ensures.each c.loop-v.v (omega arith) in
     let ended : c.sum_at-in-loop-v.result ≡ bounded_at c.args.measure End c.args.claims.now c.loop-v.v =
-    c.sum_at-in-loop-v.ensures ∙ ap (λ s. get_or s c.loop-v.v 0) c.deref-in-loop-v.ensures.value ∙ c.in-Ok-sums_at.ensures.each c.loop-v.v (omega arith) in
+    c.sum_at-in-loop-v.ensures ∙ ap (λ s. get_or s c.loop-v.v 0) c.deref-in-loop-v.ensures.value ∙ c.in_ok-closed.ensures.each c.loop-v.v (omega arith) in
     omega (
       arith,
       c.loop-v.invariant.0,
@@ -39,9 +39,9 @@ overflow_sub-running c =
 pub loop-v-preserved : goal.loop-v-preserved
 loop-v-preserved c =
     let started : c.sum_at.result ≡ bounded_at c.args.measure Start c.args.claims.now c.loop-v.v =
-    c.sum_at.ensures ∙ ap (λ s. get_or s c.loop-v.v 0) c.deref.ensures.value ∙ c.in-Ok.ensures.each c.loop-v.v (omega arith) in
+    c.sum_at.ensures ∙ ap (λ s. get_or s c.loop-v.v 0) c.deref.ensures.value ∙ c.in_ok-opened.ensures.each c.loop-v.v (omega arith) in
     let ended : c.sum_at-in-loop-v.result ≡ bounded_at c.args.measure End c.args.claims.now c.loop-v.v =
-    c.sum_at-in-loop-v.ensures ∙ ap (λ s. get_or s c.loop-v.v 0) c.deref-in-loop-v.ensures.value ∙ c.in-Ok-sums_at.ensures.each c.loop-v.v (omega arith) in
+    c.sum_at-in-loop-v.ensures ∙ ap (λ s. get_or s c.loop-v.v 0) c.deref-in-loop-v.ensures.value ∙ c.in_ok-closed.ensures.each c.loop-v.v (omega arith) in
     let here : c.loop-v.running + c.sum_at.result - c.sum_at-in-loop-v.result ≡ load_at c.args.measure c.args.claims.now c.loop-v.v =
     omega (
       arith,
@@ -54,10 +54,10 @@ loop-v-preserved c =
       here ∙ sym (open_next c.args.measure c.loop-v.v c.args.claims.now),
       omega (
         arith,
-        ap length c.in-Ok-push.ensures.items,
+        ap length c.in_ok-push.ensures.items,
         length-append c.loop-v.sums.items ((c.loop-v.running + c.sum_at.result - c.sum_at-in-loop-v.result) ∷ []),
         c.loop-v.invariant.1,
       ),
-      λ k below. ap (λ s. get_or s k 0) c.in-Ok-push.ensures.items
+      λ k below. ap (λ s. get_or s k 0) c.in_ok-push.ensures.items
           ∙ loads_more c.args.measure c.args.claims.now c.loop-v.sums.items c.loop-v.v _ c.loop-v.invariant.1 c.loop-v.invariant.2 here k below,
     )

@@ -39,6 +39,6 @@ loop-join-preserved c =
     let more = sizes_more (tree_of c.args.units c.args.joins.now) c.requires c.loop-join.sizes.items c.loop-join.join-index
     (c.index.result.now + c.index-in-loop-join.result.now + 1) (omega arith) c.loop-join.invariant.0 c.loop-join.invariant.1
     (ap (λ x. x + c.index-in-loop-join.result.now + 1) first ∙ ap (λ x. size_of (tree_of c.args.units c.args.joins.now) (join_at c.args.joins.now c.loop-join.join-index).0 + x + 1) second) in (
-      omega (arith, ap length c.in-Ok-push.ensures.items, length-append c.loop-join.sizes.items ((c.index.result.now + c.index-in-loop-join.result.now + 1) ∷ []), c.loop-join.invariant.0),
-      λ n below. ap (λ xs. get_or xs n 0) c.in-Ok-push.ensures.items ∙ more n below,
+      omega (arith, ap length c.in_ok-push.ensures.items, length-append c.loop-join.sizes.items ((c.index.result.now + c.index-in-loop-join.result.now + 1) ∷ []), c.loop-join.invariant.0),
+      λ n below. ap (λ xs. get_or xs n 0) c.in_ok-push.ensures.items ∙ more n below,
     )

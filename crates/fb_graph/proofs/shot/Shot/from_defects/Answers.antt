@@ -7,7 +7,7 @@ is_shot : (c : After-from_vec) → IsShot c.args.graph.now c.from_vec.result
 is_shot c =
     rw c.from_vec.ensures
     (shot_from_sort _ c.args.defects.items _ c.requires.distinct c.requires.real c.sort.ensures.permutation
-    c.in-Ok.ensures.sorted)
+    c.in_ok-sort.ensures.sorted)
 
 pub invariant_of-result : goal.invariant_of-result
 invariant_of-result c = let shot = is_shot c in (shot.rising, length-shot c.args.graph.now _ c.limits.ensures shot)

@@ -3,6 +3,6 @@ use Rattle.fb_plan.proofs.plan.Plan.planted.Goals as goal
 
 pub invariant_of-result : goal.invariant_of-result
 invariant_of-result c =
-    laid_out c.args.units c.args.joins.items c.as_slice-fusions.result.now c.args.owners.items c.in-Ok.parents.items c.in-Ok-spans_of.spans.items
+    laid_out c.args.units c.args.joins.items c.as_slice-fusions.result.now c.args.owners.items c.in-Ok.parents.items c.in_ok-spans.spans.items
     c.as_slice-fusions.ensures.value c.requires.tree c.requires.owners c.requires.count
-    c.in-Ok.ensures.count c.in-Ok.ensures.each c.in-Ok-spans_of.ensures.count c.in-Ok-spans_of.ensures.placed
+    c.in-Ok.ensures.count c.in-Ok.ensures.each c.in_ok-spans.ensures.count c.in_ok-spans.ensures.placed
