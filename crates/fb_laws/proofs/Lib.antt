@@ -1,4 +1,6 @@
 pub mod BlossomSums
+pub mod CycleLinks
+pub mod CycleMoves
 pub mod CycleWays
 pub mod DifferingCuts
 pub mod FallingRanks
@@ -24,6 +26,7 @@ pub mod OpenedCycles
 pub mod OpenedLevels
 pub mod OpenedSearches
 pub mod OpenedTrees
+pub mod PartStates
 pub mod PathSums
 pub mod PotentialParities
 pub mod SampleCycles
@@ -48,6 +51,7 @@ pub mod SearchTrees
 pub mod Shifts
 pub mod SolvedNests
 pub mod SplitStates
+pub mod StateMoves
 pub mod StepLengths
 pub mod TreeCycles
 pub mod TreePaths

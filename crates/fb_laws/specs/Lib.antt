@@ -17,6 +17,7 @@ pub mod NestedWitnesses
 pub mod OpenedCycles
 pub mod Opening
 pub mod Parities
+pub mod PartStates
 pub mod Paths
 pub mod ResolvedWitnesses
 pub mod Samples
@@ -26,6 +27,7 @@ pub mod SearchOpenings
 pub mod SearchWitnesses
 pub mod Searches
 pub mod Signed
+pub mod StateMoves
 pub mod TreeCycles
 pub mod TreeWitnesses
 pub mod Trees

@@ -22,12 +22,14 @@ pub mod nested;
 pub mod nested_fusion;
 pub mod opening;
 pub mod parities;
+pub mod part_states;
 pub mod paths;
 pub mod resolved;
 pub mod searches;
 pub mod signed;
 pub mod splitting;
 pub mod sprouts;
+pub mod state_moves;
 pub mod steps;
 pub mod turns;
 pub mod unmatched;
@@ -62,6 +64,7 @@ pub use nested::{
 pub use nested_fusion::{nested_fused, nests_merged};
 pub use opening::{last_level, levels};
 pub use parities::{attached_parity, stepped_parity};
+pub use part_states::{live_links_are_tight, unmatched_are_outer};
 pub use paths::{alternating_path, augmented};
 pub use resolved::nest_resolved;
 pub use searches::{
@@ -70,6 +73,7 @@ pub use searches::{
 pub use signed::{shifted_parity, signed_duality, signed_solution};
 pub use splitting::{matching_opened, search_opened};
 pub use sprouts::beginning;
+pub use state_moves::{state_attached, state_begins, state_ended, state_layers, state_stepped};
 pub use steps::{step_keeps_packing, step_loads, steps_add};
 pub use turns::{step_in_turns, turns_allowed};
 pub use unmatched::outer_names;
