@@ -29,6 +29,8 @@ pub mod OpenedTrees
 pub mod PartStates
 pub mod PathSums
 pub mod PotentialParities
+pub mod RenamedNames
+pub mod RingLinks
 pub mod SampleCycles
 pub mod SampleEndings
 pub mod SampleEnds
@@ -51,6 +53,7 @@ pub mod SearchTrees
 pub mod Shifts
 pub mod SolvedNests
 pub mod SplitStates
+pub mod StateBlossoms
 pub mod StateMoves
 pub mod StepLengths
 pub mod TreeCycles

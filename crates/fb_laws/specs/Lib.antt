@@ -27,6 +27,7 @@ pub mod SearchOpenings
 pub mod SearchWitnesses
 pub mod Searches
 pub mod Signed
+pub mod StateBlossoms
 pub mod StateMoves
 pub mod TreeCycles
 pub mod TreeWitnesses

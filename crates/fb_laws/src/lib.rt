@@ -29,6 +29,7 @@ pub mod searches;
 pub mod signed;
 pub mod splitting;
 pub mod sprouts;
+pub mod state_blossoms;
 pub mod state_moves;
 pub mod steps;
 pub mod turns;
@@ -73,6 +74,7 @@ pub use searches::{
 pub use signed::{shifted_parity, signed_duality, signed_solution};
 pub use splitting::{matching_opened, search_opened};
 pub use sprouts::beginning;
+pub use state_blossoms::state_joined;
 pub use state_moves::{state_attached, state_begins, state_ended, state_layers, state_stepped};
 pub use steps::{step_keeps_packing, step_loads, steps_add};
 pub use turns::{step_in_turns, turns_allowed};
