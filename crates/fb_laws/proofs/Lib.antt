@@ -55,6 +55,7 @@ pub mod SolvedNests
 pub mod SplitStates
 pub mod StateBlossoms
 pub mod StateMoves
+pub mod StateOpenings
 pub mod StepLengths
 pub mod TreeCycles
 pub mod TreePaths

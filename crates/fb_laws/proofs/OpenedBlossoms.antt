@@ -43,16 +43,16 @@ distinct_to (x ∷ xs) distinct = (none xs distinct.0, distinct_to xs distinct.1
     none [] all = refl
     none (y ∷ ys) all = or_from (y == x) (is_in ys x) (equal_sym y x ∙ all.0) (none ys all.1)
 
-distinct_permuted : (xs ys : List ℕ) → IsPermutation xs ys → AreDistinct xs → AreDistinct ys
+pub distinct_permuted : (xs ys : List ℕ) → IsPermutation xs ys → AreDistinct xs → AreDistinct ys
 distinct_permuted xs ys moved distinct =
     distinct_to ys (IsDistinct-IsPermutation (λ x y. x == y) equal_sym xs ys moved (distinct_from xs distinct))
 
-in_permuted : (xs ys : List ℕ) → IsPermutation xs ys → (n : ℕ) → is_in xs n ≡ true → is_in ys n ≡ true
+pub in_permuted : (xs ys : List ℕ) → IsPermutation xs ys → (n : ℕ) → is_in xs n ≡ true → is_in ys n ≡ true
 in_permuted xs ys moved n within =
     is_in-All (λ x. is_in ys x ≡ true) xs
     (All-permutation (λ x. is_in ys x ≡ true) ys xs (IsPermutation-sym xs ys moved) (λ i d less. is_in_at ys i d less)) n within
 
-same_permuted : (xs ys : List ℕ) → IsPermutation xs ys → (n : ℕ) → is_in ys n ≡ is_in xs n
+pub same_permuted : (xs ys : List ℕ) → IsPermutation xs ys → (n : ℕ) → is_in ys n ≡ is_in xs n
 same_permuted xs ys moved n = step (cases_Bool (is_in xs n))
   where
     step : (is_in xs n ≡ true) ⊎ (is_in xs n ≡ false) → is_in ys n ≡ is_in xs n

@@ -303,7 +303,7 @@ tree_onto nodes others root (x ∷ xs) ys zs moved more joined rest =
       tree_onto nodes others root xs ys zs (λ y a. moved y (inr a)) more joined.3 rest,
     )
 
-parent_plus : (nodes : List Node) (root : ℕ) (tree : List Entry) → IsTree nodes root tree → (x : Entry) → IsAmong x tree
+pub parent_plus : (nodes : List Node) (root : ℕ) (tree : List Entry) → IsTree nodes root tree → (x : Entry) → IsAmong x tree
     → is_in (plus_names root tree) x.parent ≡ true
 parent_plus nodes root [] joined x a = absurd a
 parent_plus nodes root (y ∷ ys) joined x (inl same) =

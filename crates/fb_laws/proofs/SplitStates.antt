@@ -88,7 +88,7 @@ module _ (p : Problem) (nodes : List Node) (b : Node) (children : List ℕ) (amo
           ∙ (ap (λ l. is_in (first_vertices (l ++ b.top ∷ [])) d) shape.1
           ∙ (ap (λ n. is_in n.top.vertices d) (sym (same_among nodes nest.dual.names over.node b over.among among over.named)) ∙ over.holds)))
 
-  child_covers : (m : Node) → IsAmong m nodes → is_in b.children m.name ≡ true → (d : ℕ) → is_in m.top.vertices d ≡ true
+  pub child_covers : (m : Node) → IsAmong m nodes → is_in b.children m.name ≡ true → (d : ℕ) → is_in m.top.vertices d ≡ true
       → cover_of (split b.name nodes) d ≡ Some m.name
   child_covers m a mine d holds =
       covered_by (split b.name nodes) d after.dual.apart m
