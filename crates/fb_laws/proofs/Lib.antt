@@ -5,6 +5,7 @@ pub mod CycleWays
 pub mod DifferingCuts
 pub mod FallingRanks
 pub mod FormedNodes
+pub mod FreedNames
 pub mod FusedParts
 pub mod FusedStates
 pub mod HalvesKept
@@ -54,6 +55,7 @@ pub mod Shifts
 pub mod SolvedNests
 pub mod SplitStates
 pub mod StateBlossoms
+pub mod StateFusions
 pub mod StateMoves
 pub mod StateOpenings
 pub mod StepLengths

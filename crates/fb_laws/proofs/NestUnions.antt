@@ -61,7 +61,7 @@ joined_append (n ∷ ns) os one other across = (
   joined_append ns os one.2 other (λ x m a b. across x m (inr a) b),
 )
 
-top_right : (xs ys : List Node) (name : ℕ) → is_live xs name ≡ false → top_at (xs ++ ys) name ≡ top_at ys name
+pub top_right : (xs ys : List Node) (name : ℕ) → is_live xs name ≡ false → top_at (xs ++ ys) name ≡ top_at ys name
 top_right [] ys name none = refl
 top_right (x ∷ xs) ys name none =
     let parts = or_parts (x.name == name) (is_live xs name) none in

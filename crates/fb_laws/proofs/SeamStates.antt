@@ -32,7 +32,7 @@ use Rattle.fb_laws.proofs.Shifts.{walk_same}
 use Rattle.fb_graph.proofs.SproutStates.{cuts_are, leaves_are, names_are, no_sum}
 
 -- new nodes without value add nothing to any sum
-weigh_with : (test : List ℕ → Bool) (nodes : List Node) (sprouts : List Sprout) → All (λ s. s.value ≡ 0) sprouts
+pub weigh_with : (test : List ℕ → Bool) (nodes : List Node) (sprouts : List Sprout) → All (λ s. s.value ≡ 0) sprouts
     → weigh test (all_cuts (nodes ++ nodes_of sprouts)) ≡ weigh test (all_cuts nodes)
 weigh_with test nodes sprouts bare =
     ap (weigh test) (cuts_merged nodes (nodes_of sprouts))

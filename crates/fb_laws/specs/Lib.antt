@@ -28,6 +28,7 @@ pub mod SearchWitnesses
 pub mod Searches
 pub mod Signed
 pub mod StateBlossoms
+pub mod StateFusions
 pub mod StateMoves
 pub mod StateOpenings
 pub mod TreeCycles
