@@ -1,20 +1,19 @@
 -- The links round the blossoms of a part: each lies under one outer node, and they stay where nodes change.
-use Rattle.std.proofs.Common.{ℕ, ◌≡◌, inl, inr, not, Bool, true, false, List, [], ◌∷◌, ◌++◌, map, All, Some, refl, sym, ap, ◌∙◌, subst, if◌then◌else◌}
+use Rattle.std.proofs.Common.{ℕ, ◌≡◌, inl, inr, Bool, true, false, List, [], ◌∷◌, ◌++◌, map, All, Some, refl, sym, ap, ◌∙◌, subst, if◌then◌else◌}
 use Rattle.std.proofs.lemmas.Bool.{both_ways}
 use Rattle.std.proofs.lemmas.List.Elements.{All-nil, All-cons, All-head, All-tail, All-append, All-map}
 use Rattle.fb_graph.specs.Parity.{is_in}
 use Rattle.fb_graph.specs.Problem.{Problem}
 use Rattle.fb_graph.specs.Laws.{Link}
-use Rattle.fb_graph.specs.Dual.{Node, AreUnderOne, cover_of, is_empty, is_live, is_outer, top_at}
+use Rattle.fb_graph.specs.Dual.{Node, AreUnderOne, cover_of, is_empty, is_live, top_at}
 use Rattle.fb_graph.proofs.Nodes.{All-flat_map}
 use Rattle.fb_graph.proofs.Sets.{All-from_is_in, is_in-All}
 use Rattle.fb_graph.specs.Nests.{IsNest, child_sets}
 use Rattle.fb_laws.specs.Paths.{Joins}
-use Rattle.fb_laws.specs.PartStates.{AreChained, IsRing, AreCycles, all_cycle_links, links_at}
-use Rattle.fb_laws.specs.Works.{AreMatchedLinks}
-use Rattle.fb_graph.proofs.Among.{IsAmong, All_among, among_All, among_any, live_among, top_among, covered_by}
+use Rattle.fb_laws.specs.PartStates.{AreChained, IsRing, all_cycle_links, links_at}
+use Rattle.fb_graph.proofs.Among.{IsAmong, All_among, among_All, live_among, top_among, covered_by}
 use Rattle.fb_graph.proofs.Forests.{child_within, under_outer}
-use Rattle.fb_graph.proofs.NestParts.{grove_of, map_agree}
+use Rattle.fb_graph.proofs.NestParts.{grove_of}
 
 -- what holds of the vertices of all sets holds of both ends of each link
 chain_ends : (P : ℕ → Type 0) (from : List ℕ) (sets : List (List ℕ)) (links : List Link)

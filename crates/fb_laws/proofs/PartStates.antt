@@ -1,7 +1,7 @@
 -- What the links and the unmatched names of a half-solved part are.
-use Rattle.std.proofs.Common.{ℕ, ◌≡◌, true, List, [], ◌∷◌, ◌++◌, Some, ap, ◌∙◌}
+use Rattle.std.proofs.Common.{◌++◌, Some, ap, ◌∙◌}
 use Rattle.fb_graph.specs.Parity.{is_in}
-use Rattle.fb_graph.specs.Dual.{cover_of, is_outer, leaves}
+use Rattle.fb_graph.specs.Dual.{is_outer, leaves}
 use Rattle.fb_graph.proofs.Sets.{member_of_odd}
 use Rattle.fb_laws.specs.PartStates.{LiveTight, SearchTight, UnmatchedOuter, all_cycle_links}
 use Rattle.fb_laws.specs.Trees.{grown_links, paired_links}
@@ -28,10 +28,9 @@ pub unmatched_outer : UnmatchedOuter
 unmatched_outer p s name state within =
     let nest = state.work.nest in
     let (m, a, named) = live_among s.nodes name (state.names.live name within) in
-    let (v, held, leaf) = member_of_odd (is_in (leaves s.nodes)) m.top.vertices (top_is_odd p s.nodes nest m a).odd in
-    (
+    let (v, held, leaf) = member_of_odd (is_in (leaves s.nodes)) m.top.vertices (top_is_odd p s.nodes nest m a).odd in (
       v,
       leaf,
       covered_by s.nodes v nest.dual.apart m a (ap (is_outer s.nodes) named ∙ state.work.outer name within) held
-      ∙ ap Some named,
+          ∙ ap Some named,
     )

@@ -1,19 +1,19 @@
 -- Links round a cycle of outer nodes, told by their names and by their sets.
-use Rattle.std.proofs.Common.{ℕ, ◌≡◌, ◌||◌, ◌⊎◌, inl, inr, Bool, true, false, List, [], ◌∷◌, ◌++◌, map, All, Some, refl, sym, ap, ◌∙◌, subst}
+use Rattle.std.proofs.Common.{ℕ, ◌≡◌, ◌⊎◌, inl, inr, true, List, [], ◌∷◌, ◌++◌, map, refl, ◌∙◌, subst}
 use Rattle.std.proofs.lemmas.List.{map-append}
 use Rattle.std.proofs.lemmas.Bool.{false≢true}
 use Rattle.fb_graph.specs.Parity.{is_in}
 use Rattle.fb_graph.specs.Certificate.{AreDistinct}
 use Rattle.fb_graph.specs.Problem.{Problem}
 use Rattle.fb_graph.specs.Laws.{Link}
-use Rattle.fb_graph.specs.Dual.{Node, all_cuts, cover_of, is_live, leaves, top_at}
+use Rattle.fb_graph.specs.Dual.{Node, all_cuts, is_live, leaves, top_at}
 use Rattle.fb_graph.proofs.Among.{IsAmong, All_among, among_All, among_left, among_right, among_either, among_live, cover_among, map_among}
 use Rattle.fb_graph.proofs.Sets.{is_in-cases}
 use Rattle.fb_graph.specs.Links.{IsTightLink}
 use Rattle.fb_laws.specs.Fusion.{IsLinkOf}
 use Rattle.fb_laws.specs.PartStates.{AreChained, IsRing}
 use Rattle.fb_laws.specs.TreeCycles.{AreLinked, cycle_links, links_along, links_back}
-use Rattle.fb_laws.specs.Trees.{Entry, Connects, grown_links, paired_links}
+use Rattle.fb_laws.specs.Trees.{Entry, grown_links, paired_links}
 use Rattle.fb_laws.specs.Works.{AreMatchedLinks}
 use Rattle.fb_laws.proofs.SearchTrees.{connected, connects_sym, joins_of}
 

@@ -1,31 +1,29 @@
 -- A blossom formed in the tree of a half-solved part keeps the whole state.
-use Rattle.std.proofs.Common.{ℕ, ◌≡◌, ◌≤◌, ◌==◌, ◌||◌, ◌⊎◌, inl, inr, not, cond, Bool, true, false, List, [], ◌∷◌, ◌++◌, map, length, All, refl, sym, ap, ◌∙◌, subst, arith, append-nil, if◌then◌else◌}
-use Rattle.std.proofs.lemmas.Bool.{both_ways, cases_Bool, eq-eqb, eqb-true, false_from_ne_true, false≢true, not_from_false, and_from, ne_eqb, or_left, or_right}
+use Rattle.std.proofs.Common.{ℕ, ◌≡◌, ◌≤◌, ◌==◌, ◌⊎◌, inl, inr, not, cond, Bool, true, false, List, [], ◌∷◌, ◌++◌, map, length, All, refl, sym, ap, ◌∙◌, subst, arith, append-nil, if◌then◌else◌}
+use Rattle.std.proofs.lemmas.Bool.{both_ways, cases_Bool, eq-eqb, eqb-true, false_from_ne_true, not_from_false, and_from}
 use Rattle.std.proofs.lemmas.List.{length-map}
 use Rattle.std.proofs.lemmas.List.Elements.{All-nil, All-cons, All-append, All-map}
 use Rattle.std.proofs.lemmas.List.Concat.{flat_map-append}
-use Rattle.std.proofs.lemmas.List.Folds.{list_any-append}
 use Rattle.fb_graph.specs.Parity.{is_in}
 use Rattle.fb_graph.specs.Problem.{Problem}
-use Rattle.fb_graph.specs.Certificate.{AreDistinct, load_of}
+use Rattle.fb_graph.specs.Certificate.{load_of}
 use Rattle.fb_graph.specs.Laws.{Link}
 use Rattle.fb_graph.specs.Dual.{Node, all_cuts, is_empty, is_live, is_outer, leaves, top_at}
-use Rattle.fb_graph.specs.declared.parts.Edge.{Edge}
 use Rattle.fb_graph.specs.Moves.{MayJoin, blossom, joined}
 use Rattle.fb_graph.specs.Nests.{IsNest, child_sets}
 use Rattle.fb_graph.proofs.Among.{IsAmong, All_among, among_All, among_either, among_left, among_live, among_outer, among_right, live_among, outer_among, top_left}
 use Rattle.fb_graph.proofs.AppendedNodes.{cuts_merged, leaves_merged}
 use Rattle.fb_graph.proofs.NestParts.{map_agree}
-use Rattle.fb_graph.proofs.Sets.{All-from_is_in, is_in-All, is_in-cases, is_in-filter, is_in-head, is_in-tail}
+use Rattle.fb_graph.proofs.Sets.{All-from_is_in, is_in-All, is_in-cases, is_in-filter, is_in-head}
 use Rattle.fb_graph.proofs.TightLinks.{empty_layer_loads}
 use Rattle.fb_laws.specs.Forming.{Child, blossom_of, names_of}
-use Rattle.fb_laws.specs.PartStates.{IsRing, AreCycles, AreLiveNames, IsSearchState, SearchState, all_cycle_links, links_at}
+use Rattle.fb_laws.specs.PartStates.{IsRing, AreCycles, IsSearchState, SearchState, all_cycle_links, links_at}
 use Rattle.fb_laws.specs.SearchBlossoms.{IsJoining, child_at, renamed}
 use Rattle.fb_laws.specs.Searches.{IsSearch}
-use Rattle.fb_laws.specs.StateBlossoms.{MayClose, StateJoined, StateClosed, StateRounded, joined_state, with_cycle}
-use Rattle.fb_laws.specs.TreeCycles.{AreLinked, ArePaths, cycle_links, cycle_nodes, last_plus}
-use Rattle.fb_laws.specs.Trees.{Entry, grown_links, paired_links, path_to, tree_names}
-use Rattle.fb_laws.specs.Works.{AreMatchedLinks, without}
+use Rattle.fb_laws.specs.StateBlossoms.{StateJoined, StateClosed, StateRounded, joined_state, with_cycle}
+use Rattle.fb_laws.specs.TreeCycles.{AreLinked, cycle_links, cycle_nodes, last_plus}
+use Rattle.fb_laws.specs.Trees.{Entry, grown_links, paired_links, tree_names}
+use Rattle.fb_laws.specs.Works.{AreMatchedLinks}
 use Rattle.fb_laws.proofs.CycleMoves.{links_kept, rings_over}
 use Rattle.fb_laws.proofs.JoinedThree.{three_joining}
 use Rattle.fb_laws.proofs.MoveBridges.{joining_allowed}

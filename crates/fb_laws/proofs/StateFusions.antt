@@ -1,16 +1,16 @@
 -- Half-solved parts beside one another, and with a seam made real.
-use Rattle.std.proofs.Common.{ℕ, ◌≡◌, ◌⊎◌, inl, inr, cond, Bool, true, false, List, [], ◌∷◌, ◌++◌, map, get_or, All, Some, refl, sym, ap, ◌∙◌, subst, append-nil, if◌then◌else◌}
+use Rattle.std.proofs.Common.{ℕ, ◌≡◌, ◌⊎◌, inl, inr, Bool, true, false, List, [], ◌∷◌, ◌++◌, map, get_or, All, refl, sym, ap, ◌∙◌, subst, append-nil, if◌then◌else◌}
 use Rattle.std.specs.List.Sorted.{IsPermutation}
 use Rattle.std.specs.Option.{IsSome}
-use Rattle.std.proofs.lemmas.Bool.{both_ways, false_from_ne_true, false≢true, or_cases, or_left, or_right}
+use Rattle.std.proofs.lemmas.Bool.{both_ways, false_from_ne_true, or_cases, or_left, or_right}
 use Rattle.std.proofs.lemmas.List.Concat.{flat_map-append}
 use Rattle.std.proofs.lemmas.List.Elements.{All-append, All-map, All-weaker}
 use Rattle.fb_graph.specs.Parity.{is_in}
 use Rattle.fb_graph.specs.Problem.{Problem, crosses}
-use Rattle.fb_graph.specs.Certificate.{AreDistinct, load_of}
+use Rattle.fb_graph.specs.Certificate.{load_of}
 use Rattle.fb_graph.specs.Limits.{IsWithinLimits}
-use Rattle.fb_graph.specs.Laws.{Link, IsPart, IsTight, ends_of}
-use Rattle.fb_graph.specs.Dual.{Node, AreApart, AreUnderOne, all_cuts, is_empty, is_live, leaves, top_at}
+use Rattle.fb_graph.specs.Laws.{Link, IsPart, ends_of}
+use Rattle.fb_graph.specs.Dual.{Node, AreUnderOne, all_cuts, is_empty, is_live, leaves}
 use Rattle.fb_graph.specs.Nests.{IsNest, child_sets}
 use Rattle.fb_graph.specs.Sprouts.{Sprout, node_of, nodes_of}
 use Rattle.fb_graph.proofs.Among.{IsAmong, All_among, among_All, among_left, among_live, among_right, live_among, top_left}

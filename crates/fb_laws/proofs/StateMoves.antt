@@ -1,23 +1,20 @@
 -- The moves of a half-solved part keep the whole state.
-use Rattle.std.proofs.Common.{ℕ, ◌≡◌, ◌+◌, ◌≤◌, ◌<◌, ◌==◌, ◌&&◌, ◌||◌, inl, inr, not, cond, Bool, true, false, List, [], ◌∷◌, ◌++◌, map, filter, length, All, refl, sym, ap, ◌∙◌, subst, arith}
-use Rattle.std.proofs.lemmas.Bool.{and_parts, eq-eqb, both_ways, eqb-true, false_from_ne_true, false≢true}
-use Rattle.std.proofs.lemmas.List.Elements.{All-map, All-nil}
+use Rattle.std.proofs.Common.{ℕ, ◌≡◌, ◌≤◌, ◌<◌, ◌==◌, ◌&&◌, ◌||◌, not, cond, Bool, true, false, List, [], ◌∷◌, map, filter, length, refl, sym, ap, ◌∙◌, subst, arith}
+use Rattle.std.proofs.lemmas.Bool.{and_parts, eq-eqb, both_ways, false≢true}
+use Rattle.std.proofs.lemmas.List.Elements.{All-map}
 use Rattle.fb_graph.specs.Parity.{is_in}
-use Rattle.fb_graph.specs.Certificate.{AreDistinct}
 use Rattle.fb_graph.specs.Problem.{Problem}
-use Rattle.fb_graph.specs.Laws.{Link}
-use Rattle.fb_graph.specs.Dual.{Node, all_cuts, is_live, is_outer, leaves, taller, top_at}
-use Rattle.fb_graph.proofs.Sets.{distinct-filter, is_in-filter, is_in-cases}
+use Rattle.fb_graph.specs.Dual.{Node, is_outer, taller}
+use Rattle.fb_graph.proofs.Sets.{distinct-filter, is_in-filter}
 use Rattle.fb_graph.specs.Moves.{lower, taken_up, uncovered}
 use Rattle.fb_graph.specs.Nests.{child_sets}
-use Rattle.fb_laws.specs.NestedSearches.{IsNestedSearch}
 use Rattle.fb_laws.specs.PartStates.{IsRing, AreCycles, AreLiveNames, IsSearchState, SearchState, all_cycle_links}
 use Rattle.fb_graph.specs.Alike.{AreAlike}
 use Rattle.fb_graph.specs.Sprouts.{Sprout, node_of, nodes_of}
 use Rattle.fb_laws.specs.StateMoves.{PartBegins, SearchFrom, StateFree, StateStepped, StateTakenUp, StateUncovered, StateAttached, StateEnded, StateMet, StateReleased, state_roles}
 use Rattle.fb_graph.specs.Steps.{stepped, stepped_node}
 use Rattle.fb_laws.specs.Works.{AreMatchedLinks, without}
-use Rattle.fb_graph.proofs.Among.{IsAmong, cover_among}
+use Rattle.fb_graph.proofs.Among.{cover_among}
 use Rattle.fb_graph.proofs.ChangedNodes.{by_name, change}
 use Rattle.fb_laws.proofs.CycleLinks.{cycles_under_one}
 use Rattle.fb_laws.proofs.CycleMoves.{cycles_mapped, links_kept, links_stepped, live_mapped, names_kept, top_changed}

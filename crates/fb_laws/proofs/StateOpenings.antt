@@ -1,7 +1,7 @@
 -- A minus blossom opened in a half-solved part keeps the whole state.
-use Rattle.std.proofs.Common.{ℕ, ◌≡◌, ◌%◌, ◌==◌, ◌||◌, ◌≤◌, ◌⊎◌, inl, inr, not, cond, Bool, true, false, List, [], ◌∷◌, ◌++◌, map, length, All, Some, refl, sym, ap, ◌∙◌, subst, arith, if◌then◌else◌}
+use Rattle.std.proofs.Common.{ℕ, ◌≡◌, ◌==◌, ◌≤◌, ◌⊎◌, inl, inr, not, cond, Bool, true, false, List, [], ◌∷◌, ◌++◌, map, length, All, Some, refl, sym, ap, ◌∙◌, subst, arith, if◌then◌else◌}
 use Rattle.std.specs.List.Sorted.{IsPermutation}
-use Rattle.std.proofs.lemmas.Bool.{both_ways, cases_Bool, eqb-true, false_from_ne_true, false≢true}
+use Rattle.std.proofs.lemmas.Bool.{both_ways, eqb-true, false_from_ne_true, false≢true}
 use Rattle.std.proofs.lemmas.List.{map-append}
 use Rattle.std.proofs.lemmas.List.Sorted.{IsPermutation-sym}
 use Rattle.fb_graph.specs.Parity.{is_in}
@@ -21,7 +21,7 @@ use Rattle.fb_graph.proofs.SplitNests.{at, insertion, nest_split, same_leaves}
 use Rattle.fb_laws.specs.Fusion.{IsLinkOf}
 use Rattle.fb_laws.specs.NestedSearches.{IsNestedSearch}
 use Rattle.fb_laws.specs.OpenedCycles.{Couple, IsOpenedCycle, Pass, AreCoupled, ArePassed, grown_on, last_of, matched_beside, matched_on, opened_tree, paired_of}
-use Rattle.fb_laws.specs.PartStates.{AreChained, IsRing, AreCycles, AreLiveNames, IsSearchState, SearchState, all_cycle_links, links_at}
+use Rattle.fb_laws.specs.PartStates.{AreChained, IsRing, AreCycles, IsSearchState, SearchState, all_cycle_links, links_at}
 use Rattle.fb_laws.specs.Paths.{Joins}
 use Rattle.fb_laws.specs.SearchOpenings.{IsSplit, IsOpenedTree}
 use Rattle.fb_laws.specs.StateOpenings.{AreLinkedRound, CycleFreed, IsFreed, StateOpened, StateOpens}

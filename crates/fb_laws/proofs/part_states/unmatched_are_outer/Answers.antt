@@ -1,4 +1,3 @@
-use Rattle.fb_laws.proofs.CycleLinks.{cycles_under_one}
 use Rattle.fb_laws.proofs.PartStates.{unmatched_outer}
 use Rattle.fb_laws.proofs.part_states.unmatched_are_outer.Goals as goal
 
