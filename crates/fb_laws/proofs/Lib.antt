@@ -56,6 +56,7 @@ pub mod SolvedNests
 pub mod SplitStates
 pub mod StateBlossoms
 pub mod StateFusions
+pub mod StateMeasures
 pub mod StateMoves
 pub mod StateOpenings
 pub mod StepLengths

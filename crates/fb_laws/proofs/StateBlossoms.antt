@@ -20,9 +20,9 @@ use Rattle.fb_laws.specs.Forming.{Child, blossom_of, names_of}
 use Rattle.fb_laws.specs.PartStates.{IsRing, AreCycles, IsSearchState, SearchState, all_cycle_links, links_at}
 use Rattle.fb_laws.specs.SearchBlossoms.{IsJoining, child_at, renamed}
 use Rattle.fb_laws.specs.Searches.{IsSearch}
-use Rattle.fb_laws.specs.StateBlossoms.{StateJoined, StateClosed, StateRounded, joined_state, with_cycle}
-use Rattle.fb_laws.specs.TreeCycles.{AreLinked, cycle_links, cycle_nodes, last_plus}
-use Rattle.fb_laws.specs.Trees.{Entry, grown_links, paired_links, tree_names}
+use Rattle.fb_laws.specs.StateBlossoms.{MayClose, StateJoined, StateClosed, StateRounded, joined_state, with_cycle}
+use Rattle.fb_laws.specs.TreeCycles.{AreLinked, ArePaths, cycle_links, cycle_nodes, last_plus}
+use Rattle.fb_laws.specs.Trees.{Entry, Connects, grown_links, paired_links, tree_names}
 use Rattle.fb_laws.specs.Works.{AreMatchedLinks}
 use Rattle.fb_laws.proofs.CycleMoves.{links_kept, rings_over}
 use Rattle.fb_laws.proofs.JoinedThree.{three_joining}
@@ -218,103 +218,115 @@ fresh_outer p nodes b nest fresh live =
         ∙ false_from_ne_true (is_in b.children b.name) (λ child. both_ways (is_live nodes b.name) fresh (live b.name child))
     step q (inr (inr none)) = absurd none
 
+module _ (p : Problem) (s : SearchState) (name a b : ℕ) (closing : Link) (shared up down : List Entry) (may : MayClose p s name a b closing)
+    (paths : ArePaths s.tree a b shared up down) (state : IsSearchState p s) where
+  abbrev first : ℕ
+  first = last_plus s.root shared
+
+  pub closed_names : names_of (map (child_at s.nodes) (cycle_nodes up down)) ≡ cycle_nodes up down
+  closed_names = names_at s.nodes (cycle_nodes up down)
+
+  closed_linked : AreLinked s.nodes (last_plus s.root shared) (cycle_nodes up down ++ last_plus s.root shared ∷ []) (cycle_links up closing down)
+  closed_linked =
+      cycle_linked p s.nodes s.tree s.rest s.unmatched s.root s.parity a b shared up down closing state.search.search may.first
+      may.second paths may.connects
+
+  closed_live : (n : ℕ) → is_in (names_of (child_at s.nodes (last_plus s.root shared) ∷ map (child_at s.nodes) (cycle_nodes up down))) n ≡ true
+      → is_live s.nodes n ≡ true
+  closed_live n within =
+      linked_live s.nodes first (cycle_nodes up down ++ first ∷ []) (cycle_links up closing down) closed_linked n
+      (either (is_in-cases first (cycle_nodes up down) n (subst (λ names. is_in (first ∷ names) n ≡ true) closed_names within)))
+    where
+      either : (first ≡ n) ⊎ (is_in (cycle_nodes up down) n ≡ true) → is_in (cycle_nodes up down ++ first ∷ []) n ≡ true
+      either (inl here) =
+          in_right (cycle_nodes up down) (first ∷ []) n (subst (λ m. is_in (first ∷ []) m ≡ true) here (is_in-head first []))
+      either (inr there) = in_left (cycle_nodes up down) (first ∷ []) n there
+
+  pub closed_joining : IsJoining s.nodes s.tree s.root name (child_at s.nodes (last_plus s.root shared)) (map (child_at s.nodes) (cycle_nodes up down))
+  closed_joining =
+      cycle_joining p s.nodes s.tree s.rest s.unmatched s.root s.parity name a b shared up down state.search.search may.first
+      may.second paths
+      (fresh_outer p s.nodes
+      (blossom_of name (child_at s.nodes first ∷ map (child_at s.nodes) (cycle_nodes up down))) state.search.nest may.fresh closed_live)
+
+  pub closed_some : 1 ≤ length (map (child_at s.nodes) (cycle_nodes up down))
+  closed_some =
+      let many =
+      cycle_many p s.nodes s.tree s.rest s.unmatched s.root s.parity a b shared up down state.search.search may.first may.second
+      paths may.differ in
+      let three = many.three in
+      omega (arith, three, length-map (cycle_nodes up down) (child_at s.nodes))
+
+  closed_tight : AreMatchedLinks p s.nodes (cycle_links up closing down)
+  closed_tight =
+      links_among p s.nodes (cycle_links up closing down) ((closing ∷ []) ++ (grown_links s.tree ++ paired_links s.tree))
+      (cycle_link_in s.tree up down closing
+      (λ e h. path_among s.tree a e (subst (IsAmong e) (sym paths.first) (among_right shared up e h)))
+      (λ e h. path_among s.tree b e (subst (IsAmong e) (sym paths.second) (among_right shared down e h))))
+      (links_joined p s.nodes (closing ∷ []) (grown_links s.tree ++ paired_links s.tree) may.tight
+      (links_joined p s.nodes (grown_links s.tree) (paired_links s.tree) state.search.search.grown
+      (links_left p s.nodes (paired_links s.tree) s.rest state.search.search.matching.links_are)))
+
+  pub closed : IsSearchState p (joined_state name (last_plus s.root shared ∷ cycle_nodes up down) (cycle_links up closing down) s)
+  closed =
+      subst (λ names. IsSearchState p (joined_state name (first ∷ names) (cycle_links up closing down) s)) closed_names
+      (state_joined p s name (child_at s.nodes first) (map (child_at s.nodes) (cycle_nodes up down)) (cycle_links up closing down)
+      closed_joining closed_some may.fresh
+      (subst (λ names. AreLinked s.nodes first (names ++ first ∷ []) (cycle_links up closing down)) (sym closed_names) closed_linked)
+      closed_tight state)
+
 pub state_closed : StateClosed
-state_closed p s name a b closing shared up down may paths state =
-    subst (λ names. IsSearchState p (joined_state name (first ∷ names) (cycle_links up closing down) s)) same
-    (state_joined p s name (child_at s.nodes first) (map (child_at s.nodes) (cycle_nodes up down)) (cycle_links up closing down)
-    joining some may.fresh
-    (subst (λ names. AreLinked s.nodes first (names ++ first ∷ []) (cycle_links up closing down)) (sym same) linked)
-    tight state)
-  where
-    first : ℕ
-    first = last_plus s.root shared
+state_closed p s name a b closing shared up down may paths state = closed p s name a b closing shared up down may paths state
 
-    same : names_of (map (child_at s.nodes) (cycle_nodes up down)) ≡ cycle_nodes up down
-    same = names_at s.nodes (cycle_nodes up down)
+module _ (p : Problem) (s : SearchState) (name : ℕ) (newer older : List Entry) (e : Entry) (closing : Link)
+    (tree_is : s.tree ≡ newer ++ e ∷ older) (closes : Connects s.nodes closing e.plus e.parent)
+    (tight : AreMatchedLinks p s.nodes (closing ∷ [])) (fresh : is_live s.nodes name ≡ false) (state : IsSearchState p s) where
+  within : IsAmong e s.tree
+  within = subst (IsAmong e) (sym tree_is) (among_right newer (e ∷ older) e (inl refl))
 
-    linked : AreLinked s.nodes (last_plus s.root shared) (cycle_nodes up down ++ last_plus s.root shared ∷ []) (cycle_links up closing down)
-    linked =
-        cycle_linked p s.nodes s.tree s.rest s.unmatched s.root s.parity a b shared up down closing state.search.search may.first
-        may.second paths may.connects
+  rounded_linked : AreLinked s.nodes e.parent (e.minus ∷ e.plus ∷ e.parent ∷ []) (e.tree ∷ e.matched ∷ closing ∷ [])
+  rounded_linked =
+      let both = tree_connects s.nodes s.root s.tree state.search.search.joined e within in
+      (both.0, (both.1, (closes, tt)))
 
-    live : (n : ℕ) → is_in (names_of (child_at s.nodes (last_plus s.root shared) ∷ map (child_at s.nodes) (cycle_nodes up down))) n ≡ true
-        → is_live s.nodes n ≡ true
-    live n within =
-        linked_live s.nodes first (cycle_nodes up down ++ first ∷ []) (cycle_links up closing down) linked n
-        (either (is_in-cases first (cycle_nodes up down) n (subst (λ names. is_in (first ∷ names) n ≡ true) same within)))
-      where
-        either : (first ≡ n) ⊎ (is_in (cycle_nodes up down) n ≡ true) → is_in (cycle_nodes up down ++ first ∷ []) n ≡ true
-        either (inl here) =
-            in_right (cycle_nodes up down) (first ∷ []) n (subst (λ m. is_in (first ∷ []) m ≡ true) here (is_in-head first []))
-        either (inr there) = in_left (cycle_nodes up down) (first ∷ []) n there
+  rounded_live : (n : ℕ) → is_in (e.parent ∷ e.minus ∷ e.plus ∷ []) n ≡ true → is_live s.nodes n ≡ true
+  rounded_live n h =
+      linked_live s.nodes e.parent (e.minus ∷ e.plus ∷ e.parent ∷ []) (e.tree ∷ e.matched ∷ closing ∷ []) rounded_linked n
+      (either (is_in-cases e.parent (e.minus ∷ e.plus ∷ []) n h))
+    where
+      either : (e.parent ≡ n) ⊎ (is_in (e.minus ∷ e.plus ∷ []) n ≡ true) → is_in ((e.minus ∷ e.plus ∷ []) ++ e.parent ∷ []) n ≡ true
+      either (inl here) =
+          in_right (e.minus ∷ e.plus ∷ []) (e.parent ∷ []) n (subst (λ m. is_in (e.parent ∷ []) m ≡ true) here (is_in-head e.parent []))
+      either (inr there) = in_left (e.minus ∷ e.plus ∷ []) (e.parent ∷ []) n there
 
-    joining : IsJoining s.nodes s.tree s.root name (child_at s.nodes (last_plus s.root shared)) (map (child_at s.nodes) (cycle_nodes up down))
-    joining =
-        cycle_joining p s.nodes s.tree s.rest s.unmatched s.root s.parity name a b shared up down state.search.search may.first
-        may.second paths
-        (fresh_outer p s.nodes
-        (blossom_of name (child_at s.nodes first ∷ map (child_at s.nodes) (cycle_nodes up down))) state.search.nest may.fresh live)
+  pub rounded_joining : IsJoining s.nodes s.tree s.root name (child_at s.nodes e.parent) (child_at s.nodes e.minus ∷ child_at s.nodes e.plus ∷ [])
+  rounded_joining =
+      subst
+      (λ t. IsJoining s.nodes t s.root name (child_at s.nodes e.parent) (child_at s.nodes e.minus ∷ child_at s.nodes e.plus ∷ []))
+      (sym tree_is)
+      (three_joining p s.nodes newer older e s.rest s.unmatched s.root s.parity name
+      (subst (λ t. IsSearch p s.nodes t s.rest s.unmatched s.root s.parity) tree_is state.search.search)
+      (fresh_outer p s.nodes
+      (blossom_of name (child_at s.nodes e.parent ∷ child_at s.nodes e.minus ∷ child_at s.nodes e.plus ∷ [])) state.search.nest
+      fresh rounded_live))
 
-    some : 1 ≤ length (map (child_at s.nodes) (cycle_nodes up down))
-    some =
-        let many =
-        cycle_many p s.nodes s.tree s.rest s.unmatched s.root s.parity a b shared up down state.search.search may.first may.second
-        paths may.differ in
-        let three = many.three in
-        omega (arith, three, length-map (cycle_nodes up down) (child_at s.nodes))
+  rounded_tight : AreMatchedLinks p s.nodes (e.tree ∷ e.matched ∷ closing ∷ [])
+  rounded_tight =
+      links_among p s.nodes (cycle_links (e ∷ []) closing []) ((closing ∷ []) ++ (grown_links s.tree ++ paired_links s.tree))
+      (cycle_link_in s.tree (e ∷ []) [] closing (λ f h. only f h) (λ f h. absurd h))
+      (links_joined p s.nodes (closing ∷ []) (grown_links s.tree ++ paired_links s.tree) tight
+      (links_joined p s.nodes (grown_links s.tree) (paired_links s.tree) state.search.search.grown
+      (links_left p s.nodes (paired_links s.tree) s.rest state.search.search.matching.links_are)))
+    where
+      only : (f : Entry) → IsAmong f (e ∷ []) → IsAmong f s.tree
+      only f (inl here) = subst (λ x. IsAmong x s.tree) here within
+      only f (inr none) = absurd none
 
-    tight : AreMatchedLinks p s.nodes (cycle_links up closing down)
-    tight =
-        links_among p s.nodes (cycle_links up closing down) ((closing ∷ []) ++ (grown_links s.tree ++ paired_links s.tree))
-        (cycle_link_in s.tree up down closing
-        (λ e h. path_among s.tree a e (subst (IsAmong e) (sym paths.first) (among_right shared up e h)))
-        (λ e h. path_among s.tree b e (subst (IsAmong e) (sym paths.second) (among_right shared down e h))))
-        (links_joined p s.nodes (closing ∷ []) (grown_links s.tree ++ paired_links s.tree) may.tight
-        (links_joined p s.nodes (grown_links s.tree) (paired_links s.tree) state.search.search.grown
-        (links_left p s.nodes (paired_links s.tree) s.rest state.search.search.matching.links_are)))
+  pub rounded : IsSearchState p (joined_state name (e.parent ∷ e.minus ∷ e.plus ∷ []) (e.tree ∷ e.matched ∷ closing ∷ []) s)
+  rounded =
+      state_joined p s name (child_at s.nodes e.parent) (child_at s.nodes e.minus ∷ child_at s.nodes e.plus ∷ [])
+      (e.tree ∷ e.matched ∷ closing ∷ []) rounded_joining (omega arith) fresh rounded_linked rounded_tight state
 
 pub state_rounded : StateRounded
 state_rounded p s name newer older e closing tree_is closes tight fresh state =
-    state_joined p s name (child_at s.nodes e.parent) (child_at s.nodes e.minus ∷ child_at s.nodes e.plus ∷ [])
-    (e.tree ∷ e.matched ∷ closing ∷ []) joining (omega arith) fresh linked links state
-  where
-    within : IsAmong e s.tree
-    within = subst (IsAmong e) (sym tree_is) (among_right newer (e ∷ older) e (inl refl))
-
-    linked : AreLinked s.nodes e.parent (e.minus ∷ e.plus ∷ e.parent ∷ []) (e.tree ∷ e.matched ∷ closing ∷ [])
-    linked =
-        let both = tree_connects s.nodes s.root s.tree state.search.search.joined e within in
-        (both.0, (both.1, (closes, tt)))
-
-    live : (n : ℕ) → is_in (e.parent ∷ e.minus ∷ e.plus ∷ []) n ≡ true → is_live s.nodes n ≡ true
-    live n h =
-        linked_live s.nodes e.parent (e.minus ∷ e.plus ∷ e.parent ∷ []) (e.tree ∷ e.matched ∷ closing ∷ []) linked n
-        (either (is_in-cases e.parent (e.minus ∷ e.plus ∷ []) n h))
-      where
-        either : (e.parent ≡ n) ⊎ (is_in (e.minus ∷ e.plus ∷ []) n ≡ true) → is_in ((e.minus ∷ e.plus ∷ []) ++ e.parent ∷ []) n ≡ true
-        either (inl here) =
-            in_right (e.minus ∷ e.plus ∷ []) (e.parent ∷ []) n (subst (λ m. is_in (e.parent ∷ []) m ≡ true) here (is_in-head e.parent []))
-        either (inr there) = in_left (e.minus ∷ e.plus ∷ []) (e.parent ∷ []) n there
-
-    joining : IsJoining s.nodes s.tree s.root name (child_at s.nodes e.parent) (child_at s.nodes e.minus ∷ child_at s.nodes e.plus ∷ [])
-    joining =
-        subst
-        (λ t. IsJoining s.nodes t s.root name (child_at s.nodes e.parent) (child_at s.nodes e.minus ∷ child_at s.nodes e.plus ∷ []))
-        (sym tree_is)
-        (three_joining p s.nodes newer older e s.rest s.unmatched s.root s.parity name
-        (subst (λ t. IsSearch p s.nodes t s.rest s.unmatched s.root s.parity) tree_is state.search.search)
-        (fresh_outer p s.nodes
-        (blossom_of name (child_at s.nodes e.parent ∷ child_at s.nodes e.minus ∷ child_at s.nodes e.plus ∷ [])) state.search.nest
-        fresh live))
-
-    links : AreMatchedLinks p s.nodes (e.tree ∷ e.matched ∷ closing ∷ [])
-    links =
-        links_among p s.nodes (cycle_links (e ∷ []) closing []) ((closing ∷ []) ++ (grown_links s.tree ++ paired_links s.tree))
-        (cycle_link_in s.tree (e ∷ []) [] closing (λ f h. only f h) (λ f h. absurd h))
-        (links_joined p s.nodes (closing ∷ []) (grown_links s.tree ++ paired_links s.tree) tight
-        (links_joined p s.nodes (grown_links s.tree) (paired_links s.tree) state.search.search.grown
-        (links_left p s.nodes (paired_links s.tree) s.rest state.search.search.matching.links_are)))
-      where
-        only : (f : Entry) → IsAmong f (e ∷ []) → IsAmong f s.tree
-        only f (inl here) = subst (λ x. IsAmong x s.tree) here within
-        only f (inr none) = absurd none
+    rounded p s name newer older e closing tree_is closes tight fresh state

@@ -29,6 +29,7 @@ pub mod Searches
 pub mod Signed
 pub mod StateBlossoms
 pub mod StateFusions
+pub mod StateMeasures
 pub mod StateMoves
 pub mod StateOpenings
 pub mod TreeCycles

@@ -1,0 +1,94 @@
+-- Each move of a search leaves less to do.
+use Rattle.std.proofs.Common.{ℕ, ◌≡◌, Bool, true, false, List, [], ◌∷◌, ◌++◌, map, inl, refl, sym, ap, ◌∙◌, subst, arith}
+use Rattle.std.proofs.lemmas.Bool.{cases_Bool, both_ways, false_from_ne_true}
+use Rattle.fb_graph.specs.Parity.{is_in}
+use Rattle.fb_graph.specs.Dual.{is_empty}
+use Rattle.fb_graph.specs.Moves.{split}
+use Rattle.fb_graph.proofs.Among.{IsAmong, All_among, among_right}
+use Rattle.fb_graph.proofs.Places.{IsPlaced, placed}
+use Rattle.fb_laws.specs.Measures.{IsLower}
+use Rattle.fb_laws.specs.OpenedCycles.{last_of, opened_tree, paired_of}
+use Rattle.fb_laws.specs.SearchLayers.{left_to_do}
+use Rattle.fb_laws.specs.SearchOpenings.{IsSplit}
+use Rattle.fb_laws.specs.StateBlossoms.{joined_state}
+use Rattle.fb_laws.specs.StateMeasures.{SteppedLess, TakenUpLess, UncoveredLess, AttachedLess, ClosedLess, RoundedLess, OpenedLess, still_to_do}
+use Rattle.fb_laws.specs.StateMoves.{attached, state_roles}
+use Rattle.fb_laws.specs.SearchBlossoms.{child_at}
+use Rattle.fb_laws.specs.TreeCycles.{cycle_links, cycle_nodes, last_plus}
+use Rattle.fb_laws.specs.Trees.{minus_names, plus_names, roles_of}
+use Rattle.fb_laws.proofs.LoweredParts.{attach_lowers, free_lowers, opened_lowers}
+use Rattle.fb_laws.proofs.MoveBridges.{joining_lowers, taken_up_lowers, uncovered_lowers}
+use Rattle.fb_laws.proofs.OpenedCycles.{still_plus}
+use Rattle.fb_laws.proofs.SearchTrees.{exclusive_names}
+use Rattle.fb_laws.proofs.StateBlossoms.{closed_joining, closed_names, closed_some, rounded_joining}
+use Rattle.fb_laws.proofs.StateMoves.{state_attached}
+use Rattle.fb_laws.proofs.TreePaths.{among_minus}
+
+pub stepped_less : SteppedLess
+stepped_less p s k = free_lowers p s.nodes (state_roles s) k
+
+pub taken_up_less : TakenUpLess
+taken_up_less p s name k u v free freed limits may plus state =
+    taken_up_lowers p s.nodes (state_roles s) name k u v free freed limits may state.search.nest plus
+
+pub uncovered_less : UncoveredLess
+uncovered_less p s name free freed may minus state =
+    uncovered_lowers p s.nodes (state_roles s) name free freed may state.search.nest minus
+    (false_from_ne_true (is_in (plus_names s.root s.tree) name)
+    (λ plus.
+    both_ways (is_in (minus_names s.tree) name) (exclusive_names s.root s.tree state.search.search.names name plus) minus))
+
+pub attached_less : AttachedLess
+attached_less p s e rest free freed even may state =
+    let after = state_attached p s e rest even may state in
+    attach_lowers p s.nodes s.tree e rest s.unmatched s.root s.parity free freed after.search.search
+
+pub closed_less : ClosedLess
+closed_less p s name a b closing shared up down free freed may paths state =
+    subst
+    (λ names.
+    IsLower (still_to_do p (joined_state name (last_plus s.root shared ∷ names) (cycle_links up closing down) s) freed) (still_to_do p s free))
+    (closed_names p s name a b closing shared up down may paths state)
+    (joining_lowers p s.nodes s.tree s.rest s.unmatched s.root s.parity name (child_at s.nodes (last_plus s.root shared))
+    (map (child_at s.nodes) (cycle_nodes up down)) free freed
+    (closed_joining p s name a b closing shared up down may paths state)
+    (closed_some p s name a b closing shared up down may paths state) may.fresh state.search.nest state.search.search)
+
+pub rounded_less : RoundedLess
+rounded_less p s name newer older e closing free freed tree_is closes tight fresh state =
+    joining_lowers p s.nodes s.tree s.rest s.unmatched s.root s.parity name (child_at s.nodes e.parent)
+    (child_at s.nodes e.minus ∷ child_at s.nodes e.plus ∷ []) free freed
+    (rounded_joining p s name newer older e closing tree_is closes tight fresh state) (omega arith) fresh state.search.nest
+    state.search.search
+
+pub opened_less : OpenedLess
+opened_less p s newer older e from way couples free freed tree_is may cycle state =
+    subst (λ nodes. IsLower (left_to_do p (split e.minus s.nodes) (roles_of s.root (opened_tree newer e older from way)) freed) (left_to_do p nodes (state_roles s) free))
+    (sym at.whole)
+    (subst (λ nodes. IsLower (left_to_do p nodes (roles_of s.root (opened_tree newer e older from way)) freed) (left_to_do p (at.before ++ at.node ∷ at.after) (state_roles s) free))
+    (sym at.removed)
+    (opened_lowers p at.before at.after at.node (last_of from way ∷ paired_of from way couples) (state_roles s)
+    (roles_of s.root (opened_tree newer e older from way)) free freed
+    (subst (λ m. IsSplit (at.before ++ at.node ∷ at.after) (at.before ++ at.after) m (last_of from way ∷ paired_of from way couples)) (sym at.named)
+    (subst (λ nodes. IsSplit (at.before ++ at.node ∷ at.after) nodes e.minus (last_of from way ∷ paired_of from way couples)) at.removed
+    (subst (λ nodes. IsSplit nodes (split e.minus s.nodes) e.minus (last_of from way ∷ paired_of from way couples)) at.whole cycle.split)))
+    not_plus some
+    (λ n plus. still_plus newer older e s.root from n way (ap (λ t. is_in (plus_names s.root t) n) (sym tree_is) ∙ plus))))
+  where
+    at : IsPlaced s.nodes e.minus
+    at = placed s.nodes e.minus state.search.nest.dual.names may.live
+
+    minus : is_in (minus_names s.tree) e.minus ≡ true
+    minus = ap (λ t. is_in (minus_names t) e.minus) tree_is ∙ among_minus (newer ++ e ∷ older) e (among_right newer (e ∷ older) e (inl refl))
+
+    not_plus : is_in (plus_names s.root s.tree) at.node.name ≡ false
+    not_plus =
+        ap (is_in (plus_names s.root s.tree)) at.named
+        ∙ false_from_ne_true (is_in (plus_names s.root s.tree) e.minus)
+        (λ plus.
+        both_ways (is_in (minus_names s.tree) e.minus) (exclusive_names s.root s.tree state.search.search.names e.minus plus) minus)
+
+    some : is_empty at.node.children ≡ false
+    some =
+        (All_among (λ x. x.name ≡ e.minus → (is_empty x.children ≡ false) × (x.below ≡ []) × (x.top.value ≡ 0)) s.nodes may.bare at.node
+        (subst (IsAmong at.node) (sym at.whole) (among_right at.before (at.node ∷ at.after) at.node (inl refl))) at.named).0
