@@ -53,6 +53,7 @@ pub mod SearchStates
 pub mod SearchTrees
 pub mod Shifts
 pub mod SolvedNests
+pub mod SolvedRows
 pub mod SplitStates
 pub mod StateBlossoms
 pub mod StateFusions

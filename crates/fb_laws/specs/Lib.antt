@@ -20,6 +20,7 @@ pub mod Parities
 pub mod PartStates
 pub mod Paths
 pub mod ResolvedWitnesses
+pub mod Rows
 pub mod Samples
 pub mod SearchBlossoms
 pub mod SearchLayers
