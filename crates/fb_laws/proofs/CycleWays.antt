@@ -49,7 +49,7 @@ module _ (nodes : List Node) where
       let (first, second, is, one, other) = linked_cut n ns v after ls linked.1 in
       (l ∷ first, second, ap (λ x. l ∷ x) is, (linked.0, one), other)
 
-  linked_join : (from : ℕ) (before : List ℕ) (v : ℕ) (after : List ℕ) (first second : List Link) → AreLinked nodes from (before ++ v ∷ []) first
+  pub linked_join : (from : ℕ) (before : List ℕ) (v : ℕ) (after : List ℕ) (first second : List Link) → AreLinked nodes from (before ++ v ∷ []) first
       → AreLinked nodes v after second → AreLinked nodes from (before ++ v ∷ after) (first ++ second)
   linked_join from [] v after [] second one other = absurd one
   linked_join from [] v after (l ∷ []) second one other = (one.0, other)
@@ -57,7 +57,7 @@ module _ (nodes : List Node) where
   linked_join from (n ∷ ns) v after [] second one other = absurd one
   linked_join from (n ∷ ns) v after (l ∷ ls) second one other = (one.0, linked_join n ns v after ls second one.1 other)
 
-  linked_turned : (from : ℕ) (names : List ℕ) (to : ℕ) (links : List Link) → AreLinked nodes from (names ++ to ∷ []) links
+  pub linked_turned : (from : ℕ) (names : List ℕ) (to : ℕ) (links : List Link) → AreLinked nodes from (names ++ to ∷ []) links
       → AreLinked nodes to (reverse names ++ from ∷ []) (reverse links)
   linked_turned from [] to [] linked = absurd linked
   linked_turned from [] to (l ∷ []) linked = (connects_sym nodes l from to linked.0, tt)

@@ -25,6 +25,8 @@ pub mod NestedStates
 pub mod OpenedBlossoms
 pub mod OpenedCycles
 pub mod OpenedLevels
+pub mod OpenedParts
+pub mod OpenedRings
 pub mod OpenedSearches
 pub mod OpenedTrees
 pub mod PartStates
@@ -32,6 +34,8 @@ pub mod PathSums
 pub mod PotentialParities
 pub mod RenamedNames
 pub mod RingLinks
+pub mod RingReads
+pub mod RingWays
 pub mod SampleCycles
 pub mod SampleEndings
 pub mod SampleEnds
@@ -39,6 +43,7 @@ pub mod SampleFusions
 pub mod SampleKites
 pub mod SampleLevels
 pub mod SampleNests
+pub mod SampleOpenedParts
 pub mod SampleOpenings
 pub mod SampleParts
 pub mod SampleResolutions
@@ -53,6 +58,8 @@ pub mod SearchStates
 pub mod SearchTrees
 pub mod Shifts
 pub mod SolvedNests
+pub mod SolvedParts
+pub mod SolvedRows
 pub mod SplitStates
 pub mod StateBlossoms
 pub mod StateFusions

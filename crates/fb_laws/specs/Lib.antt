@@ -15,11 +15,16 @@ pub mod NestWitnesses
 pub mod NestedSearches
 pub mod NestedWitnesses
 pub mod OpenedCycles
+pub mod OpenedLinks
+pub mod OpenedWitnesses
 pub mod Opening
 pub mod Parities
 pub mod PartStates
 pub mod Paths
 pub mod ResolvedWitnesses
+pub mod RingReads
+pub mod RingWays
+pub mod Rows
 pub mod Samples
 pub mod SearchBlossoms
 pub mod SearchLayers

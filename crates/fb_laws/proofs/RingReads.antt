@@ -1,0 +1,110 @@
+-- A ring read place by place, and by the numbers of its links.
+use Rattle.std.proofs.Common.{ℕ, zero, suc, ◌≡◌, ◌+◌, ◌-◌, ◌*◌, ◌/◌, ◌%◌, ◌<◌, ◌≤◌, ◌==◌, ◌⊎◌, inl, inr, Bool, true, false, List, [], ◌∷◌, ◌++◌, map, length, take, drop, reverse, get_or, refl, sym, ap, ◌∙◌, arith, if◌then◌else◌}
+use Rattle.std.specs.Prelude.{nat_lt}
+use Rattle.std.proofs.lemmas.Bool.{cases_Bool, ltb-false, ltb-true}
+use Rattle.std.proofs.lemmas.List.{drop-map, get_or-drop, get_or-take, get_or_append_left, length-drop, map-append, reverse-append, take-map}
+use Rattle.std.proofs.Math.Nat.{add-mod_right, mod-eq_of_lt}
+use Rattle.fb_graph.specs.Laws.{Link}
+use Rattle.fb_laws.specs.OpenedLinks.{every_second, round_from}
+use Rattle.fb_laws.specs.RingReads.{SecondByNumber, WayByNumber, pass_by, round_by}
+use Rattle.fb_laws.specs.RingWays.{passes_along, turned_round}
+
+pub second_read : {X : Type 0} (xs : List X) (k : ℕ) (d : X) → get_or (every_second xs) k d ≡ get_or xs (2 * k + 1) d
+second_read [] k d = refl
+second_read {X} (x ∷ []) k d =
+    let next : 2 * k + 1 ≡ suc (2 * k) = omega arith in
+    let out : d ≡ get_or (x ∷ []) (suc (2 * k)) d = refl in
+    out ∙ ap (λ i. get_or (x ∷ []) i d) (sym next)
+second_read (x ∷ y ∷ xs) zero d = refl
+second_read (x ∷ y ∷ xs) (suc k) d =
+    let next : 2 * suc k + 1 ≡ suc (suc (2 * k + 1)) = omega arith in
+    second_read xs k d ∙ ap (λ i. get_or (x ∷ y ∷ xs) i d) (sym next)
+
+pub second_count : {X : Type 0} (xs : List X) → length (every_second xs) ≡ length xs / 2
+second_count [] = refl
+second_count (x ∷ []) = refl
+second_count (x ∷ y ∷ xs) = omega (arith, second_count xs)
+
+get_right : {X : Type 0} (xs ys : List X) (k : ℕ) (d : X) → get_or (xs ++ ys) (length xs + k) d ≡ get_or ys k d
+get_right [] ys k d = let none : 0 + k ≡ k = omega arith in ap (λ i. get_or ys i d) none
+get_right (x ∷ xs) ys k d =
+    let next : suc (length xs) + k ≡ suc (length xs + k) = omega arith in
+    ap (λ i. get_or (x ∷ (xs ++ ys)) i d) next ∙ get_right xs ys k d
+
+pub round_read : {X : Type 0} (xs : List X) (place k : ℕ) (d : X) → place < length xs → k < length xs
+    → get_or (round_from place xs) k d ≡ get_or xs ((place + k) % length xs) d
+round_read {X} xs place k d at less = step (cases_Bool (nat_lt (place + k) (length xs)))
+  where
+    step : (nat_lt (place + k) (length xs) ≡ true) ⊎ (nat_lt (place + k) (length xs) ≡ false)
+        → get_or (round_from place xs) k d ≡ get_or xs ((place + k) % length xs) d
+    step (inl e) =
+        let low : place + k < length xs = ltb-true (place + k) (length xs) e in
+        get_or_append_left (drop place xs) (take place xs) d k (omega (arith, length-drop place xs, low))
+        ∙ (get_or-drop place xs k d ∙ ap (λ i. get_or xs i d) (sym (mod-eq_of_lt low)))
+    step (inr e) =
+        let high : length xs ≤ place + k = ltb-false (place + k) (length xs) e in
+        let rest : ℕ = place + k - length xs in
+        let is : k ≡ length (drop place xs) + rest = omega (arith, length-drop place xs, high, at) in
+        let round : place + k ≡ rest + length xs = omega (arith, high) in
+        let low : rest < length xs = omega (arith, at, less, high) in
+        ap (λ i. get_or (round_from place xs) i d) is
+        ∙ (get_right (drop place xs) (take place xs) rest d
+        ∙ (get_or-take place xs rest d (omega (arith, less, high))
+        ∙ ap (λ i. get_or xs i d)
+        (sym (ap (λ n. n % length xs) round ∙ (add-mod_right rest (length xs) ∙ mod-eq_of_lt low)))))
+
+map_round : {X Y : Type 0} (f : X → Y) (n : ℕ) (xs : List X) → round_from n (map f xs) ≡ map f (round_from n xs)
+map_round f n xs =
+    ap (λ l. l ++ take n (map f xs)) (drop-map f n xs)
+    ∙ (ap (λ l. map f (drop n xs) ++ l) (take-map f n xs) ∙ sym (map-append f (drop n xs) (take n xs)))
+
+map_reverse : {X Y : Type 0} (f : X → Y) (xs : List X) → reverse (map f xs) ≡ map f (reverse xs)
+map_reverse f [] = refl
+map_reverse f (x ∷ xs) =
+    reverse-append (f x ∷ []) (map f xs)
+    ∙ (ap (λ l. l ++ f x ∷ []) (map_reverse f xs)
+    ∙ (sym (map-append f (reverse xs) (x ∷ [])) ∙ ap (map f) (sym (reverse-append (x ∷ []) xs))))
+
+map_second : {X Y : Type 0} (f : X → Y) (xs : List X) → every_second (map f xs) ≡ map f (every_second xs)
+map_second f [] = refl
+map_second f (x ∷ []) = refl
+map_second f (x ∷ y ∷ xs) = ap (λ l. f y ∷ l) (map_second f xs)
+
+pub second_by_number : SecondByNumber
+second_by_number table place ring = ap every_second (map_round table place ring) ∙ map_second table (round_from place ring)
+
+map_passes : (table : ℕ → Link) (names links : List ℕ)
+    → passes_along names (map table links) ≡ map (pass_by table) (passes_along names links)
+map_passes table [] links = refl
+map_passes table (n ∷ []) links = refl
+map_passes table (n ∷ o ∷ ns) [] = refl
+map_passes table (n ∷ o ∷ ns) (l ∷ []) = refl
+map_passes table (n ∷ o ∷ ns) (l ∷ m ∷ ms) =
+    ap (λ ps. record { matched = table l; plus = n; tree = table m; minus = o } ∷ ps) (map_passes table ns ms)
+
+pub way_by_number : WayByNumber
+way_by_number table steps r = step (steps % 2 == 0)
+  where
+    along : (k : ℕ) (names links : List ℕ)
+        → passes_along (take k names) (take k (map table links))
+        ≡ map (pass_by table) (passes_along (take k names) (take k links))
+    along k names links =
+        ap (passes_along (take k names)) (take-map table k links) ∙ map_passes table (take k names) (take k links)
+
+    step : (b : Bool)
+        → passes_along
+        (take (if b then steps else length r.others + 1 - steps)
+        (if b then round_by table r else turned_round (round_by table r)).others)
+        (take (if b then steps else length r.others + 1 - steps)
+        (if b then round_by table r else turned_round (round_by table r)).links)
+        ≡ map (pass_by table)
+        (passes_along
+        (take (if b then steps else length r.others + 1 - steps) (if b then r else turned_round r).others)
+        (take (if b then steps else length r.others + 1 - steps) (if b then r else turned_round r).links))
+    step true = along steps r.others r.links
+    step false =
+        ap
+        (λ l.
+        passes_along (take (length r.others + 1 - steps) (reverse r.others)) (take (length r.others + 1 - steps) l))
+        (map_reverse table r.links)
+        ∙ along (length r.others + 1 - steps) (reverse r.others) (reverse r.links)

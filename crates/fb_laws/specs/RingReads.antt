@@ -1,0 +1,35 @@
+-- A ring read place by place, and rings of links by their numbers: for code that has a ring as a table.
+use Rattle.std.specs.Prelude.{ℕ, ◌≡◌, ◌+◌, ◌*◌, ◌/◌, ◌%◌, ◌<◌, List, map, length, get_or}
+use Rattle.fb_graph.specs.Laws.{Link}
+use Rattle.fb_laws.specs.OpenedCycles.{Pass, PassOf}
+use Rattle.fb_laws.specs.OpenedLinks.{every_second, round_from}
+use Rattle.fb_laws.specs.RingWays.{Round, way_to}
+
+-- Gone round from a place, the list has the elements in turn, after the last one the first.
+abbrev pub RoundRead : Type 0
+RoundRead = (ring : List ℕ) (place k d : ℕ) → place < length ring → k < length ring
+    → get_or (round_from place ring) k d ≡ get_or ring ((place + k) % length ring) d
+
+-- Of every two elements the second one is taken.
+abbrev pub SecondRead : Type 0
+SecondRead = (ring : List ℕ) (k d : ℕ) → get_or (every_second ring) k d ≡ get_or ring (2 * k + 1) d
+
+abbrev pub SecondCount : Type 0
+SecondCount = (ring : List ℕ) → length (every_second ring) ≡ length ring / 2
+
+-- The links of a ring of numbers that are added are those of the numbers.
+abbrev pub SecondByNumber : Type 0
+SecondByNumber = (table : ℕ → Link) (place : ℕ) (ring : List ℕ)
+    → every_second (round_from place (map table ring)) ≡ map table (every_second (round_from place ring))
+
+-- the ring and the pass with links in the place of their numbers
+abbrev pub round_by : (ℕ → Link) → Round ℕ → Round Link
+round_by table r = record { others = r.others; links = map table r.links }
+
+abbrev pub pass_by : (ℕ → Link) → PassOf ℕ → Pass
+pass_by table s = record { matched = table s.matched; plus = s.plus; tree = table s.tree; minus = s.minus }
+
+-- So is the way.
+abbrev pub WayByNumber : Type 0
+WayByNumber = (table : ℕ → Link) (steps : ℕ) (r : Round ℕ)
+    → way_to steps (round_by table r) ≡ map (pass_by table) (way_to steps r)
