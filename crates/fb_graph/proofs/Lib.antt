@@ -23,6 +23,7 @@ pub mod MappedNodes
 pub mod Matching
 pub mod Members
 pub mod NestParts
+pub mod NewLeaves
 pub mod Nodes
 pub mod OddComponents
 pub mod OddLabels

@@ -16,6 +16,7 @@ pub mod Links
 pub mod LocalPlaces
 pub mod Moves
 pub mod Nests
+pub mod NewLeaves
 pub mod Parity
 pub mod Printed
 pub mod Problem

@@ -1,6 +1,7 @@
 pub mod BlossomSums
 pub mod CycleWays
 pub mod DifferingCuts
+pub mod ExchangedDefects
 pub mod FallingRanks
 pub mod FormedNodes
 pub mod FusedParts
@@ -11,8 +12,10 @@ pub mod JoinedThree
 pub mod JoinedTrees
 pub mod LayeredSearches
 pub mod LoweredParts
+pub mod MatchLinks
 pub mod MatchedNodes
 pub mod MergedParts
+pub mod MetLinks
 pub mod MoveBridges
 pub mod NestOpenings
 pub mod NestOrders
@@ -24,6 +27,7 @@ pub mod OpenedCycles
 pub mod OpenedLevels
 pub mod OpenedSearches
 pub mod OpenedTrees
+pub mod PartBounds
 pub mod PathSums
 pub mod PotentialParities
 pub mod SampleCycles

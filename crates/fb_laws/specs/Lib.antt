@@ -1,13 +1,16 @@
 pub mod Blossoms
 pub mod CycleWitnesses
 pub mod Differences
+pub mod ExchangedDefects
 pub mod Forming
 pub mod FusedStates
 pub mod FusedWitnesses
 pub mod Fusion
 pub mod Lengths
+pub mod MatchLinks
 pub mod Measures
 pub mod Merging
+pub mod MetLinks
 pub mod NestBridges
 pub mod NestFusion
 pub mod NestSolutions
@@ -17,6 +20,7 @@ pub mod NestedWitnesses
 pub mod OpenedCycles
 pub mod Opening
 pub mod Parities
+pub mod PartBounds
 pub mod Paths
 pub mod ResolvedWitnesses
 pub mod Samples

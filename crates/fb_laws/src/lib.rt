@@ -3,6 +3,7 @@
 #![tactic(auto)]
 
 pub mod blossoms;
+pub mod bounds;
 pub mod bridges;
 pub mod covers;
 pub mod cycles;
@@ -13,10 +14,12 @@ pub mod fusion;
 pub mod instances;
 pub mod joining;
 pub mod layers;
+pub mod leaves;
 pub mod lengths;
 pub mod links;
 pub mod measures;
 pub mod merging;
+pub mod met_links;
 pub mod moves;
 pub mod nested;
 pub mod nested_fusion;
