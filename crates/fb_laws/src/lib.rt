@@ -3,7 +3,6 @@
 #![tactic(auto)]
 
 pub mod blossoms;
-pub mod bounds;
 pub mod bridges;
 pub mod covers;
 pub mod cycles;
@@ -26,6 +25,7 @@ pub mod nested_fusion;
 pub mod opening;
 pub mod parities;
 pub mod paths;
+pub mod ranks;
 pub mod resolved;
 pub mod searches;
 pub mod signed;

@@ -1,5 +1,5 @@
 use Rattle.fb_laws.proofs.PartBounds.{few_blossoms, few_leaves}
-use Rattle.fb_laws.proofs.bounds.nodes_bounded.Goals as goal
+use Rattle.fb_laws.proofs.ranks.nodes_bounded.Goals as goal
 
 pub returns-clause-leaves : goal.returns-clause-leaves
 returns-clause-leaves c = few_leaves

@@ -1,5 +1,5 @@
 use Rattle.fb_laws.proofs.PartBounds.{parts_below, search_rank_falls}
-use Rattle.fb_laws.proofs.bounds.rank_bounded.Goals as goal
+use Rattle.fb_laws.proofs.ranks.rank_bounded.Goals as goal
 
 pub returns-clause-parts : goal.returns-clause-parts
 returns-clause-parts c = parts_below
