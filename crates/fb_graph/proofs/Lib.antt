@@ -33,6 +33,7 @@ pub mod Places
 pub mod PrintedCuts
 pub mod RaisedNests
 pub mod Ranges
+pub mod RenamedNodes
 pub mod Sets
 pub mod Shots
 pub mod SourceWalks

@@ -20,6 +20,7 @@ pub mod NewLeaves
 pub mod Parity
 pub mod Printed
 pub mod Problem
+pub mod RenamedNodes
 pub mod SourceWalks
 pub mod Sprouts
 pub mod Steps

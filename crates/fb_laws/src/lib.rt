@@ -26,6 +26,7 @@ pub mod opening;
 pub mod parities;
 pub mod paths;
 pub mod ranks;
+pub mod renaming;
 pub mod resolved;
 pub mod searches;
 pub mod signed;
