@@ -30,6 +30,7 @@ pub mod OpenedTrees
 pub mod PartBounds
 pub mod PathSums
 pub mod PotentialParities
+pub mod RenamedStates
 pub mod SampleCycles
 pub mod SampleEndings
 pub mod SampleEnds

@@ -22,6 +22,7 @@ pub mod Opening
 pub mod Parities
 pub mod PartBounds
 pub mod Paths
+pub mod RenamedStates
 pub mod ResolvedWitnesses
 pub mod Samples
 pub mod SearchBlossoms
