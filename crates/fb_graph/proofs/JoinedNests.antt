@@ -24,7 +24,7 @@ use Rattle.fb_graph.proofs.NestParts.{grove_of, fit_of, nest_of, top_is_odd, top
 use Rattle.fb_graph.proofs.Unions.{distinct_union, odd_union}
 
 -- a further node at the end
-joined_push : (ns : List Node) (b : Node) → AreJoinedLater ns → All (λ n. is_in n.children b.name ≡ false) ns
+pub joined_push : (ns : List Node) (b : Node) → AreJoinedLater ns → All (λ n. is_in n.children b.name ≡ false) ns
     → All (λ n. AreApart n.children b.children) ns → is_in b.children b.name ≡ false → AreJoinedLater (ns ++ b ∷ [])
 joined_push [] b old fresh apart own =
     (All-cons (λ m. is_in b.children m.name ≡ false) b [] own (All-nil (λ m. is_in b.children m.name ≡ false)), All-nil (λ m. AreApart b.children m.children), tt)

@@ -23,6 +23,7 @@ pub mod MappedNodes
 pub mod Matching
 pub mod Members
 pub mod NestParts
+pub mod NewLeaves
 pub mod Nodes
 pub mod OddComponents
 pub mod OddLabels
@@ -32,6 +33,7 @@ pub mod Places
 pub mod PrintedCuts
 pub mod RaisedNests
 pub mod Ranges
+pub mod RenamedNodes
 pub mod Sets
 pub mod Shots
 pub mod SourceWalks

@@ -16,9 +16,11 @@ pub mod Links
 pub mod LocalPlaces
 pub mod Moves
 pub mod Nests
+pub mod NewLeaves
 pub mod Parity
 pub mod Printed
 pub mod Problem
+pub mod RenamedNodes
 pub mod SourceWalks
 pub mod Sprouts
 pub mod Steps

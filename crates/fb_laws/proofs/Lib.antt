@@ -3,6 +3,7 @@ pub mod CycleLinks
 pub mod CycleMoves
 pub mod CycleWays
 pub mod DifferingCuts
+pub mod ExchangedDefects
 pub mod FallingRanks
 pub mod FormedNodes
 pub mod FreedNames
@@ -14,8 +15,10 @@ pub mod JoinedThree
 pub mod JoinedTrees
 pub mod LayeredSearches
 pub mod LoweredParts
+pub mod MatchLinks
 pub mod MatchedNodes
 pub mod MergedParts
+pub mod MetLinks
 pub mod MoveBridges
 pub mod NestOpenings
 pub mod NestOrders
@@ -36,6 +39,10 @@ pub mod RenamedNames
 pub mod RingLinks
 pub mod RingReads
 pub mod RingWays
+pub mod PartBounds
+pub mod PathSums
+pub mod PotentialParities
+pub mod RenamedStates
 pub mod SampleCycles
 pub mod SampleEndings
 pub mod SampleEnds

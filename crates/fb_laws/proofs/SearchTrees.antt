@@ -280,7 +280,7 @@ exclusive_names root (e ∷ es) (minus_new, (plus_new, distinct)) n plus =
     step (inr p) (inr m) rest = both_ways (is_in (minus_names es) n) (rest p) m
 
 -- a link with an end under the node
-end_of : (nodes : List Node) (l : Link) (a b : ℕ) → AreDistinct (map (λ n. n.name) nodes) → Connects nodes l a b
+pub end_of : (nodes : List Node) (l : Link) (a b : ℕ) → AreDistinct (map (λ n. n.name) nodes) → Connects nodes l a b
     → 1 ≤ ends_of_one (top_at nodes a) l
 end_of nodes l a b distinct (inl (from, to)) =
     omega (arith, ap as_count (cover_set nodes l.from a distinct from).1)

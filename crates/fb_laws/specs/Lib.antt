@@ -1,13 +1,16 @@
 pub mod Blossoms
 pub mod CycleWitnesses
 pub mod Differences
+pub mod ExchangedDefects
 pub mod Forming
 pub mod FusedStates
 pub mod FusedWitnesses
 pub mod Fusion
 pub mod Lengths
+pub mod MatchLinks
 pub mod Measures
 pub mod Merging
+pub mod MetLinks
 pub mod NestBridges
 pub mod NestFusion
 pub mod NestSolutions
@@ -20,7 +23,9 @@ pub mod OpenedWitnesses
 pub mod Opening
 pub mod Parities
 pub mod PartStates
+pub mod PartBounds
 pub mod Paths
+pub mod RenamedStates
 pub mod ResolvedWitnesses
 pub mod RingReads
 pub mod RingWays

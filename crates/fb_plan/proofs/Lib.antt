@@ -1,3 +1,4 @@
+pub mod FusionSeams
 pub mod Fusions
 pub mod Gathering
 pub mod Growth

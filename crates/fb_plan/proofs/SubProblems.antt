@@ -25,7 +25,7 @@ node_has_no_odd_closed g t n defects none =
     (no_odd_component (problem_of g defects) (λ v real. ltb-true v g.vertices (and_parts _ _ real).0) none)
 
 -- a node with children is a fusion
-fusion_of : (t : PlanTree) (n left right : ℕ) → children_of t n ≡ Some (left, right)
+pub fusion_of : (t : PlanTree) (n left right : ℕ) → children_of t n ≡ Some (left, right)
     → (i : ℕ) × (i < length t.joins) × (n ≡ t.units + i) × (join_at t.joins i ≡ (left, right))
 fusion_of t n left right told = step (cases_lt n t.units) (cases_lt (n - t.units) (length t.joins))
   where

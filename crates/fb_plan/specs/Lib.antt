@@ -3,3 +3,4 @@ pub mod Layout
 pub mod Loads
 pub mod Plans
 pub mod Rules
+pub mod Seams

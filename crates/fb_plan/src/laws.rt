@@ -1,6 +1,7 @@
 //! What follows from the definitions alone. Each function does nothing: its clauses are the law.
 
 ghost use Rattle.fb_plan.specs.Laws.{AllBelowRoot, Ancestors, ChildIsPart, ChildrenAreSeparated, CountOfNodes, Nesting, NodeHasNoOddClosed, NodeIsPart, OneParent, RootIsWhole};
+ghost use Rattle.fb_plan.specs.Seams.{FusionIsParts, SeamIsApart, UnitIsOwn};
 
 /// A node's sub-problem is a part of its parent's (Wu and Zhong 2023) and of the whole, and the root's is the whole.
 /// So where a shot has no odd component, no sub-problem has a closed set with an odd number of defects.
@@ -14,6 +15,14 @@ pub fn sub_problems()
 /// The sub-problems of a fusion's two children share no real vertex, and no edge links them.
 pub fn children_apart()
     ensures { ChildrenAreSeparated }
+{}
+
+/// A unit's real vertices are those that it owns. A fusion's are those of its children, and those that it owns itself:
+/// its seam, whose vertices are real in neither child.
+pub fn seam_apart()
+    ensures unit { UnitIsOwn }
+    ensures fusion { FusionIsParts }
+    ensures seam { SeamIsApart }
 {}
 
 /// A tree's nodes are one fewer than twice its units; each but the root has one parent, and all are below the root.

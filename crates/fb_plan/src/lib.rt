@@ -18,7 +18,7 @@ mod tree;
 
 pub use faults::{Member, Place, PlanFault};
 pub use job::Job;
-pub use laws::{children_apart, one_root, sub_problems, subtrees};
+pub use laws::{children_apart, one_root, seam_apart, sub_problems, subtrees};
 pub use parts::Join;
 pub use plan::Plan;
 pub use scope::NodeScope;

@@ -1,0 +1,106 @@
+-- A part's nodes under other names keep what they kept.
+use Rattle.std.proofs.Common.{ℕ, ◌≡◌, ◌+◌, ◌%◌, true, List, map, All, Option, Some, None, refl, sym, ap, ◌∙◌, subst}
+use Rattle.std.specs.Option.{option_map}
+use Rattle.std.proofs.lemmas.List.Elements.{All-map}
+use Rattle.fb_graph.specs.Parity.{is_in}
+use Rattle.fb_graph.specs.Problem.{Problem}
+use Rattle.fb_graph.specs.Counts.{as_count}
+use Rattle.fb_graph.specs.Covers.{HaveParity}
+use Rattle.fb_graph.specs.Ends.{ends_in}
+use Rattle.fb_graph.specs.Laws.{Link}
+use Rattle.fb_graph.specs.Links.{IsTightLink}
+use Rattle.fb_graph.specs.Dual.{Node, all_cuts, cover_of, height_of, is_live, is_outer, leaves}
+use Rattle.fb_graph.specs.Nests.{IsNest}
+use Rattle.fb_graph.specs.RenamedNodes.{AreRenamedApart, renamed_node, renamed_nodes}
+use Rattle.fb_graph.proofs.Among.{All_among, among_All, among_live, cover_among}
+use Rattle.fb_graph.proofs.RenamedNodes.{cover_same, cuts_renamed, from_renamed, leaves_renamed, nest_renamed, outer_same, same_renamed, walks_renamed}
+use Rattle.fb_laws.specs.Opening.{EndAtDefects}
+use Rattle.fb_laws.specs.Parities.{HaveOneParity}
+use Rattle.fb_laws.specs.RenamedStates.{LinksRenamed, NestedWorkRenamed, WorkRenamed}
+use Rattle.fb_laws.specs.UnmatchedNames.{AreOuterNames}
+use Rattle.fb_laws.specs.Works.{AreMatched, IsMatching}
+
+pub links_renamed : LinksRenamed
+links_renamed p nodes links f are = record {
+  tight = subst (λ cuts. All (IsTightLink p cuts) links) (sym (cuts_renamed f nodes)) are.tight;
+  own = are.own;
+  at_defects = subst (λ l. EndAtDefects p l links) (sym (leaves_renamed f nodes)) are.at_defects;
+}
+
+module _ (p : Problem) (nodes : List Node) (links : List Link) (unmatched : List ℕ) (f : ℕ → ℕ) (once : AreRenamedApart f nodes)
+    (live : (n : ℕ) → is_in unmatched n ≡ true → is_live nodes n ≡ true) (nest : IsNest p nodes) where
+  -- a live node is unmatched under its new name where it was
+  open_same : (n : ℕ) → is_live nodes n ≡ true → is_in (map f unmatched) (f n) ≡ is_in unmatched n
+  open_same n here = same_renamed f unmatched n (λ y among e. once y n (live y among) here e)
+
+  height : (v : ℕ) → height_of (all_cuts (renamed_nodes f nodes)) v ≡ height_of (all_cuts nodes) v
+  height v = ap (λ cuts. height_of cuts v) (cuts_renamed f nodes)
+
+  leaf : (d : ℕ) → is_in (leaves (renamed_nodes f nodes)) d ≡ true → is_in (leaves nodes) d ≡ true
+  leaf d h = ap (λ l. is_in l d) (sym (leaves_renamed f nodes)) ∙ h
+
+  -- the name that the node over a vertex had
+  old_name : (v name : ℕ) → cover_of (renamed_nodes f nodes) v ≡ Some name
+      → (n : ℕ) × (cover_of nodes v ≡ Some n) × (f n ≡ name) × (is_live nodes n ≡ true)
+  old_name v name cover = step (cover_of nodes v) refl (sym (cover_same p nodes f once nest v) ∙ cover)
+    where
+      step : (o : Option ℕ) → cover_of nodes v ≡ o → option_map f o ≡ Some name
+          → (n : ℕ) × (cover_of nodes v ≡ Some n) × (f n ≡ name) × (is_live nodes n ≡ true)
+      step None e h = absurd (let clash : None ≡ Some name = h in cc)
+      step (Some n) e h =
+          let over = cover_among nodes v n e in
+          (n, e, (let same : Some (f n) ≡ Some name = h in cc), among_live nodes over.node n over.among over.named)
+
+  matched : AreMatched nodes links unmatched → AreMatched (renamed_nodes f nodes) links (map f unmatched)
+  matched are =
+      All-map (λ n. is_outer (renamed_nodes f nodes) n.name ≡ true → ends_in n.top.vertices links + as_count (is_in (map f unmatched) n.name) ≡ 1)
+      (renamed_node f) nodes
+      (among_All
+      (λ n. is_outer (renamed_nodes f nodes) (f n.name) ≡ true → ends_in n.top.vertices links + as_count (is_in (map f unmatched) (f n.name)) ≡ 1) nodes
+      (λ n a outer.
+      let here : is_live nodes n.name ≡ true = among_live nodes n n.name a refl in
+      ap (λ b. ends_in n.top.vertices links + as_count b) (open_same n.name here)
+      ∙ All_among (λ m. is_outer nodes m.name ≡ true → ends_in m.top.vertices links + as_count (is_in unmatched m.name) ≡ 1) nodes are n a
+      (sym (outer_same p nodes f once nest n.name here) ∙ outer)))
+
+  one_parity : HaveOneParity nodes → HaveOneParity (renamed_nodes f nodes)
+  one_parity one d e name leaf_d leaf_e cover_d cover_e =
+      let (m, at_d, named_d, live_m) = old_name d name cover_d in
+      let (n, at_e, named_e, live_n) = old_name e name cover_e in
+      ap (λ h. h % 2) (height d)
+      ∙ (one d e m (leaf d leaf_d) (leaf e leaf_e) at_d (at_e ∙ ap Some (once n m live_n live_m (named_e ∙ sym named_d)))
+      ∙ ap (λ h. h % 2) (sym (height e)))
+
+  even : HaveParity (is_in unmatched) nodes 0 → HaveParity (is_in (map f unmatched)) (renamed_nodes f nodes) 0
+  even have d name leaf_d cover open_ =
+      let (n, at_d, named, here) = old_name d name cover in
+      ap (λ h. h % 2) (height d)
+      ∙ have d n (leaf d leaf_d) at_d (sym (open_same n here) ∙ (ap (is_in (map f unmatched)) named ∙ open_))
+
+  matching : IsMatching p nodes links unmatched → IsMatching p (renamed_nodes f nodes) links (map f unmatched)
+  matching is = record {
+    dual = (nest_renamed p nodes f once nest).dual;
+    defects = λ v real. is.defects v real ∙ ap (λ l. is_in l v) (sym (leaves_renamed f nodes));
+    links_are = links_renamed p nodes links f is.links_are;
+    matched = matched is.matched;
+    one_parity = one_parity is.one_parity;
+  }
+
+  outer : AreOuterNames nodes unmatched → AreOuterNames (renamed_nodes f nodes) (map f unmatched)
+  outer are n among =
+      let (m, within, named) = from_renamed f unmatched n among in
+      ap (is_outer (renamed_nodes f nodes)) (sym named) ∙ (outer_same p nodes f once nest m (live m within) ∙ are m within)
+
+pub work_renamed : WorkRenamed
+work_renamed p nodes links unmatched f once live nest is = record {
+  matching = matching p nodes links unmatched f once live nest is.matching;
+  even = even p nodes links unmatched f once live nest is.even;
+}
+
+pub nested_work_renamed : NestedWorkRenamed
+nested_work_renamed p nodes links unmatched f once live is = record {
+  nest = nest_renamed p nodes f once is.nest;
+  work = work_renamed p nodes links unmatched f once live is.nest is.work;
+  walks = walks_renamed p nodes f is.walks;
+  outer = outer p nodes links unmatched f once live is.nest is.outer;
+}
