@@ -48,6 +48,7 @@ pub mod SearchTrees
 pub mod Shifts
 pub mod SolvedNests
 pub mod SplitStates
+pub mod StepBounds
 pub mod StepLengths
 pub mod TreeCycles
 pub mod TreePaths
