@@ -1,0 +1,2 @@
+pub mod InternalWatch
+pub mod Watched
