@@ -2,6 +2,11 @@
 
 #![tactic(auto)]
 
+mod ends;
+mod looking;
+pub mod obstacle;
 pub mod watching;
 
+pub use fb_regions::{NodeId, Role, Roles};
+pub use obstacle::Obstacle;
 pub use watching::Watch;
