@@ -16,6 +16,7 @@ pub mod parts;
 pub mod printed;
 pub mod scope_of;
 pub mod shot;
+pub mod steps;
 pub mod whole;
 
 pub use connected::{Components, first_odd};
@@ -31,4 +32,5 @@ pub use parts::{Cut, Edge, Row};
 pub use printed::{odd_ones, printed_cuts};
 pub use scope_of::Scope;
 pub use shot::Shot;
+pub use steps::Steps;
 pub use whole::Whole;

@@ -1,4 +1,5 @@
 pub mod Blossoms
+pub mod Bounds
 pub mod CycleWitnesses
 pub mod Differences
 pub mod ExchangedDefects

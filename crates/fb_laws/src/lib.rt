@@ -3,6 +3,7 @@
 #![tactic(auto)]
 
 pub mod blossoms;
+pub mod bounds;
 pub mod bridges;
 pub mod covers;
 pub mod cycles;
@@ -49,6 +50,7 @@ pub mod witnesses;
 pub mod works;
 
 pub use blossoms::{blossom_formed, blossom_opened, odd_cycle};
+pub use bounds::step_bounds;
 pub use bridges::{blossom_named, moves_lower, uncovered_back};
 pub use covers::{crossings_by_cover, even_residue, free_step, links_are_level, step_heights};
 pub use cycles::{cycle_closed, cycle_opened};

@@ -1,0 +1,2 @@
+pub mod EdgeLooks
+pub mod StoredEdges

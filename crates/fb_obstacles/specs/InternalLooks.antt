@@ -1,0 +1,81 @@
+-- How the edges and minus nodes are looked at.
+use Rattle.std.specs.Prelude.{ℕ, ◌+◌, ◌-◌, ◌*◌, ◌/◌, ◌≤◌, ◌==◌, Bool, true, false, min, List, Option, Some, None, if◌then◌else◌}
+use Rattle.fb_graph.specs.Problem.{Problem, edge_at}
+use Rattle.fb_graph.specs.Certificate.{load_of}
+use Rattle.fb_graph.specs.Dual.{Node, all_cuts, cover_of, height_of}
+use Rattle.fb_graph.specs.Steps.{Roles, gains, losses}
+use Rattle.fb_graph.specs.declared.parts.Edge.{Edge}
+use Rattle.fb_regions.specs.declared.roles.Role.{Role}
+use Rattle.fb_regions.specs.declared.roles.Role.TheVariants as role
+use Rattle.fb_obstacles.specs.declared.obstacle.Obstacle.{Obstacle}
+use Rattle.fb_obstacles.specs.declared.obstacle.Obstacle.TheVariants as obstacle
+use Rattle.fb_obstacles.specs.declared.looking.Look.{Look}
+use Rattle.fb_obstacles.specs.declared.looking.Look.TheVariants.{Clear, Within, Blocked}
+use Rattle.fb_obstacles.specs.declared.ends.Cover.{Cover}
+use Rattle.fb_obstacles.specs.declared.ends.Cover.TheVariants.{Plus, Minus, Out, Bare, Virtual}
+
+abbrev pub cover_in_role : Role → ℕ → Cover
+cover_in_role role.Plus name = Plus name
+cover_in_role role.Minus name = Minus
+cover_in_role role.Out name = Out
+
+-- what is over a vertex, by the outer node that holds it and whether it is real
+abbrev pub cover_by : (ℕ → Role) → Bool → Option ℕ → Cover
+cover_by role_of real (Some name) = cover_in_role (role_of name) name
+cover_by role_of true None = Bare
+cover_by role_of false None = Virtual
+
+abbrev pub cover_at : Problem → (ℕ → Role) → List Node → ℕ → Cover
+cover_at p role_of nodes v = cover_by role_of (p.is_real v) (cover_of nodes v)
+
+-- the end beside a plus node; none where no end is under a plus node, or one plus node is over both
+abbrev pub far_end : Cover → Cover → Option Cover
+far_end (Plus m) (Plus n) = if m == n then None else Some (Plus n)
+far_end (Plus m) far = Some far
+far_end far (Plus n) = Some far
+far_end first second = None
+
+abbrev pub bounded : ℕ → Obstacle → Look
+bounded bound o = if bound == 0 then Blocked o else Within bound
+
+-- how far a plus node may grow towards this end of the edge
+abbrev pub look_at : Cover → ℕ → ℕ → Look
+look_at (Plus n) residue k = bounded (residue / 2) (obstacle.PlusPair k)
+look_at Minus residue k = Clear
+look_at Out residue k = bounded residue (obstacle.Meet k)
+look_at Bare residue k = bounded residue (obstacle.Absorb k)
+look_at Virtual residue k = bounded residue (obstacle.Boundary k)
+
+abbrev pub look_if : Option Cover → ℕ → ℕ → Look
+look_if None residue k = Clear
+look_if (Some far) residue k = look_at far residue k
+
+-- the weight of an edge less the potentials of both ends
+abbrev pub residue_of : List Node → Edge → ℕ
+residue_of nodes e = e.weight - (height_of (all_cuts nodes) e.first + height_of (all_cuts nodes) e.second)
+
+abbrev pub edge_look : Problem → (ℕ → Role) → List Node → ℕ → Look
+edge_look p role_of nodes k =
+    look_if
+    (far_end (cover_at p role_of nodes (edge_at p.edges k).first) (cover_at p role_of nodes (edge_at p.edges k).second))
+    (residue_of nodes (edge_at p.edges k)) k
+
+-- both looks in one
+abbrev pub both_looks : Look → Look → Look
+both_looks (Blocked o) b = Blocked o
+both_looks a (Blocked o) = Blocked o
+both_looks Clear b = b
+both_looks a Clear = a
+both_looks (Within i) (Within j) = Within (min i j)
+
+-- the look tells which lengths are allowed, or an obstacle that stands
+abbrev pub Limits : (ℕ → Type 0) → (Obstacle → Type 0) → Look → Type 0
+Limits Allowed Stands Clear = (k : ℕ) → Allowed k
+Limits Allowed Stands (Within bound) =
+    (1 ≤ bound) × ((k : ℕ) → k ≤ bound → Allowed k) × ((k : ℕ) → Allowed k → k ≤ bound)
+Limits Allowed Stands (Blocked o) = Stands o
+
+-- the edge can bear a step of length j
+abbrev pub BearsStep : Roles → List Node → ℕ → Edge → Type 0
+BearsStep roles nodes j e =
+    load_of (all_cuts nodes) e + j * gains roles nodes e ≤ e.weight + j * losses roles nodes e

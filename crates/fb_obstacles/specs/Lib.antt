@@ -1,0 +1,4 @@
+pub mod InternalLooks
+pub mod InternalWatch
+pub mod Obstacles
+pub mod Watched

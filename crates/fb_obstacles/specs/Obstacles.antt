@@ -1,0 +1,101 @@
+-- What stands in the way of an alternating tree (Wu and Zhong 2023).
+use Rattle.std.specs.Prelude.{ℕ, ◌≡◌, ◌+◌, ◌<◌, ◌≤◌, ◌⊎◌, Bool, true, false, List, [], length, All, Some, None}
+use Rattle.fb_graph.specs.Parity.{is_in}
+use Rattle.fb_graph.specs.Problem.{Problem, edge_at}
+use Rattle.fb_graph.specs.Certificate.{load_of}
+use Rattle.fb_graph.specs.Components.{Leads}
+use Rattle.fb_graph.specs.Dual.{Node, AreUnderOne, all_cuts, cover_of, is_live, is_outer}
+use Rattle.fb_graph.specs.Steps.{Roles}
+use Rattle.fb_graph.specs.Covers.{HaveParity, HasNoObstacle, is_over}
+use Rattle.fb_graph.specs.Moves.{MaySplit, MayUncover}
+use Rattle.fb_laws.specs.Lengths.{IsGreatestStep}
+use Rattle.fb_regions.specs.declared.roles.Role.{Role}
+use Rattle.fb_regions.specs.declared.roles.Role.TheVariants.{Plus, Minus, Out}
+use Rattle.fb_obstacles.specs.declared.obstacle.Obstacle.{Obstacle}
+use Rattle.fb_obstacles.specs.declared.obstacle.Obstacle.TheVariants.{Absorb, Boundary, Meet, PlusPair, LayerEmpty, BlossomEmpty, ZeroMinus, Free}
+
+abbrev pub grows : Role → Bool
+grows Plus = true
+grows Minus = false
+grows Out = false
+
+abbrev pub shrinks : Role → Bool
+shrinks Plus = false
+shrinks Minus = true
+shrinks Out = false
+
+-- roles as two tests of names
+abbrev pub roles_by : (ℕ → Role) → Roles
+roles_by role = record { is_plus = λ name. grows (role name); is_minus = λ name. shrinks (role name) }
+
+-- all defects under plus nodes have potentials of one parity
+abbrev pub HavePlusParity : Roles → List Node → Type 0
+HavePlusParity roles nodes = (r : ℕ) × HaveParity roles.is_plus nodes r
+
+-- the names are those of all minus nodes, and of no other
+pub record ListsMinus (roles : Roles) (nodes : List Node) (names : List ℕ) : Type 0 where
+  pub every : All (λ n. roles.is_minus n.name ≡ true → is_in names n.name ≡ true) nodes
+  pub only : All (λ name. (is_live nodes name ≡ true) × (roles.is_minus name ≡ true)) names
+
+-- the numbers are those of edges, among them each edge that has an end under a plus node and its other end not under
+-- that node
+pub record IsWatched (p : Problem) (roles : Roles) (nodes : List Node) (edges : List ℕ) : Type 0 where
+  pub within : All (λ k. k < length p.edges) edges
+  pub near : (k : ℕ) → k < length p.edges
+      → (is_over roles.is_plus nodes (edge_at p.edges k).first ≡ true)
+      ⊎ (is_over roles.is_plus nodes (edge_at p.edges k).second ≡ true)
+      → ¬ AreUnderOne nodes (edge_at p.edges k).first (edge_at p.edges k).second → is_in edges k ≡ true
+
+-- edge k has no residue, and leads from u, which is under a plus node, to v
+pub record IsTightFrom (p : Problem) (roles : Roles) (nodes : List Node) (k u v : ℕ) : Type 0 where
+  pub within : k < length p.edges
+  pub leads : Leads (edge_at p.edges k) u v
+  pub tight : load_of (all_cuts nodes) (edge_at p.edges k) ≡ (edge_at p.edges k).weight
+  pub plus : is_over roles.is_plus nodes u ≡ true
+
+-- edge k leads to an uncovered real vertex, which the plus node can take up
+pub record IsAbsorb (p : Problem) (roles : Roles) (nodes : List Node) (k u v : ℕ) : Type 0 where
+  pub edge : IsTightFrom p roles nodes k u v
+  pub uncovered : cover_of nodes v ≡ None
+  pub real : p.is_real v ≡ true
+
+-- edge k leads to the boundary
+pub record IsBoundary (p : Problem) (roles : Roles) (nodes : List Node) (k u v : ℕ) : Type 0 where
+  pub edge : IsTightFrom p roles nodes k u v
+  pub real : p.is_real v ≡ false
+
+-- edge k leads to a node that is neither plus nor minus
+pub record IsMeet (p : Problem) (roles : Roles) (nodes : List Node) (k u v name : ℕ) : Type 0 where
+  pub edge : IsTightFrom p roles nodes k u v
+  pub covered : cover_of nodes v ≡ Some name
+  pub not_plus : roles.is_plus name ≡ false
+  pub not_minus : roles.is_minus name ≡ false
+
+-- edge k leads to another plus node
+pub record IsPlusPair (p : Problem) (roles : Roles) (nodes : List Node) (k u v : ℕ) : Type 0 where
+  pub edge : IsTightFrom p roles nodes k u v
+  pub other : is_over roles.is_plus nodes v ≡ true
+  pub apart : ¬ AreUnderOne nodes u v
+
+-- the outer node of this name is a defect with one layer, of value 0
+pub record IsZeroDefect (nodes : List Node) (name : ℕ) : Type 0 where
+  pub live : is_live nodes name ≡ true
+  pub outer : is_outer nodes name ≡ true
+  pub bare : All (λ n. n.name ≡ name → (n.children ≡ []) × (n.below ≡ []) × (n.top.value ≡ 0)) nodes
+
+-- The obstacle is there as named. The tree is free by a length where that length is the greatest that is allowed, and
+-- no obstacle stands.
+abbrev pub IsObstacle : Problem → Roles → List Node → Obstacle → Type 0
+IsObstacle p roles nodes (Absorb k) = (u v : ℕ) × IsAbsorb p roles nodes k u v
+IsObstacle p roles nodes (Boundary k) = (u v : ℕ) × IsBoundary p roles nodes k u v
+IsObstacle p roles nodes (Meet k) = (u v name : ℕ) × IsMeet p roles nodes k u v name
+IsObstacle p roles nodes (PlusPair k) = (u v : ℕ) × IsPlusPair p roles nodes k u v
+IsObstacle p roles nodes (LayerEmpty name) = (roles.is_minus name ≡ true) × MayUncover nodes name
+IsObstacle p roles nodes (BlossomEmpty name) = (roles.is_minus name ≡ true) × MaySplit nodes name
+IsObstacle p roles nodes (ZeroMinus name) = (roles.is_minus name ≡ true) × IsZeroDefect nodes name
+IsObstacle p roles nodes (Free k) = (1 ≤ k) × IsGreatestStep p roles nodes k × HasNoObstacle p roles nodes
+
+-- one look is counted for each edge that was examined: all of them where the tree is free
+abbrev pub CountsLooks : Obstacle → ℕ → ℕ → ℕ → Type 0
+CountsLooks (Free k) count before after = after ≡ before + count
+CountsLooks o count before after = (before ≤ after) × (after ≤ before + count)

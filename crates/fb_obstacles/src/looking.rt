@@ -1,0 +1,74 @@
+ghost use Rattle.std.specs.Prelude.{◌≡◌, ◌<◌, length};
+ghost use Rattle.fb_obstacles.specs.InternalLooks.{bounded, both_looks, edge_look, look_at, look_if};
+
+use crate::ends::{Cover, cover_at, far_end};
+use crate::obstacle::Obstacle;
+use fb_graph::Scope;
+use fb_regions::{Regions, Roles};
+
+/// What a look at an edge or a minus node tells of a step.
+#[derive(Clone, Copy)]
+pub enum Look {
+    /// It doesn't bound the step.
+    Clear,
+    /// It bounds the step by this length, at least 1.
+    Within(u64),
+    /// An obstacle stands.
+    Blocked(Obstacle),
+}
+
+impl Look {
+    /// Both looks in one: the obstacle of the first that has one, or the lesser bound.
+    pub fn and(self, other: Look) -> Look
+        ensures { result ≡ both_looks self other }
+    {
+        match (self, other) {
+            (Look::Blocked(_), _) => self,
+            (_, Look::Blocked(_)) => other,
+            (Look::Clear, _) => other,
+            (_, Look::Clear) => self,
+            (Look::Within(i), Look::Within(j)) => Look::Within(i.min(j)),
+        }
+    }
+}
+
+/// The bound, or the obstacle where it is 0.
+fn bounded(bound: u64, obstacle: Obstacle) -> Look
+    ensures { result ≡ bounded bound obstacle }
+{
+    if bound == 0 {
+        Look::Blocked(obstacle)
+    } else {
+        Look::Within(bound)
+    }
+}
+
+/// How far a plus node may grow towards this end of the edge. Between two plus nodes the residue is even, and each
+/// takes half of it.
+fn look_at(far: Cover, residue: u64, edge: u32) -> Look
+    ensures { result ≡ look_at far residue edge }
+{
+    match far {
+        Cover::Plus(_) => bounded(residue / 2, Obstacle::PlusPair(edge)),
+        Cover::Minus => Look::Clear,
+        Cover::Out => bounded(residue, Obstacle::Meet(edge)),
+        Cover::Bare => bounded(residue, Obstacle::Absorb(edge)),
+        Cover::Virtual => bounded(residue, Obstacle::Boundary(edge)),
+    }
+}
+
+/// A look at one edge.
+pub fn look_over<S: Scope, R: Roles>(edge: u32, scope: &S, regions: &Regions<S>, roles: &R) -> Look
+    requires same { regions.now.scope ≡ scope.now }
+    requires below { edge < length (S.problem scope.now).edges }
+    ensures { result ≡ edge_look (S.problem scope.now) (R.role_of roles.now) regions.now.nodes edge }
+{
+    scope.limits();
+    let (first, second) = scope.ends(edge);
+    let first = cover_at(first, scope, regions, roles);
+    let second = cover_at(second, scope, regions, roles);
+    match far_end(first, second) {
+        Some(far) => look_at(far, regions.residue(edge), edge),
+        None => Look::Clear,
+    }
+}

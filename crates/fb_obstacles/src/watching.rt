@@ -1,0 +1,133 @@
+ghost use Rattle.std.specs.Prelude.{ℕ, ◌≡◌, ◌+◌, ◌<◌, ◌==◌, ◌&&◌, true, false, not, [], ◌∷◌, ◌++◌, length, get_or, All, IfOk, MatchOption, if◌then◌else◌};
+ghost use Rattle.fb_graph.specs.Parity.{is_in};
+ghost use Rattle.fb_graph.specs.Counts.{as_count};
+ghost use Rattle.fb_graph.specs.Certificate.{AreDistinct};
+ghost use Rattle.fb_obstacles.specs.InternalWatch.{IsStored};
+
+use fb_graph::{NoMemory, Scope};
+use std::alloc::Global;
+use std::marker::Model;
+
+/// The edges that a search looks at, each once, in any order. Only `new` takes memory, and only `new` takes time for
+/// each edge of the scope: any other call takes the time that a few reads and writes take. So a watch is made once and
+/// serves many searches.
+#[derive(Drop)]
+pub struct Watch {
+    /// For each edge of the scope its place in the list of the watched ones. It counts only where that edge stands there.
+    places: Vec<u32>,
+    /// The watched edges, with room for all edges of the scope.
+    edges: Vec<u32>,
+}
+
+impl Model for Watch {
+    ghost use Rattle.std.specs.Prelude.{length, vec_capacity};
+    ghost use Rattle.fb_obstacles.specs.Watched.{Watched, watched_code};
+    ghost use Rattle.fb_obstacles.specs.InternalWatch.{IsStored};
+
+    ghost Value = { Watched };
+
+    ghost coded = { watched_code };
+
+    ghost view = { λ w. record { edge_count = length w.places.items; edges = w.edges.items } };
+
+    ghost invariant = { λ w. IsStored w.places.items w.edges.items (vec_capacity w.edges) };
+}
+
+impl Watch {
+    /// Watches no edge, with room for every edge of the scope.
+    pub fn new<S: Scope>(alloc: Global, scope: &S) -> Result<Watch, NoMemory>
+        ensures { IfOk result (λ w. w ≡ record { edge_count = length (S.problem scope.now).edges; edges = [] }) }
+    {
+        let count = scope.edge_count() as usize;
+        let places = vec![in alloc; 0; count]?;
+        let edges = Vec::with_capacity(alloc, count)?;
+        Ok(Watch { places, edges })
+    }
+
+    /// Does nothing. Its clauses say what every watch keeps.
+    pub fn keeps(&self)
+        ensures distinct { AreDistinct self.now.edges }
+        ensures within { All (λ e. e < self.now.edge_count) self.now.edges }
+    {
+        let _edges = &self.edges;
+    }
+
+    /// Whether the edge is watched.
+    pub fn holds(&self, edge: u32) -> bool
+        requires { edge < self.now.edge_count }
+        ensures { result ≡ is_in self.now.edges edge }
+    {
+        self.place_of(edge).is_some()
+    }
+
+    /// The place of a watched edge.
+    fn place_of(&self, edge: u32) -> Option<usize>
+        requires { edge < self.now.edge_count }
+        ensures { MatchOption result (is_in self.now.edges edge ≡ false)
+            (λ i. (i < length self.now.edges) × (get_or self.now.edges i 0 ≡ edge) × (is_in self.now.edges edge ≡ true)) }
+    {
+        let place = self.places[edge as usize] as usize;
+        if place < self.edges.len() && self.edges[place] == edge {
+            Some(place)
+        } else {
+            None
+        }
+    }
+
+    /// Watches the edge from now on.
+    pub fn enter(&mut self, edge: u32)
+        requires { edge < self.old.edge_count }
+        ensures { self.new ≡ (if is_in self.old.edges edge then self.old else record { edge_count = self.old.edge_count; edges = self.old.edges ++ edge ∷ [] }) }
+    {
+        if self.holds(edge) {
+            return;
+        }
+        self.places[edge as usize] = self.edges.len() as u32;
+        self.edges.push_reserved(edge);
+    }
+
+    /// Watches the edge no longer.
+    pub fn leave(&mut self, edge: u32)
+        requires { edge < self.old.edge_count }
+        ensures count { self.new.edge_count ≡ self.old.edge_count }
+        ensures edges { (e : ℕ) → is_in self.new.edges e ≡ (is_in self.old.edges e && not (e == edge)) }
+        ensures len { length self.new.edges + as_count (is_in self.old.edges edge) ≡ length self.old.edges }
+    {
+        let Some(place) = self.place_of(edge) else {
+            return;
+        };
+        self.edges.swap_remove(place);
+        if place < self.edges.len() {
+            let moved = self.edges[place];
+            self.places[moved as usize] = place as u32;
+        }
+    }
+
+    /// Watches no edge any longer.
+    pub fn clear(&mut self)
+        ensures { self.new ≡ record { edge_count = self.old.edge_count; edges = [] } }
+    {
+        self.edges.clear();
+    }
+
+    /// How many edges are watched.
+    pub fn len(&self) -> usize
+        ensures { result ≡ length self.now.edges }
+    {
+        self.edges.len()
+    }
+
+    /// Whether no edge is watched.
+    pub fn is_empty(&self) -> bool
+        ensures { result ≡ (length self.now.edges == 0) }
+    {
+        self.edges.is_empty()
+    }
+
+    /// The watched edges.
+    pub fn edges(&self) -> &[u32]
+        ensures { result.now ≡ self.now.edges }
+    {
+        self.edges.as_slice()
+    }
+}
