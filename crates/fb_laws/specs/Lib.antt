@@ -23,8 +23,8 @@ pub mod OpenedLinks
 pub mod OpenedWitnesses
 pub mod Opening
 pub mod Parities
-pub mod PartStates
 pub mod PartBounds
+pub mod PartStates
 pub mod Paths
 pub mod RenamedStates
 pub mod ResolvedWitnesses

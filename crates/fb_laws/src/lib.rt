@@ -49,42 +49,43 @@ pub mod walks;
 pub mod witnesses;
 pub mod works;
 
-pub use blossoms::{blossom_formed, blossom_opened, odd_cycle};
+pub use blossoms::blossom_formed;
+pub use blossoms::blossom_opened;
+pub use blossoms::odd_cycle;
 pub use bounds::step_bounds;
-pub use bridges::{blossom_named, moves_lower, uncovered_back};
-pub use covers::{crossings_by_cover, even_residue, free_step, links_are_level, step_heights};
-pub use cycles::{cycle_closed, cycle_opened};
+pub use bridges::blossom_named;
+pub use bridges::moves_lower;
+pub use bridges::uncovered_back;
+pub use covers::crossings_by_cover;
+pub use covers::even_residue;
+pub use covers::free_step;
+pub use covers::links_are_level;
+pub use covers::step_heights;
+pub use cycles::cycle_closed;
+pub use cycles::cycle_opened;
 pub use differences::cuts_differ;
-pub use ends::{crossed_once, ends_add};
+pub use ends::crossed_once;
+pub use ends::ends_add;
 pub use forming::matching_formed;
-pub use fusion::{heights_fused, links_fused, parts_matched, seam_forgotten};
-pub use instances::{cycle_witness, fused_witness, nest_witness, nested_witness, tree_witness};
+pub use fusion::heights_fused;
+pub use fusion::links_fused;
+pub use fusion::parts_matched;
+pub use fusion::seam_forgotten;
+pub use instances::cycle_witness;
+pub use instances::fused_witness;
+pub use instances::nest_witness;
+pub use instances::nested_witness;
+pub use instances::tree_witness;
 pub use joining::search_joined;
-pub use layers::{search_layers, search_lowers};
+pub use layers::search_layers;
+pub use layers::search_lowers;
 pub use lengths::greatest_step;
-pub use links::{
-    empty_layer, joined_is_tight, meeting_is_tight, potential_parity, source_walk_kept,
-};
+pub use links::empty_layer;
+pub use links::joined_is_tight;
+pub use links::meeting_is_tight;
+pub use links::potential_parity;
+pub use links::source_walk_kept;
 pub use measures::search_ends;
-pub use merging::{matchings_merged, seam_opened};
-pub use moves::{
-    nest_begins, nest_joined, nest_split, nest_stepped, nest_taken_up, nest_uncovered,
-};
-pub use nested::{
-    nested_attached, nested_begins, nested_ended, nested_free, nested_joined, nested_layers,
-    nested_opened, nested_stepped,
-};
-pub use nested_fusion::{nested_fused, nests_merged};
-pub use opening::{last_level, levels};
-pub use parities::{attached_parity, stepped_parity};
-pub use part_states::{live_links_are_tight, unmatched_are_outer};
-pub use paths::{alternating_path, augmented};
-pub use resolved::nest_resolved;
-pub use searches::{
-    search_attached, search_begins, search_ended, search_stepped, search_tree, search_witness,
-};
-pub use signed::{shifted_parity, signed_duality, signed_solution};
-pub use splitting::{matching_opened, search_opened};
 pub use merging::matchings_merged;
 pub use merging::seam_opened;
 pub use moves::nest_begins;
@@ -134,15 +135,35 @@ pub use sprouts::beginning;
 pub use state_blossoms::state_joined;
 pub use state_fusions::state_fused;
 pub use state_measures::state_lowers;
-pub use state_moves::{state_attached, state_begins, state_ended, state_layers, state_stepped};
-pub use state_openings::{cycle_freed, state_opened};
-pub use steps::{step_keeps_packing, step_loads, steps_add};
-pub use turns::{step_in_turns, turns_allowed};
+pub use state_moves::state_attached;
+pub use state_moves::state_begins;
+pub use state_moves::state_ended;
+pub use state_moves::state_layers;
+pub use state_moves::state_stepped;
+pub use state_openings::cycle_freed;
+pub use state_openings::state_opened;
+pub use steps::step_keeps_packing;
+pub use steps::step_loads;
+pub use steps::steps_add;
+pub use turns::step_in_turns;
+pub use turns::turns_allowed;
 pub use unmatched::outer_names;
 pub use walks::walks_kept;
-pub use witnesses::{
-    blossom_witness, cover_witness, dual_witness, end_witness, forming_witness, fusion_witness,
-    link_witness, merging_witness, opening_witness, parity_witness, path_witness, signed_witness,
-    step_witness, work_witness,
-};
-pub use works::{half_opened, matching_augmented, matching_kept, work_begins};
+pub use witnesses::blossom_witness;
+pub use witnesses::cover_witness;
+pub use witnesses::dual_witness;
+pub use witnesses::end_witness;
+pub use witnesses::forming_witness;
+pub use witnesses::fusion_witness;
+pub use witnesses::link_witness;
+pub use witnesses::merging_witness;
+pub use witnesses::opening_witness;
+pub use witnesses::parity_witness;
+pub use witnesses::path_witness;
+pub use witnesses::signed_witness;
+pub use witnesses::step_witness;
+pub use witnesses::work_witness;
+pub use works::half_opened;
+pub use works::matching_augmented;
+pub use works::matching_kept;
+pub use works::work_begins;
