@@ -4,13 +4,13 @@ use Rattle.fb_gen.proofs.drawing.draw.Goals as goal
 
 pub from_rising-shot-requires : goal.from_rising-shot-requires
 from_rising-shot-requires c =
-    rw (found_as_defects _ _ _ _ _ _ _ c.in-Ok-real_flagged.ensures c.deref.ensures.value c.in-Ok.ensures.each c.draws.view_is)
+    rw (found_as_defects _ _ _ _ _ _ _ c.in_ok-defects.ensures c.deref.ensures.value c.in_ok-flags.ensures.each c.draws.view_is)
     (drawn_is_shot _ _)
 
 pub returns-clause-defects : goal.returns-clause-defects
 returns-clause-defects c =
     c.from_rising-shot.ensures
-    ∙ found_as_defects _ _ _ _ _ _ _ c.in-Ok-real_flagged.ensures c.deref.ensures.value c.in-Ok.ensures.each c.draws.view_is
+    ∙ found_as_defects _ _ _ _ _ _ _ c.in_ok-defects.ensures c.deref.ensures.value c.in_ok-flags.ensures.each c.draws.view_is
 
 pub returns-clause-edges : goal.returns-clause-edges
 returns-clause-edges c = drawn_edges _ _ _ _
@@ -18,9 +18,9 @@ returns-clause-edges c = drawn_edges _ _ _ _
 pub returns-clause-flips : goal.returns-clause-flips
 returns-clause-flips c =
     drawn_flips _ _ _ (c.from_rising-shot.ensures
-    ∙ found_as_defects _ _ _ _ _ _ _ c.in-Ok-real_flagged.ensures c.deref.ensures.value c.in-Ok.ensures.each c.draws.view_is)
+    ∙ found_as_defects _ _ _ _ _ _ _ c.in_ok-defects.ensures c.deref.ensures.value c.in_ok-flags.ensures.each c.draws.view_is)
 
 pub returns-clause-even : goal.returns-clause-even
 returns-clause-even c =
     drawn_even _ _ _ _ (c.from_rising-shot.ensures
-    ∙ found_as_defects _ _ _ _ _ _ _ c.in-Ok-real_flagged.ensures c.deref.ensures.value c.in-Ok.ensures.each c.draws.view_is)
+    ∙ found_as_defects _ _ _ _ _ _ _ c.in_ok-defects.ensures c.deref.ensures.value c.in_ok-flags.ensures.each c.draws.view_is)

@@ -4,7 +4,7 @@ use Rattle.fb_gen.proofs.Pairings.{turn_begins, turn_ends, turn_more}
 use Rattle.fb_gen.proofs.levels.all_fusions.Goals as goal
 
 pub loop-turn-init : goal.loop-turn-init
-loop-turn-init c = turn_begins _ _ _ c.new-fusions.ensures.items c.in-Ok.ensures
+loop-turn-init c = turn_begins _ _ _ c.new-fusions.ensures.items c.in_ok-level.ensures
 
 pub returns-then-len-lt2 : goal.returns-then-len-lt2
 returns-then-len-lt2 c =
@@ -15,9 +15,9 @@ pub loop-turn-preserved : goal.loop-turn-preserved
 loop-turn-preserved c =
     let next : c.args.units + c.len-in-loop-turn.result ≡ c.args.units + length c.loop-turn.fusions.items = omega arith in
     turn_more c.args.units c.loop-turn.turn (c.args.units + c.len-in-loop-turn.result) c.loop-turn.fusions.items
-    c.join_level.new.fusions.items c.loop-turn.level.items c.in-Ok-join_level.above.items c.loop-turn-test.true next
-    (c.in-Ok-join_level.ensures.fusions
+    c.join_level.new.fusions.items c.loop-turn.level.items c.in_ok-above.above.items c.loop-turn-test.true next
+    (c.in_ok-above.ensures.fusions
     ∙ ap (λ xs. c.loop-turn.fusions.items ++ fusions_of_level xs) c.deref.ensures.value)
-    (c.in-Ok-join_level.ensures.above
+    (c.in_ok-above.ensures.above
     ∙ ap (λ xs. level_above (c.args.units + c.len-in-loop-turn.result) xs) c.deref.ensures.value)
     c.loop-turn.invariant.0 c.loop-turn.invariant.1

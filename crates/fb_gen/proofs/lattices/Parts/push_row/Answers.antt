@@ -5,8 +5,8 @@ use Rattle.fb_gen.proofs.lattices.Parts.push_row.Goals as goal
 
 pub loop-column-preserved : goal.loop-column-preserved
 loop-column-preserved c = (
-  c.in-Ok-push_edges.ensures.edges
+  c.in_ok-push_edges.ensures.edges
       ∙ ap (λ xs. xs ++ edges_from c.args.size.distance c.args.size.rounds c.args.round c.args.row c.loop-column.column) c.loop-column.invariant.0
       ∙ sym (pieces_more c.push_virtuals.new.self.edges.items (edges_from c.args.size.distance c.args.size.rounds c.args.round c.args.row) c.loop-column.column),
-  c.in-Ok-push_edges.ensures.virtuals ∙ c.loop-column.invariant.1,
+  c.in_ok-push_edges.ensures.virtuals ∙ c.loop-column.invariant.1,
 )

@@ -7,5 +7,5 @@ pub loop-j-preserved : goal.loop-j-preserved
 loop-j-preserved c =
     pushed_more {X = Vec (ℕ × ℕ) Global} (λ ranges. ranges.items)
     (λ j. unit_range c.args.self.distance c.args.self.rounds c.args.self.units j ∷ []) c.loop-j.j c.loop-j.found.items
-    c.push.new.self.items c.in-Ok.ranges c.in-Ok-push.ensures.items c.loop-j.invariant
-    (c.in-Ok.ensures ∙ ap (λ range. range ∷ []) c.unit_range-range.ensures)
+    c.push.new.self.items c.in_ok-ranges.ranges c.in_ok-push.ensures.items c.loop-j.invariant
+    (c.in_ok-ranges.ensures ∙ ap (λ range. range ∷ []) c.unit_range-range.ensures)
