@@ -1,0 +1,4 @@
+pub mod InternalStandings
+pub mod Matchings
+pub mod Parts
+pub mod Translations
