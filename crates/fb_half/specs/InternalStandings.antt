@@ -24,6 +24,6 @@ IsStanding matches unmatched name (Matched i) = (i < length matches) × (is_in (
 -- Each name stands where the table says, and the table has an entry for each place.
 pub record AreStanding (matches : List Match) (unmatched : List ℕ) (table : List Standing) : Type 0 where
   pub true_to : (name : ℕ) → IsStanding matches unmatched name (standing_of table name)
-  pub open : (i : ℕ) → i < length unmatched → standing_of table (get_or unmatched i 0) ≡ Unmatched i
-  pub closed : (i name : ℕ) → i < length matches → is_in (names_of (match_at matches i)) name ≡ true
+  pub lone : (i : ℕ) → i < length unmatched → standing_of table (get_or unmatched i 0) ≡ Unmatched i
+  pub paired : (i name : ℕ) → i < length matches → is_in (names_of (match_at matches i)) name ≡ true
       → standing_of table name ≡ Matched i

@@ -2,3 +2,4 @@ pub mod InternalStandings
 pub mod Matchings
 pub mod Parts
 pub mod Translations
+pub mod Standings

@@ -1,8 +1,8 @@
 ghost use Rattle.std.specs.Prelude.{◌≡◌, ◌≢◌, ◌+◌, ◌<◌, ℕ, true, false, is_some, [], ◌∷◌, ◌++◌, length, map, IfOk, OnOk, OnErr, IfSome, Option, Some, None};
 ghost use Rattle.std.specs.List.Sorted.{IsPermutation};
 ghost use Rattle.fb_graph.specs.Parity.{is_in};
-ghost use Rattle.fb_half.specs.Matchings.{listed_names, match_links, names_of};
-ghost use Rattle.fb_half.specs.InternalStandings.{standing_of};
+ghost use Rattle.fb_half.specs.Matchings.{match_links, matched_names};
+ghost use Rattle.fb_half.specs.Standings.{is_matched, is_unmatched};
 
 use crate::matches::{Match, Standing};
 use fb_graph::NoMemory;
@@ -67,5 +67,16 @@ impl Matching {
         ensures { result.now ≡ self.now.unmatched }
     {
         self.unmatched.as_slice()
+    }
+
+    /// Where the matching lists the node.
+    pub fn standing(&self, name: NodeId) -> Standing
+        ensures unmatched { is_in self.now.unmatched name ≡ is_unmatched result }
+        ensures matched { is_in (matched_names self.now.matches) name ≡ is_matched result }
+    {
+        match self.standings.get(name as usize) {
+            Some(standing) => *standing,
+            None => Standing::Absent,
+        }
     }
 }
