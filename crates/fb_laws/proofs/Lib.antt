@@ -73,6 +73,7 @@ pub mod StateMoves
 pub mod StateOpenings
 pub mod StepBounds
 pub mod StepLengths
+pub mod StepLinks
 pub mod TreeCycles
 pub mod TreePaths
 pub mod UnmatchedNames

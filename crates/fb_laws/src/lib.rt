@@ -42,6 +42,7 @@ pub mod state_fusions;
 pub mod state_measures;
 pub mod state_moves;
 pub mod state_openings;
+pub mod step_links;
 pub mod steps;
 pub mod turns;
 pub mod unmatched;
