@@ -62,6 +62,7 @@ pub mod SearchEnds
 pub mod SearchStates
 pub mod SearchTrees
 pub mod Shifts
+pub mod SingleDefects
 pub mod SolvedNests
 pub mod SolvedParts
 pub mod SolvedRows

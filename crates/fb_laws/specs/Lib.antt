@@ -38,6 +38,7 @@ pub mod SearchOpenings
 pub mod SearchWitnesses
 pub mod Searches
 pub mod Signed
+pub mod SingleDefects
 pub mod StateBlossoms
 pub mod StateFusions
 pub mod StateMeasures
