@@ -73,6 +73,7 @@ pub mod StateFusions
 pub mod StateMeasures
 pub mod StateMoves
 pub mod StateOpenings
+pub mod StateOrders
 pub mod StepBounds
 pub mod StepLengths
 pub mod TreeCycles

@@ -43,6 +43,7 @@ pub mod StateFusions
 pub mod StateMeasures
 pub mod StateMoves
 pub mod StateOpenings
+pub mod StateOrders
 pub mod StateWitnesses
 pub mod TreeCycles
 pub mod TreeWitnesses
