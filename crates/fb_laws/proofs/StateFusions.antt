@@ -95,7 +95,7 @@ rings_same nodes some cycles more same rings =
     subst (IsRing (child_sets nodes n)) (sym (same n a))
     (All_among (λ m. IsRing (child_sets nodes m) (cycles m.name)) some rings n a))
 
-child_live : (p : Problem) (nodes : List Node) → IsNest p nodes → (n : Node) → IsAmong n nodes → (c : ℕ) → is_in n.children c ≡ true
+pub child_live : (p : Problem) (nodes : List Node) → IsNest p nodes → (n : Node) → IsAmong n nodes → (c : ℕ) → is_in n.children c ≡ true
     → is_live nodes c ≡ true
 child_live p nodes nest n a c child =
     is_in-All (λ x. is_live nodes x ≡ true) n.children
