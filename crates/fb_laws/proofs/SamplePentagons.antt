@@ -1,5 +1,5 @@
 -- A run of moves on a pentagon of defects, and two ends of a line.
-use Rattle.std.proofs.Common.{ℕ, ◌≡◌, ◌≢◌, ◌+◌, ◌%◌, ◌<◌, ◌⊎◌, inl, inr, true, false, List, [], ◌∷◌, ◌++◌, length, All, refl, sym, ◌∙◌, arith}
+use Rattle.std.proofs.Common.{ℕ, ◌≡◌, ◌≢◌, ◌+◌, ◌%◌, ◌<◌, ◌⊎◌, inl, inr, true, false, List, [], ◌∷◌, length, All, refl, sym, ◌∙◌, arith}
 use Rattle.std.proofs.lemmas.Bool.{both_ways, cases_Bool, false_from_ne_true}
 use Rattle.std.proofs.lemmas.List.Elements.{All-from_recursion, All-nil}
 use Rattle.std.proofs.lemmas.List.Sorted.{IsPermutation-append_comm, IsPermutation-refl}
@@ -14,19 +14,18 @@ use Rattle.fb_graph.specs.Ends.{ends_in}
 use Rattle.fb_graph.specs.Links.{IsTightLink, AreEven}
 use Rattle.fb_graph.specs.Moves.{MaySplit, blossom, split}
 use Rattle.fb_graph.specs.Nests.{child_sets}
-use Rattle.fb_graph.specs.Sprouts.{AreSprouts, Sprout, nodes_of}
+use Rattle.fb_graph.specs.Sprouts.{AreSprouts}
 use Rattle.fb_graph.proofs.Among.{among_right}
 use Rattle.fb_graph.proofs.BeginningNests.{sprouts_are_nest}
 use Rattle.fb_graph.proofs.Sets.{is_in-All}
 use Rattle.fb_graph.proofs.SourceWalks.{walks_begin}
 use Rattle.fb_graph.proofs.SproutStates.{sprouts_are_dual}
 use Rattle.fb_laws.specs.Fusion.{IsLinkOf}
-use Rattle.fb_laws.specs.NestedSearches.{IsNestedWork}
 use Rattle.fb_laws.specs.OpenedCycles.{IsOpenedCycle}
-use Rattle.fb_laws.specs.PartStates.{IsRing, AreCycles, IsPartState, IsSearchState, PartState, SearchState, all_cycle_links}
+use Rattle.fb_laws.specs.PartStates.{IsRing, IsPartState, IsSearchState, PartState}
 use Rattle.fb_laws.specs.Samples.{link}
 use Rattle.fb_laws.specs.StateBlossoms.{MayClose, joined_state}
-use Rattle.fb_laws.specs.StateMoves.{attached, ended, search_from}
+use Rattle.fb_laws.specs.StateMoves.{attached, search_from}
 use Rattle.fb_laws.specs.StateWitnesses.{ClosedStateWitness, OpenedStateWitness, pentagon, pentagon_sprouts, pentagon_leaves, first_branch, second_branch, two_branches, blossom_branch, inner_blossom, pentagon_links, pentagon_way, pentagon_couples}
 use Rattle.fb_laws.specs.TreeCycles.{ArePaths}
 use Rattle.fb_laws.specs.Trees.{Connects}

@@ -1,11 +1,11 @@
 -- A half-solved part keeps its whole state under other names.
-use Rattle.std.proofs.Common.{ℕ, ◌≡◌, inl, inr, Bool, true, false, List, [], ◌∷◌, ◌++◌, map, All, refl, sym, ap, ◌∙◌, subst, if◌then◌else◌}
+use Rattle.std.proofs.Common.{ℕ, ◌≡◌, inl, inr, true, List, [], ◌∷◌, ◌++◌, map, refl, sym, ap, ◌∙◌, subst, if◌then◌else◌}
 use Rattle.std.proofs.lemmas.List.Elements.{All-map}
 use Rattle.fb_graph.specs.Parity.{is_in}
 use Rattle.fb_graph.specs.Problem.{Problem}
 use Rattle.fb_graph.specs.Laws.{Link}
 use Rattle.fb_graph.specs.Dual.{Node, is_empty, is_live, top_at}
-use Rattle.fb_graph.specs.Nests.{IsNest, child_sets}
+use Rattle.fb_graph.specs.Nests.{child_sets}
 use Rattle.fb_graph.specs.RenamedNodes.{AreRenamedApart, renamed_node, renamed_nodes}
 use Rattle.fb_graph.proofs.Among.{IsAmong, All_among, among_All, among_live, live_among, map_among, top_among}
 use Rattle.fb_graph.proofs.RenamedNodes.{distinct_renamed, from_renamed, nest_renamed}

@@ -1,18 +1,17 @@
 -- What doesn't count in a half-solved part, and which of its unmatched nodes stay.
-use Rattle.std.proofs.Common.{ℕ, ◌≡◌, ◌+◌, ◌==◌, ◌&&◌, inl, not, cond, Bool, true, false, List, [], ◌∷◌, ◌++◌, map, get_or, refl, sym, ap, ◌∙◌, subst}
+use Rattle.std.proofs.Common.{ℕ, ◌≡◌, ◌+◌, ◌==◌, ◌&&◌, not, cond, Bool, true, false, List, [], ◌∷◌, ◌++◌, map, get_or, refl, sym, ap, ◌∙◌, subst}
 use Rattle.std.specs.List.Sorted.{IsPermutation}
 use Rattle.std.proofs.lemmas.Bool.{both_ways, eq-eqb, eqb-true, false_from_ne_true}
 use Rattle.fb_graph.specs.Parity.{is_in}
 use Rattle.fb_graph.specs.Problem.{Problem}
 use Rattle.fb_graph.specs.Laws.{Link}
 use Rattle.fb_graph.specs.Counts.{as_count}
-use Rattle.fb_graph.specs.Covers.{HaveParity}
 use Rattle.fb_graph.specs.Dual.{Node, is_live}
 use Rattle.fb_graph.specs.Ends.{ends_in}
 use Rattle.fb_graph.proofs.Among.{IsAmong, among_live}
-use Rattle.fb_graph.proofs.Sets.{is_in-All, is_in-filter, is_in-head, is_in-tail}
+use Rattle.fb_graph.proofs.Sets.{is_in-filter, is_in-head, is_in-tail}
 use Rattle.fb_laws.specs.Forming.{names_of}
-use Rattle.fb_laws.specs.PartStates.{AreCycles, AreLiveNames, all_cycle_links}
+use Rattle.fb_laws.specs.PartStates.{AreCycles, AreLiveNames}
 use Rattle.fb_laws.specs.SearchBlossoms.{renamed}
 use Rattle.fb_laws.specs.StateOrders.{PartReordered, SearchReordered, OthersStay, AgreeAt}
 use Rattle.fb_laws.specs.Trees.{paired_links}

@@ -1,6 +1,6 @@
 -- What doesn't count in a half-solved part: the order of its links and of its unmatched names, and links that are kept
 -- for names that no node has.
-use Rattle.std.specs.Prelude.{ℕ, ◌≡◌, true, List, ◌++◌, ◌∷◌, map, length, ◌≤◌, false}
+use Rattle.std.specs.Prelude.{ℕ, ◌≡◌, true, List, ◌∷◌, false}
 use Rattle.std.specs.List.Sorted.{IsPermutation}
 use Rattle.fb_graph.specs.Problem.{Problem}
 use Rattle.fb_graph.specs.Laws.{Link}

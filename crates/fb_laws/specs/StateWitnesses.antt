@@ -1,6 +1,6 @@
 -- That the premises of the laws on whole states can be met: in a pentagon of defects a link closes a cycle of two
 -- branches, and the blossom of its corners is opened with one couple beside the way; two ends of a line are fused.
-use Rattle.std.specs.Prelude.{ℕ, ◌≡◌, ◌==◌, List, [], ◌∷◌, ◌++◌}
+use Rattle.std.specs.Prelude.{◌==◌, List, [], ◌∷◌, ◌++◌}
 use Rattle.std.specs.List.Sorted.{IsPermutation}
 use Rattle.fb_graph.specs.Parity.{is_in}
 use Rattle.fb_graph.specs.Problem.{Problem}
