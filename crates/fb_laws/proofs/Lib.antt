@@ -47,10 +47,12 @@ pub mod SampleEnds
 pub mod SampleFusions
 pub mod SampleKites
 pub mod SampleLevels
+pub mod SampleLineEnds
 pub mod SampleNests
 pub mod SampleOpenedParts
 pub mod SampleOpenings
 pub mod SampleParts
+pub mod SamplePentagons
 pub mod SampleResolutions
 pub mod SampleSeamStates
 pub mod SampleSeams
@@ -71,7 +73,9 @@ pub mod StateBlossoms
 pub mod StateFusions
 pub mod StateMeasures
 pub mod StateMoves
+pub mod StateNames
 pub mod StateOpenings
+pub mod StateOrders
 pub mod StepBounds
 pub mod StepLengths
 pub mod StepLinks

@@ -43,8 +43,11 @@ pub mod StateBlossoms
 pub mod StateFusions
 pub mod StateMeasures
 pub mod StateMoves
+pub mod StateNames
 pub mod StateOpenings
 pub mod StepLinks
+pub mod StateOrders
+pub mod StateWitnesses
 pub mod TreeCycles
 pub mod TreeWitnesses
 pub mod Trees
