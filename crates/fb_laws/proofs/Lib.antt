@@ -71,6 +71,7 @@ pub mod StateFusions
 pub mod StateMeasures
 pub mod StateMoves
 pub mod StateOpenings
+pub mod StateRings
 pub mod StepBounds
 pub mod StepLengths
 pub mod TreeCycles

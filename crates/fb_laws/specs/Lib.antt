@@ -43,6 +43,7 @@ pub mod StateFusions
 pub mod StateMeasures
 pub mod StateMoves
 pub mod StateOpenings
+pub mod StateRings
 pub mod TreeCycles
 pub mod TreeWitnesses
 pub mod Trees
