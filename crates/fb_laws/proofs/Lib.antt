@@ -76,6 +76,7 @@ pub mod StateMoves
 pub mod StateNames
 pub mod StateOpenings
 pub mod StateOrders
+pub mod StateRings
 pub mod StepBounds
 pub mod StepLengths
 pub mod StepLinks

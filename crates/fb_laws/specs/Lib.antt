@@ -48,6 +48,7 @@ pub mod StateOpenings
 pub mod StepLinks
 pub mod StateOrders
 pub mod StateWitnesses
+pub mod StateRings
 pub mod TreeCycles
 pub mod TreeWitnesses
 pub mod Trees
