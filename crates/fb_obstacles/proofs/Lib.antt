@@ -1,2 +1,5 @@
 pub mod EdgeLooks
+pub mod EdgeScans
+pub mod LookLimits
+pub mod NodeLooks
 pub mod StoredEdges

@@ -5,8 +5,11 @@
 mod ends;
 mod looking;
 pub mod obstacle;
+mod scanning;
+pub mod shrinking;
 pub mod watching;
 
 pub use fb_regions::{NodeId, Role, Roles};
 pub use obstacle::Obstacle;
+pub use shrinking::MinusNodes;
 pub use watching::Watch;
