@@ -6,7 +6,7 @@ use Rattle.fb_graph.specs.Dual.{Node, IsDual}
 use Rattle.fb_graph.specs.Covers.{AreRoles}
 use Rattle.fb_regions.specs.declared.roles.Role.{Role}
 use Rattle.fb_obstacles.specs.declared.looking.Look.{Look}
-use Rattle.fb_obstacles.specs.Obstacles.{HavePlusParity, IsObstacle, roles_by}
+use Rattle.fb_obstacles.specs.Obstacles.{HavePlusParity, Obstructs, roles_by}
 use Rattle.fb_obstacles.specs.InternalLooks.{edge_look, both_looks, Limits, BearsStep}
 use Rattle.fb_obstacles.proofs.EdgeLooks.{edge_limits}
 use Rattle.fb_obstacles.proofs.LookLimits.{limits_more}
@@ -23,20 +23,20 @@ pub record IsSeen (p : Problem) (role_of : ℕ → Role) (nodes : List Node) (ks
 pub edges_more : (p : Problem) (role_of : ℕ → Role) (nodes : List Node) (ks : List ℕ) (i k : ℕ) (a b l : Look)
     → IsSeen p role_of nodes ks → i < length ks → k ≡ get_or ks i 0 → b ≡ edge_look p role_of nodes k → l ≡ both_looks a b
     → Limits (λ j. All (λ m. BearsStep (roles_by role_of) nodes j (edge_at p.edges m)) (take i ks))
-    (IsObstacle p (roles_by role_of) nodes) a
+    (Obstructs p (roles_by role_of) nodes) a
     → Limits (λ j. All (λ m. BearsStep (roles_by role_of) nodes j (edge_at p.edges m)) (take (i + 1) ks))
-    (IsObstacle p (roles_by role_of) nodes) l
+    (Obstructs p (roles_by role_of) nodes) l
 edges_more p role_of nodes ks i k a b l seen less is looked joined limits =
     let at : ℕ = get_or ks i 0 in
     let short : at < length p.edges = seen.within i 0 less in
     let (r, parity) = seen.parity in
     subst
     (Limits (λ j. All (λ m. BearsStep (roles_by role_of) nodes j (edge_at p.edges m)) (take (i + 1) ks))
-    (IsObstacle p (roles_by role_of) nodes))
+    (Obstructs p (roles_by role_of) nodes))
     (sym joined)
-    (limits_more (λ j m. BearsStep (roles_by role_of) nodes j (edge_at p.edges m)) (IsObstacle p (roles_by role_of) nodes)
+    (limits_more (λ j m. BearsStep (roles_by role_of) nodes j (edge_at p.edges m)) (Obstructs p (roles_by role_of) nodes)
     ks i a b less limits
     (subst
-    (Limits (λ j. BearsStep (roles_by role_of) nodes j (edge_at p.edges at)) (IsObstacle p (roles_by role_of) nodes))
+    (Limits (λ j. BearsStep (roles_by role_of) nodes j (edge_at p.edges at)) (Obstructs p (roles_by role_of) nodes))
     (sym (looked ∙ ap (edge_look p role_of nodes) is))
     (edge_limits p role_of nodes r at seen.dual seen.roles parity (seen.limits.each_edge at no_edge short).even short)))

@@ -1,3 +1,4 @@
+pub mod Conclusions
 pub mod EdgeLooks
 pub mod EdgeScans
 pub mod LookLimits

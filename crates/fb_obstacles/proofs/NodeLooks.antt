@@ -15,7 +15,7 @@ use Rattle.fb_regions.specs.Moves.{node_named}
 use Rattle.fb_obstacles.specs.declared.obstacle.Obstacle.TheVariants as obstacle
 use Rattle.fb_obstacles.specs.declared.looking.Look.{Look}
 use Rattle.fb_obstacles.specs.declared.looking.Look.TheVariants.{Within, Blocked}
-use Rattle.fb_obstacles.specs.Obstacles.{IsObstacle, ListsMinus}
+use Rattle.fb_obstacles.specs.Obstacles.{Obstructs, ListsMinus}
 use Rattle.fb_obstacles.specs.InternalLooks.{empty_layer, node_look, both_looks, Limits, BearsShrinking}
 use Rattle.fb_obstacles.proofs.LookLimits.{limits_more}
 
@@ -30,7 +30,7 @@ layers_named (n ∷ ns) name live = step (n.name == name) refl (layers_named ns 
     step false e rest = rest (ap (λ b. b || is_live ns name) (sym e) ∙ live)
 
 -- the node of a live name stands at some place, and has the name
-named_place : (nodes : List Node) (name : ℕ) → is_live nodes name ≡ true
+pub named_place : (nodes : List Node) (name : ℕ) → is_live nodes name ≡ true
     → (i : ℕ) × (i < length nodes) × (node_at nodes i ≡ node_named nodes name) × ((node_named nodes name).name ≡ name)
 named_place [] name live = absurd (false≢true live)
 named_place (n ∷ ns) name live = step (n.name == name) refl (named_place ns name)
@@ -55,7 +55,7 @@ named_only nodes name distinct =
 
 pub node_limits : (p : Problem) (roles : Roles) (nodes : List Node) (name : ℕ) → AreDistinct (map (λ n. n.name) nodes)
     → AreRoles roles nodes → is_live nodes name ≡ true → roles.is_minus name ≡ true
-    → Limits (λ j. BearsShrinking nodes j name) (IsObstacle p roles nodes) (node_look nodes name)
+    → Limits (λ j. BearsShrinking nodes j name) (Obstructs p roles nodes) (node_look nodes name)
 node_limits p roles nodes name distinct are live minus = step (n.top.value == 0) refl
   where
     n : Node
@@ -86,11 +86,11 @@ node_limits p roles nodes name distinct are live minus = step (n.top.value == 0)
     no_children [] e = refl
     no_children (c ∷ cs) e = absurd (false≢true e)
 
-    emptied : n.top.value ≡ 0 → IsObstacle p roles nodes (empty_layer nodes name)
+    emptied : n.top.value ≡ 0 → Obstructs p roles nodes (empty_layer nodes name)
     emptied zero_value = by_layers (nat_lt 1 (length (layers_at nodes name))) refl
       where
         by_children : length n.below ≡ 0 → (b : Bool) → is_empty n.children ≡ b
-            → IsObstacle p roles nodes (cond b (obstacle.ZeroMinus name) (obstacle.BlossomEmpty name))
+            → Obstructs p roles nodes (cond b (obstacle.ZeroMinus name) (obstacle.BlossomEmpty name))
         by_children low true childless = (
           minus,
           record {
@@ -111,7 +111,7 @@ node_limits p roles nodes name distinct are live minus = step (n.top.value == 0)
         )
 
         by_layers : (b : Bool) → nat_lt 1 (length (layers_at nodes name)) ≡ b
-            → IsObstacle p roles nodes
+            → Obstructs p roles nodes
             (cond b (obstacle.LayerEmpty name) (cond (is_empty n.children) (obstacle.ZeroMinus name) (obstacle.BlossomEmpty name)))
         by_layers true many = (
           minus,
@@ -124,7 +124,7 @@ node_limits p roles nodes name distinct are live minus = step (n.top.value == 0)
         by_layers false few = by_children (omega (arith, layers, ltb-false 1 (length (layers_at nodes name)) few)) (is_empty n.children) refl
 
     step : (b : Bool) → (n.top.value == 0) ≡ b
-        → Limits (λ j. BearsShrinking nodes j name) (IsObstacle p roles nodes) (cond b (Blocked (empty_layer nodes name)) (Within n.top.value))
+        → Limits (λ j. BearsShrinking nodes j name) (Obstructs p roles nodes) (cond b (Blocked (empty_layer nodes name)) (Within n.top.value))
     step true is = emptied (eqb-true n.top.value 0 is)
     step false is = (by (cases_eq n.top.value 0), λ j le. le, λ j le. le)
       where
@@ -155,12 +155,12 @@ shrinking_listed roles nodes names j lists allow k d less =
 pub minus_more : (p : Problem) (roles : Roles) (nodes : List Node) (names : List ℕ) (i name : ℕ) (a b l : Look)
     → AreDistinct (map (λ n. n.name) nodes) → AreRoles roles nodes → ListsMinus roles nodes names → i < length names
     → name ≡ get_or names i 0 → b ≡ node_look nodes name → l ≡ both_looks a b
-    → Limits (λ j. All (BearsShrinking nodes j) (take i names)) (IsObstacle p roles nodes) a
-    → Limits (λ j. All (BearsShrinking nodes j) (take (i + 1) names)) (IsObstacle p roles nodes) l
+    → Limits (λ j. All (BearsShrinking nodes j) (take i names)) (Obstructs p roles nodes) a
+    → Limits (λ j. All (BearsShrinking nodes j) (take (i + 1) names)) (Obstructs p roles nodes) l
 minus_more p roles nodes names i name a b l distinct are lists less is looked joined limits =
     let (live, minus) = lists.only i 0 less in
-    subst (Limits (λ j. All (BearsShrinking nodes j) (take (i + 1) names)) (IsObstacle p roles nodes)) (sym joined)
-    (limits_more (BearsShrinking nodes) (IsObstacle p roles nodes) names i a b less limits
-    (subst (Limits (λ j. BearsShrinking nodes j (get_or names i 0)) (IsObstacle p roles nodes))
+    subst (Limits (λ j. All (BearsShrinking nodes j) (take (i + 1) names)) (Obstructs p roles nodes)) (sym joined)
+    (limits_more (BearsShrinking nodes) (Obstructs p roles nodes) names i a b less limits
+    (subst (Limits (λ j. BearsShrinking nodes j (get_or names i 0)) (Obstructs p roles nodes))
     (sym (looked ∙ ap (node_look nodes) is))
     (node_limits p roles nodes (get_or names i 0) distinct are live minus)))

@@ -3,6 +3,7 @@
 #![tactic(auto)]
 
 mod ends;
+pub mod finding;
 mod looking;
 pub mod obstacle;
 mod scanning;
@@ -10,6 +11,7 @@ pub mod shrinking;
 pub mod watching;
 
 pub use fb_regions::{NodeId, Role, Roles};
+pub use finding::next_obstacle;
 pub use obstacle::Obstacle;
 pub use shrinking::MinusNodes;
 pub use watching::Watch;

@@ -1,7 +1,7 @@
 ghost use Rattle.std.specs.Prelude.{◌≡◌, ◌<◌, length, All};
 ghost use Rattle.fb_graph.specs.Problem.{edge_at};
 ghost use Rattle.fb_graph.specs.Covers.{AreRoles};
-ghost use Rattle.fb_obstacles.specs.Obstacles.{HavePlusParity, IsObstacle, roles_by};
+ghost use Rattle.fb_obstacles.specs.Obstacles.{HavePlusParity, Obstructs, roles_by};
 ghost use Rattle.fb_obstacles.specs.InternalLooks.{BearsStep, CountsLooked, Limits};
 
 use crate::Roles;
@@ -25,7 +25,7 @@ pub fn look_at_edges<S: Scope, R: Roles, L: Ledger>(
     requires within { All (λ k. k < length (S.problem scope.now).edges) watch.now.edges }
     ensures limits { Limits
         (λ j. All (λ k. BearsStep (roles_by (R.role_of roles.now)) regions.now.nodes j (edge_at (S.problem scope.now).edges k)) watch.now.edges)
-        (IsObstacle (S.problem scope.now) (roles_by (R.role_of roles.now)) regions.now.nodes) result }
+        (Obstructs (S.problem scope.now) (roles_by (R.role_of roles.now)) regions.now.nodes) result }
     ensures looks { CountsLooked result (length watch.now.edges) looks.old looks.new }
 {
     regions.keeps();

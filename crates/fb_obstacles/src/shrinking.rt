@@ -2,7 +2,7 @@ ghost use Rattle.std.specs.Prelude.{◌≡◌, ◌<◌, true, get_or, length, Al
 ghost use Rattle.fb_graph.specs.Problem.{Problem};
 ghost use Rattle.fb_graph.specs.Covers.{AreRoles};
 ghost use Rattle.fb_graph.specs.Dual.{is_live};
-ghost use Rattle.fb_obstacles.specs.Obstacles.{IsObstacle, ListsMinus, roles_by};
+ghost use Rattle.fb_obstacles.specs.Obstacles.{Obstructs, ListsMinus, roles_by};
 ghost use Rattle.fb_obstacles.specs.InternalLooks.{BearsShrinking, Limits, empty_layer, node_look};
 
 use crate::looking::Look;
@@ -58,7 +58,7 @@ pub fn look_at_minus<S: Scope, R: MinusNodes>(regions: &Regions<S>, roles: &R) -
     requires minus { ListsMinus (roles_by (R.role_of roles.now)) regions.now.nodes (R.minus_names roles.now) }
     ensures { (p : Problem) → Limits
         (λ j. All (BearsShrinking regions.now.nodes j) (R.minus_names roles.now))
-        (IsObstacle p (roles_by (R.role_of roles.now)) regions.now.nodes) result }
+        (Obstructs p (roles_by (R.role_of roles.now)) regions.now.nodes) result }
 {
     regions.keeps();
     let mut least = Look::Clear;

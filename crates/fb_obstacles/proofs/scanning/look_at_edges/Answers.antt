@@ -1,7 +1,7 @@
 use Rattle.std.proofs.Common.{◌+◌, length, get_or, take, All, ap, subst, arith}
 use Rattle.fb_graph.specs.Problem.{edge_at}
 use Rattle.fb_graph.specs.Dual.{IsDual}
-use Rattle.fb_obstacles.specs.Obstacles.{IsObstacle, roles_by}
+use Rattle.fb_obstacles.specs.Obstacles.{Obstructs, roles_by}
 use Rattle.fb_obstacles.specs.InternalLooks.{BearsStep}
 use Rattle.fb_obstacles.proofs.LookLimits.{limits_blocked, limits_whole}
 use Rattle.fb_obstacles.proofs.EdgeScans.{edges_more}
@@ -32,7 +32,7 @@ returns-in-Blocked-clause-limits g c =
     (take (c.loop-edge.edge-index + 1) c.args.watch.now.edges))
     (λ j. All (λ k. BearsStep (roles_by (g.R.Roles.role_of c.args.roles.now)) c.args.regions.now.nodes j (edge_at (g.S.Scope.problem c.args.scope.now).edges k))
     c.args.watch.now.edges)
-    (IsObstacle (g.S.Scope.problem c.args.scope.now) (roles_by (g.R.Roles.role_of c.args.roles.now)) c.args.regions.now.nodes) c.and-least.result
+    (Obstructs (g.S.Scope.problem c.args.scope.now) (roles_by (g.R.Roles.role_of c.args.roles.now)) c.args.regions.now.nodes) c.and-least.result
     c.in-Blocked.field-0 c.in-Blocked.is
     (edges_more (g.S.Scope.problem c.args.scope.now) (g.R.Roles.role_of c.args.roles.now) c.args.regions.now.nodes
     c.args.watch.now.edges c.loop-edge.edge-index (get_or c.edges-edge-items.result.now c.loop-edge.edge-index 0)
@@ -51,6 +51,6 @@ returns-in-Blocked-clause-limits g c =
 pub returns-clause-limits : goal.returns-clause-limits
 returns-clause-limits g c =
     limits_whole (λ j k. BearsStep (roles_by (g.R.Roles.role_of c.args.roles.now)) c.args.regions.now.nodes j (edge_at (g.S.Scope.problem c.args.scope.now).edges k))
-    (IsObstacle (g.S.Scope.problem c.args.scope.now) (roles_by (g.R.Roles.role_of c.args.roles.now)) c.args.regions.now.nodes)
+    (Obstructs (g.S.Scope.problem c.args.scope.now) (roles_by (g.R.Roles.role_of c.args.roles.now)) c.args.regions.now.nodes)
     c.args.watch.now.edges c.loop-edge.edge-index c.loop-edge.least
     (omega (arith, ap length c.edges-edge-items.ensures)) c.loop-edge.invariant.limits

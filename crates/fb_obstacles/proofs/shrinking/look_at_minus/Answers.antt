@@ -1,5 +1,5 @@
 use Rattle.std.proofs.Common.{◌+◌, take, All, arith}
-use Rattle.fb_obstacles.specs.Obstacles.{IsObstacle, roles_by}
+use Rattle.fb_obstacles.specs.Obstacles.{Obstructs, roles_by}
 use Rattle.fb_obstacles.specs.InternalLooks.{BearsShrinking}
 use Rattle.fb_obstacles.proofs.LookLimits.{limits_blocked, limits_whole}
 use Rattle.fb_obstacles.proofs.NodeLooks.{minus_more}
@@ -19,7 +19,7 @@ returns-in-Blocked g c p =
     (λ j. All (BearsShrinking c.args.regions.now.nodes j)
     (take (c.loop-place.place + 1) (g.R.MinusNodes.minus_names c.args.roles.now)))
     (λ j. All (BearsShrinking c.args.regions.now.nodes j) (g.R.MinusNodes.minus_names c.args.roles.now))
-    (IsObstacle p (roles_by (g.R.Roles.role_of c.args.roles.now)) c.args.regions.now.nodes) c.and-least.result
+    (Obstructs p (roles_by (g.R.Roles.role_of c.args.roles.now)) c.args.regions.now.nodes) c.and-least.result
     c.in-Blocked.field-0 c.in-Blocked.is
     (minus_more p (roles_by (g.R.Roles.role_of c.args.roles.now)) c.args.regions.now.nodes
     (g.R.MinusNodes.minus_names c.args.roles.now) c.loop-place.place c.minus_at.result c.loop-place.least
@@ -30,6 +30,6 @@ returns-in-Blocked g c p =
 pub returns : goal.returns
 returns g c p =
     limits_whole (BearsShrinking c.args.regions.now.nodes)
-    (IsObstacle p (roles_by (g.R.Roles.role_of c.args.roles.now)) c.args.regions.now.nodes)
+    (Obstructs p (roles_by (g.R.Roles.role_of c.args.roles.now)) c.args.regions.now.nodes)
     (g.R.MinusNodes.minus_names c.args.roles.now) c.loop-place.place c.loop-place.least
     (omega (arith, c.minus_count-place-end.ensures)) (c.loop-place.invariant p)
