@@ -6,6 +6,7 @@ ghost use Rattle.fb_graph.specs.Covers.{AreRoles};
 ghost use Rattle.fb_laws.specs.Lengths.{HasPlus};
 ghost use Rattle.fb_obstacles.specs.Obstacles.{CountsLooks, HavePlusParity, IsObstacle, IsWatched, ListsMinus, roles_by};
 
+use crate::ends::keeps_dual;
 use crate::looking::Look;
 use crate::obstacle::Obstacle;
 use crate::scanning::look_at_edges;
@@ -37,7 +38,7 @@ pub fn next_obstacle<S: Scope, R: MinusNodes, L: Ledger>(
     ensures obstacle { IsObstacle (S.problem scope.now) (roles_by (R.role_of roles.now)) regions.now.nodes result }
     ensures looks { CountsLooks result (length watch.now.edges) looks.old looks.new }
 {
-    regions.keeps();
+    keeps_dual(regions);
     let shrinking = look_at_minus(regions, roles);
     if let Look::Blocked(obstacle) = shrinking {
         return obstacle;

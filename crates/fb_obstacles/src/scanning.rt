@@ -5,6 +5,7 @@ ghost use Rattle.fb_obstacles.specs.Obstacles.{HavePlusParity, Obstructs, roles_
 ghost use Rattle.fb_obstacles.specs.InternalLooks.{BearsStep, CountsLooked, Limits};
 
 use crate::Roles;
+use crate::ends::keeps_dual;
 use crate::looking::{Look, look_over};
 use crate::watching::Watch;
 use fb_graph::{Scope, Steps};
@@ -28,7 +29,7 @@ pub fn look_at_edges<S: Scope, R: Roles, L: Ledger>(
         (Obstructs (S.problem scope.now) (roles_by (R.role_of roles.now)) regions.now.nodes) result }
     ensures looks { CountsLooked result (length watch.now.edges) looks.old looks.new }
 {
-    regions.keeps();
+    keeps_dual(regions);
     scope.limits();
     let mut least = Look::Clear;
     for edge in watch.edges() {

@@ -5,6 +5,7 @@ ghost use Rattle.fb_graph.specs.Dual.{is_live};
 ghost use Rattle.fb_obstacles.specs.Obstacles.{Obstructs, ListsMinus, roles_by};
 ghost use Rattle.fb_obstacles.specs.InternalLooks.{BearsShrinking, Limits, empty_layer, node_look};
 
+use crate::ends::keeps_dual;
 use crate::looking::Look;
 use crate::obstacle::Obstacle;
 use crate::{NodeId, Roles};
@@ -60,7 +61,7 @@ pub fn look_at_minus<S: Scope, R: MinusNodes>(regions: &Regions<S>, roles: &R) -
         (λ j. All (BearsShrinking regions.now.nodes j) (R.minus_names roles.now))
         (Obstructs p (roles_by (R.role_of roles.now)) regions.now.nodes) result }
 {
-    regions.keeps();
+    keeps_dual(regions);
     let mut least = Look::Clear;
     for place in 0..roles.minus_count() {
         least = least.and(look_at_node(roles.minus_at(place), regions));

@@ -21,12 +21,12 @@ returns-in-Blocked-clause-looks g c =
 
 pub unreachable-requires : goal.unreachable-requires
 unreachable-requires g c =
-    some_bound (g.S.Scope.problem c.args.scope.now) (roles_by (g.R.Roles.role_of c.args.roles.now)) c.args.regions.now.nodes (subst (λ s. IsDual (g.S.Scope.problem s) c.args.regions.now.nodes) c.requires.same c.keeps.ensures) c.requires.roles c.requires.plus c.requires.even
+    some_bound (g.S.Scope.problem c.args.scope.now) (roles_by (g.R.Roles.role_of c.args.roles.now)) c.args.regions.now.nodes (subst (λ s. IsDual (g.S.Scope.problem s) c.args.regions.now.nodes) c.requires.same c.keeps_dual.ensures) c.requires.roles c.requires.plus c.requires.even
     (subst (Limits (MayStep (g.S.Scope.problem c.args.scope.now) (roles_by (g.R.Roles.role_of c.args.roles.now)) c.args.regions.now.nodes) (Obstructs (g.S.Scope.problem c.args.scope.now) (roles_by (g.R.Roles.role_of c.args.roles.now)) c.args.regions.now.nodes))
     (sym c.and.ensures ∙ c.in-Clear.is)
     (looks_limit (g.S.Scope.problem c.args.scope.now) (roles_by (g.R.Roles.role_of c.args.roles.now)) c.args.regions.now.nodes
     (g.R.MinusNodes.minus_names c.args.roles.now) c.args.watch.now.edges c.look_at_minus-shrinking.result
-    c.look_at_edges.result (subst (λ s. IsDual (g.S.Scope.problem s) c.args.regions.now.nodes) c.requires.same c.keeps.ensures)
+    c.look_at_edges.result (subst (λ s. IsDual (g.S.Scope.problem s) c.args.regions.now.nodes) c.requires.same c.keeps_dual.ensures)
     c.requires.roles c.requires.minus c.requires.watched (c.look_at_minus-shrinking.ensures (g.S.Scope.problem c.args.scope.now))
     c.look_at_edges.ensures.limits))
 
@@ -36,7 +36,7 @@ returns-in-Blocked-and g c =
     (sym c.and.ensures ∙ c.in-Blocked-and.is)
     (looks_limit (g.S.Scope.problem c.args.scope.now) (roles_by (g.R.Roles.role_of c.args.roles.now)) c.args.regions.now.nodes
     (g.R.MinusNodes.minus_names c.args.roles.now) c.args.watch.now.edges c.look_at_minus-shrinking.result
-    c.look_at_edges.result (subst (λ s. IsDual (g.S.Scope.problem s) c.args.regions.now.nodes) c.requires.same c.keeps.ensures)
+    c.look_at_edges.result (subst (λ s. IsDual (g.S.Scope.problem s) c.args.regions.now.nodes) c.requires.same c.keeps_dual.ensures)
     c.requires.roles c.requires.minus c.requires.watched (c.look_at_minus-shrinking.ensures (g.S.Scope.problem c.args.scope.now))
     c.look_at_edges.ensures.limits) in
     let counted = looked_at_most c.look_at_edges.result (length c.args.watch.now.edges) c.args.looks.now c.look_at_edges.new.looks c.look_at_edges.ensures.looks in
@@ -48,12 +48,12 @@ returns-in-Blocked-and g c =
 
 pub returns-in-Within : goal.returns-in-Within
 returns-in-Within g c = record {
-  obstacle = bound_is_free (g.S.Scope.problem c.args.scope.now) (roles_by (g.R.Roles.role_of c.args.roles.now)) c.args.regions.now.nodes c.in-Within.length (subst (λ s. IsDual (g.S.Scope.problem s) c.args.regions.now.nodes) c.requires.same c.keeps.ensures) c.requires.roles
+  obstacle = bound_is_free (g.S.Scope.problem c.args.scope.now) (roles_by (g.R.Roles.role_of c.args.roles.now)) c.args.regions.now.nodes c.in-Within.length (subst (λ s. IsDual (g.S.Scope.problem s) c.args.regions.now.nodes) c.requires.same c.keeps_dual.ensures) c.requires.roles
       (subst (Limits (MayStep (g.S.Scope.problem c.args.scope.now) (roles_by (g.R.Roles.role_of c.args.roles.now)) c.args.regions.now.nodes) (Obstructs (g.S.Scope.problem c.args.scope.now) (roles_by (g.R.Roles.role_of c.args.roles.now)) c.args.regions.now.nodes))
       (sym c.and.ensures ∙ c.in-Within.is)
       (looks_limit (g.S.Scope.problem c.args.scope.now) (roles_by (g.R.Roles.role_of c.args.roles.now)) c.args.regions.now.nodes
       (g.R.MinusNodes.minus_names c.args.roles.now) c.args.watch.now.edges c.look_at_minus-shrinking.result
-      c.look_at_edges.result (subst (λ s. IsDual (g.S.Scope.problem s) c.args.regions.now.nodes) c.requires.same c.keeps.ensures)
+      c.look_at_edges.result (subst (λ s. IsDual (g.S.Scope.problem s) c.args.regions.now.nodes) c.requires.same c.keeps_dual.ensures)
       c.requires.roles c.requires.minus c.requires.watched (c.look_at_minus-shrinking.ensures (g.S.Scope.problem c.args.scope.now))
       c.look_at_edges.ensures.limits));
   looks = looked_at_all c.look_at_minus-shrinking.result c.look_at_edges.result c.in-Within.length (length c.args.watch.now.edges)

@@ -13,7 +13,7 @@ loop-edge-preserved g c = record {
       c.args.watch.now.edges c.loop-edge.edge-index (get_or c.edges-edge-items.result.now c.loop-edge.edge-index 0)
       c.loop-edge.least c.look_over.result c.and-least.result
       (record {
-        dual = subst (λ s. IsDual (g.S.Scope.problem s) c.args.regions.now.nodes) c.requires.same c.keeps.ensures;
+        dual = subst (λ s. IsDual (g.S.Scope.problem s) c.args.regions.now.nodes) c.requires.same c.keeps_dual.ensures;
         roles = c.requires.roles;
         parity = c.requires.parity;
         limits = c.limits.ensures;
@@ -38,7 +38,7 @@ returns-in-Blocked-clause-limits g c =
     c.args.watch.now.edges c.loop-edge.edge-index (get_or c.edges-edge-items.result.now c.loop-edge.edge-index 0)
     c.loop-edge.least c.look_over.result c.and-least.result
     (record {
-      dual = subst (λ s. IsDual (g.S.Scope.problem s) c.args.regions.now.nodes) c.requires.same c.keeps.ensures;
+      dual = subst (λ s. IsDual (g.S.Scope.problem s) c.args.regions.now.nodes) c.requires.same c.keeps_dual.ensures;
       roles = c.requires.roles;
       parity = c.requires.parity;
       limits = c.limits.ensures;

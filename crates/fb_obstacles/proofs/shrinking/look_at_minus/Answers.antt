@@ -9,7 +9,7 @@ pub loop-place-preserved : goal.loop-place-preserved
 loop-place-preserved g c p =
     minus_more p (roles_by (g.R.Roles.role_of c.args.roles.now)) c.args.regions.now.nodes
     (g.R.MinusNodes.minus_names c.args.roles.now) c.loop-place.place c.minus_at.result c.loop-place.least
-    c.look_at_node.result c.and-least.result c.keeps.ensures.names c.requires.roles c.requires.minus
+    c.look_at_node.result c.and-least.result c.keeps_dual.ensures.names c.requires.roles c.requires.minus
     (omega (arith, c.minus_count-place-end.ensures)) c.minus_at.ensures c.look_at_node.ensures c.and-least.ensures
     (c.loop-place.invariant p)
 
@@ -23,7 +23,7 @@ returns-in-Blocked g c p =
     c.in-Blocked.field-0 c.in-Blocked.is
     (minus_more p (roles_by (g.R.Roles.role_of c.args.roles.now)) c.args.regions.now.nodes
     (g.R.MinusNodes.minus_names c.args.roles.now) c.loop-place.place c.minus_at.result c.loop-place.least
-    c.look_at_node.result c.and-least.result c.keeps.ensures.names c.requires.roles c.requires.minus
+    c.look_at_node.result c.and-least.result c.keeps_dual.ensures.names c.requires.roles c.requires.minus
     (omega (arith, c.minus_count-place-end.ensures)) c.minus_at.ensures c.look_at_node.ensures c.and-least.ensures
     (c.loop-place.invariant p))
 
