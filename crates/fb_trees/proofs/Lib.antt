@@ -1,0 +1,4 @@
+pub mod Lookups
+pub mod Mapped
+pub mod Names
+pub mod Taken

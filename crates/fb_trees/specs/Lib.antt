@@ -1,8 +1,5 @@
 pub mod Branches
 pub mod InternalPlaces
-pub mod OpenedCycles
 pub mod Rooted
-pub mod SearchBlossoms
-pub mod TreeCycles
-pub mod Trees
+pub mod TreeLinks
 pub mod TreeSteps

@@ -3,8 +3,13 @@
 #![tactic(auto)]
 
 pub mod branch;
-pub mod places;
+pub mod laws;
+mod places;
+pub mod tree;
 
 pub use branch::Branch;
-pub use fb_links::{CycleStep, LinkId, Links, NoMemory, NodeId};
+pub use fb_graph::NoMemory;
+pub use fb_links::{CycleStep, LinkId, Links, NodeId};
 pub use fb_regions::{Role, Roles};
+pub use laws::{changes_by_number, links_by_number};
+pub use tree::Tree;

@@ -27,10 +27,7 @@ pub fn make_room(places: &mut Places) -> Result<(), NoMemory>
     ensures same { (name : ℕ) → get nat_eq places.new name ≡ get nat_eq places.old name }
     ensures room { OnOk result (2 ≤ spare places.new) }
 {
-    let Ok(()) = places.reserve(2) else {
-        return Err(NoMemory);
-    };
-    Ok(())
+    places.reserve(2)
 }
 
 /// Puts both nodes of the branch at the place. Takes no memory.
