@@ -1,8 +1,8 @@
 -- The branch of a node by its place, and the node's role by its branch.
-use Rattle.std.proofs.Common.{ℕ, ◌≡◌, ◌<◌, ◌+◌, ◌==◌, ◌||◌, ◌⊎◌, inl, inr, cond, Bool, true, false, List, [], ◌∷◌, ◌++◌, map, reverse, length, get_or, Option, Some, None, refl, sym, ap, ◌∙◌, subst, arith}
+use Rattle.std.proofs.Common.{ℕ, ◌≡◌, ◌<◌, ◌+◌, ◌-◌, ◌==◌, ◌||◌, ◌⊎◌, inl, inr, cond, Bool, true, false, List, [], ◌∷◌, ◌++◌, map, reverse, length, get_or, Option, Some, None, refl, sym, ap, ◌∙◌, subst, arith}
 use Rattle.std.specs.Option.{option_map}
 use Rattle.std.proofs.lemmas.Bool.{both_ways, false≢true, false_from_ne_true, cases_Bool, cases_eq, eq-eqb, ne_eqb, or_cases, or_left, or_parts, or_right, eqb-true, eqb-false}
-use Rattle.std.proofs.lemmas.List.{get_or_append_left, get_or_push, get_or-map, length-map, length-reverse, map-append, reverse-append, reverse-reverse}
+use Rattle.std.proofs.lemmas.List.{get_or_append_left, get_or_push, get_or-map, get_or-reverse, length-map, length-reverse, map-append, reverse-append, reverse-reverse}
 use Rattle.std.proofs.lemmas.Option.{none-some, same_Some}
 use Rattle.fb_graph.specs.Parity.{is_in}
 use Rattle.fb_graph.specs.Certificate.{AreDistinct}
@@ -12,7 +12,7 @@ use Rattle.fb_regions.specs.declared.roles.Role.TheVariants.{Plus, Minus, Out}
 use Rattle.fb_laws.specs.Trees.{EntryOf, minus_names, plus_names, tree_names}
 use Rattle.fb_trees.specs.declared.branch.Branch.{Branch}
 use Rattle.fb_trees.specs.Branches.{Grown, entries_of, entry_of}
-use Rattle.fb_trees.specs.Rooted.{role_in}
+use Rattle.fb_trees.specs.Rooted.{IsRooted, role_in}
 use Rattle.fb_trees.specs.InternalPlaces.{branch_at, place_of}
 use Rattle.fb_trees.proofs.Names.{exclusive_names, root_plus}
 
@@ -150,3 +150,51 @@ role_out t name none other =
     let is = no_branch_plus t.root t.branches name none in
     ap (λ b. cond b Minus Out) (sym is.1)
     ∙ ap (λ b. cond b Plus (cond (is_in (minus_names t.branches) name) Minus Out)) (sym (is.0 ∙ other))
+
+-- a node that is its branch's plus node is plus, and another one minus
+pub branch_plus : (root : ℕ) (es : List (EntryOf ℕ)) (name : ℕ) (e : EntryOf ℕ) → branch_at es name ≡ Some e → e.plus ≡ name
+    → is_in (plus_names root es) name ≡ true
+branch_plus root [] name e is same = absurd (none-some e is)
+branch_plus root (x ∷ xs) name e is same =
+    step (cases_Bool ((x.minus == name) || (x.plus == name))) (branch_plus root xs name e)
+  where
+    step : (((x.minus == name) || (x.plus == name)) ≡ true) ⊎ (((x.minus == name) || (x.plus == name)) ≡ false)
+        → (branch_at xs name ≡ Some e → e.plus ≡ name → is_in (plus_names root xs) name ≡ true)
+        → is_in (x.plus ∷ plus_names root xs) name ≡ true
+    step (inl h) rest =
+        let here : x ≡ e = same_Some x e (sym (ap (λ b. cond b (Some x) (branch_at xs name)) h) ∙ is) in
+        or_left (x.plus == name) (is_in (plus_names root xs) name) (eq-eqb x.plus name (ap (λ y. y.plus) here ∙ same))
+    step (inr h) rest =
+        is_in-tail x.plus (plus_names root xs) name (rest (sym (ap (λ b. cond b (Some x) (branch_at xs name)) h) ∙ is) same)
+
+pub branch_minus : (es : List (EntryOf ℕ)) (name : ℕ) (e : EntryOf ℕ) → branch_at es name ≡ Some e → (e.plus ≡ name → ⊥)
+    → (e.minus ≡ name) × (is_in (minus_names es) name ≡ true)
+branch_minus es name e is other = by (branch_nodes es name e is)
+  where
+    by : ((e.minus ≡ name) × (is_in (minus_names es) name ≡ true)) ⊎ ((e.plus ≡ name) × ((root : ℕ) → is_in (plus_names root es) name ≡ true))
+        → (e.minus ≡ name) × (is_in (minus_names es) name ≡ true)
+    by (inl minus) = minus
+    by (inr (same, plus)) = absurd (other same)
+
+pub role_of_plus : (t : Grown) (name : ℕ) (e : EntryOf ℕ) → Some e ≡ branch_at t.branches name → e.plus ≡ name → Plus ≡ role_in t name
+role_of_plus t name e is same = role_plus t name (branch_plus t.root t.branches name e (sym is) same)
+
+pub role_of_minus : (t : Grown) (name : ℕ) (e : EntryOf ℕ) → IsRooted t.root t.branches → Some e ≡ branch_at t.branches name
+    → (e.plus ≡ name → ⊥) → Minus ≡ role_in t name
+role_of_minus t name e rooted is other = role_minus t name rooted.names (branch_minus t.branches name e (sym is) other).1
+
+pub role_of_root : (t : Grown) (name : ℕ) → t.root ≡ name → Plus ≡ role_in t name
+role_of_root t name same =
+    role_plus t name (ap (is_in (plus_names t.root t.branches)) (sym same) ∙ root_plus t.root t.branches)
+
+pub role_of_none : (t : Grown) (name : ℕ) → None ≡ branch_at t.branches name → (t.root ≡ name → ⊥) → Out ≡ role_in t name
+role_of_none t name is other = role_out t name (sym is) (ne_eqb t.root name other)
+
+-- a branch by its place
+pub entry_from_last : (xs : List Branch) (place : ℕ) (b : Branch) → place < length xs → b ≡ get_or xs place b
+    → entry_of b ≡ get_or (entries_of xs) (length (entries_of xs) - 1 - place) (entry_of b)
+entry_from_last xs place b below is =
+    ap entry_of is
+    ∙ (sym (get_or-map entry_of xs place b (entry_of b) below)
+    ∙ (ap (λ l. get_or l place (entry_of b)) (sym (entries_back xs))
+    ∙ get_or-reverse (entries_of xs) place (entry_of b) (subst (λ n. place < n) (sym (length_entries xs)) below)))
