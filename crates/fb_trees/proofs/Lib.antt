@@ -1,4 +1,5 @@
 pub mod Lookups
 pub mod Mapped
 pub mod Names
+pub mod StepLists
 pub mod Taken

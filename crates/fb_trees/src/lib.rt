@@ -5,6 +5,7 @@
 pub mod branch;
 pub mod laws;
 mod places;
+mod steps;
 pub mod tree;
 
 pub use branch::Branch;
