@@ -10,7 +10,7 @@ use Rattle.fb_trees.specs.TreeLinks.{map_entry}
 use Rattle.fb_trees.proofs.Mapped.{minus_moved, names_moved, plus_moved}
 
 -- a link without steps, in the place of a number
-abbrev no_link : ℕ → Link
+abbrev pub no_link : ℕ → Link
 no_link n = record { from = n; to = n; walk = [] }
 
 abbrev linked : List (EntryOf ℕ) → List (EntryOf Link)

@@ -1,11 +1,13 @@
-ghost use Rattle.std.specs.Prelude.{◌≡◌, ◌≢◌, ◌+◌, ◌-◌, ◌<◌, ◌==◌, ℕ, true, false, length, get_or, IfOk, OnErr, OnOk};
+ghost use Rattle.std.specs.Prelude.{◌≡◌, ◌≢◌, ◌+◌, ◌-◌, ◌<◌, ◌==◌, ℕ, true, false, ◌++◌, map, length, get_or, IfOk, OnErr, OnOk};
 ghost use Rattle.std.specs.Option.{option_map};
-ghost use Rattle.fb_laws.specs.Trees.{plus_names, tree_names};
+ghost use Rattle.fb_laws.specs.Trees.{path_to};
 ghost use Rattle.fb_trees.specs.Branches.{Grown, entry_of};
 ghost use Rattle.fb_trees.specs.Rooted.{IsMinus, IsPlus, IsRooted, attached, bare, is_node, role_in};
+ghost use Rattle.fb_trees.specs.TreeSteps.{IsCycle, path_up, steps_up};
 ghost use Rattle.fb_trees.specs.InternalPlaces.{branch_at};
 
 use crate::places::{Places, make_room, put_branch};
+use crate::steps::{cycle_along, last_plus, push_step, push_up, shared_count};
 use crate::{Branch, CycleStep, LinkId, Links, NoMemory, NodeId, Role, Roles};
 use std::alloc::Global;
 use std::collections::HashMap;
@@ -118,6 +120,78 @@ impl Tree {
             Some(branch) => if branch.plus == node { Role::Plus } else { Role::Minus },
             None => if self.root == node { Role::Plus } else { Role::Out },
         }
+    }
+
+    /// The nodes from a node of the tree up, each with the link to its parent. The root is not listed.
+    pub fn path_to_root(&self, alloc: Global, node: NodeId) -> Result<Vec<CycleStep>, NoMemory>
+        requires { is_node self.now node ≡ true }
+        ensures { IfOk result (λ path. path.items ≡ path_up self.now node) }
+    {
+        let mut path = Vec::new(alloc);
+        match self.branch_of(node) {
+            Some(branch) if branch.minus == node => {
+                push_step(&mut path, node, branch.tree)?;
+                self.push_path(alloc, branch.parent, &mut path)?;
+                Ok(path)
+            }
+            _ => {
+                self.push_path(alloc, node, &mut path)?;
+                Ok(path)
+            }
+        }
+    }
+
+    /// The cycle that a link between the plus nodes a and b closes, from its base on, where the paths to the two part.
+    /// Each step's link leads to the next step's node, that of the last one back to the base.
+    pub fn cycle_of(
+        &self,
+        alloc: Global,
+        a: NodeId,
+        b: NodeId,
+        closing: LinkId,
+        _links: &Links,
+    ) -> Result<Vec<CycleStep>, NoMemory>
+        requires first { IsPlus self.now a }
+        requires second { IsPlus self.now b }
+        requires apart { a ≢ b }
+        ensures { IfOk result (λ cycle. IsCycle self.now a b closing cycle.items) }
+    {
+        let up = self.branches_to(alloc, a)?;
+        let down = self.branches_to(alloc, b)?;
+        let shared = shared_count(&up, &down);
+        let (shared_up, up) = up.split_at(shared);
+        let (_shared_down, down) = down.split_at(shared);
+        cycle_along(alloc, last_plus(self.root, shared_up), up, closing, down)
+    }
+
+    /// Adds the nodes from the plus node up, each with the link to its parent.
+    fn push_path(
+        &self,
+        alloc: Global,
+        plus: NodeId,
+        steps: &mut Vec<CycleStep>,
+    ) -> Result<(), NoMemory>
+        requires { IsPlus self.now plus }
+        ensures { OnOk result (steps.new.items ≡ steps.old.items ++ steps_up (path_to self.now.branches plus)) }
+    {
+        let path = self.branches_to(alloc, plus)?;
+        push_up(steps, &path)
+    }
+
+    /// The branches from the root to the plus node, the one at the root first.
+    fn branches_to(&self, alloc: Global, plus: NodeId) -> Result<Vec<Branch>, NoMemory>
+        requires { IsPlus self.now plus }
+        ensures path { IfOk result (λ path. map entry_of path.items ≡ path_to self.now.branches plus) }
+        ensures kept { IsRooted self.now.root self.now.branches }
+    {
+        let mut path = Vec::new(alloc);
+        let mut node = plus;
+        while let Some(branch) = self.branch_of(node) {
+            path.push(branch)?;
+            node = branch.parent;
+        }
+        path.reverse();
+        Ok(path)
     }
 
     /// The branch of the node. The root has none.
