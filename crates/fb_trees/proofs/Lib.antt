@@ -2,5 +2,6 @@ pub mod Lookups
 pub mod Mapped
 pub mod Names
 pub mod Paths
+pub mod Replacing
 pub mod StepLists
 pub mod Taken

@@ -1,6 +1,7 @@
 pub mod Branches
 pub mod InternalPaths
 pub mod InternalPlaces
+pub mod Replacements
 pub mod Rooted
 pub mod TreeLinks
 pub mod TreeSteps
