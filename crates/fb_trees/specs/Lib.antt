@@ -1,4 +1,5 @@
 pub mod Branches
+pub mod InternalNames
 pub mod InternalPaths
 pub mod InternalPlaces
 pub mod Replacements

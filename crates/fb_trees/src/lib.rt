@@ -3,6 +3,7 @@
 #![tactic(auto)]
 
 pub mod branch;
+mod changes;
 pub mod laws;
 mod places;
 mod steps;
