@@ -3,6 +3,7 @@ pub mod Mapped
 pub mod Names
 pub mod Opening
 pub mod Paths
+pub mod Replaced
 pub mod Replacing
 pub mod StepLists
 pub mod Taken

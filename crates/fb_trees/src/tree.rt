@@ -1,12 +1,14 @@
 ghost use Rattle.std.specs.Prelude.{◌≡◌, ◌≢◌, ◌+◌, ◌-◌, ◌<◌, ◌==◌, ℕ, true, false, ◌++◌, map, length, get_or, IfOk, OnErr, OnOk};
 ghost use Rattle.std.specs.Option.{option_map};
 ghost use Rattle.fb_laws.specs.Trees.{path_to};
-ghost use Rattle.fb_trees.specs.Branches.{Grown, entry_of};
+ghost use Rattle.fb_trees.specs.Branches.{Grown, entries_of, entry_of};
 ghost use Rattle.fb_trees.specs.Rooted.{IsMinus, IsPlus, IsRooted, attached, bare, is_node, role_in};
+ghost use Rattle.fb_trees.specs.Replacements.{IsOpened, IsReplaced, MayJoin, MayOpen, MayReplace, joined};
 ghost use Rattle.fb_trees.specs.TreeSteps.{IsCycle, path_up, steps_up};
 ghost use Rattle.fb_trees.specs.InternalPlaces.{branch_at};
 
-use crate::places::{Places, make_room, put_branch};
+use crate::changes::{joined_branches, names_of, opened_branches, renamed};
+use crate::places::{Places, make_room, places_of, put_branch};
 use crate::steps::{cycle_along, last_plus, push_step, push_up, shared_count};
 use crate::{Branch, CycleStep, LinkId, Links, NoMemory, NodeId, Role, Roles};
 use std::alloc::Global;
@@ -176,6 +178,70 @@ impl Tree {
     {
         let path = self.branches_to(alloc, plus)?;
         push_up(steps, &path)
+    }
+
+    /// Takes the nodes of `gone` out of the tree and puts those of `path` in their place. For a blossom formed of a
+    /// cycle, `gone` is the cycle's nodes and `path` is the blossom. For a minus blossom opened, `gone` is the blossom,
+    /// and `path` leads over its children from the one at which the link of the tree ends to the one at which the matched
+    /// link ends: each step's link leads to the next child, and the last step's is not read.
+    ///
+    /// Takes time for each branch of the tree.
+    pub fn replace(
+        &mut self,
+        alloc: Global,
+        gone: &[NodeId],
+        path: &[CycleStep],
+        _links: &Links,
+    ) -> Result<(), NoMemory>
+        requires { MayReplace self.old gone.now path.now }
+        ensures ok { OnOk result (IsReplaced self.old gone.now path.now self.new) }
+        ensures err { OnErr result (self.new ≡ self.old) }
+    {
+        match (gone, path) {
+            ([blossom], _) => self.open(alloc, *blossom, path),
+            ([_, _, ..], [blossom]) => self.join(alloc, gone, blossom.node),
+            _ => unreachable!(),
+        }
+    }
+
+    /// Puts the blossom in the place of the nodes.
+    fn join(&mut self, alloc: Global, gone: &[NodeId], blossom: NodeId) -> Result<(), NoMemory>
+        requires { MayJoin self.old gone.now blossom }
+        ensures ok { OnOk result (self.new ≡ joined self.old gone.now blossom) }
+        ensures err { OnErr result (self.new ≡ self.old) }
+    {
+        let inside = names_of(alloc, gone)?;
+        let branches = joined_branches(alloc, &self.branches, &inside, blossom)?;
+        let root = renamed(self.root, &inside, blossom);
+        *self = Tree::of(alloc, root, branches)?;
+        Ok(())
+    }
+
+    /// Puts the nodes of the path in the place of the minus node.
+    fn open(&mut self, alloc: Global, blossom: NodeId, path: &[CycleStep]) -> Result<(), NoMemory>
+        requires { MayOpen self.old blossom path.now }
+        ensures ok { OnOk result (IsOpened self.old blossom path.now self.new) }
+        ensures err { OnErr result (self.new ≡ self.old) }
+    {
+        let Some(place) = self.places.get(&blossom) else {
+            unreachable!()
+        };
+        let branches = opened_branches(alloc, &self.branches, *place, path)?;
+        *self = Tree::of(alloc, self.root, branches)?;
+        Ok(())
+    }
+
+    /// The tree of these branches, the oldest one first.
+    fn of(alloc: Global, root: NodeId, branches: Vec<Branch>) -> Result<Tree, NoMemory>
+        requires { IsRooted root (entries_of branches.items) }
+        ensures { IfOk result (λ tree. tree ≡ record { root = root; branches = entries_of branches.items }) }
+    {
+        let places = places_of(alloc, &branches)?;
+        Ok(Tree {
+            root,
+            branches,
+            places,
+        })
     }
 
     /// The branches from the root to the plus node, the one at the root first.
