@@ -1,5 +1,5 @@
 -- The branch of a node by its place, and the node's role by its branch.
-use Rattle.std.proofs.Common.{ℕ, ◌≡◌, ◌<◌, ◌+◌, ◌-◌, ◌==◌, ◌||◌, ◌⊎◌, inl, inr, cond, Bool, true, false, List, [], ◌∷◌, ◌++◌, map, reverse, length, get_or, Option, Some, None, refl, sym, ap, ◌∙◌, subst, arith}
+use Rattle.std.proofs.Common.{ℕ, ◌≡◌, ◌<◌, ◌+◌, ◌-◌, ◌==◌, ◌||◌, ◌⊎◌, ◌↔◌, inl, inr, cond, Bool, true, false, List, [], ◌∷◌, ◌++◌, map, reverse, length, get_or, Option, Some, None, refl, sym, ap, ◌∙◌, subst, arith}
 use Rattle.std.specs.Option.{option_map}
 use Rattle.std.proofs.lemmas.Bool.{both_ways, false≢true, false_from_ne_true, cases_Bool, cases_eq, eq-eqb, ne_eqb, or_cases, or_left, or_parts, or_right, eqb-true, eqb-false}
 use Rattle.std.proofs.lemmas.List.{get_or_append_left, get_or_push, get_or-map, get_or-reverse, length-map, length-reverse, map-append, reverse-append, reverse-reverse}
@@ -190,11 +190,37 @@ role_of_root t name same =
 pub role_of_none : (t : Grown) (name : ℕ) → None ≡ branch_at t.branches name → (t.root ≡ name → ⊥) → Out ≡ role_in t name
 role_of_none t name is other = role_out t name (sym is) (ne_eqb t.root name other)
 
--- a branch by its place
-pub entry_from_last : (xs : List Branch) (place : ℕ) (b : Branch) → place < length xs → b ≡ get_or xs place b
-    → entry_of b ≡ get_or (entries_of xs) (length (entries_of xs) - 1 - place) (entry_of b)
-entry_from_last xs place b below is =
-    ap entry_of is
-    ∙ (sym (get_or-map entry_of xs place b (entry_of b) below)
-    ∙ (ap (λ l. get_or l place (entry_of b)) (sym (entries_back xs))
-    ∙ get_or-reverse (entries_of xs) place (entry_of b) (subst (λ n. place < n) (sym (length_entries xs)) below)))
+-- a role tells which of the names a node's is
+pub plus_role : (t : Grown) (name : ℕ) (names : List ℕ) → names ≡ plus_names t.root t.branches
+    → (role_in t name ≡ Plus) ↔ (is_in names name ≡ true)
+plus_role t name names are = (
+  λ role. ap (λ l. is_in l name) are ∙ there (cases_Bool (is_in (plus_names t.root t.branches) name)) role,
+  λ among. sym (role_plus t name (ap (λ l. is_in l name) (sym are) ∙ among)),
+)
+  where
+    there : (is_in (plus_names t.root t.branches) name ≡ true) ⊎ (is_in (plus_names t.root t.branches) name ≡ false)
+        → role_in t name ≡ Plus → is_in (plus_names t.root t.branches) name ≡ true
+    there (inl h) role = h
+    there (inr h) role =
+        absurd (other (is_in (minus_names t.branches) name)
+        (sym (ap (λ b. cond b Plus (cond (is_in (minus_names t.branches) name) Minus Out)) h) ∙ role))
+      where
+        other : (b : Bool) → cond b Minus Out ≡ Plus → ⊥
+        other true same = cc
+        other false same = cc
+
+pub minus_role : (t : Grown) (name : ℕ) → IsRooted t.root t.branches → (names : List ℕ) → names ≡ minus_names t.branches
+    → (role_in t name ≡ Minus) ↔ (is_in names name ≡ true)
+minus_role t name rooted names are = (
+  λ role. ap (λ l. is_in l name) are ∙ there (is_in (plus_names t.root t.branches) name) (cases_Bool (is_in (minus_names t.branches) name)) role,
+  λ among. sym (role_minus t name rooted.names (ap (λ l. is_in l name) (sym are) ∙ among)),
+)
+  where
+    there : (p : Bool) → (is_in (minus_names t.branches) name ≡ true) ⊎ (is_in (minus_names t.branches) name ≡ false)
+        → cond p Plus (cond (is_in (minus_names t.branches) name) Minus Out) ≡ Minus → is_in (minus_names t.branches) name ≡ true
+    there p (inl h) role = h
+    there p (inr h) role = absurd (other p (sym (ap (λ b. cond p Plus (cond b Minus Out)) h) ∙ role))
+      where
+        other : (b : Bool) → cond b Plus Out ≡ Minus → ⊥
+        other true same = cc
+        other false same = cc

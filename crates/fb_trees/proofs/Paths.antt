@@ -189,8 +189,7 @@ pub parted : (root : ℕ) (tree : List (EntryOf ℕ)) (a b : ℕ) → AreDistinc
     → (shared : List (EntryOf ℕ)) × (up : List (EntryOf ℕ)) × (down : List (EntryOf ℕ)) × ArePaths tree a b shared up down
 parted root tree a b distinct =
     let (shared, up, down, are) =
-    paths_part (map (map_entry no_link) tree) root a b (subst AreDistinct (sym (names_moved no_link root tree)) distinct) in
-    (
+    paths_part (map (map_entry no_link) tree) root a b (subst AreDistinct (sym (names_moved no_link root tree)) distinct) in (
       map (map_entry back) shared,
       map (map_entry back) up,
       map (map_entry back) down,

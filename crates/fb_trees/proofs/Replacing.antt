@@ -251,7 +251,7 @@ laid_in root [] older e from way rooted distinct new =
       names = rooted.names.1.1;
       distinct = distinct;
       new = λ n among. (or_parts (e.plus == n) (is_in (tree_names root older) n)
-      (or_parts (e.minus == n) (is_in (e.plus ∷ tree_names root older) n) (new n among)).1).1;
+          (or_parts (e.minus == n) (is_in (e.plus ∷ tree_names root older) n) (new n among)).1).1;
       plus_new = rooted.names.1.0;
       plus_apart = false_from_ne_true (is_in (nodes_on from way) e.plus)
           (λ among.

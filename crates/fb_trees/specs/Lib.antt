@@ -2,6 +2,7 @@ pub mod Branches
 pub mod InternalNames
 pub mod InternalPaths
 pub mod InternalPlaces
+pub mod InternalSamples
 pub mod Replacements
 pub mod Rooted
 pub mod TreeLinks

@@ -1,13 +1,14 @@
 -- A tree with the numbers of its links, and the same tree with the links themselves. What is read of the one and what
 -- is done with it agree with the other.
-use Rattle.std.specs.Prelude.{ℕ, ◌≡◌, Bool, List, ◌++◌, map, true}
+use Rattle.std.specs.Prelude.{ℕ, ◌≡◌, ◌↔◌, true, Bool, List, map}
 use Rattle.fb_graph.specs.Laws.{Link}
-use Rattle.fb_graph.specs.Parity.{is_in}
-use Rattle.fb_laws.specs.Trees.{EntryOf, beside, grown_links, minus_names, paired_links, path_to, plus_names, tree_names}
+use Rattle.fb_laws.specs.Trees.{EntryOf, beside, grown_links, minus_names, paired_links, path_to, plus_names, roles_of, tree_names}
 use Rattle.fb_laws.specs.TreeCycles.{ArePaths, cycle_links, cycle_nodes, last_plus}
 use Rattle.fb_laws.specs.SearchBlossoms.{AreBranches, joined_tree}
 use Rattle.fb_laws.specs.OpenedCycles.{PassOf, grown_on, last_of, matched_on, opened_tree, paired_on}
-use Rattle.fb_trees.specs.Rooted.{AreTakenIn}
+use Rattle.fb_regions.specs.declared.roles.Role.TheVariants.{Plus, Minus}
+use Rattle.fb_trees.specs.Branches.{Grown}
+use Rattle.fb_trees.specs.Rooted.{AreTakenIn, IsRooted, role_in}
 
 -- the branch with its links in another form
 abbrev pub map_entry : {L M : Type 0} → (L → M) → EntryOf L → EntryOf M
@@ -26,6 +27,11 @@ pub record NamesAgree (f : ℕ → Link) (tree : List (EntryOf ℕ)) : Type 0 wh
 
 abbrev pub NamesKept : Type 0
 NamesKept = (f : ℕ → Link) (tree : List (EntryOf ℕ)) → NamesAgree f tree
+
+abbrev pub RolesKept : Type 0
+RolesKept = (f : ℕ → Link) (t : Grown) (name : ℕ) → IsRooted t.root t.branches
+    → ((role_in t name ≡ Plus) ↔ ((roles_of t.root (map (map_entry f) t.branches)).is_plus name ≡ true))
+    × ((role_in t name ≡ Minus) ↔ ((roles_of t.root (map (map_entry f) t.branches)).is_minus name ≡ true))
 
 -- So are the path to a node, the branches beside it, and the cycle of two paths.
 abbrev pub PathsKept : Type 0

@@ -1,10 +1,11 @@
 //! What follows from the definitions alone. Each function does nothing: its clauses are the law.
 
-ghost use Rattle.fb_trees.specs.TreeLinks.{NamesKept, PathsKept, PartingKept, CyclesKept, JoinedKept, TakenKept, OpenedKept, WaysKept};
+ghost use Rattle.fb_trees.specs.TreeLinks.{NamesKept, RolesKept, PathsKept, PartingKept, CyclesKept, JoinedKept, TakenKept, OpenedKept, WaysKept};
 
-/// A tree with the numbers of its links has the same nodes, paths and cycles as the one with the links themselves.
+/// A tree with the numbers of its links has the same nodes and roles, paths and cycles as the one with the links themselves.
 pub fn links_by_number()
     ensures names { NamesKept }
+    ensures roles { RolesKept }
     ensures paths { PathsKept }
     ensures parting { PartingKept }
     ensures cycles { CyclesKept }

@@ -1,8 +1,8 @@
-ghost use Rattle.std.specs.Prelude.{◌≡◌, ◌≢◌, ◌+◌, ◌-◌, ◌<◌, ◌==◌, ℕ, true, false, ◌++◌, map, length, get_or, IfOk, OnErr, OnOk};
+ghost use Rattle.std.specs.Prelude.{◌≡◌, ◌≢◌, ◌++◌, ℕ, true, false, map, IfOk, OnErr, OnOk};
 ghost use Rattle.std.specs.Option.{option_map};
 ghost use Rattle.fb_laws.specs.Trees.{path_to};
 ghost use Rattle.fb_trees.specs.Branches.{Grown, entries_of, entry_of};
-ghost use Rattle.fb_trees.specs.Rooted.{IsMinus, IsPlus, IsRooted, attached, bare, is_node, role_in};
+ghost use Rattle.fb_trees.specs.Rooted.{IsPlus, IsRooted, attached, bare, is_node, role_in};
 ghost use Rattle.fb_trees.specs.Replacements.{IsOpened, IsReplaced, MayJoin, MayOpen, MayReplace, joined};
 ghost use Rattle.fb_trees.specs.TreeSteps.{IsCycle, path_up, steps_up};
 ghost use Rattle.fb_trees.specs.InternalPlaces.{branch_at};
@@ -98,20 +98,11 @@ impl Tree {
         self.root
     }
 
-    /// The number of branches.
-    pub fn len(&self) -> usize
-        ensures { result ≡ length self.now.branches }
+    /// The branches, the oldest one first. The tree's nodes are its root, a plus node, and those of its branches.
+    pub fn branches(&self) -> &[Branch]
+        ensures { entries_of result.now ≡ self.now.branches }
     {
-        self.branches.len()
-    }
-
-    /// The branch at the place, the oldest one at 0. The tree's minus and plus nodes are those of its branches, and its
-    /// root is a plus node.
-    pub fn branch_at(&self, place: usize) -> Branch
-        requires { place < length self.now.branches }
-        ensures { entry_of result ≡ get_or self.now.branches (length self.now.branches - 1 - place) (entry_of result) }
-    {
-        self.branches[place]
+        &self.branches
     }
 
     /// The role of the node; `Out` if it is not in the tree.
@@ -119,8 +110,16 @@ impl Tree {
         ensures { result ≡ role_in self.now node }
     {
         match self.branch_of(node) {
-            Some(branch) => if branch.plus == node { Role::Plus } else { Role::Minus },
-            None => if self.root == node { Role::Plus } else { Role::Out },
+            Some(branch) => if branch.plus == node {
+                Role::Plus
+            } else {
+                Role::Minus
+            },
+            None => if self.root == node {
+                Role::Plus
+            } else {
+                Role::Out
+            },
         }
     }
 

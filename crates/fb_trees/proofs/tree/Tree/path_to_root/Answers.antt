@@ -15,7 +15,7 @@ push_path-requires c =
 pub push_path-requires-in_default : goal.push_path-requires-in_default
 push_path-requires-in_default c =
     elim c.in_default.branch [
-      in_default-via-in-Some+else-branch-node w ↦
+      | in_default-via-in-Some+else-branch-node w ↦
           plus_beside_minus c.args.self.now c.args.node w.in-Some.branch w.in-Some.ensures.branch w.if-branch-node.false
       | in_default-via-in_default w ↦ plus_without_branch c.args.self.now c.args.node c.requires w.in_default.ensures.branch
     ]
@@ -31,7 +31,7 @@ pub returns-in_ok-push_path-in_default : goal.returns-in_ok-push_path-in_default
 returns-in_ok-push_path-in_default c =
     let plus : IsPlus c.args.self.now c.args.node =
     elim c.in_default.branch [
-      in_default-via-in-Some+else-branch-node w ↦
+      | in_default-via-in-Some+else-branch-node w ↦
           plus_beside_minus c.args.self.now c.args.node w.in-Some.branch w.in-Some.ensures.branch w.if-branch-node.false
       | in_default-via-in_default w ↦ plus_without_branch c.args.self.now c.args.node c.requires w.in_default.ensures.branch
     ] in
