@@ -10,12 +10,11 @@ use Rattle.fb_links.specs.Table.{link_at, walk_at}
 use Rattle.fb_links.specs.Table as table
 use Rattle.fb_blossoms.specs.Nodes.{Adds, AreDistinct, AreOuter, AreWithin, IsNested, IsOddCycle, IsOuter, Node, TakesOff, blossom, cycle_at, cycle_of, defects_at, defects_of, is_in, is_on, leaf, node_at}
 use Rattle.fb_blossoms.specs.Nodes as nodes_spec
-use Rattle.fb_blossoms.specs.Links.{AreLinked, IsLinkBetween, joins, next_place, step_at}
-use Rattle.fb_blossoms.specs.Paths.{AllLinked}
-use Rattle.fb_blossoms.specs.Fixture.{AreKept, AreSteps, AreTops, IsFixture, IsStep, IsTop, edge_walk, part_at}
+use Rattle.fb_blossoms.specs.Links.{AllLinked, AreLinked, IsLinkBetween, joins, next_place, step_at}
+use Rattle.fb_blossoms.specs.InternalFixture.{AreKept, AreSteps, AreTops, IsFixture, IsStep, IsTop, edge_walk, part_at}
 use Rattle.fb_blossoms.proofs.Climbs.{none_some}
 use Rattle.fb_blossoms.proofs.Nested.{is_in-one, one_in}
-use Rattle.fb_blossoms.proofs.Rounds.{step_on}
+use Rattle.fb_blossoms.proofs.Rounds.{on_place, step_on}
 
 -- a node that holds a defect is live
 pub holding_live : (nodes : List (Option Node)) (x d : ℕ) → is_in (defects_at nodes x) d ≡ true → nodes_spec.is_live nodes x ≡ true
@@ -109,15 +108,6 @@ fixture_empty links nodes leaves e f = record {
   below = λ x v is. absurd (none_some (node_at nodes x) (leaf v) (ap (λ t. node_at t x) e) is);
   linked = none_linked links nodes e;
 }
-
--- a step of the cycle is at the node
-on_place : (cycle : List CycleStep) (x : ℕ) → is_on cycle x ≡ true → (k : ℕ) × (k < length cycle) × ((step_at cycle k).node ≡ x)
-on_place [] x on = absurd (both_ways false refl on)
-on_place (s ∷ ss) x on =
-    elim (or_cases (s.node == x) (is_on ss x) on) [
-      | inl e ↦ (zero, omega arith, eqb-true s.node x e)
-      | inr e ↦ let r : (k : ℕ) × (k < length ss) × ((step_at ss k).node ≡ x) = on_place ss x e in (suc r.0, omega (arith, r.1), r.2)
-    ]
 
 module _ (links : List (Option (List Step))) (nodes : List (Option Node)) (leaves : List ℕ) (fixture : IsFixture links nodes leaves) where
   pub leaf_live : (d : ℕ) → d < length leaves → nodes_spec.is_live nodes (get_or leaves d 0) ≡ true

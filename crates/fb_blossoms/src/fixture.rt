@@ -1,7 +1,7 @@
 ghost use Rattle.std.specs.Prelude.{◌≡◌, ◌+◌, ◌<◌, true, [], ◌∷◌, ◌++◌, length, IfOk, OnErr, OnOk};
 ghost use Rattle.fb_links.specs.Table;
 ghost use Rattle.fb_blossoms.specs.Nodes.{AreDistinct, defects_at, is_in, is_on};
-ghost use Rattle.fb_blossoms.specs.Fixture.{AreKept, AreSteps, AreTops, IsOuterWith, IsTop, edge_walk, part_at};
+ghost use Rattle.fb_blossoms.specs.InternalFixture.{AreKept, AreSteps, AreTops, IsOuterWith, IsTop, edge_walk, part_at};
 ghost use Rattle.fb_blossoms.specs.Links.{next_place};
 
 use crate::{Blossoms, CycleStep, LinkId, Links, NoMemory, NodeId};
@@ -29,7 +29,7 @@ pub struct Fixture {
 impl Model for Fixture {
     ghost use Rattle.std.specs.Prelude.{List, Option};
     ghost use Rattle.fb_blossoms.specs.Nodes.{Node};
-    ghost use Rattle.fb_blossoms.specs.Fixture.{IsFixture};
+    ghost use Rattle.fb_blossoms.specs.InternalFixture.{IsFixture};
 
     ghost Value = { List (Option Node) };
 

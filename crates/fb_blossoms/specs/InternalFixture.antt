@@ -5,7 +5,7 @@ use Rattle.fb_links.specs.declared.cycle.CycleStep.{CycleStep}
 use Rattle.fb_links.specs.Table.{link_at}
 use Rattle.fb_blossoms.specs.Nodes.{IsOuter, Node, defects_at, is_in, leaf, node_at}
 use Rattle.fb_blossoms.specs.Links.{next_place, step_at}
-use Rattle.fb_blossoms.specs.Paths.{AllLinked}
+use Rattle.fb_blossoms.specs.Links.{AllLinked}
 
 -- each leaf is of a defect below this one
 abbrev pub AreLeavesBelow : List (Option Node) → ℕ → Type 0
