@@ -1,7 +1,7 @@
 -- What a store keeps of the nodes as they are stored.
 use Rattle.std.specs.Prelude.{ℕ, zero, suc, ◌≡◌, ◌<◌, ◌%◌, ◌≤◌, ◌⊎◌, Bool, true, List, [], ◌∷◌, ◌++◌, map, length, flat_map, get_or, Option, Some, None, is_some, option_map}
 use Rattle.fb_links.specs.declared.cycle.CycleStep.{CycleStep}
-use Rattle.fb_blossoms.specs.Items.{Item}
+use Rattle.fb_blossoms.specs.InternalItems.{Item}
 use Rattle.fb_blossoms.specs.Nodes.{Node, AreDistinct, is_in, is_on}
 
 abbrev pub item_at : List (Option Item) → ℕ → Option Item
@@ -75,11 +75,11 @@ pub record IsForest (slots : List (Option Item)) (made : ℕ) : Type 0 where
   pub down : (x p : ℕ) → is_on (steps_at slots p) x ≡ true → parent_at slots x ≡ Some p
   pub older : (x p : ℕ) → parent_at slots x ≡ Some p → made_at slots x < made_at slots p
 
--- the leaf of each defect stands at the defect's place
-pub record IsKept (slots : List (Option Item)) (leaves : List (Option ℕ)) (made : ℕ) : Type 0 where
+-- the map has the leaf of each defect
+pub record IsKept (slots : List (Option Item)) (leaf_named : ℕ → Option ℕ) (made : ℕ) : Type 0 where
   pub forest : IsForest slots made
-  pub leaf_at : (d x : ℕ) → get_or leaves d None ≡ Some x → own_at slots x ≡ d ∷ []
-  pub leaf_of : (d x : ℕ) → is_in (own_at slots x) d ≡ true → get_or leaves d None ≡ Some x
+  pub leaf_at : (d x : ℕ) → leaf_named d ≡ Some x → own_at slots x ≡ d ∷ []
+  pub leaf_of : (d x : ℕ) → is_in (own_at slots x) d ≡ true → leaf_named d ≡ Some x
 
 -- the item under another parent
 abbrev pub under : Option ℕ → Item → Item
@@ -104,3 +104,8 @@ pub record IsTopOf (slots : List (Option Item)) (name top : ℕ) : Type 0 where
 pub record IsChildOver (slots : List (Option Item)) (name leaf child : ℕ) : Type 0 where
   pub child_of : parent_at slots child ≡ Some name
   pub climbs : (k : ℕ) × Climbs slots k leaf child
+
+-- the items below the node down to the leaf, each the child of the one before
+abbrev pub LeadsDownTo : List (Option Item) → ℕ → ℕ → List ℕ → Type 0
+LeadsDownTo slots name leaf [] = name ≡ leaf
+LeadsDownTo slots name leaf (x ∷ xs) = (parent_at slots x ≡ Some name) × LeadsDownTo slots x leaf xs

@@ -1,20 +1,24 @@
--- What the fixture of the tests keeps: leaves of the defects 0, 1, 2, .., and blossoms linked by walks of one edge.
-use Rattle.std.specs.Prelude.{ℕ, ◌≡◌, ◌<◌, true, List, [], ◌∷◌, length, get_or, Option, Some}
+-- What the fixture of the tests keeps: leaves of the defects 10, 11, 12, .., and blossoms linked by walks of one edge.
+use Rattle.std.specs.Prelude.{ℕ, ◌≡◌, ◌+◌, ◌<◌, true, List, [], ◌∷◌, length, get_or, Option, Some}
 use Rattle.fb_links.specs.declared.walk.Step.{Step}
 use Rattle.fb_links.specs.declared.cycle.CycleStep.{CycleStep}
 use Rattle.fb_links.specs.Table.{link_at}
 use Rattle.fb_blossoms.specs.Nodes.{IsOuter, Node, defects_at, is_in, leaf, node_at}
 use Rattle.fb_blossoms.specs.Links.{next_place, step_at}
-use Rattle.fb_blossoms.specs.Paths.{AllLinked}
+use Rattle.fb_blossoms.specs.Links.{AllLinked}
 
 -- each leaf is of a defect below this one
 abbrev pub AreLeavesBelow : List (Option Node) → ℕ → Type 0
 AreLeavesBelow nodes d = (x e : ℕ) → node_at nodes x ≡ Some (leaf e) → e < d
 
 pub record IsFixture (links : List (Option (List Step))) (nodes : List (Option Node)) (leaves : List ℕ) : Type 0 where
-  pub leaf_of : (d : ℕ) → d < length leaves → node_at nodes (get_or leaves d 0) ≡ Some (leaf d)
-  pub below : AreLeavesBelow nodes (length leaves)
+  pub leaf_of : (k : ℕ) → k < length leaves → node_at nodes (get_or leaves k 0) ≡ Some (leaf (k + 10))
+  pub below : AreLeavesBelow nodes (length leaves + 10)
   pub linked : AllLinked links nodes
+
+-- the defect is the one of this leaf
+abbrev pub IsPlaceOf : List ℕ → ℕ → ℕ → Type 0
+IsPlaceOf leaves d k = (k < length leaves) × (d ≡ k + 10)
 
 -- an outer node that holds the defect
 pub record IsOuterWith (nodes : List (Option Node)) (x d : ℕ) : Type 0 where
