@@ -10,6 +10,7 @@ use Rattle.fb_shots.specs.declared.answer.Format.{Format}
 use Rattle.fb_shots.specs.Streams.{Stream, fresh}
 use Rattle.fb_run.specs.CheckEndings.{ChecksFront, LinesEnd, WritesCheck}
 use Rattle.fb_run.specs.Checks.{bad_count, check_cause, check_front, check_head, check_last, verdict_lines}
+use Rattle.fb_run.specs.Endings.{IsReadToItsEnd}
 use Rattle.fb_run.specs.Judges.{EndsCheck, FirstFrom, FirstOf, JudgesAll, JudgesFirst, JudgesInto}
 use Rattle.fb_run.specs.Judging.{Gathers, GathersFrom, HasFirstShots, HasShots, IsOpened, Named, most_shots, shots_of}
 use Rattle.fb_words.specs.Words.{Checking}
@@ -121,6 +122,13 @@ pub none_judged : (left : Option (List ℕ)) (format : Format) (g : DecodingGrap
     → JudgesFirst (FirstFrom left format g) g rows out out
 none_judged left format g rows out =
     record { shots = []; input = first_of_none left format g; verdicts = []; answers = tt; written = ([], [], refl, Appends-nil out) }
+
+-- a check ends as one that was read to its end only if its shots were
+pub check_to_end : (ended : ShotsEnd) (lines shots bad : ℕ) (old new : Option (List ℕ)) (cause : Cause) → EndsCheck ended lines shots bad old new cause
+    → IsReadToItsEnd cause → ended ≡ end.End
+check_to_end end.End lines shots bad old new cause ends reads = refl
+check_to_end (end.Refused fault) lines shots bad old new cause (same, is) reads = absurd (subst IsReadToItsEnd is reads)
+check_to_end end.ReadFault lines shots bad old new cause (same, is) reads = absurd (subst IsReadToItsEnd is reads)
 
 -- the last line doesn't end a check for want of memory
 pub never_memory : (ended : ShotsEnd) (lines shots bad : ℕ) (old new : Option (List ℕ)) (cause : Cause) → EndsCheck ended lines shots bad old new cause

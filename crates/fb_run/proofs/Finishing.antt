@@ -8,7 +8,7 @@ use Rattle.fb_ports.proofs.Onward.{front_first, front_second}
 use Rattle.fb_report.specs.Texts.{head_text, rows_text}
 use Rattle.fb_shots.specs.Shots.{Ending, at_end, refused}
 use Rattle.fb_run.specs.Decoding.{cause_of, last_line, report_front}
-use Rattle.fb_run.specs.Endings.{RowsEnd, WritesFront, WritesReport}
+use Rattle.fb_run.specs.Endings.{IsReadToItsEnd, RowsEnd, WritesFront, WritesReport}
 use Rattle.fb_run.specs.Judging.{Gathers, HasFirstShots, HasShots, Holds, IsReadInPart, Named}
 use Rattle.fb_run.specs.Rows.{Counts, IsShotRow, counts_of}
 use Rattle.fb_words.specs.Words.{Decoding}
@@ -24,6 +24,13 @@ use Rattle.fb_run.specs.declared.shots.ShotsEnd.TheVariants as end
 pub holds_more : (named : Named) (name : List ℕ) (P Q : List ℕ → Type 0) → ((text : List ℕ) → P text → Q text) → Holds named name P → Holds named name Q
 holds_more None name P Q more held = tt
 holds_more (Some f) name P Q more (text, e, p) = (text, e, more text p)
+
+-- a report ends as one that was read to its end only if its shots were
+pub report_to_end : (ended : ShotsEnd) (rows : ℕ) (counts : Counts) (old new : Option (List ℕ)) (cause : Cause) → EndsReport ended rows counts old new cause
+    → IsReadToItsEnd cause → ended ≡ end.End
+report_to_end end.End rows counts old new cause ends reads = refl
+report_to_end (end.Refused fault) rows counts old new cause (same, is) reads = absurd (subst IsReadToItsEnd is reads)
+report_to_end end.ReadFault rows counts old new cause (same, is) reads = absurd (subst IsReadToItsEnd is reads)
 
 module _ (named : Named) (errand : Decoding) (g : DecodingGraph) where
   -- the shots that were gathered are none, or the first of the file's

@@ -1,5 +1,5 @@
 -- The shots that a stream has given.
-use Rattle.std.proofs.Common.{◌≡◌, ℕ, ◌+◌, ◌≤◌, Bool, true, false, List, [], ◌∷◌, ◌++◌, length, All, Option, Some, None, IfSome, IsSome, Result, Ok, Err, IsOk, refl, sym, ap, subst, ◌∙◌, arith, append_assoc, append-nil, length-append}
+use Rattle.std.proofs.Common.{◌≡◌, ℕ, ◌+◌, ◌≤◌, Bool, true, false, List, [], ◌∷◌, ◌++◌, length, All, Option, Some, None, IfSome, IsSome, Result, Ok, Err, IsErr, IsOk, refl, sym, ap, subst, ◌∙◌, arith, append_assoc, append-nil, length-append}
 use Rattle.std.specs.Io.KnownBytes.{Consumes}
 use Rattle.std.proofs.KnownBytes.{Consumes-nil, Consumes-trans}
 use Rattle.std.proofs.lemmas.List.Elements.{All-nil, All-push}
@@ -202,10 +202,11 @@ is_opened (Some f) name left (Ok x) ok opens = opens
 is_opened (Some f) name left (Err x) ok opens = no_bool ok
 
 -- of a file that couldn't be opened nothing is left
-pub is_unopened : {T E : Type 0} (named : Named) (name : List ℕ) (left : Option (List ℕ)) (e : E) → Opens {T = T} named left name (Err e)
+pub is_unopened : {T E : Type 0} (named : Named) (name : List ℕ) (left : Option (List ℕ)) (r : Result T E) → IsErr r → Opens named left name r
     → IsReadOutIfNamed named left
-is_unopened None name left e opens = tt
-is_unopened (Some f) name left e opens = opens
+is_unopened None name left r failed opens = tt
+is_unopened (Some f) name left (Ok x) failed opens = no_bool failed
+is_unopened (Some f) name left (Err x) failed opens = opens
 
 opened_some : (left : Option (List ℕ)) (name : List ℕ) (P : List ℕ → Type 0) (f : List ℕ → Option (List ℕ)) → left ≡ f name → IsSome (f name)
     → IfSome left P → (text : List ℕ) × (f name ≡ Some text) × P text

@@ -1,14 +1,13 @@
 //! The top call.
 
 ghost use Rattle.std.specs.Prelude.{◌≡◌, ◌≢◌, ◌<◌, ◌≤◌, ◌^◌, ◌-◌, map, string_bytes, true};
-ghost use Rattle.clap.specs.Words.{takes};
 ghost use Rattle.fb_ports.specs.Causes.{Appends, AppendsFront, HasRoom, IsEmptyIfTold, Rose};
 ghost use Rattle.fb_endings.specs.Causes.{line_of, status_of};
 ghost use Rattle.fb_run.specs.Endings.{DecodeEnds, EndsOn, IsReadToItsEnd, MayFollowReadFault};
 ghost use Rattle.fb_run.specs.Moments.{moment};
 ghost use Rattle.fb_run.specs.RunEndings.{EndsRight, ErrandEnds, IfParse, cause_of_fault};
 ghost use Rattle.fb_run.specs.Judging.{IsReadOutIfNamed};
-ghost use Rattle.fb_words.specs.Command.{fusion_app};
+ghost use Rattle.fb_words.specs.Taken.{is_taken};
 ghost use Rattle.fb_words.specs.Seen.{seen_decoding, seen};
 ghost use Rattle.fb_words.specs.Words.{errand_of};
 ghost use Rattle.fb_run.specs.Writes.{EndsReport, counts_in};
@@ -50,7 +49,7 @@ pub fn run<F: Files, O: Sink, E: Sink>(
     ensures write_risen { O.faults out.old < O.faults out.new → result.cause ≡ Cause.WriteFault }
 
     // Words that the command line takes aren't refused as a whole.
-    ensures takes { takes fusion_app (map string_bytes words.now) ≡ true → result.cause ≢ Cause.Usage UsageKind.Parse }
+    ensures takes { is_taken (map string_bytes words.now) ≡ true → result.cause ≢ Cause.Usage UsageKind.Parse }
 
     // What was written to standard error. Of words that have no reading it is the command line reader's own text.
     ensures said { result.cause ≢ Cause.Usage UsageKind.Parse
@@ -79,7 +78,7 @@ fn answer<F: Files, O: Sink, E: Sink>(
         (moment (F.named files.old) (F.left files.old) (F.asked files.old) (F.faults files.old) (O.taken out.old))
         (moment (F.named files.new) (F.left files.new) (F.asked files.new) (F.faults files.new) (O.taken out.new)) result }
     ensures at_end { IsReadToItsEnd result → IsReadOutIfNamed (F.named files.old) (F.left files.new) }
-    ensures takes { takes fusion_app (map string_bytes words.now) ≡ true → result ≢ Cause.Usage UsageKind.Parse }
+    ensures takes { is_taken (map string_bytes words.now) ≡ true → result ≢ Cause.Usage UsageKind.Parse }
     ensures read_fault { result ≡ Cause.ReadFault → Rose (F.faults files.old) (F.faults files.new) }
     ensures read_risen { F.faults files.old < F.faults files.new → MayFollowReadFault result }
     ensures write_fault { result ≡ Cause.WriteFault → Rose (O.faults out.old) (O.faults out.new) }

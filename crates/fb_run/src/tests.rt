@@ -91,7 +91,11 @@ fn each_failed_call_of_files_is_a_read_fault(rt: HostRuntime) -> Result<(), Fail
     ] {
         let mut outside = Outside::new(rt.alloc(), "100\n")?;
         outside.files.fail_at(vec![in rt.alloc(); call]?);
-        assert_eq!(rt; outside.run(rt.alloc(), &DECODE)?, Cause::ReadFault, "{call}");
+        assert_eq!(rt;
+            outside.run(rt.alloc(), &DECODE)?,
+            Cause::ReadFault,
+            "{call}"
+        );
         assert!(rt; outside.holds(out, READ_FAULT), "{call}");
     }
     Ok(())
@@ -133,7 +137,10 @@ fn a_failed_put_is_a_write_fault(rt: HostRuntime) -> Result<(), Fail> {
 fn usage_is_written_whole_in_pieces(rt: HostRuntime) -> Result<(), Fail> {
     let mut outside = Outside::new(rt.alloc(), "")?;
     outside.err.take_at_most(7);
-    assert_eq!(rt; outside.run(rt.alloc(), &DECODE[..6])?, Cause::Usage(UsageKind::Parse));
+    assert_eq!(rt;
+        outside.run(rt.alloc(), &DECODE[..6])?,
+        Cause::Usage(UsageKind::Parse)
+    );
     assert!(rt; outside.err.taken().ends_with(b"try '--help'.\n"));
     Ok(())
 }

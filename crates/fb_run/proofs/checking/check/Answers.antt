@@ -20,11 +20,14 @@ returns-in-Ok-clause-ends g c = inr (record {
 
 pub returns-in-Err-Refused-clause-ends : goal.returns-in-Err-Refused-clause-ends
 returns-in-Err-Refused-clause-ends g c =
-    inl (c.in-Err-Refused.ensures.refused, c.in-Err-Refused.ensures.asked (λ e. cc), c.in-Err-Refused.ensures.calm (λ e. cc), Appends-nil _)
+    let refused = rw c.in-Err-Refused.field-0-is at c.in-Err-Refused.ensures.refused in
+    rw c.in-Err-Refused.field-0-is
+    (inl (refused, c.in-Err-Refused.ensures.asked (λ e. cc), c.in-Err-Refused.ensures.calm (λ e. cc), Appends-nil _))
 
 pub returns-in-Err-ReadFault-clause-ends : goal.returns-in-Err-ReadFault-clause-ends
 returns-in-Err-ReadFault-clause-ends g c =
-    inl (c.in-Err-ReadFault.ensures.fault refl, c.in-Err-ReadFault.ensures.asked (λ e. cc), Appends-nil _)
+    let rises = rw c.in-Err-ReadFault.field-0-is at c.in-Err-ReadFault.ensures.fault in
+    inl (rises refl, c.in-Err-ReadFault.ensures.asked (λ e. cc), Appends-nil _)
 
 pub returns-in-Err-NoMemory-clause-ends : goal.returns-in-Err-NoMemory-clause-ends
 returns-in-Err-NoMemory-clause-ends g c =
