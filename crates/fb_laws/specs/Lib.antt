@@ -45,10 +45,10 @@ pub mod StateMeasures
 pub mod StateMoves
 pub mod StateNames
 pub mod StateOpenings
-pub mod StepLinks
 pub mod StateOrders
-pub mod StateWitnesses
 pub mod StateRings
+pub mod StateWitnesses
+pub mod StepLinks
 pub mod TreeCycles
 pub mod TreeWitnesses
 pub mod Trees
