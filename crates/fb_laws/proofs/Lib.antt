@@ -73,7 +73,6 @@ pub mod StateBlossoms
 pub mod StateFusions
 pub mod StateMeasures
 pub mod StateMoves
-pub mod StateNames
 pub mod StateOpenings
 pub mod StateOrders
 pub mod StateRings
