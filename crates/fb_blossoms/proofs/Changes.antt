@@ -1,11 +1,11 @@
 -- How a store changes when a node is added or taken off.
-use Rattle.std.proofs.Common.{◌≡◌, ◌≢◌, inl, inr, ℕ, suc, ◌+◌, ◌<◌, Bool, true, false, if◌then◌else◌, List, [], ◌∷◌, ◌++◌, get_or, Option, Some, None, is_some, option_map, refl, sym, ◌∙◌, ap, subst, arith}
+use Rattle.std.proofs.Common.{◌≡◌, ◌≢◌, inl, inr, ℕ, suc, ◌+◌, ◌<◌, Bool, true, false, if◌then◌else◌, List, [], ◌∷◌, ◌++◌, Option, Some, None, is_some, option_map, refl, sym, ◌∙◌, ap, subst, arith}
 use Rattle.std.specs.List.{flat_map}
 use Rattle.std.proofs.lemmas.Bool.{both_ways, cases_Bool, cases_eq}
 use Rattle.fb_links.specs.declared.cycle.CycleStep.{CycleStep}
-use Rattle.fb_blossoms.specs.Items.{Item}
+use Rattle.fb_blossoms.specs.InternalItems.{Item}
 use Rattle.fb_blossoms.specs.Nodes.{Adds, Node, TakesOff, blossom, defects_at, defects_of, is_in, is_on, node_at}
-use Rattle.fb_blossoms.specs.Forest.{IsItem, IsKept, IsOddItem, cycle_in, defects_in, held_at, is_kept, item_at, made_at, made_in, node_of, nodes_of, own_at, own_in, parent_at, parent_in, steps_at, under}
+use Rattle.fb_blossoms.specs.InternalForest.{IsItem, IsKept, IsOddItem, cycle_in, defects_in, held_at, is_kept, item_at, made_at, made_in, node_of, nodes_of, own_at, own_in, parent_at, parent_in, steps_at, under}
 use Rattle.fb_blossoms.proofs.Climbs.{kept_child, kept_parent, none_some, same_some}
 use Rattle.fb_blossoms.proofs.Held.{along_same, node_from, same_levels}
 use Rattle.fb_blossoms.proofs.Nested.{blossom_from, leaf_cycle, one_in}
@@ -99,13 +99,13 @@ module _ (old new : List (Option Item)) (key : ℕ) (same : AreSame old new key)
       ∙ same_levels old new P (λ y q. same.own y (off y q)) (λ y q. same.steps y (off y q)) closed (suc (made_at old x)) x (p h))
 
 -- a node is added under a free number, and becomes the parent of outer nodes
-module _ (old new : List (Option Item)) (leaves leaves' : List (Option ℕ)) (made : ℕ) (kept : IsKept old leaves made) (key : ℕ) (i : Item)
+module _ (old new : List (Option Item)) (leaves leaves' : ℕ → Option ℕ) (made : ℕ) (kept : IsKept old leaves made) (key : ℕ) (i : Item)
     (fresh : item_at old key ≡ None) (here : item_at new key ≡ Some i) (top : i.parent ≡ None) (made_is : i.made ≡ made)
     (others : (x : ℕ) → x ≢ key → item_at new x ≡ put (is_on i.cycle x) (Some key) (item_at old x))
     (live : (x : ℕ) → is_on i.cycle x ≡ true → is_kept old x ≡ true) (outer : (x : ℕ) → is_on i.cycle x ≡ true → parent_at old x ≡ None)
-    (shaped : IsItem i.own i.cycle) (leaf_new : (d : ℕ) → is_in i.own d ≡ true → get_or leaves' d None ≡ Some key)
-    (leaf_old : (d : ℕ) → is_in i.own d ≡ false → get_or leaves' d None ≡ get_or leaves d None)
-    (no_leaf : (d : ℕ) → is_in i.own d ≡ true → get_or leaves d None ≡ None) (alone : (d : ℕ) → is_in i.own d ≡ true → i.own ≡ d ∷ []) where
+    (shaped : IsItem i.own i.cycle) (leaf_new : (d : ℕ) → is_in i.own d ≡ true → leaves' d ≡ Some key)
+    (leaf_old : (d : ℕ) → is_in i.own d ≡ false → leaves' d ≡ leaves d)
+    (no_leaf : (d : ℕ) → is_in i.own d ≡ true → leaves d ≡ None) (alone : (d : ℕ) → is_in i.own d ≡ true → i.own ≡ d ∷ []) where
   gone : is_kept old key ≡ false
   gone = ap (λ (o : Option Item). is_some o) fresh
 
@@ -207,7 +207,7 @@ module _ (old new : List (Option Item)) (leaves leaves' : List (Option ℕ)) (ma
     leaf_at = λ d x e.
         elim (cases_Bool (is_in i.own d)) [
           | inl now ↦
-              let k : key ≡ x = same_some (get_or leaves' d None) key x (leaf_new d now) e in
+              let k : key ≡ x = same_some (leaves' d) key x (leaf_new d now) e in
               ap (own_at new) (sym k) ∙ (ap own_in here ∙ alone d now)
           | inr off ↦
               let own : own_at old x ≡ d ∷ [] = kept.leaf_at d x (sym (leaf_old d off) ∙ e) in
@@ -218,9 +218,9 @@ module _ (old new : List (Option Item)) (leaves leaves' : List (Option ℕ)) (ma
           | inl k ↦ leaf_new d (ap (λ o. is_in (own_in o) d) (sym (ap (item_at new) k ∙ here)) ∙ h) ∙ ap (λ y. Some y) (sym k)
           | inr n ↦
               let own : is_in (own_at old x) d ≡ true = ap (λ l. is_in l d) (sym (same.own x n)) ∙ h in
-              let e : get_or leaves d None ≡ Some x = kept.leaf_of d x own in
+              let e : leaves d ≡ Some x = kept.leaf_of d x own in
               elim (cases_Bool (is_in i.own d)) [
-                | inl now ↦ absurd (none_some (get_or leaves d None) x (no_leaf d now) e)
+                | inl now ↦ absurd (none_some (leaves d) x (no_leaf d now) e)
                 | inr off ↦ leaf_old d off ∙ e
               ]
         ];
@@ -246,7 +246,7 @@ module _ (old new : List (Option Item)) (leaves leaves' : List (Option ℕ)) (ma
       (λ s on. ap defects_of (others_stay s.node (off_key s.node (live s.node on)))))
 
 -- an outer blossom is taken off, and its children become outer
-module _ (old new : List (Option Item)) (leaves : List (Option ℕ)) (made : ℕ) (kept : IsKept old leaves made) (key : ℕ)
+module _ (old new : List (Option Item)) (leaves : ℕ → Option ℕ) (made : ℕ) (kept : IsKept old leaves made) (key : ℕ)
     (top : parent_at old key ≡ None) (some : steps_at old key ≡ [] → ⊥) (here : item_at new key ≡ None)
     (others : (x : ℕ) → x ≢ key → item_at new x ≡ put (is_on (steps_at old key) x) None (item_at old x)) where
   left : AreSame old new key

@@ -1,11 +1,9 @@
 -- The ways up from child to parent.
-use Rattle.std.proofs.Common.{◌≡◌, ℕ, zero, suc, ◌≤◌, true, false, List, [], ◌∷◌, ◌++◌, All, Option, Some, None, is_some, length, length-append, refl, sym, ◌∙◌, ap, subst, arith}
+use Rattle.std.proofs.Common.{◌≡◌, ℕ, zero, suc, ◌≤◌, true, false, List, Option, Some, None, is_some, refl, sym, ◌∙◌, ap, subst, arith}
 use Rattle.std.proofs.lemmas.Bool.{both_ways}
-use Rattle.std.proofs.lemmas.List.{append-nil, get_or_append_left, get_or_push}
-use Rattle.std.proofs.lemmas.List.Elements.{All-nil, All-push}
-use Rattle.fb_blossoms.specs.Items.{Item}
+use Rattle.fb_blossoms.specs.InternalItems.{Item}
 use Rattle.fb_blossoms.specs.Nodes.{is_on}
-use Rattle.fb_blossoms.specs.Forest.{Climbs, IsForest, cycle_in, is_kept, item_at, made_at, parent_at, parent_in, steps_at}
+use Rattle.fb_blossoms.specs.InternalForest.{Climbs, IsForest, cycle_in, is_kept, item_at, made_at, parent_at, parent_in, steps_at}
 
 -- a number has at most one parent
 pub same_some : {X : Type 0} (o : Option X) (x y : X) → o ≡ Some x → o ≡ Some y → x ≡ y
@@ -40,6 +38,12 @@ climb_on slots (suc k) x p top e below c =
     let same : p ≡ c.0 = same_some (parent_at slots x) p c.0 e c.1 in
     (k, (c.2.0, ap (parent_at slots) same ∙ c.2.1, c.2.2))
 
+-- below a node that is above it there is a step up
+pub climb_step : (slots : List (Option Item)) (k x top : ℕ) → (x ≡ top → ⊥) → Climbs slots k x top
+    → (p : ℕ) × (parent_at slots x ≡ Some p) × ((j : ℕ) × Climbs slots j p top)
+climb_step slots zero x top below c = absurd (below c)
+climb_step slots (suc k) x top below c = (c.0, c.1, (k, c.2))
+
 module _ (slots : List (Option Item)) (made : ℕ) (forest : IsForest slots made) where
   pub climb_older : (k x top : ℕ) → Climbs slots k x top → made_at slots x ≤ made_at slots top
   climb_older zero x top c = let e : made_at slots x ≡ made_at slots top = ap (made_at slots) c in omega arith
@@ -68,25 +72,3 @@ module _ (slots : List (Option Item)) (made : ℕ) (forest : IsForest slots made
   same_child (suc i) (suc j) l x y p c d e f =
       let same : c.0 ≡ d.0 = same_some (parent_at slots l) c.0 d.0 c.1 d.1 in
       same_child i j c.0 x y p c.2 (let P : ℕ → Type 0 = λ w. Climbs slots j w y in subst P (sym same) d.2) e f
-
-pub all_none : {X : Type 0} (P : X → Type 0) (xs : List X) → xs ≡ [] → All P xs
-all_none P xs e = subst (All P) (sym e) (All-nil P)
-
-pub all_more : {X : Type 0} (P : X → Type 0) (xs ys : List X) (x : X) → ys ≡ xs ++ x ∷ [] → All P xs → P x → All P ys
-all_more P xs ys x e h p = subst (All P) (sym e) (All-push P xs x h p)
-
--- what holds of a list holds of its last element and of the rest
-pub all_last : {X : Type 0} (P : X → Type 0) (xs ys : List X) (x : X) → ys ≡ xs ++ x ∷ [] → All P ys → All P xs × P x
-all_last P xs ys x e h = (
-  λ k d less. subst P (get_or_append_left xs (x ∷ []) d k less) (all k d (omega (arith, less, length-append xs (x ∷ [])))),
-  subst P (get_or_push xs x x (length xs) refl) (all (length xs) x (omega (arith, length-append xs (x ∷ [])))),
-)
-  where
-    all : All P (xs ++ x ∷ [])
-    all = subst (All P) e h
-
-pub all_from : {X : Type 0} (P Q : X → Type 0) → ((x : X) → P x → Q x) → (xs : List X) → All P xs → All Q xs
-all_from P Q f xs h k d less = f _ (h k d less)
-
-pub all_end : {X : Type 0} (P : X → Type 0) (xs ys : List X) → ys ≡ xs ++ [] → All P ys → All P xs
-all_end P xs ys e h = subst (All P) (e ∙ append-nil xs) h

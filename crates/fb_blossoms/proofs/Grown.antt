@@ -10,12 +10,11 @@ use Rattle.fb_links.specs.Table.{link_at, walk_at}
 use Rattle.fb_links.specs.Table as table
 use Rattle.fb_blossoms.specs.Nodes.{Adds, AreDistinct, AreOuter, AreWithin, IsNested, IsOddCycle, IsOuter, Node, TakesOff, blossom, cycle_at, cycle_of, defects_at, defects_of, is_in, is_on, leaf, node_at}
 use Rattle.fb_blossoms.specs.Nodes as nodes_spec
-use Rattle.fb_blossoms.specs.Links.{AreLinked, IsLinkBetween, joins, next_place, step_at}
-use Rattle.fb_blossoms.specs.Paths.{AllLinked}
-use Rattle.fb_blossoms.specs.Fixture.{AreKept, AreSteps, AreTops, IsFixture, IsStep, IsTop, edge_walk, part_at}
+use Rattle.fb_blossoms.specs.Links.{AllLinked, AreLinked, IsLinkBetween, joins, next_place, step_at}
+use Rattle.fb_blossoms.specs.InternalFixture.{AreKept, AreSteps, AreTops, IsFixture, IsPlaceOf, IsStep, IsTop, edge_walk, part_at}
 use Rattle.fb_blossoms.proofs.Climbs.{none_some}
 use Rattle.fb_blossoms.proofs.Nested.{is_in-one, one_in}
-use Rattle.fb_blossoms.proofs.Rounds.{step_on}
+use Rattle.fb_blossoms.proofs.Rounds.{on_place, step_on}
 
 -- a node that holds a defect is live
 pub holding_live : (nodes : List (Option Node)) (x d : ℕ) → is_in (defects_at nodes x) d ≡ true → nodes_spec.is_live nodes x ≡ true
@@ -110,28 +109,19 @@ fixture_empty links nodes leaves e f = record {
   linked = none_linked links nodes e;
 }
 
--- a step of the cycle is at the node
-on_place : (cycle : List CycleStep) (x : ℕ) → is_on cycle x ≡ true → (k : ℕ) × (k < length cycle) × ((step_at cycle k).node ≡ x)
-on_place [] x on = absurd (both_ways false refl on)
-on_place (s ∷ ss) x on =
-    elim (or_cases (s.node == x) (is_on ss x) on) [
-      | inl e ↦ (zero, omega arith, eqb-true s.node x e)
-      | inr e ↦ let r : (k : ℕ) × (k < length ss) × ((step_at ss k).node ≡ x) = on_place ss x e in (suc r.0, omega (arith, r.1), r.2)
-    ]
-
 module _ (links : List (Option (List Step))) (nodes : List (Option Node)) (leaves : List ℕ) (fixture : IsFixture links nodes leaves) where
   pub leaf_live : (d : ℕ) → d < length leaves → nodes_spec.is_live nodes (get_or leaves d 0) ≡ true
   leaf_live d less = ap (λ (o : Option Node). is_some o) (fixture.leaf_of d less)
 
-  pub leaf_holds : (d : ℕ) → d < length leaves → is_in (defects_at nodes (get_or leaves d 0)) d ≡ true
-  leaf_holds d less = ap (λ o. is_in (defects_of o) d) (fixture.leaf_of d less) ∙ one_in d
+  pub leaf_holds : (d k : ℕ) → IsPlaceOf leaves d k → is_in (defects_at nodes (get_or leaves k 0)) d ≡ true
+  leaf_holds d k at = ap (λ o. is_in (defects_of o) d) (fixture.leaf_of k at.0 ∙ ap (λ e. Some (leaf e)) (sym at.1)) ∙ one_in d
 
-  pub leaf_free : (d x : ℕ) → d ≡ length leaves → node_at nodes x ≢ Some (leaf d)
+  pub leaf_free : (d x : ℕ) → d ≡ length leaves + 10 → node_at nodes x ≢ Some (leaf d)
   leaf_free d x e is = omega (arith, fixture.below x d is, e)
 
   -- a node that holds a defect and isn't its leaf is a blossom
-  pub no_leaf : (nested : IsNested nodes) (x d l : ℕ) → d < length leaves → is_in (defects_at nodes x) d ≡ true → l ≡ get_or leaves d l → x ≢ l → cycle_at nodes x ≢ []
-  no_leaf nested x d l less h is differ none = at (node_at nodes x) refl
+  pub no_leaf : (nested : IsNested nodes) (x d k l : ℕ) → IsPlaceOf leaves d k → is_in (defects_at nodes x) d ≡ true → l ≡ get_or leaves k l → x ≢ l → cycle_at nodes x ≢ []
+  no_leaf nested x d k l place h is differ none = at (node_at nodes x) refl
     where
       at : (o : Option Node) → node_at nodes x ≡ o → ⊥
       at None f = both_ways false refl (ap (λ o. is_in (defects_of o) d) (sym f) ∙ h)
@@ -140,8 +130,8 @@ module _ (links : List (Option (List Step))) (nodes : List (Option Node)) (leave
             | inl one ↦
                 let held : is_in (one.0 ∷ []) d ≡ true = ap (λ m. is_in (defects_of (Some m)) d) (sym one.1) ∙ (ap (λ o. is_in (defects_of o) d) (sym f) ∙ h) in
                 let same : one.0 ≡ d = is_in-one one.0 d held in
-                let its : l ≡ get_or leaves d 0 = is ∙ get_or_default leaves d l 0 less in
-                differ (nested.leaves x (get_or leaves d 0) d (f ∙ (ap (λ m. Some m) one.1 ∙ ap (λ e. Some (leaf e)) same)) (fixture.leaf_of d less) ∙ sym its)
+                let its : l ≡ get_or leaves k 0 = is ∙ get_or_default leaves k l 0 place.0 in
+                differ (nested.leaves x (get_or leaves k 0) d (f ∙ (ap (λ m. Some m) one.1 ∙ ap (λ e. Some (leaf e)) same)) (fixture.leaf_of k place.0 ∙ ap (λ e. Some (leaf e)) (sym place.1)) ∙ sym its)
             | inr b ↦
                 let c : length n.cycle ≡ 0 = ap length (ap cycle_of (sym f) ∙ none) in
                 omega (arith, b.cycle.three, c)
@@ -150,7 +140,7 @@ module _ (links : List (Option (List Step))) (nodes : List (Option Node)) (leave
   pub fixture_links : (more : List (Option (List Step))) → AreKept links more → IsFixture more nodes leaves
   fixture_links more kept = record { leaf_of = fixture.leaf_of; below = fixture.below; linked = linked_kept links more nodes kept fixture.linked }
 
-  pub fixture_leaf : (nested : IsNested nodes) (new : List (Option Node)) (n d : ℕ) → d ≡ length leaves → Adds nodes new n (leaf d) → IsFixture links new (leaves ++ n ∷ [])
+  pub fixture_leaf : (nested : IsNested nodes) (new : List (Option Node)) (n d : ℕ) → d ≡ length leaves + 10 → Adds nodes new n (leaf d) → IsFixture links new (leaves ++ n ∷ [])
   fixture_leaf nested new n d at made = record {
     leaf_of = λ e less.
         let count : length (leaves ++ n ∷ []) ≡ length leaves + 1 = length-append leaves (n ∷ []) in
@@ -160,7 +150,7 @@ module _ (links : List (Option (List Step))) (nodes : List (Option Node)) (leave
               ∙ (made.others _ (not_new nodes new n (leaf d) made _ (leaf_live e a)) ∙ fixture.leaf_of e a)
           | inr b ↦
               let same : length leaves ≡ e = omega (arith, less, b, count) in
-              ap (node_at new) (get_or_push leaves n 0 e same) ∙ (made.added ∙ ap (λ v. Some (leaf v)) (at ∙ same))
+              ap (node_at new) (get_or_push leaves n 0 e same) ∙ (made.added ∙ ap (λ v. Some (leaf v)) (at ∙ ap (λ k. k + 10) same))
         ];
     below = λ x e is.
         let count : length (leaves ++ n ∷ []) ≡ length leaves + 1 = length-append leaves (n ∷ []) in

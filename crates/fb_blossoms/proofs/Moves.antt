@@ -1,12 +1,11 @@
 -- What the calls that add and take off nodes do to the store.
-use Rattle.std.proofs.Common.{◌≡◌, ◌≢◌, inl, inr, ℕ, ◌+◌, ◌<◌, Bool, true, false, List, [], ◌∷◌, get_or, set, length, Option, Some, None, refl, sym, ◌∙◌, ap, subst}
-use Rattle.std.proofs.lemmas.Bool.{both_ways}
-use Rattle.std.proofs.lemmas.List.{get_or-set_same, get_or-set_other}
+use Rattle.std.proofs.Common.{◌≡◌, ◌≢◌, inl, inr, ℕ, ◌+◌, ◌<◌, Bool, true, false, List, [], ◌∷◌, nat_eq, Option, Some, None, refl, sym, ◌∙◌, ap, subst}
+use Rattle.std.proofs.lemmas.Bool.{both_ways, ne_eqb}
 use Rattle.slab.specs.Slab.{Slab, Updates, get}
 use Rattle.fb_links.specs.declared.cycle.CycleStep.{CycleStep}
-use Rattle.fb_blossoms.specs.Items.{Item}
+use Rattle.fb_blossoms.specs.InternalItems.{Item}
 use Rattle.fb_blossoms.specs.Nodes.{Adds, AreOuter, IsOddCycle, IsOuter, Node, TakesOff, blossom, cycle_at, is_in, is_on, leaf, node_at}
-use Rattle.fb_blossoms.specs.Forest.{IsItem, IsKept, cycle_in, item_at, is_kept, nodes_of, parent_at, steps_at}
+use Rattle.fb_blossoms.specs.InternalForest.{IsItem, IsKept, cycle_in, item_at, is_kept, nodes_of, parent_at, steps_at}
 use Rattle.fb_blossoms.proofs.Held.{cycle_from, live_from}
 use Rattle.fb_blossoms.proofs.Nested.{is_in-one, leaf_node, one_in, outer_from}
 use Rattle.fb_blossoms.proofs.Changes.{adds, kept_added, kept_left, node_added, put, takes_off}
@@ -20,7 +19,7 @@ new_leaf made d = record { parent = None; made = made; own = d ∷ []; cycle = [
 adds_as : (old new : List (Option Node)) (key : ℕ) (n m : Node) → Adds old new key n → n ≡ m → Adds old new key m
 adds_as old new key n m h e = let P : Node → Type 0 = λ k. Adds old new key k in subst P e h
 
-module _ (old mid new : Slab Item) (leaves : List (Option ℕ)) (made : ℕ) (kept : IsKept old.slots leaves made) (key : ℕ) (cycle : List CycleStep)
+module _ (old mid new : Slab Item) (leaves : ℕ → Option ℕ) (made : ℕ) (kept : IsKept old.slots leaves made) (key : ℕ) (cycle : List CycleStep)
     (vacant : get old key ≡ None) (moved : (x : ℕ) → get mid x ≡ put (is_on cycle x) (Some key) (get old x))
     (updates : Updates mid new key (Some (new_blossom made cycle)))
     (odd : IsOddCycle (nodes_of old.slots) cycle) (outer : AreOuter (nodes_of old.slots) cycle) where
@@ -42,34 +41,32 @@ module _ (old mid new : Slab Item) (leaves : List (Option ℕ)) (made : ℕ) (ke
   pub formed : IsKept new.slots leaves (made + 1)
   formed =
       kept_added old.slots new.slots leaves leaves made kept key (new_blossom made cycle) vacant updates.changed refl refl others live top shaped
-      (bare (λ d. get_or leaves d None ≡ Some key)) (λ d h. refl) (bare (λ d. get_or leaves d None ≡ None)) (bare (λ d. [] ≡ d ∷ []))
+      (bare (λ d. leaves d ≡ Some key)) (λ d h. refl) (bare (λ d. leaves d ≡ None)) (bare (λ d. [] ≡ d ∷ []))
 
   pub forms : Adds (nodes_of old.slots) (nodes_of new.slots) key (blossom (nodes_of old.slots) cycle)
   forms =
       adds_as _ _ key _ _
       (adds old.slots new.slots leaves leaves made kept key (new_blossom made cycle) vacant updates.changed refl refl others live top shaped
-      (bare (λ d. get_or leaves d None ≡ Some key)) (λ d h. refl) (bare (λ d. get_or leaves d None ≡ None)) (bare (λ d. [] ≡ d ∷ [])))
+      (bare (λ d. leaves d ≡ Some key)) (λ d h. refl) (bare (λ d. leaves d ≡ None)) (bare (λ d. [] ≡ d ∷ [])))
       (node_added old.slots new.slots leaves leaves made kept key (new_blossom made cycle) vacant updates.changed refl refl others live top shaped
-      (bare (λ d. get_or leaves d None ≡ Some key)) (λ d h. refl) (bare (λ d. get_or leaves d None ≡ None)) (bare (λ d. [] ≡ d ∷ []))
+      (bare (λ d. leaves d ≡ Some key)) (λ d h. refl) (bare (λ d. leaves d ≡ None)) (bare (λ d. [] ≡ d ∷ []))
       (record { bare = refl; odd = odd.odd; three = odd.three; distinct = odd.distinct }))
 
-module _ (old new : Slab Item) (leaves wide : List (Option ℕ)) (made : ℕ) (kept : IsKept old.slots leaves made) (key d : ℕ)
+-- the map has the node for the defect now, and for each other defect what it had
+module _ (old new : Slab Item) (leaves leaves' : ℕ → Option ℕ) (made : ℕ) (kept : IsKept old.slots leaves made) (key d : ℕ)
     (vacant : get old key ≡ None) (updates : Updates old new key (Some (new_leaf made d)))
-    (widened : (k : ℕ) → get_or wide k None ≡ get_or leaves k None) (within : d < length wide)
+    (changed : leaves' d ≡ Some key) (others : (e : ℕ) → nat_eq d e ≡ false → leaves' e ≡ leaves e)
     (unused : (x : ℕ) → node_at (nodes_of old.slots) x ≢ Some (leaf d)) where
-  its : (e : ℕ) → is_in (d ∷ []) e ≡ true → get_or (set wide d (Some key)) e None ≡ Some key
-  its e h = ap (λ y. get_or (set wide d (Some key)) y None) (sym (is_in-one d e h)) ∙ get_or-set_same wide d (Some key) None within
+  its : (e : ℕ) → is_in (d ∷ []) e ≡ true → leaves' e ≡ Some key
+  its e h = ap leaves' (sym (is_in-one d e h)) ∙ changed
 
-  not_its : (e : ℕ) → is_in (d ∷ []) e ≡ false → get_or (set wide d (Some key)) e None ≡ get_or leaves e None
-  not_its e h = get_or-set_other wide d e (Some key) None differs ∙ widened e
-    where
-      differs : e ≢ d
-      differs same = both_ways (is_in (d ∷ []) e) h (ap (is_in (d ∷ [])) same ∙ one_in d)
+  not_its : (e : ℕ) → is_in (d ∷ []) e ≡ false → leaves' e ≡ leaves e
+  not_its e h = others e (ne_eqb d e (λ same. both_ways (is_in (d ∷ []) e) h (ap (is_in (d ∷ [])) (sym same) ∙ one_in d)))
 
-  none_yet : (e : ℕ) → is_in (d ∷ []) e ≡ true → get_or leaves e None ≡ None
-  none_yet e h = ap (λ y. get_or leaves y None) (sym (is_in-one d e h)) ∙ at (get_or leaves d None) refl
+  none_yet : (e : ℕ) → is_in (d ∷ []) e ≡ true → leaves e ≡ None
+  none_yet e h = ap leaves (sym (is_in-one d e h)) ∙ at (leaves d) refl
     where
-      at : (o : Option ℕ) → get_or leaves d None ≡ o → get_or leaves d None ≡ None
+      at : (o : Option ℕ) → leaves d ≡ o → leaves d ≡ None
       at None f = f
       at (Some x) f = absurd (unused x (leaf_node old.slots made kept.forest x d (kept.leaf_at d x f)))
 
@@ -82,17 +79,17 @@ module _ (old new : Slab Item) (leaves wide : List (Option ℕ)) (made : ℕ) (k
   off : (X : ℕ → Type 0) (x : ℕ) → is_on [] x ≡ true → X x
   off X x h = absurd (both_ways false refl h)
 
-  pub leafed : IsKept new.slots (set wide d (Some key)) (made + 1)
+  pub leafed : IsKept new.slots leaves' (made + 1)
   leafed =
-      kept_added old.slots new.slots leaves (set wide d (Some key)) made kept key (new_leaf made d) vacant updates.changed refl refl updates.others
+      kept_added old.slots new.slots leaves leaves' made kept key (new_leaf made d) vacant updates.changed refl refl updates.others
       (off (λ x. is_kept old.slots x ≡ true)) (off (λ x. parent_at old.slots x ≡ None)) shape its not_its none_yet alone
 
   pub leafs : Adds (nodes_of old.slots) (nodes_of new.slots) key (leaf d)
   leafs =
-      adds old.slots new.slots leaves (set wide d (Some key)) made kept key (new_leaf made d) vacant updates.changed refl refl updates.others
+      adds old.slots new.slots leaves leaves' made kept key (new_leaf made d) vacant updates.changed refl refl updates.others
       (off (λ x. is_kept old.slots x ≡ true)) (off (λ x. parent_at old.slots x ≡ None)) shape its not_its none_yet alone
 
-module _ (old mid new : Slab Item) (leaves : List (Option ℕ)) (made : ℕ) (kept : IsKept old.slots leaves made) (key : ℕ) (i : Item)
+module _ (old mid new : Slab Item) (leaves : ℕ → Option ℕ) (made : ℕ) (kept : IsKept old.slots leaves made) (key : ℕ) (i : Item)
     (found : get old key ≡ Some i) (updates : Updates old mid key None)
     (moved : (x : ℕ) → get new x ≡ put (is_on i.cycle x) None (get mid x))
     (some : cycle_at (nodes_of old.slots) key ≢ []) (outer : IsOuter (nodes_of old.slots) key) where

@@ -1,19 +1,15 @@
 -- What a store keeps, as its contracts see it.
-use Rattle.std.proofs.Common.{◌≡◌, ◌⊎◌, inl, inr, ℕ, zero, suc, ◌==◌, ◌||◌, Bool, true, false, List, [], ◌∷◌, ◌++◌, get_or, All, Option, Some, None, is_some, option_map, Result, Ok, Err, IfOk, refl, sym, ◌∙◌, ap, subst, arith}
+use Rattle.std.proofs.Common.{◌≡◌, ◌⊎◌, inl, inr, ℕ, zero, suc, ◌==◌, ◌||◌, Bool, true, false, List, [], ◌∷◌, ◌++◌, Option, Some, None, is_some, option_map, Result, Ok, Err, IfOk, refl, sym, ◌∙◌, ap, subst, arith}
 use Rattle.std.specs.List.{flat_map}
 use Rattle.std.proofs.lemmas.Bool.{both_ways, cases_Bool, eq-eqb, eqb-true, or_left}
 use Rattle.std.proofs.lemmas.List.{append-nil}
 use Rattle.fb_links.specs.declared.cycle.CycleStep.{CycleStep}
-use Rattle.fb_blossoms.specs.Items.{Item}
-use Rattle.fb_blossoms.specs.Nodes.{IsBlossom, IsChildHolding, IsLeaf, IsNested, IsOuter, IsOuterOf, Node, cycle_at, cycle_of, defects_along, defects_at, defects_of, is_in, is_on, leaf, node_at}
-use Rattle.fb_blossoms.specs.Forest.{Climbs, IsChildOver, IsForest, IsItem, IsKept, IsLeafItem, IsOddItem, IsTopOf, cycle_in, defects_in, held_at, is_kept, item_at, made_at, made_in, node_of, nodes_of, own_at, own_in, parent_at, steps_at}
-use Rattle.fb_blossoms.specs.Ways.{AllHold}
-use Rattle.fb_blossoms.proofs.Climbs.{all_from, kept_child, none_some, same_child, same_some, same_top}
+use Rattle.fb_blossoms.specs.InternalItems.{Item}
+use Rattle.fb_blossoms.specs.Nodes.{IsBlossom, IsChildHolding, IsLeaf, IsNested, IsOuter, IsOuterOf, IsParent, Node, cycle_at, cycle_of, defects_along, defects_at, defects_of, is_in, is_on, leaf, node_at}
+use Rattle.fb_blossoms.specs.InternalForest.{Climbs, IsChildOver, IsForest, IsItem, IsKept, IsLeafItem, IsOddItem, IsTopOf, LeadsDownTo, cycle_in, defects_in, held_at, is_kept, item_at, made_at, made_in, node_of, nodes_of, own_at, own_in, parent_at, steps_at}
+use Rattle.fb_blossoms.specs.InternalWays.{LeadsDown}
+use Rattle.fb_blossoms.proofs.Climbs.{kept_child, none_some, same_child, same_some, same_top}
 use Rattle.fb_blossoms.proofs.Held.{along_same, cycle_from, held_along, held_from, holds_climbing, holds_some, leaf_below, live_from, node_from}
-
--- what the list of leaves was read as
-pub leaf_read : (seen leaves : List (Option ℕ)) (d : ℕ) (r o : Option ℕ) → seen ≡ leaves → r ≡ get_or seen d None → r ≡ o → get_or leaves d None ≡ o
-leaf_read seen leaves d r o same is e = ap (λ l. get_or l d None) (sym same) ∙ (sym is ∙ e)
 
 -- a number in a list of one is that one
 pub is_in-one : (x d : ℕ) → is_in (x ∷ []) d ≡ true → x ≡ d
@@ -158,10 +154,10 @@ module _ (slots : List (Option Item)) (made : ℕ) (forest : IsForest slots made
     round = λ d i. holds_to top d (holds_climbing slots made forest h.climbs.0 x top d h.climbs.1 (holds_from x d i));
   }
 
-module _ (slots : List (Option Item)) (leaves : List (Option ℕ)) (made : ℕ) (kept : IsKept slots leaves made) where
+module _ (slots : List (Option Item)) (leaves : ℕ → Option ℕ) (made : ℕ) (kept : IsKept slots leaves made) where
   -- the leaf of a defect that a node holds is below the node
   pub leaf_climbs : (x d : ℕ) → is_in (defects_at (nodes_of slots) x) d ≡ true
-      → (l : ℕ) × (get_or leaves d None ≡ Some l) × ((k : ℕ) × Climbs slots k l x)
+      → (l : ℕ) × (leaves d ≡ Some l) × ((k : ℕ) × Climbs slots k l x)
   leaf_climbs x d h =
       let r : (l : ℕ) × (is_in (own_at slots l) d ≡ true) × ((j : ℕ) × Climbs slots j l x) =
       leaf_below slots made kept.forest (suc (made_at slots x)) x d (holds_from slots made kept.forest x d h) in
@@ -172,7 +168,7 @@ module _ (slots : List (Option Item)) (leaves : List (Option ℕ)) (made : ℕ) 
   both x y d g h =
       let a = leaf_climbs x d g in
       let b = leaf_climbs y d h in
-      let same : a.0 ≡ b.0 = same_some (get_or leaves d None) a.0 b.0 a.1 b.1 in
+      let same : a.0 ≡ b.0 = same_some (leaves d) a.0 b.0 a.1 b.1 in
       let P : ℕ → Type 0 = λ l. (j : ℕ) × Climbs slots j l y in
       (a.0, a.2, subst P (sym same) b.2)
 
@@ -183,7 +179,7 @@ module _ (slots : List (Option Item)) (leaves : List (Option ℕ)) (made : ℕ) 
         let r = holds_some slots made kept.forest (suc (made_at slots x)) x (sym (live_from slots x) ∙ live) (omega arith) in
         both_ways false refl (ap (λ l. is_in l r.0) (sym none ∙ held_from slots x) ∙ r.1);
     once = λ p q x a b. same_some (parent_at slots x) p q (child_from slots made kept.forest p x a) (child_from slots made kept.forest q x b);
-    leaves = λ x y d a b. same_some (get_or leaves d None) x y (kept.leaf_of d x (own_from slots made kept.forest x d a)) (kept.leaf_of d y (own_from slots made kept.forest y d b));
+    leaves = λ x y d a b. same_some (leaves d) x y (kept.leaf_of d x (own_from slots made kept.forest x d a)) (kept.leaf_of d y (own_from slots made kept.forest y d b));
     children = λ p x y d a b g h.
         let r = both x y d g h in
         same_child slots made kept.forest r.1.0 r.2.0 r.0 x y p r.1.1 r.2.1 (child_from slots made kept.forest p x a) (child_from slots made kept.forest p y b);
@@ -194,10 +190,10 @@ module _ (slots : List (Option Item)) (leaves : List (Option ℕ)) (made : ℕ) 
 
   -- a blossom is above the leaf of each defect that it holds
   pub strictly_below : (x d l : ℕ) → is_in (defects_at (nodes_of slots) x) d ≡ true → (cycle_at (nodes_of slots) x ≡ [] → ⊥)
-      → get_or leaves d None ≡ Some l → (k : ℕ) × Climbs slots (suc k) l x
+      → leaves d ≡ Some l → (k : ℕ) × Climbs slots (suc k) l x
   strictly_below x d l h some e =
       let r = leaf_climbs x d h in
-      let same : r.0 ≡ l = same_some (get_or leaves d None) r.0 l r.1 e in
+      let same : r.0 ≡ l = same_some (leaves d) r.0 l r.1 e in
       let P : ℕ → Type 0 = λ y. Climbs slots r.2.0 y x in
       at r.2.0 (subst P same r.2.1)
     where
@@ -208,19 +204,45 @@ module _ (slots : List (Option Item)) (leaves : List (Option ℕ)) (made : ℕ) 
       at zero c = absurd (some (cycle_from slots x ∙ (ap (steps_at slots) (sym c) ∙ cycle_none)))
       at (suc j) c = (j, c)
 
-  pub child_round : (x d l child : ℕ) → get_or leaves d None ≡ Some l → IsChildOver slots x l child
+  pub child_round : (x d l child : ℕ) → leaves d ≡ Some l → IsChildOver slots x l child
       → IsChildHolding (nodes_of slots) x d child
   child_round x d l child e h = record {
     child_of = child_to slots made kept.forest x child h.child_of;
     holds = holds_to slots made kept.forest child d (holds_climbing slots made kept.forest h.climbs.0 l child d h.climbs.1 (own_held slots made kept.forest l d (kept.leaf_at d l e)));
   }
 
-  -- the nodes on the way up from the leaf of a defect hold it
-  pub way_round : {V E : Type 0} (names : V → List ℕ) (x d l : ℕ) → get_or leaves d None ≡ Some l → (r : Result (ℕ × V) E)
-      → IfOk r (λ w. IsChildOver slots x l w.0 × All (λ y. (k : ℕ) × Climbs slots k l y) (names w.1))
-      → IfOk r (λ w. IsChildHolding (nodes_of slots) x d w.0 × AllHold (nodes_of slots) d (names w.1))
-  way_round names x d l e (Err f) h = tt
-  way_round names x d l e (Ok w) h = (child_round x d l w.0 e h.0, all_from (λ y. (k : ℕ) × Climbs slots k l y) (λ y. is_in (defects_at (nodes_of slots) y) d ≡ true) holding (names w.1) h.1)
+  pub climbs_from : (x d l : ℕ) → is_in (defects_at (nodes_of slots) x) d ≡ true → leaves d ≡ Some l → (k : ℕ) × Climbs slots k l x
+  climbs_from x d l h e =
+      let r = leaf_climbs x d h in
+      let P : ℕ → Type 0 = λ y. (k : ℕ) × Climbs slots k y x in
+      subst P (same_some (leaves d) r.0 l r.1 e) r.2
+
+  -- the way down to a leaf
+  pub way_down : (x l d : ℕ) (way : List ℕ) → own_at slots l ≡ d ∷ [] → LeadsDownTo slots x l way → LeadsDown (nodes_of slots) x d way
+  way_down x l d [] own e = leaf_node slots made kept.forest x d (ap (own_at slots) e ∙ own)
+  way_down x l d (y ∷ ys) own h = (child_to slots made kept.forest x y h.0, way_down y l d ys own h.1)
+
+  pub way_found : {V E : Type 0} (names : V → List ℕ) (x l d : ℕ) → leaves d ≡ Some l → (r : Result V E)
+      → IfOk r (λ v. LeadsDownTo slots x l (names v)) → IfOk r (λ v. LeadsDown (nodes_of slots) x d (names v))
+  way_found names x l d e (Err f) h = tt
+  way_found names x l d e (Ok v) h = way_down x l d (names v) (kept.leaf_at d l e) h
+
+  -- a blossom has the node exactly if it is the node's parent
+  pub on_parent : (x y : ℕ) (b : Bool) → (b ≡ true → parent_at slots y ≡ Some x) → (parent_at slots y ≡ Some x → b ≡ true)
+      → b ≡ is_on (cycle_at (nodes_of slots) x) y
+  on_parent x y b f g =
+      elim (cases_Bool (is_on (cycle_at (nodes_of slots) x) y)) [
+        | inl on ↦ g (child_from slots made kept.forest x y on) ∙ sym on
+        | inr off ↦
+            elim (cases_Bool b) [
+              | inl e ↦ absurd (both_ways _ off (child_to slots made kept.forest x y (f e)))
+              | inr e ↦ e ∙ sym off
+            ]
+      ]
+
+  pub parent_is : (x : ℕ) → IsParent (nodes_of slots) x (parent_at slots x)
+  parent_is x = at (parent_at slots x) refl
     where
-      holding : (y : ℕ) → (k : ℕ) × Climbs slots k l y → is_in (defects_at (nodes_of slots) y) d ≡ true
-      holding y c = holds_to slots made kept.forest y d (holds_climbing slots made kept.forest c.0 l y d c.1 (own_held slots made kept.forest l d (kept.leaf_at d l e)))
+      at : (o : Option ℕ) → parent_at slots x ≡ o → IsParent (nodes_of slots) x o
+      at None e = outer_to slots made kept.forest x e
+      at (Some p) e = child_to slots made kept.forest p x e

@@ -10,9 +10,8 @@ use Rattle.fb_links.specs.declared.cycle.CycleStep.{CycleStep}
 use Rattle.fb_links.specs.Walks.{end_of, start_of}
 use Rattle.fb_links.specs.Table.{walk_at}
 use Rattle.fb_blossoms.specs.Nodes.{AreDistinct, AreWithin, IsBlossom, IsNested, IsOddCycle, Node, cycle_at, cycle_of, defects_along, defects_at, defects_of, is_in, is_on, node_at}
-use Rattle.fb_blossoms.specs.Links.{AreLinked, IsLinkBetween, next_place, step_at}
+use Rattle.fb_blossoms.specs.Links.{AreLinked, IsLinkBetween, link_after, next_place, node_after, place_after, step_at}
 use Rattle.fb_blossoms.specs.Paths.{has_link}
-use Rattle.fb_blossoms.specs.Legs.{link_after, node_after, place_after}
 use Rattle.fb_blossoms.proofs.Climbs.{none_some}
 use Rattle.fb_blossoms.proofs.Held.{to_along}
 
@@ -138,7 +137,7 @@ module _ (nodes : List (Option Node)) (nested : IsNested nodes) (name : ℕ) whe
       let P : Option Node → Type 0 = λ o. length (cycle_of o) % 2 ≡ 1 in
       subst P (sym b.1) b.2.cycle.odd
 
-swapped : (links : List (Option (List Step))) (nodes : List (Option Node)) (l x y : ℕ) → IsLinkBetween links nodes l x y → IsLinkBetween links nodes l y x
+pub swapped : (links : List (Option (List Step))) (nodes : List (Option Node)) (l x y : ℕ) → IsLinkBetween links nodes l x y → IsLinkBetween links nodes l y x
 swapped links nodes l x y h = (
   h.0,
   elim (or_cases (is_in (defects_at nodes x) (start_of (walk_at links l)) && is_in (defects_at nodes y) (end_of (walk_at links l))) _ h.1) [
@@ -197,43 +196,48 @@ module _ (links : List (Option (List Step))) (nodes : List (Option Node)) (neste
       ]
 
 -- a node of the cycle has a place
-pub place_none : (seen cycle : List CycleStep) (r : Option ℕ) (x : ℕ) → seen ≡ cycle → is_on cycle x ≡ true → r ≡ position (λ s. s.node == x) seen → r ≡ None → ⊥
-place_none seen cycle r x same on is e =
-    both_ways (is_on seen x) (list_any_none (λ s. s.node == x) seen (λ k d less. fails_before_first (λ s. s.node == x) seen k d (le_trans less past)))
-    (ap (λ c. is_on c x) same ∙ on)
+pub place_none : (cycle : List CycleStep) (r : Option ℕ) (x : ℕ) → is_on cycle x ≡ true → r ≡ position (λ s. s.node == x) cycle → r ≡ None → ⊥
+place_none cycle r x on is e =
+    both_ways (is_on cycle x) (list_any_none (λ s. s.node == x) cycle (λ k d less. fails_before_first (λ s. s.node == x) cycle k d (le_trans less past))) on
   where
-    none : position (λ (s : CycleStep). s.node == x) seen ≡ None
+    none : position (λ (s : CycleStep). s.node == x) cycle ≡ None
     none = sym is ∙ e
 
-    past : length seen ≤ position_or_len (λ (s : CycleStep). s.node == x) seen
+    past : length cycle ≤ position_or_len (λ (s : CycleStep). s.node == x) cycle
     past =
-        elim (cases_lt (position_or_len (λ (s : CycleStep). s.node == x) seen) (length seen)) [
+        elim (cases_lt (position_or_len (λ (s : CycleStep). s.node == x) cycle) (length cycle)) [
           | inl h ↦
-              let f : position (λ (s : CycleStep). s.node == x) seen ≡ Some (position_or_len (λ (s : CycleStep). s.node == x) seen) =
-              rw (lt-ltb (position_or_len (λ (s : CycleStep). s.node == x) seen) (length seen) h) refl in
-              absurd (none_some (position (λ (s : CycleStep). s.node == x) seen) _ none f)
+              let f : position (λ (s : CycleStep). s.node == x) cycle ≡ Some (position_or_len (λ (s : CycleStep). s.node == x) cycle) =
+              rw (lt-ltb (position_or_len (λ (s : CycleStep). s.node == x) cycle) (length cycle) h) refl in
+              absurd (none_some (position (λ (s : CycleStep). s.node == x) cycle) _ none f)
           | inr h ↦ h
         ]
 
-place_zero : (count : ℕ) (onward : Bool) (s : ℕ) → s < count → place_after count onward s 0 ≡ s
+pub place_is : (cycle : List CycleStep) (r : Option ℕ) (x k : ℕ) → r ≡ position (λ s. s.node == x) cycle → r ≡ Some k
+    → (k < length cycle) × ((step_at cycle k).node ≡ x)
+place_is cycle r x k is e =
+    let found = position-Some (λ (s : CycleStep). s.node == x) cycle k (record { node = 0; link = 0 }) (sym is ∙ e) in
+    (found.0, eqb-true _ x found.1)
+
+-- a step of the cycle is at the node
+pub on_place : (cycle : List CycleStep) (x : ℕ) → is_on cycle x ≡ true → (k : ℕ) × (k < length cycle) × ((step_at cycle k).node ≡ x)
+on_place [] x on = absurd (both_ways false refl on)
+on_place (s ∷ ss) x on =
+    elim (or_cases (s.node == x) (is_on ss x) on) [
+      | inl e ↦ (zero, omega arith, eqb-true s.node x e)
+      | inr e ↦ let r : (k : ℕ) × (k < length ss) × ((step_at ss k).node ≡ x) = on_place ss x e in (suc r.0, omega (arith, r.1), r.2)
+    ]
+
+pub place_zero : (count : ℕ) (onward : Bool) (s : ℕ) → s < count → place_after count onward s 0 ≡ s
 place_zero count true s less = elim (onward_is count s 0) [ inl h ↦ omega (arith, h.0) | inr h ↦ omega (arith, h.0, h.1) ]
 place_zero count false s less =
     let some : 0 < count = omega arith in
     elim (back_is count s 0 some) [ inl h ↦ omega (arith, h.0) | inr h ↦ omega (arith, h.0, h.1) ]
 
--- the steps lead to the child at this place
-pub way_to : (nodes : List (Option Node)) (name : ℕ) (seen : List CycleStep) (count : ℕ) (onward : Bool) (s k place x d : ℕ) (r : Option ℕ)
-    → seen ≡ cycle_at nodes name → count ≡ length seen → place_after count onward s k ≡ place → r ≡ position (λ s. s.node == x) seen → r ≡ Some place
-    → is_in (defects_at nodes x) d ≡ true → is_in (defects_at nodes (node_after (cycle_at nodes name) onward s k)) d ≡ true
-way_to nodes name seen count onward s k place x d r same counted there is e h =
-    let found : (step_at seen place).node ≡ x = eqb-true _ x (position-Some (λ (s : CycleStep). s.node == x) seen place (record { node = 0; link = 0 }) (sym is ∙ e)).1 in
-    let at : node_after seen onward s k ≡ x =
-    ap (λ n. (step_at seen (place_after n onward s k)).node) (sym counted) ∙ (ap (λ p. (step_at seen p).node) there ∙ found) in
-    ap (λ y. is_in (defects_at nodes (node_after y onward s k)) d) (sym same) ∙ (ap (λ y. is_in (defects_at nodes y) d) at ∙ h)
+-- no step from the place of a node leads to the node
+pub none_after : (cycle : List CycleStep) (onward : Bool) (s x : ℕ) → s < length cycle → (step_at cycle s).node ≡ x → node_after cycle onward s 0 ≡ x
+none_after cycle onward s x less at = ap (λ p. (step_at cycle p).node) (place_zero (length cycle) onward s less) ∙ at
 
-pub way_from : (nodes : List (Option Node)) (name : ℕ) (seen : List CycleStep) (onward : Bool) (s x d : ℕ) (r : Option ℕ)
-    → seen ≡ cycle_at nodes name → r ≡ position (λ s. s.node == x) seen → r ≡ Some s
-    → is_in (defects_at nodes x) d ≡ true → is_in (defects_at nodes (node_after (cycle_at nodes name) onward s 0)) d ≡ true
-way_from nodes name seen onward s x d r same is e h =
-    let less : s < length seen = (position-Some (λ (s : CycleStep). s.node == x) seen s (record { node = 0; link = 0 }) (sym is ∙ e)).0 in
-    way_to nodes name seen (length seen) onward s 0 s x d r same refl (place_zero (length seen) onward s less) is e h
+pub steps_after : (cycle : List CycleStep) (onward : Bool) (s k place x : ℕ) → place_after (length cycle) onward s k ≡ place → (step_at cycle place).node ≡ x
+    → node_after cycle onward s k ≡ x
+steps_after cycle onward s k place x there at = ap (λ p. (step_at cycle p).node) there ∙ at

@@ -5,8 +5,8 @@ use Rattle.fb_links.specs.declared.walk.Step.{Step}
 use Rattle.fb_links.specs.declared.cycle.CycleStep.{CycleStep}
 use Rattle.fb_blossoms.specs.declared.legs.Leg.{Leg}
 use Rattle.fb_blossoms.specs.Nodes.{IsNested, Node, cycle_at, defects_along, defects_at, is_on}
-use Rattle.fb_blossoms.specs.Links.{AreLinked}
-use Rattle.fb_blossoms.specs.Legs.{legs_size, node_after}
+use Rattle.fb_blossoms.specs.Links.{AreLinked, node_after}
+use Rattle.fb_blossoms.specs.InternalLegs.{legs_size}
 use Rattle.fb_blossoms.proofs.Rounds.{cycle_kept, on_round, round_differs}
 
 module _ (nodes : List (Option Node)) where

@@ -6,10 +6,9 @@ use Rattle.std.proofs.lemmas.List.Folds.{list_any-append}
 use Rattle.fb_links.specs.declared.walk.Step.{Step}
 use Rattle.fb_links.specs.Walks.{other_end}
 use Rattle.fb_links.specs.Table.{walk_at}
-use Rattle.fb_blossoms.specs.declared.legs.Leg.{Leg}
 use Rattle.fb_blossoms.specs.Nodes.{AreWithin, Node, cycle_at, defects_at, is_in}
-use Rattle.fb_blossoms.specs.Paths.{AreDifferent, IsEvenPath, IsLinkIn, Leads, has_link, reached}
-use Rattle.fb_blossoms.specs.Legs.{AllBecome, AreEnds, AreLegs, Becomes}
+use Rattle.fb_blossoms.specs.Paths.{AreDifferent, IsLinkIn, IsSimpleEvenPath, Leads, has_link, reached}
+use Rattle.fb_blossoms.specs.Links.{LeadsOver}
 
 pub in_either : (xs ys : List ℕ) (v : ℕ) → is_in (xs ++ ys) v ≡ true → (is_in xs v ≡ true) ⊎ (is_in ys v ≡ true)
 in_either xs ys v h = or_cases (is_in xs v) (is_in ys v) (sym (list_any-append (λ u. u == v) xs ys) ∙ h)
@@ -58,7 +57,7 @@ module _ (links : List (Option (List Step))) where
   }
 
   module _ (nodes : List (Option Node)) (name : ℕ) (node : ℕ → ℕ) (k at to : ℕ) (path : List ℕ) (tail : IsTail nodes name node k at to path)
-      (start : ℕ) (front : List ℕ) (inner : IsEvenPath links nodes (node k) start at front) (held : is_in (defects_at nodes (node k)) start ≡ true)
+      (start : ℕ) (front : List ℕ) (inner : IsSimpleEvenPath links nodes (node k) start at front) (held : is_in (defects_at nodes (node k)) start ≡ true)
       (apart : (i v : ℕ) → i < k → is_in (defects_at nodes (node i)) v ≡ true → is_in (defects_at nodes (node k)) v ≡ true → ⊥)
       (child : AreWithin (defects_at nodes (node k)) (defects_at nodes name)) where
     in_front : (v : ℕ) → is_in (start ∷ reached links start front) v ≡ true → is_in (defects_at nodes (node k)) v ≡ true
@@ -100,7 +99,7 @@ module _ (links : List (Option (List Step))) where
 
     -- the whole path
     pub path_from : k % 2 ≡ 0 → ((i : ℕ) → i < k → AreWithin (defects_at nodes (node i)) (defects_at nodes name))
-        → IsEvenPath links nodes name start to (front ++ path)
+        → IsSimpleEvenPath links nodes name start to (front ++ path)
     path_from e children = record {
       leads = both_lead;
       even = both_even e;
@@ -114,7 +113,7 @@ module _ (links : List (Option (List Step))) where
     }
 
     -- a longer last part, that comes over a link
-    pub tail_more : (l outer : ℕ) → AreEnds links nodes l (node k) (node (k + 1)) start outer → has_link (cycle_at nodes name) l ≡ true
+    pub tail_more : (l outer : ℕ) → LeadsOver links nodes l (node (k + 1)) outer (node k) start → has_link (cycle_at nodes name) l ≡ true
         → IsTail nodes name node (k + 1) outer to (l ∷ (front ++ path))
     tail_more l outer ends has = record {
       leads = (ends.end, let P : ℕ → Type 0 = λ w. Leads links w (front ++ path) to in subst P (sym ends.other) both_lead);
@@ -128,45 +127,12 @@ module _ (links : List (Option (List Step))) where
           ];
     }
 
-  module _ (nodes : List (Option Node)) where
-    pub become_split : (xs ys : List Leg) (q : List ℕ) → AllBecome links nodes (xs ++ ys) q
-        → (qx : List ℕ) × (qy : List ℕ) × (q ≡ qy ++ qx) × AllBecome links nodes xs qx × AllBecome links nodes ys qy
-    become_split [] ys q h = ([], q, sym (append-nil q), refl, h)
-    become_split (x ∷ xs) ys q h =
-        let r = become_split xs ys h.1 h.4 in
-        (r.0 ++ h.0, r.1, h.2 ∙ (ap (λ f. f ++ h.0) r.2 ∙ append_assoc r.1 r.0 h.0), (h.0, r.0, refl, h.3, r.3), r.4)
-
-    pub become_both : (xs ys : List Leg) (qx qy : List ℕ) → AllBecome links nodes xs qx → AllBecome links nodes ys qy → AllBecome links nodes (xs ++ ys) (qy ++ qx)
-    become_both [] ys qx qy g h =
-        let e : qy ++ qx ≡ qy = ap (λ q. qy ++ q) g ∙ append-nil qy in
-        let P : List ℕ → Type 0 = AllBecome links nodes ys in
-        subst P (sym e) h
-    become_both (x ∷ xs) ys qx qy g h =
-        (g.0, qy ++ g.1, ap (λ q. qy ++ q) g.2 ∙ sym (append_assoc qy g.1 g.0), g.3, become_both xs ys g.1 qy g.4 h)
-
-    pub become_one : (x : Leg) (q : List ℕ) → AllBecome links nodes (x ∷ []) q → Becomes links nodes x q
-    become_one x q h =
-        let e : q ≡ h.0 = h.2 ∙ ap (λ f. f ++ h.0) h.4 in
-        let P : List ℕ → Type 0 = Becomes links nodes x in
-        subst P (sym e) h.3
-
-    pub one_become : (x : Leg) (q : List ℕ) → Becomes links nodes x q → AllBecome links nodes (x ∷ []) q
-    one_become x q h = (q, [], refl, h, refl)
-
-    pub legs_both : (xs ys : List Leg) → AreLegs nodes xs → AreLegs nodes ys → AreLegs nodes (xs ++ ys)
-    legs_both [] ys g h = h
-    legs_both (x ∷ xs) ys g h = (g.0, legs_both xs ys g.1 h)
-
-    pub legs_split : (xs ys : List Leg) → AreLegs nodes (xs ++ ys) → AreLegs nodes xs × AreLegs nodes ys
-    legs_split [] ys h = (tt, h)
-    legs_split (x ∷ xs) ys h = let r = legs_split xs ys h.1 in ((h.0, r.0), r.1)
-
-    -- no link leads from a defect to itself
-    pub stays : (name d : ℕ) → IsEvenPath links nodes name d d []
-    stays name d = record {
-      leads = refl;
-      even = refl;
-      once = (refl, tt);
-      within = λ v h. absurd (both_ways false refl h);
-      inside = λ l h. absurd (both_ways false refl h);
-    }
+  -- no link leads from a defect to itself
+  pub stays_simple : (nodes : List (Option Node)) (name d : ℕ) → IsSimpleEvenPath links nodes name d d []
+  stays_simple nodes name d = record {
+    leads = refl;
+    even = refl;
+    once = (refl, tt);
+    within = λ v h. absurd (both_ways false refl h);
+    inside = λ l h. absurd (both_ways false refl h);
+  }

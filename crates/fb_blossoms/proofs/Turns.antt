@@ -1,107 +1,185 @@
 -- The legs of a path round a cycle.
-use Rattle.std.proofs.Common.{◌≡◌, inl, inr, ℕ, suc, ◌+◌, ◌*◌, ◌%◌, ◌<◌, Bool, true, false, List, [], ◌∷◌, ◌++◌, length, Option, Some, None, Result, Ok, Err, OnOk, refl, sym, ◌∙◌, ap, subst, arith, append_assoc}
+use Rattle.std.proofs.Common.{◌≡◌, inl, inr, ℕ, zero, suc, ◌+◌, ◌*◌, ◌%◌, ◌<◌, Bool, true, false, List, [], ◌∷◌, ◌++◌, length, reverse, Option, Some, None, Result, Ok, Err, OnOk, refl, sym, ◌∙◌, ap, subst, arith, append_assoc}
 use Rattle.std.proofs.lemmas.Bool.{both_ways}
-use Rattle.std.proofs.lemmas.List.{append-nil}
+use Rattle.std.proofs.lemmas.List.{append-nil, reverse-append}
 use Rattle.fb_links.specs.declared.walk.Step.{Step}
+use Rattle.fb_links.specs.declared.cycle.CycleStep.{CycleStep}
+use Rattle.fb_blossoms.specs.declared.cycles.Round.{Round}
+use Rattle.fb_blossoms.specs.declared.ways.Way.{Way}
+use Rattle.fb_blossoms.specs.declared.legs.Ends.{Ends}
 use Rattle.fb_blossoms.specs.declared.legs.Leg.{Leg}
 use Rattle.fb_blossoms.specs.declared.legs.Leg.TheVariants.{Inside, Over}
-use Rattle.fb_blossoms.specs.Nodes.{AreWithin, IsNested, Node, cycle_at, cycle_of, defects_at, defects_of, is_in, leaf, node_at}
-use Rattle.fb_blossoms.specs.Links.{AreLinked}
-use Rattle.fb_blossoms.specs.Paths.{IsEvenPath, has_link}
-use Rattle.fb_blossoms.specs.Legs.{AllBecome, AreEnds, AreLegs, AreLegsOf, GoesOn, IsLeg, Replaces, legs_size, link_after, node_after}
-use Rattle.fb_blossoms.proofs.Nested.{is_in-one}
-use Rattle.fb_blossoms.proofs.Rounds.{child_within, on_round, round_apart, round_has}
+use Rattle.fb_blossoms.specs.Nodes.{IsNested, Node, cycle_at, cycle_of, defects_at, defects_of, is_in, is_on, leaf, node_at}
+use Rattle.fb_blossoms.specs.Links.{AreLinked, LeadsOver, link_after, node_after}
+use Rattle.fb_blossoms.specs.Paths.{GoesRound, IsEvenPath, ends_here, goes_on, goes_round, stays}
+use Rattle.fb_blossoms.specs.InternalWays.{IsWay, LeadsDown}
+use Rattle.fb_blossoms.specs.InternalLegs.{AllBecome, AreEndWays, AreLegs, GoesOn, IsLeg, IsRoundFrom, IsRoundOf, Replaces, leg_size, legs_size}
+use Rattle.fb_blossoms.proofs.Nested.{is_in-one, one_in}
+use Rattle.fb_blossoms.proofs.Rounds.{child_within, none_after, on_place, on_round}
 use Rattle.fb_blossoms.proofs.Sizes.{passed, round_shorter, size_append}
-use Rattle.fb_blossoms.proofs.Tails.{IsTail, become_both, become_one, become_split, legs_both, legs_split, no_tail, one_become, path_from, stays, tail_more}
+use Rattle.fb_blossoms.proofs.LegLists.{become_both, become_one, become_split, legs_both, legs_split, one_become}
+
+-- a node holds the defects to which ways lead down from it
+pub way_holds : (nodes : List (Option Node)) (nested : IsNested nodes) (name d : ℕ) (xs : List ℕ) → LeadsDown nodes name d xs
+    → is_in (defects_at nodes name) d ≡ true
+way_holds nodes nested name d [] h = ap (λ o. is_in (defects_of o) d) h ∙ one_in d
+way_holds nodes nested name d (x ∷ xs) h = child_within nodes nested name x h.0 d (way_holds nodes nested x d xs h.1)
+
+-- the last node of a way is taken off: it is the child that the rest leads down from
+pub way_shorter_by : (nodes : List (Option Node)) (name d x : ℕ) (old new : List ℕ) → LeadsDown nodes name d (reverse old) → old ≡ new ++ x ∷ []
+    → (is_on (cycle_at nodes name) x ≡ true) × LeadsDown nodes x d (reverse new)
+way_shorter_by nodes name d x old new h e =
+    let f : reverse old ≡ x ∷ reverse new = ap reverse e ∙ reverse-append new (x ∷ []) in
+    let P : List ℕ → Type 0 = LeadsDown nodes name d in
+    subst P f h
 
 module _ (links : List (Option (List Step))) (nodes : List (Option Node)) (name : ℕ) (onward : Bool) (s : ℕ) where
-  -- the legs after so many steps round the node's cycle
-  pub record IsRound (k at to : ℕ) (legs : List Leg) : Type 0 where
-    pub valid : AreLegs nodes legs
-    pub held : is_in (defects_at nodes (node_after (cycle_at nodes name) onward s k)) at ≡ true
-    pub tails : (q : List ℕ) → AllBecome links nodes legs q → IsTail links nodes name (node_after (cycle_at nodes name) onward s) k at to q
-    pub size : legs_size nodes legs ≡ 3 * passed nodes (cycle_at nodes name) onward s k + 2 * k
+  -- the legs before, and those of the last k steps round the node's cycle; the path leaves the child before them at the
+  -- end of the way
+  pub record IsUnderRound (before : List Leg) (k : ℕ) (at : Way) (to : ℕ) (legs : List Leg) : Type 0 where
+    pub valid : AreLegs nodes before → AreLegs nodes legs
+    pub held : IsWay nodes (node_after (cycle_at nodes name) onward s k) at
+    pub rounds : (q : List ℕ) → AllBecome links nodes legs q → (rest : List ℕ) × (later : List ℕ) × (q ≡ rest ++ later)
+        × AllBecome links nodes before later
+        × ((x : ℕ) (front : List ℕ) → IsEvenPath links nodes (node_after (cycle_at nodes name) onward s k) x at.defect front
+        → GoesRound links nodes name onward s k x to (front ++ rest))
+    pub size : legs_size nodes legs ≡ legs_size nodes before + 3 * passed nodes (cycle_at nodes name) onward s k + 2 * k
 
-  pub round_start : (to : ℕ) → is_in (defects_at nodes (node_after (cycle_at nodes name) onward s 0)) to ≡ true → IsRound 0 to to []
-  round_start to h = record {
-    valid = tt;
+  pub round_start : (before : List Leg) (at : Way) → IsWay nodes (node_after (cycle_at nodes name) onward s 0) at → IsUnderRound before 0 at at.defect before
+  round_start before at h = record {
+    valid = λ b. b;
     held = h;
-    tails = λ q e.
-        let P : List ℕ → Type 0 = IsTail links nodes name (node_after (cycle_at nodes name) onward s) 0 to to in
-        subst P (sym e) (no_tail links nodes name (node_after (cycle_at nodes name) onward s) to);
-    size = refl;
+    rounds = λ q a. (
+      [],
+      q,
+      refl,
+      a,
+      λ x front inner.
+          let P : List ℕ → Type 0 = GoesRound links nodes name onward s 0 x at.defect in
+          subst P (sym (append-nil front)) (ends_here name onward s x at.defect front inner),
+    );
+    size = omega arith;
   }
 
   module _ (nested : IsNested nodes) (linked : AreLinked links nodes (cycle_at nodes name)) (start : s < length (cycle_at nodes name))
-      (k at to : ℕ) (legs : List Leg) (so_far : IsRound k at to legs) (small : k < length (cycle_at nodes name))
-      (inner : ℕ) (held : is_in (defects_at nodes (node_after (cycle_at nodes name) onward s k)) inner ≡ true) where
-    leg_in : AreLegs nodes (Inside (node_after (cycle_at nodes name) onward s k) inner at ∷ [])
-    leg_in = ((held, so_far.held), tt)
+      (before : List Leg) (k : ℕ) (at : Way) (to : ℕ) (legs : List Leg) (so_far : IsUnderRound before k at to legs) (small : k < length (cycle_at nodes name)) where
+    abbrev here : ℕ
+    here = node_after (cycle_at nodes name) onward s k
 
-    one_more : legs_size nodes (legs ++ Inside (node_after (cycle_at nodes name) onward s k) inner at ∷ []) ≡ 3 * passed nodes (cycle_at nodes name) onward s (suc k) + 2 * k + 1
-    one_more = omega (arith, size_append nodes legs (Inside (node_after (cycle_at nodes name) onward s k) inner at ∷ []), so_far.size)
+    one_more : (from : Way) → legs_size nodes (legs ++ Inside here (record { from = from; to = at }) ∷ [])
+        ≡ legs_size nodes before + 3 * passed nodes (cycle_at nodes name) onward s (suc k) + 2 * k + 1
+    one_more from = omega (arith, size_append nodes legs (Inside here (record { from = from; to = at }) ∷ []), so_far.size)
 
-    child : AreWithin (defects_at nodes (node_after (cycle_at nodes name) onward s k)) (defects_at nodes name)
-    child = child_within nodes nested name _ (on_round links nodes nested name s linked start onward k small)
-
-    pub round_more : (l outer : ℕ) → k + 1 < length (cycle_at nodes name) → l ≡ link_after (cycle_at nodes name) onward s k
-        → AreEnds links nodes l (node_after (cycle_at nodes name) onward s k) (node_after (cycle_at nodes name) onward s (k + 1)) inner outer
-        → IsRound (k + 1) outer to ((legs ++ Inside (node_after (cycle_at nodes name) onward s k) inner at ∷ []) ++ Over l ∷ [])
-    round_more l outer next is ends = record {
-      valid = legs_both links nodes _ (Over l ∷ []) (legs_both links nodes legs _ so_far.valid leg_in) (tt, tt);
-      held = ends.there;
-      tails = λ q h.
-          let r = become_split links nodes (legs ++ Inside (node_after (cycle_at nodes name) onward s k) inner at ∷ []) (Over l ∷ []) q h in
-          let t = become_split links nodes legs (Inside (node_after (cycle_at nodes name) onward s k) inner at ∷ []) r.0 r.3 in
-          let over : r.1 ≡ l ∷ [] = become_one links nodes (Over l) r.1 r.4 in
-          let in_it : IsEvenPath links nodes (node_after (cycle_at nodes name) onward s k) inner at t.1 = become_one links nodes (Inside (node_after (cycle_at nodes name) onward s k) inner at) t.1 t.4 in
-          let e : q ≡ l ∷ (t.1 ++ t.0) = r.2 ∙ (ap (λ y. y ++ r.0) over ∙ ap (λ y. l ∷ y) t.2) in
-          let P : List ℕ → Type 0 = IsTail links nodes name (node_after (cycle_at nodes name) onward s) (k + 1) outer to in
-          subst P (sym e)
-          (tail_more links nodes name (node_after (cycle_at nodes name) onward s) k at to t.0 (so_far.tails t.0 t.3) inner t.1 in_it held
-          (round_apart links nodes nested name s linked start onward k small) child l outer ends
-          (ap (has_link (cycle_at nodes name)) is ∙ round_has links nodes nested name s linked start onward k next));
+    pub round_more : (l : ℕ) (ends : Ends) → AreEndWays links nodes l (node_after (cycle_at nodes name) onward s (k + 1)) here ends
+        → l ≡ link_after (cycle_at nodes name) onward s k
+        → IsUnderRound before (k + 1) ends.from to ((legs ++ Inside here (record { from = ends.to; to = at }) ∷ []) ++ Over l ∷ [])
+    round_more l ends over is = record {
+      valid = λ b. legs_both links nodes _ (Over l ∷ []) (legs_both links nodes legs _ (so_far.valid b) ((over.to, so_far.held), tt)) (tt, tt);
+      held = over.from;
+      rounds = λ q h.
+          let r = become_split links nodes (legs ++ Inside here (record { from = ends.to; to = at }) ∷ []) (Over l ∷ []) q h in
+          let t = become_split links nodes legs (Inside here (record { from = ends.to; to = at }) ∷ []) r.0 r.3 in
+          let w = so_far.rounds t.0 t.3 in
+          let by : r.1 ≡ l ∷ [] = become_one links nodes (Over l) r.1 r.4 in
+          let inner : IsEvenPath links nodes here ends.to.defect at.defect t.1 = become_one links nodes (Inside here (record { from = ends.to; to = at })) t.1 t.4 in
+          let e : q ≡ (l ∷ (t.1 ++ w.0)) ++ w.1 =
+          r.2 ∙ (ap (λ y. y ++ r.0) by ∙ ap (λ y. l ∷ y) (t.2 ∙ (ap (λ y. t.1 ++ y) w.2 ∙ sym (append_assoc t.1 w.0 w.1)))) in (
+            l ∷ (t.1 ++ w.0),
+            w.1,
+            e,
+            w.3,
+            λ x front first.
+                let n : k + 1 ≡ suc k = omega arith in
+                let P : ℕ → Type 0 = λ j. IsEvenPath links nodes (node_after (cycle_at nodes name) onward s j) x ends.from.defect front in
+                let Q : ℕ → Type 0 = λ j. LeadsOver links nodes (link_after (cycle_at nodes name) onward s k) (node_after (cycle_at nodes name) onward s j) ends.from.defect here ends.to.defect in
+                let R : ℕ → Type 0 = λ m. LeadsOver links nodes m (node_after (cycle_at nodes name) onward s (k + 1)) ends.from.defect here ends.to.defect in
+                let S : ℕ → Type 0 = λ j. GoesRound links nodes name onward s j x to (front ++ l ∷ (t.1 ++ w.0)) in
+                let T : ℕ → Type 0 = λ m. GoesRound links nodes name onward s (suc k) x to (front ++ m ∷ (t.1 ++ w.0)) in
+                subst S (sym n)
+                (subst T (sym is)
+                (goes_on name onward s k x ends.from.defect ends.to.defect to front (t.1 ++ w.0) (subst P n first) (subst Q n (subst R is over.over)) (w.4 ends.to.defect t.1 inner))),
+          );
       size =
           let e : k + 1 ≡ suc k = omega arith in
           let f : passed nodes (cycle_at nodes name) onward s (k + 1) ≡ passed nodes (cycle_at nodes name) onward s (suc k) = ap (passed nodes (cycle_at nodes name) onward s) e in
-          omega (arith, size_append nodes (legs ++ Inside (node_after (cycle_at nodes name) onward s k) inner at ∷ []) (Over l ∷ []), one_more, f);
+          omega (arith, size_append nodes (legs ++ Inside here (record { from = ends.to; to = at }) ∷ []) (Over l ∷ []), one_more ends.to, f);
     }
 
-    pub round_end : k % 2 ≡ 0 → AreLegsOf links nodes name inner to (legs ++ Inside (node_after (cycle_at nodes name) onward s k) inner at ∷ [])
-    round_end even = record {
-      valid = legs_both links nodes legs _ so_far.valid leg_in;
+    pub round_end : (ends : Ends) → IsWay nodes here ends.from → ends.to.defect ≡ to → k % 2 ≡ 0
+        → Replaces links nodes before (Inside name ends) [] (legs ++ Inside here (record { from = ends.from; to = at }) ∷ [])
+    round_end ends from ends_at even = record {
+      legs = λ b. legs_both links nodes legs _ (so_far.valid b) ((from, so_far.held), tt);
       become = λ q h.
-          let t = become_split links nodes legs (Inside (node_after (cycle_at nodes name) onward s k) inner at ∷ []) q h in
-          let in_it : IsEvenPath links nodes (node_after (cycle_at nodes name) onward s k) inner at t.1 = become_one links nodes (Inside (node_after (cycle_at nodes name) onward s k) inner at) t.1 t.4 in
-          let P : List ℕ → Type 0 = IsEvenPath links nodes name inner to in
-          subst P (sym t.2)
-          (path_from links nodes name (node_after (cycle_at nodes name) onward s) k at to t.0 (so_far.tails t.0 t.3) inner t.1 in_it held
-          (round_apart links nodes nested name s linked start onward k small) child even
-          (λ i less. child_within nodes nested name _ (on_round links nodes nested name s linked start onward i (let b : i < length (cycle_at nodes name) = omega arith in b))));
-      shorter = omega (arith, one_more, round_shorter links nodes nested name s linked start onward k small);
+          let t = become_split links nodes legs (Inside here (record { from = ends.from; to = at }) ∷ []) q h in
+          let w = so_far.rounds t.0 t.3 in
+          let inner : IsEvenPath links nodes here ends.from.defect at.defect t.1 = become_one links nodes (Inside here (record { from = ends.from; to = at })) t.1 t.4 in
+          let P : ℕ → Type 0 = λ d. IsEvenPath links nodes name ends.from.defect d (t.1 ++ w.0) in
+          let path : IsEvenPath links nodes name ends.from.defect ends.to.defect (t.1 ++ w.0) =
+          subst P (sym ends_at) (goes_round name ends.from.defect to (t.1 ++ w.0) onward s k start small even (w.4 ends.from.defect t.1 inner)) in
+          let e : q ≡ (t.1 ++ w.0) ++ w.1 = t.2 ∙ (ap (λ y. t.1 ++ y) w.2 ∙ sym (append_assoc t.1 w.0 w.1)) in
+          let Q : List ℕ → Type 0 = AllBecome links nodes (before ++ Inside name ends ∷ []) in
+          subst Q (sym e) (become_both links nodes before (Inside name ends ∷ []) w.1 (t.1 ++ w.0) w.3 (one_become links nodes (Inside name ends) (t.1 ++ w.0) path));
+      shorter = omega (arith, one_more ends.from, round_shorter links nodes nested name s linked start onward k small);
     }
 
--- a leg gives way to the legs that it is made of
-pub replaced_by : (links : List (Option (List Step))) (nodes : List (Option Node)) (before legs : List Leg) (name from to : ℕ)
-    → AreLegsOf links nodes name from to legs → Replaces links nodes before (Inside name from to) [] (before ++ legs)
-replaced_by links nodes before legs name from to h = record {
-  legs = λ b. legs_both links nodes before legs b h.valid;
+pub end_ways_as : (links : List (Option (List Step))) (nodes : List (Option Node)) (l x y v w : ℕ) (ends : Ends) → AreEndWays links nodes l x y ends
+    → x ≡ v → y ≡ w → AreEndWays links nodes l v w ends
+end_ways_as links nodes l x y v w ends h e f =
+    let P : ℕ → Type 0 = λ a. AreEndWays links nodes l a w ends in
+    let Q : ℕ → Type 0 = λ b. AreEndWays links nodes l x b ends in
+    subst P e (subst Q f h)
+
+-- a leg whose ends are in one child gives way to the leg inside the child
+pub replaced_by_child : (links : List (Option (List Step))) (nodes : List (Option Node)) (nested : IsNested nodes) (before : List Leg) (name x : ℕ) (ends inner : Ends)
+    → AreLinked links nodes (cycle_at nodes name) → is_on (cycle_at nodes name) x ≡ true → IsLeg nodes (Inside x inner)
+    → inner.from.defect ≡ ends.from.defect → inner.to.defect ≡ ends.to.defect
+    → Replaces links nodes before (Inside name ends) [] (before ++ Inside x inner ∷ [])
+replaced_by_child links nodes nested before name x ends inner linked on leg from to =
+    let p = on_place (cycle_at nodes name) x on in
+    let at : node_after (cycle_at nodes name) true p.0 0 ≡ x = none_after (cycle_at nodes name) true p.0 x p.1 p.2 in
+    let some : 0 < length (cycle_at nodes name) = omega (arith, p.1) in
+    record {
+      legs = λ b. legs_both links nodes before (Inside x inner ∷ []) b (leg, tt);
+      become = λ q h.
+          let t = become_split links nodes before (Inside x inner ∷ []) q h in
+          let path : IsEvenPath links nodes x inner.from.defect inner.to.defect t.1 = become_one links nodes (Inside x inner) t.1 t.4 in
+          let P : ℕ → Type 0 = λ y. IsEvenPath links nodes y inner.from.defect inner.to.defect t.1 in
+          let Q : ℕ → Type 0 = λ d. IsEvenPath links nodes name d ends.to.defect t.1 in
+          let R : ℕ → Type 0 = λ d. IsEvenPath links nodes name inner.from.defect d t.1 in
+          let whole : IsEvenPath links nodes name inner.from.defect inner.to.defect t.1 =
+          goes_round name inner.from.defect inner.to.defect t.1 true p.0 0 p.1 some refl (ends_here name true p.0 inner.from.defect inner.to.defect t.1 (subst P (sym at) path)) in
+          let S : List ℕ → Type 0 = AllBecome links nodes (before ++ Inside name ends ∷ []) in
+          subst S (sym t.2) (become_both links nodes before (Inside name ends ∷ []) t.0 t.1 t.3 (one_become links nodes (Inside name ends) t.1 (subst Q from (subst R to whole))));
+      shorter =
+          let size : length (defects_at nodes (node_after (cycle_at nodes name) true p.0 0)) ≡ length (defects_at nodes x) = ap (λ y. length (defects_at nodes y)) at in
+          omega (arith, size_append nodes before (Inside x inner ∷ []), size, round_shorter links nodes nested name p.0 linked p.1 true 0 some);
+    }
+
+-- a leg with other ways to the same defects gives way to the same legs
+pub replaces_as : (links : List (Option (List Step))) (nodes : List (Option Node)) (before after : List Leg) (name : ℕ) (inner ends : Ends)
+    → inner.from.defect ≡ ends.from.defect → inner.to.defect ≡ ends.to.defect
+    → Replaces links nodes before (Inside name inner) [] after → Replaces links nodes before (Inside name ends) [] after
+replaces_as links nodes before after name inner ends from to h = record {
+  legs = h.legs;
   become = λ q a.
-      let r = become_split links nodes before legs q a in
-      let P : List ℕ → Type 0 = AllBecome links nodes (before ++ Inside name from to ∷ []) in
-      subst P (sym r.2)
-      (become_both links nodes before (Inside name from to ∷ []) r.0 r.1 r.3 (one_become links nodes (Inside name from to) r.1 (h.become r.1 r.4)));
-  shorter = omega (arith, size_append nodes before legs, h.shorter);
+      let t = become_split links nodes before (Inside name inner ∷ []) q (h.become q a) in
+      let path : IsEvenPath links nodes name inner.from.defect inner.to.defect t.1 = become_one links nodes (Inside name inner) t.1 t.4 in
+      let Q : ℕ → Type 0 = λ d. IsEvenPath links nodes name d ends.to.defect t.1 in
+      let R : ℕ → Type 0 = λ d. IsEvenPath links nodes name inner.from.defect d t.1 in
+      let S : List ℕ → Type 0 = AllBecome links nodes (before ++ Inside name ends ∷ []) in
+      subst S (sym t.2) (become_both links nodes before (Inside name ends ∷ []) t.0 t.1 t.3 (one_become links nodes (Inside name ends) t.1 (subst Q from (subst R to path))));
+  shorter = h.shorter;
 }
 
 -- a leg from a defect to itself gives way to none
-pub replaced_by_none : (links : List (Option (List Step))) (nodes : List (Option Node)) (before : List Leg) (name from to : ℕ)
-    → from ≡ to → Replaces links nodes before (Inside name from to) [] before
-replaced_by_none links nodes before name from to e = record {
+pub replaced_by_none : (links : List (Option (List Step))) (nodes : List (Option Node)) (nested : IsNested nodes) (before : List Leg) (name : ℕ) (ends : Ends)
+    → IsLeg nodes (Inside name ends) → ends.from.defect ≡ ends.to.defect → Replaces links nodes before (Inside name ends) [] before
+replaced_by_none links nodes nested before name ends leg e = record {
   legs = λ b. b;
   become = λ q a.
-      let P : ℕ → Type 0 = λ t. IsEvenPath links nodes name from t [] in
-      become_both links nodes before (Inside name from to ∷ []) q [] a (one_become links nodes (Inside name from to) [] (subst P e (stays links nodes name from)));
+      let P : ℕ → Type 0 = λ t. IsEvenPath links nodes name ends.from.defect t [] in
+      become_both links nodes before (Inside name ends ∷ []) q [] a
+      (one_become links nodes (Inside name ends) [] (subst P e (stays name ends.from.defect (way_holds nodes nested name ends.from.defect _ leg.0))));
   shorter = omega arith;
 }
 
@@ -114,26 +192,13 @@ replaced_over links nodes before l = record {
   shorter = omega arith;
 }
 
-pub ends_as : (links : List (Option (List Step))) (nodes : List (Option Node)) (l x y v w inner outer : ℕ) → AreEnds links nodes l x y inner outer
-    → x ≡ v → y ≡ w → AreEnds links nodes l v w inner outer
-ends_as links nodes l x y v w inner outer h e f =
-    let P : ℕ → Type 0 = λ a. AreEnds links nodes l a w inner outer in
-    let Q : ℕ → Type 0 = λ b. AreEnds links nodes l x b inner outer in
-    subst P e (subst Q f h)
-
-pub replaced_as : (links : List (Option (List Step))) (nodes : List (Option Node)) (before legs seen after : List Leg) (name from to : ℕ)
-    → AreLegsOf links nodes name from to legs → seen ≡ legs → after ≡ before ++ seen → Replaces links nodes before (Inside name from to) [] after
-replaced_as links nodes before legs seen after name from to h same e =
-    let P : List Leg → Type 0 = Replaces links nodes before (Inside name from to) [] in
-    subst P (sym (e ∙ ap (λ l. before ++ l) same)) (replaced_by links nodes before legs name from to h)
-
 pub goes_over : (links : List (Option (List Step))) (nodes : List (Option Node)) (before : List Leg) (l : ℕ) (old new : List ℕ)
     → new ≡ old ++ l ∷ [] → GoesOn links nodes before (Over l) old before new
 goes_over links nodes before l old new e = record { gone = l ∷ []; grown = e; replaced = replaced_over links nodes before l }
 
-pub goes_inside : (links : List (Option (List Step))) (nodes : List (Option Node)) (before after : List Leg) (name from to : ℕ) (old : List ℕ)
-    → Replaces links nodes before (Inside name from to) [] after → GoesOn links nodes before (Inside name from to) old after old
-goes_inside links nodes before after name from to old h = record { gone = []; grown = sym (append-nil old); replaced = h }
+pub goes_inside : (links : List (Option (List Step))) (nodes : List (Option Node)) (before after : List Leg) (name : ℕ) (ends : Ends) (old : List ℕ)
+    → Replaces links nodes before (Inside name ends) [] after → GoesOn links nodes before (Inside name ends) old after old
+goes_inside links nodes before after name ends old h = record { gone = []; grown = sym (append-nil old); replaced = h }
 
 pub way_shorter : (links : List (Option (List Step))) (nodes : List (Option Node)) (todo before after : List Leg) (leg : Leg) (old new : List ℕ)
     → todo ≡ before ++ leg ∷ [] → GoesOn links nodes before leg old after new → legs_size nodes after < legs_size nodes todo
@@ -146,11 +211,17 @@ pub record IsUnderWay (links : List (Option (List Step))) (nodes : List (Option 
   pub become : (q : List ℕ) → AllBecome links nodes todo q → IsEvenPath links nodes name from to (path ++ q)
 
 module _ (links : List (Option (List Step))) (nodes : List (Option Node)) (name from to : ℕ) where
-  pub way_begins : (todo : List Leg) → is_in (defects_at nodes name) from ≡ true → is_in (defects_at nodes name) to ≡ true
-      → todo ≡ [] ++ Inside name from to ∷ [] → IsUnderWay links nodes name from to todo []
-  way_begins todo a b e =
+  pub way_begins : (todo : List Leg) (ends : Ends) → IsLeg nodes (Inside name ends) → ends.from.defect ≡ from → ends.to.defect ≡ to
+      → todo ≡ [] ++ Inside name ends ∷ [] → IsUnderWay links nodes name from to todo []
+  way_begins todo ends leg f t e =
       let P : List Leg → Type 0 = λ t. IsUnderWay links nodes name from to t [] in
-      subst P (sym e) (record { valid = ((a, b), tt); become = λ q h. become_one links nodes (Inside name from to) q h })
+      let Q : ℕ → List ℕ → Type 0 = λ d q. IsEvenPath links nodes name d to q in
+      let R : ℕ → List ℕ → Type 0 = λ d q. IsEvenPath links nodes name ends.from.defect d q in
+      subst P (sym e)
+      (record {
+        valid = (leg, tt);
+        become = λ q h. subst (λ d. Q d q) f (subst (λ d. R d q) t (become_one links nodes (Inside name ends) q h));
+      })
 
   pub way_goes_on : (todo before after : List Leg) (leg : Leg) (old new : List ℕ) → IsUnderWay links nodes name from to todo old → todo ≡ before ++ leg ∷ []
       → GoesOn links nodes before leg old after new → IsUnderWay links nodes name from to after new

@@ -1,9 +1,10 @@
-pub mod Forest
-pub mod Items
-pub mod Legs
+pub mod InternalFixture
+pub mod InternalForest
+pub mod InternalItems
+pub mod InternalLegs
+pub mod InternalShapes
+pub mod InternalWays
+pub mod Laws
 pub mod Links
 pub mod Nodes
 pub mod Paths
-pub mod Fixture
-pub mod Shapes
-pub mod Ways

@@ -1,10 +1,10 @@
 -- Blossoms as contracts see them: a table of nodes by number. A node is a leaf, which is one defect, or a blossom, which
 -- is an odd cycle of nodes (Edmonds 1965).
-use Rattle.std.specs.Prelude.{ℕ, ◌≡◌, ◌≢◌, ◌%◌, ◌≤◌, ◌==◌, ◌⊎◌, Bool, true, false, List, [], ◌∷◌, length, flat_map, get_or, Option, Some, None, is_some, refl}
+use Rattle.std.specs.Prelude.{ℕ, ◌≡◌, ◌≢◌, ◌%◌, ◌≤◌, ◌==◌, ◌⊎◌, Bool, true, false, List, [], ◌∷◌, length, flat_map, get_or, Option, Some, None, MatchOption, is_some, refl}
 use Rattle.std.specs.List.{list_any}
 use Rattle.std.specs.Coded.{Coded, code_by, coded×, coded_list, coded_option, coded_ℕ}
 use Rattle.fb_links.specs.declared.cycle.CycleStep.{CycleStep}
-use Rattle.fb_blossoms.specs.Items.{step_code}
+use Rattle.fb_blossoms.specs.InternalItems.{step_code}
 
 pub record Node : Type 0 where
   -- the defects that it holds
@@ -122,6 +122,10 @@ pub record IsOuterOf (nodes : List (Option Node)) (name outer : ℕ) : Type 0 wh
   pub live : is_live nodes outer ≡ true
   pub outermost : IsOuter nodes outer
   pub round : AreWithin (defects_at nodes name) (defects_at nodes outer)
+
+-- the blossom that has the node in its cycle; none if no blossom has
+abbrev pub IsParent : List (Option Node) → ℕ → Option ℕ → Type 0
+IsParent nodes name parent = MatchOption parent (IsOuter nodes name) (λ p. is_on (cycle_at nodes p) name ≡ true)
 
 -- the child of the node holds the defect
 pub record IsChildHolding (nodes : List (Option Node)) (name d child : ℕ) : Type 0 where

@@ -1,35 +1,36 @@
-ghost use Rattle.std.specs.Prelude.{◌≡◌, ◌≢◌, ℕ, [], true, IfOk, OnErr, Some};
-ghost use Rattle.fb_blossoms.specs.Links.{AreLinked};
-ghost use Rattle.fb_blossoms.specs.Paths.{AllLinked, IsEvenPath};
-ghost use Rattle.fb_blossoms.specs.Nodes.{Adds, AreOuter, IsChildHolding, IsNested, IsOddCycle, IsOuter, IsOuterOf, TakesOff, blossom, cycle_at, defects_at, is_in, is_live, is_on, leaf, node_at};
-ghost use Rattle.fb_blossoms.specs.Ways.{AllHold};
+ghost use Rattle.std.specs.Prelude.{◌≡◌, ◌≢◌, ℕ, nat_eq, [], reverse, true, IfOk, OnErr, Some};
+ghost use Rattle.std.specs.HashMap.{get};
+ghost use Rattle.fb_blossoms.specs.Links.{AllLinked, AreLinked};
+ghost use Rattle.fb_blossoms.specs.Paths.{IsEvenPath};
+ghost use Rattle.fb_blossoms.specs.Nodes.{Adds, AreOuter, IsChildHolding, IsNested, IsOddCycle, IsOuter, IsOuterOf, IsParent, TakesOff, blossom, cycle_at, defects_at, is_in, is_live, is_on, leaf, node_at};
+ghost use Rattle.fb_blossoms.specs.InternalWays.{LeadsDown};
 
 use crate::entry::Entry;
-use crate::forest::{
-    child_over, cycle_of, leaf_of, make_place, parent_of, put_under, top_of, way_over,
-};
-use crate::legs::even_path;
+use crate::forest::{child_over, cycle_of, parent_of, put_under, top_of, way_down};
+use crate::legs::{Nest, even_path};
 use crate::{CycleStep, LinkId, Links, NoMemory, NodeId};
 use slab::Slab;
 use std::alloc::Global;
+use std::collections::HashMap;
 use std::marker::Model;
 
 /// A store of nodes. A leaf is one defect; a blossom is an odd cycle of nodes, its children, with the links between
 /// neighbours. A node that is no child is outer. Contracts see the store as the table of its nodes by number. A call
-/// that answers NoMemory leaves the store as it was.
+/// that returns `NoMemory` leaves the store unchanged.
 #[derive(Drop)]
 pub struct Blossoms {
     nodes: Slab<Entry>,
-    /// The leaf of each defect, at the defect's place.
-    leaves: Vec<Option<NodeId>>,
-    /// How many nodes were made so far.
+    /// The leaf of each defect.
+    leaves: HashMap<u32, NodeId>,
+    /// The number of nodes made so far.
     made: u64,
 }
 
 impl Model for Blossoms {
-    ghost use Rattle.std.specs.Prelude.{List, Option};
+    ghost use Rattle.std.specs.Prelude.{List, Option, nat_eq};
+    ghost use Rattle.std.specs.HashMap.{get};
     ghost use Rattle.fb_blossoms.specs.Nodes.{Node, table_code};
-    ghost use Rattle.fb_blossoms.specs.Forest.{IsKept, nodes_of};
+    ghost use Rattle.fb_blossoms.specs.InternalForest.{IsKept, nodes_of};
 
     ghost Value = { List (Option Node) };
 
@@ -37,7 +38,7 @@ impl Model for Blossoms {
 
     ghost view = { λ b. nodes_of b.nodes.slots };
 
-    ghost invariant = { λ b. IsKept b.nodes.slots b.leaves.items b.made };
+    ghost invariant = { λ b. IsKept b.nodes.slots (get nat_eq b.leaves) b.made };
 }
 
 impl Blossoms {
@@ -47,12 +48,12 @@ impl Blossoms {
     {
         Ok(Blossoms {
             nodes: Slab::new(alloc),
-            leaves: Vec::new(alloc),
+            leaves: HashMap::new(alloc),
             made: 0,
         })
     }
 
-    /// Does nothing. Its clause says what every store keeps.
+    /// Does nothing. Its clause states what every store keeps.
     pub fn keeps(&self)
         ensures { IsNested self.now }
     {
@@ -68,15 +69,10 @@ impl Blossoms {
         let Some(made) = self.made.checked_add(1) else {
             return Err(NoMemory);
         };
-        let Ok(()) = self.nodes.reserve(1) else {
-            return Err(NoMemory);
-        };
-        let place = defect as usize;
-        let Ok(()) = make_place(&mut self.leaves, place) else {
-            return Err(NoMemory);
-        };
-        let node = self.nodes.insert_reserved(Entry::leaf(self.made, defect)) as NodeId;
-        self.leaves[place] = Some(node);
+        self.nodes.reserve(1)?;
+        let node = self.nodes.vacant_key() as NodeId;
+        self.leaves.insert(defect, node)?;
+        self.nodes.insert_reserved(Entry::leaf(self.made, defect));
         self.made = made;
         Ok(node)
     }
@@ -98,9 +94,7 @@ impl Blossoms {
         let Some(made) = self.made.checked_add(1) else {
             return Err(NoMemory);
         };
-        let Ok(()) = self.nodes.reserve(1) else {
-            return Err(NoMemory);
-        };
+        self.nodes.reserve(1)?;
         let node = self.nodes.vacant_key() as NodeId;
         put_under(&mut self.nodes, &cycle, Some(node));
         let _ = links;
@@ -109,7 +103,7 @@ impl Blossoms {
         Ok(node)
     }
 
-    /// Takes an outer blossom off and gives its cycle, whose nodes are outer again. The blossom's number is free.
+    /// Removes an outer blossom and returns its cycle, whose nodes are outer again. The blossom's number is free.
     pub fn open_up(&mut self, node: NodeId) -> Vec<CycleStep>
         requires blossom { cycle_at self.old node ≢ [] }
         requires outer { IsOuter self.old node }
@@ -121,7 +115,7 @@ impl Blossoms {
         cycle
     }
 
-    /// The outer node that the node is or is in, at whatever depth.
+    /// The outer node that the node is, or lies in at any depth. Its time is that depth.
     pub fn outer_of(&self, node: NodeId) -> NodeId
         requires { is_live self.now node ≡ true }
         ensures { IsOuterOf self.now node result }
@@ -141,9 +135,34 @@ impl Blossoms {
         child_over(&self.nodes, self.made, node, leaf)
     }
 
-    /// The links of the path of even length inside the blossom from one of its defects to another, going on inside its
-    /// children, so that the path passes no defect twice: each second link matches each defect of the path but its
-    /// last one.
+    /// The blossom in whose cycle the node is, if it is not outer.
+    pub fn parent(&self, node: NodeId) -> Option<NodeId>
+        ensures { IsParent self.now node result }
+    {
+        parent_of(&self.nodes, node)
+    }
+
+    /// Whether the one node is in the cycle of the other.
+    pub fn is_child(&self, node: NodeId, child: NodeId) -> bool
+        ensures { result ≡ is_on (cycle_at self.now node) child }
+    {
+        let Some(parent) = parent_of(&self.nodes, child) else {
+            return false;
+        };
+        parent == node
+    }
+
+    /// The steps of the blossom's cycle; none for a leaf.
+    pub fn cycle(&self, node: NodeId) -> &[CycleStep]
+        ensures { result.now ≡ cycle_at self.now node }
+    {
+        cycle_of(&self.nodes, node)
+    }
+
+    /// The links of the even path inside the node from one of its defects to another: by an even number of steps round
+    /// the node's cycle, and so on inside each child that is passed. Each second link matches each defect of the path
+    /// but its last one. Its time is that of the path's links, of the depth of their ends below the cycles that they
+    /// are in, and of the cycles that it goes round.
     pub fn path_between(
         &self,
         alloc: Global,
@@ -157,40 +176,34 @@ impl Blossoms {
         requires linked { AllLinked links.now self.now }
         ensures { IfOk result (λ path. IsEvenPath links.now self.now node a b path.items) }
     {
-        even_path(alloc, self, links, node, a, b)
+        let nest = Nest {
+            alloc,
+            blossoms: self,
+            links,
+        };
+        even_path(&nest, node, a, b)
     }
 
-    /// The child of the blossom that holds the defect, and nodes below it that hold it, from its leaf up.
+    /// The nodes below the node on the way down to the leaf of the defect, the leaf first.
     pub(crate) fn way_to(
         &self,
         alloc: Global,
         node: NodeId,
         defect: u32,
-    ) -> Result<(NodeId, Vec<NodeId>), NoMemory>
-        requires blossom { cycle_at self.now node ≢ [] }
-        requires holds { is_in (defects_at self.now node) defect ≡ true }
-        ensures { IfOk result (λ r. IsChildHolding self.now node defect r.0 × AllHold self.now defect r.1.items) }
+    ) -> Result<Vec<NodeId>, NoMemory>
+        requires { is_in (defects_at self.now node) defect ≡ true }
+        ensures { IfOk result (λ way. LeadsDown self.now node defect (reverse way.items)) }
     {
         let Some(leaf) = leaf_of(&self.leaves, defect) else {
             unreachable!()
         };
-        way_over(alloc, &self.nodes, self.made, node, leaf)
+        way_down(alloc, &self.nodes, self.made, node, leaf)
     }
+}
 
-    /// Whether the one node is in the cycle of the other.
-    pub(crate) fn is_child(&self, node: NodeId, child: NodeId) -> bool
-        ensures { result ≡ true → is_on (cycle_at self.now node) child ≡ true }
-    {
-        let Some(parent) = parent_of(&self.nodes, child) else {
-            return false;
-        };
-        parent == node
-    }
-
-    /// The steps of the blossom's cycle; none for a leaf.
-    pub(crate) fn cycle(&self, node: NodeId) -> &[CycleStep]
-        ensures { result.now ≡ cycle_at self.now node }
-    {
-        cycle_of(&self.nodes, node)
-    }
+/// The leaf of the defect.
+fn leaf_of(leaves: &HashMap<u32, NodeId>, defect: u32) -> Option<NodeId>
+    ensures { result ≡ get nat_eq leaves.now defect }
+{
+    leaves.get(&defect).copied()
 }

@@ -1,5 +1,5 @@
 ghost use Rattle.std.specs.Prelude.{◌≡◌, ◌≢◌, [], ◌∷◌, None};
-ghost use Rattle.fb_blossoms.specs.Items.{Item};
+ghost use Rattle.fb_blossoms.specs.InternalItems.{Item};
 
 use crate::{CycleStep, NodeId};
 use std::marker::Model;
@@ -22,8 +22,8 @@ pub struct Entry {
 }
 
 impl Model for Entry {
-    ghost use Rattle.fb_blossoms.specs.Items.{Item, item_code};
-    ghost use Rattle.fb_blossoms.specs.Shapes.{own_of, cycle_of};
+    ghost use Rattle.fb_blossoms.specs.InternalItems.{Item, item_code};
+    ghost use Rattle.fb_blossoms.specs.InternalShapes.{own_of, cycle_of};
 
     ghost Value = { Item };
 

@@ -1,7 +1,7 @@
-ghost use Rattle.std.specs.Prelude.{◌≡◌, ◌+◌, ◌<◌, true, [], ◌∷◌, ◌++◌, length, IfOk, OnErr, OnOk};
+ghost use Rattle.std.specs.Prelude.{◌≡◌, ◌≢◌, ◌<◌, true, [], ◌∷◌, ◌++◌, length, IfOk, OnErr, OnOk};
 ghost use Rattle.fb_links.specs.Table;
-ghost use Rattle.fb_blossoms.specs.Nodes.{AreDistinct, defects_at, is_in, is_on};
-ghost use Rattle.fb_blossoms.specs.Fixture.{AreKept, AreSteps, AreTops, IsOuterWith, IsTop, edge_walk, part_at};
+ghost use Rattle.fb_blossoms.specs.Nodes.{AreDistinct, cycle_at, is_on};
+ghost use Rattle.fb_blossoms.specs.InternalFixture.{AreKept, AreSteps, AreTops, IsOuterWith, IsPlaceOf, IsTop, edge_walk, part_at};
 ghost use Rattle.fb_blossoms.specs.Links.{next_place};
 
 use crate::{Blossoms, CycleStep, LinkId, Links, NoMemory, NodeId};
@@ -17,19 +17,24 @@ pub enum Refused {
     Misplaced,
 }
 
-/// A store of blossoms over leaves of the defects 0, 1, 2, .., with links of one edge.
+impl From<NoMemory> for Refused {
+    fn from(_: NoMemory) -> Refused {
+        Refused::NoMemory
+    }
+}
+
+/// A store of blossoms over leaves of the defects 10, 11, 12, .., with links of one edge.
 #[derive(Drop)]
 pub struct Fixture {
     blossoms: Blossoms,
     links: Links,
-    /// The leaf of each defect.
     leaves: Vec<NodeId>,
 }
 
 impl Model for Fixture {
     ghost use Rattle.std.specs.Prelude.{List, Option};
     ghost use Rattle.fb_blossoms.specs.Nodes.{Node};
-    ghost use Rattle.fb_blossoms.specs.Fixture.{IsFixture};
+    ghost use Rattle.fb_blossoms.specs.InternalFixture.{IsFixture};
 
     ghost Value = { List (Option Node) };
 
@@ -40,12 +45,8 @@ impl Model for Fixture {
 
 impl Fixture {
     pub fn new(alloc: Global) -> Result<Fixture, Refused> {
-        let Ok(blossoms) = Blossoms::new(alloc) else {
-            return Err(Refused::NoMemory);
-        };
-        let Ok(links) = Links::new(alloc) else {
-            return Err(Refused::NoMemory);
-        };
+        let blossoms = Blossoms::new(alloc)?;
+        let links = Links::new(alloc)?;
         Ok(Fixture {
             blossoms,
             links,
@@ -56,15 +57,11 @@ impl Fixture {
     /// Makes the next defect a leaf.
     pub fn leaf(&mut self, alloc: Global) -> Result<NodeId, Refused> {
         self.blossoms.keeps();
-        let Ok(defect) = u32::try_from(self.leaves.len()) else {
+        let Ok(defect) = u32::try_from(self.leaves.len() + 10) else {
             return Err(Refused::NoMemory);
         };
-        let Ok(()) = self.leaves.reserve(1) else {
-            return Err(Refused::NoMemory);
-        };
-        let Ok(node) = self.blossoms.leaf(alloc, defect) else {
-            return Err(Refused::NoMemory);
-        };
+        self.leaves.reserve(1)?;
+        let node = self.blossoms.leaf(alloc, defect)?;
         self.leaves.push_reserved(node);
         Ok(node)
     }
@@ -73,10 +70,7 @@ impl Fixture {
     pub fn outer(&self, defect: u32) -> Result<NodeId, Refused>
         ensures { IfOk result (λ node. IsOuterWith self.now node defect) }
     {
-        let place = defect as usize;
-        if place >= self.leaves.len() {
-            return Err(Refused::Misplaced);
-        }
+        let place = place_in(&self.leaves, defect)?;
         Ok(self.blossoms.outer_of(self.leaves[place]))
     }
 
@@ -112,78 +106,57 @@ impl Fixture {
             return Err(Refused::Misplaced);
         }
         let tops = self.tops(alloc, parts)?;
-        let Ok(cycle) = link_up(alloc, &mut self.links, parts, &tops) else {
-            return Err(Refused::NoMemory);
-        };
+        let cycle = link_up(alloc, &mut self.links, parts, &tops)?;
         if !are_distinct(&cycle) {
             return Err(Refused::Misplaced);
         }
-        let Ok(node) = self.blossoms.form(alloc, cycle, &self.links) else {
-            return Err(Refused::NoMemory);
-        };
+        Ok(self.blossoms.form(alloc, cycle, &self.links)?)
+    }
+
+    /// The outer blossom that holds the defect.
+    fn blossom(&self, defect: u32) -> Result<NodeId, Refused>
+        ensures outer { IfOk result (λ node. IsOuterWith self.now node defect) }
+        ensures blossom { IfOk result (λ node. cycle_at self.now node ≢ []) }
+    {
+        self.blossoms.keeps();
+        let place = place_in(&self.leaves, defect)?;
+        let node = self.outer(defect)?;
+        if node == self.leaves[place] {
+            return Err(Refused::Misplaced);
+        }
         Ok(node)
     }
 
     /// Opens the outer blossom that holds the defect.
     pub fn open(&mut self, defect: u32) -> Result<Vec<CycleStep>, Refused> {
-        self.blossoms.keeps();
-        let place = defect as usize;
-        if place >= self.leaves.len() {
-            return Err(Refused::Misplaced);
-        }
-        let node = self.outer(defect)?;
-        if node == self.leaves[place] {
-            return Err(Refused::Misplaced);
-        }
+        let node = self.blossom(defect)?;
         Ok(self.blossoms.open_up(node))
     }
 
-    /// The node that holds the defect, so many levels below the outer one.
-    pub fn inside(&self, defect: u32, levels: u32) -> Result<NodeId, Refused>
-        ensures { IfOk result (λ node. is_in (defects_at self.now node) defect ≡ true) }
-    {
-        self.blossoms.keeps();
-        let place = defect as usize;
-        if place >= self.leaves.len() {
-            return Err(Refused::Misplaced);
-        }
-        let mut node = self.outer(defect)?;
-        for _ in 0..levels {
-            if node == self.leaves[place] {
-                return Err(Refused::Misplaced);
-            }
-            node = self.blossoms.child_holding(node, defect);
-        }
-        Ok(node)
+    /// The child of that blossom that holds the defect.
+    pub fn child(&self, defect: u32) -> Result<NodeId, Refused> {
+        let node = self.blossom(defect)?;
+        Ok(self.blossoms.child_holding(node, defect))
     }
 
-    /// The nodes that hold the defects, so many levels below the outer ones.
-    pub fn all_inside(
-        &self,
-        alloc: Global,
-        defects: &[u32],
-        levels: u32,
-    ) -> Result<Vec<NodeId>, Refused> {
-        let mut nodes = Vec::new(alloc);
-        for defect in defects {
-            let node = self.inside(*defect, levels)?;
-            push_node(&mut nodes, node)?;
-        }
-        Ok(nodes)
+    /// The path between two defects in an outer node.
+    pub fn path(&self, alloc: Global, a: u32, b: u32) -> Result<Vec<LinkId>, Refused> {
+        let node = self.outer_of_both((a, b))?;
+        Ok(self.blossoms.path_between(alloc, node, a, b, &self.links)?)
     }
+}
 
-    /// The path between the defects in a node that holds both, so many levels below the outer one.
-    pub fn path(&self, alloc: Global, levels: u32, a: u32, b: u32) -> Result<Vec<LinkId>, Refused> {
-        let node = self.inside(a, levels)?;
-        let other = self.inside(b, levels)?;
-        if other != node {
-            return Err(Refused::Misplaced);
-        }
-        let Ok(path) = self.blossoms.path_between(alloc, node, a, b, &self.links) else {
-            return Err(Refused::NoMemory);
-        };
-        Ok(path)
+/// The place of the defect's leaf.
+fn place_in(leaves: &[NodeId], defect: u32) -> Result<usize, Refused>
+    ensures { IfOk result (λ k. IsPlaceOf leaves.now defect k) }
+{
+    let Some(place) = defect.checked_sub(10) else {
+        return Err(Refused::Misplaced);
+    };
+    if place as usize >= leaves.len() {
+        return Err(Refused::Misplaced);
     }
+    Ok(place as usize)
 }
 
 fn part_at(parts: &[(u32, u32)], k: usize) -> (u32, u32)
@@ -202,21 +175,17 @@ fn next_place(count: usize, k: usize) -> usize
     if k + 1 == count { 0 } else { k + 1 }
 }
 
-fn push_node(nodes: &mut Vec<NodeId>, node: NodeId) -> Result<(), Refused>
+fn push_node(nodes: &mut Vec<NodeId>, node: NodeId) -> Result<(), NoMemory>
     ensures { OnOk result (nodes.new.items ≡ nodes.old.items ++ node ∷ []) }
 {
-    let Ok(()) = nodes.push(node) else {
-        return Err(Refused::NoMemory);
-    };
+    nodes.push(node)?;
     Ok(())
 }
 
 fn push_step(cycle: &mut Vec<CycleStep>, step: CycleStep) -> Result<(), NoMemory>
     ensures { OnOk result (cycle.new.items ≡ cycle.old.items ++ step ∷ []) }
 {
-    let Ok(()) = cycle.push(step) else {
-        return Err(NoMemory);
-    };
+    cycle.push(step)?;
     Ok(())
 }
 
@@ -225,14 +194,12 @@ fn add_link(alloc: Global, links: &mut Links, from: u32, to: u32) -> Result<Link
     ensures err { OnErr result (links.new ≡ links.old) }
 {
     let mut steps = Vec::new(alloc);
-    let Ok(()) = steps.push(Step {
+    steps.push(Step {
         from,
         to,
         edge: 0,
         weight: 2,
-    }) else {
-        return Err(NoMemory);
-    };
+    })?;
     links.make(alloc, Walk::from_vec(steps))
 }
 

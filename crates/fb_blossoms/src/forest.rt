@@ -1,7 +1,7 @@
-ghost use Rattle.std.specs.Prelude.{◌≡◌, ◌+◌, ◌^◌, ◌<◌, ◌==◌, ℕ, if◌then◌else◌, option_map, true, suc, get_or, [], ◌∷◌, ◌++◌, All, None, IfOk, OnOk, vec_len};
+ghost use Rattle.std.specs.Prelude.{◌≡◌, ◌==◌, ℕ, if◌then◌else◌, option_map, reverse, true, suc, [], ◌∷◌, ◌++◌, IfOk, OnOk};
 ghost use Rattle.slab.specs.Slab.{HasRoomFor, get};
 ghost use Rattle.fb_blossoms.specs.Nodes.{is_on};
-ghost use Rattle.fb_blossoms.specs.Forest.{Climbs, IsForest, IsTopOf, IsChildOver, is_kept, parent_at, steps_at, under};
+ghost use Rattle.fb_blossoms.specs.InternalForest.{Climbs, IsForest, IsTopOf, IsChildOver, LeadsDownTo, is_kept, parent_at, steps_at, under};
 
 use crate::entry::Entry;
 use crate::{CycleStep, NoMemory, NodeId};
@@ -65,61 +65,34 @@ pub fn child_over(nodes: &Slab<Entry>, made: u64, node: NodeId, leaf: NodeId) ->
     unreachable!()
 }
 
-/// The child of the node on the way up to it from a leaf below it, and the nodes on the way before it.
-pub fn way_over(
+/// The nodes below the node on the way down to a leaf, the leaf first.
+pub fn way_down(
     alloc: Global,
     nodes: &Slab<Entry>,
     made: u64,
     node: NodeId,
     leaf: NodeId,
-) -> Result<(NodeId, Vec<NodeId>), NoMemory>
+) -> Result<Vec<NodeId>, NoMemory>
     requires forest { IsForest nodes.now.slots made }
-    requires below { (k : ℕ) × Climbs nodes.now.slots (suc k) leaf node }
-    ensures { IfOk result (λ r. IsChildOver nodes.now.slots node leaf r.0 × All (λ x. (k : ℕ) × Climbs nodes.now.slots k leaf x) r.1.items) }
+    requires below { (k : ℕ) × Climbs nodes.now.slots k leaf node }
+    ensures { IfOk result (λ way. LeadsDownTo nodes.now.slots node leaf (reverse way.items)) }
 {
-    let mut before = Vec::new(alloc);
-    let mut child = leaf;
-    while let Some(parent) = parent_of(nodes, child) {
-        if parent == node {
-            return Ok((child, before));
-        }
-        push_node(&mut before, child)?;
-        child = parent;
+    let mut way = Vec::new(alloc);
+    let mut at = leaf;
+    while at != node {
+        let Some(parent) = parent_of(nodes, at) else {
+            unreachable!()
+        };
+        push_node(&mut way, at)?;
+        at = parent;
     }
-    unreachable!()
+    Ok(way)
 }
 
-fn push_node(before: &mut Vec<NodeId>, node: NodeId) -> Result<(), NoMemory>
-    ensures { OnOk result (before.new.items ≡ before.old.items ++ node ∷ []) }
+fn push_node(way: &mut Vec<NodeId>, node: NodeId) -> Result<(), NoMemory>
+    ensures { OnOk result (way.new.items ≡ way.old.items ++ node ∷ []) }
 {
-    let Ok(()) = before.push(node) else {
-        return Err(NoMemory);
-    };
-    Ok(())
-}
-
-/// The leaf of the defect.
-pub fn leaf_of(leaves: &[Option<NodeId>], defect: u32) -> Option<NodeId>
-    ensures { result ≡ get_or leaves.now defect None }
-{
-    match leaves.get(defect as usize) {
-        Some(leaf) => *leaf,
-        None => None,
-    }
-}
-
-/// Makes the list long enough to have the place, with none at the new places.
-pub fn make_place(leaves: &mut Vec<Option<NodeId>>, place: usize) -> Result<(), NoMemory>
-    requires { place + 1 < 2 ^ 64 }
-    ensures same { (k : ℕ) → get_or leaves.new.items k None ≡ get_or leaves.old.items k None }
-    ensures room { OnOk result (place < vec_len leaves.new) }
-{
-    if place < leaves.len() {
-        return Ok(());
-    }
-    let Ok(()) = leaves.resize(place + 1, None) else {
-        return Err(NoMemory);
-    };
+    way.push(node)?;
     Ok(())
 }
 

@@ -3,10 +3,12 @@
 #![tactic(auto)]
 
 pub mod blossoms;
+mod cycles;
 mod entry;
 #[cfg(test)]
 mod fixture;
 mod forest;
+pub mod laws;
 mod legs;
 #[cfg(test)]
 mod nested_tests;
@@ -16,3 +18,4 @@ mod ways;
 
 pub use blossoms::Blossoms;
 pub use fb_links::{CycleStep, LinkId, Links, NoMemory, NodeId};
+pub use laws::paths;

@@ -2,59 +2,48 @@ use crate::fixture::{Fixture, Refused};
 use std::alloc::Global;
 use std::test::Fail;
 
-/// How many blossoms stand in one another.
-const LEVELS: u32 = 100_000;
+/// How many blossoms lie in one another.
+const LEVELS: u32 = 20_000;
 
-/// Blossoms of three in one another. The innermost one is of 0, 1 and 2, and each one round it is of two further
-/// defects. So many levels out stand the defects 2 n - 1 and 2 n, and links lead on from each defect to the next, and
-/// from 2 n back to 2 n - 2.
-fn nest(alloc: Global) -> Result<Fixture, Refused> {
+/// A triangle of the leaves of the next three defects, the first of which is this one.
+fn triangle(alloc: Global, fixture: &mut Fixture, first: u32) -> Result<(), Refused> {
+    let Some(third) = first.checked_add(2) else {
+        return Err(Refused::Misplaced);
+    };
+    for _ in 0..3 {
+        let _ = fixture.leaf(alloc)?;
+    }
+    let second = third - 1;
+    let _ = fixture.join(alloc, &[(first, first), (second, second), (third, third)])?;
+    Ok(())
+}
+
+/// Puts the outer node of `last` into a blossom with two triangles of the next six defects, and returns a defect of the
+/// second one.
+fn wrap(alloc: Global, fixture: &mut Fixture, last: u32, next: u32) -> Result<u32, Refused> {
+    let Some(sixth) = next.checked_add(5) else {
+        return Err(Refused::Misplaced);
+    };
+    triangle(alloc, fixture, next)?;
+    triangle(alloc, fixture, next + 3)?;
+    let _ = fixture.join(
+        alloc,
+        &[(last, last), (next, next + 1), (next + 3, sixth)],
+    )?;
+    Ok(next + 4)
+}
+
+#[test]
+fn a_path_goes_through_many_levels_of_triangles(rt: HostRuntime) -> Result<(), Fail> {
+    let alloc = rt.alloc();
     let mut fixture = Fixture::new(alloc)?;
     let _ = fixture.leaf(alloc)?;
+    let mut last = 10;
     for level in 0..LEVELS {
-        let last = 2 * level;
-        let _ = fixture.leaf(alloc)?;
-        let _ = fixture.leaf(alloc)?;
-        let _ = fixture.join(
-            alloc,
-            &[(last, last), (last + 1, last + 1), (last + 2, last + 2)],
-        )?;
+        last = wrap(alloc, &mut fixture, last, 11 + 6 * level)?;
     }
-    Ok(fixture)
-}
-
-#[test]
-fn a_path_goes_through_many_levels(rt: HostRuntime) -> Result<(), Fail> {
-    let alloc = rt.alloc();
-    let fixture = nest(alloc)?;
-    // From each defect to the next; the third link of each level leads back.
-    let path = fixture.path(alloc, 0, 0, 2 * LEVELS)?;
-    assert_eq!(rt; path.len(), 200_000);
-    for (k, link) in path.iter().enumerate() {
-        assert_eq!(rt; *link as usize, k / 2 * 3 + k % 2, "at {k}");
-    }
-    Ok(())
-}
-
-#[test]
-fn many_levels_open_up(rt: HostRuntime) -> Result<(), Fail> {
-    let alloc = rt.alloc();
-    let mut fixture = nest(alloc)?;
-    for level in 0..LEVELS {
-        let cycle = fixture.open(2 * (LEVELS - level))?;
-        assert_eq!(rt; cycle.len(), 3, "at {level}");
-    }
-    assert_eq!(rt; fixture.outer(0)?, 0);
-    assert!(rt; fixture.open(0).is_err());
-    Ok(())
-}
-
-#[test]
-fn many_levels_are_dropped(rt: HostRuntime) -> Result<(), Fail> {
-    let alloc = rt.alloc();
-    let fixture = nest(alloc)?;
-    // The leaf of 0 is 0, and each level adds two leaves and then its blossom.
-    assert_eq!(rt; fixture.outer(0)?, 300_000);
-    assert_eq!(rt; fixture.inside(2 * LEVELS, 1)?, 299_999);
+    // At each level two links in each triangle, and one from each to the next node.
+    assert_eq!(rt; fixture.path(alloc, last, 10)?.len(), 120_000);
+    assert_eq!(rt; fixture.path(alloc, 10, last)?.len(), 120_000);
     Ok(())
 }

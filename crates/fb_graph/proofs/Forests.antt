@@ -67,7 +67,7 @@ not_mine : (n : Node) (ns : List Node) → AreJoinedLater (n ∷ ns) → (x : No
 not_mine n ns joined x b child =
     both_ways (is_in n.children x.name) (All_among (λ y. is_in n.children y.name ≡ false) (n ∷ ns) joined.0 x b) child
 
-after : (n : Node) (ns : List Node) → AreJoinedLater (n ∷ ns) → (x q : Node) → IsAmong x (n ∷ ns) → is_in q.children x.name ≡ true
+pub after : (n : Node) (ns : List Node) → AreJoinedLater (n ∷ ns) → (x q : Node) → IsAmong x (n ∷ ns) → is_in q.children x.name ≡ true
     → IsAmong q (n ∷ ns) → IsAmong q ns
 after n ns joined x q b child (inl e) = absurd (not_mine n ns joined x b (ap (λ y. is_in y.children x.name) e ∙ child))
 after n ns joined x q b child (inr c) = c

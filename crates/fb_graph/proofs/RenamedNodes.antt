@@ -113,7 +113,7 @@ module _ (p : Problem) (nodes : List Node) (f : ℕ → ℕ) (once : AreRenamedA
           ap (λ b. b || list_any (λ m. is_in m.children (f c)) (renamed_nodes f ns)) (same n (inl refl))
           ∙ ap (λ b. is_in n.children c || b) (by ns (λ m a. same m (inr a)))
 
-  still_live : (c : ℕ) → is_live nodes c ≡ true → is_live (renamed_nodes f nodes) (f c) ≡ true
+  pub still_live : (c : ℕ) → is_live nodes c ≡ true → is_live (renamed_nodes f nodes) (f c) ≡ true
   still_live c live =
       let (m, a, e) = live_among nodes c live in
       among_live (renamed_nodes f nodes) (renamed_node f m) (f c) (map_among (renamed_node f) nodes m a) (ap f e)
@@ -137,7 +137,7 @@ module _ (p : Problem) (nodes : List Node) (f : ℕ → ℕ) (once : AreRenamedA
       ∙ (top_among (renamed_nodes f nodes) names (renamed_node f m) (map_among (renamed_node f) nodes m a)
       ∙ (sym (top_among nodes nest.dual.names m a) ∙ ap (top_at nodes) e))
 
-  same_sets : (n : Node) → IsAmong n nodes → child_sets (renamed_nodes f nodes) (renamed_node f n) ≡ child_sets nodes n
+  pub same_sets : (n : Node) → IsAmong n nodes → child_sets (renamed_nodes f nodes) (renamed_node f n) ≡ child_sets nodes n
   same_sets n a = by n.children (λ c among. top_same c (child_live n a c among))
     where
       by : (cs : List ℕ) → ((c : ℕ) → is_in cs c ≡ true → top_at (renamed_nodes f nodes) (f c) ≡ top_at nodes c)

@@ -199,7 +199,7 @@ none_in_tree nodes root (e ∷ es) name distinct (parent, grown, matched, joined
         )
 
 -- links of the end of a list
-links_after : (p : Problem) (nodes : List Node) (links more : List Link) → AreMatchedLinks p nodes (links ++ more)
+pub links_after : (p : Problem) (nodes : List Node) (links more : List Link) → AreMatchedLinks p nodes (links ++ more)
     → AreMatchedLinks p nodes more
 links_after p nodes links more are = record {
   tight = all_after (IsTightLink p (all_cuts nodes)) links more are.tight;

@@ -27,7 +27,7 @@ All-reverse P (x ∷ xs) h =
     (All-push P (reverse xs) x (All-reverse P xs (All-tail P x xs h)) (All-head P x xs h))
 
 -- a covered vertex is real
-covered_real : (p : Problem) (nodes : List Node) (v name : ℕ) → IsDual p nodes → cover_of nodes v ≡ Some name → p.is_real v ≡ true
+pub covered_real : (p : Problem) (nodes : List Node) (v name : ℕ) → IsDual p nodes → cover_of nodes v ≡ Some name → p.is_real v ≡ true
 covered_real p nodes v name dual cover = dual.real v (subst IsSome (sym cover) refl)
 
 first_real : (p : Problem) (e : Edge) (u v : ℕ) → Leads e u v → p.is_real u ≡ true → has_real_end p e ≡ true

@@ -1,5 +1,5 @@
 -- A part's nodes under other names keep what they kept.
-use Rattle.std.proofs.Common.{ℕ, ◌≡◌, ◌+◌, ◌%◌, true, List, map, All, Option, Some, None, refl, sym, ap, ◌∙◌, subst}
+use Rattle.std.proofs.Common.{ℕ, ◌≡◌, ◌+◌, ◌%◌, inl, inr, true, List, [], ◌∷◌, ◌++◌, map, All, Option, Some, None, refl, sym, ap, ◌∙◌, subst, if◌then◌else◌}
 use Rattle.std.specs.Option.{option_map}
 use Rattle.std.proofs.lemmas.List.Elements.{All-map}
 use Rattle.fb_graph.specs.Parity.{is_in}
@@ -9,16 +9,17 @@ use Rattle.fb_graph.specs.Covers.{HaveParity}
 use Rattle.fb_graph.specs.Ends.{ends_in}
 use Rattle.fb_graph.specs.Laws.{Link}
 use Rattle.fb_graph.specs.Links.{IsTightLink}
-use Rattle.fb_graph.specs.Dual.{Node, all_cuts, cover_of, height_of, is_live, is_outer, leaves}
-use Rattle.fb_graph.specs.Nests.{IsNest}
+use Rattle.fb_graph.specs.Dual.{Node, all_cuts, cover_of, height_of, is_empty, is_live, is_outer, leaves}
+use Rattle.fb_graph.specs.Nests.{IsNest, child_sets}
 use Rattle.fb_graph.specs.RenamedNodes.{AreRenamedApart, renamed_node, renamed_nodes}
-use Rattle.fb_graph.proofs.Among.{All_among, among_All, among_live, cover_among}
-use Rattle.fb_graph.proofs.RenamedNodes.{cover_same, cuts_renamed, from_renamed, leaves_renamed, nest_renamed, outer_same, same_renamed, walks_renamed}
+use Rattle.fb_graph.proofs.Among.{IsAmong, All_among, among_All, among_live, cover_among}
+use Rattle.fb_graph.proofs.RenamedNodes.{cover_same, cuts_renamed, distinct_renamed, from_renamed, leaves_renamed, nest_renamed, outer_same, same_renamed, same_sets, still_live, walks_renamed}
 use Rattle.fb_laws.specs.Opening.{EndAtDefects}
 use Rattle.fb_laws.specs.Parities.{HaveOneParity}
-use Rattle.fb_laws.specs.RenamedStates.{LinksRenamed, NestedWorkRenamed, WorkRenamed}
+use Rattle.fb_laws.specs.PartStates.{PartState, IsRing, all_cycle_links, links_at}
+use Rattle.fb_laws.specs.RenamedStates.{AreCyclesRenamed, LinksRenamed, LiveLinksRenamed, NestedWorkRenamed, StateRenamed, WorkRenamed}
 use Rattle.fb_laws.specs.UnmatchedNames.{AreOuterNames}
-use Rattle.fb_laws.specs.Works.{AreMatched, IsMatching}
+use Rattle.fb_laws.specs.Works.{AreMatched, AreMatchedLinks, IsMatching}
 
 pub links_renamed : LinksRenamed
 links_renamed p nodes links f are = record {
@@ -103,4 +104,45 @@ nested_work_renamed p nodes links unmatched f once live is = record {
   work = work_renamed p nodes links unmatched f once live is.nest is.work;
   walks = walks_renamed p nodes f is.walks;
   outer = outer p nodes links unmatched f once live is.nest is.outer;
+}
+
+-- the links of all cycles, node after node
+cycle_links_renamed : (f : ℕ → ℕ) (cycles old : ℕ → List Link) (ns : List Node) → ((n : Node) → IsAmong n ns → cycles (f n.name) ≡ old n.name)
+    → all_cycle_links (renamed_nodes f ns) cycles ≡ all_cycle_links ns old
+cycle_links_renamed f cycles old [] same = refl
+cycle_links_renamed f cycles old (n ∷ ns) same =
+    ap (λ l. l ++ all_cycle_links (renamed_nodes f ns) cycles) (here n.children)
+    ∙ ap (λ l. links_at old n ++ l) (cycle_links_renamed f cycles old ns (λ m a. same m (inr a)))
+  where
+    here : (cs : List ℕ) → (if is_empty (map f cs) then [] else cycles (f n.name)) ≡ (if is_empty cs then [] else old n.name)
+    here [] = refl
+    here (c ∷ cs) = same n (inl refl)
+
+same_cycles : (s : PartState) (f : ℕ → ℕ) (cycles : ℕ → List Link) → AreCyclesRenamed f s cycles
+    → all_cycle_links (renamed_nodes f s.nodes) cycles ≡ all_cycle_links s.nodes s.cycles
+same_cycles s f cycles renamed =
+    cycle_links_renamed f cycles s.cycles s.nodes (λ n a. renamed n.name (among_live s.nodes n n.name a refl))
+
+pub live_links_renamed : LiveLinksRenamed
+live_links_renamed s f cycles renamed = ap (λ l. s.matches ++ l) (same_cycles s f cycles renamed)
+
+pub state_renamed : StateRenamed
+state_renamed p s f cycles once renamed is = record {
+  work = nested_work_renamed p s.nodes s.matches s.unmatched f once is.names.live is.work;
+  cycles = record {
+    rings = All-map (λ n. IsRing (child_sets (renamed_nodes f s.nodes) n) (cycles n.name)) (renamed_node f) s.nodes
+        (among_All (λ n. IsRing (child_sets (renamed_nodes f s.nodes) (renamed_node f n)) (cycles (f n.name))) s.nodes
+        (λ n a.
+        subst (λ sets. IsRing sets (cycles (f n.name))) (sym (same_sets p s.nodes f once is.work.nest n a))
+        (subst (IsRing (child_sets s.nodes n)) (sym (renamed n.name (among_live s.nodes n n.name a refl)))
+        (All_among (λ m. IsRing (child_sets s.nodes m) (s.cycles m.name)) s.nodes is.cycles.rings n a))));
+    links = subst (AreMatchedLinks p (renamed_nodes f s.nodes)) (sym (same_cycles s f cycles renamed))
+        (links_renamed p s.nodes (all_cycle_links s.nodes s.cycles) f is.cycles.links);
+  };
+  names = record {
+    live = λ n among.
+        let (m, within, named) = from_renamed f s.unmatched n among in
+        ap (is_live (renamed_nodes f s.nodes)) (sym named) ∙ still_live p s.nodes f once is.work.nest m (is.names.live m within);
+    distinct = distinct_renamed f s.unmatched (λ x y a b e. once x y (is.names.live x a) (is.names.live y b) e) is.names.distinct;
+  };
 }

@@ -1,13 +1,17 @@
 -- A ring read place by place, and by the numbers of its links.
-use Rattle.std.proofs.Common.{ℕ, zero, suc, ◌≡◌, ◌+◌, ◌-◌, ◌*◌, ◌/◌, ◌%◌, ◌<◌, ◌≤◌, ◌==◌, ◌⊎◌, inl, inr, Bool, true, false, List, [], ◌∷◌, ◌++◌, map, length, take, drop, reverse, get_or, refl, sym, ap, ◌∙◌, arith, if◌then◌else◌}
+use Rattle.std.proofs.Common.{ℕ, zero, suc, ◌≡◌, ◌+◌, ◌-◌, ◌*◌, ◌/◌, ◌%◌, ◌<◌, ◌≤◌, ◌==◌, ◌⊎◌, inl, inr, Bool, true, false, List, [], ◌∷◌, ◌++◌, map, length, take, drop, reverse, get_or, refl, sym, ap, ◌∙◌, subst, arith, if◌then◌else◌}
 use Rattle.std.specs.Prelude.{nat_lt}
-use Rattle.std.proofs.lemmas.Bool.{cases_Bool, ltb-false, ltb-true}
-use Rattle.std.proofs.lemmas.List.{drop-map, get_or-drop, get_or-take, get_or_append_left, length-drop, map-append, reverse-append, take-map}
+use Rattle.std.proofs.lemmas.Bool.{cases_Bool, eqb-true, ltb-false, ltb-true}
+use Rattle.std.proofs.lemmas.List.{drop-map, get_or-drop, get_or-take, get_or_append_left, length-append, length-drop, length-map, length-reverse, map-append, reverse-append, take-map}
 use Rattle.std.proofs.Math.Nat.{add-mod_right, mod-eq_of_lt}
 use Rattle.fb_graph.specs.Laws.{Link}
+use Rattle.fb_graph.specs.Dual.{Node}
 use Rattle.fb_laws.specs.OpenedLinks.{every_second, round_from}
-use Rattle.fb_laws.specs.RingReads.{SecondByNumber, WayByNumber, pass_by, round_by}
-use Rattle.fb_laws.specs.RingWays.{passes_along, turned_round}
+use Rattle.fb_laws.specs.RingReads.{BesideByNumber, RoundLength, SecondByNumber, WayByNumber, pass_by, round_by}
+use Rattle.fb_laws.specs.OpenedCycles.{matched_beside}
+use Rattle.fb_laws.specs.RingWays.{couples_after, couples_along, even_round, even_steps, passes_along, turned_round}
+use Rattle.fb_laws.specs.TreeCycles.{AreLinked}
+use Rattle.fb_laws.proofs.RingWays.{not_even}
 
 pub second_read : {X : Type 0} (xs : List X) (k : ℕ) (d : X) → get_or (every_second xs) k d ≡ get_or xs (2 * k + 1) d
 second_read [] k d = refl
@@ -108,3 +112,78 @@ way_by_number table steps r = step (steps % 2 == 0)
         passes_along (take (length r.others + 1 - steps) (reverse r.others)) (take (length r.others + 1 - steps) l))
         (map_reverse table r.links)
         ∙ along (length r.others + 1 - steps) (reverse r.others) (reverse r.links)
+
+linked_length : (nodes : List Node) (from : ℕ) (names : List ℕ) (links : List Link) → AreLinked nodes from names links
+    → length links ≡ length names
+linked_length nodes from [] [] linked = refl
+linked_length nodes from [] (l ∷ ls) linked = absurd linked
+linked_length nodes from (n ∷ ns) [] linked = absurd linked
+linked_length nodes from (n ∷ ns) (l ∷ ls) linked = ap suc (linked_length nodes n ns ls linked.1)
+
+pub round_length : RoundLength
+round_length nodes from r linked =
+    linked_length nodes from (r.others ++ from ∷ []) r.links linked ∙ length-append r.others (from ∷ [])
+
+beside_links : (names : List ℕ) (links : List Link) → length links ≡ length names + 1 → length names % 2 ≡ 0
+    → matched_beside (couples_along names links) ≡ every_second links
+beside_links [] [] long even = refl
+beside_links [] (l ∷ []) long even = refl
+beside_links [] (l ∷ m ∷ ms) long even = absurd (omega (arith, long))
+beside_links (n ∷ []) links long even = absurd (omega (arith, even))
+beside_links (n ∷ o ∷ ns) [] long even = absurd (omega (arith, long))
+beside_links (n ∷ o ∷ ns) (l ∷ []) long even = absurd (omega (arith, long))
+beside_links (n ∷ o ∷ ns) (l ∷ m ∷ ms) long even =
+    ap (λ ls. m ∷ ls) (beside_links ns ms (omega (arith, long)) (omega (arith, even)))
+
+pub beside_by_number : BesideByNumber
+beside_by_number table steps r long even low = step (steps % 2 == 0) refl
+  where
+    off : (k : ℕ) (names links : List ℕ) → length links ≡ length names + 1 → length names % 2 ≡ 0 → k ≤ length names
+        → k % 2 ≡ 0
+        → matched_beside (couples_along (drop k names) (drop k (map table links)))
+        ≡ map table (every_second (drop k links))
+    off k names links more both few is_even =
+        ap (λ l. matched_beside (couples_along (drop k names) l)) (drop-map table k links)
+        ∙ (beside_links (drop k names) (map table (drop k links))
+        (omega (arith, more, few, length-drop k names, length-drop k links, length-map (drop k links) table))
+        (omega (arith, both, is_even, few, length-drop k names))
+        ∙ map_second table (drop k links))
+
+    step : (b : Bool) → (steps % 2 == 0) ≡ b
+        → matched_beside (couples_after steps (round_by table r))
+        ≡ map table (every_second (drop (even_steps steps r) (even_round steps r).links))
+    step true e =
+        subst
+        (λ b.
+        matched_beside
+        (couples_along
+        (drop (if b then steps else length r.others + 1 - steps)
+        (if b then round_by table r else turned_round (round_by table r)).others)
+        (drop (if b then steps else length r.others + 1 - steps)
+        (if b then round_by table r else turned_round (round_by table r)).links))
+        ≡ map table
+        (every_second
+        (drop (if b then steps else length r.others + 1 - steps) (if b then r else turned_round r).links)))
+        (sym e) (off steps r.others r.links long even low (eqb-true (steps % 2) 0 e))
+    step false e =
+        subst
+        (λ b.
+        matched_beside
+        (couples_along
+        (drop (if b then steps else length r.others + 1 - steps)
+        (if b then round_by table r else turned_round (round_by table r)).others)
+        (drop (if b then steps else length r.others + 1 - steps)
+        (if b then round_by table r else turned_round (round_by table r)).links))
+        ≡ map table
+        (every_second
+        (drop (if b then steps else length r.others + 1 - steps) (if b then r else turned_round r).links)))
+        (sym e)
+        (ap
+        (λ l.
+        matched_beside
+        (couples_along (drop (length r.others + 1 - steps) (reverse r.others)) (drop (length r.others + 1 - steps) l)))
+        (map_reverse table r.links)
+        ∙ off (length r.others + 1 - steps) (reverse r.others) (reverse r.links)
+        (omega (arith, long, length-reverse r.others, length-reverse r.links))
+        (omega (arith, even, length-reverse r.others))
+        (omega (arith, not_even steps e, low, length-reverse r.others)) (omega (arith, not_even steps e, even, low)))

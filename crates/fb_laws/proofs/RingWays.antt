@@ -164,7 +164,7 @@ module _ (nodes : List Node) (from : ℕ) (others : List ℕ) (links : List Link
         (matched_some q ns (drop k links) (matched_beside Beside) (beside_among Off (drop k links)) off));
   }
 
-not_even : (n : ℕ) → (n % 2 == 0) ≡ false → n % 2 ≡ 1
+pub not_even : (n : ℕ) → (n % 2 == 0) ≡ false → n % 2 ≡ 1
 not_even n e = step (cases_of (n % 2) (omega arith))
   where
     cases_of : (k : ℕ) → k < 2 → (k ≡ 0) ⊎ (k ≡ 1)

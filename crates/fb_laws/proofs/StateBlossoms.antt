@@ -120,7 +120,7 @@ module _ (p : Problem) (nodes : List Node) (cycles : ℕ → List Link) (name fi
           (append-nil (with_cycle name links cycles name) ∙ ap (λ b. cond b links (cycles name)) (eq-eqb name name refl)))
 
 -- an unmatched node of the tree is its root
-unmatched_is_root : (p : Problem) (s : SearchState) → IsSearchState p s → (n : ℕ) → is_in (tree_names s.root s.tree) n ≡ true
+pub unmatched_is_root : (p : Problem) (s : SearchState) → IsSearchState p s → (n : ℕ) → is_in (tree_names s.root s.tree) n ≡ true
     → is_in s.unmatched n ≡ true → n ≡ s.root
 unmatched_is_root p s state n within open_ = step (n == s.root) refl
   where
@@ -134,7 +134,7 @@ unmatched_is_root p s state n within open_ = step (n == s.root) refl
         ∙ and_from (is_in s.unmatched n) (not (n == s.root)) open_ (not_from_false (n == s.root) e)))
         within)
 
-child_in_tree : (root : ℕ) (tree : List Entry) (children : List Child) → All (λ c. is_in (tree_names root tree) c.name ≡ true) children
+pub child_in_tree : (root : ℕ) (tree : List Entry) (children : List Child) → All (λ c. is_in (tree_names root tree) c.name ≡ true) children
     → (n : ℕ) → is_in (names_of children) n ≡ true → is_in (tree_names root tree) n ≡ true
 child_in_tree root tree children are n within =
     is_in-All (λ m. is_in (tree_names root tree) m ≡ true) (names_of children)

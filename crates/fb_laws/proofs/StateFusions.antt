@@ -80,14 +80,14 @@ live_second nodes others n live =
     let (m, a, named) = live_among others n live in among_live (nodes ++ others) m n (among_right nodes others m a) named
 
 -- the links of nodes to which two tables give the same
-links_same : (cycles more : ℕ → List Link) (nodes : List Node) → ((n : Node) → IsAmong n nodes → more n.name ≡ cycles n.name)
+pub links_same : (cycles more : ℕ → List Link) (nodes : List Node) → ((n : Node) → IsAmong n nodes → more n.name ≡ cycles n.name)
     → all_cycle_links nodes more ≡ all_cycle_links nodes cycles
 links_same cycles more [] same = refl
 links_same cycles more (n ∷ ns) same =
     ap (λ l. l ++ all_cycle_links ns more) (ap (λ l. if is_empty n.children then [] else l) (same n (inl refl)))
     ∙ ap (λ l. links_at cycles n ++ l) (links_same cycles more ns (λ m a. same m (inr a)))
 
-rings_same : (nodes some : List Node) (cycles more : ℕ → List Link) → ((n : Node) → IsAmong n some → more n.name ≡ cycles n.name)
+pub rings_same : (nodes some : List Node) (cycles more : ℕ → List Link) → ((n : Node) → IsAmong n some → more n.name ≡ cycles n.name)
     → All (λ n. IsRing (child_sets nodes n) (cycles n.name)) some → All (λ n. IsRing (child_sets nodes n) (more n.name)) some
 rings_same nodes some cycles more same rings =
     among_All (λ n. IsRing (child_sets nodes n) (more n.name)) some
@@ -95,7 +95,7 @@ rings_same nodes some cycles more same rings =
     subst (IsRing (child_sets nodes n)) (sym (same n a))
     (All_among (λ m. IsRing (child_sets nodes m) (cycles m.name)) some rings n a))
 
-child_live : (p : Problem) (nodes : List Node) → IsNest p nodes → (n : Node) → IsAmong n nodes → (c : ℕ) → is_in n.children c ≡ true
+pub child_live : (p : Problem) (nodes : List Node) → IsNest p nodes → (n : Node) → IsAmong n nodes → (c : ℕ) → is_in n.children c ≡ true
     → is_live nodes c ≡ true
 child_live p nodes nest n a c child =
     is_in-All (λ x. is_live nodes x ≡ true) n.children

@@ -1,6 +1,6 @@
 -- Each move of a search leaves less to do.
-use Rattle.std.proofs.Common.{ℕ, ◌≡◌, Bool, true, false, List, [], ◌∷◌, ◌++◌, map, inl, refl, sym, ap, ◌∙◌, subst, arith}
-use Rattle.std.proofs.lemmas.Bool.{cases_Bool, both_ways, false_from_ne_true}
+use Rattle.std.proofs.Common.{◌≡◌, true, false, [], ◌∷◌, ◌++◌, map, inl, refl, sym, ap, ◌∙◌, subst, arith}
+use Rattle.std.proofs.lemmas.Bool.{both_ways, false_from_ne_true}
 use Rattle.fb_graph.specs.Parity.{is_in}
 use Rattle.fb_graph.specs.Dual.{is_empty}
 use Rattle.fb_graph.specs.Moves.{split}
@@ -12,7 +12,7 @@ use Rattle.fb_laws.specs.SearchLayers.{left_to_do}
 use Rattle.fb_laws.specs.SearchOpenings.{IsSplit}
 use Rattle.fb_laws.specs.StateBlossoms.{joined_state}
 use Rattle.fb_laws.specs.StateMeasures.{SteppedLess, TakenUpLess, UncoveredLess, AttachedLess, ClosedLess, RoundedLess, OpenedLess, still_to_do}
-use Rattle.fb_laws.specs.StateMoves.{attached, state_roles}
+use Rattle.fb_laws.specs.StateMoves.{state_roles}
 use Rattle.fb_laws.specs.SearchBlossoms.{child_at}
 use Rattle.fb_laws.specs.TreeCycles.{cycle_links, cycle_nodes, last_plus}
 use Rattle.fb_laws.specs.Trees.{minus_names, plus_names, roles_of}

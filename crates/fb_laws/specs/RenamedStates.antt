@@ -7,6 +7,7 @@ use Rattle.fb_graph.specs.Dual.{Node, is_live}
 use Rattle.fb_graph.specs.Nests.{IsNest}
 use Rattle.fb_graph.specs.RenamedNodes.{AreRenamedApart, renamed_nodes}
 use Rattle.fb_laws.specs.NestedSearches.{IsNestedWork}
+use Rattle.fb_laws.specs.PartStates.{PartState, IsPartState, live_links}
 use Rattle.fb_laws.specs.Works.{AreMatchedLinks, IsWork}
 
 -- Links see no names.
@@ -24,3 +25,25 @@ abbrev pub NestedWorkRenamed : Type 0
 NestedWorkRenamed = (p : Problem) (nodes : List Node) (links : List Link) (unmatched : List ℕ) (f : ℕ → ℕ)
     → AreRenamedApart f nodes → ((n : ℕ) → is_in unmatched n ≡ true → is_live nodes n ≡ true)
     → IsNestedWork p nodes links unmatched → IsNestedWork p (renamed_nodes f nodes) links (map f unmatched)
+
+-- the state of a part under other names, with the links round each blossom by its new name
+abbrev pub renamed_state : (ℕ → ℕ) → (ℕ → List Link) → PartState → PartState
+renamed_state f cycles s = record {
+  nodes = renamed_nodes f s.nodes;
+  cycles = cycles;
+  matches = s.matches;
+  unmatched = map f s.unmatched;
+}
+
+-- each node has the links under its new name that it had under its old one
+abbrev pub AreCyclesRenamed : (ℕ → ℕ) → PartState → (ℕ → List Link) → Type 0
+AreCyclesRenamed f s cycles = (n : ℕ) → is_live s.nodes n ≡ true → cycles (f n) ≡ s.cycles n
+
+-- So the whole state of a part stays, and with it the links that it keeps.
+abbrev pub StateRenamed : Type 0
+StateRenamed = (p : Problem) (s : PartState) (f : ℕ → ℕ) (cycles : ℕ → List Link) → AreRenamedApart f s.nodes
+    → AreCyclesRenamed f s cycles → IsPartState p s → IsPartState p (renamed_state f cycles s)
+
+abbrev pub LiveLinksRenamed : Type 0
+LiveLinksRenamed = (s : PartState) (f : ℕ → ℕ) (cycles : ℕ → List Link) → AreCyclesRenamed f s cycles
+    → live_links (renamed_state f cycles s) ≡ live_links s

@@ -1,9 +1,10 @@
 -- A ring read place by place, and rings of links by their numbers: for code that has a ring as a table.
-use Rattle.std.specs.Prelude.{ℕ, ◌≡◌, ◌+◌, ◌*◌, ◌/◌, ◌%◌, ◌<◌, List, map, length, get_or}
+use Rattle.std.specs.Prelude.{ℕ, ◌≡◌, ◌+◌, ◌*◌, ◌/◌, ◌%◌, ◌<◌, ◌≤◌, List, map, length, drop, get_or}
 use Rattle.fb_graph.specs.Laws.{Link}
-use Rattle.fb_laws.specs.OpenedCycles.{Pass, PassOf}
+use Rattle.fb_graph.specs.Dual.{Node}
+use Rattle.fb_laws.specs.OpenedCycles.{Pass, PassOf, matched_beside}
 use Rattle.fb_laws.specs.OpenedLinks.{every_second, round_from}
-use Rattle.fb_laws.specs.RingWays.{Round, way_to}
+use Rattle.fb_laws.specs.RingWays.{Round, IsRoundFrom, couples_after, even_round, even_steps, way_to}
 
 -- Gone round from a place, the list has the elements in turn, after the last one the first.
 abbrev pub RoundRead : Type 0
@@ -33,3 +34,15 @@ pass_by table s = record { matched = table s.matched; plus = s.plus; tree = tabl
 abbrev pub WayByNumber : Type 0
 WayByNumber = (table : ℕ → Link) (steps : ℕ) (r : Round ℕ)
     → way_to steps (round_by table r) ≡ map (pass_by table) (way_to steps r)
+
+-- A round has a link more than nodes beside the one where it begins.
+abbrev pub RoundLength : Type 0
+RoundLength = (nodes : List Node) (from : ℕ) (r : Round Link) → IsRoundFrom nodes from r
+    → length r.links ≡ length r.others + 1
+
+-- So the couples beside the way are matched by every second link from its end on.
+abbrev pub BesideByNumber : Type 0
+BesideByNumber = (table : ℕ → Link) (steps : ℕ) (r : Round ℕ) → length r.links ≡ length r.others + 1
+    → length r.others % 2 ≡ 0 → steps ≤ length r.others
+    → matched_beside (couples_after steps (round_by table r))
+    ≡ map table (every_second (drop (even_steps steps r) (even_round steps r).links))

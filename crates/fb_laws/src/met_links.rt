@@ -2,6 +2,7 @@
 
 ghost use Rattle.fb_laws.specs.MatchLinks.{MatchOf, MatchOfMet, MateOutside};
 ghost use Rattle.fb_laws.specs.MetLinks.{SourceUnder, LinkMet, LinkToBoundary, LinkTurned, LinksJoined};
+ghost use Rattle.fb_laws.specs.SingleDefects.{OneDefect, DefectHeight, LinksThrough};
 
 /// Each vertex under an outer node has a source walk there. Where the node meets another outer node or the boundary
 /// over a tight edge, the source walks and the edge are a matched link between the two.
@@ -23,4 +24,12 @@ pub fn match_found()
     ensures one { MatchOf }
     ensures met { MatchOfMet }
     ensures mate { MateOutside }
+{}
+
+/// An outer node that joins no others has one defect under it, whose potential is the sum of the node's layers. Where
+/// that is 0, two links to the node are one link between the nodes at their other ends.
+pub fn links_through_defect()
+    ensures one { OneDefect }
+    ensures height { DefectHeight }
+    ensures through { LinksThrough }
 {}

@@ -1,7 +1,6 @@
 //! All blossoms of a part opened at once, once nothing of it is unmatched.
 
 ghost use Rattle.fb_laws.specs.OpenedLinks.{OpenedLevel, OpenedPerfect, PartSolved, PartIsBest, RowOfPart, EndAtTurn, OnePlace};
-ghost use Rattle.fb_laws.specs.OpenedWitnesses.{NestedExample, PartWitness, RingExample};
 ghost use Rattle.fb_laws.specs.RingWays.{EvenWayRound, RoundBegun, BlossomOpenedAlong};
 
 /// When a blossom's turn comes, one of its children holds the only end of the links, and any child in which a link
@@ -27,11 +26,4 @@ pub fn opened_along()
     ensures way { EvenWayRound }
     ensures begun { RoundBegun }
     ensures opened { BlossomOpenedAlong }
-{}
-
-/// That the laws apply, on a triangle, and what the definitions give on a nest of two blossoms and round a ring of five.
-pub fn opening_examples()
-    ensures part { PartWitness }
-    ensures nested { NestedExample }
-    ensures ring { RingExample }
 {}

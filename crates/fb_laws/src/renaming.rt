@@ -1,7 +1,7 @@
 //! Nodes under other names.
 
 ghost use Rattle.fb_graph.specs.RenamedNodes.{NestRenamed, WalksRenamed, CoverRenamed, OuterRenamed};
-ghost use Rattle.fb_laws.specs.RenamedStates.{LinksRenamed, WorkRenamed, NestedWorkRenamed};
+ghost use Rattle.fb_laws.specs.RenamedStates.{LinksRenamed, WorkRenamed, NestedWorkRenamed, StateRenamed, LiveLinksRenamed};
 
 /// The nodes of a dual state under other names, no two under the same, are one with the same source walks, outer nodes
 /// and nodes over vertices.
@@ -17,4 +17,10 @@ pub fn work_renamed()
     ensures links { LinksRenamed }
     ensures work { WorkRenamed }
     ensures nested { NestedWorkRenamed }
+{}
+
+/// So is the whole state of a part, with the links round each blossom told by its new name. It keeps the same links.
+pub fn state_renamed()
+    ensures state { StateRenamed }
+    ensures links { LiveLinksRenamed }
 {}

@@ -1,7 +1,6 @@
 //! The state of a search, which each step keeps until the root is matched.
 
 ghost use Rattle.fb_laws.specs.Searches.{SearchBegins, SearchPermuted, SearchRoles, RestOutside, SearchLevel, SearchPath, SearchStepped, SearchAttached, SearchEnded, SearchMet, SearchReleased};
-ghost use Rattle.fb_laws.specs.SearchWitnesses.{SearchWitness};
 
 /// A search begins with an unmatched node; the order of links beside the tree doesn't count.
 pub fn search_begins()
@@ -32,9 +31,4 @@ pub fn search_ended()
     ensures boundary { SearchEnded }
     ensures met { SearchMet }
     ensures released { SearchReleased }
-{}
-
-/// That the premises of these laws can be met, on a line.
-pub fn search_witness()
-    ensures { SearchWitness }
 {}

@@ -1,4 +1,4 @@
--- Walks one after another, and walks gone back.
+-- Walks one after another, and reversed walks.
 use Rattle.std.proofs.Common.{ℕ, ◌+◌, ◌<◌, ◌≡◌, List, [], ◌∷◌, ◌++◌, map, reverse, length, sum_by, arith, refl, sym, ap, ◌∙◌, subst}
 use Rattle.std.proofs.lemmas.List.{reverse-append, map-append, length_push}
 use Rattle.std.proofs.lemmas.List.Sums.{sum_by-cons, sum_by-append, sum_by_push}
@@ -44,6 +44,10 @@ pub IsChained-from_Runs : (w : List Step) (from to : ℕ) → 0 < length w → R
 IsChained-from_Runs w from to some walk =
     let ends = Runs-ends w from to some walk in
     subst (λ x. Runs w x (end_of w)) (sym ends.0) (subst (λ y. Runs w from y) (sym ends.1) walk)
+
+pub Runs-chained : (w : List Step) (from to : ℕ) → Runs w from to → IsChained w
+Runs-chained [] from to walk = refl
+Runs-chained (s ∷ ss) from to walk = IsChained-from_Runs (s ∷ ss) from to (omega arith) walk
 
 pub turned_link : (w : List Step) → IsLink w → IsTurned w
 turned_link w link =

@@ -6,17 +6,17 @@ use Rattle.fb_links.specs.declared.walk.Step.{Step}
 abbrev pub walk_weight : List Step → ℕ
 walk_weight steps = sum_by (λ s. s.weight) steps
 
--- where the walk begins; 0 where it has no step
+-- the first vertex of the walk; 0 if it has no step
 abbrev pub start_of : List Step → ℕ
 start_of [] = 0
 start_of (s ∷ ss) = s.from
 
--- where the walk ends; the vertex where it has no step
+-- the last vertex of a walk that begins at the given vertex
 abbrev pub end_from : ℕ → List Step → ℕ
 end_from at [] = at
 end_from at (s ∷ ss) = end_from s.to ss
 
--- where the walk ends; 0 where it has no step
+-- the last vertex of the walk; 0 if it has no step
 abbrev pub end_of : List Step → ℕ
 end_of walk = end_from 0 walk
 
@@ -29,31 +29,31 @@ Runs (s ∷ ss) from to = (s.from ≡ from) × Runs ss s.to to
 abbrev pub IsChained : List Step → Type 0
 IsChained walk = Runs walk (start_of walk) (end_of walk)
 
--- the edge gone over the other way
+-- the step in the other direction
 abbrev pub turn : Step → Step
 turn s = record s { from = s.to; to = s.from }
 
--- the walk gone back
+-- the walk reversed
 abbrev pub turned : List Step → List Step
 turned walk = map turn (reverse walk)
 
--- the walk begins or ends at the vertex
+-- whether the walk begins or ends at the vertex
 abbrev pub is_end : List Step → ℕ → Bool
 is_end walk v = (v == start_of walk) || (v == end_of walk)
 
--- an end of the one walk is an end of the other
+-- whether the walks share an end
 abbrev pub share_end : List Step → List Step → Bool
 share_end a b = is_end b (end_of a) || is_end b (start_of a)
 
--- the end of the walk that is not at the vertex; both may be there
+-- the walk's other end, seen from the vertex; the same vertex if the walk begins and ends there
 abbrev pub other_end : ℕ → List Step → ℕ
 other_end v walk = if v == end_of walk then start_of walk else end_of walk
 
--- the walk, turned where it does not end at the vertex
+-- the walk, reversed if it does not end at the vertex
 abbrev pub ending_at : ℕ → List Step → List Step
 ending_at v walk = if v == end_of walk then walk else turned walk
 
--- the walk, turned where it does not begin at the vertex
+-- the walk, reversed if it does not begin at the vertex
 abbrev pub starting_at : ℕ → List Step → List Step
 starting_at v walk = if v == start_of walk then walk else turned walk
 
@@ -61,6 +61,6 @@ starting_at v walk = if v == start_of walk then walk else turned walk
 abbrev pub meeting : List Step → List Step → ℕ
 meeting a b = if is_end b (end_of a) then end_of a else start_of a
 
--- the two walks as one, from the other end of the first to the other end of the second
+-- the two walks joined where they meet, from the other end of the first to the other end of the second
 abbrev pub joined : List Step → List Step → List Step
 joined a b = ending_at (meeting a b) a ++ starting_at (meeting a b) b

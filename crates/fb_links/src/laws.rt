@@ -1,10 +1,11 @@
-//! What follows from the definitions alone. Each function does nothing: its clauses are the law.
+//! Laws of the definitions. Each function does nothing: its clauses are the laws.
 
-ghost use Rattle.fb_links.specs.Laws.{EndsOfWalk, TurnedLeadsBack, TurnedWeighsSame, TurnedIsLink, WalkGoesOn, WalksWeigh, JoinedWalk, LinksStay};
+ghost use Rattle.fb_links.specs.Laws.{EndsOfWalk, RunIsChained, TurnedLeadsBack, TurnedWeighsSame, TurnedIsLink, WalkGoesOn, WalksWeigh, JoinedWalk, LinksStay};
 
-/// What the ends and the weight of a walk gone back are, of one walk after another, and of two links joined.
+/// The ends and the weight of a reversed walk, of two walks one after the other, and of two joined links.
 pub fn joining()
     ensures ends { EndsOfWalk }
+    ensures chained { RunIsChained }
     ensures back { TurnedLeadsBack }
     ensures same { TurnedWeighsSame }
     ensures turned { TurnedIsLink }
@@ -13,7 +14,7 @@ pub fn joining()
     ensures joined { JoinedWalk }
 {}
 
-/// A link that is added takes the place of no other.
+/// Adding a link replaces no other.
 pub fn adding()
     ensures { LinksStay }
 {}

@@ -13,5 +13,8 @@ pub mod walk;
 
 pub use cycle::{CycleStep, LinkId, NodeId};
 pub use laws::{adding, joining};
-pub use links::{Links, NoMemory};
+pub use links::Links;
 pub use walk::{Step, Walk};
+
+/// Memory ran out.
+pub use std::alloc::AllocError as NoMemory;

@@ -6,7 +6,7 @@ use crate::steps::{end_of, start_of, weight_of};
 use crate::{LinkId, Step, Walk};
 use std::marker::Model;
 
-/// A walk between two vertices, with its weight. Contracts see it as the list of its steps.
+/// A walk between two vertices, stored with its weight. Contracts see it as the list of its steps.
 #[derive(Drop)]
 pub struct Link {
     walk: Walk,
@@ -26,7 +26,7 @@ impl Model for Link {
 }
 
 impl Link {
-    /// The link that goes this walk.
+    /// The link over this walk.
     pub fn of(walk: Walk) -> Link
         requires { walk_weight walk < 2 ^ 64 }
         ensures { result ≡ walk }
@@ -41,7 +41,7 @@ impl Link {
         self.walk.steps()
     }
 
-    /// Where the walk begins and ends.
+    /// The first and the last vertex of the walk.
     pub fn ends(&self) -> (u32, u32)
         ensures { result ≡ (start_of self.now, end_of self.now) }
     {

@@ -1,24 +1,20 @@
-ghost use Rattle.std.specs.Prelude.{◌≡◌, ◌<◌, ◌^◌, ℕ, true, List, [], Some, IfOk, OnErr};
+ghost use Rattle.std.specs.Prelude.{◌≡◌, ◌<◌, ◌^◌, ℕ, true, List, [], length, Some, IfOk, OnErr};
 ghost use Rattle.fb_links.specs.declared.walk.Step.{Step};
 ghost use Rattle.fb_links.specs.Walks.{walk_weight, start_of, end_of, share_end, joined};
 ghost use Rattle.fb_links.specs.Table.{IsLink, Adds, Removes, is_live, link_at, walk_at};
 
 use crate::link::{Link, link_of};
 use crate::steps::{copied, joined};
-use crate::{LinkId, Walk};
+use crate::{LinkId, NoMemory, Walk};
 use std::alloc::Global;
 use std::marker::Model;
 
-/// Memory ran out.
-#[derive(Clone, Copy, Debug, PartialEq, Eq)]
-pub struct NoMemory;
-
 /// Walks between vertices, each kept under a number. Contracts see them as the table of the walks by their numbers.
-/// A call that answers NoMemory leaves them as they were.
+/// A call that returns `NoMemory` leaves them unchanged.
 #[derive(Drop)]
 pub struct Links {
     links: Vec<Option<Link>>,
-    /// The numbers of the table that no link has, with room for all of them.
+    /// The numbers in the table that no link has, with room for all numbers of the table.
     free: Vec<usize>,
 }
 
@@ -35,7 +31,7 @@ impl Model for Links {
 }
 
 impl Links {
-    /// No links.
+    /// The table without links.
     pub fn new(alloc: Global) -> Result<Links, NoMemory>
         ensures { IfOk result (λ links. links ≡ []) }
     {
@@ -45,25 +41,27 @@ impl Links {
         })
     }
 
-    /// Does nothing. Its clause says what every link keeps.
+    /// Does nothing. Its clause states what holds of every link's walk.
     pub fn keeps(&self)
         ensures { (id : ℕ) (walk : List Step) → link_at self.now id ≡ Some walk → IsLink walk }
     {
         let _ = &self.links;
     }
 
-    /// Makes the walk a link, under a number that no link has. Takes time for each step.
+    /// Makes the walk a link, under a number that no link has. Its time is that of the walk's steps.
     pub fn make(&mut self, _alloc: Global, walk: Walk) -> Result<LinkId, NoMemory>
-        requires { IsLink walk }
+        requires some { 0 < length walk }
+        requires light { walk_weight walk < 2 ^ 64 }
         ensures ok { IfOk result (λ id. Adds self.old self.new id walk) }
         ensures err { OnErr result (self.new ≡ self.old) }
     {
         // The vectors grow by the allocator that they were made with.
+        walk.keeps();
         self.put(Link::of(walk))
     }
 
-    /// Makes a further link: the walk from the other end of the one link, over the end that both share, to the other
-    /// end of the other link. Both of them stay.
+    /// Makes a further link of the walks of two links that share an end: from the other end of the first link over the
+    /// shared end to the other end of the second. Both links stay.
     pub fn join_ends(&mut self, alloc: Global, a: LinkId, b: LinkId) -> Result<LinkId, NoMemory>
         requires first { is_live self.old a ≡ true }
         requires second { is_live self.old b ≡ true }
@@ -80,7 +78,7 @@ impl Links {
         self.put(Link::of(Walk::from_vec(steps)))
     }
 
-    /// Takes off that link, whose number may be used again. Takes no memory.
+    /// Removes the link, whose number may then be used again. Allocates nothing.
     pub fn forget(&mut self, link: LinkId)
         requires { is_live self.old link ≡ true }
         ensures { Removes self.old self.new link }
@@ -89,7 +87,7 @@ impl Links {
         self.free.push_reserved(link as usize);
     }
 
-    /// Where the link's walk begins and ends.
+    /// The first and the last vertex of the link's walk.
     pub fn ends(&self, link: LinkId) -> (u32, u32)
         requires { is_live self.now link ≡ true }
         ensures { result ≡ (start_of (walk_at self.now link), end_of (walk_at self.now link)) }
@@ -114,7 +112,7 @@ impl Links {
         link_of(&self.links, link).weight()
     }
 
-    /// Keeps the link under a number that no link has: the last one freed, if there is one.
+    /// Stores the link under a number that no link has: the one freed last, if any is free.
     fn put(&mut self, link: Link) -> Result<LinkId, NoMemory>
         requires { IsLink link }
         ensures ok { IfOk result (λ id. Adds self.old self.new id link) }
@@ -125,12 +123,8 @@ impl Links {
             return Ok(id as u64);
         }
         let id = self.links.len();
-        let Ok(()) = self.free.reserve(id + 1) else {
-            return Err(NoMemory);
-        };
-        let Ok(()) = self.links.reserve(1) else {
-            return Err(NoMemory);
-        };
+        self.free.reserve(id + 1)?;
+        self.links.reserve(1)?;
         self.links.push_reserved(Some(link));
         Ok(id as u64)
     }

@@ -1,8 +1,7 @@
 ghost use Rattle.std.specs.Prelude.{◌≡◌, ◌+◌, ◌<◌, ◌^◌, IfOk};
 ghost use Rattle.fb_links.specs.Walks.{walk_weight, start_of, end_of, meeting, ending_at, starting_at, turned, turn, is_end, joined};
 
-use crate::Step;
-use crate::links::NoMemory;
+use crate::{NoMemory, Step};
 use std::alloc::Global;
 
 /// The sum of the steps' weights.
@@ -17,7 +16,7 @@ pub fn weight_of(steps: &[Step]) -> u64
     weight
 }
 
-/// Where the walk begins; 0 where it has no step.
+/// The first vertex of the walk, or 0 if it has no step.
 pub fn start_of(steps: &[Step]) -> u32
     ensures { result ≡ start_of steps.now }
 {
@@ -27,7 +26,7 @@ pub fn start_of(steps: &[Step]) -> u32
     }
 }
 
-/// Where the walk ends; 0 where it has no step.
+/// The last vertex of the walk, or 0 if it has no step.
 pub fn end_of(steps: &[Step]) -> u32
     ensures { result ≡ end_of steps.now }
 {
@@ -37,20 +36,18 @@ pub fn end_of(steps: &[Step]) -> u32
     }
 }
 
-/// The two walks as one, from the other end of the first to the other end of the second.
+/// The two walks joined at the vertex where they meet.
 pub fn joined(alloc: Global, a: &[Step], b: &[Step]) -> Result<Vec<Step>, NoMemory>
     ensures { IfOk result (λ v. v.items ≡ joined a.now b.now) }
 {
     let v = meeting(a, b);
     let mut steps = ending_at(alloc, a, v)?;
     let rest = starting_at(alloc, b, v)?;
-    let Ok(()) = steps.extend_from_slice(&rest) else {
-        return Err(NoMemory);
-    };
+    steps.extend_from_slice(&rest)?;
     Ok(steps)
 }
 
-/// Where the two walks meet, if they share an end.
+/// The vertex where the two walks meet, if they share an end.
 fn meeting(a: &[Step], b: &[Step]) -> u32
     ensures { result ≡ meeting a.now b.now }
 {
@@ -64,7 +61,7 @@ fn is_end(steps: &[Step], v: u32) -> bool
     v == start_of(steps) || v == end_of(steps)
 }
 
-/// A copy of the walk, turned where it does not end at the vertex.
+/// A copy of the walk, reversed if it does not end at the vertex.
 fn ending_at(alloc: Global, steps: &[Step], v: u32) -> Result<Vec<Step>, NoMemory>
     ensures { IfOk result (λ w. w.items ≡ ending_at v steps.now) }
 {
@@ -74,7 +71,7 @@ fn ending_at(alloc: Global, steps: &[Step], v: u32) -> Result<Vec<Step>, NoMemor
     turned(alloc, steps)
 }
 
-/// A copy of the walk, turned where it does not begin at the vertex.
+/// A copy of the walk, reversed if it does not begin at the vertex.
 fn starting_at(alloc: Global, steps: &[Step], v: u32) -> Result<Vec<Step>, NoMemory>
     ensures { IfOk result (λ w. w.items ≡ starting_at v steps.now) }
 {
@@ -88,23 +85,17 @@ fn starting_at(alloc: Global, steps: &[Step], v: u32) -> Result<Vec<Step>, NoMem
 pub fn copied(alloc: Global, steps: &[Step]) -> Result<Vec<Step>, NoMemory>
     ensures { IfOk result (λ w. w.items ≡ steps.now) }
 {
-    let Ok(copy) = Vec::from_slice(alloc, steps) else {
-        return Err(NoMemory);
-    };
-    Ok(copy)
+    Vec::from_slice(alloc, steps)
 }
 
-/// A copy of the walk gone back.
+/// The walk reversed: from its last vertex back to its first.
 fn turned(alloc: Global, steps: &[Step]) -> Result<Vec<Step>, NoMemory>
     ensures { IfOk result (λ w. w.items ≡ turned steps.now) }
 {
-    let Ok(back) = steps.iter().rev().map(|step| turn(step)).collect(alloc) else {
-        return Err(NoMemory);
-    };
-    Ok(back)
+    steps.iter().rev().map(|step| turn(step)).collect(alloc)
 }
 
-/// The edge gone over the other way.
+/// The step in the other direction.
 fn turn(step: &Step) -> Step
     ensures { result ≡ turn step.now }
 {

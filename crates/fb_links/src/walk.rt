@@ -1,8 +1,9 @@
 ghost use Rattle.std.specs.Prelude.{◌≡◌};
+ghost use Rattle.fb_links.specs.Walks.{IsChained};
 
 use std::marker::Model;
 
-/// One edge of a walk, by its number, gone over from one of its ends to the other.
+/// One edge of a walk, given by its number, in the direction in which the walk passes it.
 #[derive(Clone, Copy, Debug, PartialEq, Eq)]
 pub struct Step {
     pub from: u32,
@@ -11,7 +12,7 @@ pub struct Step {
     pub weight: u64,
 }
 
-/// A walk: steps, each beginning where the one before ended. Contracts see it as their list.
+/// A walk: steps, each beginning where the one before it ended. Contracts see it as the list of its steps.
 #[derive(Debug, Drop)]
 pub struct Walk {
     steps: Vec<Step>,
@@ -20,18 +21,29 @@ pub struct Walk {
 impl Model for Walk {
     ghost use Rattle.std.specs.Prelude.{List};
     ghost use Rattle.fb_links.specs.declared.walk.Step.{Step};
+    ghost use Rattle.fb_links.specs.Walks.{IsChained};
 
     ghost Value = { List Step };
 
     ghost view = { λ w. w.steps.items };
+
+    ghost invariant = { λ w. IsChained w.steps.items };
 }
 
 impl Walk {
     /// The walk of these steps.
     pub fn from_vec(steps: Vec<Step>) -> Walk
+        requires { IsChained steps.items }
         ensures { result ≡ steps.items }
     {
         Walk { steps }
+    }
+
+    /// Does nothing. Its clause states what every walk keeps.
+    pub fn keeps(&self)
+        ensures { IsChained self.now }
+    {
+        let _ = &self.steps;
     }
 
     /// The steps of the walk.

@@ -18,7 +18,7 @@ use Rattle.fb_obstacles.specs.declared.obstacle.Obstacle.TheVariants as obstacle
 use Rattle.fb_obstacles.specs.declared.looking.Look.TheVariants.{Within, Blocked}
 use Rattle.fb_obstacles.specs.declared.ends.Cover.{Cover}
 use Rattle.fb_obstacles.specs.declared.ends.Cover.TheVariants.{Plus, Minus, Out, Bare, Virtual}
-use Rattle.fb_obstacles.specs.Obstacles.{roles_by, grows, shrinks, IsTightFrom, IsObstacle}
+use Rattle.fb_obstacles.specs.Obstacles.{roles_by, grows, shrinks, IsTightFrom, Obstructs}
 use Rattle.fb_obstacles.specs.InternalLooks.{cover_in_role, cover_by, cover_at, far_end, bounded, look_if, residue_of, edge_look, Limits, BearsStep}
 
 -- what the cover of a vertex says of it
@@ -109,7 +109,7 @@ bounded_limits Allowed Stands bound o below above none = step (bound == 0) refl
 pub edge_limits : (p : Problem) (role_of : ℕ → Role) (nodes : List Node) (r k : ℕ) → IsDual p nodes
     → AreRoles (roles_by role_of) nodes → HaveParity (roles_by role_of).is_plus nodes r
     → (edge_at p.edges k).weight % 2 ≡ 0 → k < length p.edges
-    → Limits (λ j. BearsStep (roles_by role_of) nodes j (edge_at p.edges k)) (IsObstacle p (roles_by role_of) nodes)
+    → Limits (λ j. BearsStep (roles_by role_of) nodes j (edge_at p.edges k)) (Obstructs p (roles_by role_of) nodes)
     (edge_look p role_of nodes k)
 edge_limits p role_of nodes r k dual are parity even less = split (under_or_not nodes e.first e.second)
   where
@@ -129,7 +129,7 @@ edge_limits p role_of nodes r k dual are parity even less = split (under_or_not 
     Allowed j = BearsStep roles nodes j e
 
     Stands : Obstacle → Type 0
-    Stands = IsObstacle p roles nodes
+    Stands = Obstructs p roles nodes
 
     within : (name : ℕ) (r : Role) → far_end (cover_in_role r name) (cover_in_role r name) ≡ None
     within name role.Plus = ap (λ x. cond x None (Some (Plus name))) (eq-eqb name name refl)

@@ -1,2 +1,6 @@
+pub mod Conclusions
 pub mod EdgeLooks
+pub mod EdgeScans
+pub mod LookLimits
+pub mod NodeLooks
 pub mod StoredEdges

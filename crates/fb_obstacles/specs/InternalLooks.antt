@@ -1,10 +1,11 @@
 -- How the edges and minus nodes are looked at.
-use Rattle.std.specs.Prelude.{ℕ, ◌+◌, ◌-◌, ◌*◌, ◌/◌, ◌≤◌, ◌==◌, Bool, true, false, min, List, Option, Some, None, if◌then◌else◌}
+use Rattle.std.specs.Prelude.{ℕ, ◌≡◌, ◌+◌, ◌-◌, ◌*◌, ◌/◌, ◌≤◌, ◌==◌, Bool, true, false, min, nat_lt, List, length, Option, Some, None, if◌then◌else◌}
 use Rattle.fb_graph.specs.Problem.{Problem, edge_at}
 use Rattle.fb_graph.specs.Certificate.{load_of}
-use Rattle.fb_graph.specs.Dual.{Node, all_cuts, cover_of, height_of}
+use Rattle.fb_graph.specs.Dual.{Node, all_cuts, cover_of, height_of, is_empty, layers_at}
 use Rattle.fb_graph.specs.Steps.{Roles, gains, losses}
 use Rattle.fb_graph.specs.declared.parts.Edge.{Edge}
+use Rattle.fb_regions.specs.Moves.{node_named}
 use Rattle.fb_regions.specs.declared.roles.Role.{Role}
 use Rattle.fb_regions.specs.declared.roles.Role.TheVariants as role
 use Rattle.fb_obstacles.specs.declared.obstacle.Obstacle.{Obstacle}
@@ -60,6 +61,18 @@ edge_look p role_of nodes k =
     (far_end (cover_at p role_of nodes (edge_at p.edges k).first) (cover_at p role_of nodes (edge_at p.edges k).second))
     (residue_of nodes (edge_at p.edges k)) k
 
+-- what an empty top layer of a minus node is
+abbrev pub empty_layer : List Node → ℕ → Obstacle
+empty_layer nodes name =
+    if nat_lt 1 (length (layers_at nodes name)) then obstacle.LayerEmpty name
+    else if is_empty (node_named nodes name).children then obstacle.ZeroMinus name else obstacle.BlossomEmpty name
+
+-- how far the minus node of this name may shrink
+abbrev pub node_look : List Node → ℕ → Look
+node_look nodes name =
+    if (node_named nodes name).top.value == 0 then Blocked (empty_layer nodes name)
+    else Within (node_named nodes name).top.value
+
 -- both looks in one
 abbrev pub both_looks : Look → Look → Look
 both_looks (Blocked o) b = Blocked o
@@ -75,7 +88,16 @@ Limits Allowed Stands (Within bound) =
     (1 ≤ bound) × ((k : ℕ) → k ≤ bound → Allowed k) × ((k : ℕ) → Allowed k → k ≤ bound)
 Limits Allowed Stands (Blocked o) = Stands o
 
+-- the top layer of the node of this name is at least as thick
+abbrev pub BearsShrinking : List Node → ℕ → ℕ → Type 0
+BearsShrinking nodes j name = j ≤ (node_named nodes name).top.value
+
 -- the edge can bear a step of length j
 abbrev pub BearsStep : Roles → List Node → ℕ → Edge → Type 0
 BearsStep roles nodes j e =
     load_of (all_cuts nodes) e + j * gains roles nodes e ≤ e.weight + j * losses roles nodes e
+
+-- one look is counted for each edge up to the one where an obstacle stands
+abbrev pub CountsLooked : Look → ℕ → ℕ → ℕ → Type 0
+CountsLooked (Blocked o) count before after = (before ≤ after) × (after ≤ before + count)
+CountsLooked look count before after = after ≡ before + count

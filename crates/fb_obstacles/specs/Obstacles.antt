@@ -6,7 +6,7 @@ use Rattle.fb_graph.specs.Certificate.{load_of}
 use Rattle.fb_graph.specs.Components.{Leads}
 use Rattle.fb_graph.specs.Dual.{Node, AreUnderOne, all_cuts, cover_of, is_live, is_outer}
 use Rattle.fb_graph.specs.Steps.{Roles}
-use Rattle.fb_graph.specs.Covers.{HaveParity, HasNoObstacle, is_over}
+use Rattle.fb_graph.specs.Covers.{HaveParity, is_over}
 use Rattle.fb_graph.specs.Moves.{MaySplit, MayUncover}
 use Rattle.fb_laws.specs.Lengths.{IsGreatestStep}
 use Rattle.fb_regions.specs.declared.roles.Role.{Role}
@@ -83,17 +83,26 @@ pub record IsZeroDefect (nodes : List Node) (name : ℕ) : Type 0 where
   pub outer : is_outer nodes name ≡ true
   pub bare : All (λ n. n.name ≡ name → (n.children ≡ []) × (n.below ≡ []) × (n.top.value ≡ 0)) nodes
 
--- The obstacle is there as named. The tree is free by a length where that length is the greatest that is allowed, and
--- no obstacle stands.
+-- the obstacle stands in the way as named
+abbrev pub Obstructs : Problem → Roles → List Node → Obstacle → Type 0
+Obstructs p roles nodes (Absorb k) = (u v : ℕ) × IsAbsorb p roles nodes k u v
+Obstructs p roles nodes (Boundary k) = (u v : ℕ) × IsBoundary p roles nodes k u v
+Obstructs p roles nodes (Meet k) = (u v name : ℕ) × IsMeet p roles nodes k u v name
+Obstructs p roles nodes (PlusPair k) = (u v : ℕ) × IsPlusPair p roles nodes k u v
+Obstructs p roles nodes (LayerEmpty name) = (roles.is_minus name ≡ true) × MayUncover nodes name
+Obstructs p roles nodes (BlossomEmpty name) = (roles.is_minus name ≡ true) × MaySplit nodes name
+Obstructs p roles nodes (ZeroMinus name) = (roles.is_minus name ≡ true) × IsZeroDefect nodes name
+Obstructs p roles nodes (Free k) = ⊥
+
+-- nothing stands in the way, and the length is the greatest by which the tree may step
+pub record IsFree (p : Problem) (roles : Roles) (nodes : List Node) (k : ℕ) : Type 0 where
+  pub none : (o : Obstacle) → ¬ Obstructs p roles nodes o
+  pub some : 1 ≤ k
+  pub greatest : IsGreatestStep p roles nodes k
+
 abbrev pub IsObstacle : Problem → Roles → List Node → Obstacle → Type 0
-IsObstacle p roles nodes (Absorb k) = (u v : ℕ) × IsAbsorb p roles nodes k u v
-IsObstacle p roles nodes (Boundary k) = (u v : ℕ) × IsBoundary p roles nodes k u v
-IsObstacle p roles nodes (Meet k) = (u v name : ℕ) × IsMeet p roles nodes k u v name
-IsObstacle p roles nodes (PlusPair k) = (u v : ℕ) × IsPlusPair p roles nodes k u v
-IsObstacle p roles nodes (LayerEmpty name) = (roles.is_minus name ≡ true) × MayUncover nodes name
-IsObstacle p roles nodes (BlossomEmpty name) = (roles.is_minus name ≡ true) × MaySplit nodes name
-IsObstacle p roles nodes (ZeroMinus name) = (roles.is_minus name ≡ true) × IsZeroDefect nodes name
-IsObstacle p roles nodes (Free k) = (1 ≤ k) × IsGreatestStep p roles nodes k × HasNoObstacle p roles nodes
+IsObstacle p roles nodes (Free k) = IsFree p roles nodes k
+IsObstacle p roles nodes o = Obstructs p roles nodes o
 
 -- one look is counted for each edge that was examined: all of them where the tree is free
 abbrev pub CountsLooks : Obstacle → ℕ → ℕ → ℕ → Type 0

@@ -1,5 +1,5 @@
 ghost use Rattle.std.specs.Prelude.{◌≡◌, ◌<◌};
-ghost use Rattle.fb_graph.specs.Dual.{cover_of};
+ghost use Rattle.fb_graph.specs.Dual.{IsDual, cover_of};
 ghost use Rattle.fb_obstacles.specs.InternalLooks.{cover_at, far_end};
 
 use crate::NodeId;
@@ -19,6 +19,13 @@ pub enum Cover {
     Bare,
     /// Nothing: the boundary.
     Virtual,
+}
+
+/// Does nothing. Its clause says what every dual state keeps.
+pub fn keeps_dual<S: Scope>(regions: &Regions<S>)
+    ensures { IsDual (S.problem regions.now.scope) regions.now.nodes }
+{
+    regions.keeps();
 }
 
 /// What is over the vertex.

@@ -3,10 +3,15 @@
 #![tactic(auto)]
 
 mod ends;
+pub mod finding;
 mod looking;
 pub mod obstacle;
+mod scanning;
+pub mod shrinking;
 pub mod watching;
 
 pub use fb_regions::{NodeId, Role, Roles};
+pub use finding::next_obstacle;
 pub use obstacle::Obstacle;
+pub use shrinking::MinusNodes;
 pub use watching::Watch;

@@ -1,43 +1,63 @@
--- How faulty words are answered.
-use Rattle.std.proofs.Common.{◌≡◌, ℕ, inl, inr, List, [], Option, Result, Ok, Err, refl, sym, subst}
+-- How faulty words end a run.
+use Rattle.std.proofs.Common.{◌≡◌, ◌≢◌, ◌⊎◌, inl, inr, [], Result, Ok, Err, Some, refl, sym, subst}
 use Rattle.std.proofs.KnownBytes.{Appends-nil}
-use Rattle.fb_run.specs.RunEndings.{AsksAsTold, EndsRight, cause_of_fault, names_of}
-use Rattle.fb_run.specs.Judging.{AsksFront, Named}
-use Rattle.fb_words.specs.Seen.{IsFaultOf}
+use Rattle.fb_run.specs.Moments.{Moment}
+use Rattle.fb_run.specs.RunEndings.{EndsRight, ErrandEnds, cause_of_fault}
+use Rattle.fb_words.specs.Seen.{IsFaultOf, usage_of}
 use Rattle.fb_words.specs.Words.{Errand, check, decode}
 use Rattle.fb_endings.specs.declared.ending.Cause.{Cause}
-use Rattle.fb_endings.specs.declared.ending.Cause.TheVariants.{NoMemory, Usage}
+use Rattle.fb_endings.specs.declared.ending.Cause.TheVariants.{NoMemory, Usage, WriteFault}
 use Rattle.fb_words.specs.declared.usage.UsageKind.{UsageKind}
 use Rattle.fb_words.specs.declared.usage.UsageKind.TheVariants as usage
 use Rattle.fb_words.specs.declared.words.WordsFault.{WordsFault}
 use Rattle.fb_words.specs.declared.words.WordsFault.TheVariants as fault
-use Rattle.fb_run.proofs.Inputs.{asks_none}
+use Rattle.fb_run.proofs.Inputs.{asks_none, asks_same}
 
-by_kind : (read : Result Errand UsageKind) (kind : UsageKind) (named : Named) (out : Option (List ℕ)) → read ≡ Err kind
-    → EndsRight read named out out (Usage kind)
-by_kind read kind named out e = subst (λ (r : Result Errand UsageKind). EndsRight r named out out (Usage kind)) (sym e) (inl refl, Appends-nil out)
+by_kind : (read : Result Errand UsageKind) (kind : UsageKind) (m : Moment) → read ≡ Err kind → EndsRight read m m (Usage kind)
+by_kind read kind m e = subst (λ (r : Result Errand UsageKind). EndsRight r m m (Usage kind)) (sym e)
+    (inl refl, asks_same m.asked m.asked refl, refl, Appends-nil m.written)
 
-by_memory : (read : Result Errand UsageKind) (named : Named) (out : Option (List ℕ)) → EndsRight read named out out NoMemory
-by_memory (Ok (decode decoding)) named out = inl (tt, Appends-nil out)
-by_memory (Ok (check checking)) named out = inl (tt, Appends-nil out)
-by_memory (Err kind) named out = (inr refl, Appends-nil out)
+by_memory : (read : Result Errand UsageKind) (m : Moment) → EndsRight read m m NoMemory
+by_memory (Ok (decode decoding)) m = inl (asks_none m.asked m.asked _ refl, refl, Appends-nil m.written)
+by_memory (Ok (check checking)) m = inl (asks_none m.asked m.asked _ refl, refl, Appends-nil m.written)
+by_memory (Err kind) m = (inr refl, asks_same m.asked m.asked refl, refl, Appends-nil m.written)
 
-pub refused_right : (read : Result Errand UsageKind) (f : WordsFault) (named : Named) (out : Option (List ℕ)) → IsFaultOf read f
-    → EndsRight read named out out (cause_of_fault f)
-refused_right read (fault.Parse text) named out e = by_kind read usage.Parse named out e
-refused_right read fault.Format named out e = by_kind read usage.Format named out e
-refused_right read fault.TwoInputs named out e = by_kind read usage.TwoInputs named out e
-refused_right read fault.NoMemory named out e = by_memory read named out
-
-pub asks_nothing : (read : Result Errand UsageKind) (asked : Option (List (List ℕ))) → AsksAsTold read asked asked
-asks_nothing (Ok errand) asked = asks_none asked asked (names_of errand) refl
-asks_nothing (Err kind) asked = asks_none asked asked [] refl
+pub refused_right : (read : Result Errand UsageKind) (f : WordsFault) (m : Moment) → IsFaultOf read f → EndsRight read m m (cause_of_fault f)
+refused_right read (fault.Parse text) m e = by_kind read usage.Parse m e
+refused_right read fault.Format m e = by_kind read usage.Format m e
+refused_right read fault.TwoInputs m e = by_kind read usage.TwoInputs m e
+refused_right read fault.NoMemory m e = by_memory read m
 
 -- what was done of an errand that was read
-pub ends_read : (read : Result Errand UsageKind) (errand : Errand) (named : Named) (old new : Option (List ℕ)) (cause : Cause) → read ≡ Ok errand
-    → EndsRight (Ok errand) named old new cause → EndsRight read named old new cause
-ends_read read errand named old new cause e ends = subst (λ (r : Result Errand UsageKind). EndsRight r named old new cause) (sym e) ends
+pub ends_read : (read : Result Errand UsageKind) (errand : Errand) (before after : Moment) (cause : Cause) → read ≡ Ok errand
+    → ErrandEnds errand before after cause → EndsRight read before after cause
+ends_read read errand before after cause e ends = subst (λ (r : Result Errand UsageKind). EndsRight r before after cause) (sym e) ends
 
-pub asks_read : (read : Result Errand UsageKind) (errand : Errand) (old new : Option (List (List ℕ))) → read ≡ Ok errand
-    → AsksFront old new (names_of errand) → AsksAsTold read old new
-asks_read read errand old new e asks = subst (λ (r : Result Errand UsageKind). AsksAsTold r old new) (sym e) asks
+no_usage : (kind : UsageKind) {P : Type 0} → (Usage kind ≡ WriteFault) ⊎ (Usage kind ≡ NoMemory) → P
+no_usage kind (inl e) = absurd cc
+no_usage kind (inr e) = absurd cc
+
+-- an errand that was read never ends by faulty words
+never_usage : (errand : Errand) (before after : Moment) (kind : UsageKind) → ErrandEnds errand before after (Usage kind) → ⊥
+never_usage (decode decoding) before after kind (inl none) = none
+never_usage (decode decoding) before after kind (inr with_graph) = elim with_graph.ends [
+  | inl in_text ↦ no_usage kind in_text.ends
+  | inr at_shots ↦ at_shots.1
+]
+never_usage (check checking) before after kind (inl none) = none
+never_usage (check checking) before after kind (inr with_graph) = elim with_graph.ends [
+  | inl none ↦ none
+  | inr with_report ↦ elim with_report.ends [
+    | inl in_text ↦ no_usage kind in_text.ends
+    | inr at_shots ↦ at_shots.2
+  ]
+]
+
+pub errand_not_usage : (errand : Errand) (before after : Moment) (cause : Cause) (kind : UsageKind) → ErrandEnds errand before after cause → cause ≢ Usage kind
+errand_not_usage errand before after cause kind ends e = never_usage errand before after kind (subst (ErrandEnds errand before after) e ends)
+
+pub fault_not_parse : (f : WordsFault) → usage_of f ≢ Some usage.Parse → cause_of_fault f ≢ Usage usage.Parse
+fault_not_parse (fault.Parse text) other e = other refl
+fault_not_parse fault.Format other e = absurd cc
+fault_not_parse fault.TwoInputs other e = absurd cc
+fault_not_parse fault.NoMemory other e = absurd cc

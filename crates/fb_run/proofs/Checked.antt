@@ -1,21 +1,22 @@
 -- How a check of rows ends.
-use Rattle.std.proofs.Common.{◌≡◌, ℕ, ◌==◌, ◌&&◌, inl, inr, Bool, true, false, if◌then◌else◌, List, [], length, Option, IfSome, Result, Ok, Err, IsOk, IfOk, OnErr, refl, sym, ap, subst, ◌∙◌, append-nil}
+use Rattle.std.proofs.Common.{◌≡◌, ℕ, ◌==◌, ◌&&◌, inl, inr, Bool, true, false, if◌then◌else◌, ◌≢◌, List, [], length, Option, Some, None, IfSome, refl, sym, ap, subst, ◌∙◌, append-nil}
 use Rattle.std.proofs.KnownBytes.{Appends-nil, Appends-trans}
 use Rattle.fb_graph.specs.Limits.{DecodingGraph}
 use Rattle.fb_graph.specs.declared.parts.Row.{Row}
-use Rattle.fb_ports.specs.Causes.{Appends, AppendsFront, Opens}
+use Rattle.fb_ports.specs.Causes.{Appends, AppendsFront}
 use Rattle.fb_ports.proofs.Onward.{front_first, front_second}
 use Rattle.fb_shots.specs.Shots.{at_end}
 use Rattle.fb_shots.specs.declared.answer.Format.{Format}
 use Rattle.fb_shots.specs.Streams.{Stream, fresh}
-use Rattle.fb_run.specs.CheckEndings.{ChecksFront, ChecksOn, WritesCheck}
+use Rattle.fb_run.specs.CheckEndings.{ChecksFront, LinesEnd, WritesCheck}
 use Rattle.fb_run.specs.Checks.{bad_count, check_cause, check_front, check_head, check_last, verdict_lines}
+use Rattle.fb_run.specs.Endings.{IsReadToItsEnd}
 use Rattle.fb_run.specs.Judges.{EndsCheck, FirstFrom, FirstOf, JudgesAll, JudgesFirst, JudgesInto}
-use Rattle.fb_run.specs.Judging.{Gathers, GathersFrom, HasFirstShots, HasShots, Named, most_shots}
+use Rattle.fb_run.specs.Judging.{Gathers, GathersFrom, HasFirstShots, HasShots, IsOpened, Named, most_shots, shots_of}
 use Rattle.fb_words.specs.Words.{Checking}
 use Rattle.fb_run.specs.declared.checking.Judged.{Judged}
 use Rattle.fb_endings.specs.declared.ending.Cause.{Cause}
-use Rattle.fb_endings.specs.declared.ending.Cause.TheVariants.{Bad, Done}
+use Rattle.fb_endings.specs.declared.ending.Cause.TheVariants.{Bad, Done, NoMemory}
 use Rattle.fb_endings.specs.declared.ending.Refusal.TheVariants as refusal
 use Rattle.fb_run.specs.declared.shots.ShotsEnd.{ShotsEnd}
 use Rattle.fb_run.specs.declared.shots.ShotsEnd.TheVariants as end
@@ -113,14 +114,33 @@ first_more A B g rows old new more first = record {
 }
 
 -- no shot was taken
-pub none_judged : (Input : List (List ℕ) → Type 0) (g : DecodingGraph) (rows : List Row) (out : Option (List ℕ)) (ended : ShotsEnd)
-    → Input [] → JudgesAll Input g rows out out (record { shots = 0; bad = 0; end = ended })
-none_judged Input g rows out ended input =
-    record { shots = []; input = input; many = refl; verdicts = []; answers = tt; bad = refl; written = Appends-nil out }
+first_of_none : (left : Option (List ℕ)) (format : Format) (g : DecodingGraph) → FirstFrom left format g []
+first_of_none None format g = tt
+first_of_none (Some text) format g = ((shots_of format g text).shots, refl)
 
-pub first_of_none : (Input : List (List ℕ) → Type 0) (g : DecodingGraph) (rows : List Row) (out : Option (List ℕ)) → Input [] → JudgesFirst Input g rows out out
-first_of_none Input g rows out input =
-    record { shots = []; input = input; verdicts = []; answers = tt; written = ([], [], refl, Appends-nil out) }
+pub none_judged : (left : Option (List ℕ)) (format : Format) (g : DecodingGraph) (rows : List Row) (out : Option (List ℕ))
+    → JudgesFirst (FirstFrom left format g) g rows out out
+none_judged left format g rows out =
+    record { shots = []; input = first_of_none left format g; verdicts = []; answers = tt; written = ([], [], refl, Appends-nil out) }
+
+-- a check ends as one that was read to its end only if its shots were
+pub check_to_end : (ended : ShotsEnd) (lines shots bad : ℕ) (old new : Option (List ℕ)) (cause : Cause) → EndsCheck ended lines shots bad old new cause
+    → IsReadToItsEnd cause → ended ≡ end.End
+check_to_end end.End lines shots bad old new cause ends reads = refl
+check_to_end (end.Refused fault) lines shots bad old new cause (same, is) reads = absurd (subst IsReadToItsEnd is reads)
+check_to_end end.ReadFault lines shots bad old new cause (same, is) reads = absurd (subst IsReadToItsEnd is reads)
+
+-- the last line doesn't end a check for want of memory
+pub never_memory : (ended : ShotsEnd) (lines shots bad : ℕ) (old new : Option (List ℕ)) (cause : Cause) → EndsCheck ended lines shots bad old new cause
+    → cause ≢ NoMemory
+never_memory end.End lines shots bad old new cause (inl (whole, is)) e = by_both (bad == 0 && lines == shots) is
+  where
+    by_both : (good : Bool) → cause ≡ (if good then Done else Bad bad) → ⊥
+    by_both true is = cc
+    by_both false is = cc
+never_memory end.End lines shots bad old new cause (inr (part, is)) e = cc
+never_memory (end.Refused fault) lines shots bad old new cause (same, is) e = cc
+never_memory end.ReadFault lines shots bad old new cause (same, is) e = cc
 
 module _ (named : Named) (errand : Checking) (g : DecodingGraph) (rows : List Row) where
   pub checks_head : (old new : Option (List ℕ)) → AppendsFront old new check_head → ChecksFront named errand g rows old new
@@ -132,6 +152,10 @@ module _ (named : Named) (errand : Checking) (g : DecodingGraph) (rows : List Ro
     written = inl (front_first old new check_head [] front);
   }
 
+  -- want of memory after the head
+  pub checks_after_head : (old new : Option (List ℕ)) → Appends old new check_head → ChecksFront named errand g rows old new
+  checks_after_head old new all = checks_head old new (check_head, [], sym (append-nil check_head), all)
+
   pub checks_first : (old mid new : Option (List ℕ)) → Appends old mid check_head
       → JudgesFirst (FirstOf named errand.shots errand.format g) g rows mid new → ChecksFront named errand g rows old new
   checks_first old mid new head first = record {
@@ -142,18 +166,18 @@ module _ (named : Named) (errand : Checking) (g : DecodingGraph) (rows : List Ro
     written = inl (front_second old mid new check_head (verdict_lines 0 first.verdicts) head first.written);
   }
 
-  checks_by : (old new : Option (List ℕ)) (lines shots bad : ℕ) (cause : Cause) → cause ≡ check_cause lines shots bad
-      → WritesCheck named errand g rows old new cause → ChecksOn named errand g rows old new cause
-  checks_by old new lines shots bad cause e wrote = by_both (bad == 0 && lines == shots) e
+  checks_by : (left old new : Option (List ℕ)) (lines shots bad : ℕ) (cause : Cause) → cause ≡ check_cause lines shots bad
+      → WritesCheck named errand g rows old new cause → LinesEnd named errand g rows left old new cause
+  checks_by left old new lines shots bad cause e wrote = by_both (bad == 0 && lines == shots) e
     where
-      by_both : (good : Bool) → cause ≡ (if good then Done else Bad bad) → ChecksOn named errand g rows old new cause
+      by_both : (good : Bool) → cause ≡ (if good then Done else Bad bad) → LinesEnd named errand g rows left old new cause
       by_both true is = rw is (rw is at wrote)
       by_both false is = rw is (rw is at wrote)
 
-  pub checks_on : (old mid last new : Option (List ℕ)) (j : Judged) (lines : ℕ) (cause : Cause) → lines ≡ length rows → Appends old mid check_head
-      → JudgesAll (λ shots. Gathers named errand.shots errand.format g shots j.end) g rows mid last j
-      → EndsCheck j.end lines j.shots j.bad last new cause → ChecksOn named errand g rows old new cause
-  checks_on old mid last new j lines cause many head all ends = go j.end all.input ends
+  pub checks_on : (left old mid last new : Option (List ℕ)) (j : Judged) (lines : ℕ) (cause : Cause) → lines ≡ length rows → Appends old mid check_head
+      → JudgesAll (λ shots. Gathers named errand.shots errand.format g left shots j.end) g rows mid last j
+      → EndsCheck j.end lines j.shots j.bad last new cause → LinesEnd named errand g rows left old new cause
+  checks_on left old mid last new j lines cause many head all ends = go j.end all.input ends
     where
       front : Appends old last (check_front all.verdicts)
       front = Appends-trans old mid last check_head (verdict_lines 0 all.verdicts) head all.written
@@ -169,9 +193,9 @@ module _ (named : Named) (errand : Checking) (g : DecodingGraph) (rows : List Ro
       are_first : (text : List ℕ) → HasShots errand.format g all.shots at_end text → HasFirstShots errand.format g all.shots text
       are_first text e = ([], ap (λ r. r.shots) e ∙ sym (append-nil all.shots))
 
-      go : (ended : ShotsEnd) → Gathers named errand.shots errand.format g all.shots ended → EndsCheck ended lines j.shots j.bad last new cause
-          → ChecksOn named errand g rows old new cause
-      go end.End held (inl (whole, is)) = checks_by old new lines j.shots j.bad cause is (record {
+      go : (ended : ShotsEnd) → Gathers named errand.shots errand.format g left all.shots ended → EndsCheck ended lines j.shots j.bad last new cause
+          → LinesEnd named errand g rows left old new cause
+      go end.End held (inl (whole, is)) = checks_by left old new lines j.shots j.bad cause is (record {
         shots = all.shots;
         input = held;
         verdicts = all.verdicts;
@@ -194,35 +218,22 @@ module _ (named : Named) (errand : Checking) (g : DecodingGraph) (rows : List Ro
         answers = all.answers;
         written = rw same front;
       })
-      go end.ReadFault held (same, is) = rw is (record {
+      go end.ReadFault held (same, is) = rw is (inr (record {
         shots = all.shots;
         input = held;
         verdicts = all.verdicts;
         answers = all.answers;
         written = rw same front;
-      })
+      }))
 
 -- what the file of a name gives, by what the opened file gives
-module _ {E : Type 0} (answer : Result Judged E) (named : Named) (left : Option (List ℕ)) (name : List ℕ) (format same : Format) (g h : DecodingGraph)
-    (rows : List Row) (old new : Option (List ℕ)) where
-  pub judged_opened : same ≡ format → h ≡ g → {T F : Type 0} (r : Result T F) → IsOk r → Opens named left name r
-      → IfOk answer (λ j. JudgesAll (λ shots. GathersFrom left same h shots j.end) g rows old new j)
-      → IfOk answer (λ j. JudgesAll (λ shots. Gathers named name format g shots j.end) g rows old new j)
-  judged_opened f d r ok opens held = go answer held
-    where
-      go : (a : Result Judged E) → IfOk a (λ j. JudgesAll (λ shots. GathersFrom left same h shots j.end) g rows old new j)
-          → IfOk a (λ j. JudgesAll (λ shots. Gathers named name format g shots j.end) g rows old new j)
-      go (Err e) held = tt
-      go (Ok j) held = all_more (λ shots. GathersFrom left same h shots j.end) (λ shots. Gathers named name format g shots j.end) g rows old new j
-          (λ shots p. gathers_opened named left name r format g shots j.end ok opens
-          (subst (λ (fm : Format). GathersFrom left fm g shots j.end) f (subst (λ (gr : DecodingGraph). GathersFrom left same gr shots j.end) d p))) held
+module _ (named : Named) (name : List ℕ) (left : Option (List ℕ)) (format : Format) (g : DecodingGraph) (rows : List Row) (old new : Option (List ℕ)) where
+  pub judged_opened : (later : Option (List ℕ)) (j : Judged) → IsOpened named name left
+      → JudgesAll (λ shots. GathersFrom left format g later shots j.end) g rows old new j
+      → JudgesAll (λ shots. Gathers named name format g later shots j.end) g rows old new j
+  judged_opened later j opened all = all_more (λ shots. GathersFrom left format g later shots j.end) (λ shots. Gathers named name format g later shots j.end) g rows
+      old new j (λ shots p. gathers_opened named name left format g later shots j.end opened p) all
 
-  pub first_opened : same ≡ format → h ≡ g → {T F : Type 0} (r : Result T F) → IsOk r → Opens named left name r
-      → OnErr answer (JudgesFirst (FirstFrom left same h) g rows old new) → OnErr answer (JudgesFirst (FirstOf named name format g) g rows old new)
-  first_opened f d r ok opens held = go answer held
-    where
-      go : (a : Result Judged E) → OnErr a (JudgesFirst (FirstFrom left same h) g rows old new) → OnErr a (JudgesFirst (FirstOf named name format g) g rows old new)
-      go (Ok j) held = tt
-      go (Err e) held = first_more (FirstFrom left same h) (FirstOf named name format g) g rows old new
-          (λ shots p. inr (holds_opened named left name r (HasFirstShots format g shots) ok opens
-          (subst (λ (fm : Format). FirstFrom left fm g shots) f (subst (λ (gr : DecodingGraph). FirstFrom left same gr shots) d p)))) held
+  pub first_opened : IsOpened named name left → JudgesFirst (FirstFrom left format g) g rows old new → JudgesFirst (FirstOf named name format g) g rows old new
+  first_opened opened first = first_more (FirstFrom left format g) (FirstOf named name format g) g rows old new
+      (λ shots p. inr (holds_opened named name left (HasFirstShots format g shots) opened p)) first

@@ -8,7 +8,7 @@ use Rattle.fb_ports.proofs.Onward.{front_first, front_second}
 use Rattle.fb_report.specs.Texts.{head_text, rows_text}
 use Rattle.fb_shots.specs.Shots.{Ending, at_end, refused}
 use Rattle.fb_run.specs.Decoding.{cause_of, last_line, report_front}
-use Rattle.fb_run.specs.Endings.{EndsOn, WritesFront, WritesReport}
+use Rattle.fb_run.specs.Endings.{IsReadToItsEnd, RowsEnd, WritesFront, WritesReport}
 use Rattle.fb_run.specs.Judging.{Gathers, HasFirstShots, HasShots, Holds, IsReadInPart, Named}
 use Rattle.fb_run.specs.Rows.{Counts, IsShotRow, counts_of}
 use Rattle.fb_words.specs.Words.{Decoding}
@@ -25,6 +25,13 @@ pub holds_more : (named : Named) (name : List ℕ) (P Q : List ℕ → Type 0) �
 holds_more None name P Q more held = tt
 holds_more (Some f) name P Q more (text, e, p) = (text, e, more text p)
 
+-- a report ends as one that was read to its end only if its shots were
+pub report_to_end : (ended : ShotsEnd) (rows : ℕ) (counts : Counts) (old new : Option (List ℕ)) (cause : Cause) → EndsReport ended rows counts old new cause
+    → IsReadToItsEnd cause → ended ≡ end.End
+report_to_end end.End rows counts old new cause ends reads = refl
+report_to_end (end.Refused fault) rows counts old new cause (same, is) reads = absurd (subst IsReadToItsEnd is reads)
+report_to_end end.ReadFault rows counts old new cause (same, is) reads = absurd (subst IsReadToItsEnd is reads)
+
 module _ (named : Named) (errand : Decoding) (g : DecodingGraph) where
   -- the shots that were gathered are none, or the first of the file's
   abbrev FirstShots : List (List ℕ) → Type 0
@@ -33,12 +40,12 @@ module _ (named : Named) (errand : Decoding) (g : DecodingGraph) where
   pub are_first : (shots : List (List ℕ)) (ending : Ending) (text : List ℕ) → HasShots errand.format g shots ending text → HasFirstShots errand.format g shots text
   are_first shots ending text e = ([], ap (λ r. r.shots) e ∙ sym (append-nil shots))
 
-  pub first_gathered : (shots : List (List ℕ)) (ended : ShotsEnd) → Gathers named errand.shots errand.format g shots ended → FirstShots shots
-  first_gathered shots end.End held = inr (holds_more named errand.shots _ _ (are_first shots at_end) held)
-  first_gathered shots (end.Refused fault) held = inr (holds_more named errand.shots _ _ (are_first shots (refused fault.kind)) held.0)
-  first_gathered shots end.ReadFault (inl none) = inl none
-  first_gathered shots end.ReadFault (inr held) =
-      inr (holds_more named errand.shots (IsReadInPart errand.format g shots) (HasFirstShots errand.format g shots) (λ text p. p.first) held)
+  pub first_gathered : (left : Option (List ℕ)) (shots : List (List ℕ)) (ended : ShotsEnd) → Gathers named errand.shots errand.format g left shots ended
+      → FirstShots shots
+  first_gathered left shots end.End held = inr (holds_more named errand.shots _ _ (are_first shots at_end) held)
+  first_gathered left shots (end.Refused fault) held = inr (holds_more named errand.shots _ _ (are_first shots (refused fault.kind)) held.0)
+  first_gathered left shots end.ReadFault held =
+      inr (holds_more named errand.shots (IsReadInPart errand.format g left shots) (HasFirstShots errand.format g shots) (λ text p. p.first) held)
 
   -- the first of the first shots are first shots
   first_of_first : (shots first others : List (List ℕ)) → shots ≡ first ++ others → FirstShots shots → FirstShots first
@@ -69,30 +76,30 @@ module _ (named : Named) (errand : Decoding) (g : DecodingGraph) where
   front_after_head old new all = front_of_head old new (head_text, [], sym (append-nil head_text), all)
 
   -- a fault while the rows are written
-  pub front_of_rows : (old mid new : Option (List ℕ)) (shots : List (List ℕ)) (ended : ShotsEnd) → Appends old mid head_text
-      → Gathers named errand.shots errand.format g shots ended → WritesFirstRows g shots mid new → WritesFront named errand g old new
-  front_of_rows old mid new shots ended head gathered wrote = record {
+  pub front_of_rows : (left old mid new : Option (List ℕ)) (shots : List (List ℕ)) (ended : ShotsEnd) → Appends old mid head_text
+      → Gathers named errand.shots errand.format g left shots ended → WritesFirstRows g shots mid new → WritesFront named errand g old new
+  front_of_rows left old mid new shots ended head gathered wrote = record {
     shots = wrote.first;
-    input = first_of_first shots wrote.first wrote.others wrote.parts (first_gathered shots ended gathered);
+    input = first_of_first shots wrote.first wrote.others wrote.parts (first_gathered left shots ended gathered);
     rows = wrote.rows;
     answers = wrote.answers;
     written = inl (front_second old mid new head_text (rows_text 0 wrote.rows) head wrote.written);
   }
 
   -- by a decode of all shots
-  ends_by : (old new : Option (List ℕ)) (counts : Counts) (cause : Cause) → cause ≡ cause_of counts → WritesReport named errand g old new cause
-      → EndsOn named errand g old new cause
-  ends_by old new counts cause e wrote = by_over (counts.over == 0) (counts.odd == 0) e
+  ends_by : (left old new : Option (List ℕ)) (counts : Counts) (cause : Cause) → cause ≡ cause_of counts → WritesReport named errand g old new cause
+      → RowsEnd named errand g left old new cause
+  ends_by left old new counts cause e wrote = by_over (counts.over == 0) (counts.odd == 0) e
     where
-      by_over : (no_over no_odd : Bool) → cause ≡ (if no_over then (if no_odd then Done else Odd) else Over) → EndsOn named errand g old new cause
+      by_over : (no_over no_odd : Bool) → cause ≡ (if no_over then (if no_odd then Done else Odd) else Over) → RowsEnd named errand g left old new cause
       by_over true true is = rw is (rw is at wrote)
       by_over true false is = rw is (rw is at wrote)
       by_over false no_odd is = rw is (rw is at wrote)
 
-  pub ends_on : (old mid last new : Option (List ℕ)) (shots : List (List ℕ)) (ended : ShotsEnd) (count : ℕ) (tally : Tally) (cause : Cause)
-      → count ≡ length shots → Appends old mid head_text → Gathers named errand.shots errand.format g shots ended → WritesRows g shots mid last tally
-      → EndsReport ended count (counts_in tally) last new cause → EndsOn named errand g old new cause
-  ends_on old mid last new shots ended count tally cause many head gathered wrote report = go ended gathered report
+  pub ends_on : (left old mid last new : Option (List ℕ)) (shots : List (List ℕ)) (ended : ShotsEnd) (count : ℕ) (tally : Tally) (cause : Cause)
+      → count ≡ length shots → Appends old mid head_text → Gathers named errand.shots errand.format g left shots ended → WritesRows g shots mid last tally
+      → EndsReport ended count (counts_in tally) last new cause → RowsEnd named errand g left old new cause
+  ends_on left old mid last new shots ended count tally cause many head gathered wrote report = go ended gathered report
     where
       front : Appends old last (report_front wrote.rows)
       front = Appends-trans old mid last head_text (rows_text 0 wrote.rows) head wrote.written
@@ -101,9 +108,9 @@ module _ (named : Named) (errand : Decoding) (g : DecodingGraph) where
       same_line = ap (λ n. last_line n (counts_in tally)) (many ∙ sym (AllZip-long (IsShotRow g) shots wrote.rows wrote.answers))
           ∙ ap (λ c. last_line (length wrote.rows) c) wrote.counts
 
-      go : (e : ShotsEnd) → Gathers named errand.shots errand.format g shots e → EndsReport e count (counts_in tally) last new cause
-          → EndsOn named errand g old new cause
-      go end.End held (inl (all, is)) = ends_by old new (counts_in tally) cause is (record {
+      go : (e : ShotsEnd) → Gathers named errand.shots errand.format g left shots e → EndsReport e count (counts_in tally) last new cause
+          → RowsEnd named errand g left old new cause
+      go end.End held (inl (all, is)) = ends_by left old new (counts_in tally) cause is (record {
         shots = shots;
         input = held;
         rows = wrote.rows;
@@ -126,10 +133,10 @@ module _ (named : Named) (errand : Decoding) (g : DecodingGraph) where
         answers = wrote.answers;
         written = rw same front;
       })
-      go end.ReadFault held (same, is) = rw is (record {
+      go end.ReadFault held (same, is) = rw is (inr (record {
         shots = shots;
         input = held;
         rows = wrote.rows;
         answers = wrote.answers;
         written = rw same front;
-      })
+      }))

@@ -1,5 +1,5 @@
 -- The shots that a stream has given.
-use Rattle.std.proofs.Common.{◌≡◌, ℕ, ◌+◌, ◌≤◌, inr, Bool, true, false, List, [], ◌∷◌, ◌++◌, length, All, Option, Some, None, IfSome, IsSome, Result, Ok, Err, IsOk, IfOk, refl, sym, ap, subst, ◌∙◌, arith, append_assoc, append-nil, length-append}
+use Rattle.std.proofs.Common.{◌≡◌, ℕ, ◌+◌, ◌≤◌, Bool, true, false, List, [], ◌∷◌, ◌++◌, length, All, Option, Some, None, IfSome, IsSome, Result, Ok, Err, IsErr, IsOk, refl, sym, ap, subst, ◌∙◌, arith, append_assoc, append-nil, length-append}
 use Rattle.std.specs.Io.KnownBytes.{Consumes}
 use Rattle.std.proofs.KnownBytes.{Consumes-nil, Consumes-trans}
 use Rattle.std.proofs.lemmas.List.Elements.{All-nil, All-push}
@@ -12,8 +12,7 @@ use Rattle.fb_shots.specs.Formats.{front_of}
 use Rattle.fb_shots.specs.Streams.{Stream, follows, fresh}
 use Rattle.fb_shots.specs.Steps.{Ends, FailsToRead, GivesShot, IfTold, IsReadOut, Refuses}
 use Rattle.fb_shots.proofs.Taking.{later_read_out, open_before, stays_read_out, told_same, told_some, told_then}
-use Rattle.fb_run.specs.Judging.{Gathers, GathersFrom, HasFirstShots, HasShots, Holds, IsReadInPart, IsReadOutIfNamed, Named, most_shots, shots_of}
-use Rattle.fb_run.specs.declared.shots.Gathered.{Gathered}
+use Rattle.fb_run.specs.Judging.{Gathers, GathersFrom, HasFirstShots, HasShots, Holds, IsOpened, IsReadInPart, IsReadOutIfNamed, Named, most_shots, shots_of}
 use Rattle.fb_run.specs.declared.shots.ShotsEnd.{ShotsEnd}
 use Rattle.fb_run.specs.declared.shots.ShotsEnd.TheVariants as end
 
@@ -132,7 +131,7 @@ module _ (start now next : Stream) (before middle after : Option (List ℕ)) (sh
   )
 
   pub gathered_part : start ≡ fresh start.format start.graph most_shots → IsGathering start now before middle shots → FailsToRead now next middle after
-      → IfSome before (IsReadInPart start.format start.graph shots)
+      → IfSome before (IsReadInPart start.format start.graph after shots)
   gathered_part e so_far fails = part before middle after so_far.taken fails.takes.taken so_far.gives
     where
       given : List ℕ
@@ -151,13 +150,14 @@ module _ (start now next : Stream) (before middle after : Option (List ℕ)) (sh
 
       part : (a b c : Option (List ℕ)) → Consumes a b so_far.given → Consumes b c fails.takes.piece
           → IfTold (λ left later. follows start left ≡ all_in_front shots (follows now later)) a b
-          → IfSome a (IsReadInPart start.format start.graph shots)
+          → IfSome a (IsReadInPart start.format start.graph c shots)
       part None b c first second gives = tt
       part (Some text) None c first second gives = absurd first
       part (Some text) (Some later) None first second gives = absurd second
       part (Some text) (Some later) (Some rest) first second gives = record {
         given = so_far.given ++ fails.takes.piece;
-        left = rest;
+        rest = rest;
+        remains = refl;
         parts = first ∙ ap (λ (xs : List ℕ). so_far.given ++ xs) second ∙ sym (append_assoc so_far.given fails.takes.piece rest);
         settled = settled;
         first = ((follows now later).shots, ap (λ (r : Shots). r.shots) (sym (whole start e text) ∙ gives));
@@ -181,53 +181,58 @@ first_of_all : (format : Format) (g : DecodingGraph) (shots : List (List ℕ)) (
 first_of_all format g shots ending text e = ([], ap (λ (r : Shots). r.shots) e ∙ sym (append-nil shots))
 
 -- the shots that were gathered are the first ones
-pub gathered_first : (left : Option (List ℕ)) (format : Format) (g : DecodingGraph) (shots : List (List ℕ)) (ended : ShotsEnd)
-    → GathersFrom left format g shots ended → IfSome left (HasFirstShots format g shots)
-gathered_first left format g shots end.End held =
-    some_more (HasShots format g shots at_end) (HasFirstShots format g shots) left (first_of_all format g shots at_end) held
-gathered_first left format g shots (end.Refused fault) held =
-    some_more (HasShots format g shots (refused fault.kind)) (HasFirstShots format g shots) left (first_of_all format g shots (refused fault.kind)) held.0
-gathered_first left format g shots end.ReadFault held =
-    some_more (IsReadInPart format g shots) (HasFirstShots format g shots) left (λ text p. p.first) held
+pub gathered_first : (bytes : Option (List ℕ)) (format : Format) (g : DecodingGraph) (left : Option (List ℕ)) (shots : List (List ℕ)) (ended : ShotsEnd)
+    → GathersFrom bytes format g left shots ended → IfSome bytes (HasFirstShots format g shots)
+gathered_first bytes format g left shots end.End held =
+    some_more (HasShots format g shots at_end) (HasFirstShots format g shots) bytes (first_of_all format g shots at_end) held
+gathered_first bytes format g left shots (end.Refused fault) held =
+    some_more (HasShots format g shots (refused fault.kind)) (HasFirstShots format g shots) bytes (first_of_all format g shots (refused fault.kind)) held.0
+gathered_first bytes format g left shots end.ReadFault held =
+    some_more (IsReadInPart format g left shots) (HasFirstShots format g shots) bytes (λ text p. p.first) held
 
--- what the file of a name holds, by what the opened file holds
+-- ---- the file of a name, once it was opened
+
 no_bool : {P : Type 0} → false ≡ true → P
 no_bool e = absurd cc
+
+pub is_opened : {T E : Type 0} (named : Named) (name : List ℕ) (left : Option (List ℕ)) (r : Result T E) → IsOk r → Opens named left name r
+    → IsOpened named name left
+is_opened None name left r ok opens = tt
+is_opened (Some f) name left (Ok x) ok opens = opens
+is_opened (Some f) name left (Err x) ok opens = no_bool ok
+
+-- of a file that couldn't be opened nothing is left
+pub is_unopened : {T E : Type 0} (named : Named) (name : List ℕ) (left : Option (List ℕ)) (r : Result T E) → IsErr r → Opens named left name r
+    → IsReadOutIfNamed named left
+is_unopened None name left r failed opens = tt
+is_unopened (Some f) name left (Ok x) failed opens = no_bool failed
+is_unopened (Some f) name left (Err x) failed opens = opens
 
 opened_some : (left : Option (List ℕ)) (name : List ℕ) (P : List ℕ → Type 0) (f : List ℕ → Option (List ℕ)) → left ≡ f name → IsSome (f name)
     → IfSome left P → (text : List ℕ) × (f name ≡ Some text) × P text
 opened_some None name P f e some held = no_bool (subst IsSome (sym e) some)
 opened_some (Some text) name P f e some held = (text, sym e, held)
 
-pub holds_opened : {T E : Type 0} (named : Named) (left : Option (List ℕ)) (name : List ℕ) (r : Result T E) (P : List ℕ → Type 0)
-    → IsOk r → Opens named left name r → IfSome left P → Holds named name P
-holds_opened None left name r P ok opens held = tt
-holds_opened (Some f) left name (Ok x) P ok opens held = opened_some left name P f opens.0 opens.1 held
-holds_opened (Some f) left name (Err x) P ok opens held = no_bool ok
+module _ (named : Named) (name : List ℕ) (left : Option (List ℕ)) where
+  pub holds_opened : (P : List ℕ → Type 0) → IsOpened named name left → IfSome left P → Holds named name P
+  holds_opened P opened held = go named opened
+    where
+      go : (n : Named) → IsOpened n name left → Holds n name P
+      go None opened = tt
+      go (Some f) opened = opened_some left name P f opened.0 opened.1 held
 
-pub gathers_opened : {T E : Type 0} (named : Named) (left : Option (List ℕ)) (name : List ℕ) (r : Result T E) (format : Format) (g : DecodingGraph)
-    (shots : List (List ℕ)) (ended : ShotsEnd) → IsOk r → Opens named left name r → GathersFrom left format g shots ended
-    → Gathers named name format g shots ended
-gathers_opened named left name r format g shots end.End ok opens held =
-    holds_opened named left name r (HasShots format g shots at_end) ok opens held
-gathers_opened named left name r format g shots (end.Refused fault) ok opens held =
-    (holds_opened named left name r (HasShots format g shots (refused fault.kind)) ok opens held.0, held.1)
-gathers_opened named left name r format g shots end.ReadFault ok opens held =
-    inr (holds_opened named left name r (IsReadInPart format g shots) ok opens held)
+  pub gathers_opened : (format : Format) (g : DecodingGraph) (later : Option (List ℕ)) (shots : List (List ℕ)) (ended : ShotsEnd) → IsOpened named name left
+      → GathersFrom left format g later shots ended → Gathers named name format g later shots ended
+  gathers_opened format g later shots end.End opened held = holds_opened (HasShots format g shots at_end) opened held
+  gathers_opened format g later shots (end.Refused fault) opened held =
+      (holds_opened (HasShots format g shots (refused fault.kind)) opened held.0, held.1)
+  gathers_opened format g later shots end.ReadFault opened held = holds_opened (IsReadInPart format g later shots) opened held
 
--- nothing is left of a file that was named
-pub read_out_opened : {T E : Type 0} (named : Named) (left after : Option (List ℕ)) (name : List ℕ) (r : Result T E)
-    → IsOk r → Opens named left name r → IsReadOut left after → IsReadOutIfNamed named after
-read_out_opened None left after name r ok opens out = tt
-read_out_opened (Some f) None after name (Ok x) ok opens out = no_bool (subst IsSome (sym opens.0) opens.1)
-read_out_opened (Some f) (Some text) None name (Ok x) ok opens out = absurd out
-read_out_opened (Some f) (Some text) (Some later) name (Ok x) ok opens out = ap Some out
-read_out_opened (Some f) left after name (Err x) ok opens out = no_bool ok
-
-pub gathers_if : {E : Type 0} (answer : Result Gathered E) (named : Named) (left : Option (List ℕ)) (name : List ℕ) (format same : Format)
-    (g h : DecodingGraph) → same ≡ format → h ≡ g → {T F : Type 0} (r : Result T F) → IsOk r → Opens named left name r
-    → IfOk answer (λ x. GathersFrom left same h x.shots.items x.end) → IfOk answer (λ x. Gathers named name format g x.shots.items x.end)
-gathers_if (Err e) named left name format same g h f d r ok opens held = tt
-gathers_if (Ok x) named left name format same g h f d r ok opens held =
-    gathers_opened named left name r format g x.shots.items x.end ok opens
-    (subst (λ (fm : Format). GathersFrom left fm g x.shots.items x.end) f (subst (λ (gr : DecodingGraph). GathersFrom left same gr x.shots.items x.end) d held))
+  pub read_out_opened : (after : Option (List ℕ)) → IsOpened named name left → IsReadOut left after → IsReadOutIfNamed named after
+  read_out_opened after opened out = go named left after opened out
+    where
+      go : (n : Named) (l m : Option (List ℕ)) → IsOpened n name l → IsReadOut l m → IsReadOutIfNamed n m
+      go None l m opened out = tt
+      go (Some f) None m opened out = no_bool (subst IsSome (sym opened.0) opened.1)
+      go (Some f) (Some text) None opened out = absurd out
+      go (Some f) (Some text) (Some later) opened out = ap Some out

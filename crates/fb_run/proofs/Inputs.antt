@@ -1,5 +1,5 @@
 -- One read of a named file after another.
-use Rattle.std.proofs.Common.{◌≡◌, ℕ, List, [], ◌∷◌, ◌++◌, Option, Some, None, refl, sym, ap, ◌∙◌, append_assoc, append-nil, length-append, arith, lit<}
+use Rattle.std.proofs.Common.{◌≡◌, ℕ, List, [], ◌∷◌, ◌++◌, Option, Some, None, refl, sym, ap, subst, ◌∙◌, append_assoc, append-nil, length-append, arith, lit<}
 use Rattle.fb_ports.specs.Causes.{TellsMore, HasRoom, IsEmptyIfTold}
 use Rattle.fb_run.specs.Judging.{Asks, AsksFront}
 
@@ -17,22 +17,15 @@ asks_none (Some names) new wanted same = ([], wanted, refl, same ∙ ap Some (sy
 pub asks_front_one : (old new : Option (List (List ℕ))) (name : List ℕ) → TellsMore old new name → AsksFront old new (name ∷ [])
 asks_front_one old new name told = (name ∷ [], [], refl, asks_one old new name told)
 
-asks_onward : (old mid new : Option (List (List ℕ))) (name : List ℕ) (asked : List (List ℕ)) → Asks old mid (name ∷ []) → Asks mid new asked → Asks old new (name ∷ asked)
-asks_onward None mid new name asked first second = go mid first second
-  where
-    go : (m : Option (List (List ℕ))) → m ≡ None → Asks m new asked → new ≡ None
-    go None e s = s
-    go (Some xs) e s = cc
-asks_onward (Some names) mid new name asked first second = go mid first second
-  where
-    go : (m : Option (List (List ℕ))) → m ≡ Some (names ++ name ∷ []) → Asks m new asked → new ≡ Some (names ++ name ∷ asked)
-    go None e s = cc
-    go (Some xs) e s = s ∙ ap (λ ys. Some (ys ++ asked)) (some_same xs (names ++ name ∷ []) e) ∙ ap Some (append_assoc names (name ∷ []) asked)
+-- ---- the names asked for
 
-pub asks_front_onward : (old mid new : Option (List (List ℕ))) (name : List ℕ) (wanted : List (List ℕ))
-    → Asks old mid (name ∷ []) → AsksFront mid new wanted → AsksFront old new (name ∷ wanted)
-asks_front_onward old mid new name wanted first (asked, more, e, second) =
-    (name ∷ asked, more, ap (λ xs. name ∷ xs) e, asks_onward old mid new name asked first second)
+pub asks_same : (old new : Option (List (List ℕ))) → new ≡ old → Asks old new []
+asks_same None new same = same
+asks_same (Some names) new same = same ∙ ap Some (sym (append-nil names))
+
+-- no further name was asked for
+pub asks_kept : (old mid new : Option (List (List ℕ))) (name : List ℕ) → TellsMore old mid name → new ≡ mid → Asks old new (name ∷ [])
+asks_kept old mid new name told same = subst (λ (asked : Option (List (List ℕ))). Asks old asked (name ∷ [])) (sym same) (asks_one old mid name told)
 
 pub room_after : (old mid : Option (List (List ℕ))) (name : List ℕ) → IsEmptyIfTold old → Asks old mid (name ∷ []) → HasRoom mid 16
 room_after None mid name empty asked = go mid asked
@@ -81,4 +74,4 @@ room_more (Some names) room = omega (arith, room)
 
 pub ruleset asking = (asks_one, asks_none, asks_front_one)
 
-pub ruleset asking_on = (asks_front_onward, room_after, room_at_first)
+pub ruleset asking_on = (room_after, room_at_first)

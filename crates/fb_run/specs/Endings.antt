@@ -1,16 +1,19 @@
 -- What each end of a run says of what was written and read.
-use Rattle.std.specs.Prelude.{ℕ, ◌≡◌, ◌⊎◌, List, [], length, Option, ⊤}
+use Rattle.std.specs.Prelude.{ℕ, ◌≡◌, ◌⊎◌, List, [], ◌∷◌, length, Option, ⊤}
 use Rattle.fb_graph.specs.Limits.{DecodingGraph}
 use Rattle.fb_graph.specs.declared.parts.Row.{Row}
 use Rattle.fb_ports.specs.Causes.{Appends, AppendsFront}
 use Rattle.fb_shots.specs.Shots.{at_end, refused}
 use Rattle.fb_shots.specs.declared.answer.ShotFault.{ShotFault}
 use Rattle.fb_run.specs.Decoding.{cause_of, report_front, report_text}
-use Rattle.fb_run.specs.Judging.{HasFirstShots, HasShots, Holds, IsGraphText, IsNoGraph, IsReadInPart, Named}
+use Rattle.fb_report.specs.Texts.{head_text}
+use Rattle.fb_run.specs.Judging.{Asks, HasFirstShots, HasShots, Holds, IsGraphText, IsNoGraph, IsReadInPart, IsReadOutIfNamed, Named}
+use Rattle.fb_run.specs.Moments.{EndsAtFile, EndsInText, Moment, ReadsFile}
 use Rattle.fb_run.specs.Rows.{AreRows, counts_of}
 use Rattle.fb_words.specs.Words.{Decoding}
 use Rattle.fb_endings.specs.declared.ending.Cause.{Cause}
 use Rattle.fb_endings.specs.declared.ending.Cause.TheVariants.{Done, Odd, Over, Bad, Refused, ReadFault, WriteFault, NoMemory, Usage}
+use Rattle.fb_endings.specs.declared.ending.Refusal.{Refusal}
 use Rattle.fb_endings.specs.declared.ending.Refusal.TheVariants as refusal
 
 -- The shots were read to their end, and a whole report of them was written.
@@ -31,16 +34,19 @@ pub record WritesBefore (named : Named) (errand : Decoding) (g : DecodingGraph) 
   pub answers : AreRows g shots rows
   pub written : Appends old new (report_front rows)
 
--- The shots' file was read up to some place, and the head and the rows of the shots that this settles were written; of
--- none, where the file couldn't be opened.
-pub record WritesGiven (named : Named) (errand : Decoding) (g : DecodingGraph) (old new : Option (List ℕ)) : Type 0 where
+-- Reading the shots failed, and the head and the rows of the shots that the bytes read settle were written.
+pub record WritesGiven (named : Named) (errand : Decoding) (g : DecodingGraph) (left old new : Option (List ℕ)) : Type 0 where
   pub shots : List (List ℕ)
-  pub input : (shots ≡ []) ⊎ Holds named errand.shots (IsReadInPart errand.format g shots)
+  pub input : Holds named errand.shots (IsReadInPart errand.format g left shots)
   pub rows : List Row
   pub answers : AreRows g shots rows
   pub written : Appends old new (report_front rows)
 
--- A front was written of the head and the rows of some of the first shots, or of a whole report.
+-- the shots couldn't be opened, so nothing is left to be read, and the head was written
+abbrev pub WritesHead : Named → Option (List ℕ) → Option (List ℕ) → Option (List ℕ) → Type 0
+WritesHead named left old new = IsReadOutIfNamed named left × Appends old new head_text
+
+-- A prefix was written of the head and the rows of some of the first shots, or of a whole report.
 pub record WritesFront (named : Named) (errand : Decoding) (g : DecodingGraph) (old new : Option (List ℕ)) : Type 0 where
   pub shots : List (List ℕ)
   pub input : (shots ≡ []) ⊎ Holds named errand.shots (HasFirstShots errand.format g shots)
@@ -49,44 +55,48 @@ pub record WritesFront (named : Named) (errand : Decoding) (g : DecodingGraph) (
   pub written : AppendsFront old new (report_front rows)
       ⊎ (Holds named errand.shots (HasShots errand.format g shots at_end) × AppendsFront old new (report_text rows))
 
--- the end of a decode of the shots of a graph
-abbrev pub EndsOn : Named → Decoding → DecodingGraph → Option (List ℕ) → Option (List ℕ) → Cause → Type 0
-EndsOn named errand g old new Done = WritesReport named errand g old new Done
-EndsOn named errand g old new Odd = WritesReport named errand g old new Odd
-EndsOn named errand g old new Over = WritesReport named errand g old new Over
-EndsOn named errand g old new (Bad count) = ⊥
-EndsOn named errand g old new (Refused (refusal.Graph fault)) = ⊥
-EndsOn named errand g old new (Refused (refusal.Report fault)) = ⊥
-EndsOn named errand g old new (Refused (refusal.Shot fault)) = WritesBefore named errand g old new fault
-EndsOn named errand g old new ReadFault = WritesGiven named errand g old new
-EndsOn named errand g old new WriteFault = WritesFront named errand g old new
-EndsOn named errand g old new NoMemory = WritesFront named errand g old new
-EndsOn named errand g old new (Usage kind) = ⊥
+-- the end of a decode that asked for the shots of a graph, when `left` remains of them
+abbrev pub RowsEnd : Named → Decoding → DecodingGraph → Option (List ℕ) → Option (List ℕ) → Option (List ℕ) → Cause → Type 0
+RowsEnd named errand g left old new Done = WritesReport named errand g old new Done
+RowsEnd named errand g left old new Odd = WritesReport named errand g old new Odd
+RowsEnd named errand g left old new Over = WritesReport named errand g old new Over
+RowsEnd named errand g left old new (Bad count) = ⊥
+RowsEnd named errand g left old new (Refused (refusal.Graph fault)) = ⊥
+RowsEnd named errand g left old new (Refused (refusal.Report fault)) = ⊥
+RowsEnd named errand g left old new (Refused (refusal.Shot fault)) = WritesBefore named errand g old new fault
+RowsEnd named errand g left old new ReadFault = WritesHead named left old new ⊎ WritesGiven named errand g left old new
+RowsEnd named errand g left old new WriteFault = WritesFront named errand g old new
+RowsEnd named errand g left old new NoMemory = WritesFront named errand g old new
+RowsEnd named errand g left old new (Usage kind) = ⊥
 
--- the file of the graph holds one, and the decode of its shots ended so
-pub record EndsWithGraph (named : Named) (errand : Decoding) (old new : Option (List ℕ)) (cause : Cause) : Type 0 where
+-- the shots were asked for, and the decode ended so
+abbrev pub EndsAtShots : Decoding → DecodingGraph → Moment → Moment → Cause → Type 0
+EndsAtShots errand g before after cause =
+    Asks before.asked after.asked (errand.shots ∷ [])
+    × RowsEnd before.named errand g after.left before.written after.written cause
+
+-- the end of a decode for a graph: before the shots are asked for, or after
+abbrev pub EndsOn : Decoding → DecodingGraph → Moment → Moment → Cause → Type 0
+EndsOn errand g before after cause = EndsInText head_text before after cause ⊎ EndsAtShots errand g before after cause
+
+-- the file of the graph holds one, and the decode ended so for it
+pub record EndsWithGraph (errand : Decoding) (before after : Moment) (cause : Cause) : Type 0 where
   pub g : DecodingGraph
-  pub graph : Holds named errand.graph (IsGraphText g)
-  pub ends : EndsOn named errand g old new cause
+  pub read : Moment
+  pub graph : ReadsFile (IsGraphText g) errand.graph before read
+  pub ends : EndsOn errand g read after cause
 
--- the end of a decode that comes to no graph
-abbrev pub EndsWithoutGraph : Named → Decoding → Cause → Type 0
-EndsWithoutGraph named errand (Refused (refusal.Graph fault)) = Holds named errand.graph (IsNoGraph fault)
-EndsWithoutGraph named errand (Refused (refusal.Shot fault)) = ⊥
-EndsWithoutGraph named errand (Refused (refusal.Report fault)) = ⊥
-EndsWithoutGraph named errand ReadFault = ⊤
-EndsWithoutGraph named errand NoMemory = ⊤
-EndsWithoutGraph named errand Done = ⊥
-EndsWithoutGraph named errand Odd = ⊥
-EndsWithoutGraph named errand Over = ⊥
-EndsWithoutGraph named errand (Bad count) = ⊥
-EndsWithoutGraph named errand WriteFault = ⊥
-EndsWithoutGraph named errand (Usage kind) = ⊥
+-- the text of the file of the name is no graph, and the refusal is its fault
+abbrev pub IsGraphRefusal : Named → List ℕ → Refusal → Type 0
+IsGraphRefusal named name (refusal.Graph fault) = Holds named name (IsNoGraph fault)
+IsGraphRefusal named name (refusal.Report fault) = ⊥
+IsGraphRefusal named name (refusal.Shot fault) = ⊥
 
--- the end of a decode: without a graph nothing is written
-abbrev pub DecodeEnds : Named → Decoding → Option (List ℕ) → Option (List ℕ) → Cause → Type 0
-DecodeEnds named errand old new cause =
-    (EndsWithoutGraph named errand cause × Appends old new []) ⊎ EndsWithGraph named errand old new cause
+-- the end of a decode: at the graph, or with it
+abbrev pub DecodeEnds : Decoding → Moment → Moment → Cause → Type 0
+DecodeEnds errand before after cause =
+    EndsAtFile (IsGraphRefusal before.named errand.graph) errand.graph before after cause
+    ⊎ EndsWithGraph errand before after cause
 
 -- the input was read to its end
 abbrev pub IsReadToItsEnd : Cause → Type 0
@@ -100,7 +110,7 @@ IsReadToItsEnd WriteFault = ⊥
 IsReadToItsEnd NoMemory = ⊥
 IsReadToItsEnd (Usage kind) = ⊥
 
--- a fault of the files is answered so: by itself, or by what came while the rows before it were written
+-- a run in which a fault of the files came ends so: by it, or by what came while the rows before it were written
 abbrev pub MayFollowReadFault : Cause → Type 0
 MayFollowReadFault ReadFault = ⊤
 MayFollowReadFault WriteFault = ⊤

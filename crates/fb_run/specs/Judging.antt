@@ -1,5 +1,5 @@
 -- Which input is accepted, and which names are asked for.
-use Rattle.std.specs.Prelude.{ℕ, ◌≡◌, ◌^◌, ◌-◌, ◌⊎◌, List, [], ◌++◌, length, Option, Some, None, IfSome, Ok, Err, ⊤}
+use Rattle.std.specs.Prelude.{ℕ, ◌≡◌, ◌^◌, ◌-◌, List, [], ◌++◌, length, Option, Some, None, IfSome, IsSome, Ok, Err, ⊤}
 use Rattle.fb_graph.specs.Limits.{DecodingGraph}
 use Rattle.fb_graph_in.specs.GraphText.{graph_of_text}
 use Rattle.fb_graph_in.specs.declared.faults.TextFault.{TextFault}
@@ -51,28 +51,33 @@ HasShots format g shots ending text = shots_of format g text ≡ record { shots 
 abbrev pub HasFirstShots : Format → DecodingGraph → List (List ℕ) → List ℕ → Type 0
 HasFirstShots format g shots text = (more : List (List ℕ)) × ((shots_of format g text).shots ≡ shots ++ more)
 
--- The text was read up to some place, and what was read settles these shots and nothing more.
-pub record IsReadInPart (format : Format) (g : DecodingGraph) (shots : List (List ℕ)) (text : List ℕ) : Type 0 where
+-- Of the text all but `left` was read, and what was read settles these shots and nothing more.
+pub record IsReadInPart (format : Format) (g : DecodingGraph) (left : Option (List ℕ)) (shots : List (List ℕ)) (text : List ℕ) : Type 0 where
   pub given : List ℕ
-  pub left : List ℕ
-  pub parts : text ≡ given ++ left
+  pub rest : List ℕ
+  pub remains : left ≡ Some rest
+  pub parts : text ≡ given ++ rest
   pub settled : front_of format g given ≡ record { shots = shots; ending = still_open }
   pub first : HasFirstShots format g shots text
 
--- the shots that were gathered from what was left of a file, where told, by how that ended
-abbrev pub GathersFrom : Option (List ℕ) → Format → DecodingGraph → List (List ℕ) → ShotsEnd → Type 0
-GathersFrom left format g shots end.End = IfSome left (HasShots format g shots at_end)
-GathersFrom left format g shots (end.Refused fault) =
-    IfSome left (HasShots format g shots (refused fault.kind)) × (fault.shot ≡ length shots)
-GathersFrom left format g shots end.ReadFault = IfSome left (IsReadInPart format g shots)
+-- the shots that were gathered from the bytes of a file, where known, until `left` remained, by how that ended
+abbrev pub GathersFrom : Option (List ℕ) → Format → DecodingGraph → Option (List ℕ) → List (List ℕ) → ShotsEnd → Type 0
+GathersFrom bytes format g left shots end.End = IfSome bytes (HasShots format g shots at_end)
+GathersFrom bytes format g left shots (end.Refused fault) =
+    IfSome bytes (HasShots format g shots (refused fault.kind)) × (fault.shot ≡ length shots)
+GathersFrom bytes format g left shots end.ReadFault = IfSome bytes (IsReadInPart format g left shots)
 
--- The shots that were gathered from the file of a name, by how that ended. Where reading failed, they may be none
--- since the file couldn't be opened.
-abbrev pub Gathers : Named → List ℕ → Format → DecodingGraph → List (List ℕ) → ShotsEnd → Type 0
-Gathers named name format g shots end.End = Holds named name (HasShots format g shots at_end)
-Gathers named name format g shots (end.Refused fault) =
+-- the same of the file of a name
+abbrev pub Gathers : Named → List ℕ → Format → DecodingGraph → Option (List ℕ) → List (List ℕ) → ShotsEnd → Type 0
+Gathers named name format g left shots end.End = Holds named name (HasShots format g shots at_end)
+Gathers named name format g left shots (end.Refused fault) =
     Holds named name (HasShots format g shots (refused fault.kind)) × (fault.shot ≡ length shots)
-Gathers named name format g shots end.ReadFault = (shots ≡ []) ⊎ Holds named name (IsReadInPart format g shots)
+Gathers named name format g left shots end.ReadFault = Holds named name (IsReadInPart format g left shots)
+
+-- the file of the name is current, with all of its bytes left
+abbrev pub IsOpened : Named → List ℕ → Option (List ℕ) → Type 0
+IsOpened None name left = ⊤
+IsOpened (Some named) name left = (left ≡ named name) × IsSome (named name)
 
 -- nothing is left of the current file, where files tell what they hold
 abbrev pub IsReadOutIfNamed : Named → Option (List ℕ) → Type 0

@@ -1,4 +1,5 @@
 pub mod Judging
+pub mod Moments
 pub mod Rows
 pub mod Decoding
 pub mod Writes

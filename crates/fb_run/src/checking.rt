@@ -1,6 +1,6 @@
 //! The command `check`: judges the rows of a report.
 
-ghost use Rattle.std.specs.Prelude.{◌≡◌, ◌≢◌, ◌^◌, ◌<◌, ◌≤◌, [], ◌∷◌, length, All, IfOk, IfErr, OnOk, OnErr, IsErrOf, Err, if◌then◌else◌};
+ghost use Rattle.std.specs.Prelude.{◌≡◌, ◌≢◌, ◌^◌, ◌<◌, ◌≤◌, [], ◌∷◌, length, All, IfOk, IfErr, OnErr, IsErrOf, Err, if◌then◌else◌};
 ghost use Rattle.fb_graph.specs.Limits.{IsShot};
 ghost use Rattle.fb_ports.specs.Causes.{HasRoom, IsEmptyIfTold, Rose};
 ghost use Rattle.fb_shots.specs.Steps.{IsReadOut};
@@ -8,8 +8,9 @@ ghost use Rattle.fb_shots.specs.Streams.{fresh};
 ghost use Rattle.fb_verify.specs.Verdicts.{HasPositiveValues};
 ghost use Rattle.fb_run.specs.CheckEndings.{CheckEnds, ChecksOn, IsNoReport, IsReportText, ReportEnds};
 ghost use Rattle.fb_run.specs.Endings.{IsReadToItsEnd, MayFollowReadFault};
-ghost use Rattle.fb_run.specs.Judges.{EndsCheck, FirstFrom, FirstOf, JudgesAll, JudgesFirst, JudgesInto, JudgesNext};
-ghost use Rattle.fb_run.specs.Judging.{Asks, AsksFront, Gathers, GathersFrom, Holds, IsReadOutIfNamed, most_shots};
+ghost use Rattle.fb_run.specs.Judges.{EndsCheck, FirstFrom, JudgesAll, JudgesFirst, JudgesInto, JudgesNext};
+ghost use Rattle.fb_run.specs.Judging.{Asks, AsksFront, GathersFrom, Holds, IsReadOutIfNamed, most_shots};
+ghost use Rattle.fb_run.specs.Moments.{moment};
 ghost use Rattle.fb_run.specs.NoReports.{IfNoReport};
 ghost use Rattle.fb_words.specs.Seen.{seen_checking};
 
@@ -51,7 +52,7 @@ pub struct Judged {
 fn read_report_file<F: Files>(alloc: Global, files: &mut F, name: &str) -> Result<Report, NoReport>
     requires { HasRoom (F.asked files.old) 16 }
     ensures asks { AsksFront (F.asked files.old) (F.asked files.new) (name.now ∷ []) }
-    ensures asked { OnOk result (Asks (F.asked files.old) (F.asked files.new) (name.now ∷ [])) }
+    ensures asked { result ≢ Err NoReport.NoMemory → Asks (F.asked files.old) (F.asked files.new) (name.now ∷ []) }
     ensures names { F.named files.new ≡ F.named files.old }
     ensures report { IfOk result (λ r. Holds (F.named files.old) name.now (IsReportText r)) }
     ensures values { IfOk result (λ r. All HasPositiveValues r.rows) }
@@ -82,10 +83,10 @@ pub fn check<F: Files, O: Sink>(
     out: &mut O,
 ) -> Cause
     requires { IsEmptyIfTold (F.asked files.old) }
-    ensures ends { CheckEnds (F.named files.old) (seen_checking errand.now) (O.taken out.old) (O.taken out.new) result }
+    ensures ends { CheckEnds (seen_checking errand.now)
+        (moment (F.named files.old) (F.left files.old) (F.asked files.old) (F.faults files.old) (O.taken out.old))
+        (moment (F.named files.new) (F.left files.new) (F.asked files.new) (F.faults files.new) (O.taken out.new)) result }
     ensures at_end { IsReadToItsEnd result → IsReadOutIfNamed (F.named files.old) (F.left files.new) }
-    ensures asks { AsksFront (F.asked files.old) (F.asked files.new)
-        (errand.now.graph.now ∷ errand.now.report.now ∷ errand.now.shots.now ∷ []) }
     ensures read_fault { result ≡ Cause.ReadFault → Rose (F.faults files.old) (F.faults files.new) }
     ensures read_later { F.faults files.old ≤ F.faults files.new }
     ensures read_risen { F.faults files.old < F.faults files.new → MayFollowReadFault result }
@@ -111,9 +112,10 @@ fn check_report<F: Files, O: Sink>(
     out: &mut O,
 ) -> Cause
     requires { HasRoom (F.asked files.old) 15 }
-    ensures ends { ReportEnds (F.named files.old) (seen_checking errand.now) graph.now (O.taken out.old) (O.taken out.new) result }
+    ensures ends { ReportEnds (seen_checking errand.now) graph.now
+        (moment (F.named files.old) (F.left files.old) (F.asked files.old) (F.faults files.old) (O.taken out.old))
+        (moment (F.named files.new) (F.left files.new) (F.asked files.new) (F.faults files.new) (O.taken out.new)) result }
     ensures at_end { IsReadToItsEnd result → IsReadOutIfNamed (F.named files.old) (F.left files.new) }
-    ensures asks { AsksFront (F.asked files.old) (F.asked files.new) (errand.now.report.now ∷ errand.now.shots.now ∷ []) }
     ensures read_fault { result ≡ Cause.ReadFault → Rose (F.faults files.old) (F.faults files.new) }
     ensures read_later { F.faults files.old ≤ F.faults files.new }
     ensures read_risen { F.faults files.old < F.faults files.new → MayFollowReadFault result }
@@ -141,9 +143,10 @@ fn check_rows<F: Files, O: Sink>(
     requires room { HasRoom (F.asked files.old) 16 }
     requires values { All HasPositiveValues rows.now }
     requires few { length rows.now < 2 ^ 32 }
-    ensures ends { ChecksOn (F.named files.old) (seen_checking errand.now) graph.now rows.now (O.taken out.old) (O.taken out.new) result }
+    ensures ends { ChecksOn (seen_checking errand.now) graph.now rows.now
+        (moment (F.named files.old) (F.left files.old) (F.asked files.old) (F.faults files.old) (O.taken out.old))
+        (moment (F.named files.new) (F.left files.new) (F.asked files.new) (F.faults files.new) (O.taken out.new)) result }
     ensures at_end { IsReadToItsEnd result → IsReadOutIfNamed (F.named files.old) (F.left files.new) }
-    ensures asks { AsksFront (F.asked files.old) (F.asked files.new) (errand.now.shots.now ∷ []) }
     ensures read_fault { result ≡ Cause.ReadFault → Rose (F.faults files.old) (F.faults files.new) }
     ensures read_later { F.faults files.old ≤ F.faults files.new }
     ensures read_risen { F.faults files.old < F.faults files.new → MayFollowReadFault result }
@@ -154,7 +157,13 @@ fn check_rows<F: Files, O: Sink>(
     let Ok(()) = put_check_head(out) else {
         return Cause::WriteFault;
     };
-    match judge_file(alloc, errand, graph, rows, files, out) {
+    let Ok(name) = String::from_str(alloc, errand.shots) else {
+        return Cause::NoMemory;
+    };
+    let Ok(()) = files.open_file(name) else {
+        return Cause::ReadFault;
+    };
+    match judge_file(alloc, errand.format, graph, rows, files, out) {
         Ok(judged) => end_check(judged.end, rows.len() as u64, judged.shots, judged.bad, out),
         Err(RowsFault::WriteFault) => Cause::WriteFault,
         Err(RowsFault::NoMemory) => Cause::NoMemory,
@@ -184,41 +193,31 @@ fn end_check<O: Sink>(end: ShotsEnd, rows: u64, shots: u64, bad: u64, out: &mut 
     }
 }
 
-/// Judges rows by the shots of the file that is named, and writes their lines.
+/// Judges rows by the shots of the current file, of which nothing was read yet, and writes their lines.
 fn judge_file<F: Files, O: Sink>(
     alloc: Global,
-    errand: &Checking<'_>,
+    format: Format,
     graph: &Graph,
     rows: &[Row],
     files: &mut F,
     out: &mut O,
 ) -> Result<Judged, RowsFault>
-    requires room { HasRoom (F.asked files.old) 16 }
-    requires values { All HasPositiveValues rows.now }
-    ensures all { IfOk result (λ j. JudgesAll (λ shots. Gathers (F.named files.old) errand.now.shots.now errand.now.format graph.now shots j.end)
+    requires { All HasPositiveValues rows.now }
+    ensures all { IfOk result (λ j. JudgesAll (λ shots. GathersFrom (F.left files.old) format graph.now (F.left files.new) shots j.end)
         graph.now rows.now (O.taken out.old) (O.taken out.new) j) }
-    ensures first { OnErr result (JudgesFirst (FirstOf (F.named files.old) errand.now.shots.now errand.now.format graph.now)
+    ensures first { OnErr result (JudgesFirst (FirstFrom (F.left files.old) format graph.now)
         graph.now rows.now (O.taken out.old) (O.taken out.new)) }
-    ensures at_end { IfOk result (λ j. j.end ≡ ShotsEnd.End → IsReadOutIfNamed (F.named files.old) (F.left files.new)) }
-    ensures asks { AsksFront (F.asked files.old) (F.asked files.new) (errand.now.shots.now ∷ []) }
+    ensures at_end { IfOk result (λ j. j.end ≡ ShotsEnd.End → IsReadOut (F.left files.old) (F.left files.new)) }
+    ensures asks { F.asked files.new ≡ F.asked files.old }
     ensures fault { IfOk result (λ j. j.end ≡ ShotsEnd.ReadFault → Rose (F.faults files.old) (F.faults files.new)) }
     ensures later { F.faults files.old ≤ F.faults files.new }
     ensures calm { IfOk result (λ j. j.end ≢ ShotsEnd.ReadFault → F.faults files.new ≡ F.faults files.old) }
+    ensures unread { result ≡ Err RowsFault.NoMemory → F.faults files.new ≡ F.faults files.old }
     ensures write_fault { result ≡ Err RowsFault.WriteFault → Rose (O.faults out.old) (O.faults out.new) }
     ensures write_later { O.faults out.old ≤ O.faults out.new }
     ensures write_calm { result ≢ Err RowsFault.WriteFault → O.faults out.new ≡ O.faults out.old }
 {
-    let Ok(name) = String::from_str(alloc, errand.shots) else {
-        return Err(RowsFault::NoMemory);
-    };
-    let Ok(()) = files.open_file(name) else {
-        return Ok(Judged {
-            shots: 0,
-            bad: 0,
-            end: ShotsEnd::ReadFault,
-        });
-    };
-    let Ok(stream) = ShotStream::new(alloc, errand.format, graph, u32::MAX) else {
+    let Ok(stream) = ShotStream::new(alloc, format, graph, u32::MAX) else {
         return Err(RowsFault::NoMemory);
     };
     judge(alloc, graph, rows, files, stream, out)
@@ -236,7 +235,7 @@ fn judge<F: Files, O: Sink>(
     requires fresh { stream ≡ fresh stream.format stream.graph most_shots }
     requires graph { stream.graph ≡ graph.now }
     requires values { All HasPositiveValues rows.now }
-    ensures all { IfOk result (λ j. JudgesAll (λ shots. GathersFrom (F.left files.old) stream.entry.format stream.entry.graph shots j.end)
+    ensures all { IfOk result (λ j. JudgesAll (λ shots. GathersFrom (F.left files.old) stream.entry.format stream.entry.graph (F.left files.new) shots j.end)
         graph.now rows.now (O.taken out.old) (O.taken out.new) j) }
     ensures first { OnErr result (JudgesFirst (FirstFrom (F.left files.old) stream.entry.format stream.entry.graph)
         graph.now rows.now (O.taken out.old) (O.taken out.new)) }
@@ -245,6 +244,7 @@ fn judge<F: Files, O: Sink>(
     ensures fault { IfOk result (λ j. j.end ≡ ShotsEnd.ReadFault → Rose (F.faults files.old) (F.faults files.new)) }
     ensures later { F.faults files.old ≤ F.faults files.new }
     ensures calm { IfOk result (λ j. j.end ≢ ShotsEnd.ReadFault → F.faults files.new ≡ F.faults files.old) }
+    ensures unread { result ≡ Err RowsFault.NoMemory → F.faults files.new ≡ F.faults files.old }
     ensures write_fault { result ≡ Err RowsFault.WriteFault → Rose (O.faults out.old) (O.faults out.new) }
     ensures write_later { O.faults out.old ≤ O.faults out.new }
     ensures write_calm { result ≢ Err RowsFault.WriteFault → O.faults out.new ≡ O.faults out.old }
@@ -271,7 +271,7 @@ fn judge_into<F: Files, O: Sink>(
     requires graph { stream.graph ≡ graph.now }
     requires values { All HasPositiveValues rows.now }
     requires empty { outbox.old.text ≡ [] }
-    ensures all { IfOk result (λ j. JudgesInto (λ shots. GathersFrom (F.left files.old) stream.entry.format stream.entry.graph shots j.end)
+    ensures all { IfOk result (λ j. JudgesInto (λ shots. GathersFrom (F.left files.old) stream.entry.format stream.entry.graph (F.left files.new) shots j.end)
         graph.now rows.now (O.taken out.old) (O.taken out.new) outbox.new.text j) }
     ensures first { OnErr result (JudgesFirst (FirstFrom (F.left files.old) stream.entry.format stream.entry.graph)
         graph.now rows.now (O.taken out.old) (O.taken out.new)) }
@@ -280,6 +280,7 @@ fn judge_into<F: Files, O: Sink>(
     ensures fault { IfOk result (λ j. j.end ≡ ShotsEnd.ReadFault → Rose (F.faults files.old) (F.faults files.new)) }
     ensures later { F.faults files.old ≤ F.faults files.new }
     ensures calm { IfOk result (λ j. j.end ≢ ShotsEnd.ReadFault → F.faults files.new ≡ F.faults files.old) }
+    ensures unread { OnErr result (F.faults files.new ≡ F.faults files.old) }
     ensures write_fault { result ≡ Err RowsFault.WriteFault → Rose (O.faults out.old) (O.faults out.new) }
     ensures write_later { O.faults out.old ≤ O.faults out.new }
     ensures write_calm { result ≢ Err RowsFault.WriteFault → O.faults out.new ≡ O.faults out.old }

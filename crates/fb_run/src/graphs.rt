@@ -1,6 +1,6 @@
 //! The graph of a file.
 
-ghost use Rattle.std.specs.Prelude.{◌≡◌, ◌≢◌, ◌<◌, ◌≤◌, ◌^◌, [], ◌∷◌, length, IfOk, IfErr, OnOk, IsErrOf, Err};
+ghost use Rattle.std.specs.Prelude.{◌≡◌, ◌≢◌, ◌<◌, ◌≤◌, ◌^◌, [], ◌∷◌, length, IfOk, IfErr, IsErrOf, Err};
 ghost use Rattle.fb_ports.specs.Causes.{HasRoom, Rose};
 ghost use Rattle.fb_run.specs.Judging.{Asks, AsksFront, Holds, IfRefused, IsGraphText, IsNoGraph};
 
@@ -32,7 +32,7 @@ pub fn read_named<F: Files>(
     requires few { limit < 2 ^ 32 }
     requires room { HasRoom (F.asked files.old) 16 }
     ensures asks { AsksFront (F.asked files.old) (F.asked files.new) (name.now ∷ []) }
-    ensures asked { OnOk result (Asks (F.asked files.old) (F.asked files.new) (name.now ∷ [])) }
+    ensures asked { result ≢ Err ReadError.NoMemory → Asks (F.asked files.old) (F.asked files.new) (name.now ∷ []) }
     ensures names { F.named files.new ≡ F.named files.old }
     ensures bytes { IfOk result (λ v. Holds (F.named files.old) name.now (λ text. text ≡ v.items)) }
     ensures short { IfOk result (λ v. length v.items ≤ limit) }
@@ -55,7 +55,7 @@ pub fn read_named<F: Files>(
 pub fn read_graph_file<F: Files>(alloc: Global, files: &mut F, name: &str) -> Result<Graph, NoGraph>
     requires { HasRoom (F.asked files.old) 16 }
     ensures asks { AsksFront (F.asked files.old) (F.asked files.new) (name.now ∷ []) }
-    ensures asked { OnOk result (Asks (F.asked files.old) (F.asked files.new) (name.now ∷ [])) }
+    ensures asked { result ≢ Err NoGraph.NoMemory → Asks (F.asked files.old) (F.asked files.new) (name.now ∷ []) }
     ensures names { F.named files.new ≡ F.named files.old }
     ensures graph { IfOk result (λ g. Holds (F.named files.old) name.now (IsGraphText g)) }
     ensures refused { IfErr result (IfRefused (λ fault. Holds (F.named files.old) name.now (IsNoGraph fault))) }

@@ -16,6 +16,4 @@ pub use fb_words::UsageKind;
 pub use running::run;
 
 #[cfg(test)]
-mod check_tests;
-#[cfg(test)]
 mod tests;

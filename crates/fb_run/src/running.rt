@@ -1,11 +1,13 @@
 //! The top call.
 
-ghost use Rattle.std.specs.Prelude.{◌≡◌, ◌≢◌, ◌<◌, ◌≤◌, ◌^◌, ◌-◌, [], ◌∷◌, map, string_bytes};
+ghost use Rattle.std.specs.Prelude.{◌≡◌, ◌≢◌, ◌<◌, ◌≤◌, ◌^◌, ◌-◌, map, string_bytes, true};
 ghost use Rattle.fb_ports.specs.Causes.{Appends, AppendsFront, HasRoom, IsEmptyIfTold, Rose};
 ghost use Rattle.fb_endings.specs.Causes.{line_of, status_of};
 ghost use Rattle.fb_run.specs.Endings.{DecodeEnds, EndsOn, IsReadToItsEnd, MayFollowReadFault};
-ghost use Rattle.fb_run.specs.RunEndings.{AsksAsTold, EndsRight, ErrandEnds, cause_of_fault, names_of};
-ghost use Rattle.fb_run.specs.Judging.{AsksFront, IsReadOutIfNamed};
+ghost use Rattle.fb_run.specs.Moments.{moment};
+ghost use Rattle.fb_run.specs.RunEndings.{EndsRight, ErrandEnds, IfParse, cause_of_fault};
+ghost use Rattle.fb_run.specs.Judging.{IsReadOutIfNamed};
+ghost use Rattle.fb_words.specs.Taken.{is_taken};
 ghost use Rattle.fb_words.specs.Seen.{seen_decoding, seen};
 ghost use Rattle.fb_words.specs.Words.{errand_of};
 ghost use Rattle.fb_run.specs.Writes.{EndsReport, counts_in};
@@ -33,21 +35,23 @@ pub fn run<F: Files, O: Sink, E: Sink>(
     requires { IsEmptyIfTold (F.asked files.old) }
     ensures status { result.status ≡ status_of result.cause }
 
-    // What was written, and what the files held, by the cause. Faulty words are answered by their fault.
-    ensures ends { EndsRight (errand_of (map string_bytes words.now)) (F.named files.old) (O.taken out.old) (O.taken out.new) result.cause }
+    // By the cause: what the files held, which names were asked for, whether a read failed, and what was written.
+    ensures ends { EndsRight (errand_of (map string_bytes words.now))
+        (moment (F.named files.old) (F.left files.old) (F.asked files.old) (F.faults files.old) (O.taken out.old))
+        (moment (F.named files.new) (F.left files.new) (F.asked files.new) (F.faults files.new) (O.taken out.new)) result.cause }
     ensures at_end { IsReadToItsEnd result.cause → IsReadOutIfNamed (F.named files.old) (F.left files.new) }
 
-    // A fault is answered where it came, and only there. Where the rows of the shots before it can't be written, that
-    // is answered in its place.
+    // A fault is returned only if it came. Where the rows of the shots before a failed read can't be written or not be
+    // found for want of memory, that is returned in its place.
     ensures read_fault { result.cause ≡ Cause.ReadFault → Rose (F.faults files.old) (F.faults files.new) }
     ensures read_risen { F.faults files.old < F.faults files.new → MayFollowReadFault result.cause }
     ensures write_fault { result.cause ≡ Cause.WriteFault → Rose (O.faults out.old) (O.faults out.new) }
     ensures write_risen { O.faults out.old < O.faults out.new → result.cause ≡ Cause.WriteFault }
 
-    // The names asked for are those of the words, in their order.
-    ensures asks { AsksAsTold (errand_of (map string_bytes words.now)) (F.asked files.old) (F.asked files.new) }
+    // Words that the command line takes aren't refused as a whole.
+    ensures takes { is_taken (map string_bytes words.now) ≡ true → result.cause ≢ Cause.Usage UsageKind.Parse }
 
-    // What was said on standard error. Of words that have no reading it is the command line reader's own text.
+    // What was written to standard error. Of words that have no reading it is the command line reader's own text.
     ensures said { result.cause ≢ Cause.Usage UsageKind.Parse
         → AppendsFront (E.taken err.old) (E.taken err.new) (line_of result.cause) }
     ensures said_whole { result.cause ≢ Cause.Usage UsageKind.Parse → E.faults err.old < 2 ^ 64 - 1
@@ -70,9 +74,11 @@ fn answer<F: Files, O: Sink, E: Sink>(
     err: &mut E,
 ) -> Cause
     requires { IsEmptyIfTold (F.asked files.old) }
-    ensures ends { EndsRight (errand_of (map string_bytes words.now)) (F.named files.old) (O.taken out.old) (O.taken out.new) result }
+    ensures ends { EndsRight (errand_of (map string_bytes words.now))
+        (moment (F.named files.old) (F.left files.old) (F.asked files.old) (F.faults files.old) (O.taken out.old))
+        (moment (F.named files.new) (F.left files.new) (F.asked files.new) (F.faults files.new) (O.taken out.new)) result }
     ensures at_end { IsReadToItsEnd result → IsReadOutIfNamed (F.named files.old) (F.left files.new) }
-    ensures asks { AsksAsTold (errand_of (map string_bytes words.now)) (F.asked files.old) (F.asked files.new) }
+    ensures takes { is_taken (map string_bytes words.now) ≡ true → result ≢ Cause.Usage UsageKind.Parse }
     ensures read_fault { result ≡ Cause.ReadFault → Rose (F.faults files.old) (F.faults files.new) }
     ensures read_risen { F.faults files.old < F.faults files.new → MayFollowReadFault result }
     ensures write_fault { result ≡ Cause.WriteFault → Rose (O.faults out.old) (O.faults out.new) }
@@ -93,9 +99,10 @@ fn run_errand<F: Files, O: Sink>(
     out: &mut O,
 ) -> Cause
     requires { IsEmptyIfTold (F.asked files.old) }
-    ensures ends { ErrandEnds (seen errand.now) (F.named files.old) (O.taken out.old) (O.taken out.new) result }
+    ensures ends { ErrandEnds (seen errand.now)
+        (moment (F.named files.old) (F.left files.old) (F.asked files.old) (F.faults files.old) (O.taken out.old))
+        (moment (F.named files.new) (F.left files.new) (F.asked files.new) (F.faults files.new) (O.taken out.new)) result }
     ensures at_end { IsReadToItsEnd result → IsReadOutIfNamed (F.named files.old) (F.left files.new) }
-    ensures asks { AsksFront (F.asked files.old) (F.asked files.new) (names_of (seen errand.now)) }
     ensures read_fault { result ≡ Cause.ReadFault → Rose (F.faults files.old) (F.faults files.new) }
     ensures read_later { F.faults files.old ≤ F.faults files.new }
     ensures read_risen { F.faults files.old < F.faults files.new → MayFollowReadFault result }
@@ -109,9 +116,13 @@ fn run_errand<F: Files, O: Sink>(
     }
 }
 
-/// Answers what is wrong with the words. Where they have no reading, it puts the command line reader's text on a sink.
+/// The cause that tells what is wrong with the words. Where they have no reading, the command line reader's text is
+/// written to a sink, whole unless the sink fails.
 fn refuse_words<E: Sink>(fault: &WordsFault, err: &mut E) -> Cause
     ensures cause { result ≡ cause_of_fault fault.now }
+    ensures text { IfParse (λ text. AppendsFront (E.taken err.old) (E.taken err.new) text) fault.now }
+    ensures text_whole { E.faults err.old < 2 ^ 64 - 1 → E.faults err.new ≡ E.faults err.old
+        → IfParse (λ text. Appends (E.taken err.old) (E.taken err.new) text) fault.now }
     ensures quiet { result ≢ Cause.Usage UsageKind.Parse → (E.taken err.new ≡ E.taken err.old) × (E.faults err.new ≡ E.faults err.old) }
 {
     match fault {
@@ -134,9 +145,10 @@ fn decode<F: Files, O: Sink>(
     out: &mut O,
 ) -> Cause
     requires { IsEmptyIfTold (F.asked files.old) }
-    ensures ends { DecodeEnds (F.named files.old) (seen_decoding errand.now) (O.taken out.old) (O.taken out.new) result }
+    ensures ends { DecodeEnds (seen_decoding errand.now)
+        (moment (F.named files.old) (F.left files.old) (F.asked files.old) (F.faults files.old) (O.taken out.old))
+        (moment (F.named files.new) (F.left files.new) (F.asked files.new) (F.faults files.new) (O.taken out.new)) result }
     ensures at_end { IsReadToItsEnd result → IsReadOutIfNamed (F.named files.old) (F.left files.new) }
-    ensures asks { AsksFront (F.asked files.old) (F.asked files.new) (errand.now.graph.now ∷ errand.now.shots.now ∷ []) }
     ensures read_fault { result ≡ Cause.ReadFault → Rose (F.faults files.old) (F.faults files.new) }
     ensures read_later { F.faults files.old ≤ F.faults files.new }
     ensures read_risen { F.faults files.old < F.faults files.new → MayFollowReadFault result }
@@ -161,9 +173,10 @@ fn decode_on<F: Files, O: Sink>(
     out: &mut O,
 ) -> Cause
     requires { HasRoom (F.asked files.old) 16 }
-    ensures ends { EndsOn (F.named files.old) (seen_decoding errand.now) graph.now (O.taken out.old) (O.taken out.new) result }
+    ensures ends { EndsOn (seen_decoding errand.now) graph.now
+        (moment (F.named files.old) (F.left files.old) (F.asked files.old) (F.faults files.old) (O.taken out.old))
+        (moment (F.named files.new) (F.left files.new) (F.asked files.new) (F.faults files.new) (O.taken out.new)) result }
     ensures at_end { IsReadToItsEnd result → IsReadOutIfNamed (F.named files.old) (F.left files.new) }
-    ensures asks { AsksFront (F.asked files.old) (F.asked files.new) (errand.now.shots.now ∷ []) }
     ensures read_fault { result ≡ Cause.ReadFault → Rose (F.faults files.old) (F.faults files.new) }
     ensures read_later { F.faults files.old ≤ F.faults files.new }
     ensures read_risen { F.faults files.old < F.faults files.new → MayFollowReadFault result }
@@ -177,7 +190,13 @@ fn decode_on<F: Files, O: Sink>(
     let Ok(()) = write_head(out) else {
         return Cause::WriteFault;
     };
-    let Ok(gathered) = read_shots(alloc, files, errand.shots, errand.format, graph) else {
+    let Ok(name) = String::from_str(alloc, errand.shots) else {
+        return Cause::NoMemory;
+    };
+    let Ok(()) = files.open_file(name) else {
+        return Cause::ReadFault;
+    };
+    let Ok(gathered) = read_shots(alloc, files, errand.format, graph) else {
         return Cause::NoMemory;
     };
     let shots = gathered.shots.as_slice();

@@ -1,11 +1,11 @@
 //! The shots of a file.
 
-ghost use Rattle.std.specs.Prelude.{◌≡◌, ◌≢◌, ◌<◌, ◌≤◌, ◌^◌, ◌∷◌, [], length, All, IfOk, OnErr};
+ghost use Rattle.std.specs.Prelude.{◌≡◌, ◌≢◌, ◌<◌, ◌≤◌, ◌^◌, length, All, IfOk, OnErr};
 ghost use Rattle.fb_graph.specs.Limits.{IsShot};
-ghost use Rattle.fb_ports.specs.Causes.{HasRoom, Rose};
+ghost use Rattle.fb_ports.specs.Causes.{Rose};
 ghost use Rattle.fb_shots.specs.Streams.{fresh};
 ghost use Rattle.fb_shots.specs.Steps.{IsReadOut};
-ghost use Rattle.fb_run.specs.Judging.{AsksFront, Gathers, GathersFrom, IsReadOutIfNamed, most_shots};
+ghost use Rattle.fb_run.specs.Judging.{GathersFrom, most_shots};
 
 use fb_graph::{Graph, NoMemory, Shot};
 use fb_ports::Files;
@@ -19,7 +19,7 @@ pub enum ShotsEnd {
     End,
     /// What stands in the place of the next shot is refused.
     Refused(ShotFault),
-    /// The file could not be opened, or not be read further.
+    /// A read of the file failed.
     ReadFault,
 }
 
@@ -30,36 +30,25 @@ pub struct Gathered {
     pub end: ShotsEnd,
 }
 
-/// Reads the shots of the file of a name. Where reading fails, the shots are those that the bytes read until then settle.
-#[tactic(auto, using(crate::proofs::Inputs::asking))]
+/// Reads the shots of the current file, of which nothing was read yet. Where reading fails, the shots are those that the
+/// bytes read until then settle.
 pub fn read_shots<F: Files>(
     alloc: Global,
     files: &mut F,
-    name: &str,
     format: Format,
     graph: &Graph,
 ) -> Result<Gathered, NoMemory>
-    requires { HasRoom (F.asked files.old) 16 }
-    ensures asks { AsksFront (F.asked files.old) (F.asked files.new) (name.now ∷ []) }
+    ensures asks { F.asked files.new ≡ F.asked files.old }
     ensures names { F.named files.new ≡ F.named files.old }
-    ensures gathers { IfOk result (λ r. Gathers (F.named files.old) name.now format graph.now r.shots.items r.end) }
+    ensures gathers { IfOk result (λ r. GathersFrom (F.left files.old) format graph.now (F.left files.new) r.shots.items r.end) }
     ensures shots { IfOk result (λ r. All (IsShot graph.now) r.shots.items) }
     ensures few { IfOk result (λ r. length r.shots.items < 2 ^ 32) }
-    ensures at_end { IfOk result (λ r. r.end ≡ ShotsEnd.End → IsReadOutIfNamed (F.named files.old) (F.left files.new)) }
+    ensures at_end { IfOk result (λ r. r.end ≡ ShotsEnd.End → IsReadOut (F.left files.old) (F.left files.new)) }
     ensures fault { IfOk result (λ r. r.end ≡ ShotsEnd.ReadFault → Rose (F.faults files.old) (F.faults files.new)) }
     ensures later { F.faults files.old ≤ F.faults files.new }
     ensures calm { IfOk result (λ r. r.end ≢ ShotsEnd.ReadFault → F.faults files.new ≡ F.faults files.old) }
     ensures unread { OnErr result (F.faults files.new ≡ F.faults files.old) }
 {
-    let Ok(name) = String::from_str(alloc, name) else {
-        return Err(NoMemory);
-    };
-    let Ok(()) = files.open_file(name) else {
-        return Ok(Gathered {
-            shots: Vec::new(alloc),
-            end: ShotsEnd::ReadFault,
-        });
-    };
     let Ok(stream) = ShotStream::new(alloc, format, graph, u32::MAX) else {
         return Err(NoMemory);
     };
@@ -75,7 +64,7 @@ fn gather<F: Files>(
     requires { stream ≡ fresh stream.format stream.graph most_shots }
     ensures asks { F.asked files.new ≡ F.asked files.old }
     ensures names { F.named files.new ≡ F.named files.old }
-    ensures gathers { IfOk result (λ r. GathersFrom (F.left files.old) stream.entry.format stream.entry.graph r.shots.items r.end) }
+    ensures gathers { IfOk result (λ r. GathersFrom (F.left files.old) stream.entry.format stream.entry.graph (F.left files.new) r.shots.items r.end) }
     ensures shots { IfOk result (λ r. All (IsShot stream.entry.graph) r.shots.items) }
     ensures few { IfOk result (λ r. length r.shots.items < 2 ^ 32) }
     ensures at_end { IfOk result (λ r. r.end ≡ ShotsEnd.End → IsReadOut (F.left files.old) (F.left files.new)) }

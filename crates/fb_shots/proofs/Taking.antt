@@ -1,5 +1,5 @@
 -- Bytes that are taken before an answer.
-use Rattle.std.proofs.Common.{◌≡◌, ℕ, ◌+◌, ◌<◌, Bool, true, false, List, [], ◌∷◌, ◌++◌, Option, Some, None, IfSome, refl, sym, ap, subst, subst₂, ◌∙◌, inl, inr, append_assoc, append-nil}
+use Rattle.std.proofs.Common.{◌≡◌, ℕ, ◌+◌, ◌<◌, Bool, true, false, List, [], ◌∷◌, ◌++◌, Option, Some, None, IfSome, refl, sym, ap, subst, subst₂, ◌∙◌, inl, inr, ◌⊎◌, length, arith, append_assoc, append-nil, length-append}
 use Rattle.std.proofs.lemmas.Bool.{cases_Bool}
 use Rattle.std.specs.Io.KnownBytes.{Consumes, Keeps, IsAtEnd}
 use Rattle.std.proofs.KnownBytes.{Consumes-trans}
@@ -11,7 +11,7 @@ use Rattle.fb_shots.specs.declared.answer.Step.TheVariants as step
 use Rattle.fb_shots.specs.Shots.{only, in_front, at_end, refused}
 use Rattle.fb_shots.specs.Formats.{front_of}
 use Rattle.fb_shots.specs.Streams.{Stream, follows}
-use Rattle.fb_shots.specs.Steps.{IfTold, IsReadOut, OnlyTakes, GivesShot, Ends, Refuses, FailsToRead, Answers}
+use Rattle.fb_shots.specs.Steps.{IfTold, IsReadOut, IsReason, OnlyTakes, GivesShot, Ends, Refuses, FailsToRead, Answers, settled}
 
 abbrev pub Left : Type 0
 Left = Option (List ℕ)
@@ -126,6 +126,10 @@ then_takes a b c l m r p q = record {
   others = q.others ∙ ap (λ (s : Stream). record s { rest = c.rest; finished = c.finished; untaken = c.untaken }) p.others;
 }
 
+-- the bytes of two pieces
+joined_pieces : (a b : Stream) (l m : Left) (piece : List ℕ) (p : OnlyTakes a b l m) → a.rest ++ (p.piece ++ piece) ≡ b.rest ++ piece
+joined_pieces a b l m piece p = sym (append_assoc a.rest p.piece piece) ∙ ap (λ (x : List ℕ). x ++ piece) (sym p.rest)
+
 then_gives : (a b c : Stream) (l m r : Left) (shot : List ℕ) → OnlyTakes a b l m → GivesShot b c m r shot → GivesShot a c l r shot
 then_gives a b c l m r shot p q =
     let format : b.format ≡ a.format = ap (λ (s : Stream). s.format) p.others in
@@ -136,6 +140,7 @@ then_gives a b c l m r shot p q =
       taken = Consumes-trans l m r p.piece q.piece p.taken q.taken;
       gives = told_then (λ x y. follows a x ≡ follows b y) (λ y z. follows b y ≡ in_front shot (follows c z))
           (λ x z. follows a x ≡ in_front shot (follows c z)) l m r (λ x y z e f. e ∙ f) p.gives q.gives;
+      holds = ap (settled c) (joined_pieces a b l m q.piece p) ∙ q.holds;
       unfinished = λ still. open_before a b l m p (q.unfinished still);
       front = λ still more.
           ap (front_of a.format a.graph) (ap (λ (x : List ℕ). a.rest ++ x) (append_assoc p.piece q.piece more)
@@ -154,6 +159,7 @@ then_ends : (a b c : Stream) (l m r : Left) → OnlyTakes a b l m → Ends b c m
 then_ends a b c l m r p q = record {
   piece = p.piece ++ q.piece;
   taken = Consumes-trans l m r p.piece q.piece p.taken q.taken;
+  rest = q.rest ∙ sym (joined_pieces a b l m q.piece p);
   gives = told_some (λ x y. follows a x ≡ follows b y) (λ y. follows b y ≡ only at_end) (λ x. follows a x ≡ only at_end)
       l m (λ x y e f. e ∙ f) p.gives q.gives;
   finished = q.finished;
@@ -165,6 +171,12 @@ then_ends a b c l m r p q = record {
 
 then_refuses : (a b c : Stream) (l m : Left) (fault : ShotFault) → OnlyTakes a b l m → Refuses b c m fault → Refuses a c l fault
 then_refuses a b c l m fault p q = record {
+  piece = p.piece ++ q.piece;
+  room = omega (arith, q.room, p.room, ap length p.rest, length-append a.rest p.piece, length-append p.piece q.piece);
+  reason = elim q.reason as (λ r. (a.stopped ≡ Some fault.kind) ⊎ IsReason c (a.rest ++ (p.piece ++ q.piece)) fault.kind) [
+    | inl before ↦ inl (sym (ap (λ (s : Stream). s.stopped) p.others) ∙ before)
+    | inr why ↦ inr (subst (λ (x : List ℕ). IsReason c x fault.kind) (sym (joined_pieces a b l m q.piece p)) why)
+  ];
   number = q.number ∙ ap (λ (s : Stream). s.given) p.others;
   gives = told_some (λ x y. follows a x ≡ follows b y) (λ y. follows b y ≡ only (refused fault.kind))
       (λ x. follows a x ≡ only (refused fault.kind)) l m (λ x y e f. e ∙ f) p.gives q.gives;

@@ -10,13 +10,13 @@ use Rattle.fb_shots.specs.declared.answer.Step.TheVariants as step
 use Rattle.fb_shots.specs.declared.reader.Next.{Next}
 use Rattle.fb_shots.specs.declared.reader.Next.TheVariants as next
 use Rattle.fb_shots.specs.declared.stream.Read.TheVariants as read
-use Rattle.fb_shots.specs.Shots.{Shots, only, in_front, at_end, refused, capped}
+use Rattle.fb_shots.specs.Shots.{Shots, only, in_front, at_end, still_open, refused, capped}
 use Rattle.fb_shots.specs.Formats.{records_of, front_of}
 use Rattle.fb_shots.specs.Sources.{Source}
 use Rattle.fb_shots.specs.Answers.{Gives}
 use Rattle.fb_shots.specs.Answers as reader
 use Rattle.fb_shots.specs.Streams.{most_bytes, Stream, stream_by, stream_of, or_refusal, follows}
-use Rattle.fb_shots.specs.Steps.{OnlyTakes, GivesShot, Ends, Refuses, FailsToRead, Answers, may_read}
+use Rattle.fb_shots.specs.Steps.{OnlyTakes, GivesShot, Ends, IsReason, Refuses, FailsToRead, Answers, may_read}
 use Rattle.fb_shots.specs.Reads.{ReadsOn}
 use Rattle.fb_shots.proofs.Follows.{fed, held, capped_only, capped_shot, capped_none, held_shot, held_refused, held_piece, held_end, held_long, follows_open, follows_done}
 use Rattle.fb_shots.proofs.Taking.{Left, told_same, told_taken, told_end, each_some, takes_nothing}
@@ -56,6 +56,27 @@ follows_shot a new shot u k l left h less =
           ∙ ap (in_front shot) (sym (follows_open b u (k + 1) l left still))
     ]
 
+-- what the bytes that were fed settle
+abbrev settled_by : Source → List ℕ → Shots
+settled_by a bytes = if a.finished then records_of a.format a.graph bytes else front_of a.format a.graph bytes
+
+settled_shot : (a : Source) (new shot : List ℕ) → Gives (records_of a.format a.graph) (front_of a.format a.graph) a.finished a.rest new shot
+    → settled_by a (a.rest ++ []) ≡ in_front shot (settled_by a new)
+settled_shot a new shot h = by_flag a.finished refl
+  where
+    by_flag : (f : Bool) → a.finished ≡ f → (if f then records_of a.format a.graph (a.rest ++ []) else front_of a.format a.graph (a.rest ++ []))
+        ≡ in_front shot (if f then records_of a.format a.graph new else front_of a.format a.graph new)
+    by_flag true done = ap (records_of a.format a.graph) (append-nil a.rest) ∙ h.now
+    by_flag false still = h.onward still [] ∙ ap (λ (x : List ℕ). in_front shot (front_of a.format a.graph x)) (append-nil new)
+
+settled_refused : (a : Source) (why : Kind) → reader.Refuses (records_of a.format a.graph) (front_of a.format a.graph) a.finished a.rest why
+    → settled_by a (a.rest ++ []) ≡ only (refused why)
+settled_refused a why h = by_flag a.finished refl
+  where
+    by_flag : (f : Bool) → a.finished ≡ f → (if f then records_of a.format a.graph (a.rest ++ []) else front_of a.format a.graph (a.rest ++ [])) ≡ only (refused why)
+    by_flag true done = ap (records_of a.format a.graph) (append-nil a.rest) ∙ h.now
+    by_flag false still = h.onward still []
+
 gives_from : (a : Source) (new shot : List ℕ) (u k l : ℕ) (left : Left) → reader.Answers a (record a { rest = new }) (next.Shot shot) → k < l
     → GivesShot (fed a u k l None) (fed (record a { rest = new }) u (k + 1) l None) left left shot
 gives_from a new shot u k l left h less = record {
@@ -63,6 +84,7 @@ gives_from a new shot u k l left h less = record {
   taken = Consumes-nil left;
   gives = told_same (λ x y. follows (fed a u k l None) x ≡ in_front shot (follows (fed (record a { rest = new }) u (k + 1) l None) y)) left
       (λ x. follows_shot a new shot u k l x h.0 less);
+  holds = settled_shot a new shot h.0;
   unfinished = λ still. still;
   front = λ still more. h.0.onward still more;
   end = λ still done. true_false a.finished done still;
@@ -96,12 +118,15 @@ same_but_rest a b u v k l why same =
     } in
     ap made same
 
-stops : (a b : Source) (u v k l : ℕ) (left : Left) (why : Kind) → b ≡ record a { rest = b.rest }
-    → IfSome left (λ x. follows (fed a u k l None) x ≡ only (refused why))
+stops : (a b : Source) (u v k l : ℕ) (left : Left) (why : Kind) → b ≡ record a { rest = b.rest } → v ≡ u
+    → IsReason (fed b v k l (Some why)) (a.rest ++ []) why → IfSome left (λ x. follows (fed a u k l None) x ≡ only (refused why))
     → Refuses (fed a u k l None) (fed b v k l (Some why)) left (record { shot = k; kind = why })
-stops a b u v k l left why same gives = record {
+stops a b u v k l left why same count reason gives = record {
   number = refl;
   gives = gives;
+  piece = [];
+  room = omega (arith, count);
+  reason = inr reason;
   stops = refl;
   again = λ x. refl;
   others = same_but_rest a b u v k l why same;
@@ -125,8 +150,11 @@ follows_too_many a new shot u k l left h full =
 pub turn_too_many : (a b : Source) (shot : List ℕ) (u k l : ℕ) (left : Left) → reader.Answers a b (next.Shot shot) → l ≤ k
     → Refuses (fed a u k l None) (fed b u k l (Some TooManyShots)) left (record { shot = k; kind = TooManyShots })
 turn_too_many a b shot u k l left h full =
-    stops a b u u k l left TooManyShots h.2
+    stops a b u u k l left TooManyShots h.2 refl (inr (inl (record { shot = shot; holds = holds; full = full; kind = refl })))
     (each_some (λ x. follows (fed a u k l None) x ≡ only (refused TooManyShots)) left (λ x. follows_too_many a b.rest shot u k l x h.0 full))
+  where
+    holds : settled_by b (a.rest ++ []) ≡ in_front shot (settled_by b b.rest)
+    holds = subst (λ (s : Source). settled_by s (a.rest ++ []) ≡ in_front shot (settled_by s s.rest)) (sym h.2) (settled_shot a b.rest shot h.0)
 
 follows_refused : (a : Source) (why : Kind) (u k l : ℕ) (left : List ℕ)
     → reader.Refuses (records_of a.format a.graph) (front_of a.format a.graph) a.finished a.rest why
@@ -138,16 +166,29 @@ follows_refused a why u k l left h = elim (cases_Bool a.finished) [
       ∙ capped_only (l - k) (refused why)
 ]
 
+same_rest : (a b : Source) → b ≡ a → b.rest ≡ a.rest ++ []
+same_rest a b e = ap (λ (s : Source). s.rest) e ∙ sym (append-nil a.rest)
+
 pub turn_refuses : (a b : Source) (why : Kind) (u k l : ℕ) (left : Left) → reader.Answers a b (next.Refused why)
     → Refuses (fed a u k l None) (fed b u k l (Some why)) left (record { shot = k; kind = why })
 turn_refuses a b why u k l left h =
-    stops a b u u k l left why (h.1 ∙ ap (λ (s : Source). record a { rest = s.rest }) (sym h.1))
+    stops a b u u k l left why (h.1 ∙ ap (λ (s : Source). record a { rest = s.rest }) (sym h.1)) refl
+    (inl (record { rest = same_rest a b h.1; settles = subst (λ (s : Source). settled_by s (a.rest ++ []) ≡ only (refused why)) (sym h.1) (settled_refused a why h.0) }))
     (each_some (λ x. follows (fed a u k l None) x ≡ only (refused why)) left (λ x. follows_refused a why u k l x h.0))
 
-pub turn_too_long : (a b : Source) (u v k l : ℕ) (left : Left) → reader.Answers a b next.NotYet → u ≡ 0 → IfSome left (λ x. 0 < length x)
+pub turn_too_long : (a b : Source) (u v k l : ℕ) (left : Left) → reader.Answers a b next.NotYet → u ≡ 0 → v ≡ 0 → IfSome left (λ x. 0 < length x)
     → Refuses (fed a u k l None) (fed b v k l (Some InputTooLong)) left (record { shot = k; kind = InputTooLong })
-turn_too_long a b u v k l left h none more =
-    stops a b u v k l left InputTooLong (h.2 ∙ ap (λ (s : Source). record a { rest = s.rest }) (sym h.2)) (in_left left more)
+turn_too_long a b u v k l left h none still_none more =
+    stops a b u v k l left InputTooLong (h.2 ∙ ap (λ (s : Source). record a { rest = s.rest }) (sym h.2)) (still_none ∙ sym none)
+    (inr (inr (record {
+      rest = same_rest a b h.2;
+      unfinished = ap (λ (s : Source). s.finished) h.2 ∙ h.0;
+      undecided = subst (λ (s : Source). front_of s.format s.graph (a.rest ++ []) ≡ only still_open) (sym h.2)
+          (ap (front_of a.format a.graph) (append-nil a.rest) ∙ h.1);
+      full = still_none;
+      kind = refl;
+    })))
+    (in_left left more)
   where
     in_left : (left : Left) → IfSome left (λ x. 0 < length x) → IfSome left (λ x. follows (fed a u k l None) x ≡ only (refused InputTooLong))
     in_left None more = tt
@@ -163,7 +204,16 @@ stopped_gives stopped why r e = ap (λ (o : Option Kind). or_refusal o r) e
 pub stays_stopped : (s : Stream) (left : Left) (why : Kind) → s.stopped ≡ Some why → Refuses s s left (record { shot = s.given; kind = why })
 stays_stopped s left why e =
     let again : (x : List ℕ) → follows s x ≡ only (refused why) = λ x. stopped_gives s.stopped why _ e in
-    record { number = refl; gives = each_some (λ x. follows s x ≡ only (refused why)) left again; stops = e; again = again; others = refl }
+    record {
+      number = refl;
+      gives = each_some (λ x. follows s x ≡ only (refused why)) left again;
+      piece = [];
+      room = omega arith;
+      reason = inl e;
+      stops = e;
+      again = again;
+      others = refl;
+    }
 
 -- ---- the end
 
@@ -179,6 +229,7 @@ turn_ends a b u k l left h = subst (λ (s : Source). Ends (fed a u k l None) (fe
     from = record {
       piece = [];
       taken = Consumes-nil left;
+      rest = sym (append-nil a.rest);
       gives = each_some (λ x. follows (fed a u k l None) x ≡ only at_end) left (λ x. follows_end a u k l x h.0 h.1);
       finished = h.0;
       end = λ still. true_false a.finished h.0 still;
@@ -326,7 +377,7 @@ pub too_long_turn : (now new : Stream) (a b t c : Source) (p q r : List ℕ) (u 
 too_long_turn now new a b t c p q r u v k l stopped answer before after s h e reads new-is s-is =
     let asked = answered now a b t p q u k l stopped answer next.NotYet h e in
     refused_as now (fed b u k l None) new c r v k l InputTooLong before after s (was now a b t p q u k l stopped answer h) reads.1 new-is s-is
-    (turn_too_long b c u v k l before (asked.0, asked.1, reads.0 ∙ asked.2) reads.3 reads.2)
+    (turn_too_long b c u v k l before (asked.0, asked.1, reads.0 ∙ asked.2) reads.3 reads.4 reads.2)
 
 reads_less : (a c : Source) (piece : List ℕ) (u v k l : ℕ) (stopped : Option Kind) → a.finished ≡ false
     → v + (if c.finished then 0 else 1) < u + 1 → may_read (stream_by c piece v k l stopped) < may_read (fed a u k l None)

@@ -1,12 +1,14 @@
 -- What a call of a stream has done, and what its answer says.
-use Rattle.std.specs.Prelude.{◌≡◌, ℕ, ◌+◌, ◌<◌, true, false, if◌then◌else◌, List, [], ◌++◌, length, Option, None, Some, IfSome, ⊤}
+use Rattle.std.specs.Prelude.{◌≡◌, ℕ, ◌+◌, ◌<◌, ◌≤◌, ◌⊎◌, true, false, if◌then◌else◌, List, [], ◌++◌, length, Option, None, Some, IfSome, ⊤}
 use Rattle.std.specs.Io.KnownBytes.{Consumes}
 use Rattle.fb_graph.specs.Limits.{IsShot}
+use Rattle.fb_shots.specs.declared.answer.Kind.{Kind}
+use Rattle.fb_shots.specs.declared.answer.Kind.TheVariants.{InputTooLong, TooManyShots}
 use Rattle.fb_shots.specs.declared.answer.ShotFault.{ShotFault}
 use Rattle.fb_shots.specs.declared.answer.Step.{Step}
 use Rattle.fb_shots.specs.declared.answer.Step.TheVariants as step
-use Rattle.fb_shots.specs.Shots.{at_end, still_open, refused, only, in_front}
-use Rattle.fb_shots.specs.Formats.{front_of}
+use Rattle.fb_shots.specs.Shots.{at_end, still_open, refused, Shots, only, in_front}
+use Rattle.fb_shots.specs.Formats.{front_of, records_of}
 use Rattle.fb_shots.specs.Streams.{Stream, follows}
 
 -- the fact of what was left of a file before and after, where that is told
@@ -31,11 +33,17 @@ pub record OnlyTakes (old new : Stream) (before after : Option (List ℕ)) : Typ
   pub unread : old.finished ≡ true → after ≡ before
   pub others : new ≡ record old { rest = new.rest; finished = new.finished; untaken = new.untaken }
 
+-- what a stream has settled of these bytes, if nothing else is left: all of their records where the file's end was seen,
+-- and otherwise those that stay whatever follows
+abbrev pub settled : Stream → List ℕ → Shots
+settled s bytes = if s.finished then records_of s.format s.graph bytes else front_of s.format s.graph bytes
+
 -- A shot is given: it stands before all that follows.
 pub record GivesShot (old new : Stream) (before after : Option (List ℕ)) (shot : List ℕ) : Type 0 where
   pub piece : List ℕ
   pub taken : Consumes before after piece
   pub gives : IfTold (λ left later. follows old left ≡ in_front shot (follows new later)) before after
+  pub holds : settled new (old.rest ++ piece) ≡ in_front shot (settled new new.rest)
   pub unfinished : new.finished ≡ false → old.finished ≡ false
   pub front : new.finished ≡ false → (more : List ℕ) → front_of old.format old.graph (old.rest ++ (piece ++ more))
       ≡ in_front shot (front_of old.format old.graph (new.rest ++ more))
@@ -50,6 +58,7 @@ pub record GivesShot (old new : Stream) (before after : Option (List ℕ)) (shot
 pub record Ends (old new : Stream) (before after : Option (List ℕ)) : Type 0 where
   pub piece : List ℕ
   pub taken : Consumes before after piece
+  pub rest : new.rest ≡ old.rest ++ piece
   pub gives : IfSome before (λ left. follows old left ≡ only at_end)
   pub finished : new.finished ≡ true
   pub end : old.finished ≡ false → IsReadOut before after
@@ -57,10 +66,38 @@ pub record Ends (old new : Stream) (before after : Option (List ℕ)) : Type 0 w
   pub again : (left : List ℕ) → follows new left ≡ only at_end
   pub others : new ≡ record old { rest = new.rest; finished = new.finished; untaken = new.untaken }
 
--- The next record is refused, and so is each further call.
+-- the stream's rest are these bytes, and the first record of them is refused
+pub record RefusesFirst (s : Stream) (bytes : List ℕ) (why : Kind) : Type 0 where
+  pub rest : s.rest ≡ bytes
+  pub settles : settled s bytes ≡ only (refused why)
+
+-- these bytes begin by a good record, and all shots that may be given were given
+pub record HoldsOneMore (s : Stream) (bytes : List ℕ) (why : Kind) : Type 0 where
+  pub shot : List ℕ
+  pub holds : settled s bytes ≡ in_front shot (settled s s.rest)
+  pub full : s.limit ≤ s.given
+  pub kind : why ≡ TooManyShots
+
+-- the stream's rest are these bytes, which don't settle how the next record ends, and no further one may be taken
+pub record IsCutOff (s : Stream) (bytes : List ℕ) (why : Kind) : Type 0 where
+  pub rest : s.rest ≡ bytes
+  pub unfinished : s.finished ≡ false
+  pub undecided : front_of s.format s.graph bytes ≡ only still_open
+  pub full : s.untaken ≡ 0
+  pub kind : why ≡ InputTooLong
+
+-- why a stream refuses these bytes
+abbrev pub IsReason : Stream → List ℕ → Kind → Type 0
+IsReason s bytes why = RefusesFirst s bytes why ⊎ (HoldsOneMore s bytes why ⊎ IsCutOff s bytes why)
+
+-- The next record is refused, and so is each further call. It was refused before, or the bytes say why: those that no
+-- answer had used, and the piece that was read.
 pub record Refuses (old new : Stream) (before : Option (List ℕ)) (fault : ShotFault) : Type 0 where
   pub number : fault.shot ≡ old.given
   pub gives : IfSome before (λ left. follows old left ≡ only (refused fault.kind))
+  pub piece : List ℕ
+  pub room : new.untaken + length piece ≡ old.untaken
+  pub reason : (old.stopped ≡ Some fault.kind) ⊎ IsReason new (old.rest ++ piece) fault.kind
   pub stops : new.stopped ≡ Some fault.kind
   pub again : (left : List ℕ) → follows new left ≡ only (refused fault.kind)
   pub others : new

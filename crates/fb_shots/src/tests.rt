@@ -1,8 +1,8 @@
-ghost use Rattle.std.specs.Prelude.{◌<◌, ◌≤◌, length};
+ghost use Rattle.std.specs.Prelude.{◌<◌};
 
 use super::*;
 use fb_graph::{Graph, GraphFault, Shot};
-use fb_ports::{Failed, Files, MemFiles};
+use fb_ports::{Files, MemFiles};
 use fb_shots_json::Kind as JsonKind;
 use fb_shots_stim::Kind as StimKind;
 use std::alloc::Global;
@@ -12,49 +12,6 @@ use std::test::Fail;
 fn row_of_five(alloc: Global) -> Result<Graph, GraphFault> {
     let edges = [(0, 1, 2), (1, 2, 4), (2, 3, 2), (3, 4, 6)];
     Graph::build(alloc, 5, &edges, &[0, 4])
-}
-
-/// Copies the front of some bytes into the front of a buffer, and answers how many they are.
-fn copy_front(bytes: &[u8], buf: &mut [u8]) -> usize
-    ensures within { result ≤ length bytes.now }
-    ensures fits { result ≤ length buf.new }
-{
-    let count = bytes.len().min(buf.len());
-    buf[..count].copy_from_slice(&bytes[..count]);
-    count
-}
-
-/// A file that is read in two pieces.
-#[derive(Drop)]
-struct InTwoPieces<'a> {
-    first: &'a [u8],
-    second: &'a [u8],
-}
-
-impl Files for InTwoPieces<'_> {
-    ghost use Rattle.std.specs.Prelude.{None};
-
-    ghost named = { λ _. None };
-
-    ghost left = { λ _. None };
-
-    ghost asked = { λ _. None };
-
-    ghost faults = { λ _. 0 };
-
-    fn open_file(&mut self, _name: String) -> Result<(), Failed> {
-        Ok(())
-    }
-
-    fn read(&mut self, buf: &mut [u8]) -> Result<usize, Failed> {
-        if self.first.is_empty() {
-            self.first = self.second;
-            self.second = &[];
-        }
-        let count = copy_front(self.first, buf);
-        self.first = &self.first[count..];
-        Ok(count)
-    }
 }
 
 /// The shots that a stream gives before its last answer, and that answer.
@@ -146,25 +103,6 @@ fn gives<F: Files>(
     Ok(ends && are_shots(&shots, vertices))
 }
 
-/// The same of each way to cut the text in two.
-fn gives_however_cut(
-    alloc: Global,
-    graph: &Graph,
-    format: Format,
-    text: &[u8],
-    vertices: &[&[u32]],
-    refusal: Option<Kind>,
-) -> Result<bool, NoMemory> {
-    for cut in 0..=text.len() {
-        let (first, second) = text.split_at(cut);
-        let mut files = InTwoPieces { first, second };
-        if !gives(alloc, graph, format, &mut files, vertices, refusal)? {
-            return Ok(false);
-        }
-    }
-    Ok(true)
-}
-
 const SHOTS_01: &[u8] = b"100\n010\r\n101";
 
 const SHOTS_B8: &[u8] = b"\x01\x02\x05\x08";
@@ -172,60 +110,6 @@ const SHOTS_B8: &[u8] = b"\x01\x02\x05\x08";
 const SHOTS_DETS: &[u8] = b"shot D0 L0 D2\n\nshot\nshot D1 D1\n";
 
 const SHOTS_JSON: &[u8] = b"{\"defect_vertices\":[3,1]}\n \r\n{\"defect_vertices\":[0]}";
-
-#[test]
-fn gives_the_same_shots_in_any_pieces(rt: HostRuntime) -> Result<(), Fail> {
-    let alloc = rt.alloc();
-    let graph = row_of_five(alloc)?;
-    let one = [1].as_slice();
-    let two = [2].as_slice();
-    let both = [1, 3].as_slice();
-    let none = [].as_slice();
-    let padding = Some(Kind::Stim(StimKind::PaddingBit));
-    let repeated = Some(Kind::Stim(StimKind::RepeatedIndex));
-    let virtual_one = Some(Kind::Json(JsonKind::DefectOnVirtual));
-    assert!(rt;
-        gives_however_cut(
-            alloc,
-            &graph,
-            Format::Text01,
-            SHOTS_01,
-            &[one, two, both],
-            None
-        )?
-    );
-    assert!(rt;
-        gives_however_cut(
-            alloc,
-            &graph,
-            Format::B8,
-            SHOTS_B8,
-            &[one, two, both],
-            padding
-        )?
-    );
-    assert!(rt;
-        gives_however_cut(
-            alloc,
-            &graph,
-            Format::Dets,
-            SHOTS_DETS,
-            &[both, none],
-            repeated
-        )?
-    );
-    assert!(rt;
-        gives_however_cut(
-            alloc,
-            &graph,
-            Format::Json,
-            SHOTS_JSON,
-            &[both],
-            virtual_one
-        )?
-    );
-    Ok(())
-}
 
 #[test]
 fn gives_the_same_shots_byte_by_byte(rt: HostRuntime) -> Result<(), Fail> {
@@ -337,88 +221,5 @@ fn goes_on_after_a_failed_read(rt: HostRuntime) -> Result<(), Fail> {
     assert!(rt; is_read_fault(&mut stream, &mut files));
     assert!(rt; is_shot(&mut stream, &mut files, &[3]));
     assert!(rt; is_end(&mut stream, &mut files));
-    Ok(())
-}
-
-/// Whether the only answer is this refusal.
-fn is_refused_at_once(
-    alloc: Global,
-    graph: &Graph,
-    format: Format,
-    text: &[u8],
-    kind: Kind,
-) -> Result<bool, Fail> {
-    let mut files = current(alloc, text, 100)?;
-    Ok(gives(alloc, graph, format, &mut files, &[], Some(kind))?)
-}
-
-#[test]
-fn refuses_in_01(rt: HostRuntime) -> Result<(), Fail> {
-    let alloc = rt.alloc();
-    let graph = row_of_five(alloc)?;
-    let one = [1].as_slice();
-    let mut files = current(alloc, b"100", 100)?;
-    assert!(rt; gives(alloc, &graph, Format::Text01, &mut files, &[one], None)?);
-    let mut files = current(alloc, b"100\n01", 100)?;
-    let short = Some(Kind::Stim(StimKind::ShortRecord));
-    assert!(rt; gives(alloc, &graph, Format::Text01, &mut files, &[one], short)?);
-    for (text, kind) in [
-        (b"1000".as_slice(), StimKind::LongRecord),
-        (b"1x".as_slice(), StimKind::BadByte),
-    ] {
-        assert!(rt; is_refused_at_once(alloc, &graph, Format::Text01, text, Kind::Stim(kind))?);
-    }
-    Ok(())
-}
-
-#[test]
-fn refuses_in_b8(rt: HostRuntime) -> Result<(), Fail> {
-    let alloc = rt.alloc();
-    let graph = Graph::build(alloc, 9, &[], &[])?;
-    let mut files = current(alloc, b"\x01\x01\x01\x02", 100)?;
-    let mut stream = ShotStream::new(alloc, Format::B8, &graph, 9)?;
-    assert!(rt; is_shot(&mut stream, &mut files, &[0, 8]));
-    assert!(rt; is_refused(&mut stream, &mut files, 1, Kind::Stim(StimKind::PaddingBit)));
-    assert!(rt; is_refused(&mut stream, &mut files, 1, Kind::Stim(StimKind::PaddingBit)));
-    let mut files = current(alloc, b"\x01\x01\x01", 100)?;
-    let mut stream = ShotStream::new(alloc, Format::B8, &graph, 9)?;
-    assert!(rt; is_shot(&mut stream, &mut files, &[0, 8]));
-    assert!(rt;
-        is_refused(
-            &mut stream,
-            &mut files,
-            1,
-            Kind::Stim(StimKind::ShortRecord)
-        )
-    );
-    Ok(())
-}
-
-#[test]
-fn refuses_in_json(rt: HostRuntime) -> Result<(), Fail> {
-    let alloc = rt.alloc();
-    let graph = row_of_five(alloc)?;
-    for (text, kind) in [
-        (
-            br#"{"defect_vertices":[0]}"#.as_slice(),
-            JsonKind::DefectOnVirtual,
-        ),
-        (
-            br#"{"defect_vertices":[5]}"#.as_slice(),
-            JsonKind::DefectOutOfRange,
-        ),
-        (
-            br#"{"defect_vertices":[1,1]}"#.as_slice(),
-            JsonKind::DefectRepeated,
-        ),
-        (br#"{"erasures":[]}"#.as_slice(), JsonKind::NoDefects),
-        (
-            br#"{"defect_vertices":[1],"erasures":[2]}"#.as_slice(),
-            JsonKind::ErasureNotTaken,
-        ),
-        (b"{".as_slice(), JsonKind::NotJson),
-    ] {
-        assert!(rt; is_refused_at_once(alloc, &graph, Format::Json, text, Kind::Json(kind))?);
-    }
     Ok(())
 }

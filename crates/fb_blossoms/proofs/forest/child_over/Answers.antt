@@ -1,5 +1,5 @@
 use Rattle.std.proofs.Common.{◌≡◌, Some, suc, sym, ◌∙◌}
-use Rattle.fb_blossoms.specs.Forest.{parent_at}
+use Rattle.fb_blossoms.specs.InternalForest.{parent_at}
 use Rattle.fb_blossoms.proofs.Climbs.{climb_more, climb_on}
 use Rattle.fb_blossoms.proofs.forest.child_over.Goals as goal
 

@@ -1,5 +1,5 @@
 use Rattle.std.proofs.Common.{◌-◌, ℕ, suc}
-use Rattle.fb_blossoms.specs.Forest.{Climbs, made_at}
+use Rattle.fb_blossoms.specs.InternalForest.{Climbs, made_at}
 use Rattle.fb_blossoms.proofs.forest.child_over.Given as goal
 
 abbrev pub invariant-loop-parent : goal.invariant-loop-parent

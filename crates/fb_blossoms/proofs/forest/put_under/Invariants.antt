@@ -1,7 +1,7 @@
 use Rattle.std.proofs.Common.{◌≡◌, ℕ, if◌then◌else◌, option_map, take}
 use Rattle.slab.specs.Slab.{HasRoomFor, get}
 use Rattle.fb_blossoms.specs.Nodes.{is_on}
-use Rattle.fb_blossoms.specs.Forest.{under}
+use Rattle.fb_blossoms.specs.InternalForest.{under}
 use Rattle.fb_blossoms.proofs.forest.put_under.Given as goal
 
 abbrev pub invariant-loop-step : goal.invariant-loop-step

@@ -1,5 +1,5 @@
 use Rattle.std.proofs.Common.{◌≡◌, Some, suc, sym, ◌∙◌}
-use Rattle.fb_blossoms.specs.Forest.{parent_at}
+use Rattle.fb_blossoms.specs.InternalForest.{parent_at}
 use Rattle.fb_blossoms.proofs.Climbs.{climb_more, kept_parent}
 use Rattle.fb_blossoms.proofs.forest.top_of.Goals as goal
 

@@ -1,5 +1,5 @@
 use Rattle.std.proofs.Common.{◌≡◌, ◌-◌, ℕ, true}
-use Rattle.fb_blossoms.specs.Forest.{Climbs, is_kept, made_at}
+use Rattle.fb_blossoms.specs.InternalForest.{Climbs, is_kept, made_at}
 use Rattle.fb_blossoms.proofs.forest.top_of.Given as goal
 
 abbrev pub invariant-loop-parent : goal.invariant-loop-parent

@@ -1,13 +1,41 @@
-use Rattle.fb_blossoms.proofs.Turns.{replaced_as, replaced_by_none, two_held}
+use Rattle.std.proofs.Common.{ℕ, List, reverse, [], ◌∷◌, ◌++◌, refl, sym, subst}
+use Rattle.fb_blossoms.specs.declared.legs.Leg.{Leg}
+use Rattle.fb_blossoms.specs.declared.legs.Ends.{Ends}
+use Rattle.fb_blossoms.specs.declared.legs.Leg.TheVariants.{Inside}
+use Rattle.fb_blossoms.specs.InternalWays.{LeadsDown}
+use Rattle.fb_blossoms.specs.InternalLegs.{Replaces}
+use Rattle.fb_blossoms.proofs.Turns.{on_ok, replaced_by_child, replaced_by_none, replaces_as, way_shorter_by}
 use Rattle.fb_blossoms.proofs.legs.go_inside.Goals as goal
 
-pub returns-then-from-to-clause-legs : goal.returns-then-from-to-clause-legs
-returns-then-from-to-clause-legs c = replaced_by_none c.args.links.now c.args.blossoms.now _ c.args.node c.args.from c.args.to c.if-from-to.true
+pub returns-then-from-to : goal.returns-then-from-to
+returns-then-from-to c =
+    replaced_by_none c.args.nest.now.links.now c.args.nest.now.blossoms.now c.keeps.ensures c.args.todo.now.items c.args.node c.args.ends c.requires.leg c.if-from-to.true
 
-pub legs_between-requires-clause-blossom : goal.legs_between-requires-clause-blossom
-legs_between-requires-clause-blossom c =
-    two_held c.args.blossoms.now c.args.node c.args.from c.args.to c.keeps.ensures c.requires.leg.0 c.requires.leg.1 c.if-from-to.false
+pub returns-then-first-last : goal.returns-then-first-last
+returns-then-first-last c =
+    let links = c.args.nest.now.links.now in
+    let nodes = c.args.nest.now.blossoms.now in
+    let from = way_shorter_by nodes c.args.node c.args.ends.from.defect c.in-Some-Some.first _ c.pop.new.self.items c.requires.leg.0 c.in-Some-Some.ensures.items in
+    let to = way_shorter_by nodes c.args.node c.args.ends.to.defect c.in-Some-Some.last _ c.pop-2.new.self.items c.requires.leg.1 c.in-Some-Some.ensures'.items in
+    let inner : Ends = record {
+      from = record { defect = c.args.ends.from.defect; through = c.pop.new.self };
+      to = record { defect = c.args.ends.to.defect; through = c.pop-2.new.self };
+    } in
+    let P : ℕ → Type 0 = λ x. LeadsDown nodes x c.args.ends.to.defect (reverse c.pop-2.new.self.items) in
+    let Q : List Leg → Type 0 = Replaces links nodes c.args.todo.now.items (Inside c.args.node c.args.ends) [] in
+    on_ok _ _ c.push_leg.result
+    (λ e.
+    subst Q (sym e)
+    (replaced_by_child links nodes c.keeps.ensures c.args.todo.now.items c.args.node c.in-Some-Some.first c.args.ends inner (c.requires.linked c.args.node) from.0
+    (from.1, subst P (sym c.if-first-last.true) to.1) refl refl))
+    c.push_leg.ensures
 
-pub returns-clause-legs : goal.returns-clause-legs
-returns-clause-legs c =
-    replaced_as c.args.links.now c.args.blossoms.now _ c.in_ok-legs.legs.items c.deref.result.now _ c.args.node c.args.from c.args.to c.in_ok-legs.ensures.legs c.deref.ensures.value c.in-Ok.ensures.items
+pub returns : goal.returns
+returns c =
+    let links = c.args.nest.now.links.now in
+    let nodes = c.args.nest.now.blossoms.now in
+    let inner : Ends = record {
+      from = record { defect = c.args.ends.from.defect; through = c.pop.new.self };
+      to = record { defect = c.args.ends.to.defect; through = c.pop-2.new.self };
+    } in
+    on_ok _ _ c.push_round.result (replaces_as links nodes c.args.todo.now.items c.push_round.new.todo.items c.args.node inner c.args.ends refl refl) c.push_round.ensures

@@ -1,4 +1,4 @@
-use Rattle.fb_laws.proofs.RingReads.{round_read, second_by_number, second_count, second_read, way_by_number}
+use Rattle.fb_laws.proofs.RingReads.{beside_by_number, round_length, round_read, second_by_number, second_count, second_read, way_by_number}
 use Rattle.fb_laws.proofs.rings.ring_reads.Goals as goal
 
 pub returns-clause-round : goal.returns-clause-round
@@ -15,3 +15,9 @@ returns-clause-numbers c = second_by_number
 
 pub returns-clause-way : goal.returns-clause-way
 returns-clause-way c = way_by_number
+
+pub returns-clause-length : goal.returns-clause-length
+returns-clause-length c = round_length
+
+pub returns-clause-beside : goal.returns-clause-beside
+returns-clause-beside c = beside_by_number

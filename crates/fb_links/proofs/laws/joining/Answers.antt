@@ -1,9 +1,12 @@
-use Rattle.fb_links.proofs.Turns.{Runs-ends, Runs-turned, Runs-append, weight-turned, weight-append, turned_link}
+use Rattle.fb_links.proofs.Turns.{Runs-chained, Runs-ends, Runs-turned, Runs-append, weight-turned, weight-append, turned_link}
 use Rattle.fb_links.proofs.Joins.{joined_walk}
 use Rattle.fb_links.proofs.laws.joining.Goals as goal
 
 pub returns-clause-ends : goal.returns-clause-ends
 returns-clause-ends c = Runs-ends
+
+pub returns-clause-chained : goal.returns-clause-chained
+returns-clause-chained c = Runs-chained
 
 pub returns-clause-back : goal.returns-clause-back
 returns-clause-back c = Runs-turned

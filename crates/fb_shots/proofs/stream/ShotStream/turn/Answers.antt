@@ -1,5 +1,5 @@
 use Rattle.std.proofs.Common.{◌≡◌, None, rules}
-use Rattle.fb_shots.proofs.Turns.{shot_turn, end_turn, too_many_turn, refused_turn, piece_turn, fault_turn}
+use Rattle.fb_shots.proofs.Turns.{shot_turn, end_turn, too_many_turn, refused_turn, piece_turn, fault_turn, too_long_turn}
 use Rattle.fb_shots.proofs.stream.ShotStream.turn.Goals as goal
 
 pub returns-then-self-clause-step : goal.returns-then-self-clause-step
@@ -51,3 +51,12 @@ returns-in-Fault-clause-step g c =
     c.self.inside.untaken c.read_on.new.untaken c.self.inside.given c.self.inside.limit c.self.inside.stopped c.in-Ok-next.next _ _
     (record { view = c.self.view_is; runs = none; feeds = c.in-Ok.ensures.ok; answers = c.in-Ok-next.ensures.meaning })
     c.in-NotYet.is c.in-Fault.ensures.reads
+
+pub returns-in-TooLong-clause-step : goal.returns-in-TooLong-clause-step
+returns-in-TooLong-clause-step g c =
+    let none : c.self.inside.stopped ≡ None = search rules in
+    too_long_turn _ _ c.self.inside.reader c.feed.new.reader c.next.new.self c.read_on.new.reader
+    c.self.inside.piece c.feed.new.piece c.read_on.new.piece
+    c.self.inside.untaken c.read_on.new.untaken c.self.inside.given c.self.inside.limit c.self.inside.stopped c.in-Ok-next.next _ _ _
+    (record { view = c.self.view_is; runs = none; feeds = c.in-Ok.ensures.ok; answers = c.in-Ok-next.ensures.meaning })
+    c.in-NotYet.is c.in-TooLong.ensures.reads c.refuse-in-TooLong.ensures.stops c.refuse-in-TooLong.ensures.step

@@ -1,0 +1,111 @@
+-- What a store keeps of the nodes as they are stored.
+use Rattle.std.specs.Prelude.{ℕ, zero, suc, ◌≡◌, ◌<◌, ◌%◌, ◌≤◌, ◌⊎◌, Bool, true, List, [], ◌∷◌, ◌++◌, map, length, flat_map, get_or, Option, Some, None, is_some, option_map}
+use Rattle.fb_links.specs.declared.cycle.CycleStep.{CycleStep}
+use Rattle.fb_blossoms.specs.InternalItems.{Item}
+use Rattle.fb_blossoms.specs.Nodes.{Node, AreDistinct, is_in, is_on}
+
+abbrev pub item_at : List (Option Item) → ℕ → Option Item
+item_at slots name = get_or slots name None
+
+abbrev pub parent_in : Option Item → Option ℕ
+parent_in None = None
+parent_in (Some i) = i.parent
+
+abbrev pub made_in : Option Item → ℕ
+made_in None = 0
+made_in (Some i) = i.made
+
+abbrev pub own_in : Option Item → List ℕ
+own_in None = []
+own_in (Some i) = i.own
+
+abbrev pub cycle_in : Option Item → List CycleStep
+cycle_in None = []
+cycle_in (Some i) = i.cycle
+
+abbrev pub parent_at : List (Option Item) → ℕ → Option ℕ
+parent_at slots name = parent_in (item_at slots name)
+
+abbrev pub made_at : List (Option Item) → ℕ → ℕ
+made_at slots name = made_in (item_at slots name)
+
+abbrev pub own_at : List (Option Item) → ℕ → List ℕ
+own_at slots name = own_in (item_at slots name)
+
+abbrev pub steps_at : List (Option Item) → ℕ → List CycleStep
+steps_at slots name = cycle_in (item_at slots name)
+
+abbrev pub is_kept : List (Option Item) → ℕ → Bool
+is_kept slots name = is_some (item_at slots name)
+
+-- the defects of a node, down to so many levels
+abbrev pub defects_in : List (Option Item) → ℕ → ℕ → List ℕ
+defects_in slots zero name = []
+defects_in slots (suc levels) name =
+    own_at slots name ++ flat_map (λ s. defects_in slots levels s.node) (steps_at slots name)
+
+-- the node that an item is: each child was made before it, so that it has no more levels than nodes made before it
+abbrev pub node_of : List (Option Item) → Item → Node
+node_of slots i = record { defects = i.own ++ flat_map (λ s. defects_in slots i.made s.node) i.cycle; cycle = i.cycle }
+
+abbrev pub nodes_of : List (Option Item) → List (Option Node)
+nodes_of slots = map (option_map (node_of slots)) slots
+
+-- no defect of its own, and an odd cycle
+pub record IsOddItem (own : List ℕ) (cycle : List CycleStep) : Type 0 where
+  pub bare : own ≡ []
+  pub odd : length cycle % 2 ≡ 1
+  pub three : 3 ≤ length cycle
+  pub distinct : AreDistinct cycle
+
+-- one defect, and no cycle
+pub record IsLeafItem (own : List ℕ) (cycle : List CycleStep) : Type 0 where
+  pub defect : ℕ
+  pub alone : own ≡ defect ∷ []
+  pub bare : cycle ≡ []
+
+abbrev pub IsItem : List ℕ → List CycleStep → Type 0
+IsItem own cycle = IsLeafItem own cycle ⊎ IsOddItem own cycle
+
+pub record IsForest (slots : List (Option Item)) (made : ℕ) : Type 0 where
+  pub shaped : (x : ℕ) → is_kept slots x ≡ true → IsItem (own_at slots x) (steps_at slots x)
+  pub young : (x : ℕ) → is_kept slots x ≡ true → made_at slots x < made
+  -- a node's parent is the blossom that has it in its cycle, and was made after it
+  pub up : (x p : ℕ) → parent_at slots x ≡ Some p → is_on (steps_at slots p) x ≡ true
+  pub down : (x p : ℕ) → is_on (steps_at slots p) x ≡ true → parent_at slots x ≡ Some p
+  pub older : (x p : ℕ) → parent_at slots x ≡ Some p → made_at slots x < made_at slots p
+
+-- the map has the leaf of each defect
+pub record IsKept (slots : List (Option Item)) (leaf_named : ℕ → Option ℕ) (made : ℕ) : Type 0 where
+  pub forest : IsForest slots made
+  pub leaf_at : (d x : ℕ) → leaf_named d ≡ Some x → own_at slots x ≡ d ∷ []
+  pub leaf_of : (d x : ℕ) → is_in (own_at slots x) d ≡ true → leaf_named d ≡ Some x
+
+-- the item under another parent
+abbrev pub under : Option ℕ → Item → Item
+under parent i = record i { parent = parent }
+
+-- so many steps up from the one node lead to the other
+abbrev pub Climbs : List (Option Item) → ℕ → ℕ → ℕ → Type 0
+Climbs slots zero x top = x ≡ top
+Climbs slots (suc k) x top = (p : ℕ) × (parent_at slots x ≡ Some p) × Climbs slots k p top
+
+-- the defects that an item's node holds
+abbrev pub held_at : List (Option Item) → ℕ → List ℕ
+held_at slots name = defects_in slots (suc (made_at slots name)) name
+
+-- the outer node above the node
+pub record IsTopOf (slots : List (Option Item)) (name top : ℕ) : Type 0 where
+  pub kept : is_kept slots top ≡ true
+  pub outermost : parent_at slots top ≡ None
+  pub climbs : (k : ℕ) × Climbs slots k name top
+
+-- the child of the node that is on the way up from the leaf
+pub record IsChildOver (slots : List (Option Item)) (name leaf child : ℕ) : Type 0 where
+  pub child_of : parent_at slots child ≡ Some name
+  pub climbs : (k : ℕ) × Climbs slots k leaf child
+
+-- the items below the node down to the leaf, each the child of the one before
+abbrev pub LeadsDownTo : List (Option Item) → ℕ → ℕ → List ℕ → Type 0
+LeadsDownTo slots name leaf [] = name ≡ leaf
+LeadsDownTo slots name leaf (x ∷ xs) = (parent_at slots x ≡ Some name) × LeadsDownTo slots x leaf xs

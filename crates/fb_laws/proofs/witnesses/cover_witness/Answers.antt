@@ -1,5 +1,0 @@
-use Rattle.fb_laws.proofs.SampleStates.{cover_witness}
-use Rattle.fb_laws.proofs.witnesses.cover_witness.Goals as goal
-
-pub returns : goal.returns
-returns c = cover_witness

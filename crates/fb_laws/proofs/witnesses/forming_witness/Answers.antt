@@ -1,5 +1,0 @@
-use Rattle.fb_laws.proofs.SampleCycles.{forming_witness}
-use Rattle.fb_laws.proofs.witnesses.forming_witness.Goals as goal
-
-pub returns : goal.returns
-returns c = forming_witness

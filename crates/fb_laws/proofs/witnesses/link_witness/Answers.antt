@@ -1,5 +1,0 @@
-use Rattle.fb_laws.proofs.SampleStates.{link_witness}
-use Rattle.fb_laws.proofs.witnesses.link_witness.Goals as goal
-
-pub returns : goal.returns
-returns c = link_witness

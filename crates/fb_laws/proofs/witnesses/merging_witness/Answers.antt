@@ -1,5 +1,0 @@
-use Rattle.fb_laws.proofs.SampleSeams.{merging_witness}
-use Rattle.fb_laws.proofs.witnesses.merging_witness.Goals as goal
-
-pub returns : goal.returns
-returns c = merging_witness

@@ -1,5 +1,0 @@
-use Rattle.fb_laws.proofs.SampleLevels.{opening_witness}
-use Rattle.fb_laws.proofs.witnesses.opening_witness.Goals as goal
-
-pub returns : goal.returns
-returns c = opening_witness

@@ -1,0 +1,62 @@
+-- Looks at one thing after another.
+use Rattle.std.proofs.Common.{ℕ, ◌≡◌, ◌+◌, ◌≤◌, ◌<◌, ◌∷◌, ◌++◌, List, [], length, get_or, take, take_all, All, sym, subst, arith}
+use Rattle.std.proofs.lemmas.List.Elements.{All-nil, All-push}
+use Rattle.std.proofs.lemmas.List.{take_more}
+use Rattle.fb_graph.proofs.Nodes.{All-below, All-top}
+use Rattle.fb_obstacles.specs.declared.obstacle.Obstacle.{Obstacle}
+use Rattle.fb_obstacles.specs.declared.looking.Look.{Look}
+use Rattle.fb_obstacles.specs.declared.looking.Look.TheVariants.{Clear, Within, Blocked}
+use Rattle.fb_obstacles.specs.InternalLooks.{both_looks, Limits}
+
+-- the same lengths told otherwise
+pub limits_same : (A B : ℕ → Type 0) (S : Obstacle → Type 0) (l : Look) → ((j : ℕ) → A j → B j) → ((j : ℕ) → B j → A j)
+    → Limits A S l → Limits B S l
+limits_same A B S Clear there back limits = λ j. there j (limits j)
+limits_same A B S (Within b) there back limits = (limits.0, λ j le. there j (limits.1 j le), λ j h. limits.2 j (back j h))
+limits_same A B S (Blocked o) there back limits = limits
+
+-- two looks in one
+pub limits_both : (A B : ℕ → Type 0) (S : Obstacle → Type 0) (a b : Look) → Limits A S a → Limits B S b
+    → Limits (λ j. A j × B j) S (both_looks a b)
+limits_both A B S (Blocked o) b first second = first
+limits_both A B S Clear (Blocked o) first second = second
+limits_both A B S (Within i) (Blocked o) first second = second
+limits_both A B S Clear Clear first second = λ j. (first j, second j)
+limits_both A B S Clear (Within k) first second =
+    (second.0, λ j le. (first j, second.1 j le), λ j h. second.2 j h.1)
+limits_both A B S (Within i) Clear first second =
+    (first.0, λ j le. (first.1 j le, second j), λ j h. first.2 j h.0)
+limits_both A B S (Within i) (Within k) first second = (
+  let one = first.0 in let other = second.0 in omega (arith, one, other),
+  λ j le. (first.1 j (omega arith), second.1 j (omega arith)),
+  λ j h. let one = first.2 j h.0 in let other = second.2 j h.1 in omega (arith, one, other),
+)
+
+-- nothing was looked at
+pub limits_none : (P : ℕ → ℕ → Type 0) (S : Obstacle → Type 0) → Limits (λ j. All (P j) []) S Clear
+limits_none P S j = All-nil (P j)
+
+-- one more of a list is looked at
+pub limits_more : (P : ℕ → ℕ → Type 0) (S : Obstacle → Type 0) (xs : List ℕ) (i : ℕ) (a b : Look) → i < length xs
+    → Limits (λ j. All (P j) (take i xs)) S a → Limits (λ j. P j (get_or xs i 0)) S b
+    → Limits (λ j. All (P j) (take (i + 1) xs)) S (both_looks a b)
+limits_more P S xs i a b less first second =
+    subst (λ ys. Limits (λ j. All (P j) ys) S (both_looks a b)) (sym (take_more xs i 0 less))
+    (limits_same (λ j. All (P j) (take i xs) × P j (get_or xs i 0))
+    (λ j. All (P j) (take i xs ++ get_or xs i 0 ∷ [])) S (both_looks a b)
+    (λ j h. All-push (P j) (take i xs) (get_or xs i 0) h.0 h.1)
+    (λ j h. (
+      All-below (P j) (take i xs) (get_or xs i 0) h,
+      All-top (P j) (take i xs) (get_or xs i 0) h,
+    ))
+    (limits_both (λ j. All (P j) (take i xs)) (λ j. P j (get_or xs i 0)) S a b first second))
+
+-- where an obstacle stands, it doesn't matter what else was looked at
+pub limits_blocked : (A B : ℕ → Type 0) (S : Obstacle → Type 0) (l : Look) (o : Obstacle) → l ≡ Blocked o
+    → Limits A S l → Limits B S l
+limits_blocked A B S l o is limits = subst (Limits B S) (sym is) (subst (Limits A S) is limits)
+
+-- all of a list was looked at
+pub limits_whole : (P : ℕ → ℕ → Type 0) (S : Obstacle → Type 0) (xs : List ℕ) (n : ℕ) (l : Look) → length xs ≤ n
+    → Limits (λ j. All (P j) (take n xs)) S l → Limits (λ j. All (P j) xs) S l
+limits_whole P S xs n l whole limits = subst (λ ys. Limits (λ j. All (P j) ys) S l) (take_all n xs whole) limits

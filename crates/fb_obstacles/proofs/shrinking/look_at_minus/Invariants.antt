@@ -1,0 +1,10 @@
+use Rattle.std.proofs.Common.{take, All}
+use Rattle.fb_graph.specs.Problem.{Problem}
+use Rattle.fb_obstacles.specs.Obstacles.{Obstructs, roles_by}
+use Rattle.fb_obstacles.specs.InternalLooks.{BearsShrinking, Limits}
+use Rattle.fb_obstacles.proofs.shrinking.look_at_minus.Given as goal
+
+abbrev pub invariant-loop-place : goal.invariant-loop-place
+invariant-loop-place g l =
+    (p : Problem) → Limits (λ j. All (BearsShrinking l.regions.nodes j) (take l.place (g.R.MinusNodes.minus_names l.roles)))
+    (Obstructs p (roles_by (g.R.Roles.role_of l.roles)) l.regions.nodes) l.least

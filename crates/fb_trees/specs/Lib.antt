@@ -1,0 +1,9 @@
+pub mod Branches
+pub mod InternalNames
+pub mod InternalPaths
+pub mod InternalPlaces
+pub mod InternalSamples
+pub mod Replacements
+pub mod Rooted
+pub mod TreeLinks
+pub mod TreeSteps

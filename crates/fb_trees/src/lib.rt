@@ -1,0 +1,19 @@
+//! The alternating tree of one search (Edmonds 1965).
+
+#![tactic(auto)]
+
+pub mod branch;
+mod changes;
+pub mod laws;
+mod places;
+mod steps;
+#[cfg(test)]
+mod tests;
+pub mod tree;
+
+pub use branch::Branch;
+pub use fb_graph::NoMemory;
+pub use fb_links::{CycleStep, LinkId, Links, NodeId};
+pub use fb_regions::{Role, Roles};
+pub use laws::{changes_by_number, links_by_number};
+pub use tree::Tree;

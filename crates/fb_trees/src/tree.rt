@@ -1,0 +1,280 @@
+ghost use Rattle.std.specs.Prelude.{◌≡◌, ◌≢◌, ◌++◌, ℕ, true, false, map, IfOk, OnErr, OnOk};
+ghost use Rattle.std.specs.Option.{option_map};
+ghost use Rattle.fb_laws.specs.Trees.{path_to};
+ghost use Rattle.fb_trees.specs.Branches.{Grown, entries_of, entry_of};
+ghost use Rattle.fb_trees.specs.Rooted.{IsPlus, IsRooted, attached, bare, is_node, role_in};
+ghost use Rattle.fb_trees.specs.Replacements.{IsOpened, IsReplaced, MayJoin, MayOpen, MayReplace, joined};
+ghost use Rattle.fb_trees.specs.TreeSteps.{IsCycle, path_up, steps_up};
+ghost use Rattle.fb_trees.specs.InternalPlaces.{branch_at};
+
+use crate::changes::{joined_branches, names_of, opened_branches, renamed};
+use crate::places::{Places, make_room, places_of, put_branch};
+use crate::steps::{cycle_along, last_plus, push_step, push_up, shared_count};
+use crate::{Branch, CycleStep, LinkId, Links, NoMemory, NodeId, Role, Roles};
+use std::alloc::Global;
+use std::collections::HashMap;
+use std::marker::Model;
+
+/// The alternating tree of one search (Edmonds 1965). Contracts see its root and its branches, the newest one first. A
+/// call that returns `NoMemory` leaves the tree as it was.
+#[derive(Drop)]
+pub struct Tree {
+    root: NodeId,
+    /// The oldest one first.
+    branches: Vec<Branch>,
+    /// The place in `branches` of the branch of each node but the root.
+    places: Places,
+}
+
+impl Model for Tree {
+    ghost use Rattle.fb_trees.specs.Branches.{Grown, grown_code, entries_of};
+    ghost use Rattle.fb_trees.specs.InternalPlaces.{IsKept};
+
+    ghost Value = { Grown };
+
+    ghost coded = { grown_code };
+
+    ghost view = { λ t. record { root = t.root; branches = entries_of t.branches.items } };
+
+    ghost invariant = { λ t. IsKept t.root (entries_of t.branches.items) t.places };
+}
+
+impl Tree {
+    /// The tree of the root alone, a plus node.
+    pub fn start(alloc: Global, root: NodeId) -> Result<Tree, NoMemory>
+        ensures { IfOk result (λ tree. tree ≡ bare root) }
+    {
+        Ok(Tree {
+            root,
+            branches: Vec::new(alloc),
+            places: HashMap::new(alloc),
+        })
+    }
+
+    /// Does nothing. Its clause says what every tree keeps.
+    pub fn keeps(&self)
+        ensures { IsRooted self.now.root self.now.branches }
+    {
+        let _ = &self.places;
+    }
+
+    /// Puts `minus` under the plus node by the link, and the node of `matched` under `minus` by the link of `matched`,
+    /// which it is matched by.
+    pub fn attach(
+        &mut self,
+        _alloc: Global,
+        plus: NodeId,
+        link: LinkId,
+        minus: NodeId,
+        matched: CycleStep,
+        _links: &Links,
+    ) -> Result<(), NoMemory>
+        requires plus { IsPlus self.old plus }
+        requires minus { is_node self.old minus ≡ false }
+        requires matched { is_node self.old matched.node ≡ false }
+        requires apart { minus ≢ matched.node }
+        ensures ok { OnOk result (self.new ≡ attached self.old (record { parent = plus; tree = link; minus = minus; matched = matched.link; plus = matched.node })) }
+        ensures err { OnErr result (self.new ≡ self.old) }
+    {
+        // The table and the list grow by the allocator that they were made with.
+        make_room(&mut self.places)?;
+        self.branches.reserve(1)?;
+        let branch = Branch {
+            parent: plus,
+            tree: link,
+            minus,
+            matched: matched.link,
+            plus: matched.node,
+        };
+        put_branch(&mut self.places, &branch, self.branches.len());
+        self.branches.push_reserved(branch);
+        Ok(())
+    }
+
+    /// The root of the tree.
+    pub fn root(&self) -> NodeId
+        ensures { result ≡ self.now.root }
+    {
+        self.root
+    }
+
+    /// The branches, the oldest one first. The tree's nodes are its root, a plus node, and those of its branches.
+    pub fn branches(&self) -> &[Branch]
+        ensures { entries_of result.now ≡ self.now.branches }
+    {
+        &self.branches
+    }
+
+    /// The role of the node; `Out` if it is not in the tree.
+    pub fn role(&self, node: NodeId) -> Role
+        ensures { result ≡ role_in self.now node }
+    {
+        match self.branch_of(node) {
+            Some(branch) => if branch.plus == node {
+                Role::Plus
+            } else {
+                Role::Minus
+            },
+            None => if self.root == node {
+                Role::Plus
+            } else {
+                Role::Out
+            },
+        }
+    }
+
+    /// The nodes from a node of the tree up, each with the link to its parent. The root is not listed.
+    pub fn path_to_root(&self, alloc: Global, node: NodeId) -> Result<Vec<CycleStep>, NoMemory>
+        requires { is_node self.now node ≡ true }
+        ensures { IfOk result (λ path. path.items ≡ path_up self.now node) }
+    {
+        let mut path = Vec::new(alloc);
+        match self.branch_of(node) {
+            Some(branch) if branch.minus == node => {
+                push_step(&mut path, node, branch.tree)?;
+                self.push_path(alloc, branch.parent, &mut path)?;
+                Ok(path)
+            }
+            _ => {
+                self.push_path(alloc, node, &mut path)?;
+                Ok(path)
+            }
+        }
+    }
+
+    /// The cycle that a link between the plus nodes a and b closes, from its base on, where the paths to the two part.
+    /// Each step's link leads to the next step's node, that of the last one back to the base.
+    pub fn cycle_of(
+        &self,
+        alloc: Global,
+        a: NodeId,
+        b: NodeId,
+        closing: LinkId,
+        _links: &Links,
+    ) -> Result<Vec<CycleStep>, NoMemory>
+        requires first { IsPlus self.now a }
+        requires second { IsPlus self.now b }
+        requires apart { a ≢ b }
+        ensures { IfOk result (λ cycle. IsCycle self.now a b closing cycle.items) }
+    {
+        let up = self.branches_to(alloc, a)?;
+        let down = self.branches_to(alloc, b)?;
+        let shared = shared_count(&up, &down);
+        let (shared_up, up) = up.split_at(shared);
+        let (_shared_down, down) = down.split_at(shared);
+        cycle_along(alloc, last_plus(self.root, shared_up), up, closing, down)
+    }
+
+    /// Adds the nodes from the plus node up, each with the link to its parent.
+    fn push_path(
+        &self,
+        alloc: Global,
+        plus: NodeId,
+        steps: &mut Vec<CycleStep>,
+    ) -> Result<(), NoMemory>
+        requires { IsPlus self.now plus }
+        ensures { OnOk result (steps.new.items ≡ steps.old.items ++ steps_up (path_to self.now.branches plus)) }
+    {
+        let path = self.branches_to(alloc, plus)?;
+        push_up(steps, &path)
+    }
+
+    /// Takes the nodes of `gone` out of the tree and puts those of `path` in their place. For a blossom formed of a
+    /// cycle, `gone` is the cycle's nodes and `path` is the blossom. For a minus blossom opened, `gone` is the blossom,
+    /// and `path` leads over its children from the one at which the link of the tree ends to the one at which the matched
+    /// link ends: each step's link leads to the next child, and the last step's is not read.
+    ///
+    /// Takes time for each branch of the tree.
+    pub fn replace(
+        &mut self,
+        alloc: Global,
+        gone: &[NodeId],
+        path: &[CycleStep],
+        _links: &Links,
+    ) -> Result<(), NoMemory>
+        requires { MayReplace self.old gone.now path.now }
+        ensures ok { OnOk result (IsReplaced self.old gone.now path.now self.new) }
+        ensures err { OnErr result (self.new ≡ self.old) }
+    {
+        match (gone, path) {
+            ([blossom], _) => self.open(alloc, *blossom, path),
+            ([_, _, ..], [blossom]) => self.join(alloc, gone, blossom.node),
+            _ => unreachable!(),
+        }
+    }
+
+    /// Puts the blossom in the place of the nodes.
+    fn join(&mut self, alloc: Global, gone: &[NodeId], blossom: NodeId) -> Result<(), NoMemory>
+        requires { MayJoin self.old gone.now blossom }
+        ensures ok { OnOk result (self.new ≡ joined self.old gone.now blossom) }
+        ensures err { OnErr result (self.new ≡ self.old) }
+    {
+        let inside = names_of(alloc, gone)?;
+        let branches = joined_branches(alloc, &self.branches, &inside, blossom)?;
+        let root = renamed(self.root, &inside, blossom);
+        *self = Tree::of(alloc, root, branches)?;
+        Ok(())
+    }
+
+    /// Puts the nodes of the path in the place of the minus node.
+    fn open(&mut self, alloc: Global, blossom: NodeId, path: &[CycleStep]) -> Result<(), NoMemory>
+        requires { MayOpen self.old blossom path.now }
+        ensures ok { OnOk result (IsOpened self.old blossom path.now self.new) }
+        ensures err { OnErr result (self.new ≡ self.old) }
+    {
+        let Some(place) = self.places.get(&blossom) else {
+            unreachable!()
+        };
+        let branches = opened_branches(alloc, &self.branches, *place, path)?;
+        *self = Tree::of(alloc, self.root, branches)?;
+        Ok(())
+    }
+
+    /// The tree of these branches, the oldest one first.
+    fn of(alloc: Global, root: NodeId, branches: Vec<Branch>) -> Result<Tree, NoMemory>
+        requires { IsRooted root (entries_of branches.items) }
+        ensures { IfOk result (λ tree. tree ≡ record { root = root; branches = entries_of branches.items }) }
+    {
+        let places = places_of(alloc, &branches)?;
+        Ok(Tree {
+            root,
+            branches,
+            places,
+        })
+    }
+
+    /// The branches from the root to the plus node, the one at the root first.
+    fn branches_to(&self, alloc: Global, plus: NodeId) -> Result<Vec<Branch>, NoMemory>
+        requires { IsPlus self.now plus }
+        ensures path { IfOk result (λ path. map entry_of path.items ≡ path_to self.now.branches plus) }
+        ensures kept { IsRooted self.now.root self.now.branches }
+    {
+        let mut path = Vec::new(alloc);
+        let mut node = plus;
+        while let Some(branch) = self.branch_of(node) {
+            path.push(branch)?;
+            node = branch.parent;
+        }
+        path.reverse();
+        Ok(path)
+    }
+
+    /// The branch of the node. The root has none.
+    fn branch_of(&self, node: NodeId) -> Option<Branch>
+        ensures kept { IsRooted self.now.root self.now.branches }
+        ensures branch { option_map entry_of result ≡ branch_at self.now.branches node }
+    {
+        match self.places.get(&node) {
+            Some(place) => Some(self.branches[*place]),
+            None => None,
+        }
+    }
+}
+
+impl Roles for Tree {
+    ghost role_of = { λ tree node. role_in tree node };
+
+    fn role(&self, node: NodeId) -> Role {
+        self.role(node)
+    }
+}

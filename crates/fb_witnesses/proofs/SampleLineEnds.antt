@@ -1,0 +1,55 @@
+-- The whole states of two ends of a line, before they are fused.
+use Rattle.std.proofs.Common.{ℕ, ◌≡◌, true, List, [], ◌∷◌}
+use Rattle.std.proofs.lemmas.Bool.{false≢true}
+use Rattle.std.proofs.lemmas.List.Elements.{All-from_recursion, All-nil}
+use Rattle.fb_graph.specs.Parity.{is_in}
+use Rattle.fb_graph.specs.Problem.{Problem}
+use Rattle.fb_graph.specs.Laws.{Link}
+use Rattle.fb_graph.specs.Dual.{Node, all_cuts, leaves}
+use Rattle.fb_graph.specs.Links.{IsTightLink}
+use Rattle.fb_graph.specs.Nests.{child_sets}
+use Rattle.fb_graph.specs.Sprouts.{nodes_of}
+use Rattle.fb_laws.specs.Fusion.{IsLinkOf}
+use Rattle.fb_laws.specs.NestedSearches.{IsNestedWork}
+use Rattle.fb_laws.specs.PartStates.{IsRing, IsPartState}
+use Rattle.fb_witnesses.specs.Samples.{line_part, sprout}
+use Rattle.fb_witnesses.specs.StateWitnesses.{FusedStateWitness, left_end, right_end}
+use Rattle.fb_laws.specs.Works.{AreMatchedLinks}
+use Rattle.fb_witnesses.proofs.SampleFusions.{fused_witness}
+use Rattle.fb_witnesses.proofs.SampleSeamStates.{seam_witness}
+
+no_links : (p : Problem) (nodes : List Node) → AreMatchedLinks p nodes []
+no_links p nodes = record {
+  tight = All-nil (IsTightLink p (all_cuts nodes));
+  own = All-nil (IsLinkOf p);
+  at_defects =
+      All-nil
+      (λ (l : Link). (p.is_real l.from ≡ true → is_in (leaves nodes) l.from ≡ true)
+      × (p.is_real l.to ≡ true → is_in (leaves nodes) l.to ≡ true));
+}
+
+-- one node, matched
+one_end : (p : Problem) (name v : ℕ) (links : List Link) → IsNestedWork p (nodes_of (sprout name v 2 ∷ [])) links []
+    → IsPartState p (record { nodes = nodes_of (sprout name v 2 ∷ []); cycles = λ n. []; matches = links; unmatched = [] })
+one_end p name v links work = record {
+  work = work;
+  cycles = record {
+    rings =
+        All-from_recursion (λ n. IsRing (child_sets (nodes_of (sprout name v 2 ∷ [])) n) []) (nodes_of (sprout name v 2 ∷ []))
+        (tt, tt);
+    links = no_links p (nodes_of (sprout name v 2 ∷ []));
+  };
+  names = record { live = λ n within. absurd (false≢true within); distinct = tt };
+}
+
+pub fused_state_witness : FusedStateWitness
+fused_state_witness = (
+  fused_witness.7,
+  seam_witness.0.parts,
+  seam_witness.0.names,
+  seam_witness.1,
+  seam_witness.2,
+  seam_witness.3,
+  one_end (line_part (3 ∷ [])) 0 3 right_end.matches fused_witness.4,
+  one_end (line_part (1 ∷ [])) 1 1 left_end.matches fused_witness.5,
+)

@@ -1,0 +1,11 @@
+pub mod CycleWitnesses
+pub mod FusedWitnesses
+pub mod NestWitnesses
+pub mod NestedWitnesses
+pub mod OpenedWitnesses
+pub mod ResolvedWitnesses
+pub mod Samples
+pub mod SearchWitnesses
+pub mod StateWitnesses
+pub mod TreeWitnesses
+pub mod Witnesses

@@ -1,0 +1,18 @@
+//! That the premises of the laws of the method can be met: small graphs and their states, on which each law applies. Nothing
+//! that the program does rests on them.
+
+#![tactic(auto)]
+
+pub mod examples;
+pub mod instances;
+pub mod state_instances;
+pub mod witnesses;
+
+pub use examples::{opening_examples, search_witness};
+pub use instances::{cycle_witness, fused_witness, nest_witness, nested_witness, tree_witness};
+pub use state_instances::state_witness;
+pub use witnesses::{
+    blossom_witness, cover_witness, dual_witness, end_witness, forming_witness, fusion_witness,
+    link_witness, merging_witness, opening_witness, parity_witness, path_witness, signed_witness,
+    step_witness, work_witness,
+};
