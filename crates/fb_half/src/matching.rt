@@ -1,4 +1,4 @@
-ghost use Rattle.std.specs.Prelude.{◌≡◌, ◌<◌, ◌≤◌, ℕ, true, false, if◌then◌else◌, [], ◌∷◌, ◌++◌, length, All, OnOk, OnErr, MatchOption};
+ghost use Rattle.std.specs.Prelude.{◌≡◌, ◌<◌, ◌≤◌, ◌==◌, ℕ, true, false, if◌then◌else◌, [], ◌∷◌, ◌++◌, length, All, OnOk, OnErr, MatchOption};
 ghost use Rattle.std.specs.List.Sorted.{IsPermutation};
 ghost use Rattle.fb_graph.specs.Parity.{is_in};
 ghost use Rattle.fb_half.specs.InternalStandings.{standing_of};
@@ -97,7 +97,8 @@ impl Matching {
         // The vectors grow by the allocator that they were made with.
         self.unmatched.reserve(1)?;
         widen(&mut self.standings, name)?;
-        self.standings[name as usize] = Standing::Unmatched(self.unmatched.len());
+        let place = self.unmatched.len();
+        set_name(&mut self.standings, name, Standing::Unmatched(place));
         self.unmatched.push_reserved(name);
         Ok(())
     }
@@ -115,7 +116,8 @@ impl Matching {
         if let Some(second) = m.second {
             widen(&mut self.standings, second)?;
         }
-        set_names(&mut self.standings, m, Standing::Matched(self.matches.len()));
+        let place = self.matches.len();
+        set_names(&mut self.standings, m, Standing::Matched(place));
         self.matches.push_reserved(m);
         self.links.push_reserved(m.link);
         Ok(())
@@ -131,9 +133,10 @@ impl Matching {
             unreachable!()
         };
         self.unmatched.swap_remove(place);
-        self.standings[name as usize] = Standing::Absent;
-        if let Some(moved) = self.unmatched.get(place) {
-            self.standings[*moved as usize] = Standing::Unmatched(place);
+        set_name(&mut self.standings, name, Standing::Absent);
+        if place < self.unmatched.len() {
+            let moved = self.unmatched[place];
+            set_name(&mut self.standings, moved, Standing::Unmatched(place));
         }
     }
 
@@ -150,8 +153,9 @@ impl Matching {
         let taken = self.matches.swap_remove(place);
         self.links.swap_remove(place);
         set_names(&mut self.standings, taken, Standing::Absent);
-        if let Some(moved) = self.matches.get(place) {
-            set_names(&mut self.standings, *moved, Standing::Matched(place));
+        if place < self.matches.len() {
+            let moved = self.matches[place];
+            set_names(&mut self.standings, moved, Standing::Matched(place));
         }
         taken
     }
@@ -182,13 +186,23 @@ fn widen(standings: &mut Vec<Standing>, name: NodeId) -> Result<(), NoMemory>
     Ok(())
 }
 
-/// Sets the entries of the nodes that a match matches.
-fn set_names(standings: &mut [Standing], m: Match, standing: Standing)
-    requires { All (λ name. name < length standings.old) (names_of m) }
-    ensures { (k : ℕ) → standing_of standings.new k ≡ (if is_in (names_of m) k then standing else standing_of standings.old k) }
+/// Sets the entry of a name that the table has one for.
+fn set_name(standings: &mut Vec<Standing>, name: NodeId, standing: Standing)
+    requires { name < length standings.old.items }
+    ensures count { length standings.new.items ≡ length standings.old.items }
+    ensures entries { (k : ℕ) → standing_of standings.new.items k ≡ (if name == k then standing else standing_of standings.old.items k) }
 {
-    standings[m.first as usize] = standing;
+    standings[name as usize] = standing;
+}
+
+/// Sets the entries of the nodes that a match matches.
+fn set_names(standings: &mut Vec<Standing>, m: Match, standing: Standing)
+    requires { All (λ name. name < length standings.old.items) (names_of m) }
+    ensures count { length standings.new.items ≡ length standings.old.items }
+    ensures entries { (k : ℕ) → standing_of standings.new.items k ≡ (if is_in (names_of m) k then standing else standing_of standings.old.items k) }
+{
+    set_name(standings, m.first, standing);
     if let Some(second) = m.second {
-        standings[second as usize] = standing;
+        set_name(standings, second, standing);
     }
 }
