@@ -112,10 +112,7 @@ impl Matching {
         // The vectors grow by the allocator that they were made with.
         self.matches.reserve(1)?;
         self.links.reserve(1)?;
-        widen(&mut self.standings, m.first)?;
-        if let Some(second) = m.second {
-            widen(&mut self.standings, second)?;
-        }
+        widen_names(&mut self.standings, m)?;
         let place = self.matches.len();
         set_names(&mut self.standings, m, Standing::Matched(place));
         self.matches.push_reserved(m);
@@ -184,6 +181,18 @@ fn widen(standings: &mut Vec<Standing>, name: NodeId) -> Result<(), NoMemory>
         standings.resize(count, Standing::Absent)?;
     }
     Ok(())
+}
+
+/// Gives the table an entry for each node that the match matches.
+fn widen_names(standings: &mut Vec<Standing>, m: Match) -> Result<(), NoMemory>
+    ensures within { OnOk result (All (λ name. name < length standings.new.items) (names_of m)) }
+    ensures same { (k : ℕ) → standing_of standings.new.items k ≡ standing_of standings.old.items k }
+{
+    widen(standings, m.first)?;
+    match m.second {
+        Some(second) => widen(standings, second),
+        None => Ok(()),
+    }
 }
 
 /// Sets the entry of a name that the table has one for.
