@@ -84,7 +84,7 @@ module _ {X : Type 0} (test : X → ℕ → Bool) (d : X) (place other : ℕ →
           let short = shorter xs i x less in
           let before : i + 1 < length xs = omega (arith, short) in
           let there : get_or xs (length (swap_remove xs i x)) d ≡ moved =
-              sym (last_put xs i x d before) ∙ (get_or_default (swap_remove xs i x) i d moved within ∙ sym is_moved) in
+          sym (last_put xs i x d before) ∙ (get_or_default (swap_remove xs i x) i d moved within ∙ sym is_moved) in
           apart (length (swap_remove xs i x)) j
           (sym (entered_at xs (length (swap_remove xs i x)) moved entry table (omega (arith, short)) there name h)
           ∙ (sym (mid name ∙ ap (λ b. if b then Absent else entry name) was) ∙ e))

@@ -1,3 +1,5 @@
+pub mod Begun
+pub mod BegunParts
 pub mod Changes
 pub mod Listings
 pub mod Lookups

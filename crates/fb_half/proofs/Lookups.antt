@@ -60,6 +60,7 @@ listed_unmatched matches names table name are = by_standing (standing_of table n
     none s at other true is =
         let place = place_in names name is in
         absurd (other place.0 (sym at ∙ are.unmatched.entered name place.0 place.1 place.2))
+
     by_standing : (s : Standing) → standing_of table name ≡ s → is_in names name ≡ is_unmatched s
     by_standing Absent at = none Absent at (λ i e. cc) (is_in names name) refl
     by_standing (Matched k) at = none (Matched k) at (λ i e. cc) (is_in names name) refl
@@ -75,6 +76,7 @@ listed_matched matches names table name are = by_standing (standing_of table nam
     none s at other true is =
         let place = match_in matches name is in
         absurd (other place.0 (sym at ∙ are.matched.entered name place.0 place.1 place.2))
+
     by_standing : (s : Standing) → standing_of table name ≡ s → is_in (matched_names matches) name ≡ is_matched s
     by_standing Absent at = none Absent at (λ i e. cc) (is_in (matched_names matches) name) refl
     by_standing (Unmatched k) at = none (Unmatched k) at (λ i e. cc) (is_in (matched_names matches) name) refl

@@ -17,6 +17,7 @@ table_pushed count has new_has place entry new_entry mine injective table same h
     by_cases : (name i : ℕ) → new_entry name ≡ place i → (b : Bool) → mine name ≡ b → (i < count + 1) × (new_has i name ≡ true)
     by_cases name i e true is = grind (arith, new name, injective count i, here name)
     by_cases name i e false is = grind (arith, new name, table.true_to name i, same i name)
+
     by_place : (name i : ℕ) → i < count + 1 → new_has i name ≡ true → (b : Bool) → mine name ≡ b → new_entry name ≡ place i
     by_place name i less h true is = grind (arith, new name, free name i, table.entered name i, same i name, here name)
     by_place name i less h false is = grind (arith, new name, table.entered name i, same i name, here name)
@@ -33,6 +34,7 @@ table_kept count has place entry new_entry mine standing table new other free = 
     by_cases : (name i : ℕ) → new_entry name ≡ place i → (b : Bool) → mine name ≡ b → (i < count) × (has i name ≡ true)
     by_cases name i e true is = grind (arith, new name, other i)
     by_cases name i e false is = grind (arith, new name, table.true_to name i)
+
     by_place : (name i : ℕ) → i < count → has i name ≡ true → (b : Bool) → mine name ≡ b → new_entry name ≡ place i
     by_place name i less h true is = grind (arith, new name, free name i, table.entered name i)
     by_place name i less h false is = grind (arith, new name, table.entered name i)
@@ -51,6 +53,7 @@ table_cut count has new_has place entry new_entry standing injective table same 
     by_cases : (name i : ℕ) → new_entry name ≡ place i → (b : Bool) → has count name ≡ b → (i < count) × (new_has i name ≡ true)
     by_cases name i e true is = grind (arith, new name, other i)
     by_cases name i e false is = grind (arith, new name, table.true_to name i, same i name)
+
     by_place : (name i : ℕ) → i < count → new_has i name ≡ true → (b : Bool) → has count name ≡ b → new_entry name ≡ place i
     by_place name i less h true is = grind (arith, table.entered name count, table.entered name i, same i name, injective i count)
     by_place name i less h false is = grind (arith, new name, table.entered name i, same i name)
@@ -72,6 +75,7 @@ table_swapped count at has new_has place entry middle new_entry standing injecti
     by_cases name i e true is c was = grind (arith, new name, injective at i, there name)
     by_cases name i e false is true was = grind (arith, new name, mid name, other i)
     by_cases name i e false is false was = grind (arith, new name, mid name, table.true_to name i, same i name)
+
     by_place : (name i : ℕ) → i < count → new_has i name ≡ true → (b : Bool) → has count name ≡ b → (c : Bool) → has at name ≡ c
         → new_entry name ≡ place i
     by_place name i less h true is c was = grind (arith, new name, table.entered name count, table.entered name i, same i name, injective i count)

@@ -1,4 +1,5 @@
 pub mod Beginnings
+pub mod InternalBeginnings
 pub mod InternalStandings
 pub mod Matchings
 pub mod Parts

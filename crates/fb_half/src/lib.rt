@@ -7,6 +7,7 @@ pub mod half;
 pub mod matches;
 pub mod matching;
 pub mod parts;
+mod start;
 pub mod work;
 
 pub use half::Half;

@@ -8,8 +8,10 @@ ghost use Rattle.fb_half.specs.Values.{HasScope, part_of};
 use crate::half::Half;
 use crate::matching::Matching;
 use crate::parts::Parts;
+use crate::start::{own_defects, start};
 use fb_blossoms::Blossoms;
 use fb_graph::NoMemory;
+use fb_laws::state_begins;
 use fb_links::{LinkId, Links, NodeId};
 use fb_plan::{Job, NodeScope};
 use fb_regions::Regions;
@@ -144,8 +146,15 @@ impl<'a> Work<'a> {
         requires node { node < node_count job.now.plan }
         ensures { IfOk result (λ w. IsBegun job.now slot node w) }
     {
-        let _graph = job.graph();
-        let _ = (alloc, slot, node);
-        Err(NoMemory)
+        job.keeps();
+        let scope = NodeScope {
+            graph: job.graph(),
+            plan: job.plan(),
+            node,
+        };
+        let own = own_defects(alloc, &scope, job.shots()[slot as usize].as_slice())?;
+        let parts = start(alloc, job, slot, node, &own)?;
+        state_begins();
+        Ok(Work { parts })
     }
 }

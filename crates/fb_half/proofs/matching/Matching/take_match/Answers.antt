@@ -42,18 +42,20 @@ set_names-requires-then-place-len c =
 pub invariant_of-self : goal.invariant_of-self
 invariant_of-self c =
     let at : standing_of c.self.inside.standings.items c.args.name ≡ Matched c.in-Matched.place = cc in
-    let there = c.self.invariant.1.matched.true_to c.args.name c.in-Matched.place at in
-    (links_taken _ _ _ _ c.in-Matched.place c.swap_remove-taken.result c.swap_remove.result c.self.invariant.0 there.0 c.swap_remove-taken.ensures.items c.swap_remove.ensures.items,
+    let there = c.self.invariant.1.matched.true_to c.args.name c.in-Matched.place at in (
+      links_taken _ _ _ _ c.in-Matched.place c.swap_remove-taken.result c.swap_remove.result c.self.invariant.0 there.0 c.swap_remove-taken.ensures.items c.swap_remove.ensures.items,
       match_moved _ _ _ _ _ _ c.in-Matched.place c.swap_remove-taken.result c.index-moved.result.now c.self.invariant.1 there.0 c.swap_remove-taken.ensures.value
-      c.swap_remove-taken.ensures.items (omega arith) c.index-moved.ensures c.set_names.ensures.entries c.set_names-then-place-len.ensures.entries)
+          c.swap_remove-taken.ensures.items (omega arith) c.index-moved.ensures c.set_names.ensures.entries c.set_names-then-place-len.ensures.entries,
+    )
 
 pub invariant_of-self-else-place-len : goal.invariant_of-self-else-place-len
 invariant_of-self-else-place-len c =
     let at : standing_of c.self.inside.standings.items c.args.name ≡ Matched c.in-Matched.place = cc in
-    let there = c.self.invariant.1.matched.true_to c.args.name c.in-Matched.place at in
-    (links_taken _ _ _ _ c.in-Matched.place c.swap_remove-taken.result c.swap_remove.result c.self.invariant.0 there.0 c.swap_remove-taken.ensures.items c.swap_remove.ensures.items,
+    let there = c.self.invariant.1.matched.true_to c.args.name c.in-Matched.place at in (
+      links_taken _ _ _ _ c.in-Matched.place c.swap_remove-taken.result c.swap_remove.result c.self.invariant.0 there.0 c.swap_remove-taken.ensures.items c.swap_remove.ensures.items,
       match_taken _ _ _ _ _ c.in-Matched.place c.swap_remove-taken.result c.self.invariant.1 there.0 c.swap_remove-taken.ensures.value
-      c.swap_remove-taken.ensures.items (omega arith) c.set_names.ensures.entries)
+          c.swap_remove-taken.ensures.items (omega arith) c.set_names.ensures.entries,
+    )
 
 pub returns-then-place-len-clause-name : goal.returns-then-place-len-clause-name
 returns-then-place-len-clause-name c =

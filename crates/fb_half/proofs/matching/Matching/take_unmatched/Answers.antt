@@ -38,20 +38,22 @@ pub invariant_of-self : goal.invariant_of-self
 invariant_of-self c =
     let at : standing_of c.self.inside.standings.items c.args.name ≡ Unmatched c.in-Unmatched.place = cc in
     let there = unmatched_at _ _ _ c.in-Unmatched.place c.args.name c.self.invariant.1 at in
-    let same = same_read c.self.inside.unmatched.items c.in-Unmatched.place c.swap_remove.result c.args.name there.0 c.swap_remove.ensures.value there.1 in
-    (c.self.invariant.0,
+    let same = same_read c.self.inside.unmatched.items c.in-Unmatched.place c.swap_remove.result c.args.name there.0 c.swap_remove.ensures.value there.1 in (
+      c.self.invariant.0,
       unmatched_moved _ _ _ _ _ _ c.in-Unmatched.place c.args.name c.index-moved.result.now c.self.invariant.1 there.0 there.1
-      (c.swap_remove.ensures.items ∙ ap (swap_remove c.self.inside.unmatched.items c.in-Unmatched.place) same) (omega arith) c.index-moved.ensures
-      c.set_name.ensures.entries c.set_name-then-place-len.ensures.entries)
+          (c.swap_remove.ensures.items ∙ ap (swap_remove c.self.inside.unmatched.items c.in-Unmatched.place) same) (omega arith) c.index-moved.ensures
+          c.set_name.ensures.entries c.set_name-then-place-len.ensures.entries,
+    )
 
 pub invariant_of-self-else-place-len : goal.invariant_of-self-else-place-len
 invariant_of-self-else-place-len c =
     let at : standing_of c.self.inside.standings.items c.args.name ≡ Unmatched c.in-Unmatched.place = cc in
     let there = unmatched_at _ _ _ c.in-Unmatched.place c.args.name c.self.invariant.1 at in
-    let same = same_read c.self.inside.unmatched.items c.in-Unmatched.place c.swap_remove.result c.args.name there.0 c.swap_remove.ensures.value there.1 in
-    (c.self.invariant.0,
+    let same = same_read c.self.inside.unmatched.items c.in-Unmatched.place c.swap_remove.result c.args.name there.0 c.swap_remove.ensures.value there.1 in (
+      c.self.invariant.0,
       unmatched_taken _ _ _ _ _ c.in-Unmatched.place c.args.name c.self.invariant.1 there.0 there.1
-      (c.swap_remove.ensures.items ∙ ap (swap_remove c.self.inside.unmatched.items c.in-Unmatched.place) same) (omega arith) c.set_name.ensures.entries)
+          (c.swap_remove.ensures.items ∙ ap (swap_remove c.self.inside.unmatched.items c.in-Unmatched.place) same) (omega arith) c.set_name.ensures.entries,
+    )
 
 pub returns-then-place-len-clause-unmatched : goal.returns-then-place-len-clause-unmatched
 returns-then-place-len-clause-unmatched c =

@@ -1,0 +1,8 @@
+use Rattle.std.proofs.Common.{◌≡◌, [], take}
+use Rattle.std.specs.List.{filter}
+use Rattle.fb_plan.specs.Plans.{problem_at}
+use Rattle.fb_half.proofs.start.own_defects.Given as goal
+
+abbrev pub invariant-loop-v : goal.invariant-loop-v
+invariant-loop-v l =
+    l.own.items ≡ filter (problem_at l.scope.graph.now l.scope.plan.now l.scope.node []).is_real (take l.v-index l.defects)

@@ -1,0 +1,21 @@
+-- A part while its defects become nodes, one after another.
+use Rattle.std.specs.Prelude.{ℕ, ◌≡◌, ◌==◌, if◌then◌else◌, List, [], ◌∷◌, length, Option, Some, None}
+use Rattle.fb_graph.specs.Certificate.{AreDistinct}
+use Rattle.fb_graph.specs.Dual.{Node}
+use Rattle.fb_blossoms.specs.Nodes as blossoms
+use Rattle.fb_half.specs.Beginnings.{leaves_by}
+use Rattle.fb_half.specs.Matchings.{MatchingValue}
+
+-- the leaf of this name
+abbrev pub leaf_at : List ℕ → List ℕ → ℕ → Option blossoms.Node
+leaf_at [] defects x = None
+leaf_at (name ∷ names) [] x = None
+leaf_at (name ∷ names) (v ∷ defects) x = if name == x then Some (blossoms.leaf v) else leaf_at names defects x
+
+-- What the nodes, the store and the matching are when these defects have become nodes.
+pub record IsStarted (done : List ℕ) (nodes : List Node) (store : List (Option blossoms.Node)) (m : MatchingValue) : Type 0 where
+  pub nodes_are : nodes ≡ leaves_by m.unmatched done
+  pub count : length m.unmatched ≡ length done
+  pub matches : m.matches ≡ []
+  pub names : AreDistinct m.unmatched
+  pub entries : (x : ℕ) → blossoms.node_at store x ≡ leaf_at m.unmatched done x

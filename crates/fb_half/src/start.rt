@@ -1,0 +1,101 @@
+ghost use Rattle.std.specs.Prelude.{◌≡◌, ◌≢◌, ◌<◌, ℕ, true, false, [], ◌∷◌, ◌++◌, length, filter, All, IfOk, Some, None};
+ghost use Rattle.fb_graph.specs.Certificate.{AreDistinct};
+ghost use Rattle.fb_graph.specs.Dual.{cover_of, is_live, leaf};
+ghost use Rattle.fb_graph.specs.Parity.{is_in};
+ghost use Rattle.fb_plan.specs.Plans.{problem_at};
+ghost use Rattle.fb_blossoms.specs.Nodes as blossoms;
+ghost use Rattle.fb_half.specs.InternalBeginnings.{IsStarted};
+ghost use Rattle.fb_half.specs.Matchings.{listed_names};
+ghost use Rattle.fb_half.specs.Values.{HasScope};
+
+use crate::matching::Matching;
+use crate::parts::Parts;
+use fb_blossoms::Blossoms;
+use fb_graph::{NoMemory, Scope};
+use fb_links::{Links, NodeId};
+use fb_plan::{Job, NodeScope};
+use fb_regions::Regions;
+use std::alloc::Global;
+
+/// The defects at real vertices of the scope, in their order.
+pub(crate) fn own_defects(
+    alloc: Global,
+    scope: &NodeScope<'_>,
+    defects: &[u32],
+) -> Result<Vec<u32>, NoMemory>
+    requires { All (λ v. v < scope.now.graph.now.vertices) defects.now }
+    ensures { IfOk result (λ own. own.items ≡ filter (problem_at scope.now.graph.now scope.now.plan.now scope.now.node []).is_real defects.now) }
+{
+    let mut own = Vec::new(alloc);
+    for v in defects {
+        if scope.is_real(*v) {
+            own.push(*v)?;
+        }
+    }
+    Ok(own)
+}
+
+/// Makes the vertex a node of radius 0, without a match.
+fn add_leaf(
+    alloc: Global,
+    regions: &mut Regions<NodeScope<'_>>,
+    store: &mut Blossoms,
+    matching: &mut Matching,
+    v: u32,
+) -> Result<NodeId, NoMemory>
+    requires below { v < regions.old.scope.graph.now.vertices }
+    requires real { (problem_at regions.old.scope.graph.now regions.old.scope.plan.now regions.old.scope.node []).is_real v ≡ true }
+    requires uncovered { cover_of regions.old.nodes v ≡ None }
+    requires leafless { (x : ℕ) → blossoms.node_at store.old x ≢ Some (blossoms.leaf v) }
+    requires live { (name : ℕ) → blossoms.node_at store.old name ≡ None → is_live regions.old.nodes name ≡ false }
+    requires listed { (name : ℕ) → blossoms.node_at store.old name ≡ None → is_in (listed_names matching.old) name ≡ false }
+    ensures store { IfOk result (λ name. blossoms.Adds store.old store.new name (blossoms.leaf v)) }
+    ensures nodes { IfOk result (λ name. regions.new.nodes ≡ regions.old.nodes ++ leaf name v ∷ []) }
+    ensures matching { IfOk result (λ name. matching.new ≡ record { matches = matching.old.matches; unmatched = matching.old.unmatched ++ name ∷ [] }) }
+    ensures scope { IfOk result (λ name. regions.new.scope ≡ regions.old.scope) }
+{
+    let name = store.leaf(alloc, v)?;
+    regions.open_leaf(alloc, name, v)?;
+    matching.add_unmatched(alloc, name)?;
+    Ok(name)
+}
+
+/// The pieces of a part whose nodes are these defects, none of them matched.
+pub(crate) fn start<'a>(
+    alloc: Global,
+    job: &'a Job<'a>,
+    slot: u32,
+    node: u32,
+    own: &[u32],
+) -> Result<Parts<'a>, NoMemory>
+    requires distinct { AreDistinct own.now }
+    requires real { All (λ v. (problem_at job.now.graph job.now.plan node []).is_real v ≡ true) own.now }
+    ensures started { IfOk result (λ p. IsStarted own.now p.regions.nodes p.blossoms p.matching) }
+    ensures scope { IfOk result HasScope }
+    ensures links { IfOk result (λ p. p.links ≡ []) }
+    ensures job { IfOk result (λ p. p.job.now ≡ job.now) }
+    ensures slot { IfOk result (λ p. p.slot ≡ slot) }
+    ensures node { IfOk result (λ p. p.node ≡ node) }
+{
+    let scope = NodeScope {
+        graph: job.graph(),
+        plan: job.plan(),
+        node,
+    };
+    scope.limits();
+    let mut regions = Regions::new(alloc, &scope)?;
+    let mut blossoms = Blossoms::new(alloc)?;
+    let mut matching = Matching::new(alloc);
+    for v in own {
+        add_leaf(alloc, &mut regions, &mut blossoms, &mut matching, *v)?;
+    }
+    Ok(Parts {
+        regions,
+        links: Links::new(alloc)?,
+        blossoms,
+        matching,
+        job,
+        slot,
+        node,
+    })
+}
