@@ -4,7 +4,7 @@ use Rattle.std.specs.List.{find}
 use Rattle.std.proofs.lemmas.Bool.{both_ways, eqb-true, eq-eqb}
 use Rattle.std.proofs.lemmas.List.Elements.{All-nil, All-cons}
 use Rattle.fb_graph.specs.Parity.{is_in}
-use Rattle.fb_graph.proofs.Members.{AreDistinct_push, is_in-append, is_in_push, or_false}
+use Rattle.fb_graph.proofs.Members.{AreDistinct_push, is_in-append, or_false}
 use Rattle.fb_graph.specs.Certificate.{AreDistinct}
 use Rattle.fb_graph.specs.Dual.{Node, cover_of, is_live, defects_of, is_empty, is_outer, leaf}
 use Rattle.fb_graph.specs.Sprouts.{Sprout, nodes_of, vertices_of}

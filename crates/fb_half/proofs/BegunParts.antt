@@ -1,17 +1,15 @@
 -- What a part keeps when its defects have become nodes.
-use Rattle.std.proofs.Common.{ℕ, ◌≡◌, ◌<◌, ◌&&◌, Bool, true, false, List, [], ◌∷◌, ◌++◌, map, flat_map, length, get_or, All, Option, Some, None, is_some, nat_lt, not, refl, sym, ap, ◌∙◌, subst}
+use Rattle.std.proofs.Common.{ℕ, ◌≡◌, ◌<◌, ◌&&◌, Bool, true, false, List, [], ◌∷◌, ◌++◌, map, flat_map, length, get_or, All, Some, None, is_some, nat_lt, not, refl, sym, ap, ◌∙◌, subst}
 use Rattle.std.proofs.lemmas.Bool.{ltb-true}
 use Rattle.std.proofs.lemmas.List.{append-nil, get_or_default}
 use Rattle.std.proofs.lemmas.List.Elements.{All-nil, All-cons, All-head, All-tail}
 use Rattle.std.specs.List.{filter}
 use Rattle.fb_graph.specs.Parity.{is_in}
 use Rattle.fb_graph.specs.Certificate.{AreDistinct}
-use Rattle.fb_graph.specs.Problem.{Problem}
 use Rattle.fb_graph.specs.Limits.{DecodingGraph, IsShot}
-use Rattle.fb_graph.specs.Laws.{Link}
 use Rattle.fb_graph.specs.Dual.{Node, defects_of, is_empty, is_live, is_outer, leaf}
 use Rattle.fb_graph.specs.Sprouts.{nodes_of, vertices_of}
-use Rattle.fb_graph.proofs.Sets.{distinct-filter, distinct_from_rising, is_in-filter, is_in-All, All-from_is_in}
+use Rattle.fb_graph.proofs.Sets.{distinct-filter, distinct_from_rising, is_in-filter, All-from_is_in}
 use Rattle.fb_plan.specs.Plans.{JobValue, PlanTree, node_count, problem_at}
 use Rattle.fb_plan.specs.Laws.{IsJob}
 use Rattle.fb_links.specs.declared.walk.Step.{Step}
@@ -19,9 +17,9 @@ use Rattle.fb_blossoms.specs.Nodes as blossoms
 use Rattle.fb_laws.specs.PartStates.{IsPartState}
 use Rattle.fb_laws.specs.StateMoves.{PartBegins, begun}
 use Rattle.fb_half.specs.Beginnings.{IsBegun, leaves_by, own_defects}
-use Rattle.fb_half.specs.InternalBeginnings.{IsStarted, leaf_at}
-use Rattle.fb_half.specs.Matchings.{IsMatchOf, IsMatchingOf, listed_names, match_links, matched_names}
-use Rattle.fb_half.specs.Parts.{AreAgreed, AreLinksOf, IsPart, PartValue, kept_links, problem_in, shot_of, state_of}
+use Rattle.fb_half.specs.InternalBeginnings.{IsStarted}
+use Rattle.fb_half.specs.Matchings.{IsMatchOf, listed_names, match_links, matched_names}
+use Rattle.fb_half.specs.Parts.{AreLinksOf, IsPart, PartValue, kept_links, problem_in, shot_of, state_of}
 use Rattle.fb_half.specs.Translations.{children_at, cycles_by, link_by, ring_at, ring_links}
 use Rattle.fb_half.proofs.Begun.{held_in, leaf_cycle, leaf_live, live_leaves, outer_leaves, sprout_names, sprout_nodes, sprout_values, sprout_vertices, sprouts_by}
 

@@ -1,5 +1,5 @@
 -- A matching's table stays true to its lists as a node or a match is added or taken out.
-use Rattle.std.proofs.Common.{ℕ, ◌≡◌, ◌≢◌, ◌+◌, ◌<◌, ◌≤◌, ◌==◌, ◌||◌, Bool, true, false, if◌then◌else◌, List, [], ◌∷◌, ◌++◌, length, get_or, All, arith, refl, sym, ap, ◌∙◌, subst}
+use Rattle.std.proofs.Common.{ℕ, ◌≡◌, ◌≢◌, ◌<◌, ◌≤◌, ◌==◌, ◌||◌, Bool, true, false, if◌then◌else◌, List, [], ◌∷◌, ◌++◌, length, get_or, All, refl, sym, ap, ◌∙◌, subst}
 use Rattle.std.proofs.lemmas.Bool.{both_ways, eqb-true, eq-eqb}
 use Rattle.std.proofs.lemmas.List.{get_or_default}
 use Rattle.std.specs.List.{swap_remove}
@@ -9,7 +9,7 @@ use Rattle.fb_half.specs.declared.matches.Match.{Match}
 use Rattle.fb_half.specs.declared.matches.Standing.{Standing}
 use Rattle.fb_half.specs.declared.matches.Standing.TheVariants.{Absent, Unmatched, Matched}
 use Rattle.fb_half.specs.InternalStandings.{AreStanding, has_name, is_name, no_match, standing_of}
-use Rattle.fb_half.specs.Matchings.{listed_names, match_links, matched_names, names_of}
+use Rattle.fb_half.specs.Matchings.{match_links, matched_names, names_of}
 use Rattle.fb_half.specs.Standings.{is_matched, is_unmatched}
 use Rattle.fb_half.proofs.Changes.{kept_cut, kept_swapped, pushed, taken_last, taken_swapped}
 use Rattle.fb_half.proofs.Tables.{table_kept}

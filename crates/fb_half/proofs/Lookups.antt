@@ -1,5 +1,5 @@
 -- What the table of a matching says of its lists.
-use Rattle.std.proofs.Common.{ℕ, zero, suc, ◌≡◌, ◌≢◌, ◌+◌, ◌<◌, ◌≤◌, ◌==◌, ◌||◌, Bool, true, false, List, [], ◌∷◌, ◌++◌, length, get_or, nat_lt, subst, arith, refl, sym, ap, ◌∙◌}
+use Rattle.std.proofs.Common.{ℕ, zero, suc, ◌≡◌, ◌≢◌, ◌<◌, ◌≤◌, ◌==◌, ◌||◌, Bool, true, false, List, [], ◌∷◌, length, get_or, nat_lt, subst, arith, refl, sym, ap, ◌∙◌}
 use Rattle.std.proofs.Math.ListN.{get_or-eq_default}
 use Rattle.std.proofs.lemmas.Bool.{both_ways}
 use Rattle.std.proofs.lemmas.List.{get_or_default}
@@ -10,7 +10,7 @@ use Rattle.fb_graph.proofs.Members.{is_in-append}
 use Rattle.fb_half.specs.declared.matches.Match.{Match}
 use Rattle.fb_half.specs.declared.matches.Standing.{Standing}
 use Rattle.fb_half.specs.declared.matches.Standing.TheVariants.{Absent, Unmatched, Matched}
-use Rattle.fb_half.specs.InternalStandings.{AreStanding, IsTable, has_name, is_name, no_match, standing_of}
+use Rattle.fb_half.specs.InternalStandings.{AreStanding, has_name, is_name, no_match, standing_of}
 use Rattle.fb_half.specs.Matchings.{IsMatchAt, matched_names, names_of}
 use Rattle.fb_half.specs.Standings.{is_matched, is_unmatched}
 

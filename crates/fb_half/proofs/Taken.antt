@@ -1,5 +1,5 @@
 -- An element taken out of a list, with the last one put in its place.
-use Rattle.std.proofs.Common.{ℕ, ◌≡◌, ◌≢◌, ◌+◌, ◌-◌, ◌<◌, List, length, get_or, take, arith, refl, sym, ap, ◌∙◌, length-take, map}
+use Rattle.std.proofs.Common.{ℕ, ◌≡◌, ◌≢◌, ◌+◌, ◌-◌, ◌<◌, List, length, get_or, arith, sym, ap, ◌∙◌, length-take, map}
 use Rattle.std.proofs.Math.ListN.{set, length-set}
 use Rattle.std.proofs.lemmas.List.{get_or-take, get_or-set_same, get_or-set_other, get_or_default, get_or-map, map-set, take-map, length-map}
 use Rattle.std.specs.List.{swap_remove}

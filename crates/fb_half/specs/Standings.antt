@@ -1,7 +1,7 @@
 -- Whether a matching lists a node, and as what.
-use Rattle.std.specs.Prelude.{ℕ, Bool, true, false}
+use Rattle.std.specs.Prelude.{Bool, true, false}
 use Rattle.fb_half.specs.declared.matches.Standing.{Standing}
-use Rattle.fb_half.specs.declared.matches.Standing.TheVariants.{Absent, Unmatched, Matched}
+use Rattle.fb_half.specs.declared.matches.Standing.TheVariants.{Unmatched, Matched}
 
 abbrev pub is_unmatched : Standing → Bool
 is_unmatched (Unmatched i) = true

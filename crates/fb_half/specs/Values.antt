@@ -1,5 +1,6 @@
 -- The value of the parts of a half-solved part, and what the scope of its regions is.
 use Rattle.std.specs.Prelude.{◌≡◌}
+use Rattle.fb_plan.specs.declared.scope.NodeScope.{NodeScope}
 use Rattle.fb_half.specs.Parts.{PartValue}
 use Rattle.fb_half.specs.declared.parts.Parts.{Parts}
 
@@ -14,8 +15,12 @@ part_of parts = record {
   matching = parts.matching;
 }
 
+-- the sub-problem of the part's node
+pub record IsScopeOf (scope : NodeScope) (w : PartValue) : Type 0 where
+  pub graph : scope.graph.now ≡ w.job.graph
+  pub plan : scope.plan.now ≡ w.job.plan
+  pub node : scope.node ≡ w.node
+
 -- The regions are those of the part's node of the plan.
-pub record HasScope (parts : Parts) : Type 0 where
-  pub graph : parts.regions.scope.graph.now ≡ parts.job.now.graph
-  pub plan : parts.regions.scope.plan.now ≡ parts.job.now.plan
-  pub node : parts.regions.scope.node ≡ parts.node
+abbrev pub HasScope : Parts → Type 0
+HasScope parts = IsScopeOf parts.regions.scope (part_of parts)

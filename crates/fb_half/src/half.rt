@@ -4,7 +4,7 @@ ghost use Rattle.fb_laws.specs.OpenedLinks.{opened_links};
 ghost use Rattle.fb_laws.specs.Works.{positive_cuts};
 ghost use Rattle.fb_half.specs.Matchings.{match_links};
 ghost use Rattle.fb_half.specs.Parts.{IsPart, problem_in, state_of};
-ghost use Rattle.fb_half.specs.Values.{HasScope, part_of};
+ghost use Rattle.fb_half.specs.Values.{HasScope, IsScopeOf, part_of};
 
 use crate::parts::Parts;
 use fb_blossoms::Blossoms;
@@ -86,7 +86,8 @@ impl<'a> Half<'a> {
 
     /// The dual state.
     pub fn regions(&self) -> &Regions<NodeScope<'a>>
-        ensures { result.now.nodes ≡ self.now.nodes }
+        ensures nodes { result.now.nodes ≡ self.now.nodes }
+        ensures scope { IsScopeOf result.now.scope self.now }
     {
         &self.parts.regions
     }

@@ -3,7 +3,7 @@ ghost use Rattle.fb_plan.specs.Plans.{node_count};
 ghost use Rattle.fb_half.specs.Beginnings.{IsBegun};
 ghost use Rattle.fb_half.specs.Matchings.{match_links};
 ghost use Rattle.fb_half.specs.Parts.{IsPart};
-ghost use Rattle.fb_half.specs.Values.{HasScope, part_of};
+ghost use Rattle.fb_half.specs.Values.{HasScope, IsScopeOf, part_of};
 
 use crate::half::Half;
 use crate::matching::Matching;
@@ -94,7 +94,8 @@ impl<'a> Work<'a> {
 
     /// The dual state.
     pub fn regions(&self) -> &Regions<NodeScope<'a>>
-        ensures { result.now.nodes ≡ self.now.nodes }
+        ensures nodes { result.now.nodes ≡ self.now.nodes }
+        ensures scope { IsScopeOf result.now.scope self.now }
     {
         &self.parts.regions
     }

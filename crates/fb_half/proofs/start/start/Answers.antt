@@ -1,6 +1,5 @@
-use Rattle.std.proofs.Common.{◌≡◌, ◌<◌, ◌∙◌, ◌++◌, ◌∷◌, [], false, length, get_or, take, arith, sym, ap, subst}
+use Rattle.std.proofs.Common.{◌<◌, ◌∙◌, length, get_or, take, arith, sym, ap, subst}
 use Rattle.std.proofs.lemmas.List.{take_more}
-use Rattle.fb_graph.specs.Parity.{is_in}
 use Rattle.fb_graph.specs.Dual.{cover_of, is_live}
 use Rattle.fb_half.specs.InternalBeginnings.{IsStarted}
 use Rattle.fb_half.proofs.Begun.{fresh_listed, fresh_name, live_leaves, no_leaf, not_before, started_more, uncovered}

@@ -1,9 +1,7 @@
-use Rattle.std.proofs.Common.{◌≡◌, false, arith}
+use Rattle.std.proofs.Common.{◌≡◌, arith}
 use Rattle.fb_half.specs.declared.matches.Standing.TheVariants.{Matched}
 use Rattle.fb_half.specs.InternalStandings.{standing_of}
-use Rattle.fb_half.specs.Standings.{is_matched}
-use Rattle.fb_half.proofs.Changes.{pushed}
-use Rattle.fb_half.proofs.Lookups.{is_match_at, listed_matched, unlisted_matched}
+use Rattle.fb_half.proofs.Lookups.{is_match_at, unlisted_matched}
 use Rattle.fb_half.proofs.matching.Matching.match_of.Goals as goal
 
 pub index-requires : goal.index-requires

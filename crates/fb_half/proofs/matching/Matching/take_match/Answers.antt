@@ -1,7 +1,6 @@
-use Rattle.std.proofs.Common.{◌≡◌, ◌<◌, ◌≤◌, ◌∙◌, true, length, get_or, arith, sym, ap, subst}
+use Rattle.std.proofs.Common.{◌≡◌, ◌∙◌, length, arith, ap}
 use Rattle.std.proofs.lemmas.List.{length-map}
 use Rattle.std.proofs.lemmas.List.Sorted.{IsPermutation-swap_remove}
-use Rattle.fb_graph.specs.Parity.{is_in}
 use Rattle.fb_half.specs.declared.matches.Standing.TheVariants.{Matched}
 use Rattle.fb_half.specs.InternalStandings.{standing_of}
 use Rattle.fb_half.proofs.Lookups.{is_match_at, stands_matched}
