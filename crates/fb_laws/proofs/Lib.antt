@@ -10,6 +10,7 @@ pub mod FreedNames
 pub mod FusedParts
 pub mod FusedStates
 pub mod HalvesKept
+pub mod HeldDefects
 pub mod JoinedSearches
 pub mod JoinedThree
 pub mod JoinedTrees

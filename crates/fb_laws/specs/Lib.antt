@@ -7,6 +7,7 @@ pub mod Forming
 pub mod FusedStates
 pub mod FusedWitnesses
 pub mod Fusion
+pub mod HeldDefects
 pub mod Lengths
 pub mod MatchLinks
 pub mod Measures
