@@ -55,6 +55,7 @@ pub mod SampleOpenings
 pub mod SampleParts
 pub mod SamplePentagons
 pub mod SampleResolutions
+pub mod SampleRings
 pub mod SampleSeamStates
 pub mod SampleSeams
 pub mod SampleSearches

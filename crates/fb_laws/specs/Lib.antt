@@ -31,6 +31,7 @@ pub mod RenamedStates
 pub mod ResolvedWitnesses
 pub mod RingReads
 pub mod RingWays
+pub mod RingWitnesses
 pub mod Rows
 pub mod Samples
 pub mod SearchBlossoms

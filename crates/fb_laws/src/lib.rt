@@ -162,6 +162,7 @@ pub use state_openings::cycle_freed;
 pub use state_openings::state_opened;
 pub use state_orders::others_stay;
 pub use state_orders::state_reordered;
+pub use state_rings::ring_witness;
 pub use state_rings::state_opened_along;
 pub use step_links::steps_linked;
 pub use steps::step_keeps_packing;
