@@ -5,6 +5,7 @@ pub mod ExchangedDefects
 pub mod Forming
 pub mod FusedStates
 pub mod Fusion
+pub mod HeldDefects
 pub mod Lengths
 pub mod MatchLinks
 pub mod Measures
@@ -24,6 +25,7 @@ pub mod Paths
 pub mod RenamedStates
 pub mod RingReads
 pub mod RingWays
+pub mod RingWitnesses
 pub mod Rows
 pub mod SearchBlossoms
 pub mod SearchLayers

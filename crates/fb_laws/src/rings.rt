@@ -1,6 +1,6 @@
 //! Rings of links read place by place and by number.
 
-ghost use Rattle.fb_laws.specs.RingReads.{BesideByNumber, RoundLength, RoundRead, SecondByNumber, SecondCount, SecondRead, WayByNumber};
+ghost use Rattle.fb_laws.specs.RingReads.{BesideByNumber, NamesAt, RingAt, RoundLength, RoundRead, SecondByNumber, SecondCount, SecondRead, WayByNumber};
 
 /// What code reads of a ring that it has as a table: the elements from a place on and round it, and every second one.
 /// The links by which a blossom is opened follow from their numbers.
@@ -12,4 +12,6 @@ pub fn ring_reads()
     ensures way { WayByNumber }
     ensures length { RoundLength }
     ensures beside { BesideByNumber }
+    ensures sets { RingAt }
+    ensures names { NamesAt }
 {}

@@ -1,4 +1,4 @@
-use Rattle.fb_laws.proofs.RingReads.{beside_by_number, round_length, round_read, second_by_number, second_count, second_read, way_by_number}
+use Rattle.fb_laws.proofs.RingReads.{beside_by_number, names_at, ring_at, round_length, round_read, second_by_number, second_count, second_read, way_by_number}
 use Rattle.fb_laws.proofs.rings.ring_reads.Goals as goal
 
 pub returns-clause-round : goal.returns-clause-round
@@ -21,3 +21,9 @@ returns-clause-length c = round_length
 
 pub returns-clause-beside : goal.returns-clause-beside
 returns-clause-beside c = beside_by_number
+
+pub returns-clause-sets : goal.returns-clause-sets
+returns-clause-sets c = ring_at
+
+pub returns-clause-names : goal.returns-clause-names
+returns-clause-names c = names_at
