@@ -8,6 +8,7 @@ pub mod FusedStates
 pub mod FusedWitnesses
 pub mod Fusion
 pub mod Lengths
+pub mod LinkNumbers
 pub mod MatchLinks
 pub mod Measures
 pub mod Merging
