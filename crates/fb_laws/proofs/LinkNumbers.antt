@@ -8,7 +8,7 @@ use Rattle.fb_graph.specs.Parity.{is_in}
 use Rattle.fb_graph.specs.Certificate.{AreDistinct}
 use Rattle.fb_graph.proofs.Among.{IsAmong, All_among, among_All, among_either, among_left, among_right}
 use Rattle.fb_graph.proofs.Sets.{is_in-cases, is_in-head, is_in-tail}
-use Rattle.fb_laws.specs.LinkNumbers.{CycleCounted, IsCycleJoined, LinksEnded, LinksJoined, LinksOpened, links_dropped, links_matched, tree_links}
+use Rattle.fb_laws.specs.LinkNumbers.{BranchesCounted, CycleCounted, IsCycleJoined, LinksEnded, LinksJoined, LinksOpened, links_dropped, links_matched, tree_links}
 use Rattle.fb_laws.specs.OpenedCycles.{PassOf, grown_on, matched_on, opened_branches, opened_tree}
 use Rattle.fb_laws.specs.SearchBlossoms.{child_at, inner_branches, joined_tree, outer_branches, renamed_entry}
 use Rattle.fb_laws.specs.TreeCycles.{ArePaths, cycle_links, cycle_nodes, last_plus, links_along, links_back, nodes_along, nodes_back}
@@ -304,3 +304,18 @@ cycle_counted p s name a b closing shared up down may paths state =
             length_back down,
           )),
     )
+
+inner_length : {L : Type 0} (joined : ℕ → Bool) (tree : List (EntryOf L))
+    → length (inner_branches joined tree) ≡ length (filter joined (minus_names tree))
+inner_length joined [] = refl
+inner_length {L} joined (e ∷ es) = step (joined e.minus) (inner_length joined es)
+  where
+    step : (b : Bool) → length (inner_branches joined es) ≡ length (filter joined (minus_names es))
+        → length (cond b (e ∷ inner_branches joined es) (inner_branches joined es))
+        ≡ length (cond b (e.minus ∷ filter joined (minus_names es)) (filter joined (minus_names es)))
+    step true ih = omega (arith, ih)
+    step false ih = ih
+
+pub branches_counted : BranchesCounted
+branches_counted joined tree numbered same =
+    inner_length joined numbered ∙ (ap (λ l. length (filter joined l)) same ∙ sym (inner_length joined tree))

@@ -11,7 +11,7 @@ use Rattle.fb_laws.specs.PartStates.{SearchState, IsSearchState}
 use Rattle.fb_laws.specs.SearchBlossoms.{inner_branches, joined_tree}
 use Rattle.fb_laws.specs.StateBlossoms.{MayClose}
 use Rattle.fb_laws.specs.TreeCycles.{ArePaths, cycle_links, cycle_nodes, last_plus}
-use Rattle.fb_laws.specs.Trees.{Entry, EntryOf, beside, grown_links, paired_links, path_to}
+use Rattle.fb_laws.specs.Trees.{Entry, EntryOf, beside, grown_links, minus_names, paired_links, path_to}
 
 -- all links of a tree
 abbrev pub tree_links : {L : Type 0} → List (EntryOf L) → List L
@@ -49,6 +49,12 @@ CycleCounted = (p : Problem) (s : SearchState) (name a b : ℕ) (closing : Link)
     → MayClose p s name a b closing → ArePaths s.tree a b shared up down → IsSearchState p s
     → AreDistinct (last_plus s.root shared ∷ cycle_nodes up down)
     × (length (inner_branches (is_in (last_plus s.root shared ∷ cycle_nodes up down)) s.tree) ≡ length up + length down)
+
+-- How many branches are joined depends on the minus nodes alone, and not on the form of the links.
+abbrev pub BranchesCounted : Type 0
+BranchesCounted = (joined : ℕ → Bool) (tree : List Entry) (numbered : List (EntryOf ℕ))
+    → minus_names numbered ≡ minus_names tree
+    → length (inner_branches joined numbered) ≡ length (inner_branches joined tree)
 
 -- Where a minus blossom is opened along a way, the way's links join the tree.
 abbrev pub LinksOpened : Type 0

@@ -12,3 +12,6 @@ returns-clause-joined c = lemma.links_joined_in
 
 pub returns-clause-opened : goal.returns-clause-opened
 returns-clause-opened c = lemma.links_opened
+
+pub returns-clause-numbered : goal.returns-clause-numbered
+returns-clause-numbered c = lemma.branches_counted
