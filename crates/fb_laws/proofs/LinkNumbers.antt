@@ -1,17 +1,17 @@
 -- Which links of a tree are kept by its moves.
-use Rattle.std.proofs.Common.{ℕ, ◌≡◌, ◌+◌, ◌*◌, ◌⊎◌, inl, inr, not, cond, Bool, true, false, List, [], ◌∷◌, ◌++◌, map, filter, length, All, refl, sym, ap, ◌∙◌, subst, arith, append-nil, append_assoc, length-append}
+use Rattle.std.proofs.Common.{ℕ, ◌≡◌, ◌+◌, ◌⊎◌, inl, inr, not, cond, Bool, true, false, List, [], ◌∷◌, ◌++◌, map, filter, length, refl, sym, ap, ◌∙◌, subst, arith, append_assoc, length-append}
 use Rattle.std.specs.List.Sorted.{IsPermutation}
 use Rattle.std.proofs.lemmas.Bool.{both_ways, false_from_ne_true}
 use Rattle.std.proofs.lemmas.List.{length-map, map-append}
-use Rattle.std.proofs.lemmas.List.Sorted.{All-permutation, IsPermutation-append, IsPermutation-append_comm, IsPermutation-append_left, IsPermutation-append_right, IsPermutation-cons, IsPermutation-filter_both, IsPermutation-map, IsPermutation-middle, IsPermutation-refl, IsPermutation-sym, IsPermutation-trans, length_permutation}
+use Rattle.std.proofs.lemmas.List.Sorted.{All-permutation, IsPermutation-append, IsPermutation-append_comm, IsPermutation-append_left, IsPermutation-append_right, IsPermutation-cons, IsPermutation-filter_both, IsPermutation-map, IsPermutation-middle, IsPermutation-refl, IsPermutation-sym, IsPermutation-trans}
 use Rattle.fb_graph.specs.Parity.{is_in}
 use Rattle.fb_graph.specs.Certificate.{AreDistinct}
 use Rattle.fb_graph.proofs.Among.{IsAmong, All_among, among_All, among_either, among_left, among_right}
 use Rattle.fb_graph.proofs.Sets.{is_in-cases, is_in-head, is_in-tail}
-use Rattle.fb_laws.specs.LinkNumbers.{BranchesCounted, CycleCounted, IsCycleJoined, LinksEnded, LinksJoined, LinksOpened, links_dropped, links_matched, tree_links}
+use Rattle.fb_laws.specs.LinkNumbers.{BranchesCounted, CycleCounted, LinksEnded, LinksJoined, LinksOpened, links_dropped, links_matched, tree_links}
 use Rattle.fb_laws.specs.OpenedCycles.{PassOf, grown_on, matched_on, opened_branches, opened_tree}
 use Rattle.fb_laws.specs.SearchBlossoms.{child_at, inner_branches, joined_tree, outer_branches, renamed_entry}
-use Rattle.fb_laws.specs.TreeCycles.{ArePaths, cycle_links, cycle_nodes, last_plus, links_along, links_back, nodes_along, nodes_back}
+use Rattle.fb_laws.specs.TreeCycles.{cycle_links, cycle_nodes, last_plus, links_along, links_back, nodes_along, nodes_back}
 use Rattle.fb_laws.specs.Trees.{EntryOf, beside, grown_links, minus_names, paired_links, path_to}
 use Rattle.fb_laws.proofs.MergedParts.{distinct_across}
 use Rattle.fb_laws.proofs.OpenedCycles.{new_grown, new_paired}
@@ -291,8 +291,7 @@ links_joined_in joined name a b closing tree shared up down paths is =
 pub cycle_counted : CycleCounted
 cycle_counted p s name a b closing shared up down may paths state =
     let is = closed_joining p s name a b closing shared up down may paths state in
-    let named = closed_names p s name a b closing shared up down may paths state in
-    (
+    let named = closed_names p s name a b closing shared up down may paths state in (
       subst (λ names. AreDistinct (last_plus s.root shared ∷ names)) named is.distinct,
       subst (λ names. length (inner_branches (is_in (last_plus s.root shared ∷ names)) s.tree) ≡ length up + length down) named
           (omega (
