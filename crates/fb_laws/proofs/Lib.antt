@@ -15,6 +15,7 @@ pub mod JoinedSearches
 pub mod JoinedThree
 pub mod JoinedTrees
 pub mod LayeredSearches
+pub mod LinkNumbers
 pub mod LoweredParts
 pub mod MatchLinks
 pub mod MatchedNodes

@@ -7,6 +7,7 @@ pub mod FusedStates
 pub mod Fusion
 pub mod HeldDefects
 pub mod Lengths
+pub mod LinkNumbers
 pub mod MatchLinks
 pub mod Measures
 pub mod Merging
