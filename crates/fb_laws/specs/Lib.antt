@@ -26,7 +26,6 @@ pub mod Paths
 pub mod RenamedStates
 pub mod RingReads
 pub mod RingWays
-pub mod RingWitnesses
 pub mod Rows
 pub mod SearchBlossoms
 pub mod SearchLayers

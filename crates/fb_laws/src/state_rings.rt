@@ -1,6 +1,5 @@
 //! A minus blossom opened along its ring in a half-solved part.
 
-ghost use Rattle.fb_laws.specs.RingWitnesses.{RingWitness};
 ghost use Rattle.fb_laws.specs.StateRings.{ChildAtEnd, CycleAlong, StateOpenedAlong};
 
 /// A blossom's link ends at the child that holds its end. From the places of two such children on the blossom's ring
@@ -9,9 +8,4 @@ pub fn state_opened_along()
     ensures child { ChildAtEnd }
     ensures cycle { CycleAlong }
     ensures state { StateOpenedAlong }
-{}
-
-/// That these laws apply, in a pentagon.
-pub fn ring_witness()
-    ensures { RingWitness }
 {}

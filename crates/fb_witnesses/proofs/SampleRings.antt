@@ -1,10 +1,10 @@
 -- The pentagon's blossom opened along its ring.
 use Rattle.std.proofs.Common.{◌≡◌, inl, [], ◌∷◌, refl, arith}
 use Rattle.std.proofs.lemmas.List.Elements.{All-from_recursion}
-use Rattle.fb_laws.specs.RingWitnesses.{RingWitness, corners}
+use Rattle.fb_witnesses.specs.RingWitnesses.{RingWitness, corners}
 use Rattle.fb_laws.specs.StateRings.{MayOpenAlong}
-use Rattle.fb_laws.specs.StateWitnesses.{blossom_branch, inner_blossom}
-use Rattle.fb_laws.proofs.SamplePentagons.{opened_witness}
+use Rattle.fb_witnesses.specs.StateWitnesses.{blossom_branch, inner_blossom}
+use Rattle.fb_witnesses.proofs.SamplePentagons.{opened_witness}
 
 may_open : MayOpenAlong inner_blossom [] [] blossom_branch corners 3 3
 may_open = record {

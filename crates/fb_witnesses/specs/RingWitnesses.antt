@@ -4,7 +4,7 @@ use Rattle.std.specs.Prelude.{ℕ, ◌≡◌, List, [], ◌∷◌}
 use Rattle.fb_laws.specs.PartStates.{IsSearchState}
 use Rattle.fb_laws.specs.RingWays.{couples_after, way_to}
 use Rattle.fb_laws.specs.StateRings.{MayOpenAlong, round_of}
-use Rattle.fb_laws.specs.StateWitnesses.{blossom_branch, inner_blossom, pentagon, pentagon_couples, pentagon_way}
+use Rattle.fb_witnesses.specs.StateWitnesses.{blossom_branch, inner_blossom, pentagon, pentagon_couples, pentagon_way}
 
 abbrev pub corners : List ℕ
 corners = 4 ∷ 0 ∷ 1 ∷ 2 ∷ 3 ∷ []
