@@ -2,7 +2,7 @@
 
 ghost use Rattle.fb_laws.specs.MatchLinks.{MatchOf, MatchOfMet, MateOutside};
 ghost use Rattle.fb_laws.specs.MetLinks.{SourceUnder, LinkMet, LinkToBoundary, LinkTurned, LinksJoined};
-ghost use Rattle.fb_laws.specs.SingleDefects.{OneDefect, DefectHeight, LinksThrough};
+ghost use Rattle.fb_laws.specs.SingleDefects.{OneDefect, DefectHeight, LinksThrough, EndsMeetUnder};
 
 /// Each vertex under an outer node has a source walk there. Where the node meets another outer node or the boundary
 /// over a tight edge, the source walks and the edge are a matched link between the two.
@@ -32,4 +32,5 @@ pub fn links_through_defect()
     ensures one { OneDefect }
     ensures height { DefectHeight }
     ensures through { LinksThrough }
+    ensures meet { EndsMeetUnder }
 {}
