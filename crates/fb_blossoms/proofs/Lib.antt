@@ -9,4 +9,5 @@ pub mod Sizes
 pub mod LegLists
 pub mod Turns
 pub mod SimplePaths
+pub mod OnePath
 pub mod Grown

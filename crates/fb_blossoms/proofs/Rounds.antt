@@ -16,14 +16,14 @@ use Rattle.fb_blossoms.proofs.Climbs.{none_some}
 use Rattle.fb_blossoms.proofs.Held.{to_along}
 
 -- where the steps lead
-onward_is : (count s k : ℕ) → ((place_after count true s k ≡ s + k) × (s + k < count)) ⊎ ((place_after count true s k + count ≡ s + k) × (count ≤ s + k))
+pub onward_is : (count s k : ℕ) → ((place_after count true s k ≡ s + k) × (s + k < count)) ⊎ ((place_after count true s k + count ≡ s + k) × (count ≤ s + k))
 onward_is count s k =
     elim (cases_lt (s + k) count) [
       | inl h ↦ inl (rw (lt-ltb (s + k) count h) refl, h)
       | inr h ↦ inr (rw (le-ltb (s + k) count h) (let e : s + k - count + count ≡ s + k = omega arith in e), h)
     ]
 
-back_is : (count s k : ℕ) → k < count → ((place_after count false s k + k ≡ s) × (k ≤ s)) ⊎ ((place_after count false s k + k ≡ s + count) × (s < k))
+pub back_is : (count s k : ℕ) → k < count → ((place_after count false s k + k ≡ s) × (k ≤ s)) ⊎ ((place_after count false s k + k ≡ s + count) × (s < k))
 back_is count s k small =
     elim (cases_lt s k) [
       | inl h ↦ inr (rw (lt-leb k s h) (let e : s + count - k + k ≡ s + count = omega arith in e), h)
@@ -41,7 +41,7 @@ pub place_lt : (count : ℕ) (onward : Bool) (s k : ℕ) → s < count → k < c
 place_lt count true s k a b = elim (onward_is count s k) [ inl h ↦ omega (arith, h.0, h.1) | inr h ↦ omega (arith, h.0, h.1) ]
 place_lt count false s k a b = elim (back_is count s k b) [ inl h ↦ omega (arith, h.0, h.1) | inr h ↦ omega (arith, h.0, h.1) ]
 
-places_differ : (count : ℕ) (onward : Bool) (s i k : ℕ) → s < count → i < k → k < count → place_after count onward s i ≢ place_after count onward s k
+pub places_differ : (count : ℕ) (onward : Bool) (s i k : ℕ) → s < count → i < k → k < count → place_after count onward s i ≢ place_after count onward s k
 places_differ count true s i k a b c e =
     elim (onward_is count s i) [
       | inl g ↦ elim (onward_is count s k) [ inl h ↦ omega (arith, e, g.0, h.0) | inr h ↦ omega (arith, e, g.0, h.0) ]
@@ -88,7 +88,7 @@ step_on cycle i less = list_any_at (λ s. s.node == (step_at cycle i).node) cycl
 step_has : (cycle : List CycleStep) (i : ℕ) → i < length cycle → has_link cycle (step_at cycle i).link ≡ true
 step_has cycle i less = list_any_at (λ s. s.link == (step_at cycle i).link) cycle i (record { node = 0; link = 0 }) less (eq-eqb _ _ refl)
 
-steps_differ : (cycle : List CycleStep) → AreDistinct cycle → (i k : ℕ) → i < length cycle → k < length cycle → i ≢ k → (step_at cycle i).node ≢ (step_at cycle k).node
+pub steps_differ : (cycle : List CycleStep) → AreDistinct cycle → (i k : ℕ) → i < length cycle → k < length cycle → i ≢ k → (step_at cycle i).node ≢ (step_at cycle k).node
 steps_differ [] d i k a b n e = omega arith
 steps_differ (s ∷ ss) d zero zero a b n e = n refl
 steps_differ (s ∷ ss) d zero (suc k) a b n e =

@@ -1,10 +1,8 @@
 -- The legs of a path round a cycle.
-use Rattle.std.proofs.Common.{◌≡◌, inl, inr, ℕ, zero, suc, ◌+◌, ◌*◌, ◌%◌, ◌<◌, Bool, true, false, List, [], ◌∷◌, ◌++◌, length, reverse, Option, Some, None, Result, Ok, Err, OnOk, refl, sym, ◌∙◌, ap, subst, arith, append_assoc}
+use Rattle.std.proofs.Common.{◌≡◌, inl, inr, ℕ, suc, ◌+◌, ◌*◌, ◌%◌, ◌<◌, Bool, true, false, List, [], ◌∷◌, ◌++◌, length, reverse, Option, Some, None, Result, Ok, Err, OnOk, refl, sym, ◌∙◌, ap, subst, arith, append_assoc}
 use Rattle.std.proofs.lemmas.Bool.{both_ways}
 use Rattle.std.proofs.lemmas.List.{append-nil, reverse-append}
 use Rattle.fb_links.specs.declared.walk.Step.{Step}
-use Rattle.fb_links.specs.declared.cycle.CycleStep.{CycleStep}
-use Rattle.fb_blossoms.specs.declared.cycles.Round.{Round}
 use Rattle.fb_blossoms.specs.declared.ways.Way.{Way}
 use Rattle.fb_blossoms.specs.declared.legs.Ends.{Ends}
 use Rattle.fb_blossoms.specs.declared.legs.Leg.{Leg}
@@ -13,9 +11,9 @@ use Rattle.fb_blossoms.specs.Nodes.{IsNested, Node, cycle_at, cycle_of, defects_
 use Rattle.fb_blossoms.specs.Links.{AreLinked, LeadsOver, link_after, node_after}
 use Rattle.fb_blossoms.specs.Paths.{GoesRound, IsEvenPath, ends_here, goes_on, goes_round, stays}
 use Rattle.fb_blossoms.specs.InternalWays.{IsWay, LeadsDown}
-use Rattle.fb_blossoms.specs.InternalLegs.{AllBecome, AreEndWays, AreLegs, GoesOn, IsLeg, IsRoundFrom, IsRoundOf, Replaces, leg_size, legs_size}
+use Rattle.fb_blossoms.specs.InternalLegs.{AllBecome, AreEndWays, AreLegs, GoesOn, IsLeg, Replaces, legs_size}
 use Rattle.fb_blossoms.proofs.Nested.{is_in-one, one_in}
-use Rattle.fb_blossoms.proofs.Rounds.{child_within, none_after, on_place, on_round}
+use Rattle.fb_blossoms.proofs.Rounds.{child_within, none_after, on_place}
 use Rattle.fb_blossoms.proofs.Sizes.{passed, round_shorter, size_append}
 use Rattle.fb_blossoms.proofs.LegLists.{become_both, become_one, become_split, legs_both, legs_split, one_become}
 

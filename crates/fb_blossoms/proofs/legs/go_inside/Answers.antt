@@ -1,4 +1,4 @@
-use Rattle.std.proofs.Common.{ℕ, List, reverse, [], ◌∷◌, ◌++◌, refl, sym, subst}
+use Rattle.std.proofs.Common.{ℕ, List, reverse, [], refl, sym, subst}
 use Rattle.fb_blossoms.specs.declared.legs.Leg.{Leg}
 use Rattle.fb_blossoms.specs.declared.legs.Ends.{Ends}
 use Rattle.fb_blossoms.specs.declared.legs.Leg.TheVariants.{Inside}
