@@ -110,16 +110,10 @@ impl Tree {
         ensures { result ≡ role_in self.now node }
     {
         match self.branch_of(node) {
-            Some(branch) => if branch.plus == node {
-                Role::Plus
-            } else {
-                Role::Minus
-            },
-            None => if self.root == node {
-                Role::Plus
-            } else {
-                Role::Out
-            },
+            Some(branch) if branch.plus == node => Role::Plus,
+            Some(_) => Role::Minus,
+            None if node == self.root => Role::Plus,
+            None => Role::Out,
         }
     }
 
