@@ -2,8 +2,9 @@
 use Rattle.std.specs.Prelude.{ℕ, ◌≡◌, ◌==◌, List, [], ◌∷◌, ◌++◌, map, if◌then◌else◌}
 use Rattle.fb_links.specs.declared.cycle.CycleStep.{CycleStep}
 use Rattle.fb_laws.specs.Trees.{EntryOf, path_to}
-use Rattle.fb_laws.specs.TreeCycles.{ArePaths, cycle_links, cycle_nodes, last_plus}
+use Rattle.fb_laws.specs.TreeCycles.{ArePaths, cycle_links, cycle_nodes, last_plus, links_back, nodes_back}
 use Rattle.fb_trees.specs.Branches.{Grown}
+use Rattle.fb_trees.specs.Rooted.{IsPlus, IsRooted}
 
 abbrev pub step : ℕ → ℕ → CycleStep
 step node link = record { node = node; link = link }
@@ -37,3 +38,13 @@ pub record IsCycle (t : Grown) (a b closing : ℕ) (cycle : List CycleStep) : Ty
   pub paths : ArePaths t.branches a b shared up down
   pub nodes : map (λ s. s.node) cycle ≡ last_plus t.root shared ∷ cycle_nodes up down
   pub links : map (λ s. s.link) cycle ≡ cycle_links up closing down
+
+-- From a plus node the way up is the path to it, gone back.
+abbrev pub UpFromPlus : Type 0
+UpFromPlus = (t : Grown) (name : ℕ) → IsRooted t.root t.branches → IsPlus t name
+    → path_up t name ≡ steps_up (path_to t.branches name)
+
+-- Steps up branches have the nodes and the links of these branches.
+abbrev pub StepsListed : Type 0
+StepsListed = (path : List (EntryOf ℕ))
+    → (map (λ s. s.node) (steps_up path) ≡ nodes_back path) × (map (λ s. s.link) (steps_up path) ≡ links_back path)

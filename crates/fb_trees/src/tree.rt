@@ -1,5 +1,6 @@
 ghost use Rattle.std.specs.Prelude.{◌≡◌, ◌≢◌, ◌++◌, ℕ, true, false, map, IfOk, OnErr, OnOk};
 ghost use Rattle.std.specs.Option.{option_map};
+ghost use Rattle.fb_graph.specs.Nests.{AreMany};
 ghost use Rattle.fb_laws.specs.Trees.{path_to};
 ghost use Rattle.fb_trees.specs.Branches.{Grown, entries_of, entry_of};
 ghost use Rattle.fb_trees.specs.Rooted.{IsPlus, IsRooted, attached, bare, is_node, role_in};
@@ -110,16 +111,10 @@ impl Tree {
         ensures { result ≡ role_in self.now node }
     {
         match self.branch_of(node) {
-            Some(branch) => if branch.plus == node {
-                Role::Plus
-            } else {
-                Role::Minus
-            },
-            None => if self.root == node {
-                Role::Plus
-            } else {
-                Role::Out
-            },
+            Some(branch) if branch.plus == node => Role::Plus,
+            Some(_) => Role::Minus,
+            None if node == self.root => Role::Plus,
+            None => Role::Out,
         }
     }
 
@@ -143,7 +138,8 @@ impl Tree {
     }
 
     /// The cycle that a link between the plus nodes a and b closes, from its base on, where the paths to the two part.
-    /// Each step's link leads to the next step's node, that of the last one back to the base.
+    /// Each step's link leads to the next step's node, that of the last one back to the base. The nodes are an odd number
+    /// of at least three, each once.
     pub fn cycle_of(
         &self,
         alloc: Global,
@@ -155,7 +151,8 @@ impl Tree {
         requires first { IsPlus self.now a }
         requires second { IsPlus self.now b }
         requires apart { a ≢ b }
-        ensures { IfOk result (λ cycle. IsCycle self.now a b closing cycle.items) }
+        ensures cycle { IfOk result (λ cycle. IsCycle self.now a b closing cycle.items) }
+        ensures many { IfOk result (λ cycle. AreMany (map (λ s. s.node) cycle.items)) }
     {
         let up = self.branches_to(alloc, a)?;
         let down = self.branches_to(alloc, b)?;
