@@ -1,5 +1,6 @@
 pub mod Codes
-pub mod Kept
+pub mod InternalKept
+pub mod InternalNodes
 pub mod Line
 pub mod Moves
 pub mod Walks
