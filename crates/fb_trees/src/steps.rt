@@ -2,8 +2,8 @@ ghost use Rattle.std.specs.Prelude.{◌≡◌, ◌≤◌, ◌==◌, ◌++◌, �
 ghost use Rattle.fb_laws.specs.Trees.{beside};
 ghost use Rattle.fb_laws.specs.TreeCycles.{last_plus};
 ghost use Rattle.fb_trees.specs.Branches.{entries_of, entry_of};
-ghost use Rattle.fb_trees.specs.TreeSteps.{steps_down, steps_up};
-ghost use Rattle.fb_trees.specs.InternalPaths.{common_count};
+ghost use Rattle.fb_trees.specs.TreeSteps.{steps_up};
+ghost use Rattle.fb_trees.specs.InternalPaths.{common_count, steps_down};
 
 use crate::{Branch, CycleStep, LinkId, NoMemory, NodeId};
 use std::alloc::Global;
