@@ -14,6 +14,7 @@ use Rattle.fb_links.specs.declared.cycle.CycleStep.{CycleStep}
 use Rattle.fb_laws.specs.Trees.{Entry, EntryOf, path_to, plus_names, tree_names}
 use Rattle.fb_laws.specs.TreeCycles.{ArePaths, cycle_nodes, last_plus, nodes_along, nodes_back}
 use Rattle.fb_laws.proofs.MergedParts.{distinct_across}
+use Rattle.fb_laws.proofs.TreeCycles.{length_back}
 use Rattle.fb_laws.proofs.TreePaths.{along_among, along_append, along_minus, distinct_right, last_in, length_along, path_among, path_begins, path_distinct, path_holds, same_branch, shared_begins}
 use Rattle.fb_trees.specs.Branches.{Grown}
 use Rattle.fb_trees.specs.Rooted.{IsPlus, IsRooted}
@@ -56,10 +57,6 @@ distinct_back (e ∷ es) (minus_new, (plus_new, distinct)) =
     (false_from_ne_true (e.minus == n)
     (λ same. both_ways (is_in (nodes_along es) e.minus) parts.1 (ap (is_in (nodes_along es)) (eqb-true e.minus n same) ∙ along)))
     refl))
-
-length_back : (es : List Entry) → length (nodes_back es) ≡ 2 * length es
-length_back [] = refl
-length_back (e ∷ es) = omega (arith, length-append (nodes_back es) (e.plus ∷ e.minus ∷ []), length_back es)
 
 module _ (root : ℕ) (tree : List Entry) (names : AreDistinct (tree_names root tree)) (a b : ℕ) (shared up down : List Entry)
     (paths : ArePaths tree a b shared up down) where

@@ -15,8 +15,8 @@ use Rattle.fb_trees.specs.declared.branch.Branch.{Branch}
 use Rattle.fb_trees.specs.Branches.{Grown, entries_of, entry_of}
 use Rattle.fb_trees.specs.Rooted.{AreHung, IsPlus, IsRooted, is_node}
 use Rattle.fb_trees.specs.TreeLinks.{map_entry}
-use Rattle.fb_trees.specs.TreeSteps.{IsCycle, path_up, step, steps_down, steps_up, way_up}
-use Rattle.fb_trees.specs.InternalPaths.{common_count}
+use Rattle.fb_trees.specs.TreeSteps.{IsCycle, path_up, step, steps_up, way_up}
+use Rattle.fb_trees.specs.InternalPaths.{common_count, steps_down}
 use Rattle.fb_trees.specs.InternalPlaces.{branch_at}
 use Rattle.fb_trees.proofs.Lookups.{branch_nodes, entries_push, no_branch_plus}
 use Rattle.fb_trees.proofs.Mapped.{names_moved, paths_moved}

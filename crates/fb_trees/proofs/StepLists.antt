@@ -9,8 +9,8 @@ use Rattle.fb_laws.specs.Trees.{EntryOf}
 use Rattle.fb_laws.specs.TreeCycles.{cycle_links, cycle_nodes, last_plus, links_along, links_back, nodes_along, nodes_back}
 use Rattle.fb_trees.specs.declared.branch.Branch.{Branch}
 use Rattle.fb_trees.specs.Branches.{entry_of}
-use Rattle.fb_trees.specs.TreeSteps.{step, steps_down, steps_up}
-use Rattle.fb_trees.specs.InternalPaths.{common_count}
+use Rattle.fb_trees.specs.TreeSteps.{step, steps_up}
+use Rattle.fb_trees.specs.InternalPaths.{common_count, steps_down}
 
 -- up one branch more
 pub up_push : (es : List (EntryOf ℕ)) (e : EntryOf ℕ) → steps_up (es ++ e ∷ []) ≡ step e.plus e.matched ∷ step e.minus e.tree ∷ steps_up es

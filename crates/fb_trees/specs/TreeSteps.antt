@@ -14,12 +14,6 @@ abbrev pub steps_up : List (EntryOf ℕ) → List CycleStep
 steps_up [] = []
 steps_up (e ∷ es) = steps_up es ++ step e.plus e.matched ∷ step e.minus e.tree ∷ []
 
--- Down such branches, from the node on which the first one hangs: each node with the link to its child, and the last
--- one with a further link.
-abbrev pub steps_down : ℕ → List (EntryOf ℕ) → ℕ → List CycleStep
-steps_down name [] closing = step name closing ∷ []
-steps_down name (e ∷ es) closing = step name e.tree ∷ step e.minus e.matched ∷ steps_down e.plus es closing
-
 -- From a node of the tree up to the root, which isn't listed: a minus node first leads to its parent.
 abbrev pub way_up : List (EntryOf ℕ) → List (EntryOf ℕ) → ℕ → List CycleStep
 way_up tree [] name = steps_up (path_to tree name)

@@ -4,8 +4,8 @@ use Rattle.fb_graph.specs.Nests.{AreMany}
 use Rattle.fb_links.specs.declared.cycle.CycleStep.{CycleStep}
 use Rattle.fb_laws.specs.TreeCycles.{last_plus}
 use Rattle.fb_trees.specs.Branches.{entry_of}
-use Rattle.fb_trees.specs.InternalPaths.{common_count}
-use Rattle.fb_trees.specs.TreeSteps.{IsCycle, steps_down, steps_up}
+use Rattle.fb_trees.specs.InternalPaths.{common_count, steps_down}
+use Rattle.fb_trees.specs.TreeSteps.{IsCycle, steps_up}
 use Rattle.fb_trees.proofs.Cycles.{many_of_cycle}
 use Rattle.fb_trees.proofs.Paths.{cycle_is}
 use Rattle.fb_trees.proofs.tree.Tree.cycle_of.Goals as goal
