@@ -1,0 +1,16 @@
+//! A half-solved part of a plan: its dual state, its blossoms, its links and which of its nodes are matched (Wu and
+//! Zhong 2023).
+
+#![tactic(auto)]
+
+pub mod half;
+pub mod matches;
+pub mod matching;
+pub mod parts;
+pub mod work;
+
+pub use half::Half;
+pub use matches::{Match, Standing};
+pub use matching::Matching;
+pub use parts::Parts;
+pub use work::Work;

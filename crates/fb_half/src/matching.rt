@@ -1,0 +1,194 @@
+ghost use Rattle.std.specs.Prelude.{◌≡◌, ◌<◌, ◌≤◌, ℕ, true, false, if◌then◌else◌, [], ◌∷◌, ◌++◌, length, All, OnOk, OnErr, MatchOption};
+ghost use Rattle.std.specs.List.Sorted.{IsPermutation};
+ghost use Rattle.fb_graph.specs.Parity.{is_in};
+ghost use Rattle.fb_half.specs.InternalStandings.{standing_of};
+ghost use Rattle.fb_half.specs.Matchings.{IsMatchAt, listed_names, match_links, matched_names, names_of};
+ghost use Rattle.fb_half.specs.Standings.{is_matched, is_unmatched};
+
+use crate::matches::{Match, Standing};
+use fb_graph::NoMemory;
+use fb_links::{LinkId, NodeId};
+use std::alloc::Global;
+use std::marker::Model;
+
+/// Which outer nodes of a part are matched, by which links, and which are not. A node is found by its name without a
+/// search. Contracts see the matches and the unmatched names, each as a list whose order is free.
+#[derive(Drop)]
+pub struct Matching {
+    matches: Vec<Match>,
+    /// The links of the matches, in the same order.
+    links: Vec<LinkId>,
+    unmatched: Vec<NodeId>,
+    /// Where each name is listed.
+    standings: Vec<Standing>,
+}
+
+impl Model for Matching {
+    ghost use Rattle.std.specs.Prelude.{◌≡◌, map};
+    ghost use Rattle.fb_half.specs.Matchings.{MatchingValue, match_links};
+    ghost use Rattle.fb_half.specs.InternalStandings.{AreStanding};
+
+    ghost Value = { MatchingValue };
+
+    ghost view = { λ m. record { matches = m.matches.items; unmatched = m.unmatched.items } };
+
+    ghost invariant = { λ m. (m.links.items ≡ match_links m.matches.items)
+        × AreStanding m.matches.items m.unmatched.items m.standings.items };
+}
+
+impl Matching {
+    /// The matching that lists no node.
+    pub fn new(alloc: Global) -> Matching
+        ensures { result ≡ record { matches = []; unmatched = [] } }
+    {
+        Matching {
+            matches: Vec::new(alloc),
+            links: Vec::new(alloc),
+            unmatched: Vec::new(alloc),
+            standings: Vec::new(alloc),
+        }
+    }
+
+    /// The links of the matches.
+    pub fn links(&self) -> &[LinkId]
+        ensures { result.now ≡ match_links self.now.matches }
+    {
+        self.links.as_slice()
+    }
+
+    /// The matches.
+    pub fn matches(&self) -> &[Match]
+        ensures { result.now ≡ self.now.matches }
+    {
+        self.matches.as_slice()
+    }
+
+    /// The names of the nodes without a match.
+    pub fn unmatched(&self) -> &[NodeId]
+        ensures { result.now ≡ self.now.unmatched }
+    {
+        self.unmatched.as_slice()
+    }
+
+    /// Where the matching lists the node.
+    pub fn standing(&self, name: NodeId) -> Standing
+        ensures unmatched { is_in self.now.unmatched name ≡ is_unmatched result }
+        ensures matched { is_in (matched_names self.now.matches) name ≡ is_matched result }
+    {
+        standing_in(&self.standings, name)
+    }
+
+    /// The match of the node, if it has one.
+    pub fn match_of(&self, name: NodeId) -> Option<Match>
+        ensures { MatchOption result (is_in (matched_names self.now.matches) name ≡ false) (λ m. IsMatchAt self.now.matches m name) }
+    {
+        match standing_in(&self.standings, name) {
+            Standing::Matched(place) => Some(self.matches[place]),
+            _ => None,
+        }
+    }
+
+    /// Lists a further node as unmatched.
+    pub fn add_unmatched(&mut self, _alloc: Global, name: NodeId) -> Result<(), NoMemory>
+        requires { is_in (listed_names self.old) name ≡ false }
+        ensures ok { OnOk result (self.new ≡ record { matches = self.old.matches; unmatched = self.old.unmatched ++ name ∷ [] }) }
+        ensures err { OnErr result (self.new ≡ self.old) }
+    {
+        // The vectors grow by the allocator that they were made with.
+        self.unmatched.reserve(1)?;
+        widen(&mut self.standings, name)?;
+        self.standings[name as usize] = Standing::Unmatched(self.unmatched.len());
+        self.unmatched.push_reserved(name);
+        Ok(())
+    }
+
+    /// Adds a match of nodes that are not listed yet.
+    pub fn add_match(&mut self, _alloc: Global, m: Match) -> Result<(), NoMemory>
+        requires { All (λ name. is_in (listed_names self.old) name ≡ false) (names_of m) }
+        ensures ok { OnOk result (self.new ≡ record { matches = self.old.matches ++ m ∷ []; unmatched = self.old.unmatched }) }
+        ensures err { OnErr result (self.new ≡ self.old) }
+    {
+        // The vectors grow by the allocator that they were made with.
+        self.matches.reserve(1)?;
+        self.links.reserve(1)?;
+        widen(&mut self.standings, m.first)?;
+        if let Some(second) = m.second {
+            widen(&mut self.standings, second)?;
+        }
+        set_names(&mut self.standings, m, Standing::Matched(self.matches.len()));
+        self.matches.push_reserved(m);
+        self.links.push_reserved(m.link);
+        Ok(())
+    }
+
+    /// Takes an unmatched node off the list.
+    pub fn take_unmatched(&mut self, name: NodeId)
+        requires { is_in self.old.unmatched name ≡ true }
+        ensures matches { self.new.matches ≡ self.old.matches }
+        ensures unmatched { IsPermutation self.old.unmatched (name ∷ self.new.unmatched) }
+    {
+        let Standing::Unmatched(place) = standing_in(&self.standings, name) else {
+            unreachable!()
+        };
+        self.unmatched.swap_remove(place);
+        self.standings[name as usize] = Standing::Absent;
+        if let Some(moved) = self.unmatched.get(place) {
+            self.standings[*moved as usize] = Standing::Unmatched(place);
+        }
+    }
+
+    /// Takes out the match of a node, so that neither of its nodes is listed any more.
+    pub fn take_match(&mut self, name: NodeId) -> Match
+        requires { is_in (matched_names self.old.matches) name ≡ true }
+        ensures name { is_in (names_of result) name ≡ true }
+        ensures matches { IsPermutation self.old.matches (result ∷ self.new.matches) }
+        ensures unmatched { self.new.unmatched ≡ self.old.unmatched }
+    {
+        let Standing::Matched(place) = standing_in(&self.standings, name) else {
+            unreachable!()
+        };
+        let taken = self.matches.swap_remove(place);
+        self.links.swap_remove(place);
+        set_names(&mut self.standings, taken, Standing::Absent);
+        if let Some(moved) = self.matches.get(place) {
+            set_names(&mut self.standings, *moved, Standing::Matched(place));
+        }
+        taken
+    }
+}
+
+/// The table's entry of the name.
+fn standing_in(standings: &[Standing], name: NodeId) -> Standing
+    ensures { result ≡ standing_of standings.now name }
+{
+    match standings.get(name as usize) {
+        Some(standing) => *standing,
+        None => Standing::Absent,
+    }
+}
+
+/// Gives the table an entry for the name, if it has none.
+fn widen(standings: &mut Vec<Standing>, name: NodeId) -> Result<(), NoMemory>
+    ensures within { OnOk result (name < length standings.new.items) }
+    ensures longer { length standings.old.items ≤ length standings.new.items }
+    ensures same { (k : ℕ) → standing_of standings.new.items k ≡ standing_of standings.old.items k }
+{
+    let Some(count) = (name as usize).checked_add(1) else {
+        return Err(NoMemory);
+    };
+    if standings.len() < count {
+        standings.resize(count, Standing::Absent)?;
+    }
+    Ok(())
+}
+
+/// Sets the entries of the nodes that a match matches.
+fn set_names(standings: &mut [Standing], m: Match, standing: Standing)
+    requires { All (λ name. name < length standings.old) (names_of m) }
+    ensures { (k : ℕ) → standing_of standings.new k ≡ (if is_in (names_of m) k then standing else standing_of standings.old k) }
+{
+    standings[m.first as usize] = standing;
+    if let Some(second) = m.second {
+        standings[second as usize] = standing;
+    }
+}
