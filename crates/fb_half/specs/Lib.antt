@@ -1,0 +1,5 @@
+pub mod InternalStandings
+pub mod Matchings
+pub mod Parts
+pub mod Translations
+pub mod Standings
