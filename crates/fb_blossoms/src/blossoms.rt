@@ -1,4 +1,4 @@
-ghost use Rattle.std.specs.Prelude.{◌≡◌, ◌≢◌, ℕ, nat_eq, [], reverse, true, IfOk, OnErr, Some};
+ghost use Rattle.std.specs.Prelude.{◌≡◌, ◌≢◌, ℕ, nat_eq, [], reverse, true, false, IfNone, IfOk, IfSome, OnErr, Some};
 ghost use Rattle.std.specs.HashMap.{get};
 ghost use Rattle.fb_blossoms.specs.Links.{AllLinked, AreLinked};
 ghost use Rattle.fb_blossoms.specs.Paths.{IsEvenPath};
@@ -133,6 +133,14 @@ impl Blossoms {
             unreachable!()
         };
         child_over(&self.nodes, self.made, node, leaf)
+    }
+
+    /// The leaf of the defect; `None` if no node holds it.
+    pub fn leaf_of(&self, defect: u32) -> Option<NodeId>
+        ensures leaf { IfSome result (λ x. node_at self.now x ≡ Some (leaf defect)) }
+        ensures none { IfNone result ((x : ℕ) → is_in (defects_at self.now x) defect ≡ false) }
+    {
+        leaf_of(&self.leaves, defect)
     }
 
     /// The blossom in whose cycle the node is, if it is not outer.
