@@ -20,7 +20,7 @@ AreClosed store marks = (p x : ℕ) → is_on (cycle_at store p) x ≡ true → 
 -- the node and those round it are marked, and no others than before
 pub record IsMarkedUp (store : List (Option blossoms.Node)) (old new : List Bool) (node : ℕ) : Type 0 where
   pub closed : AreClosed store new
-  pub node : is_marked new node ≡ true
+  pub marked : is_marked new node ≡ true
   pub kept : (x : ℕ) → is_marked old x ≡ true → is_marked new x ≡ true
   pub only : (x : ℕ) → is_marked new x ≡ true
       → (is_marked old x ≡ true) ⊎ AreWithin (defects_at store node) (defects_at store x)
