@@ -94,5 +94,4 @@ mod tests {
     use std::test::Fail;
 
     const FUSIONS_OF_FIVE: [(u64, u64, u64); 4] = [(0, 1, 1), (2, 3, 3), (5, 6, 2), (7, 4, 4)];
-
 }

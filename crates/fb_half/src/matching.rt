@@ -115,7 +115,11 @@ impl Matching {
         if let Some(second) = m.second {
             widen(&mut self.standings, second)?;
         }
-        set_names(&mut self.standings, m, Standing::Matched(self.matches.len()));
+        set_names(
+            &mut self.standings,
+            m,
+            Standing::Matched(self.matches.len()),
+        );
         self.matches.push_reserved(m);
         self.links.push_reserved(m.link);
         Ok(())

@@ -40,16 +40,30 @@ impl MinusNodes for Alone {
 fn line_graph(alloc: Global) -> Result<Graph, GraphFault>
     ensures { IfOk result (λ g. g ≡ line 2) }
 {
-    Graph::build(alloc, 5, &[(0, 1, 2), (1, 2, 4), (2, 3, 2), (3, 4, 6)], &[0, 4])
+    Graph::build(
+        alloc,
+        5,
+        &[(0, 1, 2), (1, 2, 4), (2, 3, 2), (3, 4, 6)],
+        &[0, 4],
+    )
 }
 
 fn tight_graph(alloc: Global) -> Result<Graph, GraphFault>
     ensures { IfOk result (λ g. g ≡ line 0) }
 {
-    Graph::build(alloc, 5, &[(0, 1, 2), (1, 2, 4), (2, 3, 0), (3, 4, 6)], &[0, 4])
+    Graph::build(
+        alloc,
+        5,
+        &[(0, 1, 2), (1, 2, 4), (2, 3, 0), (3, 4, 6)],
+        &[0, 4],
+    )
 }
 
-fn one_leaf<'a>(alloc: Global, graph: &'a Graph, weight: u64) -> Result<Regions<Whole<'a>>, NoMemory>
+fn one_leaf<'a>(
+    alloc: Global,
+    graph: &'a Graph,
+    weight: u64,
+) -> Result<Regions<Whole<'a>>, NoMemory>
     requires { graph.now ≡ line weight }
     ensures { IfOk result (λ r. r ≡ record { scope = record { 0 = graph.entry }; nodes = one_leaf }) }
 {
@@ -101,7 +115,12 @@ fn by_definition(scope: &Whole<'_>, regions: &Regions<Whole<'_>>) -> Obstacle
 }
 
 /// The next obstacle, and the one by the definition.
-fn both_ways<L: Ledger>(alloc: Global, graph: &Graph, weight: u64, blank: Blank) -> Result<(Obstacle, Obstacle), Fail>
+fn both_ways<L: Ledger>(
+    alloc: Global,
+    graph: &Graph,
+    weight: u64,
+    blank: Blank,
+) -> Result<(Obstacle, Obstacle), Fail>
     requires graph { graph.now ≡ line weight }
     requires name { blank.name ≡ L.name }
     requires parts { blank.parts ≡ L.parts }

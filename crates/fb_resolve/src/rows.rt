@@ -31,12 +31,7 @@ fn edges_of(alloc: Global, links: &Links, ids: &[LinkId]) -> Result<Vec<u32>, No
 }
 
 /// Adds the edges of the link's walk.
-fn push_walk(
-    alloc: Global,
-    links: &Links,
-    edges: &mut Vec<u32>,
-    id: LinkId,
-) -> Result<(), NoMemory>
+fn push_walk(alloc: Global, links: &Links, edges: &mut Vec<u32>, id: LinkId) -> Result<(), NoMemory>
     requires { is_live links.now id ≡ true }
     ensures { OnOk result (edges.new.items ≡ edges.old.items ++ map (λ s. s.edge) (walk_at links.now id)) }
 {

@@ -11,4 +11,8 @@ pub mod witnesses;
 pub use examples::{opening_examples, ring_witness, search_witness};
 pub use instances::{cycle_witness, fused_witness, nest_witness, nested_witness, tree_witness};
 pub use state_instances::state_witness;
-pub use witnesses::{blossom_witness, cover_witness, dual_witness, end_witness, forming_witness, fusion_witness, link_witness, merging_witness, opening_witness, parity_witness, path_witness, signed_witness, step_witness, work_witness};
+pub use witnesses::{
+    blossom_witness, cover_witness, dual_witness, end_witness, forming_witness, fusion_witness,
+    link_witness, merging_witness, opening_witness, parity_witness, path_witness, signed_witness,
+    step_witness, work_witness,
+};

@@ -18,6 +18,7 @@ pub loop-next-preserved : goal.loop-next-preserved
 loop-next-preserved c =
     let below : c.in-Some.name < length c.loop-next.marks =
     c.loop-next.invariant.0 c.in-Some.name (c.loop-next.invariant.1.live c.in-Some.name c.in-Some.is) in
-    let P : Option ℕ → Type 0 = IsGoingUp c.args.blossoms.now c.args.marks.now c.loop-next.marks c.args.node in
-    (λ x live. rw length-set (c.loop-next.invariant.0 x live),
-    going_on _ _ _ _ c.in-Some.name c.parent-next.result c.keeps.ensures (subst P c.in-Some.is c.loop-next.invariant.1) below c.if-marks-name.false c.parent-next.ensures)
+    let P : Option ℕ → Type 0 = IsGoingUp c.args.blossoms.now c.args.marks.now c.loop-next.marks c.args.node in (
+      λ x live. rw length-set (c.loop-next.invariant.0 x live),
+      going_on _ _ _ _ c.in-Some.name c.parent-next.result c.keeps.ensures (subst P c.in-Some.is c.loop-next.invariant.1) below c.if-marks-name.false c.parent-next.ensures,
+    )
