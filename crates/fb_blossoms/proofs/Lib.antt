@@ -1,6 +1,7 @@
 pub mod Climbs
 pub mod Held
 pub mod Nested
+pub mod Seats
 pub mod Changes
 pub mod Moves
 pub mod Tails

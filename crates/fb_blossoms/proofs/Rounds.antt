@@ -1,10 +1,7 @@
 -- The way round a cycle.
-use Rattle.std.proofs.Common.{◌≡◌, ◌≢◌, ◌⊎◌, inl, inr, ℕ, zero, suc, ◌+◌, ◌-◌, ◌%◌, ◌<◌, ◌≤◌, ◌==◌, ◌&&◌, Bool, true, false, List, [], ◌∷◌, length, Option, Some, None, refl, sym, ◌∙◌, ap, subst, arith, le_trans}
-use Rattle.std.specs.List.{position, position_or_len}
+use Rattle.std.proofs.Common.{◌≡◌, ◌≢◌, ◌⊎◌, inl, inr, ℕ, zero, suc, ◌+◌, ◌-◌, ◌%◌, ◌<◌, ◌≤◌, ◌==◌, ◌&&◌, Bool, true, false, List, [], ◌∷◌, length, Option, Some, None, refl, sym, ◌∙◌, ap, subst, arith}
 use Rattle.std.proofs.lemmas.Bool.{and_parts, both_ways, cases_eq, cases_lt, eq-eqb, eqb-true, le-leb, le-ltb, lt-leb, lt-ltb, ne_eqb, or_cases, or_left, or_right}
-use Rattle.std.proofs.lemmas.List.Folds.{list_any_at, list_any_none}
-use Rattle.std.proofs.lemmas.List.Quantifiers.{position-Some}
-use Rattle.std.proofs.lemmas.List.Sums.{fails_before_first}
+use Rattle.std.proofs.lemmas.List.Folds.{list_any_at}
 use Rattle.fb_links.specs.declared.walk.Step.{Step}
 use Rattle.fb_links.specs.declared.cycle.CycleStep.{CycleStep}
 use Rattle.fb_links.specs.Walks.{end_of, start_of}
@@ -12,7 +9,6 @@ use Rattle.fb_links.specs.Table.{walk_at}
 use Rattle.fb_blossoms.specs.Nodes.{AreDistinct, AreWithin, IsBlossom, IsNested, IsOddCycle, Node, cycle_at, cycle_of, defects_along, defects_at, defects_of, is_in, is_on, node_at}
 use Rattle.fb_blossoms.specs.Links.{AreLinked, IsLinkBetween, link_after, next_place, node_after, place_after, step_at}
 use Rattle.fb_blossoms.specs.Paths.{has_link}
-use Rattle.fb_blossoms.proofs.Climbs.{none_some}
 use Rattle.fb_blossoms.proofs.Held.{to_along}
 
 -- where the steps lead
@@ -195,30 +191,6 @@ module _ (links : List (Option (List Step))) (nodes : List (Option Node)) (neste
         | inr b ↦ child_within nodes nested name y on_y _ (and_parts _ _ b).0
       ]
 
--- a node of the cycle has a place
-pub place_none : (cycle : List CycleStep) (r : Option ℕ) (x : ℕ) → is_on cycle x ≡ true → r ≡ position (λ s. s.node == x) cycle → r ≡ None → ⊥
-place_none cycle r x on is e =
-    both_ways (is_on cycle x) (list_any_none (λ s. s.node == x) cycle (λ k d less. fails_before_first (λ s. s.node == x) cycle k d (le_trans less past))) on
-  where
-    none : position (λ (s : CycleStep). s.node == x) cycle ≡ None
-    none = sym is ∙ e
-
-    past : length cycle ≤ position_or_len (λ (s : CycleStep). s.node == x) cycle
-    past =
-        elim (cases_lt (position_or_len (λ (s : CycleStep). s.node == x) cycle) (length cycle)) [
-          | inl h ↦
-              let f : position (λ (s : CycleStep). s.node == x) cycle ≡ Some (position_or_len (λ (s : CycleStep). s.node == x) cycle) =
-              rw (lt-ltb (position_or_len (λ (s : CycleStep). s.node == x) cycle) (length cycle) h) refl in
-              absurd (none_some (position (λ (s : CycleStep). s.node == x) cycle) _ none f)
-          | inr h ↦ h
-        ]
-
-pub place_is : (cycle : List CycleStep) (r : Option ℕ) (x k : ℕ) → r ≡ position (λ s. s.node == x) cycle → r ≡ Some k
-    → (k < length cycle) × ((step_at cycle k).node ≡ x)
-place_is cycle r x k is e =
-    let found = position-Some (λ (s : CycleStep). s.node == x) cycle k (record { node = 0; link = 0 }) (sym is ∙ e) in
-    (found.0, eqb-true _ x found.1)
-
 -- a step of the cycle is at the node
 pub on_place : (cycle : List CycleStep) (x : ℕ) → is_on cycle x ≡ true → (k : ℕ) × (k < length cycle) × ((step_at cycle k).node ≡ x)
 on_place [] x on = absurd (both_ways false refl on)
@@ -237,7 +209,3 @@ place_zero count false s less =
 -- no step from the place of a node leads to the node
 pub none_after : (cycle : List CycleStep) (onward : Bool) (s x : ℕ) → s < length cycle → (step_at cycle s).node ≡ x → node_after cycle onward s 0 ≡ x
 none_after cycle onward s x less at = ap (λ p. (step_at cycle p).node) (place_zero (length cycle) onward s less) ∙ at
-
-pub steps_after : (cycle : List CycleStep) (onward : Bool) (s k place x : ℕ) → place_after (length cycle) onward s k ≡ place → (step_at cycle place).node ≡ x
-    → node_after cycle onward s k ≡ x
-steps_after cycle onward s k place x there at = ap (λ p. (step_at cycle p).node) there ∙ at
