@@ -1,4 +1,4 @@
-ghost use Rattle.std.specs.Prelude.{◌≡◌, ◌<◌, ◌≤◌, ℕ, true, false, if◌then◌else◌, [], ◌∷◌, ◌++◌, length, All, OnOk, OnErr, MatchOption};
+ghost use Rattle.std.specs.Prelude.{◌≡◌, ◌<◌, ◌≤◌, ◌==◌, ℕ, true, false, if◌then◌else◌, [], ◌∷◌, ◌++◌, length, All, OnOk, OnErr, MatchOption};
 ghost use Rattle.std.specs.List.Sorted.{IsPermutation};
 ghost use Rattle.fb_graph.specs.Parity.{is_in};
 ghost use Rattle.fb_half.specs.InternalStandings.{standing_of};
@@ -97,7 +97,8 @@ impl Matching {
         // The vectors grow by the allocator that they were made with.
         self.unmatched.reserve(1)?;
         widen(&mut self.standings, name)?;
-        self.standings[name as usize] = Standing::Unmatched(self.unmatched.len());
+        let place = self.unmatched.len();
+        set_name(&mut self.standings, name, Standing::Unmatched(place));
         self.unmatched.push_reserved(name);
         Ok(())
     }
@@ -111,6 +112,7 @@ impl Matching {
         // The vectors grow by the allocator that they were made with.
         self.matches.reserve(1)?;
         self.links.reserve(1)?;
+<<<<<<< HEAD
         widen(&mut self.standings, m.first)?;
         if let Some(second) = m.second {
             widen(&mut self.standings, second)?;
@@ -120,6 +122,11 @@ impl Matching {
             m,
             Standing::Matched(self.matches.len()),
         );
+=======
+        widen_names(&mut self.standings, m)?;
+        let place = self.matches.len();
+        set_names(&mut self.standings, m, Standing::Matched(place));
+>>>>>>> 20bdf2dc0696406514992e9720e7f2f9a19c5d0f
         self.matches.push_reserved(m);
         self.links.push_reserved(m.link);
         Ok(())
@@ -135,9 +142,10 @@ impl Matching {
             unreachable!()
         };
         self.unmatched.swap_remove(place);
-        self.standings[name as usize] = Standing::Absent;
-        if let Some(moved) = self.unmatched.get(place) {
-            self.standings[*moved as usize] = Standing::Unmatched(place);
+        set_name(&mut self.standings, name, Standing::Absent);
+        if place < self.unmatched.len() {
+            let moved = self.unmatched[place];
+            set_name(&mut self.standings, moved, Standing::Unmatched(place));
         }
     }
 
@@ -154,8 +162,9 @@ impl Matching {
         let taken = self.matches.swap_remove(place);
         self.links.swap_remove(place);
         set_names(&mut self.standings, taken, Standing::Absent);
-        if let Some(moved) = self.matches.get(place) {
-            set_names(&mut self.standings, *moved, Standing::Matched(place));
+        if place < self.matches.len() {
+            let moved = self.matches[place];
+            set_names(&mut self.standings, moved, Standing::Matched(place));
         }
         taken
     }
@@ -186,13 +195,35 @@ fn widen(standings: &mut Vec<Standing>, name: NodeId) -> Result<(), NoMemory>
     Ok(())
 }
 
-/// Sets the entries of the nodes that a match matches.
-fn set_names(standings: &mut [Standing], m: Match, standing: Standing)
-    requires { All (λ name. name < length standings.old) (names_of m) }
-    ensures { (k : ℕ) → standing_of standings.new k ≡ (if is_in (names_of m) k then standing else standing_of standings.old k) }
+/// Gives the table an entry for each node that the match matches.
+fn widen_names(standings: &mut Vec<Standing>, m: Match) -> Result<(), NoMemory>
+    ensures within { OnOk result (All (λ name. name < length standings.new.items) (names_of m)) }
+    ensures same { (k : ℕ) → standing_of standings.new.items k ≡ standing_of standings.old.items k }
 {
-    standings[m.first as usize] = standing;
+    widen(standings, m.first)?;
+    match m.second {
+        Some(second) => widen(standings, second),
+        None => Ok(()),
+    }
+}
+
+/// Sets the entry of a name that the table has one for.
+fn set_name(standings: &mut Vec<Standing>, name: NodeId, standing: Standing)
+    requires { name < length standings.old.items }
+    ensures count { length standings.new.items ≡ length standings.old.items }
+    ensures entries { (k : ℕ) → standing_of standings.new.items k ≡ (if name == k then standing else standing_of standings.old.items k) }
+{
+    standings[name as usize] = standing;
+}
+
+/// Sets the entries of the nodes that a match matches.
+fn set_names(standings: &mut Vec<Standing>, m: Match, standing: Standing)
+    requires { All (λ name. name < length standings.old.items) (names_of m) }
+    ensures count { length standings.new.items ≡ length standings.old.items }
+    ensures entries { (k : ℕ) → standing_of standings.new.items k ≡ (if is_in (names_of m) k then standing else standing_of standings.old.items k) }
+{
+    set_name(standings, m.first, standing);
     if let Some(second) = m.second {
-        standings[second as usize] = standing;
+        set_name(standings, second, standing);
     }
 }
