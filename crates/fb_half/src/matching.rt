@@ -112,21 +112,9 @@ impl Matching {
         // The vectors grow by the allocator that they were made with.
         self.matches.reserve(1)?;
         self.links.reserve(1)?;
-<<<<<<< HEAD
-        widen(&mut self.standings, m.first)?;
-        if let Some(second) = m.second {
-            widen(&mut self.standings, second)?;
-        }
-        set_names(
-            &mut self.standings,
-            m,
-            Standing::Matched(self.matches.len()),
-        );
-=======
         widen_names(&mut self.standings, m)?;
         let place = self.matches.len();
         set_names(&mut self.standings, m, Standing::Matched(place));
->>>>>>> 20bdf2dc0696406514992e9720e7f2f9a19c5d0f
         self.matches.push_reserved(m);
         self.links.push_reserved(m.link);
         Ok(())
