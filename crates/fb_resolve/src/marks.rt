@@ -1,6 +1,6 @@
 //! Marks on the nodes in which a link ends.
 
-ghost use Rattle.std.specs.Prelude.{◌≡◌, ℕ, ◌<◌, ◌||◌, true, false, length, IfOk};
+ghost use Rattle.std.specs.Prelude.{◌≡◌, ℕ, ◌<◌, ◌≤◌, ◌||◌, true, false, length, All, IfOk};
 ghost use Rattle.fb_graph.specs.Parity.{is_in};
 ghost use Rattle.fb_blossoms.specs.Nodes.{defects_at, is_live};
 ghost use Rattle.fb_links.specs.Table.{walk_at};
@@ -18,7 +18,21 @@ pub fn no_marks(alloc: Global, names: &[NodeId]) -> Result<Vec<bool>, NoMemory>
     ensures places { IfOk result (λ marks. (x : ℕ) → is_in names.now x ≡ true → x < length marks.items) }
     ensures none { IfOk result (λ marks. (x : ℕ) → is_marked marks.items x ≡ false) }
 {
-    Err(NoMemory)
+    let Some(size) = name_bound(names).checked_add(1) else {
+        return Err(NoMemory);
+    };
+    vec![in alloc; false; size]
+}
+
+/// The greatest of the names; 0 if there is none.
+fn name_bound(names: &[NodeId]) -> usize
+    ensures { All (λ name. name ≤ result) names.now }
+{
+    let mut bound = 0;
+    for name in names {
+        bound = (*name as usize).max(bound);
+    }
+    bound
 }
 
 /// Marks the node and those round it, up to the first one that is marked already. So all marks on a part take no more
@@ -47,6 +61,7 @@ fn mark_end(blossoms: &Blossoms, marks: &mut [bool], vertex: u32)
     ensures closed { AreClosed blossoms.now marks.new }
     ensures marks { (x : ℕ) → is_marked marks.new x ≡ (is_marked marks.old x || is_in (defects_at blossoms.now x) vertex) }
 {
+    blossoms.keeps();
     if let Some(leaf) = blossoms.leaf_of(vertex) {
         mark_up(blossoms, marks, leaf);
     }

@@ -1,13 +1,13 @@
 //! The links that solve a part once all its blossoms are opened.
 
-ghost use Rattle.std.specs.Prelude.{◌≡◌, ℕ, ◌≤◌, ◌<◌, ◌^◌, ◌++◌, true, length, map, All, IfOk, OnOk};
+ghost use Rattle.std.specs.Prelude.{◌≡◌, ℕ, ◌≤◌, ◌++◌, ◌||◌, true, length, map, All, IfOk, OnOk};
 ghost use Rattle.fb_graph.specs.Parity.{is_in};
 ghost use Rattle.fb_blossoms.specs.Nodes.{is_live};
 ghost use Rattle.fb_links.specs.Table as table;
 ghost use Rattle.fb_laws.specs.OpenedLinks.{every_second, place_of, round_from};
 ghost use Rattle.fb_half.specs.Translations.{ring_at};
-ghost use Rattle.fb_resolve.specs.Openings.{opened_numbers, pair_numbers};
-ghost use Rattle.fb_resolve.specs.InternalMarks.{AreMarks, HasPlaces, is_marked};
+ghost use Rattle.fb_resolve.specs.Openings.{is_reached, opened_numbers, pair_numbers};
+ghost use Rattle.fb_resolve.specs.InternalMarks.{AreClosed, AreMarks, HasPlaces, is_marked};
 
 use crate::marks::{mark_link, no_marks};
 use fb_blossoms::Blossoms;
@@ -29,7 +29,28 @@ pub fn opened(
     requires rings { (x : ℕ) → All (λ id. table.is_live links.now id ≡ true) (ring_at blossoms.now x) }
     ensures { IfOk result (λ ids. ids.items ≡ opened_numbers links.now blossoms.now matches.now names.now) }
 {
-    Err(NoMemory)
+    let mut marks = no_marks(alloc, names)?;
+    let mut ids = Vec::from_slice(alloc, matches)?;
+    mark_links(blossoms, links, &mut marks, matches);
+    let mut i = names.len();
+    while i > 0 {
+        i -= 1;
+        open_node(blossoms, links, &mut marks, &mut ids, names[i])?;
+    }
+    Ok(ids)
+}
+
+/// Marks the nodes in which the links end.
+fn mark_links(blossoms: &Blossoms, links: &Links, marks: &mut [bool], ids: &[LinkId])
+    requires places { HasPlaces blossoms.now (length marks.old) }
+    requires live { All (λ id. table.is_live links.now id ≡ true) ids.now }
+    requires closed { AreClosed blossoms.now marks.old }
+    ensures closed { AreClosed blossoms.now marks.new }
+    ensures marks { (x : ℕ) → is_marked marks.new x ≡ (is_marked marks.old x || is_reached links.now blossoms.now ids.now x) }
+{
+    for id in ids {
+        mark_link(blossoms, links, marks, *id);
+    }
 }
 
 /// Opens the node: adds the links that match its children in pairs, but for the one that is marked, and marks the
@@ -47,7 +68,11 @@ fn open_node(
     ensures ids { OnOk result (ids.new.items ≡ ids.old.items ++ pair_numbers links.now blossoms.now ids.old.items name) }
     ensures marks { OnOk result (AreMarks links.now blossoms.now ids.new.items marks.new) }
 {
-    Err(NoMemory)
+    let cycle = blossoms.cycle(name);
+    let opened = ids.len();
+    push_every_second(ids, cycle, marked_place(cycle, marks))?;
+    mark_links(blossoms, links, marks, &ids[opened..]);
+    Ok(())
 }
 
 /// The place of the first node of the cycle that is marked, or the cycle's length if none is.
