@@ -1,6 +1,5 @@
 pub mod Codes
 pub mod InternalKept
 pub mod InternalNodes
-pub mod Line
 pub mod Moves
 pub mod Walks
