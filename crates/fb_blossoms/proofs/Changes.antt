@@ -5,41 +5,46 @@ use Rattle.std.proofs.lemmas.Bool.{both_ways, cases_Bool, cases_eq}
 use Rattle.fb_links.specs.declared.cycle.CycleStep.{CycleStep}
 use Rattle.fb_blossoms.specs.InternalItems.{Item}
 use Rattle.fb_blossoms.specs.Nodes.{Adds, Node, TakesOff, blossom, defects_at, defects_of, is_in, is_on, node_at}
-use Rattle.fb_blossoms.specs.InternalForest.{IsItem, IsKept, IsOddItem, cycle_in, defects_in, held_at, is_kept, item_at, made_at, made_in, node_of, nodes_of, own_at, own_in, parent_at, parent_in, steps_at, under}
+use Rattle.fb_blossoms.specs.InternalForest.{IsItem, IsKept, IsOddItem, IsPlaceOf, cycle_in, defects_in, held_at, is_kept, item_at, last_place, made_at, made_in, node_of, nodes_of, own_at, own_in, parent_at, parent_in, place_at, place_of, seated, steps_at, under}
 use Rattle.fb_blossoms.proofs.Climbs.{kept_child, kept_parent, none_some, same_some}
+use Rattle.fb_blossoms.proofs.Seats.{last_place_is}
 use Rattle.fb_blossoms.proofs.Held.{along_same, node_from, same_levels}
 use Rattle.fb_blossoms.proofs.Nested.{blossom_from, leaf_cycle, one_in}
 
-abbrev pub put : Bool → Option ℕ → Option Item → Option Item
-put b parent o = if b then option_map (under parent) o else o
+abbrev put : Bool → ℕ → Option ℕ → Option Item → Option Item
+put b k parent o = if b then option_map (under parent k) o else o
 
-put_own : (b : Bool) (q : Option ℕ) (o : Option Item) → own_in (put b q o) ≡ own_in o
-put_own false q o = refl
-put_own true q None = refl
-put_own true q (Some i) = refl
+put_own : (b : Bool) (k : ℕ) (q : Option ℕ) (o : Option Item) → own_in (put b k q o) ≡ own_in o
+put_own false k q o = refl
+put_own true k q None = refl
+put_own true k q (Some i) = refl
 
-put_steps : (b : Bool) (q : Option ℕ) (o : Option Item) → cycle_in (put b q o) ≡ cycle_in o
-put_steps false q o = refl
-put_steps true q None = refl
-put_steps true q (Some i) = refl
+put_steps : (b : Bool) (k : ℕ) (q : Option ℕ) (o : Option Item) → cycle_in (put b k q o) ≡ cycle_in o
+put_steps false k q o = refl
+put_steps true k q None = refl
+put_steps true k q (Some i) = refl
 
-put_made : (b : Bool) (q : Option ℕ) (o : Option Item) → made_in (put b q o) ≡ made_in o
-put_made false q o = refl
-put_made true q None = refl
-put_made true q (Some i) = refl
+put_made : (b : Bool) (k : ℕ) (q : Option ℕ) (o : Option Item) → made_in (put b k q o) ≡ made_in o
+put_made false k q o = refl
+put_made true k q None = refl
+put_made true k q (Some i) = refl
 
-put_kept : (b : Bool) (q : Option ℕ) (o : Option Item) → is_some (put b q o) ≡ is_some o
-put_kept false q o = refl
-put_kept true q None = refl
-put_kept true q (Some i) = refl
+put_kept : (b : Bool) (k : ℕ) (q : Option ℕ) (o : Option Item) → is_some (put b k q o) ≡ is_some o
+put_kept false k q o = refl
+put_kept true k q None = refl
+put_kept true k q (Some i) = refl
 
-put_parent : (q : Option ℕ) (o : Option Item) → is_some o ≡ true → parent_in (put true q o) ≡ q
-put_parent q None h = absurd (both_ways false refl h)
-put_parent q (Some i) h = refl
+put_parent : (k : ℕ) (q : Option ℕ) (o : Option Item) → is_some o ≡ true → parent_in (put true k q o) ≡ q
+put_parent k q None h = absurd (both_ways false refl h)
+put_parent k q (Some i) h = refl
 
-put_outer : (o : Option Item) → parent_in (put true None o) ≡ None
-put_outer None = refl
-put_outer (Some i) = refl
+put_outer : (k : ℕ) (o : Option Item) → parent_in (put true k None o) ≡ None
+put_outer k None = refl
+put_outer k (Some i) = refl
+
+put_place : (k : ℕ) (q : Option ℕ) (o : Option Item) → is_some o ≡ true → place_of (put true k q o) ≡ k
+put_place k q None h = absurd (both_ways false refl h)
+put_place k q (Some i) h = refl
 
 empty_steps : (o : Option Item) → is_some o ≡ false → cycle_in o ≡ []
 empty_steps None h = refl
@@ -69,12 +74,12 @@ pub record AreSame (old new : List (Option Item)) (key : ℕ) : Type 0 where
   pub kept : (x : ℕ) → x ≢ key → is_kept new x ≡ is_kept old x
 
 same_put : (old new : List (Option Item)) (key : ℕ) (cycle : List CycleStep) (q : Option ℕ)
-    → ((x : ℕ) → x ≢ key → item_at new x ≡ put (is_on cycle x) q (item_at old x)) → AreSame old new key
+    → ((x : ℕ) → x ≢ key → item_at new x ≡ seated cycle q x (item_at old x)) → AreSame old new key
 same_put old new key cycle q h = record {
-  own = λ x n. ap own_in (h x n) ∙ put_own (is_on cycle x) q (item_at old x);
-  steps = λ x n. ap cycle_in (h x n) ∙ put_steps (is_on cycle x) q (item_at old x);
-  made = λ x n. ap made_in (h x n) ∙ put_made (is_on cycle x) q (item_at old x);
-  kept = λ x n. ap (λ (o : Option Item). is_some o) (h x n) ∙ put_kept (is_on cycle x) q (item_at old x);
+  own = λ x n. ap own_in (h x n) ∙ put_own (is_on cycle x) (last_place cycle x) q (item_at old x);
+  steps = λ x n. ap cycle_in (h x n) ∙ put_steps (is_on cycle x) (last_place cycle x) q (item_at old x);
+  made = λ x n. ap made_in (h x n) ∙ put_made (is_on cycle x) (last_place cycle x) q (item_at old x);
+  kept = λ x n. ap (λ (o : Option Item). is_some o) (h x n) ∙ put_kept (is_on cycle x) (last_place cycle x) q (item_at old x);
 }
 
 module _ (old new : List (Option Item)) (key : ℕ) (same : AreSame old new key) where
@@ -101,7 +106,7 @@ module _ (old new : List (Option Item)) (key : ℕ) (same : AreSame old new key)
 -- a node is added under a free number, and becomes the parent of outer nodes
 module _ (old new : List (Option Item)) (leaves leaves' : ℕ → Option ℕ) (made : ℕ) (kept : IsKept old leaves made) (key : ℕ) (i : Item)
     (fresh : item_at old key ≡ None) (here : item_at new key ≡ Some i) (top : i.parent ≡ None) (made_is : i.made ≡ made)
-    (others : (x : ℕ) → x ≢ key → item_at new x ≡ put (is_on i.cycle x) (Some key) (item_at old x))
+    (others : (x : ℕ) → x ≢ key → item_at new x ≡ seated i.cycle (Some key) x (item_at old x))
     (live : (x : ℕ) → is_on i.cycle x ≡ true → is_kept old x ≡ true) (outer : (x : ℕ) → is_on i.cycle x ≡ true → parent_at old x ≡ None)
     (shaped : IsItem i.own i.cycle) (leaf_new : (d : ℕ) → is_in i.own d ≡ true → leaves' d ≡ Some key)
     (leaf_old : (d : ℕ) → is_in i.own d ≡ false → leaves' d ≡ leaves d)
@@ -116,10 +121,10 @@ module _ (old new : List (Option Item)) (leaves leaves' : ℕ → Option ℕ) (m
   same = same_put old new key i.cycle (Some key) others
 
   parent_on : (x : ℕ) → is_on i.cycle x ≡ true → parent_at new x ≡ Some key
-  parent_on x on = ap parent_in (others x (off_key x (live x on))) ∙ (ap (λ b. parent_in (put b (Some key) (item_at old x))) on ∙ put_parent (Some key) (item_at old x) (live x on))
+  parent_on x on = ap parent_in (others x (off_key x (live x on))) ∙ (ap (λ b. parent_in (put b (last_place i.cycle x) (Some key) (item_at old x))) on ∙ put_parent (last_place i.cycle x) (Some key) (item_at old x) (live x on))
 
   parent_off : (x : ℕ) → x ≢ key → is_on i.cycle x ≡ false → parent_at new x ≡ parent_at old x
-  parent_off x n off = ap parent_in (others x n) ∙ ap (λ b. parent_in (put b (Some key) (item_at old x))) off
+  parent_off x n off = ap parent_in (others x n) ∙ ap (λ b. parent_in (put b (last_place i.cycle x) (Some key) (item_at old x))) off
 
   parent_key : parent_at new key ≡ None
   parent_key = ap parent_in here ∙ top
@@ -186,6 +191,32 @@ module _ (old new : List (Option Item)) (leaves leaves' : ℕ → Option ℕ) (m
         ]
       ]
 
+  place_on : (x : ℕ) → is_on i.cycle x ≡ true → place_at new x ≡ last_place i.cycle x
+  place_on x on =
+      ap place_of (others x (off_key x (live x on)))
+      ∙ (ap (λ b. place_of (put b (last_place i.cycle x) (Some key) (item_at old x))) on ∙ put_place (last_place i.cycle x) (Some key) (item_at old x) (live x on))
+
+  place_off : (x : ℕ) → x ≢ key → is_on i.cycle x ≡ false → place_at new x ≡ place_at old x
+  place_off x n off = ap place_of (others x n) ∙ ap (λ b. place_of (put b (last_place i.cycle x) (Some key) (item_at old x))) off
+
+  placed_new : (x p : ℕ) → parent_at new x ≡ Some p → IsPlaceOf (steps_at new p) x (place_at new x)
+  placed_new x p e =
+      elim (cases_eq x key) [
+        | inl k ↦ absurd (none_some (parent_at new key) p parent_key (ap (parent_at new) (sym k) ∙ e))
+        | inr n ↦ elim (cases_Bool (is_on i.cycle x)) [
+          | inl on ↦
+              let q : key ≡ p = same_some (parent_at new x) key p (parent_on x on) e in
+              let P : List CycleStep → Type 0 = λ c. IsPlaceOf c x (place_at new x) in
+              let Q : ℕ → Type 0 = λ k. IsPlaceOf i.cycle x k in
+              subst P (sym (ap (steps_at new) (sym q) ∙ steps_key)) (subst Q (sym (place_on x on)) (last_place_is i.cycle x on))
+          | inr off ↦
+              let before : parent_at old x ≡ Some p = sym (parent_off x n off) ∙ e in
+              let P : List CycleStep → Type 0 = λ c. IsPlaceOf c x (place_at new x) in
+              let Q : ℕ → Type 0 = λ k. IsPlaceOf (steps_at old p) x k in
+              subst P (sym (same.steps p (off_key p (kept_parent old x p (kept.forest.up x p before))))) (subst Q (sym (place_off x n off)) (kept.forest.placed x p before))
+        ]
+      ]
+
   shaped_new : (x : ℕ) → is_kept new x ≡ true → IsItem (own_at new x) (steps_at new x)
   shaped_new x h =
       elim (cases_eq x key) [
@@ -203,7 +234,7 @@ module _ (old new : List (Option Item)) (leaves leaves' : ℕ → Option ℕ) (m
 
   pub kept_added : IsKept new leaves' (made + 1)
   kept_added = record {
-    forest = record { shaped = shaped_new; young = young_new; up = up_new; down = down_new; older = older_new };
+    forest = record { shaped = shaped_new; young = young_new; up = up_new; down = down_new; older = older_new; placed = placed_new };
     leaf_at = λ d x e.
         elim (cases_Bool (is_in i.own d)) [
           | inl now ↦
@@ -248,18 +279,21 @@ module _ (old new : List (Option Item)) (leaves leaves' : ℕ → Option ℕ) (m
 -- an outer blossom is taken off, and its children become outer
 module _ (old new : List (Option Item)) (leaves : ℕ → Option ℕ) (made : ℕ) (kept : IsKept old leaves made) (key : ℕ)
     (top : parent_at old key ≡ None) (some : steps_at old key ≡ [] → ⊥) (here : item_at new key ≡ None)
-    (others : (x : ℕ) → x ≢ key → item_at new x ≡ put (is_on (steps_at old key) x) None (item_at old x)) where
+    (others : (x : ℕ) → x ≢ key → item_at new x ≡ seated (steps_at old key) None x (item_at old x)) where
   left : AreSame old new key
   left = same_put old new key (steps_at old key) None others
 
   free_on : (x : ℕ) → x ≢ key → is_on (steps_at old key) x ≡ true → parent_at new x ≡ None
-  free_on x n on = ap parent_in (others x n) ∙ (ap (λ b. parent_in (put b None (item_at old x))) on ∙ put_outer (item_at old x))
+  free_on x n on = ap parent_in (others x n) ∙ (ap (λ b. parent_in (put b (last_place (steps_at old key) x) None (item_at old x))) on ∙ put_outer (last_place (steps_at old key) x) (item_at old x))
 
   free_off : (x : ℕ) → x ≢ key → is_on (steps_at old key) x ≡ false → parent_at new x ≡ parent_at old x
-  free_off x n off = ap parent_in (others x n) ∙ ap (λ b. parent_in (put b None (item_at old x))) off
+  free_off x n off = ap parent_in (others x n) ∙ ap (λ b. parent_in (put b (last_place (steps_at old key) x) None (item_at old x))) off
 
   none_key : parent_at new key ≡ None
   none_key = ap parent_in here
+
+  stays_placed : (x : ℕ) → x ≢ key → is_on (steps_at old key) x ≡ false → place_at new x ≡ place_at old x
+  stays_placed x n off = ap place_of (others x n) ∙ ap (λ b. place_of (put b (last_place (steps_at old key) x) None (item_at old x))) off
 
   -- who has a parent now had it before, and it isn't the one taken off
   before : (x p : ℕ) → parent_at new x ≡ Some p → (x ≢ key) × (p ≢ key) × (parent_at old x ≡ Some p)
@@ -302,6 +336,16 @@ module _ (old new : List (Option Item)) (leaves : ℕ → Option ℕ) (made : �
       let Q : List CycleStep → Type 0 = λ s. IsItem (own_at old x) s in
       subst P (sym (left.own x n)) (subst Q (sym (left.steps x n)) (kept.forest.shaped x (sym (left.kept x n) ∙ h)))
 
+  placed_left : (x p : ℕ) → parent_at new x ≡ Some p → IsPlaceOf (steps_at new p) x (place_at new x)
+  placed_left x p e =
+      let b = before x p e in
+      let P : List CycleStep → Type 0 = λ c. IsPlaceOf c x (place_at new x) in
+      let Q : ℕ → Type 0 = λ k. IsPlaceOf (steps_at old p) x k in
+      elim (cases_Bool (is_on (steps_at old key) x)) [
+        | inl on ↦ absurd (none_some (parent_at new x) p (free_on x b.0 on) e)
+        | inr off ↦ subst P (sym (left.steps p b.1)) (subst Q (sym (stays_placed x b.0 off)) (kept.forest.placed x p b.2))
+      ]
+
   pub kept_left : IsKept new leaves made
   kept_left = record {
     forest = record {
@@ -316,6 +360,7 @@ module _ (old new : List (Option Item)) (leaves : ℕ → Option ℕ) (made : �
           let f : made_at new x ≡ made_at old x = left.made x b.0 in
           let g : made_at new p ≡ made_at old p = left.made p b.1 in
           omega (arith, kept.forest.older x p b.2);
+      placed = placed_left;
     };
     leaf_at = λ d x e.
         let own : own_at old x ≡ d ∷ [] = kept.leaf_at d x e in

@@ -1,6 +1,7 @@
 pub mod Climbs
 pub mod Held
 pub mod Nested
+pub mod Seats
 pub mod Changes
 pub mod Moves
 pub mod Tails
@@ -9,4 +10,5 @@ pub mod Sizes
 pub mod LegLists
 pub mod Turns
 pub mod SimplePaths
+pub mod OnePath
 pub mod Grown

@@ -6,7 +6,7 @@ use Rattle.std.proofs.lemmas.List.{append-nil}
 use Rattle.fb_links.specs.declared.cycle.CycleStep.{CycleStep}
 use Rattle.fb_blossoms.specs.InternalItems.{Item}
 use Rattle.fb_blossoms.specs.Nodes.{IsBlossom, IsChildHolding, IsLeaf, IsNested, IsOuter, IsOuterOf, IsParent, Node, cycle_at, cycle_of, defects_along, defects_at, defects_of, is_in, is_on, leaf, node_at}
-use Rattle.fb_blossoms.specs.InternalForest.{Climbs, IsChildOver, IsForest, IsItem, IsKept, IsLeafItem, IsOddItem, IsTopOf, LeadsDownTo, cycle_in, defects_in, held_at, is_kept, item_at, made_at, made_in, node_of, nodes_of, own_at, own_in, parent_at, steps_at}
+use Rattle.fb_blossoms.specs.InternalForest.{Climbs, IsChildOver, IsForest, IsItem, IsKept, IsLeafItem, IsOddItem, IsPlaceOf, IsTopOf, LeadsDownTo, cycle_in, defects_in, held_at, is_kept, item_at, made_at, made_in, node_of, nodes_of, own_at, own_in, parent_at, place_at, steps_at}
 use Rattle.fb_blossoms.specs.InternalWays.{LeadsDown}
 use Rattle.fb_blossoms.proofs.Climbs.{kept_child, none_some, same_child, same_some, same_top}
 use Rattle.fb_blossoms.proofs.Held.{along_same, cycle_from, held_along, held_from, holds_climbing, holds_some, leaf_below, live_from, node_from}
@@ -246,3 +246,9 @@ module _ (slots : List (Option Item)) (leaves : ℕ → Option ℕ) (made : ℕ)
       at : (o : Option ℕ) → parent_at slots x ≡ o → IsParent (nodes_of slots) x o
       at None e = outer_to slots made kept.forest x e
       at (Some p) e = child_to slots made kept.forest p x e
+
+  pub place_from : (x k : ℕ) → k ≡ place_at slots x → (p : ℕ) → is_on (cycle_at (nodes_of slots) p) x ≡ true → IsPlaceOf (cycle_at (nodes_of slots) p) x k
+  place_from x k e p on =
+      let P : List CycleStep → Type 0 = λ c. IsPlaceOf c x k in
+      let Q : ℕ → Type 0 = λ j. IsPlaceOf (steps_at slots p) x j in
+      subst P (sym (cycle_from slots p)) (subst Q (sym e) (kept.forest.placed x p (child_from slots made kept.forest p x on)))

@@ -1,10 +1,7 @@
 -- The way round a cycle.
-use Rattle.std.proofs.Common.{◌≡◌, ◌≢◌, ◌⊎◌, inl, inr, ℕ, zero, suc, ◌+◌, ◌-◌, ◌%◌, ◌<◌, ◌≤◌, ◌==◌, ◌&&◌, Bool, true, false, List, [], ◌∷◌, length, Option, Some, None, refl, sym, ◌∙◌, ap, subst, arith, le_trans}
-use Rattle.std.specs.List.{position, position_or_len}
+use Rattle.std.proofs.Common.{◌≡◌, ◌≢◌, ◌⊎◌, inl, inr, ℕ, zero, suc, ◌+◌, ◌-◌, ◌%◌, ◌<◌, ◌≤◌, ◌==◌, ◌&&◌, Bool, true, false, List, [], ◌∷◌, length, Option, Some, None, refl, sym, ◌∙◌, ap, subst, arith}
 use Rattle.std.proofs.lemmas.Bool.{and_parts, both_ways, cases_eq, cases_lt, eq-eqb, eqb-true, le-leb, le-ltb, lt-leb, lt-ltb, ne_eqb, or_cases, or_left, or_right}
-use Rattle.std.proofs.lemmas.List.Folds.{list_any_at, list_any_none}
-use Rattle.std.proofs.lemmas.List.Quantifiers.{position-Some}
-use Rattle.std.proofs.lemmas.List.Sums.{fails_before_first}
+use Rattle.std.proofs.lemmas.List.Folds.{list_any_at}
 use Rattle.fb_links.specs.declared.walk.Step.{Step}
 use Rattle.fb_links.specs.declared.cycle.CycleStep.{CycleStep}
 use Rattle.fb_links.specs.Walks.{end_of, start_of}
@@ -12,18 +9,17 @@ use Rattle.fb_links.specs.Table.{walk_at}
 use Rattle.fb_blossoms.specs.Nodes.{AreDistinct, AreWithin, IsBlossom, IsNested, IsOddCycle, Node, cycle_at, cycle_of, defects_along, defects_at, defects_of, is_in, is_on, node_at}
 use Rattle.fb_blossoms.specs.Links.{AreLinked, IsLinkBetween, link_after, next_place, node_after, place_after, step_at}
 use Rattle.fb_blossoms.specs.Paths.{has_link}
-use Rattle.fb_blossoms.proofs.Climbs.{none_some}
 use Rattle.fb_blossoms.proofs.Held.{to_along}
 
 -- where the steps lead
-onward_is : (count s k : ℕ) → ((place_after count true s k ≡ s + k) × (s + k < count)) ⊎ ((place_after count true s k + count ≡ s + k) × (count ≤ s + k))
+pub onward_is : (count s k : ℕ) → ((place_after count true s k ≡ s + k) × (s + k < count)) ⊎ ((place_after count true s k + count ≡ s + k) × (count ≤ s + k))
 onward_is count s k =
     elim (cases_lt (s + k) count) [
       | inl h ↦ inl (rw (lt-ltb (s + k) count h) refl, h)
       | inr h ↦ inr (rw (le-ltb (s + k) count h) (let e : s + k - count + count ≡ s + k = omega arith in e), h)
     ]
 
-back_is : (count s k : ℕ) → k < count → ((place_after count false s k + k ≡ s) × (k ≤ s)) ⊎ ((place_after count false s k + k ≡ s + count) × (s < k))
+pub back_is : (count s k : ℕ) → k < count → ((place_after count false s k + k ≡ s) × (k ≤ s)) ⊎ ((place_after count false s k + k ≡ s + count) × (s < k))
 back_is count s k small =
     elim (cases_lt s k) [
       | inl h ↦ inr (rw (lt-leb k s h) (let e : s + count - k + k ≡ s + count = omega arith in e), h)
@@ -41,7 +37,7 @@ pub place_lt : (count : ℕ) (onward : Bool) (s k : ℕ) → s < count → k < c
 place_lt count true s k a b = elim (onward_is count s k) [ inl h ↦ omega (arith, h.0, h.1) | inr h ↦ omega (arith, h.0, h.1) ]
 place_lt count false s k a b = elim (back_is count s k b) [ inl h ↦ omega (arith, h.0, h.1) | inr h ↦ omega (arith, h.0, h.1) ]
 
-places_differ : (count : ℕ) (onward : Bool) (s i k : ℕ) → s < count → i < k → k < count → place_after count onward s i ≢ place_after count onward s k
+pub places_differ : (count : ℕ) (onward : Bool) (s i k : ℕ) → s < count → i < k → k < count → place_after count onward s i ≢ place_after count onward s k
 places_differ count true s i k a b c e =
     elim (onward_is count s i) [
       | inl g ↦ elim (onward_is count s k) [ inl h ↦ omega (arith, e, g.0, h.0) | inr h ↦ omega (arith, e, g.0, h.0) ]
@@ -88,7 +84,7 @@ step_on cycle i less = list_any_at (λ s. s.node == (step_at cycle i).node) cycl
 step_has : (cycle : List CycleStep) (i : ℕ) → i < length cycle → has_link cycle (step_at cycle i).link ≡ true
 step_has cycle i less = list_any_at (λ s. s.link == (step_at cycle i).link) cycle i (record { node = 0; link = 0 }) less (eq-eqb _ _ refl)
 
-steps_differ : (cycle : List CycleStep) → AreDistinct cycle → (i k : ℕ) → i < length cycle → k < length cycle → i ≢ k → (step_at cycle i).node ≢ (step_at cycle k).node
+pub steps_differ : (cycle : List CycleStep) → AreDistinct cycle → (i k : ℕ) → i < length cycle → k < length cycle → i ≢ k → (step_at cycle i).node ≢ (step_at cycle k).node
 steps_differ [] d i k a b n e = omega arith
 steps_differ (s ∷ ss) d zero zero a b n e = n refl
 steps_differ (s ∷ ss) d zero (suc k) a b n e =
@@ -195,30 +191,6 @@ module _ (links : List (Option (List Step))) (nodes : List (Option Node)) (neste
         | inr b ↦ child_within nodes nested name y on_y _ (and_parts _ _ b).0
       ]
 
--- a node of the cycle has a place
-pub place_none : (cycle : List CycleStep) (r : Option ℕ) (x : ℕ) → is_on cycle x ≡ true → r ≡ position (λ s. s.node == x) cycle → r ≡ None → ⊥
-place_none cycle r x on is e =
-    both_ways (is_on cycle x) (list_any_none (λ s. s.node == x) cycle (λ k d less. fails_before_first (λ s. s.node == x) cycle k d (le_trans less past))) on
-  where
-    none : position (λ (s : CycleStep). s.node == x) cycle ≡ None
-    none = sym is ∙ e
-
-    past : length cycle ≤ position_or_len (λ (s : CycleStep). s.node == x) cycle
-    past =
-        elim (cases_lt (position_or_len (λ (s : CycleStep). s.node == x) cycle) (length cycle)) [
-          | inl h ↦
-              let f : position (λ (s : CycleStep). s.node == x) cycle ≡ Some (position_or_len (λ (s : CycleStep). s.node == x) cycle) =
-              rw (lt-ltb (position_or_len (λ (s : CycleStep). s.node == x) cycle) (length cycle) h) refl in
-              absurd (none_some (position (λ (s : CycleStep). s.node == x) cycle) _ none f)
-          | inr h ↦ h
-        ]
-
-pub place_is : (cycle : List CycleStep) (r : Option ℕ) (x k : ℕ) → r ≡ position (λ s. s.node == x) cycle → r ≡ Some k
-    → (k < length cycle) × ((step_at cycle k).node ≡ x)
-place_is cycle r x k is e =
-    let found = position-Some (λ (s : CycleStep). s.node == x) cycle k (record { node = 0; link = 0 }) (sym is ∙ e) in
-    (found.0, eqb-true _ x found.1)
-
 -- a step of the cycle is at the node
 pub on_place : (cycle : List CycleStep) (x : ℕ) → is_on cycle x ≡ true → (k : ℕ) × (k < length cycle) × ((step_at cycle k).node ≡ x)
 on_place [] x on = absurd (both_ways false refl on)
@@ -237,7 +209,3 @@ place_zero count false s less =
 -- no step from the place of a node leads to the node
 pub none_after : (cycle : List CycleStep) (onward : Bool) (s x : ℕ) → s < length cycle → (step_at cycle s).node ≡ x → node_after cycle onward s 0 ≡ x
 none_after cycle onward s x less at = ap (λ p. (step_at cycle p).node) (place_zero (length cycle) onward s less) ∙ at
-
-pub steps_after : (cycle : List CycleStep) (onward : Bool) (s k place x : ℕ) → place_after (length cycle) onward s k ≡ place → (step_at cycle place).node ≡ x
-    → node_after cycle onward s k ≡ x
-steps_after cycle onward s k place x there at = ap (λ p. (step_at cycle p).node) there ∙ at

@@ -1,5 +1,5 @@
 -- The even path inside a node passes no defect twice.
-use Rattle.std.proofs.Common.{◌≡◌, ℕ, zero, suc, ◌+◌, ◌%◌, ◌<◌, Bool, true, List, [], ◌∷◌, ◌++◌, length, Option, refl, sym, ◌∙◌, ap, subst, arith}
+use Rattle.std.proofs.Common.{◌≡◌, ℕ, suc, ◌+◌, ◌%◌, ◌<◌, Bool, true, List, [], ◌∷◌, ◌++◌, length, Option, refl, sym, subst, arith}
 use Rattle.std.proofs.lemmas.List.{append-nil}
 use Rattle.fb_links.specs.declared.walk.Step.{Step}
 use Rattle.fb_blossoms.specs.Nodes.{IsNested, Node, cycle_at, defects_at, is_in}
@@ -78,12 +78,12 @@ module _ (links : List (Option (List Step))) (nodes : List (Option Node)) (neste
       }
 
   mutual
-    simple_from : (name from to : ℕ) (path : List ℕ) → IsEvenPath links nodes name from to path → IsSimpleFrom links nodes name from to path
+    pub simple_from : (name from to : ℕ) (path : List ℕ) → IsEvenPath links nodes name from to path → IsSimpleFrom links nodes name from to path
     simple_from name from to path (stays n d h) = record { held = h; simple = stays_simple links nodes n d }
     simple_from name from to path (goes_round n f t p onward s steps start small even way) =
         round_whole n onward s steps f t p start small even (simple_round n onward s steps f t p way start small)
 
-    simple_round : (name : ℕ) (onward : Bool) (s k from to : ℕ) (path : List ℕ) → GoesRound links nodes name onward s k from to path
+    pub simple_round : (name : ℕ) (onward : Bool) (s k from to : ℕ) (path : List ℕ) → GoesRound links nodes name onward s k from to path
         → s < length (cycle_at nodes name) → k < length (cycle_at nodes name) → IsSimpleRound links nodes name onward s k from to path
     simple_round name onward s k from to path (ends_here n o e f t p inner) start small = round_ends n o e f t p (simple_from (node_after (cycle_at nodes n) o e 0) f t p inner)
     simple_round name onward s k from to path (goes_on n o e j f exit entry t front rest inner over way) start small =

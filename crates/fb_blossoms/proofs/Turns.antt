@@ -1,21 +1,21 @@
 -- The legs of a path round a cycle.
-use Rattle.std.proofs.Common.{◌≡◌, inl, inr, ℕ, zero, suc, ◌+◌, ◌*◌, ◌%◌, ◌<◌, Bool, true, false, List, [], ◌∷◌, ◌++◌, length, reverse, Option, Some, None, Result, Ok, Err, OnOk, refl, sym, ◌∙◌, ap, subst, arith, append_assoc}
+use Rattle.std.proofs.Common.{◌≡◌, inl, inr, ℕ, suc, ◌+◌, ◌*◌, ◌%◌, ◌<◌, Bool, true, false, List, [], ◌∷◌, ◌++◌, length, reverse, Option, Some, None, Result, Ok, Err, OnOk, refl, sym, ◌∙◌, ap, subst, arith, append_assoc}
 use Rattle.std.proofs.lemmas.Bool.{both_ways}
 use Rattle.std.proofs.lemmas.List.{append-nil, reverse-append}
 use Rattle.fb_links.specs.declared.walk.Step.{Step}
-use Rattle.fb_links.specs.declared.cycle.CycleStep.{CycleStep}
 use Rattle.fb_blossoms.specs.declared.cycles.Round.{Round}
 use Rattle.fb_blossoms.specs.declared.ways.Way.{Way}
 use Rattle.fb_blossoms.specs.declared.legs.Ends.{Ends}
 use Rattle.fb_blossoms.specs.declared.legs.Leg.{Leg}
 use Rattle.fb_blossoms.specs.declared.legs.Leg.TheVariants.{Inside, Over}
 use Rattle.fb_blossoms.specs.Nodes.{IsNested, Node, cycle_at, cycle_of, defects_at, defects_of, is_in, is_on, leaf, node_at}
-use Rattle.fb_blossoms.specs.Links.{AreLinked, LeadsOver, link_after, node_after}
+use Rattle.fb_blossoms.specs.Links.{AreLinked, LeadsOver, link_after, node_after, place_after, step_at}
 use Rattle.fb_blossoms.specs.Paths.{GoesRound, IsEvenPath, ends_here, goes_on, goes_round, stays}
+use Rattle.fb_blossoms.specs.InternalForest.{IsPlaceOf}
 use Rattle.fb_blossoms.specs.InternalWays.{IsWay, LeadsDown}
-use Rattle.fb_blossoms.specs.InternalLegs.{AllBecome, AreEndWays, AreLegs, GoesOn, IsLeg, IsRoundFrom, IsRoundOf, Replaces, leg_size, legs_size}
+use Rattle.fb_blossoms.specs.InternalLegs.{AllBecome, AreEndWays, AreLegs, GoesOn, IsLeg, IsRoundOf, Replaces, legs_size}
 use Rattle.fb_blossoms.proofs.Nested.{is_in-one, one_in}
-use Rattle.fb_blossoms.proofs.Rounds.{child_within, none_after, on_place, on_round}
+use Rattle.fb_blossoms.proofs.Rounds.{child_within, none_after, on_place}
 use Rattle.fb_blossoms.proofs.Sizes.{passed, round_shorter, size_append}
 use Rattle.fb_blossoms.proofs.LegLists.{become_both, become_one, become_split, legs_both, legs_split, one_become}
 
@@ -128,6 +128,25 @@ end_ways_as links nodes l x y v w ends h e f =
     let P : ℕ → Type 0 = λ a. AreEndWays links nodes l a w ends in
     let Q : ℕ → Type 0 = λ b. AreEndWays links nodes l x b ends in
     subst P e (subst Q f h)
+
+-- the even way round between the places of two children
+pub round_of : (nodes : List (Option Node)) (name : ℕ) (round : Round) (ends : Ends) (count first last x y : ℕ) → count ≡ length (cycle_at nodes name)
+    → IsPlaceOf (cycle_at nodes name) x first → IsPlaceOf (cycle_at nodes name) y last → round.end ≡ last → round.steps < count → round.steps % 2 ≡ 0
+    → place_after count round.onward last round.steps ≡ first → IsWay nodes x ends.from → IsWay nodes y ends.to → IsRoundOf nodes name round ends
+round_of nodes name round ends count first last x y counted a b at steps even there from to =
+    let less : round.end < length (cycle_at nodes name) = omega (arith, at, b.0) in
+    let P : ℕ → Type 0 = λ z. IsWay nodes z ends.from in
+    let Q : ℕ → Type 0 = λ z. IsWay nodes z ends.to in
+    let first_is : place_after (length (cycle_at nodes name)) round.onward round.end round.steps ≡ first =
+    ap (λ e. place_after (length (cycle_at nodes name)) round.onward e round.steps) at ∙ (ap (λ n. place_after n round.onward last round.steps) (sym counted) ∙ there) in
+    let last_is : (step_at (cycle_at nodes name) round.end).node ≡ y = ap (λ k. (step_at (cycle_at nodes name) k).node) at ∙ b.1 in
+    record {
+      end = less;
+      steps = omega (arith, steps, counted);
+      even = even;
+      from = subst P (sym (ap (λ k. (step_at (cycle_at nodes name) k).node) first_is ∙ a.1)) from;
+      to = subst Q (sym (none_after (cycle_at nodes name) round.onward round.end y less last_is)) to;
+    }
 
 -- a leg whose ends are in one child gives way to the leg inside the child
 pub replaced_by_child : (links : List (Option (List Step))) (nodes : List (Option Node)) (nested : IsNested nodes) (before : List Leg) (name x : ℕ) (ends inner : Ends)

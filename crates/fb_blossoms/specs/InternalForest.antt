@@ -1,8 +1,9 @@
 -- What a store keeps of the nodes as they are stored.
-use Rattle.std.specs.Prelude.{ℕ, zero, suc, ◌≡◌, ◌<◌, ◌%◌, ◌≤◌, ◌⊎◌, Bool, true, List, [], ◌∷◌, ◌++◌, map, length, flat_map, get_or, Option, Some, None, is_some, option_map}
+use Rattle.std.specs.Prelude.{ℕ, zero, suc, ◌≡◌, ◌<◌, ◌%◌, ◌≤◌, ◌⊎◌, Bool, true, if◌then◌else◌, List, [], ◌∷◌, ◌++◌, map, length, flat_map, get_or, Option, Some, None, is_some, option_map}
 use Rattle.fb_links.specs.declared.cycle.CycleStep.{CycleStep}
 use Rattle.fb_blossoms.specs.InternalItems.{Item}
 use Rattle.fb_blossoms.specs.Nodes.{Node, AreDistinct, is_in, is_on}
+use Rattle.fb_blossoms.specs.Links.{step_at}
 
 abbrev pub item_at : List (Option Item) → ℕ → Option Item
 item_at slots name = get_or slots name None
@@ -10,6 +11,10 @@ item_at slots name = get_or slots name None
 abbrev pub parent_in : Option Item → Option ℕ
 parent_in None = None
 parent_in (Some i) = i.parent
+
+abbrev pub place_of : Option Item → ℕ
+place_of None = 0
+place_of (Some i) = i.place
 
 abbrev pub made_in : Option Item → ℕ
 made_in None = 0
@@ -25,6 +30,9 @@ cycle_in (Some i) = i.cycle
 
 abbrev pub parent_at : List (Option Item) → ℕ → Option ℕ
 parent_at slots name = parent_in (item_at slots name)
+
+abbrev pub place_at : List (Option Item) → ℕ → ℕ
+place_at slots name = place_of (item_at slots name)
 
 abbrev pub made_at : List (Option Item) → ℕ → ℕ
 made_at slots name = made_in (item_at slots name)
@@ -67,6 +75,10 @@ pub record IsLeafItem (own : List ℕ) (cycle : List CycleStep) : Type 0 where
 abbrev pub IsItem : List ℕ → List CycleStep → Type 0
 IsItem own cycle = IsLeafItem own cycle ⊎ IsOddItem own cycle
 
+-- the node is at this place of the cycle
+abbrev pub IsPlaceOf : List CycleStep → ℕ → ℕ → Type 0
+IsPlaceOf cycle x k = (k < length cycle) × ((step_at cycle k).node ≡ x)
+
 pub record IsForest (slots : List (Option Item)) (made : ℕ) : Type 0 where
   pub shaped : (x : ℕ) → is_kept slots x ≡ true → IsItem (own_at slots x) (steps_at slots x)
   pub young : (x : ℕ) → is_kept slots x ≡ true → made_at slots x < made
@@ -74,6 +86,8 @@ pub record IsForest (slots : List (Option Item)) (made : ℕ) : Type 0 where
   pub up : (x p : ℕ) → parent_at slots x ≡ Some p → is_on (steps_at slots p) x ≡ true
   pub down : (x p : ℕ) → is_on (steps_at slots p) x ≡ true → parent_at slots x ≡ Some p
   pub older : (x p : ℕ) → parent_at slots x ≡ Some p → made_at slots x < made_at slots p
+  -- it is at its place there
+  pub placed : (x p : ℕ) → parent_at slots x ≡ Some p → IsPlaceOf (steps_at slots p) x (place_at slots x)
 
 -- the map has the leaf of each defect
 pub record IsKept (slots : List (Option Item)) (leaf_named : ℕ → Option ℕ) (made : ℕ) : Type 0 where
@@ -81,9 +95,18 @@ pub record IsKept (slots : List (Option Item)) (leaf_named : ℕ → Option ℕ)
   pub leaf_at : (d x : ℕ) → leaf_named d ≡ Some x → own_at slots x ≡ d ∷ []
   pub leaf_of : (d x : ℕ) → is_in (own_at slots x) d ≡ true → leaf_named d ≡ Some x
 
+-- the last place of a node in a cycle; 0 if it is not there
+abbrev pub last_place : List CycleStep → ℕ → ℕ
+last_place [] x = 0
+last_place (s ∷ ss) x = if is_on ss x then suc (last_place ss x) else 0
+
 -- the item under another parent
-abbrev pub under : Option ℕ → Item → Item
-under parent i = record i { parent = parent }
+abbrev pub under : Option ℕ → ℕ → Item → Item
+under parent place i = record i { parent = parent; place = place }
+
+-- the item, under another parent if the cycle has it
+abbrev pub seated : List CycleStep → Option ℕ → ℕ → Option Item → Option Item
+seated cycle parent x o = if is_on cycle x then option_map (under parent (last_place cycle x)) o else o
 
 -- so many steps up from the one node lead to the other
 abbrev pub Climbs : List (Option Item) → ℕ → ℕ → ℕ → Type 0

@@ -1,7 +1,6 @@
 -- What is left to do of a path.
-use Rattle.std.specs.Prelude.{ℕ, ◌≡◌, ◌+◌, ◌-◌, ◌*◌, ◌%◌, ◌<◌, Bool, true, List, [], ◌∷◌, ◌++◌, length, Option}
+use Rattle.std.specs.Prelude.{ℕ, ◌≡◌, ◌+◌, ◌-◌, ◌*◌, ◌%◌, ◌<◌, List, [], ◌∷◌, ◌++◌, length, Option}
 use Rattle.fb_links.specs.declared.walk.Step.{Step}
-use Rattle.fb_links.specs.declared.cycle.CycleStep.{CycleStep}
 use Rattle.fb_blossoms.specs.declared.legs.Leg.{Leg}
 use Rattle.fb_blossoms.specs.declared.legs.Leg.TheVariants.{Inside, Over}
 use Rattle.fb_blossoms.specs.declared.legs.Ends.{Ends}
@@ -53,14 +52,6 @@ pub record GoesOn (links : List (Option (List Step))) (nodes : List (Option Node
   pub gone : List ℕ
   pub grown : new ≡ old ++ gone
   pub replaced : Replaces links nodes before leg gone after
-
--- the even way round a cycle from the one of its nodes to the other
-pub record IsRoundFrom (cycle : List CycleStep) (round : Round) (first last : ℕ) : Type 0 where
-  pub end : round.end < length cycle
-  pub steps : round.steps < length cycle
-  pub even : round.steps % 2 ≡ 0
-  pub from : node_after cycle round.onward round.end round.steps ≡ first
-  pub to : node_after cycle round.onward round.end 0 ≡ last
 
 -- the even way round the node's cycle, with the ways down to the defects from its first and its last node
 pub record IsRoundOf (nodes : List (Option Node)) (name : ℕ) (round : Round) (ends : Ends) : Type 0 where

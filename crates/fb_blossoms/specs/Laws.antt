@@ -1,5 +1,5 @@
 -- Laws of the definitions.
-use Rattle.std.specs.Prelude.{ℕ, List, Option}
+use Rattle.std.specs.Prelude.{ℕ, ◌≡◌, List, Option}
 use Rattle.fb_links.specs.declared.walk.Step.{Step}
 use Rattle.fb_blossoms.specs.Nodes.{IsNested, Node}
 use Rattle.fb_blossoms.specs.Links.{AllLinked}
@@ -9,3 +9,9 @@ use Rattle.fb_blossoms.specs.Paths.{IsEvenPath, IsSimpleEvenPath}
 abbrev pub EvenPathIsSimple : Type 0
 EvenPathIsSimple = (links : List (Option (List Step))) (nodes : List (Option Node)) (name from to : ℕ) (path : List ℕ)
     → IsNested nodes → AllLinked links nodes → IsEvenPath links nodes name from to path → IsSimpleEvenPath links nodes name from to path
+
+-- There is at most one even path inside a node from one of its defects to another.
+abbrev pub EvenPathIsUnique : Type 0
+EvenPathIsUnique = (links : List (Option (List Step))) (nodes : List (Option Node)) (name from to : ℕ) (path other : List ℕ)
+    → IsNested nodes → AllLinked links nodes → IsEvenPath links nodes name from to path → IsEvenPath links nodes name from to other
+    → path ≡ other

@@ -1,12 +1,13 @@
-ghost use Rattle.std.specs.Prelude.{◌≡◌, ◌≢◌, ℕ, nat_eq, [], reverse, true, IfOk, OnErr, Some};
+ghost use Rattle.std.specs.Prelude.{◌≡◌, ◌≢◌, ℕ, nat_eq, [], reverse, true, false, IfNone, IfOk, IfSome, OnErr, Some};
 ghost use Rattle.std.specs.HashMap.{get};
 ghost use Rattle.fb_blossoms.specs.Links.{AllLinked, AreLinked};
 ghost use Rattle.fb_blossoms.specs.Paths.{IsEvenPath};
 ghost use Rattle.fb_blossoms.specs.Nodes.{Adds, AreOuter, IsChildHolding, IsNested, IsOddCycle, IsOuter, IsOuterOf, IsParent, TakesOff, blossom, cycle_at, defects_at, is_in, is_live, is_on, leaf, node_at};
+ghost use Rattle.fb_blossoms.specs.InternalForest.{IsPlaceOf};
 ghost use Rattle.fb_blossoms.specs.InternalWays.{LeadsDown};
 
 use crate::entry::Entry;
-use crate::forest::{child_over, cycle_of, parent_of, put_under, top_of, way_down};
+use crate::forest::{child_over, cycle_of, parent_of, place_of, put_under, top_of, way_down};
 use crate::legs::{Nest, even_path};
 use crate::{CycleStep, LinkId, Links, NoMemory, NodeId};
 use slab::Slab;
@@ -135,6 +136,14 @@ impl Blossoms {
         child_over(&self.nodes, self.made, node, leaf)
     }
 
+    /// The leaf of the defect; `None` if no node holds it.
+    pub fn leaf_of(&self, defect: u32) -> Option<NodeId>
+        ensures leaf { IfSome result (λ x. node_at self.now x ≡ Some (leaf defect)) }
+        ensures none { IfNone result ((x : ℕ) → is_in (defects_at self.now x) defect ≡ false) }
+    {
+        leaf_of(&self.leaves, defect)
+    }
+
     /// The blossom in whose cycle the node is, if it is not outer.
     pub fn parent(&self, node: NodeId) -> Option<NodeId>
         ensures { IsParent self.now node result }
@@ -161,8 +170,8 @@ impl Blossoms {
 
     /// The links of the even path inside the node from one of its defects to another: by an even number of steps round
     /// the node's cycle, and so on inside each child that is passed. Each second link matches each defect of the path
-    /// but its last one. Its time is that of the path's links, of the depth of their ends below the cycles that they
-    /// are in, and of the cycles that it goes round.
+    /// but its last one. Its time is that of the path's links, and of the depth of their ends below the cycles that they
+    /// are in.
     pub fn path_between(
         &self,
         alloc: Global,
@@ -182,6 +191,13 @@ impl Blossoms {
             links,
         };
         even_path(&nest, node, a, b)
+    }
+
+    /// The place of the node in the cycle that it is in.
+    pub(crate) fn place(&self, node: NodeId) -> usize
+        ensures { (p : ℕ) → is_on (cycle_at self.now p) node ≡ true → IsPlaceOf (cycle_at self.now p) node result }
+    {
+        place_of(&self.nodes, node)
     }
 
     /// The nodes below the node on the way down to the leaf of the defect, the leaf first.

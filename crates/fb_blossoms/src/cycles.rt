@@ -1,9 +1,7 @@
 //! The way round a cycle.
 
-ghost use Rattle.std.specs.Prelude.{◌≡◌, ◌+◌, ◌%◌, ◌<◌, ◌^◌, ◌==◌, true, length, position};
-ghost use Rattle.fb_blossoms.specs.Nodes.{is_on};
+ghost use Rattle.std.specs.Prelude.{◌≡◌, ◌+◌, ◌%◌, ◌<◌, ◌^◌, length};
 ghost use Rattle.fb_blossoms.specs.Links.{link_after, node_after, place_after};
-ghost use Rattle.fb_blossoms.specs.InternalLegs.{IsRoundFrom};
 
 use crate::{CycleStep, LinkId, NodeId};
 
@@ -21,13 +19,6 @@ pub struct Crossing {
     pub from: NodeId,
     pub link: LinkId,
     pub to: NodeId,
-}
-
-/// The place of the node in the cycle.
-fn place_of(cycle: &[CycleStep], node: NodeId) -> Option<usize>
-    ensures { result ≡ position (λ s. s.node == node) cycle.now }
-{
-    cycle.iter().position(|s| s.node == node)
 }
 
 /// The place k steps from another, onward or back.
@@ -52,43 +43,34 @@ fn place_after(count: usize, onward: bool, start: usize, k: usize) -> usize
     }
 }
 
-/// Whether an even number of steps from the place `end` to the other place lead onward, and how many they are. The
-/// cycle has an odd number of nodes.
-fn even_way(count: usize, end: usize, place: usize) -> (bool, usize)
+/// The even way round a cycle of so many nodes from the one place to the other.
+pub fn round_from(count: usize, first: usize, last: usize) -> Round
     requires odd { count % 2 ≡ 1 }
-    requires end { end < count }
-    requires place { place < count }
+    requires first { first < count }
+    requires last { last < count }
     requires small { count < 2 ^ 63 }
-    ensures steps { result.1 < count }
-    ensures even { result.1 % 2 ≡ 0 }
-    ensures there { place_after count result.0 end result.1 ≡ place }
+    ensures end { result.end ≡ last }
+    ensures steps { result.steps < count }
+    ensures even { result.steps % 2 ≡ 0 }
+    ensures from { place_after count result.onward last result.steps ≡ first }
 {
-    let ahead = if end <= place {
-        place - end
+    let ahead = if last <= first {
+        first - last
     } else {
-        place + count - end
+        first + count - last
     };
     if ahead % 2 == 0 {
-        return (true, ahead);
+        return Round {
+            onward: true,
+            end: last,
+            steps: ahead,
+        };
     }
-    (false, count - ahead)
-}
-
-/// The even way round the cycle from the one of its nodes to the other.
-pub fn round_from(cycle: &[CycleStep], first: NodeId, last: NodeId) -> Round
-    requires odd { length cycle.now % 2 ≡ 1 }
-    requires first { is_on cycle.now first ≡ true }
-    requires last { is_on cycle.now last ≡ true }
-    ensures { IsRoundFrom cycle.now result first last }
-{
-    let Some(end) = place_of(cycle, last) else {
-        unreachable!()
-    };
-    let Some(place) = place_of(cycle, first) else {
-        unreachable!()
-    };
-    let (onward, steps) = even_way(cycle.len(), end, place);
-    Round { onward, end, steps }
+    Round {
+        onward: false,
+        end: last,
+        steps: count - ahead,
+    }
 }
 
 /// The step of the way after which k steps are left.

@@ -16,7 +16,9 @@ pub enum Shape {
 pub struct Entry {
     /// The blossom in whose cycle the node is.
     parent: Option<NodeId>,
-    /// How many nodes were made before it.
+    /// The node's place in that cycle; any number for an outer node.
+    place: usize,
+    /// The number of nodes made before it.
     made: u64,
     shape: Shape,
 }
@@ -29,16 +31,17 @@ impl Model for Entry {
 
     ghost coded = { item_code };
 
-    ghost view = { λ e. record { parent = e.parent; made = e.made; own = own_of e.shape; cycle = cycle_of e.shape } };
+    ghost view = { λ e. record { parent = e.parent; place = e.place; made = e.made; own = own_of e.shape; cycle = cycle_of e.shape } };
 }
 
 impl Entry {
     /// An outer node of one defect.
     pub fn leaf(made: u64, defect: u32) -> Entry
-        ensures { result ≡ record { parent = None; made = made; own = defect ∷ []; cycle = [] } }
+        ensures { result ≡ record { parent = None; place = 0; made = made; own = defect ∷ []; cycle = [] } }
     {
         Entry {
             parent: None,
+            place: 0,
             made,
             shape: Shape::Leaf(defect),
         }
@@ -46,10 +49,11 @@ impl Entry {
 
     /// An outer node of a cycle.
     pub fn blossom(made: u64, cycle: Vec<CycleStep>) -> Entry
-        ensures { result ≡ record { parent = None; made = made; own = []; cycle = cycle.items } }
+        ensures { result ≡ record { parent = None; place = 0; made = made; own = []; cycle = cycle.items } }
     {
         Entry {
             parent: None,
+            place: 0,
             made,
             shape: Shape::Cycle(cycle),
         }
@@ -59,6 +63,12 @@ impl Entry {
         ensures { result ≡ self.now.parent }
     {
         self.parent
+    }
+
+    pub fn place(&self) -> usize
+        ensures { result ≡ self.now.place }
+    {
+        self.place
     }
 
     pub fn made(&self) -> u64
@@ -77,11 +87,12 @@ impl Entry {
         }
     }
 
-    /// Puts the node under the parent; with none it is outer.
-    pub fn set_parent(&mut self, parent: Option<NodeId>)
-        ensures { self.new ≡ record self.old { parent = parent } }
+    /// Puts the node under the parent, at this place of its cycle; with none it is outer.
+    pub fn set_parent(&mut self, parent: Option<NodeId>, place: usize)
+        ensures { self.new ≡ record self.old { parent = parent; place = place } }
     {
         self.parent = parent;
+        self.place = place;
     }
 
     /// The cycle of a blossom.

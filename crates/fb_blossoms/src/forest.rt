@@ -1,7 +1,6 @@
 ghost use Rattle.std.specs.Prelude.{◌≡◌, ◌==◌, ℕ, if◌then◌else◌, option_map, reverse, true, suc, [], ◌∷◌, ◌++◌, IfOk, OnOk};
 ghost use Rattle.slab.specs.Slab.{HasRoomFor, get};
-ghost use Rattle.fb_blossoms.specs.Nodes.{is_on};
-ghost use Rattle.fb_blossoms.specs.InternalForest.{Climbs, IsForest, IsTopOf, IsChildOver, LeadsDownTo, is_kept, parent_at, steps_at, under};
+ghost use Rattle.fb_blossoms.specs.InternalForest.{Climbs, IsForest, IsTopOf, IsChildOver, LeadsDownTo, is_kept, parent_at, place_at, seated, steps_at, under};
 
 use crate::entry::Entry;
 use crate::{CycleStep, NoMemory, NodeId};
@@ -15,24 +14,34 @@ pub fn parent_of(nodes: &Slab<Entry>, node: NodeId) -> Option<NodeId>
     nodes.get(node as usize)?.parent()
 }
 
-/// Puts the nodes of the cycle under the parent; with none they are outer.
-pub fn put_under(nodes: &mut Slab<Entry>, cycle: &[CycleStep], parent: Option<NodeId>)
-    ensures slots { (x : ℕ) → get nodes.new x ≡ (if is_on cycle.now x then option_map (under parent) (get nodes.old x) else get nodes.old x) }
-    ensures room { HasRoomFor nodes.old 1 → HasRoomFor nodes.new 1 }
-    ensures key { nodes.new.vacant_key ≡ nodes.old.vacant_key }
+/// The place of the node in the cycle of its parent.
+pub fn place_of(nodes: &Slab<Entry>, node: NodeId) -> usize
+    ensures { result ≡ place_at nodes.now.slots node }
 {
-    for step in cycle {
-        put_one_under(nodes, step.node, parent);
+    match nodes.get(node as usize) {
+        Some(entry) => entry.place(),
+        None => 0,
     }
 }
 
-fn put_one_under(nodes: &mut Slab<Entry>, node: NodeId, parent: Option<NodeId>)
-    ensures slots { (x : ℕ) → get nodes.new x ≡ (if node == x then option_map (under parent) (get nodes.old x) else get nodes.old x) }
+/// Puts the nodes of the cycle under the parent; with none they are outer.
+pub fn put_under(nodes: &mut Slab<Entry>, cycle: &[CycleStep], parent: Option<NodeId>)
+    ensures slots { (x : ℕ) → get nodes.new x ≡ seated cycle.now parent x (get nodes.old x) }
+    ensures room { HasRoomFor nodes.old 1 → HasRoomFor nodes.new 1 }
+    ensures key { nodes.new.vacant_key ≡ nodes.old.vacant_key }
+{
+    for (place, step) in cycle.iter().enumerate() {
+        put_one_under(nodes, step.node, parent, place);
+    }
+}
+
+fn put_one_under(nodes: &mut Slab<Entry>, node: NodeId, parent: Option<NodeId>, place: usize)
+    ensures slots { (x : ℕ) → get nodes.new x ≡ (if node == x then option_map (under parent place) (get nodes.old x) else get nodes.old x) }
     ensures room { HasRoomFor nodes.old 1 → HasRoomFor nodes.new 1 }
     ensures key { nodes.new.vacant_key ≡ nodes.old.vacant_key }
 {
     if let Some(entry) = nodes.get_mut(node as usize) {
-        entry.set_parent(parent);
+        entry.set_parent(parent, place);
     }
 }
 

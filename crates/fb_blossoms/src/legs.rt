@@ -143,7 +143,10 @@ fn go_inside(nest: &Nest, todo: &mut Vec<Leg>, node: NodeId, ends: Ends) -> Resu
     if first == last {
         return push_leg(todo, Leg::Inside(first, Ends { from, to }));
     }
-    let round = round_from(nest.blossoms.cycle(node), first, last);
+    let count = nest.blossoms.cycle(node).len();
+    let begin = nest.blossoms.place(first);
+    let end = nest.blossoms.place(last);
+    let round = round_from(count, begin, end);
     push_round(nest, todo, node, round, Ends { from, to })
 }
 

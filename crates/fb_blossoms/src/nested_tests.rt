@@ -26,10 +26,7 @@ fn wrap(alloc: Global, fixture: &mut Fixture, last: u32, next: u32) -> Result<u3
     };
     triangle(alloc, fixture, next)?;
     triangle(alloc, fixture, next + 3)?;
-    let _ = fixture.join(
-        alloc,
-        &[(last, last), (next, next + 1), (next + 3, sixth)],
-    )?;
+    let _ = fixture.join(alloc, &[(last, last), (next, next + 1), (next + 3, sixth)])?;
     Ok(next + 4)
 }
 

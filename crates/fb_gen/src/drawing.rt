@@ -154,5 +154,4 @@ mod tests {
         assert!(rt; shot.as_slice() == &expected[..]);
         Ok(())
     }
-
 }

@@ -185,8 +185,6 @@ mod tests {
     use super::*;
     use std::test::Fail;
 
-    const SMALL_EDGES: [(u32, u32); 5] = [(0, 1), (1, 2), (1, 4), (3, 4), (4, 5)];
-
     #[test]
     fn makes_a_lattice_of_three_rounds(rt: HostRuntime) -> Result<(), Fail> {
         let graph = lattice(rt.alloc(), 3, 3)?;

@@ -87,12 +87,3 @@ pub fn all_fusions(alloc: Global, units: u64) -> Result<Vec<Fusion>, NoMemory>
     }
     Ok(fusions)
 }
-
-#[cfg(test)]
-mod tests {
-    use super::*;
-    use std::test::Fail;
-
-    const FUSIONS_OF_FIVE: [(u64, u64, u64); 4] = [(0, 1, 1), (2, 3, 3), (5, 6, 2), (7, 4, 4)];
-
-}

@@ -233,5 +233,4 @@ mod tests {
         assert_eq!(rt; plan.nodes(), 3);
         Ok(())
     }
-
 }

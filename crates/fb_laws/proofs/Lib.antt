@@ -10,10 +10,12 @@ pub mod FreedNames
 pub mod FusedParts
 pub mod FusedStates
 pub mod HalvesKept
+pub mod HeldDefects
 pub mod JoinedSearches
 pub mod JoinedThree
 pub mod JoinedTrees
 pub mod LayeredSearches
+pub mod LinkNumbers
 pub mod LoweredParts
 pub mod MatchLinks
 pub mod MatchedNodes

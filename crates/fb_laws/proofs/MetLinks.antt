@@ -34,7 +34,7 @@ first_real : (p : Problem) (e : Edge) (u v : ℕ) → Leads e u v → p.is_real 
 first_real p e u v (inl (from, to)) real = or_left (p.is_real e.first) (p.is_real e.second) (ap p.is_real from ∙ real)
 first_real p e u v (inr (from, to)) real = or_right (p.is_real e.first) (p.is_real e.second) (ap p.is_real from ∙ real)
 
-not_nil : {X : Type 0} (xs : List X) (y : X) (ys : List X) → (xs ++ y ∷ ys) ≢ []
+pub not_nil : {X : Type 0} (xs : List X) (y : X) (ys : List X) → (xs ++ y ∷ ys) ≢ []
 not_nil [] y ys e = let h : (y ∷ ys) ≡ [] = e in cc
 not_nil (x ∷ xs) y ys e = let h : (x ∷ (xs ++ y ∷ ys)) ≡ [] = e in cc
 

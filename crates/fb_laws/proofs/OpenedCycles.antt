@@ -20,7 +20,7 @@ use Rattle.fb_laws.specs.Trees.{Entry, Connects, IsTree, grown_links, paired_lin
 use Rattle.fb_laws.specs.Searches.{IsSearch}
 use Rattle.fb_laws.specs.SearchOpenings.{PairUp, IsOpenedTree}
 use Rattle.fb_laws.specs.TreeCycles.{nodes_along}
-use Rattle.fb_laws.specs.OpenedCycles.{Pass, Couple, ArePassed, AreCoupled, last_of, paired_on, paired_beside, paired_of, matched_on, grown_on, matched_beside, opened_branches, opened_tree, IsOpenedCycle, CycleOpened, StillPlus}
+use Rattle.fb_laws.specs.OpenedCycles.{Pass, PassOf, Couple, ArePassed, AreCoupled, last_of, paired_on, paired_beside, paired_of, matched_on, grown_on, matched_beside, opened_branches, opened_tree, IsOpenedCycle, CycleOpened, StillPlus}
 use Rattle.fb_graph.proofs.Among.{IsAmong, All_among, among_left, among_right, map_among}
 use Rattle.fb_graph.proofs.Crossings.{cover_found}
 use Rattle.fb_graph.proofs.EndSums.{ends-cons, ends_of_one}
@@ -67,7 +67,7 @@ pushed x xs ys moved =
     (IsPermutation-sym (ys ++ x ∷ []) (x ∷ ys) (IsPermutation-to_front ys x))
 
 -- the way's branches have its links
-new_grown : (parent : ℕ) (tree : Link) (minus : ℕ) (way : List Pass) (matched : Link) (plus : ℕ)
+pub new_grown : {L : Type 0} (parent : ℕ) (tree : L) (minus : ℕ) (way : List (PassOf L)) (matched : L) (plus : ℕ)
     → IsPermutation (tree ∷ grown_on way) (grown_links (opened_branches parent tree minus way matched plus))
 new_grown parent tree minus [] matched plus = IsPermutation-refl (tree ∷ [])
 new_grown parent tree minus (s ∷ ss) matched plus =
@@ -77,7 +77,7 @@ new_grown parent tree minus (s ∷ ss) matched plus =
     (pushed tree (s.tree ∷ grown_on ss) (grown_links (opened_branches s.plus s.tree s.minus ss matched plus))
     (new_grown s.plus s.tree s.minus ss matched plus))
 
-new_paired : (parent : ℕ) (tree : Link) (minus : ℕ) (way : List Pass) (matched : Link) (plus : ℕ)
+pub new_paired : {L : Type 0} (parent : ℕ) (tree : L) (minus : ℕ) (way : List (PassOf L)) (matched : L) (plus : ℕ)
     → IsPermutation (matched_on way ++ matched ∷ []) (paired_links (opened_branches parent tree minus way matched plus))
 new_paired parent tree minus [] matched plus = IsPermutation-refl (matched ∷ [])
 new_paired parent tree minus (s ∷ ss) matched plus =

@@ -96,7 +96,7 @@ unmapped {X} P f (x ∷ xs) all =
     All-cons P (f x) (map f xs) (All-head (λ (y : X). P (f y)) x xs all)
     (unmapped P f xs (λ i d less. all (suc i) d (omega (arith, less))))
 
-in_among : (xs : List ℕ) (v : ℕ) → is_in xs v ≡ true → IsAmong v xs
+pub in_among : (xs : List ℕ) (v : ℕ) → is_in xs v ≡ true → IsAmong v xs
 in_among xs v within =
     let (u, a, e) = any_among (λ w. w == v) xs within in subst (λ w. IsAmong w xs) (eqb-true u v e) a
 
@@ -124,7 +124,7 @@ round_among {X} i xs x a = step (among_either (drop i xs) (take i xs) x a)
     step (inl b) = drop_among i xs x b
     step (inr b) = take_among i xs x b
 
-flat_among : {X Y : Type 0} (g : X → List Y) (xs : List X) (x : X) (y : Y) → IsAmong x xs → IsAmong y (g x)
+pub flat_among : {X Y : Type 0} (g : X → List Y) (xs : List X) (x : X) (y : Y) → IsAmong x xs → IsAmong y (g x)
     → IsAmong y (flat_map g xs)
 flat_among g [] x y a b = absurd a
 flat_among g (z ∷ zs) x y (inl e) b =

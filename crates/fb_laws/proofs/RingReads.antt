@@ -7,10 +7,13 @@ use Rattle.std.proofs.Math.Nat.{add-mod_right, mod-eq_of_lt}
 use Rattle.fb_graph.specs.Laws.{Link}
 use Rattle.fb_graph.specs.Dual.{Node}
 use Rattle.fb_laws.specs.OpenedLinks.{every_second, round_from}
-use Rattle.fb_laws.specs.RingReads.{BesideByNumber, RoundLength, SecondByNumber, WayByNumber, pass_by, round_by}
+use Rattle.fb_laws.specs.RingReads.{BesideByNumber, NamesAt, RingAt, RoundLength, no_link, SecondByNumber, WayByNumber, pass_by, round_by}
 use Rattle.fb_laws.specs.OpenedCycles.{matched_beside}
 use Rattle.fb_laws.specs.RingWays.{couples_after, couples_along, even_round, even_steps, passes_along, turned_round}
+use Rattle.fb_laws.specs.PartStates.{AreChained}
+use Rattle.fb_laws.specs.Paths.{Joins}
 use Rattle.fb_laws.specs.TreeCycles.{AreLinked}
+use Rattle.fb_laws.specs.Trees.{Connects}
 use Rattle.fb_laws.proofs.RingWays.{not_even}
 
 pub second_read : {X : Type 0} (xs : List X) (k : ℕ) (d : X) → get_or (every_second xs) k d ≡ get_or xs (2 * k + 1) d
@@ -187,3 +190,77 @@ beside_by_number table steps r long even low = step (steps % 2 == 0) refl
         (omega (arith, long, length-reverse r.others, length-reverse r.links))
         (omega (arith, even, length-reverse r.others))
         (omega (arith, not_even steps e, low, length-reverse r.others)) (omega (arith, not_even steps e, even, low)))
+
+-- what stands at a place of a round, and after it
+next_in : {X : Type 0} (first : X) (rest : List X) (k : ℕ) (d : X) → k < length (first ∷ rest)
+    → get_or (rest ++ first ∷ []) k d ≡ get_or (first ∷ rest) ((k + 1) % length (first ∷ rest)) d
+next_in {X} first rest k d less = step (cases_Bool (nat_lt k (length rest)))
+  where
+    step : (nat_lt k (length rest) ≡ true) ⊎ (nat_lt k (length rest) ≡ false)
+        → get_or (rest ++ first ∷ []) k d ≡ get_or (first ∷ rest) ((k + 1) % length (first ∷ rest)) d
+    step (inl e) =
+        let low : k < length rest = ltb-true k (length rest) e in
+        let next : (k + 1) % length (first ∷ rest) ≡ suc k =
+        mod-eq_of_lt {n = k + 1} {m = length (first ∷ rest)} (omega (arith, low)) ∙ omega arith in
+        get_or_append_left rest (first ∷ []) d k low ∙ ap (λ i. get_or (first ∷ rest) i d) (sym next)
+    step (inr e) =
+        let high : length rest ≤ k = ltb-false k (length rest) e in
+        let same : k ≡ length rest + 0 = omega (arith, high, less) in
+        let whole : k + 1 ≡ 0 + length (first ∷ rest) = omega (arith, same) in
+        let back : (k + 1) % length (first ∷ rest) ≡ 0 =
+        ap (λ n. n % length (first ∷ rest)) whole
+        ∙ (add-mod_right 0 (length (first ∷ rest))
+        ∙ mod-eq_of_lt {n = 0} {m = length (first ∷ rest)} (omega arith)) in
+        ap (λ i. get_or (rest ++ first ∷ []) i d) same
+        ∙ (get_right rest (first ∷ []) 0 d ∙ ap (λ i. get_or (first ∷ rest) i d) (sym back))
+
+at_places : {X : Type 0} (R : Link → X → X → Type 0) (l : Link) (ls : List Link) (from x : X) (xs : List X) (d : X)
+    → R l from x
+    → ((k : ℕ) → k < length xs → R (get_or ls k no_link) (get_or (x ∷ xs) k d) (get_or xs k d))
+    → (k : ℕ) → k < length (x ∷ xs) → R (get_or (l ∷ ls) k no_link) (get_or (from ∷ x ∷ xs) k d) (get_or (x ∷ xs) k d)
+at_places R l ls from x xs d first rest zero less = first
+at_places R l ls from x xs d first rest (suc k) less = rest k (omega (arith, less))
+
+chain_at : (from : List ℕ) (sets : List (List ℕ)) (links : List Link) → AreChained from sets links
+    → (length links ≡ length sets)
+    × ((k : ℕ) → k < length sets → Joins (get_or links k no_link) (get_or (from ∷ sets) k []) (get_or sets k []))
+chain_at from [] [] chained = (refl, λ k less. absurd (omega (arith, less)))
+chain_at from [] (l ∷ ls) chained = absurd chained
+chain_at from (s ∷ ss) [] chained = absurd chained
+chain_at from (s ∷ ss) (l ∷ ls) chained =
+    let (long, each) = chain_at s ss ls chained.1 in
+    (ap suc long, at_places Joins l ls from s ss [] chained.0 each)
+
+names_chain_at : (nodes : List Node) (from : ℕ) (names : List ℕ) (links : List Link) → AreLinked nodes from names links
+    → (k : ℕ) → k < length names → Connects nodes (get_or links k no_link) (get_or (from ∷ names) k 0) (get_or names k 0)
+names_chain_at nodes from [] links linked k less = absurd (omega (arith, less))
+names_chain_at nodes from (n ∷ ns) [] linked k less = absurd linked
+names_chain_at nodes from (n ∷ ns) (l ∷ ls) linked k less =
+    at_places (Connects nodes) l ls from n ns 0 linked.0 (names_chain_at nodes n ns ls linked.1) k less
+
+pub ring_at : RingAt
+ring_at [] links ring some = absurd (omega (arith, some))
+ring_at (first ∷ rest) links ring some =
+    let (long, each) = chain_at first (rest ++ first ∷ []) links ring in (
+      long ∙ (length-append rest (first ∷ []) ∙ omega arith),
+      λ k less.
+          subst (λ x. Joins (get_or links k no_link) x (get_or (first ∷ rest) ((k + 1) % length (first ∷ rest)) []))
+          (get_or_append_left (first ∷ rest) (first ∷ []) [] k less)
+          (subst (Joins (get_or links k no_link) (get_or ((first ∷ rest) ++ first ∷ []) k []))
+          (next_in first rest k [] less)
+          (each k (omega (arith, less, length-append rest (first ∷ []))))),
+    )
+
+pub names_at : NamesAt
+names_at nodes [] links round some = absurd (omega (arith, some))
+names_at nodes (first ∷ rest) links round some = (
+  linked_length nodes first (rest ++ first ∷ []) links round ∙ (length-append rest (first ∷ []) ∙ omega arith),
+  λ k less.
+      subst
+      (λ x. Connects nodes (get_or links k no_link) x (get_or (first ∷ rest) ((k + 1) % length (first ∷ rest)) 0))
+      (get_or_append_left (first ∷ rest) (first ∷ []) 0 k less)
+      (subst (Connects nodes (get_or links k no_link) (get_or ((first ∷ rest) ++ first ∷ []) k 0))
+      (next_in first rest k 0 less)
+      (names_chain_at nodes first (rest ++ first ∷ []) links round k
+      (omega (arith, less, length-append rest (first ∷ []))))),
+)

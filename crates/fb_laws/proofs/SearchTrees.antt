@@ -17,7 +17,7 @@ use Rattle.fb_graph.specs.Counts.{as_count}
 use Rattle.fb_graph.specs.Ends.{ends_in}
 use Rattle.fb_laws.specs.Paths.{Branch, IsPath, Joins, LeadsOut, tip_of, tree_links, matched_links}
 use Rattle.fb_laws.specs.Works.{IsMatching, IsSetOf, IsBranchOf}
-use Rattle.fb_laws.specs.Trees.{Entry, Connects, IsTree, grown_links, paired_links, plus_names, minus_names, tree_names, path_to, beside, branch_of, branches_of}
+use Rattle.fb_laws.specs.Trees.{Entry, EntryOf, Connects, IsTree, grown_links, paired_links, plus_names, minus_names, tree_names, path_to, beside, branch_of, branches_of}
 use Rattle.fb_laws.specs.Searches.{LeavesNode}
 use Rattle.fb_graph.proofs.Crossings.{found_place}
 use Rattle.fb_graph.proofs.EndSums.{ends-cons, ends_of_one}
@@ -141,7 +141,7 @@ path_leads nodes root distinct (e ∷ es) (parent, tree, matched, joined) name a
         (rest name (among_rest other (is_in-cases e.plus (plus_names root es) name among)))
 
 -- the path and the branches beside it are the tree
-pub path_beside : (tree : List Entry) (name : ℕ) → IsPermutation (path_to tree name ++ beside tree name) tree
+pub path_beside : {L : Type 0} (tree : List (EntryOf L)) (name : ℕ) → IsPermutation (path_to tree name ++ beside tree name) tree
 path_beside [] name = IsPermutation-refl []
 path_beside (e ∷ es) name = step (cases_eq e.plus name) (path_beside es)
   where

@@ -18,7 +18,7 @@ use Rattle.fb_graph.proofs.NestParts.{grove_of}
 use Rattle.fb_graph.proofs.Nodes.{All-flat_map, layers_within}
 use Rattle.fb_graph.proofs.Sets.{is_in-cases}
 use Rattle.fb_laws.specs.MetLinks.{turned_link}
-use Rattle.fb_laws.specs.SingleDefects.{DefectHeight, HasEnd, IsDefectUnder, IsSingle, LinksThrough, OneDefect, ending_link, starting_link}
+use Rattle.fb_laws.specs.SingleDefects.{DefectHeight, EndsMeetUnder, HasEnd, IsDefectUnder, IsSingle, LinksThrough, OneDefect, ending_link, starting_link}
 use Rattle.fb_laws.specs.Trees.{Connects}
 use Rattle.fb_laws.specs.Works.{AreMatchedLinks}
 use Rattle.fb_laws.specs.Fusion.{IsLinkOf}
@@ -291,3 +291,29 @@ links_through p nodes l m a name b nest single bare are to_l to_m other_a other_
       whole.0,
       whole.1,
     )
+
+-- a vertex at an end of the link is a defect there, or under the node at the other end
+end_under : (p : Problem) (nodes : List Node) (l : Link) (a name v : ℕ) → IsDual p nodes → AreMatchedLinks p nodes (l ∷ [])
+    → Connects nodes l a name → HasEnd l v → (cover_of nodes v ≡ Some a) ⊎ IsDefectUnder nodes name v
+end_under p nodes l a name v dual are (inl (from, to)) (inl same) = inl (ap (cover_of nodes) (sym same) ∙ from)
+end_under p nodes l a name v dual are (inl (from, to)) (inr same) =
+    inr (subst (IsDefectUnder nodes name) same
+    (record { defect = leaf_end p nodes l.to name dual (at_ends p nodes l are).1 to; under = to }))
+end_under p nodes l a name v dual are (inr (to, from)) (inl same) =
+    inr (subst (IsDefectUnder nodes name) same
+    (record { defect = leaf_end p nodes l.from name dual (at_ends p nodes l are).0 from; under = from }))
+end_under p nodes l a name v dual are (inr (to, from)) (inr same) = inl (ap (cover_of nodes) (sym same) ∙ to)
+
+pub ends_meet_under : EndsMeetUnder
+ends_meet_under p nodes l m a name b v dual are to_l to_m other_a other_b differ end_l end_m =
+    step (end_under p nodes l a name v dual (links_of_two p nodes l m are).0 to_l end_l)
+    (end_under p nodes m b name v dual (links_of_two p nodes l m are).1 (connects_sym nodes m name b to_m) end_m)
+  where
+    one_name : (x y : ℕ) → cover_of nodes v ≡ Some x → cover_of nodes v ≡ Some y → x ≡ y
+    one_name x y at_x at_y = let both : Some x ≡ Some y = sym at_x ∙ at_y in cc
+
+    step : (cover_of nodes v ≡ Some a) ⊎ IsDefectUnder nodes name v → (cover_of nodes v ≡ Some b) ⊎ IsDefectUnder nodes name v
+        → IsDefectUnder nodes name v
+    step (inr is) other = is
+    step (inl at_a) (inr is) = is
+    step (inl at_a) (inl at_b) = absurd (differ (one_name a b at_a at_b))

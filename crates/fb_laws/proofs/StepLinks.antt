@@ -1,11 +1,14 @@
 -- Links of walks that are kept step by step.
-use Rattle.std.proofs.Common.{ℕ, ◌≡◌, ◌≢◌, true, List, [], ◌∷◌, ◌++◌, map, reverse, All, refl, sym, ap, ◌∙◌, subst}
+use Rattle.std.proofs.Common.{ℕ, ◌≡◌, ◌≢◌, ◌==◌, Bool, true, false, List, [], ◌∷◌, ◌++◌, map, reverse, All, refl, sym, ap, ◌∙◌, subst, if◌then◌else◌}
 use Rattle.std.proofs.lemmas.List.{map-append, reverse-append}
 use Rattle.std.proofs.lemmas.List.Elements.{All-head, All-map, All-tail, All-weaker}
 use Rattle.fb_graph.specs.Problem.{Problem, edge_at}
 use Rattle.fb_graph.specs.Components.{IsWalkBy, Leads}
 use Rattle.fb_graph.specs.Laws.{has_real_end}
-use Rattle.fb_laws.specs.StepLinks.{StepParts, IsStepOf, IsTurn, LeadsAlong, StepsAreLink, EdgesTurned, StepsTurned, StepsJoined, begin_of, end_after}
+use Rattle.fb_laws.specs.MetLinks.{joined_link, turned_link}
+use Rattle.fb_laws.proofs.MetLinks.{not_nil}
+use Rattle.fb_laws.specs.SingleDefects.{ending_link}
+use Rattle.fb_laws.specs.StepLinks.{StepParts, IsStepOf, IsTurn, LeadsAlong, StepsAreLink, EdgesTurned, StepsTurned, StepsJoined, StepsThrough, begin_of, end_after, ending_steps, link_of_steps, starting_steps}
 
 walk_of : {S : Type 0} (p : Problem) (parts : StepParts S) (walk : List S) (from to : ℕ) → LeadsAlong parts walk from to
     → All (IsStepOf p parts) walk → IsWalkBy p (map parts.edge walk) from to
@@ -21,14 +24,14 @@ walk_of p parts (s ∷ ss) from to (begins, onward) steps =
 pub steps_are_link : (S : Type 0) → StepsAreLink S
 steps_are_link S p parts walk some leads steps = record {
   walk = walk_of p parts walk (begin_of parts walk) (end_after parts 0 walk) leads steps;
-  moves = not_nil walk some;
+  moves = some_edges walk some;
   real = All-map (λ k. has_real_end p (edge_at p.edges k) ≡ true) parts.edge walk
       (All-weaker (IsStepOf p parts) (λ s. has_real_end p (edge_at p.edges (parts.edge s)) ≡ true) (λ s is. is.real) walk steps);
 }
   where
-    not_nil : (ss : List S) → ss ≢ [] → map parts.edge ss ≢ []
-    not_nil [] filled e = filled refl
-    not_nil (s ∷ ss) filled e = let h : (parts.edge s ∷ map parts.edge ss) ≡ [] = e in cc
+    some_edges : (ss : List S) → ss ≢ [] → map parts.edge ss ≢ []
+    some_edges [] filled e = filled refl
+    some_edges (s ∷ ss) filled e = let h : (parts.edge s ∷ map parts.edge ss) ≡ [] = e in cc
 
 turned_cons : {S : Type 0} (turn : S → S) (s : S) (ss : List S) → map turn (reverse (s ∷ ss)) ≡ map turn (reverse ss) ++ turn s ∷ []
 turned_cons turn s ss = ap (map turn) (reverse-append (s ∷ []) ss) ∙ map-append turn (reverse ss) (s ∷ [])
@@ -58,22 +61,21 @@ end_append : {S : Type 0} (parts : StepParts S) (at : ℕ) (walk more : List S) 
 end_append parts at [] more some = end_any parts at 0 more some
 end_append parts at (s ∷ ss) more some = end_append parts (parts.to s) ss more some
 
+-- a walk gone back has a step where it had one
+turned_some : {S : Type 0} (turn : S → S) (walk : List S) → walk ≢ [] → map turn (reverse walk) ≢ []
+turned_some turn [] some e = some refl
+turned_some turn (s ∷ ss) some e = not_nil (map turn (reverse ss)) (turn s) [] (sym (turned_cons turn s ss) ∙ e)
+
 -- where the walk gone back begins
 begin_turned : {S : Type 0} (parts : StepParts S) (turn : S → S) (walk : List S) (at : ℕ) → IsTurn parts turn → walk ≢ []
     → begin_of parts (map turn (reverse walk)) ≡ end_after parts at walk
 begin_turned parts turn [] at is some = absurd (some refl)
 begin_turned parts turn (s ∷ []) at is some = is.from s
-begin_turned {S} parts turn (s ∷ x ∷ xs) at is some =
+begin_turned parts turn (s ∷ x ∷ xs) at is some =
+    let onward : (x ∷ xs) ≢ [] = λ e. (let h : (x ∷ xs) ≡ [] = e in cc) in
     ap (begin_of parts) (turned_cons turn s (x ∷ xs))
-    ∙ (begin_append parts (map turn (reverse (x ∷ xs))) (turn s ∷ []) (not_nil x xs)
-    ∙ begin_turned parts turn (x ∷ xs) (parts.to s) is (λ e. let h : (x ∷ xs) ≡ [] = e in cc))
-  where
-    not_nil : (y : S) (ys : List S) → map turn (reverse (y ∷ ys)) ≢ []
-    not_nil y ys e = pushed (map turn (reverse ys)) (turn y) (sym (turned_cons turn y ys) ∙ e)
-      where
-        pushed : (zs : List S) (z : S) → (zs ++ z ∷ []) ≢ []
-        pushed [] z g = let h : (z ∷ []) ≡ [] = g in cc
-        pushed (w ∷ ws) z g = let h : (w ∷ (ws ++ z ∷ [])) ≡ [] = g in cc
+    ∙ (begin_append parts (map turn (reverse (x ∷ xs))) (turn s ∷ []) (turned_some turn (x ∷ xs) onward)
+    ∙ begin_turned parts turn (x ∷ xs) (parts.to s) is onward)
 
 end_turned : {S : Type 0} (parts : StepParts S) (turn : S → S) (walk : List S) → IsTurn parts turn → walk ≢ []
     → end_after parts 0 (map turn (reverse walk)) ≡ begin_of parts walk
@@ -88,3 +90,21 @@ steps_turned S parts turn walk is some =
 pub steps_joined : (S : Type 0) → StepsJoined S
 steps_joined S parts walk more some others =
     rw (begin_append parts walk more some, end_append parts 0 walk more others, map-append parts.edge walk more) refl
+
+pub steps_through : (S : Type 0) → StepsThrough S
+steps_through S parts turn v walk more is some others =
+    steps_joined S parts (ending_steps parts turn v walk) (starting_steps parts turn v more)
+    (either_some (v == end_after parts 0 walk) walk some) (either_some (v == begin_of parts more) more others)
+    ∙ (ap (λ l. joined_link l (link_of_steps parts (starting_steps parts turn v more)))
+    (either (v == end_after parts 0 walk) walk some)
+    ∙ ap (joined_link (ending_link v (link_of_steps parts walk))) (either (v == begin_of parts more) more others))
+  where
+    either_some : (b : Bool) (ss : List S) → ss ≢ [] → (if b then ss else map turn (reverse ss)) ≢ []
+    either_some true ss filled = filled
+    either_some false ss filled = turned_some turn ss filled
+
+    either : (b : Bool) (ss : List S) → ss ≢ []
+        → link_of_steps parts (if b then ss else map turn (reverse ss))
+        ≡ (if b then link_of_steps parts ss else turned_link (link_of_steps parts ss))
+    either true ss filled = refl
+    either false ss filled = steps_turned S parts turn ss is filled

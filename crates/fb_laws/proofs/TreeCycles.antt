@@ -107,7 +107,7 @@ distinct_back (e ∷ es) (minus_new, (plus_new, distinct)) =
     first n within (inl same) = both_ways (is_in (nodes_along es) e.plus) plus_new (ap (is_in (nodes_along es)) same ∙ within)
     first n within (inr there) = second n within (is_in-cases e.minus [] n there)
 
-length_back : (es : List Entry) → length (nodes_back es) ≡ 2 * length es
+pub length_back : (es : List Entry) → length (nodes_back es) ≡ 2 * length es
 length_back [] = refl
 length_back (e ∷ es) = omega (arith, length-append (nodes_back es) (e.plus ∷ e.minus ∷ []), length_back es)
 

@@ -5,7 +5,9 @@ pub mod ExchangedDefects
 pub mod Forming
 pub mod FusedStates
 pub mod Fusion
+pub mod HeldDefects
 pub mod Lengths
+pub mod LinkNumbers
 pub mod MatchLinks
 pub mod Measures
 pub mod Merging

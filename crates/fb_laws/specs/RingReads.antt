@@ -1,10 +1,14 @@
 -- A ring read place by place, and rings of links by their numbers: for code that has a ring as a table.
-use Rattle.std.specs.Prelude.{ℕ, ◌≡◌, ◌+◌, ◌*◌, ◌/◌, ◌%◌, ◌<◌, ◌≤◌, List, map, length, drop, get_or}
+use Rattle.std.specs.Prelude.{ℕ, ◌≡◌, ◌+◌, ◌*◌, ◌/◌, ◌%◌, ◌<◌, ◌≤◌, List, [], map, length, drop, get_or}
 use Rattle.fb_graph.specs.Laws.{Link}
 use Rattle.fb_graph.specs.Dual.{Node}
 use Rattle.fb_laws.specs.OpenedCycles.{Pass, PassOf, matched_beside}
 use Rattle.fb_laws.specs.OpenedLinks.{every_second, round_from}
+use Rattle.fb_laws.specs.PartStates.{IsRing}
+use Rattle.fb_laws.specs.Paths.{Joins}
 use Rattle.fb_laws.specs.RingWays.{Round, IsRoundFrom, couples_after, even_round, even_steps, way_to}
+use Rattle.fb_laws.specs.StateOpenings.{AreLinkedRound}
+use Rattle.fb_laws.specs.Trees.{Connects}
 
 -- Gone round from a place, the list has the elements in turn, after the last one the first.
 abbrev pub RoundRead : Type 0
@@ -46,3 +50,21 @@ BesideByNumber = (table : ℕ → Link) (steps : ℕ) (r : Round ℕ) → length
     → length r.others % 2 ≡ 0 → steps ≤ length r.others
     → matched_beside (couples_after steps (round_by table r))
     ≡ map table (every_second (drop (even_steps steps r) (even_round steps r).links))
+
+abbrev pub no_link : Link
+no_link = record { from = 0; to = 0; walk = [] }
+
+-- In a ring of links each joins a set and the next one, and the last one joins the last set and the first.
+abbrev pub RingAt : Type 0
+RingAt = (sets : List (List ℕ)) (links : List Link) → IsRing sets links → 1 ≤ length sets
+    → (length links ≡ length sets)
+    × ((k : ℕ) → k < length sets
+    → Joins (get_or links k no_link) (get_or sets k []) (get_or sets ((k + 1) % length sets) []))
+
+-- The same of links round nodes by their names.
+abbrev pub NamesAt : Type 0
+NamesAt = (nodes : List Node) (names : List ℕ) (links : List Link) → AreLinkedRound nodes names links
+    → 1 ≤ length names
+    → (length links ≡ length names)
+    × ((k : ℕ) → k < length names
+    → Connects nodes (get_or links k no_link) (get_or names k 0) (get_or names ((k + 1) % length names) 0))

@@ -4,7 +4,7 @@ use Rattle.fb_graph.specs.Parity.{is_in}
 use Rattle.fb_graph.specs.Problem.{Problem}
 use Rattle.fb_graph.specs.Certificate.{total_value}
 use Rattle.fb_graph.specs.Laws.{Link}
-use Rattle.fb_graph.specs.Dual.{Node, all_cuts, cover_of, height_of, layers_at, leaves}
+use Rattle.fb_graph.specs.Dual.{Node, IsDual, all_cuts, cover_of, height_of, layers_at, leaves}
 use Rattle.fb_graph.specs.Nests.{IsNest}
 use Rattle.fb_laws.specs.MetLinks.{joined_link, turned_link}
 use Rattle.fb_laws.specs.Trees.{Connects}
@@ -53,3 +53,9 @@ LinksThrough = (p : Problem) (nodes : List Node) (l m : Link) (a name b : ℕ) �
     → Connects nodes m name b → (a ≡ name → ⊥) → (name ≡ b → ⊥) → (a ≡ b → ⊥)
     → (d : ℕ) × IsDefectUnder nodes name d × HasEnd l d × HasEnd m d
     × AreMatchedLinks p nodes (link_through d l m ∷ []) × Connects nodes (link_through d l m) a b
+
+-- No other vertex is an end of both.
+abbrev pub EndsMeetUnder : Type 0
+EndsMeetUnder = (p : Problem) (nodes : List Node) (l m : Link) (a name b v : ℕ) → IsDual p nodes
+    → AreMatchedLinks p nodes (l ∷ m ∷ []) → Connects nodes l a name → Connects nodes m name b → (a ≡ name → ⊥)
+    → (name ≡ b → ⊥) → (a ≡ b → ⊥) → HasEnd l v → HasEnd m v → IsDefectUnder nodes name v

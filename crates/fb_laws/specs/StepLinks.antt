@@ -1,11 +1,12 @@
 -- The link of a walk that is kept step by step, as programs keep it: its two ends, and its edges in their order. A step
 -- is any value that tells from where to where it leads and by which edge.
-use Rattle.std.specs.Prelude.{ℕ, ◌≡◌, ◌≢◌, ◌<◌, true, List, [], ◌∷◌, ◌++◌, map, reverse, length, All}
+use Rattle.std.specs.Prelude.{ℕ, ◌≡◌, ◌≢◌, ◌<◌, ◌==◌, true, List, [], ◌∷◌, ◌++◌, map, reverse, length, All, if◌then◌else◌}
 use Rattle.fb_graph.specs.Problem.{Problem, edge_at}
 use Rattle.fb_graph.specs.Components.{Leads}
 use Rattle.fb_graph.specs.Laws.{Link, has_real_end}
 use Rattle.fb_laws.specs.Fusion.{IsLinkOf}
 use Rattle.fb_laws.specs.MetLinks.{joined_link, turned_link}
+use Rattle.fb_laws.specs.SingleDefects.{link_through}
 
 -- how a step is read
 pub record StepParts (S : Type 0) : Type 0 where
@@ -71,3 +72,17 @@ StepsTurned S = (parts : StepParts S) (turn : S → S) (walk : List S) → IsTur
 abbrev pub StepsJoined : Type 0 → Type 0
 StepsJoined S = (parts : StepParts S) (walk more : List S) → walk ≢ [] → more ≢ []
     → link_of_steps parts (walk ++ more) ≡ joined_link (link_of_steps parts walk) (link_of_steps parts more)
+
+-- the walk, gone back where it does not end, or does not begin, at the vertex
+abbrev pub ending_steps : {S : Type 0} → StepParts S → (S → S) → ℕ → List S → List S
+ending_steps parts turn v walk = if v == end_after parts 0 walk then walk else map turn (reverse walk)
+
+abbrev pub starting_steps : {S : Type 0} → StepParts S → (S → S) → ℕ → List S → List S
+starting_steps parts turn v walk = if v == begin_of parts walk then walk else map turn (reverse walk)
+
+-- So two walks that meet at the vertex are the links joined there.
+abbrev pub StepsThrough : Type 0 → Type 0
+StepsThrough S = (parts : StepParts S) (turn : S → S) (v : ℕ) (walk more : List S) → IsTurn parts turn → walk ≢ []
+    → more ≢ []
+    → link_of_steps parts (ending_steps parts turn v walk ++ starting_steps parts turn v more)
+    ≡ link_through v (link_of_steps parts walk) (link_of_steps parts more)

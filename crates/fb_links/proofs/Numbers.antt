@@ -1,5 +1,5 @@
 -- Links by their numbers: one more, and one taken off.
-use Rattle.std.proofs.Common.{ℕ, zero, suc, ◌+◌, ◌<◌, ◌≤◌, ◌≡◌, ◌≢◌, Bool, true, false, cond, List, [], ◌∷◌, ◌++◌, reverse, length, get_or, set, Option, Some, None, All, sum_by, arith, refl, sym, ap, ◌∙◌, subst, inl, inr}
+use Rattle.std.proofs.Common.{ℕ, zero, suc, ◌+◌, ◌<◌, ◌≤◌, ◌≡◌, ◌≢◌, Bool, true, cond, List, [], ◌∷◌, ◌++◌, reverse, length, get_or, set, Option, Some, None, All, arith, refl, sym, ap, ◌∙◌, subst, inl, inr}
 use Rattle.std.specs.Prelude.{◌^◌, count_by, is_some, unwrap_or}
 use Rattle.std.proofs.lemmas.Bool.{cases_lt, false≢true}
 use Rattle.std.proofs.lemmas.Option.{none-some}

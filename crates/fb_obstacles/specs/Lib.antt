@@ -1,4 +1,5 @@
 pub mod InternalLooks
+pub mod InternalSample
 pub mod InternalWatch
 pub mod Obstacles
 pub mod Watched

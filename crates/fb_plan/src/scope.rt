@@ -17,7 +17,9 @@ pub struct NodeScope<'a> {
 
 impl Scope for NodeScope<'_> {
     ghost problem = { λ s. problem_at s.graph.now s.plan.now s.node [] };
+
     ghost place_of = { λ s v. v };
+
     ghost place_count = { λ s. s.graph.now.vertices };
 
     fn vertices(&self) -> u32 {

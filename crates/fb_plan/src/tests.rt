@@ -311,4 +311,3 @@ fn tells_its_owners(rt: HostRuntime) -> Result<(), Fail> {
     assert_eq!(rt; scope.is_real(2), false);
     Ok(())
 }
-

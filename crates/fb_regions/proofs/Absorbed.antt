@@ -1,89 +1,379 @@
--- The absorption of the outer end of an edge without residue.
-use Rattle.std.proofs.Common.{◌≡◌, ℕ, ◌+◌, ◌<◌, inl, inr, Bool, true, false, List, length, set, Option, Some, None, refl, sym, ◌∙◌, ap, arith, if◌then◌else◌}
+-- A vertex more in an outer node.
+use Rattle.std.proofs.Common.{ℕ, suc, ◌≡◌, ◌+◌, ◌<◌, ◌≤◌, ◌^◌, ◌==◌, ◌⊎◌, inl, inr, cond, Bool, true, false, List, [], ◌∷◌, ◌++◌, length, map, set, get_or, Option, Some, None, refl, sym, ap, ◌∙◌, subst, arith, add-one, append_assoc, if◌then◌else◌}
+use Rattle.std.specs.List.{All, position}
 use Rattle.std.specs.Option.{IsSome, is_some, unwrap_or}
+use Rattle.std.proofs.lemmas.Bool.{both_ways, cases_Bool, cases_eq, eqb-true, false≢true, false_from_ne_true, or_cases, or_left, or_right}
+use Rattle.std.proofs.lemmas.List.{get_or-set_same, length-append, length-set}
+use Rattle.std.proofs.lemmas.List.Elements.{All-map, All-push, All-set, All-weaker}
+use Rattle.fb_graph.specs.Parity.{is_in}
 use Rattle.fb_graph.specs.Problem.{Problem, edge_at}
-use Rattle.fb_graph.specs.Certificate.{load_of, total_value}
+use Rattle.fb_graph.specs.Certificate.{AreDistinct, load_of, total_value}
 use Rattle.fb_graph.specs.Components.{Leads}
+use Rattle.fb_graph.specs.Alike.{AreAlike}
+use Rattle.fb_graph.specs.Dual.{Node, AreGrown, AreUnderOne, all_cuts, change_at, cover_of, height_of, is_outer, layers_of, leaves, taller, top_at}
 use Rattle.fb_graph.specs.Limits.{IsWithinLimits}
+use Rattle.fb_graph.specs.Links.{AreEven}
+use Rattle.fb_graph.specs.Moves.{MayTakeUp}
+use Rattle.fb_graph.specs.Nests.{IsNest}
+use Rattle.fb_graph.specs.SourceWalks.{HaveWalks}
+use Rattle.fb_graph.specs.declared.parts.Cut.{Cut}
 use Rattle.fb_graph.specs.declared.parts.Edge.{Edge}
+use Rattle.fb_graph.proofs.Among.{IsAmong, All_among, among_All, cover_among, map_among, same_among}
+use Rattle.fb_graph.proofs.ChangedNodes.{change, by_name}
+use Rattle.fb_graph.proofs.CutSums.{weigh-taller}
+use Rattle.fb_graph.proofs.Members.{is_in-append, is_in_push, is_in_pushed}
+use Rattle.fb_graph.proofs.Nodes.{All-flat_map, All-pieces, layers_within}
+use Rattle.fb_graph.proofs.RaisedNests.{nest_taken_up}
+use Rattle.fb_graph.proofs.SourceWalks.{walks_taken_up}
+use Rattle.fb_graph.proofs.TallerNodes.{leaves_taller, outer_taller, taller_alike}
 use Rattle.fb_links.specs.declared.walk.Step.{Step}
 use Rattle.fb_regions.specs.declared.marks.Mark.{Mark}
-use Rattle.fb_regions.specs.Walks.{IsStep}
-use Rattle.fb_graph.specs.Dual.{Node, AreUnderOne, layers_of, all_cuts, change_at, cover_of, height_of, taller, node_at}
+use Rattle.fb_regions.specs.declared.region.Region.{Region}
+use Rattle.fb_regions.specs.InternalNodes.{added_to, before_in, before_of, chain, mark_of, node_of, nodes_of, radii_from, stack, under_in, under_of}
+use Rattle.fb_regions.specs.InternalKept.{BeginsIn, HasMarks, IsAfter, HaveParents, IsKept, IsMarkIn, IsMarked}
 use Rattle.fb_regions.specs.Moves.{IsOver, absorbed, inner_end, outer_end}
-use Rattle.fb_regions.specs.Kept.{IsKept, mark_of}
-use Rattle.fb_graph.proofs.Nodes.{change_at-place}
-use Rattle.fb_regions.proofs.Covers.{cover-None, cover-Some, height-unmarked, load-is, mark_from_uncovered}
-use Rattle.fb_regions.proofs.Raised.{kept-raised, raised}
+use Rattle.fb_regions.specs.Walks.{IsStep}
+use Rattle.fb_regions.proofs.Chains.{chain_same, stack_push, stack_same}
+use Rattle.fb_regions.proofs.Found.{IsFound, among_at, found, nodes_set}
+use Rattle.fb_regions.proofs.Marking.{has_still, mark_new, mark_other, node_still, nodes_still}
+use Rattle.fb_regions.proofs.Moved.{covered_in, from_marked, marked_moved, not_covered, some_cover, top_marks, unmarked}
+use Rattle.fb_regions.proofs.Parents.{lone_set, parents_set}
+use Rattle.fb_regions.proofs.Radii.{radii_set}
+use Rattle.fb_regions.proofs.Readings.{length-top, radii_fit, sized}
 
--- the step over edge k, whose outer end may be absorbed
-pub record IsAbsorbing (p : Problem) (nodes : List Node) (k : ℕ) (s : Step) : Type 0 where
-  pub below : k < length p.edges
-  pub tight : load_of (all_cuts nodes) (edge_at p.edges k) ≡ (edge_at p.edges k).weight
-  pub inner : IsSome (cover_of nodes (inner_end nodes (edge_at p.edges k)))
-  pub outer : cover_of nodes (outer_end nodes (edge_at p.edges k)) ≡ None
-  pub real : p.is_real (outer_end nodes (edge_at p.edges k)) ≡ true
-  pub over : IsOver p nodes k s
+-- the region with a vertex more, in a new layer
+abbrev pub raised : ℕ → Region → Region
+raised w r = record r { added = r.added + 1; last = w; top_value = 0 }
 
-pub absorbing : (p : Problem) (nodes : List Node) (k : ℕ) (s : Step) → k < length p.edges → load_of (all_cuts nodes) (edge_at p.edges k) ≡ (edge_at p.edges k).weight
-    → IsSome (cover_of nodes (inner_end nodes (edge_at p.edges k))) → cover_of nodes (outer_end nodes (edge_at p.edges k)) ≡ None
-    → p.is_real (outer_end nodes (edge_at p.edges k)) ≡ true → IsOver p nodes k s → IsAbsorbing p nodes k s
-absorbing p nodes k s below tight inner outer real over =
-    record { below = below; tight = tight; inner = inner; outer = outer; real = real; over = over }
+abbrev pub taken : Mark → Step → Region → Mark
+taken m s r = record {
+  source = m.source;
+  leaf = m.leaf;
+  distance = m.distance + s.weight;
+  rank = length r.first_set.items + r.added;
+  by = Some s;
+  before = r.last;
+  under = r.top_value;
+}
 
--- what it gives, where m is the mark of the inner end
-pub record IsAbsorption (p : Problem) (nodes : List Node) (marks : List (Option Mark)) (k : ℕ) (s : Step) (m : Mark) : Type 0 where
-  pub place : m.place < length nodes
-  pub below : s.to < length marks
-  pub kept : IsKept p (set nodes m.place (taller s.to (node_at nodes m.place))) (set marks s.to (Some (raised nodes m.place s)))
-  pub change : set nodes m.place (taller s.to (node_at nodes m.place)) ≡ absorbed nodes (edge_at p.edges k)
+top_more : (name w x d : ℕ) (nodes : List Node) → is_in (top_at nodes x) d ≡ true → is_in (top_at (change_at name (taller w) nodes) x) d ≡ true
+top_more name w x d [] h = h
+top_more name w x d (n ∷ ns) h = by (n.name == name) (n.name == x) refl h (top_more name w x d ns)
+  where
+    by : (b c : Bool) → (n.name == x) ≡ c → is_in (if n.name == x then n.top.vertices else top_at ns x) d ≡ true
+        → (is_in (top_at ns x) d ≡ true → is_in (top_at (change_at name (taller w) ns) x) d ≡ true)
+        → is_in (if (if b then taller w n else n).name == x then (if b then taller w n else n).top.vertices else top_at (change_at name (taller w) ns) x) d ≡ true
+    by true true e k rest =
+        ap (λ c. is_in (if c then n.top.vertices ++ w ∷ [] else top_at (change_at name (taller w) ns) x) d) e
+        ∙ (is_in_push n.top.vertices w d
+        ∙ or_left (is_in n.top.vertices d) (w == d) (ap (λ c. is_in (if c then n.top.vertices else top_at ns x) d) (sym e) ∙ k))
+    by true false e k rest =
+        ap (λ c. is_in (if c then n.top.vertices ++ w ∷ [] else top_at (change_at name (taller w) ns) x) d) e
+        ∙ rest (ap (λ c. is_in (if c then n.top.vertices else top_at ns x) d) (sym e) ∙ k)
+    by false true e k rest =
+        ap (λ c. is_in (if c then n.top.vertices else top_at (change_at name (taller w) ns) x) d) e
+        ∙ (ap (λ c. is_in (if c then n.top.vertices else top_at ns x) d) (sym e) ∙ k)
+    by false false e k rest =
+        ap (λ c. is_in (if c then n.top.vertices else top_at (change_at name (taller w) ns) x) d) e
+        ∙ rest (ap (λ c. is_in (if c then n.top.vertices else top_at ns x) d) (sym e) ∙ k)
 
 -- the two ends in either order
-record AreEnds (nodes : List Node) (e : Edge) (u w : ℕ) : Type 0 where
-  leads : Leads e u w
-  sum : height_of (all_cuts nodes) e.first + height_of (all_cuts nodes) e.second ≡ height_of (all_cuts nodes) u + height_of (all_cuts nodes) w
-  apart : cover_of nodes w ≡ None → ¬ AreUnderOne nodes e.first e.second
-
-ends : (nodes : List Node) (e : Edge) → AreEnds nodes e (inner_end nodes e) (outer_end nodes e)
+ends : (nodes : List Node) (e : Edge) → Leads e (inner_end nodes e) (outer_end nodes e)
 ends nodes e = by (is_some (cover_of nodes e.first))
   where
-    by : (b : Bool) → AreEnds nodes e (if b then e.first else e.second) (if b then e.second else e.first)
-    by true = record { leads = inl (refl, refl); sum = refl; apart = λ none both. let n : None ≡ Some both.0 = sym none ∙ both.2 in cc }
-    by false = record { leads = inr (refl, refl); sum = omega arith; apart = λ none both. let n : None ≡ Some both.0 = sym none ∙ both.1 in cc }
+    by : (b : Bool) → Leads e (if b then e.first else e.second) (if b then e.second else e.first)
+    by true = inl (refl, refl)
+    by false = inr (refl, refl)
 
-module _ (p : Problem) (nodes : List Node) (marks : List (Option Mark)) (kept : IsKept p nodes marks) (k : ℕ) (s : Step) (may : IsAbsorbing p nodes k s) where
-  pub not_absorbing : mark_of marks s.from ≡ None → ⊥
-  not_absorbing h =
-      let none : cover_of nodes (inner_end nodes (edge_at p.edges k)) ≡ None = ap (cover_of nodes) (sym may.over.from) ∙ cover-None p nodes marks kept s.from h in
-      let some : is_some (cover_of nodes (inner_end nodes (edge_at p.edges k))) ≡ true = may.inner in
-      let no : is_some (cover_of nodes (inner_end nodes (edge_at p.edges k))) ≡ false = ap is_some none in
-      cc
+-- what the call is given, told of the step
+pub record IsAbsorbing (p : Problem) (nodes : List Node) (k name : ℕ) (s : Step) : Type 0 where
+  pub step : IsStep p s
+  pub may : MayTakeUp p nodes name k s.from s.to
+  pub weight : s.weight ≡ (edge_at p.edges k).weight
+  pub change : change_at name (taller s.to) nodes ≡ absorbed nodes (edge_at p.edges k)
 
-  pub absorption : (limits : IsWithinLimits p) (m : Mark) → mark_of marks s.from ≡ Some m → IsAbsorption p nodes marks k s m
-  absorption limits m at =
-      let e : Edge = edge_at p.edges k in
-      let two : AreEnds nodes e (inner_end nodes e) (outer_end nodes e) = ends nodes e in
-      let leads : Leads (edge_at p.edges s.edge) s.from s.to = rw (may.over.edge, may.over.from, may.over.to) two.leads in
-      let step : IsStep p s = record { within = rw may.over.edge may.below; leads = leads; weighs = rw may.over.edge may.over.weight } in
-      let free : mark_of marks s.to ≡ None = mark_from_uncovered p nodes marks kept s.to (rw may.over.to may.outer) in
-      let real : p.is_real s.to ≡ true = rw may.over.to may.real in
-      let below : s.to < length marks = rw kept.room (limits.real_below s.to real) in
-      let load : load_of (all_cuts nodes) e ≡ height_of (all_cuts nodes) e.first + height_of (all_cuts nodes) e.second = load-is p nodes marks kept e (two.apart may.outer) in
-      let outer : height_of (all_cuts nodes) (outer_end nodes e) ≡ 0 = rw (← may.over.to) (height-unmarked p nodes marks kept s.to free) in
-      let inner : height_of (all_cuts nodes) (inner_end nodes e) ≡ height_of (all_cuts nodes) s.from = ap (λ v. height_of (all_cuts nodes) v) (sym may.over.from) in
-      let far : total_value (layers_of (node_at nodes m.place)) ≡ m.distance + s.weight =
-      sums (height_of (all_cuts nodes) e.first) (height_of (all_cuts nodes) e.second) (height_of (all_cuts nodes) (inner_end nodes e)) (height_of (all_cuts nodes) (outer_end nodes e))
-      (height_of (all_cuts nodes) s.from) (load_of (all_cuts nodes) e) e.weight s.weight m.distance (total_value (layers_of (node_at nodes m.place)))
-      load two.sum outer inner may.tight may.over.weight (kept.marked s.from m at).balance in
-      record {
-        place = (kept.marked s.from m at).place;
-        below = below;
-        kept = kept-raised p nodes marks kept s m step at free below real far;
-        change = sym (change_at-place (taller s.to) nodes m.place kept.names (kept.marked s.from m at).place)
-            ∙ (ap (λ x. change_at (unwrap_or x 0) (taller s.to) nodes) (sym (cover-Some p nodes marks kept s.from m at))
-            ∙ (ap (λ v. change_at (unwrap_or (cover_of nodes v) 0) (taller s.to) nodes) may.over.from
-            ∙ ap (λ v. change_at (unwrap_or (cover_of nodes (inner_end nodes e)) 0) (taller v) nodes) may.over.to));
-      }
+pub absorbing : (p : Problem) (nodes : List Node) (k name : ℕ) (s : Step) → k < length p.edges
+    → load_of (all_cuts nodes) (edge_at p.edges k) ≡ (edge_at p.edges k).weight
+    → cover_of nodes (outer_end nodes (edge_at p.edges k)) ≡ None → p.is_real (outer_end nodes (edge_at p.edges k)) ≡ true
+    → IsOver p nodes k s → cover_of nodes s.from ≡ Some name → IsAbsorbing p nodes k name s
+absorbing p nodes k name s below tight outer real over cover =
+    let leads : Leads (edge_at p.edges k) s.from s.to = rw (over.from, over.to) (ends nodes (edge_at p.edges k)) in
+    record {
+      step = record { within = rw over.edge below; leads = rw over.edge leads; weighs = rw over.edge over.weight };
+      may = record {
+        within = below;
+        leads = leads;
+        tight = tight;
+        covered = cover;
+        uncovered = ap (cover_of nodes) over.to ∙ outer;
+        real = ap p.is_real over.to ∙ real;
+      };
+      weight = over.weight;
+      change =
+          ap (λ o. change_at (unwrap_or o 0) (taller s.to) nodes) (sym cover)
+          ∙ (ap (λ v. change_at (unwrap_or (cover_of nodes v) 0) (taller s.to) nodes) over.from
+          ∙ ap (λ v. change_at (unwrap_or (cover_of nodes (inner_end nodes (edge_at p.edges k))) 0) (taller v) nodes) over.to);
+    }
+
+module _ (p : Problem) (regions : List Region) (marks : List (Option Mark)) (kept : IsKept p regions marks) (limits : IsWithinLimits p)
+    (name i k : ℕ) (s : Step) (m : Mark) (old : Region) (step : IsStep p s) (has : mark_of marks s.from ≡ Some m)
+    (at : position (λ r. r.name == name) regions ≡ Some i) (is_old : old ≡ get_or regions i old)
+    (may : MayTakeUp p (nodes_of marks regions) name k s.from s.to) (weight : s.weight ≡ (edge_at p.edges k).weight) where
+  abbrev nodes : List Node
+  nodes = nodes_of marks regions
+
+  abbrev w : ℕ
+  w = s.to
+
+  abbrev own : Mark
+  own = taken m s old
+
+  abbrev marks' : List (Option Mark)
+  marks' = set marks w (Some own)
+
+  abbrev others : List Node
+  others = change_at name (taller w) nodes
+
+  there : IsFound marks regions name i old
+  there = found marks regions name i old at is_old
+
+  node : Node
+  node = node_of marks old
+
+  among : IsAmong (node_of marks old) nodes
+  among = map_among (node_of marks) regions old there.among
+
+  out : (n : Node) → IsAmong n nodes → is_in n.top.vertices w ≡ false
+  out = not_covered p nodes kept.nest w may.uncovered
+
+  below : w < length marks
+  below = subst (λ l. w < l) (sym kept.room) (limits.real_below w may.real)
+
+  -- the node over the inner end is this one
+  holds : is_in (node_of marks old).top.vertices s.from ≡ true
+  holds =
+      let over = cover_among nodes s.from name may.covered in
+      ap (λ n. is_in n.top.vertices s.from) (same_among nodes kept.nest.dual.names (node_of marks old) over.node among over.among (there.named ∙ sym over.named))
+      ∙ over.holds
+
+  mark_in : IsMarkIn (node_of marks old).top.vertices m
+  mark_in =
+      let (m', at', is) = top_marks marks nodes kept.sets (node_of marks old) among s.from holds in
+      let same : m' ≡ m = (let e : Some m' ≡ Some m = sym at' ∙ has in cc) in
+      subst (IsMarkIn (node_of marks old).top.vertices) same is
+
+  not_added : (u : ℕ) → is_in (added_to marks old) u ≡ true → u ≡ w → ⊥
+  not_added u h e =
+      both_ways (is_in (node_of marks old).top.vertices w) (out (node_of marks old) among)
+      (is_in-append old.first_set.items (added_to marks old) w
+      ∙ or_right (is_in old.first_set.items w) (is_in (added_to marks old) w) (ap (is_in (added_to marks old)) (sym e) ∙ h))
+
+  chain_is : added_to marks' (raised w old) ≡ added_to marks old ++ w ∷ []
+  chain_is =
+      ap (λ n. chain marks' n w) (add-one old.added)
+      ∙ ap (λ l. l ++ w ∷ [])
+      (ap (chain marks' old.added) (ap before_in (mark_new marks w (Some own) below))
+      ∙ chain_same marks marks' old.added old.last (λ u h. ap before_in (mark_other marks w u (Some own) (not_added u h))))
+
+  stack_is : stack marks' old.first_set.items (added_to marks old ++ w ∷ []) ≡ layers_of (node_of marks old)
+  stack_is =
+      stack_push marks' old.first_set.items (added_to marks old) w
+      ∙ (ap (λ x. stack marks' old.first_set.items (added_to marks old) ++ record { value = x; vertices = old.first_set.items ++ added_to marks old } ∷ [])
+      (ap under_in (mark_new marks w (Some own) below))
+      ∙ ap (λ l. l ++ (node_of marks old).top ∷ [])
+      (stack_same marks marks' old.first_set.items (added_to marks old) (λ u h. ap under_in (mark_other marks w u (Some own) (not_added u h)))))
+
+  pub raised_node : node_of marks' (raised w old) ≡ taller w (node_of marks old)
+  raised_node =
+      ap (λ l. built (stack marks' old.first_set.items l) (old.first_set.items ++ l)) chain_is
+      ∙ (ap (λ b. built b (old.first_set.items ++ (added_to marks old ++ w ∷ []))) stack_is
+      ∙ ap (built (layers_of (node_of marks old))) (sym (append_assoc old.first_set.items (added_to marks old) (w ∷ []))))
     where
-      sums : (hf hs hi ho hu l w sw d t : ℕ) → l ≡ hf + hs → hf + hs ≡ hi + ho → ho ≡ 0 → hi ≡ hu → l ≡ w → sw ≡ w → d + hu ≡ t → t ≡ d + sw
-      sums hf hs hi ho hu l w sw d t a b c f g h i = omega arith
+      built : List Cut → List ℕ → Node
+      built b vs = record { name = old.name; children = old.children.items; below = b; top = record { value = 0; vertices = vs } }
+
+  pub absorbed_nodes : nodes_of marks' (set regions i (raised w old)) ≡ others
+  absorbed_nodes =
+      nodes_set marks' regions i (raised w old)
+      ∙ (ap (λ ns. set ns i (node_of marks' (raised w old))) (nodes_still marks regions w (Some own) out)
+      ∙ (ap (set nodes i) raised_node ∙ there.placed (taller w) kept.nest.dual.names))
+
+  even : AreEven p
+  even j d less = (limits.each_edge j d less).even
+
+  nest : IsNest p others
+  nest = nest_taken_up p nodes name k s.from w even may kept.nest
+
+  no_defect : is_in (leaves nodes) w ≡ false
+  no_defect = false_from_ne_true (is_in (leaves nodes) w) (λ leaf. false≢true (subst IsSome may.uncovered (kept.nest.dual.defects w leaf)))
+
+  alike : AreAlike nodes others
+  alike = (taller_alike nodes name w no_defect).0
+
+  full : height_of (all_cuts nodes) s.from ≡ s.weight
+  full = by (edge_at p.edges k) may.leads may.tight weight
+    where
+      by : (e : Edge) → Leads e s.from w → load_of (all_cuts nodes) e ≡ e.weight → s.weight ≡ e.weight → height_of (all_cuts nodes) s.from ≡ s.weight
+      by e (inl (a, b)) tight same =
+          let apart : ¬ AreUnderOne nodes e.first e.second =
+          λ under. let clash : None ≡ Some under.0 = sym may.uncovered ∙ (ap (cover_of nodes) (sym b) ∙ under.2) in absurd (cc) in
+          omega (arith, tight, same, kept.nest.dual.loads e apart, ap (height_of (all_cuts nodes)) a, ap (height_of (all_cuts nodes)) b, kept.nest.dual.uncovered w may.uncovered)
+      by e (inr (a, b)) tight same =
+          let apart : ¬ AreUnderOne nodes e.first e.second =
+          λ under. let clash : None ≡ Some under.0 = sym may.uncovered ∙ (ap (cover_of nodes) (sym b) ∙ under.1) in absurd (cc) in
+          omega (arith, tight, same, kept.nest.dual.loads e apart, ap (height_of (all_cuts nodes)) a, ap (height_of (all_cuts nodes)) b, kept.nest.dual.uncovered w may.uncovered)
+
+  -- a set with the vertex more
+  wider : (set_of : List ℕ) (mk : Mark) → IsMarkIn set_of mk → IsMarkIn (set_of ++ w ∷ []) mk
+  wider set_of mk is = record {
+    rank = omega (arith, is.rank, length-append set_of (w ∷ []));
+    source = push mk.source is.source;
+    step = steps mk.by is.step;
+  }
+    where
+      push : (u : ℕ) → is_in set_of u ≡ true → is_in (set_of ++ w ∷ []) u ≡ true
+      push u h = is_in_push set_of w u ∙ or_left (is_in set_of u) (w == u) h
+
+      steps : (o : Option Step) → BeginsIn set_of o → BeginsIn (set_of ++ w ∷ []) o
+      steps None h = tt
+      steps (Some t) h = push t.from h
+
+  own_set : HasMarks marks' ((node_of marks old).top.vertices ++ w ∷ [])
+  own_set u within = pick (or_cases (is_in (node_of marks old).top.vertices u) (w == u) (sym (is_in_push (node_of marks old).top.vertices w u) ∙ within))
+    where
+      pick : (is_in (node_of marks old).top.vertices u ≡ true) ⊎ ((w == u) ≡ true)
+          → (mk : Mark) × (mark_of marks' u ≡ Some mk) × IsMarkIn ((node_of marks old).top.vertices ++ w ∷ []) mk
+      pick (inl h) =
+          let (mk, at', is) = has_still marks (node_of marks old).top.vertices w (Some own) (out (node_of marks old) among)
+          (top_marks marks nodes kept.sets (node_of marks old) among) u h in
+          (mk, at', wider (node_of marks old).top.vertices mk is)
+      pick (inr e) = (
+        own,
+        ap (mark_of marks') (sym (eqb-true w u e)) ∙ mark_new marks w (Some own) below,
+        record {
+          rank = omega (arith, length-top marks old, length-append (node_of marks old).top.vertices (w ∷ []));
+          source = is_in_push (node_of marks old).top.vertices w m.source ∙ or_left (is_in (node_of marks old).top.vertices m.source) (w == m.source) mark_in.source;
+          step = is_in_push (node_of marks old).top.vertices w s.from ∙ or_left (is_in (node_of marks old).top.vertices s.from) (w == s.from) holds;
+        },
+      )
+
+  sets : All (λ c. HasMarks marks' c.vertices) (all_cuts others)
+  sets =
+      All-flat_map (λ c. HasMarks marks' c.vertices) layers_of others
+      (All-map (λ n. All (λ c. HasMarks marks' c.vertices) (layers_of n)) (change name (taller w)) nodes
+      (among_All (λ n. All (λ c. HasMarks marks' c.vertices) (layers_of (change name (taller w) n))) nodes
+      (λ n a.
+      by_name (λ x. All (λ c. HasMarks marks' c.vertices) (layers_of x)) name (taller w) n
+      (λ named.
+      All-push (λ c. HasMarks marks' c.vertices) (layers_of n) (taller w n).top (still n a)
+      (subst (λ x. HasMarks marks' (x.top.vertices ++ w ∷ []))
+      (same_among nodes kept.nest.dual.names (node_of marks old) n among a (there.named ∙ sym named)) own_set))
+      (λ other. still n a))))
+    where
+      still : (n : Node) → IsAmong n nodes → All (λ c. HasMarks marks' c.vertices) (layers_of n)
+      still n a i' d less =
+          has_still marks (get_or (layers_of n) i' d).vertices w (Some own)
+          (false_from_ne_true (is_in (get_or (layers_of n) i' d).vertices w)
+          (λ h.
+          both_ways (is_in n.top.vertices w) (out n a)
+          (layers_within n.below n.top (All_among (λ x. AreGrown (layers_of x)) nodes kept.nest.dual.grown n a) i' d less w h)))
+          (All_among (λ x. All (λ c. HasMarks marks c.vertices) (layers_of x)) nodes (All-pieces (λ c. HasMarks marks c.vertices) layers_of nodes kept.sets) n a i' d less)
+
+  radii_same : (x : ℕ) → radii_from (set regions i (raised w old)) x ≡ radii_from regions x
+  radii_same = radii_set regions i old (raised w old) is_old there.below refl refl refl
+
+  changed_among : (n : Node) → IsAmong n nodes → IsAmong (change name (taller w) n) others
+  changed_among n a = map_among (change name (taller w)) nodes n a
+
+  still_in : (n : Node) (u : ℕ) → is_in n.top.vertices u ≡ true → is_in (change name (taller w) n).top.vertices u ≡ true
+  still_in n u h =
+      by_name (λ x. is_in x.top.vertices u ≡ true) name (taller w) n
+      (λ named. is_in_push n.top.vertices w u ∙ or_left (is_in n.top.vertices u) (w == u) h) (λ other. h)
+
+  marked_other : (u : ℕ) (mk : Mark) → (u ≡ w → ⊥) → mark_of marks u ≡ Some mk → IsMarked p others (set regions i (raised w old)) marks' u mk
+  marked_other u mk other at' =
+      let is : IsMarked p nodes regions marks u mk = kept.marked u mk at' in
+      let (c, cover) = some_cover nodes u is.covered in
+      let over = cover_among nodes u c cover in
+      marked_moved p nodes others regions (set regions i (raised w old)) marks marks' u mk is
+      (covered_in p others nest (change name (taller w) over.node) (changed_among over.node over.among) u (still_in over.node u over.holds))
+      (top_more name w mk.leaf mk.source nodes is.leaf)
+      (lone_set regions i old (raised w old) mk.leaf is_old there.below refl refl ∙ is.lone)
+      (alike.heights u)
+      (radii_same mk.leaf)
+      (λ d h. ap (λ l. is_in l d) (leaves_taller name w nodes) ∙ h)
+      (λ t e.
+      let (b, from) = from_marked p (leaves nodes) marks u mk t e is.came in
+      mark_other marks w t.from (Some own)
+      (λ same.
+      let none : mark_of marks t.from ≡ None = ap (mark_of marks) same ∙ unmarked p regions marks kept w may.uncovered in
+      absurd (let clash : None ≡ Some b = sym none ∙ from in cc)))
+
+  own_marked : IsMarked p others (set regions i (raised w old)) marks' w own
+  own_marked =
+      let is : IsMarked p nodes regions marks s.from m = kept.marked s.from m has in
+      let from : mark_of marks' s.from ≡ Some m =
+      mark_other marks w s.from (Some own)
+      (λ same.
+      let none : mark_of marks s.from ≡ None = ap (mark_of marks) same ∙ unmarked p regions marks kept w may.uncovered in
+      absurd (let clash : None ≡ Some m = sym none ∙ has in cc))
+      ∙ has in
+      record {
+        covered =
+            covered_in p others nest (change name (taller w) (node_of marks old)) (changed_among (node_of marks old) among) w
+            (by_name (λ x. is_in x.top.vertices w ≡ true) name (taller w) (node_of marks old)
+            (λ named. is_in_pushed (node_of marks old).top.vertices w) (λ other. absurd (other there.named)));
+        leaf = top_more name w m.leaf m.source nodes is.leaf;
+        lone = lone_set regions i old (raised w old) m.leaf is_old there.below refl refl ∙ is.lone;
+        defect = ap (λ l. is_in l m.source) (leaves_taller name w nodes) ∙ is.defect;
+        balance = omega (arith, is.balance, full, alike.heights w, kept.nest.dual.uncovered w may.uncovered, radii_same m.leaf);
+        came = (
+          step,
+          refl,
+          subst (IsAfter own s) (sym from) (refl, refl, omega (arith, mark_in.rank, length-top marks old), refl),
+        );
+      }
+
+  pub kept_absorbed : IsKept p (set regions i (raised w old)) marks'
+  kept_absorbed = record {
+    nest = subst (IsNest p) (sym absorbed_nodes) nest;
+    walks = subst (HaveWalks p) (sym absorbed_nodes) (walks_taken_up p nodes name k s.from w may kept.nest kept.walks);
+    room = length-set marks w (Some own) ∙ kept.room;
+    radii =
+        All-set (λ r. r.radius ≡ total_value (layers_of (node_of marks' r))) regions i (raised w old)
+        (radius_of old there.among
+        ∙ (sym (weigh-taller (λ _. true) w (node_of marks old)) ∙ ap (λ n. total_value (layers_of n)) (sym raised_node)))
+        (among_All (λ r. r.radius ≡ total_value (layers_of (node_of marks' r))) regions
+        (λ r a.
+        radius_of r a
+        ∙ ap (λ n. total_value (layers_of n)) (sym (node_still marks r w (Some own) (out (node_of marks r) (map_among (node_of marks) regions r a))))));
+    parents =
+        subst (λ ns. HaveParents ns (set regions i (raised w old))) (sym absorbed_nodes)
+        (parents_set nodes others regions i old (raised w old) (λ x h. outer_taller name w x nodes ∙ h) is_old there.below refl refl refl kept.parents);
+    sets = subst (λ ns. All (λ c. HasMarks marks' c.vertices) (all_cuts ns)) (sym absorbed_nodes) sets;
+    marked = λ u mk at'. subst (λ ns. IsMarked p ns (set regions i (raised w old)) marks' u mk) (sym absorbed_nodes) (by u mk at' (cases_eq u w));
+  }
+    where
+      radius_of : (r : Region) → IsAmong r regions → r.radius ≡ total_value (layers_of (node_of marks r))
+      radius_of r a = All_among (λ x. x.radius ≡ total_value (layers_of (node_of marks x))) regions kept.radii r a
+
+      by : (u : ℕ) (mk : Mark) → mark_of marks' u ≡ Some mk → (u ≡ w) ⊎ (u ≡ w → ⊥) → IsMarked p others (set regions i (raised w old)) marks' u mk
+      by u mk at' (inl same) =
+          let e : Some own ≡ Some mk = sym (mark_new marks w (Some own) below) ∙ (ap (mark_of marks') (sym same) ∙ at') in
+          let e' : own ≡ mk = cc in
+          subst (λ x. IsMarked p others (set regions i (raised w old)) marks' x mk) (sym same)
+          (subst (IsMarked p others (set regions i (raised w old)) marks' w) e' own_marked)
+      by u mk at' (inr other) = marked_other u mk other (sym (mark_other marks w u (Some own) other) ∙ at')
+
+  -- what the sums of the call need
+  pub fits_absorbed : (m.distance + s.weight ≤ 2 ^ 52) × (length old.first_set.items + old.added + 1 ≤ 2 ^ 20)
+  fits_absorbed = (
+    omega (arith, (kept.marked s.from m has).balance, full, radii_fit p regions marks kept m.leaf),
+    omega (arith, length-top marks old, more),
+  )
+    where
+      more : length (node_of marks old).top.vertices + 1 ≤ 2 ^ 20
+      more =
+          let size = sized p (set regions i (raised w old)) marks' kept_absorbed limits (raised w old)
+          (among_at marks' (set regions i (raised w old)) i (raised w old) (omega (arith, there.below, length-set regions i (raised w old))) (sym (get_or-set_same regions i (raised w old) (raised w old) there.below))) in
+          omega (arith, size, limits.vertices, length-append (node_of marks old).top.vertices (w ∷ []), ap (λ n. length n.top.vertices) raised_node)

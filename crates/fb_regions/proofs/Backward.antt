@@ -1,37 +1,43 @@
 -- The walk back from a vertex to its source, step by step.
-use Rattle.std.proofs.Common.{◌≡◌, ℕ, ◌+◌, ◌<◌, inl, inr, true, List, [], ◌∷◌, ◌++◌, reverse, Option, Some, None, refl, sym, ◌∙◌, ap, arith}
+use Rattle.std.proofs.Common.{◌≡◌, ℕ, ◌+◌, ◌<◌, inl, inr, true, false, List, [], ◌∷◌, ◌++◌, get_or, reverse, Option, Some, None, refl, sym, ◌∙◌, ap, subst, arith}
 use Rattle.std.specs.List.{All}
 use Rattle.std.specs.Option.{IsSome, option_and_then}
-use Rattle.std.proofs.lemmas.Bool.{or_left, or_right}
+use Rattle.std.proofs.lemmas.Bool.{false≢true, or_left, or_right}
 use Rattle.std.proofs.lemmas.List.{reverse-append}
-use Rattle.std.proofs.lemmas.List.Elements.{All-cons, All-nil, All-from_get_or}
+use Rattle.std.proofs.lemmas.List.Elements.{All-cons, All-nil}
 use Rattle.std.proofs.lemmas.List.Sums.{sum_by-cons}
 use Rattle.fb_graph.specs.Parity.{is_in}
 use Rattle.fb_graph.specs.Problem.{Problem, edge_at}
 use Rattle.fb_graph.specs.Components.{Leads}
-use Rattle.fb_graph.specs.Certificate.{total_value}
 use Rattle.fb_graph.specs.declared.parts.Edge.{Edge}
 use Rattle.fb_links.specs.declared.walk.Step.{Step}
 use Rattle.fb_regions.specs.declared.marks.Mark.{Mark}
+use Rattle.fb_regions.specs.declared.region.Region.{Region}
 use Rattle.fb_regions.specs.Walks.{IsWalk}
 use Rattle.fb_links.specs.Walks.{walk_weight}
-use Rattle.fb_graph.specs.Dual.{Node, layers_of, cover_of, leaves, no_node, node_at}
+use Rattle.fb_graph.specs.Dual.{Node, cover_of, leaves}
 use Rattle.fb_graph.specs.Laws.{has_real_end}
 use Rattle.fb_regions.specs.Moves.{IsSourceWalk}
-use Rattle.fb_regions.specs.Kept.{CameBy, IsAfter, IsKept, mark_of, is_at}
-use Rattle.fb_regions.proofs.Covers.{mark_from_covered}
+use Rattle.fb_regions.specs.InternalNodes.{mark_of, nodes_of, radii_from}
+use Rattle.fb_regions.specs.InternalKept.{CameBy, IsAfter, IsKept}
+use Rattle.fb_regions.proofs.Moved.{mark_over, same_cover, some_cover}
 
 abbrev no_mark : Mark
-no_mark = record { place = 0; rank = 0; distance = 0; by = None }
+no_mark = record { source = 0; leaf = 0; distance = 0; rank = 0; by = None; before = 0; under = 0 }
 
 abbrev pub the_mark : Option Mark → Mark
 the_mark None = no_mark
 the_mark (Some m) = m
 
+pub read_step : (marks seen : List (Option Mark)) (v : ℕ) (o : Option Step) → seen ≡ marks → o ≡ option_and_then (λ m. m.by) (get_or seen v None)
+    → option_and_then (λ m. m.by) (mark_of marks v) ≡ o
+read_step marks seen v o e h = ap (λ l. option_and_then (λ (m : Mark). m.by) (get_or l v None)) (sym e) ∙ sym h
+
 -- the steps, newest last, lead back from v to the vertex where the walk stands
 pub record IsBack (p : Problem) (marks : List (Option Mark)) (v at : ℕ) (steps : List Step) : Type 0 where
   pub marked : IsSome (mark_of marks at)
-  pub place : (the_mark (mark_of marks at)).place ≡ (the_mark (mark_of marks v)).place
+  pub source : (the_mark (mark_of marks at)).source ≡ (the_mark (mark_of marks v)).source
+  pub leaf : (the_mark (mark_of marks at)).leaf ≡ (the_mark (mark_of marks v)).leaf
   pub distance : (the_mark (mark_of marks at)).distance + walk_weight (reverse steps) ≡ (the_mark (mark_of marks v)).distance
   pub leads : IsWalk p (reverse steps) at v
   pub real : All (λ s. has_real_end p (edge_at p.edges s.edge) ≡ true) (reverse steps)
@@ -44,78 +50,86 @@ real_end : (p : Problem) (e : Edge) (u w : ℕ) → Leads e u w → p.is_real w 
 real_end p e u w (inl l) h = or_right (p.is_real e.first) (p.is_real e.second) (rw (l.1) h)
 real_end p e u w (inr l) h = or_left (p.is_real e.first) (p.is_real e.second) (rw (l.1) h)
 
-module _ (p : Problem) (nodes : List Node) (marks : List (Option Mark)) (kept : IsKept p nodes marks) (v : ℕ) where
-  pub back_start : IsSome (cover_of nodes v) → IsBack p marks v v []
+module _ (p : Problem) (regions : List Region) (marks : List (Option Mark)) (kept : IsKept p regions marks) (v : ℕ) where
+  pub back_start : IsSome (cover_of (nodes_of marks regions) v) → IsBack p marks v v []
   back_start h =
-      let m = mark_from_covered p nodes marks kept v h in
+      let (name, cover) = some_cover (nodes_of marks regions) v h in
+      let (m, at, source) = mark_over p regions marks kept v name cover in
       record {
-        marked = rw (m.1) refl;
-        place = refl;
+        marked = subst IsSome (sym at) refl;
+        source = refl;
+        leaf = refl;
         distance = omega arith;
         leads = refl;
         real = All-nil (λ (s : Step). has_real_end p (edge_at p.edges s.edge) ≡ true);
       }
 
   came : (at : ℕ) (s : Step) → IsSome (mark_of marks at) → option_and_then (λ m. m.by) (mark_of marks at) ≡ Some s
-      → CameBy p (leaves nodes) marks at (the_mark (mark_of marks at)) (Some s)
+      → CameBy p (leaves (nodes_of marks regions)) marks at (the_mark (mark_of marks at)) (Some s)
   came at s some h = by (mark_of marks at) refl some h
     where
-      by : (o : Option Mark) → mark_of marks at ≡ o → IsSome o → option_and_then (λ m. m.by) o ≡ Some s → CameBy p (leaves nodes) marks at (the_mark o) (Some s)
-      by None e k q = cc
-      by (Some m) e k q = let old : CameBy p (leaves nodes) marks at m m.by = (kept.marked at m e).came in rw q at old
+      by : (o : Option Mark) → mark_of marks at ≡ o → IsSome o → option_and_then (λ m. m.by) o ≡ Some s
+          → CameBy p (leaves (nodes_of marks regions)) marks at (the_mark o) (Some s)
+      by None e k q = absurd (false≢true k)
+      by (Some m) e k q = subst (CameBy p (leaves (nodes_of marks regions)) marks at m) q (kept.marked at m e).came
 
   before : (s : Step) (m : Mark) → IsAfter m s (mark_of marks s.from)
-      → IsSome (mark_of marks s.from) × ((the_mark (mark_of marks s.from)).place ≡ m.place) × ((the_mark (mark_of marks s.from)).rank < m.rank)
-      × (m.distance ≡ (the_mark (mark_of marks s.from)).distance + s.weight)
+      → IsSome (mark_of marks s.from) × ((the_mark (mark_of marks s.from)).source ≡ m.source) × ((the_mark (mark_of marks s.from)).leaf ≡ m.leaf)
+      × ((the_mark (mark_of marks s.from)).rank < m.rank) × (m.distance ≡ (the_mark (mark_of marks s.from)).distance + s.weight)
   before s m h = by (mark_of marks s.from) h
     where
-      by : (o : Option Mark) → IsAfter m s o → IsSome o × ((the_mark o).place ≡ m.place) × ((the_mark o).rank < m.rank) × (m.distance ≡ (the_mark o).distance + s.weight)
+      by : (o : Option Mark) → IsAfter m s o
+          → IsSome o × ((the_mark o).source ≡ m.source) × ((the_mark o).leaf ≡ m.leaf) × ((the_mark o).rank < m.rank) × (m.distance ≡ (the_mark o).distance + s.weight)
       by None k = absurd k
-      by (Some b) k = (refl, k.0, k.1, k.2)
+      by (Some b) k = (refl, k.0, k.1, k.2, k.3)
 
   pub back_smaller : (at : ℕ) (s : Step) → IsSome (mark_of marks at) → option_and_then (λ m. m.by) (mark_of marks at) ≡ Some s
       → (the_mark (mark_of marks s.from)).rank < (the_mark (mark_of marks at)).rank
-  back_smaller at s some h = (before s (the_mark (mark_of marks at)) (came at s some h).2).2
+  back_smaller at s some h = (before s (the_mark (mark_of marks at)) (came at s some h).2).3
 
   pub back_more : (at : ℕ) (s : Step) (steps : List Step) → IsBack p marks v at steps → option_and_then (λ m. m.by) (mark_of marks at) ≡ Some s
       → IsBack p marks v s.from (steps ++ s ∷ [])
   back_more at s steps back h =
-      let step : CameBy p (leaves nodes) marks at (the_mark (mark_of marks at)) (Some s) = came at s back.marked h in
+      let step : CameBy p (leaves (nodes_of marks regions)) marks at (the_mark (mark_of marks at)) (Some s) = came at s back.marked h in
       let old = before s (the_mark (mark_of marks at)) step.2 in
       let list : reverse (steps ++ s ∷ []) ≡ s ∷ reverse steps = reverse-append steps (s ∷ []) in
       let weight : walk_weight (reverse (steps ++ s ∷ [])) ≡ s.weight + walk_weight (reverse steps) =
       ap walk_weight list ∙ sum_by-cons (λ (x : Step). x.weight) s (reverse steps) in
-      let real : p.is_real s.to ≡ true = rw (step.1) (kept.marked at (the_mark (mark_of marks at)) (some_is (mark_of marks at) back.marked)).real in
+      let here : mark_of marks at ≡ Some (the_mark (mark_of marks at)) = some_is (mark_of marks at) back.marked in
+      let real : p.is_real s.to ≡ true =
+      ap p.is_real step.1 ∙ kept.nest.dual.real at (kept.marked at (the_mark (mark_of marks at)) here).covered in
       let R : Step → Type 0 = λ x. has_real_end p (edge_at p.edges x.edge) ≡ true in
       let leads : IsWalk p (s ∷ reverse steps) s.from v = (refl, step.0, rw (step.1) back.leads) in
       let all : All R (s ∷ reverse steps) = All-cons R s (reverse steps) (real_end p (edge_at p.edges s.edge) s.from s.to (step.0).leads real) back.real in
       record {
         marked = old.0;
-        place = old.1 ∙ back.place;
-        distance = omega (arith, old.3, back.distance, weight);
+        source = old.1 ∙ back.source;
+        leaf = old.2 ∙ back.leaf;
+        distance = omega (arith, old.4, back.distance, weight);
         leads = rw list leads;
         real = rw list all;
       }
 
-  pub back_end : (at : ℕ) (steps : List Step) → IsBack p marks v at steps → IsSome (cover_of nodes v) → option_and_then (λ m. m.by) (mark_of marks at) ≡ None
-      → IsSourceWalk p nodes v (reverse steps)
+  pub back_end : (at : ℕ) (steps : List Step) → IsBack p marks v at steps → IsSome (cover_of (nodes_of marks regions) v)
+      → option_and_then (λ m. m.by) (mark_of marks at) ≡ None → IsSourceWalk p (nodes_of marks regions) v (reverse steps)
   back_end at steps back covered h =
-      let mv = mark_from_covered p nodes marks kept v covered in
+      let (name, cover) = some_cover (nodes_of marks regions) v covered in
+      let (mv, at_v, source) = mark_over p regions marks kept v name cover in
       let m : Mark = the_mark (mark_of marks at) in
-      let is : mark_of marks at ≡ Some m = some_is (mark_of marks at) back.marked in
-      let by_none : m.by ≡ None = ap (option_and_then (λ (x : Mark). x.by)) (sym is) ∙ h in
-      let origin : CameBy p (leaves nodes) marks at m None = rw by_none at (kept.marked at m is).came in
-      let place : m.place ≡ mv.0.place = back.place ∙ ap (λ o. (the_mark o).place) mv.1 in
-      let far : m.distance + walk_weight (reverse steps) ≡ mv.0.distance = back.distance ∙ ap (λ o. (the_mark o).distance) mv.1 in
-      let radius : total_value (layers_of (node_at nodes m.place)) ≡ total_value (layers_of (node_at nodes mv.0.place)) = ap (λ i. total_value (layers_of (node_at nodes i))) place in (
+      let here : mark_of marks at ≡ Some m = some_is (mark_of marks at) back.marked in
+      let by_none : m.by ≡ None = ap (option_and_then (λ (x : Mark). x.by)) (sym here) ∙ h in
+      let origin : CameBy p (leaves (nodes_of marks regions)) marks at m None = subst (CameBy p (leaves (nodes_of marks regions)) marks at m) by_none (kept.marked at m here).came in
+      let same_source : at ≡ mv.source = sym origin.1 ∙ (back.source ∙ ap (λ o. (the_mark o).source) at_v) in
+      let same_leaf : m.leaf ≡ mv.leaf = back.leaf ∙ ap (λ o. (the_mark o).leaf) at_v in
+      let far : m.distance + walk_weight (reverse steps) ≡ mv.distance = back.distance ∙ ap (λ o. (the_mark o).distance) at_v in
+      let one = (kept.marked at m here).balance in
+      let two = (kept.marked v mv at_v).balance in (
         at,
         record {
           defect = origin.0;
-          together = All-from_get_or (λ (n : Node). is_in n.top.vertices at ≡ is_in n.top.vertices v) nodes no_node
-              (λ i lt. kept.held at i ∙ (ap (λ o. is_at o i) is ∙ (ap (λ j. is_at (Some (record m { place = j })) i) place
-              ∙ (sym (ap (λ o. is_at o i) mv.1) ∙ sym (kept.held v i)))));
+          together = ap (cover_of (nodes_of marks regions)) same_source ∙ (source ∙ sym cover);
           leads = back.leads;
-          weighs = omega (arith, (kept.marked at m is).balance, (kept.marked v mv.0 mv.1).balance, origin.1, far, radius);
+          weighs = omega (arith, one, two, origin.2, far, ap (radii_from regions) same_leaf);
           real = back.real;
         },
       )

@@ -1,163 +1,202 @@
--- What a dual state keeps when a vertex becomes a defect with a node of its own.
-use Rattle.std.proofs.Common.{◌≡◌, ℕ, ◌+◌, ◌<◌, ◌≤◌, ◌==◌, ◌||◌, ◌⊎◌, inl, inr, Bool, true, false, cond, List, [], ◌∷◌, ◌++◌, map, length, get_or, set, Option, Some, None, refl, sym, ◌∙◌, ap, arith}
+-- A node of one defect more.
+use Rattle.std.proofs.Common.{ℕ, ◌≡◌, ◌+◌, ◌<◌, ◌==◌, ◌⊎◌, inl, inr, true, false, List, [], ◌∷◌, ◌++◌, length, map, set, get_or, Option, Some, None, refl, sym, ap, ◌∙◌, subst, arith}
 use Rattle.std.specs.List.{All}
-use Rattle.std.proofs.lemmas.Bool.{cases_eq, cases_order, eq-eqb, ne_eqb, or_left}
-use Rattle.std.proofs.lemmas.List.{length-set, length_push, map_push, get_or_append_left, get_or_push, get_or_past}
-use Rattle.std.proofs.lemmas.List.Concat.{flat_map-append}
-use Rattle.std.proofs.lemmas.List.Elements.{All-nil, All-cons, All-push}
-use Rattle.std.proofs.lemmas.List.Sums.{sum_by_push}
-use Rattle.fb_graph.specs.Parity.{differ, is_in}
-use Rattle.fb_graph.specs.Problem.{Problem, crosses, with_defects}
-use Rattle.fb_graph.specs.Certificate.{IsOddCut, total_value}
+use Rattle.std.specs.Option.{IsSome}
+use Rattle.std.proofs.lemmas.Bool.{both_ways, cases_eq, false≢true, false_from_ne_true, eq-eqb, eqb-true, or_left}
+use Rattle.std.proofs.lemmas.List.{append-nil, length-set, map-append}
+use Rattle.std.proofs.lemmas.List.Elements.{All-push, All-weaker}
+use Rattle.fb_graph.specs.Parity.{is_in}
+use Rattle.fb_graph.specs.Problem.{Problem}
+use Rattle.fb_graph.specs.Certificate.{total_value}
+use Rattle.fb_graph.specs.Dual.{Node, all_cuts, cover_of, height_of, is_live, is_outer, layers_of, leaf, leaves, top_at}
 use Rattle.fb_graph.specs.declared.parts.Cut.{Cut}
+use Rattle.fb_graph.specs.Nests.{IsNest}
+use Rattle.fb_graph.specs.SourceWalks.{HaveWalks}
+use Rattle.fb_graph.proofs.Among.{IsAmong, All_among, among_All, among_either, among_left, among_live, among_right, cover_among, map_among, among_outer, outer_among, top_among, top_left}
+use Rattle.fb_graph.proofs.AppendedNodes.{cuts_merged}
+use Rattle.fb_graph.proofs.Members.{or_false}
+use Rattle.fb_graph.proofs.NestParts.{names_live}
+use Rattle.fb_graph.proofs.Sets.{is_in-All}
 use Rattle.fb_regions.specs.declared.marks.Mark.{Mark}
-use Rattle.fb_graph.specs.Dual.{Node, AreGrown, IsHeld, layers_of, all_cuts, defects_of, leaf, leaves, is_live, no_node, node_at}
-use Rattle.fb_regions.specs.Kept.{IsKept, IsMarked, mark_of, is_at}
-use Rattle.fb_graph.proofs.Members.{AreDistinct_push, is_in_push, is_in_pushed, is_odd_count-agree, or_false}
-use Rattle.fb_graph.proofs.CutSums.{cond_zero, weigh}
-use Rattle.fb_regions.proofs.Covers.{height-unmarked, not_held, unmarked}
-use Rattle.fb_regions.proofs.Marked.{came_still, mark_new, mark_other, marks_stay}
+use Rattle.fb_regions.specs.declared.region.Region.{Region}
+use Rattle.fb_regions.specs.InternalNodes.{chain, mark_of, node_of, nodes_of, radii_from, stack}
+use Rattle.fb_regions.specs.InternalKept.{BeginsIn, CameBy, HasMarks, HasParent, HaveParents, IsKept, IsMarked, is_lone}
+use Rattle.fb_regions.proofs.Leaves.{height, leaf_still, nest_opened, not_in_cut, own_leaf, walks_opened}
+use Rattle.fb_regions.proofs.Marking.{has_still, mark_new, mark_other, node_still, nodes_still}
+use Rattle.fb_regions.proofs.Moved.{covered_in, from_marked, in_top, marked_moved, not_covered, some_cover, unmarked}
+use Rattle.fb_regions.proofs.Parents.{lone_last, lone_push, parents_push}
+use Rattle.fb_regions.proofs.Radii.{IsBare, no_radii, radii_push}
+use Rattle.fb_graph.proofs.Forests.{cuts_under}
+use Rattle.fb_graph.proofs.NestParts.{grove_of}
 
-abbrev pub opened : ℕ → Mark
-opened place = record { place = place; rank = 0; distance = 0; by = None }
+-- the region of one defect
+pub record IsLeafRegion (name v : ℕ) (r : Region) : Type 0 where
+  pub name_is : r.name ≡ name
+  pub children : r.children.items ≡ []
+  pub parent : r.parent ≡ None
+  pub first : r.first_set.items ≡ v ∷ []
+  pub added : r.added ≡ 0
+  pub value : r.top_value ≡ 0
+  pub radius : r.radius ≡ 0
 
--- the cut of a new leaf
-abbrev first_cut : ℕ → Cut
-first_cut v = record { value = 0; vertices = v ∷ [] }
+-- its mark
+pub record IsLeafMark (name v : ℕ) (m : Mark) : Type 0 where
+  pub source : m.source ≡ v
+  pub leaf : m.leaf ≡ name
+  pub distance : m.distance ≡ 0
+  pub rank : m.rank ≡ 0
+  pub by : m.by ≡ None
 
-named : (nodes : List Node) (name : ℕ) → is_in (map (λ n. n.name) nodes) name ≡ is_live nodes name
-named [] name = refl
-named (n ∷ ns) name = ap (λ b. (n.name == name) || b) (named ns name)
-
--- an odd cut without the new defect stays odd
-odd_still : (p : Problem) (defects : List ℕ) (v : ℕ) (c : Cut) → IsOddCut (with_defects p defects) c → is_in c.vertices v ≡ false
-    → IsOddCut (with_defects p (defects ++ v ∷ [])) c
-odd_still p defects v c h out = record {
-  distinct = h.distinct;
-  real = h.real;
-  odd = is_odd_count-agree (is_in (defects ++ v ∷ [])) (is_in defects) c.vertices same ∙ h.odd;
+abbrev pub whole : List (Option Mark) → ℕ → ℕ → List ℕ → List ℕ → ℕ → ℕ → Node
+whole marks last n cs first k x = record {
+  name = n;
+  children = cs;
+  below = stack marks first (chain marks k last);
+  top = record { value = x; vertices = first ++ chain marks k last };
 }
-  where
-    or_no : (a b : Bool) → b ≡ false → (a || b) ≡ a
-    or_no a b e = rw e (or_false a)
 
-    same : (u : ℕ) → is_in c.vertices u ≡ true → is_in (defects ++ v ∷ []) u ≡ is_in defects u
-    same u i = is_in_push defects v u ∙ or_no (is_in defects u) (v == u) (ne_eqb v u (λ e. let t : is_in c.vertices u ≡ false = ap (is_in c.vertices) (sym e) ∙ out in absurd (cc)))
+leaf_node : (marks : List (Option Mark)) (name v : ℕ) (r : Region) → IsLeafRegion name v r → node_of marks r ≡ leaf name v
+leaf_node marks name v r is =
+    ap (λ y. whole marks r.last y r.children.items r.first_set.items r.added r.top_value) is.name_is
+    ∙ (ap (λ y. whole marks r.last name y r.first_set.items r.added r.top_value) is.children
+    ∙ (ap (λ y. whole marks r.last name [] y r.added r.top_value) is.first
+    ∙ (ap (λ y. whole marks r.last name [] (v ∷ []) y r.top_value) is.added ∙ ap (λ y. whole marks r.last name [] (v ∷ []) 0 y) is.value)))
 
-module _ (p : Problem) (nodes : List Node) (marks : List (Option Mark)) (kept : IsKept p nodes marks) (name v : ℕ) (fresh : is_live nodes name ≡ false)
-    (below : v < length marks) (real : p.is_real v ≡ true) (free : mark_of marks v ≡ None) where
-  same_cuts : all_cuts (nodes ++ leaf name v ∷ []) ≡ all_cuts nodes ++ first_cut v ∷ []
-  same_cuts = flat_map-append layers_of nodes (leaf name v ∷ [])
+module _ (p : Problem) (regions : List Region) (marks : List (Option Mark)) (kept : IsKept p regions marks) (name v : ℕ) (new : Region) (m : Mark)
+    (is : IsLeafRegion name v new) (own : IsLeafMark name v m) (fresh : is_live (nodes_of marks regions) name ≡ false) (below : v < length marks)
+    (real : p.is_real v ≡ true) (free : cover_of (nodes_of marks regions) v ≡ None) where
+  abbrev nodes : List Node
+  nodes = nodes_of marks regions
 
-  more_leaves : leaves (nodes ++ leaf name v ∷ []) ≡ leaves nodes ++ v ∷ []
-  more_leaves = flat_map-append defects_of nodes (leaf name v ∷ [])
+  abbrev others : List Node
+  others = nodes ++ leaf name v ∷ []
 
-  same_weigh : (test : List ℕ → Bool) → weigh test (all_cuts (nodes ++ leaf name v ∷ [])) ≡ weigh test (all_cuts nodes)
-  same_weigh test =
-      let f : Cut → ℕ = λ c. cond (test c.vertices) c.value 0 in
-      let all : weigh test (all_cuts (nodes ++ leaf name v ∷ [])) ≡ weigh test (all_cuts nodes ++ first_cut v ∷ []) = ap (weigh test) same_cuts in
-      omega (arith, all, sum_by_push f (all_cuts nodes) (first_cut v), cond_zero (test (v ∷ [])))
+  abbrev marks' : List (Option Mark)
+  marks' = set marks v (Some m)
 
-  odd-opened : All (IsOddCut (with_defects p (leaves nodes ++ v ∷ []))) (all_cuts nodes ++ first_cut v ∷ [])
-  odd-opened =
-      All-push (IsOddCut (with_defects p (leaves nodes ++ v ∷ []))) (all_cuts nodes) (first_cut v)
-      (λ k d lt. odd_still p (leaves nodes) v (get_or (all_cuts nodes) k d) (kept.odd k d lt) (unmarked p nodes marks kept v free k d lt))
-      (record {
-        distinct = (refl, tt);
-        real = All-cons (λ u. p.is_real u ≡ true) v [] real (All-nil (λ u. p.is_real u ≡ true));
-        odd = ap (λ b. differ b false) (is_in_pushed (leaves nodes) v);
-      })
+  out : (n : Node) → IsAmong n nodes → is_in n.top.vertices v ≡ false
+  out = not_covered p nodes kept.nest v free
 
-  held-opened : (u j : ℕ) → is_in (node_at (nodes ++ leaf name v ∷ []) j).top.vertices u ≡ is_at (mark_of (set marks v (Some (opened (length nodes)))) u) j
-  held-opened u j = by (cases_eq u v) (cases_order j (length nodes))
+  pub opened_nodes : nodes_of marks' (regions ++ new ∷ []) ≡ others
+  opened_nodes =
+      map-append (node_of marks') regions (new ∷ [])
+      ∙ (ap (λ l. l ++ node_of marks' new ∷ []) (nodes_still marks regions v (Some m) out) ∙ ap (λ n. nodes ++ n ∷ []) (leaf_node marks' name v new is))
+
+  nest : IsNest p others
+  nest = nest_opened p nodes name v fresh real free kept.nest
+
+  outer_still : (x : ℕ) → is_outer nodes x ≡ true → is_outer others x ≡ true
+  outer_still x outer =
+      among_outer others x
+      (λ q a. by q (among_either nodes (leaf name v ∷ []) q a))
     where
-      m : Mark
-      m = opened (length nodes)
+      by : (q : Node) → IsAmong q nodes ⊎ IsAmong q (leaf name v ∷ []) → is_in q.children x ≡ false
+      by q (inl a) = outer_among nodes x outer q a
+      by q (inr (inl e)) = ap (λ n. is_in n.children x) (sym e)
+      by q (inr (inr a)) = absurd a
 
-      top : (n : Node) → node_at (nodes ++ leaf name v ∷ []) j ≡ n → is_in (node_at (nodes ++ leaf name v ∷ []) j).top.vertices u ≡ is_in n.top.vertices u
-      top n e = ap (λ (x : Node). is_in x.top.vertices u) e
+  own_outer : is_outer nodes name ≡ true
+  own_outer =
+      among_outer nodes name
+      (λ q a.
+      false_from_ne_true (is_in q.children name)
+      (λ h.
+      both_ways (is_live nodes name) fresh
+      (is_in-All (λ c. is_live nodes c ≡ true) q.children (All_among (λ n. All (λ c. is_live nodes c ≡ true) n.children) nodes kept.nest.forest.live q a) name h)))
 
-      past : length nodes < j → node_at (nodes ++ leaf name v ∷ []) j ≡ no_node
-      past lt = get_or_past (nodes ++ leaf name v ∷ []) j no_node (omega (arith, length_push nodes (leaf name v)))
+  still : (u : ℕ) → (u ≡ v → ⊥) → mark_of marks' u ≡ mark_of marks u
+  still u other = mark_other marks v u (Some m) other
 
-      before : j < length nodes → node_at (nodes ++ leaf name v ∷ []) j ≡ node_at nodes j
-      before lt = get_or_append_left nodes (leaf name v ∷ []) no_node j lt
+  marked_other : (u : ℕ) (mk : Mark) → (u ≡ v → ⊥) → mark_of marks u ≡ Some mk → IsMarked p others (regions ++ new ∷ []) marks' u mk
+  marked_other u mk other at =
+      let old : IsMarked p nodes regions marks u mk = kept.marked u mk at in
+      let (c, cover) = some_cover nodes u old.covered in
+      let over = cover_among nodes u c cover in
+      marked_moved p nodes others regions (regions ++ new ∷ []) marks marks' u mk old
+      (covered_in p others nest over.node (among_left nodes (leaf name v ∷ []) over.node over.among) u over.holds)
+      (ap (λ l. is_in l mk.source) (top_left nodes (leaf name v ∷ []) mk.leaf (in_top nodes mk.leaf mk.source old.leaf)) ∙ old.leaf)
+      (lone_push regions new mk.leaf old.lone)
+      (height p nodes name v fresh real free kept.nest u)
+      (radii_push regions new is.radius is.parent mk.leaf)
+      (leaf_still p nodes name v fresh real free kept.nest)
+      (λ s e.
+      let (b, has) = from_marked p (leaves nodes) marks u mk s e old.came in
+      still s.from (λ same. let none : mark_of marks s.from ≡ None = ap (mark_of marks) same ∙ unmarked p regions marks kept v free in absurd (let clash : None ≡ Some b = sym none ∙ has in cc)))
 
-      at : length nodes ≡ j → node_at (nodes ++ leaf name v ∷ []) j ≡ leaf name v
-      at e = get_or_push nodes (leaf name v) no_node j e
-
-      new : u ≡ v → mark_of (set marks v (Some (opened (length nodes)))) u ≡ Some (opened (length nodes))
-      new e = ap (mark_of (set marks v (Some (opened (length nodes))))) e ∙ mark_new marks v (opened (length nodes)) below
-
-      not_yet : (o : Option Mark) → mark_of marks u ≡ o → length nodes ≤ j → false ≡ is_at o j
-      not_yet None e le = refl
-      not_yet (Some b) e le =
-          let lt : b.place < length nodes = (kept.marked u b e).place in
-          sym (ne_eqb j b.place (λ s. omega arith))
-
-      by : (u ≡ v) ⊎ (u ≡ v → ⊥) → (j ≡ length nodes) ⊎ ((j < length nodes) ⊎ (length nodes < j))
-          → is_in (node_at (nodes ++ leaf name v ∷ []) j).top.vertices u ≡ is_at (mark_of (set marks v (Some (opened (length nodes)))) u) j
-      by (inl e) (inl s) =
-          top (leaf name v) (at (sym s)) ∙ (ap (λ x. (v == x) || false) e ∙ (ap (λ b. b || false) (eq-eqb v v refl) ∙ (sym (eq-eqb j (length nodes) s) ∙ ap (λ o. is_at o j) (sym (new e)))))
-      by (inl e) (inr (inl lt)) =
-          top (node_at nodes j) (before lt) ∙ (ap (is_in (node_at nodes j).top.vertices) e ∙ (not_held p nodes marks kept v free j
-          ∙ (sym (ne_eqb j (length nodes) (λ s. omega arith)) ∙ ap (λ o. is_at o j) (sym (new e)))))
-      by (inl e) (inr (inr lt)) =
-          top no_node (past lt) ∙ (sym (ne_eqb j (length nodes) (λ s. omega arith)) ∙ ap (λ o. is_at o j) (sym (new e)))
-      by (inr ne) (inl s) =
-          top (leaf name v) (at (sym s)) ∙ (ap (λ b. b || false) (ne_eqb v u (λ t. ne (sym t)))
-          ∙ (not_yet (mark_of marks u) refl (omega arith) ∙ ap (λ o. is_at o j) (sym (mark_other marks v u (opened (length nodes)) ne))))
-      by (inr ne) (inr (inl lt)) =
-          top (node_at nodes j) (before lt) ∙ (kept.held u j ∙ ap (λ o. is_at o j) (sym (mark_other marks v u (opened (length nodes)) ne)))
-      by (inr ne) (inr (inr lt)) =
-          top no_node (past lt) ∙ (not_yet (mark_of marks u) refl (omega arith) ∙ ap (λ o. is_at o j) (sym (mark_other marks v u (opened (length nodes)) ne)))
-
-  marked-opened : (u : ℕ) (m : Mark) → mark_of (set marks v (Some (opened (length nodes)))) u ≡ Some m
-      → IsMarked p (nodes ++ leaf name v ∷ []) (set marks v (Some (opened (length nodes)))) u m
-  marked-opened u m e = by (cases_eq u v)
-    where
-      place_last : node_at (nodes ++ leaf name v ∷ []) (length nodes) ≡ leaf name v
-      place_last = get_or_push nodes (leaf name v) no_node (length nodes) refl
-
-      fresh_mark : IsMarked p (nodes ++ leaf name v ∷ []) (set marks v (Some (opened (length nodes)))) v (opened (length nodes))
-      fresh_mark = record {
-        place = omega (arith, length_push nodes (leaf name v));
-        rank = rw place_last (omega arith);
-        real = real;
-        balance = omega (arith, same_weigh (λ s. is_in s v), height-unmarked p nodes marks kept v free, ap (λ n. total_value (layers_of n)) place_last);
-        came = (rw more_leaves (is_in_pushed (leaves nodes) v), refl);
-      }
-
-      old_mark : mark_of marks u ≡ Some m → IsMarked p (nodes ++ leaf name v ∷ []) (set marks v (Some (opened (length nodes)))) u m
-      old_mark h =
-          let old : IsMarked p nodes marks u m = kept.marked u m h in
-          let at : node_at (nodes ++ leaf name v ∷ []) m.place ≡ node_at nodes m.place = get_or_append_left nodes (leaf name v ∷ []) no_node m.place old.place in
-          record {
-            place = omega (arith, length_push nodes (leaf name v), old.place);
-            rank = rw at old.rank;
-            real = old.real;
-            balance = ap (λ h. m.distance + h) (same_weigh (λ s. is_in s u)) ∙ (old.balance ∙ ap (λ n. total_value (layers_of n)) (sym at));
-            came = came_still p (leaves nodes) (leaves (nodes ++ leaf name v ∷ [])) marks (set marks v (Some (opened (length nodes)))) u m
-                (λ w i. rw more_leaves (is_in_push (leaves nodes) v w ∙ or_left (is_in (leaves nodes) w) (v == w) i)) (marks_stay marks v (opened (length nodes)) free) m.by old.came;
-          }
-
-      by : (u ≡ v) ⊎ (u ≡ v → ⊥) → IsMarked p (nodes ++ leaf name v ∷ []) (set marks v (Some (opened (length nodes)))) u m
-      by (inl s) =
-          let h : Some m ≡ Some (opened (length nodes)) = sym e ∙ (ap (mark_of (set marks v (Some (opened (length nodes))))) s ∙ mark_new marks v (opened (length nodes)) below) in
-          let same : m ≡ opened (length nodes) = cc in
-          rw (s, same) fresh_mark
-      by (inr ne) = old_mark (sym (mark_other marks v u (opened (length nodes)) ne) ∙ e)
-
-  pub kept-opened : IsKept p (nodes ++ leaf name v ∷ []) (set marks v (Some (opened (length nodes))))
-  kept-opened = record {
-    odd = rw (same_cuts, more_leaves) odd-opened;
-    fits = λ k d lt. rw (same_weigh (λ s. crosses s (get_or p.edges k d))) (kept.fits k d lt);
-    names = rw (map_push (λ (n : Node). n.name) nodes (leaf name v)) (AreDistinct_push (map (λ n. n.name) nodes) name kept.names (named nodes name ∙ fresh));
-    grown = All-push (λ (n : Node). AreGrown (layers_of n)) nodes (leaf name v) kept.grown (tt, tt);
-    crossed = rw same_cuts (All-push (IsHeld p) (all_cuts nodes) (first_cut v) kept.crossed (inl refl));
-    total = rw (same_weigh (λ _. true)) kept.total;
-    childless = All-push (λ (n : Node). n.children ≡ []) nodes (leaf name v) kept.childless refl;
-    room = length-set marks v (Some (opened (length nodes))) ∙ kept.room;
-    held = held-opened;
-    marked = marked-opened;
+  own_marked : IsMarked p others (regions ++ new ∷ []) marks' v m
+  own_marked = record {
+    covered = covered_in p others nest (leaf name v) (among_right nodes (leaf name v ∷ []) (leaf name v) (inl refl)) v own_in;
+    leaf =
+        ap (λ x. is_in (top_at others x) m.source) own.leaf
+        ∙ (ap (λ s. is_in s m.source) (top_among others nest.dual.names (leaf name v) (among_right nodes (leaf name v ∷ []) (leaf name v) (inl refl)))
+        ∙ (ap (is_in (v ∷ [])) own.source ∙ own_in));
+    lone = ap (is_lone (regions ++ new ∷ [])) own.leaf ∙ lone_last regions new name is.name_is is.children;
+    defect = ap (is_in (leaves others)) own.source ∙ own_leaf p nodes name v fresh real free kept.nest;
+    balance =
+        omega (
+          arith,
+          own.distance,
+          height p nodes name v fresh real free kept.nest v,
+          kept.nest.dual.uncovered v free,
+          ap (radii_from (regions ++ new ∷ [])) own.leaf,
+          radii_push regions new is.radius is.parent name,
+          no_radii regions name none_bare,
+        );
+    came =
+        subst (CameBy p (leaves others) marks' v m) (sym own.by)
+        (own_leaf p nodes name v fresh real free kept.nest, own.source, own.distance);
   }
+    where
+      own_in : is_in (v ∷ []) v ≡ true
+      own_in = or_left (v == v) false (eq-eqb v v refl)
+
+      none_bare : All (IsBare name) regions
+      none_bare =
+          among_All (IsBare name) regions
+          (λ r a same.
+          absurd (both_ways (is_live nodes name) fresh (among_live nodes (node_of marks r) name (map_among (node_of marks) regions r a) same)))
+
+  pub kept_opened : IsKept p (regions ++ new ∷ []) marks'
+  kept_opened = record {
+    nest = subst (IsNest p) (sym opened_nodes) nest;
+    walks = subst (HaveWalks p) (sym opened_nodes) (walks_opened p nodes name v fresh real free kept.nest kept.walks);
+    room = length-set marks v (Some m) ∙ kept.room;
+    radii = All-push (λ r. r.radius ≡ total_value (layers_of (node_of marks' r))) regions new
+        (among_All (λ r. r.radius ≡ total_value (layers_of (node_of marks' r))) regions
+        (λ r a.
+        All_among (λ s. s.radius ≡ total_value (layers_of (node_of marks s))) regions kept.radii r a
+        ∙ ap (λ n. total_value (layers_of n)) (sym (node_still marks r v (Some m) (out (node_of marks r) (map_among (node_of marks) regions r a))))))
+        (is.radius ∙ ap (λ n. total_value (layers_of n)) (sym (leaf_node marks' name v new is)));
+    parents =
+        subst (λ ns. HaveParents ns (regions ++ new ∷ [])) (sym opened_nodes)
+        (parents_push nodes others regions new outer_still kept.parents
+        (subst (HasParent others [] new.name) (sym is.parent) (ap (is_outer others) is.name_is ∙ outer_still name own_outer)));
+    sets =
+        subst (All (λ c. HasMarks marks' c.vertices)) (sym (ap all_cuts opened_nodes ∙ cuts_merged nodes (leaf name v ∷ [])))
+        (All-push (λ c. HasMarks marks' c.vertices) (all_cuts nodes) (leaf name v).top
+        (λ i d less. has_still marks (get_or (all_cuts nodes) i d).vertices v (Some m)
+        (not_in_cut p nodes name v fresh real free kept.nest (get_or (all_cuts nodes) i d) (cuts_under nodes (grove_of p nodes kept.nest) i d less))
+        (kept.sets i d less))
+        own_set);
+    marked = λ u mk at. subst (λ ns. IsMarked p ns (regions ++ new ∷ []) marks' u mk) (sym opened_nodes) (by u mk at (cases_eq u v));
+  }
+    where
+      own_set : HasMarks marks' (v ∷ [])
+      own_set u within =
+          let same : v ≡ u = eqb-true v u (sym (or_false (v == u)) ∙ within) in (
+            m,
+            ap (mark_of marks') (sym same) ∙ mark_new marks v (Some m) below,
+            record {
+              rank = omega (arith, own.rank);
+              source = ap (is_in (v ∷ [])) own.source ∙ or_left (v == v) false (eq-eqb v v refl);
+              step = subst (BeginsIn (v ∷ [])) (sym own.by) tt;
+            },
+          )
+
+      by : (u : ℕ) (mk : Mark) → mark_of marks' u ≡ Some mk → (u ≡ v) ⊎ (u ≡ v → ⊥) → IsMarked p others (regions ++ new ∷ []) marks' u mk
+      by u mk at (inl same) =
+          let e : Some m ≡ Some mk = sym (mark_new marks v (Some m) below) ∙ (ap (mark_of marks') (sym same) ∙ at) in
+          let e' : m ≡ mk = cc in
+          subst (λ x. IsMarked p others (regions ++ new ∷ []) marks' x mk) (sym same)
+          (subst (IsMarked p others (regions ++ new ∷ []) marks' v) e' own_marked)
+      by u mk at (inr other) = marked_other u mk other (sym (still u other) ∙ at)

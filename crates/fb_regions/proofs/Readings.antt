@@ -1,54 +1,90 @@
--- What a read of a mark or a node gives.
-use Rattle.std.proofs.Common.{◌≡◌, ℕ, ◌+◌, ◌-◌, ◌^◌, ◌<◌, ◌≤◌, ◌==◌, List, length, get_or, Option, Some, None, sym, ◌∙◌, ap, arith}
-use Rattle.std.specs.List.{position}
-use Rattle.std.specs.Option.{option_and_then}
-use Rattle.fb_links.specs.declared.walk.Step.{Step}
-use Rattle.std.proofs.lemmas.List.{get_or_read}
-use Rattle.std.proofs.lemmas.List.Quantifiers.{position-Some}
+-- What a dual state says of covers, potentials and nodes, as it is read.
+use Rattle.std.proofs.Common.{ℕ, ◌≡◌, ◌+◌, ◌-◌, ◌<◌, ◌≤◌, ◌^◌, ◌==◌, Bool, true, false, cond, List, [], ◌∷◌, length, get_or, Option, Some, None, refl, sym, ap, ◌∙◌, subst, arith, if◌then◌else◌}
+use Rattle.std.specs.List.{All, range_with_len, sum_by}
+use Rattle.std.specs.Option.{IsSome}
+use Rattle.std.proofs.lemmas.Bool.{ne_eqb}
+use Rattle.std.proofs.lemmas.List.{length-append}
+use Rattle.std.proofs.lemmas.List.FromFn.{length-range_with_len}
+use Rattle.std.proofs.lemmas.List.Elements.{All-head, All-tail}
+use Rattle.std.proofs.lemmas.List.Sums.{sum_by-cons}
+use Rattle.fb_graph.specs.Problem.{Problem}
+use Rattle.fb_graph.specs.Parity.{is_in}
 use Rattle.fb_graph.specs.Certificate.{load_of, total_value}
+use Rattle.fb_graph.specs.Dual.{Node, all_cuts, cover_of, height_of, is_empty, layers_of}
 use Rattle.fb_graph.specs.declared.parts.Cut.{Cut}
 use Rattle.fb_graph.specs.declared.parts.Edge.{Edge}
-use Rattle.fb_graph.specs.Problem.{Problem}
+use Rattle.fb_graph.specs.Nests.{IsNest}
+use Rattle.fb_graph.specs.Limits.{IsWithinLimits}
+use Rattle.fb_graph.proofs.Among.{IsAmong, map_among}
+use Rattle.fb_graph.proofs.NestParts.{top_is_odd}
+use Rattle.fb_graph.proofs.Sets.{distinct_from_rising, is_in-All, is_in-range, length-le_from_within, range_rises}
+use Rattle.fb_regions.proofs.Chains.{length-chain}
+use Rattle.fb_graph.proofs.CutSums.{sum_by-flat_map, weigh-le}
 use Rattle.fb_regions.specs.declared.marks.Mark.{Mark}
-use Rattle.fb_graph.specs.Dual.{Node, layers_of, all_cuts, cover_of, height_of, no_node, node_at, layers_at}
-use Rattle.fb_graph.specs.Parity.{is_in}
-use Rattle.fb_regions.specs.Kept.{IsKept, mark_of}
-use Rattle.fb_graph.proofs.Nodes.{layers_at-place}
-use Rattle.fb_regions.proofs.Covers.{cover-Some}
-use Rattle.fb_graph.proofs.CutSums.{weigh-le}
+use Rattle.fb_regions.specs.declared.region.Region.{Region}
+use Rattle.fb_regions.specs.InternalNodes.{added_to, mark_of, node_of, nodes_of, radii_from, root_from}
+use Rattle.fb_regions.specs.InternalKept.{IsKept}
+use Rattle.fb_regions.proofs.Moved.{mark_over, same_cover}
+use Rattle.fb_regions.proofs.Roots.{root_covers}
 
-pub read_mark : (marks seen : List (Option Mark)) (v : ℕ) (o : Option Mark) → seen ≡ marks → o ≡ get_or seen v None → mark_of marks v ≡ o
-read_mark marks seen v o e h = ap (λ l. get_or l v None) (sym e) ∙ sym h
+radii-le : (rs : List Region) (x : ℕ) → radii_from rs x ≤ sum_by (λ r. r.radius) rs
+radii-le [] x = omega arith
+radii-le (r ∷ rs) x = by (r.name == x) r.parent (radii-le rs)
+  where
+    by : (b : Bool) (o : Option ℕ) → ((y : ℕ) → radii_from rs y ≤ sum_by (λ s. s.radius) rs)
+        → (if b then r.radius + elim o as (λ z. ℕ) [ None ↦ 0 | Some q ↦ radii_from rs q ] else radii_from rs x) ≤ sum_by (λ s. s.radius) (r ∷ rs)
+    by true None rest = omega (arith, rest x, sum_by-cons (λ (s : Region). s.radius) r rs)
+    by true (Some q) rest = omega (arith, rest q, sum_by-cons (λ (s : Region). s.radius) r rs)
+    by false o rest = omega (arith, rest x, sum_by-cons (λ (s : Region). s.radius) r rs)
 
-pub read_node : (nodes : List Node) (i : ℕ) (n : Node) → i < length nodes → n ≡ get_or nodes i n → n ≡ node_at nodes i
-read_node nodes i n lt e = get_or_read nodes i n lt e no_node
+all_radii : (marks : List (Option Mark)) (rs : List Region) → All (λ r. r.radius ≡ total_value (layers_of (node_of marks r))) rs
+    → sum_by (λ r. r.radius) rs ≡ sum_by (λ n. total_value (layers_of n)) (nodes_of marks rs)
+all_radii marks [] h = refl
+all_radii marks (r ∷ rs) h =
+    omega (
+      arith,
+      sum_by-cons (λ (s : Region). s.radius) r rs,
+      sum_by-cons (λ (n : Node). total_value (layers_of n)) (node_of marks r) (nodes_of marks rs),
+      All-head (λ s. s.radius ≡ total_value (layers_of (node_of marks s))) r rs h,
+      all_radii marks rs (All-tail (λ s. s.radius ≡ total_value (layers_of (node_of marks s))) r rs h),
+    )
 
-pub read_place : (nodes seen : List Node) (name : ℕ) (o : Option ℕ) → seen ≡ nodes → o ≡ position (λ n. n.name == name) seen
-    → position (λ n. n.name == name) nodes ≡ o
-read_place nodes seen name o e h = ap (λ l. position (λ (n : Node). n.name == name) l) (sym e) ∙ sym h
+pub height-le : (p : Problem) (nodes : List Node) (v : ℕ) → IsNest p nodes → height_of (all_cuts nodes) v ≤ 2 ^ 52
+height-le p nodes v nest = omega (arith, weigh-le (λ s. is_in s v) (all_cuts nodes), nest.dual.total)
 
-pub layers_read : (nodes : List Node) (name i : ℕ) (n : Node) → position (λ x. x.name == name) nodes ≡ Some i → n ≡ get_or nodes i n → layers_of n ≡ layers_at nodes name
-layers_read nodes name i n h e =
-    ap layers_of (read_node nodes i n (position-Some (λ x. x.name == name) nodes i no_node h).0 e) ∙ layers_at-place nodes name i h
+module _ (p : Problem) (regions : List Region) (marks : List (Option Mark)) (kept : IsKept p regions marks) where
+  pub radii_fit : (x : ℕ) → radii_from regions x ≤ 2 ^ 52
+  radii_fit x =
+      omega (
+        arith,
+        radii-le regions x,
+        all_radii marks regions kept.radii,
+        sum_by-flat_map (λ (c : Cut). c.value) layers_of (nodes_of marks regions),
+        kept.nest.dual.total,
+      )
 
--- the potential of a vertex from the radius of its node
-pub potential : (p : Problem) (nodes : List Node) (marks : List (Option Mark)) (v r : ℕ) (m : Mark) (n : Node) → IsKept p nodes marks → mark_of marks v ≡ Some m
-    → n ≡ get_or nodes m.place n → r ≡ total_value (layers_of n) → (m.distance ≤ r) × (r - m.distance ≡ height_of (all_cuts nodes) v)
-potential p nodes marks v r m n kept e at radius =
-    let same : n ≡ node_at nodes m.place = read_node nodes m.place n (kept.marked v m e).place at in
-    let total : r ≡ total_value (layers_of (node_at nodes m.place)) = radius ∙ ap (λ x. total_value (layers_of x)) same in
-    let balance : m.distance + height_of (all_cuts nodes) v ≡ total_value (layers_of (node_at nodes m.place)) = (kept.marked v m e).balance in
-    (omega (arith, total, balance), omega (arith, total, balance))
+  pub cover_none : (v : ℕ) → mark_of marks v ≡ None → cover_of (nodes_of marks regions) v ≡ None
+  cover_none v e = by (cover_of (nodes_of marks regions) v) refl
+    where
+      by : (o : Option ℕ) → cover_of (nodes_of marks regions) v ≡ o → o ≡ None
+      by None f = refl
+      by (Some name) f =
+          let (m, at, source) = mark_over p regions marks kept v name f in
+          absurd (let clash : None ≡ Some m = sym e ∙ at in cc)
 
--- the name of the node over a vertex
-pub cover : (p : Problem) (nodes : List Node) (marks : List (Option Mark)) (v name : ℕ) (m : Mark) (n : Node) → IsKept p nodes marks → mark_of marks v ≡ Some m
-    → n ≡ get_or nodes m.place n → name ≡ n.name → Some name ≡ cover_of nodes v
-cover p nodes marks v name m n kept e at named =
-    let same : n ≡ node_at nodes m.place = read_node nodes m.place n (kept.marked v m e).place at in
-    ap Some (named ∙ ap (λ x. x.name) same) ∙ sym (cover-Some p nodes marks kept v m e)
+  pub cover_some : (v : ℕ) (m : Mark) → mark_of marks v ≡ Some m → root_from regions m.leaf ≡ cover_of (nodes_of marks regions) v
+  cover_some v m at =
+      sym (root_covers p marks regions kept.nest regions (λ r h. h) kept.parents m.leaf m.source (kept.marked v m at).leaf)
+      ∙ sym (same_cover p regions marks kept v m at)
 
-pub height-le : (p : Problem) (nodes : List Node) (marks : List (Option Mark)) (v : ℕ) → IsKept p nodes marks → height_of (all_cuts nodes) v ≤ 2 ^ 52
-height-le p nodes marks v kept = omega (arith, weigh-le (λ s. is_in s v) (all_cuts nodes), kept.total)
+  pub no_height : (v : ℕ) → mark_of marks v ≡ None → height_of (all_cuts (nodes_of marks regions)) v ≡ 0
+  no_height v e = kept.nest.dual.uncovered v (cover_none v e)
+
+  pub potential : (v r : ℕ) (m : Mark) → mark_of marks v ≡ Some m → r ≡ radii_from regions m.leaf
+      → (m.distance ≤ r) × (r - m.distance ≡ height_of (all_cuts (nodes_of marks regions)) v)
+  potential v r m at e =
+      let balance = (kept.marked v m at).balance in
+      (omega (arith, balance, e), omega (arith, balance, e))
 
 -- the residue, read from two potentials
 pub residue : (r w a b s t : ℕ) (cuts : List Cut) (e : Edge) → r ≡ w - (a + b) → w ≡ e.weight → a ≡ height_of cuts s → s ≡ e.first → b ≡ height_of cuts t
@@ -58,6 +94,23 @@ residue r w a b s t cuts e hr hw ha hs hb ht load =
     let b' : b ≡ height_of cuts e.second = hb ∙ ap (λ v. height_of cuts v) ht in
     omega (arith, hr, hw, a', b', load)
 
-pub read_step : (marks seen : List (Option Mark)) (v : ℕ) (o : Option Step) → seen ≡ marks → o ≡ option_and_then (λ m. m.by) (get_or seen v None)
-    → option_and_then (λ m. m.by) (mark_of marks v) ≡ o
-read_step marks seen v o e h = ap (λ l. option_and_then (λ (m : Mark). m.by) (get_or l v None)) (sym e) ∙ sym h
+pub empty_as_length : (xs : List ℕ) → (length xs == 0) ≡ is_empty xs
+empty_as_length [] = refl
+empty_as_length (x ∷ xs) = ne_eqb (length (x ∷ xs)) 0 (λ e. omega arith)
+
+-- a node has no more vertices than the problem
+pub sized : (p : Problem) (regions : List Region) (marks : List (Option Mark)) → IsKept p regions marks → IsWithinLimits p → (r : Region) → IsAmong r regions
+    → length (node_of marks r).top.vertices ≤ p.vertices
+sized p regions marks kept limits r a =
+    let odd = top_is_odd p (nodes_of marks regions) kept.nest (node_of marks r) (map_among (node_of marks) regions r a) in
+    omega (
+      arith,
+      length-le_from_within (node_of marks r).top.vertices (range_with_len 0 p.vertices) odd.distinct
+          (distinct_from_rising (range_with_len 0 p.vertices) (range_rises 0 p.vertices))
+          (λ v h. is_in-range p.vertices v (limits.real_below v (is_in-All (λ u. p.is_real u ≡ true) (node_of marks r).top.vertices odd.real v h))),
+      length-range_with_len 0 p.vertices,
+    )
+
+pub length-top : (marks : List (Option Mark)) (r : Region) → length (node_of marks r).top.vertices ≡ length r.first_set.items + r.added
+length-top marks r =
+    omega (arith, length-append r.first_set.items (added_to marks r), length-chain marks r.added r.last)

@@ -1,5 +1,5 @@
 pub mod Codes
-pub mod Kept
-pub mod Line
+pub mod InternalKept
+pub mod InternalNodes
 pub mod Moves
 pub mod Walks

@@ -1,13 +1,18 @@
 -- What the calls on a dual state ask for and give.
-use Rattle.std.specs.Prelude.{ℕ, ◌≡◌, ◌+◌, true, List, All, is_some, unwrap_or, if◌then◌else◌}
+use Rattle.std.specs.Prelude.{ℕ, ◌≡◌, ◌+◌, ◌==◌, true, List, [], ◌∷◌, All, is_some, unwrap_or, if◌then◌else◌}
 use Rattle.fb_graph.specs.Parity.{is_in}
 use Rattle.fb_graph.specs.Problem.{Problem, edge_at}
 use Rattle.fb_graph.specs.declared.parts.Edge.{Edge}
 use Rattle.fb_graph.specs.Laws.{has_real_end}
 use Rattle.fb_links.specs.declared.walk.Step.{Step}
-use Rattle.fb_graph.specs.Dual.{Node, all_cuts, leaves, cover_of, height_of, taller, change_at}
+use Rattle.fb_graph.specs.Dual.{Node, all_cuts, leaves, cover_of, height_of, no_node, taller, change_at}
 use Rattle.fb_regions.specs.Walks.{IsWalk}
 use Rattle.fb_links.specs.Walks.{walk_weight}
+
+-- the node of this name; one without layers below the top where no node has it
+abbrev pub node_named : List Node → ℕ → Node
+node_named [] name = no_node
+node_named (n ∷ ns) name = if n.name == name then n else node_named ns name
 
 -- the end of the edge that a node holds: the first one where both are held
 abbrev pub inner_end : List Node → Edge → ℕ
@@ -28,11 +33,11 @@ pub record IsOver (p : Problem) (nodes : List Node) (k : ℕ) (s : Step) : Type 
   pub edge : s.edge ≡ k
   pub weight : s.weight ≡ (edge_at p.edges k).weight
 
--- a walk from a defect to the vertex, in the same nodes as it, as long as the values of the sets that hold the defect
--- are more than those that hold the vertex
+-- a walk from a defect to the vertex, both under one outer node, as long as the values of the sets that hold the
+-- defect are more than those that hold the vertex
 pub record IsWalkFrom (p : Problem) (nodes : List Node) (walk : List Step) (d v : ℕ) : Type 0 where
   pub defect : is_in (leaves nodes) d ≡ true
-  pub together : All (λ n. is_in n.top.vertices d ≡ is_in n.top.vertices v) nodes
+  pub together : cover_of nodes d ≡ cover_of nodes v
   pub leads : IsWalk p walk d v
   pub weighs : walk_weight walk + height_of (all_cuts nodes) v ≡ height_of (all_cuts nodes) d
   pub real : All (λ s. has_real_end p (edge_at p.edges s.edge) ≡ true) walk

@@ -6,8 +6,6 @@ mod marks;
 mod region;
 pub mod regions;
 pub mod roles;
-#[cfg(test)]
-mod tests;
 
 pub use fb_graph::Cut as Layer;
 pub use fb_links::{NodeId, Step, Walk};

@@ -1,153 +1,172 @@
-ghost use Rattle.std.specs.Prelude.{◌≡◌, ◌+◌, ◌^◌, ◌<◌, [], ◌∷◌, ◌++◌, length, List, IfOk, OnOk, OnErr, ℕ, Option, position, ◌==◌};
-ghost use Rattle.fb_graph.specs.Certificate.{total_value};
-ghost use Rattle.fb_graph.specs.Dual.{layers_of, leaf, thicker, taller};
+ghost use Rattle.std.specs.Prelude.{◌≡◌, ◌+◌, ◌<◌, ◌^◌, [], ◌∷◌, ◌++◌, length, map, List, IfOk, OnOk, Option, position, ◌==◌};
+ghost use Rattle.std.specs.List.{concat};
+ghost use Rattle.fb_graph.specs.Dual.{layers_of, top_at};
+ghost use Rattle.fb_regions.specs.declared.marks.Mark.{Mark};
+ghost use Rattle.fb_regions.specs.InternalNodes.{added_to, adopted, chain, node_of, nodes_of, radii_from, root_from, stack};
 
 use crate::NodeId;
+use crate::marks::{Mark, before, under};
 use fb_graph::{Cut, NoMemory, NumberList};
 use std::alloc::Global;
-use std::marker::Model;
 
-/// A node that grew round one defect. Contracts see it as the node that it is.
+/// What is kept of a node. The vertices that it took up and the values of its lower layers are kept by their marks.
 #[derive(Drop)]
 pub struct Region {
-    name: NodeId,
-    /// The sum of the layers' values.
-    radius: u64,
-    below: Vec<Cut>,
-    top: Cut,
-}
-
-impl Model for Region {
-    ghost use Rattle.std.specs.Prelude.{◌≡◌, [], ◌∷◌, ◌++◌};
-    ghost use Rattle.fb_graph.specs.Certificate.{total_value};
-    ghost use Rattle.fb_graph.specs.Dual.{Node};
-    ghost use Rattle.fb_regions.specs.Codes.{node_code};
-
-    ghost Value = { Node };
-
-    ghost coded = { node_code };
-
-    ghost view = { λ r. record { name = r.name; children = []; below = r.below.items; top = r.top } };
-
-    ghost invariant = { λ r. r.radius ≡ total_value (r.below.items ++ r.top ∷ []) };
+    pub name: NodeId,
+    /// The names of the nodes that it joins.
+    pub children: Vec<NodeId>,
+    /// The name of the node that joins it.
+    pub parent: Option<NodeId>,
+    /// The set of its first layer.
+    pub first_set: Vec<u32>,
+    /// The number of vertices that it took up, one with each further layer.
+    pub added: usize,
+    /// The last of its vertices.
+    pub last: u32,
+    /// The value of its top layer.
+    pub top_value: u64,
+    /// The sum of the values of its layers.
+    pub radius: u64,
 }
 
 impl Region {
-    /// The node of one defect, with one layer of value 0.
-    pub fn leaf(alloc: Global, name: NodeId, v: u32) -> Result<Region, NoMemory>
-        ensures { IfOk result (λ r. r ≡ leaf name v) }
+    /// Makes a node the parent of this one, or none, if its name is one of these.
+    fn adopt(&mut self, names: &[NodeId], parent: Option<NodeId>)
+        ensures { self.new ≡ adopted names.now parent self.old }
     {
-        let vertices = one(alloc, v)?;
-        Ok(Region {
-            name,
-            radius: 0,
-            below: Vec::new(alloc),
-            top: Cut { value: 0, vertices },
-        })
-    }
-
-    pub fn name(&self) -> NodeId
-        ensures { result ≡ self.now.name }
-    {
-        self.name
-    }
-
-    /// The sum of the layers' values.
-    pub fn radius(&self) -> u64
-        ensures { result ≡ total_value (layers_of self.now) }
-    {
-        self.radius
-    }
-
-    /// The number of vertices of the top layer.
-    pub fn len(&self) -> usize
-        ensures { result ≡ length self.now.top.vertices }
-    {
-        self.top.vertices.as_slice().len()
-    }
-
-    /// Adds k to the value of the top layer.
-    pub fn thicken(&mut self, k: u64)
-        requires { total_value (layers_of self.old) + k < 2 ^ 64 }
-        ensures { self.new ≡ thicker k self.old }
-    {
-        self.top.value += k;
-        self.radius += k;
-    }
-
-    /// Puts a layer with the further vertex on top.
-    pub fn raise(&mut self, alloc: Global, v: u32) -> Result<(), NoMemory>
-        ensures ok { OnOk result (self.new ≡ taller v self.old) }
-        ensures err { OnErr result (self.new ≡ self.old) }
-    {
-        let vertices = extended(alloc, self.top.vertices.as_slice(), v)?;
-        let Ok(()) = self.below.reserve(1) else {
-            return Err(NoMemory);
-        };
-        let top = std::mem::replace(&mut self.top, Cut { value: 0, vertices });
-        self.below.push_reserved(top);
-        Ok(())
-    }
-
-    /// Copies of the layers, from the first to the top.
-    pub fn layers(&self, alloc: Global) -> Result<Vec<Cut>, NoMemory>
-        ensures { IfOk result (λ v. v.items ≡ layers_of self.now) }
-    {
-        let mut layers = copies(alloc, self.below.as_slice())?;
-        let top = copy_of(alloc, &self.top)?;
-        let Ok(()) = layers.push(top) else {
-            return Err(NoMemory);
-        };
-        Ok(layers)
+        if names.contains(&self.name) {
+            self.parent = parent;
+        }
     }
 }
 
 /// The place of the first node of this name.
-pub fn place_of(nodes: &[Region], name: NodeId) -> Option<usize>
-    ensures { result ≡ position (λ n. n.name == name) nodes.now }
+pub fn place_of(regions: &[Region], name: NodeId) -> Option<usize>
+    ensures { result ≡ position (λ r. r.name == name) regions.now }
 {
-    nodes.iter().position(|n| n.name() == name)
+    regions.iter().position(|region| region.name == name)
 }
 
-fn one(alloc: Global, v: u32) -> Result<NumberList, NoMemory>
-    ensures { IfOk result (λ l. l ≡ v ∷ []) }
+/// The name of the outer node round a node; none where no node has the name.
+pub fn root_of(regions: &[Region], leaf: NodeId) -> Option<NodeId>
+    ensures { result ≡ root_from regions.now leaf }
 {
-    extended(alloc, &[], v)
-}
-
-fn extended(alloc: Global, front: &[u32], last: u32) -> Result<NumberList, NoMemory>
-    ensures { IfOk result (λ l. l ≡ front.now ++ last ∷ []) }
-{
-    let Ok(mut numbers) = Vec::from_slice(alloc, front) else {
-        return Err(NoMemory);
-    };
-    let Ok(()) = numbers.push(last) else {
-        return Err(NoMemory);
-    };
-    Ok(NumberList::from_vec(numbers))
-}
-
-fn copy_of(alloc: Global, cut: &Cut) -> Result<Cut, NoMemory>
-    ensures { IfOk result (λ c. c ≡ cut.now) }
-{
-    let Ok(vertices) = Vec::from_slice(alloc, cut.vertices.as_slice()) else {
-        return Err(NoMemory);
-    };
-    Ok(Cut {
-        value: cut.value,
-        vertices: NumberList::from_vec(vertices),
-    })
-}
-
-fn copies(alloc: Global, cuts: &[Cut]) -> Result<Vec<Cut>, NoMemory>
-    ensures { IfOk result (λ v. v.items ≡ cuts.now) }
-{
-    let mut all = Vec::new(alloc);
-    for cut in cuts {
-        let copy = copy_of(alloc, cut)?;
-        let Ok(()) = all.push(copy) else {
-            return Err(NoMemory);
-        };
+    let mut name = leaf;
+    for region in regions {
+        if region.name == name {
+            let Some(parent) = region.parent else {
+                return Some(name);
+            };
+            name = parent;
+        }
     }
-    Ok(all)
+    None
+}
+
+/// The sum of the radii of a node and of the nodes round it.
+pub fn radii_of(regions: &[Region], leaf: NodeId) -> u64
+    requires { radii_from regions.now leaf < 2 ^ 64 }
+    ensures { result ≡ radii_from regions.now leaf }
+{
+    let mut name = leaf;
+    let mut radii = 0;
+    for region in regions {
+        if region.name == name {
+            radii += region.radius;
+            let Some(parent) = region.parent else {
+                return radii;
+            };
+            name = parent;
+        }
+    }
+    radii
+}
+
+/// Makes a node the parent of these, or none.
+pub fn adopt(regions: &mut [Region], names: &[NodeId], parent: Option<NodeId>)
+    ensures { regions.new ≡ map (adopted names.now parent) regions.old }
+{
+    for region in regions.iter_mut() {
+        region.adopt(names, parent);
+    }
+}
+
+/// The vertices that a node took up, in their order.
+fn added(
+    alloc: Global,
+    marks: &[Option<Mark>],
+    count: usize,
+    last: u32,
+) -> Result<Vec<u32>, NoMemory>
+    ensures { IfOk result (λ v. v.items ≡ chain marks.now count last) }
+{
+    let mut vertices = Vec::new(alloc);
+    let mut at = last;
+    for _ in 0..count {
+        vertices.push(at)?;
+        at = before(marks, at);
+    }
+    vertices.reverse();
+    Ok(vertices)
+}
+
+/// A copy of the layers of a node, from the first to the top.
+pub fn layers(alloc: Global, marks: &[Option<Mark>], region: &Region) -> Result<Vec<Cut>, NoMemory>
+    ensures { IfOk result (λ v. v.items ≡ layers_of (node_of marks.now region.now)) }
+{
+    let added = added(alloc, marks, region.added, region.last)?;
+    let mut layers = Vec::new(alloc);
+    let mut set = Vec::from_slice(alloc, region.first_set.as_slice())?;
+    for v in added.as_slice() {
+        let below = cut(alloc, under(marks, *v), set.as_slice())?;
+        layers.push(below)?;
+        set.push(*v)?;
+    }
+    let top = cut(alloc, region.top_value, set.as_slice())?;
+    layers.push(top)?;
+    Ok(layers)
+}
+
+/// A layer with a copy of the set.
+fn cut(alloc: Global, value: u64, set: &[u32]) -> Result<Cut, NoMemory>
+    ensures { IfOk result (λ c. c ≡ record { value = value; vertices = set.now }) }
+{
+    let vertices = NumberList::from_vec(Vec::from_slice(alloc, set)?);
+    Ok(Cut { value, vertices })
+}
+
+/// Adds the set of the top layer of a node to a list.
+fn add_top(
+    alloc: Global,
+    marks: &[Option<Mark>],
+    regions: &[Region],
+    name: NodeId,
+    list: &mut Vec<u32>,
+) -> Result<(), NoMemory>
+    ensures { OnOk result (list.new.items ≡ list.old.items ++ top_at (nodes_of marks.now regions.now) name) }
+{
+    let Some(place) = place_of(regions, name) else {
+        return Ok(());
+    };
+    let region = &regions[place];
+    let added = added(alloc, marks, region.added, region.last)?;
+    list.extend_from_slice(region.first_set.as_slice())?;
+    list.extend_from_slice(added.as_slice())?;
+    Ok(())
+}
+
+/// The sets of the top layers of the named nodes, one after the other.
+pub fn tops_of(
+    alloc: Global,
+    marks: &[Option<Mark>],
+    regions: &[Region],
+    names: &[NodeId],
+) -> Result<Vec<u32>, NoMemory>
+    ensures { IfOk result (λ v. v.items ≡ concat (map (top_at (nodes_of marks.now regions.now)) names.now)) }
+{
+    let mut tops = Vec::new(alloc);
+    for name in names {
+        add_top(alloc, marks, regions, *name, &mut tops)?;
+    }
+    Ok(tops)
 }

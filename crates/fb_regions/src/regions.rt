@@ -1,23 +1,33 @@
-ghost use Rattle.std.specs.Prelude.{◌≡◌, ◌+◌, ◌-◌, ◌<◌, true, false, List, [], ◌∷◌, ◌++◌, length, IfOk, OnOk, OnErr, IsSome, None};
+ghost use Rattle.std.specs.Prelude.{◌≡◌, ◌+◌, ◌-◌, ◌<◌, ◌≤◌, ◌==◌, not, true, false, List, [], ◌∷◌, ◌++◌, length, map, get_or, All, IfOk, OnOk, OnErr, IsSome, None};
 ghost use Rattle.fb_graph.specs.Parity.{is_in};
 ghost use Rattle.fb_graph.specs.Problem.{edge_at};
 ghost use Rattle.fb_graph.specs.Certificate.{load_of};
-ghost use Rattle.fb_graph.specs.Dual.{AreUnderOne, IsDual, all_cuts, change_at, cover_of, height_of, is_live, is_outer, leaf, leaves, thicker, AllowsGrowth, IsCrossed, layers_at, top_at};
-ghost use Rattle.fb_regions.specs.Moves.{IsOver, IsSourceWalk, absorbed, inner_end, outer_end};
+ghost use Rattle.fb_graph.specs.Dual.{AreUnderOne, all_cuts, change_at, cover_of, height_of, is_empty, is_live, is_outer, leaf, leaves, no_node, node_at, thicker, AllowsGrowth, IsCrossed, layers_at, top_at};
+ghost use Rattle.fb_graph.specs.Moves.{MayJoin, MaySplit, MayUncover, joined, split, uncovered};
+ghost use Rattle.fb_graph.specs.Nests.{IsNest};
+ghost use Rattle.fb_graph.specs.SourceWalks.{HaveWalks};
+ghost use Rattle.fb_graph.specs.Turns.{thinner};
+ghost use Rattle.fb_regions.specs.Moves.{IsOver, IsSourceWalk, absorbed, inner_end, node_named, outer_end};
 
 use crate::marks::{Mark, mark_at, step_to};
-use crate::region::{Region, place_of};
+use crate::region::{self, Region, adopt, place_of, radii_of, root_of, tops_of};
 use crate::{Layer, NodeId, Step, Walk};
 use fb_graph::{NoMemory, Scope};
 use std::alloc::Global;
 use std::marker::Model;
 
-/// The dual state over a scope: nodes, each a stack of layers, which are vertex sets with values. The caller names
-/// each node by a number that isn't live there. A call that answers NoMemory leaves the state as it was.
+/// The dual state over a scope: nodes, each a stack of layers, which are vertex sets with values. A node is a defect,
+/// or a blossom of an odd number of nodes (Edmonds 1965). The caller names each node by a number that isn't live
+/// there. A call that returns `NoMemory` leaves the state as it was.
+///
+/// No layer is kept as a list. A vertex that a node takes up begins a layer, and its mark has the vertex before it and
+/// the value below.
 #[derive(Drop)]
 pub struct Regions<S: Scope> {
     scope: S,
-    nodes: Vec<Region>,
+    /// The nodes, in the order in which they were made.
+    regions: Vec<Region>,
+    /// A mark for each vertex of the scope.
     marks: Vec<Option<Mark>>,
 }
 
@@ -29,11 +39,12 @@ impl<S: Scope> Model for Regions<S> {
 
     ghost coded = { dual_code S.code };
 
-    ghost use Rattle.fb_regions.specs.Kept.{IsKept};
+    ghost use Rattle.fb_regions.specs.InternalKept.{IsKept};
+    ghost use Rattle.fb_regions.specs.InternalNodes.{nodes_of};
 
-    ghost view = { λ r. record { scope = r.scope; nodes = r.nodes.items } };
+    ghost view = { λ r. record { scope = r.scope; nodes = nodes_of r.marks.items r.regions.items } };
 
-    ghost invariant = { λ r. IsKept (S.problem r.scope) r.nodes.items r.marks.items };
+    ghost invariant = { λ r. IsKept (S.problem r.scope) r.regions.items r.marks.items };
 }
 
 impl<S: Scope> Regions<S> {
@@ -41,21 +52,20 @@ impl<S: Scope> Regions<S> {
     pub fn new(alloc: Global, scope: &S) -> Result<Regions<S>, NoMemory>
         ensures { IfOk result (λ r. r ≡ record { scope = scope.now; nodes = [] }) }
     {
-        let Ok(marks) = vec![in alloc; None; scope.vertices() as usize] else {
-            return Err(NoMemory);
-        };
+        let marks = vec![in alloc; None; scope.vertices() as usize]?;
         Ok(Regions {
             scope: *scope,
-            nodes: Vec::new(alloc),
+            regions: Vec::new(alloc),
             marks,
         })
     }
 
-    /// Does nothing. Its clause says what every dual state keeps.
+    /// Does nothing. Its clauses say what every dual state keeps.
     pub fn keeps(&self)
-        ensures { IsDual (S.problem self.now.scope) self.now.nodes }
+        ensures nest { IsNest (S.problem self.now.scope) self.now.nodes }
+        ensures walks { HaveWalks (S.problem self.now.scope) self.now.nodes }
     {
-        self.scope.limits();
+        let _regions = &self.regions;
     }
 
     /// Makes the vertex a defect: a node of its own with one layer of value 0.
@@ -67,63 +77,160 @@ impl<S: Scope> Regions<S> {
         ensures ok { OnOk result (self.new ≡ record { scope = self.old.scope; nodes = self.old.nodes ++ leaf node v ∷ [] }) }
         ensures err { OnErr result (self.new ≡ self.old) }
     {
-        let region = Region::leaf(alloc, node, v)?;
-        let place = self.nodes.len();
-        let Ok(()) = self.nodes.push(region) else {
-            return Err(NoMemory);
-        };
+        let mut first_set = Vec::new(alloc);
+        first_set.push(v)?;
+        self.regions.push(Region {
+            name: node,
+            children: Vec::new(alloc),
+            parent: None,
+            first_set,
+            added: 0,
+            last: v,
+            top_value: 0,
+            radius: 0,
+        })?;
         self.marks[v as usize] = Some(Mark {
-            place,
-            rank: 0,
+            source: v,
+            leaf: node,
             distance: 0,
+            rank: 0,
             by: None,
+            before: v,
+            under: 0,
         });
         Ok(())
     }
 
+    /// Joins an odd number of outer nodes in a blossom, with one layer of value 0 over their vertices. Copies these.
+    pub fn join_nodes(
+        &mut self,
+        alloc: Global,
+        node: NodeId,
+        children: &[NodeId],
+    ) -> Result<(), NoMemory>
+        requires { MayJoin self.old.nodes node children.now }
+        ensures ok { OnOk result (self.new ≡ record { scope = self.old.scope; nodes = joined node children.now self.old.nodes }) }
+        ensures err { OnErr result (self.new ≡ self.old) }
+    {
+        let first_set = tops_of(alloc, &self.marks, &self.regions, children)?;
+        let names = Vec::from_slice(alloc, children)?;
+        self.regions.reserve(1)?;
+        let last = first_set[first_set.len() - 1];
+        adopt(&mut self.regions, children, Some(node));
+        self.regions.push_reserved(Region {
+            name: node,
+            children: names,
+            parent: None,
+            first_set,
+            added: 0,
+            last,
+            top_value: 0,
+            radius: 0,
+        });
+        Ok(())
+    }
+
+    /// Takes away an outer blossom that has one layer, of value 0, so that the nodes that it joins are outer again.
+    pub fn split_node(&mut self, node: NodeId) -> Result<(), NoMemory>
+        requires { MaySplit self.old.nodes node }
+        ensures ok { OnOk result (self.new ≡ record { scope = self.old.scope; nodes = split node self.old.nodes }) }
+        ensures err { OnErr result (self.new ≡ self.old) }
+    {
+        let Some(place) = place_of(&self.regions, node) else {
+            unreachable!()
+        };
+        let blossom = self.regions.remove(place);
+        adopt(&mut self.regions, blossom.children.as_slice(), None);
+        Ok(())
+    }
+
     /// Adds k to the value of the top layer of an outer node.
-    pub fn grow(&mut self, node: NodeId, k: u64) -> Result<(), NoMemory>
+    pub fn grow(&mut self, node: NodeId, k: u64)
         requires live { is_live self.old.nodes node ≡ true }
         requires outer { is_outer self.old.nodes node ≡ true }
         requires leaves { IsCrossed (S.problem self.old.scope) (top_at self.old.nodes node) }
         requires room { AllowsGrowth (S.problem self.old.scope) self.old.nodes (top_at self.old.nodes node) k }
-        ensures ok { OnOk result (self.new ≡ record { scope = self.old.scope; nodes = change_at node (thicker k) self.old.nodes }) }
-        ensures err { OnErr result (self.new ≡ self.old) }
+        ensures { self.new ≡ record { scope = self.old.scope; nodes = change_at node (thicker k) self.old.nodes } }
     {
         self.scope.limits();
-        let Some(place) = place_of(&self.nodes, node) else {
+        let Some(place) = place_of(&self.regions, node) else {
             unreachable!()
         };
-        self.nodes[place].thicken(k);
-        Ok(())
+        let region = &mut self.regions[place];
+        region.top_value += k;
+        region.radius += k;
     }
 
-    /// Takes up the outer end of an edge without residue into the outer node that holds its inner end.
-    pub fn absorb(&mut self, alloc: Global, edge: u32) -> Result<(), NoMemory>
+    /// Takes k from the value of the top layer of an outer node.
+    pub fn shrink(&mut self, node: NodeId, k: u64)
+        requires live { is_live self.old.nodes node ≡ true }
+        requires outer { is_outer self.old.nodes node ≡ true }
+        requires value { k ≤ (node_named self.old.nodes node).top.value }
+        ensures { self.new ≡ record { scope = self.old.scope; nodes = change_at node (thinner k) self.old.nodes } }
+    {
+        self.scope.limits();
+        let Some(place) = place_of(&self.regions, node) else {
+            unreachable!()
+        };
+        let region = &mut self.regions[place];
+        region.top_value -= k;
+        region.radius -= k;
+    }
+
+    /// Takes up the outer end of a tight edge into the outer node that holds its inner end.
+    pub fn absorb(&mut self, edge: u32)
         requires below { edge < length (S.problem self.old.scope).edges }
         requires tight { let e = edge_at (S.problem self.old.scope).edges edge in load_of (all_cuts self.old.nodes) e ≡ e.weight }
         requires inner { IsSome (cover_of self.old.nodes (inner_end self.old.nodes (edge_at (S.problem self.old.scope).edges edge))) }
         requires outer { cover_of self.old.nodes (outer_end self.old.nodes (edge_at (S.problem self.old.scope).edges edge)) ≡ None }
         requires real { (S.problem self.old.scope).is_real (outer_end self.old.nodes (edge_at (S.problem self.old.scope).edges edge)) ≡ true }
-        ensures ok { OnOk result (self.new ≡ record { scope = self.old.scope; nodes = absorbed self.old.nodes (edge_at (S.problem self.old.scope).edges edge) }) }
-        ensures err { OnErr result (self.new ≡ self.old) }
+        ensures { self.new ≡ record { scope = self.old.scope; nodes = absorbed self.old.nodes (edge_at (S.problem self.old.scope).edges edge) } }
     {
         self.scope.limits();
         let step = self.step_over(edge);
         let Some(mark) = mark_at(&self.marks, step.from) else {
             unreachable!()
         };
-        let region = &mut self.nodes[mark.place];
-        let rank = region.len();
-        let distance = region.radius();
-        region.raise(alloc, step.to)?;
-        self.marks[step.to as usize] = Some(Mark {
-            place: mark.place,
-            rank,
-            distance,
+        let Some(node) = root_of(&self.regions, mark.leaf) else {
+            unreachable!()
+        };
+        let Some(place) = place_of(&self.regions, node) else {
+            unreachable!()
+        };
+        let region = &mut self.regions[place];
+        let taken = Mark {
+            source: mark.source,
+            leaf: mark.leaf,
+            distance: mark.distance + step.weight,
+            rank: region.first_set.len() + region.added,
             by: Some(step),
-        });
-        Ok(())
+            before: region.last,
+            under: region.top_value,
+        };
+        region.added += 1;
+        region.last = step.to;
+        region.top_value = 0;
+        self.marks[step.to as usize] = Some(taken);
+    }
+
+    /// Takes off the top layer, of value 0, of an outer node that has more than one, so that its last vertex is
+    /// uncovered.
+    pub fn uncover(&mut self, node: NodeId)
+        requires { MayUncover self.old.nodes node }
+        ensures { self.new ≡ record { scope = self.old.scope; nodes = uncovered node self.old.nodes } }
+    {
+        let Some(place) = place_of(&self.regions, node) else {
+            unreachable!()
+        };
+        let region = &mut self.regions[place];
+        let last = region.last;
+        let Some(mark) = mark_at(&self.marks, last) else {
+            unreachable!()
+        };
+        region.added -= 1;
+        region.last = mark.before;
+        region.top_value = mark.under;
+        self.marks[last as usize] = None;
     }
 
     /// The step over the edge from its inner end to its outer one.
@@ -157,7 +264,7 @@ impl<S: Scope> Regions<S> {
         let Some(mark) = mark_at(&self.marks, v) else {
             return 0;
         };
-        self.nodes[mark.place].radius() - mark.distance
+        radii_of(&self.regions, mark.leaf) - mark.distance
     }
 
     /// What the edge can still bear where no outer node holds both of its ends: its weight less its load.
@@ -173,14 +280,14 @@ impl<S: Scope> Regions<S> {
         self.scope.weight(edge).saturating_sub(load)
     }
 
-    /// The outer node that holds the vertex.
+    /// The outer node that holds the vertex; none for an uncovered vertex.
     pub fn cover_of(&self, v: u32) -> Option<NodeId>
         ensures { result ≡ cover_of self.now.nodes v }
     {
         let Some(mark) = mark_at(&self.marks, v) else {
             return None;
         };
-        Some(self.nodes[mark.place].name())
+        root_of(&self.regions, mark.leaf)
     }
 
     /// The walk by which a covered vertex came, from its source defect.
@@ -191,9 +298,7 @@ impl<S: Scope> Regions<S> {
         let mut steps = Vec::new(alloc);
         let mut at = v;
         while let Some(step) = step_to(&self.marks, at) {
-            let Ok(()) = steps.push(step) else {
-                return Err(NoMemory);
-            };
+            steps.push(step)?;
             at = step.from;
         }
         steps.reverse();
@@ -205,10 +310,10 @@ impl<S: Scope> Regions<S> {
         requires { is_live self.now.nodes node ≡ true }
         ensures { IfOk result (λ layers. layers.items ≡ layers_at self.now.nodes node) }
     {
-        let Some(place) = place_of(&self.nodes, node) else {
+        let Some(place) = place_of(&self.regions, node) else {
             unreachable!()
         };
-        self.nodes[place].layers(alloc)
+        region::layers(alloc, &self.marks, &self.regions[place])
     }
 
     /// The sum of the values of the sets that hold the defect.
@@ -217,5 +322,54 @@ impl<S: Scope> Regions<S> {
         ensures { result ≡ height_of (all_cuts self.now.nodes) defect }
     {
         self.potential(defect)
+    }
+
+    /// The number of the node's own layers.
+    pub fn layer_count(&self, node: NodeId) -> usize
+        requires { is_live self.now.nodes node ≡ true }
+        ensures { result ≡ length (layers_at self.now.nodes node) }
+    {
+        self.scope.limits();
+        let Some(place) = place_of(&self.regions, node) else {
+            unreachable!()
+        };
+        self.regions[place].added + 1
+    }
+
+    /// The value of the node's top layer.
+    pub fn top_value(&self, node: NodeId) -> u64
+        requires { is_live self.now.nodes node ≡ true }
+        ensures { result ≡ (node_named self.now.nodes node).top.value }
+    {
+        let Some(place) = place_of(&self.regions, node) else {
+            unreachable!()
+        };
+        self.regions[place].top_value
+    }
+
+    /// Whether the node joins others.
+    pub fn is_joined(&self, node: NodeId) -> bool
+        requires { is_live self.now.nodes node ≡ true }
+        ensures { result ≡ not (is_empty (node_named self.now.nodes node).children) }
+    {
+        let Some(place) = place_of(&self.regions, node) else {
+            unreachable!()
+        };
+        !self.regions[place].children.is_empty()
+    }
+
+    /// The number of nodes.
+    pub fn len(&self) -> usize
+        ensures { result ≡ length self.now.nodes }
+    {
+        self.regions.len()
+    }
+
+    /// The name of the node at a place in the order in which the nodes were made.
+    pub fn name_at(&self, place: usize) -> NodeId
+        requires { place < length self.now.nodes }
+        ensures { result ≡ (node_at self.now.nodes place).name }
+    {
+        self.regions[place].name
     }
 }

@@ -82,7 +82,7 @@ LinesEnd named errand g rows left old new Odd = ⊥
 LinesEnd named errand g rows left old new Over = ⊥
 LinesEnd named errand g rows left old new (Usage kind) = ⊥
 
--- the shots were asked for, and the check ended so; memory is not wanting where a fault came
+-- the shots were asked for, and the check ended so: for want of memory only if no read failed
 abbrev pub ChecksAtShots : Checking → DecodingGraph → List Row → Moment → Moment → Cause → Type 0
 ChecksAtShots errand g rows before after cause =
     Asks before.asked after.asked (errand.shots ∷ [])

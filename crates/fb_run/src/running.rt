@@ -41,8 +41,8 @@ pub fn run<F: Files, O: Sink, E: Sink>(
         (moment (F.named files.new) (F.left files.new) (F.asked files.new) (F.faults files.new) (O.taken out.new)) result.cause }
     ensures at_end { IsReadToItsEnd result.cause → IsReadOutIfNamed (F.named files.old) (F.left files.new) }
 
-    // A fault is returned only if it came. Where the rows of the shots before a failed read can't be written or not be
-    // found for want of memory, that is returned in its place.
+    // A fault is returned only if one occurred. If the rows of the shots before a failed read can't be written, or memory
+    // runs out for them, that is returned in its place.
     ensures read_fault { result.cause ≡ Cause.ReadFault → Rose (F.faults files.old) (F.faults files.new) }
     ensures read_risen { F.faults files.old < F.faults files.new → MayFollowReadFault result.cause }
     ensures write_fault { result.cause ≡ Cause.WriteFault → Rose (O.faults out.old) (O.faults out.new) }

@@ -10,11 +10,9 @@ ghost use Rattle.fb_search.specs.Lone.{HasTaken, IsClear, IsClearRound, IsLone, 
 use crate::leaving::{NODE, far_end, least_residue};
 use fb_graph::{NoMemory, Scope};
 use fb_regions::Regions;
-use std::alloc::Global;
 
 /// Takes up the far end of an edge without residue.
 fn take_in<S: Scope>(
-    alloc: Global,
     scope: S,
     regions: &mut Regions<S>,
     defect: u32,
@@ -36,7 +34,7 @@ fn take_in<S: Scope>(
     ensures inside { OnOk result (crosses members.new.items (edge_at (S.problem scope).edges edge) ≡ false) }
 {
     let far = far_end(scope, edge, v);
-    regions.absorb(alloc, edge)?;
+    regions.absorb(edge);
     let Ok(()) = members.push(far) else {
         return Err(NoMemory);
     };
@@ -45,7 +43,6 @@ fn take_in<S: Scope>(
 
 /// Takes up what an edge at a member leads to, where it has no residue. Whether that is the boundary.
 fn absorb_over<S: Scope>(
-    alloc: Global,
     scope: S,
     regions: &mut Regions<S>,
     defect: u32,
@@ -73,13 +70,12 @@ fn absorb_over<S: Scope>(
     if !scope.is_real(far) {
         return Ok(true);
     }
-    take_in(alloc, scope, regions, defect, members, v, edge)?;
+    take_in(scope, regions, defect, members, v, edge)?;
     Ok(false)
 }
 
 /// Takes up what edges without residue lead to from a member. Answers the first such edge that leads to the boundary.
 fn absorb_round<S: Scope>(
-    alloc: Global,
     scope: S,
     regions: &mut Regions<S>,
     defect: u32,
@@ -97,7 +93,7 @@ fn absorb_round<S: Scope>(
     ensures none { IfOk result (λ o. IfNone o (IsClearRound (S.problem scope) regions.new.nodes members.new.items v)) }
 {
     for edge in scope.edges_at(v) {
-        if absorb_over(alloc, scope, regions, defect, members, v, *edge)? {
+        if absorb_over(scope, regions, defect, members, v, *edge)? {
             return Ok(Some(*edge));
         }
     }
@@ -106,7 +102,6 @@ fn absorb_round<S: Scope>(
 
 /// Takes up all that edges without residue lead to. Answers the first such edge that leads to the boundary.
 fn absorb_tight<S: Scope>(
-    alloc: Global,
     scope: S,
     regions: &mut Regions<S>,
     defect: u32,
@@ -125,7 +120,7 @@ fn absorb_tight<S: Scope>(
     while i < members.len() {
         regions.keeps();
         let v = members[i];
-        if let Some(edge) = absorb_round(alloc, scope, regions, defect, members, v)? {
+        if let Some(edge) = absorb_round(scope, regions, defect, members, v)? {
             return Ok(Some(edge));
         }
         i += 1;
@@ -136,7 +131,6 @@ fn absorb_tight<S: Scope>(
 /// Grows the region until an edge without residue leads to the boundary, and answers that edge. None where no edge
 /// leaves the region.
 pub fn reach_boundary<S: Scope>(
-    alloc: Global,
     scope: S,
     regions: &mut Regions<S>,
     defect: u32,
@@ -150,13 +144,13 @@ pub fn reach_boundary<S: Scope>(
     ensures none { IfOk result (λ o. IfNone o (All (λ e. crosses members.new.items e ≡ false) (S.problem scope).edges)) }
 {
     'growth: loop {
-        if let Some(edge) = absorb_tight(alloc, scope, regions, defect, members)? {
+        if let Some(edge) = absorb_tight(scope, regions, defect, members)? {
             return Ok(Some(edge));
         }
         let Some(k) = least_residue(scope, regions, defect, members) else {
             return Ok(None);
         };
-        regions.grow(NODE, k)?;
+        regions.grow(NODE, k);
         regions.keeps();
     }
 }

@@ -26,7 +26,7 @@ pub fn search_one<S: Scope>(alloc: Global, scope: S, defect: u32) -> Result<Row,
     let Ok(()) = members.push(defect) else {
         return Err(NoMemory);
     };
-    match reach_boundary(alloc, scope, &mut regions, defect, &mut members)? {
+    match reach_boundary(scope, &mut regions, defect, &mut members)? {
         Some(edge) => best_row(alloc, scope, &regions, defect, members.as_slice(), edge),
         None => {
             regions.keeps();

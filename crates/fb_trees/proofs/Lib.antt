@@ -1,3 +1,4 @@
+pub mod Cycles
 pub mod Lookups
 pub mod Mapped
 pub mod Names

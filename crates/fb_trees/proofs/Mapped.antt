@@ -1,5 +1,5 @@
 -- Trees with their links in another form.
-use Rattle.std.proofs.Common.{ℕ, ◌≡◌, ◌==◌, cond, not, Bool, true, false, List, [], ◌∷◌, ◌++◌, map, filter, refl, sym, ap, ◌∙◌}
+use Rattle.std.proofs.Common.{ℕ, ◌≡◌, ◌==◌, cond, not, Bool, true, false, List, [], ◌∷◌, ◌++◌, map, refl, sym, ap, ◌∙◌}
 use Rattle.std.proofs.lemmas.List.{map-append}
 use Rattle.fb_laws.specs.Trees.{EntryOf, beside, grown_links, minus_names, paired_links, path_to, plus_names, tree_names}
 use Rattle.fb_laws.specs.TreeCycles.{ArePaths, PartAtOnce, cycle_links, cycle_nodes, last_plus, links_along, links_back, nodes_along, nodes_back}

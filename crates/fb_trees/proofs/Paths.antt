@@ -1,12 +1,12 @@
 -- Paths of a tree with the numbers of its links.
-use Rattle.std.proofs.Common.{ℕ, ◌≡◌, ◌==◌, ◌||◌, ◌⊎◌, ◌+◌, ◌<◌, ◌≤◌, inl, inr, cond, Bool, true, false, List, [], ◌∷◌, ◌++◌, map, reverse, length, take, drop, Some, None, refl, sym, ap, ◌∙◌, subst, arith, append_assoc}
+use Rattle.std.proofs.Common.{ℕ, ◌≡◌, ◌==◌, ◌||◌, ◌⊎◌, ◌+◌, ◌<◌, inl, inr, cond, true, false, List, [], ◌∷◌, ◌++◌, map, reverse, length, take, drop, Some, None, refl, sym, ap, ◌∙◌, subst, arith, append_assoc}
 use Rattle.std.proofs.lemmas.Bool.{both_ways, cases_Bool, eq-eqb, ne_eqb, eqb-true, eqb-false, or_left, or_parts, or_right}
-use Rattle.std.proofs.lemmas.List.{append-nil, drop-map, drop_at, length-append, map-append, take-map, take_at}
+use Rattle.std.proofs.lemmas.List.{append-nil, drop-map, drop_at, length-append, take-map, take_at}
 use Rattle.std.proofs.lemmas.Option.{none-some, same_Some}
 use Rattle.fb_graph.specs.Parity.{is_in}
 use Rattle.fb_graph.specs.Certificate.{AreDistinct}
 use Rattle.fb_graph.specs.Laws.{Link}
-use Rattle.fb_graph.proofs.Sets.{is_in-cases, is_in-head, is_in-tail}
+use Rattle.fb_graph.proofs.Sets.{is_in-cases, is_in-tail}
 use Rattle.fb_links.specs.declared.cycle.CycleStep.{CycleStep}
 use Rattle.fb_laws.specs.Trees.{EntryOf, minus_names, path_to, plus_names, tree_names}
 use Rattle.fb_laws.specs.TreeCycles.{ArePaths, PartAtOnce, last_plus}
@@ -15,8 +15,8 @@ use Rattle.fb_trees.specs.declared.branch.Branch.{Branch}
 use Rattle.fb_trees.specs.Branches.{Grown, entries_of, entry_of}
 use Rattle.fb_trees.specs.Rooted.{AreHung, IsPlus, IsRooted, is_node}
 use Rattle.fb_trees.specs.TreeLinks.{map_entry}
-use Rattle.fb_trees.specs.TreeSteps.{IsCycle, path_up, step, steps_down, steps_up, way_up}
-use Rattle.fb_trees.specs.InternalPaths.{common_count}
+use Rattle.fb_trees.specs.TreeSteps.{IsCycle, path_up, step, steps_up, way_up}
+use Rattle.fb_trees.specs.InternalPaths.{common_count, steps_down}
 use Rattle.fb_trees.specs.InternalPlaces.{branch_at}
 use Rattle.fb_trees.proofs.Lookups.{branch_nodes, entries_push, no_branch_plus}
 use Rattle.fb_trees.proofs.Mapped.{names_moved, paths_moved}

@@ -1,24 +1,23 @@
 -- A tree stays rooted where nodes are replaced.
-use Rattle.std.proofs.Common.{ℕ, ◌≡◌, ◌==◌, ◌||◌, ◌⊎◌, ◌+◌, ◌*◌, ◌%◌, not, inl, inr, cond, Bool, true, false, List, [], ◌∷◌, ◌++◌, map, All, length, refl, sym, ap, ◌∙◌, subst, arith, append_assoc}
+use Rattle.std.proofs.Common.{ℕ, ◌≡◌, ◌==◌, ◌⊎◌, ◌%◌, not, inl, inr, cond, Bool, true, false, List, [], ◌∷◌, ◌++◌, map, length, refl, sym, ap, ◌∙◌, subst, arith, append_assoc}
 use Rattle.std.proofs.lemmas.Bool.{both_ways, cases_Bool, eq-eqb, eqb-true, false_from_ne_true, false≢true, or_from, or_left, or_parts}
 use Rattle.std.proofs.lemmas.List.{map-append}
 use Rattle.std.proofs.lemmas.List.Elements.{All-head, All-map, All-tail}
 use Rattle.fb_graph.specs.Parity.{is_in}
 use Rattle.fb_graph.specs.Certificate.{AreDistinct}
-use Rattle.fb_graph.specs.Laws.{Link}
 use Rattle.fb_graph.proofs.Sets.{is_in-cases, is_in-head, is_in-tail}
 use Rattle.fb_links.specs.declared.cycle.CycleStep.{CycleStep}
-use Rattle.fb_laws.specs.Trees.{EntryOf, minus_names, plus_names, tree_names}
+use Rattle.fb_laws.specs.Trees.{EntryOf, plus_names, tree_names}
 use Rattle.fb_laws.specs.SearchBlossoms.{AreBranches, joined_tree, outer_branches, renamed, renamed_entry}
 use Rattle.fb_laws.specs.OpenedCycles.{PassOf, opened_branches, opened_tree}
 use Rattle.fb_laws.proofs.JoinedTrees.{distinct_kept}
 use Rattle.fb_laws.proofs.OpenedCycles.{still_plus}
 use Rattle.fb_trees.specs.Branches.{Grown}
 use Rattle.fb_trees.specs.Replacements.{MayJoin, MayOpen, first_node, way_from, way_of}
-use Rattle.fb_trees.specs.Rooted.{AreHung, AreTakenIn, IsRooted, is_node}
+use Rattle.fb_trees.specs.Rooted.{AreHung, AreTakenIn, IsRooted}
 use Rattle.fb_trees.specs.TreeLinks.{map_entry, map_pass}
 use Rattle.fb_trees.proofs.Mapped.{joined_moved, names_moved, opened_moved, plus_moved}
-use Rattle.fb_trees.proofs.Names.{no_link, plus_in_tree}
+use Rattle.fb_trees.proofs.Names.{no_link}
 
 -- a blossom formed
 taken_tail : (inside : ℕ → Bool) (base root : ℕ) (e : EntryOf ℕ) (es : List (EntryOf ℕ)) → AreTakenIn inside base root (e ∷ es)

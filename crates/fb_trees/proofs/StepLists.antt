@@ -1,16 +1,16 @@
 -- Steps of branches, one branch more or less.
-use Rattle.std.proofs.Common.{ℕ, zero, suc, ◌≡◌, ◌<◌, ◌≤◌, ◌+◌, ◌-◌, ◌==◌, ◌⊎◌, inl, inr, min, cond, true, Some, List, [], ◌∷◌, ◌++◌, map, length, get_or, take, drop, refl, sym, ap, ◌∙◌, subst, arith, append_assoc}
+use Rattle.std.proofs.Common.{ℕ, zero, suc, ◌≡◌, ◌<◌, ◌≤◌, ◌+◌, ◌-◌, ◌⊎◌, inl, inr, min, cond, Some, List, [], ◌∷◌, ◌++◌, map, length, get_or, take, drop, refl, sym, ap, ◌∙◌, arith, append_assoc}
 use Rattle.std.proofs.lemmas.Bool.{cases_lt, eq-eqb, ne_eqb}
 use Rattle.std.proofs.lemmas.Option.{none-some, same_Some}
 use Rattle.std.specs.List.{slice_get}
-use Rattle.std.proofs.lemmas.List.{append-nil, drop_all, drop_more, map-append, map_more, take_all}
+use Rattle.std.proofs.lemmas.List.{drop_all, drop_more, map-append, map_more}
 use Rattle.fb_links.specs.declared.cycle.CycleStep.{CycleStep}
 use Rattle.fb_laws.specs.Trees.{EntryOf}
 use Rattle.fb_laws.specs.TreeCycles.{cycle_links, cycle_nodes, last_plus, links_along, links_back, nodes_along, nodes_back}
 use Rattle.fb_trees.specs.declared.branch.Branch.{Branch}
 use Rattle.fb_trees.specs.Branches.{entry_of}
-use Rattle.fb_trees.specs.TreeSteps.{step, steps_down, steps_up}
-use Rattle.fb_trees.specs.InternalPaths.{common_count}
+use Rattle.fb_trees.specs.TreeSteps.{step, steps_up}
+use Rattle.fb_trees.specs.InternalPaths.{common_count, steps_down}
 
 -- up one branch more
 pub up_push : (es : List (EntryOf ℕ)) (e : EntryOf ℕ) → steps_up (es ++ e ∷ []) ≡ step e.plus e.matched ∷ step e.minus e.tree ∷ steps_up es
@@ -38,13 +38,13 @@ links_down : (node : ℕ) (es : List (EntryOf ℕ)) (closing : ℕ) → map (λ 
 links_down node [] closing = refl
 links_down node (e ∷ es) closing = ap (λ l. e.tree ∷ e.matched ∷ l) (links_down e.plus es closing)
 
-nodes_up : (es : List (EntryOf ℕ)) → map (λ (s : CycleStep). s.node) (steps_up es) ≡ nodes_back es
+pub nodes_up : (es : List (EntryOf ℕ)) → map (λ (s : CycleStep). s.node) (steps_up es) ≡ nodes_back es
 nodes_up [] = refl
 nodes_up (e ∷ es) =
     map-append (λ (s : CycleStep). s.node) (steps_up es) (step e.plus e.matched ∷ step e.minus e.tree ∷ [])
     ∙ ap (λ l. l ++ e.plus ∷ e.minus ∷ []) (nodes_up es)
 
-links_up : (es : List (EntryOf ℕ)) → map (λ (s : CycleStep). s.link) (steps_up es) ≡ links_back es
+pub links_up : (es : List (EntryOf ℕ)) → map (λ (s : CycleStep). s.link) (steps_up es) ≡ links_back es
 links_up [] = refl
 links_up (e ∷ es) =
     map-append (λ (s : CycleStep). s.link) (steps_up es) (step e.plus e.matched ∷ step e.minus e.tree ∷ [])

@@ -10,21 +10,22 @@ use Rattle.fb_laws.specs.OpenedCycles.{PassOf, opened_tree}
 use Rattle.fb_trees.specs.Branches.{Grown}
 use Rattle.fb_trees.specs.Rooted.{AreTakenIn, IsMinus, is_node}
 
--- A new name can stand for the nodes: one of them is the base of all branches with a node among them.
+-- A blossom of that name can take the place of the nodes: the branches that it takes in hang together on one of the
+-- nodes, its base, and the name is new in the tree.
 pub record MayJoin (t : Grown) (gone : List ℕ) (name : ℕ) : Type 0 where
   pub base : ℕ
   pub taken : AreTakenIn (is_in gone) base t.root t.branches
   pub fresh : is_node t name ≡ false
 
--- the tree with the blossom of that name in the place of the nodes
+-- the tree with the blossom in the place of the nodes
 abbrev pub joined : Grown → List ℕ → ℕ → Grown
 joined t gone name = record {
   root = renamed (is_in gone) name t.root;
   branches = joined_tree (is_in gone) name t.branches;
 }
 
--- The steps lead from the child of a blossom at which the link of the tree ends to the one at which the matched link
--- ends. The links are matched and in the tree by turns, and the last step's link is none of them.
+-- The steps lead over children of a blossom, from the one at which the link of the tree ends to the one at which the
+-- matched link ends. Their links are by turns matched and of the tree. The last step's link doesn't count.
 abbrev pub way_from : CycleStep → List CycleStep → List (PassOf ℕ)
 way_from s [] = []
 way_from s (t ∷ []) = []

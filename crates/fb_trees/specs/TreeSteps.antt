@@ -2,8 +2,9 @@
 use Rattle.std.specs.Prelude.{ℕ, ◌≡◌, ◌==◌, List, [], ◌∷◌, ◌++◌, map, if◌then◌else◌}
 use Rattle.fb_links.specs.declared.cycle.CycleStep.{CycleStep}
 use Rattle.fb_laws.specs.Trees.{EntryOf, path_to}
-use Rattle.fb_laws.specs.TreeCycles.{ArePaths, cycle_links, cycle_nodes, last_plus}
+use Rattle.fb_laws.specs.TreeCycles.{ArePaths, cycle_links, cycle_nodes, last_plus, links_back, nodes_back}
 use Rattle.fb_trees.specs.Branches.{Grown}
+use Rattle.fb_trees.specs.Rooted.{IsPlus, IsRooted}
 
 abbrev pub step : ℕ → ℕ → CycleStep
 step node link = record { node = node; link = link }
@@ -12,12 +13,6 @@ step node link = record { node = node; link = link }
 abbrev pub steps_up : List (EntryOf ℕ) → List CycleStep
 steps_up [] = []
 steps_up (e ∷ es) = steps_up es ++ step e.plus e.matched ∷ step e.minus e.tree ∷ []
-
--- Down such branches, from the node on which the first one hangs: each node with the link to its child, and the last
--- one with a further link.
-abbrev pub steps_down : ℕ → List (EntryOf ℕ) → ℕ → List CycleStep
-steps_down name [] closing = step name closing ∷ []
-steps_down name (e ∷ es) closing = step name e.tree ∷ step e.minus e.matched ∷ steps_down e.plus es closing
 
 -- From a node of the tree up to the root, which isn't listed: a minus node first leads to its parent.
 abbrev pub way_up : List (EntryOf ℕ) → List (EntryOf ℕ) → ℕ → List CycleStep
@@ -37,3 +32,13 @@ pub record IsCycle (t : Grown) (a b closing : ℕ) (cycle : List CycleStep) : Ty
   pub paths : ArePaths t.branches a b shared up down
   pub nodes : map (λ s. s.node) cycle ≡ last_plus t.root shared ∷ cycle_nodes up down
   pub links : map (λ s. s.link) cycle ≡ cycle_links up closing down
+
+-- From a plus node the way up is the path to it, gone back.
+abbrev pub UpFromPlus : Type 0
+UpFromPlus = (t : Grown) (name : ℕ) → IsRooted t.root t.branches → IsPlus t name
+    → path_up t name ≡ steps_up (path_to t.branches name)
+
+-- Steps up branches have the nodes and the links of these branches.
+abbrev pub StepsListed : Type 0
+StepsListed = (path : List (EntryOf ℕ))
+    → (map (λ s. s.node) (steps_up path) ≡ nodes_back path) × (map (λ s. s.link) (steps_up path) ≡ links_back path)

@@ -15,5 +15,5 @@ pub use branch::Branch;
 pub use fb_graph::NoMemory;
 pub use fb_links::{CycleStep, LinkId, Links, NodeId};
 pub use fb_regions::{Role, Roles};
-pub use laws::{changes_by_number, links_by_number};
+pub use laws::{changes_by_number, links_by_number, paths_listed};
 pub use tree::Tree;

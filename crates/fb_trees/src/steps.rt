@@ -1,8 +1,9 @@
-ghost use Rattle.std.specs.Prelude.{◌≡◌, ◌≤◌, ◌++◌, ◌∷◌, [], map, length, IfOk, OnOk};
+ghost use Rattle.std.specs.Prelude.{◌≡◌, ◌≤◌, ◌==◌, ◌++◌, ◌∷◌, [], map, length, IfOk, OnOk, if◌then◌else◌};
+ghost use Rattle.fb_laws.specs.Trees.{beside};
 ghost use Rattle.fb_laws.specs.TreeCycles.{last_plus};
-ghost use Rattle.fb_trees.specs.Branches.{entry_of};
-ghost use Rattle.fb_trees.specs.TreeSteps.{steps_down, steps_up};
-ghost use Rattle.fb_trees.specs.InternalPaths.{common_count};
+ghost use Rattle.fb_trees.specs.Branches.{entries_of, entry_of};
+ghost use Rattle.fb_trees.specs.TreeSteps.{steps_up};
+ghost use Rattle.fb_trees.specs.InternalPaths.{common_count, steps_down};
 
 use crate::{Branch, CycleStep, LinkId, NoMemory, NodeId};
 use std::alloc::Global;
@@ -20,6 +21,33 @@ pub fn shared_count(up: &[Branch], down: &[Branch]) -> usize
         }
     }
     shorter
+}
+
+/// The branches that are not on the way to the plus node, the newest one first.
+pub fn beside(alloc: Global, branches: &[Branch], plus: NodeId) -> Result<Vec<Branch>, NoMemory>
+    ensures { IfOk result (λ others. map entry_of others.items ≡ beside (entries_of branches.now) plus) }
+{
+    let mut others = Vec::new(alloc);
+    let mut node = plus;
+    let mut i = branches.len();
+    while i > 0 {
+        i -= 1;
+        node = pass(&mut others, &branches[i], node)?;
+    }
+    Ok(others)
+}
+
+/// Where the way to the node goes on below the branch: its parent if the branch leads to the node. Else the branch is
+/// beside the way, and added to the others.
+fn pass(others: &mut Vec<Branch>, branch: &Branch, node: NodeId) -> Result<NodeId, NoMemory>
+    ensures next { IfOk result (λ next. next ≡ (if branch.now.plus == node then branch.now.parent else node)) }
+    ensures others { OnOk result (others.new.items ≡ (if branch.now.plus == node then others.old.items else others.old.items ++ branch.now ∷ [])) }
+{
+    if branch.plus == node {
+        return Ok(branch.parent);
+    }
+    others.push(*branch)?;
+    Ok(node)
 }
 
 /// The plus node to which the branches lead from the node.

@@ -33,6 +33,8 @@ fn finds_paths_and_cycles(rt: HostRuntime) -> Result<(), Fail> {
         path.as_slice(),
         [step(6, 15), step(5, 14), step(2, 11), step(1, 10)].as_slice()
     );
+    assert_eq!(rt; tree.branches_to(alloc, 6)?.len(), 2);
+    assert_eq!(rt; tree.branches_beside(alloc, 6)?.len(), 1);
     let cycle = tree.cycle_of(alloc, 6, 4, 20, &links)?;
     assert_eq!(rt;
         cycle.as_slice(),

@@ -1,6 +1,7 @@
 ghost use Rattle.std.specs.Prelude.{◌≡◌, ◌≢◌, ◌++◌, ℕ, true, false, map, IfOk, OnErr, OnOk};
 ghost use Rattle.std.specs.Option.{option_map};
-ghost use Rattle.fb_laws.specs.Trees.{path_to};
+ghost use Rattle.fb_graph.specs.Nests.{AreMany};
+ghost use Rattle.fb_laws.specs.Trees.{beside, path_to};
 ghost use Rattle.fb_trees.specs.Branches.{Grown, entries_of, entry_of};
 ghost use Rattle.fb_trees.specs.Rooted.{IsPlus, IsRooted, attached, bare, is_node, role_in};
 ghost use Rattle.fb_trees.specs.Replacements.{IsOpened, IsReplaced, MayJoin, MayOpen, MayReplace, joined};
@@ -9,7 +10,7 @@ ghost use Rattle.fb_trees.specs.InternalPlaces.{branch_at};
 
 use crate::changes::{joined_branches, names_of, opened_branches, renamed};
 use crate::places::{Places, make_room, places_of, put_branch};
-use crate::steps::{cycle_along, last_plus, push_step, push_up, shared_count};
+use crate::steps::{beside, cycle_along, last_plus, push_step, push_up, shared_count};
 use crate::{Branch, CycleStep, LinkId, Links, NoMemory, NodeId, Role, Roles};
 use std::alloc::Global;
 use std::collections::HashMap;
@@ -110,16 +111,10 @@ impl Tree {
         ensures { result ≡ role_in self.now node }
     {
         match self.branch_of(node) {
-            Some(branch) => if branch.plus == node {
-                Role::Plus
-            } else {
-                Role::Minus
-            },
-            None => if self.root == node {
-                Role::Plus
-            } else {
-                Role::Out
-            },
+            Some(branch) if branch.plus == node => Role::Plus,
+            Some(_) => Role::Minus,
+            None if node == self.root => Role::Plus,
+            None => Role::Out,
         }
     }
 
@@ -143,7 +138,8 @@ impl Tree {
     }
 
     /// The cycle that a link between the plus nodes a and b closes, from its base on, where the paths to the two part.
-    /// Each step's link leads to the next step's node, that of the last one back to the base.
+    /// Each step's link leads to the next step's node, that of the last one back to the base. The nodes are an odd number
+    /// of at least three, each once.
     pub fn cycle_of(
         &self,
         alloc: Global,
@@ -155,7 +151,8 @@ impl Tree {
         requires first { IsPlus self.now a }
         requires second { IsPlus self.now b }
         requires apart { a ≢ b }
-        ensures { IfOk result (λ cycle. IsCycle self.now a b closing cycle.items) }
+        ensures cycle { IfOk result (λ cycle. IsCycle self.now a b closing cycle.items) }
+        ensures many { IfOk result (λ cycle. AreMany (map (λ s. s.node) cycle.items)) }
     {
         let up = self.branches_to(alloc, a)?;
         let down = self.branches_to(alloc, b)?;
@@ -163,6 +160,30 @@ impl Tree {
         let (shared_up, up) = up.split_at(shared);
         let (_shared_down, down) = down.split_at(shared);
         cycle_along(alloc, last_plus(self.root, shared_up), up, closing, down)
+    }
+
+    /// The branches from the root to the plus node, the one at the root first.
+    pub fn branches_to(&self, alloc: Global, plus: NodeId) -> Result<Vec<Branch>, NoMemory>
+        requires { IsPlus self.now plus }
+        ensures path { IfOk result (λ path. map entry_of path.items ≡ path_to self.now.branches plus) }
+        ensures kept { IsRooted self.now.root self.now.branches }
+    {
+        let mut path = Vec::new(alloc);
+        let mut node = plus;
+        while let Some(branch) = self.branch_of(node) {
+            path.push(branch)?;
+            node = branch.parent;
+        }
+        path.reverse();
+        Ok(path)
+    }
+
+    /// The branches that are not on the way from the root to the plus node, the newest one first. Takes time for each
+    /// branch of the tree.
+    pub fn branches_beside(&self, alloc: Global, plus: NodeId) -> Result<Vec<Branch>, NoMemory>
+        ensures { IfOk result (λ others. map entry_of others.items ≡ beside self.now.branches plus) }
+    {
+        beside(alloc, &self.branches, plus)
     }
 
     /// Adds the nodes from the plus node up, each with the link to its parent.
@@ -241,22 +262,6 @@ impl Tree {
             branches,
             places,
         })
-    }
-
-    /// The branches from the root to the plus node, the one at the root first.
-    fn branches_to(&self, alloc: Global, plus: NodeId) -> Result<Vec<Branch>, NoMemory>
-        requires { IsPlus self.now plus }
-        ensures path { IfOk result (λ path. map entry_of path.items ≡ path_to self.now.branches plus) }
-        ensures kept { IsRooted self.now.root self.now.branches }
-    {
-        let mut path = Vec::new(alloc);
-        let mut node = plus;
-        while let Some(branch) = self.branch_of(node) {
-            path.push(branch)?;
-            node = branch.parent;
-        }
-        path.reverse();
-        Ok(path)
     }
 
     /// The branch of the node. The root has none.

@@ -11,6 +11,7 @@ pub mod SampleOpenings
 pub mod SampleParts
 pub mod SamplePentagons
 pub mod SampleResolutions
+pub mod SampleRings
 pub mod SampleSeamStates
 pub mod SampleSeams
 pub mod SampleSearches

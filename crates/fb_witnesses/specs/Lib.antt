@@ -4,6 +4,7 @@ pub mod NestWitnesses
 pub mod NestedWitnesses
 pub mod OpenedWitnesses
 pub mod ResolvedWitnesses
+pub mod RingWitnesses
 pub mod Samples
 pub mod SearchWitnesses
 pub mod StateWitnesses

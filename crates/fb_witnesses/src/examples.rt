@@ -1,5 +1,6 @@
 //! That the premises of the laws can be met, and what the definitions give, on small graphs.
 
+ghost use Rattle.fb_witnesses.specs.RingWitnesses.{RingWitness};
 ghost use Rattle.fb_witnesses.specs.OpenedWitnesses.{NestedExample, PartWitness, RingExample};
 ghost use Rattle.fb_witnesses.specs.SearchWitnesses.{SearchWitness};
 
@@ -13,4 +14,9 @@ pub fn opening_examples()
 /// That the premises of these laws can be met, on a line.
 pub fn search_witness()
     ensures { SearchWitness }
+{}
+
+/// That these laws apply, in a pentagon.
+pub fn ring_witness()
+    ensures { RingWitness }
 {}

@@ -8,7 +8,7 @@ pub mod instances;
 pub mod state_instances;
 pub mod witnesses;
 
-pub use examples::{opening_examples, search_witness};
+pub use examples::{opening_examples, ring_witness, search_witness};
 pub use instances::{cycle_witness, fused_witness, nest_witness, nested_witness, tree_witness};
 pub use state_instances::state_witness;
 pub use witnesses::{

@@ -1,7 +1,5 @@
-use Rattle.std.proofs.Common.{ℕ, ◌-◌, ◌++◌, ◌∷◌, [], List, take, ◌∙◌, ap}
-use Rattle.fb_blossoms.specs.declared.legs.Leg.{Leg}
-use Rattle.fb_blossoms.specs.declared.legs.Leg.TheVariants.{Inside}
-use Rattle.fb_blossoms.proofs.Turns.{way_begins, way_ends, way_goes_on, way_leg, way_shorter}
+use Rattle.std.proofs.Common.{◌-◌, take, ◌∙◌, ap}
+use Rattle.fb_blossoms.proofs.Turns.{way_ends, way_goes_on, way_leg, way_shorter}
 use Rattle.fb_blossoms.proofs.legs.even_path.Goals as goal
 
 pub go-requires-clause-leg : goal.go-requires-clause-leg

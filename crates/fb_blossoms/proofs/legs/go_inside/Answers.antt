@@ -1,10 +1,10 @@
-use Rattle.std.proofs.Common.{ℕ, List, reverse, [], ◌∷◌, ◌++◌, refl, sym, subst}
+use Rattle.std.proofs.Common.{ℕ, List, reverse, [], refl, sym, subst, length, ap}
 use Rattle.fb_blossoms.specs.declared.legs.Leg.{Leg}
 use Rattle.fb_blossoms.specs.declared.legs.Ends.{Ends}
 use Rattle.fb_blossoms.specs.declared.legs.Leg.TheVariants.{Inside}
 use Rattle.fb_blossoms.specs.InternalWays.{LeadsDown}
 use Rattle.fb_blossoms.specs.InternalLegs.{Replaces}
-use Rattle.fb_blossoms.proofs.Turns.{on_ok, replaced_by_child, replaced_by_none, replaces_as, way_shorter_by}
+use Rattle.fb_blossoms.proofs.Turns.{on_ok, replaced_by_child, replaced_by_none, replaces_as, round_of, way_shorter_by}
 use Rattle.fb_blossoms.proofs.legs.go_inside.Goals as goal
 
 pub returns-then-from-to : goal.returns-then-from-to
@@ -39,3 +39,16 @@ returns c =
       to = record { defect = c.args.ends.to.defect; through = c.pop-2.new.self };
     } in
     on_ok _ _ c.push_round.result (replaces_as links nodes c.args.todo.now.items c.push_round.new.todo.items c.args.node inner c.args.ends refl refl) c.push_round.ensures
+
+pub push_round-requires-clause-round : goal.push_round-requires-clause-round
+push_round-requires-clause-round c =
+    let nodes = c.args.nest.now.blossoms.now in
+    let from = way_shorter_by nodes c.args.node c.args.ends.from.defect c.in-Some-Some.first _ c.pop.new.self.items c.requires.leg.0 c.in-Some-Some.ensures.items in
+    let to = way_shorter_by nodes c.args.node c.args.ends.to.defect c.in-Some-Some.last _ c.pop-2.new.self.items c.requires.leg.1 c.in-Some-Some.ensures'.items in
+    let inner : Ends = record {
+      from = record { defect = c.args.ends.from.defect; through = c.pop.new.self };
+      to = record { defect = c.args.ends.to.defect; through = c.pop-2.new.self };
+    } in
+    round_of nodes c.args.node c.round_from-round.result inner (length c.cycle-count.result.now) c.place-begin.result c.place-end.result c.in-Some-Some.first c.in-Some-Some.last
+    (ap length c.cycle-count.ensures) (c.place-begin.ensures c.args.node from.0) (c.place-end.ensures c.args.node to.0)
+    c.round_from-round.ensures.end c.round_from-round.ensures.steps c.round_from-round.ensures.even c.round_from-round.ensures.from from.1 to.1

@@ -11,7 +11,7 @@ use Rattle.fb_search.proofs.growing.absorb_tight.Goals as goal
 use Rattle.fb_search.proofs.growing.absorb_tight.Goals.{In_default}
 
 dual_at : (g : _) (c : In_default g) → IsDual (g.S.Scope.problem c.args.scope) c.loop-i.regions.nodes
-dual_at g c = subst (λ s. IsDual (g.S.Scope.problem s) c.loop-i.regions.nodes) c.loop-i.invariant.0 c.keeps.ensures
+dual_at g c = subst (λ s. IsDual (g.S.Scope.problem s) c.loop-i.regions.nodes) c.loop-i.invariant.0 c.keeps.ensures.nest.dual
 
 pub loop-i-preserved : goal.loop-i-preserved
 loop-i-preserved g c =

@@ -13,7 +13,7 @@ members_are g c = c.in-Ok.ensures.items ∙ ap (λ w. c.args.members.now.items +
 
 nodes_are : (g : _) (c : In-Ok g)
     → c.absorb.new.self.nodes ≡ absorbed c.args.regions.now.nodes (edge_at (g.S.Scope.problem c.args.scope).edges c.args.edge)
-nodes_are g c = ap (λ d. d.nodes) c.in_ok-absorb.ensures.ok
+nodes_are g c = ap (λ d. d.nodes) c.absorb.ensures
     ∙ ap (λ s. absorbed c.args.regions.now.nodes (edge_at (g.S.Scope.problem s).edges c.args.edge)) c.requires.scope
 
 pub returns-clause-lone : goal.returns-clause-lone

@@ -37,5 +37,5 @@ returns-clause-none g c =
 pub least_round-least-requires-clause-in_range : goal.least_round-least-requires-clause-in_range
 least_round-least-requires-clause-in_range g c =
     members_below (g.S.Scope.problem c.args.scope) c.args.regions.now.nodes NODE c.args.defect c.args.members.now c.requires.lone
-    (subst (λ s. IsDual (g.S.Scope.problem s) c.args.regions.now.nodes) c.requires.scope c.keeps.ensures) c.limits.ensures
+    (subst (λ s. IsDual (g.S.Scope.problem s) c.args.regions.now.nodes) c.requires.scope c.keeps.ensures.nest.dual) c.limits.ensures
     c.loop-v.v-index 0 c.loop-v-test.true

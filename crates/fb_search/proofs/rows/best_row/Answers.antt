@@ -17,7 +17,7 @@ use Rattle.fb_search.proofs.rows.best_row.Goals as goal
 use Rattle.fb_search.proofs.rows.best_row.Goals.{In_ok-cuts}
 
 dual_at : (g : _) (c : In_ok-cuts g) → IsDual (g.S.Scope.problem c.args.scope) c.args.regions.now.nodes
-dual_at g c = subst (λ s. IsDual (g.S.Scope.problem s) c.args.regions.now.nodes) c.requires.scope c.keeps.ensures
+dual_at g c = subst (λ s. IsDual (g.S.Scope.problem s) c.args.regions.now.nodes) c.requires.scope c.keeps.ensures.nest.dual
 
 cuts_are : (g : _) (c : In_ok-cuts g) → c.in_ok-cuts.cuts.items ≡ all_cuts c.args.regions.now.nodes
 cuts_are g c = c.in_ok-cuts.ensures

@@ -1,4 +1,4 @@
-use Rattle.std.proofs.Common.{◌≡◌, ◌+◌, ◌-◌, ◌%◌, ◌≤◌, ◌<◌, ◌++◌, drop, length}
+use Rattle.std.proofs.Common.{◌≡◌, ◌-◌, ◌%◌, ◌<◌, ◌++◌, drop, length}
 use Rattle.fb_laws.specs.OpenedCycles.{opened_branches}
 use Rattle.fb_trees.specs.Branches.{entries_of}
 use Rattle.fb_trees.specs.Replacements.{first_node, way_of}

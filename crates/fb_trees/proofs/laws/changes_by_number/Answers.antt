@@ -1,5 +1,3 @@
-use Rattle.std.proofs.Common.{◌≡◌, true, false}
-use Rattle.std.proofs.lemmas.List.Elements.{All-map}
 use Rattle.fb_trees.proofs.Mapped.{joined_moved, opened_moved, last_of_moved, paired_on_moved, matched_on_moved, grown_on_moved}
 use Rattle.fb_trees.proofs.Taken.{taken_from}
 use Rattle.fb_trees.proofs.laws.changes_by_number.Goals as goal

@@ -1,6 +1,6 @@
 use Rattle.std.proofs.Common.{◌≡◌, ◌++◌, drop, map}
 use Rattle.fb_trees.specs.Branches.{entry_of}
-use Rattle.fb_trees.specs.TreeSteps.{steps_down}
+use Rattle.fb_trees.specs.InternalPaths.{steps_down}
 use Rattle.fb_trees.proofs.steps.push_down.Given as goal
 
 abbrev pub invariant-loop-branch : goal.invariant-loop-branch

@@ -1,4 +1,4 @@
-use Rattle.std.proofs.Common.{◌≡◌, ◌≤◌, ◌-◌, length, arith}
+use Rattle.std.proofs.Common.{◌-◌, arith}
 use Rattle.fb_trees.proofs.StepLists.{up_step}
 use Rattle.fb_trees.proofs.steps.push_up.Goals as goal
 

@@ -1,4 +1,4 @@
-use Rattle.std.proofs.Common.{refl, sym, ◌∙◌}
+use Rattle.std.proofs.Common.{sym, ◌∙◌}
 use Rattle.std.specs.HashMap.{get}
 use Rattle.std.specs.Prelude.{nat_eq}
 use Rattle.fb_blossoms.proofs.Moves.{leafed, leafs, updates_from, updates_roomy, vacant_from}

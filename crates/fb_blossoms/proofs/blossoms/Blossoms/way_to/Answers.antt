@@ -1,5 +1,5 @@
 use Rattle.std.proofs.Common.{reverse, sym, ◌∙◌}
-use Rattle.fb_blossoms.proofs.Climbs.{none_some, same_some}
+use Rattle.fb_blossoms.proofs.Climbs.{none_some}
 use Rattle.fb_blossoms.proofs.Nested.{climbs_from, leaf_climbs, way_found}
 use Rattle.fb_blossoms.proofs.blossoms.Blossoms.way_to.Goals as goal
 

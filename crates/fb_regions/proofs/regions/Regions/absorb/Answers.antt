@@ -1,45 +1,85 @@
-use Rattle.std.proofs.Common.{refl, None}
-use Rattle.fb_regions.proofs.Absorbed.{absorbing, absorption, not_absorbing}
-use Rattle.fb_regions.proofs.Readings.{read_mark, read_node}
+use Rattle.std.proofs.Common.{◌≡◌, ◌≤◌, ◌+◌, ◌^◌, length, arith, refl, sym, ap, ◌∙◌, Some, None}
+use Rattle.fb_regions.proofs.Absorption.{absorption, may_absorb, no_mark, no_region, no_root}
+use Rattle.fb_regions.proofs.Found.{read_mark, read_place, read_root}
 use Rattle.fb_regions.proofs.regions.Regions.absorb.Goals as goal
 
 pub unreachable-requires : goal.unreachable-requires
 unreachable-requires g c =
     let may =
-    absorbing (g.S.Scope.problem c.args.self.now.scope) c.args.self.now.nodes c.args.edge c.step_over-step.result c.requires.below c.requires.tight c.requires.inner c.requires.outer c.requires.real c.step_over-step.ensures in
-    not_absorbing _ _ _ c.self.invariant c.args.edge c.step_over-step.result (rw (← c.self.view_is) at may)
+    may_absorb (g.S.Scope.problem c.args.self.now.scope) c.args.self.now.nodes c.args.edge c.step_over-step.result c.requires.below c.requires.tight c.requires.inner c.requires.outer c.requires.real c.step_over-step.ensures in
+    no_mark _ _ _ c.self.invariant c.args.edge c.step_over-step.result (rw (← c.self.view_is) at may)
     (read_mark c.self.inside.marks.items _ _ None c.deref.ensures.value c.in_default.ensures)
 
-pub index_mut-region-requires : goal.index_mut-region-requires
-index_mut-region-requires g c =
+pub unreachable-requires-in_default-root_of : goal.unreachable-requires-in_default-root_of
+unreachable-requires-in_default-root_of g c =
     let may =
-    absorbing (g.S.Scope.problem c.args.self.now.scope) c.args.self.now.nodes c.args.edge c.step_over-step.result c.requires.below c.requires.tight c.requires.inner c.requires.outer c.requires.real c.step_over-step.ensures in
-    let step = absorption _ _ _ c.self.invariant c.args.edge c.step_over-step.result (rw (← c.self.view_is) at may) c.limits.ensures c.in-Some.mark
-    (read_mark c.self.inside.marks.items _ _ _ c.deref.ensures.value c.in-Some.ensures) in
-    rw c.self.inside.nodes.ok.0 step.place
+    may_absorb (g.S.Scope.problem c.args.self.now.scope) c.args.self.now.nodes c.args.edge c.step_over-step.result c.requires.below c.requires.tight c.requires.inner c.requires.outer c.requires.real c.step_over-step.ensures in
+    no_root _ _ _ c.self.invariant c.args.edge c.step_over-step.result (rw (← c.self.view_is) at may) c.in-Some.mark
+    (read_mark c.self.inside.marks.items _ _ _ c.deref.ensures.value c.in-Some.ensures)
+    (read_root c.self.inside.regions.items _ _ None c.deref-2.ensures.value c.in_default-root_of.ensures)
 
-pub index_mut-requires : goal.index_mut-requires
-index_mut-requires g c =
+pub unreachable-requires-in_default-place_of : goal.unreachable-requires-in_default-place_of
+unreachable-requires-in_default-place_of g c =
     let may =
-    absorbing (g.S.Scope.problem c.args.self.now.scope) c.args.self.now.nodes c.args.edge c.step_over-step.result c.requires.below c.requires.tight c.requires.inner c.requires.outer c.requires.real c.step_over-step.ensures in
-    let step = absorption _ _ _ c.self.invariant c.args.edge c.step_over-step.result (rw (← c.self.view_is) at may) c.limits.ensures c.in-Some.mark
-    (read_mark c.self.inside.marks.items _ _ _ c.deref.ensures.value c.in-Some.ensures) in
-    rw c.self.inside.marks.ok.0 step.below
+    may_absorb (g.S.Scope.problem c.args.self.now.scope) c.args.self.now.nodes c.args.edge c.step_over-step.result c.requires.below c.requires.tight c.requires.inner c.requires.outer c.requires.real c.step_over-step.ensures in
+    no_region _ _ _ c.self.invariant c.args.edge c.step_over-step.result (rw (← c.self.view_is) at may) c.in-Some.mark c.in-Some-root_of.node
+    (read_mark c.self.inside.marks.items _ _ _ c.deref.ensures.value c.in-Some.ensures)
+    (read_root c.self.inside.regions.items _ _ _ c.deref-2.ensures.value c.in-Some-root_of.ensures)
+    (read_place c.self.inside.regions.items _ _ None c.deref-3.ensures.value c.in_default-place_of.ensures)
 
-pub invariant_of-self-2 : goal.invariant_of-self-2
-invariant_of-self-2 g c =
+pub overflow_add-taken : goal.overflow_add-taken
+overflow_add-taken g c =
     let may =
-    absorbing (g.S.Scope.problem c.args.self.now.scope) c.args.self.now.nodes c.args.edge c.step_over-step.result c.requires.below c.requires.tight c.requires.inner c.requires.outer c.requires.real c.step_over-step.ensures in
-    let step = absorption _ _ _ c.self.invariant c.args.edge c.step_over-step.result (rw (← c.self.view_is) at may) c.limits.ensures c.in-Some.mark
-    (read_mark c.self.inside.marks.items _ _ _ c.deref.ensures.value c.in-Some.ensures) in
-    let same = read_node c.self.inside.nodes.items c.in-Some.mark.place _ step.place c.index_mut-region.ensures.value in
-    rw (c.in_ok-raise.ensures.ok, c.len-rank.ensures, c.radius-distance.ensures, same) step.kept
+    may_absorb (g.S.Scope.problem c.args.self.now.scope) c.args.self.now.nodes c.args.edge c.step_over-step.result c.requires.below c.requires.tight c.requires.inner c.requires.outer c.requires.real c.step_over-step.ensures in
+    let is =
+    absorption _ _ _ c.self.invariant c.args.edge c.step_over-step.result (rw (← c.self.view_is) at may) c.limits.ensures c.in-Some.mark c.in-Some-root_of.node c.in-Some-place_of.place
+    c.index_mut-region.result.now (read_mark c.self.inside.marks.items _ _ _ c.deref.ensures.value c.in-Some.ensures)
+    (read_root c.self.inside.regions.items _ _ _ c.deref-2.ensures.value c.in-Some-root_of.ensures)
+    (read_place c.self.inside.regions.items _ _ _ c.deref-3.ensures.value c.in-Some-place_of.ensures) c.index_mut-region.ensures.value in
+    omega (arith, is.distance)
 
-pub returns-clause-ok : goal.returns-clause-ok
-returns-clause-ok g c =
+pub overflow_add-taken-2 : goal.overflow_add-taken-2
+overflow_add-taken-2 g c =
     let may =
-    absorbing (g.S.Scope.problem c.args.self.now.scope) c.args.self.now.nodes c.args.edge c.step_over-step.result c.requires.below c.requires.tight c.requires.inner c.requires.outer c.requires.real c.step_over-step.ensures in
-    let step = absorption _ _ _ c.self.invariant c.args.edge c.step_over-step.result (rw (← c.self.view_is) at may) c.limits.ensures c.in-Some.mark
-    (read_mark c.self.inside.marks.items _ _ _ c.deref.ensures.value c.in-Some.ensures) in
-    let same = read_node c.self.inside.nodes.items c.in-Some.mark.place _ step.place c.index_mut-region.ensures.value in
-    rw (← c.self.view_is, c.in_ok-raise.ensures.ok, same, step.change) refl
+    may_absorb (g.S.Scope.problem c.args.self.now.scope) c.args.self.now.nodes c.args.edge c.step_over-step.result c.requires.below c.requires.tight c.requires.inner c.requires.outer c.requires.real c.step_over-step.ensures in
+    let is =
+    absorption _ _ _ c.self.invariant c.args.edge c.step_over-step.result (rw (← c.self.view_is) at may) c.limits.ensures c.in-Some.mark c.in-Some-root_of.node c.in-Some-place_of.place
+    c.index_mut-region.result.now (read_mark c.self.inside.marks.items _ _ _ c.deref.ensures.value c.in-Some.ensures)
+    (read_root c.self.inside.regions.items _ _ _ c.deref-2.ensures.value c.in-Some-root_of.ensures)
+    (read_place c.self.inside.regions.items _ _ _ c.deref-3.ensures.value c.in-Some-place_of.ensures) c.index_mut-region.ensures.value in
+    omega (arith, is.size, c.len.ensures, c.index_mut-region.result.now.first_set.ok.0)
+
+pub overflow_add-region : goal.overflow_add-region
+overflow_add-region g c =
+    let may =
+    may_absorb (g.S.Scope.problem c.args.self.now.scope) c.args.self.now.nodes c.args.edge c.step_over-step.result c.requires.below c.requires.tight c.requires.inner c.requires.outer c.requires.real c.step_over-step.ensures in
+    let is =
+    absorption _ _ _ c.self.invariant c.args.edge c.step_over-step.result (rw (← c.self.view_is) at may) c.limits.ensures c.in-Some.mark c.in-Some-root_of.node c.in-Some-place_of.place
+    c.index_mut-region.result.now (read_mark c.self.inside.marks.items _ _ _ c.deref.ensures.value c.in-Some.ensures)
+    (read_root c.self.inside.regions.items _ _ _ c.deref-2.ensures.value c.in-Some-root_of.ensures)
+    (read_place c.self.inside.regions.items _ _ _ c.deref-3.ensures.value c.in-Some-place_of.ensures) c.index_mut-region.ensures.value in
+    omega (arith, is.size)
+
+pub invariant_of-self : goal.invariant_of-self
+invariant_of-self g c =
+    let may =
+    may_absorb (g.S.Scope.problem c.args.self.now.scope) c.args.self.now.nodes c.args.edge c.step_over-step.result c.requires.below c.requires.tight c.requires.inner c.requires.outer c.requires.real c.step_over-step.ensures in
+    let is =
+    absorption _ _ _ c.self.invariant c.args.edge c.step_over-step.result (rw (← c.self.view_is) at may) c.limits.ensures c.in-Some.mark c.in-Some-root_of.node c.in-Some-place_of.place
+    c.index_mut-region.result.now (read_mark c.self.inside.marks.items _ _ _ c.deref.ensures.value c.in-Some.ensures)
+    (read_root c.self.inside.regions.items _ _ _ c.deref-2.ensures.value c.in-Some-root_of.ensures)
+    (read_place c.self.inside.regions.items _ _ _ c.deref-3.ensures.value c.in-Some-place_of.ensures) c.index_mut-region.ensures.value in
+    let size : c.len.result ≡ length c.index_mut-region.result.now.first_set.items = c.len.ensures ∙ c.index_mut-region.result.now.first_set.ok.0 in
+    rw size is.kept
+
+pub returns : goal.returns
+returns g c =
+    let may =
+    may_absorb (g.S.Scope.problem c.args.self.now.scope) c.args.self.now.nodes c.args.edge c.step_over-step.result c.requires.below c.requires.tight c.requires.inner c.requires.outer c.requires.real c.step_over-step.ensures in
+    let is =
+    absorption _ _ _ c.self.invariant c.args.edge c.step_over-step.result (rw (← c.self.view_is) at may) c.limits.ensures c.in-Some.mark c.in-Some-root_of.node c.in-Some-place_of.place
+    c.index_mut-region.result.now (read_mark c.self.inside.marks.items _ _ _ c.deref.ensures.value c.in-Some.ensures)
+    (read_root c.self.inside.regions.items _ _ _ c.deref-2.ensures.value c.in-Some-root_of.ensures)
+    (read_place c.self.inside.regions.items _ _ _ c.deref-3.ensures.value c.in-Some-place_of.ensures) c.index_mut-region.ensures.value in
+    let size : c.len.result ≡ length c.index_mut-region.result.now.first_set.items = c.len.ensures ∙ c.index_mut-region.result.now.first_set.ok.0 in
+    rw (← c.self.view_is, size) (ap (λ ns. record { scope = c.self.inside.scope; nodes = ns }) is.change)

@@ -1,34 +1,39 @@
-use Rattle.std.proofs.Common.{◌≡◌, refl, Some, None, false, true}
+use Rattle.std.proofs.Common.{◌≡◌, ◌<◌, ◌≤◌, ◌^◌, arith, refl, ap, ◌∙◌, sym, Some, None, false, true}
 use Rattle.fb_graph.specs.Dual.{is_live}
-use Rattle.fb_regions.proofs.Grown.{growth}
-use Rattle.fb_graph.proofs.Nodes.{no_place}
-use Rattle.fb_regions.proofs.Readings.{read_node, read_place}
+use Rattle.fb_regions.specs.InternalNodes.{nodes_of}
+use Rattle.fb_regions.proofs.Found.{not_found, read_place}
+use Rattle.fb_regions.proofs.Turned.{growth}
 use Rattle.fb_regions.proofs.regions.Regions.grow.Goals as goal
 
 pub unreachable-requires : goal.unreachable-requires
 unreachable-requires g c =
-    let live : is_live c.self.inside.nodes.items c.args.node ≡ true = rw (← c.self.view_is) at c.requires.live in
-    let gone : is_live c.self.inside.nodes.items c.args.node ≡ false =
-    no_place c.self.inside.nodes.items c.args.node (read_place c.self.inside.nodes.items _ c.args.node None c.deref.ensures.value c.in_default.ensures) in
+    let live : is_live (nodes_of c.self.inside.marks.items c.self.inside.regions.items) c.args.node ≡ true = rw (← c.self.view_is) at c.requires.live in
+    let gone : is_live (nodes_of c.self.inside.marks.items c.self.inside.regions.items) c.args.node ≡ false =
+    not_found c.self.inside.marks.items c.self.inside.regions.items c.args.node (read_place c.self.inside.regions.items _ c.args.node None c.deref.ensures.value c.in_default.ensures) in
     cc
 
-pub thicken-requires : goal.thicken-requires
-thicken-requires g c =
-    let step = growth _ _ _ c.args.node c.args.k c.in-Some.place c.self.invariant c.limits.ensures
-    (read_place c.self.inside.nodes.items _ c.args.node (Some c.in-Some.place) c.deref.ensures.value c.in-Some.ensures)
-    (rw (← c.self.view_is) at c.requires.leaves) (rw (← c.self.view_is) at c.requires.room) in
-    rw (read_node c.self.inside.nodes.items c.in-Some.place _ step.below c.index_mut.ensures.value) step.fits
+pub overflow_add-region : goal.overflow_add-region
+overflow_add-region g c =
+    let is =
+    growth _ _ _ c.self.invariant c.limits.ensures c.args.node c.args.k c.in-Some.place _ (read_place c.self.inside.regions.items _ c.args.node (Some c.in-Some.place) c.deref.ensures.value c.in-Some.ensures) c.index_mut-region.ensures.value
+    (rw (← c.self.view_is) at c.requires.outer) (rw (← c.self.view_is) at c.requires.leaves) (rw (← c.self.view_is) at c.requires.room) in
+    omega (arith, is.value, is.radius)
+
+pub overflow_add-region-2 : goal.overflow_add-region-2
+overflow_add-region-2 g c =
+    let is =
+    growth _ _ _ c.self.invariant c.limits.ensures c.args.node c.args.k c.in-Some.place _ (read_place c.self.inside.regions.items _ c.args.node (Some c.in-Some.place) c.deref.ensures.value c.in-Some.ensures) c.index_mut-region.ensures.value
+    (rw (← c.self.view_is) at c.requires.outer) (rw (← c.self.view_is) at c.requires.leaves) (rw (← c.self.view_is) at c.requires.room) in
+    omega (arith, is.radius)
 
 pub invariant_of-self : goal.invariant_of-self
 invariant_of-self g c =
-    let step = growth _ _ _ c.args.node c.args.k c.in-Some.place c.self.invariant c.limits.ensures
-    (read_place c.self.inside.nodes.items _ c.args.node (Some c.in-Some.place) c.deref.ensures.value c.in-Some.ensures)
-    (rw (← c.self.view_is) at c.requires.leaves) (rw (← c.self.view_is) at c.requires.room) in
-    rw (c.thicken.ensures, read_node c.self.inside.nodes.items c.in-Some.place _ step.below c.index_mut.ensures.value) step.kept
+    (growth _ _ _ c.self.invariant c.limits.ensures c.args.node c.args.k c.in-Some.place _ (read_place c.self.inside.regions.items _ c.args.node (Some c.in-Some.place) c.deref.ensures.value c.in-Some.ensures) c.index_mut-region.ensures.value
+    (rw (← c.self.view_is) at c.requires.outer) (rw (← c.self.view_is) at c.requires.leaves) (rw (← c.self.view_is) at c.requires.room)).kept
 
-pub returns-clause-ok : goal.returns-clause-ok
-returns-clause-ok g c =
-    let step = growth _ _ _ c.args.node c.args.k c.in-Some.place c.self.invariant c.limits.ensures
-    (read_place c.self.inside.nodes.items _ c.args.node (Some c.in-Some.place) c.deref.ensures.value c.in-Some.ensures)
-    (rw (← c.self.view_is) at c.requires.leaves) (rw (← c.self.view_is) at c.requires.room) in
-    rw (← c.self.view_is, c.thicken.ensures, read_node c.self.inside.nodes.items c.in-Some.place _ step.below c.index_mut.ensures.value, step.change) refl
+pub returns : goal.returns
+returns g c =
+    let is =
+    growth _ _ _ c.self.invariant c.limits.ensures c.args.node c.args.k c.in-Some.place _ (read_place c.self.inside.regions.items _ c.args.node (Some c.in-Some.place) c.deref.ensures.value c.in-Some.ensures) c.index_mut-region.ensures.value
+    (rw (← c.self.view_is) at c.requires.outer) (rw (← c.self.view_is) at c.requires.leaves) (rw (← c.self.view_is) at c.requires.room) in
+    rw (← c.self.view_is) (ap (λ ns. record { scope = c.self.inside.scope; nodes = ns }) is.change)

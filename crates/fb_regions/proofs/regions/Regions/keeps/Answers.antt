@@ -1,5 +1,4 @@
-use Rattle.fb_regions.proofs.Duals.{dual}
 use Rattle.fb_regions.proofs.regions.Regions.keeps.Goals as goal
 
-pub returns : goal.returns
-returns g c = rw (← c.self.view_is) (dual _ _ _ c.self.invariant c.limits.ensures)
+pub returns-clause-walks : goal.returns-clause-walks
+returns-clause-walks g c = rw (← c.self.view_is) c.self.invariant.walks

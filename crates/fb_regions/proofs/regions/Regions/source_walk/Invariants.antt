@@ -1,4 +1,4 @@
-use Rattle.fb_regions.specs.Kept.{mark_of}
+use Rattle.fb_regions.specs.InternalNodes.{mark_of}
 use Rattle.fb_regions.proofs.Backward.{IsBack, the_mark}
 use Rattle.fb_regions.proofs.regions.Regions.source_walk.Given as goal
 

@@ -1,6 +1,6 @@
-use Rattle.std.proofs.Common.{◌≡◌, ◌<◌, Some, length, sym, ap, ◌∙◌, arith, rules}
+use Rattle.std.proofs.Common.{◌<◌, Some, length, sym, ap, ◌∙◌, rules}
 use Rattle.fb_trees.specs.Branches.{entries_of, entry_of}
-use Rattle.fb_trees.specs.InternalPlaces.{branch_at, place_of}
+use Rattle.fb_trees.specs.InternalPlaces.{branch_at}
 use Rattle.fb_trees.proofs.Lookups.{branch_in, no_branch, place_in}
 use Rattle.fb_trees.proofs.tree.Tree.branch_of.Goals as goal
 

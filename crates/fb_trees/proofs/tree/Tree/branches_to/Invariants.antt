@@ -1,6 +1,5 @@
 use Rattle.std.proofs.Common.{length}
 use Rattle.fb_laws.specs.Trees.{path_to}
-use Rattle.fb_trees.specs.Rooted.{IsRooted}
 use Rattle.fb_trees.proofs.Paths.{HasPassed}
 use Rattle.fb_trees.proofs.tree.Tree.branches_to.Given as goal
 

@@ -1,5 +1,0 @@
-use Rattle.fb_laws.proofs.NestedStates.{nested_free}
-use Rattle.fb_laws.proofs.nested.nested_free.Goals as goal
-
-pub returns : goal.returns
-returns c = nested_free

@@ -1,5 +1,0 @@
-use Rattle.fb_laws.proofs.NestedStates.{nested_joined}
-use Rattle.fb_laws.proofs.nested.nested_joined.Goals as goal
-
-pub returns : goal.returns
-returns c = nested_joined

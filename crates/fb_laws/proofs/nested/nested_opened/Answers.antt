@@ -1,5 +1,0 @@
-use Rattle.fb_laws.proofs.NestedStates.{nested_opened}
-use Rattle.fb_laws.proofs.nested.nested_opened.Goals as goal
-
-pub returns : goal.returns
-returns c = nested_opened

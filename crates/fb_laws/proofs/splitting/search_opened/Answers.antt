@@ -1,5 +1,0 @@
-use Rattle.fb_laws.proofs.OpenedTrees.{search_opened}
-use Rattle.fb_laws.proofs.splitting.search_opened.Goals as goal
-
-pub returns : goal.returns
-returns c = search_opened

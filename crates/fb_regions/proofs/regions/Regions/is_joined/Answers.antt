@@ -1,0 +1,20 @@
+use Rattle.std.proofs.Common.{◌≡◌, ◌==◌, not, ap, ◌∙◌, sym, Some, None, false, true}
+use Rattle.fb_graph.specs.Dual.{is_empty, is_live}
+use Rattle.fb_regions.specs.InternalNodes.{nodes_of}
+use Rattle.fb_regions.proofs.Found.{found, not_found, read_place}
+use Rattle.fb_regions.proofs.Readings.{empty_as_length}
+use Rattle.fb_regions.proofs.regions.Regions.is_joined.Goals as goal
+
+pub unreachable-requires : goal.unreachable-requires
+unreachable-requires g c =
+    let live : is_live (nodes_of c.self.inside.marks.items c.self.inside.regions.items) c.args.node ≡ true = rw (← c.self.view_is) at c.requires in
+    let gone : is_live (nodes_of c.self.inside.marks.items c.self.inside.regions.items) c.args.node ≡ false =
+    not_found c.self.inside.marks.items c.self.inside.regions.items c.args.node
+    (read_place c.self.inside.regions.items _ c.args.node None c.deref.ensures.value c.in_default.ensures) in
+    cc
+
+pub returns : goal.returns
+returns g c =
+    let at = found c.self.inside.marks.items c.self.inside.regions.items c.args.node c.in-Some.place _
+    (read_place c.self.inside.regions.items _ c.args.node (Some c.in-Some.place) c.deref.ensures.value c.in-Some.ensures) c.index.ensures in
+    rw (← c.self.view_is) (ap not (c.is_empty.ensures ∙ (ap (λ k. k == 0) c.index.result.now.children.ok.0 ∙ empty_as_length c.index.result.now.children.items)) ∙ ap (λ n. not (is_empty n.children)) at.is)

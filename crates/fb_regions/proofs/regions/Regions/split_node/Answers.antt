@@ -1,0 +1,46 @@
+use Rattle.std.proofs.Common.{◌≡◌, length, ap, ◌∙◌, sym, Some, None, false, true}
+use Rattle.std.specs.List.{remove}
+use Rattle.fb_graph.specs.Dual.{is_live}
+use Rattle.fb_regions.specs.InternalNodes.{adopted, nodes_of}
+use Rattle.fb_regions.proofs.Found.{mapped_back, not_found, read_place}
+use Rattle.fb_regions.proofs.Split.{kept_split, split_nodes}
+use Rattle.fb_regions.proofs.regions.Regions.split_node.Goals as goal
+
+pub unreachable-requires : goal.unreachable-requires
+unreachable-requires g c =
+    let may = rw (← c.self.view_is) at c.requires in
+    let live : is_live (nodes_of c.self.inside.marks.items c.self.inside.regions.items) c.args.node ≡ true = may.live in
+    let gone : is_live (nodes_of c.self.inside.marks.items c.self.inside.regions.items) c.args.node ≡ false =
+    not_found c.self.inside.marks.items c.self.inside.regions.items c.args.node
+    (read_place c.self.inside.regions.items _ c.args.node None c.deref.ensures.value c.in_default.ensures) in
+    cc
+
+pub invariant_of-self : goal.invariant_of-self
+invariant_of-self g c =
+    rw (
+      c.adopt.ensures,
+      c.deref_mut.ensures.value,
+      c.as_slice.ensures.value,
+      c.remove-blossom.ensures.items,
+      mapped_back (adopted c.remove-blossom.result.children.items None) (remove c.self.inside.regions.items c.in-Some.place) c.remove-blossom.new.self.len
+          (c.remove-blossom.new.self.ok.0 ∙ ap length c.remove-blossom.ensures.items),
+    )
+    (kept_split _ _ _ c.self.invariant c.args.node c.in-Some.place c.remove-blossom.result
+    (read_place c.self.inside.regions.items _ c.args.node (Some c.in-Some.place) c.deref.ensures.value c.in-Some.ensures) c.remove-blossom.ensures.value
+    (rw (← c.self.view_is) at c.requires))
+
+pub returns-clause-ok : goal.returns-clause-ok
+returns-clause-ok g c =
+    rw (
+      ← c.self.view_is,
+      c.adopt.ensures,
+      c.deref_mut.ensures.value,
+      c.as_slice.ensures.value,
+      c.remove-blossom.ensures.items,
+      mapped_back (adopted c.remove-blossom.result.children.items None) (remove c.self.inside.regions.items c.in-Some.place) c.remove-blossom.new.self.len
+          (c.remove-blossom.new.self.ok.0 ∙ ap length c.remove-blossom.ensures.items),
+    )
+    (ap (λ ns. record { scope = c.self.inside.scope; nodes = ns })
+    (split_nodes _ _ _ c.self.invariant c.args.node c.in-Some.place c.remove-blossom.result
+    (read_place c.self.inside.regions.items _ c.args.node (Some c.in-Some.place) c.deref.ensures.value c.in-Some.ensures) c.remove-blossom.ensures.value
+    (rw (← c.self.view_is) at c.requires)))

@@ -1,0 +1,13 @@
+//! Which links of a tree are kept by its moves, told by their numbers.
+
+ghost use Rattle.fb_laws.specs.LinkNumbers.{BranchesCounted, CycleCounted, LinksEnded, LinksJoined, LinksOpened};
+
+/// Where a search ends each link of its tree is matched or dropped; where a cycle is joined its links leave the tree,
+/// and where a minus blossom is opened those of the way join it.
+pub fn links_moved()
+    ensures ended { LinksEnded }
+    ensures joined { LinksJoined }
+    ensures counted { CycleCounted }
+    ensures numbered { BranchesCounted }
+    ensures opened { LinksOpened }
+{}
