@@ -15,7 +15,6 @@ pub mod measures;
 pub mod met_links;
 pub mod nested;
 pub mod opening;
-pub mod part_openings;
 pub mod paths;
 pub mod ranks;
 pub mod rings;
@@ -23,7 +22,6 @@ pub mod searches;
 pub mod splitting;
 pub mod state_blossoms;
 pub mod state_measures;
-pub mod state_moves;
 pub mod state_openings;
 pub mod state_orders;
 pub mod state_rings;
@@ -45,7 +43,6 @@ pub use nested::{
     nested_opened, nested_stepped,
 };
 pub use opening::{last_level, levels};
-pub use part_openings::{ends_at_turns, opened_along, part_solved};
 pub use paths::{alternating_path, augmented};
 pub use ranks::{nodes_bounded, rank_bounded};
 pub use rings::ring_reads;
@@ -53,7 +50,6 @@ pub use searches::{search_attached, search_begins, search_ended, search_stepped,
 pub use splitting::{matching_opened, search_opened};
 pub use state_blossoms::state_joined;
 pub use state_measures::state_lowers;
-pub use state_moves::{state_attached, state_begins, state_ended, state_layers, state_stepped};
 pub use state_openings::{cycle_freed, state_opened};
 pub use state_orders::{others_stay, state_reordered};
 pub use state_rings::state_opened_along;

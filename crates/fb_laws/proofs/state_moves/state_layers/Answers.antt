@@ -1,5 +1,5 @@
 use Rattle.fb_laws.proofs.StateMoves.{state_taken_up, state_uncovered}
-use Rattle.fb_tree_laws.proofs.state_moves.state_layers.Goals as goal
+use Rattle.fb_laws.proofs.state_moves.state_layers.Goals as goal
 
 pub returns-clause-taken_up : goal.returns-clause-taken_up
 returns-clause-taken_up c = state_taken_up

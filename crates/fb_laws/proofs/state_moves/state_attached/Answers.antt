@@ -1,5 +1,5 @@
 use Rattle.fb_laws.proofs.StateMoves.{state_attached}
-use Rattle.fb_tree_laws.proofs.state_moves.state_attached.Goals as goal
+use Rattle.fb_laws.proofs.state_moves.state_attached.Goals as goal
 
 pub returns : goal.returns
 returns c = state_attached

@@ -1,5 +1,5 @@
 use Rattle.fb_laws.proofs.StateMoves.{state_ended, state_met, state_released}
-use Rattle.fb_tree_laws.proofs.state_moves.state_ended.Goals as goal
+use Rattle.fb_laws.proofs.state_moves.state_ended.Goals as goal
 
 pub returns-clause-boundary : goal.returns-clause-boundary
 returns-clause-boundary c = state_ended

@@ -1,5 +1,5 @@
 use Rattle.fb_laws.proofs.RingWays.{blossom_opened_along, even_way_round, round_begun}
-use Rattle.fb_tree_laws.proofs.part_openings.opened_along.Goals as goal
+use Rattle.fb_laws.proofs.part_openings.opened_along.Goals as goal
 
 pub returns-clause-way : goal.returns-clause-way
 returns-clause-way c = even_way_round

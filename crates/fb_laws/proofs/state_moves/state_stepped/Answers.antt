@@ -1,5 +1,5 @@
 use Rattle.fb_laws.proofs.StateMoves.{state_free, state_stepped}
-use Rattle.fb_tree_laws.proofs.state_moves.state_stepped.Goals as goal
+use Rattle.fb_laws.proofs.state_moves.state_stepped.Goals as goal
 
 pub returns-clause-free : goal.returns-clause-free
 returns-clause-free c = state_free

@@ -1,5 +1,5 @@
 use Rattle.fb_laws.proofs.SolvedParts.{level_opened, opened_perfect, part_is_best, part_solved, row_of_part}
-use Rattle.fb_tree_laws.proofs.part_openings.part_solved.Goals as goal
+use Rattle.fb_laws.proofs.part_openings.part_solved.Goals as goal
 
 pub returns-clause-level : goal.returns-clause-level
 returns-clause-level c = level_opened

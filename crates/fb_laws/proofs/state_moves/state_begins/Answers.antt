@@ -1,5 +1,5 @@
 use Rattle.fb_laws.proofs.StateMoves.{part_begins, search_from_root}
-use Rattle.fb_tree_laws.proofs.state_moves.state_begins.Goals as goal
+use Rattle.fb_laws.proofs.state_moves.state_begins.Goals as goal
 
 pub returns-clause-part : goal.returns-clause-part
 returns-clause-part c = part_begins
