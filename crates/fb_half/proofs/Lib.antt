@@ -1,3 +1,4 @@
+pub mod AgreedNodes
 pub mod Begun
 pub mod BegunParts
 pub mod Changes

@@ -1,3 +1,4 @@
+pub mod Agreements
 pub mod Beginnings
 pub mod InternalBeginnings
 pub mod InternalStandings

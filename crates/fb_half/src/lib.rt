@@ -4,6 +4,7 @@
 #![tactic(auto)]
 
 pub mod half;
+pub mod laws;
 pub mod matches;
 pub mod matching;
 pub mod parts;
@@ -11,6 +12,7 @@ mod start;
 pub mod work;
 
 pub use half::Half;
+pub use laws::outer_agreed;
 pub use matches::{Match, Standing};
 pub use matching::Matching;
 pub use parts::Parts;
