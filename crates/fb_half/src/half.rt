@@ -8,10 +8,10 @@ ghost use Rattle.fb_half.specs.Values.{HasScope, IsScopeOf, part_of};
 
 use crate::parts::Parts;
 use fb_blossoms::Blossoms;
+use fb_laws::part_solved;
 use fb_links::{LinkId, Links};
 use fb_plan::{Job, NodeScope};
 use fb_regions::Regions;
-use fb_tree_laws::part_solved;
 use std::marker::Model;
 
 /// A node of a plan with a shot, solved as if the plan ended there: a half-solved part with nothing unmatched.

@@ -11,10 +11,10 @@ use crate::parts::Parts;
 use crate::start::{own_defects, start};
 use fb_blossoms::Blossoms;
 use fb_graph::NoMemory;
+use fb_laws::state_begins;
 use fb_links::{LinkId, Links, NodeId};
 use fb_plan::{Job, NodeScope};
 use fb_regions::Regions;
-use fb_tree_laws::state_begins;
 use std::alloc::Global;
 use std::marker::Model;
 
