@@ -1,3 +1,0 @@
-pub mod InternalMarks
-pub mod Openings
-pub mod Rows

@@ -1,0 +1,171 @@
+-- The state of a search after a cycle of its tree becomes a blossom, and that less is left to do.
+use Rattle.std.proofs.Common.{ℕ, ◌≡◌, ◌==◌, ◌⊎◌, inl, inr, Bool, true, false, List, [], ◌∷◌, map, Option, if◌then◌else◌, refl, sym, ap, ◌∙◌, subst}
+use Rattle.std.specs.List.Sorted.{IsPermutation}
+use Rattle.std.proofs.lemmas.Bool.{cases_eq, eq-eqb, eqb-true, false_from_ne_true}
+use Rattle.std.proofs.lemmas.List.Sorted.{IsPermutation-map, IsPermutation-refl, IsPermutation-trans}
+use Rattle.fb_graph.specs.Parity.{is_in}
+use Rattle.fb_graph.specs.Problem.{Problem}
+use Rattle.fb_graph.specs.Laws.{Link}
+use Rattle.fb_graph.specs.Moves.{joined}
+use Rattle.fb_graph.specs.Steps.{Roles}
+use Rattle.fb_graph.proofs.Sets.{is_in-head, is_in-tail}
+use Rattle.fb_links.specs.declared.cycle.CycleStep.{CycleStep}
+use Rattle.fb_links.specs.declared.walk.Step.{Step}
+use Rattle.fb_blossoms.specs.Nodes.{Adds, cycle_of}
+use Rattle.fb_blossoms.specs.Nodes as blossoms
+use Rattle.fb_laws.specs.Measures.{IsLower}
+use Rattle.fb_laws.specs.PartStates.{SearchState, IsSearchState}
+use Rattle.fb_laws.specs.SearchBlossoms.{joined_tree, renamed}
+use Rattle.fb_laws.specs.SearchLayers.{left_to_do}
+use Rattle.fb_laws.specs.StateBlossoms.{MayClose, joined_state, with_cycle}
+use Rattle.fb_laws.specs.TreeCycles.{ArePaths, cycle_links, cycle_nodes, last_plus}
+use Rattle.fb_laws.specs.Trees.{EntryOf, minus_names, plus_names, roles_of}
+use Rattle.fb_laws.proofs.StateBlossoms.{state_closed}
+use Rattle.fb_laws.proofs.StateMeasures.{closed_less}
+use Rattle.fb_laws.proofs.StateOrders.{search_reordered}
+use Rattle.fb_trees.proofs.Mapped.{cycle_links_moved, cycle_moved, joined_moved, last_moved, minus_moved, paths_moved, plus_moved}
+use Rattle.fb_half.specs.Translations.{cycles_by, entry_by, link_by}
+
+abbrev roles_from : List ℕ → List ℕ → Roles
+roles_from plus minus = record { is_plus = is_in plus; is_minus = is_in minus }
+
+roles_moved : (links : List (Option (List Step))) (root : ℕ) (branches : List (EntryOf ℕ))
+    → roles_of root (map (entry_by links) branches) ≡ roles_of root branches
+roles_moved links root branches =
+    ap (λ ps. roles_from ps (minus_names (map (entry_by links) branches))) (plus_moved (link_by links) root branches)
+    ∙ ap (roles_from (plus_names root branches)) (minus_moved (link_by links) branches)
+
+same_names : (joins : ℕ → Bool) (name : ℕ) (ns : List ℕ) → ((n : ℕ) → is_in ns n ≡ true → joins n ≡ false)
+    → map (renamed joins name) ns ≡ ns
+same_names joins name [] out = refl
+same_names joins name (n ∷ ns) out =
+    ap (λ b. (if b then name else n) ∷ map (renamed joins name) ns) (out n (is_in-head n ns))
+    ∙ ap (λ l. n ∷ l) (same_names joins name ns (λ k there. out k (is_in-tail n ns k there)))
+
+module _ (p : Problem) (s : SearchState) (links : List (Option (List Step))) (branches : List (EntryOf ℕ))
+    (tree_is : s.tree ≡ map (entry_by links) branches) (name a b closing : ℕ) (shared up down : List (EntryOf ℕ))
+    (may : MayClose p s name a b (link_by links closing)) (paths : ArePaths branches a b shared up down)
+    (state : IsSearchState p s) where
+  abbrev cycle : List ℕ
+  cycle = last_plus s.root shared ∷ cycle_nodes up down
+
+  abbrev moved_cycle : List ℕ
+  moved_cycle = last_plus s.root (map (entry_by links) shared) ∷ cycle_nodes (map (entry_by links) up) (map (entry_by links) down)
+
+  abbrev moved_links : List Link
+  moved_links = cycle_links (map (entry_by links) up) (link_by links closing) (map (entry_by links) down)
+
+  same_cycle : moved_cycle ≡ cycle
+  same_cycle =
+      ap (λ n. n ∷ cycle_nodes (map (entry_by links) up) (map (entry_by links) down)) (last_moved (link_by links) s.root shared)
+      ∙ ap (λ ns. last_plus s.root shared ∷ ns) (cycle_moved (link_by links) up down)
+
+  paths_of : ArePaths s.tree a b (map (entry_by links) shared) (map (entry_by links) up) (map (entry_by links) down)
+  paths_of =
+      subst
+      (λ t. ArePaths t a b (map (entry_by links) shared) (map (entry_by links) up) (map (entry_by links) down))
+      (sym tree_is) (paths_moved (link_by links) branches a b shared up down paths)
+
+  tree_after : joined_tree (is_in cycle) name s.tree ≡ map (entry_by links) (joined_tree (is_in cycle) name branches)
+  tree_after =
+      ap (joined_tree (is_in cycle) name) tree_is ∙ joined_moved (link_by links) (is_in cycle) name branches
+
+  -- The state after it, with the links of the blossom kept in the store.
+  pub state_after : (old new : List (Option blossoms.Node)) (steps : List CycleStep) (beside unmatched : List ℕ)
+      → ((n : ℕ) → s.cycles n ≡ cycles_by links old n) → map (λ c. c.link) steps ≡ cycle_links up closing down
+      → Adds old new name (blossoms.blossom old steps) → IsPermutation s.unmatched (s.root ∷ beside)
+      → ((n : ℕ) → is_in beside n ≡ true → is_in cycle n ≡ false)
+      → IsPermutation (renamed (is_in cycle) name s.root ∷ beside) unmatched
+      → IsSearchState p
+      (record {
+        nodes = joined name cycle s.nodes;
+        cycles = cycles_by links new;
+        tree = map (entry_by links) (joined_tree (is_in cycle) name branches);
+        rest = s.rest;
+        unmatched = unmatched;
+        root = renamed (is_in cycle) name s.root;
+        parity = s.parity;
+      })
+  state_after old new steps beside unmatched cycles_are links_are adds root_in out listed =
+      subst
+      (λ t.
+      IsSearchState p
+      (record {
+        nodes = joined name cycle s.nodes;
+        cycles = cycles_by links new;
+        tree = t;
+        rest = s.rest;
+        unmatched = unmatched;
+        root = renamed (is_in cycle) name s.root;
+        parity = s.parity;
+      }))
+      tree_after
+      (subst
+      (λ c.
+      IsSearchState p
+      (record {
+        nodes = joined name c s.nodes;
+        cycles = cycles_by links new;
+        tree = joined_tree (is_in c) name s.tree;
+        rest = s.rest;
+        unmatched = unmatched;
+        root = renamed (is_in c) name s.root;
+        parity = s.parity;
+      }))
+      same_cycle
+      (search_reordered p (joined_state name moved_cycle moved_links s) (cycles_by links new) s.rest unmatched
+      (λ n live. cycles_agree n (cases_eq n name)) (IsPermutation-refl s.rest)
+      (subst (λ c. IsPermutation (map (renamed (is_in c) name) s.unmatched) unmatched) (sym same_cycle) names_moved)
+      (state_closed p s name a b (link_by links closing) (map (entry_by links) shared) (map (entry_by links) up)
+      (map (entry_by links) down) may paths_of state)))
+    where
+      names_moved : IsPermutation (map (renamed (is_in cycle) name) s.unmatched) unmatched
+      names_moved =
+          IsPermutation-trans (map (renamed (is_in cycle) name) s.unmatched)
+          (renamed (is_in cycle) name s.root ∷ beside) unmatched
+          (subst
+          (λ l. IsPermutation (map (renamed (is_in cycle) name) s.unmatched) (renamed (is_in cycle) name s.root ∷ l))
+          (same_names (is_in cycle) name beside out)
+          (IsPermutation-map (renamed (is_in cycle) name) s.unmatched (s.root ∷ beside) root_in))
+          listed
+
+      cycles_agree : (n : ℕ) → (n ≡ name) ⊎ (n ≡ name → ⊥)
+          → cycles_by links new n ≡ with_cycle name moved_links s.cycles n
+      cycles_agree n (inl e) =
+          ap (cycles_by links new) e
+          ∙ (ap (λ (o : Option blossoms.Node). map (link_by links) (map (λ c. c.link) (cycle_of o))) adds.added
+          ∙ (ap (map (link_by links)) links_are
+          ∙ (sym (cycle_links_moved (link_by links) up closing down)
+          ∙ ap (λ t. if t then moved_links else s.cycles n) (sym (eq-eqb n name e)))))
+      cycles_agree n (inr differ) =
+          ap (λ (o : Option blossoms.Node). map (link_by links) (map (λ c. c.link) (cycle_of o))) (adds.others n differ)
+          ∙ (sym (cycles_are n)
+          ∙ ap (λ t. if t then moved_links else s.cycles n)
+          (sym (false_from_ne_true (n == name) (λ same. differ (eqb-true n name same)))))
+
+  -- Less is left to do.
+  pub less_after : (free freed : Bool)
+      → IsLower
+      (left_to_do p (joined name cycle s.nodes)
+      (roles_of (renamed (is_in cycle) name s.root) (joined_tree (is_in cycle) name branches)) freed)
+      (left_to_do p s.nodes (roles_of s.root branches) free)
+  less_after free freed =
+      subst
+      (λ r.
+      IsLower
+      (left_to_do p (joined name cycle s.nodes)
+      (roles_of (renamed (is_in cycle) name s.root) (joined_tree (is_in cycle) name branches)) freed)
+      (left_to_do p s.nodes r free))
+      (ap (roles_of s.root) tree_is ∙ roles_moved links s.root branches)
+      (subst (λ r. IsLower (left_to_do p (joined name cycle s.nodes) r freed) (left_to_do p s.nodes (roles_of s.root s.tree) free))
+      (ap (roles_of (renamed (is_in cycle) name s.root)) tree_after
+      ∙ roles_moved links (renamed (is_in cycle) name s.root) (joined_tree (is_in cycle) name branches))
+      (subst
+      (λ c.
+      IsLower
+      (left_to_do p (joined name c s.nodes)
+      (roles_of (renamed (is_in c) name s.root) (joined_tree (is_in c) name s.tree)) freed)
+      (left_to_do p s.nodes (roles_of s.root s.tree) free))
+      same_cycle
+      (closed_less p s name a b (link_by links closing) (map (entry_by links) shared) (map (entry_by links) up)
+      (map (entry_by links) down) free freed may paths_of state)))

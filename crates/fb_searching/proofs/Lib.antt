@@ -1,0 +1,15 @@
+pub mod Agreed
+pub mod BegunSearches
+pub mod BranchPlaces
+pub mod CoversBefore
+pub mod JoinConditions
+pub mod JoinLinks
+pub mod JoinMatchings
+pub mod JoinStates
+pub mod KeptWatches
+pub mod Linked
+pub mod Matched
+pub mod Renamed
+pub mod Runs
+pub mod TopLayers
+pub mod WatchSteps

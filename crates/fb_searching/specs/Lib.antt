@@ -1,0 +1,5 @@
+pub mod InternalRuns
+pub mod Meetings
+pub mod Progress
+pub mod Searching
+pub mod Watching
