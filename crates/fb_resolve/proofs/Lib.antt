@@ -1,0 +1,8 @@
+pub mod Halves
+pub mod Layers
+pub mod Marking
+pub mod NumberedLinks
+pub mod Openings
+pub mod Reached
+pub mod Rings
+pub mod Roots

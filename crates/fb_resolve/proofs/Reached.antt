@@ -1,0 +1,128 @@
+-- Closed marks that begin at the leaf of a defect are on all nodes that hold it.
+use Rattle.std.proofs.Common.{◌≡◌, ◌≢◌, inl, inr, ℕ, zero, suc, ◌+◌, ◌<◌, ◌≤◌, ◌==◌, ◌⊎◌, ◌||◌, Bool, true, false, List, [], ◌∷◌, ◌++◌, length, Option, Some, None, flat_map, refl, sym, ◌∙◌, ap, arith}
+use Rattle.std.proofs.lemmas.Bool.{both_ways, eq-eqb, eqb-true, or_cases, or_left, or_right}
+use Rattle.std.proofs.lemmas.List.{length-append}
+use Rattle.fb_links.specs.declared.cycle.CycleStep.{CycleStep}
+use Rattle.fb_blossoms.specs.Nodes.{IsNested, IsOddCycle, Node, cycle_at, cycle_of, defects_at, defects_along, defects_of, is_in, is_on, leaf, node_at}
+use Rattle.fb_blossoms.proofs.Nested.{is_in-one, one_in}
+use Rattle.fb_blossoms.proofs.Held.{from_along}
+use Rattle.fb_blossoms.proofs.Rounds.{cycle_kept}
+use Rattle.fb_resolve.specs.InternalMarks.{AreClosed, IsMarkedUp, is_marked}
+
+-- a node that holds a defect is its leaf, or one of its children holds the defect
+pub held_below : (store : List (Option Node)) (x d : ℕ) → IsNested store → is_in (defects_at store x) d ≡ true
+    → (node_at store x ≡ Some (leaf d))
+    ⊎ ((y : ℕ) × (is_on (cycle_at store x) y ≡ true) × (is_in (defects_at store y) d ≡ true))
+held_below store x d nested h = at (node_at store x) refl
+  where
+    at : (o : Option Node) → node_at store x ≡ o
+        → (node_at store x ≡ Some (leaf d))
+        ⊎ ((y : ℕ) × (is_on (cycle_at store x) y ≡ true) × (is_in (defects_at store y) d ≡ true))
+    at None e = absurd (both_ways false refl (sym (ap (λ o. is_in (defects_of o) d) e) ∙ h))
+    at (Some n) e = elim (nested.shaped x n e) [
+      | inl l ↦
+          let held : is_in (l.0 ∷ []) d ≡ true = sym (ap (λ o. is_in (defects_of o) d) (e ∙ ap Some l.1)) ∙ h in
+          inl (e ∙ ap Some (l.1 ∙ ap leaf (is_in-one l.0 d held)))
+      | inr b ↦
+          let held : is_in (defects_along store n.cycle) d ≡ true =
+          sym (ap (λ ds. is_in ds d) b.defects) ∙ (sym (ap (λ o. is_in (defects_of o) d) e) ∙ h) in
+          let r : (s : CycleStep) × (is_on n.cycle s.node ≡ true) × (is_in (defects_at store s.node) d ≡ true) =
+          from_along (λ s. defects_at store s.node) n.cycle d held in
+          inr (r.0.node, ap (λ o. is_on (cycle_of o) r.0.node) e ∙ r.1, r.2)
+    ]
+
+long : (xs : List ℕ) → xs ≢ [] → 1 ≤ length xs
+long [] h = absurd (h refl)
+long (x ∷ xs) h = omega arith
+
+-- lists that aren't empty are together at least as long as they are many
+all_long : (f : ℕ → List ℕ) (ss : List CycleStep) → ((x : ℕ) → is_on ss x ≡ true → f x ≢ [])
+    → length ss ≤ length (flat_map (λ s. f s.node) ss)
+all_long f [] some = omega arith
+all_long f (s ∷ ss) some =
+    let e : length (f s.node ++ flat_map (λ s. f s.node) ss) ≡ length (f s.node) + length (flat_map (λ s. f s.node) ss) =
+    length-append (f s.node) (flat_map (λ s. f s.node) ss) in
+    let here : 1 ≤ length (f s.node) =
+    long (f s.node) (some s.node (or_left (s.node == s.node) (is_on ss s.node) (eq-eqb s.node s.node refl))) in
+    let rest : length ss ≤ length (flat_map (λ s. f s.node) ss) =
+    all_long f ss (λ x on. some x (or_right (s.node == x) (is_on ss x) on)) in
+    omega arith
+
+-- each of them is shorter than all together by the number of the others
+shorter : (f : ℕ → List ℕ) (ss : List CycleStep) (y : ℕ) → ((x : ℕ) → is_on ss x ≡ true → f x ≢ []) → is_on ss y ≡ true
+    → length (f y) + length ss ≤ length (flat_map (λ s. f s.node) ss) + 1
+shorter f [] y some on = absurd (both_ways false refl on)
+shorter f (s ∷ ss) y some on =
+    let e : length (f s.node ++ flat_map (λ s. f s.node) ss) ≡ length (f s.node) + length (flat_map (λ s. f s.node) ss) =
+    length-append (f s.node) (flat_map (λ s. f s.node) ss) in
+    let later : (x : ℕ) → is_on ss x ≡ true → f x ≢ [] = λ x h. some x (or_right (s.node == x) (is_on ss x) h) in
+    elim (or_cases (s.node == y) (is_on ss y) on) [
+      | inl here ↦
+          let same : length (f s.node) ≡ length (f y) = ap (λ z. length (f z)) (eqb-true s.node y here) in
+          let rest : length ss ≤ length (flat_map (λ s. f s.node) ss) = all_long f ss later in
+          omega arith
+      | inr there ↦
+          let one : 1 ≤ length (f s.node) =
+          long (f s.node) (some s.node (or_left (s.node == s.node) (is_on ss s.node) (eq-eqb s.node s.node refl))) in
+          let rest : length (f y) + length ss ≤ length (flat_map (λ s. f s.node) ss) + 1 = shorter f ss y later there in
+          omega arith
+    ]
+
+child_shorter : (store : List (Option Node)) (x y : ℕ) → IsNested store → is_on (cycle_at store x) y ≡ true
+    → length (defects_at store y) < length (defects_at store x)
+child_shorter store x y nested on =
+    let kept : IsOddCycle store (cycle_at store x) × (defects_at store x ≡ defects_along store (cycle_at store x)) =
+    cycle_kept store nested x y on in
+    let less : length (defects_at store y) + length (cycle_at store x) ≤ length (defects_along store (cycle_at store x)) + 1 =
+    shorter (defects_at store) (cycle_at store x) y (λ z h. nested.holding z (kept.0.live z h)) on in
+    let same : length (defects_at store x) ≡ length (defects_along store (cycle_at store x)) = ap length kept.1 in
+    let three : 3 ≤ length (cycle_at store x) = kept.0.three in
+    omega arith
+
+none_held : (xs : List ℕ) (d : ℕ) → length xs ≤ 0 → is_in xs d ≡ true → ⊥
+none_held [] d less h = both_ways false refl h
+none_held (x ∷ xs) d less h = absurd (omega arith)
+
+pub holders_marked : (store : List (Option Node)) (marks : List Bool) (l d : ℕ) → IsNested store → AreClosed store marks
+    → node_at store l ≡ Some (leaf d) → is_marked marks l ≡ true
+    → (size x : ℕ) → length (defects_at store x) ≤ size → is_in (defects_at store x) d ≡ true → is_marked marks x ≡ true
+holders_marked store marks l d nested closed leaf_is marked zero x less h = absurd (none_held (defects_at store x) d less h)
+holders_marked store marks l d nested closed leaf_is marked (suc size) x less h =
+    elim (held_below store x d nested h) [
+      | inl e ↦ ap (is_marked marks) (nested.leaves x l d e leaf_is) ∙ marked
+      | inr r ↦
+          let smaller : length (defects_at store r.0) < length (defects_at store x) = child_shorter store x r.0 nested r.1 in
+          closed x r.0 r.1
+          (holders_marked store marks l d nested closed leaf_is marked size r.0 (omega (arith, smaller, less)) r.2)
+    ]
+
+same_tests : (a b : Bool) → (a ≡ true → b ≡ true) → (b ≡ true → a ≡ true) → a ≡ b
+same_tests true b there back = sym (there refl)
+same_tests false true there back = back refl
+same_tests false false there back = refl
+
+-- So with the nodes from a leaf up just those are marked that hold its defect.
+pub marks_up : (store : List (Option Node)) (old new : List Bool) (l d x : ℕ) → IsNested store
+    → node_at store l ≡ Some (leaf d) → IsMarkedUp store old new l
+    → is_marked new x ≡ (is_marked old x || is_in (defects_at store x) d)
+marks_up store old new l d x nested leaf_is up = same_tests (is_marked new x) (is_marked old x || is_in (defects_at store x) d) there back
+  where
+    held : is_in (defects_at store l) d ≡ true
+    held = ap (λ o. is_in (defects_of o) d) leaf_is ∙ one_in d
+
+    there : is_marked new x ≡ true → (is_marked old x || is_in (defects_at store x) d) ≡ true
+    there h = elim (up.only x h) [
+      | inl m ↦ or_left (is_marked old x) (is_in (defects_at store x) d) m
+      | inr within ↦ or_right (is_marked old x) (is_in (defects_at store x) d) (within d held)
+    ]
+
+    back : (is_marked old x || is_in (defects_at store x) d) ≡ true → is_marked new x ≡ true
+    back h = elim (or_cases (is_marked old x) (is_in (defects_at store x) d) h) [
+      | inl m ↦ up.kept x m
+      | inr holds ↦ holders_marked store new l d nested up.closed leaf_is up.marked (length (defects_at store x)) x (omega arith) holds
+    ]
+
+-- no node holds the vertex
+pub marks_none : (a b : Bool) → b ≡ false → a ≡ (a || b)
+marks_none true b e = refl
+marks_none false b e = sym e

@@ -1,0 +1,3 @@
+pub mod InternalMarks
+pub mod Openings
+pub mod Rows

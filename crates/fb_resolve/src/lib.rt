@@ -1,0 +1,11 @@
+//! From a solved root to the row of its shot.
+
+#![tactic(auto)]
+
+pub mod laws;
+mod marks;
+mod opening;
+mod rows;
+
+pub use laws::{opened_by_number, root_is_right};
+pub use rows::resolve;

@@ -1,0 +1,103 @@
+//! The row of a solved root.
+
+ghost use Rattle.std.specs.Prelude.{◌≡◌, ◌≤◌, ◌^◌, ◌++◌, true, map, flat_map, All, IfOk, OnOk};
+ghost use Rattle.fb_graph.specs.Answers.{IsRight};
+ghost use Rattle.fb_graph.specs.Certificate.{total_value};
+ghost use Rattle.fb_graph.specs.Dual.{all_cuts};
+ghost use Rattle.fb_graph.specs.Limits.{problem_of};
+ghost use Rattle.fb_links.specs.Table.{is_live, walk_at};
+ghost use Rattle.fb_plan.specs.Plans.{root_of};
+ghost use Rattle.fb_half.specs.Parts.{shot_of};
+
+use crate::opening::opened;
+use fb_graph::{Cut, NoMemory, Row, Scope, odd_ones, printed_cuts};
+use fb_half::Half;
+use fb_links::{LinkId, Links, NodeId};
+use fb_regions::Regions;
+use std::alloc::Global;
+
+/// The row of the shot of a solved root: the edges that lie on an odd number of its links, once all blossoms are
+/// opened, and the cuts of positive value, which add up to the edges' weight. Its time is that of the part's nodes, of
+/// their layers and of the links' walks.
+pub fn resolve(alloc: Global, half: &Half) -> Result<Row, NoMemory>
+    requires { half.now.node ≡ root_of half.now.job.plan }
+    ensures { IfOk result (IsRight (problem_of half.now.job.graph (shot_of half.now))) }
+{
+    half.keeps();
+    half.blossoms().keeps();
+    let names = names_of(alloc, half.regions())?;
+    let ids = opened(alloc, half.blossoms(), half.links(), &names, half.matches())?;
+    let edges = edges_of(alloc, half.links(), &ids)?;
+    let cuts = cuts_of(alloc, half.regions(), &names)?;
+    let weight = total_of(&cuts);
+    Ok(Row::Best {
+        edges: odd_ones(edges),
+        weight,
+        cuts: printed_cuts(cuts),
+    })
+}
+
+/// The names of the nodes, in the order in which they were made.
+fn names_of<S: Scope>(alloc: Global, regions: &Regions<S>) -> Result<Vec<NodeId>, NoMemory>
+    ensures { IfOk result (λ names. names.items ≡ map (λ n. n.name) regions.now.nodes) }
+{
+    let mut names = Vec::new(alloc);
+    for place in 0..regions.len() {
+        names.push(regions.name_at(place))?;
+    }
+    Ok(names)
+}
+
+/// The edges of the links' walks, one walk after another.
+fn edges_of(alloc: Global, links: &Links, ids: &[LinkId]) -> Result<Vec<u32>, NoMemory>
+    requires { All (λ id. is_live links.now id ≡ true) ids.now }
+    ensures { IfOk result (λ edges. edges.items ≡ flat_map (λ id. map (λ s. s.edge) (walk_at links.now id)) ids.now) }
+{
+    let mut edges = Vec::new(alloc);
+    for id in ids {
+        push_walk(alloc, links, &mut edges, *id)?;
+    }
+    Ok(edges)
+}
+
+/// Adds the edges of the link's walk.
+fn push_walk(alloc: Global, links: &Links, edges: &mut Vec<u32>, id: LinkId) -> Result<(), NoMemory>
+    requires { is_live links.now id ≡ true }
+    ensures { OnOk result (edges.new.items ≡ edges.old.items ++ map (λ s. s.edge) (walk_at links.now id)) }
+{
+    let walk = links.walk(alloc, id)?;
+    for step in walk.steps() {
+        edges.push(step.edge)?;
+    }
+    Ok(())
+}
+
+/// Copies of the layers of all nodes.
+fn cuts_of<S: Scope>(
+    alloc: Global,
+    regions: &Regions<S>,
+    names: &[NodeId],
+) -> Result<Vec<Cut>, NoMemory>
+    requires { names.now ≡ map (λ n. n.name) regions.now.nodes }
+    ensures { IfOk result (λ cuts. cuts.items ≡ all_cuts regions.now.nodes) }
+{
+    regions.keeps();
+    let mut cuts = Vec::new(alloc);
+    for name in names {
+        let mut layers = regions.layers(alloc, *name)?;
+        cuts.append(&mut layers)?;
+    }
+    Ok(cuts)
+}
+
+/// The sum of the cuts' values.
+fn total_of(cuts: &[Cut]) -> u64
+    requires { total_value cuts.now ≤ 2 ^ 52 }
+    ensures { result ≡ total_value cuts.now }
+{
+    let mut total = 0;
+    for cut in cuts {
+        total += cut.value;
+    }
+    total
+}
