@@ -1,5 +1,4 @@
 ghost use Rattle.std.specs.Prelude.{◌≡◌, ◌<◌, [], length, IfOk};
-ghost use Rattle.fb_plan.specs.Plans.{node_count};
 ghost use Rattle.fb_half.specs.Beginnings.{IsBegun};
 ghost use Rattle.fb_half.specs.Matchings.{match_links};
 ghost use Rattle.fb_half.specs.Parts.{IsPart};
@@ -135,8 +134,9 @@ impl<'a> Work<'a> {
         self.parts.matching.links()
     }
 
-    /// The part before any search: each defect of the shot at a real vertex of the plan's node is a node of radius 0,
-    /// and none is matched. Takes time for each vertex of the graph.
+    /// A unit's part before any search: each defect of the shot at a vertex of the unit is a node of radius 0, and none is
+    /// matched. Only a unit can begin: the part of a fusion is made of its children's. Takes time for each vertex of the
+    /// graph.
     pub fn begin(
         alloc: Global,
         job: &'a Job<'a>,
@@ -144,7 +144,7 @@ impl<'a> Work<'a> {
         node: u32,
     ) -> Result<Work<'a>, NoMemory>
         requires slot { slot < length job.now.shots }
-        requires node { node < node_count job.now.plan }
+        requires unit { node < job.now.plan.units }
         ensures { IfOk result (λ w. IsBegun job.now slot node w) }
     {
         job.keeps();

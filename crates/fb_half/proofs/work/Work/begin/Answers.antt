@@ -1,4 +1,4 @@
-use Rattle.std.proofs.Common.{◌≡◌, ◌<◌, ◌∙◌, true, [], All, sym, subst}
+use Rattle.std.proofs.Common.{◌≡◌, ◌<◌, ◌∙◌, true, [], All, sym, subst, arith}
 use Rattle.fb_graph.specs.Certificate.{AreDistinct}
 use Rattle.fb_plan.specs.Plans.{problem_at}
 use Rattle.fb_half.specs.Values.{part_of}
@@ -32,7 +32,7 @@ pub invariant_of-result : goal.invariant_of-result
 invariant_of-result c = (
   c.in_ok-parts.ensures.scope,
   begun_of (part_of c.in_ok-parts.parts) c.args.job.now c.args.slot c.args.node c.deref.result.now c.state_begins.ensures.part
-      c.in_ok-parts.ensures.job c.in_ok-parts.ensures.slot c.in_ok-parts.ensures.node c.keeps.ensures c.requires.slot c.requires.node
+      c.in_ok-parts.ensures.job c.in_ok-parts.ensures.slot c.in_ok-parts.ensures.node c.keeps.ensures c.requires.slot (omega (arith, c.requires.unit))
       (own_is c.args.job.now c.args.slot c.args.node _ _ _ _ c.graph.ensures c.plan.ensures
       (shot_read c.args.job.now c.args.slot _ _ _ c.shots.ensures c.requires.slot c.index-shots-slot.is c.as_slice.ensures.defects)
       (c.deref.ensures.value ∙ c.in_ok-own.ensures))
