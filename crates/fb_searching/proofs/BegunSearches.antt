@@ -42,14 +42,14 @@ under_root root v part watched are over = by (cover_of part.nodes v) refl over
         (cover_set part.nodes v root are.state.work.nest.dual.names (e ∙ ap (λ n. Some n) (sym same))).1
 
 -- an edge touches both its ends
-touches_first : (p : Problem) (k : ℕ) → IsWithinLimits p → k < length p.edges
+pub touches_first : (p : Problem) (k : ℕ) → IsWithinLimits p → k < length p.edges
     → touches (edge_at p.edges k).first (edge_at p.edges k) ≡ true
 touches_first p k limits less =
     let loopless = (limits.each_edge k no_edge less).loopless in
     ap (λ a. differ a ((edge_at p.edges k).first == (edge_at p.edges k).second)) (eq-eqb _ _ refl)
     ∙ ap (differ true) (ne_eqb (edge_at p.edges k).first (edge_at p.edges k).second loopless)
 
-touches_second : (p : Problem) (k : ℕ) → IsWithinLimits p → k < length p.edges
+pub touches_second : (p : Problem) (k : ℕ) → IsWithinLimits p → k < length p.edges
     → touches (edge_at p.edges k).second (edge_at p.edges k) ≡ true
 touches_second p k limits less =
     let loopless = (limits.each_edge k no_edge less).loopless in

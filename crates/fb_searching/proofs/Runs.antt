@@ -54,7 +54,7 @@ real_below w v real =
     (and_parts (is_real_in w.job.graph v) (is_owned_in w.job.plan w.node v) real).0).0
 
 -- the roles by the tree's links or by their numbers
-roles_by_numbers : (w : SearchValue)
+pub roles_by_numbers : (w : SearchValue)
     → roles_of w.tree.root (map (entry_by w.part.links) w.tree.branches) ≡ roles_of w.tree.root w.tree.branches
 roles_by_numbers w =
     rw (plus_moved (link_by w.part.links) w.tree.root w.tree.branches, minus_moved (link_by w.part.links) w.tree.branches)

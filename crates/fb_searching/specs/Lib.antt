@@ -1,3 +1,4 @@
+pub mod InternalEndings
 pub mod InternalRuns
 pub mod Meetings
 pub mod Progress

@@ -1,0 +1,65 @@
+-- Names taken off a list: what stays is the same by the law's filter and in the code's order.
+use Rattle.std.proofs.Common.{ℕ, ◌≡◌, ◌==◌, ◌||◌, ◌&&◌, ◌⊎◌, inl, inr, Bool, not, true, false, List, [], ◌∷◌, ◌++◌, refl, sym, ap, subst, ◌∙◌}
+use Rattle.std.specs.List.Sorted.{IsPermutation}
+use Rattle.std.proofs.lemmas.Bool.{cases_eq, eq-eqb, false≢true, ne_eqb}
+use Rattle.std.proofs.lemmas.List.Sorted.{IsPermutation-cons, IsPermutation-middle, IsPermutation-refl, IsPermutation-sym, IsPermutation-trans}
+use Rattle.fb_graph.specs.Parity.{is_in}
+use Rattle.fb_graph.specs.Certificate.{AreDistinct}
+use Rattle.fb_graph.proofs.Sets.{distinct-filter, is_in-cases, is_in-filter, is_in-head}
+use Rattle.fb_laws.specs.Works.{without}
+use Rattle.fb_laws.proofs.OpenedBlossoms.{distinct_permuted, same_permuted}
+
+-- where an element stands
+split_at : (ys : List ℕ) (x : ℕ) → is_in ys x ≡ true → (before : List ℕ) × (after : List ℕ) × (ys ≡ before ++ x ∷ after)
+split_at [] x within = absurd (false≢true within)
+split_at (y ∷ ys) x within = by (is_in-cases y ys x within) (λ h. split_at ys x h)
+  where
+    by : (y ≡ x) ⊎ (is_in ys x ≡ true) → (is_in ys x ≡ true → (b : List ℕ) × (a : List ℕ) × (ys ≡ b ++ x ∷ a))
+        → (before : List ℕ) × (after : List ℕ) × (y ∷ ys ≡ before ++ x ∷ after)
+    by (inl same) rest = ([], ys, ap (λ z. z ∷ ys) same)
+    by (inr there) rest = let (b, a, is) = rest there in (y ∷ b, a, ap (λ l. y ∷ l) is)
+
+-- distinct lists with the same elements differ in their order alone
+pub same_members : (xs ys : List ℕ) → AreDistinct xs → AreDistinct ys → ((v : ℕ) → is_in xs v ≡ is_in ys v) → IsPermutation xs ys
+same_members [] [] first second same = IsPermutation-refl []
+same_members [] (y ∷ ys) first second same = absurd (false≢true (same y ∙ is_in-head y ys))
+same_members (x ∷ xs) ys (new, first) second same =
+    let (b, a, is) = split_at ys x (sym (same x) ∙ is_in-head x xs) in
+    let moved : IsPermutation ys (x ∷ (b ++ a)) = subst (λ l. IsPermutation l (x ∷ (b ++ a))) (sym is) (IsPermutation-middle b x a) in
+    let apart : AreDistinct (x ∷ (b ++ a)) = distinct_permuted ys (x ∷ (b ++ a)) moved second in
+    let alike : (v : ℕ) → is_in (x ∷ xs) v ≡ is_in (x ∷ (b ++ a)) v = λ v. same v ∙ sym (same_permuted ys (x ∷ (b ++ a)) moved v) in
+    IsPermutation-trans _ _ _
+    (IsPermutation-cons x xs (b ++ a) (same_members xs (b ++ a) first apart.1 (λ v. beside (b ++ a) apart.0 v (alike v) (cases_eq x v))))
+    (IsPermutation-sym _ _ moved)
+  where
+    beside : (others : List ℕ) → is_in others x ≡ false → (v : ℕ) → is_in (x ∷ xs) v ≡ is_in (x ∷ others) v
+        → (x ≡ v) ⊎ (x ≡ v → ⊥) → is_in xs v ≡ is_in others v
+    beside others out v both (inl e) = ap (is_in xs) (sym e) ∙ (new ∙ (sym out ∙ ap (is_in others) e))
+    beside others out v both (inr ne) =
+        sym (ap (λ t. t || is_in xs v) (ne_eqb x v ne)) ∙ (both ∙ ap (λ t. t || is_in others v) (ne_eqb x v ne))
+
+and_false : (b : Bool) → (b && false) ≡ false
+and_false true = refl
+and_false false = refl
+
+and_true : (b : Bool) → (b && true) ≡ b
+and_true true = refl
+and_true false = refl
+
+-- an element taken off a distinct list
+pub without_taken : (name : ℕ) (names rest : List ℕ) → AreDistinct names → IsPermutation names (name ∷ rest)
+    → IsPermutation (without name names) rest
+without_taken name names rest distinct moved =
+    same_members (without name names) rest (distinct-filter (λ n. not (n == name)) names distinct) apart.1
+    (λ v. is_in-filter (λ n. not (n == name)) names v ∙ by v (cases_eq v name))
+  where
+    apart : (is_in rest name ≡ false) × AreDistinct rest
+    apart = distinct_permuted names (name ∷ rest) moved distinct
+
+    by : (v : ℕ) → (v ≡ name) ⊎ (v ≡ name → ⊥) → (is_in names v && not (v == name)) ≡ is_in rest v
+    by v (inl e) =
+        ap (λ t. is_in names v && not t) (eq-eqb v name e) ∙ (and_false (is_in names v) ∙ (sym apart.0 ∙ ap (is_in rest) (sym e)))
+    by v (inr ne) =
+        ap (λ t. is_in names v && not t) (ne_eqb v name ne)
+        ∙ (and_true (is_in names v)
+        ∙ (sym (same_permuted names (name ∷ rest) moved v) ∙ ap (λ t. t || is_in rest v) (ne_eqb name v (λ e. ne (sym e)))))

@@ -1,0 +1,27 @@
+-- What becomes of a tree's links where a search ends: which nodes they match then, and which are forgotten.
+use Rattle.std.specs.Prelude.{ℕ, Bool, List, [], ◌∷◌, ◌++◌, map, Option, Some, None, if◌then◌else◌, ◌≡◌}
+use Rattle.fb_graph.specs.Parity.{is_in}
+use Rattle.fb_laws.specs.Trees.{EntryOf, beside, path_to}
+use Rattle.fb_links.specs.declared.walk.Step.{Step}
+use Rattle.fb_links.specs.Table.{link_at}
+use Rattle.fb_half.specs.declared.matches.Match.{Match}
+
+-- a branch on the path to where the search ends: its parent is matched with its minus node by the link of the tree
+abbrev pub path_match : EntryOf ℕ → Match
+path_match e = record { link = e.tree; first = e.parent; second = Some e.minus }
+
+-- a branch beside the path keeps its match
+abbrev pub beside_match : EntryOf ℕ → Match
+beside_match e = record { link = e.matched; first = e.minus; second = Some e.plus }
+
+-- the matches of the tree's nodes but for the last plus node
+abbrev pub ended_matches : List (EntryOf ℕ) → ℕ → List Match
+ended_matches tree name = map path_match (path_to tree name) ++ map beside_match (beside tree name)
+
+-- what is matched where the search has ended: kept matches, those made of the tree, and the one that ends it
+abbrev pub all_matches : List Match → List (EntryOf ℕ) → ℕ → Match → List Match
+all_matches kept tree name out = kept ++ (ended_matches tree name ++ out ∷ [])
+
+-- no link has one of these numbers any more, and nothing else changes
+abbrev pub Forgets : List ℕ → List (Option (List Step)) → List (Option (List Step)) → Type 0
+Forgets ids old new = (k : ℕ) → link_at new k ≡ (if is_in ids k then None else link_at old k)
