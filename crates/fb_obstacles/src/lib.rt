@@ -8,8 +8,6 @@ mod looking;
 pub mod obstacle;
 mod scanning;
 pub mod shrinking;
-#[cfg(test)]
-mod tests;
 pub mod watching;
 
 pub use fb_regions::{NodeId, Role, Roles};
