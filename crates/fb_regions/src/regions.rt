@@ -68,6 +68,13 @@ impl<S: Scope> Regions<S> {
         let _regions = &self.regions;
     }
 
+    /// The scope.
+    pub fn scope(&self) -> &S
+        ensures { result.now ≡ self.now.scope }
+    {
+        &self.scope
+    }
+
     /// Makes the vertex a defect: a node of its own with one layer of value 0.
     pub fn open_leaf(&mut self, alloc: Global, node: NodeId, v: u32) -> Result<(), NoMemory>
         requires below { v < (S.problem self.old.scope).vertices }

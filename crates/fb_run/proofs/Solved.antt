@@ -8,7 +8,7 @@ use Rattle.fb_graph.specs.declared.parts.Row.{Row}
 use Rattle.fb_graph.specs.declared.parts.Row.TheVariants.{Best, Odd, Over}
 use Rattle.fb_graph.proofs.OddComponents.{best_has_no_odd}
 use Rattle.fb_graph.proofs.Sets.{rising-nil}
-use Rattle.fb_search.specs.Lone.{IsRowOfOne}
+use Rattle.fb_single.specs.Lone.{IsRowOfOne}
 use Rattle.fb_graph.specs.Components.{IsFirstOdd}
 use Rattle.fb_run.specs.Rows.{IsRow, IsShotRow}
 

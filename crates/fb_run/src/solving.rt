@@ -5,9 +5,13 @@ ghost use Rattle.fb_graph.specs.Components.{IsFirstOdd};
 ghost use Rattle.fb_graph.specs.Limits.{IsShot, problem_of};
 ghost use Rattle.fb_run.specs.Rows.{IsShotRow};
 
-use fb_graph::{Components, CutList, Graph, NoMemory, NumberList, Row, Shot, Whole, first_odd};
-use fb_search::search_one;
+use fb_graph::{Components, Graph, NoMemory, Row, Shot, Steps, first_odd};
+use fb_plan::{Job, Plan};
+use fb_resolve::resolve;
+use fb_unit::solve_unit;
 use std::alloc::Global;
+use std::marker::Brand;
+use std::sync::ledger::{Blank, Ledger};
 
 /// The row of a shot: odd where no correction exists, and over where it is more than this version solves.
 pub fn solve_shot(
@@ -24,29 +28,20 @@ pub fn solve_shot(
     if let Some(vertex) = first_odd(parts, shot) {
         return Ok(Row::Odd(vertex));
     }
-    solve_even(alloc, graph, shot.as_slice())
+    solve_even(alloc, graph, shot)
 }
 
 /// The row of a shot that has a correction.
-fn solve_even(alloc: Global, graph: &Graph, defects: &[u32]) -> Result<Row, NoMemory>
-    requires shot { IsShot graph.now defects.now }
-    requires even { IsFirstOdd (problem_of graph.now defects.now) None }
-    ensures { IfOk result (IsShotRow graph.now defects.now) }
-{
-    match defects {
-        [] => Ok(empty_row(alloc)),
-        [defect] => search_one(alloc, Whole(graph), *defect),
-        _ => Ok(Row::Over),
-    }
+fn solve_even(alloc: Global, graph: &Graph, shot: &Shot) -> Result<Row, NoMemory> {
+    let plan = Plan::single(alloc, graph)?;
+    let mut shots = Vec::new(alloc);
+    shots.push(shot.copy(alloc)?)?;
+    let job = Job::new(graph, &plan, shots);
+    solve_job::<Brand>(alloc, &job, Blank::new(1))
 }
 
-/// The row of a shot without defects.
-fn empty_row(alloc: Global) -> Row
-    ensures { result ≡ Row.Best [] 0 [] }
-{
-    Row::Best {
-        edges: NumberList::from_vec(Vec::new(alloc)),
-        weight: 0,
-        cuts: CutList::from_vec(Vec::new(alloc)),
-    }
+fn solve_job<L: Ledger>(alloc: Global, job: &Job, blank: Blank) -> Result<Row, NoMemory> {
+    let mut steps = Steps::<L>::new(blank);
+    let half = solve_unit(alloc, job, 0, 0, &mut steps)?;
+    resolve(alloc, &half)
 }

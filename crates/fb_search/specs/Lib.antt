@@ -1,1 +1,9 @@
-pub mod Lone
+pub mod InternalEndings
+pub mod InternalOpenings
+pub mod InternalRuns
+pub mod Meetings
+pub mod MetWalks
+pub mod Progress
+pub mod Searching
+pub mod Watching
+pub mod Went

@@ -1,11 +1,27 @@
-//! The search for a best correction: at this stage for a shot of one defect, by growing one region to the boundary.
+//! The search that matches an unmatched node of a half-solved part (Edmonds 1965): an alternating tree grows from it over
+//! the dual state, until the root is matched.
 
 #![tactic(auto)]
 
-mod growing;
-mod leaving;
-mod rows;
-#[cfg(test)]
-mod tests;
+mod advancing;
+mod attaching;
+pub mod begin;
+mod closing;
+mod ending;
+mod ends;
+pub mod layers;
+mod met;
+mod opening;
+pub mod roles;
+mod rounding;
+pub mod searches;
+pub mod searching;
+mod stepping;
+mod walks;
+pub mod watched;
+pub mod went;
 
-pub use rows::search_one;
+pub use roles::TreeRoles;
+pub use searches::{search, search_each, search_from};
+pub use searching::Searching;
+pub use went::Went;

@@ -10,7 +10,7 @@ use Rattle.fb_regions.specs.declared.roles.Role.TheVariants.{Plus, Minus, Out}
 use Rattle.fb_laws.specs.Trees.{EntryOf, minus_names, plus_names, tree_names}
 use Rattle.fb_trees.specs.declared.branch.Branch.{Branch}
 use Rattle.fb_trees.specs.Branches.{Grown, entries_of, entry_of}
-use Rattle.fb_trees.specs.Rooted.{IsRooted, role_in}
+use Rattle.fb_trees.specs.Rooted.{IsBranchAt, IsRooted, role_in}
 use Rattle.fb_trees.specs.InternalPlaces.{branch_at, place_of}
 use Rattle.fb_trees.proofs.Names.{exclusive_names, root_plus}
 
@@ -222,3 +222,45 @@ minus_role t name rooted names are = (
         other : (b : Bool) → cond b Plus Out ≡ Minus → ⊥
         other true same = cc
         other false same = cc
+
+-- the branch of a node among the branches
+record IsAmong (es : List (EntryOf ℕ)) (e : EntryOf ℕ) : Type 0 where
+  newer : List (EntryOf ℕ)
+  older : List (EntryOf ℕ)
+  there : es ≡ newer ++ e ∷ older
+
+branch_among : (es : List (EntryOf ℕ)) (name : ℕ) (e : EntryOf ℕ) → branch_at es name ≡ Some e → IsAmong es e
+branch_among [] name e is = absurd (none-some e is)
+branch_among (x ∷ xs) name e is = step (cases_Bool ((x.minus == name) || (x.plus == name))) (branch_among xs name e)
+  where
+    step : (((x.minus == name) || (x.plus == name)) ≡ true) ⊎ (((x.minus == name) || (x.plus == name)) ≡ false)
+        → (branch_at xs name ≡ Some e → IsAmong xs e) → IsAmong (x ∷ xs) e
+    step (inl h) rest =
+        let same : x ≡ e = same_Some x e (sym (ap (λ b. cond b (Some x) (branch_at xs name)) h) ∙ is) in
+        record { newer = []; older = xs; there = ap (λ y. y ∷ xs) same }
+    step (inr h) rest =
+        let there = rest (sym (ap (λ b. cond b (Some x) (branch_at xs name)) h) ∙ is) in
+        record { newer = x ∷ there.newer; older = there.older; there = ap (λ l. x ∷ l) there.there }
+
+-- a minus node has a branch, and is its minus node
+pub minus_branch : (t : Grown) (name : ℕ) (e : EntryOf ℕ) → IsRooted t.root t.branches
+    → is_in (minus_names t.branches) name ≡ true → Some e ≡ branch_at t.branches name → IsBranchAt t name e
+minus_branch t name e rooted minus is = record {
+  newer = among.newer;
+  older = among.older;
+  there = among.there;
+  minus = by (branch_nodes t.branches name e (sym is));
+}
+  where
+    among : IsAmong t.branches e
+    among = branch_among t.branches name e (sym is)
+
+    by : ((e.minus ≡ name) × (is_in (minus_names t.branches) name ≡ true))
+        ⊎ ((e.plus ≡ name) × ((root : ℕ) → is_in (plus_names root t.branches) name ≡ true)) → e.minus ≡ name
+    by (inl both) = both.0
+    by (inr both) =
+        absurd (both_ways (is_in (minus_names t.branches) name) (exclusive_names t.root t.branches rooted.names name (both.1 t.root)) minus)
+
+pub minus_has_branch : (t : Grown) (name : ℕ) → is_in (minus_names t.branches) name ≡ true → None ≡ branch_at t.branches name → ⊥
+minus_has_branch t name minus none =
+    both_ways (is_in (minus_names t.branches) name) (no_branch_plus t.root t.branches name (sym none)).1 minus

@@ -1,5 +1,5 @@
 -- What a tree keeps, and the roles that it gives (Edmonds 1965).
-use Rattle.std.specs.Prelude.{ℕ, ◌≡◌, Bool, true, false, List, [], ◌∷◌, All, if◌then◌else◌}
+use Rattle.std.specs.Prelude.{ℕ, ◌≡◌, Bool, true, false, List, [], ◌∷◌, ◌++◌, All, if◌then◌else◌}
 use Rattle.fb_graph.specs.Parity.{is_in}
 use Rattle.fb_graph.specs.Certificate.{AreDistinct}
 use Rattle.fb_regions.specs.declared.roles.Role.{Role}
@@ -24,6 +24,13 @@ IsPlus t name = is_in (plus_names t.root t.branches) name ≡ true
 -- the node is minus
 abbrev pub IsMinus : Grown → ℕ → Type 0
 IsMinus t name = is_in (minus_names t.branches) name ≡ true
+
+-- one of the branches has the node as its minus node
+pub record IsBranchAt (t : Grown) (name : ℕ) (e : EntryOf ℕ) : Type 0 where
+  pub newer : List (EntryOf ℕ)
+  pub older : List (EntryOf ℕ)
+  pub there : t.branches ≡ newer ++ e ∷ older
+  pub minus : e.minus ≡ name
 
 -- whether the node is in the tree
 abbrev pub is_node : Grown → ℕ → Bool

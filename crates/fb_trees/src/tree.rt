@@ -3,7 +3,7 @@ ghost use Rattle.std.specs.Option.{option_map};
 ghost use Rattle.fb_graph.specs.Nests.{AreMany};
 ghost use Rattle.fb_laws.specs.Trees.{beside, path_to};
 ghost use Rattle.fb_trees.specs.Branches.{Grown, entries_of, entry_of};
-ghost use Rattle.fb_trees.specs.Rooted.{IsPlus, IsRooted, attached, bare, is_node, role_in};
+ghost use Rattle.fb_trees.specs.Rooted.{IsBranchAt, IsMinus, IsPlus, IsRooted, attached, bare, is_node, role_in};
 ghost use Rattle.fb_trees.specs.Replacements.{IsOpened, IsReplaced, MayJoin, MayOpen, MayReplace, joined};
 ghost use Rattle.fb_trees.specs.TreeSteps.{IsCycle, path_up, steps_up};
 ghost use Rattle.fb_trees.specs.InternalPlaces.{branch_at};
@@ -116,6 +116,17 @@ impl Tree {
             None if node == self.root => Role::Plus,
             None => Role::Out,
         }
+    }
+
+    /// The branch of a minus node. Constant time.
+    pub fn branch(&self, minus: NodeId) -> Branch
+        requires { IsMinus self.now minus }
+        ensures { IsBranchAt self.now minus (entry_of result) }
+    {
+        let Some(branch) = self.branch_of(minus) else {
+            unreachable!()
+        };
+        branch
     }
 
     /// The nodes from a node of the tree up, each with the link to its parent. The root is not listed.

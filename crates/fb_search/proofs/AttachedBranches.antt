@@ -1,0 +1,90 @@
+-- Two matched nodes attached to a tree: what stays watched, and that less is left to do.
+use Rattle.std.proofs.Common.{ℕ, ◌≡◌, ◌<◌, ◌⊎◌, inl, inr, Bool, true, false, List, [], ◌∷◌, map, length, All, Option, Some, refl, sym, ap, ◌∙◌, subst, if◌then◌else◌}
+use Rattle.fb_graph.specs.Parity.{is_in}
+use Rattle.fb_graph.specs.Problem.{Problem, edge_at, touches}
+use Rattle.fb_graph.specs.Certificate.{AreDistinct}
+use Rattle.fb_graph.specs.Limits.{IsWithinLimits}
+use Rattle.fb_graph.specs.Covers.{is_over, passes}
+use Rattle.fb_graph.specs.Dual.{AreUnderOne, Node, cover_of, top_at}
+use Rattle.fb_graph.specs.Laws.{Link}
+use Rattle.fb_graph.specs.Steps.{Roles}
+use Rattle.fb_graph.proofs.Sets.{is_in-cases}
+use Rattle.fb_laws.specs.Measures.{IsLower}
+use Rattle.fb_laws.specs.SearchLayers.{left_to_do}
+use Rattle.fb_laws.specs.StateMoves.{MayAttach}
+use Rattle.fb_laws.specs.Trees.{Entry, EntryOf, minus_names, plus_names, roles_of}
+use Rattle.fb_laws.proofs.SearchTrees.{cover_set}
+use Rattle.fb_laws.proofs.StateMeasures.{attached_less}
+use Rattle.fb_obstacles.specs.Obstacles.{IsWatched, grows, roles_by}
+use Rattle.fb_obstacles.specs.Watched.{Watched}
+use Rattle.fb_regions.specs.declared.roles.Role.TheVariants.{Plus, Minus, Out}
+use Rattle.fb_trees.proofs.Mapped.{minus_moved, plus_moved}
+use Rattle.fb_trees.specs.Branches.{Grown}
+use Rattle.fb_trees.specs.Rooted.{attached, role_in}
+use Rattle.fb_half.specs.Translations.{entry_by, link_by}
+use Rattle.fb_search.specs.Progress.{to_do}
+use Rattle.fb_search.specs.Searching.{IsSearching, SearchValue, problem_of, state_at}
+use Rattle.fb_search.specs.Watching.{Watches}
+use Rattle.fb_search.proofs.BegunSearches.{touches_first, touches_second}
+use Rattle.fb_search.proofs.TakenVertices.{all_even, plus_over}
+use Rattle.fb_search.proofs.RolesInTree.{plus_in_tree}
+
+pub plus_of_tree : (t : Grown) (name : ℕ) → is_in (plus_names t.root t.branches) name ≡ true → grows (role_in t name) ≡ true
+plus_of_tree t name plus = by (is_in (plus_names t.root t.branches) name) plus
+  where
+    by : (b : Bool) → b ≡ true
+        → grows (if b then Plus else (if is_in (minus_names t.branches) name then Minus else Out)) ≡ true
+    by true h = refl
+    by false h = cc
+
+-- a plus node of the new tree is the new one or was plus before
+plus_before : (t : Grown) (e : EntryOf ℕ) (name : ℕ) → grows (role_in (attached t e) name) ≡ true
+    → (e.plus ≡ name) ⊎ (grows (role_in t name) ≡ true)
+plus_before t e name plus = by (is_in-cases e.plus (plus_names t.root t.branches) name (plus_in_tree (attached t e) name plus))
+  where
+    by : (e.plus ≡ name) ⊎ (is_in (plus_names t.root t.branches) name ≡ true) → (e.plus ≡ name) ⊎ (grows (role_in t name) ≡ true)
+    by (inl same) = inl same
+    by (inr old) = inr (plus_of_tree t name old)
+
+module _ (p : Problem) (t : Grown) (e : EntryOf ℕ) (nodes : List Node) (limits : IsWithinLimits p)
+    (distinct : AreDistinct (map (λ n. n.name) nodes)) (old new : Watched) (within : All (λ k. k < length p.edges) new.edges)
+    (watched : Watches p (top_at nodes e.plus) old new) (watch : IsWatched p (roles_by (role_in t)) nodes old.edges) where
+  over_before : (u : ℕ) → is_over (λ n. grows (role_in (attached t e) n)) nodes u ≡ true
+      → (is_in (top_at nodes e.plus) u ≡ true) ⊎ (is_over (λ n. grows (role_in t n)) nodes u ≡ true)
+  over_before u over =
+      let (name, covered, plus) = plus_over (λ n. grows (role_in (attached t e) n)) nodes u over in
+      by name covered (plus_before t e name plus)
+    where
+      by : (name : ℕ) → cover_of nodes u ≡ Some name → (e.plus ≡ name) ⊎ (grows (role_in t name) ≡ true)
+          → (is_in (top_at nodes e.plus) u ≡ true) ⊎ (is_over (λ n. grows (role_in t n)) nodes u ≡ true)
+      by name covered (inl same) = inl (cover_set nodes u e.plus distinct (covered ∙ ap (λ n. Some n) (sym same))).1
+      by name covered (inr plus) = inr (ap (passes (λ n. grows (role_in t n))) covered ∙ plus)
+
+  -- with the edges of the new plus node all are watched that have to be
+  pub watch_attached : IsWatched p (roles_by (role_in (attached t e))) nodes new.edges
+  watch_attached = record { within = within; near = near }
+    where
+      near : (k : ℕ) → k < length p.edges
+          → (is_over (λ n. grows (role_in (attached t e) n)) nodes (edge_at p.edges k).first ≡ true)
+          ⊎ (is_over (λ n. grows (role_in (attached t e) n)) nodes (edge_at p.edges k).second ≡ true)
+          → (AreUnderOne nodes (edge_at p.edges k).first (edge_at p.edges k).second → ⊥) → is_in new.edges k ≡ true
+      near k less (inl over) not_one = by (over_before (edge_at p.edges k).first over)
+        where
+          by : (is_in (top_at nodes e.plus) (edge_at p.edges k).first ≡ true)
+              ⊎ (is_over (λ n. grows (role_in t n)) nodes (edge_at p.edges k).first ≡ true) → is_in new.edges k ≡ true
+          by (inl here) = watched.near (edge_at p.edges k).first k here less (touches_first p k limits less)
+          by (inr before) = watched.kept k (watch.near k less (inl before) not_one)
+      near k less (inr over) not_one = by (over_before (edge_at p.edges k).second over)
+        where
+          by : (is_in (top_at nodes e.plus) (edge_at p.edges k).second ≡ true)
+              ⊎ (is_over (λ n. grows (role_in t n)) nodes (edge_at p.edges k).second ≡ true) → is_in new.edges k ≡ true
+          by (inl here) = watched.near (edge_at p.edges k).second k here less (touches_second p k limits less)
+          by (inr before) = watched.kept k (watch.near k less (inr before) not_one)
+
+-- less is left to do, whatever links the new branch has
+pub less_attached : (w : SearchValue) (are : IsSearching w) (e : Entry) (n : EntryOf ℕ) (rest : List Link)
+    → IsWithinLimits (problem_of w) → MayAttach (problem_of w) (state_at w are.state.0) e rest → n.plus ≡ e.plus → n.minus ≡ e.minus
+    → IsLower (left_to_do (problem_of w) w.part.nodes (roles_of w.tree.root (n ∷ w.tree.branches)) true) (to_do w false)
+less_attached w are e n rest limits may plus minus =
+    let less = attached_less (problem_of w) (state_at w are.state.0) e rest false true (all_even (problem_of w) limits) may are.state.1 in
+    rw (plus, minus, ← plus_moved (link_by w.part.links) w.tree.root w.tree.branches, ← minus_moved (link_by w.part.links) w.tree.branches) less

@@ -1,0 +1,177 @@
+-- Which numbers of links are live after a link is made or forgotten, and which links lead round the blossoms after nodes
+-- are joined or a blossom is opened.
+use Rattle.std.proofs.Common.{ℕ, ◌≡◌, ◌≢◌, ◌==◌, ◌||◌, ◌⊎◌, inl, inr, Bool, true, false, List, [], ◌∷◌, ◌++◌, map, Option, Some, is_some, unwrap_or, refl, sym, ap, ◌∙◌, subst, append_assoc}
+use Rattle.std.specs.List.Sorted.{IsPermutation}
+use Rattle.std.proofs.lemmas.Bool.{both_ways, cases_eq, eqb-false, eqb-true, false_from_ne_true, or_parts}
+use Rattle.std.proofs.lemmas.List.{append-nil}
+use Rattle.std.proofs.lemmas.List.Concat.{flat_map-append}
+use Rattle.std.proofs.lemmas.List.Sorted.{IsPermutation-append_comm, IsPermutation-append_left, IsPermutation-append_right, IsPermutation-trans}
+use Rattle.fb_graph.specs.Parity.{is_in}
+use Rattle.fb_graph.specs.Problem.{Problem}
+use Rattle.fb_graph.specs.Certificate.{AreDistinct}
+use Rattle.fb_graph.specs.Dual.{Node, is_live}
+use Rattle.fb_graph.specs.Moves.{blossom, joined, split}
+use Rattle.fb_graph.proofs.Among.{IsAmong, among_live}
+use Rattle.fb_graph.proofs.Members.{is_in-append}
+use Rattle.fb_graph.proofs.Places.{among_split, placed}
+use Rattle.fb_graph.proofs.Sets.{is_in-head}
+use Rattle.fb_links.specs.declared.cycle.CycleStep.{CycleStep}
+use Rattle.fb_links.specs.declared.walk.Step.{Step}
+use Rattle.fb_links.specs.Table as table
+use Rattle.fb_blossoms.specs.Nodes.{Adds, TakesOff, cycle_of, node_at}
+use Rattle.fb_blossoms.specs.Nodes as blossoms
+use Rattle.fb_blossoms.proofs.Climbs.{none_some, same_some}
+use Rattle.fb_laws.specs.LinkNumbers.{tree_links}
+use Rattle.fb_laws.specs.Trees.{EntryOf, grown_links, paired_links}
+use Rattle.fb_laws.proofs.OpenedBlossoms.{distinct_permuted, same_permuted}
+use Rattle.fb_half.specs.Parts.{AreLinksOf, AreStepsOf}
+use Rattle.fb_half.specs.Translations.{entry_by, link_by, link_of, ring_at, ring_links}
+use Rattle.fb_search.proofs.Agreed.{nodes_of}
+
+-- another number is in the longer list where it is in the shorter one
+in_rest : (id : ℕ) (ids : List ℕ) (k : ℕ) → k ≢ id → is_in (id ∷ ids) k ≡ is_in ids k
+in_rest id ids k differ =
+    ap (λ b. b || is_in ids k) (false_from_ne_true (id == k) (λ same. differ (sym (eqb-true id k same))))
+
+abbrev some_walk : Option (List Step) → Bool
+some_walk o = is_some o
+
+pub links_made : (p : Problem) (old new : List (Option (List Step))) (ids : List ℕ) (id : ℕ) (walk : List Step)
+    → AreLinksOf p old ids → table.Adds old new id walk → AreStepsOf p walk → AreLinksOf p new (id ∷ ids)
+links_made p old new ids id walk links adds steps = record {
+  distinct = (sym (links.live id) ∙ ap some_walk adds.fresh, links.distinct);
+  live = λ k. live k (cases_eq k id);
+  steps = λ k w there. kept k w there (cases_eq k id);
+}
+  where
+    live : (k : ℕ) → (k ≡ id) ⊎ (k ≡ id → ⊥) → table.is_live new k ≡ is_in (id ∷ ids) k
+    live k (inl e) =
+        ap (table.is_live new) e
+        ∙ (ap some_walk adds.added ∙ (sym (is_in-head id ids) ∙ ap (is_in (id ∷ ids)) (sym e)))
+    live k (inr differ) = ap some_walk (adds.others k differ) ∙ (links.live k ∙ sym (in_rest id ids k differ))
+
+    kept : (k : ℕ) (w : List Step) → table.link_at new k ≡ Some w → (k ≡ id) ⊎ (k ≡ id → ⊥) → AreStepsOf p w
+    kept k w there (inl e) =
+        subst (AreStepsOf p) (same_some (table.link_at new k) walk w (ap (table.link_at new) e ∙ adds.added) there) steps
+    kept k w there (inr differ) = links.steps k w (sym (adds.others k differ) ∙ there)
+
+pub links_forgotten : (p : Problem) (old new : List (Option (List Step))) (ids : List ℕ) (id : ℕ)
+    → AreLinksOf p old (id ∷ ids) → table.Removes old new id → AreLinksOf p new ids
+links_forgotten p old new ids id links gone = record {
+  distinct = links.distinct.1;
+  live = λ k. live k (cases_eq k id);
+  steps = λ k w there. kept k w there (cases_eq k id);
+}
+  where
+    live : (k : ℕ) → (k ≡ id) ⊎ (k ≡ id → ⊥) → table.is_live new k ≡ is_in ids k
+    live k (inl e) =
+        ap (table.is_live new) e ∙ (ap some_walk gone.gone ∙ (sym links.distinct.0 ∙ ap (is_in ids) (sym e)))
+    live k (inr differ) = ap some_walk (gone.others k differ) ∙ (links.live k ∙ in_rest id ids k differ)
+
+    kept : (k : ℕ) (w : List Step) → table.link_at new k ≡ Some w → (k ≡ id) ⊎ (k ≡ id → ⊥) → AreStepsOf p w
+    kept k w there (inl e) = absurd (none_some (table.link_at new k) w (ap (table.link_at new) e ∙ gone.gone) there)
+    kept k w there (inr differ) = links.steps k w (sym (gone.others k differ) ∙ there)
+
+pub links_reordered : (p : Problem) (links : List (Option (List Step))) (ids others : List ℕ) → IsPermutation ids others
+    → AreLinksOf p links ids → AreLinksOf p links others
+links_reordered p links ids others moved are = record {
+  distinct = distinct_permuted ids others moved are.distinct;
+  live = λ id. are.live id ∙ sym (same_permuted ids others moved id);
+  steps = are.steps;
+}
+
+-- the links of other numbers stay as they were
+abbrev pub AreSameBeside : List (Option (List Step)) → List (Option (List Step)) → ℕ → Type 0
+AreSameBeside old new id = (k : ℕ) → k ≢ id → table.link_at new k ≡ table.link_at old k
+
+pub link_kept : (old new : List (Option (List Step))) (id k : ℕ) → AreSameBeside old new id → k ≢ id
+    → link_by new k ≡ link_by old k
+link_kept old new id k same differ = ap (λ o. link_of (unwrap_or o [])) (same k differ)
+
+pub links_kept : (old new : List (Option (List Step))) (id : ℕ) (ids : List ℕ) → AreSameBeside old new id
+    → is_in ids id ≡ false → map (link_by new) ids ≡ map (link_by old) ids
+links_kept old new id [] same out = refl
+links_kept old new id (k ∷ ks) same out =
+    let parts = or_parts (k == id) (is_in ks id) out in
+    ap (λ l. l ∷ map (link_by new) ks) (link_kept old new id k same (eqb-false k id parts.0))
+    ∙ ap (λ ls. link_by old k ∷ ls) (links_kept old new id ks same parts.1)
+
+pub entries_kept : (old new : List (Option (List Step))) (id : ℕ) (tree : List (EntryOf ℕ)) → AreSameBeside old new id
+    → is_in (tree_links tree) id ≡ false → map (entry_by new) tree ≡ map (entry_by old) tree
+entries_kept old new id tree same out =
+    let parts = or_parts (is_in (grown_links tree) id) (is_in (paired_links tree) id)
+    (sym (is_in-append (grown_links tree) (paired_links tree) id) ∙ out) in
+    each tree parts.0 parts.1
+  where
+    each : (es : List (EntryOf ℕ)) → is_in (grown_links es) id ≡ false → is_in (paired_links es) id ≡ false
+        → map (entry_by new) es ≡ map (entry_by old) es
+    each [] grown paired = refl
+    each (e ∷ es) grown paired =
+        let first = or_parts (e.tree == id) (is_in (grown_links es) id) grown in
+        let second = or_parts (e.matched == id) (is_in (paired_links es) id) paired in
+        ap
+        (λ l. record { parent = e.parent; tree = l; minus = e.minus; matched = link_by new e.matched; plus = e.plus }
+        ∷ map (entry_by new) es)
+        (link_kept old new id e.tree same (eqb-false e.tree id first.0))
+        ∙ (ap
+        (λ l. record { parent = e.parent; tree = link_by old e.tree; minus = e.minus; matched = l; plus = e.plus }
+        ∷ map (entry_by new) es)
+        (link_kept old new id e.matched same (eqb-false e.matched id second.0))
+        ∙ ap (λ l. entry_by old e ∷ l) (each es first.1 second.1))
+
+rings_same : (old new : List (Option blossoms.Node)) (nodes : List Node)
+    → ((n : Node) → IsAmong n nodes → node_at new n.name ≡ node_at old n.name)
+    → ring_links nodes new ≡ ring_links nodes old
+rings_same old new [] same = refl
+rings_same old new (n ∷ ns) same =
+    ap (λ (o : Option blossoms.Node). map (λ s. s.link) (cycle_of o) ++ ring_links ns new) (same n (inl refl))
+    ∙ ap (λ l. ring_at old n.name ++ l) (rings_same old new ns (λ m a. same m (inr a)))
+
+-- where the nodes of a cycle are joined its links come to those round blossoms
+pub rings_joined : (nodes : List Node) (old new : List (Option blossoms.Node)) (name : ℕ) (cycle : List CycleStep)
+    → is_live nodes name ≡ false → Adds old new name (blossoms.blossom old cycle)
+    → ring_links (joined name (nodes_of cycle) nodes) new ≡ ring_links nodes old ++ map (λ s. s.link) cycle
+rings_joined nodes old new name cycle fresh adds =
+    flat_map-append (λ (n : Node). ring_at new n.name) nodes (blossom name (nodes_of cycle) nodes ∷ [])
+    ∙ (ap (λ l. l ++ (ring_at new name ++ []))
+    (rings_same old new nodes (λ n a.
+    adds.others n.name (λ e. both_ways (is_live nodes name) fresh (among_live nodes n name a e))))
+    ∙ ap (λ l. ring_links nodes old ++ l)
+    (append-nil (ring_at new name) ∙ ap (λ (o : Option blossoms.Node). map (λ s. s.link) (cycle_of o)) adds.added))
+
+-- where a blossom is opened the links round it go
+pub rings_split : (nodes : List Node) (old new : List (Option blossoms.Node)) (name : ℕ)
+    → AreDistinct (map (λ n. n.name) nodes) → is_live nodes name ≡ true → TakesOff old new name
+    → IsPermutation (ring_links nodes old) (ring_at old name ++ ring_links (split name nodes) new)
+rings_split nodes old new name distinct live gone =
+    let at = placed nodes name distinct live in
+    let front = ring_links at.before old in
+    let back = ring_links at.after old in
+    let whole : ring_links nodes old ≡ front ++ (ring_at old name ++ back) =
+    ap (λ ns. ring_links ns old) at.whole
+    ∙ (flat_map-append (λ (n : Node). ring_at old n.name) at.before (at.node ∷ at.after)
+    ∙ ap (λ x. front ++ (ring_at old x ++ back)) at.named) in
+    let rest : ring_links (split name nodes) new ≡ front ++ back =
+    rings_same old new (split name nodes) (λ n a. gone.others n.name (among_split name nodes n a).1)
+    ∙ (ap (λ ns. ring_links ns old) at.removed
+    ∙ flat_map-append (λ (n : Node). ring_at old n.name) at.before at.after) in
+    subst (λ l. IsPermutation l (ring_at old name ++ ring_links (split name nodes) new)) (sym whole)
+    (subst (λ l. IsPermutation (front ++ (ring_at old name ++ back)) (ring_at old name ++ l)) (sym rest)
+    (subst (λ l. IsPermutation l (ring_at old name ++ (front ++ back))) (append_assoc front (ring_at old name) back)
+    (subst (IsPermutation ((front ++ ring_at old name) ++ back)) (append_assoc (ring_at old name) front back)
+    (IsPermutation-append_left back (front ++ ring_at old name) (ring_at old name ++ front)
+    (IsPermutation-append_comm front (ring_at old name))))))
+
+-- where a cycle is closed by a further link, the numbers that are live then: those of the tree that are left, of the
+-- matches, and round blossoms, the cycle's among them
+pub closed_numbers : (closing : ℕ) (tree after cycle matches rings : List ℕ)
+    → IsPermutation (closing ∷ tree) (after ++ cycle)
+    → IsPermutation (closing ∷ (tree ++ (matches ++ rings))) (after ++ (matches ++ (rings ++ cycle)))
+closed_numbers closing tree after cycle matches rings moved =
+    IsPermutation-trans (closing ∷ (tree ++ (matches ++ rings))) ((after ++ cycle) ++ (matches ++ rings))
+    (after ++ (matches ++ (rings ++ cycle)))
+    (IsPermutation-append_left (matches ++ rings) (closing ∷ tree) (after ++ cycle) moved)
+    (subst (λ l. IsPermutation l (after ++ (matches ++ (rings ++ cycle)))) (sym (append_assoc after cycle (matches ++ rings)))
+    (IsPermutation-append_right after (cycle ++ (matches ++ rings)) (matches ++ (rings ++ cycle))
+    (subst (IsPermutation (cycle ++ (matches ++ rings))) (append_assoc matches rings cycle)
+    (IsPermutation-append_comm cycle (matches ++ rings)))))

@@ -1,0 +1,147 @@
+-- A search whose nodes have other layers over the same defects keeps what every search keeps.
+use Rattle.std.proofs.Common.{ℕ, ◌≡◌, ◌==◌, ◌<◌, ◌⊎◌, inl, inr, Bool, true, false, List, [], ◌∷◌, ◌++◌, map, flat_map, length, All, Option, Some, None, IsSome, refl, sym, ap, ◌∙◌, subst, if◌then◌else◌}
+use Rattle.std.proofs.lemmas.List.Elements.{All-cons, All-head, All-map, All-nil, All-tail, All-weaker}
+use Rattle.fb_graph.specs.Parity.{is_in}
+use Rattle.fb_graph.specs.Problem.{Problem, edge_at}
+use Rattle.fb_graph.specs.Laws.{Link}
+use Rattle.fb_graph.specs.Alike.{AreAlike}
+use Rattle.fb_graph.specs.Dual.{AreUnderOne, IsDual, Node, cover_of, defects_of, is_empty, is_live, is_outer, leaves}
+use Rattle.fb_graph.specs.Nests.{first_set}
+use Rattle.fb_graph.proofs.Among.{All_among, among_All}
+use Rattle.fb_graph.proofs.MappedNodes.{AreKept, mapped_outer}
+use Rattle.fb_blossoms.specs.Nodes.{defects_at}
+use Rattle.fb_blossoms.specs.Nodes as blossoms
+use Rattle.fb_links.specs.declared.walk.Step.{Step}
+use Rattle.fb_laws.specs.Opening.{EndAtDefects}
+use Rattle.fb_laws.specs.PartStates.{IsSearchState}
+use Rattle.fb_laws.specs.Searches.{LeavesNode}
+use Rattle.fb_laws.specs.Trees.{Connects, paired_links}
+use Rattle.fb_laws.proofs.CycleMoves.{live_mapped}
+use Rattle.fb_laws.specs.LinkNumbers.{tree_links}
+use Rattle.fb_half.specs.Matchings.{IsMatchOf, IsMatchingOf, MatchingValue, listed_names, match_links}
+use Rattle.fb_half.specs.Parts.{AreAgreed, AreLinksOf, PartValue}
+use Rattle.fb_half.specs.Translations.{children_at, link_by, ring_at, ring_links}
+use Rattle.fb_half.specs.declared.matches.Match.{Match}
+use Rattle.fb_laws.specs.StateMoves.{relayered}
+use Rattle.fb_laws.specs.TreeCycles.{nodes_along}
+use Rattle.fb_obstacles.specs.Obstacles.{IsWatched}
+use Rattle.fb_obstacles.specs.Watched.{Watched}
+use Rattle.fb_search.specs.Searching.{IsSearching, SearchValue, problem_of, roles_in, state_at}
+
+abbrev At : Problem → List ℕ → Link → Type 0
+At p defects l = (p.is_real l.from ≡ true → is_in defects l.from ≡ true) × (p.is_real l.to ≡ true → is_in defects l.to ≡ true)
+
+module _ (f : Node → Node) (nodes : List Node) (kept : AreKept f nodes) where
+  live_kept : (x : ℕ) → is_live (map f nodes) x ≡ is_live nodes x
+  live_kept = live_mapped f kept.name nodes
+
+  outer_kept : (x : ℕ) → is_outer (map f nodes) x ≡ is_outer nodes x
+  outer_kept = mapped_outer f kept.children nodes
+
+  defects_kept : (n : Node) → first_set (f n) ≡ first_set n → defects_of (f n) ≡ defects_of n
+  defects_kept n first =
+      ap (λ l. if is_empty l then first_set (f n) else []) (kept.children n)
+      ∙ ap (λ l. if is_empty n.children then l else []) first
+
+  pub agreed_relayered : (store : List (Option blossoms.Node)) → AreAgreed nodes store → AreAgreed (map f nodes) store
+  agreed_relayered store agreed = record {
+    live = λ x. live_kept x ∙ agreed.live x;
+    children =
+        All-map (λ n. n.children ≡ children_at store n.name) f nodes
+        (All-weaker (λ n. n.children ≡ children_at store n.name) (λ n. (f n).children ≡ children_at store (f n).name)
+        (λ n same. kept.children n ∙ (same ∙ ap (children_at store) (sym (kept.name n)))) nodes agreed.children);
+    leaves =
+        All-map (λ n. is_empty n.children ≡ true → defects_of n ≡ defects_at store n.name) f nodes
+        (among_All (λ n. is_empty (f n).children ≡ true → defects_of (f n) ≡ defects_at store (f n).name) nodes
+        (λ n a none.
+        defects_kept n (All_among (λ m. first_set (f m) ≡ first_set m) nodes kept.first n a)
+        ∙ (All_among (λ m. is_empty m.children ≡ true → defects_of m ≡ defects_at store m.name) nodes agreed.leaves n a
+        (ap is_empty (sym (kept.children n)) ∙ none)
+        ∙ ap (defects_at store) (sym (kept.name n)))));
+  }
+
+  pub ring_relayered : (store : List (Option blossoms.Node)) → ring_links (map f nodes) store ≡ ring_links nodes store
+  ring_relayered store = by nodes
+    where
+      by : (ns : List Node) → ring_links (map f ns) store ≡ ring_links ns store
+      by [] = refl
+      by (n ∷ ns) =
+          ap (λ x. ring_at store x ++ ring_links (map f ns) store) (kept.name n) ∙ ap (λ l. ring_at store n.name ++ l) (by ns)
+
+module _ (p : Problem) (nodes others : List Node) (alike : AreAlike nodes others) (dual : IsDual p nodes) where
+  cover_kept : (v name : ℕ) → (p.is_real v ≡ true → is_in (leaves nodes) v ≡ true) → cover_of nodes v ≡ Some name
+      → cover_of others v ≡ Some name
+  cover_kept v name at cover = alike.covers v (at (dual.real v (subst IsSome (sym cover) refl))) ∙ cover
+
+  connects_kept : (l : Link) (a b : ℕ) → At p (leaves nodes) l → Connects nodes l a b → Connects others l a b
+  connects_kept l a b (at_from, at_to) (inl (from, to)) = inl (cover_kept l.from a at_from from, cover_kept l.to b at_to to)
+  connects_kept l a b (at_from, at_to) (inr (to, from)) = inr (cover_kept l.to a at_to to, cover_kept l.from b at_from from)
+
+  leaves_kept : (l : Link) (a v : ℕ) → At p (leaves nodes) l → LeavesNode nodes l a v → LeavesNode others l a v
+  leaves_kept l a v (at_from, at_to) (inl (cover, end)) = inl (cover_kept l.from a at_from cover, end)
+  leaves_kept l a v (at_from, at_to) (inr (cover, end)) = inr (cover_kept l.to a at_to cover, end)
+
+  match_kept : (l : Link) (a : ℕ) (second : Option ℕ) → At p (leaves nodes) l → IsMatchOf p nodes l a second
+      → IsMatchOf p others l a second
+  match_kept l a None at (v, leaves_node, real) = (v, leaves_kept l a v at leaves_node, real)
+  match_kept l a (Some b) at connects = connects_kept l a b at connects
+
+  pub matches_kept : (links : List (Option (List Step))) (matches : List Match)
+      → EndAtDefects p (leaves nodes) (map (link_by links) (match_links matches))
+      → All (λ e. IsMatchOf p nodes (link_by links e.link) e.first e.second) matches
+      → All (λ e. IsMatchOf p others (link_by links e.link) e.first e.second) matches
+  matches_kept links [] at are = All-nil (λ e. IsMatchOf p others (link_by links e.link) e.first e.second)
+  matches_kept links (m ∷ ms) at are =
+      All-cons (λ e. IsMatchOf p others (link_by links e.link) e.first e.second) m ms
+      (match_kept (link_by links m.link) m.first m.second
+      (All-head (At p (leaves nodes)) (link_by links m.link) (map (link_by links) (match_links ms)) at)
+      (All-head (λ e. IsMatchOf p nodes (link_by links e.link) e.first e.second) m ms are))
+      (matches_kept links ms
+      (All-tail (At p (leaves nodes)) (link_by links m.link) (map (link_by links) (match_links ms)) at)
+      (All-tail (λ e. IsMatchOf p nodes (link_by links e.link) e.first e.second) m ms are))
+
+pub matching_relayered : (p : Problem) (f : Node → Node) (nodes : List Node) (links : List (Option (List Step)))
+    (m : MatchingValue) (outside : List ℕ) → AreKept f nodes → AreAlike nodes (map f nodes) → IsDual p nodes
+    → EndAtDefects p (leaves nodes) (map (link_by links) (match_links m.matches)) → IsMatchingOf p nodes links m outside
+    → IsMatchingOf p (map f nodes) links m outside
+matching_relayered p f nodes links m outside kept alike dual at are = record {
+  distinct = are.distinct;
+  live = λ x listed. (live_kept f nodes kept x ∙ (are.live x listed).0, outer_kept f nodes kept x ∙ (are.live x listed).1);
+  all = λ x live outer.
+      are.all x (sym (live_kept f nodes kept x) ∙ live) (sym (outer_kept f nodes kept x) ∙ outer);
+  connects = matches_kept p nodes (map f nodes) alike dual links m.matches at are.connects;
+}
+
+-- the other matched links, beside those of the tree
+pub all_after : {X : Type 0} (P : X → Type 0) (xs ys : List X) → All P (xs ++ ys) → All P ys
+all_after P [] ys all = all
+all_after P (x ∷ xs) ys all = all_after P xs ys (All-tail P x (xs ++ ys) all)
+
+-- the search with its nodes in other layers, and with other edges watched
+abbrev pub relayered_by : (Node → Node) → Watched → SearchValue → SearchValue
+relayered_by f watched w = record w { part = record w.part { nodes = map f w.part.nodes }; watched = watched }
+
+pub searching_relayered : (w : SearchValue) (f : Node → Node) (watched : Watched) (are : IsSearching w)
+    → AreKept f w.part.nodes → AreAlike w.part.nodes (map f w.part.nodes)
+    → IsSearchState (problem_of w) (relayered (map f w.part.nodes) (state_at w are.state.0))
+    → watched.edge_count ≡ w.watched.edge_count
+    → IsWatched (problem_of w) (roles_in w) (map f w.part.nodes) watched.edges
+    → IsSearching (relayered_by f watched w)
+searching_relayered w f watched are kept alike state room watch = record {
+  job = are.job;
+  slot = are.slot;
+  node = are.node;
+  state = (are.state.0, state);
+  agreed = agreed_relayered f w.part.nodes kept w.part.store are.agreed;
+  links =
+      subst (λ rings. AreLinksOf (problem_of w) w.part.links (tree_links w.tree.branches ++ (match_links w.part.matching.matches ++ rings)))
+      (sym (ring_relayered f w.part.nodes kept w.part.store)) are.links;
+  matching =
+      matching_relayered (problem_of w) f w.part.nodes w.part.links w.part.matching (nodes_along w.tree.branches) kept alike
+      are.state.1.search.nest.dual
+      (all_after (At (problem_of w) (leaves w.part.nodes)) (paired_links (state_at w are.state.0).tree) (state_at w are.state.0).rest
+      are.state.1.search.search.matching.links_are.at_defects)
+      are.matching;
+  room = room ∙ are.room;
+  watch = watch;
+}

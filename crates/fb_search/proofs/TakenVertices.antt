@@ -1,0 +1,194 @@
+-- A vertex that a plus node takes up keeps what every search keeps, and leaves less to do.
+use Rattle.std.proofs.Common.{ℕ, ◌≡◌, ◌==◌, ◌<◌, ◌%◌, ◌⊎◌, inl, inr, Bool, true, false, List, [], ◌∷◌, map, length, All, Option, Some, None, IsSome, is_some, refl, sym, ap, ◌∙◌, subst, if◌then◌else◌}
+use Rattle.std.proofs.lemmas.Bool.{false≢true, eqb-true}
+use Rattle.std.proofs.lemmas.List.Elements.{All-cons, All-nil, All-weaker}
+use Rattle.fb_graph.specs.Parity.{is_in}
+use Rattle.fb_graph.specs.Problem.{Problem, edge_at, touches}
+use Rattle.fb_graph.specs.Components.{Leads}
+use Rattle.fb_graph.specs.declared.parts.Edge.{Edge}
+use Rattle.fb_graph.specs.Limits.{IsEdge, IsWithinLimits}
+use Rattle.fb_graph.specs.Links.{AreEven}
+use Rattle.fb_graph.specs.Covers.{is_over, passes}
+use Rattle.fb_graph.specs.Dual.{AreUnderOne, Node, cover_of, is_outer, taller}
+use Rattle.fb_graph.specs.Moves.{MayTakeUp, taken_up}
+use Rattle.fb_graph.specs.Steps.{Roles}
+use Rattle.fb_graph.proofs.Among.{cover_among}
+use Rattle.fb_graph.proofs.ChangedNodes.{change, first_taller, kept_by}
+use Rattle.fb_graph.proofs.MappedNodes.{AreKept}
+use Rattle.fb_graph.proofs.Sets.{is_in-head}
+use Rattle.fb_graph.proofs.TallerNodes.{taller_alike, taller_covers}
+use Rattle.fb_laws.specs.Measures.{IsLower}
+use Rattle.fb_laws.specs.SearchLayers.{left_to_do}
+use Rattle.fb_laws.proofs.MoveBridges.{no_leaf}
+use Rattle.fb_laws.proofs.StateMeasures.{taken_up_less}
+use Rattle.fb_laws.proofs.StateMoves.{state_taken_up}
+use Rattle.fb_regions.specs.Moves.{absorbed, inner_end, outer_end}
+use Rattle.fb_trees.proofs.Mapped.{plus_moved}
+use Rattle.fb_half.specs.Translations.{link_by}
+use Rattle.fb_obstacles.specs.Obstacles.{IsAbsorb, IsWatched}
+use Rattle.fb_obstacles.specs.Watched.{Watched}
+use Rattle.fb_search.specs.Progress.{GoesOn}
+use Rattle.fb_search.specs.Searching.{IsSearching, SearchValue, problem_of, roles_in, state_at}
+use Rattle.fb_search.specs.Watching.{Watches}
+use Rattle.fb_search.proofs.BegunSearches.{touches_first, touches_second}
+use Rattle.fb_search.proofs.Relayered.{relayered_by, searching_relayered}
+use Rattle.fb_search.proofs.Runs.{roles_by_numbers}
+use Rattle.fb_search.proofs.RolesInTree.{plus_in_tree}
+
+-- an edge from a covered vertex to an uncovered one
+pub ends_told : (nodes : List Node) (e : Edge) (u v name : ℕ) → Leads e u v → cover_of nodes u ≡ Some name → cover_of nodes v ≡ None
+    → (inner_end nodes e ≡ u) × (outer_end nodes e ≡ v)
+ends_told nodes e u v name (inl (first, second)) covered free =
+    let at : is_some (cover_of nodes e.first) ≡ true = ap (λ x. is_some (cover_of nodes x)) first ∙ ap (λ (o : Option ℕ). is_some o) covered in (
+      ap (λ b. if b then e.first else e.second) at ∙ first,
+      ap (λ b. if b then e.second else e.first) at ∙ second,
+    )
+ends_told nodes e u v name (inr (second, first)) covered free =
+    let at : is_some (cover_of nodes e.first) ≡ false = ap (λ x. is_some (cover_of nodes x)) first ∙ ap (λ (o : Option ℕ). is_some o) free in (
+      ap (λ b. if b then e.first else e.second) at ∙ second,
+      ap (λ b. if b then e.second else e.first) at ∙ first,
+    )
+
+pub plus_over : (test : ℕ → Bool) (nodes : List Node) (u : ℕ) → is_over test nodes u ≡ true
+    → (name : ℕ) × (cover_of nodes u ≡ Some name) × (test name ≡ true)
+plus_over test nodes u over = by (cover_of nodes u) refl over
+  where
+    by : (c : Option ℕ) → cover_of nodes u ≡ c → passes test c ≡ true → (name : ℕ) × (cover_of nodes u ≡ Some name) × (test name ≡ true)
+    by None e h = absurd (false≢true h)
+    by (Some name) e h = (name, e, h)
+
+pub all_even : (p : Problem) → IsWithinLimits p → AreEven p
+all_even p limits = All-weaker (IsEdge p.vertices) (λ e. e.weight % 2 ≡ 0) (λ e is. is.even) p.edges limits.each_edge
+
+-- the edges at the vertex come under watch
+module _ (p : Problem) (roles : Roles) (nodes : List Node) (name v : ℕ) (limits : IsWithinLimits p) (old new : Watched)
+    (watched : Watches p (v ∷ []) old new) (watch : IsWatched p roles nodes old.edges) where
+  near_taken : (k : ℕ) → k < length p.edges
+      → (is_over roles.is_plus (taken_up name v nodes) (edge_at p.edges k).first ≡ true)
+      ⊎ (is_over roles.is_plus (taken_up name v nodes) (edge_at p.edges k).second ≡ true)
+      → (AreUnderOne (taken_up name v nodes) (edge_at p.edges k).first (edge_at p.edges k).second → ⊥) → is_in new.edges k ≡ true
+  near_taken k less over not_one =
+      by (v == (edge_at p.edges k).first) (v == (edge_at p.edges k).second) refl refl
+    where
+      at_v : (u : ℕ) → (v == u) ≡ true → touches u (edge_at p.edges k) ≡ true → is_in new.edges k ≡ true
+      at_v u same touch =
+          watched.near v k (is_in-head v []) less (ap (λ x. touches x (edge_at p.edges k)) (eqb-true v u same) ∙ touch)
+
+      by : (a b : Bool) → (v == (edge_at p.edges k).first) ≡ a → (v == (edge_at p.edges k).second) ≡ b → is_in new.edges k ≡ true
+      by true b ea eb = at_v (edge_at p.edges k).first ea (touches_first p k limits less)
+      by false true ea eb = at_v (edge_at p.edges k).second eb (touches_second p k limits less)
+      by false false ea eb = watched.kept k (watch.near k less (before over) one)
+        where
+          before : (is_over roles.is_plus (taken_up name v nodes) (edge_at p.edges k).first ≡ true)
+              ⊎ (is_over roles.is_plus (taken_up name v nodes) (edge_at p.edges k).second ≡ true)
+              → (is_over roles.is_plus nodes (edge_at p.edges k).first ≡ true)
+              ⊎ (is_over roles.is_plus nodes (edge_at p.edges k).second ≡ true)
+          before (inl h) = inl (sym (ap (passes roles.is_plus) (taller_covers nodes name v (edge_at p.edges k).first ea)) ∙ h)
+          before (inr h) = inr (sym (ap (passes roles.is_plus) (taller_covers nodes name v (edge_at p.edges k).second eb)) ∙ h)
+
+          one : AreUnderOne nodes (edge_at p.edges k).first (edge_at p.edges k).second → ⊥
+          one (m, at_first, at_second) =
+              not_one (
+                m,
+                taller_covers nodes name v (edge_at p.edges k).first ea ∙ at_first,
+                taller_covers nodes name v (edge_at p.edges k).second eb ∙ at_second,
+              )
+
+-- the search with the vertex in the node, and with these edges watched
+abbrev pub raised : ℕ → ℕ → Watched → SearchValue → SearchValue
+raised name v watched w = relayered_by (change name (taller v)) watched w
+
+pub may_take : (w : SearchValue) (k u v name : ℕ) → IsAbsorb (problem_of w) (roles_in w) w.part.nodes k u v
+    → cover_of w.part.nodes u ≡ Some name → MayTakeUp (problem_of w) w.part.nodes name k u v
+may_take w k u v name is covered = record {
+  within = is.edge.within;
+  leads = is.edge.leads;
+  tight = is.edge.tight;
+  covered = covered;
+  uncovered = is.uncovered;
+  real = is.real;
+}
+
+pub searching_raised : (w : SearchValue) (k u v name : ℕ) (new : Watched) → IsSearching w → IsWithinLimits (problem_of w)
+    → MayTakeUp (problem_of w) w.part.nodes name k u v → All (λ j. j < new.edge_count) new.edges
+    → Watches (problem_of w) (v ∷ []) w.watched new → IsSearching (raised name v new w)
+searching_raised w k u v name new are limits may within watched =
+    searching_relayered w (change name (taller v)) new are
+    (kept_by name (taller v) w.part.nodes (λ n. refl) (λ n. refl) (λ n a e. first_taller v n) outer)
+    (taller_alike w.part.nodes name v (no_leaf (problem_of w) w.part.nodes v are.state.1.search.nest.dual may.uncovered)).0
+    (state_taken_up (problem_of w) (state_at w are.state.0) name k u v (all_even (problem_of w) limits) may are.state.1)
+    watched.room
+    (record {
+      within = subst (λ n. All (λ j. j < n) new.edges) (watched.room ∙ are.room) within;
+      near = near_taken (problem_of w) (roles_in w) w.part.nodes name v limits w.watched new watched are.watch;
+    })
+  where
+    outer : is_outer w.part.nodes name ≡ true
+    outer =
+        let over = cover_among w.part.nodes u name may.covered in
+        ap (is_outer w.part.nodes) (sym over.named) ∙ over.outer
+
+pub goes_on_raised : (w : SearchValue) (k u v name : ℕ) (new : Watched) → IsSearching w → IsWithinLimits (problem_of w)
+    → MayTakeUp (problem_of w) w.part.nodes name k u v → (roles_in w).is_plus name ≡ true → GoesOn w (raised name v new w)
+goes_on_raised w k u v name new are limits may plus = record {
+  part = record { job = refl; slot = refl; node = refl };
+  others = λ n. refl;
+  count = refl;
+  less =
+      subst (λ roles. IsLower (left_to_do (problem_of w) (taken_up name v w.part.nodes) roles true) (left_to_do (problem_of w) w.part.nodes roles false))
+      (roles_by_numbers w)
+      (taken_up_less (problem_of w) (state_at w are.state.0) name k u v false true limits may
+      (ap (λ names. is_in names name) (plus_moved (link_by w.part.links) w.tree.root w.tree.branches) ∙ plus_in_tree w.tree name plus)
+      are.state.1);
+}
+
+-- the edge's ends, as the dual state finds them
+pub record Absorbs (w : SearchValue) (k : ℕ) : Type 0 where
+  pub from : ℕ
+  pub to : ℕ
+  pub name : ℕ
+  pub may : MayTakeUp (problem_of w) w.part.nodes name k from to
+  pub plus : (roles_in w).is_plus name ≡ true
+  pub inner : inner_end w.part.nodes (edge_at (problem_of w).edges k) ≡ from
+  pub outer : outer_end w.part.nodes (edge_at (problem_of w).edges k) ≡ to
+  pub nodes : absorbed w.part.nodes (edge_at (problem_of w).edges k) ≡ taken_up name to w.part.nodes
+
+pub absorbs : (w : SearchValue) (k u v : ℕ) → IsAbsorb (problem_of w) (roles_in w) w.part.nodes k u v → Absorbs w k
+absorbs w k u v is =
+    let (name, covered, plus) = plus_over (roles_in w).is_plus w.part.nodes u is.edge.plus in
+    let ends = ends_told w.part.nodes (edge_at (problem_of w).edges k) u v name is.edge.leads covered is.uncovered in
+    record {
+      from = u;
+      to = v;
+      name = name;
+      may = may_take w k u v name is covered;
+      plus = plus;
+      inner = ends.0;
+      outer = ends.1;
+      nodes = rw (ends.0, ends.1, covered) refl;
+    }
+
+-- the same by a list of edges that is known to be the problem's
+module _ (w : SearchValue) (k : ℕ) (a : Absorbs w k) (edges : List Edge) (same : edges ≡ (problem_of w).edges) where
+  pub inner_held : IsSome (cover_of w.part.nodes (inner_end w.part.nodes (edge_at edges k)))
+  inner_held = rw same (subst IsSome (sym (ap (cover_of w.part.nodes) a.inner ∙ a.may.covered)) refl)
+
+  pub outer_free : cover_of w.part.nodes (outer_end w.part.nodes (edge_at edges k)) ≡ None
+  outer_free = rw same (ap (cover_of w.part.nodes) a.outer ∙ a.may.uncovered)
+
+  pub nodes_taken : absorbed w.part.nodes (edge_at edges k) ≡ taken_up a.name a.to w.part.nodes
+  nodes_taken = rw same a.nodes
+
+  pub end_taken : (taken : ℕ) → taken ≡ outer_end w.part.nodes (edge_at edges k) → taken ≡ a.to
+  end_taken taken is = is ∙ (ap (λ es. outer_end w.part.nodes (edge_at es k)) same ∙ a.outer)
+
+pub taken_below : (w : SearchValue) (k : ℕ) (a : Absorbs w k) (taken vertices : ℕ) → IsWithinLimits (problem_of w)
+    → taken ≡ a.to → vertices ≡ (problem_of w).vertices → All (λ v. v < vertices) (taken ∷ [])
+taken_below w k a taken vertices limits at same =
+    All-cons (λ v. v < vertices) taken [] (rw (at, same) (limits.real_below a.to a.may.real)) (All-nil (λ v. v < vertices))
+
+pub watches_taken : (p : Problem) (taken v : ℕ) (old new : Watched) → taken ≡ v → Watches p (taken ∷ []) old new → Watches p (v ∷ []) old new
+watches_taken p taken v old new same watches = subst (λ x. Watches p (x ∷ []) old new) same watches
+
+pub absorbs_some : (w : SearchValue) (k : ℕ) → ((u v : ℕ) × IsAbsorb (problem_of w) (roles_in w) w.part.nodes k u v) → Absorbs w k
+absorbs_some w k (u, v, is) = absorbs w k u v is

@@ -1,0 +1,61 @@
+use Rattle.std.proofs.Common.{◌≡◌, ◌∙◌, ap, sym}
+use Rattle.fb_graph.specs.Limits.{IsWithinLimits}
+use Rattle.fb_half.specs.Values.{part_of}
+use Rattle.fb_search.specs.Searching.{SearchValue, problem_of}
+use Rattle.fb_search.proofs.BegunSearches.{kept_limits, kept_watches}
+use Rattle.fb_search.proofs.TakenVertices.{Absorbs, absorbs_some, end_taken, goes_on_raised, inner_held, nodes_taken, outer_free, searching_raised, taken_below, watches_taken}
+use Rattle.fb_search.proofs.searching.Searching.absorb.Goals as goal
+
+pub absorb-requires-clause-inner : goal.absorb-requires-clause-inner
+absorb-requires-clause-inner c =
+    let w : SearchValue = record { part = part_of c.self.inside.parts; tree = c.self.inside.tree; watched = c.self.inside.watch } in
+    let a : Absorbs w c.args.edge = absorbs_some w c.args.edge (rw (← c.self.view_is) at c.requires) in
+    inner_held w c.args.edge a _ (ap (λ g. g.edges) c.self.invariant.0.graph)
+
+pub absorb-requires-clause-outer : goal.absorb-requires-clause-outer
+absorb-requires-clause-outer c =
+    let w : SearchValue = record { part = part_of c.self.inside.parts; tree = c.self.inside.tree; watched = c.self.inside.watch } in
+    let a : Absorbs w c.args.edge = absorbs_some w c.args.edge (rw (← c.self.view_is) at c.requires) in
+    outer_free w c.args.edge a _ (ap (λ g. g.edges) c.self.invariant.0.graph)
+
+pub watch_vertices-requires-clause-below : goal.watch_vertices-requires-clause-below
+watch_vertices-requires-clause-below c =
+    let w : SearchValue = record { part = part_of c.self.inside.parts; tree = c.self.inside.tree; watched = c.self.inside.watch } in
+    let a : Absorbs w c.args.edge = absorbs_some w c.args.edge (rw (← c.self.view_is) at c.requires) in
+    let graph = c.graph.ensures ∙ ap (λ j. j.graph) c.job.ensures in
+    let plan = c.plan.ensures ∙ ap (λ j. j.plan) c.job-2.ensures in
+    let limits : IsWithinLimits (problem_of w) =
+    kept_limits w.part c.graph.result.now c.plan.result.now c.node.result graph plan c.node.ensures c.limits.ensures in
+    taken_below w c.args.edge a c.free_end-taken.result c.graph.result.now.vertices limits
+    (end_taken w c.args.edge a _ (ap (λ g. g.edges) graph) c.free_end-taken.result c.free_end-taken.ensures)
+    (ap (λ g. g.vertices) graph)
+
+pub invariant_of-result : goal.invariant_of-result
+invariant_of-result c =
+    let w : SearchValue = record { part = part_of c.self.inside.parts; tree = c.self.inside.tree; watched = c.self.inside.watch } in
+    let a : Absorbs w c.args.edge = absorbs_some w c.args.edge (rw (← c.self.view_is) at c.requires) in
+    let scope = c.self.invariant.0 in
+    let graph = c.graph.ensures ∙ ap (λ j. j.graph) c.job.ensures in
+    let plan = c.plan.ensures ∙ ap (λ j. j.plan) c.job-2.ensures in
+    let limits : IsWithinLimits (problem_of w) =
+    kept_limits w.part c.graph.result.now c.plan.result.now c.node.result graph plan c.node.ensures c.limits.ensures in
+    let at = end_taken w c.args.edge a _ (ap (λ g. g.edges) graph) c.free_end-taken.result c.free_end-taken.ensures in
+    rw (c.absorb.ensures, nodes_taken w c.args.edge a _ (ap (λ g. g.edges) scope.graph)) (
+      record { graph = scope.graph; plan = scope.plan; node = scope.node },
+      searching_raised w c.args.edge a.from a.to a.name c.watch_vertices.new.watch c.self.invariant.1 limits a.may
+          c.keeps.ensures.within
+          (watches_taken (problem_of w) c.free_end-taken.result a.to w.watched c.watch_vertices.new.watch at
+          (kept_watches w.part c.graph.result.now c.plan.result.now c.node.result _ w.watched c.watch_vertices.new.watch graph c.watch_vertices.ensures)),
+    )
+
+pub returns : goal.returns
+returns c =
+    let w : SearchValue = record { part = part_of c.self.inside.parts; tree = c.self.inside.tree; watched = c.self.inside.watch } in
+    let a : Absorbs w c.args.edge = absorbs_some w c.args.edge (rw (← c.self.view_is) at c.requires) in
+    let scope = c.self.invariant.0 in
+    let graph = c.graph.ensures ∙ ap (λ j. j.graph) c.job.ensures in
+    let plan = c.plan.ensures ∙ ap (λ j. j.plan) c.job-2.ensures in
+    let limits : IsWithinLimits (problem_of w) =
+    kept_limits w.part c.graph.result.now c.plan.result.now c.node.result graph plan c.node.ensures c.limits.ensures in
+    rw (← c.self.view_is, c.absorb.ensures, nodes_taken w c.args.edge a _ (ap (λ g. g.edges) scope.graph))
+    (goes_on_raised w c.args.edge a.from a.to a.name c.watch_vertices.new.watch c.self.invariant.1 limits a.may a.plus)

@@ -1,0 +1,45 @@
+-- The steps of a blossom's cycle as they are read where it is opened.
+use Rattle.std.specs.Prelude.{ℕ, ◌+◌, ◌==◌, ◌%◌, List, [], ◌∷◌, ◌++◌, drop, take, reverse, Some, if◌then◌else◌}
+use Rattle.fb_links.specs.declared.cycle.CycleStep.{CycleStep}
+use Rattle.fb_half.specs.declared.matches.Match.{Match}
+use Rattle.fb_trees.specs.TreeSteps.{step}
+
+-- the place of the node's step; the number of all steps where it has none
+abbrev pub place_on : List CycleStep → ℕ → ℕ
+place_on [] name = 0
+place_on (s ∷ ss) name = if s.node == name then 0 else 1 + place_on ss name
+
+-- the steps from the node's on, and then those before it
+abbrev pub round_on : List CycleStep → ℕ → List CycleStep
+round_on cycle name = drop (place_on cycle name) cycle ++ take (place_on cycle name) cycle
+
+-- from the node back over these steps, the last one first: each link leads to the node of its step
+abbrev pub turned_from : ℕ → List CycleStep → List CycleStep
+turned_from node [] = []
+turned_from node (s ∷ ss) = step node s.link ∷ turned_from s.node ss
+
+-- the same round from the same node in the other direction
+abbrev pub turned_on : List CycleStep → List CycleStep
+turned_on [] = []
+turned_on (s ∷ ss) = turned_from s.node (reverse (s ∷ ss))
+
+-- the round by the way on which the node is an even number of links from the first one
+abbrev pub even_on : List CycleStep → ℕ → List CycleStep
+even_on round name = if place_on round name % 2 == 0 then round else turned_on round
+
+-- the steps up to the node's, and those after it
+abbrev pub way_on : List CycleStep → ℕ → List CycleStep
+way_on round name = take (place_on round name + 1) round
+
+abbrev pub rest_on : List CycleStep → ℕ → List CycleStep
+rest_on round name = drop (place_on round name + 1) round
+
+-- the nodes of the steps two by two, each two matched by the link between them
+abbrev pub couples_on : List CycleStep → List Match
+couples_on (s ∷ t ∷ ss) = record { link = s.link; first = s.node; second = Some t.node } ∷ couples_on ss
+couples_on ss = []
+
+-- the links that lead on from each two of them
+abbrev pub between_on : List CycleStep → List ℕ
+between_on (s ∷ t ∷ ss) = t.link ∷ between_on ss
+between_on ss = []

@@ -1,0 +1,61 @@
+-- What the steps of a search promise: all else stays, and less is left to do.
+use Rattle.std.specs.Prelude.{ℕ, ◌≡◌, ◌<◌, Bool, true, false, List, length}
+use Rattle.fb_graph.specs.Parity.{is_in}
+use Rattle.fb_graph.specs.Steps.{stepped}
+use Rattle.fb_laws.specs.Measures.{IsLower}
+use Rattle.fb_laws.specs.SearchLayers.{left_to_do}
+use Rattle.fb_laws.specs.Trees.{roles_of}
+use Rattle.fb_laws.specs.Works.{without}
+use Rattle.fb_half.specs.Parts.{PartValue}
+use Rattle.fb_trees.specs.Branches.{Grown}
+use Rattle.fb_trees.specs.Rooted.{bare}
+use Rattle.fb_obstacles.specs.Watched.{Watched}
+use Rattle.fb_search.specs.Searching.{SearchValue, problem_of, unmatched_in}
+
+-- what the search has still to do; the last part is whether its next step may be free
+abbrev pub to_do : SearchValue → Bool → List ℕ
+to_do w free = left_to_do (problem_of w) w.part.nodes (roles_of w.tree.root w.tree.branches) free
+
+-- the names of the unmatched nodes beside the root
+abbrev pub unmatched_beside : SearchValue → List ℕ
+unmatched_beside w = without w.tree.root (unmatched_in w)
+
+-- both are of the same node of the same plan, for the same shot
+pub record IsSamePart (before after : PartValue) : Type 0 where
+  pub job : after.job ≡ before.job
+  pub slot : after.slot ≡ before.slot
+  pub node : after.node ≡ before.node
+
+-- The obstacle is removed: no other node is matched, and less is left to do, though the next step may be free again.
+pub record GoesOn (before after : SearchValue) : Type 0 where
+  pub part : IsSamePart before.part after.part
+  pub others : (n : ℕ) → is_in (unmatched_beside after) n ≡ is_in (unmatched_beside before) n
+  pub count : length (unmatched_in after) ≡ length (unmatched_in before)
+  pub less : IsLower (to_do after true) (to_do before false)
+
+-- The same with a free step before it, where no obstacle stood in the way.
+pub record HasAdvanced (before after : SearchValue) : Type 0 where
+  pub part : IsSamePart before.part after.part
+  pub others : (n : ℕ) → is_in (unmatched_beside after) n ≡ is_in (unmatched_beside before) n
+  pub count : length (unmatched_in after) ≡ length (unmatched_in before)
+  pub less : IsLower (to_do after true) (to_do before true)
+
+-- the search after a free step of this length
+abbrev pub stepped_by : ℕ → SearchValue → SearchValue
+stepped_by k w = record w { part = record w.part { nodes = stepped (roles_of w.tree.root w.tree.branches) k w.part.nodes } }
+
+-- The root is matched, and the unmatched nodes are some of those before.
+pub record IsSearched (root : ℕ) (before after : PartValue) : Type 0 where
+  pub part : IsSamePart before after
+  pub others : (n : ℕ) → is_in after.matching.unmatched n ≡ true → is_in (without root before.matching.unmatched) n ≡ true
+  pub fewer : length after.matching.unmatched < length before.matching.unmatched
+
+-- the search of the part, with the root alone as its tree
+pub record IsBegunAt (root : ℕ) (work : PartValue) (search : SearchValue) : Type 0 where
+  pub part : search.part ≡ work
+  pub tree : search.tree ≡ bare root
+
+-- The search ends with this part. The watch has room for the same edges as before.
+pub record EndsWith (before : SearchValue) (after : PartValue) (watched : Watched) : Type 0 where
+  pub searched : IsSearched before.tree.root before.part after
+  pub room : watched.edge_count ≡ before.watched.edge_count

@@ -1,0 +1,95 @@
+ghost use Rattle.std.specs.Prelude.{◌≡◌, ◌≢◌, ◌∷◌, [], IfOk};
+ghost use Rattle.fb_laws.specs.Trees.{Connects};
+ghost use Rattle.fb_laws.specs.Works.{AreMatchedLinks};
+ghost use Rattle.fb_half.specs.Translations.{link_by};
+ghost use Rattle.fb_half.specs.Values.{HasScope};
+ghost use Rattle.fb_trees.specs.Rooted.{IsPlus};
+ghost use Rattle.fb_obstacles.specs.Obstacles.{Obstructs};
+ghost use Rattle.fb_obstacles.specs.declared.obstacle.Obstacle.TheVariants.{PlusPair};
+ghost use Rattle.fb_search.specs.Progress.{GoesOn};
+ghost use Rattle.fb_search.specs.Searching.{IsSearchingBeside, problem_of, roles_in, search_of};
+
+use crate::searching::{Pieces, Searching};
+use crate::walks::met_walk;
+use crate::watched::watch_node;
+use fb_graph::{NoMemory, Scope};
+use fb_obstacles::Watch;
+use fb_regions::{NodeId, Regions, Role};
+use fb_trees::{CycleStep, LinkId, Tree};
+use std::alloc::Global;
+
+impl<'a> Searching<'a> {
+    /// Two plus nodes meet over the edge: with the paths to them from where these part they become a blossom.
+    pub(crate) fn close(self, alloc: Global, edge: u32) -> Result<Searching<'a>, NoMemory>
+        requires { Obstructs (problem_of self) (roles_in self) self.part.nodes (PlusPair edge) }
+        ensures { IfOk result (GoesOn self.entry) }
+    {
+        let (first, second) = self.paired_nodes(edge);
+        let Searching {
+            mut parts,
+            tree,
+            watch,
+        } = self;
+        let walk = met_walk(alloc, &parts.regions, edge)?;
+        let closing = parts.links.make(alloc, walk)?;
+        let pieces = Pieces { parts, tree, watch };
+        close_cycle(alloc, pieces, first, second, closing)
+    }
+}
+
+/// The cycle that the link closes between the two plus nodes becomes a blossom, a plus node.
+pub(crate) fn close_cycle<'a>(
+    alloc: Global,
+    pieces: Pieces<'a>,
+    first: NodeId,
+    second: NodeId,
+    closing: LinkId,
+) -> Result<Searching<'a>, NoMemory>
+    requires scope { HasScope pieces.parts }
+    requires search { IsSearchingBeside (closing ∷ []) (search_of pieces) }
+    requires first { IsPlus pieces.tree first }
+    requires second { IsPlus pieces.tree second }
+    requires apart { first ≢ second }
+    requires connects { Connects pieces.parts.regions.nodes (link_by pieces.parts.links closing) first second }
+    requires tight { AreMatchedLinks (problem_of (search_of pieces)) pieces.parts.regions.nodes (link_by pieces.parts.links closing ∷ []) }
+    ensures { IfOk result (GoesOn (search_of pieces.entry)) }
+{
+    let Pieces {
+        mut parts,
+        mut tree,
+        mut watch,
+    } = pieces;
+    let cycle = tree.cycle_of(alloc, first, second, closing, &parts.links)?;
+    let nodes: Vec<NodeId> = cycle.iter().map(|step| step.node).collect(alloc)?;
+    watch_minus(alloc, &mut watch, &parts.regions, &tree, &nodes)?;
+    let held = &mut parts;
+    let blossom = held.blossoms.form(alloc, cycle, &held.links)?;
+    parts.regions.join_nodes(alloc, blossom, &nodes)?;
+    let root = tree.root();
+    let step = CycleStep {
+        node: blossom,
+        link: closing,
+    };
+    tree.replace(alloc, &nodes, &[step], &parts.links)?;
+    if tree.root() != root {
+        parts.matching.take_unmatched(root);
+        parts.matching.add_unmatched(alloc, blossom)?;
+    }
+    Ok(Searching { parts, tree, watch })
+}
+
+/// Watches the edges at the minus nodes among these, whose vertices are to be under a plus node.
+fn watch_minus<S: Scope>(
+    alloc: Global,
+    watch: &mut Watch,
+    regions: &Regions<S>,
+    tree: &Tree,
+    nodes: &[NodeId],
+) -> Result<(), NoMemory> {
+    for node in nodes {
+        if tree.role(*node) == Role::Minus {
+            watch_node(alloc, watch, regions.scope(), regions, *node)?;
+        }
+    }
+    Ok(())
+}

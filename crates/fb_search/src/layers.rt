@@ -1,0 +1,65 @@
+ghost use Rattle.std.specs.Prelude.{◌≡◌, ◌<◌, length};
+ghost use Rattle.fb_graph.specs.Problem.{edge_at};
+ghost use Rattle.fb_regions.specs.Moves.{outer_end};
+ghost use Rattle.fb_obstacles.specs.Obstacles.{Obstructs};
+ghost use Rattle.fb_obstacles.specs.declared.obstacle.Obstacle.TheVariants.{Absorb, LayerEmpty};
+ghost use Rattle.fb_search.specs.Searching.{problem_of, roles_in};
+ghost use Rattle.fb_search.specs.Progress.{GoesOn};
+
+use crate::searching::Searching;
+use crate::watched::watch_vertices;
+use fb_graph::Scope;
+use fb_plan::NodeScope;
+use fb_regions::{NodeId, Regions};
+
+/// The end of the edge that no node holds, where a node holds the other one.
+fn free_end<S: Scope>(scope: &S, regions: &Regions<S>, edge: u32) -> u32
+    requires { edge < length (S.problem scope.now).edges }
+    ensures { result ≡ outer_end regions.now.nodes (edge_at (S.problem scope.now).edges edge) }
+{
+    let (first, second) = scope.ends(edge);
+    if regions.cover_of(first).is_some() {
+        second
+    } else {
+        first
+    }
+}
+
+impl<'a> Searching<'a> {
+    /// The plus node takes up the vertex to which the tight edge leads. The edges of the vertex are watched from now on.
+    pub fn absorb(self, edge: u32) -> Searching<'a>
+        requires { Obstructs (problem_of self) (roles_in self) self.part.nodes (Absorb edge) }
+        ensures { GoesOn self.entry result }
+    {
+        let Searching {
+            mut parts,
+            tree,
+            mut watch,
+        } = self;
+        let scope = NodeScope {
+            graph: parts.job().graph(),
+            plan: parts.job().plan(),
+            node: parts.node(),
+        };
+        scope.limits();
+        let taken = free_end(&scope, &parts.regions, edge);
+        parts.regions.absorb(edge);
+        watch_vertices(&mut watch, &scope, &[taken]);
+        watch.keeps();
+        Searching { parts, tree, watch }
+    }
+
+    /// The empty top layer of the minus node is taken off. The edges that lead to its last vertex are watched already.
+    pub fn uncover(self, node: NodeId) -> Searching<'a>
+        requires { Obstructs (problem_of self) (roles_in self) self.part.nodes (LayerEmpty node) }
+        ensures { GoesOn self.entry result }
+    {
+        let Searching {
+            mut parts,
+            tree,
+            watch,
+        } = self;
+        parts.regions.uncover(node);
+        Searching { parts, tree, watch }
+    }
+}

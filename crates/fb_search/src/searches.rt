@@ -1,0 +1,97 @@
+ghost use Rattle.std.specs.Prelude.{◌≡◌, ◌+◌, ◌<◌, ◌≤◌, ℕ, true, false, IfOk, length};
+ghost use Rattle.fb_graph.specs.Parity.{is_in};
+ghost use Rattle.fb_half.specs.Parts.{problem_in};
+ghost use Rattle.fb_search.specs.Progress.{EndsWith, IsSamePart, IsSearched};
+
+use crate::searching::Searching;
+use crate::went::Went;
+use fb_graph::{NoMemory, Steps};
+use fb_half::{Standing, Work};
+use fb_obstacles::Watch;
+use fb_plan::NodeScope;
+use fb_regions::NodeId;
+use std::alloc::Global;
+use std::marker::Brand;
+use std::sync::ledger::{Blank, Ledger};
+
+/// Matches the root: a tree grows from it until it meets the boundary or a node that can be matched with its root
+/// (Edmonds 1965). Counts one step. The unmatched nodes after it are some of those before, without the root.
+pub fn search<'a, L: Ledger>(
+    alloc: Global,
+    work: Work<'a>,
+    root: NodeId,
+    steps: &mut Steps<L>,
+) -> Result<Work<'a>, NoMemory>
+    requires unmatched { is_in work.matching.unmatched root ≡ true }
+    ensures searched { IfOk result (λ after. IsSearched root work.entry after) }
+    ensures step { IfOk result (λ after. steps.new ≡ steps.old + 1) }
+{
+    let watch = Watch::new(alloc, work.regions().scope())?;
+    let (work, _watch) = search_from(alloc, work, root, watch, steps)?;
+    Ok(work)
+}
+
+/// The same with a watch that is emptied first and given back, so that one watch serves many searches.
+pub fn search_from<'a, L: Ledger>(
+    alloc: Global,
+    work: Work<'a>,
+    root: NodeId,
+    watch: Watch,
+    steps: &mut Steps<L>,
+) -> Result<(Work<'a>, Watch), NoMemory>
+    requires unmatched { is_in work.matching.unmatched root ≡ true }
+    requires room { watch.edge_count ≡ length (problem_in work).edges }
+    ensures searched { IfOk result (λ after. IsSearched root work.entry after.0) }
+    ensures room { IfOk result (λ after. after.1.edge_count ≡ watch.entry.edge_count) }
+    ensures step { IfOk result (λ after. steps.new ≡ steps.old + 1) }
+{
+    let search = Searching::begin(alloc, work, watch, root)?;
+    let ended = finish::<Brand>(alloc, search, Blank::new(1))?;
+    steps.tick();
+    Ok(ended)
+}
+
+/// Removes one obstacle after another until the search has ended. The looks at edges are counted by themselves.
+fn finish<'a, L: Ledger>(
+    alloc: Global,
+    search: Searching<'a>,
+    looks: Blank,
+) -> Result<(Work<'a>, Watch), NoMemory>
+    requires name { looks.name ≡ L.name }
+    requires parts { looks.parts ≡ L.parts }
+    requires some { 0 < looks.parts }
+    ensures { IfOk result (λ ended. EndsWith search.entry ended.0 ended.1) }
+{
+    let mut looks = Steps::<L>::new(looks);
+    let mut search = search;
+    loop {
+        match search.advance(alloc, &mut looks)? {
+            Went::On(next) => search = next,
+            Went::Ended(work, watch) => return Ok((work, watch)),
+        }
+    }
+}
+
+/// Searches from each of the nodes that is still unmatched when its turn comes, in this order. Counts a step for each
+/// search, so at most one for each node that is matched by them.
+pub fn search_each<'a, L: Ledger>(
+    alloc: Global,
+    work: Work<'a>,
+    roots: &[NodeId],
+    steps: &mut Steps<L>,
+) -> Result<Work<'a>, NoMemory>
+    ensures part { IfOk result (IsSamePart work.entry) }
+    ensures matched { IfOk result (λ after. (n : ℕ) → is_in after.matching.unmatched n ≡ true
+        → (is_in work.entry.matching.unmatched n ≡ true) × (is_in roots.now n ≡ false)) }
+    ensures steps { IfOk result (λ after. (steps.old ≤ steps.new)
+        × (steps.new + length after.matching.unmatched ≤ steps.old + length work.entry.matching.unmatched)) }
+{
+    let mut watch = Watch::new(alloc, work.regions().scope())?;
+    let mut work = work;
+    for root in roots {
+        if let Standing::Unmatched(_) = work.matching().standing(*root) {
+            (work, watch) = search_from(alloc, work, *root, watch, steps)?;
+        }
+    }
+    Ok(work)
+}

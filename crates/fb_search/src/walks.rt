@@ -1,0 +1,76 @@
+//! The walks of links that are made over a tight edge.
+
+ghost use Rattle.std.specs.Prelude.{◌≡◌, ◌++◌, ℕ, IfOk, OnOk};
+ghost use Rattle.fb_links.specs.Walks.{turned};
+ghost use Rattle.fb_search.specs.MetWalks.{IsBetween, IsMetWalk, IsOut, IsOutWalk};
+
+use fb_graph::{NoMemory, Scope};
+use fb_regions::{Regions, Step, Walk};
+use std::alloc::Global;
+
+/// The walk of a tight link between the two outer nodes over the ends of a tight edge: from the source of the edge's
+/// first end, over the edge, and back to the source of its second end.
+pub(crate) fn met_walk<S: Scope>(
+    alloc: Global,
+    regions: &Regions<S>,
+    edge: u32,
+) -> Result<Walk, NoMemory>
+    requires { (a b : ℕ) × IsBetween (S.problem regions.now.scope) regions.now.nodes edge a b }
+    ensures { IfOk result (λ walk. (a b : ℕ) → IsBetween (S.problem regions.now.scope) regions.now.nodes edge a b
+        → IsMetWalk (S.problem regions.now.scope) regions.now.nodes a b walk) }
+{
+    let scope = regions.scope();
+    let (from, to) = scope.ends(edge);
+    let mut steps = regions.source_walk(alloc, from)?.into_vec();
+    steps.push(Step {
+        from,
+        to,
+        edge,
+        weight: scope.weight(edge),
+    })?;
+    let back = regions.source_walk(alloc, to)?;
+    push_turned(&mut steps, back.steps())?;
+    Ok(Walk::from_vec(steps))
+}
+
+/// The walk of a tight link from the outer node over the inner end of a tight edge to the boundary: from the source of
+/// that end, and over the edge.
+pub(crate) fn out_walk<S: Scope>(
+    alloc: Global,
+    regions: &Regions<S>,
+    edge: u32,
+) -> Result<Walk, NoMemory>
+    requires { (a v : ℕ) × IsOut (S.problem regions.now.scope) regions.now.nodes edge a v }
+    ensures { IfOk result (λ walk. (a v : ℕ) → IsOut (S.problem regions.now.scope) regions.now.nodes edge a v
+        → IsOutWalk (S.problem regions.now.scope) regions.now.nodes a v walk) }
+{
+    let scope = regions.scope();
+    let (first, second) = scope.ends(edge);
+    let (from, to) = if regions.cover_of(first).is_some() {
+        (first, second)
+    } else {
+        (second, first)
+    };
+    let mut steps = regions.source_walk(alloc, from)?.into_vec();
+    steps.push(Step {
+        from,
+        to,
+        edge,
+        weight: scope.weight(edge),
+    })?;
+    Ok(Walk::from_vec(steps))
+}
+
+/// Adds the steps of a walk gone back.
+fn push_turned(steps: &mut Vec<Step>, walk: &[Step]) -> Result<(), NoMemory>
+    ensures { OnOk result (steps.new.items ≡ steps.old.items ++ turned walk.now) }
+{
+    for step in walk.iter().rev() {
+        steps.push(Step {
+            from: step.to,
+            to: step.from,
+            ..*step
+        })?;
+    }
+    Ok(())
+}

@@ -1,6 +1,0 @@
-use Rattle.std.proofs.Common.{take}
-use Rattle.fb_searching.specs.InternalEndings.{Forgets}
-use Rattle.fb_searching.proofs.ending.forget_all.Given as goal
-
-abbrev pub invariant-loop-id : goal.invariant-loop-id
-invariant-loop-id l = Forgets (take l.id-index l.gone) l.initial.links l.links

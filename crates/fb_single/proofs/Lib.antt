@@ -1,0 +1,5 @@
+pub mod GrownCuts
+pub mod LoneBest
+pub mod LoneClosed
+pub mod LoneEdges
+pub mod LoneSteps

@@ -1,0 +1,10 @@
+use Rattle.fb_trees.specs.Branches.{entry_of}
+use Rattle.fb_trees.proofs.Lookups.{minus_branch, minus_has_branch}
+use Rattle.fb_trees.proofs.tree.Tree.branch.Goals as goal
+
+pub unreachable-requires : goal.unreachable-requires
+unreachable-requires c = minus_has_branch c.args.self.now c.args.minus c.requires c.in_default.ensures.branch
+
+pub returns : goal.returns
+returns c =
+    minus_branch c.args.self.now c.args.minus (entry_of c.in-Some.branch) c.in-Some.ensures.kept c.requires c.in-Some.ensures.branch
