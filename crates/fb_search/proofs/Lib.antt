@@ -19,6 +19,7 @@ pub mod JoinStates
 pub mod KeptWatches
 pub mod Linked
 pub mod Matched
+pub mod OpenedPlaces
 pub mod Relayered
 pub mod Renamed
 pub mod RolesInTree
