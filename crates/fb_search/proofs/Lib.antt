@@ -20,6 +20,7 @@ pub mod KeptWatches
 pub mod Linked
 pub mod Matched
 pub mod OpenedPlaces
+pub mod OpenedRounds
 pub mod Relayered
 pub mod Renamed
 pub mod RolesInTree

@@ -78,10 +78,10 @@ placed_on (s ∷ ss) name on = by (s.node == name) refl on (placed_on ss name)
         next : place_on (s ∷ ss) name + 1 ≡ suc (place_on ss name + 1)
         next = omega (arith, at)
 
-nodes-append : (xs ys : List CycleStep) → nodes_of (xs ++ ys) ≡ nodes_of xs ++ nodes_of ys
+pub nodes-append : (xs ys : List CycleStep) → nodes_of (xs ++ ys) ≡ nodes_of xs ++ nodes_of ys
 nodes-append xs ys = map-append (λ s. s.node) xs ys
 
-links-append : (xs ys : List CycleStep) → links_of (xs ++ ys) ≡ links_of xs ++ links_of ys
+pub links-append : (xs ys : List CycleStep) → links_of (xs ++ ys) ≡ links_of xs ++ links_of ys
 links-append xs ys = map-append (λ s. s.link) xs ys
 
 -- the cycle begun at the node
@@ -97,7 +97,7 @@ turned_last node [] s = (refl, refl)
 turned_last node (x ∷ xs) s =
     let rest = turned_last x.node xs s in (ap (λ l. node ∷ l) rest.0, ap (λ l. x.link ∷ l) rest.1)
 
-map-reverse : (f : CycleStep → ℕ) (xs : List CycleStep) → map f (reverse xs) ≡ reverse (map f xs)
+pub map-reverse : {X Y : Type 0} (f : X → Y) (xs : List X) → map f (reverse xs) ≡ reverse (map f xs)
 map-reverse f [] = refl
 map-reverse f (x ∷ xs) =
     ap (map f) (reverse-append (x ∷ []) xs)
