@@ -19,10 +19,12 @@ pub mod JoinStates
 pub mod KeptWatches
 pub mod Linked
 pub mod Matched
+pub mod Openings
 pub mod Relayered
 pub mod Renamed
 pub mod RolesInTree
 pub mod Runs
+pub mod StepPairs
 pub mod TakenNames
 pub mod TakenVertices
 pub mod TopLayers
