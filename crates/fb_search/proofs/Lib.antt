@@ -21,10 +21,12 @@ pub mod Linked
 pub mod Matched
 pub mod OpenedPlaces
 pub mod OpenedRounds
+pub mod Openings
 pub mod Relayered
 pub mod Renamed
 pub mod RolesInTree
 pub mod Runs
+pub mod StepPairs
 pub mod TakenNames
 pub mod TakenVertices
 pub mod TopLayers
