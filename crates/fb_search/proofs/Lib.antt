@@ -21,6 +21,7 @@ pub mod Linked
 pub mod Matched
 pub mod OpenedPlaces
 pub mod OpenedRounds
+pub mod OpenedWays
 pub mod Openings
 pub mod Relayered
 pub mod Renamed

@@ -2,12 +2,10 @@
 use Rattle.std.proofs.Common.{ℕ, suc, ◌≡◌, ◌+◌, ◌<◌, ◌==◌, ◌||◌, Bool, true, false, List, [], ◌∷◌, ◌++◌, map, length, take, drop, reverse, get_or, refl, sym, ap, ◌∙◌, arith, if◌then◌else◌}
 use Rattle.std.proofs.lemmas.Bool.{false≢true, eqb-true}
 use Rattle.std.proofs.lemmas.List.{drop-map, map-append, reverse-append, take-map}
-use Rattle.std.specs.List.Sorted.{IsPermutation}
-use Rattle.std.proofs.lemmas.List.Sorted.{IsPermutation-append_comm, IsPermutation-cons, IsPermutation-refl, IsPermutation-reverse}
 use Rattle.fb_graph.specs.Parity.{is_in}
 use Rattle.fb_links.specs.declared.cycle.CycleStep.{CycleStep}
 use Rattle.fb_trees.specs.TreeSteps.{step}
-use Rattle.fb_search.specs.InternalOpenings.{place_on, rest_on, round_on, turned_from, turned_on, way_on}
+use Rattle.fb_search.specs.InternalOpenings.{link_on, place_on, rest_on, round_on, turned_from, turned_on, way_on}
 use Rattle.fb_search.proofs.Agreed.{nodes_of}
 
 -- the links of a cycle
@@ -31,6 +29,7 @@ pub record IsPlacedOn (cycle : List CycleStep) (name : ℕ) : Type 0 where
   pub back : drop (place_on cycle name) cycle ≡ here ∷ after
   pub way : way_on cycle name ≡ before ++ here ∷ []
   pub rest : rest_on cycle name ≡ after
+  pub link : link_on cycle name ≡ here.link
 
 pub placed_on : (cycle : List CycleStep) (name : ℕ) → is_in (nodes_of cycle) name ≡ true → IsPlacedOn cycle name
 placed_on [] name on = absurd (false≢true on)
@@ -49,6 +48,7 @@ placed_on (s ∷ ss) name on = by (s.node == name) refl on (placed_on ss name)
       back = ap (λ k. drop k (s ∷ ss)) at;
       way = ap (λ k. take (k + 1) (s ∷ ss)) at;
       rest = ap (λ k. drop (k + 1) (s ∷ ss)) at;
+      link = ap (λ b. if b then s.link else link_on ss name) e;
     }
       where
         at : place_on (s ∷ ss) name ≡ 0
@@ -64,6 +64,7 @@ placed_on (s ∷ ss) name on = by (s.node == name) refl on (placed_on ss name)
       back = ap (λ k. drop k (s ∷ ss)) at ∙ found.back;
       way = ap (λ k. take k (s ∷ ss)) next ∙ ap (λ l. s ∷ l) found.way;
       rest = ap (λ k. drop k (s ∷ ss)) next ∙ found.rest;
+      link = ap (λ b. if b then s.link else link_on ss name) e ∙ found.link;
     }
       where
         found : IsPlacedOn ss name
