@@ -19,6 +19,7 @@ pub mod JoinStates
 pub mod KeptWatches
 pub mod Linked
 pub mod Matched
+pub mod OpenedAlong
 pub mod OpenedPlaces
 pub mod OpenedRounds
 pub mod OpenedWays
