@@ -22,6 +22,7 @@ pub mod Matched
 pub mod OpenedAlong
 pub mod OpenedPlaces
 pub mod OpenedRounds
+pub mod OpenedSplits
 pub mod OpenedWays
 pub mod Openings
 pub mod Relayered
