@@ -20,6 +20,7 @@ pub mod KeptWatches
 pub mod Linked
 pub mod Matched
 pub mod OpenedAlong
+pub mod OpenedConditions
 pub mod OpenedNames
 pub mod OpenedPlaces
 pub mod OpenedRounds

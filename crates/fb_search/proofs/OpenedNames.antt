@@ -60,6 +60,10 @@ along-append : (xs ys : List (EntryOf ℕ)) → nodes_along (xs ++ ys) ≡ nodes
 along-append [] ys = refl
 along-append (x ∷ xs) ys = ap (λ l. x.minus ∷ x.plus ∷ l) (along-append xs ys)
 
+pub names-along : (root : ℕ) (tree : List (EntryOf ℕ)) → tree_names root tree ≡ nodes_along tree ++ root ∷ []
+names-along root [] = refl
+names-along root (x ∷ xs) = ap (λ l. x.minus ∷ x.plus ∷ l) (names-along root xs)
+
 -- the nodes of the tree beside the blossom
 abbrev pub along_beside : List (EntryOf ℕ) → EntryOf ℕ → List (EntryOf ℕ) → List ℕ
 along_beside newer e older = nodes_along newer ++ e.plus ∷ nodes_along older
