@@ -12,6 +12,7 @@ pub mod EndedMatches
 pub mod EndedParts
 pub mod EndedTrees
 pub mod EndedWays
+pub mod EnteredChildren
 pub mod JoinConditions
 pub mod JoinLinks
 pub mod JoinMatchings

@@ -1,5 +1,5 @@
-ghost use Rattle.std.specs.Prelude.{◌≡◌, ◌<◌, ℕ, true, ◌∷◌, All, IfOk, OnOk, flat_map, length};
-ghost use Rattle.fb_graph.specs.Dual.{is_live, top_at};
+ghost use Rattle.std.specs.Prelude.{◌≡◌, ◌≢◌, ◌<◌, ℕ, true, ◌∷◌, All, Some, IfOk, OnOk, flat_map, length};
+ghost use Rattle.fb_graph.specs.Dual.{cover_of, is_live, top_at};
 ghost use Rattle.fb_blossoms.specs.Nodes.{is_on};
 ghost use Rattle.fb_half.specs.Values.{part_of};
 ghost use Rattle.fb_obstacles.specs.Obstacles.{Obstructs};
@@ -56,13 +56,21 @@ fn child_at(parts: &Parts, node: NodeId, link: LinkId) -> NodeId
     requires { (other : ℕ) × MayEnter (part_of parts.now) node other link }
     ensures { (other : ℕ) → MayEnter (part_of parts.now) node other link → EndsAtChild (part_of parts.now) node other link result }
 {
+    parts.blossoms.keeps();
     let (from, to) = parts.links.ends(link);
-    let end = if parts.regions.cover_of(from) == Some(node) {
-        from
-    } else {
-        to
-    };
+    let end = end_under(&parts.regions, node, from, to);
     parts.blossoms.child_holding(node, end)
+}
+
+/// The first of the two vertices if the outer node holds it, otherwise the second.
+fn end_under<S: Scope>(regions: &Regions<S>, node: NodeId, first: u32, second: u32) -> u32
+    ensures first { cover_of regions.now.nodes first ≡ Some node → result ≡ first }
+    ensures second { cover_of regions.now.nodes first ≢ Some node → result ≡ second }
+{
+    match regions.cover_of(first) {
+        Some(outer) if outer == node => first,
+        _ => second,
+    }
 }
 
 /// The place of the node's step.
