@@ -38,14 +38,15 @@ use Rattle.fb_search.proofs.Openings.{Opens, round_in}
 seconds_within : (steps : List CycleStep) (n : ℕ) → is_in (second_nodes steps) n ≡ true → is_in (nodes_of steps) n ≡ true
 seconds_within [] n there = absurd (false≢true there)
 seconds_within (s ∷ []) n there = absurd (false≢true there)
-seconds_within (s ∷ t ∷ ss) n there = by (is_in-cases t.node (second_nodes ss) n there)
+seconds_within (s ∷ t ∷ ss) n there = by (is_in-cases t.node (second_nodes ss) n there) (seconds_within ss n)
   where
-    by : (t.node ≡ n) ⊎ (is_in (second_nodes ss) n ≡ true) → is_in (nodes_of (s ∷ t ∷ ss)) n ≡ true
-    by (inl e) =
+    by : (t.node ≡ n) ⊎ (is_in (second_nodes ss) n ≡ true)
+        → (is_in (second_nodes ss) n ≡ true → is_in (nodes_of ss) n ≡ true) → is_in (nodes_of (s ∷ t ∷ ss)) n ≡ true
+    by (inl e) later =
         subst (λ x. is_in (nodes_of (s ∷ t ∷ ss)) x ≡ true) e
         (is_in-tail s.node (nodes_of (t ∷ ss)) t.node (is_in-head t.node (nodes_of ss)))
-    by (inr h) =
-        is_in-tail s.node (nodes_of (t ∷ ss)) n (is_in-tail t.node (nodes_of ss) n (seconds_within ss n h))
+    by (inr h) later =
+        is_in-tail s.node (nodes_of (t ∷ ss)) n (is_in-tail t.node (nodes_of ss) n (later h))
 
 module _ (w : SearchValue) (name : ℕ) (e : EntryOf ℕ) (above below : ℕ) (are : IsSearching w) (opens : Opens w name e above below) where
   abbrev pub cycle : List CycleStep
@@ -74,10 +75,10 @@ module _ (w : SearchValue) (name : ℕ) (e : EntryOf ℕ) (above below : ℕ) (a
   odd = ap (λ k. k % 2) (sym (length-map cycle (λ s. s.node))) ∙ many.odd
 
   pub above_on : is_in (nodes_of cycle) above ≡ true
-  above_on = sym (on_is_in cycle above) ∙ opens.above.on_cycle
+  above_on = sym (on_is_in cycle above) ∙ opens.at_above.on_cycle
 
   pub below_on : is_in (nodes_of cycle) below ≡ true
-  below_on = sym (on_is_in cycle below) ∙ opens.below.on_cycle
+  below_on = sym (on_is_in cycle below) ∙ opens.at_below.on_cycle
 
   pub parted : IsPermutation (nodes_of cycle) (nodes_of way ++ nodes_of rest)
   parted = nodes_parted cycle above below many.distinct odd above_on below_on
