@@ -22,10 +22,12 @@ pub mod Linked
 pub mod Matched
 pub mod OpenedAlong
 pub mod OpenedConditions
+pub mod OpenedLinks
 pub mod OpenedNames
 pub mod OpenedPlaces
 pub mod OpenedRounds
 pub mod OpenedSplits
+pub mod OpenedStates
 pub mod OpenedWays
 pub mod Openings
 pub mod Relayered
