@@ -24,6 +24,7 @@ pub mod OpenedAlong
 pub mod OpenedConditions
 pub mod OpenedLinks
 pub mod OpenedNames
+pub mod OpenedNumbers
 pub mod OpenedPlaces
 pub mod OpenedRounds
 pub mod OpenedSplits
