@@ -27,6 +27,7 @@ pub mod OpenedNames
 pub mod OpenedNumbers
 pub mod OpenedPlaces
 pub mod OpenedRounds
+pub mod OpenedSearchStates
 pub mod OpenedSplits
 pub mod OpenedStates
 pub mod OpenedWays
