@@ -23,6 +23,7 @@ pub mod Matched
 pub mod OpenedAlong
 pub mod OpenedConditions
 pub mod OpenedLinks
+pub mod OpenedMatchings
 pub mod OpenedNames
 pub mod OpenedNumbers
 pub mod OpenedPlaces
