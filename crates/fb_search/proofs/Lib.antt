@@ -31,6 +31,7 @@ pub mod OpenedRounds
 pub mod OpenedSearchStates
 pub mod OpenedSplits
 pub mod OpenedStates
+pub mod OpenedWatches
 pub mod OpenedWays
 pub mod Openings
 pub mod Relayered
