@@ -29,6 +29,7 @@ pub mod OpenedNumbers
 pub mod OpenedPlaces
 pub mod OpenedRounds
 pub mod OpenedSearchStates
+pub mod OpenedSearches
 pub mod OpenedSplits
 pub mod OpenedStates
 pub mod OpenedWatches
