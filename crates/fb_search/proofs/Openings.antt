@@ -25,8 +25,8 @@ round_in w name above below = even_on (round_on (cycle_at w.store name) above) b
 pub record Opens (w : SearchValue) (name : ℕ) (e : EntryOf ℕ) (above below : ℕ) : Type 0 where
   pub may_split : MaySplit w.part.nodes name
   pub branch : IsBranchAt w.tree name e
-  pub above : EndsAtChild w.part name e.parent e.tree above
-  pub below : EndsAtChild w.part name e.plus e.matched below
+  pub at_above : EndsAtChild w.part name e.parent e.tree above
+  pub at_below : EndsAtChild w.part name e.plus e.matched below
 
 -- the search afterwards
 abbrev pub opened_search : ℕ → List CycleStep → List (Option (List Step)) → List (Option blossoms.Node) → Grown → Watched → SearchValue → SearchValue
@@ -43,10 +43,10 @@ opened_search name rest links store tree watched w = record {
 
 -- What the calls make of the parts.
 pub record HasOpened (w : SearchValue) (name above below : ℕ) (links : List (Option (List Step))) (store : List (Option blossoms.Node)) (tree : Grown) (watched : Watched) : Type 0 where
-  pub store : TakesOff w.part.store store name
-  pub tree : IsOpened w.tree name (way_on (round_in w.part name above below) below) tree
-  pub links : Forgets (links_left (round_in w.part name above below) below) w.part.links links
+  pub taken_off : TakesOff w.part.store store name
+  pub grown : IsOpened w.tree name (way_on (round_in w.part name above below) below) tree
+  pub forgets : Forgets (links_left (round_in w.part name above below) below) w.part.links links
   pub within : All (λ k. k < watched.edge_count) watched.edges
-  pub watched : Watches (problem_of w)
+  pub watches : Watches (problem_of w)
       (flat_map (top_at (split name w.part.nodes)) (second_nodes (way_on (round_in w.part name above below) below)))
       w.watched watched
