@@ -21,6 +21,13 @@ pub mod JoinStates
 pub mod KeptWatches
 pub mod Linked
 pub mod Matched
+pub mod OpenedAlong
+pub mod OpenedConditions
+pub mod OpenedNames
+pub mod OpenedPlaces
+pub mod OpenedRounds
+pub mod OpenedSplits
+pub mod OpenedWays
 pub mod Openings
 pub mod Relayered
 pub mod Renamed
