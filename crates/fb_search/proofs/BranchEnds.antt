@@ -18,8 +18,9 @@ use Rattle.fb_links.specs.Table.{is_live}
 use Rattle.fb_half.specs.Parts.{kept_links}
 use Rattle.fb_half.specs.Translations.{entry_by, link_by}
 use Rattle.fb_trees.specs.Rooted.{IsBranchAt}
-use Rattle.fb_search.specs.InternalOpenings.{MayEnter}
-use Rattle.fb_search.specs.Searching.{IsSearching, SearchValue, problem_of, searched_links, state_at}
+use Rattle.fb_search.specs.InternalOpenings.{EndsAtChild, MayEnter}
+use Rattle.fb_search.specs.Searching.{IsSearching, SearchValue, problem_of, state_at}
+use Rattle.fb_search.proofs.Openings.{Opens}
 
 module _ (w : SearchValue) (name : ℕ) (e : EntryOf ℕ) (are : IsSearching w) (may : MaySplit w.part.nodes name)
     (branch : IsBranchAt w.tree name e) where
@@ -90,3 +91,16 @@ module _ (w : SearchValue) (name : ℕ) (e : EntryOf ℕ) (are : IsSearching w) 
     apart = plus_apart e.plus (among_plus w.tree.root tree entry entry_among);
     connects = subst (Connects w.part.nodes entry.matched e.plus) branch.minus (connects_sym w.part.nodes entry.matched e.minus e.plus connected.1);
   }
+
+-- So it may be opened, given the children at which the links end.
+pub opens_by : (w : SearchValue) (name : ℕ) (e : EntryOf ℕ) (above below : ℕ) → IsSearching w → MaySplit w.part.nodes name
+    → IsBranchAt w.tree name e
+    → ((other : ℕ) → MayEnter w.part name other e.tree → EndsAtChild w.part name other e.tree above)
+    → ((other : ℕ) → MayEnter w.part name other e.matched → EndsAtChild w.part name other e.matched below)
+    → Opens w name e above below
+opens_by w name e above below are may branch first second = record {
+  may_split = may;
+  branch = branch;
+  at_above = first e.parent (enters_above w name e are may branch);
+  at_below = second e.plus (enters_below w name e are may branch);
+}

@@ -104,11 +104,7 @@ fn round_between(
 }
 
 /// The steps of the cycle from the node's on.
-fn round_from(
-    alloc: Global,
-    cycle: &[CycleStep],
-    node: NodeId,
-) -> Result<Vec<CycleStep>, NoMemory>
+fn round_from(alloc: Global, cycle: &[CycleStep], node: NodeId) -> Result<Vec<CycleStep>, NoMemory>
     requires { is_on cycle.now node ≡ true }
     ensures { IfOk result (λ round. round.items ≡ round_on cycle.now node) }
 {
@@ -171,11 +167,7 @@ fn couples(alloc: Global, steps: &[CycleStep]) -> Result<Vec<Match>, NoMemory>
 }
 
 /// The first link, and those that lead on from each two of the steps.
-fn links_left(
-    alloc: Global,
-    first: LinkId,
-    steps: &[CycleStep],
-) -> Result<Vec<LinkId>, NoMemory>
+fn links_left(alloc: Global, first: LinkId, steps: &[CycleStep]) -> Result<Vec<LinkId>, NoMemory>
     ensures { IfOk result (λ links. links.items ≡ first ∷ between_on steps.now) }
 {
     let mut links = Vec::new(alloc);
