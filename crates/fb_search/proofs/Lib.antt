@@ -23,10 +23,16 @@ pub mod Linked
 pub mod Matched
 pub mod OpenedAlong
 pub mod OpenedConditions
+pub mod OpenedLinks
+pub mod OpenedMatchings
 pub mod OpenedNames
+pub mod OpenedNumbers
 pub mod OpenedPlaces
 pub mod OpenedRounds
+pub mod OpenedSearchStates
 pub mod OpenedSplits
+pub mod OpenedStates
+pub mod OpenedWatches
 pub mod OpenedWays
 pub mod Openings
 pub mod Relayered
