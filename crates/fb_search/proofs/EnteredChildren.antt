@@ -130,8 +130,8 @@ module _ (w : PartValue) (name other link d : ℕ) (may : MayEnter w name other 
       within =
           let (n, a, named) = live_among w.nodes name may.may_split.live in
           let (m, b, is_child) = live_among w.nodes child
-              (is_in-All (λ c. is_live w.nodes c ≡ true) n.children
-              (All_among (λ n. All (λ c. is_live w.nodes c ≡ true) n.children) w.nodes may.nest.forest.live n a) child (mine n a named)) in
+          (is_in-All (λ c. is_live w.nodes c ≡ true) n.children
+          (All_among (λ n. All (λ c. is_live w.nodes c ≡ true) n.children) w.nodes may.nest.forest.live n a) child (mine n a named)) in
           let holds : (is_in (leaves w.nodes) d && is_in m.top.vertices d) ≡ true =
           sym (All_among (λ n. (e : ℕ) → is_in (defects_at w.store n.name) e ≡ (is_in (leaves w.nodes) e && is_in n.top.vertices e))
           w.nodes (held_in_sets (problem_in w) w.nodes (defects_at w.store) may.nest (are_held w.nodes w.store may.agreed nested)) m b d)

@@ -2,6 +2,7 @@ pub mod Agreed
 pub mod AttachedBranches
 pub mod AttachedMatches
 pub mod BegunSearches
+pub mod BranchEnds
 pub mod BranchPlaces
 pub mod CoversBefore
 pub mod DroppedLinks
@@ -38,6 +39,7 @@ pub mod Openings
 pub mod Relayered
 pub mod Renamed
 pub mod RolesInTree
+pub mod RoundPlaces
 pub mod Runs
 pub mod StepPairs
 pub mod TakenNames

@@ -31,13 +31,13 @@ impl<'a> Searching<'a> {
             mut tree,
             mut watch,
         } = self;
+        parts.regions.scope().limits();
         let branch = tree.branch(node);
         let above = child_at(&parts, node, branch.tree);
         let below = child_at(&parts, node, branch.matched);
         let cycle = parts.blossoms.open_up(node);
         parts.regions.split_node(node)?;
-        let round = round_from(alloc, &cycle, above)?;
-        let round = even_round(alloc, round, below)?;
+        let round = round_between(alloc, &cycle, above, below)?;
         let end = place_of(&round, below);
         let (way, rest) = round.split_at(end + 1);
         tree.replace(alloc, &[node], way, &parts.links)?;
@@ -87,12 +87,24 @@ fn place_of(cycle: &[CycleStep], node: NodeId) -> usize
     unreachable!()
 }
 
-/// The steps of the cycle from the node's on.
-fn round_from(
+/// The steps of the cycle from the first node's on, by the way on which the second one is an even number of links on.
+fn round_between(
     alloc: Global,
     cycle: &[CycleStep],
-    node: NodeId,
+    first: NodeId,
+    second: NodeId,
 ) -> Result<Vec<CycleStep>, NoMemory>
+    requires first { is_on cycle.now first ≡ true }
+    requires second { is_on cycle.now second ≡ true }
+    ensures round { IfOk result (λ round. round.items ≡ even_on (round_on cycle.now first) second) }
+    ensures second { IfOk result (λ round. is_on round.items second ≡ true) }
+{
+    let round = round_from(alloc, cycle, first)?;
+    even_round(alloc, round, second)
+}
+
+/// The steps of the cycle from the node's on.
+fn round_from(alloc: Global, cycle: &[CycleStep], node: NodeId) -> Result<Vec<CycleStep>, NoMemory>
     requires { is_on cycle.now node ≡ true }
     ensures { IfOk result (λ round. round.items ≡ round_on cycle.now node) }
 {
@@ -155,11 +167,7 @@ fn couples(alloc: Global, steps: &[CycleStep]) -> Result<Vec<Match>, NoMemory>
 }
 
 /// The first link, and those that lead on from each two of the steps.
-fn links_left(
-    alloc: Global,
-    first: LinkId,
-    steps: &[CycleStep],
-) -> Result<Vec<LinkId>, NoMemory>
+fn links_left(alloc: Global, first: LinkId, steps: &[CycleStep]) -> Result<Vec<LinkId>, NoMemory>
     ensures { IfOk result (λ links. links.items ≡ first ∷ between_on steps.now) }
 {
     let mut links = Vec::new(alloc);

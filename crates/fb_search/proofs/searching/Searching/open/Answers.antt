@@ -1,0 +1,177 @@
+use Rattle.std.proofs.Common.{◌≡◌, ◌++◌, true, All, sym, subst, ap, ◌∙◌}
+use Rattle.fb_graph.specs.Certificate.{AreDistinct}
+use Rattle.fb_graph.specs.Dual.{is_live}
+use Rattle.fb_graph.specs.Moves.{split}
+use Rattle.fb_links.specs.Table as table
+use Rattle.fb_blossoms.specs.Nodes.{is_on}
+use Rattle.fb_half.specs.Matchings.{listed_names, matched_names}
+use Rattle.fb_half.specs.Values.{part_of}
+use Rattle.fb_trees.specs.Branches.{entry_of}
+use Rattle.fb_trees.specs.Replacements.{MayOpen}
+use Rattle.fb_search.specs.InternalOpenings.{couples_on, even_on, round_on, second_nodes}
+use Rattle.fb_search.specs.Searching.{SearchValue}
+use Rattle.fb_search.proofs.Agreed.{cycle_there, outer_in_store}
+use Rattle.fb_search.proofs.BranchEnds.{enters_above, enters_below, opens_by}
+use Rattle.fb_search.proofs.OpenedConditions.{couples_fresh, left_distinct, left_live, plus_live, way_opens}
+use Rattle.fb_search.proofs.Openings.{Opens, round_in}
+use Rattle.fb_search.proofs.RoundPlaces.{IsReadAt, left_read, rest_read, way_read}
+use Rattle.fb_search.proofs.searching.Searching.open.Goals as goal
+
+pub child_at-above-requires : goal.child_at-above-requires
+child_at-above-requires c =
+    let w : SearchValue = record { part = part_of c.self.inside.parts; tree = c.self.inside.tree; watched = c.self.inside.watch } in
+    let asked = rw (← c.self.view_is) at c.requires in
+    let e = entry_of c.branch-branch.result in
+    (e.parent, enters_above w c.args.node e c.self.invariant.1 asked.1 c.branch-branch.ensures)
+
+pub child_at-below-requires : goal.child_at-below-requires
+child_at-below-requires c =
+    let w : SearchValue = record { part = part_of c.self.inside.parts; tree = c.self.inside.tree; watched = c.self.inside.watch } in
+    let asked = rw (← c.self.view_is) at c.requires in
+    let e = entry_of c.branch-branch.result in
+    (e.plus, enters_below w c.args.node e c.self.invariant.1 asked.1 c.branch-branch.ensures)
+
+pub open_up-cycle-requires-clause-blossom : goal.open_up-cycle-requires-clause-blossom
+open_up-cycle-requires-clause-blossom c =
+    let asked = rw (← c.self.view_is) at c.requires in
+    cycle_there c.self.inside.parts.regions.nodes c.self.inside.parts.blossoms c.args.node c.self.invariant.1.agreed asked.1
+
+pub open_up-cycle-requires-clause-outer : goal.open_up-cycle-requires-clause-outer
+open_up-cycle-requires-clause-outer c =
+    let asked = rw (← c.self.view_is) at c.requires in
+    outer_in_store c.self.inside.parts.regions.nodes c.self.inside.parts.blossoms c.args.node c.self.invariant.1.agreed asked.1.outer
+
+pub round_between-requires-clause-first : goal.round_between-requires-clause-first
+round_between-requires-clause-first c =
+    let w : SearchValue = record { part = part_of c.self.inside.parts; tree = c.self.inside.tree; watched = c.self.inside.watch } in
+    let asked = rw (← c.self.view_is) at c.requires in
+    let opens : Opens w c.args.node (entry_of c.branch-branch.result) c.child_at-above.result c.child_at-below.result =
+    opens_by w c.args.node (entry_of c.branch-branch.result) c.child_at-above.result c.child_at-below.result c.self.invariant.1 asked.1
+    c.branch-branch.ensures c.child_at-above.ensures c.child_at-below.ensures in
+    ap (λ l. is_on l c.child_at-above.result) (c.deref.ensures.value ∙ c.open_up-cycle.ensures.cycle) ∙ opens.at_above.on_cycle
+
+pub round_between-requires-clause-second : goal.round_between-requires-clause-second
+round_between-requires-clause-second c =
+    let w : SearchValue = record { part = part_of c.self.inside.parts; tree = c.self.inside.tree; watched = c.self.inside.watch } in
+    let asked = rw (← c.self.view_is) at c.requires in
+    let opens : Opens w c.args.node (entry_of c.branch-branch.result) c.child_at-above.result c.child_at-below.result =
+    opens_by w c.args.node (entry_of c.branch-branch.result) c.child_at-above.result c.child_at-below.result c.self.invariant.1 asked.1
+    c.branch-branch.ensures c.child_at-above.ensures c.child_at-below.ensures in
+    ap (λ l. is_on l c.child_at-below.result) (c.deref.ensures.value ∙ c.open_up-cycle.ensures.cycle) ∙ opens.at_below.on_cycle
+
+pub replace-requires : goal.replace-requires
+replace-requires c =
+    let w : SearchValue = record { part = part_of c.self.inside.parts; tree = c.self.inside.tree; watched = c.self.inside.watch } in
+    let asked = rw (← c.self.view_is) at c.requires in
+    let opens : Opens w c.args.node (entry_of c.branch-branch.result) c.child_at-above.result c.child_at-below.result =
+    opens_by w c.args.node (entry_of c.branch-branch.result) c.child_at-above.result c.child_at-below.result c.self.invariant.1 asked.1
+    c.branch-branch.ensures c.child_at-above.ensures c.child_at-below.ensures in
+    let whole = round_in w.part c.args.node c.child_at-above.result c.child_at-below.result in
+    let read : IsReadAt whole c.child_at-below.result c.in_ok-round.round.items c.deref-2.result.now c.deref-3.result.now
+    c.split_at.result.0.now c.split_at.result.1.now c.place_of-end.result = record {
+      round = c.in_ok-round.ensures.round
+          ∙ ap (λ l. even_on (round_on l c.child_at-above.result) c.child_at-below.result) (c.deref.ensures.value ∙ c.open_up-cycle.ensures.cycle);
+      first = c.deref-2.ensures.value;
+      second = c.deref-3.ensures.value;
+      place = c.place_of-end.ensures.place;
+      before = c.split_at.ensures.front;
+      after = c.split_at.ensures.back;
+    } in
+    subst (MayOpen w.tree c.args.node) (sym (way_read whole c.child_at-below.result c.in_ok-round.round.items c.deref-2.result.now c.deref-3.result.now c.split_at.result.0.now c.split_at.result.1.now c.place_of-end.result read))
+    (way_opens w c.args.node (entry_of c.branch-branch.result) c.child_at-above.result c.child_at-below.result c.self.invariant.1 opens)
+
+pub add_matches-requires : goal.add_matches-requires
+add_matches-requires c =
+    let w : SearchValue = record { part = part_of c.self.inside.parts; tree = c.self.inside.tree; watched = c.self.inside.watch } in
+    let asked = rw (← c.self.view_is) at c.requires in
+    let opens : Opens w c.args.node (entry_of c.branch-branch.result) c.child_at-above.result c.child_at-below.result =
+    opens_by w c.args.node (entry_of c.branch-branch.result) c.child_at-above.result c.child_at-below.result c.self.invariant.1 asked.1
+    c.branch-branch.ensures c.child_at-above.ensures c.child_at-below.ensures in
+    let whole = round_in w.part c.args.node c.child_at-above.result c.child_at-below.result in
+    let read : IsReadAt whole c.child_at-below.result c.in_ok-round.round.items c.deref-2.result.now c.deref-3.result.now
+    c.split_at.result.0.now c.split_at.result.1.now c.place_of-end.result = record {
+      round = c.in_ok-round.ensures.round
+          ∙ ap (λ l. even_on (round_on l c.child_at-above.result) c.child_at-below.result) (c.deref.ensures.value ∙ c.open_up-cycle.ensures.cycle);
+      first = c.deref-2.ensures.value;
+      second = c.deref-3.ensures.value;
+      place = c.place_of-end.ensures.place;
+      before = c.split_at.ensures.front;
+      after = c.split_at.ensures.back;
+    } in
+    subst (λ ms. AreDistinct (listed_names w.part.matching ++ matched_names ms))
+    (sym (c.deref-4.ensures.value ∙ (c.in_ok-matches.ensures ∙ ap couples_on (rest_read whole c.child_at-below.result c.in_ok-round.round.items c.deref-2.result.now c.deref-3.result.now c.split_at.result.0.now c.split_at.result.1.now c.place_of-end.result read))))
+    (couples_fresh w c.args.node (entry_of c.branch-branch.result) c.child_at-above.result c.child_at-below.result c.self.invariant.1 opens)
+
+pub forget_all-requires-clause-live : goal.forget_all-requires-clause-live
+forget_all-requires-clause-live c =
+    let w : SearchValue = record { part = part_of c.self.inside.parts; tree = c.self.inside.tree; watched = c.self.inside.watch } in
+    let asked = rw (← c.self.view_is) at c.requires in
+    let opens : Opens w c.args.node (entry_of c.branch-branch.result) c.child_at-above.result c.child_at-below.result =
+    opens_by w c.args.node (entry_of c.branch-branch.result) c.child_at-above.result c.child_at-below.result c.self.invariant.1 asked.1
+    c.branch-branch.ensures c.child_at-above.ensures c.child_at-below.ensures in
+    let whole = round_in w.part c.args.node c.child_at-above.result c.child_at-below.result in
+    let read : IsReadAt whole c.child_at-below.result c.in_ok-round.round.items c.deref-2.result.now c.deref-3.result.now
+    c.split_at.result.0.now c.split_at.result.1.now c.place_of-end.result = record {
+      round = c.in_ok-round.ensures.round
+          ∙ ap (λ l. even_on (round_on l c.child_at-above.result) c.child_at-below.result) (c.deref.ensures.value ∙ c.open_up-cycle.ensures.cycle);
+      first = c.deref-2.ensures.value;
+      second = c.deref-3.ensures.value;
+      place = c.place_of-end.ensures.place;
+      before = c.split_at.ensures.front;
+      after = c.split_at.ensures.back;
+    } in
+    subst (All (λ id. table.is_live w.part.links id ≡ true))
+    (sym (c.deref-5.ensures.value
+    ∙ left_read whole c.child_at-below.result c.in_ok-round.round.items c.deref-2.result.now c.deref-3.result.now c.split_at.result.0.now c.split_at.result.1.now c.place_of-end.result read c.index.result.now c.in_ok-left.left.items c.in_ok-round.ensures.second c.index.ensures c.in_ok-left.ensures))
+    (left_live w c.args.node (entry_of c.branch-branch.result) c.child_at-above.result c.child_at-below.result c.self.invariant.1 opens)
+
+pub forget_all-requires-clause-distinct : goal.forget_all-requires-clause-distinct
+forget_all-requires-clause-distinct c =
+    let w : SearchValue = record { part = part_of c.self.inside.parts; tree = c.self.inside.tree; watched = c.self.inside.watch } in
+    let asked = rw (← c.self.view_is) at c.requires in
+    let opens : Opens w c.args.node (entry_of c.branch-branch.result) c.child_at-above.result c.child_at-below.result =
+    opens_by w c.args.node (entry_of c.branch-branch.result) c.child_at-above.result c.child_at-below.result c.self.invariant.1 asked.1
+    c.branch-branch.ensures c.child_at-above.ensures c.child_at-below.ensures in
+    let whole = round_in w.part c.args.node c.child_at-above.result c.child_at-below.result in
+    let read : IsReadAt whole c.child_at-below.result c.in_ok-round.round.items c.deref-2.result.now c.deref-3.result.now
+    c.split_at.result.0.now c.split_at.result.1.now c.place_of-end.result = record {
+      round = c.in_ok-round.ensures.round
+          ∙ ap (λ l. even_on (round_on l c.child_at-above.result) c.child_at-below.result) (c.deref.ensures.value ∙ c.open_up-cycle.ensures.cycle);
+      first = c.deref-2.ensures.value;
+      second = c.deref-3.ensures.value;
+      place = c.place_of-end.ensures.place;
+      before = c.split_at.ensures.front;
+      after = c.split_at.ensures.back;
+    } in
+    subst AreDistinct
+    (sym (c.deref-5.ensures.value
+    ∙ left_read whole c.child_at-below.result c.in_ok-round.round.items c.deref-2.result.now c.deref-3.result.now c.split_at.result.0.now c.split_at.result.1.now c.place_of-end.result read c.index.result.now c.in_ok-left.left.items c.in_ok-round.ensures.second c.index.ensures c.in_ok-left.ensures))
+    (left_distinct w c.args.node (entry_of c.branch-branch.result) c.child_at-above.result c.child_at-below.result c.self.invariant.1 opens)
+
+pub watch_plus-requires-clause-live : goal.watch_plus-requires-clause-live
+watch_plus-requires-clause-live c =
+    let w : SearchValue = record { part = part_of c.self.inside.parts; tree = c.self.inside.tree; watched = c.self.inside.watch } in
+    let asked = rw (← c.self.view_is) at c.requires in
+    let opens : Opens w c.args.node (entry_of c.branch-branch.result) c.child_at-above.result c.child_at-below.result =
+    opens_by w c.args.node (entry_of c.branch-branch.result) c.child_at-above.result c.child_at-below.result c.self.invariant.1 asked.1
+    c.branch-branch.ensures c.child_at-above.ensures c.child_at-below.ensures in
+    let whole = round_in w.part c.args.node c.child_at-above.result c.child_at-below.result in
+    let read : IsReadAt whole c.child_at-below.result c.in_ok-round.round.items c.deref-2.result.now c.deref-3.result.now
+    c.split_at.result.0.now c.split_at.result.1.now c.place_of-end.result = record {
+      round = c.in_ok-round.ensures.round
+          ∙ ap (λ l. even_on (round_on l c.child_at-above.result) c.child_at-below.result) (c.deref.ensures.value ∙ c.open_up-cycle.ensures.cycle);
+      first = c.deref-2.ensures.value;
+      second = c.deref-3.ensures.value;
+      place = c.place_of-end.ensures.place;
+      before = c.split_at.ensures.front;
+      after = c.split_at.ensures.back;
+    } in
+    rw (c.in_ok-split_node.ensures.ok)
+    (subst (λ l. All (λ n. is_live (split c.args.node w.part.nodes) n ≡ true) (second_nodes l)) (sym (way_read whole c.child_at-below.result c.in_ok-round.round.items c.deref-2.result.now c.deref-3.result.now c.split_at.result.0.now c.split_at.result.1.now c.place_of-end.result read))
+    (plus_live w c.args.node (entry_of c.branch-branch.result) c.child_at-above.result c.child_at-below.result c.self.invariant.1 opens))
+
+pub invariant_of-result : goal.invariant_of-result
+invariant_of-result c = ?
+
+pub returns : goal.returns
+returns c = ?
