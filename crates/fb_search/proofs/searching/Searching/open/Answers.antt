@@ -7,13 +7,17 @@ use Rattle.fb_blossoms.specs.Nodes.{is_on}
 use Rattle.fb_half.specs.Matchings.{listed_names, matched_names}
 use Rattle.fb_half.specs.Values.{part_of}
 use Rattle.fb_trees.specs.Branches.{entry_of}
-use Rattle.fb_trees.specs.Replacements.{MayOpen}
+use Rattle.fb_plan.specs.declared.scope.NodeScope.{NodeScope}
+use Rattle.fb_trees.specs.Replacements.{IsOpened, MayOpen}
+use Rattle.fb_search.specs.InternalEndings.{Forgets}
 use Rattle.fb_search.specs.InternalOpenings.{couples_on, even_on, round_on, second_nodes}
 use Rattle.fb_search.specs.Searching.{SearchValue}
 use Rattle.fb_search.proofs.Agreed.{cycle_there, outer_in_store}
+use Rattle.fb_search.proofs.BegunSearches.{kept_limits, kept_watches}
 use Rattle.fb_search.proofs.BranchEnds.{enters_above, enters_below, opens_by}
 use Rattle.fb_search.proofs.OpenedConditions.{couples_fresh, left_distinct, left_live, plus_live, way_opens}
-use Rattle.fb_search.proofs.Openings.{Opens, round_in}
+use Rattle.fb_search.proofs.OpenedSearches.{goes_on_opened, searching_opened}
+use Rattle.fb_search.proofs.Openings.{HasOpened, Opens, round_in}
 use Rattle.fb_search.proofs.RoundPlaces.{IsReadAt, left_read, rest_read, way_read}
 use Rattle.fb_search.proofs.searching.Searching.open.Goals as goal
 
@@ -171,7 +175,74 @@ watch_plus-requires-clause-live c =
     (plus_live w c.args.node (entry_of c.branch-branch.result) c.child_at-above.result c.child_at-below.result c.self.invariant.1 opens))
 
 pub invariant_of-result : goal.invariant_of-result
-invariant_of-result c = ?
+invariant_of-result c =
+    let w : SearchValue = record { part = part_of c.self.inside.parts; tree = c.self.inside.tree; watched = c.self.inside.watch } in
+    let asked = rw (← c.self.view_is) at c.requires in
+    let opens : Opens w c.args.node (entry_of c.branch-branch.result) c.child_at-above.result c.child_at-below.result =
+    opens_by w c.args.node (entry_of c.branch-branch.result) c.child_at-above.result c.child_at-below.result c.self.invariant.1 asked.1
+    c.branch-branch.ensures c.child_at-above.ensures c.child_at-below.ensures in
+    let whole = round_in w.part c.args.node c.child_at-above.result c.child_at-below.result in
+    let read : IsReadAt whole c.child_at-below.result c.in_ok-round.round.items c.deref-2.result.now c.deref-3.result.now
+    c.split_at.result.0.now c.split_at.result.1.now c.place_of-end.result = record {
+      round = c.in_ok-round.ensures.round
+          ∙ ap (λ l. even_on (round_on l c.child_at-above.result) c.child_at-below.result) (c.deref.ensures.value ∙ c.open_up-cycle.ensures.cycle);
+      first = c.deref-2.ensures.value;
+      second = c.deref-3.ensures.value;
+      place = c.place_of-end.ensures.place;
+      before = c.split_at.ensures.front;
+      after = c.split_at.ensures.back;
+    } in
+    let rests = rest_read whole c.child_at-below.result c.in_ok-round.round.items c.deref-2.result.now c.deref-3.result.now c.split_at.result.0.now c.split_at.result.1.now c.place_of-end.result read in
+    let left = c.deref-5.ensures.value
+    ∙ left_read whole c.child_at-below.result c.in_ok-round.round.items c.deref-2.result.now c.deref-3.result.now c.split_at.result.0.now c.split_at.result.1.now c.place_of-end.result read c.index.result.now c.in_ok-left.left.items c.in_ok-round.ensures.second c.index.ensures c.in_ok-left.ensures in
+    let watches = rw (c.in_ok-split_node.ensures.ok, way_read whole c.child_at-below.result c.in_ok-round.round.items c.deref-2.result.now c.deref-3.result.now c.split_at.result.0.now c.split_at.result.1.now c.place_of-end.result read) at c.in_ok-watch_plus.ensures in
+    let has : HasOpened w c.args.node c.child_at-above.result c.child_at-below.result c.forget_all.new.links c.open_up-cycle.new.self
+        c.replace.new.self c.watch_plus.new.watch = record {
+      taken_off = c.open_up-cycle.ensures.rest;
+      grown = subst (λ l. IsOpened w.tree c.args.node l c.replace.new.self) (way_read whole c.child_at-below.result c.in_ok-round.round.items c.deref-2.result.now c.deref-3.result.now c.split_at.result.0.now c.split_at.result.1.now c.place_of-end.result read) c.in_ok-replace.ensures.ok;
+      forgets = subst (λ l. Forgets l w.part.links c.forget_all.new.links) left c.forget_all.ensures;
+      within = c.keeps.ensures.within;
+      watches = kept_watches w.part c.self.inside.parts.regions.scope.graph.now c.self.inside.parts.regions.scope.plan.now
+          c.self.inside.parts.regions.scope.node _ w.watched c.watch_plus.new.watch c.self.invariant.0.graph watches;
+    } in
+    let scope = c.self.invariant.0 in
+    let limits = kept_limits w.part c.scope.result.now.graph.now c.scope.result.now.plan.now c.scope.result.now.node
+    (ap (λ (s : NodeScope). s.graph.now) c.scope.ensures ∙ scope.graph) (ap (λ (s : NodeScope). s.plan.now) c.scope.ensures ∙ scope.plan)
+    (ap (λ (s : NodeScope). s.node) c.scope.ensures ∙ scope.node) c.limits.ensures in
+    rw (c.in_ok-split_node.ensures.ok, c.in_ok-add_matches.ensures, c.deref-4.ensures.value, c.in_ok-matches.ensures, rests)
+    (record { graph = scope.graph; plan = scope.plan; node = scope.node },
+    searching_opened w c.args.node (entry_of c.branch-branch.result) c.child_at-above.result c.child_at-below.result c.self.invariant.1 opens c.forget_all.new.links c.open_up-cycle.new.self c.replace.new.self c.watch_plus.new.watch limits has)
 
 pub returns : goal.returns
-returns c = ?
+returns c =
+    let w : SearchValue = record { part = part_of c.self.inside.parts; tree = c.self.inside.tree; watched = c.self.inside.watch } in
+    let asked = rw (← c.self.view_is) at c.requires in
+    let opens : Opens w c.args.node (entry_of c.branch-branch.result) c.child_at-above.result c.child_at-below.result =
+    opens_by w c.args.node (entry_of c.branch-branch.result) c.child_at-above.result c.child_at-below.result c.self.invariant.1 asked.1
+    c.branch-branch.ensures c.child_at-above.ensures c.child_at-below.ensures in
+    let whole = round_in w.part c.args.node c.child_at-above.result c.child_at-below.result in
+    let read : IsReadAt whole c.child_at-below.result c.in_ok-round.round.items c.deref-2.result.now c.deref-3.result.now
+    c.split_at.result.0.now c.split_at.result.1.now c.place_of-end.result = record {
+      round = c.in_ok-round.ensures.round
+          ∙ ap (λ l. even_on (round_on l c.child_at-above.result) c.child_at-below.result) (c.deref.ensures.value ∙ c.open_up-cycle.ensures.cycle);
+      first = c.deref-2.ensures.value;
+      second = c.deref-3.ensures.value;
+      place = c.place_of-end.ensures.place;
+      before = c.split_at.ensures.front;
+      after = c.split_at.ensures.back;
+    } in
+    let rests = rest_read whole c.child_at-below.result c.in_ok-round.round.items c.deref-2.result.now c.deref-3.result.now c.split_at.result.0.now c.split_at.result.1.now c.place_of-end.result read in
+    let left = c.deref-5.ensures.value
+    ∙ left_read whole c.child_at-below.result c.in_ok-round.round.items c.deref-2.result.now c.deref-3.result.now c.split_at.result.0.now c.split_at.result.1.now c.place_of-end.result read c.index.result.now c.in_ok-left.left.items c.in_ok-round.ensures.second c.index.ensures c.in_ok-left.ensures in
+    let watches = rw (c.in_ok-split_node.ensures.ok, way_read whole c.child_at-below.result c.in_ok-round.round.items c.deref-2.result.now c.deref-3.result.now c.split_at.result.0.now c.split_at.result.1.now c.place_of-end.result read) at c.in_ok-watch_plus.ensures in
+    let has : HasOpened w c.args.node c.child_at-above.result c.child_at-below.result c.forget_all.new.links c.open_up-cycle.new.self
+        c.replace.new.self c.watch_plus.new.watch = record {
+      taken_off = c.open_up-cycle.ensures.rest;
+      grown = subst (λ l. IsOpened w.tree c.args.node l c.replace.new.self) (way_read whole c.child_at-below.result c.in_ok-round.round.items c.deref-2.result.now c.deref-3.result.now c.split_at.result.0.now c.split_at.result.1.now c.place_of-end.result read) c.in_ok-replace.ensures.ok;
+      forgets = subst (λ l. Forgets l w.part.links c.forget_all.new.links) left c.forget_all.ensures;
+      within = c.keeps.ensures.within;
+      watches = kept_watches w.part c.self.inside.parts.regions.scope.graph.now c.self.inside.parts.regions.scope.plan.now
+          c.self.inside.parts.regions.scope.node _ w.watched c.watch_plus.new.watch c.self.invariant.0.graph watches;
+    } in
+    rw (← c.self.view_is, c.in_ok-split_node.ensures.ok, c.in_ok-add_matches.ensures, c.deref-4.ensures.value, c.in_ok-matches.ensures, rests)
+    (goes_on_opened w c.args.node (entry_of c.branch-branch.result) c.child_at-above.result c.child_at-below.result c.self.invariant.1 opens c.forget_all.new.links c.open_up-cycle.new.self c.replace.new.self c.watch_plus.new.watch has)
