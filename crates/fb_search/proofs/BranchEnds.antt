@@ -47,9 +47,11 @@ module _ (w : SearchValue) (name : ℕ) (e : EntryOf ℕ) (are : IsSearching w) 
   plus_apart n plus same =
       both_ways (is_in (minus_names tree) n)
       (exclusive_names w.tree.root tree are.state.1.search.search.names n plus)
-      (ap (is_in (minus_names tree)) (same ∙ sym branch.minus) ∙ listed (minus_names tree) e.minus (map_among (λ x. x.minus) tree entry entry_among))
+      (ap (is_in (minus_names tree)) (same ∙ sym branch.minus)
+      ∙ listed (minus_names tree) e.minus (map_among (λ x. x.minus) tree entry entry_among))
 
-  tight : (l : Link) → IsAmong l (grown_links tree) ⊎ IsAmong l (paired_links tree) → AreMatchedLinks (problem_of w) w.part.nodes (l ∷ [])
+  tight : (l : Link) → IsAmong l (grown_links tree) ⊎ IsAmong l (paired_links tree)
+      → AreMatchedLinks (problem_of w) w.part.nodes (l ∷ [])
   tight l a =
       matched_some (problem_of w) w.part.nodes (search_links (state_at w are.state.0)) (l ∷ []) (λ m h. at m h a)
       (search_tight (problem_of w) (state_at w are.state.0) are.state.1)
@@ -89,7 +91,8 @@ module _ (w : SearchValue) (name : ℕ) (e : EntryOf ℕ) (are : IsSearching w) 
         (listed (paired_links w.tree.branches) e.matched (map_among (λ x. x.matched) w.tree.branches e among)));
     tight = tight entry.matched (inr (map_among (λ x. x.matched) tree entry entry_among));
     apart = plus_apart e.plus (among_plus w.tree.root tree entry entry_among);
-    connects = subst (Connects w.part.nodes entry.matched e.plus) branch.minus (connects_sym w.part.nodes entry.matched e.minus e.plus connected.1);
+    connects = subst (Connects w.part.nodes entry.matched e.plus) branch.minus
+        (connects_sym w.part.nodes entry.matched e.minus e.plus connected.1);
   }
 
 -- So it may be opened, given the children at which the links end.

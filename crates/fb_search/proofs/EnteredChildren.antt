@@ -34,7 +34,8 @@ along_any held (s ∷ ss) d =
     list_any-append (λ u. u == d) (held s.node) (flat_map (λ s. held s.node) ss)
     ∙ ap (λ b. is_in (held s.node) d || b) (along_any held ss d)
 
-module _ (nodes : List Node) (store : List (Option blossoms.Node)) (agreed : AreAgreed nodes store) (nested : IsNested store) where
+module _ (nodes : List Node) (store : List (Option blossoms.Node)) (agreed : AreAgreed nodes store)
+    (nested : IsNested store) where
   blossom_held : (name d : ℕ) (ss : List CycleStep) → cycle_at store name ≡ ss → is_empty (map (λ s. s.node) ss) ≡ false
       → is_in (defects_at store name) d ≡ list_any (λ c. is_in (defects_at store c) d) (map (λ s. s.node) ss)
   blossom_held name d [] e some = absurd (both_ways true some refl)
@@ -50,7 +51,8 @@ module _ (nodes : List Node) (store : List (Option blossoms.Node)) (agreed : Are
     own = among_All
         (λ n. is_empty n.children ≡ true → (d : ℕ) → is_in (defects_at store n.name) d ≡ is_in (defects_of n) d) nodes
         (λ n a e d. ap (λ l. is_in l d)
-        (sym (All_among (λ m. is_empty m.children ≡ true → defects_of m ≡ defects_at store m.name) nodes agreed.leaves n a e)));
+        (sym (All_among (λ m. is_empty m.children ≡ true → defects_of m ≡ defects_at store m.name) nodes
+        agreed.leaves n a e)));
     joined = among_All
         (λ n. is_empty n.children ≡ false → (d : ℕ)
         → is_in (defects_at store n.name) d ≡ list_any (λ c. is_in (defects_at store c) d) n.children) nodes
@@ -69,7 +71,8 @@ end_is_leaf p nodes l d name nest are ends cover = by ends
     real : p.is_real d ≡ true
     real =
         let over = cover_among nodes d name cover in
-        is_in-All (λ v. p.is_real v ≡ true) over.node.top.vertices (top_is_odd p nodes nest over.node over.among).real d over.holds
+        is_in-All (λ v. p.is_real v ≡ true) over.node.top.vertices
+        (top_is_odd p nodes nest over.node over.among).real d over.holds
 
     at : (p.is_real l.from ≡ true → is_in (leaves nodes) l.from ≡ true)
         × (p.is_real l.to ≡ true → is_in (leaves nodes) l.to ≡ true)
@@ -106,8 +109,10 @@ module _ (w : PartValue) (name other link d : ℕ) (may : MayEnter w name other 
   -- the blossom holds the end
   pub end_held : is_in (defects_at w.store name) d ≡ true
   end_held =
-      (covered_is_held (problem_in w) w.nodes (defects_at w.store) name d may.nest (are_held w.nodes w.store may.agreed nested)
-      (end_is_leaf (problem_in w) w.nodes (link_by w.links link) d name may.nest may.tight under.end under.cover) under.cover).2
+      (covered_is_held (problem_in w) w.nodes (defects_at w.store) name d may.nest
+      (are_held w.nodes w.store may.agreed nested)
+      (end_is_leaf (problem_in w) w.nodes (link_by w.links link) d name may.nest may.tight under.end under.cover)
+      under.cover).2
 
   -- and at the child that holds it the link ends
   pub child_entered : (child : ℕ) → IsChildHolding w.store name d child → EndsAtChild w name other link child
@@ -131,10 +136,13 @@ module _ (w : PartValue) (name other link d : ℕ) (may : MayEnter w name other 
           let (n, a, named) = live_among w.nodes name may.may_split.live in
           let (m, b, is_child) = live_among w.nodes child
           (is_in-All (λ c. is_live w.nodes c ≡ true) n.children
-          (All_among (λ n. All (λ c. is_live w.nodes c ≡ true) n.children) w.nodes may.nest.forest.live n a) child (mine n a named)) in
+          (All_among (λ n. All (λ c. is_live w.nodes c ≡ true) n.children) w.nodes may.nest.forest.live n a) child
+          (mine n a named)) in
           let holds : (is_in (leaves w.nodes) d && is_in m.top.vertices d) ≡ true =
-          sym (All_among (λ n. (e : ℕ) → is_in (defects_at w.store n.name) e ≡ (is_in (leaves w.nodes) e && is_in n.top.vertices e))
-          w.nodes (held_in_sets (problem_in w) w.nodes (defects_at w.store) may.nest (are_held w.nodes w.store may.agreed nested)) m b d)
+          sym (All_among
+          (λ n. (e : ℕ) → is_in (defects_at w.store n.name) e ≡ (is_in (leaves w.nodes) e && is_in n.top.vertices e))
+          w.nodes (held_in_sets (problem_in w) w.nodes (defects_at w.store) may.nest
+          (are_held w.nodes w.store may.agreed nested)) m b d)
           ∙ (ap (λ x. is_in (defects_at w.store x) d) is_child ∙ is.holds) in
           ap (λ s. is_in s d) (ap (top_at w.nodes) (sym is_child) ∙ top_among w.nodes may.nest.dual.names m b)
           ∙ (and_parts (is_in (leaves w.nodes) d) (is_in m.top.vertices d) holds).1

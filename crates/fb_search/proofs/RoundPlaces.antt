@@ -63,7 +63,8 @@ pub link_there : (round : List CycleStep) (name : ℕ) (d : CycleStep) → is_on
 link_there [] name d on = absurd (false≢true on)
 link_there (s ∷ ss) name d on = by (s.node == name) on (link_there ss name d)
   where
-    by : (b : Bool) → (b || is_on ss name) ≡ true → (is_on ss name ≡ true → (get_or ss (place_on ss name) d).link ≡ link_on ss name)
+    by : (b : Bool) → (b || is_on ss name) ≡ true
+        → (is_on ss name ≡ true → (get_or ss (place_on ss name) d).link ≡ link_on ss name)
         → (get_or (s ∷ ss) (if b then 0 else 1 + place_on ss name) d).link ≡ (if b then s.link else link_on ss name)
     by true h rest = refl
     by false h rest = ap (λ (x : CycleStep). x.link) (get_or-suc ss (place_on ss name)) ∙ rest h

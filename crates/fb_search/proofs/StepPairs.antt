@@ -85,7 +85,8 @@ pub seconds_done : (xs : List CycleStep) (i : ℕ) → length xs ≤ i + 1 → s
 seconds_done xs i le = seconds_short (drop i xs) (rest_short xs i le)
 
 -- the edges at the vertices of both lists come under watch, those of the first list first
-pub watched_both : (p : Problem) (vs us : List ℕ) (a b c : Watched) → Watches p vs a b → Watches p us b c → Watches p (vs ++ us) a c
+pub watched_both : (p : Problem) (vs us : List ℕ) (a b c : Watched) → Watches p vs a b → Watches p us b c
+    → Watches p (vs ++ us) a c
 watched_both p vs us a b c first second = record {
   room = second.room ∙ first.room;
   kept = λ k h. second.kept k (first.kept k h);
@@ -98,19 +99,24 @@ watched_both p vs us a b c first second = record {
     near v k below touch (inr new) = second.near v k new below touch
 
 -- one node more of those whose edges come under watch, and how it goes on from there
-pub watched_onward : (p : Problem) (top : ℕ → List ℕ) (way : List CycleStep) (i : ℕ) (d : CycleStep) (first old new last : Watched)
+pub watched_onward : (p : Problem) (top : ℕ → List ℕ) (way : List CycleStep) (i : ℕ) (d : CycleStep)
+    (first old new last : Watched)
     → i + 1 < length way → Watches p (top (get_or way (i + 1) d).node) old new
-    → ((later : Watched) → Watches p (flat_map top (second_nodes (drop i way))) old later → Watches p (flat_map top (second_nodes way)) first later)
-    → Watches p (flat_map top (second_nodes (drop (i + 2) way))) new last → Watches p (flat_map top (second_nodes way)) first last
+    → ((later : Watched) → Watches p (flat_map top (second_nodes (drop i way))) old later
+    → Watches p (flat_map top (second_nodes way)) first later)
+    → Watches p (flat_map top (second_nodes (drop (i + 2) way))) new last
+    → Watches p (flat_map top (second_nodes way)) first last
 watched_onward p top way i d first old new last lt watches onward rest =
     onward last
     (subst (λ ns. Watches p (flat_map top ns) old last) (sym (seconds_more way i d lt))
-    (watched_both p (top (get_or way (i + 1) d).node) (flat_map top (second_nodes (drop (i + 2) way))) old new last watches rest))
+    (watched_both p (top (get_or way (i + 1) d).node) (flat_map top (second_nodes (drop (i + 2) way))) old new last
+    watches rest))
 
 pub seconds_hold : (P : ℕ → Type 0) (way : List CycleStep) (i : ℕ) (d : CycleStep) → i + 1 < length way
     → All P (second_nodes (drop i way)) → P (get_or way (i + 1) d).node × All P (second_nodes (drop (i + 2) way))
 seconds_hold P way i d lt all =
-    let both : All P ((get_or way (i + 1) d).node ∷ second_nodes (drop (i + 2) way)) = subst (All P) (seconds_more way i d lt) all in (
+    let both : All P ((get_or way (i + 1) d).node ∷ second_nodes (drop (i + 2) way)) =
+    subst (All P) (seconds_more way i d lt) all in (
       All-head P (get_or way (i + 1) d).node (second_nodes (drop (i + 2) way)) both,
       All-tail P (get_or way (i + 1) d).node (second_nodes (drop (i + 2) way)) both,
     )

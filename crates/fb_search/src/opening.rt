@@ -50,7 +50,8 @@ impl<'a> Searching<'a> {
 /// The child of the blossom at which the link ends.
 fn child_at(parts: &Parts, node: NodeId, link: LinkId) -> NodeId
     requires { (other : ℕ) × MayEnter (part_of parts.now) node other link }
-    ensures { (other : ℕ) → MayEnter (part_of parts.now) node other link → EndsAtChild (part_of parts.now) node other link result }
+    ensures { (other : ℕ) → MayEnter (part_of parts.now) node other link
+        → EndsAtChild (part_of parts.now) node other link result }
 {
     parts.blossoms.keeps();
     let (from, to) = parts.links.ends(link);
@@ -90,9 +91,12 @@ fn taken_apart(
 ) -> Result<Apart, NoMemory>
     requires first { is_on cycle.now first ≡ true }
     requires second { is_on cycle.now second ≡ true }
-    ensures way { IfOk result (λ apart. apart.way.items ≡ way_on (even_on (round_on cycle.now first) second) second) }
-    ensures matches { IfOk result (λ apart. apart.matches.items ≡ couples_on (rest_on (even_on (round_on cycle.now first) second) second)) }
-    ensures left { IfOk result (λ apart. apart.left.items ≡ links_left (even_on (round_on cycle.now first) second) second) }
+    ensures way { IfOk result (λ apart.
+        apart.way.items ≡ way_on (even_on (round_on cycle.now first) second) second) }
+    ensures matches { IfOk result (λ apart.
+        apart.matches.items ≡ couples_on (rest_on (even_on (round_on cycle.now first) second) second)) }
+    ensures left { IfOk result (λ apart.
+        apart.left.items ≡ links_left (even_on (round_on cycle.now first) second) second) }
 {
     let mut way = round_between(alloc, cycle, first, second)?;
     let end = place_of(&way, second);
@@ -219,7 +223,8 @@ fn watch_plus<S: Scope>(
 ) -> Result<(), NoMemory>
     requires live { All (λ name. is_live regions.now.nodes name ≡ true) (second_nodes way.now) }
     requires room { watch.old.edge_count ≡ length (S.problem regions.now.scope).edges }
-    ensures { OnOk result (Watches (S.problem regions.now.scope) (flat_map (top_at regions.now.nodes) (second_nodes way.now)) watch.old watch.new) }
+    ensures { OnOk result (Watches (S.problem regions.now.scope)
+        (flat_map (top_at regions.now.nodes) (second_nodes way.now)) watch.old watch.new) }
 {
     let mut i = 0;
     while i + 1 < way.len() {

@@ -15,12 +15,14 @@ child_holding-requires-clause-holds c =
     let may = c.requires.1 in
     let ends = rw c.ends-from.ensures at c.end_under-end.ensures in
     end_held w c.args.node c.requires.0 c.args.link c.end_under-end.result may c.keeps.ensures
-    (end_found w.nodes (link_by w.links c.args.link) c.requires.0 c.args.node c.end_under-end.result may.connects may.apart ends.first ends.second)
+    (end_found w.nodes (link_by w.links c.args.link) c.requires.0 c.args.node c.end_under-end.result may.connects
+    may.apart ends.first ends.second)
 
 pub returns : goal.returns
 returns c other may =
     let w = part_of c.args.parts.now in
     let ends = rw c.ends-from.ensures at c.end_under-end.ensures in
     child_entered w c.args.node other c.args.link c.end_under-end.result may c.keeps.ensures
-    (end_found w.nodes (link_by w.links c.args.link) other c.args.node c.end_under-end.result may.connects may.apart ends.first ends.second)
+    (end_found w.nodes (link_by w.links c.args.link) other c.args.node c.end_under-end.result may.connects
+    may.apart ends.first ends.second)
     c.child_holding.result c.child_holding.ensures

@@ -13,7 +13,8 @@ even_round-requires c =
 
 pub returns-clause-second : goal.returns-clause-second
 returns-clause-second c =
-    IfOk-weaker c.even_round.result (λ (even : Vec CycleStep Global). even.items ≡ even_on c.in_ok-round.round.items c.args.second)
+    IfOk-weaker c.even_round.result
+    (λ (even : Vec CycleStep Global). even.items ≡ even_on c.in_ok-round.round.items c.args.second)
     (λ (round : Vec CycleStep Global). is_on round.items c.args.second ≡ true)
     (λ (even : Vec CycleStep Global) is.
     ap (λ l. is_on l c.args.second) is

@@ -10,8 +10,10 @@ invariant-loop-i g l =
     (l.i ≤ length l.way) × (l.watch.edge_count ≡ length (g.S.Scope.problem l.regions.scope).edges)
     × All (λ name. is_live l.regions.nodes name ≡ true) (second_nodes (drop l.i l.way))
     × ((new : Watched)
-    → Watches (g.S.Scope.problem l.regions.scope) (flat_map (top_at l.regions.nodes) (second_nodes (drop l.i l.way))) l.watch new
-    → Watches (g.S.Scope.problem l.regions.scope) (flat_map (top_at l.regions.nodes) (second_nodes l.way)) l.initial.watch new)
+    → Watches (g.S.Scope.problem l.regions.scope) (flat_map (top_at l.regions.nodes) (second_nodes (drop l.i l.way)))
+    l.watch new
+    → Watches (g.S.Scope.problem l.regions.scope) (flat_map (top_at l.regions.nodes) (second_nodes l.way))
+    l.initial.watch new)
 
 abbrev pub decreases-loop-i : goal.decreases-loop-i
 decreases-loop-i g l = length l.way - l.i
