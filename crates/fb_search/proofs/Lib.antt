@@ -18,6 +18,7 @@ pub mod JoinMatchings
 pub mod JoinStates
 pub mod KeptWatches
 pub mod Linked
+pub mod MadeLinks
 pub mod Matched
 pub mod Relayered
 pub mod Renamed
