@@ -23,7 +23,10 @@ pub mod Matched
 pub mod Relayered
 pub mod Renamed
 pub mod RolesInTree
+pub mod RoundedLinks
+pub mod RoundedSearches
 pub mod Runs
+pub mod StepWalks
 pub mod TakenNames
 pub mod TakenVertices
 pub mod TopLayers
