@@ -1,12 +1,12 @@
 -- Two links to an outer node of one defect without potential, joined at the defect.
-use Rattle.std.proofs.Common.{ℕ, ◌≡◌, ◌≢◌, ◌==◌, ◌+◌, ◌<◌, ◌≤◌, ◌^◌, ◌||◌, ◌⊎◌, inl, inr, Bool, cond, true, false, List, [], ◌∷◌, ◌++◌, map, All, arith, refl, sym, ap, ◌∙◌, subst, if◌then◌else◌}
-use Rattle.std.proofs.lemmas.Bool.{both_ways, eq-eqb, eqb-true, or_cases, or_left, or_right, cases_eq, ne_eqb}
+use Rattle.std.proofs.Common.{ℕ, ◌≡◌, ◌≢◌, ◌==◌, ◌<◌, ◌^◌, inl, inr, Bool, cond, true, false, List, [], ◌∷◌, map, All, arith, refl, sym, ap, ◌∙◌, subst}
+use Rattle.std.proofs.lemmas.Bool.{both_ways, eq-eqb, eqb-true, or_cases, or_left, or_right}
 use Rattle.std.proofs.lemmas.List.Elements.{All-head, All-tail, All-weaker}
 use Rattle.std.proofs.lemmas.List.Sums.{sum_by_push}
 use Rattle.fb_graph.specs.Problem.{Problem, crosses}
 use Rattle.fb_graph.specs.declared.parts.Cut.{Cut}
-use Rattle.fb_graph.specs.Certificate.{load_of, total_value}
-use Rattle.fb_graph.specs.Laws.{Link, ends_of}
+use Rattle.fb_graph.specs.Certificate.{total_value}
+use Rattle.fb_graph.specs.Laws.{ends_of}
 use Rattle.fb_graph.specs.Links.{IsTightLink}
 use Rattle.fb_graph.specs.Dual.{IsDual, Node, all_cuts, layers_at, layers_of}
 use Rattle.fb_graph.specs.Nests.{IsNest}
@@ -42,11 +42,12 @@ there_end walk v is =
     [ inl e ↦ inl (sym (eqb-true v (start_of walk) e)) | inr e ↦ inr (sym (eqb-true v (end_of walk) e)) ]
 
 -- walks that have a vertex as an end of both share one
-shared : (first second : List Step) (v : ℕ) → HasEnd (link_of first) v → HasEnd (link_of second) v → share_end first second ≡ true
-shared first second v (inl same) other =
+ends_shared : (first second : List Step) (v : ℕ) → HasEnd (link_of first) v → HasEnd (link_of second) v
+    → share_end first second ≡ true
+ends_shared first second v (inl same) other =
     or_right (is_end second (end_of first)) (is_end second (start_of first))
     (ap (is_end second) same ∙ end_there second v other)
-shared first second v (inr same) other =
+ends_shared first second v (inr same) other =
     or_left (is_end second (end_of first)) (is_end second (start_of first))
     (ap (is_end second) same ∙ end_there second v other)
 
@@ -56,7 +57,8 @@ meeting_ends : (first second : List Step) → share_end first second ≡ true
 meeting_ends first second share = by (is_end second (end_of first)) refl
   where
     by : (b : Bool) → is_end second (end_of first) ≡ b
-        → HasEnd (link_of first) (cond b (end_of first) (start_of first)) × HasEnd (link_of second) (cond b (end_of first) (start_of first))
+        → HasEnd (link_of first) (cond b (end_of first) (start_of first))
+        × HasEnd (link_of second) (cond b (end_of first) (start_of first))
     by true e = (inr refl, there_end second (end_of first) e)
     by false e = (
       inl refl,
@@ -67,7 +69,8 @@ meeting_ends first second share = by (is_end second (end_of first)) refl
 
 -- a node of one empty layer has no value
 no_value : (name : ℕ) (ns : List Node)
-    → All (λ n. n.name ≡ name → (n.children ≡ []) × (n.below ≡ []) × (n.top.value ≡ 0)) ns → total_value (layers_at ns name) ≡ 0
+    → All (λ n. n.name ≡ name → (n.children ≡ []) × (n.below ≡ []) × (n.top.value ≡ 0)) ns
+    → total_value (layers_at ns name) ≡ 0
 no_value name [] bare = refl
 no_value name (n ∷ ns) bare = by (n.name == name) refl (no_value name ns (All-tail Bare n ns bare))
   where
@@ -95,9 +98,11 @@ light_link p nodes walk dual steps are =
       dual.total,
     )
 
+-- the walk of a link of the problem has a step
 some_steps : (p : Problem) (walk : List Step) → IsLinkOf p (link_of walk) → walk ≢ []
 some_steps p walk own none = own.moves (ap (map (λ s. s.edge)) none)
 
+-- Two tight links to the node of a defect without potential may be joined, and are then a tight link.
 pub links_rounded : (p : Problem) (nodes : List Node) (first second : List Step) (a name b : ℕ) → IsNest p nodes
     → IsZeroDefect nodes name → AreMatchedLinks p nodes (link_of first ∷ link_of second ∷ [])
     → Connects nodes (link_of first) a name → Connects nodes (link_of second) name b → (a ≡ name → ⊥) → (name ≡ b → ⊥)
@@ -107,19 +112,18 @@ links_rounded p nodes first second a name b nest zero are to_first to_second apa
     All-weaker (λ (n : Node). n.name ≡ name → (n.children ≡ []) × (n.below ≡ []) × (n.top.value ≡ 0))
     (λ (n : Node). n.name ≡ name → n.children ≡ []) (λ n is same. (is same).0) nodes zero.bare in
     let (d, under, end, other, matched, connects) =
-    links_through p nodes (link_of first) (link_of second) a name b nest single (no_value name nodes zero.bare) are to_first to_second
-    apart_a apart_b apart in
-    let share = shared first second d end other in
+    links_through p nodes (link_of first) (link_of second) a name b nest single (no_value name nodes zero.bare) are
+    to_first to_second apart_a apart_b apart in
+    let share = ends_shared first second d end other in
     let ends = meeting_ends first second share in
     let at_meeting : IsDefectUnder nodes name (meeting first second) =
-    ends_meet_under p nodes (link_of first) (link_of second) a name b (meeting first second) nest.dual are to_first to_second apart_a
-    apart_b apart ends.0 ends.1 in
-    let same : d ≡ meeting first second = one_defect p nodes name d (meeting first second) nest single under at_meeting in
+    ends_meet_under p nodes (link_of first) (link_of second) a name b (meeting first second) nest.dual are to_first
+    to_second apart_a apart_b apart ends.0 ends.1 in
+    let same : d ≡ meeting first second =
+    one_defect p nodes name d (meeting first second) nest single under at_meeting in
     let is : link_through d (link_of first) (link_of second) ≡ link_of (joined first second) =
     ap (λ v. link_through v (link_of first) (link_of second)) same
-    ∙ sym (joined_through first second (some_steps p first (All-head (IsLinkOf p) (link_of first) (link_of second ∷ []) are.own))
-    (some_steps p second
-    (All-head (IsLinkOf p) (link_of second) [] (All-tail (IsLinkOf p) (link_of first) (link_of second ∷ []) are.own)))) in
+    ∙ sym (joined_through first second (some_steps p first own_first) (some_steps p second own_second)) in
     let whole : AreMatchedLinks p nodes (link_of (joined first second) ∷ []) =
     subst (λ l. AreMatchedLinks p nodes (l ∷ [])) is matched in
     let along = joined_steps p first second steps others in
@@ -130,3 +134,10 @@ links_rounded p nodes first second a name b nest zero are to_first to_second apa
       matched = whole;
       connects = subst (λ l. Connects nodes l a b) is connects;
     }
+  where
+    own_first : IsLinkOf p (link_of first)
+    own_first = All-head (IsLinkOf p) (link_of first) (link_of second ∷ []) are.own
+
+    own_second : IsLinkOf p (link_of second)
+    own_second =
+        All-head (IsLinkOf p) (link_of second) [] (All-tail (IsLinkOf p) (link_of first) (link_of second ∷ []) are.own)
