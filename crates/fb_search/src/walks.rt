@@ -65,11 +65,14 @@ pub(crate) fn out_walk<S: Scope>(
 fn push_turned(steps: &mut Vec<Step>, walk: &[Step]) -> Result<(), NoMemory>
     ensures { OnOk result (steps.new.items ≡ steps.old.items ++ turned walk.now) }
 {
-    for step in walk.iter().rev() {
+    let mut left = walk.len();
+    while left > 0 {
+        left -= 1;
+        let step = walk[left];
         steps.push(Step {
             from: step.to,
             to: step.from,
-            ..*step
+            ..step
         })?;
     }
     Ok(())
