@@ -24,8 +24,10 @@ pub mod Relayered
 pub mod Renamed
 pub mod RolesInTree
 pub mod Runs
+pub mod SourceSteps
 pub mod TakenNames
 pub mod TakenVertices
+pub mod TightWalks
 pub mod TopLayers
 pub mod UncoveredLayers
 pub mod WatchSteps
