@@ -5,6 +5,7 @@ pub mod BegunSearches
 pub mod BranchPlaces
 pub mod CoversBefore
 pub mod DroppedLinks
+pub mod EdgeMeets
 pub mod EndSteps
 pub mod EndedCases
 pub mod EndedLinks

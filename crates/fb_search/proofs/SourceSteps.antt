@@ -1,5 +1,5 @@
 -- Source walks step by step, as the laws have them, and gone back.
-use Rattle.std.proofs.Common.{ℕ, ◌≡◌, ◌+◌, ◌⊎◌, inl, inr, true, List, [], ◌∷◌, map, reverse, All, Some, refl, sym, ap, ◌∙◌, subst, arith}
+use Rattle.std.proofs.Common.{ℕ, ◌≡◌, ◌+◌, inl, inr, true, List, [], ◌∷◌, map, reverse, All, Some, refl, sym, ap, ◌∙◌, subst, arith}
 use Rattle.std.proofs.lemmas.List.Elements.{All-cons, All-head, All-map, All-nil, All-push, All-tail}
 use Rattle.std.proofs.lemmas.List.Sums.{sum_by-cons}
 use Rattle.fb_graph.specs.Problem.{Problem, edge_at, weight_of}
@@ -52,7 +52,8 @@ steps_real p (s ∷ ss) from to (begins, step, more) real =
     All-cons (IsStepOfPart p) s ss (step, All-head (HasRealEnd p) s ss real)
     (steps_real p ss s.to to more (All-tail (HasRealEnd p) s ss real))
 
-leads_back : (e : Edge) (u v : ℕ) → Leads e u v → Leads e v u
+-- an edge may be gone either way
+pub leads_back : (e : Edge) (u v : ℕ) → Leads e u v → Leads e v u
 leads_back e u v (inl (first, second)) = inr (second, first)
 leads_back e u v (inr (second, first)) = inl (first, second)
 
