@@ -25,10 +25,12 @@ pub mod Relayered
 pub mod Renamed
 pub mod RolesInTree
 pub mod Runs
+pub mod ScopeWalks
 pub mod SourceSteps
 pub mod TakenNames
 pub mod TakenVertices
 pub mod TightWalks
 pub mod TopLayers
+pub mod TreeEnds
 pub mod UncoveredLayers
 pub mod WatchSteps
