@@ -15,9 +15,12 @@ use Rattle.fb_search.proofs.TakenVertices.{plus_over}
 abbrev pub AreHeld : List Node → Edge → Type 0
 AreHeld nodes e = (a b : ℕ) × (cover_of nodes e.first ≡ Some a) × (cover_of nodes e.second ≡ Some b)
 
-held_by : (nodes : List Node) (e : Edge) (u v a b : ℕ) → Leads e u v → cover_of nodes u ≡ Some a → cover_of nodes v ≡ Some b → AreHeld nodes e
-held_by nodes e u v a b (inl (first, second)) at_u at_v = (a, b, ap (cover_of nodes) first ∙ at_u, ap (cover_of nodes) second ∙ at_v)
-held_by nodes e u v a b (inr (second, first)) at_u at_v = (b, a, ap (cover_of nodes) first ∙ at_v, ap (cover_of nodes) second ∙ at_u)
+held_by : (nodes : List Node) (e : Edge) (u v a b : ℕ) → Leads e u v → cover_of nodes u ≡ Some a → cover_of nodes v ≡ Some b
+    → AreHeld nodes e
+held_by nodes e u v a b (inl (first, second)) at_u at_v =
+    (a, b, ap (cover_of nodes) first ∙ at_u, ap (cover_of nodes) second ∙ at_v)
+held_by nodes e u v a b (inr (second, first)) at_u at_v =
+    (b, a, ap (cover_of nodes) first ∙ at_v, ap (cover_of nodes) second ∙ at_u)
 
 pub meet_held : (w : SearchValue) (k : ℕ) (edges : List Edge) → edges ≡ (problem_of w).edges
     → ((u v name : ℕ) × IsMeet (problem_of w) (roles_in w) w.part.nodes k u v name) → AreHeld w.part.nodes (edge_at edges k)
@@ -33,7 +36,8 @@ pair_held w k edges same (u, v, is) =
     rw same (held_by w.part.nodes (edge_at (problem_of w).edges k) u v one other is.edge.leads at_one at_other)
 
 -- a pair may be read from either end
-pair_back : (p : Problem) (roles : Roles) (nodes : List Node) (k u v : ℕ) → IsPlusPair p roles nodes k u v → IsPlusPair p roles nodes k v u
+pair_back : (p : Problem) (roles : Roles) (nodes : List Node) (k u v : ℕ) → IsPlusPair p roles nodes k u v
+    → IsPlusPair p roles nodes k v u
 pair_back p roles nodes k u v is = record {
   edge = record {
     within = is.edge.within;
@@ -46,12 +50,13 @@ pair_back p roles nodes k u v is = record {
 }
 
 pub pair_over : (w : SearchValue) (k first second : ℕ) (edges : List Edge) → edges ≡ (problem_of w).edges
-    → ((u v : ℕ) × IsPlusPair (problem_of w) (roles_in w) w.part.nodes k u v) → cover_of w.part.nodes (edge_at edges k).first ≡ Some first
-    → cover_of w.part.nodes (edge_at edges k).second ≡ Some second → IsPairOver w k first second
+    → ((u v : ℕ) × IsPlusPair (problem_of w) (roles_in w) w.part.nodes k u v)
+    → cover_of w.part.nodes (edge_at edges k).first ≡ Some first → cover_of w.part.nodes (edge_at edges k).second ≡ Some second → IsPairOver w k first second
 pair_over w k first second edges same (u, v, is) at_first at_second =
     by is.edge.leads (rw (← same) at_first) (rw (← same) at_second)
   where
-    by : Leads (edge_at (problem_of w).edges k) u v → cover_of w.part.nodes (edge_at (problem_of w).edges k).first ≡ Some first
+    by : Leads (edge_at (problem_of w).edges k) u v
+        → cover_of w.part.nodes (edge_at (problem_of w).edges k).first ≡ Some first
         → cover_of w.part.nodes (edge_at (problem_of w).edges k).second ≡ Some second → IsPairOver w k first second
     by (inl (one, other)) f s = record {
       inner = u;

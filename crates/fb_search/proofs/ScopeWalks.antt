@@ -1,5 +1,5 @@
 -- A scope tells no defects. What is told of walks over it is so of the part's own problem.
-use Rattle.std.proofs.Common.{ℕ, ◌≡◌, ◌≢◌, ◌⊎◌, inl, inr, List, [], ◌∷◌, Option, Some, true, refl, sym, ap, ◌∙◌, subst}
+use Rattle.std.proofs.Common.{ℕ, ◌≡◌, ◌≢◌, ◌⊎◌, inl, inr, List, [], ◌∷◌, Some, true, refl, sym, ap, ◌∙◌, subst}
 use Rattle.std.proofs.lemmas.List.Elements.{All-weaker}
 use Rattle.fb_graph.specs.Components.{Leads}
 use Rattle.fb_graph.specs.Dual.{Node, all_cuts, cover_of}
@@ -34,7 +34,8 @@ module _ (p : Problem) (defects : List ℕ) (nodes : List Node) where
 
   pub links_with : (links : List Link) → AreMatchedLinks p nodes links → AreMatchedLinks (with_defects p defects) nodes links
   links_with links are = record {
-    tight = All-weaker (IsTightLink p (all_cuts nodes)) (IsTightLink (with_defects p defects) (all_cuts nodes)) tight_with links are.tight;
+    tight = All-weaker (IsTightLink p (all_cuts nodes)) (IsTightLink (with_defects p defects) (all_cuts nodes)) tight_with links
+        are.tight;
     own = All-weaker (IsLinkOf p) (IsLinkOf (with_defects p defects)) own_with links are.own;
     at_defects = are.at_defects;
   }
@@ -103,7 +104,8 @@ module _ (w : PartValue) (s : NodeScope) (own : IsScopeOf s w) where
       subst (λ p. IsBetween p w.nodes k a b) (sym scope_is)
       (record { within = is.within; tight = is.tight; first = is.first; second = is.second; apart = is.apart })
 
-  pub between_scoped : (k a b : ℕ) → IsBetweenThem (problem_in w) w.nodes k a b → (a b : ℕ) × IsBetween (scoped s) w.nodes k a b
+  pub between_scoped : (k a b : ℕ) → IsBetweenThem (problem_in w) w.nodes k a b
+      → (a b : ℕ) × IsBetween (scoped s) w.nodes k a b
   between_scoped k a b (inl is) = (a, b, between_bare k a b is)
   between_scoped k a b (inr is) = (b, a, between_bare k b a is)
 

@@ -23,7 +23,8 @@ steps_run p [] from to same = same
 steps_run p (s ∷ ss) from to (begins, step, more) = (begins, steps_run p ss s.to to more)
 
 -- they are a walk by their edges
-edges_lead : (p : Problem) (walk : List Step) (from to : ℕ) → IsWalk p walk from to → IsWalkBy p (map (λ s. s.edge) walk) from to
+edges_lead : (p : Problem) (walk : List Step) (from to : ℕ) → IsWalk p walk from to
+    → IsWalkBy p (map (λ s. s.edge) walk) from to
 edges_lead p [] from to same = same
 edges_lead p (s ∷ ss) from to (begins, step, more) =
     (s.to, step.within, subst (λ v. Leads (edge_at p.edges s.edge) v s.to) begins step.leads, edges_lead p ss s.to to more)
@@ -46,7 +47,9 @@ HasRealEnd p s = has_real_end p (edge_at p.edges s.edge) ≡ true
 abbrev IsStepOfPart : Problem → Step → Type 0
 IsStepOfPart p s = IsStep p s × HasRealEnd p s
 
-pub steps_real : (p : Problem) (walk : List Step) (from to : ℕ) → IsWalk p walk from to → All (HasRealEnd p) walk → AreStepsOf p walk
+-- each of them has a real end
+pub steps_real : (p : Problem) (walk : List Step) (from to : ℕ) → IsWalk p walk from to → All (HasRealEnd p) walk
+    → AreStepsOf p walk
 steps_real p [] from to same real = All-nil (IsStepOfPart p)
 steps_real p (s ∷ ss) from to (begins, step, more) real =
     All-cons (IsStepOfPart p) s ss (step, All-head (HasRealEnd p) s ss real)

@@ -1,5 +1,5 @@
 -- The source walks over a tight edge are a tight link.
-use Rattle.std.proofs.Common.{ℕ, ◌≡◌, ◌≢◌, ◌+◌, ◌<◌, ◌≤◌, ◌^◌, ◌⊎◌, inl, inr, true, false, List, [], ◌∷◌, ◌++◌, map, reverse, length, All, Option, None, Some, refl, sym, ap, ◌∙◌, subst, append_assoc, arith}
+use Rattle.std.proofs.Common.{ℕ, ◌≡◌, ◌≢◌, ◌<◌, ◌≤◌, ◌^◌, inl, inr, true, false, List, [], ◌∷◌, ◌++◌, map, reverse, length, Option, None, Some, refl, sym, ap, ◌∙◌, subst, append_assoc, arith}
 use Rattle.std.specs.Option.{IsSome}
 use Rattle.std.proofs.lemmas.Bool.{both_ways, or_left, or_right}
 use Rattle.std.proofs.lemmas.List.{map-append, length-append}
@@ -7,10 +7,10 @@ use Rattle.std.proofs.lemmas.List.Elements.{All-append, All-push}
 use Rattle.std.proofs.lemmas.List.Sums.{sum_by_push}
 use Rattle.fb_graph.specs.Parity.{is_in}
 use Rattle.fb_graph.specs.Problem.{Problem, crosses, edge_at}
-use Rattle.fb_graph.specs.Certificate.{load_of, total_value}
+use Rattle.fb_graph.specs.Certificate.{load_of}
 use Rattle.fb_graph.specs.Components.{Leads}
 use Rattle.fb_graph.specs.Dual.{IsDual, Node, all_cuts, cover_of, height_of}
-use Rattle.fb_graph.specs.Laws.{Link, has_real_end}
+use Rattle.fb_graph.specs.Laws.{has_real_end}
 use Rattle.fb_graph.proofs.CutSums.{weigh-le}
 use Rattle.fb_laws.specs.MetLinks.{IsTightEdge, boundary_link, met_link}
 use Rattle.fb_laws.specs.Searches.{LeavesNode}
@@ -18,7 +18,7 @@ use Rattle.fb_laws.specs.Trees.{Connects}
 use Rattle.fb_laws.specs.Works.{AreMatchedLinks}
 use Rattle.fb_laws.proofs.MetLinks.{covered_real, link_met, link_to_boundary}
 use Rattle.fb_links.specs.declared.walk.Step.{Step}
-use Rattle.fb_links.specs.Walks.{IsChained, Runs, end_of, start_of, turned, walk_weight}
+use Rattle.fb_links.specs.Walks.{IsChained, Runs, turned, walk_weight}
 use Rattle.fb_links.proofs.Turns.{Runs-append, Runs-chained, Runs-ends, Runs-turned, weight-append, weight-turned}
 use Rattle.fb_regions.specs.Moves.{IsOver, IsSourceWalk, IsWalkFrom}
 use Rattle.fb_regions.specs.Walks.{IsStep}
@@ -28,7 +28,7 @@ use Rattle.fb_search.specs.MetWalks.{IsAlong, IsBetween, IsMetWalk, IsOut, IsOut
 use Rattle.fb_search.proofs.TakenVertices.{ends_told}
 use Rattle.fb_search.proofs.SourceSteps.{edges_back, steps_back, steps_real, steps_run, walk_under}
 
--- no walk over a tight edge weighs more than three times all cuts
+-- no potential is above the value of all cuts
 height_low : (p : Problem) (nodes : List Node) (v : ℕ) → IsDual p nodes → height_of (all_cuts nodes) v ≤ 2 ^ 52
 height_low p nodes v dual = omega (arith, weigh-le (λ s. is_in s v) (all_cuts nodes), dual.total)
 
@@ -40,7 +40,13 @@ pub record IsTightStep (p : Problem) (nodes : List Node) (a : ℕ) (s : Step) : 
 
 module _ (p : Problem) (nodes : List Node) (a : ℕ) (s : Step) (dual : IsDual p nodes) (over : IsTightStep p nodes a s) where
   step_low : s.weight ≤ 2 ^ 52
-  step_low = omega (arith, weigh-le (λ set. crosses set (edge_at p.edges s.edge)) (all_cuts nodes), dual.total, over.tight, over.step.weighs)
+  step_low = omega (
+    arith,
+    weigh-le (λ set. crosses set (edge_at p.edges s.edge)) (all_cuts nodes),
+    dual.total,
+    over.tight,
+    over.step.weighs,
+  )
 
   edge_is : IsTightEdge p nodes s.edge s.from s.to
   edge_is = record { within = over.step.within; leads = over.step.leads; tight = over.tight }
@@ -48,7 +54,8 @@ module _ (p : Problem) (nodes : List Node) (a : ℕ) (s : Step) (dual : IsDual p
   real_end : has_real_end p (edge_at p.edges s.edge) ≡ true
   real_end = by over.step.leads (covered_real p nodes s.from a dual over.covered)
     where
-      by : Leads (edge_at p.edges s.edge) s.from s.to → p.is_real s.from ≡ true → has_real_end p (edge_at p.edges s.edge) ≡ true
+      by : Leads (edge_at p.edges s.edge) s.from s.to → p.is_real s.from ≡ true
+          → has_real_end p (edge_at p.edges s.edge) ≡ true
       by (inl (from, to)) real = or_left _ _ (ap p.is_real from ∙ real)
       by (inr (from, to)) real = or_right _ _ (ap p.is_real from ∙ real)
 
@@ -91,9 +98,12 @@ module _ (p : Problem) (nodes : List Node) (a : ℕ) (s : Step) (dual : IsDual p
             (walk_under p nodes walk d s.from a source over.covered) edge_is
 
     -- and a source walk gone back
-    module _ (b : ℕ) (apart : a ≢ b) (back : List Step) (c : ℕ) (target : IsWalkFrom p nodes back c s.to) (at_end : cover_of nodes s.to ≡ Some b) where
+    module _ (b : ℕ) (apart : a ≢ b) (back : List Step) (c : ℕ) (target : IsWalkFrom p nodes back c s.to)
+        (at_end : cover_of nodes s.to ≡ Some b) where
       pub met_runs : Runs ((walk ++ s ∷ []) ++ turned back) d c
-      met_runs = Runs-append (walk ++ s ∷ []) (turned back) d s.to c out_runs (Runs-turned back c s.to (steps_run p back c s.to target.leads))
+      met_runs =
+          Runs-append (walk ++ s ∷ []) (turned back) d s.to c out_runs
+          (Runs-turned back c s.to (steps_run p back c s.to target.leads))
 
       met_some : 0 < length ((walk ++ s ∷ []) ++ turned back)
       met_some = omega (arith, length-append {A = Step})
@@ -105,7 +115,8 @@ module _ (p : Problem) (nodes : List Node) (a : ℕ) (s : Step) (dual : IsDual p
           ∙ (λ k. map-append (λ t. t.edge) walk (s ∷ []) k ++ edges_back back k)
           ∙ append_assoc (map (λ t. t.edge) walk) (s.edge ∷ []) (reverse (map (λ t. t.edge) back))
 
-      met_is : link_of ((walk ++ s ∷ []) ++ turned back) ≡ met_link d (map (λ t. t.edge) walk) s.edge (map (λ t. t.edge) back) c
+      met_is : link_of ((walk ++ s ∷ []) ++ turned back)
+          ≡ met_link d (map (λ t. t.edge) walk) s.edge (map (λ t. t.edge) back) c
       met_is =
           let ends = Runs-ends ((walk ++ s ∷ []) ++ turned back) d c met_some met_runs in
           rw (ends.0, ends.1, met_edges) refl
@@ -123,8 +134,8 @@ module _ (p : Problem) (nodes : List Node) (a : ℕ) (s : Step) (dual : IsDual p
             height_low p nodes c dual,
           );
           steps =
-              All-append (λ t. IsStep p t × (has_real_end p (edge_at p.edges t.edge) ≡ true)) (walk ++ s ∷ []) (turned back) out_steps
-              (steps_back p back (steps_real p back c s.to target.leads target.real));
+              All-append (λ t. IsStep p t × (has_real_end p (edge_at p.edges t.edge) ≡ true)) (walk ++ s ∷ []) (turned back)
+              out_steps (steps_back p back (steps_real p back c s.to target.leads target.real));
           tight = subst (λ l. AreMatchedLinks p nodes (l ∷ [])) (sym met_is) link.0;
         };
         connects = subst (λ l. Connects nodes l a b) (sym met_is) link.1;
@@ -134,7 +145,8 @@ module _ (p : Problem) (nodes : List Node) (a : ℕ) (s : Step) (dual : IsDual p
               × Connects nodes (met_link d (map (λ t. t.edge) walk) s.edge (map (λ t. t.edge) back) c) a b
           link =
               link_met p nodes a b (map (λ t. t.edge) walk) (map (λ t. t.edge) back) s.edge d s.from s.to c dual apart
-              (walk_under p nodes walk d s.from a source over.covered) (walk_under p nodes back c s.to b target at_end) edge_is
+              (walk_under p nodes walk d s.from a source over.covered) (walk_under p nodes back c s.to b target at_end)
+              edge_is
 
 pub between_held : (p : Problem) (nodes : List Node) (k a b : ℕ) (s : Step) → IsBetween p nodes k a b → IsAlong p k s
     → IsSome (cover_of nodes s.from) × IsSome (cover_of nodes s.to)
@@ -156,15 +168,18 @@ module _ (p : Problem) (nodes : List Node) (k a b : ℕ) (s : Step) (walk back :
 
   pub between_walk : IsMetWalk p nodes a b ((walk ++ s ∷ []) ++ turned back)
   between_walk =
-      met_tight p nodes a s dual between_over walk source.0 source.1 b is.apart back target.0 target.1 (rw along.to is.second)
+      met_tight p nodes a s dual between_over walk source.0 source.1 b is.apart back target.0 target.1
+      (rw along.to is.second)
 
   pub between_chained : IsChained ((walk ++ s ∷ []) ++ turned back)
   between_chained =
       Runs-chained ((walk ++ s ∷ []) ++ turned back) source.0 target.0
-      (met_runs p nodes a s dual between_over walk source.0 source.1 b is.apart back target.0 target.1 (rw along.to is.second))
+      (met_runs p nodes a s dual between_over walk source.0 source.1 b is.apart back target.0 target.1
+      (rw along.to is.second))
 
 -- no node holds a vertex of the boundary
-pub boundary_free : (p : Problem) (nodes : List Node) (v : ℕ) → IsDual p nodes → p.is_real v ≡ false → cover_of nodes v ≡ None
+pub boundary_free : (p : Problem) (nodes : List Node) (v : ℕ) → IsDual p nodes → p.is_real v ≡ false
+    → cover_of nodes v ≡ None
 boundary_free p nodes v dual unreal = by (cover_of nodes v) (dual.real v)
   where
     by : (o : Option ℕ) → (IsSome o → p.is_real v ≡ true) → o ≡ None
@@ -175,7 +190,8 @@ module _ (p : Problem) (nodes : List Node) (k a v : ℕ) (s : Step) (dual : IsDu
     (over : IsOver p nodes k s) where
   told : (s.from ≡ is.inner) × (s.to ≡ v)
   told =
-      let ends = ends_told nodes (edge_at p.edges k) is.inner v a is.leads is.covered (boundary_free p nodes v dual is.boundary) in
+      let free = boundary_free p nodes v dual is.boundary in
+      let ends = ends_told nodes (edge_at p.edges k) is.inner v a is.leads is.covered free in
       (over.from ∙ ends.0, over.to ∙ ends.1)
 
   pub out_held : IsSome (cover_of nodes s.from)

@@ -1,8 +1,8 @@
 -- Where a tree meets the boundary or an unmatched node: what the calls that end the search ask for, and that a part is
 -- left.
-use Rattle.std.proofs.Common.{ℕ, ◌≡◌, ◌≢◌, ◌==◌, ◌⊎◌, inl, inr, true, false, All, List, [], ◌∷◌, ◌++◌, map, Some, None, refl, sym, ap, ◌∙◌, subst, append-nil, append_assoc}
+use Rattle.std.proofs.Common.{ℕ, ◌≡◌, ◌≢◌, ◌⊎◌, inl, inr, true, All, List, [], ◌∷◌, ◌++◌, map, refl, sym, ap, ◌∙◌, subst, append-nil}
 use Rattle.std.specs.List.Sorted.{IsPermutation}
-use Rattle.std.proofs.lemmas.Bool.{false≢true, or_from, ne_eqb}
+use Rattle.std.proofs.lemmas.Bool.{false≢true}
 use Rattle.std.proofs.lemmas.Grind.{flat_map-append}
 use Rattle.std.proofs.lemmas.List.Sorted.{IsPermutation-cons, IsPermutation-middle, IsPermutation-trans}
 use Rattle.fb_graph.specs.Parity.{is_in}
@@ -11,7 +11,6 @@ use Rattle.fb_graph.specs.Covers.{passes}
 use Rattle.fb_graph.specs.Dual.{Node}
 use Rattle.fb_graph.proofs.Sets.{is_in-cases}
 use Rattle.fb_laws.specs.LinkNumbers.{links_dropped}
-use Rattle.fb_laws.specs.TreeCycles.{nodes_along}
 use Rattle.fb_laws.specs.Trees.{EntryOf, IsTree, plus_names}
 use Rattle.fb_laws.proofs.OpenedBlossoms.{distinct_permuted, same_permuted}
 use Rattle.fb_links.specs.declared.walk.Step.{Step}
@@ -21,7 +20,7 @@ use Rattle.fb_trees.proofs.Mapped.{plus_moved}
 use Rattle.fb_trees.proofs.Names.{root_plus}
 use Rattle.fb_half.specs.declared.matches.Match.{Match}
 use Rattle.fb_half.specs.Parts.{IsPart}
-use Rattle.fb_half.specs.Matchings.{listed_names, matched_names, names_of}
+use Rattle.fb_half.specs.Matchings.{matched_names, names_of}
 use Rattle.fb_half.specs.Translations.{entry_by, link_by, ring_links}
 use Rattle.fb_search.specs.InternalEndings.{Forgets, ended_matches}
 use Rattle.fb_search.specs.Meetings.{LeadsOut, Meets}
@@ -38,8 +37,8 @@ use Rattle.fb_search.proofs.EndedWays.{AreRelinked, boundary_match, ended_at_bou
 use Rattle.fb_search.proofs.RolesInTree.{plus_in_tree}
 use Rattle.fb_search.proofs.ScopeWalks.{IsBetweenThem, between_them}
 
-hung_of : (nodes : List Node) (root : ℕ) (table : Table) (tree : List (EntryOf ℕ)) → IsTree nodes root (map (entry_by table) tree)
-    → AreHung root tree
+hung_of : (nodes : List Node) (root : ℕ) (table : Table) (tree : List (EntryOf ℕ))
+    → IsTree nodes root (map (entry_by table) tree) → AreHung root tree
 hung_of nodes root table [] is = tt
 hung_of nodes root table (e ∷ es) (parent, first, second, rest) =
     (sym (ap (λ l. is_in l e.parent) (plus_moved (link_by table) root es)) ∙ parent, hung_of nodes root table es rest)
@@ -48,15 +47,18 @@ pub tree_hung : (w : SearchValue) → IsSearching w → AreHung w.tree.root w.tr
 tree_hung w are = hung_of w.part.nodes w.tree.root w.part.links w.tree.branches are.state.1.search.search.joined
 
 -- the plus node over the inner end
-pub leaving_plus : (w : SearchValue) (k plus : ℕ) → LeadsOut w k plus → is_in (plus_names w.tree.root w.tree.branches) plus ≡ true
+pub leaving_plus : (w : SearchValue) (k plus : ℕ) → LeadsOut w k plus
+    → is_in (plus_names w.tree.root w.tree.branches) plus ≡ true
 leaving_plus w k plus leads =
     plus_in_tree w.tree plus (sym (ap (passes (roles_in w).is_plus) leads.covered) ∙ leads.obstacle.edge.plus)
 
-pub meeting_plus : (w : SearchValue) (k plus other : ℕ) → Meets w k plus other → is_in (plus_names w.tree.root w.tree.branches) plus ≡ true
+pub meeting_plus : (w : SearchValue) (k plus other : ℕ) → Meets w k plus other
+    → is_in (plus_names w.tree.root w.tree.branches) plus ≡ true
 meeting_plus w k plus other meets =
     plus_in_tree w.tree plus (sym (ap (passes (roles_in w).is_plus) meets.covered) ∙ meets.obstacle.edge.plus)
 
-pub leads_out : (w : SearchValue) (k plus : ℕ) (leads : LeadsOut w k plus) → IsOut (problem_of w) w.part.nodes k plus leads.outer
+pub leads_out : (w : SearchValue) (k plus : ℕ) (leads : LeadsOut w k plus)
+    → IsOut (problem_of w) w.part.nodes k plus leads.outer
 leads_out w k plus leads = record {
   inner = leads.inner;
   within = leads.obstacle.edge.within;
@@ -75,7 +77,8 @@ other_than w k plus other name meets is same =
 pub root_apart : (w : SearchValue) (k plus other : ℕ) → Meets w k plus other → w.tree.root ≢ other
 root_apart w k plus other meets = other_than w k plus other w.tree.root meets (root_plus w.tree.root w.tree.branches)
 
-pub meets_between : (w : SearchValue) (k plus other : ℕ) → Meets w k plus other → IsBetweenThem (problem_of w) w.part.nodes k plus other
+pub meets_between : (w : SearchValue) (k plus other : ℕ) → Meets w k plus other
+    → IsBetweenThem (problem_of w) w.part.nodes k plus other
 meets_between w k plus other meets =
     between_them (problem_of w) w.part.nodes k meets.inner meets.outer plus other
     (record {
@@ -101,7 +104,8 @@ root_left w k plus other rest are meets moved =
 pub ended_apart : (w : SearchValue) (name : ℕ) (unmatched : List ℕ) (out : Match) → IsSearching w
     → is_in (plus_names w.tree.root w.tree.branches) name ≡ true
     → AreTaken w.part.matching w.tree.root name unmatched w.part.matching.matches out
-    → AreDistinct ((unmatched ++ matched_names w.part.matching.matches) ++ matched_names (ended_matches w.tree.branches name ++ out ∷ []))
+    → AreDistinct ((unmatched ++ matched_names w.part.matching.matches)
+    ++ matched_names (ended_matches w.tree.branches name ++ out ∷ []))
 ended_apart w name unmatched out are plus takes =
     subst (λ l. AreDistinct ((unmatched ++ matched_names w.part.matching.matches) ++ l)) (sym same)
     (distinct_permuted _ _
@@ -109,14 +113,16 @@ ended_apart w name unmatched out are plus takes =
     (tree_hung w are) plus takes.listed)
     are.matching.distinct)
   where
-    same : matched_names (ended_matches w.tree.branches name ++ out ∷ []) ≡ matched_names (ended_matches w.tree.branches name) ++ name ∷ takes.taken
+    same : matched_names (ended_matches w.tree.branches name ++ out ∷ [])
+        ≡ matched_names (ended_matches w.tree.branches name) ++ name ∷ takes.taken
     same =
         flat_map-append names_of (ended_matches w.tree.branches name) (out ∷ [])
         ∙ ap (λ l. matched_names (ended_matches w.tree.branches name) ++ l) (append-nil (names_of out) ∙ takes.names)
 
 -- the links that are forgotten
 module _ (w : SearchValue) (name link : ℕ) (walk : List Step) (mid : Table) (are : IsSearching w) where
-  counted : IsPermutation (searched_links w) (others_kept w name w.part.matching.matches ++ links_dropped w.tree.branches name)
+  counted : IsPermutation (searched_links w)
+      (others_kept w name w.part.matching.matches ++ links_dropped w.tree.branches name)
   counted = links_counted w.tree.branches name w.part.matching.matches (ring_links w.part.nodes w.part.store)
 
   pub gone_once : AreDistinct (links_dropped w.tree.branches name)
@@ -160,15 +166,17 @@ module _ (w : SearchValue) (k plus link : ℕ) (unmatched : List ℕ) (are : IsS
       leads.obstacle.real moved
 
 -- the search has ended at the other node
-module _ (w : SearchValue) (k plus other link : ℕ) (between unmatched : List ℕ) (are : IsSearching w) (meets : Meets w k plus other)
-    (first : IsPermutation w.part.matching.unmatched (other ∷ between)) (second : IsPermutation between (w.tree.root ∷ unmatched)) where
+module _ (w : SearchValue) (k plus other link : ℕ) (between unmatched : List ℕ) (are : IsSearching w)
+    (meets : Meets w k plus other) (first : IsPermutation w.part.matching.unmatched (other ∷ between))
+    (second : IsPermutation between (w.tree.root ∷ unmatched)) where
   pub met_apart : AreDistinct ((unmatched ++ matched_names w.part.matching.matches)
       ++ matched_names (ended_matches w.tree.branches plus ++ met_match link plus other ∷ []))
   met_apart =
       ended_apart w plus unmatched (met_match link plus other) are (meeting_plus w k plus other meets)
       (taken_with w.part.matching w.tree.root plus other unmatched (met_match link plus other) refl
       (IsPermutation-trans _ _ _ first
-      (IsPermutation-trans _ _ _ (IsPermutation-cons other _ _ second) (IsPermutation-middle (other ∷ []) w.tree.root unmatched))))
+      (IsPermutation-trans _ _ _ (IsPermutation-cons other _ _ second)
+      (IsPermutation-middle (other ∷ []) w.tree.root unmatched))))
 
   pub met_ended : (walk : List Step) (mid new : Table) → IsMetWalk (problem_of w) w.part.nodes plus other walk
       → is_in w.part.matching.unmatched other ≡ true → Adds w.part.links mid link walk
@@ -177,5 +185,5 @@ module _ (w : SearchValue) (k plus other link : ℕ) (between unmatched : List �
       × IsSearched w.tree.root w.part (part_after w plus new unmatched w.part.matching.matches (met_match link plus other))
   met_ended walk mid new is unpaired adds forgets =
       ended_with w plus other link walk new between unmatched are
-      (relinked_by w plus link walk mid are new (meeting_plus w k plus other meets) is.walk_is adds forgets) is.connects unpaired
-      (root_apart w k plus other meets) first second
+      (relinked_by w plus link walk mid are new (meeting_plus w k plus other meets) is.walk_is adds forgets) is.connects
+      unpaired (root_apart w k plus other meets) first second

@@ -1,4 +1,3 @@
-use Rattle.std.proofs.Common.{◌≡◌}
 use Rattle.fb_search.proofs.TightWalks.{between_chained, between_held, between_walk}
 use Rattle.fb_search.proofs.walks.met_walk.Goals as goal
 

@@ -1,4 +1,3 @@
-use Rattle.std.proofs.Common.{◌≡◌}
 use Rattle.fb_search.proofs.TightWalks.{out_chained, out_held, out_walk}
 use Rattle.fb_search.proofs.walks.out_walk.Goals as goal
 

@@ -1,9 +1,7 @@
-use Rattle.std.proofs.Common.{◌≡◌, ◌∷◌, refl}
-use Rattle.std.specs.List.Sorted.{IsPermutation}
+use Rattle.std.proofs.Common.{refl}
 use Rattle.fb_half.specs.Values.{part_of}
 use Rattle.fb_search.specs.Meetings.{LeadsOut}
-use Rattle.fb_search.specs.MetWalks.{IsOutWalk}
-use Rattle.fb_search.specs.Searching.{SearchValue, problem_of}
+use Rattle.fb_search.specs.Searching.{SearchValue}
 use Rattle.fb_search.proofs.ScopeWalks.{out_scoped}
 use Rattle.fb_search.proofs.TreeEnds.{boundary_apart, boundary_ended, gone_live, gone_once, leads_out}
 use Rattle.fb_search.proofs.searching.Searching.end_at_boundary.Goals as goal
@@ -33,7 +31,8 @@ match_tree-requires-clause-distinct c =
 pub forget_tree-requires-clause-live : goal.forget_tree-requires-clause-live
 forget_tree-requires-clause-live c =
     let w : SearchValue = record { part = part_of c.self.inside.parts; tree = c.self.inside.tree; watched = c.self.inside.watch } in
-    gone_live w c.plus_at_boundary-plus.result c.in_ok-link.link c.in_ok-walk.walk c.make.new.self c.self.invariant.1 c.in_ok-link.ensures.ok
+    gone_live w c.plus_at_boundary-plus.result c.in_ok-link.link c.in_ok-walk.walk c.make.new.self c.self.invariant.1
+    c.in_ok-link.ensures.ok
 
 pub forget_tree-requires-clause-distinct : goal.forget_tree-requires-clause-distinct
 forget_tree-requires-clause-distinct c =
