@@ -5,6 +5,7 @@ pub mod BegunSearches
 pub mod BranchPlaces
 pub mod CoversBefore
 pub mod DroppedLinks
+pub mod EdgeMeets
 pub mod EndSteps
 pub mod EndedCases
 pub mod EndedLinks
@@ -26,9 +27,13 @@ pub mod RolesInTree
 pub mod RoundedLinks
 pub mod RoundedSearches
 pub mod Runs
+pub mod ScopeWalks
+pub mod SourceSteps
 pub mod StepWalks
 pub mod TakenNames
 pub mod TakenVertices
+pub mod TightWalks
 pub mod TopLayers
+pub mod TreeEnds
 pub mod UncoveredLayers
 pub mod WatchSteps
