@@ -1,6 +1,7 @@
 pub mod Agreed
 pub mod AttachedBranches
 pub mod AttachedMatches
+pub mod AttachedSearches
 pub mod BegunSearches
 pub mod BranchPlaces
 pub mod CoversBefore
@@ -12,6 +13,7 @@ pub mod EndedMatches
 pub mod EndedParts
 pub mod EndedTrees
 pub mod EndedWays
+pub mod FlatPermutations
 pub mod JoinConditions
 pub mod JoinLinks
 pub mod JoinMatchings
@@ -20,6 +22,7 @@ pub mod KeptWatches
 pub mod Linked
 pub mod MadeLinks
 pub mod Matched
+pub mod MetMatches
 pub mod Relayered
 pub mod Renamed
 pub mod RolesInTree
