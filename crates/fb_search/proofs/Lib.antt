@@ -10,6 +10,7 @@ pub mod EndSteps
 pub mod EndedCases
 pub mod EndedLinks
 pub mod EndedMatches
+pub mod EndedNames
 pub mod EndedParts
 pub mod EndedTrees
 pub mod EndedWays
@@ -24,6 +25,7 @@ pub mod MadeLinks
 pub mod Matched
 pub mod MetMatches
 pub mod Relayered
+pub mod ReleasedMatches
 pub mod Renamed
 pub mod RolesInTree
 pub mod Runs
