@@ -6,6 +6,7 @@ pub mod BegunSearches
 pub mod BranchPlaces
 pub mod CoversBefore
 pub mod DroppedLinks
+pub mod EdgeMeets
 pub mod EndSteps
 pub mod EndedCases
 pub mod EndedLinks
@@ -29,8 +30,12 @@ pub mod ReleasedMatches
 pub mod Renamed
 pub mod RolesInTree
 pub mod Runs
+pub mod ScopeWalks
+pub mod SourceSteps
 pub mod TakenNames
 pub mod TakenVertices
+pub mod TightWalks
 pub mod TopLayers
+pub mod TreeEnds
 pub mod UncoveredLayers
 pub mod WatchSteps
