@@ -1,13 +1,12 @@
 -- Two matched nodes attached to a tree: what stays watched, and that less is left to do.
-use Rattle.std.proofs.Common.{ℕ, ◌≡◌, ◌<◌, ◌⊎◌, inl, inr, Bool, true, false, List, [], ◌∷◌, map, length, All, Option, Some, refl, sym, ap, ◌∙◌, subst, if◌then◌else◌}
+use Rattle.std.proofs.Common.{ℕ, ◌≡◌, ◌<◌, ◌⊎◌, inl, inr, Bool, true, false, List, ◌∷◌, map, length, All, Some, refl, sym, ap, ◌∙◌, if◌then◌else◌}
 use Rattle.fb_graph.specs.Parity.{is_in}
-use Rattle.fb_graph.specs.Problem.{Problem, edge_at, touches}
+use Rattle.fb_graph.specs.Problem.{Problem, edge_at}
 use Rattle.fb_graph.specs.Certificate.{AreDistinct}
 use Rattle.fb_graph.specs.Limits.{IsWithinLimits}
 use Rattle.fb_graph.specs.Covers.{is_over, passes}
 use Rattle.fb_graph.specs.Dual.{AreUnderOne, Node, cover_of, top_at}
 use Rattle.fb_graph.specs.Laws.{Link}
-use Rattle.fb_graph.specs.Steps.{Roles}
 use Rattle.fb_graph.proofs.Sets.{is_in-cases}
 use Rattle.fb_laws.specs.Measures.{IsLower}
 use Rattle.fb_laws.specs.SearchLayers.{left_to_do}
@@ -21,7 +20,7 @@ use Rattle.fb_regions.specs.declared.roles.Role.TheVariants.{Plus, Minus, Out}
 use Rattle.fb_trees.proofs.Mapped.{minus_moved, plus_moved}
 use Rattle.fb_trees.specs.Branches.{Grown}
 use Rattle.fb_trees.specs.Rooted.{attached, role_in}
-use Rattle.fb_half.specs.Translations.{entry_by, link_by}
+use Rattle.fb_half.specs.Translations.{link_by}
 use Rattle.fb_search.specs.Progress.{to_do}
 use Rattle.fb_search.specs.Searching.{IsSearchingBeside, SearchValue, problem_of, state_at}
 use Rattle.fb_search.specs.Watching.{Watches}

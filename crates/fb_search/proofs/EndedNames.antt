@@ -1,5 +1,5 @@
 -- Which names a matching lists where a search ends.
-use Rattle.std.proofs.Common.{ℕ, ◌≡◌, true, List, [], ◌∷◌, ◌++◌, map, sym, ap, subst, ◌∙◌}
+use Rattle.std.proofs.Common.{ℕ, ◌≡◌, true, List, [], ◌∷◌, ◌++◌, sym, ap, subst, ◌∙◌}
 use Rattle.std.proofs.lemmas.Grind.{flat_map-append}
 use Rattle.std.proofs.lemmas.List.{append-nil}
 use Rattle.fb_graph.specs.Parity.{is_in}
@@ -7,23 +7,14 @@ use Rattle.fb_graph.specs.Certificate.{AreDistinct}
 use Rattle.fb_graph.specs.Problem.{Problem}
 use Rattle.fb_graph.specs.Dual.{Node}
 use Rattle.fb_laws.specs.TreeCycles.{nodes_along}
-use Rattle.fb_laws.specs.Trees.{EntryOf, IsTree, plus_names}
+use Rattle.fb_laws.specs.Trees.{EntryOf, plus_names}
 use Rattle.fb_laws.proofs.OpenedBlossoms.{distinct_permuted}
 use Rattle.fb_half.specs.declared.matches.Match.{Match}
 use Rattle.fb_half.specs.Matchings.{IsMatchingOf, MatchingValue, matched_names, names_of}
-use Rattle.fb_half.specs.Translations.{entry_by, link_by}
 use Rattle.fb_trees.specs.Rooted.{AreHung}
-use Rattle.fb_trees.proofs.Mapped.{plus_moved}
 use Rattle.fb_search.specs.InternalEndings.{ended_matches}
 use Rattle.fb_search.proofs.EndedLinks.{Table, names_listed}
 use Rattle.fb_search.proofs.EndedMatches.{AreTaken}
-
--- each branch of a tree by its links hangs on an older one
-pub hung_by : (nodes : List Node) (root : ℕ) (table : Table) (tree : List (EntryOf ℕ)) → IsTree nodes root (map (entry_by table) tree)
-    → AreHung root tree
-hung_by nodes root table [] is = tt
-hung_by nodes root table (e ∷ es) (parent, first, second, rest) =
-    (sym (ap (λ names. is_in names e.parent) (plus_moved (link_by table) root es)) ∙ parent, hung_by nodes root table es rest)
 
 -- the names of the tree's matches at its end, and of the one that ends it, are not those of the matches that stay
 pub ended_distinct : (p : Problem) (nodes : List Node) (table : Table) (m : MatchingValue) (root name : ℕ) (tree : List (EntryOf ℕ))

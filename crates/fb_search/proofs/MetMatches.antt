@@ -1,5 +1,5 @@
--- The match of a node that a tree has met, taken out of the matching.
-use Rattle.std.proofs.Common.{ℕ, ◌≡◌, ◌≢◌, ◌==◌, ◌⊎◌, inl, inr, true, false, All, List, [], ◌∷◌, ◌++◌, Option, Some, None, sym, ap, subst, ◌∙◌}
+-- A matched node that a tree has met: the link to it, and its match, which is taken out of the matching.
+use Rattle.std.proofs.Common.{ℕ, ◌≡◌, ◌≢◌, ◌==◌, inl, inr, true, false, List, [], ◌∷◌, ◌++◌, Option, Some, None, sym, ap, subst, ◌∙◌}
 use Rattle.std.specs.List.Sorted.{IsPermutation}
 use Rattle.std.proofs.lemmas.Bool.{both_ways, ne_eqb, or_from}
 use Rattle.std.proofs.lemmas.List.Elements.{All-head}
@@ -7,7 +7,6 @@ use Rattle.std.proofs.lemmas.List.Sorted.{All-permutation, IsPermutation-middle,
 use Rattle.fb_graph.specs.Parity.{is_in}
 use Rattle.fb_graph.specs.Certificate.{AreDistinct}
 use Rattle.fb_graph.specs.Dual.{is_live}
-use Rattle.fb_graph.specs.Laws.{Link}
 use Rattle.fb_graph.proofs.Sets.{is_in-head, is_in-tail}
 use Rattle.fb_laws.specs.Searches.{LeavesNode}
 use Rattle.fb_laws.specs.TreeCycles.{nodes_along}
@@ -16,14 +15,19 @@ use Rattle.fb_laws.proofs.MergedParts.{distinct_across}
 use Rattle.fb_laws.proofs.OpenedBlossoms.{distinct_permuted, same_permuted}
 use Rattle.fb_laws.proofs.SearchTrees.{connects_sym}
 use Rattle.fb_laws.proofs.TreePaths.{distinct_left, distinct_right, in_left, in_right}
+use Rattle.fb_links.specs.declared.walk.Step.{Step}
+use Rattle.fb_links.specs.Table.{Adds}
 use Rattle.fb_half.specs.declared.matches.Match.{Match}
-use Rattle.fb_half.specs.Matchings.{IsMatchOf, listed_names, matched_names, names_of, second_name}
+use Rattle.fb_half.specs.Matchings.{IsMatchOf, MatchingValue, listed_names, matched_names, names_of, second_name}
 use Rattle.fb_half.specs.Translations.{link_by}
 use Rattle.fb_trees.specs.Rooted.{is_node}
-use Rattle.fb_search.specs.InternalMeetings.{IsCouple, IsLone}
-use Rattle.fb_search.specs.Searching.{IsSearchingBeside, SearchValue, problem_of}
+use Rattle.fb_search.specs.InternalMeetings.{HasMet, IsCouple, IsLone}
+use Rattle.fb_search.specs.Meetings.{Meets}
+use Rattle.fb_search.specs.MetWalks.{IsMetWalk}
+use Rattle.fb_search.specs.Searching.{IsSearching, IsSearchingBeside, SearchValue, problem_of}
 use Rattle.fb_search.proofs.FlatPermutations.{flat_permuted}
 use Rattle.fb_search.proofs.Renamed.{tree_listed}
+use Rattle.fb_search.proofs.TreeEnds.{meeting_plus}
 
 pub couple_names : (m : Match) (a b : ℕ) → IsCouple m a b → IsPermutation (names_of m) (a ∷ b ∷ [])
 couple_names m a b (inl (first, second)) =
@@ -32,6 +36,23 @@ couple_names m a b (inl (first, second)) =
 couple_names m a b (inr (first, second)) =
     let names : names_of m ≡ b ∷ a ∷ [] = (λ k. first k ∷ second_name (second k)) in
     subst (λ l. IsPermutation l (a ∷ b ∷ [])) (sym names) (IsPermutation-middle (b ∷ []) a [])
+
+-- the link is made and the match taken out
+pub has_met : (w : SearchValue) (k plus other link : ℕ) (taken : Match) (walk : List Step) (links : List (Option (List Step)))
+    (m : MatchingValue) → IsSearching w → Meets w k plus other → IsMetWalk (problem_of w) w.part.nodes plus other walk
+    → Adds w.part.links links link walk → IsPermutation w.part.matching.matches (taken ∷ m.matches)
+    → m.unmatched ≡ w.part.matching.unmatched
+    → HasMet w (record { plus = plus; other = other; link = link; taken = taken })
+    (record w { part = record w.part { links = links; matching = m } })
+has_met w k plus other link taken walk links m are meets walk_is adds moved same = record {
+  was = are;
+  is = (λ i. record w { part = record w.part { links = links; matching = record { matches = m.matches; unmatched = same i } } });
+  plus = meeting_plus w k plus other meets;
+  walk = walk;
+  walk_is = walk_is;
+  adds = adds;
+  matches = moved;
+}
 
 module _ (more : List ℕ) (w : SearchValue) (are : IsSearchingBeside more w) where
   -- a matched node is not in the tree

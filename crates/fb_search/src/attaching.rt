@@ -109,11 +109,7 @@ fn attach<'a>(
 }
 
 /// The node was matched to the boundary, and is matched with the plus node: the search ends with the root matched.
-fn release<'a>(
-    alloc: Global,
-    pieces: Pieces<'a>,
-    met: Met,
-) -> Result<(Work<'a>, Watch), NoMemory>
+fn release<'a>(alloc: Global, pieces: Pieces<'a>, met: Met) -> Result<(Work<'a>, Watch), NoMemory>
     requires scope { HasScope pieces.parts }
     requires met { (w : SearchValue) × HasMet w met (search_of pieces) }
     requires lone { IsLone met.taken met.other }

@@ -1,4 +1,4 @@
-use Rattle.std.proofs.Common.{◌≡◌, ap, subst, sym, ◌∙◌}
+use Rattle.std.proofs.Common.{ap, ◌∙◌}
 use Rattle.fb_graph.specs.Limits.{IsWithinLimits}
 use Rattle.fb_half.specs.Parts.{problem_in}
 use Rattle.fb_half.specs.Values.{part_of}
