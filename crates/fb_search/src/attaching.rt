@@ -22,7 +22,7 @@ use std::alloc::Global;
 
 /// A link that is made from a plus node to a matched one, whose match is taken out.
 #[derive(Clone, Copy)]
-pub(crate) struct Met {
+struct Met {
     plus: NodeId,
     other: NodeId,
     link: LinkId,
@@ -43,6 +43,30 @@ impl<'a> Searching<'a> {
         requires matched { is_in (matched_names self.part.matching.matches) other ≡ true }
         ensures { IfOk result (HasCleared self.entry) }
     {
+        let (pieces, met) = self.link_to(alloc, edge, plus, other)?;
+        match mate_of(met.taken, met.other) {
+            Some(mate) => Ok(Went::On(attach(alloc, pieces, met, mate)?)),
+            None => {
+                let (work, watch) = release(alloc, pieces, met)?;
+                Ok(Went::Ended(work, watch))
+            }
+        }
+    }
+
+    /// Makes the link from the plus node over the edge to the matched node, and takes out the match of this node.
+    fn link_to(
+        self,
+        alloc: Global,
+        edge: u32,
+        plus: NodeId,
+        other: NodeId,
+    ) -> Result<(Pieces<'a>, Met), NoMemory>
+        requires meets { Meets self edge plus other }
+        requires matched { is_in (matched_names self.part.matching.matches) other ≡ true }
+        ensures scope { IfOk result (λ linked. HasScope linked.0.parts) }
+        ensures met { IfOk result (λ linked. HasMet self.entry linked.1 (search_of linked.0)) }
+        ensures name { IfOk result (λ linked. is_in (names_of linked.1.taken) linked.1.other ≡ true) }
+    {
         let Searching {
             mut parts,
             tree,
@@ -57,14 +81,7 @@ impl<'a> Searching<'a> {
             link,
             taken,
         };
-        let pieces = Pieces { parts, tree, watch };
-        match mate_of(taken, other) {
-            Some(mate) => Ok(Went::On(attach(alloc, pieces, met, mate)?)),
-            None => {
-                let (work, watch) = release(alloc, pieces, met)?;
-                Ok(Went::Ended(work, watch))
-            }
-        }
+        Ok((Pieces { parts, tree, watch }, met))
     }
 }
 
