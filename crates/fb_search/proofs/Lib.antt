@@ -1,6 +1,7 @@
 pub mod Agreed
 pub mod AttachedBranches
 pub mod AttachedMatches
+pub mod AttachedSearches
 pub mod BegunSearches
 pub mod BranchPlaces
 pub mod CoversBefore
@@ -10,9 +11,11 @@ pub mod EndSteps
 pub mod EndedCases
 pub mod EndedLinks
 pub mod EndedMatches
+pub mod EndedNames
 pub mod EndedParts
 pub mod EndedTrees
 pub mod EndedWays
+pub mod FlatPermutations
 pub mod JoinConditions
 pub mod JoinLinks
 pub mod JoinMatchings
@@ -21,7 +24,9 @@ pub mod KeptWatches
 pub mod Linked
 pub mod MadeLinks
 pub mod Matched
+pub mod MetMatches
 pub mod Relayered
+pub mod ReleasedMatches
 pub mod Renamed
 pub mod RolesInTree
 pub mod RoundedLinks

@@ -1,4 +1,5 @@
 pub mod InternalEndings
+pub mod InternalMeetings
 pub mod InternalOpenings
 pub mod InternalRuns
 pub mod Meetings
