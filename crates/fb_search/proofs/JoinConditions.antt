@@ -15,41 +15,28 @@ use Rattle.fb_trees.specs.Replacements as replacements
 use Rattle.fb_trees.proofs.Mapped.{cycle_moved, last_moved, paths_moved}
 use Rattle.fb_trees.proofs.Taken.{taken_from}
 use Rattle.fb_half.specs.Translations.{entry_by, link_by}
+use Rattle.fb_search.proofs.Cycles.{cycle_from, same_cycle, paths_of}
 
 module _ (p : Problem) (s : SearchState) (links : List (Option (List Step))) (branches : List (EntryOf ℕ))
     (tree_is : s.tree ≡ map (entry_by links) branches) (name a b closing : ℕ) (shared up down : List (EntryOf ℕ))
     (may : MayClose p s name a b (link_by links closing)) (paths : ArePaths branches a b shared up down)
     (state : IsSearchState p s) where
   abbrev cycle : List ℕ
-  cycle = last_plus s.root shared ∷ cycle_nodes up down
-
-  abbrev moved_cycle : List ℕ
-  moved_cycle = last_plus s.root (map (entry_by links) shared) ∷ cycle_nodes (map (entry_by links) up) (map (entry_by links) down)
-
-  same_cycle : moved_cycle ≡ cycle
-  same_cycle =
-      ap (λ n. n ∷ cycle_nodes (map (entry_by links) up) (map (entry_by links) down)) (last_moved (link_by links) s.root shared)
-      ∙ ap (λ ns. last_plus s.root shared ∷ ns) (cycle_moved (link_by links) up down)
-
-  paths_of : ArePaths s.tree a b (map (entry_by links) shared) (map (entry_by links) up) (map (entry_by links) down)
-  paths_of =
-      subst
-      (λ t. ArePaths t a b (map (entry_by links) shared) (map (entry_by links) up) (map (entry_by links) down))
-      (sym tree_is) (paths_moved (link_by links) branches a b shared up down paths)
+  cycle = cycle_from s.root shared up down
 
   -- the nodes may be joined in the dual state
   pub nodes_may_join : MayJoin s.nodes name cycle
   nodes_may_join =
-      subst (MayJoin s.nodes name) same_cycle
+      subst (MayJoin s.nodes name) (same_cycle links s.root shared up down)
       (subst (λ ns. MayJoin s.nodes name (last_plus s.root (map (entry_by links) shared) ∷ ns))
       (closed_names p s name a b (link_by links closing) (map (entry_by links) shared) (map (entry_by links) up)
-      (map (entry_by links) down) may paths_of state)
+      (map (entry_by links) down) may (paths_of links s.tree branches tree_is a b shared up down paths) state)
       (joining_allowed s.nodes s.tree s.root name (child_at s.nodes (last_plus s.root (map (entry_by links) shared)))
       (map (child_at s.nodes) (cycle_nodes (map (entry_by links) up) (map (entry_by links) down)))
       (closed_joining p s name a b (link_by links closing) (map (entry_by links) shared) (map (entry_by links) up)
-      (map (entry_by links) down) may paths_of state)
+      (map (entry_by links) down) may (paths_of links s.tree branches tree_is a b shared up down paths) state)
       (closed_some p s name a b (link_by links closing) (map (entry_by links) shared) (map (entry_by links) up)
-      (map (entry_by links) down) may paths_of state)
+      (map (entry_by links) down) may (paths_of links s.tree branches tree_is a b shared up down paths) state)
       may.fresh))
 
   -- and the blossom may take their place in the tree
@@ -60,14 +47,14 @@ module _ (p : Problem) (s : SearchState) (links : List (Option (List Step))) (br
     taken =
         taken_from (link_by links) (is_in cycle) (last_plus s.root (map (entry_by links) shared)) s.root branches
         (subst (λ t. AreBranches (is_in cycle) (last_plus s.root (map (entry_by links) shared)) s.root t) tree_is
-        (subst (λ c. AreBranches (is_in c) (last_plus s.root (map (entry_by links) shared)) s.root s.tree) same_cycle
+        (subst (λ c. AreBranches (is_in c) (last_plus s.root (map (entry_by links) shared)) s.root s.tree) (same_cycle links s.root shared up down)
         (subst
         (λ ns.
         AreBranches (is_in (last_plus s.root (map (entry_by links) shared) ∷ ns))
         (last_plus s.root (map (entry_by links) shared)) s.root s.tree)
         (closed_names p s name a b (link_by links closing) (map (entry_by links) shared) (map (entry_by links) up)
-        (map (entry_by links) down) may paths_of state)
+        (map (entry_by links) down) may (paths_of links s.tree branches tree_is a b shared up down paths) state)
         (closed_joining p s name a b (link_by links closing) (map (entry_by links) shared) (map (entry_by links) up)
-        (map (entry_by links) down) may paths_of state).branches)));
+        (map (entry_by links) down) may (paths_of links s.tree branches tree_is a b shared up down paths) state).branches)));
     fresh = fresh;
   }

@@ -22,6 +22,7 @@ use Rattle.fb_trees.proofs.Mapped.{cycle_moved, last_moved, minus_moved, paths_m
 use Rattle.fb_half.specs.Parts.{AreLinksOf}
 use Rattle.fb_half.specs.Translations.{entry_by, link_by, ring_links}
 use Rattle.fb_search.proofs.Agreed.{nodes_of}
+use Rattle.fb_search.proofs.Cycles.{cycle_from, same_cycle}
 use Rattle.fb_search.proofs.Linked.{closed_numbers, links_reordered, rings_joined}
 
 module _ (p : Problem) (s : SearchState) (links : List (Option (List Step))) (branches : List (EntryOf ℕ))
@@ -29,15 +30,7 @@ module _ (p : Problem) (s : SearchState) (links : List (Option (List Step))) (br
     (may : MayClose p s name a b (link_by links closing)) (paths : ArePaths branches a b shared up down)
     (state : IsSearchState p s) where
   abbrev cycle : List ℕ
-  cycle = last_plus s.root shared ∷ cycle_nodes up down
-
-  abbrev moved_cycle : List ℕ
-  moved_cycle = last_plus s.root (map (entry_by links) shared) ∷ cycle_nodes (map (entry_by links) up) (map (entry_by links) down)
-
-  same_cycle : moved_cycle ≡ cycle
-  same_cycle =
-      ap (λ n. n ∷ cycle_nodes (map (entry_by links) up) (map (entry_by links) down)) (last_moved (link_by links) s.root shared)
-      ∙ ap (λ ns. last_plus s.root shared ∷ ns) (cycle_moved (link_by links) up down)
+  cycle = cycle_from s.root shared up down
 
   counted : AreDistinct cycle
       × (length (inner_branches (is_in cycle) s.tree)
@@ -48,7 +41,7 @@ module _ (p : Problem) (s : SearchState) (links : List (Option (List Step))) (br
       AreDistinct c
       × (length (inner_branches (is_in c) s.tree)
       ≡ length (map (entry_by links) up) + length (map (entry_by links) down)))
-      same_cycle
+      (same_cycle links s.root shared up down)
       (cycle_counted p s name a b (link_by links closing) (map (entry_by links) shared) (map (entry_by links) up)
       (map (entry_by links) down) may
       (subst

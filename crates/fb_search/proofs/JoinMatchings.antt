@@ -21,6 +21,7 @@ use Rattle.fb_laws.proofs.TreePaths.{in_right}
 use Rattle.fb_trees.proofs.Mapped.{cycle_moved, joined_moved, last_moved, names_moved, paths_moved}
 use Rattle.fb_half.specs.Matchings.{IsMatchingOf, MatchingValue, listed_names, matched_names}
 use Rattle.fb_half.specs.Translations.{entry_by, link_by}
+use Rattle.fb_search.proofs.Cycles.{cycle_from, same_cycle, paths_of}
 use Rattle.fb_search.proofs.Matched.{IsRenamed, matching_joined}
 use Rattle.fb_search.proofs.Renamed.{closed_renamed, closed_within, cover_joined, tree_listed}
 
@@ -34,21 +35,7 @@ module _ (p : Problem) (s : SearchState) (links : List (Option (List Step))) (br
     moved es = map (entry_by links) es
 
     abbrev cycle : List ℕ
-    cycle = last_plus s.root shared ∷ cycle_nodes up down
-
-    abbrev moved_cycle : List ℕ
-    moved_cycle = last_plus s.root (map (entry_by links) shared) ∷ cycle_nodes (map (entry_by links) up) (map (entry_by links) down)
-
-    same_cycle : moved_cycle ≡ cycle
-    same_cycle =
-        ap (λ n. n ∷ cycle_nodes (map (entry_by links) up) (map (entry_by links) down)) (last_moved (link_by links) s.root shared)
-        ∙ ap (λ ns. last_plus s.root shared ∷ ns) (cycle_moved (link_by links) up down)
-
-    paths_of : ArePaths s.tree a b (map (entry_by links) shared) (map (entry_by links) up) (map (entry_by links) down)
-    paths_of =
-        subst
-        (λ t. ArePaths t a b (map (entry_by links) shared) (map (entry_by links) up) (map (entry_by links) down))
-        (sym tree_is) (paths_moved (link_by links) branches a b shared up down paths)
+    cycle = cycle_from s.root shared up down
 
     names_are : tree_names s.root s.tree ≡ tree_names s.root branches
     names_are = ap (tree_names s.root) tree_is ∙ names_moved (link_by links) s.root branches
@@ -72,7 +59,7 @@ module _ (p : Problem) (s : SearchState) (links : List (Option (List Step))) (br
     within n on =
         ap (λ ns. is_in ns n) (sym names_are)
         ∙ closed_within p s name a b (link_by links closing) (map (entry_by links) shared) (map (entry_by links) up)
-        (map (entry_by links) down) may paths_of state n (ap (λ ns. is_in ns n) same_cycle ∙ on)
+        (map (entry_by links) down) may (paths_of links s.tree branches tree_is a b shared up down paths) state n (ap (λ ns. is_in ns n) (same_cycle links s.root shared up down) ∙ on)
 
     names_after : IsRenamed cycle (tree_names s.root branches)
         (tree_names (renamed (is_in cycle) name s.root) (joined_tree (is_in cycle) name branches)) name
@@ -89,9 +76,9 @@ module _ (p : Problem) (s : SearchState) (links : List (Option (List Step))) (br
         (λ c.
         IsRenamed c (tree_names s.root s.tree)
         (tree_names (renamed (is_in c) name s.root) (joined_tree (is_in c) name s.tree)) name)
-        same_cycle
+        (same_cycle links s.root shared up down)
         (closed_renamed p s name a b (link_by links closing) (map (entry_by links) shared) (map (entry_by links) up)
-        (map (entry_by links) down) may paths_of state
+        (map (entry_by links) down) may (paths_of links s.tree branches tree_is a b shared up down paths) state
         (ap (λ ns. is_in ns name) names_are ∙ fresh_in_tree))))
 
     outer_after : is_outer (joined name cycle s.nodes) name ≡ true
@@ -115,9 +102,9 @@ module _ (p : Problem) (s : SearchState) (links : List (Option (List Step))) (br
 
     apart_after : AreOuterApart (joined name cycle s.nodes)
     apart_after =
-        subst (λ c. AreOuterApart (joined name c s.nodes)) same_cycle
+        subst (λ c. AreOuterApart (joined name c s.nodes)) (same_cycle links s.root shared up down)
         (state_closed p s name a b (link_by links closing) (map (entry_by links) shared) (map (entry_by links) up)
-        (map (entry_by links) down) may paths_of state).search.nest.dual.apart
+        (map (entry_by links) down) may (paths_of links s.tree branches tree_is a b shared up down paths) state).search.nest.dual.apart
 
     -- The blossom is listed in the place of the root, if that is on the cycle; all matches are kept.
     pub matching_closed : IsPermutation (renamed (is_in cycle) name s.root ∷ beside) unmatched

@@ -4,6 +4,7 @@ pub mod AttachedMatches
 pub mod BegunSearches
 pub mod BranchPlaces
 pub mod CoversBefore
+pub mod Cycles
 pub mod DroppedLinks
 pub mod EdgeMeets
 pub mod EndSteps
@@ -13,16 +14,19 @@ pub mod EndedMatches
 pub mod EndedParts
 pub mod EndedTrees
 pub mod EndedWays
+pub mod HeldInStore
 pub mod JoinConditions
 pub mod JoinLinks
 pub mod JoinMatchings
 pub mod JoinStates
 pub mod KeptWatches
 pub mod Linked
+pub mod LinkedSteps
 pub mod MadeLinks
 pub mod Matched
 pub mod Relayered
 pub mod Renamed
+pub mod ReplacedNames
 pub mod RolesInTree
 pub mod RoundedLinks
 pub mod RoundedSearches
