@@ -18,11 +18,11 @@ use Rattle.fb_laws.specs.StateBlossoms.{MayClose}
 use Rattle.fb_laws.specs.TreeCycles.{ArePaths, cycle_links, cycle_nodes, last_plus}
 use Rattle.fb_laws.specs.Trees.{EntryOf, minus_names}
 use Rattle.fb_laws.proofs.LinkNumbers.{branches_counted, cycle_counted, links_joined_in}
-use Rattle.fb_trees.proofs.Mapped.{cycle_moved, last_moved, minus_moved, paths_moved}
+use Rattle.fb_trees.proofs.Mapped.{minus_moved}
 use Rattle.fb_half.specs.Parts.{AreLinksOf}
 use Rattle.fb_half.specs.Translations.{entry_by, link_by, ring_links}
 use Rattle.fb_search.proofs.Agreed.{nodes_of}
-use Rattle.fb_search.proofs.Cycles.{cycle_from, same_cycle}
+use Rattle.fb_search.proofs.Cycles.{cycle_from, paths_of, same_cycle}
 use Rattle.fb_search.proofs.Linked.{closed_numbers, links_reordered, rings_joined}
 
 module _ (p : Problem) (s : SearchState) (links : List (Option (List Step))) (branches : List (EntryOf ℕ))
@@ -44,10 +44,7 @@ module _ (p : Problem) (s : SearchState) (links : List (Option (List Step))) (br
       (same_cycle links s.root shared up down)
       (cycle_counted p s name a b (link_by links closing) (map (entry_by links) shared) (map (entry_by links) up)
       (map (entry_by links) down) may
-      (subst
-      (λ t. ArePaths t a b (map (entry_by links) shared) (map (entry_by links) up) (map (entry_by links) down))
-      (sym tree_is) (paths_moved (link_by links) branches a b shared up down paths))
-      state)
+      (paths_of links s.tree branches tree_is a b shared up down paths) state)
 
   cycle_joined : IsCycleJoined (is_in cycle) branches up down
   cycle_joined = record {
@@ -60,6 +57,11 @@ module _ (p : Problem) (s : SearchState) (links : List (Option (List Step))) (br
         ∙ (ap (λ k. k + length (map (entry_by links) down)) (length-map up (entry_by links))
         ∙ ap (λ k. length up + k) (length-map down (entry_by links))));
   }
+
+  -- the cycle's links are those of the tree that leave it, with the one that closes it
+  pub numbers_joined : IsPermutation (closing ∷ tree_links branches)
+      (tree_links (joined_tree (is_in cycle) name branches) ++ cycle_links up closing down)
+  numbers_joined = links_joined_in (is_in cycle) name a b closing branches shared up down paths cycle_joined
 
   pub links_closed : (old new : List (Option blossoms.Node)) (steps : List CycleStep) (matches : List ℕ)
       → nodes_of steps ≡ cycle → map (λ c. c.link) steps ≡ cycle_links up closing down
@@ -76,8 +78,7 @@ module _ (p : Problem) (s : SearchState) (links : List (Option (List Step))) (br
       (tree_links (joined_tree (is_in cycle) name branches) ++ (matches ++ l)))
       (sym rings)
       (closed_numbers closing (tree_links branches) (tree_links (joined_tree (is_in cycle) name branches))
-      (cycle_links up closing down) matches (ring_links s.nodes old)
-      (links_joined_in (is_in cycle) name a b closing branches shared up down paths cycle_joined)))
+      (cycle_links up closing down) matches (ring_links s.nodes old) numbers_joined))
       are
     where
       rings : ring_links (joined name cycle s.nodes) new ≡ ring_links s.nodes old ++ cycle_links up closing down

@@ -3,6 +3,7 @@ pub mod AttachedBranches
 pub mod AttachedMatches
 pub mod BegunSearches
 pub mod BranchPlaces
+pub mod ClosedCycles
 pub mod CoversBefore
 pub mod Cycles
 pub mod DroppedLinks

@@ -156,7 +156,7 @@ closed_within p s name a b closing shared up down may paths state n within =
     (subst (λ names. is_in (last_plus s.root shared ∷ names) n ≡ true)
     (sym (closed_names p s name a b closing shared up down may paths state)) within)
 
-along_names : {L : Type 0} (root : ℕ) (tree : List (EntryOf L)) → tree_names root tree ≡ nodes_along tree ++ root ∷ []
+pub along_names : {L : Type 0} (root : ℕ) (tree : List (EntryOf L)) → tree_names root tree ≡ nodes_along tree ++ root ∷ []
 along_names root [] = refl
 along_names root (e ∷ es) = ap (λ l. e.minus ∷ e.plus ∷ l) (along_names root es)
 

@@ -1,4 +1,4 @@
-use Rattle.fb_search.proofs.LinkedSteps.{steps_linked}
+use Rattle.fb_search.proofs.ClosedCycles.{steps_round}
 use Rattle.fb_search.proofs.ReplacedNames.{replaced_by, replaced_same, unlisted}
 use Rattle.fb_search.proofs.closing.replace_unmatched.Goals as goal
 
