@@ -22,8 +22,9 @@ use Rattle.fb_trees.proofs.Mapped.{cycle_moved, joined_moved, last_moved, names_
 use Rattle.fb_half.specs.Matchings.{IsMatchingOf, MatchingValue, listed_names, matched_names}
 use Rattle.fb_half.specs.Translations.{entry_by, link_by}
 use Rattle.fb_search.proofs.Cycles.{cycle_from, same_cycle, paths_of}
+use Rattle.fb_search.proofs.JoinConditions.{cycle_within, outer_made}
 use Rattle.fb_search.proofs.Matched.{IsRenamed, matching_joined}
-use Rattle.fb_search.proofs.Renamed.{closed_renamed, closed_within, cover_joined, tree_listed}
+use Rattle.fb_search.proofs.Renamed.{closed_renamed, cover_joined, tree_listed}
 
 module _ (p : Problem) (s : SearchState) (links : List (Option (List Step))) (branches : List (EntryOf ℕ))
     (tree_is : s.tree ≡ map (entry_by links) branches) (name a b closing : ℕ) (shared up down : List (EntryOf ℕ))
@@ -55,12 +56,6 @@ module _ (p : Problem) (s : SearchState) (links : List (Option (List Step))) (br
         (tree_listed m.unmatched beside (matched_names m.matches) s.root branches root_in) name)
         ∙ in_right (beside ++ matched_names m.matches) (tree_names s.root branches) name there)).0)
 
-    within : (n : ℕ) → is_in cycle n ≡ true → is_in (tree_names s.root branches) n ≡ true
-    within n on =
-        ap (λ ns. is_in ns n) (sym names_are)
-        ∙ closed_within p s name a b (link_by links closing) (map (entry_by links) shared) (map (entry_by links) up)
-        (map (entry_by links) down) may (paths_of links s.tree branches tree_is a b shared up down paths) state n (ap (λ ns. is_in ns n) (same_cycle links s.root shared up down) ∙ on)
-
     names_after : IsRenamed cycle (tree_names s.root branches)
         (tree_names (renamed (is_in cycle) name s.root) (joined_tree (is_in cycle) name branches)) name
     names_after =
@@ -80,25 +75,6 @@ module _ (p : Problem) (s : SearchState) (links : List (Option (List Step))) (br
         (closed_renamed p s name a b (link_by links closing) (map (entry_by links) shared) (map (entry_by links) up)
         (map (entry_by links) down) may (paths_of links s.tree branches tree_is a b shared up down paths) state
         (ap (λ ns. is_in ns name) names_are ∙ fresh_in_tree))))
-
-    outer_after : is_outer (joined name cycle s.nodes) name ≡ true
-    outer_after =
-        among_outer (joined name cycle s.nodes) name
-        (λ r among. by r (among_either s.nodes (blossom name cycle s.nodes ∷ []) r among))
-      where
-        by : (r : Node) → IsAmong r s.nodes ⊎ IsAmong r (blossom name cycle s.nodes ∷ []) → is_in r.children name ≡ false
-        by r (inl among) =
-            false_from_ne_true (is_in r.children name)
-            (λ h.
-            both_ways (is_live s.nodes name) may.fresh
-            (is_in-All (λ x. is_live s.nodes x ≡ true) r.children
-            (All_among (λ n. All (λ c. is_live s.nodes c ≡ true) n.children) s.nodes state.search.nest.forest.live r among)
-            name h))
-        by r (inr (inl e)) =
-            ap (λ (x : Node). is_in x.children name) (sym e)
-            ∙ false_from_ne_true (is_in cycle name)
-            (λ h. both_ways (is_in (tree_names s.root branches) name) fresh_in_tree (within name h))
-        by r (inr (inr none)) = absurd none
 
     apart_after : AreOuterApart (joined name cycle s.nodes)
     apart_after =
@@ -122,5 +98,7 @@ module _ (p : Problem) (s : SearchState) (links : List (Option (List Step))) (br
         (tree_listed unmatched beside (matched_names m.matches) (renamed (is_in cycle) name s.root)
         (joined_tree (is_in cycle) name branches)
         (IsPermutation-sym (renamed (is_in cycle) name s.root ∷ beside) unmatched listed)))
-        refl names_after within may.fresh outer_after
+        refl names_after
+        (cycle_within p s links branches tree_is name a b closing shared up down may paths state) may.fresh
+        (outer_made p s links branches tree_is name a b closing shared up down may paths state)
         (λ n there. in_right beside (matched_names m.matches) n there) (cover_joined s.nodes name cycle apart_after)

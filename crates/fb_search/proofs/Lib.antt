@@ -4,6 +4,8 @@ pub mod AttachedMatches
 pub mod BegunSearches
 pub mod BranchPlaces
 pub mod ClosedCycles
+pub mod ClosedSearches
+pub mod ClosedWatches
 pub mod CoversBefore
 pub mod Cycles
 pub mod DroppedLinks

@@ -69,6 +69,7 @@ pub(crate) fn close_cycle<'a>(
     watch_minus(alloc, &mut watch, &parts.regions, &tree, &nodes)?;
     watch.keeps();
     let held = &mut parts;
+    held.regions.scope().limits();
     held.blossoms.keeps();
     let blossom = held.blossoms.form(alloc, cycle, &held.links)?;
     parts.regions.join_nodes(alloc, blossom, &nodes)?;

@@ -1,4 +1,5 @@
-use Rattle.fb_search.proofs.ClosedCycles.{steps_round}
+use Rattle.fb_search.proofs.ClosedSearches.{cycle_closed}
+use Rattle.fb_search.proofs.ClosedWatches.{watch_closed}
 use Rattle.fb_search.proofs.ReplacedNames.{replaced_by, replaced_same, unlisted}
 use Rattle.fb_search.proofs.closing.replace_unmatched.Goals as goal
 
