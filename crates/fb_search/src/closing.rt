@@ -1,4 +1,4 @@
-ghost use Rattle.std.specs.Prelude.{◌≡◌, ◌≢◌, ◌∷◌, [], true, false, All, IfOk, OnOk, length};
+ghost use Rattle.std.specs.Prelude.{◌≡◌, ◌≢◌, ◌∷◌, [], true, false, All, IfOk, OnOk, length, map};
 ghost use Rattle.fb_graph.specs.Dual.{is_live};
 ghost use Rattle.fb_graph.specs.Parity.{is_in};
 ghost use Rattle.fb_laws.specs.Trees.{Connects};
@@ -65,7 +65,7 @@ pub(crate) fn close_cycle<'a>(
         mut watch,
     } = pieces;
     let cycle = tree.cycle_of(alloc, first, second, closing, &parts.links)?;
-    let nodes: Vec<NodeId> = cycle.iter().map(|step| step.node).collect(alloc)?;
+    let nodes = nodes_on(alloc, &cycle)?;
     watch_minus(alloc, &mut watch, &parts.regions, &tree, &nodes)?;
     watch.keeps();
     let held = &mut parts;
@@ -81,6 +81,13 @@ pub(crate) fn close_cycle<'a>(
     tree.replace(alloc, &nodes, &[step], &parts.links)?;
     replace_unmatched(alloc, &mut parts.matching, root, tree.root())?;
     Ok(Searching { parts, tree, watch })
+}
+
+/// The nodes of the steps.
+fn nodes_on(alloc: Global, steps: &[CycleStep]) -> Result<Vec<NodeId>, NoMemory>
+    ensures { IfOk result (λ nodes. nodes.items ≡ map (λ s. s.node) steps.now) }
+{
+    steps.iter().map(|step| step.node).collect(alloc)
 }
 
 /// Lists the new name as unmatched in the place of the old one.

@@ -1,5 +1,3 @@
-use Rattle.fb_search.proofs.ClosedSearches.{cycle_closed}
-use Rattle.fb_search.proofs.ClosedWatches.{watch_closed}
 use Rattle.fb_search.proofs.ReplacedNames.{replaced_by, replaced_same, unlisted}
 use Rattle.fb_search.proofs.closing.replace_unmatched.Goals as goal
 
