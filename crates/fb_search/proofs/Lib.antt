@@ -27,6 +27,7 @@ pub mod Linked
 pub mod LinkedSteps
 pub mod MadeLinks
 pub mod Matched
+pub mod MetPairs
 pub mod Relayered
 pub mod Renamed
 pub mod ReplacedNames
