@@ -1,7 +1,7 @@
 -- A link that closes a cycle of a search's tree: what forming the blossom asks for.
 use Rattle.std.proofs.Common.{ℕ, ◌≡◌, ◌≢◌, ◌≤◌, ◌⊎◌, inl, inr, Bool, true, false, List, [], ◌∷◌, ◌++◌, map, length, All, Option, None, is_some, refl, sym, ap, ◌∙◌, subst, arith, if◌then◌else◌}
 use Rattle.std.proofs.Math.ListN.{get_or-eq_default}
-use Rattle.std.proofs.lemmas.Bool.{both_ways, cases_Bool, false_from_ne_true}
+use Rattle.std.proofs.lemmas.Bool.{both_ways, false_from_ne_true}
 use Rattle.fb_graph.specs.Parity.{is_in}
 use Rattle.fb_graph.specs.Dual.{is_live}
 use Rattle.fb_graph.specs.Moves.{MayJoin}
@@ -31,7 +31,7 @@ use Rattle.fb_trees.specs.Replacements as replacements
 use Rattle.fb_trees.specs.Rooted.{IsPlus}
 use Rattle.fb_trees.specs.TreeSteps.{IsCycle}
 use Rattle.fb_trees.proofs.Mapped.{cycle_links_moved, cycle_moved, last_moved, plus_moved}
-use Rattle.fb_half.specs.Matchings.{listed_names, matched_names}
+use Rattle.fb_half.specs.Matchings.{listed_names}
 use Rattle.fb_half.specs.Parts.{kept_links}
 use Rattle.fb_half.specs.Translations.{entry_by, link_by}
 use Rattle.fb_search.specs.Searching.{IsSearchingBeside, SearchValue, problem_of, state_at}

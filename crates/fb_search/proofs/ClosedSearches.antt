@@ -1,6 +1,5 @@
 -- A cycle of a search's tree that becomes a blossom keeps what every search keeps, and leaves less to do.
-use Rattle.std.proofs.Common.{ℕ, ◌≡◌, ◌<◌, true, false, List, [], ◌∷◌, map, length, All, Option, is_some, refl, sym, ap, ◌∙◌, subst}
-use Rattle.std.specs.List.Sorted.{IsPermutation}
+use Rattle.std.proofs.Common.{ℕ, ◌≡◌, ◌<◌, true, false, List, ◌∷◌, All, Option, is_some, refl, sym, ap, ◌∙◌, subst}
 use Rattle.std.proofs.lemmas.Bool.{both_ways, false_from_ne_true}
 use Rattle.std.proofs.lemmas.List.Sorted.{IsPermutation-sym, length_permutation}
 use Rattle.fb_graph.specs.Parity.{is_in}
@@ -15,7 +14,6 @@ use Rattle.fb_blossoms.specs.Nodes as blossoms
 use Rattle.fb_laws.specs.PartStates.{IsSearchState, SearchState}
 use Rattle.fb_laws.specs.SearchBlossoms.{renamed}
 use Rattle.fb_laws.specs.StateBlossoms.{MayClose}
-use Rattle.fb_laws.specs.Trees.{tree_names}
 use Rattle.fb_laws.specs.Works.{without}
 use Rattle.fb_laws.proofs.OpenedBlossoms.{distinct_permuted, same_permuted}
 use Rattle.fb_laws.proofs.StateBlossoms.{unmatched_is_root}
@@ -24,7 +22,7 @@ use Rattle.fb_trees.specs.TreeSteps.{IsCycle}
 use Rattle.fb_trees.proofs.Mapped.{names_moved}
 use Rattle.fb_half.specs.Matchings.{MatchingValue, match_links}
 use Rattle.fb_half.specs.Parts.{AreAgreed}
-use Rattle.fb_half.specs.Translations.{entry_by, link_by}
+use Rattle.fb_half.specs.Translations.{link_by}
 use Rattle.fb_obstacles.specs.Watched.{Watched}
 use Rattle.fb_search.specs.InternalClosings.{IsReplacedBy, WatchesMinus}
 use Rattle.fb_search.specs.Progress.{GoesOn}

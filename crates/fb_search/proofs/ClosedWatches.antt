@@ -1,16 +1,15 @@
 -- The watch of a search after a cycle of its tree becomes a blossom: the minus nodes of the cycle are plus now.
-use Rattle.std.proofs.Common.{ℕ, ◌≡◌, ◌≢◌, ◌==◌, ◌<◌, ◌⊎◌, inl, inr, not, cond, Bool, true, false, List, [], ◌∷◌, map, length, All, Some, refl, sym, ap, ◌∙◌, subst, if◌then◌else◌}
+use Rattle.std.proofs.Common.{ℕ, ◌≡◌, ◌≢◌, ◌<◌, ◌⊎◌, inl, inr, not, cond, Bool, true, false, List, [], ◌∷◌, map, length, All, Some, refl, sym, ap, ◌∙◌, subst, if◌then◌else◌}
 use Rattle.std.proofs.lemmas.Bool.{both_ways, false≢true}
 use Rattle.fb_graph.specs.Parity.{is_in}
 use Rattle.fb_graph.specs.Problem.{Problem, edge_at, touches}
 use Rattle.fb_graph.specs.Limits.{DecodingGraph, IsWithinLimits}
 use Rattle.fb_graph.specs.Certificate.{AreDistinct}
-use Rattle.fb_graph.specs.Dual.{AreOuterApart, AreUnderOne, Node, cover_of, is_live, is_outer, top_at}
+use Rattle.fb_graph.specs.Dual.{AreOuterApart, Node, cover_of, is_live, is_outer, top_at}
 use Rattle.fb_graph.specs.Covers.{is_over, passes}
 use Rattle.fb_graph.specs.Moves.{MayJoin, joined}
-use Rattle.fb_graph.specs.Nests.{IsNest}
-use Rattle.fb_graph.proofs.Among.{IsAmong, All_among, among_either, among_live, among_outer, cover_among, top_among}
-use Rattle.fb_graph.proofs.Sets.{is_in-All, is_in-cases, is_in-head, is_in-tail}
+use Rattle.fb_graph.proofs.Among.{among_live, cover_among, top_among}
+use Rattle.fb_graph.proofs.Sets.{is_in-cases, is_in-head, is_in-tail}
 use Rattle.fb_regions.specs.declared.roles.Role.TheVariants.{Plus, Minus, Out}
 use Rattle.fb_laws.specs.SearchBlossoms.{joined_tree, outer_branches, renamed, renamed_entry}
 use Rattle.fb_laws.specs.Trees.{EntryOf, minus_names, plus_names, tree_names}
@@ -22,6 +21,7 @@ use Rattle.fb_trees.specs.Branches.{Grown}
 use Rattle.fb_trees.specs.Replacements as replacements
 use Rattle.fb_trees.specs.Rooted.{role_in}
 use Rattle.fb_search.specs.InternalClosings.{WatchesMinus}
+use Rattle.fb_search.proofs.AttachedBranches.{plus_of_tree}
 use Rattle.fb_search.proofs.BegunSearches.{touches_first, touches_second}
 use Rattle.fb_search.proofs.CoversBefore.{cover_before}
 use Rattle.fb_search.proofs.KeptWatches.{IsWatchedAt, together_joined, watch_kept}
@@ -100,9 +100,6 @@ role_there t n there = by (is_in (plus_names t.root t.branches) n) (is_in (minus
     by false false (inl none) = absurd (false≢true none)
     by false false (inr none) = absurd (false≢true none)
 
-plus_grows : (t : Grown) (n : ℕ) → is_in (plus_names t.root t.branches) n ≡ true → grows (role_in t n) ≡ true
-plus_grows t n plus = ap (λ b. grows (if b then Plus else (if is_in (minus_names t.branches) n then Minus else Out))) plus
-
 module _ (p : Problem) (nodes : List Node) (tree : Grown) (name : ℕ) (children : List ℕ) (old new : Watched)
     (limits : IsWithinLimits p) (names : AreDistinct (map (λ n. n.name) nodes)) (apart : AreOuterApart nodes)
     (apart_after : AreOuterApart (joined name children nodes)) (outer : is_outer (joined name children nodes) name ≡ true)
@@ -151,7 +148,7 @@ module _ (p : Problem) (nodes : List Node) (tree : Grown) (name : ℕ) (children
       by m plus n cover (inr (out, same)) =
           inl
           (still n cover
-          (plus_grows tree n
+          (plus_of_tree tree n
           (plus_before (is_in children) name tree.root tree.branches n
           (λ e. both_ways (is_live nodes name) may.fresh (ap (is_live nodes) (sym e) ∙ live n cover))
           (plus_in_tree (replacements.joined tree children name) n

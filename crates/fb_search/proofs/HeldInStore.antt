@@ -1,5 +1,5 @@
 -- The defects that a node holds in the store of blossoms, where the dual state has the same nodes.
-use Rattle.std.proofs.Common.{ℕ, ◌≡◌, ◌==◌, ◌||◌, true, false, List, [], ◌∷◌, ◌++◌, map, flat_map, All, Option, Some, IsSome, refl, sym, ap, ◌∙◌, subst}
+use Rattle.std.proofs.Common.{ℕ, ◌≡◌, ◌==◌, ◌||◌, true, false, List, [], ◌∷◌, flat_map, Option, Some, IsSome, refl, sym, ap, ◌∙◌, subst}
 use Rattle.std.specs.List.{list_any}
 use Rattle.std.proofs.lemmas.Bool.{both_ways, eq-eqb, or_left}
 use Rattle.std.proofs.lemmas.List.Folds.{list_any-append}
@@ -7,7 +7,7 @@ use Rattle.fb_graph.specs.Parity.{is_in}
 use Rattle.fb_graph.specs.Problem.{Problem}
 use Rattle.fb_graph.specs.Dual.{Node, cover_of, defects_of, is_empty, leaves}
 use Rattle.fb_graph.specs.Nests.{IsNest}
-use Rattle.fb_graph.proofs.Among.{IsAmong, All_among, among_All}
+use Rattle.fb_graph.proofs.Among.{All_among, among_All}
 use Rattle.fb_links.specs.declared.cycle.CycleStep.{CycleStep}
 use Rattle.fb_blossoms.specs.Nodes.{IsNested, cycle_at, defects_at, is_on}
 use Rattle.fb_blossoms.specs.Nodes as blossoms

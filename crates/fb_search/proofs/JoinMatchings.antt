@@ -1,24 +1,22 @@
 -- The matching of a search after a cycle of its tree becomes a blossom.
-use Rattle.std.proofs.Common.{ℕ, ◌≡◌, ◌⊎◌, inl, inr, true, false, List, [], ◌∷◌, ◌++◌, map, All, Option, refl, sym, ap, ◌∙◌, subst}
+use Rattle.std.proofs.Common.{ℕ, ◌≡◌, false, List, ◌∷◌, ◌++◌, map, Option, refl, sym, ap, ◌∙◌, subst}
 use Rattle.std.specs.List.Sorted.{IsPermutation}
 use Rattle.std.proofs.lemmas.Bool.{both_ways, false_from_ne_true}
 use Rattle.std.proofs.lemmas.List.Sorted.{IsPermutation-sym}
 use Rattle.fb_graph.specs.Parity.{is_in}
 use Rattle.fb_graph.specs.Problem.{Problem}
-use Rattle.fb_graph.specs.Dual.{AreOuterApart, Node, is_live, is_outer}
-use Rattle.fb_graph.specs.Moves.{blossom, joined}
-use Rattle.fb_graph.proofs.Among.{IsAmong, All_among, among_either, among_outer}
-use Rattle.fb_graph.proofs.Sets.{is_in-All}
+use Rattle.fb_graph.specs.Dual.{AreOuterApart, is_live}
+use Rattle.fb_graph.specs.Moves.{joined}
 use Rattle.fb_links.specs.declared.walk.Step.{Step}
 use Rattle.fb_laws.specs.PartStates.{SearchState, IsSearchState}
 use Rattle.fb_laws.specs.SearchBlossoms.{joined_tree, renamed}
 use Rattle.fb_laws.specs.StateBlossoms.{MayClose}
-use Rattle.fb_laws.specs.TreeCycles.{ArePaths, cycle_nodes, last_plus, nodes_along}
+use Rattle.fb_laws.specs.TreeCycles.{ArePaths, nodes_along}
 use Rattle.fb_laws.specs.Trees.{Entry, EntryOf, tree_names}
 use Rattle.fb_laws.proofs.OpenedBlossoms.{same_permuted}
 use Rattle.fb_laws.proofs.StateBlossoms.{state_closed}
 use Rattle.fb_laws.proofs.TreePaths.{in_right}
-use Rattle.fb_trees.proofs.Mapped.{cycle_moved, joined_moved, last_moved, names_moved, paths_moved}
+use Rattle.fb_trees.proofs.Mapped.{joined_moved, names_moved}
 use Rattle.fb_half.specs.Matchings.{IsMatchingOf, MatchingValue, listed_names, matched_names}
 use Rattle.fb_half.specs.Translations.{entry_by, link_by}
 use Rattle.fb_search.proofs.Cycles.{cycle_from, same_cycle, paths_of}

@@ -18,12 +18,12 @@ use Rattle.fb_laws.specs.PartStates.{SearchState, IsSearchState}
 use Rattle.fb_laws.specs.SearchBlossoms.{joined_tree, renamed}
 use Rattle.fb_laws.specs.SearchLayers.{left_to_do}
 use Rattle.fb_laws.specs.StateBlossoms.{MayClose, joined_state, with_cycle}
-use Rattle.fb_laws.specs.TreeCycles.{ArePaths, cycle_links, cycle_nodes, last_plus}
+use Rattle.fb_laws.specs.TreeCycles.{ArePaths, cycle_links}
 use Rattle.fb_laws.specs.Trees.{EntryOf, minus_names, plus_names, roles_of}
 use Rattle.fb_laws.proofs.StateBlossoms.{state_closed}
 use Rattle.fb_laws.proofs.StateMeasures.{closed_less}
 use Rattle.fb_laws.proofs.StateOrders.{search_reordered}
-use Rattle.fb_trees.proofs.Mapped.{cycle_links_moved, cycle_moved, joined_moved, last_moved, minus_moved, paths_moved, plus_moved}
+use Rattle.fb_trees.proofs.Mapped.{cycle_links_moved, joined_moved, minus_moved, plus_moved}
 use Rattle.fb_half.specs.Translations.{cycles_by, entry_by, link_by}
 use Rattle.fb_search.proofs.Cycles.{cycle_from, same_cycle, paths_of}
 

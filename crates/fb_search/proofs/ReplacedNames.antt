@@ -1,10 +1,9 @@
 -- A matching that lists a new unmatched name in the place of an old one.
-use Rattle.std.proofs.Common.{ℕ, ◌≡◌, ◌==◌, Bool, true, false, List, [], ◌∷◌, ◌++◌, refl, sym, ap, ◌∙◌, subst}
+use Rattle.std.proofs.Common.{ℕ, ◌≡◌, ◌==◌, true, false, [], ◌∷◌, ◌++◌, refl, sym, ap, ◌∙◌, subst}
 use Rattle.std.specs.List.Sorted.{IsPermutation}
 use Rattle.std.proofs.lemmas.Bool.{or_parts}
 use Rattle.std.proofs.lemmas.List.Sorted.{IsPermutation-append_comm, IsPermutation-append_left, IsPermutation-middle, IsPermutation-sym}
 use Rattle.fb_graph.specs.Parity.{is_in}
-use Rattle.fb_graph.proofs.Members.{is_in-append}
 use Rattle.fb_laws.proofs.OpenedBlossoms.{same_permuted}
 use Rattle.fb_half.specs.Matchings.{MatchingValue, listed_names, matched_names}
 use Rattle.fb_search.specs.InternalClosings.{IsReplacedBy}

@@ -1,19 +1,16 @@
-use Rattle.std.proofs.Common.{◌≡◌, ◌∙◌, ◌≢◌, List, [], ◌∷◌, All, ap, false, refl, length, subst, sym, ℕ, true}
+use Rattle.std.proofs.Common.{◌≡◌, ◌∙◌, ap, false, refl, length, sym}
 use Rattle.fb_graph.specs.Limits.{IsWithinLimits}
-use Rattle.fb_graph.specs.Moves.{MayJoin, joined}
 use Rattle.fb_graph.specs.Dual.{is_live}
 use Rattle.fb_graph.specs.Parity.{is_in}
 use Rattle.fb_laws.specs.SearchBlossoms.{renamed}
-use Rattle.fb_half.specs.Matchings.{listed_names}
 use Rattle.fb_trees.specs.Replacements.{MayReplace}
 use Rattle.fb_trees.specs.Replacements as replacements
 use Rattle.fb_search.specs.InternalClosings.{IsReplacedBy, WatchesMinus}
-use Rattle.fb_search.specs.Progress.{GoesOn}
-use Rattle.fb_search.specs.Searching.{IsSearching, SearchValue, problem_of, search_of}
+use Rattle.fb_search.specs.Searching.{SearchValue, problem_of, search_of}
 use Rattle.fb_search.proofs.Agreed.{nodes_of}
 use Rattle.fb_search.proofs.BegunSearches.{kept_limits}
 use Rattle.fb_search.proofs.ClosedCycles.{Closes, many_replaced, root_unlisted, steps_join, steps_live, steps_odd, steps_outer, steps_replaced, steps_round}
-use Rattle.fb_search.proofs.ClosedSearches.{closed_search, cycle_closed, new_name}
+use Rattle.fb_search.proofs.ClosedSearches.{cycle_closed, new_name}
 use Rattle.fb_search.proofs.ClosedWatches.{watches_minus}
 use Rattle.fb_search.proofs.closing.close_cycle.Goals as goal
 
