@@ -1,3 +1,4 @@
+pub mod InternalClosings
 pub mod InternalEndings
 pub mod InternalMeetings
 pub mod InternalOpenings
