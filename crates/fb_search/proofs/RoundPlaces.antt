@@ -6,7 +6,7 @@ use Rattle.std.proofs.lemmas.Grind.{reverse_onto}
 use Rattle.std.proofs.lemmas.List.Folds.{list_any-append}
 use Rattle.fb_links.specs.declared.cycle.CycleStep.{CycleStep}
 use Rattle.fb_blossoms.specs.Nodes.{is_on}
-use Rattle.fb_search.specs.InternalOpenings.{between_on, even_on, link_on, links_left, place_on, rest_on, round_on, turned_from, turned_on, way_on}
+use Rattle.fb_search.specs.InternalOpenings.{between_on, even_on, link_on, links_left, place_on, rest_on, round_on, turned_from, turned_on}
 
 or_comm : (a b : Bool) → (a || b) ≡ (b || a)
 or_comm true true = refl
@@ -71,33 +71,16 @@ link_there (s ∷ ss) name d on = by (s.node == name) on (link_there ss name d)
         get_or-suc : (xs : List CycleStep) (i : ℕ) → get_or (s ∷ xs) (1 + i) d ≡ get_or xs i d
         get_or-suc xs i = let e : 1 + i ≡ suc i = omega arith in ap (λ k. get_or (s ∷ xs) k d) e
 
--- A round as code reads it: copied, with the place of a node, and split after this place.
-pub record IsReadAt (whole : List CycleStep) (name : ℕ) (items again all front back : List CycleStep) (end : ℕ) : Type 0 where
-  pub round : items ≡ whole
-  pub first : again ≡ items
-  pub second : all ≡ items
-  pub place : end ≡ place_on again name
-  pub before : front ≡ take (end + 1) all
-  pub after : back ≡ drop (end + 1) all
+-- the links that are left over, as code reads them from a round, of which one step's place is known
+pub left_read : (whole items back : List CycleStep) (name end : ℕ) (at : CycleStep) (left : List ℕ) → items ≡ whole
+    → end ≡ place_on whole name → is_on whole name ≡ true → at ≡ get_or items end at → back ≡ drop (end + 1) items
+    → left ≡ at.link ∷ between_on back → left ≡ links_left whole name
+left_read whole items back name end at left round place on there after is =
+    is ∙ (λ i. link_is i ∷ between_on (back_is i))
+  where
+    back_is : back ≡ rest_on whole name
+    back_is = after ∙ (λ i. drop (place i + 1) (round i))
 
-module _ (whole : List CycleStep) (name : ℕ) (items again all front back : List CycleStep) (end : ℕ)
-    (read : IsReadAt whole name items again all front back end) where
-  end_is : end ≡ place_on whole name
-  end_is = read.place ∙ ap (λ l. place_on l name) (read.first ∙ read.round)
-
-  pub way_read : front ≡ way_on whole name
-  way_read = read.before ∙ (λ i. take (end_is i + 1) ((read.second ∙ read.round) i))
-
-  pub rest_read : back ≡ rest_on whole name
-  rest_read = read.after ∙ (λ i. drop (end_is i + 1) ((read.second ∙ read.round) i))
-
-  pub left_read : (at : CycleStep) (left : List ℕ) → is_on items name ≡ true → at ≡ get_or items end at
-      → left ≡ at.link ∷ between_on back → left ≡ links_left whole name
-  left_read at left on there is =
-      is
-      ∙ (λ i. link_is i ∷ between_on (rest_read i))
-    where
-      link_is : at.link ≡ link_on whole name
-      link_is =
-          ap (λ (s : CycleStep). s.link) (there ∙ (λ i. get_or (read.round i) (end_is i) at))
-          ∙ link_there whole name at (ap (λ l. is_on l name) (sym read.round) ∙ on)
+    link_is : at.link ≡ link_on whole name
+    link_is =
+        ap (λ (s : CycleStep). s.link) (there ∙ (λ i. get_or (round i) (place i) at)) ∙ link_there whole name at on

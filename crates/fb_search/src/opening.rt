@@ -4,7 +4,7 @@ ghost use Rattle.fb_blossoms.specs.Nodes.{is_on};
 ghost use Rattle.fb_half.specs.Values.{part_of};
 ghost use Rattle.fb_obstacles.specs.Obstacles.{Obstructs};
 ghost use Rattle.fb_obstacles.specs.declared.obstacle.Obstacle.TheVariants.{BlossomEmpty};
-ghost use Rattle.fb_search.specs.InternalOpenings.{EndsAtChild, MayEnter, between_on, couples_on, even_on, place_on, round_on, second_nodes, turned_on};
+ghost use Rattle.fb_search.specs.InternalOpenings.{EndsAtChild, MayEnter, between_on, couples_on, even_on, links_left, place_on, rest_on, round_on, second_nodes, turned_on, way_on};
 ghost use Rattle.fb_search.specs.Progress.{GoesOn};
 ghost use Rattle.fb_search.specs.Searching.{problem_of, roles_in};
 ghost use Rattle.fb_search.specs.Watching.{Watches};
@@ -37,15 +37,11 @@ impl<'a> Searching<'a> {
         let below = child_at(&parts, node, branch.matched);
         let cycle = parts.blossoms.open_up(node);
         parts.regions.split_node(node)?;
-        let round = round_between(alloc, &cycle, above, below)?;
-        let end = place_of(&round, below);
-        let (way, rest) = round.split_at(end + 1);
-        tree.replace(alloc, &[node], way, &parts.links)?;
-        let matches = couples(alloc, rest)?;
-        add_matches(alloc, &mut parts.matching, &matches)?;
-        let left = links_left(alloc, round[end].link, rest)?;
-        forget_all(&mut parts.links, &left);
-        watch_plus(alloc, &mut watch, &parts.regions, way)?;
+        let apart = taken_apart(alloc, &cycle, above, below)?;
+        tree.replace(alloc, &[node], &apart.way, &parts.links)?;
+        add_matches(alloc, &mut parts.matching, &apart.matches)?;
+        forget_all(&mut parts.links, &apart.left);
+        watch_plus(alloc, &mut watch, &parts.regions, &apart.way)?;
         watch.keeps();
         Ok(Searching { parts, tree, watch })
     }
@@ -71,6 +67,40 @@ fn end_under<S: Scope>(regions: &Regions<S>, node: NodeId, first: u32, second: u
         Some(outer) if outer == node => first,
         _ => second,
     }
+}
+
+/// The cycle of an opened blossom taken apart.
+#[derive(Drop)]
+struct Apart {
+    /// The steps that take the blossom's place in the tree.
+    way: Vec<CycleStep>,
+    /// Matches of all other nodes.
+    matches: Vec<Match>,
+    /// The links that are neither between nodes of the way nor those of the matches.
+    left: Vec<LinkId>,
+}
+
+/// Takes the cycle apart: the steps of the way from the first node to the second one by an even number of links, and
+/// the nodes beside the way in pairs.
+fn taken_apart(
+    alloc: Global,
+    cycle: &[CycleStep],
+    first: NodeId,
+    second: NodeId,
+) -> Result<Apart, NoMemory>
+    requires first { is_on cycle.now first ≡ true }
+    requires second { is_on cycle.now second ≡ true }
+    ensures way { IfOk result (λ apart. apart.way.items ≡ way_on (even_on (round_on cycle.now first) second) second) }
+    ensures matches { IfOk result (λ apart. apart.matches.items ≡ couples_on (rest_on (even_on (round_on cycle.now first) second) second)) }
+    ensures left { IfOk result (λ apart. apart.left.items ≡ links_left (even_on (round_on cycle.now first) second) second) }
+{
+    let mut way = round_between(alloc, cycle, first, second)?;
+    let end = place_of(&way, second);
+    let (_, rest) = way.split_at(end + 1);
+    let matches = couples(alloc, rest)?;
+    let left = links_left(alloc, way[end].link, rest)?;
+    way.truncate(end + 1);
+    Ok(Apart { way, matches, left })
 }
 
 /// The place of the node's step.
