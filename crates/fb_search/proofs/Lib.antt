@@ -3,6 +3,7 @@ pub mod AttachedBranches
 pub mod AttachedMatches
 pub mod AttachedSearches
 pub mod BegunSearches
+pub mod BranchEnds
 pub mod BranchPlaces
 pub mod ClosedCycles
 pub mod ClosedSearches
@@ -21,6 +22,7 @@ pub mod EndedTrees
 pub mod EndedWays
 pub mod FlatPermutations
 pub mod HeldInStore
+pub mod EnteredChildren
 pub mod JoinConditions
 pub mod JoinLinks
 pub mod JoinMatchings
@@ -32,6 +34,21 @@ pub mod MadeLinks
 pub mod Matched
 pub mod MetMatches
 pub mod MetPairs
+pub mod OpenedAlong
+pub mod OpenedConditions
+pub mod OpenedLinks
+pub mod OpenedMatchings
+pub mod OpenedNames
+pub mod OpenedNumbers
+pub mod OpenedPlaces
+pub mod OpenedRounds
+pub mod OpenedSearchStates
+pub mod OpenedSearches
+pub mod OpenedSplits
+pub mod OpenedStates
+pub mod OpenedWatches
+pub mod OpenedWays
+pub mod Openings
 pub mod Relayered
 pub mod ReleasedMatches
 pub mod Renamed
@@ -43,6 +60,9 @@ pub mod Runs
 pub mod ScopeWalks
 pub mod SourceSteps
 pub mod StepWalks
+pub mod RoundPlaces
+pub mod Runs
+pub mod StepPairs
 pub mod TakenNames
 pub mod TakenVertices
 pub mod TightWalks
