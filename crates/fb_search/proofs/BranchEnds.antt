@@ -16,7 +16,7 @@ use Rattle.fb_laws.proofs.SearchTrees.{connects_sym, exclusive_names}
 use Rattle.fb_laws.proofs.TreePaths.{among_plus, in_left, in_right, tree_connects}
 use Rattle.fb_links.specs.Table.{is_live}
 use Rattle.fb_half.specs.Parts.{kept_links}
-use Rattle.fb_half.specs.Translations.{entry_by, link_by}
+use Rattle.fb_half.specs.Translations.{entry_by}
 use Rattle.fb_trees.specs.Rooted.{IsBranchAt}
 use Rattle.fb_search.specs.InternalOpenings.{EndsAtChild, MayEnter}
 use Rattle.fb_search.specs.Searching.{IsSearching, SearchValue, problem_of, state_at}

@@ -1,5 +1,5 @@
 -- The child of a blossom at which a tight link to the blossom ends, found by the defects that the nodes hold.
-use Rattle.std.proofs.Common.{ℕ, ◌≡◌, ◌≢◌, ◌==◌, ◌&&◌, ◌||◌, ◌⊎◌, inl, inr, Bool, true, false, List, [], ◌∷◌, map, flat_map, All, Option, Some, None, refl, sym, ap, ◌∙◌, subst}
+use Rattle.std.proofs.Common.{ℕ, ◌≡◌, ◌≢◌, ◌==◌, ◌&&◌, ◌||◌, ◌⊎◌, inl, inr, true, false, List, [], ◌∷◌, map, flat_map, All, Option, Some, refl, sym, ap, ◌∙◌}
 use Rattle.std.specs.List.{list_any}
 use Rattle.std.proofs.lemmas.Bool.{and_parts, both_ways, eq-eqb, or_left}
 use Rattle.std.proofs.lemmas.List.Elements.{All-head}

@@ -1,5 +1,5 @@
 -- The steps of a round read one after another, or two by two.
-use Rattle.std.proofs.Common.{ℕ, ◌≡◌, ◌+◌, ◌<◌, ◌≤◌, ◌⊎◌, inl, inr, true, false, All, List, [], ◌∷◌, ◌++◌, length, get_or, drop, take, reverse, flat_map, Some, refl, sym, ap, ◌∙◌, subst, append_assoc, arith}
+use Rattle.std.proofs.Common.{ℕ, ◌≡◌, ◌+◌, ◌<◌, ◌≤◌, ◌⊎◌, inl, inr, true, All, List, [], ◌∷◌, ◌++◌, length, get_or, drop, take, reverse, flat_map, Some, refl, sym, ap, ◌∙◌, subst, append_assoc, arith}
 use Rattle.std.proofs.lemmas.Bool.{false≢true, or_cases}
 use Rattle.std.proofs.lemmas.List.{drop_more, length-drop, reverse-append, take_more}
 use Rattle.std.proofs.lemmas.List.Elements.{All-head, All-tail}

@@ -1,6 +1,5 @@
 -- The steps of a blossom's cycle as they are read where it is opened.
 use Rattle.std.specs.Prelude.{ℕ, ◌≡◌, ◌≢◌, ◌+◌, ◌==◌, ◌%◌, true, List, [], ◌∷◌, ◌++◌, drop, take, reverse, Some, if◌then◌else◌}
-use Rattle.fb_graph.specs.Problem.{Problem}
 use Rattle.fb_graph.specs.Moves.{MaySplit, split}
 use Rattle.fb_graph.specs.Nests.{IsNest}
 use Rattle.fb_laws.specs.Trees.{Connects}

@@ -1,8 +1,7 @@
-use Rattle.std.proofs.Common.{◌≡◌, ap, ◌∙◌}
 use Rattle.fb_half.specs.Values.{part_of}
 use Rattle.fb_half.specs.Translations.{link_by}
 use Rattle.fb_search.proofs.Agreed.{cycle_there}
-use Rattle.fb_search.proofs.EnteredChildren.{IsEndUnder, child_entered, end_found, end_held}
+use Rattle.fb_search.proofs.EnteredChildren.{child_entered, end_found, end_held}
 use Rattle.fb_search.proofs.opening.child_at.Goals as goal
 
 pub child_holding-requires-clause-blossom : goal.child_holding-requires-clause-blossom

@@ -1,4 +1,4 @@
-use Rattle.std.proofs.Common.{◌≡◌, drop, ◌+◌, ap, sym, ◌∙◌}
+use Rattle.std.proofs.Common.{drop, ◌+◌, ap, sym, ◌∙◌}
 use Rattle.fb_blossoms.specs.Nodes.{is_on}
 use Rattle.fb_search.specs.InternalOpenings.{even_on, place_on, round_on}
 use Rattle.fb_search.proofs.RoundPlaces.{left_read}
