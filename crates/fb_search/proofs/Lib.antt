@@ -2,7 +2,9 @@ pub mod Agreed
 pub mod AttachedBranches
 pub mod AttachedMatches
 pub mod BegunSearches
+pub mod BranchNames
 pub mod BranchPlaces
+pub mod BranchTurns
 pub mod CoversBefore
 pub mod DroppedLinks
 pub mod EndSteps
@@ -19,6 +21,7 @@ pub mod JoinStates
 pub mod KeptWatches
 pub mod Linked
 pub mod Matched
+pub mod NodeTurns
 pub mod Relayered
 pub mod Renamed
 pub mod RolesInTree
