@@ -1,10 +1,8 @@
 -- The names of a tree's nodes, read from its branches with the oldest one first.
-use Rattle.std.proofs.Common.{ℕ, ◌≡◌, ◌<◌, List, [], ◌∷◌, ◌++◌, length, map, reverse, take, get_or, refl, sym, ap, ◌∙◌, subst}
+use Rattle.std.proofs.Common.{ℕ, ◌≡◌, List, [], ◌∷◌, ◌++◌, map, reverse, refl, sym, ap, subst}
 use Rattle.std.proofs.lemmas.List.Sorted.{IsPermutation-append_comm, IsPermutation-cons, IsPermutation-map, IsPermutation-reverse, IsPermutation-trans}
 use Rattle.std.specs.List.Sorted.{IsPermutation}
-use Rattle.fb_graph.specs.Parity.{is_in}
-use Rattle.fb_graph.specs.Certificate.{AreDistinct}
-use Rattle.fb_laws.specs.Trees.{EntryOf, minus_names, plus_names}
+use Rattle.fb_laws.specs.Trees.{minus_names, plus_names}
 use Rattle.fb_trees.specs.Branches.{entries_of, entry_of}
 use Rattle.fb_trees.specs.declared.branch.Branch.{Branch}
 

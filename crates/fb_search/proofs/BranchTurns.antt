@@ -1,5 +1,5 @@
 -- The branches of a tree in their turns: each minus node shrinks, then the root and each other plus node grow.
-use Rattle.std.proofs.Common.{ℕ, suc, ◌≡◌, ◌+◌, ◌<◌, ◌≤◌, ◌⊎◌, inl, inr, true, false, List, [], ◌∷◌, ◌++◌, length, map, take, drop, get_or, refl, sym, ap, ◌∙◌, subst, arith}
+use Rattle.std.proofs.Common.{ℕ, suc, ◌≡◌, ◌+◌, ◌<◌, ◌≤◌, ◌⊎◌, inl, inr, true, false, List, [], ◌∷◌, length, take, drop, get_or, refl, sym, ap, ◌∙◌, subst, arith}
 use Rattle.std.proofs.lemmas.Bool.{false≢true}
 use Rattle.std.proofs.lemmas.List.{get_or-map, length-map, map_more, take-append-drop, take-map, take_all}
 use Rattle.std.proofs.lemmas.List.Sorted.{IsPermutation-sym}
@@ -12,7 +12,7 @@ use Rattle.fb_graph.specs.Turns.{thinner}
 use Rattle.fb_graph.proofs.Sets.{is_in-cases, is_in-head, is_in-tail, is_in_at}
 use Rattle.fb_graph.proofs.StepTurns.{no_turn, same_roles}
 use Rattle.fb_laws.specs.Trees.{minus_names, plus_names, roles_of}
-use Rattle.fb_laws.proofs.OpenedBlossoms.{distinct_permuted, in_permuted, same_permuted}
+use Rattle.fb_laws.proofs.OpenedBlossoms.{distinct_permuted, same_permuted}
 use Rattle.fb_laws.proofs.TreePaths.{in_left}
 use Rattle.fb_half.proofs.Begun.{not_before}
 use Rattle.fb_regions.specs.Moves.{node_named}

@@ -26,6 +26,8 @@ pub mod Relayered
 pub mod Renamed
 pub mod RolesInTree
 pub mod Runs
+pub mod SearchRoles
+pub mod SteppedSearches
 pub mod TakenNames
 pub mod TakenVertices
 pub mod TopLayers

@@ -1,6 +1,6 @@
 -- A step of a tree, node by node.
-use Rattle.std.proofs.Common.{ℕ, ◌≡◌, ◌==◌, ◌≤◌, ◌||◌, ◌⊎◌, Bool, cond, true, false, List, [], ◌∷◌, ◌++◌, All, refl, sym, ap, ◌∙◌, subst}
-use Rattle.std.proofs.lemmas.Bool.{cases_Bool, eqb-true, false≢true}
+use Rattle.std.proofs.Common.{ℕ, ◌≡◌, ◌==◌, ◌≤◌, ◌||◌, Bool, cond, true, false, List, [], ◌∷◌, ◌++◌, All, refl, sym, ap, ◌∙◌, subst}
+use Rattle.std.proofs.lemmas.Bool.{eqb-true, false≢true}
 use Rattle.std.proofs.lemmas.List.Elements.{All-head, All-tail}
 use Rattle.fb_graph.specs.Parity.{is_in}
 use Rattle.fb_graph.specs.Problem.{Problem}
@@ -14,7 +14,6 @@ use Rattle.fb_graph.proofs.Sets.{equal_sym}
 use Rattle.fb_graph.proofs.StepTurns.{grown_next, growth_allowed, same_roles, shrink_allowed, shrunk_next, top_stepped}
 use Rattle.fb_laws.specs.Trees.{minus_names, plus_names, roles_of}
 use Rattle.fb_laws.proofs.CycleMoves.{live_mapped}
-use Rattle.fb_laws.proofs.OpenedBlossoms.{same_permuted}
 use Rattle.fb_regions.specs.Moves.{node_named}
 use Rattle.fb_trees.specs.Branches.{Grown}
 use Rattle.fb_search.specs.InternalSteps.{IsTreeOver, roles_by_names}

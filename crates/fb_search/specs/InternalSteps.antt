@@ -4,7 +4,7 @@ use Rattle.fb_graph.specs.Parity.{is_in}
 use Rattle.fb_graph.specs.Problem.{Problem}
 use Rattle.fb_graph.specs.Certificate.{AreDistinct}
 use Rattle.fb_graph.specs.Dual.{IsCrossed, Node, is_live, top_at}
-use Rattle.fb_graph.specs.Steps.{MayStep, Roles}
+use Rattle.fb_graph.specs.Steps.{Roles}
 use Rattle.fb_graph.specs.Covers.{AreRoles}
 use Rattle.fb_laws.specs.Trees.{minus_names, plus_names, roles_of}
 use Rattle.fb_trees.specs.Branches.{Grown}

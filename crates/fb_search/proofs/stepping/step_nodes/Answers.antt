@@ -1,4 +1,4 @@
-use Rattle.std.proofs.Common.{◌≡◌, ◌∙◌, ap, sym}
+use Rattle.std.proofs.Common.{◌∙◌, ap}
 use Rattle.fb_search.proofs.BranchTurns.{all_done, minus_done, minus_may, none_yet, plus_done, plus_may, root_done, root_may}
 use Rattle.fb_search.proofs.stepping.step_nodes.Goals as goal
 
