@@ -14,6 +14,7 @@ pub mod EndedMatches
 pub mod EndedParts
 pub mod EndedTrees
 pub mod EndedWays
+pub mod ExchangedObstacles
 pub mod JoinConditions
 pub mod JoinLinks
 pub mod JoinMatchings
@@ -21,6 +22,7 @@ pub mod JoinStates
 pub mod KeptWatches
 pub mod Linked
 pub mod Matched
+pub mod NextObstacles
 pub mod NodeTurns
 pub mod Relayered
 pub mod Renamed

@@ -26,7 +26,7 @@ use Rattle.fb_search.specs.InternalSteps.{IsTreeOver}
 use Rattle.fb_search.proofs.Runs.{tree_roles}
 
 -- the tree with its links in the place of their numbers
-abbrev linked_tree : SearchValue → List Entry
+abbrev pub linked_tree : SearchValue → List Entry
 linked_tree w = map (entry_by w.part.links) w.tree.branches
 
 module _ (w : SearchValue) (are : IsSearching w) where
