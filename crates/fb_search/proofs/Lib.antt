@@ -15,6 +15,7 @@ pub mod EndedParts
 pub mod EndedTrees
 pub mod EndedWays
 pub mod ExchangedObstacles
+pub mod FreeSteps
 pub mod JoinConditions
 pub mod JoinLinks
 pub mod JoinMatchings
@@ -22,6 +23,7 @@ pub mod JoinStates
 pub mod KeptWatches
 pub mod Linked
 pub mod Matched
+pub mod MetOutside
 pub mod NextObstacles
 pub mod NodeTurns
 pub mod Relayered
