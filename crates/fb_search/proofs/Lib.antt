@@ -8,6 +8,9 @@ pub mod BranchPlaces
 pub mod ClosedCycles
 pub mod ClosedSearches
 pub mod ClosedWatches
+pub mod BranchNames
+pub mod BranchPlaces
+pub mod BranchTurns
 pub mod CoversBefore
 pub mod Cycles
 pub mod DroppedLinks
@@ -23,6 +26,8 @@ pub mod EndedWays
 pub mod EnteredChildren
 pub mod FlatPermutations
 pub mod HeldInStore
+pub mod ExchangedObstacles
+pub mod FreeSteps
 pub mod JoinConditions
 pub mod JoinLinks
 pub mod JoinMatchings
@@ -49,6 +54,9 @@ pub mod OpenedStates
 pub mod OpenedWatches
 pub mod OpenedWays
 pub mod Openings
+pub mod MetOutside
+pub mod NextObstacles
+pub mod NodeTurns
 pub mod Relayered
 pub mod ReleasedMatches
 pub mod Renamed
@@ -62,6 +70,8 @@ pub mod ScopeWalks
 pub mod SourceSteps
 pub mod StepPairs
 pub mod StepWalks
+pub mod SearchRoles
+pub mod SteppedSearches
 pub mod TakenNames
 pub mod TakenVertices
 pub mod TightWalks
