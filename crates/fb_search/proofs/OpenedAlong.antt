@@ -1,7 +1,7 @@
 -- A cycle opened between two of its nodes: the way, the couples and the links that are left, as the laws see them.
-use Rattle.std.proofs.Common.{ℕ, suc, ◌≡◌, ◌+◌, ◌%◌, ◌<◌, ◌==◌, Bool, true, false, List, [], ◌∷◌, ◌++◌, map, length, take, drop, get_or, refl, sym, ap, ◌∙◌, subst, arith, if◌then◌else◌}
+use Rattle.std.proofs.Common.{ℕ, ◌≡◌, ◌%◌, ◌<◌, ◌==◌, Bool, true, false, List, [], ◌∷◌, ◌++◌, map, length, take, drop, get_or, refl, sym, ap, ◌∙◌, subst, arith, if◌then◌else◌}
 use Rattle.std.specs.List.Sorted.{IsPermutation}
-use Rattle.std.proofs.lemmas.List.{append_assoc, drop-map, length-append, length-map, map-append, take-map}
+use Rattle.std.proofs.lemmas.List.{append_assoc, drop-map, length-append, length-map, take-map}
 use Rattle.std.proofs.lemmas.List.Sorted.{IsPermutation-append_comm, IsPermutation-cons, IsPermutation-map, IsPermutation-refl, IsPermutation-reverse, IsPermutation-trans, length_permutation}
 use Rattle.fb_graph.specs.Parity.{is_in}
 use Rattle.fb_graph.specs.Certificate.{AreDistinct}
@@ -9,16 +9,16 @@ use Rattle.fb_graph.specs.Laws.{Link}
 use Rattle.fb_links.specs.declared.cycle.CycleStep.{CycleStep}
 use Rattle.fb_laws.specs.OpenedCycles.{grown_on, last_of, matched_on, paired_on}
 use Rattle.fb_laws.specs.OpenedLinks.{round_from}
-use Rattle.fb_laws.specs.RingWays.{Round, couples_after, couples_along, even_round, even_steps, passes_along, round_at, way_to}
+use Rattle.fb_laws.specs.RingWays.{Round, couples_after, couples_along, even_steps, passes_along, round_at, way_to}
 use Rattle.fb_laws.proofs.OpenedBlossoms.{distinct_permuted, in_permuted}
 use Rattle.fb_half.specs.Matchings.{match_links, matched_names}
 use Rattle.fb_trees.specs.Replacements.{first_node, way_of}
 use Rattle.fb_trees.specs.TreeLinks.{map_pass}
 use Rattle.fb_search.specs.InternalOpenings.{between_on, couples_on, even_on, link_on, links_left, place_on, rest_on, round_on, second_nodes, turned_on, way_on}
 use Rattle.fb_search.proofs.Agreed.{nodes_of}
-use Rattle.fb_search.proofs.OpenedPlaces.{IsPlacedOn, links-append, links_of, nodes-append, others_of, placed_on, round_is, turned_links, turned_nodes}
+use Rattle.fb_search.proofs.OpenedPlaces.{IsPlacedOn, links_of, node_at_place, nodes-append, others_of, place_within, placed_on, round_is, turned_links, turned_nodes}
 use Rattle.fb_search.proofs.OpenedRounds.{even_place, even_place_even, even_round_is, round_at_is, round_by}
-use Rattle.fb_search.proofs.OpenedWays.{couple_by, couples_are, couples_nodes, links_after, nodes_after, passes_are, round_links, way_nodes, way_plus}
+use Rattle.fb_search.proofs.OpenedWays.{couple_by, couples_nodes, placed_couples, placed_links, placed_nodes, placed_passes, way_nodes, way_plus}
 
 -- the same nodes and links in the other direction
 even_nodes : (r : List CycleStep) (name : ℕ) → IsPermutation (nodes_of r) (nodes_of (even_on r name))
@@ -60,75 +60,6 @@ first_kept : (before : List CycleStep) (s : CycleStep) (after : List CycleStep)
     → first_node (before ++ s ∷ []) ≡ first_node (before ++ s ∷ after)
 first_kept [] s after = refl
 first_kept (b ∷ bs) s after = refl
-
--- what stands at a node's place
-at_length : (xs : List ℕ) (y : ℕ) (ys : List ℕ) → get_or (xs ++ y ∷ ys) (length xs) 0 ≡ y
-at_length [] y ys = refl
-at_length (x ∷ xs) y ys = at_length xs y ys
-
-pub node_at_place : (cycle : List CycleStep) (name : ℕ) → is_in (nodes_of cycle) name ≡ true
-    → get_or (nodes_of cycle) (place_on cycle name) 0 ≡ name
-node_at_place cycle name on =
-    let at = placed_on cycle name on in
-    ap (λ k. get_or (nodes_of cycle) k 0) (at.place ∙ sym (length-map at.before (λ s. s.node)))
-    ∙ (ap (λ l. get_or l (length (nodes_of at.before)) 0)
-    (ap nodes_of at.whole ∙ nodes-append at.before (at.here ∷ at.after))
-    ∙ (at_length (nodes_of at.before) at.here.node (nodes_of at.after) ∙ at.named))
-
-pub place_within : (cycle : List CycleStep) (name : ℕ) → is_in (nodes_of cycle) name ≡ true
-    → place_on cycle name < length (nodes_of cycle)
-place_within cycle name on =
-    let at = placed_on cycle name on in
-    omega (arith, at.place, ap length at.whole, length-append at.before (at.here ∷ at.after), length-map cycle (λ s. s.node))
-
--- what is read where the node's step stands an even number of steps on
-module _ (r : List CycleStep) (name : ℕ) (at : IsPlacedOn r name) (on : length at.before % 2 ≡ 0) where
-  placed_nodes : nodes_of r ≡ nodes_of (way_on r name) ++ nodes_of (rest_on r name)
-  placed_nodes =
-      ap nodes_of (at.whole ∙ sym (append_assoc at.before (at.here ∷ []) at.after))
-      ∙ (nodes-append (at.before ++ at.here ∷ []) at.after
-      ∙ (ap (λ l. nodes_of l ++ nodes_of at.after) (sym at.way) ∙ ap (λ l. nodes_of (way_on r name) ++ nodes_of l) (sym at.rest)))
-
-  placed_links : length at.after % 2 ≡ 0
-      → IsPermutation (links_of r)
-      ((grown_on (way_of (way_on r name)) ++ matched_on (way_of (way_on r name)))
-      ++ (match_links (couples_on (rest_on r name)) ++ links_left r name))
-  placed_links off =
-      subst
-      (λ w.
-      IsPermutation (links_of r)
-      ((grown_on (way_of w) ++ matched_on (way_of w)) ++ (match_links (couples_on (rest_on r name)) ++ links_left r name)))
-      (sym at.way)
-      (subst
-      (λ a. IsPermutation (links_of r) (here ++ (match_links (couples_on a) ++ link_on r name ∷ between_on a)))
-      (sym at.rest)
-      (subst
-      (λ l. IsPermutation (links_of r) (here ++ (match_links (couples_on at.after) ++ l ∷ between_on at.after)))
-      (sym at.link)
-      (subst
-      (λ q. IsPermutation (links_of q) (here ++ (match_links (couples_on at.after) ++ at.here.link ∷ between_on at.after)))
-      (sym at.whole) (round_links at.before at.here at.after on off))))
-    where
-      here : List ℕ
-      here = grown_on (way_of (at.before ++ at.here ∷ [])) ++ matched_on (way_of (at.before ++ at.here ∷ []))
-
-  module _ (f : ℕ → Link) where
-    placed_passes : passes_along (take (place_on r name) (others_of r)) (take (place_on r name) (map f (links_of r)))
-        ≡ map (map_pass f) (way_of (way_on r name))
-    placed_passes =
-        ap (λ k. passes_along (take k (others_of r)) (take k (map f (links_of r)))) at.place
-        ∙ (ap (λ q. passes_along (take (length at.before) (others_of q)) (take (length at.before) (map f (links_of q)))) at.whole
-        ∙ (passes_are f at.before at.here at.after on ∙ ap (λ w. map (map_pass f) (way_of w)) (sym at.way)))
-
-    placed_couples : couples_along (drop (place_on r name) (others_of r)) (drop (place_on r name) (map f (links_of r)))
-        ≡ map (couple_by f) (couples_on (rest_on r name))
-    placed_couples =
-        ap (λ k. couples_along (drop k (others_of r)) (drop k (map f (links_of r)))) at.place
-        ∙ (ap (λ q. couples_along (drop (length at.before) (others_of q)) (drop (length at.before) (map f (links_of q)))) at.whole
-        ∙ (ap (λ l. couples_along l (drop (length at.before) (map f (links_of (at.before ++ at.here ∷ at.after)))))
-        (nodes_after at.before at.here at.after)
-        ∙ (ap (couples_along (nodes_of at.after)) (links_after f at.before at.here at.after)
-        ∙ (couples_are f at.after (f at.here.link) ∙ ap (λ a. map (couple_by f) (couples_on a)) (sym at.rest)))))
 
 module _ (cycle : List CycleStep) (above below : ℕ) (distinct : AreDistinct (nodes_of cycle)) (odd : length cycle % 2 ≡ 1)
     (above_on : is_in (nodes_of cycle) above ≡ true) (below_on : is_in (nodes_of cycle) below ≡ true) where
@@ -181,7 +112,14 @@ module _ (cycle : List CycleStep) (above below : ℕ) (distinct : AreDistinct (n
 
   after_even : length even_at.after % 2 ≡ 0
   after_even =
-      omega (arith, before_even, even_size, odd, ap length even_at.whole, length-append even_at.before (even_at.here ∷ even_at.after))
+      omega (
+        arith,
+        before_even,
+        even_size,
+        odd,
+        ap length even_at.whole,
+        length-append even_at.before (even_at.here ∷ even_at.after),
+      )
 
   pub way_odd : length way % 2 ≡ 1
   way_odd =
@@ -241,10 +179,13 @@ module _ (cycle : List CycleStep) (above below : ℕ) (distinct : AreDistinct (n
     abbrev Ring : Round Link
     Ring = round_at (place_on cycle above) (nodes_of cycle) (map f (links_of cycle))
 
+    abbrev on : ℕ
+    on = even_steps (place_on round below) (round_by f round)
+
     pub way_is : way_to (place_on round below) Ring ≡ map (map_pass f) (way_of way)
     way_is =
         ap (way_to (place_on round below)) (round_at_is f cycle above at)
-        ∙ (ap (λ q. passes_along (take (even_steps (place_on round below) (round_by f round)) q.others) (take (even_steps (place_on round below) (round_by f round)) q.links))
+        ∙ (ap (λ q. passes_along (take on q.others) (take on q.links))
         (even_round_is f round below)
         ∙ (ap (λ k. passes_along (take k (others_of even)) (take k (map f (links_of even))))
         (sym (even_place f round below round_distinct round_on_it))
@@ -253,7 +194,7 @@ module _ (cycle : List CycleStep) (above below : ℕ) (distinct : AreDistinct (n
     pub couples_is : couples_after (place_on round below) Ring ≡ map (couple_by f) (couples_on rest)
     couples_is =
         ap (couples_after (place_on round below)) (round_at_is f cycle above at)
-        ∙ (ap (λ q. couples_along (drop (even_steps (place_on round below) (round_by f round)) q.others) (drop (even_steps (place_on round below) (round_by f round)) q.links))
+        ∙ (ap (λ q. couples_along (drop on q.others) (drop on q.links))
         (even_round_is f round below)
         ∙ (ap (λ k. couples_along (drop k (others_of even)) (drop k (map f (links_of even))))
         (sym (even_place f round below round_distinct round_on_it))

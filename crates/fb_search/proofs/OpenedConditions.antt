@@ -1,5 +1,5 @@
 -- What the calls that open a minus blossom ask for.
-use Rattle.std.proofs.Common.{ℕ, ◌≡◌, ◌%◌, ◌⊎◌, inl, inr, All, true, false, List, [], ◌∷◌, ◌++◌, map, length, refl, sym, ap, ◌∙◌, subst}
+use Rattle.std.proofs.Common.{ℕ, ◌≡◌, ◌%◌, ◌⊎◌, inl, inr, All, true, false, List, [], ◌∷◌, ◌++◌, map, length, sym, ap, ◌∙◌, subst}
 use Rattle.std.specs.List.Sorted.{IsPermutation}
 use Rattle.std.proofs.lemmas.Bool.{both_ways, false_from_ne_true, false≢true}
 use Rattle.std.proofs.lemmas.List.{length-map, map-append}
@@ -20,18 +20,17 @@ use Rattle.fb_laws.specs.LinkNumbers.{tree_links}
 use Rattle.fb_laws.specs.OpenedCycles.{grown_on, matched_on}
 use Rattle.fb_laws.specs.TreeCycles.{nodes_along}
 use Rattle.fb_laws.specs.Trees.{EntryOf, minus_names, tree_names}
-use Rattle.fb_laws.proofs.OpenedBlossoms.{distinct_permuted, in_permuted, same_permuted}
+use Rattle.fb_laws.proofs.OpenedBlossoms.{distinct_permuted, same_permuted}
 use Rattle.fb_laws.proofs.TreePaths.{distinct_left, distinct_right, in_either, in_left, in_right}
 use Rattle.fb_half.specs.Matchings.{listed_names, match_links, matched_names}
 use Rattle.fb_half.specs.Translations.{children_at, ring_at, ring_links}
-use Rattle.fb_trees.specs.Replacements.{MayOpen, way_of}
+use Rattle.fb_trees.specs.Replacements.{MayOpen, first_node, way_of}
 use Rattle.fb_trees.specs.Rooted.{is_node}
 use Rattle.fb_search.specs.InternalOpenings.{couples_on, links_left, rest_on, second_nodes, way_on}
-use Rattle.fb_search.specs.Searching.{IsSearching, SearchValue, problem_of, searched_links, unmatched_in}
+use Rattle.fb_search.specs.Searching.{IsSearching, SearchValue, problem_of, unmatched_in}
 use Rattle.fb_search.proofs.Agreed.{nodes_of, on_is_in}
-use Rattle.fb_search.proofs.OpenedAlong.{couples_listed, links_parted, nodes_parted, way_odd}
-use Rattle.fb_search.proofs.OpenedNames.{names-along}
-use Rattle.fb_search.proofs.OpenedPlaces.{links_of}
+use Rattle.fb_search.proofs.OpenedAlong.{couples_listed, first_is, links_parted, nodes_parted, plus_listed, way_listed, way_odd}
+use Rattle.fb_search.proofs.OpenedNames.{along_way, names-along}
 use Rattle.fb_search.proofs.OpenedSplits.{child_live, child_was_inner, children_many}
 use Rattle.fb_search.proofs.Openings.{Opens, round_in}
 
@@ -48,7 +47,8 @@ seconds_within (s ∷ t ∷ ss) n there = by (is_in-cases t.node (second_nodes s
     by (inr h) later =
         is_in-tail s.node (nodes_of (t ∷ ss)) n (is_in-tail t.node (nodes_of ss) n (later h))
 
-module _ (w : SearchValue) (name : ℕ) (e : EntryOf ℕ) (above below : ℕ) (are : IsSearching w) (opens : Opens w name e above below) where
+module _ (w : SearchValue) (name : ℕ) (e : EntryOf ℕ) (above below : ℕ) (are : IsSearching w)
+    (opens : Opens w name e above below) where
   abbrev pub cycle : List CycleStep
   cycle = cycle_at w.part.store name
 
@@ -140,6 +140,16 @@ module _ (w : SearchValue) (name : ℕ) (e : EntryOf ℕ) (above below : ℕ) (a
         false_from_ne_true (is_node w.tree n)
         (λ h. both_ways (is_in (nodes_of cycle) n) (not_child n (tree_listed n h)) (way_within n there));
   }
+
+  pub way_first : first_node way ≡ above
+  way_first = first_is cycle above below many.distinct odd above_on below_on
+
+  pub way_named : nodes_of way ≡ along_way above (way_of way)
+  way_named =
+      way_listed cycle above below many.distinct odd above_on below_on ∙ ap (λ n. along_way n (way_of way)) way_first
+
+  pub way_seconds : second_nodes way ≡ map (λ p. p.plus) (way_of way)
+  way_seconds = plus_listed cycle above below many.distinct odd above_on below_on
 
   pub couples_named : matched_names (couples_on rest) ≡ nodes_of rest
   couples_named = couples_listed cycle above below many.distinct odd above_on below_on

@@ -6,7 +6,7 @@ use Rattle.fb_graph.specs.Parity.{is_in}
 use Rattle.fb_graph.specs.Certificate.{AreDistinct}
 use Rattle.fb_graph.specs.Problem.{Problem}
 use Rattle.fb_graph.specs.Dual.{Node, is_live}
-use Rattle.fb_graph.proofs.Among.{IsAmong, among_any, live_among}
+use Rattle.fb_graph.proofs.Among.{among_any, live_among}
 use Rattle.fb_graph.proofs.Members.{is_in-append, or_false}
 use Rattle.fb_graph.proofs.Sets.{is_in-head, is_in-tail}
 use Rattle.fb_links.specs.declared.walk.Step.{Step}

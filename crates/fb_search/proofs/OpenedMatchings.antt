@@ -1,7 +1,7 @@
 -- The matching of a search after a minus blossom of its tree is opened: the children beside the way are matched in pairs.
-use Rattle.std.proofs.Common.{ℕ, ◌≡◌, ◌≢◌, ◌==◌, ◌⊎◌, inl, inr, true, false, List, [], ◌∷◌, ◌++◌, map, All, Option, Some, None, refl, sym, ap, ◌∙◌, subst}
+use Rattle.std.proofs.Common.{ℕ, ◌≡◌, ◌≢◌, ◌==◌, ◌⊎◌, inl, inr, true, List, [], ◌∷◌, ◌++◌, map, Option, Some, None, refl, sym, ap, ◌∙◌, subst}
 use Rattle.std.specs.List.Sorted.{IsPermutation}
-use Rattle.std.proofs.lemmas.Bool.{both_ways, cases_eq, eq-eqb, false_from_ne_true}
+use Rattle.std.proofs.lemmas.Bool.{both_ways, eq-eqb, false_from_ne_true}
 use Rattle.std.proofs.lemmas.List.Concat.{flat_map-append}
 use Rattle.std.proofs.lemmas.List.Sorted.{IsPermutation-append_right, IsPermutation-middle, IsPermutation-trans}
 use Rattle.fb_graph.specs.Parity.{is_in}
@@ -16,7 +16,6 @@ use Rattle.fb_graph.proofs.Unions.{distinct_append}
 use Rattle.fb_links.specs.declared.cycle.CycleStep.{CycleStep}
 use Rattle.fb_blossoms.specs.Nodes as blossoms
 use Rattle.fb_laws.specs.LinkNumbers.{tree_links}
-use Rattle.fb_laws.specs.OpenedCycles.{opened_tree}
 use Rattle.fb_laws.specs.Searches.{LeavesNode}
 use Rattle.fb_laws.specs.TreeCycles.{nodes_along}
 use Rattle.fb_laws.specs.Trees.{Connects, EntryOf}
@@ -27,16 +26,15 @@ use Rattle.fb_half.specs.declared.matches.Match.{Match}
 use Rattle.fb_half.specs.Matchings.{IsMatchOf, IsMatchingOf, listed_names, match_links, matched_names, names_of, second_name}
 use Rattle.fb_half.specs.Translations.{link_by, ring_links}
 use Rattle.fb_trees.specs.Branches.{Grown}
-use Rattle.fb_trees.specs.Replacements.{first_node, way_of}
+use Rattle.fb_trees.specs.Replacements.{way_of}
 use Rattle.fb_obstacles.specs.Watched.{Watched}
 use Rattle.fb_search.specs.InternalOpenings.{couples_on}
 use Rattle.fb_search.specs.Searching.{IsSearching, SearchValue, problem_of}
 use Rattle.fb_search.proofs.Agreed.{nodes_of}
-use Rattle.fb_search.proofs.OpenedAlong.{first_is, way_listed}
-use Rattle.fb_search.proofs.OpenedConditions.{above_on, below_on, children_are, couples_named, cycle, many, nest, not_child, odd, parted, rest, way}
+use Rattle.fb_search.proofs.OpenedConditions.{children_are, couples_named, cycle, many, nest, not_child, parted, rest, way, way_named}
 use Rattle.fb_search.proofs.OpenedLinks.{Table}
 use Rattle.fb_search.proofs.OpenedNames.{along_before, along_beside, along_way, names_opened}
-use Rattle.fb_search.proofs.OpenedNumbers.{after, branches_are, links_kept}
+use Rattle.fb_search.proofs.OpenedNumbers.{branches_are, links_kept}
 use Rattle.fb_search.proofs.OpenedSplits.{child_live, child_outer, cover_stays, outer_back, stays_live, stays_outer}
 use Rattle.fb_search.proofs.OpenedStates.{law_cycle}
 use Rattle.fb_search.proofs.OpenedWays.{couple_by, mate_of}
@@ -71,8 +69,8 @@ link_listed : (ms : List Match) (m : Match) → IsAmong m ms → is_in (match_li
 link_listed ms m a =
     among_any (λ u. u == m.link) (match_links ms) m.link (map_among (λ (x : Match). x.link) ms m a) (eq-eqb m.link m.link refl)
 
-module _ (w : SearchValue) (name : ℕ) (e : EntryOf ℕ) (above below : ℕ) (are : IsSearching w) (opens : Opens w name e above below)
-    (links : Table) (store : List (Option blossoms.Node)) (tree : Grown) (watched : Watched)
+module _ (w : SearchValue) (name : ℕ) (e : EntryOf ℕ) (above below : ℕ) (are : IsSearching w)
+    (opens : Opens w name e above below) (links : Table) (store : List (Option blossoms.Node)) (tree : Grown) (watched : Watched)
     (has : HasOpened w name above below links store tree watched) where
   abbrev Cycle : List ℕ
   Cycle = nodes_of (cycle w name e above below are opens)
@@ -112,11 +110,7 @@ module _ (w : SearchValue) (name : ℕ) (e : EntryOf ℕ) (above below : ℕ) (a
   children_listed =
       subst (λ l. IsPermutation Cycle (along_way above (way_of Way) ++ l)) (sym (couples_named w name e above below are opens))
       (subst (λ l. IsPermutation Cycle (l ++ nodes_of Rest))
-      (way_listed (cycle w name e above below are opens) above below (many w name e above below are opens).distinct
-      (odd w name e above below are opens) (above_on w name e above below are opens) (below_on w name e above below are opens)
-      ∙ ap (λ f. along_way f (way_of Way))
-      (first_is (cycle w name e above below are opens) above below (many w name e above below are opens).distinct
-      (odd w name e above below are opens) (above_on w name e above below are opens) (below_on w name e above below are opens)))
+      (way_named w name e above below are opens)
       (parted w name e above below are opens))
 
   now_listed : IsPermutation (Cycle ++ (listed ++ beside)) (listed_after ++ nodes_along tree.branches)
@@ -188,7 +182,8 @@ module _ (w : SearchValue) (name : ℕ) (e : EntryOf ℕ) (above below : ℕ) (a
       (in_right (tree_links tree.branches) (match_links matches_after ++ ring_links Others store) m.link
       (in_left (match_links matches_after) (ring_links Others store) m.link (link_listed matches_after m a)))
 
-  old_match : (m : Match) → IsAmong m w.part.matching.matches → IsMatchOf (problem_of w) Others (link_by w.part.links m.link) m.first m.second
+  old_match : (m : Match) → IsAmong m w.part.matching.matches
+      → IsMatchOf (problem_of w) Others (link_by w.part.links m.link) m.first m.second
   old_match m a =
       match_stays (problem_of w) w.part.nodes Others name
       (cover_stays (problem_of w) w.part.nodes name Cycle opens.may_split (nest w name e above below are opens)
@@ -206,7 +201,8 @@ module _ (w : SearchValue) (name : ℕ) (e : EntryOf ℕ) (above below : ℕ) (a
           (among_any (λ u. u == c) (matched_names w.part.matching.matches) c
           (flat_among names_of w.part.matching.matches m c a (in_among (names_of m) c there)) (eq-eqb c c refl))))
 
-  new_match : (m : Match) → IsAmong m (couples_on Rest) → IsMatchOf (problem_of w) Others (link_by w.part.links m.link) m.first m.second
+  new_match : (m : Match) → IsAmong m (couples_on Rest)
+      → IsMatchOf (problem_of w) Others (link_by w.part.links m.link) m.first m.second
   new_match m a =
       subst (IsMatchOf (problem_of w) Others (link_by w.part.links m.link) m.first) (sym (second_is Rest m a))
       (subst (λ n. Connects (split n w.part.nodes) (link_by w.part.links m.link) m.first (mate_of m.second)) opens.branch.minus

@@ -1,8 +1,8 @@
 -- The names and the numbers of links that a search lists, before and after a blossom of its tree is opened.
-use Rattle.std.proofs.Common.{ℕ, ◌≡◌, ◌==◌, true, false, List, [], ◌∷◌, ◌++◌, refl, sym, ap, ◌∙◌, subst, append_assoc}
+use Rattle.std.proofs.Common.{ℕ, ◌≡◌, true, List, [], ◌∷◌, ◌++◌, refl, sym, ap, ◌∙◌, subst, append_assoc}
 use Rattle.std.specs.List.Sorted.{IsPermutation}
 use Rattle.std.proofs.lemmas.Bool.{false≢true}
-use Rattle.std.proofs.lemmas.List.Sorted.{IsPermutation-append_comm, IsPermutation-append_left, IsPermutation-append_right, IsPermutation-cons, IsPermutation-middle, IsPermutation-refl, IsPermutation-sym, IsPermutation-trans}
+use Rattle.std.proofs.lemmas.List.Sorted.{IsPermutation-append_comm, IsPermutation-append_left, IsPermutation-append_right, IsPermutation-middle, IsPermutation-refl, IsPermutation-sym, IsPermutation-trans}
 use Rattle.fb_graph.specs.Parity.{is_in}
 use Rattle.fb_graph.specs.Certificate.{AreDistinct}
 use Rattle.fb_graph.proofs.Sets.{is_in-head, is_in-tail}
@@ -11,7 +11,8 @@ use Rattle.fb_laws.specs.TreeCycles.{nodes_along}
 use Rattle.fb_laws.specs.Trees.{EntryOf, tree_names}
 
 -- a branch is told by its minus node
-pub record IsSameBranch (newer : List (EntryOf ℕ)) (e : EntryOf ℕ) (older newer2 : List (EntryOf ℕ)) (e2 : EntryOf ℕ) (older2 : List (EntryOf ℕ)) : Type 0 where
+pub record IsSameBranch (newer : List (EntryOf ℕ)) (e : EntryOf ℕ) (older newer2 : List (EntryOf ℕ)) (e2 : EntryOf ℕ)
+    (older2 : List (EntryOf ℕ)) : Type 0 where
   pub newer_are : newer ≡ newer2
   pub branch_is : e ≡ e2
   pub older_are : older ≡ older2
@@ -32,8 +33,8 @@ not_later root x xs e ys zs is distinct same =
     ∙ is_in-tail x.plus (tree_names root zs) e.minus
     (ap (λ l. is_in (tree_names root l) e.minus) is ∙ minus_later root xs e ys)))
 
-pub same_branch : (root : ℕ) (newer : List (EntryOf ℕ)) (e : EntryOf ℕ) (older newer2 : List (EntryOf ℕ)) (e2 : EntryOf ℕ) (older2 : List (EntryOf ℕ))
-    → newer ++ e ∷ older ≡ newer2 ++ e2 ∷ older2 → e.minus ≡ e2.minus → AreDistinct (tree_names root (newer ++ e ∷ older))
+pub same_branch : (root : ℕ) (newer : List (EntryOf ℕ)) (e : EntryOf ℕ) (older newer2 : List (EntryOf ℕ)) (e2 : EntryOf ℕ)
+    (older2 : List (EntryOf ℕ)) → newer ++ e ∷ older ≡ newer2 ++ e2 ∷ older2 → e.minus ≡ e2.minus → AreDistinct (tree_names root (newer ++ e ∷ older))
     → IsSameBranch newer e older newer2 e2 older2
 same_branch root [] e older [] e2 older2 is same distinct =
     let there : e ∷ older ≡ e2 ∷ older2 = is in record { newer_are = refl; branch_is = cc; older_are = cc }
@@ -130,18 +131,23 @@ along_after newer e older from way =
     new = opened_branches e.parent e.tree from way e.matched e.plus
 
 -- Each name listed before but the blossom's, and each child, is listed once after.
-pub names_opened : (children unmatched matched couples : List ℕ) (newer : List (EntryOf ℕ)) (e : EntryOf ℕ) (older : List (EntryOf ℕ))
-    (from : ℕ) (way : List (PassOf ℕ)) → IsPermutation children (along_way from way ++ couples)
+pub names_opened : (children unmatched matched couples : List ℕ) (newer : List (EntryOf ℕ)) (e : EntryOf ℕ)
+    (older : List (EntryOf ℕ)) (from : ℕ) (way : List (PassOf ℕ)) → IsPermutation children (along_way from way ++ couples)
     → IsPermutation (children ++ ((unmatched ++ matched) ++ along_beside newer e older))
     ((unmatched ++ (matched ++ couples)) ++ nodes_along (opened_tree newer e older from way))
 names_opened children unmatched matched couples newer e older from way parted =
     IsPermutation-trans (children ++ (listed ++ others)) ((along_way from way ++ couples) ++ (listed ++ others)) _
     (IsPermutation-append_left (listed ++ others) children (along_way from way ++ couples) parted)
-    (IsPermutation-trans ((along_way from way ++ couples) ++ (listed ++ others)) ((listed ++ couples) ++ (along_way from way ++ others)) _
+    (IsPermutation-trans ((along_way from way ++ couples) ++ (listed ++ others))
+    ((listed ++ couples) ++ (along_way from way ++ others)) _
     (swapped (along_way from way) couples listed others)
-    (subst (λ l. IsPermutation ((listed ++ couples) ++ (along_way from way ++ others)) (l ++ nodes_along (opened_tree newer e older from way)))
+    (subst
+    (λ l.
+    IsPermutation ((listed ++ couples) ++ (along_way from way ++ others))
+    (l ++ nodes_along (opened_tree newer e older from way)))
     (append_assoc unmatched matched couples)
-    (IsPermutation-append_right (listed ++ couples) (along_way from way ++ others) (nodes_along (opened_tree newer e older from way))
+    (IsPermutation-append_right (listed ++ couples) (along_way from way ++ others)
+    (nodes_along (opened_tree newer e older from way))
     (IsPermutation-sym (nodes_along (opened_tree newer e older from way)) (along_way from way ++ others)
     (along_after newer e older from way)))))
   where

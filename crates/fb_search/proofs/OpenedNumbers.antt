@@ -1,12 +1,10 @@
 -- The tree and the numbers of the live links after a minus blossom is opened.
-use Rattle.std.proofs.Common.{ℕ, ◌≡◌, true, List, [], ◌∷◌, ◌++◌, map, Option, refl, sym, ap, ◌∙◌, subst}
+use Rattle.std.proofs.Common.{ℕ, ◌≡◌, List, ◌∷◌, ◌++◌, Option, sym, ap, ◌∙◌, subst}
 use Rattle.std.specs.List.Sorted.{IsPermutation}
 use Rattle.std.proofs.lemmas.List.{map-append}
-use Rattle.fb_graph.specs.Parity.{is_in}
 use Rattle.fb_graph.specs.Certificate.{AreDistinct}
 use Rattle.fb_graph.specs.Moves.{split}
 use Rattle.fb_links.specs.declared.cycle.CycleStep.{CycleStep}
-use Rattle.fb_links.specs.declared.walk.Step.{Step}
 use Rattle.fb_blossoms.specs.Nodes as blossoms
 use Rattle.fb_laws.specs.LinkNumbers.{tree_links}
 use Rattle.fb_laws.specs.OpenedCycles.{grown_on, matched_on, opened_tree}
@@ -14,7 +12,7 @@ use Rattle.fb_laws.specs.Trees.{EntryOf, tree_names}
 use Rattle.fb_laws.proofs.LinkNumbers.{links_opened}
 use Rattle.fb_half.specs.Matchings.{match_links}
 use Rattle.fb_half.specs.Parts.{AreLinksOf}
-use Rattle.fb_half.specs.Translations.{entry_by, link_by, ring_at, ring_links}
+use Rattle.fb_half.specs.Translations.{link_by, ring_at, ring_links}
 use Rattle.fb_trees.specs.Branches.{Grown}
 use Rattle.fb_trees.specs.Replacements.{first_node, way_of}
 use Rattle.fb_trees.proofs.Mapped.{names_moved}
@@ -22,14 +20,13 @@ use Rattle.fb_obstacles.specs.Watched.{Watched}
 use Rattle.fb_search.specs.InternalOpenings.{couples_on, links_left}
 use Rattle.fb_search.specs.Searching.{IsSearching, SearchValue, problem_of, searched_links}
 use Rattle.fb_search.proofs.Linked.{rings_split}
-use Rattle.fb_search.proofs.OpenedAlong.{first_is}
-use Rattle.fb_search.proofs.OpenedConditions.{above_on, below_on, cycle, many, nest, odd, rest, ring_parted, way}
+use Rattle.fb_search.proofs.OpenedConditions.{nest, rest, ring_parted, way, way_first}
 use Rattle.fb_search.proofs.OpenedLinks.{AreSameLinks, Table, link_stays, links_stay}
 use Rattle.fb_search.proofs.OpenedNames.{IsSameBranch, numbers_opened, same_branch}
 use Rattle.fb_search.proofs.Openings.{HasOpened, Opens, opened_search, round_in}
 
-module _ (w : SearchValue) (name : ℕ) (e : EntryOf ℕ) (above below : ℕ) (are : IsSearching w) (opens : Opens w name e above below)
-    (links : Table) (store : List (Option blossoms.Node)) (tree : Grown) (watched : Watched)
+module _ (w : SearchValue) (name : ℕ) (e : EntryOf ℕ) (above below : ℕ) (are : IsSearching w)
+    (opens : Opens w name e above below) (links : Table) (store : List (Option blossoms.Node)) (tree : Grown) (watched : Watched)
     (has : HasOpened w name above below links store tree watched) where
   abbrev Way : List CycleStep
   Way = way w name e above below are opens
@@ -58,10 +55,10 @@ module _ (w : SearchValue) (name : ℕ) (e : EntryOf ℕ) (above below : ℕ) (a
       ∙ (ap (λ x. opened_tree opens.branch.newer x has.grown.older (first_node Way) (way_of Way)) same.branch_is
       ∙ (ap (λ l. opened_tree opens.branch.newer e l (first_node Way) (way_of Way)) same.older_are
       ∙ ap (λ f. opened_tree opens.branch.newer e opens.branch.older f (way_of Way))
-      (first_is (cycle w name e above below are opens) above below (many w name e above below are opens).distinct
-      (odd w name e above below are opens) (above_on w name e above below are opens) (below_on w name e above below are opens)))))
+      (way_first w name e above below are opens))))
 
-  tree_numbers : IsPermutation (tree_links w.tree.branches ++ (grown_on (way_of Way) ++ matched_on (way_of Way))) (tree_links tree.branches)
+  tree_numbers : IsPermutation (tree_links w.tree.branches ++ (grown_on (way_of Way) ++ matched_on (way_of Way)))
+      (tree_links tree.branches)
   tree_numbers =
       subst (λ t. IsPermutation (tree_links t ++ (grown_on (way_of Way) ++ matched_on (way_of Way))) (tree_links tree.branches))
       (sym opens.branch.there)

@@ -1,10 +1,10 @@
 -- Where the step of a node stands on a cycle, and the same cycle begun there or gone round in the other direction.
 use Rattle.std.proofs.Common.{ℕ, suc, ◌≡◌, ◌+◌, ◌<◌, ◌==◌, ◌||◌, Bool, true, false, List, [], ◌∷◌, ◌++◌, map, length, take, drop, reverse, get_or, refl, sym, ap, ◌∙◌, arith, if◌then◌else◌}
 use Rattle.std.proofs.lemmas.Bool.{false≢true, eqb-true}
-use Rattle.std.proofs.lemmas.List.{drop-map, map-append, reverse-append, take-map}
+use Rattle.std.proofs.lemmas.List.{length-append, length-map, map-append, reverse-append}
+use Rattle.std.proofs.Math.Seq.{get_or-append_seam}
 use Rattle.fb_graph.specs.Parity.{is_in}
 use Rattle.fb_links.specs.declared.cycle.CycleStep.{CycleStep}
-use Rattle.fb_trees.specs.TreeSteps.{step}
 use Rattle.fb_search.specs.InternalOpenings.{link_on, place_on, rest_on, round_on, turned_from, turned_on, way_on}
 use Rattle.fb_search.proofs.Agreed.{nodes_of}
 
@@ -85,10 +85,33 @@ nodes-append xs ys = map-append (λ s. s.node) xs ys
 pub links-append : (xs ys : List CycleStep) → links_of (xs ++ ys) ≡ links_of xs ++ links_of ys
 links-append xs ys = map-append (λ s. s.link) xs ys
 
+-- what stands at a node's place
+pub node_at_place : (cycle : List CycleStep) (name : ℕ) → is_in (nodes_of cycle) name ≡ true
+    → get_or (nodes_of cycle) (place_on cycle name) 0 ≡ name
+node_at_place cycle name on =
+    let at = placed_on cycle name on in
+    ap (λ k. get_or (nodes_of cycle) k 0) (at.place ∙ sym (length-map at.before (λ s. s.node)))
+    ∙ (ap (λ l. get_or l (length (nodes_of at.before)) 0)
+    (ap nodes_of at.whole ∙ nodes-append at.before (at.here ∷ at.after))
+    ∙ (get_or-append_seam (nodes_of at.before) at.here.node (nodes_of at.after) 0 ∙ at.named))
+
+pub place_within : (cycle : List CycleStep) (name : ℕ) → is_in (nodes_of cycle) name ≡ true
+    → place_on cycle name < length (nodes_of cycle)
+place_within cycle name on =
+    let at = placed_on cycle name on in
+    omega (
+      arith,
+      at.place,
+      ap length at.whole,
+      length-append at.before (at.here ∷ at.after),
+      length-map cycle (λ s. s.node),
+    )
+
 -- the cycle begun at the node
 pub round_is : (cycle : List CycleStep) (name : ℕ) (at : IsPlacedOn cycle name)
     → round_on cycle name ≡ (at.here ∷ at.after) ++ at.before
-round_is cycle name at = ap (λ l. l ++ take (place_on cycle name) cycle) at.back ∙ ap (λ l. (at.here ∷ at.after) ++ l) at.front
+round_is cycle name at =
+    ap (λ l. l ++ take (place_on cycle name) cycle) at.back ∙ ap (λ l. (at.here ∷ at.after) ++ l) at.front
 
 -- gone round in the other direction
 turned_last : (node : ℕ) (xs : List CycleStep) (s : CycleStep)

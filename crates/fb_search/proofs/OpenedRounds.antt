@@ -1,16 +1,16 @@
 -- The round of a blossom's cycle that the code reads is the law's round of its links.
-use Rattle.std.proofs.Common.{ℕ, suc, ◌≡◌, ◌≢◌, ◌+◌, ◌-◌, ◌%◌, ◌<◌, ◌==◌, ◌||◌, Bool, true, false, List, [], ◌∷◌, ◌++◌, map, length, take, drop, reverse, get_or, refl, sym, ap, ◌∙◌, subst, arith, if◌then◌else◌}
+use Rattle.std.proofs.Common.{ℕ, suc, ◌≡◌, ◌≢◌, ◌+◌, ◌-◌, ◌%◌, ◌<◌, ◌==◌, ◌||◌, Bool, true, false, List, [], ◌∷◌, ◌++◌, map, length, take, drop, reverse, refl, sym, ap, ◌∙◌, subst, arith, if◌then◌else◌}
 use Rattle.std.proofs.lemmas.Bool.{false≢true, eq-eqb, eqb-true, false_from_ne_true, or_from, or_parts}
 use Rattle.std.proofs.lemmas.List.{append_assoc, drop-map, length-append, length-map, length-reverse, map-append, reverse-append, take-map}
 use Rattle.std.proofs.lemmas.List.Sorted.{IsPermutation-reverse}
 use Rattle.fb_graph.specs.Parity.{is_in}
 use Rattle.fb_graph.specs.Certificate.{AreDistinct}
-use Rattle.fb_graph.proofs.Sets.{is_in-head, is_in-tail}
+use Rattle.fb_graph.proofs.Sets.{is_in-head}
 use Rattle.fb_links.specs.declared.cycle.CycleStep.{CycleStep}
 use Rattle.fb_laws.specs.OpenedLinks.{round_from}
 use Rattle.fb_laws.specs.RingWays.{Round, even_round, even_steps, round_at, turned_round}
 use Rattle.fb_laws.proofs.OpenedBlossoms.{same_permuted}
-use Rattle.fb_laws.proofs.TreePaths.{distinct_left, distinct_right, in_left, in_right}
+use Rattle.fb_laws.proofs.TreePaths.{distinct_right}
 use Rattle.fb_laws.proofs.MergedParts.{distinct_across}
 use Rattle.fb_search.specs.InternalOpenings.{even_on, place_on, round_on, turned_on}
 use Rattle.fb_search.proofs.Agreed.{nodes_of}
@@ -90,7 +90,8 @@ module _ {M : Type 0} (f : ℕ → M) where
       by false = turned_by s ss
 
 -- the place in the other direction
-turned_place : (s : CycleStep) (ss : List CycleStep) (name : ℕ) → AreDistinct (nodes_of (s ∷ ss)) → is_in (nodes_of ss) name ≡ true
+turned_place : (s : CycleStep) (ss : List CycleStep) (name : ℕ) → AreDistinct (nodes_of (s ∷ ss))
+    → is_in (nodes_of ss) name ≡ true
     → place_on (turned_on (s ∷ ss)) name ≡ length (nodes_of ss) + 1 - place_on (s ∷ ss) name
 turned_place s ss name distinct on =
     place_at (turned_on (s ∷ ss)) name (s.node ∷ reverse (nodes_of at.after)) (reverse (nodes_of at.before)) is out
@@ -167,7 +168,8 @@ module _ {M : Type 0} (f : ℕ → M) where
       by false e = turned_place s ss name distinct (later e)
 
 -- it is an even number
-pub even_place_even : (r : List CycleStep) (name : ℕ) → length r % 2 ≡ 1 → AreDistinct (nodes_of r) → is_in (nodes_of r) name ≡ true
+pub even_place_even : (r : List CycleStep) (name : ℕ) → length r % 2 ≡ 1 → AreDistinct (nodes_of r)
+    → is_in (nodes_of r) name ≡ true
     → place_on (even_on r name) name % 2 ≡ 0
 even_place_even r name odd distinct on = by (place_on r name % 2 == 0) refl
   where
@@ -177,8 +179,11 @@ even_place_even r name odd distinct on = by (place_on r name % 2 == 0) refl
     below : place_on r name < length r
     below = omega (arith, at.place, ap length at.whole, length-append at.before (at.here ∷ at.after))
 
-    other : (b : Bool) → (place_on r name % 2 == 0) ≡ b → place_on (even_on r name) name ≡ (if b then place_on r name else length (others_of r) + 1 - place_on r name)
-    other b e = even_place (λ k. k) r name distinct on ∙ ap (λ c. if c then place_on r name else length (others_of r) + 1 - place_on r name) e
+    by_way : Bool → ℕ
+    by_way b = if b then place_on r name else length (others_of r) + 1 - place_on r name
+
+    other : (b : Bool) → (place_on r name % 2 == 0) ≡ b → place_on (even_on r name) name ≡ by_way b
+    other b e = even_place (λ k. k) r name distinct on ∙ ap by_way e
 
     size : length (others_of r) + 1 ≡ length r
     size = count r odd

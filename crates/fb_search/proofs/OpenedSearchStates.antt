@@ -1,13 +1,11 @@
 -- What every search keeps of its state, and what is left to do, after a minus blossom is opened.
-use Rattle.std.proofs.Common.{ℕ, ◌≡◌, ◌≢◌, Bool, true, false, List, [], ◌∷◌, ◌++◌, map, Option, refl, sym, ap, ◌∙◌, subst}
+use Rattle.std.proofs.Common.{ℕ, ◌≡◌, ◌≢◌, Bool, List, ◌++◌, map, Option, sym, ap, ◌∙◌, subst}
 use Rattle.std.specs.List.Sorted.{IsPermutation}
 use Rattle.std.proofs.lemmas.List.{map-append}
 use Rattle.std.proofs.lemmas.List.Sorted.{IsPermutation-append_comm, IsPermutation-refl}
-use Rattle.fb_graph.specs.Parity.{is_in}
 use Rattle.fb_graph.specs.Laws.{Link}
-use Rattle.fb_graph.specs.Dual.{Node, is_live}
+use Rattle.fb_graph.specs.Dual.{Node}
 use Rattle.fb_graph.specs.Moves.{split}
-use Rattle.fb_graph.specs.Steps.{Roles}
 use Rattle.fb_graph.proofs.Among.{live_among}
 use Rattle.fb_graph.proofs.Places.{among_split}
 use Rattle.fb_links.specs.declared.cycle.CycleStep.{CycleStep}
@@ -15,7 +13,7 @@ use Rattle.fb_blossoms.specs.Nodes.{cycle_of}
 use Rattle.fb_blossoms.specs.Nodes as blossoms
 use Rattle.fb_laws.specs.LinkNumbers.{tree_links}
 use Rattle.fb_laws.specs.Measures.{IsLower}
-use Rattle.fb_laws.specs.OpenedCycles.{matched_beside, opened_tree}
+use Rattle.fb_laws.specs.OpenedCycles.{opened_tree}
 use Rattle.fb_laws.specs.PartStates.{SearchState, IsSearchState}
 use Rattle.fb_laws.specs.SearchLayers.{left_to_do}
 use Rattle.fb_laws.specs.StateOrders.{AgreeAt}
@@ -30,21 +28,21 @@ use Rattle.fb_trees.specs.Replacements.{way_of}
 use Rattle.fb_trees.proofs.Mapped.{opened_moved}
 use Rattle.fb_obstacles.specs.Watched.{Watched}
 use Rattle.fb_search.specs.InternalOpenings.{couples_on}
-use Rattle.fb_search.specs.Searching.{IsSearching, SearchValue, problem_of, searched_links, state_at}
+use Rattle.fb_search.specs.Searching.{IsSearching, SearchValue, problem_of, state_at}
 use Rattle.fb_search.proofs.OpenedConditions.{rest, way}
 use Rattle.fb_search.proofs.OpenedLinks.{Table, entries_same, links_same, ring_among}
 use Rattle.fb_search.proofs.OpenedNumbers.{after, branches_are, links_kept}
 use Rattle.fb_search.proofs.OpenedStates.{couples, law_cycle, law_state, may_split, moved, passes, tree_was}
 use Rattle.fb_search.proofs.OpenedWays.{couples_links}
-use Rattle.fb_search.proofs.Openings.{HasOpened, Opens, opened_search}
+use Rattle.fb_search.proofs.Openings.{HasOpened, Opens}
 use Rattle.fb_search.proofs.Runs.{roles_by_numbers}
 
 -- a state with other parts
 abbrev state_with : List Node → (ℕ → List Link) → List Entry → List Link → ℕ → SearchState → SearchState
 state_with nodes cycles tree rest root s = record s { nodes = nodes; cycles = cycles; tree = tree; rest = rest; root = root }
 
-module _ (w : SearchValue) (name : ℕ) (e : EntryOf ℕ) (above below : ℕ) (are : IsSearching w) (opens : Opens w name e above below)
-    (links : Table) (store : List (Option blossoms.Node)) (tree : Grown) (watched : Watched)
+module _ (w : SearchValue) (name : ℕ) (e : EntryOf ℕ) (above below : ℕ) (are : IsSearching w)
+    (opens : Opens w name e above below) (links : Table) (store : List (Option blossoms.Node)) (tree : Grown) (watched : Watched)
     (has : HasOpened w name above below links store tree watched) where
   abbrev Way : List CycleStep
   Way = way w name e above below are opens
@@ -59,7 +57,9 @@ module _ (w : SearchValue) (name : ℕ) (e : EntryOf ℕ) (above below : ℕ) (a
   before = state_at w are.state.0
 
   abbrev old_rest : List Link
-  old_rest = map (link_by w.part.links) (match_links (couples_on Rest)) ++ map (link_by w.part.links) (match_links w.part.matching.matches)
+  old_rest =
+      map (link_by w.part.links) (match_links (couples_on Rest))
+      ++ map (link_by w.part.links) (match_links w.part.matching.matches)
 
   abbrev new_rest : List Link
   new_rest = map (link_by links) (match_links (w.part.matching.matches ++ couples_on Rest))
@@ -122,7 +122,8 @@ module _ (w : SearchValue) (name : ℕ) (e : EntryOf ℕ) (above below : ℕ) (a
       (match_links (w.part.matching.matches ++ couples_on Rest) ++ ring_links (split name w.part.nodes) store) k
       (in_right (match_links (w.part.matching.matches ++ couples_on Rest)) (ring_links (split name w.part.nodes) store) k
       (ring_among (split name w.part.nodes) store n k live there))))
-      ∙ ap (λ (o : Option blossoms.Node). map (link_by w.part.links) (map (λ c. c.link) (cycle_of o))) (has.taken_off.others n other)
+      ∙ ap (λ (o : Option blossoms.Node). map (link_by w.part.links) (map (λ c. c.link) (cycle_of o)))
+      (has.taken_off.others n other)
 
   entries_kept : map (entry_by w.part.links) tree.branches ≡ map (entry_by links) tree.branches
   entries_kept =

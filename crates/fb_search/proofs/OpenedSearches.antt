@@ -1,11 +1,11 @@
 -- A minus blossom opened keeps what every search keeps, and leaves less to do.
-use Rattle.std.proofs.Common.{ℕ, ◌≡◌, true, false, List, Option, refl, sym, ap, ◌∙◌}
+use Rattle.std.proofs.Common.{ℕ, true, false, List, Option, refl, ap, ◌∙◌}
 use Rattle.fb_graph.specs.Limits.{IsWithinLimits}
 use Rattle.fb_blossoms.specs.Nodes as blossoms
 use Rattle.fb_laws.specs.Trees.{EntryOf}
 use Rattle.fb_trees.specs.Branches.{Grown}
 use Rattle.fb_obstacles.specs.Watched.{Watched}
-use Rattle.fb_search.specs.Progress.{GoesOn, IsSamePart, unmatched_beside}
+use Rattle.fb_search.specs.Progress.{GoesOn}
 use Rattle.fb_search.specs.Searching.{IsSearching, SearchValue, problem_of}
 use Rattle.fb_search.proofs.Agreed.{agreed_split}
 use Rattle.fb_search.proofs.OpenedConditions.{rest}
@@ -18,8 +18,8 @@ use Rattle.fb_search.proofs.Openings.{HasOpened, Opens, opened_search}
 use Rattle.fb_graph.specs.Parity.{is_in}
 use Rattle.fb_laws.specs.Works.{without}
 
-module _ (w : SearchValue) (name : ℕ) (e : EntryOf ℕ) (above below : ℕ) (are : IsSearching w) (opens : Opens w name e above below)
-    (links : Table) (store : List (Option blossoms.Node)) (tree : Grown) (watched : Watched) where
+module _ (w : SearchValue) (name : ℕ) (e : EntryOf ℕ) (above below : ℕ) (are : IsSearching w)
+    (opens : Opens w name e above below) (links : Table) (store : List (Option blossoms.Node)) (tree : Grown) (watched : Watched) where
   pub searching_opened : IsWithinLimits (problem_of w) → HasOpened w name above below links store tree watched
       → IsSearching (opened_search name (rest w name e above below are opens) links store tree watched w)
   searching_opened limits has = record {

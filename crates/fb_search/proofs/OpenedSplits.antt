@@ -1,5 +1,5 @@
 -- The outer nodes after a blossom is split: those before, without the blossom and with its children.
-use Rattle.std.proofs.Common.{ℕ, ◌≡◌, ◌≢◌, ◌⊎◌, inl, inr, true, false, List, [], ◌∷◌, All, Some, refl, sym, ap, ◌∙◌, subst}
+use Rattle.std.proofs.Common.{ℕ, ◌≡◌, ◌≢◌, ◌⊎◌, inl, inr, true, false, List, [], ◌∷◌, All, Some, sym, ap, ◌∙◌, subst}
 use Rattle.std.proofs.lemmas.Bool.{both_ways, cases_eq, false_from_ne_true}
 use Rattle.fb_graph.specs.Parity.{is_in}
 use Rattle.fb_graph.specs.Problem.{Problem}
@@ -13,8 +13,8 @@ use Rattle.fb_graph.proofs.SplitNests.{nest_split}
 use Rattle.fb_laws.proofs.CycleMoves.{child_inner}
 
 -- no two nodes join the same
-same_parent : (ns : List Node) → AreJoinedLater ns → (m n : Node) → IsAmong m ns → IsAmong n ns → (c : ℕ) → is_in m.children c ≡ true
-    → is_in n.children c ≡ true → m ≡ n
+same_parent : (ns : List Node) → AreJoinedLater ns → (m n : Node) → IsAmong m ns → IsAmong n ns → (c : ℕ)
+    → is_in m.children c ≡ true → is_in n.children c ≡ true → m ≡ n
 same_parent [] joined m n a b c h k = absurd a
 same_parent (x ∷ xs) joined m n (inl e) (inl f) c h k = sym e ∙ f
 same_parent (x ∷ xs) joined m n (inl e) (inr b) c h k =
@@ -41,7 +41,12 @@ module _ (p : Problem) (nodes : List Node) (name : ℕ) (children : List ℕ) (m
   found : IsFound
   found =
       let (b, a, named) = live_among nodes name may.live in
-      record { node = b; among = a; named = named; has = All_among (λ n. n.name ≡ name → n.children ≡ children) nodes children_are b a named }
+      record {
+        node = b;
+        among = a;
+        named = named;
+        has = All_among (λ n. n.name ≡ name → n.children ≡ children) nodes children_are b a named;
+      }
 
   pub children_many : AreMany children
   children_many = by (All_among IsFormed nodes nest.forest.formed found.node found.among)

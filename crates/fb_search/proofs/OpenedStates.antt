@@ -1,58 +1,38 @@
 -- The state of a search after a minus blossom is opened.
-use Rattle.std.proofs.Common.{ℕ, ◌≡◌, ◌≢◌, ◌⊎◌, inl, inr, true, List, [], ◌∷◌, ◌++◌, map, All, get_or, Option, refl, sym, ap, ◌∙◌, subst}
-use Rattle.std.specs.List.Sorted.{IsPermutation}
+use Rattle.std.proofs.Common.{ℕ, ◌≡◌, inl, inr, List, ◌∷◌, ◌++◌, map, get_or, sym, ap, ◌∙◌, subst}
 use Rattle.std.proofs.lemmas.List.{map-append}
-use Rattle.std.proofs.lemmas.List.Sorted.{IsPermutation-append_comm, IsPermutation-refl}
-use Rattle.fb_graph.specs.Parity.{is_in}
-use Rattle.fb_graph.specs.Certificate.{AreDistinct}
-use Rattle.fb_graph.specs.Problem.{Problem}
 use Rattle.fb_graph.specs.Laws.{Link}
-use Rattle.fb_graph.specs.Dual.{Node, is_live}
+use Rattle.fb_graph.specs.Dual.{Node}
 use Rattle.fb_graph.specs.Moves.{MaySplit, split}
-use Rattle.fb_graph.proofs.Among.{All_among, among_All, live_among}
-use Rattle.fb_graph.proofs.Places.{among_split}
+use Rattle.fb_graph.proofs.Among.{All_among, among_All}
 use Rattle.fb_links.specs.declared.cycle.CycleStep.{CycleStep}
-use Rattle.fb_links.specs.declared.walk.Step.{Step}
-use Rattle.fb_blossoms.specs.Nodes.{cycle_of}
-use Rattle.fb_blossoms.specs.Nodes as blossoms
-use Rattle.fb_laws.specs.LinkNumbers.{tree_links}
-use Rattle.fb_laws.specs.OpenedCycles.{Couple, IsOpenedCycle, Pass, grown_on, matched_beside, matched_on, opened_tree}
+use Rattle.fb_laws.specs.OpenedCycles.{Couple, IsOpenedCycle, Pass}
 use Rattle.fb_laws.specs.OpenedLinks.{round_from}
 use Rattle.fb_laws.specs.PartStates.{SearchState, IsSearchState}
 use Rattle.fb_laws.specs.RingWays.{couples_after, round_at, way_to}
 use Rattle.fb_laws.specs.StateOpenings.{opened_state}
 use Rattle.fb_laws.specs.StateRings.{MayOpenAlong}
-use Rattle.fb_laws.specs.Trees.{Connects, Entry, EntryOf, tree_names}
-use Rattle.fb_laws.proofs.LinkNumbers.{links_opened}
+use Rattle.fb_laws.specs.Trees.{Connects, Entry, EntryOf}
 use Rattle.fb_laws.proofs.StateOpenings.{state_opened}
-use Rattle.fb_laws.proofs.StateOrders.{search_reordered}
 use Rattle.fb_laws.proofs.StateRings.{cycle_along}
-use Rattle.fb_laws.proofs.TreePaths.{in_left, in_right}
-use Rattle.fb_half.specs.Matchings.{match_links}
-use Rattle.fb_half.specs.Parts.{AreLinksOf}
-use Rattle.fb_half.specs.Translations.{cycles_by, entry_by, link_by, ring_at, ring_links}
-use Rattle.fb_trees.specs.Branches.{Grown}
-use Rattle.fb_trees.specs.Replacements.{first_node, way_of}
+use Rattle.fb_half.specs.Translations.{cycles_by, entry_by, link_by}
+use Rattle.fb_trees.specs.Replacements.{way_of}
 use Rattle.fb_trees.specs.TreeLinks.{map_pass}
-use Rattle.fb_trees.proofs.Mapped.{names_moved, opened_moved}
-use Rattle.fb_obstacles.specs.Watched.{Watched}
-use Rattle.fb_search.specs.InternalOpenings.{couples_on, links_left, place_on, round_on}
-use Rattle.fb_search.specs.Searching.{IsSearching, SearchValue, problem_of, searched_links, state_at}
+use Rattle.fb_search.specs.InternalOpenings.{couples_on, place_on, round_on}
+use Rattle.fb_search.specs.Searching.{IsSearching, SearchValue, problem_of, state_at}
 use Rattle.fb_search.proofs.Agreed.{nodes_of}
-use Rattle.fb_search.proofs.Linked.{rings_split}
-use Rattle.fb_search.proofs.OpenedAlong.{couples_is, first_is, from_is, place_within, steps_within, to_is, way_is}
-use Rattle.fb_search.proofs.OpenedConditions.{above_on, below_on, children_are, cycle, many, nest, odd, rest, ring_parted, way}
-use Rattle.fb_search.proofs.OpenedLinks.{AreSameLinks, Table, entries_same, link_stays, links_same, links_stay, ring_among}
-use Rattle.fb_search.proofs.OpenedNames.{IsSameBranch, numbers_opened, same_branch}
-use Rattle.fb_search.proofs.OpenedPlaces.{links_of}
-use Rattle.fb_search.proofs.OpenedWays.{couple_by, couples_links}
-use Rattle.fb_search.proofs.Openings.{HasOpened, Opens, opened_search, round_in}
+use Rattle.fb_search.proofs.OpenedAlong.{couples_is, from_is, steps_within, to_is, way_is}
+use Rattle.fb_search.proofs.OpenedConditions.{above_on, below_on, children_are, cycle, many, odd, rest, way}
+use Rattle.fb_search.proofs.OpenedPlaces.{place_within}
+use Rattle.fb_search.proofs.OpenedWays.{couple_by}
+use Rattle.fb_search.proofs.Openings.{Opens}
 
 connects_back : (nodes : List Node) (l : Link) (a b : ℕ) → Connects nodes l a b → Connects nodes l b a
 connects_back nodes l a b (inl (from, to)) = inr (to, from)
 connects_back nodes l a b (inr (to, from)) = inl (from, to)
 
-module _ (w : SearchValue) (name : ℕ) (e : EntryOf ℕ) (above below : ℕ) (are : IsSearching w) (opens : Opens w name e above below) where
+module _ (w : SearchValue) (name : ℕ) (e : EntryOf ℕ) (above below : ℕ) (are : IsSearching w)
+    (opens : Opens w name e above below) where
   abbrev Cycle : List CycleStep
   Cycle = cycle w name e above below are opens
 
@@ -89,7 +69,8 @@ module _ (w : SearchValue) (name : ℕ) (e : EntryOf ℕ) (above below : ℕ) (a
   pub may_split : MaySplit w.part.nodes e.minus
   may_split = subst (MaySplit w.part.nodes) (sym opens.branch.minus) opens.may_split
 
-  may_along : MayOpenAlong before (moved opens.branch.newer) (moved opens.branch.older) (entry_by w.part.links e) (nodes_of Cycle) place steps
+  may_along : MayOpenAlong before (moved opens.branch.newer) (moved opens.branch.older) (entry_by w.part.links e)
+      (nodes_of Cycle) place steps
   may_along = record {
     tree = tree_was;
     may_split = may_split;
@@ -111,7 +92,9 @@ module _ (w : SearchValue) (name : ℕ) (e : EntryOf ℕ) (above below : ℕ) (a
         opens.at_above.connects);
     below =
         subst
-        (λ n. Connects (split n w.part.nodes) (link_by w.part.links e.matched) (get_or (round_from place (nodes_of Cycle)) steps 0) e.plus)
+        (λ n.
+        Connects (split n w.part.nodes) (link_by w.part.links e.matched) (get_or (round_from place (nodes_of Cycle)) steps 0)
+        e.plus)
         (sym opens.branch.minus)
         (subst (λ c. Connects (split name w.part.nodes) (link_by w.part.links e.matched) c e.plus)
         (sym (to_is Cycle above below (many w name e above below are opens).distinct (odd w name e above below are opens)

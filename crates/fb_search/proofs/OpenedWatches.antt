@@ -1,5 +1,5 @@
 -- Which edges are watched after a minus blossom is opened: those at its children that become plus come under watch.
-use Rattle.std.proofs.Common.{ℕ, ◌≡◌, ◌≢◌, ◌<◌, ◌⊎◌, inl, inr, Bool, true, false, List, [], ◌∷◌, ◌++◌, map, flat_map, length, All, Option, Some, refl, sym, ap, ◌∙◌, subst, if◌then◌else◌, append_assoc}
+use Rattle.std.proofs.Common.{ℕ, ◌≡◌, ◌≢◌, ◌<◌, ◌⊎◌, inl, inr, true, List, [], ◌∷◌, ◌++◌, map, flat_map, length, All, Option, Some, refl, sym, ap, ◌∙◌, subst, if◌then◌else◌, append_assoc}
 use Rattle.std.proofs.lemmas.Bool.{false≢true}
 use Rattle.fb_graph.specs.Parity.{is_in}
 use Rattle.fb_graph.specs.Problem.{Problem, edge_at, touches}
@@ -14,11 +14,12 @@ use Rattle.fb_graph.proofs.Sets.{is_in-cases, is_in-head, is_in-tail}
 use Rattle.fb_links.specs.declared.cycle.CycleStep.{CycleStep}
 use Rattle.fb_blossoms.specs.Nodes as blossoms
 use Rattle.fb_laws.specs.OpenedCycles.{PassOf, opened_branches, opened_tree}
-use Rattle.fb_laws.specs.Trees.{EntryOf, minus_names, plus_names, roles_of}
+use Rattle.fb_laws.specs.Trees.{EntryOf, minus_names, plus_names}
 use Rattle.fb_laws.proofs.TreePaths.{in_left, in_right}
 use Rattle.fb_regions.specs.declared.roles.Role.TheVariants.{Plus, Minus, Out}
 use Rattle.fb_trees.specs.Branches.{Grown}
 use Rattle.fb_trees.specs.Replacements.{way_of}
+use Rattle.fb_trees.specs.Rooted.{role_in}
 use Rattle.fb_obstacles.specs.Obstacles.{IsWatched, grows}
 use Rattle.fb_obstacles.specs.Watched.{Watched}
 use Rattle.fb_search.specs.InternalOpenings.{second_nodes}
@@ -26,8 +27,7 @@ use Rattle.fb_search.specs.Searching.{IsSearching, SearchValue, problem_of, role
 use Rattle.fb_search.proofs.Agreed.{nodes_of}
 use Rattle.fb_search.proofs.BegunSearches.{touches_first, touches_second}
 use Rattle.fb_search.proofs.KeptWatches.{IsWatchedAt}
-use Rattle.fb_search.proofs.OpenedAlong.{plus_listed}
-use Rattle.fb_search.proofs.OpenedConditions.{above_on, below_on, children_are, cycle, many, nest, odd, way, way_opens}
+use Rattle.fb_search.proofs.OpenedConditions.{children_are, cycle, nest, way, way_opens, way_seconds}
 use Rattle.fb_search.proofs.OpenedLinks.{Table}
 use Rattle.fb_search.proofs.OpenedNumbers.{after, branches_are}
 use Rattle.fb_search.proofs.OpenedSplits.{cover_stays, cover_was}
@@ -99,12 +99,16 @@ plus_along root parent tree minus (s ∷ ss) matched plus older n there =
 
     later : (s.plus ≡ n) ⊎ (is_in (plus_names root older) n ≡ true)
         → (is_in (plus ∷ plus_names root older) n ≡ true) ⊎ (is_in (map (λ s. s.plus) (s ∷ ss)) n ≡ true)
-    later (inl same) = inr (subst (λ x. is_in (s.plus ∷ map (λ s. s.plus) ss) x ≡ true) same (is_in-head s.plus (map (λ s. s.plus) ss)))
+    later (inl same) =
+        inr
+        (subst (λ x. is_in (s.plus ∷ map (λ s. s.plus) ss) x ≡ true) same (is_in-head s.plus (map (λ s. s.plus) ss)))
     later (inr h) = inl (is_in-tail plus (plus_names root older) n h)
 
     head : (plus ≡ n) ⊎ (is_in (s.plus ∷ plus_names root older) n ≡ true)
         → (is_in (plus ∷ plus_names root older) n ≡ true) ⊎ (is_in (map (λ s. s.plus) (s ∷ ss)) n ≡ true)
-    head (inl same) = inl (subst (λ x. is_in (plus ∷ plus_names root older) x ≡ true) same (is_in-head plus (plus_names root older)))
+    head (inl same) =
+        inl
+        (subst (λ x. is_in (plus ∷ plus_names root older) x ≡ true) same (is_in-head plus (plus_names root older)))
     head (inr h) = later (is_in-cases s.plus (plus_names root older) n h)
 
     by : (is_in (plus ∷ s.plus ∷ plus_names root older) n ≡ true) ⊎ (is_in (map (λ s. s.plus) ss) n ≡ true)
@@ -112,7 +116,8 @@ plus_along root parent tree minus (s ∷ ss) matched plus older n there =
     by (inl h) = head (is_in-cases plus (s.plus ∷ plus_names root older) n h)
     by (inr h) = inr (is_in-tail s.plus (map (λ s. s.plus) ss) n h)
 
-plus_opened : (root : ℕ) (newer : List (EntryOf ℕ)) (e : EntryOf ℕ) (older : List (EntryOf ℕ)) (from : ℕ) (way : List (PassOf ℕ)) (n : ℕ)
+plus_opened : (root : ℕ) (newer : List (EntryOf ℕ)) (e : EntryOf ℕ) (older : List (EntryOf ℕ)) (from : ℕ)
+    (way : List (PassOf ℕ)) (n : ℕ)
     → is_in (plus_names root (opened_tree newer e older from way)) n ≡ true
     → (is_in (plus_names root (newer ++ e ∷ older)) n ≡ true) ⊎ (is_in (map (λ s. s.plus) way) n ≡ true)
 plus_opened root [] e older from way n there = plus_along root e.parent e.tree from way e.matched e.plus older n there
@@ -145,11 +150,12 @@ in_flat g (x ∷ xs) n v there held = by (is_in-cases x xs n there) (λ h. in_fl
     by (inr h) rest = in_right (g x) (flat_map g xs) v (rest h)
 
 plus_role : (t : Grown) (name : ℕ) → is_in (plus_names t.root t.branches) name ≡ true
-    → grows (if is_in (plus_names t.root t.branches) name then Plus else (if is_in (minus_names t.branches) name then Minus else Out)) ≡ true
-plus_role t name plus = ap (λ b. grows (if b then Plus else (if is_in (minus_names t.branches) name then Minus else Out))) plus
+    → grows (role_in t name) ≡ true
+plus_role t name plus =
+    ap (λ b. grows (if b then Plus else (if is_in (minus_names t.branches) name then Minus else Out))) plus
 
-module _ (w : SearchValue) (name : ℕ) (e : EntryOf ℕ) (above below : ℕ) (are : IsSearching w) (opens : Opens w name e above below)
-    (links : Table) (store : List (Option blossoms.Node)) (tree : Grown) (watched : Watched)
+module _ (w : SearchValue) (name : ℕ) (e : EntryOf ℕ) (above below : ℕ) (are : IsSearching w)
+    (opens : Opens w name e above below) (links : Table) (store : List (Option blossoms.Node)) (tree : Grown) (watched : Watched)
     (has : HasOpened w name above below links store tree watched) (limits : IsWithinLimits (problem_of w)) where
   abbrev Cycle : List ℕ
   Cycle = nodes_of (cycle w name e above below are opens)
@@ -172,10 +178,7 @@ module _ (w : SearchValue) (name : ℕ) (e : EntryOf ℕ) (above below : ℕ) (a
       held =
           let over = cover_among Others v m cover in
           in_flat (top_at Others) (second_nodes Way) m v
-          (ap (λ l. is_in l m)
-          (plus_listed (cycle w name e above below are opens) above below (many w name e above below are opens).distinct
-          (odd w name e above below are opens) (above_on w name e above below are opens) (below_on w name e above below are opens))
-          ∙ plus)
+          (ap (λ l. is_in l m) (way_seconds w name e above below are opens) ∙ plus)
           (ap (λ x. is_in (top_at Others x) v) (sym over.named)
           ∙ (ap (λ t. is_in t v)
           (top_among Others (split_names name w.part.nodes (nest w name e above below are opens).dual.names) over.node over.among)
@@ -183,8 +186,10 @@ module _ (w : SearchValue) (name : ℕ) (e : EntryOf ℕ) (above below : ℕ) (a
 
       touch : ((edge_at (problem_of w).edges k).first ≡ v) ⊎ ((edge_at (problem_of w).edges k).second ≡ v)
           → touches v (edge_at (problem_of w).edges k) ≡ true
-      touch (inl same) = ap (λ u. touches u (edge_at (problem_of w).edges k)) (sym same) ∙ touches_first (problem_of w) k limits less
-      touch (inr same) = ap (λ u. touches u (edge_at (problem_of w).edges k)) (sym same) ∙ touches_second (problem_of w) k limits less
+      touch (inl same) =
+          ap (λ u. touches u (edge_at (problem_of w).edges k)) (sym same) ∙ touches_first (problem_of w) k limits less
+      touch (inr same) =
+          ap (λ u. touches u (edge_at (problem_of w).edges k)) (sym same) ∙ touches_second (problem_of w) k limits less
 
   over_now : (v : ℕ) → is_over (roles_in After).is_plus Others v ≡ true
       → (is_over (roles_in w).is_plus w.part.nodes v ≡ true) ⊎ IsWatchedAt (problem_of w) Others watched.edges v
@@ -216,7 +221,8 @@ module _ (w : SearchValue) (name : ℕ) (e : EntryOf ℕ) (above below : ℕ) (a
       by m cover (inl h) = inl (old m cover (ap (λ t. is_in (plus_names w.tree.root t) m) opens.branch.there ∙ h))
       by m cover (inr h) = inr (now_watched v m cover h)
 
-  together : (u v : ℕ) → is_over (roles_in w).is_plus w.part.nodes u ≡ true → AreUnderOne w.part.nodes u v → AreUnderOne Others u v
+  together : (u v : ℕ) → is_over (roles_in w).is_plus w.part.nodes u ≡ true → AreUnderOne w.part.nodes u v
+      → AreUnderOne Others u v
   together u v over (m, at_u, at_v) = (m, stays u at_u, stays v at_v)
     where
       plus : is_in (plus_names w.tree.root w.tree.branches) m ≡ true

@@ -1,19 +1,19 @@
 -- The steps up to a node and those after it are the law's way and the law's couples.
-use Rattle.std.proofs.Common.{ℕ, suc, ◌≡◌, ◌+◌, ◌%◌, Bool, true, false, List, [], ◌∷◌, ◌++◌, map, length, take, drop, Option, Some, None, refl, sym, ap, ◌∙◌, subst, arith, append_assoc}
+use Rattle.std.proofs.Common.{ℕ, suc, ◌≡◌, ◌%◌, List, [], ◌∷◌, ◌++◌, map, length, take, drop, Option, Some, None, refl, sym, ap, ◌∙◌, subst, arith}
 use Rattle.std.specs.List.Sorted.{IsPermutation}
-use Rattle.std.proofs.lemmas.List.{map-append}
+use Rattle.std.proofs.lemmas.List.{append_assoc, map-append}
 use Rattle.std.proofs.lemmas.List.Sorted.{IsPermutation-append_comm, IsPermutation-append_left, IsPermutation-append_right, IsPermutation-cons, IsPermutation-middle, IsPermutation-refl, IsPermutation-sym, IsPermutation-trans}
 use Rattle.fb_graph.specs.Laws.{Link}
 use Rattle.fb_links.specs.declared.cycle.CycleStep.{CycleStep}
-use Rattle.fb_laws.specs.OpenedCycles.{Couple, PassOf, grown_on, last_of, matched_beside, matched_on, paired_beside, paired_on}
+use Rattle.fb_laws.specs.OpenedCycles.{Couple, grown_on, last_of, matched_beside, matched_on, paired_beside, paired_on}
 use Rattle.fb_laws.specs.RingWays.{couples_along, passes_along}
 use Rattle.fb_half.specs.Matchings.{match_links, matched_names}
 use Rattle.fb_half.specs.declared.matches.Match.{Match}
 use Rattle.fb_trees.specs.Replacements.{first_node, way_of}
 use Rattle.fb_trees.specs.TreeLinks.{map_pass}
-use Rattle.fb_search.specs.InternalOpenings.{between_on, couples_on, second_nodes}
+use Rattle.fb_search.specs.InternalOpenings.{between_on, couples_on, link_on, links_left, place_on, rest_on, second_nodes, way_on}
 use Rattle.fb_search.proofs.Agreed.{nodes_of}
-use Rattle.fb_search.proofs.OpenedPlaces.{links_of, others_of}
+use Rattle.fb_search.proofs.OpenedPlaces.{IsPlacedOn, links_of, nodes-append, others_of}
 
 -- the node of a match beside its first one
 abbrev pub mate_of : Option ℕ → ℕ
@@ -27,7 +27,8 @@ couple_by f m = record { first = m.first; link = f m.link; second = mate_of m.se
 -- the passes along the way
 pub passes_are : {M : Type 0} (f : ℕ → M) (before : List CycleStep) (s : CycleStep) (after : List CycleStep)
     → length before % 2 ≡ 0
-    → passes_along (take (length before) (others_of (before ++ s ∷ after))) (take (length before) (map f (links_of (before ++ s ∷ after))))
+    → passes_along (take (length before) (others_of (before ++ s ∷ after)))
+    (take (length before) (map f (links_of (before ++ s ∷ after))))
     ≡ map (map_pass f) (way_of (before ++ s ∷ []))
 passes_are f [] s after even = refl
 passes_are f (a ∷ []) s after even = absurd (let e : 1 ≡ 0 = even in omega arith)
@@ -144,3 +145,55 @@ round_links before s after even rest =
   where
     on : List ℕ
     on = grown_on (way_of (before ++ s ∷ [])) ++ matched_on (way_of (before ++ s ∷ []))
+
+-- what is read where the node's step stands an even number of steps on
+module _ (r : List CycleStep) (name : ℕ) (at : IsPlacedOn r name) (on : length at.before % 2 ≡ 0) where
+  pub placed_nodes : nodes_of r ≡ nodes_of (way_on r name) ++ nodes_of (rest_on r name)
+  placed_nodes =
+      ap nodes_of (at.whole ∙ sym (append_assoc at.before (at.here ∷ []) at.after))
+      ∙ (nodes-append (at.before ++ at.here ∷ []) at.after
+      ∙ (ap (λ l. nodes_of l ++ nodes_of at.after) (sym at.way)
+      ∙ ap (λ l. nodes_of (way_on r name) ++ nodes_of l) (sym at.rest)))
+
+  pub placed_links : length at.after % 2 ≡ 0
+      → IsPermutation (links_of r)
+      ((grown_on (way_of (way_on r name)) ++ matched_on (way_of (way_on r name)))
+      ++ (match_links (couples_on (rest_on r name)) ++ links_left r name))
+  placed_links off =
+      subst
+      (λ w.
+      IsPermutation (links_of r)
+      ((grown_on (way_of w) ++ matched_on (way_of w)) ++ (match_links (couples_on (rest_on r name)) ++ links_left r name)))
+      (sym at.way)
+      (subst
+      (λ a. IsPermutation (links_of r) (here ++ (match_links (couples_on a) ++ link_on r name ∷ between_on a)))
+      (sym at.rest)
+      (subst
+      (λ l. IsPermutation (links_of r) (here ++ (match_links (couples_on at.after) ++ l ∷ between_on at.after)))
+      (sym at.link)
+      (subst
+      (λ q. IsPermutation (links_of q) (here ++ (match_links (couples_on at.after) ++ at.here.link ∷ between_on at.after)))
+      (sym at.whole) (round_links at.before at.here at.after on off))))
+    where
+      here : List ℕ
+      here = grown_on (way_of (at.before ++ at.here ∷ [])) ++ matched_on (way_of (at.before ++ at.here ∷ []))
+
+  module _ (f : ℕ → Link) where
+    pub placed_passes : passes_along (take (place_on r name) (others_of r)) (take (place_on r name) (map f (links_of r)))
+        ≡ map (map_pass f) (way_of (way_on r name))
+    placed_passes =
+        ap (λ k. passes_along (take k (others_of r)) (take k (map f (links_of r)))) at.place
+        ∙ (ap (λ q. passes_along (take (length at.before) (others_of q)) (take (length at.before) (map f (links_of q))))
+        at.whole
+        ∙ (passes_are f at.before at.here at.after on ∙ ap (λ w. map (map_pass f) (way_of w)) (sym at.way)))
+
+    pub placed_couples : couples_along (drop (place_on r name) (others_of r)) (drop (place_on r name) (map f (links_of r)))
+        ≡ map (couple_by f) (couples_on (rest_on r name))
+    placed_couples =
+        ap (λ k. couples_along (drop k (others_of r)) (drop k (map f (links_of r)))) at.place
+        ∙ (ap (λ q. couples_along (drop (length at.before) (others_of q)) (drop (length at.before) (map f (links_of q))))
+        at.whole
+        ∙ (ap (λ l. couples_along l (drop (length at.before) (map f (links_of (at.before ++ at.here ∷ at.after)))))
+        (nodes_after at.before at.here at.after)
+        ∙ (ap (couples_along (nodes_of at.after)) (links_after f at.before at.here at.after)
+        ∙ (couples_are f at.after (f at.here.link) ∙ ap (λ a. map (couple_by f) (couples_on a)) (sym at.rest)))))
