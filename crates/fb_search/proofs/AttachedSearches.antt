@@ -44,7 +44,8 @@ numbers_attached : (link matched : ℕ) (grown paired old matches rings : List �
     → IsPermutation (link ∷ ((grown ++ paired) ++ (old ++ rings))) (((link ∷ grown) ++ (matched ∷ paired)) ++ (matches ++ rings))
 numbers_attached link matched grown paired old matches rings moved =
     IsPermutation-cons link _ _
-    (IsPermutation-trans _ _ _ (IsPermutation-append_right (grown ++ paired) _ _ (IsPermutation-append_left rings old (matched ∷ matches) moved))
+    (IsPermutation-trans _ _ _
+    (IsPermutation-append_right (grown ++ paired) _ _ (IsPermutation-append_left rings old (matched ∷ matches) moved))
     (IsPermutation-trans _ _ _ (IsPermutation-middle (grown ++ paired) matched (matches ++ rings))
     (IsPermutation-append_left (matches ++ rings) (matched ∷ (grown ++ paired)) (grown ++ matched ∷ paired)
     (IsPermutation-sym _ _ (IsPermutation-middle grown matched paired)))))
@@ -127,7 +128,8 @@ module _ (w : SearchValue) (met : Met) (now : SearchValue) (h : HasMet w met now
 
     -- The same of the search that has met the node.
     pub attached_searching : IsWithinLimits (problem_of now) → (new : Watched) → All (λ j. j < new.edge_count) new.edges
-        → Watches (problem_of now) (top_at now.part.nodes mate) now.watched new → IsSearching (with_branch (branch_met met mate) new now)
+        → Watches (problem_of now) (top_at now.part.nodes mate) now.watched new
+        → IsSearching (with_branch (branch_met met mate) new now)
     attached_searching limits new within watched =
         subst (λ s. IsSearching (with_branch (branch_met met mate) new s)) (sym h.is)
         (rematched_searching (subst (λ s. IsWithinLimits (problem_of s)) h.is limits) new within
@@ -138,7 +140,8 @@ module _ (w : SearchValue) (met : Met) (now : SearchValue) (h : HasMet w met now
         subst (λ s. GoesOn w (with_branch (branch_met met mate) new s)) (sym h.is)
         (rematched_goes_on (subst (λ s. IsWithinLimits (problem_of s)) h.is limits) new)
 
-    listed : (is_in (matched_names w.part.matching.matches) met.other ≡ true) × (is_in (matched_names w.part.matching.matches) mate ≡ true)
+    listed : (is_in (matched_names w.part.matching.matches) met.other ≡ true)
+        × (is_in (matched_names w.part.matching.matches) mate ≡ true)
     listed = couple_matched [] w h.was met.taken now.part.matching.matches h.matches met.other mate couple
 
     pub other_outside : is_node now.tree met.other ≡ false
