@@ -51,6 +51,18 @@ pub record Closes (w : SearchValue) (a b closing : ℕ) : Type 0 where
   pub connects : Connects w.part.nodes (link_by w.part.links closing) a b
   pub tight : AreMatchedLinks (problem_of w) w.part.nodes (link_by w.part.links closing ∷ [])
 
+pub closes_by : (w : SearchValue) (a b closing : ℕ) → IsSearchingBeside (closing ∷ []) w → IsPlus w.tree a → IsPlus w.tree b
+    → a ≢ b → Connects w.part.nodes (link_by w.part.links closing) a b
+    → AreMatchedLinks (problem_of w) w.part.nodes (link_by w.part.links closing ∷ []) → Closes w a b closing
+closes_by w a b closing search first second apart connects tight = record {
+  search = search;
+  first = first;
+  second = second;
+  apart = apart;
+  connects = connects;
+  tight = tight;
+}
+
 -- several nodes may give way to one
 one_for_many : (t : Grown) (gone : List ℕ) (s : CycleStep) → 3 ≤ length gone → replacements.MayJoin t gone s.node
     → MayReplace t gone (s ∷ [])

@@ -1,5 +1,5 @@
 -- A cycle of a search's tree that becomes a blossom keeps what every search keeps, and leaves less to do.
-use Rattle.std.proofs.Common.{ℕ, ◌≡◌, ◌<◌, true, false, List, ◌∷◌, All, Option, is_some, refl, sym, ap, ◌∙◌, subst}
+use Rattle.std.proofs.Common.{ℕ, ◌≡◌, ◌≤◌, ◌≢◌, ◌<◌, true, false, List, [], ◌∷◌, length, All, Option, is_some, refl, sym, ap, ◌∙◌, subst}
 use Rattle.std.proofs.lemmas.Bool.{both_ways, false_from_ne_true}
 use Rattle.std.proofs.lemmas.List.Sorted.{IsPermutation-sym, length_permutation}
 use Rattle.fb_graph.specs.Parity.{is_in}
@@ -17,24 +17,30 @@ use Rattle.fb_laws.specs.StateBlossoms.{MayClose}
 use Rattle.fb_laws.specs.Works.{without}
 use Rattle.fb_laws.proofs.OpenedBlossoms.{distinct_permuted, same_permuted}
 use Rattle.fb_laws.proofs.StateBlossoms.{unmatched_is_root}
+use Rattle.fb_trees.specs.Branches.{Grown}
+use Rattle.fb_trees.specs.Replacements.{IsReplaced}
 use Rattle.fb_trees.specs.Replacements as replacements
 use Rattle.fb_trees.specs.TreeSteps.{IsCycle}
 use Rattle.fb_trees.proofs.Mapped.{names_moved}
-use Rattle.fb_half.specs.Matchings.{MatchingValue, match_links}
+use Rattle.fb_plan.specs.declared.scope.NodeScope.{NodeScope}
+use Rattle.fb_half.specs.Matchings.{MatchingValue, listed_names, match_links}
 use Rattle.fb_half.specs.Parts.{AreAgreed}
 use Rattle.fb_half.specs.Translations.{link_by}
+use Rattle.fb_half.specs.Values.{IsScopeOf}
 use Rattle.fb_obstacles.specs.Watched.{Watched}
 use Rattle.fb_search.specs.InternalClosings.{IsReplacedBy, WatchesMinus}
 use Rattle.fb_search.specs.Progress.{GoesOn}
 use Rattle.fb_search.specs.Searching.{IsSearching, SearchValue, problem_of, state_at}
 use Rattle.fb_search.proofs.Agreed.{agreed_joined, nodes_of}
-use Rattle.fb_search.proofs.ClosedCycles.{Closes, may_close, steps_join}
-use Rattle.fb_search.proofs.ClosedWatches.{watch_closed}
+use Rattle.fb_search.proofs.BegunSearches.{kept_limits}
+use Rattle.fb_search.proofs.ClosedCycles.{Closes, many_replaced, may_close, root_unlisted, steps_join}
+use Rattle.fb_search.proofs.ClosedWatches.{watch_closed, watches_minus}
 use Rattle.fb_search.proofs.Cycles.{cycle_from}
 use Rattle.fb_search.proofs.JoinConditions.{cycle_within, outer_made}
 use Rattle.fb_search.proofs.JoinLinks.{links_closed}
 use Rattle.fb_search.proofs.JoinMatchings.{matching_closed}
 use Rattle.fb_search.proofs.JoinStates.{less_after, state_after}
+use Rattle.fb_search.proofs.ScopeWalks.{scoped}
 use Rattle.fb_search.proofs.TakenNames.{without_taken}
 
 -- the search with these nodes of its tree as one blossom
@@ -163,8 +169,8 @@ module _ (w : SearchValue) (a b closing : ℕ) (closes : Closes w a b closing) (
         × GoesOn w (closed_search w name cycle store (record { matches = ms; unmatched = matching.unmatched }) watched))
         (sym listed.matches) (closed_kept, closed_goes)
 
-  -- The nodes of the steps as one blossom.
-  pub cycle_closed : (gone : List ℕ) → gone ≡ nodes_of steps → (matching : MatchingValue)
+  -- the nodes of the steps as one blossom
+  cycle_closed : (gone : List ℕ) → gone ≡ nodes_of steps → (matching : MatchingValue)
       → IsReplacedBy w.tree.root (renamed (is_in gone) name w.tree.root) w.part.matching matching → (watched : Watched)
       → IsWithinLimits (problem_of w) → WatchesMinus (problem_of w) w.part.nodes w.tree gone w.watched watched
       → All (λ k. k < watched.edge_count) watched.edges
@@ -178,3 +184,38 @@ module _ (w : SearchValue) (a b closing : ℕ) (closes : Closes w a b closing) (
       → IsSearching (closed_search w name ns store matching watched)
       × GoesOn w (closed_search w name ns store matching watched))
       (sym (same ∙ is.nodes)) (λ listed watches. closed_both matching listed watched limits watches below) listed watches
+
+  module _ (gone : List ℕ) (same : gone ≡ nodes_of steps) (link : ℕ) (tree : Grown)
+      (replaced : IsReplaced w.tree gone (record { node = name; link = link } ∷ []) tree) where
+    tree_is : tree ≡ replacements.joined w.tree gone name
+    tree_is =
+        many_replaced w.tree tree gone (record { node = name; link = link })
+        (subst (λ ns. 3 ≤ length ns) (sym same) (steps_join w a b closing closes steps is name new_name).many.three) replaced
+
+    -- the root's name after it isn't listed yet, if it is another one
+    pub root_new : tree.root ≢ w.tree.root → is_in (listed_names w.part.matching) tree.root ≡ false
+    root_new =
+        subst (λ t. t.root ≢ w.tree.root → is_in (listed_names w.part.matching) t.root ≡ false) (sym tree_is)
+        (root_unlisted w a b closing closes name gone new_name)
+
+    -- What the search is after it is a search, and less is left to do.
+    pub cycle_made : (scope : NodeScope) → IsScopeOf scope w.part → IsWithinLimits (scoped scope) → (matching : MatchingValue)
+        → IsReplacedBy w.tree.root tree.root w.part.matching matching → (watched : Watched)
+        → WatchesMinus (scoped scope) w.part.nodes w.tree gone w.watched watched
+        → All (λ k. k < watched.edge_count) watched.edges
+        → IsSearching (record (closed_search w name gone store matching watched) { tree = tree })
+        × GoesOn w (record (closed_search w name gone store matching watched) { tree = tree })
+    cycle_made scope own limits matching listed watched watches below =
+        subst
+        (λ t.
+        IsReplacedBy w.tree.root t.root w.part.matching matching
+        → IsSearching (record (closed_search w name gone store matching watched) { tree = t })
+        × GoesOn w (record (closed_search w name gone store matching watched) { tree = t }))
+        (sym tree_is)
+        (λ listed.
+        cycle_closed gone same matching listed watched
+        (kept_limits w.part scope.graph.now scope.plan.now scope.node own.graph own.plan own.node limits)
+        (watches_minus w.part scope.graph.now scope.plan.now scope.node w.part.nodes w.tree gone w.watched watched own.graph
+        watches)
+        below)
+        listed

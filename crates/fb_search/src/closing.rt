@@ -66,19 +66,20 @@ pub(crate) fn close_cycle<'a>(
     } = pieces;
     let cycle = tree.cycle_of(alloc, first, second, closing, &parts.links)?;
     let nodes = nodes_on(alloc, &cycle)?;
-    watch_minus(alloc, &mut watch, &parts.regions, &tree, &nodes)?;
+    let nodes = nodes.as_slice();
+    watch_minus(alloc, &mut watch, &parts.regions, &tree, nodes)?;
     watch.keeps();
     let held = &mut parts;
     held.regions.scope().limits();
     held.blossoms.keeps();
     let blossom = held.blossoms.form(alloc, cycle, &held.links)?;
-    parts.regions.join_nodes(alloc, blossom, &nodes)?;
+    parts.regions.join_nodes(alloc, blossom, nodes)?;
     let root = tree.root();
     let step = CycleStep {
         node: blossom,
         link: closing,
     };
-    tree.replace(alloc, &nodes, &[step], &parts.links)?;
+    tree.replace(alloc, nodes, &[step], &parts.links)?;
     replace_unmatched(alloc, &mut parts.matching, root, tree.root())?;
     Ok(Searching { parts, tree, watch })
 }
