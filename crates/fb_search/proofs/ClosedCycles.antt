@@ -51,7 +51,8 @@ pub record Closes (w : SearchValue) (a b closing : ℕ) : Type 0 where
   pub connects : Connects w.part.nodes (link_by w.part.links closing) a b
   pub tight : AreMatchedLinks (problem_of w) w.part.nodes (link_by w.part.links closing ∷ [])
 
-pub closes_by : (w : SearchValue) (a b closing : ℕ) → IsSearchingBeside (closing ∷ []) w → IsPlus w.tree a → IsPlus w.tree b
+pub closes_by : (w : SearchValue) (a b closing : ℕ) → IsSearchingBeside (closing ∷ []) w → IsPlus w.tree a
+    → IsPlus w.tree b
     → a ≢ b → Connects w.part.nodes (link_by w.part.links closing) a b
     → AreMatchedLinks (problem_of w) w.part.nodes (link_by w.part.links closing ∷ []) → Closes w a b closing
 closes_by w a b closing search first second apart connects tight = record {
@@ -70,7 +71,8 @@ one_for_many t [] s three may = absurd (omega (arith, three))
 one_for_many t (m ∷ []) s three may = absurd (omega (arith, three))
 one_for_many t (m ∷ n ∷ ns) s three may = may
 
-pub many_replaced : (old new : Grown) (gone : List ℕ) (s : CycleStep) → 3 ≤ length gone → IsReplaced old gone (s ∷ []) new
+pub many_replaced : (old new : Grown) (gone : List ℕ) (s : CycleStep) → 3 ≤ length gone
+    → IsReplaced old gone (s ∷ []) new
     → new ≡ replacements.joined old gone s.node
 many_replaced old new [] s three is = absurd (omega (arith, three))
 many_replaced old new (m ∷ []) s three is = absurd (omega (arith, three))
@@ -102,7 +104,10 @@ module _ (w : SearchValue) (a b closing : ℕ) (closes : Closes w a b closing) w
 
   -- the tree's nodes are live
   in_tree_live : (n : ℕ) → is_in (tree_names w.tree.root w.tree.branches) n ≡ true → is_live w.part.nodes n ≡ true
-  in_tree_live n within = by (in_either along (w.tree.root ∷ []) n (ap (λ ns. is_in ns n) (sym (along_names w.tree.root w.tree.branches)) ∙ within))
+  in_tree_live n within =
+      by
+      (in_either along (w.tree.root ∷ []) n
+      (ap (λ ns. is_in ns n) (sym (along_names w.tree.root w.tree.branches)) ∙ within))
     where
       along : List ℕ
       along = nodes_along w.tree.branches
@@ -120,7 +125,8 @@ module _ (w : SearchValue) (a b closing : ℕ) (closes : Closes w a b closing) w
       by (inl there) = (closes.search.matching.live n (in_right listed along n there)).0
       by (inr here) = root (is_in-cases w.tree.root [] n here)
 
-  pub new_in_tree : (name : ℕ) → is_live w.part.nodes name ≡ false → is_in (tree_names w.tree.root w.tree.branches) name ≡ false
+  pub new_in_tree : (name : ℕ) → is_live w.part.nodes name ≡ false
+      → is_in (tree_names w.tree.root w.tree.branches) name ≡ false
   new_in_tree name fresh =
       false_from_ne_true (is_in (tree_names w.tree.root w.tree.branches) name)
       (λ there. both_ways (is_live w.part.nodes name) fresh (in_tree_live name there))
@@ -130,7 +136,8 @@ module _ (w : SearchValue) (a b closing : ℕ) (closes : Closes w a b closing) w
       false_from_ne_true (is_in (listed_names w.part.matching) name)
       (λ there.
       both_ways (is_live w.part.nodes name) fresh
-      (closes.search.matching.live name (in_left (listed_names w.part.matching) (nodes_along w.tree.branches) name there)).0)
+      (closes.search.matching.live name (in_left (listed_names w.part.matching) (nodes_along w.tree.branches) name
+      there)).0)
 
   -- the root's name, if it is another one after it, isn't listed yet
   pub root_unlisted : (name : ℕ) (gone : List ℕ) → is_live w.part.nodes name ≡ false
@@ -179,9 +186,10 @@ module _ (w : SearchValue) (a b closing : ℕ) (closes : Closes w a b closing) w
         ∙ in_left (closing ∷ tree_links w.tree.branches) (kept_links w.part) id
         (sym
         (same_permuted (closing ∷ tree_links w.tree.branches)
-        (tree_links (joined_tree (is_in cycle) (length w.part.store) w.tree.branches) ++ cycle_links is.up closing is.down)
-        (numbers_joined (problem_of w) s w.part.links w.tree.branches refl (length w.part.store) a b closing is.shared is.up
-        is.down (may_close (length w.part.store) unused) is.paths closes.search.state.1) id)
+        (tree_links (joined_tree (is_in cycle) (length w.part.store) w.tree.branches) ++ cycle_links is.up closing
+        is.down)
+        (numbers_joined (problem_of w) s w.part.links w.tree.branches refl (length w.part.store) a b closing is.shared
+        is.up is.down (may_close (length w.part.store) unused) is.paths closes.search.state.1) id)
         ∙ in_right (tree_links (joined_tree (is_in cycle) (length w.part.store) w.tree.branches))
         (cycle_links is.up closing is.down) id there)
       where
@@ -191,14 +199,18 @@ module _ (w : SearchValue) (a b closing : ℕ) (closes : Closes w a b closing) w
     paths : ArePaths s.tree a b (moved is.shared) (moved is.up) (moved is.down)
     paths = paths_of w.part.links s.tree w.tree.branches refl a b is.shared is.up is.down is.paths
 
-    tight : AreMatchedLinks (problem_of w) w.part.nodes (cycle_links (moved is.up) (link_by w.part.links closing) (moved is.down))
+    tight : AreMatchedLinks (problem_of w) w.part.nodes
+        (cycle_links (moved is.up) (link_by w.part.links closing) (moved is.down))
     tight =
         let search = closes.search.state.1.search.search in
-        links_among (problem_of w) w.part.nodes (cycle_links (moved is.up) (link_by w.part.links closing) (moved is.down))
+        links_among (problem_of w) w.part.nodes
+        (cycle_links (moved is.up) (link_by w.part.links closing) (moved is.down))
         ((link_by w.part.links closing ∷ []) ++ (grown_links s.tree ++ paired_links s.tree))
         (cycle_link_in s.tree (moved is.up) (moved is.down) (link_by w.part.links closing)
-        (λ e h. path_among s.tree a e (subst (IsAmong e) (sym paths.first) (among_right (moved is.shared) (moved is.up) e h)))
-        (λ e h. path_among s.tree b e (subst (IsAmong e) (sym paths.second) (among_right (moved is.shared) (moved is.down) e h))))
+        (λ e h. path_among s.tree a e (subst (IsAmong e) (sym paths.first)
+        (among_right (moved is.shared) (moved is.up) e h)))
+        (λ e h. path_among s.tree b e (subst (IsAmong e) (sym paths.second)
+        (among_right (moved is.shared) (moved is.down) e h))))
         (links_joined (problem_of w) w.part.nodes (link_by w.part.links closing ∷ [])
         (grown_links s.tree ++ paired_links s.tree) closes.tight
         (links_joined (problem_of w) w.part.nodes (grown_links s.tree) (paired_links s.tree) search.grown
@@ -224,7 +236,8 @@ module _ (w : SearchValue) (a b closing : ℕ) (closes : Closes w a b closing) w
         AreLinked w.part.nodes n (cycle_nodes (moved is.up) (moved is.down) ++ n ∷ [])
         (cycle_links (moved is.up) (link_by w.part.links closing) (moved is.down)))
         (last_moved (link_by w.part.links) w.tree.root is.shared)
-        (cycle_linked (problem_of w) w.part.nodes s.tree s.rest s.unmatched s.root s.parity a b (moved is.shared) (moved is.up)
+        (cycle_linked (problem_of w) w.part.nodes s.tree s.rest s.unmatched s.root s.parity a b (moved is.shared)
+        (moved is.up)
         (moved is.down) (link_by w.part.links closing) closes.search.state.1.search.search may.first may.second paths
         closes.connects))
 

@@ -44,7 +44,8 @@ use Rattle.fb_search.proofs.ScopeWalks.{scoped}
 use Rattle.fb_search.proofs.TakenNames.{without_taken}
 
 -- the search with these nodes of its tree as one blossom
-abbrev pub closed_search : SearchValue → ℕ → List ℕ → List (Option blossoms.Node) → MatchingValue → Watched → SearchValue
+abbrev pub closed_search : SearchValue → ℕ → List ℕ → List (Option blossoms.Node) → MatchingValue → Watched
+    → SearchValue
 closed_search w name gone store matching watched = record {
   part = record w.part { nodes = joined name gone w.part.nodes; store = store; matching = matching };
   tree = replacements.joined w.tree gone name;
@@ -68,8 +69,10 @@ module _ (w : SearchValue) (a b closing : ℕ) (closes : Closes w a b closing) (
   may = may_close w a b closing closes name new_name
 
   module _ (matching : MatchingValue)
-      (listed : IsReplacedBy w.tree.root (renamed (is_in cycle) name w.tree.root) w.part.matching matching) (watched : Watched)
-      (limits : IsWithinLimits (problem_of w)) (watches : WatchesMinus (problem_of w) w.part.nodes w.tree cycle w.watched watched)
+      (listed : IsReplacedBy w.tree.root (renamed (is_in cycle) name w.tree.root) w.part.matching matching)
+      (watched : Watched)
+      (limits : IsWithinLimits (problem_of w))
+      (watches : WatchesMinus (problem_of w) w.part.nodes w.tree cycle w.watched watched)
       (below : All (λ k. k < watched.edge_count) watched.edges) where
     -- with the matches as they were
     abbrev kept : MatchingValue
@@ -80,7 +83,8 @@ module _ (w : SearchValue) (a b closing : ℕ) (closes : Closes w a b closing) (
 
     apart : (is_in listed.beside w.tree.root ≡ false) × AreDistinct listed.beside
     apart =
-        distinct_permuted w.part.matching.unmatched (w.tree.root ∷ listed.beside) listed.was closes.search.state.1.names.distinct
+        distinct_permuted w.part.matching.unmatched (w.tree.root ∷ listed.beside) listed.was
+        closes.search.state.1.names.distinct
 
     -- of the unmatched nodes the root alone may be on the cycle
     others_out : (n : ℕ) → is_in listed.beside n ≡ true → is_in cycle n ≡ false
@@ -92,17 +96,18 @@ module _ (w : SearchValue) (a b closing : ℕ) (closes : Closes w a b closing) (
         (sym
         (unmatched_is_root (problem_of w) s closes.search.state.1 n
         (ap (λ ns. is_in ns n) (names_moved (link_by w.part.links) w.tree.root w.tree.branches)
-        ∙ cycle_within (problem_of w) s w.part.links w.tree.branches refl name a b closing is.shared is.up is.down may is.paths
-        closes.search.state.1 n on)
+        ∙ cycle_within (problem_of w) s w.part.links w.tree.branches refl name a b closing is.shared is.up is.down may
+        is.paths closes.search.state.1 n on)
         (sym (same_permuted w.part.matching.unmatched (w.tree.root ∷ listed.beside) listed.was n)
         ∙ is_in-tail w.tree.root listed.beside n beside)))
         ∙ beside))
 
     state : IsSearchState (problem_of w) (state_at after closes.search.state.0)
     state =
-        state_after (problem_of w) s w.part.links w.tree.branches refl name a b closing is.shared is.up is.down may is.paths
-        closes.search.state.1 w.part.store store steps listed.beside matching.unmatched (λ n. refl) is.links adds listed.was
-        others_out listed.unmatched
+        state_after (problem_of w) s w.part.links w.tree.branches refl name a b closing is.shared is.up is.down may
+        is.paths
+        closes.search.state.1 w.part.store store steps listed.beside matching.unmatched (λ n. refl) is.links adds
+        listed.was others_out listed.unmatched
 
     agreed : AreAgreed (joined name cycle w.part.nodes) store
     agreed =
@@ -118,11 +123,13 @@ module _ (w : SearchValue) (a b closing : ℕ) (closes : Closes w a b closing) (
       state = (closes.search.state.0, state);
       agreed = agreed;
       links =
-          links_closed (problem_of w) s w.part.links w.tree.branches refl name a b closing is.shared is.up is.down may is.paths
+          links_closed (problem_of w) s w.part.links w.tree.branches refl name a b closing is.shared is.up is.down may
+          is.paths
           closes.search.state.1 w.part.store store steps (match_links w.part.matching.matches) is.nodes is.links adds
           closes.search.links;
       matching =
-          matching_closed (problem_of w) s w.part.links w.tree.branches refl name a b closing is.shared is.up is.down may is.paths
+          matching_closed (problem_of w) s w.part.links w.tree.branches refl name a b closing is.shared is.up is.down
+          may is.paths
           closes.search.state.1 w.part.matching listed.beside matching.unmatched closes.search.matching listed.was
           listed.unmatched;
       room = watches.room ∙ closes.search.room;
@@ -130,23 +137,25 @@ module _ (w : SearchValue) (a b closing : ℕ) (closes : Closes w a b closing) (
           watch_closed (problem_of w) w.part.nodes w.tree name cycle w.watched watched limits
           closes.search.state.1.search.nest.dual.names closes.search.state.1.search.nest.dual.apart
           state.search.nest.dual.apart
-          (outer_made (problem_of w) s w.part.links w.tree.branches refl name a b closing is.shared is.up is.down may is.paths
-          closes.search.state.1)
+          (outer_made (problem_of w) s w.part.links w.tree.branches refl name a b closing is.shared is.up is.down may
+          is.paths closes.search.state.1)
           (subst (MayJoin w.part.nodes name) is.nodes (steps_join w a b closing closes steps is name new_name))
-          (cycle_within (problem_of w) s w.part.links w.tree.branches refl name a b closing is.shared is.up is.down may is.paths
-          closes.search.state.1)
+          (cycle_within (problem_of w) s w.part.links w.tree.branches refl name a b closing is.shared is.up is.down may
+          is.paths closes.search.state.1)
           watches closes.search.watch
           (subst (λ n. All (λ k. k < n) watched.edges) (watches.room ∙ closes.search.room) below);
     }
 
-    others_kept : (n : ℕ) → is_in (without after.tree.root matching.unmatched) n ≡ is_in (without w.tree.root w.part.matching.unmatched) n
+    others_kept : (n : ℕ) → is_in (without after.tree.root matching.unmatched) n
+        ≡ is_in (without w.tree.root w.part.matching.unmatched) n
     others_kept n =
         sym
         (same_permuted (without after.tree.root matching.unmatched) listed.beside
         (without_taken after.tree.root matching.unmatched listed.beside state.names.distinct
         (IsPermutation-sym (after.tree.root ∷ listed.beside) matching.unmatched listed.unmatched)) n)
         ∙ same_permuted (without w.tree.root w.part.matching.unmatched) listed.beside
-        (without_taken w.tree.root w.part.matching.unmatched listed.beside closes.search.state.1.names.distinct listed.was) n
+        (without_taken w.tree.root w.part.matching.unmatched listed.beside closes.search.state.1.names.distinct
+        listed.was) n
 
     closed_goes : GoesOn w after
     closed_goes = record {
@@ -156,8 +165,8 @@ module _ (w : SearchValue) (a b closing : ℕ) (closes : Closes w a b closing) (
           length_permutation (after.tree.root ∷ listed.beside) matching.unmatched listed.unmatched
           ∙ length_permutation w.part.matching.unmatched (w.tree.root ∷ listed.beside) listed.was;
       less =
-          less_after (problem_of w) s w.part.links w.tree.branches refl name a b closing is.shared is.up is.down may is.paths
-          closes.search.state.1 false true;
+          less_after (problem_of w) s w.part.links w.tree.branches refl name a b closing is.shared is.up is.down may
+          is.paths closes.search.state.1 false true;
     }
 
     closed_both : IsSearching (closed_search w name cycle store matching watched)
@@ -183,14 +192,16 @@ module _ (w : SearchValue) (a b closing : ℕ) (closes : Closes w a b closing) (
       → WatchesMinus (problem_of w) w.part.nodes w.tree ns w.watched watched
       → IsSearching (closed_search w name ns store matching watched)
       × GoesOn w (closed_search w name ns store matching watched))
-      (sym (same ∙ is.nodes)) (λ listed watches. closed_both matching listed watched limits watches below) listed watches
+      (sym (same ∙ is.nodes)) (λ listed watches. closed_both matching listed watched limits watches below) listed
+      watches
 
   module _ (gone : List ℕ) (same : gone ≡ nodes_of steps) (link : ℕ) (tree : Grown)
       (replaced : IsReplaced w.tree gone (record { node = name; link = link } ∷ []) tree) where
     tree_is : tree ≡ replacements.joined w.tree gone name
     tree_is =
         many_replaced w.tree tree gone (record { node = name; link = link })
-        (subst (λ ns. 3 ≤ length ns) (sym same) (steps_join w a b closing closes steps is name new_name).many.three) replaced
+        (subst (λ ns. 3 ≤ length ns) (sym same) (steps_join w a b closing closes steps is name new_name).many.three)
+        replaced
 
     -- the root's name after it isn't listed yet, if it is another one
     pub root_new : tree.root ≢ w.tree.root → is_in (listed_names w.part.matching) tree.root ≡ false
@@ -199,7 +210,8 @@ module _ (w : SearchValue) (a b closing : ℕ) (closes : Closes w a b closing) (
         (root_unlisted w a b closing closes name gone new_name)
 
     -- What the search is after it is a search, and less is left to do.
-    pub cycle_made : (scope : NodeScope) → IsScopeOf scope w.part → IsWithinLimits (scoped scope) → (matching : MatchingValue)
+    pub cycle_made : (scope : NodeScope) → IsScopeOf scope w.part → IsWithinLimits (scoped scope)
+        → (matching : MatchingValue)
         → IsReplacedBy w.tree.root tree.root w.part.matching matching → (watched : Watched)
         → WatchesMinus (scoped scope) w.part.nodes w.tree gone w.watched watched
         → All (λ k. k < watched.edge_count) watched.edges
@@ -215,7 +227,7 @@ module _ (w : SearchValue) (a b closing : ℕ) (closes : Closes w a b closing) (
         (λ listed.
         cycle_closed gone same matching listed watched
         (kept_limits w.part scope.graph.now scope.plan.now scope.node own.graph own.plan own.node limits)
-        (watches_minus w.part scope.graph.now scope.plan.now scope.node w.part.nodes w.tree gone w.watched watched own.graph
-        watches)
+        (watches_minus w.part scope.graph.now scope.plan.now scope.node w.part.nodes w.tree gone w.watched watched
+        own.graph watches)
         below)
         listed

@@ -52,12 +52,15 @@ plus_before {L} joins name root tree n other there = each tree there
             (plus_names (renamed joins name root)
             (map (renamed_entry joins name) (cond b (e ∷ outer_branches joins es) (outer_branches joins es)))) n
             ≡ true
-            → (is_in (plus_names (renamed joins name root) (joined_tree joins name es)) n ≡ true → is_in (plus_names root es) n ≡ true)
+            → (is_in (plus_names (renamed joins name root) (joined_tree joins name es)) n ≡ true
+            → is_in (plus_names root es) n ≡ true)
             → is_in (e.plus ∷ plus_names root es) n ≡ true
         step false h rest = is_in-tail e.plus (plus_names root es) n (rest h)
-        step true h rest = by (is_in-cases (renamed joins name e.plus) (plus_names (renamed joins name root) (joined_tree joins name es)) n h)
+        step true h rest = by (is_in-cases (renamed joins name e.plus)
+            (plus_names (renamed joins name root) (joined_tree joins name es)) n h)
           where
-            by : (renamed joins name e.plus ≡ n) ⊎ (is_in (plus_names (renamed joins name root) (joined_tree joins name es)) n ≡ true)
+            by : (renamed joins name e.plus ≡ n) ⊎ (is_in (plus_names (renamed joins name root)
+                (joined_tree joins name es)) n ≡ true)
                 → is_in (e.plus ∷ plus_names root es) n ≡ true
             by (inl same) =
                 subst (λ m. is_in (e.plus ∷ plus_names root es) m ≡ true) (one e.plus (joins e.plus) same)
@@ -68,7 +71,8 @@ plus_before {L} joins name root tree n other there = each tree there
 plus_or_minus : {L : Type 0} (root : ℕ) (tree : List (EntryOf L)) (n : ℕ) → is_in (tree_names root tree) n ≡ true
     → (is_in (plus_names root tree) n ≡ true) ⊎ (is_in (minus_names tree) n ≡ true)
 plus_or_minus root [] n there = inl there
-plus_or_minus root (e ∷ es) n there = minus (is_in-cases e.minus (e.plus ∷ tree_names root es) n there) (plus_or_minus root es n)
+plus_or_minus root (e ∷ es) n there = minus (is_in-cases e.minus (e.plus ∷ tree_names root es) n there)
+    (plus_or_minus root es n)
   where
     older : (is_in (plus_names root es) n ≡ true) ⊎ (is_in (minus_names es) n ≡ true)
         → (is_in (plus_names root (e ∷ es)) n ≡ true) ⊎ (is_in (minus_names (e ∷ es)) n ≡ true)
@@ -76,21 +80,26 @@ plus_or_minus root (e ∷ es) n there = minus (is_in-cases e.minus (e.plus ∷ t
     older (inr minus) = inr (is_in-tail e.minus (minus_names es) n minus)
 
     plus : (e.plus ≡ n) ⊎ (is_in (tree_names root es) n ≡ true)
-        → (is_in (tree_names root es) n ≡ true → (is_in (plus_names root es) n ≡ true) ⊎ (is_in (minus_names es) n ≡ true))
+        → (is_in (tree_names root es) n ≡ true → (is_in (plus_names root es) n ≡ true)
+        ⊎ (is_in (minus_names es) n ≡ true))
         → (is_in (plus_names root (e ∷ es)) n ≡ true) ⊎ (is_in (minus_names (e ∷ es)) n ≡ true)
-    plus (inl same) later = inl (subst (λ m. is_in (e.plus ∷ plus_names root es) m ≡ true) same (is_in-head e.plus (plus_names root es)))
+    plus (inl same) later = inl (subst (λ m. is_in (e.plus ∷ plus_names root es) m ≡ true) same
+        (is_in-head e.plus (plus_names root es)))
     plus (inr more) later = older (later more)
 
     minus : (e.minus ≡ n) ⊎ (is_in (e.plus ∷ tree_names root es) n ≡ true)
-        → (is_in (tree_names root es) n ≡ true → (is_in (plus_names root es) n ≡ true) ⊎ (is_in (minus_names es) n ≡ true))
+        → (is_in (tree_names root es) n ≡ true → (is_in (plus_names root es) n ≡ true)
+        ⊎ (is_in (minus_names es) n ≡ true))
         → (is_in (plus_names root (e ∷ es)) n ≡ true) ⊎ (is_in (minus_names (e ∷ es)) n ≡ true)
-    minus (inl same) later = inr (subst (λ m. is_in (e.minus ∷ minus_names es) m ≡ true) same (is_in-head e.minus (minus_names es)))
+    minus (inl same) later = inr (subst (λ m. is_in (e.minus ∷ minus_names es) m ≡ true) same
+        (is_in-head e.minus (minus_names es)))
     minus (inr more) later = plus (is_in-cases e.plus (tree_names root es) n more) later
 
 -- so it has one of these roles
 role_there : (t : Grown) (n : ℕ) → is_in (tree_names t.root t.branches) n ≡ true
     → (grows (role_in t n) ≡ true) ⊎ (role_in t n ≡ Minus)
-role_there t n there = by (is_in (plus_names t.root t.branches) n) (is_in (minus_names t.branches) n) (plus_or_minus t.root t.branches n there)
+role_there t n there = by (is_in (plus_names t.root t.branches) n) (is_in (minus_names t.branches) n)
+    (plus_or_minus t.root t.branches n there)
   where
     by : (plus minus : Bool) → (plus ≡ true) ⊎ (minus ≡ true)
         → (grows (if plus then Plus else (if minus then Minus else Out)) ≡ true)
@@ -102,7 +111,8 @@ role_there t n there = by (is_in (plus_names t.root t.branches) n) (is_in (minus
 
 module _ (p : Problem) (nodes : List Node) (tree : Grown) (name : ℕ) (children : List ℕ) (old new : Watched)
     (limits : IsWithinLimits p) (names : AreDistinct (map (λ n. n.name) nodes)) (apart : AreOuterApart nodes)
-    (apart_after : AreOuterApart (joined name children nodes)) (outer : is_outer (joined name children nodes) name ≡ true)
+    (apart_after : AreOuterApart (joined name children nodes))
+    (outer : is_outer (joined name children nodes) name ≡ true)
     (may : MayJoin nodes name children)
     (within : (n : ℕ) → is_in children n ≡ true → is_in (tree_names tree.root tree.branches) n ≡ true)
     (watches : WatchesMinus p nodes tree children old new) where
@@ -116,10 +126,13 @@ module _ (p : Problem) (nodes : List Node) (tree : Grown) (name : ℕ) (children
       watches.near n v k child minus held less
       (ap (λ u. touches u (edge_at p.edges k)) (sym second) ∙ touches_second p k limits less)
 
-  over_before : (v : ℕ) → is_over (roles_by (role_in (replacements.joined tree children name))).is_plus (joined name children nodes) v ≡ true
-      → (is_over (roles_by (role_in tree)).is_plus nodes v ≡ true) ⊎ IsWatchedAt p (joined name children nodes) new.edges v
+  over_before : (v : ℕ) → is_over (roles_by (role_in (replacements.joined tree children name))).is_plus
+      (joined name children nodes) v ≡ true
+      → (is_over (roles_by (role_in tree)).is_plus nodes v ≡ true)
+      ⊎ IsWatchedAt p (joined name children nodes) new.edges v
   over_before v over =
-      let (m, cover, plus) = plus_over (roles_by (role_in (replacements.joined tree children name))).is_plus (joined name children nodes) v over in
+      let (m, cover, plus) = plus_over (roles_by (role_in (replacements.joined tree children name))).is_plus
+      (joined name children nodes) v over in
       let (n, was, which) = cover_before nodes name children names apart may v m cover in by m plus n was which
     where
       still : (n : ℕ) → cover_of nodes v ≡ Some n → grows (role_in tree n) ≡ true
@@ -131,7 +144,8 @@ module _ (p : Problem) (nodes : List Node) (tree : Grown) (name : ℕ) (children
 
       joined_one : (n : ℕ) → cover_of nodes v ≡ Some n → is_in children n ≡ true
           → (grows (role_in tree n) ≡ true) ⊎ (role_in tree n ≡ Minus)
-          → (is_over (roles_by (role_in tree)).is_plus nodes v ≡ true) ⊎ IsWatchedAt p (joined name children nodes) new.edges v
+          → (is_over (roles_by (role_in tree)).is_plus nodes v ≡ true)
+          ⊎ IsWatchedAt p (joined name children nodes) new.edges v
       joined_one n cover child (inl plus) = inl (still n cover plus)
       joined_one n cover child (inr minus) =
           let a = cover_among nodes v n cover in
@@ -143,7 +157,8 @@ module _ (p : Problem) (nodes : List Node) (tree : Grown) (name : ℕ) (children
       by : (m : ℕ) → (roles_by (role_in (replacements.joined tree children name))).is_plus m ≡ true → (n : ℕ)
           → cover_of nodes v ≡ Some n
           → ((is_in children n ≡ true) × (m ≡ name)) ⊎ ((is_in children n ≡ false) × (m ≡ n))
-          → (is_over (roles_by (role_in tree)).is_plus nodes v ≡ true) ⊎ IsWatchedAt p (joined name children nodes) new.edges v
+          → (is_over (roles_by (role_in tree)).is_plus nodes v ≡ true)
+          ⊎ IsWatchedAt p (joined name children nodes) new.edges v
       by m plus n cover (inl (child, same)) = joined_one n cover child (role_there tree n (within n child))
       by m plus n cover (inr (out, same)) =
           inl
@@ -163,7 +178,8 @@ module _ (p : Problem) (nodes : List Node) (tree : Grown) (name : ℕ) (children
 
 -- the same by the scope of the part's node, which tells no defects
 pub watches_minus : (part : PartValue) (g : DecodingGraph) (t : PlanTree) (n : ℕ) (nodes : List Node) (tree : Grown)
-    (names : List ℕ) (old new : Watched) → g ≡ part.job.graph → WatchesMinus (problem_at g t n []) nodes tree names old new
+    (names : List ℕ) (old new : Watched) → g ≡ part.job.graph
+    → WatchesMinus (problem_at g t n []) nodes tree names old new
     → WatchesMinus (problem_in part) nodes tree names old new
 watches_minus part g t n nodes tree names old new eg watches =
     let w : WatchesMinus (problem_at part.job.graph t n []) nodes tree names old new = rw (← eg) watches in

@@ -14,12 +14,14 @@ pub same_cycle : (links : List (Option (List Step))) (root : ℕ) (shared up dow
     → cycle_from root (map (entry_by links) shared) (map (entry_by links) up) (map (entry_by links) down)
     ≡ cycle_from root shared up down
 same_cycle links root shared up down =
-    ap (λ n. n ∷ cycle_nodes (map (entry_by links) up) (map (entry_by links) down)) (last_moved (link_by links) root shared)
+    ap (λ n. n ∷ cycle_nodes (map (entry_by links) up) (map (entry_by links) down))
+    (last_moved (link_by links) root shared)
     ∙ ap (λ ns. last_plus root shared ∷ ns) (cycle_moved (link_by links) up down)
 
 -- the two paths
 pub paths_of : (links : List (Option (List Step))) (tree : List Entry) (branches : List (EntryOf ℕ))
-    → tree ≡ map (entry_by links) branches → (a b : ℕ) (shared up down : List (EntryOf ℕ)) → ArePaths branches a b shared up down
+    → tree ≡ map (entry_by links) branches → (a b : ℕ) (shared up down : List (EntryOf ℕ))
+    → ArePaths branches a b shared up down
     → ArePaths tree a b (map (entry_by links) shared) (map (entry_by links) up) (map (entry_by links) down)
 paths_of links tree branches tree_is a b shared up down paths =
     subst (λ t. ArePaths t a b (map (entry_by links) shared) (map (entry_by links) up) (map (entry_by links) down))

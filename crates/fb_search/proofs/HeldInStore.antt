@@ -26,7 +26,8 @@ along_any held (s ∷ ss) d =
     list_any-append (λ u. u == d) (held s.node) (flat_map (λ s. held s.node) ss)
     ∙ ap (λ b. is_in (held s.node) d || b) (along_any held ss d)
 
-module _ (nodes : List Node) (store : List (Option blossoms.Node)) (agreed : AreAgreed nodes store) (nested : IsNested store) where
+module _ (nodes : List Node) (store : List (Option blossoms.Node)) (agreed : AreAgreed nodes store)
+    (nested : IsNested store) where
   blossom_held : (name d : ℕ) (ss : List CycleStep) → cycle_at store name ≡ ss → is_empty (nodes_of ss) ≡ false
       → is_in (defects_at store name) d ≡ list_any (λ c. is_in (defects_at store c) d) (nodes_of ss)
   blossom_held name d [] e some = absurd (both_ways true some refl)
@@ -43,7 +44,8 @@ module _ (nodes : List Node) (store : List (Option blossoms.Node)) (agreed : Are
         (λ n a e d.
         ap (λ l. is_in l d)
         (sym
-        (All_among (λ m. is_empty m.children ≡ true → defects_of m ≡ defects_at store m.name) nodes agreed.leaves n a e)));
+        (All_among (λ m. is_empty m.children ≡ true → defects_of m ≡ defects_at store m.name) nodes agreed.leaves n a
+        e)));
     joined = among_All
         (λ n. is_empty n.children ≡ false → (d : ℕ)
         → is_in (defects_at store n.name) d ≡ list_any (λ c. is_in (defects_at store c) d) n.children) nodes

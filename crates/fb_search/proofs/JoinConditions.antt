@@ -67,7 +67,8 @@ module _ (p : Problem) (s : SearchState) (links : List (Option (List Step))) (br
           (λ h.
           other name
           (is_in-All (λ x. is_live s.nodes x ≡ true) r.children
-          (All_among (λ n. All (λ c. is_live s.nodes c ≡ true) n.children) s.nodes state.search.nest.forest.live r among) name h)
+          (All_among (λ n. All (λ c. is_live s.nodes c ≡ true) n.children) s.nodes state.search.nest.forest.live r
+          among) name h)
           refl)
       by r (inr (inl e)) =
           ap (λ (x : Node). is_in x.children name) (sym e)
@@ -83,7 +84,8 @@ module _ (p : Problem) (s : SearchState) (links : List (Option (List Step))) (br
     taken =
         taken_from (link_by links) (is_in cycle) (last_plus s.root (map (entry_by links) shared)) s.root branches
         (subst (λ t. AreBranches (is_in cycle) (last_plus s.root (map (entry_by links) shared)) s.root t) tree_is
-        (subst (λ c. AreBranches (is_in c) (last_plus s.root (map (entry_by links) shared)) s.root s.tree) (same_cycle links s.root shared up down)
+        (subst (λ c. AreBranches (is_in c) (last_plus s.root (map (entry_by links) shared)) s.root s.tree)
+        (same_cycle links s.root shared up down)
         (subst
         (λ ns.
         AreBranches (is_in (last_plus s.root (map (entry_by links) shared) ∷ ns))
@@ -91,6 +93,7 @@ module _ (p : Problem) (s : SearchState) (links : List (Option (List Step))) (br
         (closed_names p s name a b (link_by links closing) (map (entry_by links) shared) (map (entry_by links) up)
         (map (entry_by links) down) may (paths_of links s.tree branches tree_is a b shared up down paths) state)
         (closed_joining p s name a b (link_by links closing) (map (entry_by links) shared) (map (entry_by links) up)
-        (map (entry_by links) down) may (paths_of links s.tree branches tree_is a b shared up down paths) state).branches)));
+        (map (entry_by links) down) may (paths_of links s.tree branches tree_is a b shared up down paths)
+        state).branches)));
     fresh = fresh;
   }

@@ -28,7 +28,8 @@ module _ (p : Problem) (s : SearchState) (links : List (Option (List Step))) (br
     (tree_is : s.tree ≡ map (entry_by links) branches) (name a b closing : ℕ) (shared up down : List (EntryOf ℕ))
     (may : MayClose p s name a b (link_by links closing)) (paths : ArePaths branches a b shared up down)
     (state : IsSearchState p s) (m : MatchingValue) (beside unmatched : List ℕ)
-    (was : IsMatchingOf p s.nodes links m (nodes_along branches)) (root_in : IsPermutation m.unmatched (s.root ∷ beside))
+    (was : IsMatchingOf p s.nodes links m (nodes_along branches))
+    (root_in : IsPermutation m.unmatched (s.root ∷ beside))
   where
     abbrev moved : List (EntryOf ℕ) → List Entry
     moved es = map (entry_by links) es
@@ -59,11 +60,13 @@ module _ (p : Problem) (s : SearchState) (links : List (Option (List Step))) (br
     names_after =
         subst (λ ns. IsRenamed cycle (tree_names s.root branches) ns name)
         (ap (λ t. tree_names (renamed (is_in cycle) name s.root) (joined_tree (is_in cycle) name t)) tree_is
-        ∙ (ap (tree_names (renamed (is_in cycle) name s.root)) (joined_moved (link_by links) (is_in cycle) name branches)
+        ∙ (ap (tree_names (renamed (is_in cycle) name s.root))
+        (joined_moved (link_by links) (is_in cycle) name branches)
         ∙ names_moved (link_by links) (renamed (is_in cycle) name s.root) (joined_tree (is_in cycle) name branches)))
         (subst
         (λ ns.
-        IsRenamed cycle ns (tree_names (renamed (is_in cycle) name s.root) (joined_tree (is_in cycle) name s.tree)) name)
+        IsRenamed cycle ns (tree_names (renamed (is_in cycle) name s.root) (joined_tree (is_in cycle) name s.tree))
+        name)
         names_are
         (subst
         (λ c.
@@ -78,7 +81,8 @@ module _ (p : Problem) (s : SearchState) (links : List (Option (List Step))) (br
     apart_after =
         subst (λ c. AreOuterApart (joined name c s.nodes)) (same_cycle links s.root shared up down)
         (state_closed p s name a b (link_by links closing) (map (entry_by links) shared) (map (entry_by links) up)
-        (map (entry_by links) down) may (paths_of links s.tree branches tree_is a b shared up down paths) state).search.nest.dual.apart
+        (map (entry_by links) down) may (paths_of links s.tree branches tree_is a b shared up down paths)
+        state).search.nest.dual.apart
 
     -- The blossom is listed in the place of the root, if that is on the cycle; all matches are kept.
     pub matching_closed : IsPermutation (renamed (is_in cycle) name s.root ∷ beside) unmatched
@@ -90,7 +94,8 @@ module _ (p : Problem) (s : SearchState) (links : List (Option (List Step))) (br
         (beside ++ matched_names m.matches) (tree_names s.root branches)
         (tree_names (renamed (is_in cycle) name s.root) (joined_tree (is_in cycle) name branches)) was
         (tree_listed m.unmatched beside (matched_names m.matches) s.root branches root_in)
-        (IsPermutation-sym ((unmatched ++ matched_names m.matches) ++ nodes_along (joined_tree (is_in cycle) name branches))
+        (IsPermutation-sym ((unmatched ++ matched_names m.matches) ++ nodes_along
+        (joined_tree (is_in cycle) name branches))
         ((beside ++ matched_names m.matches)
         ++ tree_names (renamed (is_in cycle) name s.root) (joined_tree (is_in cycle) name branches))
         (tree_listed unmatched beside (matched_names m.matches) (renamed (is_in cycle) name s.root)

@@ -100,9 +100,11 @@ module _ (p : Problem) (s : SearchState) (links : List (Option (List Step))) (br
         parity = s.parity;
       }))
       (same_cycle links s.root shared up down)
-      (search_reordered p (joined_state name (cycle_from s.root (map (entry_by links) shared) (map (entry_by links) up) (map (entry_by links) down)) moved_links s) (cycles_by links new) s.rest unmatched
+      (search_reordered p (joined_state name (cycle_from s.root (map (entry_by links) shared) (map (entry_by links) up)
+      (map (entry_by links) down)) moved_links s) (cycles_by links new) s.rest unmatched
       (λ n live. cycles_agree n (cases_eq n name)) (IsPermutation-refl s.rest)
-      (subst (λ c. IsPermutation (map (renamed (is_in c) name) s.unmatched) unmatched) (sym (same_cycle links s.root shared up down)) names_moved)
+      (subst (λ c. IsPermutation (map (renamed (is_in c) name) s.unmatched) unmatched)
+      (sym (same_cycle links s.root shared up down)) names_moved)
       (state_closed p s name a b (link_by links closing) (map (entry_by links) shared) (map (entry_by links) up)
       (map (entry_by links) down) may (paths_of links s.tree branches tree_is a b shared up down paths) state)))
     where
@@ -144,7 +146,8 @@ module _ (p : Problem) (s : SearchState) (links : List (Option (List Step))) (br
       (roles_of (renamed (is_in cycle) name s.root) (joined_tree (is_in cycle) name branches)) freed)
       (left_to_do p s.nodes r free))
       (ap (roles_of s.root) tree_is ∙ roles_moved links s.root branches)
-      (subst (λ r. IsLower (left_to_do p (joined name cycle s.nodes) r freed) (left_to_do p s.nodes (roles_of s.root s.tree) free))
+      (subst (λ r. IsLower (left_to_do p (joined name cycle s.nodes) r freed)
+      (left_to_do p s.nodes (roles_of s.root s.tree) free))
       (ap (roles_of (renamed (is_in cycle) name s.root)) tree_after
       ∙ roles_moved links (renamed (is_in cycle) name s.root) (joined_tree (is_in cycle) name branches))
       (subst
@@ -155,4 +158,5 @@ module _ (p : Problem) (s : SearchState) (links : List (Option (List Step))) (br
       (left_to_do p s.nodes (roles_of s.root s.tree) free))
       (same_cycle links s.root shared up down)
       (closed_less p s name a b (link_by links closing) (map (entry_by links) shared) (map (entry_by links) up)
-      (map (entry_by links) down) free freed may (paths_of links s.tree branches tree_is a b shared up down paths) state)))
+      (map (entry_by links) down) free freed may (paths_of links s.tree branches tree_is a b shared up down paths)
+      state)))

@@ -78,17 +78,22 @@ module _ (p : Problem) (nodes : List Node) (store : List (Option blossoms.Node))
     (nest : IsNest p nodes) (agreed : AreAgreed nodes store) (nested : IsNested store) where
   -- the link's real ends are defects
   abbrev HasOwnEnds : Link → Type 0
-  HasOwnEnds l = (p.is_real l.from ≡ true → is_in (leaves nodes) l.from ≡ true) × (p.is_real l.to ≡ true → is_in (leaves nodes) l.to ≡ true)
+  HasOwnEnds l =
+      (p.is_real l.from ≡ true → is_in (leaves nodes) l.from ≡ true)
+      × (p.is_real l.to ≡ true → is_in (leaves nodes) l.to ≡ true)
 
   joined_by : (id x y : ℕ) → HasOwnEnds (link_by links id) → Connects nodes (link_by links id) x y
       → joins (walk_at links id) (defects_at store x) (defects_at store y) ≡ true
   joined_by id x y own connects =
       either_way (is_in (defects_at store x) (link_by links id).from) (is_in (defects_at store y) (link_by links id).to)
-      (is_in (defects_at store y) (link_by links id).from) (is_in (defects_at store x) (link_by links id).to) (by connects)
+      (is_in (defects_at store y) (link_by links id).from) (is_in (defects_at store x) (link_by links id).to)
+      (by connects)
     where
       by : Connects nodes (link_by links id) x y
-          → ((is_in (defects_at store x) (link_by links id).from ≡ true) × (is_in (defects_at store y) (link_by links id).to ≡ true))
-          ⊎ ((is_in (defects_at store y) (link_by links id).from ≡ true) × (is_in (defects_at store x) (link_by links id).to ≡ true))
+          → ((is_in (defects_at store x) (link_by links id).from ≡ true)
+          × (is_in (defects_at store y) (link_by links id).to ≡ true))
+          ⊎ ((is_in (defects_at store y) (link_by links id).from ≡ true)
+          × (is_in (defects_at store x) (link_by links id).to ≡ true))
       by (inl (from, to)) = inl (
         end_held nodes store agreed nested p x (link_by links id).from nest own.0 from,
         end_held nodes store agreed nested p y (link_by links id).to nest own.1 to,
@@ -101,14 +106,17 @@ module _ (p : Problem) (nodes : List Node) (store : List (Option blossoms.Node))
   pub steps_linked : (first : ℕ) (names : List ℕ) (steps : List CycleStep) → nodes_of steps ≡ first ∷ names
       → AreLinked nodes first (names ++ first ∷ []) (map (link_by links) (map (λ s. s.link) steps))
       → All (λ id. is_live links id ≡ true) (map (λ s. s.link) steps)
-      → AreMatchedLinks p nodes (map (link_by links) (map (λ s. s.link) steps)) → blossoms_links.AreLinked links store steps
+      → AreMatchedLinks p nodes (map (link_by links) (map (λ s. s.link) steps))
+      → blossoms_links.AreLinked links store steps
   steps_linked first names [] named linked live tight k less = absurd (omega (arith, less))
   steps_linked first names (s ∷ ss) named linked live tight k less = (
     all_before_map (λ id. is_live links id ≡ true) (λ t. t.link) (s ∷ ss) live k none less,
-    joined_by (step_at (s ∷ ss) k).link (step_at (s ∷ ss) k).node (step_at (s ∷ ss) (next_place (length (s ∷ ss)) k)).node
+    joined_by (step_at (s ∷ ss) k).link (step_at (s ∷ ss) k).node
+        (step_at (s ∷ ss) (next_place (length (s ∷ ss)) k)).node
         (all_before_map (λ id. HasOwnEnds (link_by links id)) (λ t. t.link) (s ∷ ss)
         (all_before_map HasOwnEnds (link_by links) (map (λ t. t.link) (s ∷ ss)) tight.at_defects) k none less)
-        (subst (Connects nodes (link_by links (step_at (s ∷ ss) k).link) (step_at (s ∷ ss) k).node) (next_node s ss k less)
+        (subst (Connects nodes (link_by links (step_at (s ∷ ss) k).link) (step_at (s ∷ ss) k).node)
+        (next_node s ss k less)
         (chained nodes (link_by links) s ss s.node turned k less)),
   )
     where
@@ -125,6 +133,8 @@ module _ (p : Problem) (nodes : List Node) (store : List (Option blossoms.Node))
 
       turned : AreLinked nodes s.node (nodes_of ss ++ s.node ∷ []) (map (link_by links) (map (λ t. t.link) (s ∷ ss)))
       turned =
-          subst (λ n. AreLinked nodes n (nodes_of ss ++ n ∷ []) (map (link_by links) (map (λ t. t.link) (s ∷ ss)))) (sym (ap head_of named))
-          (subst (λ ns. AreLinked nodes first (ns ++ first ∷ []) (map (link_by links) (map (λ t. t.link) (s ∷ ss)))) (sym (ap tail_of named))
+          subst (λ n. AreLinked nodes n (nodes_of ss ++ n ∷ []) (map (link_by links) (map (λ t. t.link) (s ∷ ss))))
+          (sym (ap head_of named))
+          (subst (λ ns. AreLinked nodes first (ns ++ first ∷ []) (map (link_by links) (map (λ t. t.link) (s ∷ ss))))
+          (sym (ap tail_of named))
           linked)

@@ -23,7 +23,12 @@ module _ (w : SearchValue) (k a b : ℕ) (pair : IsPairOver w k a b) where
   pub pair_between : IsBetweenThem (problem_of w) w.part.nodes k a b
   pair_between =
       between_them (problem_of w) w.part.nodes k pair.inner pair.outer a b
-      (record { within = pair.obstacle.edge.within; leads = pair.obstacle.edge.leads; tight = pair.obstacle.edge.tight })
+      (record {
+        within = pair.obstacle.edge.within;
+        leads = pair.obstacle.edge.leads;
+        tight =
+            pair.obstacle.edge.tight;
+      })
       pair.covered pair.other apart
 
   plus_under : (v name : ℕ) → cover_of w.part.nodes v ≡ Some name

@@ -9,8 +9,8 @@ pub watch_minus-requires-clause-live : goal.watch_minus-requires-clause-live
 watch_minus-requires-clause-live c =
     let w : SearchValue = search_of c.args.pieces in
     let closes =
-    closes_by w c.args.first c.args.second c.args.closing c.requires.search c.requires.first c.requires.second c.requires.apart
-    c.requires.connects c.requires.tight in
+    closes_by w c.args.first c.args.second c.args.closing c.requires.search c.requires.first c.requires.second
+    c.requires.apart c.requires.connects c.requires.tight in
     let is = c.in_ok-cycle.ensures.cycle in
     let gone : c.as_slice-nodes.result.now ≡ nodes_of c.in_ok-cycle.cycle.items =
     c.as_slice-nodes.ensures.value ∙ c.in_ok-nodes.ensures ∙ ap nodes_of c.deref.ensures.value in
@@ -24,8 +24,8 @@ pub form-requires-clause-cycle : goal.form-requires-clause-cycle
 form-requires-clause-cycle c =
     let w : SearchValue = search_of c.args.pieces in
     let closes =
-    closes_by w c.args.first c.args.second c.args.closing c.requires.search c.requires.first c.requires.second c.requires.apart
-    c.requires.connects c.requires.tight in
+    closes_by w c.args.first c.args.second c.args.closing c.requires.search c.requires.first c.requires.second
+    c.requires.apart c.requires.connects c.requires.tight in
     let is = c.in_ok-cycle.ensures.cycle in
     steps_odd w c.args.first c.args.second c.args.closing closes c.in_ok-cycle.cycle.items is
 
@@ -33,8 +33,8 @@ pub form-requires-clause-linked : goal.form-requires-clause-linked
 form-requires-clause-linked c =
     let w : SearchValue = search_of c.args.pieces in
     let closes =
-    closes_by w c.args.first c.args.second c.args.closing c.requires.search c.requires.first c.requires.second c.requires.apart
-    c.requires.connects c.requires.tight in
+    closes_by w c.args.first c.args.second c.args.closing c.requires.search c.requires.first c.requires.second
+    c.requires.apart c.requires.connects c.requires.tight in
     let is = c.in_ok-cycle.ensures.cycle in
     steps_round w c.args.first c.args.second c.args.closing closes c.in_ok-cycle.cycle.items is c.keeps-2.ensures
 
@@ -42,8 +42,8 @@ pub form-requires-clause-outer : goal.form-requires-clause-outer
 form-requires-clause-outer c =
     let w : SearchValue = search_of c.args.pieces in
     let closes =
-    closes_by w c.args.first c.args.second c.args.closing c.requires.search c.requires.first c.requires.second c.requires.apart
-    c.requires.connects c.requires.tight in
+    closes_by w c.args.first c.args.second c.args.closing c.requires.search c.requires.first c.requires.second
+    c.requires.apart c.requires.connects c.requires.tight in
     let is = c.in_ok-cycle.ensures.cycle in
     steps_outer w c.args.first c.args.second c.args.closing closes c.in_ok-cycle.cycle.items is
 
@@ -51,28 +51,32 @@ pub join_nodes-requires : goal.join_nodes-requires
 join_nodes-requires c =
     let w : SearchValue = search_of c.args.pieces in
     let closes =
-    closes_by w c.args.first c.args.second c.args.closing c.requires.search c.requires.first c.requires.second c.requires.apart
-    c.requires.connects c.requires.tight in
+    closes_by w c.args.first c.args.second c.args.closing c.requires.search c.requires.first c.requires.second
+    c.requires.apart c.requires.connects c.requires.tight in
     let is = c.in_ok-cycle.ensures.cycle in
     let gone : c.as_slice-nodes.result.now ≡ nodes_of c.in_ok-cycle.cycle.items =
     c.as_slice-nodes.ensures.value ∙ c.in_ok-nodes.ensures ∙ ap nodes_of c.deref.ensures.value in
     let fresh =
-    new_name w c.args.first c.args.second c.args.closing closes c.in_ok-cycle.cycle.items is c.in_ok-blossom.blossom c.form.new.self c.in_ok-blossom.ensures.ok in
-    rw gone (steps_join w c.args.first c.args.second c.args.closing closes c.in_ok-cycle.cycle.items is c.in_ok-blossom.blossom fresh)
+    new_name w c.args.first c.args.second c.args.closing closes c.in_ok-cycle.cycle.items is c.in_ok-blossom.blossom
+    c.form.new.self c.in_ok-blossom.ensures.ok in
+    rw gone (steps_join w c.args.first c.args.second c.args.closing closes c.in_ok-cycle.cycle.items is
+    c.in_ok-blossom.blossom fresh)
 
 pub replace-requires : goal.replace-requires
 replace-requires c =
     let w : SearchValue = search_of c.args.pieces in
     let closes =
-    closes_by w c.args.first c.args.second c.args.closing c.requires.search c.requires.first c.requires.second c.requires.apart
-    c.requires.connects c.requires.tight in
+    closes_by w c.args.first c.args.second c.args.closing c.requires.search c.requires.first c.requires.second
+    c.requires.apart c.requires.connects c.requires.tight in
     let is = c.in_ok-cycle.ensures.cycle in
     let gone : c.as_slice-nodes.result.now ≡ nodes_of c.in_ok-cycle.cycle.items =
     c.as_slice-nodes.ensures.value ∙ c.in_ok-nodes.ensures ∙ ap nodes_of c.deref.ensures.value in
     let fresh =
-    new_name w c.args.first c.args.second c.args.closing closes c.in_ok-cycle.cycle.items is c.in_ok-blossom.blossom c.form.new.self c.in_ok-blossom.ensures.ok in
+    new_name w c.args.first c.args.second c.args.closing closes c.in_ok-cycle.cycle.items is c.in_ok-blossom.blossom
+    c.form.new.self c.in_ok-blossom.ensures.ok in
     rw gone
-    (steps_replaced w c.args.first c.args.second c.args.closing closes c.in_ok-cycle.cycle.items is c.in_ok-blossom.blossom c.args.closing fresh)
+    (steps_replaced w c.args.first c.args.second c.args.closing closes c.in_ok-cycle.cycle.items is
+    c.in_ok-blossom.blossom c.args.closing fresh)
 
 pub replace_unmatched-requires-clause-listed : goal.replace_unmatched-requires-clause-listed
 replace_unmatched-requires-clause-listed c =
@@ -82,8 +86,8 @@ pub replace_unmatched-requires-clause-fresh : goal.replace_unmatched-requires-cl
 replace_unmatched-requires-clause-fresh c =
     let w : SearchValue = search_of c.args.pieces in
     let closes =
-    closes_by w c.args.first c.args.second c.args.closing c.requires.search c.requires.first c.requires.second c.requires.apart
-    c.requires.connects c.requires.tight in
+    closes_by w c.args.first c.args.second c.args.closing c.requires.search c.requires.first c.requires.second
+    c.requires.apart c.requires.connects c.requires.tight in
     let is = c.in_ok-cycle.ensures.cycle in
     let gone : c.as_slice-nodes.result.now ≡ nodes_of c.in_ok-cycle.cycle.items =
     c.as_slice-nodes.ensures.value ∙ c.in_ok-nodes.ensures ∙ ap nodes_of c.deref.ensures.value in
@@ -96,8 +100,8 @@ pub invariant_of-result : goal.invariant_of-result
 invariant_of-result c =
     let w : SearchValue = search_of c.args.pieces in
     let closes =
-    closes_by w c.args.first c.args.second c.args.closing c.requires.search c.requires.first c.requires.second c.requires.apart
-    c.requires.connects c.requires.tight in
+    closes_by w c.args.first c.args.second c.args.closing c.requires.search c.requires.first c.requires.second
+    c.requires.apart c.requires.connects c.requires.tight in
     let is = c.in_ok-cycle.ensures.cycle in
     let gone : c.as_slice-nodes.result.now ≡ nodes_of c.in_ok-cycle.cycle.items =
     c.as_slice-nodes.ensures.value ∙ c.in_ok-nodes.ensures ∙ ap nodes_of c.deref.ensures.value in
@@ -105,7 +109,8 @@ invariant_of-result c =
     cycle_made w c.args.first c.args.second c.args.closing closes c.in_ok-cycle.cycle.items is
     c.in_ok-blossom.blossom c.form.new.self c.in_ok-blossom.ensures.ok c.as_slice-nodes.result.now gone c.args.closing
     c.replace.new.self c.in_ok-replace.ensures.ok
-    c.args.pieces.parts.regions.scope c.requires.scope (rw c.scope.ensures at c.limits.ensures) c.replace_unmatched.new.matching
+    c.args.pieces.parts.regions.scope c.requires.scope (rw c.scope.ensures at c.limits.ensures)
+    c.replace_unmatched.new.matching
     (rw (c.root-root.ensures, c.root.ensures) at c.in_ok-replace_unmatched.ensures) c.watch_minus.new.watch
     c.in_ok-watch_minus.ensures c.keeps.ensures.within in
     let scope = c.requires.scope in
@@ -115,8 +120,8 @@ pub returns : goal.returns
 returns c =
     let w : SearchValue = search_of c.args.pieces in
     let closes =
-    closes_by w c.args.first c.args.second c.args.closing c.requires.search c.requires.first c.requires.second c.requires.apart
-    c.requires.connects c.requires.tight in
+    closes_by w c.args.first c.args.second c.args.closing c.requires.search c.requires.first c.requires.second
+    c.requires.apart c.requires.connects c.requires.tight in
     let is = c.in_ok-cycle.ensures.cycle in
     let gone : c.as_slice-nodes.result.now ≡ nodes_of c.in_ok-cycle.cycle.items =
     c.as_slice-nodes.ensures.value ∙ c.in_ok-nodes.ensures ∙ ap nodes_of c.deref.ensures.value in
@@ -124,8 +129,8 @@ returns c =
     cycle_made w c.args.first c.args.second c.args.closing closes c.in_ok-cycle.cycle.items is
     c.in_ok-blossom.blossom c.form.new.self c.in_ok-blossom.ensures.ok c.as_slice-nodes.result.now gone c.args.closing
     c.replace.new.self c.in_ok-replace.ensures.ok
-    c.args.pieces.parts.regions.scope c.requires.scope (rw c.scope.ensures at c.limits.ensures) c.replace_unmatched.new.matching
+    c.args.pieces.parts.regions.scope c.requires.scope (rw c.scope.ensures at c.limits.ensures)
+    c.replace_unmatched.new.matching
     (rw (c.root-root.ensures, c.root.ensures) at c.in_ok-replace_unmatched.ensures) c.watch_minus.new.watch
     c.in_ok-watch_minus.ensures c.keeps.ensures.within in
     rw c.in_ok-join_nodes.ensures.ok both.1
-

@@ -12,42 +12,67 @@ use Rattle.fb_search.proofs.searching.Searching.close.Goals as goal
 
 pub met_walk-requires : goal.met_walk-requires
 met_walk-requires c =
-    let w : SearchValue = record { part = part_of c.self.inside.parts; tree = c.self.inside.tree; watched = c.self.inside.watch } in
+    let w : SearchValue = record {
+      part = part_of c.self.inside.parts;
+      tree = c.self.inside.tree;
+      watched = c.self.inside.watch;
+    } in
     let pair : IsPairOver w c.args.edge c.paired_nodes-first.result.0 c.paired_nodes-first.result.1 =
     rw (← c.self.view_is) at c.paired_nodes-first.ensures in
     between_scoped w.part c.self.inside.parts.regions.scope c.self.invariant.0 c.args.edge c.paired_nodes-first.result.0
-    c.paired_nodes-first.result.1 (pair_between w c.args.edge c.paired_nodes-first.result.0 c.paired_nodes-first.result.1 pair)
+    c.paired_nodes-first.result.1 (pair_between w c.args.edge c.paired_nodes-first.result.0
+    c.paired_nodes-first.result.1 pair)
 
 pub make-requires-clause-some : goal.make-requires-clause-some
 make-requires-clause-some c =
-    let w : SearchValue = record { part = part_of c.self.inside.parts; tree = c.self.inside.tree; watched = c.self.inside.watch } in
+    let w : SearchValue = record {
+      part = part_of c.self.inside.parts;
+      tree = c.self.inside.tree;
+      watched = c.self.inside.watch;
+    } in
     let pair : IsPairOver w c.args.edge c.paired_nodes-first.result.0 c.paired_nodes-first.result.1 =
     rw (← c.self.view_is) at c.paired_nodes-first.ensures in
-    let met : IsMetWalk (problem_of w) w.part.nodes c.paired_nodes-first.result.0 c.paired_nodes-first.result.1 c.in_ok-walk.walk =
+    let met : IsMetWalk (problem_of w) w.part.nodes c.paired_nodes-first.result.0 c.paired_nodes-first.result.1
+    c.in_ok-walk.walk =
     met_scoped w.part c.self.inside.parts.regions.scope c.self.invariant.0 c.args.edge c.paired_nodes-first.result.0
-    c.paired_nodes-first.result.1 c.in_ok-walk.walk (pair_between w c.args.edge c.paired_nodes-first.result.0 c.paired_nodes-first.result.1 pair) c.in_ok-walk.ensures in
+    c.paired_nodes-first.result.1 c.in_ok-walk.walk (pair_between w c.args.edge c.paired_nodes-first.result.0
+    c.paired_nodes-first.result.1 pair) c.in_ok-walk.ensures in
     met.walk_is.some
 
 pub make-requires-clause-light : goal.make-requires-clause-light
 make-requires-clause-light c =
-    let w : SearchValue = record { part = part_of c.self.inside.parts; tree = c.self.inside.tree; watched = c.self.inside.watch } in
+    let w : SearchValue = record {
+      part = part_of c.self.inside.parts;
+      tree = c.self.inside.tree;
+      watched = c.self.inside.watch;
+    } in
     let pair : IsPairOver w c.args.edge c.paired_nodes-first.result.0 c.paired_nodes-first.result.1 =
     rw (← c.self.view_is) at c.paired_nodes-first.ensures in
-    let met : IsMetWalk (problem_of w) w.part.nodes c.paired_nodes-first.result.0 c.paired_nodes-first.result.1 c.in_ok-walk.walk =
+    let met : IsMetWalk (problem_of w) w.part.nodes c.paired_nodes-first.result.0 c.paired_nodes-first.result.1
+    c.in_ok-walk.walk =
     met_scoped w.part c.self.inside.parts.regions.scope c.self.invariant.0 c.args.edge c.paired_nodes-first.result.0
-    c.paired_nodes-first.result.1 c.in_ok-walk.walk (pair_between w c.args.edge c.paired_nodes-first.result.0 c.paired_nodes-first.result.1 pair) c.in_ok-walk.ensures in
+    c.paired_nodes-first.result.1 c.in_ok-walk.walk (pair_between w c.args.edge c.paired_nodes-first.result.0
+    c.paired_nodes-first.result.1 pair) c.in_ok-walk.ensures in
     met.walk_is.light
 
 pub close_cycle-requires : goal.close_cycle-requires
 close_cycle-requires c =
-    let w : SearchValue = record { part = part_of c.self.inside.parts; tree = c.self.inside.tree; watched = c.self.inside.watch } in
+    let w : SearchValue = record {
+      part = part_of c.self.inside.parts;
+      tree = c.self.inside.tree;
+      watched = c.self.inside.watch;
+    } in
     let pair : IsPairOver w c.args.edge c.paired_nodes-first.result.0 c.paired_nodes-first.result.1 =
     rw (← c.self.view_is) at c.paired_nodes-first.ensures in
-    let met : IsMetWalk (problem_of w) w.part.nodes c.paired_nodes-first.result.0 c.paired_nodes-first.result.1 c.in_ok-walk.walk =
+    let met : IsMetWalk (problem_of w) w.part.nodes c.paired_nodes-first.result.0 c.paired_nodes-first.result.1
+    c.in_ok-walk.walk =
     met_scoped w.part c.self.inside.parts.regions.scope c.self.invariant.0 c.args.edge c.paired_nodes-first.result.0
-    c.paired_nodes-first.result.1 c.in_ok-walk.walk (pair_between w c.args.edge c.paired_nodes-first.result.0 c.paired_nodes-first.result.1 pair) c.in_ok-walk.ensures in
-    let closes : Closes (relinked c.make.new.self w) c.paired_nodes-first.result.0 c.paired_nodes-first.result.1 c.in_ok-closing.closing =
-    link_closes w c.args.edge c.paired_nodes-first.result.0 c.paired_nodes-first.result.1 pair c.in_ok-walk.walk c.in_ok-closing.closing
+    c.paired_nodes-first.result.1 c.in_ok-walk.walk (pair_between w c.args.edge c.paired_nodes-first.result.0
+    c.paired_nodes-first.result.1 pair) c.in_ok-walk.ensures in
+    let closes : Closes (relinked c.make.new.self w) c.paired_nodes-first.result.0 c.paired_nodes-first.result.1
+    c.in_ok-closing.closing =
+    link_closes w c.args.edge c.paired_nodes-first.result.0 c.paired_nodes-first.result.1 pair c.in_ok-walk.walk
+    c.in_ok-closing.closing
     c.make.new.self c.self.invariant.1 c.in_ok-closing.ensures.ok met in
     let scope = c.self.invariant.0 in
     record {
@@ -62,7 +87,11 @@ close_cycle-requires c =
 
 pub returns : goal.returns
 returns c =
-    let w : SearchValue = record { part = part_of c.self.inside.parts; tree = c.self.inside.tree; watched = c.self.inside.watch } in
+    let w : SearchValue = record {
+      part = part_of c.self.inside.parts;
+      tree = c.self.inside.tree;
+      watched = c.self.inside.watch;
+    } in
     rw (← c.self.view_is)
     (IfOk-weaker c.close_cycle.result (GoesOn (relinked c.make.new.self w)) (GoesOn w)
     (λ after goes. goes_on_relinked w after c.make.new.self goes) c.close_cycle.ensures)
