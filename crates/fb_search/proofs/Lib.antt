@@ -31,6 +31,7 @@ pub mod Renamed
 pub mod RolesInTree
 pub mod Runs
 pub mod SearchRoles
+pub mod SearchedEach
 pub mod SteppedSearches
 pub mod TakenNames
 pub mod TakenVertices
