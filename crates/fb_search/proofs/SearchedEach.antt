@@ -1,10 +1,10 @@
 -- Searches of a part, one after another.
-use Rattle.std.proofs.Common.{ℕ, ◌≡◌, ◌==◌, ◌||◌, ◌+◌, ◌<◌, ◌⊎◌, inl, inr, Bool, true, false, not, List, [], ◌∷◌, cond, length, take, get_or, refl, sym, ap, ◌∙◌}
-use Rattle.std.proofs.lemmas.Bool.{both_ways, eq-eqb, eqb-true, false≢true}
+use Rattle.std.proofs.Common.{ℕ, ◌≡◌, ◌==◌, ◌||◌, ◌+◌, ◌<◌, Bool, true, false, not, List, [], length, take, get_or, refl, sym, ap, ◌∙◌}
+use Rattle.std.proofs.lemmas.Bool.{and_parts, both_ways, eqb-true, not-true}
 use Rattle.std.proofs.lemmas.List.{take_more}
 use Rattle.fb_graph.specs.Parity.{is_in}
 use Rattle.fb_graph.proofs.Members.{is_in_push}
-use Rattle.fb_graph.proofs.Sets.{is_in-cases}
+use Rattle.fb_graph.proofs.Sets.{equal_sym, is_in-filter}
 use Rattle.fb_laws.specs.Works.{without}
 use Rattle.fb_laws.proofs.StateMoves.{kept_without}
 use Rattle.fb_half.specs.Parts.{PartValue, problem_in}
@@ -14,21 +14,10 @@ use Rattle.fb_search.proofs.Runs.{same_problem}
 
 -- a list without a name doesn't hold it
 gone : (name : ℕ) (xs : List ℕ) (n : ℕ) → is_in (without name xs) n ≡ true → (name == n) ≡ false
-gone name [] n there = absurd (false≢true there)
-gone name (x ∷ xs) n there = by (x == name) refl there (gone name xs n)
-  where
-    by : (b : Bool) → (x == name) ≡ b → is_in (cond (not b) (x ∷ without name xs) (without name xs)) n ≡ true
-        → (is_in (without name xs) n ≡ true → (name == n) ≡ false) → (name == n) ≡ false
-    by true e h rest = rest h
-    by false e h rest = or (is_in-cases x (without name xs) n h)
-      where
-        or : (x ≡ n) ⊎ (is_in (without name xs) n ≡ true) → (name == n) ≡ false
-        or (inl same) = other (name == n) refl
-          where
-            other : (c : Bool) → (name == n) ≡ c → c ≡ false
-            other false f = refl
-            other true f = absurd (false≢true (sym e ∙ eq-eqb x name (same ∙ sym (eqb-true name n f))))
-        or (inr later) = rest later
+gone name xs n there =
+    equal_sym name n
+    ∙ not-true (n == name)
+    (and_parts (is_in xs n) (not (n == name)) (sym (is_in-filter (λ m. not (m == name)) xs n) ∙ there)).1
 
 pub none_searched : (w : PartValue) → HasSearched w [] w
 none_searched w = record {
