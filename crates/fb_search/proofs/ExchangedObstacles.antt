@@ -1,5 +1,5 @@
 -- Obstacles don't see the problem's own defects, only those of the nodes.
-use Rattle.std.proofs.Common.{ℕ, ◌≡◌, ◌+◌, ◌≤◌, Bool, List}
+use Rattle.std.proofs.Common.{ℕ, ◌+◌, Bool, List}
 use Rattle.fb_graph.specs.Problem.{Problem}
 use Rattle.fb_graph.specs.Dual.{Node}
 use Rattle.fb_graph.specs.Steps.{MayStep, Roles}

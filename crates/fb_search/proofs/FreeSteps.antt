@@ -1,10 +1,10 @@
 -- After the greatest free step an obstacle stands, and the search goes on from there.
-use Rattle.std.proofs.Common.{ℕ, ◌≡◌, ◌+◌, ◌≤◌, true, false, List, refl, sym, subst, arith}
+use Rattle.std.proofs.Common.{ℕ, ◌≡◌, ◌+◌, ◌≤◌, true, false, subst, arith}
 use Rattle.std.specs.Prelude.{IfOk, Result, Ok, Err}
 use Rattle.fb_graph.specs.Parity.{is_in}
 use Rattle.fb_graph.specs.Problem.{Problem, with_defects}
-use Rattle.fb_graph.specs.Dual.{Node, leaves}
-use Rattle.fb_graph.specs.Steps.{MayStep, Roles, stepped}
+use Rattle.fb_graph.specs.Dual.{leaves}
+use Rattle.fb_graph.specs.Steps.{Roles, stepped}
 use Rattle.fb_graph.proofs.StepLoads.{steps_add}
 use Rattle.fb_laws.specs.Trees.{roles_of}
 use Rattle.fb_laws.proofs.LoweredParts.{free_lowers}
@@ -14,7 +14,7 @@ use Rattle.fb_obstacles.specs.declared.obstacle.Obstacle.TheVariants.{Absorb, Bo
 use Rattle.fb_obstacles.specs.Obstacles.{IsFree, IsObstacle, Obstructs}
 use Rattle.fb_search.specs.declared.went.Went.{Went}
 use Rattle.fb_search.specs.declared.went.Went.TheVariants.{On, Ended}
-use Rattle.fb_search.specs.Progress.{EndsWith, GoesOn, HasAdvanced, stepped_by, to_do}
+use Rattle.fb_search.specs.Progress.{GoesOn, HasAdvanced, stepped_by, to_do}
 use Rattle.fb_search.specs.Searching.{IsSearching, SearchValue, problem_of, roles_in}
 use Rattle.fb_search.specs.Went.{HasCleared, HasWent}
 use Rattle.fb_search.proofs.ExchangedObstacles.{free_exchanged}

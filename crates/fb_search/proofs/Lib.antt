@@ -70,6 +70,7 @@ pub mod SearchRoles
 pub mod SourceSteps
 pub mod StepPairs
 pub mod StepWalks
+pub mod SearchedEach
 pub mod SteppedSearches
 pub mod TakenNames
 pub mod TakenVertices

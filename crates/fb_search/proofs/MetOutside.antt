@@ -1,8 +1,7 @@
 -- A node outside the tree that is not unmatched is matched.
-use Rattle.std.proofs.Common.{ℕ, ◌≡◌, ◌⊎◌, inl, inr, true, false, List, [], ◌∷◌, ◌++◌, refl, sym, ap, ◌∙◌, subst}
+use Rattle.std.proofs.Common.{ℕ, ◌≡◌, ◌⊎◌, inl, inr, true, false, List, [], ◌∷◌, refl, sym, ap, ◌∙◌, subst}
 use Rattle.std.proofs.lemmas.Bool.{both_ways, false≢true}
 use Rattle.fb_graph.specs.Parity.{is_in}
-use Rattle.fb_graph.specs.Dual.{cover_of}
 use Rattle.fb_graph.proofs.Sets.{is_in-cases, is_in-head, is_in-tail}
 use Rattle.fb_laws.specs.TreeCycles.{nodes_along}
 use Rattle.fb_laws.specs.Trees.{EntryOf, minus_names, plus_names}
@@ -11,7 +10,7 @@ use Rattle.fb_half.specs.declared.matches.Standing.{Standing}
 use Rattle.fb_half.specs.declared.matches.Standing.TheVariants.{Absent, Unmatched, Matched}
 use Rattle.fb_half.specs.Matchings.{listed_names, matched_names}
 use Rattle.fb_half.specs.Standings.{is_unmatched}
-use Rattle.fb_search.specs.Searching.{IsSearching, SearchValue, roles_in, unmatched_in}
+use Rattle.fb_search.specs.Searching.{IsSearching, SearchValue, unmatched_in}
 use Rattle.fb_search.specs.Meetings.{Meets}
 use Rattle.fb_search.proofs.SearchRoles.{outer_live, roles_in_tree}
 

@@ -1,10 +1,10 @@
 -- A search may ask for its next obstacle.
-use Rattle.std.proofs.Common.{ℕ, ◌≡◌, ◌<◌, true, List, [], length, refl, sym, ap, ◌∙◌, subst}
+use Rattle.std.proofs.Common.{ℕ, ◌≡◌, true, [], refl, sym, ap, ◌∙◌, subst}
 use Rattle.fb_graph.specs.Parity.{is_in}
-use Rattle.fb_graph.specs.Problem.{Problem, with_defects}
+use Rattle.fb_graph.specs.Problem.{with_defects}
 use Rattle.fb_graph.specs.Laws.{HasNoOddClosed}
 use Rattle.fb_graph.specs.Limits.{DecodingGraph}
-use Rattle.fb_graph.specs.Dual.{cover_of, is_live, leaves}
+use Rattle.fb_graph.specs.Dual.{is_live, leaves}
 use Rattle.fb_graph.specs.Steps.{Roles}
 use Rattle.fb_graph.specs.Covers.{AreRoles}
 use Rattle.fb_graph.proofs.ClosedSets.{part_has_no_odd_closed}

@@ -28,8 +28,8 @@ impl<'a> Searching<'a> {
     }
 }
 
-/// Each minus node of the tree shrinks by this length, and then each plus node grows by it. In another order it may be
-/// that an edge can't bear the growth of a node.
+/// Each minus node of the tree shrinks by this length, and then each plus node grows by it. In the other order an edge
+/// might not bear a node's growth.
 fn step_nodes<S: Scope>(regions: &mut Regions<S>, tree: &Tree, length: u64)
     requires tree { IsTreeOver (S.problem regions.old.scope) tree.now regions.old.nodes }
     requires may { MayStep (S.problem regions.old.scope) (roles_of tree.now.root tree.now.branches) regions.old.nodes length }

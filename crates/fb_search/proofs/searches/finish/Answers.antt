@@ -1,4 +1,4 @@
-use Rattle.std.proofs.Common.{◌≡◌, ◌∙◌, subst}
+use Rattle.std.proofs.Common.{◌∙◌, subst}
 use Rattle.fb_search.specs.Progress.{EndsWith, HasAdvanced}
 use Rattle.fb_search.specs.Went.{HasWent}
 use Rattle.fb_search.proofs.Runs.{ends, goes_on, rank_falls_on}

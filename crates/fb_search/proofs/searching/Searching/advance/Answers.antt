@@ -1,5 +1,4 @@
-use Rattle.std.proofs.Common.{◌≡◌}
-use Rattle.fb_search.proofs.FreeSteps.{obstructs_after, went, went_after}
+use Rattle.fb_search.proofs.FreeSteps.{obstructs_after, went_after}
 use Rattle.fb_search.proofs.searching.Searching.advance.Goals as goal
 
 pub clear-requires : goal.clear-requires

@@ -1,4 +1,4 @@
-use Rattle.std.proofs.Common.{◌≡◌, ◌∙◌}
+use Rattle.std.proofs.Common.{◌∙◌}
 use Rattle.fb_half.specs.Values.{part_of}
 use Rattle.fb_search.specs.Meetings.{Meets}
 use Rattle.fb_search.specs.Searching.{SearchValue}
