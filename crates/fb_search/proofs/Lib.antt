@@ -67,10 +67,10 @@ pub mod RoundedSearches
 pub mod Runs
 pub mod ScopeWalks
 pub mod SearchRoles
+pub mod SearchedEach
 pub mod SourceSteps
 pub mod StepPairs
 pub mod StepWalks
-pub mod SearchedEach
 pub mod SteppedSearches
 pub mod TakenNames
 pub mod TakenVertices
