@@ -1,5 +1,4 @@
 pub mod Inputs
-pub mod Solved
 pub mod Writing
 pub mod Finishing
 pub mod Gathered
