@@ -15,7 +15,6 @@ use Rattle.fb_words.specs.Words.{Decoding}
 use Rattle.fb_run.specs.Writes.{EndsReport, WritesFirstRows, WritesRows, counts_in}
 use Rattle.fb_endings.specs.declared.ending.Cause.{Cause}
 use Rattle.fb_endings.specs.declared.ending.Cause.TheVariants.{Done, Odd}
-use Rattle.fb_endings.specs.declared.ending.Refusal.TheVariants as refusal
 use Rattle.fb_run.specs.declared.report.Tally.{Tally}
 use Rattle.fb_run.specs.declared.shots.ShotsEnd.{ShotsEnd}
 use Rattle.fb_run.specs.declared.shots.ShotsEnd.TheVariants as end

@@ -1,4 +1,5 @@
 pub mod Inputs
+pub mod Solved
 pub mod Writing
 pub mod Finishing
 pub mod Gathered

@@ -6,7 +6,9 @@ ghost use Rattle.fb_graph.specs.Limits.{IsShot, problem_of};
 ghost use Rattle.fb_plan.specs.Plans.{IsPlan, single_of};
 ghost use Rattle.fb_run.specs.Rows.{IsShotRow};
 
-use fb_graph::{Components, Graph, NoMemory, Row, Shot, Steps, components, first_odd};
+use fb_graph::{
+    Components, CutList, Graph, NoMemory, NumberList, Row, Shot, Steps, components, first_odd,
+};
 use fb_plan::{Job, Plan};
 use fb_resolve::resolve;
 use fb_unit::solve_unit;
@@ -51,10 +53,24 @@ impl<'a> Solver<'a> {
         ensures row { IfOk result (IsShotRow self.old shot.now) }
         ensures same { self.new ≡ self.old }
     {
+        if shot.is_empty() {
+            return Ok(empty_row(alloc));
+        }
         if let Some(vertex) = first_odd(&mut self.parts, shot) {
             return Ok(Row::Odd(vertex));
         }
         solve_even(alloc, self.graph, &self.plan, shot)
+    }
+}
+
+/// The row of a shot without defects.
+fn empty_row(alloc: Global) -> Row
+    ensures { result ≡ Row.Best [] 0 [] }
+{
+    Row::Best {
+        edges: NumberList::from_vec(Vec::new(alloc)),
+        weight: 0,
+        cuts: CutList::from_vec(Vec::new(alloc)),
     }
 }
 

@@ -237,6 +237,7 @@ row_read (row.Odd v) n before rows more between fits lt =
           row_word (word_decimal k (omega arith), (record { space = refl; newline = refl }, (word_decimal v (omega arith), tt))) (said_odd k v lt fits)
           (between n (line.Odd k v) refl ∙ next_shot n rows k next refl);
     }
+
 -- ---- all rows, and the last line
 
 has_some : (rows : List Row) (r : Row) → has_none (rows ++ r ∷ []) ≡ false

@@ -1,6 +1,7 @@
 use Rattle.std.proofs.Common.{◌≡◌, ◌+◌, length, sym, ap, subst, ◌∙◌, refl, arith}
 use Rattle.fb_run.proofs.Writing.{IsWriting, writing_begins, writing_row, writing_moved, first_so_far, first_at_fault, all_at_end}
-use Rattle.fb_graph.specs.Limits.{IsShot}
+use Rattle.fb_graph.specs.Limits.{DecodingGraph, IsShot}
+use Rattle.fb_run.specs.Rows.{IsShotRow}
 use Rattle.fb_run.specs.Writes.{counted}
 use Rattle.fb_run.proofs.report.write_rows.Goals as goal
 use Rattle.fb_run.proofs.report.write_rows.Goals.{In-Ok}
@@ -10,7 +11,8 @@ row_at : (g : _) (c : In-Ok g) → IsWriting c.args.solver.now c.args.shots.now 
     c.add_row.new.outbox.text (c.loop-k.k + 1) (counted c.loop-k.tally c.in-Ok.row)
 row_at g c = writing_row c.args.solver.now c.args.shots.now (g.O.Sink.taken c.args.out.now) (g.O.Sink.taken c.loop-k.out) c.loop-k.outbox.text
     c.add_row.new.outbox.text c.loop-k.k c.loop-k.tally c.in-Ok.row c.index-shots-k.result c.index-shots-k.result
-    c.loop-k-test.true c.index-shots-k.is c.loop-k.invariant.0 c.in-Ok.ensures.row c.in-Ok.ensures.text
+    c.loop-k-test.true c.index-shots-k.is c.loop-k.invariant.0
+    (subst (λ (graph : DecodingGraph). IsShotRow graph c.index-shots-k.result c.in-Ok.row) c.loop-k.invariant.1 c.in-Ok.ensures.row) c.in-Ok.ensures.text
 
 pub loop-k-init : goal.loop-k-init
 loop-k-init g c = (
@@ -21,8 +23,10 @@ loop-k-init g c = (
   refl,
 )
 
-pub add_row-requires-clause-shot : goal.add_row-requires-clause-shot
-add_row-requires-clause-shot g c = subst (IsShot c.args.solver.now) (sym c.index-shots-k.is) (c.requires.shots c.loop-k.k _ c.loop-k-test.true)
+pub add_row-requires : goal.add_row-requires
+add_row-requires g c =
+    subst (λ (graph : DecodingGraph). IsShot graph c.index-shots-k.result) (sym c.loop-k.invariant.1)
+    (subst (IsShot c.args.solver.now) (sym c.index-shots-k.is) (c.requires.shots c.loop-k.k _ c.loop-k-test.true))
 
 pub returns-in_default-clause-front : goal.returns-in_default-clause-front
 returns-in_default-clause-front g c = first_so_far c.args.solver.now c.args.shots.now (g.O.Sink.taken c.args.out.now) (g.O.Sink.taken c.loop-k.out)
