@@ -14,9 +14,6 @@ import sys
 sys.dont_write_bytecode = True
 from readers import RECORDS, Refused, read_graph, read_report, read_shots
 
-# The most defects of a shot that the program solves; None where it solves any number. With a limit, a shot with more
-# defects that has a correction has the row `over`.
-MOST_DEFECTS = 1
 MOST_TRIED_EDGES = 12
 MOST_TRIED_VERTICES = 100
 
@@ -106,8 +103,6 @@ def rises(numbers):
 
 def verdict(graph, defects, row):
     """The first rule that a row breaks, else Good."""
-    if row[0] == "over":
-        return "Over"
     if row[0] == "odd":
         return "Good" if odd_component(graph, defects) == row[1] else f"OddWrong {row[1]}"
     _, edges, weight, cuts = row
@@ -165,8 +160,6 @@ def complaint(graph, defects, row, least):
     odd = odd_component(graph, defects)
     if odd is not None:
         return None if row == ["odd", odd] else f"{row} where {odd} is odd"
-    if MOST_DEFECTS is not None and len(defects) > MOST_DEFECTS:
-        return None if row == ["over"] else f"{row} where it is over"
     if row[0] != "best":
         return f"{row} where there is a correction"
     answer = verdict(graph, defects, row)
@@ -199,12 +192,7 @@ def report_complaints(graph, shots, is_whole, text):
 
 def decode_status(graph, shots):
     """The status of a run that reads its input to its end."""
-    for defects in shots:
-        if odd_component(graph, defects) is not None:
-            return 1
-        if MOST_DEFECTS is not None and len(defects) > MOST_DEFECTS:
-            return 1
-    return 0
+    return 1 if any(odd_component(graph, defects) is not None for defects in shots) else 0
 
 
 # The text of check.

@@ -300,7 +300,7 @@ def defects_of(value, graph):
 RECORDS = {"01": records_01, "b8": records_b8, "dets": records_dets, "json": records_json}
 
 
-# The report. A row is ["best", edges, weight, cuts], ["odd", vertex] or ["over"]; a cut is a value and its vertices.
+# The report. A row is ["best", edges, weight, cuts] or ["odd", vertex]; a cut is a value and its vertices.
 
 Report = namedtuple("Report", "rows odd units fusions")
 
@@ -330,7 +330,6 @@ def number_of(digits):
 
 
 SHOT = form(f"shot {NUMBER}", SMALL)
-OVER = form(f"shot {NUMBER} over", SMALL)
 ODD = form(f"shot {NUMBER} odd {NUMBER}", SMALL, SMALL)
 EDGES = form(f"edges{NUMBERS}", SMALL)
 WEIGHT = form(f"weight {NUMBER}", LARGE)
@@ -383,8 +382,8 @@ def next_place(place, line, rows):
 
 def place_after_shot(line, rows):
     """The place after a line that begins a row, or how it is wrong."""
-    shot, over, odd = SHOT(line), OVER(line), ODD(line)
-    for numbers, row in [(shot, ["best"]), (over, ["over"]), (odd, ["odd", *(odd[1] if odd else [])])]:
+    shot, odd = SHOT(line), ODD(line)
+    for numbers, row in [(shot, ["best"]), (odd, ["odd", *(odd[1] if odd else [])])]:
         if numbers:
             if numbers[0] != [len(rows)]:
                 return "WrongShot"

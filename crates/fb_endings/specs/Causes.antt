@@ -3,7 +3,7 @@ use Rattle.std.specs.Prelude.{ℕ, List, [], ◌∷◌, ◌++◌, codes, decimal
 use Rattle.fb_report.specs.Texts.{line}
 use Rattle.fb_endings.specs.Faults.{graph_name, graph_number, graph_place, kind_name, report_name, report_number, report_place}
 use Rattle.fb_endings.specs.declared.ending.Cause.{Cause}
-use Rattle.fb_endings.specs.declared.ending.Cause.TheVariants.{Done, Odd, Over, Bad, Refused, ReadFault, WriteFault, NoMemory, Usage}
+use Rattle.fb_endings.specs.declared.ending.Cause.TheVariants.{Done, Odd, Bad, Refused, ReadFault, WriteFault, NoMemory, Usage}
 use Rattle.fb_endings.specs.declared.ending.Refusal.{Refusal}
 use Rattle.fb_endings.specs.declared.ending.Refusal.TheVariants as refusal
 use Rattle.fb_words.specs.declared.usage.UsageKind.TheVariants as usage
@@ -11,7 +11,6 @@ use Rattle.fb_words.specs.declared.usage.UsageKind.TheVariants as usage
 abbrev pub status_of : Cause → ℕ
 status_of Done = 0
 status_of Odd = 1
-status_of Over = 1
 status_of (Bad count) = 1
 status_of (Refused r) = 2
 status_of ReadFault = 3
@@ -54,7 +53,6 @@ refusal_line r = line (codes "fusion:")
 abbrev pub fixed_line : Cause → List ℕ
 fixed_line Done = []
 fixed_line Odd = []
-fixed_line Over = []
 fixed_line (Bad count) = []
 fixed_line (Refused r) = []
 fixed_line ReadFault = codes "fusion: read fault\n"
@@ -68,7 +66,6 @@ fixed_line (Usage usage.TwoInputs) = codes "fusion: two names for standard input
 abbrev pub line_of : Cause → List ℕ
 line_of Done = fixed_line Done
 line_of Odd = fixed_line Odd
-line_of Over = fixed_line Over
 line_of (Bad count) = fixed_line (Bad count)
 line_of (Refused r) = refusal_line r
 line_of ReadFault = fixed_line ReadFault

@@ -27,8 +27,6 @@ pub enum Cause {
     Done,
     /// The input was read to its end, and some shot has no correction.
     Odd,
-    /// The input was read to its end, and some shot is more than this version solves.
-    Over,
     /// The input was read to its end, and so many rows are bad, or there are more or fewer than shots.
     Bad(u64),
     /// The input isn't accepted.
@@ -57,7 +55,7 @@ impl Cause {
     {
         match self {
             Cause::Done => 0,
-            Cause::Odd | Cause::Over | Cause::Bad(_) => 1,
+            Cause::Odd | Cause::Bad(_) => 1,
             Cause::Refused(_) => 2,
             Cause::ReadFault => 3,
             Cause::WriteFault => 4,

@@ -42,7 +42,7 @@ fn fixed_line(cause: Cause) -> &'static str
     ensures { result.now ≡ fixed_line cause }
 {
     match cause {
-        Cause::Done | Cause::Odd | Cause::Over | Cause::Bad(_) | Cause::Refused(_) => "",
+        Cause::Done | Cause::Odd | Cause::Bad(_) | Cause::Refused(_) => "",
         Cause::ReadFault => "fusion: read fault\n",
         Cause::WriteFault => "fusion: write fault\n",
         Cause::NoMemory => "fusion: out of memory\n",

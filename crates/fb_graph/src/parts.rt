@@ -27,6 +27,4 @@ pub enum Row {
     },
     /// The least vertex of the first component without boundary that holds an odd number of defects.
     Odd(u32),
-    /// More defects than this version solves.
-    Over,
 }

@@ -4,7 +4,7 @@ use Rattle.std.specs.Prelude.{ℕ, ◌+◌, Bool, if◌then◌else◌, List, [],
 use Rattle.std.specs.List.{concat}
 use Rattle.fb_graph.specs.declared.parts.Cut.{Cut}
 use Rattle.fb_graph.specs.declared.parts.Row.{Row}
-use Rattle.fb_graph.specs.declared.parts.Row.TheVariants.{Best, Odd, Over}
+use Rattle.fb_graph.specs.declared.parts.Row.TheVariants.{Best, Odd}
 
 -- the rest of a line after a word: the further words, each after one space, and the newline
 abbrev pub line_end : List (List ℕ) → List ℕ
@@ -23,8 +23,8 @@ head_text = line (codes "fusion-report") (codes "1" ∷ [])
 abbrev pub cut_line : Cut → List ℕ
 cut_line c = line (codes "cut") (decimal c.value ∷ map decimal c.vertices)
 
--- the row of a shot: the edges of its correction, their weight and the cuts, each in lines of its own; or one line,
--- where there is no correction or the shot was not solved
+-- the row of a shot: the edges of its correction, their weight and the cuts, each in lines of its own; or one line, if
+-- there is no correction
 unfoldable pub row_text : ℕ → Row → List ℕ
 row_text k (Best edges weight cuts) =
     line (codes "shot") (decimal k ∷ [])
@@ -32,7 +32,6 @@ row_text k (Best edges weight cuts) =
     ++ (line (codes "weight") (decimal weight ∷ [])
     ++ concat (map cut_line cuts)))
 row_text k (Odd v) = line (codes "shot") (decimal k ∷ codes "odd" ∷ decimal v ∷ [])
-row_text k Over = line (codes "shot") (decimal k ∷ codes "over" ∷ [])
 
 -- the rows of shots one after another, the first of which is shot k
 abbrev pub rows_text : ℕ → List Row → List ℕ

@@ -76,10 +76,10 @@ fn leaves_a_front_after_a_failed_put(rt: HostRuntime) -> Result<(), Fail> {
     let mut sink = MemSink::new(rt.alloc(), 128)?;
     write_trace(&mut sink, false, 0, 0, 2)?;
     write_trace(&mut sink, true, 0, 0, 2)?;
-    write_row(&mut sink, 0, &Row::Over)?;
+    write_row(&mut sink, 0, &Row::Odd(1))?;
     assert_eq!(rt;
         sink.taken(),
-        b"took 0 0 2\ngave 0 0 2\nshot 0 over\n".as_slice()
+        b"took 0 0 2\ngave 0 0 2\nshot 0 odd 1\n".as_slice()
     );
     let mut sink = MemSink::new(rt.alloc(), 128)?;
     sink.take_at_most(3);

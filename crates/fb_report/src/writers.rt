@@ -1,7 +1,7 @@
 ghost use Rattle.std.specs.Prelude.{◌≡◌, if◌then◌else◌, codes, OnOk, OnErr};
 ghost use Rattle.fb_ports.specs.Causes.{Appends, AppendsFront, HasCause};
 ghost use Rattle.fb_report.specs.Texts.{head_text, row_text, trace_line, done_text};
-ghost use Rattle.fb_graph.specs.declared.parts.Row.TheVariants.{Best, Odd, Over};
+ghost use Rattle.fb_graph.specs.declared.parts.Row.TheVariants.{Best, Odd};
 
 use crate::pieces::{put_cuts, put_line_end, put_number};
 use fb_graph::{Cut, Row};
@@ -145,20 +145,10 @@ fn put_odd<S: Sink>(sink: &mut S, shot: u32, vertex: u32) -> Result<(), Failed>
     put_parts(sink, &[b"shot ", shot, b" odd ", vertex, b"\n"])
 }
 
-/// Puts the line of a shot that was not solved.
-#[tactic(auto, unfolding(crate::specs::Texts::row_text))]
-fn put_over<S: Sink>(sink: &mut S, shot: u32) -> Result<(), Failed>
-    ensures all { OnOk result (Appends (S.taken sink.old) (S.taken sink.new) (row_text shot Over)) }
-    ensures front { OnErr result (AppendsFront (S.taken sink.old) (S.taken sink.new) (row_text shot Over)) }
-    ensures cause { HasCause (S.faults sink.old) (S.faults sink.new) result }
-{
-    put_number(sink, b"shot ", u64::from(shot), b" over\n")
-}
-
 /// Puts the row of a shot, numbered from 0. The row of a correction is the line `shot K`, the line
 /// `edges E1 E2 ..` with its edges, the line `weight W` and, for each of its cuts (Edmonds and Johnson
 /// 1973), a line `cut Y V1 V2 ..` with the cut's value and vertices. The row of a shot that has no
-/// correction, or was not solved, is the one line `shot K odd V` or `shot K over`.
+/// correction is the one line `shot K odd V`.
 pub fn write_row<S: Sink>(sink: &mut S, shot: u32, row: &Row) -> Result<(), Failed>
     ensures all { OnOk result (Appends (S.taken sink.old) (S.taken sink.new) (row_text shot row.now)) }
     ensures front { OnErr result (AppendsFront (S.taken sink.old) (S.taken sink.new) (row_text shot row.now)) }
@@ -177,6 +167,5 @@ pub fn write_row<S: Sink>(sink: &mut S, shot: u32, row: &Row) -> Result<(), Fail
             cuts.as_slice(),
         ),
         Row::Odd(vertex) => put_odd(sink, shot, *vertex),
-        Row::Over => put_over(sink, shot),
     }
 }

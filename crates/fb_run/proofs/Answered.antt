@@ -1,5 +1,5 @@
 -- How faulty words end a run.
-use Rattle.std.proofs.Common.{◌≡◌, ◌≢◌, ◌⊎◌, inl, inr, [], Result, Ok, Err, Some, refl, sym, subst}
+use Rattle.std.proofs.Common.{◌≡◌, ◌≢◌, ◌⊎◌, inl, inr, Result, Ok, Err, Some, refl, sym, subst}
 use Rattle.std.proofs.KnownBytes.{Appends-nil}
 use Rattle.fb_run.specs.Moments.{Moment}
 use Rattle.fb_run.specs.RunEndings.{EndsRight, ErrandEnds, cause_of_fault}

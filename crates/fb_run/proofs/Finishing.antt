@@ -14,8 +14,7 @@ use Rattle.fb_run.specs.Rows.{Counts, IsShotRow, counts_of}
 use Rattle.fb_words.specs.Words.{Decoding}
 use Rattle.fb_run.specs.Writes.{EndsReport, WritesFirstRows, WritesRows, counts_in}
 use Rattle.fb_endings.specs.declared.ending.Cause.{Cause}
-use Rattle.fb_endings.specs.declared.ending.Cause.TheVariants.{Done, Odd, Over}
-use Rattle.fb_endings.specs.declared.ending.Refusal.TheVariants as refusal
+use Rattle.fb_endings.specs.declared.ending.Cause.TheVariants.{Done, Odd}
 use Rattle.fb_run.specs.declared.report.Tally.{Tally}
 use Rattle.fb_run.specs.declared.shots.ShotsEnd.{ShotsEnd}
 use Rattle.fb_run.specs.declared.shots.ShotsEnd.TheVariants as end
@@ -89,12 +88,11 @@ module _ (named : Named) (errand : Decoding) (g : DecodingGraph) where
   -- by a decode of all shots
   ends_by : (left old new : Option (List ℕ)) (counts : Counts) (cause : Cause) → cause ≡ cause_of counts → WritesReport named errand g old new cause
       → RowsEnd named errand g left old new cause
-  ends_by left old new counts cause e wrote = by_over (counts.over == 0) (counts.odd == 0) e
+  ends_by left old new counts cause e wrote = by_odd (counts.odd == 0) e
     where
-      by_over : (no_over no_odd : Bool) → cause ≡ (if no_over then (if no_odd then Done else Odd) else Over) → RowsEnd named errand g left old new cause
-      by_over true true is = rw is (rw is at wrote)
-      by_over true false is = rw is (rw is at wrote)
-      by_over false no_odd is = rw is (rw is at wrote)
+      by_odd : (no_odd : Bool) → cause ≡ (if no_odd then Done else Odd) → RowsEnd named errand g left old new cause
+      by_odd true is = rw is (rw is at wrote)
+      by_odd false is = rw is (rw is at wrote)
 
   pub ends_on : (left old mid last new : Option (List ℕ)) (shots : List (List ℕ)) (ended : ShotsEnd) (count : ℕ) (tally : Tally) (cause : Cause)
       → count ≡ length shots → Appends old mid head_text → Gathers named errand.shots errand.format g left shots ended → WritesRows g shots mid last tally

@@ -1,5 +1,5 @@
 -- One read of a named file after another.
-use Rattle.std.proofs.Common.{◌≡◌, ℕ, List, [], ◌∷◌, ◌++◌, Option, Some, None, refl, sym, ap, subst, ◌∙◌, append_assoc, append-nil, length-append, arith, lit<}
+use Rattle.std.proofs.Common.{◌≡◌, ℕ, List, [], ◌∷◌, ◌++◌, Option, Some, None, refl, sym, ap, subst, ◌∙◌, append-nil, length-append, arith, lit<}
 use Rattle.fb_ports.specs.Causes.{TellsMore, HasRoom, IsEmptyIfTold}
 use Rattle.fb_run.specs.Judging.{Asks, AsksFront}
 

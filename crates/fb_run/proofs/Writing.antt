@@ -7,13 +7,13 @@ use Rattle.std.proofs.lemmas.List.Sums.{sum_by_push}
 use Rattle.std.proofs.lemmas.Slice.Zip.{AllZip-long}
 use Rattle.fb_graph.specs.Limits.{DecodingGraph}
 use Rattle.fb_graph.specs.declared.parts.Row.{Row}
-use Rattle.fb_graph.specs.declared.parts.Row.TheVariants.{Best, Odd, Over}
+use Rattle.fb_graph.specs.declared.parts.Row.TheVariants.{Best, Odd}
 use Rattle.fb_ports.specs.Causes.{Appends, AppendsFront}
 use Rattle.fb_ports.proofs.Onward.{front_second}
 use Rattle.fb_report.specs.Texts.{row_text, rows_text}
 use Rattle.fb_report.proofs.Rows.{rows_text-push}
 use Rattle.fb_run.specs.Decoding.{Moves}
-use Rattle.fb_run.specs.Rows.{AreRows, Counts, IsShotRow, counts_of, is_best, is_odd, is_over}
+use Rattle.fb_run.specs.Rows.{AreRows, Counts, IsShotRow, counts_of, is_best, is_odd}
 use Rattle.fb_run.specs.Writes.{WritesFirstRows, WritesRows, counted, counts_in}
 use Rattle.fb_run.specs.declared.report.Tally.{Tally}
 
@@ -23,7 +23,7 @@ pub record IsWriting (g : DecodingGraph) (shots : List (List ℕ)) (start now : 
   pub rows : List Row
   pub answers : AreRows g (take count shots) rows
   pub counts : counts_in tally ≡ counts_of rows
-  pub few : (tally.best + tally.odd) + tally.over ≡ count
+  pub few : tally.best + tally.odd ≡ count
   pub flushed : List ℕ
   pub appended : Appends start now flushed
   pub text : flushed ++ pending ≡ rows_text 0 rows
@@ -44,35 +44,30 @@ abbrev counts_more : Counts → Row → Counts
 counts_more counts r = record {
   best = counts.best + cond (is_best r) 1 0;
   odd = counts.odd + cond (is_odd r) 1 0;
-  over = counts.over + cond (is_over r) 1 0;
 }
 
-same_counts : (a b c d e f : ℕ) → a ≡ d → b ≡ e → c ≡ f
-    → ◌≡◌ {A = Counts} (record { best = a; odd = b; over = c }) (record { best = d; odd = e; over = f })
-same_counts a b c d e f p q r = cc
+same_counts : (a b c d : ℕ) → a ≡ c → b ≡ d → ◌≡◌ {A = Counts} (record { best = a; odd = b }) (record { best = c; odd = d })
+same_counts a b c d p q = cc
 
 counts-push : (rows : List Row) (r : Row) → counts_of (rows ++ r ∷ []) ≡ counts_more (counts_of rows) r
-counts-push rows r = same_counts _ _ _ _ _ _ (count-push is_best rows r) (count-push is_odd rows r) (count-push is_over rows r)
+counts-push rows r = same_counts _ _ _ _ (count-push is_best rows r) (count-push is_odd rows r)
 
 counts-counted : (t : Tally) (r : Row) → counts_in (counted t r) ≡ counts_more (counts_in t) r
-counts-counted t (Best edges weight cuts) = same_counts _ _ _ _ _ _ refl (omega arith) (omega arith)
-counts-counted t (Odd v) = same_counts _ _ _ _ _ _ (omega arith) refl (omega arith)
-counts-counted t Over = same_counts _ _ _ _ _ _ (omega arith) (omega arith) refl
+counts-counted t (Best edges weight cuts) = same_counts _ _ _ _ refl (omega arith)
+counts-counted t (Odd v) = same_counts _ _ _ _ (omega arith) refl
 
-few_counted : (t : Tally) (r : Row) (count : ℕ) → (t.best + t.odd) + t.over ≡ count
-    → ((counted t r).best + (counted t r).odd) + (counted t r).over ≡ count + 1
+few_counted : (t : Tally) (r : Row) (count : ℕ) → t.best + t.odd ≡ count → (counted t r).best + (counted t r).odd ≡ count + 1
 few_counted t (Best edges weight cuts) count e = omega (arith, e)
 few_counted t (Odd v) count e = omega (arith, e)
-few_counted t Over count e = omega (arith, e)
 
 module _ (g : DecodingGraph) (shots : List (List ℕ)) (start : Option (List ℕ)) where
-  pub writing_begins : (t : Tally) → t.best ≡ 0 → t.odd ≡ 0 → t.over ≡ 0 → IsWriting g shots start start [] 0 t
-  writing_begins t best odd over = record {
+  pub writing_begins : (t : Tally) → t.best ≡ 0 → t.odd ≡ 0 → IsWriting g shots start start [] 0 t
+  writing_begins t best odd = record {
     within = omega arith;
     rows = [];
     answers = tt;
-    counts = same_counts _ _ _ _ _ _ best odd over;
-    few = omega (arith, best, odd, over);
+    counts = same_counts _ _ _ _ best odd;
+    few = omega (arith, best, odd);
     flushed = [];
     appended = Appends-nil start;
     text = refl;

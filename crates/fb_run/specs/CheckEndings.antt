@@ -16,7 +16,7 @@ use Rattle.fb_run.specs.Judging.{Asks, HasShots, Holds, IsGraphText, IsReadInPar
 use Rattle.fb_run.specs.Moments.{EndsAtFile, EndsInText, Moment, ReadsFile}
 use Rattle.fb_words.specs.Words.{Checking}
 use Rattle.fb_endings.specs.declared.ending.Cause.{Cause}
-use Rattle.fb_endings.specs.declared.ending.Cause.TheVariants.{Done, Odd, Over, Bad, Refused, ReadFault, WriteFault, NoMemory, Usage}
+use Rattle.fb_endings.specs.declared.ending.Cause.TheVariants.{Done, Odd, Bad, Refused, ReadFault, WriteFault, NoMemory, Usage}
 use Rattle.fb_endings.specs.declared.ending.Refusal.{Refusal}
 use Rattle.fb_endings.specs.declared.ending.Refusal.TheVariants as refusal
 
@@ -79,7 +79,6 @@ LinesEnd named errand g rows left old new ReadFault =
 LinesEnd named errand g rows left old new WriteFault = ChecksFront named errand g rows old new
 LinesEnd named errand g rows left old new NoMemory = ChecksFront named errand g rows old new
 LinesEnd named errand g rows left old new Odd = ⊥
-LinesEnd named errand g rows left old new Over = ⊥
 LinesEnd named errand g rows left old new (Usage kind) = ⊥
 
 -- the shots were asked for, and the check ended so: for want of memory only if no read failed

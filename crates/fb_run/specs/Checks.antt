@@ -8,7 +8,7 @@ use Rattle.fb_endings.specs.declared.ending.Cause.{Cause}
 use Rattle.fb_endings.specs.declared.ending.Cause.TheVariants.{Bad, Done}
 use Rattle.fb_verify.specs.Verdicts.{IsVerdict}
 use Rattle.fb_verify.specs.declared.verdicts.Verdict.{Verdict}
-use Rattle.fb_verify.specs.declared.verdicts.Verdict.TheVariants.{Good, EdgeOutOfRange, EdgesNotRising, WrongParity, WeightNotSum, CutEmpty, VertexOutOfRange, CutsNotRising, CutHoldsVirtual, CutEven, Overloaded, SumDiffers, OddWrong, Over}
+use Rattle.fb_verify.specs.declared.verdicts.Verdict.TheVariants.{Good, EdgeOutOfRange, EdgesNotRising, WrongParity, WeightNotSum, CutEmpty, VertexOutOfRange, CutsNotRising, CutHoldsVirtual, CutEven, Overloaded, SumDiffers, OddWrong}
 
 -- what a verdict is called
 abbrev pub verdict_name : Verdict → List ℕ
@@ -25,7 +25,6 @@ verdict_name (CutEven j) = codes "bad CutEven"
 verdict_name (Overloaded e) = codes "bad Overloaded"
 verdict_name (SumDiffers weight sum) = codes "bad SumDiffers"
 verdict_name (OddWrong v) = codes "bad OddWrong"
-verdict_name Over = codes "bad Over"
 
 -- the numbers that a verdict tells
 abbrev pub verdict_numbers : Verdict → List ℕ
@@ -42,7 +41,6 @@ verdict_numbers (CutEven j) = j ∷ []
 verdict_numbers (Overloaded e) = e ∷ []
 verdict_numbers (SumDiffers weight sum) = weight ∷ sum ∷ []
 verdict_numbers (OddWrong v) = v ∷ []
-verdict_numbers Over = []
 
 abbrev pub is_bad : Verdict → Bool
 is_bad Good = false
@@ -58,7 +56,6 @@ is_bad (CutEven j) = true
 is_bad (Overloaded e) = true
 is_bad (SumDiffers weight sum) = true
 is_bad (OddWrong v) = true
-is_bad Over = true
 
 abbrev pub bad_count : List Verdict → ℕ
 bad_count verdicts = count_by is_bad verdicts

@@ -5,7 +5,7 @@ use Rattle.fb_ports.specs.Causes.{Appends}
 use Rattle.fb_report.specs.Texts.{head_text, rows_text, done_text}
 use Rattle.fb_run.specs.Rows.{Counts, counts_of}
 use Rattle.fb_endings.specs.declared.ending.Cause.{Cause}
-use Rattle.fb_endings.specs.declared.ending.Cause.TheVariants.{Done, Odd, Over}
+use Rattle.fb_endings.specs.declared.ending.Cause.TheVariants.{Done, Odd}
 
 -- the last line after so many rows: it counts one unit for each correction
 abbrev pub last_line : ℕ → Counts → List ℕ
@@ -21,7 +21,7 @@ report_text rows = report_front rows ++ last_line (length rows) (counts_of rows)
 
 -- how a decode of all shots ends
 abbrev pub cause_of : Counts → Cause
-cause_of counts = if counts.over == 0 then (if counts.odd == 0 then Done else Odd) else Over
+cause_of counts = if counts.odd == 0 then Done else Odd
 
 -- the front of a text that waits has been written
 abbrev pub Moves : Option (List ℕ) → Option (List ℕ) → List ℕ → List ℕ → Type 0

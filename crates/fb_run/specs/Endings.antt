@@ -12,7 +12,7 @@ use Rattle.fb_run.specs.Moments.{EndsAtFile, EndsInText, Moment, ReadsFile}
 use Rattle.fb_run.specs.Rows.{AreRows, counts_of}
 use Rattle.fb_words.specs.Words.{Decoding}
 use Rattle.fb_endings.specs.declared.ending.Cause.{Cause}
-use Rattle.fb_endings.specs.declared.ending.Cause.TheVariants.{Done, Odd, Over, Bad, Refused, ReadFault, WriteFault, NoMemory, Usage}
+use Rattle.fb_endings.specs.declared.ending.Cause.TheVariants.{Done, Odd, Bad, Refused, ReadFault, WriteFault, NoMemory, Usage}
 use Rattle.fb_endings.specs.declared.ending.Refusal.{Refusal}
 use Rattle.fb_endings.specs.declared.ending.Refusal.TheVariants as refusal
 
@@ -59,7 +59,6 @@ pub record WritesFront (named : Named) (errand : Decoding) (g : DecodingGraph) (
 abbrev pub RowsEnd : Named → Decoding → DecodingGraph → Option (List ℕ) → Option (List ℕ) → Option (List ℕ) → Cause → Type 0
 RowsEnd named errand g left old new Done = WritesReport named errand g old new Done
 RowsEnd named errand g left old new Odd = WritesReport named errand g old new Odd
-RowsEnd named errand g left old new Over = WritesReport named errand g old new Over
 RowsEnd named errand g left old new (Bad count) = ⊥
 RowsEnd named errand g left old new (Refused (refusal.Graph fault)) = ⊥
 RowsEnd named errand g left old new (Refused (refusal.Report fault)) = ⊥
@@ -102,7 +101,6 @@ DecodeEnds errand before after cause =
 abbrev pub IsReadToItsEnd : Cause → Type 0
 IsReadToItsEnd Done = ⊤
 IsReadToItsEnd Odd = ⊤
-IsReadToItsEnd Over = ⊤
 IsReadToItsEnd (Bad count) = ⊤
 IsReadToItsEnd (Refused r) = ⊥
 IsReadToItsEnd ReadFault = ⊥
@@ -117,7 +115,6 @@ MayFollowReadFault WriteFault = ⊤
 MayFollowReadFault NoMemory = ⊤
 MayFollowReadFault Done = ⊥
 MayFollowReadFault Odd = ⊥
-MayFollowReadFault Over = ⊥
 MayFollowReadFault (Bad count) = ⊥
 MayFollowReadFault (Refused r) = ⊥
 MayFollowReadFault (Usage kind) = ⊥

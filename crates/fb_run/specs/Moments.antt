@@ -3,7 +3,7 @@ use Rattle.std.specs.Prelude.{ℕ, ◌≡◌, ◌⊎◌, List, [], ◌∷◌, Op
 use Rattle.fb_ports.specs.Causes.{Appends, AppendsFront, Rose}
 use Rattle.fb_run.specs.Judging.{Asks, AsksFront, Holds, Named}
 use Rattle.fb_endings.specs.declared.ending.Cause.{Cause}
-use Rattle.fb_endings.specs.declared.ending.Cause.TheVariants.{Done, Odd, Over, Bad, Refused, ReadFault, WriteFault, NoMemory, Usage}
+use Rattle.fb_endings.specs.declared.ending.Cause.TheVariants.{Done, Odd, Bad, Refused, ReadFault, WriteFault, NoMemory, Usage}
 use Rattle.fb_endings.specs.declared.ending.Refusal.{Refusal}
 
 -- The bytes of files by their names, what is left of the current one, the names asked for so far, the count of the
@@ -40,7 +40,6 @@ EndsAtFile IsReason name before after NoMemory =
     × Appends before.written after.written []
 EndsAtFile IsReason name before after Done = ⊥
 EndsAtFile IsReason name before after Odd = ⊥
-EndsAtFile IsReason name before after Over = ⊥
 EndsAtFile IsReason name before after (Bad count) = ⊥
 EndsAtFile IsReason name before after WriteFault = ⊥
 EndsAtFile IsReason name before after (Usage kind) = ⊥

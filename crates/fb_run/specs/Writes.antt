@@ -15,13 +15,12 @@ use Rattle.fb_run.specs.declared.shots.ShotsEnd.{ShotsEnd}
 use Rattle.fb_run.specs.declared.shots.ShotsEnd.TheVariants as end
 
 abbrev pub counts_in : Tally → Counts
-counts_in t = record { best = t.best; odd = t.odd; over = t.over }
+counts_in t = record { best = t.best; odd = t.odd }
 
 -- one row more
 abbrev pub counted : Tally → Row → Tally
 counted t (row.Best edges weight cuts) = record t { best = t.best + 1 }
 counted t (row.Odd v) = record t { odd = t.odd + 1 }
-counted t row.Over = record t { over = t.over + 1 }
 
 -- the rows of the shots were written, and counted so
 pub record WritesRows (g : DecodingGraph) (shots : List (List ℕ)) (old new : Option (List ℕ)) (tally : Tally) : Type 0 where

@@ -150,7 +150,6 @@ fn verdict_name(verdict: Verdict) -> &'static str
         Verdict::Overloaded(_) => "bad Overloaded",
         Verdict::SumDiffers(_, _) => "bad SumDiffers",
         Verdict::OddWrong(_) => "bad OddWrong",
-        Verdict::Over => "bad Over",
     }
 }
 
@@ -158,7 +157,7 @@ fn verdict_numbers(verdict: Verdict) -> Numbers
     ensures { numbers_in result ≡ verdict_numbers verdict }
 {
     match verdict {
-        Verdict::Good | Verdict::Over => Numbers::Nothing,
+        Verdict::Good => Numbers::Nothing,
         Verdict::EdgeOutOfRange(e) => Numbers::One(u64::from(e)),
         Verdict::EdgesNotRising(e) => Numbers::One(u64::from(e)),
         Verdict::WrongParity(v) => Numbers::One(u64::from(v)),

@@ -9,19 +9,18 @@ ghost use Rattle.fb_run.specs.Rows.{IsShotRow};
 ghost use Rattle.fb_run.specs.Writes.{counted, counts_in, WritesRows, WritesFirstRows};
 
 use crate::outbox::Outbox;
-use crate::solving::solve_shot;
+use crate::solving::Solver;
 use fb_endings::Cause;
-use fb_graph::{Components, Graph, NoMemory, Row, Shot};
+use fb_graph::{NoMemory, Row, Shot};
 use fb_ports::Sink;
 use fb_report::write_row;
 use std::alloc::Global;
 
-/// How many rows are corrections, odd and over.
+/// How many rows are corrections, and how many are odd.
 #[derive(Clone, Copy, Debug, PartialEq, Eq)]
 pub struct Tally {
     pub best: u64,
     pub odd: u64,
-    pub over: u64,
 }
 
 /// Why rows were not written.
@@ -36,9 +35,7 @@ impl Tally {
     pub fn cause(self) -> Cause
         ensures { result ≡ cause_of (counts_in self) }
     {
-        if self.over > 0 {
-            Cause::Over
-        } else if self.odd > 0 {
+        if self.odd > 0 {
             Cause::Odd
         } else {
             Cause::Done
@@ -49,7 +46,6 @@ impl Tally {
     fn counted(self, row: &Row) -> Tally
         requires best { self.best < 2 ^ 32 }
         requires odd { self.odd < 2 ^ 32 }
-        requires over { self.over < 2 ^ 32 }
         ensures { result ≡ counted self row.now }
     {
         match row {
@@ -61,30 +57,24 @@ impl Tally {
                 odd: self.odd + 1,
                 ..self
             },
-            Row::Over => Tally {
-                over: self.over + 1,
-                ..self
-            },
         }
     }
 }
 
-/// Adds the row of a shot to the outbox, and answers it.
+/// Adds the row of a shot to the outbox, and returns it.
 fn add_row(
     alloc: Global,
-    graph: &Graph,
-    parts: &mut Components,
+    solver: &mut Solver,
     k: u32,
     shot: &Shot,
     outbox: &mut Outbox,
 ) -> Result<Row, NoMemory>
-    requires parts { parts.old ≡ graph.now }
-    requires shot { IsShot graph.now shot.now }
-    ensures row { IfOk result (IsShotRow graph.now shot.now) }
+    requires { IsShot solver.old shot.now }
+    ensures row { IfOk result (IsShotRow solver.old shot.now) }
     ensures text { IfOk result (λ row. outbox.new.text ≡ outbox.old.text ++ row_text k row) }
-    ensures same { parts.new ≡ parts.old }
+    ensures same { solver.new ≡ solver.old }
 {
-    let row = solve_shot(alloc, graph, parts, shot)?;
+    let row = solver.solve(alloc, shot)?;
     let Ok(()) = write_row(outbox, k, &row) else {
         return Err(NoMemory);
     };
@@ -94,28 +84,22 @@ fn add_row(
 /// Writes the rows of the shots.
 pub fn write_rows<O: Sink>(
     alloc: Global,
-    graph: &Graph,
-    parts: &mut Components,
+    solver: &mut Solver,
     shots: &[Shot],
     out: &mut O,
 ) -> Result<Tally, RowsFault>
-    requires parts { parts.old ≡ graph.now }
-    requires shots { All (IsShot graph.now) shots.now }
+    requires shots { All (IsShot solver.old) shots.now }
     requires few { length shots.now < 2 ^ 32 }
-    ensures rows { IfOk result (WritesRows graph.now shots.now (O.taken out.old) (O.taken out.new)) }
-    ensures front { OnErr result (WritesFirstRows graph.now shots.now (O.taken out.old) (O.taken out.new)) }
+    ensures rows { IfOk result (WritesRows solver.old shots.now (O.taken out.old) (O.taken out.new)) }
+    ensures front { OnErr result (WritesFirstRows solver.old shots.now (O.taken out.old) (O.taken out.new)) }
     ensures fault { result ≡ Err RowsFault.WriteFault → Rose (O.faults out.old) (O.faults out.new) }
     ensures later { O.faults out.old ≤ O.faults out.new }
     ensures calm { result ≢ Err RowsFault.WriteFault → O.faults out.new ≡ O.faults out.old }
 {
     let mut outbox = Outbox::new(alloc);
-    let mut tally = Tally {
-        best: 0,
-        odd: 0,
-        over: 0,
-    };
+    let mut tally = Tally { best: 0, odd: 0 };
     for (k, shot) in shots.iter().enumerate() {
-        let Ok(row) = add_row(alloc, graph, parts, k as u32, shot, &mut outbox) else {
+        let Ok(row) = add_row(alloc, solver, k as u32, shot, &mut outbox) else {
             return Err(RowsFault::NoMemory);
         };
         tally = tally.counted(&row);

@@ -16,8 +16,9 @@ use crate::checking::check;
 use crate::graphs::{NoGraph, read_graph_file};
 use crate::report::{RowsFault, Tally, write_rows};
 use crate::shots::{ShotsEnd, read_shots};
+use crate::solving::Solver;
 use fb_endings::{Cause, Ended, Refusal, say};
-use fb_graph::{Graph, components};
+use fb_graph::Graph;
 use fb_ports::{Files, Sink, put_all};
 use fb_report::{write_done, write_head};
 use fb_words::{Decoding, Errand, UsageKind, WordsFault, read_words};
@@ -184,7 +185,7 @@ fn decode_on<F: Files, O: Sink>(
     ensures write_later { O.faults out.old ≤ O.faults out.new }
     ensures write_calm { result ≢ Cause.WriteFault → O.faults out.new ≡ O.faults out.old }
 {
-    let Ok(mut parts) = components(alloc, graph) else {
+    let Ok(mut solver) = Solver::new(alloc, graph) else {
         return Cause::NoMemory;
     };
     let Ok(()) = write_head(out) else {
@@ -200,7 +201,7 @@ fn decode_on<F: Files, O: Sink>(
         return Cause::NoMemory;
     };
     let shots = gathered.shots.as_slice();
-    match write_rows(alloc, graph, &mut parts, shots, out) {
+    match write_rows(alloc, &mut solver, shots, out) {
         Ok(tally) => end_report(gathered.end, shots.len() as u64, tally, out),
         Err(RowsFault::WriteFault) => Cause::WriteFault,
         Err(RowsFault::NoMemory) => Cause::NoMemory,

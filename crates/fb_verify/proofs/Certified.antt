@@ -16,7 +16,7 @@ use Rattle.fb_graph.specs.Parity.{differ, is_in, is_odd_count}
 use Rattle.fb_graph.specs.Problem.{Problem, Flips, edge_at, no_edge, touches, weight_of}
 use Rattle.fb_graph.specs.declared.parts.Cut.{Cut}
 use Rattle.fb_graph.specs.declared.parts.Row.{Row}
-use Rattle.fb_graph.specs.declared.parts.Row.TheVariants.{Best, Odd, Over as OverRow}
+use Rattle.fb_graph.specs.declared.parts.Row.TheVariants.{Best, Odd}
 use Rattle.fb_graph.proofs.Duality.{least_weight}
 use Rattle.fb_graph.proofs.OddComponents.{best_has_no_odd, no_correction}
 use Rattle.fb_graph.proofs.ParitySums.{differ_self, same_from_differ, and-false}
@@ -201,7 +201,6 @@ right-from_good g defects (Best edges weight cuts) v positive is good =
     (best_has_no_odd (problem_of g defects) edges weight cuts best, best)
 right-from_good g defects (Odd u) v positive (inl (first, is)) good = first
 right-from_good g defects (Odd u) v positive (inr (other, is)) good = cc
-right-from_good g defects OverRow v positive is good = cc
 
 pub good-from_right : (g : DecodingGraph) (defects : List ℕ) (row : Row) (v : Verdict) → IsVerdict g defects row v
     → IsRight (problem_of g defects) row → v ≡ Good
@@ -209,12 +208,10 @@ good-from_right g defects (Best edges weight cuts) v is right =
     is ∙ ap (λ o. unwrap_or o Good) (none-from_best g defects edges weight cuts right.1)
 good-from_right g defects (Odd u) v (inl (first, is)) right = is
 good-from_right g defects (Odd u) v (inr (other, is)) right = absurd (other right)
-good-from_right g defects OverRow v is right = absurd right
 
 pub least-from_right : (p : Problem) (row : Row) → IsRight p row → IsLeastWeight p row
 least-from_right p (Best edges weight cuts) right = least_weight p edges weight cuts right.1
 least-from_right p (Odd v) right = λ other set flips. no_correction p v right.0 other set.within flips
-least-from_right p OverRow right = tt
 
 pub some_same : (u v : ℕ) → Some u ≡ Some v → u ≡ v
 some_same u v e = ap (λ o. unwrap_or o 0) e

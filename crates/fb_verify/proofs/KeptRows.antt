@@ -54,8 +54,7 @@ kind_positive : (k : ℕ) (words : List (List ℕ)) → IfSome (row_kind k words
 unfolding row_kind
 kind_positive k [] = tt
 kind_positive k (w ∷ ws) =
-    if_both IsPositive (bytes_eq w (codes "over")) _ _ (ended (line.Over k) ws tt)
-    (if_both IsPositive (bytes_eq w (codes "odd")) _ None (numbered (2 ^ 32) ws _ (λ v rest. ended (line.Odd k v) rest tt)) tt)
+    if_both IsPositive (bytes_eq w (codes "odd")) _ None (numbered (2 ^ 32) ws _ (λ v rest. ended (line.Odd k v) rest tt)) tt
 
 cut_positive : (value : ℕ) (vertices : List ℕ) → IfSome (cut_of value vertices) IsPositive
 cut_positive value vertices = elim (cases_eq value 0) [
@@ -136,8 +135,6 @@ kept_end : (count n : ℕ) (rows : List Row) (said : Line) → All HasPositiveVa
 kept_end count n rows (line.Shot k) positive few = kept_next (count + 1) n rows k (reading rows place.InRow) (kept_same count rows place.InRow refl positive few)
 kept_end count n rows (line.Odd k v) positive few =
     kept_next (count + 1) n rows k (reading (rows ++ row.Odd v ∷ []) place.Between) (kept_pushed count rows (row.Odd v) tt positive few)
-kept_end count n rows (line.Over k) positive few =
-    kept_next (count + 1) n rows k (reading (rows ++ row.Over ∷ []) place.Between) (kept_pushed count rows row.Over tt positive few)
 kept_end count n rows line.Trace positive few =
     kept_if (count + 1) (has_none rows) (Err (BadLine n)) (Ok (reading rows place.Between)) tt (kept_same count rows place.Between refl positive few)
 kept_end count n rows (line.Done totals) positive few =

@@ -36,10 +36,6 @@ said_odd k v lt less =
     with_first (2 ^ 32) k (codes "odd" ∷ decimal v ∷ []) row_kind lt (omega arith)
     ∙ with_first (2 ^ 32) v [] (λ v. at_end (line.Odd k v)) less (omega arith)
 
-said_over : (k : ℕ) → k < 2 ^ 32 → line_of (codes "shot" ∷ decimal k ∷ codes "over" ∷ []) ≡ Some (line.Over k)
-unfolding line_of shot_line row_kind
-said_over k lt = with_first (2 ^ 32) k (codes "over" ∷ []) row_kind lt (omega arith)
-
 said_edges : (edges : List ℕ) → All (λ k. k < 2 ^ 32) edges → line_of (codes "edges" ∷ map decimal edges) ≡ Some (line.Edges edges)
 unfolding line_of edges_line
 said_edges edges lt = ap (option_map line.Edges) (all_numbers-decimal edges lt)
@@ -194,10 +190,6 @@ odd-line : (k v : ℕ) → row_text k (row.Odd v) ≡ line (codes "shot") (decim
 unfolding row_text
 odd-line k v = refl
 
-over-line : (k : ℕ) → row_text k row.Over ≡ line (codes "shot") (decimal k ∷ codes "over" ∷ [])
-unfolding row_text
-over-line k = refl
-
 -- the lines of a correction before those of its cuts
 best-lines : (k : ℕ) (edges : List ℕ) (weight : ℕ) (cuts : List Cut) (more : List ℕ) → row_text k (row.Best edges weight cuts) ++ more
     ≡ line (codes "shot") (decimal k ∷ []) ++ (line (codes "edges") (map decimal edges)
@@ -244,18 +236,6 @@ row_read (row.Odd v) n before rows more between fits lt =
           ∙ taken n before next (codes "shot") (decimal k ∷ codes "odd" ∷ decimal v ∷ []) (line.Odd k v) more
           row_word (word_decimal k (omega arith), (record { space = refl; newline = refl }, (word_decimal v (omega arith), tt))) (said_odd k v lt fits)
           (between n (line.Odd k v) refl ∙ next_shot n rows k next refl);
-    }
-row_read row.Over n before rows more between fits lt =
-    let k = length rows in
-    let next = reading (rows ++ row.Over ∷ []) place.Between in
-    record {
-      line_number = n + 1;
-      next = next;
-      between = between_rows (rows ++ row.Over ∷ []);
-      same = ap (λ (l : List ℕ). read_from n before (lines_in (l ++ more))) (over-line k)
-          ∙ taken n before next (codes "shot") (decimal k ∷ codes "over" ∷ []) (line.Over k) more
-          row_word (word_decimal k (omega arith), (record { space = refl; newline = refl }, tt)) (said_over k lt)
-          (between n (line.Over k) refl ∙ next_shot n rows k next refl);
     }
 
 -- ---- all rows, and the last line

@@ -1,9 +1,9 @@
 -- What a printed report gives to its reader.
-use Rattle.std.specs.Prelude.{ℕ, ◌≡◌, ◌+◌, ◌<◌, ◌≤◌, ◌^◌, Bool, ⊤, All, List, [], ◌∷◌, ◌++◌, length, map, count_by, Ok}
+use Rattle.std.specs.Prelude.{ℕ, ◌≡◌, ◌+◌, ◌<◌, ◌≤◌, ◌^◌, Bool, All, List, [], ◌∷◌, ◌++◌, length, map, count_by, Ok}
 use Rattle.std.specs.List.{concat}
 use Rattle.fb_graph.specs.declared.parts.Cut.{Cut}
 use Rattle.fb_graph.specs.declared.parts.Row.{Row}
-use Rattle.fb_graph.specs.declared.parts.Row.TheVariants.{Best, Odd, Over}
+use Rattle.fb_graph.specs.declared.parts.Row.TheVariants.{Best, Odd}
 use Rattle.fb_report.specs.Texts.{head_text, row_text, rows_text, trace_line, done_text}
 use Rattle.fb_verify.specs.declared.reports.Report.{Report}
 use Rattle.fb_verify.specs.Reports.{is_odd, most_bytes, report_of_text}
@@ -51,7 +51,6 @@ pub record IsCutInRange (c : Cut) : Type 0 where
 abbrev pub IsRowInRange : Row → Type 0
 IsRowInRange (Best edges weight cuts) = All (λ k. k < 2 ^ 32) edges × (weight < 2 ^ 64) × All IsCutInRange cuts
 IsRowInRange (Odd v) = v < 2 ^ 32
-IsRowInRange Over = ⊤
 
 pub record IsEventInRange (e : Event) : Type 0 where
   pub worker : e.worker < 2 ^ 32

@@ -78,12 +78,10 @@ at_end said (w ∷ ws) = None
 unfoldable pub head_line : List (List ℕ) → Option Line
 head_line words = with_word (codes "1") words (at_end line.Head)
 
--- shot K, shot K over or shot K odd V: what follows the number
+-- shot K or shot K odd V: what follows the number
 unfoldable pub row_kind : ℕ → List (List ℕ) → Option Line
 row_kind k [] = Some (line.Shot k)
-row_kind k (w ∷ ws) =
-    if bytes_eq w (codes "over") then at_end (line.Over k) ws
-    else (if bytes_eq w (codes "odd") then with_number (2 ^ 32) ws (λ v. at_end (line.Odd k v)) else None)
+row_kind k (w ∷ ws) = if bytes_eq w (codes "odd") then with_number (2 ^ 32) ws (λ v. at_end (line.Odd k v)) else None
 
 unfoldable pub shot_line : List (List ℕ) → Option Line
 shot_line words = with_number (2 ^ 32) words row_kind
@@ -138,7 +136,6 @@ line_of (w ∷ ws) =
 abbrev pub is_odd : Row → Bool
 is_odd (row.Best edges weight cuts) = false
 is_odd (row.Odd v) = true
-is_odd row.Over = false
 
 abbrev pub has_none : List Row → Bool
 has_none [] = true
@@ -156,7 +153,6 @@ as_next n rows k next = if k == length rows then Ok next else Err (WrongShot n)
 abbrev pub at_row_end : ℕ → List Row → Line → Result Reading ReportFault
 at_row_end n rows (line.Shot k) = as_next n rows k (reading rows place.InRow)
 at_row_end n rows (line.Odd k v) = as_next n rows k (reading (rows ++ row.Odd v ∷ []) place.Between)
-at_row_end n rows (line.Over k) = as_next n rows k (reading (rows ++ row.Over ∷ []) place.Between)
 at_row_end n rows line.Trace = if has_none rows then Err (BadLine n) else Ok (reading rows place.Between)
 at_row_end n rows (line.Done totals) =
     if totals.rows == length rows && totals.odd == count_by is_odd rows then Ok (reading rows (place.End totals))

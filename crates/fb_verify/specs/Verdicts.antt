@@ -12,9 +12,9 @@ use Rattle.fb_graph.specs.Components.{IsFirstOdd}
 use Rattle.fb_graph.specs.Limits.{DecodingGraph, is_real_in, problem_of}
 use Rattle.fb_graph.specs.declared.parts.Cut.{Cut}
 use Rattle.fb_graph.specs.declared.parts.Row.{Row}
-use Rattle.fb_graph.specs.declared.parts.Row.TheVariants.{Best, Odd, Over as OverRow}
+use Rattle.fb_graph.specs.declared.parts.Row.TheVariants.{Best, Odd}
 use Rattle.fb_verify.specs.declared.verdicts.Verdict.{Verdict}
-use Rattle.fb_verify.specs.declared.verdicts.Verdict.TheVariants.{Good, EdgeOutOfRange, EdgesNotRising, WrongParity, WeightNotSum, CutEmpty, VertexOutOfRange, CutsNotRising, CutHoldsVirtual, CutEven, Overloaded, SumDiffers, OddWrong, Over}
+use Rattle.fb_verify.specs.declared.verdicts.Verdict.TheVariants.{Good, EdgeOutOfRange, EdgesNotRising, WrongParity, WeightNotSum, CutEmpty, VertexOutOfRange, CutsNotRising, CutHoldsVirtual, CutEven, Overloaded, SumDiffers, OddWrong}
 
 -- the first number of the list that isn't below the bound
 abbrev pub first_beyond : ℕ → List ℕ → Option ℕ
@@ -100,16 +100,13 @@ IsOddVerdict g defects v verdict =
 abbrev pub IsVerdict : DecodingGraph → List ℕ → Row → Verdict → Type 0
 IsVerdict g defects (Best edges weight cuts) verdict = verdict ≡ best_verdict g defects edges weight cuts
 IsVerdict g defects (Odd v) verdict = IsOddVerdict g defects v verdict
-IsVerdict g defects OverRow verdict = verdict ≡ Over
 
 -- the row's cuts have values of at least 1, as a report that is read has them
 abbrev pub HasPositiveValues : Row → Type 0
 HasPositiveValues (Best edges weight cuts) = All (λ c. 1 ≤ c.value) cuts
 HasPositiveValues (Odd v) = ⊤
-HasPositiveValues OverRow = ⊤
 
 -- no edge set that flips the shot weighs less than the row's correction; none flips a shot whose row is odd
 abbrev pub IsLeastWeight : Problem → Row → Type 0
 IsLeastWeight p (Best edges weight cuts) = (other : List ℕ) → IsEdgeSet p other → Flips p other → weight ≤ weight_of p other
 IsLeastWeight p (Odd v) = (other : List ℕ) → IsEdgeSet p other → ¬ Flips p other
-IsLeastWeight p OverRow = ⊤

@@ -89,7 +89,6 @@ impl<'a> Judge<'a> {
                 cuts.as_slice(),
             ),
             Row::Odd(vertex) => self.check_odd(alloc, shot, *vertex),
-            Row::Over => Ok(Verdict::Over),
         }
     }
 

@@ -17,8 +17,6 @@ pub enum Line {
     Shot(u32),
     /// The row of this shot names the component of this vertex.
     Odd(u32, u32),
-    /// This shot was not solved.
-    Over(u32),
     /// The edges of a correction.
     Edges(NumberList),
     /// The weight of a correction.
@@ -54,9 +52,6 @@ fn row_kind(shot: u32, words: Words) -> Option<Line>
     let Some((word, words)) = words.split_first() else {
         return Some(Line::Shot(shot));
     };
-    if word == b"over".as_slice() {
-        return at_end(Line::Over(shot), words);
-    }
     if word != b"odd".as_slice() {
         return None;
     }

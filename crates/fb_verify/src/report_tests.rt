@@ -6,7 +6,7 @@ use std::test::Fail;
 fn reads_rows_of_each_kind_and_trace_lines(rt: HostRuntime) -> Result<(), Fail> {
     let alloc = rt.alloc();
     let text =
-        b"fusion-report 1\nshot 0 odd 4294967295\ntook 1 0 2\nshot 1\nedges\nweight 18446744073709551615\ncut 18446744073709551615\ngave 1 1 2\nshot 2 over\ndone 3 odd 1 units 0 fusions 18446744073709551615\n";
+        b"fusion-report 1\nshot 0 odd 4294967295\ntook 1 0 2\nshot 1\nedges\nweight 18446744073709551615\ncut 18446744073709551615\ngave 1 1 2\ndone 2 odd 1 units 0 fusions 18446744073709551615\n";
     let report = read_report(alloc, text)?;
     let [
         Row::Odd(vertex),
@@ -15,7 +15,6 @@ fn reads_rows_of_each_kind_and_trace_lines(rt: HostRuntime) -> Result<(), Fail> 
             weight,
             cuts,
         },
-        Row::Over,
     ] = report.rows.as_slice()
     else {
         return Err(Fail::from("other rows"));

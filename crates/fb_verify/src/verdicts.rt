@@ -28,6 +28,4 @@ pub enum Verdict {
     SumDiffers(u64, u128),
     /// The vertex of an odd row that isn't the least of the first odd component.
     OddWrong(u32),
-    /// The row says only that the shot has too many defects.
-    Over,
 }

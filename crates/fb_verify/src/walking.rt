@@ -197,12 +197,7 @@ fn after_rows(number: u64, rows: RowList, said: Line) -> Result<Reading, ReportF
             let place = Place::Between;
             Ok(Reading { rows, place })
         }
-        Line::Over(shot) if is_next(&rows, shot) => {
-            let rows = push_row(rows, Row::Over)?;
-            let place = Place::Between;
-            Ok(Reading { rows, place })
-        }
-        Line::Shot(_) | Line::Odd(_, _) | Line::Over(_) => Err(ReportFault::WrongShot(number)),
+        Line::Shot(_) | Line::Odd(_, _) => Err(ReportFault::WrongShot(number)),
         Line::Trace if !rows.as_slice().is_empty() => {
             let place = Place::Between;
             Ok(Reading { rows, place })

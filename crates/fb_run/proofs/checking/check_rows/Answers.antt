@@ -1,5 +1,4 @@
-use Rattle.std.proofs.Common.{◌≡◌, ◌∙◌, [], inl, inr, refl, sym, append-nil}
-use Rattle.std.proofs.KnownBytes.{Appends-nil}
+use Rattle.std.proofs.Common.{◌∙◌, [], inl, inr, refl, sym, append-nil}
 use Rattle.fb_words.specs.Seen.{seen_checking}
 use Rattle.fb_run.specs.Checks.{check_head}
 use Rattle.fb_run.proofs.Inputs.{asks_kept, asks_one, asks_same}

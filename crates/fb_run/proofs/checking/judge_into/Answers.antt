@@ -1,6 +1,5 @@
 use Rattle.std.proofs.Common.{◌≡◌, ◌+◌, ◌∙◌, ◌≤◌, ℕ, [], ◌∷◌, ◌++◌, Bool, true, false, cond, refl, sym, ap, subst, rules, arith}
 use Rattle.fb_shots.specs.Streams.{Stream}
-use Rattle.fb_shots.specs.declared.answer.Step.TheVariants as step
 use Rattle.fb_run.proofs.Gathered.{IsGathering, gathered_all, gathered_before, gathered_part, gathering_begins, gathering_shot, given_first}
 use Rattle.fb_run.proofs.Lines.{IsJudging, judging_begins, judging_moved, judging_next}
 use Rattle.fb_run.proofs.Checked.{judged_at_fault, judged_first, judged_into}

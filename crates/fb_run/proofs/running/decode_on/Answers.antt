@@ -1,6 +1,5 @@
-use Rattle.std.proofs.Common.{◌≡◌, [], inl, inr, refl, sym, ap, length, append-nil}
+use Rattle.std.proofs.Common.{[], inl, inr, refl, sym, ap, length, append-nil}
 use Rattle.std.proofs.KnownBytes.{Appends-nil}
-use Rattle.fb_ports.specs.Causes.{TellsMore}
 use Rattle.fb_report.specs.Texts.{head_text}
 use Rattle.fb_words.specs.Seen.{seen_decoding}
 use Rattle.fb_run.proofs.Inputs.{asks_kept, asks_one, asks_same}
@@ -45,6 +44,9 @@ returns-in_default-read_shots-clause-ends g c =
           (g.O.Sink.taken c.write_head.new.sink) c.in-Ok-write_head.ensures.all,
     )
 
+pub write_rows-requires-clause-shots : goal.write_rows-requires-clause-shots
+write_rows-requires-clause-shots g c = rw (c.as_slice-shots.ensures.value, c.in-Ok.ensures) c.in-Ok-read_shots.ensures.shots
+
 pub returns-in-Ok-write_rows-clause-ends : goal.returns-in-Ok-write_rows-clause-ends
 returns-in-Ok-write_rows-clause-ends g c =
     inr (
@@ -59,7 +61,7 @@ returns-in-Ok-write_rows-clause-ends g c =
           (is_opened (g.F.Files.named c.args.files.now) c.args.errand.now.shots.now (g.F.Files.left c.open_file.new.self) _ refl
           (rw c.in-Ok-from_str.ensures.ok at c.in-Ok-open_file.ensures.opens))
           c.in-Ok-read_shots.ensures.gathers)
-          (rw c.as_slice-shots.ensures.value at c.in-Ok-write_rows.ensures.rows) c.end_report.ensures.end,
+          (rw (c.as_slice-shots.ensures.value, c.in-Ok.ensures) at c.in-Ok-write_rows.ensures.rows) c.end_report.ensures.end,
     )
 
 pub returns-in-Err-WriteFault-clause-ends : goal.returns-in-Err-WriteFault-clause-ends
@@ -75,7 +77,7 @@ returns-in-Err-WriteFault-clause-ends g c =
           (is_opened (g.F.Files.named c.args.files.now) c.args.errand.now.shots.now (g.F.Files.left c.open_file.new.self) _ refl
           (rw c.in-Ok-from_str.ensures.ok at c.in-Ok-open_file.ensures.opens))
           c.in-Ok-read_shots.ensures.gathers)
-          (rw c.as_slice-shots.ensures.value at c.in-Err-WriteFault.ensures.front),
+          (rw (c.as_slice-shots.ensures.value, c.in-Ok.ensures) at c.in-Err-WriteFault.ensures.front),
     )
 
 pub returns-clause-ends : goal.returns-clause-ends
@@ -91,7 +93,7 @@ returns-clause-ends g c =
           (is_opened (g.F.Files.named c.args.files.now) c.args.errand.now.shots.now (g.F.Files.left c.open_file.new.self) _ refl
           (rw c.in-Ok-from_str.ensures.ok at c.in-Ok-open_file.ensures.opens))
           c.in-Ok-read_shots.ensures.gathers)
-          (rw c.as_slice-shots.ensures.value at c.in-Err-NoMemory.ensures.front),
+          (rw (c.as_slice-shots.ensures.value, c.in-Ok.ensures) at c.in-Err-NoMemory.ensures.front),
     )
 
 pub returns-in-Ok-write_rows-clause-at_end : goal.returns-in-Ok-write_rows-clause-at_end

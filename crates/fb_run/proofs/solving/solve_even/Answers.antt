@@ -1,13 +1,12 @@
-use Rattle.std.proofs.Common.{◌≡◌, length, arith}
-use Rattle.fb_run.proofs.Solved.{none_solved, one_solved}
+use Rattle.std.proofs.Common.{◌≡◌, List, ℕ, [], ◌∷◌, ◌++◌, None, All, sym, ap, subst, ◌∙◌}
+use Rattle.std.proofs.lemmas.List.Elements.{All-cons, All-nil}
+use Rattle.fb_graph.specs.Components.{IsFirstOdd}
+use Rattle.fb_graph.specs.Limits.{problem_of}
 use Rattle.fb_run.proofs.solving.solve_even.Goals as goal
 
-pub returns-in-empty : goal.returns-in-empty
-returns-in-empty c =
-    let none : length c.args.defects.now ≡ 0 = omega (arith, c.in-empty.len_below) in
-    rw c.empty_row.ensures (none_solved c.args.graph.now c.args.defects.now none)
-
-pub returns-in-len1 : goal.returns-in-len1
-returns-in-len1 c =
-    let one : length c.args.defects.now ≡ 1 = omega (arith, c.in-len1.len_at_least, c.in-len1.len_below) in
-    one_solved c.args.graph.now c.args.defects.now _ one c.requires.even c.search_one.ensures
+pub new-job-requires-clause-even : goal.new-job-requires-clause-even
+new-job-requires-clause-even c =
+    let one : c.push.new.self.items ≡ c.args.shot.now ∷ [] =
+    c.in_ok-push.ensures.items ∙ ap (λ xs. xs ++ c.in_ok-copy.field-0 ∷ []) c.new-shots.ensures.items ∙ ap (λ x. x ∷ []) c.in_ok-copy.ensures in
+    let IsEven : List ℕ → Type 0 = λ defects. IsFirstOdd (problem_of c.args.graph.now defects) None in
+    subst (All IsEven) (sym one) (All-cons IsEven c.args.shot.now [] c.requires.even (All-nil IsEven))
