@@ -26,7 +26,6 @@ pub mod EnteredChildren
 pub mod ExchangedObstacles
 pub mod FlatPermutations
 pub mod FreeSteps
-pub mod HeldInStore
 pub mod JoinConditions
 pub mod JoinLinks
 pub mod JoinMatchings

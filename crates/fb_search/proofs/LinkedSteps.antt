@@ -1,10 +1,10 @@
 -- The steps of a cycle whose links connect its nodes in the dual state are linked in the store of blossoms.
-use Rattle.std.proofs.Common.{ℕ, zero, suc, ◌≡◌, ◌==◌, ◌+◌, ◌<◌, ◌&&◌, ◌||◌, ◌⊎◌, inl, inr, Bool, true, false, List, [], ◌∷◌, ◌++◌, map, length, get_or, All, Option, refl, sym, ap, ◌∙◌, subst, arith, if◌then◌else◌}
+use Rattle.std.proofs.Common.{ℕ, zero, suc, ◌≡◌, ◌==◌, ◌+◌, ◌<◌, ◌&&◌, ◌||◌, ◌⊎◌, inl, inr, Bool, true, false, List, [], ◌∷◌, ◌++◌, map, length, get_or, All, Option, Some, IsSome, refl, sym, ap, ◌∙◌, subst, arith, if◌then◌else◌}
 use Rattle.std.proofs.lemmas.Bool.{cases_Bool, eqb-false, eqb-true}
 use Rattle.fb_graph.specs.Parity.{is_in}
 use Rattle.fb_graph.specs.Problem.{Problem}
 use Rattle.fb_graph.specs.Laws.{Link}
-use Rattle.fb_graph.specs.Dual.{Node, leaves}
+use Rattle.fb_graph.specs.Dual.{Node, cover_of, leaves}
 use Rattle.fb_graph.specs.Nests.{IsNest}
 use Rattle.fb_links.specs.declared.cycle.CycleStep.{CycleStep}
 use Rattle.fb_links.specs.declared.walk.Step.{Step}
@@ -16,11 +16,12 @@ use Rattle.fb_blossoms.specs.Nodes as blossoms
 use Rattle.fb_laws.specs.TreeCycles.{AreLinked}
 use Rattle.fb_laws.specs.Trees.{Connects}
 use Rattle.fb_laws.specs.Works.{AreMatchedLinks}
+use Rattle.fb_laws.proofs.HeldDefects.{covered_is_held}
 use Rattle.fb_half.specs.Parts.{AreAgreed}
 use Rattle.fb_half.specs.Translations.{link_by}
 use Rattle.fb_trees.proofs.Taken.{all_before_map}
 use Rattle.fb_search.proofs.Agreed.{nodes_of}
-use Rattle.fb_search.proofs.HeldInStore.{end_held}
+use Rattle.fb_search.proofs.EnteredChildren.{are_held}
 
 -- each step's link connects its node and the next one
 chained : (nodes : List Node) (table : ℕ → Link) (s : CycleStep) (ss : List CycleStep) (last : ℕ)
@@ -82,6 +83,13 @@ module _ (p : Problem) (nodes : List Node) (store : List (Option blossoms.Node))
       (p.is_real l.from ≡ true → is_in (leaves nodes) l.from ≡ true)
       × (p.is_real l.to ≡ true → is_in (leaves nodes) l.to ≡ true)
 
+  -- an outer node over the end of a link holds it
+  end_held : (x d : ℕ) → (p.is_real d ≡ true → is_in (leaves nodes) d ≡ true) → cover_of nodes d ≡ Some x
+      → is_in (defects_at store x) d ≡ true
+  end_held x d own cover =
+      (covered_is_held p nodes (defects_at store) x d nest (are_held nodes store agreed nested)
+      (own (nest.dual.real d (subst IsSome (sym cover) refl))) cover).2
+
   joined_by : (id x y : ℕ) → HasOwnEnds (link_by links id) → Connects nodes (link_by links id) x y
       → joins (walk_at links id) (defects_at store x) (defects_at store y) ≡ true
   joined_by id x y own connects =
@@ -95,12 +103,12 @@ module _ (p : Problem) (nodes : List Node) (store : List (Option blossoms.Node))
           ⊎ ((is_in (defects_at store y) (link_by links id).from ≡ true)
           × (is_in (defects_at store x) (link_by links id).to ≡ true))
       by (inl (from, to)) = inl (
-        end_held nodes store agreed nested p x (link_by links id).from nest own.0 from,
-        end_held nodes store agreed nested p y (link_by links id).to nest own.1 to,
+        end_held x (link_by links id).from own.0 from,
+        end_held y (link_by links id).to own.1 to,
       )
       by (inr (to, from)) = inr (
-        end_held nodes store agreed nested p y (link_by links id).from nest own.0 from,
-        end_held nodes store agreed nested p x (link_by links id).to nest own.1 to,
+        end_held y (link_by links id).from own.0 from,
+        end_held x (link_by links id).to own.1 to,
       )
 
   pub steps_linked : (first : ℕ) (names : List ℕ) (steps : List CycleStep) → nodes_of steps ≡ first ∷ names
