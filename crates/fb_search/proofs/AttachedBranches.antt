@@ -1,13 +1,12 @@
 -- Two matched nodes attached to a tree: what stays watched, and that less is left to do.
-use Rattle.std.proofs.Common.{ℕ, ◌≡◌, ◌<◌, ◌⊎◌, inl, inr, Bool, true, false, List, [], ◌∷◌, map, length, All, Option, Some, refl, sym, ap, ◌∙◌, subst, if◌then◌else◌}
+use Rattle.std.proofs.Common.{ℕ, ◌≡◌, ◌<◌, ◌⊎◌, inl, inr, Bool, true, false, List, ◌∷◌, map, length, All, Some, refl, sym, ap, ◌∙◌, if◌then◌else◌}
 use Rattle.fb_graph.specs.Parity.{is_in}
-use Rattle.fb_graph.specs.Problem.{Problem, edge_at, touches}
+use Rattle.fb_graph.specs.Problem.{Problem, edge_at}
 use Rattle.fb_graph.specs.Certificate.{AreDistinct}
 use Rattle.fb_graph.specs.Limits.{IsWithinLimits}
 use Rattle.fb_graph.specs.Covers.{is_over, passes}
 use Rattle.fb_graph.specs.Dual.{AreUnderOne, Node, cover_of, top_at}
 use Rattle.fb_graph.specs.Laws.{Link}
-use Rattle.fb_graph.specs.Steps.{Roles}
 use Rattle.fb_graph.proofs.Sets.{is_in-cases}
 use Rattle.fb_laws.specs.Measures.{IsLower}
 use Rattle.fb_laws.specs.SearchLayers.{left_to_do}
@@ -21,9 +20,9 @@ use Rattle.fb_regions.specs.declared.roles.Role.TheVariants.{Plus, Minus, Out}
 use Rattle.fb_trees.proofs.Mapped.{minus_moved, plus_moved}
 use Rattle.fb_trees.specs.Branches.{Grown}
 use Rattle.fb_trees.specs.Rooted.{attached, role_in}
-use Rattle.fb_half.specs.Translations.{entry_by, link_by}
+use Rattle.fb_half.specs.Translations.{link_by}
 use Rattle.fb_search.specs.Progress.{to_do}
-use Rattle.fb_search.specs.Searching.{IsSearching, SearchValue, problem_of, state_at}
+use Rattle.fb_search.specs.Searching.{IsSearchingBeside, SearchValue, problem_of, state_at}
 use Rattle.fb_search.specs.Watching.{Watches}
 use Rattle.fb_search.proofs.BegunSearches.{touches_first, touches_second}
 use Rattle.fb_search.proofs.TakenVertices.{all_even, plus_over}
@@ -82,9 +81,9 @@ module _ (p : Problem) (t : Grown) (e : EntryOf ℕ) (nodes : List Node) (limits
           by (inr before) = watched.kept k (watch.near k less (inr before) not_one)
 
 -- less is left to do, whatever links the new branch has
-pub less_attached : (w : SearchValue) (are : IsSearching w) (e : Entry) (n : EntryOf ℕ) (rest : List Link)
+pub less_attached : (more : List ℕ) (w : SearchValue) (are : IsSearchingBeside more w) (e : Entry) (n : EntryOf ℕ) (rest : List Link)
     → IsWithinLimits (problem_of w) → MayAttach (problem_of w) (state_at w are.state.0) e rest → n.plus ≡ e.plus → n.minus ≡ e.minus
     → IsLower (left_to_do (problem_of w) w.part.nodes (roles_of w.tree.root (n ∷ w.tree.branches)) true) (to_do w false)
-less_attached w are e n rest limits may plus minus =
+less_attached more w are e n rest limits may plus minus =
     let less = attached_less (problem_of w) (state_at w are.state.0) e rest false true (all_even (problem_of w) limits) may are.state.1 in
     rw (plus, minus, ← plus_moved (link_by w.part.links) w.tree.root w.tree.branches, ← minus_moved (link_by w.part.links) w.tree.branches) less

@@ -34,13 +34,13 @@ use Rattle.fb_search.proofs.EndedLinks.{Table, link_kept, links_kept, links_perm
 use Rattle.fb_search.proofs.EndedMatches.{AreTaken, ended_matching}
 use Rattle.fb_search.proofs.EndedTrees.{matches_linked}
 
-map_same : (f g : ℕ → Link) (ids : List ℕ) → ((id : ℕ) → is_in ids id ≡ true → f id ≡ g id) → map f ids ≡ map g ids
+pub map_same : (f g : ℕ → Link) (ids : List ℕ) → ((id : ℕ) → is_in ids id ≡ true → f id ≡ g id) → map f ids ≡ map g ids
 map_same f g [] same = refl
 map_same f g (x ∷ xs) same =
     (λ k. same x (is_in-head x xs) k ∷ map_same f g xs (λ id h. same id (is_in-tail x xs id h)) k)
 
 -- the links round a live node are among those round all nodes
-ring_within : (nodes : List Node) (store : List (Option blossoms.Node)) (n : ℕ) → is_live nodes n ≡ true → (id : ℕ)
+pub ring_within : (nodes : List Node) (store : List (Option blossoms.Node)) (n : ℕ) → is_live nodes n ≡ true → (id : ℕ)
     → is_in (ring_at store n) id ≡ true → is_in (ring_links nodes store) id ≡ true
 ring_within [] store n live id within = cc
 ring_within (x ∷ xs) store n live id within =

@@ -18,10 +18,11 @@ use Rattle.fb_laws.specs.StateBlossoms.{MayClose}
 use Rattle.fb_laws.specs.TreeCycles.{ArePaths, cycle_links, cycle_nodes, last_plus}
 use Rattle.fb_laws.specs.Trees.{EntryOf, minus_names}
 use Rattle.fb_laws.proofs.LinkNumbers.{branches_counted, cycle_counted, links_joined_in}
-use Rattle.fb_trees.proofs.Mapped.{cycle_moved, last_moved, minus_moved, paths_moved}
+use Rattle.fb_trees.proofs.Mapped.{minus_moved}
 use Rattle.fb_half.specs.Parts.{AreLinksOf}
 use Rattle.fb_half.specs.Translations.{entry_by, link_by, ring_links}
 use Rattle.fb_search.proofs.Agreed.{nodes_of}
+use Rattle.fb_search.proofs.Cycles.{cycle_from, paths_of, same_cycle}
 use Rattle.fb_search.proofs.Linked.{closed_numbers, links_reordered, rings_joined}
 
 module _ (p : Problem) (s : SearchState) (links : List (Option (List Step))) (branches : List (EntryOf ℕ))
@@ -29,15 +30,7 @@ module _ (p : Problem) (s : SearchState) (links : List (Option (List Step))) (br
     (may : MayClose p s name a b (link_by links closing)) (paths : ArePaths branches a b shared up down)
     (state : IsSearchState p s) where
   abbrev cycle : List ℕ
-  cycle = last_plus s.root shared ∷ cycle_nodes up down
-
-  abbrev moved_cycle : List ℕ
-  moved_cycle = last_plus s.root (map (entry_by links) shared) ∷ cycle_nodes (map (entry_by links) up) (map (entry_by links) down)
-
-  same_cycle : moved_cycle ≡ cycle
-  same_cycle =
-      ap (λ n. n ∷ cycle_nodes (map (entry_by links) up) (map (entry_by links) down)) (last_moved (link_by links) s.root shared)
-      ∙ ap (λ ns. last_plus s.root shared ∷ ns) (cycle_moved (link_by links) up down)
+  cycle = cycle_from s.root shared up down
 
   counted : AreDistinct cycle
       × (length (inner_branches (is_in cycle) s.tree)
@@ -48,13 +41,10 @@ module _ (p : Problem) (s : SearchState) (links : List (Option (List Step))) (br
       AreDistinct c
       × (length (inner_branches (is_in c) s.tree)
       ≡ length (map (entry_by links) up) + length (map (entry_by links) down)))
-      same_cycle
+      (same_cycle links s.root shared up down)
       (cycle_counted p s name a b (link_by links closing) (map (entry_by links) shared) (map (entry_by links) up)
       (map (entry_by links) down) may
-      (subst
-      (λ t. ArePaths t a b (map (entry_by links) shared) (map (entry_by links) up) (map (entry_by links) down))
-      (sym tree_is) (paths_moved (link_by links) branches a b shared up down paths))
-      state)
+      (paths_of links s.tree branches tree_is a b shared up down paths) state)
 
   cycle_joined : IsCycleJoined (is_in cycle) branches up down
   cycle_joined = record {
@@ -67,6 +57,11 @@ module _ (p : Problem) (s : SearchState) (links : List (Option (List Step))) (br
         ∙ (ap (λ k. k + length (map (entry_by links) down)) (length-map up (entry_by links))
         ∙ ap (λ k. length up + k) (length-map down (entry_by links))));
   }
+
+  -- the cycle's links are those of the tree that leave it, with the one that closes it
+  pub numbers_joined : IsPermutation (closing ∷ tree_links branches)
+      (tree_links (joined_tree (is_in cycle) name branches) ++ cycle_links up closing down)
+  numbers_joined = links_joined_in (is_in cycle) name a b closing branches shared up down paths cycle_joined
 
   pub links_closed : (old new : List (Option blossoms.Node)) (steps : List CycleStep) (matches : List ℕ)
       → nodes_of steps ≡ cycle → map (λ c. c.link) steps ≡ cycle_links up closing down
@@ -83,8 +78,7 @@ module _ (p : Problem) (s : SearchState) (links : List (Option (List Step))) (br
       (tree_links (joined_tree (is_in cycle) name branches) ++ (matches ++ l)))
       (sym rings)
       (closed_numbers closing (tree_links branches) (tree_links (joined_tree (is_in cycle) name branches))
-      (cycle_links up closing down) matches (ring_links s.nodes old)
-      (links_joined_in (is_in cycle) name a b closing branches shared up down paths cycle_joined)))
+      (cycle_links up closing down) matches (ring_links s.nodes old) numbers_joined))
       are
     where
       rings : ring_links (joined name cycle s.nodes) new ≡ ring_links s.nodes old ++ cycle_links up closing down

@@ -1,54 +1,41 @@
 -- The matching of a search after a cycle of its tree becomes a blossom.
-use Rattle.std.proofs.Common.{ℕ, ◌≡◌, ◌⊎◌, inl, inr, true, false, List, [], ◌∷◌, ◌++◌, map, All, Option, refl, sym, ap, ◌∙◌, subst}
+use Rattle.std.proofs.Common.{ℕ, ◌≡◌, false, List, ◌∷◌, ◌++◌, map, Option, refl, sym, ap, ◌∙◌, subst}
 use Rattle.std.specs.List.Sorted.{IsPermutation}
 use Rattle.std.proofs.lemmas.Bool.{both_ways, false_from_ne_true}
 use Rattle.std.proofs.lemmas.List.Sorted.{IsPermutation-sym}
 use Rattle.fb_graph.specs.Parity.{is_in}
 use Rattle.fb_graph.specs.Problem.{Problem}
-use Rattle.fb_graph.specs.Dual.{AreOuterApart, Node, is_live, is_outer}
-use Rattle.fb_graph.specs.Moves.{blossom, joined}
-use Rattle.fb_graph.proofs.Among.{IsAmong, All_among, among_either, among_outer}
-use Rattle.fb_graph.proofs.Sets.{is_in-All}
+use Rattle.fb_graph.specs.Dual.{AreOuterApart, is_live}
+use Rattle.fb_graph.specs.Moves.{joined}
 use Rattle.fb_links.specs.declared.walk.Step.{Step}
 use Rattle.fb_laws.specs.PartStates.{SearchState, IsSearchState}
 use Rattle.fb_laws.specs.SearchBlossoms.{joined_tree, renamed}
 use Rattle.fb_laws.specs.StateBlossoms.{MayClose}
-use Rattle.fb_laws.specs.TreeCycles.{ArePaths, cycle_nodes, last_plus, nodes_along}
+use Rattle.fb_laws.specs.TreeCycles.{ArePaths, nodes_along}
 use Rattle.fb_laws.specs.Trees.{Entry, EntryOf, tree_names}
 use Rattle.fb_laws.proofs.OpenedBlossoms.{same_permuted}
 use Rattle.fb_laws.proofs.StateBlossoms.{state_closed}
 use Rattle.fb_laws.proofs.TreePaths.{in_right}
-use Rattle.fb_trees.proofs.Mapped.{cycle_moved, joined_moved, last_moved, names_moved, paths_moved}
+use Rattle.fb_trees.proofs.Mapped.{joined_moved, names_moved}
 use Rattle.fb_half.specs.Matchings.{IsMatchingOf, MatchingValue, listed_names, matched_names}
 use Rattle.fb_half.specs.Translations.{entry_by, link_by}
+use Rattle.fb_search.proofs.Cycles.{cycle_from, same_cycle, paths_of}
+use Rattle.fb_search.proofs.JoinConditions.{cycle_within, outer_made}
 use Rattle.fb_search.proofs.Matched.{IsRenamed, matching_joined}
-use Rattle.fb_search.proofs.Renamed.{closed_renamed, closed_within, cover_joined, tree_listed}
+use Rattle.fb_search.proofs.Renamed.{closed_renamed, cover_joined, tree_listed}
 
 module _ (p : Problem) (s : SearchState) (links : List (Option (List Step))) (branches : List (EntryOf ℕ))
     (tree_is : s.tree ≡ map (entry_by links) branches) (name a b closing : ℕ) (shared up down : List (EntryOf ℕ))
     (may : MayClose p s name a b (link_by links closing)) (paths : ArePaths branches a b shared up down)
     (state : IsSearchState p s) (m : MatchingValue) (beside unmatched : List ℕ)
-    (was : IsMatchingOf p s.nodes links m (nodes_along branches)) (root_in : IsPermutation m.unmatched (s.root ∷ beside))
+    (was : IsMatchingOf p s.nodes links m (nodes_along branches))
+    (root_in : IsPermutation m.unmatched (s.root ∷ beside))
   where
     abbrev moved : List (EntryOf ℕ) → List Entry
     moved es = map (entry_by links) es
 
     abbrev cycle : List ℕ
-    cycle = last_plus s.root shared ∷ cycle_nodes up down
-
-    abbrev moved_cycle : List ℕ
-    moved_cycle = last_plus s.root (map (entry_by links) shared) ∷ cycle_nodes (map (entry_by links) up) (map (entry_by links) down)
-
-    same_cycle : moved_cycle ≡ cycle
-    same_cycle =
-        ap (λ n. n ∷ cycle_nodes (map (entry_by links) up) (map (entry_by links) down)) (last_moved (link_by links) s.root shared)
-        ∙ ap (λ ns. last_plus s.root shared ∷ ns) (cycle_moved (link_by links) up down)
-
-    paths_of : ArePaths s.tree a b (map (entry_by links) shared) (map (entry_by links) up) (map (entry_by links) down)
-    paths_of =
-        subst
-        (λ t. ArePaths t a b (map (entry_by links) shared) (map (entry_by links) up) (map (entry_by links) down))
-        (sym tree_is) (paths_moved (link_by links) branches a b shared up down paths)
+    cycle = cycle_from s.root shared up down
 
     names_are : tree_names s.root s.tree ≡ tree_names s.root branches
     names_are = ap (tree_names s.root) tree_is ∙ names_moved (link_by links) s.root branches
@@ -68,56 +55,34 @@ module _ (p : Problem) (s : SearchState) (links : List (Option (List Step))) (br
         (tree_listed m.unmatched beside (matched_names m.matches) s.root branches root_in) name)
         ∙ in_right (beside ++ matched_names m.matches) (tree_names s.root branches) name there)).0)
 
-    within : (n : ℕ) → is_in cycle n ≡ true → is_in (tree_names s.root branches) n ≡ true
-    within n on =
-        ap (λ ns. is_in ns n) (sym names_are)
-        ∙ closed_within p s name a b (link_by links closing) (map (entry_by links) shared) (map (entry_by links) up)
-        (map (entry_by links) down) may paths_of state n (ap (λ ns. is_in ns n) same_cycle ∙ on)
-
     names_after : IsRenamed cycle (tree_names s.root branches)
         (tree_names (renamed (is_in cycle) name s.root) (joined_tree (is_in cycle) name branches)) name
     names_after =
         subst (λ ns. IsRenamed cycle (tree_names s.root branches) ns name)
         (ap (λ t. tree_names (renamed (is_in cycle) name s.root) (joined_tree (is_in cycle) name t)) tree_is
-        ∙ (ap (tree_names (renamed (is_in cycle) name s.root)) (joined_moved (link_by links) (is_in cycle) name branches)
+        ∙ (ap (tree_names (renamed (is_in cycle) name s.root))
+        (joined_moved (link_by links) (is_in cycle) name branches)
         ∙ names_moved (link_by links) (renamed (is_in cycle) name s.root) (joined_tree (is_in cycle) name branches)))
         (subst
         (λ ns.
-        IsRenamed cycle ns (tree_names (renamed (is_in cycle) name s.root) (joined_tree (is_in cycle) name s.tree)) name)
+        IsRenamed cycle ns (tree_names (renamed (is_in cycle) name s.root) (joined_tree (is_in cycle) name s.tree))
+        name)
         names_are
         (subst
         (λ c.
         IsRenamed c (tree_names s.root s.tree)
         (tree_names (renamed (is_in c) name s.root) (joined_tree (is_in c) name s.tree)) name)
-        same_cycle
+        (same_cycle links s.root shared up down)
         (closed_renamed p s name a b (link_by links closing) (map (entry_by links) shared) (map (entry_by links) up)
-        (map (entry_by links) down) may paths_of state
+        (map (entry_by links) down) may (paths_of links s.tree branches tree_is a b shared up down paths) state
         (ap (λ ns. is_in ns name) names_are ∙ fresh_in_tree))))
-
-    outer_after : is_outer (joined name cycle s.nodes) name ≡ true
-    outer_after =
-        among_outer (joined name cycle s.nodes) name
-        (λ r among. by r (among_either s.nodes (blossom name cycle s.nodes ∷ []) r among))
-      where
-        by : (r : Node) → IsAmong r s.nodes ⊎ IsAmong r (blossom name cycle s.nodes ∷ []) → is_in r.children name ≡ false
-        by r (inl among) =
-            false_from_ne_true (is_in r.children name)
-            (λ h.
-            both_ways (is_live s.nodes name) may.fresh
-            (is_in-All (λ x. is_live s.nodes x ≡ true) r.children
-            (All_among (λ n. All (λ c. is_live s.nodes c ≡ true) n.children) s.nodes state.search.nest.forest.live r among)
-            name h))
-        by r (inr (inl e)) =
-            ap (λ (x : Node). is_in x.children name) (sym e)
-            ∙ false_from_ne_true (is_in cycle name)
-            (λ h. both_ways (is_in (tree_names s.root branches) name) fresh_in_tree (within name h))
-        by r (inr (inr none)) = absurd none
 
     apart_after : AreOuterApart (joined name cycle s.nodes)
     apart_after =
-        subst (λ c. AreOuterApart (joined name c s.nodes)) same_cycle
+        subst (λ c. AreOuterApart (joined name c s.nodes)) (same_cycle links s.root shared up down)
         (state_closed p s name a b (link_by links closing) (map (entry_by links) shared) (map (entry_by links) up)
-        (map (entry_by links) down) may paths_of state).search.nest.dual.apart
+        (map (entry_by links) down) may (paths_of links s.tree branches tree_is a b shared up down paths)
+        state).search.nest.dual.apart
 
     -- The blossom is listed in the place of the root, if that is on the cycle; all matches are kept.
     pub matching_closed : IsPermutation (renamed (is_in cycle) name s.root ∷ beside) unmatched
@@ -129,11 +94,14 @@ module _ (p : Problem) (s : SearchState) (links : List (Option (List Step))) (br
         (beside ++ matched_names m.matches) (tree_names s.root branches)
         (tree_names (renamed (is_in cycle) name s.root) (joined_tree (is_in cycle) name branches)) was
         (tree_listed m.unmatched beside (matched_names m.matches) s.root branches root_in)
-        (IsPermutation-sym ((unmatched ++ matched_names m.matches) ++ nodes_along (joined_tree (is_in cycle) name branches))
+        (IsPermutation-sym ((unmatched ++ matched_names m.matches) ++ nodes_along
+        (joined_tree (is_in cycle) name branches))
         ((beside ++ matched_names m.matches)
         ++ tree_names (renamed (is_in cycle) name s.root) (joined_tree (is_in cycle) name branches))
         (tree_listed unmatched beside (matched_names m.matches) (renamed (is_in cycle) name s.root)
         (joined_tree (is_in cycle) name branches)
         (IsPermutation-sym (renamed (is_in cycle) name s.root ∷ beside) unmatched listed)))
-        refl names_after within may.fresh outer_after
+        refl names_after
+        (cycle_within p s links branches tree_is name a b closing shared up down may paths state) may.fresh
+        (outer_made p s links branches tree_is name a b closing shared up down may paths state)
         (λ n there. in_right beside (matched_names m.matches) n there) (cover_joined s.nodes name cycle apart_after)

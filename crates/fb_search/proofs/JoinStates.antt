@@ -18,13 +18,14 @@ use Rattle.fb_laws.specs.PartStates.{SearchState, IsSearchState}
 use Rattle.fb_laws.specs.SearchBlossoms.{joined_tree, renamed}
 use Rattle.fb_laws.specs.SearchLayers.{left_to_do}
 use Rattle.fb_laws.specs.StateBlossoms.{MayClose, joined_state, with_cycle}
-use Rattle.fb_laws.specs.TreeCycles.{ArePaths, cycle_links, cycle_nodes, last_plus}
+use Rattle.fb_laws.specs.TreeCycles.{ArePaths, cycle_links}
 use Rattle.fb_laws.specs.Trees.{EntryOf, minus_names, plus_names, roles_of}
 use Rattle.fb_laws.proofs.StateBlossoms.{state_closed}
 use Rattle.fb_laws.proofs.StateMeasures.{closed_less}
 use Rattle.fb_laws.proofs.StateOrders.{search_reordered}
-use Rattle.fb_trees.proofs.Mapped.{cycle_links_moved, cycle_moved, joined_moved, last_moved, minus_moved, paths_moved, plus_moved}
+use Rattle.fb_trees.proofs.Mapped.{cycle_links_moved, joined_moved, minus_moved, plus_moved}
 use Rattle.fb_half.specs.Translations.{cycles_by, entry_by, link_by}
+use Rattle.fb_search.proofs.Cycles.{cycle_from, same_cycle, paths_of}
 
 abbrev roles_from : List ℕ → List ℕ → Roles
 roles_from plus minus = record { is_plus = is_in plus; is_minus = is_in minus }
@@ -47,24 +48,10 @@ module _ (p : Problem) (s : SearchState) (links : List (Option (List Step))) (br
     (may : MayClose p s name a b (link_by links closing)) (paths : ArePaths branches a b shared up down)
     (state : IsSearchState p s) where
   abbrev cycle : List ℕ
-  cycle = last_plus s.root shared ∷ cycle_nodes up down
-
-  abbrev moved_cycle : List ℕ
-  moved_cycle = last_plus s.root (map (entry_by links) shared) ∷ cycle_nodes (map (entry_by links) up) (map (entry_by links) down)
+  cycle = cycle_from s.root shared up down
 
   abbrev moved_links : List Link
   moved_links = cycle_links (map (entry_by links) up) (link_by links closing) (map (entry_by links) down)
-
-  same_cycle : moved_cycle ≡ cycle
-  same_cycle =
-      ap (λ n. n ∷ cycle_nodes (map (entry_by links) up) (map (entry_by links) down)) (last_moved (link_by links) s.root shared)
-      ∙ ap (λ ns. last_plus s.root shared ∷ ns) (cycle_moved (link_by links) up down)
-
-  paths_of : ArePaths s.tree a b (map (entry_by links) shared) (map (entry_by links) up) (map (entry_by links) down)
-  paths_of =
-      subst
-      (λ t. ArePaths t a b (map (entry_by links) shared) (map (entry_by links) up) (map (entry_by links) down))
-      (sym tree_is) (paths_moved (link_by links) branches a b shared up down paths)
 
   tree_after : joined_tree (is_in cycle) name s.tree ≡ map (entry_by links) (joined_tree (is_in cycle) name branches)
   tree_after =
@@ -112,12 +99,14 @@ module _ (p : Problem) (s : SearchState) (links : List (Option (List Step))) (br
         root = renamed (is_in c) name s.root;
         parity = s.parity;
       }))
-      same_cycle
-      (search_reordered p (joined_state name moved_cycle moved_links s) (cycles_by links new) s.rest unmatched
+      (same_cycle links s.root shared up down)
+      (search_reordered p (joined_state name (cycle_from s.root (map (entry_by links) shared) (map (entry_by links) up)
+      (map (entry_by links) down)) moved_links s) (cycles_by links new) s.rest unmatched
       (λ n live. cycles_agree n (cases_eq n name)) (IsPermutation-refl s.rest)
-      (subst (λ c. IsPermutation (map (renamed (is_in c) name) s.unmatched) unmatched) (sym same_cycle) names_moved)
+      (subst (λ c. IsPermutation (map (renamed (is_in c) name) s.unmatched) unmatched)
+      (sym (same_cycle links s.root shared up down)) names_moved)
       (state_closed p s name a b (link_by links closing) (map (entry_by links) shared) (map (entry_by links) up)
-      (map (entry_by links) down) may paths_of state)))
+      (map (entry_by links) down) may (paths_of links s.tree branches tree_is a b shared up down paths) state)))
     where
       names_moved : IsPermutation (map (renamed (is_in cycle) name) s.unmatched) unmatched
       names_moved =
@@ -157,7 +146,8 @@ module _ (p : Problem) (s : SearchState) (links : List (Option (List Step))) (br
       (roles_of (renamed (is_in cycle) name s.root) (joined_tree (is_in cycle) name branches)) freed)
       (left_to_do p s.nodes r free))
       (ap (roles_of s.root) tree_is ∙ roles_moved links s.root branches)
-      (subst (λ r. IsLower (left_to_do p (joined name cycle s.nodes) r freed) (left_to_do p s.nodes (roles_of s.root s.tree) free))
+      (subst (λ r. IsLower (left_to_do p (joined name cycle s.nodes) r freed)
+      (left_to_do p s.nodes (roles_of s.root s.tree) free))
       (ap (roles_of (renamed (is_in cycle) name s.root)) tree_after
       ∙ roles_moved links (renamed (is_in cycle) name s.root) (joined_tree (is_in cycle) name branches))
       (subst
@@ -166,6 +156,7 @@ module _ (p : Problem) (s : SearchState) (links : List (Option (List Step))) (br
       (left_to_do p (joined name c s.nodes)
       (roles_of (renamed (is_in c) name s.root) (joined_tree (is_in c) name s.tree)) freed)
       (left_to_do p s.nodes (roles_of s.root s.tree) free))
-      same_cycle
+      (same_cycle links s.root shared up down)
       (closed_less p s name a b (link_by links closing) (map (entry_by links) shared) (map (entry_by links) up)
-      (map (entry_by links) down) free freed may paths_of state)))
+      (map (entry_by links) down) free freed may (paths_of links s.tree branches tree_is a b shared up down paths)
+      state)))

@@ -21,6 +21,7 @@ use Rattle.fb_laws.specs.Trees.{Entry, EntryOf, plus_names, tree_names}
 use Rattle.fb_laws.proofs.JoinedTrees.{distinct_kept, names_kept, new_in, new_out, plus_kept}
 use Rattle.fb_laws.proofs.SearchTrees.{plus_in_tree}
 use Rattle.fb_laws.proofs.StateBlossoms.{child_in_tree, closed_joining, closed_names}
+use Rattle.fb_search.proofs.Cycles.{cycle_from}
 use Rattle.fb_search.proofs.Matched.{IsRenamed}
 
 -- a node that is not joined stays in the tree
@@ -131,9 +132,9 @@ tree_renamed p nodes tree rest unmatched root r name base others joining search 
 pub closed_renamed : (p : Problem) (s : SearchState) (name a b : ℕ) (closing : Link) (shared up down : List Entry)
     → MayClose p s name a b closing → ArePaths s.tree a b shared up down → IsSearchState p s
     → is_in (tree_names s.root s.tree) name ≡ false
-    → IsRenamed (last_plus s.root shared ∷ cycle_nodes up down) (tree_names s.root s.tree)
-    (tree_names (renamed (is_in (last_plus s.root shared ∷ cycle_nodes up down)) name s.root)
-    (joined_tree (is_in (last_plus s.root shared ∷ cycle_nodes up down)) name s.tree)) name
+    → IsRenamed (cycle_from s.root shared up down) (tree_names s.root s.tree)
+    (tree_names (renamed (is_in (cycle_from s.root shared up down)) name s.root)
+    (joined_tree (is_in (cycle_from s.root shared up down)) name s.tree)) name
 closed_renamed p s name a b closing shared up down may paths state fresh =
     subst
     (λ names.
@@ -147,7 +148,7 @@ closed_renamed p s name a b closing shared up down may paths state fresh =
 
 pub closed_within : (p : Problem) (s : SearchState) (name a b : ℕ) (closing : Link) (shared up down : List Entry)
     → MayClose p s name a b closing → ArePaths s.tree a b shared up down → IsSearchState p s
-    → (n : ℕ) → is_in (last_plus s.root shared ∷ cycle_nodes up down) n ≡ true
+    → (n : ℕ) → is_in (cycle_from s.root shared up down) n ≡ true
     → is_in (tree_names s.root s.tree) n ≡ true
 closed_within p s name a b closing shared up down may paths state n within =
     child_in_tree s.root s.tree
@@ -156,7 +157,7 @@ closed_within p s name a b closing shared up down may paths state n within =
     (subst (λ names. is_in (last_plus s.root shared ∷ names) n ≡ true)
     (sym (closed_names p s name a b closing shared up down may paths state)) within)
 
-along_names : {L : Type 0} (root : ℕ) (tree : List (EntryOf L)) → tree_names root tree ≡ nodes_along tree ++ root ∷ []
+pub along_names : {L : Type 0} (root : ℕ) (tree : List (EntryOf L)) → tree_names root tree ≡ nodes_along tree ++ root ∷ []
 along_names root [] = refl
 along_names root (e ∷ es) = ap (λ l. e.minus ∷ e.plus ∷ l) (along_names root es)
 

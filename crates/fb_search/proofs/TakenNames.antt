@@ -10,7 +10,7 @@ use Rattle.fb_laws.specs.Works.{without}
 use Rattle.fb_laws.proofs.OpenedBlossoms.{distinct_permuted, same_permuted}
 
 -- where an element stands
-split_at : (ys : List ℕ) (x : ℕ) → is_in ys x ≡ true → (before : List ℕ) × (after : List ℕ) × (ys ≡ before ++ x ∷ after)
+pub split_at : (ys : List ℕ) (x : ℕ) → is_in ys x ≡ true → (before : List ℕ) × (after : List ℕ) × (ys ≡ before ++ x ∷ after)
 split_at [] x within = absurd (false≢true within)
 split_at (y ∷ ys) x within = by (is_in-cases y ys x within) (λ h. split_at ys x h)
   where

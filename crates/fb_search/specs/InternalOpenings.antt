@@ -1,7 +1,15 @@
 -- The steps of a blossom's cycle as they are read where it is opened.
-use Rattle.std.specs.Prelude.{ℕ, ◌+◌, ◌==◌, ◌%◌, List, [], ◌∷◌, ◌++◌, drop, take, reverse, Some, if◌then◌else◌}
+use Rattle.std.specs.Prelude.{ℕ, ◌≡◌, ◌≢◌, ◌+◌, ◌==◌, ◌%◌, true, List, [], ◌∷◌, ◌++◌, drop, take, reverse, Some, if◌then◌else◌}
+use Rattle.fb_graph.specs.Moves.{MaySplit, split}
+use Rattle.fb_graph.specs.Nests.{IsNest}
+use Rattle.fb_laws.specs.Trees.{Connects}
+use Rattle.fb_laws.specs.Works.{AreMatchedLinks}
 use Rattle.fb_links.specs.declared.cycle.CycleStep.{CycleStep}
+use Rattle.fb_links.specs.Table.{is_live}
+use Rattle.fb_blossoms.specs.Nodes.{cycle_at, is_on}
 use Rattle.fb_half.specs.declared.matches.Match.{Match}
+use Rattle.fb_half.specs.Parts.{AreAgreed, PartValue, problem_in}
+use Rattle.fb_half.specs.Translations.{link_by}
 use Rattle.fb_trees.specs.TreeSteps.{step}
 
 -- the place of the node's step; the number of all steps where it has none
@@ -43,3 +51,32 @@ couples_on ss = []
 abbrev pub between_on : List CycleStep → List ℕ
 between_on (s ∷ t ∷ ss) = t.link ∷ between_on ss
 between_on ss = []
+
+-- the nodes of every second step
+abbrev pub second_nodes : List CycleStep → List ℕ
+second_nodes (s ∷ t ∷ ss) = t.node ∷ second_nodes ss
+second_nodes ss = []
+
+-- the link of the node's step
+abbrev pub link_on : List CycleStep → ℕ → ℕ
+link_on [] name = 0
+link_on (s ∷ ss) name = if s.node == name then s.link else link_on ss name
+
+-- the links of the round that are neither on the way to the node nor match two nodes
+abbrev pub links_left : List CycleStep → ℕ → List ℕ
+links_left round name = link_on round name ∷ between_on (rest_on round name)
+
+-- A blossom that may be split, and a tight link that leads to it from another node.
+pub record MayEnter (w : PartValue) (name other link : ℕ) : Type 0 where
+  pub nest : IsNest (problem_in w) w.nodes
+  pub agreed : AreAgreed w.nodes w.store
+  pub may_split : MaySplit w.nodes name
+  pub live : is_live w.links link ≡ true
+  pub tight : AreMatchedLinks (problem_in w) w.nodes (link_by w.links link ∷ [])
+  pub apart : other ≢ name
+  pub connects : Connects w.nodes (link_by w.links link) other name
+
+-- The link leads from the other node to this child of the blossom, as is seen once the blossom is split.
+pub record EndsAtChild (w : PartValue) (name other link child : ℕ) : Type 0 where
+  pub on_cycle : is_on (cycle_at w.store name) child ≡ true
+  pub connects : Connects (split name w.nodes) (link_by w.links link) other child

@@ -1,6 +1,9 @@
+pub mod InternalClosings
 pub mod InternalEndings
+pub mod InternalMeetings
 pub mod InternalOpenings
 pub mod InternalRuns
+pub mod InternalSteps
 pub mod Meetings
 pub mod MetWalks
 pub mod Progress

@@ -30,6 +30,13 @@ pub record IsOut (p : Problem) (nodes : List Node) (k a v : ℕ) : Type 0 where
   pub covered : cover_of nodes inner ≡ Some a
   pub boundary : p.is_real v ≡ false
 
+-- the step over edge k from its first end to its second
+pub record IsAlong (p : Problem) (k : ℕ) (s : Step) : Type 0 where
+  pub from : s.from ≡ (edge_at p.edges k).first
+  pub to : s.to ≡ (edge_at p.edges k).second
+  pub edge : s.edge ≡ k
+  pub weight : s.weight ≡ (edge_at p.edges k).weight
+
 -- the walk can be stored as a link, along edges of the problem, and this link is tight
 pub record IsTightWalk (p : Problem) (nodes : List Node) (walk : List Step) : Type 0 where
   pub some : 0 < length walk

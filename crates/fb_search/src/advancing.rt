@@ -21,6 +21,7 @@ impl<'a> Searching<'a> {
     ) -> Result<Went<'a>, NoMemory>
         ensures { IfOk result (HasWent self.entry) }
     {
+        self.keeps();
         match self.next(looks) {
             Obstacle::Free(length) => {
                 let stepped = self.step(length);

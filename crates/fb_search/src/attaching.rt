@@ -1,20 +1,33 @@
-ghost use Rattle.std.specs.Prelude.{◌≡◌, true, IfOk};
+ghost use Rattle.std.specs.Prelude.{◌≡◌, true, IfOk, MatchOption};
 ghost use Rattle.fb_graph.specs.Parity.{is_in};
-ghost use Rattle.fb_half.specs.Matchings.{matched_names};
+ghost use Rattle.fb_half.specs.Matchings.{matched_names, names_of};
+ghost use Rattle.fb_half.specs.Values.{HasScope};
+ghost use Rattle.fb_search.specs.InternalMeetings.{HasMet, IsCouple, IsLone};
 ghost use Rattle.fb_search.specs.Meetings.{Meets};
+ghost use Rattle.fb_search.specs.Progress.{EndsWith, GoesOn};
+ghost use Rattle.fb_search.specs.Searching.{SearchValue, search_of};
 ghost use Rattle.fb_search.specs.Went.{HasCleared};
 
 use crate::ending::{forget_tree, match_tree};
-use crate::searching::Searching;
+use crate::searching::{Pieces, Searching};
 use crate::walks::met_walk;
 use crate::watched::watch_node;
 use crate::went::Went;
-use fb_graph::NoMemory;
+use fb_graph::{NoMemory, Scope};
 use fb_half::{Match, Work};
-use fb_plan::NodeScope;
+use fb_obstacles::Watch;
 use fb_regions::NodeId;
-use fb_trees::CycleStep;
+use fb_trees::{CycleStep, LinkId};
 use std::alloc::Global;
+
+/// A link that is made from a plus node to a matched one, whose match is taken out.
+#[derive(Clone, Copy)]
+struct Met {
+    plus: NodeId,
+    other: NodeId,
+    link: LinkId,
+    taken: Match,
+}
 
 impl<'a> Searching<'a> {
     /// The plus node meets a matched node over the edge. A node that is matched to another joins the tree with it, as a
@@ -30,43 +43,108 @@ impl<'a> Searching<'a> {
         requires matched { is_in (matched_names self.part.matching.matches) other ≡ true }
         ensures { IfOk result (HasCleared self.entry) }
     {
+        let (pieces, met) = self.link_to(alloc, edge, plus, other)?;
+        match mate_of(met.taken, met.other) {
+            Some(mate) => Ok(Went::On(attach(alloc, pieces, met, mate)?)),
+            None => {
+                let (work, watch) = release(alloc, pieces, met)?;
+                Ok(Went::Ended(work, watch))
+            }
+        }
+    }
+
+    /// Makes the link from the plus node over the edge to the matched node, and takes out the match of this node.
+    fn link_to(
+        self,
+        alloc: Global,
+        edge: u32,
+        plus: NodeId,
+        other: NodeId,
+    ) -> Result<(Pieces<'a>, Met), NoMemory>
+        requires meets { Meets self edge plus other }
+        requires matched { is_in (matched_names self.part.matching.matches) other ≡ true }
+        ensures scope { IfOk result (λ linked. HasScope linked.0.parts) }
+        ensures met { IfOk result (λ linked. HasMet self.entry linked.1 (search_of linked.0)) }
+        ensures name { IfOk result (λ linked. is_in (names_of linked.1.taken) linked.1.other ≡ true) }
+    {
         let Searching {
             mut parts,
-            mut tree,
-            mut watch,
+            tree,
+            watch,
         } = self;
         let walk = met_walk(alloc, &parts.regions, edge)?;
         let link = parts.links.make(alloc, walk)?;
         let taken = parts.matching.take_match(other);
-        let Some(second) = taken.second else {
-            parts.links.forget(taken.link);
-            parts.matching.take_unmatched(tree.root());
-            let out = Match {
-                link,
-                first: plus,
-                second: Some(other),
-            };
-            match_tree(alloc, &mut parts.matching, &tree, out)?;
-            forget_tree(alloc, &mut parts.links, &tree, plus)?;
-            return Ok(Went::Ended(Work::from_parts(parts), watch));
+        let met = Met {
+            plus,
+            other,
+            link,
+            taken,
         };
-        let mate = if taken.first == other {
-            second
-        } else {
-            taken.first
-        };
-        let matched = CycleStep {
-            node: mate,
-            link: taken.link,
-        };
-        tree.attach(alloc, plus, link, other, matched, &parts.links)?;
-        watch_node(
-            alloc,
-            &mut watch,
-            parts.regions.scope(),
-            &parts.regions,
-            mate,
-        )?;
-        Ok(Went::On(Searching { parts, tree, watch }))
+        Ok((Pieces { parts, tree, watch }, met))
     }
+}
+
+/// The node with which the match matches this one; none at the boundary.
+fn mate_of(taken: Match, name: NodeId) -> Option<NodeId>
+    requires { is_in (names_of taken) name ≡ true }
+    ensures { MatchOption result (IsLone taken name) (IsCouple taken name) }
+{
+    match taken.second {
+        Some(second) if second == name => Some(taken.first),
+        second => second,
+    }
+}
+
+/// The node and its mate join the tree, as a minus node under the plus node and a plus node under it.
+fn attach<'a>(
+    alloc: Global,
+    pieces: Pieces<'a>,
+    met: Met,
+    mate: NodeId,
+) -> Result<Searching<'a>, NoMemory>
+    requires scope { HasScope pieces.parts }
+    requires met { (w : SearchValue) × HasMet w met (search_of pieces) }
+    requires couple { IsCouple met.taken met.other mate }
+    ensures { IfOk result (λ after. (w : SearchValue) → HasMet w met (search_of pieces.entry) → GoesOn w after) }
+{
+    let Pieces {
+        parts,
+        mut tree,
+        mut watch,
+    } = pieces;
+    let scope = parts.regions.scope();
+    scope.limits();
+    let matched = CycleStep {
+        node: mate,
+        link: met.taken.link,
+    };
+    tree.attach(alloc, met.plus, met.link, met.other, matched, &parts.links)?;
+    watch_node(alloc, &mut watch, scope, &parts.regions, mate)?;
+    watch.keeps();
+    Ok(Searching { parts, tree, watch })
+}
+
+/// The node was matched to the boundary, and is matched with the plus node: the search ends with the root matched.
+fn release<'a>(alloc: Global, pieces: Pieces<'a>, met: Met) -> Result<(Work<'a>, Watch), NoMemory>
+    requires scope { HasScope pieces.parts }
+    requires met { (w : SearchValue) × HasMet w met (search_of pieces) }
+    requires lone { IsLone met.taken met.other }
+    ensures { IfOk result (λ ended. (w : SearchValue) → HasMet w met (search_of pieces.entry) → EndsWith w ended.0 ended.1) }
+{
+    let Pieces {
+        mut parts,
+        tree,
+        watch,
+    } = pieces;
+    parts.links.forget(met.taken.link);
+    parts.matching.take_unmatched(tree.root());
+    let out = Match {
+        link: met.link,
+        first: met.plus,
+        second: Some(met.other),
+    };
+    match_tree(alloc, &mut parts.matching, &tree, out)?;
+    forget_tree(alloc, &mut parts.links, &tree, met.plus)?;
+    Ok((Work::from_parts(parts), watch))
 }

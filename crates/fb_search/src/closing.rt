@@ -1,11 +1,15 @@
-ghost use Rattle.std.specs.Prelude.{◌≡◌, ◌≢◌, ◌∷◌, [], IfOk};
+ghost use Rattle.std.specs.Prelude.{◌≡◌, ◌≢◌, ◌∷◌, [], true, false, All, IfOk, OnOk, length, map};
+ghost use Rattle.fb_graph.specs.Dual.{is_live};
+ghost use Rattle.fb_graph.specs.Parity.{is_in};
 ghost use Rattle.fb_laws.specs.Trees.{Connects};
 ghost use Rattle.fb_laws.specs.Works.{AreMatchedLinks};
+ghost use Rattle.fb_half.specs.Matchings.{listed_names};
 ghost use Rattle.fb_half.specs.Translations.{link_by};
 ghost use Rattle.fb_half.specs.Values.{HasScope};
 ghost use Rattle.fb_trees.specs.Rooted.{IsPlus};
 ghost use Rattle.fb_obstacles.specs.Obstacles.{Obstructs};
 ghost use Rattle.fb_obstacles.specs.declared.obstacle.Obstacle.TheVariants.{PlusPair};
+ghost use Rattle.fb_search.specs.InternalClosings.{IsReplacedBy, WatchesMinus};
 ghost use Rattle.fb_search.specs.Progress.{GoesOn};
 ghost use Rattle.fb_search.specs.Searching.{IsSearchingBeside, problem_of, roles_in, search_of};
 
@@ -13,6 +17,7 @@ use crate::searching::{Pieces, Searching};
 use crate::walks::met_walk;
 use crate::watched::watch_node;
 use fb_graph::{NoMemory, Scope};
+use fb_half::Matching;
 use fb_obstacles::Watch;
 use fb_regions::{NodeId, Regions, Role};
 use fb_trees::{CycleStep, LinkId, Tree};
@@ -60,22 +65,48 @@ pub(crate) fn close_cycle<'a>(
         mut watch,
     } = pieces;
     let cycle = tree.cycle_of(alloc, first, second, closing, &parts.links)?;
-    let nodes: Vec<NodeId> = cycle.iter().map(|step| step.node).collect(alloc)?;
-    watch_minus(alloc, &mut watch, &parts.regions, &tree, &nodes)?;
+    let nodes = nodes_on(alloc, &cycle)?;
+    let nodes = nodes.as_slice();
+    watch_minus(alloc, &mut watch, &parts.regions, &tree, nodes)?;
+    watch.keeps();
     let held = &mut parts;
+    held.regions.scope().limits();
+    held.blossoms.keeps();
     let blossom = held.blossoms.form(alloc, cycle, &held.links)?;
-    parts.regions.join_nodes(alloc, blossom, &nodes)?;
+    parts.regions.join_nodes(alloc, blossom, nodes)?;
     let root = tree.root();
     let step = CycleStep {
         node: blossom,
         link: closing,
     };
-    tree.replace(alloc, &nodes, &[step], &parts.links)?;
-    if tree.root() != root {
-        parts.matching.take_unmatched(root);
-        parts.matching.add_unmatched(alloc, blossom)?;
-    }
+    tree.replace(alloc, nodes, &[step], &parts.links)?;
+    replace_unmatched(alloc, &mut parts.matching, root, tree.root())?;
     Ok(Searching { parts, tree, watch })
+}
+
+/// The nodes of the steps.
+fn nodes_on(alloc: Global, steps: &[CycleStep]) -> Result<Vec<NodeId>, NoMemory>
+    ensures { IfOk result (λ nodes. nodes.items ≡ map (λ s. s.node) steps.now) }
+{
+    steps.iter().map(|step| step.node).collect(alloc)
+}
+
+/// Lists the new name as unmatched in the place of the old one.
+fn replace_unmatched(
+    alloc: Global,
+    matching: &mut Matching,
+    old: NodeId,
+    new: NodeId,
+) -> Result<(), NoMemory>
+    requires listed { is_in matching.old.unmatched old ≡ true }
+    requires fresh { new ≢ old → is_in (listed_names matching.old) new ≡ false }
+    ensures { OnOk result (IsReplacedBy old new matching.old matching.new) }
+{
+    if new != old {
+        matching.take_unmatched(old);
+        matching.add_unmatched(alloc, new)?;
+    }
+    Ok(())
 }
 
 /// Watches the edges at the minus nodes among these, whose vertices are to be under a plus node.
@@ -85,7 +116,11 @@ fn watch_minus<S: Scope>(
     regions: &Regions<S>,
     tree: &Tree,
     nodes: &[NodeId],
-) -> Result<(), NoMemory> {
+) -> Result<(), NoMemory>
+    requires live { All (λ n. is_live regions.now.nodes n ≡ true) nodes.now }
+    requires room { watch.old.edge_count ≡ length (S.problem regions.now.scope).edges }
+    ensures { OnOk result (WatchesMinus (S.problem regions.now.scope) regions.now.nodes tree.now nodes.now watch.old watch.new) }
+{
     for node in nodes {
         if tree.role(*node) == Role::Minus {
             watch_node(alloc, watch, regions.scope(), regions, *node)?;

@@ -1,15 +1,21 @@
-ghost use Rattle.std.specs.Prelude.{◌≡◌, IfOk};
+ghost use Rattle.std.specs.Prelude.{◌≡◌, ◌≢◌, ◌<◌, ℕ, true, ◌∷◌, All, Some, IfOk, OnOk, flat_map, length};
+ghost use Rattle.fb_graph.specs.Dual.{cover_of, is_live, top_at};
+ghost use Rattle.fb_blossoms.specs.Nodes.{is_on};
+ghost use Rattle.fb_half.specs.Values.{part_of};
 ghost use Rattle.fb_obstacles.specs.Obstacles.{Obstructs};
 ghost use Rattle.fb_obstacles.specs.declared.obstacle.Obstacle.TheVariants.{BlossomEmpty};
+ghost use Rattle.fb_search.specs.InternalOpenings.{EndsAtChild, MayEnter, between_on, couples_on, even_on, links_left, place_on, rest_on, round_on, second_nodes, turned_on, way_on};
 ghost use Rattle.fb_search.specs.Progress.{GoesOn};
 ghost use Rattle.fb_search.specs.Searching.{problem_of, roles_in};
+ghost use Rattle.fb_search.specs.Watching.{Watches};
 
+use crate::ending::{add_matches, forget_all};
 use crate::searching::Searching;
 use crate::watched::watch_node;
-use fb_graph::NoMemory;
+use fb_graph::{NoMemory, Scope};
 use fb_half::{Match, Parts};
 use fb_obstacles::Watch;
-use fb_regions::NodeId;
+use fb_regions::{NodeId, Regions};
 use fb_trees::{CycleStep, LinkId};
 use std::alloc::Global;
 
@@ -25,36 +31,88 @@ impl<'a> Searching<'a> {
             mut tree,
             mut watch,
         } = self;
+        parts.regions.scope().limits();
         let branch = tree.branch(node);
         let above = child_at(&parts, node, branch.tree);
         let below = child_at(&parts, node, branch.matched);
         let cycle = parts.blossoms.open_up(node);
         parts.regions.split_node(node)?;
-        let round = round_from(alloc, &cycle, above)?;
-        let round = even_round(alloc, round, below)?;
-        let end = place_of(&round, below);
-        let (way, rest) = round.split_at(end + 1);
-        tree.replace(alloc, &[node], way, &parts.links)?;
-        match_couples(alloc, &mut parts, rest)?;
-        forget_between(&mut parts, way[end].link, rest);
-        watch_plus(alloc, &mut watch, &parts, way)?;
+        let apart = taken_apart(alloc, &cycle, above, below)?;
+        tree.replace(alloc, &[node], &apart.way, &parts.links)?;
+        add_matches(alloc, &mut parts.matching, &apart.matches)?;
+        forget_all(&mut parts.links, &apart.left);
+        watch_plus(alloc, &mut watch, &parts.regions, &apart.way)?;
+        watch.keeps();
         Ok(Searching { parts, tree, watch })
     }
 }
 
 /// The child of the blossom at which the link ends.
-fn child_at(parts: &Parts, node: NodeId, link: LinkId) -> NodeId {
+fn child_at(parts: &Parts, node: NodeId, link: LinkId) -> NodeId
+    requires { (other : ℕ) × MayEnter (part_of parts.now) node other link }
+    ensures { (other : ℕ) → MayEnter (part_of parts.now) node other link
+        → EndsAtChild (part_of parts.now) node other link result }
+{
+    parts.blossoms.keeps();
     let (from, to) = parts.links.ends(link);
-    let end = if parts.regions.cover_of(from) == Some(node) {
-        from
-    } else {
-        to
-    };
+    let end = end_under(&parts.regions, node, from, to);
     parts.blossoms.child_holding(node, end)
 }
 
+/// The first of the two vertices if the outer node holds it, otherwise the second.
+fn end_under<S: Scope>(regions: &Regions<S>, node: NodeId, first: u32, second: u32) -> u32
+    ensures first { cover_of regions.now.nodes first ≡ Some node → result ≡ first }
+    ensures second { cover_of regions.now.nodes first ≢ Some node → result ≡ second }
+{
+    match regions.cover_of(first) {
+        Some(outer) if outer == node => first,
+        _ => second,
+    }
+}
+
+/// The cycle of an opened blossom taken apart.
+#[derive(Drop)]
+struct Apart {
+    /// The steps that take the blossom's place in the tree.
+    way: Vec<CycleStep>,
+    /// Matches of all other nodes.
+    matches: Vec<Match>,
+    /// The links that are neither between nodes of the way nor those of the matches.
+    left: Vec<LinkId>,
+}
+
+/// Takes the cycle apart: the steps of the way from the first node to the second one by an even number of links, and
+/// the nodes beside the way in pairs.
+fn taken_apart(
+    alloc: Global,
+    cycle: &[CycleStep],
+    first: NodeId,
+    second: NodeId,
+) -> Result<Apart, NoMemory>
+    requires first { is_on cycle.now first ≡ true }
+    requires second { is_on cycle.now second ≡ true }
+    ensures way { IfOk result (λ apart.
+        apart.way.items ≡ way_on (even_on (round_on cycle.now first) second) second) }
+    ensures matches { IfOk result (λ apart.
+        apart.matches.items ≡ couples_on (rest_on (even_on (round_on cycle.now first) second) second)) }
+    ensures left { IfOk result (λ apart.
+        apart.left.items ≡ links_left (even_on (round_on cycle.now first) second) second) }
+{
+    let mut way = round_between(alloc, cycle, first, second)?;
+    let end = place_of(&way, second);
+    let (_, rest) = way.split_at(end + 1);
+    let matches = couples(alloc, rest)?;
+    let left = links_left(alloc, way[end].link, rest)?;
+    way.truncate(end + 1);
+    Ok(Apart { way, matches, left })
+}
+
 /// The place of the node's step.
-fn place_of(cycle: &[CycleStep], node: NodeId) -> usize {
+fn place_of(cycle: &[CycleStep], node: NodeId) -> usize
+    requires { is_on cycle.now node ≡ true }
+    ensures place { result ≡ place_on cycle.now node }
+    ensures within { result < length cycle.now }
+{
     for (place, step) in cycle.iter().enumerate() {
         if step.node == node {
             return place;
@@ -63,12 +121,27 @@ fn place_of(cycle: &[CycleStep], node: NodeId) -> usize {
     unreachable!()
 }
 
-/// The steps of the cycle from the node's on.
-fn round_from(
+/// The steps of the cycle from the first node's on, by the way on which the second one is an even number of links on.
+fn round_between(
     alloc: Global,
     cycle: &[CycleStep],
-    node: NodeId,
-) -> Result<Vec<CycleStep>, NoMemory> {
+    first: NodeId,
+    second: NodeId,
+) -> Result<Vec<CycleStep>, NoMemory>
+    requires first { is_on cycle.now first ≡ true }
+    requires second { is_on cycle.now second ≡ true }
+    ensures round { IfOk result (λ round. round.items ≡ even_on (round_on cycle.now first) second) }
+    ensures second { IfOk result (λ round. is_on round.items second ≡ true) }
+{
+    let round = round_from(alloc, cycle, first)?;
+    even_round(alloc, round, second)
+}
+
+/// The steps of the cycle from the node's on.
+fn round_from(alloc: Global, cycle: &[CycleStep], node: NodeId) -> Result<Vec<CycleStep>, NoMemory>
+    requires { is_on cycle.now node ≡ true }
+    ensures { IfOk result (λ round. round.items ≡ round_on cycle.now node) }
+{
     let (before, after) = cycle.split_at(place_of(cycle, node));
     let mut round = Vec::new(alloc);
     round.extend_from_slice(after)?;
@@ -81,7 +154,10 @@ fn even_round(
     alloc: Global,
     round: Vec<CycleStep>,
     node: NodeId,
-) -> Result<Vec<CycleStep>, NoMemory> {
+) -> Result<Vec<CycleStep>, NoMemory>
+    requires { is_on round.items node ≡ true }
+    ensures { IfOk result (λ even. even.items ≡ even_on round.items node) }
+{
     if place_of(&round, node) % 2 == 0 {
         return Ok(round);
     }
@@ -89,62 +165,70 @@ fn even_round(
 }
 
 /// The same round from the same node in the other direction.
-fn turned_round(alloc: Global, round: &[CycleStep]) -> Result<Vec<CycleStep>, NoMemory> {
+fn turned_round(alloc: Global, round: &[CycleStep]) -> Result<Vec<CycleStep>, NoMemory>
+    requires { 0 < length round.now }
+    ensures { IfOk result (λ turned. turned.items ≡ turned_on round.now) }
+{
     let mut turned = Vec::new(alloc);
     let mut node = round[0].node;
-    for step in round.iter().rev() {
+    let mut i = round.len();
+    while i > 0 {
+        i -= 1;
         turned.push(CycleStep {
             node,
-            link: step.link,
+            link: round[i].link,
         })?;
-        node = step.node;
+        node = round[i].node;
     }
     Ok(turned)
 }
 
-/// Matches the nodes of the steps two by two, each two by the link between them.
-fn match_couples(alloc: Global, parts: &mut Parts, steps: &[CycleStep]) -> Result<(), NoMemory> {
+/// Matches of the nodes of the steps two by two, each two by the link between them.
+fn couples(alloc: Global, steps: &[CycleStep]) -> Result<Vec<Match>, NoMemory>
+    ensures { IfOk result (λ matches. matches.items ≡ couples_on steps.now) }
+{
+    let mut matches = Vec::new(alloc);
     let mut i = 0;
     while i + 1 < steps.len() {
-        parts.matching.add_match(
-            alloc,
-            Match {
-                link: steps[i].link,
-                first: steps[i].node,
-                second: Some(steps[i + 1].node),
-            },
-        )?;
+        matches.push(Match {
+            link: steps[i].link,
+            first: steps[i].node,
+            second: Some(steps[i + 1].node),
+        })?;
         i += 2;
     }
-    Ok(())
+    Ok(matches)
 }
 
-/// Removes the links that lead from couple to couple: the first one, and that of each second step.
-fn forget_between(parts: &mut Parts, first: LinkId, steps: &[CycleStep]) {
-    parts.links.forget(first);
-    let mut i = 1;
-    while i < steps.len() {
-        parts.links.forget(steps[i].link);
+/// The first link, and those that lead on from each two of the steps.
+fn links_left(alloc: Global, first: LinkId, steps: &[CycleStep]) -> Result<Vec<LinkId>, NoMemory>
+    ensures { IfOk result (λ links. links.items ≡ first ∷ between_on steps.now) }
+{
+    let mut links = Vec::new(alloc);
+    links.push(first)?;
+    let mut i = 0;
+    while i + 1 < steps.len() {
+        links.push(steps[i + 1].link)?;
         i += 2;
     }
+    Ok(links)
 }
 
 /// Watches the edges at each second node of the way, which is plus.
-fn watch_plus(
+fn watch_plus<S: Scope>(
     alloc: Global,
     watch: &mut Watch,
-    parts: &Parts,
+    regions: &Regions<S>,
     way: &[CycleStep],
-) -> Result<(), NoMemory> {
-    let mut i = 1;
-    while i < way.len() {
-        watch_node(
-            alloc,
-            watch,
-            parts.regions.scope(),
-            &parts.regions,
-            way[i].node,
-        )?;
+) -> Result<(), NoMemory>
+    requires live { All (λ name. is_live regions.now.nodes name ≡ true) (second_nodes way.now) }
+    requires room { watch.old.edge_count ≡ length (S.problem regions.now.scope).edges }
+    ensures { OnOk result (Watches (S.problem regions.now.scope)
+        (flat_map (top_at regions.now.nodes) (second_nodes way.now)) watch.old watch.new) }
+{
+    let mut i = 0;
+    while i + 1 < way.len() {
+        watch_node(alloc, watch, regions.scope(), regions, way[i + 1].node)?;
         i += 2;
     }
     Ok(())

@@ -42,7 +42,7 @@ pub fn search_from<'a, L: Ledger>(
     requires unmatched { is_in work.matching.unmatched root ≡ true }
     requires room { watch.edge_count ≡ length (problem_in work).edges }
     ensures searched { IfOk result (λ after. IsSearched root work.entry after.0) }
-    ensures room { IfOk result (λ after. after.1.edge_count ≡ watch.entry.edge_count) }
+    ensures room { IfOk result (λ after. after.1.edge_count ≡ watch.edge_count) }
     ensures step { IfOk result (λ after. steps.new ≡ steps.old + 1) }
 {
     let search = Searching::begin(alloc, work, watch, root)?;
@@ -65,8 +65,12 @@ fn finish<'a, L: Ledger>(
     let mut looks = Steps::<L>::new(looks);
     let mut search = search;
     loop {
+        search.keeps();
         match search.advance(alloc, &mut looks)? {
-            Went::On(next) => search = next,
+            Went::On(next) => {
+                next.keeps();
+                search = next;
+            }
             Went::Ended(work, watch) => return Ok((work, watch)),
         }
     }

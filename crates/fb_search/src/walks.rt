@@ -1,8 +1,9 @@
 //! The walks of links that are made over a tight edge.
 
-ghost use Rattle.std.specs.Prelude.{◌≡◌, ◌++◌, ℕ, IfOk, OnOk};
+ghost use Rattle.std.specs.Prelude.{◌≡◌, ◌++◌, ◌<◌, ℕ, length, IfOk, OnOk};
 ghost use Rattle.fb_links.specs.Walks.{turned};
-ghost use Rattle.fb_search.specs.MetWalks.{IsBetween, IsMetWalk, IsOut, IsOutWalk};
+ghost use Rattle.fb_regions.specs.Moves.{IsOver};
+ghost use Rattle.fb_search.specs.MetWalks.{IsAlong, IsBetween, IsMetWalk, IsOut, IsOutWalk};
 
 use fb_graph::{NoMemory, Scope};
 use fb_regions::{Regions, Step, Walk};
@@ -19,18 +20,28 @@ pub(crate) fn met_walk<S: Scope>(
     ensures { IfOk result (λ walk. (a b : ℕ) → IsBetween (S.problem regions.now.scope) regions.now.nodes edge a b
         → IsMetWalk (S.problem regions.now.scope) regions.now.nodes a b walk) }
 {
+    regions.keeps();
+    let step = step_along(regions, edge);
+    let mut steps = regions.source_walk(alloc, step.from)?.into_vec();
+    steps.push(step)?;
+    let back = regions.source_walk(alloc, step.to)?;
+    push_turned(&mut steps, back.steps())?;
+    Ok(Walk::from_vec(steps))
+}
+
+/// The step over the edge from its first end to its second.
+fn step_along<S: Scope>(regions: &Regions<S>, edge: u32) -> Step
+    requires { edge < length (S.problem regions.now.scope).edges }
+    ensures { IsAlong (S.problem regions.now.scope) edge result }
+{
     let scope = regions.scope();
     let (from, to) = scope.ends(edge);
-    let mut steps = regions.source_walk(alloc, from)?.into_vec();
-    steps.push(Step {
+    Step {
         from,
         to,
         edge,
         weight: scope.weight(edge),
-    })?;
-    let back = regions.source_walk(alloc, to)?;
-    push_turned(&mut steps, back.steps())?;
-    Ok(Walk::from_vec(steps))
+    }
 }
 
 /// The walk of a tight link from the outer node over the inner end of a tight edge to the boundary: from the source of
@@ -44,32 +55,50 @@ pub(crate) fn out_walk<S: Scope>(
     ensures { IfOk result (λ walk. (a v : ℕ) → IsOut (S.problem regions.now.scope) regions.now.nodes edge a v
         → IsOutWalk (S.problem regions.now.scope) regions.now.nodes a v walk) }
 {
+    regions.keeps();
+    let step = step_out(regions, edge);
+    let mut steps = regions.source_walk(alloc, step.from)?.into_vec();
+    steps.push(step)?;
+    Ok(Walk::from_vec(steps))
+}
+
+/// The step over the edge from the end that a node holds to the other end.
+fn step_out<S: Scope>(regions: &Regions<S>, edge: u32) -> Step
+    requires { edge < length (S.problem regions.now.scope).edges }
+    ensures { IsOver (S.problem regions.now.scope) regions.now.nodes edge result }
+{
     let scope = regions.scope();
     let (first, second) = scope.ends(edge);
-    let (from, to) = if regions.cover_of(first).is_some() {
-        (first, second)
+    let weight = scope.weight(edge);
+    if regions.cover_of(first).is_some() {
+        Step {
+            from: first,
+            to: second,
+            edge,
+            weight,
+        }
     } else {
-        (second, first)
-    };
-    let mut steps = regions.source_walk(alloc, from)?.into_vec();
-    steps.push(Step {
-        from,
-        to,
-        edge,
-        weight: scope.weight(edge),
-    })?;
-    Ok(Walk::from_vec(steps))
+        Step {
+            from: second,
+            to: first,
+            edge,
+            weight,
+        }
+    }
 }
 
 /// Adds the steps of a walk gone back.
 fn push_turned(steps: &mut Vec<Step>, walk: &[Step]) -> Result<(), NoMemory>
     ensures { OnOk result (steps.new.items ≡ steps.old.items ++ turned walk.now) }
 {
-    for step in walk.iter().rev() {
+    let mut left = walk.len();
+    while left > 0 {
+        left -= 1;
+        let step = walk[left];
         steps.push(Step {
             from: step.to,
             to: step.from,
-            ..*step
+            ..step
         })?;
     }
     Ok(())

@@ -4,7 +4,7 @@ use Rattle.fb_plan.specs.Plans.{JobValue}
 use Rattle.fb_half.specs.Parts.{PartValue}
 
 -- the part of this slot and node of the job
-pub record IsPartOf (job : JobValue) (slot node : ℕ) (part : PartValue) : Type 0 where
-  pub job : part.job ≡ job
-  pub slot : part.slot ≡ slot
-  pub node : part.node ≡ node
+pub record IsPartOf (j : JobValue) (s n : ℕ) (part : PartValue) : Type 0 where
+  pub job : part.job ≡ j
+  pub slot : part.slot ≡ s
+  pub node : part.node ≡ n

@@ -1,4 +1,3 @@
-use Rattle.std.proofs.Common.{◌≡◌}
 use Rattle.fb_graph.proofs.Ranges.{filter-range_below}
 use Rattle.fb_search.proofs.WatchSteps.{watched_on}
 use Rattle.fb_search.proofs.watched.watch_vertices.Goals as goal

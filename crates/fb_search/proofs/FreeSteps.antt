@@ -1,0 +1,89 @@
+-- After the greatest free step an obstacle stands, and the search goes on from there.
+use Rattle.std.proofs.Common.{ℕ, ◌≡◌, ◌+◌, ◌≤◌, true, false, subst, arith}
+use Rattle.std.specs.Prelude.{IfOk, Result, Ok, Err}
+use Rattle.fb_graph.specs.Parity.{is_in}
+use Rattle.fb_graph.specs.Problem.{Problem, with_defects}
+use Rattle.fb_graph.specs.Dual.{leaves}
+use Rattle.fb_graph.specs.Steps.{Roles, stepped}
+use Rattle.fb_graph.proofs.StepLoads.{steps_add}
+use Rattle.fb_laws.specs.Trees.{roles_of}
+use Rattle.fb_laws.proofs.LoweredParts.{free_lowers}
+use Rattle.fb_laws.proofs.StepLengths.{greatest_bounds}
+use Rattle.fb_obstacles.specs.declared.obstacle.Obstacle.{Obstacle}
+use Rattle.fb_obstacles.specs.declared.obstacle.Obstacle.TheVariants.{Absorb, Boundary, Meet, PlusPair, LayerEmpty, BlossomEmpty, ZeroMinus, Free}
+use Rattle.fb_obstacles.specs.Obstacles.{IsFree, IsObstacle, Obstructs}
+use Rattle.fb_search.specs.declared.went.Went.{Went}
+use Rattle.fb_search.specs.declared.went.Went.TheVariants.{On, Ended}
+use Rattle.fb_search.specs.Progress.{GoesOn, HasAdvanced, stepped_by, to_do}
+use Rattle.fb_search.specs.Searching.{IsSearching, SearchValue, problem_of, roles_in}
+use Rattle.fb_search.specs.Went.{HasCleared, HasWent}
+use Rattle.fb_search.proofs.ExchangedObstacles.{free_exchanged}
+use Rattle.fb_search.proofs.Runs.{advanced_by, lower_trans, tree_roles}
+use Rattle.fb_search.proofs.SearchRoles.{roles_in_tree}
+
+-- no step is free after it
+not_free : (w : SearchValue) (k j : ℕ) → IsSearching w → IsFree (problem_of w) (roles_in w) w.part.nodes k
+    → IsFree (problem_of w) (roles_in w) (stepped_by k w).part.nodes j → ⊥
+not_free w k j are free again =
+    let p : Problem = with_defects (problem_of w) (leaves w.part.nodes) in
+    let roles : Roles = roles_of w.tree.root w.tree.branches in
+    let first : IsFree p roles w.part.nodes k =
+    free_exchanged (problem_of w) (is_in (leaves w.part.nodes)) roles w.part.nodes k
+    (subst (λ r. IsFree (problem_of w) r w.part.nodes k) (roles_in_tree w are) free) in
+    let next : IsFree p roles (stepped roles k w.part.nodes) j =
+    free_exchanged (problem_of w) (is_in (leaves w.part.nodes)) roles (stepped roles k w.part.nodes) j
+    (subst (λ r. IsFree (problem_of w) r (stepped roles k w.part.nodes) j) (roles_in_tree w are) again) in
+    let most : k + j ≤ k =
+    greatest_bounds p roles w.part.nodes k (k + j) (tree_roles w are).exclusive are.state.1.search.nest.dual.packing first.greatest
+    (steps_add p roles w.part.nodes k j (tree_roles w are).exclusive first.greatest.allowed next.greatest.allowed) in
+    absurd (omega (arith, most, next.some))
+
+pub obstructs_after : (w after : SearchValue) (k : ℕ) (o : Obstacle) → IsSearching w
+    → IsFree (problem_of w) (roles_in w) w.part.nodes k → after ≡ stepped_by k w
+    → IsObstacle (problem_of after) (roles_in after) after.part.nodes o
+    → Obstructs (problem_of after) (roles_in after) after.part.nodes o
+obstructs_after w after k (Free j) are free same is =
+    not_free w k j are free
+    (subst (λ s. IsFree (problem_of s) (roles_in s) s.part.nodes j) same is)
+obstructs_after w after k (Absorb e) are free same is = is
+obstructs_after w after k (Boundary e) are free same is = is
+obstructs_after w after k (Meet e) are free same is = is
+obstructs_after w after k (PlusPair e) are free same is = is
+obstructs_after w after k (LayerEmpty n) are free same is = is
+obstructs_after w after k (BlossomEmpty n) are free same is = is
+obstructs_after w after k (ZeroMinus n) are free same is = is
+
+advanced_after : (w after : SearchValue) (k : ℕ) → GoesOn (stepped_by k w) after → HasAdvanced w after
+advanced_after w after k goes = record {
+  part = record { job = goes.part.job; slot = goes.part.slot; node = goes.part.node };
+  others = goes.others;
+  count = goes.count;
+  less = lower_trans (to_do after true) (to_do (stepped_by k w) false) (to_do w true) goes.less
+      (free_lowers (problem_of w) w.part.nodes (roles_of w.tree.root w.tree.branches) k);
+}
+
+went_by : (w : SearchValue) (k : ℕ) (o : Went) → HasCleared (stepped_by k w) o → HasWent w o
+went_by w k (On after) goes = advanced_after w after k goes
+went_by w k (Ended part watched) ends = record {
+  searched = record {
+    part = record { job = ends.searched.part.job; slot = ends.searched.part.slot; node = ends.searched.part.node };
+    others = ends.searched.others;
+    fewer = ends.searched.fewer;
+  };
+  room = ends.room;
+}
+
+went_at_once : (w : SearchValue) (o : Went) → HasCleared w o → HasWent w o
+went_at_once w (On after) goes = advanced_by w after goes
+went_at_once w (Ended part watched) ends = ends
+
+-- an obstacle cleared after a free step
+pub went_after : {E : Type 0} (w after : SearchValue) (k : ℕ) (r : Result Went E) → after ≡ stepped_by k w
+    → IfOk r (HasCleared after) → IfOk r (HasWent w)
+went_after w after k (Ok o) same cleared = went_by w k o (subst (λ s. HasCleared s o) same cleared)
+went_after w after k (Err e) same cleared = tt
+
+-- an obstacle cleared at once
+pub went : {E : Type 0} (w : SearchValue) (r : Result Went E) → IfOk r (HasCleared w) → IfOk r (HasWent w)
+went w (Ok o) cleared = went_at_once w o cleared
+went w (Err e) cleared = tt

@@ -1,0 +1,85 @@
+-- A search may ask for its next obstacle.
+use Rattle.std.proofs.Common.{ℕ, ◌≡◌, true, [], refl, sym, ap, ◌∙◌, subst}
+use Rattle.fb_graph.specs.Parity.{is_in}
+use Rattle.fb_graph.specs.Problem.{with_defects}
+use Rattle.fb_graph.specs.Laws.{HasNoOddClosed}
+use Rattle.fb_graph.specs.Limits.{DecodingGraph}
+use Rattle.fb_graph.specs.Dual.{is_live, leaves}
+use Rattle.fb_graph.specs.Steps.{Roles}
+use Rattle.fb_graph.specs.Covers.{AreRoles}
+use Rattle.fb_graph.proofs.ClosedSets.{part_has_no_odd_closed}
+use Rattle.fb_graph.proofs.Sets.{All-from_is_in}
+use Rattle.fb_laws.specs.Lengths.{HasPlus}
+use Rattle.fb_laws.specs.Trees.{minus_names, plus_names, roles_of}
+use Rattle.fb_laws.proofs.JoinedThree.{root_plus}
+use Rattle.fb_laws.proofs.SearchTrees.{cover_place, plus_in_tree}
+use Rattle.fb_plan.specs.Plans.{PlanTree, problem_at}
+use Rattle.fb_trees.proofs.Mapped as mapped
+use Rattle.fb_half.specs.Parts.{shot_of}
+use Rattle.fb_half.specs.Translations.{link_by}
+use Rattle.fb_obstacles.specs.declared.obstacle.Obstacle.{Obstacle}
+use Rattle.fb_obstacles.specs.Obstacles.{HavePlusParity, IsObstacle, IsWatched, ListsMinus}
+use Rattle.fb_search.specs.Searching.{IsSearching, SearchValue, problem_of, roles_in}
+use Rattle.fb_search.proofs.ExchangedObstacles.{obstacle_exchanged}
+use Rattle.fb_search.proofs.Runs.{tree_roles}
+use Rattle.fb_search.proofs.SearchRoles.{linked_tree, minus_live, no_odd_closed, roles_in_tree}
+
+module _ (w : SearchValue) (are : IsSearching w) where
+  by_names : (P : Roles → Type 0) → P (roles_of w.tree.root w.tree.branches) → P (roles_in w)
+  by_names P is = subst P (sym (roles_in_tree w are)) is
+
+  plus_linked : plus_names w.tree.root (linked_tree w) ≡ plus_names w.tree.root w.tree.branches
+  plus_linked = mapped.plus_moved (link_by w.part.links) w.tree.root w.tree.branches
+
+  pub next_plus : HasPlus (roles_in w) w.part.nodes
+  next_plus =
+      let (d, leaf, cover) = are.state.1.search.search.root_is in
+      let (i, less, named, outer, within) = cover_place w.part.nodes d w.tree.root cover in
+      by_names (λ roles. HasPlus roles w.part.nodes) (
+        i,
+        less,
+        ap (is_in (plus_names w.tree.root w.tree.branches)) named
+            ∙ (ap (λ l. is_in l w.tree.root) (sym plus_linked) ∙ root_plus w.tree.root (linked_tree w)),
+      )
+
+  pub next_roles : AreRoles (roles_in w) w.part.nodes
+  next_roles = by_names (λ roles. AreRoles roles w.part.nodes) (tree_roles w are)
+
+  pub next_minus : ListsMinus (roles_in w) w.part.nodes (minus_names w.tree.branches)
+  next_minus =
+      by_names (λ roles. ListsMinus roles w.part.nodes (minus_names w.tree.branches)) (record {
+        every = λ i d less minus. minus;
+        only = All-from_is_in (λ name. (is_live w.part.nodes name ≡ true) × (is_in (minus_names w.tree.branches) name ≡ true)) (minus_names w.tree.branches) (λ name minus. (minus_live w are name minus, minus));
+      })
+
+  pub next_parity : HavePlusParity (roles_in w) w.part.nodes
+  next_parity =
+      by_names (λ roles. HavePlusParity roles w.part.nodes) (
+        are.state.0,
+        λ d name leaf cover plus.
+            are.state.1.search.search.parity d name leaf cover
+            (plus_in_tree w.tree.root (linked_tree w) name (ap (λ l. is_in l name) plus_linked ∙ plus)),
+      )
+
+  -- for the scope of the part, whose problem tells no defects
+  module _ (g : DecodingGraph) (t : PlanTree) (n : ℕ) (eg : g ≡ w.part.job.graph) (et : t ≡ w.part.job.plan) (en : n ≡ w.part.node) where
+    pub next_even : HasNoOddClosed (with_defects (problem_at g t n []) (leaves w.part.nodes))
+    next_even =
+        rw (eg, et, en)
+        (part_has_no_odd_closed (with_defects (problem_at w.part.job.graph w.part.job.plan w.part.node []) (leaves w.part.nodes))
+        (problem_of w) (record {
+          edges = refl;
+          real = λ v real. real;
+          defects = λ v real. sym (are.state.1.search.search.matching.defects v real);
+        }) (no_odd_closed w are))
+
+    pub next_watched : IsWatched (problem_at g t n []) (roles_in w) w.part.nodes w.watched.edges
+    next_watched = rw eg (record { within = are.watch.within; near = λ k less over apart. are.watch.near k less over apart })
+
+    pub next_is : (o : Obstacle) → IsObstacle (problem_at g t n []) (roles_in w) w.part.nodes o
+        → IsObstacle (problem_of w) (roles_in w) w.part.nodes o
+    next_is o is =
+        let there : IsObstacle (problem_at w.part.job.graph w.part.job.plan w.part.node []) (roles_in w) w.part.nodes o =
+        rw (← eg, ← et, ← en) is in
+        obstacle_exchanged (problem_at w.part.job.graph w.part.job.plan w.part.node []) (is_in (shot_of w.part)) (roles_in w)
+        w.part.nodes o there

@@ -1,0 +1,173 @@
+-- The branch of a minus node that has shrunk to its defect: its two links may be joined there, and close a cycle.
+use Rattle.std.proofs.Common.{ℕ, ◌≡◌, ◌≢◌, ◌==◌, inl, inr, true, List, [], ◌∷◌, map, All, Option, unwrap_or, refl, sym, ap, ◌∙◌, subst}
+use Rattle.std.proofs.lemmas.Bool.{both_ways, eq-eqb}
+use Rattle.std.proofs.lemmas.List.Elements.{All-cons, All-nil}
+use Rattle.fb_graph.specs.Parity.{is_in}
+use Rattle.fb_graph.specs.Problem.{Problem}
+use Rattle.fb_graph.specs.Certificate.{AreDistinct}
+use Rattle.fb_graph.specs.Dual.{Node, all_cuts, leaves}
+use Rattle.fb_graph.specs.Laws.{Link}
+use Rattle.fb_graph.specs.Links.{IsTightLink}
+use Rattle.fb_graph.proofs.Among.{All_among, IsAmong, among_any, among_right, map_among}
+use Rattle.fb_graph.proofs.Sets.{is_in-head, is_in-tail}
+use Rattle.fb_laws.specs.Fusion.{IsLinkOf}
+use Rattle.fb_laws.specs.LinkNumbers.{tree_links}
+use Rattle.fb_laws.specs.Searches.{IsSearch}
+use Rattle.fb_laws.specs.Trees.{Connects, Entry, EntryOf, IsTree, grown_links, paired_links, plus_names, tree_names}
+use Rattle.fb_laws.specs.Works.{AreMatchedLinks}
+use Rattle.fb_laws.proofs.OpenedCycles.{links_left, parent_plus}
+use Rattle.fb_laws.proofs.SearchStates.{links_joined}
+use Rattle.fb_laws.proofs.SearchTrees.{connects_sym, plus_in_tree}
+use Rattle.fb_laws.proofs.TreePaths.{among_plus, in_left, in_right, tree_connects}
+use Rattle.fb_links.specs.declared.walk.Step.{Step}
+use Rattle.fb_links.specs.Table.{Adds, is_live, walk_at}
+use Rattle.fb_links.specs.Walks.{joined}
+use Rattle.fb_trees.specs.Rooted.{IsBranchAt, IsPlus}
+use Rattle.fb_trees.proofs.Mapped.{plus_moved}
+use Rattle.fb_half.specs.Parts.{kept_links}
+use Rattle.fb_half.specs.Translations.{entry_by, link_by, link_of}
+use Rattle.fb_obstacles.specs.Obstacles.{IsZeroDefect}
+use Rattle.fb_search.specs.Progress.{GoesOn}
+use Rattle.fb_search.specs.Searching.{IsSearching, IsSearchingBeside, SearchValue, problem_of, relinked, state_at}
+use Rattle.fb_search.proofs.MadeLinks.{link_made}
+use Rattle.fb_search.proofs.RoundedLinks.{AreRounded, links_rounded}
+use Rattle.fb_search.proofs.StepWalks.{walk_there}
+
+-- the three nodes of a branch are different
+branch_apart : (nodes : List Node) (root : ℕ) (tree : List Entry) → AreDistinct (tree_names root tree)
+    → IsTree nodes root tree → (e : Entry) → IsAmong e tree
+    → (e.parent ≡ e.minus → ⊥) × (e.minus ≡ e.plus → ⊥) × (e.parent ≡ e.plus → ⊥)
+branch_apart nodes root [] distinct joined e a = absurd a
+branch_apart nodes root (x ∷ xs) distinct joined e (inr a) = branch_apart nodes root xs distinct.1.1 joined.3 e a
+branch_apart nodes root (x ∷ xs) distinct joined e (inl same) =
+    subst (λ y. (y.parent ≡ y.minus → ⊥) × (y.minus ≡ y.plus → ⊥) × (y.parent ≡ y.plus → ⊥)) same (
+      λ clash.
+          both_ways (is_in (x.plus ∷ tree_names root xs) x.minus) distinct.0
+          (is_in-tail x.plus (tree_names root xs) x.minus (subst (λ n. is_in (tree_names root xs) n ≡ true) clash there)),
+      λ clash.
+          both_ways (is_in (x.plus ∷ tree_names root xs) x.minus) distinct.0
+          (subst (λ n. is_in (x.plus ∷ tree_names root xs) n ≡ true) (sym clash) (is_in-head x.plus (tree_names root xs))),
+      λ clash.
+          both_ways (is_in (tree_names root xs) x.plus) distinct.1.0
+          (subst (λ n. is_in (tree_names root xs) n ≡ true) clash there),
+    )
+  where
+    there : is_in (tree_names root xs) x.parent ≡ true
+    there = plus_in_tree root xs x.parent joined.0
+
+-- one of the links
+link_among : (p : Problem) (nodes : List Node) (links : List Link) (l : Link) → AreMatchedLinks p nodes links
+    → IsAmong l links → AreMatchedLinks p nodes (l ∷ [])
+link_among p nodes links l are a = record {
+  tight = one (IsTightLink p (all_cuts nodes)) are.tight;
+  own = one (IsLinkOf p) are.own;
+  at_defects = one
+      (λ m.
+      (p.is_real m.from ≡ true → is_in (leaves nodes) m.from ≡ true)
+      × (p.is_real m.to ≡ true → is_in (leaves nodes) m.to ≡ true))
+      are.at_defects;
+}
+  where
+    one : (P : Link → Type 0) → All P links → All P (l ∷ [])
+    one P all = All-cons P l [] (All_among P links all l a) (All-nil P)
+
+-- the branch's links may be joined, and are then a link between its parent and its plus node
+pub record IsRounding (w : SearchValue) (e : EntryOf ℕ) : Type 0 where
+  pub first : is_live w.part.links e.tree ≡ true
+  pub second : is_live w.part.links e.matched ≡ true
+  pub plus : IsPlus w.tree e.plus
+  pub parent : IsPlus w.tree e.parent
+  pub apart : e.plus ≢ e.parent
+  pub links : AreRounded (problem_of w) w.part.nodes e.parent e.plus (walk_at w.part.links e.tree)
+      (walk_at w.part.links e.matched)
+
+pub rounding : (w : SearchValue) (name : ℕ) (e : EntryOf ℕ) → IsSearching w → IsZeroDefect w.part.nodes name
+    → IsBranchAt w.tree name e → IsRounding w e
+rounding w name e are zero at = record {
+  first = live_tree;
+  second = live_matched;
+  plus = plus_of e.plus (among_plus w.tree.root tree entry listed);
+  parent = plus_of e.parent (parent_plus w.part.nodes w.tree.root tree search.joined entry listed);
+  apart = λ same. apart.2 (sym same);
+  links = links_rounded (problem_of w) w.part.nodes (walk_at w.part.links e.tree) (walk_at w.part.links e.matched) e.parent
+      e.minus e.plus are.state.1.search.nest (subst (IsZeroDefect w.part.nodes) (sym at.minus) zero)
+      (links_joined (problem_of w) w.part.nodes (link_by w.part.links e.tree ∷ []) (link_by w.part.links e.matched ∷ [])
+      (link_among (problem_of w) w.part.nodes (grown_links tree) (link_by w.part.links e.tree) search.grown
+      (map_among (λ x. x.tree) tree entry listed))
+      (link_among (problem_of w) w.part.nodes (paired_links tree) (link_by w.part.links e.matched)
+      (links_left (problem_of w) w.part.nodes (paired_links tree) (state_at w are.state.0).rest search.matching.links_are)
+      (map_among (λ x. x.matched) tree entry listed)))
+      connects.0 connects.1 apart.0 apart.1 apart.2
+      (are.links.steps e.tree (walk_at w.part.links e.tree) (walk_there w.part.links e.tree live_tree))
+      (are.links.steps e.matched (walk_at w.part.links e.matched) (walk_there w.part.links e.matched live_matched));
+}
+  where
+    tree : List Entry
+    tree = map (entry_by w.part.links) w.tree.branches
+
+    entry : Entry
+    entry = entry_by w.part.links e
+
+    among : IsAmong e w.tree.branches
+    among = subst (IsAmong e) (sym at.there) (among_right at.newer (e ∷ at.older) e (inl refl))
+
+    listed : IsAmong entry tree
+    listed = map_among (entry_by w.part.links) w.tree.branches e among
+
+    search : IsSearch (problem_of w) w.part.nodes tree (state_at w are.state.0).rest w.part.matching.unmatched w.tree.root
+        are.state.0
+    search = are.state.1.search.search
+
+    connects : Connects w.part.nodes entry.tree e.parent e.minus × Connects w.part.nodes entry.matched e.minus e.plus
+    connects = tree_connects w.part.nodes w.tree.root tree search.joined entry listed
+
+    apart : (e.parent ≡ e.minus → ⊥) × (e.minus ≡ e.plus → ⊥) × (e.parent ≡ e.plus → ⊥)
+    apart = branch_apart w.part.nodes w.tree.root tree search.names search.joined entry listed
+
+    live : (id : ℕ) → is_in (tree_links w.tree.branches) id ≡ true → is_live w.part.links id ≡ true
+    live id h = are.links.live id ∙ in_left (tree_links w.tree.branches) (kept_links w.part) id h
+
+    live_tree : is_live w.part.links e.tree ≡ true
+    live_tree =
+        live e.tree
+        (in_left (grown_links w.tree.branches) (paired_links w.tree.branches) e.tree
+        (among_any (λ id. id == e.tree) (grown_links w.tree.branches) e.tree
+        (map_among (λ x. x.tree) w.tree.branches e among) (eq-eqb e.tree e.tree refl)))
+
+    live_matched : is_live w.part.links e.matched ≡ true
+    live_matched =
+        live e.matched
+        (in_right (grown_links w.tree.branches) (paired_links w.tree.branches) e.matched
+        (among_any (λ id. id == e.matched) (paired_links w.tree.branches) e.matched
+        (map_among (λ x. x.matched) w.tree.branches e among) (eq-eqb e.matched e.matched refl)))
+
+    plus_of : (n : ℕ) → is_in (plus_names w.tree.root tree) n ≡ true → IsPlus w.tree n
+    plus_of n h = sym (ap (λ names. is_in names n) (plus_moved (link_by w.part.links) w.tree.root w.tree.branches)) ∙ h
+
+-- the joined link made
+module _ (w : SearchValue) (e : EntryOf ℕ) (id : ℕ) (new : List (Option (List Step))) (is : IsRounding w e)
+    (adds : Adds w.part.links new id (joined (walk_at w.part.links e.tree) (walk_at w.part.links e.matched))) where
+  made : link_of (joined (walk_at w.part.links e.tree) (walk_at w.part.links e.matched)) ≡ link_by new id
+  made = ap (λ o. link_of (unwrap_or o [])) (sym adds.added)
+
+  pub rounded_connects : Connects w.part.nodes (link_by new id) e.plus e.parent
+  rounded_connects =
+      connects_sym w.part.nodes (link_by new id) e.parent e.plus
+      (subst (λ l. Connects w.part.nodes l e.parent e.plus) made is.links.connects)
+
+  pub rounded_matched : AreMatchedLinks (problem_of w) w.part.nodes (link_by new id ∷ [])
+  rounded_matched = subst (λ l. AreMatchedLinks (problem_of w) w.part.nodes (l ∷ [])) made is.links.matched
+
+  pub rounded_search : IsSearching w → IsSearchingBeside (id ∷ []) (relinked new w)
+  rounded_search are =
+      link_made w id (joined (walk_at w.part.links e.tree) (walk_at w.part.links e.matched)) new are adds is.links.steps
+
+-- what is left to do does not depend on links
+pub goes_on_relinked : (w after : SearchValue) (new : List (Option (List Step))) → GoesOn (relinked new w) after
+    → GoesOn w after
+goes_on_relinked w after new on = record {
+  part = record { job = on.part.job; slot = on.part.slot; node = on.part.node };
+  others = on.others;
+  count = on.count;
+  less = on.less;
+}

@@ -1,0 +1,99 @@
+-- Source walks step by step, as the laws have them, and gone back.
+use Rattle.std.proofs.Common.{ℕ, ◌≡◌, ◌+◌, inl, inr, true, List, [], ◌∷◌, map, reverse, All, Some, refl, sym, ap, ◌∙◌, subst, arith}
+use Rattle.std.proofs.lemmas.List.Elements.{All-cons, All-head, All-map, All-nil, All-push, All-tail}
+use Rattle.std.proofs.lemmas.List.Sums.{sum_by-cons}
+use Rattle.fb_graph.specs.Problem.{Problem, edge_at, weight_of}
+use Rattle.fb_graph.specs.Components.{IsWalkBy, Leads}
+use Rattle.fb_graph.specs.Dual.{Node, all_cuts, cover_of, height_of}
+use Rattle.fb_graph.specs.Laws.{has_real_end}
+use Rattle.fb_graph.specs.declared.parts.Edge.{Edge}
+use Rattle.fb_laws.specs.MetLinks.{IsSourceUnder}
+use Rattle.fb_laws.specs.StepLinks.{IsTurn, StepParts}
+use Rattle.fb_laws.proofs.StepLinks.{edges_turned}
+use Rattle.fb_links.specs.declared.walk.Step.{Step}
+use Rattle.fb_links.specs.Walks.{Runs, turn, turned, walk_weight}
+use Rattle.fb_links.proofs.Turns.{turned-cons}
+use Rattle.fb_regions.specs.Moves.{IsWalkFrom}
+use Rattle.fb_regions.specs.Walks.{IsStep, IsWalk}
+use Rattle.fb_half.specs.Parts.{AreStepsOf}
+
+-- the steps of a walk follow one another
+pub steps_run : (p : Problem) (walk : List Step) (from to : ℕ) → IsWalk p walk from to → Runs walk from to
+steps_run p [] from to same = same
+steps_run p (s ∷ ss) from to (begins, step, more) = (begins, steps_run p ss s.to to more)
+
+-- they are a walk by their edges
+edges_lead : (p : Problem) (walk : List Step) (from to : ℕ) → IsWalk p walk from to
+    → IsWalkBy p (map (λ s. s.edge) walk) from to
+edges_lead p [] from to same = same
+edges_lead p (s ∷ ss) from to (begins, step, more) =
+    (s.to, step.within, subst (λ v. Leads (edge_at p.edges s.edge) v s.to) begins step.leads, edges_lead p ss s.to to more)
+
+-- which weighs the same
+edges_weigh : (p : Problem) (walk : List Step) (from to : ℕ) → IsWalk p walk from to
+    → weight_of p (map (λ s. s.edge) walk) ≡ walk_weight walk
+edges_weigh p [] from to same = refl
+edges_weigh p (s ∷ ss) from to (begins, step, more) = omega (
+  arith,
+  sum_by-cons (λ k. (edge_at p.edges k).weight) s.edge (map (λ t. t.edge) ss),
+  sum_by-cons (λ t. t.weight) s ss,
+  step.weighs,
+  edges_weigh p ss s.to to more,
+)
+
+abbrev HasRealEnd : Problem → Step → Type 0
+HasRealEnd p s = has_real_end p (edge_at p.edges s.edge) ≡ true
+
+abbrev IsStepOfPart : Problem → Step → Type 0
+IsStepOfPart p s = IsStep p s × HasRealEnd p s
+
+-- each of them has a real end
+pub steps_real : (p : Problem) (walk : List Step) (from to : ℕ) → IsWalk p walk from to → All (HasRealEnd p) walk
+    → AreStepsOf p walk
+steps_real p [] from to same real = All-nil (IsStepOfPart p)
+steps_real p (s ∷ ss) from to (begins, step, more) real =
+    All-cons (IsStepOfPart p) s ss (step, All-head (HasRealEnd p) s ss real)
+    (steps_real p ss s.to to more (All-tail (HasRealEnd p) s ss real))
+
+-- an edge may be gone either way
+pub leads_back : (e : Edge) (u v : ℕ) → Leads e u v → Leads e v u
+leads_back e u v (inl (first, second)) = inr (second, first)
+leads_back e u v (inr (second, first)) = inl (first, second)
+
+step_back : (p : Problem) (s : Step) → IsStepOfPart p s → IsStepOfPart p (turn s)
+step_back p s (is, real) = (
+  record { within = is.within; leads = leads_back (edge_at p.edges s.edge) s.from s.to is.leads; weighs = is.weighs },
+  real,
+)
+
+-- the walk gone back has such steps too
+pub steps_back : (p : Problem) (walk : List Step) → AreStepsOf p walk → AreStepsOf p (turned walk)
+steps_back p [] are = All-nil (IsStepOfPart p)
+steps_back p (s ∷ ss) are =
+    subst (AreStepsOf p) (sym (turned-cons s ss))
+    (All-push (IsStepOfPart p) (turned ss) (turn s) (steps_back p ss (All-tail (IsStepOfPart p) s ss are))
+    (step_back p s (All-head (IsStepOfPart p) s ss are)))
+
+-- how the laws read a step
+abbrev parts : StepParts Step
+parts = record { from = λ s. s.from; to = λ s. s.to; edge = λ s. s.edge }
+
+turns : IsTurn parts turn
+turns = record { from = λ s. refl; to = λ s. refl; edge = λ s. refl }
+
+pub edges_back : (walk : List Step) → map (λ s. s.edge) (turned walk) ≡ reverse (map (λ s. s.edge) walk)
+edges_back walk = edges_turned Step parts turn walk turns
+
+-- the source walk as the laws have it
+pub walk_under : (p : Problem) (nodes : List Node) (walk : List Step) (d v name : ℕ) → IsWalkFrom p nodes walk d v
+    → cover_of nodes v ≡ Some name → IsSourceUnder p nodes name (map (λ s. s.edge) walk) d v
+walk_under p nodes walk d v name is covered = record {
+  defect = is.defect;
+  begins = is.together ∙ covered;
+  ends = covered;
+  real = All-map (λ k. has_real_end p (edge_at p.edges k) ≡ true) (λ s. s.edge) walk is.real;
+  source = record {
+    leads = edges_lead p walk d v is.leads;
+    balance = ap (λ n. n + height_of (all_cuts nodes) v) (edges_weigh p walk d v is.leads) ∙ is.weighs;
+  };
+}

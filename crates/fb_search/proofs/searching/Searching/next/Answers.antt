@@ -1,0 +1,31 @@
+use Rattle.std.proofs.Common.{◌∙◌, ap, sym}
+use Rattle.fb_half.specs.Values.{part_of}
+use Rattle.fb_search.specs.Searching.{SearchValue}
+use Rattle.fb_search.proofs.NextObstacles.{next_even, next_is, next_minus, next_parity, next_plus, next_roles, next_watched}
+use Rattle.fb_search.proofs.searching.Searching.next.Goals as goal
+
+pub next_obstacle-requires : goal.next_obstacle-requires
+next_obstacle-requires g c =
+    let w : SearchValue = record { part = part_of c.self.inside.parts; tree = c.self.inside.tree; watched = c.self.inside.watch } in
+    let scope = c.self.invariant.0 in
+    let graph = ap (λ s. s.graph.now) c.scope.ensures ∙ scope.graph in
+    let plan = ap (λ s. s.plan.now) c.scope.ensures ∙ scope.plan in
+    let node = ap (λ s. s.node) c.scope.ensures ∙ scope.node in
+    record {
+      same = sym c.scope.ensures;
+      plus = next_plus w c.self.invariant.1;
+      roles = next_roles w c.self.invariant.1;
+      minus = next_minus w c.self.invariant.1;
+      parity = next_parity w c.self.invariant.1;
+      even = next_even w c.self.invariant.1 _ _ _ graph plan node;
+      watched = next_watched w c.self.invariant.1 _ _ _ graph plan node;
+    }
+
+pub returns : goal.returns
+returns g c =
+    let w : SearchValue = record { part = part_of c.self.inside.parts; tree = c.self.inside.tree; watched = c.self.inside.watch } in
+    let scope = c.self.invariant.0 in
+    rw (← c.self.view_is)
+    (next_is w c.self.invariant.1 c.scope.result.now.graph.now c.scope.result.now.plan.now c.scope.result.now.node
+    (ap (λ s. s.graph.now) c.scope.ensures ∙ scope.graph) (ap (λ s. s.plan.now) c.scope.ensures ∙ scope.plan)
+    (ap (λ s. s.node) c.scope.ensures ∙ scope.node) c.next_obstacle.result c.next_obstacle.ensures.obstacle)
