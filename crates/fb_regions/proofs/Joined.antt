@@ -45,7 +45,7 @@ adopted_nodes marks names o (r ∷ rs) =
     ap (λ n. n ∷ nodes_of marks (map (adopted names o) rs)) (adopted_node marks names o r)
     ∙ ap (λ l. node_of marks r ∷ l) (adopted_nodes marks names o rs)
 
-same_name : (names : List ℕ) (o : Option ℕ) (r : Region) → (adopted names o r).name ≡ r.name
+pub same_name : (names : List ℕ) (o : Option ℕ) (r : Region) → (adopted names o r).name ≡ r.name
 same_name names o r = by (is_in names r.name)
   where
     by : (b : Bool) → (if b then record r { parent = o } else r).name ≡ r.name
@@ -97,7 +97,7 @@ children_last (r ∷ rs) new out =
     let parts = or_parts (r.name == new.name) (is_in (map (λ s. s.name) rs) new.name) out in
     ap (λ b. if b then r.children.items else children_from (rs ++ new ∷ []) new.name) parts.0 ∙ children_last rs new parts.1
 
-adopted_names : (names : List ℕ) (o : Option ℕ) (rs : List Region) → map (λ r. r.name) (map (adopted names o) rs) ≡ map (λ r. r.name) rs
+pub adopted_names : (names : List ℕ) (o : Option ℕ) (rs : List Region) → map (λ r. r.name) (map (adopted names o) rs) ≡ map (λ r. r.name) rs
 adopted_names names o [] = refl
 adopted_names names o (r ∷ rs) =
     ap (λ n. n ∷ map (λ s. s.name) (map (adopted names o) rs)) (same_name names o r) ∙ ap (λ l. r.name ∷ l) (adopted_names names o rs)

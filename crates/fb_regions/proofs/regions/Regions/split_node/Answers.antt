@@ -12,7 +12,7 @@ unreachable-requires g c =
     let live : is_live (nodes_of c.self.inside.marks.items c.self.inside.regions.items) c.args.node ≡ true = may.live in
     let gone : is_live (nodes_of c.self.inside.marks.items c.self.inside.regions.items) c.args.node ≡ false =
     not_found c.self.inside.marks.items c.self.inside.regions.items c.args.node
-    (read_place c.self.inside.regions.items _ c.args.node None c.deref.ensures.value c.in_default.ensures) in
+    (read_place c.self.inside.regions.items _ _ c.args.node None c.self.invariant.1 c.deref.ensures.value c.in_default.ensures) in
     cc
 
 pub invariant_of-self : goal.invariant_of-self
@@ -25,8 +25,8 @@ invariant_of-self g c =
       mapped_back (adopted c.remove-blossom.result.children.items None) (remove c.self.inside.regions.items c.in-Some.place) c.remove-blossom.new.self.len
           (c.remove-blossom.new.self.ok.0 ∙ ap length c.remove-blossom.ensures.items),
     )
-    (kept_split _ _ _ c.self.invariant c.args.node c.in-Some.place c.remove-blossom.result
-    (read_place c.self.inside.regions.items _ c.args.node (Some c.in-Some.place) c.deref.ensures.value c.in-Some.ensures) c.remove-blossom.ensures.value
+    (kept_split _ _ _ c.self.invariant.0 c.args.node c.in-Some.place c.remove-blossom.result
+    (read_place c.self.inside.regions.items _ _ c.args.node (Some c.in-Some.place) c.self.invariant.1 c.deref.ensures.value c.in-Some.ensures) c.remove-blossom.ensures.value
     (rw (← c.self.view_is) at c.requires))
 
 pub returns-clause-ok : goal.returns-clause-ok
@@ -41,6 +41,6 @@ returns-clause-ok g c =
           (c.remove-blossom.new.self.ok.0 ∙ ap length c.remove-blossom.ensures.items),
     )
     (ap (λ ns. record { scope = c.self.inside.scope; nodes = ns })
-    (split_nodes _ _ _ c.self.invariant c.args.node c.in-Some.place c.remove-blossom.result
-    (read_place c.self.inside.regions.items _ c.args.node (Some c.in-Some.place) c.deref.ensures.value c.in-Some.ensures) c.remove-blossom.ensures.value
+    (split_nodes _ _ _ c.self.invariant.0 c.args.node c.in-Some.place c.remove-blossom.result
+    (read_place c.self.inside.regions.items _ _ c.args.node (Some c.in-Some.place) c.self.invariant.1 c.deref.ensures.value c.in-Some.ensures) c.remove-blossom.ensures.value
     (rw (← c.self.view_is) at c.requires)))
