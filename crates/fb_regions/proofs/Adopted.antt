@@ -1,14 +1,12 @@
 -- A parent given to some nodes, one by one.
-use Rattle.std.proofs.Common.{ℕ, zero, suc, ◌≡◌, ◌+◌, ◌<◌, ◌==◌, ◌||◌, Bool, true, false, List, [], ◌∷◌, ◌++◌, length, map, set, get_or, take, Option, Some, None, refl, sym, ap, ◌∙◌, subst, arith, if◌then◌else◌}
-use Rattle.std.specs.Prelude.{option_map}
-use Rattle.std.proofs.lemmas.Bool.{eq-eqb, eqb-true, false_from_ne_true, both_ways, or_parts, or_right}
-use Rattle.std.proofs.lemmas.List.{take_more}
+use Rattle.std.proofs.Common.{ℕ, ◌≡◌, ◌==◌, ◌||◌, Bool, true, false, List, [], ◌∷◌, ◌++◌, map, set, get_or, Option, Some, None, refl, sym, ap, ◌∙◌, if◌then◌else◌}
+use Rattle.std.proofs.lemmas.Bool.{eq-eqb, eqb-true, false_from_ne_true, both_ways, or_right}
 use Rattle.fb_graph.specs.Parity.{is_in}
 use Rattle.fb_graph.specs.Certificate.{AreDistinct}
 use Rattle.fb_graph.proofs.Members.{is_in_push, or_false}
 use Rattle.fb_regions.specs.declared.region.Region.{Region}
 use Rattle.fb_regions.specs.InternalNodes.{adopted}
-use Rattle.fb_regions.proofs.Climbs.{next}
+use Rattle.fb_regions.proofs.Climbs.{next, no_next}
 use Rattle.fb_regions.proofs.ByName.{names, not_placed, placed, placed_here, placed_past}
 
 adopted_other : (cs : List ℕ) (name : ℕ) (o : Option ℕ) (r : Region) → (r.name == name) ≡ false → adopted (cs ++ name ∷ []) o r ≡ adopted cs o r
@@ -39,16 +37,12 @@ pub adopted_none : (rs : List Region) (cs : List ℕ) (name : ℕ) (o : Option �
 adopted_none [] cs name o out = refl
 adopted_none (r ∷ rs) cs name o out = by (r.name == name) refl (adopted_none rs cs name o)
   where
-    none : (p : Option ℕ) → option_map suc p ≡ None → p ≡ None
-    none None e = refl
-    none (Some j) e = absurd (let clash : Some (suc j) ≡ None = e in cc)
-
     by : (b : Bool) → (r.name == name) ≡ b → (placed name rs ≡ None → map (adopted (cs ++ name ∷ []) o) rs ≡ map (adopted cs o) rs)
         → map (adopted (cs ++ name ∷ []) o) (r ∷ rs) ≡ map (adopted cs o) (r ∷ rs)
     by true e rest = absurd (let clash : Some 0 ≡ None = sym (placed_here r rs name e) ∙ out in cc)
     by false e rest =
         ap (λ y. y ∷ map (adopted (cs ++ name ∷ []) o) rs) (adopted_other cs name o r e)
-        ∙ ap (λ l. adopted cs o r ∷ l) (rest (none (placed name rs) (sym (placed_past r rs name e) ∙ out)))
+        ∙ ap (λ l. adopted cs o r ∷ l) (rest (no_next (placed name rs) (sym (placed_past r rs name e) ∙ out)))
 
 -- the node of the name
 pub adopted_at : (rs : List Region) (cs : List ℕ) (name : ℕ) (o : Option ℕ) (i : ℕ) (r : Region) → AreDistinct (names rs) → placed name rs ≡ Some i

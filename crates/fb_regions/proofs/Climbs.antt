@@ -1,14 +1,11 @@
 -- From a node to the one that joins it, and on to the outer node.
-use Rattle.std.proofs.Common.{ℕ, zero, suc, ◌≡◌, ◌+◌, ◌<◌, ◌≤◌, ◌==◌, Bool, true, false, List, [], ◌∷◌, length, get_or, Option, Some, None, refl, sym, ap, ◌∙◌, subst, arith, add-zero, if◌then◌else◌}
+use Rattle.std.proofs.Common.{ℕ, suc, ◌≡◌, ◌+◌, ◌<◌, ◌≤◌, ◌==◌, Bool, true, false, List, [], ◌∷◌, get_or, Option, Some, None, refl, sym, ap, ◌∙◌, subst, arith, add-zero, if◌then◌else◌}
 use Rattle.std.specs.Prelude.{option_map}
-use Rattle.std.specs.List.{position}
-use Rattle.std.proofs.lemmas.Bool.{false_from_ne_true, both_ways}
 use Rattle.fb_graph.specs.Parity.{is_in}
-use Rattle.fb_graph.specs.Certificate.{AreDistinct}
 use Rattle.fb_regions.specs.declared.region.Region.{Region}
 use Rattle.fb_regions.specs.InternalNodes.{radii_from, root_from}
 use Rattle.fb_regions.specs.InternalPlaces.{AreJoinedAbove, IsJoinedIn}
-use Rattle.fb_regions.proofs.ByName.{known_placed, name_known, names, other_name, placed, placed_here, placed_known, placed_past, first_placed}
+use Rattle.fb_regions.proofs.ByName.{known_placed, names, other_name, placed, placed_here, placed_known, placed_past}
 
 abbrev root_above : List Region → ℕ → Option ℕ → Option ℕ
 root_above rs x None = Some x
@@ -21,7 +18,7 @@ radii_above rs (Some q) = radii_from rs q
 root_here : (r : Region) (rs : List Region) (k : ℕ) → (r.name == k) ≡ true → root_from (r ∷ rs) k ≡ root_above rs k r.parent
 root_here r rs k e = ap (λ b. if b then root_above rs k r.parent else root_from rs k) e
 
-root_past : (r : Region) (rs : List Region) (k : ℕ) → (r.name == k) ≡ false → root_from (r ∷ rs) k ≡ root_from rs k
+pub root_past : (r : Region) (rs : List Region) (k : ℕ) → (r.name == k) ≡ false → root_from (r ∷ rs) k ≡ root_from rs k
 root_past r rs k e = ap (λ b. if b then root_above rs k r.parent else root_from rs k) e
 
 radii_here : (r : Region) (rs : List Region) (k : ℕ) → (r.name == k) ≡ true → radii_from (r ∷ rs) k ≡ r.radius + radii_above rs r.parent
@@ -30,7 +27,11 @@ radii_here r rs k e = ap (λ b. if b then r.radius + radii_above rs r.parent els
 radii_past : (r : Region) (rs : List Region) (k : ℕ) → (r.name == k) ≡ false → radii_from (r ∷ rs) k ≡ radii_from rs k
 radii_past r rs k e = ap (λ b. if b then r.radius + radii_above rs r.parent else radii_from rs k) e
 
--- the node that joins the one at place i
+pub no_next : (o : Option ℕ) → option_map suc o ≡ None → o ≡ None
+no_next None e = refl
+no_next (Some j) e = absurd (let clash : Some (suc j) ≡ None = e in cc)
+
+-- what is said of q, which joins the node r of this name at place i
 pub record IsStep (rs : List Region) (name i q : ℕ) (r : Region) : Type 0 where
   pub place : ℕ
   pub at : placed q rs ≡ Some place
@@ -38,6 +39,7 @@ pub record IsStep (rs : List Region) (name i q : ℕ) (r : Region) : Type 0 wher
   pub root : root_from rs q ≡ root_from rs name
   pub radii : radii_from rs name ≡ r.radius + radii_from rs q
 
+-- a place in a list, where the first element is another
 pub record IsNext (o : Option ℕ) (i : ℕ) : Type 0 where
   pub before : ℕ
   pub at : o ≡ Some before
@@ -112,15 +114,11 @@ pub not_stepped : (rs : List Region) (name : ℕ) → placed name rs ≡ None �
 not_stepped [] name out = (refl, refl)
 not_stepped (x ∷ xs) name out = by (x.name == name) refl (not_stepped xs name)
   where
-    none : (o : Option ℕ) → option_map suc o ≡ None → o ≡ None
-    none None e = refl
-    none (Some j) e = absurd (let clash : Some (suc j) ≡ None = e in cc)
-
     by : (b : Bool) → (x.name == name) ≡ b → (placed name xs ≡ None → (root_from xs name ≡ None) × (radii_from xs name ≡ 0))
         → (root_from (x ∷ xs) name ≡ None) × (radii_from (x ∷ xs) name ≡ 0)
     by true e rest = absurd (let clash : Some 0 ≡ None = sym (placed_here x xs name e) ∙ out in cc)
     by false e rest =
-        let up = rest (none (placed name xs) (sym (placed_past x xs name e) ∙ out)) in
+        let up = rest (no_next (placed name xs) (sym (placed_past x xs name e) ∙ out)) in
         (root_past x xs name e ∙ up.0, radii_past x xs name e ∙ up.1)
 
 -- a node's radius is a part of the sum

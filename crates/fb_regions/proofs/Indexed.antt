@@ -1,20 +1,22 @@
 -- The index of the nodes, as nodes come and go.
-use Rattle.std.proofs.Common.{ℕ, zero, suc, ◌≡◌, ◌+◌, ◌<◌, ◌≤◌, ◌==◌, ◌||◌, cond, Bool, true, false, List, [], ◌∷◌, ◌++◌, length, map, set, drop, get_or, Option, Some, None, refl, sym, ap, ◌∙◌, subst, arith, add-one, drop-cons, if◌then◌else◌}
-use Rattle.std.specs.List.{All, position, remove}
-use Rattle.std.proofs.lemmas.Bool.{eqb-true, or_parts}
+use Rattle.std.proofs.Common.{ℕ, zero, suc, ◌≡◌, ◌+◌, ◌<◌, ◌≤◌, ◌==◌, ◌||◌, Bool, true, false, List, [], ◌∷◌, ◌++◌, length, map, set, drop, get_or, Option, Some, None, refl, sym, ap, ◌∙◌, subst, arith, add-one, drop-cons, if◌then◌else◌}
+use Rattle.std.specs.List.{All, remove}
+use Rattle.std.proofs.lemmas.Bool.{eqb-true}
 use Rattle.std.proofs.lemmas.List.{length-map}
 use Rattle.fb_graph.specs.Parity.{is_in}
 use Rattle.fb_graph.specs.Certificate.{AreDistinct}
 use Rattle.fb_graph.specs.Dual.{is_live}
 use Rattle.fb_graph.specs.Problem.{Problem}
+use Rattle.fb_graph.proofs.Among.{All_among, among_All}
 use Rattle.fb_graph.proofs.NestParts.{names_live}
 use Rattle.fb_regions.specs.declared.marks.Mark.{Mark}
 use Rattle.fb_regions.specs.declared.region.Region.{Region}
 use Rattle.fb_regions.specs.InternalNodes.{adopted, children_from, nodes_of}
 use Rattle.fb_regions.specs.InternalPlaces.{place_in, AreJoinedAbove, IsIndex, IsIndexBefore, IsJoinedIn}
 use Rattle.fb_regions.specs.InternalKept.{HasParent, HaveParents, IsKept}
-use Rattle.fb_regions.proofs.Found.{names_of, read_place}
+use Rattle.fb_regions.proofs.Found.{found, names_of, read_place}
 use Rattle.fb_regions.proofs.Joined.{adopted_names, same_name}
+use Rattle.fb_regions.proofs.Split.{still_among}
 use Rattle.fb_regions.proofs.ByName.{first_placed, names, not_placed, placed, placed_mapped, placed_own, placed_push, placed_push_own, placed_removed, placed_set, removed_own}
 
 pub index_set : (rs : List Region) (places : List (Option ℕ)) (i : ℕ) (old new : Region) → IsIndex rs places → old ≡ get_or rs i old → i < length rs
@@ -137,3 +139,19 @@ module _ (p : Problem) (regions : List Region) (marks : List (Option Mark)) (kep
       by : (rs : List Region) → AreDistinct (names rs) → HaveParents (nodes_of marks regions) rs → AreJoinedAbove rs
       by [] distinct parents = tt
       by (r ∷ rs) distinct parents = (up rs r.name r.parent parents.0, distinct.0, by rs distinct.1 parents.1)
+
+  -- a node taken away
+  module _ (places : List (Option ℕ)) (index : IsIndex regions places) (i : ℕ) where
+    pub removed_within : (other : List (Option ℕ)) → length other ≡ length places → All (λ r. r.name < length other) (remove regions i)
+    removed_within other same =
+        among_All (λ r. r.name < length other) (remove regions i)
+        (λ r a.
+        let less : r.name < length places =
+        All_among (λ s. s.name < length places) regions (names_within regions places index distinct_names) r (still_among regions i r a) in
+        omega (arith, same, less))
+
+    pub removed_before : (name : ℕ) (old : Region) → placed name regions ≡ Some i → old ≡ get_or regions i old → (other : List (Option ℕ))
+        → ((k : ℕ) → place_in other k ≡ (if name == k then None else place_in places k)) → IsIndexBefore i (remove regions i) other
+    removed_before name old at is_old other entries =
+        index_removed regions places other i old index distinct_names is_old (first_placed regions name i at).0
+        (λ k. entries k ∙ ap (λ n. if n == k then None else place_in places k) (sym (found marks regions name i old at is_old).named))

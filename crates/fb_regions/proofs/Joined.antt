@@ -1,14 +1,13 @@
 -- Outer nodes joined in a blossom.
-use Rattle.std.proofs.Common.{ℕ, ◌≡◌, ◌+◌, ◌<◌, ◌≤◌, ◌==◌, ◌&&◌, ◌||◌, ◌⊎◌, inl, inr, Bool, true, false, List, [], ◌∷◌, ◌++◌, length, map, get_or, Option, Some, None, refl, sym, ap, ◌∙◌, subst, arith, if◌then◌else◌}
+use Rattle.std.proofs.Common.{ℕ, ◌≡◌, ◌≤◌, ◌==◌, ◌&&◌, ◌||◌, ◌⊎◌, inl, inr, Bool, true, false, List, [], ◌∷◌, ◌++◌, length, map, Option, Some, None, refl, sym, ap, ◌∙◌, subst, arith, if◌then◌else◌}
 use Rattle.std.specs.List.{All, concat}
-use Rattle.std.specs.Option.{IsSome}
 use Rattle.std.proofs.lemmas.Bool.{both_ways, false≢true, false_from_ne_true, eq-eqb, eqb-true, or_cases, or_parts}
 use Rattle.std.proofs.lemmas.List.{append-nil, length-append, map-append}
 use Rattle.std.proofs.lemmas.List.Elements.{All-map, All-push}
 use Rattle.fb_graph.specs.Parity.{is_in}
 use Rattle.fb_graph.specs.Problem.{Problem}
 use Rattle.fb_graph.specs.Certificate.{total_value}
-use Rattle.fb_graph.specs.Dual.{Node, all_cuts, is_empty, is_live, is_outer, layers_of, leaves, top_at}
+use Rattle.fb_graph.specs.Dual.{Node, all_cuts, is_empty, is_live, is_outer, layers_of, top_at}
 use Rattle.fb_graph.specs.Moves.{MayJoin, blossom, joined}
 use Rattle.fb_graph.specs.Nests.{IsNest}
 use Rattle.fb_graph.specs.SourceWalks.{HaveWalks}
@@ -21,8 +20,8 @@ use Rattle.fb_graph.proofs.SourceWalks.{walks_joined}
 use Rattle.fb_links.specs.declared.walk.Step.{Step}
 use Rattle.fb_regions.specs.declared.marks.Mark.{Mark}
 use Rattle.fb_regions.specs.declared.region.Region.{Region}
-use Rattle.fb_regions.specs.InternalNodes.{adopted, chain, children_from, mark_of, node_of, nodes_of, radii_from, stack}
-use Rattle.fb_regions.specs.InternalKept.{BeginsIn, HasMarks, HasParent, HaveParents, IsKept, IsMarked, IsMarkIn, is_lone}
+use Rattle.fb_regions.specs.InternalNodes.{adopted, children_from, mark_of, node_of, nodes_of, radii_from}
+use Rattle.fb_regions.specs.InternalKept.{BeginsIn, HasMarks, HasParent, HaveParents, IsKept, IsMarked, is_lone}
 use Rattle.fb_regions.proofs.Found.{names_of}
 use Rattle.fb_regions.proofs.Moved.{covered_in, in_top, marked_moved, some_cover, top_marks}
 use Rattle.fb_regions.proofs.Opened.{whole}

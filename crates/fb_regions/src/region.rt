@@ -133,7 +133,11 @@ fn cut(alloc: Global, value: u64, set: &[u32]) -> Result<Cut, NoMemory>
 }
 
 /// The vertices of a node: the set of its top layer.
-pub fn vertices(alloc: Global, marks: &[Option<Mark>], region: &Region) -> Result<Vec<u32>, NoMemory>
+pub fn vertices(
+    alloc: Global,
+    marks: &[Option<Mark>],
+    region: &Region,
+) -> Result<Vec<u32>, NoMemory>
     ensures { IfOk result (λ v. v.items ≡ region.now.first_set.items ++ added_to marks.now region.now) }
 {
     let added = added(alloc, marks, region.added, region.last)?;

@@ -95,7 +95,8 @@ impl<S: Scope> Regions<S> {
         first_set.push(v)?;
         self.regions.reserve(1)?;
         widen(&mut self.places, node)?;
-        set_place(&mut self.places, node, Some(self.regions.len()));
+        let place = self.regions.len();
+        set_place(&mut self.places, node, Some(place));
         self.regions.push_reserved(Region {
             name: node,
             children: Vec::new(alloc),
@@ -134,8 +135,9 @@ impl<S: Scope> Regions<S> {
         self.regions.reserve(1)?;
         widen(&mut self.places, node)?;
         let last = first_set[first_set.len() - 1];
+        let place = self.regions.len();
         adopt(&self.places, &mut self.regions, children, Some(node));
-        set_place(&mut self.places, node, Some(self.regions.len()));
+        set_place(&mut self.places, node, Some(place));
         self.regions.push_reserved(Region {
             name: node,
             children: names,
@@ -162,7 +164,12 @@ impl<S: Scope> Regions<S> {
         let blossom = self.regions.remove(place);
         set_place(&mut self.places, node, None);
         enter_from(&mut self.places, &self.regions, place);
-        adopt(&self.places, &mut self.regions, blossom.children.as_slice(), None);
+        adopt(
+            &self.places,
+            &mut self.regions,
+            blossom.children.as_slice(),
+            None,
+        );
         Ok(())
     }
 

@@ -1,8 +1,7 @@
-use Rattle.std.proofs.Common.{◌≡◌, ◌+◌, ◌++◌, ◌∷◌, [], map, set, take, get_or, sym, ap, ◌∙◌, Some, None}
+use Rattle.std.proofs.Common.{◌≡◌, ◌+◌, ◌++◌, ◌∷◌, [], map, set, take, get_or, sym, ap, ◌∙◌}
 use Rattle.std.proofs.lemmas.List.{take_more}
 use Rattle.fb_regions.specs.InternalNodes.{adopted}
 use Rattle.fb_regions.proofs.Adopted.{adopted_at, adopted_no_names, adopted_none}
-use Rattle.fb_regions.proofs.ByName.{placed}
 use Rattle.fb_regions.proofs.region.adopt.Goals as goal
 use Rattle.fb_regions.proofs.region.adopt.Goals.{in-Some, in_default}
 
@@ -14,10 +13,10 @@ loop-name-preserved c =
     let name = get_or c.args.names.now c.loop-name.name-index 0 in
     let before = take c.loop-name.name-index c.args.names.now in
     let more : map (adopted (before ++ name ∷ []) c.args.parent) c.args.regions.now
-        ≡ map (adopted (take (c.loop-name.name-index + 1) c.args.names.now) c.args.parent) c.args.regions.now =
+    ≡ map (adopted (take (c.loop-name.name-index + 1) c.args.names.now) c.args.parent) c.args.regions.now =
     ap (λ l. map (adopted l c.args.parent) c.args.regions.now) (sym (take_more c.args.names.now c.loop-name.name-index 0 c.loop-name-test.true)) in
     elim c.match-place_of.branch [
-      in-Some w ↦
+      | in-Some w ↦
           (w.regions-is
           ∙ ap (λ r. set c.loop-name.regions w.in-Some.place (record r { parent = c.args.parent })) (sym w.index-regions-place.is))
           ∙ (ap (λ l. set l w.in-Some.place (record w.index-regions-place.result { parent = c.args.parent })) c.loop-name.invariant

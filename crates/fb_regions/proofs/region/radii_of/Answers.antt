@@ -1,4 +1,4 @@
-use Rattle.std.proofs.Common.{◌≡◌, ◌+◌, ◌<◌, sym, ap, ◌∙◌, arith, Some, None}
+use Rattle.std.proofs.Common.{◌≡◌, sym, ◌∙◌, arith, Some, None}
 use Rattle.fb_regions.proofs.ByName.{first_placed, placed}
 use Rattle.fb_regions.proofs.Climbs.{radius_within, stepped_up, stepped_out, not_stepped}
 use Rattle.fb_regions.proofs.region.radii_of.Goals as goal

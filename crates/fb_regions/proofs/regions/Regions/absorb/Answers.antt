@@ -1,4 +1,4 @@
-use Rattle.std.proofs.Common.{◌≡◌, ◌≤◌, ◌+◌, ◌^◌, length, arith, refl, sym, ap, ◌∙◌, Some, None}
+use Rattle.std.proofs.Common.{◌≡◌, length, arith, refl, ap, ◌∙◌, None}
 use Rattle.fb_regions.proofs.Absorption.{absorption, may_absorb, no_mark, no_region, no_root}
 use Rattle.fb_regions.proofs.Indexed.{index_changed, joined_above}
 use Rattle.fb_regions.proofs.Found.{read_mark, read_place, read_root}
@@ -70,9 +70,11 @@ invariant_of-self g c =
     c.index_mut-region.result.now (read_mark c.self.inside.marks.items _ _ _ c.deref.ensures.value c.in-Some.ensures)
     (read_root c.self.inside.regions.items _ _ _ c.deref-3.ensures.value c.in-Some-root_of.ensures)
     (read_place c.self.inside.regions.items _ _ _ _ c.self.invariant.1 c.deref-4.ensures.value c.in-Some-place_of.ensures) c.index_mut-region.ensures.value in
-    let size : c.len.result ≡ length c.index_mut-region.result.now.first_set.items = c.len.ensures ∙ c.index_mut-region.result.now.first_set.ok.0 in
-    (rw size is.kept, index_changed _ _ _ c.in-Some-root_of.node c.in-Some-place_of.place c.index_mut-region.result.now _ c.self.invariant.1
-    c.deref-4.ensures.value c.in-Some-place_of.ensures c.index_mut-region.ensures.value refl)
+    let size : c.len.result ≡ length c.index_mut-region.result.now.first_set.items = c.len.ensures ∙ c.index_mut-region.result.now.first_set.ok.0 in (
+      rw size is.kept,
+      index_changed _ _ _ c.in-Some-root_of.node c.in-Some-place_of.place c.index_mut-region.result.now _ c.self.invariant.1
+          c.deref-4.ensures.value c.in-Some-place_of.ensures c.index_mut-region.ensures.value refl,
+    )
 
 pub returns : goal.returns
 returns g c =

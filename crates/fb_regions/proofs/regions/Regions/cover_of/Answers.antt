@@ -1,4 +1,4 @@
-use Rattle.std.proofs.Common.{sym, ◌∙◌, ap, None, Some}
+use Rattle.std.proofs.Common.{sym, ◌∙◌, ap, None}
 use Rattle.fb_regions.specs.InternalNodes.{root_from}
 use Rattle.fb_regions.proofs.Indexed.{joined_above}
 use Rattle.fb_regions.proofs.Found.{read_mark}

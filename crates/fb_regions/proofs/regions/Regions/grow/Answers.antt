@@ -1,4 +1,4 @@
-use Rattle.std.proofs.Common.{◌≡◌, ◌<◌, ◌≤◌, ◌^◌, arith, refl, ap, ◌∙◌, sym, Some, None, false, true}
+use Rattle.std.proofs.Common.{◌≡◌, arith, refl, ap, Some, None, false, true}
 use Rattle.fb_graph.specs.Dual.{is_live}
 use Rattle.fb_regions.specs.InternalNodes.{nodes_of}
 use Rattle.fb_regions.proofs.Indexed.{index_changed}
@@ -28,13 +28,12 @@ overflow_add-region-2 g c =
     omega (arith, is.radius)
 
 pub invariant_of-self : goal.invariant_of-self
-invariant_of-self g c =
-    (
-    (growth _ _ _ c.self.invariant.0 c.limits.ensures c.args.node c.args.k c.in-Some.place _ (read_place c.self.inside.regions.items _ _ c.args.node (Some c.in-Some.place) c.self.invariant.1 c.deref.ensures.value c.in-Some.ensures) c.index_mut-region.ensures.value
-    (rw (← c.self.view_is) at c.requires.outer) (rw (← c.self.view_is) at c.requires.leaves) (rw (← c.self.view_is) at c.requires.room)).kept,
-    index_changed _ _ _ c.args.node c.in-Some.place c.index_mut-region.result.now _ c.self.invariant.1 c.deref.ensures.value c.in-Some.ensures
-    c.index_mut-region.ensures.value refl,
-    )
+invariant_of-self g c = (
+  (growth _ _ _ c.self.invariant.0 c.limits.ensures c.args.node c.args.k c.in-Some.place _ (read_place c.self.inside.regions.items _ _ c.args.node (Some c.in-Some.place) c.self.invariant.1 c.deref.ensures.value c.in-Some.ensures) c.index_mut-region.ensures.value
+      (rw (← c.self.view_is) at c.requires.outer) (rw (← c.self.view_is) at c.requires.leaves) (rw (← c.self.view_is) at c.requires.room)).kept,
+  index_changed _ _ _ c.args.node c.in-Some.place c.index_mut-region.result.now _ c.self.invariant.1 c.deref.ensures.value c.in-Some.ensures
+      c.index_mut-region.ensures.value refl,
+)
 
 pub returns : goal.returns
 returns g c =

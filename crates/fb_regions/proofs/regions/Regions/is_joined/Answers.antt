@@ -1,4 +1,4 @@
-use Rattle.std.proofs.Common.{◌≡◌, ◌==◌, not, ap, ◌∙◌, sym, Some, None, false, true}
+use Rattle.std.proofs.Common.{◌≡◌, ◌==◌, not, ap, ◌∙◌, Some, None, false, true}
 use Rattle.fb_graph.specs.Dual.{is_empty, is_live}
 use Rattle.fb_regions.specs.InternalNodes.{nodes_of}
 use Rattle.fb_regions.proofs.Found.{found, not_found, read_place}

@@ -28,15 +28,15 @@ invariant_of-self-2 g c =
     let first : c.in_ok-first_set.first_set.items ≡ concat (map (top_at (nodes_of c.self.inside.marks.items c.self.inside.regions.items)) c.args.children.now) =
     rw (← c.self.view_is) at c.in_ok-first_set.ensures in
     let may = rw (← c.self.view_is) at c.requires in
-    let count : c.len-2.result ≡ length c.self.inside.regions.items = ? in
-    (
-    rw (c.push_reserved.ensures.items, c.adopt.ensures, c.deref_mut.ensures.value, c.in_ok-reserve.ensures.items, mapped_back (adopted c.args.children.now (Some c.args.node)) c.self.inside.regions.items c.reserve.new.self.len (c.reserve.new.self.ok.0 ∙ ap length c.in_ok-reserve.ensures.items))
-    (kept_joined _ _ _ c.self.invariant.0 c.args.node c.args.children.now _
-    (record { name_is = refl; children_are = c.in_ok-names.ensures.items; parent = refl; first = first; added = refl; value = refl; radius = refl })
-    may),
-    rw (c.push_reserved.ensures.items, c.adopt.ensures, c.deref_mut.ensures.value, c.in_ok-reserve.ensures.items, mapped_back (adopted c.args.children.now (Some c.args.node)) c.self.inside.regions.items c.reserve.new.self.len (c.reserve.new.self.ok.0 ∙ ap length c.in_ok-reserve.ensures.items))
-    (index_joined c.self.inside.marks.items c.self.inside.regions.items c.self.inside.places.items c.widen.new.places.items c.set_place.new.places.items
-    c.args.children.now (Some c.args.node) _ c.len-2.result c.self.invariant.1 c.widen.ensures.same count may.fresh c.set_place.ensures.entries),
+    let count : c.len-place.result ≡ length c.self.inside.regions.items =
+    c.len-place.ensures ∙ (c.reserve.new.self.ok.0 ∙ ap length c.in_ok-reserve.ensures.items) in (
+      rw (c.push_reserved.ensures.items, c.adopt.ensures, c.deref_mut.ensures.value, c.in_ok-reserve.ensures.items, mapped_back (adopted c.args.children.now (Some c.args.node)) c.self.inside.regions.items c.reserve.new.self.len (c.reserve.new.self.ok.0 ∙ ap length c.in_ok-reserve.ensures.items))
+          (kept_joined _ _ _ c.self.invariant.0 c.args.node c.args.children.now _
+          (record { name_is = refl; children_are = c.in_ok-names.ensures.items; parent = refl; first = first; added = refl; value = refl; radius = refl })
+          may),
+      rw (c.push_reserved.ensures.items, c.adopt.ensures, c.deref_mut.ensures.value, c.in_ok-reserve.ensures.items, mapped_back (adopted c.args.children.now (Some c.args.node)) c.self.inside.regions.items c.reserve.new.self.len (c.reserve.new.self.ok.0 ∙ ap length c.in_ok-reserve.ensures.items))
+          (index_joined c.self.inside.marks.items c.self.inside.regions.items c.self.inside.places.items c.widen.new.places.items c.set_place.new.places.items
+          c.args.children.now (Some c.args.node) _ c.len-place.result c.self.invariant.1 c.widen.ensures.same count may.fresh c.set_place.ensures.entries),
     )
 
 pub invariant_of-self-in_err-widen : goal.invariant_of-self-in_err-widen
@@ -46,10 +46,11 @@ invariant_of-self-in_err-widen g c = (
 )
 
 pub adopt-requires-clause-index : goal.adopt-requires-clause-index
-adopt-requires-clause-index g c = ?
+adopt-requires-clause-index g c =
+    rw (c.deref_mut.ensures.value, c.in_ok-reserve.ensures.items, c.deref.ensures.value) (index_same _ _ _ c.self.invariant.1 c.widen.ensures.same)
 
 pub adopt-requires-clause-distinct : goal.adopt-requires-clause-distinct
-adopt-requires-clause-distinct g c = ?
+adopt-requires-clause-distinct g c = rw (c.deref_mut.ensures.value, c.in_ok-reserve.ensures.items) (distinct_names _ _ _ c.self.invariant.0)
 
 pub returns-clause-ok : goal.returns-clause-ok
 returns-clause-ok g c =

@@ -1,4 +1,4 @@
-use Rattle.std.proofs.Common.{◌≡◌, ◌<◌, ◌≤◌, ◌^◌, arith, refl, ap, ◌∙◌, sym, Some, None, false, true}
+use Rattle.std.proofs.Common.{◌≡◌, refl, ap, Some, None, false, true}
 use Rattle.fb_graph.specs.Dual.{is_live}
 use Rattle.fb_regions.specs.InternalNodes.{nodes_of}
 use Rattle.fb_regions.proofs.Indexed.{index_changed}
@@ -28,13 +28,12 @@ overflow_sub-region-2 g c =
     is.2
 
 pub invariant_of-self : goal.invariant_of-self
-invariant_of-self g c =
-    (
-    (shrinking _ _ _ c.self.invariant.0 c.limits.ensures c.args.node c.args.k c.in-Some.place _ (read_place c.self.inside.regions.items _ _ c.args.node (Some c.in-Some.place) c.self.invariant.1 c.deref.ensures.value c.in-Some.ensures) c.index_mut-region.ensures.value
-    (rw (← c.self.view_is) at c.requires.outer) (rw (← c.self.view_is) at c.requires.value)).0.kept,
-    index_changed _ _ _ c.args.node c.in-Some.place c.index_mut-region.result.now _ c.self.invariant.1 c.deref.ensures.value c.in-Some.ensures
-    c.index_mut-region.ensures.value refl,
-    )
+invariant_of-self g c = (
+  (shrinking _ _ _ c.self.invariant.0 c.limits.ensures c.args.node c.args.k c.in-Some.place _ (read_place c.self.inside.regions.items _ _ c.args.node (Some c.in-Some.place) c.self.invariant.1 c.deref.ensures.value c.in-Some.ensures) c.index_mut-region.ensures.value
+      (rw (← c.self.view_is) at c.requires.outer) (rw (← c.self.view_is) at c.requires.value)).0.kept,
+  index_changed _ _ _ c.args.node c.in-Some.place c.index_mut-region.result.now _ c.self.invariant.1 c.deref.ensures.value c.in-Some.ensures
+      c.index_mut-region.ensures.value refl,
+)
 
 pub returns : goal.returns
 returns g c =

@@ -1,4 +1,4 @@
-use Rattle.std.proofs.Common.{◌++◌, sym, ap, ◌∙◌, get_or}
+use Rattle.std.proofs.Common.{sym, get_or}
 use Rattle.fb_graph.specs.Dual.{top_at}
 use Rattle.fb_regions.proofs.Found.{concat_more}
 use Rattle.fb_regions.proofs.regions.Regions.tops_of.Goals as goal

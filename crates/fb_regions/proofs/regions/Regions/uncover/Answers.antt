@@ -1,4 +1,4 @@
-use Rattle.std.proofs.Common.{◌≡◌, ◌≤◌, arith, refl, ap, sym, ◌∙◌, Some, None, false, true}
+use Rattle.std.proofs.Common.{◌≡◌, refl, ap, sym, ◌∙◌, Some, None, false, true}
 use Rattle.fb_graph.specs.Dual.{is_live}
 use Rattle.fb_regions.specs.InternalNodes.{mark_of, nodes_of}
 use Rattle.fb_regions.proofs.Indexed.{index_changed}
@@ -33,15 +33,14 @@ overflow_sub-region g c =
     (rw (← c.self.view_is) at c.requires)
 
 pub invariant_of-self : goal.invariant_of-self
-invariant_of-self g c =
-    (
-    kept_lowered _ _ _ c.self.invariant.0 c.args.node c.in-Some.place c.index_mut-region.result.now
-    (read_place c.self.inside.regions.items _ _ c.args.node (Some c.in-Some.place) c.self.invariant.1 c.deref.ensures.value c.in-Some.ensures) c.index_mut-region.ensures.value
-    (rw (← c.self.view_is) at c.requires) c.in-Some-mark_at.mark
-    (read_mark c.self.inside.marks.items _ _ (Some c.in-Some-mark_at.mark) c.deref-2.ensures.value c.in-Some-mark_at.ensures),
-    index_changed _ _ _ c.args.node c.in-Some.place c.index_mut-region.result.now _ c.self.invariant.1 c.deref.ensures.value c.in-Some.ensures
-    c.index_mut-region.ensures.value refl,
-    )
+invariant_of-self g c = (
+  kept_lowered _ _ _ c.self.invariant.0 c.args.node c.in-Some.place c.index_mut-region.result.now
+      (read_place c.self.inside.regions.items _ _ c.args.node (Some c.in-Some.place) c.self.invariant.1 c.deref.ensures.value c.in-Some.ensures) c.index_mut-region.ensures.value
+      (rw (← c.self.view_is) at c.requires) c.in-Some-mark_at.mark
+      (read_mark c.self.inside.marks.items _ _ (Some c.in-Some-mark_at.mark) c.deref-2.ensures.value c.in-Some-mark_at.ensures),
+  index_changed _ _ _ c.args.node c.in-Some.place c.index_mut-region.result.now _ c.self.invariant.1 c.deref.ensures.value c.in-Some.ensures
+      c.index_mut-region.ensures.value refl,
+)
 
 pub returns : goal.returns
 returns g c =
