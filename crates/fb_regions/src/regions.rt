@@ -20,7 +20,8 @@ use std::marker::Model;
 
 /// The dual state over a scope: nodes, each a stack of layers, which are vertex sets with values. A node is a defect,
 /// or a blossom of an odd number of nodes (Edmonds 1965). The caller names each node by a number that isn't live
-/// there. A call that returns `NoMemory` leaves the state as it was.
+/// there. A node is found by its name in constant time, which takes room for each number up to the largest name. A
+/// call that returns `NoMemory` leaves the state as it was.
 ///
 /// No layer is kept as a list. A vertex that a node takes up begins a layer, and its mark has the vertex before it and
 /// the value below.
