@@ -32,7 +32,7 @@ no_next None e = refl
 no_next (Some j) e = absurd (let clash : Some (suc j) ≡ None = e in cc)
 
 -- what is said of q, which joins the node r of this name at place i
-pub record IsStep (rs : List Region) (name i q : ℕ) (r : Region) : Type 0 where
+pub record IsClimb (rs : List Region) (name i q : ℕ) (r : Region) : Type 0 where
   pub place : ℕ
   pub at : placed q rs ≡ Some place
   pub later : i < place
@@ -50,12 +50,12 @@ next None i e = absurd (let clash : None ≡ Some i = e in cc)
 next (Some j) i e = record { before = j; at = refl; is = let same : Some (suc j) ≡ Some i = e in cc }
 
 pub stepped_up : (rs : List Region) (name i q : ℕ) (r : Region) → AreJoinedAbove rs → placed name rs ≡ Some i → r ≡ get_or rs i r → r.parent ≡ Some q
-    → IsStep rs name i q r
+    → IsClimb rs name i q r
 stepped_up [] name i q r joined at is parent = absurd (let clash : None ≡ Some i = at in cc)
 stepped_up (x ∷ xs) name i q r joined at is parent = by (x.name == name) refl (λ j. stepped_up xs name j q r joined.2)
   where
     by : (b : Bool) → (x.name == name) ≡ b
-        → ((j : ℕ) → placed name xs ≡ Some j → r ≡ get_or xs j r → r.parent ≡ Some q → IsStep xs name j q r) → IsStep (x ∷ xs) name i q r
+        → ((j : ℕ) → placed name xs ≡ Some j → r ≡ get_or xs j r → r.parent ≡ Some q → IsClimb xs name j q r) → IsClimb (x ∷ xs) name i q r
     by true e rest =
         let zeros : Some 0 ≡ Some i = sym (placed_here x xs name e) ∙ at in
         let none : i ≡ 0 = cc in
