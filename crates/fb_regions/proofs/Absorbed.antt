@@ -1,16 +1,16 @@
 -- A vertex more in an outer node.
-use Rattle.std.proofs.Common.{ℕ, suc, ◌≡◌, ◌+◌, ◌<◌, ◌≤◌, ◌^◌, ◌==◌, ◌⊎◌, inl, inr, cond, Bool, true, false, List, [], ◌∷◌, ◌++◌, length, map, set, get_or, Option, Some, None, refl, sym, ap, ◌∙◌, subst, arith, add-one, append_assoc, if◌then◌else◌}
+use Rattle.std.proofs.Common.{ℕ, ◌≡◌, ◌+◌, ◌<◌, ◌≤◌, ◌^◌, ◌==◌, ◌⊎◌, inl, inr, Bool, true, false, List, [], ◌∷◌, ◌++◌, length, set, get_or, Option, Some, None, refl, sym, ap, ◌∙◌, subst, arith, add-one, append_assoc, if◌then◌else◌}
 use Rattle.std.specs.List.{All, position}
 use Rattle.std.specs.Option.{IsSome, is_some, unwrap_or}
-use Rattle.std.proofs.lemmas.Bool.{both_ways, cases_Bool, cases_eq, eqb-true, false≢true, false_from_ne_true, or_cases, or_left, or_right}
+use Rattle.std.proofs.lemmas.Bool.{both_ways, cases_eq, eqb-true, false≢true, false_from_ne_true, or_cases, or_left, or_right}
 use Rattle.std.proofs.lemmas.List.{get_or-set_same, length-append, length-set}
-use Rattle.std.proofs.lemmas.List.Elements.{All-map, All-push, All-set, All-weaker}
+use Rattle.std.proofs.lemmas.List.Elements.{All-map, All-push, All-set}
 use Rattle.fb_graph.specs.Parity.{is_in}
 use Rattle.fb_graph.specs.Problem.{Problem, edge_at}
-use Rattle.fb_graph.specs.Certificate.{AreDistinct, load_of, total_value}
+use Rattle.fb_graph.specs.Certificate.{load_of, total_value}
 use Rattle.fb_graph.specs.Components.{Leads}
 use Rattle.fb_graph.specs.Alike.{AreAlike}
-use Rattle.fb_graph.specs.Dual.{Node, AreGrown, AreUnderOne, all_cuts, change_at, cover_of, height_of, is_outer, layers_of, leaves, taller, top_at}
+use Rattle.fb_graph.specs.Dual.{Node, AreGrown, AreUnderOne, all_cuts, change_at, cover_of, height_of, layers_of, leaves, taller, top_at}
 use Rattle.fb_graph.specs.Limits.{IsWithinLimits}
 use Rattle.fb_graph.specs.Links.{AreEven}
 use Rattle.fb_graph.specs.Moves.{MayTakeUp}
@@ -29,7 +29,7 @@ use Rattle.fb_graph.proofs.TallerNodes.{leaves_taller, outer_taller, taller_alik
 use Rattle.fb_links.specs.declared.walk.Step.{Step}
 use Rattle.fb_regions.specs.declared.marks.Mark.{Mark}
 use Rattle.fb_regions.specs.declared.region.Region.{Region}
-use Rattle.fb_regions.specs.InternalNodes.{added_to, before_in, before_of, chain, mark_of, node_of, nodes_of, radii_from, stack, under_in, under_of}
+use Rattle.fb_regions.specs.InternalNodes.{added_to, before_in, chain, mark_of, node_of, nodes_of, radii_from, stack, under_in}
 use Rattle.fb_regions.specs.InternalKept.{BeginsIn, HasMarks, IsAfter, HaveParents, IsKept, IsMarkIn, IsMarked}
 use Rattle.fb_regions.specs.Moves.{IsOver, absorbed, inner_end, outer_end}
 use Rattle.fb_regions.specs.Walks.{IsStep}

@@ -1,5 +1,5 @@
 -- What the call that absorbs is given, and what it gives.
-use Rattle.std.proofs.Common.{ℕ, ◌≡◌, ◌+◌, ◌<◌, ◌≤◌, ◌^◌, ◌==◌, true, false, List, length, set, get_or, Option, Some, None, refl, sym, ap, ◌∙◌, subst}
+use Rattle.std.proofs.Common.{ℕ, ◌≡◌, ◌+◌, ◌<◌, ◌≤◌, ◌^◌, ◌==◌, true, List, length, set, get_or, Option, Some, None, sym, ap, ◌∙◌, subst}
 use Rattle.std.specs.List.{position}
 use Rattle.std.specs.Option.{IsSome}
 use Rattle.std.proofs.lemmas.Bool.{both_ways, false≢true}
@@ -16,7 +16,6 @@ use Rattle.fb_regions.specs.InternalKept.{IsKept}
 use Rattle.fb_regions.specs.Moves.{IsOver, absorbed, inner_end, outer_end}
 use Rattle.fb_regions.proofs.Absorbed.{absorbed_nodes, absorbing, fits_absorbed, kept_absorbed, raised, taken}
 use Rattle.fb_regions.proofs.Found.{found, not_found}
-use Rattle.fb_regions.proofs.Moved.{some_cover}
 use Rattle.fb_regions.proofs.Readings.{cover_none, cover_some}
 
 -- what the call asks for

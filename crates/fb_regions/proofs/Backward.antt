@@ -1,12 +1,11 @@
 -- The walk back from a vertex to its source, step by step.
-use Rattle.std.proofs.Common.{◌≡◌, ℕ, ◌+◌, ◌<◌, inl, inr, true, false, List, [], ◌∷◌, ◌++◌, get_or, reverse, Option, Some, None, refl, sym, ◌∙◌, ap, subst, arith}
+use Rattle.std.proofs.Common.{◌≡◌, ℕ, ◌+◌, ◌<◌, inl, inr, true, List, [], ◌∷◌, ◌++◌, get_or, reverse, Option, Some, None, refl, sym, ◌∙◌, ap, subst, arith}
 use Rattle.std.specs.List.{All}
 use Rattle.std.specs.Option.{IsSome, option_and_then}
 use Rattle.std.proofs.lemmas.Bool.{false≢true, or_left, or_right}
 use Rattle.std.proofs.lemmas.List.{reverse-append}
 use Rattle.std.proofs.lemmas.List.Elements.{All-cons, All-nil}
 use Rattle.std.proofs.lemmas.List.Sums.{sum_by-cons}
-use Rattle.fb_graph.specs.Parity.{is_in}
 use Rattle.fb_graph.specs.Problem.{Problem, edge_at}
 use Rattle.fb_graph.specs.Components.{Leads}
 use Rattle.fb_graph.specs.declared.parts.Edge.{Edge}
@@ -15,12 +14,12 @@ use Rattle.fb_regions.specs.declared.marks.Mark.{Mark}
 use Rattle.fb_regions.specs.declared.region.Region.{Region}
 use Rattle.fb_regions.specs.Walks.{IsWalk}
 use Rattle.fb_links.specs.Walks.{walk_weight}
-use Rattle.fb_graph.specs.Dual.{Node, cover_of, leaves}
+use Rattle.fb_graph.specs.Dual.{cover_of, leaves}
 use Rattle.fb_graph.specs.Laws.{has_real_end}
 use Rattle.fb_regions.specs.Moves.{IsSourceWalk}
 use Rattle.fb_regions.specs.InternalNodes.{mark_of, nodes_of, radii_from}
 use Rattle.fb_regions.specs.InternalKept.{CameBy, IsAfter, IsKept}
-use Rattle.fb_regions.proofs.Moved.{mark_over, same_cover, some_cover}
+use Rattle.fb_regions.proofs.Moved.{mark_over, some_cover}
 
 abbrev no_mark : Mark
 no_mark = record { source = 0; leaf = 0; distance = 0; rank = 0; by = None; before = 0; under = 0 }

@@ -1,5 +1,5 @@
 -- A node found by its name, and lists of nodes of which one is changed.
-use Rattle.std.proofs.Common.{ℕ, zero, suc, ◌≡◌, ◌+◌, ◌<◌, ◌==◌, ◌⊎◌, inl, inr, cond, Bool, true, false, List, [], ◌∷◌, ◌++◌, length, map, set, take, drop, get_or, Option, Some, None, refl, sym, ap, ◌∙◌, subst, arith, add-one, not, nat_lt, if◌then◌else◌}
+use Rattle.std.proofs.Common.{ℕ, zero, suc, ◌≡◌, ◌+◌, ◌<◌, ◌==◌, inl, inr, cond, true, false, List, [], ◌∷◌, ◌++◌, length, map, set, take, drop, get_or, Option, Some, None, refl, sym, ap, ◌∙◌, arith, not, nat_lt, if◌then◌else◌}
 use Rattle.std.specs.List.{position, position_or_len, concat}
 use Rattle.std.proofs.lemmas.Bool.{eqb-true, or_parts}
 use Rattle.std.proofs.lemmas.List.{append-nil, length-append, length-map, map-append, take_more}
@@ -12,22 +12,9 @@ use Rattle.fb_graph.proofs.Nodes.{change_at-place, layers_at-place, no_place, to
 use Rattle.fb_regions.specs.declared.marks.Mark.{Mark}
 use Rattle.fb_regions.specs.declared.region.Region.{Region}
 use Rattle.fb_regions.specs.InternalNodes.{added_to, mark_of, node_of, nodes_of, root_from, stack}
+use Rattle.fb_regions.specs.InternalPlaces.{IsIndex, place_in}
 use Rattle.fb_regions.specs.Moves.{node_named}
 use Rattle.fb_regions.proofs.Chains.{length-chain, length-stack}
-
--- a list changed up to a place, and then at it
-pub set_mapped : {X : Type 0} (f : X → X) (xs now : List X) (i : ℕ) (d e : X) → i < length xs
-    → now ≡ map f (take i xs) ++ drop i xs → e ≡ f (get_or now i d) → set now i e ≡ map f (take (i + 1) xs) ++ drop (i + 1) xs
-set_mapped {X} f xs now i d e less is is_e =
-    subst (λ l. set l i e ≡ map f (take (i + 1) xs) ++ drop (i + 1) xs) (sym is)
-    (subst (λ j. set (map f (take i xs) ++ drop i xs) i e ≡ map f (take j xs) ++ drop j xs) (sym (add-one i))
-    (by xs i less (is_e ∙ ap (λ l. f (get_or l i d)) is)))
-  where
-    by : (ys : List X) (j : ℕ) → j < length ys → e ≡ f (get_or (map f (take j ys) ++ drop j ys) j d)
-        → set (map f (take j ys) ++ drop j ys) j e ≡ map f (take (suc j) ys) ++ drop (suc j) ys
-    by [] j l h = absurd (omega arith)
-    by (y ∷ ys) zero l h = ap (λ x. x ∷ ys) h
-    by (y ∷ ys) (suc j) l h = ap (λ rest. f y ∷ rest) (by ys j (omega arith) h)
 
 pub concat_more : (f : ℕ → List ℕ) (xs : List ℕ) (i : ℕ) → i < length xs
     → concat (map f (take (i + 1) xs)) ≡ concat (map f (take i xs)) ++ f (get_or xs i 0)
@@ -130,9 +117,9 @@ names_of marks [] = refl
 names_of marks (r ∷ rs) = ap (λ l. r.name ∷ l) (names_of marks rs)
 
 -- what is read from a list behind a reference
-pub read_place : (regions seen : List Region) (name : ℕ) (o : Option ℕ) → seen ≡ regions → o ≡ position (λ r. r.name == name) seen
-    → position (λ r. r.name == name) regions ≡ o
-read_place regions seen name o e h = ap (λ l. position (λ (r : Region). r.name == name) l) (sym e) ∙ sym h
+pub read_place : (regions : List Region) (places seen : List (Option ℕ)) (name : ℕ) (o : Option ℕ) → IsIndex regions places → seen ≡ places
+    → o ≡ place_in seen name → position (λ r. r.name == name) regions ≡ o
+read_place regions places seen name o index e h = sym (index.entry name) ∙ (ap (λ l. place_in l name) (sym e) ∙ sym h)
 
 pub read_mark : (marks seen : List (Option Mark)) (v : ℕ) (o : Option Mark) → seen ≡ marks → o ≡ get_or seen v None → mark_of marks v ≡ o
 read_mark marks seen v o e h = ap (λ l. get_or l v None) (sym e) ∙ sym h

@@ -1,14 +1,13 @@
 -- Outer nodes joined in a blossom.
-use Rattle.std.proofs.Common.{ℕ, ◌≡◌, ◌+◌, ◌<◌, ◌≤◌, ◌==◌, ◌&&◌, ◌||◌, ◌⊎◌, inl, inr, Bool, true, false, List, [], ◌∷◌, ◌++◌, length, map, get_or, Option, Some, None, refl, sym, ap, ◌∙◌, subst, arith, if◌then◌else◌}
+use Rattle.std.proofs.Common.{ℕ, ◌≡◌, ◌≤◌, ◌==◌, ◌&&◌, ◌||◌, ◌⊎◌, inl, inr, Bool, true, false, List, [], ◌∷◌, ◌++◌, length, map, Option, Some, None, refl, sym, ap, ◌∙◌, subst, arith, if◌then◌else◌}
 use Rattle.std.specs.List.{All, concat}
-use Rattle.std.specs.Option.{IsSome}
 use Rattle.std.proofs.lemmas.Bool.{both_ways, false≢true, false_from_ne_true, eq-eqb, eqb-true, or_cases, or_parts}
 use Rattle.std.proofs.lemmas.List.{append-nil, length-append, map-append}
 use Rattle.std.proofs.lemmas.List.Elements.{All-map, All-push}
 use Rattle.fb_graph.specs.Parity.{is_in}
 use Rattle.fb_graph.specs.Problem.{Problem}
 use Rattle.fb_graph.specs.Certificate.{total_value}
-use Rattle.fb_graph.specs.Dual.{Node, all_cuts, is_empty, is_live, is_outer, layers_of, leaves, top_at}
+use Rattle.fb_graph.specs.Dual.{Node, all_cuts, is_empty, is_live, is_outer, layers_of, top_at}
 use Rattle.fb_graph.specs.Moves.{MayJoin, blossom, joined}
 use Rattle.fb_graph.specs.Nests.{IsNest}
 use Rattle.fb_graph.specs.SourceWalks.{HaveWalks}
@@ -21,8 +20,8 @@ use Rattle.fb_graph.proofs.SourceWalks.{walks_joined}
 use Rattle.fb_links.specs.declared.walk.Step.{Step}
 use Rattle.fb_regions.specs.declared.marks.Mark.{Mark}
 use Rattle.fb_regions.specs.declared.region.Region.{Region}
-use Rattle.fb_regions.specs.InternalNodes.{adopted, chain, children_from, mark_of, node_of, nodes_of, radii_from, stack}
-use Rattle.fb_regions.specs.InternalKept.{BeginsIn, HasMarks, HasParent, HaveParents, IsKept, IsMarked, IsMarkIn, is_lone}
+use Rattle.fb_regions.specs.InternalNodes.{adopted, children_from, mark_of, node_of, nodes_of, radii_from}
+use Rattle.fb_regions.specs.InternalKept.{BeginsIn, HasMarks, HasParent, HaveParents, IsKept, IsMarked, is_lone}
 use Rattle.fb_regions.proofs.Found.{names_of}
 use Rattle.fb_regions.proofs.Moved.{covered_in, in_top, marked_moved, some_cover, top_marks}
 use Rattle.fb_regions.proofs.Opened.{whole}
@@ -45,7 +44,7 @@ adopted_nodes marks names o (r ∷ rs) =
     ap (λ n. n ∷ nodes_of marks (map (adopted names o) rs)) (adopted_node marks names o r)
     ∙ ap (λ l. node_of marks r ∷ l) (adopted_nodes marks names o rs)
 
-same_name : (names : List ℕ) (o : Option ℕ) (r : Region) → (adopted names o r).name ≡ r.name
+pub same_name : (names : List ℕ) (o : Option ℕ) (r : Region) → (adopted names o r).name ≡ r.name
 same_name names o r = by (is_in names r.name)
   where
     by : (b : Bool) → (if b then record r { parent = o } else r).name ≡ r.name
@@ -97,7 +96,7 @@ children_last (r ∷ rs) new out =
     let parts = or_parts (r.name == new.name) (is_in (map (λ s. s.name) rs) new.name) out in
     ap (λ b. if b then r.children.items else children_from (rs ++ new ∷ []) new.name) parts.0 ∙ children_last rs new parts.1
 
-adopted_names : (names : List ℕ) (o : Option ℕ) (rs : List Region) → map (λ r. r.name) (map (adopted names o) rs) ≡ map (λ r. r.name) rs
+pub adopted_names : (names : List ℕ) (o : Option ℕ) (rs : List Region) → map (λ r. r.name) (map (adopted names o) rs) ≡ map (λ r. r.name) rs
 adopted_names names o [] = refl
 adopted_names names o (r ∷ rs) =
     ap (λ n. n ∷ map (λ s. s.name) (map (adopted names o) rs)) (same_name names o r) ∙ ap (λ l. r.name ∷ l) (adopted_names names o rs)

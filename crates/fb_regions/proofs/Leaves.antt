@@ -1,11 +1,11 @@
 -- A node of one defect more keeps a nest and its source walks.
-use Rattle.std.proofs.Common.{ℕ, ◌≡◌, ◌+◌, ◌%◌, ◌==◌, ◌||◌, ◌⊎◌, inl, inr, Bool, true, false, List, [], ◌∷◌, ◌++◌, map, length, All, Some, None, refl, sym, ap, ◌∙◌, subst, arith}
+use Rattle.std.proofs.Common.{ℕ, ◌≡◌, ◌%◌, ◌==◌, ◌||◌, ◌⊎◌, inl, inr, true, false, List, [], ◌∷◌, ◌++◌, map, All, Some, None, refl, sym, ap, ◌∙◌, subst, arith}
 use Rattle.std.specs.List.{concat}
 use Rattle.std.specs.Option.{IsSome}
-use Rattle.std.proofs.lemmas.Bool.{both_ways, false≢true, false_from_ne_true, eq-eqb, eqb-true, or_cases, or_left, or_right}
+use Rattle.std.proofs.lemmas.Bool.{both_ways, false≢true, false_from_ne_true, eq-eqb, eqb-true, or_left, or_right}
 use Rattle.std.proofs.lemmas.List.{append-nil}
 use Rattle.std.proofs.lemmas.List.Elements.{All-nil, All-cons, All-head, All-tail, All-push, All-weaker}
-use Rattle.fb_graph.specs.Parity.{differ, is_in, is_odd_count}
+use Rattle.fb_graph.specs.Parity.{differ, is_in}
 use Rattle.fb_graph.specs.Problem.{Problem, edge_at, with_defects}
 use Rattle.fb_graph.specs.Certificate.{AreDistinct, IsOddCut}
 use Rattle.fb_graph.specs.Printed.{DifferAsSets}
@@ -20,9 +20,9 @@ use Rattle.fb_graph.proofs.EndSums.{apart_sym}
 use Rattle.fb_graph.proofs.Forests.{IsUnder, cuts_under, under_outer}
 use Rattle.fb_graph.proofs.InsertedCuts.{IsInserted, AreFit, inserted_fit, same_weigh}
 use Rattle.fb_graph.proofs.Members.{AreDistinct_push, is_in_push, or_false}
-use Rattle.fb_graph.proofs.NestParts.{grove_of, fit_of, nest_of, names_live, map_agree}
+use Rattle.fb_graph.proofs.NestParts.{grove_of, nest_of, names_live, map_agree}
 use Rattle.fb_graph.proofs.ParitySums.{odd_agree}
-use Rattle.fb_graph.proofs.Sets.{All-from_is_in, is_in-All, member_of_odd}
+use Rattle.fb_graph.proofs.Sets.{All-from_is_in, is_in-All}
 
 -- a node that joins none at the end
 joined_alone : (ns : List Node) (b : Node) → AreJoinedLater ns → All (λ n. is_in n.children b.name ≡ false) ns → b.children ≡ []

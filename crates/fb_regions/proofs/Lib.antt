@@ -1,9 +1,13 @@
 pub mod Absorbed
 pub mod Absorption
+pub mod Adopted
 pub mod Backward
 pub mod ChainedWalks
+pub mod ByName
 pub mod Chains
+pub mod Climbs
 pub mod Found
+pub mod Indexed
 pub mod Joined
 pub mod Leaves
 pub mod Lowered

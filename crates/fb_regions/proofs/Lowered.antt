@@ -1,20 +1,19 @@
 -- An outer node without its top layer.
-use Rattle.std.proofs.Common.{ℕ, suc, ◌≡◌, ◌+◌, ◌-◌, ◌<◌, ◌≤◌, ◌==◌, ◌||◌, ◌⊎◌, inl, inr, Bool, true, false, List, [], ◌∷◌, ◌++◌, length, map, set, take, get_or, Option, Some, None, refl, sym, ap, ◌∙◌, subst, arith, append_assoc}
+use Rattle.std.proofs.Common.{ℕ, suc, ◌≡◌, ◌-◌, ◌≤◌, ◌==◌, ◌⊎◌, inl, inr, true, false, List, [], ◌∷◌, ◌++◌, length, set, take, get_or, Option, Some, None, refl, sym, ap, ◌∙◌, subst, arith, append_assoc}
 use Rattle.std.specs.List.{All, position}
-use Rattle.std.specs.Option.{IsSome}
-use Rattle.std.proofs.lemmas.Bool.{both_ways, cases_eq, eqb-true, false≢true, false_from_ne_true, or_cases, or_from, or_right}
-use Rattle.std.proofs.lemmas.List.{get_or-set_same, length-append, length-set}
+use Rattle.std.proofs.lemmas.Bool.{both_ways, cases_eq, eqb-true, false_from_ne_true, or_cases, or_from, or_right}
+use Rattle.std.proofs.lemmas.List.{length-append, length-set}
 use Rattle.std.proofs.lemmas.List.Elements.{All-set}
 use Rattle.std.proofs.lemmas.List.Sums.{sum_by_push}
 use Rattle.fb_graph.specs.Parity.{is_in}
 use Rattle.fb_graph.specs.Problem.{Problem}
 use Rattle.fb_graph.specs.Certificate.{AreDistinct, total_value}
-use Rattle.fb_graph.specs.Dual.{Node, all_cuts, cover_of, is_live, is_outer, layers_of, leaves, top_at}
+use Rattle.fb_graph.specs.Dual.{Node, all_cuts, is_outer, layers_of, leaves, top_at}
 use Rattle.fb_graph.specs.Moves.{MayUncover, lower, uncovered}
 use Rattle.fb_graph.specs.Nests.{IsNest}
 use Rattle.fb_graph.specs.SourceWalks.{HaveWalks}
 use Rattle.fb_graph.specs.declared.parts.Cut.{Cut}
-use Rattle.fb_graph.proofs.Among.{IsAmong, All_among, among_All, among_map, apart_among, cover_among, live_among, map_among, outer_among, same_among, top_among}
+use Rattle.fb_graph.proofs.Among.{IsAmong, All_among, among_All, among_map, apart_among, cover_among, live_among, map_among, same_among, top_among}
 use Rattle.fb_graph.proofs.ChangedNodes.{change, by_name}
 use Rattle.fb_graph.proofs.Forests.{IsUnder, cuts_under, under_outer}
 use Rattle.fb_graph.proofs.InsertedCuts.{removed_All}
@@ -23,13 +22,12 @@ use Rattle.fb_graph.proofs.MappedNodes.{mapped_outer}
 use Rattle.fb_graph.proofs.Members.{is_in-append, is_in_push, is_in_pushed}
 use Rattle.fb_graph.proofs.NestParts.{grove_of, top_is_odd}
 use Rattle.fb_graph.proofs.SourceWalks.{walks_uncovered}
-use Rattle.fb_links.specs.declared.walk.Step.{Step}
 use Rattle.fb_regions.specs.declared.marks.Mark.{Mark}
 use Rattle.fb_regions.specs.declared.region.Region.{Region}
-use Rattle.fb_regions.specs.InternalNodes.{added_to, before_in, before_of, chain, mark_of, node_of, nodes_of, radii_from, stack, under_in, under_of}
-use Rattle.fb_regions.specs.InternalKept.{BeginsIn, HasMarks, HaveParents, IsKept, IsMarked, IsMarkIn}
+use Rattle.fb_regions.specs.InternalNodes.{added_to, before_in, before_of, chain, mark_of, node_of, nodes_of, stack, under_in}
+use Rattle.fb_regions.specs.InternalKept.{BeginsIn, HasMarks, HaveParents, IsKept, IsMarked}
 use Rattle.fb_regions.proofs.Chains.{length-chain, length-stack, stack_push}
-use Rattle.fb_regions.proofs.Found.{IsFound, among_at, found, nodes_set}
+use Rattle.fb_regions.proofs.Found.{IsFound, found}
 use Rattle.fb_regions.proofs.Marking.{has_still, mark_new, mark_other, marked_below, node_still, nodes_still}
 use Rattle.fb_regions.proofs.Moved.{covered_in, in_top, marked_moved, some_cover, top_marks}
 use Rattle.fb_regions.proofs.Parents.{lone_set, parents_set}

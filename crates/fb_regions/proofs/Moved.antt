@@ -1,14 +1,13 @@
 -- What marks say after a move, and the sets in which vertices lie.
-use Rattle.std.proofs.Common.{ℕ, ◌≡◌, ◌+◌, ◌<◌, ◌==◌, Bool, true, false, List, [], ◌∷◌, ◌++◌, Option, Some, None, refl, sym, ap, ◌∙◌, subst, arith}
+use Rattle.std.proofs.Common.{ℕ, ◌≡◌, Bool, true, false, List, Option, Some, None, refl, sym, ap, ◌∙◌, subst, arith}
 use Rattle.std.specs.List.{All}
 use Rattle.std.specs.Option.{IsSome}
-use Rattle.std.proofs.lemmas.Bool.{both_ways, false≢true, false_from_ne_true}
+use Rattle.std.proofs.lemmas.Bool.{false≢true, false_from_ne_true}
 use Rattle.fb_graph.specs.Parity.{is_in}
 use Rattle.fb_graph.specs.Problem.{Problem}
 use Rattle.fb_graph.specs.Dual.{Node, all_cuts, cover_of, height_of, is_live, layers_of, leaves, top_at}
-use Rattle.fb_graph.specs.declared.parts.Cut.{Cut}
 use Rattle.fb_graph.specs.Nests.{IsNest}
-use Rattle.fb_graph.proofs.Among.{IsAmong, All_among, covered_by, cover_among, live_among, top_among, top_left}
+use Rattle.fb_graph.proofs.Among.{IsAmong, All_among, covered_by, cover_among}
 use Rattle.fb_graph.proofs.Forests.{under_outer}
 use Rattle.fb_graph.proofs.NestParts.{grove_of}
 use Rattle.fb_graph.proofs.Nodes.{All-pieces, All-top}
@@ -16,7 +15,7 @@ use Rattle.fb_links.specs.declared.walk.Step.{Step}
 use Rattle.fb_regions.specs.declared.marks.Mark.{Mark}
 use Rattle.fb_regions.specs.declared.region.Region.{Region}
 use Rattle.fb_regions.specs.InternalNodes.{mark_of, nodes_of, radii_from}
-use Rattle.fb_regions.specs.InternalKept.{CameBy, HasMarks, IsAfter, IsKept, IsMarked, IsMarkIn, is_lone}
+use Rattle.fb_regions.specs.InternalKept.{CameBy, HasMarks, IsAfter, IsKept, IsMarked, is_lone}
 use Rattle.fb_regions.proofs.Found.{no_top}
 
 pub covered_in : (p : Problem) (nodes : List Node) → IsNest p nodes → (n : Node) → IsAmong n nodes → (v : ℕ) → is_in n.top.vertices v ≡ true

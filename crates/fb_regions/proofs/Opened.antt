@@ -1,21 +1,18 @@
 -- A node of one defect more.
-use Rattle.std.proofs.Common.{ℕ, ◌≡◌, ◌+◌, ◌<◌, ◌==◌, ◌⊎◌, inl, inr, true, false, List, [], ◌∷◌, ◌++◌, length, map, set, get_or, Option, Some, None, refl, sym, ap, ◌∙◌, subst, arith}
+use Rattle.std.proofs.Common.{ℕ, ◌≡◌, ◌<◌, ◌==◌, ◌⊎◌, inl, inr, true, false, List, [], ◌∷◌, ◌++◌, length, set, get_or, Option, Some, None, refl, sym, ap, ◌∙◌, subst, arith}
 use Rattle.std.specs.List.{All}
-use Rattle.std.specs.Option.{IsSome}
-use Rattle.std.proofs.lemmas.Bool.{both_ways, cases_eq, false≢true, false_from_ne_true, eq-eqb, eqb-true, or_left}
-use Rattle.std.proofs.lemmas.List.{append-nil, length-set, map-append}
-use Rattle.std.proofs.lemmas.List.Elements.{All-push, All-weaker}
+use Rattle.std.proofs.lemmas.Bool.{both_ways, cases_eq, false_from_ne_true, eq-eqb, eqb-true, or_left}
+use Rattle.std.proofs.lemmas.List.{length-set, map-append}
+use Rattle.std.proofs.lemmas.List.Elements.{All-push}
 use Rattle.fb_graph.specs.Parity.{is_in}
 use Rattle.fb_graph.specs.Problem.{Problem}
 use Rattle.fb_graph.specs.Certificate.{total_value}
-use Rattle.fb_graph.specs.Dual.{Node, all_cuts, cover_of, height_of, is_live, is_outer, layers_of, leaf, leaves, top_at}
-use Rattle.fb_graph.specs.declared.parts.Cut.{Cut}
+use Rattle.fb_graph.specs.Dual.{Node, all_cuts, cover_of, is_live, is_outer, layers_of, leaf, leaves, top_at}
 use Rattle.fb_graph.specs.Nests.{IsNest}
 use Rattle.fb_graph.specs.SourceWalks.{HaveWalks}
 use Rattle.fb_graph.proofs.Among.{IsAmong, All_among, among_All, among_either, among_left, among_live, among_right, cover_among, map_among, among_outer, outer_among, top_among, top_left}
 use Rattle.fb_graph.proofs.AppendedNodes.{cuts_merged}
 use Rattle.fb_graph.proofs.Members.{or_false}
-use Rattle.fb_graph.proofs.NestParts.{names_live}
 use Rattle.fb_graph.proofs.Sets.{is_in-All}
 use Rattle.fb_regions.specs.declared.marks.Mark.{Mark}
 use Rattle.fb_regions.specs.declared.region.Region.{Region}

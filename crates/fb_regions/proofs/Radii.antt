@@ -1,5 +1,5 @@
 -- The sum of the radii of a node and of those round it, as nodes change.
-use Rattle.std.proofs.Common.{ℕ, zero, suc, ◌≡◌, ◌+◌, ◌<◌, ◌==◌, ◌||◌, ◌⊎◌, inl, inr, cond, Bool, true, false, List, [], ◌∷◌, ◌++◌, length, map, set, get_or, Option, Some, None, refl, sym, ap, ◌∙◌, arith, add-zero, if◌then◌else◌}
+use Rattle.std.proofs.Common.{ℕ, zero, suc, ◌≡◌, ◌+◌, ◌<◌, ◌==◌, ◌⊎◌, inl, inr, cond, Bool, true, false, List, [], ◌∷◌, ◌++◌, length, map, set, get_or, Option, Some, None, refl, sym, ap, ◌∙◌, arith, add-zero, if◌then◌else◌}
 use Rattle.std.specs.List.{All, remove}
 use Rattle.std.proofs.lemmas.Bool.{both_ways, false≢true, false_from_ne_true, eq-eqb, eqb-true, or_left, or_right}
 use Rattle.std.proofs.lemmas.List.Elements.{All-head, All-tail}
@@ -7,6 +7,7 @@ use Rattle.fb_graph.specs.Parity.{is_in}
 use Rattle.fb_graph.specs.Certificate.{AreDistinct}
 use Rattle.fb_regions.specs.declared.region.Region.{Region}
 use Rattle.fb_regions.specs.InternalNodes.{adopted, radii_from, root_from}
+use Rattle.fb_regions.proofs.ByName.{name_known}
 
 abbrev above : List Region → Option ℕ → ℕ
 above rs None = 0
@@ -125,11 +126,6 @@ root_known (r ∷ rs) x y h = by (r.name == x) refl h (λ z k. root_known rs z y
         up None k' = or_left (r.name == y) (is_in (map (λ s. s.name) rs) y) (ap (λ z. r.name == z) (sym (eqb-true x y k')) ∙ e)
         up (Some q) k' = or_right (r.name == y) (is_in (map (λ s. s.name) rs) y) (rest q k')
 
-name_in : (rs : List Region) (i : ℕ) (old : Region) → old ≡ get_or rs i old → i < length rs → is_in (map (λ r. r.name) rs) old.name ≡ true
-name_in [] i old at less = absurd (omega arith)
-name_in (r ∷ rs) zero old at less = or_left (r.name == old.name) (is_in (map (λ s. s.name) rs) old.name) (eq-eqb r.name old.name (ap (λ y. y.name) (sym at)))
-name_in (r ∷ rs) (suc i) old at less = or_right (r.name == old.name) (is_in (map (λ s. s.name) rs) old.name) (name_in rs i old at (omega arith))
-
 abbrev root_above : List Region → ℕ → Option ℕ → Option ℕ
 root_above rs x None = Some x
 root_above rs x (Some q) = root_from rs q
@@ -172,7 +168,7 @@ radii_shifted (r ∷ rs) (suc i) a b old new distinct at less names alone too ra
     other : (x == old.name) ≡ true → (r.name == x) ≡ true → ⊥
     other e f =
         both_ways (is_in (map (λ s. s.name) rs) r.name) distinct.0
-        (ap (is_in (map (λ s. s.name) rs)) (eqb-true r.name x f ∙ eqb-true x old.name e) ∙ name_in rs i old at (omega arith))
+        (ap (is_in (map (λ s. s.name) rs)) (eqb-true r.name x f ∙ eqb-true x old.name e) ∙ name_known rs i old at (omega arith))
 
     by : (c : Bool) → (r.name == x) ≡ c
         → ((y : ℕ) → radii_from (set rs i new) y + cond (is_some_of (root_from rs y) old.name) a 0

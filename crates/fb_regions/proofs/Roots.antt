@@ -1,17 +1,17 @@
 -- The outer node round a node, and the radii up to it.
-use Rattle.std.proofs.Common.{ℕ, zero, suc, ◌≡◌, ◌+◌, ◌<◌, ◌==◌, ◌⊎◌, inl, inr, cond, Bool, true, false, List, [], ◌∷◌, ◌++◌, length, map, set, get_or, All, Option, Some, None, refl, sym, ap, ◌∙◌, subst, arith, if◌then◌else◌}
-use Rattle.std.proofs.lemmas.Bool.{both_ways, false≢true, false_from_ne_true, eq-eqb, eqb-true, or_left, or_parts}
+use Rattle.std.proofs.Common.{ℕ, ◌≡◌, ◌==◌, inl, inr, Bool, true, false, List, [], ◌∷◌, Option, Some, None, refl, sym, ap, ◌∙◌, if◌then◌else◌}
+use Rattle.std.proofs.lemmas.Bool.{both_ways, false≢true, eq-eqb, eqb-true}
 use Rattle.fb_graph.specs.Parity.{is_in}
 use Rattle.fb_graph.specs.Problem.{Problem}
-use Rattle.fb_graph.specs.Certificate.{AreDistinct}
-use Rattle.fb_graph.specs.Dual.{Node, cover_of, is_outer, top_at}
+use Rattle.fb_graph.specs.Dual.{cover_of, is_outer, top_at}
 use Rattle.fb_graph.specs.Nests.{IsNest}
 use Rattle.fb_graph.proofs.Among.{IsAmong, covered_by, map_among, outer_among}
 use Rattle.fb_graph.proofs.Forests.{child_within}
 use Rattle.fb_graph.proofs.NestParts.{grove_of}
 use Rattle.fb_regions.specs.declared.marks.Mark.{Mark}
 use Rattle.fb_regions.specs.declared.region.Region.{Region}
-use Rattle.fb_regions.specs.InternalNodes.{children_from, node_of, nodes_of, radii_from, root_from}
+use Rattle.fb_regions.specs.InternalNodes.{children_from, node_of, nodes_of, root_from}
+use Rattle.fb_regions.proofs.Climbs.{root_past}
 use Rattle.fb_regions.specs.InternalKept.{HasParent, HaveParents}
 
 -- the region that joins a node
@@ -51,10 +51,6 @@ root_step : (r : Region) (rs : List Region) (name : ℕ) (o : Option ℕ) → r.
 root_step r rs name o e f =
     ap (λ b. if b then elim r.parent as (λ x. Option ℕ) [ None ↦ Some name | Some q ↦ root_from rs q ] else root_from rs name) (eq-eqb r.name name e)
     ∙ ap (λ x. elim x as (λ y. Option ℕ) [ None ↦ Some name | Some q ↦ root_from rs q ]) f
-
-root_past : (r : Region) (rs : List Region) (name : ℕ) → (r.name == name) ≡ false → root_from (r ∷ rs) name ≡ root_from rs name
-root_past r rs name e =
-    ap (λ b. if b then elim r.parent as (λ x. Option ℕ) [ None ↦ Some name | Some q ↦ root_from rs q ] else root_from rs name) e
 
 -- a vertex of a node is under the outer node round it
 module _ (p : Problem) (marks : List (Option Mark)) (all : List Region) (nest : IsNest p (nodes_of marks all)) where

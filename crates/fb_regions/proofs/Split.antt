@@ -1,6 +1,6 @@
 -- A blossom taken away.
-use Rattle.std.proofs.Common.{ℕ, zero, suc, ◌≡◌, ◌+◌, ◌<◌, ◌==◌, ◌&&◌, ◌||◌, ◌⊎◌, inl, inr, not, Bool, true, false, List, [], ◌∷◌, ◌++◌, length, map, get_or, filter, Option, Some, None, refl, sym, ap, ◌∙◌, subst, arith, if◌then◌else◌}
-use Rattle.std.specs.List.{All, concat, position, remove}
+use Rattle.std.proofs.Common.{ℕ, zero, suc, ◌≡◌, ◌<◌, ◌==◌, ◌&&◌, ◌||◌, ◌⊎◌, inl, inr, not, Bool, true, false, List, [], ◌∷◌, ◌++◌, length, map, get_or, Option, Some, None, refl, sym, ap, ◌∙◌, subst, arith, if◌then◌else◌}
+use Rattle.std.specs.List.{All, position, remove}
 use Rattle.std.proofs.Math.Seq.{take-nil}
 use Rattle.std.specs.Option.{IsSome}
 use Rattle.std.proofs.lemmas.Bool.{and_parts, both_ways, cases_eq, false≢true, false_from_ne_true, eq-eqb, eqb-true, or_cases, or_left, or_parts, or_right}
@@ -9,14 +9,13 @@ use Rattle.fb_graph.specs.declared.parts.Cut.{Cut}
 use Rattle.fb_graph.specs.Parity.{is_in}
 use Rattle.fb_graph.specs.Problem.{Problem}
 use Rattle.fb_graph.specs.Certificate.{AreDistinct, total_value}
-use Rattle.fb_graph.specs.Dual.{Node, AreApart, all_cuts, cover_of, first_vertices, is_empty, is_live, is_outer, layers_of, leaves, top_at}
+use Rattle.fb_graph.specs.Dual.{Node, AreApart, all_cuts, cover_of, first_vertices, is_empty, is_live, is_outer, layers_of, top_at}
 use Rattle.fb_graph.specs.Moves.{MaySplit, split}
 use Rattle.fb_graph.specs.Nests.{IsNest, IsFilled, AreJoinedLater}
 use Rattle.fb_graph.specs.SourceWalks.{HaveWalks}
-use Rattle.fb_graph.proofs.Among.{IsAmong, All_among, among_All, among_map, among_outer, cover_among, from_concat, live_among, map_among, outer_among, same_among, top_among}
+use Rattle.fb_graph.proofs.Among.{IsAmong, All_among, among_All, among_outer, cover_among, from_concat, live_among, map_among, outer_among, same_among, top_among}
 use Rattle.fb_graph.proofs.InsertedCuts.{removed_All}
-use Rattle.fb_graph.proofs.NestParts.{names_live}
-use Rattle.fb_graph.proofs.Places.{among_split, split_among, split_names}
+use Rattle.fb_graph.proofs.Places.{among_split, split_among}
 use Rattle.fb_graph.proofs.Sets.{is_in-All}
 use Rattle.fb_graph.proofs.SourceWalks.{walks_split}
 use Rattle.fb_graph.proofs.SplitNests as splitting
@@ -24,9 +23,10 @@ use Rattle.fb_regions.specs.declared.marks.Mark.{Mark}
 use Rattle.fb_regions.specs.declared.region.Region.{Region}
 use Rattle.fb_regions.specs.InternalNodes.{adopted, children_from, mark_of, node_of, nodes_of, radii_from}
 use Rattle.fb_regions.specs.InternalKept.{HasMarks, HasParent, HaveParents, IsKept, IsMarked, is_lone}
+use Rattle.fb_regions.proofs.ByName.{name_known}
 use Rattle.fb_regions.proofs.Found.{IsFound, found, names_of}
 use Rattle.fb_regions.proofs.Joined.{adopted_children, adopted_lone, adopted_nodes, adopted_radii}
-use Rattle.fb_regions.proofs.Moved.{covered_in, in_top, marked_moved, some_cover}
+use Rattle.fb_regions.proofs.Moved.{covered_in, marked_moved, some_cover}
 use Rattle.fb_regions.proofs.Radii.{IsBare, MayAdopt, radii_adopted, radii_removed}
 use Rattle.fb_regions.proofs.Roots.{joiner, outer_alone}
 
@@ -47,11 +47,6 @@ kept_all marks name (r ∷ rs) out =
     ap (λ b. if not b then node_of marks r ∷ split name (nodes_of marks rs) else split name (nodes_of marks rs)) parts.0
     ∙ ap (λ l. node_of marks r ∷ l) (kept_all marks name rs parts.1)
 
-name_at : (rs : List Region) (i : ℕ) (old : Region) → old ≡ get_or rs i old → i < length rs → is_in (map (λ r. r.name) rs) old.name ≡ true
-name_at [] i old at less = absurd (omega arith)
-name_at (r ∷ rs) zero old at less = or_left (r.name == old.name) (is_in (map (λ s. s.name) rs) old.name) (eq-eqb r.name old.name (ap (λ y. y.name) (sym at)))
-name_at (r ∷ rs) (suc i) old at less = or_right (r.name == old.name) (is_in (map (λ s. s.name) rs) old.name) (name_at rs i old at (omega arith))
-
 removed_nodes : (marks : List (Option Mark)) (rs : List Region) (i name : ℕ) (old : Region) → AreDistinct (map (λ r. r.name) rs) → old ≡ get_or rs i old
     → i < length rs → old.name ≡ name → nodes_of marks (remove rs i) ≡ split name (nodes_of marks rs)
 removed_nodes marks [] i name old distinct at less named = absurd (omega arith)
@@ -64,7 +59,7 @@ removed_nodes marks (r ∷ rs) (suc i) name old distinct at less named =
     false_from_ne_true (r.name == name)
     (λ e.
     both_ways (is_in (map (λ s. s.name) rs) r.name) distinct.0
-    (ap (is_in (map (λ s. s.name) rs)) (eqb-true r.name name e ∙ sym named) ∙ name_at rs i old at (omega arith))) in
+    (ap (is_in (map (λ s. s.name) rs)) (eqb-true r.name name e ∙ sym named) ∙ name_known rs i old at (omega arith))) in
     ap (λ l. node_of marks r ∷ l) (removed_nodes marks rs i name old distinct.1 at (omega arith) named)
     ∙ sym (ap (λ b. if not b then node_of marks r ∷ split name (nodes_of marks rs) else split name (nodes_of marks rs)) other)
 

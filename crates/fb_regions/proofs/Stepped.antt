@@ -1,25 +1,24 @@
 -- A node whose top layer grows or shrinks.
-use Rattle.std.proofs.Common.{ℕ, ◌≡◌, ◌+◌, ◌-◌, ◌*◌, ◌<◌, ◌≤◌, ◌^◌, ◌==◌, ◌&&◌, ◌⊎◌, inl, inr, cond, Bool, true, false, List, [], ◌∷◌, ◌++◌, length, map, set, get_or, Option, Some, None, refl, sym, ap, ◌∙◌, subst, arith, if◌then◌else◌}
+use Rattle.std.proofs.Common.{ℕ, ◌≡◌, ◌+◌, ◌*◌, ◌<◌, ◌≤◌, ◌==◌, ◌&&◌, ◌⊎◌, inl, inr, cond, Bool, true, false, List, [], ◌∷◌, length, map, set, get_or, Option, Some, None, refl, sym, ap, ◌∙◌, subst, arith}
 use Rattle.std.specs.List.{All}
 use Rattle.std.specs.Option.{IsSome}
-use Rattle.std.proofs.lemmas.Bool.{both_ways, cases_Bool, eqb-true, false≢true, or_parts}
+use Rattle.std.proofs.lemmas.Bool.{cases_Bool, eqb-true, false≢true, or_parts}
 use Rattle.std.proofs.lemmas.List.Elements.{All-map, All-push, All-set}
-use Rattle.std.proofs.lemmas.List.Sums.{sum_by-cons, sum_by_push}
+use Rattle.std.proofs.lemmas.List.Sums.{sum_by-cons}
 use Rattle.std.proofs.Math.Nat.{mul-le-mul_left}
 use Rattle.fb_graph.specs.Parity.{is_in}
 use Rattle.fb_graph.specs.Problem.{Problem, crosses}
-use Rattle.fb_graph.specs.Certificate.{AreDistinct, Fits, load_of, total_value}
+use Rattle.fb_graph.specs.Certificate.{AreDistinct, load_of, total_value}
 use Rattle.fb_graph.specs.Counts.{as_count}
-use Rattle.fb_graph.specs.Covers.{AreRoles, is_over, passes}
-use Rattle.fb_graph.specs.Dual.{Node, AllowsGrowth, IsCrossed, all_cuts, change_at, cover_of, height_of, is_live, is_outer, layers_of, leaves, thicker, top_at}
+use Rattle.fb_graph.specs.Covers.{AreRoles, passes}
+use Rattle.fb_graph.specs.Dual.{Node, AllowsGrowth, IsCrossed, all_cuts, change_at, cover_of, height_of, is_outer, layers_of, leaves, thicker, top_at}
 use Rattle.fb_graph.specs.Limits.{IsWithinLimits}
 use Rattle.fb_graph.specs.Nests.{IsNest}
 use Rattle.fb_graph.specs.SourceWalks.{HaveWalks}
-use Rattle.fb_graph.specs.Steps.{Roles, AllowShrinking, MayStep, gains, losses, stepped, stepped_node}
+use Rattle.fb_graph.specs.Steps.{Roles, MayStep, gains, losses, stepped, stepped_node}
 use Rattle.fb_graph.specs.Turns.{also_minus, also_plus, no_roles, thinner}
-use Rattle.fb_graph.specs.declared.parts.Cut.{Cut}
 use Rattle.fb_graph.specs.declared.parts.Edge.{Edge}
-use Rattle.fb_graph.proofs.Among.{IsAmong, All_among, among_All, map_among, outer_among, top_among}
+use Rattle.fb_graph.proofs.Among.{IsAmong, All_among, among_All, top_among}
 use Rattle.fb_graph.proofs.Nodes.{All-flat_map, All-pieces, All-top, All-below}
 use Rattle.fb_graph.proofs.SourceWalks.{walks_stepped}
 use Rattle.fb_graph.proofs.StepHeights.{cover_stepped, height_stepped, leaves_stepped, outer_stepped}
@@ -27,14 +26,13 @@ use Rattle.fb_graph.proofs.SteppedNests.{nest_stepped}
 use Rattle.fb_graph.proofs.StepTurns.{grown_next, no_turn, shrunk_next, top_stepped}
 use Rattle.fb_regions.specs.declared.marks.Mark.{Mark}
 use Rattle.fb_regions.specs.declared.region.Region.{Region}
-use Rattle.fb_regions.specs.InternalNodes.{children_from, mark_of, node_of, nodes_of, radii_from, root_from}
-use Rattle.fb_regions.specs.InternalKept.{HasMarks, HasParent, HaveParents, IsKept, IsMarked}
-use Rattle.fb_regions.specs.Moves.{node_named}
+use Rattle.fb_regions.specs.InternalNodes.{mark_of, node_of, nodes_of, root_from}
+use Rattle.fb_regions.specs.InternalKept.{HasMarks, HaveParents, IsKept, IsMarked}
 use Rattle.fb_regions.proofs.Found.{among_at, names_of}
 use Rattle.fb_regions.proofs.Moved.{came_still, same_cover}
 use Rattle.fb_regions.proofs.Parents.{lone_set, parents_set}
 use Rattle.fb_regions.proofs.Radii.{is_some_of, radii_shifted}
-use Rattle.fb_regions.proofs.Roots.{joiner, outer_alone, root_covers}
+use Rattle.fb_regions.proofs.Roots.{outer_alone, root_covers}
 
 gains_absent : (name : ℕ) (ns : List Node) (e : Edge) → is_in (map (λ n. n.name) ns) name ≡ false → gains (also_plus no_roles name) ns e ≡ 0
 gains_absent name [] e out = refl

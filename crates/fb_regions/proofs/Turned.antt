@@ -1,7 +1,6 @@
 -- A node that is found by its name and grows or shrinks.
-use Rattle.std.proofs.Common.{ℕ, ◌≡◌, ◌+◌, ◌-◌, ◌*◌, ◌<◌, ◌≤◌, ◌^◌, ◌==◌, cond, Bool, true, false, List, [], ◌∷◌, ◌++◌, length, set, get_or, Option, Some, None, refl, sym, ap, ◌∙◌, subst, arith}
-use Rattle.std.specs.List.{All, position}
-use Rattle.std.proofs.lemmas.Bool.{eqb-true}
+use Rattle.std.proofs.Common.{ℕ, ◌≡◌, ◌+◌, ◌-◌, ◌*◌, ◌<◌, ◌≤◌, ◌^◌, ◌==◌, cond, Bool, true, false, List, length, set, get_or, Option, Some, None, refl, sym, ap, ◌∙◌, arith}
+use Rattle.std.specs.List.{position}
 use Rattle.std.proofs.lemmas.List.{get_or-set_same, length-map, length-set}
 use Rattle.std.proofs.lemmas.List.Sums.{get_or-le-sum_by, sum_by_push}
 use Rattle.fb_graph.specs.Problem.{Problem}
@@ -13,9 +12,8 @@ use Rattle.fb_graph.specs.Limits.{IsWithinLimits}
 use Rattle.fb_graph.specs.Nests.{IsNest}
 use Rattle.fb_graph.specs.Turns.{also_minus, also_plus, no_roles, thinner}
 use Rattle.fb_graph.specs.declared.parts.Cut.{Cut}
-use Rattle.fb_graph.proofs.Among.{IsAmong, All_among, same_among, map_among}
+use Rattle.fb_graph.proofs.Among.{All_among, same_among, map_among}
 use Rattle.fb_graph.proofs.CutSums.{sum_by-flat_map, weigh-thicker}
-use Rattle.fb_graph.proofs.SteppedNests.{nest_stepped}
 use Rattle.fb_regions.specs.declared.marks.Mark.{Mark}
 use Rattle.fb_regions.specs.declared.region.Region.{Region}
 use Rattle.fb_regions.specs.InternalNodes.{node_of, nodes_of}

@@ -1,5 +1,6 @@
 pub mod Codes
 pub mod InternalKept
 pub mod InternalNodes
+pub mod InternalPlaces
 pub mod Moves
 pub mod Walks

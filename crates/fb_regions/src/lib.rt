@@ -3,6 +3,7 @@
 #![tactic(auto)]
 
 mod marks;
+mod places;
 mod region;
 pub mod regions;
 pub mod roles;

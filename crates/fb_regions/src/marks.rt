@@ -8,6 +8,8 @@ use crate::{NodeId, Step};
 pub struct Mark {
     /// The defect from which its walk leads.
     pub source: u32,
+    /// The last vertex that the node held before it.
+    pub before: u32,
     /// The name of the node of that defect alone.
     pub leaf: NodeId,
     /// The weight of the walk.
@@ -16,8 +18,6 @@ pub struct Mark {
     pub rank: usize,
     /// The last step of the walk; none for a defect.
     pub by: Option<Step>,
-    /// The last vertex that the node held before it.
-    pub before: u32,
     /// The value of the layer below the one that it began.
     pub under: u64,
 }

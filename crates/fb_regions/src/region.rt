@@ -2,10 +2,13 @@ ghost use Rattle.std.specs.Prelude.{◌≡◌, ◌+◌, ◌<◌, ◌^◌, [], �
 ghost use Rattle.std.specs.List.{concat};
 ghost use Rattle.fb_graph.specs.Dual.{layers_of, top_at};
 ghost use Rattle.fb_regions.specs.declared.marks.Mark.{Mark};
+ghost use Rattle.fb_graph.specs.Certificate.{AreDistinct};
 ghost use Rattle.fb_regions.specs.InternalNodes.{added_to, adopted, chain, node_of, nodes_of, radii_from, root_from, stack};
+ghost use Rattle.fb_regions.specs.InternalPlaces.{AreJoinedAbove, IsIndex};
 
 use crate::NodeId;
 use crate::marks::{Mark, before, under};
+use crate::places::place_of;
 use fb_graph::{Cut, NoMemory, NumberList};
 use std::alloc::Global;
 
@@ -29,65 +32,59 @@ pub struct Region {
     pub radius: u64,
 }
 
-impl Region {
-    /// Makes a node the parent of this one, or none, if its name is one of these.
-    fn adopt(&mut self, names: &[NodeId], parent: Option<NodeId>)
-        ensures { self.new ≡ adopted names.now parent self.old }
-    {
-        if names.contains(&self.name) {
-            self.parent = parent;
-        }
-    }
-}
-
-/// The place of the first node of this name.
-pub fn place_of(regions: &[Region], name: NodeId) -> Option<usize>
-    ensures { result ≡ position (λ r. r.name == name) regions.now }
-{
-    regions.iter().position(|region| region.name == name)
-}
-
-/// The name of the outer node round a node; none where no node has the name.
-pub fn root_of(regions: &[Region], leaf: NodeId) -> Option<NodeId>
+/// The name of the outer node round a node; none where no node has the name. Climbs from each node to the one that
+/// joins it.
+pub fn root_of(places: &[Option<usize>], regions: &[Region], leaf: NodeId) -> Option<NodeId>
+    requires index { IsIndex regions.now places.now }
+    requires joined { AreJoinedAbove regions.now }
     ensures { result ≡ root_from regions.now leaf }
 {
     let mut name = leaf;
-    for region in regions {
-        if region.name == name {
-            let Some(parent) = region.parent else {
-                return Some(name);
-            };
-            name = parent;
-        }
+    while let Some(place) = place_of(places, name) {
+        let region = &regions[place];
+        let Some(parent) = region.parent else {
+            return Some(name);
+        };
+        name = parent;
     }
     None
 }
 
 /// The sum of the radii of a node and of the nodes round it.
-pub fn radii_of(regions: &[Region], leaf: NodeId) -> u64
-    requires { radii_from regions.now leaf < 2 ^ 64 }
+pub fn radii_of(places: &[Option<usize>], regions: &[Region], leaf: NodeId) -> u64
+    requires index { IsIndex regions.now places.now }
+    requires joined { AreJoinedAbove regions.now }
+    requires fits { radii_from regions.now leaf < 2 ^ 64 }
     ensures { result ≡ radii_from regions.now leaf }
 {
     let mut name = leaf;
     let mut radii = 0;
-    for region in regions {
-        if region.name == name {
-            radii += region.radius;
-            let Some(parent) = region.parent else {
-                return radii;
-            };
-            name = parent;
-        }
+    while let Some(place) = place_of(places, name) {
+        let region = &regions[place];
+        radii += region.radius;
+        let Some(parent) = region.parent else {
+            return radii;
+        };
+        name = parent;
     }
     radii
 }
 
 /// Makes a node the parent of these, or none.
-pub fn adopt(regions: &mut [Region], names: &[NodeId], parent: Option<NodeId>)
+pub fn adopt(
+    places: &[Option<usize>],
+    regions: &mut [Region],
+    names: &[NodeId],
+    parent: Option<NodeId>,
+)
+    requires index { IsIndex regions.old places.now }
+    requires distinct { AreDistinct (map (λ r. r.name) regions.old) }
     ensures { regions.new ≡ map (adopted names.now parent) regions.old }
 {
-    for region in regions.iter_mut() {
-        region.adopt(names, parent);
+    for name in names {
+        if let Some(place) = place_of(places, *name) {
+            regions[place].parent = parent;
+        }
     }
 }
 
@@ -135,38 +132,16 @@ fn cut(alloc: Global, value: u64, set: &[u32]) -> Result<Cut, NoMemory>
     Ok(Cut { value, vertices })
 }
 
-/// Adds the set of the top layer of a node to a list.
-fn add_top(
+/// The vertices of a node: the set of its top layer.
+pub fn vertices(
     alloc: Global,
     marks: &[Option<Mark>],
-    regions: &[Region],
-    name: NodeId,
-    list: &mut Vec<u32>,
-) -> Result<(), NoMemory>
-    ensures { OnOk result (list.new.items ≡ list.old.items ++ top_at (nodes_of marks.now regions.now) name) }
-{
-    let Some(place) = place_of(regions, name) else {
-        return Ok(());
-    };
-    let region = &regions[place];
-    let added = added(alloc, marks, region.added, region.last)?;
-    list.extend_from_slice(region.first_set.as_slice())?;
-    list.extend_from_slice(added.as_slice())?;
-    Ok(())
-}
-
-/// The sets of the top layers of the named nodes, one after the other.
-pub fn tops_of(
-    alloc: Global,
-    marks: &[Option<Mark>],
-    regions: &[Region],
-    names: &[NodeId],
+    region: &Region,
 ) -> Result<Vec<u32>, NoMemory>
-    ensures { IfOk result (λ v. v.items ≡ concat (map (top_at (nodes_of marks.now regions.now)) names.now)) }
+    ensures { IfOk result (λ v. v.items ≡ region.now.first_set.items ++ added_to marks.now region.now) }
 {
-    let mut tops = Vec::new(alloc);
-    for name in names {
-        add_top(alloc, marks, regions, *name, &mut tops)?;
-    }
-    Ok(tops)
+    let added = added(alloc, marks, region.added, region.last)?;
+    let mut vertices = Vec::from_slice(alloc, region.first_set.as_slice())?;
+    vertices.extend_from_slice(added.as_slice())?;
+    Ok(vertices)
 }

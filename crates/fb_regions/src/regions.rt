@@ -1,4 +1,5 @@
 ghost use Rattle.std.specs.Prelude.{◌≡◌, ◌+◌, ◌-◌, ◌<◌, ◌≤◌, ◌==◌, not, true, false, List, [], ◌∷◌, ◌++◌, length, map, get_or, All, IfOk, OnOk, OnErr, IsSome, None};
+ghost use Rattle.std.specs.List.{concat};
 ghost use Rattle.fb_graph.specs.Parity.{is_in};
 ghost use Rattle.fb_graph.specs.Problem.{edge_at};
 ghost use Rattle.fb_graph.specs.Certificate.{load_of};
@@ -10,7 +11,8 @@ ghost use Rattle.fb_graph.specs.Turns.{thinner};
 ghost use Rattle.fb_regions.specs.Moves.{IsOver, IsSourceWalk, absorbed, inner_end, node_named, outer_end};
 
 use crate::marks::{Mark, mark_at, step_to};
-use crate::region::{self, Region, adopt, place_of, radii_of, root_of, tops_of};
+use crate::places::{enter_from, place_of, set_place, widen};
+use crate::region::{self, Region, adopt, radii_of, root_of};
 use crate::{Layer, NodeId, Step, Walk};
 use fb_graph::{NoMemory, Scope};
 use std::alloc::Global;
@@ -18,7 +20,8 @@ use std::marker::Model;
 
 /// The dual state over a scope: nodes, each a stack of layers, which are vertex sets with values. A node is a defect,
 /// or a blossom of an odd number of nodes (Edmonds 1965). The caller names each node by a number that isn't live
-/// there. A call that returns `NoMemory` leaves the state as it was.
+/// there. A node is found by its name in constant time, which takes room for each number up to the largest name. A
+/// call that returns `NoMemory` leaves the state as it was.
 ///
 /// No layer is kept as a list. A vertex that a node takes up begins a layer, and its mark has the vertex before it and
 /// the value below.
@@ -27,6 +30,8 @@ pub struct Regions<S: Scope> {
     scope: S,
     /// The nodes, in the order in which they were made.
     regions: Vec<Region>,
+    /// The place of each node, by its name.
+    places: Vec<Option<usize>>,
     /// A mark for each vertex of the scope.
     marks: Vec<Option<Mark>>,
 }
@@ -41,10 +46,12 @@ impl<S: Scope> Model for Regions<S> {
 
     ghost use Rattle.fb_regions.specs.InternalKept.{IsKept};
     ghost use Rattle.fb_regions.specs.InternalNodes.{nodes_of};
+    ghost use Rattle.fb_regions.specs.InternalPlaces.{IsIndex};
 
     ghost view = { λ r. record { scope = r.scope; nodes = nodes_of r.marks.items r.regions.items } };
 
-    ghost invariant = { λ r. IsKept (S.problem r.scope) r.regions.items r.marks.items };
+    ghost invariant = { λ r. IsKept (S.problem r.scope) r.regions.items r.marks.items
+        × IsIndex r.regions.items r.places.items };
 }
 
 impl<S: Scope> Regions<S> {
@@ -56,6 +63,7 @@ impl<S: Scope> Regions<S> {
         Ok(Regions {
             scope: *scope,
             regions: Vec::new(alloc),
+            places: Vec::new(alloc),
             marks,
         })
     }
@@ -86,7 +94,11 @@ impl<S: Scope> Regions<S> {
     {
         let mut first_set = Vec::new(alloc);
         first_set.push(v)?;
-        self.regions.push(Region {
+        self.regions.reserve(1)?;
+        widen(&mut self.places, node)?;
+        let place = self.regions.len();
+        set_place(&mut self.places, node, Some(place));
+        self.regions.push_reserved(Region {
             name: node,
             children: Vec::new(alloc),
             parent: None,
@@ -95,7 +107,7 @@ impl<S: Scope> Regions<S> {
             last: v,
             top_value: 0,
             radius: 0,
-        })?;
+        });
         self.marks[v as usize] = Some(Mark {
             source: v,
             leaf: node,
@@ -119,11 +131,14 @@ impl<S: Scope> Regions<S> {
         ensures ok { OnOk result (self.new ≡ record { scope = self.old.scope; nodes = joined node children.now self.old.nodes }) }
         ensures err { OnErr result (self.new ≡ self.old) }
     {
-        let first_set = tops_of(alloc, &self.marks, &self.regions, children)?;
+        let first_set = self.tops_of(alloc, children)?;
         let names = Vec::from_slice(alloc, children)?;
         self.regions.reserve(1)?;
+        widen(&mut self.places, node)?;
         let last = first_set[first_set.len() - 1];
-        adopt(&mut self.regions, children, Some(node));
+        let place = self.regions.len();
+        adopt(&self.places, &mut self.regions, children, Some(node));
+        set_place(&mut self.places, node, Some(place));
         self.regions.push_reserved(Region {
             name: node,
             children: names,
@@ -137,17 +152,25 @@ impl<S: Scope> Regions<S> {
         Ok(())
     }
 
-    /// Takes away an outer blossom that has one layer, of value 0, so that the nodes that it joins are outer again.
+    /// Takes away an outer blossom that has one layer, of value 0, so that the nodes that it joins are outer again. Takes
+    /// time for these and for each node that was made after the blossom.
     pub fn split_node(&mut self, node: NodeId) -> Result<(), NoMemory>
         requires { MaySplit self.old.nodes node }
         ensures ok { OnOk result (self.new ≡ record { scope = self.old.scope; nodes = split node self.old.nodes }) }
         ensures err { OnErr result (self.new ≡ self.old) }
     {
-        let Some(place) = place_of(&self.regions, node) else {
+        let Some(place) = place_of(&self.places, node) else {
             unreachable!()
         };
         let blossom = self.regions.remove(place);
-        adopt(&mut self.regions, blossom.children.as_slice(), None);
+        set_place(&mut self.places, node, None);
+        enter_from(&mut self.places, &self.regions, place);
+        adopt(
+            &self.places,
+            &mut self.regions,
+            blossom.children.as_slice(),
+            None,
+        );
         Ok(())
     }
 
@@ -160,7 +183,7 @@ impl<S: Scope> Regions<S> {
         ensures { self.new ≡ record { scope = self.old.scope; nodes = change_at node (thicker k) self.old.nodes } }
     {
         self.scope.limits();
-        let Some(place) = place_of(&self.regions, node) else {
+        let Some(place) = place_of(&self.places, node) else {
             unreachable!()
         };
         let region = &mut self.regions[place];
@@ -176,7 +199,7 @@ impl<S: Scope> Regions<S> {
         ensures { self.new ≡ record { scope = self.old.scope; nodes = change_at node (thinner k) self.old.nodes } }
     {
         self.scope.limits();
-        let Some(place) = place_of(&self.regions, node) else {
+        let Some(place) = place_of(&self.places, node) else {
             unreachable!()
         };
         let region = &mut self.regions[place];
@@ -198,10 +221,10 @@ impl<S: Scope> Regions<S> {
         let Some(mark) = mark_at(&self.marks, step.from) else {
             unreachable!()
         };
-        let Some(node) = root_of(&self.regions, mark.leaf) else {
+        let Some(node) = root_of(&self.places, &self.regions, mark.leaf) else {
             unreachable!()
         };
-        let Some(place) = place_of(&self.regions, node) else {
+        let Some(place) = place_of(&self.places, node) else {
             unreachable!()
         };
         let region = &mut self.regions[place];
@@ -226,7 +249,7 @@ impl<S: Scope> Regions<S> {
         requires { MayUncover self.old.nodes node }
         ensures { self.new ≡ record { scope = self.old.scope; nodes = uncovered node self.old.nodes } }
     {
-        let Some(place) = place_of(&self.regions, node) else {
+        let Some(place) = place_of(&self.places, node) else {
             unreachable!()
         };
         let region = &mut self.regions[place];
@@ -271,7 +294,7 @@ impl<S: Scope> Regions<S> {
         let Some(mark) = mark_at(&self.marks, v) else {
             return 0;
         };
-        radii_of(&self.regions, mark.leaf) - mark.distance
+        radii_of(&self.places, &self.regions, mark.leaf) - mark.distance
     }
 
     /// What the edge can still bear where no outer node holds both of its ends: its weight less its load.
@@ -294,7 +317,7 @@ impl<S: Scope> Regions<S> {
         let Some(mark) = mark_at(&self.marks, v) else {
             return None;
         };
-        root_of(&self.regions, mark.leaf)
+        root_of(&self.places, &self.regions, mark.leaf)
     }
 
     /// The walk by which a covered vertex came, from its source defect.
@@ -317,10 +340,34 @@ impl<S: Scope> Regions<S> {
         requires { is_live self.now.nodes node ≡ true }
         ensures { IfOk result (λ layers. layers.items ≡ layers_at self.now.nodes node) }
     {
-        let Some(place) = place_of(&self.regions, node) else {
+        let Some(place) = place_of(&self.places, node) else {
             unreachable!()
         };
         region::layers(alloc, &self.marks, &self.regions[place])
+    }
+
+    /// The node's vertices: a copy of the set of its top layer.
+    pub fn vertices(&self, alloc: Global, node: NodeId) -> Result<Vec<u32>, NoMemory>
+        requires { is_live self.now.nodes node ≡ true }
+        ensures { IfOk result (λ vertices. vertices.items ≡ top_at self.now.nodes node) }
+    {
+        let Some(place) = place_of(&self.places, node) else {
+            unreachable!()
+        };
+        region::vertices(alloc, &self.marks, &self.regions[place])
+    }
+
+    /// The vertices of the named nodes, one node after the other.
+    fn tops_of(&self, alloc: Global, names: &[NodeId]) -> Result<Vec<u32>, NoMemory>
+        requires { All (λ name. is_live self.now.nodes name ≡ true) names.now }
+        ensures { IfOk result (λ v. v.items ≡ concat (map (top_at self.now.nodes) names.now)) }
+    {
+        let mut tops = Vec::new(alloc);
+        for name in names {
+            let top = self.vertices(alloc, *name)?;
+            tops.extend_from_slice(top.as_slice())?;
+        }
+        Ok(tops)
     }
 
     /// The sum of the values of the sets that hold the defect.
@@ -337,7 +384,7 @@ impl<S: Scope> Regions<S> {
         ensures { result ≡ length (layers_at self.now.nodes node) }
     {
         self.scope.limits();
-        let Some(place) = place_of(&self.regions, node) else {
+        let Some(place) = place_of(&self.places, node) else {
             unreachable!()
         };
         self.regions[place].added + 1
@@ -348,7 +395,7 @@ impl<S: Scope> Regions<S> {
         requires { is_live self.now.nodes node ≡ true }
         ensures { result ≡ (node_named self.now.nodes node).top.value }
     {
-        let Some(place) = place_of(&self.regions, node) else {
+        let Some(place) = place_of(&self.places, node) else {
             unreachable!()
         };
         self.regions[place].top_value
@@ -359,7 +406,7 @@ impl<S: Scope> Regions<S> {
         requires { is_live self.now.nodes node ≡ true }
         ensures { result ≡ not (is_empty (node_named self.now.nodes node).children) }
     {
-        let Some(place) = place_of(&self.regions, node) else {
+        let Some(place) = place_of(&self.places, node) else {
             unreachable!()
         };
         !self.regions[place].children.is_empty()

@@ -1,40 +1,12 @@
--- The top layer of a node among its layers.
-use Rattle.std.proofs.Common.{ℕ, ◌≡◌, ◌==◌, ◌||◌, ◌+◌, ◌-◌, ◌<◌, Bool, cond, true, false, List, [], ◌∷◌, ◌++◌, length, get_or, All, refl, sym, ap, ◌∙◌, arith}
+-- The top layer of a node.
+use Rattle.std.proofs.Common.{ℕ, ◌≡◌, ◌==◌, ◌||◌, Bool, cond, true, false, List, [], ◌∷◌, All}
 use Rattle.std.proofs.lemmas.Bool.{false≢true}
-use Rattle.std.proofs.lemmas.List.{length-append}
 use Rattle.std.proofs.lemmas.List.Elements.{All-head, All-tail, All-weaker}
-use Rattle.std.proofs.Math.Seq.{get_or-append_seam}
 use Rattle.fb_graph.specs.Problem.{Problem, with_defects}
 use Rattle.fb_graph.specs.Certificate.{IsOddCut}
-use Rattle.fb_graph.specs.declared.parts.Cut.{Cut}
-use Rattle.fb_graph.specs.Dual.{Node, all_cuts, is_live, layers_at, layers_of, leaves, top_at}
+use Rattle.fb_graph.specs.Dual.{Node, all_cuts, is_live, layers_of, leaves, top_at}
 use Rattle.fb_graph.specs.Nests.{IsNest}
 use Rattle.fb_graph.proofs.Nodes.{All-pieces, All-top}
-
-last_at : (below : List Cut) (top d : Cut) → get_or (below ++ top ∷ []) (length (below ++ top ∷ []) - 1) d ≡ top
-last_at below top d =
-    let e : length (below ++ top ∷ []) - 1 ≡ length below = rw (length-append below (top ∷ [])) (omega arith) in
-    rw e (get_or-append_seam below top [] d)
-
-some_at : (below : List Cut) (top : Cut) → 0 < length (below ++ top ∷ [])
-some_at below top = rw (length-append below (top ∷ [])) (omega arith)
-
--- the last of the node's layers has the set of its top layer
-pub top_layer : (nodes : List Node) (name : ℕ) (d : Cut) → is_live nodes name ≡ true
-    → (0 < length (layers_at nodes name))
-    × ((get_or (layers_at nodes name) (length (layers_at nodes name) - 1) d).vertices ≡ top_at nodes name)
-top_layer [] name d live = absurd (false≢true live)
-top_layer (n ∷ ns) name d live = by (n.name == name) live (top_layer ns name d)
-  where
-    by : (b : Bool) → (b || is_live ns name) ≡ true
-        → (is_live ns name ≡ true
-        → (0 < length (layers_at ns name))
-        × ((get_or (layers_at ns name) (length (layers_at ns name) - 1) d).vertices ≡ top_at ns name))
-        → (0 < length (cond b (layers_of n) (layers_at ns name)))
-        × ((get_or (cond b (layers_of n) (layers_at ns name)) (length (cond b (layers_of n) (layers_at ns name)) - 1) d).vertices
-        ≡ cond b n.top.vertices (top_at ns name))
-    by true l rest = (some_at n.below n.top, ap (λ c. c.vertices) (last_at n.below n.top d))
-    by false l rest = rest l
 
 -- what holds of all cuts holds of the node's top one
 top_of_all : (P : List ℕ → Type 0) (nodes : List Node) (name : ℕ) → is_live nodes name ≡ true

@@ -1,10 +1,10 @@
-ghost use Rattle.std.specs.Prelude.{◌≡◌, ◌-◌, ◌<◌, true, [], All, OnOk, length, get_or};
+ghost use Rattle.std.specs.Prelude.{◌≡◌, ◌<◌, true, All, OnOk, length};
 ghost use Rattle.fb_graph.specs.Dual.{is_live, top_at};
 ghost use Rattle.fb_search.specs.Watching.{Enters, Watches};
 
 use fb_graph::{NoMemory, Scope};
 use fb_obstacles::Watch;
-use fb_regions::{Layer, NodeId, Regions};
+use fb_regions::{NodeId, Regions};
 use std::alloc::Global;
 
 /// Watches these edges from now on.
@@ -28,14 +28,6 @@ pub fn watch_vertices<S: Scope>(watch: &mut Watch, scope: &S, vertices: &[u32])
     }
 }
 
-/// The vertices of the last layer.
-fn last_vertices(layers: &[Layer]) -> &[u32]
-    requires { 0 < length layers.now }
-    ensures { result.now ≡ (get_or layers.now (length layers.now - 1) (record { value = 0; vertices = [] })).vertices }
-{
-    layers[layers.len() - 1].vertices.as_slice()
-}
-
 /// Watches the edges at all vertices of the node. Takes time for each of them.
 pub fn watch_node<S: Scope>(
     alloc: Global,
@@ -51,7 +43,7 @@ pub fn watch_node<S: Scope>(
 {
     regions.keeps();
     scope.limits();
-    let layers = regions.layers(alloc, node)?;
-    watch_vertices(watch, scope, last_vertices(&layers));
+    let vertices = regions.vertices(alloc, node)?;
+    watch_vertices(watch, scope, vertices.as_slice());
     Ok(())
 }

@@ -1,5 +1,5 @@
 use Rattle.std.proofs.Common.{◌∙◌}
-use Rattle.fb_regions.proofs.Chains.{chain_back, chain_all}
+use Rattle.fb_regions.proofs.Chains.{chain_back}
 use Rattle.fb_regions.proofs.region.added.Goals as goal
 
 pub loop-preserved : goal.loop-preserved

@@ -1,6 +1,10 @@
-use Rattle.std.proofs.Common.{◌≡◌, ◌+◌, drop}
+use Rattle.std.proofs.Common.{◌≡◌, ◌+◌, ◌-◌, ◌==◌, length}
+use Rattle.std.specs.List.{position_or_len}
 use Rattle.fb_regions.specs.InternalNodes.{radii_from}
 use Rattle.fb_regions.proofs.region.radii_of.Given as goal
 
-abbrev pub invariant-loop-region : goal.invariant-loop-region
-invariant-loop-region l = l.radii + radii_from (drop l.region-index l.regions) l.name ≡ radii_from l.regions l.leaf
+abbrev pub invariant-loop-place : goal.invariant-loop-place
+invariant-loop-place l = l.radii + radii_from l.regions l.name ≡ radii_from l.regions l.leaf
+
+abbrev pub decreases-loop-place : goal.decreases-loop-place
+decreases-loop-place l = length l.regions - position_or_len (λ r. r.name == l.name) l.regions

@@ -1,4 +1,4 @@
-use Rattle.std.proofs.Common.{◌≡◌, ap, ◌∙◌, sym, Some, None, false, true}
+use Rattle.std.proofs.Common.{◌≡◌, Some, None, false, true}
 use Rattle.fb_graph.specs.Dual.{is_live}
 use Rattle.fb_regions.specs.InternalNodes.{nodes_of}
 use Rattle.fb_regions.proofs.Found.{found, not_found, read_place}
@@ -9,11 +9,11 @@ unreachable-requires g c =
     let live : is_live (nodes_of c.self.inside.marks.items c.self.inside.regions.items) c.args.node ≡ true = rw (← c.self.view_is) at c.requires in
     let gone : is_live (nodes_of c.self.inside.marks.items c.self.inside.regions.items) c.args.node ≡ false =
     not_found c.self.inside.marks.items c.self.inside.regions.items c.args.node
-    (read_place c.self.inside.regions.items _ c.args.node None c.deref.ensures.value c.in_default.ensures) in
+    (read_place c.self.inside.regions.items _ _ c.args.node None c.self.invariant.1 c.deref.ensures.value c.in_default.ensures) in
     cc
 
 pub returns : goal.returns
 returns g c =
     let at = found c.self.inside.marks.items c.self.inside.regions.items c.args.node c.in-Some.place _
-    (read_place c.self.inside.regions.items _ c.args.node (Some c.in-Some.place) c.deref.ensures.value c.in-Some.ensures) c.index.ensures in
+    (read_place c.self.inside.regions.items _ _ c.args.node (Some c.in-Some.place) c.self.invariant.1 c.deref.ensures.value c.in-Some.ensures) c.index.ensures in
     rw (← c.self.view_is, ← at.layers, ← c.deref-2.ensures.value) c.layers.ensures

@@ -1,30 +1,42 @@
-use Rattle.std.proofs.Common.{◌<◌, ◌++◌, ◌∷◌, [], length, refl, ◌∙◌, ap, sym}
+use Rattle.std.proofs.Common.{◌≡◌, ◌<◌, ◌++◌, ◌∷◌, [], length, refl, ◌∙◌, ap}
+use Rattle.fb_regions.proofs.Indexed.{fresh_name, index_pushed, index_same}
 use Rattle.fb_regions.proofs.Opened.{kept_opened, opened_nodes}
 use Rattle.fb_regions.proofs.regions.Regions.open_leaf.Goals as goal
 
+pub invariant_of-self-in_err-widen : goal.invariant_of-self-in_err-widen
+invariant_of-self-in_err-widen g c = (
+  rw c.in_ok-reserve.ensures.items c.self.invariant.0,
+  rw c.in_ok-reserve.ensures.items (index_same _ _ _ c.self.invariant.1 c.widen.ensures.same),
+)
+
 pub invariant_of-self-2 : goal.invariant_of-self-2
 invariant_of-self-2 g c =
-    let below : c.args.v < length c.self.inside.marks.items = rw c.self.invariant.room (rw (← c.self.view_is) at c.requires.below) in
-    rw c.in_ok-push-2.ensures.items
-    (kept_opened _ _ _ c.self.invariant c.args.node c.args.v _ _
-    (record {
-      name_is = refl;
-      children = c.new.ensures.items;
-      parent = refl;
-      first = c.in_ok-push.ensures.items ∙ ap (λ l. l ++ c.args.v ∷ []) c.new-first_set.ensures.items;
-      added = refl;
-      value = refl;
-      radius = refl;
-    })
-    (record { source = refl; leaf = refl; distance = refl; rank = refl; by = refl })
-    (rw (← c.self.view_is) at c.requires.fresh) below (rw (← c.self.view_is) at c.requires.real) (rw (← c.self.view_is) at c.requires.uncovered))
+    let below : c.args.v < length c.self.inside.marks.items = rw c.self.invariant.0.room (rw (← c.self.view_is) at c.requires.below) in
+    let count : c.len-place.result ≡ length c.self.inside.regions.items = c.len-place.ensures ∙ (c.reserve.new.self.ok.0 ∙ ap length c.in_ok-reserve.ensures.items) in (
+      rw (c.push_reserved.ensures.items, c.in_ok-reserve.ensures.items)
+          (kept_opened _ _ _ c.self.invariant.0 c.args.node c.args.v _ _
+          (record {
+            name_is = refl;
+            children = c.new.ensures.items;
+            parent = refl;
+            first = c.in_ok-push.ensures.items ∙ ap (λ l. l ++ c.args.v ∷ []) c.new-first_set.ensures.items;
+            added = refl;
+            value = refl;
+            radius = refl;
+          })
+          (record { source = refl; leaf = refl; distance = refl; rank = refl; by = refl })
+          (rw (← c.self.view_is) at c.requires.fresh) below (rw (← c.self.view_is) at c.requires.real) (rw (← c.self.view_is) at c.requires.uncovered)),
+      rw (c.push_reserved.ensures.items, c.in_ok-reserve.ensures.items)
+          (index_pushed c.self.inside.regions.items c.widen.new.places.items _ _ c.len-place.result (index_same _ _ _ c.self.invariant.1 c.widen.ensures.same) count
+          (fresh_name c.self.inside.marks.items _ c.args.node (rw (← c.self.view_is) at c.requires.fresh)) c.set_place.ensures.entries),
+    )
 
 pub returns-clause-ok : goal.returns-clause-ok
 returns-clause-ok g c =
-    let below : c.args.v < length c.self.inside.marks.items = rw c.self.invariant.room (rw (← c.self.view_is) at c.requires.below) in
-    rw (← c.self.view_is, c.in_ok-push-2.ensures.items)
+    let below : c.args.v < length c.self.inside.marks.items = rw c.self.invariant.0.room (rw (← c.self.view_is) at c.requires.below) in
+    rw (← c.self.view_is, c.push_reserved.ensures.items, c.in_ok-reserve.ensures.items)
     (ap (λ ns. record { scope = c.self.inside.scope; nodes = ns })
-    (opened_nodes _ _ _ c.self.invariant c.args.node c.args.v _ _
+    (opened_nodes _ _ _ c.self.invariant.0 c.args.node c.args.v _ _
     (record {
       name_is = refl;
       children = c.new.ensures.items;

@@ -7,8 +7,8 @@ use Rattle.fb_regions.proofs.regions.Regions.residue.Goals as goal
 
 pub overflow_add-load : goal.overflow_add-load
 overflow_add-load g c =
-    let first : c.potential.result ≤ 2 ^ 52 = rw (c.potential.ensures, ← c.self.view_is) (height-le _ _ _ c.self.invariant.nest) in
-    let second : c.potential-2.result ≤ 2 ^ 52 = rw (c.potential-2.ensures, ← c.self.view_is) (height-le _ _ _ c.self.invariant.nest) in
+    let first : c.potential.result ≤ 2 ^ 52 = rw (c.potential.ensures, ← c.self.view_is) (height-le _ _ _ c.self.invariant.0.nest) in
+    let second : c.potential-2.result ≤ 2 ^ 52 = rw (c.potential-2.ensures, ← c.self.view_is) (height-le _ _ _ c.self.invariant.0.nest) in
     omega (arith, first, second)
 
 pub returns-clause-load : goal.returns-clause-load
@@ -18,4 +18,4 @@ returns-clause-load g c =
     let e = edge_at (g.S.Scope.problem c.self.inside.scope).edges c.args.edge in
     rw (← c.self.view_is)
     (λ apart. residue _ _ _ _ _ _ (all_cuts (nodes_of c.self.inside.marks.items c.self.inside.regions.items)) e c.saturating_sub.ensures c.weight.ensures first c.ends-first.ensures.first
-    second c.ends-first.ensures.second (c.self.invariant.nest.dual.loads e apart))
+    second c.ends-first.ensures.second (c.self.invariant.0.nest.dual.loads e apart))

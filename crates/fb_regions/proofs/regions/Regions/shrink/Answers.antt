@@ -1,6 +1,7 @@
-use Rattle.std.proofs.Common.{◌≡◌, ◌<◌, ◌≤◌, ◌^◌, arith, refl, ap, ◌∙◌, sym, Some, None, false, true}
+use Rattle.std.proofs.Common.{◌≡◌, refl, ap, Some, None, false, true}
 use Rattle.fb_graph.specs.Dual.{is_live}
 use Rattle.fb_regions.specs.InternalNodes.{nodes_of}
+use Rattle.fb_regions.proofs.Indexed.{index_changed}
 use Rattle.fb_regions.proofs.Found.{not_found, read_place}
 use Rattle.fb_regions.proofs.Turned.{shrinking}
 use Rattle.fb_regions.proofs.regions.Regions.shrink.Goals as goal
@@ -9,31 +10,34 @@ pub unreachable-requires : goal.unreachable-requires
 unreachable-requires g c =
     let live : is_live (nodes_of c.self.inside.marks.items c.self.inside.regions.items) c.args.node ≡ true = rw (← c.self.view_is) at c.requires.live in
     let gone : is_live (nodes_of c.self.inside.marks.items c.self.inside.regions.items) c.args.node ≡ false =
-    not_found c.self.inside.marks.items c.self.inside.regions.items c.args.node (read_place c.self.inside.regions.items _ c.args.node None c.deref.ensures.value c.in_default.ensures) in
+    not_found c.self.inside.marks.items c.self.inside.regions.items c.args.node (read_place c.self.inside.regions.items _ _ c.args.node None c.self.invariant.1 c.deref.ensures.value c.in_default.ensures) in
     cc
 
 pub overflow_sub-region : goal.overflow_sub-region
 overflow_sub-region g c =
     let is =
-    shrinking _ _ _ c.self.invariant c.limits.ensures c.args.node c.args.k c.in-Some.place _ (read_place c.self.inside.regions.items _ c.args.node (Some c.in-Some.place) c.deref.ensures.value c.in-Some.ensures) c.index_mut-region.ensures.value
+    shrinking _ _ _ c.self.invariant.0 c.limits.ensures c.args.node c.args.k c.in-Some.place _ (read_place c.self.inside.regions.items _ _ c.args.node (Some c.in-Some.place) c.self.invariant.1 c.deref.ensures.value c.in-Some.ensures) c.index_mut-region.ensures.value
     (rw (← c.self.view_is) at c.requires.outer) (rw (← c.self.view_is) at c.requires.value) in
     is.1
 
 pub overflow_sub-region-2 : goal.overflow_sub-region-2
 overflow_sub-region-2 g c =
     let is =
-    shrinking _ _ _ c.self.invariant c.limits.ensures c.args.node c.args.k c.in-Some.place _ (read_place c.self.inside.regions.items _ c.args.node (Some c.in-Some.place) c.deref.ensures.value c.in-Some.ensures) c.index_mut-region.ensures.value
+    shrinking _ _ _ c.self.invariant.0 c.limits.ensures c.args.node c.args.k c.in-Some.place _ (read_place c.self.inside.regions.items _ _ c.args.node (Some c.in-Some.place) c.self.invariant.1 c.deref.ensures.value c.in-Some.ensures) c.index_mut-region.ensures.value
     (rw (← c.self.view_is) at c.requires.outer) (rw (← c.self.view_is) at c.requires.value) in
     is.2
 
 pub invariant_of-self : goal.invariant_of-self
-invariant_of-self g c =
-    (shrinking _ _ _ c.self.invariant c.limits.ensures c.args.node c.args.k c.in-Some.place _ (read_place c.self.inside.regions.items _ c.args.node (Some c.in-Some.place) c.deref.ensures.value c.in-Some.ensures) c.index_mut-region.ensures.value
-    (rw (← c.self.view_is) at c.requires.outer) (rw (← c.self.view_is) at c.requires.value)).0.kept
+invariant_of-self g c = (
+  (shrinking _ _ _ c.self.invariant.0 c.limits.ensures c.args.node c.args.k c.in-Some.place _ (read_place c.self.inside.regions.items _ _ c.args.node (Some c.in-Some.place) c.self.invariant.1 c.deref.ensures.value c.in-Some.ensures) c.index_mut-region.ensures.value
+      (rw (← c.self.view_is) at c.requires.outer) (rw (← c.self.view_is) at c.requires.value)).0.kept,
+  index_changed _ _ _ c.args.node c.in-Some.place c.index_mut-region.result.now _ c.self.invariant.1 c.deref.ensures.value c.in-Some.ensures
+      c.index_mut-region.ensures.value refl,
+)
 
 pub returns : goal.returns
 returns g c =
     let is =
-    shrinking _ _ _ c.self.invariant c.limits.ensures c.args.node c.args.k c.in-Some.place _ (read_place c.self.inside.regions.items _ c.args.node (Some c.in-Some.place) c.deref.ensures.value c.in-Some.ensures) c.index_mut-region.ensures.value
+    shrinking _ _ _ c.self.invariant.0 c.limits.ensures c.args.node c.args.k c.in-Some.place _ (read_place c.self.inside.regions.items _ _ c.args.node (Some c.in-Some.place) c.self.invariant.1 c.deref.ensures.value c.in-Some.ensures) c.index_mut-region.ensures.value
     (rw (← c.self.view_is) at c.requires.outer) (rw (← c.self.view_is) at c.requires.value) in
     rw (← c.self.view_is) (ap (λ ns. record { scope = c.self.inside.scope; nodes = ns }) is.0.change)
