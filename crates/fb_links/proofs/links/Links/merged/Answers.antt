@@ -1,5 +1,5 @@
 use Rattle.std.proofs.Common.{◌≡◌, [], ◌∷◌, ◌++◌, length, ap, ◌∙◌, arith}
-use Rattle.fb_links.proofs.Merging.{merging_begins, merging_ends, merging_after_none, merging_after_some, taken_link}
+use Rattle.fb_links.proofs.MovedLinks.{merging_begins, merging_ends, merging_after_none, merging_after_some, taken_link}
 use Rattle.fb_links.proofs.links.Links.merged.Goals as goal
 
 pub loop-entry-init : goal.loop-entry-init
