@@ -1,7 +1,7 @@
 -- Lists of numbers: members, and lists without repetition, after one more number.
 use Rattle.std.proofs.Common.{ℕ, ◌≡◌, ◌≢◌, ◌==◌, Bool, true, false, ◌||◌, List, [], ◌∷◌, ◌++◌, refl, sym, ap, ◌∙◌}
 use Rattle.std.proofs.Math.Bool.{or-false}
-use Rattle.std.proofs.lemmas.Bool.{eqb-true, eq-eqb, or_from, or_parts, or_right, both_ways}
+use Rattle.std.proofs.lemmas.Bool.{eqb-true, eq-eqb, or_parts, or_right, both_ways}
 use Rattle.fb_links.specs.Merged.{is_in, AreDistinct}
 
 pub is_in-push : (xs : List ℕ) (y v : ℕ) → is_in (xs ++ y ∷ []) v ≡ (is_in xs v || (y == v))

@@ -1,8 +1,7 @@
 -- The right table's links move into the left one, from the last number down.
-use Rattle.std.proofs.Common.{ℕ, ◌+◌, ◌<◌, ◌≤◌, ◌≡◌, ◌≢◌, ◌==◌, Bool, true, false, List, [], ◌∷◌, ◌++◌, map, length, get_or, Option, Some, None, All, arith, refl, sym, ap, ◌∙◌, subst, inl, inr}
+use Rattle.std.proofs.Common.{ℕ, ◌+◌, ◌<◌, ◌≤◌, ◌≡◌, ◌≢◌, ◌==◌, false, List, [], ◌∷◌, ◌++◌, length, Option, Some, None, All, arith, refl, sym, ap, ◌∙◌, subst, inl, inr}
 use Rattle.std.specs.Prelude.{is_some}
-use Rattle.std.proofs.lemmas.Bool.{cases_lt, false≢true, both_ways, or_from}
-use Rattle.std.proofs.lemmas.Option.{none-some}
+use Rattle.std.proofs.lemmas.Bool.{cases_lt, false≢true, or_from}
 use Rattle.std.proofs.lemmas.List.{length_push, get_or_push, get_or_past, map-append}
 use Rattle.std.proofs.lemmas.List.Elements.{All-nil, All-cons, All-get_or, All-head, All-tail, All-push, All-weaker}
 use Rattle.fb_links.specs.declared.walk.Step.{Step}
@@ -81,6 +80,7 @@ merging_passes left right rest pairs new merging =
     at_last id is =
         merging.unlisted id (omega (arith, length_push rest None))
         ∙ sym (ap (is_live right) is ∙ ap is_some (last_entry left right rest None pairs new merging))
+
     listed : (id : ℕ) → length rest ≤ id → is_in (old_numbers pairs) id ≡ is_live right id
     listed id past =
         elim (cases_lt (length rest) id) [
@@ -112,35 +112,58 @@ merging_moves left right rest pairs old new id walk merging adds =
     record {
       entries = front_entries rest (Some walk) merging.entries;
       unread = front_entry left right rest (Some walk) pairs old merging;
-      unlisted = λ k within. ap (λ l. is_in l k) olds ∙ (is_in-push_other (old_numbers pairs) (length rest) k (omega arith) ∙ merging.unlisted k (omega (arith, pushed)));
+      unlisted = λ k within. older k (omega arith) ∙ merging.unlisted k (omega (arith, pushed));
       listed = listed;
-      once = subst AreDistinct (sym olds) (AreDistinct-push (old_numbers pairs) (length rest) merging.once (merging.unlisted (length rest) (omega (arith, pushed))));
-      moved = All-push (IsMoved right new) pairs (length rest, id) (All-weaker (IsMoved right old) (IsMoved right new) (still_moved right old new id walk adds) pairs merging.moved) (ap is_some last, adds.added ∙ sym last);
-      fresh = All-push (λ (p : ℕ × ℕ). link_at left p.1 ≡ None) pairs (length rest, id) merging.fresh (sym (merging.others id unused) ∙ adds.fresh);
+      once = once;
+      moved = All-push (IsMoved right new) pairs (length rest, id) before (ap is_some last, adds.added ∙ sym last);
+      fresh =
+          All-push (λ (p : ℕ × ℕ). link_at left p.1 ≡ None) pairs (length rest, id) merging.fresh
+          (sym (merging.others id unused) ∙ adds.fresh);
       apart = subst AreDistinct (sym news) (AreDistinct-push (new_numbers pairs) id merging.apart unused);
       others = others;
     }
   where
     pushed : length (rest ++ Some walk ∷ []) ≡ length rest + 1
     pushed = length_push rest (Some walk)
+
     last : link_at right (length rest) ≡ Some walk
     last = last_entry left right rest (Some walk) pairs old merging
+
     olds : old_numbers (pairs ++ (length rest, id) ∷ []) ≡ old_numbers pairs ++ length rest ∷ []
     olds = map-append (λ (p : ℕ × ℕ). p.0) pairs ((length rest, id) ∷ [])
+
     news : new_numbers (pairs ++ (length rest, id) ∷ []) ≡ new_numbers pairs ++ id ∷ []
     news = map-append (λ (p : ℕ × ℕ). p.1) pairs ((length rest, id) ∷ [])
+
     unused : is_in (new_numbers pairs) id ≡ false
     unused = not_new right old pairs id merging.moved adds.fresh
+
+    before : All (IsMoved right new) pairs
+    before =
+        All-weaker (IsMoved right old) (IsMoved right new) (still_moved right old new id walk adds) pairs merging.moved
+
+    once : AreDistinct (old_numbers (pairs ++ (length rest, id) ∷ []))
+    once =
+        subst AreDistinct (sym olds)
+        (AreDistinct-push (old_numbers pairs) (length rest) merging.once
+        (merging.unlisted (length rest) (omega (arith, pushed))))
+
+    older : (k : ℕ) → k ≢ length rest → is_in (old_numbers (pairs ++ (length rest, id) ∷ [])) k ≡ is_in (old_numbers pairs) k
+    older k other =
+        ap (λ l. is_in l k) olds ∙ is_in-push_other (old_numbers pairs) (length rest) k (λ same. other (sym same))
+
     at_last : (k : ℕ) → k ≡ length rest → is_in (old_numbers pairs ++ length rest ∷ []) k ≡ is_live right k
     at_last k is =
         ap (is_in (old_numbers pairs ++ length rest ∷ [])) is
         ∙ (is_in-push_same (old_numbers pairs) (length rest) ∙ sym (ap (is_live right) is ∙ ap is_some last))
+
     listed : (k : ℕ) → length rest ≤ k → is_in (old_numbers (pairs ++ (length rest, id) ∷ [])) k ≡ is_live right k
     listed k past =
         elim (cases_lt (length rest) k) [
-          | inl after ↦ ap (λ l. is_in l k) olds ∙ (is_in-push_other (old_numbers pairs) (length rest) k (omega arith) ∙ merging.listed k (omega (arith, pushed)))
+          | inl after ↦ older k (omega arith) ∙ merging.listed k (omega (arith, pushed))
           | inr before ↦ ap (λ l. is_in l k) olds ∙ at_last k (omega arith)
         ]
+
     others : (k : ℕ) → is_in (new_numbers (pairs ++ (length rest, id) ∷ [])) k ≡ false → link_at new k ≡ link_at left k
     others k none =
         let parts = not_in-push (new_numbers pairs) id k (sym (ap (λ l. is_in l k) news) ∙ none) in

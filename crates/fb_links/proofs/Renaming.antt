@@ -1,5 +1,5 @@
 -- The new numbers of the links that move, as a function of their old ones.
-use Rattle.std.proofs.Common.{ℕ, ◌≡◌, ◌≢◌, ◌⊎◌, ◌==◌, Bool, true, false, ◌||◌, cond, List, [], ◌∷◌, Option, Some, None, All, refl, sym, ap, ◌∙◌, subst, inl, inr}
+use Rattle.std.proofs.Common.{ℕ, ◌<◌, ◌≡◌, length, get_or, ◌⊎◌, ◌==◌, Bool, true, false, ◌||◌, cond, List, [], ◌∷◌, Option, Some, None, All, refl, sym, ap, ◌∙◌, subst, inl, inr}
 use Rattle.std.specs.Prelude.{is_some}
 use Rattle.std.proofs.lemmas.Bool.{eqb-true, eq-eqb, or_cases, or_left, or_right, false≢true}
 use Rattle.std.proofs.lemmas.Option.{none-some}
@@ -40,6 +40,7 @@ renamed_apart (p ∷ ps) a b apart first second same =
   where
     clash : (k : ℕ) → is_in (old_numbers ps) k ≡ true → p.1 ≡ renamed ps k → ⊥
     clash k there is = false≢true (sym apart.0 ∙ (ap (is_in (new_numbers ps)) is ∙ renamed_in ps k there))
+
     by : (s t : Bool) → (p.0 == a) ≡ s → (p.0 == b) ≡ t
         → (is_in (old_numbers ps) a ≡ true → is_in (old_numbers ps) b ≡ true → renamed ps a ≡ renamed ps b → a ≡ b)
         → (s || is_in (old_numbers ps) a) ≡ true
@@ -57,9 +58,12 @@ old_of (p ∷ ps) id once is =
   where
     head : (p.1 == id) ≡ true → (old : ℕ) × (is_in (old_numbers (p ∷ ps)) old ≡ true) × (renamed (p ∷ ps) old ≡ id)
     head here =
-        let self = eq-eqb p.0 p.0 refl in
-        (p.0, or_left (p.0 == p.0) (is_in (old_numbers ps) p.0) self,
-         ap (λ t. cond t p.1 (renamed ps p.0)) self ∙ eqb-true p.1 id here)
+        let self = eq-eqb p.0 p.0 refl in (
+          p.0,
+          or_left (p.0 == p.0) (is_in (old_numbers ps) p.0) self,
+          ap (λ t. cond t p.1 (renamed ps p.0)) self ∙ eqb-true p.1 id here,
+        )
+
     tail : (old : ℕ) × (is_in (old_numbers ps) old ≡ true) × (renamed ps old ≡ id)
         → (old : ℕ) × (is_in (old_numbers (p ∷ ps)) old ≡ true) × (renamed (p ∷ ps) old ≡ id)
     tail (old, there, names) =
@@ -72,7 +76,7 @@ none_of left [] id fresh is = absurd (false≢true is)
 none_of left (p ∷ ps) id fresh is =
     elim (or_cases (p.1 == id) (is_in (new_numbers ps) id) is) [
       | inl here ↦
-        ap (link_at left) (sym (eqb-true p.1 id here)) ∙ All-head (λ (p : ℕ × ℕ). link_at left p.1 ≡ None) p ps fresh
+          ap (link_at left) (sym (eqb-true p.1 id here)) ∙ All-head (λ (p : ℕ × ℕ). link_at left p.1 ≡ None) p ps fresh
       | inr there ↦ none_of left ps id (All-tail (λ (p : ℕ × ℕ). link_at left p.1 ≡ None) p ps fresh) there
     ]
 
@@ -111,3 +115,12 @@ either_one left right pairs new merged id live = by (is_in (new_numbers pairs) i
         let found = old_of pairs id merged.once among in
         inr (found.0, sym (merged.listed found.0) ∙ found.1, found.2)
     by false among = inl (sym (ap is_some (merged.others id among)) ∙ live)
+
+-- a listed link is live under its new number
+pub new_live : (left right : List (Option (List Step))) (pairs items : List (ℕ × ℕ)) (new : List (Option (List Step)))
+    (i : ℕ) (p : ℕ × ℕ) → AreMerged left right pairs new → items ≡ pairs → i < length items → p ≡ get_or items i p
+    → is_live new p.1 ≡ true
+new_live left right pairs items new i p merged same within is =
+    let all = subst (All (IsMoved right new)) (sym same) merged.moved in
+    let here = subst (IsMoved right new) (sym is) (all i p within) in
+    ap is_some here.1 ∙ here.0

@@ -60,10 +60,12 @@ LinksStay = (old new : List (Option (List Step))) (id : ℕ) (walk : List Step) 
 -- Where two tables are merged, each link of the left one stays as it is.
 abbrev pub LeftStays : Type 0
 LeftStays = (left right : List (Option (List Step))) (pairs : List (ℕ × ℕ)) (new : List (Option (List Step)))
-    → AreMerged left right pairs new → (id : ℕ) (walk : List Step) → link_at left id ≡ Some walk → link_at new id ≡ Some walk
+    → AreMerged left right pairs new → (id : ℕ) (walk : List Step) → link_at left id ≡ Some walk
+    → link_at new id ≡ Some walk
 
 -- a link of the right table: its walk is under its new number, which no link of the left table has
-pub record IsRenamed (left right : List (Option (List Step))) (pairs : List (ℕ × ℕ)) (new : List (Option (List Step))) (id : ℕ) : Type 0 where
+pub record IsRenamed (left right : List (Option (List Step))) (pairs : List (ℕ × ℕ)) (new : List (Option (List Step)))
+    (id : ℕ) : Type 0 where
   pub moved : link_at new (renamed pairs id) ≡ link_at right id
   pub fresh : link_at left (renamed pairs id) ≡ None
   pub listed : is_in (new_numbers pairs) (renamed pairs id) ≡ true

@@ -30,9 +30,10 @@ renamed (p ∷ ps) id = if p.0 == id then p.1 else renamed ps id
 abbrev pub IsMoved : List (Option (List Step)) → List (Option (List Step)) → ℕ × ℕ → Type 0
 IsMoved right new p = (is_live right p.0 ≡ true) × (link_at new p.1 ≡ link_at right p.0)
 
--- The left table with the right one's links. Each of these is listed once, by its old and its new number. No link of the
--- left table has a new number, and all other numbers are as in the left table.
-pub record AreMerged (left right : List (Option (List Step))) (pairs : List (ℕ × ℕ)) (new : List (Option (List Step))) : Type 0 where
+-- The left table with the right one's links. Each of these is listed once, by its old and its new number. No link of
+-- the left table has a new number, and all other numbers are as in the left table.
+pub record AreMerged (left right : List (Option (List Step))) (pairs : List (ℕ × ℕ)) (new : List (Option (List Step)))
+    : Type 0 where
   pub listed : (id : ℕ) → is_in (old_numbers pairs) id ≡ is_live right id
   pub once : AreDistinct (old_numbers pairs)
   pub moved : All (IsMoved right new) pairs

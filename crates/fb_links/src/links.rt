@@ -88,9 +88,13 @@ impl Links {
         self.free.push_reserved(link as usize);
     }
 
-    /// The left table with the right one's links, each under a number that no link of the left one has, and the old and the
-    /// new number of each of them. Walks are moved, not copied: its time is that of the right table.
-    pub fn merged(alloc: Global, left: Links, right: Links) -> Result<(Links, Vec<(LinkId, LinkId)>), NoMemory>
+    /// The left table with the right one's links, each under a number that no link of the left one has, and the pairs of
+    /// their old and new numbers. Walks are moved, not copied, in time proportional to the right table's length.
+    pub fn merged(
+        alloc: Global,
+        left: Links,
+        right: Links,
+    ) -> Result<(Links, Vec<(LinkId, LinkId)>), NoMemory>
         ensures { IfOk result (λ r. AreMerged left right r.1.items r.0) }
     {
         let mut links = left;
