@@ -1,5 +1,5 @@
 -- The right table's links move into the left one, from the last number down.
-use Rattle.std.proofs.Common.{ℕ, ◌+◌, ◌<◌, ◌≤◌, ◌≡◌, ◌≢◌, ◌==◌, false, List, [], ◌∷◌, ◌++◌, length, Option, Some, None, All, arith, refl, sym, ap, ◌∙◌, subst, inl, inr}
+use Rattle.std.proofs.Common.{ℕ, ◌+◌, ◌<◌, ◌≤◌, ◌≡◌, ◌≢◌, ◌==◌, true, false, List, [], ◌∷◌, ◌++◌, length, Option, Some, None, All, arith, refl, sym, ap, ◌∙◌, subst, inl, inr}
 use Rattle.std.specs.Prelude.{is_some}
 use Rattle.std.proofs.lemmas.Bool.{cases_lt, false≢true, or_from}
 use Rattle.std.proofs.lemmas.List.{length_push, get_or_push, get_or_past, map-append}
@@ -102,7 +102,9 @@ not_new right new (p ∷ ps) id moved none =
 still_moved : (right old new : Table) (id : ℕ) (walk : List Step) → Adds old new id walk → (p : ℕ × ℕ)
     → IsMoved right old p → IsMoved right new p
 still_moved right old new id walk adds p moved =
-    (moved.0, adds.others p.1 (λ same. false≢true (sym (ap is_some (ap (link_at old) same ∙ adds.fresh)) ∙ (ap is_some moved.1 ∙ moved.0))) ∙ moved.1)
+    let live : is_live old p.1 ≡ true = ap is_some moved.1 ∙ moved.0 in
+    let other = λ (same : p.1 ≡ id). false≢true (sym (ap is_some (ap (link_at old) same ∙ adds.fresh)) ∙ live) in
+    (moved.0, adds.others p.1 other ∙ moved.1)
 
 -- a link moves to a number that no link has
 pub merging_moves : (left right rest : Table) (pairs : List (ℕ × ℕ)) (old new : Table) (id : ℕ) (walk : List Step)

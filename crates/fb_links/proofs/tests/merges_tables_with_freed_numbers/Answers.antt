@@ -12,4 +12,5 @@ walk-requires g c =
 -- a listed link is live under its new number
 pub walk-requires-in-Some : goal.walk-requires-in-Some
 walk-requires-in-Some g c =
-    new_live _ _ _ _ _ 0 c.in-Some.field-0.now c.in_ok-links.ensures c.deref.ensures.value c.in-Some.ensures.item.3.0 c.in-Some.ensures.item.1
+    new_live _ _ _ _ _ 0 c.in-Some.field-0.now c.in_ok-links.ensures c.deref.ensures.value
+    c.in-Some.ensures.item.3.0 c.in-Some.ensures.item.1

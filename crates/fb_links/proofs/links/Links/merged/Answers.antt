@@ -5,7 +5,8 @@ use Rattle.fb_links.proofs.links.Links.merged.Goals as goal
 pub loop-entry-init : goal.loop-entry-init
 loop-entry-init c =
     let right = c.args.right in
-    rw (c.right.view_is, c.new-pairs.ensures.items) (merging_begins c.args.left right (rw c.right.view_is at c.right.invariant.walks))
+    rw (c.right.view_is, c.new-pairs.ensures.items)
+    (merging_begins c.args.left right (rw c.right.view_is at c.right.invariant.walks))
 
 pub loop-entry-preserved : goal.loop-entry-preserved
 loop-entry-preserved c =
@@ -22,5 +23,6 @@ returns c =
 pub loop-entry-preserved-in-Some-entry : goal.loop-entry-preserved-in-Some-entry
 loop-entry-preserved-in-Some-entry c =
     let at : c.len.result ≡ length c.pop.new.self.items = omega (arith, c.pop.new.self.ok.0) in
-    merging_after_some _ _ _ _ _ _ _ _ _ _ _ _ c.loop-entry.invariant c.in-Some.ensures.items c.in-Some-entry.is at c.in_ok-new.ensures.ok
+    merging_after_some _ _ _ _ _ _ _ _ _ _ _ _ c.loop-entry.invariant c.in-Some.ensures.items
+    c.in-Some-entry.is at c.in_ok-new.ensures.ok
     (c.push_reserved.ensures.items ∙ ap (λ l. l ++ (c.len.result, c.in_ok-new.new) ∷ []) c.reserve.ensures.items)
