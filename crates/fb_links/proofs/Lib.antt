@@ -1,4 +1,7 @@
 pub mod Ends
 pub mod Joins
+pub mod Lists
+pub mod MovedLinks
 pub mod Numbers
+pub mod Renaming
 pub mod Turns

@@ -48,7 +48,7 @@ added_in_place links id walk within none =
       others = λ k other. get_or-set_other links id k (Some walk) None other;
     }
 
-get_or-push_other : {X : Type 0} → (xs : List X) (y d : X) (k : ℕ) → k ≢ length xs → get_or (xs ++ y ∷ []) k d ≡ get_or xs k d
+pub get_or-push_other : {X : Type 0} → (xs : List X) (y d : X) (k : ℕ) → k ≢ length xs → get_or (xs ++ y ∷ []) k d ≡ get_or xs k d
 get_or-push_other [] y d zero other = absurd (other refl)
 get_or-push_other [] y d (suc k) other = refl
 get_or-push_other (x ∷ xs) y d zero other = refl

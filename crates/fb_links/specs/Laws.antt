@@ -1,8 +1,9 @@
 -- Laws of the definitions.
-use Rattle.std.specs.Prelude.{ℕ, ◌≡◌, ◌+◌, ◌<◌, true, List, ◌++◌, length, Option, Some}
+use Rattle.std.specs.Prelude.{ℕ, ◌≡◌, ◌⊎◌, ◌+◌, ◌<◌, true, List, ◌++◌, length, Option, Some, None}
 use Rattle.fb_links.specs.declared.walk.Step.{Step}
 use Rattle.fb_links.specs.Walks.{walk_weight, start_of, end_of, Runs, IsChained, turned, share_end, meeting, other_end, joined}
-use Rattle.fb_links.specs.Table.{IsLink, Adds, link_at}
+use Rattle.fb_links.specs.Table.{IsLink, Adds, is_live, link_at}
+use Rattle.fb_links.specs.Merged.{AreMerged, is_in, new_numbers, renamed}
 
 -- A walk that leads from one vertex to another has these ends, if it has a step.
 abbrev pub EndsOfWalk : Type 0
@@ -55,3 +56,32 @@ JoinedWalk = (a b : List Step) → IsLink a → IsLink b → share_end a b ≡ t
 abbrev pub LinksStay : Type 0
 LinksStay = (old new : List (Option (List Step))) (id : ℕ) (walk : List Step) → Adds old new id walk
     → (k : ℕ) (other : List Step) → link_at old k ≡ Some other → link_at new k ≡ Some other
+
+-- Where two tables are merged, each link of the left one stays as it is.
+abbrev pub LeftStays : Type 0
+LeftStays = (left right : List (Option (List Step))) (pairs : List (ℕ × ℕ)) (new : List (Option (List Step)))
+    → AreMerged left right pairs new → (id : ℕ) (walk : List Step) → link_at left id ≡ Some walk
+    → link_at new id ≡ Some walk
+
+-- a link of the right table: its walk is under its new number, which no link of the left table has
+pub record IsRenamed (left right : List (Option (List Step))) (pairs : List (ℕ × ℕ)) (new : List (Option (List Step)))
+    (id : ℕ) : Type 0 where
+  pub moved : link_at new (renamed pairs id) ≡ link_at right id
+  pub fresh : link_at left (renamed pairs id) ≡ None
+  pub listed : is_in (new_numbers pairs) (renamed pairs id) ≡ true
+
+abbrev pub RightIsRenamed : Type 0
+RightIsRenamed = (left right : List (Option (List Step))) (pairs : List (ℕ × ℕ)) (new : List (Option (List Step)))
+    → AreMerged left right pairs new → (id : ℕ) → is_live right id ≡ true → IsRenamed left right pairs new id
+
+-- No two links of the right table get the same number.
+abbrev pub RightStaysApart : Type 0
+RightStaysApart = (left right : List (Option (List Step))) (pairs : List (ℕ × ℕ)) (new : List (Option (List Step)))
+    → AreMerged left right pairs new → (a b : ℕ) → is_live right a ≡ true → is_live right b ≡ true
+    → renamed pairs a ≡ renamed pairs b → a ≡ b
+
+-- Each link of the new table is one of the left table, or one of the right table under its new number.
+abbrev pub LinksOfEither : Type 0
+LinksOfEither = (left right : List (Option (List Step))) (pairs : List (ℕ × ℕ)) (new : List (Option (List Step)))
+    → AreMerged left right pairs new → (id : ℕ) → is_live new id ≡ true
+    → (is_live left id ≡ true) ⊎ ((old : ℕ) × (is_live right old ≡ true) × (renamed pairs old ≡ id))

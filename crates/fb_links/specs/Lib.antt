@@ -1,4 +1,6 @@
+pub mod InternalMerging
 pub mod Kept
 pub mod Laws
+pub mod Merged
 pub mod Table
 pub mod Walks

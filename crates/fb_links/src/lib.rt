@@ -12,7 +12,7 @@ mod tests;
 pub mod walk;
 
 pub use cycle::{CycleStep, LinkId, NodeId};
-pub use laws::{adding, joining};
+pub use laws::{adding, joining, merging};
 pub use links::Links;
 pub use walk::{Step, Walk};
 

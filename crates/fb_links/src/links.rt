@@ -2,6 +2,7 @@ ghost use Rattle.std.specs.Prelude.{◌≡◌, ◌<◌, ◌^◌, ℕ, true, List
 ghost use Rattle.fb_links.specs.declared.walk.Step.{Step};
 ghost use Rattle.fb_links.specs.Walks.{walk_weight, start_of, end_of, share_end, joined};
 ghost use Rattle.fb_links.specs.Table.{IsLink, Adds, Removes, is_live, link_at, walk_at};
+ghost use Rattle.fb_links.specs.Merged.{AreMerged};
 
 use crate::link::{Link, link_of};
 use crate::steps::{copied, joined};
@@ -85,6 +86,28 @@ impl Links {
     {
         self.links[link as usize] = None;
         self.free.push_reserved(link as usize);
+    }
+
+    /// The left table with the right one's links, each under a number that no link of the left one has, and the pairs of
+    /// their old and new numbers. Walks are moved, not copied, in time proportional to the right table's length.
+    pub fn merged(
+        alloc: Global,
+        left: Links,
+        right: Links,
+    ) -> Result<(Links, Vec<(LinkId, LinkId)>), NoMemory>
+        ensures { IfOk result (λ r. AreMerged left right r.1.items r.0) }
+    {
+        let mut links = left;
+        let mut table = right.links;
+        let mut pairs = Vec::new(alloc);
+        while let Some(entry) = table.pop() {
+            if let Some(link) = entry {
+                pairs.reserve(1)?;
+                let new = links.put(link)?;
+                pairs.push_reserved((table.len() as LinkId, new));
+            }
+        }
+        Ok((links, pairs))
     }
 
     /// The first and the last vertex of the link's walk.

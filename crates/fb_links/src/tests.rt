@@ -1,4 +1,4 @@
-ghost use Rattle.std.specs.Prelude.{◌≡◌, ◌<◌, ◌^◌, true, Some, IfOk};
+ghost use Rattle.std.specs.Prelude.{◌≡◌, ◌≢◌, ◌<◌, ◌^◌, true, Some, IfOk};
 ghost use Rattle.fb_links.specs.Walks.{IsChained, walk_weight, joined, share_end};
 ghost use Rattle.fb_links.specs.Table.{IsLink, link_at};
 
@@ -61,6 +61,7 @@ fn both(alloc: Global, first: &[Step], second: &[Step]) -> Result<(Links, LinkId
     requires second { IsLink second.now }
     ensures first { IfOk result (λ r. link_at r.0 r.1 ≡ Some first.now) }
     ensures second { IfOk result (λ r. link_at r.0 r.2 ≡ Some second.now) }
+    ensures apart { IfOk result (λ r. r.1 ≢ r.2) }
 {
     let mut links = Links::new(alloc)?;
     let first = walk_of(alloc, first)?;
@@ -117,5 +118,21 @@ fn uses_a_forgotten_number_again(rt: HostRuntime) -> Result<(), Fail> {
     let id = links.make(alloc, walk)?;
     assert_eq!(rt; id, a);
     assert_eq!(rt; links.ends(id), (6, 8));
+    Ok(())
+}
+
+#[test]
+fn merges_tables_with_freed_numbers(rt: HostRuntime) -> Result<(), Fail> {
+    let alloc = rt.alloc();
+    let (mut left, a, b) = both(alloc, &[A_TO_B], &[B_TO_C])?;
+    let (mut right, c, d) = both(alloc, &[B_TO_A], &[C_TO_D])?;
+    left.forget(a);
+    right.forget(c);
+    let (links, pairs) = Links::merged(alloc, left, right)?;
+    assert_eq!(rt; pairs.as_slice(), [(d, a)].as_slice());
+    assert_eq!(rt; links.walk(alloc, b)?.steps(), [B_TO_C].as_slice());
+    if let Some((_, id)) = pairs.first() {
+        assert_eq!(rt; links.walk(alloc, *id)?.steps(), [C_TO_D].as_slice());
+    }
     Ok(())
 }
