@@ -27,6 +27,7 @@ use Rattle.fb_graph.proofs.RaisedNests.{nest_taken_up}
 use Rattle.fb_graph.proofs.SourceWalks.{walks_taken_up}
 use Rattle.fb_graph.proofs.TallerNodes.{leaves_taller, outer_taller, taller_alike}
 use Rattle.fb_links.specs.declared.walk.Step.{Step}
+use Rattle.fb_regions.specs.declared.marks.Hop.{Hop}
 use Rattle.fb_regions.specs.declared.marks.Mark.{Mark}
 use Rattle.fb_regions.specs.declared.region.Region.{Region}
 use Rattle.fb_regions.specs.InternalNodes.{added_to, before_in, chain, mark_of, node_of, nodes_of, radii_from, stack, under_in}
@@ -51,7 +52,7 @@ taken m s r = record {
   leaf = m.leaf;
   distance = m.distance + s.weight;
   rank = length r.first_set.items + r.added;
-  by = Some s;
+  by = Some (record { from = s.from; edge = s.edge });
   before = r.last;
   under = r.top_value;
 }
@@ -234,7 +235,7 @@ module _ (p : Problem) (regions : List Region) (marks : List (Option Mark)) (kep
       push : (u : ℕ) → is_in set_of u ≡ true → is_in (set_of ++ w ∷ []) u ≡ true
       push u h = is_in_push set_of w u ∙ or_left (is_in set_of u) (w == u) h
 
-      steps : (o : Option Step) → BeginsIn set_of o → BeginsIn (set_of ++ w ∷ []) o
+      steps : (o : Option Hop) → BeginsIn set_of o → BeginsIn (set_of ++ w ∷ []) o
       steps None h = tt
       steps (Some t) h = push t.from h
 
@@ -328,9 +329,9 @@ module _ (p : Problem) (regions : List Region) (marks : List (Option Mark)) (kep
         defect = ap (λ l. is_in l m.source) (leaves_taller name w nodes) ∙ is.defect;
         balance = omega (arith, is.balance, full, alike.heights w, kept.nest.dual.uncovered w may.uncovered, radii_same m.leaf);
         came = (
-          step,
-          refl,
-          subst (IsAfter own s) (sym from) (refl, refl, omega (arith, mark_in.rank, length-top marks old), refl),
+          record { within = step.within; leads = step.leads; weighs = refl },
+          subst (IsAfter own (edge_at p.edges s.edge).weight) (sym from)
+              (refl, refl, omega (arith, mark_in.rank, length-top marks old), ap (λ n. m.distance + n) step.weighs),
         );
       }
 

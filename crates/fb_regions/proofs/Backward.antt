@@ -1,5 +1,5 @@
 -- The walk back from a vertex to its source, step by step.
-use Rattle.std.proofs.Common.{◌≡◌, ℕ, ◌+◌, ◌<◌, inl, inr, true, List, [], ◌∷◌, ◌++◌, get_or, reverse, Option, Some, None, refl, sym, ◌∙◌, ap, subst, arith}
+use Rattle.std.proofs.Common.{◌≡◌, ℕ, ◌+◌, ◌<◌, inl, inr, true, List, [], ◌∷◌, ◌++◌, get_or, length, reverse, Option, Some, None, refl, sym, ◌∙◌, ap, subst, arith}
 use Rattle.std.specs.List.{All}
 use Rattle.std.specs.Option.{IsSome, option_and_then}
 use Rattle.std.proofs.lemmas.Bool.{false≢true, or_left, or_right}
@@ -10,6 +10,7 @@ use Rattle.fb_graph.specs.Problem.{Problem, edge_at}
 use Rattle.fb_graph.specs.Components.{Leads}
 use Rattle.fb_graph.specs.declared.parts.Edge.{Edge}
 use Rattle.fb_links.specs.declared.walk.Step.{Step}
+use Rattle.fb_regions.specs.declared.marks.Hop.{Hop}
 use Rattle.fb_regions.specs.declared.marks.Mark.{Mark}
 use Rattle.fb_regions.specs.declared.region.Region.{Region}
 use Rattle.fb_regions.specs.Walks.{IsWalk}
@@ -18,7 +19,7 @@ use Rattle.fb_graph.specs.Dual.{cover_of, leaves}
 use Rattle.fb_graph.specs.Laws.{has_real_end}
 use Rattle.fb_regions.specs.Moves.{IsSourceWalk}
 use Rattle.fb_regions.specs.InternalNodes.{mark_of, nodes_of, radii_from}
-use Rattle.fb_regions.specs.InternalKept.{CameBy, IsAfter, IsKept}
+use Rattle.fb_regions.specs.InternalKept.{CameBy, IsAfter, IsKept, step_by}
 use Rattle.fb_regions.proofs.Moved.{mark_over, some_cover}
 
 abbrev no_mark : Mark
@@ -28,7 +29,7 @@ abbrev pub the_mark : Option Mark → Mark
 the_mark None = no_mark
 the_mark (Some m) = m
 
-pub read_step : (marks seen : List (Option Mark)) (v : ℕ) (o : Option Step) → seen ≡ marks → o ≡ option_and_then (λ m. m.by) (get_or seen v None)
+pub read_step : (marks seen : List (Option Mark)) (v : ℕ) (o : Option Hop) → seen ≡ marks → o ≡ option_and_then (λ m. m.by) (get_or seen v None)
     → option_and_then (λ m. m.by) (mark_of marks v) ≡ o
 read_step marks seen v o e h = ap (λ l. option_and_then (λ (m : Mark). m.by) (get_or l v None)) (sym e) ∙ sym h
 
@@ -63,7 +64,7 @@ module _ (p : Problem) (regions : List Region) (marks : List (Option Mark)) (kep
         real = All-nil (λ (s : Step). has_real_end p (edge_at p.edges s.edge) ≡ true);
       }
 
-  came : (at : ℕ) (s : Step) → IsSome (mark_of marks at) → option_and_then (λ m. m.by) (mark_of marks at) ≡ Some s
+  came : (at : ℕ) (s : Hop) → IsSome (mark_of marks at) → option_and_then (λ m. m.by) (mark_of marks at) ≡ Some s
       → CameBy p (leaves (nodes_of marks regions)) marks at (the_mark (mark_of marks at)) (Some s)
   came at s some h = by (mark_of marks at) refl some h
     where
@@ -72,34 +73,38 @@ module _ (p : Problem) (regions : List Region) (marks : List (Option Mark)) (kep
       by None e k q = absurd (false≢true k)
       by (Some m) e k q = subst (CameBy p (leaves (nodes_of marks regions)) marks at m) q (kept.marked at m e).came
 
-  before : (s : Step) (m : Mark) → IsAfter m s (mark_of marks s.from)
+  before : (s : Hop) (w : ℕ) (m : Mark) → IsAfter m w (mark_of marks s.from)
       → IsSome (mark_of marks s.from) × ((the_mark (mark_of marks s.from)).source ≡ m.source) × ((the_mark (mark_of marks s.from)).leaf ≡ m.leaf)
-      × ((the_mark (mark_of marks s.from)).rank < m.rank) × (m.distance ≡ (the_mark (mark_of marks s.from)).distance + s.weight)
-  before s m h = by (mark_of marks s.from) h
+      × ((the_mark (mark_of marks s.from)).rank < m.rank) × (m.distance ≡ (the_mark (mark_of marks s.from)).distance + w)
+  before s w m h = by (mark_of marks s.from) h
     where
-      by : (o : Option Mark) → IsAfter m s o
-          → IsSome o × ((the_mark o).source ≡ m.source) × ((the_mark o).leaf ≡ m.leaf) × ((the_mark o).rank < m.rank) × (m.distance ≡ (the_mark o).distance + s.weight)
+      by : (o : Option Mark) → IsAfter m w o
+          → IsSome o × ((the_mark o).source ≡ m.source) × ((the_mark o).leaf ≡ m.leaf) × ((the_mark o).rank < m.rank) × (m.distance ≡ (the_mark o).distance + w)
       by None k = absurd k
       by (Some b) k = (refl, k.0, k.1, k.2, k.3)
 
-  pub back_smaller : (at : ℕ) (s : Step) → IsSome (mark_of marks at) → option_and_then (λ m. m.by) (mark_of marks at) ≡ Some s
+  pub back_smaller : (at : ℕ) (s : Hop) → IsSome (mark_of marks at) → option_and_then (λ m. m.by) (mark_of marks at) ≡ Some s
       → (the_mark (mark_of marks s.from)).rank < (the_mark (mark_of marks at)).rank
-  back_smaller at s some h = (before s (the_mark (mark_of marks at)) (came at s some h).2).3
+  back_smaller at s some h = (before s (edge_at p.edges s.edge).weight (the_mark (mark_of marks at)) (came at s some h).1).3
 
-  pub back_more : (at : ℕ) (s : Step) (steps : List Step) → IsBack p marks v at steps → option_and_then (λ m. m.by) (mark_of marks at) ≡ Some s
-      → IsBack p marks v s.from (steps ++ s ∷ [])
+  pub back_within : (at : ℕ) (s : Hop) → IsSome (mark_of marks at) → option_and_then (λ m. m.by) (mark_of marks at) ≡ Some s → s.edge < length p.edges
+  back_within at s some h = (came at s some h).0.within
+
+  pub back_more : (at : ℕ) (s : Hop) (steps : List Step) → IsBack p marks v at steps → option_and_then (λ m. m.by) (mark_of marks at) ≡ Some s
+      → IsBack p marks v s.from (steps ++ step_by p at s ∷ [])
   back_more at s steps back h =
       let step : CameBy p (leaves (nodes_of marks regions)) marks at (the_mark (mark_of marks at)) (Some s) = came at s back.marked h in
-      let old = before s (the_mark (mark_of marks at)) step.2 in
-      let list : reverse (steps ++ s ∷ []) ≡ s ∷ reverse steps = reverse-append steps (s ∷ []) in
-      let weight : walk_weight (reverse (steps ++ s ∷ [])) ≡ s.weight + walk_weight (reverse steps) =
-      ap walk_weight list ∙ sum_by-cons (λ (x : Step). x.weight) s (reverse steps) in
+      let old = before s (edge_at p.edges s.edge).weight (the_mark (mark_of marks at)) step.1 in
+      let t : Step = step_by p at s in
+      let list : reverse (steps ++ t ∷ []) ≡ t ∷ reverse steps = reverse-append steps (t ∷ []) in
+      let weight : walk_weight (reverse (steps ++ t ∷ [])) ≡ t.weight + walk_weight (reverse steps) =
+      ap walk_weight list ∙ sum_by-cons (λ (x : Step). x.weight) t (reverse steps) in
       let here : mark_of marks at ≡ Some (the_mark (mark_of marks at)) = some_is (mark_of marks at) back.marked in
-      let real : p.is_real s.to ≡ true =
-      ap p.is_real step.1 ∙ kept.nest.dual.real at (kept.marked at (the_mark (mark_of marks at)) here).covered in
+      let real : p.is_real at ≡ true =
+      kept.nest.dual.real at (kept.marked at (the_mark (mark_of marks at)) here).covered in
       let R : Step → Type 0 = λ x. has_real_end p (edge_at p.edges x.edge) ≡ true in
-      let leads : IsWalk p (s ∷ reverse steps) s.from v = (refl, step.0, rw (step.1) back.leads) in
-      let all : All R (s ∷ reverse steps) = All-cons R s (reverse steps) (real_end p (edge_at p.edges s.edge) s.from s.to (step.0).leads real) back.real in
+      let leads : IsWalk p (t ∷ reverse steps) s.from v = (refl, step.0, back.leads) in
+      let all : All R (t ∷ reverse steps) = All-cons R t (reverse steps) (real_end p (edge_at p.edges s.edge) s.from at (step.0).leads real) back.real in
       record {
         marked = old.0;
         source = old.1 ∙ back.source;

@@ -17,7 +17,7 @@ use Rattle.fb_graph.proofs.JoinedNests as joining
 use Rattle.fb_graph.proofs.NestParts.{names_live, top_holds}
 use Rattle.fb_graph.proofs.Sets.{is_in-All}
 use Rattle.fb_graph.proofs.SourceWalks.{walks_joined}
-use Rattle.fb_links.specs.declared.walk.Step.{Step}
+use Rattle.fb_regions.specs.declared.marks.Hop.{Hop}
 use Rattle.fb_regions.specs.declared.marks.Mark.{Mark}
 use Rattle.fb_regions.specs.declared.region.Region.{Region}
 use Rattle.fb_regions.specs.InternalNodes.{adopted, children_from, mark_of, node_of, nodes_of, radii_from}
@@ -187,7 +187,7 @@ module _ (p : Problem) (regions : List Region) (marks : List (Option Mark)) (kep
         },
       )
     where
-      steps : (c : ℕ) → is_in children c ≡ true → (set_of : List ℕ) → top_at nodes c ≡ set_of → (o : Option Step) → BeginsIn set_of o
+      steps : (c : ℕ) → is_in children c ≡ true → (set_of : List ℕ) → top_at nodes c ≡ set_of → (o : Option Hop) → BeginsIn set_of o
           → BeginsIn (concat (map (top_at nodes) children)) o
       steps c child set_of top None h = tt
       steps c child set_of top (Some t) h = in_concat (top_at nodes) children c t.from child (ap (λ s. is_in s t.from) top ∙ h)

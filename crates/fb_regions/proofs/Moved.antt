@@ -4,14 +4,14 @@ use Rattle.std.specs.List.{All}
 use Rattle.std.specs.Option.{IsSome}
 use Rattle.std.proofs.lemmas.Bool.{false≢true, false_from_ne_true}
 use Rattle.fb_graph.specs.Parity.{is_in}
-use Rattle.fb_graph.specs.Problem.{Problem}
+use Rattle.fb_graph.specs.Problem.{Problem, edge_at}
 use Rattle.fb_graph.specs.Dual.{Node, all_cuts, cover_of, height_of, is_live, layers_of, leaves, top_at}
 use Rattle.fb_graph.specs.Nests.{IsNest}
 use Rattle.fb_graph.proofs.Among.{IsAmong, All_among, covered_by, cover_among}
 use Rattle.fb_graph.proofs.Forests.{under_outer}
 use Rattle.fb_graph.proofs.NestParts.{grove_of}
 use Rattle.fb_graph.proofs.Nodes.{All-pieces, All-top}
-use Rattle.fb_links.specs.declared.walk.Step.{Step}
+use Rattle.fb_regions.specs.declared.marks.Hop.{Hop}
 use Rattle.fb_regions.specs.declared.marks.Mark.{Mark}
 use Rattle.fb_regions.specs.declared.region.Region.{Region}
 use Rattle.fb_regions.specs.InternalNodes.{mark_of, nodes_of, radii_from}
@@ -52,17 +52,17 @@ top_marks marks nodes sets n a =
     (All_among (λ m. All (λ c. HasMarks marks c.vertices) (layers_of m)) nodes (All-pieces (λ c. HasMarks marks c.vertices) layers_of nodes sets) n a)
 
 pub came_still : (p : Problem) (defects others : List ℕ) (old new : List (Option Mark)) (v : ℕ) (m : Mark)
-    → ((u : ℕ) → is_in defects u ≡ true → is_in others u ≡ true) → (o : Option Step)
-    → ((s : Step) → o ≡ Some s → mark_of new s.from ≡ mark_of old s.from) → CameBy p defects old v m o → CameBy p others new v m o
+    → ((u : ℕ) → is_in defects u ≡ true → is_in others u ≡ true) → (o : Option Hop)
+    → ((s : Hop) → o ≡ Some s → mark_of new s.from ≡ mark_of old s.from) → CameBy p defects old v m o → CameBy p others new v m o
 came_still p defects others old new v m more None stays h = (more v h.0, h.1, h.2)
-came_still p defects others old new v m more (Some s) stays h = (h.0, h.1, subst (IsAfter m s) (sym (stays s refl)) h.2)
+came_still p defects others old new v m more (Some s) stays h = (h.0, subst (IsAfter m (edge_at p.edges s.edge).weight) (sym (stays s refl)) h.1)
 
 pub marked_moved : (p : Problem) (nodes others : List Node) (regions behind : List Region) (old new : List (Option Mark)) (v : ℕ) (m : Mark)
     → IsMarked p nodes regions old v m → IsSome (cover_of others v) → is_in (top_at others m.leaf) m.source ≡ true
     → is_lone behind m.leaf ≡ true
     → height_of (all_cuts others) v ≡ height_of (all_cuts nodes) v → radii_from behind m.leaf ≡ radii_from regions m.leaf
     → ((u : ℕ) → is_in (leaves nodes) u ≡ true → is_in (leaves others) u ≡ true)
-    → ((s : Step) → m.by ≡ Some s → mark_of new s.from ≡ mark_of old s.from) → IsMarked p others behind new v m
+    → ((s : Hop) → m.by ≡ Some s → mark_of new s.from ≡ mark_of old s.from) → IsMarked p others behind new v m
 marked_moved p nodes others regions behind old new v m is covered leaf lone height radii more stays = record {
   covered = covered;
   leaf = leaf;
@@ -73,11 +73,11 @@ marked_moved p nodes others regions behind old new v m is covered leaf lone heig
 }
 
 -- a vertex from which another came has a mark
-pub from_marked : (p : Problem) (defects : List ℕ) (marks : List (Option Mark)) (v : ℕ) (m : Mark) (s : Step) → m.by ≡ Some s
+pub from_marked : (p : Problem) (defects : List ℕ) (marks : List (Option Mark)) (v : ℕ) (m : Mark) (s : Hop) → m.by ≡ Some s
     → CameBy p defects marks v m m.by → (b : Mark) × (mark_of marks s.from ≡ Some b)
-from_marked p defects marks v m s e came = by (mark_of marks s.from) refl (subst (CameBy p defects marks v m) e came).2
+from_marked p defects marks v m s e came = by (mark_of marks s.from) refl (subst (CameBy p defects marks v m) e came).1
   where
-    by : (o : Option Mark) → mark_of marks s.from ≡ o → IsAfter m s o → (b : Mark) × (mark_of marks s.from ≡ Some b)
+    by : (o : Option Mark) → mark_of marks s.from ≡ o → IsAfter m (edge_at p.edges s.edge).weight o → (b : Mark) × (mark_of marks s.from ≡ Some b)
     by None f k = absurd k
     by (Some b) f k = (b, f)
 

@@ -2,21 +2,22 @@
 use Rattle.std.specs.Prelude.{ℕ, ◌≡◌, ◌+◌, ◌<◌, ◌==◌, ◌&&◌, Bool, true, List, [], ◌∷◌, length, All, Option, Some, None, IsSome}
 use Rattle.std.specs.List.{list_any}
 use Rattle.fb_graph.specs.Parity.{is_in}
-use Rattle.fb_graph.specs.Problem.{Problem}
+use Rattle.fb_graph.specs.Problem.{Problem, edge_at}
 use Rattle.fb_graph.specs.Certificate.{total_value}
 use Rattle.fb_graph.specs.Dual.{Node, all_cuts, cover_of, height_of, is_empty, is_outer, layers_of, leaves, top_at}
 use Rattle.fb_graph.specs.Nests.{IsNest}
 use Rattle.fb_graph.specs.SourceWalks.{HaveWalks}
 use Rattle.fb_links.specs.declared.walk.Step.{Step}
+use Rattle.fb_regions.specs.declared.marks.Hop.{Hop}
 use Rattle.fb_regions.specs.declared.marks.Mark.{Mark}
 use Rattle.fb_regions.specs.declared.region.Region.{Region}
 use Rattle.fb_regions.specs.InternalNodes.{children_from, mark_of, nodes_of, node_of, radii_from}
 use Rattle.fb_regions.specs.Walks.{IsStep}
 
 -- the step begins in the set
-abbrev pub BeginsIn : List ℕ → Option Step → Type 0
+abbrev pub BeginsIn : List ℕ → Option Hop → Type 0
 BeginsIn set None = Unit {0}
-BeginsIn set (Some s) = is_in set s.from ≡ true
+BeginsIn set (Some h) = is_in set h.from ≡ true
 
 -- the mark of a vertex of a set: its source is in the set, and so is the vertex from which it came
 pub record IsMarkIn (set : List ℕ) (m : Mark) : Type 0 where
@@ -27,16 +28,20 @@ pub record IsMarkIn (set : List ℕ) (m : Mark) : Type 0 where
 abbrev pub HasMarks : List (Option Mark) → List ℕ → Type 0
 HasMarks marks set = (v : ℕ) → is_in set v ≡ true → (m : Mark) × (mark_of marks v ≡ Some m) × IsMarkIn set m
 
--- the step comes from a vertex with the same source that was taken up before, whose distance is less by its weight
-abbrev pub IsAfter : Mark → Step → Option Mark → Type 0
-IsAfter m s None = ⊥
-IsAfter m s (Some b) =
-    (b.source ≡ m.source) × (b.leaf ≡ m.leaf) × (b.rank < m.rank) × (m.distance ≡ b.distance + s.weight)
+-- the step comes from a vertex with the same source that was taken up before, whose distance is less by the weight
+abbrev pub IsAfter : Mark → ℕ → Option Mark → Type 0
+IsAfter m weight None = ⊥
+IsAfter m weight (Some b) =
+    (b.source ≡ m.source) × (b.leaf ≡ m.leaf) × (b.rank < m.rank) × (m.distance ≡ b.distance + weight)
+
+-- the step to the vertex
+abbrev pub step_by : Problem → ℕ → Hop → Step
+step_by p v h = record { from = h.from; to = v; edge = h.edge; weight = (edge_at p.edges h.edge).weight }
 
 -- a vertex that came by no step is a defect, its own source
-abbrev pub CameBy : Problem → List ℕ → List (Option Mark) → ℕ → Mark → Option Step → Type 0
+abbrev pub CameBy : Problem → List ℕ → List (Option Mark) → ℕ → Mark → Option Hop → Type 0
 CameBy p defects marks v m None = (is_in defects v ≡ true) × (m.source ≡ v) × (m.distance ≡ 0)
-CameBy p defects marks v m (Some s) = IsStep p s × (s.to ≡ v) × IsAfter m s (mark_of marks s.from)
+CameBy p defects marks v m (Some h) = IsStep p (step_by p v h) × IsAfter m (edge_at p.edges h.edge).weight (mark_of marks h.from)
 
 -- the node of this name joins no others
 abbrev pub is_lone : List Region → ℕ → Bool

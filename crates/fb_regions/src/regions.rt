@@ -10,7 +10,7 @@ ghost use Rattle.fb_graph.specs.SourceWalks.{HaveWalks};
 ghost use Rattle.fb_graph.specs.Turns.{thinner};
 ghost use Rattle.fb_regions.specs.Moves.{IsOver, IsSourceWalk, absorbed, inner_end, node_named, outer_end};
 
-use crate::marks::{Mark, mark_at, step_to};
+use crate::marks::{Hop, Mark, hop_to, mark_at};
 use crate::places::{enter_from, place_of, set_place, widen};
 use crate::region::{self, Region, adopt, radii_of, root_of};
 use crate::{Layer, NodeId, Step, Walk};
@@ -233,7 +233,10 @@ impl<S: Scope> Regions<S> {
             leaf: mark.leaf,
             distance: mark.distance + step.weight,
             rank: region.first_set.len() + region.added,
-            by: Some(step),
+            by: Some(Hop {
+                from: step.from,
+                edge: step.edge,
+            }),
             before: region.last,
             under: region.top_value,
         };
@@ -327,9 +330,15 @@ impl<S: Scope> Regions<S> {
     {
         let mut steps = Vec::new(alloc);
         let mut at = v;
-        while let Some(step) = step_to(&self.marks, at) {
-            steps.push(step)?;
-            at = step.from;
+        while let Some(hop) = hop_to(&self.marks, at) {
+            let weight = self.scope.weight(hop.edge);
+            steps.push(Step {
+                from: hop.from,
+                to: at,
+                edge: hop.edge,
+                weight,
+            })?;
+            at = hop.from;
         }
         steps.reverse();
         Ok(Walk::from_vec(steps))
