@@ -4,6 +4,7 @@ pub mod Choosing
 pub mod Copies
 pub mod Courses
 pub mod Giving
+pub mod Handing
 pub mod Heaps
 pub mod History
 pub mod Keeping

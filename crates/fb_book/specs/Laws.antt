@@ -7,7 +7,13 @@ use Rattle.fb_book.specs.declared.entries.Kind.TheVariants.{Took, Gave, Left}
 use Rattle.fb_book.specs.declared.entries.Entry.{Entry}
 use Rattle.fb_book.specs.declared.entries.Status.{Status}
 use Rattle.fb_book.specs.declared.entries.Status.TheVariants.{Idle, Held, Given, Used, Left as Lost}
-use Rattle.fb_book.specs.Machine.{Kids, IsForest, IsComplete, IsCompleteOn, is_child, status_at, is_idle, is_held, is_left, is_over, can_take, replay, place, trace, all_idle}
+use Rattle.fb_book.specs.Machine.{Kids, IsForest, AreSlots, IsComplete, IsCompleteOn, is_child, status_at, is_idle, is_held, is_left, is_over, can_take, replay, place, trace, all_idle}
+use Rattle.fb_book.specs.Board.{kids_in}
+use Rattle.fb_plan.specs.Plans.{PlanTree, IsTree}
+
+-- The items of every plan's tree are a forest, in all slots together.
+abbrev pub ItemsAreForest : Type 0
+ItemsAreForest = (tree : PlanTree) → IsTree tree → IsForest (kids_in tree.units tree.joins)
 
 -- what was done with an item of this status
 abbrev pub Told : Status → List (Kind × ℕ) → Type 0
@@ -54,13 +60,13 @@ TakenAndGiven = (kids : Kids) (n count : ℕ) (history : List Entry) → IsFores
 abbrev pub TakenAndGivenOn : Type 0
 TakenAndGivenOn = (slots : List ℕ) (kids : Kids) (n count : ℕ) (history : List Entry) → IsForest kids
     → IsCompleteOn slots kids n count history
-    → (slot node : ℕ) → is_in slots slot ≡ true → node < n → slot * n + node < count
+    → (slot node : ℕ) → is_in slots slot ≡ true → node < n
     → (w : ℕ) × (trace n (slot * n + node) history ≡ (Took, w) ∷ (Gave, w) ∷ [])
 
--- A complete history is complete on each list of slots.
+-- A complete history is complete on each list of slots that have items.
 abbrev pub CompleteOnSlots : Type 0
-CompleteOnSlots = (slots : List ℕ) (kids : Kids) (n count : ℕ) (history : List Entry) → IsComplete kids n count history
-    → IsCompleteOn slots kids n count history
+CompleteOnSlots = (slots : List ℕ) (kids : Kids) (n count : ℕ) (history : List Entry) → AreSlots slots n count
+    → IsComplete kids n count history → IsCompleteOn slots kids n count history
 
 -- An allowed history at whose end every item is given or used is complete.
 abbrev pub DoneIsComplete : Type 0

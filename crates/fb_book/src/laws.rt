@@ -1,6 +1,11 @@
 //! What holds of every history that the machine allows. Each function does nothing: its clauses are the law.
 
-ghost use Rattle.fb_book.specs.Laws.{Progress, TellsStatus, TwoEach, TakenAndGiven, TakenAndGivenOn, CompleteOnSlots, ChildrenBefore, UsedByParent, DoneIsComplete};
+ghost use Rattle.fb_book.specs.Laws.{ItemsAreForest, Progress, TellsStatus, TwoEach, TakenAndGiven, TakenAndGivenOn, CompleteOnSlots, ChildrenBefore, UsedByParent, DoneIsComplete};
+
+/// The items of a plan are a forest, as the laws on histories ask. A job's plan is a tree: `Job::keeps` tells it.
+pub fn items_of_plan()
+    ensures { ItemsAreForest }
+{}
 
 /// Where nothing is held or left, some item can be taken, or every item is given or used. Of the used ones each is a
 /// child of one that was taken.
