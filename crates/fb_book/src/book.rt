@@ -26,7 +26,8 @@ pub enum Claim<P: Piece, N: Board> {
 }
 
 /// The book of a run: who took, gave or left which item, and the pieces that wait for their fusion. Contracts see the
-/// history, and for each item, by slot and then node, the piece that waits there. Only `new` takes memory.
+/// history, and for each item, by slot and then node, the piece that waits there. Only `new` takes memory: room for one
+/// piece an item, so that a large piece had better come in a box.
 #[derive(Drop)]
 pub struct Book<P: Piece, N: Board> {
     items: Items,
