@@ -132,6 +132,12 @@ module _ (f : ℕ → ℕ) (n slots more : ℕ) (r : IsRenumbering f slots more)
             slot_below n e.slot e.node slots less (subst (λ c. place n e < c) g.size
             (within st (place n e) (ap is_used (held_is e.worker (status_at st (place n e)) h))))
 
+        -- what stands after the item was taken, by its children's former and new places
+        Moved : Option (ℕ × ℕ) → Option (ℕ × ℕ) → Type 0
+        Moved children images =
+            Goes f n slots more (set (with_used children st) (place n e) (Held e.worker))
+            (set (with_used images new) (place n (renumbered f e)) (Held e.worker))
+
         turn : (kind : Kind) → e.node < n → nat_lt e.node n ≡ true → may kids st kind e.worker (place n e) ≡ true
             → (e.slot < slots) × ((nat_lt e.node n && may kids new kind e.worker (place n (renumbered f e))) ≡ true)
             × Goes f n slots more (after kids st kind e.worker (place n e))
@@ -146,9 +152,10 @@ module _ (f : ℕ → ℕ) (n slots more : ℕ) (r : IsRenumbering f slots more)
             let idle = ap is_idle (g.same e.slot e.node s_less less ∙ m.idle) in (
               s_less,
               and_from _ _ node (and_from _ _ (ap not (unlost st new g m.unstarved)) (and_from _ _ idle given)),
-              subst (λ o. Goes f n slots more (set (with_used o st) (place n e) (Held e.worker)) (set (with_used (kids (place n (renumbered f e))) new) (place n (renumbered f e)) (Held e.worker))) (sym old_kids)
-                  (subst (λ o. Goes f n slots more (set (with_used (shifted (e.slot * n) (tree e.node)) st) (place n e) (Held e.worker)) (set (with_used o new) (place n (renumbered f e)) (Held e.worker))) (sym new_kids)
-                  (put _ _ (put_used st new g e.slot s_less (tree e.node) (λ c. low e.node c less)) e.slot e.node s_less less (Held e.worker))),
+              subst (λ o. Moved o (kids (place n (renumbered f e)))) (sym old_kids)
+                  (subst (Moved (shifted (e.slot * n) (tree e.node))) (sym new_kids)
+                  (put _ _ (put_used st new g e.slot s_less (tree e.node) (λ c. low e.node c less))
+                  e.slot e.node s_less less (Held e.worker))),
             )
         turn Gave less node may_it =
             let s_less = held_below less may_it in (
