@@ -33,6 +33,11 @@ module _ {P : Type 0} (job_of : P → JobValue) (slot_of node_of : P → ℕ) (j
       some_is : (x y : ℕ × ℕ) → Some x ≡ Some y → x ≡ y
       some_is x y e = cc
 
+      both_nodes : (l r x y : ℕ) → children_of job.plan n ≡ Some (l, r) → x ≡ l → y ≡ r
+          → children_of job.plan n ≡ Some (x, y)
+      both_nodes l r x y e left_is right_is =
+          e ∙ (ap (λ z. Some (z, r)) (sym left_is) ∙ ap (λ z. Some (x, z)) (sym right_is))
+
       step : (o : Option (ℕ × ℕ)) → children_of job.plan n ≡ o
           → shifted base (children_of job.plan n) ≡ Some (left, right)
           → AreOfChildren job_of slot_of node_of job s n a b
@@ -55,7 +60,7 @@ module _ {P : Type 0} (job_of : P → JobValue) (slot_of node_of : P → ℕ) (j
             right_job = b_is.job_is;
             left_slot = a_at.0;
             right_slot = b_at.0;
-            nodes = e ∙ (ap (λ x. Some (x, r)) (sym a_at.1) ∙ ap (λ x. Some (node_of a, x)) (sym b_at.1));
+            nodes = both_nodes l r (node_of a) (node_of b) e a_at.1 b_at.1;
           }
 
   -- The pieces that are handed out are those of the fusion's children.
