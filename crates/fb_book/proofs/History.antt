@@ -160,13 +160,15 @@ taken_and_given kids n count history forest complete k less =
     ((reached kids n count forest history complete.statuses complete.stands).told k less)
 
 pub taken_and_given_on : TakenAndGivenOn
-taken_and_given_on slots kids n count history forest complete slot node at within less =
+taken_and_given_on slots kids n count history forest complete slot node at within =
     over_told (status_at complete.statuses (slot * n + node)) (trace n (slot * n + node) history)
     (complete.over slot node at within)
-    ((reached kids n count forest history complete.statuses complete.stands).told (slot * n + node) less)
+    ((reached kids n count forest history complete.statuses complete.stands).told (slot * n + node)
+    (complete.inside slot node at within))
 
 pub complete_on_slots : CompleteOnSlots
-complete_on_slots slots kids n count history complete = record {
+complete_on_slots slots kids n count history inside complete = record {
+  inside = inside;
   statuses = complete.statuses;
   stands = complete.stands;
   unleft = no_losses history complete.unleft;

@@ -7,7 +7,7 @@ use Rattle.fb_book.specs.declared.entries.Kind.{Kind}
 use Rattle.fb_book.specs.declared.entries.Kind.TheVariants.{Took, Gave, Left}
 use Rattle.fb_book.specs.declared.entries.Status.{Status}
 use Rattle.fb_book.specs.declared.entries.Status.TheVariants.{Idle, Held, Given, Used, Left as Lost}
-use Rattle.fb_book.specs.Machine.{is_child, is_given, is_held_by, is_over, status_at}
+use Rattle.fb_book.specs.Machine.{IsForest, is_child, is_given, is_held_by, is_over, status_at}
 use Rattle.fb_book.specs.Board.{Course, IsCourse, IsRun, nodes_of, item_count, place_in, item_status, Adds, Lets, LetsNot, MustWait, TakesUnit, TakesFusion, is_finished, is_starved, kids_of, statuses_of}
 use Rattle.fb_book.specs.Books.{course_of, HandsOut, IsBook, IsPieceAt, holds, place_of}
 use Rattle.fb_plan.specs.Plans.{JobValue, node_count}
@@ -126,6 +126,9 @@ module _ {P : Type 0} {job_of : P → JobValue} {slot_of node_of : P → ℕ} {j
 
   pub told_done : is_finished old ≡ is_finished (course_of job old.history)
   told_done = ap is_finished b.course
+
+  pub told_forest : IsForest (kids_of (course_of job old.history))
+  told_forest = subst (λ c. IsForest (kids_of c)) b.course i.forest
 
   pub told_run : IsRun (course_of job old.history)
   told_run = subst IsRun b.course i.run

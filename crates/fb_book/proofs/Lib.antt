@@ -4,11 +4,14 @@ pub mod Choosing
 pub mod Copies
 pub mod Courses
 pub mod Giving
+pub mod Handing
 pub mod Heaps
 pub mod History
+pub mod Images
 pub mod Keeping
 pub mod Letting
 pub mod Openings
+pub mod Renumbering
 pub mod Waiting
 pub mod Places
 pub mod Products

@@ -4,7 +4,7 @@ use Rattle.fb_book.specs.declared.entries.Entry.{Entry}
 use Rattle.fb_book.specs.Machine.{status_at, is_given, is_held_by}
 use Rattle.fb_book.specs.Board.{Course, TakesFusion, item_count, item_status, statuses_of}
 use Rattle.fb_graph.specs.Limits.{DecodingGraph}
-use Rattle.fb_plan.specs.Plans.{JobValue, PlanTree, node_count, root_of}
+use Rattle.fb_plan.specs.Plans.{JobValue, PlanTree, children_of, node_count, root_of}
 
 -- the run over a job's items with this history
 abbrev pub course_of : JobValue → List Entry → Course
@@ -16,6 +16,15 @@ pub record IsPieceAt {P : Type 0} (job_of : P → JobValue) (slot_of node_of : P
   pub job_is : job_of p ≡ job
   pub place_is : slot_of p * node_count job.plan + node_of p ≡ k
   pub node : node_of p < node_count job.plan
+
+-- The pieces are of this job and slot, and of the node's left and right child.
+pub record AreOfChildren {P : Type 0} (job_of : P → JobValue) (slot_of node_of : P → ℕ) (job : JobValue) (slot node : ℕ)
+    (a b : P) : Type 0 where
+  pub left_job : job_of a ≡ job
+  pub right_job : job_of b ≡ job
+  pub left_slot : slot_of a ≡ slot
+  pub right_slot : slot_of b ≡ slot
+  pub nodes : children_of job.plan node ≡ Some (node_of a, node_of b)
 
 -- What every book keeps: a piece waits at each item that is given and at no other, and is of that item; workers are at
 -- most the run's number.

@@ -1,13 +1,19 @@
 -- What holds of every history that the machine allows.
-use Rattle.std.specs.Prelude.{ℕ, ◌≡◌, ◌+◌, ◌*◌, ◌<◌, ◌≤◌, ◌⊎◌, true, false, Some, List, [], ◌∷◌, ◌++◌, length}
-use Rattle.std.specs.List.{list_any, list_all}
+use Rattle.std.specs.Prelude.{ℕ, ◌≡◌, ◌+◌, ◌*◌, ◌<◌, ◌≤◌, ◌⊎◌, true, false, Some, List, [], ◌∷◌, ◌++◌, length, map}
+use Rattle.std.specs.List.{All, list_any, list_all}
 use Rattle.fb_graph.specs.Parity.{is_in}
 use Rattle.fb_book.specs.declared.entries.Kind.{Kind}
 use Rattle.fb_book.specs.declared.entries.Kind.TheVariants.{Took, Gave, Left}
 use Rattle.fb_book.specs.declared.entries.Entry.{Entry}
 use Rattle.fb_book.specs.declared.entries.Status.{Status}
 use Rattle.fb_book.specs.declared.entries.Status.TheVariants.{Idle, Held, Given, Used, Left as Lost}
-use Rattle.fb_book.specs.Machine.{Kids, IsForest, IsComplete, IsCompleteOn, is_child, status_at, is_idle, is_held, is_left, is_over, can_take, replay, place, trace, all_idle}
+use Rattle.fb_book.specs.Machine.{Kids, IsForest, AreSlots, IsComplete, IsCompleteOn, is_child, status_at, is_idle, is_held, is_left, is_over, can_take, replay, place, trace, all_idle}
+use Rattle.fb_book.specs.Board.{kids_in}
+use Rattle.fb_plan.specs.Plans.{PlanTree, IsTree}
+
+-- The items of every plan's tree are a forest, in all slots together.
+abbrev pub ItemsAreForest : Type 0
+ItemsAreForest = (tree : PlanTree) → IsTree tree → IsForest (kids_in tree.units tree.joins)
 
 -- what was done with an item of this status
 abbrev pub Told : Status → List (Kind × ℕ) → Type 0
@@ -54,13 +60,13 @@ TakenAndGiven = (kids : Kids) (n count : ℕ) (history : List Entry) → IsFores
 abbrev pub TakenAndGivenOn : Type 0
 TakenAndGivenOn = (slots : List ℕ) (kids : Kids) (n count : ℕ) (history : List Entry) → IsForest kids
     → IsCompleteOn slots kids n count history
-    → (slot node : ℕ) → is_in slots slot ≡ true → node < n → slot * n + node < count
+    → (slot node : ℕ) → is_in slots slot ≡ true → node < n
     → (w : ℕ) × (trace n (slot * n + node) history ≡ (Took, w) ∷ (Gave, w) ∷ [])
 
--- A complete history is complete on each list of slots.
+-- A complete history is complete on each list of slots that have items.
 abbrev pub CompleteOnSlots : Type 0
-CompleteOnSlots = (slots : List ℕ) (kids : Kids) (n count : ℕ) (history : List Entry) → IsComplete kids n count history
-    → IsCompleteOn slots kids n count history
+CompleteOnSlots = (slots : List ℕ) (kids : Kids) (n count : ℕ) (history : List Entry) → AreSlots slots n count
+    → IsComplete kids n count history → IsCompleteOn slots kids n count history
 
 -- An allowed history at whose end every item is given or used is complete.
 abbrev pub DoneIsComplete : Type 0
@@ -81,3 +87,33 @@ UsedByParent = (kids : Kids) (n count : ℕ) (history : List Entry) (st : List S
     → replay kids n (all_idle count) history ≡ Some st
     → (c : ℕ) → c < count → status_at st c ≡ Used
     → (k : ℕ) × (k < count) × (is_child (kids k) c ≡ true) × (is_idle (status_at st k) ≡ false)
+
+-- The slots below one bound get other numbers, rising, below another bound.
+pub record IsRenumbering (f : ℕ → ℕ) (slots more : ℕ) : Type 0 where
+  pub rising : (s t : ℕ) → s < t → t < slots → f s < f t
+  pub below : (s : ℕ) → s < slots → f s < more
+
+abbrev pub renumbered : (ℕ → ℕ) → Entry → Entry
+renumbered f e = record e { slot = f e.slot }
+
+-- The history over more slots is allowed, and leads each item to the status that it had by its former number.
+pub record IsRenumbered (f : ℕ → ℕ) (kids : Kids) (n slots more : ℕ) (history : List Entry) (st : List Status) : Type 0 where
+  pub statuses : List Status
+  pub stands : replay kids n (all_idle (more * n)) (map (renumbered f) history) ≡ Some statuses
+  pub same : (s node : ℕ) → s < slots → node < n → status_at statuses (f s * n + node) ≡ status_at st (s * n + node)
+  pub slots_are : All (λ e. e.slot < slots) history
+
+-- A rising renumbering of slots keeps a history allowed, and each item's status.
+abbrev pub RenumberingAllows : Type 0
+RenumberingAllows = (f : ℕ → ℕ) (units : ℕ) (joins : List (ℕ × ℕ)) (slots more : ℕ) (history : List Entry)
+    (st : List Status) → IsRenumbering f slots more → IsForest (kids_in units joins)
+    → replay (kids_in units joins) (units + length joins) (all_idle (slots * (units + length joins))) history ≡ Some st
+    → IsRenumbered f (kids_in units joins) (units + length joins) slots more history st
+
+-- So a history that is complete on some slots is complete on their new numbers.
+abbrev pub RenumberingCompletes : Type 0
+RenumberingCompletes = (f : ℕ → ℕ) (units : ℕ) (joins : List (ℕ × ℕ)) (slots more : ℕ) (on : List ℕ)
+    (history : List Entry) → IsRenumbering f slots more → 0 < units → IsForest (kids_in units joins)
+    → IsCompleteOn on (kids_in units joins) (units + length joins) (slots * (units + length joins)) history
+    → IsCompleteOn (map f on) (kids_in units joins) (units + length joins) (more * (units + length joins))
+    (map (renumbered f) history)

@@ -132,8 +132,13 @@ pub record IsComplete (kids : Kids) (n count : ℕ) (history : List Entry) : Typ
   pub unleft : list_any is_loss history ≡ false
   pub over : list_all is_over statuses ≡ true
 
+-- The slots have items at all nodes.
+abbrev pub AreSlots : List ℕ → ℕ → ℕ → Type 0
+AreSlots slots n count = (slot node : ℕ) → is_in slots slot ≡ true → node < n → slot * n + node < count
+
 -- The same of the items of some slots alone: none of them was left, and at the end each is given or used.
 pub record IsCompleteOn (slots : List ℕ) (kids : Kids) (n count : ℕ) (history : List Entry) : Type 0 where
+  pub inside : AreSlots slots n count
   pub statuses : List Status
   pub stands : replay kids n (all_idle count) history ≡ Some statuses
   pub unleft : All (λ e. is_in slots e.slot ≡ true → is_loss e ≡ false) history

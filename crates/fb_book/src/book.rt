@@ -1,7 +1,8 @@
 ghost use Rattle.std.specs.Prelude.{◌≡◌, ◌<◌, ◌≤◌, ◌⊎◌, true, false, Some, None, List, [], slice_set, replicate, All, IfOk, IfErr, OnErr, OnOk};
 ghost use Rattle.fb_book.specs.declared.entries.Kind.TheVariants.{Gave, Left};
-ghost use Rattle.fb_book.specs.Board.{IsRun, Lets, MustWait, TakesUnit, is_finished, is_starved, item_count};
-ghost use Rattle.fb_book.specs.Books.{AreRoots, HandsOut, IsKept, IsPieceAt, course_of, holds, place_of};
+ghost use Rattle.fb_book.specs.Machine.{IsForest};
+ghost use Rattle.fb_book.specs.Board.{IsRun, Lets, MustWait, TakesUnit, is_finished, is_starved, item_count, kids_of};
+ghost use Rattle.fb_book.specs.Books.{AreOfChildren, AreRoots, HandsOut, IsKept, IsPieceAt, course_of, holds, place_of};
 
 use crate::entries::Entry;
 use crate::items::{Items, Turn};
@@ -25,7 +26,8 @@ pub enum Claim<P: Piece, N: Board> {
 }
 
 /// The book of a run: who took, gave or left which item, and the pieces that wait for their fusion. Contracts see the
-/// history, and for each item, by slot and then node, the piece that waits there. Only `new` takes memory.
+/// history, and for each item, by slot and then node, the piece that waits there. Only `new` takes memory: room for one
+/// piece an item, so that a large piece had better come in a box.
 #[derive(Drop)]
 pub struct Book<P: Piece, N: Board> {
     items: Items,
@@ -83,6 +85,8 @@ impl<P: Piece, N: Board> Book<P, N> {
         ensures fusion { (permit : _) (a b : P) → result ≡ Claim.Fusion permit a b → (permit.worker ≡ worker)
             × HandsOut (course_of N.job self.old.0) (course_of N.job self.new.0) worker permit.slot permit.node
             self.old.1 self.new.1 a b }
+        ensures pieces { (permit : _) (a b : P) → result ≡ Claim.Fusion permit a b
+            → AreOfChildren P.job_of P.slot_of P.node_of N.job permit.slot permit.node a b }
         ensures not_yet { result ≡ Claim.NotYet → (self.new ≡ self.old) × MustWait (course_of N.job self.old.0) }
         ensures over { result ≡ Claim.Over → (self.new ≡ self.old) × ((is_starved (course_of N.job self.old.0) ≡ true)
             ⊎ (is_finished (course_of N.job self.old.0) ≡ true)) }
@@ -157,10 +161,11 @@ impl<P: Piece, N: Board> Book<P, N> {
         self.items.is_done()
     }
 
-    /// Does nothing. Its clauses say what every book keeps: the machine allows its history, and a piece waits at each
-    /// item that is given.
+    /// Does nothing. Its clauses say what every book keeps: the machine allows its history, a piece waits at each item
+    /// that is given, and the items are a forest, as the laws on histories ask.
     pub fn keeps(&self)
         ensures run { IsRun (course_of N.job self.now.0) }
+        ensures forest { IsForest (kids_of (course_of N.job self.now.0)) }
         ensures kept { IsKept P.job_of P.slot_of P.node_of N.job N.workers self.now.0 self.now.1 }
     {
         self.items.keeps();

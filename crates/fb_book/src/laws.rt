@@ -1,6 +1,11 @@
 //! What holds of every history that the machine allows. Each function does nothing: its clauses are the law.
 
-ghost use Rattle.fb_book.specs.Laws.{Progress, TellsStatus, TwoEach, TakenAndGiven, TakenAndGivenOn, CompleteOnSlots, ChildrenBefore, UsedByParent, DoneIsComplete};
+ghost use Rattle.fb_book.specs.Laws.{ItemsAreForest, RenumberingAllows, RenumberingCompletes, Progress, TellsStatus, TwoEach, TakenAndGiven, TakenAndGivenOn, CompleteOnSlots, ChildrenBefore, UsedByParent, DoneIsComplete};
+
+/// The items of a plan are a forest, as the laws on histories ask. A job's plan is a tree: `Job::keeps` tells it.
+pub fn items_of_plan()
+    ensures { ItemsAreForest }
+{}
 
 /// Where nothing is held or left, some item can be taken, or every item is given or used. Of the used ones each is a
 /// child of one that was taken.
@@ -24,4 +29,11 @@ pub fn complete_history()
     ensures slots { CompleteOnSlots }
     ensures both_on { TakenAndGivenOn }
     ensures children { ChildrenBefore }
+{}
+
+/// Slots may be renumbered, rising, as where a window's shots have places of their own: the history stays allowed, each
+/// item keeps its status, and what is complete on some slots is complete on their new numbers.
+pub fn renumbered_slots()
+    ensures allowed { RenumberingAllows }
+    ensures complete { RenumberingCompletes }
 {}

@@ -6,7 +6,7 @@ use crate::moves::{count_of, root_place};
 use fb_graph::NoMemory;
 use std::alloc::Global;
 
-/// A place for each item, with no piece.
+/// A place for each item, with no piece. Room for all is reserved at once.
 pub fn empty_places<P: Drop>(
     alloc: Global,
     slots: usize,
@@ -16,11 +16,10 @@ pub fn empty_places<P: Drop>(
     requires nodes { nodes < 2 ^ 13 }
     ensures { IfOk result (λ v. v.items ≡ replicate (slots * nodes) None) }
 {
-    let mut places = Vec::new(alloc);
-    for _ in 0..count_of(slots, nodes) {
-        if places.push(None).is_err() {
-            return Err(NoMemory);
-        }
+    let count = count_of(slots, nodes);
+    let mut places = Vec::with_capacity(alloc, count)?;
+    for _ in 0..count {
+        places.push_reserved(None);
     }
     Ok(places)
 }

@@ -1,6 +1,7 @@
 ghost use Rattle.std.specs.Prelude.{◌≡◌, ℕ, ◌<◌, ◌≤◌, length};
 ghost use Rattle.fb_plan.specs.Plans.{JobValue, node_count};
 
+use std::alloc::Global;
 use std::marker::{Brand, PhantomData};
 use std::sync::ledger::Ledger;
 
@@ -19,6 +20,23 @@ pub trait Piece: Drop {
     /// The node of its item.
     fn node(&self) -> u32
         ensures { result ≡ node_of self.now };
+}
+
+/// A piece in a box, so that a place for it is no wider than an address.
+impl<P: Piece> Piece for Box<P, Global> {
+    ghost job_of = { λ b. P.job_of b.value };
+
+    ghost slot_of = { λ b. P.slot_of b.value };
+
+    ghost node_of = { λ b. P.node_of b.value };
+
+    fn slot(&self) -> u32 {
+        (**self).slot()
+    }
+
+    fn node(&self) -> u32 {
+        (**self).node()
+    }
 }
 
 /// Names a run: its job, and the number of its workers. It is chosen where the run begins.

@@ -226,9 +226,9 @@ no_lattice_fault d t small =
         (climbs-pieces (virtuals_of_round d) (λ k. k * d * (d + 1)) t (λ k kt. (omega arith, round_climbs d k))).1
 
 -- these numbers make the lattice's graph
-pub lattice_is_graph : (d t e u n : ℕ) (edges : List (ℕ × ℕ × ℤ)) (virtuals : List ℕ) → e ≡ d → u ≡ t
-    → n ≡ vertex_count d t → edges ≡ lattice_edges e u → virtuals ≡ lattice_virtuals e u → n ≤ most_vertices
+pub lattice_is_graph : (d t n : ℕ) (edges : List (ℕ × ℕ × ℤ)) (virtuals : List ℕ) → n ≡ vertex_count d t
+    → edges ≡ lattice_edges d t → virtuals ≡ lattice_virtuals d t → n ≤ most_vertices
     → graph_of n edges virtuals ≡ Ok (lattice_graph d t)
-lattice_is_graph d t e u n edges virtuals wide long count same others small =
+lattice_is_graph d t n edges virtuals count same others small =
     let low : vertex_count d t ≤ most_vertices = omega (arith, count) in
-    rw (count, same, others, wide, long, no_lattice_fault d t low) refl
+    rw (count, same, others, no_lattice_fault d t low) refl

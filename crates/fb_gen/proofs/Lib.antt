@@ -6,3 +6,4 @@ pub mod Owners
 pub mod Pairings
 pub mod Rounds
 pub mod Rulings
+pub mod Walked

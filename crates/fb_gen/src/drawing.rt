@@ -1,7 +1,7 @@
 ghost use Rattle.std.specs.Prelude.{◌≡◌, ℕ, ◌<◌, ◌==◌, ◌&&◌, not, length, vec_len, get_or, filter, IfOk, OnOk, OnErr, None, false};
 ghost use Rattle.std.specs.List.{range_with_len};
 ghost use Rattle.fb_graph.specs.Components.{IsFirstOdd};
-ghost use Rattle.fb_graph.specs.Limits.{problem_of, most_vertices};
+ghost use Rattle.fb_graph.specs.Limits.{IsShot, problem_of, most_vertices};
 ghost use Rattle.fb_graph.specs.Parity.{differ, is_in, is_odd_count};
 ghost use Rattle.fb_graph.specs.Problem.{IsEdgeSet, Flips, edge_at, touches};
 ghost use Rattle.fb_gen.specs.Drawing.{next_state, state_after, drawn_after, hits_of, defects_from};
@@ -112,8 +112,9 @@ fn real_flagged(alloc: Global, graph: &Graph, flags: &[bool]) -> Result<Vec<u32>
 
 /// A shot drawn at random: one draw for each edge, in order, which is hit where the draw is below the rate (of
 /// 1,048,576); the defects are the real vertices with an odd number of hit edges. The hit edges are a correction, so
-/// no component is odd.
+/// no component is odd, and a job may have the shot.
 pub fn draw(alloc: Global, draws: &mut Draws, rate: u32, graph: &Graph) -> Result<Shot, NoMemory>
+    ensures shot { IfOk result (IsShot graph.now) }
     ensures defects { IfOk result (λ s. s ≡ defects_from graph.now (hits_of draws.old rate (length graph.now.edges))) }
     ensures state { OnOk result (draws.new ≡ state_after draws.old (length graph.now.edges)) }
     ensures same { OnErr result (draws.new ≡ draws.old) }

@@ -130,10 +130,26 @@ impl Parts {
     }
 }
 
-/// The numbers of a lattice.
+/// How far a lattice reaches whose number of vertices is in range. Without rows there are no rounds to walk either.
+fn size_of(distance: u32, rounds: u32) -> Size
+    requires { vertex_count distance rounds ≤ most_vertices }
+    ensures size { vertex_count result.distance result.rounds ≤ most_vertices }
+    ensures few { result.rounds ≤ most_vertices }
+    ensures edges { lattice_edges result.distance result.rounds ≡ lattice_edges distance rounds }
+    ensures virtuals { lattice_virtuals result.distance result.rounds ≡ lattice_virtuals distance rounds }
+{
+    let walked = if distance == 0 { 0 } else { rounds };
+    Size {
+        distance: u64::from(distance),
+        rounds: u64::from(walked),
+    }
+}
+
+/// The numbers of a lattice, in no more steps than a graph can have vertices.
 #[tactic(auto, using(crate::proofs::Grids::steps), unfolding(crate::specs::Lattice::lattice_edges, crate::specs::Lattice::lattice_virtuals))]
 fn parts_of(alloc: Global, size: Size) -> Result<Parts, NoMemory>
-    requires { vertex_count size.distance size.rounds ≤ most_vertices }
+    requires size { vertex_count size.distance size.rounds ≤ most_vertices }
+    requires few { size.rounds ≤ most_vertices }
     ensures edges { IfOk result (λ parts. parts.edges.items ≡ lattice_edges size.distance size.rounds) }
     ensures virtuals { IfOk result (λ parts. parts.virtuals.items ≡ lattice_virtuals size.distance size.rounds) }
 {
@@ -164,10 +180,7 @@ pub fn lattice(alloc: Global, distance: u32, rounds: u32) -> Result<Graph, GenFa
     if count > MOST_VERTICES {
         return Err(GenFault::LatticeTooLarge);
     }
-    let size = Size {
-        distance: u64::from(distance),
-        rounds: u64::from(rounds),
-    };
+    let size = size_of(distance, rounds);
     let Ok(parts) = parts_of(alloc, size) else {
         return Err(GenFault::NoMemory);
     };

@@ -1,10 +1,17 @@
-use Rattle.std.proofs.Common.{◌∙◌}
+use Rattle.std.proofs.Common.{sym, subst, ◌∙◌}
+use Rattle.fb_graph.specs.Limits.{IsShot}
 use Rattle.fb_gen.proofs.Hits.{found_as_defects, drawn_is_shot, drawn_flips, drawn_edges, drawn_even}
 use Rattle.fb_gen.proofs.drawing.draw.Goals as goal
 
 pub from_rising-shot-requires : goal.from_rising-shot-requires
 from_rising-shot-requires c =
     rw (found_as_defects _ _ _ _ _ _ _ c.in_ok-defects.ensures c.deref.ensures.value c.in_ok-flags.ensures.each c.draws.view_is)
+    (drawn_is_shot _ _)
+
+pub returns-clause-shot : goal.returns-clause-shot
+returns-clause-shot c =
+    subst (IsShot _) (sym (c.from_rising-shot.ensures
+    ∙ found_as_defects _ _ _ _ _ _ _ c.in_ok-defects.ensures c.deref.ensures.value c.in_ok-flags.ensures.each c.draws.view_is))
     (drawn_is_shot _ _)
 
 pub returns-clause-defects : goal.returns-clause-defects

@@ -1,0 +1,69 @@
+-- A history that is complete on some slots is complete on their new numbers.
+use Rattle.std.proofs.Common.{ℕ, ◌≡◌, ◌+◌, ◌*◌, ◌<◌, ◌==◌, true, false, List, [], ◌∷◌, length, map, ◌⊎◌, inl, inr, refl, ap, subst, ◌∙◌, arith}
+use Rattle.std.proofs.lemmas.Bool.{eqb-true, eq-eqb, false≢true, or_cases, or_left, or_right}
+use Rattle.std.proofs.lemmas.List.Elements.{All-nil, All-cons, All-head, All-tail}
+use Rattle.std.specs.List.{All}
+use Rattle.fb_graph.specs.Parity.{is_in}
+use Rattle.fb_book.specs.declared.entries.Entry.{Entry}
+use Rattle.fb_book.specs.Machine.{IsCompleteOn, is_loss, is_over, status_at}
+use Rattle.fb_book.specs.Board.{kids_in}
+use Rattle.fb_book.specs.Laws.{IsRenumbered, RenumberingCompletes, renumbered}
+use Rattle.fb_book.proofs.Renumbering.{injective, place_less, renumbering_allows, slot_below}
+
+-- what has a number among the images
+pub in_image : (f : ℕ → ℕ) (on : List ℕ) (t : ℕ) → is_in (map f on) t ≡ true → (s : ℕ) × (is_in on s ≡ true) × (f s ≡ t)
+in_image f [] t h = absurd (false≢true h)
+in_image f (u ∷ on) t h = step (or_cases (f u == t) (is_in (map f on) t) h) (in_image f on t)
+  where
+    step : ((f u == t) ≡ true) ⊎ (is_in (map f on) t ≡ true)
+        → (is_in (map f on) t ≡ true → (s : ℕ) × (is_in on s ≡ true) × (f s ≡ t))
+        → (s : ℕ) × (is_in (u ∷ on) s ≡ true) × (f s ≡ t)
+    step (inl e) rest = (u, or_left (u == u) (is_in on u) (eq-eqb u u refl), eqb-true (f u) t e)
+    step (inr e) rest = let (s, at, is) = rest e in (s, or_right (u == s) (is_in on s) at, is)
+
+pub renumbering_completes : RenumberingCompletes
+renumbering_completes f units joins slots more on history r some forest complete =
+    close (renumbering_allows f units joins slots more history complete.statuses r forest complete.stands)
+  where
+    n : ℕ
+    n = units + length joins
+
+    below : (s : ℕ) → is_in on s ≡ true → s < slots
+    below s at = slot_below n s 0 slots (omega (arith, some)) (complete.inside s 0 at (omega (arith, some)))
+
+    no_losses : (es : List Entry) → All (λ e. e.slot < slots) es
+        → All (λ e. is_in on e.slot ≡ true → is_loss e ≡ false) es
+        → All (λ e. is_in (map f on) e.slot ≡ true → is_loss e ≡ false) (map (renumbered f) es)
+    no_losses [] within none = All-nil (λ e. is_in (map f on) e.slot ≡ true → is_loss e ≡ false)
+    no_losses (e ∷ es) within none =
+        All-cons (λ e. is_in (map f on) e.slot ≡ true → is_loss e ≡ false) (renumbered f e) (map (renumbered f) es)
+        (λ at. one (in_image f on (f e.slot) at))
+        (no_losses es (All-tail (λ e. e.slot < slots) e es within)
+        (All-tail (λ e. is_in on e.slot ≡ true → is_loss e ≡ false) e es none))
+      where
+        one : (s : ℕ) × (is_in on s ≡ true) × (f s ≡ f e.slot) → is_loss e ≡ false
+        one (s, at, is) =
+            All-head (λ e. is_in on e.slot ≡ true → is_loss e ≡ false) e es none
+            (subst (λ x. is_in on x ≡ true)
+            (injective f n slots more r s e.slot (below s at) (All-head (λ e. e.slot < slots) e es within) is) at)
+
+    close : IsRenumbered f (kids_in units joins) n slots more history complete.statuses
+        → IsCompleteOn (map f on) (kids_in units joins) n (more * n) (map (renumbered f) history)
+    close h = record {
+      inside = λ slot node at less. inside slot node less (in_image f on slot at);
+      statuses = h.statuses;
+      stands = h.stands;
+      unleft = no_losses history h.slots_are complete.unleft;
+      over = λ slot node at less. over slot node less (in_image f on slot at);
+    }
+      where
+        inside : (slot node : ℕ) → node < n → (s : ℕ) × (is_in on s ≡ true) × (f s ≡ slot) → slot * n + node < more * n
+        inside slot node less (s, at, is) =
+            subst (λ x. x * n + node < more * n) is
+            (place_less f n slots more r (f s) node more (r.below s (below s at)) less)
+
+        over : (slot node : ℕ) → node < n → (s : ℕ) × (is_in on s ≡ true) × (f s ≡ slot)
+            → is_over (status_at h.statuses (slot * n + node)) ≡ true
+        over slot node less (s, at, is) =
+            subst (λ x. is_over (status_at h.statuses (x * n + node)) ≡ true) is
+            (ap is_over (h.same s node (below s at) less) ∙ complete.over s node at less)
