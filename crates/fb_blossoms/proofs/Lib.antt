@@ -12,3 +12,5 @@ pub mod Turns
 pub mod SimplePaths
 pub mod OnePath
 pub mod Grown
+pub mod PairLists
+pub mod Takings
