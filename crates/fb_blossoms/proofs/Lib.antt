@@ -14,3 +14,5 @@ pub mod OnePath
 pub mod Grown
 pub mod PairLists
 pub mod Takings
+pub mod Renamings
+pub mod MergedForests

@@ -5,7 +5,7 @@ use Rattle.fb_blossoms.specs.InternalItems.{Item}
 use Rattle.slab.specs.Slab.{Slab, Updates, get}
 use Rattle.fb_blossoms.specs.Nodes.{is_in}
 use Rattle.fb_blossoms.specs.InternalForest.{is_kept, item_at, own_at}
-use Rattle.fb_blossoms.specs.Merged.{new_count, old_count, renamed_cycle}
+use Rattle.fb_blossoms.specs.Merged.{name_by, new_count, old_count, renamed_cycle}
 
 -- the number that the map has for this one, or the number itself
 abbrev pub named_by : (ℕ → Option ℕ) → ℕ → ℕ
@@ -55,3 +55,15 @@ pub record AreListed (slots : List (Option Item)) (old new : ℕ → Option ℕ)
   pub known : (d x : ℕ) → new d ≡ Some x → (old d ≡ Some x) ⊎ (is_in (own_at slots x) d ≡ true)
   pub listed : (d x : ℕ) → is_in (own_at slots x) d ≡ true
       → (old d ≡ Some x) ⊎ (list_any (λ p. p.1 == x) names ≡ true) → new d ≡ Some x
+
+-- the right one's items are in free slots of the left one's table, under the names of the list
+pub record AreJoined (old right new : List (Option Item)) (more : ℕ) (links names : List (ℕ × ℕ)) : Type 0 where
+  pub listed : (a : ℕ) → old_count names a ≡ (if is_kept right a then 1 else 0)
+  pub distinct : (b : ℕ) → new_count names b ≤ 1
+  pub apart : (a c : ℕ) → is_kept right a ≡ true → is_kept right c ≡ true → name_by names a ≡ name_by names c → a ≡ c
+  pub fresh : (a : ℕ) → is_kept right a ≡ true → item_at old (name_by names a) ≡ None
+  pub under : (a : ℕ) → is_kept right a ≡ true
+      → item_at new (name_by names a) ≡ option_map (λ i. renamed_item (name_by names) (name_by links) (later more i)) (item_at right a)
+  pub stays : (x : ℕ) → is_kept old x ≡ true → item_at new x ≡ item_at old x
+  pub only : (x : ℕ) → is_kept new x ≡ true → (is_kept old x ≡ true) ⊎ ((a : ℕ) × (is_kept right a ≡ true) × (name_by names a ≡ x))
+  pub named : (a : ℕ) → is_kept right a ≡ true → list_any (λ p. p.1 == name_by names a) names ≡ true

@@ -6,11 +6,11 @@ ghost use Rattle.slab.specs.Slab.{get};
 ghost use Rattle.fb_blossoms.specs.Nodes.{is_in};
 ghost use Rattle.fb_blossoms.specs.InternalForest.{made_in, own_in};
 ghost use Rattle.fb_blossoms.specs.Merged.{new_count};
-ghost use Rattle.fb_blossoms.specs.InternalMerged.{AreAllTaken, AreListed, AreOwnApart, IsStepOver, named_by, renamed_among, renamed_item};
+ghost use Rattle.fb_blossoms.specs.InternalMerged.{AreAllTaken, AreJoined, AreListed, AreOwnApart, IsStepOver, named_by, renamed_among, renamed_item};
 
 use crate::entry::Entry;
-use crate::names::Names;
-use crate::{NoMemory, NodeId};
+use crate::names::{Names, names_of};
+use crate::{LinkId, NoMemory, NodeId};
 use slab::Slab;
 use std::alloc::Global;
 use std::collections::HashMap;
@@ -126,4 +126,23 @@ pub fn list_all(
         list_one(nodes, leaves, pairs[k].1)?;
     }
     Ok(())
+}
+
+/// Puts the nodes of the right store into free slots, as if so many more had been made before each, under new numbers.
+/// The links of their cycles get the new numbers of the list.
+pub fn join_nodes(
+    alloc: Global,
+    nodes: &mut Slab<Entry>,
+    right: Slab<Entry>,
+    more: u64,
+    links: &[(LinkId, LinkId)],
+) -> Result<Pairs, NoMemory>
+    requires { (a : ℕ) → made_in (get right a) + more < 2 ^ 64 }
+    ensures { IfOk result (λ names. AreJoined nodes.old.slots right.slots nodes.new.slots more links.now names.items) }
+{
+    let pairs = take_all(alloc, nodes, right, more)?;
+    let names = names_of(alloc, &pairs)?;
+    let link_names = names_of(alloc, links)?;
+    rename_all(alloc, nodes, &pairs, &names, &link_names)?;
+    Ok(pairs)
 }
