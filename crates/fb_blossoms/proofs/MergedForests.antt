@@ -286,3 +286,7 @@ module _ (old right new : List (Option Item)) (more made : ℕ) (links names : L
           (λ a k h. listed.listed d (F a) h (inr (joined.named a k)))
           x (own_kept new x d h) h;
     }
+
+-- the same of a list that equals the pairs
+pub listed_by : (slots : List (Option Item)) (old new : ℕ → Option ℕ) (seen names : List (ℕ × ℕ)) → seen ≡ names → AreListed slots old new seen → AreListed slots old new names
+listed_by slots old new seen names same listed = let P : List (ℕ × ℕ) → Type 0 = λ l. AreListed slots old new l in subst P same listed
