@@ -1,17 +1,16 @@
 -- What a store keeps when the nodes of another join it under new names.
-use Rattle.std.proofs.Common.{◌≡◌, ◌≢◌, ◌⊎◌, inl, inr, ℕ, zero, suc, ◌+◌, ◌<◌, ◌≤◌, ◌==◌, Bool, true, false, if◌then◌else◌, List, [], ◌∷◌, ◌++◌, length, map, Option, Some, None, is_some, option_map, refl, sym, ◌∙◌, ap, subst, arith}
-use Rattle.std.specs.List.{flat_map, list_any}
-use Rattle.std.proofs.lemmas.Bool.{both_ways, cases_Bool}
+use Rattle.std.proofs.Common.{◌≡◌, inl, inr, ℕ, zero, suc, ◌+◌, ◌<◌, true, false, if◌then◌else◌, List, [], ◌∷◌, ◌++◌, length, Option, Some, None, is_some, option_map, refl, sym, ◌∙◌, ap, subst, arith}
+use Rattle.std.specs.List.{flat_map}
+use Rattle.std.proofs.lemmas.Bool.{both_ways}
 use Rattle.std.proofs.lemmas.List.{length-map}
 use Rattle.fb_links.specs.declared.cycle.CycleStep.{CycleStep}
 use Rattle.fb_blossoms.specs.InternalItems.{Item}
-use Rattle.fb_blossoms.specs.Nodes.{Node, defects_at, is_in, is_live, is_on, leaf, node_at}
-use Rattle.fb_blossoms.specs.Links.{step_at}
+use Rattle.fb_blossoms.specs.Nodes.{Node, is_in, is_live, is_on, node_at}
 use Rattle.fb_blossoms.specs.InternalForest.{IsForest, IsItem, IsKept, IsPlaceOf, cycle_in, defects_in, held_at, is_kept, item_at, made_at, made_in, nodes_of, own_at, own_in, parent_at, parent_in, place_at, place_of, steps_at}
 use Rattle.fb_blossoms.specs.Merged.{AreLeavesApart, IsMerged, name_by, renamed_cycle, renamed_node, renamed_step}
 use Rattle.fb_blossoms.specs.InternalMerged.{AreJoined, AreListed, AreOwnApart, later, renamed_item}
 use Rattle.fb_blossoms.proofs.Climbs.{kept_child, kept_parent, none_some, same_some}
-use Rattle.fb_blossoms.proofs.Held.{levels_agree, live_from, node_from, same_levels}
+use Rattle.fb_blossoms.proofs.Held.{levels_agree, live_from, same_levels}
 use Rattle.fb_blossoms.proofs.Nested.{is_in-one, leaf_node, one_in}
 use Rattle.fb_blossoms.proofs.Changes.{node_unless, node_when}
 use Rattle.fb_blossoms.proofs.Renamings.{along_renamed, item_renamed, node_renamed, on_from, on_to}
@@ -101,57 +100,57 @@ module _ (old right new : List (Option Item)) (more made : ℕ) (links names : L
   up_new x p e =
       each (λ x. (p : ℕ) → parent_at new x ≡ Some p → is_on (steps_at new p) x ≡ true)
       (λ x k p e.
-          let before : parent_at old x ≡ Some p = parent_before x p k e in
-          ap (λ o. is_on (cycle_in o) x) (joined.stays p (kept_before x p before)) ∙ first.up x p before)
+      let before : parent_at old x ≡ Some p = parent_before x p k e in
+      ap (λ o. is_on (cycle_in o) x) (joined.stays p (kept_before x p before)) ∙ first.up x p before)
       (λ a k p e.
-          let r : (q : ℕ) × (parent_at right a ≡ Some q) × (is_kept right q ≡ true) × (F q ≡ p) = parent_joined a p k e in
-          ap (λ y. is_on (steps_at new y) (F a)) (sym r.3) ∙ (ap (λ c. is_on c (F a)) (steps_right r.0 r.2) ∙ on_to F G (steps_at right r.0) a (second.up a r.0 r.1)))
+      let r : (q : ℕ) × (parent_at right a ≡ Some q) × (is_kept right q ≡ true) × (F q ≡ p) = parent_joined a p k e in
+      ap (λ y. is_on (steps_at new y) (F a)) (sym r.3) ∙ (ap (λ c. is_on c (F a)) (steps_right r.0 r.2) ∙ on_to F G (steps_at right r.0) a (second.up a r.0 r.1)))
       x (kept_child new x p e) p e
 
   down_new : (x p : ℕ) → is_on (steps_at new p) x ≡ true → parent_at new x ≡ Some p
   down_new x p on =
       each (λ p. (x : ℕ) → is_on (steps_at new p) x ≡ true → parent_at new x ≡ Some p)
       (λ p k x on.
-          let e : parent_at old x ≡ Some p = first.down x p (ap (λ o. is_on (cycle_in o) x) (sym (joined.stays p k)) ∙ on) in
-          ap parent_in (joined.stays x (kept_child old x p e)) ∙ e)
+      let e : parent_at old x ≡ Some p = first.down x p (ap (λ o. is_on (cycle_in o) x) (sym (joined.stays p k)) ∙ on) in
+      ap parent_in (joined.stays x (kept_child old x p e)) ∙ e)
       (λ q k x on.
-          let r : (y : ℕ) × (is_on (steps_at right q) y ≡ true) × (F y ≡ x) = on_from F G (steps_at right q) x (ap (λ c. is_on c x) (sym (steps_right q k)) ∙ on) in
-          let e : parent_at right r.0 ≡ Some q = second.down r.0 q r.1 in
-          ap (parent_at new) (sym r.2) ∙ (parent_right r.0 (kept_child right r.0 q e) ∙ ap (option_map F) e))
+      let r : (y : ℕ) × (is_on (steps_at right q) y ≡ true) × (F y ≡ x) = on_from F G (steps_at right q) x (ap (λ c. is_on c x) (sym (steps_right q k)) ∙ on) in
+      let e : parent_at right r.0 ≡ Some q = second.down r.0 q r.1 in
+      ap (parent_at new) (sym r.2) ∙ (parent_right r.0 (kept_child right r.0 q e) ∙ ap (option_map F) e))
       p (kept_parent new x p on) x on
 
   older_new : (x p : ℕ) → parent_at new x ≡ Some p → made_at new x < made_at new p
   older_new x p e =
       each (λ x. (p : ℕ) → parent_at new x ≡ Some p → made_at new x < made_at new p)
       (λ x k p e.
-          let before : parent_at old x ≡ Some p = parent_before x p k e in
-          let a : made_at new x ≡ made_at old x = ap made_in (joined.stays x k) in
-          let b : made_at new p ≡ made_at old p = ap made_in (joined.stays p (kept_before x p before)) in
-          omega (arith, a, b, first.older x p before))
+      let before : parent_at old x ≡ Some p = parent_before x p k e in
+      let a : made_at new x ≡ made_at old x = ap made_in (joined.stays x k) in
+      let b : made_at new p ≡ made_at old p = ap made_in (joined.stays p (kept_before x p before)) in
+      omega (arith, a, b, first.older x p before))
       (λ a k p e.
-          let r : (q : ℕ) × (parent_at right a ≡ Some q) × (is_kept right q ≡ true) × (F q ≡ p) = parent_joined a p k e in
-          let b : made_at new p ≡ made_at right r.0 + more = ap (made_at new) (sym r.3) ∙ made_right r.0 r.2 in
-          omega (arith, made_right a k, b, second.older a r.0 r.1))
+      let r : (q : ℕ) × (parent_at right a ≡ Some q) × (is_kept right q ≡ true) × (F q ≡ p) = parent_joined a p k e in
+      let b : made_at new p ≡ made_at right r.0 + more = ap (made_at new) (sym r.3) ∙ made_right r.0 r.2 in
+      omega (arith, made_right a k, b, second.older a r.0 r.1))
       x (kept_child new x p e) p e
 
   placed_new : (x p : ℕ) → parent_at new x ≡ Some p → IsPlaceOf (steps_at new p) x (place_at new x)
   placed_new x p e =
       each (λ x. (p : ℕ) → parent_at new x ≡ Some p → IsPlaceOf (steps_at new p) x (place_at new x))
       (λ x k p e.
-          let before : parent_at old x ≡ Some p = parent_before x p k e in
-          let P : Option Item → Type 0 = λ o. IsPlaceOf (cycle_in o) x (place_at new x) in
-          let Q : Option Item → Type 0 = λ o. IsPlaceOf (steps_at old p) x (place_of o) in
-          subst P (sym (joined.stays p (kept_before x p before))) (subst Q (sym (joined.stays x k)) (first.placed x p before)))
+      let before : parent_at old x ≡ Some p = parent_before x p k e in
+      let P : Option Item → Type 0 = λ o. IsPlaceOf (cycle_in o) x (place_at new x) in
+      let Q : Option Item → Type 0 = λ o. IsPlaceOf (steps_at old p) x (place_of o) in
+      subst P (sym (joined.stays p (kept_before x p before))) (subst Q (sym (joined.stays x k)) (first.placed x p before)))
       (λ a k p e.
-          let r : (q : ℕ) × (parent_at right a ≡ Some q) × (is_kept right q ≡ true) × (F q ≡ p) = parent_joined a p k e in
-          let at : IsPlaceOf (steps_at right r.0) a (place_at right a) = second.placed a r.0 r.1 in
-          let n : length (renamed_cycle F G (steps_at right r.0)) ≡ length (steps_at right r.0) = length-map (steps_at right r.0) (renamed_step F G) in
-          let there : IsPlaceOf (renamed_cycle F G (steps_at right r.0)) (F a) (place_at right a) =
-          (omega (arith, n, at.0), node_renamed F G (steps_at right r.0) (place_at right a) at.0 ∙ ap F at.1) in
-          let P : ℕ → Type 0 = λ y. IsPlaceOf (steps_at new y) (F a) (place_at new (F a)) in
-          let Q : List CycleStep → Type 0 = λ c. IsPlaceOf c (F a) (place_at new (F a)) in
-          let R : ℕ → Type 0 = λ k. IsPlaceOf (renamed_cycle F G (steps_at right r.0)) (F a) k in
-          subst P r.3 (subst Q (sym (steps_right r.0 r.2)) (subst R (sym (place_right a k)) there)))
+      let r : (q : ℕ) × (parent_at right a ≡ Some q) × (is_kept right q ≡ true) × (F q ≡ p) = parent_joined a p k e in
+      let at : IsPlaceOf (steps_at right r.0) a (place_at right a) = second.placed a r.0 r.1 in
+      let n : length (renamed_cycle F G (steps_at right r.0)) ≡ length (steps_at right r.0) = length-map (steps_at right r.0) (renamed_step F G) in
+      let there : IsPlaceOf (renamed_cycle F G (steps_at right r.0)) (F a) (place_at right a) =
+      (omega (arith, n, at.0), node_renamed F G (steps_at right r.0) (place_at right a) at.0 ∙ ap F at.1) in
+      let P : ℕ → Type 0 = λ y. IsPlaceOf (steps_at new y) (F a) (place_at new (F a)) in
+      let Q : List CycleStep → Type 0 = λ c. IsPlaceOf c (F a) (place_at new (F a)) in
+      let R : ℕ → Type 0 = λ k. IsPlaceOf (renamed_cycle F G (steps_at right r.0)) (F a) k in
+      subst P r.3 (subst Q (sym (steps_right r.0 r.2)) (subst R (sym (place_right a k)) there)))
       x (kept_child new x p e) p e
 
   apart_on : (a : ℕ) → (y z : ℕ) → is_on (steps_at right a) y ≡ true → is_on (steps_at right a) z ≡ true → F y ≡ F z → y ≡ z
@@ -162,9 +161,9 @@ module _ (old right new : List (Option Item)) (more made : ℕ) (links names : L
       each (λ x. IsItem (own_at new x) (steps_at new x))
       (λ x k. let P : Option Item → Type 0 = λ o. IsItem (own_in o) (cycle_in o) in subst P (sym (joined.stays x k)) (first.shaped x k))
       (λ a k.
-          let P : List ℕ → Type 0 = λ o. IsItem o (steps_at new (F a)) in
-          let Q : List CycleStep → Type 0 = λ c. IsItem (own_at right a) c in
-          subst P (sym (own_right a k)) (subst Q (sym (steps_right a k)) (item_renamed F G (own_at right a) (steps_at right a) (apart_on a) (second.shaped a k))))
+      let P : List ℕ → Type 0 = λ o. IsItem o (steps_at new (F a)) in
+      let Q : List CycleStep → Type 0 = λ c. IsItem (own_at right a) c in
+      subst P (sym (own_right a k)) (subst Q (sym (steps_right a k)) (item_renamed F G (own_at right a) (steps_at right a) (apart_on a) (second.shaped a k))))
       x k
 
   young_new : (x : ℕ) → is_kept new x ≡ true → made_at new x < more + made
@@ -255,15 +254,15 @@ module _ (old right new : List (Option Item)) (more made : ℕ) (links names : L
     own_apart d x y h k =
         each (λ x. (y : ℕ) → is_in (own_at new x) d ≡ true → is_in (own_at new y) d ≡ true → x ≡ y)
         (λ x i y h k.
-            each (λ y. is_in (own_at new y) d ≡ true → x ≡ y)
-            (λ y j k. same_some (leaves d) x y (kept.leaf_of d x (own_left x d i h)) (kept.leaf_of d y (own_left y d j k)))
-            (λ b j k. absurd (crossed x b d (own_left x d i h) (own_other b d j k)))
-            y (own_kept new y d k) k)
+        each (λ y. is_in (own_at new y) d ≡ true → x ≡ y)
+        (λ y j k. same_some (leaves d) x y (kept.leaf_of d x (own_left x d i h)) (kept.leaf_of d y (own_left y d j k)))
+        (λ b j k. absurd (crossed x b d (own_left x d i h) (own_other b d j k)))
+        y (own_kept new y d k) k)
         (λ a i y h k.
-            each (λ y. is_in (own_at new y) d ≡ true → F a ≡ y)
-            (λ y j k. absurd (crossed y a d (own_left y d j k) (own_other a d i h)))
-            (λ b j k. ap F (same_some (others d) a b (kept'.leaf_of d a (own_other a d i h)) (kept'.leaf_of d b (own_other b d j k))))
-            y (own_kept new y d k) k)
+        each (λ y. is_in (own_at new y) d ≡ true → F a ≡ y)
+        (λ y j k. absurd (crossed y a d (own_left y d j k) (own_other a d i h)))
+        (λ b j k. ap F (same_some (others d) a b (kept'.leaf_of d a (own_other a d i h)) (kept'.leaf_of d b (own_other b d j k))))
+        y (own_kept new y d k) k)
         x (own_kept new x d h) y h k
 
     alone : (own : List ℕ) (c : List CycleStep) (d : ℕ) → IsItem own c → is_in own d ≡ true → own ≡ d ∷ []

@@ -1,5 +1,5 @@
 -- Items that get new numbers, and cycles of renamed nodes.
-use Rattle.std.proofs.Common.{◌≡◌, ◌≢◌, ◌⊎◌, inl, inr, ℕ, ◌+◌, ◌<◌, ◌≤◌, ◌%◌, ◌==◌, ◌||◌, Bool, true, false, if◌then◌else◌, List, [], ◌∷◌, ◌++◌, length, map, get_or, take, nat_lt, Option, Some, None, is_some, option_map, refl, sym, ◌∙◌, ap, subst, arith}
+use Rattle.std.proofs.Common.{◌≡◌, inl, inr, ℕ, ◌+◌, ◌<◌, ◌≤◌, ◌%◌, ◌==◌, ◌||◌, Bool, true, false, if◌then◌else◌, List, [], ◌∷◌, ◌++◌, length, get_or, take, nat_lt, Option, Some, None, is_some, option_map, refl, sym, ◌∙◌, ap, subst, arith}
 use Rattle.std.specs.List.{flat_map, list_any}
 use Rattle.std.specs.Option.{IsSome}
 use Rattle.std.proofs.Math.Path.{fun_ext}
@@ -13,10 +13,10 @@ use Rattle.slab.proofs.SlabLemmas.{ContainsKey-within}
 use Rattle.fb_blossoms.specs.InternalItems.{Item}
 use Rattle.fb_blossoms.specs.Nodes.{AreDistinct, is_on}
 use Rattle.fb_blossoms.specs.Links.{step_at}
-use Rattle.fb_blossoms.specs.InternalForest.{IsItem, is_kept, item_at}
+use Rattle.fb_blossoms.specs.InternalForest.{IsItem, is_kept}
 use Rattle.fb_blossoms.specs.Merged.{name_by, new_count, old_count, renamed_cycle, renamed_step}
 use Rattle.fb_blossoms.specs.InternalMerged.{AreAllTaken, AreJoined, is_pair, later, renamed_among, renamed_item}
-use Rattle.fb_blossoms.proofs.PairLists.{new_counted, new_listed, new_pair, one_if, pair_by, pair_is, pair_same, old_listed}
+use Rattle.fb_blossoms.proofs.PairLists.{new_counted, new_listed, new_pair, one_if, pair_by, pair_is, pair_same}
 
 -- the next pair's item is renamed
 pub renamed_next : (f g : ℕ → ℕ) (names : List (ℕ × ℕ)) (k x : ℕ) (old o o' : Option Item) → k < length names → ((b : ℕ) → new_count names b ≤ 1)

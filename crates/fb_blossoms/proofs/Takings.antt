@@ -1,11 +1,11 @@
 -- Items that are put into free slots, one after another.
-use Rattle.std.proofs.Common.{◌≡◌, ◌≢◌, ◌⊎◌, inl, inr, ℕ, ◌+◌, ◌<◌, ◌≤◌, ◌==◌, Bool, true, false, if◌then◌else◌, List, [], ◌∷◌, ◌++◌, length, nat_lt, Option, Some, None, is_some, option_map, refl, sym, ◌∙◌, ap, subst, arith}
+use Rattle.std.proofs.Common.{◌≡◌, ◌≢◌, inl, inr, ℕ, ◌+◌, ◌<◌, ◌≤◌, ◌==◌, Bool, true, false, if◌then◌else◌, List, [], ◌∷◌, ◌++◌, nat_lt, Option, Some, None, is_some, option_map, refl, sym, ◌∙◌, ap, subst, arith}
 use Rattle.std.proofs.lemmas.Bool.{both_ways, cases_Bool, cases_eq, eq-eqb, le-ltb, lt-ltb, ltb-true, ltb-false, ne_eqb}
 use Rattle.slab.specs.Slab.{Slab, Updates, get}
 use Rattle.fb_blossoms.specs.InternalItems.{Item}
 use Rattle.fb_blossoms.specs.InternalForest.{is_kept, item_at}
 use Rattle.fb_blossoms.specs.Merged.{new_count, old_count}
-use Rattle.fb_blossoms.specs.InternalMerged.{AreAllTaken, AreTaken, IsStepOver, is_pair, later}
+use Rattle.fb_blossoms.specs.InternalMerged.{AreTaken, IsStepOver, is_pair, later}
 use Rattle.fb_blossoms.proofs.PairLists.{new_none, new_push, old_push, one_if, pair_before, pair_cases, pair_last}
 
 abbrev among : Bool → Bool → ℕ

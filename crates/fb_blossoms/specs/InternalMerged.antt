@@ -1,5 +1,5 @@
 -- Items under other names.
-use Rattle.std.specs.Prelude.{ℕ, ◌≡◌, ◌+◌, ◌≤◌, ◌==◌, ◌⊎◌, Bool, true, false, if◌then◌else◌, List, [], ◌∷◌, ◌++◌, length, map, nat_lt, unwrap_or, Option, Some, None, option_map}
+use Rattle.std.specs.Prelude.{ℕ, ◌≡◌, ◌+◌, ◌≤◌, ◌==◌, ◌⊎◌, Bool, true, false, if◌then◌else◌, List, [], ◌∷◌, ◌++◌, length, nat_lt, unwrap_or, Option, Some, None, option_map}
 use Rattle.std.specs.List.{list_any}
 use Rattle.fb_blossoms.specs.InternalItems.{Item}
 use Rattle.slab.specs.Slab.{Slab, Updates, get}

@@ -1,7 +1,7 @@
 -- Two stores as one: the nodes of the second come under new names.
-use Rattle.std.specs.Prelude.{ℕ, ◌≡◌, ◌≢◌, ◌≤◌, ◌==◌, ◌⊎◌, Bool, true, false, if◌then◌else◌, List, [], ◌∷◌, map, count_by, Option, Some, None, option_map}
+use Rattle.std.specs.Prelude.{ℕ, ◌≡◌, ◌≢◌, ◌≤◌, ◌==◌, ◌⊎◌, true, if◌then◌else◌, List, [], ◌∷◌, map, count_by, Option, Some, None, option_map}
 use Rattle.fb_links.specs.declared.cycle.CycleStep.{CycleStep}
-use Rattle.fb_blossoms.specs.Nodes.{Node, is_live, is_in, leaf, node_at}
+use Rattle.fb_blossoms.specs.Nodes.{Node, is_live, leaf, node_at}
 
 -- the number beside this one in the list; the number itself where the list does not have it
 abbrev pub name_by : List (ℕ × ℕ) → ℕ → ℕ

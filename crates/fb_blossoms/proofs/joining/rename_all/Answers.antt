@@ -1,4 +1,3 @@
-use Rattle.std.proofs.Common.{sym, ◌∙◌, ap}
 use Rattle.fb_blossoms.proofs.Renamings.{renamed_next}
 use Rattle.fb_blossoms.proofs.joining.rename_all.Goals as goal
 

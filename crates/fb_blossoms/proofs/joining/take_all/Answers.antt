@@ -1,8 +1,6 @@
-use Rattle.std.proofs.Common.{sym, ◌∙◌, arith, refl, ap, subst, Option, ◌≡◌}
+use Rattle.std.proofs.Common.{sym, ◌∙◌, arith, ◌≡◌}
 use Rattle.slab.specs.Slab.{get}
-use Rattle.fb_blossoms.specs.InternalItems.{Item}
-use Rattle.fb_blossoms.specs.InternalMerged.{IsStepOver}
-use Rattle.fb_blossoms.proofs.Takings.{over_one, over_zero}
+use Rattle.fb_blossoms.proofs.Takings.{over_one}
 use Rattle.fb_blossoms.proofs.joining.take_all.Goals as goal
 
 pub loop-key-preserved : goal.loop-key-preserved
