@@ -51,7 +51,7 @@ empty_steps None h = refl
 empty_steps (Some i) h = absurd (both_ways true h refl)
 
 -- the node of a number that is kept, and of one that isn't
-node_when : (slots : List (Option Item)) (x : ℕ) → is_kept slots x ≡ true → node_at (nodes_of slots) x ≡ Some (record { defects = held_at slots x; cycle = steps_at slots x })
+pub node_when : (slots : List (Option Item)) (x : ℕ) → is_kept slots x ≡ true → node_at (nodes_of slots) x ≡ Some (record { defects = held_at slots x; cycle = steps_at slots x })
 node_when slots x h = node_from slots x ∙ at (item_at slots x) h
   where
     at : (o : Option Item) → is_some o ≡ true → option_map (node_of slots) o

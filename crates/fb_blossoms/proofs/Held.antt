@@ -91,7 +91,7 @@ module _ (slots : List (Option Item)) (made : ℕ) (forest : IsForest slots made
   older_on x y on = forest.older y x (forest.down y x on)
 
   -- more levels than a node has give no more defects
-  levels_agree : (a b x : ℕ) → made_at slots x < a → made_at slots x < b → defects_in slots a x ≡ defects_in slots b x
+  pub levels_agree : (a b x : ℕ) → made_at slots x < a → made_at slots x < b → defects_in slots a x ≡ defects_in slots b x
   levels_agree zero b x p q = absurd (omega arith)
   levels_agree (suc a) zero x p q = absurd (omega arith)
   levels_agree (suc a) (suc b) x p q =

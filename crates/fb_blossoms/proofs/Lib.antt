@@ -12,3 +12,7 @@ pub mod Turns
 pub mod SimplePaths
 pub mod OnePath
 pub mod Grown
+pub mod PairLists
+pub mod Takings
+pub mod Renamings
+pub mod MergedForests

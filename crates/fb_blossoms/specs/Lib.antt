@@ -2,9 +2,11 @@ pub mod InternalFixture
 pub mod InternalForest
 pub mod InternalItems
 pub mod InternalLegs
+pub mod InternalMerged
 pub mod InternalShapes
 pub mod InternalWays
 pub mod Laws
 pub mod Links
+pub mod Merged
 pub mod Nodes
 pub mod Paths

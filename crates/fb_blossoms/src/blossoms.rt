@@ -3,11 +3,13 @@ ghost use Rattle.std.specs.HashMap.{get};
 ghost use Rattle.fb_blossoms.specs.Links.{AllLinked, AreLinked};
 ghost use Rattle.fb_blossoms.specs.Paths.{IsEvenPath};
 ghost use Rattle.fb_blossoms.specs.Nodes.{Adds, AreOuter, IsChildHolding, IsNested, IsOddCycle, IsOuter, IsOuterOf, IsParent, TakesOff, blossom, cycle_at, defects_at, is_in, is_live, is_on, leaf, node_at};
+ghost use Rattle.fb_blossoms.specs.Merged.{AreLeavesApart, IsMerged};
 ghost use Rattle.fb_blossoms.specs.InternalForest.{IsPlaceOf};
 ghost use Rattle.fb_blossoms.specs.InternalWays.{LeadsDown};
 
 use crate::entry::Entry;
 use crate::forest::{child_over, cycle_of, parent_of, place_of, put_under, top_of, way_down};
+use crate::joining::{join_nodes, list_all};
 use crate::legs::{Nest, even_path};
 use crate::{CycleStep, LinkId, Links, NoMemory, NodeId};
 use slab::Slab;
@@ -114,6 +116,41 @@ impl Blossoms {
         let cycle = self.nodes.remove(node as usize).into_cycle();
         put_under(&mut self.nodes, &cycle, None);
         cycle
+    }
+
+    /// The two stores as one, and the list of the right one's nodes, each beside its new number. The left one's numbers
+    /// stay. The right one's links get the new numbers that stand beside them in the list. Its time is that of the right
+    /// one's nodes.
+    pub fn merged(
+        alloc: Global,
+        left: Blossoms,
+        right: Blossoms,
+        links: &[(LinkId, LinkId)],
+    ) -> Result<(Blossoms, Vec<(NodeId, NodeId)>), NoMemory>
+        requires { AreLeavesApart left right }
+        ensures { IfOk result (λ both. IsMerged left right both.0 links.now both.1.items) }
+    {
+        let Blossoms {
+            mut nodes,
+            mut leaves,
+            made: before,
+        } = left;
+        let Blossoms {
+            nodes: others,
+            leaves: _,
+            made: more,
+        } = right;
+        let Some(made) = before.checked_add(more) else {
+            return Err(NoMemory);
+        };
+        let pairs = join_nodes(alloc, &mut nodes, others, before, links)?;
+        list_all(&nodes, &mut leaves, &pairs)?;
+        let both = Blossoms {
+            nodes,
+            leaves,
+            made,
+        };
+        Ok((both, pairs))
     }
 
     /// The outer node that the node is, or lies in at any depth. Its time is that depth.

@@ -1,7 +1,11 @@
-ghost use Rattle.std.specs.Prelude.{◌≡◌, ◌≢◌, [], ◌∷◌, None};
+ghost use Rattle.std.specs.Prelude.{◌≡◌, ◌≢◌, ◌+◌, ◌<◌, ◌^◌, [], ◌∷◌, None, OnOk, MatchOption, nat_eq};
+ghost use Rattle.std.specs.HashMap.{get};
+ghost use Rattle.fb_blossoms.specs.InternalMerged.{later, named_by, renamed_item};
 ghost use Rattle.fb_blossoms.specs.InternalItems.{Item};
 
-use crate::{CycleStep, NodeId};
+use crate::names::{Names, renamed_cycle, renamed_parent};
+use crate::{CycleStep, NoMemory, NodeId};
+use std::alloc::Global;
 use std::marker::Model;
 
 /// What a node is made of.
@@ -104,5 +108,40 @@ impl Entry {
             Shape::Leaf(_) => unreachable!(),
             Shape::Cycle(cycle) => cycle,
         }
+    }
+
+    /// The defect of a leaf.
+    pub fn own(&self) -> Option<u32>
+        ensures { MatchOption result (self.now.own ≡ []) (λ d. self.now.own ≡ d ∷ []) }
+    {
+        match &self.shape {
+            Shape::Leaf(defect) => Some(*defect),
+            Shape::Cycle(_) => None,
+        }
+    }
+
+    /// The node as if so many more had been made before it.
+    pub fn later(self, more: u64) -> Entry
+        requires { self.made + more < 2 ^ 64 }
+        ensures { result ≡ later more self }
+    {
+        Entry {
+            parent: self.parent,
+            place: self.place,
+            made: self.made + more,
+            shape: self.shape,
+        }
+    }
+
+    /// Gives the parent, and the nodes and links of the cycle, their new numbers.
+    pub fn rename(&mut self, alloc: Global, names: &Names, links: &Names) -> Result<(), NoMemory>
+        ensures { OnOk result (self.new ≡ renamed_item (named_by (get nat_eq names.now)) (named_by (get nat_eq links.now)) self.old) }
+    {
+        if let Shape::Cycle(cycle) = &self.shape {
+            let renamed = renamed_cycle(alloc, cycle.as_slice(), names, links)?;
+            self.shape = Shape::Cycle(renamed);
+        }
+        self.parent = renamed_parent(names, self.parent);
+        Ok(())
     }
 }

@@ -8,8 +8,10 @@ mod entry;
 #[cfg(test)]
 mod fixture;
 mod forest;
+mod joining;
 pub mod laws;
 mod legs;
+mod names;
 #[cfg(test)]
 mod nested_tests;
 #[cfg(test)]

@@ -1,0 +1,148 @@
+//! How the nodes of one store are put into another.
+
+ghost use Rattle.std.specs.Prelude.{◌≡◌, ◌≢◌, ◌==◌, ◌+◌, ◌<◌, ◌≤◌, ◌^◌, ◌++◌, ◌∷◌, [], ℕ, Some, IfOk, OnOk, if◌then◌else◌, nat_eq, option_map};
+ghost use Rattle.std.specs.HashMap.{get as found};
+ghost use Rattle.slab.specs.Slab.{get};
+ghost use Rattle.fb_blossoms.specs.Nodes.{is_in};
+ghost use Rattle.fb_blossoms.specs.InternalForest.{made_in, own_in};
+ghost use Rattle.fb_blossoms.specs.Merged.{new_count};
+ghost use Rattle.fb_blossoms.specs.InternalMerged.{AreAllTaken, AreJoined, AreListed, AreOwnApart, IsStepOver, named_by, renamed_among, renamed_item};
+
+use crate::entry::Entry;
+use crate::names::{Names, names_of};
+use crate::{LinkId, NoMemory, NodeId};
+use slab::Slab;
+use std::alloc::Global;
+use std::collections::HashMap;
+
+/// The nodes of a store, each beside its new number.
+pub type Pairs = Vec<(NodeId, NodeId)>;
+
+fn push_pair(names: &mut Pairs, old: NodeId, new: NodeId) -> Result<(), NoMemory>
+    ensures { OnOk result (names.new.items ≡ names.old.items ++ (old, new) ∷ []) }
+{
+    names.push((old, new))?;
+    Ok(())
+}
+
+/// Takes the node of this number, if there is one, into a free slot.
+fn take_one(
+    nodes: &mut Slab<Entry>,
+    right: &mut Slab<Entry>,
+    key: usize,
+    more: u64,
+    names: &mut Pairs,
+) -> Result<(), NoMemory>
+    requires { made_in (get right.old key) + more < 2 ^ 64 }
+    ensures rest { (x : ℕ) → x ≢ key → get right.new x ≡ get right.old x }
+    ensures step { OnOk result (IsStepOver nodes.old nodes.new names.old.items names.new.items key more (get right.old key)) }
+{
+    let Some(entry) = right.try_remove(key) else {
+        return Ok(());
+    };
+    nodes.reserve(1)?;
+    let node = nodes.insert_reserved(entry.later(more)) as NodeId;
+    push_pair(names, key as NodeId, node)
+}
+
+/// Takes all nodes into free slots, as if so many more had been made before each. They keep the numbers of their
+/// parents, nodes and links.
+pub fn take_all(
+    alloc: Global,
+    nodes: &mut Slab<Entry>,
+    mut right: Slab<Entry>,
+    more: u64,
+) -> Result<Pairs, NoMemory>
+    requires { (a : ℕ) → made_in (get right a) + more < 2 ^ 64 }
+    ensures { IfOk result (λ names. AreAllTaken nodes.old right nodes.new more names.items) }
+{
+    let mut names = Vec::new(alloc);
+    for key in 0..right.capacity() {
+        take_one(nodes, &mut right, key, more, &mut names)?;
+    }
+    Ok(names)
+}
+
+fn rename_one(
+    alloc: Global,
+    nodes: &mut Slab<Entry>,
+    node: NodeId,
+    names: &Names,
+    links: &Names,
+) -> Result<(), NoMemory>
+    ensures { OnOk result ((x : ℕ) → get nodes.new x ≡ (if node == x then option_map (renamed_item (named_by (found nat_eq names.now)) (named_by (found nat_eq links.now))) (get nodes.old x) else get nodes.old x)) }
+{
+    if let Some(entry) = nodes.get_mut(node as usize) {
+        entry.rename(alloc, names, links)?;
+    }
+    Ok(())
+}
+
+/// Gives the nodes that were taken their new numbers of parents, nodes and links.
+pub fn rename_all(
+    alloc: Global,
+    nodes: &mut Slab<Entry>,
+    pairs: &[(NodeId, NodeId)],
+    names: &Names,
+    links: &Names,
+) -> Result<(), NoMemory>
+    requires { (b : ℕ) → new_count pairs.now b ≤ 1 }
+    ensures { OnOk result ((x : ℕ) → get nodes.new x ≡ renamed_among pairs.now (named_by (found nat_eq names.now)) (named_by (found nat_eq links.now)) x (get nodes.old x)) }
+{
+    for k in 0..pairs.len() {
+        rename_one(alloc, nodes, pairs[k].1, names, links)?;
+    }
+    Ok(())
+}
+
+/// Puts the node's defect, if it is a leaf, into the list of leaves.
+fn list_one(
+    nodes: &Slab<Entry>,
+    leaves: &mut HashMap<u32, NodeId>,
+    node: NodeId,
+) -> Result<(), NoMemory>
+    ensures { OnOk result ((d : ℕ) → found nat_eq leaves.new d ≡ (if is_in (own_in (get nodes.now node)) d then Some node else found nat_eq leaves.old d)) }
+{
+    let Some(entry) = nodes.get(node as usize) else {
+        return Ok(());
+    };
+    let Some(defect) = entry.own() else {
+        return Ok(());
+    };
+    leaves.insert(defect, node)?;
+    Ok(())
+}
+
+/// Puts the defects of the leaves that were taken into the list of leaves.
+pub fn list_all(
+    nodes: &Slab<Entry>,
+    leaves: &mut HashMap<u32, NodeId>,
+    pairs: &[(NodeId, NodeId)],
+) -> Result<(), NoMemory>
+    requires { AreOwnApart nodes.now.slots }
+    ensures { OnOk result (AreListed nodes.now.slots (found nat_eq leaves.old) (found nat_eq leaves.new) pairs.now) }
+{
+    for k in 0..pairs.len() {
+        list_one(nodes, leaves, pairs[k].1)?;
+    }
+    Ok(())
+}
+
+/// Puts the nodes of the right store into free slots, as if so many more had been made before each, under new numbers.
+/// The links of their cycles get the new numbers of the list.
+pub fn join_nodes(
+    alloc: Global,
+    nodes: &mut Slab<Entry>,
+    right: Slab<Entry>,
+    more: u64,
+    links: &[(LinkId, LinkId)],
+) -> Result<Pairs, NoMemory>
+    requires { (a : ℕ) → made_in (get right a) + more < 2 ^ 64 }
+    ensures { IfOk result (λ names. AreJoined nodes.old.slots right.slots nodes.new.slots more links.now names.items) }
+{
+    let pairs = take_all(alloc, nodes, right, more)?;
+    let names = names_of(alloc, &pairs)?;
+    let link_names = names_of(alloc, links)?;
+    rename_all(alloc, nodes, &pairs, &names, &link_names)?;
+    Ok(pairs)
+}
