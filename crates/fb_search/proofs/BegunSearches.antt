@@ -1,10 +1,10 @@
 -- A search that begins keeps what every search keeps.
-use Rattle.std.proofs.Common.{ℕ, ◌≡◌, ◌==◌, ◌+◌, ◌<◌, ◌||◌, ◌⊎◌, inl, inr, Bool, cond, true, false, not, List, [], ◌∷◌, ◌++◌, length, map, All, Option, Some, None, refl, sym, ap, ◌∙◌}
+use Rattle.std.proofs.Common.{ℕ, ◌≡◌, ◌==◌, ◌<◌, ◌||◌, ◌⊎◌, inl, inr, Bool, cond, true, false, List, [], length, All, Option, Some, None, refl, sym, ap, ◌∙◌}
 use Rattle.std.proofs.lemmas.Bool.{false≢true, eq-eqb, eqb-true, ne_eqb}
 use Rattle.fb_graph.specs.Parity.{is_in, differ}
 use Rattle.fb_graph.specs.Problem.{Problem, edge_at, touches, no_edge}
 use Rattle.fb_graph.specs.Limits.{DecodingGraph, IsWithinLimits}
-use Rattle.fb_graph.specs.Dual.{AreUnderOne, cover_of, top_at}
+use Rattle.fb_graph.specs.Dual.{cover_of, top_at}
 use Rattle.fb_graph.specs.Covers.{is_over, passes}
 use Rattle.fb_half.specs.Parts.{IsPart, PartValue, problem_in, state_of}
 use Rattle.fb_laws.proofs.SearchTrees.{cover_set}

@@ -1,5 +1,5 @@
 -- The branches of a tree by their places, the oldest or the newest one first.
-use Rattle.std.proofs.Common.{◌≡◌, ℕ, ◌-◌, ◌<◌, List, length, map, get_or, reverse, sym, ap, ◌∙◌}
+use Rattle.std.proofs.Common.{◌≡◌, ℕ, ◌-◌, ◌<◌, List, length, get_or, reverse, sym, ap, ◌∙◌}
 use Rattle.std.proofs.lemmas.List.{get_or-map, get_or-reverse, length-map, length-reverse}
 use Rattle.fb_laws.specs.Trees.{minus_names}
 use Rattle.fb_trees.specs.Branches.{entries_of, entry_of}

@@ -1,5 +1,5 @@
 -- The links that are forgotten where a search ends can be: each of them is there, once.
-use Rattle.std.proofs.Common.{ℕ, ◌≡◌, All, true, false, List, ◌++◌, get_or, is_some, sym, ap, ◌∙◌}
+use Rattle.std.proofs.Common.{ℕ, ◌≡◌, All, true, List, ◌++◌, get_or, is_some, sym, ap, ◌∙◌}
 use Rattle.std.specs.List.Sorted.{IsPermutation}
 use Rattle.std.proofs.lemmas.Bool.{false≢true}
 use Rattle.fb_graph.specs.Parity.{is_in}

@@ -1,11 +1,9 @@
 -- The matching of a part where a search has ended.
-use Rattle.std.proofs.Common.{ℕ, ◌≡◌, ◌⊎◌, inl, inr, true, All, List, [], ◌∷◌, ◌++◌, map, Option, Some, unwrap_or, refl, sym, ap, subst, ◌∙◌, append_assoc}
+use Rattle.std.proofs.Common.{ℕ, ◌≡◌, ◌⊎◌, inl, inr, true, All, List, [], ◌∷◌, ◌++◌, map, unwrap_or, refl, sym, ap, subst, ◌∙◌, append_assoc}
 use Rattle.std.specs.List.Sorted.{IsPermutation}
 use Rattle.std.proofs.lemmas.Grind.{flat_map-append}
-use Rattle.std.proofs.lemmas.List.{map-append}
 use Rattle.std.proofs.lemmas.List.Sorted.{All-permutation, IsPermutation-sym}
 use Rattle.fb_graph.specs.Parity.{is_in}
-use Rattle.fb_graph.specs.Certificate.{AreDistinct}
 use Rattle.fb_graph.specs.Dual.{Node}
 use Rattle.fb_graph.specs.Problem.{Problem}
 use Rattle.fb_graph.proofs.Among.{IsAmong, All_among, among_All, among_either, among_left, among_map, among_right}
@@ -14,7 +12,6 @@ use Rattle.fb_laws.specs.TreeCycles.{nodes_along}
 use Rattle.fb_laws.specs.Trees.{Connects, EntryOf, IsTree, beside, path_to, plus_names}
 use Rattle.fb_laws.proofs.OpenedBlossoms.{distinct_permuted, same_permuted}
 use Rattle.fb_laws.proofs.SearchTrees.{path_beside}
-use Rattle.fb_links.specs.declared.walk.Step.{Step}
 use Rattle.fb_links.specs.Table.{link_at}
 use Rattle.fb_trees.specs.Rooted.{AreHung}
 use Rattle.fb_half.specs.declared.matches.Match.{Match}

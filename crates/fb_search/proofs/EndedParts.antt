@@ -7,13 +7,10 @@ use Rattle.std.proofs.lemmas.List.Sorted.{IsPermutation-append_comm, IsPermutati
 use Rattle.fb_graph.specs.Parity.{is_in}
 use Rattle.fb_graph.specs.Dual.{Node, is_live}
 use Rattle.fb_graph.specs.Laws.{Link}
-use Rattle.fb_graph.specs.Problem.{Problem}
 use Rattle.fb_graph.proofs.Sets.{is_in-filter, is_in-head, is_in-tail}
-use Rattle.fb_laws.specs.LinkNumbers.{links_matched}
-use Rattle.fb_laws.specs.PartStates.{IsPartState}
 use Rattle.fb_laws.specs.StateMoves.{IsEnded, ended}
 use Rattle.fb_laws.specs.StateOrders.{AgreeAt}
-use Rattle.fb_laws.specs.Trees.{EntryOf, beside, grown_links, paired_links, path_to, plus_names}
+use Rattle.fb_laws.specs.Trees.{beside, grown_links, paired_links, path_to, plus_names}
 use Rattle.fb_laws.specs.Works.{without}
 use Rattle.fb_laws.proofs.OpenedBlossoms.{same_permuted}
 use Rattle.fb_laws.proofs.StateOrders.{part_reordered}
@@ -25,7 +22,7 @@ use Rattle.fb_trees.specs.Rooted.{AreHung}
 use Rattle.fb_trees.proofs.Mapped.{beside_moved, grown_moved, paired_moved, path_moved}
 use Rattle.fb_half.specs.declared.matches.Match.{Match}
 use Rattle.fb_half.specs.Matchings.{IsMatchOf, IsMatchingOf, match_links}
-use Rattle.fb_half.specs.Parts.{AreLinksOf, AreStepsOf, IsPart, PartValue, problem_in, state_of}
+use Rattle.fb_half.specs.Parts.{AreLinksOf, AreStepsOf, IsPart, PartValue}
 use Rattle.fb_half.specs.Translations.{cycles_by, entry_by, link_by, link_of, ring_at, ring_links}
 use Rattle.fb_search.specs.Searching.{IsSearching, SearchValue, problem_of, searched_links, state_at}
 use Rattle.fb_search.specs.Progress.{IsSearched}

@@ -1,5 +1,5 @@
 -- Which nodes and links of a tree are matched where a search ends.
-use Rattle.std.proofs.Common.{ℕ, ◌≡◌, ◌==◌, ◌⊎◌, inl, inr, cond, true, List, [], ◌∷◌, ◌++◌, map, flat_map, refl, sym, ap, subst, ◌∙◌, append_assoc}
+use Rattle.std.proofs.Common.{ℕ, ◌≡◌, ◌==◌, ◌⊎◌, inl, inr, cond, true, List, [], ◌∷◌, ◌++◌, map, refl, sym, ap, subst, ◌∙◌, append_assoc}
 use Rattle.std.proofs.lemmas.Bool.{cases_eq, eq-eqb, ne_eqb}
 use Rattle.std.specs.List.Sorted.{IsPermutation}
 use Rattle.std.proofs.lemmas.Simd.{map-map}
@@ -14,7 +14,6 @@ use Rattle.fb_laws.specs.Trees.{EntryOf, beside, grown_links, paired_links, path
 use Rattle.fb_trees.specs.Branches.{entry_of}
 use Rattle.fb_trees.specs.Rooted.{AreHung}
 use Rattle.fb_trees.specs.declared.branch.Branch.{Branch}
-use Rattle.fb_half.specs.declared.matches.Match.{Match}
 use Rattle.fb_half.specs.Matchings.{match_links, matched_names, names_of}
 use Rattle.fb_search.specs.InternalEndings.{beside_match, ended_matches, path_match}
 

@@ -1,5 +1,5 @@
 -- A link that is made, or one that is forgotten, leaves what a search keeps.
-use Rattle.std.proofs.Common.{ℕ, ◌≡◌, true, false, List, [], ◌∷◌, ◌++◌, map, Option, is_some, unwrap_or, refl, sym, ap, ◌∙◌, subst}
+use Rattle.std.proofs.Common.{ℕ, ◌≡◌, true, List, [], ◌∷◌, ◌++◌, map, Option, is_some, unwrap_or, refl, sym, ap, ◌∙◌, subst}
 use Rattle.std.specs.List.Sorted.{IsPermutation}
 use Rattle.std.proofs.lemmas.Bool.{false≢true}
 use Rattle.std.proofs.lemmas.List.Sorted.{IsPermutation-refl}
@@ -8,13 +8,11 @@ use Rattle.fb_graph.proofs.Among.{All_among}
 use Rattle.fb_graph.proofs.Sets.{is_in-head, is_in-tail}
 use Rattle.fb_laws.specs.LinkNumbers.{tree_links}
 use Rattle.fb_laws.specs.PartStates.{IsSearchState, SearchState}
-use Rattle.fb_laws.specs.StateOrders.{AgreeAt}
 use Rattle.fb_laws.specs.Trees.{Entry, EntryOf, grown_links, paired_links}
 use Rattle.fb_laws.proofs.StateOrders.{search_reordered}
 use Rattle.fb_laws.proofs.TreePaths.{in_left, in_right}
 use Rattle.fb_links.specs.declared.walk.Step.{Step}
 use Rattle.fb_links.specs.Table.{Adds, link_at}
-use Rattle.fb_half.specs.declared.matches.Match.{Match}
 use Rattle.fb_half.specs.Matchings.{IsMatchOf, match_links}
 use Rattle.fb_half.specs.Parts.{AreLinksOf, AreStepsOf}
 use Rattle.fb_half.specs.Translations.{cycles_by, entry_by, link_by, link_of, ring_at, ring_links}

@@ -1,7 +1,7 @@
 -- A cycle opened between two of its nodes: the way, the couples and the links that are left, as the laws see them.
 use Rattle.std.proofs.Common.{ℕ, ◌≡◌, ◌%◌, ◌<◌, ◌==◌, Bool, true, false, List, [], ◌∷◌, ◌++◌, map, length, take, drop, get_or, refl, sym, ap, ◌∙◌, subst, arith, if◌then◌else◌}
 use Rattle.std.specs.List.Sorted.{IsPermutation}
-use Rattle.std.proofs.lemmas.List.{append_assoc, drop-map, length-append, length-map, take-map}
+use Rattle.std.proofs.lemmas.List.{drop-map, length-append, length-map, take-map}
 use Rattle.std.proofs.lemmas.List.Sorted.{IsPermutation-append_comm, IsPermutation-cons, IsPermutation-map, IsPermutation-refl, IsPermutation-reverse, IsPermutation-trans, length_permutation}
 use Rattle.fb_graph.specs.Parity.{is_in}
 use Rattle.fb_graph.specs.Certificate.{AreDistinct}
@@ -14,7 +14,7 @@ use Rattle.fb_laws.proofs.OpenedBlossoms.{distinct_permuted, in_permuted}
 use Rattle.fb_half.specs.Matchings.{match_links, matched_names}
 use Rattle.fb_trees.specs.Replacements.{first_node, way_of}
 use Rattle.fb_trees.specs.TreeLinks.{map_pass}
-use Rattle.fb_search.specs.InternalOpenings.{between_on, couples_on, even_on, link_on, links_left, place_on, rest_on, round_on, second_nodes, turned_on, way_on}
+use Rattle.fb_search.specs.InternalOpenings.{couples_on, even_on, links_left, place_on, rest_on, round_on, second_nodes, turned_on, way_on}
 use Rattle.fb_search.proofs.Agreed.{nodes_of}
 use Rattle.fb_search.proofs.OpenedPlaces.{IsPlacedOn, links_of, node_at_place, nodes-append, others_of, place_within, placed_on, round_is, turned_links, turned_nodes}
 use Rattle.fb_search.proofs.OpenedRounds.{even_place, even_place_even, even_round_is, round_at_is, round_by}

@@ -1,11 +1,11 @@
 -- A search whose nodes have other layers over the same defects keeps what every search keeps.
-use Rattle.std.proofs.Common.{ℕ, ◌≡◌, ◌==◌, ◌<◌, ◌⊎◌, inl, inr, Bool, true, false, List, [], ◌∷◌, ◌++◌, map, flat_map, length, All, Option, Some, None, IsSome, refl, sym, ap, ◌∙◌, subst, if◌then◌else◌}
+use Rattle.std.proofs.Common.{ℕ, ◌≡◌, inl, inr, true, List, [], ◌∷◌, ◌++◌, map, All, Option, Some, None, IsSome, refl, sym, ap, ◌∙◌, subst, if◌then◌else◌}
 use Rattle.std.proofs.lemmas.List.Elements.{All-cons, All-head, All-map, All-nil, All-tail, All-weaker}
 use Rattle.fb_graph.specs.Parity.{is_in}
-use Rattle.fb_graph.specs.Problem.{Problem, edge_at}
+use Rattle.fb_graph.specs.Problem.{Problem}
 use Rattle.fb_graph.specs.Laws.{Link}
 use Rattle.fb_graph.specs.Alike.{AreAlike}
-use Rattle.fb_graph.specs.Dual.{AreUnderOne, IsDual, Node, cover_of, defects_of, is_empty, is_live, is_outer, leaves}
+use Rattle.fb_graph.specs.Dual.{IsDual, Node, cover_of, defects_of, is_empty, is_live, is_outer, leaves}
 use Rattle.fb_graph.specs.Nests.{first_set}
 use Rattle.fb_graph.proofs.Among.{All_among, among_All}
 use Rattle.fb_graph.proofs.MappedNodes.{AreKept, mapped_outer}
@@ -18,8 +18,8 @@ use Rattle.fb_laws.specs.Searches.{LeavesNode}
 use Rattle.fb_laws.specs.Trees.{Connects, paired_links}
 use Rattle.fb_laws.proofs.CycleMoves.{live_mapped}
 use Rattle.fb_laws.specs.LinkNumbers.{tree_links}
-use Rattle.fb_half.specs.Matchings.{IsMatchOf, IsMatchingOf, MatchingValue, listed_names, match_links}
-use Rattle.fb_half.specs.Parts.{AreAgreed, AreLinksOf, PartValue}
+use Rattle.fb_half.specs.Matchings.{IsMatchOf, IsMatchingOf, MatchingValue, match_links}
+use Rattle.fb_half.specs.Parts.{AreAgreed, AreLinksOf}
 use Rattle.fb_half.specs.Translations.{children_at, link_by, ring_at, ring_links}
 use Rattle.fb_half.specs.declared.matches.Match.{Match}
 use Rattle.fb_laws.specs.StateMoves.{relayered}

@@ -1,7 +1,6 @@
 -- Advances of a search, one after another.
-use Rattle.std.proofs.Common.{ℕ, ◌≡◌, ◌+◌, ◌<◌, ◌≤◌, ◌⊎◌, ◌&&◌, inl, inr, Bool, true, false, List, [], ◌∷◌, nat_lt, length, map, get_or, refl, sym, ap, subst, ◌∙◌, arith}
+use Rattle.std.proofs.Common.{ℕ, ◌≡◌, ◌<◌, ◌≤◌, ◌⊎◌, inl, inr, true, false, List, [], ◌∷◌, nat_lt, length, map, refl, sym, ap, subst, ◌∙◌, arith}
 use Rattle.std.proofs.lemmas.Bool.{and_parts, ltb-true}
-use Rattle.fb_graph.specs.Parity.{is_in}
 use Rattle.fb_graph.specs.Problem.{Problem}
 use Rattle.fb_graph.specs.Covers.{AreRoles}
 use Rattle.fb_graph.specs.Limits.{is_real_in}
@@ -9,7 +8,7 @@ use Rattle.fb_plan.specs.Plans.{is_owned_in}
 use Rattle.fb_laws.specs.Measures.{IsLower}
 use Rattle.fb_laws.specs.PartBounds.{IsRealBelow, search_rank}
 use Rattle.fb_laws.specs.SearchLayers.{left_to_do}
-use Rattle.fb_laws.specs.Trees.{roles_of, minus_names, plus_names}
+use Rattle.fb_laws.specs.Trees.{roles_of}
 use Rattle.fb_laws.proofs.PartBounds.{search_rank_falls}
 use Rattle.fb_laws.proofs.SearchStates.{search_roles}
 use Rattle.fb_trees.proofs.Mapped.{plus_moved, minus_moved}

@@ -1,5 +1,5 @@
 -- A vertex that a plus node takes up keeps what every search keeps, and leaves less to do.
-use Rattle.std.proofs.Common.{ℕ, ◌≡◌, ◌==◌, ◌<◌, ◌%◌, ◌⊎◌, inl, inr, Bool, true, false, List, [], ◌∷◌, map, length, All, Option, Some, None, IsSome, is_some, refl, sym, ap, ◌∙◌, subst, if◌then◌else◌}
+use Rattle.std.proofs.Common.{ℕ, ◌≡◌, ◌==◌, ◌<◌, ◌%◌, ◌⊎◌, inl, inr, Bool, true, false, List, [], ◌∷◌, length, All, Option, Some, None, IsSome, is_some, refl, sym, ap, ◌∙◌, subst, if◌then◌else◌}
 use Rattle.std.proofs.lemmas.Bool.{false≢true, eqb-true}
 use Rattle.std.proofs.lemmas.List.Elements.{All-cons, All-nil, All-weaker}
 use Rattle.fb_graph.specs.Parity.{is_in}
@@ -14,7 +14,6 @@ use Rattle.fb_graph.specs.Moves.{MayTakeUp, taken_up}
 use Rattle.fb_graph.specs.Steps.{Roles}
 use Rattle.fb_graph.proofs.Among.{cover_among}
 use Rattle.fb_graph.proofs.ChangedNodes.{change, first_taller, kept_by}
-use Rattle.fb_graph.proofs.MappedNodes.{AreKept}
 use Rattle.fb_graph.proofs.Sets.{is_in-head}
 use Rattle.fb_graph.proofs.TallerNodes.{taller_alike, taller_covers}
 use Rattle.fb_laws.specs.Measures.{IsLower}

@@ -1,6 +1,6 @@
 -- A minus node's empty layer taken off keeps what every search keeps, and leaves less to do.
-use Rattle.std.proofs.Common.{ℕ, ◌≡◌, ◌==◌, ◌<◌, ◌⊎◌, inl, inr, Bool, true, false, List, map, length, Option, Some, None, refl, sym, ap, ◌∙◌, subst}
-use Rattle.std.proofs.lemmas.Bool.{false≢true, cases_Bool, eqb-true}
+use Rattle.std.proofs.Common.{ℕ, ◌≡◌, ◌==◌, ◌<◌, ◌⊎◌, inl, inr, Bool, true, false, List, length, Option, Some, None, refl, sym, ap, ◌∙◌, subst}
+use Rattle.std.proofs.lemmas.Bool.{false≢true, eqb-true}
 use Rattle.fb_graph.specs.Parity.{is_in}
 use Rattle.fb_graph.specs.Problem.{Problem, edge_at}
 use Rattle.fb_graph.specs.Covers.{is_over, passes}
@@ -10,11 +10,9 @@ use Rattle.fb_graph.proofs.ChangedNodes.{change}
 use Rattle.fb_graph.proofs.LoweredNests.{kept}
 use Rattle.fb_graph.proofs.TallerNodes.{taller_alike, taller_covers}
 use Rattle.fb_laws.specs.Measures.{IsLower}
-use Rattle.fb_laws.specs.NestBridges.{IsGivenUp}
 use Rattle.fb_laws.specs.SearchLayers.{left_to_do}
 use Rattle.fb_graph.specs.Alike.{AreAlike}
 use Rattle.fb_graph.specs.Steps.{Roles}
-use Rattle.fb_laws.specs.Trees.{minus_names, roles_of}
 use Rattle.fb_laws.proofs.LayeredSearches.{taller_covered}
 use Rattle.fb_laws.proofs.MoveBridges.{uncovered_back}
 use Rattle.fb_laws.proofs.StateMeasures.{uncovered_less}
@@ -22,7 +20,7 @@ use Rattle.fb_laws.proofs.StateMoves.{state_uncovered}
 use Rattle.fb_trees.proofs.Mapped.{minus_moved}
 use Rattle.fb_half.specs.Translations.{link_by}
 use Rattle.fb_obstacles.specs.Obstacles.{IsWatched}
-use Rattle.fb_search.specs.Progress.{GoesOn, to_do}
+use Rattle.fb_search.specs.Progress.{GoesOn}
 use Rattle.fb_search.specs.Searching.{IsSearching, SearchValue, problem_of, roles_in, state_at}
 use Rattle.fb_search.proofs.Relayered.{relayered_by, searching_relayered}
 use Rattle.fb_search.proofs.Runs.{roles_by_numbers}

@@ -1,5 +1,5 @@
 -- What becomes of a tree's links where a search ends: which nodes they match then, and which are forgotten.
-use Rattle.std.specs.Prelude.{ℕ, Bool, List, [], ◌∷◌, ◌++◌, map, Option, Some, None, if◌then◌else◌, ◌≡◌}
+use Rattle.std.specs.Prelude.{ℕ, List, [], ◌∷◌, ◌++◌, map, Option, Some, None, if◌then◌else◌, ◌≡◌}
 use Rattle.fb_graph.specs.Parity.{is_in}
 use Rattle.fb_laws.specs.Trees.{EntryOf, beside, path_to}
 use Rattle.fb_links.specs.declared.walk.Step.{Step}

@@ -7,7 +7,6 @@ use Rattle.fb_laws.specs.SearchLayers.{left_to_do}
 use Rattle.fb_laws.specs.Trees.{roles_of}
 use Rattle.fb_laws.specs.Works.{without}
 use Rattle.fb_half.specs.Parts.{PartValue}
-use Rattle.fb_trees.specs.Branches.{Grown}
 use Rattle.fb_trees.specs.Rooted.{bare}
 use Rattle.fb_obstacles.specs.Watched.{Watched}
 use Rattle.fb_search.specs.Searching.{SearchValue, problem_of, unmatched_in}

@@ -1,4 +1,3 @@
-use Rattle.std.proofs.Common.{◌≡◌}
 use Rattle.fb_search.proofs.EndSteps.{fresh_listed}
 use Rattle.fb_search.proofs.ending.add_matches.Goals as goal
 

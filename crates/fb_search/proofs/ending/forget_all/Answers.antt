@@ -1,4 +1,3 @@
-use Rattle.std.proofs.Common.{◌≡◌}
 use Rattle.fb_search.proofs.EndSteps.{live_still}
 use Rattle.fb_search.proofs.ending.forget_all.Goals as goal
 

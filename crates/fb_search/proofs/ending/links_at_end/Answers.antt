@@ -1,4 +1,4 @@
-use Rattle.std.proofs.Common.{◌≡◌, ◌++◌, ap, map, ◌∙◌}
+use Rattle.std.proofs.Common.{◌++◌, ap, map, ◌∙◌}
 use Rattle.fb_trees.specs.Branches.{entry_of}
 use Rattle.fb_search.proofs.EndedTrees.{links_read}
 use Rattle.fb_search.proofs.ending.links_at_end.Goals as goal

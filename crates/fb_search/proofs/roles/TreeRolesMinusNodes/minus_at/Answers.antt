@@ -1,4 +1,3 @@
-use Rattle.std.proofs.Common.{◌≡◌}
 use Rattle.fb_search.proofs.BranchPlaces.{minus_listed}
 use Rattle.fb_search.proofs.roles.TreeRolesMinusNodes.minus_at.Goals as goal
 

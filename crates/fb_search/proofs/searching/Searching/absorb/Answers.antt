@@ -1,4 +1,4 @@
-use Rattle.std.proofs.Common.{◌≡◌, ◌∙◌, ap, sym}
+use Rattle.std.proofs.Common.{◌∙◌, ap}
 use Rattle.fb_graph.specs.Limits.{IsWithinLimits}
 use Rattle.fb_half.specs.Values.{part_of}
 use Rattle.fb_search.specs.Searching.{SearchValue, problem_of}

@@ -1,4 +1,4 @@
-use Rattle.std.proofs.Common.{◌≡◌, ◌∙◌, ap, length, subst, sym}
+use Rattle.std.proofs.Common.{◌∙◌, ap, length, subst, sym}
 use Rattle.fb_graph.specs.Dual.{top_at}
 use Rattle.fb_graph.specs.Parity.{is_in}
 use Rattle.fb_half.specs.Parts.{IsPart, problem_in}

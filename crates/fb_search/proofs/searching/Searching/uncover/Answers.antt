@@ -1,4 +1,3 @@
-use Rattle.std.proofs.Common.{◌≡◌}
 use Rattle.fb_search.proofs.UncoveredLayers.{goes_on_lowered, searching_lowered}
 use Rattle.fb_search.proofs.searching.Searching.uncover.Goals as goal
 
