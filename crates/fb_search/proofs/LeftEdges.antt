@@ -54,12 +54,14 @@ watched_more p nodes edges i a b c lt before more =
     both false true x y = refl
     both false false x y = refl
 
-    by : (k : ℕ) → is_in c.edges k ≡ (if is_in (take i edges ++ get_or edges i 0 ∷ []) k then not (is_inner nodes (edge_at p.edges k)) else is_in a.edges k)
+    by : (k : ℕ) → is_in c.edges k
+        ≡ (if is_in (take i edges ++ get_or edges i 0 ∷ []) k then not (is_inner nodes (edge_at p.edges k)) else is_in a.edges k)
     by k =
         more.watched k
         ∙ ap (λ t. if (get_or edges i 0 == k) || false then not (is_inner nodes (edge_at p.edges k)) else t) (before.watched k)
         ∙ both (get_or edges i 0 == k) (is_in (take i edges) k) (not (is_inner nodes (edge_at p.edges k))) (is_in a.edges k)
-        ∙ sym (ap (λ t. if t then not (is_inner nodes (edge_at p.edges k)) else is_in a.edges k) (is_in_push (take i edges) (get_or edges i 0) k))
+        ∙ sym (ap (λ t. if t then not (is_inner nodes (edge_at p.edges k)) else is_in a.edges k)
+        (is_in_push (take i edges) (get_or edges i 0) k))
 
 pub watched_whole : (p : Problem) (nodes : List Node) (edges : List ℕ) (i : ℕ) (a b : Watched) → length edges ≤ i
     → WatchesOuter p nodes (take i edges) a b → WatchesOuter p nodes edges a b

@@ -29,13 +29,13 @@ is_one_node None n = false
 abbrev pub is_inner : List Node → Edge → Bool
 is_inner nodes e = is_one_node (cover_of nodes e.first) (cover_of nodes e.second)
 
--- Of these edges, those are watched whose ends aren't under one outer node; other edges are watched as before.
+-- Of these edges, those are watched whose ends aren't under one outer node; others are watched as before.
 pub record WatchesOuter (p : Problem) (nodes : List Node) (edges : List ℕ) (old new : Watched) : Type 0 where
   pub room : new.edge_count ≡ old.edge_count
   pub watched : (k : ℕ) → is_in new.edges k
       ≡ (if is_in edges k then not (is_inner nodes (edge_at p.edges k)) else is_in old.edges k)
 
--- Of the edges at the vertex, those are watched whose ends aren't under one outer node; other edges are watched as before.
+-- Of the edges at the vertex, those are watched whose ends aren't under one outer node; others are watched as before.
 pub record WatchesTaken (p : Problem) (nodes : List Node) (v : ℕ) (old new : Watched) : Type 0 where
   pub room : new.edge_count ≡ old.edge_count
   pub watched : (k : ℕ) → k < length p.edges → is_in new.edges k
