@@ -31,6 +31,7 @@ pub mod JoinLinks
 pub mod JoinMatchings
 pub mod JoinStates
 pub mod KeptWatches
+pub mod LeftEdges
 pub mod Linked
 pub mod LinkedSteps
 pub mod MadeLinks

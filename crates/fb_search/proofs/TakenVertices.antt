@@ -1,7 +1,7 @@
 -- A vertex that a plus node takes up keeps what every search keeps, and leaves less to do.
-use Rattle.std.proofs.Common.{ℕ, ◌≡◌, ◌==◌, ◌<◌, ◌%◌, ◌⊎◌, inl, inr, Bool, true, false, List, [], ◌∷◌, length, All, Option, Some, None, IsSome, is_some, refl, sym, ap, ◌∙◌, subst, if◌then◌else◌}
+use Rattle.std.proofs.Common.{ℕ, ◌≡◌, ◌==◌, ◌<◌, ◌%◌, ◌⊎◌, inl, inr, Bool, true, false, List, length, All, Option, Some, None, IsSome, is_some, refl, sym, ap, ◌∙◌, subst, if◌then◌else◌}
 use Rattle.std.proofs.lemmas.Bool.{false≢true, eqb-true}
-use Rattle.std.proofs.lemmas.List.Elements.{All-cons, All-nil, All-weaker}
+use Rattle.std.proofs.lemmas.List.Elements.{All-weaker}
 use Rattle.fb_graph.specs.Parity.{is_in}
 use Rattle.fb_graph.specs.Problem.{Problem, edge_at, touches}
 use Rattle.fb_graph.specs.Components.{Leads}
@@ -14,7 +14,6 @@ use Rattle.fb_graph.specs.Moves.{MayTakeUp, taken_up}
 use Rattle.fb_graph.specs.Steps.{Roles}
 use Rattle.fb_graph.proofs.Among.{cover_among}
 use Rattle.fb_graph.proofs.ChangedNodes.{change, first_taller, kept_by}
-use Rattle.fb_graph.proofs.Sets.{is_in-head}
 use Rattle.fb_graph.proofs.TallerNodes.{taller_alike, taller_covers}
 use Rattle.fb_laws.specs.Measures.{IsLower}
 use Rattle.fb_laws.specs.SearchLayers.{left_to_do}
@@ -28,8 +27,9 @@ use Rattle.fb_obstacles.specs.Obstacles.{IsAbsorb, IsWatched}
 use Rattle.fb_obstacles.specs.Watched.{Watched}
 use Rattle.fb_search.specs.Progress.{GoesOn}
 use Rattle.fb_search.specs.Searching.{IsSearching, SearchValue, problem_of, roles_in, state_at}
-use Rattle.fb_search.specs.Watching.{Watches}
+use Rattle.fb_search.specs.Watching.{WatchesTaken}
 use Rattle.fb_search.proofs.BegunSearches.{touches_first, touches_second}
+use Rattle.fb_search.proofs.LeftEdges.{watched_at, watched_elsewhere}
 use Rattle.fb_search.proofs.Relayered.{relayered_by, searching_relayered}
 use Rattle.fb_search.proofs.Runs.{roles_by_numbers}
 use Rattle.fb_search.proofs.RolesInTree.{plus_in_tree}
@@ -59,9 +59,9 @@ plus_over test nodes u over = by (cover_of nodes u) refl over
 pub all_even : (p : Problem) → IsWithinLimits p → AreEven p
 all_even p limits = All-weaker (IsEdge p.vertices) (λ e. e.weight % 2 ≡ 0) (λ e is. is.even) p.edges limits.each_edge
 
--- the edges at the vertex come under watch
+-- the edges at the vertex come under watch, but for those within the node
 module _ (p : Problem) (roles : Roles) (nodes : List Node) (name v : ℕ) (limits : IsWithinLimits p) (old new : Watched)
-    (watched : Watches p (v ∷ []) old new) (watch : IsWatched p roles nodes old.edges) where
+    (watched : WatchesTaken p (taken_up name v nodes) v old new) (watch : IsWatched p roles nodes old.edges) where
   near_taken : (k : ℕ) → k < length p.edges
       → (is_over roles.is_plus (taken_up name v nodes) (edge_at p.edges k).first ≡ true)
       ⊎ (is_over roles.is_plus (taken_up name v nodes) (edge_at p.edges k).second ≡ true)
@@ -71,12 +71,15 @@ module _ (p : Problem) (roles : Roles) (nodes : List Node) (name v : ℕ) (limit
     where
       at_v : (u : ℕ) → (v == u) ≡ true → touches u (edge_at p.edges k) ≡ true → is_in new.edges k ≡ true
       at_v u same touch =
-          watched.near v k (is_in-head v []) less (ap (λ x. touches x (edge_at p.edges k)) (eqb-true v u same) ∙ touch)
+          watched_at p (taken_up name v nodes) v old new watched k less
+          (ap (λ x. touches x (edge_at p.edges k)) (eqb-true v u same) ∙ touch) not_one
 
       by : (a b : Bool) → (v == (edge_at p.edges k).first) ≡ a → (v == (edge_at p.edges k).second) ≡ b → is_in new.edges k ≡ true
       by true b ea eb = at_v (edge_at p.edges k).first ea (touches_first p k limits less)
       by false true ea eb = at_v (edge_at p.edges k).second eb (touches_second p k limits less)
-      by false false ea eb = watched.kept k (watch.near k less (before over) one)
+      by false false ea eb =
+          watched_elsewhere p (taken_up name v nodes) v old new watched k less (rw (ea, eb) refl)
+          ∙ watch.near k less (before over) one
         where
           before : (is_over roles.is_plus (taken_up name v nodes) (edge_at p.edges k).first ≡ true)
               ⊎ (is_over roles.is_plus (taken_up name v nodes) (edge_at p.edges k).second ≡ true)
@@ -110,7 +113,7 @@ may_take w k u v name is covered = record {
 
 pub searching_raised : (w : SearchValue) (k u v name : ℕ) (new : Watched) → IsSearching w → IsWithinLimits (problem_of w)
     → MayTakeUp (problem_of w) w.part.nodes name k u v → All (λ j. j < new.edge_count) new.edges
-    → Watches (problem_of w) (v ∷ []) w.watched new → IsSearching (raised name v new w)
+    → WatchesTaken (problem_of w) (taken_up name v w.part.nodes) v w.watched new → IsSearching (raised name v new w)
 searching_raised w k u v name new are limits may within watched =
     searching_relayered w (change name (taller v)) new are
     (kept_by name (taller v) w.part.nodes (λ n. refl) (λ n. refl) (λ n a e. first_taller v n) outer)
@@ -182,12 +185,8 @@ module _ (w : SearchValue) (k : ℕ) (a : Absorbs w k) (edges : List Edge) (same
   end_taken taken is = is ∙ (ap (λ es. outer_end w.part.nodes (edge_at es k)) same ∙ a.outer)
 
 pub taken_below : (w : SearchValue) (k : ℕ) (a : Absorbs w k) (taken vertices : ℕ) → IsWithinLimits (problem_of w)
-    → taken ≡ a.to → vertices ≡ (problem_of w).vertices → All (λ v. v < vertices) (taken ∷ [])
-taken_below w k a taken vertices limits at same =
-    All-cons (λ v. v < vertices) taken [] (rw (at, same) (limits.real_below a.to a.may.real)) (All-nil (λ v. v < vertices))
-
-pub watches_taken : (p : Problem) (taken v : ℕ) (old new : Watched) → taken ≡ v → Watches p (taken ∷ []) old new → Watches p (v ∷ []) old new
-watches_taken p taken v old new same watches = subst (λ x. Watches p (x ∷ []) old new) same watches
+    → taken ≡ a.to → vertices ≡ (problem_of w).vertices → taken < vertices
+taken_below w k a taken vertices limits at same = rw (at, same) (limits.real_below a.to a.may.real)
 
 pub absorbs_some : (w : SearchValue) (k : ℕ) → ((u v : ℕ) × IsAbsorb (problem_of w) (roles_in w) w.part.nodes k u v) → Absorbs w k
 absorbs_some w k (u, v, is) = absorbs w k u v is

@@ -1,7 +1,9 @@
 -- Edges that come under watch.
-use Rattle.std.specs.Prelude.{ℕ, ◌≡◌, ◌<◌, true, List, length}
+use Rattle.std.specs.Prelude.{ℕ, ◌≡◌, ◌==◌, ◌<◌, Bool, true, false, not, List, length, Option, Some, None, if◌then◌else◌}
+use Rattle.fb_graph.specs.declared.parts.Edge.{Edge}
 use Rattle.fb_graph.specs.Parity.{is_in}
 use Rattle.fb_graph.specs.Problem.{Problem, edge_at, touches}
+use Rattle.fb_graph.specs.Dual.{Node, cover_of}
 use Rattle.fb_obstacles.specs.Watched.{Watched}
 
 -- The edges are watched, and all that were watched before.
@@ -16,3 +18,25 @@ pub record Watches (p : Problem) (vertices : List ℕ) (old new : Watched) : Typ
   pub kept : (k : ℕ) → is_in old.edges k ≡ true → is_in new.edges k ≡ true
   pub near : (v k : ℕ) → is_in vertices v ≡ true → k < length p.edges → touches v (edge_at p.edges k) ≡ true
       → is_in new.edges k ≡ true
+
+-- whether both are the name of one node
+abbrev pub is_one_node : Option ℕ → Option ℕ → Bool
+is_one_node (Some m) (Some n) = m == n
+is_one_node (Some m) None = false
+is_one_node None n = false
+
+-- whether one outer node holds both ends of the edge
+abbrev pub is_inner : List Node → Edge → Bool
+is_inner nodes e = is_one_node (cover_of nodes e.first) (cover_of nodes e.second)
+
+-- Of these edges, those are watched whose ends aren't under one outer node; others are watched as before.
+pub record WatchesOuter (p : Problem) (nodes : List Node) (edges : List ℕ) (old new : Watched) : Type 0 where
+  pub room : new.edge_count ≡ old.edge_count
+  pub watched : (k : ℕ) → is_in new.edges k
+      ≡ (if is_in edges k then not (is_inner nodes (edge_at p.edges k)) else is_in old.edges k)
+
+-- Of the edges at the vertex, those are watched whose ends aren't under one outer node; others are watched as before.
+pub record WatchesTaken (p : Problem) (nodes : List Node) (v : ℕ) (old new : Watched) : Type 0 where
+  pub room : new.edge_count ≡ old.edge_count
+  pub watched : (k : ℕ) → k < length p.edges → is_in new.edges k
+      ≡ (if touches v (edge_at p.edges k) then not (is_inner nodes (edge_at p.edges k)) else is_in old.edges k)

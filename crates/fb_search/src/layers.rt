@@ -7,7 +7,7 @@ ghost use Rattle.fb_search.specs.Searching.{problem_of, roles_in};
 ghost use Rattle.fb_search.specs.Progress.{GoesOn};
 
 use crate::searching::Searching;
-use crate::watched::watch_vertices;
+use crate::watched::watch_taken;
 use fb_graph::Scope;
 use fb_plan::NodeScope;
 use fb_regions::{NodeId, Regions};
@@ -26,7 +26,8 @@ fn free_end<S: Scope>(scope: &S, regions: &Regions<S>, edge: u32) -> u32
 }
 
 impl<'a> Searching<'a> {
-    /// The plus node takes up the vertex to which the tight edge leads. The edges of the vertex are watched from now on.
+    /// The plus node takes up the vertex to which the tight edge leads. The edges of the vertex are watched from now on,
+    /// but for those that lead to other vertices of the node.
     pub fn absorb(self, edge: u32) -> Searching<'a>
         requires { Obstructs (problem_of self) (roles_in self) self.part.nodes (Absorb edge) }
         ensures { GoesOn self.entry result }
@@ -44,7 +45,7 @@ impl<'a> Searching<'a> {
         scope.limits();
         let taken = free_end(&scope, &parts.regions, edge);
         parts.regions.absorb(edge);
-        watch_vertices(&mut watch, &scope, &[taken]);
+        watch_taken(&mut watch, &scope, &parts.regions, taken);
         watch.keeps();
         Searching { parts, tree, watch }
     }

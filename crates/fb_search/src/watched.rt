@@ -1,6 +1,7 @@
-ghost use Rattle.std.specs.Prelude.{◌≡◌, ◌<◌, true, All, OnOk, length};
+ghost use Rattle.std.specs.Prelude.{◌≡◌, ◌<◌, true, [], ◌∷◌, All, OnOk, length};
+ghost use Rattle.fb_graph.specs.Problem.{edge_at};
 ghost use Rattle.fb_graph.specs.Dual.{is_live, top_at};
-ghost use Rattle.fb_search.specs.Watching.{Enters, Watches};
+ghost use Rattle.fb_search.specs.Watching.{Enters, Watches, WatchesOuter, WatchesTaken, is_inner, is_one_node};
 
 use fb_graph::{NoMemory, Scope};
 use fb_obstacles::Watch;
@@ -18,7 +19,7 @@ fn enter_all(watch: &mut Watch, edges: &[u32])
 }
 
 /// Watches the edges at these vertices from now on.
-pub fn watch_vertices<S: Scope>(watch: &mut Watch, scope: &S, vertices: &[u32])
+fn watch_vertices<S: Scope>(watch: &mut Watch, scope: &S, vertices: &[u32])
     requires room { watch.old.edge_count ≡ length (S.problem scope.now).edges }
     requires below { All (λ v. v < (S.problem scope.now).vertices) vertices.now }
     ensures { Watches (S.problem scope.now) vertices.now watch.old watch.new }
@@ -46,4 +47,48 @@ pub fn watch_node<S: Scope>(
     let vertices = regions.vertices(alloc, node)?;
     watch_vertices(watch, scope, vertices.as_slice());
     Ok(())
+}
+
+/// Whether these are one node.
+fn is_one_node(first: Option<NodeId>, second: Option<NodeId>) -> bool
+    ensures { result ≡ is_one_node first second }
+{
+    match (first, second) {
+        (Some(m), Some(n)) => m == n,
+        _ => false,
+    }
+}
+
+/// Whether one outer node holds both ends of the edge.
+fn is_inner<S: Scope>(scope: &S, regions: &Regions<S>, edge: u32) -> bool
+    requires { edge < length (S.problem scope.now).edges }
+    ensures { result ≡ is_inner regions.now.nodes (edge_at (S.problem scope.now).edges edge) }
+{
+    let (first, second) = scope.ends(edge);
+    is_one_node(regions.cover_of(first), regions.cover_of(second))
+}
+
+/// Watches the edge, unless one outer node holds both its ends: then it is watched no longer.
+fn watch_outer<S: Scope>(watch: &mut Watch, scope: &S, regions: &Regions<S>, edge: u32)
+    requires room { watch.old.edge_count ≡ length (S.problem scope.now).edges }
+    requires below { edge < length (S.problem scope.now).edges }
+    ensures { WatchesOuter (S.problem scope.now) regions.now.nodes (edge ∷ []) watch.old watch.new }
+{
+    if is_inner(scope, regions, edge) {
+        watch.leave(edge);
+    } else {
+        watch.enter(edge);
+    }
+}
+
+/// Watches the edges at a vertex that an outer node has taken up. Those that lead to another vertex of that node are
+/// watched no longer.
+pub fn watch_taken<S: Scope>(watch: &mut Watch, scope: &S, regions: &Regions<S>, v: u32)
+    requires room { watch.old.edge_count ≡ length (S.problem scope.now).edges }
+    requires below { v < (S.problem scope.now).vertices }
+    ensures { WatchesTaken (S.problem scope.now) regions.now.nodes v watch.old watch.new }
+{
+    for edge in scope.edges_at(v) {
+        watch_outer(watch, scope, regions, *edge);
+    }
 }

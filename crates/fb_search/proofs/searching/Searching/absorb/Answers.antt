@@ -1,9 +1,11 @@
 use Rattle.std.proofs.Common.{◌∙◌, ap}
 use Rattle.fb_graph.specs.Limits.{IsWithinLimits}
+use Rattle.fb_graph.specs.Moves.{taken_up}
 use Rattle.fb_half.specs.Values.{part_of}
 use Rattle.fb_search.specs.Searching.{SearchValue, problem_of}
-use Rattle.fb_search.proofs.BegunSearches.{kept_limits, kept_watches}
-use Rattle.fb_search.proofs.TakenVertices.{Absorbs, absorbs_some, end_taken, goes_on_raised, inner_held, nodes_taken, outer_free, searching_raised, taken_below, watches_taken}
+use Rattle.fb_search.proofs.BegunSearches.{kept_limits}
+use Rattle.fb_search.proofs.LeftEdges.{kept_taken}
+use Rattle.fb_search.proofs.TakenVertices.{Absorbs, absorbs_some, end_taken, goes_on_raised, inner_held, nodes_taken, outer_free, searching_raised, taken_below}
 use Rattle.fb_search.proofs.searching.Searching.absorb.Goals as goal
 
 pub absorb-requires-clause-inner : goal.absorb-requires-clause-inner
@@ -18,8 +20,8 @@ absorb-requires-clause-outer c =
     let a : Absorbs w c.args.edge = absorbs_some w c.args.edge (rw (← c.self.view_is) at c.requires) in
     outer_free w c.args.edge a _ (ap (λ g. g.edges) c.self.invariant.0.graph)
 
-pub watch_vertices-requires-clause-below : goal.watch_vertices-requires-clause-below
-watch_vertices-requires-clause-below c =
+pub watch_taken-requires-clause-below : goal.watch_taken-requires-clause-below
+watch_taken-requires-clause-below c =
     let w : SearchValue = record { part = part_of c.self.inside.parts; tree = c.self.inside.tree; watched = c.self.inside.watch } in
     let a : Absorbs w c.args.edge = absorbs_some w c.args.edge (rw (← c.self.view_is) at c.requires) in
     let graph = c.graph.ensures ∙ ap (λ j. j.graph) c.job.ensures in
@@ -42,10 +44,11 @@ invariant_of-result c =
     let at = end_taken w c.args.edge a _ (ap (λ g. g.edges) graph) c.free_end-taken.result c.free_end-taken.ensures in
     rw (c.absorb.ensures, nodes_taken w c.args.edge a _ (ap (λ g. g.edges) scope.graph)) (
       record { graph = scope.graph; plan = scope.plan; node = scope.node },
-      searching_raised w c.args.edge a.from a.to a.name c.watch_vertices.new.watch c.self.invariant.1 limits a.may
+      searching_raised w c.args.edge a.from a.to a.name c.watch_taken.new.watch c.self.invariant.1 limits a.may
           c.keeps.ensures.within
-          (watches_taken (problem_of w) c.free_end-taken.result a.to w.watched c.watch_vertices.new.watch at
-          (kept_watches w.part c.graph.result.now c.plan.result.now c.node.result _ w.watched c.watch_vertices.new.watch graph c.watch_vertices.ensures)),
+          (kept_taken w.part c.graph.result.now c.plan.result.now c.node.result c.free_end-taken.result a.to _ _
+          (taken_up a.name a.to w.part.nodes) w.watched c.watch_taken.new.watch graph at (ap (λ r. r.nodes) c.absorb.ensures)
+          (nodes_taken w c.args.edge a _ (ap (λ g. g.edges) scope.graph)) c.watch_taken.ensures),
     )
 
 pub returns : goal.returns
@@ -58,4 +61,4 @@ returns c =
     let limits : IsWithinLimits (problem_of w) =
     kept_limits w.part c.graph.result.now c.plan.result.now c.node.result graph plan c.node.ensures c.limits.ensures in
     rw (← c.self.view_is, c.absorb.ensures, nodes_taken w c.args.edge a _ (ap (λ g. g.edges) scope.graph))
-    (goes_on_raised w c.args.edge a.from a.to a.name c.watch_vertices.new.watch c.self.invariant.1 limits a.may a.plus)
+    (goes_on_raised w c.args.edge a.from a.to a.name c.watch_taken.new.watch c.self.invariant.1 limits a.may a.plus)

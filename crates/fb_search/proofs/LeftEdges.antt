@@ -1,0 +1,104 @@
+-- The watch after a node takes up a vertex: edges between two vertices of the node leave it.
+use Rattle.std.proofs.Common.{ℕ, ◌≡◌, ◌==◌, ◌+◌, ◌<◌, ◌≤◌, ◌||◌, Bool, true, false, not, List, [], ◌∷◌, ◌++◌, filter, get_or, length, take, Option, Some, None, refl, sym, ap, ◌∙◌, subst, if◌then◌else◌}
+use Rattle.std.specs.List.{range_with_len}
+use Rattle.std.proofs.lemmas.Bool.{false≢true, eqb-true}
+use Rattle.std.proofs.lemmas.List.{take_all, take_more}
+use Rattle.fb_graph.specs.Parity.{is_in}
+use Rattle.fb_graph.specs.Problem.{Problem, edge_at, touches}
+use Rattle.fb_graph.specs.Limits.{DecodingGraph}
+use Rattle.fb_graph.specs.Dual.{AreUnderOne, Node, cover_of}
+use Rattle.fb_graph.specs.declared.parts.Edge.{Edge}
+use Rattle.fb_graph.proofs.Members.{is_in_push}
+use Rattle.fb_graph.proofs.Ranges.{is_in-filter-range}
+use Rattle.fb_half.specs.Parts.{PartValue, problem_in}
+use Rattle.fb_obstacles.specs.Watched.{Watched}
+use Rattle.fb_plan.specs.Plans.{PlanTree, problem_at}
+use Rattle.fb_search.specs.Watching.{WatchesOuter, WatchesTaken, is_inner, is_one_node}
+
+-- two ends are under one node only where one name is over both
+same_node : (a b : Option ℕ) → is_one_node a b ≡ true → (name : ℕ) × (a ≡ Some name) × (b ≡ Some name)
+same_node (Some m) (Some n) same = (m, refl, ap (λ x. Some x) (sym (eqb-true m n same)))
+same_node (Some m) None same = absurd (false≢true same)
+same_node None b same = absurd (false≢true same)
+
+-- an edge whose ends aren't under one node is not inner
+pub outer_edge : (nodes : List Node) (e : Edge) → ¬ AreUnderOne nodes e.first e.second → is_inner nodes e ≡ false
+outer_edge nodes e apart = by (is_inner nodes e) refl
+  where
+    by : (b : Bool) → is_inner nodes e ≡ b → is_inner nodes e ≡ false
+    by true inner = absurd (apart (same_node (cover_of nodes e.first) (cover_of nodes e.second) inner))
+    by false outer = outer
+
+if_true : (b x y : Bool) → b ≡ true → (if b then x else y) ≡ x
+if_true b x y e = ap (λ t. if t then x else y) e
+
+if_false : (b x y : Bool) → b ≡ false → (if b then x else y) ≡ y
+if_false b x y e = ap (λ t. if t then x else y) e
+
+-- edge after edge
+pub watched_first : (p : Problem) (nodes : List Node) (w : Watched) → WatchesOuter p nodes [] w w
+watched_first p nodes w = record { room = refl; watched = λ k. refl }
+
+pub watched_more : (p : Problem) (nodes : List Node) (edges : List ℕ) (i : ℕ) (a b c : Watched) → i < length edges
+    → WatchesOuter p nodes (take i edges) a b → WatchesOuter p nodes (get_or edges i 0 ∷ []) b c
+    → WatchesOuter p nodes (take (i + 1) edges) a c
+watched_more p nodes edges i a b c lt before more =
+    subst (λ l. WatchesOuter p nodes l a c) (sym (take_more edges i 0 lt)) (record {
+      room = more.room ∙ before.room;
+      watched = by;
+    })
+  where
+    both : (e h x y : Bool) → (if e || false then x else (if h then x else y)) ≡ (if h || e then x else y)
+    both true true x y = refl
+    both true false x y = refl
+    both false true x y = refl
+    both false false x y = refl
+
+    by : (k : ℕ) → is_in c.edges k
+        ≡ (if is_in (take i edges ++ get_or edges i 0 ∷ []) k then not (is_inner nodes (edge_at p.edges k)) else is_in a.edges k)
+    by k =
+        more.watched k
+        ∙ ap (λ t. if (get_or edges i 0 == k) || false then not (is_inner nodes (edge_at p.edges k)) else t) (before.watched k)
+        ∙ both (get_or edges i 0 == k) (is_in (take i edges) k) (not (is_inner nodes (edge_at p.edges k))) (is_in a.edges k)
+        ∙ sym (ap (λ t. if t then not (is_inner nodes (edge_at p.edges k)) else is_in a.edges k)
+        (is_in_push (take i edges) (get_or edges i 0) k))
+
+pub watched_whole : (p : Problem) (nodes : List Node) (edges : List ℕ) (i : ℕ) (a b : Watched) → length edges ≤ i
+    → WatchesOuter p nodes (take i edges) a b → WatchesOuter p nodes edges a b
+watched_whole p nodes edges i a b all outer = subst (λ l. WatchesOuter p nodes l a b) (take_all i edges all) outer
+
+-- the edges at a vertex
+pub taken_watched : (p : Problem) (nodes : List Node) (v : ℕ) (edges : List ℕ) (old new : Watched)
+    → edges ≡ filter (λ k. touches v (edge_at p.edges k)) (range_with_len 0 (length p.edges))
+    → WatchesOuter p nodes edges old new → WatchesTaken p nodes v old new
+taken_watched p nodes v edges old new e outer = record {
+  room = outer.room;
+  watched = λ k less.
+      outer.watched k
+      ∙ ap (λ t. if t then not (is_inner nodes (edge_at p.edges k)) else is_in old.edges k)
+      (ap (λ l. is_in l k) e ∙ is_in-filter-range (λ j. touches v (edge_at p.edges j)) (length p.edges) k less);
+}
+
+module _ (p : Problem) (nodes : List Node) (v : ℕ) (old new : Watched) (taken : WatchesTaken p nodes v old new) (k : ℕ)
+    (less : k < length p.edges) where
+  -- at the vertex all edges are watched but the inner ones
+  pub watched_at : touches v (edge_at p.edges k) ≡ true
+      → ¬ AreUnderOne nodes (edge_at p.edges k).first (edge_at p.edges k).second → is_in new.edges k ≡ true
+  watched_at at apart =
+      taken.watched k less
+      ∙ if_true (touches v (edge_at p.edges k)) (not (is_inner nodes (edge_at p.edges k))) (is_in old.edges k) at
+      ∙ ap (λ b. not b) (outer_edge nodes (edge_at p.edges k) apart)
+
+  -- elsewhere the same edges are watched as before
+  pub watched_elsewhere : touches v (edge_at p.edges k) ≡ false → is_in new.edges k ≡ is_in old.edges k
+  watched_elsewhere away =
+      taken.watched k less
+      ∙ if_false (touches v (edge_at p.edges k)) (not (is_inner nodes (edge_at p.edges k))) (is_in old.edges k) away
+
+-- the same by the problem of the part, though the scope of its node tells no defects
+pub kept_taken : (part : PartValue) (g : DecodingGraph) (t : PlanTree) (n taken v : ℕ) (now later nodes : List Node)
+    (old new : Watched) → g ≡ part.job.graph → taken ≡ v → now ≡ later → later ≡ nodes
+    → WatchesTaken (problem_at g t n []) now taken old new → WatchesTaken (problem_in part) nodes v old new
+kept_taken part g t n taken v now later nodes old new eg at same is watches =
+    let w : WatchesTaken (problem_at part.job.graph t n []) nodes v old new = rw (← eg, ← at, ← is, ← same) watches in
+    record { room = w.room; watched = w.watched }
