@@ -1,5 +1,5 @@
 -- A search that has ended leaves a part.
-use Rattle.std.proofs.Common.{ℕ, ◌≡◌, ◌==◌, ◌<◌, ◌⊎◌, inl, inr, true, not, length, List, [], ◌∷◌, ◌++◌, cond, map, Option, None, unwrap_or, refl, sym, ap, subst, ◌∙◌, append_assoc}
+use Rattle.std.proofs.Common.{ℕ, ◌≡◌, ◌==◌, ◌+◌, ◌<◌, ◌≤◌, ◌⊎◌, inl, inr, true, not, length, List, [], ◌∷◌, ◌++◌, cond, map, Option, None, unwrap_or, refl, sym, ap, subst, ◌∙◌, append_assoc}
 use Rattle.std.specs.List.Sorted.{IsPermutation}
 use Rattle.std.proofs.lemmas.Bool.{and_from, eqb-true, false≢true, ne_eqb, or_cases}
 use Rattle.std.proofs.lemmas.List.{map-append}
@@ -204,11 +204,12 @@ matches_after w name new unmatched kept out are is =
 -- The whole part, given what the law says of the state.
 pub ended_part : (w : SearchValue) (name : ℕ) (new : Table) (unmatched named : List ℕ) (kept : List Match) (out : Match)
     (are : IsSearching w) (is : IsEndedBy w name new unmatched kept out) → IsPermutation named unmatched
+    → length w.part.matching.unmatched ≤ length unmatched + 2
     → IsEnded (problem_of w) (state_at w are.state.0)
     (ended name (link_of is.walk) (map (link_by w.part.links) (match_links kept)) named (state_at w are.state.0))
     → IsPart (part_after w name new unmatched kept out)
     × IsSearched w.tree.root w.part (part_after w name new unmatched kept out)
-ended_part w name new unmatched named kept out are is moved law = (
+ended_part w name new unmatched named kept out are is moved few law = (
   record {
     job = are.job;
     slot = are.slot;
@@ -226,6 +227,7 @@ ended_part w name new unmatched named kept out are is moved law = (
     part = record { job = refl; slot = refl; node = refl };
     others = λ n within. others n (sym (same_permuted named unmatched moved n) ∙ within);
     fewer = subst (λ n. n < length w.part.matching.unmatched) (sym (length_permutation named unmatched moved)) law.fewer;
+    few = few;
   },
 )
   where

@@ -23,7 +23,7 @@ use Rattle.fb_search.specs.Progress.{IsSearched}
 use Rattle.fb_search.proofs.EndedCases.{links_counted, taken_at_boundary, taken_with}
 use Rattle.fb_search.proofs.EndedLinks.{Table}
 use Rattle.fb_search.proofs.EndedParts.{IsEndedBy, ended_part, part_after}
-use Rattle.fb_search.proofs.TakenNames.{without_taken}
+use Rattle.fb_search.proofs.TakenNames.{one_taken, two_taken, without_taken}
 
 -- what the calls did to the links: one is made, and the tree's that match no node are forgotten
 pub record AreRelinked (w : SearchValue) (name link : ℕ) (walk : List Step) (new : Table) : Type 0 where
@@ -54,6 +54,7 @@ ended_at_boundary w name link v walk new unmatched are linked leaves boundary mo
     ended_part w name new unmatched (without w.tree.root w.part.matching.unmatched) w.part.matching.matches
     (boundary_match link name) are by
     (without_taken w.tree.root w.part.matching.unmatched unmatched are.state.1.names.distinct moved)
+    (one_taken w.tree.root w.part.matching.unmatched unmatched moved)
     (state_ended (problem_of w) (state_at w are.state.0) name (link_of walk) v
     (record { plus = plus_in w name linked.plus; tight = linked.tight }) leaves boundary are.state.1)
   where
@@ -83,6 +84,7 @@ ended_with w name other link walk new between unmatched are linked connects unpa
     (met_match link name other) are by
     (without_taken w.tree.root (without other names) unmatched (distinct-filter (λ n. not (n == other)) names distinct)
     (IsPermutation-trans _ _ _ (without_taken other names between distinct first) second))
+    (two_taken other w.tree.root names between unmatched first second)
     (state_met (problem_of w) (state_at w are.state.0) name other (link_of walk)
     (record { plus = plus_in w name linked.plus; tight = linked.tight }) connects unpaired differs are.state.1)
   where

@@ -69,6 +69,7 @@ went_by w k (Ended part watched) ends = record {
     part = record { job = ends.searched.part.job; slot = ends.searched.part.slot; node = ends.searched.part.node };
     others = ends.searched.others;
     fewer = ends.searched.fewer;
+    few = ends.searched.few;
   };
   room = ends.room;
 }

@@ -31,7 +31,7 @@ use Rattle.fb_search.proofs.EndedNames.{ended_distinct}
 use Rattle.fb_search.proofs.EndedParts.{ended_part, others_kept, part_after}
 use Rattle.fb_search.proofs.EndedWays.{met_match}
 use Rattle.fb_search.proofs.MetMatches.{lone_leaves, names_taken}
-use Rattle.fb_search.proofs.TakenNames.{without_taken}
+use Rattle.fb_search.proofs.TakenNames.{one_taken, without_taken}
 use Rattle.fb_search.proofs.TreeEnds.{tree_hung}
 
 -- a link is forgotten before others
@@ -163,6 +163,7 @@ module _ (w : SearchValue) (met : Met) (now : SearchValue) (h : HasMet w met now
           leads = h.walk_is.connects;
         })
         (without_taken w.tree.root w.part.matching.unmatched rest.unmatched h.was.state.1.names.distinct root_taken)
+        (one_taken w.tree.root w.part.matching.unmatched rest.unmatched root_taken)
         (state_released (problem_of w) (state_at w h.was.state.0) met.plus met.other (link_of h.walk)
         (link_by w.part.links met.taken.link) (map (link_by w.part.links) (match_links kept)) b
         (record {

@@ -116,4 +116,5 @@ ends root room work after before begun searched = record {
   };
   others = λ n h. sym (begun.others n) ∙ searched.others n h;
   fewer = rw (← begun.count) searched.fewer;
+  few = rw (← begun.count) searched.few;
 }

@@ -1,8 +1,8 @@
 -- Names taken off a list: what stays is the same by the law's filter and in the code's order.
-use Rattle.std.proofs.Common.{ℕ, ◌≡◌, ◌==◌, ◌||◌, ◌&&◌, ◌⊎◌, inl, inr, Bool, not, true, false, List, [], ◌∷◌, ◌++◌, refl, sym, ap, subst, ◌∙◌}
+use Rattle.std.proofs.Common.{ℕ, ◌≡◌, ◌==◌, ◌+◌, ◌≤◌, ◌||◌, ◌&&◌, ◌⊎◌, inl, inr, Bool, not, true, false, List, [], ◌∷◌, ◌++◌, length, refl, sym, ap, subst, ◌∙◌, arith}
 use Rattle.std.specs.List.Sorted.{IsPermutation}
 use Rattle.std.proofs.lemmas.Bool.{cases_eq, eq-eqb, false≢true, ne_eqb}
-use Rattle.std.proofs.lemmas.List.Sorted.{IsPermutation-cons, IsPermutation-middle, IsPermutation-refl, IsPermutation-sym, IsPermutation-trans}
+use Rattle.std.proofs.lemmas.List.Sorted.{IsPermutation-cons, IsPermutation-middle, IsPermutation-refl, IsPermutation-sym, IsPermutation-trans, length_permutation}
 use Rattle.fb_graph.specs.Parity.{is_in}
 use Rattle.fb_graph.specs.Certificate.{AreDistinct}
 use Rattle.fb_graph.proofs.Sets.{distinct-filter, is_in-cases, is_in-filter, is_in-head}
@@ -63,3 +63,12 @@ without_taken name names rest distinct moved =
         ap (λ t. is_in names v && not t) (ne_eqb v name ne)
         ∙ (and_true (is_in names v)
         ∙ (sym (same_permuted names (name ∷ rest) moved v) ∙ ap (λ t. t || is_in rest v) (ne_eqb name v (λ e. ne (sym e)))))
+
+-- at most two elements taken off a list
+pub one_taken : (name : ℕ) (names rest : List ℕ) → IsPermutation names (name ∷ rest) → length names ≤ length rest + 2
+one_taken name names rest moved = omega (arith, length_permutation names (name ∷ rest) moved)
+
+pub two_taken : (first second : ℕ) (names between rest : List ℕ) → IsPermutation names (first ∷ between)
+    → IsPermutation between (second ∷ rest) → length names ≤ length rest + 2
+two_taken first second names between rest one two =
+    omega (arith, length_permutation names (first ∷ between) one, length_permutation between (second ∷ rest) two)

@@ -1,5 +1,5 @@
 -- What the steps of a search promise: all else stays, and less is left to do.
-use Rattle.std.specs.Prelude.{ℕ, ◌≡◌, ◌<◌, Bool, true, false, List, length}
+use Rattle.std.specs.Prelude.{ℕ, ◌≡◌, ◌+◌, ◌<◌, ◌≤◌, Bool, true, false, List, length}
 use Rattle.fb_graph.specs.Parity.{is_in}
 use Rattle.fb_graph.specs.Steps.{stepped}
 use Rattle.fb_laws.specs.Measures.{IsLower}
@@ -43,11 +43,12 @@ pub record HasAdvanced (before after : SearchValue) : Type 0 where
 abbrev pub stepped_by : ℕ → SearchValue → SearchValue
 stepped_by k w = record w { part = record w.part { nodes = stepped (roles_of w.tree.root w.tree.branches) k w.part.nodes } }
 
--- The root is matched, and the unmatched nodes are some of those before.
+-- The root is matched, with at most one other unmatched node. The unmatched nodes are some of those before.
 pub record IsSearched (root : ℕ) (before after : PartValue) : Type 0 where
   pub part : IsSamePart before after
   pub others : (n : ℕ) → is_in after.matching.unmatched n ≡ true → is_in (without root before.matching.unmatched) n ≡ true
   pub fewer : length after.matching.unmatched < length before.matching.unmatched
+  pub few : length before.matching.unmatched ≤ length after.matching.unmatched + 2
 
 -- the search of the part, with the root alone as its tree
 pub record IsBegunAt (root : ℕ) (work : PartValue) (search : SearchValue) : Type 0 where

@@ -1,4 +1,4 @@
-ghost use Rattle.std.specs.Prelude.{◌≡◌, ◌+◌, ◌<◌, ◌≤◌, ℕ, true, false, IfOk, length};
+ghost use Rattle.std.specs.Prelude.{◌≡◌, ◌+◌, ◌*◌, ◌<◌, ◌≤◌, ℕ, true, false, IfOk, OnErr, length};
 ghost use Rattle.fb_graph.specs.Parity.{is_in};
 ghost use Rattle.fb_half.specs.Parts.{problem_in};
 ghost use Rattle.fb_search.specs.Progress.{EndsWith, IsSamePart, IsSearched};
@@ -15,7 +15,8 @@ use std::marker::Brand;
 use std::sync::ledger::{Blank, Ledger};
 
 /// Matches the root: a tree grows from it until it meets the boundary or a node that can be matched with its root
-/// (Edmonds 1965). Counts one step. The unmatched nodes after it are some of those before, without the root.
+/// (Edmonds 1965). Counts one step, or none where memory runs out. The unmatched nodes after it are those before,
+/// without the root and without at most one other node.
 pub fn search<'a, L: Ledger>(
     alloc: Global,
     work: Work<'a>,
@@ -25,6 +26,7 @@ pub fn search<'a, L: Ledger>(
     requires unmatched { is_in work.matching.unmatched root ≡ true }
     ensures searched { IfOk result (λ after. IsSearched root work.entry after) }
     ensures step { IfOk result (λ after. steps.new ≡ steps.old + 1) }
+    ensures kept { OnErr result (steps.new ≡ steps.old) }
 {
     let watch = Watch::new(alloc, work.regions().scope())?;
     let (work, _watch) = search_from(alloc, work, root, watch, steps)?;
@@ -44,6 +46,7 @@ pub fn search_from<'a, L: Ledger>(
     ensures searched { IfOk result (λ after. IsSearched root work.entry after.0) }
     ensures room { IfOk result (λ after. after.1.edge_count ≡ watch.edge_count) }
     ensures step { IfOk result (λ after. steps.new ≡ steps.old + 1) }
+    ensures kept { OnErr result (steps.new ≡ steps.old) }
 {
     let search = Searching::begin(alloc, work, watch, root)?;
     let ended = finish::<Brand>(alloc, search, Blank::new(1))?;
@@ -77,7 +80,8 @@ fn finish<'a, L: Ledger>(
 }
 
 /// Searches from each of the nodes that is still unmatched when its turn comes, in this order. Counts a step for each
-/// search, so at most one for each node that is matched by them.
+/// search: at most one for each of the nodes and for each node that is no longer unmatched, and at least one step for
+/// every two nodes that are no longer unmatched.
 pub fn search_each<'a, L: Ledger>(
     alloc: Global,
     work: Work<'a>,
@@ -87,8 +91,12 @@ pub fn search_each<'a, L: Ledger>(
     ensures part { IfOk result (IsSamePart work.entry) }
     ensures matched { IfOk result (λ after. (n : ℕ) → is_in after.matching.unmatched n ≡ true
         → (is_in work.entry.matching.unmatched n ≡ true) × (is_in roots.now n ≡ false)) }
-    ensures steps { IfOk result (λ after. (steps.old ≤ steps.new)
-        × (steps.new + length after.matching.unmatched ≤ steps.old + length work.entry.matching.unmatched)) }
+    ensures never_falls { steps.old ≤ steps.new }
+    ensures steps { IfOk result (λ after.
+        steps.new + length after.matching.unmatched ≤ steps.old + length work.entry.matching.unmatched) }
+    ensures each { IfOk result (λ after.
+        length work.entry.matching.unmatched + 2 * steps.old ≤ length after.matching.unmatched + 2 * steps.new) }
+    ensures roots { IfOk result (λ after. steps.new ≤ steps.old + length roots.now) }
 {
     let mut watch = Watch::new(alloc, work.regions().scope())?;
     let mut work = work;

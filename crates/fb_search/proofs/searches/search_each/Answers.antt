@@ -17,6 +17,8 @@ loop-root-preserved g c =
                 w.in_ok-work.ensures.room,
             omega (arith, c.loop-root.invariant.2, w.in_ok-work.ensures.step),
             omega (arith, c.loop-root.invariant.3, w.in_ok-work.ensures.step, searched.fewer),
+            omega (arith, c.loop-root.invariant.4, w.in_ok-work.ensures.step, searched.few),
+            omega (arith, c.loop-root.invariant.5, w.in_ok-work.ensures.step),
           )
       | in_default w ↦
           rw (w.work-is, w.watch-is, w.steps-is) (
@@ -27,6 +29,8 @@ loop-root-preserved g c =
             c.loop-root.invariant.1,
             c.loop-root.invariant.2,
             c.loop-root.invariant.3,
+            c.loop-root.invariant.4,
+            omega (arith, c.loop-root.invariant.5),
           )
     ]
 
