@@ -120,6 +120,7 @@ module _ (w : SearchValue) (met : Met) (now : SearchValue) (h : HasMet w met now
       rematched_goes_on = record {
         part = record { job = refl; slot = refl; node = refl };
         others = λ n. refl;
+        kept = λ n beside. refl;
         count = refl;
         less =
             less_attached (met.link ∷ []) made_search made (entry_by now.part.links (branch_met met mate)) (branch_met met mate) rest

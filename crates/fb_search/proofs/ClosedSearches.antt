@@ -40,6 +40,7 @@ use Rattle.fb_search.proofs.JoinConditions.{cycle_within, outer_made}
 use Rattle.fb_search.proofs.JoinLinks.{links_closed}
 use Rattle.fb_search.proofs.JoinMatchings.{matching_closed}
 use Rattle.fb_search.proofs.JoinStates.{less_after, state_after}
+use Rattle.fb_search.proofs.KeptNodes.{beside_joined}
 use Rattle.fb_search.proofs.ScopeWalks.{scoped}
 use Rattle.fb_search.proofs.TakenNames.{without_taken}
 
@@ -161,6 +162,7 @@ module _ (w : SearchValue) (a b closing : ℕ) (closes : Closes w a b closing) (
     closed_goes = record {
       part = record { job = refl; slot = refl; node = refl };
       others = others_kept;
+      kept = beside_joined (closing ∷ []) w name cycle closes.search;
       count =
           length_permutation (after.tree.root ∷ listed.beside) matching.unmatched listed.unmatched
           ∙ length_permutation w.part.matching.unmatched (w.tree.root ∷ listed.beside) listed.was;

@@ -226,6 +226,7 @@ ended_part w name new unmatched named kept out are is moved few law = (
   record {
     part = record { job = refl; slot = refl; node = refl };
     others = λ n within. others n (sym (same_permuted named unmatched moved n) ∙ within);
+    kept = λ n within. refl;
     fewer = subst (λ n. n < length w.part.matching.unmatched) (sym (length_permutation named unmatched moved)) law.fewer;
     few = few;
   },

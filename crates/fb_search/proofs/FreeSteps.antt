@@ -1,5 +1,5 @@
 -- After the greatest free step an obstacle stands, and the search goes on from there.
-use Rattle.std.proofs.Common.{ℕ, ◌≡◌, ◌+◌, ◌≤◌, true, false, subst, arith}
+use Rattle.std.proofs.Common.{ℕ, ◌≡◌, ◌+◌, ◌≤◌, true, false, ◌∙◌, subst, arith}
 use Rattle.std.specs.Prelude.{IfOk, Result, Ok, Err}
 use Rattle.fb_graph.specs.Parity.{is_in}
 use Rattle.fb_graph.specs.Problem.{Problem, with_defects}
@@ -18,6 +18,7 @@ use Rattle.fb_search.specs.Progress.{GoesOn, HasAdvanced, stepped_by, to_do}
 use Rattle.fb_search.specs.Searching.{IsSearching, SearchValue, problem_of, roles_in}
 use Rattle.fb_search.specs.Went.{HasCleared, HasWent}
 use Rattle.fb_search.proofs.ExchangedObstacles.{free_exchanged}
+use Rattle.fb_search.proofs.KeptNodes.{beside_stepped}
 use Rattle.fb_search.proofs.Runs.{advanced_by, lower_trans, tree_roles}
 use Rattle.fb_search.proofs.SearchRoles.{roles_in_tree}
 
@@ -53,21 +54,23 @@ obstructs_after w after k (LayerEmpty n) are free same is = is
 obstructs_after w after k (BlossomEmpty n) are free same is = is
 obstructs_after w after k (ZeroMinus n) are free same is = is
 
-advanced_after : (w after : SearchValue) (k : ℕ) → GoesOn (stepped_by k w) after → HasAdvanced w after
-advanced_after w after k goes = record {
+advanced_after : (w after : SearchValue) (k : ℕ) → IsSearching w → GoesOn (stepped_by k w) after → HasAdvanced w after
+advanced_after w after k are goes = record {
   part = record { job = goes.part.job; slot = goes.part.slot; node = goes.part.node };
   others = goes.others;
+  kept = λ n beside. goes.kept n beside ∙ beside_stepped w k are n beside;
   count = goes.count;
   less = lower_trans (to_do after true) (to_do (stepped_by k w) false) (to_do w true) goes.less
       (free_lowers (problem_of w) w.part.nodes (roles_of w.tree.root w.tree.branches) k);
 }
 
-went_by : (w : SearchValue) (k : ℕ) (o : Went) → HasCleared (stepped_by k w) o → HasWent w o
-went_by w k (On after) goes = advanced_after w after k goes
-went_by w k (Ended part watched) ends = record {
+went_by : (w : SearchValue) (k : ℕ) (o : Went) → IsSearching w → HasCleared (stepped_by k w) o → HasWent w o
+went_by w k (On after) are goes = advanced_after w after k are goes
+went_by w k (Ended part watched) are ends = record {
   searched = record {
     part = record { job = ends.searched.part.job; slot = ends.searched.part.slot; node = ends.searched.part.node };
     others = ends.searched.others;
+    kept = λ n left. ends.searched.kept n left ∙ beside_stepped w k are n (ends.searched.others n left);
     fewer = ends.searched.fewer;
     few = ends.searched.few;
   };
@@ -79,10 +82,10 @@ went_at_once w (On after) goes = advanced_by w after goes
 went_at_once w (Ended part watched) ends = ends
 
 -- an obstacle cleared after a free step
-pub went_after : {E : Type 0} (w after : SearchValue) (k : ℕ) (r : Result Went E) → after ≡ stepped_by k w
+pub went_after : {E : Type 0} (w after : SearchValue) (k : ℕ) (r : Result Went E) → IsSearching w → after ≡ stepped_by k w
     → IfOk r (HasCleared after) → IfOk r (HasWent w)
-went_after w after k (Ok o) same cleared = went_by w k o (subst (λ s. HasCleared s o) same cleared)
-went_after w after k (Err e) same cleared = tt
+went_after w after k (Ok o) are same cleared = went_by w k o are (subst (λ s. HasCleared s o) same cleared)
+went_after w after k (Err e) are same cleared = tt
 
 -- an obstacle cleared at once
 pub went : {E : Type 0} (w : SearchValue) (r : Result Went E) → IfOk r (HasCleared w) → IfOk r (HasWent w)

@@ -30,6 +30,7 @@ pub mod JoinConditions
 pub mod JoinLinks
 pub mod JoinMatchings
 pub mod JoinStates
+pub mod KeptNodes
 pub mod KeptWatches
 pub mod LeftEdges
 pub mod Linked

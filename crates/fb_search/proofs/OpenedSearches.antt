@@ -8,7 +8,8 @@ use Rattle.fb_obstacles.specs.Watched.{Watched}
 use Rattle.fb_search.specs.Progress.{GoesOn}
 use Rattle.fb_search.specs.Searching.{IsSearching, SearchValue, problem_of}
 use Rattle.fb_search.proofs.Agreed.{agreed_split}
-use Rattle.fb_search.proofs.OpenedConditions.{rest}
+use Rattle.fb_search.proofs.KeptNodes.{beside_split}
+use Rattle.fb_search.proofs.OpenedConditions.{rest, way_opens}
 use Rattle.fb_search.proofs.OpenedLinks.{Table}
 use Rattle.fb_search.proofs.OpenedMatchings.{matching_opened}
 use Rattle.fb_search.proofs.OpenedNumbers.{links_after}
@@ -39,6 +40,7 @@ module _ (w : SearchValue) (name : ℕ) (e : EntryOf ℕ) (above below : ℕ) (a
   goes_on_opened has = record {
     part = record { job = refl; slot = refl; node = refl };
     others = λ n. ap (λ r. is_in (without r w.part.matching.unmatched) n) has.grown.root;
+    kept = beside_split w name are (way_opens w name e above below are opens).minus;
     count = refl;
     less = less_opened w name e above below are opens links store tree watched has false true;
   }

@@ -168,6 +168,7 @@ pub goes_on_relinked : (w after : SearchValue) (new : List (Option (List Step)))
 goes_on_relinked w after new on = record {
   part = record { job = on.part.job; slot = on.part.slot; node = on.part.node };
   others = on.others;
+  kept = on.kept;
   count = on.count;
   less = on.less;
 }

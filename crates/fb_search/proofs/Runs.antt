@@ -39,6 +39,7 @@ pub advanced_by : (before after : SearchValue) → GoesOn before after → HasAd
 advanced_by before after goes = record {
   part = goes.part;
   others = goes.others;
+  kept = goes.kept;
   count = goes.count;
   less = lower_trans (to_do after true) (to_do before false) (to_do before true) goes.less (waits_less before);
 }
@@ -88,6 +89,7 @@ begins root room work w is edges = record {
     node = ap (λ x. x.node) is.part;
   };
   others = λ n. rw (is.tree, is.part) refl;
+  kept = λ n beside. rw is.part refl;
   count = ap (λ x. length x.matching.unmatched) is.part;
   edges = edges;
 }
@@ -101,6 +103,7 @@ goes_on root room work before after begun was are goes = record {
     node = goes.part.node ∙ begun.part.node;
   };
   others = λ n. goes.others n ∙ begun.others n;
+  kept = λ n beside. goes.kept n (begun.others n ∙ beside) ∙ begun.kept n beside;
   count = goes.count ∙ begun.count;
   edges =
       are.room ∙ ap (λ p. length p.edges) (same_problem before.part after.part goes.part) ∙ sym was.room ∙ begun.edges;
@@ -115,6 +118,7 @@ ends root room work after before begun searched = record {
     node = searched.part.node ∙ begun.part.node;
   };
   others = λ n h. sym (begun.others n) ∙ searched.others n h;
+  kept = λ n h. searched.kept n h ∙ begun.kept n (sym (begun.others n) ∙ searched.others n h);
   fewer = rw (← begun.count) searched.fewer;
   few = rw (← begun.count) searched.few;
 }

@@ -29,6 +29,7 @@ use Rattle.fb_search.specs.Progress.{GoesOn}
 use Rattle.fb_search.specs.Searching.{IsSearching, SearchValue, problem_of, roles_in, state_at}
 use Rattle.fb_search.specs.Watching.{WatchesTaken}
 use Rattle.fb_search.proofs.BegunSearches.{touches_first, touches_second}
+use Rattle.fb_search.proofs.KeptNodes.{beside_taller}
 use Rattle.fb_search.proofs.LeftEdges.{watched_at, watched_elsewhere}
 use Rattle.fb_search.proofs.Relayered.{relayered_by, searching_relayered}
 use Rattle.fb_search.proofs.Runs.{roles_by_numbers}
@@ -135,6 +136,7 @@ pub goes_on_raised : (w : SearchValue) (k u v name : ℕ) (new : Watched) → Is
 goes_on_raised w k u v name new are limits may plus = record {
   part = record { job = refl; slot = refl; node = refl };
   others = λ n. refl;
+  kept = λ n beside. beside_taller w name v are (plus_in_tree w.tree name plus) n beside;
   count = refl;
   less =
       subst (λ roles. IsLower (left_to_do (problem_of w) (taken_up name v w.part.nodes) roles true) (left_to_do (problem_of w) w.part.nodes roles false))

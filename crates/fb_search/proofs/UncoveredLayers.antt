@@ -22,6 +22,7 @@ use Rattle.fb_half.specs.Translations.{link_by}
 use Rattle.fb_obstacles.specs.Obstacles.{IsWatched}
 use Rattle.fb_search.specs.Progress.{GoesOn}
 use Rattle.fb_search.specs.Searching.{IsSearching, SearchValue, problem_of, roles_in, state_at}
+use Rattle.fb_search.proofs.KeptNodes.{beside_lower}
 use Rattle.fb_search.proofs.Relayered.{relayered_by, searching_relayered}
 use Rattle.fb_search.proofs.Runs.{roles_by_numbers}
 use Rattle.fb_search.proofs.RolesInTree.{minus_in_tree, not_both}
@@ -104,6 +105,7 @@ pub goes_on_lowered : (w : SearchValue) (name : ℕ) → IsSearching w → (role
 goes_on_lowered w name are minus may = record {
   part = record { job = refl; slot = refl; node = refl };
   others = λ n. refl;
+  kept = λ n beside. beside_lower w name are (minus_in_tree w.tree name minus) n beside;
   count = refl;
   less =
       subst (λ roles. IsLower (left_to_do (problem_of w) (uncovered name w.part.nodes) roles true) (left_to_do (problem_of w) w.part.nodes roles false))

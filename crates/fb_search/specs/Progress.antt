@@ -1,11 +1,13 @@
 -- What the steps of a search promise: all else stays, and less is left to do.
 use Rattle.std.specs.Prelude.{ℕ, ◌≡◌, ◌+◌, ◌<◌, ◌≤◌, Bool, true, false, List, length}
 use Rattle.fb_graph.specs.Parity.{is_in}
+use Rattle.fb_graph.specs.Dual.{Node}
 use Rattle.fb_graph.specs.Steps.{stepped}
 use Rattle.fb_laws.specs.Measures.{IsLower}
 use Rattle.fb_laws.specs.SearchLayers.{left_to_do}
 use Rattle.fb_laws.specs.Trees.{roles_of}
 use Rattle.fb_laws.specs.Works.{without}
+use Rattle.fb_regions.specs.Moves.{node_named}
 use Rattle.fb_half.specs.Parts.{PartValue}
 use Rattle.fb_trees.specs.Rooted.{bare}
 use Rattle.fb_obstacles.specs.Watched.{Watched}
@@ -25,10 +27,16 @@ pub record IsSamePart (before after : PartValue) : Type 0 where
   pub slot : after.slot ≡ before.slot
   pub node : after.node ≡ before.node
 
--- The obstacle is removed: no other node is matched, and less is left to do, though the next step may be free again.
+-- The nodes of these names are the same: their children, their layers and the values of these.
+abbrev pub AreKept : List ℕ → List Node → List Node → Type 0
+AreKept names before after = (n : ℕ) → is_in names n ≡ true → node_named after n ≡ node_named before n
+
+-- The obstacle is removed: no other node is matched or changed, and less is left to do, though the next step may be free
+-- again.
 pub record GoesOn (before after : SearchValue) : Type 0 where
   pub part : IsSamePart before.part after.part
   pub others : (n : ℕ) → is_in (unmatched_beside after) n ≡ is_in (unmatched_beside before) n
+  pub kept : AreKept (unmatched_beside before) before.part.nodes after.part.nodes
   pub count : length (unmatched_in after) ≡ length (unmatched_in before)
   pub less : IsLower (to_do after true) (to_do before false)
 
@@ -36,6 +44,7 @@ pub record GoesOn (before after : SearchValue) : Type 0 where
 pub record HasAdvanced (before after : SearchValue) : Type 0 where
   pub part : IsSamePart before.part after.part
   pub others : (n : ℕ) → is_in (unmatched_beside after) n ≡ is_in (unmatched_beside before) n
+  pub kept : AreKept (unmatched_beside before) before.part.nodes after.part.nodes
   pub count : length (unmatched_in after) ≡ length (unmatched_in before)
   pub less : IsLower (to_do after true) (to_do before true)
 
@@ -43,10 +52,11 @@ pub record HasAdvanced (before after : SearchValue) : Type 0 where
 abbrev pub stepped_by : ℕ → SearchValue → SearchValue
 stepped_by k w = record w { part = record w.part { nodes = stepped (roles_of w.tree.root w.tree.branches) k w.part.nodes } }
 
--- The root is matched, with at most one other unmatched node. The unmatched nodes are some of those before.
+-- The root is matched, with at most one other unmatched node. The unmatched nodes are some of those before, each as it was.
 pub record IsSearched (root : ℕ) (before after : PartValue) : Type 0 where
   pub part : IsSamePart before after
   pub others : (n : ℕ) → is_in after.matching.unmatched n ≡ true → is_in (without root before.matching.unmatched) n ≡ true
+  pub kept : AreKept after.matching.unmatched before.nodes after.nodes
   pub fewer : length after.matching.unmatched < length before.matching.unmatched
   pub few : length before.matching.unmatched ≤ length after.matching.unmatched + 2
 

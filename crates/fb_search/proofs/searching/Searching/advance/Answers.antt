@@ -8,4 +8,5 @@ clear-requires g c =
 
 pub returns-in-Free : goal.returns-in-Free
 returns-in-Free g c =
-    went_after c.args.self c.step-stepped.result c.in-Free.length c.clear.result c.step-stepped.ensures c.clear.ensures
+    went_after c.args.self c.step-stepped.result c.in-Free.length c.clear.result c.keeps.ensures c.step-stepped.ensures
+    c.clear.ensures
