@@ -23,6 +23,7 @@ pub none_searched : (w : PartValue) → HasSearched w [] w
 none_searched w = record {
   part = record { job = refl; slot = refl; node = refl };
   matched = λ n there. (there, refl);
+  kept = λ n there. refl;
 }
 
 module _ (before now : PartValue) (roots : List ℕ) (i d : ℕ) (less : i < length roots) (was : HasSearched before (take i roots) now) where
@@ -42,6 +43,8 @@ module _ (before now : PartValue) (roots : List ℕ) (i d : ℕ) (less : i < len
         let kept = is.others n there in
         let old = was.matched n (kept_without (get_or roots i d) now.matching.unmatched n kept) in
         (old.0, one_more n old.1 (gone (get_or roots i d) now.matching.unmatched n kept));
+    kept = λ n there.
+        is.kept n there ∙ was.kept n (kept_without (get_or roots i d) now.matching.unmatched n (is.others n there));
   }
 
   pub one_skipped : is_in now.matching.unmatched (get_or roots i d) ≡ false → HasSearched before (take (i + 1) roots) now
@@ -50,6 +53,7 @@ module _ (before now : PartValue) (roots : List ℕ) (i d : ℕ) (less : i < len
     matched = λ n there.
         let old = was.matched n there in
         (old.0, one_more n old.1 (other n there (get_or roots i d == n) refl));
+    kept = was.kept;
   }
     where
       other : (n : ℕ) → is_in now.matching.unmatched n ≡ true → (b : Bool) → (get_or roots i d == n) ≡ b → b ≡ false

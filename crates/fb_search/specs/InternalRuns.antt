@@ -25,3 +25,4 @@ pub record HasSearched (before : PartValue) (roots : List ℕ) (after : PartValu
   pub part : IsSamePart before after
   pub matched : (n : ℕ) → is_in after.matching.unmatched n ≡ true
       → (is_in before.matching.unmatched n ≡ true) × (is_in roots n ≡ false)
+  pub kept : AreKept after.matching.unmatched before.nodes after.nodes

@@ -1,7 +1,7 @@
 ghost use Rattle.std.specs.Prelude.{◌≡◌, ◌+◌, ◌*◌, ◌<◌, ◌≤◌, ℕ, true, false, IfOk, OnErr, length};
 ghost use Rattle.fb_graph.specs.Parity.{is_in};
 ghost use Rattle.fb_half.specs.Parts.{problem_in};
-ghost use Rattle.fb_search.specs.Progress.{EndsWith, IsSamePart, IsSearched};
+ghost use Rattle.fb_search.specs.Progress.{AreKept, EndsWith, IsSamePart, IsSearched};
 
 use crate::searching::Searching;
 use crate::went::Went;
@@ -91,6 +91,7 @@ pub fn search_each<'a, L: Ledger>(
     ensures part { IfOk result (IsSamePart work.entry) }
     ensures matched { IfOk result (λ after. (n : ℕ) → is_in after.matching.unmatched n ≡ true
         → (is_in work.entry.matching.unmatched n ≡ true) × (is_in roots.now n ≡ false)) }
+    ensures kept { IfOk result (λ after. AreKept after.matching.unmatched work.entry.nodes after.nodes) }
     ensures never_falls { steps.old ≤ steps.new }
     ensures steps { IfOk result (λ after.
         steps.new + length after.matching.unmatched ≤ steps.old + length work.entry.matching.unmatched) }
