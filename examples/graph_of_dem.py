@@ -3,7 +3,8 @@
 
 usage: examples/graph_of_dem.py [SCALE]
 
-The model has no `repeat` and no `shift_detectors`, and its errors are decomposed into parts of one or two detectors.
+The model has no `repeat`, and its errors are decomposed into parts of one or two detectors, as `stim analyze_errors
+--decompose_errors` writes it.
 Vertex k is detector k, and the last vertex is the boundary. A weight is the logarithm of the odds against an error,
 times the scale (1000 where none is given), as the nearest even whole number. Errors with the same detectors and
 observables become one edge. The member `observables` lists for each edge the observables that it flips.
@@ -15,25 +16,27 @@ import re
 import sys
 
 ERROR = re.compile(r"error(?:\[.*?\])?\(([^)]*)\)(.*)")
+SHIFT = re.compile(r"shift_detectors(?:\[.*?\])?(?:\(.*?\))? (\d+)")
 OTHERS = ("detector", "logical_observable")
 
 
-def numbers(kind, text):
-    """The numbers of the detectors (D) or observables (L) in a text, rising."""
-    return tuple(sorted(int(digits) for digits in re.findall(rf"\b{kind}(\d+)", text)))
+def numbers(kind, text, first=0):
+    """The numbers of the detectors (D) or observables (L) in a text, rising, counted from a first one."""
+    return tuple(sorted(first + int(digits) for digits in re.findall(rf"\b{kind}(\d+)", text)))
 
 
 def read_rates(lines):
     """The number of detectors, and the rate of each set of one or two detectors with some observables."""
-    detectors, rates = 0, {}
+    detectors, first, rates = 0, 0, {}
     for line in lines:
         line = line.partition("#")[0].strip()
-        error = ERROR.fullmatch(line)
-        if line and not error and not line.startswith(OTHERS):
+        error, shift = ERROR.fullmatch(line), SHIFT.fullmatch(line)
+        if line and not error and not shift and not line.startswith(OTHERS):
             raise SystemExit(f"{line}: not read here; flatten the model first")
-        detectors = max([detectors, *(k + 1 for k in numbers("D", line))])
+        first += int(shift[1]) if shift else 0
+        detectors = max([detectors, *(k + 1 for k in numbers("D", line, first))])
         for part in error[2].split("^") if error else []:
-            key, rate = (numbers("D", part), numbers("L", part)), float(error[1])
+            key, rate = (numbers("D", part, first), numbers("L", part)), float(error[1])
             if len(key[0]) > 2 or rate > 1 / 2:
                 raise SystemExit(f"{line}: more than two detectors in one part, or a rate above 1/2")
             before = rates.get(key, 0)
