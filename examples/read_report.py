@@ -8,6 +8,8 @@ def read_rows(lines):
     """The rows of a report: dictionaries with edges, weight and cuts, and `odd`, the vertex of an odd row or None."""
     row = None
     for line in lines:
+        if not line.endswith("\n"):
+            break
         word, *rest = line.split()
         if word in ("shot", "done") and row:
             yield row
