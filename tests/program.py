@@ -1,6 +1,7 @@
 """Runs the built program, for the scripts beside this file."""
 
 import os
+import shutil
 import subprocess
 from collections import namedtuple
 from pathlib import Path
@@ -28,3 +29,12 @@ def answer(words, folder, stdin=b""):
 def fusion(words, folder, stdin=b""):
     """What the program answers to words in a folder."""
     return answer([str(FUSION), *words], folder, stdin)
+
+
+def copy_repository(folder):
+    """Copies the scripts and the examples to a folder, beside the program where `bin/fusion` looks for it."""
+    for part in ["bin", "examples"]:
+        shutil.copytree(ROOT / part, folder / part, ignore=shutil.ignore_patterns("__pycache__"))
+    built = folder / "crates/fusion/out"
+    built.mkdir(parents=True)
+    (built / "fusion").symlink_to(FUSION)

@@ -1,0 +1,32 @@
+#!/usr/bin/env python3
+"""Reads a report from standard input, and prints a line for each shot."""
+
+import sys
+
+
+def read_rows(lines):
+    """The rows of a report: dictionaries with edges, weight and cuts, and `odd`, the vertex of an odd row or None."""
+    row = None
+    for line in lines:
+        if not line.endswith("\n"):
+            break
+        word, *rest = line.split()
+        if word in ("shot", "done") and row:
+            yield row
+        if word == "shot":
+            row = {"odd": int(rest[2]) if "odd" in rest else None, "edges": [], "weight": None, "cuts": []}
+        elif word == "edges":
+            row["edges"] = [int(edge) for edge in rest]
+        elif word == "weight":
+            row["weight"] = int(rest[0])
+        elif word == "cut":
+            row["cuts"].append((int(rest[0]), [int(vertex) for vertex in rest[1:]]))
+        elif word == "done":
+            return
+    raise ValueError("the report has no done line, so its run didn't come to its end")
+
+
+if __name__ == "__main__":
+    for shot, row in enumerate(read_rows(sys.stdin)):
+        text = "no correction" if row["odd"] is not None else f"weight {row['weight']}, edges {row['edges']}"
+        print(f"shot {shot}: {text}, {len(row['cuts'])} cuts")
