@@ -1,10 +1,11 @@
 -- Lists of names, each beside its new one.
 use Rattle.std.proofs.Common.{◌≡◌, ◌⊎◌, inl, inr, ℕ, ◌+◌, ◌≤◌, ◌==◌, ◌||◌, Bool, true, false, if◌then◌else◌, List, [], ◌∷◌, ◌++◌, refl, sym, ◌∙◌, ap, arith}
+use Rattle.fb_links.specs.Names.{name_by}
 use Rattle.std.specs.List.{list_any}
 use Rattle.std.proofs.lemmas.Bool.{both_ways, cases_Bool, eq-eqb, eqb-true, or_cases, or_left, or_right}
 use Rattle.std.proofs.lemmas.List.Folds.{list_any-append}
 use Rattle.std.proofs.lemmas.List.Sums.{sum_by-cons, sum_by_push}
-use Rattle.fb_blossoms.specs.Merged.{name_by, new_count, old_count}
+use Rattle.fb_blossoms.specs.Merged.{new_count, old_count}
 use Rattle.fb_blossoms.specs.InternalMerged.{is_pair}
 
 abbrev pub one_if : Bool → ℕ

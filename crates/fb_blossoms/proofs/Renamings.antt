@@ -1,5 +1,6 @@
 -- Items that get new numbers, and cycles of renamed nodes.
 use Rattle.std.proofs.Common.{◌≡◌, inl, inr, ℕ, ◌+◌, ◌<◌, ◌≤◌, ◌%◌, ◌==◌, ◌||◌, Bool, true, false, if◌then◌else◌, List, [], ◌∷◌, ◌++◌, length, get_or, take, nat_lt, Option, Some, None, is_some, option_map, refl, sym, ◌∙◌, ap, subst, arith}
+use Rattle.fb_links.specs.Names.{name_by}
 use Rattle.std.specs.List.{flat_map, list_any}
 use Rattle.std.specs.Option.{IsSome}
 use Rattle.std.proofs.Math.Path.{fun_ext}
@@ -14,7 +15,7 @@ use Rattle.fb_blossoms.specs.InternalItems.{Item}
 use Rattle.fb_blossoms.specs.Nodes.{AreDistinct, is_on}
 use Rattle.fb_blossoms.specs.Links.{step_at}
 use Rattle.fb_blossoms.specs.InternalForest.{IsItem, is_kept}
-use Rattle.fb_blossoms.specs.Merged.{name_by, new_count, old_count, renamed_cycle, renamed_step}
+use Rattle.fb_blossoms.specs.Merged.{new_count, old_count, renamed_cycle, renamed_step}
 use Rattle.fb_blossoms.specs.InternalMerged.{AreAllTaken, AreJoined, is_pair, later, renamed_among, renamed_item}
 use Rattle.fb_blossoms.proofs.PairLists.{new_counted, new_listed, new_pair, one_if, pair_by, pair_is, pair_same}
 

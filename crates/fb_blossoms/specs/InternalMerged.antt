@@ -1,15 +1,12 @@
 -- Items under other names.
-use Rattle.std.specs.Prelude.{ℕ, ◌≡◌, ◌+◌, ◌≤◌, ◌==◌, ◌⊎◌, Bool, true, false, if◌then◌else◌, List, [], ◌∷◌, ◌++◌, length, nat_lt, unwrap_or, Option, Some, None, option_map}
+use Rattle.std.specs.Prelude.{ℕ, ◌≡◌, ◌+◌, ◌≤◌, ◌==◌, ◌⊎◌, Bool, true, false, if◌then◌else◌, List, [], ◌∷◌, ◌++◌, length, nat_lt, Option, Some, None, option_map}
 use Rattle.std.specs.List.{list_any}
 use Rattle.fb_blossoms.specs.InternalItems.{Item}
+use Rattle.fb_links.specs.Names.{name_by}
 use Rattle.slab.specs.Slab.{Slab, Updates, get}
 use Rattle.fb_blossoms.specs.Nodes.{is_in}
 use Rattle.fb_blossoms.specs.InternalForest.{is_kept, item_at, own_at}
-use Rattle.fb_blossoms.specs.Merged.{name_by, new_count, old_count, renamed_cycle}
-
--- the number that the map has for this one, or the number itself
-abbrev pub named_by : (ℕ → Option ℕ) → ℕ → ℕ
-named_by names a = unwrap_or (names a) a
+use Rattle.fb_blossoms.specs.Merged.{new_count, old_count, renamed_cycle}
 
 -- the item as if so many more nodes had been made before it
 abbrev pub later : ℕ → Item → Item

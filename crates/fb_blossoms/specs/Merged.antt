@@ -1,12 +1,8 @@
 -- Two stores as one: the nodes of the second come under new names.
-use Rattle.std.specs.Prelude.{ℕ, ◌≡◌, ◌≢◌, ◌≤◌, ◌==◌, ◌⊎◌, true, if◌then◌else◌, List, [], ◌∷◌, map, count_by, Option, Some, None, option_map}
+use Rattle.std.specs.Prelude.{ℕ, ◌≡◌, ◌≢◌, ◌≤◌, ◌==◌, ◌⊎◌, true, if◌then◌else◌, List, map, count_by, Option, Some, None, option_map}
 use Rattle.fb_links.specs.declared.cycle.CycleStep.{CycleStep}
+use Rattle.fb_links.specs.Names.{name_by}
 use Rattle.fb_blossoms.specs.Nodes.{Node, is_live, leaf, node_at}
-
--- the number beside this one in the list; the number itself where the list does not have it
-abbrev pub name_by : List (ℕ × ℕ) → ℕ → ℕ
-name_by [] a = a
-name_by (p ∷ ps) a = if p.0 == a then p.1 else name_by ps a
 
 -- the step, its node renamed by the one function and its link by the other
 abbrev pub renamed_step : (ℕ → ℕ) → (ℕ → ℕ) → CycleStep → CycleStep

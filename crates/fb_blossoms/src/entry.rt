@@ -1,10 +1,12 @@
+ghost use Rattle.fb_links.specs.Names.{named_by};
 ghost use Rattle.std.specs.Prelude.{◌≡◌, ◌≢◌, ◌+◌, ◌<◌, ◌^◌, [], ◌∷◌, None, OnOk, MatchOption, nat_eq};
 ghost use Rattle.std.specs.HashMap.{get};
-ghost use Rattle.fb_blossoms.specs.InternalMerged.{later, named_by, renamed_item};
+ghost use Rattle.fb_blossoms.specs.InternalMerged.{later, renamed_item};
 ghost use Rattle.fb_blossoms.specs.InternalItems.{Item};
 
-use crate::names::{Names, renamed_cycle, renamed_parent};
+use crate::names::renamed_cycle;
 use crate::{CycleStep, NoMemory, NodeId};
+use fb_links::names::{Names, renamed_parent};
 use std::alloc::Global;
 use std::marker::Model;
 

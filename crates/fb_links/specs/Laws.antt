@@ -3,7 +3,8 @@ use Rattle.std.specs.Prelude.{ℕ, ◌≡◌, ◌⊎◌, ◌+◌, ◌<◌, true,
 use Rattle.fb_links.specs.declared.walk.Step.{Step}
 use Rattle.fb_links.specs.Walks.{walk_weight, start_of, end_of, Runs, IsChained, turned, share_end, meeting, other_end, joined}
 use Rattle.fb_links.specs.Table.{IsLink, Adds, is_live, link_at}
-use Rattle.fb_links.specs.Merged.{AreMerged, is_in, new_numbers, renamed}
+use Rattle.fb_links.specs.Merged.{AreMerged, is_in, new_numbers}
+use Rattle.fb_links.specs.Names.{name_by}
 
 -- A walk that leads from one vertex to another has these ends, if it has a step.
 abbrev pub EndsOfWalk : Type 0
@@ -66,9 +67,9 @@ LeftStays = (left right : List (Option (List Step))) (pairs : List (ℕ × ℕ))
 -- a link of the right table: its walk is under its new number, which no link of the left table has
 pub record IsRenamed (left right : List (Option (List Step))) (pairs : List (ℕ × ℕ)) (new : List (Option (List Step)))
     (id : ℕ) : Type 0 where
-  pub moved : link_at new (renamed pairs id) ≡ link_at right id
-  pub fresh : link_at left (renamed pairs id) ≡ None
-  pub listed : is_in (new_numbers pairs) (renamed pairs id) ≡ true
+  pub moved : link_at new (name_by pairs id) ≡ link_at right id
+  pub fresh : link_at left (name_by pairs id) ≡ None
+  pub listed : is_in (new_numbers pairs) (name_by pairs id) ≡ true
 
 abbrev pub RightIsRenamed : Type 0
 RightIsRenamed = (left right : List (Option (List Step))) (pairs : List (ℕ × ℕ)) (new : List (Option (List Step)))
@@ -78,10 +79,10 @@ RightIsRenamed = (left right : List (Option (List Step))) (pairs : List (ℕ × 
 abbrev pub RightStaysApart : Type 0
 RightStaysApart = (left right : List (Option (List Step))) (pairs : List (ℕ × ℕ)) (new : List (Option (List Step)))
     → AreMerged left right pairs new → (a b : ℕ) → is_live right a ≡ true → is_live right b ≡ true
-    → renamed pairs a ≡ renamed pairs b → a ≡ b
+    → name_by pairs a ≡ name_by pairs b → a ≡ b
 
 -- Each link of the new table is one of the left table, or one of the right table under its new number.
 abbrev pub LinksOfEither : Type 0
 LinksOfEither = (left right : List (Option (List Step))) (pairs : List (ℕ × ℕ)) (new : List (Option (List Step)))
     → AreMerged left right pairs new → (id : ℕ) → is_live new id ≡ true
-    → (is_live left id ≡ true) ⊎ ((old : ℕ) × (is_live right old ≡ true) × (renamed pairs old ≡ id))
+    → (is_live left id ≡ true) ⊎ ((old : ℕ) × (is_live right old ≡ true) × (name_by pairs old ≡ id))

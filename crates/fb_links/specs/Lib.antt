@@ -2,5 +2,6 @@ pub mod InternalMerging
 pub mod Kept
 pub mod Laws
 pub mod Merged
+pub mod Names
 pub mod Table
 pub mod Walks

@@ -1,5 +1,5 @@
 -- Two tables of links made one: the right one's links move into the left one, under new numbers.
-use Rattle.std.specs.Prelude.{ℕ, ◌≡◌, ◌==◌, Bool, true, false, if◌then◌else◌, List, [], ◌∷◌, map, Option, None, All}
+use Rattle.std.specs.Prelude.{ℕ, ◌≡◌, ◌==◌, Bool, true, false, List, [], ◌∷◌, map, Option, None, All}
 use Rattle.std.specs.List.{list_any}
 use Rattle.fb_links.specs.declared.walk.Step.{Step}
 use Rattle.fb_links.specs.Table.{is_live, link_at}
@@ -20,11 +20,6 @@ old_numbers pairs = map (λ p. p.0) pairs
 -- and their new numbers
 abbrev pub new_numbers : List (ℕ × ℕ) → List ℕ
 new_numbers pairs = map (λ p. p.1) pairs
-
--- the new number of the link of this number; the number itself if it is not listed
-abbrev pub renamed : List (ℕ × ℕ) → ℕ → ℕ
-renamed [] id = id
-renamed (p ∷ ps) id = if p.0 == id then p.1 else renamed ps id
 
 -- the walk of a link of the right table is in the new one under the new number
 abbrev pub IsMoved : List (Option (List Step)) → List (Option (List Step)) → ℕ × ℕ → Type 0

@@ -6,6 +6,7 @@ pub mod cycle;
 pub mod laws;
 mod link;
 pub mod links;
+pub mod names;
 mod steps;
 #[cfg(test)]
 mod tests;

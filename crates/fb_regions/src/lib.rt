@@ -7,8 +7,10 @@ mod places;
 mod region;
 pub mod regions;
 pub mod roles;
+pub mod sparse;
 
 pub use fb_graph::Cut as Layer;
 pub use fb_links::{NodeId, Step, Walk};
 pub use regions::Regions;
 pub use roles::{Role, Roles};
+pub use sparse::SparseTable;

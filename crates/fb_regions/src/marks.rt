@@ -1,7 +1,14 @@
-ghost use Rattle.std.specs.Prelude.{◌≡◌, get_or, option_and_then, None};
-ghost use Rattle.fb_regions.specs.InternalNodes.{before_of, under_of};
+ghost use Rattle.std.specs.Prelude.{◌≡◌, ◌<◌, ℕ, get_or, length, is_some, option_and_then, set, All, IfOk, None, Some};
+ghost use Rattle.std.specs.List.{replicate};
+ghost use Rattle.fb_graph.specs.Certificate.{AreDistinct};
+ghost use Rattle.fb_graph.specs.Parity.{is_in};
+ghost use Rattle.fb_regions.specs.InternalNodes.{before_of, mark_of, under_of};
 
 use crate::NodeId;
+use crate::sparse::SparseTable;
+use fb_graph::NoMemory;
+use std::alloc::Global;
+use std::marker::Model;
 
 /// The last step of a vertex's walk: the vertex from which it leads, and the edge over which it leads.
 #[derive(Clone, Copy, Debug, PartialEq, Eq)]
@@ -29,39 +36,88 @@ pub struct Mark {
     pub under: u64,
 }
 
-/// The mark of a vertex; none where no node holds it.
-pub fn mark_at(marks: &[Option<Mark>], v: u32) -> Option<Mark>
-    ensures { result ≡ get_or marks.now v None }
-{
-    match marks.get(v as usize) {
-        Some(mark) => *mark,
-        None => None,
+/// The marks of the vertices that nodes hold, which contracts see as a list with an entry for each vertex. Only `new` takes
+/// memory.
+#[derive(Drop)]
+pub struct Marks {
+    table: SparseTable<Mark>,
+}
+
+impl Model for Marks {
+    ghost use Rattle.std.specs.Prelude.{List, Option};
+    ghost use Rattle.fb_regions.specs.declared.marks.Mark.{Mark};
+    ghost use Rattle.fb_regions.specs.InternalNodes.{marks_in};
+
+    ghost Value = { List (Option Mark) };
+
+    ghost view = { λ m. marks_in m.table };
+}
+
+impl Marks {
+    /// No vertex has a mark.
+    pub fn new(alloc: Global, vertices: u32) -> Result<Marks, NoMemory>
+        ensures { IfOk result (λ m. m ≡ replicate vertices None) }
+    {
+        let table = SparseTable::new(alloc, vertices)?;
+        Ok(Marks { table })
     }
-}
 
-/// The last step of a vertex's walk; none for a defect and for a vertex without mark.
-pub fn hop_to(marks: &[Option<Mark>], v: u32) -> Option<Hop>
-    ensures { result ≡ option_and_then (λ m. m.by) (get_or marks.now v None) }
-{
-    mark_at(marks, v)?.by
-}
-
-/// The last vertex that the node held before this one; 0 for a vertex without mark.
-pub fn before(marks: &[Option<Mark>], v: u32) -> u32
-    ensures { result ≡ before_of marks.now v }
-{
-    match mark_at(marks, v) {
-        Some(mark) => mark.before,
-        None => 0,
+    /// The mark of a vertex; none where no node holds it.
+    pub fn at(&self, v: u32) -> Option<Mark>
+        ensures { result ≡ mark_of self.now v }
+    {
+        self.table.get(v)
     }
-}
 
-/// The value of the layer below the one that a vertex began; 0 for a vertex without mark.
-pub fn under(marks: &[Option<Mark>], v: u32) -> u64
-    ensures { result ≡ under_of marks.now v }
-{
-    match mark_at(marks, v) {
-        Some(mark) => mark.under,
-        None => 0,
+    /// The last step of a vertex's walk; none for a defect and for a vertex without mark.
+    pub fn hop_to(&self, v: u32) -> Option<Hop>
+        ensures { result ≡ option_and_then (λ m. m.by) (mark_of self.now v) }
+    {
+        self.at(v)?.by
+    }
+
+    /// The vertex listed before this one; 0 for a vertex without mark.
+    pub fn before(&self, v: u32) -> u32
+        ensures { result ≡ before_of self.now v }
+    {
+        match self.at(v) {
+            Some(mark) => mark.before,
+            None => 0,
+        }
+    }
+
+    /// The value of the layer below the one that a vertex began; 0 for a vertex without mark.
+    pub fn under(&self, v: u32) -> u64
+        ensures { result ≡ under_of self.now v }
+    {
+        match self.at(v) {
+            Some(mark) => mark.under,
+            None => 0,
+        }
+    }
+
+    /// Gives the vertex the mark.
+    pub fn put(&mut self, v: u32, mark: Mark)
+        requires { v < length self.old }
+        ensures { self.new ≡ set self.old v (Some mark) }
+    {
+        self.table.enter(v, mark);
+    }
+
+    /// Takes the vertex's mark away.
+    pub fn take(&mut self, v: u32)
+        ensures { self.new ≡ set self.old v None }
+    {
+        self.table.leave(v);
+    }
+
+    /// The vertices that have marks, each once, in any order.
+    pub fn marked(&self) -> &[u32]
+        ensures distinct { AreDistinct result.now }
+        ensures within { All (λ v. v < length self.now) result.now }
+        ensures marked { (v : ℕ) → is_in result.now v ≡ is_some (mark_of self.now v) }
+    {
+        self.table.keeps();
+        self.table.keys()
     }
 }

@@ -1,6 +1,6 @@
 use Rattle.std.proofs.Common.{nat_eq}
+use Rattle.fb_links.specs.Names.{named_by}
 use Rattle.std.specs.HashMap.{get as found}
-use Rattle.fb_blossoms.specs.InternalMerged.{named_by}
 use Rattle.fb_blossoms.proofs.Renamings.{joined_seen, once_seen}
 use Rattle.fb_blossoms.proofs.joining.join_nodes.Goals as goal
 

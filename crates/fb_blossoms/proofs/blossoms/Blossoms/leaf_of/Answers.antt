@@ -1,4 +1,4 @@
-use Rattle.std.proofs.Common.{ℕ, ◌≡◌, true, false, List, Option, Some, None, IfSome, IfNone, sym}
+use Rattle.std.proofs.Common.{ℕ, ◌≡◌, false, List, Option, Some, None, IfSome, IfNone, sym}
 use Rattle.fb_blossoms.specs.Nodes.{is_in, defects_at, leaf, node_at}
 use Rattle.fb_blossoms.specs.InternalItems.{Item}
 use Rattle.fb_blossoms.specs.InternalForest.{IsKept, nodes_of}

@@ -1,8 +1,7 @@
 use Rattle.std.proofs.Common.{◌≡◌, ◌≤◌, ℕ, drop, length, nat_eq}
+use Rattle.fb_links.specs.Names.{name_by, named_by}
 use Rattle.std.specs.HashMap.{get}
-use Rattle.fb_blossoms.specs.Merged.{name_by}
-use Rattle.fb_blossoms.specs.InternalMerged.{named_by}
-use Rattle.fb_blossoms.proofs.names.names_of.Given as goal
+use Rattle.fb_links.proofs.names.names_of.Given as goal
 
 abbrev pub invariant-loop-rest : goal.invariant-loop-rest
 invariant-loop-rest l =

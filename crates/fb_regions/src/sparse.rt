@@ -1,0 +1,146 @@
+ghost use Rattle.std.specs.Prelude.{ℕ, ◌≡◌, ◌+◌, ◌<◌, ◌==◌, ◌&&◌, not, false, true, set, [], length, get_or, All, IfOk, MatchOption, if◌then◌else◌, None};
+ghost use Rattle.fb_graph.specs.Certificate.{AreDistinct};
+ghost use Rattle.fb_graph.specs.Counts.{as_count};
+ghost use Rattle.fb_graph.specs.Parity.{is_in};
+ghost use Rattle.fb_regions.specs.Sparse.{entered, value_of};
+
+use fb_graph::NoMemory;
+use std::alloc::Global;
+use std::marker::Model;
+
+/// Values by numbers below a bound, few of which are keys at a time (Briggs and Torczon 1993). Only `new` takes memory,
+/// and only `new` takes time for each number below the bound, a few bytes each: any other call takes the time that a few
+/// reads and writes take. The order of the keys is free.
+#[derive(Drop)]
+pub struct SparseTable<T> {
+    /// For each number its place among the keys. It counts only where that number stands there.
+    places: Vec<u32>,
+    /// The keys, with room for all numbers below the bound.
+    keys: Vec<u32>,
+    /// The value of each key, at the key's place.
+    values: Vec<T>,
+}
+
+impl<T> Model for SparseTable<T> {
+    ghost use Rattle.std.specs.Prelude.{length, vec_capacity};
+    ghost use Rattle.fb_regions.specs.Sparse.{Sparse, sparse_code};
+    ghost use Rattle.fb_regions.specs.InternalSparse.{IsStored};
+
+    ghost Value = { Sparse T };
+
+    ghost coded = { sparse_code T.code };
+
+    ghost view = { λ s. record { bound = length s.places.items; keys = s.keys.items; values = s.values.items } };
+
+    ghost invariant = { λ s. IsStored s.places.items s.keys.items (length s.values.items) (vec_capacity s.keys) (vec_capacity s.values) };
+}
+
+impl<T: Copy> SparseTable<T> {
+    /// A table without keys. It takes room for a value of each number below the bound, which isn't touched before it is
+    /// used.
+    pub fn new(alloc: Global, bound: u32) -> Result<SparseTable<T>, NoMemory>
+        ensures { IfOk result (λ s. s ≡ record { bound = bound; keys = []; values = [] }) }
+    {
+        let count = bound as usize;
+        let places = vec![in alloc; 0; count]?;
+        let keys = Vec::with_capacity(alloc, count)?;
+        let values = Vec::with_capacity(alloc, count)?;
+        Ok(SparseTable {
+            places,
+            keys,
+            values,
+        })
+    }
+
+    /// Does nothing. Its clauses say what every table keeps.
+    pub fn keeps(&self)
+        ensures distinct { AreDistinct self.now.keys }
+        ensures within { All (λ k. k < self.now.bound) self.now.keys }
+        ensures values { length self.now.values ≡ length self.now.keys }
+    {
+        let _keys = &self.keys;
+    }
+
+    /// The place of a key among the keys; none where the number is no key.
+    pub fn place_of(&self, key: u32) -> Option<usize>
+        ensures { MatchOption result (is_in self.now.keys key ≡ false)
+            (λ i. (i < length self.now.keys) × (get_or self.now.keys i 0 ≡ key) × (is_in self.now.keys key ≡ true)) }
+    {
+        let place = *self.places.get(key as usize)? as usize;
+        if *self.keys.get(place)? == key {
+            Some(place)
+        } else {
+            None
+        }
+    }
+
+    /// The value of a key; none where the number is no key.
+    pub fn get(&self, key: u32) -> Option<T>
+        ensures { result ≡ value_of self.now key }
+    {
+        let place = self.place_of(key)?;
+        Some(self.values[place])
+    }
+
+    /// Gives the key the value.
+    pub fn enter(&mut self, key: u32, value: T)
+        requires { key < self.old.bound }
+        ensures { self.new ≡ entered self.old key value }
+    {
+        if let Some(place) = self.place_of(key) {
+            self.values[place] = value;
+            return;
+        }
+        self.places[key as usize] = self.keys.len() as u32;
+        self.keys.push_reserved(key);
+        self.values.push_reserved(value);
+    }
+
+    /// Takes the key and its value away, if it is one. The last key takes its place.
+    pub fn leave(&mut self, key: u32)
+        ensures bound { self.new.bound ≡ self.old.bound }
+        ensures keys { (k : ℕ) → is_in self.new.keys k ≡ (is_in self.old.keys k && not (k == key)) }
+        ensures values { (k : ℕ) → value_of self.new k ≡ (if k == key then None else value_of self.old k) }
+        ensures len { length self.new.keys + as_count (is_in self.old.keys key) ≡ length self.old.keys }
+    {
+        let Some(place) = self.place_of(key) else {
+            return;
+        };
+        self.keys.swap_remove(place);
+        self.values.swap_remove(place);
+        if place < self.keys.len() {
+            let moved = self.keys[place];
+            self.places[moved as usize] = place as u32;
+        }
+    }
+
+    /// Gives the key at a place another value.
+    pub fn set_value(&mut self, place: usize, value: T)
+        requires { place < length self.old.keys }
+        ensures { self.new ≡ record { bound = self.old.bound; keys = self.old.keys; values = set self.old.values place value } }
+    {
+        self.values[place] = value;
+    }
+
+    /// Takes all keys away, at the cost of none.
+    pub fn clear(&mut self)
+        ensures { self.new ≡ record { bound = self.old.bound; keys = []; values = [] } }
+    {
+        self.keys.clear();
+        self.values.clear();
+    }
+
+    /// The keys.
+    pub fn keys(&self) -> &[u32]
+        ensures { result.now ≡ self.now.keys }
+    {
+        self.keys.as_slice()
+    }
+
+    /// The values, in the order of their keys.
+    pub fn values(&self) -> &[T]
+        ensures { result.now ≡ self.now.values }
+    {
+        self.values.as_slice()
+    }
+}
