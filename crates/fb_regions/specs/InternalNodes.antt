@@ -1,10 +1,16 @@
 -- The nodes of a dual state, read from what is kept of them.
 use Rattle.std.specs.Prelude.{ℕ, zero, suc, ◌+◌, ◌==◌, List, [], ◌∷◌, ◌++◌, map, get_or, Option, Some, None, if◌then◌else◌}
+use Rattle.std.specs.List.{range_with_len}
 use Rattle.fb_graph.specs.declared.parts.Cut.{Cut}
 use Rattle.fb_graph.specs.Dual.{Node}
 use Rattle.fb_graph.specs.Parity.{is_in}
 use Rattle.fb_regions.specs.declared.marks.Mark.{Mark}
 use Rattle.fb_regions.specs.declared.region.Region.{Region}
+use Rattle.fb_regions.specs.Sparse.{Sparse, value_of}
+
+-- the mark of each vertex, from a table that has only those that there are
+abbrev pub marks_in : Sparse Mark → List (Option Mark)
+marks_in table = map (value_of table) (range_with_len 0 table.bound)
 
 abbrev pub mark_of : List (Option Mark) → ℕ → Option Mark
 mark_of marks v = get_or marks v None
@@ -17,7 +23,7 @@ abbrev pub under_in : Option Mark → ℕ
 under_in None = 0
 under_in (Some m) = m.under
 
--- the last vertex that the node held before this one
+-- the vertex listed before this one
 abbrev pub before_of : List (Option Mark) → ℕ → ℕ
 before_of marks v = before_in (mark_of marks v)
 
@@ -35,6 +41,10 @@ abbrev pub stack : List (Option Mark) → List ℕ → List ℕ → List Cut
 stack marks set [] = []
 stack marks set (v ∷ vs) = record { value = under_of marks v; vertices = set } ∷ stack marks (set ++ v ∷ []) vs
 
+-- the vertices of its first layer
+abbrev pub first_of : List (Option Mark) → Region → List ℕ
+first_of marks r = chain marks r.base r.base_last
+
 -- the vertices that the node has taken up
 abbrev pub added_to : List (Option Mark) → Region → List ℕ
 added_to marks r = chain marks r.added r.last
@@ -43,8 +53,8 @@ abbrev pub node_of : List (Option Mark) → Region → Node
 node_of marks r = record {
   name = r.name;
   children = r.children.items;
-  below = stack marks r.first_set.items (added_to marks r);
-  top = record { value = r.top_value; vertices = r.first_set.items ++ added_to marks r };
+  below = stack marks (first_of marks r) (added_to marks r);
+  top = record { value = r.top_value; vertices = first_of marks r ++ added_to marks r };
 }
 
 abbrev pub nodes_of : List (Option Mark) → List Region → List Node

@@ -1,8 +1,10 @@
 pub mod Codes
 pub mod InternalKept
+pub mod InternalListings
 pub mod InternalNodes
 pub mod InternalPlaces
 pub mod InternalSparse
+pub mod Merged
 pub mod Moves
 pub mod Sparse
 pub mod Walks

@@ -2,7 +2,9 @@
 
 #![tactic(auto)]
 
+mod listing;
 mod marks;
+mod merging;
 mod places;
 mod region;
 pub mod regions;

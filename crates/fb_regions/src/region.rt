@@ -1,18 +1,20 @@
-ghost use Rattle.std.specs.Prelude.{◌≡◌, ◌+◌, ◌<◌, ◌^◌, [], ◌∷◌, ◌++◌, length, map, List, IfOk, OnOk, Option, position, ◌==◌};
+ghost use Rattle.std.specs.Prelude.{◌≡◌, ◌+◌, ◌<◌, ◌^◌, [], ◌∷◌, ◌++◌, length, map, filter, List, IfOk, OnOk, Option, position, ◌==◌};
 ghost use Rattle.std.specs.List.{concat};
-ghost use Rattle.fb_graph.specs.Dual.{layers_of, top_at};
+ghost use Rattle.fb_graph.specs.Dual.{layers_of};
+ghost use Rattle.fb_graph.specs.Printed.{is_positive};
 ghost use Rattle.fb_regions.specs.declared.marks.Mark.{Mark};
 ghost use Rattle.fb_graph.specs.Certificate.{AreDistinct};
-ghost use Rattle.fb_regions.specs.InternalNodes.{added_to, adopted, chain, node_of, nodes_of, radii_from, root_from, stack};
+ghost use Rattle.fb_regions.specs.InternalNodes.{adopted, chain, node_of, radii_from, root_from};
 ghost use Rattle.fb_regions.specs.InternalPlaces.{AreJoinedAbove, IsIndex};
 
 use crate::NodeId;
-use crate::marks::{Mark, before, under};
+use crate::marks::Marks;
 use crate::places::place_of;
 use fb_graph::{Cut, NoMemory, NumberList};
 use std::alloc::Global;
 
-/// What is kept of a node. The vertices that it took up and the values of its lower layers are kept by their marks.
+/// What is kept of a node. Its vertices are kept by their marks, in which each tells the one listed before it, and so are
+/// the values of its lower layers.
 #[derive(Drop)]
 pub struct Region {
     pub name: NodeId,
@@ -20,8 +22,11 @@ pub struct Region {
     pub children: Vec<NodeId>,
     /// The name of the node that joins it.
     pub parent: Option<NodeId>,
-    /// The set of its first layer.
-    pub first_set: Vec<u32>,
+    /// The first of its vertices.
+    pub first: u32,
+    /// The number of vertices of its first layer, and the last of them.
+    pub base: usize,
+    pub base_last: u32,
     /// The number of vertices that it took up, one with each further layer.
     pub added: usize,
     /// The last of its vertices.
@@ -88,40 +93,64 @@ pub fn adopt(
     }
 }
 
-/// The vertices that a node took up, in their order.
-fn added(
-    alloc: Global,
-    marks: &[Option<Mark>],
-    count: usize,
-    last: u32,
-) -> Result<Vec<u32>, NoMemory>
+/// So many vertices back from one, each listed before the next, the last one last.
+fn listed(alloc: Global, marks: &Marks, count: usize, last: u32) -> Result<Vec<u32>, NoMemory>
     ensures { IfOk result (λ v. v.items ≡ chain marks.now count last) }
 {
     let mut vertices = Vec::new(alloc);
     let mut at = last;
     for _ in 0..count {
         vertices.push(at)?;
-        at = before(marks, at);
+        at = marks.before(at);
     }
     vertices.reverse();
     Ok(vertices)
 }
 
 /// A copy of the layers of a node, from the first to the top.
-pub fn layers(alloc: Global, marks: &[Option<Mark>], region: &Region) -> Result<Vec<Cut>, NoMemory>
+pub fn layers(alloc: Global, marks: &Marks, region: &Region) -> Result<Vec<Cut>, NoMemory>
     ensures { IfOk result (λ v. v.items ≡ layers_of (node_of marks.now region.now)) }
 {
-    let added = added(alloc, marks, region.added, region.last)?;
+    let added = listed(alloc, marks, region.added, region.last)?;
     let mut layers = Vec::new(alloc);
-    let mut set = Vec::from_slice(alloc, region.first_set.as_slice())?;
+    let mut set = listed(alloc, marks, region.base, region.base_last)?;
     for v in added.as_slice() {
-        let below = cut(alloc, under(marks, *v), set.as_slice())?;
+        let below = cut(alloc, marks.under(*v), set.as_slice())?;
         layers.push(below)?;
         set.push(*v)?;
     }
     let top = cut(alloc, region.top_value, set.as_slice())?;
     layers.push(top)?;
     Ok(layers)
+}
+
+/// Copies of the layers of a node that have a value, from the first to the top, behind those of a list.
+pub fn put_cuts(
+    alloc: Global,
+    marks: &Marks,
+    region: &Region,
+    cuts: &mut Vec<Cut>,
+) -> Result<(), NoMemory>
+    ensures { OnOk result (cuts.new.items ≡ cuts.old.items ++ filter is_positive (layers_of (node_of marks.now region.now))) }
+{
+    let added = listed(alloc, marks, region.added, region.last)?;
+    let mut set = listed(alloc, marks, region.base, region.base_last)?;
+    for v in added.as_slice() {
+        put_cut(alloc, marks.under(*v), set.as_slice(), cuts)?;
+        set.push(*v)?;
+    }
+    put_cut(alloc, region.top_value, set.as_slice(), cuts)
+}
+
+/// A layer with a copy of the set, behind those of a list, if it has a value.
+fn put_cut(alloc: Global, value: u64, set: &[u32], cuts: &mut Vec<Cut>) -> Result<(), NoMemory>
+    ensures { OnOk result (cuts.new.items ≡ cuts.old.items ++ filter is_positive (record { value = value; vertices = set.now } ∷ [])) }
+{
+    if value > 0 {
+        let layer = cut(alloc, value, set)?;
+        cuts.push(layer)?;
+    }
+    Ok(())
 }
 
 /// A layer with a copy of the set.
@@ -133,15 +162,11 @@ fn cut(alloc: Global, value: u64, set: &[u32]) -> Result<Cut, NoMemory>
 }
 
 /// The vertices of a node: the set of its top layer.
-pub fn vertices(
-    alloc: Global,
-    marks: &[Option<Mark>],
-    region: &Region,
-) -> Result<Vec<u32>, NoMemory>
-    ensures { IfOk result (λ v. v.items ≡ region.now.first_set.items ++ added_to marks.now region.now) }
+pub fn vertices(alloc: Global, marks: &Marks, region: &Region) -> Result<Vec<u32>, NoMemory>
+    ensures { IfOk result (λ v. v.items ≡ (node_of marks.now region.now).top.vertices) }
 {
-    let added = added(alloc, marks, region.added, region.last)?;
-    let mut vertices = Vec::from_slice(alloc, region.first_set.as_slice())?;
+    let added = listed(alloc, marks, region.added, region.last)?;
+    let mut vertices = listed(alloc, marks, region.base, region.base_last)?;
     vertices.extend_from_slice(added.as_slice())?;
     Ok(vertices)
 }

@@ -1,18 +1,26 @@
-ghost use Rattle.std.specs.Prelude.{◌≡◌, ◌+◌, ◌-◌, ◌<◌, ◌≤◌, ◌==◌, not, true, false, List, [], ◌∷◌, ◌++◌, length, map, get_or, All, IfOk, OnOk, OnErr, IsSome, None};
+ghost use Rattle.std.specs.Prelude.{◌≡◌, ◌+◌, ◌-◌, ◌<◌, ◌≤◌, ◌==◌, not, true, false, List, [], ◌∷◌, ◌++◌, length, map, filter, get_or, All, IfOk, OnOk, OnErr, IsSome, None};
 ghost use Rattle.std.specs.List.{concat};
 ghost use Rattle.fb_graph.specs.Parity.{is_in};
 ghost use Rattle.fb_graph.specs.Problem.{edge_at};
 ghost use Rattle.fb_graph.specs.Certificate.{load_of};
 ghost use Rattle.fb_graph.specs.Dual.{AreUnderOne, all_cuts, change_at, cover_of, height_of, is_empty, is_live, is_outer, leaf, leaves, no_node, node_at, thicker, AllowsGrowth, IsCrossed, layers_at, top_at};
+ghost use Rattle.fb_graph.specs.NestUnions.{AreParts};
+ghost use Rattle.fb_graph.specs.Printed.{is_positive};
+ghost use Rattle.fb_graph.specs.RenamedNodes.{renamed_nodes};
+ghost use Rattle.fb_links.specs.Names.{name_by};
+ghost use Rattle.fb_regions.specs.Merged.{AreNewNames};
 ghost use Rattle.fb_graph.specs.Moves.{MayJoin, MaySplit, MayUncover, joined, split, uncovered};
 ghost use Rattle.fb_graph.specs.Nests.{IsNest};
 ghost use Rattle.fb_graph.specs.SourceWalks.{HaveWalks};
 ghost use Rattle.fb_graph.specs.Turns.{thinner};
 ghost use Rattle.fb_regions.specs.Moves.{IsOver, IsSourceWalk, absorbed, inner_end, node_named, outer_end};
 
-use crate::marks::{Hop, Mark, hop_to, mark_at};
+use crate::marks::{Hop, Mark, Marks};
+use crate::listing::list_together;
+use crate::merging::{take_marks, take_node};
 use crate::places::{enter_from, place_of, set_place, widen};
 use crate::region::{self, Region, adopt, radii_of, root_of};
+use fb_links::names::names_of;
 use crate::{Layer, NodeId, Step, Walk};
 use fb_graph::{NoMemory, Scope};
 use std::alloc::Global;
@@ -33,7 +41,7 @@ pub struct Regions<S: Scope> {
     /// The place of each node, by its name.
     places: Vec<Option<usize>>,
     /// A mark for each vertex of the scope.
-    marks: Vec<Option<Mark>>,
+    marks: Marks,
 }
 
 impl<S: Scope> Model for Regions<S> {
@@ -48,9 +56,9 @@ impl<S: Scope> Model for Regions<S> {
     ghost use Rattle.fb_regions.specs.InternalNodes.{nodes_of};
     ghost use Rattle.fb_regions.specs.InternalPlaces.{IsIndex};
 
-    ghost view = { λ r. record { scope = r.scope; nodes = nodes_of r.marks.items r.regions.items } };
+    ghost view = { λ r. record { scope = r.scope; nodes = nodes_of r.marks r.regions.items } };
 
-    ghost invariant = { λ r. IsKept (S.problem r.scope) r.regions.items r.marks.items
+    ghost invariant = { λ r. IsKept (S.problem r.scope) r.regions.items r.marks
         × IsIndex r.regions.items r.places.items };
 }
 
@@ -59,11 +67,52 @@ impl<S: Scope> Regions<S> {
     pub fn new(alloc: Global, scope: &S) -> Result<Regions<S>, NoMemory>
         ensures { IfOk result (λ r. r ≡ record { scope = scope.now; nodes = [] }) }
     {
-        let marks = vec![in alloc; None; scope.vertices() as usize]?;
+        let marks = Marks::new(alloc, scope.vertices())?;
         Ok(Regions {
             scope: *scope,
             regions: Vec::new(alloc),
             places: Vec::new(alloc),
+            marks,
+        })
+    }
+
+    /// The nodes of two separated parts as those of a whole. The left one's names stay, and the right one's nodes get the
+    /// new names that stand beside their old ones in the list. Its time is that of the right one's nodes and vertices.
+    pub fn merged(
+        alloc: Global,
+        left: Regions<S>,
+        right: Regions<S>,
+        nodes: &[(NodeId, NodeId)],
+        scope: &S,
+    ) -> Result<Regions<S>, NoMemory>
+        requires names { AreNewNames left.nodes right.nodes (name_by nodes.now) }
+        requires parts { AreParts (S.problem left.scope) (S.problem right.scope) (S.problem scope.now) }
+        requires left_vertices { (S.problem left.scope).vertices ≡ (S.problem scope.now).vertices }
+        requires right_vertices { (S.problem right.scope).vertices ≡ (S.problem scope.now).vertices }
+        ensures { IfOk result (λ r. r ≡ record { scope = scope.now; nodes = left.nodes ++ renamed_nodes (name_by nodes.now) right.nodes }) }
+    {
+        scope.limits();
+        let names = names_of(alloc, nodes)?;
+        let Regions {
+            scope: _,
+            mut regions,
+            mut places,
+            mut marks,
+        } = left;
+        let Regions {
+            scope: _,
+            regions: others,
+            places: _,
+            marks: more,
+        } = right;
+        take_marks(&mut marks, &more, &names);
+        for region in others {
+            take_node(&mut regions, &mut places, region, &names)?;
+        }
+        Ok(Regions {
+            scope: *scope,
+            regions,
+            places,
             marks,
         })
     }
@@ -92,8 +141,6 @@ impl<S: Scope> Regions<S> {
         ensures ok { OnOk result (self.new ≡ record { scope = self.old.scope; nodes = self.old.nodes ++ leaf node v ∷ [] }) }
         ensures err { OnErr result (self.new ≡ self.old) }
     {
-        let mut first_set = Vec::new(alloc);
-        first_set.push(v)?;
         self.regions.reserve(1)?;
         widen(&mut self.places, node)?;
         let place = self.regions.len();
@@ -102,25 +149,31 @@ impl<S: Scope> Regions<S> {
             name: node,
             children: Vec::new(alloc),
             parent: None,
-            first_set,
+            first: v,
+            base: 1,
+            base_last: v,
             added: 0,
             last: v,
             top_value: 0,
             radius: 0,
         });
-        self.marks[v as usize] = Some(Mark {
-            source: v,
-            leaf: node,
-            distance: 0,
-            rank: 0,
-            by: None,
-            before: v,
-            under: 0,
-        });
+        self.marks.put(
+            v,
+            Mark {
+                source: v,
+                leaf: node,
+                distance: 0,
+                rank: 0,
+                by: None,
+                before: v,
+                under: 0,
+            },
+        );
         Ok(())
     }
 
-    /// Joins an odd number of outer nodes in a blossom, with one layer of value 0 over their vertices. Copies these.
+    /// Joins an odd number of outer nodes in a blossom, with one layer of value 0 over their vertices. Takes time for
+    /// these nodes alone.
     pub fn join_nodes(
         &mut self,
         alloc: Global,
@@ -131,11 +184,10 @@ impl<S: Scope> Regions<S> {
         ensures ok { OnOk result (self.new ≡ record { scope = self.old.scope; nodes = joined node children.now self.old.nodes }) }
         ensures err { OnErr result (self.new ≡ self.old) }
     {
-        let first_set = self.tops_of(alloc, children)?;
         let names = Vec::from_slice(alloc, children)?;
         self.regions.reserve(1)?;
         widen(&mut self.places, node)?;
-        let last = first_set[first_set.len() - 1];
+        let listing = list_together(&self.places, &self.regions, &mut self.marks, children);
         let place = self.regions.len();
         adopt(&self.places, &mut self.regions, children, Some(node));
         set_place(&mut self.places, node, Some(place));
@@ -143,9 +195,11 @@ impl<S: Scope> Regions<S> {
             name: node,
             children: names,
             parent: None,
-            first_set,
+            first: listing.first,
+            base: listing.count,
+            base_last: listing.last,
             added: 0,
-            last,
+            last: listing.last,
             top_value: 0,
             radius: 0,
         });
@@ -218,7 +272,7 @@ impl<S: Scope> Regions<S> {
     {
         self.scope.limits();
         let step = self.step_over(edge);
-        let Some(mark) = mark_at(&self.marks, step.from) else {
+        let Some(mark) = self.marks.at(step.from) else {
             unreachable!()
         };
         let Some(node) = root_of(&self.places, &self.regions, mark.leaf) else {
@@ -232,7 +286,7 @@ impl<S: Scope> Regions<S> {
             source: mark.source,
             leaf: mark.leaf,
             distance: mark.distance + step.weight,
-            rank: region.first_set.len() + region.added,
+            rank: region.base + region.added,
             by: Some(Hop {
                 from: step.from,
                 edge: step.edge,
@@ -243,7 +297,7 @@ impl<S: Scope> Regions<S> {
         region.added += 1;
         region.last = step.to;
         region.top_value = 0;
-        self.marks[step.to as usize] = Some(taken);
+        self.marks.put(step.to, taken);
     }
 
     /// Takes off the top layer, of value 0, of an outer node that has more than one, so that its last vertex is
@@ -257,13 +311,13 @@ impl<S: Scope> Regions<S> {
         };
         let region = &mut self.regions[place];
         let last = region.last;
-        let Some(mark) = mark_at(&self.marks, last) else {
+        let Some(mark) = self.marks.at(last) else {
             unreachable!()
         };
         region.added -= 1;
         region.last = mark.before;
         region.top_value = mark.under;
-        self.marks[last as usize] = None;
+        self.marks.take(last);
     }
 
     /// The step over the edge from its inner end to its outer one.
@@ -294,7 +348,7 @@ impl<S: Scope> Regions<S> {
     pub fn potential(&self, v: u32) -> u64
         ensures { result ≡ height_of (all_cuts self.now.nodes) v }
     {
-        let Some(mark) = mark_at(&self.marks, v) else {
+        let Some(mark) = self.marks.at(v) else {
             return 0;
         };
         radii_of(&self.places, &self.regions, mark.leaf) - mark.distance
@@ -317,7 +371,7 @@ impl<S: Scope> Regions<S> {
     pub fn cover_of(&self, v: u32) -> Option<NodeId>
         ensures { result ≡ cover_of self.now.nodes v }
     {
-        let Some(mark) = mark_at(&self.marks, v) else {
+        let Some(mark) = self.marks.at(v) else {
             return None;
         };
         root_of(&self.places, &self.regions, mark.leaf)
@@ -330,7 +384,7 @@ impl<S: Scope> Regions<S> {
     {
         let mut steps = Vec::new(alloc);
         let mut at = v;
-        while let Some(hop) = hop_to(&self.marks, at) {
+        while let Some(hop) = self.marks.hop_to(at) {
             let weight = self.scope.weight(hop.edge);
             steps.push(Step {
                 from: hop.from,
@@ -355,6 +409,18 @@ impl<S: Scope> Regions<S> {
         region::layers(alloc, &self.marks, &self.regions[place])
     }
 
+    /// Copies of the layers of positive value of all nodes: for each node in the order in which they were made, from its
+    /// first layer to its top one. Its time is that of the sets that it copies, and of each node's vertices.
+    pub fn cuts(&self, alloc: Global) -> Result<Vec<Layer>, NoMemory>
+        ensures { IfOk result (λ cuts. cuts.items ≡ filter is_positive (all_cuts self.now.nodes)) }
+    {
+        let mut cuts = Vec::new(alloc);
+        for region in &self.regions {
+            region::put_cuts(alloc, &self.marks, region, &mut cuts)?;
+        }
+        Ok(cuts)
+    }
+
     /// The node's vertices: a copy of the set of its top layer.
     pub fn vertices(&self, alloc: Global, node: NodeId) -> Result<Vec<u32>, NoMemory>
         requires { is_live self.now.nodes node ≡ true }
@@ -364,19 +430,6 @@ impl<S: Scope> Regions<S> {
             unreachable!()
         };
         region::vertices(alloc, &self.marks, &self.regions[place])
-    }
-
-    /// The vertices of the named nodes, one node after the other.
-    fn tops_of(&self, alloc: Global, names: &[NodeId]) -> Result<Vec<u32>, NoMemory>
-        requires { All (λ name. is_live self.now.nodes name ≡ true) names.now }
-        ensures { IfOk result (λ v. v.items ≡ concat (map (top_at self.now.nodes) names.now)) }
-    {
-        let mut tops = Vec::new(alloc);
-        for name in names {
-            let top = self.vertices(alloc, *name)?;
-            tops.extend_from_slice(top.as_slice())?;
-        }
-        Ok(tops)
     }
 
     /// The sum of the values of the sets that hold the defect.

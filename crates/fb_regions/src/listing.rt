@@ -1,0 +1,55 @@
+use crate::NodeId;
+use crate::marks::{Mark, Marks};
+use crate::places::place_of;
+use crate::region::Region;
+
+/// A list of vertices that is kept by their marks, each of which tells the vertex before.
+#[derive(Clone, Copy, Debug, PartialEq, Eq)]
+pub struct Listing {
+    pub first: u32,
+    pub count: usize,
+    pub last: u32,
+}
+
+/// The list of a node's vertices.
+pub fn listing_of(region: &Region) -> Listing {
+    Listing {
+        first: region.first,
+        count: region.base + region.added,
+        last: region.last,
+    }
+}
+
+/// Tells a marked vertex which one is listed before it.
+fn put_before(marks: &mut Marks, v: u32, before: u32) {
+    if let Some(mark) = marks.at(v) {
+        marks.put(v, Mark { before, ..mark });
+    }
+}
+
+/// Lists the vertices of the named nodes one after another, as one list.
+pub fn list_together(
+    places: &[Option<usize>],
+    regions: &[Region],
+    marks: &mut Marks,
+    names: &[NodeId],
+) -> Listing {
+    let mut listing = Listing {
+        first: 0,
+        count: 0,
+        last: 0,
+    };
+    for name in names {
+        if let Some(place) = place_of(places, *name) {
+            let next = listing_of(&regions[place]);
+            if listing.count == 0 {
+                listing = next;
+            } else {
+                put_before(marks, next.first, listing.last);
+                listing.count += next.count;
+                listing.last = next.last;
+            }
+        }
+    }
+    listing
+}

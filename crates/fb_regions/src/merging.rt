@@ -1,0 +1,40 @@
+use crate::NodeId;
+use crate::marks::{Mark, Marks};
+use crate::places::{set_place, widen};
+use crate::region::Region;
+use fb_graph::NoMemory;
+use fb_links::names::{Names, renamed, renamed_parent};
+
+/// Puts a node behind the others, under its new name, and with the new names of its children and of the node round it.
+pub fn take_node(
+    regions: &mut Vec<Region>,
+    places: &mut Vec<Option<usize>>,
+    mut region: Region,
+    names: &Names,
+) -> Result<(), NoMemory> {
+    region.name = renamed(names, region.name);
+    region.parent = renamed_parent(names, region.parent);
+    rename_all(&mut region.children, names);
+    regions.reserve(1)?;
+    widen(places, region.name)?;
+    set_place(places, region.name, Some(regions.len()));
+    regions.push_reserved(region);
+    Ok(())
+}
+
+/// Gives each node of a list its new name.
+fn rename_all(nodes: &mut [NodeId], names: &Names) {
+    for i in 0..nodes.len() {
+        nodes[i] = renamed(names, nodes[i]);
+    }
+}
+
+/// Gives each vertex that has a mark in the other table that mark, with the new name of its defect's node.
+pub fn take_marks(marks: &mut Marks, others: &Marks, names: &Names) {
+    for v in others.marked() {
+        if let Some(mark) = others.at(*v) {
+            let leaf = renamed(names, mark.leaf);
+            marks.put(*v, Mark { leaf, ..mark });
+        }
+    }
+}
