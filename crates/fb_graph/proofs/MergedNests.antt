@@ -58,7 +58,7 @@ module _ (left right whole : Problem) (nodes others : List Node) (beside : AreBe
         d,
         walk_over left whole nodes (nodes ++ others) c.vertices walk d v beside.left_edges
             (leaves_in left right whole nodes others beside one two d
-                ∙ or_left (is_in (leaves nodes) d) (is_in (leaves others) d) is.defect)
+            ∙ or_left (is_in (leaves nodes) d) (is_in (leaves others) d) is.defect)
             (left_height left right whole nodes others beside one two d (real d is.begins))
             (left_height left right whole nodes others beside one two v (real v within)) is,
       )
@@ -74,7 +74,7 @@ module _ (left right whole : Problem) (nodes others : List Node) (beside : AreBe
         d,
         walk_over right whole others (nodes ++ others) c.vertices walk d v beside.right_edges
             (leaves_in left right whole nodes others beside one two d
-                ∙ or_right (is_in (leaves nodes) d) (is_in (leaves others) d) is.defect)
+            ∙ or_right (is_in (leaves nodes) d) (is_in (leaves others) d) is.defect)
             (right_height left right whole nodes others beside one two d (real d is.begins))
             (right_height left right whole nodes others beside one two v (real v within)) is,
       )

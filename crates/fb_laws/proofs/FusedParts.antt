@@ -12,7 +12,6 @@ use Rattle.fb_graph.specs.Dual.{height_of}
 use Rattle.fb_graph.specs.declared.parts.Cut.{Cut}
 use Rattle.fb_graph.proofs.ClosedSets.{boundary_height, load-append, load_of_unreal, not_held, uncrossed_by_unreal}
 use Rattle.fb_graph.proofs.ParitySums.{differ-false, false-differ, odd-append, odd_agree, odd_none}
-use Rattle.fb_graph.proofs.Sets.{is_in-All}
 use Rattle.fb_graph.proofs.Sums.{sum_same, sum_zero}
 use Rattle.fb_graph.specs.Counts.{as_count}
 use Rattle.fb_graph.specs.NestUnions.{AreParts}

@@ -1,18 +1,16 @@
 -- Outer names stay outer.
-use Rattle.std.proofs.Common.{ℕ, ◌≡◌, ◌⊎◌, inl, inr, true, false, List, [], ◌∷◌, ◌++◌, map, All, refl, sym, ap, ◌∙◌}
+use Rattle.std.proofs.Common.{ℕ, ◌≡◌, ◌⊎◌, inl, inr, true, false, List, [], ◌∷◌, ◌++◌, map, refl, sym, ap, ◌∙◌}
 use Rattle.std.proofs.lemmas.Bool.{both_ways, false_from_ne_true, cases_eq, or_cases}
 use Rattle.std.proofs.lemmas.List.Elements.{All-map}
 use Rattle.fb_graph.specs.Parity.{is_in}
-use Rattle.fb_graph.specs.Dual.{Node, is_live, is_outer, taller}
+use Rattle.fb_graph.specs.Dual.{Node, is_outer, taller}
 use Rattle.fb_graph.proofs.Members.{is_in-append}
 use Rattle.fb_graph.proofs.Nodes.{is_outer-childless}
-use Rattle.fb_graph.proofs.Sets.{is_in-All}
 use Rattle.fb_graph.specs.Steps.{stepped_node}
 use Rattle.fb_graph.specs.Sprouts.{Sprout, node_of, nodes_of}
 use Rattle.fb_graph.specs.Moves.{blossom, joined, split, lower}
-use Rattle.fb_graph.specs.Nests.{IsForest}
 use Rattle.fb_laws.specs.UnmatchedNames.{OuterBegin, OuterFewer, OuterStepped, OuterTakenUp, OuterUncovered, OuterSplit, OuterJoined, OuterBeside, OuterSprouted, NoChildUnmatched}
-use Rattle.fb_graph.proofs.Among.{IsAmong, All_among, among_either, among_right, outer_among, among_outer}
+use Rattle.fb_graph.proofs.Among.{IsAmong, among_either, among_right, outer_among, among_outer}
 use Rattle.fb_graph.proofs.AppendedNodes.{outer_both}
 use Rattle.fb_graph.proofs.ChangedNodes.{change, by_name}
 use Rattle.fb_graph.proofs.Forests.{absent_outer}
