@@ -2,7 +2,7 @@
 use Rattle.std.proofs.Common.{ℕ, zero, suc, ◌≡◌, ◌==◌, ◌&&◌, ◌||◌, ◌⊎◌, inl, inr, not, cond, Bool, true, false, List, [], ◌∷◌, ◌++◌, map, All, AllPairs, Option, Some, None, refl, sym, ap, ◌∙◌, subst, arith, if◌then◌else◌}
 use Rattle.std.specs.List.{find, list_any, concat}
 use Rattle.std.specs.Option.{option_map}
-use Rattle.std.proofs.lemmas.Bool.{both_ways, false≢true, false_from_ne_true, cases_Bool, or_cases, or_left, or_right, or_from, and_parts, eq-eqb, eqb-true, not-true}
+use Rattle.std.proofs.lemmas.Bool.{both_ways, false≢true, false_from_ne_true, cases_Bool, or_cases, or_left, or_right, or_from, or_parts, and_parts, eq-eqb, eqb-true, not-true}
 use Rattle.std.proofs.lemmas.List.Elements.{All-nil, All-cons, All-head, All-tail}
 use Rattle.std.proofs.lemmas.List.Kept.{AllPairs-cons}
 use Rattle.fb_graph.specs.Parity.{is_in}
@@ -150,6 +150,12 @@ top_left (x ∷ xs) ys name live = step (x.name == name) (top_left xs ys name) l
         → (if b then x.top.vertices else top_at (xs ++ ys) name) ≡ (if b then x.top.vertices else top_at xs name)
     step true rest h = refl
     step false rest h = rest h
+
+pub top_right : (xs ys : List Node) (name : ℕ) → is_live xs name ≡ false → top_at (xs ++ ys) name ≡ top_at ys name
+top_right [] ys name none = refl
+top_right (x ∷ xs) ys name none =
+    let parts = or_parts (x.name == name) (is_live xs name) none in
+    ap (λ b. if b then x.top.vertices else top_at (xs ++ ys) name) parts.0 ∙ top_right xs ys name parts.1
 
 pub apart_among : (ns : List Node) → AreDistinct (map (λ n. n.name) ns) → AreOuterApart ns → (m n : Node) → IsAmong m ns → IsAmong n ns
     → (m.name ≡ n.name → ⊥) → is_outer ns m.name ≡ true → is_outer ns n.name ≡ true → AreApart m.top.vertices n.top.vertices

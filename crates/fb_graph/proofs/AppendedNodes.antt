@@ -1,11 +1,12 @@
 -- Nodes beside others: their cuts, leaves and names, and which of them are outer.
-use Rattle.std.proofs.Common.{ℕ, ◌≡◌, ◌+◌, ◌%◌, ◌<◌, ◌==◌, ◌&&◌, ◌||◌, ◌⊎◌, Bool, true, List, ◌∷◌, ◌++◌, map, refl, sym, ap, ◌∙◌, []}
+use Rattle.std.proofs.Common.{ℕ, ◌≡◌, ◌⊎◌, inl, inr, Bool, true, false, List, ◌∷◌, ◌++◌, map, refl, sym, ap, ◌∙◌, []}
 use Rattle.std.specs.List.{list_any}
 use Rattle.std.proofs.lemmas.Bool.{or_parts, not-true, not_from_false}
 use Rattle.std.proofs.lemmas.List.Concat.{flat_map-append}
 use Rattle.std.proofs.lemmas.List.Folds.{list_any-append}
 use Rattle.fb_graph.specs.Parity.{is_in}
 use Rattle.fb_graph.specs.Dual.{Node, all_cuts, layers_of, leaves, defects_of, is_outer}
+use Rattle.fb_graph.proofs.Among.{IsAmong, among_either, among_outer, outer_among}
 
 pub cuts_merged : (nodes others : List Node) → all_cuts (nodes ++ others) ≡ all_cuts nodes ++ all_cuts others
 cuts_merged nodes others = flat_map-append layers_of nodes others
@@ -22,6 +23,16 @@ outer_in nodes others name outer =
   where
     has : Node → Bool
     has n = is_in n.children name
+
+-- and one that both have as an outer name
+pub outer_both : (nodes others : List Node) (n : ℕ) → is_outer nodes n ≡ true → is_outer others n ≡ true
+    → is_outer (nodes ++ others) n ≡ true
+outer_both nodes others n one other =
+    among_outer (nodes ++ others) n (λ q a. by q (among_either nodes others q a))
+  where
+    by : (q : Node) → IsAmong q nodes ⊎ IsAmong q others → is_in q.children n ≡ false
+    by q (inl a) = outer_among nodes n one q a
+    by q (inr a) = outer_among others n other q a
 
 pub names_merged : (nodes others : List Node) → map (λ n. n.name) (nodes ++ others) ≡ map (λ n. n.name) nodes ++ map (λ n. n.name) others
 names_merged [] others = refl

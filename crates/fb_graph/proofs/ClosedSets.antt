@@ -7,8 +7,10 @@ use Rattle.fb_graph.specs.Parity.{differ, is_odd_count, is_in}
 use Rattle.fb_graph.specs.Problem.{Problem, edge_at, no_edge, crosses}
 use Rattle.fb_graph.specs.Certificate.{IsOddCut, load_of}
 use Rattle.fb_graph.specs.Laws.{IsPart, has_real_end, PartHasNoOddClosed, EdgeLeaves, PackingOfPart, PackingsJoined}
+use Rattle.fb_graph.specs.Dual.{height_of}
 use Rattle.fb_graph.specs.declared.parts.Edge.{Edge}
 use Rattle.fb_graph.specs.declared.parts.Cut.{Cut}
+use Rattle.fb_graph.proofs.CutSums.{weigh_none}
 use Rattle.fb_graph.proofs.ParitySums.{odd_agree}
 use Rattle.fb_graph.proofs.Sums.{sum_same, sum_zero}
 use Rattle.fb_graph.proofs.Sets.{is_in-All}
@@ -65,17 +67,25 @@ packing_of_part small large cuts part packing = record {
   fits = subst (λ edges. All (λ e. load_of cuts e ≤ e.weight) edges) part.edges packing.fits;
 }
 
+-- a set of real vertices holds none that isn't real
+pub not_held : (p : Problem) (set : List ℕ) (v : ℕ) → All (λ u. p.is_real u ≡ true) set
+    → p.is_real v ≡ false → is_in set v ≡ false
+not_held p set v real boundary =
+    false_from_ne_true (is_in set v)
+    (λ within. both_ways (p.is_real v) boundary (is_in-All (λ u. p.is_real u ≡ true) set real v within))
+
+-- so that it has no potential
+pub boundary_height : (p : Problem) (cuts : List Cut) (v : ℕ) → All (IsOddCut p) cuts → p.is_real v ≡ false
+    → height_of cuts v ≡ 0
+boundary_height p cuts v odd boundary =
+    weigh_none (λ s. is_in s v) cuts (λ i d less. not_held p (get_or cuts i d).vertices v (odd i d less).real boundary)
+
 -- an edge with no real end crosses no set of real vertices
 pub uncrossed_by_unreal : (p : Problem) (set : List ℕ) (e : Edge) → All (λ v. p.is_real v ≡ true) set
     → has_real_end p e ≡ false → crosses set e ≡ false
 uncrossed_by_unreal p set e real unreal =
-    ap (λ a. differ a (is_in set e.second)) (out e.first (or_parts _ _ unreal).0)
-    ∙ ap (differ false) (out e.second (or_parts _ _ unreal).1)
-  where
-    out : (v : ℕ) → p.is_real v ≡ false → is_in set v ≡ false
-    out v boundary =
-        false_from_ne_true (is_in set v)
-        (λ within. both_ways (p.is_real v) boundary (is_in-All (λ u. p.is_real u ≡ true) set real v within))
+    ap (λ a. differ a (is_in set e.second)) (not_held p set e.first real (or_parts _ _ unreal).0)
+    ∙ ap (differ false) (not_held p set e.second real (or_parts _ _ unreal).1)
 
 -- an edge with no real end has no load
 pub load_of_unreal : (p : Problem) (cuts : List Cut) (e : Edge) → All (IsOddCut p) cuts → has_real_end p e ≡ false

@@ -7,13 +7,13 @@ use Rattle.std.proofs.lemmas.List.Sums.{sum_by-cons}
 use Rattle.fb_graph.specs.Parity.{differ, is_in}
 use Rattle.fb_graph.specs.Problem.{Problem, crosses, with_defects}
 use Rattle.fb_graph.specs.Certificate.{AreDistinct, IsOddCut, IsPacking, total_value}
-use Rattle.fb_graph.specs.Dual.{Node, IsDual, IsHeld, IsNestedOrApart, IsWithin, AreGrown, AreOuterApart, HasRadius, all_cuts, layers_of, leaves, defects_of, first_vertices, is_empty, cover_of, height_of, is_outer, top_at}
+use Rattle.fb_graph.specs.Dual.{Node, IsDual, IsHeld, IsNestedOrApart, IsWithin, AreGrown, AreOuterApart, HasRadius, all_cuts, layers_of, leaves, defects_of, first_vertices, is_empty, cover_of, height_of, is_live, is_outer, top_at}
 use Rattle.fb_graph.specs.declared.parts.Cut.{Cut}
 use Rattle.fb_graph.proofs.CutSums.{weigh_none, weigh-either}
 use Rattle.fb_graph.proofs.Nodes.{All-flat_map, All-pieces, All-top, layers_within, layers_hold}
 use Rattle.fb_graph.proofs.Sets.{is_in-All}
 use Rattle.fb_graph.specs.Nests.{IsForest, IsFilled, AreJoinedLater, HasSources, first_set}
-use Rattle.fb_graph.proofs.Among.{IsAmong, All_among, among_All, outer_or_not, top_among, covered_by, cover_among, in_concat, leaf_among}
+use Rattle.fb_graph.proofs.Among.{IsAmong, All_among, among_All, outer_or_not, among_outer, top_among, covered_by, cover_among, in_concat, leaf_among}
 
 -- all layers hold what the first one holds
 pub first_held : (n : Node) (v : ℕ) → AreGrown (layers_of n) → is_in (first_set n) v ≡ true → All (λ c. is_in c.vertices v ≡ true) (layers_of n)
@@ -102,6 +102,17 @@ cuts_under nodes grove =
     All-weaker (λ c. IsWithin c.vertices n.top.vertices) (λ c. IsUnder nodes c.vertices)
     (λ c within. under_wider nodes c.vertices n.top.vertices within (under_outer nodes grove n a))
     (layers_of n) (layers_within n.below n.top (All_among (λ x. AreGrown (layers_of x)) nodes grove.grown n a))))
+
+-- a name that no node has is no child
+pub absent_outer : (nodes : List Node) → IsForest nodes → (n : ℕ) → is_live nodes n ≡ false → is_outer nodes n ≡ true
+absent_outer nodes forest n absent =
+    among_outer nodes n
+    (λ q a.
+    false_from_ne_true (is_in q.children n)
+    (λ h.
+    both_ways (is_live nodes n) absent
+    (is_in-All (λ c. is_live nodes c ≡ true) q.children
+    (All_among (λ m. All (λ c. is_live nodes c ≡ true) m.children) nodes forest.live q a) n h)))
 
 -- the facts from which all others follow
 pub record IsBase (p : Problem) (nodes : List Node) : Type 0 where

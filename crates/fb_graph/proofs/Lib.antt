@@ -22,7 +22,9 @@ pub mod LoweredNests
 pub mod MappedNodes
 pub mod Matching
 pub mod Members
+pub mod MergedNests
 pub mod NestParts
+pub mod NestUnions
 pub mod NewLeaves
 pub mod Nodes
 pub mod OddComponents

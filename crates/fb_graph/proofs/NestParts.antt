@@ -4,7 +4,7 @@ use Rattle.std.proofs.lemmas.List.Elements.{All-head, All-tail}
 use Rattle.fb_graph.specs.Parity.{is_in}
 use Rattle.fb_graph.specs.Problem.{Problem, with_defects}
 use Rattle.fb_graph.specs.Certificate.{AreDistinct, IsOddCut}
-use Rattle.fb_graph.specs.Dual.{Node, AreOuterApart, all_cuts, leaves, is_live}
+use Rattle.fb_graph.specs.Dual.{Node, IsDual, AreOuterApart, all_cuts, leaves, is_live}
 use Rattle.fb_graph.proofs.Sets.{member_of_odd}
 use Rattle.fb_graph.specs.Nests.{IsNest, HasSources}
 use Rattle.fb_graph.proofs.Among.{IsAmong}
@@ -49,6 +49,10 @@ pub top_holds : (p : Problem) (nodes : List Node) → IsNest p nodes → (m : No
 top_holds p nodes nest m a =
     let (v, within, leaf) = member_of_odd (is_in (leaves nodes)) m.top.vertices (top_is_odd p nodes nest m a).odd in
     (v, within)
+
+-- the defects of a dual state are real
+pub leaf_real : (p : Problem) (nodes : List Node) (v : ℕ) → IsDual p nodes → is_in (leaves nodes) v ≡ true → p.is_real v ≡ true
+leaf_real p nodes v dual leaf = dual.real v (dual.defects v leaf)
 
 pub names_live : (ns : List Node) (name : ℕ) → is_in (map (λ n. n.name) ns) name ≡ is_live ns name
 names_live [] name = refl

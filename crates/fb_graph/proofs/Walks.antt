@@ -30,6 +30,16 @@ IsWalkBy-reverse p (k ∷ ks) a b (next, within, leads, rest) =
     (IsWalkBy-append p (reverse ks) (k ∷ []) b next a (IsWalkBy-reverse p ks next b rest)
     (IsWalkBy-one p k next a within (Leads_flip (edge_at p.edges k) a next leads)))
 
+-- a walk is one over the same edges
+pub walk_same : (p q : Problem) → p.edges ≡ q.edges → (ks : List ℕ) (a b : ℕ) → IsWalkBy p ks a b → IsWalkBy q ks a b
+walk_same p q edges [] a b walk = walk
+walk_same p q edges (k ∷ ks) a b (next, within, leads, rest) = (
+  next,
+  subst (λ es. k < length es) edges within,
+  subst (λ es. Leads (edge_at es k) a next) edges leads,
+  walk_same p q edges ks next b rest,
+)
+
 pub joined_self : (p : Problem) (v : ℕ) → IsJoined p v v
 joined_self p v = ([], refl)
 

@@ -15,6 +15,7 @@ pub mod Limits
 pub mod Links
 pub mod LocalPlaces
 pub mod Moves
+pub mod NestUnions
 pub mod Nests
 pub mod NewLeaves
 pub mod Parity

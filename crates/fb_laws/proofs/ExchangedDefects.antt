@@ -5,7 +5,7 @@ use Rattle.fb_graph.specs.Problem.{Problem, edge_at, with_defects}
 use Rattle.fb_graph.specs.Dual.{Node, IsDual, all_cuts, height_of}
 use Rattle.fb_graph.specs.SourceWalks.{IsEdgeIn, HasWalks}
 use Rattle.fb_laws.specs.ExchangedDefects.{DualExchanged, NestExchanged, WalksExchanged}
-use Rattle.fb_laws.proofs.Shifts.{walk_same}
+use Rattle.fb_graph.proofs.Walks.{walk_same}
 
 dual_onto : (p : Problem) (nodes : List Node) (defects : List ℕ) → IsDual p nodes → IsDual (with_defects p defects) nodes
 dual_onto p nodes defects dual = record {

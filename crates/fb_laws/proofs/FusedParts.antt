@@ -10,17 +10,16 @@ use Rattle.fb_graph.specs.Components.{Leads, IsWalkBy}
 use Rattle.fb_graph.specs.Laws.{Link, IsTight, IsPart, AreSeparated, has_real_end, ends_of}
 use Rattle.fb_graph.specs.Dual.{height_of}
 use Rattle.fb_graph.specs.declared.parts.Cut.{Cut}
-use Rattle.fb_graph.proofs.ClosedSets.{load-append, load_of_unreal, uncrossed_by_unreal}
-use Rattle.fb_graph.proofs.CutSums.{weigh_none}
+use Rattle.fb_graph.proofs.ClosedSets.{boundary_height, load-append, load_of_unreal, not_held, uncrossed_by_unreal}
 use Rattle.fb_graph.proofs.ParitySums.{differ-false, false-differ, odd-append, odd_agree, odd_none}
-use Rattle.fb_graph.proofs.Sets.{is_in-All}
 use Rattle.fb_graph.proofs.Sums.{sum_same, sum_zero}
 use Rattle.fb_graph.specs.Counts.{as_count}
-use Rattle.fb_laws.specs.Fusion.{IsLinkOf, AreParts, PartsTurned, LinkEndsAway, TightFused, TightFusedRight, FusedEnds, BoundaryHeight, HeightFused, Forgotten, SeamParity, FusedPerfect}
+use Rattle.fb_graph.specs.NestUnions.{AreParts}
+use Rattle.fb_laws.specs.Fusion.{IsLinkOf, PartsTurned, LinkEndsAway, TightFused, TightFusedRight, FusedEnds, HeightFused, Forgotten, SeamParity, FusedPerfect}
 use Rattle.fb_graph.proofs.EndSums.{ends-cons}
 use Rattle.fb_laws.proofs.PathSums.{ends_out}
-use Rattle.fb_laws.proofs.Shifts.{walk_same}
 use Rattle.fb_graph.proofs.TightLinks.{boundary_parity}
+use Rattle.fb_graph.proofs.Walks.{walk_same}
 
 pub parts_turned : PartsTurned
 parts_turned left right whole parts = record {
@@ -103,12 +102,6 @@ tight_fused_right left right whole cuts more l parts odd is tight =
       unloaded right left whole cuts l (parts_turned left right whole parts) odd is,
     )
 
--- a set of real vertices holds none that isn't real
-pub not_held : (p : Problem) (set : List ℕ) (v : ℕ) → All (λ u. p.is_real u ≡ true) set → p.is_real v ≡ false → is_in set v ≡ false
-not_held p set v real boundary =
-    false_from_ne_true (is_in set v)
-    (λ within. both_ways (p.is_real v) boundary (is_in-All (λ u. p.is_real u ≡ true) set real v within))
-
 pub fused_ends : FusedEnds
 fused_ends left right whole set [] parts are real = refl
 fused_ends left right whole set (l ∷ links) parts are real =
@@ -120,10 +113,6 @@ fused_ends left right whole set (l ∷ links) parts are real =
       ap as_count (not_held right set l.from real away.0),
       ap as_count (not_held right set l.to real away.1),
     )
-
-pub boundary_height : BoundaryHeight
-boundary_height p cuts v odd boundary =
-    weigh_none (λ s. is_in s v) cuts (λ i d less. not_held p (get_or cuts i d).vertices v (odd i d less).real boundary)
 
 pub height_fused : HeightFused
 height_fused left right whole cuts more v parts odd real =

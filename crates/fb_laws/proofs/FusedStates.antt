@@ -3,7 +3,7 @@ use Rattle.std.proofs.Common.{ℕ, ◌≡◌, ◌⊎◌, inl, inr, true, ◌++�
 use Rattle.std.proofs.lemmas.Bool.{or_left, or_right, or_cases}
 use Rattle.std.proofs.lemmas.List.{length-append, length-map}
 use Rattle.fb_graph.specs.Limits.{IsWithinLimits}
-use Rattle.fb_laws.specs.Fusion.{AreParts}
+use Rattle.fb_graph.specs.NestUnions.{AreParts}
 use Rattle.fb_laws.specs.Merging.{freed_links, freed_names}
 use Rattle.fb_laws.specs.NestedSearches.{IsNestedWork}
 use Rattle.fb_laws.specs.FusedStates.{NestedFused, UnmatchedCounted, without_seam}

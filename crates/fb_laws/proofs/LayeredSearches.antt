@@ -8,6 +8,7 @@ use Rattle.fb_graph.specs.Parity.{is_in}
 use Rattle.fb_graph.specs.Problem.{Problem}
 use Rattle.fb_graph.specs.Laws.{Link}
 use Rattle.fb_graph.specs.Dual.{Node, IsDual, leaves, cover_of, is_live, is_outer, node_at, no_node, top_at, change_at, taller}
+use Rattle.fb_graph.proofs.ClosedSets.{not_held}
 use Rattle.fb_graph.proofs.Members.{is_in_pushed}
 use Rattle.fb_graph.proofs.Sets.{member_of_odd}
 use Rattle.fb_graph.proofs.Sums.{sum_same}
@@ -21,7 +22,6 @@ use Rattle.fb_laws.specs.SearchLayers.{SearchAlike}
 use Rattle.fb_graph.specs.Alike.{AreAlike, TallerCovered}
 use Rattle.fb_graph.proofs.Crossings.{cover_found, cover_holds}
 use Rattle.fb_graph.proofs.EndSums.{ends_of_one}
-use Rattle.fb_laws.proofs.FusedParts.{not_held}
 use Rattle.fb_laws.proofs.MatchedNodes.{odd_top}
 use Rattle.fb_laws.proofs.SearchTrees.{cover_set, matched_named, all_before}
 use Rattle.fb_graph.proofs.TallerNodes.{name_found, outer_taller}

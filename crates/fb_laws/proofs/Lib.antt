@@ -24,7 +24,6 @@ pub mod MetLinks
 pub mod MoveBridges
 pub mod NestOpenings
 pub mod NestOrders
-pub mod NestUnions
 pub mod NestedFusions
 pub mod NestedStates
 pub mod OpenedBlossoms

@@ -7,6 +7,7 @@ use Rattle.fb_graph.specs.Problem.{Problem, with_defects}
 use Rattle.fb_graph.specs.Certificate.{IsOddCut}
 use Rattle.fb_graph.specs.Laws.{Link}
 use Rattle.fb_graph.specs.Dual.{Node, IsDual, all_cuts, leaves, is_outer, node_at, no_node, AreApart}
+use Rattle.fb_graph.proofs.ClosedSets.{not_held}
 use Rattle.fb_graph.proofs.Nodes.{All-cuts-at, All-top, All-below}
 use Rattle.fb_graph.proofs.Sets.{member_of_odd, is_in-filter}
 use Rattle.fb_graph.specs.Counts.{as_count}
@@ -18,7 +19,6 @@ use Rattle.fb_laws.specs.Works.{AreMatchedLinks, IsSetOf, IsBranchOf, without, M
 use Rattle.fb_laws.proofs.BlossomSums.{whole_apart, whole_itself, holds_apart, holds_itself}
 use Rattle.fb_graph.proofs.Crossings.{one_of_name}
 use Rattle.fb_graph.proofs.EndSums.{apart_sym, ends_append, ends-cons}
-use Rattle.fb_laws.proofs.FusedParts.{not_held}
 use Rattle.fb_laws.proofs.PathSums.{augmented, ends_out}
 
 -- an outer node's set is that of the name, or is apart from it

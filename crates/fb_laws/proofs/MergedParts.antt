@@ -17,17 +17,20 @@ use Rattle.fb_graph.proofs.Sets.{is_in-All}
 use Rattle.fb_graph.specs.Counts.{as_count}
 use Rattle.fb_graph.specs.Ends.{ends_in}
 use Rattle.fb_graph.specs.Links.{IsTightLink}
-use Rattle.fb_laws.specs.Fusion.{IsLinkOf, AreParts}
+use Rattle.fb_graph.specs.NestUnions.{AreParts}
+use Rattle.fb_laws.specs.Fusion.{IsLinkOf}
 use Rattle.fb_laws.specs.Works.{HasDefects}
 use Rattle.fb_laws.specs.Merging.{MatchingsMerged}
 use Rattle.fb_graph.proofs.Crossings.{cover_found, found_place}
 use Rattle.fb_graph.proofs.EndSums.{ends_append}
-use Rattle.fb_laws.proofs.FusedParts.{parts_turned, link_ends_away, tight_fused, tight_fused_right, fused_ends, boundary_height, height_fused}
+use Rattle.fb_laws.proofs.FusedParts.{parts_turned, link_ends_away, tight_fused, tight_fused_right, fused_ends, height_fused}
 use Rattle.fb_laws.proofs.HalvesKept.{odd_of_part}
 use Rattle.fb_laws.proofs.MatchedNodes.{odd_top}
-use Rattle.fb_laws.proofs.Shifts.{walk_same}
 use Rattle.std.proofs.lemmas.List.Sums.{sum_by-append}
 use Rattle.fb_graph.proofs.AppendedNodes.{cuts_merged, leaves_merged, names_merged, outer_in}
+use Rattle.fb_graph.proofs.ClosedSets.{boundary_height}
+use Rattle.fb_graph.proofs.NestParts.{leaf_real}
+use Rattle.fb_graph.proofs.Walks.{walk_same}
 
 pub odd_in : (p : Problem) (nodes : List Node) → IsDual p nodes → HasDefects p nodes → All (IsOddCut p) (all_cuts nodes)
 odd_in p nodes dual defects i d less = odd_of_part p nodes (get_or (all_cuts nodes) i d) defects (dual.packing.odd i d less)
@@ -91,10 +94,6 @@ pub named_at : (ns : List Node) (j : ℕ) → j < length ns → is_in (map (λ n
 named_at [] j less = absurd (omega arith)
 named_at (n ∷ ns) zero less = or_left (n.name == n.name) _ (eq-eqb n.name n.name refl)
 named_at (n ∷ ns) (suc j) less = or_right (n.name == (node_at ns j).name) _ (named_at ns j (omega arith))
-
--- the defects of a part are real in it
-pub leaf_real : (p : Problem) (nodes : List Node) (v : ℕ) → IsDual p nodes → is_in (leaves nodes) v ≡ true → p.is_real v ≡ true
-leaf_real p nodes v dual leaf = dual.real v (dual.defects v leaf)
 
 pub real_held : (p : Problem) (nodes : List Node) (j v : ℕ) → IsDual p nodes → j < length nodes
     → is_in (node_at nodes j).top.vertices v ≡ true → p.is_real v ≡ true

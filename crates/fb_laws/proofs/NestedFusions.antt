@@ -19,10 +19,11 @@ use Rattle.fb_laws.specs.UnmatchedNames.{AreOuterNames}
 use Rattle.fb_laws.specs.Works.{IsMatching, IsSetOf}
 use Rattle.fb_graph.proofs.Among.{among_live, cover_among}
 use Rattle.fb_graph.proofs.Crossings.{cover_found}
+use Rattle.fb_graph.proofs.MergedNests.{beside_of_parts, beside_of_sprouts, sprouting, sprouting_nest, walks_beside}
 use Rattle.fb_laws.proofs.FusedParts.{seam_parity}
 use Rattle.fb_laws.proofs.MergedParts.{matchings_merged, odd_in, real_held}
 use Rattle.fb_graph.proofs.NestParts.{names_live}
-use Rattle.fb_laws.proofs.NestUnions.{beside_of_parts, beside_of_sprouts, nests_beside, parity_beside, sprouting, sprouting_nest, walks_beside}
+use Rattle.fb_graph.proofs.NestUnions.{nests_beside, parity_beside}
 use Rattle.fb_laws.proofs.PotentialParities.{parities_joined}
 use Rattle.fb_laws.proofs.SearchTrees.{all_before}
 use Rattle.fb_laws.proofs.SeamStates.{seam_opened}

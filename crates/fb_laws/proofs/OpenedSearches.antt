@@ -7,6 +7,7 @@ use Rattle.fb_graph.specs.Problem.{Problem}
 use Rattle.fb_graph.specs.Certificate.{AreDistinct}
 use Rattle.fb_graph.specs.Laws.{Link}
 use Rattle.fb_graph.specs.Dual.{Node, IsDual, all_cuts, leaves, cover_of, height_of, is_outer, node_at, no_node, top_at}
+use Rattle.fb_graph.proofs.ClosedSets.{not_held}
 use Rattle.fb_graph.proofs.Sets.{is_in-cases, is_in-head, is_in-tail, member_of_odd}
 use Rattle.fb_graph.specs.Counts.{as_count}
 use Rattle.fb_graph.specs.Ends.{ends_in}
@@ -16,7 +17,6 @@ use Rattle.fb_laws.specs.Trees.{Connects}
 use Rattle.fb_laws.specs.SearchOpenings.{IsSplit, PairUp, MatchingOpened}
 use Rattle.fb_graph.proofs.Crossings.{cover_found, cover_holds}
 use Rattle.fb_graph.proofs.EndSums.{ends-cons, ends_append, ends_of_one}
-use Rattle.fb_laws.proofs.FusedParts.{not_held}
 use Rattle.fb_laws.proofs.MatchedNodes.{odd_top}
 use Rattle.fb_laws.proofs.SearchStates.{links_joined}
 use Rattle.fb_laws.proofs.SearchTrees.{cover_set, matched_named, top_at_place}

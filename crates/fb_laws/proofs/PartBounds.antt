@@ -17,7 +17,7 @@ use Rattle.fb_graph.specs.declared.parts.Cut.{Cut}
 use Rattle.fb_graph.proofs.Among.{All_among, among_All}
 use Rattle.fb_graph.proofs.InsertedCuts.{pairs_head, pairs_tail}
 use Rattle.fb_graph.proofs.Members.{is_in-append}
-use Rattle.fb_graph.proofs.NestParts.{names_live}
+use Rattle.fb_graph.proofs.NestParts.{names_live, leaf_real}
 use Rattle.fb_graph.proofs.Nodes.{All-pieces, All-top}
 use Rattle.fb_graph.proofs.Sets.{distinct_from_rising, is_in-All, is_in-range, length-le_from_within, member_of_odd, range_rises}
 use Rattle.fb_graph.proofs.Sums.{sum_le}
@@ -25,7 +25,6 @@ use Rattle.fb_graph.proofs.Unions.{distinct_append}
 use Rattle.fb_laws.specs.PartBounds.{IsRealBelow, FewLeaves, FewBlossoms, PartsBelow, SearchRankFalls}
 use Rattle.fb_laws.specs.SearchLayers.{blossoms_beside, defects_beside, layers_in, left_to_do, vertices_beside}
 use Rattle.fb_laws.proofs.FallingRanks.{rank_falls}
-use Rattle.fb_laws.proofs.MergedParts.{leaf_real}
 
 -- a distinct list of numbers below n is no longer than n
 distinct_below : (xs : List ℕ) (n : ℕ) → AreDistinct xs → ((v : ℕ) → is_in xs v ≡ true → v < n) → length xs ≤ n

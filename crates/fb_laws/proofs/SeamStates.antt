@@ -22,14 +22,16 @@ use Rattle.fb_laws.specs.Works.{IsSetOf}
 use Rattle.fb_laws.specs.Merging.{Freed, freed_links, freed_names, EndElsewhere, SeamOpened}
 use Rattle.fb_graph.proofs.Crossings.{cover_found}
 use Rattle.fb_graph.proofs.EndSums.{ends-cons, ends_append}
-use Rattle.fb_laws.proofs.FusedParts.{boundary_height, not_held, same_weight}
+use Rattle.fb_laws.proofs.FusedParts.{same_weight}
 use Rattle.fb_laws.proofs.HalvesKept.{name_in_all}
 use Rattle.fb_laws.proofs.MatchedNodes.{odd_top, set_whole, set_held, all_after}
-use Rattle.fb_laws.proofs.MergedParts.{HoldsIn, odd_in, side_of, distinct_across, named_at, leaf_real, real_held, part_of_link}
+use Rattle.fb_laws.proofs.MergedParts.{HoldsIn, odd_in, side_of, distinct_across, named_at, real_held, part_of_link}
 use Rattle.fb_graph.proofs.AppendedNodes.{cuts_merged, leaves_merged, outer_in, names_merged}
+use Rattle.fb_graph.proofs.ClosedSets.{boundary_height, not_held}
+use Rattle.fb_graph.proofs.NestParts.{leaf_real}
 use Rattle.fb_laws.proofs.PathSums.{ends_out}
-use Rattle.fb_laws.proofs.Shifts.{walk_same}
 use Rattle.fb_graph.proofs.SproutStates.{cuts_are, leaves_are, names_are, no_sum}
+use Rattle.fb_graph.proofs.Walks.{walk_same}
 
 -- new nodes without value add nothing to any sum
 pub weigh_with : (test : List ℕ → Bool) (nodes : List Node) (sprouts : List Sprout) → All (λ s. s.value ≡ 0) sprouts

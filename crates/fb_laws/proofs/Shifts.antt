@@ -1,5 +1,5 @@
 -- Shifted defects and signed weights.
-use Rattle.std.proofs.Common.{ℕ, ◌≡◌, ◌+◌, ◌*◌, ◌≤◌, ◌<◌, ◌==◌, ◌&&◌, Bool, true, false, cond, List, [], ◌∷◌, length, All, Option, Some, None, filter, sum_by, get_or, refl, sym, ap, ◌∙◌, subst, arith}
+use Rattle.std.proofs.Common.{ℕ, ◌≡◌, ◌+◌, ◌*◌, ◌≤◌, ◌<◌, ◌==◌, ◌&&◌, Bool, true, false, cond, List, length, All, Option, Some, None, filter, sum_by, get_or, refl, sym, ap, ◌∙◌, subst, arith}
 use Rattle.std.specs.List.{range_with_len}
 use Rattle.std.proofs.lemmas.Bool.{eqb-true}
 use Rattle.std.proofs.lemmas.List.Elements.{All-filter}
@@ -7,12 +7,13 @@ use Rattle.std.proofs.lemmas.List.Kept.{IsStrictlyIncreasing-filter}
 use Rattle.fb_graph.specs.Parity.{differ, is_odd_count, is_in}
 use Rattle.fb_graph.specs.Problem.{Problem, Flips, edge_at, touches, crosses, weight_of, no_edge}
 use Rattle.fb_graph.specs.Certificate.{AreDistinct, total_value}
-use Rattle.fb_graph.specs.Components.{Leads, IsWalkBy, IsJoined, IsOddAt, IsFirstOdd}
+use Rattle.fb_graph.specs.Components.{IsJoined, IsOddAt, IsFirstOdd}
 use Rattle.fb_graph.proofs.ParitySums.{differ_assoc, differ_self, differ-false, odd_same, odd_agree, odd_none, odd_exchange, odd-differ, odd-filter, and_comm, and-true}
 use Rattle.fb_graph.proofs.Sums.{sum_same, sum_add, sum_exchange, sum-filter, sum_of_count}
 use Rattle.fb_graph.proofs.Sets.{equal_sym, one_if, count_equal, crosses_as_touches, odd_meet, distinct_from_rising, range_rises, range_below, is_in-range}
 use Rattle.fb_graph.proofs.Duality.{weak_duality}
 use Rattle.fb_graph.proofs.OddComponents.{component_uncrossed}
+use Rattle.fb_graph.proofs.Walks.{walk_same}
 use Rattle.fb_laws.specs.Signed.{negatives, shifted, added_weight, taken_weight, base_of, unshifted, SignedDuality, SignedSolved, SignedLeast, SameFirstOdd, SameNoOddClosed}
 
 range_distinct : (n : ℕ) → AreDistinct (range_with_len 0 n)
@@ -214,16 +215,7 @@ odd_shifted p is_negative set distinct uncrossed =
     ∙ odd_none (negatives p is_negative)))
     ∙ differ-false (is_odd_count p.is_defect set))
 
--- walks, components and odd components are those of the edges
-pub walk_same : (p q : Problem) → p.edges ≡ q.edges → (ks : List ℕ) (a b : ℕ) → IsWalkBy p ks a b → IsWalkBy q ks a b
-walk_same p q edges [] a b walk = walk
-walk_same p q edges (k ∷ ks) a b (next, within, leads, rest) = (
-  next,
-  subst (λ es. k < length es) edges within,
-  subst (λ es. Leads (edge_at es k) a next) edges leads,
-  walk_same p q edges ks next b rest,
-)
-
+-- components and odd components are those of the edges
 joined_same : (p q : Problem) → p.edges ≡ q.edges → (a b : ℕ) → IsJoined p a b → IsJoined q a b
 joined_same p q edges a b (ks, walk) = (ks, walk_same p q edges ks a b walk)
 

@@ -13,6 +13,7 @@ use Rattle.fb_graph.specs.Moves.{MayJoin, blossom, joined}
 use Rattle.fb_graph.specs.Nests.{IsNest, child_sets}
 use Rattle.fb_graph.proofs.Among.{IsAmong, All_among, among_All, among_either, among_left, among_live, among_outer, among_right, live_among, outer_among, top_left}
 use Rattle.fb_graph.proofs.AppendedNodes.{cuts_merged, leaves_merged}
+use Rattle.fb_graph.proofs.Forests.{absent_outer}
 use Rattle.fb_graph.proofs.NestParts.{map_agree}
 use Rattle.fb_graph.proofs.Sets.{All-from_is_in, is_in-All, is_in-cases, is_in-filter, is_in-head}
 use Rattle.fb_graph.proofs.TightLinks.{empty_layer_loads}
@@ -34,7 +35,6 @@ use Rattle.fb_laws.proofs.RingLinks.{cycle_link_in, linked_live, links_among, ri
 use Rattle.fb_laws.proofs.SearchStates.{links_joined, unmatched_outside}
 use Rattle.fb_laws.proofs.TreeCycles.{cycle_joining, cycle_linked, cycle_many}
 use Rattle.fb_laws.proofs.TreePaths.{in_left, in_right, path_among, tree_connects}
-use Rattle.fb_laws.proofs.UnmatchedNames.{absent_outer}
 
 other_cycle : (name n : ℕ) (links : List Link) (cycles : ℕ → List Link) → (n ≡ name → ⊥)
     → with_cycle name links cycles n ≡ cycles n

@@ -11,19 +11,19 @@ use Rattle.fb_graph.specs.Certificate.{load_of}
 use Rattle.fb_graph.specs.Limits.{IsWithinLimits}
 use Rattle.fb_graph.specs.Laws.{Link, IsPart, ends_of}
 use Rattle.fb_graph.specs.Dual.{Node, AreUnderOne, all_cuts, is_empty, is_live, leaves}
+use Rattle.fb_graph.specs.NestUnions.{AreParts, HaveOwnNames}
 use Rattle.fb_graph.specs.Nests.{IsNest, child_sets}
 use Rattle.fb_graph.specs.Sprouts.{Sprout, node_of, nodes_of}
-use Rattle.fb_graph.proofs.Among.{IsAmong, All_among, among_All, among_left, among_live, among_right, live_among, top_left}
+use Rattle.fb_graph.proofs.Among.{IsAmong, All_among, among_All, among_left, among_live, among_right, live_among, top_left, top_right}
 use Rattle.fb_graph.proofs.AppendedNodes.{cuts_merged, leaves_merged}
 use Rattle.fb_graph.proofs.Members.{is_in-append}
 use Rattle.fb_graph.proofs.NestParts.{names_live}
 use Rattle.fb_graph.proofs.Sets.{is_in-All}
 use Rattle.fb_graph.proofs.SproutStates.{names_are}
 use Rattle.fb_graph.proofs.Unions.{distinct_append}
+use Rattle.fb_graph.proofs.Walks.{walk_same}
 use Rattle.fb_laws.specs.FusedStates.{AreFurther, without_seam}
-use Rattle.fb_laws.specs.Fusion.{AreParts}
 use Rattle.fb_laws.specs.Merging.{Freed, IsSeam, freed_links, freed_names}
-use Rattle.fb_laws.specs.NestFusion.{HaveOwnNames}
 use Rattle.fb_laws.specs.NestedSearches.{IsNestedWork}
 use Rattle.fb_laws.specs.Paths.{LeadsOut}
 use Rattle.fb_laws.specs.PartStates.{IsRing, AreCycles, AreLiveNames, IsPartState, PartState, all_cycle_links, links_at}
@@ -35,11 +35,9 @@ use Rattle.fb_laws.proofs.FreedNames.{IsFreedEnd, freed_live, freed_matched, fre
 use Rattle.fb_laws.proofs.FusedParts.{link_ends_away, parts_turned, same_weight, tight_fused, tight_fused_right}
 use Rattle.fb_laws.proofs.HalvesKept.{matching_permuted}
 use Rattle.fb_laws.proofs.MergedParts.{odd_in, part_of_link}
-use Rattle.fb_laws.proofs.NestUnions.{top_right}
 use Rattle.fb_laws.proofs.NestedFusions.{nested_merged, nested_seam}
 use Rattle.fb_laws.proofs.SeamStates.{weigh_with}
 use Rattle.fb_laws.proofs.SearchStates.{links_joined}
-use Rattle.fb_laws.proofs.Shifts.{walk_same}
 use Rattle.fb_laws.proofs.TreePaths.{in_either}
 
 -- links of a part are links of a larger one where no cut more loads them and each of their ends is real only in the part

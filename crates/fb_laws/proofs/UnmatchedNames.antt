@@ -1,19 +1,19 @@
 -- Outer names stay outer.
-use Rattle.std.proofs.Common.{ℕ, ◌≡◌, ◌⊎◌, inl, inr, true, false, List, [], ◌∷◌, ◌++◌, map, All, refl, sym, ap, ◌∙◌}
+use Rattle.std.proofs.Common.{ℕ, ◌≡◌, ◌⊎◌, inl, inr, true, false, List, [], ◌∷◌, ◌++◌, map, refl, sym, ap, ◌∙◌}
 use Rattle.std.proofs.lemmas.Bool.{both_ways, false_from_ne_true, cases_eq, or_cases}
 use Rattle.std.proofs.lemmas.List.Elements.{All-map}
 use Rattle.fb_graph.specs.Parity.{is_in}
-use Rattle.fb_graph.specs.Dual.{Node, is_live, is_outer, taller}
+use Rattle.fb_graph.specs.Dual.{Node, is_outer, taller}
 use Rattle.fb_graph.proofs.Members.{is_in-append}
 use Rattle.fb_graph.proofs.Nodes.{is_outer-childless}
-use Rattle.fb_graph.proofs.Sets.{is_in-All}
 use Rattle.fb_graph.specs.Steps.{stepped_node}
 use Rattle.fb_graph.specs.Sprouts.{Sprout, node_of, nodes_of}
 use Rattle.fb_graph.specs.Moves.{blossom, joined, split, lower}
-use Rattle.fb_graph.specs.Nests.{IsForest}
 use Rattle.fb_laws.specs.UnmatchedNames.{OuterBegin, OuterFewer, OuterStepped, OuterTakenUp, OuterUncovered, OuterSplit, OuterJoined, OuterBeside, OuterSprouted, NoChildUnmatched}
-use Rattle.fb_graph.proofs.Among.{IsAmong, All_among, among_either, among_right, outer_among, among_outer}
+use Rattle.fb_graph.proofs.Among.{IsAmong, among_either, among_right, outer_among, among_outer}
+use Rattle.fb_graph.proofs.AppendedNodes.{outer_both}
 use Rattle.fb_graph.proofs.ChangedNodes.{change, by_name}
+use Rattle.fb_graph.proofs.Forests.{absent_outer}
 use Rattle.fb_graph.proofs.MappedNodes.{mapped_outer}
 use Rattle.fb_graph.proofs.Places.{among_split}
 
@@ -61,26 +61,6 @@ outer_joined nodes name children names remaining top none same outer n within = 
         by q (inl a) = outer_among nodes n (outer n (sym (same n not_child other) ∙ within)) q a
         by q (inr (inl is)) = ap (λ m. is_in m.children n) (sym is) ∙ not_child
         by q (inr (inr nothing)) = absurd nothing
-
--- a name that no node has is no child
-pub absent_outer : (nodes : List Node) → IsForest nodes → (n : ℕ) → is_live nodes n ≡ false → is_outer nodes n ≡ true
-absent_outer nodes forest n absent =
-    among_outer nodes n
-    (λ q a.
-    false_from_ne_true (is_in q.children n)
-    (λ h.
-    both_ways (is_live nodes n) absent
-    (is_in-All (λ c. is_live nodes c ≡ true) q.children
-    (All_among (λ m. All (λ c. is_live nodes c ≡ true) m.children) nodes forest.live q a) n h)))
-
-pub outer_both : (nodes others : List Node) (n : ℕ) → is_outer nodes n ≡ true → is_outer others n ≡ true
-    → is_outer (nodes ++ others) n ≡ true
-outer_both nodes others n one other =
-    among_outer (nodes ++ others) n (λ q a. by q (among_either nodes others q a))
-  where
-    by : (q : Node) → IsAmong q nodes ⊎ IsAmong q others → is_in q.children n ≡ false
-    by q (inl a) = outer_among nodes n one q a
-    by q (inr a) = outer_among others n other q a
 
 pub outer_beside : OuterBeside
 outer_beside nodes others names more forest grove away clear one other n within =

@@ -8,9 +8,8 @@ use Rattle.fb_graph.specs.Certificate.{AreDistinct}
 use Rattle.fb_graph.specs.Limits.{IsWithinLimits}
 use Rattle.fb_graph.specs.Laws.{Link}
 use Rattle.fb_graph.specs.Dual.{Node, is_live}
-use Rattle.fb_laws.specs.Fusion.{AreParts}
+use Rattle.fb_graph.specs.NestUnions.{AreParts, HaveOwnNames}
 use Rattle.fb_laws.specs.Merging.{Freed, IsSeam, freed_links, freed_names}
-use Rattle.fb_laws.specs.NestFusion.{HaveOwnNames}
 use Rattle.fb_laws.specs.NestedSearches.{IsNestedWork}
 use Rattle.fb_graph.specs.Sprouts.{Sprout, nodes_of, vertices_of}
 

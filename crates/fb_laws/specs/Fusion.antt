@@ -4,25 +4,20 @@ use Rattle.fb_graph.specs.Parity.{is_in}
 use Rattle.fb_graph.specs.Problem.{Problem, edge_at}
 use Rattle.fb_graph.specs.Certificate.{IsOddCut}
 use Rattle.fb_graph.specs.Components.{IsWalkBy}
-use Rattle.fb_graph.specs.Laws.{Link, IsTight, IsPart, AreSeparated, IsPerfect, has_real_end}
+use Rattle.fb_graph.specs.Laws.{Link, IsTight, IsPerfect, has_real_end}
 use Rattle.fb_graph.specs.Dual.{height_of}
 use Rattle.fb_graph.specs.declared.parts.Cut.{Cut}
 use Rattle.fb_graph.specs.Counts.{as_count}
 use Rattle.fb_graph.specs.Ends.{ends_in}
 use Rattle.fb_laws.specs.Paths.{LeadsOut, IsWhole, holds}
 use Rattle.fb_graph.specs.Links.{IsTightLink, AreEven}
+use Rattle.fb_graph.specs.NestUnions.{AreParts}
 
 -- a link of the problem: a walk that isn't empty, each of whose edges has a real end
 pub record IsLinkOf (p : Problem) (l : Link) : Type 0 where
   pub walk : IsWalkBy p l.walk l.from l.to
   pub moves : l.walk ≢ []
   pub real : All (λ k. has_real_end p (edge_at p.edges k) ≡ true) l.walk
-
--- two separated parts of a whole
-pub record AreParts (left right whole : Problem) : Type 0 where
-  pub left_part : IsPart left whole
-  pub right_part : IsPart right whole
-  pub separated : AreSeparated left right
 
 -- The order of the two parts doesn't count.
 abbrev pub PartsTurned : Type 0

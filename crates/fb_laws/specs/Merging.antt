@@ -4,7 +4,7 @@ use Rattle.fb_graph.specs.Parity.{is_in}
 use Rattle.fb_graph.specs.Problem.{Problem}
 use Rattle.fb_graph.specs.Laws.{Link, IsPart}
 use Rattle.fb_graph.specs.Dual.{Node, IsDual, is_live}
-use Rattle.fb_laws.specs.Fusion.{AreParts}
+use Rattle.fb_graph.specs.NestUnions.{AreParts}
 use Rattle.fb_laws.specs.Paths.{LeadsOut}
 use Rattle.fb_graph.specs.Sprouts.{Sprout, nodes_of, vertices_of}
 use Rattle.fb_laws.specs.Works.{IsMatching, IsSetOf}

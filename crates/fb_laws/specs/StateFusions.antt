@@ -6,11 +6,10 @@ use Rattle.fb_graph.specs.Limits.{IsWithinLimits}
 use Rattle.fb_graph.specs.Laws.{Link}
 use Rattle.fb_graph.specs.Links.{AreEven}
 use Rattle.fb_graph.specs.Dual.{is_live}
+use Rattle.fb_graph.specs.NestUnions.{AreParts, HaveOwnNames}
 use Rattle.fb_graph.specs.Sprouts.{Sprout, nodes_of}
 use Rattle.fb_laws.specs.FusedStates.{AreFurther, without_seam}
-use Rattle.fb_laws.specs.Fusion.{AreParts}
 use Rattle.fb_laws.specs.Merging.{Freed, IsSeam, freed_links, freed_names}
-use Rattle.fb_laws.specs.NestFusion.{HaveOwnNames}
 use Rattle.fb_laws.specs.PartStates.{PartState, IsPartState}
 
 -- the links round a blossom of either part

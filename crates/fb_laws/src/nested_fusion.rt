@@ -1,7 +1,8 @@
 //! Nests of two parts as one nest, and their whole states as one.
 
+ghost use Rattle.fb_graph.specs.NestUnions.{NestsBeside, NestsMerged, NestSprouted, WalksBeside, WalksMerged, WalksSprouted};
 ghost use Rattle.fb_laws.specs.FusedStates.{NestedFused, UnmatchedCounted};
-ghost use Rattle.fb_laws.specs.NestFusion.{NestsBeside, NestsMerged, NestSprouted, WalksBeside, WalksMerged, WalksSprouted, NestedMerged, NestedSeam};
+ghost use Rattle.fb_laws.specs.NestFusion.{NestedMerged, NestedSeam};
 
 /// Two nests on real vertices and with names of their own are one nest, where their cuts fit together: so are those
 /// of separated parts, and one with nodes without values for further defects. Their source walks stay.

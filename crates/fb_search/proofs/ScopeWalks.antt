@@ -10,7 +10,7 @@ use Rattle.fb_laws.specs.Fusion.{IsLinkOf}
 use Rattle.fb_laws.specs.MetLinks.{IsTightEdge}
 use Rattle.fb_laws.specs.Trees.{Connects}
 use Rattle.fb_laws.specs.Works.{AreMatchedLinks}
-use Rattle.fb_laws.proofs.Shifts.{walk_same}
+use Rattle.fb_graph.proofs.Walks.{walk_same}
 use Rattle.fb_links.specs.declared.walk.Step.{Step}
 use Rattle.fb_plan.specs.Plans.{problem_at}
 use Rattle.fb_plan.specs.declared.scope.NodeScope.{NodeScope}

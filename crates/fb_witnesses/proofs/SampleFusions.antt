@@ -9,7 +9,7 @@ use Rattle.fb_graph.specs.Laws.{Link}
 use Rattle.fb_graph.specs.Dual.{Node, is_live}
 use Rattle.fb_witnesses.specs.FusedWitnesses.{FusedWitness}
 use Rattle.fb_graph.specs.Links.{AreEven}
-use Rattle.fb_laws.specs.NestFusion.{HaveOwnNames}
+use Rattle.fb_graph.specs.NestUnions.{HaveOwnNames}
 use Rattle.fb_graph.specs.Nests.{IsNest}
 use Rattle.fb_laws.specs.NestedSearches.{IsNestedWork}
 use Rattle.fb_witnesses.specs.Samples.{sprout, link, line, line_part, end_sprouts, middle_sprouts}

@@ -12,7 +12,8 @@ use Rattle.fb_graph.specs.declared.parts.Cut.{Cut}
 use Rattle.fb_graph.proofs.Sets.{is_in-All}
 use Rattle.fb_graph.specs.Ends.{ends_in, AreAllApart, crossing_links}
 use Rattle.fb_graph.specs.Links.{IsTightLink}
-use Rattle.fb_laws.specs.Fusion.{AreParts, IsLinkOf}
+use Rattle.fb_graph.specs.NestUnions.{AreParts}
+use Rattle.fb_laws.specs.Fusion.{IsLinkOf}
 use Rattle.fb_laws.specs.Opening.{IsWithinOne, IsAlikeOver, single_sets}
 use Rattle.fb_witnesses.specs.Samples.{cut, link, line, line_part, triangle, blossom_cuts}
 use Rattle.fb_witnesses.specs.Witnesses.{FusionWitness, OpeningWitness}

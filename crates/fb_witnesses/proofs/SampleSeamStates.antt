@@ -6,7 +6,7 @@ use Rattle.std.proofs.lemmas.List.Sorted.{IsPermutation-refl}
 use Rattle.fb_graph.specs.Parity.{is_in}
 use Rattle.fb_graph.specs.Laws.{IsPart}
 use Rattle.fb_graph.specs.Dual.{is_live}
-use Rattle.fb_laws.specs.Fusion.{AreParts}
+use Rattle.fb_graph.specs.NestUnions.{AreParts}
 use Rattle.fb_laws.specs.FusedStates.{AreFurther, MayMerge}
 use Rattle.fb_witnesses.specs.FusedWitnesses.{SeamWitness, both_ends, freed_end, parted_line}
 use Rattle.fb_laws.specs.Merging.{IsSeam}

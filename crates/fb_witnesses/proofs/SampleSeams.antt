@@ -10,7 +10,8 @@ use Rattle.fb_graph.specs.Counts.{as_count}
 use Rattle.fb_graph.specs.Ends.{ends_in}
 use Rattle.fb_laws.specs.Paths.{LeadsOut}
 use Rattle.fb_graph.specs.Links.{IsTightLink}
-use Rattle.fb_laws.specs.Fusion.{AreParts, IsLinkOf}
+use Rattle.fb_graph.specs.NestUnions.{AreParts}
+use Rattle.fb_laws.specs.Fusion.{IsLinkOf}
 use Rattle.fb_graph.specs.Sprouts.{AreSprouts, nodes_of}
 use Rattle.fb_laws.specs.Works.{IsMatching, IsSetOf}
 use Rattle.fb_laws.specs.Merging.{Freed}

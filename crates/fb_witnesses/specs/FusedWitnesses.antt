@@ -7,11 +7,10 @@ use Rattle.fb_graph.specs.Problem.{Problem}
 use Rattle.fb_graph.specs.Certificate.{AreDistinct}
 use Rattle.fb_graph.specs.Limits.{IsWithinLimits}
 use Rattle.fb_graph.specs.Dual.{Node}
-use Rattle.fb_laws.specs.Fusion.{AreParts}
 use Rattle.fb_laws.specs.FusedStates.{AreFurther, MayMerge, without_seam}
 use Rattle.fb_graph.specs.Links.{AreEven}
+use Rattle.fb_graph.specs.NestUnions.{AreParts, HaveOwnNames}
 use Rattle.fb_laws.specs.Merging.{Freed, IsSeam, freed_links}
-use Rattle.fb_laws.specs.NestFusion.{HaveOwnNames}
 use Rattle.fb_laws.specs.NestedSearches.{IsNestedWork}
 use Rattle.fb_witnesses.specs.Samples.{sprout, link, line, line_part, end_sprouts, middle_sprouts}
 use Rattle.fb_graph.specs.Sprouts.{nodes_of, vertices_of}

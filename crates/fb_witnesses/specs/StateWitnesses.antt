@@ -8,12 +8,11 @@ use Rattle.fb_graph.specs.Limits.{IsWithinLimits}
 use Rattle.fb_graph.specs.Laws.{Link}
 use Rattle.fb_graph.specs.Dual.{Node}
 use Rattle.fb_graph.specs.Moves.{MaySplit, joined, split}
+use Rattle.fb_graph.specs.NestUnions.{AreParts, HaveOwnNames}
 use Rattle.fb_graph.specs.Sprouts.{Sprout, nodes_of}
 use Rattle.fb_laws.specs.FusedStates.{AreFurther, without_seam}
 use Rattle.fb_witnesses.specs.FusedWitnesses.{freed_end}
-use Rattle.fb_laws.specs.Fusion.{AreParts}
 use Rattle.fb_laws.specs.Merging.{IsSeam, freed_links}
-use Rattle.fb_laws.specs.NestFusion.{HaveOwnNames}
 use Rattle.fb_laws.specs.OpenedCycles.{Couple, IsOpenedCycle, Pass}
 use Rattle.fb_laws.specs.PartStates.{PartState, SearchState, IsPartState, IsSearchState}
 use Rattle.fb_witnesses.specs.Samples.{edge, line, line_part, link, middle_sprouts, sprout}

@@ -15,7 +15,7 @@ use Rattle.fb_graph.specs.Links.{IsSourceWalk, IsTightLink, ArePartedBy, AreEven
 use Rattle.fb_graph.specs.Ends.{ends_in, AreAllApart}
 use Rattle.fb_laws.specs.Paths.{Branch, IsPath, AreWholeOnPath, IsWhole, LeadsOut, tip_of}
 use Rattle.fb_laws.specs.Blossoms.{IsInside, ArePaired, AlternateFrom}
-use Rattle.fb_laws.specs.Fusion.{AreParts, IsLinkOf}
+use Rattle.fb_laws.specs.Fusion.{IsLinkOf}
 use Rattle.fb_laws.specs.Opening.{IsLevel, IsOpening, IsOpenedTo, IsWithinOne, EndAtDefects, single_sets}
 use Rattle.fb_laws.specs.Parities.{HaveOneParity}
 use Rattle.fb_graph.specs.Turns.{IsPartlyGrown}
@@ -24,6 +24,7 @@ use Rattle.fb_graph.specs.Sprouts.{AreSprouts, nodes_of}
 use Rattle.fb_laws.specs.Measures.{IsLower}
 use Rattle.fb_laws.specs.Merging.{IsSeam, freed_links}
 use Rattle.fb_graph.specs.Counts.{as_count}
+use Rattle.fb_graph.specs.NestUnions.{AreParts}
 use Rattle.fb_laws.specs.Forming.{IsCycle}
 use Rattle.fb_witnesses.specs.Samples.{sprout, end_sprouts, middle_sprouts, link, line, triangle, cut, line_sprouts, line_nodes, line_roles, grown_nodes, grown_roles, corner_nodes, corner_roles, line_part, blossom_cuts, bare_sprouts, young_nodes, pair_nodes, pair_roles}
 

@@ -1,4 +1,5 @@
-use Rattle.fb_laws.proofs.FusedParts.{boundary_height, height_fused}
+use Rattle.fb_graph.proofs.ClosedSets.{boundary_height}
+use Rattle.fb_laws.proofs.FusedParts.{height_fused}
 use Rattle.fb_laws.proofs.fusion.heights_fused.Goals as goal
 
 pub returns-clause-boundary : goal.returns-clause-boundary

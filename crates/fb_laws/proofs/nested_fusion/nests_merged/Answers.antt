@@ -1,4 +1,5 @@
-use Rattle.fb_laws.proofs.NestUnions.{nests_beside, nests_merged, nest_sprouted, walks_beside, walks_merged, walks_sprouted}
+use Rattle.fb_graph.proofs.MergedNests.{nests_merged, nest_sprouted, walks_beside, walks_merged, walks_sprouted}
+use Rattle.fb_graph.proofs.NestUnions.{nests_beside}
 use Rattle.fb_laws.proofs.nested_fusion.nests_merged.Goals as goal
 
 pub returns-clause-beside : goal.returns-clause-beside

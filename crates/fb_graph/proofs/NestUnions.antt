@@ -1,44 +1,33 @@
 -- Two nests beside one another are a nest.
-use Rattle.std.proofs.Common.{ℕ, ◌≡◌, ◌+◌, ◌%◌, ◌≤◌, ◌<◌, ◌==◌, ◌||◌, ◌⊎◌, inl, inr, cond, Bool, true, false, List, [], ◌∷◌, ◌++◌, map, length, All, AllPairs, Option, Some, None, get_or, sum_by, refl, sym, ap, ◌∙◌, subst, arith, if◌then◌else◌}
+use Rattle.std.proofs.Common.{ℕ, ◌≡◌, ◌+◌, ◌%◌, ◌<◌, ◌||◌, ◌⊎◌, inl, inr, cond, Bool, true, false, List, [], ◌∷◌, ◌++◌, map, length, All, AllPairs, Option, Some, None, get_or, refl, sym, ap, ◌∙◌, subst, arith}
 use Rattle.std.specs.List.{concat}
 use Rattle.std.specs.Option.{IsSome}
-use Rattle.std.proofs.lemmas.Bool.{both_ways, false≢true, false_from_ne_true, or_cases, or_left, or_parts, or_right}
-use Rattle.std.proofs.lemmas.List.Elements.{All-append, All-map, All-weaker}
+use Rattle.std.proofs.lemmas.Bool.{both_ways, false≢true, false_from_ne_true, or_cases, or_left, or_right}
+use Rattle.std.proofs.lemmas.List.Elements.{All-append, All-weaker}
 use Rattle.std.proofs.lemmas.List.Kept.{AllPairs-cons}
 use Rattle.std.proofs.lemmas.List.Sums.{sum_by-append}
 use Rattle.fb_graph.specs.Parity.{is_in}
 use Rattle.fb_graph.specs.Problem.{Problem, crosses, edge_at, with_defects}
-use Rattle.fb_graph.specs.Certificate.{AreDistinct, IsOddCut, IsPacking, load_of}
+use Rattle.fb_graph.specs.Certificate.{AreDistinct, IsOddCut}
 use Rattle.fb_graph.specs.Limits.{IsWithinLimits}
-use Rattle.fb_graph.specs.Laws.{IsPart}
 use Rattle.fb_graph.specs.Printed.{DifferAsSets}
 use Rattle.fb_graph.specs.Dual.{Node, IsHeld, IsNestedOrApart, AreApart, AreGrown, AreOuterApart, all_cuts, layers_of, leaves, cover_of, height_of, is_live, is_outer, top_at}
 use Rattle.fb_graph.specs.declared.parts.Cut.{Cut}
-use Rattle.fb_graph.specs.declared.parts.Edge.{Edge}
-use Rattle.fb_graph.proofs.ClosedSets.{load-append, packings_joined}
-use Rattle.fb_graph.proofs.CutSums.{total-le}
-use Rattle.fb_graph.proofs.Members.{is_in-append, or_false}
-use Rattle.fb_graph.proofs.ParitySums.{odd_agree}
-use Rattle.fb_graph.proofs.Sets.{is_in-All, member_of_odd}
 use Rattle.fb_graph.specs.Covers.{HaveParity}
 use Rattle.fb_graph.specs.Ends.{AreAllApart}
-use Rattle.fb_laws.specs.Fusion.{AreParts}
 use Rattle.fb_graph.specs.Nests.{IsNest, IsForest, IsFormed, IsFilled, AreJoinedLater, HasSources, child_sets}
-use Rattle.fb_laws.specs.NestFusion.{AreBeside, HaveOwnNames, NestsBeside, NestsMerged, NestSprouted, WalksBeside, WalksMerged, WalksSprouted}
-use Rattle.fb_graph.specs.SourceWalks.{IsEdgeIn, IsWalkInside, HasWalks, HaveWalks}
-use Rattle.fb_graph.specs.Sprouts.{Sprout, nodes_of, vertices_of}
-use Rattle.fb_graph.proofs.Among.{IsAmong, All_among, among_All, among_left, among_live, among_right, cover_among, covered_by, live_among, top_left}
-use Rattle.fb_graph.proofs.BeginningNests.{nest_begins}
-use Rattle.fb_laws.proofs.FusedParts.{boundary_height, not_held}
+use Rattle.fb_graph.specs.NestUnions.{AreBeside, NestsBeside}
+use Rattle.fb_graph.proofs.Among.{IsAmong, All_among, among_All, among_left, among_live, among_right, cover_among, covered_by, live_among, top_left, top_right}
+use Rattle.fb_graph.proofs.AppendedNodes.{cuts_merged, leaves_merged, names_merged, outer_both, outer_in}
+use Rattle.fb_graph.proofs.ClosedSets.{boundary_height, not_held}
+use Rattle.fb_graph.proofs.CutSums.{total-le}
+use Rattle.fb_graph.proofs.Forests.{absent_outer}
 use Rattle.fb_graph.proofs.InsertedCuts.{AreFit, pairs_head, pairs_tail}
-use Rattle.fb_laws.proofs.MergedParts.{leaf_real}
-use Rattle.fb_graph.proofs.AppendedNodes.{cuts_merged, leaves_merged, names_merged, outer_in}
-use Rattle.fb_graph.proofs.NestParts.{map_agree, names_live, nest_of, top_is_odd}
-use Rattle.fb_laws.proofs.Shifts.{walk_same}
-use Rattle.fb_graph.proofs.SourceWalks.{walks_begin}
-use Rattle.fb_graph.proofs.SproutStates.{cuts_are, no_sum, vertex_in}
+use Rattle.fb_graph.proofs.Members.{is_in-append, or_false}
+use Rattle.fb_graph.proofs.NestParts.{leaf_real, map_agree, names_live, nest_of, top_is_odd}
+use Rattle.fb_graph.proofs.ParitySums.{odd_agree}
+use Rattle.fb_graph.proofs.Sets.{is_in-All, member_of_odd}
 use Rattle.fb_graph.proofs.Unions.{distinct_append}
-use Rattle.fb_laws.proofs.UnmatchedNames.{absent_outer, outer_both}
 
 pairs_append : {X : Type 0} (R : X → X → Type 0) (xs ys : List X) → AllPairs R xs → AllPairs R ys
     → ((x y : X) → IsAmong x xs → IsAmong y ys → R x y) → AllPairs R (xs ++ ys)
@@ -61,18 +50,12 @@ joined_append (n ∷ ns) os one other across = (
   joined_append ns os one.2 other (λ x m a b. across x m (inr a) b),
 )
 
-pub top_right : (xs ys : List Node) (name : ℕ) → is_live xs name ≡ false → top_at (xs ++ ys) name ≡ top_at ys name
-top_right [] ys name none = refl
-top_right (x ∷ xs) ys name none =
-    let parts = or_parts (x.name == name) (is_live xs name) none in
-    ap (λ b. if b then x.top.vertices else top_at (xs ++ ys) name) parts.0 ∙ top_right xs ys name parts.1
-
 held_in : (p whole : Problem) (c : Cut) → p.edges ≡ whole.edges → IsHeld p c → IsHeld whole c
 held_in p whole c same held =
     subst (λ es. (c.value ≡ 0) ⊎ ((k : ℕ) × (k < length es) × (crosses c.vertices (edge_at es k) ≡ true))) same held
 
 -- the defects of each side are its own at its real vertices
-own_left : (left right : Problem) (nodes others : List Node)
+pub own_left : (left right : Problem) (nodes others : List Node)
     → ((v : ℕ) → left.is_real v ≡ true → right.is_real v ≡ false)
     → IsNest right others → (v : ℕ) → left.is_real v ≡ true
     → is_in (leaves nodes ++ leaves others) v ≡ is_in (leaves nodes) v
@@ -83,7 +66,7 @@ own_left left right nodes others parted two v real =
     (λ leaf. both_ways (right.is_real v) (parted v real) (leaf_real right others v two.dual leaf)))
     ∙ or_false (is_in (leaves nodes) v))
 
-own_right : (left right : Problem) (nodes others : List Node)
+pub own_right : (left right : Problem) (nodes others : List Node)
     → ((v : ℕ) → left.is_real v ≡ true → right.is_real v ≡ false)
     → IsNest left nodes → (v : ℕ) → right.is_real v ≡ true
     → is_in (leaves nodes ++ leaves others) v ≡ is_in (leaves others) v
@@ -92,28 +75,6 @@ own_right left right nodes others parted one v real =
     ∙ ap (λ b. b || is_in (leaves others) v)
     (false_from_ne_true (is_in (leaves nodes) v)
     (λ leaf. both_ways (right.is_real v) (parted v (leaf_real left nodes v one.dual leaf)) real))
-
--- a walk inside a set stays one over the same edges, where its ends keep their potentials and its defect is one still
-walk_over : (p whole : Problem) (nodes all : List Node) (set walk : List ℕ) (d v : ℕ) → p.edges ≡ whole.edges
-    → is_in (leaves all) d ≡ true → height_of (all_cuts all) d ≡ height_of (all_cuts nodes) d
-    → height_of (all_cuts all) v ≡ height_of (all_cuts nodes) v → IsWalkInside p nodes set walk d v
-    → IsWalkInside whole all set walk d v
-walk_over p whole nodes all set walk d v edges leaf at_d at_v is = record {
-  defect = leaf;
-  begins = is.begins;
-  stays = subst (λ es. All (λ k. IsEdgeIn set (edge_at es k)) walk) edges is.stays;
-  source = record {
-    leads = walk_same p whole edges walk d v is.source.leads;
-    balance =
-        omega (
-          arith,
-          subst (λ es. sum_by (λ k. (edge_at es k).weight) walk + height_of (all_cuts nodes) v
-              ≡ height_of (all_cuts nodes) d) edges is.source.balance,
-          at_d,
-          at_v,
-        );
-  };
-}
 
 some_name : (o : Option ℕ) → IsSome o → (m : ℕ) × (o ≡ Some m)
 some_name None some = absurd (false≢true some)
@@ -125,7 +86,7 @@ module _ (left right whole : Problem) (nodes others : List Node) (beside : AreBe
   unreal v real = false_from_ne_true (left.is_real v)
       (λ other. both_ways (right.is_real v) (beside.parted v other) real)
 
-  leaves_in : (v : ℕ) → is_in (leaves (nodes ++ others)) v ≡ (is_in (leaves nodes) v || is_in (leaves others) v)
+  pub leaves_in : (v : ℕ) → is_in (leaves (nodes ++ others)) v ≡ (is_in (leaves nodes) v || is_in (leaves others) v)
   leaves_in v = ap (λ l. is_in l v) (leaves_merged nodes others) ∙ is_in-append (leaves nodes) (leaves others) v
 
   left_odd : (c : Cut) → IsOddCut (with_defects left (leaves nodes)) c
@@ -162,10 +123,10 @@ module _ (left right whole : Problem) (nodes others : List Node) (beside : AreBe
       not_held right d.vertices v other.real
       (beside.parted v (is_in-All (λ u. left.is_real u ≡ true) c.vertices odd.real v within))
 
-  left_cut : (c : Cut) → IsAmong c (all_cuts nodes) → IsOddCut (with_defects left (leaves nodes)) c
+  pub left_cut : (c : Cut) → IsAmong c (all_cuts nodes) → IsOddCut (with_defects left (leaves nodes)) c
   left_cut = All_among (IsOddCut (with_defects left (leaves nodes))) (all_cuts nodes) one.dual.packing.odd
 
-  right_cut : (c : Cut) → IsAmong c (all_cuts others) → IsOddCut (with_defects right (leaves others)) c
+  pub right_cut : (c : Cut) → IsAmong c (all_cuts others) → IsOddCut (with_defects right (leaves others)) c
   right_cut = All_among (IsOddCut (with_defects right (leaves others))) (all_cuts others) two.dual.packing.odd
 
   held : All (IsHeld whole) (all_cuts nodes ++ all_cuts others)
@@ -297,7 +258,7 @@ module _ (left right whole : Problem) (nodes others : List Node) (beside : AreBe
       ap (λ l. height_of l v) (cuts_merged nodes others)
       ∙ sum_by-append (λ (c : Cut). cond (is_in c.vertices v) c.value 0) (all_cuts nodes) (all_cuts others)
 
-  left_height : (v : ℕ) → left.is_real v ≡ true
+  pub left_height : (v : ℕ) → left.is_real v ≡ true
       → height_of (all_cuts (nodes ++ others)) v ≡ height_of (all_cuts nodes) v
   left_height v real =
       omega (
@@ -307,7 +268,7 @@ module _ (left right whole : Problem) (nodes others : List Node) (beside : AreBe
             (beside.parted v real),
       )
 
-  right_height : (v : ℕ) → right.is_real v ≡ true
+  pub right_height : (v : ℕ) → right.is_real v ≡ true
       → height_of (all_cuts (nodes ++ others)) v ≡ height_of (all_cuts others) v
   right_height v real =
       omega (
@@ -387,41 +348,6 @@ module _ (left right whole : Problem) (nodes others : List Node) (beside : AreBe
           ap (λ x. x % 2) (right_height d (leaf_real right others d two.dual h))
           ∙ second d name h (own ∙ (sym (cover_right d m own) ∙ cover)) passing
 
-  left_walks : (c : Cut) → IsAmong c (all_cuts nodes) → HasWalks left nodes c.vertices
-      → HasWalks whole (nodes ++ others) c.vertices
-  left_walks c a has v within =
-      let (walk, d, is) = has v within in
-      let real : (u : ℕ) → is_in c.vertices u ≡ true → left.is_real u ≡ true =
-      is_in-All (λ u. left.is_real u ≡ true) c.vertices (left_cut c a).real in (
-        walk,
-        d,
-        walk_over left whole nodes (nodes ++ others) c.vertices walk d v beside.left_edges
-            (leaves_in d ∙ or_left (is_in (leaves nodes) d) (is_in (leaves others) d) is.defect)
-            (left_height d (real d is.begins)) (left_height v (real v within)) is,
-      )
-
-  right_walks : (c : Cut) → IsAmong c (all_cuts others) → HasWalks right others c.vertices
-      → HasWalks whole (nodes ++ others) c.vertices
-  right_walks c a has v within =
-      let (walk, d, is) = has v within in
-      let real : (u : ℕ) → is_in c.vertices u ≡ true → right.is_real u ≡ true =
-      is_in-All (λ u. right.is_real u ≡ true) c.vertices (right_cut c a).real in (
-        walk,
-        d,
-        walk_over right whole others (nodes ++ others) c.vertices walk d v beside.right_edges
-            (leaves_in d ∙ or_right (is_in (leaves nodes) d) (is_in (leaves others) d) is.defect)
-            (right_height d (real d is.begins)) (right_height v (real v within)) is,
-      )
-
-  all_walks : HaveWalks left nodes → HaveWalks right others → HaveWalks whole (nodes ++ others)
-  all_walks first second =
-      subst (All (λ c. HasWalks whole (nodes ++ others) c.vertices)) (sym (cuts_merged nodes others))
-      (All-append (λ c. HasWalks whole (nodes ++ others) c.vertices) (all_cuts nodes) (all_cuts others)
-      (among_All (λ c. HasWalks whole (nodes ++ others) c.vertices) (all_cuts nodes)
-      (λ c a. left_walks c a (All_among (λ d. HasWalks left nodes d.vertices) (all_cuts nodes) first c a)))
-      (among_All (λ c. HasWalks whole (nodes ++ others) c.vertices) (all_cuts others)
-      (λ c a. right_walks c a (All_among (λ d. HasWalks right others d.vertices) (all_cuts others) second c a))))
-
   leaves_apart : AreApart (leaves nodes) (leaves others)
   leaves_apart v leaf =
       false_from_ne_true (is_in (leaves others) v)
@@ -450,102 +376,3 @@ module _ (left right whole : Problem) (nodes others : List Node) (beside : AreBe
 pub nests_beside : NestsBeside
 nests_beside left right whole nodes others limits beside one two =
     merged left right whole nodes others beside one two limits
-
-pub walks_beside : WalksBeside
-walks_beside left right whole nodes others beside one two first second =
-    all_walks left right whole nodes others beside one two first second
-
-pub beside_of_parts : (left right whole : Problem) (nodes others : List Node) → AreParts left right whole
-    → HaveOwnNames nodes others → IsNest left nodes → IsNest right others → AreBeside left right whole nodes others
-beside_of_parts left right whole nodes others parts names one two = record {
-  left_edges = parts.left_part.edges;
-  right_edges = parts.right_part.edges;
-  left_real = parts.left_part.real;
-  right_real = parts.right_part.real;
-  parted = parts.separated.vertices;
-  names = names;
-  fits = packing.fits;
-}
-  where
-    packing : IsPacking (with_defects whole (leaves nodes ++ leaves others)) (all_cuts nodes ++ all_cuts others)
-    packing =
-        packings_joined (with_defects left (leaves nodes)) (with_defects right (leaves others))
-        (with_defects whole (leaves nodes ++ leaves others)) (all_cuts nodes) (all_cuts others)
-        (record {
-          edges = parts.left_part.edges;
-          real = parts.left_part.real;
-          defects = λ v real. sym (own_left left right nodes others parts.separated.vertices two v real);
-        })
-        (record {
-          edges = parts.right_part.edges;
-          real = parts.right_part.real;
-          defects = λ v real. sym (own_right left right nodes others parts.separated.vertices one v real);
-        })
-        (record { vertices = parts.separated.vertices; edges = parts.separated.edges })
-        one.dual.packing two.dual.packing
-
-pub nests_merged : NestsMerged
-nests_merged left right whole nodes others limits parts names one two =
-    nests_beside left right whole nodes others limits
-    (beside_of_parts left right whole nodes others parts names one two) one two
-
-pub walks_merged : WalksMerged
-walks_merged left right whole nodes others parts names one two first second =
-    walks_beside left right whole nodes others (beside_of_parts left right whole nodes others parts names one two)
-    one two first second
-
--- the problem whose real vertices are those of the sprouts
-abbrev pub sprouting : Problem → List Sprout → Problem
-sprouting whole sprouts = record whole { is_real = is_in (vertices_of sprouts) }
-
-pub beside_of_sprouts : (p whole : Problem) (nodes : List Node) (sprouts : List Sprout) → IsPart p whole
-    → All (λ s. whole.is_real s.vertex ≡ true) sprouts → All (λ s. p.is_real s.vertex ≡ false) sprouts
-    → All (λ s. s.value ≡ 0) sprouts → HaveOwnNames nodes (nodes_of sprouts) → IsNest p nodes
-    → AreBeside p (sprouting whole sprouts) whole nodes (nodes_of sprouts)
-beside_of_sprouts p whole nodes sprouts part real unreal bare own nest = record {
-  left_edges = part.edges;
-  right_edges = refl;
-  left_real = part.real;
-  right_real =
-      is_in-All (λ u. whole.is_real u ≡ true) (vertices_of sprouts)
-      (All-map (λ u. whole.is_real u ≡ true) (λ s. s.vertex) sprouts real);
-  parted = λ v real_v.
-      false_from_ne_true (is_in (vertices_of sprouts) v)
-      (λ within.
-      both_ways (p.is_real v)
-      (is_in-All (λ u. p.is_real u ≡ false) (vertices_of sprouts)
-      (All-map (λ u. p.is_real u ≡ false) (λ s. s.vertex) sprouts unreal) v within) real_v);
-  names = own;
-  fits = λ k d less.
-      light (get_or whole.edges k d)
-      (subst (λ es. All (λ e. load_of (all_cuts nodes) e ≤ e.weight) es) part.edges nest.dual.packing.fits k d less);
-}
-  where
-    light : (e : Edge) → load_of (all_cuts nodes) e ≤ e.weight
-        → load_of (all_cuts nodes ++ all_cuts (nodes_of sprouts)) e ≤ e.weight
-    light e fits =
-        omega (
-          arith,
-          fits,
-          load-append (all_cuts nodes) (all_cuts (nodes_of sprouts)) e,
-          ap (λ cuts. load_of cuts e) (cuts_are sprouts),
-          no_sum (λ s. crosses s e) sprouts bare,
-        )
-
-pub sprouting_nest : (whole : Problem) (sprouts : List Sprout) → AreDistinct (map (λ s. s.name) sprouts)
-    → AreDistinct (vertices_of sprouts) → All (λ s. s.value ≡ 0) sprouts
-    → IsNest (sprouting whole sprouts) (nodes_of sprouts)
-sprouting_nest whole sprouts names vertices bare =
-    nest_begins (sprouting whole sprouts) sprouts names vertices (λ i d less. vertex_in sprouts i d less) bare
-
-pub nest_sprouted : NestSprouted
-nest_sprouted p whole nodes sprouts limits part names vertices real unreal bare own nest =
-    nests_beside p (sprouting whole sprouts) whole nodes (nodes_of sprouts) limits
-    (beside_of_sprouts p whole nodes sprouts part real unreal bare own nest) nest
-    (sprouting_nest whole sprouts names vertices bare)
-
-pub walks_sprouted : WalksSprouted
-walks_sprouted p whole nodes sprouts part names vertices real unreal bare own nest walks =
-    walks_beside p (sprouting whole sprouts) whole nodes (nodes_of sprouts)
-    (beside_of_sprouts p whole nodes sprouts part real unreal bare own nest) nest
-    (sprouting_nest whole sprouts names vertices bare) walks (walks_begin (sprouting whole sprouts) sprouts)
