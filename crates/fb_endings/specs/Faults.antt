@@ -1,4 +1,4 @@
--- What the faults of a graph's text, of a report and of shots are called on standard error, and where they stand: a word, a number,
+-- What the faults of a graph's text, of a plan, of a report and of shots are called on standard error, and where they stand: a word, a number,
 -- both or neither.
 use Rattle.std.specs.Prelude.{ℕ, List, codes, Option, Some, None}
 use Rattle.fb_graph.specs.declared.faults.GraphFault.{GraphFault}
@@ -9,6 +9,12 @@ use Rattle.fb_graph_in.specs.declared.faults.Place.{Place}
 use Rattle.fb_graph_in.specs.declared.faults.Place.TheVariants as place
 use Rattle.fb_graph_in.specs.declared.faults.TextFault.{TextFault}
 use Rattle.fb_graph_in.specs.declared.faults.TextFault.TheVariants as text
+use Rattle.fb_plan.specs.declared.faults.Member.{Member as PlanMember}
+use Rattle.fb_plan.specs.declared.faults.Member.TheVariants as plan_member
+use Rattle.fb_plan.specs.declared.faults.Place.{Place as PlanPlace}
+use Rattle.fb_plan.specs.declared.faults.Place.TheVariants as plan_at
+use Rattle.fb_plan.specs.declared.faults.PlanFault.{PlanFault}
+use Rattle.fb_plan.specs.declared.faults.PlanFault.TheVariants as plan
 use Rattle.fb_shots.specs.declared.answer.Kind.{Kind}
 use Rattle.fb_shots.specs.declared.answer.Kind.TheVariants as kind
 use Rattle.fb_shots_json.specs.declared.answer.Kind.{Kind as JsonKind}
@@ -87,6 +93,69 @@ graph_number (text.Missing m) = None
 graph_number (text.NotWhole p) = place_number p
 graph_number (text.Graph r) = rule_number r
 graph_number text.NoMemory = None
+
+-- ---- a plan
+
+abbrev pub plan_name : PlanFault → List ℕ
+plan_name plan.TooLong = codes "TooLong"
+plan_name plan.NotJson = codes "NotJson"
+plan_name (plan.Missing m) = codes "Missing"
+plan_name (plan.NotWhole p) = codes "NotWhole"
+plan_name plan.TooManyUnits = codes "TooManyUnits"
+plan_name (plan.BadRange n) = codes "BadRange"
+plan_name (plan.VertexUnowned v) = codes "VertexUnowned"
+plan_name (plan.VertexTwice v) = codes "VertexTwice"
+plan_name (plan.ChildOutOfRange i) = codes "ChildOutOfRange"
+plan_name (plan.ChildUsedTwice i) = codes "ChildUsedTwice"
+plan_name plan.NotOneRoot = codes "NotOneRoot"
+plan_name (plan.EdgeAcross e) = codes "EdgeAcross"
+plan_name plan.NoMemory = codes "NoMemory"
+
+abbrev pub plan_member_name : PlanMember → List ℕ
+plan_member_name plan_member.Units = codes "units"
+plan_member_name plan_member.Fusions = codes "fusions"
+
+abbrev pub plan_place_name : PlanPlace → List ℕ
+plan_place_name plan_at.Units = codes "units"
+plan_place_name plan_at.Fusions = codes "fusions"
+plan_place_name (plan_at.Unit i) = codes "units"
+plan_place_name (plan_at.Fusion i) = codes "fusions"
+
+abbrev pub plan_place_number : PlanPlace → Option ℕ
+plan_place_number plan_at.Units = None
+plan_place_number plan_at.Fusions = None
+plan_place_number (plan_at.Unit i) = Some i
+plan_place_number (plan_at.Fusion i) = Some i
+
+abbrev pub plan_place : PlanFault → Option (List ℕ)
+plan_place plan.TooLong = Some (codes "plan")
+plan_place plan.NotJson = None
+plan_place (plan.Missing m) = Some (plan_member_name m)
+plan_place (plan.NotWhole p) = Some (plan_place_name p)
+plan_place plan.TooManyUnits = None
+plan_place (plan.BadRange n) = None
+plan_place (plan.VertexUnowned v) = None
+plan_place (plan.VertexTwice v) = None
+plan_place (plan.ChildOutOfRange i) = None
+plan_place (plan.ChildUsedTwice i) = None
+plan_place plan.NotOneRoot = None
+plan_place (plan.EdgeAcross e) = None
+plan_place plan.NoMemory = None
+
+abbrev pub plan_number : PlanFault → Option ℕ
+plan_number plan.TooLong = None
+plan_number plan.NotJson = None
+plan_number (plan.Missing m) = None
+plan_number (plan.NotWhole p) = plan_place_number p
+plan_number plan.TooManyUnits = None
+plan_number (plan.BadRange n) = Some n
+plan_number (plan.VertexUnowned v) = Some v
+plan_number (plan.VertexTwice v) = Some v
+plan_number (plan.ChildOutOfRange i) = Some i
+plan_number (plan.ChildUsedTwice i) = Some i
+plan_number plan.NotOneRoot = None
+plan_number (plan.EdgeAcross e) = Some e
+plan_number plan.NoMemory = None
 
 -- ---- a report
 

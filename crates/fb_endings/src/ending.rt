@@ -4,6 +4,7 @@ ghost use Rattle.std.specs.Prelude.{◌≡◌};
 ghost use Rattle.fb_endings.specs.Causes.{status_of};
 
 use fb_graph_in::TextFault;
+use fb_plan::PlanFault;
 use fb_shots::ShotFault;
 use fb_verify::ReportFault;
 use fb_words::UsageKind;
@@ -13,6 +14,8 @@ use fb_words::UsageKind;
 pub enum Refusal {
     /// The graph's text is no decoding graph. It is never the want of memory.
     Graph(TextFault),
+    /// The plan's text is no plan of the graph. It is never the want of memory.
+    Plan(PlanFault),
     /// The report's text is none. It is never the want of memory.
     Report(ReportFault),
     /// A shot, or what stands in its place.

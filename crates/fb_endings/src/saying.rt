@@ -4,11 +4,12 @@ ghost use Rattle.std.specs.Prelude.{◌≡◌, ◌≢◌, ◌<◌, ◌^◌, ◌-
 ghost use Rattle.fb_ports.specs.Causes.{AppendsFront, HasCause};
 ghost use Rattle.std.specs.Io.KnownBytes.{Appends};
 ghost use Rattle.fb_endings.specs.Causes.{line_of, fixed_line, refusal_line, refusal_name, refusal_place, refusal_number};
-ghost use Rattle.fb_endings.specs.Faults.{graph_name, graph_place, graph_number, member_name, member_of, report_name, report_number, report_place, rule_name, rule_number, kind_name, stim_name, json_name};
+ghost use Rattle.fb_endings.specs.Faults.{graph_name, graph_place, graph_number, member_name, member_of, plan_name, plan_number, plan_place, report_name, report_number, report_place, rule_name, rule_number, kind_name, stim_name, json_name};
 
 use crate::ending::{Cause, Refusal};
 use fb_graph::GraphFault;
 use fb_graph_in::{Member, Place, TextFault};
+use fb_plan::{Member as PlanMember, Place as PlanPlace, PlanFault};
 use fb_ports::{Failed, Sink, put_all, put_parts};
 use fb_shots::Kind;
 use fb_shots_json::Kind as JsonKind;
@@ -96,6 +97,7 @@ impl Refusal {
     {
         match self {
             Refusal::Graph(fault) => graph_name(fault),
+            Refusal::Plan(fault) => plan_name(fault),
             Refusal::Report(fault) => report_name(fault),
             Refusal::Shot(fault) => kind_name(fault.kind),
         }
@@ -107,6 +109,7 @@ impl Refusal {
     {
         match self {
             Refusal::Graph(fault) => graph_place(fault),
+            Refusal::Plan(fault) => plan_place(fault),
             Refusal::Report(fault) => report_place(fault),
             Refusal::Shot(_) => Some("shot"),
         }
@@ -118,6 +121,7 @@ impl Refusal {
     {
         match self {
             Refusal::Graph(fault) => graph_number(fault),
+            Refusal::Plan(fault) => plan_number(fault),
             Refusal::Report(fault) => report_number(fault),
             Refusal::Shot(fault) => Some(u64::from(fault.shot)),
         }
@@ -209,6 +213,55 @@ fn rule_number(rule: GraphFault) -> Option<u64>
         GraphFault::NegativeWeight(i) => Some(i),
         GraphFault::VirtualOutOfRange(i) => Some(i),
         GraphFault::VirtualRepeated(i) => Some(i),
+    }
+}
+
+fn plan_name(fault: PlanFault) -> &'static str
+    ensures { result.now ≡ plan_name fault }
+{
+    match fault {
+        PlanFault::TooLong => "TooLong",
+        PlanFault::NotJson => "NotJson",
+        PlanFault::Missing(_) => "Missing",
+        PlanFault::NotWhole(_) => "NotWhole",
+        PlanFault::TooManyUnits => "TooManyUnits",
+        PlanFault::BadRange(_) => "BadRange",
+        PlanFault::VertexUnowned(_) => "VertexUnowned",
+        PlanFault::VertexTwice(_) => "VertexTwice",
+        PlanFault::ChildOutOfRange(_) => "ChildOutOfRange",
+        PlanFault::ChildUsedTwice(_) => "ChildUsedTwice",
+        PlanFault::NotOneRoot => "NotOneRoot",
+        PlanFault::EdgeAcross(_) => "EdgeAcross",
+        PlanFault::NoMemory => "NoMemory",
+    }
+}
+
+fn plan_place(fault: PlanFault) -> Option<&'static str>
+    ensures { option_map (λ s. s.now) result ≡ plan_place fault }
+{
+    match fault {
+        PlanFault::TooLong => Some("plan"),
+        PlanFault::Missing(PlanMember::Units) => Some("units"),
+        PlanFault::Missing(PlanMember::Fusions) => Some("fusions"),
+        PlanFault::NotWhole(PlanPlace::Units | PlanPlace::Unit(_)) => Some("units"),
+        PlanFault::NotWhole(PlanPlace::Fusions | PlanPlace::Fusion(_)) => Some("fusions"),
+        _ => None,
+    }
+}
+
+fn plan_number(fault: PlanFault) -> Option<u64>
+    ensures { result ≡ plan_number fault }
+{
+    match fault {
+        PlanFault::NotWhole(PlanPlace::Unit(i)) => Some(i),
+        PlanFault::NotWhole(PlanPlace::Fusion(i)) => Some(i),
+        PlanFault::BadRange(i) => Some(i),
+        PlanFault::VertexUnowned(i) => Some(i),
+        PlanFault::VertexTwice(i) => Some(i),
+        PlanFault::ChildOutOfRange(i) => Some(i),
+        PlanFault::ChildUsedTwice(i) => Some(i),
+        PlanFault::EdgeAcross(i) => Some(i),
+        _ => None,
     }
 }
 

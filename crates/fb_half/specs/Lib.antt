@@ -3,6 +3,7 @@ pub mod Beginnings
 pub mod InternalBeginnings
 pub mod InternalStandings
 pub mod Matchings
+pub mod Merged
 pub mod Parts
 pub mod Standings
 pub mod Translations

@@ -76,3 +76,9 @@ pub record IsPart (w : PartValue) : Type 0 where
   pub agreed : AreAgreed w.nodes w.store
   pub links : AreLinksOf (problem_in w) w.links (kept_links w)
   pub matching : IsMatchingOf (problem_in w) w.nodes w.links w.matching []
+
+-- the part of this slot and node of the job
+pub record IsPartOf (j : JobValue) (s n : ℕ) (part : PartValue) : Type 0 where
+  pub job : part.job ≡ j
+  pub slot : part.slot ≡ s
+  pub node : part.node ≡ n

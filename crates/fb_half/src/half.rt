@@ -6,6 +6,7 @@ ghost use Rattle.fb_half.specs.Matchings.{match_links};
 ghost use Rattle.fb_half.specs.Parts.{IsPart, problem_in, state_of};
 ghost use Rattle.fb_half.specs.Values.{HasScope, IsScopeOf, part_of};
 
+use crate::matching::Matching;
 use crate::parts::Parts;
 use fb_blossoms::Blossoms;
 use fb_laws::part_solved;
@@ -104,6 +105,13 @@ impl<'a> Half<'a> {
         ensures { result.now ≡ self.now.store }
     {
         &self.parts.blossoms
+    }
+
+    /// Which outer nodes are matched, and by which links.
+    pub fn matching(&self) -> &Matching
+        ensures { result.now ≡ self.now.matching }
+    {
+        &self.parts.matching
     }
 
     /// The numbers of the matched links.

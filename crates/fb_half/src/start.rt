@@ -36,7 +36,7 @@ pub(crate) fn own_defects(
 }
 
 /// Makes the vertex a node of radius 0, without a match.
-fn add_leaf(
+pub(crate) fn add_leaf(
     alloc: Global,
     regions: &mut Regions<NodeScope<'_>>,
     store: &mut Blossoms,

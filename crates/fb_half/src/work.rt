@@ -1,4 +1,6 @@
-ghost use Rattle.std.specs.Prelude.{◌≡◌, ◌<◌, [], length, IfOk};
+ghost use Rattle.std.specs.Prelude.{◌≡◌, ◌<◌, [], length, IfOk, Some};
+ghost use Rattle.fb_plan.specs.Plans.{children_of};
+ghost use Rattle.fb_half.specs.Merged.{IsMerged};
 ghost use Rattle.fb_half.specs.Beginnings.{IsBegun};
 ghost use Rattle.fb_half.specs.Matchings.{match_links};
 ghost use Rattle.fb_half.specs.Parts.{IsPart};
@@ -6,6 +8,7 @@ ghost use Rattle.fb_half.specs.Values.{HasScope, IsScopeOf, part_of};
 
 use crate::half::Half;
 use crate::matching::Matching;
+use crate::merging::{open_seam, take_matches};
 use crate::parts::Parts;
 use crate::start::{own_defects, start};
 use fb_blossoms::Blossoms;
@@ -156,6 +159,58 @@ impl<'a> Work<'a> {
         let own = own_defects(alloc, &scope, job.shots()[slot as usize].as_slice())?;
         let parts = start(alloc, job, slot, node, &own)?;
         state_begins();
+        Ok(Work { parts })
+    }
+
+    /// The part of a fusion, made of its children's solved parts (Wu and Zhong 2023): all their cuts, and all their links
+    /// but those of matches to vertices that the fusion owns. The nodes of these matches and the defects that the fusion
+    /// owns are unmatched: first the left part's nodes, then the right part's, then the defects in rising order. Takes time
+    /// for the right part, for the matches of both, and for each defect of the shot.
+    pub fn merge(
+        alloc: Global,
+        job: &'a Job<'a>,
+        node: u32,
+        left: Half<'a>,
+        right: Half<'a>,
+    ) -> Result<Work<'a>, NoMemory>
+        requires left { left.job ≡ job.now }
+        requires right { right.job ≡ job.now }
+        requires slot { left.slot ≡ right.slot }
+        requires children { children_of job.now.plan node ≡ Some (left.node, right.node) }
+        ensures { IfOk result (λ w. IsMerged job.now node left right w) }
+    {
+        job.keeps();
+        left.keeps();
+        right.keeps();
+        let left = left.into_parts();
+        let right = right.into_parts();
+        let slot = left.slot;
+        let scope = NodeScope {
+            graph: job.graph(),
+            plan: job.plan(),
+            node,
+        };
+        let (links, link_names) = Links::merged(alloc, left.links, right.links)?;
+        let (blossoms, names) = Blossoms::merged(alloc, left.blossoms, right.blossoms, &link_names)?;
+        let regions = Regions::merged(alloc, left.regions, right.regions, &names, &scope)?;
+        let mut matching = left.matching;
+        take_matches(
+            alloc,
+            &mut matching,
+            right.matching.matches(),
+            &link_names,
+            &names,
+        )?;
+        let parts = Parts {
+            regions,
+            links,
+            blossoms,
+            matching,
+            job,
+            slot,
+            node,
+        };
+        let parts = open_seam(alloc, parts)?;
         Ok(Work { parts })
     }
 }

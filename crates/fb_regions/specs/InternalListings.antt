@@ -2,6 +2,7 @@
 use Rattle.std.specs.Prelude.{ℕ, ◌≡◌, ◌+◌, List, [], ◌∷◌, ◌++◌, All, Option, Some, None}
 use Rattle.fb_regions.specs.declared.marks.Mark.{Mark}
 use Rattle.fb_regions.specs.declared.region.Region.{Region}
+use Rattle.fb_regions.specs.Moves.{BeginsWith}
 use Rattle.fb_regions.specs.InternalNodes.{added_to, before_of, first_of}
 
 -- each member but the first tells the one that stands before it
@@ -9,10 +10,6 @@ abbrev pub IsListedBy : List (Option Mark) → List ℕ → Type 0
 IsListedBy marks [] = Unit {0}
 IsListedBy marks (u ∷ []) = Unit {0}
 IsListedBy marks (u ∷ (v ∷ vs)) = (before_of marks v ≡ u) × IsListedBy marks (v ∷ vs)
-
-abbrev pub BeginsWith : ℕ → List ℕ → Type 0
-BeginsWith v [] = ⊥
-BeginsWith v (u ∷ us) = u ≡ v
 
 -- a node's vertices are listed, and its first one is known
 pub record IsListed (marks : List (Option Mark)) (r : Region) : Type 0 where

@@ -6,6 +6,6 @@ pub record IsStored (places keys : List ℕ) (count keys_room values_room : ℕ)
   pub placed : (i : ℕ) → i < length keys → get_or places (get_or keys i 0) 0 ≡ i
   pub within : All (λ k. k < length places) keys
   pub values : count ≡ length keys
-  pub room : length places ≤ keys_room
-  pub values_room : length places ≤ values_room
+  pub keys_fit : length places ≤ keys_room
+  pub values_fit : length places ≤ values_room
   pub few : length places < 2 ^ 32

@@ -14,6 +14,11 @@ abbrev pub node_named : List Node → ℕ → Node
 node_named [] name = no_node
 node_named (n ∷ ns) name = if n.name == name then n else node_named ns name
 
+-- the first member of the list
+abbrev pub BeginsWith : ℕ → List ℕ → Type 0
+BeginsWith v [] = ⊥
+BeginsWith v (u ∷ us) = u ≡ v
+
 -- the end of the edge that a node holds: the first one where both are held
 abbrev pub inner_end : List Node → Edge → ℕ
 inner_end nodes e = if is_some (cover_of nodes e.first) then e.first else e.second

@@ -13,7 +13,7 @@ ghost use Rattle.fb_graph.specs.Moves.{MayJoin, MaySplit, MayUncover, joined, sp
 ghost use Rattle.fb_graph.specs.Nests.{IsNest};
 ghost use Rattle.fb_graph.specs.SourceWalks.{HaveWalks};
 ghost use Rattle.fb_graph.specs.Turns.{thinner};
-ghost use Rattle.fb_regions.specs.Moves.{IsOver, IsSourceWalk, absorbed, inner_end, node_named, outer_end};
+ghost use Rattle.fb_regions.specs.Moves.{BeginsWith, IsOver, IsSourceWalk, absorbed, inner_end, node_named, outer_end};
 
 use crate::marks::{Hop, Mark, Marks};
 use crate::listing::list_together;
@@ -438,6 +438,17 @@ impl<S: Scope> Regions<S> {
         ensures { result ≡ height_of (all_cuts self.now.nodes) defect }
     {
         self.potential(defect)
+    }
+
+    /// The first of the node's vertices, which is a defect.
+    pub fn first_vertex(&self, node: NodeId) -> u32
+        requires { is_live self.now.nodes node ≡ true }
+        ensures { BeginsWith result (top_at self.now.nodes node) }
+    {
+        let Some(place) = place_of(&self.places, node) else {
+            unreachable!()
+        };
+        self.regions[place].first
     }
 
     /// The number of the node's own layers.

@@ -73,6 +73,7 @@ LinesEnd named errand g rows left old new Done = WritesCheck named errand g rows
 LinesEnd named errand g rows left old new (Bad count) = WritesCheck named errand g rows old new (Bad count)
 LinesEnd named errand g rows left old new (Refused (refusal.Graph fault)) = ⊥
 LinesEnd named errand g rows left old new (Refused (refusal.Report fault)) = ⊥
+LinesEnd named errand g rows left old new (Refused (refusal.Plan fault)) = ⊥
 LinesEnd named errand g rows left old new (Refused (refusal.Shot fault)) = ChecksBefore named errand g rows old new fault
 LinesEnd named errand g rows left old new ReadFault =
     ChecksHead named left old new ⊎ ChecksGiven named errand g rows left old new
@@ -104,6 +105,7 @@ pub record EndsWithReport (errand : Checking) (g : DecodingGraph) (before after 
 abbrev pub IsReportRefusal : Named → List ℕ → Refusal → Type 0
 IsReportRefusal named name (refusal.Report fault) = Holds named name (IsNoReport fault)
 IsReportRefusal named name (refusal.Graph fault) = ⊥
+IsReportRefusal named name (refusal.Plan fault) = ⊥
 IsReportRefusal named name (refusal.Shot fault) = ⊥
 
 -- the end of a check for a graph: at the report, or with it

@@ -1,13 +1,14 @@
 -- What each end of a run says of what was written and read.
-use Rattle.std.specs.Prelude.{ℕ, ◌≡◌, ◌⊎◌, List, [], ◌∷◌, length, Option, ⊤}
+use Rattle.std.specs.Prelude.{ℕ, ◌≡◌, ◌⊎◌, List, [], ◌∷◌, length, Option, Some, None, ⊤}
 use Rattle.fb_graph.specs.Limits.{DecodingGraph}
 use Rattle.fb_graph.specs.declared.parts.Row.{Row}
+use Rattle.fb_plan.specs.Plans.{PlanTree, single_of}
 use Rattle.fb_ports.specs.Causes.{Appends, AppendsFront}
 use Rattle.fb_shots.specs.Shots.{at_end, refused}
 use Rattle.fb_shots.specs.declared.answer.ShotFault.{ShotFault}
 use Rattle.fb_run.specs.Decoding.{cause_of, report_front, report_text}
 use Rattle.fb_report.specs.Texts.{head_text}
-use Rattle.fb_run.specs.Judging.{Asks, HasFirstShots, HasShots, Holds, IsGraphText, IsNoGraph, IsReadInPart, IsReadOutIfNamed, Named}
+use Rattle.fb_run.specs.Judging.{Asks, HasFirstShots, HasShots, Holds, IsGraphText, IsNoGraph, IsNoPlan, IsPlanText, IsReadInPart, IsReadOutIfNamed, Named}
 use Rattle.fb_run.specs.Moments.{EndsAtFile, EndsInText, Moment, ReadsFile}
 use Rattle.fb_run.specs.Rows.{AreRows, counts_of}
 use Rattle.fb_words.specs.Words.{Decoding}
@@ -17,12 +18,12 @@ use Rattle.fb_endings.specs.declared.ending.Refusal.{Refusal}
 use Rattle.fb_endings.specs.declared.ending.Refusal.TheVariants as refusal
 
 -- The shots were read to their end, and a whole report of them was written.
-pub record WritesReport (named : Named) (errand : Decoding) (g : DecodingGraph) (old new : Option (List ℕ)) (cause : Cause) : Type 0 where
+pub record WritesReport (named : Named) (errand : Decoding) (g : DecodingGraph) (t : PlanTree) (old new : Option (List ℕ)) (cause : Cause) : Type 0 where
   pub shots : List (List ℕ)
   pub input : Holds named errand.shots (HasShots errand.format g shots at_end)
   pub rows : List Row
   pub answers : AreRows g shots rows
-  pub written : Appends old new (report_text rows)
+  pub written : Appends old new (report_text t rows)
   pub ends : cause ≡ cause_of (counts_of rows)
 
 -- The shots end by a refusal, and the head and the rows of those before it were written.
@@ -47,47 +48,71 @@ abbrev pub WritesHead : Named → Option (List ℕ) → Option (List ℕ) → Op
 WritesHead named left old new = IsReadOutIfNamed named left × Appends old new head_text
 
 -- A prefix was written of the head and the rows of some of the first shots, or of a whole report.
-pub record WritesFront (named : Named) (errand : Decoding) (g : DecodingGraph) (old new : Option (List ℕ)) : Type 0 where
+pub record WritesFront (named : Named) (errand : Decoding) (g : DecodingGraph) (t : PlanTree) (old new : Option (List ℕ)) : Type 0 where
   pub shots : List (List ℕ)
   pub input : (shots ≡ []) ⊎ Holds named errand.shots (HasFirstShots errand.format g shots)
   pub rows : List Row
   pub answers : AreRows g shots rows
   pub written : AppendsFront old new (report_front rows)
-      ⊎ (Holds named errand.shots (HasShots errand.format g shots at_end) × AppendsFront old new (report_text rows))
+      ⊎ (Holds named errand.shots (HasShots errand.format g shots at_end) × AppendsFront old new (report_text t rows))
 
--- the end of a decode that asked for the shots of a graph, when `left` remains of them
-abbrev pub RowsEnd : Named → Decoding → DecodingGraph → Option (List ℕ) → Option (List ℕ) → Option (List ℕ) → Cause → Type 0
-RowsEnd named errand g left old new Done = WritesReport named errand g old new Done
-RowsEnd named errand g left old new Odd = WritesReport named errand g old new Odd
-RowsEnd named errand g left old new (Bad count) = ⊥
-RowsEnd named errand g left old new (Refused (refusal.Graph fault)) = ⊥
-RowsEnd named errand g left old new (Refused (refusal.Report fault)) = ⊥
-RowsEnd named errand g left old new (Refused (refusal.Shot fault)) = WritesBefore named errand g old new fault
-RowsEnd named errand g left old new ReadFault = WritesHead named left old new ⊎ WritesGiven named errand g left old new
-RowsEnd named errand g left old new WriteFault = WritesFront named errand g old new
-RowsEnd named errand g left old new NoMemory = WritesFront named errand g old new
-RowsEnd named errand g left old new (Usage kind) = ⊥
+-- the end of a decode by a plan that asked for the shots of a graph, when `left` remains of them
+abbrev pub RowsEnd : Named → Decoding → DecodingGraph → PlanTree → Option (List ℕ) → Option (List ℕ) → Option (List ℕ) → Cause → Type 0
+RowsEnd named errand g t left old new Done = WritesReport named errand g t old new Done
+RowsEnd named errand g t left old new Odd = WritesReport named errand g t old new Odd
+RowsEnd named errand g t left old new (Bad count) = ⊥
+RowsEnd named errand g t left old new (Refused (refusal.Graph fault)) = ⊥
+RowsEnd named errand g t left old new (Refused (refusal.Plan fault)) = ⊥
+RowsEnd named errand g t left old new (Refused (refusal.Report fault)) = ⊥
+RowsEnd named errand g t left old new (Refused (refusal.Shot fault)) = WritesBefore named errand g old new fault
+RowsEnd named errand g t left old new ReadFault = WritesHead named left old new ⊎ WritesGiven named errand g left old new
+RowsEnd named errand g t left old new WriteFault = WritesFront named errand g t old new
+RowsEnd named errand g t left old new NoMemory = WritesFront named errand g t old new
+RowsEnd named errand g t left old new (Usage kind) = ⊥
 
 -- the shots were asked for, and the decode ended so
-abbrev pub EndsAtShots : Decoding → DecodingGraph → Moment → Moment → Cause → Type 0
-EndsAtShots errand g before after cause =
+abbrev pub EndsAtShots : Decoding → DecodingGraph → PlanTree → Moment → Moment → Cause → Type 0
+EndsAtShots errand g t before after cause =
     Asks before.asked after.asked (errand.shots ∷ [])
-    × RowsEnd before.named errand g after.left before.written after.written cause
+    × RowsEnd before.named errand g t after.left before.written after.written cause
 
--- the end of a decode for a graph: before the shots are asked for, or after
-abbrev pub EndsOn : Decoding → DecodingGraph → Moment → Moment → Cause → Type 0
-EndsOn errand g before after cause = EndsInText head_text before after cause ⊎ EndsAtShots errand g before after cause
+-- the end of a decode for a graph by a plan of it: before the shots are asked for, or after
+abbrev pub EndsOn : Decoding → DecodingGraph → PlanTree → Moment → Moment → Cause → Type 0
+EndsOn errand g t before after cause =
+    EndsInText head_text before after cause ⊎ EndsAtShots errand g t before after cause
+
+-- the text of the file of the name is no plan of the graph, and the refusal is its fault
+abbrev pub IsPlanRefusal : DecodingGraph → Named → List ℕ → Refusal → Type 0
+IsPlanRefusal g named name (refusal.Graph fault) = ⊥
+IsPlanRefusal g named name (refusal.Plan fault) = Holds named name (IsNoPlan g fault)
+IsPlanRefusal g named name (refusal.Report fault) = ⊥
+IsPlanRefusal g named name (refusal.Shot fault) = ⊥
+
+-- the file of the plan holds one of the graph, and the decode ended so by it
+pub record EndsWithPlan (errand : Decoding) (g : DecodingGraph) (name : List ℕ) (before after : Moment) (cause : Cause) : Type 0 where
+  pub t : PlanTree
+  pub read : Moment
+  pub plan : ReadsFile (IsPlanText g t) name before read
+  pub ends : EndsOn errand g t read after cause
+
+-- the end of a decode for a graph: by the plan of one unit where none is named, else at the plan, or with it
+abbrev pub EndsByPlan : Option (List ℕ) → Decoding → DecodingGraph → Moment → Moment → Cause → Type 0
+EndsByPlan None errand g before after cause = EndsOn errand g (single_of g) before after cause
+EndsByPlan (Some name) errand g before after cause =
+    EndsAtFile (IsPlanRefusal g before.named name) name before after cause
+    ⊎ EndsWithPlan errand g name before after cause
 
 -- the file of the graph holds one, and the decode ended so for it
 pub record EndsWithGraph (errand : Decoding) (before after : Moment) (cause : Cause) : Type 0 where
   pub g : DecodingGraph
   pub read : Moment
   pub graph : ReadsFile (IsGraphText g) errand.graph before read
-  pub ends : EndsOn errand g read after cause
+  pub ends : EndsByPlan errand.plan errand g read after cause
 
 -- the text of the file of the name is no graph, and the refusal is its fault
 abbrev pub IsGraphRefusal : Named → List ℕ → Refusal → Type 0
 IsGraphRefusal named name (refusal.Graph fault) = Holds named name (IsNoGraph fault)
+IsGraphRefusal named name (refusal.Plan fault) = ⊥
 IsGraphRefusal named name (refusal.Report fault) = ⊥
 IsGraphRefusal named name (refusal.Shot fault) = ⊥
 

@@ -7,6 +7,11 @@ use Rattle.fb_shots.specs.Shots.{Ending, at_end, still_open, refused, Shots}
 use Rattle.fb_shots.specs.Formats.{front_of}
 use Rattle.fb_shots.specs.Streams.{most_bytes, stream_of}
 use Rattle.fb_shots.specs.declared.answer.Format.{Format}
+use Rattle.fb_plan.specs.Plans.{PlanTree}
+use Rattle.fb_plan.specs.declared.faults.PlanFault.{PlanFault}
+use Rattle.fb_plan_in.specs.PlanText.{plan_of_text}
+use Rattle.fb_run.specs.declared.plans.NoPlan.{NoPlan}
+use Rattle.fb_run.specs.declared.plans.NoPlan.TheVariants as no_plan
 use Rattle.fb_run.specs.declared.graphs.NoGraph.{NoGraph}
 use Rattle.fb_run.specs.declared.graphs.NoGraph.TheVariants as no_graph
 use Rattle.fb_run.specs.declared.shots.ShotsEnd.{ShotsEnd}
@@ -28,6 +33,20 @@ IsGraphText g text = graph_of_text text ≡ Ok g
 -- the text is no graph, for this reason
 abbrev pub IsNoGraph : TextFault → List ℕ → Type 0
 IsNoGraph fault text = graph_of_text text ≡ Err fault
+
+-- the text is that of the plan of the graph
+abbrev pub IsPlanText : DecodingGraph → PlanTree → List ℕ → Type 0
+IsPlanText g t text = plan_of_text text g ≡ Ok t
+
+-- the text is no plan of the graph, for this reason
+abbrev pub IsNoPlan : DecodingGraph → PlanFault → List ℕ → Type 0
+IsNoPlan g fault text = plan_of_text text g ≡ Err fault
+
+-- the fact of the fault, where there is no plan since its text is refused
+abbrev pub IfPlanRefused : (PlanFault → Type 0) → NoPlan → Type 0
+IfPlanRefused P (no_plan.Refused fault) = P fault
+IfPlanRefused P no_plan.ReadFault = ⊤
+IfPlanRefused P no_plan.NoMemory = ⊤
 
 -- the fact of the fault, where there is no graph since its text is refused
 abbrev pub IfRefused : (TextFault → Type 0) → NoGraph → Type 0

@@ -3,6 +3,7 @@ use Rattle.std.specs.Prelude.{ℕ, ◌≡◌, ◌+◌, ◌⊎◌, List, ◌++◌
 use Rattle.fb_graph.specs.Limits.{DecodingGraph}
 use Rattle.fb_graph.specs.declared.parts.Row.{Row}
 use Rattle.fb_graph.specs.declared.parts.Row.TheVariants as row
+use Rattle.fb_plan.specs.Plans.{PlanTree}
 use Rattle.fb_ports.specs.Causes.{Appends, AppendsFront}
 use Rattle.fb_report.specs.Texts.{rows_text}
 use Rattle.fb_run.specs.Decoding.{cause_of, last_line}
@@ -39,9 +40,9 @@ pub record WritesFirstRows (g : DecodingGraph) (shots : List (List ℕ)) (old ne
   pub written : AppendsFront old new (rows_text 0 rows)
 
 -- the end of a report of so many rows, by how the shots ended: the last line only where they were read to their end
-abbrev pub EndsReport : ShotsEnd → ℕ → Counts → Option (List ℕ) → Option (List ℕ) → Cause → Type 0
-EndsReport end.End rows counts old new cause =
-    (Appends old new (last_line rows counts) × (cause ≡ cause_of counts))
-    ⊎ (AppendsFront old new (last_line rows counts) × (cause ≡ WriteFault))
-EndsReport (end.Refused fault) rows counts old new cause = (new ≡ old) × (cause ≡ Refused (refusal.Shot fault))
-EndsReport end.ReadFault rows counts old new cause = (new ≡ old) × (cause ≡ ReadFault)
+abbrev pub EndsReport : PlanTree → ShotsEnd → ℕ → Counts → Option (List ℕ) → Option (List ℕ) → Cause → Type 0
+EndsReport t end.End rows counts old new cause =
+    (Appends old new (last_line t rows counts) × (cause ≡ cause_of counts))
+    ⊎ (AppendsFront old new (last_line t rows counts) × (cause ≡ WriteFault))
+EndsReport t (end.Refused fault) rows counts old new cause = (new ≡ old) × (cause ≡ Refused (refusal.Shot fault))
+EndsReport t end.ReadFault rows counts old new cause = (new ≡ old) × (cause ≡ ReadFault)

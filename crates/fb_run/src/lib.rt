@@ -6,10 +6,12 @@ mod check_text;
 mod checking;
 mod graphs;
 mod outbox;
+mod plans;
 mod report;
 mod running;
 mod shots;
 mod solving;
+mod walking;
 
 pub use fb_endings::{Cause, Ended, Refusal};
 pub use fb_words::UsageKind;

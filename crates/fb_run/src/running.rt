@@ -1,9 +1,10 @@
 //! The top call.
 
 ghost use Rattle.std.specs.Prelude.{◌≡◌, ◌≢◌, ◌<◌, ◌≤◌, ◌^◌, ◌-◌, map, string_bytes, true};
+ghost use Rattle.fb_plan.specs.Plans.{IsPlan};
 ghost use Rattle.fb_ports.specs.Causes.{Appends, AppendsFront, HasRoom, IsEmptyIfTold, Rose};
 ghost use Rattle.fb_endings.specs.Causes.{line_of, status_of};
-ghost use Rattle.fb_run.specs.Endings.{DecodeEnds, EndsOn, IsReadToItsEnd, MayFollowReadFault};
+ghost use Rattle.fb_run.specs.Endings.{DecodeEnds, EndsByPlan, EndsOn, IsReadToItsEnd, MayFollowReadFault};
 ghost use Rattle.fb_run.specs.Moments.{moment};
 ghost use Rattle.fb_run.specs.RunEndings.{EndsRight, ErrandEnds, IfParse, cause_of_fault};
 ghost use Rattle.fb_run.specs.Judging.{IsReadOutIfNamed};
@@ -14,11 +15,13 @@ ghost use Rattle.fb_run.specs.Writes.{EndsReport, counts_in};
 
 use crate::checking::check;
 use crate::graphs::{NoGraph, read_graph_file};
+use crate::plans::{NoPlan, read_plan_file};
 use crate::report::{RowsFault, Tally, write_rows};
 use crate::shots::{ShotsEnd, read_shots};
 use crate::solving::Solver;
 use fb_endings::{Cause, Ended, Refusal, say};
 use fb_graph::Graph;
+use fb_plan::Plan;
 use fb_ports::{Files, Sink, put_all};
 use fb_report::{write_done, write_head};
 use fb_words::{Decoding, Errand, UsageKind, WordsFault, read_words};
@@ -165,7 +168,7 @@ fn decode<F: Files, O: Sink>(
     }
 }
 
-/// Decodes the shots of the file that is named, for a graph.
+/// Decodes the shots of the file that is named, for a graph: by the plan of the file that is named, or by that of one unit.
 fn decode_on<F: Files, O: Sink>(
     alloc: Global,
     errand: &Decoding<'_>,
@@ -173,8 +176,8 @@ fn decode_on<F: Files, O: Sink>(
     files: &mut F,
     out: &mut O,
 ) -> Cause
-    requires { HasRoom (F.asked files.old) 16 }
-    ensures ends { EndsOn (seen_decoding errand.now) graph.now
+    requires { HasRoom (F.asked files.old) 15 }
+    ensures ends { EndsByPlan (seen_decoding errand.now).plan (seen_decoding errand.now) graph.now
         (moment (F.named files.old) (F.left files.old) (F.asked files.old) (F.faults files.old) (O.taken out.old))
         (moment (F.named files.new) (F.left files.new) (F.asked files.new) (F.faults files.new) (O.taken out.new)) result }
     ensures at_end { IsReadToItsEnd result → IsReadOutIfNamed (F.named files.old) (F.left files.new) }
@@ -185,7 +188,44 @@ fn decode_on<F: Files, O: Sink>(
     ensures write_later { O.faults out.old ≤ O.faults out.new }
     ensures write_calm { result ≢ Cause.WriteFault → O.faults out.new ≡ O.faults out.old }
 {
-    let Ok(mut solver) = Solver::new(alloc, graph) else {
+    let Some(name) = errand.plan else {
+        return match Plan::single(alloc, graph) {
+            Ok(plan) => decode_by(alloc, errand, graph, &plan, files, out),
+            Err(_) => Cause::NoMemory,
+        };
+    };
+    match read_plan_file(alloc, files, name, graph) {
+        Ok(plan) => decode_by(alloc, errand, graph, &plan, files, out),
+        Err(NoPlan::Refused(fault)) => Cause::Refused(Refusal::Plan(fault)),
+        Err(NoPlan::ReadFault) => Cause::ReadFault,
+        Err(NoPlan::NoMemory) => Cause::NoMemory,
+    }
+}
+
+/// Decodes the shots of the file that is named, for a graph and a plan of it: the head is written, the shots are read, and
+/// their rows are written.
+fn decode_by<F: Files, O: Sink>(
+    alloc: Global,
+    errand: &Decoding<'_>,
+    graph: &Graph,
+    plan: &Plan,
+    files: &mut F,
+    out: &mut O,
+) -> Cause
+    requires plan { IsPlan graph.now plan.now }
+    requires room { HasRoom (F.asked files.old) 16 }
+    ensures ends { EndsOn (seen_decoding errand.now) graph.now plan.now
+        (moment (F.named files.old) (F.left files.old) (F.asked files.old) (F.faults files.old) (O.taken out.old))
+        (moment (F.named files.new) (F.left files.new) (F.asked files.new) (F.faults files.new) (O.taken out.new)) result }
+    ensures at_end { IsReadToItsEnd result → IsReadOutIfNamed (F.named files.old) (F.left files.new) }
+    ensures read_fault { result ≡ Cause.ReadFault → Rose (F.faults files.old) (F.faults files.new) }
+    ensures read_later { F.faults files.old ≤ F.faults files.new }
+    ensures read_risen { F.faults files.old < F.faults files.new → MayFollowReadFault result }
+    ensures write_fault { result ≡ Cause.WriteFault → Rose (O.faults out.old) (O.faults out.new) }
+    ensures write_later { O.faults out.old ≤ O.faults out.new }
+    ensures write_calm { result ≢ Cause.WriteFault → O.faults out.new ≡ O.faults out.old }
+{
+    let Ok(mut solver) = Solver::new(alloc, graph, plan) else {
         return Cause::NoMemory;
     };
     let Ok(()) = write_head(out) else {
@@ -202,22 +242,31 @@ fn decode_on<F: Files, O: Sink>(
     };
     let shots = gathered.shots.as_slice();
     match write_rows(alloc, &mut solver, shots, out) {
-        Ok(tally) => end_report(gathered.end, shots.len() as u64, tally, out),
+        Ok(tally) => end_report(plan, gathered.end, shots.len() as u64, tally, out),
         Err(RowsFault::WriteFault) => Cause::WriteFault,
         Err(RowsFault::NoMemory) => Cause::NoMemory,
     }
 }
 
-/// Ends the report of so many rows: by its last line where the shots were read to their end.
-fn end_report<O: Sink>(end: ShotsEnd, rows: u64, tally: Tally, out: &mut O) -> Cause
-    ensures end { EndsReport end rows (counts_in tally) (O.taken out.old) (O.taken out.new) result }
+/// Ends the report of so many rows by the plan: by its last line where the shots were read to their end.
+fn end_report<O: Sink>(
+    plan: &Plan,
+    end: ShotsEnd,
+    rows: u64,
+    tally: Tally,
+    out: &mut O,
+) -> Cause
+    requires few { tally.best < 2 ^ 32 }
+    ensures end { EndsReport plan.now end rows (counts_in tally) (O.taken out.old) (O.taken out.new) result }
     ensures write_fault { result ≡ Cause.WriteFault → Rose (O.faults out.old) (O.faults out.new) }
     ensures write_later { O.faults out.old ≤ O.faults out.new }
     ensures write_calm { result ≢ Cause.WriteFault → O.faults out.new ≡ O.faults out.old }
 {
     match end {
         ShotsEnd::End => {
-            let Ok(()) = write_done(out, rows, tally.odd, tally.best, 0) else {
+            let units = tally.best * u64::from(plan.units());
+            let fusions = tally.best * u64::from(plan.nodes() - plan.units());
+            let Ok(()) = write_done(out, rows, tally.odd, units, fusions) else {
                 return Cause::WriteFault;
             };
             tally.cause()

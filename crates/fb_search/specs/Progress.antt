@@ -1,5 +1,5 @@
 -- What the steps of a search promise: all else stays, and less is left to do.
-use Rattle.std.specs.Prelude.{ℕ, ◌≡◌, ◌+◌, ◌<◌, ◌≤◌, Bool, true, false, List, length}
+use Rattle.std.specs.Prelude.{ℕ, ◌≡◌, ◌+◌, ◌*◌, ◌<◌, ◌≤◌, Bool, true, false, List, length}
 use Rattle.fb_graph.specs.Parity.{is_in}
 use Rattle.fb_graph.specs.Dual.{Node}
 use Rattle.fb_graph.specs.Steps.{stepped}
@@ -69,3 +69,15 @@ pub record IsBegunAt (root : ℕ) (work : PartValue) (search : SearchValue) : Ty
 pub record EndsWith (before : SearchValue) (after : PartValue) (watched : Watched) : Type 0 where
   pub searched : IsSearched before.tree.root before.part after
   pub room : watched.edge_count ≡ before.watched.edge_count
+
+-- Searches from each of these nodes that was still unmatched in its turn, with the counter before and after them: none of
+-- them is unmatched any more, and no node that was not. The searches are at most as many as the nodes, and as the nodes
+-- that are no longer unmatched, and at least half as many as the latter.
+pub record HasSearchedEach (before : PartValue) (roots : List ℕ) (old new : ℕ) (after : PartValue) : Type 0 where
+  pub part : IsSamePart before after
+  pub matched : (n : ℕ) → is_in after.matching.unmatched n ≡ true
+      → (is_in before.matching.unmatched n ≡ true) × (is_in roots n ≡ false)
+  pub kept : AreKept after.matching.unmatched before.nodes after.nodes
+  pub steps : new + length after.matching.unmatched ≤ old + length before.matching.unmatched
+  pub each : length before.matching.unmatched + 2 * old ≤ length after.matching.unmatched + 2 * new
+  pub few : new ≤ old + length roots

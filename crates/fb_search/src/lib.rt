@@ -22,6 +22,6 @@ pub mod watched;
 pub mod went;
 
 pub use roles::TreeRoles;
-pub use searches::{search, search_each, search_from};
+pub use searches::{search, search_each, search_each_from, search_from};
 pub use searching::Searching;
 pub use went::Went;

@@ -1,7 +1,7 @@
 ghost use Rattle.std.specs.Prelude.{◌≡◌, ◌+◌, ◌*◌, ◌<◌, ◌≤◌, ℕ, true, false, IfOk, OnErr, length};
 ghost use Rattle.fb_graph.specs.Parity.{is_in};
 ghost use Rattle.fb_half.specs.Parts.{problem_in};
-ghost use Rattle.fb_search.specs.Progress.{AreKept, EndsWith, IsSamePart, IsSearched};
+ghost use Rattle.fb_search.specs.Progress.{EndsWith, HasSearchedEach, IsSearched};
 
 use crate::searching::Searching;
 use crate::went::Went;
@@ -88,23 +88,33 @@ pub fn search_each<'a, L: Ledger>(
     roots: &[NodeId],
     steps: &mut Steps<L>,
 ) -> Result<Work<'a>, NoMemory>
-    ensures part { IfOk result (IsSamePart work.entry) }
-    ensures matched { IfOk result (λ after. (n : ℕ) → is_in after.matching.unmatched n ≡ true
-        → (is_in work.entry.matching.unmatched n ≡ true) × (is_in roots.now n ≡ false)) }
-    ensures kept { IfOk result (λ after. AreKept after.matching.unmatched work.entry.nodes after.nodes) }
+    ensures searched { IfOk result (HasSearchedEach work.entry roots.now steps.old steps.new) }
     ensures never_falls { steps.old ≤ steps.new }
-    ensures steps { IfOk result (λ after.
-        steps.new + length after.matching.unmatched ≤ steps.old + length work.entry.matching.unmatched) }
-    ensures each { IfOk result (λ after.
-        length work.entry.matching.unmatched + 2 * steps.old ≤ length after.matching.unmatched + 2 * steps.new) }
-    ensures roots { IfOk result (λ after. steps.new ≤ steps.old + length roots.now) }
 {
-    let mut watch = Watch::new(alloc, work.regions().scope())?;
+    let watch = Watch::new(alloc, work.regions().scope())?;
+    let (work, _watch) = search_each_from(alloc, work, roots, watch, steps)?;
+    Ok(work)
+}
+
+/// The same with a watch that is emptied first and given back, so that one watch serves many parts of a graph.
+pub fn search_each_from<'a, L: Ledger>(
+    alloc: Global,
+    work: Work<'a>,
+    roots: &[NodeId],
+    watch: Watch,
+    steps: &mut Steps<L>,
+) -> Result<(Work<'a>, Watch), NoMemory>
+    requires room { watch.edge_count ≡ length (problem_in work).edges }
+    ensures searched { IfOk result (λ after. HasSearchedEach work.entry roots.now steps.old steps.new after.0) }
+    ensures room { IfOk result (λ after. after.1.edge_count ≡ watch.edge_count) }
+    ensures never_falls { steps.old ≤ steps.new }
+{
     let mut work = work;
+    let mut watch = watch;
     for root in roots {
         if let Standing::Unmatched(_) = work.matching().standing(*root) {
             (work, watch) = search_from(alloc, work, *root, watch, steps)?;
         }
     }
-    Ok(work)
+    Ok((work, watch))
 }

@@ -1,11 +1,12 @@
 ghost use Rattle.std.specs.Prelude.{◌≡◌, ◌<◌, ◌+◌, ◌*◌, ◌≤◌, IfOk, length};
 ghost use Rattle.fb_half.specs.Beginnings.{own_defects};
-ghost use Rattle.fb_unit.specs.Units.{IsPartOf};
+ghost use Rattle.fb_half.specs.Parts.{IsPartOf};
 
-use fb_graph::{NoMemory, Steps};
+use fb_graph::{NoMemory, Steps, Whole};
 use fb_half::{Half, Work};
+use fb_obstacles::Watch;
 use fb_plan::Job;
-use fb_search::search_each;
+use fb_search::search_each_from;
 use std::alloc::Global;
 use std::sync::ledger::Ledger;
 
@@ -25,8 +26,31 @@ pub fn solve_unit<'a, L: Ledger>(
     ensures steps { IfOk result (λ half. (length (own_defects half) + 2 * steps.old ≤ 2 * steps.new)
         × (steps.new ≤ steps.old + length (own_defects half))) }
 {
+    let watch = Watch::new(alloc, &Whole(job.graph()))?;
+    let (half, _watch) = solve_unit_from(alloc, job, slot, node, watch, steps)?;
+    Ok(half)
+}
+
+/// The same with a watch that is emptied first and given back, so that one watch serves many parts of a graph.
+pub fn solve_unit_from<'a, L: Ledger>(
+    alloc: Global,
+    job: &'a Job<'a>,
+    slot: u32,
+    node: u32,
+    watch: Watch,
+    steps: &mut Steps<L>,
+) -> Result<(Half<'a>, Watch), NoMemory>
+    requires slot { slot < length job.now.shots }
+    requires unit { node < job.now.plan.units }
+    requires room { watch.edge_count ≡ length job.now.graph.edges }
+    ensures half { IfOk result (λ r. IsPartOf job.now slot node r.0) }
+    ensures room { IfOk result (λ r. r.1.edge_count ≡ watch.edge_count) }
+    ensures never_falls { steps.old ≤ steps.new }
+    ensures steps { IfOk result (λ r. (length (own_defects r.0) + 2 * steps.old ≤ 2 * steps.new)
+        × (steps.new ≤ steps.old + length (own_defects r.0))) }
+{
     let work = Work::begin(alloc, job, slot, node)?;
     let roots = Vec::from_slice(alloc, work.unmatched())?;
-    let work = search_each(alloc, work, &roots, steps)?;
-    Ok(work.close())
+    let (work, watch) = search_each_from(alloc, work, &roots, watch, steps)?;
+    Ok((work.close(), watch))
 }

@@ -14,8 +14,12 @@ with_inputs app =
     with_rule (with_rule (with_rule app
     (option_rule (codes "graph"))) (option_rule (codes "shots"))) (option_rule (codes "format"))
 
+-- an option that may be given, once
+abbrev pub free_rule : Text → Rule
+free_rule name = record (new_rule name) { long = Some name; value_names = 1; action = Some Set }
+
 abbrev pub decode_app : App
-decode_app = with_inputs (new_app (codes "decode"))
+decode_app = with_rule (with_inputs (new_app (codes "decode"))) (free_rule (codes "plan"))
 
 abbrev pub check_app : App
 check_app = with_rule (with_inputs (new_app (codes "check"))) (option_rule (codes "report"))

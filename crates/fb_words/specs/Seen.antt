@@ -1,5 +1,5 @@
 -- What the words ask for, without where its texts lie in memory.
-use Rattle.std.specs.Prelude.{◌≡◌, Option, Some, None, IfSome, Result, Err}
+use Rattle.std.specs.Prelude.{◌≡◌, option_map, Option, Some, None, IfSome, Result, Err}
 use Rattle.fb_words.specs.Words.{Checking, Decoding, Errand, check, decode}
 use Rattle.fb_words.specs.declared.words.Checking.{Checking as BorrowedChecking}
 use Rattle.fb_words.specs.declared.words.Decoding.{Decoding as BorrowedDecoding}
@@ -11,7 +11,7 @@ use Rattle.fb_words.specs.declared.words.WordsFault.{WordsFault}
 use Rattle.fb_words.specs.declared.words.WordsFault.TheVariants as fault
 
 abbrev pub seen_decoding : BorrowedDecoding → Decoding
-seen_decoding d = record { graph = d.graph.now; shots = d.shots.now; format = d.format }
+seen_decoding d = record { graph = d.graph.now; plan = option_map (λ name. name.now) d.plan; shots = d.shots.now; format = d.format }
 
 abbrev pub seen_checking : BorrowedChecking → Checking
 seen_checking c =

@@ -8,9 +8,10 @@ use Rattle.fb_shots.specs.declared.answer.Format.TheVariants.{Text01, B8, Dets, 
 use Rattle.fb_words.specs.declared.usage.UsageKind.{UsageKind}
 use Rattle.fb_words.specs.declared.usage.UsageKind.TheVariants as usage
 
--- what `decode` asks for: the names of the graph and of the shots, and the format of the shots
+-- what `decode` asks for: the names of the graph, of the plan if one is given, and of the shots, and their format
 pub record Decoding : Type 0 where
   pub graph : Text
+  pub plan : Option Text
   pub shots : Text
   pub format : Format
 
@@ -52,7 +53,7 @@ abbrev pub errand_with : Result Format UsageKind → (Format → Errand) → Res
 errand_with (Ok format) errand = Ok (errand format)
 errand_with (Err kind) errand = Err kind
 
--- the value of an option; empty where there is none, which clap leaves of no required option
+-- the value of an option; empty where there is none, as may be of the plan alone
 abbrev pub option_of : Text → List Row → Text
 option_of name options = unwrap_or (first_of name options) []
 
@@ -60,9 +61,10 @@ option_of name options = unwrap_or (first_of name options) []
 abbrev pub decoding_of : List Row → Result Errand UsageKind
 decoding_of options =
     let graph = option_of (codes "graph") options in
+    let plan = option_of (codes "plan") options in
     let shots = option_of (codes "shots") options in
-    errand_with (accepted_format (format_of (option_of (codes "format") options)) (graph ∷ shots ∷ []))
-    (λ format. decode (record { graph = graph; shots = shots; format = format }))
+    errand_with (accepted_format (format_of (option_of (codes "format") options)) (graph ∷ plan ∷ shots ∷ []))
+    (λ format. decode (record { graph = graph; plan = first_of (codes "plan") options; shots = shots; format = format }))
 
 -- the errand of `check` with these options
 abbrev pub checking_of : List Row → Result Errand UsageKind

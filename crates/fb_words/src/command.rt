@@ -3,7 +3,7 @@
 ghost use Rattle.std.specs.Prelude.{◌≡◌, IfOk, false, codes};
 ghost use Rattle.clap.specs.Words.{app_of, rule_of};
 ghost use Rattle.clap.specs.declared.builder.Command.TheViews.{out-Command};
-ghost use Rattle.fb_words.specs.Command.{check_app, decode_app, fusion_app, option_rule, with_inputs};
+ghost use Rattle.fb_words.specs.Command.{check_app, decode_app, free_rule, fusion_app, option_rule, with_inputs};
 
 use clap::{Arg, ArgAction, Command};
 use std::alloc::{AllocError, Global};
@@ -38,7 +38,7 @@ fn decode<'a>(alloc: Global) -> Result<Command<'a>, AllocError>
     let command = Command::new(alloc, "decode")
         .about("Write a lightest correction of each shot, with cuts that show that none is lighter")
         .after_help(NAMES);
-    with_inputs(alloc, command)
+    with_inputs(alloc, command)?.arg(plan(alloc))
 }
 
 /// The command `check`.
@@ -75,6 +75,18 @@ fn graph<'a>(alloc: Global) -> Arg<'a>
         "NAME",
         "The decoding graph: the solver initializer of Fusion Blossom, in JSON",
     )
+}
+
+/// The option for the plan.
+fn plan<'a>(alloc: Global) -> Arg<'a>
+    ensures rule { rule_of result ≡ free_rule (codes "plan") }
+    ensures local { result.global ≡ false }
+{
+    Arg::new(alloc, "plan")
+        .long("plan")
+        .value_name("NAME")
+        .help("A plan by which the graph is solved in parts, in JSON; without one it is solved whole")
+        .action(ArgAction::Set)
 }
 
 /// The option for the shots.

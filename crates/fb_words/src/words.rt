@@ -20,10 +20,11 @@ pub enum Errand<'a> {
     Check(Checking<'a>),
 }
 
-/// Shots to decode: the names of the graph and of the shots, `-` for standard input.
+/// Shots to decode: the names of the graph, of the plan if one is given, and of the shots, `-` for standard input.
 #[derive(Clone, Copy)]
 pub struct Decoding<'a> {
     pub graph: &'a str,
+    pub plan: Option<&'a str>,
     pub shots: &'a str,
     pub format: Format,
 }
@@ -104,10 +105,13 @@ fn read_decoding<'a>(options: &ArgMatches<'a>) -> Result<Errand<'a>, WordsFault>
     ensures parsed { IfErr result (λ f. usage_of f ≢ Some UsageKind.Parse) }
 {
     let graph = option(options, "graph");
+    let plan = options.get_str("plan");
     let shots = option(options, "shots");
-    match accepted_format(option(options, "format"), &[graph, shots]) {
+    let names = [graph, plan.unwrap_or(""), shots];
+    match accepted_format(option(options, "format"), &names) {
         Ok(format) => Ok(Errand::Decode(Decoding {
             graph,
+            plan,
             shots,
             format,
         })),

@@ -2,7 +2,7 @@ use Rattle.std.proofs.Common.{◌≡◌, ◌∙◌, ℕ, true, List, [], ◌∷�
 use Rattle.std.proofs.lemmas.Bool.{both_ways}
 use Rattle.fb_graph.specs.Parity.{is_in}
 use Rattle.fb_graph.proofs.Sets.{is_in-head}
-use Rattle.fb_unit.proofs.unit.solve_unit.Goals as goal
+use Rattle.fb_unit.proofs.unit.solve_unit_from.Goals as goal
 
 -- a list that holds no number is empty
 none_left : (xs : List ℕ) → ((n : ℕ) → is_in xs n ≡ true → ⊥) → xs ≡ []

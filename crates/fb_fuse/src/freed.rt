@@ -1,0 +1,20 @@
+ghost use Rattle.std.specs.Prelude.{◌≡◌, length};
+ghost use Rattle.fb_half.specs.Merged.{freed_in};
+
+use fb_half::{Half, leads_to_seam};
+
+/// How many nodes of a solved part are matched to a vertex that the node of the plan owns: so many become unmatched where
+/// the part is fused at that node. Takes no memory.
+pub fn freed_count(half: &Half, node: u32) -> u32
+    ensures { result ≡ length (freed_in half.now node) }
+{
+    half.keeps();
+    let plan = half.job().plan();
+    let mut count = 0;
+    for m in half.matching().matches() {
+        if leads_to_seam(half.links(), *m, plan, node) {
+            count += 1;
+        }
+    }
+    count
+}

@@ -1,0 +1,87 @@
+ghost use Rattle.std.specs.Prelude.{◌≡◌, ◌+◌, ◌*◌, ◌≤◌, ◌<◌, IfOk, Some, length, map};
+ghost use Rattle.std.specs.List.Sorted.{IsPermutation};
+ghost use Rattle.fb_half.specs.Merged.{freed_in, seam_defects};
+ghost use Rattle.fb_half.specs.Parts.{IsPartOf};
+ghost use Rattle.fb_plan.specs.Plans.{children_of};
+
+use fb_graph::{NoMemory, Steps, Whole};
+use fb_half::{Half, Work};
+use fb_obstacles::Watch;
+use fb_plan::Job;
+use fb_regions::NodeId;
+use fb_search::search_each_from;
+use std::alloc::Global;
+use std::sync::ledger::Ledger;
+
+/// The solved part of a fusion, made of its children's: both are put together (`Work::merge`), and a search goes from each
+/// node that is unmatched then, in rising order of their first vertices. Counts a step for each search: at most one for
+/// each node that was matched to the seam and for each defect on it, and at least one for every two of these.
+pub fn fuse<'a, L: Ledger>(
+    alloc: Global,
+    job: &'a Job<'a>,
+    node: u32,
+    left: Half<'a>,
+    right: Half<'a>,
+    steps: &mut Steps<L>,
+) -> Result<Half<'a>, NoMemory>
+    requires left { left.job ≡ job.now }
+    requires right { right.job ≡ job.now }
+    requires slot { left.slot ≡ right.slot }
+    requires children { children_of job.now.plan node ≡ Some (left.node, right.node) }
+    ensures half { IfOk result (IsPartOf job.now left.slot node) }
+    ensures never_falls { steps.old ≤ steps.new }
+    ensures most { IfOk result (λ half. steps.new ≤ steps.old
+        + (length (freed_in left node) + length (freed_in right node) + length (seam_defects job.now left.slot node))) }
+    ensures least { IfOk result (λ half. (length (freed_in left node) + length (freed_in right node)
+        + length (seam_defects job.now left.slot node)) + 2 * steps.old ≤ 2 * steps.new) }
+{
+    let watch = Watch::new(alloc, &Whole(job.graph()))?;
+    let (half, _watch) = fuse_from(alloc, job, node, left, right, watch, steps)?;
+    Ok(half)
+}
+
+/// The same with a watch that is emptied first and given back, so that one watch serves many parts of a graph.
+pub fn fuse_from<'a, L: Ledger>(
+    alloc: Global,
+    job: &'a Job<'a>,
+    node: u32,
+    left: Half<'a>,
+    right: Half<'a>,
+    watch: Watch,
+    steps: &mut Steps<L>,
+) -> Result<(Half<'a>, Watch), NoMemory>
+    requires left { left.job ≡ job.now }
+    requires right { right.job ≡ job.now }
+    requires slot { left.slot ≡ right.slot }
+    requires children { children_of job.now.plan node ≡ Some (left.node, right.node) }
+    requires room { watch.edge_count ≡ length job.now.graph.edges }
+    ensures half { IfOk result (λ r. IsPartOf job.now left.slot node r.0) }
+    ensures room { IfOk result (λ r. r.1.edge_count ≡ watch.edge_count) }
+    ensures never_falls { steps.old ≤ steps.new }
+    ensures most { IfOk result (λ r. steps.new ≤ steps.old
+        + (length (freed_in left node) + length (freed_in right node) + length (seam_defects job.now left.slot node))) }
+    ensures least { IfOk result (λ r. (length (freed_in left node) + length (freed_in right node)
+        + length (seam_defects job.now left.slot node)) + 2 * steps.old ≤ 2 * steps.new) }
+{
+    let work = Work::merge(alloc, job, node, left, right)?;
+    let roots = roots_of(alloc, &work)?;
+    let (work, watch) = search_each_from(alloc, work, &roots, watch, steps)?;
+    Ok((work.close(), watch))
+}
+
+/// The unmatched nodes of a part, in rising order of their first vertices.
+fn roots_of(alloc: Global, work: &Work) -> Result<Vec<NodeId>, NoMemory>
+    ensures { IfOk result (λ roots. IsPermutation work.now.matching.unmatched roots.items) }
+{
+    work.keeps();
+    let mut placed = Vec::new(alloc);
+    for name in work.unmatched() {
+        placed.push((work.regions().first_vertex(*name), *name))?;
+    }
+    placed.sort_unstable();
+    let mut roots = Vec::new(alloc);
+    for (_vertex, name) in &placed {
+        roots.push(*name)?;
+    }
+    Ok(roots)
+}
