@@ -18,7 +18,7 @@ use std::alloc::Global;
 
 /// The row of the shot of a solved root: the edges that lie on an odd number of its links, once all blossoms are
 /// opened, and the cuts of positive value, which add up to the edges' weight. Its time is that of the part's nodes, of
-/// their layers and of the links' walks.
+/// their vertices, of the layers that are printed and of the links' walks.
 pub fn resolve(alloc: Global, half: &Half) -> Result<Row, NoMemory>
     requires { half.now.node ≡ root_of half.now.job.plan }
     ensures { IfOk result (IsRight (problem_of half.now.job.graph (shot_of half.now))) }
@@ -28,7 +28,7 @@ pub fn resolve(alloc: Global, half: &Half) -> Result<Row, NoMemory>
     let names = names_of(alloc, half.regions())?;
     let ids = opened(alloc, half.blossoms(), half.links(), &names, half.matches())?;
     let edges = edges_of(alloc, half.links(), &ids)?;
-    let cuts = cuts_of(alloc, half.regions(), &names)?;
+    let cuts = half.regions().cuts(alloc)?;
     let weight = total_of(&cuts);
     Ok(Row::Best {
         edges: odd_ones(edges),
@@ -70,24 +70,6 @@ fn push_walk(alloc: Global, links: &Links, edges: &mut Vec<u32>, id: LinkId) -> 
         edges.push(step.edge)?;
     }
     Ok(())
-}
-
-/// Copies of the layers of all nodes.
-fn cuts_of<S: Scope>(
-    alloc: Global,
-    regions: &Regions<S>,
-    names: &[NodeId],
-) -> Result<Vec<Cut>, NoMemory>
-    requires { names.now ≡ map (λ n. n.name) regions.now.nodes }
-    ensures { IfOk result (λ cuts. cuts.items ≡ all_cuts regions.now.nodes) }
-{
-    regions.keeps();
-    let mut cuts = Vec::new(alloc);
-    for name in names {
-        let mut layers = regions.layers(alloc, *name)?;
-        cuts.append(&mut layers)?;
-    }
-    Ok(cuts)
 }
 
 /// The sum of the cuts' values.
