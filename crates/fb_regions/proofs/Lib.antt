@@ -2,8 +2,8 @@ pub mod Absorbed
 pub mod Absorption
 pub mod Adopted
 pub mod Backward
-pub mod ChainedWalks
 pub mod ByName
+pub mod ChainedWalks
 pub mod Chains
 pub mod Climbs
 pub mod Found
@@ -12,11 +12,15 @@ pub mod Joined
 pub mod Leaves
 pub mod Lowered
 pub mod Marking
+pub mod MergedMarks
+pub mod MergedRegions
+pub mod MergedStates
 pub mod Moved
 pub mod Opened
 pub mod Parents
 pub mod Radii
 pub mod Readings
+pub mod RenamedRegions
 pub mod Roots
 pub mod Split
 pub mod Stepped

@@ -1,6 +1,7 @@
 pub mod Codes
 pub mod InternalKept
 pub mod InternalListings
+pub mod InternalMerged
 pub mod InternalNodes
 pub mod InternalPlaces
 pub mod InternalSparse

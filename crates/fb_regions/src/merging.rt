@@ -1,3 +1,8 @@
+ghost use Rattle.std.specs.Prelude.{◌≡◌, ◌≤◌, ◌++◌, ◌∷◌, [], length, map, OnOk, nat_eq};
+ghost use Rattle.std.specs.HashMap.{get};
+ghost use Rattle.fb_links.specs.Names.{named_by};
+ghost use Rattle.fb_regions.specs.InternalMerged.{AreMarksOver, IsEntered, renamed_region};
+
 use crate::NodeId;
 use crate::marks::{Mark, Marks};
 use crate::places::{set_place, widen};
@@ -11,7 +16,10 @@ pub fn take_node(
     places: &mut Vec<Option<usize>>,
     mut region: Region,
     names: &Names,
-) -> Result<(), NoMemory> {
+) -> Result<(), NoMemory>
+    ensures nodes { OnOk result (regions.new.items ≡ regions.old.items ++ renamed_region (named_by (get nat_eq names.now)) region ∷ []) }
+    ensures entry { OnOk result (IsEntered places.old.items places.new.items (named_by (get nat_eq names.now) region.name) (length regions.old.items)) }
+{
     region.name = renamed(names, region.name);
     region.parent = renamed_parent(names, region.parent);
     rename_all(&mut region.children, names);
@@ -23,14 +31,19 @@ pub fn take_node(
 }
 
 /// Gives each node of a list its new name.
-fn rename_all(nodes: &mut [NodeId], names: &Names) {
+fn rename_all(nodes: &mut [NodeId], names: &Names)
+    ensures { nodes.new ≡ map (named_by (get nat_eq names.now)) nodes.old }
+{
     for i in 0..nodes.len() {
         nodes[i] = renamed(names, nodes[i]);
     }
 }
 
 /// Gives each vertex that has a mark in the other table that mark, with the new name of its defect's node.
-pub fn take_marks(marks: &mut Marks, others: &Marks, names: &Names) {
+pub fn take_marks(marks: &mut Marks, others: &Marks, names: &Names)
+    requires { length others.now ≤ length marks.old }
+    ensures { AreMarksOver (named_by (get nat_eq names.now)) marks.old others.now marks.new }
+{
     for v in others.marked() {
         if let Some(mark) = others.at(*v) {
             let leaf = renamed(names, mark.leaf);
