@@ -11,7 +11,7 @@ use Rattle.fb_links.specs.declared.walk.Step.{Step}
 use Rattle.fb_regions.specs.declared.marks.Hop.{Hop}
 use Rattle.fb_regions.specs.declared.marks.Mark.{Mark}
 use Rattle.fb_regions.specs.declared.region.Region.{Region}
-use Rattle.fb_regions.specs.InternalListings.{AreListed}
+use Rattle.fb_regions.specs.InternalListings.{AreListed, BeginAlike}
 use Rattle.fb_regions.specs.InternalNodes.{children_from, mark_of, nodes_of, node_of, radii_from}
 use Rattle.fb_regions.specs.Walks.{IsStep}
 
@@ -74,4 +74,5 @@ pub record IsKept (p : Problem) (regions : List Region) (marks : List (Option Ma
   pub parents : HaveParents (nodes_of marks regions) regions
   pub sets : All (λ c. HasMarks marks c.vertices) (all_cuts (nodes_of marks regions))
   pub listed : AreListed marks regions
+  pub begins : BeginAlike (nodes_of marks regions) regions
   pub marked : (v : ℕ) (m : Mark) → mark_of marks v ≡ Some m → IsMarked p (nodes_of marks regions) regions marks v m

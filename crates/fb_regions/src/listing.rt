@@ -1,3 +1,7 @@
+ghost use Rattle.std.specs.Prelude.{◌≡◌, ◌+◌, ◌<◌, ◌^◌};
+ghost use Rattle.fb_regions.specs.InternalListings.{count_named, linked_all, listing_at, put_behind};
+ghost use Rattle.fb_regions.specs.InternalPlaces.{IsIndex};
+
 use crate::NodeId;
 use crate::marks::{Mark, Marks};
 use crate::places::place_of;
@@ -12,7 +16,10 @@ pub struct Listing {
 }
 
 /// The list of a node's vertices.
-pub fn listing_of(region: &Region) -> Listing {
+pub fn listing_of(region: &Region) -> Listing
+    requires { region.now.base + region.now.added < 2 ^ 64 }
+    ensures { result ≡ listing_at region.now }
+{
     Listing {
         first: region.first,
         count: region.base + region.added,
@@ -21,7 +28,9 @@ pub fn listing_of(region: &Region) -> Listing {
 }
 
 /// Tells a marked vertex which one is listed before it.
-fn put_before(marks: &mut Marks, v: u32, before: u32) {
+fn put_before(marks: &mut Marks, v: u32, before: u32)
+    ensures { marks.new ≡ put_behind marks.old v before }
+{
     if let Some(mark) = marks.at(v) {
         marks.put(v, Mark { before, ..mark });
     }
@@ -33,7 +42,12 @@ pub fn list_together(
     regions: &[Region],
     marks: &mut Marks,
     names: &[NodeId],
-) -> Listing {
+) -> Listing
+    requires index { IsIndex regions.now places.now }
+    requires fits { count_named regions.now names.now < 2 ^ 64 }
+    ensures { linked_all regions.now names.now (record { marks = marks.old; listing = record { first = 0; count = 0; last = 0 } })
+        ≡ record { marks = marks.new; listing = result } }
+{
     let mut listing = Listing {
         first: 0,
         count: 0,

@@ -1,5 +1,4 @@
-ghost use Rattle.std.specs.Prelude.{◌≡◌, ◌<◌, ℕ, get_or, length, is_some, option_and_then, set, All, IfOk, None, Some};
-ghost use Rattle.std.specs.List.{replicate};
+ghost use Rattle.std.specs.Prelude.{◌≡◌, ◌<◌, ℕ, get_or, length, is_some, option_and_then, replicate, set, All, IfOk, None, Some};
 ghost use Rattle.fb_graph.specs.Certificate.{AreDistinct};
 ghost use Rattle.fb_graph.specs.Parity.{is_in};
 ghost use Rattle.fb_regions.specs.InternalNodes.{before_of, mark_of, under_of};
