@@ -1,18 +1,17 @@
 -- Nodes read from marks that say the same of their vertices, under the same names or other ones.
-use Rattle.std.proofs.Common.{ℕ, ◌≡◌, true, List, [], ◌∷◌, ◌++◌, map, Option, ap, ◌∙◌, subst, sym}
+use Rattle.std.proofs.Common.{ℕ, ◌≡◌, ◌+◌, true, List, ◌++◌, map, Option, ap, ◌∙◌, subst, sym}
 use Rattle.std.proofs.lemmas.Bool.{or_left, or_right}
 use Rattle.fb_graph.specs.Parity.{is_in}
 use Rattle.fb_graph.specs.declared.parts.Cut.{Cut}
 use Rattle.fb_graph.specs.Dual.{Node}
 use Rattle.fb_graph.specs.RenamedNodes.{renamed_node}
 use Rattle.fb_graph.proofs.Members.{is_in-append}
-use Rattle.fb_graph.proofs.Sets.{is_in-head, is_in-tail}
 use Rattle.fb_regions.specs.declared.marks.Mark.{Mark}
 use Rattle.fb_regions.specs.declared.region.Region.{Region}
 use Rattle.fb_regions.specs.Moves.{BeginsWith}
-use Rattle.fb_regions.specs.InternalListings.{IsListed, IsListedBy}
+use Rattle.fb_regions.specs.InternalListings.{IsListed}
 use Rattle.fb_regions.specs.InternalMerged.{renamed_region}
-use Rattle.fb_regions.specs.InternalNodes.{added_to, before_of, first_of, node_of, stack, under_of}
+use Rattle.fb_regions.specs.InternalNodes.{added_to, before_of, chain, first_of, node_of, stack, under_of}
 use Rattle.fb_regions.proofs.Chains.{chain_same, stack_same}
 use Rattle.fb_regions.proofs.RenamedRegions.{children_renamed}
 
@@ -70,22 +69,13 @@ module _ (old new : List (Option Mark)) (r : Region) (agree : AgreeOn old new (n
   first_still : IsListed old r → BeginsWith r.first (first_of new r)
   first_still is = subst (BeginsWith r.first) (sym first_kept) is.first
 
-  listed_by_still : (vs : List ℕ) → ((v : ℕ) → is_in vs v ≡ true → before_of new v ≡ before_of old v)
-      → IsListedBy old vs → IsListedBy new vs
-  listed_by_still [] same h = tt
-  listed_by_still (u ∷ []) same h = tt
-  listed_by_still (u ∷ (v ∷ vs)) same h = (
-    same v (is_in-tail u (v ∷ vs) v (is_in-head v vs)) ∙ h.0,
-    listed_by_still (v ∷ vs) (λ w k. same w (is_in-tail u (v ∷ vs) w k)) h.1,
-  )
-
-  vertices_still : IsListed old r → IsListedBy new (first_of new r ++ added_to new r)
-  vertices_still is =
-      subst (IsListedBy new) (sym (ap (λ l. l ++ added_to new r) first_kept ∙ ap (λ l. first_of old r ++ l) added_kept))
-      (listed_by_still (first_of old r ++ added_to old r) agree.before is.listed)
+  whole_still : IsListed old r → chain new (r.base + r.added) r.last ≡ first_of new r ++ added_to new r
+  whole_still is =
+      chain_same old new (r.base + r.added) r.last (λ v h. agree.before v (ap (λ l. is_in l v) (sym is.whole) ∙ h))
+      ∙ (is.whole ∙ sym (ap (λ l. l ++ added_to new r) first_kept ∙ ap (λ l. first_of old r ++ l) added_kept))
 
   pub listed_kept : IsListed old r → IsListed new r
-  listed_kept is = record { first = first_still is; listed = vertices_still is }
+  listed_kept is = record { first = first_still is; whole = whole_still is }
 
   pub listed_renamed : (f : ℕ → ℕ) → IsListed old r → IsListed new (renamed_region f r)
-  listed_renamed f is = record { first = first_still is; listed = vertices_still is }
+  listed_renamed f is = record { first = first_still is; whole = whole_still is }
