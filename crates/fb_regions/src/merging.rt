@@ -1,7 +1,9 @@
 ghost use Rattle.std.specs.Prelude.{◌≡◌, ◌≤◌, ◌++◌, ◌∷◌, [], length, map, OnOk, nat_eq};
 ghost use Rattle.std.specs.HashMap.{get};
+ghost use Rattle.fb_graph.specs.Certificate.{AreDistinct};
 ghost use Rattle.fb_links.specs.Names.{named_by};
-ghost use Rattle.fb_regions.specs.InternalMerged.{AreMarksOver, IsEntered, renamed_region};
+ghost use Rattle.fb_regions.specs.InternalMerged.{AreMarksOver, IsEntered, renamed_region, renamed_regions};
+ghost use Rattle.fb_regions.specs.InternalPlaces.{IsIndex};
 
 use crate::NodeId;
 use crate::marks::{Mark, Marks};
@@ -10,8 +12,26 @@ use crate::region::Region;
 use fb_graph::NoMemory;
 use fb_links::names::{Names, renamed, renamed_parent};
 
+/// Puts nodes behind the others, one after another, under their new names.
+pub fn take_nodes(
+    regions: &mut Vec<Region>,
+    places: &mut Vec<Option<usize>>,
+    others: Vec<Region>,
+    names: &Names,
+) -> Result<(), NoMemory>
+    requires distinct { AreDistinct (map (λ r. r.name) (regions.old.items ++ renamed_regions (named_by (get nat_eq names.now)) others.items)) }
+    requires index { IsIndex regions.old.items places.old.items }
+    ensures nodes { OnOk result (regions.new.items ≡ regions.old.items ++ renamed_regions (named_by (get nat_eq names.now)) others.items) }
+    ensures index { OnOk result (IsIndex regions.new.items places.new.items) }
+{
+    for region in others {
+        take_node(regions, places, region, names)?;
+    }
+    Ok(())
+}
+
 /// Puts a node behind the others, under its new name, and with the new names of its children and of the node round it.
-pub fn take_node(
+fn take_node(
     regions: &mut Vec<Region>,
     places: &mut Vec<Option<usize>>,
     mut region: Region,

@@ -17,7 +17,7 @@ ghost use Rattle.fb_regions.specs.Moves.{BeginsWith, IsOver, IsSourceWalk, absor
 
 use crate::marks::{Hop, Mark, Marks};
 use crate::listing::list_together;
-use crate::merging::{take_marks, take_node};
+use crate::merging::{take_marks, take_nodes};
 use crate::places::{enter_from, place_of, set_place, widen};
 use crate::region::{self, Region, adopt, radii_of, root_of};
 use fb_links::names::names_of;
@@ -106,9 +106,7 @@ impl<S: Scope> Regions<S> {
             marks: more,
         } = right;
         take_marks(&mut marks, &more, &names);
-        for region in others {
-            take_node(&mut regions, &mut places, region, &names)?;
-        }
+        take_nodes(&mut regions, &mut places, others, &names)?;
         Ok(Regions {
             scope: *scope,
             regions,
