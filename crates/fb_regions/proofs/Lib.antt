@@ -14,6 +14,7 @@ pub mod Listings
 pub mod Lowered
 pub mod Marking
 pub mod MergedMarks
+pub mod MergedNames
 pub mod MergedPlaces
 pub mod MergedRegions
 pub mod MergedStates
