@@ -14,12 +14,15 @@ pub mod Leaves
 pub mod Listings
 pub mod Lowered
 pub mod Marking
+pub mod MarksIn
 pub mod Moved
 pub mod Opened
 pub mod Parents
 pub mod Radii
 pub mod Readings
 pub mod Roots
+pub mod SparseValues
 pub mod Split
 pub mod Stepped
+pub mod Stored
 pub mod Turned
