@@ -2,6 +2,7 @@ pub mod Absorbed
 pub mod Absorption
 pub mod Adopted
 pub mod Backward
+pub mod Begun
 pub mod ByName
 pub mod ChainedWalks
 pub mod Chains
@@ -13,6 +14,7 @@ pub mod Leaves
 pub mod Listings
 pub mod Lowered
 pub mod Marking
+pub mod MarksIn
 pub mod MergedMarks
 pub mod MergedNames
 pub mod MergedPlaces
@@ -25,6 +27,8 @@ pub mod Radii
 pub mod Readings
 pub mod RenamedRegions
 pub mod Roots
+pub mod SparseValues
 pub mod Split
 pub mod Stepped
+pub mod Stored
 pub mod Turned

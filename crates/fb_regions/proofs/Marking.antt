@@ -1,6 +1,6 @@
 -- Marks of which one is changed, and the nodes read from them.
 use Rattle.std.proofs.Common.{ℕ, zero, suc, arith, ◌≡◌, ◌<◌, true, false, List, [], ◌∷◌, ◌++◌, length, set, Option, Some, None, sym, ap, ◌∙◌}
-use Rattle.std.proofs.lemmas.Bool.{both_ways, or_right}
+use Rattle.std.proofs.lemmas.Bool.{both_ways, or_left, or_right}
 use Rattle.std.proofs.lemmas.List.{get_or-set_same, get_or-set_other}
 use Rattle.fb_graph.specs.Parity.{is_in}
 use Rattle.fb_graph.specs.Dual.{Node}
@@ -10,7 +10,7 @@ use Rattle.fb_graph.proofs.Members.{is_in-append}
 use Rattle.fb_graph.proofs.NestParts.{map_agree}
 use Rattle.fb_regions.specs.declared.marks.Mark.{Mark}
 use Rattle.fb_regions.specs.declared.region.Region.{Region}
-use Rattle.fb_regions.specs.InternalNodes.{added_to, before_in, mark_of, node_of, nodes_of, stack, under_in}
+use Rattle.fb_regions.specs.InternalNodes.{added_to, before_in, first_of, mark_of, node_of, nodes_of, stack, under_in}
 use Rattle.fb_regions.specs.InternalKept.{HasMarks}
 use Rattle.fb_regions.proofs.Chains.{chain_same, stack_same}
 
@@ -20,21 +20,32 @@ mark_new marks w o less = get_or-set_same marks w o None less
 pub mark_other : (marks : List (Option Mark)) (w v : ℕ) (o : Option Mark) → (v ≡ w → ⊥) → mark_of (set marks w o) v ≡ mark_of marks v
 mark_other marks w v o other = get_or-set_other marks w v o None other
 
--- a node is read from the marks of the vertices that it took up
+-- a node is read from the marks of its vertices
 pub node_same : (marks other : List (Option Mark)) (r : Region)
-    → ((u : ℕ) → is_in (added_to marks r) u ≡ true → mark_of other u ≡ mark_of marks u) → node_of other r ≡ node_of marks r
+    → ((u : ℕ) → is_in (node_of marks r).top.vertices u ≡ true → mark_of other u ≡ mark_of marks u) → node_of other r ≡ node_of marks r
 node_same marks other r same =
-    ap (λ l. built l (stack other r.first_set.items l))
-    (chain_same marks other r.added r.last (λ u h. ap before_in (same u h)))
-    ∙ ap (built (added_to marks r)) (stack_same marks other r.first_set.items (added_to marks r) (λ u h. ap under_in (same u h)))
+    ap (λ f. built f (added_to other r) (stack other f (added_to other r)))
+    (chain_same marks other r.base r.base_last (λ u h. ap before_in (same u (in_first u h))))
+    ∙ (ap (λ l. built (first_of marks r) l (stack other (first_of marks r) l))
+    (chain_same marks other r.added r.last (λ u h. ap before_in (same u (in_added u h))))
+    ∙ ap (built (first_of marks r) (added_to marks r))
+    (stack_same marks other (first_of marks r) (added_to marks r) (λ u h. ap under_in (same u (in_added u h)))))
   where
-    built : List ℕ → List Cut → Node
-    built l below = record {
+    built : List ℕ → List ℕ → List Cut → Node
+    built f l below = record {
       name = r.name;
       children = r.children.items;
       below = below;
-      top = record { value = r.top_value; vertices = r.first_set.items ++ l };
+      top = record { value = r.top_value; vertices = f ++ l };
     }
+
+    in_first : (u : ℕ) → is_in (first_of marks r) u ≡ true → is_in (first_of marks r ++ added_to marks r) u ≡ true
+    in_first u h =
+        is_in-append (first_of marks r) (added_to marks r) u ∙ or_left (is_in (first_of marks r) u) (is_in (added_to marks r) u) h
+
+    in_added : (u : ℕ) → is_in (added_to marks r) u ≡ true → is_in (first_of marks r ++ added_to marks r) u ≡ true
+    in_added u h =
+        is_in-append (first_of marks r) (added_to marks r) u ∙ or_right (is_in (first_of marks r) u) (is_in (added_to marks r) u) h
 
 -- so it stays where the mark of a vertex outside its sets changes
 pub node_still : (marks : List (Option Mark)) (r : Region) (w : ℕ) (o : Option Mark) → is_in (node_of marks r).top.vertices w ≡ false
@@ -44,9 +55,7 @@ node_still marks r w o out =
     (λ u h.
     mark_other marks w u o
     (λ e.
-    both_ways (is_in (r.first_set.items ++ added_to marks r) w) out
-    (is_in-append r.first_set.items (added_to marks r) w
-    ∙ or_right (is_in r.first_set.items w) (is_in (added_to marks r) w) (ap (is_in (added_to marks r)) (sym e) ∙ h))))
+    both_ways (is_in (node_of marks r).top.vertices w) out (ap (is_in (node_of marks r).top.vertices) (sym e) ∙ h)))
 
 abbrev pub AreWithout : List (Option Mark) → List Region → ℕ → Type 0
 AreWithout marks regions w = (n : Node) → IsAmong n (nodes_of marks regions) → is_in n.top.vertices w ≡ false
