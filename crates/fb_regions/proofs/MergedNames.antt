@@ -1,5 +1,5 @@
 -- New names that are looked up in another way.
-use Rattle.std.proofs.Common.{ℕ, ◌≡◌, true, false, List, map, sym, ap, ◌∙◌}
+use Rattle.std.proofs.Common.{ℕ, ◌≡◌, List, map, sym, ap, ◌∙◌}
 use Rattle.fb_graph.specs.Dual.{Node, is_live}
 use Rattle.fb_graph.specs.RenamedNodes.{renamed_node, renamed_nodes}
 use Rattle.fb_graph.proofs.Among.{among_All}

@@ -10,7 +10,7 @@ use Rattle.fb_regions.specs.InternalKept.{HasParent, HaveParents, is_lone}
 use Rattle.fb_regions.specs.InternalNodes.{children_from, radii_from}
 use Rattle.fb_regions.specs.InternalPlaces.{AreJoinedAbove, IsJoinedIn}
 use Rattle.fb_regions.proofs.ByName.{names}
-use Rattle.fb_regions.proofs.RenamedRegions.{above}
+use Rattle.fb_regions.proofs.Radii.{above}
 
 pub child_append : (rs ss : List Region) (q x : ℕ) → is_in (children_from rs q) x ≡ true
     → is_in (children_from (rs ++ ss) q) x ≡ true

@@ -1,6 +1,6 @@
 -- What two dual states of separated parts keep, they keep as one of the whole.
-use Rattle.std.proofs.Common.{ℕ, ◌≡◌, ◌+◌, ◌<◌, ◌||◌, inl, inr, Bool, true, false, List, [], ◌∷◌, ◌++◌, length, map, All, Option, Some, None, refl, sym, ap, ◌∙◌, subst, arith}
-use Rattle.std.proofs.lemmas.Bool.{both_ways, false≢true, false_from_ne_true, or_left, or_right}
+use Rattle.std.proofs.Common.{ℕ, ◌≡◌, ◌+◌, ◌<◌, inl, inr, Bool, true, false, List, [], ◌∷◌, ◌++◌, length, map, All, Option, Some, None, refl, sym, ap, ◌∙◌, subst, arith}
+use Rattle.std.proofs.lemmas.Bool.{both_ways, false_from_ne_true, or_left, or_right}
 use Rattle.std.proofs.lemmas.List.{map-append}
 use Rattle.std.proofs.lemmas.List.Elements.{All-append, All-map, All-weaker}
 use Rattle.fb_graph.specs.Parity.{is_in}
@@ -27,7 +27,7 @@ use Rattle.fb_regions.specs.declared.region.Region.{Region}
 use Rattle.fb_regions.specs.InternalKept.{CameBy, HasMarks, HaveParents, IsAfter, IsKept, IsMarked, step_by}
 use Rattle.fb_regions.specs.InternalListings.{BeginsFirst, IsListed}
 use Rattle.fb_regions.specs.InternalMerged.{AreMarksOver, mark_over, renamed_mark, renamed_region, renamed_regions}
-use Rattle.fb_regions.specs.InternalNodes.{before_in, mark_of, node_of, nodes_of, radii_from, under_in}
+use Rattle.fb_regions.specs.InternalNodes.{before_in, mark_of, node_of, nodes_of, under_in}
 use Rattle.fb_regions.specs.Merged.{AreNewNames}
 use Rattle.fb_regions.specs.Moves.{BeginsWith}
 use Rattle.fb_regions.specs.Walks.{IsStep}

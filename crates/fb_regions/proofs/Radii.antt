@@ -9,7 +9,8 @@ use Rattle.fb_regions.specs.declared.region.Region.{Region}
 use Rattle.fb_regions.specs.InternalNodes.{adopted, radii_from, root_from}
 use Rattle.fb_regions.proofs.ByName.{name_known}
 
-abbrev above : List Region → Option ℕ → ℕ
+-- the sum for the node of this name; 0 where there is none
+abbrev pub above : List Region → Option ℕ → ℕ
 above rs None = 0
 above rs (Some q) = radii_from rs q
 

@@ -1,6 +1,6 @@
 -- Regions under other names: their names, children and parents, and the radii up to the outer one.
 use Rattle.std.proofs.Common.{ℕ, ◌≡◌, ◌+◌, ◌==◌, ◌&&◌, ◌||◌, Bool, true, false, List, [], ◌∷◌, map, Option, Some, None, option_map, refl, sym, ap, ◌∙◌, if◌then◌else◌}
-use Rattle.std.proofs.lemmas.Bool.{and_parts, both_ways, false≢true, false_from_ne_true, eq-eqb, eqb-true, or_cases, or_left, or_right}
+use Rattle.std.proofs.lemmas.Bool.{and_parts, both_ways, false≢true, false_from_ne_true, eq-eqb, eqb-true}
 use Rattle.std.proofs.lemmas.List.{length-map, with_items_is}
 use Rattle.fb_graph.specs.Parity.{is_in}
 use Rattle.fb_graph.specs.Dual.{Node, is_empty, is_outer}
@@ -13,6 +13,7 @@ use Rattle.fb_regions.specs.InternalMerged.{renamed_region, renamed_regions}
 use Rattle.fb_regions.specs.InternalNodes.{children_from, radii_from}
 use Rattle.fb_regions.specs.InternalPlaces.{AreJoinedAbove, IsJoinedIn}
 use Rattle.fb_regions.proofs.ByName.{names}
+use Rattle.fb_regions.proofs.Radii.{above}
 
 pub children_renamed : (f : ℕ → ℕ) (r : Region) → (renamed_region f r).children.items ≡ map f r.children.items
 children_renamed f r =
@@ -78,10 +79,6 @@ parents_renamed nodes others f (r ∷ rs) apart outer parents = (
     by : (o : Option ℕ) → HasParent nodes rs r.name o → HasParent others (renamed_regions f rs) (f r.name) (option_map f o)
     by None h = outer r.name (is_in-head r.name (names rs)) h
     by (Some q) h = child_renamed f rs q r.name (apart_tail f r rs apart) h
-
-abbrev pub above : List Region → Option ℕ → ℕ
-above rs None = 0
-above rs (Some q) = radii_from rs q
 
 pub radii_renamed : (f : ℕ → ℕ) (rs : List Region) (x : ℕ) → AreApartBy f rs → AreJoinedAbove rs → is_in (names rs) x ≡ true
     → radii_from (renamed_regions f rs) (f x) ≡ radii_from rs x

@@ -21,10 +21,10 @@ loop-region-preserved c =
     let r = c.in-Some.region in
     let steps : into_iter_items at.region-iterator ≡ r ∷ into_iter_items c.next.new.self = c.in-Some.ensures.steps.0 in
     let all : at.yielded ++ r ∷ into_iter_items c.next.new.self ≡ c.args.others.items =
-        rw (← steps) at.invariant.0 ∙ c.into_iter-region-iterator.ensures.into_iter_gives.0 in
+    rw (← steps) at.invariant.0 ∙ c.into_iter-region-iterator.ensures.into_iter_gives.0 in
     let fresh : is_in (names at.regions.items) (f r.name) ≡ false =
-        ap (λ l. is_in (names l) (f r.name)) at.invariant.2
-        ∙ fresh_next f c.args.regions.now.items at.yielded (into_iter_items c.next.new.self) c.args.others.items r all c.requires.distinct in (
+    ap (λ l. is_in (names l) (f r.name)) at.invariant.2
+    ∙ fresh_next f c.args.regions.now.items at.yielded (into_iter_items c.next.new.self) c.args.others.items r all c.requires.distinct in (
       append_assoc at.yielded (r ∷ []) _ ∙ rw (← steps) at.invariant.0,
       (let was = at.invariant.1 in let gone = c.in-Some.ensures.steps.1 in let short = ap length steps in omega arith),
       renamed_push f c.args.regions.now.items at.regions.items c.take_node.new.regions.items at.yielded r at.invariant.2 c.in_ok-take_node.ensures.nodes,
@@ -38,5 +38,5 @@ returns-clause-nodes c =
     let at = c.loop-region in
     let empty : into_iter_items at.region-iterator ≡ [] = nothing_left _ (sym at.invariant.1 ∙ c.in-None.ensures.steps.0) in
     let all : at.yielded ≡ c.args.others.items =
-        sym (append-nil at.yielded) ∙ rw empty at at.invariant.0 ∙ c.into_iter-region-iterator.ensures.into_iter_gives.0 in
+    sym (append-nil at.yielded) ∙ rw empty at at.invariant.0 ∙ c.into_iter-region-iterator.ensures.into_iter_gives.0 in
     subst (λ l. at.regions.items ≡ c.args.regions.now.items ++ renamed_regions (named_by (get nat_eq c.args.names.now)) l) all at.invariant.2

@@ -1,6 +1,5 @@
-use Rattle.std.proofs.Common.{ap, ◌++◌, ◌∙◌, sym, arith, nat_eq}
+use Rattle.std.proofs.Common.{ap, ◌++◌, ◌∙◌, arith, nat_eq}
 use Rattle.std.specs.HashMap.{get}
-use Rattle.fb_graph.specs.RenamedNodes.{renamed_nodes}
 use Rattle.fb_links.specs.Names.{named_by, name_by}
 use Rattle.fb_regions.specs.InternalNodes.{nodes_of}
 use Rattle.fb_regions.proofs.Indexed.{distinct_names}
