@@ -10,6 +10,7 @@ pub mod Found
 pub mod Indexed
 pub mod Joined
 pub mod Leaves
+pub mod Linking
 pub mod Listings
 pub mod Lowered
 pub mod Marking
