@@ -3,6 +3,7 @@ pub mod Absorption
 pub mod Adopted
 pub mod Backward
 pub mod ChainedWalks
+pub mod Begun
 pub mod ByName
 pub mod Chains
 pub mod Climbs

@@ -16,10 +16,13 @@ use Rattle.fb_graph.proofs.Members.{or_false}
 use Rattle.fb_graph.proofs.Sets.{is_in-All}
 use Rattle.fb_regions.specs.declared.marks.Mark.{Mark}
 use Rattle.fb_regions.specs.declared.region.Region.{Region}
-use Rattle.fb_regions.specs.InternalNodes.{chain, mark_of, node_of, nodes_of, radii_from, stack}
+use Rattle.fb_regions.specs.InternalNodes.{chain, first_of, mark_of, node_of, nodes_of, radii_from, stack}
 use Rattle.fb_regions.specs.InternalKept.{BeginsIn, CameBy, HasMarks, HasParent, HaveParents, IsKept, IsMarked, is_lone}
+use Rattle.fb_regions.specs.InternalListings.{BeginAlike, BeginsFirst, IsListed}
 use Rattle.fb_regions.proofs.Leaves.{height, leaf_still, nest_opened, not_in_cut, own_leaf, walks_opened}
-use Rattle.fb_regions.proofs.Marking.{has_still, mark_new, mark_other, node_still, nodes_still}
+use Rattle.fb_regions.proofs.Begun.{begun_left}
+use Rattle.fb_regions.proofs.Listings.{listed_one}
+use Rattle.fb_regions.proofs.Marking.{has_still, lists_still, mark_new, mark_other, node_still, nodes_still}
 use Rattle.fb_regions.proofs.Moved.{covered_in, from_marked, in_top, marked_moved, not_covered, some_cover, unmarked}
 use Rattle.fb_regions.proofs.Parents.{lone_last, lone_push, parents_push}
 use Rattle.fb_regions.proofs.Radii.{IsBare, no_radii, radii_push}
@@ -31,8 +34,11 @@ pub record IsLeafRegion (name v : ℕ) (r : Region) : Type 0 where
   pub name_is : r.name ≡ name
   pub children : r.children.items ≡ []
   pub parent : r.parent ≡ None
-  pub first : r.first_set.items ≡ v ∷ []
+  pub first : r.first ≡ v
+  pub base : r.base ≡ 1
+  pub base_last : r.base_last ≡ v
   pub added : r.added ≡ 0
+  pub last : r.last ≡ v
   pub value : r.top_value ≡ 0
   pub radius : r.radius ≡ 0
 
@@ -54,10 +60,11 @@ whole marks last n cs first k x = record {
 
 leaf_node : (marks : List (Option Mark)) (name v : ℕ) (r : Region) → IsLeafRegion name v r → node_of marks r ≡ leaf name v
 leaf_node marks name v r is =
-    ap (λ y. whole marks r.last y r.children.items r.first_set.items r.added r.top_value) is.name_is
-    ∙ (ap (λ y. whole marks r.last name y r.first_set.items r.added r.top_value) is.children
-    ∙ (ap (λ y. whole marks r.last name [] y r.added r.top_value) is.first
-    ∙ (ap (λ y. whole marks r.last name [] (v ∷ []) y r.top_value) is.added ∙ ap (λ y. whole marks r.last name [] (v ∷ []) 0 y) is.value)))
+    ap (λ y. whole marks r.last y r.children.items (first_of marks r) r.added r.top_value) is.name_is
+    ∙ (ap (λ y. whole marks r.last name y (first_of marks r) r.added r.top_value) is.children
+    ∙ (ap (λ y. whole marks r.last name [] (chain marks y r.base_last) r.added r.top_value) is.base
+    ∙ (ap (λ y. whole marks r.last name [] (y ∷ []) r.added r.top_value) is.base_last
+    ∙ (ap (λ y. whole marks r.last name [] (v ∷ []) y r.top_value) is.added ∙ ap (λ y. whole marks r.last name [] (v ∷ []) 0 y) is.value))))
 
 module _ (p : Problem) (regions : List Region) (marks : List (Option Mark)) (kept : IsKept p regions marks) (name v : ℕ) (new : Region) (m : Mark)
     (is : IsLeafRegion name v new) (own : IsLeafMark name v m) (fresh : is_live (nodes_of marks regions) name ≡ false) (below : v < length marks)
@@ -175,6 +182,13 @@ module _ (p : Problem) (regions : List Region) (marks : List (Option Mark)) (kep
         (not_in_cut p nodes name v fresh real free kept.nest (get_or (all_cuts nodes) i d) (cuts_under nodes (grove_of p nodes kept.nest) i d less))
         (kept.sets i d less))
         own_set);
+    listed =
+        All-push (IsListed marks') regions new (lists_still marks regions v (Some m) out kept.listed)
+        (listed_one marks' new v is.first is.base is.base_last is.added is.last);
+    begins =
+        subst (λ ns. BeginAlike ns (regions ++ new ∷ [])) (sym opened_nodes)
+        (All-push (λ r. BeginsFirst others r.first r.children.items) regions new (begun_left nodes (leaf name v ∷ []) regions kept.begins)
+        (subst (BeginsFirst others new.first) (sym is.children) tt));
     marked = λ u mk at. subst (λ ns. IsMarked p ns (regions ++ new ∷ []) marks' u mk) (sym opened_nodes) (by u mk at (cases_eq u v));
   }
     where
