@@ -30,12 +30,15 @@ use Rattle.fb_links.specs.declared.walk.Step.{Step}
 use Rattle.fb_regions.specs.declared.marks.Hop.{Hop}
 use Rattle.fb_regions.specs.declared.marks.Mark.{Mark}
 use Rattle.fb_regions.specs.declared.region.Region.{Region}
-use Rattle.fb_regions.specs.InternalNodes.{added_to, before_in, chain, mark_of, node_of, nodes_of, radii_from, stack, under_in}
+use Rattle.fb_regions.specs.InternalNodes.{added_to, before_in, chain, first_of, mark_of, node_of, nodes_of, radii_from, stack, under_in}
+use Rattle.fb_regions.specs.InternalListings.{AreListed, BeginAlike, IsListed}
 use Rattle.fb_regions.specs.InternalKept.{BeginsIn, HasMarks, IsAfter, HaveParents, IsKept, IsMarkIn, IsMarked}
-use Rattle.fb_regions.specs.Moves.{IsOver, absorbed, inner_end, outer_end}
+use Rattle.fb_regions.specs.Moves.{BeginsWith, IsOver, absorbed, inner_end, outer_end}
 use Rattle.fb_regions.specs.Walks.{IsStep}
+use Rattle.fb_regions.proofs.Begun.{StayBegun, lists_still, set_begun, top_changed}
 use Rattle.fb_regions.proofs.Chains.{chain_same, stack_push, stack_same}
 use Rattle.fb_regions.proofs.Found.{IsFound, among_at, found, nodes_set}
+use Rattle.fb_regions.proofs.Listings.{begins_left, listed_more}
 use Rattle.fb_regions.proofs.Marking.{has_still, mark_new, mark_other, node_still, nodes_still}
 use Rattle.fb_regions.proofs.Moved.{covered_in, from_marked, marked_moved, not_covered, some_cover, top_marks, unmarked}
 use Rattle.fb_regions.proofs.Parents.{lone_set, parents_set}
@@ -51,7 +54,7 @@ taken m s r = record {
   source = m.source;
   leaf = m.leaf;
   distance = m.distance + s.weight;
-  rank = length r.first_set.items + r.added;
+  rank = r.base + r.added;
   by = Some (record { from = s.from; edge = s.edge });
   before = r.last;
   under = r.top_value;
@@ -163,11 +166,21 @@ module _ (p : Problem) (regions : List Region) (marks : List (Option Mark)) (kep
       let same : m' ≡ m = (let e : Some m' ≡ Some m = sym at' ∙ has in cc) in
       subst (IsMarkIn (node_of marks old).top.vertices) same is
 
-  not_added : (u : ℕ) → is_in (added_to marks old) u ≡ true → u ≡ w → ⊥
-  not_added u h e =
+  not_own : (u : ℕ) → is_in (first_of marks old ++ added_to marks old) u ≡ true → u ≡ w → ⊥
+  not_own u h e =
       both_ways (is_in (node_of marks old).top.vertices w) (out (node_of marks old) among)
-      (is_in-append old.first_set.items (added_to marks old) w
-      ∙ or_right (is_in old.first_set.items w) (is_in (added_to marks old) w) (ap (is_in (added_to marks old)) (sym e) ∙ h))
+      (ap (is_in (node_of marks old).top.vertices) (sym e) ∙ h)
+
+  not_first : (u : ℕ) → is_in (first_of marks old) u ≡ true → u ≡ w → ⊥
+  not_first u h =
+      not_own u (is_in-append (first_of marks old) (added_to marks old) u ∙ or_left (is_in (first_of marks old) u) (is_in (added_to marks old) u) h)
+
+  not_added : (u : ℕ) → is_in (added_to marks old) u ≡ true → u ≡ w → ⊥
+  not_added u h =
+      not_own u (is_in-append (first_of marks old) (added_to marks old) u ∙ or_right (is_in (first_of marks old) u) (is_in (added_to marks old) u) h)
+
+  first_is : first_of marks' old ≡ first_of marks old
+  first_is = chain_same marks marks' old.base old.base_last (λ u h. ap before_in (mark_other marks w u (Some own) (not_first u h)))
 
   chain_is : added_to marks' (raised w old) ≡ added_to marks old ++ w ∷ []
   chain_is =
@@ -176,19 +189,20 @@ module _ (p : Problem) (regions : List Region) (marks : List (Option Mark)) (kep
       (ap (chain marks' old.added) (ap before_in (mark_new marks w (Some own) below))
       ∙ chain_same marks marks' old.added old.last (λ u h. ap before_in (mark_other marks w u (Some own) (not_added u h))))
 
-  stack_is : stack marks' old.first_set.items (added_to marks old ++ w ∷ []) ≡ layers_of (node_of marks old)
+  stack_is : stack marks' (first_of marks old) (added_to marks old ++ w ∷ []) ≡ layers_of (node_of marks old)
   stack_is =
-      stack_push marks' old.first_set.items (added_to marks old) w
-      ∙ (ap (λ x. stack marks' old.first_set.items (added_to marks old) ++ record { value = x; vertices = old.first_set.items ++ added_to marks old } ∷ [])
+      stack_push marks' (first_of marks old) (added_to marks old) w
+      ∙ (ap (λ x. stack marks' (first_of marks old) (added_to marks old) ++ record { value = x; vertices = first_of marks old ++ added_to marks old } ∷ [])
       (ap under_in (mark_new marks w (Some own) below))
       ∙ ap (λ l. l ++ (node_of marks old).top ∷ [])
-      (stack_same marks marks' old.first_set.items (added_to marks old) (λ u h. ap under_in (mark_other marks w u (Some own) (not_added u h)))))
+      (stack_same marks marks' (first_of marks old) (added_to marks old) (λ u h. ap under_in (mark_other marks w u (Some own) (not_added u h)))))
 
   pub raised_node : node_of marks' (raised w old) ≡ taller w (node_of marks old)
   raised_node =
-      ap (λ l. built (stack marks' old.first_set.items l) (old.first_set.items ++ l)) chain_is
-      ∙ (ap (λ b. built b (old.first_set.items ++ (added_to marks old ++ w ∷ []))) stack_is
-      ∙ ap (built (layers_of (node_of marks old))) (sym (append_assoc old.first_set.items (added_to marks old) (w ∷ []))))
+      ap (λ f. built (stack marks' f (added_to marks' (raised w old))) (f ++ added_to marks' (raised w old))) first_is
+      ∙ (ap (λ l. built (stack marks' (first_of marks old) l) (first_of marks old ++ l)) chain_is
+      ∙ (ap (λ b. built b (first_of marks old ++ (added_to marks old ++ w ∷ []))) stack_is
+      ∙ ap (built (layers_of (node_of marks old))) (sym (append_assoc (first_of marks old) (added_to marks old) (w ∷ [])))))
     where
       built : List Cut → List ℕ → Node
       built b vs = record { name = old.name; children = old.children.items; below = b; top = record { value = 0; vertices = vs } }
@@ -335,6 +349,19 @@ module _ (p : Problem) (regions : List Region) (marks : List (Option Mark)) (kep
         );
       }
 
+  listed : AreListed marks' (set regions i (raised w old))
+  listed =
+      let still = lists_still marks regions w (Some own) out kept.listed in
+      All-set (IsListed marks') regions i (raised w old)
+      (listed_more marks' old (raised w old) w (ap before_in (mark_new marks w (Some own) below)) refl refl refl refl refl
+      (All_among (IsListed marks') regions still old there.among))
+      still
+
+  begun : StayBegun nodes others
+  begun v c h =
+      top_changed (BeginsWith v) (change name (taller w)) nodes c (λ n. by_name (λ x. x.name ≡ n.name) name (taller w) n (λ _. refl) (λ _. refl))
+      (λ n a k. by_name (λ x. BeginsWith v x.top.vertices) name (taller w) n (λ _. begins_left v n.top.vertices (w ∷ []) k) (λ _. k)) h
+
   pub kept_absorbed : IsKept p (set regions i (raised w old)) marks'
   kept_absorbed = record {
     nest = subst (IsNest p) (sym absorbed_nodes) nest;
@@ -352,6 +379,9 @@ module _ (p : Problem) (regions : List Region) (marks : List (Option Mark)) (kep
         subst (λ ns. HaveParents ns (set regions i (raised w old))) (sym absorbed_nodes)
         (parents_set nodes others regions i old (raised w old) (λ x h. outer_taller name w x nodes ∙ h) is_old there.below refl refl refl kept.parents);
     sets = subst (λ ns. All (λ c. HasMarks marks' c.vertices) (all_cuts ns)) (sym absorbed_nodes) sets;
+    listed = listed;
+    begins = subst (λ ns. BeginAlike ns (set regions i (raised w old))) (sym absorbed_nodes)
+        (set_begun nodes others regions i old (raised w old) begun there.among refl refl kept.begins);
     marked = λ u mk at'. subst (λ ns. IsMarked p ns (set regions i (raised w old)) marks' u mk) (sym absorbed_nodes) (by u mk at' (cases_eq u w));
   }
     where
@@ -367,7 +397,7 @@ module _ (p : Problem) (regions : List Region) (marks : List (Option Mark)) (kep
       by u mk at' (inr other) = marked_other u mk other (sym (mark_other marks w u (Some own) other) ∙ at')
 
   -- what the sums of the call need
-  pub fits_absorbed : (m.distance + s.weight ≤ 2 ^ 52) × (length old.first_set.items + old.added + 1 ≤ 2 ^ 20)
+  pub fits_absorbed : (m.distance + s.weight ≤ 2 ^ 52) × (old.base + old.added + 1 ≤ 2 ^ 20)
   fits_absorbed = (
     omega (arith, (kept.marked s.from m has).balance, full, radii_fit p regions marks kept m.leaf),
     omega (arith, length-top marks old, more),

@@ -38,7 +38,7 @@ pub record IsAbsorption (p : Problem) (regions : List Region) (marks : List (Opt
   pub kept : IsKept p (set regions i (raised s.to old)) (set marks s.to (Some (taken m s old)))
   pub change : nodes_of (set marks s.to (Some (taken m s old))) (set regions i (raised s.to old)) ≡ absorbed (nodes_of marks regions) (edge_at p.edges k)
   pub distance : m.distance + s.weight ≤ 2 ^ 52
-  pub size : length old.first_set.items + old.added + 1 ≤ 2 ^ 20
+  pub size : old.base + old.added + 1 ≤ 2 ^ 20
   pub place : i < length regions
   pub below : s.to < length marks
 

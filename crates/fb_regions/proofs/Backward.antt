@@ -29,10 +29,6 @@ abbrev pub the_mark : Option Mark → Mark
 the_mark None = no_mark
 the_mark (Some m) = m
 
-pub read_step : (marks seen : List (Option Mark)) (v : ℕ) (o : Option Hop) → seen ≡ marks → o ≡ option_and_then (λ m. m.by) (get_or seen v None)
-    → option_and_then (λ m. m.by) (mark_of marks v) ≡ o
-read_step marks seen v o e h = ap (λ l. option_and_then (λ (m : Mark). m.by) (get_or l v None)) (sym e) ∙ sym h
-
 -- the steps, newest last, lead back from v to the vertex where the walk stands
 pub record IsBack (p : Problem) (marks : List (Option Mark)) (v at : ℕ) (steps : List Step) : Type 0 where
   pub marked : IsSome (mark_of marks at)

@@ -11,7 +11,7 @@ use Rattle.fb_graph.proofs.Among.{IsAmong}
 use Rattle.fb_graph.proofs.Nodes.{change_at-place, layers_at-place, no_place, top_at-place}
 use Rattle.fb_regions.specs.declared.marks.Mark.{Mark}
 use Rattle.fb_regions.specs.declared.region.Region.{Region}
-use Rattle.fb_regions.specs.InternalNodes.{added_to, mark_of, node_of, nodes_of, root_from, stack}
+use Rattle.fb_regions.specs.InternalNodes.{added_to, first_of, mark_of, node_of, nodes_of, root_from, stack}
 use Rattle.fb_regions.specs.InternalPlaces.{IsIndex, place_in}
 use Rattle.fb_regions.specs.Moves.{node_named}
 use Rattle.fb_regions.proofs.Chains.{length-chain, length-stack}
@@ -121,15 +121,12 @@ pub read_place : (regions : List Region) (places seen : List (Option ℕ)) (name
     → o ≡ place_in seen name → position (λ r. r.name == name) regions ≡ o
 read_place regions places seen name o index e h = sym (index.entry name) ∙ (ap (λ l. place_in l name) (sym e) ∙ sym h)
 
-pub read_mark : (marks seen : List (Option Mark)) (v : ℕ) (o : Option Mark) → seen ≡ marks → o ≡ get_or seen v None → mark_of marks v ≡ o
-read_mark marks seen v o e h = ap (λ l. get_or l v None) (sym e) ∙ sym h
-
 pub length-layers : (marks : List (Option Mark)) (r : Region) → length (layers_of (node_of marks r)) ≡ r.added + 1
 length-layers marks r =
     omega (
       arith,
-      length-append (stack marks r.first_set.items (added_to marks r)) ((node_of marks r).top ∷ []),
-      length-stack marks r.first_set.items (added_to marks r),
+      length-append (stack marks (first_of marks r) (added_to marks r)) ((node_of marks r).top ∷ []),
+      length-stack marks (first_of marks r) (added_to marks r),
       length-chain marks r.added r.last,
     )
 

@@ -2,9 +2,9 @@ pub mod Absorbed
 pub mod Absorption
 pub mod Adopted
 pub mod Backward
-pub mod ChainedWalks
 pub mod Begun
 pub mod ByName
+pub mod ChainedWalks
 pub mod Chains
 pub mod Climbs
 pub mod Found

@@ -24,10 +24,14 @@ use Rattle.fb_graph.proofs.NestParts.{grove_of, top_is_odd}
 use Rattle.fb_graph.proofs.SourceWalks.{walks_uncovered}
 use Rattle.fb_regions.specs.declared.marks.Mark.{Mark}
 use Rattle.fb_regions.specs.declared.region.Region.{Region}
-use Rattle.fb_regions.specs.InternalNodes.{added_to, before_in, before_of, chain, mark_of, node_of, nodes_of, stack, under_in}
+use Rattle.fb_regions.specs.InternalNodes.{added_to, before_in, before_of, chain, first_of, mark_of, node_of, nodes_of, stack, under_in}
+use Rattle.fb_regions.specs.InternalListings.{AreListed, BeginAlike, IsListed}
+use Rattle.fb_regions.specs.Moves.{BeginsWith}
 use Rattle.fb_regions.specs.InternalKept.{BeginsIn, HasMarks, HaveParents, IsKept, IsMarked}
+use Rattle.fb_regions.proofs.Begun.{StayBegun, lists_still, set_begun, top_changed}
 use Rattle.fb_regions.proofs.Chains.{length-chain, length-stack, stack_push}
 use Rattle.fb_regions.proofs.Found.{IsFound, found}
+use Rattle.fb_regions.proofs.Listings.{begins_left, left_begins, listed_less}
 use Rattle.fb_regions.proofs.Marking.{has_still, mark_new, mark_other, marked_below, node_still, nodes_still}
 use Rattle.fb_regions.proofs.Moved.{covered_in, in_top, marked_moved, some_cover, top_marks}
 use Rattle.fb_regions.proofs.Parents.{lone_set, parents_set}
@@ -79,12 +83,12 @@ module _ (p : Problem) (regions : List Region) (marks : List (Option Mark)) (kep
   bare = All_among (λ n. n.name ≡ name → (1 ≤ length n.below) × (n.top.value ≡ 0)) nodes may.bare (node_of marks old) among there.named
 
   pub some_added : 1 ≤ old.added
-  some_added = omega (arith, bare.0, length-stack marks old.first_set.items (added_to marks old), length-chain marks old.added old.last)
+  some_added = omega (arith, bare.0, length-stack marks (first_of marks old) (added_to marks old), length-chain marks old.added old.last)
 
   own_in : is_in (node_of marks old).top.vertices x ≡ true
   own_in =
-      is_in-append old.first_set.items (added_to marks old) x
-      ∙ or_right (is_in old.first_set.items x) (is_in (added_to marks old) x)
+      is_in-append (first_of marks old) (added_to marks old) x
+      ∙ or_right (is_in (first_of marks old) x) (is_in (added_to marks old) x)
       (let e : old.added ≡ suc (old.added - 1) = omega (arith, some_added) in
       ap (λ k. is_in (chain marks k x) x) e ∙ is_in_pushed (chain marks (old.added - 1) (before_of marks x)) x)
 
@@ -107,15 +111,15 @@ module _ (p : Problem) (regions : List Region) (marks : List (Option Mark)) (kep
 
     below_is : (node_of marks old).below ≡ (node_of marks new).below ++ (node_of marks new).top ∷ []
     below_is =
-        ap (stack marks old.first_set.items) chain_is
-        ∙ (stack_push marks old.first_set.items (added_to marks new) x
-        ∙ ap (λ y. (node_of marks new).below ++ record { value = y; vertices = old.first_set.items ++ added_to marks new } ∷ []) (ap under_in has))
+        ap (stack marks (first_of marks old)) chain_is
+        ∙ (stack_push marks (first_of marks old) (added_to marks new) x
+        ∙ ap (λ y. (node_of marks new).below ++ record { value = y; vertices = first_of marks old ++ added_to marks new } ∷ []) (ap under_in has))
 
     lowered_node : node_of marks new ≡ lower (node_of marks old)
     lowered_node = sym (lower_push (node_of marks old) (node_of marks new).below (node_of marks new).top below_is)
 
     top_is : (node_of marks old).top.vertices ≡ (node_of marks new).top.vertices ++ x ∷ []
-    top_is = ap (λ l. old.first_set.items ++ l) chain_is ∙ sym (append_assoc old.first_set.items (added_to marks new) (x ∷ []))
+    top_is = ap (λ l. first_of marks old ++ l) chain_is ∙ sym (append_assoc (first_of marks old) (added_to marks new) (x ∷ []))
 
     mid : nodes_of marks (set regions i new) ≡ others
     mid = there.changed new lower kept.nest.dual.names lowered_node
@@ -216,6 +220,32 @@ module _ (p : Problem) (regions : List Region) (marks : List (Option Mark)) (kep
         (λ f. both_ways (is_in (change name lower over.node).top.vertices x) (out (change name lower over.node) place)
         (ap (is_in (change name lower over.node).top.vertices) (sym f) ∙ begins)))
 
+    listed : AreListed marks' (set regions i new)
+    listed =
+        lists_still marks (set regions i new) x None (λ n a. out n (subst (IsAmong n) mid a))
+        (All-set (IsListed marks) regions i new
+        (listed_less marks old new some_added refl refl refl refl (sym (ap before_in has)) (All_among (IsListed marks) regions kept.listed old there.among))
+        kept.listed)
+
+    -- the first vertex is one of the first layer
+    own_begun : BeginsWith old.first (node_of marks new).top.vertices
+    own_begun =
+        begins_left old.first (first_of marks old) (added_to marks new) (All_among (IsListed marks) regions kept.listed old there.among).first
+
+    begun : StayBegun nodes others
+    begun v c h =
+        top_changed (BeginsWith v) (change name lower) nodes c (λ n. by_name (λ y. y.name ≡ n.name) name lower n (λ _. refl) (λ _. refl))
+        (λ n a k.
+        by_name (λ y. BeginsWith v y.top.vertices) name lower n
+        (λ named.
+        let same : node_of marks old ≡ n = same_among nodes kept.nest.dual.names (node_of marks old) n among a (there.named ∙ sym named) in
+        subst (λ y. BeginsWith v (lower y).top.vertices) same
+        (subst (λ y. BeginsWith v y.top.vertices) lowered_node
+        (left_begins v old.first (node_of marks new).top.vertices (x ∷ []) own_begun
+        (subst (BeginsWith v) top_is (subst (λ y. BeginsWith v y.top.vertices) (sym same) k)))))
+        (λ _. k))
+        h
+
     pub kept_lowered : IsKept p (set regions i new) marks'
     kept_lowered = record {
       nest = subst (IsNest p) (sym lowered_nodes) nest;
@@ -235,6 +265,9 @@ module _ (p : Problem) (regions : List Region) (marks : List (Option Mark)) (kep
           (λ j d less.
           has_still marks (get_or (all_cuts others) j d).vertices x None
           (out_cut (get_or (all_cuts others) j d) (cuts_under others (grove_of p others nest) j d less)) (mid_sets j d less));
+      listed = listed;
+      begins = subst (λ ns. BeginAlike ns (set regions i new)) (sym lowered_nodes)
+          (set_begun nodes others regions i old new begun there.among refl refl kept.begins);
       marked = λ u mk at'. subst (λ ns. IsMarked p ns (set regions i new) marks' u mk) (sym lowered_nodes) (by u mk at' (cases_eq u x));
     }
       where

@@ -19,10 +19,11 @@ use Rattle.fb_regions.specs.declared.region.Region.{Region}
 use Rattle.fb_regions.specs.InternalNodes.{chain, first_of, mark_of, node_of, nodes_of, radii_from, stack}
 use Rattle.fb_regions.specs.InternalKept.{BeginsIn, CameBy, HasMarks, HasParent, HaveParents, IsKept, IsMarked, is_lone}
 use Rattle.fb_regions.specs.InternalListings.{BeginAlike, BeginsFirst, IsListed}
+use Rattle.fb_regions.specs.Moves.{BeginsWith}
+use Rattle.fb_regions.proofs.Begun.{StayBegun, all_begun, lists_still}
 use Rattle.fb_regions.proofs.Leaves.{height, leaf_still, nest_opened, not_in_cut, own_leaf, walks_opened}
-use Rattle.fb_regions.proofs.Begun.{begun_left}
-use Rattle.fb_regions.proofs.Listings.{listed_one}
-use Rattle.fb_regions.proofs.Marking.{has_still, lists_still, mark_new, mark_other, node_still, nodes_still}
+use Rattle.fb_regions.proofs.Listings.{begins_in, listed_one}
+use Rattle.fb_regions.proofs.Marking.{has_still, mark_new, mark_other, node_still, nodes_still}
 use Rattle.fb_regions.proofs.Moved.{covered_in, from_marked, in_top, marked_moved, not_covered, some_cover, unmarked}
 use Rattle.fb_regions.proofs.Parents.{lone_last, lone_push, parents_push}
 use Rattle.fb_regions.proofs.Radii.{IsBare, no_radii, radii_push}
@@ -62,9 +63,8 @@ leaf_node : (marks : List (Option Mark)) (name v : ℕ) (r : Region) → IsLeafR
 leaf_node marks name v r is =
     ap (λ y. whole marks r.last y r.children.items (first_of marks r) r.added r.top_value) is.name_is
     ∙ (ap (λ y. whole marks r.last name y (first_of marks r) r.added r.top_value) is.children
-    ∙ (ap (λ y. whole marks r.last name [] (chain marks y r.base_last) r.added r.top_value) is.base
-    ∙ (ap (λ y. whole marks r.last name [] (y ∷ []) r.added r.top_value) is.base_last
-    ∙ (ap (λ y. whole marks r.last name [] (v ∷ []) y r.top_value) is.added ∙ ap (λ y. whole marks r.last name [] (v ∷ []) 0 y) is.value))))
+    ∙ (ap (λ y. whole marks r.last name [] y r.added r.top_value) (ap (λ k. chain marks k r.base_last) is.base ∙ ap (λ u. u ∷ []) is.base_last)
+    ∙ (ap (λ y. whole marks r.last name [] (v ∷ []) y r.top_value) is.added ∙ ap (λ y. whole marks r.last name [] (v ∷ []) 0 y) is.value)))
 
 module _ (p : Problem) (regions : List Region) (marks : List (Option Mark)) (kept : IsKept p regions marks) (name v : ℕ) (new : Region) (m : Mark)
     (is : IsLeafRegion name v new) (own : IsLeafMark name v m) (fresh : is_live (nodes_of marks regions) name ≡ false) (below : v < length marks)
@@ -160,6 +160,9 @@ module _ (p : Problem) (regions : List Region) (marks : List (Option Mark)) (kep
           (λ r a same.
           absurd (both_ways (is_live nodes name) fresh (among_live nodes (node_of marks r) name (map_among (node_of marks) regions r a) same)))
 
+  begun : StayBegun nodes others
+  begun u c h = subst (BeginsWith u) (sym (top_left nodes (leaf name v ∷ []) c (in_top nodes c u (begins_in u (top_at nodes c) h)))) h
+
   pub kept_opened : IsKept p (regions ++ new ∷ []) marks'
   kept_opened = record {
     nest = subst (IsNest p) (sym opened_nodes) nest;
@@ -185,9 +188,8 @@ module _ (p : Problem) (regions : List Region) (marks : List (Option Mark)) (kep
     listed =
         All-push (IsListed marks') regions new (lists_still marks regions v (Some m) out kept.listed)
         (listed_one marks' new v is.first is.base is.base_last is.added is.last);
-    begins =
-        subst (λ ns. BeginAlike ns (regions ++ new ∷ [])) (sym opened_nodes)
-        (All-push (λ r. BeginsFirst others r.first r.children.items) regions new (begun_left nodes (leaf name v ∷ []) regions kept.begins)
+    begins = subst (λ ns. BeginAlike ns (regions ++ new ∷ [])) (sym opened_nodes)
+        (All-push (λ r. BeginsFirst others r.first r.children.items) regions new (all_begun nodes others regions begun kept.begins)
         (subst (BeginsFirst others new.first) (sym is.children) tt));
     marked = λ u mk at. subst (λ ns. IsMarked p ns (regions ++ new ∷ []) marks' u mk) (sym opened_nodes) (by u mk at (cases_eq u v));
   }

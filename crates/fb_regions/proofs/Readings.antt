@@ -21,7 +21,7 @@ use Rattle.fb_regions.proofs.Chains.{length-chain}
 use Rattle.fb_graph.proofs.CutSums.{sum_by-flat_map, weigh-le}
 use Rattle.fb_regions.specs.declared.marks.Mark.{Mark}
 use Rattle.fb_regions.specs.declared.region.Region.{Region}
-use Rattle.fb_regions.specs.InternalNodes.{added_to, mark_of, node_of, nodes_of, radii_from, root_from}
+use Rattle.fb_regions.specs.InternalNodes.{added_to, first_of, mark_of, node_of, nodes_of, radii_from, root_from}
 use Rattle.fb_regions.specs.InternalKept.{IsKept}
 use Rattle.fb_regions.proofs.Moved.{mark_over, same_cover}
 use Rattle.fb_regions.proofs.Roots.{root_covers}
@@ -110,6 +110,6 @@ sized p regions marks kept limits r a =
       length-range_with_len 0 p.vertices,
     )
 
-pub length-top : (marks : List (Option Mark)) (r : Region) → length (node_of marks r).top.vertices ≡ length r.first_set.items + r.added
+pub length-top : (marks : List (Option Mark)) (r : Region) → length (node_of marks r).top.vertices ≡ r.base + r.added
 length-top marks r =
-    omega (arith, length-append r.first_set.items (added_to marks r), length-chain marks r.added r.last)
+    omega (arith, length-append (first_of marks r) (added_to marks r), length-chain marks r.base r.base_last, length-chain marks r.added r.last)

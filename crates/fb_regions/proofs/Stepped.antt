@@ -28,7 +28,11 @@ use Rattle.fb_regions.specs.declared.marks.Mark.{Mark}
 use Rattle.fb_regions.specs.declared.region.Region.{Region}
 use Rattle.fb_regions.specs.InternalNodes.{mark_of, node_of, nodes_of, root_from}
 use Rattle.fb_regions.specs.InternalKept.{HasMarks, HaveParents, IsKept, IsMarked}
+use Rattle.fb_regions.specs.InternalListings.{BeginAlike, IsListed}
+use Rattle.fb_regions.specs.Moves.{BeginsWith}
+use Rattle.fb_regions.proofs.Begun.{set_begun}
 use Rattle.fb_regions.proofs.Found.{among_at, names_of}
+use Rattle.fb_regions.proofs.Listings.{listed_alike}
 use Rattle.fb_regions.proofs.Moved.{came_still, same_cover}
 use Rattle.fb_regions.proofs.Parents.{lone_set, parents_set}
 use Rattle.fb_regions.proofs.Radii.{is_some_of, radii_shifted}
@@ -155,6 +159,11 @@ pub record IsRevalued (old new : Region) : Type 0 where
   pub name : new.name ≡ old.name
   pub children : new.children.items ≡ old.children.items
   pub parent : new.parent ≡ old.parent
+  pub first : new.first ≡ old.first
+  pub base : new.base ≡ old.base
+  pub base_last : new.base_last ≡ old.base_last
+  pub added : new.added ≡ old.added
+  pub last : new.last ≡ old.last
 
 module _ (p : Problem) (regions : List Region) (marks : List (Option Mark)) (kept : IsKept p regions marks) (limits : IsWithinLimits p)
     (roles : Roles) (k : ℕ) (turn : IsTurn p (nodes_of marks regions) roles k) (i a b : ℕ) (old new : Region) (at : old ≡ get_or regions i old)
@@ -223,5 +232,13 @@ module _ (p : Problem) (regions : List Region) (marks : List (Option Mark)) (kep
         subst (λ ns. HaveParents ns (set regions i new)) (sym nodes_are)
         (parents_set nodes others regions i old new (λ x h. outer_stepped roles nodes k x ∙ h) at less same.name same.children same.parent kept.parents);
     sets = subst (λ ns. All (λ c. HasMarks marks c.vertices) (all_cuts ns)) (sym nodes_are) (sets_stepped (HasMarks marks) roles k nodes kept.sets);
+    listed =
+        All-set (IsListed marks) regions i new
+        (listed_alike marks old new same.first same.base same.base_last same.added same.last
+        (All_among (IsListed marks) regions kept.listed old (among_at marks regions i old less at)))
+        kept.listed;
+    begins = subst (λ ns. BeginAlike ns (set regions i new)) (sym nodes_are)
+        (set_begun nodes others regions i old new (λ v c h. subst (BeginsWith v) (sym (top_stepped roles k c nodes)) h)
+        (among_at marks regions i old less at) same.first same.children kept.begins);
     marked = λ v m has. subst (λ ns. IsMarked p ns (set regions i new) marks v m) (sym nodes_are) (marked v m has);
   }

@@ -102,7 +102,9 @@ module _ (p : Problem) (regions : List Region) (marks : List (Option Mark)) (kep
       turned (grown k old) (thicker k) 0 k refl refl radius
       (kept_stepped p regions marks kept limits (also_plus no_roles name) k
       (grown_turn p (nodes_of marks regions) kept.nest name k outer crossed room) i 0 k old (grown k old) is_old there.below
-      (record { name = refl; children = refl; parent = refl }) own_outer (omega arith) radius
+      (record {
+        name = refl; children = refl; parent = refl; first = refl; base = refl; base_last = refl; added = refl; last = refl;
+      }) own_outer (omega arith) radius
       (there.changed (grown k old) (thicker k) kept.nest.dual.names refl ∙ thicker_as_step name k (nodes_of marks regions)) counted uncounted)
 
   pub shrinking : k ≤ (node_named (nodes_of marks regions) name).top.value
@@ -124,7 +126,9 @@ module _ (p : Problem) (regions : List Region) (marks : List (Option Mark)) (kep
             (λ n a named.
             let same = same_among (nodes_of marks regions) kept.nest.dual.names n (node_of marks old) a (map_among (node_of marks) regions old there.among) (named ∙ sym there.named) in
             omega (arith, most, ap (λ m. m.top.value) same)))
-            i k 0 old (shrunk k old) is_old there.below (record { name = refl; children = refl; parent = refl }) own_outer (omega (arith, most, own)) radius
+            i k 0 old (shrunk k old) is_old there.below (record {
+        name = refl; children = refl; parent = refl; first = refl; base = refl; base_last = refl; added = refl; last = refl;
+      }) own_outer (omega (arith, most, own)) radius
             (there.changed (shrunk k old) (thinner k) kept.nest.dual.names refl ∙ thinner_as_step name k (nodes_of marks regions)) uncounted counted),
         most,
         omega (arith, most, own),

@@ -8,9 +8,9 @@ use Rattle.fb_regions.proofs.regions.Regions.grow.Goals as goal
 
 pub unreachable-requires : goal.unreachable-requires
 unreachable-requires g c =
-    let live : is_live (nodes_of c.self.inside.marks.items c.self.inside.regions.items) c.args.node ≡ true = rw (← c.self.view_is) at c.requires.live in
-    let gone : is_live (nodes_of c.self.inside.marks.items c.self.inside.regions.items) c.args.node ≡ false =
-    not_found c.self.inside.marks.items c.self.inside.regions.items c.args.node (read_place c.self.inside.regions.items _ _ c.args.node None c.self.invariant.1 c.deref.ensures.value c.in_default.ensures) in
+    let live : is_live (nodes_of c.self.inside.marks c.self.inside.regions.items) c.args.node ≡ true = rw (← c.self.view_is) at c.requires.live in
+    let gone : is_live (nodes_of c.self.inside.marks c.self.inside.regions.items) c.args.node ≡ false =
+    not_found c.self.inside.marks c.self.inside.regions.items c.args.node (read_place c.self.inside.regions.items _ _ c.args.node None c.self.invariant.1 c.deref.ensures.value c.in_default.ensures) in
     cc
 
 pub overflow_add-region : goal.overflow_add-region

@@ -9,7 +9,7 @@ use Rattle.fb_regions.proofs.regions.Regions.join_nodes.Goals as goal
 
 pub index-last-requires : goal.index-last-requires
 index-last-requires g c =
-    let first : c.in_ok-first_set.first_set.items ≡ concat (map (top_at (nodes_of c.self.inside.marks.items c.self.inside.regions.items)) c.args.children.now) =
+    let first : c.in_ok-first_set.first_set.items ≡ concat (map (top_at (nodes_of c.self.inside.marks c.self.inside.regions.items)) c.args.children.now) =
     rw (← c.self.view_is) at c.in_ok-first_set.ensures in
     let some : 1 ≤ length c.in_ok-first_set.first_set.items =
     some_first _ _ _ c.self.invariant.0 c.args.node c.args.children.now (rw (← c.self.view_is) at c.requires) c.in_ok-first_set.first_set.items first in
@@ -17,7 +17,7 @@ index-last-requires g c =
 
 pub overflow_sub-len : goal.overflow_sub-len
 overflow_sub-len g c =
-    let first : c.in_ok-first_set.first_set.items ≡ concat (map (top_at (nodes_of c.self.inside.marks.items c.self.inside.regions.items)) c.args.children.now) =
+    let first : c.in_ok-first_set.first_set.items ≡ concat (map (top_at (nodes_of c.self.inside.marks c.self.inside.regions.items)) c.args.children.now) =
     rw (← c.self.view_is) at c.in_ok-first_set.ensures in
     let some : 1 ≤ length c.in_ok-first_set.first_set.items =
     some_first _ _ _ c.self.invariant.0 c.args.node c.args.children.now (rw (← c.self.view_is) at c.requires) c.in_ok-first_set.first_set.items first in
@@ -25,7 +25,7 @@ overflow_sub-len g c =
 
 pub invariant_of-self-2 : goal.invariant_of-self-2
 invariant_of-self-2 g c =
-    let first : c.in_ok-first_set.first_set.items ≡ concat (map (top_at (nodes_of c.self.inside.marks.items c.self.inside.regions.items)) c.args.children.now) =
+    let first : c.in_ok-first_set.first_set.items ≡ concat (map (top_at (nodes_of c.self.inside.marks c.self.inside.regions.items)) c.args.children.now) =
     rw (← c.self.view_is) at c.in_ok-first_set.ensures in
     let may = rw (← c.self.view_is) at c.requires in
     let count : c.len-place.result ≡ length c.self.inside.regions.items =
@@ -35,7 +35,7 @@ invariant_of-self-2 g c =
           (record { name_is = refl; children_are = c.in_ok-names.ensures.items; parent = refl; first = first; added = refl; value = refl; radius = refl })
           may),
       rw (c.push_reserved.ensures.items, c.adopt.ensures, c.deref_mut.ensures.value, c.in_ok-reserve.ensures.items, mapped_back (adopted c.args.children.now (Some c.args.node)) c.self.inside.regions.items c.reserve.new.self.len (c.reserve.new.self.ok.0 ∙ ap length c.in_ok-reserve.ensures.items))
-          (index_joined c.self.inside.marks.items c.self.inside.regions.items c.self.inside.places.items c.widen.new.places.items c.set_place.new.places.items
+          (index_joined c.self.inside.marks c.self.inside.regions.items c.self.inside.places.items c.widen.new.places.items c.set_place.new.places.items
           c.args.children.now (Some c.args.node) _ c.len-place.result c.self.invariant.1 c.widen.ensures.same count may.fresh c.set_place.ensures.entries),
     )
 
@@ -54,7 +54,7 @@ adopt-requires-clause-distinct g c = rw (c.deref_mut.ensures.value, c.in_ok-rese
 
 pub returns-clause-ok : goal.returns-clause-ok
 returns-clause-ok g c =
-    let first : c.in_ok-first_set.first_set.items ≡ concat (map (top_at (nodes_of c.self.inside.marks.items c.self.inside.regions.items)) c.args.children.now) =
+    let first : c.in_ok-first_set.first_set.items ≡ concat (map (top_at (nodes_of c.self.inside.marks c.self.inside.regions.items)) c.args.children.now) =
     rw (← c.self.view_is) at c.in_ok-first_set.ensures in
     rw (← c.self.view_is, c.push_reserved.ensures.items, c.adopt.ensures, c.deref_mut.ensures.value, c.in_ok-reserve.ensures.items, mapped_back (adopted c.args.children.now (Some c.args.node)) c.self.inside.regions.items c.reserve.new.self.len (c.reserve.new.self.ok.0 ∙ ap length c.in_ok-reserve.ensures.items))
     (ap (λ ns. record { scope = c.self.inside.scope; nodes = ns })

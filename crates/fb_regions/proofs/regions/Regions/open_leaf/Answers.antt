@@ -11,7 +11,7 @@ invariant_of-self-in_err-widen g c = (
 
 pub invariant_of-self-2 : goal.invariant_of-self-2
 invariant_of-self-2 g c =
-    let below : c.args.v < length c.self.inside.marks.items = rw c.self.invariant.0.room (rw (← c.self.view_is) at c.requires.below) in
+    let below : c.args.v < length c.self.inside.marks = rw c.self.invariant.0.room (rw (← c.self.view_is) at c.requires.below) in
     let count : c.len-place.result ≡ length c.self.inside.regions.items = c.len-place.ensures ∙ (c.reserve.new.self.ok.0 ∙ ap length c.in_ok-reserve.ensures.items) in (
       rw (c.push_reserved.ensures.items, c.in_ok-reserve.ensures.items)
           (kept_opened _ _ _ c.self.invariant.0 c.args.node c.args.v _ _
@@ -19,7 +19,10 @@ invariant_of-self-2 g c =
             name_is = refl;
             children = c.new.ensures.items;
             parent = refl;
-            first = c.in_ok-push.ensures.items ∙ ap (λ l. l ++ c.args.v ∷ []) c.new-first_set.ensures.items;
+            first = refl;
+base = refl;
+base_last = refl;
+last = refl;
             added = refl;
             value = refl;
             radius = refl;
@@ -28,12 +31,12 @@ invariant_of-self-2 g c =
           (rw (← c.self.view_is) at c.requires.fresh) below (rw (← c.self.view_is) at c.requires.real) (rw (← c.self.view_is) at c.requires.uncovered)),
       rw (c.push_reserved.ensures.items, c.in_ok-reserve.ensures.items)
           (index_pushed c.self.inside.regions.items c.widen.new.places.items _ _ c.len-place.result (index_same _ _ _ c.self.invariant.1 c.widen.ensures.same) count
-          (fresh_name c.self.inside.marks.items _ c.args.node (rw (← c.self.view_is) at c.requires.fresh)) c.set_place.ensures.entries),
+          (fresh_name c.self.inside.marks _ c.args.node (rw (← c.self.view_is) at c.requires.fresh)) c.set_place.ensures.entries),
     )
 
 pub returns-clause-ok : goal.returns-clause-ok
 returns-clause-ok g c =
-    let below : c.args.v < length c.self.inside.marks.items = rw c.self.invariant.0.room (rw (← c.self.view_is) at c.requires.below) in
+    let below : c.args.v < length c.self.inside.marks = rw c.self.invariant.0.room (rw (← c.self.view_is) at c.requires.below) in
     rw (← c.self.view_is, c.push_reserved.ensures.items, c.in_ok-reserve.ensures.items)
     (ap (λ ns. record { scope = c.self.inside.scope; nodes = ns })
     (opened_nodes _ _ _ c.self.invariant.0 c.args.node c.args.v _ _
@@ -41,7 +44,10 @@ returns-clause-ok g c =
       name_is = refl;
       children = c.new.ensures.items;
       parent = refl;
-      first = c.in_ok-push.ensures.items ∙ ap (λ l. l ++ c.args.v ∷ []) c.new-first_set.ensures.items;
+      first = refl;
+base = refl;
+base_last = refl;
+last = refl;
       added = refl;
       value = refl;
       radius = refl;

@@ -1,5 +1,5 @@
-use Rattle.std.proofs.Common.{Some, None}
-use Rattle.fb_regions.proofs.Backward.{back_end, back_more, back_smaller, back_start, back_within, read_step}
+use Rattle.std.proofs.Common.{sym, Some, None}
+use Rattle.fb_regions.proofs.Backward.{back_end, back_more, back_smaller, back_start, back_within}
 use Rattle.fb_regions.proofs.ChainedWalks.{source_chained}
 use Rattle.fb_regions.proofs.regions.Regions.source_walk.Goals as goal
 
@@ -9,28 +9,28 @@ loop-hop-init g c = rw c.new-steps.ensures.items (back_start _ _ _ c.self.invari
 pub loop-hop-smaller : goal.loop-hop-smaller
 loop-hop-smaller g c =
     back_smaller _ _ _ c.self.invariant.0 c.args.v c.loop-hop.at c.in-Some.hop c.loop-hop.invariant.marked
-    (read_step c.self.inside.marks.items _ c.loop-hop.at (Some c.in-Some.hop) c.deref.ensures.value c.in-Some.ensures)
+    (sym c.in-Some.ensures)
 
 pub loop-hop-preserved : goal.loop-hop-preserved
 loop-hop-preserved g c =
     rw (c.in_ok-push.ensures.items, c.weight-weight.ensures)
     (back_more _ _ _ c.self.invariant.0 c.args.v c.loop-hop.at c.in-Some.hop c.loop-hop.steps.items c.loop-hop.invariant
-    (read_step c.self.inside.marks.items _ c.loop-hop.at (Some c.in-Some.hop) c.deref.ensures.value c.in-Some.ensures))
+    (sym c.in-Some.ensures))
 
 pub returns : goal.returns
 returns g c =
     rw (← c.self.view_is, c.from_vec.ensures, c.reverse.ensures.items)
     (back_end _ _ _ c.self.invariant.0 c.args.v c.loop-hop.at c.loop-hop.steps.items c.loop-hop.invariant (rw (← c.self.view_is) at c.requires)
-    (read_step c.self.inside.marks.items _ c.loop-hop.at None c.deref.ensures.value c.in_default.ensures))
+    (sym c.in_default.ensures))
 
 pub from_vec-requires : goal.from_vec-requires
 from_vec-requires g c =
     rw c.reverse.ensures.items
     (source_chained _ _ c.args.v _
     (back_end _ _ _ c.self.invariant.0 c.args.v c.loop-hop.at c.loop-hop.steps.items c.loop-hop.invariant (rw (← c.self.view_is) at c.requires)
-    (read_step c.self.inside.marks.items _ c.loop-hop.at None c.deref.ensures.value c.in_default.ensures)))
+    (sym c.in_default.ensures)))
 
 pub weight-weight-requires : goal.weight-weight-requires
 weight-weight-requires g c =
     back_within _ _ _ c.self.invariant.0 c.args.v c.loop-hop.at c.in-Some.hop c.loop-hop.invariant.marked
-    (read_step c.self.inside.marks.items _ c.loop-hop.at (Some c.in-Some.hop) c.deref.ensures.value c.in-Some.ensures)
+    (sym c.in-Some.ensures)

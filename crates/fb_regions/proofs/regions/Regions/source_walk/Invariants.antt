@@ -3,7 +3,7 @@ use Rattle.fb_regions.proofs.Backward.{IsBack, the_mark}
 use Rattle.fb_regions.proofs.regions.Regions.source_walk.Given as goal
 
 abbrev pub invariant-loop-hop : goal.invariant-loop-hop
-invariant-loop-hop g l = IsBack (g.S.Scope.problem l.self-inside.scope) l.self-inside.marks.items l.v l.at l.steps.items
+invariant-loop-hop g l = IsBack (g.S.Scope.problem l.self-inside.scope) l.self-inside.marks l.v l.at l.steps.items
 
 abbrev pub decreases-loop-hop : goal.decreases-loop-hop
-decreases-loop-hop g l = (the_mark (mark_of l.self-inside.marks.items l.at)).rank
+decreases-loop-hop g l = (the_mark (mark_of l.self-inside.marks l.at)).rank

@@ -6,14 +6,14 @@ use Rattle.fb_regions.proofs.regions.Regions.vertices.Goals as goal
 
 pub unreachable-requires : goal.unreachable-requires
 unreachable-requires g c =
-    let live : is_live (nodes_of c.self.inside.marks.items c.self.inside.regions.items) c.args.node ≡ true = rw (← c.self.view_is) at c.requires in
-    let gone : is_live (nodes_of c.self.inside.marks.items c.self.inside.regions.items) c.args.node ≡ false =
-    not_found c.self.inside.marks.items c.self.inside.regions.items c.args.node
+    let live : is_live (nodes_of c.self.inside.marks c.self.inside.regions.items) c.args.node ≡ true = rw (← c.self.view_is) at c.requires in
+    let gone : is_live (nodes_of c.self.inside.marks c.self.inside.regions.items) c.args.node ≡ false =
+    not_found c.self.inside.marks c.self.inside.regions.items c.args.node
     (read_place c.self.inside.regions.items _ _ c.args.node None c.self.invariant.1 c.deref.ensures.value c.in_default.ensures) in
     cc
 
 pub returns : goal.returns
 returns g c =
-    let at = found c.self.inside.marks.items c.self.inside.regions.items c.args.node c.in-Some.place _
+    let at = found c.self.inside.marks c.self.inside.regions.items c.args.node c.in-Some.place _
     (read_place c.self.inside.regions.items _ _ c.args.node (Some c.in-Some.place) c.self.invariant.1 c.deref.ensures.value c.in-Some.ensures) c.index.ensures in
     rw (← c.self.view_is, ← at.top, ← c.deref-2.ensures.value) c.vertices.ensures
