@@ -3,11 +3,13 @@ pub mod Absorption
 pub mod Adopted
 pub mod Backward
 pub mod Begun
+pub mod Behind
 pub mod ByName
 pub mod ChainedWalks
 pub mod Chains
 pub mod Climbs
 pub mod Found
+pub mod Fronts
 pub mod Indexed
 pub mod Joined
 pub mod Leaves

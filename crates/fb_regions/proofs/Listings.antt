@@ -28,6 +28,11 @@ pub same_first : (v w : ℕ) (vs : List ℕ) → BeginsWith v vs → BeginsWith 
 same_first v w [] a b = absurd a
 same_first v w (u ∷ us) a b = sym a ∙ b
 
+-- a list of at least one vertex begins with some
+pub some_begin : (xs : List ℕ) (y : ℕ) → (w : ℕ) × BeginsWith w (xs ++ y ∷ [])
+some_begin [] y = (y, refl)
+some_begin (x ∷ xs) y = (x, refl)
+
 -- back from the last vertex of a list that begins with one, and further back from that one
 pub chain_append : (marks : List (Option Mark)) (n k v f : ℕ) → BeginsWith f (chain marks k v)
     → chain marks (n + k) v ≡ chain marks n (before_of marks f) ++ chain marks k v
@@ -40,12 +45,8 @@ chain_append marks n (suc (suc k)) v f begins =
     ap (λ i. chain marks i v) e
     ∙ (ap (λ l. l ++ v ∷ [])
     (chain_append marks n (suc k) (before_of marks v) f
-    (left_begins f _ (chain marks (suc k) (before_of marks v)) (v ∷ []) (head_of (chain marks k (before_of marks (before_of marks v))) (before_of marks v)).1 begins))
+    (left_begins f _ (chain marks (suc k) (before_of marks v)) (v ∷ []) (some_begin (chain marks k (before_of marks (before_of marks v))) (before_of marks v)).1 begins))
     ∙ append_assoc (chain marks n (before_of marks f)) (chain marks (suc k) (before_of marks v)) (v ∷ []))
-  where
-    head_of : (xs : List ℕ) (y : ℕ) → (w : ℕ) × BeginsWith w (xs ++ y ∷ [])
-    head_of [] y = (y, refl)
-    head_of (x ∷ xs) y = (x, refl)
 
 -- where only the mark of some other vertex changes, the list stays
 pub listed_still : (marks other : List (Option Mark)) (r : Region) → IsListed marks r
