@@ -13,6 +13,7 @@ pub mod Fronts
 pub mod Indexed
 pub mod Joined
 pub mod Leaves
+pub mod Linked
 pub mod Linking
 pub mod Listings
 pub mod Lowered

@@ -1,6 +1,6 @@
 -- The lists of vertices that marks keep.
 use Rattle.std.proofs.Common.{ℕ, zero, suc, ◌≡◌, ◌+◌, ◌-◌, ◌≤◌, ◌==◌, true, List, [], ◌∷◌, ◌++◌, Option, refl, sym, ap, ◌∙◌, arith, subst}
-use Rattle.std.proofs.lemmas.Bool.{eq-eqb, or_left, or_right}
+use Rattle.std.proofs.lemmas.Bool.{eq-eqb, false≢true, or_left, or_right}
 use Rattle.std.proofs.lemmas.List.{append_assoc, append_cancel_right}
 use Rattle.fb_graph.specs.Parity.{is_in}
 use Rattle.fb_graph.proofs.Members.{is_in-append}
@@ -23,6 +23,10 @@ begins_left v (x ∷ xs) ys begins = begins
 pub left_begins : (v w : ℕ) (xs ys : List ℕ) → BeginsWith w xs → BeginsWith v (xs ++ ys) → BeginsWith v xs
 left_begins v w [] ys some begins = absurd some
 left_begins v w (x ∷ xs) ys some begins = begins
+
+pub held_begins : (v w : ℕ) (xs ys : List ℕ) → is_in xs w ≡ true → BeginsWith v (xs ++ ys) → BeginsWith v xs
+held_begins v w [] ys some begins = absurd (false≢true some)
+held_begins v w (x ∷ xs) ys some begins = begins
 
 pub same_first : (v w : ℕ) (vs : List ℕ) → BeginsWith v vs → BeginsWith w vs → v ≡ w
 same_first v w [] a b = absurd a
