@@ -26,4 +26,5 @@ pub mod Readings
 pub mod Roots
 pub mod Split
 pub mod Stepped
+pub mod Together
 pub mod Turned

@@ -1,5 +1,5 @@
 -- The lists of outer nodes linked one after another, and what stays as it was.
-use Rattle.std.proofs.Common.{ℕ, ◌≡◌, ◌+◌, ◌==◌, ◌||◌, ◌⊎◌, inl, inr, Bool, true, false, List, [], ◌∷◌, ◌++◌, length, map, set, Option, Some, None, refl, sym, ap, ◌∙◌, subst, arith, if◌then◌else◌, append_assoc}
+use Rattle.std.proofs.Common.{ℕ, ◌≡◌, ◌+◌, ◌≤◌, ◌==◌, ◌||◌, ◌⊎◌, inl, inr, Bool, true, false, List, [], ◌∷◌, ◌++◌, length, map, set, Option, Some, None, refl, sym, ap, ◌∙◌, subst, arith, if◌then◌else◌, append_assoc}
 use Rattle.std.specs.List.{All, concat}
 use Rattle.std.proofs.lemmas.Bool.{both_ways, false≢true, false_from_ne_true, eq-eqb, eqb-true, or_cases}
 use Rattle.std.proofs.lemmas.List.{append-nil, length-append}
@@ -150,12 +150,13 @@ module _ (p : Problem) (regions : List Region) (nodes : List Node) where
       (apart_joined vs (top_at nodes c) (map (top_at nodes) cs) (All-tail (AreApart vs) (top_at nodes c) (map (top_at nodes) cs) apart.0) apart.1.0, apart.1.1)))
 
 -- outer nodes, from the first one on
-pub linked_nodes : (p : Problem) (regions : List Region) (marks : List (Option Mark)) → IsKept p regions marks → (c : ℕ) (cs : List ℕ) (listing : Listing)
-    → listing.count ≡ 0 → All (λ x. is_live (nodes_of marks regions) x ≡ true) (c ∷ cs)
-    → All (λ x. is_outer (nodes_of marks regions) x ≡ true) (c ∷ cs) → AreAllApart (map (top_at (nodes_of marks regions)) (c ∷ cs))
-    → IsLinked p regions (nodes_of marks regions) (concat (map (top_at (nodes_of marks regions)) (c ∷ cs)))
-    (linked_all regions (c ∷ cs) (record { marks = marks; listing = listing }))
-linked_nodes p regions marks kept c cs listing none live outer apart =
+pub linked_nodes : (p : Problem) (regions : List Region) (marks : List (Option Mark)) → IsKept p regions marks → (cs : List ℕ) (listing : Listing)
+    → 1 ≤ length cs → listing.count ≡ 0 → All (λ x. is_live (nodes_of marks regions) x ≡ true) cs
+    → All (λ x. is_outer (nodes_of marks regions) x ≡ true) cs → AreAllApart (map (top_at (nodes_of marks regions)) cs)
+    → IsLinked p regions (nodes_of marks regions) (concat (map (top_at (nodes_of marks regions)) cs))
+    (linked_all regions cs (record { marks = marks; listing = listing }))
+linked_nodes p regions marks kept [] listing some none live outer apart = absurd (let h : 1 ≤ 0 = some in omega arith)
+linked_nodes p regions marks kept (c ∷ cs) listing some none live outer apart =
     let nodes = nodes_of marks regions in
     let n = live_named marks regions c (All-head (λ x. is_live nodes x ≡ true) c cs live) in
     let start : Linked = record { marks = marks; listing = listing } in
