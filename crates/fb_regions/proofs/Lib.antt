@@ -18,13 +18,16 @@ pub mod Linking
 pub mod Listings
 pub mod Lowered
 pub mod Marking
+pub mod MarksIn
 pub mod Moved
 pub mod Opened
 pub mod Parents
 pub mod Radii
 pub mod Readings
 pub mod Roots
+pub mod SparseValues
 pub mod Split
 pub mod Stepped
+pub mod Stored
 pub mod Together
 pub mod Turned

@@ -65,6 +65,7 @@ impl Marks {
     pub fn at(&self, v: u32) -> Option<Mark>
         ensures { result ≡ mark_of self.now v }
     {
+        self.table.keeps();
         self.table.get(v)
     }
 
@@ -100,6 +101,7 @@ impl Marks {
         requires { v < length self.old }
         ensures { self.new ≡ set self.old v (Some mark) }
     {
+        self.table.keeps();
         self.table.enter(v, mark);
     }
 

@@ -13,17 +13,17 @@ pub invariant_of-self-2 : goal.invariant_of-self-2
 invariant_of-self-2 g c =
     let below : c.args.v < length c.self.inside.marks = rw c.self.invariant.0.room (rw (← c.self.view_is) at c.requires.below) in
     let count : c.len-place.result ≡ length c.self.inside.regions.items = c.len-place.ensures ∙ (c.reserve.new.self.ok.0 ∙ ap length c.in_ok-reserve.ensures.items) in (
-      rw (c.push_reserved.ensures.items, c.in_ok-reserve.ensures.items)
+      rw (c.put.ensures, c.push_reserved.ensures.items, c.in_ok-reserve.ensures.items)
           (kept_opened _ _ _ c.self.invariant.0 c.args.node c.args.v _ _
           (record {
             name_is = refl;
             children = c.new.ensures.items;
             parent = refl;
             first = refl;
-base = refl;
-base_last = refl;
-last = refl;
+            base = refl;
+            base_last = refl;
             added = refl;
+            last = refl;
             value = refl;
             radius = refl;
           })
@@ -37,20 +37,20 @@ last = refl;
 pub returns-clause-ok : goal.returns-clause-ok
 returns-clause-ok g c =
     let below : c.args.v < length c.self.inside.marks = rw c.self.invariant.0.room (rw (← c.self.view_is) at c.requires.below) in
-    rw (← c.self.view_is, c.push_reserved.ensures.items, c.in_ok-reserve.ensures.items)
+    rw (← c.self.view_is, c.put.ensures, c.push_reserved.ensures.items, c.in_ok-reserve.ensures.items)
     (ap (λ ns. record { scope = c.self.inside.scope; nodes = ns })
     (opened_nodes _ _ _ c.self.invariant.0 c.args.node c.args.v _ _
     (record {
-      name_is = refl;
-      children = c.new.ensures.items;
-      parent = refl;
-      first = refl;
-base = refl;
-base_last = refl;
-last = refl;
-      added = refl;
-      value = refl;
-      radius = refl;
-    })
+            name_is = refl;
+            children = c.new.ensures.items;
+            parent = refl;
+            first = refl;
+            base = refl;
+            base_last = refl;
+            added = refl;
+            last = refl;
+            value = refl;
+            radius = refl;
+          })
     (record { source = refl; leaf = refl; distance = refl; rank = refl; by = refl })
     (rw (← c.self.view_is) at c.requires.fresh) below (rw (← c.self.view_is) at c.requires.real) (rw (← c.self.view_is) at c.requires.uncovered)))

@@ -16,4 +16,4 @@ pub returns : goal.returns
 returns g c =
     let at = found c.self.inside.marks c.self.inside.regions.items c.args.node c.in-Some.place _
     (read_place c.self.inside.regions.items _ _ c.args.node (Some c.in-Some.place) c.self.invariant.1 c.deref.ensures.value c.in-Some.ensures) c.index.ensures in
-    rw (← c.self.view_is, ← at.top, ← c.deref-2.ensures.value) c.vertices.ensures
+    rw (← c.self.view_is, ← at.top) c.vertices.ensures
