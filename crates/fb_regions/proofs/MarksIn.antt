@@ -1,5 +1,5 @@
 -- Marks, read from a table that has only those that there are.
-use Rattle.std.proofs.Common.{ℕ, ◌≡◌, ◌+◌, ◌≤◌, ◌<◌, ◌==◌, ◌⊎◌, inl, inr, Bool, true, false, ◌||◌, List, [], ◌∷◌, length, map, get_or, set, Option, Some, None, refl, sym, ap, ◌∙◌, arith, if◌then◌else◌}
+use Rattle.std.proofs.Common.{ℕ, zero, suc, ◌≡◌, ◌+◌, ◌≤◌, ◌<◌, ◌==◌, ◌⊎◌, inl, inr, Bool, true, false, ◌||◌, replicate, List, [], ◌∷◌, length, map, get_or, set, Option, Some, None, refl, sym, ap, ◌∙◌, arith, if◌then◌else◌}
 use Rattle.std.specs.List.{All, range_with_len}
 use Rattle.std.specs.Option.{is_some}
 use Rattle.std.proofs.lemmas.Bool.{cases_eq, cases_lt, eq-eqb, false_from_ne_true, ne_eqb}
@@ -72,3 +72,13 @@ marked_keys table long within v = valued table.keys table.values long ∙ ap is_
         by : (b : Bool) → is_in ks v ≡ is_some (value_by ks xs v) → (b || is_in ks v) ≡ is_some (if b then Some x else value_by ks xs v)
         by true rest = refl
         by false rest = rest
+
+abbrev pub no_marks : ℕ → Sparse Mark
+no_marks n = record { bound = n; keys = []; values = [] }
+
+pub marks_none : (n : ℕ) → marks_in (no_marks n) ≡ replicate n None
+marks_none n = from 0 n
+  where
+    from : (a k : ℕ) → map (value_of (no_marks n)) (range_with_len a k) ≡ replicate k None
+    from a zero = refl
+    from a (suc k) = ap (λ l. None ∷ l) (from (a + 1) k)
