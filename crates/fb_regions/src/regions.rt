@@ -15,14 +15,14 @@ ghost use Rattle.fb_graph.specs.SourceWalks.{HaveWalks};
 ghost use Rattle.fb_graph.specs.Turns.{thinner};
 ghost use Rattle.fb_regions.specs.Moves.{BeginsWith, IsOver, IsSourceWalk, absorbed, inner_end, node_named, outer_end};
 
-use crate::marks::{Hop, Mark, Marks};
 use crate::listing::list_together;
+use crate::marks::{Hop, Mark, Marks};
 use crate::merging::{take_marks, take_node};
 use crate::places::{enter_from, place_of, set_place, widen};
 use crate::region::{self, Region, adopt, radii_of, root_of};
-use fb_links::names::names_of;
 use crate::{Layer, NodeId, Step, Walk};
 use fb_graph::{NoMemory, Scope};
+use fb_links::names::names_of;
 use std::alloc::Global;
 use std::marker::Model;
 
@@ -184,6 +184,7 @@ impl<S: Scope> Regions<S> {
         ensures ok { OnOk result (self.new ≡ record { scope = self.old.scope; nodes = joined node children.now self.old.nodes }) }
         ensures err { OnErr result (self.new ≡ self.old) }
     {
+        self.scope.limits();
         let names = Vec::from_slice(alloc, children)?;
         self.regions.reserve(1)?;
         widen(&mut self.places, node)?;
