@@ -1,13 +1,12 @@
 -- A vertex that is the first of each list that holds it, and lists where the one before it changes.
 use Rattle.std.proofs.Common.{ℕ, zero, suc, ◌≡◌, ◌+◌, ◌==◌, ◌⊎◌, inl, inr, Bool, true, false, List, [], ◌∷◌, ◌++◌, map, Option, refl, sym, ap, ◌∙◌, subst}
-use Rattle.std.specs.List.{All}
 use Rattle.std.proofs.lemmas.Bool.{both_ways, cases_eq, false≢true, eqb-true, or_cases, or_left, or_parts, or_right}
 use Rattle.fb_graph.specs.Parity.{is_in}
 use Rattle.fb_graph.specs.Problem.{Problem}
 use Rattle.fb_graph.specs.Certificate.{AreDistinct}
 use Rattle.fb_graph.specs.Dual.{Node, is_outer, top_at}
 use Rattle.fb_graph.specs.Ends.{AreAllApart}
-use Rattle.fb_graph.specs.Nests.{AreJoinedLater, IsNest, child_sets}
+use Rattle.fb_graph.specs.Nests.{AreJoinedLater, child_sets}
 use Rattle.fb_graph.proofs.Among.{IsAmong, All_among, among_map, apart_among, apart_of_two, outer_or_not, same_among, top_among}
 use Rattle.fb_graph.proofs.Forests.{after, child_within}
 use Rattle.fb_graph.proofs.Members.{is_in-append}

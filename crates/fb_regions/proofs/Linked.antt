@@ -14,10 +14,10 @@ use Rattle.fb_regions.specs.declared.listing.Listing.{Listing}
 use Rattle.fb_regions.specs.declared.marks.Mark.{Mark}
 use Rattle.fb_regions.specs.declared.region.Region.{Region}
 use Rattle.fb_regions.specs.InternalKept.{IsKept}
-use Rattle.fb_regions.specs.InternalListings.{IsListed, Linked, count_named, linked, linked_all, listing_at, put_behind, region_named}
-use Rattle.fb_regions.specs.InternalNodes.{added_to, before_in, chain, first_of, mark_of, node_of, nodes_of}
+use Rattle.fb_regions.specs.InternalListings.{IsListed, Linked, count_named, linked, linked_all, listing_at, region_named}
+use Rattle.fb_regions.specs.InternalNodes.{added_to, before_in, chain, first_of, node_of, nodes_of}
 use Rattle.fb_regions.specs.Moves.{BeginsWith}
-use Rattle.fb_regions.proofs.Behind.{kept_front, new_front, nodes_behind, still_node}
+use Rattle.fb_regions.proofs.Behind.{kept_front, new_front, nodes_behind}
 use Rattle.fb_regions.proofs.Chains.{chain_same, length-chain}
 use Rattle.fb_regions.proofs.Linking.{linked_first, linked_more}
 use Rattle.fb_regions.proofs.Listings.{begins_in, begins_left, chain_append}

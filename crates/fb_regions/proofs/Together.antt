@@ -1,6 +1,6 @@
 -- The lists of nodes that are joined, as the list of the blossom.
-use Rattle.std.proofs.Common.{ℕ, ◌≡◌, ◌<◌, ◌≤◌, ◌^◌, true, List, [], ◌∷◌, length, map, Option, inl, refl, sym, ap, ◌∙◌, subst, arith}
-use Rattle.std.specs.List.{All, concat}
+use Rattle.std.proofs.Common.{ℕ, ◌≡◌, ◌<◌, ◌^◌, true, List, [], ◌∷◌, map, Option, inl, refl, sym, ap, ◌∙◌, subst, arith}
+use Rattle.std.specs.List.{concat}
 use Rattle.fb_graph.specs.Problem.{Problem}
 use Rattle.fb_graph.specs.Dual.{Node, is_live, top_at}
 use Rattle.fb_graph.specs.Ends.{AreAllApart}

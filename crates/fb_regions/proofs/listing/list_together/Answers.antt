@@ -1,4 +1,4 @@
-use Rattle.std.proofs.Common.{◌≡◌, ◌+◌, ◌==◌, drop, get_or, sym, ap, ◌∙◌, arith}
+use Rattle.std.proofs.Common.{◌+◌, ◌==◌, drop, get_or, sym, ap, ◌∙◌, arith}
 use Rattle.std.proofs.lemmas.Bool.{eq-eqb, eqb-true, false_from_ne_true}
 use Rattle.fb_regions.specs.InternalListings.{Linked, linked, linked_all, listing_at}
 use Rattle.fb_regions.proofs.Linking.{counted_next, counted_none, linked_first, linked_more, linked_next, linked_none, named_at, named_none}
