@@ -16,9 +16,6 @@ chain_back marks n i at vs less =
     ∙ (sym (append_assoc (chain marks (n - (i + 1)) (before_of marks at)) (at ∷ []) (reverse vs))
     ∙ ap (λ k. chain marks k at ++ reverse vs) (sym e))
 
-pub chain_all : (marks : List (Option Mark)) (n at : ℕ) (vs : List ℕ) → chain marks (n - n) at ++ reverse vs ≡ reverse vs
-chain_all marks n at vs = let e : n - n ≡ 0 = omega arith in ap (λ k. chain marks k at ++ reverse vs) e
-
 -- the same vertices where each has the same one before it
 pub chain_same : (marks other : List (Option Mark)) (k v : ℕ)
     → ((u : ℕ) → is_in (chain marks k v) u ≡ true → before_of other u ≡ before_of marks u) → chain other k v ≡ chain marks k v

@@ -1,9 +1,8 @@
 -- A node found by its name, and lists of nodes of which one is changed.
 use Rattle.std.proofs.Common.{ℕ, zero, suc, ◌≡◌, ◌+◌, ◌<◌, ◌==◌, inl, inr, cond, true, false, List, [], ◌∷◌, ◌++◌, length, map, set, take, drop, get_or, Option, Some, None, refl, sym, ap, ◌∙◌, arith, not, nat_lt, if◌then◌else◌}
-use Rattle.std.specs.List.{position, position_or_len, concat}
+use Rattle.std.specs.List.{position, position_or_len}
 use Rattle.std.proofs.lemmas.Bool.{eqb-true, or_parts}
-use Rattle.std.proofs.lemmas.List.{append-nil, length-append, length-map, map-append, take_more}
-use Rattle.std.proofs.lemmas.List.Folds.{concat-append}
+use Rattle.std.proofs.lemmas.List.{length-append, length-map}
 use Rattle.std.proofs.lemmas.List.Quantifiers.{position-Some}
 use Rattle.fb_graph.specs.Certificate.{AreDistinct}
 use Rattle.fb_graph.specs.Dual.{Node, change_at, is_live, layers_at, layers_of, no_node, node_at, top_at}
@@ -11,18 +10,10 @@ use Rattle.fb_graph.proofs.Among.{IsAmong}
 use Rattle.fb_graph.proofs.Nodes.{change_at-place, layers_at-place, no_place, top_at-place}
 use Rattle.fb_regions.specs.declared.marks.Mark.{Mark}
 use Rattle.fb_regions.specs.declared.region.Region.{Region}
-use Rattle.fb_regions.specs.InternalNodes.{added_to, first_of, mark_of, node_of, nodes_of, root_from, stack}
+use Rattle.fb_regions.specs.InternalNodes.{added_to, first_of, node_of, nodes_of, root_from, stack}
 use Rattle.fb_regions.specs.InternalPlaces.{IsIndex, place_in}
 use Rattle.fb_regions.specs.Moves.{node_named}
 use Rattle.fb_regions.proofs.Chains.{length-chain, length-stack}
-
-pub concat_more : (f : ℕ → List ℕ) (xs : List ℕ) (i : ℕ) → i < length xs
-    → concat (map f (take (i + 1) xs)) ≡ concat (map f (take i xs)) ++ f (get_or xs i 0)
-concat_more f xs i less =
-    ap (λ l. concat (map f l)) (take_more xs i 0 less)
-    ∙ (ap concat (map-append f (take i xs) (get_or xs i 0 ∷ []))
-    ∙ (concat-append (map f (take i xs)) (f (get_or xs i 0) ∷ [])
-    ∙ ap (λ l. concat (map f (take i xs)) ++ l) (append-nil (f (get_or xs i 0)))))
 
 pub nodes_place : (marks : List (Option Mark)) (regions : List Region) (name : ℕ)
     → position (λ n. n.name == name) (nodes_of marks regions) ≡ position (λ r. r.name == name) regions

@@ -1,5 +1,5 @@
 -- Outer nodes joined in a blossom.
-use Rattle.std.proofs.Common.{ℕ, ◌≡◌, ◌≤◌, ◌==◌, ◌&&◌, ◌||◌, ◌⊎◌, inl, inr, Bool, true, false, List, [], ◌∷◌, ◌++◌, length, map, Option, Some, None, refl, sym, ap, ◌∙◌, subst, arith, if◌then◌else◌}
+use Rattle.std.proofs.Common.{ℕ, ◌≡◌, ◌+◌, ◌≤◌, ◌==◌, ◌&&◌, ◌||◌, ◌⊎◌, inl, inr, Bool, true, false, List, [], ◌∷◌, ◌++◌, length, map, Option, Some, None, refl, sym, ap, ◌∙◌, subst, arith, if◌then◌else◌}
 use Rattle.std.specs.List.{All, concat}
 use Rattle.std.proofs.lemmas.Bool.{both_ways, false≢true, false_from_ne_true, eq-eqb, eqb-true, or_cases, or_parts}
 use Rattle.std.proofs.lemmas.List.{append-nil, length-append, map-append}
@@ -7,26 +7,32 @@ use Rattle.std.proofs.lemmas.List.Elements.{All-map, All-push}
 use Rattle.fb_graph.specs.Parity.{is_in}
 use Rattle.fb_graph.specs.Problem.{Problem}
 use Rattle.fb_graph.specs.Certificate.{total_value}
-use Rattle.fb_graph.specs.Dual.{Node, all_cuts, is_empty, is_live, is_outer, layers_of, top_at}
+use Rattle.fb_graph.specs.Dual.{Node, all_cuts, is_empty, is_live, is_outer, layers_of, leaves, top_at}
+use Rattle.fb_graph.specs.Limits.{IsWithinLimits}
 use Rattle.fb_graph.specs.Moves.{MayJoin, blossom, joined}
 use Rattle.fb_graph.specs.Nests.{IsNest}
 use Rattle.fb_graph.specs.SourceWalks.{HaveWalks}
 use Rattle.fb_graph.proofs.Among.{IsAmong, All_among, among_All, among_either, among_left, among_live, among_outer, among_right, cover_among, from_concat, in_concat, live_among, map_among, outer_among, top_among, top_left}
 use Rattle.fb_graph.proofs.InsertedCuts.{inserted_All}
 use Rattle.fb_graph.proofs.JoinedNests as joining
-use Rattle.fb_graph.proofs.NestParts.{names_live, top_holds}
-use Rattle.fb_graph.proofs.Sets.{is_in-All}
+use Rattle.fb_graph.proofs.NestParts.{names_live, top_holds, top_is_odd}
+use Rattle.fb_graph.proofs.Sets.{is_in-All, is_in-head}
 use Rattle.fb_graph.proofs.SourceWalks.{walks_joined}
 use Rattle.fb_regions.specs.declared.marks.Hop.{Hop}
 use Rattle.fb_regions.specs.declared.marks.Mark.{Mark}
 use Rattle.fb_regions.specs.declared.region.Region.{Region}
-use Rattle.fb_regions.specs.InternalNodes.{adopted, children_from, mark_of, node_of, nodes_of, radii_from}
+use Rattle.fb_regions.specs.InternalNodes.{added_to, adopted, chain, children_from, first_of, mark_of, node_of, nodes_of, radii_from}
 use Rattle.fb_regions.specs.InternalKept.{BeginsIn, HasMarks, HasParent, HaveParents, IsKept, IsMarked, is_lone}
+use Rattle.fb_regions.specs.InternalListings.{AreListed, BeginAlike, BeginsFirst, IsListed}
+use Rattle.fb_regions.specs.Moves.{BeginsWith}
+use Rattle.fb_regions.proofs.Begun.{StayBegun, all_begun}
 use Rattle.fb_regions.proofs.Found.{names_of}
+use Rattle.fb_regions.proofs.Listings.{begins_in, held_begins}
 use Rattle.fb_regions.proofs.Moved.{covered_in, in_top, marked_moved, some_cover, top_marks}
 use Rattle.fb_regions.proofs.Opened.{whole}
 use Rattle.fb_regions.proofs.Parents.{children_push, lone_push}
 use Rattle.fb_regions.proofs.Radii.{IsBare, MayAdopt, radii_adopted, radii_push}
+use Rattle.fb_regions.proofs.Readings.{odd_sized}
 use Rattle.fb_regions.proofs.Roots.{outer_alone}
 
 -- the nodes stay, whatever stands round them
@@ -90,6 +96,32 @@ adopted_radii marks names o rs h =
     ∙ (All_among (λ y. y.radius ≡ total_value (layers_of (node_of marks y))) rs h r a
     ∙ ap (λ n. total_value (layers_of n)) (sym (adopted_node marks names o r)))))
 
+same_first : (names : List ℕ) (o : Option ℕ) (r : Region) → (adopted names o r).first ≡ r.first
+same_first names o r = by (is_in names r.name)
+  where
+    by : (b : Bool) → (if b then record r { parent = o } else r).first ≡ r.first
+    by true = refl
+    by false = refl
+
+-- so do their lists
+pub adopted_lists : (marks : List (Option Mark)) (names : List ℕ) (o : Option ℕ) (rs : List Region) → AreListed marks rs
+    → AreListed marks (map (adopted names o) rs)
+adopted_lists marks names o rs h =
+    All-map (IsListed marks) (adopted names o) rs
+    (among_All (λ r. IsListed marks (adopted names o r)) rs (λ r a. by (is_in names r.name) r (All_among (IsListed marks) rs h r a)))
+  where
+    by : (b : Bool) (r : Region) → IsListed marks r → IsListed marks (if b then record r { parent = o } else r)
+    by true r is = record { first = is.first; whole = is.whole }
+    by false r is = is
+
+pub adopted_begun : (nodes : List Node) (names : List ℕ) (o : Option ℕ) (rs : List Region) → BeginAlike nodes rs
+    → BeginAlike nodes (map (adopted names o) rs)
+adopted_begun nodes names o rs h =
+    All-map (λ r. BeginsFirst nodes r.first r.children.items) (adopted names o) rs
+    (among_All (λ r. BeginsFirst nodes (adopted names o r).first (adopted names o r).children.items) rs
+    (λ r a.
+    rw (same_first names o r, same_children names o r) (All_among (λ s. BeginsFirst nodes s.first s.children.items) rs h r a)))
+
 children_last : (rs : List Region) (new : Region) → is_in (map (λ r. r.name) rs) new.name ≡ false → children_from (rs ++ new ∷ []) new.name ≡ new.children.items
 children_last [] new out = ap (λ b. if b then new.children.items else []) (eq-eqb new.name new.name refl)
 children_last (r ∷ rs) new out =
@@ -134,17 +166,19 @@ part-le f (x ∷ xs) c h = by (or_cases (x == c) (is_in xs c) h) (part-le f xs c
     by (inr e) rest = omega (arith, length-append (f x) (concat (map f xs)), rest e)
 
 -- the region of a new blossom
-pub record IsBlossomRegion (nodes : List Node) (name : ℕ) (children : List ℕ) (r : Region) : Type 0 where
+pub record IsBlossomRegion (marks : List (Option Mark)) (nodes : List Node) (name : ℕ) (children : List ℕ) (r : Region) : Type 0 where
   pub name_is : r.name ≡ name
   pub children_are : r.children.items ≡ children
   pub parent : r.parent ≡ None
-  pub first : r.first_set.items ≡ concat (map (top_at nodes) children)
+  pub begins : BeginsWith r.first (concat (map (top_at nodes) children))
+  pub first : first_of marks r ≡ concat (map (top_at nodes) children)
   pub added : r.added ≡ 0
+  pub last : r.last ≡ r.base_last
   pub value : r.top_value ≡ 0
   pub radius : r.radius ≡ 0
 
 module _ (p : Problem) (regions : List Region) (marks : List (Option Mark)) (kept : IsKept p regions marks) (name : ℕ) (children : List ℕ) (new : Region)
-    (is : IsBlossomRegion (nodes_of marks regions) name children new) (may : MayJoin (nodes_of marks regions) name children) where
+    (is : IsBlossomRegion marks (nodes_of marks regions) name children new) (may : MayJoin (nodes_of marks regions) name children) where
   abbrev nodes : List Node
   nodes = nodes_of marks regions
 
@@ -156,8 +190,8 @@ module _ (p : Problem) (regions : List Region) (marks : List (Option Mark)) (kep
 
   blossom_node : node_of marks new ≡ blossom name children nodes
   blossom_node =
-      ap (λ y. whole marks new.last y new.children.items new.first_set.items new.added new.top_value) is.name_is
-      ∙ (ap (λ y. whole marks new.last name y new.first_set.items new.added new.top_value) is.children_are
+      ap (λ y. whole marks new.last y new.children.items (first_of marks new) new.added new.top_value) is.name_is
+      ∙ (ap (λ y. whole marks new.last name y (first_of marks new) new.added new.top_value) is.children_are
       ∙ (ap (λ y. whole marks new.last name children y new.added new.top_value) is.first
       ∙ (ap (λ y. whole marks new.last name children (concat (map (top_at nodes) children)) y new.top_value) is.added
       ∙ (ap (λ y. whole marks new.last name children (concat (map (top_at nodes) children)) 0 y) is.value
@@ -246,6 +280,30 @@ module _ (p : Problem) (regions : List Region) (marks : List (Option Mark)) (kep
       (joining.height p nodes name children may kept.nest v) (radii_same m.leaf)
       (λ d h. ap (λ l. is_in l d) (joining.same_leaves p nodes name children may kept.nest) ∙ h) (λ s e. refl)
 
+  whole_list : chain marks (new.base + new.added) new.last ≡ first_of marks new ++ added_to marks new
+  whole_list =
+      let none : new.base + 0 ≡ new.base = omega arith in
+      ap (λ k. chain marks (new.base + k) new.last) is.added
+      ∙ (ap (λ k. chain marks k new.last) none
+      ∙ (ap (chain marks new.base) is.last
+      ∙ (sym (append-nil (first_of marks new)) ∙ ap (λ k. first_of marks new ++ chain marks k new.last) (sym is.added))))
+
+  -- the blossom begins as its first child
+  own_begins : (cs : List ℕ) → ((c : ℕ) → is_in cs c ≡ true → is_live nodes c ≡ true) → BeginsWith new.first (concat (map (top_at nodes) cs))
+      → BeginsFirst others new.first cs
+  own_begins [] live h = tt
+  own_begins (c ∷ cs) live h =
+      let here = live c (is_in-head c cs) in
+      let (n, a, named) = live_among nodes c here in
+      let (v, holds) = top_holds p nodes kept.nest n a in
+      let top : top_at nodes c ≡ n.top.vertices = ap (top_at nodes) (sym named) ∙ top_among nodes kept.nest.dual.names n a in
+      subst (BeginsWith new.first) (sym (top_left nodes (blossom name children nodes ∷ []) c here))
+      (held_begins new.first v (top_at nodes c) (concat (map (top_at nodes) cs)) (ap (λ s. is_in s v) top ∙ holds) h)
+
+  begun : StayBegun nodes others
+  begun u c h =
+      subst (BeginsWith u) (sym (top_left nodes (blossom name children nodes ∷ []) c (in_top nodes c u (begins_in u (top_at nodes c) h)))) h
+
   pub kept_joined : IsKept p regions' marks
   kept_joined = record {
     nest = subst (IsNest p) (sym joined_nodes) nest;
@@ -264,16 +322,23 @@ module _ (p : Problem) (regions : List Region) (marks : List (Option Mark)) (kep
         subst (λ ns. All (λ c. HasMarks marks c.vertices) (all_cuts ns)) (sym joined_nodes)
         (inserted_All (λ c. HasMarks marks c.vertices) (blossom name children nodes).top (all_cuts nodes) (all_cuts others)
         (joining.insertion p nodes name children may kept.nest) kept.sets own_set);
+    listed =
+        All-push (IsListed marks) (map (adopted children (Some name)) regions) new (adopted_lists marks children (Some name) regions kept.listed)
+        (record { first = subst (BeginsWith new.first) (sym is.first) is.begins; whole = whole_list });
+    begins =
+        subst (λ ns. BeginAlike ns regions') (sym joined_nodes)
+        (All-push (λ r. BeginsFirst others r.first r.children.items) (map (adopted children (Some name)) regions) new
+        (adopted_begun others children (Some name) regions (all_begun nodes others regions begun kept.begins))
+        (subst (BeginsFirst others new.first) (sym is.children_are)
+        (own_begins children (λ c h. is_in-All (λ x. is_live nodes x ≡ true) children may.live c h) is.begins)));
     marked = λ v m has. subst (λ ns. IsMarked p ns regions' marks v m) (sym joined_nodes) (marked v m has);
   }
 
--- a blossom holds a vertex
-pub some_first : (p : Problem) (regions : List Region) (marks : List (Option Mark)) → IsKept p regions marks → (name : ℕ) (children : List ℕ)
-    → MayJoin (nodes_of marks regions) name children → (l : List ℕ) → l ≡ concat (map (top_at (nodes_of marks regions)) children) → 1 ≤ length l
-some_first p regions marks kept name children may [] e =
+-- it has no more vertices than the problem
+pub blossom_sized : (p : Problem) (regions : List Region) (marks : List (Option Mark)) → IsKept p regions marks → IsWithinLimits p → (name : ℕ)
+    (children : List ℕ) → MayJoin (nodes_of marks regions) name children → length (concat (map (top_at (nodes_of marks regions)) children)) ≤ p.vertices
+blossom_sized p regions marks kept limits name children may =
     let nodes = nodes_of marks regions in
     let new = blossom name children nodes in
-    let (v, holds) =
-    top_holds p (joined name children nodes) (joining.nest_joined p nodes name children may kept.nest) new (among_right nodes (new ∷ []) new (inl refl)) in
-    absurd (false≢true (ap (λ l. is_in l v) e ∙ holds))
-some_first p regions marks kept name children may (v ∷ vs) e = omega arith
+    odd_sized p limits (leaves (joined name children nodes)) new.top
+    (top_is_odd p (joined name children nodes) (joining.nest_joined p nodes name children may kept.nest) new (among_right nodes (new ∷ []) new (inl refl)))

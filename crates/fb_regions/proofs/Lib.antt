@@ -3,14 +3,18 @@ pub mod Absorption
 pub mod Adopted
 pub mod Backward
 pub mod Begun
+pub mod Behind
 pub mod ByName
 pub mod ChainedWalks
 pub mod Chains
 pub mod Climbs
 pub mod Found
+pub mod Fronts
 pub mod Indexed
 pub mod Joined
 pub mod Leaves
+pub mod Linked
+pub mod Linking
 pub mod Listings
 pub mod Lowered
 pub mod Marking
@@ -31,4 +35,5 @@ pub mod SparseValues
 pub mod Split
 pub mod Stepped
 pub mod Stored
+pub mod Together
 pub mod Turned

@@ -1,6 +1,6 @@
 -- The lists of vertices that marks keep.
 use Rattle.std.proofs.Common.{ℕ, zero, suc, ◌≡◌, ◌+◌, ◌-◌, ◌≤◌, ◌==◌, true, List, [], ◌∷◌, ◌++◌, Option, refl, sym, ap, ◌∙◌, arith, subst}
-use Rattle.std.proofs.lemmas.Bool.{eq-eqb, or_left, or_right}
+use Rattle.std.proofs.lemmas.Bool.{eq-eqb, false≢true, or_left, or_right}
 use Rattle.std.proofs.lemmas.List.{append_assoc, append_cancel_right}
 use Rattle.fb_graph.specs.Parity.{is_in}
 use Rattle.fb_graph.proofs.Members.{is_in-append}
@@ -24,9 +24,18 @@ pub left_begins : (v w : ℕ) (xs ys : List ℕ) → BeginsWith w xs → BeginsW
 left_begins v w [] ys some begins = absurd some
 left_begins v w (x ∷ xs) ys some begins = begins
 
+pub held_begins : (v w : ℕ) (xs ys : List ℕ) → is_in xs w ≡ true → BeginsWith v (xs ++ ys) → BeginsWith v xs
+held_begins v w [] ys some begins = absurd (false≢true some)
+held_begins v w (x ∷ xs) ys some begins = begins
+
 pub same_first : (v w : ℕ) (vs : List ℕ) → BeginsWith v vs → BeginsWith w vs → v ≡ w
 same_first v w [] a b = absurd a
 same_first v w (u ∷ us) a b = sym a ∙ b
+
+-- a list of at least one vertex begins with some
+pub some_begin : (xs : List ℕ) (y : ℕ) → (w : ℕ) × BeginsWith w (xs ++ y ∷ [])
+some_begin [] y = (y, refl)
+some_begin (x ∷ xs) y = (x, refl)
 
 -- back from the last vertex of a list that begins with one, and further back from that one
 pub chain_append : (marks : List (Option Mark)) (n k v f : ℕ) → BeginsWith f (chain marks k v)
@@ -40,12 +49,8 @@ chain_append marks n (suc (suc k)) v f begins =
     ap (λ i. chain marks i v) e
     ∙ (ap (λ l. l ++ v ∷ [])
     (chain_append marks n (suc k) (before_of marks v) f
-    (left_begins f _ (chain marks (suc k) (before_of marks v)) (v ∷ []) (head_of (chain marks k (before_of marks (before_of marks v))) (before_of marks v)).1 begins))
+    (left_begins f _ (chain marks (suc k) (before_of marks v)) (v ∷ []) (some_begin (chain marks k (before_of marks (before_of marks v))) (before_of marks v)).1 begins))
     ∙ append_assoc (chain marks n (before_of marks f)) (chain marks (suc k) (before_of marks v)) (v ∷ []))
-  where
-    head_of : (xs : List ℕ) (y : ℕ) → (w : ℕ) × BeginsWith w (xs ++ y ∷ [])
-    head_of [] y = (y, refl)
-    head_of (x ∷ xs) y = (x, refl)
 
 -- where only the mark of some other vertex changes, the list stays
 pub listed_still : (marks other : List (Option Mark)) (r : Region) → IsListed marks r

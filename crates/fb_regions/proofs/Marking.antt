@@ -10,7 +10,7 @@ use Rattle.fb_graph.proofs.Members.{is_in-append}
 use Rattle.fb_graph.proofs.NestParts.{map_agree}
 use Rattle.fb_regions.specs.declared.marks.Mark.{Mark}
 use Rattle.fb_regions.specs.declared.region.Region.{Region}
-use Rattle.fb_regions.specs.InternalNodes.{added_to, before_in, first_of, mark_of, node_of, nodes_of, stack, under_in}
+use Rattle.fb_regions.specs.InternalNodes.{added_to, before_in, first_of, mark_of, node_of, nodes_of, stack, under_in, under_of}
 use Rattle.fb_regions.specs.InternalKept.{HasMarks}
 use Rattle.fb_regions.proofs.Chains.{chain_same, stack_same}
 
@@ -20,32 +20,34 @@ mark_new marks w o less = get_or-set_same marks w o None less
 pub mark_other : (marks : List (Option Mark)) (w v : ℕ) (o : Option Mark) → (v ≡ w → ⊥) → mark_of (set marks w o) v ≡ mark_of marks v
 mark_other marks w v o other = get_or-set_other marks w v o None other
 
+-- a node where its lists and the values of its layers are read alike
+pub node_read : (marks other : List (Option Mark)) (r : Region) → first_of other r ≡ first_of marks r → added_to other r ≡ added_to marks r
+    → ((u : ℕ) → is_in (added_to marks r) u ≡ true → under_of other u ≡ under_of marks u) → node_of other r ≡ node_of marks r
+node_read marks other r first added same =
+    ap (λ l. built l (added_to other r) (stack other l (added_to other r))) first
+    ∙ (ap (λ l. built (first_of marks r) l (stack other (first_of marks r) l)) added
+    ∙ ap (built (first_of marks r) (added_to marks r)) (stack_same marks other (first_of marks r) (added_to marks r) same))
+  where
+    built : List ℕ → List ℕ → List Cut → Node
+    built base l below = record {
+      name = r.name;
+      children = r.children.items;
+      below = below;
+      top = record { value = r.top_value; vertices = base ++ l };
+    }
+
 -- a node is read from the marks of its vertices
 pub node_same : (marks other : List (Option Mark)) (r : Region)
     → ((u : ℕ) → is_in (node_of marks r).top.vertices u ≡ true → mark_of other u ≡ mark_of marks u) → node_of other r ≡ node_of marks r
 node_same marks other r same =
-    ap (λ f. built f (added_to other r) (stack other f (added_to other r)))
-    (chain_same marks other r.base r.base_last (λ u h. ap before_in (same u (in_first u h))))
-    ∙ (ap (λ l. built (first_of marks r) l (stack other (first_of marks r) l))
-    (chain_same marks other r.added r.last (λ u h. ap before_in (same u (in_added u h))))
-    ∙ ap (built (first_of marks r) (added_to marks r))
-    (stack_same marks other (first_of marks r) (added_to marks r) (λ u h. ap under_in (same u (in_added u h)))))
+    node_read marks other r (chain_same marks other r.base r.base_last (λ u h. ap before_in (same u (in_first u h))))
+    (chain_same marks other r.added r.last (λ u h. ap before_in (same u (in_added u h)))) (λ u h. ap under_in (same u (in_added u h)))
   where
-    built : List ℕ → List ℕ → List Cut → Node
-    built f l below = record {
-      name = r.name;
-      children = r.children.items;
-      below = below;
-      top = record { value = r.top_value; vertices = f ++ l };
-    }
-
     in_first : (u : ℕ) → is_in (first_of marks r) u ≡ true → is_in (first_of marks r ++ added_to marks r) u ≡ true
-    in_first u h =
-        is_in-append (first_of marks r) (added_to marks r) u ∙ or_left (is_in (first_of marks r) u) (is_in (added_to marks r) u) h
+    in_first u h = is_in-append (first_of marks r) (added_to marks r) u ∙ or_left (is_in (first_of marks r) u) (is_in (added_to marks r) u) h
 
     in_added : (u : ℕ) → is_in (added_to marks r) u ≡ true → is_in (first_of marks r ++ added_to marks r) u ≡ true
-    in_added u h =
-        is_in-append (first_of marks r) (added_to marks r) u ∙ or_right (is_in (first_of marks r) u) (is_in (added_to marks r) u) h
+    in_added u h = is_in-append (first_of marks r) (added_to marks r) u ∙ or_right (is_in (first_of marks r) u) (is_in (added_to marks r) u) h
 
 -- so it stays where the mark of a vertex outside its sets changes
 pub node_still : (marks : List (Option Mark)) (r : Region) (w : ℕ) (o : Option Mark) → is_in (node_of marks r).top.vertices w ≡ false

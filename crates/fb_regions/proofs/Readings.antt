@@ -6,10 +6,10 @@ use Rattle.std.proofs.lemmas.List.{length-append}
 use Rattle.std.proofs.lemmas.List.FromFn.{length-range_with_len}
 use Rattle.std.proofs.lemmas.List.Elements.{All-head, All-tail}
 use Rattle.std.proofs.lemmas.List.Sums.{sum_by-cons}
-use Rattle.fb_graph.specs.Problem.{Problem}
+use Rattle.fb_graph.specs.Problem.{Problem, with_defects}
 use Rattle.fb_graph.specs.Parity.{is_in}
-use Rattle.fb_graph.specs.Certificate.{load_of, total_value}
-use Rattle.fb_graph.specs.Dual.{Node, all_cuts, cover_of, height_of, is_empty, layers_of}
+use Rattle.fb_graph.specs.Certificate.{IsOddCut, load_of, total_value}
+use Rattle.fb_graph.specs.Dual.{Node, all_cuts, cover_of, height_of, is_empty, layers_of, leaves}
 use Rattle.fb_graph.specs.declared.parts.Cut.{Cut}
 use Rattle.fb_graph.specs.declared.parts.Edge.{Edge}
 use Rattle.fb_graph.specs.Nests.{IsNest}
@@ -97,18 +97,23 @@ pub empty_as_length : (xs : List ℕ) → (length xs == 0) ≡ is_empty xs
 empty_as_length [] = refl
 empty_as_length (x ∷ xs) = ne_eqb (length (x ∷ xs)) 0 (λ e. omega arith)
 
+-- an odd cut has no more vertices than the problem
+pub odd_sized : (p : Problem) → IsWithinLimits p → (defects : List ℕ) (c : Cut) → IsOddCut (with_defects p defects) c → length c.vertices ≤ p.vertices
+odd_sized p limits defects c odd =
+    omega (
+      arith,
+      length-le_from_within c.vertices (range_with_len 0 p.vertices) odd.distinct
+          (distinct_from_rising (range_with_len 0 p.vertices) (range_rises 0 p.vertices))
+          (λ v h. is_in-range p.vertices v (limits.real_below v (is_in-All (λ u. p.is_real u ≡ true) c.vertices odd.real v h))),
+      length-range_with_len 0 p.vertices,
+    )
+
 -- a node has no more vertices than the problem
 pub sized : (p : Problem) (regions : List Region) (marks : List (Option Mark)) → IsKept p regions marks → IsWithinLimits p → (r : Region) → IsAmong r regions
     → length (node_of marks r).top.vertices ≤ p.vertices
 sized p regions marks kept limits r a =
-    let odd = top_is_odd p (nodes_of marks regions) kept.nest (node_of marks r) (map_among (node_of marks) regions r a) in
-    omega (
-      arith,
-      length-le_from_within (node_of marks r).top.vertices (range_with_len 0 p.vertices) odd.distinct
-          (distinct_from_rising (range_with_len 0 p.vertices) (range_rises 0 p.vertices))
-          (λ v h. is_in-range p.vertices v (limits.real_below v (is_in-All (λ u. p.is_real u ≡ true) (node_of marks r).top.vertices odd.real v h))),
-      length-range_with_len 0 p.vertices,
-    )
+    odd_sized p limits (leaves (nodes_of marks regions)) (node_of marks r).top
+    (top_is_odd p (nodes_of marks regions) kept.nest (node_of marks r) (map_among (node_of marks) regions r a))
 
 pub length-top : (marks : List (Option Mark)) (r : Region) → length (node_of marks r).top.vertices ≡ r.base + r.added
 length-top marks r =

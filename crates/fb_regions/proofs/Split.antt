@@ -16,16 +16,18 @@ use Rattle.fb_graph.specs.SourceWalks.{HaveWalks}
 use Rattle.fb_graph.proofs.Among.{IsAmong, All_among, among_All, among_outer, cover_among, from_concat, live_among, map_among, outer_among, same_among, top_among}
 use Rattle.fb_graph.proofs.InsertedCuts.{removed_All}
 use Rattle.fb_graph.proofs.Places.{among_split, split_among}
-use Rattle.fb_graph.proofs.Sets.{is_in-All}
+use Rattle.fb_graph.proofs.Sets.{is_in-All, is_in-head}
 use Rattle.fb_graph.proofs.SourceWalks.{walks_split}
 use Rattle.fb_graph.proofs.SplitNests as splitting
 use Rattle.fb_regions.specs.declared.marks.Mark.{Mark}
 use Rattle.fb_regions.specs.declared.region.Region.{Region}
 use Rattle.fb_regions.specs.InternalNodes.{adopted, children_from, mark_of, node_of, nodes_of, radii_from}
 use Rattle.fb_regions.specs.InternalKept.{HasMarks, HasParent, HaveParents, IsKept, IsMarked, is_lone}
+use Rattle.fb_regions.specs.InternalListings.{BeginAlike, BeginsFirst, IsListed}
+use Rattle.fb_regions.specs.Moves.{BeginsWith}
 use Rattle.fb_regions.proofs.ByName.{name_known}
 use Rattle.fb_regions.proofs.Found.{IsFound, found, names_of}
-use Rattle.fb_regions.proofs.Joined.{adopted_children, adopted_lone, adopted_nodes, adopted_radii}
+use Rattle.fb_regions.proofs.Joined.{adopted_begun, adopted_children, adopted_lists, adopted_lone, adopted_nodes, adopted_radii}
 use Rattle.fb_regions.proofs.Moved.{covered_in, marked_moved, some_cover}
 use Rattle.fb_regions.proofs.Radii.{IsBare, MayAdopt, radii_adopted, radii_removed}
 use Rattle.fb_regions.proofs.Roots.{joiner, outer_alone}
@@ -103,6 +105,19 @@ lone_node marks (r ∷ rs) x h = by (or_cases ((r.name == x) && is_empty r.child
         → ((r.name == x) || is_live (nodes_of marks rs) x) ≡ true
     by (inl e) rest = or_left (r.name == x) (is_live (nodes_of marks rs) x) (and_parts (r.name == x) (is_empty r.children.items) e).0
     by (inr e) rest = or_right (r.name == x) (is_live (nodes_of marks rs) x) (rest e)
+
+-- the set of a node that is left
+top_split : (nodes : List Node) (name c : ℕ) → (c ≡ name → ⊥) → top_at (split name nodes) c ≡ top_at nodes c
+top_split [] name c other = refl
+top_split (n ∷ ns) name c other = by (n.name == name) refl (top_split ns name c other)
+  where
+    by : (b : Bool) → (n.name == name) ≡ b → top_at (split name ns) c ≡ top_at ns c
+        → top_at (if not b then n ∷ split name ns else split name ns) c ≡ top_at (n ∷ ns) c
+    by false e rest = ap (λ l. if n.name == c then n.top.vertices else l) rest
+    by true e rest =
+        rest
+        ∙ sym (ap (λ b. if b then n.top.vertices else top_at ns c)
+        (false_from_ne_true (n.name == c) (λ k. other (sym (eqb-true n.name c k) ∙ eqb-true n.name name e))))
 
 module _ (p : Problem) (regions : List Region) (marks : List (Option Mark)) (kept : IsKept p regions marks) (name i : ℕ) (old : Region)
     (at : position (λ r. r.name == name) regions ≡ Some i) (is_old : old ≡ get_or regions i old) (may : MaySplit (nodes_of marks regions) name) where
@@ -282,6 +297,18 @@ module _ (p : Problem) (regions : List Region) (marks : List (Option Mark)) (kep
           let two : top_at others x ≡ n.top.vertices = ap (top_at others) (sym named) ∙ top_among others nest.dual.names n a in
           ap (λ s. is_in s d) two ∙ (ap (λ s. is_in s d) (sym one) ∙ h)
 
+  -- the blossom joins the nodes that are its children, and no node joins it
+  left_begins : (r : Region) → IsAmong r regions → (cs' : List ℕ) → ((c : ℕ) → is_in cs' c ≡ true → is_in r.children.items c ≡ true)
+      → BeginsFirst nodes r.first cs' → BeginsFirst others r.first cs'
+  left_begins r a [] some h = tt
+  left_begins r a (c ∷ cs') some h =
+      subst (BeginsWith r.first)
+      (sym (top_split nodes name c
+      (λ e.
+      both_ways (is_in r.children.items name) (outer_among nodes name may.outer (node_of marks r) (map_among (node_of marks) regions r a))
+      (ap (is_in r.children.items) (sym e) ∙ some c (is_in-head c cs')))))
+      h
+
   pub kept_split : IsKept p regions' marks
   kept_split = record {
     nest = subst (IsNest p) (sym split_nodes) nest;
@@ -295,5 +322,15 @@ module _ (p : Problem) (regions : List Region) (marks : List (Option Mark)) (kep
         subst (λ ns. All (λ c. HasMarks marks c.vertices) (all_cuts ns)) (sym split_nodes)
         (removed_All (λ c. HasMarks marks c.vertices) (splitting.at p nodes name may kept.nest).node.top (all_cuts others) (all_cuts nodes)
         (splitting.insertion p nodes name may kept.nest) kept.sets);
+    listed =
+        adopted_lists marks cs None (remove regions i)
+        (among_All (IsListed marks) (remove regions i) (λ r a. All_among (IsListed marks) regions kept.listed r (still_among regions i r a)));
+    begins =
+        subst (λ ns. BeginAlike ns regions') (sym split_nodes)
+        (adopted_begun others cs None (remove regions i)
+        (among_All (λ r. BeginsFirst others r.first r.children.items) (remove regions i)
+        (λ r a.
+        left_begins r (still_among regions i r a) r.children.items (λ c h. h)
+        (All_among (λ s. BeginsFirst nodes s.first s.children.items) regions kept.begins r (still_among regions i r a)))));
     marked = λ v m has. subst (λ ns. IsMarked p ns regions' marks v m) (sym split_nodes) (marked v m has);
   }

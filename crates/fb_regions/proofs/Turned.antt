@@ -103,7 +103,14 @@ module _ (p : Problem) (regions : List Region) (marks : List (Option Mark)) (kep
       (kept_stepped p regions marks kept limits (also_plus no_roles name) k
       (grown_turn p (nodes_of marks regions) kept.nest name k outer crossed room) i 0 k old (grown k old) is_old there.below
       (record {
-        name = refl; children = refl; parent = refl; first = refl; base = refl; base_last = refl; added = refl; last = refl;
+        name = refl;
+        children = refl;
+        parent = refl;
+        first = refl;
+        base = refl;
+        base_last = refl;
+        added = refl;
+        last = refl;
       }) own_outer (omega arith) radius
       (there.changed (grown k old) (thicker k) kept.nest.dual.names refl ∙ thicker_as_step name k (nodes_of marks regions)) counted uncounted)
 
@@ -127,8 +134,15 @@ module _ (p : Problem) (regions : List Region) (marks : List (Option Mark)) (kep
             let same = same_among (nodes_of marks regions) kept.nest.dual.names n (node_of marks old) a (map_among (node_of marks) regions old there.among) (named ∙ sym there.named) in
             omega (arith, most, ap (λ m. m.top.value) same)))
             i k 0 old (shrunk k old) is_old there.below (record {
-        name = refl; children = refl; parent = refl; first = refl; base = refl; base_last = refl; added = refl; last = refl;
-      }) own_outer (omega (arith, most, own)) radius
+              name = refl;
+              children = refl;
+              parent = refl;
+              first = refl;
+              base = refl;
+              base_last = refl;
+              added = refl;
+              last = refl;
+            }) own_outer (omega (arith, most, own)) radius
             (there.changed (shrunk k old) (thinner k) kept.nest.dual.names refl ∙ thinner_as_step name k (nodes_of marks regions)) uncounted counted),
         most,
         omega (arith, most, own),

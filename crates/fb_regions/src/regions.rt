@@ -182,6 +182,7 @@ impl<S: Scope> Regions<S> {
         ensures ok { OnOk result (self.new ≡ record { scope = self.old.scope; nodes = joined node children.now self.old.nodes }) }
         ensures err { OnErr result (self.new ≡ self.old) }
     {
+        self.scope.limits();
         let names = Vec::from_slice(alloc, children)?;
         self.regions.reserve(1)?;
         widen(&mut self.places, node)?;

@@ -4,5 +4,5 @@ use Rattle.fb_regions.proofs.region.layers.Given as goal
 
 abbrev pub invariant-loop-v : goal.invariant-loop-v
 invariant-loop-v l =
-    (l.set.items ≡ (first_of l.marks l.region) ++ take l.v-index l.v-items)
+    (l.set.items ≡ first_of l.marks l.region ++ take l.v-index l.v-items)
     × (l.layers.items ++ stack l.marks l.set.items (drop l.v-index l.v-items) ≡ stack l.marks (first_of l.marks l.region) l.v-items)

@@ -69,8 +69,7 @@ invariant_of-self g c =
     absorption _ _ _ c.self.invariant.0 c.args.edge c.step_over-step.result (rw (← c.self.view_is) at may) c.limits.ensures c.in-Some.mark c.in-Some-root_of.node c.in-Some-place_of.place
     c.index_mut-region.result.now (sym c.in-Some.ensures)
     (read_root c.self.inside.regions.items _ _ _ c.deref-2.ensures.value c.in-Some-root_of.ensures)
-    (read_place c.self.inside.regions.items _ _ _ _ c.self.invariant.1 c.deref-3.ensures.value c.in-Some-place_of.ensures) c.index_mut-region.ensures.value in
- (
+    (read_place c.self.inside.regions.items _ _ _ _ c.self.invariant.1 c.deref-3.ensures.value c.in-Some-place_of.ensures) c.index_mut-region.ensures.value in (
       rw c.put.ensures is.kept,
       index_changed _ _ _ c.in-Some-root_of.node c.in-Some-place_of.place c.index_mut-region.result.now _ c.self.invariant.1
           c.deref-3.ensures.value c.in-Some-place_of.ensures c.index_mut-region.ensures.value refl,

@@ -41,16 +41,16 @@ returns-clause-ok g c =
     (ap (λ ns. record { scope = c.self.inside.scope; nodes = ns })
     (opened_nodes _ _ _ c.self.invariant.0 c.args.node c.args.v _ _
     (record {
-            name_is = refl;
-            children = c.new.ensures.items;
-            parent = refl;
-            first = refl;
-            base = refl;
-            base_last = refl;
-            added = refl;
-            last = refl;
-            value = refl;
-            radius = refl;
-          })
+      name_is = refl;
+      children = c.new.ensures.items;
+      parent = refl;
+      first = refl;
+      base = refl;
+      base_last = refl;
+      added = refl;
+      last = refl;
+      value = refl;
+      radius = refl;
+    })
     (record { source = refl; leaf = refl; distance = refl; rank = refl; by = refl })
     (rw (← c.self.view_is) at c.requires.fresh) below (rw (← c.self.view_is) at c.requires.real) (rw (← c.self.view_is) at c.requires.uncovered)))
