@@ -45,7 +45,7 @@ top_changed P f (n ∷ ns) x names each h =
 abbrev pub StayBegun : List Node → List Node → Type 0
 StayBegun nodes others = (v c : ℕ) → BeginsWith v (top_at nodes c) → BeginsWith v (top_at others c)
 
-pub first_begun : (nodes others : List Node) (v : ℕ) (cs : List ℕ) → StayBegun nodes others → BeginsFirst nodes v cs → BeginsFirst others v cs
+first_begun : (nodes others : List Node) (v : ℕ) (cs : List ℕ) → StayBegun nodes others → BeginsFirst nodes v cs → BeginsFirst others v cs
 first_begun nodes others v [] still h = tt
 first_begun nodes others v (c ∷ cs) still h = still v c h
 
