@@ -1,6 +1,5 @@
 -- The lists of nodes, and with which vertex they begin, as nodes and marks change.
-use Rattle.std.proofs.Common.{ℕ, ◌≡◌, ◌<◌, ◌==◌, Bool, true, false, List, [], ◌∷◌, ◌++◌, length, set, get_or, Option, inl, inr, sym, ap, ◌∙◌, subst, refl, map, if◌then◌else◌}
-use Rattle.std.specs.List.{All}
+use Rattle.std.proofs.Common.{ℕ, ◌≡◌, ◌==◌, Bool, true, false, List, [], ◌∷◌, set, Option, inl, inr, sym, ap, ◌∙◌, subst, refl, map, if◌then◌else◌}
 use Rattle.std.proofs.lemmas.Bool.{both_ways}
 use Rattle.std.proofs.lemmas.List.Elements.{All-set}
 use Rattle.fb_graph.specs.Parity.{is_in}
