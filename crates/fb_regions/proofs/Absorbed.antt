@@ -61,25 +61,12 @@ taken m s r = record {
 }
 
 top_more : (name w x d : ℕ) (nodes : List Node) → is_in (top_at nodes x) d ≡ true → is_in (top_at (change_at name (taller w) nodes) x) d ≡ true
-top_more name w x d [] h = h
-top_more name w x d (n ∷ ns) h = by (n.name == name) (n.name == x) refl h (top_more name w x d ns)
-  where
-    by : (b c : Bool) → (n.name == x) ≡ c → is_in (if n.name == x then n.top.vertices else top_at ns x) d ≡ true
-        → (is_in (top_at ns x) d ≡ true → is_in (top_at (change_at name (taller w) ns) x) d ≡ true)
-        → is_in (if (if b then taller w n else n).name == x then (if b then taller w n else n).top.vertices else top_at (change_at name (taller w) ns) x) d ≡ true
-    by true true e k rest =
-        ap (λ c. is_in (if c then n.top.vertices ++ w ∷ [] else top_at (change_at name (taller w) ns) x) d) e
-        ∙ (is_in_push n.top.vertices w d
-        ∙ or_left (is_in n.top.vertices d) (w == d) (ap (λ c. is_in (if c then n.top.vertices else top_at ns x) d) (sym e) ∙ k))
-    by true false e k rest =
-        ap (λ c. is_in (if c then n.top.vertices ++ w ∷ [] else top_at (change_at name (taller w) ns) x) d) e
-        ∙ rest (ap (λ c. is_in (if c then n.top.vertices else top_at ns x) d) (sym e) ∙ k)
-    by false true e k rest =
-        ap (λ c. is_in (if c then n.top.vertices else top_at (change_at name (taller w) ns) x) d) e
-        ∙ (ap (λ c. is_in (if c then n.top.vertices else top_at ns x) d) (sym e) ∙ k)
-    by false false e k rest =
-        ap (λ c. is_in (if c then n.top.vertices else top_at (change_at name (taller w) ns) x) d) e
-        ∙ rest (ap (λ c. is_in (if c then n.top.vertices else top_at ns x) d) (sym e) ∙ k)
+top_more name w x d nodes h =
+    top_changed (λ s. is_in s d ≡ true) (change name (taller w)) nodes x (λ n. by_name (λ y. y.name ≡ n.name) name (taller w) n (λ _. refl) (λ _. refl))
+    (λ n a k.
+    by_name (λ y. is_in y.top.vertices d ≡ true) name (taller w) n
+    (λ _. is_in_push n.top.vertices w d ∙ or_left (is_in n.top.vertices d) (w == d) k) (λ _. k))
+    h
 
 -- the two ends in either order
 ends : (nodes : List Node) (e : Edge) → Leads e (inner_end nodes e) (outer_end nodes e)

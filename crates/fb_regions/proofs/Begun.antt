@@ -1,6 +1,5 @@
 -- The lists of nodes, and with which vertex they begin, as nodes and marks change.
-use Rattle.std.proofs.Common.{ℕ, ◌≡◌, ◌<◌, ◌==◌, Bool, true, false, List, [], ◌∷◌, ◌++◌, length, set, get_or, Option, inl, inr, sym, ap, ◌∙◌, subst, refl, map, if◌then◌else◌}
-use Rattle.std.specs.List.{All}
+use Rattle.std.proofs.Common.{ℕ, ◌≡◌, ◌==◌, Bool, true, false, List, [], ◌∷◌, set, Option, inl, inr, sym, ap, ◌∙◌, subst, refl, map, if◌then◌else◌}
 use Rattle.std.proofs.lemmas.Bool.{both_ways}
 use Rattle.std.proofs.lemmas.List.Elements.{All-set}
 use Rattle.fb_graph.specs.Parity.{is_in}
@@ -45,7 +44,7 @@ top_changed P f (n ∷ ns) x names each h =
 abbrev pub StayBegun : List Node → List Node → Type 0
 StayBegun nodes others = (v c : ℕ) → BeginsWith v (top_at nodes c) → BeginsWith v (top_at others c)
 
-pub first_begun : (nodes others : List Node) (v : ℕ) (cs : List ℕ) → StayBegun nodes others → BeginsFirst nodes v cs → BeginsFirst others v cs
+first_begun : (nodes others : List Node) (v : ℕ) (cs : List ℕ) → StayBegun nodes others → BeginsFirst nodes v cs → BeginsFirst others v cs
 first_begun nodes others v [] still h = tt
 first_begun nodes others v (c ∷ cs) still h = still v c h
 

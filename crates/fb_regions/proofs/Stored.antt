@@ -1,5 +1,5 @@
 -- Numbers that are stored in a list, with the place of each.
-use Rattle.std.proofs.Common.{ℕ, zero, suc, ◌≡◌, ◌+◌, ◌-◌, ◌≤◌, ◌<◌, ◌==◌, ◌&&◌, ◌⊎◌, inl, inr, Bool, true, false, not, ◌||◌, sum_by, subst, List, [], ◌∷◌, ◌++◌, length, length-append, get_or, set, take, All, refl, sym, ap, ◌∙◌, arith}
+use Rattle.std.proofs.Common.{ℕ, zero, suc, ◌≡◌, ◌+◌, ◌-◌, ◌≤◌, ◌<◌, ◌==◌, ◌&&◌, ◌⊎◌, inl, inr, Bool, true, false, not, ◌||◌, sum_by, subst, List, [], ◌∷◌, ◌++◌, length, length-append, get_or, set, All, refl, sym, ap, ◌∙◌, arith}
 use Rattle.std.proofs.lemmas.Bool.{both_ways, cases_eq, cases_lt, eq-eqb, eqb-true, false_from_ne_true}
 use Rattle.std.proofs.lemmas.List.{get_or-set_same, get_or-set_other, get_or-take, get_or_append_left, get_or_default, get_or_push, length-set, length-take-le}
 use Rattle.std.proofs.lemmas.List.Elements.{All-from_get_or, All-push}

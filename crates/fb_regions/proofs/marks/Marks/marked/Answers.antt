@@ -1,4 +1,4 @@
-use Rattle.std.proofs.Common.{◌≡◌, length, arith}
+use Rattle.std.proofs.Common.{arith}
 use Rattle.fb_regions.proofs.MarksIn.{length-marks, marked_keys}
 use Rattle.fb_regions.proofs.marks.Marks.marked.Goals as goal
 

@@ -1,4 +1,4 @@
-use Rattle.std.proofs.Common.{◌≡◌, ◌<◌, ◌∙◌, length, ap, arith}
+use Rattle.std.proofs.Common.{◌<◌, ◌∙◌, length, ap, arith}
 use Rattle.fb_regions.specs.InternalNodes.{marks_in}
 use Rattle.fb_regions.proofs.MarksIn.{length-marks, marks_entered}
 use Rattle.fb_regions.proofs.marks.Marks.put.Goals as goal

@@ -1,4 +1,4 @@
-use Rattle.std.proofs.Common.{sym, ◌≡◌, length, arith, refl, ap, ◌∙◌, None}
+use Rattle.std.proofs.Common.{sym, arith, refl, ap, None}
 use Rattle.fb_regions.proofs.Absorption.{absorption, may_absorb, no_mark, no_region, no_root}
 use Rattle.fb_regions.proofs.Indexed.{index_changed, joined_above}
 use Rattle.fb_regions.proofs.Found.{read_place, read_root}

@@ -1,4 +1,4 @@
-use Rattle.std.proofs.Common.{sym, ◌∙◌, ap, None}
+use Rattle.std.proofs.Common.{sym, ◌∙◌, ap}
 use Rattle.fb_regions.specs.InternalNodes.{root_from}
 use Rattle.fb_regions.proofs.Indexed.{joined_above}
 use Rattle.fb_regions.proofs.Readings.{cover_none, cover_some}

@@ -1,4 +1,4 @@
-use Rattle.std.proofs.Common.{sym, ◌∙◌, ap, arith, None}
+use Rattle.std.proofs.Common.{sym, ◌∙◌, ap, arith}
 use Rattle.fb_regions.specs.InternalNodes.{radii_from}
 use Rattle.fb_regions.proofs.Indexed.{joined_above}
 use Rattle.fb_regions.proofs.Readings.{no_height, potential, radii_fit}

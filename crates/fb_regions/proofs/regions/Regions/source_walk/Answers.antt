@@ -1,4 +1,4 @@
-use Rattle.std.proofs.Common.{sym, Some, None}
+use Rattle.std.proofs.Common.{sym}
 use Rattle.fb_regions.proofs.Backward.{back_end, back_more, back_smaller, back_start, back_within}
 use Rattle.fb_regions.proofs.ChainedWalks.{source_chained}
 use Rattle.fb_regions.proofs.regions.Regions.source_walk.Goals as goal

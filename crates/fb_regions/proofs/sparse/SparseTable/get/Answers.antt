@@ -1,5 +1,4 @@
-use Rattle.std.proofs.Common.{◌≡◌, ◌<◌, ◌∙◌, false, length, get_or, sym, ap, Some, arith}
-use Rattle.fb_graph.specs.Parity.{is_in}
+use Rattle.std.proofs.Common.{◌≡◌, ◌<◌, ◌∙◌, length, get_or, sym, ap, Some, arith}
 use Rattle.fb_regions.proofs.SparseValues.{value_at, value_none}
 use Rattle.fb_regions.proofs.Stored.{stored_distinct}
 use Rattle.fb_regions.proofs.sparse.SparseTable.get.Goals as goal

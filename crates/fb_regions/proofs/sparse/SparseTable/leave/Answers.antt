@@ -1,5 +1,4 @@
-use Rattle.std.proofs.Common.{◌≡◌, ◌+◌, ◌-◌, ◌≤◌, ◌<◌, false, length, get_or, ap, vec_capacity, arith}
-use Rattle.fb_graph.specs.Parity.{is_in}
+use Rattle.std.proofs.Common.{◌≡◌, ◌-◌, ◌<◌, length, get_or, ap, vec_capacity, arith}
 use Rattle.fb_regions.proofs.SparseValues.{value_absent, value_taken}
 use Rattle.fb_regions.proofs.Stored.{is_in_taken, length-swapped, rest_distinct, shorter_than_places, stored_distinct, stored_moved}
 use Rattle.fb_regions.proofs.sparse.SparseTable.leave.Goals as goal

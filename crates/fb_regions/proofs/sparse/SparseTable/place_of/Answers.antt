@@ -1,4 +1,4 @@
-use Rattle.std.proofs.Common.{◌≡◌, ◌∙◌, get_or, ap, sym, arith, length}
+use Rattle.std.proofs.Common.{◌≡◌, ◌∙◌, get_or, ap, arith, length}
 use Rattle.fb_regions.proofs.Stored.{absent_elsewhere, absent_past}
 use Rattle.fb_regions.proofs.sparse.SparseTable.place_of.Goals as goal
 
