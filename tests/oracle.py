@@ -12,7 +12,7 @@ Run as a program, it judges rows and texts whose answers are known, and fails wh
 import sys
 
 sys.dont_write_bytecode = True
-from readers import RECORDS, Refused, read_graph, read_report, read_shots
+from readers import RECORDS, Refused, read_graph, read_plan, read_report, read_shots
 
 MOST_TRIED_EDGES = 12
 MOST_TRIED_VERTICES = 100
@@ -170,8 +170,9 @@ def complaint(graph, defects, row, least):
     return None
 
 
-def report_complaints(graph, shots, is_whole, text):
-    """What is wrong with a report of shots; where it isn't whole, it ends after their rows."""
+def report_complaints(graph, shots, is_whole, text, items=(1, 0)):
+    """What is wrong with a report of shots; where it isn't whole, it ends after their rows. `items` are how many units and
+    fusions each correction counts."""
     odd = sum(odd_component(graph, defects) is not None for defects in shots)
     last = b"" if is_whole else b"done %d odd %d units 0 fusions 0\n" % (len(shots), odd)
     try:
@@ -185,7 +186,7 @@ def report_complaints(graph, shots, is_whole, text):
     found = [complaint(graph, defects, row, least) for defects, row in zip(shots, report.rows)]
     complaints = [f"shot {k}: {wrong}" for k, wrong in enumerate(found) if wrong]
     best = sum(row[0] == "best" for row in report.rows)
-    if is_whole and (report.units, report.fusions) != (best, 0):
+    if is_whole and (report.units, report.fusions) != (best * items[0], best * items[1]):
         complaints.append(f"units {report.units} fusions {report.fusions}")
     return complaints
 
@@ -217,7 +218,8 @@ OPTIONS = {
     "decode": ["--graph", "--shots", "--format"],
     "check": ["--graph", "--shots", "--format", "--report"],
 }
-NAMES = ["--graph", "--shots", "--report"]
+FREE = {"decode": ["--plan"], "check": []}
+NAMES = ["--graph", "--plan", "--shots", "--report"]
 
 
 class Usage(Exception):
@@ -241,10 +243,10 @@ def read_words(words):
             if not rest or (rest[0].startswith("-") and rest[0] != "-"):
                 raise Usage(None)
             value = rest.pop(0)
-        if name not in OPTIONS[command] or name in options:
+        if name not in OPTIONS[command] + FREE[command] or name in options:
             raise Usage(None)
         options[name] = value
-    if len(options) < len(OPTIONS[command]):
+    if any(name not in options for name in OPTIONS[command]):
         raise Usage(None)
     if options["--format"] not in RECORDS:
         raise Usage(b"fusion: unknown format\n")
@@ -288,10 +290,14 @@ def refusal(fault):
 
 def decode_complaints(options, files, answer):
     graph = read_graph(opened(files, options["--graph"]))
+    items = (1, 0)
+    if "--plan" in options:
+        plan = read_plan(opened(files, options["--plan"]), graph)
+        items = (plan.units, plan.fusions)
     if options["--shots"] not in files:
         return differences(answer, b"fusion-report 1\n", b"fusion: read fault\n", 3)
     shots, fault = read_shots(options["--format"], files[options["--shots"]], graph)
-    complaints = report_complaints(graph, shots, fault is None, answer.stdout)
+    complaints = report_complaints(graph, shots, fault is None, answer.stdout, items)
     stderr = refusal(fault) if fault else b""
     status = 2 if fault else decode_status(graph, shots)
     return complaints + differences(answer, answer.stdout, stderr, status)

@@ -1,4 +1,4 @@
-"""Reads graphs, shots and reports, each by a plain walk over its whole text, or names the first rule that it breaks.
+"""Reads graphs, plans, shots and reports, each by a plain walk over its whole text, or names the first rule that it breaks.
 
 Nothing here is shared with the program. JSON is RFC 8259; the shots are those of Stim's result formats `01`, `b8` and
 `dets`, and Fusion Blossom's syndromes, a JSON value to a line; the report is the text of docs/reports.md.
@@ -10,11 +10,13 @@ import re
 from collections import namedtuple
 
 MOST_GRAPH_BYTES = 2**28
+MOST_PLAN_BYTES = 2**28
 MOST_LINE_BYTES = 2**28
 MOST_REPORT_BYTES = 2**30
 MOST_VERTICES = 1_048_576
 MOST_EDGES = 4_194_304
 MOST_WEIGHT = 2**30
+MOST_UNITS = 4096
 MOST_NESTING = 127
 
 
@@ -180,6 +182,88 @@ def build_graph(vertices, edges, virtuals):
             raise Refused(f"VirtualRepeated {i}")
         seen.add(vertex)
     return Graph(vertices, [tuple(edge) for edge in edges], sorted(virtuals))
+
+
+# The plan.
+
+# How many units and fusions it has; owners are the node that owns each real vertex, parents that of each node but the root.
+Plan = namedtuple("Plan", "units fusions owners parents")
+
+
+def are_ranges(value):
+    return isinstance(value, list) and all(
+        isinstance(pair, list) and len(pair) == 2 and all(is_count(end) for end in pair) for pair in value
+    )
+
+
+def is_fusion(value):
+    if not isinstance(value, dict) or "of" not in value or "interface" not in value:
+        return False
+    children = value["of"]
+    is_pair = isinstance(children, list) and len(children) == 2 and all(is_count(child) for child in children)
+    return is_pair and are_ranges(value["interface"])
+
+
+def read_plan(text, graph):
+    """The plan of the graph that a text is."""
+    if len(text) > MOST_PLAN_BYTES:
+        raise Refused("TooLong plan")
+    value = read_json(text)
+    for member in ["units", "fusions"]:
+        if not isinstance(value, dict) or member not in value:
+            raise Refused(f"Missing {member}")
+    for member in ["units", "fusions"]:
+        if not isinstance(value[member], list):
+            raise Refused(f"NotWhole {member}")
+    for member, is_right in [("units", are_ranges), ("fusions", is_fusion)]:
+        for i, part in enumerate(value[member]):
+            if not is_right(part):
+                raise Refused(f"NotWhole {member} {i}")
+    return build_plan(graph, value["units"], value["fusions"])
+
+
+def build_plan(graph, units, fusions):
+    """The plan of these ranges and fusions."""
+    if len(units) > MOST_UNITS:
+        raise Refused("TooManyUnits")
+    claims = units + [fusion["interface"] for fusion in fusions]
+    for node, owned in enumerate(claims):
+        if any(start > end or end > graph.vertices for start, end in owned):
+            raise Refused(f"BadRange {node}")
+    owners = {v: [] for v in detectors(graph)}
+    for node, owned in enumerate(claims):
+        for start, end in owned:
+            for v in range(start, end):
+                if v in owners:
+                    owners[v].append(node)
+    for name, is_wrong in [("VertexUnowned", lambda count: count == 0), ("VertexTwice", lambda count: count > 1)]:
+        for v, nodes in owners.items():
+            if is_wrong(len(nodes)):
+                raise Refused(f"{name} {v}")
+    for i, fusion in enumerate(fusions):
+        if any(child >= len(units) + i for child in fusion["of"]):
+            raise Refused(f"ChildOutOfRange {i}")
+    parents = {}
+    for i, fusion in enumerate(fusions):
+        for child in fusion["of"]:
+            if child in parents:
+                raise Refused(f"ChildUsedTwice {i}")
+            parents[child] = len(units) + i
+    if len(units) != len(fusions) + 1:
+        raise Refused("NotOneRoot")
+    plan = Plan(len(units), len(fusions), {v: nodes[0] for v, nodes in owners.items()}, parents)
+    for e, (u, v, _) in enumerate(graph.edges):
+        if u in plan.owners and v in plan.owners and not are_related(plan, plan.owners[u], plan.owners[v]):
+            raise Refused(f"EdgeAcross {e}")
+    return plan
+
+
+def are_related(plan, a, b):
+    """Whether the one node is the other or above it."""
+    low, high = sorted([a, b])
+    while low < high and low in plan.parents:
+        low = plan.parents[low]
+    return low == high
 
 
 # The shots.
