@@ -1,14 +1,16 @@
 -- What a solved part gives the calls of its row.
-use Rattle.std.proofs.Common.{◌≡◌, inl, inr, ℕ, ◌==◌, ◌||◌, Bool, true, false, List, [], ◌∷◌, map, flat_map, All, AllPairs, Option, Some, None, is_some, refl, sym, ◌∙◌, ap, subst}
+use Rattle.std.proofs.Common.{◌≡◌, inl, inr, ℕ, ◌==◌, ◌||◌, Bool, true, false, List, [], ◌∷◌, map, filter, cond, flat_map, All, AllPairs, Option, Some, None, is_some, refl, sym, ◌∙◌, ap, subst}
 use Rattle.std.specs.List.Sorted.{IsStrictlyIncreasing}
 use Rattle.std.proofs.lemmas.Bool.{both_ways, cases_Bool, eq-eqb, or_left, or_right}
 use Rattle.std.proofs.lemmas.List.Elements.{All-append}
 use Rattle.std.proofs.lemmas.List.Folds.{list_any-append}
+use Rattle.std.proofs.lemmas.List.Kept.{AllPairs-filter}
+use Rattle.std.specs.List.{AllZip}
 use Rattle.fb_graph.specs.Parity.{is_in, is_odd_count}
 use Rattle.fb_graph.specs.Answers.{IsRight}
 use Rattle.fb_graph.specs.Certificate.{AreRising, total_value}
 use Rattle.fb_graph.specs.Limits.{problem_of}
-use Rattle.fb_graph.specs.Printed.{DifferAsSets, HasPositiveCuts}
+use Rattle.fb_graph.specs.Printed.{DifferAsSets, HasPositiveCuts, IsResorted, is_positive}
 use Rattle.fb_graph.specs.Dual.{Node, all_cuts}
 use Rattle.fb_graph.specs.Dual as dual
 use Rattle.fb_graph.specs.declared.parts.Cut.{Cut}
@@ -21,6 +23,8 @@ use Rattle.fb_links.specs.Table.{walk_at}
 use Rattle.fb_blossoms.specs.Nodes.{IsNested, cycle_of, is_live, node_at}
 use Rattle.fb_blossoms.specs.Nodes as blossoms
 use Rattle.fb_laws.specs.OpenedLinks.{place_of}
+use Rattle.fb_laws.specs.Works.{positive_cuts}
+use Rattle.fb_laws.proofs.HalvesKept.{positive_total}
 use Rattle.fb_laws.proofs.OpenedParts.{flat_among}
 use Rattle.fb_half.specs.Translations.{children_at, ring_at, ring_links}
 use Rattle.fb_half.specs.Matchings.{match_links}
@@ -108,24 +112,46 @@ ids_live w links ids list part l e f =
     (all_numbers (λ id. table.is_live w.links id ≡ true) w.links w.store (match_links w.matching.matches) (map (λ n. n.name) w.nodes)
     (matches_live w part) (rings_live w w.store w.links part refl refl)))
 
-pub cuts_differ : (w : PartValue) (nodes : List Node) (cuts : List Cut) → IsPart w → nodes ≡ w.nodes → cuts ≡ all_cuts nodes
-    → AllPairs DifferAsSets cuts
-cuts_differ w nodes cuts part n e = subst (AllPairs DifferAsSets) (sym (e ∙ ap all_cuts n)) part.state.work.nest.differ
+pub cuts_differ : (w : PartValue) (nodes : List Node) (cuts : List Cut) → IsPart w → nodes ≡ w.nodes
+    → cuts ≡ positive_cuts nodes → AllPairs DifferAsSets cuts
+cuts_differ w nodes cuts part n e =
+    subst (AllPairs DifferAsSets) (sym (e ∙ ap positive_cuts n))
+    (AllPairs-filter DifferAsSets is_positive (all_cuts w.nodes) part.state.work.nest.differ)
+
+-- the cuts of positive value among those of positive value are these
+positive_twice : (cuts : List Cut) → filter is_positive (filter is_positive cuts) ≡ filter is_positive cuts
+positive_twice [] = refl
+positive_twice (c ∷ cs) = step (is_positive c) refl
+  where
+    step : (b : Bool) → is_positive c ≡ b
+        → filter is_positive (cond b (c ∷ filter is_positive cs) (filter is_positive cs)) ≡ cond b (c ∷ filter is_positive cs) (filter is_positive cs)
+    step true is =
+        ap (λ b. cond b (c ∷ filter is_positive (filter is_positive cs)) (filter is_positive (filter is_positive cs))) is
+        ∙ ap (λ (k : List Cut). c ∷ k) (positive_twice cs)
+    step false is = positive_twice cs
+
+-- what has the cuts of positive value of these has those of all
+positive_of_all : (cuts printed : List Cut) → HasPositiveCuts (filter is_positive cuts) printed → HasPositiveCuts cuts printed
+positive_of_all cuts printed has = record {
+  resorted = has.resorted;
+  each = subst (λ (k : List Cut). AllZip IsResorted k has.resorted) (positive_twice cuts) has.each;
+  moved = has.moved;
+}
 
 pub right_row : (w : PartValue) (nodes : List Node) (links : List (Option (List Step))) (ids list edges ones : List ℕ) (cuts printed cut_list : List Cut) (weight : ℕ) → IsPart w → IsNested w.store
     → w.node ≡ root_of w.job.plan → w.matching.unmatched ≡ [] → nodes ≡ w.nodes → links ≡ w.links → list ≡ ids → ids ≡ numbers_of w
-    → edges ≡ flat_map (λ id. map (λ s. s.edge) (walk_at links id)) list → cuts ≡ all_cuts nodes
+    → edges ≡ flat_map (λ id. map (λ s. s.edge) (walk_at links id)) list → cuts ≡ positive_cuts nodes
     → IsStrictlyIncreasing ones → ((test : ℕ → Bool) → is_odd_count test ones ≡ is_odd_count test edges)
     → HasPositiveCuts cuts printed → AreRising printed → cut_list ≡ cuts → weight ≡ total_value cut_list
     → IsRight (problem_of w.job.graph (shot_of w)) (Best ones weight printed)
 right_row w nodes links ids list edges ones cuts printed cut_list weight part nested root matched n l e f walked c rising parity positive in_order same total =
-    let whole : cuts ≡ all_cuts w.nodes = c ∙ ap all_cuts n in
+    let whole : cuts ≡ positive_cuts w.nodes = c ∙ ap positive_cuts n in
     let edges_are : edges ≡ flat_map (λ id. map (λ s. s.edge) (walk_at w.links id)) (numbers_of w) =
     walked
     ∙ (ap (λ (k : List (Option (List Step))). flat_map (λ id. map (λ s. s.edge) (walk_at k id)) list) l
     ∙ ap (flat_map (λ id. map (λ s. s.edge) (walk_at w.links id))) (e ∙ f)) in
     subst (λ (k : ℕ). IsRight (problem_of w.job.graph (shot_of w)) (Best ones k printed))
-    (sym (total ∙ ap total_value (same ∙ whole)))
+    (sym (total ∙ (ap total_value (same ∙ whole) ∙ positive_total w.nodes)))
     (root_right opened_by_number w ones printed part nested root matched rising
     (λ k. parity (λ j. j == k) ∙ ap (is_odd_count (λ j. j == k)) edges_are)
-    (subst (λ (d : List Cut). HasPositiveCuts d printed) whole positive) in_order)
+    (positive_of_all (all_cuts w.nodes) printed (subst (λ (d : List Cut). HasPositiveCuts d printed) whole positive)) in_order)
