@@ -1,10 +1,13 @@
 -- How faulty words end a run.
-use Rattle.std.proofs.Common.{◌≡◌, ◌≢◌, ◌⊎◌, inl, inr, Result, Ok, Err, Some, refl, sym, subst}
+use Rattle.std.proofs.Common.{◌≡◌, ◌≢◌, ◌⊎◌, inl, inr, ℕ, List, Option, Result, Ok, Err, None, Some, refl, sym, subst}
 use Rattle.std.proofs.KnownBytes.{Appends-nil}
+use Rattle.fb_graph.specs.Limits.{DecodingGraph}
+use Rattle.fb_plan.specs.Plans.{PlanTree, single_of}
+use Rattle.fb_run.specs.Endings.{EndsByPlan, EndsOn}
 use Rattle.fb_run.specs.Moments.{Moment}
 use Rattle.fb_run.specs.RunEndings.{EndsRight, ErrandEnds, cause_of_fault}
 use Rattle.fb_words.specs.Seen.{IsFaultOf, usage_of}
-use Rattle.fb_words.specs.Words.{Errand, check, decode}
+use Rattle.fb_words.specs.Words.{Decoding, Errand, check, decode}
 use Rattle.fb_endings.specs.declared.ending.Cause.{Cause}
 use Rattle.fb_endings.specs.declared.ending.Cause.TheVariants.{NoMemory, Usage, WriteFault}
 use Rattle.fb_words.specs.declared.usage.UsageKind.{UsageKind}
@@ -37,13 +40,23 @@ no_usage : (kind : UsageKind) {P : Type 0} → (Usage kind ≡ WriteFault) ⊎ (
 no_usage kind (inl e) = absurd cc
 no_usage kind (inr e) = absurd cc
 
+never_on : (decoding : Decoding) (g : DecodingGraph) (t : PlanTree) (before after : Moment) (kind : UsageKind)
+    → EndsOn decoding g t before after (Usage kind) → ⊥
+never_on decoding g t before after kind (inl in_text) = no_usage kind in_text.ends
+never_on decoding g t before after kind (inr at_shots) = at_shots.1
+
+never_by_plan : (plan : Option (List ℕ)) (decoding : Decoding) (g : DecodingGraph) (before after : Moment) (kind : UsageKind)
+    → EndsByPlan plan decoding g before after (Usage kind) → ⊥
+never_by_plan None decoding g before after kind ends = never_on decoding g (single_of g) before after kind ends
+never_by_plan (Some name) decoding g before after kind (inl none) = none
+never_by_plan (Some name) decoding g before after kind (inr with_plan) =
+    never_on decoding g with_plan.t with_plan.read after kind with_plan.ends
+
 -- an errand that was read never ends by faulty words
 never_usage : (errand : Errand) (before after : Moment) (kind : UsageKind) → ErrandEnds errand before after (Usage kind) → ⊥
 never_usage (decode decoding) before after kind (inl none) = none
-never_usage (decode decoding) before after kind (inr with_graph) = elim with_graph.ends [
-  | inl in_text ↦ no_usage kind in_text.ends
-  | inr at_shots ↦ at_shots.1
-]
+never_usage (decode decoding) before after kind (inr with_graph) =
+    never_by_plan decoding.plan decoding with_graph.g with_graph.read after kind with_graph.ends
 never_usage (check checking) before after kind (inl none) = none
 never_usage (check checking) before after kind (inr with_graph) = elim with_graph.ends [
   | inl none ↦ none

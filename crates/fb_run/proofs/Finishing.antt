@@ -3,6 +3,7 @@ use Rattle.std.proofs.Common.{◌≡◌, ℕ, ◌==◌, ◌⊎◌, inl, inr, Boo
 use Rattle.std.proofs.KnownBytes.{Appends-trans, Appends-nil}
 use Rattle.std.proofs.lemmas.Slice.Zip.{AllZip-long}
 use Rattle.fb_graph.specs.Limits.{DecodingGraph}
+use Rattle.fb_plan.specs.Plans.{PlanTree}
 use Rattle.fb_ports.specs.Causes.{Appends, AppendsFront}
 use Rattle.fb_ports.proofs.Onward.{front_first, front_second}
 use Rattle.fb_report.specs.Texts.{head_text, rows_text}
@@ -25,13 +26,13 @@ holds_more None name P Q more held = tt
 holds_more (Some f) name P Q more (text, e, p) = (text, e, more text p)
 
 -- a report ends as one that was read to its end only if its shots were
-pub report_to_end : (ended : ShotsEnd) (rows : ℕ) (counts : Counts) (old new : Option (List ℕ)) (cause : Cause) → EndsReport ended rows counts old new cause
-    → IsReadToItsEnd cause → ended ≡ end.End
-report_to_end end.End rows counts old new cause ends reads = refl
-report_to_end (end.Refused fault) rows counts old new cause (same, is) reads = absurd (subst IsReadToItsEnd is reads)
-report_to_end end.ReadFault rows counts old new cause (same, is) reads = absurd (subst IsReadToItsEnd is reads)
+pub report_to_end : (t : PlanTree) (ended : ShotsEnd) (rows : ℕ) (counts : Counts) (old new : Option (List ℕ)) (cause : Cause)
+    → EndsReport t ended rows counts old new cause → IsReadToItsEnd cause → ended ≡ end.End
+report_to_end t end.End rows counts old new cause ends reads = refl
+report_to_end t (end.Refused fault) rows counts old new cause (same, is) reads = absurd (subst IsReadToItsEnd is reads)
+report_to_end t end.ReadFault rows counts old new cause (same, is) reads = absurd (subst IsReadToItsEnd is reads)
 
-module _ (named : Named) (errand : Decoding) (g : DecodingGraph) where
+module _ (named : Named) (errand : Decoding) (g : DecodingGraph) (t : PlanTree) where
   -- the shots that were gathered are none, or the first of the file's
   abbrev FirstShots : List (List ℕ) → Type 0
   FirstShots shots = (shots ≡ []) ⊎ Holds named errand.shots (HasFirstShots errand.format g shots)
@@ -58,7 +59,7 @@ module _ (named : Named) (errand : Decoding) (g : DecodingGraph) where
       (λ text p. (others ++ p.0, p.1 ∙ ap (λ xs. xs ++ p.0) parts ∙ append_assoc (shot ∷ first) others p.0)) held)
 
   -- a fault before any row
-  pub front_of_head : (old new : Option (List ℕ)) → AppendsFront old new head_text → WritesFront named errand g old new
+  pub front_of_head : (old new : Option (List ℕ)) → AppendsFront old new head_text → WritesFront named errand g t old new
   front_of_head old new front = record {
     shots = [];
     input = inl refl;
@@ -67,16 +68,16 @@ module _ (named : Named) (errand : Decoding) (g : DecodingGraph) where
     written = inl (front_first old new head_text [] front);
   }
 
-  pub front_of_nothing : (old : Option (List ℕ)) → WritesFront named errand g old old
+  pub front_of_nothing : (old : Option (List ℕ)) → WritesFront named errand g t old old
   front_of_nothing old = front_of_head old old ([], head_text, refl, Appends-nil old)
 
   -- want of memory after the head
-  pub front_after_head : (old new : Option (List ℕ)) → Appends old new head_text → WritesFront named errand g old new
+  pub front_after_head : (old new : Option (List ℕ)) → Appends old new head_text → WritesFront named errand g t old new
   front_after_head old new all = front_of_head old new (head_text, [], sym (append-nil head_text), all)
 
   -- a fault while the rows are written
   pub front_of_rows : (left old mid new : Option (List ℕ)) (shots : List (List ℕ)) (ended : ShotsEnd) → Appends old mid head_text
-      → Gathers named errand.shots errand.format g left shots ended → WritesFirstRows g shots mid new → WritesFront named errand g old new
+      → Gathers named errand.shots errand.format g left shots ended → WritesFirstRows g shots mid new → WritesFront named errand g t old new
   front_of_rows left old mid new shots ended head gathered wrote = record {
     shots = wrote.first;
     input = first_of_first shots wrote.first wrote.others wrote.parts (first_gathered left shots ended gathered);
@@ -86,28 +87,28 @@ module _ (named : Named) (errand : Decoding) (g : DecodingGraph) where
   }
 
   -- by a decode of all shots
-  ends_by : (left old new : Option (List ℕ)) (counts : Counts) (cause : Cause) → cause ≡ cause_of counts → WritesReport named errand g old new cause
-      → RowsEnd named errand g left old new cause
+  ends_by : (left old new : Option (List ℕ)) (counts : Counts) (cause : Cause) → cause ≡ cause_of counts → WritesReport named errand g t old new cause
+      → RowsEnd named errand g t left old new cause
   ends_by left old new counts cause e wrote = by_odd (counts.odd == 0) e
     where
-      by_odd : (no_odd : Bool) → cause ≡ (if no_odd then Done else Odd) → RowsEnd named errand g left old new cause
+      by_odd : (no_odd : Bool) → cause ≡ (if no_odd then Done else Odd) → RowsEnd named errand g t left old new cause
       by_odd true is = rw is (rw is at wrote)
       by_odd false is = rw is (rw is at wrote)
 
   pub ends_on : (left old mid last new : Option (List ℕ)) (shots : List (List ℕ)) (ended : ShotsEnd) (count : ℕ) (tally : Tally) (cause : Cause)
       → count ≡ length shots → Appends old mid head_text → Gathers named errand.shots errand.format g left shots ended → WritesRows g shots mid last tally
-      → EndsReport ended count (counts_in tally) last new cause → RowsEnd named errand g left old new cause
+      → EndsReport t ended count (counts_in tally) last new cause → RowsEnd named errand g t left old new cause
   ends_on left old mid last new shots ended count tally cause many head gathered wrote report = go ended gathered report
     where
       front : Appends old last (report_front wrote.rows)
       front = Appends-trans old mid last head_text (rows_text 0 wrote.rows) head wrote.written
 
-      same_line : last_line count (counts_in tally) ≡ last_line (length wrote.rows) (counts_of wrote.rows)
-      same_line = ap (λ n. last_line n (counts_in tally)) (many ∙ sym (AllZip-long (IsShotRow g) shots wrote.rows wrote.answers))
-          ∙ ap (λ c. last_line (length wrote.rows) c) wrote.counts
+      same_line : last_line t count (counts_in tally) ≡ last_line t (length wrote.rows) (counts_of wrote.rows)
+      same_line = ap (λ n. last_line t n (counts_in tally)) (many ∙ sym (AllZip-long (IsShotRow g) shots wrote.rows wrote.answers))
+          ∙ ap (λ c. last_line t (length wrote.rows) c) wrote.counts
 
-      go : (e : ShotsEnd) → Gathers named errand.shots errand.format g left shots e → EndsReport e count (counts_in tally) last new cause
-          → RowsEnd named errand g left old new cause
+      go : (e : ShotsEnd) → Gathers named errand.shots errand.format g left shots e → EndsReport t e count (counts_in tally) last new cause
+          → RowsEnd named errand g t left old new cause
       go end.End held (inl (all, is)) = ends_by left old new (counts_in tally) cause is (record {
         shots = shots;
         input = held;

@@ -139,3 +139,8 @@ module _ (g : DecodingGraph) (shots : List (List ℕ)) (start : Option (List ℕ
     written = subst (Appends start after) writing.text (Appends-trans start now after writing.flushed pending writing.appended appended);
     counts = writing.counts;
   }
+
+-- no more corrections than shots
+pub best_within : (g : DecodingGraph) (shots : List (List ℕ)) (start now : Option (List ℕ)) (pending : List ℕ) (count : ℕ) (tally : Tally)
+    → IsWriting g shots start now pending count tally → tally.best ≤ length shots
+best_within g shots start now pending count tally writing = omega (arith, writing.within, writing.few)

@@ -91,6 +91,7 @@ pub fn write_rows<O: Sink>(
     requires shots { All (IsShot solver.old) shots.now }
     requires few { length shots.now < 2 ^ 32 }
     ensures rows { IfOk result (WritesRows solver.old shots.now (O.taken out.old) (O.taken out.new)) }
+    ensures counts { IfOk result (λ tally. tally.best ≤ length shots.now) }
     ensures front { OnErr result (WritesFirstRows solver.old shots.now (O.taken out.old) (O.taken out.new)) }
     ensures fault { result ≡ Err RowsFault.WriteFault → Rose (O.faults out.old) (O.faults out.new) }
     ensures later { O.faults out.old ≤ O.faults out.new }

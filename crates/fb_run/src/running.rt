@@ -249,13 +249,7 @@ fn decode_by<F: Files, O: Sink>(
 }
 
 /// Ends the report of so many rows by the plan: by its last line where the shots were read to their end.
-fn end_report<O: Sink>(
-    plan: &Plan,
-    end: ShotsEnd,
-    rows: u64,
-    tally: Tally,
-    out: &mut O,
-) -> Cause
+fn end_report<O: Sink>(plan: &Plan, end: ShotsEnd, rows: u64, tally: Tally, out: &mut O) -> Cause
     requires few { tally.best < 2 ^ 32 }
     ensures end { EndsReport plan.now end rows (counts_in tally) (O.taken out.old) (O.taken out.new) result }
     ensures write_fault { result ≡ Cause.WriteFault → Rose (O.faults out.old) (O.faults out.new) }

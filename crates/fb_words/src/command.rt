@@ -85,7 +85,9 @@ fn plan<'a>(alloc: Global) -> Arg<'a>
     Arg::new(alloc, "plan")
         .long("plan")
         .value_name("NAME")
-        .help("A plan by which the graph is solved in parts, in JSON; without one it is solved whole")
+        .help(
+            "A plan by which the graph is solved in parts, in JSON; without one it is solved whole",
+        )
         .action(ArgAction::Set)
 }
 

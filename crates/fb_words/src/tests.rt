@@ -14,24 +14,34 @@ fn words_of(alloc: Global, line: &str) -> Result<Vec<String>, Fail> {
 
 #[test]
 fn decode_reads_its_options(rt: HostRuntime) -> Result<(), Fail> {
-    for (line, graph, shots, format) in [
+    for (line, graph, plan, shots, format) in [
         (
             "fusion decode --graph g --shots s --format 01",
             "g",
+            None,
             "s",
             Format::Text01,
         ),
         (
             "fusion decode --format b8 --shots - --graph g",
             "g",
+            None,
             "-",
             Format::B8,
         ),
         (
             "fusion decode --graph=g --shots=s --format=dets",
             "g",
+            None,
             "s",
             Format::Dets,
+        ),
+        (
+            "fusion decode --plan p --graph g --shots s --format 01",
+            "g",
+            Some("p"),
+            "s",
+            Format::Text01,
         ),
     ] {
         let words = words_of(rt.alloc(), line)?;
@@ -39,7 +49,7 @@ fn decode_reads_its_options(rt: HostRuntime) -> Result<(), Fail> {
             return Err(Fail::from("no errand"));
         };
         assert!(rt;
-            decoding.graph == graph && decoding.shots == shots,
+            decoding.graph == graph && decoding.plan == plan && decoding.shots == shots,
             "{line}"
         );
         assert_eq!(rt; decoding.format, format, "{line}");

@@ -99,6 +99,7 @@ fn read_errand<'a>(matches: &ArgMatches<'a>) -> Result<Errand<'a>, WordsFault>
 }
 
 /// The errand of the command `decode` with these options.
+#[tactic(auto, using(crate::proofs::Commands::rows))]
 fn read_decoding<'a>(options: &ArgMatches<'a>) -> Result<Errand<'a>, WordsFault>
     ensures errand { IfOk result (λ e. decoding_of (rows_of (found_of options.now)) ≡ Ok (seen e)) }
     ensures fault { IfErr result (IsFaultOf (decoding_of (rows_of (found_of options.now)))) }

@@ -1,5 +1,5 @@
 use Rattle.std.proofs.Common.{◌≡◌, ◌+◌, length, sym, ap, subst, ◌∙◌, refl, arith}
-use Rattle.fb_run.proofs.Writing.{IsWriting, writing_begins, writing_row, writing_moved, first_so_far, first_at_fault, all_at_end}
+use Rattle.fb_run.proofs.Writing.{IsWriting, writing_begins, writing_row, writing_moved, first_so_far, first_at_fault, all_at_end, best_within}
 use Rattle.fb_graph.specs.Limits.{DecodingGraph, IsShot}
 use Rattle.fb_run.specs.Rows.{IsShotRow}
 use Rattle.fb_run.specs.Writes.{counted}
@@ -58,3 +58,7 @@ returns-clause-rows g c =
     let whole : c.loop-k.k ≡ length c.args.shots.now = omega (arith, c.loop-k-test.false, c.loop-k.auto.k-end) in
     all_at_end c.args.solver.now c.args.shots.now (g.O.Sink.taken c.args.out.now) (g.O.Sink.taken c.loop-k.out) (g.O.Sink.taken c.flush.new.out)
     c.loop-k.outbox.text c.loop-k.k c.loop-k.tally whole c.loop-k.invariant.0 c.in-Ok-flush.ensures.ok
+
+pub returns-clause-counts : goal.returns-clause-counts
+returns-clause-counts g c = best_within c.args.solver.now c.args.shots.now (g.O.Sink.taken c.args.out.now) (g.O.Sink.taken c.loop-k.out)
+    c.loop-k.outbox.text c.loop-k.k c.loop-k.tally c.loop-k.invariant.0
