@@ -1,5 +1,5 @@
--- What the faults of a graph's text, of a plan, of a report and of shots are called on standard error, and where they stand: a word, a number,
--- both or neither.
+-- What the faults of a graph's text, of a plan, of a report and of shots are called on standard error, and where they
+-- stand: a word, a number, both or neither.
 use Rattle.std.specs.Prelude.{ℕ, List, codes, Option, Some, None}
 use Rattle.fb_graph.specs.declared.faults.GraphFault.{GraphFault}
 use Rattle.fb_graph.specs.declared.faults.GraphFault.TheVariants as rule

@@ -140,8 +140,8 @@ fn refuse_words<E: Sink>(fault: &WordsFault, err: &mut E) -> Cause
     }
 }
 
-/// Decodes the shots of the files that are named: the graph is read and judged, the head is written, the shots are read,
-/// and their rows are written.
+/// Decodes the shots of the files that are named: the graph is read and judged, and then the plan, if one is named; the
+/// head is written, the shots are read, and their rows are written.
 fn decode<F: Files, O: Sink>(
     alloc: Global,
     errand: &Decoding<'_>,
