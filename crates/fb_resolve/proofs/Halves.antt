@@ -1,5 +1,5 @@
 -- What a solved part gives the calls of its row.
-use Rattle.std.proofs.Common.{◌≡◌, inl, inr, ℕ, ◌==◌, ◌||◌, Bool, true, false, List, [], ◌∷◌, map, filter, cond, flat_map, All, AllPairs, Option, Some, None, is_some, refl, sym, ◌∙◌, ap, subst}
+use Rattle.std.proofs.Common.{◌≡◌, ◌≤◌, ◌^◌, inl, inr, ℕ, ◌==◌, ◌||◌, Bool, true, false, List, [], ◌∷◌, map, filter, cond, flat_map, All, AllPairs, Option, Some, None, is_some, refl, sym, ◌∙◌, ap, subst}
 use Rattle.std.specs.List.Sorted.{IsStrictlyIncreasing}
 use Rattle.std.proofs.lemmas.Bool.{both_ways, cases_Bool, eq-eqb, or_left, or_right}
 use Rattle.std.proofs.lemmas.List.Elements.{All-append}
@@ -118,17 +118,23 @@ cuts_differ w nodes cuts part n e =
     subst (AllPairs DifferAsSets) (sym (e ∙ ap positive_cuts n))
     (AllPairs-filter DifferAsSets is_positive (all_cuts w.nodes) part.state.work.nest.differ)
 
+pub cuts_fit : (w : PartValue) (nodes : List Node) (cuts list : List Cut) → IsPart w → nodes ≡ w.nodes
+    → cuts ≡ positive_cuts nodes → list ≡ cuts → total_value list ≤ 2 ^ 52
+cuts_fit w nodes cuts list part n e same =
+    subst (λ (k : ℕ). k ≤ 2 ^ 52) (sym (ap total_value (same ∙ (e ∙ ap positive_cuts n)) ∙ positive_total w.nodes))
+    part.state.work.nest.dual.total
+
 -- the cuts of positive value among those of positive value are these
 positive_twice : (cuts : List Cut) → filter is_positive (filter is_positive cuts) ≡ filter is_positive cuts
 positive_twice [] = refl
-positive_twice (c ∷ cs) = step (is_positive c) refl
+positive_twice (c ∷ cs) = step (is_positive c) refl (positive_twice cs)
   where
-    step : (b : Bool) → is_positive c ≡ b
+    step : (b : Bool) → is_positive c ≡ b → filter is_positive (filter is_positive cs) ≡ filter is_positive cs
         → filter is_positive (cond b (c ∷ filter is_positive cs) (filter is_positive cs)) ≡ cond b (c ∷ filter is_positive cs) (filter is_positive cs)
-    step true is =
+    step true is twice =
         ap (λ b. cond b (c ∷ filter is_positive (filter is_positive cs)) (filter is_positive (filter is_positive cs))) is
-        ∙ ap (λ (k : List Cut). c ∷ k) (positive_twice cs)
-    step false is = positive_twice cs
+        ∙ ap (λ (k : List Cut). c ∷ k) twice
+    step false is twice = twice
 
 -- what has the cuts of positive value of these has those of all
 positive_of_all : (cuts printed : List Cut) → HasPositiveCuts (filter is_positive cuts) printed → HasPositiveCuts cuts printed

@@ -1,6 +1,6 @@
 use Rattle.std.proofs.Common.{◌∙◌, subst}
 use Rattle.fb_blossoms.specs.Nodes.{IsNested}
-use Rattle.fb_resolve.proofs.Halves.{cuts_differ, ids_live, ids_read, names_cover, right_row, rings_live}
+use Rattle.fb_resolve.proofs.Halves.{cuts_differ, cuts_fit, ids_live, ids_read, names_cover, right_row, rings_live}
 use Rattle.fb_resolve.proofs.rows.resolve.Goals as goal
 
 pub opened-requires-clause-names : goal.opened-requires-clause-names
@@ -22,11 +22,16 @@ pub printed_cuts-requires : goal.printed_cuts-requires
 printed_cuts-requires c =
     cuts_differ c.args.half.now c.regions-2.result.now.nodes c.in_ok-cuts.cuts.items c.keeps.ensures.part c.regions-2.ensures.nodes c.in_ok-cuts.ensures
 
+pub total_of-weight-requires : goal.total_of-weight-requires
+total_of-weight-requires c =
+    cuts_fit c.args.half.now c.regions-2.result.now.nodes c.in_ok-cuts.cuts.items c.deref-3.result.now c.keeps.ensures.part c.regions-2.ensures.nodes
+    c.in_ok-cuts.ensures c.deref-3.ensures.value
+
 pub returns : goal.returns
 returns c =
     right_row c.args.half.now c.regions-2.result.now.nodes c.links-2.result.now c.in_ok-ids.ids.items c.deref-2.result.now c.in_ok-edges.edges.items c.odd_ones.result
-    c.in_ok-cuts.cuts.items c.printed_cuts.result c.deref-4.result.now c.total_of-weight.result c.keeps.ensures.part
+    c.in_ok-cuts.cuts.items c.printed_cuts.result c.deref-3.result.now c.total_of-weight.result c.keeps.ensures.part
     (subst IsNested c.blossoms.ensures c.keeps-2.ensures) c.requires c.keeps.ensures.matched c.regions-2.ensures.nodes c.links-2.ensures c.deref-2.ensures.value
     (ids_read c.args.half.now c.blossoms-2.result.now c.links.result.now c.regions.result.now.nodes c.matches.result.now c.deref.result.now c.in_ok-ids.ids.items
     record { store_is = c.blossoms-2.ensures; links_are = c.links.ensures; nodes_are = c.regions.ensures.nodes; matches_are = c.matches.ensures; names_are = c.deref.ensures.value ∙ c.in_ok-names.ensures; ids_are = c.in_ok-ids.ensures })
-    c.in_ok-edges.ensures c.in_ok-cuts.ensures c.odd_ones.ensures.rising c.odd_ones.ensures.parity c.printed_cuts.ensures.kept c.printed_cuts.ensures.rising c.deref-4.ensures.value c.total_of-weight.ensures
+    c.in_ok-edges.ensures c.in_ok-cuts.ensures c.odd_ones.ensures.rising c.odd_ones.ensures.parity c.printed_cuts.ensures.kept c.printed_cuts.ensures.rising c.deref-3.ensures.value c.total_of-weight.ensures
