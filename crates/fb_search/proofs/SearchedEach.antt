@@ -1,15 +1,15 @@
 -- Searches of a part, one after another.
-use Rattle.std.proofs.Common.{ℕ, ◌≡◌, ◌==◌, ◌||◌, ◌+◌, ◌<◌, Bool, true, false, not, List, [], length, take, get_or, refl, sym, ap, ◌∙◌}
+use Rattle.std.proofs.Common.{ℕ, ◌≡◌, ◌==◌, ◌||◌, ◌+◌, ◌<◌, Bool, true, false, not, List, [], ◌∷◌, length, take, get_or, refl, sym, ap, ◌∙◌}
 use Rattle.std.proofs.lemmas.Bool.{and_parts, both_ways, eqb-true, not-true}
 use Rattle.std.proofs.lemmas.List.{take_more}
 use Rattle.fb_graph.specs.Parity.{is_in}
 use Rattle.fb_graph.proofs.Members.{is_in_push}
-use Rattle.fb_graph.proofs.Sets.{equal_sym, is_in-filter}
+use Rattle.fb_graph.proofs.Sets.{equal_sym, is_in-filter, is_in-head}
 use Rattle.fb_laws.specs.Works.{without}
 use Rattle.fb_laws.proofs.StateMoves.{kept_without}
 use Rattle.fb_half.specs.Parts.{PartValue, problem_in}
 use Rattle.fb_search.specs.InternalRuns.{HasSearched}
-use Rattle.fb_search.specs.Progress.{IsSearched}
+use Rattle.fb_search.specs.Progress.{HasSearchedEach, IsSearched}
 use Rattle.fb_search.proofs.Runs.{same_problem}
 
 -- a list without a name doesn't hold it
@@ -65,3 +65,17 @@ pub same_room : (now after : PartValue) (root before room : ℕ) → IsSearched 
     → before ≡ length (problem_in now).edges → room ≡ before → room ≡ length (problem_in after).edges
 same_room now after root before room is old same =
     same ∙ (old ∙ ap (λ p. length p.edges) (sym (same_problem now after is.part)))
+
+-- a list that holds no number is empty
+none_left : (xs : List ℕ) → ((n : ℕ) → is_in xs n ≡ true → ⊥) → xs ≡ []
+none_left [] none = refl
+none_left (x ∷ xs) none = absurd (none x (is_in-head x xs))
+
+-- Where each unmatched node is among the roots, none is unmatched afterwards.
+pub all_matched : (before after : PartValue) (roots : List ℕ) (old new : ℕ) → HasSearchedEach before roots old new after
+    → ((n : ℕ) → is_in before.matching.unmatched n ≡ true → is_in roots n ≡ true) → after.matching.unmatched ≡ []
+all_matched before after roots old new searched all =
+    none_left after.matching.unmatched
+    (λ n left.
+    let was = searched.matched n left in
+    both_ways (is_in roots n) was.1 (all n was.0))

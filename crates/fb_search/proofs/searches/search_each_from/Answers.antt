@@ -34,8 +34,14 @@ loop-root-preserved g c =
           )
     ]
 
-pub returns-clause-matched : goal.returns-clause-matched
-returns-clause-matched g c =
-    λ n there.
-    let was = c.loop-root.invariant.0.matched n there in
-    (was.0, ap (λ l. is_in l n) (sym (take_all c.loop-root.root-index c.args.roots.now c.loop-root-test.false)) ∙ was.1)
+pub returns-clause-searched : goal.returns-clause-searched
+returns-clause-searched g c = record {
+  part = c.loop-root.invariant.0.part;
+  matched = λ n there.
+      let was = c.loop-root.invariant.0.matched n there in
+      (was.0, ap (λ l. is_in l n) (sym (take_all c.loop-root.root-index c.args.roots.now c.loop-root-test.false)) ∙ was.1);
+  kept = c.loop-root.invariant.0.kept;
+  steps = c.loop-root.invariant.3;
+  each = c.loop-root.invariant.4;
+  few = omega (arith, c.loop-root.invariant.5);
+}
