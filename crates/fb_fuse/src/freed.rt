@@ -9,10 +9,13 @@ pub fn freed_count(half: &Half, node: u32) -> u32
     ensures { result ≡ length (freed_in half.now node) }
 {
     half.keeps();
+    half.job().graph().limits();
     let plan = half.job().plan();
+    let links = half.links();
+    links.keeps();
     let mut count = 0;
     for m in half.matching().matches() {
-        if leads_to_seam(half.links(), *m, plan, node) {
+        if leads_to_seam(links, *m, plan, node) {
             count += 1;
         }
     }

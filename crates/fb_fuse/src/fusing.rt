@@ -1,4 +1,4 @@
-ghost use Rattle.std.specs.Prelude.{◌≡◌, ◌+◌, ◌*◌, ◌≤◌, ◌<◌, IfOk, Some, length, map};
+ghost use Rattle.std.specs.Prelude.{◌≡◌, ◌+◌, ◌*◌, ◌≤◌, ◌<◌, IfOk, Some, length};
 ghost use Rattle.std.specs.List.Sorted.{IsPermutation};
 ghost use Rattle.fb_half.specs.Merged.{freed_in, seam_defects};
 ghost use Rattle.fb_half.specs.Parts.{IsPartOf};
@@ -28,12 +28,12 @@ pub fn fuse<'a, L: Ledger>(
     requires right { right.job ≡ job.now }
     requires slot { left.slot ≡ right.slot }
     requires children { children_of job.now.plan node ≡ Some (left.node, right.node) }
-    ensures half { IfOk result (IsPartOf job.now left.slot node) }
+    ensures half { IfOk result (IsPartOf job.now left.entry.slot node) }
     ensures never_falls { steps.old ≤ steps.new }
     ensures most { IfOk result (λ half. steps.new ≤ steps.old
-        + (length (freed_in left node) + length (freed_in right node) + length (seam_defects job.now left.slot node))) }
-    ensures least { IfOk result (λ half. (length (freed_in left node) + length (freed_in right node)
-        + length (seam_defects job.now left.slot node)) + 2 * steps.old ≤ 2 * steps.new) }
+        + (length (freed_in left.entry node) + length (freed_in right.entry node) + length (seam_defects job.now left.entry.slot node))) }
+    ensures least { IfOk result (λ half. (length (freed_in left.entry node) + length (freed_in right.entry node)
+        + length (seam_defects job.now left.entry.slot node)) + 2 * steps.old ≤ 2 * steps.new) }
 {
     let watch = Watch::new(alloc, &Whole(job.graph()))?;
     let (half, _watch) = fuse_from(alloc, job, node, left, right, watch, steps)?;
@@ -55,13 +55,13 @@ pub fn fuse_from<'a, L: Ledger>(
     requires slot { left.slot ≡ right.slot }
     requires children { children_of job.now.plan node ≡ Some (left.node, right.node) }
     requires room { watch.edge_count ≡ length job.now.graph.edges }
-    ensures half { IfOk result (λ r. IsPartOf job.now left.slot node r.0) }
+    ensures half { IfOk result (λ r. IsPartOf job.now left.entry.slot node r.0) }
     ensures room { IfOk result (λ r. r.1.edge_count ≡ watch.edge_count) }
     ensures never_falls { steps.old ≤ steps.new }
     ensures most { IfOk result (λ r. steps.new ≤ steps.old
-        + (length (freed_in left node) + length (freed_in right node) + length (seam_defects job.now left.slot node))) }
-    ensures least { IfOk result (λ r. (length (freed_in left node) + length (freed_in right node)
-        + length (seam_defects job.now left.slot node)) + 2 * steps.old ≤ 2 * steps.new) }
+        + (length (freed_in left.entry node) + length (freed_in right.entry node) + length (seam_defects job.now left.entry.slot node))) }
+    ensures least { IfOk result (λ r. (length (freed_in left.entry node) + length (freed_in right.entry node)
+        + length (seam_defects job.now left.entry.slot node)) + 2 * steps.old ≤ 2 * steps.new) }
 {
     let work = Work::merge(alloc, job, node, left, right)?;
     let roots = roots_of(alloc, &work)?;
@@ -69,19 +69,30 @@ pub fn fuse_from<'a, L: Ledger>(
     Ok((work.close(), watch))
 }
 
+/// An unmatched node, and the first of its vertices.
+#[derive(Clone, Copy)]
+struct Root {
+    node: NodeId,
+    vertex: u32,
+}
+
 /// The unmatched nodes of a part, in rising order of their first vertices.
 fn roots_of(alloc: Global, work: &Work) -> Result<Vec<NodeId>, NoMemory>
     ensures { IfOk result (λ roots. IsPermutation work.now.matching.unmatched roots.items) }
 {
     work.keeps();
-    let mut placed = Vec::new(alloc);
-    for name in work.unmatched() {
-        placed.push((work.regions().first_vertex(*name), *name))?;
+    let mut found = Vec::new(alloc);
+    for node in work.unmatched() {
+        let vertex = work.regions().first_vertex(*node);
+        found.push(Root {
+            node: *node,
+            vertex,
+        })?;
     }
-    placed.sort_unstable();
+    found.sort_unstable_by_key(|root| root.vertex);
     let mut roots = Vec::new(alloc);
-    for (_vertex, name) in &placed {
-        roots.push(*name)?;
+    for root in &found {
+        roots.push(root.node)?;
     }
     Ok(roots)
 }

@@ -23,10 +23,10 @@ use Rattle.fb_half.specs.Parts.{AreLinksOf, IsPart, PartValue, kept_links, probl
 use Rattle.fb_half.specs.Translations.{children_at, cycles_by, link_by, ring_at, ring_links}
 use Rattle.fb_half.proofs.Begun.{held_in, leaf_cycle, leaf_live, live_leaves, outer_leaves, sprout_names, sprout_nodes, sprout_values, sprout_vertices, sprouts_by}
 
-same_function : {X Y : Type 0} (f g : X → Y) → ((x : X) → f x ≡ g x) → f ≡ g
+pub same_function : {X Y : Type 0} (f g : X → Y) → ((x : X) → f x ≡ g x) → f ≡ g
 same_function f g h = λ i x. h x i
 
-sprout_real : (P : ℕ → Type 0) (names defects : List ℕ) → All P defects → All (λ s. P s.vertex) (sprouts_by names defects)
+pub sprout_real : (P : ℕ → Type 0) (names defects : List ℕ) → All P defects → All (λ s. P s.vertex) (sprouts_by names defects)
 sprout_real P [] defects all = All-nil (λ s. P s.vertex)
 sprout_real P (name ∷ names) [] all = All-nil (λ s. P s.vertex)
 sprout_real P (name ∷ names) (v ∷ defects) all =
@@ -42,7 +42,7 @@ none_flat : {X : Type 0} (f : X → List ℕ) → ((x : X) → f x ≡ []) → (
 none_flat f h [] = refl
 none_flat f h (x ∷ xs) = ap (λ l. l ++ flat_map f xs) (h x) ∙ none_flat f h xs
 
-kept_real : (test : ℕ → Bool) (xs : List ℕ) → All (λ v. test v ≡ true) (filter test xs)
+pub kept_real : (test : ℕ → Bool) (xs : List ℕ) → All (λ v. test v ≡ true) (filter test xs)
 kept_real test xs =
     All-from_is_in (λ v. test v ≡ true) (filter test xs) (λ v within. second (is_in xs v) (test v) (sym (is_in-filter test xs v) ∙ within))
   where

@@ -1,6 +1,7 @@
 pub mod Agreements
 pub mod Beginnings
 pub mod InternalBeginnings
+pub mod InternalSeams
 pub mod InternalStandings
 pub mod Matchings
 pub mod Merged

@@ -1,5 +1,5 @@
 -- The part of a fusion as it begins, made of its children's solved parts (Wu and Zhong 2023).
-use Rattle.std.specs.Prelude.{ℕ, ◌≡◌, ◌==◌, ◌&&◌, ◌||◌, Bool, true, false, not, List, [], ◌++◌, map, filter, length, get_or, Option, Some, None}
+use Rattle.std.specs.Prelude.{ℕ, ◌≡◌, ◌<◌, ◌==◌, ◌&&◌, ◌||◌, Bool, true, false, not, List, [], ◌++◌, map, filter, length, get_or, Option, Some, None}
 use Rattle.std.specs.List.Sorted.{IsPermutation}
 use Rattle.fb_graph.specs.Laws.{Link}
 use Rattle.fb_graph.specs.Parity.{is_in}
@@ -12,6 +12,10 @@ use Rattle.fb_half.specs.Beginnings.{leaves_by}
 use Rattle.fb_half.specs.Matchings.{match_links}
 use Rattle.fb_half.specs.Parts.{PartValue}
 use Rattle.fb_half.specs.Translations.{link_by, ring_links}
+
+-- both ends of the link are vertices of the plan
+abbrev pub IsPlanned : PlanTree → Link → Type 0
+IsPlanned t l = (l.from < length t.owners) × (l.to < length t.owners)
 
 abbrev pub is_node : ℕ → Option ℕ → Bool
 is_node n None = false

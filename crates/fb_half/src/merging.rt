@@ -1,8 +1,19 @@
 //! How the solved parts of two children become their parent's part.
 
-ghost use Rattle.std.specs.Prelude.{◌≡◌, ◌++◌, map, filter, All, IfOk, OnOk};
+ghost use Rattle.std.specs.Prelude.{◌≡◌, ◌≢◌, ◌<◌, ◌++◌, ℕ, true, false, nat_eq, length, map, filter, drop, All, IfOk, OnOk, Some, None, []};
+ghost use Rattle.std.specs.HashMap.{get};
+ghost use Rattle.fb_graph.specs.Certificate.{AreDistinct};
+ghost use Rattle.fb_graph.specs.Dual.{cover_of, is_live as is_node};
+ghost use Rattle.fb_graph.specs.Parity.{is_in};
+ghost use Rattle.fb_plan.specs.Plans.{problem_at};
+ghost use Rattle.fb_links.specs.Names.{name_by, named_by};
 ghost use Rattle.fb_links.specs.Table.{is_live};
-ghost use Rattle.fb_half.specs.Merged.{leads_to_seam};
+ghost use Rattle.fb_blossoms.specs.Nodes as blossoms;
+ghost use Rattle.fb_half.specs.InternalSeams.{IsBeside, IsFreed, IsOpened, IsSprouted};
+ghost use Rattle.fb_half.specs.Matchings.{listed_names, match_links, matched_names};
+ghost use Rattle.fb_half.specs.Merged.{IsPlanned, ends_at_seam, freed_in, is_owned_by, leads_to_seam, renamed_match};
+ghost use Rattle.fb_half.specs.Translations.{link_by};
+ghost use Rattle.fb_half.specs.Values.{HasScope, part_of};
 
 use crate::matches::Match;
 use crate::matching::Matching;
@@ -17,7 +28,9 @@ use fb_regions::Regions;
 use std::alloc::Global;
 
 /// The match with new numbers of its link and of its nodes.
-fn renamed_match(m: Match, links: &Names, nodes: &Names) -> Match {
+fn renamed_match(m: Match, links: &Names, nodes: &Names) -> Match
+    ensures { result ≡ renamed_match (named_by (get nat_eq links.now)) (named_by (get nat_eq nodes.now)) m }
+{
     Match {
         link: renamed(links, m.link),
         first: renamed(nodes, m.first),
@@ -32,17 +45,24 @@ pub(crate) fn take_matches(
     others: &[Match],
     links: &[(LinkId, LinkId)],
     nodes: &[(NodeId, NodeId)],
-) -> Result<(), NoMemory> {
-    let links = names_of(alloc, links)?;
-    let nodes = names_of(alloc, nodes)?;
+) -> Result<(), NoMemory>
+    requires { AreDistinct (listed_names matching.old ++ matched_names (map (renamed_match (name_by links.now) (name_by nodes.now)) others.now)) }
+    ensures { OnOk result (matching.new ≡ record { matches = matching.old.matches ++ map (renamed_match (name_by links.now) (name_by nodes.now)) others.now; unmatched = matching.old.unmatched }) }
+{
+    let new_links = names_of(alloc, links)?;
+    let new_nodes = names_of(alloc, nodes)?;
     for m in others {
-        matching.add_match(alloc, renamed_match(*m, &links, &nodes))?;
+        matching.add_match(alloc, renamed_match(*m, &new_links, &new_nodes))?;
     }
     Ok(())
 }
 
 /// Whether the node of the plan owns an end of the link.
-fn ends_at_seam(links: &Links, link: LinkId, plan: &Plan, node: u32) -> bool {
+fn ends_at_seam(links: &Links, link: LinkId, plan: &Plan, node: u32) -> bool
+    requires live { is_live links.now link ≡ true }
+    requires ends { IsPlanned plan.now (link_by links.now link) }
+    ensures { result ≡ ends_at_seam plan.now node (link_by links.now link) }
+{
     let (from, to) = links.ends(link);
     plan.owner(from) == Some(node) || plan.owner(to) == Some(node)
 }
@@ -50,19 +70,24 @@ fn ends_at_seam(links: &Links, link: LinkId, plan: &Plan, node: u32) -> bool {
 /// Whether the match leads to a vertex that the node of the plan owns.
 pub fn leads_to_seam(links: &Links, m: Match, plan: &Plan, node: u32) -> bool
     requires live { is_live links.now m.link ≡ true }
+    requires ends { IsPlanned plan.now (link_by links.now m.link) }
     ensures { result ≡ leads_to_seam plan.now node links.now m }
 {
     m.second.is_none() && ends_at_seam(links, m.link, plan, node)
 }
 
 /// The nodes that are matched to a vertex which the node of the plan owns.
-pub(crate) fn freed_nodes(
+fn freed_nodes(
     alloc: Global,
     links: &Links,
     matches: &[Match],
     plan: &Plan,
     node: u32,
-) -> Result<Vec<NodeId>, NoMemory> {
+) -> Result<Vec<NodeId>, NoMemory>
+    requires live { All (λ m. is_live links.now m.link ≡ true) matches.now }
+    requires ends { All (λ m. IsPlanned plan.now (link_by links.now m.link)) matches.now }
+    ensures { IfOk result (λ freed. freed.items ≡ map (λ m. m.first) (filter (leads_to_seam plan.now node links.now) matches.now)) }
+{
     let mut freed = Vec::new(alloc);
     for m in matches {
         if leads_to_seam(links, *m, plan, node) {
@@ -72,28 +97,40 @@ pub(crate) fn freed_nodes(
     Ok(freed)
 }
 
-/// Takes the match of each of these nodes out, forgets its link, and lists the node as unmatched.
-pub(crate) fn free_nodes(
+/// Takes the match of each node out that is matched to a vertex which the node of the plan owns, forgets its link, and
+/// lists the node as unmatched.
+fn free_nodes(
     alloc: Global,
     matching: &mut Matching,
     links: &mut Links,
-    freed: &[NodeId],
-) -> Result<(), NoMemory> {
-    for node in freed {
-        let m = matching.take_match(*node);
+    plan: &Plan,
+    node: u32,
+) -> Result<(), NoMemory>
+    requires names { AreDistinct (listed_names matching.old) }
+    requires links { AreDistinct (match_links matching.old.matches) }
+    requires live { All (λ m. is_live links.old m.link ≡ true) matching.old.matches }
+    requires ends { All (λ m. IsPlanned plan.now (link_by links.old m.link)) matching.old.matches }
+    ensures { OnOk result (IsFreed (filter (leads_to_seam plan.now node links.old) matching.old.matches) matching.old matching.new links.old links.new) }
+{
+    let freed = freed_nodes(alloc, links, matching.matches(), plan, node)?;
+    for name in &freed {
+        let m = matching.take_match(*name);
         links.forget(m.link);
-        matching.add_unmatched(alloc, *node)?;
+        matching.add_unmatched(alloc, *name)?;
     }
     Ok(())
 }
 
 /// The defects that the node of the plan owns, in their order.
-pub(crate) fn seam_defects(
+fn seam_defects(
     alloc: Global,
     plan: &Plan,
     node: u32,
     defects: &[u32],
-) -> Result<Vec<u32>, NoMemory> {
+) -> Result<Vec<u32>, NoMemory>
+    requires { All (λ v. v < length plan.now.owners) defects.now }
+    ensures { IfOk result (λ own. own.items ≡ filter (is_owned_by plan.now node) defects.now) }
+{
     let mut own = Vec::new(alloc);
     for v in defects {
         if plan.owner(*v) == Some(node) {
@@ -104,13 +141,22 @@ pub(crate) fn seam_defects(
 }
 
 /// Makes each of the vertices a node of radius 0, without a match.
-pub(crate) fn add_leaves(
+fn add_leaves(
     alloc: Global,
     regions: &mut Regions<NodeScope<'_>>,
     store: &mut Blossoms,
     matching: &mut Matching,
     vertices: &[u32],
-) -> Result<(), NoMemory> {
+) -> Result<(), NoMemory>
+    requires distinct { AreDistinct vertices.now }
+    requires real { All (λ v. (problem_at regions.old.scope.graph.now regions.old.scope.plan.now regions.old.scope.node []).is_real v ≡ true) vertices.now }
+    requires uncovered { All (λ v. cover_of regions.old.nodes v ≡ None) vertices.now }
+    requires leafless { All (λ v. (x : ℕ) → blossoms.node_at store.old x ≢ Some (blossoms.leaf v)) vertices.now }
+    requires live { (name : ℕ) → blossoms.node_at store.old name ≡ None → is_node regions.old.nodes name ≡ false }
+    requires listed { (name : ℕ) → blossoms.node_at store.old name ≡ None → is_in (listed_names matching.old) name ≡ false }
+    ensures sprouted { OnOk result (IsSprouted (drop (length matching.old.unmatched) matching.new.unmatched) vertices.now regions.old.nodes regions.new.nodes store.old store.new matching.old matching.new) }
+    ensures scope { OnOk result (regions.new.scope ≡ regions.old.scope) }
+{
     for v in vertices {
         add_leaf(alloc, regions, store, matching, *v)?;
     }
@@ -119,20 +165,35 @@ pub(crate) fn add_leaves(
 
 /// The part after the vertices that its node owns have become real: the matches to them are forgotten, and their defects
 /// are further nodes.
-pub(crate) fn open_seam<'a>(alloc: Global, parts: Parts<'a>) -> Result<Parts<'a>, NoMemory> {
-    let mut parts = parts;
-    let plan = parts.job.plan();
-    let node = parts.node;
-    let freed = freed_nodes(alloc, &parts.links, parts.matching.matches(), plan, node)?;
-    free_nodes(alloc, &mut parts.matching, &mut parts.links, &freed)?;
-    let shot = &parts.job.shots()[parts.slot as usize];
-    let own = seam_defects(alloc, plan, node, shot.as_slice())?;
-    add_leaves(
-        alloc,
-        &mut parts.regions,
-        &mut parts.blossoms,
-        &mut parts.matching,
-        &own,
-    )?;
-    Ok(parts)
+pub(crate) fn open_seam<'a>(alloc: Global, parts: Parts<'a>) -> Result<Parts<'a>, NoMemory>
+    requires scope { HasScope parts }
+    requires beside { IsBeside (part_of parts) }
+    ensures opened { IfOk result (λ p. IsOpened (drop (length (parts.entry.matching.unmatched ++ freed_in (part_of parts.entry) parts.entry.node)) p.matching.unmatched) (part_of parts.entry) (part_of p)) }
+    ensures scope { IfOk result HasScope }
+{
+    let Parts {
+        mut regions,
+        mut links,
+        mut blossoms,
+        mut matching,
+        job,
+        slot,
+        node,
+    } = parts;
+    job.keeps();
+    job.graph().limits();
+    links.keeps();
+    let plan = job.plan();
+    free_nodes(alloc, &mut matching, &mut links, plan, node)?;
+    let own = seam_defects(alloc, plan, node, job.shots()[slot as usize].as_slice())?;
+    add_leaves(alloc, &mut regions, &mut blossoms, &mut matching, &own)?;
+    Ok(Parts {
+        regions,
+        links,
+        blossoms,
+        matching,
+        job,
+        slot,
+        node,
+    })
 }

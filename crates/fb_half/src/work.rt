@@ -12,7 +12,7 @@ use crate::merging::{open_seam, take_matches};
 use crate::parts::Parts;
 use crate::start::{own_defects, start};
 use fb_blossoms::Blossoms;
-use fb_graph::NoMemory;
+use fb_graph::{NoMemory, Scope};
 use fb_laws::state_begins;
 use fb_links::{LinkId, Links, NodeId};
 use fb_plan::{Job, NodeScope};
@@ -177,7 +177,7 @@ impl<'a> Work<'a> {
         requires right { right.job ≡ job.now }
         requires slot { left.slot ≡ right.slot }
         requires children { children_of job.now.plan node ≡ Some (left.node, right.node) }
-        ensures { IfOk result (λ w. IsMerged job.now node left right w) }
+        ensures { IfOk result (λ w. IsMerged job.now node left.entry right.entry w) }
     {
         job.keeps();
         left.keeps();
@@ -190,6 +190,7 @@ impl<'a> Work<'a> {
             plan: job.plan(),
             node,
         };
+        scope.limits();
         let (links, link_names) = Links::merged(alloc, left.links, right.links)?;
         let (blossoms, names) = Blossoms::merged(alloc, left.blossoms, right.blossoms, &link_names)?;
         let regions = Regions::merged(alloc, left.regions, right.regions, &names, &scope)?;

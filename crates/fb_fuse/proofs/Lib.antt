@@ -1,0 +1,3 @@
+pub mod MatchCounts
+pub mod MatchEnds
+pub mod MergedCounts

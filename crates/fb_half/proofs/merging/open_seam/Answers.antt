@@ -1,0 +1,61 @@
+use Rattle.std.proofs.Common.{◌≡◌, ◌≢◌, ◌<◌, ◌∙◌, ℕ, true, [], List, None, Some, length, All, sym, ap, subst}
+use Rattle.std.specs.List.{filter}
+use Rattle.fb_graph.specs.Certificate.{AreDistinct}
+use Rattle.fb_graph.specs.Dual.{cover_of}
+use Rattle.fb_graph.specs.Limits.{IsGraph}
+use Rattle.fb_plan.specs.Plans.{problem_at}
+use Rattle.fb_blossoms.specs.Nodes as blossoms
+use Rattle.fb_half.specs.Merged.{IsPlanned, is_owned_by}
+use Rattle.fb_half.specs.Translations.{link_by}
+use Rattle.fb_half.specs.Values.{part_of}
+use Rattle.fb_half.proofs.BegunParts.{shot_read}
+use Rattle.fb_half.proofs.SeamOpenings.{freed_unlisted, live_matches, own_links, planned, seam_bare, seam_distinct, seam_leafless, seam_read, seam_real, shot_planned}
+use Rattle.fb_half.proofs.merging.open_seam.Goals as goal
+
+pub free_nodes-requires-clause-links : goal.free_nodes-requires-clause-links
+free_nodes-requires-clause-links c = own_links (part_of c.args.parts) c.keeps.ensures (subst IsGraph c.graph.ensures c.limits.ensures) c.requires.beside
+
+pub free_nodes-requires-clause-live : goal.free_nodes-requires-clause-live
+free_nodes-requires-clause-live c = live_matches (part_of c.args.parts) c.keeps.ensures (subst IsGraph c.graph.ensures c.limits.ensures) c.requires.beside
+
+pub free_nodes-requires-clause-ends : goal.free_nodes-requires-clause-ends
+free_nodes-requires-clause-ends c =
+    subst (λ t. All (λ m. IsPlanned t (link_by c.args.parts.links m.link)) c.args.parts.matching.matches) (sym c.plan-plan.ensures)
+    (planned (part_of c.args.parts) c.keeps.ensures (subst IsGraph c.graph.ensures c.limits.ensures) c.requires.beside c.keeps-2.ensures)
+
+pub seam_defects-requires : goal.seam_defects-requires
+seam_defects-requires c =
+    subst (λ t. All (λ v. v < length t.owners) c.as_slice.result.now) (sym c.plan-plan.ensures)
+    (subst (All (λ v. v < length c.args.parts.job.now.plan.owners))
+    (sym (shot_read c.args.parts.job.now c.args.parts.slot _ _ _ c.shots.ensures c.requires.beside.slot c.index-shots-slot.is c.as_slice.ensures.defects))
+    (shot_planned (part_of c.args.parts) c.keeps.ensures (subst IsGraph c.graph.ensures c.limits.ensures) c.requires.beside))
+
+pub add_leaves-requires-clause-distinct : goal.add_leaves-requires-clause-distinct
+add_leaves-requires-clause-distinct c =
+    subst AreDistinct
+    (sym (seam_read _ _ _ _ _ _ _ c.plan-plan.ensures (shot_read c.args.parts.job.now c.args.parts.slot _ _ _ c.shots.ensures c.requires.beside.slot c.index-shots-slot.is c.as_slice.ensures.defects) c.in_ok-own.ensures c.deref.ensures.value))
+    (seam_distinct (part_of c.args.parts) c.keeps.ensures (subst IsGraph c.graph.ensures c.limits.ensures) c.requires.beside)
+
+pub add_leaves-requires-clause-real : goal.add_leaves-requires-clause-real
+add_leaves-requires-clause-real c =
+    subst (λ g. All (λ v. (problem_at g c.args.parts.regions.scope.plan.now c.args.parts.regions.scope.node []).is_real v ≡ true) c.deref.result.now) (sym c.requires.scope.graph)
+    (subst (λ t. All (λ v. (problem_at c.args.parts.job.now.graph t c.args.parts.regions.scope.node []).is_real v ≡ true) c.deref.result.now) (sym c.requires.scope.plan)
+    (subst (λ n. All (λ v. (problem_at c.args.parts.job.now.graph c.args.parts.job.now.plan n []).is_real v ≡ true) c.deref.result.now) (sym c.requires.scope.node)
+    (subst (All (λ v. (problem_at c.args.parts.job.now.graph c.args.parts.job.now.plan c.args.parts.node []).is_real v ≡ true))
+    (sym (seam_read _ _ _ _ _ _ _ c.plan-plan.ensures (shot_read c.args.parts.job.now c.args.parts.slot _ _ _ c.shots.ensures c.requires.beside.slot c.index-shots-slot.is c.as_slice.ensures.defects) c.in_ok-own.ensures c.deref.ensures.value))
+    (seam_real (part_of c.args.parts) c.keeps.ensures (subst IsGraph c.graph.ensures c.limits.ensures) c.requires.beside))))
+
+pub add_leaves-requires-clause-uncovered : goal.add_leaves-requires-clause-uncovered
+add_leaves-requires-clause-uncovered c =
+    subst (All (λ v. cover_of c.args.parts.regions.nodes v ≡ None))
+    (sym (seam_read _ _ _ _ _ _ _ c.plan-plan.ensures (shot_read c.args.parts.job.now c.args.parts.slot _ _ _ c.shots.ensures c.requires.beside.slot c.index-shots-slot.is c.as_slice.ensures.defects) c.in_ok-own.ensures c.deref.ensures.value))
+    (seam_bare (part_of c.args.parts) c.keeps.ensures (subst IsGraph c.graph.ensures c.limits.ensures) c.requires.beside)
+
+pub add_leaves-requires-clause-leafless : goal.add_leaves-requires-clause-leafless
+add_leaves-requires-clause-leafless c =
+    subst (All (λ v. (x : ℕ) → blossoms.node_at c.args.parts.blossoms x ≢ Some (blossoms.leaf v)))
+    (sym (seam_read _ _ _ _ _ _ _ c.plan-plan.ensures (shot_read c.args.parts.job.now c.args.parts.slot _ _ _ c.shots.ensures c.requires.beside.slot c.index-shots-slot.is c.as_slice.ensures.defects) c.in_ok-own.ensures c.deref.ensures.value))
+    (seam_leafless (part_of c.args.parts) c.keeps.ensures (subst IsGraph c.graph.ensures c.limits.ensures) c.requires.beside)
+
+pub add_leaves-requires-clause-listed : goal.add_leaves-requires-clause-listed
+add_leaves-requires-clause-listed c = freed_unlisted (part_of c.args.parts) c.keeps.ensures (subst IsGraph c.graph.ensures c.limits.ensures) c.requires.beside _ _ _ c.in_ok-free_nodes.ensures

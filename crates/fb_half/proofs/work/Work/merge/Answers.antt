@@ -1,0 +1,171 @@
+use Rattle.std.proofs.Common.{◌≡◌, ◌∙◌, ◌++◌, [], List, drop, length, map, refl, sym, ap, subst}
+use Rattle.fb_graph.specs.Certificate.{AreDistinct}
+use Rattle.fb_graph.specs.RenamedNodes.{renamed_nodes}
+use Rattle.fb_links.specs.Names.{name_by}
+use Rattle.fb_blossoms.specs.Merged.{IsMerged}
+use Rattle.fb_regions.specs.Merged.{AreNewNames}
+use Rattle.fb_half.specs.InternalSeams.{IsBeside, IsOpened}
+use Rattle.fb_half.specs.Matchings.{listed_names, matched_names}
+use Rattle.fb_half.specs.Merged.{freed_in, renamed_match}
+use Rattle.fb_half.specs.Merged as promised
+use Rattle.fb_half.specs.Parts.{PartValue}
+use Rattle.fb_half.specs.Values.{part_of}
+use Rattle.fb_half.proofs.BesideNodes.{new_names}
+use Rattle.fb_half.proofs.FusedHalves.{fused_part}
+use Rattle.fb_half.proofs.FusedMatches.{merged_is}
+use Rattle.fb_half.proofs.GivenHalves.{halves_of, pieces_are}
+use Rattle.fb_half.proofs.MergedHalves.{beside, leaves_apart, matches_distinct, scoped_parts}
+use Rattle.fb_half.proofs.work.Work.merge.Goals as goal
+
+pub merged-requires-2 : goal.merged-requires-2
+merged-requires-2 c =
+    let h =
+    halves_of c.args.job.now c.args.node c.graph.result.now c.plan.result.now (part_of c.into_parts-left.result) (part_of c.into_parts-right.result) c.args.left c.args.right
+    c.into_parts-left.ensures.value c.into_parts-right.ensures.value c.requires.left c.requires.right c.requires.slot c.requires.children c.graph.ensures c.plan.ensures
+    c.limits.ensures c.keeps-2.ensures.part c.keeps-3.ensures.part c.keeps-2.ensures.matched c.keeps-3.ensures.matched in
+    leaves_apart (part_of c.into_parts-left.result) (part_of c.into_parts-right.result) c.args.node h.limits h.children h.one h.two h.matched h.also
+
+pub merged-requires-3-clause-names : goal.merged-requires-3-clause-names
+merged-requires-3-clause-names c =
+    let h =
+    halves_of c.args.job.now c.args.node c.graph.result.now c.plan.result.now (part_of c.into_parts-left.result) (part_of c.into_parts-right.result) c.args.left c.args.right
+    c.into_parts-left.ensures.value c.into_parts-right.ensures.value c.requires.left c.requires.right c.requires.slot c.requires.children c.graph.ensures c.plan.ensures
+    c.limits.ensures c.keeps-2.ensures.part c.keeps-3.ensures.part c.keeps-2.ensures.matched c.keeps-3.ensures.matched in
+    let stores =
+    subst (λ l. IsMerged c.into_parts-left.result.blossoms c.into_parts-right.result.blossoms c.in_ok-blossoms.blossoms l c.in_ok-blossoms.names.items) c.deref.ensures.value
+    c.in_ok-blossoms.ensures in
+    subst (λ l. AreNewNames c.into_parts-left.result.regions.nodes c.into_parts-right.result.regions.nodes (name_by l)) (sym c.deref-2.ensures.value)
+    (new_names c.into_parts-left.result.regions.nodes c.into_parts-right.result.regions.nodes c.into_parts-left.result.blossoms c.into_parts-right.result.blossoms
+    c.in_ok-blossoms.blossoms c.in_ok-links.link_names.items c.in_ok-blossoms.names.items h.one.agreed h.two.agreed stores)
+
+pub merged-requires-3-clause-parts : goal.merged-requires-3-clause-parts
+merged-requires-3-clause-parts c =
+    let h =
+    halves_of c.args.job.now c.args.node c.graph.result.now c.plan.result.now (part_of c.into_parts-left.result) (part_of c.into_parts-right.result) c.args.left c.args.right
+    c.into_parts-left.ensures.value c.into_parts-right.ensures.value c.requires.left c.requires.right c.requires.slot c.requires.children c.graph.ensures c.plan.ensures
+    c.limits.ensures c.keeps-2.ensures.part c.keeps-3.ensures.part c.keeps-2.ensures.matched c.keeps-3.ensures.matched in
+    scoped_parts (part_of c.into_parts-left.result).job c.args.node c.into_parts-left.result.node c.into_parts-right.result.node _ _ _ _ _ _ _ _ h.one.job.plan h.children
+    c.into_parts-left.ensures.scope.graph (c.into_parts-right.ensures.scope.graph ∙ ap (λ j. j.graph) h.same_job) (c.graph.ensures ∙ ap (λ j. j.graph) (sym h.job))
+    c.into_parts-left.ensures.scope.plan (c.into_parts-right.ensures.scope.plan ∙ ap (λ j. j.plan) h.same_job) (c.plan.ensures ∙ ap (λ j. j.plan) (sym h.job))
+    c.into_parts-left.ensures.scope.node c.into_parts-right.ensures.scope.node
+
+pub take_matches-requires : goal.take_matches-requires
+take_matches-requires c =
+    let h =
+    halves_of c.args.job.now c.args.node c.graph.result.now c.plan.result.now (part_of c.into_parts-left.result) (part_of c.into_parts-right.result) c.args.left c.args.right
+    c.into_parts-left.ensures.value c.into_parts-right.ensures.value c.requires.left c.requires.right c.requires.slot c.requires.children c.graph.ensures c.plan.ensures
+    c.limits.ensures c.keeps-2.ensures.part c.keeps-3.ensures.part c.keeps-2.ensures.matched c.keeps-3.ensures.matched in
+    let stores =
+    subst (λ l. IsMerged c.into_parts-left.result.blossoms c.into_parts-right.result.blossoms c.in_ok-blossoms.blossoms l c.in_ok-blossoms.names.items) c.deref.ensures.value
+    c.in_ok-blossoms.ensures in
+    subst (λ l. AreDistinct (listed_names c.into_parts-left.result.matching ++ matched_names (map (renamed_match (name_by l) (name_by c.deref-4.result.now)) c.matches.result.now)))
+    (sym c.deref-3.ensures.value)
+    (subst (λ l. AreDistinct (listed_names c.into_parts-left.result.matching ++ matched_names (map (renamed_match (name_by c.in_ok-links.link_names.items) (name_by l)) c.matches.result.now)))
+    (sym c.deref-4.ensures.value)
+    (subst (λ l. AreDistinct (listed_names c.into_parts-left.result.matching
+    ++ matched_names (map (renamed_match (name_by c.in_ok-links.link_names.items) (name_by c.in_ok-blossoms.names.items)) l))) (sym c.matches.ensures)
+    (matches_distinct (part_of c.into_parts-left.result) (part_of c.into_parts-right.result) c.args.node h.limits h.children h.one h.two h.matched h.also
+    c.in_ok-links.link_names.items c.in_ok-blossoms.names.items c.in_ok-links.links c.in_ok-blossoms.blossoms c.in_ok-links.ensures stores)))
+
+pub open_seam-requires-clause-beside : goal.open_seam-requires-clause-beside
+open_seam-requires-clause-beside c =
+    let h =
+    halves_of c.args.job.now c.args.node c.graph.result.now c.plan.result.now (part_of c.into_parts-left.result) (part_of c.into_parts-right.result) c.args.left c.args.right
+    c.into_parts-left.ensures.value c.into_parts-right.ensures.value c.requires.left c.requires.right c.requires.slot c.requires.children c.graph.ensures c.plan.ensures
+    c.limits.ensures c.keeps-2.ensures.part c.keeps-3.ensures.part c.keeps-2.ensures.matched c.keeps-3.ensures.matched in
+    let stores =
+    subst (λ l. IsMerged c.into_parts-left.result.blossoms c.into_parts-right.result.blossoms c.in_ok-blossoms.blossoms l c.in_ok-blossoms.names.items) c.deref.ensures.value
+    c.in_ok-blossoms.ensures in
+    let made : PartValue =
+    part_of (record {
+      regions = c.in_ok-regions.regions;
+      links = c.in_ok-links.links;
+      blossoms = c.in_ok-blossoms.blossoms;
+      matching = c.take_matches.new.matching;
+      job = c.args.job;
+      slot = c.into_parts-left.result.slot;
+      node = c.args.node;
+    }) in
+    let same =
+    pieces_are c.args.job.now (part_of c.into_parts-left.result) (part_of c.into_parts-right.result) made c.args.node c.in_ok-links.link_names.items c.in_ok-blossoms.names.items
+    _ _ _ h refl refl refl c.deref-3.ensures.value c.deref-4.ensures.value
+    (ap (λ r. r.nodes) c.in_ok-regions.ensures
+    ∙ ap (λ l. c.into_parts-left.result.regions.nodes ++ renamed_nodes (name_by l) c.into_parts-right.result.regions.nodes) c.deref-2.ensures.value)
+    c.matches.ensures c.in_ok-take_matches.ensures in
+    subst IsBeside (sym same)
+    (beside (part_of c.into_parts-left.result) (part_of c.into_parts-right.result) c.args.node h.limits h.children h.one h.two h.matched h.also
+    c.in_ok-links.link_names.items c.in_ok-blossoms.names.items c.in_ok-links.links c.in_ok-blossoms.blossoms c.in_ok-links.ensures stores)
+
+pub invariant_of-result : goal.invariant_of-result
+invariant_of-result c =
+    let h =
+    halves_of c.args.job.now c.args.node c.graph.result.now c.plan.result.now (part_of c.into_parts-left.result) (part_of c.into_parts-right.result) c.args.left c.args.right
+    c.into_parts-left.ensures.value c.into_parts-right.ensures.value c.requires.left c.requires.right c.requires.slot c.requires.children c.graph.ensures c.plan.ensures
+    c.limits.ensures c.keeps-2.ensures.part c.keeps-3.ensures.part c.keeps-2.ensures.matched c.keeps-3.ensures.matched in
+    let stores =
+    subst (λ l. IsMerged c.into_parts-left.result.blossoms c.into_parts-right.result.blossoms c.in_ok-blossoms.blossoms l c.in_ok-blossoms.names.items) c.deref.ensures.value
+    c.in_ok-blossoms.ensures in
+    let made : PartValue =
+    part_of (record {
+      regions = c.in_ok-regions.regions;
+      links = c.in_ok-links.links;
+      blossoms = c.in_ok-blossoms.blossoms;
+      matching = c.take_matches.new.matching;
+      job = c.args.job;
+      slot = c.into_parts-left.result.slot;
+      node = c.args.node;
+    }) in
+    let same =
+    pieces_are c.args.job.now (part_of c.into_parts-left.result) (part_of c.into_parts-right.result) made c.args.node c.in_ok-links.link_names.items c.in_ok-blossoms.names.items
+    _ _ _ h refl refl refl c.deref-3.ensures.value c.deref-4.ensures.value
+    (ap (λ r. r.nodes) c.in_ok-regions.ensures
+    ∙ ap (λ l. c.into_parts-left.result.regions.nodes ++ renamed_nodes (name_by l) c.into_parts-right.result.regions.nodes) c.deref-2.ensures.value)
+    c.matches.ensures c.in_ok-take_matches.ensures in
+    (
+      c.in_ok-parts.ensures.scope,
+      fused_part (part_of c.into_parts-left.result) (part_of c.into_parts-right.result) c.args.node h.limits h.children h.one h.two h.matched h.also
+          c.in_ok-links.link_names.items c.in_ok-blossoms.names.items c.in_ok-links.links c.in_ok-blossoms.blossoms c.in_ok-links.ensures stores
+          (drop (length (c.take_matches.new.matching.unmatched ++ freed_in made c.args.node)) c.in_ok-parts.parts.matching.unmatched) (part_of c.in_ok-parts.parts)
+          (beside (part_of c.into_parts-left.result) (part_of c.into_parts-right.result) c.args.node h.limits h.children h.one h.two h.matched h.also
+          c.in_ok-links.link_names.items c.in_ok-blossoms.names.items c.in_ok-links.links c.in_ok-blossoms.blossoms c.in_ok-links.ensures stores)
+          refl
+          (subst (λ x. IsOpened (drop (length (c.take_matches.new.matching.unmatched ++ freed_in made c.args.node)) c.in_ok-parts.parts.matching.unmatched) x (part_of c.in_ok-parts.parts)) same
+          c.in_ok-parts.ensures.opened),
+    )
+
+pub returns : goal.returns
+returns c =
+    let h =
+    halves_of c.args.job.now c.args.node c.graph.result.now c.plan.result.now (part_of c.into_parts-left.result) (part_of c.into_parts-right.result) c.args.left c.args.right
+    c.into_parts-left.ensures.value c.into_parts-right.ensures.value c.requires.left c.requires.right c.requires.slot c.requires.children c.graph.ensures c.plan.ensures
+    c.limits.ensures c.keeps-2.ensures.part c.keeps-3.ensures.part c.keeps-2.ensures.matched c.keeps-3.ensures.matched in
+    let stores =
+    subst (λ l. IsMerged c.into_parts-left.result.blossoms c.into_parts-right.result.blossoms c.in_ok-blossoms.blossoms l c.in_ok-blossoms.names.items) c.deref.ensures.value
+    c.in_ok-blossoms.ensures in
+    let made : PartValue =
+    part_of (record {
+      regions = c.in_ok-regions.regions;
+      links = c.in_ok-links.links;
+      blossoms = c.in_ok-blossoms.blossoms;
+      matching = c.take_matches.new.matching;
+      job = c.args.job;
+      slot = c.into_parts-left.result.slot;
+      node = c.args.node;
+    }) in
+    let same =
+    pieces_are c.args.job.now (part_of c.into_parts-left.result) (part_of c.into_parts-right.result) made c.args.node c.in_ok-links.link_names.items c.in_ok-blossoms.names.items
+    _ _ _ h refl refl refl c.deref-3.ensures.value c.deref-4.ensures.value
+    (ap (λ r. r.nodes) c.in_ok-regions.ensures
+    ∙ ap (λ l. c.into_parts-left.result.regions.nodes ++ renamed_nodes (name_by l) c.into_parts-right.result.regions.nodes) c.deref-2.ensures.value)
+    c.matches.ensures c.in_ok-take_matches.ensures in
+    subst (λ j. promised.IsMerged j c.args.node c.args.left c.args.right (part_of c.in_ok-parts.parts)) h.job
+    (subst (λ x. promised.IsMerged c.into_parts-left.result.job.now c.args.node x c.args.right (part_of c.in_ok-parts.parts)) c.into_parts-left.ensures.value
+    (subst (λ x. promised.IsMerged c.into_parts-left.result.job.now c.args.node (part_of c.into_parts-left.result) x (part_of c.in_ok-parts.parts)) c.into_parts-right.ensures.value
+    (merged_is (part_of c.into_parts-left.result) (part_of c.into_parts-right.result) c.args.node h.limits h.children h.one h.two h.matched h.also
+    c.in_ok-links.link_names.items c.in_ok-blossoms.names.items c.in_ok-links.links c.in_ok-blossoms.blossoms c.in_ok-links.ensures stores
+    h.same_job
+    (drop (length (c.take_matches.new.matching.unmatched ++ freed_in made c.args.node)) c.in_ok-parts.parts.matching.unmatched) (part_of c.in_ok-parts.parts)
+    (beside (part_of c.into_parts-left.result) (part_of c.into_parts-right.result) c.args.node h.limits h.children h.one h.two h.matched h.also
+    c.in_ok-links.link_names.items c.in_ok-blossoms.names.items c.in_ok-links.links c.in_ok-blossoms.blossoms c.in_ok-links.ensures stores)
+    (subst (λ x. IsOpened (drop (length (c.take_matches.new.matching.unmatched ++ freed_in made c.args.node)) c.in_ok-parts.parts.matching.unmatched) x (part_of c.in_ok-parts.parts)) same
+    c.in_ok-parts.ensures.opened))))

@@ -1,0 +1,66 @@
+-- A part of a fusion while its seam is opened: both children's parts beside one another, the matches to the seam
+-- forgotten one after another, and then each defect on the seam made a node.
+use Rattle.std.specs.Prelude.{ℕ, ◌≡◌, ◌<◌, true, false, List, [], ◌++◌, map, length, Option, None}
+use Rattle.std.specs.List.Sorted.{IsPermutation}
+use Rattle.fb_graph.specs.Parity.{is_in}
+use Rattle.fb_graph.specs.Problem.{Problem}
+use Rattle.fb_graph.specs.Certificate.{AreDistinct}
+use Rattle.fb_graph.specs.Laws.{Link}
+use Rattle.fb_graph.specs.Dual.{Node}
+use Rattle.fb_graph.specs.Nests.{IsNest}
+use Rattle.fb_plan.specs.Plans.{PlanTree}
+use Rattle.fb_links.specs.declared.walk.Step.{Step}
+use Rattle.fb_links.specs.Table.{link_at}
+use Rattle.fb_blossoms.specs.Nodes as blossoms
+use Rattle.fb_half.specs.declared.matches.Match.{Match}
+use Rattle.fb_half.specs.Beginnings.{leaves_by}
+use Rattle.fb_half.specs.InternalBeginnings.{leaf_at}
+use Rattle.fb_half.specs.Matchings.{IsMatchingOf, MatchingValue, match_links}
+use Rattle.fb_half.specs.Merged.{freed_in, is_owned_by, seam_defects, seam_matches}
+use Rattle.fb_half.specs.Parts.{AreAgreed, AreLinksOf, PartValue, kept_links, problem_in}
+
+-- These matches are taken out and their links forgotten, and the first node of each is unmatched; all else is as it was.
+pub record IsFreed (taken : List Match) (before after : MatchingValue) (links new : List (Option (List Step))) : Type 0 where
+  pub matches : IsPermutation before.matches (taken ++ after.matches)
+  pub unmatched : after.unmatched ≡ before.unmatched ++ map (λ m. m.first) taken
+  pub gone : (id : ℕ) → is_in (match_links taken) id ≡ true → link_at new id ≡ None
+  pub others : (id : ℕ) → is_in (match_links taken) id ≡ false → link_at new id ≡ link_at links id
+
+-- These defects have become nodes under these names, unmatched; all else is as it was.
+pub record IsSprouted (names done : List ℕ) (nodes new_nodes : List Node) (store new_store : List (Option blossoms.Node))
+    (before after : MatchingValue) : Type 0 where
+  pub nodes_are : new_nodes ≡ nodes ++ leaves_by names done
+  pub matching : after ≡ record { matches = before.matches; unmatched = before.unmatched ++ names }
+  pub count : length names ≡ length done
+  pub distinct : AreDistinct names
+  pub fresh : (x : ℕ) → is_in names x ≡ true → blossoms.node_at store x ≡ None
+  pub added : (x : ℕ) → is_in names x ≡ true → blossoms.node_at new_store x ≡ leaf_at names done x
+  pub others : (x : ℕ) → is_in names x ≡ false → blossoms.node_at new_store x ≡ blossoms.node_at store x
+
+-- Two children's parts beside one another, as a part of a problem in which no vertex of the seam is real.
+pub record IsBeside (w : PartValue) : Type 0 where
+  pub slot : w.slot < length w.job.shots
+  -- the seam is real in the part's own problem
+  pub real : (v : ℕ) → is_owned_by w.job.plan w.node v ≡ true → (problem_in w).is_real v ≡ true
+  pub problem : Problem
+  pub edges : problem.edges ≡ w.job.graph.edges
+  pub apart : (v : ℕ) → is_owned_by w.job.plan w.node v ≡ true → problem.is_real v ≡ false
+  pub nest : IsNest problem w.nodes
+  pub agreed : AreAgreed w.nodes w.store
+  pub links : AreLinksOf problem w.links (kept_links w)
+  pub matching : IsMatchingOf problem w.nodes w.links w.matching []
+
+-- the part with the matches to the seam forgotten, before its defects become nodes
+abbrev pub freed_matching : PartValue → PartValue → MatchingValue
+freed_matching before after = record {
+  matches = after.matching.matches;
+  unmatched = before.matching.unmatched ++ freed_in before before.node;
+}
+
+-- The part whose seam is opened, with these names for the defects on it.
+pub record IsOpened (names : List ℕ) (before after : PartValue) : Type 0 where
+  pub job : after.job ≡ before.job
+  pub slot : after.slot ≡ before.slot
+  pub node : after.node ≡ before.node
+  pub freed : IsFreed (seam_matches before before.node) before.matching (freed_matching before after) before.links after.links
+  pub sprouted : IsSprouted names (seam_defects before.job before.slot before.node) before.nodes after.nodes before.store after.store (freed_matching before after) after.matching
