@@ -1,5 +1,6 @@
 pub mod Inputs
 pub mod Solved
+pub mod Walked
 pub mod Writing
 pub mod Finishing
 pub mod Gathered

@@ -11,3 +11,4 @@ pub mod Judges
 pub mod NoReports
 pub mod CheckEndings
 pub mod RunEndings
+pub mod InternalWalks
