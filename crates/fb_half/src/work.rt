@@ -192,7 +192,12 @@ impl<'a> Work<'a> {
         };
         scope.limits();
         let (links, link_names) = Links::merged(alloc, left.links, right.links)?;
-        let (blossoms, names) = Blossoms::merged(alloc, left.blossoms, right.blossoms, &link_names)?;
+        let (blossoms, names) = Blossoms::merged(
+            alloc,
+            left.blossoms,
+            right.blossoms,
+            &link_names,
+        )?;
         let regions = Regions::merged(alloc, left.regions, right.regions, &names, &scope)?;
         let mut matching = left.matching;
         take_matches(

@@ -120,8 +120,7 @@ invariant_of-result c =
     _ _ _ h refl refl refl c.deref-3.ensures.value c.deref-4.ensures.value
     (ap (λ r. r.nodes) c.in_ok-regions.ensures
     ∙ ap (λ l. c.into_parts-left.result.regions.nodes ++ renamed_nodes (name_by l) c.into_parts-right.result.regions.nodes) c.deref-2.ensures.value)
-    c.matches.ensures c.in_ok-take_matches.ensures in
-    (
+    c.matches.ensures c.in_ok-take_matches.ensures in (
       c.in_ok-parts.ensures.scope,
       fused_part (part_of c.into_parts-left.result) (part_of c.into_parts-right.result) c.args.node h.limits h.children h.one h.two h.matched h.also
           c.in_ok-links.link_names.items c.in_ok-blossoms.names.items c.in_ok-links.links c.in_ok-blossoms.blossoms c.in_ok-links.ensures stores
