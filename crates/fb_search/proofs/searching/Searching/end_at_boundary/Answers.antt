@@ -2,9 +2,19 @@ use Rattle.std.proofs.Common.{refl}
 use Rattle.fb_half.specs.Values.{part_of}
 use Rattle.fb_search.specs.Meetings.{LeadsOut}
 use Rattle.fb_search.specs.Searching.{SearchValue}
-use Rattle.fb_search.proofs.ScopeWalks.{out_scoped}
+use Rattle.fb_search.proofs.ScopeWalks.{out_bare, out_scoped}
 use Rattle.fb_search.proofs.TreeEnds.{boundary_apart, boundary_ended, gone_live, gone_once, leads_out}
 use Rattle.fb_search.proofs.searching.Searching.end_at_boundary.Goals as goal
+
+pub out_walk-requires : goal.out_walk-requires
+out_walk-requires c =
+    let w : SearchValue = record { part = part_of c.self.inside.parts; tree = c.self.inside.tree; watched = c.self.inside.watch } in
+    let leads : LeadsOut w c.args.edge c.plus_at_boundary-plus.result = rw (← c.self.view_is) at c.plus_at_boundary-plus.ensures in (
+      c.plus_at_boundary-plus.result,
+      leads.outer,
+      out_bare w.part _ c.self.invariant.0 c.args.edge c.plus_at_boundary-plus.result leads.outer
+          (leads_out w c.args.edge c.plus_at_boundary-plus.result leads),
+    )
 
 pub make-requires-clause-some : goal.make-requires-clause-some
 make-requires-clause-some c =

@@ -3,7 +3,7 @@ use Rattle.fb_half.specs.Values.{part_of}
 use Rattle.fb_search.specs.Meetings.{Meets}
 use Rattle.fb_search.specs.Searching.{SearchValue}
 use Rattle.fb_search.proofs.ScopeWalks.{between_scoped, met_scoped}
-use Rattle.fb_search.proofs.TreeEnds.{gone_live, gone_once, meets_between, met_apart, met_ended, root_left}
+use Rattle.fb_search.proofs.TreeEnds.{gone_live, gone_once, meeting_plus, meets_between, met_apart, met_ended, root_left}
 use Rattle.fb_search.proofs.searching.Searching.end_at_unmatched.Goals as goal
 
 pub met_walk-requires : goal.met_walk-requires
@@ -43,6 +43,12 @@ match_tree-requires-clause-distinct c =
     (met_apart w c.args.edge c.args.plus c.args.other c.in_ok-link.link c.take_unmatched.new.self.unmatched
     c.take_unmatched-2.new.self.unmatched c.self.invariant.1 meets c.take_unmatched.ensures.unmatched
     (rw c.root.ensures at c.take_unmatched-2.ensures.unmatched))
+
+pub forget_tree-requires-clause-plus : goal.forget_tree-requires-clause-plus
+forget_tree-requires-clause-plus c =
+    let w : SearchValue = record { part = part_of c.self.inside.parts; tree = c.self.inside.tree; watched = c.self.inside.watch } in
+    let meets : Meets w c.args.edge c.args.plus c.args.other = rw (← c.self.view_is) at c.requires.meets in
+    meeting_plus w c.args.edge c.args.plus c.args.other meets
 
 pub forget_tree-requires-clause-live : goal.forget_tree-requires-clause-live
 forget_tree-requires-clause-live c =
