@@ -9,10 +9,13 @@ Edmonds and Johnson (1973).
 Run as a program, it judges rows and texts whose answers are known, and fails where it finds another.
 """
 
+import re
 import sys
 
 sys.dont_write_bytecode = True
-from readers import RECORDS, Refused, read_graph, read_plan, read_report, read_shots
+from lattices import sample_text
+from readers import RECORDS, Refused, read_graph, read_plan, read_report, read_shots, whole_plan
+from traces import trace_complaints
 
 MOST_TRIED_EDGES = 12
 MOST_TRIED_VERTICES = 100
@@ -217,13 +220,31 @@ def check_text(graph, rows, shots, is_whole):
 OPTIONS = {
     "decode": ["--graph", "--shots", "--format"],
     "check": ["--graph", "--shots", "--format", "--report"],
+    "sample": ["--distance", "--rounds", "--units", "--rate", "--start", "--shots"],
 }
-FREE = {"decode": ["--plan"], "check": []}
+FREE = {"decode": ["--plan", "--workers", "--window"], "check": [], "sample": ["--workers", "--window"]}
+FLAGS = {"decode": ["--trace"], "check": [], "sample": []}
 NAMES = ["--graph", "--plan", "--shots", "--report"]
+RANGES = {
+    "--workers": (1, 64),
+    "--window": (1, 64),
+    "--distance": (2, 255),
+    "--rounds": (1, 1_048_576),
+    "--units": (1, 4096),
+    "--rate": (0, 1_048_576),
+    "--start": (0, 2**64 - 1),
+}
+MOST_SAMPLED_SHOTS = 1_000_000
 
 
 class Usage(Exception):
     """Words without a reading, with the line for standard error; None for a text of the words' reader."""
+
+
+def number_within(word, least, most):
+    if not re.fullmatch(r"\+?[0-9]+", word) or not least <= int(word) <= most:
+        raise Usage(None)
+    return int(word)
 
 
 def read_words(words):
@@ -239,6 +260,9 @@ def read_words(words):
     options = {}
     while rest:
         name, equals, value = rest.pop(0).partition("=")
+        if name in FLAGS[command] and not equals and name not in options:
+            options[name] = ""
+            continue
         if not equals:
             if not rest or (rest[0].startswith("-") and rest[0] != "-"):
                 raise Usage(None)
@@ -248,6 +272,11 @@ def read_words(words):
         options[name] = value
     if any(name not in options for name in OPTIONS[command]):
         raise Usage(None)
+    ranges = {**RANGES, "--shots": (1, MOST_SAMPLED_SHOTS)} if command == "sample" else RANGES
+    for name in options.keys() & ranges.keys():
+        options[name] = number_within(options[name], *ranges[name])
+    if command == "sample":
+        return command, options
     if options["--format"] not in RECORDS:
         raise Usage(b"fusion: unknown format\n")
     if [options.get(name) for name in NAMES].count("-") > 1:
@@ -275,7 +304,7 @@ def complaints_of(words, files, answer):
     except Usage as usage:
         [said] = usage.args
         return differences(answer, b"", answer.stderr or b"some text" if said is None else said, 6)
-    answers = decode_complaints if command == "decode" else check_complaints
+    answers = {"decode": decode_complaints, "check": check_complaints, "sample": sample_complaints}[command]
     try:
         return answers(options, files, answer)
     except Refused as fault:
@@ -290,17 +319,30 @@ def refusal(fault):
 
 def decode_complaints(options, files, answer):
     graph = read_graph(opened(files, options["--graph"]))
-    items = (1, 0)
-    if "--plan" in options:
-        plan = read_plan(opened(files, options["--plan"]), graph)
-        items = (plan.units, plan.fusions)
+    plan = read_plan(opened(files, options["--plan"]), graph) if "--plan" in options else whole_plan(graph)
     if options["--shots"] not in files:
         return differences(answer, b"fusion-report 1\n", b"fusion: read fault\n", 3)
     shots, fault = read_shots(options["--format"], files[options["--shots"]], graph)
-    complaints = report_complaints(graph, shots, fault is None, answer.stdout, items)
+    complaints = report_complaints(graph, shots, fault is None, answer.stdout, (plan.units, plan.fusions))
+    complaints += events_complaints(options, plan, graph, shots, answer.stdout)
     stderr = refusal(fault) if fault else b""
     status = 2 if fault else decode_status(graph, shots)
     return complaints + differences(answer, answer.stdout, stderr, status)
+
+
+def events_complaints(options, plan, graph, shots, text):
+    """What is wrong with the events that a report tells: all of them where they are asked for, else none."""
+    if "--trace" not in options:
+        told = any(line.startswith((b"took ", b"gave ")) for line in text.splitlines())
+        return ["events that weren't asked for"] if told else []
+    best = {k for k, defects in enumerate(shots) if odd_component(graph, defects) is None}
+    workers, window = options.get("--workers", 1), options.get("--window", 1)
+    return trace_complaints(plan, workers, window, best, len(shots), text)
+
+
+def sample_complaints(options, files, answer):
+    numbers = [options[name] for name in OPTIONS["sample"]]
+    return differences(answer, sample_text(*numbers), b"", 0)
 
 
 def check_complaints(options, files, answer):

@@ -258,6 +258,11 @@ def build_plan(graph, units, fusions):
     return plan
 
 
+def whole_plan(graph):
+    """The plan of one unit, which owns every real vertex."""
+    return Plan(1, 0, {v: 0 for v in detectors(graph)}, {})
+
+
 def are_related(plan, a, b):
     """Whether the one node is the other or above it."""
     low, high = sorted([a, b])

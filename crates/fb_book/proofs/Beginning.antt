@@ -26,13 +26,13 @@ none_at_all {P} n k = step (cases_lt k n)
     step (inl less) = get_or-replicate n k nothing nothing less
     step (inr more) = get_or_past (replicate n nothing) k nothing (subst (λ x. x ≤ k) (sym (length-replicate n nothing)) more)
 
-pub book_at_first : {P : Type 0} (job_of : P → JobValue) (slot_of node_of : P → ℕ) (job : JobValue) (workers : ℕ)
+pub book_at_first : {P : Type 0} (job_of : P → JobValue) (slot_of node_of : P → ℕ) (made_of : P → Option (List ℕ)) (job : JobValue) (workers : ℕ)
     (c : Course) (parked : List (Option P)) (roots : List P) (room : ℕ) → c ≡ course_of job []
     → parked ≡ replicate (item_count (course_of job [])) None → roots ≡ [] → length job.shots ≤ room
-    → IsBook job_of slot_of node_of job workers c parked roots room
-book_at_first {P} job_of slot_of node_of job workers c parked roots room c_is parked_is roots_is enough =
-    subst (λ x. IsBook job_of slot_of node_of job workers x parked roots room) (sym c_is)
-    (subst (λ x. IsBook job_of slot_of node_of job workers (course_of job []) x roots room) (sym parked_is) (record {
+    → IsBook job_of slot_of node_of made_of job workers c parked roots room
+book_at_first {P} job_of slot_of node_of made_of job workers c parked roots room c_is parked_is roots_is enough =
+    subst (λ x. IsBook job_of slot_of node_of made_of job workers x parked roots room) (sym c_is)
+    (subst (λ x. IsBook job_of slot_of node_of made_of job workers (course_of job []) x roots room) (sym parked_is) (record {
       course = refl;
       kept = record {
         by = All-nil (λ e. e.worker ≤ workers);

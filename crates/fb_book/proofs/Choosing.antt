@@ -12,7 +12,7 @@ use Rattle.fb_book.specs.declared.entries.Entry.{Entry}
 use Rattle.fb_book.specs.declared.entries.Status.{Status}
 use Rattle.fb_book.specs.declared.entries.Status.TheVariants.{Idle}
 use Rattle.fb_book.specs.Machine.{Kids, IsForest, status_at, is_idle, is_held, is_used, is_left, is_over, are_given, can_take, replay, all_idle}
-use Rattle.fb_book.specs.Board.{Course, kids_of, nodes_of, item_count, replay_of, statuses_of, place_in, IsRun, MustWait, is_finished, is_ready, unsolved_of, IsItems}
+use Rattle.fb_book.specs.Board.{Course, kids_of, nodes_of, item_count, replay_of, statuses_of, place_in, IsRun, MustWait, is_finished, is_ready, is_starved, unsolved_of, IsItems}
 use Rattle.fb_book.proofs.Statuses.{within, idle_is, MayTake}
 use Rattle.fb_book.proofs.Courses.{IsReached, reached}
 use Rattle.fb_book.proofs.History.{progress, two_each}
@@ -203,6 +203,9 @@ module _ {c : Course} {nodes : ℕ} {parents : List (Option ℕ)} {st : List Sta
       step true e b f = sym (st_is ∙ unsolved_all st (sym i.board.rest ∙ eqb-true unsolved 0 e))
       step false e true f = absurd (true≢false (sym (eq-eqb unsolved 0 (i.board.rest ∙ unsolved_none st f)) ∙ e))
       step false e false f = sym (st_is ∙ f)
+
+  pub starved_if : starved ≡ is_starved c
+  starved_if = i.board.loss ∙ ap (list_any is_left) (sym (statuses_are c st i.board.stands))
 
   pub must_wait : starved ≡ false → ready ≡ [] → item_count c ≤ next → (unsolved == 0) ≡ false → MustWait c
   must_wait fed empty over unfinished = waits

@@ -6,7 +6,7 @@ use Rattle.fb_plan.specs.Plans.{JobValue, children_of, node_count}
 use Rattle.fb_book.specs.declared.entries.Entry.{Entry}
 use Rattle.fb_book.specs.Machine.{IsForest, is_child}
 use Rattle.fb_book.specs.Board.{Course, kids_in, kids_of, shifted}
-use Rattle.fb_book.specs.Books.{AreOfChildren, HandsOut, IsKept, IsPieceAt, course_of, place_of}
+use Rattle.fb_book.specs.Books.{AreOfChildren, HandsOut, IsKept, IsMadeOf, IsPieceAt, course_of, place_of}
 use Rattle.fb_book.proofs.Places.{kids_at}
 
 -- A place is of one slot and node.
@@ -16,11 +16,11 @@ one_item n s m t k less below same = (
   sym (mod-mul-add t n k below) ∙ (ap (λ x. x % n) same ∙ mod-mul-add s n m less),
 )
 
-module _ {P : Type 0} (job_of : P → JobValue) (slot_of node_of : P → ℕ) (job : JobValue) where
+module _ {P : Type 0} (job_of : P → JobValue) (slot_of node_of : P → ℕ) (made_of : P → Option (List ℕ)) (job : JobValue) where
   of_children : (s n left right : ℕ) (a b : P) → IsForest (kids_in job.plan.units job.plan.joins)
       → n < node_count job.plan → kids_in job.plan.units job.plan.joins (place_of job s n) ≡ Some (left, right)
-      → IsPieceAt job_of slot_of node_of job left a → IsPieceAt job_of slot_of node_of job right b
-      → AreOfChildren job_of slot_of node_of job s n a b
+      → IsPieceAt job_of slot_of node_of made_of job left a → IsPieceAt job_of slot_of node_of made_of job right b
+      → AreOfChildren job_of slot_of node_of made_of job s n a b
   of_children s n left right a b forest less kids a_is b_is =
       step (children_of job.plan n) refl (sym (kids_at job.plan.units job.plan.joins s n less) ∙ kids)
     where
@@ -40,7 +40,7 @@ module _ {P : Type 0} (job_of : P → JobValue) (slot_of node_of : P → ℕ) (j
 
       step : (o : Option (ℕ × ℕ)) → children_of job.plan n ≡ o
           → shifted base (children_of job.plan n) ≡ Some (left, right)
-          → AreOfChildren job_of slot_of node_of job s n a b
+          → AreOfChildren job_of slot_of node_of made_of job s n a b
       step None e h =
           let none : shifted base (children_of job.plan n) ≡ None = ap (shifted base) e in
           cc
@@ -61,20 +61,22 @@ module _ {P : Type 0} (job_of : P → JobValue) (slot_of node_of : P → ℕ) (j
             left_slot = a_at.0;
             right_slot = b_at.0;
             nodes = both_nodes l r (node_of a) (node_of b) e a_at.1 b_at.1;
+            left_made = a_is.made;
+            right_made = b_is.made;
           }
 
   -- The pieces that are handed out are those of the fusion's children.
   pub handed : {workers : ℕ} {history : List Entry} {new : Course} {w s n : ℕ} {parked rest : List (Option P)} {a b : P}
-      → IsKept job_of slot_of node_of job workers history parked → IsForest (kids_of (course_of job history))
+      → IsKept job_of slot_of node_of made_of job workers history parked → IsForest (kids_of (course_of job history))
       → HandsOut (course_of job history) new w s n parked rest a b
-      → AreOfChildren job_of slot_of node_of job s n a b
+      → AreOfChildren job_of slot_of node_of made_of job s n a b
   handed {workers} {history} {new} {w} {s} {n} {parked} {rest} {a} {b} kept forest h =
       of_children s n h.left h.right a b forest h.takes.adds.in_nodes h.takes.children
       (kept.pieces h.left a h.left_is) (kept.pieces h.right b h.right_is)
 
   -- The same said of other names.
   pub of_same : {s t n m : ℕ} {a b x y : P} → s ≡ t → n ≡ m → x ≡ a → y ≡ b
-      → AreOfChildren job_of slot_of node_of job s n x y → AreOfChildren job_of slot_of node_of job t m a b
+      → AreOfChildren job_of slot_of node_of made_of job s n x y → AreOfChildren job_of slot_of node_of made_of job t m a b
   of_same {s} {t} {n} {m} {a} {b} {x} {y} slot node left right h = record {
     left_job = subst (λ p. job_of p ≡ job) left h.left_job;
     right_job = subst (λ p. job_of p ≡ job) right h.right_job;
@@ -82,4 +84,6 @@ module _ {P : Type 0} (job_of : P → JobValue) (slot_of node_of : P → ℕ) (j
     right_slot = ap slot_of (sym right) ∙ (h.right_slot ∙ slot);
     nodes = ap (children_of job.plan) (sym node)
         ∙ (h.nodes ∙ (ap (λ p. Some (node_of p, node_of y)) left ∙ ap (λ p. Some (node_of a, node_of p)) right));
+    left_made = subst (λ p. IsMadeOf node_of made_of job p) left h.left_made;
+    right_made = subst (λ p. IsMadeOf node_of made_of job p) right h.right_made;
   }

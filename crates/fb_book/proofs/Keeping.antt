@@ -1,23 +1,25 @@
 -- What a book keeps as a whole, and what its calls tell.
-use Rattle.std.proofs.Common.{ℕ, ◌≡◌, ◌+◌, ◌-◌, ◌*◌, ◌/◌, ◌%◌, ◌<◌, ◌≤◌, true, false, is_some, Option, Some, None, List, length, get_or, set, ◌⊎◌, inl, inr, refl, sym, ap, subst, ◌∙◌, arith}
+use Rattle.std.proofs.Common.{ℕ, ◌≡◌, ◌+◌, ◌-◌, ◌*◌, ◌/◌, ◌%◌, ◌^◌, ◌<◌, ◌≤◌, true, false, is_some, Option, Some, None, List, length, get_or, slice_get, set, ◌⊎◌, inl, inr, refl, sym, ap, subst, ◌∙◌, arith}
 use Rattle.std.proofs.lemmas.Bool.{cases_lt, false≢true}
 use Rattle.std.proofs.lemmas.List.{get_or_past}
+use Rattle.std.proofs.lemmas.Option.{slice_get_within}
 use Rattle.std.proofs.lemmas.Nat.{div-add-mod', mod-mul-add, mod_below, mul-add-lt}
 use Rattle.fb_book.specs.declared.entries.Kind.{Kind}
 use Rattle.fb_book.specs.declared.entries.Kind.TheVariants.{Took, Gave, Left}
 use Rattle.fb_book.specs.declared.entries.Status.{Status}
 use Rattle.fb_book.specs.declared.entries.Status.TheVariants.{Idle, Held, Given, Used, Left as Lost}
 use Rattle.fb_book.specs.Machine.{IsForest, is_child, is_given, is_held_by, is_over, status_at}
-use Rattle.fb_book.specs.Board.{Course, IsCourse, IsRun, nodes_of, item_count, place_in, item_status, Adds, Lets, LetsNot, MustWait, TakesUnit, TakesFusion, is_finished, is_starved, kids_of, statuses_of}
-use Rattle.fb_book.specs.Books.{course_of, HandsOut, IsBook, IsPieceAt, holds, place_of}
+use Rattle.fb_book.specs.Board.{Course, IsCourse, IsRun, nodes_of, item_count, place_in, item_status, Adds, Lets, LetsNot, MustWait, TakesUnit, TakesFusion, is_finished, is_fusion, is_starved, kids_of, statuses_of}
+use Rattle.fb_book.specs.Books.{course_of, AreRootPieces, HandsOut, IsBook, IsPieceAt, holds, place_of}
 use Rattle.fb_plan.specs.Plans.{JobValue, node_count}
-use Rattle.fb_book.proofs.History.{all_at, used_by_parent}
-use Rattle.fb_book.proofs.Places.{child_at}
+use Rattle.fb_book.proofs.History.{all_at, two_each, used_by_parent}
+use Rattle.fb_book.proofs.Places.{child_at, unit_below}
+use Rattle.fb_book.proofs.Products.{small_product}
 use Rattle.fb_book.proofs.Waiting.{course_same, kept_unit_taken, kept_fusion_taken, both_wait, get_else, kept_given, kept_lost}
 
-module _ {P : Type 0} {job_of : P → JobValue} {slot_of node_of : P → ℕ} {job : JobValue} {workers : ℕ}
-    {old : Course} {parked : List (Option P)} {roots : List P} {room : ℕ}
-    (b : IsBook job_of slot_of node_of job workers old parked roots room) (i : IsCourse old) where
+module _ {P : Type 0} {job_of : P → JobValue} {slot_of node_of : P → ℕ} {made_of : P → Option (List ℕ)}
+    {job : JobValue} {workers : ℕ} {old : Course} {parked : List (Option P)} {roots : List P} {room : ℕ}
+    (b : IsBook job_of slot_of node_of made_of job workers old parked roots room) (i : IsCourse old) where
   -- a permit's item is one of the job's
   pub slot_of_job : (s : ℕ) → s < old.slots → s < length job.shots
   slot_of_job s less = subst (λ c. s < c.slots) b.course less
@@ -44,15 +46,21 @@ module _ {P : Type 0} {job_of : P → JobValue} {slot_of node_of : P → ℕ} {j
 
   module _ (new : Course) (w s n : ℕ) where
     course_new : (kind : Kind) → Adds old new kind w s n → new ≡ course_of job new.history
-    course_new kind a = course_same job_of slot_of node_of job workers old new parked b.course i.run b.kept kind w s n a
+    course_new kind a = course_same job_of slot_of node_of made_of job workers old new parked b.course i.run b.kept kind w s n a
 
-    pub book_unit : w ≤ workers → TakesUnit old new w s n → IsBook job_of slot_of node_of job workers new parked roots room
+    pub book_unit : w ≤ workers → TakesUnit old new w s n → IsBook job_of slot_of node_of made_of job workers new parked roots room
     book_unit few t = record {
       course = course_new Took t.adds;
-      kept = kept_unit_taken job_of slot_of node_of job workers old new parked b.course i.run b.kept w s n few t;
+      kept = kept_unit_taken job_of slot_of node_of made_of job workers old new parked b.course i.run b.kept w s n few t;
       roots_are = b.roots_are;
       roots_room = b.roots_room;
     }
+
+    -- a node that is taken as a unit is one
+    pub node_of_unit : TakesUnit old new w s n → n < job.plan.units
+    node_of_unit t =
+        unit_below job.plan.units job.plan.joins s n (node_of_job n t.adds.in_nodes)
+        (subst (λ c. is_fusion c (place_in c s n) ≡ false) b.course t.unit)
 
     pub told_unit : TakesUnit old new w s n → TakesUnit (course_of job old.history) (course_of job new.history) w s n
     told_unit t =
@@ -61,10 +69,10 @@ module _ {P : Type 0} {job_of : P → JobValue} {slot_of node_of : P → ℕ} {j
 
     pub book_fusion : (left right : ℕ) → w ≤ workers → TakesFusion old new w s n left right
         → (rest : List (Option P)) → rest ≡ set (set parked left None) right None
-        → IsBook job_of slot_of node_of job workers new rest roots room
+        → IsBook job_of slot_of node_of made_of job workers new rest roots room
     book_fusion left right few t rest rest_is = record {
       course = course_new Took t.adds;
-      kept = kept_fusion_taken job_of slot_of node_of job workers old new parked b.course i.run b.kept w s n left right few t rest rest_is;
+      kept = kept_fusion_taken job_of slot_of node_of made_of job workers old new parked b.course i.run b.kept w s n left right few t rest rest_is;
       roots_are = b.roots_are;
       roots_room = b.roots_room;
     }
@@ -72,7 +80,7 @@ module _ {P : Type 0} {job_of : P → JobValue} {slot_of node_of : P → ℕ} {j
     pub pieces_wait : (left right : ℕ) → TakesFusion old new w s n left right
         → (is_some (get_or parked left None) ≡ true) × (is_some (get_or (set parked left None) right None) ≡ true)
     pieces_wait left right t =
-        both_wait job_of slot_of node_of job workers old new parked b.course i.run b.kept w s n left right t
+        both_wait job_of slot_of node_of made_of job workers old new parked b.course i.run b.kept w s n left right t
         (i.forest.differ (place_in old s n) (left, right) t.children)
 
     pub told_fusion : (left right : ℕ) → TakesFusion old new w s n left right
@@ -90,21 +98,21 @@ module _ {P : Type 0} {job_of : P → JobValue} {slot_of node_of : P → ℕ} {j
     }
 
     pub book_given : w ≤ workers → Lets old new Gave w s n
-        → (piece : P) → IsPieceAt job_of slot_of node_of job (place_of job s n) piece
+        → (piece : P) → IsPieceAt job_of slot_of node_of made_of job (place_of job s n) piece
         → (more : List (Option P)) → more ≡ set parked (place_in old s n) (Some piece)
-        → IsBook job_of slot_of node_of job workers new more roots room
+        → IsBook job_of slot_of node_of made_of job workers new more roots room
     book_given few l piece piece_is more more_is = record {
       course = course_new Gave l.adds;
-      kept = kept_given job_of slot_of node_of job workers old new parked b.course i.run b.kept w s n few l piece
-          (subst (λ k. IsPieceAt job_of slot_of node_of job k piece) (place_same s n) piece_is) more more_is;
+      kept = kept_given job_of slot_of node_of made_of job workers old new parked b.course i.run b.kept w s n few l piece
+          (subst (λ k. IsPieceAt job_of slot_of node_of made_of job k piece) (place_same s n) piece_is) more more_is;
       roots_are = b.roots_are;
       roots_room = b.roots_room;
     }
 
-    pub book_left : w ≤ workers → Lets old new Left w s n → IsBook job_of slot_of node_of job workers new parked roots room
+    pub book_left : w ≤ workers → Lets old new Left w s n → IsBook job_of slot_of node_of made_of job workers new parked roots room
     book_left few l = record {
       course = course_new Left l.adds;
-      kept = kept_lost job_of slot_of node_of job workers old new parked b.course i.run b.kept w s n few l;
+      kept = kept_lost job_of slot_of node_of made_of job workers old new parked b.course i.run b.kept w s n few l;
       roots_are = b.roots_are;
       roots_room = b.roots_room;
     }
@@ -133,6 +141,26 @@ module _ {P : Type 0} {job_of : P → JobValue} {slot_of node_of : P → ℕ} {j
   pub told_run : IsRun (course_of job old.history)
   told_run = subst IsRun b.course i.run
 
+  pub told_few : item_count (course_of job old.history) ≤ 2 ^ 45
+  told_few = subst (λ c. item_count c ≤ 2 ^ 45) b.course (small_product old.slots (nodes_of old) i.few_slots i.few_nodes)
+
+  -- no item has more than two entries
+  pub told_two : length old.history ≤ 2 * item_count (course_of job old.history)
+  told_two =
+      subst (λ c. length c.history ≤ 2 * item_count c) b.course
+      (two_each (kids_of old) (nodes_of old) (item_count old) old.history (statuses_of old) i.forest i.run).0
+
+  -- the pieces that are taken out of the roots' places are of their items
+  pub root_pieces : (taken : List P) (slots n : ℕ) → slots ≡ old.slots → n ≡ nodes_of old → length taken ≡ slots
+      → ((s : ℕ) → s < slots → get_or parked (s * n + (n - 1)) None ≡ slice_get taken s)
+      → AreRootPieces job_of slot_of node_of made_of job taken
+  root_pieces taken slots n slots_is n_is count each = record {
+    count = count ∙ (slots_is ∙ ap (λ c. c.slots) b.course);
+    each = λ s p e.
+        subst (λ k. IsPieceAt job_of slot_of node_of made_of job (s * k + (k - 1)) p) (n_is ∙ ap nodes_of b.course)
+        (b.kept.pieces (s * n + (n - 1)) p (each s (subst (λ x. s < x) count (slice_get_within taken s p e)) ∙ e));
+  }
+
 -- where a piece stands is a place
 pub some_inside : {P : Type 0} (xs : List (Option P)) (k : ℕ) → is_some (get_or xs k None) ≡ true → k < length xs
 some_inside xs k h = step (cases_lt k (length xs))
@@ -142,11 +170,11 @@ some_inside xs k h = step (cases_lt k (length xs))
     step (inr more) = absurd (false≢true (sym (ap is_some (get_or_past xs k None more)) ∙ h))
 
 -- At the end each root's piece waits, since no fusion uses a root.
-pub root_waits : {P : Type 0} {job_of : P → JobValue} {slot_of node_of : P → ℕ} {job : JobValue} {workers : ℕ}
-    {old : Course} {parked : List (Option P)} {roots : List P} {room : ℕ}
-    → IsBook job_of slot_of node_of job workers old parked roots room → IsCourse old → is_finished old ≡ true
+pub root_waits : {P : Type 0} {job_of : P → JobValue} {slot_of node_of : P → ℕ} {made_of : P → Option (List ℕ)}
+    {job : JobValue} {workers : ℕ} {old : Course} {parked : List (Option P)} {roots : List P} {room : ℕ}
+    → IsBook job_of slot_of node_of made_of job workers old parked roots room → IsCourse old → is_finished old ≡ true
     → (s : ℕ) → s < old.slots → is_some (get_or parked (s * nodes_of old + (nodes_of old - 1)) None) ≡ true
-root_waits {P} {job_of} {slot_of} {node_of} {job} {workers} {old} {parked} b i done s less =
+root_waits {P} {job_of} {slot_of} {node_of} {made_of} {job} {workers} {old} {parked} b i done s less =
     sym (ap (λ c. is_given (status_at (statuses_of c) k)) b.course ∙ b.kept.given k) ∙ step (status_at (statuses_of old) k) refl
   where
     n : ℕ

@@ -10,6 +10,7 @@ pub mod History
 pub mod Images
 pub mod Keeping
 pub mod Letting
+pub mod Making
 pub mod Openings
 pub mod Renumbering
 pub mod Waiting

@@ -35,6 +35,27 @@ kids_at units joins s m less =
     n : ℕ
     n = units + length joins
 
+-- an item without children is a unit
+pub unit_below : (units : ℕ) (joins : List (ℕ × ℕ)) (s m : ℕ) → m < units + length joins
+    → is_some (kids_in units joins (s * (units + length joins) + m)) ≡ false → m < units
+unit_below units joins s m less none = step (nat_lt m units) refl
+  where
+    base : ℕ
+    base = s * (units + length joins)
+
+    step : (b : Bool) → nat_lt m units ≡ b → m < units
+    step true e = ltb-true m units e
+    step false e = absurd (false≢true (sym none ∙ some))
+      where
+        inside : m - units < length joins
+        inside = let above : units ≤ m = ltb-false m units e in omega (arith, above, less)
+
+        some : is_some (kids_in units joins (base + m)) ≡ true
+        some =
+            ap is_some (kids_at units joins s m less)
+            ∙ (ap (λ b. is_some (shifted base (if b then None else slice_get joins (m - units)))) e
+            ∙ ap (λ o. is_some (shifted base o)) (slice_get-get_or joins (m - units) (0, 0) inside))
+
 -- a child by its slot and node
 pub record ChildAt (units : ℕ) (joins : List (ℕ × ℕ)) (k c : ℕ) : Type 0 where
   pub node : ℕ

@@ -72,9 +72,9 @@ emptied xs i j = (λ e. pick (cases_lt i (length xs)) e, λ e. get_else xs i j N
         let size : length (set xs i None) ≡ length xs = length-set xs i None in
         get_or_past (set xs i None) j None (omega (arith, at, size, more))
 
-module _ {P : Type 0} (job_of : P → JobValue) (slot_of node_of : P → ℕ) (job : JobValue) (workers : ℕ)
+module _ {P : Type 0} (job_of : P → JobValue) (slot_of node_of : P → ℕ) (made_of : P → Option (List ℕ)) (job : JobValue) (workers : ℕ)
     (old new : Course) (parked : List (Option P)) (old_is : old ≡ course_of job old.history) (run : IsRun old)
-    (k : IsKept job_of slot_of node_of job workers old.history parked) where
+    (k : IsKept job_of slot_of node_of made_of job workers old.history parked) where
   -- the course of a job is told by its history
   pub course_same : (kind : Kind) (w slot node : ℕ) → Adds old new kind w slot node → new ≡ course_of job new.history
   course_same kind w slot node a =
@@ -100,8 +100,8 @@ module _ {P : Type 0} (job_of : P → JobValue) (slot_of node_of : P → ℕ) (j
   pub kept_by : (kind : Kind) (w slot node : ℕ) → w ≤ workers → (a : Adds old new kind w slot node)
       → (left : List (Option P)) → length left ≡ length parked
       → ((j : ℕ) → is_given (status_at (after (kids_of old) (statuses_of old) kind w (place_in old slot node)) j) ≡ is_some (get_or left j None))
-      → ((j : ℕ) (p : P) → get_or left j None ≡ Some p → IsPieceAt job_of slot_of node_of job j p)
-      → IsKept job_of slot_of node_of job workers new.history left
+      → ((j : ℕ) (p : P) → get_or left j None ≡ Some p → IsPieceAt job_of slot_of node_of made_of job j p)
+      → IsKept job_of slot_of node_of made_of job workers new.history left
   kept_by kind w slot node few a left size given pieces = record {
     by = by_new kind w slot node few a;
     count = size ∙ k.count;
@@ -113,7 +113,7 @@ module _ {P : Type 0} (job_of : P → JobValue) (slot_of node_of : P → ℕ) (j
       statuses = ap statuses_of (sym (course_same kind w slot node a)) ∙ (added old new kind w slot node run a).statuses
 
   pub kept_unit_taken : (w slot node : ℕ) → w ≤ workers → TakesUnit old new w slot node
-      → IsKept job_of slot_of node_of job workers new.history parked
+      → IsKept job_of slot_of node_of made_of job workers new.history parked
   kept_unit_taken w slot node few t = kept_by Took w slot node few t.adds parked refl (λ j. given j (at j)) k.pieces
     where
       q : ℕ
@@ -137,9 +137,9 @@ module _ {P : Type 0} (job_of : P → JobValue) (slot_of node_of : P → ℕ) (j
 
   pub kept_fusion_taken : (w slot node left right : ℕ) → w ≤ workers → TakesFusion old new w slot node left right
       → (rest : List (Option P)) → rest ≡ set (set parked left None) right None
-      → IsKept job_of slot_of node_of job workers new.history rest
+      → IsKept job_of slot_of node_of made_of job workers new.history rest
   kept_fusion_taken w slot node left right few t rest rest_is =
-      subst (λ r. IsKept job_of slot_of node_of job workers new.history r) (sym rest_is)
+      subst (λ r. IsKept job_of slot_of node_of made_of job workers new.history r) (sym rest_is)
       (kept_by Took w slot node few t.adds (set (set parked left None) right None)
       (length-set (set parked left None) right None ∙ length-set parked left None)
       (λ j. given j (at j) (left == j) refl (right == j) refl)
@@ -191,7 +191,7 @@ module _ {P : Type 0} (job_of : P → JobValue) (slot_of node_of : P → ℕ) (j
       given j (same i other f) x e y g = ap is_given f ∙ (given_old j ∙ ap is_some (sym (stays j other)))
 
       pieces : (j : ℕ) (p : P) → (x : Bool) → (left == j) ≡ x → (y : Bool) → (right == j) ≡ y
-          → get_or after_it j None ≡ Some p → IsPieceAt job_of slot_of node_of job j p
+          → get_or after_it j None ≡ Some p → IsPieceAt job_of slot_of node_of made_of job j p
       pieces j p x e true g h = let none : get_or after_it j None ≡ None = (emptied (set parked left None) right j).0 g in cc
       pieces j p true e false g h =
           let none : get_or after_it j None ≡ None = (emptied (set parked left None) right j).1 g ∙ (emptied parked left j).0 e in cc
@@ -218,11 +218,11 @@ module _ {P : Type 0} (job_of : P → JobValue) (slot_of node_of : P → ℕ) (j
       two = ap is_some ((emptied parked left right).1 apart) ∙ one right (or_right (left == right) (right == right) (eq-eqb right right refl))
 
   pub kept_given : (w slot node : ℕ) → w ≤ workers → Lets old new Gave w slot node
-      → (piece : P) → IsPieceAt job_of slot_of node_of job (place_in old slot node) piece
+      → (piece : P) → IsPieceAt job_of slot_of node_of made_of job (place_in old slot node) piece
       → (more : List (Option P)) → more ≡ set parked (place_in old slot node) (Some piece)
-      → IsKept job_of slot_of node_of job workers new.history more
+      → IsKept job_of slot_of node_of made_of job workers new.history more
   kept_given w slot node few l piece piece_is more more_is =
-      subst (λ r. IsKept job_of slot_of node_of job workers new.history r) (sym more_is)
+      subst (λ r. IsKept job_of slot_of node_of made_of job workers new.history r) (sym more_is)
       (kept_by Gave w slot node few l.adds (set parked q (Some piece)) (length-set parked q (Some piece))
       (λ j. given j (set_at (statuses_of old) q Given j (within (statuses_of old) q (ap is_used held))))
       (λ j p e. pieces j p (q == j) refl e))
@@ -251,17 +251,17 @@ module _ {P : Type 0} (job_of : P → JobValue) (slot_of node_of : P → ℕ) (j
       given j (there i f) = ap is_given f ∙ (given_old j ∙ ap is_some (sym (get_else parked q j (Some piece) i)))
 
       pieces : (j : ℕ) (p : P) → (b : Bool) → (q == j) ≡ b → get_or (set parked q (Some piece)) j None ≡ Some p
-          → IsPieceAt job_of slot_of node_of job j p
+          → IsPieceAt job_of slot_of node_of made_of job j p
       pieces j p true i e =
           let same : piece ≡ p = some_is piece p (sym (get_set parked q j (Some piece) inside i) ∙ e) in
-          subst (λ x. IsPieceAt job_of slot_of node_of job j x) same (subst (λ x. IsPieceAt job_of slot_of node_of job x piece) (eqb-true q j i) piece_is)
+          subst (λ x. IsPieceAt job_of slot_of node_of made_of job j x) same (subst (λ x. IsPieceAt job_of slot_of node_of made_of job x piece) (eqb-true q j i) piece_is)
         where
           some_is : (x y : P) → Some x ≡ Some y → x ≡ y
           some_is x y e = cc
       pieces j p false i e = k.pieces j p (sym (get_else parked q j (Some piece) i) ∙ e)
 
   pub kept_lost : (w slot node : ℕ) → w ≤ workers → Lets old new Left w slot node
-      → IsKept job_of slot_of node_of job workers new.history parked
+      → IsKept job_of slot_of node_of made_of job workers new.history parked
   kept_lost w slot node few l =
       kept_by Left w slot node few l.adds parked refl
       (λ j. given j (set_at (statuses_of old) q Lost j (within (statuses_of old) q (ap is_used held)))) k.pieces

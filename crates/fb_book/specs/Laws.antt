@@ -9,11 +9,21 @@ use Rattle.fb_book.specs.declared.entries.Status.{Status}
 use Rattle.fb_book.specs.declared.entries.Status.TheVariants.{Idle, Held, Given, Used, Left as Lost}
 use Rattle.fb_book.specs.Machine.{Kids, IsForest, AreSlots, IsComplete, IsCompleteOn, is_child, status_at, is_idle, is_held, is_left, is_over, can_take, replay, place, trace, all_idle}
 use Rattle.fb_book.specs.Board.{kids_in}
-use Rattle.fb_plan.specs.Plans.{PlanTree, IsTree}
+use Rattle.fb_book.specs.Books.{nodes_made}
+use Rattle.fb_plan.specs.Plans.{PlanTree, IsTree, children_of}
 
 -- The items of every plan's tree are a forest, in all slots together.
 abbrev pub ItemsAreForest : Type 0
 ItemsAreForest = (tree : PlanTree) → IsTree tree → IsForest (kids_in tree.units tree.joins)
+
+-- For a unit's piece the unit itself is made, and nothing else.
+abbrev pub UnitIsMadeAlone : Type 0
+UnitIsMadeAlone = (tree : PlanTree) → IsTree tree → (n : ℕ) → n < tree.units → nodes_made tree n ≡ n ∷ []
+
+-- For a fusion's piece all of its left child is made, then all of its right child, and then the fusion.
+abbrev pub FusionIsMadeLast : Type 0
+FusionIsMadeLast = (tree : PlanTree) → IsTree tree → (n left right : ℕ) → children_of tree n ≡ Some (left, right)
+    → nodes_made tree n ≡ nodes_made tree left ++ nodes_made tree right ++ n ∷ []
 
 -- what was done with an item of this status
 abbrev pub Told : Status → List (Kind × ℕ) → Type 0

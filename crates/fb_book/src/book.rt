@@ -1,8 +1,8 @@
-ghost use Rattle.std.specs.Prelude.{◌≡◌, ◌<◌, ◌≤◌, ◌⊎◌, true, false, Some, None, List, [], slice_set, replicate, All, IfOk, IfErr, OnErr, OnOk};
+ghost use Rattle.std.specs.Prelude.{◌≡◌, ◌*◌, ◌^◌, ◌<◌, ◌≤◌, ◌⊎◌, true, false, Some, None, List, [], length, slice_set, replicate, All, IfOk, IfErr, OnErr, OnOk};
 ghost use Rattle.fb_book.specs.declared.entries.Kind.TheVariants.{Gave, Left};
 ghost use Rattle.fb_book.specs.Machine.{IsForest};
 ghost use Rattle.fb_book.specs.Board.{IsRun, Lets, MustWait, TakesUnit, is_finished, is_starved, item_count, kids_of};
-ghost use Rattle.fb_book.specs.Books.{AreOfChildren, AreRoots, HandsOut, IsKept, IsPieceAt, course_of, holds, place_of};
+ghost use Rattle.fb_book.specs.Books.{AreOfChildren, AreRootPieces, AreRoots, HandsOut, IsKept, IsPieceAt, course_of, holds, place_of};
 
 use crate::entries::Entry;
 use crate::items::{Items, Turn};
@@ -45,8 +45,8 @@ impl<P: Piece, N: Board> Model for Book<P, N> {
 
     ghost view = { λ b. (b.items.history, b.parked.items) };
 
-    ghost invariant = { λ b. IsBook P.job_of P.slot_of P.node_of N.job N.workers b.items b.parked.items b.roots.items
-        (vec_capacity b.roots) };
+    ghost invariant = { λ b. IsBook P.job_of P.slot_of P.node_of P.made_of N.job N.workers b.items
+        b.parked.items b.roots.items (vec_capacity b.roots) };
 }
 
 impl<P: Piece, N: Board> Book<P, N> {
@@ -82,11 +82,12 @@ impl<P: Piece, N: Board> Book<P, N> {
         ensures unit { (permit : _) → result ≡ Claim.Unit permit → (permit.worker ≡ worker)
             × TakesUnit (course_of N.job self.old.0) (course_of N.job self.new.0) worker permit.slot permit.node
             × (self.new.1 ≡ self.old.1) }
+        ensures units { (permit : _) → result ≡ Claim.Unit permit → permit.node < N.job.plan.units }
         ensures fusion { (permit : _) (a b : P) → result ≡ Claim.Fusion permit a b → (permit.worker ≡ worker)
             × HandsOut (course_of N.job self.old.0) (course_of N.job self.new.0) worker permit.slot permit.node
             self.old.1 self.new.1 a b }
         ensures pieces { (permit : _) (a b : P) → result ≡ Claim.Fusion permit a b
-            → AreOfChildren P.job_of P.slot_of P.node_of N.job permit.slot permit.node a b }
+            → AreOfChildren P.job_of P.slot_of P.node_of P.made_of N.job permit.slot permit.node a b }
         ensures not_yet { result ≡ Claim.NotYet → (self.new ≡ self.old) × MustWait (course_of N.job self.old.0) }
         ensures over { result ≡ Claim.Over → (self.new ≡ self.old) × ((is_starved (course_of N.job self.old.0) ≡ true)
             ⊎ (is_finished (course_of N.job self.old.0) ≡ true)) }
@@ -107,7 +108,8 @@ impl<P: Piece, N: Board> Book<P, N> {
     /// Gives the item of the permit, and leaves its piece for the fusion above it. Gives both back where the item isn't
     /// held by the permit's worker.
     pub fn post(&mut self, permit: Permit<N>, piece: P) -> Result<(), (Permit<N>, P)>
-        requires { IsPieceAt P.job_of P.slot_of P.node_of N.job (place_of N.job permit.slot permit.node) piece }
+        requires { IsPieceAt P.job_of P.slot_of P.node_of P.made_of N.job
+            (place_of N.job permit.slot permit.node) piece }
         ensures ok { OnOk result (Lets (course_of N.job self.old.0) (course_of N.job self.new.0) Gave permit.worker
             permit.slot permit.node) }
         ensures parks { OnOk result (self.new.1
@@ -147,6 +149,13 @@ impl<P: Piece, N: Board> Book<P, N> {
         Ok(())
     }
 
+    /// The number of items.
+    pub fn item_count(&self) -> usize
+        ensures { result ≡ item_count (course_of N.job self.now.0) }
+    {
+        self.parked.as_slice().len()
+    }
+
     /// All entries so far.
     pub fn history(&self) -> &[Entry]
         ensures { result.now ≡ self.now.0 }
@@ -162,20 +171,30 @@ impl<P: Piece, N: Board> Book<P, N> {
     }
 
     /// Does nothing. Its clauses say what every book keeps: the machine allows its history, a piece waits at each item
-    /// that is given, and the items are a forest, as the laws on histories ask.
+    /// that is given, the items are a forest, as the laws on histories ask, and no item has more than two entries.
     pub fn keeps(&self)
         ensures run { IsRun (course_of N.job self.now.0) }
         ensures forest { IsForest (kids_of (course_of N.job self.now.0)) }
-        ensures kept { IsKept P.job_of P.slot_of P.node_of N.job N.workers self.now.0 self.now.1 }
+        ensures few { item_count (course_of N.job self.now.0) ≤ 2 ^ 45 }
+        ensures two { length self.now.0 ≤ 2 * item_count (course_of N.job self.now.0) }
+        ensures kept { IsKept P.job_of P.slot_of P.node_of P.made_of N.job N.workers self.now.0 self.now.1 }
     {
         self.items.keeps();
         let _parked = &self.parked;
+    }
+
+    /// Whether an item was left for want of memory.
+    pub fn is_starved(&self) -> bool
+        ensures { result ≡ is_starved (course_of N.job self.now.0) }
+    {
+        self.items.is_starved()
     }
 
     /// The pieces of all slots' roots in the order of the slots, and all entries.
     pub fn take_roots(self) -> (Vec<P>, Vec<Entry>)
         requires { is_finished (course_of N.job self.0) ≡ true }
         ensures roots { AreRoots N.job self.1 result.0.items }
+        ensures pieces { AreRootPieces P.job_of P.slot_of P.node_of P.made_of N.job result.0.items }
         ensures history { result.1.items ≡ self.0 }
     {
         let Book {

@@ -106,6 +106,13 @@ impl Items {
         self.unsolved == 0
     }
 
+    /// Whether an item was left.
+    pub fn is_starved(&self) -> bool
+        ensures { result ≡ is_starved self.now }
+    {
+        self.starved
+    }
+
     /// All entries so far.
     pub fn history(&self) -> &[Entry]
         ensures { result.now ≡ self.now.history }

@@ -1,10 +1,17 @@
-//! What holds of every history that the machine allows. Each function does nothing: its clauses are the law.
+//! What holds of every history that the machine allows, and of the nodes of a plan. Each function does nothing: its clauses are the law.
 
-ghost use Rattle.fb_book.specs.Laws.{ItemsAreForest, RenumberingAllows, RenumberingCompletes, Progress, TellsStatus, TwoEach, TakenAndGiven, TakenAndGivenOn, CompleteOnSlots, ChildrenBefore, UsedByParent, DoneIsComplete};
+ghost use Rattle.fb_book.specs.Laws.{ItemsAreForest, RenumberingAllows, RenumberingCompletes, Progress, TellsStatus, TwoEach, TakenAndGiven, TakenAndGivenOn, CompleteOnSlots, ChildrenBefore, UsedByParent, DoneIsComplete, FusionIsMadeLast, UnitIsMadeAlone};
 
 /// The items of a plan are a forest, as the laws on histories ask. A job's plan is a tree: `Job::keeps` tells it.
 pub fn items_of_plan()
     ensures { ItemsAreForest }
+{}
+
+/// In which order the nodes of a subtree are made: a unit is made alone, and a fusion after all of its left child and then
+/// all of its right child.
+pub fn order_of_nodes()
+    ensures unit { UnitIsMadeAlone }
+    ensures fusion { FusionIsMadeLast }
 {}
 
 /// Where nothing is held or left, some item can be taken, or every item is given or used. Of the used ones each is a

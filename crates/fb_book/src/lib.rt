@@ -14,7 +14,9 @@ mod tables;
 
 pub use book::{Book, Claim};
 pub use entries::{Entry, Kind, Status};
-pub use laws::{complete_history, entries_of_item, items_of_plan, progress, renumbered_slots};
+pub use laws::{
+    complete_history, entries_of_item, items_of_plan, order_of_nodes, progress, renumbered_slots,
+};
 pub use permit::{Board, Permit, Piece};
 
 #[cfg(test)]

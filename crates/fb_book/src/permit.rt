@@ -1,4 +1,4 @@
-ghost use Rattle.std.specs.Prelude.{◌≡◌, ℕ, ◌<◌, ◌≤◌, length};
+ghost use Rattle.std.specs.Prelude.{◌≡◌, ℕ, ◌<◌, ◌≤◌, length, List, Option};
 ghost use Rattle.fb_plan.specs.Plans.{JobValue, node_count};
 
 use std::alloc::Global;
@@ -12,6 +12,9 @@ pub trait Piece: Drop {
     ghost slot_of: { Self → ℕ };
 
     ghost node_of: { Self → ℕ };
+
+    /// The nodes that were made for it, in order, where that is known.
+    ghost made_of: { Self → Option (List ℕ) };
 
     /// The slot of its item.
     fn slot(&self) -> u32
@@ -29,6 +32,8 @@ impl<P: Piece> Piece for Box<P, Global> {
     ghost slot_of = { λ b. P.slot_of b.value };
 
     ghost node_of = { λ b. P.node_of b.value };
+
+    ghost made_of = { λ b. P.made_of b.value };
 
     fn slot(&self) -> u32 {
         (**self).slot()

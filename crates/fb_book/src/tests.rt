@@ -1,4 +1,4 @@
-//! A run of a small plan step by step, its refusals, and whole runs by one worker.
+//! A run of a small plan by two workers, step by step, and a whole run by one worker.
 
 ghost use Rattle.std.specs.Prelude.{◌≡◌, ◌+◌, ◌≤◌, length, All, None, IfOk, OnOk};
 ghost use Rattle.fb_graph.specs.Components.{IsFirstOdd};
@@ -31,6 +31,8 @@ impl<'a> Piece for Solved<'a> {
 
     ghost node_of = { λ p. p.node };
 
+    ghost made_of = { λ _. None };
+
     fn slot(&self) -> u32 {
         self.slot
     }
@@ -62,31 +64,6 @@ fn halves(alloc: Global, graph: &Graph) -> Result<Plan, PlanFault>
     };
     if units.push(left).is_err() || units.push(right).is_err() || fusions.push(join).is_err() {
         return Err(PlanFault::NoMemory);
-    }
-    Plan::build(alloc, graph, &units, &fusions)
-}
-
-/// The plan of so many units that own nothing; each fusion joins the two least nodes that are left.
-fn paired(alloc: Global, graph: &Graph, count: u32) -> Result<Plan, PlanFault>
-    ensures { IfOk result (IsPlan graph.now) }
-{
-    let mut units: Vec<Vec<(u64, u64)>> = Vec::new(alloc);
-    let mut fusions = Vec::new(alloc);
-    for unit in 0..count {
-        if units.push(Vec::new(alloc)).is_err() {
-            return Err(PlanFault::NoMemory);
-        }
-        if unit > 0 {
-            let right = 2 * u64::from(unit) - 1;
-            let join = Join {
-                left: right - 1,
-                right,
-                seam: Vec::new(alloc),
-            };
-            if fusions.push(join).is_err() {
-                return Err(PlanFault::NoMemory);
-            }
-        }
     }
     Plan::build(alloc, graph, &units, &fusions)
 }
@@ -208,69 +185,6 @@ fn runs_the_row(rt: HostRuntime) -> Result<(), Fail> {
     worked_row::<Brand, _>(&rt, rt.alloc(), &job)
 }
 
-fn starved_row<'a, N: Board, R: Abort>(rt: &R, alloc: Global, job: &'a Job<'a>) -> Result<(), Fail>
-    requires job { N.job ≡ job.now }
-    requires workers { N.workers ≡ 2 }
-{
-    let mut book: Book<Solved<'a>, N> = Book::new(alloc, job, 2)?;
-    let first = unit(&mut book, 0)?;
-    let second = unit(&mut book, 1)?;
-    assert_eq!(rt; book.starve(first).is_ok(), true);
-    assert_eq!(rt; told(book.claim(0)), "over");
-    post(&mut book, job, second)?;
-    assert_eq!(rt; told(book.claim(1)), "over");
-    assert_eq!(rt; book.is_done(), false);
-    Ok(())
-}
-
-/// After one item was left nothing can be taken.
-#[test]
-fn starves(rt: HostRuntime) -> Result<(), Fail> {
-    let graph = Graph::build(rt.alloc(), 5, &LINE, &[0, 4])?;
-    let plan = halves(rt.alloc(), &graph)?;
-    let shots = shots(rt.alloc(), &graph, 1)?;
-    let job = Job::new(&graph, &plan, shots);
-    starved_row::<Brand, _>(&rt, rt.alloc(), &job)
-}
-
-fn strange_permit<'a, N: Board, R: Abort>(
-    rt: &R,
-    alloc: Global,
-    job: &'a Job<'a>,
-) -> Result<(), Fail>
-    requires job { N.job ≡ job.now }
-    requires workers { N.workers ≡ 2 }
-{
-    let mut book: Book<Solved<'a>, N> = Book::new(alloc, job, 2)?;
-    let mut other: Book<Solved<'a>, N> = Book::new(alloc, job, 2)?;
-    let _first = unit(&mut book, 0)?;
-    let second = unit(&mut book, 1)?;
-    let piece = Solved {
-        job,
-        slot: second.slot(),
-        node: second.node(),
-    };
-    let Err((permit, piece)) = other.post(second, piece) else {
-        return Err(Fail::from("the item is idle"));
-    };
-    assert_eq!(rt; (permit.worker(), permit.node(), piece.node()), (1, 1, 1));
-    assert_eq!(rt; other.history().len(), 0);
-    assert_eq!(rt; unit(&mut other, 1)?.node(), 0);
-    post(&mut book, job, permit)?;
-    assert_eq!(rt; book.history().len(), 3);
-    Ok(())
-}
-
-/// A permit of another book of the same job is given back where its item is idle, and so is its piece.
-#[test]
-fn gives_a_strange_permit_back(rt: HostRuntime) -> Result<(), Fail> {
-    let graph = Graph::build(rt.alloc(), 5, &LINE, &[0, 4])?;
-    let plan = halves(rt.alloc(), &graph)?;
-    let shots = shots(rt.alloc(), &graph, 1)?;
-    let job = Job::new(&graph, &plan, shots);
-    strange_permit::<Brand, _>(&rt, rt.alloc(), &job)
-}
-
 /// Does the items one after another until nothing can be taken.
 fn work<'a, N: Board>(book: &mut Book<Solved<'a>, N>, job: &'a Job<'a>) -> Result<(), Fail>
     requires { N.job ≡ job.now }
@@ -314,18 +228,5 @@ fn runs_several_slots(rt: HostRuntime) -> Result<(), Fail> {
     let (slots, entries) = whole_run::<Brand>(rt.alloc(), &job)?;
     assert_eq!(rt; slots.as_slice(), [0, 1, 2].as_slice());
     assert_eq!(rt; entries, 18);
-    Ok(())
-}
-
-/// 64 slots of 4,096 units and 4,095 fusions: 524,224 items.
-#[test]
-fn runs_the_largest_tree(rt: HostRuntime) -> Result<(), Fail> {
-    let graph = Graph::build(rt.alloc(), 0, &[], &[])?;
-    let plan = paired(rt.alloc(), &graph, 4096)?;
-    let shots = shots(rt.alloc(), &graph, 64)?;
-    let job = Job::new(&graph, &plan, shots);
-    let (slots, entries) = whole_run::<Brand>(rt.alloc(), &job)?;
-    assert_eq!(rt; (slots.len(), slots.last()), (64, Some(&63)));
-    assert_eq!(rt; entries, 1_048_448);
     Ok(())
 }

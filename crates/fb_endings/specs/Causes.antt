@@ -1,7 +1,7 @@
 -- How a run ends: its status and what it says on standard error.
 use Rattle.std.specs.Prelude.{ℕ, List, [], ◌∷◌, ◌++◌, codes, decimal, Option, Some, None}
 use Rattle.fb_report.specs.Texts.{line}
-use Rattle.fb_endings.specs.Faults.{graph_name, graph_number, graph_place, kind_name, plan_name, plan_number, plan_place, report_name, report_number, report_place}
+use Rattle.fb_endings.specs.Faults.{graph_name, graph_number, graph_place, kind_name, plan_name, plan_number, plan_place, report_name, report_number, report_place, sample_name}
 use Rattle.fb_endings.specs.declared.ending.Cause.{Cause}
 use Rattle.fb_endings.specs.declared.ending.Cause.TheVariants.{Done, Odd, Bad, Refused, ReadFault, WriteFault, NoMemory, Usage}
 use Rattle.fb_endings.specs.declared.ending.Refusal.{Refusal}
@@ -24,18 +24,21 @@ refusal_name (refusal.Graph fault) = graph_name fault
 refusal_name (refusal.Plan fault) = plan_name fault
 refusal_name (refusal.Report fault) = report_name fault
 refusal_name (refusal.Shot fault) = kind_name fault.kind
+refusal_name (refusal.Sample fault) = sample_name fault
 
 abbrev pub refusal_place : Refusal → Option (List ℕ)
 refusal_place (refusal.Graph fault) = graph_place fault
 refusal_place (refusal.Plan fault) = plan_place fault
 refusal_place (refusal.Report fault) = report_place fault
 refusal_place (refusal.Shot fault) = Some (codes "shot")
+refusal_place (refusal.Sample fault) = None
 
 abbrev pub refusal_number : Refusal → Option ℕ
 refusal_number (refusal.Graph fault) = graph_number fault
 refusal_number (refusal.Plan fault) = plan_number fault
 refusal_number (refusal.Report fault) = report_number fault
 refusal_number (refusal.Shot fault) = Some fault.shot
+refusal_number (refusal.Sample fault) = None
 
 -- a word, where there is one
 abbrev pub if_any : Option (List ℕ) → List (List ℕ)

@@ -1,6 +1,8 @@
--- What the faults of a graph's text, of a plan, of a report and of shots are called on standard error, and where they
--- stand: a word, a number, both or neither.
+-- What the faults of a graph's text, of a plan, of a report, of shots and of what is sampled are called on standard
+-- error, and where they stand: a word, a number, both or neither.
 use Rattle.std.specs.Prelude.{ℕ, List, codes, Option, Some, None}
+use Rattle.fb_gen.specs.declared.faults.GenFault.{GenFault}
+use Rattle.fb_gen.specs.declared.faults.GenFault.TheVariants as gen
 use Rattle.fb_graph.specs.declared.faults.GraphFault.{GraphFault}
 use Rattle.fb_graph.specs.declared.faults.GraphFault.TheVariants as rule
 use Rattle.fb_graph_in.specs.declared.faults.Member.{Member}
@@ -206,3 +208,10 @@ kind_name (kind.Stim k) = stim_name k
 kind_name (kind.Json k) = json_name k
 kind_name kind.TooManyShots = codes "TooManyShots"
 kind_name kind.InputTooLong = codes "InputTooLong"
+
+-- ---- what is sampled
+
+abbrev pub sample_name : GenFault → List ℕ
+sample_name gen.LatticeTooLarge = codes "LatticeTooLarge"
+sample_name gen.TooFewRounds = codes "TooFewRounds"
+sample_name gen.NoMemory = codes "NoMemory"

@@ -3,6 +3,7 @@
 ghost use Rattle.std.specs.Prelude.{◌≡◌};
 ghost use Rattle.fb_endings.specs.Causes.{status_of};
 
+use fb_gen::GenFault;
 use fb_graph_in::TextFault;
 use fb_plan::PlanFault;
 use fb_shots::ShotFault;
@@ -20,6 +21,8 @@ pub enum Refusal {
     Report(ReportFault),
     /// A shot, or what stands in its place.
     Shot(ShotFault),
+    /// There is no such lattice to sample, or no such plan of it. It is never the want of memory.
+    Sample(GenFault),
 }
 
 /// Why a run ended.

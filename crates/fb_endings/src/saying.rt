@@ -4,9 +4,10 @@ ghost use Rattle.std.specs.Prelude.{◌≡◌, ◌≢◌, ◌<◌, ◌^◌, ◌-
 ghost use Rattle.fb_ports.specs.Causes.{AppendsFront, HasCause};
 ghost use Rattle.std.specs.Io.KnownBytes.{Appends};
 ghost use Rattle.fb_endings.specs.Causes.{line_of, fixed_line, refusal_line, refusal_name, refusal_place, refusal_number};
-ghost use Rattle.fb_endings.specs.Faults.{graph_name, graph_place, graph_number, member_name, member_of, plan_name, plan_number, plan_place, report_name, report_number, report_place, rule_name, rule_number, kind_name, stim_name, json_name};
+ghost use Rattle.fb_endings.specs.Faults.{graph_name, graph_place, graph_number, member_name, member_of, plan_name, plan_number, plan_place, report_name, report_number, report_place, rule_name, rule_number, kind_name, sample_name, stim_name, json_name};
 
 use crate::ending::{Cause, Refusal};
+use fb_gen::GenFault;
 use fb_graph::GraphFault;
 use fb_graph_in::{Member, Place, TextFault};
 use fb_plan::{Member as PlanMember, Place as PlanPlace, PlanFault};
@@ -100,6 +101,7 @@ impl Refusal {
             Refusal::Plan(fault) => plan_name(fault),
             Refusal::Report(fault) => report_name(fault),
             Refusal::Shot(fault) => kind_name(fault.kind),
+            Refusal::Sample(fault) => sample_name(fault),
         }
     }
 
@@ -112,6 +114,7 @@ impl Refusal {
             Refusal::Plan(fault) => plan_place(fault),
             Refusal::Report(fault) => report_place(fault),
             Refusal::Shot(_) => Some("shot"),
+            Refusal::Sample(_) => None,
         }
     }
 
@@ -124,6 +127,7 @@ impl Refusal {
             Refusal::Plan(fault) => plan_number(fault),
             Refusal::Report(fault) => report_number(fault),
             Refusal::Shot(fault) => Some(u64::from(fault.shot)),
+            Refusal::Sample(_) => None,
         }
     }
 }
@@ -333,5 +337,15 @@ fn json_name(kind: JsonKind) -> &'static str
         JsonKind::DefectOnVirtual => "DefectOnVirtual",
         JsonKind::DefectRepeated => "DefectRepeated",
         JsonKind::ErasureNotTaken => "ErasureNotTaken",
+    }
+}
+
+fn sample_name(fault: GenFault) -> &'static str
+    ensures { result.now ≡ sample_name fault }
+{
+    match fault {
+        GenFault::LatticeTooLarge => "LatticeTooLarge",
+        GenFault::TooFewRounds => "TooFewRounds",
+        GenFault::NoMemory => "NoMemory",
     }
 }

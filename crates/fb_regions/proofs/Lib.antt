@@ -26,7 +26,9 @@ pub mod MergedRegions
 pub mod MergedStates
 pub mod Moved
 pub mod Opened
+pub mod Paged
 pub mod Parents
+pub mod PositiveCuts
 pub mod Radii
 pub mod Readings
 pub mod RenamedRegions

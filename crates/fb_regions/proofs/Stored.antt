@@ -199,7 +199,7 @@ module _ (places keys : List ℕ) (count keys_room values_room : ℕ) (stored : 
     moves : i < length rest → get_or rest i 0 ≡ get_or keys (length keys - 1) 0
     moves short = ap (λ l. get_or l i 0) left ∙ swapped_here keys i taken 0 (omega (arith, short, long))
 
-    rest_within : All (λ k. k < length places) rest
+    pub rest_within : All (λ k. k < length places) rest
     rest_within =
         All-from_get_or (λ k. k < length places) rest 0
         (λ j short. by j short (cases_eq j i))

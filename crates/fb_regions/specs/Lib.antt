@@ -3,6 +3,7 @@ pub mod InternalKept
 pub mod InternalListings
 pub mod InternalMerged
 pub mod InternalNodes
+pub mod InternalPages
 pub mod InternalPlaces
 pub mod InternalSparse
 pub mod Merged

@@ -5,6 +5,7 @@
 mod listing;
 mod marks;
 mod merging;
+mod paged_numbers;
 mod places;
 mod region;
 pub mod regions;

@@ -32,7 +32,8 @@ fn put_before(marks: &mut Marks, v: u32, before: u32)
     ensures { marks.new ≡ put_behind marks.old v before }
 {
     if let Some(mark) = marks.at(v) {
-        marks.put(v, Mark { before, ..mark });
+        let behind = Mark { before, ..*mark };
+        marks.put(v, behind);
     }
 }
 

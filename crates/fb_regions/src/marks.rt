@@ -1,4 +1,4 @@
-ghost use Rattle.std.specs.Prelude.{◌≡◌, ◌<◌, ℕ, get_or, length, is_some, option_and_then, replicate, set, All, IfOk, None, Some};
+ghost use Rattle.std.specs.Prelude.{◌≡◌, ◌<◌, ℕ, get_or, length, is_some, option_and_then, option_map, replicate, set, All, IfOk, None, Some};
 ghost use Rattle.fb_graph.specs.Certificate.{AreDistinct};
 ghost use Rattle.fb_graph.specs.Parity.{is_in};
 ghost use Rattle.fb_regions.specs.InternalNodes.{before_of, mark_of, under_of};
@@ -21,7 +21,7 @@ pub struct Hop {
 pub struct Mark {
     /// The defect from which its walk leads.
     pub source: u32,
-    /// The last vertex that the node held before it.
+    /// The vertex listed before it. The first of a list has none, and this number says nothing there.
     pub before: u32,
     /// The last step of the walk; none for a defect.
     pub by: Option<Hop>,
@@ -36,7 +36,7 @@ pub struct Mark {
 }
 
 /// The marks of the vertices that nodes hold, which contracts see as a list with an entry for each vertex. Only `new` takes
-/// memory.
+/// memory, room for a mark of each vertex, of which it touches none.
 #[derive(Drop)]
 pub struct Marks {
     table: SparseTable<Mark>,
@@ -62,11 +62,11 @@ impl Marks {
     }
 
     /// The mark of a vertex; none where no node holds it.
-    pub fn at(&self, v: u32) -> Option<Mark>
-        ensures { result ≡ mark_of self.now v }
+    pub fn at(&self, v: u32) -> Option<&Mark>
+        ensures { option_map (λ m. m.now) result ≡ mark_of self.now v }
     {
         self.table.keeps();
-        self.table.get(v)
+        self.table.get_ref(v)
     }
 
     /// The last step of a vertex's walk; none for a defect and for a vertex without mark.
@@ -76,7 +76,7 @@ impl Marks {
         self.at(v)?.by
     }
 
-    /// The vertex listed before this one; 0 for a vertex without mark.
+    /// The vertex listed before this one, which says nothing at the first of a list; 0 for a vertex without mark.
     pub fn before(&self, v: u32) -> u32
         ensures { result ≡ before_of self.now v }
     {

@@ -67,7 +67,7 @@ pub fn take_marks(marks: &mut Marks, others: &Marks, names: &Names)
     for v in others.marked() {
         if let Some(mark) = others.at(*v) {
             let leaf = renamed(names, mark.leaf);
-            marks.put(*v, Mark { leaf, ..mark });
+            marks.put(*v, Mark { leaf, ..*mark });
         }
     }
 }

@@ -3,7 +3,7 @@ ghost use Rattle.std.specs.List.{concat};
 ghost use Rattle.fb_graph.specs.Dual.{layers_of};
 ghost use Rattle.fb_graph.specs.Printed.{is_positive};
 ghost use Rattle.fb_regions.specs.declared.marks.Mark.{Mark};
-ghost use Rattle.fb_graph.specs.Certificate.{AreDistinct};
+ghost use Rattle.fb_graph.specs.Certificate.{AreDistinct, total_value};
 ghost use Rattle.fb_regions.specs.InternalNodes.{adopted, chain, node_of, radii_from, root_from};
 ghost use Rattle.fb_regions.specs.InternalPlaces.{AreJoinedAbove, IsIndex};
 
@@ -124,15 +124,20 @@ pub fn layers(alloc: Global, marks: &Marks, region: &Region) -> Result<Vec<Cut>,
     Ok(layers)
 }
 
-/// Copies of the layers of a node that have a value, from the first to the top, behind those of a list.
+/// Copies of the layers of a node that have a value, from the first to the top, behind those of a list. Its vertices are
+/// read only if there are such layers.
 pub fn put_cuts(
     alloc: Global,
     marks: &Marks,
     region: &Region,
     cuts: &mut Vec<Cut>,
 ) -> Result<(), NoMemory>
+    requires { region.now.radius ≡ total_value (layers_of (node_of marks.now region.now)) }
     ensures { OnOk result (cuts.new.items ≡ cuts.old.items ++ filter is_positive (layers_of (node_of marks.now region.now))) }
 {
+    if region.radius == 0 {
+        return Ok(());
+    }
     let added = listed(alloc, marks, region.added, region.last)?;
     let mut set = listed(alloc, marks, region.base, region.base_last)?;
     for v in added.as_slice() {

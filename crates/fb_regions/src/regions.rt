@@ -40,7 +40,7 @@ pub struct Regions<S: Scope> {
     regions: Vec<Region>,
     /// The place of each node, by its name.
     places: Vec<Option<usize>>,
-    /// A mark for each vertex of the scope.
+    /// A mark for each vertex that a node holds.
     marks: Marks,
 }
 
@@ -63,7 +63,7 @@ impl<S: Scope> Model for Regions<S> {
 }
 
 impl<S: Scope> Regions<S> {
-    /// The state without nodes. Takes time and room for each vertex of the scope.
+    /// The state without nodes. Takes room for a mark of each vertex of the scope, and time for each 512 vertices.
     pub fn new(alloc: Global, scope: &S) -> Result<Regions<S>, NoMemory>
         ensures { IfOk result (λ r. r ≡ record { scope = scope.now; nodes = [] }) }
     {
@@ -409,7 +409,8 @@ impl<S: Scope> Regions<S> {
     }
 
     /// Copies of the layers of positive value of all nodes: for each node in the order in which they were made, from its
-    /// first layer to its top one. Its time is that of the sets that it copies, and of each node's vertices.
+    /// first layer to its top one. Its time is that of the nodes, of the sets that it copies, and of the vertices that were
+    /// taken up, once each.
     pub fn cuts(&self, alloc: Global) -> Result<Vec<Layer>, NoMemory>
         ensures { IfOk result (λ cuts. cuts.items ≡ filter is_positive (all_cuts self.now.nodes)) }
     {
@@ -439,7 +440,7 @@ impl<S: Scope> Regions<S> {
         self.potential(defect)
     }
 
-    /// The first of the node's vertices, which is a defect.
+    /// The first of the node's vertices.
     pub fn first_vertex(&self, node: NodeId) -> u32
         requires { is_live self.now.nodes node ≡ true }
         ensures { BeginsWith result (top_at self.now.nodes node) }

@@ -1,20 +1,21 @@
-ghost use Rattle.std.specs.Prelude.{ℕ, ◌≡◌, ◌+◌, ◌<◌, ◌==◌, ◌&&◌, not, false, true, set, [], length, get_or, All, IfOk, MatchOption, if◌then◌else◌, None};
+ghost use Rattle.std.specs.Prelude.{ℕ, ◌≡◌, ◌+◌, ◌<◌, ◌==◌, ◌&&◌, not, false, true, set, [], length, get_or, All, IfOk, MatchOption, option_map, if◌then◌else◌, None};
 ghost use Rattle.fb_graph.specs.Certificate.{AreDistinct};
 ghost use Rattle.fb_graph.specs.Counts.{as_count};
 ghost use Rattle.fb_graph.specs.Parity.{is_in};
 ghost use Rattle.fb_regions.specs.Sparse.{entered, value_of};
 
+use crate::paged_numbers::PagedNumbers;
 use fb_graph::NoMemory;
 use std::alloc::Global;
 use std::marker::Model;
 
 /// Values by numbers below a bound, few of which are keys at a time (Briggs and Torczon 1993). Only `new` takes memory,
-/// and only `new` takes time for each number below the bound, a few bytes each: any other call takes the time that a few
-/// reads and writes take. The order of the keys is free.
+/// room for all numbers below the bound, of which it touches none. A call takes the time of a few reads and writes, and
+/// the first key of a page of 512 numbers that of filling the page. The order of the keys is free.
 #[derive(Drop)]
 pub struct SparseTable<T> {
-    /// For each number its place among the keys. It counts only where that number stands there.
-    places: Vec<u32>,
+    /// For each number its place among the keys. It counts only if that number is there.
+    places: PagedNumbers,
     /// The keys, with room for all numbers below the bound.
     keys: Vec<u32>,
     /// The value of each key, at the key's place.
@@ -30,19 +31,19 @@ impl<T> Model for SparseTable<T> {
 
     ghost coded = { sparse_code T.code };
 
-    ghost view = { λ s. record { bound = length s.places.items; keys = s.keys.items; values = s.values.items } };
+    ghost view = { λ s. record { bound = length s.places; keys = s.keys.items; values = s.values.items } };
 
-    ghost invariant = { λ s. IsStored s.places.items s.keys.items (length s.values.items) (vec_capacity s.keys) (vec_capacity s.values) };
+    ghost invariant = { λ s. IsStored s.places s.keys.items (length s.values.items) (vec_capacity s.keys) (vec_capacity s.values) };
 }
 
 impl<T: Copy> SparseTable<T> {
-    /// A table without keys. It takes room for a value of each number below the bound, which isn't touched before it is
-    /// used.
+    /// A table without keys. It takes room for each number below the bound and its value, and time for each page of 512
+    /// numbers.
     pub fn new(alloc: Global, bound: u32) -> Result<SparseTable<T>, NoMemory>
         ensures { IfOk result (λ s. s ≡ record { bound = bound; keys = []; values = [] }) }
     {
         let count = bound as usize;
-        let places = vec![in alloc; 0; count]?;
+        let places = PagedNumbers::new(alloc, bound)?;
         let keys = Vec::with_capacity(alloc, count)?;
         let values = Vec::with_capacity(alloc, count)?;
         Ok(SparseTable {
@@ -66,7 +67,7 @@ impl<T: Copy> SparseTable<T> {
         ensures { MatchOption result (is_in self.now.keys key ≡ false)
             (λ i. (i < length self.now.keys) × (get_or self.now.keys i 0 ≡ key) × (is_in self.now.keys key ≡ true)) }
     {
-        let place = *self.places.get(key as usize)? as usize;
+        let place = self.places.get(key)? as usize;
         if *self.keys.get(place)? == key {
             Some(place)
         } else {
@@ -78,8 +79,15 @@ impl<T: Copy> SparseTable<T> {
     pub fn get(&self, key: u32) -> Option<T>
         ensures { result ≡ value_of self.now key }
     {
+        self.get_ref(key).copied()
+    }
+
+    /// The value of a key, without a copy of it; none where the number is no key.
+    pub(crate) fn get_ref(&self, key: u32) -> Option<&T>
+        ensures { option_map (λ x. x.now) result ≡ value_of self.now key }
+    {
         let place = self.place_of(key)?;
-        Some(self.values[place])
+        Some(&self.values[place])
     }
 
     /// Gives the key the value.
@@ -91,7 +99,7 @@ impl<T: Copy> SparseTable<T> {
             self.values[place] = value;
             return;
         }
-        self.places[key as usize] = self.keys.len() as u32;
+        self.places.set(key, self.keys.len() as u32);
         self.keys.push_reserved(key);
         self.values.push_reserved(value);
     }
@@ -110,7 +118,7 @@ impl<T: Copy> SparseTable<T> {
         self.values.swap_remove(place);
         if place < self.keys.len() {
             let moved = self.keys[place];
-            self.places[moved as usize] = place as u32;
+            self.places.set(moved, place as u32);
         }
     }
 

@@ -4,17 +4,19 @@ use Rattle.std.proofs.KnownBytes.{Appends-nil}
 use Rattle.fb_graph.specs.Limits.{DecodingGraph}
 use Rattle.fb_plan.specs.Plans.{PlanTree, single_of}
 use Rattle.fb_run.specs.Endings.{EndsByPlan, EndsOn}
-use Rattle.fb_run.specs.Moments.{Moment}
-use Rattle.fb_run.specs.RunEndings.{EndsRight, ErrandEnds, cause_of_fault}
+use Rattle.fb_inputs.specs.Moments.{Moment}
+use Rattle.fb_check.specs.Ends.{IsReadToItsEnd}
+use Rattle.fb_inputs.specs.Judging.{Named}
+use Rattle.fb_run.specs.RunEndings.{EndsRight, ErrandEnds, HasReadOut, ReadsOut, cause_of_fault}
 use Rattle.fb_words.specs.Seen.{IsFaultOf, usage_of}
-use Rattle.fb_words.specs.Words.{Decoding, Errand, check, decode}
+use Rattle.fb_words.specs.Words.{Decoding, Errand, check, decode, sample}
 use Rattle.fb_endings.specs.declared.ending.Cause.{Cause}
 use Rattle.fb_endings.specs.declared.ending.Cause.TheVariants.{NoMemory, Usage, WriteFault}
 use Rattle.fb_words.specs.declared.usage.UsageKind.{UsageKind}
 use Rattle.fb_words.specs.declared.usage.UsageKind.TheVariants as usage
 use Rattle.fb_words.specs.declared.words.WordsFault.{WordsFault}
 use Rattle.fb_words.specs.declared.words.WordsFault.TheVariants as fault
-use Rattle.fb_run.proofs.Inputs.{asks_none, asks_same}
+use Rattle.fb_inputs.proofs.Inputs.{asks_none, asks_same}
 
 by_kind : (read : Result Errand UsageKind) (kind : UsageKind) (m : Moment) → read ≡ Err kind → EndsRight read m m (Usage kind)
 by_kind read kind m e = subst (λ (r : Result Errand UsageKind). EndsRight r m m (Usage kind)) (sym e)
@@ -23,6 +25,7 @@ by_kind read kind m e = subst (λ (r : Result Errand UsageKind). EndsRight r m m
 by_memory : (read : Result Errand UsageKind) (m : Moment) → EndsRight read m m NoMemory
 by_memory (Ok (decode decoding)) m = inl (asks_none m.asked m.asked _ refl, refl, Appends-nil m.written)
 by_memory (Ok (check checking)) m = inl (asks_none m.asked m.asked _ refl, refl, Appends-nil m.written)
+by_memory (Ok (sample sampling)) m = (asks_same m.asked m.asked refl, refl, Appends-nil m.written)
 by_memory (Err kind) m = (inr refl, asks_same m.asked m.asked refl, refl, Appends-nil m.written)
 
 pub refused_right : (read : Result Errand UsageKind) (f : WordsFault) (m : Moment) → IsFaultOf read f → EndsRight read m m (cause_of_fault f)
@@ -65,6 +68,7 @@ never_usage (check checking) before after kind (inr with_graph) = elim with_grap
     | inr at_shots ↦ at_shots.2
   ]
 ]
+never_usage (sample sampling) before after kind ends = ends.2
 
 pub errand_not_usage : (errand : Errand) (before after : Moment) (cause : Cause) (kind : UsageKind) → ErrandEnds errand before after cause → cause ≢ Usage kind
 errand_not_usage errand before after cause kind ends e = never_usage errand before after kind (subst (ErrandEnds errand before after) e ends)
@@ -74,3 +78,21 @@ fault_not_parse (fault.Parse text) other e = other refl
 fault_not_parse fault.Format other e = absurd cc
 fault_not_parse fault.TwoInputs other e = absurd cc
 fault_not_parse fault.NoMemory other e = absurd cc
+
+not_to_end : (f : WordsFault) → IsReadToItsEnd (cause_of_fault f) → ⊥
+not_to_end (fault.Parse text) none = none
+not_to_end fault.Format none = none
+not_to_end fault.TwoInputs none = none
+not_to_end fault.NoMemory none = none
+
+-- what was read of an errand that was read
+pub out_read : (read : Result Errand UsageKind) (errand : Errand) (named : Named) (left : Option (List ℕ)) (cause : Cause) → read ≡ Ok errand
+    → ReadsOut errand named left cause → HasReadOut read named left cause
+out_read read errand named left cause e out = subst (λ (r : Result Errand UsageKind). HasReadOut r named left cause) (sym e) out
+
+-- faulty words don't end a run at the end of its input
+pub never_out : (read : Result Errand UsageKind) (f : WordsFault) (named : Named) (left : Option (List ℕ)) → HasReadOut read named left (cause_of_fault f)
+never_out (Ok (decode decoding)) f named left reads = absurd (not_to_end f reads)
+never_out (Ok (check checking)) f named left reads = absurd (not_to_end f reads)
+never_out (Ok (sample sampling)) f named left = tt
+never_out (Err kind) f named left = tt

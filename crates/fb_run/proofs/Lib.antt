@@ -1,10 +1,6 @@
-pub mod Inputs
-pub mod Solved
-pub mod Walked
-pub mod Writing
+pub mod Emptied
+pub mod Batched
+pub mod Decoded
 pub mod Finishing
-pub mod Gathered
+pub mod Sampled
 pub mod Answered
-pub mod Lines
-pub mod Checked
-pub mod Reported

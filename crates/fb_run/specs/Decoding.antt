@@ -1,29 +1,74 @@
--- What a decode writes: a row for each shot, in order, between the head and the last line.
-use Rattle.std.specs.Prelude.{ℕ, ◌≡◌, ◌*◌, ◌==◌, if◌then◌else◌, List, ◌++◌, length, Option}
+-- What a decode writes: the rows of the shots, batch by batch, between the head and the last line.
+use Rattle.std.specs.Prelude.{ℕ, ◌≡◌, ◌≢◌, ◌+◌, ◌*◌, ◌==◌, if◌then◌else◌, Bool, true, false, List, [], ◌∷◌, ◌++◌, length, take, drop}
+use Rattle.std.specs.List.{flat_map}
+use Rattle.fb_book.specs.declared.entries.Entry.{Entry}
+use Rattle.fb_book.specs.declared.entries.Kind.{Kind}
+use Rattle.fb_book.specs.declared.entries.Kind.TheVariants.{Took, Gave, Left}
+use Rattle.fb_crew.specs.Windows.{AreRows, IsHistoryOf}
+use Rattle.fb_graph.specs.Limits.{DecodingGraph}
 use Rattle.fb_graph.specs.declared.parts.Row.{Row}
 use Rattle.fb_plan.specs.Plans.{PlanTree}
-use Rattle.fb_ports.specs.Causes.{Appends}
-use Rattle.fb_report.specs.Texts.{head_text, rows_text, done_text}
+use Rattle.fb_report.specs.Texts.{head_text, rows_text, trace_line, done_text}
 use Rattle.fb_run.specs.Rows.{Counts, counts_of}
+use Rattle.fb_words.specs.Words.{Decoding}
 use Rattle.fb_endings.specs.declared.ending.Cause.{Cause}
 use Rattle.fb_endings.specs.declared.ending.Cause.TheVariants.{Done, Odd}
+
+-- The rows of shots that were solved side by side, and the history of how they were made: an entry's slot is the place of
+-- its shot among them.
+pub record Batch : Type 0 where
+  pub rows : List Row
+  pub history : List Entry
+
+abbrev pub is_gave : Kind → Bool
+is_gave Took = false
+is_gave Gave = true
+is_gave Left = false
+
+-- an event of a batch whose first shot has this number
+abbrev pub event_line : ℕ → Entry → List ℕ
+event_line first e = trace_line (is_gave e.kind) e.worker (first + e.slot) e.node
+
+-- the events of a batch, where they are wanted
+abbrev pub events_text : Bool → ℕ → List Entry → List ℕ
+events_text false first history = []
+events_text true first history = flat_map (event_line first) history
+
+-- the rows of a batch, and then its events, where they are wanted
+abbrev pub batch_text : Bool → ℕ → Batch → List ℕ
+batch_text trace first b = rows_text first b.rows ++ events_text trace first b.history
+
+-- batches one after another, the first of which begins with this shot
+abbrev pub batches_text : Bool → ℕ → List Batch → List ℕ
+batches_text trace first [] = []
+batches_text trace first (b ∷ bs) = batch_text trace first b ++ batches_text trace (first + length b.rows) bs
+
+abbrev pub all_rows : List Batch → List Row
+all_rows bs = flat_map (λ b. b.rows) bs
+
+-- The rows of these shots. Where the history is wanted, it tells how the rows were made.
+pub record AnswersBatch (errand : Decoding) (g : DecodingGraph) (t : PlanTree) (shots : List (List ℕ)) (b : Batch) : Type 0 where
+  pub rows : AreRows g shots b.rows
+  pub history : errand.trace ≡ true → IsHistoryOf t errand.workers b.rows b.history
+
+-- the rows of shots, in batches of the window's size, the last of which may be smaller
+abbrev pub AreBatches : Decoding → DecodingGraph → PlanTree → List (List ℕ) → List Batch → Type 0
+AreBatches errand g t shots [] = shots ≡ []
+AreBatches errand g t shots (b ∷ bs) = (shots ≢ []) × AnswersBatch errand g t (take errand.window shots) b
+    × AreBatches errand g t (drop errand.window shots) bs
 
 -- the last line after so many rows: each correction counts the plan's units and its fusions
 abbrev pub last_line : PlanTree → ℕ → Counts → List ℕ
 last_line t rows counts = done_text rows counts.odd (counts.best * t.units) (counts.best * length t.joins)
 
--- the head and the rows, without a last line
-abbrev pub report_front : List Row → List ℕ
-report_front rows = head_text ++ rows_text 0 rows
+-- the head and the batches, without a last line
+abbrev pub report_front : Bool → List Batch → List ℕ
+report_front trace bs = head_text ++ batches_text trace 0 bs
 
--- the whole text of these rows
-abbrev pub report_text : PlanTree → List Row → List ℕ
-report_text t rows = report_front rows ++ last_line t (length rows) (counts_of rows)
+-- the whole text of these batches
+abbrev pub report_text : PlanTree → Bool → List Batch → List ℕ
+report_text t trace bs = report_front trace bs ++ last_line t (length (all_rows bs)) (counts_of (all_rows bs))
 
 -- how a decode of all shots ends
 abbrev pub cause_of : Counts → Cause
 cause_of counts = if counts.odd == 0 then Done else Odd
-
--- the front of a text that waits has been written
-abbrev pub Moves : Option (List ℕ) → Option (List ℕ) → List ℕ → List ℕ → Type 0
-Moves taken_old taken_new old new = (moved : List ℕ) × Appends taken_old taken_new moved × (old ≡ moved ++ new)

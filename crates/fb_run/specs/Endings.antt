@@ -1,16 +1,16 @@
 -- What each end of a run says of what was written and read.
-use Rattle.std.specs.Prelude.{ℕ, ◌≡◌, ◌⊎◌, List, [], ◌∷◌, length, Option, Some, None, ⊤}
+use Rattle.std.specs.Prelude.{ℕ, ◌≡◌, ◌⊎◌, List, [], ◌∷◌, length, Option, Some, None}
 use Rattle.fb_graph.specs.Limits.{DecodingGraph}
-use Rattle.fb_graph.specs.declared.parts.Row.{Row}
 use Rattle.fb_plan.specs.Plans.{PlanTree, single_of}
 use Rattle.fb_ports.specs.Causes.{Appends, AppendsFront}
 use Rattle.fb_shots.specs.Shots.{at_end, refused}
 use Rattle.fb_shots.specs.declared.answer.ShotFault.{ShotFault}
-use Rattle.fb_run.specs.Decoding.{cause_of, report_front, report_text}
+use Rattle.fb_check.specs.Ends.{EndsAtFile, EndsInText, IsGraphRefusal}
+use Rattle.fb_run.specs.Decoding.{AreBatches, Batch, all_rows, cause_of, report_front, report_text}
 use Rattle.fb_report.specs.Texts.{head_text}
-use Rattle.fb_run.specs.Judging.{Asks, HasFirstShots, HasShots, Holds, IsGraphText, IsNoGraph, IsNoPlan, IsPlanText, IsReadInPart, IsReadOutIfNamed, Named}
-use Rattle.fb_run.specs.Moments.{EndsAtFile, EndsInText, Moment, ReadsFile}
-use Rattle.fb_run.specs.Rows.{AreRows, counts_of}
+use Rattle.fb_inputs.specs.Judging.{Asks, HasFirstShots, HasShots, Holds, IsGraphText, IsNoPlan, IsPlanText, IsReadInPart, IsReadOutIfNamed, Named}
+use Rattle.fb_inputs.specs.Moments.{Moment, ReadsFile}
+use Rattle.fb_run.specs.Rows.{counts_of}
 use Rattle.fb_words.specs.Words.{Decoding}
 use Rattle.fb_endings.specs.declared.ending.Cause.{Cause}
 use Rattle.fb_endings.specs.declared.ending.Cause.TheVariants.{Done, Odd, Bad, Refused, ReadFault, WriteFault, NoMemory, Usage}
@@ -21,27 +21,27 @@ use Rattle.fb_endings.specs.declared.ending.Refusal.TheVariants as refusal
 pub record WritesReport (named : Named) (errand : Decoding) (g : DecodingGraph) (t : PlanTree) (old new : Option (List ℕ)) (cause : Cause) : Type 0 where
   pub shots : List (List ℕ)
   pub input : Holds named errand.shots (HasShots errand.format g shots at_end)
-  pub rows : List Row
-  pub answers : AreRows g shots rows
-  pub written : Appends old new (report_text t rows)
-  pub ends : cause ≡ cause_of (counts_of rows)
+  pub batches : List Batch
+  pub answers : AreBatches errand g t shots batches
+  pub written : Appends old new (report_text t errand.trace batches)
+  pub ends : cause ≡ cause_of (counts_of (all_rows batches))
 
 -- The shots end by a refusal, and the head and the rows of those before it were written.
-pub record WritesBefore (named : Named) (errand : Decoding) (g : DecodingGraph) (old new : Option (List ℕ)) (fault : ShotFault) : Type 0 where
+pub record WritesBefore (named : Named) (errand : Decoding) (g : DecodingGraph) (t : PlanTree) (old new : Option (List ℕ)) (fault : ShotFault) : Type 0 where
   pub shots : List (List ℕ)
   pub input : Holds named errand.shots (HasShots errand.format g shots (refused fault.kind))
   pub place : fault.shot ≡ length shots
-  pub rows : List Row
-  pub answers : AreRows g shots rows
-  pub written : Appends old new (report_front rows)
+  pub batches : List Batch
+  pub answers : AreBatches errand g t shots batches
+  pub written : Appends old new (report_front errand.trace batches)
 
 -- Reading the shots failed, and the head and the rows of the shots that the bytes read settle were written.
-pub record WritesGiven (named : Named) (errand : Decoding) (g : DecodingGraph) (left old new : Option (List ℕ)) : Type 0 where
+pub record WritesGiven (named : Named) (errand : Decoding) (g : DecodingGraph) (t : PlanTree) (left old new : Option (List ℕ)) : Type 0 where
   pub shots : List (List ℕ)
   pub input : Holds named errand.shots (IsReadInPart errand.format g left shots)
-  pub rows : List Row
-  pub answers : AreRows g shots rows
-  pub written : Appends old new (report_front rows)
+  pub batches : List Batch
+  pub answers : AreBatches errand g t shots batches
+  pub written : Appends old new (report_front errand.trace batches)
 
 -- the shots couldn't be opened, so nothing is left to be read, and the head was written
 abbrev pub WritesHead : Named → Option (List ℕ) → Option (List ℕ) → Option (List ℕ) → Type 0
@@ -51,10 +51,10 @@ WritesHead named left old new = IsReadOutIfNamed named left × Appends old new h
 pub record WritesFront (named : Named) (errand : Decoding) (g : DecodingGraph) (t : PlanTree) (old new : Option (List ℕ)) : Type 0 where
   pub shots : List (List ℕ)
   pub input : (shots ≡ []) ⊎ Holds named errand.shots (HasFirstShots errand.format g shots)
-  pub rows : List Row
-  pub answers : AreRows g shots rows
-  pub written : AppendsFront old new (report_front rows)
-      ⊎ (Holds named errand.shots (HasShots errand.format g shots at_end) × AppendsFront old new (report_text t rows))
+  pub batches : List Batch
+  pub answers : AreBatches errand g t shots batches
+  pub written : AppendsFront old new (report_front errand.trace batches)
+      ⊎ (Holds named errand.shots (HasShots errand.format g shots at_end) × AppendsFront old new (report_text t errand.trace batches))
 
 -- the end of a decode by a plan that asked for the shots of a graph, when `left` remains of them
 abbrev pub RowsEnd : Named → Decoding → DecodingGraph → PlanTree → Option (List ℕ) → Option (List ℕ) → Option (List ℕ) → Cause → Type 0
@@ -64,8 +64,9 @@ RowsEnd named errand g t left old new (Bad count) = ⊥
 RowsEnd named errand g t left old new (Refused (refusal.Graph fault)) = ⊥
 RowsEnd named errand g t left old new (Refused (refusal.Plan fault)) = ⊥
 RowsEnd named errand g t left old new (Refused (refusal.Report fault)) = ⊥
-RowsEnd named errand g t left old new (Refused (refusal.Shot fault)) = WritesBefore named errand g old new fault
-RowsEnd named errand g t left old new ReadFault = WritesHead named left old new ⊎ WritesGiven named errand g left old new
+RowsEnd named errand g t left old new (Refused (refusal.Sample fault)) = ⊥
+RowsEnd named errand g t left old new (Refused (refusal.Shot fault)) = WritesBefore named errand g t old new fault
+RowsEnd named errand g t left old new ReadFault = WritesHead named left old new ⊎ WritesGiven named errand g t left old new
 RowsEnd named errand g t left old new WriteFault = WritesFront named errand g t old new
 RowsEnd named errand g t left old new NoMemory = WritesFront named errand g t old new
 RowsEnd named errand g t left old new (Usage kind) = ⊥
@@ -87,6 +88,7 @@ IsPlanRefusal g named name (refusal.Graph fault) = ⊥
 IsPlanRefusal g named name (refusal.Plan fault) = Holds named name (IsNoPlan g fault)
 IsPlanRefusal g named name (refusal.Report fault) = ⊥
 IsPlanRefusal g named name (refusal.Shot fault) = ⊥
+IsPlanRefusal g named name (refusal.Sample fault) = ⊥
 
 -- the file of the plan holds one of the graph, and the decode ended so by it
 pub record EndsWithPlan (errand : Decoding) (g : DecodingGraph) (name : List ℕ) (before after : Moment) (cause : Cause) : Type 0 where
@@ -109,37 +111,8 @@ pub record EndsWithGraph (errand : Decoding) (before after : Moment) (cause : Ca
   pub graph : ReadsFile (IsGraphText g) errand.graph before read
   pub ends : EndsByPlan errand.plan errand g read after cause
 
--- the text of the file of the name is no graph, and the refusal is its fault
-abbrev pub IsGraphRefusal : Named → List ℕ → Refusal → Type 0
-IsGraphRefusal named name (refusal.Graph fault) = Holds named name (IsNoGraph fault)
-IsGraphRefusal named name (refusal.Plan fault) = ⊥
-IsGraphRefusal named name (refusal.Report fault) = ⊥
-IsGraphRefusal named name (refusal.Shot fault) = ⊥
-
 -- the end of a decode: at the graph, or with it
 abbrev pub DecodeEnds : Decoding → Moment → Moment → Cause → Type 0
 DecodeEnds errand before after cause =
     EndsAtFile (IsGraphRefusal before.named errand.graph) errand.graph before after cause
     ⊎ EndsWithGraph errand before after cause
-
--- the input was read to its end
-abbrev pub IsReadToItsEnd : Cause → Type 0
-IsReadToItsEnd Done = ⊤
-IsReadToItsEnd Odd = ⊤
-IsReadToItsEnd (Bad count) = ⊤
-IsReadToItsEnd (Refused r) = ⊥
-IsReadToItsEnd ReadFault = ⊥
-IsReadToItsEnd WriteFault = ⊥
-IsReadToItsEnd NoMemory = ⊥
-IsReadToItsEnd (Usage kind) = ⊥
-
--- a run in which a fault of the files came ends so: by it, or by what came while the rows before it were written
-abbrev pub MayFollowReadFault : Cause → Type 0
-MayFollowReadFault ReadFault = ⊤
-MayFollowReadFault WriteFault = ⊤
-MayFollowReadFault NoMemory = ⊤
-MayFollowReadFault Done = ⊥
-MayFollowReadFault Odd = ⊥
-MayFollowReadFault (Bad count) = ⊥
-MayFollowReadFault (Refused r) = ⊥
-MayFollowReadFault (Usage kind) = ⊥

@@ -1,14 +1,8 @@
-pub mod Judging
-pub mod Moments
 pub mod Rows
 pub mod Decoding
 pub mod Writes
-pub mod Outboxes
 pub mod Endings
-pub mod Checks
-pub mod Numbers
-pub mod Judges
-pub mod NoReports
-pub mod CheckEndings
+pub mod Samples
+pub mod SampleEndings
 pub mod RunEndings
-pub mod InternalWalks
+pub mod InternalBatches

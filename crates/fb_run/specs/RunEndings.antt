@@ -1,11 +1,13 @@
 -- What each end of a run says, by what the words ask for.
-use Rattle.std.specs.Prelude.{ℕ, ◌≡◌, ◌⊎◌, List, [], Result, Ok, Err, string_bytes, ⊤}
+use Rattle.std.specs.Prelude.{ℕ, ◌≡◌, ◌⊎◌, List, [], Option, Result, Ok, Err, string_bytes, ⊤}
 use Rattle.fb_ports.specs.Causes.{Appends}
-use Rattle.fb_run.specs.CheckEndings.{CheckEnds}
+use Rattle.fb_check.specs.CheckEndings.{CheckEnds}
+use Rattle.fb_check.specs.Ends.{IsReadToItsEnd}
 use Rattle.fb_run.specs.Endings.{DecodeEnds}
-use Rattle.fb_run.specs.Judging.{Asks}
-use Rattle.fb_run.specs.Moments.{Moment}
-use Rattle.fb_words.specs.Words.{Errand, check, decode}
+use Rattle.fb_run.specs.SampleEndings.{SampleEnds}
+use Rattle.fb_inputs.specs.Judging.{Asks, IsReadOutIfNamed, Named}
+use Rattle.fb_inputs.specs.Moments.{Moment}
+use Rattle.fb_words.specs.Words.{Errand, check, decode, sample}
 use Rattle.fb_endings.specs.declared.ending.Cause.{Cause}
 use Rattle.fb_endings.specs.declared.ending.Cause.TheVariants.{NoMemory, Usage}
 use Rattle.fb_words.specs.declared.usage.UsageKind.{UsageKind}
@@ -17,6 +19,20 @@ use Rattle.fb_words.specs.declared.words.WordsFault.TheVariants as fault
 abbrev pub ErrandEnds : Errand → Moment → Moment → Cause → Type 0
 ErrandEnds (decode decoding) before after cause = DecodeEnds decoding before after cause
 ErrandEnds (check checking) before after cause = CheckEnds checking before after cause
+ErrandEnds (sample sampling) before after cause =
+    Asks before.asked after.asked [] × (after.faults ≡ before.faults)
+    × SampleEnds sampling before.written after.written cause
+
+-- a command that reads shots has read its input to its end, where its cause says so
+abbrev pub ReadsOut : Errand → Named → Option (List ℕ) → Cause → Type 0
+ReadsOut (decode decoding) named left cause = IsReadToItsEnd cause → IsReadOutIfNamed named left
+ReadsOut (check checking) named left cause = IsReadToItsEnd cause → IsReadOutIfNamed named left
+ReadsOut (sample sampling) named left cause = ⊤
+
+-- the same of words, where they have a reading
+abbrev pub HasReadOut : Result Errand UsageKind → Named → Option (List ℕ) → Cause → Type 0
+HasReadOut (Ok errand) named left cause = ReadsOut errand named left cause
+HasReadOut (Err kind) named left cause = ⊤
 
 -- The end of a run. Faulty words end it by what is wrong with them, or for want of memory: nothing is asked for and
 -- nothing is written.

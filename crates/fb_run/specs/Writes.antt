@@ -1,43 +1,43 @@
--- The rows that were written.
-use Rattle.std.specs.Prelude.{ℕ, ◌≡◌, ◌+◌, ◌⊎◌, List, ◌++◌, Option}
+-- What a decode has written of its shots, and how it ends.
+use Rattle.std.specs.Prelude.{ℕ, ◌≡◌, ◌+◌, ◌⊎◌, List, Option, if◌then◌else◌}
+use Rattle.fb_crew.specs.Windows.{is_best}
 use Rattle.fb_graph.specs.Limits.{DecodingGraph}
 use Rattle.fb_graph.specs.declared.parts.Row.{Row}
-use Rattle.fb_graph.specs.declared.parts.Row.TheVariants as row
 use Rattle.fb_plan.specs.Plans.{PlanTree}
 use Rattle.fb_ports.specs.Causes.{Appends, AppendsFront}
-use Rattle.fb_report.specs.Texts.{rows_text}
-use Rattle.fb_run.specs.Decoding.{cause_of, last_line}
-use Rattle.fb_run.specs.Rows.{AreRows, Counts, counts_of}
+use Rattle.fb_run.specs.Decoding.{AreBatches, Batch, all_rows, batches_text, cause_of, last_line}
+use Rattle.fb_run.specs.Rows.{Counts, counts_of}
+use Rattle.fb_words.specs.Words.{Decoding}
 use Rattle.fb_endings.specs.declared.ending.Cause.{Cause}
 use Rattle.fb_endings.specs.declared.ending.Cause.TheVariants.{Refused, ReadFault, WriteFault}
 use Rattle.fb_endings.specs.declared.ending.Refusal.TheVariants as refusal
-use Rattle.fb_run.specs.declared.report.Tally.{Tally}
-use Rattle.fb_run.specs.declared.shots.ShotsEnd.{ShotsEnd}
-use Rattle.fb_run.specs.declared.shots.ShotsEnd.TheVariants as end
+use Rattle.fb_run.specs.declared.batches.Tally.{Tally}
+use Rattle.fb_inputs.specs.declared.taking.ShotsEnd.{ShotsEnd}
+use Rattle.fb_inputs.specs.declared.taking.ShotsEnd.TheVariants as end
 
 abbrev pub counts_in : Tally → Counts
 counts_in t = record { best = t.best; odd = t.odd }
 
 -- one row more
 abbrev pub counted : Tally → Row → Tally
-counted t (row.Best edges weight cuts) = record t { best = t.best + 1 }
-counted t (row.Odd v) = record t { odd = t.odd + 1 }
+counted t r = if is_best r then record t { best = t.best + 1 } else record t { odd = t.odd + 1 }
 
--- the rows of the shots were written, and counted so
-pub record WritesRows (g : DecodingGraph) (shots : List (List ℕ)) (old new : Option (List ℕ)) (tally : Tally) : Type 0 where
-  pub rows : List Row
-  pub answers : AreRows g shots rows
-  pub written : Appends old new (rows_text 0 rows)
-  pub counts : counts_in tally ≡ counts_of rows
+-- The batches of the shots that the input gives were written, and their rows are counted so.
+pub record WritesBatches (Input : List (List ℕ) → Type 0) (errand : Decoding) (g : DecodingGraph) (t : PlanTree) (old new : Option (List ℕ)) (tally : Tally) : Type 0 where
+  pub shots : List (List ℕ)
+  pub input : Input shots
+  pub batches : List Batch
+  pub answers : AreBatches errand g t shots batches
+  pub written : Appends old new (batches_text errand.trace 0 batches)
+  pub counts : counts_in tally ≡ counts_of (all_rows batches)
 
--- a front was written of the rows of the first of the shots
-pub record WritesFirstRows (g : DecodingGraph) (shots : List (List ℕ)) (old new : Option (List ℕ)) : Type 0 where
-  pub first : List (List ℕ)
-  pub others : List (List ℕ)
-  pub parts : shots ≡ first ++ others
-  pub rows : List Row
-  pub answers : AreRows g first rows
-  pub written : AppendsFront old new (rows_text 0 rows)
+-- A prefix was written of the batches of some of the first shots.
+pub record WritesFirstBatches (Input : List (List ℕ) → Type 0) (errand : Decoding) (g : DecodingGraph) (t : PlanTree) (old new : Option (List ℕ)) : Type 0 where
+  pub shots : List (List ℕ)
+  pub input : Input shots
+  pub batches : List Batch
+  pub answers : AreBatches errand g t shots batches
+  pub written : AppendsFront old new (batches_text errand.trace 0 batches)
 
 -- the end of a report of so many rows, by how the shots ended: the last line only where they were read to their end
 abbrev pub EndsReport : PlanTree → ShotsEnd → ℕ → Counts → Option (List ℕ) → Option (List ℕ) → Cause → Type 0

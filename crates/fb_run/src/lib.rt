@@ -2,17 +2,13 @@
 
 #![tactic(auto)]
 
-mod check_text;
-mod checking;
-mod graphs;
-mod outbox;
-mod plans;
-mod report;
+mod batches;
+mod decoding;
 mod running;
-mod shots;
-mod solving;
-mod walking;
+mod sample_text;
+mod sampling;
 
+pub use fb_crew::{Gate, OpenGate};
 pub use fb_endings::{Cause, Ended, Refusal};
 pub use fb_words::UsageKind;
 pub use running::run;

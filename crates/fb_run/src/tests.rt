@@ -5,7 +5,9 @@ ghost use Rattle.std.specs.Prelude.{◌≡◌, [], IfOk};
 use super::*;
 use fb_ports::{MemFiles, MemSink, NoMemory};
 use std::alloc::Global;
+use std::sync::Wait;
 use std::test::Fail;
+use std::thread::Threads;
 
 /// A decoding graph of five vertices, two of them virtual.
 const GRAPH: &str =
@@ -52,14 +54,28 @@ impl Outside {
         })
     }
 
-    fn run(&mut self, alloc: Global, words: &[&str]) -> Result<Cause, Fail>
+    fn run<R: Threads + Wait + Sync>(
+        &mut self,
+        rt: &R,
+        alloc: Global,
+        words: &[&str],
+    ) -> Result<Cause, Fail>
         requires { self.old.files.asked ≡ [] }
     {
         let mut list = Vec::new(alloc);
         for word in words {
             list.push(String::from_str(alloc, word)?)?;
         }
-        Ok(run(alloc, &list, &mut self.files, &mut self.out, &mut self.err).cause)
+        let ended = run(
+            rt,
+            alloc,
+            &list,
+            &mut self.files,
+            &mut self.out,
+            &mut self.err,
+            &OpenGate,
+        );
+        Ok(ended.cause)
     }
 
     /// Whether these texts were written.
@@ -73,7 +89,7 @@ fn files_and_output_in_single_bytes(rt: HostRuntime) -> Result<(), Fail> {
     let mut outside = Outside::new(rt.alloc(), "100\n")?;
     outside.files.give_at_most(1);
     outside.out.take_at_most(1);
-    assert_eq!(rt; outside.run(rt.alloc(), &DECODE)?, Cause::Done);
+    assert_eq!(rt; outside.run(&rt, rt.alloc(), &DECODE)?, Cause::Done);
     assert!(rt; outside.holds(REPORT_OF_100, ""));
     Ok(())
 }
@@ -92,7 +108,7 @@ fn each_failed_call_of_files_is_a_read_fault(rt: HostRuntime) -> Result<(), Fail
         let mut outside = Outside::new(rt.alloc(), "100\n")?;
         outside.files.fail_at(vec![in rt.alloc(); call]?);
         assert_eq!(rt;
-            outside.run(rt.alloc(), &DECODE)?,
+            outside.run(&rt, rt.alloc(), &DECODE)?,
             Cause::ReadFault,
             "{call}"
         );
@@ -109,7 +125,7 @@ fn rows_before_a_failed_read_are_written(rt: HostRuntime) -> Result<(), Fail> {
     outside
         .files
         .fail_at(vec![in rt.alloc(); 1 + 19 + 1 + 1 + 2]?);
-    assert_eq!(rt; outside.run(rt.alloc(), &DECODE)?, Cause::ReadFault);
+    assert_eq!(rt; outside.run(&rt, rt.alloc(), &DECODE)?, Cause::ReadFault);
     assert!(rt; outside.holds(PREFIX_OF_100, READ_FAULT));
     Ok(())
 }
@@ -119,7 +135,7 @@ fn verdicts_before_a_failed_read_are_written(rt: HostRuntime) -> Result<(), Fail
     // Graph and report are opened, read whole and read at their ends; the shots are opened and read once before.
     let mut outside = Outside::new(rt.alloc(), "100\n000\n")?;
     outside.files.fail_at(vec![in rt.alloc(); 3 + 3 + 2 + 1]?);
-    assert_eq!(rt; outside.run(rt.alloc(), &CHECK)?, Cause::ReadFault);
+    assert_eq!(rt; outside.run(&rt, rt.alloc(), &CHECK)?, Cause::ReadFault);
     assert!(rt; outside.holds("check-report 1\nshot 0 good\n", READ_FAULT));
     Ok(())
 }
@@ -128,7 +144,7 @@ fn verdicts_before_a_failed_read_are_written(rt: HostRuntime) -> Result<(), Fail
 fn a_failed_put_is_a_write_fault(rt: HostRuntime) -> Result<(), Fail> {
     let mut outside = Outside::new(rt.alloc(), "100\n")?;
     outside.out.fail_at(vec![in rt.alloc(); 2]?);
-    assert_eq!(rt; outside.run(rt.alloc(), &DECODE)?, Cause::WriteFault);
+    assert_eq!(rt; outside.run(&rt, rt.alloc(), &DECODE)?, Cause::WriteFault);
     assert!(rt; outside.holds(HEAD, "fusion: write fault\n"));
     Ok(())
 }
@@ -138,7 +154,7 @@ fn usage_is_written_whole_in_pieces(rt: HostRuntime) -> Result<(), Fail> {
     let mut outside = Outside::new(rt.alloc(), "")?;
     outside.err.take_at_most(7);
     assert_eq!(rt;
-        outside.run(rt.alloc(), &DECODE[..6])?,
+        outside.run(&rt, rt.alloc(), &DECODE[..6])?,
         Cause::Usage(UsageKind::Parse)
     );
     assert!(rt; outside.err.taken().ends_with(b"try '--help'.\n"));

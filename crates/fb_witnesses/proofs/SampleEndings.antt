@@ -110,12 +110,12 @@ wide_clear = record {
       (λ e. absurd (false≢true e), (λ e. omega arith, (λ e. absurd (false≢true e), tt)));
 }
 
-low_state : IsNestedSearch long_line low_nodes (thin_branch ∷ []) [] (0 ∷ []) 0 0
+pub low_state : IsNestedSearch long_line low_nodes (thin_branch ∷ []) [] (0 ∷ []) 0 0
 low_state =
     nested_stepped long_line wide_nodes (thin_branch ∷ []) []
     (0 ∷ []) 0 0 2 long_limits no_odd_part may_step wide_state
 
-low_joining : IsJoining low_nodes (thin_branch ∷ []) 0 3 wide_child low_children
+pub low_joining : IsJoining low_nodes (thin_branch ∷ []) 0 3 wide_child low_children
 low_joining = record {
   nodes_are =
       All-from_recursion (λ c. IsSetOf low_nodes c.name c.set) (wide_child ∷ low_children) (

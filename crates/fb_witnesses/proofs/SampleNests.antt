@@ -15,12 +15,14 @@ use Rattle.fb_graph.specs.Links.{AreEven}
 use Rattle.fb_graph.specs.Sprouts.{node_of, nodes_of}
 use Rattle.fb_graph.specs.Nests.{IsNest}
 use Rattle.fb_graph.specs.Moves.{MayJoin, MaySplit, MayTakeUp, MayUncover, taken_up}
+use Rattle.fb_graph.specs.SourceWalks.{HaveWalks}
 use Rattle.fb_witnesses.specs.Samples.{sprout, line, triangle, corner_nodes, corner_roles, grown_nodes, grown_roles}
 use Rattle.fb_witnesses.specs.NestWitnesses.{NestWitness, bare_corners, blossom_nodes, blossom_roles, wider_nodes}
 use Rattle.fb_graph.proofs.BeginningNests.{nest_begins}
 use Rattle.fb_graph.proofs.JoinedNests.{nest_joined}
 use Rattle.fb_graph.proofs.RaisedNests.{nest_taken_up}
 use Rattle.fb_witnesses.proofs.SampleStates.{may_by_cases, of_three, outer_by_cases}
+use Rattle.fb_graph.proofs.SourceWalks.{walks_begin, walks_stepped, walks_taken_up}
 use Rattle.fb_graph.proofs.SteppedNests.{nest_stepped}
 
 -- a step whose edges are looked at one by one
@@ -205,24 +207,41 @@ even_line = All-from_recursion (λ e. e.weight % 2 ≡ 0) (line []).edges (refl,
 pair : List Node
 pair = taken_up 0 3 alone
 
+may_pair : MayTakeUp (line (2 ∷ [])) alone 0 2 2 3
+unfolding alone
+may_pair = record {
+  within = omega arith;
+  leads = inl
+      (refl, refl);
+  tight = refl;
+  covered = refl;
+  uncovered = refl;
+  real = refl;
+}
+
 pair_nest : IsNest (line (2 ∷ [])) pair
 unfolding alone pair
-pair_nest =
-    nest_taken_up (line (2 ∷ [])) alone 0 2 2 3 even_line
-    (record {
-      within = omega arith;
-      leads = inl
-          (refl, refl);
-      tight = refl;
-      covered = refl;
-      uncovered = refl;
-      real = refl;
-    })
-    alone_nest
+pair_nest = nest_taken_up (line (2 ∷ [])) alone 0 2 2 3 even_line may_pair alone_nest
 
-wider_nest : IsNest (line (2 ∷ [])) wider_nodes
+pub wider_nest : IsNest (line (2 ∷ [])) wider_nodes
 unfolding alone pair
 wider_nest = middle_grown (node_at pair 0) 2 refl (1, omega arith, refl) refl refl pair_nest
+
+pub wider_walks : HaveWalks (line (2 ∷ [])) wider_nodes
+unfolding alone pair
+wider_walks =
+    walks_stepped (line (2 ∷ [])) grown_roles pair 2
+    (record {
+      exclusive = λ name plus. refl;
+      plus = outer_by_cases grown_roles.is_plus pair
+          (All-from_recursion (λ m. is_outer pair m.name ≡ true) pair (refl, tt));
+      minus = outer_by_cases grown_roles.is_minus pair
+          (All-from_recursion (λ m. is_outer pair m.name ≡ true) pair (refl, tt));
+    })
+    (All-from_recursion (λ m. grown_roles.is_minus m.name ≡ true → 2 ≤ m.top.value) pair
+    (λ e. absurd (false≢true e), tt))
+    pair_nest
+    (walks_taken_up (line (2 ∷ [])) alone 0 2 2 3 may_pair alone_nest (walks_begin (line (2 ∷ [])) (sprout 0 2 2 ∷ [])))
 
 may_take_up : MayTakeUp (line (2 ∷ [])) wider_nodes 0 1 2 1
 may_take_up =

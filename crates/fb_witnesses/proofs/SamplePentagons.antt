@@ -23,10 +23,11 @@ use Rattle.fb_graph.proofs.SproutStates.{sprouts_are_dual}
 use Rattle.fb_laws.specs.Fusion.{IsLinkOf}
 use Rattle.fb_laws.specs.OpenedCycles.{IsOpenedCycle}
 use Rattle.fb_laws.specs.PartStates.{IsRing, IsPartState, IsSearchState, PartState}
+use Rattle.fb_witnesses.specs.MatchWitnesses.{one_branch}
 use Rattle.fb_witnesses.specs.Samples.{link}
 use Rattle.fb_laws.specs.StateBlossoms.{MayClose, joined_state}
-use Rattle.fb_laws.specs.StateMoves.{attached, search_from}
-use Rattle.fb_witnesses.specs.StateWitnesses.{ClosedStateWitness, OpenedStateWitness, pentagon, pentagon_sprouts, pentagon_leaves, first_branch, second_branch, two_branches, blossom_branch, inner_blossom, pentagon_links, pentagon_way, pentagon_couples}
+use Rattle.fb_laws.specs.StateMoves.{search_from}
+use Rattle.fb_witnesses.specs.StateWitnesses.{ClosedStateWitness, OpenedStateWitness, pentagon, pentagon_sprouts, pentagon_leaves, blossom_pair, first_branch, second_branch, two_branches, blossom_branch, inner_blossom, pentagon_links, pentagon_way, pentagon_couples}
 use Rattle.fb_laws.specs.TreeCycles.{ArePaths}
 use Rattle.fb_laws.specs.Trees.{Connects}
 use Rattle.fb_laws.specs.Works.{AreMatchedLinks}
@@ -39,7 +40,7 @@ use Rattle.fb_laws.proofs.StateMoves.{search_from_root, state_attached, state_me
 use Rattle.fb_laws.proofs.UnmatchedNames.{outer_begin}
 
 -- a link over one edge
-one_link : (p : Problem) (nodes : List Node) (u v k : ℕ) → k < length p.edges → Leads (edge_at p.edges k) u v
+pub one_link : (p : Problem) (nodes : List Node) (u v k : ℕ) → k < length p.edges → Leads (edge_at p.edges k) u v
     → weight_of p (k ∷ []) ≡ load_of (all_cuts nodes) (ends_of (link u v (k ∷ [])))
     → has_real_end p (edge_at p.edges k) ≡ true → is_in (leaves nodes) u ≡ true → is_in (leaves nodes) v ≡ true
     → AreMatchedLinks p nodes (link u v (k ∷ []) ∷ [])
@@ -65,7 +66,7 @@ one_link p nodes u v k less leads tight real first second = record {
     some : (j : ℕ) → (j ∷ []) ≢ []
     some j e = cc
 
-of_seven : (P : ℕ → Type 0) → P 0 → P 1 → P 2 → P 3 → P 4 → P 5 → P 6 → (v : ℕ)
+pub of_seven : (P : ℕ → Type 0) → P 0 → P 1 → P 2 → P 3 → P 4 → P 5 → P 6 → (v : ℕ)
     → is_in (0 ∷ 1 ∷ 2 ∷ 3 ∷ 4 ∷ 5 ∷ 6 ∷ []) v ≡ true → P v
 of_seven P a b c d e f g =
     is_in-All P (0 ∷ 1 ∷ 2 ∷ 3 ∷ 4 ∷ 5 ∷ 6 ∷ [])
@@ -116,10 +117,10 @@ pentagon_dual : IsDual pentagon pentagon_leaves
 pentagon_dual = sprouts_are_dual pentagon pentagon_sprouts pentagon_are
 
 -- all unmatched
-abbrev start : PartState
+abbrev pub start : PartState
 start = record { nodes = pentagon_leaves; cycles = λ n. []; matches = []; unmatched = 0 ∷ 1 ∷ 2 ∷ 3 ∷ 4 ∷ 5 ∷ 6 ∷ [] }
 
-start_state : IsPartState pentagon start
+pub start_state : IsPartState pentagon start
 start_state = record {
   work = record {
     nest = sprouts_are_nest pentagon pentagon_sprouts pentagon_are.vertices pentagon_dual;
@@ -194,18 +195,10 @@ second_state =
     (record { plus = refl; tight = one_link pentagon pentagon_leaves 2 3 2 (omega arith) (inl (refl, refl)) refl refl refl refl })
     (inl (refl, refl)) refl (λ e. omega (arith, e)) (search_from_root pentagon first_pair 2 first_state refl)).state
 
--- corner 4 takes up both pairs
-branches_state : IsSearchState pentagon two_branches
-branches_state =
-    state_attached pentagon (attached first_branch (link 2 3 (2 ∷ []) ∷ []) (search_from 4 second_pair)) second_branch [] even_edges
-    (record {
-      links = IsPermutation-refl (link 2 3 (2 ∷ []) ∷ []);
-      parent = refl;
-      tree = inl (refl, refl);
-      matched = inr (refl, refl);
-      tight = one_link pentagon pentagon_leaves 4 3 3 (omega arith) (inr (refl, refl)) refl refl refl refl;
-    })
-    (state_attached pentagon (search_from 4 second_pair) first_branch (link 2 3 (2 ∷ []) ∷ []) even_edges
+-- corner 4 takes up the first pair
+pub branch_state : IsSearchState pentagon one_branch
+branch_state =
+    state_attached pentagon (search_from 4 second_pair) first_branch (link 2 3 (2 ∷ []) ∷ []) even_edges
     (record {
       links = IsPermutation-append_comm (link 2 3 (2 ∷ []) ∷ []) (link 0 1 (0 ∷ []) ∷ []);
       parent = refl;
@@ -213,7 +206,20 @@ branches_state =
       matched = inl (refl, refl);
       tight = one_link pentagon pentagon_leaves 4 0 4 (omega arith) (inl (refl, refl)) refl refl refl refl;
     })
-    (search_from_root pentagon second_pair 4 second_state refl))
+    (search_from_root pentagon second_pair 4 second_state refl)
+
+-- and the second one
+branches_state : IsSearchState pentagon two_branches
+branches_state =
+    state_attached pentagon one_branch second_branch [] even_edges
+    (record {
+      links = IsPermutation-refl (link 2 3 (2 ∷ []) ∷ []);
+      parent = refl;
+      tree = inl (refl, refl);
+      matched = inr (refl, refl);
+      tight = one_link pentagon pentagon_leaves 4 3 3 (omega arith) (inr (refl, refl)) refl refl refl refl;
+    })
+    branch_state
 
 may_close : MayClose pentagon two_branches 7 1 2 (link 1 2 (1 ∷ []))
 may_close = record {
@@ -231,16 +237,7 @@ both_paths = record { first = refl; second = refl; parted = λ e. omega (arith, 
 pub closed_witness : ClosedStateWitness
 closed_witness = (may_close, both_paths, branches_state)
 
--- the blossom matched with the defect beside it
-abbrev blossom_pair : PartState
-blossom_pair = record {
-  nodes = inner_blossom.nodes;
-  cycles = inner_blossom.cycles;
-  matches = link 0 5 (5 ∷ []) ∷ [];
-  unmatched = 6 ∷ [];
-}
-
-pair_state : IsPartState pentagon blossom_pair
+pub pair_state : IsPartState pentagon blossom_pair
 pair_state =
     (state_met pentagon (joined_state 7 (4 ∷ 0 ∷ 1 ∷ 2 ∷ 3 ∷ []) pentagon_links two_branches) 7 5 (link 0 5 (5 ∷ []))
     (record { plus = refl; tight = one_link pentagon inner_blossom.nodes 0 5 5 (omega arith) (inl (refl, refl)) refl refl refl refl })
@@ -249,7 +246,7 @@ pair_state =
     branches_state)).state
 
 -- and taken up by the last one
-blossom_state : IsSearchState pentagon inner_blossom
+pub blossom_state : IsSearchState pentagon inner_blossom
 blossom_state =
     state_attached pentagon (search_from 6 blossom_pair) blossom_branch [] even_edges
     (record {

@@ -1,5 +1,5 @@
 -- The pentagon's blossom opened along its ring.
-use Rattle.std.proofs.Common.{◌≡◌, inl, [], ◌∷◌, refl, arith}
+use Rattle.std.proofs.Common.{◌≡◌, inl, [], refl, arith}
 use Rattle.std.proofs.lemmas.List.Elements.{All-from_recursion}
 use Rattle.fb_witnesses.specs.RingWitnesses.{RingWitness, corners}
 use Rattle.fb_laws.specs.StateRings.{MayOpenAlong}

@@ -97,6 +97,15 @@ inner_blossom = record {
   parity = 0;
 }
 
+-- the blossom matched with the defect beside it, and the last defect unmatched
+abbrev pub blossom_pair : PartState
+blossom_pair = record {
+  nodes = inner_blossom.nodes;
+  cycles = inner_blossom.cycles;
+  matches = link 0 5 (5 ∷ []) ∷ [];
+  unmatched = 6 ∷ [];
+}
+
 -- from corner 2 over corner 1 to corner 0
 abbrev pub pentagon_way : List Pass
 pentagon_way =

@@ -5,11 +5,15 @@
 
 pub mod examples;
 pub mod instances;
+pub mod link_instances;
+pub mod nest_instances;
 pub mod state_instances;
 pub mod witnesses;
 
 pub use examples::{opening_examples, ring_witness, search_witness};
 pub use instances::{cycle_witness, fused_witness, nest_witness, nested_witness, tree_witness};
+pub use link_instances::{match_witness, met_witness, number_witness};
+pub use nest_instances::{bound_witness, held_witness, leaf_witness, renamed_witness, row_witness};
 pub use state_instances::state_witness;
 pub use witnesses::{
     blossom_witness, cover_witness, dual_witness, end_witness, forming_witness, fusion_witness,

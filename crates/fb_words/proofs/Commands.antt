@@ -1,17 +1,18 @@
--- Words in which clap finds no fault name a command.
+-- Words in which clap finds no fault name a command, and give it the options that it has to have.
 use Rattle.std.proofs.Common.{◌≡◌, ◌∙◌, ◌&&◌, ◌||◌, ap, refl, sym, subst, inl, inr, ℕ, Bool, true, false, not, cond, List, [], ◌∷◌, Option, Some, None, is_some, codes, option_map, fold}
 use Rattle.std.specs.List.{list_all, list_any}
-use Rattle.std.specs.Prelude.{find, Err, IfSome}
+use Rattle.std.specs.Option.{option_map_or}
+use Rattle.std.specs.Prelude.{⊤, ◌⊎◌, find, Err, IfSome}
 use Rattle.std.specs.Str.{bytes_eq}
-use Rattle.std.proofs.lemmas.Bool.{and_parts, or_cases}
+use Rattle.std.proofs.lemmas.Bool.{and_parts, false≢true, or_cases}
 use Rattle.std.proofs.lemmas.Option.{IfSome_then}
 use Rattle.std.proofs.lemmas.Slice.Eq.{bytes_eq-Decides}
 use Rattle.clap.specs.Facts.{explicit_source}
 use Rattle.clap.specs.Faults.{built_fault, check_fault, defaults_fault, entered_fault, is_simple_and_free, level_fault, other_fault, settle_fault, turn_fault, walk_fault}
 use Rattle.clap.specs.Kinds.{HasKind, IsAmong, Kinds, or_else}
 use Rattle.clap.specs.Lexer.{long_of}
-use Rattle.clap.specs.Simple.{argument_words, built, entered, label_of, names_of, rows_at}
-use Rattle.clap.specs.Walk.{Held, Names, Outcome, Step, Waiting, Walk, after_flag, after_step, answers_to, done, finished, idle, is_empty, long_or_other, next, nothing_held, option, plain, plain_word, positional, refused, settled, short_or_plain, stop_after, subcommand, subcommand_met, subcommand_or_other, to_positional, trailing, value, waits, walk, walk_from, walked, walked_from}
+use Rattle.clap.specs.Simple.{built_leaf, filled, inherited, argument_words, built, entered, label_of, names_of, rows_at}
+use Rattle.clap.specs.Walk.{arg_by_id, one_of, Held, Names, Outcome, Step, Waiting, Walk, after_flag, after_step, answers_to, done, finished, idle, is_empty, long_or_other, next, nothing_held, option, plain, plain_word, positional, refused, settled, short_or_plain, stop_after, subcommand, subcommand_met, subcommand_or_other, to_positional, trailing, value, waits, walk, walk_from, walked, walked_from}
 use Rattle.clap.specs.Words.{App, Row, Rule, Shape, Text, fault_of, is_simple, kind_of, matches_of, subcommand_of}
 use Rattle.clap.specs.declared.error.Error.{Error}
 use Rattle.clap.specs.declared.error.ErrorKind.{ErrorKind}
@@ -19,7 +20,11 @@ use Rattle.clap.specs.declared.error.ErrorKind.TheVariants as kind
 use Rattle.clap.proofs.OnLiterals.{clap_on_literals}
 use Rattle.clap.proofs.SimpleLemmas.{is_nil}
 use Rattle.clap.proofs.WalkLemmas.{first_value-rows}
-use Rattle.fb_words.specs.Command.{fusion_app}
+use Rattle.fb_words.proofs.PassedRows.{RowsPass, level_rows_pass, none_first, none_then, only_of_single, required_word, word_accepted}
+use Rattle.fb_words.specs.Command.{decode_app, flag_rule, fusion_app, number_rule, plain_app, required_number_rule, sample_app}
+use Rattle.fb_words.specs.InternalOptions.{HasNumber, HasNumberIfGiven, HasOptions}
+use Rattle.fb_words.specs.Ranges.{Range}
+use Rattle.fb_words.specs.Ranges as ranges
 use Rattle.fb_words.specs.Seen.{IsFaultOf, usage_of}
 use Rattle.fb_words.specs.Words.{command_errand, errand_of, errand_unless, is_command, is_command_name}
 use Rattle.fb_words.specs.declared.usage.UsageKind.{UsageKind}
@@ -27,20 +32,10 @@ use Rattle.fb_words.specs.declared.usage.UsageKind.TheVariants as usage
 use Rattle.fb_words.specs.declared.words.WordsFault.{WordsFault}
 use Rattle.fb_words.specs.declared.words.WordsFault.TheVariants as fault
 
--- ---- of faults, one after another, there is none
-
-none_first : (a b : Kinds) → or_else a b ≡ [] → a ≡ []
-none_first [] b e = refl
-none_first (k ∷ ks) b e = cc
-
-none_then : (a b : Kinds) → or_else a b ≡ [] → b ≡ []
-none_then [] b e = e
-none_then (k ∷ ks) b e = cc
-
--- what a level without a fault says of its walk, and of its checks
+-- what a level without a fault says of its walk, of the level below, and of its checks
 level_passes : (s : Shape) (names : Names) (h : Held) (words : List Text) (has : Bool) (below : Kinds)
     → level_fault s names h words has below ≡ []
-    → (walk_fault s names (walk_from h) words ≡ [])
+    → (walk_fault s names (walk_from h) words ≡ []) × (below ≡ [])
     × (check_fault s (finished s.rules (walk s.rules names h words).held) has ≡ [])
 level_passes s names h words has below none =
     let end = (walk s.rules names h words).held in
@@ -51,6 +46,7 @@ level_passes s names h words has below none =
     let after_below = or_else settling (or_else defaults checks) in
     let after_walk = or_else below after_below in (
       none_first walking after_walk none,
+      none_first below after_below (none_then walking after_walk none),
       none_then defaults checks (none_then settling (or_else defaults checks)
           (none_then below after_below (none_then walking after_walk none))),
     )
@@ -206,7 +202,69 @@ built_command a words required enabled known none =
     let passed = level_passes a.top (names_of a) nothing_held words has (entered_fault a stop) none in
     entered_is_command a stop known
     (walk_stops a.top (names_of a) (walk_from nothing_held) words enabled refl passed.0)
-    (wanted_is_there a.top (finished a.top.rules (walk a.top.rules (names_of a) nothing_held words).held) has required passed.1)
+    (wanted_is_there a.top (finished a.top.rules (walk a.top.rules (names_of a) nothing_held words).held) has required passed.2)
+
+-- ---- the options of a subcommand
+
+-- what holds of the options of a subcommand where clap finds no fault in them
+abbrev HasItsOptions : Shape → Type 0
+HasItsOptions s = (words : List Text) → level_fault s [] nothing_held words false [] ≡ [] → HasOptions (Some (rows_at s words))
+
+abbrev HaveTheirOptions : List Shape → Type 0
+HaveTheirOptions [] = ⊤
+HaveTheirOptions (s ∷ subs) = HasItsOptions s × HaveTheirOptions subs
+
+found_has_options : (subs : List Shape) (word : Text) (rest : List Text) → HaveTheirOptions subs
+    → option_map_or (λ s. level_fault s [] nothing_held rest false []) (find (λ s. answers_to word (label_of s)) subs) [] ≡ []
+    → HasOptions (found_among subs word rest)
+found_has_options [] word rest each none = tt
+found_has_options (s ∷ subs) word rest each none =
+    go (answers_to word (label_of s)) none (found_has_options subs word rest each.1)
+  where
+    go : (answers : Bool)
+        → option_map_or (λ s. level_fault s [] nothing_held rest false []) (cond answers (Some s) (find (λ s. answers_to word (label_of s)) subs)) [] ≡ []
+        → (option_map_or (λ s. level_fault s [] nothing_held rest false []) (find (λ s. answers_to word (label_of s)) subs) [] ≡ []
+        → HasOptions (found_among subs word rest))
+        → HasOptions (option_map (λ s. rows_at s rest) (cond answers (Some s) (find (λ s. answers_to word (label_of s)) subs)))
+    go true none later = each.0 rest none
+    go false none later = later none
+
+entered_has_options : (a : App) (stop : Option (Text × List Text)) → HaveTheirOptions a.subs → entered_fault a stop ≡ []
+    → HasOptions (entered a stop)
+entered_has_options a None each none = tt
+entered_has_options a (Some stop) each none = found_has_options a.subs stop.0 stop.1 each none
+
+built_has_options : (a : App) (words : List Text) → HaveTheirOptions a.subs → built_fault a nothing_held words ≡ []
+    → HasOptions (entered a (stop_after a.top.rules (names_of a) words))
+built_has_options a words each none =
+    let stop = stop_after a.top.rules (names_of a) words in
+    entered_has_options a stop each
+    (level_passes a.top (names_of a) nothing_held words (is_some (entered a stop)) (entered_fault a stop) none).1
+
+number_if_given : (s : Shape) (name : Text) (range : Range) (rows : List Row)
+    → arg_by_id s.rules name ≡ Some (filled (number_rule name range)) → RowsPass s.rules rows → HasNumberIfGiven name range rows
+number_if_given s name range rows found pass =
+    word_accepted s.rules name (filled (number_rule name range)) rows (record { by_id = found; reading = refl }) pass
+
+number_given : (s : Shape) (name : Text) (range : Range) (rows : List Row)
+    → arg_by_id s.rules name ≡ Some (filled (required_number_rule name range))
+    → s.subcommand_negates_reqs ≡ false → check_fault s rows false ≡ [] → RowsPass s.rules rows → HasNumber name range rows
+number_given s name range rows found plainly none pass =
+    required_word s name (filled (required_number_rule name range)) rows (record { by_id = found; reading = refl }) refl refl plainly none pass
+
+flag_word : (s : Shape) (name : Text) (rows : List Row)
+    → arg_by_id s.rules name ≡ Some (filled (flag_rule name)) → RowsPass s.rules rows
+    → IfSome (one_of name rows) (λ word. (word ≡ codes "true") ⊎ (word ≡ codes "false"))
+flag_word s name rows found pass =
+    go (one_of name rows) (word_accepted s.rules name (filled (flag_rule name)) rows (record { by_id = found; reading = refl }) pass)
+  where
+    go : (o : Option Text) → IfSome o (λ word. (bytes_eq word (codes "true") || bytes_eq word (codes "false")) ≡ true)
+        → IfSome o (λ word. (word ≡ codes "true") ⊎ (word ≡ codes "false"))
+    go None h = tt
+    go (Some word) h = elim (or_cases _ _ h) [
+      | inl e ↦ inl ((bytes_eq-Decides word (codes "true")).0 e)
+      | inr e ↦ inr ((bytes_eq-Decides word (codes "false")).0 e)
+    ]
 
 -- ---- the command line of `fusion`
 
@@ -230,6 +288,56 @@ fusion_knows : list_all is_known (built fusion_app).subs ≡ true
 unfolding fusion_app
 fusion_knows = refl
 
+-- a command's options, as building leaves them
+abbrev leaf_of : App → Shape
+leaf_of app = built_leaf (inherited plain_app.top app.top)
+
+decode_has_options : HasItsOptions (leaf_of decode_app)
+decode_has_options words none =
+    let s = leaf_of decode_app in
+    let passed = level_rows_pass s [] words false [] refl (only_of_single s.rules refl) none in (
+      λ auto. record {
+        workers = number_if_given s (codes "workers") ranges.workers (rows_at s words).1 refl passed.0;
+        window = number_if_given s (codes "window") ranges.windows (rows_at s words).1 refl passed.0;
+        trace = flag_word s (codes "trace") (rows_at s words).1 refl passed.0;
+      },
+      λ e. absurd (false≢true e),
+    )
+
+sample_has_options : HasItsOptions (leaf_of sample_app)
+sample_has_options words none =
+    let s = leaf_of sample_app in
+    let rows = (rows_at s words).1 in
+    let passed = level_rows_pass s [] words false [] refl (only_of_single s.rules refl) none in (
+      λ e. absurd (false≢true e),
+      λ auto. record {
+        distance = number_given s (codes "distance") ranges.distances rows refl refl passed.1 passed.0;
+        rounds = number_given s (codes "rounds") ranges.rounds rows refl refl passed.1 passed.0;
+        units = number_given s (codes "units") ranges.units rows refl refl passed.1 passed.0;
+        rate = number_given s (codes "rate") ranges.rates rows refl refl passed.1 passed.0;
+        start = number_given s (codes "start") ranges.starts rows refl refl passed.1 passed.0;
+        shots = number_given s (codes "shots") ranges.shots rows refl refl passed.1 passed.0;
+        workers = number_if_given s (codes "workers") ranges.workers rows refl passed.0;
+        window = number_if_given s (codes "window") ranges.windows rows refl passed.0;
+      },
+    )
+
+fusion_have_options : HaveTheirOptions (built fusion_app).subs
+unfolding fusion_app
+fusion_have_options = (
+  decode_has_options,
+  (
+    (λ words none. (λ e. absurd (false≢true e), λ e. absurd (false≢true e))),
+    (
+      sample_has_options,
+      ((λ words none. (λ e. absurd (false≢true e), λ e. absurd (false≢true e))), tt),
+    ),
+  ),
+)
+
+has_options : (words : List Text) → fault_of fusion_app words ≡ [] → HasOptions (subcommand_of fusion_app words)
+has_options words none = built_has_options (built fusion_app) (argument_words fusion_app words) fusion_have_options none
+
 names_command : (words : List Text) → fault_of fusion_app words ≡ [] → is_command (subcommand_of fusion_app words) ≡ true
 names_command words none =
     built_command (built fusion_app) (argument_words fusion_app words) fusion_requires fusion_helps fusion_knows none
@@ -249,13 +357,16 @@ module _ (a : App) (words : List Text) (is : a ≡ fusion_app) where
   pub parse_passed : (rows : List Row) (command : Option (Text × List Row))
       → (is_simple_and_free a ≡ true → fault_of a words ≡ [])
       → (is_simple a ≡ true → (rows ≡ matches_of a words) × (command ≡ subcommand_of a words))
-      → (is_command command ≡ true) × (errand_of words ≡ command_errand command)
+      → (is_command command ≡ true) × HasOptions command × (errand_of words ≡ command_errand command)
   parse_passed rows command no_fault read =
       let none : fault_of fusion_app words ≡ [] = subst (λ (x : App). fault_of x words ≡ []) is
       (no_fault (ap is_simple_and_free is ∙ fusion_is_free)) in
       let same : command ≡ subcommand_of fusion_app words = subst (λ (x : App). command ≡ subcommand_of x words) is
-      (read (ap is_simple is ∙ fusion_is_simple)).1 in
-      (ap is_command same ∙ names_command words none, faultless_errand words none ∙ ap command_errand (sym same))
+      (read (ap is_simple is ∙ fusion_is_simple)).1 in (
+        ap is_command same ∙ names_command words none,
+        subst HasOptions (sym same) (has_options words none),
+        faultless_errand words none ∙ ap command_errand (sym same),
+      )
 
   pub parse_failed : (e : Error) (f : WordsFault) → (is_simple_and_free a ≡ true → HasKind (fault_of a words) e)
       → (kind_of e ≡ kind.OutOfMemory → f ≡ fault.NoMemory) → IfSome (usage_of f) (λ k. k ≡ usage.Parse)

@@ -1,1 +1,3 @@
+pub mod PassedRows
 pub mod Commands
+pub mod Numbers

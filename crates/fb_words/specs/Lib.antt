@@ -1,4 +1,6 @@
+pub mod Ranges
 pub mod Command
 pub mod Words
+pub mod InternalOptions
 pub mod Seen
 pub mod Taken

@@ -1,25 +1,47 @@
 -- What the words ask for, without where its texts lie in memory.
 use Rattle.std.specs.Prelude.{◌≡◌, option_map, Option, Some, None, IfSome, Result, Err}
-use Rattle.fb_words.specs.Words.{Checking, Decoding, Errand, check, decode}
+use Rattle.fb_words.specs.Words.{Checking, Decoding, Errand, Sampling, check, decode, sample}
 use Rattle.fb_words.specs.declared.words.Checking.{Checking as BorrowedChecking}
 use Rattle.fb_words.specs.declared.words.Decoding.{Decoding as BorrowedDecoding}
 use Rattle.fb_words.specs.declared.words.Errand.{Errand as BorrowedErrand}
-use Rattle.fb_words.specs.declared.words.Errand.TheVariants.{Check, Decode}
+use Rattle.fb_words.specs.declared.words.Errand.TheVariants.{Check, Decode, Sample}
+use Rattle.fb_words.specs.declared.words.Sampling.{Sampling as ReadSampling}
 use Rattle.fb_words.specs.declared.usage.UsageKind.{UsageKind}
 use Rattle.fb_words.specs.declared.usage.UsageKind.TheVariants as usage
 use Rattle.fb_words.specs.declared.words.WordsFault.{WordsFault}
 use Rattle.fb_words.specs.declared.words.WordsFault.TheVariants as fault
 
 abbrev pub seen_decoding : BorrowedDecoding → Decoding
-seen_decoding d = record { graph = d.graph.now; plan = option_map (λ name. name.now) d.plan; shots = d.shots.now; format = d.format }
+seen_decoding d = record {
+  graph = d.graph.now;
+  plan = option_map (λ name. name.now) d.plan;
+  shots = d.shots.now;
+  format = d.format;
+  workers = d.workers;
+  window = d.window;
+  trace = d.trace;
+}
 
 abbrev pub seen_checking : BorrowedChecking → Checking
 seen_checking c =
     record { graph = c.graph.now; shots = c.shots.now; format = c.format; report = c.report.now }
 
+abbrev pub seen_sampling : ReadSampling → Sampling
+seen_sampling s = record {
+  distance = s.distance;
+  rounds = s.rounds;
+  units = s.units;
+  rate = s.rate;
+  start = s.start;
+  shots = s.shots;
+  workers = s.workers;
+  window = s.window;
+}
+
 abbrev pub seen : BorrowedErrand → Errand
 seen (Decode d) = decode (seen_decoding d)
 seen (Check c) = check (seen_checking c)
+seen (Sample s) = sample (seen_sampling s)
 
 -- what a fault says is wrong with the words; none where memory was wanting
 abbrev pub usage_of : WordsFault → Option UsageKind

@@ -1,19 +1,27 @@
 -- What the words of a command line ask for.
-use Rattle.std.specs.Prelude.{◌||◌, Bool, false, List, [], ◌∷◌, codes, bytes_eq, count_by, nat_lt, unwrap_or, if◌then◌else◌, Option, Some, None, Result, Ok, Err}
+use Rattle.std.specs.Prelude.{◌||◌, ℕ, Bool, false, List, [], ◌∷◌, codes, bytes_eq, count_by, nat_lt, option_map, unwrap_or, if◌then◌else◌, Option, Some, None, Result, Ok, Err, ⊤}
+use Rattle.std.specs.Option.{option_map_or}
+use Rattle.std.specs.Str.Parse.{digits_value, without_leading_plus}
 use Rattle.clap.specs.Kinds.{Kinds}
-use Rattle.clap.specs.Words.{Row, Text, fault_of, first_of, subcommand_of}
+use Rattle.clap.specs.Words.{Row, Text, fault_of, first_of, one_of, subcommand_of}
 use Rattle.fb_words.specs.Command.{fusion_app}
+use Rattle.fb_words.specs.Ranges.{IsWithin}
+use Rattle.fb_words.specs.Ranges as ranges
 use Rattle.fb_shots.specs.declared.answer.Format.{Format}
 use Rattle.fb_shots.specs.declared.answer.Format.TheVariants.{Text01, B8, Dets, Json}
 use Rattle.fb_words.specs.declared.usage.UsageKind.{UsageKind}
 use Rattle.fb_words.specs.declared.usage.UsageKind.TheVariants as usage
 
--- what `decode` asks for: the names of the graph, of the plan if one is given, and of the shots, and their format
+-- What `decode` asks for: the names of the graph, of the plan if one is given, and of the shots, and their format; how
+-- many workers solve parts side by side, and how many shots are solved at once; whether a trace is written.
 pub record Decoding : Type 0 where
   pub graph : Text
   pub plan : Option Text
   pub shots : Text
   pub format : Format
+  pub workers : ℕ
+  pub window : ℕ
+  pub trace : Bool
 
 -- what `check` asks for: the same, and the name of the report
 pub record Checking : Type 0 where
@@ -22,10 +30,23 @@ pub record Checking : Type 0 where
   pub format : Format
   pub report : Text
 
+-- What `sample` asks for: the distance and the rounds of the lattice, and the units of its plan; the rate at which edges
+-- are hit (of 1,048,576), the state at which the draws start, and how many shots are drawn; workers and window as above.
+pub record Sampling : Type 0 where
+  pub distance : ℕ
+  pub rounds : ℕ
+  pub units : ℕ
+  pub rate : ℕ
+  pub start : ℕ
+  pub shots : ℕ
+  pub workers : ℕ
+  pub window : ℕ
+
 -- what a command line asks for
 pub data Errand : Type 0 where
   decode : Decoding → Errand
   check : Checking → Errand
+  sample : Sampling → Errand
 
 -- the format that a word names
 abbrev pub format_of : Text → Option Format
@@ -57,6 +78,28 @@ errand_with (Err kind) errand = Err kind
 abbrev pub option_of : Text → List Row → Text
 option_of name options = unwrap_or (first_of name options) []
 
+-- the number that a word writes: of its decimal digits, after a plus if it begins with one
+abbrev pub number_in : Text → ℕ
+number_in word = digits_value 10 (without_leading_plus word)
+
+-- the number of an option, if the option is given
+abbrev pub number_of : Text → List Row → Option ℕ
+number_of name options = option_map number_in (one_of name options)
+
+-- the number of an option that has to be given
+abbrev pub given_number : Text → List Row → ℕ
+given_number name options = unwrap_or (number_of name options) 0
+
+abbrev pub workers_of : List Row → ℕ
+workers_of options = unwrap_or (number_of (codes "workers") options) 1
+
+abbrev pub window_of : List Row → ℕ
+window_of options = unwrap_or (number_of (codes "window") options) 1
+
+-- whether a trace is asked for; clap gives an option without a value the word `true` where it is given, and `false` else
+abbrev pub trace_of : List Row → Bool
+trace_of options = option_map_or (λ word. bytes_eq word (codes "true")) (one_of (codes "trace") options) false
+
 -- the errand of `decode` with these options
 abbrev pub decoding_of : List Row → Result Errand UsageKind
 decoding_of options =
@@ -64,7 +107,15 @@ decoding_of options =
     let plan = option_of (codes "plan") options in
     let shots = option_of (codes "shots") options in
     errand_with (accepted_format (format_of (option_of (codes "format") options)) (graph ∷ plan ∷ shots ∷ []))
-    (λ format. decode (record { graph = graph; plan = first_of (codes "plan") options; shots = shots; format = format }))
+    (λ format. decode (record {
+      graph = graph;
+      plan = first_of (codes "plan") options;
+      shots = shots;
+      format = format;
+      workers = workers_of options;
+      window = window_of options;
+      trace = trace_of options;
+    }))
 
 -- the errand of `check` with these options
 abbrev pub checking_of : List Row → Result Errand UsageKind
@@ -75,8 +126,22 @@ checking_of options =
     errand_with (accepted_format (format_of (option_of (codes "format") options)) (graph ∷ shots ∷ report ∷ []))
     (λ format. check (record { graph = graph; shots = shots; format = format; report = report }))
 
+-- the errand of `sample` with these options
+abbrev pub sampling_of : List Row → Sampling
+sampling_of options = record {
+  distance = given_number (codes "distance") options;
+  rounds = given_number (codes "rounds") options;
+  units = given_number (codes "units") options;
+  rate = given_number (codes "rate") options;
+  start = given_number (codes "start") options;
+  shots = given_number (codes "shots") options;
+  workers = workers_of options;
+  window = window_of options;
+}
+
 abbrev pub is_command_name : Text → Bool
-is_command_name name = bytes_eq name (codes "decode") || bytes_eq name (codes "check")
+is_command_name name =
+    bytes_eq name (codes "decode") || (bytes_eq name (codes "check") || bytes_eq name (codes "sample"))
 
 -- a command was named
 abbrev pub is_command : Option (Text × List Row) → Bool
@@ -88,7 +153,8 @@ abbrev pub command_errand : Option (Text × List Row) → Result Errand UsageKin
 command_errand None = Err usage.Parse
 command_errand (Some command) =
     if bytes_eq command.0 (codes "decode") then decoding_of command.1
-    else (if bytes_eq command.0 (codes "check") then checking_of command.1 else Err usage.Parse)
+    else (if bytes_eq command.0 (codes "check") then checking_of command.1
+    else (if bytes_eq command.0 (codes "sample") then Ok (sample (sampling_of command.1)) else Err usage.Parse))
 
 -- the errand of a command, where clap finds no fault in the words
 abbrev pub errand_unless : Kinds → Option (Text × List Row) → Result Errand UsageKind
@@ -99,3 +165,19 @@ errand_unless (fault ∷ faults) command = Err usage.Parse
 -- help or the version; `--format` is none of the four; more than one name is that of standard input.
 abbrev pub errand_of : List Text → Result Errand UsageKind
 errand_of words = errand_unless (fault_of fusion_app words) (subcommand_of fusion_app words)
+
+-- the numbers are in the ranges of their options
+pub record IsSampleInRanges (s : Sampling) : Type 0 where
+  pub distance : IsWithin ranges.distances s.distance
+  pub rounds : IsWithin ranges.rounds s.rounds
+  pub units : IsWithin ranges.units s.units
+  pub rate : IsWithin ranges.rates s.rate
+  pub start : IsWithin ranges.starts s.start
+  pub shots : IsWithin ranges.shots s.shots
+  pub workers : IsWithin ranges.workers s.workers
+  pub window : IsWithin ranges.windows s.window
+
+abbrev pub IsInRanges : Errand → Type 0
+IsInRanges (decode d) = IsWithin ranges.workers d.workers × IsWithin ranges.windows d.window
+IsInRanges (check c) = ⊤
+IsInRanges (sample s) = IsSampleInRanges s

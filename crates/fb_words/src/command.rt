@@ -3,10 +3,14 @@
 ghost use Rattle.std.specs.Prelude.{◌≡◌, IfOk, false, codes};
 ghost use Rattle.clap.specs.Words.{app_of, rule_of};
 ghost use Rattle.clap.specs.declared.builder.Command.TheViews.{out-Command};
-ghost use Rattle.fb_words.specs.Command.{check_app, decode_app, free_rule, fusion_app, option_rule, with_inputs};
+ghost use Rattle.fb_words.specs.Command.{check_app, decode_app, flag_rule, free_rule, fusion_app, number_rule, option_rule, required_number_rule, sample_app, with_draws, with_inputs, with_lattice, with_sizes};
+ghost use Rattle.fb_words.specs.Ranges.{Range};
+ghost use Rattle.fb_words.specs.Ranges as ranges;
 
+use clap::builder::ValueParser;
 use clap::{Arg, ArgAction, Command};
 use std::alloc::{AllocError, Global};
+use std::ops::RangeInclusive;
 
 /// The version that `--version` tells.
 const VERSION: &str = "0.1.0";
@@ -14,20 +18,27 @@ const VERSION: &str = "0.1.0";
 /// What help says of names.
 const NAMES: &str = "NAME is a file, or `-` for standard input. At most one NAME may be `-`.";
 
+/// How many workers there may be.
+const MOST_WORKERS: u64 = 64;
+
+/// How many shots may be solved at once.
+const MOST_AT_ONCE: u64 = 64;
+
 /// The whole command line: one command and its options.
-#[tactic(auto, unfolding(crate::specs::Command::fusion_app))]
 pub fn fusion<'a>(alloc: Global) -> Result<Command<'a>, AllocError>
     ensures { IfOk result (λ c. app_of c ≡ fusion_app) }
 {
     let decode = decode(alloc)?;
     let check = check(alloc)?;
+    let sample = sample(alloc)?;
     Command::new(alloc, "fusion")
         .bin_name("fusion")?
         .version(VERSION)
         .about("A proved exact decoder for quantum error correction")
         .subcommand_required(true)
         .subcommand(decode)?
-        .subcommand(check)
+        .subcommand(check)?
+        .subcommand(sample)
 }
 
 /// The command `decode`.
@@ -38,7 +49,8 @@ fn decode<'a>(alloc: Global) -> Result<Command<'a>, AllocError>
     let command = Command::new(alloc, "decode")
         .about("Write a lightest correction of each shot, with cuts that show that none is lighter")
         .after_help(NAMES);
-    with_inputs(alloc, command)?.arg(plan(alloc))
+    let command = with_inputs(alloc, command)?.arg(plan(alloc))?;
+    with_sizes(alloc, command)?.arg(trace(alloc))
 }
 
 /// The command `check`.
@@ -50,6 +62,19 @@ fn check<'a>(alloc: Global) -> Result<Command<'a>, AllocError>
         .about("Check each row of a report against the graph and the shots")
         .after_help(NAMES);
     with_inputs(alloc, command)?.arg(report(alloc))
+}
+
+/// The command `sample`.
+fn sample<'a>(alloc: Global) -> Result<Command<'a>, AllocError>
+    ensures app { IfOk result (λ c. app_of c ≡ sample_app) }
+    ensures local { IfOk result (λ c. (out-Command c).has_globals ≡ false) }
+{
+    let command = Command::new(alloc, "sample").about(
+        "Draw shots on a lattice, decode them, and write how many defects there were and what their corrections weigh",
+    );
+    let command = with_lattice(alloc, command)?;
+    let command = with_draws(alloc, command)?;
+    with_sizes(alloc, command)
 }
 
 /// Adds the options for the graph, the shots and the form of the shots.
@@ -64,6 +89,39 @@ fn with_inputs<'a>(alloc: Global, command: Command<'a>) -> Result<Command<'a>, A
         .arg(format(alloc))
 }
 
+/// Adds the options for how many workers there are, and how many shots are solved at once.
+fn with_sizes<'a>(alloc: Global, command: Command<'a>) -> Result<Command<'a>, AllocError>
+    ensures app { IfOk result (λ c. app_of c ≡ with_sizes (app_of command.entry)) }
+    ensures local { (out-Command command.entry).has_globals ≡ false
+        → IfOk result (λ c. (out-Command c).has_globals ≡ false) }
+{
+    command.arg(workers(alloc))?.arg(window(alloc))
+}
+
+/// Adds the options for a lattice and its plan.
+fn with_lattice<'a>(alloc: Global, command: Command<'a>) -> Result<Command<'a>, AllocError>
+    ensures app { IfOk result (λ c. app_of c ≡ with_lattice (app_of command.entry)) }
+    ensures local { (out-Command command.entry).has_globals ≡ false
+        → IfOk result (λ c. (out-Command c).has_globals ≡ false) }
+{
+    command
+        .arg(distance(alloc))?
+        .arg(rounds(alloc))?
+        .arg(units(alloc))
+}
+
+/// Adds the options for the shots that are drawn.
+fn with_draws<'a>(alloc: Global, command: Command<'a>) -> Result<Command<'a>, AllocError>
+    ensures app { IfOk result (λ c. app_of c ≡ with_draws (app_of command.entry)) }
+    ensures local { (out-Command command.entry).has_globals ≡ false
+        → IfOk result (λ c. (out-Command c).has_globals ≡ false) }
+{
+    command
+        .arg(rate(alloc))?
+        .arg(start(alloc))?
+        .arg(drawn_shots(alloc))
+}
+
 /// The option for the graph.
 fn graph<'a>(alloc: Global) -> Arg<'a>
     ensures rule { rule_of result ≡ option_rule (codes "graph") }
@@ -75,6 +133,7 @@ fn graph<'a>(alloc: Global) -> Arg<'a>
         "NAME",
         "The decoding graph: the solver initializer of Fusion Blossom, in JSON",
     )
+    .required(true)
 }
 
 /// The option for the plan.
@@ -82,13 +141,12 @@ fn plan<'a>(alloc: Global) -> Arg<'a>
     ensures rule { rule_of result ≡ free_rule (codes "plan") }
     ensures local { result.global ≡ false }
 {
-    Arg::new(alloc, "plan")
-        .long("plan")
-        .value_name("NAME")
-        .help(
-            "A plan by which the graph is solved in parts, in JSON; without one it is solved whole",
-        )
-        .action(ArgAction::Set)
+    option(
+        alloc,
+        "plan",
+        "NAME",
+        "A plan by which the graph is solved in parts, in JSON; without one it is solved whole",
+    )
 }
 
 /// The option for the shots.
@@ -102,6 +160,7 @@ fn shots<'a>(alloc: Global) -> Arg<'a>
         "NAME",
         "The shots: the detectors that fired in each",
     )
+    .required(true)
 }
 
 /// The option for the form of the shots.
@@ -115,6 +174,7 @@ fn format<'a>(alloc: Global) -> Arg<'a>
         "FORMAT",
         "How the shots are written: 01, b8 or dets of Stim, or json, lines of JSON",
     )
+    .required(true)
 }
 
 /// The option for the report.
@@ -128,11 +188,141 @@ fn report<'a>(alloc: Global) -> Arg<'a>
         "NAME",
         "The report to check, as `decode` writes it",
     )
+    .required(true)
 }
 
-/// An option that has to be given, once, as `--name value`.
+/// The option for the number of workers.
+fn workers<'a>(alloc: Global) -> Arg<'a>
+    ensures rule { rule_of result ≡ number_rule (codes "workers") ranges.workers }
+    ensures local { result.global ≡ false }
+{
+    number(
+        alloc,
+        "workers",
+        "N",
+        1..=MOST_WORKERS,
+        "How many workers solve parts side by side, 1 to 64; 1 where absent",
+    )
+}
+
+/// The option for the size of a window.
+fn window<'a>(alloc: Global) -> Arg<'a>
+    ensures rule { rule_of result ≡ number_rule (codes "window") ranges.windows }
+    ensures local { result.global ≡ false }
+{
+    number(
+        alloc,
+        "window",
+        "N",
+        1..=MOST_AT_ONCE,
+        "How many shots are solved at once, 1 to 64; 1 where absent",
+    )
+}
+
+/// The flag for a trace.
+fn trace<'a>(alloc: Global) -> Arg<'a>
+    ensures rule { rule_of result ≡ flag_rule (codes "trace") }
+    ensures local { result.global ≡ false }
+{
+    Arg::new(alloc, "trace")
+        .long("trace")
+        .help("Write after each window which worker took and gave which part")
+        .action(ArgAction::SetTrue)
+}
+
+/// The option for the distance of a lattice.
+fn distance<'a>(alloc: Global) -> Arg<'a>
+    ensures rule { rule_of result ≡ required_number_rule (codes "distance") ranges.distances }
+    ensures local { result.global ≡ false }
+{
+    number(
+        alloc,
+        "distance",
+        "D",
+        2..=255,
+        "The distance of the lattice, 2 to 255",
+    )
+    .required(true)
+}
+
+/// The option for the rounds of a lattice.
+fn rounds<'a>(alloc: Global) -> Arg<'a>
+    ensures rule { rule_of result ≡ required_number_rule (codes "rounds") ranges.rounds }
+    ensures local { result.global ≡ false }
+{
+    number(
+        alloc,
+        "rounds",
+        "T",
+        1..=1_048_576,
+        "How many rounds the lattice has, 1 to 1048576",
+    )
+    .required(true)
+}
+
+/// The option for the units of a lattice's plan.
+fn units<'a>(alloc: Global) -> Arg<'a>
+    ensures rule { rule_of result ≡ required_number_rule (codes "units") ranges.units }
+    ensures local { result.global ≡ false }
+{
+    number(
+        alloc,
+        "units",
+        "U",
+        1..=4096,
+        "Into how many units the plan splits the rounds, 1 to 4096",
+    )
+    .required(true)
+}
+
+/// The option for the rate at which edges are hit.
+fn rate<'a>(alloc: Global) -> Arg<'a>
+    ensures rule { rule_of result ≡ required_number_rule (codes "rate") ranges.rates }
+    ensures local { result.global ≡ false }
+{
+    number(
+        alloc,
+        "rate",
+        "R",
+        0..=1_048_576,
+        "In how many of 1048576 draws an edge is hit, 0 to 1048576",
+    )
+    .required(true)
+}
+
+/// The option for the state at which the draws start.
+fn start<'a>(alloc: Global) -> Arg<'a>
+    ensures rule { rule_of result ≡ required_number_rule (codes "start") ranges.starts }
+    ensures local { result.global ≡ false }
+{
+    number(
+        alloc,
+        "start",
+        "X",
+        0..=u64::MAX,
+        "The state at which the draws start, 0 to 18446744073709551615",
+    )
+    .required(true)
+}
+
+/// The option for the number of shots that are drawn.
+fn drawn_shots<'a>(alloc: Global) -> Arg<'a>
+    ensures rule { rule_of result ≡ required_number_rule (codes "shots") ranges.shots }
+    ensures local { result.global ≡ false }
+{
+    number(
+        alloc,
+        "shots",
+        "N",
+        1..=1_000_000,
+        "How many shots are drawn, 1 to 1000000",
+    )
+    .required(true)
+}
+
+/// An option that may be given, once, as `--name value`.
 fn option<'a>(alloc: Global, name: &'a str, value_name: &'a str, help: &'a str) -> Arg<'a>
-    ensures rule { rule_of result ≡ option_rule name.entry.now }
+    ensures rule { rule_of result ≡ free_rule name.entry.now }
     ensures local { result.global ≡ false }
 {
     Arg::new(alloc, name)
@@ -140,5 +330,19 @@ fn option<'a>(alloc: Global, name: &'a str, value_name: &'a str, help: &'a str) 
         .value_name(value_name)
         .help(help)
         .action(ArgAction::Set)
-        .required(true)
+}
+
+/// An option whose value is a number in a range.
+fn number<'a>(
+    alloc: Global,
+    name: &'a str,
+    value_name: &'a str,
+    range: RangeInclusive<u64>,
+    help: &'a str,
+) -> Arg<'a>
+    ensures rule { rule_of result ≡ number_rule name.entry.now (record { low = range.start; high = range.end }) }
+    ensures local { result.global ≡ false }
+{
+    let parser = ValueParser::unsigned(*range.start(), *range.end());
+    option(alloc, name, value_name, help).value_parser(parser)
 }

@@ -7,7 +7,7 @@ mod usage;
 mod words;
 
 pub use usage::UsageKind;
-pub use words::{Checking, Decoding, Errand, WordsFault, read_words};
+pub use words::{Checking, Decoding, Errand, Sampling, WordsFault, read_words};
 
 #[cfg(test)]
 mod tests;

@@ -70,6 +70,47 @@ fn check_reads_its_options(rt: HostRuntime) -> Result<(), Fail> {
 }
 
 #[test]
+fn decode_reads_its_sizes_and_its_flag(rt: HostRuntime) -> Result<(), Fail> {
+    for (options, workers, window, trace) in [
+        ("", 1, 1, false),
+        (" --workers 64 --window 1", 64, 1, false),
+        (" --trace --window=64", 1, 64, true),
+        (" --window +5 --workers 007", 7, 5, false),
+    ] {
+        let line = format!(in rt.alloc();
+            "fusion decode --graph g --shots s --format 01{options}"
+        )?;
+        let words = words_of(rt.alloc(), line.as_str())?;
+        let Ok(Errand::Decode(decoding)) = read_words(rt.alloc(), &words) else {
+            return Err(Fail::from("no errand"));
+        };
+        assert_eq!(rt; decoding.workers, workers, "{line}");
+        assert_eq!(rt; decoding.window, window, "{line}");
+        assert_eq!(rt; decoding.trace, trace, "{line}");
+    }
+    Ok(())
+}
+
+#[test]
+fn sample_reads_its_options(rt: HostRuntime) -> Result<(), Fail> {
+    let line =
+        "fusion sample --distance 255 --rounds 1048576 --units 4096 --rate 0 --start 18446744073709551615 --shots 1000000 --window 2";
+    let words = words_of(rt.alloc(), line)?;
+    let Ok(Errand::Sample(sampling)) = read_words(rt.alloc(), &words) else {
+        return Err(Fail::from("no errand"));
+    };
+    assert_eq!(rt; sampling.distance, 255);
+    assert_eq!(rt; sampling.rounds, 1_048_576);
+    assert_eq!(rt; sampling.units, 4096);
+    assert_eq!(rt; sampling.rate, 0);
+    assert_eq!(rt; sampling.start, u64::MAX);
+    assert_eq!(rt; sampling.shots, 1_000_000);
+    assert_eq!(rt; sampling.workers, 1);
+    assert_eq!(rt; sampling.window, 2);
+    Ok(())
+}
+
+#[test]
 fn words_without_a_command_are_refused(rt: HostRuntime) -> Result<(), Fail> {
     let no_words = Vec::new(rt.alloc());
     let Err(WordsFault::Parse(text)) = read_words(rt.alloc(), &no_words) else {

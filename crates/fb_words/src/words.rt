@@ -1,11 +1,13 @@
 //! What the words of a command line ask for.
 
-ghost use Rattle.std.specs.Prelude.{◌≡◌, ◌≢◌, true, map, string_bytes, IfOk, IfErr, IfSome};
-ghost use Rattle.clap.specs.Words.{found_of, kind_of, rows_of, subcommand_rows_of, takes};
+ghost use Rattle.std.specs.Prelude.{◌≡◌, ◌≢◌, ◌<◌, ◌^◌, true, codes, map, string_bytes, IfOk, IfErr, IfSome};
+ghost use Rattle.clap.specs.Words.{found_of, kind_of, one_of, rows_of, subcommand_rows_of, takes};
 ghost use Rattle.fb_words.specs.Command.{fusion_app};
 ghost use Rattle.fb_words.specs.declared.usage.UsageKind.{UsageKind};
-ghost use Rattle.fb_words.specs.Seen.{IsFaultOf, seen, usage_of};
-ghost use Rattle.fb_words.specs.Words.{accepted_format, checking_of, command_errand, decoding_of, errand_of, format_of, has_two_inputs, is_command, option_of};
+ghost use Rattle.fb_words.specs.InternalOptions.{HasDecodeOptions, HasNumberIfGiven, HasOptions, HasSampleOptions, WritesBelow};
+ghost use Rattle.fb_words.specs.Ranges as ranges;
+ghost use Rattle.fb_words.specs.Seen.{IsFaultOf, seen, seen_sampling, usage_of};
+ghost use Rattle.fb_words.specs.Words.{IsInRanges, accepted_format, checking_of, command_errand, decoding_of, errand_of, format_of, has_two_inputs, is_command, number_of, option_of, sampling_of, trace_of, window_of, workers_of};
 
 use crate::command::fusion;
 use clap::ArgMatches;
@@ -18,15 +20,20 @@ use std::alloc::Global;
 pub enum Errand<'a> {
     Decode(Decoding<'a>),
     Check(Checking<'a>),
+    Sample(Sampling),
 }
 
-/// Shots to decode: the names of the graph, of the plan if one is given, and of the shots, `-` for standard input.
+/// Shots to decode: the names of the graph, of the plan if one is given, and of the shots, `-` for standard input; how
+/// many workers solve parts side by side, and how many shots are solved at once, each 1 to 64; whether to write a trace.
 #[derive(Clone, Copy)]
 pub struct Decoding<'a> {
     pub graph: &'a str,
     pub plan: Option<&'a str>,
     pub shots: &'a str,
     pub format: Format,
+    pub workers: u32,
+    pub window: u32,
+    pub trace: bool,
 }
 
 /// A report to check: the names of the graph, of the shots and of the report, `-` for standard input.
@@ -36,6 +43,27 @@ pub struct Checking<'a> {
     pub shots: &'a str,
     pub format: Format,
     pub report: &'a str,
+}
+
+/// Shots to draw on a lattice and to decode.
+#[derive(Clone, Copy)]
+pub struct Sampling {
+    /// The distance of the lattice, 2 to 255.
+    pub distance: u32,
+    /// The rounds of the lattice, 1 to 1,048,576.
+    pub rounds: u32,
+    /// The units of its plan, 1 to 4,096.
+    pub units: u32,
+    /// In how many of 1,048,576 draws an edge is hit, 0 to 1,048,576.
+    pub rate: u32,
+    /// The state at which the draws start.
+    pub start: u64,
+    /// How many shots are drawn, 1 to 1,000,000.
+    pub shots: u32,
+    /// How many workers solve parts side by side, 1 to 64.
+    pub workers: u32,
+    /// How many shots are solved at once, 1 to 64.
+    pub window: u32,
 }
 
 /// Why the words give no errand.
@@ -54,6 +82,7 @@ pub enum WordsFault {
 /// Reads the words of a command line, the program's name first.
 pub fn read_words<'a>(alloc: Global, words: &'a [String]) -> Result<Errand<'a>, WordsFault>
     ensures errand { IfOk result (λ e. errand_of (map string_bytes words.entry.now) ≡ Ok (seen e)) }
+    ensures ranges { IfOk result (λ e. IsInRanges (seen e)) }
     ensures fault { IfErr result (IsFaultOf (errand_of (map string_bytes words.entry.now))) }
 
     // Words that `clap` takes aren't refused as a whole.
@@ -69,6 +98,7 @@ pub fn read_words<'a>(alloc: Global, words: &'a [String]) -> Result<Errand<'a>, 
 /// What `clap` makes of the words.
 fn parse<'a>(alloc: Global, words: &'a [String]) -> Result<ArgMatches<'a>, WordsFault>
     ensures command { IfOk result (λ m. is_command (subcommand_rows_of m) ≡ true) }
+    ensures options { IfOk result (λ m. HasOptions (subcommand_rows_of m)) }
     ensures errand { IfOk result (λ m. errand_of (map string_bytes words.entry.now)
         ≡ command_errand (subcommand_rows_of m)) }
     ensures fault { IfErr result (IsFaultOf (errand_of (map string_bytes words.entry.now))) }
@@ -86,7 +116,8 @@ fn parse<'a>(alloc: Global, words: &'a [String]) -> Result<ArgMatches<'a>, Words
 
 /// The errand of the command that was parsed.
 fn read_errand<'a>(matches: &ArgMatches<'a>) -> Result<Errand<'a>, WordsFault>
-    requires { is_command (subcommand_rows_of matches.now) ≡ true }
+    requires command { is_command (subcommand_rows_of matches.now) ≡ true }
+    requires options { HasOptions (subcommand_rows_of matches.now) }
     ensures errand { IfOk result (λ e. command_errand (subcommand_rows_of matches.now) ≡ Ok (seen e)) }
     ensures fault { IfErr result (IsFaultOf (command_errand (subcommand_rows_of matches.now))) }
     ensures parsed { IfErr result (λ f. usage_of f ≢ Some UsageKind.Parse) }
@@ -94,6 +125,7 @@ fn read_errand<'a>(matches: &ArgMatches<'a>) -> Result<Errand<'a>, WordsFault>
     match matches.subcommand() {
         Some(("decode", options)) => read_decoding(options),
         Some(("check", options)) => read_checking(options),
+        Some(("sample", options)) => Ok(Errand::Sample(read_sampling(options))),
         _ => unreachable!(),
     }
 }
@@ -101,6 +133,7 @@ fn read_errand<'a>(matches: &ArgMatches<'a>) -> Result<Errand<'a>, WordsFault>
 /// The errand of the command `decode` with these options.
 #[tactic(auto, using(crate::proofs::Commands::rows))]
 fn read_decoding<'a>(options: &ArgMatches<'a>) -> Result<Errand<'a>, WordsFault>
+    requires { HasDecodeOptions (rows_of (found_of options.now)) }
     ensures errand { IfOk result (λ e. decoding_of (rows_of (found_of options.now)) ≡ Ok (seen e)) }
     ensures fault { IfErr result (IsFaultOf (decoding_of (rows_of (found_of options.now)))) }
     ensures parsed { IfErr result (λ f. usage_of f ≢ Some UsageKind.Parse) }
@@ -115,6 +148,9 @@ fn read_decoding<'a>(options: &ArgMatches<'a>) -> Result<Errand<'a>, WordsFault>
             plan,
             shots,
             format,
+            workers: workers(options),
+            window: window(options),
+            trace: trace(options),
         })),
         Err(fault) => Err(fault),
     }
@@ -140,6 +176,23 @@ fn read_checking<'a>(options: &ArgMatches<'a>) -> Result<Errand<'a>, WordsFault>
     }
 }
 
+/// What the command `sample` asks for with these options.
+fn read_sampling(options: &ArgMatches<'_>) -> Sampling
+    requires { HasSampleOptions (rows_of (found_of options.now)) }
+    ensures { seen_sampling result ≡ sampling_of (rows_of (found_of options.now)) }
+{
+    Sampling {
+        distance: number(options, "distance").unwrap_or(0),
+        rounds: number(options, "rounds").unwrap_or(0),
+        units: number(options, "units").unwrap_or(0),
+        rate: number(options, "rate").unwrap_or(0),
+        start: long_number(options, "start").unwrap_or(0),
+        shots: number(options, "shots").unwrap_or(0),
+        workers: workers(options),
+        window: window(options),
+    }
+}
+
 /// The format that a word names, where the inputs of these names are read.
 fn accepted_format(word: &str, names: &[&str]) -> Result<Format, WordsFault>
     ensures format { IfOk result (λ f. accepted_format (format_of word.now) (map (λ name. name.now) names.now) ≡ Ok f) }
@@ -161,6 +214,46 @@ fn option<'a>(options: &ArgMatches<'a>, name: &str) -> &'a str
     ensures { result.now ≡ option_of name.now (rows_of (found_of options.now)) }
 {
     options.get_str(name).unwrap_or("")
+}
+
+/// The number of an option, if the option is given.
+fn number(options: &ArgMatches<'_>, name: &str) -> Option<u32>
+    requires { IfSome (one_of name.now (rows_of (found_of options.now))) (WritesBelow (2 ^ 32)) }
+    ensures { result ≡ number_of name.now (rows_of (found_of options.now)) }
+{
+    options.get_one(name)
+}
+
+/// The number of an option that may have 64 bits, if the option is given.
+fn long_number(options: &ArgMatches<'_>, name: &str) -> Option<u64>
+    requires { IfSome (one_of name.now (rows_of (found_of options.now))) (WritesBelow (2 ^ 64)) }
+    ensures { result ≡ number_of name.now (rows_of (found_of options.now)) }
+{
+    options.get_one(name)
+}
+
+/// How many workers are asked for.
+fn workers(options: &ArgMatches<'_>) -> u32
+    requires { HasNumberIfGiven (codes "workers") ranges.workers (rows_of (found_of options.now)) }
+    ensures { result ≡ workers_of (rows_of (found_of options.now)) }
+{
+    number(options, "workers").unwrap_or(1)
+}
+
+/// How many shots are asked to be solved at once.
+fn window(options: &ArgMatches<'_>) -> u32
+    requires { HasNumberIfGiven (codes "window") ranges.windows (rows_of (found_of options.now)) }
+    ensures { result ≡ window_of (rows_of (found_of options.now)) }
+{
+    number(options, "window").unwrap_or(1)
+}
+
+/// Whether a trace is asked for.
+fn trace(options: &ArgMatches<'_>) -> bool
+    requires { HasDecodeOptions (rows_of (found_of options.now)) }
+    ensures { result ≡ trace_of (rows_of (found_of options.now)) }
+{
+    options.get_flag("trace")
 }
 
 /// The format that a word names.

@@ -3,7 +3,7 @@
 #![tactic(auto)]
 
 use fb_ports::{OsFiles, OsSink, put_all};
-use fb_run::run;
+use fb_run::{OpenGate, run};
 use std::env;
 use std::process::ExitCode;
 
@@ -24,6 +24,14 @@ fn main(rt: HostRuntime) -> ExitCode {
     };
     let mut files = OsFiles::new(&rt);
     let mut out = OsSink::new(rt.stdout());
-    let ended = run(rt.alloc(), &words, &mut files, &mut out, &mut err);
+    let ended = run(
+        &rt,
+        rt.alloc(),
+        &words,
+        &mut files,
+        &mut out,
+        &mut err,
+        &OpenGate,
+    );
     ExitCode::from(ended.status)
 }

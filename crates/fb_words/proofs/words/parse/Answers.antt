@@ -9,11 +9,17 @@ returns-in-Ok-try_get_matches_from-clause-command c =
     (parse_passed (app_of c.in-Ok.command) (map string_bytes c.args.words.now) c.in-Ok.ensures (rows_of (found_of parse.matches))
     (subcommand_rows_of parse.matches) parse.ensures.kinds parse.ensures.matches).0
 
+pub returns-in-Ok-try_get_matches_from-clause-options : goal.returns-in-Ok-try_get_matches_from-clause-options
+returns-in-Ok-try_get_matches_from-clause-options c =
+    let parse = c.in-Ok-try_get_matches_from in
+    (parse_passed (app_of c.in-Ok.command) (map string_bytes c.args.words.now) c.in-Ok.ensures (rows_of (found_of parse.matches))
+    (subcommand_rows_of parse.matches) parse.ensures.kinds parse.ensures.matches).1
+
 pub returns-in-Ok-try_get_matches_from-clause-errand : goal.returns-in-Ok-try_get_matches_from-clause-errand
 returns-in-Ok-try_get_matches_from-clause-errand c =
     let parse = c.in-Ok-try_get_matches_from in
     (parse_passed (app_of c.in-Ok.command) (map string_bytes c.args.words.now) c.in-Ok.ensures (rows_of (found_of parse.matches))
-    (subcommand_rows_of parse.matches) parse.ensures.kinds parse.ensures.matches).1
+    (subcommand_rows_of parse.matches) parse.ensures.kinds parse.ensures.matches).2
 
 pub returns-in-Err-clause-fault : goal.returns-in-Err-clause-fault
 returns-in-Err-clause-fault c = parse_failed (app_of c.in-Ok.command) (map string_bytes c.args.words.now) c.in-Ok.ensures c.in-Err.error

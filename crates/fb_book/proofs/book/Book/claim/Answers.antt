@@ -1,8 +1,8 @@
-use Rattle.std.proofs.Common.{◌≡◌, None, is_some, get_or, set, true, refl, sym, ap, subst, ◌∙◌}
+use Rattle.std.proofs.Common.{◌≡◌, ◌<◌, None, is_some, get_or, set, true, refl, sym, ap, subst, ◌∙◌}
 use Rattle.fb_book.specs.Board.{TakesUnit}
 use Rattle.fb_book.specs.Books.{HandsOut, course_of}
 use Rattle.fb_book.proofs.Handing.{handed, of_same}
-use Rattle.fb_book.proofs.Keeping.{book_fusion, book_unit, node_of_job, pieces_wait, slot_of_job, some_inside, told_forest, told_fusion, told_unit}
+use Rattle.fb_book.proofs.Keeping.{book_fusion, book_unit, node_of_job, node_of_unit, pieces_wait, slot_of_job, some_inside, told_forest, told_fusion, told_unit}
 use Rattle.fb_book.proofs.book.Book.claim.Goals as goal
 
 pub new-requires-clause-slot : goal.new-requires-clause-slot
@@ -29,6 +29,13 @@ returns-in-Unit-clause-unit g c = λ permit e.
           (subst (λ s. TakesUnit (course_of g.N.Board.job c.self.inside.items.history) (course_of g.N.Board.job c.claim.new.self.history) c.args.worker s c.in-Unit.item.node) slot told)),
       ap (λ v. v.1) c.self.view_is,
     )
+
+pub returns-in-Unit-clause-units : goal.returns-in-Unit-clause-units
+returns-in-Unit-clause-units g c = λ permit e.
+    let same : c.new.result ≡ permit = cc in
+    let node = sym (ap (λ p. p.node) (sym same) ∙ c.new.ensures.node) in
+    subst (λ n. n < g.N.Board.job.plan.units) node
+    (node_of_unit c.self.invariant c.keeps.ensures _ _ _ _ (c.in-Unit.ensures.unit c.in-Unit.item refl))
 
 pub take_out-first-requires-clause-place : goal.take_out-first-requires-clause-place
 take_out-first-requires-clause-place g c =
@@ -95,10 +102,10 @@ returns-in-Fusion-clause-pieces g c = λ permit a b e.
     let second : c.take_out-second.result ≡ b = cc in
     let slot = sym (ap (λ p. p.slot) (sym same) ∙ c.new-in-Fusion.ensures.slot) in
     let node = sym (ap (λ p. p.node) (sym same) ∙ c.new-in-Fusion.ensures.node) in
-    let mine = handed _ _ _ g.N.Board.job c.self.invariant.kept (told_forest c.self.invariant c.keeps.ensures)
+    let mine = handed _ _ _ _ g.N.Board.job c.self.invariant.kept (told_forest c.self.invariant c.keeps.ensures)
     (told_fusion c.self.invariant c.keeps.ensures _ _ _ _ c.in-Fusion.left c.in-Fusion.right
     (c.in-Fusion.ensures.fusion c.in-Fusion.item c.in-Fusion.left c.in-Fusion.right refl)
     _ _ c.take_out-first.ensures.value
     (ap (λ xs. get_or xs c.in-Fusion.right None) (sym c.take_out-first.ensures.rest) ∙ c.take_out-second.ensures.value) _
     (c.take_out-second.ensures.rest ∙ ap (λ xs. set xs c.in-Fusion.right None) c.take_out-first.ensures.rest)) in
-    of_same g.P.Piece.job_of g.P.Piece.slot_of g.P.Piece.node_of g.N.Board.job slot node first second mine
+    of_same g.P.Piece.job_of g.P.Piece.slot_of g.P.Piece.node_of g.P.Piece.made_of g.N.Board.job slot node first second mine

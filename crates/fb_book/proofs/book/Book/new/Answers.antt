@@ -29,4 +29,4 @@ invariant_of-result g c =
     ∙ ap (λ x. replicate (length g.N.Board.job.shots * x) None) (c.nodes.ensures ∙ ap nodes_of items)) in
     let room : length g.N.Board.job.shots ≤ vec_capacity c.in_ok-roots.roots =
     subst (λ x. x ≤ vec_capacity c.in_ok-roots.roots) slots (search rules) in
-    book_at_first _ _ _ g.N.Board.job g.N.Board.workers _ _ _ _ items parked c.in_ok-roots.ensures.items room
+    book_at_first _ _ _ _ g.N.Board.job g.N.Board.workers _ _ _ _ items parked c.in_ok-roots.ensures.items room

@@ -3,7 +3,7 @@ use Rattle.std.proofs.lemmas.Option.{slice_get-get_or}
 use Rattle.fb_plan.specs.Plans.{node_count}
 use Rattle.fb_book.specs.Board.{is_finished, nodes_of}
 use Rattle.fb_book.specs.Books.{course_of}
-use Rattle.fb_book.proofs.Keeping.{root_waits, some_inside}
+use Rattle.fb_book.proofs.Keeping.{root_pieces, root_waits, some_inside}
 use Rattle.fb_book.proofs.book.Book.take_roots.Goals as goal
 
 pub roots_of-requires-clause-waits : goal.roots_of-requires-clause-waits
@@ -29,3 +29,8 @@ returns-clause-roots g c =
           (subst (λ n. s * n + (n - 1) < length c.self.inside.parked.items) (sym c.nodes-nodes.ensures) inside)
           ∙ ap Some each)),
     )
+
+pub returns-clause-pieces : goal.returns-clause-pieces
+returns-clause-pieces g c =
+    root_pieces c.self.invariant c.keeps.ensures _ _ _ c.slots-slots.ensures c.nodes-nodes.ensures
+    c.roots_of.ensures.count c.roots_of.ensures.each

@@ -15,7 +15,7 @@ pub unreachable-requires-in_default-root_of : goal.unreachable-requires-in_defau
 unreachable-requires-in_default-root_of g c =
     let may =
     may_absorb (g.S.Scope.problem c.args.self.now.scope) c.args.self.now.nodes c.args.edge c.step_over-step.result c.requires.below c.requires.tight c.requires.inner c.requires.outer c.requires.real c.step_over-step.ensures in
-    no_root _ _ _ c.self.invariant.0 c.args.edge c.step_over-step.result (rw (← c.self.view_is) at may) c.in-Some.mark
+    no_root _ _ _ c.self.invariant.0 c.args.edge c.step_over-step.result (rw (← c.self.view_is) at may) c.in-Some.mark.now
     (sym c.in-Some.ensures)
     (read_root c.self.inside.regions.items _ _ None c.deref-2.ensures.value c.in_default-root_of.ensures)
 
@@ -23,7 +23,7 @@ pub unreachable-requires-in_default-place_of : goal.unreachable-requires-in_defa
 unreachable-requires-in_default-place_of g c =
     let may =
     may_absorb (g.S.Scope.problem c.args.self.now.scope) c.args.self.now.nodes c.args.edge c.step_over-step.result c.requires.below c.requires.tight c.requires.inner c.requires.outer c.requires.real c.step_over-step.ensures in
-    no_region _ _ _ c.self.invariant.0 c.args.edge c.step_over-step.result (rw (← c.self.view_is) at may) c.in-Some.mark c.in-Some-root_of.node
+    no_region _ _ _ c.self.invariant.0 c.args.edge c.step_over-step.result (rw (← c.self.view_is) at may) c.in-Some.mark.now c.in-Some-root_of.node
     (sym c.in-Some.ensures)
     (read_root c.self.inside.regions.items _ _ _ c.deref-2.ensures.value c.in-Some-root_of.ensures)
     (read_place c.self.inside.regions.items _ _ _ None c.self.invariant.1 c.deref-3.ensures.value c.in_default-place_of.ensures)
@@ -33,7 +33,7 @@ overflow_add-taken g c =
     let may =
     may_absorb (g.S.Scope.problem c.args.self.now.scope) c.args.self.now.nodes c.args.edge c.step_over-step.result c.requires.below c.requires.tight c.requires.inner c.requires.outer c.requires.real c.step_over-step.ensures in
     let is =
-    absorption _ _ _ c.self.invariant.0 c.args.edge c.step_over-step.result (rw (← c.self.view_is) at may) c.limits.ensures c.in-Some.mark c.in-Some-root_of.node c.in-Some-place_of.place
+    absorption _ _ _ c.self.invariant.0 c.args.edge c.step_over-step.result (rw (← c.self.view_is) at may) c.limits.ensures c.in-Some.mark.now c.in-Some-root_of.node c.in-Some-place_of.place
     c.index_mut-region.result.now (sym c.in-Some.ensures)
     (read_root c.self.inside.regions.items _ _ _ c.deref-2.ensures.value c.in-Some-root_of.ensures)
     (read_place c.self.inside.regions.items _ _ _ _ c.self.invariant.1 c.deref-3.ensures.value c.in-Some-place_of.ensures) c.index_mut-region.ensures.value in
@@ -44,7 +44,7 @@ overflow_add-taken-2 g c =
     let may =
     may_absorb (g.S.Scope.problem c.args.self.now.scope) c.args.self.now.nodes c.args.edge c.step_over-step.result c.requires.below c.requires.tight c.requires.inner c.requires.outer c.requires.real c.step_over-step.ensures in
     let is =
-    absorption _ _ _ c.self.invariant.0 c.args.edge c.step_over-step.result (rw (← c.self.view_is) at may) c.limits.ensures c.in-Some.mark c.in-Some-root_of.node c.in-Some-place_of.place
+    absorption _ _ _ c.self.invariant.0 c.args.edge c.step_over-step.result (rw (← c.self.view_is) at may) c.limits.ensures c.in-Some.mark.now c.in-Some-root_of.node c.in-Some-place_of.place
     c.index_mut-region.result.now (sym c.in-Some.ensures)
     (read_root c.self.inside.regions.items _ _ _ c.deref-2.ensures.value c.in-Some-root_of.ensures)
     (read_place c.self.inside.regions.items _ _ _ _ c.self.invariant.1 c.deref-3.ensures.value c.in-Some-place_of.ensures) c.index_mut-region.ensures.value in
@@ -55,7 +55,7 @@ overflow_add-region g c =
     let may =
     may_absorb (g.S.Scope.problem c.args.self.now.scope) c.args.self.now.nodes c.args.edge c.step_over-step.result c.requires.below c.requires.tight c.requires.inner c.requires.outer c.requires.real c.step_over-step.ensures in
     let is =
-    absorption _ _ _ c.self.invariant.0 c.args.edge c.step_over-step.result (rw (← c.self.view_is) at may) c.limits.ensures c.in-Some.mark c.in-Some-root_of.node c.in-Some-place_of.place
+    absorption _ _ _ c.self.invariant.0 c.args.edge c.step_over-step.result (rw (← c.self.view_is) at may) c.limits.ensures c.in-Some.mark.now c.in-Some-root_of.node c.in-Some-place_of.place
     c.index_mut-region.result.now (sym c.in-Some.ensures)
     (read_root c.self.inside.regions.items _ _ _ c.deref-2.ensures.value c.in-Some-root_of.ensures)
     (read_place c.self.inside.regions.items _ _ _ _ c.self.invariant.1 c.deref-3.ensures.value c.in-Some-place_of.ensures) c.index_mut-region.ensures.value in
@@ -66,7 +66,7 @@ invariant_of-self g c =
     let may =
     may_absorb (g.S.Scope.problem c.args.self.now.scope) c.args.self.now.nodes c.args.edge c.step_over-step.result c.requires.below c.requires.tight c.requires.inner c.requires.outer c.requires.real c.step_over-step.ensures in
     let is =
-    absorption _ _ _ c.self.invariant.0 c.args.edge c.step_over-step.result (rw (← c.self.view_is) at may) c.limits.ensures c.in-Some.mark c.in-Some-root_of.node c.in-Some-place_of.place
+    absorption _ _ _ c.self.invariant.0 c.args.edge c.step_over-step.result (rw (← c.self.view_is) at may) c.limits.ensures c.in-Some.mark.now c.in-Some-root_of.node c.in-Some-place_of.place
     c.index_mut-region.result.now (sym c.in-Some.ensures)
     (read_root c.self.inside.regions.items _ _ _ c.deref-2.ensures.value c.in-Some-root_of.ensures)
     (read_place c.self.inside.regions.items _ _ _ _ c.self.invariant.1 c.deref-3.ensures.value c.in-Some-place_of.ensures) c.index_mut-region.ensures.value in (
@@ -80,7 +80,7 @@ returns g c =
     let may =
     may_absorb (g.S.Scope.problem c.args.self.now.scope) c.args.self.now.nodes c.args.edge c.step_over-step.result c.requires.below c.requires.tight c.requires.inner c.requires.outer c.requires.real c.step_over-step.ensures in
     let is =
-    absorption _ _ _ c.self.invariant.0 c.args.edge c.step_over-step.result (rw (← c.self.view_is) at may) c.limits.ensures c.in-Some.mark c.in-Some-root_of.node c.in-Some-place_of.place
+    absorption _ _ _ c.self.invariant.0 c.args.edge c.step_over-step.result (rw (← c.self.view_is) at may) c.limits.ensures c.in-Some.mark.now c.in-Some-root_of.node c.in-Some-place_of.place
     c.index_mut-region.result.now (sym c.in-Some.ensures)
     (read_root c.self.inside.regions.items _ _ _ c.deref-2.ensures.value c.in-Some-root_of.ensures)
     (read_place c.self.inside.regions.items _ _ _ _ c.self.invariant.1 c.deref-3.ensures.value c.in-Some-place_of.ensures) c.index_mut-region.ensures.value in

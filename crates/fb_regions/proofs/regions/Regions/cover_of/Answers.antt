@@ -12,8 +12,8 @@ pub returns : goal.returns
 returns g c =
     rw (← c.self.view_is)
     (c.root_of.ensures
-    ∙ (ap (λ l. root_from l c.in-Some.mark.leaf) c.deref-2.ensures.value
-    ∙ cover_some _ _ _ c.self.invariant.0 c.args.v c.in-Some.mark (sym c.in-Some.ensures)))
+    ∙ (ap (λ l. root_from l c.in-Some.mark.now.leaf) c.deref-2.ensures.value
+    ∙ cover_some _ _ _ c.self.invariant.0 c.args.v c.in-Some.mark.now (sym c.in-Some.ensures)))
 
 pub root_of-requires-clause-index : goal.root_of-requires-clause-index
 root_of-requires-clause-index g c = rw (c.deref.ensures.value, c.deref-2.ensures.value) c.self.invariant.1

@@ -36,7 +36,7 @@ pub invariant_of-self : goal.invariant_of-self
 invariant_of-self g c = (
   rw c.take.ensures (kept_lowered _ _ _ c.self.invariant.0 c.args.node c.in-Some.place c.index_mut-region.result.now
       (read_place c.self.inside.regions.items _ _ c.args.node (Some c.in-Some.place) c.self.invariant.1 c.deref.ensures.value c.in-Some.ensures) c.index_mut-region.ensures.value
-      (rw (← c.self.view_is) at c.requires) c.in-Some-at.mark
+      (rw (← c.self.view_is) at c.requires) c.in-Some-at.mark.now
       (sym c.in-Some-at.ensures)),
   index_changed _ _ _ c.args.node c.in-Some.place c.index_mut-region.result.now _ c.self.invariant.1 c.deref.ensures.value c.in-Some.ensures
       c.index_mut-region.ensures.value refl,
@@ -48,5 +48,5 @@ returns g c =
     (ap (λ ns. record { scope = c.self.inside.scope; nodes = ns })
     (lowered_nodes _ _ _ c.self.invariant.0 c.args.node c.in-Some.place c.index_mut-region.result.now
     (read_place c.self.inside.regions.items _ _ c.args.node (Some c.in-Some.place) c.self.invariant.1 c.deref.ensures.value c.in-Some.ensures) c.index_mut-region.ensures.value
-    (rw (← c.self.view_is) at c.requires) c.in-Some-at.mark
+    (rw (← c.self.view_is) at c.requires) c.in-Some-at.mark.now
     (sym c.in-Some-at.ensures)))

@@ -1,0 +1,235 @@
+-- How a check of rows ends.
+use Rattle.std.proofs.Common.{◌≡◌, ℕ, ◌==◌, ◌&&◌, inl, inr, Bool, true, false, if◌then◌else◌, ◌≢◌, List, [], length, Option, Some, None, IfSome, refl, sym, ap, subst, ◌∙◌, append-nil}
+use Rattle.std.proofs.KnownBytes.{Appends-nil, Appends-trans}
+use Rattle.fb_graph.specs.Limits.{DecodingGraph}
+use Rattle.fb_graph.specs.declared.parts.Row.{Row}
+use Rattle.fb_ports.specs.Causes.{Appends, AppendsFront}
+use Rattle.fb_ports.proofs.Onward.{front_first, front_second}
+use Rattle.fb_shots.specs.Shots.{at_end}
+use Rattle.fb_shots.specs.declared.answer.Format.{Format}
+use Rattle.fb_shots.specs.Streams.{Stream, fresh}
+use Rattle.fb_check.specs.CheckEndings.{ChecksFront, LinesEnd, WritesCheck}
+use Rattle.fb_check.specs.Checks.{bad_count, check_cause, check_front, check_head, check_last, verdict_lines}
+use Rattle.fb_check.specs.Ends.{IsReadToItsEnd}
+use Rattle.fb_check.specs.Judges.{EndsCheck, FirstOf, JudgesAll, JudgesFirst, JudgesInto}
+use Rattle.fb_inputs.specs.Judging.{FirstFrom, Gathers, GathersFrom, HasFirstShots, HasShots, IsOpened, Named, most_shots, shots_of}
+use Rattle.fb_words.specs.Words.{Checking}
+use Rattle.fb_check.specs.declared.checking.Judged.{Judged}
+use Rattle.fb_endings.specs.declared.ending.Cause.{Cause}
+use Rattle.fb_endings.specs.declared.ending.Cause.TheVariants.{Bad, Done, NoMemory}
+use Rattle.fb_inputs.specs.declared.taking.ShotsEnd.{ShotsEnd}
+use Rattle.fb_inputs.specs.declared.taking.ShotsEnd.TheVariants as end
+use Rattle.fb_inputs.proofs.Lists.{holds_more}
+use Rattle.fb_inputs.specs.Taking.{GivesShots}
+use Rattle.fb_inputs.proofs.Gathered.{first_of_none, gathers_opened, given_first, holds_opened}
+use Rattle.fb_check.proofs.Lines.{IsJudging}
+
+-- A stream has given so many shots, and those that have a row are judged.
+pub record IsChecking (g : DecodingGraph) (rows : List Row) (start now : Stream) (before after out new : Option (List ℕ)) (pending : List ℕ) (count bad : ℕ) : Type 0 where
+  pub shots : List (List ℕ)
+  pub gives : GivesShots start now before after shots
+  pub judging : IsJudging g rows out new pending shots bad
+  pub many : count ≡ length shots
+
+module _ (g : DecodingGraph) (rows : List Row) (start now : Stream) (before after out new : Option (List ℕ)) where
+  pub judged_first : (pending : List ℕ) (count bad : ℕ) → start ≡ fresh start.format start.graph most_shots
+      → IsChecking g rows start now before after out new pending count bad
+      → JudgesFirst (FirstFrom before start.format start.graph) g rows out new
+  judged_first pending count bad e checking = record {
+    shots = checking.shots;
+    input = given_first start now before after checking.shots e checking.gives;
+    verdicts = checking.judging.verdicts;
+    answers = checking.judging.answers;
+    written = (checking.judging.flushed, pending, sym checking.judging.text, checking.judging.appended);
+  }
+
+  pub judged_at_fault : (last : Option (List ℕ)) (pending : List ℕ) (shots : List (List ℕ)) (bad : ℕ)
+      → IfSome before (HasFirstShots start.format start.graph shots) → IsJudging g rows out new pending shots bad
+      → AppendsFront new last pending → JudgesFirst (FirstFrom before start.format start.graph) g rows out last
+  judged_at_fault last pending shots bad input judging front = record {
+    shots = shots;
+    input = input;
+    verdicts = judging.verdicts;
+    answers = judging.answers;
+    written = subst (AppendsFront out last) judging.text (front_second out new last judging.flushed pending judging.appended front);
+  }
+
+  pub judged_into : (Input : List (List ℕ) → Type 0) (pending : List ℕ) (j : Judged) (checking : IsChecking g rows start now before after out new pending j.shots j.bad)
+      → Input checking.shots → JudgesInto Input g rows out new pending j
+  judged_into Input pending j checking input = record {
+    shots = checking.shots;
+    input = input;
+    many = checking.many;
+    verdicts = checking.judging.verdicts;
+    answers = checking.judging.answers;
+    bad = checking.judging.counts;
+    flushed = checking.judging.flushed;
+    appended = checking.judging.appended;
+    text = checking.judging.text;
+  }
+
+module _ (Input : List (List ℕ) → Type 0) (g : DecodingGraph) (rows : List Row) (out mid new : Option (List ℕ)) (pending : List ℕ) (j : Judged) where
+  pub all_flushed : JudgesInto Input g rows out mid pending j → Appends mid new pending → JudgesAll Input g rows out new j
+  all_flushed into all = record {
+    shots = into.shots;
+    input = into.input;
+    many = into.many;
+    verdicts = into.verdicts;
+    answers = into.answers;
+    bad = into.bad;
+    written = subst (Appends out new) into.text (Appends-trans out mid new into.flushed pending into.appended all);
+  }
+
+  pub first_flushed : (First : List (List ℕ) → Type 0) → ((shots : List (List ℕ)) → Input shots → First shots)
+      → JudgesInto Input g rows out mid pending j → AppendsFront mid new pending → JudgesFirst First g rows out new
+  first_flushed First more into part = record {
+    shots = into.shots;
+    input = more into.shots into.input;
+    verdicts = into.verdicts;
+    answers = into.answers;
+    written = subst (AppendsFront out new) into.text (front_second out mid new into.flushed pending into.appended part);
+  }
+
+-- by another input
+pub all_more : (A B : List (List ℕ) → Type 0) (g : DecodingGraph) (rows : List Row) (old new : Option (List ℕ)) (j : Judged)
+    → ((shots : List (List ℕ)) → A shots → B shots) → JudgesAll A g rows old new j → JudgesAll B g rows old new j
+all_more A B g rows old new j more all = record {
+  shots = all.shots;
+  input = more all.shots all.input;
+  many = all.many;
+  verdicts = all.verdicts;
+  answers = all.answers;
+  bad = all.bad;
+  written = all.written;
+}
+
+pub first_more : (A B : List (List ℕ) → Type 0) (g : DecodingGraph) (rows : List Row) (old new : Option (List ℕ))
+    → ((shots : List (List ℕ)) → A shots → B shots) → JudgesFirst A g rows old new → JudgesFirst B g rows old new
+first_more A B g rows old new more first = record {
+  shots = first.shots;
+  input = more first.shots first.input;
+  verdicts = first.verdicts;
+  answers = first.answers;
+  written = first.written;
+}
+
+-- no shot was taken
+pub none_judged : (left : Option (List ℕ)) (format : Format) (g : DecodingGraph) (rows : List Row) (out : Option (List ℕ))
+    → JudgesFirst (FirstFrom left format g) g rows out out
+none_judged left format g rows out =
+    record { shots = []; input = first_of_none left format g; verdicts = []; answers = tt; written = ([], [], refl, Appends-nil out) }
+
+-- a check ends as one that was read to its end only if its shots were
+pub check_to_end : (ended : ShotsEnd) (lines shots bad : ℕ) (old new : Option (List ℕ)) (cause : Cause) → EndsCheck ended lines shots bad old new cause
+    → IsReadToItsEnd cause → ended ≡ end.End
+check_to_end end.End lines shots bad old new cause ends reads = refl
+check_to_end (end.Refused fault) lines shots bad old new cause (same, is) reads = absurd (subst IsReadToItsEnd is reads)
+check_to_end end.ReadFault lines shots bad old new cause (same, is) reads = absurd (subst IsReadToItsEnd is reads)
+
+-- the last line doesn't end a check for want of memory
+pub never_memory : (ended : ShotsEnd) (lines shots bad : ℕ) (old new : Option (List ℕ)) (cause : Cause) → EndsCheck ended lines shots bad old new cause
+    → cause ≢ NoMemory
+never_memory end.End lines shots bad old new cause (inl (whole, is)) e = by_both (bad == 0 && lines == shots) is
+  where
+    by_both : (good : Bool) → cause ≡ (if good then Done else Bad bad) → ⊥
+    by_both true is = cc
+    by_both false is = cc
+never_memory end.End lines shots bad old new cause (inr (part, is)) e = cc
+never_memory (end.Refused fault) lines shots bad old new cause (same, is) e = cc
+never_memory end.ReadFault lines shots bad old new cause (same, is) e = cc
+
+module _ (named : Named) (errand : Checking) (g : DecodingGraph) (rows : List Row) where
+  pub checks_head : (old new : Option (List ℕ)) → AppendsFront old new check_head → ChecksFront named errand g rows old new
+  checks_head old new front = record {
+    shots = [];
+    input = inl refl;
+    verdicts = [];
+    answers = tt;
+    written = inl (front_first old new check_head [] front);
+  }
+
+  -- want of memory after the head
+  pub checks_after_head : (old new : Option (List ℕ)) → Appends old new check_head → ChecksFront named errand g rows old new
+  checks_after_head old new all = checks_head old new (check_head, [], sym (append-nil check_head), all)
+
+  pub checks_first : (old mid new : Option (List ℕ)) → Appends old mid check_head
+      → JudgesFirst (FirstOf named errand.shots errand.format g) g rows mid new → ChecksFront named errand g rows old new
+  checks_first old mid new head first = record {
+    shots = first.shots;
+    input = first.input;
+    verdicts = first.verdicts;
+    answers = first.answers;
+    written = inl (front_second old mid new check_head (verdict_lines 0 first.verdicts) head first.written);
+  }
+
+  checks_by : (left old new : Option (List ℕ)) (lines shots bad : ℕ) (cause : Cause) → cause ≡ check_cause lines shots bad
+      → WritesCheck named errand g rows old new cause → LinesEnd named errand g rows left old new cause
+  checks_by left old new lines shots bad cause e wrote = by_both (bad == 0 && lines == shots) e
+    where
+      by_both : (good : Bool) → cause ≡ (if good then Done else Bad bad) → LinesEnd named errand g rows left old new cause
+      by_both true is = rw is (rw is at wrote)
+      by_both false is = rw is (rw is at wrote)
+
+  pub checks_on : (left old mid last new : Option (List ℕ)) (j : Judged) (lines : ℕ) (cause : Cause) → lines ≡ length rows → Appends old mid check_head
+      → JudgesAll (λ shots. Gathers named errand.shots errand.format g left shots j.end) g rows mid last j
+      → EndsCheck j.end lines j.shots j.bad last new cause → LinesEnd named errand g rows left old new cause
+  checks_on left old mid last new j lines cause many head all ends = go j.end all.input ends
+    where
+      front : Appends old last (check_front all.verdicts)
+      front = Appends-trans old mid last check_head (verdict_lines 0 all.verdicts) head all.written
+
+      same_line : check_last lines j.shots j.bad ≡ check_last (length rows) (length all.shots) (bad_count all.verdicts)
+      same_line = ap (λ (n : ℕ). check_last n j.shots j.bad) many ∙ ap (λ (n : ℕ). check_last (length rows) n j.bad) all.many
+          ∙ ap (λ (n : ℕ). check_last (length rows) (length all.shots) n) all.bad
+
+      same_cause : check_cause lines j.shots j.bad ≡ check_cause (length rows) (length all.shots) (bad_count all.verdicts)
+      same_cause = ap (λ (n : ℕ). check_cause n j.shots j.bad) many ∙ ap (λ (n : ℕ). check_cause (length rows) n j.bad) all.many
+          ∙ ap (λ (n : ℕ). check_cause (length rows) (length all.shots) n) all.bad
+
+      are_first : (text : List ℕ) → HasShots errand.format g all.shots at_end text → HasFirstShots errand.format g all.shots text
+      are_first text e = ([], ap (λ r. r.shots) e ∙ sym (append-nil all.shots))
+
+      go : (ended : ShotsEnd) → Gathers named errand.shots errand.format g left all.shots ended → EndsCheck ended lines j.shots j.bad last new cause
+          → LinesEnd named errand g rows left old new cause
+      go end.End held (inl (whole, is)) = checks_by left old new lines j.shots j.bad cause is (record {
+        shots = all.shots;
+        input = held;
+        verdicts = all.verdicts;
+        answers = all.answers;
+        written = Appends-trans old last new (check_front all.verdicts) _ front (subst (Appends last new) same_line whole);
+        ends = is ∙ same_cause;
+      })
+      go end.End held (inr (part, is)) = rw is (record {
+        shots = all.shots;
+        input = inr (holds_more named errand.shots _ _ are_first held);
+        verdicts = all.verdicts;
+        answers = all.answers;
+        written = inr (held, front_second old last new (check_front all.verdicts) _ front (subst (AppendsFront last new) same_line part));
+      })
+      go (end.Refused fault) held (same, is) = rw is (record {
+        shots = all.shots;
+        input = held.0;
+        place = held.1;
+        verdicts = all.verdicts;
+        answers = all.answers;
+        written = rw same front;
+      })
+      go end.ReadFault held (same, is) = rw is (inr (record {
+        shots = all.shots;
+        input = held;
+        verdicts = all.verdicts;
+        answers = all.answers;
+        written = rw same front;
+      }))
+
+-- what the file of a name gives, by what the opened file gives
+module _ (named : Named) (name : List ℕ) (left : Option (List ℕ)) (format : Format) (g : DecodingGraph) (rows : List Row) (old new : Option (List ℕ)) where
+  pub judged_opened : (later : Option (List ℕ)) (j : Judged) → IsOpened named name left
+      → JudgesAll (λ shots. GathersFrom left format g later shots j.end) g rows old new j
+      → JudgesAll (λ shots. Gathers named name format g later shots j.end) g rows old new j
+  judged_opened later j opened all = all_more (λ shots. GathersFrom left format g later shots j.end) (λ shots. Gathers named name format g later shots j.end) g rows
+      old new j (λ shots p. gathers_opened named name left format g later shots j.end opened p) all
+
+  pub first_opened : IsOpened named name left → JudgesFirst (FirstFrom left format g) g rows old new → JudgesFirst (FirstOf named name format g) g rows old new
+  first_opened opened first = first_more (FirstFrom left format g) (FirstOf named name format g) g rows old new
+      (λ shots p. inr (holds_opened named name left (HasFirstShots format g shots) opened p)) first

@@ -1,0 +1,64 @@
+-- The ends that the commands have in common: at a file, in the first text, and what an end says of the input.
+use Rattle.std.specs.Prelude.{ℕ, ◌≡◌, ◌⊎◌, List, [], ◌∷◌, ⊤}
+use Rattle.fb_ports.specs.Causes.{Appends, AppendsFront, Rose}
+use Rattle.fb_inputs.specs.Judging.{Asks, AsksFront, Holds, IsNoGraph, Named}
+use Rattle.fb_inputs.specs.Moments.{Moment}
+use Rattle.fb_endings.specs.declared.ending.Cause.{Cause}
+use Rattle.fb_endings.specs.declared.ending.Cause.TheVariants.{Done, Odd, Bad, Refused, ReadFault, WriteFault, NoMemory, Usage}
+use Rattle.fb_endings.specs.declared.ending.Refusal.{Refusal}
+use Rattle.fb_endings.specs.declared.ending.Refusal.TheVariants as refusal
+
+-- The run ended at the file of the name, by a reason to refuse its text, a fault, or for want of memory. No other name
+-- was asked for, and nothing was written.
+abbrev pub EndsAtFile : (Refusal → Type 0) → List ℕ → Moment → Moment → Cause → Type 0
+EndsAtFile IsReason name before after (Refused refusal) =
+    IsReason refusal × Asks before.asked after.asked (name ∷ []) × (after.faults ≡ before.faults)
+    × Appends before.written after.written []
+EndsAtFile IsReason name before after ReadFault =
+    Rose before.faults after.faults × Asks before.asked after.asked (name ∷ []) × Appends before.written after.written []
+EndsAtFile IsReason name before after NoMemory =
+    AsksFront before.asked after.asked (name ∷ []) × (after.faults ≡ before.faults)
+    × Appends before.written after.written []
+EndsAtFile IsReason name before after Done = ⊥
+EndsAtFile IsReason name before after Odd = ⊥
+EndsAtFile IsReason name before after (Bad count) = ⊥
+EndsAtFile IsReason name before after WriteFault = ⊥
+EndsAtFile IsReason name before after (Usage kind) = ⊥
+
+-- The run ended before it asked for a further name: a prefix of the text was written, and then a fault came, or memory
+-- was wanting.
+pub record EndsInText (text : List ℕ) (before after : Moment) (cause : Cause) : Type 0 where
+  pub asks : Asks before.asked after.asked []
+  pub unfailing : after.faults ≡ before.faults
+  pub written : AppendsFront before.written after.written text
+  pub ends : (cause ≡ WriteFault) ⊎ (cause ≡ NoMemory)
+
+-- the text of the file of the name is no graph, and the refusal is its fault
+abbrev pub IsGraphRefusal : Named → List ℕ → Refusal → Type 0
+IsGraphRefusal named name (refusal.Graph fault) = Holds named name (IsNoGraph fault)
+IsGraphRefusal named name (refusal.Plan fault) = ⊥
+IsGraphRefusal named name (refusal.Report fault) = ⊥
+IsGraphRefusal named name (refusal.Shot fault) = ⊥
+IsGraphRefusal named name (refusal.Sample fault) = ⊥
+
+-- the input was read to its end
+abbrev pub IsReadToItsEnd : Cause → Type 0
+IsReadToItsEnd Done = ⊤
+IsReadToItsEnd Odd = ⊤
+IsReadToItsEnd (Bad count) = ⊤
+IsReadToItsEnd (Refused r) = ⊥
+IsReadToItsEnd ReadFault = ⊥
+IsReadToItsEnd WriteFault = ⊥
+IsReadToItsEnd NoMemory = ⊥
+IsReadToItsEnd (Usage kind) = ⊥
+
+-- a run in which a fault of the files came ends so: by it, or by what came while the rows before it were written
+abbrev pub MayFollowReadFault : Cause → Type 0
+MayFollowReadFault ReadFault = ⊤
+MayFollowReadFault WriteFault = ⊤
+MayFollowReadFault NoMemory = ⊤
+MayFollowReadFault Done = ⊥
+MayFollowReadFault Odd = ⊥
+MayFollowReadFault (Bad count) = ⊥
+MayFollowReadFault (Refused r) = ⊥
+MayFollowReadFault (Usage kind) = ⊥

@@ -1,0 +1,174 @@
+//! The text of a check of a report.
+
+ghost use Rattle.std.specs.Prelude.{◌≡◌, [], ◌∷◌, codes, decimal, OnOk, OnErr};
+ghost use Rattle.fb_ports.specs.Causes.{Appends, AppendsFront, HasCause};
+ghost use Rattle.fb_report.specs.Texts.{line};
+ghost use Rattle.fb_check.specs.Checks.{check_head, check_last, is_bad, verdict_line, verdict_name, verdict_numbers};
+ghost use Rattle.fb_check.specs.Numbers.{numbers_in};
+
+use fb_ports::{Failed, Sink, put_all, put_parts};
+use fb_verify::Verdict;
+use itoa::Buffer;
+
+/// The numbers that a verdict tells.
+#[derive(Clone, Copy, Debug, PartialEq, Eq)]
+pub enum Numbers {
+    Nothing,
+    One(u64),
+    Two(u64, u128),
+}
+
+/// Puts the first line of a check, `check-report 1`.
+#[tactic(auto, unfolding(crate::specs::Checks::check_head))]
+pub fn put_check_head<S: Sink>(sink: &mut S) -> Result<(), Failed>
+    ensures all { OnOk result (Appends (S.taken sink.old) (S.taken sink.new) check_head) }
+    ensures front { OnErr result (AppendsFront (S.taken sink.old) (S.taken sink.new) check_head) }
+    ensures cause { HasCause (S.faults sink.old) (S.faults sink.new) result }
+{
+    put_all(sink, b"check-report 1\n")
+}
+
+/// Puts the line of a shot, `shot K good` or `shot K bad NAME VALUES`.
+#[tactic(auto, unfolding(crate::specs::Checks::verdict_line))]
+pub fn put_verdict<S: Sink>(sink: &mut S, shot: u32, verdict: Verdict) -> Result<(), Failed>
+    ensures all { OnOk result (Appends (S.taken sink.old) (S.taken sink.new) (verdict_line shot verdict)) }
+    ensures front { OnErr result (AppendsFront (S.taken sink.old) (S.taken sink.new) (verdict_line shot verdict)) }
+    ensures cause { HasCause (S.faults sink.old) (S.faults sink.new) result }
+{
+    match verdict_numbers(verdict) {
+        Numbers::Nothing => put_bare(sink, shot, verdict_name(verdict)),
+        Numbers::One(number) => put_number(sink, shot, verdict_name(verdict), number),
+        Numbers::Two(weight, sum) => put_sums(sink, shot, verdict_name(verdict), weight, sum),
+    }
+}
+
+/// Puts the line of a shot whose verdict tells no number.
+fn put_bare<S: Sink>(sink: &mut S, shot: u32, name: &str) -> Result<(), Failed>
+    ensures all { OnOk result (Appends (S.taken sink.old) (S.taken sink.new) (line (codes "shot") (decimal shot ∷ name.now ∷ []))) }
+    ensures front { OnErr result (AppendsFront (S.taken sink.old) (S.taken sink.new) (line (codes "shot") (decimal shot ∷ name.now ∷ []))) }
+    ensures cause { HasCause (S.faults sink.old) (S.faults sink.new) result }
+{
+    let mut buffer = Buffer::new();
+    let shot = buffer.format(shot).as_bytes();
+    put_parts(sink, &[b"shot ", shot, b" ", name.as_bytes(), b"\n"])
+}
+
+/// Puts the line of a shot whose verdict tells a number.
+fn put_number<S: Sink>(sink: &mut S, shot: u32, name: &str, number: u64) -> Result<(), Failed>
+    ensures all { OnOk result (Appends (S.taken sink.old) (S.taken sink.new)
+        (line (codes "shot") (decimal shot ∷ name.now ∷ decimal number ∷ []))) }
+    ensures front { OnErr result (AppendsFront (S.taken sink.old) (S.taken sink.new)
+        (line (codes "shot") (decimal shot ∷ name.now ∷ decimal number ∷ []))) }
+    ensures cause { HasCause (S.faults sink.old) (S.faults sink.new) result }
+{
+    let mut one = Buffer::new();
+    let mut two = Buffer::new();
+    let shot = one.format(shot).as_bytes();
+    let number = two.format(number).as_bytes();
+    put_parts(
+        sink,
+        &[b"shot ", shot, b" ", name.as_bytes(), b" ", number, b"\n"],
+    )
+}
+
+/// Puts the line of a shot whose verdict tells a weight and a sum.
+fn put_sums<S: Sink>(
+    sink: &mut S,
+    shot: u32,
+    name: &str,
+    weight: u64,
+    sum: u128,
+) -> Result<(), Failed>
+    ensures all { OnOk result (Appends (S.taken sink.old) (S.taken sink.new)
+        (line (codes "shot") (decimal shot ∷ name.now ∷ decimal weight ∷ decimal sum ∷ []))) }
+    ensures front { OnErr result (AppendsFront (S.taken sink.old) (S.taken sink.new)
+        (line (codes "shot") (decimal shot ∷ name.now ∷ decimal weight ∷ decimal sum ∷ []))) }
+    ensures cause { HasCause (S.faults sink.old) (S.faults sink.new) result }
+{
+    let mut one = Buffer::new();
+    let mut two = Buffer::new();
+    let mut three = Buffer::new();
+    let shot = one.format(shot).as_bytes();
+    let weight = two.format(weight).as_bytes();
+    let sum = three.format(sum).as_bytes();
+    put_parts(
+        sink,
+        &[
+            b"shot ",
+            shot,
+            b" ",
+            name.as_bytes(),
+            b" ",
+            weight,
+            b" ",
+            sum,
+            b"\n",
+        ],
+    )
+}
+
+/// Puts the last line of a check, `rows R shots N bad B`.
+#[tactic(auto, unfolding(crate::specs::Checks::check_last))]
+pub fn put_check_last<S: Sink>(sink: &mut S, rows: u64, shots: u64, bad: u64) -> Result<(), Failed>
+    ensures all { OnOk result (Appends (S.taken sink.old) (S.taken sink.new) (check_last rows shots bad)) }
+    ensures front { OnErr result (AppendsFront (S.taken sink.old) (S.taken sink.new) (check_last rows shots bad)) }
+    ensures cause { HasCause (S.faults sink.old) (S.faults sink.new) result }
+{
+    let mut one = Buffer::new();
+    let mut two = Buffer::new();
+    let mut three = Buffer::new();
+    let rows = one.format(rows).as_bytes();
+    let shots = two.format(shots).as_bytes();
+    let bad = three.format(bad).as_bytes();
+    put_parts(
+        sink,
+        &[b"rows ", rows, b" shots ", shots, b" bad ", bad, b"\n"],
+    )
+}
+
+pub fn is_bad(verdict: Verdict) -> bool
+    ensures { result ≡ is_bad verdict }
+{
+    !matches!(verdict, Verdict::Good)
+}
+
+/// What a verdict is called.
+fn verdict_name(verdict: Verdict) -> &'static str
+    ensures { result.now ≡ verdict_name verdict }
+{
+    match verdict {
+        Verdict::Good => "good",
+        Verdict::EdgeOutOfRange(_) => "bad EdgeOutOfRange",
+        Verdict::EdgesNotRising(_) => "bad EdgesNotRising",
+        Verdict::WrongParity(_) => "bad WrongParity",
+        Verdict::WeightNotSum(_, _) => "bad WeightNotSum",
+        Verdict::CutEmpty(_) => "bad CutEmpty",
+        Verdict::VertexOutOfRange(_) => "bad VertexOutOfRange",
+        Verdict::CutsNotRising(_) => "bad CutsNotRising",
+        Verdict::CutHoldsVirtual(_) => "bad CutHoldsVirtual",
+        Verdict::CutEven(_) => "bad CutEven",
+        Verdict::Overloaded(_) => "bad Overloaded",
+        Verdict::SumDiffers(_, _) => "bad SumDiffers",
+        Verdict::OddWrong(_) => "bad OddWrong",
+    }
+}
+
+fn verdict_numbers(verdict: Verdict) -> Numbers
+    ensures { numbers_in result ≡ verdict_numbers verdict }
+{
+    match verdict {
+        Verdict::Good => Numbers::Nothing,
+        Verdict::EdgeOutOfRange(e) => Numbers::One(u64::from(e)),
+        Verdict::EdgesNotRising(e) => Numbers::One(u64::from(e)),
+        Verdict::WrongParity(v) => Numbers::One(u64::from(v)),
+        Verdict::WeightNotSum(weight, sum) => Numbers::Two(weight, sum),
+        Verdict::CutEmpty(j) => Numbers::One(j),
+        Verdict::VertexOutOfRange(v) => Numbers::One(u64::from(v)),
+        Verdict::CutsNotRising(j) => Numbers::One(j),
+        Verdict::CutHoldsVirtual(v) => Numbers::One(u64::from(v)),
+        Verdict::CutEven(j) => Numbers::One(j),
+        Verdict::Overloaded(e) => Numbers::One(u64::from(e)),
+        Verdict::SumDiffers(weight, sum) => Numbers::Two(weight, sum),
+        Verdict::OddWrong(v) => Numbers::One(u64::from(v)),
+    }
+}

@@ -1,0 +1,358 @@
+//! The command `check`: judges the rows of a report.
+
+ghost use Rattle.std.specs.Prelude.{◌≡◌, ◌≢◌, ◌^◌, ◌<◌, ◌≤◌, [], ◌∷◌, length, All, IfOk, IfErr, OnErr, IsErrOf, Err, if◌then◌else◌};
+ghost use Rattle.fb_graph.specs.Limits.{IsShot};
+ghost use Rattle.fb_ports.specs.Causes.{HasRoom, IsEmptyIfTold, Rose};
+ghost use Rattle.fb_shots.specs.Steps.{IsReadOut};
+ghost use Rattle.fb_shots.specs.Streams.{fresh};
+ghost use Rattle.fb_verify.specs.Verdicts.{HasPositiveValues};
+ghost use Rattle.fb_check.specs.CheckEndings.{CheckEnds, ChecksOn, IsNoReport, IsReportText, ReportEnds};
+ghost use Rattle.fb_check.specs.Ends.{IsReadToItsEnd, MayFollowReadFault};
+ghost use Rattle.fb_check.specs.Judges.{EndsCheck, JudgesAll, JudgesFirst, JudgesInto, JudgesNext};
+ghost use Rattle.fb_inputs.specs.Judging.{Asks, AsksFront, FirstFrom, GathersFrom, Holds, IsReadOutIfNamed, most_shots};
+ghost use Rattle.fb_inputs.specs.Moments.{moment};
+ghost use Rattle.fb_check.specs.NoReports.{IfNoReport};
+ghost use Rattle.fb_words.specs.Seen.{seen_checking};
+
+use crate::check_text::{is_bad, put_check_head, put_check_last, put_verdict};
+use fb_endings::{Cause, Refusal};
+use fb_graph::{Graph, NoMemory, Row, Shot};
+use fb_inputs::{NoGraph, Outbox, RowsFault, ShotsEnd, read_graph_file, read_named};
+use fb_ports::{Files, ReadError, Sink};
+use fb_shots::{Format, ShotStream, Step};
+use fb_verify::{Judge, Report, ReportFault, read_report};
+use fb_words::Checking;
+use std::alloc::Global;
+
+/// The most bytes of a report's text.
+const MOST_REPORT_BYTES: usize = 1 << 30;
+
+/// Why there is no report.
+#[derive(Clone, Copy, Debug, PartialEq, Eq)]
+pub enum NoReport {
+    /// The text is no report. It is never the want of memory.
+    Refused(ReportFault),
+    ReadFault,
+    NoMemory,
+}
+
+/// How many shots were taken, how many rows are bad, and how the shots ended.
+#[derive(Clone, Copy, Debug, PartialEq, Eq)]
+pub struct Judged {
+    pub shots: u64,
+    pub bad: u64,
+    pub end: ShotsEnd,
+}
+
+/// The report of the file of a name.
+#[tactic(auto, using(crate::proofs::Reported::no_report))]
+fn read_report_file<F: Files>(alloc: Global, files: &mut F, name: &str) -> Result<Report, NoReport>
+    requires { HasRoom (F.asked files.old) 16 }
+    ensures asks { AsksFront (F.asked files.old) (F.asked files.new) (name.now ∷ []) }
+    ensures asked { result ≢ Err NoReport.NoMemory → Asks (F.asked files.old) (F.asked files.new) (name.now ∷ []) }
+    ensures names { F.named files.new ≡ F.named files.old }
+    ensures report { IfOk result (λ r. Holds (F.named files.old) name.now (IsReportText r)) }
+    ensures values { IfOk result (λ r. All HasPositiveValues r.rows) }
+    ensures count { IfOk result (λ r. length r.rows < 2 ^ 32) }
+    ensures refused { IfErr result (IfNoReport (λ fault. Holds (F.named files.old) name.now (IsNoReport fault))) }
+    ensures fault { IsErrOf result NoReport.ReadFault → Rose (F.faults files.old) (F.faults files.new) }
+    ensures later { F.faults files.old ≤ F.faults files.new }
+    ensures calm { result ≢ Err NoReport.ReadFault → F.faults files.new ≡ F.faults files.old }
+{
+    match read_named(alloc, files, name, MOST_REPORT_BYTES) {
+        Ok(text) => match read_report(alloc, &text) {
+            Ok(report) => Ok(report),
+            Err(ReportFault::NoMemory) => Err(NoReport::NoMemory),
+            Err(fault) => Err(NoReport::Refused(fault)),
+        },
+        Err(ReadError::TooLong) => Err(NoReport::Refused(ReportFault::TooLong)),
+        Err(ReadError::ReadFault) => Err(NoReport::ReadFault),
+        Err(ReadError::NoMemory) => Err(NoReport::NoMemory),
+    }
+}
+
+/// Checks the report that is named: the graph is read and judged, then the report; then the head is written, and the
+/// line of each row while its shot is taken.
+pub fn check<F: Files, O: Sink>(
+    alloc: Global,
+    errand: &Checking<'_>,
+    files: &mut F,
+    out: &mut O,
+) -> Cause
+    requires { IsEmptyIfTold (F.asked files.old) }
+    ensures ends { CheckEnds (seen_checking errand.now)
+        (moment (F.named files.old) (F.left files.old) (F.asked files.old) (F.faults files.old) (O.taken out.old))
+        (moment (F.named files.new) (F.left files.new) (F.asked files.new) (F.faults files.new) (O.taken out.new)) result }
+    ensures at_end { IsReadToItsEnd result → IsReadOutIfNamed (F.named files.old) (F.left files.new) }
+    ensures read_fault { result ≡ Cause.ReadFault → Rose (F.faults files.old) (F.faults files.new) }
+    ensures read_later { F.faults files.old ≤ F.faults files.new }
+    ensures read_risen { F.faults files.old < F.faults files.new → MayFollowReadFault result }
+    ensures write_fault { result ≡ Cause.WriteFault → Rose (O.faults out.old) (O.faults out.new) }
+    ensures write_later { O.faults out.old ≤ O.faults out.new }
+    ensures write_calm { result ≢ Cause.WriteFault → O.faults out.new ≡ O.faults out.old }
+{
+    match read_graph_file(alloc, files, errand.graph) {
+        Ok(graph) => check_report(alloc, errand, &graph, files, out),
+        Err(NoGraph::Refused(fault)) => Cause::Refused(Refusal::Graph(fault)),
+        Err(NoGraph::ReadFault) => Cause::ReadFault,
+        Err(NoGraph::NoMemory) => Cause::NoMemory,
+    }
+}
+
+/// Checks the report that is named, for a graph.
+#[tactic(auto, using(fb_inputs::proofs::Inputs::asking_on))]
+fn check_report<F: Files, O: Sink>(
+    alloc: Global,
+    errand: &Checking<'_>,
+    graph: &Graph,
+    files: &mut F,
+    out: &mut O,
+) -> Cause
+    requires { HasRoom (F.asked files.old) 15 }
+    ensures ends { ReportEnds (seen_checking errand.now) graph.now
+        (moment (F.named files.old) (F.left files.old) (F.asked files.old) (F.faults files.old) (O.taken out.old))
+        (moment (F.named files.new) (F.left files.new) (F.asked files.new) (F.faults files.new) (O.taken out.new)) result }
+    ensures at_end { IsReadToItsEnd result → IsReadOutIfNamed (F.named files.old) (F.left files.new) }
+    ensures read_fault { result ≡ Cause.ReadFault → Rose (F.faults files.old) (F.faults files.new) }
+    ensures read_later { F.faults files.old ≤ F.faults files.new }
+    ensures read_risen { F.faults files.old < F.faults files.new → MayFollowReadFault result }
+    ensures write_fault { result ≡ Cause.WriteFault → Rose (O.faults out.old) (O.faults out.new) }
+    ensures write_later { O.faults out.old ≤ O.faults out.new }
+    ensures write_calm { result ≢ Cause.WriteFault → O.faults out.new ≡ O.faults out.old }
+{
+    match read_report_file(alloc, files, errand.report) {
+        Ok(report) => check_rows(alloc, errand, graph, report.rows.as_slice(), files, out),
+        Err(NoReport::Refused(fault)) => Cause::Refused(Refusal::Report(fault)),
+        Err(NoReport::ReadFault) => Cause::ReadFault,
+        Err(NoReport::NoMemory) => Cause::NoMemory,
+    }
+}
+
+/// Checks rows by the shots of the file that is named, for a graph.
+fn check_rows<F: Files, O: Sink>(
+    alloc: Global,
+    errand: &Checking<'_>,
+    graph: &Graph,
+    rows: &[Row],
+    files: &mut F,
+    out: &mut O,
+) -> Cause
+    requires room { HasRoom (F.asked files.old) 16 }
+    requires values { All HasPositiveValues rows.now }
+    requires few { length rows.now < 2 ^ 32 }
+    ensures ends { ChecksOn (seen_checking errand.now) graph.now rows.now
+        (moment (F.named files.old) (F.left files.old) (F.asked files.old) (F.faults files.old) (O.taken out.old))
+        (moment (F.named files.new) (F.left files.new) (F.asked files.new) (F.faults files.new) (O.taken out.new)) result }
+    ensures at_end { IsReadToItsEnd result → IsReadOutIfNamed (F.named files.old) (F.left files.new) }
+    ensures read_fault { result ≡ Cause.ReadFault → Rose (F.faults files.old) (F.faults files.new) }
+    ensures read_later { F.faults files.old ≤ F.faults files.new }
+    ensures read_risen { F.faults files.old < F.faults files.new → MayFollowReadFault result }
+    ensures write_fault { result ≡ Cause.WriteFault → Rose (O.faults out.old) (O.faults out.new) }
+    ensures write_later { O.faults out.old ≤ O.faults out.new }
+    ensures write_calm { result ≢ Cause.WriteFault → O.faults out.new ≡ O.faults out.old }
+{
+    let Ok(()) = put_check_head(out) else {
+        return Cause::WriteFault;
+    };
+    let Ok(name) = String::from_str(alloc, errand.shots) else {
+        return Cause::NoMemory;
+    };
+    let Ok(()) = files.open_file(name) else {
+        return Cause::ReadFault;
+    };
+    match judge_file(alloc, errand.format, graph, rows, files, out) {
+        Ok(judged) => end_check(judged.end, rows.len() as u64, judged.shots, judged.bad, out),
+        Err(RowsFault::WriteFault) => Cause::WriteFault,
+        Err(RowsFault::NoMemory) => Cause::NoMemory,
+    }
+}
+
+/// Ends the text of a check: by its last line where the shots were read to their end.
+fn end_check<O: Sink>(end: ShotsEnd, rows: u64, shots: u64, bad: u64, out: &mut O) -> Cause
+    ensures end { EndsCheck end rows shots bad (O.taken out.old) (O.taken out.new) result }
+    ensures write_fault { result ≡ Cause.WriteFault → Rose (O.faults out.old) (O.faults out.new) }
+    ensures write_later { O.faults out.old ≤ O.faults out.new }
+    ensures write_calm { result ≢ Cause.WriteFault → O.faults out.new ≡ O.faults out.old }
+{
+    match end {
+        ShotsEnd::End => {
+            let Ok(()) = put_check_last(out, rows, shots, bad) else {
+                return Cause::WriteFault;
+            };
+            if bad == 0 && rows == shots {
+                Cause::Done
+            } else {
+                Cause::Bad(bad)
+            }
+        }
+        ShotsEnd::Refused(fault) => Cause::Refused(Refusal::Shot(fault)),
+        ShotsEnd::ReadFault => Cause::ReadFault,
+    }
+}
+
+/// Judges rows by the shots of the current file, of which nothing was read yet, and writes their lines.
+fn judge_file<F: Files, O: Sink>(
+    alloc: Global,
+    format: Format,
+    graph: &Graph,
+    rows: &[Row],
+    files: &mut F,
+    out: &mut O,
+) -> Result<Judged, RowsFault>
+    requires { All HasPositiveValues rows.now }
+    ensures all { IfOk result (λ j. JudgesAll (λ shots. GathersFrom (F.left files.old) format graph.now (F.left files.new) shots j.end)
+        graph.now rows.now (O.taken out.old) (O.taken out.new) j) }
+    ensures first { OnErr result (JudgesFirst (FirstFrom (F.left files.old) format graph.now)
+        graph.now rows.now (O.taken out.old) (O.taken out.new)) }
+    ensures at_end { IfOk result (λ j. j.end ≡ ShotsEnd.End → IsReadOut (F.left files.old) (F.left files.new)) }
+    ensures asks { F.asked files.new ≡ F.asked files.old }
+    ensures fault { IfOk result (λ j. j.end ≡ ShotsEnd.ReadFault → Rose (F.faults files.old) (F.faults files.new)) }
+    ensures later { F.faults files.old ≤ F.faults files.new }
+    ensures calm { IfOk result (λ j. j.end ≢ ShotsEnd.ReadFault → F.faults files.new ≡ F.faults files.old) }
+    ensures unread { result ≡ Err RowsFault.NoMemory → F.faults files.new ≡ F.faults files.old }
+    ensures write_fault { result ≡ Err RowsFault.WriteFault → Rose (O.faults out.old) (O.faults out.new) }
+    ensures write_later { O.faults out.old ≤ O.faults out.new }
+    ensures write_calm { result ≢ Err RowsFault.WriteFault → O.faults out.new ≡ O.faults out.old }
+{
+    let Ok(stream) = ShotStream::new(alloc, format, graph, u32::MAX) else {
+        return Err(RowsFault::NoMemory);
+    };
+    judge(alloc, graph, rows, files, stream, out)
+}
+
+/// Judges rows by the shots of a stream that has read nothing yet, and writes their lines.
+fn judge<F: Files, O: Sink>(
+    alloc: Global,
+    graph: &Graph,
+    rows: &[Row],
+    files: &mut F,
+    stream: ShotStream<'_>,
+    out: &mut O,
+) -> Result<Judged, RowsFault>
+    requires fresh { stream ≡ fresh stream.format stream.graph most_shots }
+    requires graph { stream.graph ≡ graph.now }
+    requires values { All HasPositiveValues rows.now }
+    ensures all { IfOk result (λ j. JudgesAll (λ shots. GathersFrom (F.left files.old) stream.entry.format stream.entry.graph (F.left files.new) shots j.end)
+        graph.now rows.now (O.taken out.old) (O.taken out.new) j) }
+    ensures first { OnErr result (JudgesFirst (FirstFrom (F.left files.old) stream.entry.format stream.entry.graph)
+        graph.now rows.now (O.taken out.old) (O.taken out.new)) }
+    ensures at_end { IfOk result (λ j. j.end ≡ ShotsEnd.End → IsReadOut (F.left files.old) (F.left files.new)) }
+    ensures asks { F.asked files.new ≡ F.asked files.old }
+    ensures fault { IfOk result (λ j. j.end ≡ ShotsEnd.ReadFault → Rose (F.faults files.old) (F.faults files.new)) }
+    ensures later { F.faults files.old ≤ F.faults files.new }
+    ensures calm { IfOk result (λ j. j.end ≢ ShotsEnd.ReadFault → F.faults files.new ≡ F.faults files.old) }
+    ensures unread { result ≡ Err RowsFault.NoMemory → F.faults files.new ≡ F.faults files.old }
+    ensures write_fault { result ≡ Err RowsFault.WriteFault → Rose (O.faults out.old) (O.faults out.new) }
+    ensures write_later { O.faults out.old ≤ O.faults out.new }
+    ensures write_calm { result ≢ Err RowsFault.WriteFault → O.faults out.new ≡ O.faults out.old }
+{
+    let mut outbox = Outbox::new(alloc);
+    let judged = judge_into(alloc, graph, rows, files, stream, &mut outbox, out)?;
+    let Ok(()) = outbox.flush(out) else {
+        return Err(RowsFault::WriteFault);
+    };
+    Ok(judged)
+}
+
+/// Judges rows by the shots of a stream that has read nothing yet. Lines wait in the outbox.
+fn judge_into<F: Files, O: Sink>(
+    alloc: Global,
+    graph: &Graph,
+    rows: &[Row],
+    files: &mut F,
+    mut stream: ShotStream<'_>,
+    outbox: &mut Outbox,
+    out: &mut O,
+) -> Result<Judged, RowsFault>
+    requires fresh { stream ≡ fresh stream.format stream.graph most_shots }
+    requires graph { stream.graph ≡ graph.now }
+    requires values { All HasPositiveValues rows.now }
+    requires empty { outbox.old.text ≡ [] }
+    ensures all { IfOk result (λ j. JudgesInto (λ shots. GathersFrom (F.left files.old) stream.entry.format stream.entry.graph (F.left files.new) shots j.end)
+        graph.now rows.now (O.taken out.old) (O.taken out.new) outbox.new.text j) }
+    ensures first { OnErr result (JudgesFirst (FirstFrom (F.left files.old) stream.entry.format stream.entry.graph)
+        graph.now rows.now (O.taken out.old) (O.taken out.new)) }
+    ensures at_end { IfOk result (λ j. j.end ≡ ShotsEnd.End → IsReadOut (F.left files.old) (F.left files.new)) }
+    ensures asks { F.asked files.new ≡ F.asked files.old }
+    ensures fault { IfOk result (λ j. j.end ≡ ShotsEnd.ReadFault → Rose (F.faults files.old) (F.faults files.new)) }
+    ensures later { F.faults files.old ≤ F.faults files.new }
+    ensures calm { IfOk result (λ j. j.end ≢ ShotsEnd.ReadFault → F.faults files.new ≡ F.faults files.old) }
+    ensures unread { OnErr result (F.faults files.new ≡ F.faults files.old) }
+    ensures write_fault { result ≡ Err RowsFault.WriteFault → Rose (O.faults out.old) (O.faults out.new) }
+    ensures write_later { O.faults out.old ≤ O.faults out.new }
+    ensures write_calm { result ≢ Err RowsFault.WriteFault → O.faults out.new ≡ O.faults out.old }
+{
+    let mut judge = Judge::new(graph);
+    let mut shots: u64 = 0;
+    let mut bad: u64 = 0;
+    loop {
+        let Ok(step) = stream.next_shot(files) else {
+            return Err(RowsFault::NoMemory);
+        };
+        match step {
+            Step::Shot(shot) => {
+                let Ok(is_bad) = judge_next(alloc, &mut judge, rows, shots, &shot, outbox) else {
+                    return Err(RowsFault::NoMemory);
+                };
+                bad += one_if(is_bad);
+                shots += 1;
+                let Ok(()) = outbox.flush_if_full(out) else {
+                    return Err(RowsFault::WriteFault);
+                };
+            }
+            Step::End => {
+                return Ok(Judged {
+                    shots,
+                    bad,
+                    end: ShotsEnd::End,
+                });
+            }
+            Step::Refused(fault) => {
+                return Ok(Judged {
+                    shots,
+                    bad,
+                    end: ShotsEnd::Refused(fault),
+                });
+            }
+            Step::ReadFault => {
+                return Ok(Judged {
+                    shots,
+                    bad,
+                    end: ShotsEnd::ReadFault,
+                });
+            }
+        }
+    }
+}
+
+fn one_if(counts: bool) -> u64
+    ensures { result ≡ (if counts then 1 else 0) }
+{
+    if counts { 1 } else { 0 }
+}
+
+/// Adds the line of shot `k` to the outbox, if it has a row. Whether the row is bad.
+fn judge_next(
+    alloc: Global,
+    judge: &mut Judge<'_>,
+    rows: &[Row],
+    k: u64,
+    shot: &Shot,
+    outbox: &mut Outbox,
+) -> Result<bool, NoMemory>
+    requires shot { IsShot judge.old shot.now }
+    requires values { All HasPositiveValues rows.now }
+    requires few { k < 2 ^ 32 }
+    ensures line { IfOk result (JudgesNext judge.old rows.now k shot.now outbox.old.text outbox.new.text) }
+    ensures same { judge.new ≡ judge.old }
+{
+    if k >= rows.len() as u64 {
+        return Ok(false);
+    }
+    let row = &rows[k as usize];
+    let verdict = judge.check_row(alloc, shot, row)?;
+    let Ok(()) = put_verdict(outbox, k as u32, verdict) else {
+        return Err(NoMemory);
+    };
+    Ok(is_bad(verdict))
+}

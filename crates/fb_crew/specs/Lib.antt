@@ -1,0 +1,4 @@
+pub mod Crews
+pub mod Windows
+pub mod InternalSolved
+pub mod InternalWindows

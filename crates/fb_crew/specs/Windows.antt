@@ -1,0 +1,42 @@
+-- The rows of a window's shots, and the history of how they were made.
+use Rattle.std.specs.Prelude.{ℕ, ◌≡◌, ◌+◌, ◌*◌, ◌≤◌, Bool, true, false, if◌then◌else◌, List, [], ◌∷◌, length}
+use Rattle.std.specs.List.{All, AllZip}
+use Rattle.fb_graph.specs.Answers.{IsRight}
+use Rattle.fb_graph.specs.Limits.{DecodingGraph, problem_of}
+use Rattle.fb_graph.specs.Parity.{is_in}
+use Rattle.fb_graph.specs.declared.parts.Row.{Row}
+use Rattle.fb_graph.specs.declared.parts.Row.TheVariants.{Best, Odd}
+use Rattle.fb_book.specs.declared.entries.Entry.{Entry}
+use Rattle.fb_book.specs.Board.{kids_in}
+use Rattle.fb_book.specs.Machine.{IsCompleteOn}
+use Rattle.fb_plan.specs.Plans.{PlanTree, node_count}
+
+-- the row of a shot, given by its defects
+abbrev pub IsShotRow : DecodingGraph → List ℕ → Row → Type 0
+IsShotRow g shot row = IsRight (problem_of g shot) row
+
+-- the rows of shots
+abbrev pub AreRows : DecodingGraph → List (List ℕ) → List Row → Type 0
+AreRows g shots rows = AllZip (IsShotRow g) shots rows
+
+abbrev pub is_best : Row → Bool
+is_best (Best edges weight cuts) = true
+is_best (Odd v) = false
+
+-- the places of the corrections among rows, of which the first has this place
+abbrev pub best_places : ℕ → List Row → List ℕ
+best_places k [] = []
+best_places k (r ∷ rs) = if is_best r then k ∷ best_places (k + 1) rs else best_places (k + 1) rs
+
+-- A history of how these rows were made by a plan: of each shot that has a correction each node of the plan was taken and
+-- then given, as the board's machine allows it; of other shots there is no entry. Slots are places among the rows.
+pub record IsHistoryOf (t : PlanTree) (workers : ℕ) (rows : List Row) (history : List Entry) : Type 0 where
+  pub complete : IsCompleteOn (best_places 0 rows) (kids_in t.units t.joins) (node_count t) (length rows * node_count t) history
+  pub within : All (λ e. is_in (best_places 0 rows) e.slot ≡ true) history
+  pub by : All (λ e. e.worker ≤ workers) history
+
+-- what a crew is for: the shots of this graph, by this plan, with at most so many workers
+pub record CrewValue : Type 0 where
+  pub graph : DecodingGraph
+  pub plan : PlanTree
+  pub workers : ℕ

@@ -1,0 +1,236 @@
+//! All items of a job by workers side by side.
+
+ghost use Rattle.std.specs.Prelude.{◌≡◌, ◌+◌, ◌^◌, ◌<◌, ◌≤◌, length, vec_capacity, All, IfOk, OnOk, []};
+ghost use Rattle.fb_book.specs.Books.{AreRootPieces};
+ghost use Rattle.fb_crew.specs.Crews.{IsCompleteOf};
+
+use crate::desk::Desk;
+use crate::hands::{Bench, Gate, Hands};
+use crate::here::{Finished, drain, finish, run_here};
+use crate::locked::Locked;
+use crate::seat::Seat;
+use fb_book::{Board, Book, Entry, Piece};
+use fb_graph::NoMemory;
+use fb_plan::Job;
+use std::alloc::Global;
+use std::marker::Brand;
+use std::sync::ledger::{Blank, Share};
+use std::sync::{Wait, ledger};
+use std::thread;
+use std::thread::Threads;
+
+/// A job that a crew has finished: the pieces of all slots' roots in the order of the slots, the history of the run, and
+/// the workers' tools in the order in which they were given.
+#[derive(Drop)]
+pub struct Worked<P: Piece, T: Drop> {
+    pub roots: Vec<P>,
+    pub history: Vec<Entry>,
+    pub tools: Vec<T>,
+}
+
+/// Takes the last tools out, and gives each a seat with a part of the ledger.
+fn take_seats<T: Drop, N: Board>(
+    alloc: Global,
+    tools: &mut Vec<T>,
+    all: &mut Share<N>,
+    count: u32,
+) -> Result<Vec<Seat<T, N>>, NoMemory>
+    requires tools { count ≤ length tools.old.items }
+    requires workers { count ≤ N.workers }
+    requires parts { count < all.old.parts }
+    requires none { all.old.amount ≡ 0 }
+    ensures count { IfOk result (λ seats. length seats.items ≡ count) }
+    ensures tools { OnOk result (length tools.new.items + count ≡ length tools.old.items) }
+    ensures room { vec_capacity tools.new ≡ vec_capacity tools.old }
+    ensures parts { OnOk result (all.new.parts + count ≡ all.old.parts) }
+    ensures none { all.new.amount ≡ 0 }
+{
+    let mut seats = Vec::with_capacity(alloc, count as usize)?;
+    for worker in 0..count {
+        let Some(tool) = tools.pop() else {
+            unreachable!()
+        };
+        seats.push_reserved(Seat::new(worker, tool, all.split_off(1, 0)));
+    }
+    Ok(seats)
+}
+
+/// Gives the tools of the seats back, and the number of events that their workers have made: as many as the ledger has.
+fn leave_seats<T: Drop, N: Board>(
+    mut seats: Vec<Seat<T, N>>,
+    tools: &mut Vec<T>,
+    events: &mut ledger::Book<N>,
+    all: &mut Share<N>,
+) -> u64
+    requires parts { all.old.parts + length seats.items ≡ N.parts }
+    requires none { all.old.amount ≡ 0 }
+    requires few { events.old.total < 2 ^ 63 }
+    requires room { length tools.old.items + length seats.items ≤ vec_capacity tools.old }
+    ensures events { result ≡ events.old.total }
+    ensures tools { length tools.new.items ≡ length tools.old.items + length seats.items }
+{
+    let mut made = 0;
+    while let Some(seat) = seats.pop() {
+        all.merge(seat.share);
+        events.audit(all);
+        made += seat.made;
+        tools.push_reserved(seat.tools);
+    }
+    events.audit(all);
+    made
+}
+
+/// What is left of a job once its workers have ended, done by the caller as one more worker. Where items still stay open,
+/// the caller does the whole job anew.
+fn complete<P: Piece, T, H: Hands<P, T>, G: Gate, N: Board>(
+    bench: &Bench<'_, H, G>,
+    job: &Job<'_>,
+    workers: u32,
+    mut book: Book<P, N>,
+    tools: &mut T,
+) -> Result<Finished<P>, NoMemory>
+    requires hands { H.job bench.now.hands.now ≡ N.job }
+    requires job { N.job ≡ job.now }
+    requires workers { N.workers ≡ workers }
+    ensures roots { IfOk result (λ w. AreRootPieces P.job_of P.slot_of P.node_of P.made_of N.job w.roots.items) }
+    ensures history { IfOk result (λ w. IsCompleteOf N.job w.history.items) }
+    ensures workers { IfOk result (λ w. All (λ e. e.worker ≤ N.workers) w.history.items) }
+{
+    if book.is_starved() {
+        return Err(NoMemory);
+    }
+    drain(bench, &mut book, workers, tools)?;
+    if book.is_done() {
+        return Ok(finish(book));
+    }
+    run_here::<P, T, H, G, N>(bench, job, workers, tools)
+}
+
+/// What a crew leaves once its workers have ended: the book, the workers' tools, and how many events they have made.
+#[derive(Drop)]
+struct Joined<P: Piece, T: Drop, N: Board> {
+    book: Book<P, N>,
+    tools: Vec<T>,
+    made: u64,
+    ghost counted: { length book.0 ≡ made },
+}
+
+/// Lets so many workers do the items of the book.
+fn join_workers<
+    P: Piece + Send,
+    T: Send + Drop,
+    H: Hands<P, T>,
+    G: Gate,
+    N: Board + Send + Sync,
+    R: Threads + Wait + Sync,
+>(
+    rt: &R,
+    bench: &Bench<'_, H, G>,
+    book: Book<P, N>,
+    blank: Blank,
+    mut tools: Vec<T>,
+) -> Result<Joined<P, T, N>, NoMemory>
+    requires hands { H.job bench.now.hands.now ≡ N.job }
+    requires new { book.0 ≡ [] }
+    requires name { blank.name ≡ N.name }
+    requires parts { blank.parts ≡ N.parts }
+    requires one_each { blank.parts ≡ N.workers + 1 }
+    requires tools { length tools.items ≡ N.workers }
+    requires some { (1 ≤ N.workers) × (N.workers ≤ 64) }
+    ensures { IfOk result (λ j. length j.tools.items ≡ N.workers) }
+{
+    let (events, mut all) = blank.open::<N>();
+    let count = book.item_count().clamp(1, tools.len());
+    let seats = take_seats(bench.alloc, &mut tools, &mut all, count as u32)?;
+    let desk = Desk::new(book, events);
+    let at = &desk;
+    let work = |seat: Seat<T, N>| -> Seat<T, N>
+        requires { H.job bench.now.hands.now ≡ N.job }
+    { at.work(rt, bench, seat) };
+    let seats = thread::map_vec(rt, seats, &work)?;
+    let Locked { book, mut events } = desk.into_locked();
+    book.keeps();
+    let made = leave_seats(seats, &mut tools, &mut events, &mut all);
+    Ok(Joined { book, tools, made })
+}
+
+/// Does all items by several workers, in a run that N names.
+fn run_all<
+    P: Piece + Send,
+    T: Send + Drop,
+    H: Hands<P, T>,
+    G: Gate,
+    N: Board + Send + Sync,
+    R: Threads + Wait + Sync,
+>(
+    rt: &R,
+    bench: &Bench<'_, H, G>,
+    job: &Job<'_>,
+    blank: Blank,
+    tools: Vec<T>,
+) -> Result<Worked<P, T>, NoMemory>
+    requires hands { H.job bench.now.hands.now ≡ N.job }
+    requires job { N.job ≡ job.now }
+    requires workers { N.workers ≡ length tools.items }
+    requires some { (1 ≤ N.workers) × (N.workers ≤ 64) }
+    requires name { blank.name ≡ N.name }
+    requires parts { blank.parts ≡ N.parts }
+    requires one_each { blank.parts ≡ N.workers + 1 }
+    ensures roots { IfOk result (λ w. AreRootPieces P.job_of P.slot_of P.node_of P.made_of N.job w.roots.items) }
+    ensures history { IfOk result (λ w. IsCompleteOf N.job w.history.items) }
+    ensures workers { IfOk result (λ w. All (λ e. e.worker ≤ N.workers) w.history.items) }
+    ensures tools { IfOk result (λ w. length w.tools.items ≡ N.workers) }
+{
+    let workers = tools.len() as u32;
+    let book: Book<P, N> = Book::new(bench.alloc, job, workers)?;
+    let Joined {
+        book,
+        mut tools,
+        ..
+    } = join_workers(rt, bench, book, blank, tools)?;
+    let Some(spare) = tools.last_mut() else {
+        unreachable!()
+    };
+    let Finished { roots, history } = complete(bench, job, workers, book, spare)?;
+    Ok(Worked {
+        roots,
+        history,
+        tools,
+    })
+}
+
+/// Does all items of the job by this number of workers, each on a thread of its own but one, which is on the calling
+/// thread. A job of fewer items has fewer workers, and a single worker takes no lock.
+pub fn work_all<P: Piece + Send, T: Send + Drop, H: Hands<P, T>, G: Gate, R: Threads + Wait + Sync>(
+    rt: &R,
+    alloc: Global,
+    job: &Job<'_>,
+    workers: u32,
+    hands: &H,
+    gate: &G,
+    mut tools: Vec<T>,
+) -> Result<Worked<P, T>, NoMemory>
+    requires hands { H.job hands.now ≡ job.now }
+    requires workers { (1 ≤ workers) × (workers ≤ 64) × (length tools.items ≡ workers) }
+    ensures roots { IfOk result (λ w. AreRootPieces P.job_of P.slot_of P.node_of P.made_of job.now w.roots.items) }
+    ensures history { IfOk result (λ w. IsCompleteOf job.now w.history.items) }
+    ensures workers { IfOk result (λ w. All (λ e. e.worker ≤ workers) w.history.items) }
+    ensures tools { IfOk result (λ w. length w.tools.items ≡ workers) }
+{
+    let bench = Bench { alloc, hands, gate };
+    if workers > 1 {
+        let blank = Blank::new(u64::from(workers) + 1);
+        return run_all::<P, T, H, G, Brand, R>(rt, &bench, job, blank, tools);
+    }
+    let Finished { roots, history } = run_here::<P, T, H, G, Brand>(
+        &bench,
+        job,
+        workers,
+        &mut tools[0],
+    )?;
+    Ok(Worked {
+        roots,
+        history,
+        tools,
+    })
+}

@@ -1,0 +1,142 @@
+//! All items of a job on the calling thread.
+
+ghost use Rattle.std.specs.Prelude.{◌≡◌, ◌+◌, ◌≤◌, true, length, All, IfOk, OnOk, Ok};
+ghost use Rattle.fb_book.specs.declared.entries.Kind.TheVariants.{Gave};
+ghost use Rattle.fb_book.specs.Board.{Lets, is_finished};
+ghost use Rattle.fb_book.specs.Books.{AreRootPieces, IsPieceAt, course_of, holds, place_of};
+ghost use Rattle.fb_crew.specs.Crews.{IsCompleteOf, IsQuiet};
+
+use crate::hands::{Bench, Gate, Hands, OpenGate};
+use fb_book::{Board, Book, Claim, Entry, Permit, Piece, complete_history};
+use fb_graph::NoMemory;
+use fb_plan::Job;
+use std::alloc::Global;
+use std::marker::Brand;
+
+/// A finished job: the pieces of all slots' roots in the order of the slots, and the history of the run.
+#[derive(Drop)]
+pub struct Finished<P: Piece> {
+    pub roots: Vec<P>,
+    pub history: Vec<Entry>,
+}
+
+/// Whether a turn did an item, or found none that can be taken.
+#[derive(Clone, Copy, Debug)]
+enum Turn {
+    Done,
+    NoItem,
+}
+
+/// Posts the piece of an item that the permit's worker holds.
+fn give<P: Piece, N: Board>(book: &mut Book<P, N>, permit: Permit<N>, piece: P)
+    requires piece { IsPieceAt P.job_of P.slot_of P.node_of P.made_of N.job
+        (place_of N.job permit.slot permit.node) piece }
+    requires held { holds N.job book.old.0 permit.worker permit.slot permit.node ≡ true }
+    ensures { Lets (course_of N.job book.old.0) (course_of N.job book.new.0) Gave permit.worker permit.slot permit.node }
+{
+    let Ok(()) = book.post(permit, piece) else {
+        unreachable!()
+    };
+}
+
+/// Does the next item that can be taken, if there is one.
+fn next_item<P: Piece, T, H: Hands<P, T>, G: Gate, N: Board>(
+    bench: &Bench<'_, H, G>,
+    book: &mut Book<P, N>,
+    worker: u32,
+    tools: &mut T,
+) -> Result<Turn, NoMemory>
+    requires job { H.job bench.now.hands.now ≡ N.job }
+    requires worker { worker ≤ N.workers }
+    ensures longer { result ≡ Ok Turn.Done → length book.new.0 ≡ length book.old.0 + 2 }
+    ensures quiet { result ≡ Ok Turn.Done → IsQuiet (course_of N.job book.old.0) → IsQuiet (course_of N.job book.new.0) }
+    ensures finished { result ≡ Ok Turn.NoItem → IsQuiet (course_of N.job book.old.0)
+        → is_finished (course_of N.job book.new.0) ≡ true }
+{
+    book.keeps();
+    match book.claim(worker) {
+        Claim::Unit(permit) => {
+            let piece = bench.unit(tools, &permit)?;
+            give(book, permit, piece);
+            Ok(Turn::Done)
+        }
+        Claim::Fusion(permit, left, right) => {
+            let piece = bench.fusion(tools, &permit, left, right)?;
+            give(book, permit, piece);
+            Ok(Turn::Done)
+        }
+        Claim::NotYet => Ok(Turn::NoItem),
+        Claim::Over => Ok(Turn::NoItem),
+    }
+}
+
+/// Does items as this worker until none can be taken.
+pub(crate) fn drain<P: Piece, T, H: Hands<P, T>, G: Gate, N: Board>(
+    bench: &Bench<'_, H, G>,
+    book: &mut Book<P, N>,
+    worker: u32,
+    tools: &mut T,
+) -> Result<(), NoMemory>
+    requires job { H.job bench.now.hands.now ≡ N.job }
+    requires worker { worker ≤ N.workers }
+    ensures { OnOk result (IsQuiet (course_of N.job book.old.0) → is_finished (course_of N.job book.new.0) ≡ true) }
+{
+    loop {
+        let Turn::Done = next_item(bench, book, worker, tools)? else {
+            return Ok(());
+        };
+        book.keeps();
+    }
+}
+
+/// The roots and the history of a book whose items are all given or used.
+pub(crate) fn finish<P: Piece, N: Board>(book: Book<P, N>) -> Finished<P>
+    requires { is_finished (course_of N.job book.0) ≡ true }
+    ensures roots { AreRootPieces P.job_of P.slot_of P.node_of P.made_of N.job result.roots.items }
+    ensures history { IsCompleteOf N.job result.history.items }
+    ensures workers { All (λ e. e.worker ≤ N.workers) result.history.items }
+{
+    book.keeps();
+    complete_history();
+    let (roots, history) = book.take_roots();
+    Finished { roots, history }
+}
+
+/// Does all items as worker 0, in a run of this number of workers.
+pub(crate) fn run_here<P: Piece, T, H: Hands<P, T>, G: Gate, N: Board>(
+    bench: &Bench<'_, H, G>,
+    job: &Job<'_>,
+    workers: u32,
+    tools: &mut T,
+) -> Result<Finished<P>, NoMemory>
+    requires hands { H.job bench.now.hands.now ≡ N.job }
+    requires job { N.job ≡ job.now }
+    requires workers { N.workers ≡ workers }
+    ensures roots { IfOk result (λ w. AreRootPieces P.job_of P.slot_of P.node_of P.made_of N.job w.roots.items) }
+    ensures history { IfOk result (λ w. IsCompleteOf N.job w.history.items) }
+    ensures workers { IfOk result (λ w. All (λ e. e.worker ≤ N.workers) w.history.items) }
+{
+    let mut book: Book<P, N> = Book::new(bench.alloc, job, workers)?;
+    drain(bench, &mut book, 0, tools)?;
+    Ok(finish(book))
+}
+
+/// Does all items of the job on the calling thread, as worker 0.
+pub fn work_here<P: Piece, T, H: Hands<P, T>>(
+    alloc: Global,
+    job: &Job<'_>,
+    hands: &H,
+    tools: &mut T,
+) -> Result<Finished<P>, NoMemory>
+    requires hands { H.job hands.now ≡ job.now }
+    ensures roots { IfOk result (λ w. AreRootPieces P.job_of P.slot_of P.node_of P.made_of job.now w.roots.items) }
+    ensures history { IfOk result (λ w. IsCompleteOf job.now w.history.items) }
+    ensures workers { IfOk result (λ w. All (λ e. e.worker ≡ 0) w.history.items) }
+{
+    let bench = Bench {
+        alloc,
+        hands,
+        gate: &OpenGate,
+    };
+    run_here::<P, T, H, OpenGate, Brand>(&bench, job, 0, tools)
+}

@@ -1,0 +1,166 @@
+//! The rows of some shots, made side by side.
+
+ghost use Rattle.std.specs.Prelude.{◌≡◌, ◌≤◌, length, get_or, slice_get, [], Some, ℕ, All, IfOk};
+ghost use Rattle.fb_graph.specs.Limits.{IsShot};
+ghost use Rattle.fb_plan.specs.Plans.{IsPlan, root_of};
+ghost use Rattle.fb_crew.specs.InternalWindows.{AreRowsOf};
+ghost use Rattle.fb_crew.specs.Windows.{AreRows, IsHistoryOf};
+
+use crate::crew::{Worked, work_all};
+use crate::hands::Gate;
+use crate::solver::{Solved, Solver, Tools};
+use crate::sorting::{Sorted, join_rows, renumber, sort_out};
+use fb_book::Entry;
+use fb_graph::{Components, Graph, NoMemory, Row, Shot, components};
+use fb_plan::{Job, Plan};
+use std::alloc::Global;
+use std::marker::Model;
+use std::sync::Wait;
+use std::thread::Threads;
+
+/// The rows of some shots, and which worker took and gave which part of them: an entry's slot is the place of its shot.
+#[derive(Drop)]
+pub struct Window {
+    pub rows: Vec<Row>,
+    pub history: Vec<Entry>,
+}
+
+/// What solves the shots of a graph by a plan, with so many workers. It is made once: the graph's components are found, and
+/// each worker's tools serve one window after another.
+#[derive(Drop)]
+pub struct Crew<'a> {
+    graph: &'a Graph,
+    plan: &'a Plan,
+    parts: Components<'a>,
+    workers: u32,
+    /// One for each worker. None where memory ran out while they were lent.
+    tools: Option<Vec<Tools>>,
+}
+
+impl<'a> Model for Crew<'a> {
+    ghost use Rattle.fb_crew.specs.Windows.{CrewValue};
+    ghost use Rattle.std.specs.Prelude.{length, option_map};
+    ghost use Rattle.fb_crew.specs.InternalWindows.{IsCrew};
+
+    ghost Value = { CrewValue };
+
+    ghost view = { λ c. record { graph = c.graph.now; plan = c.plan.now; workers = c.workers } };
+
+    ghost invariant = { λ c. IsCrew c.graph.now c.plan.now c.parts c.workers (option_map (λ ts. length ts.items) c.tools) };
+}
+
+impl<'a> Crew<'a> {
+    /// What solves the shots of the graph by the plan, with so many workers.
+    pub fn new(
+        alloc: Global,
+        graph: &'a Graph,
+        plan: &'a Plan,
+        workers: u32,
+    ) -> Result<Crew<'a>, NoMemory>
+        requires plan { IsPlan graph.now plan.now }
+        requires some { 1 ≤ workers }
+        requires few { workers ≤ 64 }
+        ensures { IfOk result (λ c. c ≡ record { graph = graph.now; plan = plan.now; workers = workers }) }
+    {
+        let parts = components(alloc, graph)?;
+        Ok(Crew {
+            graph,
+            plan,
+            parts,
+            workers,
+            tools: None,
+        })
+    }
+
+    /// The rows of shots, and how they were made. With one worker everything is done on the calling thread.
+    pub fn decode_window<G: Gate, R: Threads + Wait + Sync>(
+        &mut self,
+        rt: &R,
+        alloc: Global,
+        shots: &[Shot],
+        gate: &G,
+    ) -> Result<Window, NoMemory>
+        requires shots { All (IsShot self.old.graph) shots.now }
+        requires few { length shots.now ≤ 64 }
+        ensures rows { IfOk result (λ w. AreRows self.old.graph shots.now w.rows.items) }
+        ensures history { IfOk result (λ w. IsHistoryOf self.old.plan self.old.workers w.rows.items w.history.items) }
+        ensures same { self.new ≡ self.old }
+    {
+        let tools = match self.tools.take() {
+            Some(tools) => tools,
+            None => empty_tools(alloc, self.workers)?,
+        };
+        let (window, tools) = solve_window(
+            rt,
+            alloc,
+            self.graph,
+            self.plan,
+            &mut self.parts,
+            self.workers,
+            shots,
+            tools,
+            gate,
+        )?;
+        self.tools = Some(tools);
+        Ok(window)
+    }
+}
+
+/// The rows of shots and how they were made by so many workers, and the workers' tools.
+fn solve_window<G: Gate, R: Threads + Wait + Sync>(
+    rt: &R,
+    alloc: Global,
+    graph: &Graph,
+    plan: &Plan,
+    parts: &mut Components<'_>,
+    workers: u32,
+    shots: &[Shot],
+    tools: Vec<Tools>,
+    gate: &G,
+) -> Result<(Window, Vec<Tools>), NoMemory>
+    requires plan { IsPlan graph.now plan.now }
+    requires parts { parts.old ≡ graph.now }
+    requires workers { (1 ≤ workers) × (workers ≤ 64) × (length tools.items ≡ workers) }
+    requires shots { All (IsShot graph.now) shots.now }
+    requires few { length shots.now ≤ 64 }
+    ensures rows { IfOk result (λ r. AreRows graph.now shots.now r.0.rows.items) }
+    ensures history { IfOk result (λ r. IsHistoryOf plan.now workers r.0.rows.items r.0.history.items) }
+    ensures tools { IfOk result (λ r. length r.1.items ≡ workers) }
+    ensures same { parts.new ≡ parts.old }
+{
+    let Sorted { odd, even, places } = sort_out(alloc, parts, shots)?;
+    let job = Job::new(graph, plan, even);
+    let solver = Solver::new(&job);
+    let Worked {
+        roots,
+        mut history,
+        tools,
+    } = work_all(rt, alloc, &job, workers, &solver, gate, tools)?;
+    let solved = rows_of(alloc, roots)?;
+    let rows = join_rows(alloc, odd.as_slice(), solved)?;
+    renumber(&mut history, places.as_slice());
+    Ok((Window { rows, history }, tools))
+}
+
+/// Tools for each worker, with nothing in them.
+fn empty_tools(alloc: Global, workers: u32) -> Result<Vec<Tools>, NoMemory>
+    ensures { IfOk result (λ tools. length tools.items ≡ workers) }
+{
+    let mut tools = Vec::with_capacity(alloc, workers as usize)?;
+    for _ in 0..workers {
+        tools.push(Tools::new())?;
+    }
+    Ok(tools)
+}
+
+/// The rows of a job's shots, by the solved parts of the plan's root.
+fn rows_of(alloc: Global, roots: Vec<Solved<'_>>) -> Result<Vec<Row>, NoMemory>
+    requires { All (λ root. root.node ≡ root_of root.job.plan) roots.items }
+    ensures { IfOk result (λ rows. AreRowsOf roots.entry.items rows.items) }
+{
+    let mut rows = Vec::with_capacity(alloc, roots.len())?;
+    for root in roots {
+        rows.push(root.into_row())?;
+    }
+    Ok(rows)
+}

@@ -1,0 +1,4 @@
+pub mod Judging
+pub mod Moments
+pub mod Outboxes
+pub mod Taking

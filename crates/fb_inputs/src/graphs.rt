@@ -1,0 +1,77 @@
+//! The graph of a file.
+
+ghost use Rattle.std.specs.Prelude.{◌≡◌, ◌≢◌, ◌<◌, ◌≤◌, ◌^◌, [], ◌∷◌, length, IfOk, IfErr, IsErrOf, Err};
+ghost use Rattle.fb_ports.specs.Causes.{HasRoom, Rose};
+ghost use Rattle.fb_inputs.specs.Judging.{Asks, AsksFront, Holds, IfRefused, IsGraphText, IsNoGraph};
+
+use fb_graph::Graph;
+use fb_graph_in::{TextFault, read_graph};
+use fb_ports::{Files, ReadError, read_whole};
+use std::alloc::Global;
+
+/// The most bytes of a graph's text.
+const MOST_GRAPH_BYTES: usize = 1 << 28;
+
+/// Why there is no graph.
+#[derive(Clone, Copy, Debug, PartialEq, Eq)]
+pub enum NoGraph {
+    /// The text is no graph. It is never the want of memory.
+    Refused(TextFault),
+    ReadFault,
+    NoMemory,
+}
+
+/// The bytes of the file of a name, of which there are at most so many.
+#[tactic(auto, using(crate::proofs::Inputs::asking))]
+pub fn read_named<F: Files>(
+    alloc: Global,
+    files: &mut F,
+    name: &str,
+    limit: usize,
+) -> Result<Vec<u8>, ReadError>
+    requires few { limit < 2 ^ 32 }
+    requires room { HasRoom (F.asked files.old) 16 }
+    ensures asks { AsksFront (F.asked files.old) (F.asked files.new) (name.now ∷ []) }
+    ensures asked { result ≢ Err ReadError.NoMemory → Asks (F.asked files.old) (F.asked files.new) (name.now ∷ []) }
+    ensures names { F.named files.new ≡ F.named files.old }
+    ensures bytes { IfOk result (λ v. Holds (F.named files.old) name.now (λ text. text ≡ v.items)) }
+    ensures short { IfOk result (λ v. length v.items ≤ limit) }
+    ensures long { IsErrOf result ReadError.TooLong → Holds (F.named files.old) name.now (λ text. limit < length text) }
+    ensures fault { IsErrOf result ReadError.ReadFault → Rose (F.faults files.old) (F.faults files.new) }
+    ensures later { F.faults files.old ≤ F.faults files.new }
+    ensures seen { F.faults files.old < F.faults files.new → IsErrOf result ReadError.ReadFault }
+    ensures calm { result ≢ Err ReadError.ReadFault → F.faults files.new ≡ F.faults files.old }
+{
+    let Ok(name) = String::from_str(alloc, name) else {
+        return Err(ReadError::NoMemory);
+    };
+    if files.open_file(name).is_err() {
+        return Err(ReadError::ReadFault);
+    }
+    read_whole(alloc, files, limit)
+}
+
+/// The graph of the file of a name.
+pub fn read_graph_file<F: Files>(alloc: Global, files: &mut F, name: &str) -> Result<Graph, NoGraph>
+    requires { HasRoom (F.asked files.old) 16 }
+    ensures asks { AsksFront (F.asked files.old) (F.asked files.new) (name.now ∷ []) }
+    ensures asked { result ≢ Err NoGraph.NoMemory → Asks (F.asked files.old) (F.asked files.new) (name.now ∷ []) }
+    ensures names { F.named files.new ≡ F.named files.old }
+    ensures graph { IfOk result (λ g. Holds (F.named files.old) name.now (IsGraphText g)) }
+    ensures refused { IfErr result (IfRefused (λ fault. Holds (F.named files.old) name.now (IsNoGraph fault))) }
+    ensures fault { IsErrOf result NoGraph.ReadFault → Rose (F.faults files.old) (F.faults files.new) }
+    ensures later { F.faults files.old ≤ F.faults files.new }
+    ensures seen { F.faults files.old < F.faults files.new → IsErrOf result NoGraph.ReadFault }
+    ensures calm { result ≢ Err NoGraph.ReadFault → F.faults files.new ≡ F.faults files.old }
+{
+    match read_named(alloc, files, name, MOST_GRAPH_BYTES) {
+        Ok(text) => match read_graph(alloc, &text) {
+            Ok(graph) => Ok(graph),
+            Err(TextFault::NoMemory) => Err(NoGraph::NoMemory),
+            Err(fault) => Err(NoGraph::Refused(fault)),
+        },
+        Err(ReadError::TooLong) => Err(NoGraph::Refused(TextFault::TooLong)),
+        Err(ReadError::ReadFault) => Err(NoGraph::ReadFault),
+        Err(ReadError::NoMemory) => Err(NoGraph::NoMemory),
+    }
+}

@@ -1,0 +1,70 @@
+//! The shots of a file, some at a time.
+
+ghost use Rattle.std.specs.Prelude.{◌≡◌, ◌≢◌, ◌<◌, ◌≤◌, Some, IfOk, OnErr};
+ghost use Rattle.fb_ports.specs.Causes.{Rose};
+ghost use Rattle.fb_inputs.specs.Taking.{TakesWindow};
+
+use fb_graph::{NoMemory, Shot};
+use fb_ports::Files;
+use fb_shots::{ShotFault, ShotStream, Step};
+use std::alloc::Global;
+
+/// How the shots of a file end.
+#[derive(Clone, Copy, Debug, PartialEq, Eq)]
+pub enum ShotsEnd {
+    /// The file was read to its end.
+    End,
+    /// What stands in the place of the next shot is refused.
+    Refused(ShotFault),
+    /// A read of the file failed.
+    ReadFault,
+}
+
+/// Shots that were taken one after another, and how the shots of the file end, if they do after these.
+#[derive(Drop)]
+pub struct Taken {
+    pub shots: Vec<Shot>,
+    pub end: Option<ShotsEnd>,
+}
+
+/// Takes the next shots of a stream: so many, or fewer if they end before. Where reading fails, the shots are those that
+/// the bytes read until then settle.
+pub fn take_window<F: Files>(
+    alloc: Global,
+    files: &mut F,
+    stream: &mut ShotStream<'_>,
+    most: usize,
+) -> Result<Taken, NoMemory>
+    ensures takes { IfOk result (λ t. TakesWindow most stream.old stream.new (F.left files.old) (F.left files.new) t.shots.items t.end) }
+    ensures asks { F.asked files.new ≡ F.asked files.old }
+    ensures names { F.named files.new ≡ F.named files.old }
+    ensures fault { IfOk result (λ t. t.end ≡ Some ShotsEnd.ReadFault → Rose (F.faults files.old) (F.faults files.new)) }
+    ensures later { F.faults files.old ≤ F.faults files.new }
+    ensures calm { IfOk result (λ t. t.end ≢ Some ShotsEnd.ReadFault → F.faults files.new ≡ F.faults files.old) }
+    ensures unread { OnErr result (F.faults files.new ≡ F.faults files.old) }
+{
+    let mut shots = Vec::with_capacity(alloc, most)?;
+    while shots.len() < most {
+        let Ok(step) = stream.next_shot(files) else {
+            return Err(NoMemory);
+        };
+        match step {
+            Step::Shot(shot) => shots.push(shot)?,
+            Step::End => return Ok(ended(shots, ShotsEnd::End)),
+            Step::Refused(fault) => return Ok(ended(shots, ShotsEnd::Refused(fault))),
+            Step::ReadFault => return Ok(ended(shots, ShotsEnd::ReadFault)),
+        }
+    }
+    Ok(Taken { shots, end: None })
+}
+
+/// The last shots of a file.
+fn ended(shots: Vec<Shot>, end: ShotsEnd) -> Taken
+    ensures shots { result.shots.items ≡ shots.items }
+    ensures end { result.end ≡ Some end }
+{
+    Taken {
+        shots,
+        end: Some(end),
+    }
+}

@@ -1,0 +1,40 @@
+-- The rows of shots without defects.
+use Rattle.std.proofs.Common.{◌≡◌, ℕ, ◌<◌, ◌==◌, ◌&&◌, List, [], ◌∷◌, Bool, true, false, length, replicate, refl, sym, arith}
+use Rattle.std.specs.List.{list_all}
+use Rattle.std.proofs.lemmas.Bool.{eqb-true}
+use Rattle.std.proofs.lemmas.List.Elements.{All-nil}
+use Rattle.fb_crew.specs.Windows.{AreRows, IsShotRow}
+use Rattle.fb_graph.specs.Problem.{Problem}
+use Rattle.fb_graph.specs.Certificate.{IsBest, IsPrintedCut}
+use Rattle.fb_graph.specs.Limits.{DecodingGraph, problem_of}
+use Rattle.fb_graph.specs.declared.parts.Row.TheVariants.{Best}
+use Rattle.fb_graph.proofs.OddComponents.{best_has_no_odd}
+use Rattle.fb_graph.proofs.Sets.{rising-nil}
+
+empty_is_best : (p : Problem) → ((v : ℕ) → p.is_defect v ≡ false) → IsBest p [] 0 []
+empty_is_best p none = record {
+  edge_set = record { rising = rising-nil; within = All-nil (λ k. k < length p.edges) };
+  flips = λ v real. sym (none v);
+  weighs = refl;
+  printed = All-nil (IsPrintedCut p);
+  rising = tt;
+  fits = λ k d less. omega arith;
+  total = refl;
+}
+
+row_of_none : (g : DecodingGraph) (shot : List ℕ) → (length shot == 0) ≡ true → IsShotRow g shot (Best [] 0 [])
+row_of_none g [] e =
+    let best : IsBest (problem_of g []) [] 0 [] = empty_is_best (problem_of g []) (λ v. refl) in
+    (best_has_no_odd (problem_of g []) [] 0 [] best, best)
+row_of_none g (k ∷ ks) e = absurd (omega (arith, eqb-true (length (k ∷ ks)) 0 e))
+
+both : (a b : Bool) → (a && b) ≡ true → (a ≡ true) × (b ≡ true)
+both true b e = (refl, e)
+both false b e = absurd cc
+
+pub rows_of_none : (g : DecodingGraph) (shots : List (List ℕ)) → list_all (λ s. length s == 0) shots ≡ true
+    → AreRows g shots (replicate (length shots) (Best [] 0 []))
+rows_of_none g [] none = tt
+rows_of_none g (shot ∷ shots) none =
+    let parts = both (length shot == 0) (list_all (λ s. length s == 0) shots) none in
+    (row_of_none g shot parts.0, rows_of_none g shots parts.1)

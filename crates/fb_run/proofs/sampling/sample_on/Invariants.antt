@@ -1,0 +1,17 @@
+use Rattle.std.proofs.Common.{◌≡◌, ◌*◌, ◌-◌, ◌^◌, ◌≤◌, length}
+use Rattle.fb_gen.specs.Drawing.{state_after}
+use Rattle.fb_run.specs.Samples.{HaveSums}
+use Rattle.fb_run.proofs.sampling.sample_on.Given as goal
+
+abbrev pub invariant-loop-drawn : goal.invariant-loop-drawn
+invariant-loop-drawn g l = record {
+  sums : HaveSums l.graph l.errand.rate l.errand.start l.drawn l.sums.defects l.sums.weight;
+  state : l.draws ≡ state_after l.errand.start (l.drawn * length l.graph.edges);
+  crew : l.crew ≡ l.initial.crew;
+  drawn : l.drawn ≤ l.errand.shots;
+  defects : l.sums.defects ≤ 2 ^ 20 * l.drawn;
+  weight : l.sums.weight ≤ 2 ^ 64 * l.drawn;
+}
+
+abbrev pub decreases-loop-drawn : goal.decreases-loop-drawn
+decreases-loop-drawn g l = l.errand.shots - l.drawn

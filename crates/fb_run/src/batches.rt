@@ -1,0 +1,338 @@
+//! The shots of a file, decoded batch by batch.
+
+ghost use Rattle.std.specs.Prelude.{◌≡◌, ◌≢◌, ◌+◌, ◌++◌, ◌^◌, ◌<◌, ◌≤◌, ◌==◌, [], true, length, replicate, All, Some, IfOk, OnOk, OnErr, Err};
+ghost use Rattle.std.specs.List.{list_all};
+ghost use Rattle.fb_graph.specs.Limits.{IsShot};
+ghost use Rattle.fb_ports.specs.Causes.{Appends, AppendsFront, Rose};
+ghost use Rattle.fb_shots.specs.Steps.{IsReadOut};
+ghost use Rattle.fb_shots.specs.Streams.{fresh};
+ghost use Rattle.fb_inputs.specs.Judging.{FirstFrom, GathersFrom, most_shots};
+ghost use Rattle.fb_report.specs.Texts.{rows_text};
+ghost use Rattle.fb_crew.specs.Windows.{AreRows, IsHistoryOf};
+ghost use Rattle.fb_run.specs.Decoding.{batch_text, cause_of, events_text};
+ghost use Rattle.fb_run.specs.InternalBatches.{AddsCounts, TakesBatch, batch_in};
+ghost use Rattle.fb_run.specs.Writes.{WritesBatches, WritesFirstBatches, counted, counts_in};
+ghost use Rattle.fb_words.specs.Seen.{seen_decoding};
+
+use fb_crew::{Crew, Entry, Gate, Kind, Window};
+use fb_endings::Cause;
+use fb_graph::{CutList, Graph, NoMemory, NumberList, Row, Shot};
+use fb_inputs::{Outbox, RowsFault, ShotsEnd, take_window};
+use fb_ports::{Files, Sink};
+use fb_report::{write_row, write_trace};
+use fb_shots::ShotStream;
+use fb_words::Decoding;
+use std::alloc::Global;
+use std::sync::Wait;
+use std::thread::Threads;
+
+/// How many rows are corrections, and how many are odd.
+#[derive(Clone, Copy, Debug, PartialEq, Eq)]
+pub struct Tally {
+    pub best: u64,
+    pub odd: u64,
+}
+
+/// The rows of a file's shots by their number, and how the shots ended.
+#[derive(Clone, Copy, Debug, PartialEq, Eq)]
+pub struct Decoded {
+    pub tally: Tally,
+    pub end: ShotsEnd,
+}
+
+/// The rows of the next shots, and how the shots of the file end, if they do after these.
+#[derive(Drop)]
+struct NextBatch {
+    batch: Window,
+    end: Option<ShotsEnd>,
+}
+
+impl Tally {
+    /// How a decode of all shots ends.
+    pub fn cause(self) -> Cause
+        ensures { result ≡ cause_of (counts_in self) }
+    {
+        if self.odd > 0 {
+            Cause::Odd
+        } else {
+            Cause::Done
+        }
+    }
+
+    /// How many rows there are.
+    pub fn rows(self) -> u64
+        requires { self.best + self.odd < 2 ^ 32 }
+        ensures { result ≡ self.best + self.odd }
+    {
+        self.best + self.odd
+    }
+
+    /// The tally with one row more.
+    fn counted(self, row: &Row) -> Tally
+        requires best { self.best < 2 ^ 32 }
+        requires odd { self.odd < 2 ^ 32 }
+        ensures { result ≡ counted self row.now }
+    {
+        match row {
+            Row::Best { .. } => Tally {
+                best: self.best + 1,
+                ..self
+            },
+            Row::Odd(_) => Tally {
+                odd: self.odd + 1,
+                ..self
+            },
+        }
+    }
+}
+
+/// Decodes the shots of the current file, of which nothing was read yet, and writes their rows. At most the shots of one
+/// window are held at a time, and their rows are written before the next ones are taken.
+pub fn decode_file<F: Files, O: Sink, G: Gate, R: Threads + Wait + Sync>(
+    rt: &R,
+    alloc: Global,
+    errand: &Decoding<'_>,
+    graph: &Graph,
+    crew: Crew<'_>,
+    files: &mut F,
+    out: &mut O,
+    gate: &G,
+) -> Result<Decoded, RowsFault>
+    requires graph { crew.graph ≡ graph.now }
+    requires workers { crew.workers ≡ errand.now.workers }
+    requires some { 1 ≤ errand.now.window }
+    requires few { errand.now.window ≤ 64 }
+    ensures all { IfOk result (λ d. WritesBatches (λ shots. GathersFrom (F.left files.old) errand.now.format graph.now (F.left files.new) shots d.end)
+        (seen_decoding errand.now) graph.now crew.entry.plan (O.taken out.old) (O.taken out.new) d.tally) }
+    ensures first { OnErr result (WritesFirstBatches (FirstFrom (F.left files.old) errand.now.format graph.now)
+        (seen_decoding errand.now) graph.now crew.entry.plan (O.taken out.old) (O.taken out.new)) }
+    ensures few { IfOk result (λ d. d.tally.best + d.tally.odd < 2 ^ 32) }
+    ensures at_end { IfOk result (λ d. d.end ≡ ShotsEnd.End → IsReadOut (F.left files.old) (F.left files.new)) }
+    ensures asks { F.asked files.new ≡ F.asked files.old }
+    ensures fault { IfOk result (λ d. d.end ≡ ShotsEnd.ReadFault → Rose (F.faults files.old) (F.faults files.new)) }
+    ensures later { F.faults files.old ≤ F.faults files.new }
+    ensures calm { IfOk result (λ d. d.end ≢ ShotsEnd.ReadFault → F.faults files.new ≡ F.faults files.old) }
+    ensures write_fault { result ≡ Err RowsFault.WriteFault → Rose (O.faults out.old) (O.faults out.new) }
+    ensures write_later { O.faults out.old ≤ O.faults out.new }
+    ensures write_calm { result ≢ Err RowsFault.WriteFault → O.faults out.new ≡ O.faults out.old }
+{
+    let Ok(stream) = ShotStream::new(alloc, errand.format, graph, u32::MAX) else {
+        return Err(RowsFault::NoMemory);
+    };
+    let (mut crew, mut stream) = (crew, stream);
+    let mut outbox = Outbox::new(alloc);
+    decode_stream(
+        rt,
+        alloc,
+        errand,
+        &mut crew,
+        files,
+        &mut stream,
+        &mut outbox,
+        out,
+        gate,
+    )
+}
+
+/// Decodes the shots of a stream that has read nothing yet, by an outbox in which nothing waits.
+fn decode_stream<F: Files, O: Sink, G: Gate, R: Threads + Wait + Sync>(
+    rt: &R,
+    alloc: Global,
+    errand: &Decoding<'_>,
+    crew: &mut Crew<'_>,
+    files: &mut F,
+    stream: &mut ShotStream<'_>,
+    outbox: &mut Outbox,
+    out: &mut O,
+    gate: &G,
+) -> Result<Decoded, RowsFault>
+    requires fresh { stream.old ≡ fresh stream.old.format stream.old.graph most_shots }
+    requires graph { crew.old.graph ≡ stream.old.graph }
+    requires workers { crew.old.workers ≡ errand.now.workers }
+    requires some { 1 ≤ errand.now.window }
+    requires few { errand.now.window ≤ 64 }
+    requires empty { outbox.old.text ≡ [] }
+    ensures all { IfOk result (λ d. WritesBatches (λ shots. GathersFrom (F.left files.old) stream.old.format stream.old.graph (F.left files.new) shots d.end)
+        (seen_decoding errand.now) stream.old.graph crew.old.plan (O.taken out.old) (O.taken out.new) d.tally) }
+    ensures first { OnErr result (WritesFirstBatches (FirstFrom (F.left files.old) stream.old.format stream.old.graph)
+        (seen_decoding errand.now) stream.old.graph crew.old.plan (O.taken out.old) (O.taken out.new)) }
+    ensures few { IfOk result (λ d. d.tally.best + d.tally.odd < 2 ^ 32) }
+    ensures at_end { IfOk result (λ d. d.end ≡ ShotsEnd.End → IsReadOut (F.left files.old) (F.left files.new)) }
+    ensures asks { F.asked files.new ≡ F.asked files.old }
+    ensures fault { IfOk result (λ d. d.end ≡ ShotsEnd.ReadFault → Rose (F.faults files.old) (F.faults files.new)) }
+    ensures later { F.faults files.old ≤ F.faults files.new }
+    ensures calm { IfOk result (λ d. d.end ≢ ShotsEnd.ReadFault → F.faults files.new ≡ F.faults files.old) }
+    ensures write_fault { result ≡ Err RowsFault.WriteFault → Rose (O.faults out.old) (O.faults out.new) }
+    ensures write_later { O.faults out.old ≤ O.faults out.new }
+    ensures write_calm { result ≢ Err RowsFault.WriteFault → O.faults out.new ≡ O.faults out.old }
+{
+    let mut tally = Tally { best: 0, odd: 0 };
+    loop {
+        let Ok(next) = next_batch(rt, alloc, errand, crew, files, stream, gate) else {
+            return Err(RowsFault::NoMemory);
+        };
+        tally = write_batch(&next.batch, tally, errand.trace, outbox, out)?;
+        if let Some(end) = next.end {
+            return Ok(Decoded { tally, end });
+        }
+    }
+}
+
+/// Takes the next shots of a stream, and solves them.
+fn next_batch<F: Files, G: Gate, R: Threads + Wait + Sync>(
+    rt: &R,
+    alloc: Global,
+    errand: &Decoding<'_>,
+    crew: &mut Crew<'_>,
+    files: &mut F,
+    stream: &mut ShotStream<'_>,
+    gate: &G,
+) -> Result<NextBatch, NoMemory>
+    requires graph { crew.old.graph ≡ stream.old.graph }
+    requires workers { crew.old.workers ≡ errand.now.workers }
+    requires few { errand.now.window ≤ 64 }
+    ensures batch { IfOk result (λ n. TakesBatch (seen_decoding errand.now) crew.old.plan stream.old stream.new
+        (F.left files.old) (F.left files.new) (batch_in n.batch) n.end) }
+    ensures same { crew.new ≡ crew.old }
+    ensures asks { F.asked files.new ≡ F.asked files.old }
+    ensures fault { IfOk result (λ n. n.end ≡ Some ShotsEnd.ReadFault → Rose (F.faults files.old) (F.faults files.new)) }
+    ensures later { F.faults files.old ≤ F.faults files.new }
+    ensures calm { IfOk result (λ n. n.end ≢ Some ShotsEnd.ReadFault → F.faults files.new ≡ F.faults files.old) }
+{
+    let taken = take_window(alloc, files, stream, errand.window as usize)?;
+    let batch = solve_batch(rt, alloc, crew, errand.trace, taken.shots.as_slice(), gate)?;
+    Ok(NextBatch {
+        batch,
+        end: taken.end,
+    })
+}
+
+/// The rows of a batch of shots, and where the history is wanted, how they were made. Where it isn't, shots without a
+/// defect need no worker.
+fn solve_batch<G: Gate, R: Threads + Wait + Sync>(
+    rt: &R,
+    alloc: Global,
+    crew: &mut Crew<'_>,
+    trace: bool,
+    shots: &[Shot],
+    gate: &G,
+) -> Result<Window, NoMemory>
+    requires shots { All (IsShot crew.old.graph) shots.now }
+    requires few { length shots.now ≤ 64 }
+    ensures rows { IfOk result (λ w. AreRows crew.old.graph shots.now w.rows.items) }
+    ensures history { trace ≡ true → IfOk result (λ w. IsHistoryOf crew.old.plan crew.old.workers w.rows.items w.history.items) }
+    ensures same { crew.new ≡ crew.old }
+{
+    if !trace && are_empty(shots) {
+        return empty_rows(alloc, shots.len());
+    }
+    crew.decode_window(rt, alloc, shots, gate)
+}
+
+/// Whether none of the shots has a defect.
+fn are_empty(shots: &[Shot]) -> bool
+    ensures { result ≡ list_all (λ s. length s == 0) shots.now }
+{
+    shots.iter().all(|shot| shot.is_empty())
+}
+
+/// So many rows of shots without a defect.
+fn empty_rows(alloc: Global, count: usize) -> Result<Window, NoMemory>
+    ensures { IfOk result (λ w. w.rows.items ≡ replicate count (Row.Best [] 0 [])) }
+{
+    let mut rows = Vec::with_capacity(alloc, count)?;
+    for _ in 0..count {
+        rows.push(Row::Best {
+            edges: NumberList::from_vec(Vec::new(alloc)),
+            weight: 0,
+            cuts: CutList::from_vec(Vec::new(alloc)),
+        })?;
+    }
+    Ok(Window {
+        rows,
+        history: Vec::new(alloc),
+    })
+}
+
+/// Writes the rows of a batch, which come after those that are counted, and where they are wanted its events. The count
+/// with these rows.
+fn write_batch<O: Sink>(
+    batch: &Window,
+    tally: Tally,
+    trace: bool,
+    outbox: &mut Outbox,
+    out: &mut O,
+) -> Result<Tally, RowsFault>
+    requires few { tally.best + tally.odd + length batch.now.rows.items < 2 ^ 32 }
+    requires slots { trace ≡ true → All (λ e. e.slot < length batch.now.rows.items) batch.now.history.items }
+    requires empty { outbox.old.text ≡ [] }
+    ensures all { OnOk result (Appends (O.taken out.old) (O.taken out.new)
+        (batch_text trace (tally.best + tally.odd) (batch_in batch.now))) }
+    ensures prefix { OnErr result (AppendsFront (O.taken out.old) (O.taken out.new)
+        (batch_text trace (tally.best + tally.odd) (batch_in batch.now))) }
+    ensures counts { IfOk result (λ more. AddsCounts tally more batch.now.rows.items) }
+    ensures emptied { OnOk result (outbox.new.text ≡ []) }
+    ensures write_fault { result ≡ Err RowsFault.WriteFault → Rose (O.faults out.old) (O.faults out.new) }
+    ensures write_later { O.faults out.old ≤ O.faults out.new }
+    ensures write_calm { result ≢ Err RowsFault.WriteFault → O.faults out.new ≡ O.faults out.old }
+{
+    let Ok(more) = add_batch(outbox, tally, trace, batch) else {
+        return Err(RowsFault::NoMemory);
+    };
+    let Ok(()) = outbox.flush(out) else {
+        return Err(RowsFault::WriteFault);
+    };
+    Ok(more)
+}
+
+/// Adds the rows of a batch to the outbox, which come after those that are counted, and where they are wanted its events.
+/// The count with these rows.
+fn add_batch(
+    outbox: &mut Outbox,
+    tally: Tally,
+    trace: bool,
+    batch: &Window,
+) -> Result<Tally, NoMemory>
+    requires few { tally.best + tally.odd + length batch.now.rows.items < 2 ^ 32 }
+    requires slots { trace ≡ true → All (λ e. e.slot < length batch.now.rows.items) batch.now.history.items }
+    ensures text { IfOk result (λ more. outbox.new.text
+        ≡ outbox.old.text ++ batch_text trace (tally.best + tally.odd) (batch_in batch.now)) }
+    ensures counts { IfOk result (λ more. AddsCounts tally more batch.now.rows.items) }
+{
+    let first = tally.rows() as u32;
+    let tally = add_rows(outbox, tally, batch.rows.as_slice())?;
+    if trace {
+        add_events(outbox, first, batch.history.as_slice())?;
+    }
+    Ok(tally)
+}
+
+/// Adds rows to the outbox, which come after those that are counted. The count with these.
+fn add_rows(outbox: &mut Outbox, tally: Tally, rows: &[Row]) -> Result<Tally, NoMemory>
+    requires few { tally.best + tally.odd + length rows.now < 2 ^ 32 }
+    ensures text { IfOk result (λ more. outbox.new.text ≡ outbox.old.text ++ rows_text (tally.best + tally.odd) rows.now) }
+    ensures counts { IfOk result (λ more. AddsCounts tally more rows.now) }
+{
+    let mut tally = tally;
+    for row in rows {
+        let Ok(()) = write_row(outbox, tally.rows() as u32, row) else {
+            return Err(NoMemory);
+        };
+        tally = tally.counted(row);
+    }
+    Ok(tally)
+}
+
+/// Adds the events of a batch whose first shot has this number to the outbox.
+fn add_events(outbox: &mut Outbox, first: u32, history: &[Entry]) -> Result<(), NoMemory>
+    requires { All (λ e. first + e.slot < 2 ^ 32) history.now }
+    ensures { OnOk result (outbox.new.text ≡ outbox.old.text ++ events_text true first history.now) }
+{
+    for entry in history {
+        let gave = matches!(entry.kind, Kind::Gave);
+        let Ok(()) = write_trace(outbox, gave, entry.worker, first + entry.slot, entry.node) else {
+            return Err(NoMemory);
+        };
+    }
+    Ok(())
+}

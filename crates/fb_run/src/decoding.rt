@@ -1,0 +1,164 @@
+//! The command `decode`.
+
+ghost use Rattle.std.specs.Prelude.{◌≡◌, ◌≢◌, ◌+◌, ◌<◌, ◌≤◌, ◌^◌};
+ghost use Rattle.fb_plan.specs.Plans.{IsPlan};
+ghost use Rattle.fb_ports.specs.Causes.{HasRoom, IsEmptyIfTold, Rose};
+ghost use Rattle.fb_check.specs.Ends.{IsReadToItsEnd, MayFollowReadFault};
+ghost use Rattle.fb_inputs.specs.Judging.{IsReadOutIfNamed};
+ghost use Rattle.fb_inputs.specs.Moments.{moment};
+ghost use Rattle.fb_run.specs.Endings.{DecodeEnds, EndsByPlan, EndsOn};
+ghost use Rattle.fb_run.specs.Writes.{EndsReport, counts_in};
+ghost use Rattle.fb_words.specs.Ranges.{IsWithin, windows, workers};
+ghost use Rattle.fb_words.specs.Seen.{seen_decoding};
+
+use crate::batches::{Decoded, decode_file};
+use fb_crew::{Crew, Gate};
+use fb_endings::{Cause, Refusal};
+use fb_graph::Graph;
+use fb_inputs::{NoGraph, NoPlan, RowsFault, ShotsEnd, read_graph_file, read_plan_file};
+use fb_plan::Plan;
+use fb_ports::{Files, Sink};
+use fb_report::{write_done, write_head};
+use fb_words::Decoding;
+use std::alloc::Global;
+use std::sync::Wait;
+use std::thread::Threads;
+
+/// Decodes the shots of the files that are named: the graph is read and judged, and then the plan, if one is named; the
+/// head is written, the shots are read, and their rows are written.
+pub fn decode<F: Files, O: Sink, G: Gate, R: Threads + Wait + Sync>(
+    rt: &R,
+    alloc: Global,
+    errand: &Decoding<'_>,
+    files: &mut F,
+    out: &mut O,
+    gate: &G,
+) -> Cause
+    requires asked { IsEmptyIfTold (F.asked files.old) }
+    requires workers { IsWithin workers errand.now.workers }
+    requires window { IsWithin windows errand.now.window }
+    ensures ends { DecodeEnds (seen_decoding errand.now)
+        (moment (F.named files.old) (F.left files.old) (F.asked files.old) (F.faults files.old) (O.taken out.old))
+        (moment (F.named files.new) (F.left files.new) (F.asked files.new) (F.faults files.new) (O.taken out.new)) result }
+    ensures at_end { IsReadToItsEnd result → IsReadOutIfNamed (F.named files.old) (F.left files.new) }
+    ensures read_fault { result ≡ Cause.ReadFault → Rose (F.faults files.old) (F.faults files.new) }
+    ensures read_later { F.faults files.old ≤ F.faults files.new }
+    ensures read_risen { F.faults files.old < F.faults files.new → MayFollowReadFault result }
+    ensures write_fault { result ≡ Cause.WriteFault → Rose (O.faults out.old) (O.faults out.new) }
+    ensures write_later { O.faults out.old ≤ O.faults out.new }
+    ensures write_calm { result ≢ Cause.WriteFault → O.faults out.new ≡ O.faults out.old }
+{
+    match read_graph_file(alloc, files, errand.graph) {
+        Ok(graph) => decode_on(rt, alloc, errand, &graph, files, out, gate),
+        Err(NoGraph::Refused(fault)) => Cause::Refused(Refusal::Graph(fault)),
+        Err(NoGraph::ReadFault) => Cause::ReadFault,
+        Err(NoGraph::NoMemory) => Cause::NoMemory,
+    }
+}
+
+/// Decodes the shots of the file that is named, for a graph: by the plan of the file that is named, or by that of one unit.
+fn decode_on<F: Files, O: Sink, G: Gate, R: Threads + Wait + Sync>(
+    rt: &R,
+    alloc: Global,
+    errand: &Decoding<'_>,
+    graph: &Graph,
+    files: &mut F,
+    out: &mut O,
+    gate: &G,
+) -> Cause
+    requires room { HasRoom (F.asked files.old) 15 }
+    requires workers { IsWithin workers errand.now.workers }
+    requires window { IsWithin windows errand.now.window }
+    ensures ends { EndsByPlan (seen_decoding errand.now).plan (seen_decoding errand.now) graph.now
+        (moment (F.named files.old) (F.left files.old) (F.asked files.old) (F.faults files.old) (O.taken out.old))
+        (moment (F.named files.new) (F.left files.new) (F.asked files.new) (F.faults files.new) (O.taken out.new)) result }
+    ensures at_end { IsReadToItsEnd result → IsReadOutIfNamed (F.named files.old) (F.left files.new) }
+    ensures read_fault { result ≡ Cause.ReadFault → Rose (F.faults files.old) (F.faults files.new) }
+    ensures read_later { F.faults files.old ≤ F.faults files.new }
+    ensures read_risen { F.faults files.old < F.faults files.new → MayFollowReadFault result }
+    ensures write_fault { result ≡ Cause.WriteFault → Rose (O.faults out.old) (O.faults out.new) }
+    ensures write_later { O.faults out.old ≤ O.faults out.new }
+    ensures write_calm { result ≢ Cause.WriteFault → O.faults out.new ≡ O.faults out.old }
+{
+    let Some(name) = errand.plan else {
+        return match Plan::single(alloc, graph) {
+            Ok(plan) => decode_by(rt, alloc, errand, graph, &plan, files, out, gate),
+            Err(_) => Cause::NoMemory,
+        };
+    };
+    match read_plan_file(alloc, files, name, graph) {
+        Ok(plan) => decode_by(rt, alloc, errand, graph, &plan, files, out, gate),
+        Err(NoPlan::Refused(fault)) => Cause::Refused(Refusal::Plan(fault)),
+        Err(NoPlan::ReadFault) => Cause::ReadFault,
+        Err(NoPlan::NoMemory) => Cause::NoMemory,
+    }
+}
+
+/// Decodes the shots of the file that is named, for a graph and a plan of it: the head is written, the shots are read, and
+/// their rows are written.
+fn decode_by<F: Files, O: Sink, G: Gate, R: Threads + Wait + Sync>(
+    rt: &R,
+    alloc: Global,
+    errand: &Decoding<'_>,
+    graph: &Graph,
+    plan: &Plan,
+    files: &mut F,
+    out: &mut O,
+    gate: &G,
+) -> Cause
+    requires plan { IsPlan graph.now plan.now }
+    requires room { HasRoom (F.asked files.old) 16 }
+    requires workers { IsWithin workers errand.now.workers }
+    requires window { IsWithin windows errand.now.window }
+    ensures ends { EndsOn (seen_decoding errand.now) graph.now plan.now
+        (moment (F.named files.old) (F.left files.old) (F.asked files.old) (F.faults files.old) (O.taken out.old))
+        (moment (F.named files.new) (F.left files.new) (F.asked files.new) (F.faults files.new) (O.taken out.new)) result }
+    ensures at_end { IsReadToItsEnd result → IsReadOutIfNamed (F.named files.old) (F.left files.new) }
+    ensures read_fault { result ≡ Cause.ReadFault → Rose (F.faults files.old) (F.faults files.new) }
+    ensures read_later { F.faults files.old ≤ F.faults files.new }
+    ensures read_risen { F.faults files.old < F.faults files.new → MayFollowReadFault result }
+    ensures write_fault { result ≡ Cause.WriteFault → Rose (O.faults out.old) (O.faults out.new) }
+    ensures write_later { O.faults out.old ≤ O.faults out.new }
+    ensures write_calm { result ≢ Cause.WriteFault → O.faults out.new ≡ O.faults out.old }
+{
+    let Ok(crew) = Crew::new(alloc, graph, plan, errand.workers) else {
+        return Cause::NoMemory;
+    };
+    let Ok(()) = write_head(out) else {
+        return Cause::WriteFault;
+    };
+    let Ok(name) = String::from_str(alloc, errand.shots) else {
+        return Cause::NoMemory;
+    };
+    let Ok(()) = files.open_file(name) else {
+        return Cause::ReadFault;
+    };
+    match decode_file(rt, alloc, errand, graph, crew, files, out, gate) {
+        Ok(decoded) => end_report(plan, decoded, out),
+        Err(RowsFault::WriteFault) => Cause::WriteFault,
+        Err(RowsFault::NoMemory) => Cause::NoMemory,
+    }
+}
+
+/// Ends a report by the plan: by its last line where the shots were read to their end.
+fn end_report<O: Sink>(plan: &Plan, decoded: Decoded, out: &mut O) -> Cause
+    requires few { decoded.tally.best + decoded.tally.odd < 2 ^ 32 }
+    ensures end { EndsReport plan.now decoded.end (decoded.tally.best + decoded.tally.odd) (counts_in decoded.tally) (O.taken out.old) (O.taken out.new) result }
+    ensures write_fault { result ≡ Cause.WriteFault → Rose (O.faults out.old) (O.faults out.new) }
+    ensures write_later { O.faults out.old ≤ O.faults out.new }
+    ensures write_calm { result ≢ Cause.WriteFault → O.faults out.new ≡ O.faults out.old }
+{
+    let tally = decoded.tally;
+    match decoded.end {
+        ShotsEnd::End => {
+            let units = tally.best * u64::from(plan.units());
+            let fusions = tally.best * u64::from(plan.nodes() - plan.units());
+            let Ok(()) = write_done(out, tally.rows(), tally.odd, units, fusions) else {
+                return Cause::WriteFault;
+            };
+            tally.cause()
+        }
+        ShotsEnd::Refused(fault) => Cause::Refused(Refusal::Shot(fault)),
+        ShotsEnd::ReadFault => Cause::ReadFault,
+    }
+}

@@ -1,0 +1,174 @@
+//! The command `sample`.
+
+ghost use Rattle.std.specs.Prelude.{◌≡◌, ◌≢◌, ◌+◌, ◌*◌, ◌^◌, ◌<◌, ◌≤◌, length, All, IfOk, OnOk};
+ghost use Rattle.fb_gen.specs.Drawing.{state_after};
+ghost use Rattle.fb_graph.specs.Limits.{IsShot};
+ghost use Rattle.fb_plan.specs.Plans.{IsPlan};
+ghost use Rattle.fb_ports.specs.Causes.{Rose};
+ghost use Rattle.fb_run.specs.SampleEndings.{SampleEnds, cause_of_fault};
+ghost use Rattle.fb_run.specs.Samples.{HaveSums, defects_in, drawn_shots, weight_in, weights_in};
+ghost use Rattle.fb_words.specs.Seen.{seen_sampling};
+ghost use Rattle.fb_words.specs.Words.{IsSampleInRanges};
+
+use crate::sample_text::{Sums, write_sample};
+use fb_crew::{Crew, Gate};
+use fb_endings::{Cause, Refusal};
+use fb_gen::{Draws, GenFault, draw, lattice, time_plan};
+use fb_graph::{Graph, NoMemory, Row, Shot};
+use fb_inputs::RowsFault;
+use fb_plan::Plan;
+use fb_ports::Sink;
+use fb_words::Sampling;
+use std::alloc::Global;
+use std::sync::Wait;
+use std::thread::Threads;
+
+/// Draws shots on a lattice, decodes them by a plan by time, and writes how many defects they have and what their
+/// corrections weigh. Nothing is written before the last shot is decoded.
+pub fn sample<O: Sink, G: Gate, R: Threads + Wait + Sync>(
+    rt: &R,
+    alloc: Global,
+    errand: &Sampling,
+    out: &mut O,
+    gate: &G,
+) -> Cause
+    requires { IsSampleInRanges (seen_sampling errand.now) }
+    ensures ends { SampleEnds (seen_sampling errand.now) (O.taken out.old) (O.taken out.new) result }
+    ensures write_fault { result ≡ Cause.WriteFault → Rose (O.faults out.old) (O.faults out.new) }
+    ensures write_later { O.faults out.old ≤ O.faults out.new }
+    ensures write_calm { result ≢ Cause.WriteFault → O.faults out.new ≡ O.faults out.old }
+{
+    let graph = match lattice(alloc, errand.distance, errand.rounds) {
+        Ok(graph) => graph,
+        Err(fault) => return cause_of_fault(fault),
+    };
+    let plan = match time_plan(alloc, &graph, errand.distance, errand.rounds, errand.units) {
+        Ok(plan) => plan,
+        Err(fault) => return cause_of_fault(fault),
+    };
+    let Ok(sums) = sample_on(rt, alloc, errand, &graph, &plan, gate) else {
+        return Cause::NoMemory;
+    };
+    match write_sample(alloc, errand, &plan, sums, out) {
+        Ok(()) => Cause::Done,
+        Err(RowsFault::WriteFault) => Cause::WriteFault,
+        Err(RowsFault::NoMemory) => Cause::NoMemory,
+    }
+}
+
+/// How a sample ends whose lattice or plan can't be made.
+fn cause_of_fault(fault: GenFault) -> Cause
+    ensures { result ≡ cause_of_fault fault }
+{
+    match fault {
+        GenFault::LatticeTooLarge | GenFault::TooFewRounds => {
+            Cause::Refused(Refusal::Sample(fault))
+        }
+        GenFault::NoMemory => Cause::NoMemory,
+    }
+}
+
+/// Draws the shots on the graph and decodes them by the plan, a window at a time.
+fn sample_on<G: Gate, R: Threads + Wait + Sync>(
+    rt: &R,
+    alloc: Global,
+    errand: &Sampling,
+    graph: &Graph,
+    plan: &Plan,
+    gate: &G,
+) -> Result<Sums, NoMemory>
+    requires plan { IsPlan graph.now plan.now }
+    requires ranges { IsSampleInRanges (seen_sampling errand.now) }
+    ensures { IfOk result (λ sums. HaveSums graph.now errand.now.rate errand.now.start errand.now.shots sums.defects sums.weight) }
+{
+    let mut crew = Crew::new(alloc, graph, plan, errand.workers)?;
+    let mut draws = Draws::new(errand.start);
+    let mut sums = Sums {
+        defects: 0,
+        weight: 0,
+    };
+    let mut drawn = 0;
+    while drawn < errand.shots {
+        let count = errand.window.min(errand.shots - drawn);
+        let shots = draw_window(alloc, &mut draws, errand.rate, graph, count)?;
+        let window = crew.decode_window(rt, alloc, shots.as_slice(), gate)?;
+        sums = sums.with_window(shots.as_slice(), window.rows.as_slice());
+        drawn += count;
+    }
+    Ok(sums)
+}
+
+/// The next `count` shots that are drawn on a graph.
+fn draw_window(
+    alloc: Global,
+    draws: &mut Draws,
+    rate: u32,
+    graph: &Graph,
+    count: u32,
+) -> Result<Vec<Shot>, NoMemory>
+    ensures shots { IfOk result (λ shots. shots.items ≡ drawn_shots graph.now rate draws.old count) }
+    ensures each { IfOk result (λ shots. All (IsShot graph.now) shots.items) }
+    ensures many { IfOk result (λ shots. length shots.items ≡ count) }
+    ensures state { OnOk result (draws.new ≡ state_after draws.old (count * length graph.now.edges)) }
+{
+    let mut shots = Vec::with_capacity(alloc, count as usize)?;
+    for _ in 0..count {
+        shots.push(draw(alloc, draws, rate, graph)?)?;
+    }
+    Ok(shots)
+}
+
+impl Sums {
+    /// The sums with those of further shots and their rows.
+    fn with_window(self, shots: &[Shot], rows: &[Row]) -> Sums
+        requires shots { length shots.now ≤ 64 }
+        requires rows { length rows.now ≤ 64 }
+        requires defects { self.defects ≤ 2 ^ 60 }
+        requires weight { self.weight ≤ 2 ^ 100 }
+        ensures defects { result.defects ≡ self.defects + defects_in shots.now }
+        ensures weight { result.weight ≡ self.weight + weights_in rows.now }
+        ensures few_defects { result.defects ≤ self.defects + 2 ^ 20 * length shots.now }
+        ensures low_weight { result.weight ≤ self.weight + 2 ^ 64 * length rows.now }
+    {
+        Sums {
+            defects: self.defects + count_defects(shots),
+            weight: self.weight + add_weights(rows),
+        }
+    }
+}
+
+/// How many defects shots have.
+fn count_defects(shots: &[Shot]) -> u64
+    requires { length shots.now ≤ 64 }
+    ensures sum { result ≡ defects_in shots.now }
+    ensures limit { result ≤ 2 ^ 20 * length shots.now }
+{
+    let mut count = 0;
+    for shot in shots {
+        count += u64::from(shot.len());
+    }
+    count
+}
+
+/// What the corrections of rows weigh.
+fn add_weights(rows: &[Row]) -> u128
+    requires { length rows.now ≤ 64 }
+    ensures sum { result ≡ weights_in rows.now }
+    ensures limit { result ≤ 2 ^ 64 * length rows.now }
+{
+    let mut sum = 0;
+    for row in rows {
+        sum += u128::from(weight_of(row));
+    }
+    sum
+}
+
+/// What the correction of a row weighs.
+fn weight_of(row: &Row) -> u64
+    ensures { result ≡ weight_in row.now }
+{
+    match row {
+        Row::Best { weight, .. } => *weight,
+        Row::Odd(_) => 0,
+    }
+}

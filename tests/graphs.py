@@ -1,0 +1,100 @@
+"""Random graphs of many shapes, and shots on them.
+
+Rings in rings, stars, long lines, complete graphs, grids, parallel edges and edges of no weight or of the greatest.
+"""
+
+from collections import namedtuple
+
+MOST_WEIGHT = 2**30
+SCALES = [[0, 2], [2], [2, 4, 6], [0, 2, 4, 8, 20], [0, MOST_WEIGHT - 2, MOST_WEIGHT], [10, 12, 14, 1000]]
+
+Graph = namedtuple("Graph", "vertices edges virtuals")
+
+
+# Graphs.
+
+
+def tiny_graph(draw):
+    vertices = draw.randint(2, 9)
+    virtuals = draw.sample(range(vertices), draw.choice([0, 0, 1, 1, 2]))
+    weights = draw.choice(SCALES)
+    edges = []
+    for _ in range(draw.randint(vertices, 14)):
+        u, v = draw.choice(edges)[:2] if edges and draw.random() < 0.1 else draw.sample(range(vertices), 2)
+        edges.append((u, v, draw.choice(weights)))
+    return Graph(vertices, edges, virtuals)
+
+
+def random_graph(draw):
+    """Up to 300 vertices, most of them in one component."""
+    vertices = draw.choice([20, 60, 150, 300])
+    weights = draw.choice(SCALES)
+    near = draw.choice([2, 5, vertices])
+    edges = [(draw.randrange(max(0, v - near), v), v, draw.choice(weights)) for v in range(1, vertices)]
+    for _ in range(draw.choice([0, vertices // 4, vertices, 2 * vertices])):
+        u, v = draw.sample(range(vertices), 2)
+        edges.append((u, v, draw.choice(weights)))
+    return Graph(vertices, edges, draw.sample(range(vertices), draw.choice([0, 1, 2, vertices // 10])))
+
+
+def ring(draw, names, weights):
+    return [(names[i - 1], names[i], draw.choice(weights)) for i in range(len(names))]
+
+
+def rings_in_rings(draw):
+    """A ring of an odd number of rings of odd numbers of rings of vertices, with a tail to the boundary."""
+    weights = draw.choice([[2], [2, 4], [0, 2]])
+    edges, groups, vertices = [], [], 0
+    for _ in range(draw.choice([3, 5])):
+        rings = []
+        for _ in range(draw.choice([3, 5])):
+            size = draw.choice([1, 3, 3, 5])
+            names = list(range(vertices, vertices + size))
+            edges += ring(draw, names, weights) if size > 1 else []
+            rings.append(names)
+            vertices += size
+        firsts = [names[0] for names in rings]
+        edges += ring(draw, firsts, [weight + 4 for weight in weights])
+        groups.append([name for names in rings for name in names])
+    edges += ring(draw, [draw.choice(names) for names in groups], [weight + 10 for weight in weights])
+    edges.append((draw.randrange(vertices), vertices, draw.choice([2, 30, 200])))
+    return Graph(vertices + 1, edges, [vertices])
+
+
+def star(draw):
+    leaves = draw.choice([3, 10, 40])
+    weights = draw.choice(SCALES)
+    edges = [(0, leaf, draw.choice(weights)) for leaf in range(1, leaves + 1)]
+    return Graph(leaves + 1, edges, draw.choice([[], [1], [0], [1, 2]]))
+
+
+def long_line(draw):
+    vertices = draw.choice([40, 300])
+    weights = draw.choice(SCALES)
+    edges = [(v, v + 1, draw.choice(weights)) for v in range(vertices - 1)]
+    return Graph(vertices, edges, draw.choice([[], [0], [0, vertices - 1]]))
+
+
+def complete_graph(draw):
+    vertices = draw.choice([7, 20, 60])
+    weights = draw.choice(SCALES)
+    edges = [(u, v, draw.choice(weights)) for v in range(vertices) for u in range(v)]
+    return Graph(vertices, edges, draw.choice([[], [0]]))
+
+
+def grid(draw):
+    side = draw.choice([4, 9, 15])
+    weights = draw.choice(SCALES)
+    edges = [(v, v + 1, draw.choice(weights)) for v in range(side * side) if (v + 1) % side]
+    edges += [(v, v + side, draw.choice(weights)) for v in range(side * (side - 1))]
+    edges = [edge for edge in edges for _ in range(draw.choice([1, 1, 1, 2]))]
+    return Graph(side * side, edges, draw.choice([[], [row * side for row in range(side)]]))
+
+
+SHAPES = [rings_in_rings, star, long_line, complete_graph, grid]
+
+
+def random_shot(draw, graph, most):
+    real = [v for v in range(graph.vertices) if v not in graph.virtuals]
+    count = draw.choice([1, 2, 3, 4, 6, 8, 12, most, len(real)])
+    return sorted(draw.sample(real, min(count, most, len(real))))

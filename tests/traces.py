@@ -1,0 +1,79 @@
+"""Replays the events that a report tells by a small model of the board, and judges the order in which parts were taken.
+
+Nothing here is shared with the program. A part is a node of the plan for one shot. It is idle, held by a worker, given, or
+used by the fusion above it. A fusion may be taken once both its children are given. Whoever takes a part takes a fusion if
+there is one that may be taken, else a unit, and of those the first by shot and then by node.
+"""
+
+IDLE, GIVEN, USED = "idle", "given", "used"
+
+
+def events_of(text, shots, window):
+    """The events after the rows of each window, and what is wrong with where they stand."""
+    found, complaints = {}, []
+    last = -1
+    for number, line in enumerate(text.decode().splitlines(), 1):
+        word, *rest = line.split(" ")
+        if word == "shot":
+            last = int(rest[0])
+        if word not in ("took", "gave"):
+            continue
+        if (last + 1) % window != 0 and last + 1 != shots:
+            complaints.append(f"line {number}: an event within a window")
+        found.setdefault(last // window, []).append((word, *map(int, rest)))
+    return found, complaints
+
+
+def trace_complaints(plan, workers, window, best, shots, text):
+    """What is wrong with the events of a report of so many shots, of which those in `best` have a correction."""
+    events, complaints = events_of(text, shots, window)
+    for place in range((shots + window - 1) // window):
+        numbers = [k for k in range(place * window, min(shots, (place + 1) * window)) if k in best]
+        complaints += Board(plan, numbers).complaints(events.pop(place, []), workers)
+    return complaints + [f"events of window {place}" for place in events]
+
+
+class Board:
+    """The parts of some shots by a plan, and how each stands."""
+
+    def __init__(self, plan, shots):
+        self.nodes = plan.units + plan.fusions
+        self.children = {node: [] for node in range(self.nodes)}
+        for child, parent in plan.parents.items():
+            self.children[parent].append(child)
+        self.parts = [(shot, node) for shot in shots for node in range(self.nodes)]
+        self.status = {part: IDLE for part in self.parts}
+
+    def may_be_taken(self, part):
+        shot, node = part
+        return self.status[part] == IDLE and all(self.status[shot, child] == GIVEN for child in self.children[node])
+
+    def first(self):
+        """The part that whoever comes next takes."""
+        ready = [part for part in self.parts if self.may_be_taken(part)]
+        fusions = [part for part in ready if self.children[part[1]]]
+        return min(fusions or ready, default=None)
+
+    def complaints(self, events, workers):
+        found = []
+        for kind, worker, shot, node in events:
+            part = (shot, node)
+            if part not in self.status or worker > workers:
+                return [*found, f"{kind} {worker} {shot} {node} is of no part or worker"]
+            if kind == "took":
+                if part != self.first():
+                    found.append(f"worker {worker} took {part} where {self.first()} comes first")
+                self.take(part, worker)
+            elif self.status[part] != worker:
+                found.append(f"worker {worker} gave {part}, which is {self.status[part]}")
+            else:
+                self.status[part] = GIVEN
+        roots = [(shot, self.nodes - 1) for shot, node in self.parts if node == 0]
+        found += [f"{part} is {how}" for part, how in self.status.items() if how != (GIVEN if part in roots else USED)]
+        return found
+
+    def take(self, part, worker):
+        shot, node = part
+        for child in self.children[node]:
+            self.status[shot, child] = USED
+        self.status[part] = worker
