@@ -92,7 +92,7 @@ out_read read errand named left cause e out = subst (λ (r : Result Errand Usage
 
 -- faulty words don't end a run at the end of its input
 pub never_out : (read : Result Errand UsageKind) (f : WordsFault) (named : Named) (left : Option (List ℕ)) → HasReadOut read named left (cause_of_fault f)
-never_out (Ok (decode decoding)) f named left reads = absurd (not_to_end f reads)
-never_out (Ok (check checking)) f named left reads = absurd (not_to_end f reads)
+never_out (Ok (decode decoding)) f named left = λ reads. absurd (not_to_end f reads)
+never_out (Ok (check checking)) f named left = λ reads. absurd (not_to_end f reads)
 never_out (Ok (sample sampling)) f named left = tt
 never_out (Err kind) f named left = tt
