@@ -16,6 +16,7 @@ pub mod SampleOpenedParts
 pub mod SampleOpenings
 pub mod SampleParts
 pub mod SamplePentagons
+pub mod SamplePlans
 pub mod SampleRanks
 pub mod SampleResolutions
 pub mod SampleRings

@@ -14,6 +14,7 @@ pub mod RenamedWitnesses
 pub mod ResolvedWitnesses
 pub mod RingWitnesses
 pub mod Samples
+pub mod SeamWitnesses
 pub mod SearchWitnesses
 pub mod SolvedWitnesses
 pub mod StateWitnesses

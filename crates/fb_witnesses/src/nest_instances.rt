@@ -5,6 +5,7 @@ ghost use Rattle.fb_witnesses.specs.HeldWitnesses.{HeldWitness};
 ghost use Rattle.fb_witnesses.specs.LeafWitnesses.{ExchangedWitness, LeafWitness};
 ghost use Rattle.fb_witnesses.specs.RankWitnesses.{RankWitness};
 ghost use Rattle.fb_witnesses.specs.RenamedWitnesses.{RenamedWitness};
+ghost use Rattle.fb_witnesses.specs.SeamWitnesses.{PlanWitness};
 ghost use Rattle.fb_witnesses.specs.SolvedWitnesses.{BestWitness, OddWitness};
 
 /// Of the laws on a leaf added beside a grown node, and on a nest of a problem with other defects, on a line.
@@ -34,4 +35,9 @@ pub fn held_witness()
 pub fn row_witness()
     ensures odd { OddWitness }
     ensures best { BestWitness }
+{}
+
+/// Of the laws on the seams of a plan: the two fusions of three units on a line.
+pub fn seam_witness()
+    ensures { PlanWitness }
 {}
