@@ -1,3 +1,4 @@
+pub mod AgreedWitnesses
 pub mod BoundWitnesses
 pub mod CycleWitnesses
 pub mod FusedWitnesses

@@ -14,7 +14,8 @@ pub use examples::{opening_examples, ring_witness, search_witness};
 pub use instances::{cycle_witness, fused_witness, nest_witness, nested_witness, tree_witness};
 pub use link_instances::{match_witness, met_witness, number_witness};
 pub use nest_instances::{
-    bound_witness, held_witness, leaf_witness, renamed_witness, row_witness, seam_witness,
+    agreed_witness, bound_witness, held_witness, leaf_witness, renamed_witness, row_witness,
+    seam_witness,
 };
 pub use state_instances::state_witness;
 pub use witnesses::{

@@ -1,5 +1,6 @@
 //! That the premises of further laws on nests, their names, steps and rows can be met, on small graphs.
 
+ghost use Rattle.fb_witnesses.specs.AgreedWitnesses.{AgreedWitness};
 ghost use Rattle.fb_witnesses.specs.BoundWitnesses.{BoundWitness};
 ghost use Rattle.fb_witnesses.specs.HeldWitnesses.{HeldWitness};
 ghost use Rattle.fb_witnesses.specs.LeafWitnesses.{ExchangedWitness, LeafWitness};
@@ -40,4 +41,9 @@ pub fn row_witness()
 /// Of the laws on the seams of a plan: the two fusions of three units on a line.
 pub fn seam_witness()
     ensures { PlanWitness }
+{}
+
+/// Of the laws on the nodes of a dual state and of a store of blossoms: three leaves and their blossom.
+pub fn agreed_witness()
+    ensures { AgreedWitness }
 {}
