@@ -21,7 +21,7 @@ use Rattle.fb_obstacles.specs.declared.obstacle.Obstacle.TheVariants as obstacle
 use Rattle.fb_obstacles.specs.declared.looking.Look.{Look}
 use Rattle.fb_obstacles.specs.declared.looking.Look.TheVariants.{Clear, Within, Blocked}
 use Rattle.fb_obstacles.specs.Obstacles.{CountsLooks, IsFree, IsObstacle, IsTightFrom, IsWatched, ListsMinus, Obstructs}
-use Rattle.fb_obstacles.specs.InternalLooks.{BearsShrinking, BearsStep, CountsLooked, Limits, both_looks}
+use Rattle.fb_obstacles.specs.InternalLooks.{BearsShrinking, BearsStep, CountsLooked, Limits, LimitsBoth, both_looks}
 use Rattle.fb_obstacles.proofs.LookLimits.{limits_both, limits_same}
 use Rattle.fb_obstacles.proofs.NodeLooks.{listed_shrinking, named_place, shrinking_listed}
 
@@ -47,17 +47,13 @@ unwatched_bears p roles nodes watched j k dual are seen less absent = step (unde
         })
 
 -- the lengths that the minus nodes and the watched edges allow are those by which the tree may step
-pub looks_limit : (p : Problem) (roles : Roles) (nodes : List Node) (names watched : List ℕ) (a b : Look) → IsDual p nodes
+pub look_limits : (p : Problem) (roles : Roles) (nodes : List Node) (names watched : List ℕ) (l : Look) → IsDual p nodes
     → AreRoles roles nodes → ListsMinus roles nodes names → IsWatched p roles nodes watched
-    → Limits (λ j. All (BearsShrinking nodes j) names) (Obstructs p roles nodes) a
-    → Limits (λ j. All (λ k. BearsStep roles nodes j (edge_at p.edges k)) watched) (Obstructs p roles nodes) b
-    → Limits (MayStep p roles nodes) (Obstructs p roles nodes) (both_looks a b)
-looks_limit p roles nodes names watched a b dual are lists seen first second =
+    → LimitsBoth p roles nodes names watched l → Limits (MayStep p roles nodes) (Obstructs p roles nodes) l
+look_limits p roles nodes names watched l dual are lists seen limits =
     limits_same
     (λ j. All (BearsShrinking nodes j) names × All (λ k. BearsStep roles nodes j (edge_at p.edges k)) watched)
-    (MayStep p roles nodes) (Obstructs p roles nodes) (both_looks a b) may only
-    (limits_both (λ j. All (BearsShrinking nodes j) names)
-    (λ j. All (λ k. BearsStep roles nodes j (edge_at p.edges k)) watched) (Obstructs p roles nodes) a b first second)
+    (MayStep p roles nodes) (Obstructs p roles nodes) l may only limits
   where
     may : (j : ℕ) → All (BearsShrinking nodes j) names × All (λ k. BearsStep roles nodes j (edge_at p.edges k)) watched
         → MayStep p roles nodes j
@@ -77,6 +73,17 @@ looks_limit p roles nodes names watched a b dual are lists seen first second =
       shrinking_listed roles nodes names j lists allowed.tops,
       λ i d less. allowed.edges (get_or watched i d) no_edge (seen.within i d less),
     )
+
+-- the same of two looks in one
+pub looks_limit : (p : Problem) (roles : Roles) (nodes : List Node) (names watched : List ℕ) (a b : Look) → IsDual p nodes
+    → AreRoles roles nodes → ListsMinus roles nodes names → IsWatched p roles nodes watched
+    → Limits (λ j. All (BearsShrinking nodes j) names) (Obstructs p roles nodes) a
+    → Limits (λ j. All (λ k. BearsStep roles nodes j (edge_at p.edges k)) watched) (Obstructs p roles nodes) b
+    → Limits (MayStep p roles nodes) (Obstructs p roles nodes) (both_looks a b)
+looks_limit p roles nodes names watched a b dual are lists seen first second =
+    look_limits p roles nodes names watched (both_looks a b) dual are lists seen
+    (limits_both (λ j. All (BearsShrinking nodes j) names)
+    (λ j. All (λ k. BearsStep roles nodes j (edge_at p.edges k)) watched) (Obstructs p roles nodes) a b first second)
 
 -- a tight edge from a plus node isn't clear
 tight_is_not_clear : (p : Problem) (roles : Roles) (nodes : List Node) (k u v : ℕ) → HasNoObstacle p roles nodes

@@ -1,3 +1,4 @@
+pub mod BoundedScans
 pub mod Conclusions
 pub mod EdgeLooks
 pub mod EdgeScans

@@ -1,12 +1,24 @@
 -- Looks at one thing after another.
-use Rattle.std.proofs.Common.{ℕ, ◌≡◌, ◌+◌, ◌≤◌, ◌<◌, ◌∷◌, ◌++◌, List, [], length, get_or, take, take_all, All, sym, subst, arith}
-use Rattle.std.proofs.lemmas.List.Elements.{All-nil, All-push}
-use Rattle.std.proofs.lemmas.List.{take_more}
+use Rattle.std.proofs.Common.{ℕ, ◌≡◌, ◌+◌, ◌≤◌, ◌<◌, ◌∷◌, ◌++◌, List, [], length, get_or, take, take_all, drop, All, sym, subst, arith}
+use Rattle.std.proofs.lemmas.List.Elements.{All-nil, All-cons, All-head, All-tail, All-same, All-push}
+use Rattle.std.proofs.lemmas.List.{take_more, drop_more}
 use Rattle.fb_graph.proofs.Nodes.{All-below, All-top}
 use Rattle.fb_obstacles.specs.declared.obstacle.Obstacle.{Obstacle}
 use Rattle.fb_obstacles.specs.declared.looking.Look.{Look}
 use Rattle.fb_obstacles.specs.declared.looking.Look.TheVariants.{Clear, Within, Blocked}
 use Rattle.fb_obstacles.specs.InternalLooks.{both_looks, Limits}
+
+All_drop-front : (P : ℕ → Type 0) (xs : List ℕ) (i : ℕ) → i < length xs → P (get_or xs i 0) → All P (drop (i + 1) xs)
+    → All P (drop i xs)
+All_drop-front P xs i less here rest =
+    All-same P (drop i xs) (get_or xs i 0 ∷ drop (i + 1) xs) (drop_more xs i 0 less)
+    (All-cons P (get_or xs i 0) (drop (i + 1) xs) here rest)
+
+All_drop-split : (P : ℕ → Type 0) (xs : List ℕ) (i : ℕ) → i < length xs → All P (drop i xs)
+    → P (get_or xs i 0) × All P (drop (i + 1) xs)
+All_drop-split P xs i less all =
+    let whole : All P (get_or xs i 0 ∷ drop (i + 1) xs) = subst (All P) (drop_more xs i 0 less) all in
+    (All-head P (get_or xs i 0) (drop (i + 1) xs) whole, All-tail P (get_or xs i 0) (drop (i + 1) xs) whole)
 
 -- the same lengths told otherwise
 pub limits_same : (A B : ℕ → Type 0) (S : Obstacle → Type 0) (l : Look) → ((j : ℕ) → A j → B j) → ((j : ℕ) → B j → A j)
@@ -50,6 +62,32 @@ limits_more P S xs i a b less first second =
       All-top (P j) (take i xs) (get_or xs i 0) h,
     ))
     (limits_both (λ j. All (P j) (take i xs)) (λ j. P j (get_or xs i 0)) S a b first second))
+
+-- one more of a list is looked at, before what stands behind it
+pub limits_before : (A : ℕ → Type 0) (P : ℕ → ℕ → Type 0) (S : Obstacle → Type 0) (xs : List ℕ) (i : ℕ) (a b : Look)
+    → i < length xs → Limits (λ j. A j × All (P j) (drop (i + 1) xs)) S a → Limits (λ j. P j (get_or xs i 0)) S b
+    → Limits (λ j. A j × All (P j) (drop i xs)) S (both_looks a b)
+limits_before A P S xs i a b less first second =
+    limits_same (λ j. (A j × All (P j) (drop (i + 1) xs)) × P j (get_or xs i 0)) (λ j. A j × All (P j) (drop i xs)) S
+    (both_looks a b)
+    (λ j h. (h.0.0, All_drop-front (P j) xs i less h.1 h.0.1))
+    (λ j h. let (here, rest) = All_drop-split (P j) xs i less h.1 in ((h.0, rest), here))
+    (limits_both (λ j. A j × All (P j) (drop (i + 1) xs)) (λ j. P j (get_or xs i 0)) S a b first second)
+
+-- one more is passed over, since it allows each length that the look does
+pub limits_passed : (A : ℕ → Type 0) (P : ℕ → ℕ → Type 0) (S : Obstacle → Type 0) (xs : List ℕ) (i m : ℕ) (l : Look)
+    → i < length xs → l ≡ Within m → ((j : ℕ) → j ≤ m → P j (get_or xs i 0))
+    → Limits (λ j. A j × All (P j) (drop (i + 1) xs)) S l → Limits (λ j. A j × All (P j) (drop i xs)) S l
+limits_passed A P S xs i m l less is bears limits =
+    subst (Limits (λ j. A j × All (P j) (drop i xs)) S) (sym is)
+    (passed (subst (Limits (λ j. A j × All (P j) (drop (i + 1) xs)) S) is limits))
+  where
+    passed : Limits (λ j. A j × All (P j) (drop (i + 1) xs)) S (Within m) → Limits (λ j. A j × All (P j) (drop i xs)) S (Within m)
+    passed (some, below, above) = (
+      some,
+      λ j le. let (first, rest) = below j le in (first, All_drop-front (P j) xs i less (bears j le) rest),
+      λ j h. above j (h.0, (All_drop-split (P j) xs i less h.1).1),
+    )
 
 -- where an obstacle stands, it doesn't matter what else was looked at
 pub limits_blocked : (A B : ℕ → Type 0) (S : Obstacle → Type 0) (l : Look) (o : Obstacle) → l ≡ Blocked o

@@ -1,6 +1,6 @@
 -- Lists of edges that are stored with the place of each.
-use Rattle.std.proofs.Common.{ℕ, zero, suc, ◌≡◌, ◌+◌, ◌≤◌, ◌<◌, ◌==◌, ◌&&◌, ◌⊎◌, inl, inr, Bool, true, false, not, ◌||◌, sum_by, eq-eqb, subst, List, [], ◌∷◌, ◌++◌, length, length-append, get_or, set, All, refl, sym, ap, ◌∙◌, arith}
-use Rattle.std.proofs.lemmas.Bool.{both_ways, cases_lt, eqb-true, false_from_ne_true}
+use Rattle.std.proofs.Common.{ℕ, zero, suc, ◌≡◌, ◌+◌, ◌-◌, ◌≤◌, ◌<◌, ◌≢◌, ◌==◌, ◌&&◌, ◌⊎◌, inl, inr, Bool, true, false, not, ◌||◌, sum_by, eq-eqb, subst, List, [], ◌∷◌, ◌++◌, length, length-append, get_or, set, All, refl, sym, ap, ◌∙◌, arith}
+use Rattle.std.proofs.lemmas.Bool.{both_ways, cases_eq, cases_lt, eqb-true, false_from_ne_true}
 use Rattle.std.proofs.lemmas.List.{length-set, get_or-set_same, get_or-set_other, get_or_append_left, get_or_push}
 use Rattle.std.proofs.lemmas.List.Elements.{All-push}
 use Rattle.std.proofs.lemmas.List.Elements.{All-from_get_or}
@@ -155,3 +155,45 @@ stored_entered places edges capacity e stored below absent = record {
         let at_end : length edges ≡ i = omega (arith, length-append edges (e ∷ [])) in
         ap (λ x. get_or (set places e (length edges)) x 0) (get_or_push edges e 0 i at_end)
         ∙ (get_or-set_same places e (length edges) 0 below ∙ at_end)
+
+-- the last edge put in the place of one that is taken out
+pub stored_moved : (places edges rest : List ℕ) (capacity i moved : ℕ) → IsStored places edges capacity
+    → i + 1 < length edges → length rest + 1 ≡ length edges → moved ≡ get_or rest i 0
+    → get_or rest i 0 ≡ get_or edges (length edges - 1) 0
+    → ((k : ℕ) → k ≢ i → k + 1 < length edges → get_or rest k 0 ≡ get_or edges k 0)
+    → IsStored (set places moved i) rest capacity
+stored_moved places edges rest capacity i moved stored less fewer is here other = record {
+  placed = λ k short. step k short (cases_eq k i);
+  within = All-from_get_or (λ e. e < length (set places moved i)) rest 0
+      (λ k short. omega (arith, length-set places moved i, below k short (cases_eq k i)));
+  room = omega (arith, stored.room, length-set places moved i);
+  few = omega (arith, stored.few, length-set places moved i);
+}
+  where
+    last : moved ≡ get_or edges (length edges - 1) 0
+    last = is ∙ here
+
+    below : (k : ℕ) → k < length rest → (k ≡ i) ⊎ (k ≡ i → ⊥) → get_or rest k 0 < length places
+    below k short (inl same) =
+        subst (λ e. e < length places) (sym (ap (λ j. get_or rest j 0) same ∙ here))
+        (stored.within (length edges - 1) 0 (omega arith))
+    below k short (inr differs) =
+        subst (λ e. e < length places) (sym (other k differs (omega (arith, fewer)))) (stored.within k 0 (omega (arith, fewer)))
+
+    step : (k : ℕ) → k < length rest → (k ≡ i) ⊎ (k ≡ i → ⊥) → get_or (set places moved i) (get_or rest k 0) 0 ≡ k
+    step k short (inl same) =
+        ap (λ e. get_or (set places moved i) e 0) (ap (λ j. get_or rest j 0) same ∙ sym is)
+        ∙ (get_or-set_same places moved i 0 (subst (λ e. e < length places) (sym is) (below i (omega (arith, fewer)) (inl refl)))
+        ∙ sym same)
+    step k short (inr differs) =
+        ap (λ e. get_or (set places moved i) e 0) (other k differs (omega (arith, fewer)))
+        ∙ (get_or-set_other places moved (get_or edges k 0) i 0
+        (λ same.
+        absurd (omega (
+          arith,
+          fewer,
+          stored.placed k (omega (arith, fewer)),
+          stored.placed (length edges - 1) (omega arith),
+          ap (λ e. get_or places e 0) (same ∙ last),
+        )))
+        ∙ stored.placed k (omega (arith, fewer)))

@@ -1,13 +1,14 @@
 -- How the edges and minus nodes are looked at.
-use Rattle.std.specs.Prelude.{ℕ, ◌≡◌, ◌+◌, ◌-◌, ◌*◌, ◌/◌, ◌≤◌, ◌==◌, Bool, true, false, min, nat_lt, List, length, Option, Some, None, if◌then◌else◌}
+use Rattle.std.specs.Prelude.{ℕ, ◌≡◌, ◌+◌, ◌*◌, ◌/◌, ◌≤◌, ◌==◌, Bool, true, false, min, nat_lt, nat_le, List, length, All, Option, Some, None, if◌then◌else◌}
 use Rattle.fb_graph.specs.Problem.{Problem, edge_at}
 use Rattle.fb_graph.specs.Certificate.{load_of}
-use Rattle.fb_graph.specs.Dual.{Node, all_cuts, cover_of, height_of, is_empty, layers_at}
+use Rattle.fb_graph.specs.Dual.{Node, all_cuts, cover_of, is_empty, layers_at}
 use Rattle.fb_graph.specs.Steps.{Roles, gains, losses}
 use Rattle.fb_graph.specs.declared.parts.Edge.{Edge}
 use Rattle.fb_regions.specs.Moves.{node_named}
 use Rattle.fb_regions.specs.declared.roles.Role.{Role}
 use Rattle.fb_regions.specs.declared.roles.Role.TheVariants as role
+use Rattle.fb_obstacles.specs.Obstacles.{Obstructs, residue_at}
 use Rattle.fb_obstacles.specs.declared.obstacle.Obstacle.{Obstacle}
 use Rattle.fb_obstacles.specs.declared.obstacle.Obstacle.TheVariants as obstacle
 use Rattle.fb_obstacles.specs.declared.looking.Look.{Look}
@@ -51,15 +52,11 @@ abbrev pub look_if : Option Cover → ℕ → ℕ → Look
 look_if None residue k = Clear
 look_if (Some far) residue k = look_at far residue k
 
--- the weight of an edge less the potentials of both ends
-abbrev pub residue_of : List Node → Edge → ℕ
-residue_of nodes e = e.weight - (height_of (all_cuts nodes) e.first + height_of (all_cuts nodes) e.second)
-
 abbrev pub edge_look : Problem → (ℕ → Role) → List Node → ℕ → Look
 edge_look p role_of nodes k =
     look_if
     (far_end (cover_at p role_of nodes (edge_at p.edges k).first) (cover_at p role_of nodes (edge_at p.edges k).second))
-    (residue_of nodes (edge_at p.edges k)) k
+    (residue_at p nodes k) k
 
 -- what an empty top layer of a minus node is
 abbrev pub empty_layer : List Node → ℕ → Obstacle
@@ -81,6 +78,12 @@ both_looks Clear b = b
 both_looks a Clear = a
 both_looks (Within i) (Within j) = Within (min i j)
 
+-- an edge with this residue bears each step that the look allows, since a step takes at most twice its length from it
+abbrev pub fits_within : Look → ℕ → Bool
+fits_within (Within bound) residue = nat_le bound (residue / 2)
+fits_within Clear residue = false
+fits_within (Blocked o) residue = false
+
 -- the look tells which lengths are allowed, or an obstacle that stands
 abbrev pub Limits : (ℕ → Type 0) → (Obstacle → Type 0) → Look → Type 0
 Limits Allowed Stands Clear = (k : ℕ) → Allowed k
@@ -96,6 +99,13 @@ BearsShrinking nodes j name = j ≤ (node_named nodes name).top.value
 abbrev pub BearsStep : Roles → List Node → ℕ → Edge → Type 0
 BearsStep roles nodes j e =
     load_of (all_cuts nodes) e + j * gains roles nodes e ≤ e.weight + j * losses roles nodes e
+
+-- the look tells which lengths these minus nodes and these edges allow, or an obstacle that stands
+abbrev pub LimitsBoth : Problem → Roles → List Node → List ℕ → List ℕ → Look → Type 0
+LimitsBoth p roles nodes names ks look =
+    Limits
+    (λ j. All (BearsShrinking nodes j) names × All (λ k. BearsStep roles nodes j (edge_at p.edges k)) ks)
+    (Obstructs p roles nodes) look
 
 -- one look is counted for each edge up to the one where an obstacle stands
 abbrev pub CountsLooked : Look → ℕ → ℕ → ℕ → Type 0

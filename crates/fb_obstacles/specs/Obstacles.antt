@@ -1,10 +1,11 @@
 -- What stands in the way of an alternating tree (Wu and Zhong 2023).
-use Rattle.std.specs.Prelude.{ℕ, ◌≡◌, ◌+◌, ◌<◌, ◌≤◌, ◌⊎◌, Bool, true, false, List, [], length, All, Some, None}
+use Rattle.std.specs.Prelude.{ℕ, ◌≡◌, ◌+◌, ◌-◌, ◌<◌, ◌≤◌, ◌⊎◌, Bool, true, false, List, [], length, All, Some, None}
 use Rattle.fb_graph.specs.Parity.{is_in}
 use Rattle.fb_graph.specs.Problem.{Problem, edge_at}
 use Rattle.fb_graph.specs.Certificate.{load_of}
 use Rattle.fb_graph.specs.Components.{Leads}
-use Rattle.fb_graph.specs.Dual.{Node, AreUnderOne, all_cuts, cover_of, is_live, is_outer}
+use Rattle.fb_graph.specs.Dual.{Node, AreUnderOne, all_cuts, cover_of, height_of, is_live, is_outer}
+use Rattle.fb_graph.specs.declared.parts.Edge.{Edge}
 use Rattle.fb_graph.specs.Steps.{Roles}
 use Rattle.fb_graph.specs.Covers.{HaveParity, is_over}
 use Rattle.fb_graph.specs.Moves.{MaySplit, MayUncover}
@@ -27,6 +28,14 @@ shrinks Out = false
 -- roles as two tests of names
 abbrev pub roles_by : (ℕ → Role) → Roles
 roles_by role = record { is_plus = λ name. grows (role name); is_minus = λ name. shrinks (role name) }
+
+-- the weight of an edge less the potentials of both ends
+abbrev pub residue_of : List Node → Edge → ℕ
+residue_of nodes e = e.weight - (height_of (all_cuts nodes) e.first + height_of (all_cuts nodes) e.second)
+
+-- the same of the edge of a number
+abbrev pub residue_at : Problem → List Node → ℕ → ℕ
+residue_at p nodes k = residue_of nodes (edge_at p.edges k)
 
 -- all defects under plus nodes have potentials of one parity
 abbrev pub HavePlusParity : Roles → List Node → Type 0

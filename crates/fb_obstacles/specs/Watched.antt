@@ -1,13 +1,20 @@
 -- The edges that a search looks at.
-use Rattle.std.specs.Prelude.{ℕ, List, refl}
+use Rattle.std.specs.Prelude.{ℕ, ◌<◌, ◌≤◌, List, length, get_or, refl}
 use Rattle.std.specs.Coded.{Coded, code_by, coded×, coded_list, coded_ℕ}
 
 -- how many edges the scope has, and the numbers of those that are watched, in any order
 pub record Watched : Type 0 where
   pub edge_count : ℕ
   pub edges : List ℕ
+  -- for each watched edge, by its place, a number that its residue is at least
+  pub bounds : List ℕ
+
+-- the bound of each watched edge is at most its limit
+abbrev pub AreBounded : (ℕ → ℕ) → Watched → Type 0
+AreBounded limit w = (i : ℕ) → i < length w.edges → get_or w.bounds i 0 ≤ limit (get_or w.edges i 0)
 
 abbrev pub watched_code : Coded Watched
 watched_code =
-    code_by (ℕ × List ℕ) (coded× coded_ℕ (coded_list coded_ℕ)) (λ w. (w.edge_count, w.edges))
-    (λ x. record { edge_count = x.0; edges = x.1 }) (λ _. refl)
+    code_by (ℕ × (List ℕ × List ℕ)) (coded× coded_ℕ (coded× (coded_list coded_ℕ) (coded_list coded_ℕ)))
+    (λ w. (w.edge_count, (w.edges, w.bounds)))
+    (λ x. record { edge_count = x.0; edges = x.1.0; bounds = x.1.1 }) (λ _. refl)

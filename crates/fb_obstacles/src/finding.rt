@@ -1,11 +1,13 @@
-ghost use Rattle.std.specs.Prelude.{◌≡◌, length};
+ghost use Rattle.std.specs.Prelude.{◌≡◌, ◌+◌, ◌≤◌, length};
 ghost use Rattle.fb_graph.specs.Problem.{with_defects};
 ghost use Rattle.fb_graph.specs.Laws.{HasNoOddClosed};
 ghost use Rattle.fb_graph.specs.Dual.{leaves};
 ghost use Rattle.fb_graph.specs.Covers.{AreRoles};
 ghost use Rattle.fb_laws.specs.Lengths.{HasPlus};
-ghost use Rattle.fb_obstacles.specs.Obstacles.{CountsLooks, HavePlusParity, IsObstacle, IsWatched, ListsMinus, roles_by};
+ghost use Rattle.fb_obstacles.specs.Obstacles.{CountsLooks, HavePlusParity, IsObstacle, IsWatched, ListsMinus, residue_at, roles_by};
+ghost use Rattle.fb_obstacles.specs.Watched.{AreBounded};
 
+use crate::bounding::look_by_bounds;
 use crate::ends::keeps_dual;
 use crate::looking::Look;
 use crate::obstacle::Obstacle;
@@ -46,6 +48,37 @@ pub fn next_obstacle<S: Scope, R: MinusNodes, L: Ledger>(
     match shrinking.and(look_at_edges(watch, scope, regions, roles, looks)) {
         Look::Blocked(obstacle) => obstacle,
         Look::Within(length) => Obstacle::Free(length),
+        Look::Clear => unreachable!(),
+    }
+}
+
+/// An obstacle in the way of the tree with these roles, or how far the tree may step, as `next_obstacle` finds it, but
+/// with a look only at those watched edges whose bounds don't show that they bear the step. Sets the bound of each edge
+/// that it looks at to the edge's residue, and counts a look for it.
+pub fn next_obstacle_by_bounds<S: Scope, R: MinusNodes, L: Ledger>(
+    watch: &mut Watch,
+    scope: &S,
+    regions: &Regions<S>,
+    roles: &R,
+    looks: &mut Steps<L>,
+) -> Obstacle
+    requires same { regions.now.scope ≡ scope.now }
+    requires plus { HasPlus (roles_by (R.role_of roles.now)) regions.now.nodes }
+    requires roles { AreRoles (roles_by (R.role_of roles.now)) regions.now.nodes }
+    requires minus { ListsMinus (roles_by (R.role_of roles.now)) regions.now.nodes (R.minus_names roles.now) }
+    requires parity { HavePlusParity (roles_by (R.role_of roles.now)) regions.now.nodes }
+    requires even { HasNoOddClosed (with_defects (S.problem scope.now) (leaves regions.now.nodes)) }
+    requires watched { IsWatched (S.problem scope.now) (roles_by (R.role_of roles.now)) regions.now.nodes watch.old.edges }
+    requires bounded { AreBounded (residue_at (S.problem scope.now) regions.now.nodes) watch.old }
+    ensures obstacle { IsObstacle (S.problem scope.now) (roles_by (R.role_of roles.now)) regions.now.nodes result }
+    ensures watched { (watch.new.edge_count ≡ watch.old.edge_count) × (watch.new.edges ≡ watch.old.edges) }
+    ensures bounded { AreBounded (residue_at (S.problem scope.now) regions.now.nodes) watch.new }
+    ensures looks { (looks.old ≤ looks.new) × (looks.new ≤ looks.old + length watch.old.edges) }
+{
+    keeps_dual(regions);
+    match look_by_bounds(watch, scope, regions, roles, looks) {
+        Look::Blocked(obstacle) => obstacle,
+        Look::Within(most) => Obstacle::Free(most),
         Look::Clear => unreachable!(),
     }
 }

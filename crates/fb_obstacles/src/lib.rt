@@ -2,6 +2,7 @@
 
 #![tactic(auto)]
 
+mod bounding;
 mod ends;
 pub mod finding;
 mod looking;
@@ -11,7 +12,7 @@ pub mod shrinking;
 pub mod watching;
 
 pub use fb_regions::{NodeId, Role, Roles};
-pub use finding::next_obstacle;
+pub use finding::{next_obstacle, next_obstacle_by_bounds};
 pub use obstacle::Obstacle;
 pub use shrinking::MinusNodes;
 pub use watching::Watch;

@@ -1,53 +1,62 @@
-ghost use Rattle.std.specs.Prelude.{ℕ, ◌≡◌, ◌+◌, ◌<◌, ◌==◌, ◌&&◌, true, false, not, [], ◌∷◌, ◌++◌, length, get_or, All, IfOk, MatchOption, if◌then◌else◌};
+ghost use Rattle.std.specs.Prelude.{ℕ, ◌≡◌, ◌+◌, ◌-◌, ◌<◌, ◌==◌, ◌&&◌, true, false, not, [], ◌∷◌, ◌++◌, length, map, get_or, set, All, IfOk, MatchOption, if◌then◌else◌};
 ghost use Rattle.fb_graph.specs.Parity.{is_in};
 ghost use Rattle.fb_graph.specs.Counts.{as_count};
 ghost use Rattle.fb_graph.specs.Certificate.{AreDistinct};
-ghost use Rattle.fb_obstacles.specs.InternalWatch.{IsStored};
+ghost use Rattle.fb_obstacles.specs.Watched.{AreBounded};
 
 use fb_graph::{NoMemory, Scope};
 use std::alloc::Global;
 use std::marker::Model;
 
-/// The edges that a search looks at, each once, in any order. Only `new` takes memory, and only `new` takes time for
-/// each edge of the scope: any other call takes the time that a few reads and writes take. So a watch is made once and
-/// serves many searches.
+/// The edges that a search looks at, each once, in any order, with a lower bound of each one's residue. Only `new` takes
+/// memory, and only `new` takes time for each edge of the scope: `lower` takes time for each watched edge, and any other
+/// call the time that a few reads and writes take. So a watch is made once and serves many searches.
 #[derive(Drop)]
 pub struct Watch {
     /// For each edge of the scope its place in the list of the watched ones. It counts only where that edge stands there.
     places: Vec<u32>,
     /// The watched edges, with room for all edges of the scope.
     edges: Vec<u32>,
+    /// For each watched edge, by its place in the list, a number that its residue is at least.
+    bounds: Vec<u64>,
 }
 
 impl Model for Watch {
     ghost use Rattle.std.specs.Prelude.{length, vec_capacity};
     ghost use Rattle.fb_obstacles.specs.Watched.{Watched, watched_code};
-    ghost use Rattle.fb_obstacles.specs.InternalWatch.{IsStored};
+    ghost use Rattle.fb_obstacles.specs.InternalWatch.{IsStored, HaveBounds};
 
     ghost Value = { Watched };
 
     ghost coded = { watched_code };
 
-    ghost view = { λ w. record { edge_count = length w.places.items; edges = w.edges.items } };
+    ghost view = { λ w. record { edge_count = length w.places.items; edges = w.edges.items; bounds = w.bounds.items } };
 
-    ghost invariant = { λ w. IsStored w.places.items w.edges.items (vec_capacity w.edges) };
+    ghost invariant = { λ w. IsStored w.places.items w.edges.items (vec_capacity w.edges)
+        × HaveBounds w.places.items w.edges.items w.bounds.items (vec_capacity w.bounds) };
 }
 
 impl Watch {
     /// Watches no edge, with room for every edge of the scope.
     pub fn new<S: Scope>(alloc: Global, scope: &S) -> Result<Watch, NoMemory>
-        ensures { IfOk result (λ w. w ≡ record { edge_count = length (S.problem scope.now).edges; edges = [] }) }
+        ensures { IfOk result (λ w. w ≡ record { edge_count = length (S.problem scope.now).edges; edges = []; bounds = [] }) }
     {
         let count = scope.edge_count() as usize;
         let places = vec![in alloc; 0; count]?;
         let edges = Vec::with_capacity(alloc, count)?;
-        Ok(Watch { places, edges })
+        let bounds = Vec::with_capacity(alloc, count)?;
+        Ok(Watch {
+            places,
+            edges,
+            bounds,
+        })
     }
 
     /// Does nothing. Its clauses say what every watch keeps.
     pub fn keeps(&self)
         ensures distinct { AreDistinct self.now.edges }
         ensures within { All (λ e. e < self.now.edge_count) self.now.edges }
+        ensures bounds { length self.now.bounds ≡ length self.now.edges }
     {
         let _edges = &self.edges;
     }
@@ -74,16 +83,17 @@ impl Watch {
         }
     }
 
-    /// Watches the edge from now on.
+    /// Watches the edge from now on. Nothing is known of its residue.
     pub fn enter(&mut self, edge: u32)
         requires { edge < self.old.edge_count }
-        ensures { self.new ≡ (if is_in self.old.edges edge then self.old else record { edge_count = self.old.edge_count; edges = self.old.edges ++ edge ∷ [] }) }
+        ensures { self.new ≡ (if is_in self.old.edges edge then self.old else record { edge_count = self.old.edge_count; edges = self.old.edges ++ edge ∷ []; bounds = self.old.bounds ++ 0 ∷ [] }) }
     {
         if self.holds(edge) {
             return;
         }
         self.places[edge as usize] = self.edges.len() as u32;
         self.edges.push_reserved(edge);
+        self.bounds.push_reserved(0);
     }
 
     /// Watches the edge no longer.
@@ -92,11 +102,13 @@ impl Watch {
         ensures count { self.new.edge_count ≡ self.old.edge_count }
         ensures edges { (e : ℕ) → is_in self.new.edges e ≡ (is_in self.old.edges e && not (e == edge)) }
         ensures len { length self.new.edges + as_count (is_in self.old.edges edge) ≡ length self.old.edges }
+        ensures bounds { (limit : ℕ → ℕ) → AreBounded limit self.old → AreBounded limit self.new }
     {
         let Some(place) = self.place_of(edge) else {
             return;
         };
         self.edges.swap_remove(place);
+        self.bounds.swap_remove(place);
         if place < self.edges.len() {
             let moved = self.edges[place];
             self.places[moved as usize] = place as u32;
@@ -105,9 +117,33 @@ impl Watch {
 
     /// Watches no edge any longer.
     pub fn clear(&mut self)
-        ensures { self.new ≡ record { edge_count = self.old.edge_count; edges = [] } }
+        ensures { self.new ≡ record { edge_count = self.old.edge_count; edges = []; bounds = [] } }
     {
         self.edges.clear();
+        self.bounds.clear();
+    }
+
+    /// Each residue may have fallen by this much.
+    pub fn lower(&mut self, length: u64)
+        ensures { self.new ≡ record self.old { bounds = map (λ b. b - length) self.old.bounds } }
+    {
+        lower_all(&mut self.bounds, length);
+    }
+
+    /// The bound of the edge at this place.
+    pub(crate) fn bound_at(&self, place: usize) -> u64
+        requires { place < length self.now.edges }
+        ensures { result ≡ get_or self.now.bounds place 0 }
+    {
+        self.bounds[place]
+    }
+
+    /// Sets the bound of the edge at this place.
+    pub(crate) fn set_bound(&mut self, place: usize, bound: u64)
+        requires { place < length self.old.edges }
+        ensures { self.new ≡ record self.old { bounds = set self.old.bounds place bound } }
+    {
+        self.bounds[place] = bound;
     }
 
     /// How many edges are watched.
@@ -129,5 +165,14 @@ impl Watch {
         ensures { result.now ≡ self.now.edges }
     {
         self.edges.as_slice()
+    }
+}
+
+/// Takes the amount from each number. A number that is less becomes 0.
+fn lower_all(numbers: &mut [u64], amount: u64)
+    ensures { numbers.new ≡ map (λ n. n - amount) numbers.old }
+{
+    for number in numbers.iter_mut() {
+        *number = number.saturating_sub(amount);
     }
 }

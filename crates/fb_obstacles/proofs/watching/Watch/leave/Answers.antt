@@ -1,13 +1,48 @@
-use Rattle.std.proofs.Common.{◌≡◌, ◌<◌, length, get_or, vec_capacity, arith}
-use Rattle.fb_obstacles.proofs.StoredEdges.{stored_distinct, is_in_taken, shorter_than_places}
+use Rattle.std.proofs.Common.{◌≡◌, ◌-◌, ◌∙◌, ◌<◌, length, get_or, set, vec_len, vec_capacity, sym, subst, arith}
+use Rattle.std.proofs.lemmas.Grind.{get_or_default_zero}
+use Rattle.std.proofs.lemmas.List.{length-set}
+use Rattle.fb_obstacles.specs.InternalWatch.{IsStored}
+use Rattle.fb_obstacles.proofs.StoredEdges.{stored_distinct, stored_moved, is_in_taken, shorter_than_places}
 use Rattle.fb_obstacles.proofs.watching.Watch.leave.Goals as goal
 
 pub overflow_cast-place : goal.overflow_cast-place
 overflow_cast-place c =
     let less : c.in-Some.place < length c.self.inside.edges.items = rw (← c.self.view_is) at c.in-Some.ensures.0 in
     let short = shorter_than_places c.self.inside.places.items c.self.inside.edges.items (vec_capacity c.self.inside.edges)
-    c.self.invariant in
-    omega (arith, less, short, c.self.invariant.few)
+    c.self.invariant.0 in
+    omega (arith, less, short, c.self.invariant.0.few)
+
+pub invariant_of-self : goal.invariant_of-self
+invariant_of-self c =
+    let stored = c.self.invariant.0 in
+    let beside = c.self.invariant.1 in
+    let count : vec_len c.self.inside.edges ≡ length c.self.inside.edges.items = omega arith in
+    let short : c.in-Some.place < length c.swap_remove.new.self.items = omega arith in
+    let moved : IsStored (set c.self.inside.places.items c.index-moved.result.now c.in-Some.place)
+    c.swap_remove.new.self.items (vec_capacity c.self.inside.edges) =
+    stored_moved c.self.inside.places.items c.self.inside.edges.items c.swap_remove.new.self.items
+    (vec_capacity c.self.inside.edges) c.in-Some.place c.index-moved.result.now stored
+    (omega (arith, c.swap_remove.ensures.len)) (omega (arith, c.swap_remove.ensures.len))
+    (c.index-moved.ensures
+    ∙ get_or_default_zero c.swap_remove.new.self.items c.in-Some.place c.index-moved.result.now short)
+    (subst
+    (λ n. get_or c.swap_remove.new.self.items c.in-Some.place 0 ≡ get_or c.self.inside.edges.items (n - 1) 0) count
+    (c.swap_remove.ensures.by_index.0 0 (omega (arith, c.swap_remove.ensures.len))))
+    (λ k differs less. c.swap_remove.ensures.by_index.1 k 0 differs (omega (arith, less))) in (
+      subst
+          (λ n. IsStored (set c.self.inside.places.items c.index-moved.result.now c.in-Some.place)
+          c.swap_remove.new.self.items n)
+          (sym c.swap_remove.ensures.capacity) moved,
+      record {
+        one_each = omega (arith, beside.one_each, c.swap_remove.ensures.len, c.swap_remove-2.ensures.len);
+        room = omega (
+          arith,
+          beside.room,
+          c.swap_remove-2.ensures.capacity,
+          length-set c.self.inside.places.items c.index-moved.result.now c.in-Some.place,
+        );
+      },
+    )
 
 pub returns-then-place-len-clause-edges : goal.returns-then-place-len-clause-edges
 returns-then-place-len-clause-edges c =
@@ -15,7 +50,7 @@ returns-then-place-len-clause-edges c =
     let here : get_or c.self.inside.edges.items c.in-Some.place 0 ≡ c.args.edge = rw (← c.self.view_is) at c.in-Some.ensures.1 in
     rw (← c.self.view_is)
     (is_in_taken c.self.inside.edges.items c.swap_remove.new.self.items c.in-Some.place c.swap_remove.result c.args.edge less here
-    (stored_distinct c.self.inside.places.items c.self.inside.edges.items (vec_capacity c.self.inside.edges) c.self.invariant)
+    (stored_distinct c.self.inside.places.items c.self.inside.edges.items (vec_capacity c.self.inside.edges) c.self.invariant.0)
     c.swap_remove.ensures.value c.swap_remove.ensures.items)
 
 pub returns-else-place-len-clause-edges : goal.returns-else-place-len-clause-edges
@@ -24,5 +59,5 @@ returns-else-place-len-clause-edges c =
     let here : get_or c.self.inside.edges.items c.in-Some.place 0 ≡ c.args.edge = rw (← c.self.view_is) at c.in-Some.ensures.1 in
     rw (← c.self.view_is)
     (is_in_taken c.self.inside.edges.items c.swap_remove.new.self.items c.in-Some.place c.swap_remove.result c.args.edge less here
-    (stored_distinct c.self.inside.places.items c.self.inside.edges.items (vec_capacity c.self.inside.edges) c.self.invariant)
+    (stored_distinct c.self.inside.places.items c.self.inside.edges.items (vec_capacity c.self.inside.edges) c.self.invariant.0)
     c.swap_remove.ensures.value c.swap_remove.ensures.items)

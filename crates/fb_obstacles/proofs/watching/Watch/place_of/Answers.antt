@@ -9,7 +9,7 @@ returns-else-place-len c =
     let below : c.args.edge < length c.self.inside.places.items = rw (← c.self.view_is) at c.requires in
     rw (← c.self.view_is)
     (absent_elsewhere c.self.inside.places.items c.self.inside.edges.items (vec_capacity c.self.inside.edges) c.args.edge
-    c.index.result.now c.self.invariant
+    c.index.result.now c.self.invariant.0
     (c.index.ensures ∙ get_or_default_zero c.self.inside.places.items c.args.edge c.index.result.now below)
     (λ less here.
     elim c.else-place-len.branch [

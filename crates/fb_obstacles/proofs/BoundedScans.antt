@@ -1,0 +1,191 @@
+-- Edges that are passed over since their bounds show that they bear a step, and looks that set bounds.
+use Rattle.std.proofs.Common.{ℕ, ◌≡◌, ◌+◌, ◌-◌, ◌*◌, ◌/◌, ◌≤◌, ◌<◌, ◌⊎◌, inl, inr, Bool, true, List, [], length, get_or, set, drop, All, refl, sym, ap, ◌∙◌, subst, arith}
+use Rattle.std.proofs.lemmas.Bool.{false≢true, cases_eq, cases_lt, leb-true}
+use Rattle.std.proofs.lemmas.List.{drop_all, get_or-set_same, get_or-set_other, set_past}
+use Rattle.std.proofs.lemmas.List.Elements.{All-nil}
+use Rattle.fb_graph.specs.Problem.{Problem, edge_at, no_edge}
+use Rattle.fb_graph.specs.Certificate.{load_of}
+use Rattle.fb_graph.specs.Dual.{Node, IsDual, AreUnderOne, all_cuts}
+use Rattle.fb_graph.specs.Steps.{Roles}
+use Rattle.fb_graph.specs.Covers.{AreRoles}
+use Rattle.fb_graph.specs.declared.parts.Edge.{Edge}
+use Rattle.fb_graph.proofs.Crossings.{under_or_not}
+use Rattle.fb_laws.proofs.StepBounds.{edge_allows, edge_within_allows}
+use Rattle.fb_regions.specs.declared.roles.Role.{Role}
+use Rattle.fb_obstacles.specs.declared.obstacle.Obstacle.{Obstacle}
+use Rattle.fb_obstacles.specs.declared.looking.Look.{Look}
+use Rattle.fb_obstacles.specs.declared.looking.Look.TheVariants.{Clear, Within, Blocked}
+use Rattle.fb_obstacles.specs.Obstacles.{Obstructs, residue_at, roles_by}
+use Rattle.fb_obstacles.specs.Watched.{Watched, AreBounded}
+use Rattle.fb_obstacles.specs.InternalLooks.{BearsShrinking, BearsStep, LimitsBoth, Limits, both_looks, edge_look, fits_within}
+use Rattle.fb_obstacles.proofs.EdgeLooks.{edge_limits}
+use Rattle.fb_obstacles.proofs.EdgeScans.{IsSeen}
+use Rattle.fb_obstacles.proofs.LookLimits.{limits_before, limits_blocked, limits_passed, limits_same}
+
+-- an edge bears a step that takes at most half its residue
+residue_bears : (p : Problem) (roles : Roles) (nodes : List Node) (j k : ℕ) → IsDual p nodes → AreRoles roles nodes
+    → k < length p.edges → 2 * j ≤ residue_at p nodes k → BearsStep roles nodes j (edge_at p.edges k)
+residue_bears p roles nodes j k dual are less fits = step (under_or_not nodes e.first e.second)
+  where
+    e : Edge
+    e = edge_at p.edges k
+
+    light : load_of (all_cuts nodes) e ≤ e.weight
+    light = dual.packing.fits k no_edge less
+
+    step : AreUnderOne nodes e.first e.second ⊎ (AreUnderOne nodes e.first e.second → ⊥) → BearsStep roles nodes j e
+    step (inl under) = edge_within_allows p roles nodes j e dual are light under
+    step (inr differs) =
+        edge_allows p roles nodes j e dual are light differs (record {
+          first = λ plus other free. omega (arith, fits, light, dual.loads e differs);
+          second = λ plus other free. omega (arith, fits, light, dual.loads e differs);
+          both = λ plus more. omega (arith, fits, light, dual.loads e differs);
+        })
+
+-- what fits within a residue bounds the step by half of it
+fitting_bound : (l : Look) (residue : ℕ) → fits_within l residue ≡ true → (m : ℕ) × (l ≡ Within m) × (2 * m ≤ residue)
+fitting_bound Clear residue fits = absurd (false≢true fits)
+fitting_bound (Within m) residue fits =
+    let half : m ≤ residue / 2 = leb-true m (residue / 2) fits in (m, refl, omega (arith, half))
+fitting_bound (Blocked o) residue fits = absurd (false≢true fits)
+
+-- what a scan from the last edge to the first knows when it has come to a place: what the minus nodes and the edges from
+-- there on allow, and that bounds alone have changed
+pub record IsScanned (p : Problem) (role_of : ℕ → Role) (nodes : List Node) (names : List ℕ) (old new : Watched)
+    (place : ℕ) (l : Look) : Type 0 where
+  pub limits : LimitsBoth p (roles_by role_of) nodes names (drop place old.edges) l
+  pub within : place ≤ length old.edges
+  pub edge_count : new.edge_count ≡ old.edge_count
+  pub edges : new.edges ≡ old.edges
+  pub bounded : AreBounded (residue_at p nodes) new
+
+-- the minus nodes were looked at, and no edge yet
+pub scanned_none : (p : Problem) (role_of : ℕ → Role) (nodes : List Node) (names : List ℕ) (w : Watched) (n : ℕ) (l : Look)
+    → n ≡ length w.edges → AreBounded (residue_at p nodes) w
+    → Limits (λ j. All (BearsShrinking nodes j) names) (Obstructs p (roles_by role_of) nodes) l
+    → IsScanned p role_of nodes names w w n l
+scanned_none p role_of nodes names w n l all bounded limits = record {
+  limits = subst (λ xs. LimitsBoth p (roles_by role_of) nodes names xs l) (sym (drop_all n w.edges (omega (arith, all))))
+      (limits_same (λ j. All (BearsShrinking nodes j) names)
+      (λ j. All (BearsShrinking nodes j) names × All (λ k. BearsStep (roles_by role_of) nodes j (edge_at p.edges k)) [])
+      (Obstructs p (roles_by role_of) nodes) l
+      (λ j h. (h, All-nil (λ k. BearsStep (roles_by role_of) nodes j (edge_at p.edges k)))) (λ j h. h.0) limits);
+  within = omega (arith, all);
+  edge_count = refl;
+  edges = refl;
+  bounded = bounded;
+}
+
+-- the next edge is passed over
+pub scanned_passed : (p : Problem) (role_of : ℕ → Role) (nodes : List Node) (names : List ℕ) (old new : Watched) (n bound : ℕ)
+    (l : Look) (fits : Bool) → IsSeen p role_of nodes old.edges → IsScanned p role_of nodes names old new n l → 0 < n
+    → bound ≤ residue_at p nodes (get_or new.edges (n - 1) 0) → fits ≡ fits_within l bound → fits ≡ true
+    → IsScanned p role_of nodes names old new (n - 1) l
+scanned_passed p role_of nodes names old new n bound l fits seen scanned some bounded is_fit holds =
+    let i : ℕ = n - 1 in
+    let less : i < length old.edges = omega (arith, some, scanned.within) in
+    let next : n ≡ i + 1 = omega (arith, some) in
+    let (m, is, half) = fitting_bound l bound (sym is_fit ∙ holds) in
+    record {
+      limits = limits_passed (λ j. All (BearsShrinking nodes j) names)
+          (λ j k. BearsStep (roles_by role_of) nodes j (edge_at p.edges k))
+          (Obstructs p (roles_by role_of) nodes) old.edges i m l less is
+          (λ j le.
+          residue_bears p (roles_by role_of) nodes j (get_or old.edges i 0) seen.dual seen.roles (seen.within i 0 less)
+          (omega (arith, le, half, subst (λ xs. bound ≤ residue_at p nodes (get_or xs i 0)) scanned.edges bounded)))
+          (subst (λ x. LimitsBoth p (roles_by role_of) nodes names (drop x old.edges) l) next scanned.limits);
+      within = omega (arith, less);
+      edge_count = scanned.edge_count;
+      edges = scanned.edges;
+      bounded = scanned.bounded;
+    }
+
+-- the bound of one edge is set to at most its limit
+bounded_set : (limit : ℕ → ℕ) (w : Watched) (i x : ℕ) → AreBounded limit w → x ≤ limit (get_or w.edges i 0)
+    → AreBounded limit (record w { bounds = set w.bounds i x })
+bounded_set limit w i x bounded most j less = step (cases_eq j i) (cases_lt i (length w.bounds))
+  where
+    step : (j ≡ i) ⊎ (j ≡ i → ⊥) → (i < length w.bounds) ⊎ (length w.bounds ≤ i)
+        → get_or (set w.bounds i x) j 0 ≤ limit (get_or w.edges j 0)
+    step (inr other) some =
+        subst (λ y. y ≤ limit (get_or w.edges j 0)) (sym (get_or-set_other w.bounds i j x 0 other)) (bounded j less)
+    step (inl same) (inr past) =
+        subst (λ ys. get_or ys j 0 ≤ limit (get_or w.edges j 0)) (sym (set_past w.bounds i x past)) (bounded j less)
+    step (inl same) (inl within) =
+        subst (λ m. get_or (set w.bounds i x) m 0 ≤ limit (get_or w.edges m 0)) (sym same)
+        (subst (λ y. y ≤ limit (get_or w.edges i 0)) (sym (get_or-set_same w.bounds i x 0 within)) most)
+
+-- the bound of the edge at a place is set
+scanned_set : (p : Problem) (role_of : ℕ → Role) (nodes : List Node) (names : List ℕ) (old w new : Watched) (n i x : ℕ)
+    (l : Look) → IsScanned p role_of nodes names old w n l → x ≤ residue_at p nodes (get_or w.edges i 0)
+    → new ≡ record w { bounds = set w.bounds i x } → IsScanned p role_of nodes names old new n l
+scanned_set p role_of nodes names old w new n i x l scanned most is = record {
+  limits = scanned.limits;
+  within = scanned.within;
+  edge_count = ap (λ v. v.edge_count) is ∙ scanned.edge_count;
+  edges = ap (λ v. v.edges) is ∙ scanned.edges;
+  bounded = subst (AreBounded (residue_at p nodes)) (sym is) (bounded_set (residue_at p nodes) w i x scanned.bounded most);
+}
+
+-- the next edge gets its residue as its bound, and is passed over
+pub scanned_bounded : (p : Problem) (role_of : ℕ → Role) (nodes : List Node) (names : List ℕ) (old w new : Watched) (n k x : ℕ)
+    (l : Look) (fits : Bool) → IsSeen p role_of nodes old.edges → IsScanned p role_of nodes names old w n l → 0 < n
+    → k ≡ get_or w.edges (n - 1) 0 → x ≡ residue_at p nodes k → new ≡ record w { bounds = set w.bounds (n - 1) x }
+    → fits ≡ fits_within l x → fits ≡ true → IsScanned p role_of nodes names old new (n - 1) l
+scanned_bounded p role_of nodes names old w new n k x l fits seen scanned some at residue is is_fit holds =
+    let here : k ≡ get_or old.edges (n - 1) 0 = at ∙ ap (λ xs. get_or xs (n - 1) 0) scanned.edges in
+    let within : x ≤ residue_at p nodes (get_or w.edges (n - 1) 0) = omega (arith, residue, ap (residue_at p nodes) at) in
+    let set : IsScanned p role_of nodes names old new n l = scanned_set p role_of nodes names old w new n (n - 1) x l scanned within is in
+    scanned_passed p role_of nodes names old new n x l fits seen set some
+    (subst (λ xs. x ≤ residue_at p nodes (get_or xs (n - 1) 0)) (sym set.edges)
+    (omega (arith, residue, ap (residue_at p nodes) here)))
+    is_fit holds
+
+-- the next edge gets its residue as its bound, and is looked at
+pub scanned_more : (p : Problem) (role_of : ℕ → Role) (nodes : List Node) (names : List ℕ) (old w new : Watched) (n k x : ℕ)
+    (a b l : Look) → IsSeen p role_of nodes old.edges → IsScanned p role_of nodes names old w n a → 0 < n
+    → k ≡ get_or w.edges (n - 1) 0 → x ≡ residue_at p nodes k → new ≡ record w { bounds = set w.bounds (n - 1) x }
+    → b ≡ edge_look p role_of nodes k → l ≡ both_looks a b → IsScanned p role_of nodes names old new (n - 1) l
+scanned_more p role_of nodes names old w new n k x a b l seen before some is residue changed looked joined =
+    let i : ℕ = n - 1 in
+    let less : i < length old.edges = omega (arith, some, before.within) in
+    let next : n ≡ i + 1 = omega (arith, some) in
+    let at : ℕ = get_or old.edges i 0 in
+    let here : k ≡ at = is ∙ ap (λ xs. get_or xs i 0) before.edges in
+    let short : at < length p.edges = seen.within i 0 less in
+    let (r, parity) = seen.parity in
+    let within : x ≤ residue_at p nodes (get_or w.edges i 0) = omega (arith, residue, ap (residue_at p nodes) is) in
+    let scanned : IsScanned p role_of nodes names old new n a = scanned_set p role_of nodes names old w new n i x a before within changed in
+    record {
+      limits = subst (LimitsBoth p (roles_by role_of) nodes names (drop i old.edges)) (sym joined)
+          (limits_before (λ j. All (BearsShrinking nodes j) names)
+          (λ j m. BearsStep (roles_by role_of) nodes j (edge_at p.edges m)) (Obstructs p (roles_by role_of) nodes)
+          old.edges i a b less
+          (subst (λ m. LimitsBoth p (roles_by role_of) nodes names (drop m old.edges) a) next scanned.limits)
+          (subst
+          (Limits (λ j. BearsStep (roles_by role_of) nodes j (edge_at p.edges at)) (Obstructs p (roles_by role_of) nodes))
+          (sym (looked ∙ ap (edge_look p role_of nodes) here))
+          (edge_limits p role_of nodes r at seen.dual seen.roles parity (seen.limits.each_edge at no_edge short).even short)));
+      within = omega (arith, less);
+      edge_count = scanned.edge_count;
+      edges = scanned.edges;
+      bounded = scanned.bounded;
+    }
+
+-- where there is an obstacle, it doesn't matter which edges were looked at
+pub scanned_blocked : (p : Problem) (role_of : ℕ → Role) (nodes : List Node) (names : List ℕ) (old new : Watched) (n : ℕ)
+    (l : Look) (o : Obstacle) → l ≡ Blocked o → IsScanned p role_of nodes names old new n l
+    → LimitsBoth p (roles_by role_of) nodes names old.edges l
+scanned_blocked p role_of nodes names old new n l o is scanned =
+    limits_blocked
+    (λ j. All (BearsShrinking nodes j) names
+    × All (λ k. BearsStep (roles_by role_of) nodes j (edge_at p.edges k)) (drop n old.edges))
+    (λ j. All (BearsShrinking nodes j) names × All (λ k. BearsStep (roles_by role_of) nodes j (edge_at p.edges k)) old.edges)
+    (Obstructs p (roles_by role_of) nodes) l o is scanned.limits
+
+-- all edges were looked at or passed over
+pub scanned_all : (p : Problem) (role_of : ℕ → Role) (nodes : List Node) (names : List ℕ) (old new : Watched) (n : ℕ) (l : Look)
+    → n ≤ 0 → IsScanned p role_of nodes names old new n l → LimitsBoth p (roles_by role_of) nodes names old.edges l
+scanned_all p role_of nodes names old new n l none scanned =
+    let first : n ≡ 0 = omega (arith, none) in
+    subst (λ x. LimitsBoth p (roles_by role_of) nodes names (drop x old.edges) l) first scanned.limits

@@ -1,0 +1,123 @@
+use Rattle.std.proofs.Common.{◌≡◌, ◌-◌, length, get_or, refl, ap, subst, arith}
+use Rattle.fb_graph.specs.Dual.{IsDual}
+use Rattle.fb_obstacles.specs.Obstacles.{residue_at}
+use Rattle.fb_obstacles.proofs.BoundedScans.{IsScanned, scanned_all, scanned_blocked, scanned_bounded, scanned_more, scanned_none, scanned_passed}
+use Rattle.fb_obstacles.proofs.bounding.look_by_bounds.Goals as goal
+
+pub returns-in-Blocked-clause-limits : goal.returns-in-Blocked-clause-limits
+returns-in-Blocked-clause-limits g c =
+    scanned_blocked (g.S.Scope.problem c.args.scope.now) (g.R.Roles.role_of c.args.roles.now) c.args.regions.now.nodes (g.R.MinusNodes.minus_names c.args.roles.now) c.args.watch.now c.args.watch.now (length c.args.watch.now.edges)
+    c.look_at_minus-least.result c.in-Blocked.field-0 c.in-Blocked.is
+    (scanned_none (g.S.Scope.problem c.args.scope.now) (g.R.Roles.role_of c.args.roles.now) c.args.regions.now.nodes (g.R.MinusNodes.minus_names c.args.roles.now) c.args.watch.now (length c.args.watch.now.edges) c.look_at_minus-least.result refl c.requires.bounded
+    (c.look_at_minus-least.ensures (g.S.Scope.problem c.args.scope.now)))
+
+pub loop-place-init : goal.loop-place-init
+loop-place-init g c = record {
+  scanned = scanned_none (g.S.Scope.problem c.args.scope.now) (g.R.Roles.role_of c.args.roles.now) c.args.regions.now.nodes (g.R.MinusNodes.minus_names c.args.roles.now) c.args.watch.now c.len-place.result c.look_at_minus-least.result
+      c.len-place.ensures c.requires.bounded (c.look_at_minus-least.ensures (g.S.Scope.problem c.args.scope.now));
+  never_falls = omega arith;
+  counted = omega arith;
+}
+
+pub loop-place-preserved-then-fits_within : goal.loop-place-preserved-then-fits_within
+loop-place-preserved-then-fits_within g c =
+    record {
+      scanned = scanned_passed (g.S.Scope.problem c.args.scope.now) (g.R.Roles.role_of c.args.roles.now) c.args.regions.now.nodes (g.R.MinusNodes.minus_names c.args.roles.now) c.args.watch.now c.loop-place.watch c.loop-place.place c.bound_at.result
+          c.loop-place.least c.fits_within.result
+          (record {
+            dual = subst (λ s. IsDual (g.S.Scope.problem s) c.args.regions.now.nodes) c.requires.same c.keeps_dual.ensures;
+            roles = c.requires.roles;
+            parity = c.requires.parity;
+            limits = c.limits.ensures;
+            within = c.requires.within;
+          })
+          c.loop-place.invariant.scanned c.loop-place-test.true
+          (omega (
+            arith,
+            c.bound_at.ensures,
+            c.loop-place.invariant.scanned.bounded (c.loop-place.place - 1)
+                (omega (arith, ap length c.loop-place.invariant.scanned.edges)),
+          ))
+          c.fits_within.ensures c.if-fits_within.true;
+      never_falls = c.loop-place.invariant.never_falls;
+      counted = omega (arith, c.loop-place.invariant.counted);
+    }
+
+pub loop-place-preserved-then-fits_within-2 : goal.loop-place-preserved-then-fits_within-2
+loop-place-preserved-then-fits_within-2 g c =
+    record {
+      scanned = scanned_bounded (g.S.Scope.problem c.args.scope.now) (g.R.Roles.role_of c.args.roles.now) c.args.regions.now.nodes (g.R.MinusNodes.minus_names c.args.roles.now) c.args.watch.now c.loop-place.watch c.set_bound.new.self
+          c.loop-place.place (get_or c.edges.result.now (c.loop-place.place - 1) 0) c.residue-residue.result c.loop-place.least c.fits_within-in-loop-place.result
+          (record {
+            dual = subst (λ s. IsDual (g.S.Scope.problem s) c.args.regions.now.nodes) c.requires.same c.keeps_dual.ensures;
+            roles = c.requires.roles;
+            parity = c.requires.parity;
+            limits = c.limits.ensures;
+            within = c.requires.within;
+          })
+          c.loop-place.invariant.scanned c.loop-place-test.true
+          (ap (λ xs. get_or xs (c.loop-place.place - 1) 0) c.edges.ensures)
+          (subst (λ s. c.residue-residue.result ≡ residue_at (g.S.Scope.problem s) c.args.regions.now.nodes (get_or c.edges.result.now (c.loop-place.place - 1) 0))
+          c.requires.same c.residue-residue.ensures.heights)
+          c.set_bound.ensures
+          c.fits_within-in-loop-place.ensures c.if-fits_within-2.true;
+      never_falls = omega (arith, c.loop-place.invariant.never_falls);
+      counted = omega (arith, c.loop-place.invariant.counted);
+    }
+
+pub loop-place-preserved : goal.loop-place-preserved
+loop-place-preserved g c =
+    record {
+      scanned = scanned_more (g.S.Scope.problem c.args.scope.now) (g.R.Roles.role_of c.args.roles.now) c.args.regions.now.nodes (g.R.MinusNodes.minus_names c.args.roles.now) c.args.watch.now c.loop-place.watch c.set_bound.new.self
+          c.loop-place.place (get_or c.edges.result.now (c.loop-place.place - 1) 0) c.residue-residue.result c.loop-place.least c.look_with.result c.and-least.result
+          (record {
+            dual = subst (λ s. IsDual (g.S.Scope.problem s) c.args.regions.now.nodes) c.requires.same c.keeps_dual.ensures;
+            roles = c.requires.roles;
+            parity = c.requires.parity;
+            limits = c.limits.ensures;
+            within = c.requires.within;
+          })
+          c.loop-place.invariant.scanned c.loop-place-test.true
+          (ap (λ xs. get_or xs (c.loop-place.place - 1) 0) c.edges.ensures)
+          (subst (λ s. c.residue-residue.result ≡ residue_at (g.S.Scope.problem s) c.args.regions.now.nodes (get_or c.edges.result.now (c.loop-place.place - 1) 0))
+          c.requires.same c.residue-residue.ensures.heights)
+          c.set_bound.ensures
+          c.look_with.ensures c.and-least.ensures;
+      never_falls = omega (arith, c.loop-place.invariant.never_falls);
+      counted = omega (arith, c.loop-place.invariant.counted);
+    }
+
+pub returns-in-Blocked-least : goal.returns-in-Blocked-least
+returns-in-Blocked-least g c =
+    let scanned : IsScanned (g.S.Scope.problem c.args.scope.now) (g.R.Roles.role_of c.args.roles.now) c.args.regions.now.nodes (g.R.MinusNodes.minus_names c.args.roles.now) c.args.watch.now c.set_bound.new.self (c.loop-place.place - 1) c.and-least.result =
+    scanned_more (g.S.Scope.problem c.args.scope.now) (g.R.Roles.role_of c.args.roles.now) c.args.regions.now.nodes (g.R.MinusNodes.minus_names c.args.roles.now) c.args.watch.now c.loop-place.watch c.set_bound.new.self
+    c.loop-place.place (get_or c.edges.result.now (c.loop-place.place - 1) 0) c.residue-residue.result c.loop-place.least c.look_with.result c.and-least.result
+    (record {
+      dual = subst (λ s. IsDual (g.S.Scope.problem s) c.args.regions.now.nodes) c.requires.same c.keeps_dual.ensures;
+      roles = c.requires.roles;
+      parity = c.requires.parity;
+      limits = c.limits.ensures;
+      within = c.requires.within;
+    })
+    c.loop-place.invariant.scanned c.loop-place-test.true
+    (ap (λ xs. get_or xs (c.loop-place.place - 1) 0) c.edges.ensures)
+    (subst (λ s. c.residue-residue.result ≡ residue_at (g.S.Scope.problem s) c.args.regions.now.nodes (get_or c.edges.result.now (c.loop-place.place - 1) 0))
+    c.requires.same c.residue-residue.ensures.heights)
+    c.set_bound.ensures
+    c.look_with.ensures c.and-least.ensures in
+    record {
+      limits = scanned_blocked (g.S.Scope.problem c.args.scope.now) (g.R.Roles.role_of c.args.roles.now) c.args.regions.now.nodes (g.R.MinusNodes.minus_names c.args.roles.now) c.args.watch.now c.set_bound.new.self (c.loop-place.place - 1)
+          c.and-least.result c.in-Blocked-least.field-0 c.in-Blocked-least.is scanned;
+      watched = (scanned.edge_count, scanned.edges);
+      bounded = scanned.bounded;
+      looks = (omega (arith, c.loop-place.invariant.never_falls), omega (arith, c.loop-place.invariant.counted));
+    }
+
+pub returns : goal.returns
+returns g c = record {
+  limits = scanned_all (g.S.Scope.problem c.args.scope.now) (g.R.Roles.role_of c.args.roles.now) c.args.regions.now.nodes (g.R.MinusNodes.minus_names c.args.roles.now) c.args.watch.now c.loop-place.watch c.loop-place.place c.loop-place.least
+      c.loop-place-test.false c.loop-place.invariant.scanned;
+  watched = (c.loop-place.invariant.scanned.edge_count, c.loop-place.invariant.scanned.edges);
+  bounded = c.loop-place.invariant.scanned.bounded;
+  looks = (c.loop-place.invariant.never_falls, omega (arith, c.loop-place.invariant.counted));
+}

@@ -1,0 +1,62 @@
+ghost use Rattle.std.specs.Prelude.{◌≡◌, ◌+◌, ◌<◌, ◌≤◌, length, All};
+ghost use Rattle.fb_graph.specs.Covers.{AreRoles};
+ghost use Rattle.fb_obstacles.specs.Obstacles.{HavePlusParity, ListsMinus, residue_at, roles_by};
+ghost use Rattle.fb_obstacles.specs.Watched.{AreBounded};
+ghost use Rattle.fb_obstacles.specs.InternalLooks.{LimitsBoth};
+
+use crate::ends::keeps_dual;
+use crate::looking::{Look, look_with};
+use crate::shrinking::{MinusNodes, look_at_minus};
+use crate::watching::Watch;
+use fb_graph::{Scope, Steps};
+use fb_regions::Regions;
+use std::sync::ledger::Ledger;
+
+/// A look at all minus nodes and watched edges, up to the first obstacle. Passes over each edge whose bound shows that it
+/// bears what the others allow, and sets the bound of each edge that it looks at to its residue.
+///
+/// Goes from the last edge to the first: the last ones have no bound yet, and mostly limit the step.
+pub fn look_by_bounds<S: Scope, R: MinusNodes, L: Ledger>(
+    watch: &mut Watch,
+    scope: &S,
+    regions: &Regions<S>,
+    roles: &R,
+    looks: &mut Steps<L>,
+) -> Look
+    requires same { regions.now.scope ≡ scope.now }
+    requires roles { AreRoles (roles_by (R.role_of roles.now)) regions.now.nodes }
+    requires minus { ListsMinus (roles_by (R.role_of roles.now)) regions.now.nodes (R.minus_names roles.now) }
+    requires parity { HavePlusParity (roles_by (R.role_of roles.now)) regions.now.nodes }
+    requires within { All (λ k. k < length (S.problem scope.now).edges) watch.old.edges }
+    requires bounded { AreBounded (residue_at (S.problem scope.now) regions.now.nodes) watch.old }
+    ensures limits { LimitsBoth (S.problem scope.now) (roles_by (R.role_of roles.now)) regions.now.nodes (R.minus_names roles.now) watch.old.edges result }
+    ensures watched { (watch.new.edge_count ≡ watch.old.edge_count) × (watch.new.edges ≡ watch.old.edges) }
+    ensures bounded { AreBounded (residue_at (S.problem scope.now) regions.now.nodes) watch.new }
+    ensures looks { (looks.old ≤ looks.new) × (looks.new ≤ looks.old + length watch.old.edges) }
+{
+    keeps_dual(regions);
+    scope.limits();
+    let mut least = look_at_minus(regions, roles);
+    if let Look::Blocked(_) = least {
+        return least;
+    }
+    let mut place = watch.len();
+    while place > 0 {
+        place -= 1;
+        if least.fits_within(watch.bound_at(place)) {
+            continue;
+        }
+        looks.tick();
+        let edge = watch.edges()[place];
+        let residue = regions.residue(edge);
+        watch.set_bound(place, residue);
+        if least.fits_within(residue) {
+            continue;
+        }
+        least = least.and(look_with(edge, residue, scope, regions, roles));
+        if let Look::Blocked(_) = least {
+            return least;
+        }
+    }
+    least
+}
