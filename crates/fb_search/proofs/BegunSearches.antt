@@ -1,5 +1,5 @@
 -- A search that begins keeps what every search keeps.
-use Rattle.std.proofs.Common.{ℕ, ◌≡◌, ◌==◌, ◌<◌, ◌||◌, ◌⊎◌, inl, inr, Bool, cond, true, false, List, [], length, All, Option, Some, None, refl, sym, ap, ◌∙◌}
+use Rattle.std.proofs.Common.{ℕ, ◌≡◌, ◌==◌, ◌<◌, ◌≤◌, ◌||◌, ◌⊎◌, inl, inr, Bool, cond, true, false, List, [], length, get_or, All, Option, Some, None, refl, sym, ap, ◌∙◌, arith}
 use Rattle.std.proofs.lemmas.Bool.{false≢true, eq-eqb, eqb-true, ne_eqb}
 use Rattle.fb_graph.specs.Parity.{is_in, differ}
 use Rattle.fb_graph.specs.Problem.{Problem, edge_at, touches, no_edge}
@@ -11,7 +11,7 @@ use Rattle.fb_laws.proofs.SearchTrees.{cover_set}
 use Rattle.fb_laws.proofs.StateMoves.{search_from_root}
 use Rattle.fb_trees.specs.Rooted.{bare}
 use Rattle.fb_obstacles.specs.Watched.{Watched}
-use Rattle.fb_obstacles.specs.Obstacles.{grows}
+use Rattle.fb_obstacles.specs.Obstacles.{grows, residue_at}
 use Rattle.fb_regions.specs.declared.roles.Role.TheVariants.{Plus, Minus, Out}
 use Rattle.fb_plan.specs.Plans.{PlanTree, problem_at}
 use Rattle.fb_search.specs.Searching.{IsSearching, SearchValue, roles_in}
@@ -60,9 +60,9 @@ touches_second p k limits less =
 pub begun_searching : (root : ℕ) (part : PartValue) (old new : Watched) → IsPart part
     → IsWithinLimits (problem_in part) → is_in part.matching.unmatched root ≡ true
     → All (λ e. e < new.edge_count) new.edges → old.edge_count ≡ length (problem_in part).edges
-    → Watches (problem_in part) (top_at part.nodes root) old new
+    → old.edges ≡ [] → Watches (problem_in part) (top_at part.nodes root) old new
     → IsSearching (record { part = part; tree = bare root; watched = new })
-begun_searching root part old new are limits within below room watched = record {
+begun_searching root part old new are limits within below room empty watched = record {
   job = are.job;
   slot = are.slot;
   node = are.node;
@@ -75,8 +75,13 @@ begun_searching root part old new are limits within below room watched = record 
     within = rw (← watched.room ∙ room) below;
     near = λ k less over apart. near k less over;
   };
+  bounds = watched.bounds (residue_at (problem_in part) part.nodes) (λ i less. none i less);
 }
   where
+    none : (i : ℕ) → i < length old.edges
+        → get_or old.bounds i 0 ≤ residue_at (problem_in part) part.nodes (get_or old.edges i 0)
+    none i less = absurd (omega (arith, ap length empty, less))
+
     near : (k : ℕ) → k < length (problem_in part).edges
         → (is_over (roles_in (begun root part new)).is_plus part.nodes (edge_at (problem_in part).edges k).first ≡ true)
         ⊎ (is_over (roles_in (begun root part new)).is_plus part.nodes (edge_at (problem_in part).edges k).second ≡ true)
@@ -97,7 +102,7 @@ pub kept_watches : (part : PartValue) (g : DecodingGraph) (t : PlanTree) (n : �
     → g ≡ part.job.graph → Watches (problem_at g t n []) vs old new → Watches (problem_in part) vs old new
 kept_watches part g t n vs old new eg watches =
     let w : Watches (problem_at part.job.graph t n []) vs old new = rw (← eg) watches in
-    record { room = w.room; kept = w.kept; near = w.near }
+    record { room = w.room; kept = w.kept; near = w.near; bounds = w.bounds }
 
 pub same_scope : (g h : DecodingGraph) (t s : PlanTree) (n m : ℕ) → g ≡ h → t ≡ s → n ≡ m
     → problem_at g t n [] ≡ problem_at h s m []

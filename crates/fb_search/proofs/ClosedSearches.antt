@@ -7,6 +7,7 @@ use Rattle.fb_graph.specs.Certificate.{AreDistinct}
 use Rattle.fb_graph.specs.Limits.{IsWithinLimits}
 use Rattle.fb_graph.specs.Dual.{is_live}
 use Rattle.fb_graph.specs.Moves.{MayJoin, joined}
+use Rattle.fb_graph.proofs.JoinedNests.{height}
 use Rattle.fb_graph.proofs.Sets.{is_in-tail}
 use Rattle.fb_links.specs.declared.cycle.CycleStep.{CycleStep}
 use Rattle.fb_blossoms.specs.Nodes.{Adds}
@@ -27,6 +28,7 @@ use Rattle.fb_half.specs.Matchings.{MatchingValue, listed_names, match_links}
 use Rattle.fb_half.specs.Parts.{AreAgreed}
 use Rattle.fb_half.specs.Translations.{link_by}
 use Rattle.fb_half.specs.Values.{IsScopeOf}
+use Rattle.fb_obstacles.specs.Obstacles.{residue_at}
 use Rattle.fb_obstacles.specs.Watched.{Watched}
 use Rattle.fb_search.specs.InternalClosings.{IsReplacedBy, WatchesMinus}
 use Rattle.fb_search.specs.Progress.{GoesOn}
@@ -40,6 +42,7 @@ use Rattle.fb_search.proofs.JoinConditions.{cycle_within, outer_made}
 use Rattle.fb_search.proofs.JoinLinks.{links_closed}
 use Rattle.fb_search.proofs.JoinMatchings.{matching_closed}
 use Rattle.fb_search.proofs.JoinStates.{less_after, state_after}
+use Rattle.fb_search.proofs.KeptBounds.{bounded_still}
 use Rattle.fb_search.proofs.KeptNodes.{beside_joined}
 use Rattle.fb_search.proofs.ScopeWalks.{scoped}
 use Rattle.fb_search.proofs.TakenNames.{without_taken}
@@ -145,6 +148,12 @@ module _ (w : SearchValue) (a b closing : ℕ) (closes : Closes w a b closing) (
           is.paths closes.search.state.1)
           watches closes.search.watch
           (subst (λ n. All (λ k. k < n) watched.edges) (watches.room ∙ closes.search.room) below);
+      bounds =
+          bounded_still (problem_of w) w.part.nodes (joined name cycle w.part.nodes) watched
+          (height (problem_of w) w.part.nodes name cycle
+          (subst (MayJoin w.part.nodes name) is.nodes (steps_join w a b closing closes steps is name new_name))
+          closes.search.state.1.search.nest)
+          (watches.bounds (residue_at (problem_of w) w.part.nodes) closes.search.bounds);
     }
 
     others_kept : (n : ℕ) → is_in (without after.tree.root matching.unmatched) n

@@ -183,4 +183,4 @@ pub watches_minus : (part : PartValue) (g : DecodingGraph) (t : PlanTree) (n : �
     → WatchesMinus (problem_in part) nodes tree names old new
 watches_minus part g t n nodes tree names old new eg watches =
     let w : WatchesMinus (problem_at part.job.graph t n []) nodes tree names old new = rw (← eg) watches in
-    record { room = w.room; kept = w.kept; near = w.near }
+    record { room = w.room; kept = w.kept; near = w.near; bounds = w.bounds }

@@ -108,7 +108,7 @@ path_links : (es : List (EntryOf ℕ)) → match_links (map path_match es) ≡ g
 path_links [] = refl
 path_links (e ∷ es) = ap (λ l. e.tree ∷ l) (path_links es)
 
-beside_links : (es : List (EntryOf ℕ)) → match_links (map beside_match es) ≡ paired_links es
+pub beside_links : (es : List (EntryOf ℕ)) → match_links (map beside_match es) ≡ paired_links es
 beside_links [] = refl
 beside_links (e ∷ es) = ap (λ l. e.matched ∷ l) (beside_links es)
 

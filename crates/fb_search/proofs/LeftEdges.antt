@@ -37,7 +37,7 @@ if_false b x y e = ap (λ t. if t then x else y) e
 
 -- edge after edge
 pub watched_first : (p : Problem) (nodes : List Node) (w : Watched) → WatchesOuter p nodes [] w w
-watched_first p nodes w = record { room = refl; watched = λ k. refl }
+watched_first p nodes w = record { room = refl; watched = λ k. refl; bounds = λ limit right. right }
 
 pub watched_more : (p : Problem) (nodes : List Node) (edges : List ℕ) (i : ℕ) (a b c : Watched) → i < length edges
     → WatchesOuter p nodes (take i edges) a b → WatchesOuter p nodes (get_or edges i 0 ∷ []) b c
@@ -46,6 +46,7 @@ watched_more p nodes edges i a b c lt before more =
     subst (λ l. WatchesOuter p nodes l a c) (sym (take_more edges i 0 lt)) (record {
       room = more.room ∙ before.room;
       watched = by;
+      bounds = λ limit right. more.bounds limit (before.bounds limit right);
     })
   where
     both : (e h x y : Bool) → (if e || false then x else (if h then x else y)) ≡ (if h || e then x else y)
@@ -73,6 +74,7 @@ pub taken_watched : (p : Problem) (nodes : List Node) (v : ℕ) (edges : List �
     → WatchesOuter p nodes edges old new → WatchesTaken p nodes v old new
 taken_watched p nodes v edges old new e outer = record {
   room = outer.room;
+  bounds = outer.bounds;
   watched = λ k less.
       outer.watched k
       ∙ ap (λ t. if t then not (is_inner nodes (edge_at p.edges k)) else is_in old.edges k)
@@ -101,4 +103,4 @@ pub kept_taken : (part : PartValue) (g : DecodingGraph) (t : PlanTree) (n taken 
     → WatchesTaken (problem_at g t n []) now taken old new → WatchesTaken (problem_in part) nodes v old new
 kept_taken part g t n taken v now later nodes old new eg at same is watches =
     let w : WatchesTaken (problem_at part.job.graph t n []) nodes v old new = rw (← eg, ← at, ← is, ← same) watches in
-    record { room = w.room; watched = w.watched }
+    record { room = w.room; watched = w.watched; bounds = w.bounds }

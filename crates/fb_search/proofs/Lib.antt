@@ -12,6 +12,9 @@ pub mod ClosedSearches
 pub mod ClosedWatches
 pub mod CoversBefore
 pub mod Cycles
+pub mod DissolvedParts
+pub mod DissolvedStates
+pub mod DissolvedTrees
 pub mod DroppedLinks
 pub mod EdgeMeets
 pub mod EndSteps
@@ -30,6 +33,7 @@ pub mod JoinConditions
 pub mod JoinLinks
 pub mod JoinMatchings
 pub mod JoinStates
+pub mod KeptBounds
 pub mod KeptNodes
 pub mod KeptWatches
 pub mod LeftEdges
@@ -40,6 +44,11 @@ pub mod Matched
 pub mod MetMatches
 pub mod MetOutside
 pub mod MetPairs
+pub mod NearEdges
+pub mod NearGrowth
+pub mod NearMatches
+pub mod NearPairs
+pub mod NearParts
 pub mod NextObstacles
 pub mod NodeTurns
 pub mod OpenedAlong
@@ -62,7 +71,9 @@ pub mod ReleasedMatches
 pub mod Renamed
 pub mod ReplacedNames
 pub mod RolesInTree
+pub mod RoundPaces
 pub mod RoundPlaces
+pub mod RoundSteps
 pub mod RoundedLinks
 pub mod RoundedSearches
 pub mod Runs

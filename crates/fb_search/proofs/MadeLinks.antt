@@ -78,6 +78,7 @@ searching_relinked w some more new are stays links = record {
   };
   room = are.room;
   watch = are.watch;
+  bounds = are.bounds;
 }
   where
     tree : List ℕ

@@ -18,7 +18,8 @@ use Rattle.fb_trees.proofs.Mapped as mapped
 use Rattle.fb_half.specs.Parts.{shot_of}
 use Rattle.fb_half.specs.Translations.{link_by}
 use Rattle.fb_obstacles.specs.declared.obstacle.Obstacle.{Obstacle}
-use Rattle.fb_obstacles.specs.Obstacles.{HavePlusParity, IsObstacle, IsWatched, ListsMinus}
+use Rattle.fb_obstacles.specs.Obstacles.{HavePlusParity, IsObstacle, IsWatched, ListsMinus, residue_at}
+use Rattle.fb_obstacles.specs.Watched.{AreBounded, Watched}
 use Rattle.fb_search.specs.Searching.{IsSearching, SearchValue, problem_of, roles_in}
 use Rattle.fb_search.proofs.ExchangedObstacles.{obstacle_exchanged}
 use Rattle.fb_search.proofs.Runs.{tree_roles}
@@ -76,6 +77,9 @@ module _ (w : SearchValue) (are : IsSearching w) where
     pub next_watched : IsWatched (problem_at g t n []) (roles_in w) w.part.nodes w.watched.edges
     next_watched = rw eg (record { within = are.watch.within; near = λ k less over apart. are.watch.near k less over apart })
 
+    pub next_bounded : AreBounded (residue_at (problem_at g t n []) w.part.nodes) w.watched
+    next_bounded = rw eg (λ i less. are.bounds i less)
+
     pub next_is : (o : Obstacle) → IsObstacle (problem_at g t n []) (roles_in w) w.part.nodes o
         → IsObstacle (problem_of w) (roles_in w) w.part.nodes o
     next_is o is =
@@ -83,3 +87,22 @@ module _ (w : SearchValue) (are : IsSearching w) where
         rw (← eg, ← et, ← en) is in
         obstacle_exchanged (problem_at w.part.job.graph w.part.job.plan w.part.node []) (is_in (shot_of w.part)) (roles_in w)
         w.part.nodes o there
+
+    -- the search with bounds that are right of the same edges
+    pub searching_rebounded : (now : Watched)
+        → (now.edge_count ≡ w.watched.edge_count) × (now.edges ≡ w.watched.edges)
+        → AreBounded (residue_at (problem_at g t n []) w.part.nodes) now → IsSearching (record w { watched = now })
+    searching_rebounded now same bounded = record {
+      job = are.job;
+      slot = are.slot;
+      node = are.node;
+      state = are.state;
+      agreed = are.agreed;
+      links = are.links;
+      matching = are.matching;
+      room = same.0 ∙ are.room;
+      watch = subst (IsWatched (problem_of w) (roles_in w) w.part.nodes) (sym same.1) are.watch;
+      bounds =
+          let here : AreBounded (residue_at (problem_at w.part.job.graph t n []) w.part.nodes) now = rw (← eg) bounded in
+          λ i less. here i less;
+    }

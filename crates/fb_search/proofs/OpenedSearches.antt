@@ -1,13 +1,17 @@
 -- A minus blossom opened keeps what every search keeps, and leaves less to do.
 use Rattle.std.proofs.Common.{ℕ, true, false, List, Option, refl, ap, ◌∙◌}
 use Rattle.fb_graph.specs.Limits.{IsWithinLimits}
+use Rattle.fb_graph.specs.Moves.{split}
+use Rattle.fb_graph.proofs.SplitNests.{height}
 use Rattle.fb_blossoms.specs.Nodes as blossoms
 use Rattle.fb_laws.specs.Trees.{EntryOf}
 use Rattle.fb_trees.specs.Branches.{Grown}
+use Rattle.fb_obstacles.specs.Obstacles.{residue_at}
 use Rattle.fb_obstacles.specs.Watched.{Watched}
 use Rattle.fb_search.specs.Progress.{GoesOn}
 use Rattle.fb_search.specs.Searching.{IsSearching, SearchValue, problem_of}
 use Rattle.fb_search.proofs.Agreed.{agreed_split}
+use Rattle.fb_search.proofs.KeptBounds.{bounded_still}
 use Rattle.fb_search.proofs.KeptNodes.{beside_split}
 use Rattle.fb_search.proofs.OpenedConditions.{rest, way_opens}
 use Rattle.fb_search.proofs.OpenedLinks.{Table}
@@ -33,6 +37,10 @@ module _ (w : SearchValue) (name : ℕ) (e : EntryOf ℕ) (above below : ℕ) (a
     matching = matching_opened w name e above below are opens links store tree watched has;
     room = has.watches.room ∙ are.room;
     watch = watch_opened w name e above below are opens links store tree watched has limits;
+    bounds =
+        bounded_still (problem_of w) w.part.nodes (split name w.part.nodes) watched
+        (height (problem_of w) w.part.nodes name opens.may_split are.state.1.search.nest)
+        (has.watches.bounds (residue_at (problem_of w) w.part.nodes) are.bounds);
   }
 
   pub goes_on_opened : HasOpened w name above below links store tree watched

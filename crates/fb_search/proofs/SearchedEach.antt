@@ -13,7 +13,7 @@ use Rattle.fb_search.specs.Progress.{HasSearchedEach, IsSearched}
 use Rattle.fb_search.proofs.Runs.{same_problem}
 
 -- a list without a name doesn't hold it
-gone : (name : ℕ) (xs : List ℕ) (n : ℕ) → is_in (without name xs) n ≡ true → (name == n) ≡ false
+pub gone : (name : ℕ) (xs : List ℕ) (n : ℕ) → is_in (without name xs) n ≡ true → (name == n) ≡ false
 gone name xs n there =
     equal_sym name n
     ∙ not-true (n == name)

@@ -89,6 +89,7 @@ pub watched_both : (p : Problem) (vs us : List ℕ) (a b c : Watched) → Watche
     → Watches p (vs ++ us) a c
 watched_both p vs us a b c first second = record {
   room = second.room ∙ first.room;
+  bounds = λ limit right. second.bounds limit (first.bounds limit right);
   kept = λ k h. second.kept k (first.kept k h);
   near = λ v k mem below touch. near v k below touch (or_cases (is_in vs v) (is_in us v) (sym (is_in-append vs us v) ∙ mem));
 }
@@ -122,4 +123,9 @@ seconds_hold P way i d lt all =
     )
 
 pub watched_none : (p : Problem) (w : Watched) → Watches p [] w w
-watched_none p w = record { room = refl; kept = λ k h. h; near = λ v k mem below touch. absurd (false≢true mem) }
+watched_none p w = record {
+  room = refl;
+  kept = λ k h. h;
+  near = λ v k mem below touch. absurd (false≢true mem);
+  bounds = λ limit right. right;
+}

@@ -1,33 +1,39 @@
 -- A step of the tree keeps what every search keeps.
-use Rattle.std.proofs.Common.{ℕ, ◌≡◌, ◌+◌, ◌%◌, ◌⊎◌, inl, inr, true, List, [], ◌∷◌, ◌++◌, Option, Some, None, refl, sym, ap, ◌∙◌, subst}
+use Rattle.std.proofs.Common.{ℕ, ◌≡◌, ◌+◌, ◌*◌, ◌%◌, ◌^◌, ◌≤◌, ◌⊎◌, inl, inr, Bool, true, false, map, List, [], ◌∷◌, ◌++◌, Option, Some, None, refl, sym, ap, ◌∙◌, subst, arith}
 use Rattle.std.proofs.lemmas.List.Elements.{All-weaker}
+use Rattle.fb_graph.specs.Counts.{as_count}
+use Rattle.fb_graph.specs.Parity.{is_in}
 use Rattle.fb_graph.specs.Problem.{Problem, edge_at}
 use Rattle.fb_graph.specs.declared.parts.Cut.{Cut}
 use Rattle.fb_graph.specs.Laws.{Link}
 use Rattle.fb_graph.specs.Limits.{DecodingGraph, IsWithinLimits}
 use Rattle.fb_graph.specs.Covers.{is_over, passes}
-use Rattle.fb_graph.specs.Dual.{AreUnderOne, Node, cover_of, first_vertices}
+use Rattle.fb_graph.specs.Dual.{AreUnderOne, Node, all_cuts, cover_of, first_vertices, height_of}
 use Rattle.fb_graph.specs.Nests.{first_set}
 use Rattle.fb_graph.specs.Steps.{MayStep, Roles, stepped, stepped_node}
 use Rattle.fb_graph.proofs.Among.{among_All}
 use Rattle.fb_graph.proofs.MappedNodes.{AreKept, mapped_outer}
-use Rattle.fb_graph.proofs.StepHeights.{cover_stepped}
+use Rattle.fb_graph.proofs.StepHeights.{cover_stepped, height_stepped}
 use Rattle.fb_laws.specs.LinkNumbers.{tree_links}
 use Rattle.fb_laws.specs.PartStates.{IsSearchState}
 use Rattle.fb_laws.specs.Searches.{LeavesNode}
-use Rattle.fb_laws.specs.Trees.{Connects, roles_of}
+use Rattle.fb_laws.specs.Trees.{Connects, plus_names, roles_of}
 use Rattle.fb_laws.proofs.CycleMoves.{live_mapped}
+use Rattle.fb_laws.proofs.JoinedThree.{root_plus}
 use Rattle.fb_laws.proofs.StateMoves.{state_stepped}
+use Rattle.fb_regions.proofs.Readings.{height-le}
+use Rattle.fb_trees.proofs.Mapped.{plus_moved}
 use Rattle.fb_half.specs.Matchings.{IsMatchOf, match_links}
 use Rattle.fb_half.specs.Parts.{AreLinksOf}
-use Rattle.fb_half.specs.Translations.{link_by}
+use Rattle.fb_half.specs.Translations.{entry_by, link_by}
 use Rattle.fb_obstacles.specs.Obstacles.{IsWatched}
 use Rattle.fb_plan.specs.Plans.{PlanTree, problem_at}
 use Rattle.fb_search.specs.InternalSteps.{IsTreeOver}
 use Rattle.fb_search.specs.Progress.{stepped_by}
 use Rattle.fb_search.specs.Searching.{IsSearching, SearchValue, problem_of, roles_in, state_at}
+use Rattle.fb_search.proofs.KeptBounds.{bounded_stepped}
 use Rattle.fb_search.proofs.Relayered.{agreed_relayered, ring_relayered}
-use Rattle.fb_search.proofs.Runs.{roles_by_numbers}
+use Rattle.fb_search.proofs.Runs.{roles_by_numbers, tree_roles}
 use Rattle.fb_search.proofs.SearchRoles.{no_odd_closed, roles_in_tree}
 
 module _ (roles : Roles) (k : ℕ) (nodes : List Node) where
@@ -118,7 +124,33 @@ searching_stepped w k are limits may =
       };
       room = are.room;
       watch = watch_stepped roles k w.part.nodes (problem_of w) (roles_in w) w.watched.edges are.watch;
+      bounds =
+          bounded_stepped roles w.part.nodes k are.state.1.search.nest.dual.apart (tree_roles w are) may.tops (problem_of w)
+          w.watched are.bounds;
     }
+
+-- what is below a potential after a step that raises it
+risen-le : (k old new : ℕ) (minus plus : Bool) → new + k * as_count minus ≡ old + k * as_count plus → minus ≡ false
+    → plus ≡ true → k ≤ new
+risen-le k old new false true law is_minus is_plus = omega (arith, law)
+risen-le k old new true plus law is_minus is_plus = cc
+risen-le k old new false false law is_minus is_plus = cc
+
+-- A step is no longer than the greatest potential after it.
+pub length_fits : (w : SearchValue) (k : ℕ) → IsSearching w → IsSearching (stepped_by k w)
+    → MayStep (problem_of w) (roles_of w.tree.root w.tree.branches) w.part.nodes k → k ≤ 2 ^ 52
+length_fits w k are after may =
+    let roles : Roles = roles_of w.tree.root w.tree.branches in
+    let (d, leaf, cover) = are.state.1.search.search.root_is in
+    let plus : is_in (plus_names w.tree.root w.tree.branches) w.tree.root ≡ true =
+    ap (λ names. is_in names w.tree.root) (sym (plus_moved (link_by w.part.links) w.tree.root w.tree.branches))
+    ∙ root_plus w.tree.root (map (entry_by w.part.links) w.tree.branches) in
+    let least =
+    risen-le k (height_of (all_cuts w.part.nodes) d) (height_of (all_cuts (stepped roles k w.part.nodes)) d)
+    (is_over roles.is_minus w.part.nodes d) (is_over roles.is_plus w.part.nodes d)
+    (height_stepped roles w.part.nodes k d are.state.1.search.nest.dual.apart (tree_roles w are) may.tops)
+    (ap (passes roles.is_minus) cover ∙ (tree_roles w are).exclusive w.tree.root plus) (ap (passes roles.is_plus) cover ∙ plus) in
+    omega (arith, least, height-le (problem_of w) (stepped roles k w.part.nodes) d after.state.1.search.nest)
 
 -- The scope of the part tells no defects, which a step doesn't ask for.
 pub tree_in_scope : (w : SearchValue) (g : DecodingGraph) (t : PlanTree) (n : ℕ) → g ≡ w.part.job.graph

@@ -23,7 +23,7 @@ use Rattle.fb_laws.proofs.StateMoves.{state_taken_up}
 use Rattle.fb_regions.specs.Moves.{absorbed, inner_end, outer_end}
 use Rattle.fb_trees.proofs.Mapped.{plus_moved}
 use Rattle.fb_half.specs.Translations.{link_by}
-use Rattle.fb_obstacles.specs.Obstacles.{IsAbsorb, IsWatched}
+use Rattle.fb_obstacles.specs.Obstacles.{IsAbsorb, IsWatched, residue_at}
 use Rattle.fb_obstacles.specs.Watched.{Watched}
 use Rattle.fb_search.specs.Progress.{GoesOn}
 use Rattle.fb_search.specs.Searching.{IsSearching, SearchValue, problem_of, roles_in, state_at}
@@ -125,6 +125,7 @@ searching_raised w k u v name new are limits may within watched =
       within = subst (λ n. All (λ j. j < n) new.edges) (watched.room ∙ are.room) within;
       near = near_taken (problem_of w) (roles_in w) w.part.nodes name v limits w.watched new watched are.watch;
     })
+    (watched.bounds (residue_at (problem_of w) w.part.nodes) are.bounds)
   where
     outer : is_outer w.part.nodes name ≡ true
     outer =

@@ -98,7 +98,7 @@ searching_lowered w name are minus may =
     (state_uncovered (problem_of w) (state_at w are.state.0) name may are.state.1) refl
     (watch_lower (roles_in w) (uncovered name w.part.nodes) name v (λ n. not_both _) minus given.live given.outer given.free
     (problem_of w) w.watched.edges
-    (subst (λ ns. IsWatched (problem_of w) (roles_in w) ns w.watched.edges) (sym given.back) are.watch))
+    (subst (λ ns. IsWatched (problem_of w) (roles_in w) ns w.watched.edges) (sym given.back) are.watch)) are.bounds
 
 pub goes_on_lowered : (w : SearchValue) (name : ℕ) → IsSearching w → (roles_in w).is_minus name ≡ true
     → MayUncover w.part.nodes name → GoesOn w (lowered name w)

@@ -1,15 +1,22 @@
 -- Edges that come under watch, vertex after vertex.
-use Rattle.std.proofs.Common.{ℕ, ◌≡◌, ◌+◌, ◌<◌, ◌⊎◌, inl, inr, true, List, [], ◌∷◌, length, take, filter, get_or, sym, ap, ◌∙◌}
+use Rattle.std.proofs.Common.{ℕ, ◌≡◌, ◌+◌, ◌==◌, ◌<◌, ◌⊎◌, inl, inr, Bool, true, false, List, [], ◌∷◌, ◌++◌, length, take, filter, get_or, refl, sym, ap, ◌∙◌, subst, if◌then◌else◌}
 use Rattle.std.specs.List.{range_with_len}
-use Rattle.std.proofs.lemmas.Bool.{or_cases}
+use Rattle.std.proofs.lemmas.Bool.{eqb-true, or_cases}
 use Rattle.std.proofs.lemmas.List.{take_more}
 use Rattle.fb_graph.specs.Parity.{is_in}
 use Rattle.fb_graph.specs.Problem.{Problem, edge_at, touches}
-use Rattle.fb_graph.proofs.Members.{is_in-append}
+use Rattle.fb_graph.specs.Dual.{Node, top_at}
+use Rattle.fb_graph.proofs.Members.{is_in-append, is_in_push, is_in_pushed}
 use Rattle.fb_graph.proofs.Ranges.{is_in-filter-range}
 use Rattle.fb_graph.proofs.Sets.{is_in-cases}
+use Rattle.fb_laws.proofs.TreePaths.{in_left}
+use Rattle.fb_regions.specs.declared.roles.Role.TheVariants.{Minus}
+use Rattle.fb_trees.specs.Branches.{Grown}
+use Rattle.fb_trees.specs.Rooted.{role_in}
 use Rattle.fb_obstacles.specs.Watched.{Watched}
+use Rattle.fb_search.specs.InternalClosings.{WatchesMinus}
 use Rattle.fb_search.specs.Watching.{Enters, Watches}
+use Rattle.fb_search.proofs.KeptBounds.{bounded_entered, with_edge}
 
 -- the edges at one vertex more
 pub watched_on : (p : Problem) (vs : List ℕ) (i : ℕ) (es : List ℕ) (a b c : Watched) → i < length vs
@@ -17,6 +24,7 @@ pub watched_on : (p : Problem) (vs : List ℕ) (i : ℕ) (es : List ℕ) (a b c 
     → Watches p (take i vs) a b → Enters es b c → Watches p (take (i + 1) vs) a c
 watched_on p vs i es a b c lt e before more = record {
   room = more.room ∙ before.room;
+  bounds = λ limit right. more.bounds limit (before.bounds limit right);
   kept = λ k h. more.kept k (before.kept k h);
   near = λ v k mem below touch. near v k below touch (or_cases (is_in (take i vs) v) (is_in (get_or vs i 0 ∷ []) v)
       (sym (is_in-append (take i vs) (get_or vs i 0 ∷ []) v) ∙ ap (λ l. is_in l v) (sym (take_more vs i 0 lt)) ∙ mem));
@@ -32,3 +40,80 @@ watched_on p vs i es a b c lt e before more = record {
             more.entered k (rw e (is_in-filter-range (λ j. touches (get_or vs i 0) (edge_at p.edges j)) (length p.edges) k below
             ∙ ap (λ u. touches u (edge_at p.edges k)) same ∙ touch))
         here (inr none) = cc
+
+-- a member of one place more
+taken_cases : (xs : List ℕ) (i v : ℕ) → i < length xs → is_in (take (i + 1) xs) v ≡ true
+    → (is_in (take i xs) v ≡ true) ⊎ (get_or xs i 0 ≡ v)
+taken_cases xs i v lt mem =
+    by (or_cases (is_in (take i xs) v) (get_or xs i 0 == v)
+    (sym (ap (λ l. is_in l v) (take_more xs i 0 lt) ∙ is_in_push (take i xs) (get_or xs i 0) v) ∙ mem))
+  where
+    by : (is_in (take i xs) v ≡ true) ⊎ ((get_or xs i 0 == v) ≡ true) → (is_in (take i xs) v ≡ true) ⊎ (get_or xs i 0 ≡ v)
+    by (inl old) = inl old
+    by (inr same) = inr (eqb-true (get_or xs i 0) v same)
+
+-- one edge more
+pub entered_on : (edges : List ℕ) (i : ℕ) (a b c : Watched) → i < length edges → length b.bounds ≡ length b.edges
+    → c ≡ (if is_in b.edges (get_or edges i 0) then b else with_edge b (get_or edges i 0))
+    → Enters (take i edges) a b → Enters (take (i + 1) edges) a c
+entered_on edges i a b c lt even is before =
+    subst (λ w. Enters (take (i + 1) edges) a w) (sym is) (by (is_in b.edges (get_or edges i 0)) refl)
+  where
+    by : (x : Bool) → is_in b.edges (get_or edges i 0) ≡ x
+        → Enters (take (i + 1) edges) a (if x then b else with_edge b (get_or edges i 0))
+    by true held = record {
+      room = before.room;
+      kept = before.kept;
+      entered = λ k mem. here k (taken_cases edges i k lt mem);
+      bounds = before.bounds;
+    }
+      where
+        here : (k : ℕ) → (is_in (take i edges) k ≡ true) ⊎ (get_or edges i 0 ≡ k) → is_in b.edges k ≡ true
+        here k (inl old) = before.entered k old
+        here k (inr same) = ap (is_in b.edges) (sym same) ∙ held
+    by false absent = record {
+      room = before.room;
+      kept = λ k mem. in_left b.edges (get_or edges i 0 ∷ []) k (before.kept k mem);
+      entered = λ k mem. here k (taken_cases edges i k lt mem);
+      bounds = λ limit right. bounded_entered limit b (get_or edges i 0) even (before.bounds limit right);
+    }
+      where
+        here : (k : ℕ) → (is_in (take i edges) k ≡ true) ⊎ (get_or edges i 0 ≡ k)
+            → is_in (b.edges ++ get_or edges i 0 ∷ []) k ≡ true
+        here k (inl old) = in_left b.edges (get_or edges i 0 ∷ []) k (before.entered k old)
+        here k (inr same) = ap (is_in (b.edges ++ get_or edges i 0 ∷ [])) (sym same) ∙ is_in_pushed b.edges (get_or edges i 0)
+
+-- the edges at one minus node more
+pub minus_on : (p : Problem) (nodes : List Node) (tree : Grown) (names : List ℕ) (i : ℕ) (a b c : Watched) → i < length names
+    → WatchesMinus p nodes tree (take i names) a b → Watches p (top_at nodes (get_or names i 0)) b c
+    → WatchesMinus p nodes tree (take (i + 1) names) a c
+minus_on p nodes tree names i a b c lt before more = record {
+  room = more.room ∙ before.room;
+  kept = λ k h. more.kept k (before.kept k h);
+  near = λ name v k mem minus held less touch. by name v k minus held less touch (taken_cases names i name lt mem);
+  bounds = λ limit right. more.bounds limit (before.bounds limit right);
+}
+  where
+    by : (name v k : ℕ) → role_in tree name ≡ Minus → is_in (top_at nodes name) v ≡ true → k < length p.edges
+        → touches v (edge_at p.edges k) ≡ true → (is_in (take i names) name ≡ true) ⊎ (get_or names i 0 ≡ name)
+        → is_in c.edges k ≡ true
+    by name v k minus held less touch (inl old) = more.kept k (before.near name v k old minus held less touch)
+    by name v k minus held less touch (inr same) =
+        more.near v k (ap (λ n. is_in (top_at nodes n) v) same ∙ held) less touch
+
+-- a node that isn't minus brings no edges
+pub minus_past : (p : Problem) (nodes : List Node) (tree : Grown) (names : List ℕ) (i : ℕ) (a b : Watched) → i < length names
+    → ¬ (role_in tree (get_or names i 0) ≡ Minus) → WatchesMinus p nodes tree (take i names) a b
+    → WatchesMinus p nodes tree (take (i + 1) names) a b
+minus_past p nodes tree names i a b lt other before = record {
+  room = before.room;
+  kept = before.kept;
+  near = λ name v k mem minus held less touch. by name v k minus held less touch (taken_cases names i name lt mem);
+  bounds = before.bounds;
+}
+  where
+    by : (name v k : ℕ) → role_in tree name ≡ Minus → is_in (top_at nodes name) v ≡ true → k < length p.edges
+        → touches v (edge_at p.edges k) ≡ true → (is_in (take i names) name ≡ true) ⊎ (get_or names i 0 ≡ name)
+        → is_in b.edges k ≡ true
+    by name v k minus held less touch (inl old) = before.near name v k old minus held less touch
+    by name v k minus held less touch (inr same) = absurd (other (ap (role_in tree) same ∙ minus))

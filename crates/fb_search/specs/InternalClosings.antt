@@ -6,16 +6,17 @@ use Rattle.fb_graph.specs.Problem.{Problem, edge_at, touches}
 use Rattle.fb_graph.specs.Dual.{Node, top_at}
 use Rattle.fb_regions.specs.declared.roles.Role.TheVariants.{Minus}
 use Rattle.fb_half.specs.Matchings.{MatchingValue}
-use Rattle.fb_obstacles.specs.Watched.{Watched}
+use Rattle.fb_obstacles.specs.Watched.{AreBounded, Watched}
 use Rattle.fb_trees.specs.Branches.{Grown}
 use Rattle.fb_trees.specs.Rooted.{role_in}
 
--- The edges at each minus node among these are watched, and all that were watched before.
+-- The edges at each minus node among these are watched, and all that were watched before. Bounds that are right stay so.
 pub record WatchesMinus (p : Problem) (nodes : List Node) (tree : Grown) (names : List ℕ) (old new : Watched) : Type 0 where
   pub room : new.edge_count ≡ old.edge_count
   pub kept : (k : ℕ) → is_in old.edges k ≡ true → is_in new.edges k ≡ true
   pub near : (name v k : ℕ) → is_in names name ≡ true → role_in tree name ≡ Minus → is_in (top_at nodes name) v ≡ true
       → k < length p.edges → touches v (edge_at p.edges k) ≡ true → is_in new.edges k ≡ true
+  pub bounds : (limit : ℕ → ℕ) → AreBounded limit old → AreBounded limit new
 
 -- The new name is listed as unmatched in the place of the old one. Both may be the same.
 pub record IsReplacedBy (old_name new_name : ℕ) (before after : MatchingValue) : Type 0 where

@@ -1,7 +1,10 @@
 pub mod InternalClosings
 pub mod InternalEndings
 pub mod InternalMeetings
+pub mod InternalNear
 pub mod InternalOpenings
+pub mod InternalPaces
+pub mod InternalRounds
 pub mod InternalRuns
 pub mod InternalSteps
 pub mod Meetings

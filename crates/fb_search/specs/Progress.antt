@@ -1,5 +1,5 @@
 -- What the steps of a search promise: all else stays, and less is left to do.
-use Rattle.std.specs.Prelude.{ℕ, ◌≡◌, ◌+◌, ◌*◌, ◌<◌, ◌≤◌, Bool, true, false, List, length}
+use Rattle.std.specs.Prelude.{ℕ, ◌≡◌, ◌+◌, ◌-◌, ◌*◌, ◌<◌, ◌≤◌, Bool, true, false, List, length, map}
 use Rattle.fb_graph.specs.Parity.{is_in}
 use Rattle.fb_graph.specs.Dual.{Node}
 use Rattle.fb_graph.specs.Steps.{stepped}
@@ -48,9 +48,20 @@ pub record HasAdvanced (before after : SearchValue) : Type 0 where
   pub count : length (unmatched_in after) ≡ length (unmatched_in before)
   pub less : IsLower (to_do after true) (to_do before true)
 
--- the search after a free step of this length
+-- the watched edges after a step of this length: no residue falls by more than twice as much
+abbrev pub lowered_by : ℕ → Watched → Watched
+lowered_by k watched = record watched { bounds = map (λ b. b - 2 * k) watched.bounds }
+
+-- the search after a step of this length
 abbrev pub stepped_by : ℕ → SearchValue → SearchValue
-stepped_by k w = record w { part = record w.part { nodes = stepped (roles_of w.tree.root w.tree.branches) k w.part.nodes } }
+stepped_by k w = record w {
+  part = record w.part { nodes = stepped (roles_of w.tree.root w.tree.branches) k w.part.nodes };
+  watched = lowered_by k w.watched;
+}
+
+-- the search with other bounds of the watched edges
+abbrev pub rebounded : List ℕ → SearchValue → SearchValue
+rebounded bounds w = record w { watched = record w.watched { bounds = bounds } }
 
 -- The root is matched, with at most one other unmatched node. The unmatched nodes are some of those before, each as it was.
 pub record IsSearched (root : ℕ) (before after : PartValue) : Type 0 where

@@ -14,8 +14,8 @@ use Rattle.fb_half.specs.Values.{part_of}
 use Rattle.fb_half.specs.Translations.{cycles_by, entry_by, link_by}
 use Rattle.fb_trees.specs.Branches.{Grown}
 use Rattle.fb_trees.specs.Rooted.{role_in}
-use Rattle.fb_obstacles.specs.Obstacles.{IsWatched, roles_by}
-use Rattle.fb_obstacles.specs.Watched.{Watched}
+use Rattle.fb_obstacles.specs.Obstacles.{IsWatched, residue_at, roles_by}
+use Rattle.fb_obstacles.specs.Watched.{AreBounded, Watched}
 use Rattle.fb_search.specs.declared.searching.Pieces.{Pieces}
 
 pub record SearchValue : Type 0 where
@@ -64,6 +64,8 @@ pub record IsSearchingBeside (more : List ℕ) (w : SearchValue) : Type 0 where
   pub matching : IsMatchingOf (problem_of w) w.part.nodes w.part.links w.part.matching (nodes_along w.tree.branches)
   pub room : w.watched.edge_count ≡ length (problem_of w).edges
   pub watch : IsWatched (problem_of w) (roles_in w) w.part.nodes w.watched.edges
+  -- no bound is above the residue of its edge
+  pub bounds : AreBounded (residue_at (problem_of w) w.part.nodes) w.watched
 
 -- what every search keeps between its steps
 abbrev pub IsSearching : SearchValue → Type 0

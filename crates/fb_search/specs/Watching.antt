@@ -1,16 +1,17 @@
--- Edges that come under watch.
+-- Edges that come under watch. Bounds that are right stay so, whatever limits they keep.
 use Rattle.std.specs.Prelude.{ℕ, ◌≡◌, ◌==◌, ◌<◌, Bool, true, false, not, List, length, Option, Some, None, if◌then◌else◌}
 use Rattle.fb_graph.specs.declared.parts.Edge.{Edge}
 use Rattle.fb_graph.specs.Parity.{is_in}
 use Rattle.fb_graph.specs.Problem.{Problem, edge_at, touches}
 use Rattle.fb_graph.specs.Dual.{Node, cover_of}
-use Rattle.fb_obstacles.specs.Watched.{Watched}
+use Rattle.fb_obstacles.specs.Watched.{AreBounded, Watched}
 
 -- The edges are watched, and all that were watched before.
 pub record Enters (edges : List ℕ) (old new : Watched) : Type 0 where
   pub room : new.edge_count ≡ old.edge_count
   pub kept : (k : ℕ) → is_in old.edges k ≡ true → is_in new.edges k ≡ true
   pub entered : (k : ℕ) → is_in edges k ≡ true → is_in new.edges k ≡ true
+  pub bounds : (limit : ℕ → ℕ) → AreBounded limit old → AreBounded limit new
 
 -- The edges with an end at one of the vertices are watched, and all that were watched before.
 pub record Watches (p : Problem) (vertices : List ℕ) (old new : Watched) : Type 0 where
@@ -18,6 +19,7 @@ pub record Watches (p : Problem) (vertices : List ℕ) (old new : Watched) : Typ
   pub kept : (k : ℕ) → is_in old.edges k ≡ true → is_in new.edges k ≡ true
   pub near : (v k : ℕ) → is_in vertices v ≡ true → k < length p.edges → touches v (edge_at p.edges k) ≡ true
       → is_in new.edges k ≡ true
+  pub bounds : (limit : ℕ → ℕ) → AreBounded limit old → AreBounded limit new
 
 -- whether both are the name of one node
 abbrev pub is_one_node : Option ℕ → Option ℕ → Bool
@@ -34,9 +36,11 @@ pub record WatchesOuter (p : Problem) (nodes : List Node) (edges : List ℕ) (ol
   pub room : new.edge_count ≡ old.edge_count
   pub watched : (k : ℕ) → is_in new.edges k
       ≡ (if is_in edges k then not (is_inner nodes (edge_at p.edges k)) else is_in old.edges k)
+  pub bounds : (limit : ℕ → ℕ) → AreBounded limit old → AreBounded limit new
 
 -- Of the edges at the vertex, those are watched whose ends aren't under one outer node; others are watched as before.
 pub record WatchesTaken (p : Problem) (nodes : List Node) (v : ℕ) (old new : Watched) : Type 0 where
   pub room : new.edge_count ≡ old.edge_count
   pub watched : (k : ℕ) → k < length p.edges → is_in new.edges k
       ≡ (if touches v (edge_at p.edges k) then not (is_inner nodes (edge_at p.edges k)) else is_in old.edges k)
+  pub bounds : (limit : ℕ → ℕ) → AreBounded limit old → AreBounded limit new

@@ -1,5 +1,6 @@
 ghost use Rattle.std.specs.Prelude.{◌≡◌, IfOk};
 ghost use Rattle.fb_obstacles.specs.Obstacles.{IsObstacle, Obstructs};
+ghost use Rattle.fb_search.specs.Progress.{rebounded};
 ghost use Rattle.fb_search.specs.Searching.{problem_of, roles_in};
 ghost use Rattle.fb_search.specs.Went.{HasCleared, HasWent};
 
@@ -8,7 +9,7 @@ use crate::searching::Searching;
 use crate::went::Went;
 use fb_graph::{NoMemory, Steps};
 use fb_half::Standing;
-use fb_obstacles::{Obstacle, next_obstacle};
+use fb_obstacles::{Obstacle, next_obstacle_by_bounds};
 use std::alloc::Global;
 use std::sync::ledger::Ledger;
 
@@ -21,32 +22,40 @@ impl<'a> Searching<'a> {
     ) -> Result<Went<'a>, NoMemory>
         ensures { IfOk result (HasWent self.entry) }
     {
-        self.keeps();
-        match self.next(looks) {
+        let (search, obstacle) = self.next(looks);
+        search.keeps();
+        match obstacle {
             Obstacle::Free(length) => {
-                let stepped = self.step(length);
-                let obstacle = stepped.next(looks);
+                let (stepped, obstacle) = search.step(length).next(looks);
                 stepped.clear(alloc, obstacle)
             }
-            obstacle => self.clear(alloc, obstacle),
+            obstacle => search.clear(alloc, obstacle),
         }
     }
 
-    /// What stands in the way of the tree, or how far it may step.
-    fn next<L: Ledger>(&self, looks: &mut Steps<L>) -> Obstacle
-        ensures { IsObstacle (problem_of self.now) (roles_in self.now) self.now.part.nodes result }
+    /// What stands in the way of the tree, or how far it may step. Raises the bounds of the edges that are looked at.
+    pub(crate) fn next<L: Ledger>(self, looks: &mut Steps<L>) -> (Searching<'a>, Obstacle)
+        ensures obstacle { IsObstacle (problem_of result.0) (roles_in result.0) result.0.part.nodes result.1 }
+        ensures same { result.0 ≡ rebounded result.0.watched.bounds self.entry }
     {
-        next_obstacle(
-            &self.watch,
-            self.parts.regions.scope(),
-            &self.parts.regions,
-            &TreeRoles { tree: &self.tree },
+        let Searching {
+            parts,
+            tree,
+            mut watch,
+        } = self;
+        let obstacle = next_obstacle_by_bounds(
+            &mut watch,
+            parts.regions.scope(),
+            &parts.regions,
+            &TreeRoles { tree: &tree },
             looks,
-        )
+        );
+        let search = Searching { parts, tree, watch };
+        (search, obstacle)
     }
 
     /// Removes the obstacle.
-    fn clear(self, alloc: Global, obstacle: Obstacle) -> Result<Went<'a>, NoMemory>
+    pub(crate) fn clear(self, alloc: Global, obstacle: Obstacle) -> Result<Went<'a>, NoMemory>
         requires { Obstructs (problem_of self) (roles_in self) self.part.nodes obstacle }
         ensures { IfOk result (HasCleared self.entry) }
     {

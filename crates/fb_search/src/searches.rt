@@ -3,6 +3,9 @@ ghost use Rattle.fb_graph.specs.Parity.{is_in};
 ghost use Rattle.fb_half.specs.Parts.{problem_in};
 ghost use Rattle.fb_search.specs.Progress.{EndsWith, HasSearchedEach, IsSearched};
 
+use crate::near::near_of;
+use crate::near_ends::match_near;
+use crate::rounds::{Round, search_rounds};
 use crate::searching::Searching;
 use crate::went::Went;
 use fb_graph::{NoMemory, Steps};
@@ -48,10 +51,30 @@ pub fn search_from<'a, L: Ledger>(
     ensures step { IfOk result (λ after. steps.new ≡ steps.old + 1) }
     ensures kept { OnErr result (steps.new ≡ steps.old) }
 {
-    let search = Searching::begin(alloc, work, watch, root)?;
-    let ended = finish::<Brand>(alloc, search, Blank::new(1))?;
+    let ended = match_root(alloc, work, root, watch)?;
     steps.tick();
     Ok(ended)
+}
+
+/// Matches the root: at once where that is possible, else by a tree that grows from it.
+fn match_root<'a>(
+    alloc: Global,
+    work: Work<'a>,
+    root: NodeId,
+    watch: Watch,
+) -> Result<(Work<'a>, Watch), NoMemory>
+    requires unmatched { is_in work.matching.unmatched root ≡ true }
+    requires room { watch.edge_count ≡ length (problem_in work).edges }
+    ensures searched { IfOk result (λ after. IsSearched root work.entry after.0) }
+    ensures room { IfOk result (λ after. after.1.edge_count ≡ watch.edge_count) }
+{
+    work.keeps();
+    if let Some(near) = near_of(work.regions(), work.matching(), root) {
+        let work = match_near(alloc, work, root, near)?;
+        return Ok((work, watch));
+    }
+    let search = Searching::begin(alloc, work, watch, root)?;
+    finish::<Brand>(alloc, search, Blank::new(1))
 }
 
 /// Removes one obstacle after another until the search has ended. The looks at edges are counted by themselves.
@@ -96,8 +119,26 @@ pub fn search_each<'a, L: Ledger>(
     Ok(work)
 }
 
-/// The same with a watch that is emptied first and given back, so that one watch serves many parts of a graph.
+/// The same with a watch that is emptied first and given back, so that one watch serves many parts of a graph. Trees are
+/// kept small in the first rounds, so that close nodes are matched first.
 pub fn search_each_from<'a, L: Ledger>(
+    alloc: Global,
+    work: Work<'a>,
+    roots: &[NodeId],
+    watch: Watch,
+    steps: &mut Steps<L>,
+) -> Result<(Work<'a>, Watch), NoMemory>
+    requires room { watch.edge_count ≡ length (problem_in work).edges }
+    ensures searched { IfOk result (λ after. HasSearchedEach work.entry roots.now steps.old steps.new after.0) }
+    ensures room { IfOk result (λ after. after.1.edge_count ≡ watch.edge_count) }
+    ensures never_falls { steps.old ≤ steps.new }
+{
+    let Round { work, watch, left } = search_rounds(alloc, work, roots, watch, steps)?;
+    search_all(alloc, work, &left, watch, steps)
+}
+
+/// Searches from each of the nodes that is still unmatched when its turn comes, without a limit.
+fn search_all<'a, L: Ledger>(
     alloc: Global,
     work: Work<'a>,
     roots: &[NodeId],

@@ -1,7 +1,6 @@
 ghost use Rattle.std.specs.Prelude.{◌≡◌};
 ghost use Rattle.fb_graph.specs.Steps.{MayStep, stepped};
 ghost use Rattle.fb_laws.specs.Trees.{roles_of};
-ghost use Rattle.fb_obstacles.specs.Obstacles.{IsFree};
 ghost use Rattle.fb_search.specs.InternalSteps.{IsTreeOver};
 ghost use Rattle.fb_search.specs.Progress.{stepped_by};
 ghost use Rattle.fb_search.specs.Searching.{problem_of, roles_in};
@@ -12,18 +11,20 @@ use fb_regions::Regions;
 use fb_trees::Tree;
 
 impl<'a> Searching<'a> {
-    /// Each minus node shrinks by this length, and then each plus node grows by it.
+    /// Each minus node shrinks by this length, and then each plus node grows by it. The bounds of residues fall by twice
+    /// as much: a residue falls by the length at each end that is under a plus node.
     pub(crate) fn step(self, length: u64) -> Searching<'a>
-        requires { IsFree (problem_of self) (roles_in self) self.part.nodes length }
+        requires { MayStep (problem_of self) (roles_in self) self.part.nodes length }
         ensures { result ≡ stepped_by length self.entry }
     {
         let Searching {
             mut parts,
             tree,
-            watch,
+            mut watch,
         } = self;
         parts.regions.scope().limits();
         step_nodes(&mut parts.regions, &tree, length);
+        watch.lower(2 * length);
         Searching { parts, tree, watch }
     }
 }

@@ -14,6 +14,7 @@ fn enter_all(watch: &mut Watch, edges: &[u32])
     ensures { Enters edges.now watch.old watch.new }
 {
     for edge in edges {
+        watch.keeps();
         watch.enter(*edge);
     }
 }
@@ -77,6 +78,7 @@ fn watch_outer<S: Scope>(watch: &mut Watch, scope: &S, regions: &Regions<S>, edg
     if is_inner(scope, regions, edge) {
         watch.leave(edge);
     } else {
+        watch.keeps();
         watch.enter(edge);
     }
 }

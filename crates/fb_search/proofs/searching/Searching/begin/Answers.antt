@@ -17,6 +17,7 @@ invariant_of-result c =
           (kept_limits (part_of c.into_parts-parts.result) c.graph.result.now c.plan.result.now c.node.result graph plan c.node.ensures c.limits.ensures)
           (ap (λ w. is_in w.matching.unmatched c.args.root) c.into_parts-parts.ensures.value ∙ c.requires.unmatched) c.keeps-2.ensures.within
           (ap (λ w. w.edge_count) c.clear.ensures ∙ c.requires.room ∙ sym (ap (λ w. length (problem_in w).edges) c.into_parts-parts.ensures.value))
+          (ap (λ w. w.edges) c.clear.ensures)
           (kept_watches (part_of c.into_parts-parts.result) c.graph.result.now c.plan.result.now c.node.result
           (top_at c.into_parts-parts.result.regions.nodes c.args.root) c.clear.new.self c.watch_node.new.watch graph c.in_ok-watch_node.ensures)),
     )

@@ -1,11 +1,11 @@
 use Rattle.std.proofs.Common.{◌∙◌, ap, sym}
 use Rattle.fb_half.specs.Values.{part_of}
 use Rattle.fb_search.specs.Searching.{SearchValue}
-use Rattle.fb_search.proofs.NextObstacles.{next_even, next_is, next_minus, next_parity, next_plus, next_roles, next_watched}
+use Rattle.fb_search.proofs.NextObstacles.{next_bounded, next_even, next_is, next_minus, next_parity, next_plus, next_roles, next_watched, searching_rebounded}
 use Rattle.fb_search.proofs.searching.Searching.next.Goals as goal
 
-pub next_obstacle-requires : goal.next_obstacle-requires
-next_obstacle-requires g c =
+pub next_obstacle_by_bounds-obstacle-requires : goal.next_obstacle_by_bounds-obstacle-requires
+next_obstacle_by_bounds-obstacle-requires g c =
     let w : SearchValue = record { part = part_of c.self.inside.parts; tree = c.self.inside.tree; watched = c.self.inside.watch } in
     let scope = c.self.invariant.0 in
     let graph = ap (λ s. s.graph.now) c.scope.ensures ∙ scope.graph in
@@ -19,13 +19,25 @@ next_obstacle-requires g c =
       parity = next_parity w c.self.invariant.1;
       even = next_even w c.self.invariant.1 _ _ _ graph plan node;
       watched = next_watched w c.self.invariant.1 _ _ _ graph plan node;
+      bounded = next_bounded w c.self.invariant.1 _ _ _ graph plan node;
     }
 
-pub returns : goal.returns
-returns g c =
+pub returns-clause-obstacle : goal.returns-clause-obstacle
+returns-clause-obstacle g c =
     let w : SearchValue = record { part = part_of c.self.inside.parts; tree = c.self.inside.tree; watched = c.self.inside.watch } in
     let scope = c.self.invariant.0 in
-    rw (← c.self.view_is)
-    (next_is w c.self.invariant.1 c.scope.result.now.graph.now c.scope.result.now.plan.now c.scope.result.now.node
+    next_is w c.self.invariant.1 c.scope.result.now.graph.now c.scope.result.now.plan.now c.scope.result.now.node
     (ap (λ s. s.graph.now) c.scope.ensures ∙ scope.graph) (ap (λ s. s.plan.now) c.scope.ensures ∙ scope.plan)
-    (ap (λ s. s.node) c.scope.ensures ∙ scope.node) c.next_obstacle.result c.next_obstacle.ensures.obstacle)
+    (ap (λ s. s.node) c.scope.ensures ∙ scope.node) c.next_obstacle_by_bounds-obstacle.result
+    c.next_obstacle_by_bounds-obstacle.ensures.obstacle
+
+pub invariant_of-search : goal.invariant_of-search
+invariant_of-search g c =
+    let w : SearchValue = record { part = part_of c.self.inside.parts; tree = c.self.inside.tree; watched = c.self.inside.watch } in
+    let scope = c.self.invariant.0 in (
+      scope,
+      searching_rebounded w c.self.invariant.1 c.scope.result.now.graph.now c.scope.result.now.plan.now c.scope.result.now.node
+          (ap (λ s. s.graph.now) c.scope.ensures ∙ scope.graph) (ap (λ s. s.plan.now) c.scope.ensures ∙ scope.plan)
+          (ap (λ s. s.node) c.scope.ensures ∙ scope.node) c.next_obstacle_by_bounds-obstacle.new.watch
+          c.next_obstacle_by_bounds-obstacle.ensures.watched c.next_obstacle_by_bounds-obstacle.ensures.bounded,
+    )

@@ -1,7 +1,7 @@
 use Rattle.std.proofs.Common.{◌≡◌, ◌+◌, ◌*◌, ◌≤◌, length, take}
 use Rattle.fb_half.specs.Parts.{problem_in}
 use Rattle.fb_search.specs.InternalRuns.{HasSearched}
-use Rattle.fb_search.proofs.searches.search_each_from.Given as goal
+use Rattle.fb_search.proofs.searches.search_all.Given as goal
 
 abbrev pub invariant-loop-root : goal.invariant-loop-root
 invariant-loop-root g l =

@@ -2,8 +2,8 @@ use Rattle.std.proofs.Common.{◌∙◌, take_all, get_or, sym, ap, arith}
 use Rattle.fb_graph.specs.Parity.{is_in}
 use Rattle.fb_search.proofs.MetOutside.{not_unmatched}
 use Rattle.fb_search.proofs.SearchedEach.{one_searched, one_skipped, same_room}
-use Rattle.fb_search.proofs.searches.search_each_from.Goals as goal
-use Rattle.fb_search.proofs.searches.search_each_from.Goals.{in-Unmatched+in_ok-work, in_default}
+use Rattle.fb_search.proofs.searches.search_all.Goals as goal
+use Rattle.fb_search.proofs.searches.search_all.Goals.{in-Unmatched+in_ok-work, in_default}
 
 pub loop-root-preserved : goal.loop-root-preserved
 loop-root-preserved g c =

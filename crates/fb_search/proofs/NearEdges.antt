@@ -1,0 +1,233 @@
+-- The edges at a single defect: which of them lead to the boundary or to another single defect, and what room the others
+-- leave.
+use Rattle.std.proofs.Common.{ℕ, ◌≡◌, ◌+◌, ◌-◌, ◌≤◌, ◌<◌, ◌==◌, ◌||◌, ◌⊎◌, inl, inr, not, Bool, cond, true, false, List, [], ◌∷◌, ◌++◌, length, take, filter, get_or, All, Some, None, refl, sym, ap, ◌∙◌, subst, arith, length-append, if◌then◌else◌}
+use Rattle.std.specs.Prelude.{IfSome, Option}
+use Rattle.std.specs.List.{range_with_len}
+use Rattle.std.proofs.lemmas.Bool.{eqb-true, false≢true, or_cases}
+use Rattle.std.proofs.lemmas.List.{take_all, take_more}
+use Rattle.std.proofs.lemmas.List.Elements.{All-head, All-tail, filter_passes}
+use Rattle.fb_graph.specs.Components.{Leads}
+use Rattle.fb_graph.specs.Dual.{Node, cover_of, is_empty, is_live, layers_at, layers_of, first_vertices, top_at}
+use Rattle.fb_graph.specs.Limits.{IsWithinLimits}
+use Rattle.fb_graph.specs.Nests.{IsFormed, IsNest}
+use Rattle.fb_graph.specs.Parity.{differ, is_in}
+use Rattle.fb_graph.specs.Problem.{Problem, edge_at, no_edge, touches}
+use Rattle.fb_graph.specs.declared.parts.Cut.{Cut}
+use Rattle.fb_graph.specs.declared.parts.Edge.{Edge}
+use Rattle.fb_graph.proofs.Among.{among_live, cover_among, top_among}
+use Rattle.fb_graph.proofs.Members.{is_in-append}
+use Rattle.fb_graph.proofs.Ranges.{filter-range_below, is_in-filter-range}
+use Rattle.fb_graph.proofs.Sets.{is_in-cases}
+use Rattle.fb_regions.specs.Moves.{BeginsWith, node_named}
+use Rattle.fb_obstacles.specs.Obstacles.{residue_of}
+use Rattle.fb_half.specs.declared.matches.Standing.{Standing}
+use Rattle.fb_half.specs.declared.matches.Standing.TheVariants.{Unmatched}
+use Rattle.fb_half.specs.Standings.{is_unmatched}
+use Rattle.fb_search.specs.declared.near.Near.{Near}
+use Rattle.fb_search.specs.declared.near.Near.TheVariants.{Boundary, Pair}
+use Rattle.fb_search.specs.declared.near.Reach.{Reach}
+use Rattle.fb_search.proofs.TopLayers.{top_real}
+use Rattle.fb_search.specs.InternalNear.{HasRoom, IsNear, IsReach, IsShare, IsSingleAt, IsTarget}
+
+-- a node that joins no others and has one layer has one vertex
+one_below : (below : List Cut) (top : Cut) → length (below ++ top ∷ []) ≡ 1 → length (first_vertices (below ++ top ∷ [])) ≡ 1
+    → length top.vertices ≡ 1
+one_below [] top layers first = first
+one_below (c ∷ cs) top layers first = absurd (omega (arith, layers, length-append cs (top ∷ [])))
+
+one_in : (n : Node) → IsFormed n → not (is_empty n.children) ≡ false → length (layers_of n) ≡ 1 → length n.top.vertices ≡ 1
+one_in n (inl lone) joins layers = one_below n.below n.top layers lone.defect
+one_in n (inr many) joins layers = by n.children many.three joins
+  where
+    by : (children : List ℕ) → 3 ≤ length children → not (is_empty children) ≡ false → length n.top.vertices ≡ 1
+    by [] three none = absurd (omega (arith, three))
+    by (c ∷ cs) three none = absurd (false≢true (sym none))
+
+one_named : (nodes : List Node) (name : ℕ) → All IsFormed nodes → is_live nodes name ≡ true
+    → not (is_empty (node_named nodes name).children) ≡ false → length (layers_at nodes name) ≡ 1
+    → length (top_at nodes name) ≡ 1
+one_named [] name formed live joins layers = absurd (false≢true live)
+one_named (n ∷ ns) name formed live joins layers =
+    step (n.name == name) live joins layers (one_named ns name (All-tail IsFormed n ns formed))
+  where
+    step : (b : Bool) → (b || is_live ns name) ≡ true → not (is_empty (cond b n (node_named ns name)).children) ≡ false
+        → length (cond b (layers_of n) (layers_at ns name)) ≡ 1
+        → (is_live ns name ≡ true → not (is_empty (node_named ns name).children) ≡ false
+        → length (layers_at ns name) ≡ 1 → length (top_at ns name) ≡ 1)
+        → length (cond b n.top.vertices (top_at ns name)) ≡ 1
+    step true l j one rest = one_in n (All-head IsFormed n ns formed) j one
+    step false l j one rest = rest l j one
+
+only_one : (xs : List ℕ) (v : ℕ) → BeginsWith v xs → length xs ≡ 1 → xs ≡ v ∷ []
+only_one [] v begins one = absurd begins
+only_one (x ∷ []) v begins one = ap (λ u. u ∷ []) begins
+only_one (x ∷ y ∷ ys) v begins one = absurd (omega (arith, one))
+
+pub single_top : (p : Problem) (nodes : List Node) (name v : ℕ) → IsNest p nodes → is_live nodes name ≡ true
+    → not (is_empty (node_named nodes name).children) ≡ false → length (layers_at nodes name) ≡ 1
+    → BeginsWith v (top_at nodes name) → top_at nodes name ≡ v ∷ []
+single_top p nodes name v nest live joins layers begins =
+    only_one (top_at nodes name) v begins (one_named nodes name nest.forest.formed live joins layers)
+
+-- the node over a vertex
+pub over_live : (nodes : List Node) (v name : ℕ) → cover_of nodes v ≡ Some name → is_live nodes name ≡ true
+over_live nodes v name over =
+    let is = cover_among nodes v name over in among_live nodes is.node name is.among is.named
+
+pub single_over : (p : Problem) (nodes : List Node) (unmatched : List ℕ) (v u name : ℕ) (s : Standing) (i : ℕ) → IsNest p nodes
+    → cover_of nodes v ≡ Some name → top_at nodes name ≡ u ∷ [] → is_in unmatched name ≡ is_unmatched s → s ≡ Unmatched i
+    → IsSingleAt nodes unmatched v name
+single_over p nodes unmatched v u name s i nest over top listed is = record {
+  top = top ∙ ap (λ x. x ∷ []) (by (is_in-cases u [] v held));
+  covered = over;
+  listed = listed ∙ ap is_unmatched is;
+}
+  where
+    held : is_in (u ∷ []) v ≡ true
+    held =
+        let o = cover_among nodes v name over in
+        ap (λ l. is_in l v) (sym top ∙ (sym (ap (top_at nodes) o.named) ∙ top_among nodes nest.dual.names o.node o.among))
+        ∙ o.holds
+
+    by : (u ≡ v) ⊎ (is_in [] v ≡ true) → u ≡ v
+    by (inl same) = same
+    by (inr none) = absurd (false≢true none)
+
+-- an edge that touches a vertex leads from it to its other end
+pub leads_to_second : (v : ℕ) (e : Edge) → e.first ≡ v → Leads e v e.second
+leads_to_second v e same = inl (same, refl)
+
+pub leads_to_first : (v : ℕ) (e : Edge) → touches v e ≡ true → (e.first ≡ v → ⊥) → Leads e v e.first
+leads_to_first v e at other = by (v == e.first) refl (v == e.second) refl at
+  where
+    by : (a : Bool) → (v == e.first) ≡ a → (b : Bool) → (v == e.second) ≡ b → differ a b ≡ true → Leads e v e.first
+    by true is b same at = absurd (other (sym (eqb-true v e.first is)))
+    by false is true same at = inr (sym (eqb-true v e.second same), refl)
+    by false is false same at = absurd (false≢true at)
+
+-- it ends within the graph
+pub end_below : (p : Problem) (k u v : ℕ) → IsWithinLimits p → k < length p.edges → Leads (edge_at p.edges k) u v → v < p.vertices
+end_below p k u v limits less (inl (first, second)) =
+    subst (λ x. x < p.vertices) second (limits.each_edge k no_edge less).second
+end_below p k u v limits less (inr (second, first)) =
+    subst (λ x. x < p.vertices) first (limits.each_edge k no_edge less).first
+
+-- the edges that a scope lists at a vertex
+pub listed_below : (edges : List Edge) (v i : ℕ) (items : List ℕ)
+    → items ≡ filter (λ k. touches v (edge_at edges k)) (range_with_len 0 (length edges)) → i < length items
+    → get_or items i 0 < length edges
+listed_below edges v i items are less =
+    let all : All (λ k. k < length edges) items = rw are (filter-range_below (λ k. touches v (edge_at edges k)) (length edges)) in
+    all i 0 less
+
+pub listed_touch : (edges : List Edge) (v i : ℕ) (items : List ℕ)
+    → items ≡ filter (λ k. touches v (edge_at edges k)) (range_with_len 0 (length edges)) → i < length items
+    → touches v (edge_at edges (get_or items i 0)) ≡ true
+listed_touch edges v i items are less =
+    let all : All (λ k. touches v (edge_at edges k) ≡ true) items =
+    rw are (filter_passes (λ k. touches v (edge_at edges k)) (range_with_len 0 (length edges))) in
+    all i 0 less
+
+-- the edges listed so far leave the room
+abbrev pub HasRoomAt : List Edge → List Node → ℕ → ℕ → List ℕ → ℕ → Type 0
+HasRoomAt edges nodes far between items room = (k : ℕ) → is_in items k ≡ true
+    → (if touches far (edge_at edges k) then between else room) ≤ residue_of nodes (edge_at edges k)
+
+less_room : (b : Bool) (between more less n : ℕ) → less ≤ more → (if b then between else more) ≤ n → (if b then between else less) ≤ n
+less_room true between more less n le has = has
+less_room false between more less n le has = omega arith
+
+pub room_after : (edges : List Edge) (nodes : List Node) (far between i before after : ℕ) (items : List ℕ) → i < length items
+    → HasRoomAt edges nodes far between (take i items) before → after ≤ before
+    → (if touches far (edge_at edges (get_or items i 0)) then between else after) ≤ residue_of nodes (edge_at edges (get_or items i 0))
+    → HasRoomAt edges nodes far between (take (i + 1) items) after
+room_after edges nodes far between i before after items less has fewer here k within =
+    by (or_cases (is_in (take i items) k) (is_in (get_or items i 0 ∷ []) k)
+    (sym (is_in-append (take i items) (get_or items i 0 ∷ []) k) ∙ ap (λ l. is_in l k) (sym (take_more items i 0 less)) ∙ within))
+  where
+    Here : ℕ → Type 0
+    Here j = (if touches far (edge_at edges j) then between else after) ≤ residue_of nodes (edge_at edges j)
+
+    new : (get_or items i 0 ≡ k) ⊎ (is_in [] k ≡ true) → (if touches far (edge_at edges k) then between else after) ≤ residue_of nodes (edge_at edges k)
+    new (inl same) =
+        subst (λ j. (if touches far (edge_at edges j) then between else after) ≤ residue_of nodes (edge_at edges j)) same here
+    new (inr none) = absurd (false≢true none)
+
+    by : (is_in (take i items) k ≡ true) ⊎ (is_in (get_or items i 0 ∷ []) k ≡ true)
+        → (if touches far (edge_at edges k) then between else after) ≤ residue_of nodes (edge_at edges k)
+    by (inl old) = less_room (touches far (edge_at edges k)) between before after (residue_of nodes (edge_at edges k)) fewer (has k old)
+    by (inr there) = new (is_in-cases (get_or items i 0) [] k there)
+
+pub room_of_all : (edges : List Edge) (nodes : List Node) (v far between room i : ℕ) (items : List ℕ)
+    → items ≡ filter (λ k. touches v (edge_at edges k)) (range_with_len 0 (length edges)) → length items ≤ i
+    → HasRoomAt edges nodes far between (take i items) room → HasRoom edges nodes v far between room
+room_of_all edges nodes v far between room i items are all has k less at =
+    has k (ap (λ l. is_in l k) (take_all i items all ∙ are) ∙ (is_in-filter-range (λ j. touches v (edge_at edges j)) (length edges) k less ∙ at))
+
+-- less growth than the room
+narrowed : (edges : List Edge) (nodes : List Node) (v far between room growth : ℕ) → growth ≤ room
+    → HasRoom edges nodes v far between room → HasRoom edges nodes v far between growth
+narrowed edges nodes v far between room growth le has k less at =
+    less_room (touches far (edge_at edges k)) between room growth (residue_of nodes (edge_at edges k)) le (has k less at)
+
+-- what is found makes a way to match the root
+module _ (p : Problem) (nodes : List Node) (unmatched : List ℕ) (root v : ℕ) (r : Reach)
+    (top : top_at nodes root ≡ v ∷ []) (is : IsReach p nodes unmatched v r) (room : ℕ)
+    (has : HasRoom p.edges nodes v r.far r.length room) where
+  pub boundary_is_near : (near : Near) → r.other ≡ None → r.length ≤ room → near ≡ Boundary r.edge r.length
+      → IsNear p nodes unmatched root near
+  boundary_is_near near none within same =
+      subst (IsNear p nodes unmatched root) (sym same)
+      (record {
+        inner = v;
+        outer = r.far;
+        within = is.within;
+        leads = is.leads;
+        top = top;
+        boundary = at_boundary r.other none is.target;
+        residue = is.residue;
+        room = narrowed p.edges nodes v r.far r.length room r.length within has;
+      })
+    where
+      at_boundary : (o : Option ℕ) → o ≡ None → IsTarget p nodes unmatched r.far o → p.is_real r.far ≡ false
+      at_boundary None e target = target
+      at_boundary (Some n) e target = cc
+
+  pub pair_is_near : (near : Near) (other share other_room : ℕ) → r.other ≡ Some other
+      → HasRoom p.edges nodes r.far v r.length other_room → IsShare r.length room other_room share
+      → near ≡ Pair (record { edge = r.edge; length = r.length - share; other = other; other_length = share })
+      → IsNear p nodes unmatched root near
+  pair_is_near near other share other_room some more part same =
+      subst (IsNear p nodes unmatched root) (sym same)
+      (record {
+        inner = v;
+        outer = r.far;
+        within = is.within;
+        leads = is.leads;
+        top = top;
+        single = subst (λ o. IsTarget p nodes unmatched r.far o) some is.target;
+        even = part.even;
+        residue = whole ∙ is.residue;
+        room = subst (λ n. HasRoom p.edges nodes v r.far n (r.length - share)) (sym whole)
+            (narrowed p.edges nodes v r.far r.length room (r.length - share) (omega (arith, part.left)) has);
+        other_room = subst (λ n. HasRoom p.edges nodes r.far v n share) (sym whole)
+            (narrowed p.edges nodes r.far v r.length other_room share part.within more);
+      })
+    where
+      whole : (r.length - share) + share ≡ r.length
+      whole = omega (arith, part.part)
+
+  pub pair_found : (result : Option Near) (other other_room : ℕ) → r.other ≡ Some other
+      → HasRoom p.edges nodes r.far v r.length other_room
+      → IfSome result (λ near. (k : ℕ) × IsShare r.length room other_room k
+      × (near ≡ Pair (record { edge = r.edge; length = r.length - k; other = other; other_length = k })))
+      → IfSome result (IsNear p nodes unmatched root)
+  pair_found None other other_room some more found = tt
+  pair_found (Some near) other other_room some more (k, part, same) = pair_is_near near other k other_room some more part same
+
+-- the vertex of a single defect is within the graph
+pub vertex_below : (p : Problem) (nodes : List Node) (name v : ℕ) → IsNest p nodes → IsWithinLimits p → is_live nodes name ≡ true
+    → top_at nodes name ≡ v ∷ [] → v < p.vertices
+vertex_below p nodes name v nest limits live top =
+    limits.real_below v
+    (All-head (λ u. p.is_real u ≡ true) v [] (subst (All (λ u. p.is_real u ≡ true)) top (top_real p nodes name nest live)))

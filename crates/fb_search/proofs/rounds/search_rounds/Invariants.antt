@@ -1,0 +1,10 @@
+use Rattle.std.proofs.Common.{◌≡◌, ◌≤◌, length}
+use Rattle.fb_half.specs.Parts.{problem_in}
+use Rattle.fb_search.specs.InternalRounds.{HasSearchedSome}
+use Rattle.fb_search.proofs.rounds.search_rounds.Given as goal
+
+abbrev pub invariant-loop : goal.invariant-loop
+invariant-loop g l =
+    HasSearchedSome l.fn.work l.roots l.fn.steps l.steps l.round.left.items l.round.work
+    × (l.round.watch.edge_count ≡ length (problem_in l.round.work).edges)
+    × (l.round.watch.edge_count ≡ l.fn.watch.edge_count) × (l.fn.steps ≤ l.steps)

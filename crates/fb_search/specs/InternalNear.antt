@@ -1,0 +1,79 @@
+-- An edge over which an unmatched node that is a single defect can be matched at once: to the boundary, or with another
+-- such node.
+use Rattle.std.specs.Prelude.{ℕ, ◌≡◌, ◌+◌, ◌%◌, ◌<◌, ◌≤◌, true, false, List, [], ◌∷◌, length, Option, Some, None, if◌then◌else◌}
+use Rattle.fb_graph.specs.declared.parts.Edge.{Edge}
+use Rattle.fb_graph.specs.Parity.{is_in}
+use Rattle.fb_graph.specs.Components.{Leads}
+use Rattle.fb_graph.specs.Problem.{Problem, edge_at, touches}
+use Rattle.fb_graph.specs.Dual.{Node, cover_of, top_at}
+use Rattle.fb_graph.specs.Steps.{Roles}
+use Rattle.fb_laws.specs.Trees.{roles_of}
+use Rattle.fb_obstacles.specs.Obstacles.{residue_of}
+use Rattle.fb_search.specs.declared.near.Near.{Near}
+use Rattle.fb_search.specs.declared.near.Near.TheVariants.{Boundary, Pair}
+use Rattle.fb_search.specs.declared.near.NearPair.{NearPair}
+use Rattle.fb_search.specs.declared.near.Reach.{Reach}
+
+-- the roles where this node alone grows
+abbrev pub alone : ℕ → Roles
+alone name = roles_of {L = ℕ} name []
+
+-- the unmatched outer node holds this vertex alone
+pub record IsSingleAt (nodes : List Node) (unmatched : List ℕ) (v name : ℕ) : Type 0 where
+  pub top : top_at nodes name ≡ v ∷ []
+  pub covered : cover_of nodes v ≡ Some name
+  pub listed : is_in unmatched name ≡ true
+
+-- with what a defect can be matched at the vertex: with such a node, or with the boundary
+abbrev pub IsTarget : Problem → List Node → List ℕ → ℕ → Option ℕ → Type 0
+IsTarget p nodes unmatched v None = p.is_real v ≡ false
+IsTarget p nodes unmatched v (Some name) = IsSingleAt nodes unmatched v name
+
+-- an edge from the vertex to such a target, with its residue
+pub record IsReach (p : Problem) (nodes : List Node) (unmatched : List ℕ) (v : ℕ) (r : Reach) : Type 0 where
+  pub within : r.edge < length p.edges
+  pub leads : Leads (edge_at p.edges r.edge) v r.far
+  pub target : IsTarget p nodes unmatched r.far r.other
+  pub residue : r.length ≡ residue_of nodes (edge_at p.edges r.edge)
+
+-- Each edge at the vertex has at least the residue `room`, but for those that lead to `far`, which have at least `between`.
+abbrev pub HasRoom : List Edge → List Node → ℕ → ℕ → ℕ → ℕ → Type 0
+HasRoom edges nodes v far between room = (k : ℕ) → k < length edges → touches v (edge_at edges k) ≡ true
+    → (if touches far (edge_at edges k) then between else room) ≤ residue_of nodes (edge_at edges k)
+
+-- the edge leads from a single defect to the boundary, and the defect may grow by all its residue
+pub record IsNearBoundary (p : Problem) (nodes : List Node) (root edge growth : ℕ) : Type 0 where
+  pub inner : ℕ
+  pub outer : ℕ
+  pub within : edge < length p.edges
+  pub leads : Leads (edge_at p.edges edge) inner outer
+  pub top : top_at nodes root ≡ inner ∷ []
+  pub boundary : p.is_real outer ≡ false
+  pub residue : growth ≡ residue_of nodes (edge_at p.edges edge)
+  pub room : HasRoom p.edges nodes inner outer growth growth
+
+-- The edge leads from a single defect to another one, and both may grow until it is tight, the other one by an even length.
+pub record IsNearPair (p : Problem) (nodes : List Node) (unmatched : List ℕ) (root : ℕ) (pair : NearPair) : Type 0 where
+  pub inner : ℕ
+  pub outer : ℕ
+  pub within : pair.edge < length p.edges
+  pub leads : Leads (edge_at p.edges pair.edge) inner outer
+  pub top : top_at nodes root ≡ inner ∷ []
+  pub single : IsSingleAt nodes unmatched outer pair.other
+  pub even : pair.other_length % 2 ≡ 0
+  pub residue : pair.length + pair.other_length ≡ residue_of nodes (edge_at p.edges pair.edge)
+  pub room : HasRoom p.edges nodes inner outer (pair.length + pair.other_length) pair.length
+  pub other_room : HasRoom p.edges nodes outer inner (pair.length + pair.other_length) pair.other_length
+
+-- the root can be matched in this way
+abbrev pub IsNear : Problem → List Node → List ℕ → ℕ → Near → Type 0
+IsNear p nodes unmatched root (Boundary edge growth) = IsNearBoundary p nodes root edge growth
+IsNear p nodes unmatched root (Pair pair) = IsNearPair p nodes unmatched root pair
+
+-- how much of the residue of an edge between two defects the other one takes: an even length within its room, so much that
+-- the first one's part is within its room too
+pub record IsShare (residue room other_room share : ℕ) : Type 0 where
+  pub even : share % 2 ≡ 0
+  pub part : share ≤ residue
+  pub within : share ≤ other_room
+  pub left : residue ≤ room + share

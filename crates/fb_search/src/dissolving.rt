@@ -1,0 +1,37 @@
+ghost use Rattle.std.specs.Prelude.{◌≡◌, IfOk};
+ghost use Rattle.fb_search.specs.InternalRounds.{HasEvenRoot, IsDissolved, IsRootPotential};
+
+use crate::ending::{add_matches, forget_tree, matches_at_end};
+use crate::searching::Searching;
+use fb_graph::NoMemory;
+use fb_half::Work;
+use fb_obstacles::Watch;
+use std::alloc::Global;
+
+impl<'a> Searching<'a> {
+    /// The potential of the root's first vertex. The tree's defects have potentials of the same parity.
+    pub(crate) fn root_potential(&self) -> u64
+        ensures { IsRootPotential self.now result }
+    {
+        let regions = &self.parts.regions;
+        regions.potential(regions.first_vertex(self.tree.root()))
+    }
+
+    /// Gives the tree up: its minus nodes stay matched with its plus nodes, its other links are removed, and the root is
+    /// still unmatched. The dual state stays as it has grown.
+    pub(crate) fn dissolve(self, alloc: Global) -> Result<(Work<'a>, Watch), NoMemory>
+        requires { HasEvenRoot self }
+        ensures { IfOk result (λ left. IsDissolved self.entry left.0 left.1) }
+    {
+        let Searching {
+            mut parts,
+            tree,
+            watch,
+        } = self;
+        let root = tree.root();
+        let matches = matches_at_end(alloc, &tree, root)?;
+        add_matches(alloc, &mut parts.matching, &matches)?;
+        forget_tree(alloc, &mut parts.links, &tree, root)?;
+        Ok((Work::from_parts(parts), watch))
+    }
+}
