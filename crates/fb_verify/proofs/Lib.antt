@@ -1,12 +1,15 @@
 pub mod Certified
+pub mod Continued
 pub mod Goods
 pub mod KeptRows
 pub mod Leasts
 pub mod LineAfterLine
 pub mod Marked
 pub mod Numerals
+pub mod OneThing
 pub mod Overloads
 pub mod Parts
 pub mod PrintedWords
 pub mod ReadRows
+pub mod ReadWords
 pub mod Sharing

@@ -1,7 +1,7 @@
 -- Words and lines as a report prints them, and what a reader makes of them.
 use Rattle.std.proofs.Common.{◌≡◌, ℕ, ◌+◌, ◌*◌, ◌-◌, ◌/◌, ◌%◌, ◌^◌, ◌<◌, ◌≤◌, Bool, true, false, eqb, List, [], ◌∷◌, ◌++◌, get_or, All, map, decimal, Some, refl, sym, ap, subst, ◌∙◌, inl, inr, arith, append_assoc}
 use Rattle.std.specs.Prelude.{option_and_then}
-use Rattle.std.specs.List.{list_any, slice_split}
+use Rattle.std.specs.List.{list_any, slice_split, join_with_byte}
 use Rattle.std.proofs.lemmas.Bool.{cases_Bool, cases_lt, or_parts, ne_eqb, eq-eqb, and_from, le-leb, lt-ltb}
 use Rattle.std.proofs.lemmas.Fmt.{decimal_by_steps, decimal_digit, first_decimal}
 use Rattle.std.proofs.lemmas.List.Elements.{All-head, All-tail}
@@ -105,24 +105,23 @@ words_decimal (n ∷ ns) lt =
 
 -- ---- lines
 
-split_at : (s : ℕ) (w more : List ℕ) → holds s w ≡ false → slice_split (λ b. eqb b s) (w ++ s ∷ more) ≡ w ∷ slice_split (λ b. eqb b s) more
+pub split_at : (s : ℕ) (w more : List ℕ) → holds s w ≡ false → slice_split (λ b. eqb b s) (w ++ s ∷ more) ≡ w ∷ slice_split (λ b. eqb b s) more
 split_at s [] more h = rw (eq-eqb s s refl) refl
 split_at s (c ∷ w) more h =
     let o = or_parts (eqb c s) (holds s w) h in
     rw (o.0, split_at s w more o.1) refl
 
-split_last : (s : ℕ) (w : List ℕ) → holds s w ≡ false → slice_split (λ b. eqb b s) w ≡ w ∷ []
+pub split_last : (s : ℕ) (w : List ℕ) → holds s w ≡ false → slice_split (λ b. eqb b s) w ≡ w ∷ []
 split_last s [] h = refl
 split_last s (c ∷ w) h =
     let o = or_parts (eqb c s) (holds s w) h in
     rw (o.0, split_last s w o.1) refl
 
 -- a line without its newline
-abbrev joined : List ℕ → List (List ℕ) → List ℕ
-joined w [] = w
-joined w (v ∷ vs) = w ++ 32 ∷ joined v vs
+abbrev pub joined : List ℕ → List (List ℕ) → List ℕ
+joined w ws = join_with_byte 32 (w ∷ ws)
 
-line-joined : (w : List ℕ) (ws : List (List ℕ)) → line w ws ≡ joined w ws ++ 10 ∷ []
+pub line-joined : (w : List ℕ) (ws : List (List ℕ)) → line w ws ≡ joined w ws ++ 10 ∷ []
 line-joined w [] = refl
 line-joined w (v ∷ vs) = ap (λ (l : List ℕ). w ++ 32 ∷ l) (line-joined v vs) ∙ sym (append_assoc w (32 ∷ joined v vs) (10 ∷ []))
 

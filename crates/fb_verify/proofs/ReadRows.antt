@@ -2,7 +2,7 @@
 use Rattle.std.proofs.Common.{◌≡◌, ℕ, ◌+◌, ◌<◌, ◌≤◌, ◌^◌, Bool, true, false, eqb, List, [], ◌∷◌, ◌++◌, length, All, map, codes, decimal, Option, Some, Ok, refl, sym, ap, subst, ◌∙◌, arith, append_assoc, append-nil}
 use Rattle.std.specs.Prelude.{if◌then◌else◌, option_map, option_and_then, count_by}
 use Rattle.std.specs.List.{concat, slice_split}
-use Rattle.std.proofs.lemmas.Bool.{ne_eqb, eq-eqb, and_from, le-ltb}
+use Rattle.std.proofs.lemmas.Bool.{ne_eqb, eq-eqb, and_from}
 use Rattle.std.proofs.lemmas.List.{length_push, length-map}
 use Rattle.std.proofs.lemmas.List.Sums.{count_by-le-length}
 use Rattle.std.proofs.lemmas.List.Elements.{All-nil, All-head, All-tail, All-map, All-weaker}
@@ -16,7 +16,7 @@ use Rattle.fb_verify.specs.declared.lines.Line.{Line}
 use Rattle.fb_verify.specs.declared.lines.Line.TheVariants as line
 use Rattle.fb_verify.specs.declared.walking.Place.TheVariants as place
 use Rattle.fb_verify.specs.declared.walking.Reading.{Reading}
-use Rattle.fb_verify.specs.Reports.{is_odd, has_none, with_number, at_end, trace_line, row_kind, cut_of, head_line, shot_line, edges_line, weight_line, cut_line, done_line, line_of, reading, as_next, at_row_end, step, with_line, read_from, most_bytes, report_of_text}
+use Rattle.fb_verify.specs.Reports.{is_odd, has_none, with_number, at_end, trace_line, row_kind, cut_of, head_line, shot_line, edges_line, weight_line, cut_line, done_line, line_of, reading, as_next, at_row_end, step, with_line, read_from, report_in}
 use Rattle.fb_verify.specs.ReadBack.{Event, TracedRow, event_text, traced_text, rows_of, report_text, plain_text, report_with, IsCutInRange, IsRowInRange, IsEventInRange, IsInRange, ReadsBack, PlainReadsBack}
 use Rattle.fb_verify.proofs.LineAfterLine.{read_taken}
 use Rattle.fb_verify.proofs.PrintedWords.{IsWord, AreWords, word_decimal, words_decimal, first_number-decimal, all_numbers-decimal, first_line}
@@ -26,11 +26,11 @@ use Rattle.fb_verify.proofs.PrintedWords.{IsWord, AreWords, word_decimal, words_
 with_first : {X : Type 0} (bound n : ℕ) (ws : List (List ℕ)) (go_on : ℕ → List (List ℕ) → Option X) → n < bound → bound ≤ 2 ^ 64 → with_number bound (decimal n ∷ ws) go_on ≡ go_on n ws
 with_first bound n ws go_on lt le = ap (option_and_then (λ p. go_on p.0 p.1)) (first_number-decimal bound n ws lt le)
 
-said_shot : (k : ℕ) → k < 2 ^ 32 → line_of (codes "shot" ∷ decimal k ∷ []) ≡ Some (line.Shot k)
+pub said_shot : (k : ℕ) → k < 2 ^ 32 → line_of (codes "shot" ∷ decimal k ∷ []) ≡ Some (line.Shot k)
 unfolding line_of shot_line row_kind
 said_shot k lt = with_first (2 ^ 32) k [] row_kind lt (omega arith)
 
-said_odd : (k v : ℕ) → k < 2 ^ 32 → v < 2 ^ 32 → line_of (codes "shot" ∷ decimal k ∷ codes "odd" ∷ decimal v ∷ []) ≡ Some (line.Odd k v)
+pub said_odd : (k v : ℕ) → k < 2 ^ 32 → v < 2 ^ 32 → line_of (codes "shot" ∷ decimal k ∷ codes "odd" ∷ decimal v ∷ []) ≡ Some (line.Odd k v)
 unfolding line_of shot_line row_kind
 said_odd k v lt less =
     with_first (2 ^ 32) k (codes "odd" ∷ decimal v ∷ []) row_kind lt (omega arith)
@@ -81,7 +81,7 @@ said_done rows odd units fusions a b c d =
 
 -- ---- one line
 
-abbrev lines_in : List ℕ → List (List ℕ)
+abbrev pub lines_in : List ℕ → List (List ℕ)
 lines_in text = slice_split (λ b. eqb b 10) text
 
 -- a printed line is taken
@@ -95,12 +95,12 @@ taken n r next w ws said more p q says stepped =
 
 -- ---- between rows
 
-abbrev is_cut : Line → Bool
+abbrev pub is_cut : Line → Bool
 is_cut (line.Cut c) = true
 is_cut said = false
 
 -- these rows are whole
-abbrev IsBetween : List Row → Reading → Type 0
+abbrev pub IsBetween : List Row → Reading → Type 0
 IsBetween rows r = (n : ℕ) (said : Line) → is_cut said ≡ false → step n r.rows r.place said ≡ at_row_end n rows said
 
 between_rows : (rows : List Row) → IsBetween rows (reading rows place.Between)
@@ -114,11 +114,11 @@ between_cuts rows edges weight cuts = λ n said e. other n said e where
   other n said e = refl
 
 -- a text leads to whole rows and what follows it
-record Leads (rows : List Row) (n : ℕ) (r : Reading) (text more : List ℕ) : Type 0 where
-  line_number : ℕ
-  next : Reading
-  between : IsBetween rows next
-  same : read_from n r (lines_in text) ≡ read_from line_number next (lines_in more)
+pub record Leads (rows : List Row) (n : ℕ) (r : Reading) (text more : List ℕ) : Type 0 where
+  pub line_number : ℕ
+  pub next : Reading
+  pub between : IsBetween rows next
+  pub same : read_from n r (lines_in text) ≡ read_from line_number next (lines_in more)
 
 -- ---- cuts, trace lines
 
@@ -186,7 +186,7 @@ next_shot n rows k next e = let same = eq-eqb k (length rows) e in rw same refl
 row_word : IsWord (codes "shot")
 row_word = record { space = refl; newline = refl }
 
-odd-line : (k v : ℕ) → row_text k (row.Odd v) ≡ line (codes "shot") (decimal k ∷ codes "odd" ∷ decimal v ∷ [])
+pub odd-line : (k v : ℕ) → row_text k (row.Odd v) ≡ line (codes "shot") (decimal k ∷ codes "odd" ∷ decimal v ∷ [])
 unfolding row_text
 odd-line k v = refl
 
@@ -244,7 +244,7 @@ has_some : (rows : List Row) (r : Row) → has_none (rows ++ r ∷ []) ≡ false
 has_some [] r = refl
 has_some (x ∷ rows) r = refl
 
-traced_read : (traced : List TracedRow) (n : ℕ) (before : Reading) (rows : List Row) (more : List ℕ) → IsBetween rows before → All IsInRange traced → length rows + length traced < 2 ^ 32
+traced_read : (traced : List TracedRow) (n : ℕ) (before : Reading) (rows : List Row) (more : List ℕ) → IsBetween rows before → All IsInRange traced → length rows + length traced ≤ 2 ^ 32
     → Leads (rows ++ rows_of traced) n before (traced_text (length rows) traced ++ more) more
 traced_read [] n before rows more between fits lt = record {
   line_number = n;
@@ -273,7 +273,7 @@ traced_read (t ∷ traced) n before rows more between fits lt =
           ∙ later.same;
     }
 
-done-line : (rows odd units fusions : ℕ) → done_text rows odd units fusions
+pub done-line : (rows odd units fusions : ℕ) → done_text rows odd units fusions
     ≡ line (codes "done") (decimal rows ∷ codes "odd" ∷ decimal odd ∷ codes "units" ∷ decimal units ∷ codes "fusions" ∷ decimal fusions ∷ [])
 unfolding done_text
 done-line rows odd units fusions = refl
@@ -300,7 +300,7 @@ done_words rows odd units fusions a b c d = (
   ),
 )
 
-done_read : (n : ℕ) (before : Reading) (rows : List Row) (units fusions : ℕ) → IsBetween rows before → length rows < 2 ^ 32 → units < 2 ^ 64 → fusions < 2 ^ 64
+done_read : (n : ℕ) (before : Reading) (rows : List Row) (units fusions : ℕ) → IsBetween rows before → length rows ≤ 2 ^ 32 → units < 2 ^ 64 → fusions < 2 ^ 64
     → read_from n before (lines_in (done_text (length rows) (count_by is_odd rows) units fusions))
     ≡ Ok (report_with rows units fusions)
 done_read n before rows units fusions between lt a b =
@@ -322,28 +322,37 @@ head-line : head_text ≡ line (codes "fusion-report") (codes "1" ∷ [])
 unfolding head_text
 head-line = refl
 
+-- the first line and whole rows
+pub rows_read : (traced : List TracedRow) (more : List ℕ) → All IsInRange traced → length traced ≤ 2 ^ 32
+    → Leads (rows_of traced) 1 (reading [] place.Start) (head_text ++ traced_text 0 traced ++ more) more
+unfolding line_of head_line
+rows_read traced more fits few =
+    let began = reading [] place.Between in
+    let all = traced_read traced (1 + 1) began [] more (between_rows []) fits (omega arith) in
+    record {
+      line_number = all.line_number;
+      next = all.next;
+      between = all.between;
+      same = ap (λ (l : List ℕ). read_from 1 (reading [] place.Start) (lines_in l))
+          (append_assoc head_text (traced_text 0 traced) more ∙ ap (λ (l : List ℕ). l ++ (traced_text 0 traced ++ more)) head-line)
+          ∙ taken 1 (reading [] place.Start) began (codes "fusion-report") (codes "1" ∷ []) line.Head (traced_text 0 traced ++ more)
+          (record { space = refl; newline = refl }) (record { space = refl; newline = refl }, tt) refl refl
+          ∙ all.same;
+    }
+
 pub read_back : ReadsBack
-unfolding report_of_text line_of head_line
-read_back traced units fusions fits lt a b short =
+read_back traced units fusions fits =
     let rows = rows_of traced in
     let same : length rows ≡ length traced = length-map traced (λ (t : TracedRow). t.row) in
-    let last = done_text (length traced) (count_by is_odd rows) units fusions in
-    let began = reading [] place.Between in
-    let all = traced_read traced (1 + 1) began [] last (between_rows []) fits (omega arith) in
-    let within = le-ltb most_bytes (length (report_text traced units fusions)) short in
-    rw within (
-    ap (λ (l : List ℕ). read_from 1 (reading [] place.Start) (lines_in l))
-    (append_assoc head_text (traced_text 0 traced) last ∙ ap (λ (l : List ℕ). l ++ (traced_text 0 traced ++ last)) head-line)
-    ∙ taken 1 (reading [] place.Start) began (codes "fusion-report") (codes "1" ∷ []) line.Head (traced_text 0 traced ++ last)
-    (record { space = refl; newline = refl }) (record { space = refl; newline = refl }, tt) refl refl
-    ∙ all.same
+    let few = fits.count in
+    let all = rows_read traced (done_text (length traced) (count_by is_odd rows) units fusions) fits.rows few in
+    all.same
     ∙ ap (λ (k : ℕ). read_from all.line_number all.next (lines_in (done_text k (count_by is_odd rows) units fusions))) (sym same)
-    ∙ done_read all.line_number all.next rows units fusions all.between (omega arith) a b
-    )
+    ∙ done_read all.line_number all.next rows units fusions all.between (omega arith) fits.units_fit fits.fusions_fit
 
 -- ---- without events
 
-abbrev untraced : Row → TracedRow
+abbrev pub untraced : Row → TracedRow
 untraced r = record { row = r; events = [] }
 
 rows_of-untraced : (rows : List Row) → rows_of (map untraced rows) ≡ rows
@@ -360,14 +369,18 @@ report_text-untraced rows units fusions =
     ∙ ap (λ (n : ℕ). head_text ++ rows_text 0 rows ++ done_text n (count_by is_odd (rows_of (map untraced rows))) units fusions) (length-map rows untraced)
     ∙ ap (λ (rs : List Row). head_text ++ rows_text 0 rows ++ done_text (length rows) (count_by is_odd rs) units fusions) (rows_of-untraced rows)
 
-in_range : (r : Row) → IsRowInRange r → IsInRange (untraced r)
+pub in_range : (r : Row) → IsRowInRange r → IsInRange (untraced r)
 in_range r fits = record { row = fits; events = All-nil IsEventInRange }
 
 pub plain_read_back : PlainReadsBack
-plain_read_back rows units fusions fits lt a b short =
-    let text = report_text-untraced rows units fusions in
+plain_read_back rows units fusions fits lt a b =
     let same = length-map rows untraced in
-    ap report_of_text (sym text)
-    ∙ read_back (map untraced rows) units fusions (All-map IsInRange untraced rows (All-weaker IsRowInRange (λ r. IsInRange (untraced r)) in_range rows fits))
-    (omega arith) a b (omega (arith, ap length text))
+    ap report_in (sym (report_text-untraced rows units fusions))
+    ∙ read_back (map untraced rows) units fusions
+    (record {
+      rows = All-map IsInRange untraced rows (All-weaker IsRowInRange (λ r. IsInRange (untraced r)) in_range rows fits);
+      count = omega arith;
+      units_fit = a;
+      fusions_fit = b;
+    })
     ∙ ap (λ (rs : List Row). Ok (report_with rs units fusions)) (rows_of-untraced rows)

@@ -6,7 +6,7 @@ use Rattle.fb_graph.specs.declared.parts.Row.{Row}
 use Rattle.fb_graph.specs.declared.parts.Row.TheVariants.{Best, Odd}
 use Rattle.fb_report.specs.Texts.{head_text, row_text, rows_text, trace_line, done_text}
 use Rattle.fb_verify.specs.declared.reports.Report.{Report}
-use Rattle.fb_verify.specs.Reports.{is_odd, most_bytes, report_of_text}
+use Rattle.fb_verify.specs.Reports.{is_odd, report_in}
 
 -- an event of a run, as its line tells it: a worker took a node of the plan for a shot, or gave what it had made of it
 pub record Event : Type 0 where
@@ -61,6 +61,13 @@ pub record IsInRange (r : TracedRow) : Type 0 where
   pub row : IsRowInRange r.row
   pub events : All IsEventInRange r.events
 
+-- each number of a report is one that its line can have
+pub record IsReportInRange (traced : List TracedRow) (units fusions : ℕ) : Type 0 where
+  pub rows : All IsInRange traced
+  pub count : length traced ≤ 2 ^ 32
+  pub units_fit : units < 2 ^ 64
+  pub fusions_fit : fusions < 2 ^ 64
+
 -- ---- the law
 
 -- what a reader of a report has
@@ -68,16 +75,14 @@ abbrev pub report_with : List Row → ℕ → ℕ → Report
 report_with rows units fusions =
     record { rows = rows; totals = record { rows = length rows; odd = count_by is_odd rows; units = units; fusions = fusions } }
 
--- A report that is printed and not too long is read as what was printed.
+-- A report that is printed is read as what was printed, however long it is.
 abbrev pub ReadsBack : Type 0
 ReadsBack =
-    (traced : List TracedRow) (units fusions : ℕ) → All IsInRange traced → length traced < 2 ^ 32 → units < 2 ^ 64 → fusions < 2 ^ 64
-    → length (report_text traced units fusions) ≤ most_bytes
-    → report_of_text (report_text traced units fusions) ≡ Ok (report_with (rows_of traced) units fusions)
+    (traced : List TracedRow) (units fusions : ℕ) → IsReportInRange traced units fusions
+    → report_in (report_text traced units fusions) ≡ Ok (report_with (rows_of traced) units fusions)
 
 -- the same of a report without events
 abbrev pub PlainReadsBack : Type 0
 PlainReadsBack =
-    (rows : List Row) (units fusions : ℕ) → All IsRowInRange rows → length rows < 2 ^ 32 → units < 2 ^ 64 → fusions < 2 ^ 64
-    → length (plain_text rows units fusions) ≤ most_bytes
-    → report_of_text (plain_text rows units fusions) ≡ Ok (report_with rows units fusions)
+    (rows : List Row) (units fusions : ℕ) → All IsRowInRange rows → length rows ≤ 2 ^ 32 → units < 2 ^ 64 → fusions < 2 ^ 64
+    → report_in (plain_text rows units fusions) ≡ Ok (report_with rows units fusions)

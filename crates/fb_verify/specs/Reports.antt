@@ -191,12 +191,14 @@ read_from n r [] = Err Unfinished
 read_from n r (last ∷ []) = ending n r.rows r.place last
 read_from n r (text ∷ part ∷ parts) = go_on (with_line n r (line_of (words_of text))) (λ next. read_from (n + 1) next (part ∷ parts))
 
+-- the report that a text of any length is, or the first line that fails
+abbrev pub report_in : List ℕ → Result Report ReportFault
+report_in text = read_from 1 (reading [] place.Start) (slice_split (λ b. b == 10) text)
+
 -- the longest text that is read, in bytes
 abbrev pub most_bytes : ℕ
 most_bytes = 2 ^ 30
 
--- the report that a text is, or the first line that fails
+-- the report that a text is, or the first line that fails, or that the text is too long
 unfoldable pub report_of_text : List ℕ → Result Report ReportFault
-report_of_text text =
-    if nat_lt most_bytes (length text) then Err TooLong
-    else read_from 1 (reading [] place.Start) (slice_split (λ b. b == 10) text)
+report_of_text text = if nat_lt most_bytes (length text) then Err TooLong else report_in text

@@ -1,9 +1,17 @@
-//! A theorem on the definitions alone: a function that does nothing, and ensures it.
+//! Theorems on the definitions alone: functions that do nothing, and ensure them.
 
 ghost use Rattle.fb_verify.specs.ReadBack.{ReadsBack, PlainReadsBack};
+ghost use Rattle.fb_verify.specs.Readings.{ReadsAsIs, IsOneThing};
 
-/// A report that is printed, with trace lines or without, is read as what was printed.
+/// A report that is printed, with trace lines or without, is read as what was printed, however long it is.
 pub fn reads_back()
     ensures traced { ReadsBack }
     ensures plain { PlainReadsBack }
+{}
+
+/// What a reading comes to, told by the reports that can be printed: exactly those are read. A text is refused at the
+/// first line after which no report goes on like it, or as unfinished where it stops before the report that it begins.
+pub fn reads_as_is()
+    ensures is { ReadsAsIs }
+    ensures alone { IsOneThing }
 {}

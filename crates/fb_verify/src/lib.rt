@@ -24,7 +24,7 @@ pub mod verdicts;
 mod walking;
 
 pub use checking::{Judge, check_row};
-pub use laws::reads_back;
+pub use laws::{reads_as_is, reads_back};
 pub use report_faults::ReportFault;
 pub use report_text::read_report;
 pub use reports::{Report, RowList, Totals};

@@ -1,6 +1,8 @@
 use thiserror::Error;
 
 /// Why a text is no report. Lines are counted from 1.
+///
+/// Its texts are for other callers: `fusion` prints a fault's name and number.
 #[derive(Clone, Copy, Debug, PartialEq, Eq, Error)]
 pub enum ReportFault {
     /// The line is none that may stand there; or it is a done line whose numbers of rows aren't those of the text; or it

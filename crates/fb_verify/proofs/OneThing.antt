@@ -1,0 +1,562 @@
+-- What a reading comes to, by the reports that begin like its text.
+use Rattle.std.proofs.Common.{◌≡◌, ◌≢◌, ℕ, ◌+◌, ◌<◌, ◌^◌, Bool, true, false, List, [], ◌∷◌, ◌++◌, length, All, codes, decimal, Option, Some, None, Result, Ok, Err, IfSome, refl, sym, ap, subst, ◌∙◌, cond, inl, inr, arith, append_assoc, append-nil}
+use Rattle.std.specs.Prelude.{◌==◌, ◌&&◌, if◌then◌else◌, count_by}
+use Rattle.std.specs.List.{onto_first, join_with_byte}
+use Rattle.std.proofs.lemmas.Bool.{cases_Bool, and_parts, eqb-true, eqb-false, or_parts, or_from, ne_eqb}
+use Rattle.std.proofs.lemmas.List.{length-map, same_from_push}
+use Rattle.std.proofs.lemmas.List.Elements.{All-nil, All-cons, All-head, All-tail, All-push}
+use Rattle.std.proofs.lemmas.List.Folds.{list_any-append}
+use Rattle.std.proofs.lemmas.List.Splits.{join_with_byte-slice_split}
+use Rattle.std.proofs.lemmas.List.Sums.{sum_by-cons, sum_by-append}
+use Rattle.fb_graph.specs.declared.parts.Row.{Row}
+use Rattle.fb_graph.specs.declared.parts.Row.TheVariants as row
+use Rattle.fb_report.specs.Texts.{line, head_text, row_text, done_text}
+use Rattle.fb_verify.specs.declared.report_faults.ReportFault.{ReportFault}
+use Rattle.fb_verify.specs.declared.report_faults.ReportFault.TheVariants.{BadLine, WrongShot, Unfinished, TooLong, NoMemory}
+use Rattle.fb_verify.specs.declared.reports.Totals.{Totals}
+use Rattle.fb_verify.specs.declared.lines.Line.{Line}
+use Rattle.fb_verify.specs.declared.lines.Line.TheVariants as line
+use Rattle.fb_verify.specs.declared.walking.Place.{Place}
+use Rattle.fb_verify.specs.declared.walking.Place.TheVariants as place
+use Rattle.fb_verify.specs.declared.walking.Reading.{Reading}
+use Rattle.fb_verify.specs.Reports.{words_of, is_odd, has_none, line_of, reading, as_next, at_row_end, step, with_line, ending, go_on, read_from, report_in}
+use Rattle.fb_verify.specs.ReadBack.{TracedRow, traced_text, rows_of, report_with, IsCutInRange, IsInRange}
+use Rattle.fb_verify.specs.Readings.{IsReport, BeginsReport, newlines, AreLines, IsLine, BeginsRow, IsOutOfTurn, IsNoContinuation, IsCutShort, IsReadingOf, ReadsAsIs, IsOneThing}
+use Rattle.fb_verify.proofs.Parts.{some_part}
+use Rattle.fb_verify.proofs.PrintedWords.{holds, split_at, split_last, joined, line-joined, AreWords, word_decimal, first_line}
+use Rattle.fb_verify.proofs.LineAfterLine.{read_taken, read_failed}
+use Rattle.fb_verify.proofs.ReadRows.{lines_in, IsBetween, is_cut, said_shot, said_odd, odd-line, done-line, rows_read, read_back}
+use Rattle.fb_verify.proofs.ReadWords.{IsTextOf, line_read}
+use Rattle.fb_verify.proofs.Continued.{AreRows, count_same, pushed, told_event, shot_text, IsEnded, IsPlace, longer, best-cut, edges_listed, weighed, rows_begin, begins}
+
+-- ---- one line
+
+-- what a line comes to behind this text
+abbrev Comes : ℕ → List ℕ → List ℕ → Result Reading ReportFault → Type 0
+Comes n front here (Ok next) = IsPlace (front ++ here) next.rows next.place
+Comes n front here (Err (BadLine m)) = m ≡ n
+Comes n front here (Err (WrongShot m)) = (m ≡ n) × IsOutOfTurn front here
+Comes n front here (Err fault) = ⊥
+
+comes_if : (n : ℕ) (front here : List ℕ) (b : Bool) (x y : Result Reading ReportFault) → (b ≡ true → Comes n front here x) → (b ≡ false → Comes n front here y)
+    → Comes n front here (if b then x else y)
+comes_if n front here true x y p q = p refl
+comes_if n front here false x y p q = q refl
+
+out_of_turn : (front here : List ℕ) (rows : List Row) (k : ℕ) → AreRows front rows → k < 2 ^ 32 → BeginsRow k here → k == length rows ≡ false → IsOutOfTurn front here
+out_of_turn front here rows k are lt begun other =
+    let count = count_same front rows are in
+    record {
+      traced = are.traced;
+      rows = are.fits;
+      count = are.few;
+      whole = are.text;
+      shot = k;
+      in_range = lt;
+      row = begun;
+      other = λ same. eqb-false k (length rows) other (same ∙ sym count);
+    }
+
+row_end_comes : (n : ℕ) (front here : List ℕ) (rows : List Row) (said : Line) → AreRows front rows → IsTextOf here said → Comes n front here (at_row_end n rows said)
+row_end_comes n front here rows (line.Shot k) are text =
+    comes_if n front here (k == length rows) (Ok (reading rows place.InRow)) (Err (WrongShot n))
+    (λ same. let e = eqb-true k (length rows) same in let lt = text.1 in record {
+      before = front;
+      whole = are;
+      text = ap (λ (l : List ℕ). front ++ l) (text.0 ∙ ap shot_text e);
+      few = omega arith;
+    })
+    (λ other. (refl, out_of_turn front here rows k are text.1 (inl text.0) other))
+row_end_comes n front here rows (line.Odd k v) are text =
+    comes_if n front here (k == length rows) (Ok (reading (rows ++ row.Odd v ∷ []) place.Between)) (Err (WrongShot n))
+    (λ same. let e = eqb-true k (length rows) same in let lt = text.1 in pushed (front ++ here) rows (row.Odd v) text.2 (record {
+      before = front;
+      whole = are;
+      text = ap (λ (l : List ℕ). front ++ l) (text.0 ∙ sym (odd-line k v) ∙ ap (λ (n : ℕ). row_text n (row.Odd v)) e);
+      few = omega arith;
+    }))
+    (λ other. (refl, out_of_turn front here rows k are text.1 (inr (v, text.2, text.0)) other))
+row_end_comes n front here rows line.Trace are text =
+    comes_if n front here (has_none rows) (Err (BadLine n)) (Ok (reading rows place.Between))
+    (λ none. refl)
+    (λ some. subst (λ (l : List ℕ). AreRows (front ++ l) rows) (sym text.1) (told_event front rows text.0 some text.2 are))
+row_end_comes n front here rows (line.Done totals) are text =
+    comes_if n front here (totals.rows == length rows && totals.odd == count_by is_odd rows) (Ok (reading rows (place.End totals))) (Err (BadLine n))
+    (λ counted. ended counted)
+    (λ other. refl)
+  where
+    ended : (totals.rows == length rows && totals.odd == count_by is_odd rows) ≡ true → IsEnded (front ++ here) rows totals
+    ended counted =
+        let parts = and_parts (totals.rows == length rows) (totals.odd == count_by is_odd rows) counted in
+        let all = eqb-true totals.rows (length rows) parts.0 in
+        let odd = eqb-true totals.odd (count_by is_odd rows) parts.1 in
+        let whole = head_text ++ traced_text 0 are.traced in
+        record {
+          traced = are.traced;
+          text = ap (λ (l : List ℕ). l ++ here) are.text
+              ∙ ap (λ (l : List ℕ). whole ++ l)
+              (text.0 ∙ ap (λ (n : ℕ). done_text n totals.odd totals.units totals.fusions) (all ∙ count_same front rows are)
+              ∙ ap (λ (n : ℕ). done_text (length are.traced) n totals.units totals.fusions) (odd ∙ ap (count_by is_odd) (sym are.same)));
+          same = are.same;
+          fits = record { rows = are.fits; count = are.few; units_fit = text.1; fusions_fit = text.2 };
+          counts = (all, odd);
+        }
+row_end_comes n front here rows line.Head are text = refl
+row_end_comes n front here rows (line.Edges edges) are text = refl
+row_end_comes n front here rows (line.Weight weight) are text = refl
+row_end_comes n front here rows (line.Cut c) are text = refl
+
+step_comes : (n : ℕ) (front here : List ℕ) (rows : List Row) (at : Place) (said : Line) → IsPlace front rows at → IsTextOf here said → Comes n front here (step n rows at said)
+step_comes n front here rows place.Start line.Head are text = record {
+  traced = [];
+  text = ap (λ (l : List ℕ). l ++ here) are.0 ∙ text ∙ sym (append-nil head_text);
+  same = sym are.1;
+  fits = All-nil IsInRange;
+  few = omega arith;
+}
+step_comes n front here rows place.Start said are text = refl
+step_comes n front here rows place.InRow (line.Edges edges) are text =
+    subst (λ (l : List ℕ). IsPlace (front ++ l) rows (place.Listed edges)) (sym text.0) (edges_listed front rows edges text.1 are)
+step_comes n front here rows place.InRow said are text = refl
+step_comes n front here rows (place.Listed edges) (line.Weight weight) are text =
+    subst (λ (l : List ℕ). IsPlace (front ++ l) rows (place.Cuts edges weight [])) (sym text.0) (weighed front rows edges weight text.1 are)
+step_comes n front here rows (place.Listed edges) said are text = refl
+step_comes n front here rows (place.Cuts edges weight cuts) (line.Cut c) are text = (
+  longer _ front here _ rows are.0 (ap (λ (l : List ℕ). row_text (length rows) (row.Best edges weight cuts) ++ l) text.0 ∙ best-cut (length rows) edges weight cuts c),
+  (are.1.0, are.1.1, All-push IsCutInRange cuts c are.1.2 text.1),
+)
+step_comes n front here rows (place.Cuts edges weight cuts) said are text =
+    row_end_comes n front here (rows ++ row.Best edges weight cuts ∷ []) said (pushed front rows (row.Best edges weight cuts) are.1 are.0) text
+step_comes n front here rows place.Between said are text = row_end_comes n front here rows said are text
+step_comes n front here rows (place.End totals) said are text = refl
+
+line_comes : (n : ℕ) (front here : List ℕ) (r : Reading) (said : Option Line) → IsPlace front r.rows r.place → IfSome said (IsTextOf here) → Comes n front here (with_line n r said)
+line_comes n front here r None are text = refl
+line_comes n front here r (Some said) are text = step_comes n front here r.rows r.place said are text
+
+-- the text of a line that was split off, with its newline
+abbrev ended : List ℕ → List ℕ
+ended bytes = bytes ++ 10 ∷ []
+
+line_said : (bytes : List ℕ) → IfSome (line_of (words_of bytes)) (IsTextOf (ended bytes))
+line_said bytes = by_words (some_part 32 bytes) where
+  by_words : (w : List ℕ) × (ws : List (List ℕ)) × (words_of bytes ≡ w ∷ ws) → IfSome (line_of (words_of bytes)) (IsTextOf (ended bytes))
+  by_words (w, ws, e) =
+      let same : line w ws ≡ ended bytes =
+      line-joined w ws ∙ ap (λ (l : List (List ℕ)). ended (join_with_byte 32 l)) (sym e) ∙ ap ended (join_with_byte-slice_split 32 bytes) in
+      subst (λ (l : List (List ℕ)). IfSome (line_of l) (IsTextOf (ended bytes))) (sym e)
+      (subst (λ (t : List ℕ). IfSome (line_of (w ∷ ws)) (IsTextOf t)) same (line_read w ws))
+
+-- ---- line after line
+
+none_newline : (bytes : List ℕ) → holds 10 bytes ≡ false → newlines bytes ≡ 0
+none_newline [] h = refl
+none_newline (b ∷ bytes) h =
+    let parts = or_parts (b == 10) (holds 10 bytes) h in
+    let more = none_newline bytes parts.1 in
+    sum_by-cons (λ (c : ℕ). cond (c == 10) 1 0) b bytes ∙ rw parts.0 (omega arith)
+
+-- where a reading stands
+record Stands (n : ℕ) (front : List ℕ) (r : Reading) : Type 0 where
+  lines : AreLines front
+  number : n ≡ newlines front + 1
+  are : IsPlace front r.rows r.place
+  reads : (more : List ℕ) → report_in (front ++ more) ≡ read_from n r (lines_in more)
+
+-- a report that begins so is read further than this line
+no_report : (n : ℕ) (front bytes : List ℕ) (r : Reading) (fault : ReportFault) → Stands n front r → holds 10 bytes ≡ false → with_line n r (line_of (words_of bytes)) ≡ Err fault
+    → (more : List ℕ) → report_in ((front ++ ended bytes) ++ more) ≡ Err fault
+no_report n front bytes r fault at none failed more =
+    ap report_in (append_assoc front (ended bytes) more) ∙ at.reads (ended bytes ++ more)
+    ∙ read_failed n r fault (ended bytes ++ more) bytes more (ap lines_in (append_assoc bytes (10 ∷ []) more) ∙ split_at 10 bytes more none) failed
+
+further : (n : ℕ) (front bytes : List ℕ) (r next : Reading) → Stands n front r → holds 10 bytes ≡ false → with_line n r (line_of (words_of bytes)) ≡ Ok next
+    → IsPlace (front ++ ended bytes) next.rows next.place → Stands (n + 1) (front ++ ended bytes) next
+further n front bytes r next at none taken are = record {
+  lines = inr (front ++ bytes, sym (append_assoc front bytes (10 ∷ [])));
+  number =
+      let number = at.number in
+      let some = none_newline bytes none in
+      omega (arith, sum_by-append (λ (b : ℕ). cond (b == 10) 1 0) front (ended bytes), sum_by-append (λ (b : ℕ). cond (b == 10) 1 0) bytes (10 ∷ []));
+  are = are;
+  reads = λ more.
+      ap report_in (append_assoc front (ended bytes) more) ∙ at.reads (ended bytes ++ more)
+      ∙ read_taken n r next (ended bytes ++ more) bytes more (ap lines_in (append_assoc bytes (10 ∷ []) more) ∙ split_at 10 bytes more none) taken;
+}
+
+-- ---- the whole text
+
+not_whole : (n : ℕ) (front : List ℕ) (r : Reading) → Stands n front r → ending n r.rows r.place [] ≡ Err Unfinished → ¬ IsReport front
+not_whole n front r at fails = λ whole.
+    let read = ap report_in (sym (append-nil front ∙ whole.printed)) ∙ at.reads [] ∙ fails in
+    let back = read_back whole.traced whole.units whole.fusions whole.in_range in
+    cc
+
+cut_short : (n : ℕ) (text front last : List ℕ) (r : Reading) → Stands n front r → text ≡ front ++ last → holds 10 last ≡ false → ending n r.rows r.place [] ≡ Err Unfinished → IsCutShort text
+cut_short n text front last r at parts none fails = record {
+  front = front;
+  last = last;
+  parts = parts;
+  lines = at.lines;
+  no_newline = none_newline last none;
+  begun = begins front r.rows r.place at.are;
+  not_whole = not_whole n front r at fails;
+}
+
+end_told : (n : ℕ) (text front last : List ℕ) (rows : List Row) (here : Place) → Stands n front (reading rows here) → text ≡ front ++ last → holds 10 last ≡ false → IsReadingOf text (ending n rows here last)
+end_told n text front [] rows (place.End totals) at parts none =
+    let are = at.are in
+    let count = ap length (sym are.same) in
+    record {
+      traced = are.traced;
+      units = totals.units;
+      fusions = totals.fusions;
+      in_range = are.fits;
+      printed = parts ∙ append-nil front ∙ are.text;
+      says = all_same rows totals (rows_of are.traced) are.same are.counts.0 are.counts.1;
+    }
+  where
+    all_same : (rows : List Row) (totals : Totals) (given : List Row) → given ≡ rows → totals.rows ≡ length rows → totals.odd ≡ count_by is_odd rows
+        → record { rows = rows; totals = totals } ≡ report_with given totals.units totals.fusions
+    all_same rows totals given same count odd =
+        ap (λ (rs : List Row). record { rows = rs; totals = totals }) (sym same)
+        ∙ ap (λ (k : ℕ). record { rows = given; totals = record { rows = k; odd = totals.odd; units = totals.units; fusions = totals.fusions } }) (count ∙ ap length (sym same))
+        ∙ ap (λ (k : ℕ). record { rows = given; totals = record { rows = length given; odd = k; units = totals.units; fusions = totals.fusions } })
+        (odd ∙ ap (count_by is_odd) (sym same))
+end_told n text front (b ∷ bytes) rows (place.End totals) at parts none =
+    let are = at.are in
+    inr (record {
+      front = front;
+      byte = b;
+      more = bytes;
+      parts = parts;
+      whole = record { traced = are.traced; units = totals.units; fusions = totals.fusions; in_range = are.fits; printed = are.text };
+      number = at.number;
+    })
+end_told n text front last rows place.Start at parts none = cut_short n text front last (reading rows place.Start) at parts none refl
+end_told n text front last rows place.InRow at parts none = cut_short n text front last (reading rows place.InRow) at parts none refl
+end_told n text front last rows (place.Listed edges) at parts none = cut_short n text front last (reading rows (place.Listed edges)) at parts none refl
+end_told n text front last rows (place.Cuts edges weight cuts) at parts none = cut_short n text front last (reading rows (place.Cuts edges weight cuts)) at parts none refl
+end_told n text front last rows place.Between at parts none = cut_short n text front last (reading rows place.Between) at parts none refl
+
+this_line : (n : ℕ) (text front bytes rest : List ℕ) (r : Reading) → Stands n front r → holds 10 bytes ≡ false → text ≡ front ++ (ended bytes ++ rest) → IsLine n text front (ended bytes)
+this_line n text front bytes rest r at none parts = record {
+  more = rest;
+  parts = parts;
+  before = at.lines;
+  number = at.number;
+  one = (inr (bytes, refl), (let some = none_newline bytes none in omega (arith, sum_by-append (λ (b : ℕ). cond (b == 10) 1 0) bytes (10 ∷ []))));
+}
+
+-- a row that is out of turn is refused as such
+refused : (n : ℕ) (r : Reading) (rows : List Row) (ws : List (List ℕ)) (said : Line) (fault : ReportFault) (more : List ℕ) → IsBetween rows r → is_cut said ≡ false
+    → at_row_end n rows said ≡ Err fault → AreWords ws → line_of (codes "shot" ∷ ws) ≡ Some said → read_from n r (lines_in (line (codes "shot") ws ++ more)) ≡ Err fault
+refused n r rows ws said fault more between cut failed words says =
+    let first = first_line (codes "shot") ws more (record { space = refl; newline = refl }) words in
+    read_failed n r fault (line (codes "shot") ws ++ more) first.front more first.split
+    (ap (λ (l : List (List ℕ)). with_line n r (line_of l)) first.told ∙ ap (with_line n r) says ∙ between n said cut ∙ failed)
+
+not_next : (n : ℕ) (rows : List Row) (k : ℕ) (next : Reading) → k ≢ length rows → as_next n rows k next ≡ Err (WrongShot n)
+not_next n rows k next other = let differs = ne_eqb k (length rows) other in rw differs refl
+
+row_refused : (here more : List ℕ) (k : ℕ) (rows : List Row) (n : ℕ) (r : Reading) → IsBetween rows r → k < 2 ^ 32 → k ≢ length rows → BeginsRow k here
+    → read_from n r (lines_in (here ++ more)) ≡ Err (WrongShot n)
+row_refused here more k rows n r between lt other (inl e) =
+    ap (λ (l : List ℕ). read_from n r (lines_in (l ++ more))) e
+    ∙ refused n r rows (decimal k ∷ []) (line.Shot k) (WrongShot n) more between refl (not_next n rows k (reading rows place.InRow) other)
+    (word_decimal k (omega arith), tt) (said_shot k lt)
+row_refused here more k rows n r between lt other (inr (v, less, e)) =
+    ap (λ (l : List ℕ). read_from n r (lines_in (l ++ more))) e
+    ∙ refused n r rows (decimal k ∷ codes "odd" ∷ decimal v ∷ []) (line.Odd k v) (WrongShot n) more between refl
+    (not_next n rows k (reading (rows ++ row.Odd v ∷ []) place.Between) other)
+    (word_decimal k (omega arith), (record { space = refl; newline = refl }, (word_decimal v (omega arith), tt))) (said_odd k v lt less)
+
+out_of_turn_read : (front here more : List ℕ) → IsOutOfTurn front here → (m : ℕ) × (report_in ((front ++ here) ++ more) ≡ Err (WrongShot m))
+out_of_turn_read front here more out =
+    let all = rows_read out.traced (here ++ more) out.rows out.count in
+    let count = length-map out.traced (λ (t : TracedRow). t.row) in (
+      all.line_number,
+      ap report_in (append_assoc front here more) ∙ ap (λ (l : List ℕ). report_in (l ++ (here ++ more))) out.whole ∙ all.same
+          ∙ row_refused here more out.shot (rows_of out.traced) all.line_number all.next all.between out.in_range (λ e. out.other (e ∙ count)) out.row,
+    )
+
+fails_here : (n : ℕ) (text front bytes rest : List ℕ) (r : Reading) → Stands n front r → holds 10 bytes ≡ false → text ≡ front ++ (ended bytes ++ rest)
+    → with_line n r (line_of (words_of bytes)) ≡ Err (BadLine n) → IsNoContinuation n text
+fails_here n text front bytes rest r at none parts failed = record {
+  front = front;
+  here = ended bytes;
+  line = this_line n text front bytes rest r at none parts;
+  begun = begins front r.rows r.place at.are;
+  fails = λ begun.
+      let whole = begun.whole in
+      let read = ap report_in (sym whole.printed) ∙ no_report n front bytes r (BadLine n) at none failed begun.more in
+      let back = read_back whole.traced whole.units whole.fusions whole.in_range in
+      cc;
+  in_turn = λ out.
+      let wrong = out_of_turn_read front (ended bytes) [] out in
+      let read = no_report n front bytes r (BadLine n) at none failed [] in
+      cc;
+}
+
+told : (parts : List (List ℕ)) (bytes : List ℕ) (n : ℕ) (text front : List ℕ) (r : Reading) → Stands n front r → All (λ p. holds 10 p ≡ false) (bytes ∷ parts)
+    → text ≡ front ++ join_with_byte 10 (bytes ∷ parts) → IsReadingOf text (read_from n r (bytes ∷ parts))
+told [] bytes n text front r at none parts = end_told n text front bytes r.rows r.place at parts (All-head (λ (p : List ℕ). holds 10 p ≡ false) bytes [] none)
+told (part ∷ more) bytes n text front r at none parts =
+    let first = All-head (λ (p : List ℕ). holds 10 p ≡ false) bytes (part ∷ more) none in
+    let rest = join_with_byte 10 (part ∷ more) in
+    let cut : text ≡ front ++ (ended bytes ++ rest) = parts ∙ ap (λ (l : List ℕ). front ++ l) (sym (append_assoc bytes (10 ∷ []) rest)) in
+    through (with_line n r (line_of (words_of bytes))) refl (line_comes n front (ended bytes) r (line_of (words_of bytes)) at.are (line_said bytes)) cut first
+    (λ next stands. told more part (n + 1) text (front ++ ended bytes) next stands (All-tail (λ (p : List ℕ). holds 10 p ≡ false) bytes (part ∷ more) none)
+    (cut ∙ sym (append_assoc front (ended bytes) rest)))
+  where
+    through : (result : Result Reading ReportFault) → with_line n r (line_of (words_of bytes)) ≡ result → Comes n front (ended bytes) result
+        → text ≡ front ++ (ended bytes ++ join_with_byte 10 (part ∷ more)) → holds 10 bytes ≡ false
+        → ((next : Reading) → Stands (n + 1) (front ++ ended bytes) next → IsReadingOf text (read_from (n + 1) next (part ∷ more)))
+        → IsReadingOf text (go_on result (λ next. read_from (n + 1) next (part ∷ more)))
+    through (Ok next) e comes cut first later = later next (further n front bytes r next at first e comes)
+    through (Err (BadLine m)) e comes cut first later =
+        inl (subst (λ (k : ℕ). IsNoContinuation k text) (sym comes) (fails_here n text front bytes _ r at first cut (e ∙ ap (λ (k : ℕ). Err (BadLine k)) comes)))
+    through (Err (WrongShot m)) e comes cut first later = record {
+      front = front;
+      here = ended bytes;
+      line = subst (λ (k : ℕ). IsLine k text front (ended bytes)) (sym comes.0) (this_line n text front bytes _ r at first cut);
+      wrong = comes.1;
+    }
+    through (Err Unfinished) e comes cut first later = absurd comes
+    through (Err TooLong) e comes cut first later = absurd comes
+    through (Err NoMemory) e comes cut first later = absurd comes
+
+onto_holds_none : (b : ℕ) (parts : List (List ℕ)) → b == 10 ≡ false → All (λ p. holds 10 p ≡ false) parts → All (λ p. holds 10 p ≡ false) (onto_first b parts)
+onto_holds_none b [] other none =
+    All-cons (λ (p : List ℕ). holds 10 p ≡ false) (b ∷ []) [] (or_from (b == 10) false other refl) none
+onto_holds_none b (part ∷ parts) other none =
+    All-cons (λ (p : List ℕ). holds 10 p ≡ false) (b ∷ part) parts (or_from (b == 10) (holds 10 part) other (All-head (λ (p : List ℕ). holds 10 p ≡ false) part parts none))
+    (All-tail (λ (p : List ℕ). holds 10 p ≡ false) part parts none)
+
+lines_hold_none : (text : List ℕ) → All (λ p. holds 10 p ≡ false) (lines_in text)
+lines_hold_none [] = All-cons (λ (p : List ℕ). holds 10 p ≡ false) [] [] refl (All-nil (λ (p : List ℕ). holds 10 p ≡ false))
+lines_hold_none (b ∷ text) =
+    let more = lines_hold_none text in
+    elim (cases_Bool (b == 10)) [
+      | inl newline ↦ rw newline (All-cons (λ (p : List ℕ). holds 10 p ≡ false) [] (lines_in text) refl more)
+      | inr other ↦ rw other (onto_holds_none b (lines_in text) other more)
+    ]
+
+pub reads_as_is : ReadsAsIs
+reads_as_is text = by_parts (some_part 10 text) where
+  by_parts : (bytes : List ℕ) × (parts : List (List ℕ)) × (lines_in text ≡ bytes ∷ parts) → IsReadingOf text (report_in text)
+  by_parts (bytes, parts, e) =
+      subst (λ (ls : List (List ℕ)). IsReadingOf text (read_from 1 (reading [] place.Start) ls)) (sym e)
+      (told parts bytes 1 text [] (reading [] place.Start)
+      (record { lines = inl refl; number = refl; are = (refl, refl); reads = λ more. refl })
+      (subst (All (λ (p : List ℕ). holds 10 p ≡ false)) e (lines_hold_none text))
+      (sym (join_with_byte-slice_split 10 text) ∙ ap (join_with_byte 10) e))
+
+-- ---- each text is one thing
+
+record HasLast (bytes : List ℕ) : Type 0 where
+  front : List ℕ
+  last : ℕ
+  same : bytes ≡ front ++ last ∷ []
+
+last_of : (bytes : List ℕ) (b : ℕ) → HasLast (b ∷ bytes)
+last_of [] b = record { front = []; last = b; same = refl }
+last_of (c ∷ bytes) b =
+    let more = last_of bytes c in
+    record { front = b ∷ more.front; last = more.last; same = ap (λ (l : List ℕ). b ∷ l) more.same }
+
+ends_so : (front bytes before : List ℕ) → front ++ bytes ≡ before ++ 10 ∷ [] → holds 10 bytes ≡ false → bytes ≡ []
+ends_so front [] before e none = refl
+ends_so front (b ∷ bytes) before e none =
+    let last = last_of bytes b in
+    let ends = same_from_push (front ++ last.front) before last.last 10
+    (append_assoc front last.front (last.last ∷ []) ∙ ap (λ (l : List ℕ). front ++ l) (sym last.same) ∙ e) in
+    let parts = or_parts (holds 10 last.front) (holds 10 (last.last ∷ []))
+    (sym (list_any-append (λ (c : ℕ). c == 10) last.front (last.last ∷ [])) ∙ ap (holds 10) (sym last.same) ∙ none) in
+    absurd (eqb-false last.last 10 (or_parts (last.last == 10) false parts.1).0 ends.1)
+
+nil_right : (front bytes : List ℕ) → front ++ bytes ≡ [] → bytes ≡ []
+nil_right [] bytes e = e
+nil_right (b ∷ front) bytes e = absurd cc
+
+-- a reading of whole lines with which a report begins
+record Reaches (front : List ℕ) : Type 0 where
+  here : Reading
+  stands : Stands (newlines front + 1) front here
+
+last_empty : (whole front bytes : List ℕ) → AreLines whole → whole ≡ front ++ bytes → holds 10 bytes ≡ false → AreLines front → bytes ≡ []
+last_empty whole front bytes (inl empty) e none lines = nil_right front bytes (sym e ∙ empty)
+last_empty whole front bytes (inr (before, ends)) e none lines = ends_so front bytes before (sym e ∙ ends) none
+
+reached : (parts : List (List ℕ)) (bytes : List ℕ) (n : ℕ) (whole front : List ℕ) (r : Reading) → Stands n front r → All (λ p. holds 10 p ≡ false) (bytes ∷ parts)
+    → whole ≡ front ++ join_with_byte 10 (bytes ∷ parts) → AreLines whole → BeginsReport whole → Reaches whole
+reached [] bytes n whole front r at none parts lines begun =
+    let empty = last_empty whole front bytes lines parts (All-head (λ (p : List ℕ). holds 10 p ≡ false) bytes [] none) at.lines in
+    let same : front ≡ whole = sym (append-nil front) ∙ ap (λ (l : List ℕ). front ++ l) (sym empty) ∙ sym parts in
+    subst Reaches same (record { here = r; stands = subst (λ (k : ℕ). Stands k front r) at.number at })
+reached (part ∷ more) bytes n whole front r at none parts lines begun =
+    let first = All-head (λ (p : List ℕ). holds 10 p ≡ false) bytes (part ∷ more) none in
+    let rest = join_with_byte 10 (part ∷ more) in
+    let cut : whole ≡ front ++ (ended bytes ++ rest) = parts ∙ ap (λ (l : List ℕ). front ++ l) (sym (append_assoc bytes (10 ∷ []) rest)) in
+    let regrouped = cut ∙ sym (append_assoc front (ended bytes) rest) in
+    through (with_line n r (line_of (words_of bytes))) refl (line_comes n front (ended bytes) r (line_of (words_of bytes)) at.are (line_said bytes)) first regrouped
+    (λ next stands. reached more part (n + 1) whole (front ++ ended bytes) next stands (All-tail (λ (p : List ℕ). holds 10 p ≡ false) bytes (part ∷ more) none)
+    regrouped lines begun)
+  where
+    through : (result : Result Reading ReportFault) → with_line n r (line_of (words_of bytes)) ≡ result → Comes n front (ended bytes) result
+        → holds 10 bytes ≡ false → whole ≡ (front ++ ended bytes) ++ join_with_byte 10 (part ∷ more)
+        → ((next : Reading) → Stands (n + 1) (front ++ ended bytes) next → Reaches whole) → Reaches whole
+    through (Ok next) e comes first cut later = later next (further n front bytes r next at first e comes)
+    through (Err fault) e comes first cut later =
+        let report = begun.whole in
+        let rest = join_with_byte 10 (part ∷ more) in
+        let read = ap report_in (sym report.printed ∙ ap (λ (l : List ℕ). l ++ begun.more) cut ∙ append_assoc (front ++ ended bytes) rest begun.more)
+        ∙ no_report n front bytes r fault at first e (rest ++ begun.more) in
+        let back = read_back report.traced report.units report.fusions report.in_range in
+        absurd cc
+
+reaches : (front : List ℕ) → AreLines front → BeginsReport front → Reaches front
+reaches front lines begun = by_parts (some_part 10 front) where
+  by_parts : (bytes : List ℕ) × (parts : List (List ℕ)) × (lines_in front ≡ bytes ∷ parts) → Reaches front
+  by_parts (bytes, parts, e) =
+      reached parts bytes 1 front [] (reading [] place.Start)
+      (record { lines = inl refl; number = refl; are = (refl, refl); reads = λ more. refl })
+      (subst (All (λ (p : List ℕ). holds 10 p ≡ false)) e (lines_hold_none front))
+      (sym (join_with_byte-slice_split 10 front) ∙ ap (join_with_byte 10) e) lines begun
+
+without : (bytes : List ℕ) → newlines bytes ≡ 0 → holds 10 bytes ≡ false
+without [] none = refl
+without (b ∷ bytes) none =
+    let e : cond (b == 10) 1 0 + newlines bytes ≡ 0 = sym (sum_by-cons (λ (c : ℕ). cond (c == 10) 1 0) b bytes) ∙ none in
+    by_test (b == 10) refl e (λ more. without bytes more)
+  where
+    by_test : (c : Bool) → b == 10 ≡ c → cond c 1 0 + newlines bytes ≡ 0 → (newlines bytes ≡ 0 → holds 10 bytes ≡ false) → holds 10 (b ∷ bytes) ≡ false
+    by_test true is e more = absurd (omega arith)
+    by_test false is e more = or_from (b == 10) (holds 10 bytes) is (more (omega arith))
+
+-- one whole line
+record IsEndedLine (here : List ℕ) : Type 0 where
+  bytes : List ℕ
+  text : here ≡ ended bytes
+  none : holds 10 bytes ≡ false
+
+one_line : (here : List ℕ) → AreLines here → newlines here ≡ 1 → IsEndedLine here
+one_line here (inl empty) one = absurd (let none = ap newlines empty in omega arith)
+one_line here (inr (bytes, e)) one = record {
+  bytes = bytes;
+  text = e;
+  none = without bytes (let count = ap newlines e in omega (arith, sum_by-append (λ (b : ℕ). cond (b == 10) 1 0) bytes (10 ∷ [])));
+}
+
+report_begins : (front : List ℕ) → IsReport front → BeginsReport front
+report_begins front whole = record { more = []; whole = subst IsReport (sym (append-nil front)) whole }
+
+report_ends : (front : List ℕ) → IsReport front → AreLines front
+report_ends front whole =
+    let rows = length whole.traced in
+    let odd = count_by is_odd (rows_of whole.traced) in
+    let above = head_text ++ traced_text 0 whole.traced in
+    let words = decimal rows ∷ codes "odd" ∷ decimal odd ∷ codes "units" ∷ decimal whole.units ∷ codes "fusions" ∷ decimal whole.fusions ∷ [] in
+    inr (
+      above ++ joined (codes "done") words,
+      whole.printed ∙ ap (λ (l : List ℕ). above ++ l) (done-line rows odd whole.units whole.fusions ∙ line-joined (codes "done") words)
+          ∙ sym (append_assoc above (joined (codes "done") words) (10 ∷ [])),
+    )
+
+-- where a text comes to a line with which no report goes on
+stuck : (n : ℕ) (text front bytes more : List ℕ) (r : Reading) → Stands n front r → holds 10 bytes ≡ false → text ≡ front ++ (ended bytes ++ more)
+    → ¬ BeginsReport (front ++ ended bytes) → ¬ IsOutOfTurn front (ended bytes) → report_in text ≡ Err (BadLine n)
+stuck n text front bytes more r at none parts fails in_turn =
+    through (with_line n r (line_of (words_of bytes))) refl (line_comes n front (ended bytes) r (line_of (words_of bytes)) at.are (line_said bytes))
+  where
+    through : (result : Result Reading ReportFault) → with_line n r (line_of (words_of bytes)) ≡ result → Comes n front (ended bytes) result → report_in text ≡ Err (BadLine n)
+    through (Ok next) e comes = absurd (fails (begins (front ++ ended bytes) next.rows next.place comes))
+    through (Err (BadLine m)) e comes =
+        ap report_in (parts ∙ sym (append_assoc front (ended bytes) more)) ∙ no_report n front bytes r (BadLine m) at none e more ∙ ap (λ (k : ℕ). Err (BadLine k)) comes
+    through (Err (WrongShot m)) e comes = absurd (in_turn comes.1)
+    through (Err Unfinished) e comes = absurd comes
+    through (Err TooLong) e comes = absurd comes
+    through (Err NoMemory) e comes = absurd comes
+
+-- where a text comes to a row that is out of turn
+turned : (n : ℕ) (text front bytes more : List ℕ) (r : Reading) → Stands n front r → holds 10 bytes ≡ false → text ≡ front ++ (ended bytes ++ more)
+    → IsOutOfTurn front (ended bytes) → report_in text ≡ Err (WrongShot n)
+turned n text front bytes more r at none parts out =
+    through (with_line n r (line_of (words_of bytes))) refl (line_comes n front (ended bytes) r (line_of (words_of bytes)) at.are (line_said bytes))
+  where
+    through : (result : Result Reading ReportFault) → with_line n r (line_of (words_of bytes)) ≡ result → Comes n front (ended bytes) result → report_in text ≡ Err (WrongShot n)
+    through (Ok next) e comes =
+        let begun = begins (front ++ ended bytes) next.rows next.place comes in
+        let report = begun.whole in
+        let read = (out_of_turn_read front (ended bytes) begun.more out).1 in
+        let back = ap report_in report.printed ∙ read_back report.traced report.units report.fusions report.in_range in
+        absurd cc
+    through (Err (BadLine m)) e comes =
+        let read = (out_of_turn_read front (ended bytes) more out).1 in
+        let failed = no_report n front bytes r (BadLine m) at none e more in
+        absurd cc
+    through (Err (WrongShot m)) e comes =
+        ap report_in (parts ∙ sym (append_assoc front (ended bytes) more)) ∙ no_report n front bytes r (WrongShot m) at none e more ∙ ap (λ (k : ℕ). Err (WrongShot k)) comes.0
+    through (Err Unfinished) e comes = absurd comes
+    through (Err TooLong) e comes = absurd comes
+    through (Err NoMemory) e comes = absurd comes
+
+line_behind : (n : ℕ) (rows : List Row) (totals : Totals) (said : Option Line) → with_line n (reading rows (place.End totals)) said ≡ Err (BadLine n)
+line_behind n rows totals None = refl
+line_behind n rows totals (Some said) = refl
+
+bytes_behind : (n : ℕ) (rows : List Row) (totals : Totals) (b : ℕ) (bytes : List ℕ) → read_from n (reading rows (place.End totals)) (lines_in (b ∷ bytes)) ≡ Err (BadLine n)
+bytes_behind n rows totals b bytes = by_parts (some_part 10 (b ∷ bytes)) where
+  by_parts : (first : List ℕ) × (parts : List (List ℕ)) × (lines_in (b ∷ bytes) ≡ first ∷ parts) → read_from n (reading rows (place.End totals)) (lines_in (b ∷ bytes)) ≡ Err (BadLine n)
+  by_parts (first, [], e) =
+      ap (read_from n (reading rows (place.End totals))) e
+      ∙ ap (λ (l : List ℕ). ending n rows (place.End totals) l) (ap (join_with_byte 10) (sym e) ∙ join_with_byte-slice_split 10 (b ∷ bytes))
+  by_parts (first, part ∷ parts, e) =
+      ap (read_from n (reading rows (place.End totals))) e
+      ∙ ap (λ (result : Result Reading ReportFault). go_on result (λ next. read_from (n + 1) next (part ∷ parts))) (line_behind n rows totals (line_of (words_of first)))
+
+behind : (n : ℕ) (text front more : List ℕ) (b : ℕ) (rows : List Row) (here : Place) → Stands n front (reading rows here) → IsReport front → text ≡ front ++ b ∷ more
+    → report_in text ≡ Err (BadLine n)
+behind n text front more b rows (place.End totals) at whole parts = ap report_in parts ∙ at.reads (b ∷ more) ∙ bytes_behind n rows totals b more
+behind n text front more b rows place.Start at whole parts = absurd (not_whole n front (reading rows place.Start) at refl whole)
+behind n text front more b rows place.InRow at whole parts = absurd (not_whole n front (reading rows place.InRow) at refl whole)
+behind n text front more b rows (place.Listed edges) at whole parts = absurd (not_whole n front (reading rows (place.Listed edges)) at refl whole)
+behind n text front more b rows (place.Cuts edges weight cuts) at whole parts = absurd (not_whole n front (reading rows (place.Cuts edges weight cuts)) at refl whole)
+behind n text front more b rows place.Between at whole parts = absurd (not_whole n front (reading rows place.Between) at refl whole)
+
+unfinished : (n : ℕ) (front last : List ℕ) (rows : List Row) (here : Place) → IsPlace front rows here → ¬ IsReport front → ending n rows here last ≡ Err Unfinished
+unfinished n front last rows (place.End totals) are not_whole =
+    absurd (not_whole (record { traced = are.traced; units = totals.units; fusions = totals.fusions; in_range = are.fits; printed = are.text }))
+unfinished n front last rows place.Start are not_whole = refl
+unfinished n front last rows place.InRow are not_whole = refl
+unfinished n front last rows (place.Listed edges) are not_whole = refl
+unfinished n front last rows (place.Cuts edges weight cuts) are not_whole = refl
+unfinished n front last rows place.Between are not_whole = refl
+
+pub is_one_thing : IsOneThing
+is_one_thing text (Ok report) is =
+    ap report_in is.printed ∙ read_back is.traced is.units is.fusions is.in_range ∙ ap Ok (sym is.says)
+is_one_thing text (Err (BadLine n)) (inl is) =
+    let at = reaches is.front is.line.before is.begun in
+    let here = one_line is.here is.line.one.0 is.line.one.1 in
+    stuck n text is.front here.bytes is.line.more at.here (subst (λ (k : ℕ). Stands k is.front at.here) (sym is.line.number) at.stands) here.none
+    (is.line.parts ∙ ap (λ (l : List ℕ). is.front ++ (l ++ is.line.more)) here.text)
+    (λ begun. is.fails (subst (λ (l : List ℕ). BeginsReport (is.front ++ l)) (sym here.text) begun))
+    (λ out. is.in_turn (subst (IsOutOfTurn is.front) (sym here.text) out))
+is_one_thing text (Err (BadLine n)) (inr is) =
+    let at = reaches is.front (report_ends is.front is.whole) (report_begins is.front is.whole) in
+    behind n text is.front is.more is.byte at.here.rows at.here.place (subst (λ (k : ℕ). Stands k is.front at.here) (sym is.number) at.stands) is.whole is.parts
+is_one_thing text (Err (WrongShot n)) is =
+    let rows : AreRows is.front (rows_of is.wrong.traced) = record { traced = is.wrong.traced; text = is.wrong.whole; same = refl; fits = is.wrong.rows; few = is.wrong.count } in
+    let at = reaches is.front is.line.before (rows_begin is.front (rows_of is.wrong.traced) rows) in
+    let here = one_line is.here is.line.one.0 is.line.one.1 in
+    turned n text is.front here.bytes is.line.more at.here (subst (λ (k : ℕ). Stands k is.front at.here) (sym is.line.number) at.stands) here.none
+    (is.line.parts ∙ ap (λ (l : List ℕ). is.front ++ (l ++ is.line.more)) here.text)
+    (subst (IsOutOfTurn is.front) here.text is.wrong)
+is_one_thing text (Err Unfinished) is =
+    let at = reaches is.front is.lines is.begun in
+    ap report_in is.parts ∙ at.stands.reads is.last
+    ∙ ap (read_from (newlines is.front + 1) at.here) (split_last 10 is.last (without is.last is.no_newline))
+    ∙ unfinished (newlines is.front + 1) is.front is.last at.here.rows at.here.place at.stands.are is.not_whole
+is_one_thing text (Err TooLong) is = absurd is
+is_one_thing text (Err NoMemory) is = absurd is
