@@ -22,7 +22,7 @@ pub struct Finished<P: Piece> {
 
 /// Whether a turn did an item, or found none that can be taken.
 #[derive(Clone, Copy, Debug)]
-enum Turn {
+pub(crate) enum Turn {
     Done,
     NoItem,
 }
@@ -40,7 +40,7 @@ fn give<P: Piece, N: Board>(book: &mut Book<P, N>, permit: Permit<N>, piece: P)
 }
 
 /// Does the next item that can be taken, if there is one.
-fn next_item<P: Piece, T, H: Hands<P, T>, G: Gate, N: Board>(
+pub(crate) fn next_item<P: Piece, T, H: Hands<P, T>, G: Gate, N: Board>(
     bench: &Bench<'_, H, G>,
     book: &mut Book<P, N>,
     worker: u32,

@@ -1,16 +1,21 @@
 //! A plan of two units and a fusion, done by hands whose pieces list the nodes that were made for them.
 
-ghost use Rattle.std.specs.Prelude.{◌≡◌, None, IfOk};
+ghost use Rattle.std.specs.Prelude.{◌≡◌, ◌≤◌, None, IfOk};
 ghost use Rattle.fb_plan.specs.Plans.{IsPlan};
 
-use crate::hands::{Gate, Hands, OpenGate};
-use crate::{Finished, Worked, work_all, work_here};
-use fb_book::{Piece, order_of_nodes};
+use crate::hands::{Bench, Gate, Hands, OpenGate};
+use crate::here::{Turn, next_item};
+use crate::{Entry, Finished, Kind, Worked, work_all, work_here};
+use fb_book::{Board, Book, Piece, order_of_nodes};
 use fb_graph::{Graph, NoMemory, Shot, components, first_odd};
 use fb_plan::{Job, Join, Plan};
 use std::alloc::Global;
+use std::marker::Brand;
 use std::sync::atomic::{AtomicU64, Ordering};
+use std::sync::{Mutex, Wait};
 use std::test::Fail;
+use std::thread;
+use std::thread::Threads;
 
 /// A piece that lists the nodes that were made for it.
 #[derive(Drop)]
@@ -48,6 +53,19 @@ struct Lister<'a> {
     job: &'a Job<'a>,
     without: Option<u32>,
     fusions: AtomicU64,
+}
+
+impl<'a> Lister<'a> {
+    /// Hands with memory for all nodes of the job.
+    fn new(job: &'a Job<'a>) -> Lister<'a>
+        ensures { result.job.now ≡ job.entry.now }
+    {
+        Lister {
+            job,
+            without: None,
+            fusions: AtomicU64::new(0),
+        }
+    }
 }
 
 impl<'a> Hands<Listed<'a>, u32> for Lister<'a> {
@@ -102,14 +120,123 @@ impl<'a> Hands<Listed<'a>, u32> for Lister<'a> {
     }
 }
 
-/// A gate that counts the pieces that pass it.
-#[derive(Drop)]
-struct Counter(AtomicU64);
+/// How often a unit looks for another one at the gate: a fraction of a second, in which a second thread surely runs.
+const TURNS: u32 = 100_000_000;
 
-impl Gate for Counter {
-    fn before_post(&self, _worker: u32, _slot: u32, _node: u32) {
-        self.0.fetch_add(1, Ordering::SeqCst);
+/// A gate at which the first unit waits, for a limited number of turns, until another one is there too. It notes who
+/// came with which item of the first slot.
+#[derive(Drop)]
+struct Meeting {
+    units: AtomicU64,
+    /// 1 where the first unit has waited in vain.
+    missed: AtomicU64,
+    passed: AtomicU64,
+    /// One more than the worker's number, for each node; 0 where nobody came.
+    workers: [AtomicU64; 3],
+}
+
+impl Meeting {
+    fn new() -> Meeting {
+        Meeting {
+            units: AtomicU64::new(0),
+            missed: AtomicU64::new(0),
+            passed: AtomicU64::new(0),
+            workers: [AtomicU64::new(0), AtomicU64::new(0), AtomicU64::new(0)],
+        }
     }
+
+    /// Comes with a unit, and waits for another one.
+    fn meet(&self) {
+        self.units.fetch_add(1, Ordering::SeqCst);
+        for _ in 0..TURNS {
+            if self.units.load(Ordering::SeqCst) > 1 {
+                return;
+            }
+        }
+        self.missed.store(1, Ordering::SeqCst);
+    }
+
+    /// Whether two units were at the gate at once.
+    fn has_met(&self) -> bool {
+        self.missed.load(Ordering::SeqCst) == 0
+    }
+
+    /// Whether the worker came with each item that it gave.
+    fn has_seen(&self, history: &[Entry]) -> bool {
+        history
+            .iter()
+            .all(|entry| entry.kind != Kind::Gave || self.has_noted(entry))
+    }
+
+    /// Whether an entry's worker came with its item.
+    fn has_noted(&self, entry: &Entry) -> bool {
+        match self.workers.as_slice().get(entry.node as usize) {
+            Some(worker) => entry.slot == 0
+                && worker.load(Ordering::SeqCst) == u64::from(entry.worker) + 1,
+            None => false,
+        }
+    }
+}
+
+impl Gate for Meeting {
+    fn before_post(&self, worker: u32, slot: u32, node: u32) {
+        self.passed.fetch_add(1, Ordering::SeqCst);
+        if slot == 0 {
+            if let Some(noted) = self.workers.as_slice().get(node as usize) {
+                noted.store(u64::from(worker) + 1, Ordering::SeqCst);
+            }
+        }
+        if node < 2 {
+            self.meet();
+        }
+    }
+}
+
+/// Does items as this worker, which holds the lock from each claim to the post.
+fn work_under_lock<P: Piece, T: Drop, H: Hands<P, T>, G: Gate, N: Board, R: Wait>(
+    rt: &R,
+    bench: &Bench<'_, H, G>,
+    book: &Mutex<Book<P, N>>,
+    worker: u32,
+    mut tools: T,
+)
+    requires job { H.job bench.now.hands.now ≡ N.job }
+    requires worker { worker ≤ N.workers }
+{
+    for _ in rt.forever() {
+        let mut held = book.lock(rt);
+        let Ok(Turn::Done) = next_item(bench, &mut held, worker, &mut tools) else {
+            break;
+        };
+    }
+}
+
+/// Does all items by two workers, each of which holds the lock from each claim to the post.
+fn work_all_under_lock<
+    P: Piece + Send,
+    T: Send + Drop,
+    H: Hands<P, T>,
+    G: Gate,
+    N: Board + Send + Sync,
+    R: Threads + Wait + Sync,
+>(rt: &R, bench: &Bench<'_, H, G>, job: &Job<'_>, first: T, second: T) -> Result<(), NoMemory>
+    requires hands { H.job bench.now.hands.now ≡ N.job }
+    requires job { N.job ≡ job.now }
+    requires workers { N.workers ≡ 2 }
+{
+    let book: Book<P, N> = Book::new(bench.alloc, job, 2)?;
+    let desk = Mutex::new(book);
+    let at = &desk;
+    thread::join(
+        rt,
+        move ||
+            requires { (H.job bench.now.hands.now ≡ N.job) × (N.workers ≡ 2) }
+        { work_under_lock(rt, bench, at, 0, first) },
+        move ||
+            requires { (H.job bench.now.hands.now ≡ N.job) × (N.workers ≡ 2) }
+        { work_under_lock(rt, bench, at, 1, second) },
+    );
+    Ok(())
 }
 
 /// The plan of two units and a fusion, of a graph without vertices.
@@ -142,31 +269,89 @@ fn one_shot<'a>(alloc: Global, graph: &'a Graph, plan: &'a Plan) -> Result<Job<'
     Ok(Job::new(graph, plan, shots))
 }
 
-/// By two workers the root's nodes are made in the order of the tree, each once.
+/// The nodes that the root's piece lists and the history, where so many workers do the job by way of the gate.
+fn list_by<'a, R: Threads + Wait + Sync>(
+    rt: &R,
+    alloc: Global,
+    job: &'a Job<'a>,
+    workers: u32,
+    gate: &Meeting,
+) -> Result<(Vec<u32>, Vec<Entry>), Fail>
+    requires { (1 ≤ workers) × (workers ≤ 64) }
+{
+    let hands = Lister::new(job);
+    let tools = vec![in alloc; 0; workers as usize]?;
+    let Worked {
+        mut roots,
+        history,
+        tools,
+    } = work_all(rt, alloc, job, workers, &hands, gate, tools)?;
+    if count_all(tools.as_slice()) != 3 {
+        return Err(Fail::from("the workers' tools count three items"));
+    }
+    let Some(Listed { made, .. }) = roots.pop() else {
+        return Err(Fail::from("a root for the shot"));
+    };
+    Ok((made, history))
+}
+
+/// The sum of the counts.
+fn count_all(counts: &[u32]) -> u32 {
+    let mut sum: u32 = 0;
+    for count in counts {
+        sum = sum.saturating_add(*count);
+    }
+    sum
+}
+
+/// Lists the nodes of the job by two workers, each of which holds the lock from each claim to the post.
+fn list_under_lock<'a, R: Threads + Wait + Sync>(
+    rt: &R,
+    alloc: Global,
+    job: &'a Job<'a>,
+    gate: &Meeting,
+) -> Result<(), NoMemory> {
+    let hands = Lister::new(job);
+    let bench = Bench {
+        alloc,
+        hands: &hands,
+        gate,
+    };
+    work_all_under_lock::<Listed<'a>, u32, Lister<'a>, Meeting, Brand, R>(rt, &bench, job, 0, 0)
+}
+
+/// By two workers, each of which makes a unit while the other one does, the root's nodes are made in the order of the tree,
+/// each once, and the history tells who gave which.
 #[test]
-fn lists_the_nodes(rt: HostRuntime) -> Result<(), Fail> {
+fn meets_at_the_gate(rt: HostRuntime) -> Result<(), Fail> {
     let graph = Graph::build(rt.alloc(), 0, &[], &[])?;
     let plan = pair(rt.alloc(), &graph)?;
     let job = one_shot(rt.alloc(), &graph, &plan)?;
-    let hands = Lister {
-        job: &job,
-        without: None,
-        fusions: AtomicU64::new(0),
-    };
-    let gate = Counter(AtomicU64::new(0));
-    let tools = vec![in rt.alloc(); 0; 2]?;
-    let Worked {
-        roots,
-        history,
-        tools,
-    } = work_all(&rt, rt.alloc(), &job, 2, &hands, &gate, tools)?;
-    let Some(root) = roots.first() else {
-        return Err(Fail::from("a root for the shot"));
-    };
-    assert_eq!(rt; root.made.as_slice(), [0, 1, 2].as_slice());
-    assert_eq!(rt; history.len(), 6);
-    assert_eq!(rt; tools[0].saturating_add(tools[1]), 3);
-    assert_eq!(rt; gate.0.load(Ordering::SeqCst), 3);
+    let gate = Meeting::new();
+    let (made, history) = list_by(&rt, rt.alloc(), &job, 2, &gate)?;
+    assert_eq!(rt; made.as_slice(), [0, 1, 2].as_slice());
+    assert!(rt; gate.has_met(), "the units are made one after the other");
+    assert_eq!(rt; (history.len(), gate.passed.load(Ordering::SeqCst)), (6, 3));
+    assert!(rt;
+        gate.has_seen(&history),
+        "the gate saw other items than were given"
+    );
+    Ok(())
+}
+
+/// One worker alone meets nobody at the gate, and nor do two that hold the lock from the claim to the post.
+#[test]
+fn meets_nobody(rt: HostRuntime) -> Result<(), Fail> {
+    let graph = Graph::build(rt.alloc(), 0, &[], &[])?;
+    let plan = pair(rt.alloc(), &graph)?;
+    let job = one_shot(rt.alloc(), &graph, &plan)?;
+    let alone = Meeting::new();
+    let (_made, _history) = list_by(&rt, rt.alloc(), &job, 1, &alone)?;
+    assert!(rt; !alone.has_met(), "one worker met another");
+    let locked = Meeting::new();
+    list_under_lock(&rt, rt.alloc(), &job, &locked)?;
+    assert!(rt; !locked.has_met(), "two workers under one lock met");
+    assert_eq!(rt; locked.passed.load(Ordering::SeqCst), 3);
     Ok(())
 }
 
@@ -177,9 +362,8 @@ fn runs_out_of_memory(rt: HostRuntime) -> Result<(), Fail> {
     let plan = pair(rt.alloc(), &graph)?;
     let job = one_shot(rt.alloc(), &graph, &plan)?;
     let hands = Lister {
-        job: &job,
         without: Some(1),
-        fusions: AtomicU64::new(0),
+        ..Lister::new(&job)
     };
     let tools = vec![in rt.alloc(); 0; 2]?;
     let worked = work_all(&rt, rt.alloc(), &job, 2, &hands, &OpenGate, tools);
@@ -194,11 +378,7 @@ fn works_here(rt: HostRuntime) -> Result<(), Fail> {
     let graph = Graph::build(rt.alloc(), 0, &[], &[])?;
     let plan = pair(rt.alloc(), &graph)?;
     let job = one_shot(rt.alloc(), &graph, &plan)?;
-    let hands = Lister {
-        job: &job,
-        without: None,
-        fusions: AtomicU64::new(0),
-    };
+    let hands = Lister::new(&job);
     let mut items = 0;
     let Finished { roots, history } = work_here(rt.alloc(), &job, &hands, &mut items)?;
     assert_eq!(rt; (roots.len(), history.len(), items), (1, 6, 3));

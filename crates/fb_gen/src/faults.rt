@@ -1,6 +1,8 @@
 use thiserror::Error;
 
 /// Why there is no such lattice, or no such plan of it.
+///
+/// Its texts are for other callers: `fusion` prints a fault's name.
 #[derive(Clone, Copy, Debug, PartialEq, Eq, Error)]
 pub enum GenFault {
     /// The lattice has more than 1,048,576 vertices.

@@ -11,3 +11,6 @@ mod stream;
 pub use answer::{Format, Kind, NoMemory, ShotFault, Step};
 pub use laws::goes_on;
 pub use stream::ShotStream;
+
+#[cfg(test)]
+mod tests;
