@@ -7,6 +7,7 @@ ghost use Rattle.fb_words.specs.Command.{check_app, decode_app, flag_rule, free_
 ghost use Rattle.fb_words.specs.Ranges.{Range};
 ghost use Rattle.fb_words.specs.Ranges as ranges;
 
+use crate::help;
 use clap::builder::ValueParser;
 use clap::{Arg, ArgAction, Command};
 use std::alloc::{AllocError, Global};
@@ -14,9 +15,6 @@ use std::ops::RangeInclusive;
 
 /// The version that `--version` tells.
 const VERSION: &str = "0.1.0";
-
-/// What help says of names.
-const NAMES: &str = "NAME is a file, or `-` for standard input. At most one NAME may be `-`.";
 
 /// How many workers there may be.
 const MOST_WORKERS: u64 = 64;
@@ -35,6 +33,7 @@ pub fn fusion<'a>(alloc: Global) -> Result<Command<'a>, AllocError>
         .bin_name("fusion")?
         .version(VERSION)
         .about("A proved exact decoder for quantum error correction")
+        .after_help(help::FUSION)
         .subcommand_required(true)
         .subcommand(decode)?
         .subcommand(check)?
@@ -48,7 +47,7 @@ fn decode<'a>(alloc: Global) -> Result<Command<'a>, AllocError>
 {
     let command = Command::new(alloc, "decode")
         .about("Write a lightest correction of each shot, with cuts that show that none is lighter")
-        .after_help(NAMES);
+        .after_help(help::DECODE);
     let command = with_inputs(alloc, command)?.arg(plan(alloc))?;
     with_sizes(alloc, command)?.arg(trace(alloc))
 }
@@ -60,7 +59,7 @@ fn check<'a>(alloc: Global) -> Result<Command<'a>, AllocError>
 {
     let command = Command::new(alloc, "check")
         .about("Check each row of a report against the graph and the shots")
-        .after_help(NAMES);
+        .after_help(help::CHECK);
     with_inputs(alloc, command)?.arg(report(alloc))
 }
 
@@ -69,9 +68,11 @@ fn sample<'a>(alloc: Global) -> Result<Command<'a>, AllocError>
     ensures app { IfOk result (λ c. app_of c ≡ sample_app) }
     ensures local { IfOk result (λ c. (out-Command c).has_globals ≡ false) }
 {
-    let command = Command::new(alloc, "sample").about(
-        "Draw shots on a lattice, decode them, and write how many defects there were and what their corrections weigh",
-    );
+    let command = Command::new(alloc, "sample")
+        .about(
+            "Draw shots on a lattice, decode them, and sum up how many defects they have and what their corrections weigh",
+        )
+        .after_help(help::SAMPLE);
     let command = with_lattice(alloc, command)?;
     let command = with_draws(alloc, command)?;
     with_sizes(alloc, command)
@@ -131,7 +132,7 @@ fn graph<'a>(alloc: Global) -> Arg<'a>
         alloc,
         "graph",
         "NAME",
-        "The decoding graph: the solver initializer of Fusion Blossom, in JSON",
+        "The decoding graph, at most 1048576 vertices and 4194304 edges: the solver initializer of Fusion Blossom, in JSON",
     )
     .required(true)
 }
@@ -145,7 +146,7 @@ fn plan<'a>(alloc: Global) -> Arg<'a>
         alloc,
         "plan",
         "NAME",
-        "A plan by which the graph is solved in parts, in JSON; without one it is solved whole",
+        "A plan, at most 4096 units, by which the graph is solved in parts, in JSON; without one it is solved whole",
     )
 }
 
@@ -158,7 +159,7 @@ fn shots<'a>(alloc: Global) -> Arg<'a>
         alloc,
         "shots",
         "NAME",
-        "The shots: the detectors that fired in each",
+        "The shots, at most 4294967295: the detectors that fired in each",
     )
     .required(true)
 }
@@ -186,7 +187,7 @@ fn report<'a>(alloc: Global) -> Arg<'a>
         alloc,
         "report",
         "NAME",
-        "The report to check, as `decode` writes it",
+        "The report to check, at most 1073741824 bytes: as `decode` writes it",
     )
     .required(true)
 }
@@ -215,7 +216,7 @@ fn window<'a>(alloc: Global) -> Arg<'a>
         "window",
         "N",
         1..=MOST_AT_ONCE,
-        "How many shots are solved at once, 1 to 64; 1 where absent",
+        "How many shots are taken and solved at a time, 1 to 64; 1 where absent",
     )
 }
 

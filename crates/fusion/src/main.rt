@@ -5,22 +5,48 @@
 use fb_ports::{OsFiles, OsSink, put_all};
 use fb_run::{OpenGate, run};
 use std::env;
+use std::io::ErrorKind;
 use std::process::ExitCode;
 
 const NO_MEMORY: u8 = 5;
 
 const USAGE: u8 = 6;
 
+/// Why there are no words to run.
+#[derive(Clone, Copy)]
+enum NoWords {
+    /// Some word isn't UTF-8.
+    NotText,
+    NoMemory,
+}
+
+/// What an error of reading the command line means.
+fn no_words(kind: ErrorKind) -> NoWords {
+    match kind {
+        ErrorKind::InvalidData => NoWords::NotText,
+        _ => NoWords::NoMemory,
+    }
+}
+
 fn main(rt: HostRuntime) -> ExitCode {
     let mut err = OsSink::new(rt.stderr());
-    let Ok(args) = env::args(&rt) else {
-        // Some word isn't UTF-8.
-        let _ = put_all(&mut err, b"fusion: usage\n");
-        return ExitCode::from(USAGE);
+    let words = match env::args(&rt) {
+        Ok(args) => match args.collect::<Vec<String>>(rt.alloc()) {
+            Ok(words) => Ok(words),
+            Err(_) => Err(NoWords::NoMemory),
+        },
+        Err(error) => Err(no_words(error.kind())),
     };
-    let Ok(words) = args.collect::<Vec<String>>(rt.alloc()) else {
-        let _ = put_all(&mut err, b"fusion: out of memory\n");
-        return ExitCode::from(NO_MEMORY);
+    let words = match words {
+        Ok(words) => words,
+        Err(NoWords::NotText) => {
+            let _ = put_all(&mut err, b"fusion: usage\n");
+            return ExitCode::from(USAGE);
+        }
+        Err(NoWords::NoMemory) => {
+            let _ = put_all(&mut err, b"fusion: out of memory\n");
+            return ExitCode::from(NO_MEMORY);
+        }
     };
     let mut files = OsFiles::new(&rt);
     let mut out = OsSink::new(rt.stdout());
