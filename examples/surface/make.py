@@ -1,10 +1,11 @@
 #!/usr/bin/env python3
-"""Makes the files of this folder, but for the report: a surface code of distance 5, and shots of five rounds.
+"""Makes the files of this folder, but for the report: a surface code of distance 5, a plan, and shots of five rounds.
 
 usage: examples/surface/make.py FOLDER
 
 Each round has a sheet of 5 rows and 6 columns; the first and the last column are the boundary. Edges within a sheet are
-errors of data qubits, edges to the next sheet are wrong measurements. Each happens by itself, with the rate below.
+errors of data qubits, edges to the next sheet are wrong measurements. Each happens by itself, with the rate below. The
+plan cuts the graph at the middle sheet.
 """
 
 import json
@@ -60,7 +61,14 @@ def main():
         "virtual_vertices": virtuals,
         "observables": observables,
     }
-    (folder / "graph.json").write_text(json.dumps(graph, separators=(",", ":")) + "\n")
+    sheet = vertices // ROUNDS
+    first, last = ROUNDS // 2 * sheet, (ROUNDS // 2 + 1) * sheet
+    plan = {
+        "units": [[[0, first]], [[last, vertices]]],
+        "fusions": [{"of": [0, 1], "interface": [[first, last]]}],
+    }
+    for name, value in [("graph.json", graph), ("plan.json", plan)]:
+        (folder / name).write_text(json.dumps(value, separators=(",", ":")) + "\n")
 
     draw = random.Random(1)
     detectors = [v for v in range(vertices) if v not in virtuals]
