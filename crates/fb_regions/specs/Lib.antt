@@ -1,4 +1,5 @@
 pub mod Codes
+pub mod Holders
 pub mod InternalKept
 pub mod InternalListings
 pub mod InternalMerged

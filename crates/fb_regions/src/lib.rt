@@ -14,6 +14,6 @@ pub mod sparse;
 
 pub use fb_graph::Cut as Layer;
 pub use fb_links::{NodeId, Step, Walk};
-pub use regions::Regions;
+pub use regions::{Holder, Regions, SpareRegions};
 pub use roles::{Role, Roles};
 pub use sparse::SparseTable;

@@ -8,6 +8,7 @@ ghost use Rattle.fb_graph.specs.NestUnions.{AreParts};
 ghost use Rattle.fb_graph.specs.Printed.{is_positive};
 ghost use Rattle.fb_graph.specs.RenamedNodes.{renamed_nodes};
 ghost use Rattle.fb_links.specs.Names.{name_by};
+ghost use Rattle.fb_regions.specs.Holders.{IsHolder};
 ghost use Rattle.fb_regions.specs.Merged.{AreNewNames};
 ghost use Rattle.fb_graph.specs.Moves.{MayJoin, MaySplit, MayUncover, joined, split, uncovered};
 ghost use Rattle.fb_graph.specs.Nests.{IsNest};
@@ -44,6 +45,20 @@ pub struct Regions<S: Scope> {
     marks: Marks,
 }
 
+/// The outer node that holds a vertex, and the vertex's potential.
+#[derive(Clone, Copy, Debug, PartialEq, Eq)]
+pub struct Holder {
+    pub node: NodeId,
+    /// The sum of the values of the sets that hold the vertex.
+    pub potential: u64,
+}
+
+/// The room of a dual state that is no longer used, for another one.
+#[derive(Drop)]
+pub struct SpareRegions {
+    regions: Vec<Region>,
+}
+
 impl<S: Scope> Model for Regions<S> {
     ghost use Rattle.fb_graph.specs.Dual.{Dual};
     ghost use Rattle.fb_regions.specs.Codes.{dual_code};
@@ -74,6 +89,21 @@ impl<S: Scope> Regions<S> {
             places: Vec::new(alloc),
             marks,
         })
+    }
+
+    /// The state without nodes, in the room of another one if that was over as many vertices, else in new room.
+    pub fn on(alloc: Global, spare: SpareRegions, scope: &S) -> Result<Regions<S>, NoMemory>
+        ensures { IfOk result (λ r. r ≡ record { scope = scope.now; nodes = [] }) }
+    {
+        let _spare = spare;
+        Regions::new(alloc, scope)
+    }
+
+    /// The room of the state, emptied at the cost of what it holds.
+    pub fn into_spare(self) -> SpareRegions {
+        SpareRegions {
+            regions: self.regions,
+        }
     }
 
     /// The nodes of two separated parts as those of a whole. The left one's names stay, and the right one's nodes get the
@@ -374,6 +404,21 @@ impl<S: Scope> Regions<S> {
             return None;
         };
         root_of(&self.places, &self.regions, mark.leaf)
+    }
+
+    /// The outer node that holds the vertex, with the vertex's potential; none for an uncovered vertex. Costs one climb,
+    /// where `cover_of` and `potential` cost two.
+    pub fn holder(&self, v: u32) -> Option<Holder>
+        ensures { IsHolder self.now.nodes v result }
+    {
+        self.keeps();
+        match self.cover_of(v) {
+            Some(node) => Some(Holder {
+                node,
+                potential: self.potential(v),
+            }),
+            None => None,
+        }
     }
 
     /// The walk by which a covered vertex came, from its source defect.

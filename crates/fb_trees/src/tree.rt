@@ -52,6 +52,24 @@ impl Tree {
         })
     }
 
+    /// The tree of the root alone, in the room of this one, which is emptied at the cost of what it holds.
+    pub fn restart(self, root: NodeId) -> Tree
+        ensures { result ≡ bare root }
+    {
+        let Tree {
+            root: _,
+            mut branches,
+            mut places,
+        } = self;
+        branches.clear();
+        places.clear();
+        Tree {
+            root,
+            branches,
+            places,
+        }
+    }
+
     /// Does nothing. Its clause says what every tree keeps.
     pub fn keeps(&self)
         ensures { IsRooted self.now.root self.now.branches }
