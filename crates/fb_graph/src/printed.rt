@@ -1,6 +1,6 @@
 //! What a solver found, in the form in which a report prints it.
 
-ghost use Rattle.std.specs.Prelude.{◌≡◌, ℕ, ◌≤◌, Bool, true, All, AllPairs, IfOk, length, sum_by, take};
+ghost use Rattle.std.specs.Prelude.{◌≡◌, ℕ, ◌≤◌, Bool, true, All, AllPairs, length, sum_by, take};
 ghost use Rattle.std.specs.List.{AllZip};
 ghost use Rattle.std.specs.List.Sorted.{IsNonDecreasing, IsStrictlyIncreasing};
 ghost use Rattle.fb_graph.specs.Parity.{is_odd_count, is_in};
@@ -83,42 +83,4 @@ fn sort_vertices(alloc: Global, cut: &mut Cut)
     let mut vertices = mem::replace(&mut cut.vertices, empty).into_vec();
     vertices.sort_unstable();
     cut.vertices = NumberList::from_vec(vertices);
-}
-
-#[cfg(test)]
-mod tests {
-    use super::*;
-    use std::alloc::AllocError;
-    use std::test::Fail;
-
-    fn layer(alloc: Global, value: u64, vertices: &[u32]) -> Result<Cut, AllocError>
-        ensures { IfOk result (λ c. c.vertices ≡ vertices.now) }
-    {
-        let vertices = NumberList::from_vec(Vec::from_slice(alloc, vertices)?);
-        Ok(Cut { value, vertices })
-    }
-
-    #[test]
-    fn leaves_odd_ones(rt: HostRuntime) -> Result<(), Fail> {
-        let numbers = Vec::from_slice(rt.alloc(), &[3, 1, 3, 2, 1, 1])?;
-        assert_eq!(rt; odd_ones(numbers).into_vec().as_slice(), [1, 2].as_slice());
-        Ok(())
-    }
-
-    #[test]
-    fn prints_layers(rt: HostRuntime) -> Result<(), Fail> {
-        let alloc = rt.alloc();
-        let one = layer(alloc, 2, &[2])?;
-        let two = layer(alloc, 2, &[2, 3])?;
-        let three = layer(alloc, 2, &[2, 3, 1])?;
-        let empty = layer(alloc, 0, &[2, 3, 1, 0])?;
-        let printed = printed_cuts(vec![in alloc; one, two, three, empty]?);
-        assert_eq!(rt; printed.as_slice().len(), 3);
-        let lists: [&[u32]; 3] = [&[1, 2, 3], &[2], &[2, 3]];
-        for (cut, vertices) in printed.as_slice().iter().zip(lists) {
-            assert_eq!(rt; cut.value, 2);
-            assert_eq!(rt; cut.vertices.as_slice(), vertices);
-        }
-        Ok(())
-    }
 }
