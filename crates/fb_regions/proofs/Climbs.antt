@@ -2,6 +2,7 @@
 use Rattle.std.proofs.Common.{ℕ, suc, ◌≡◌, ◌+◌, ◌<◌, ◌≤◌, ◌==◌, Bool, true, false, List, [], ◌∷◌, get_or, Option, Some, None, refl, sym, ap, ◌∙◌, subst, arith, add-zero, if◌then◌else◌}
 use Rattle.std.specs.Prelude.{option_map}
 use Rattle.fb_graph.specs.Parity.{is_in}
+use Rattle.fb_regions.specs.declared.region.Climb.{Climb}
 use Rattle.fb_regions.specs.declared.region.Region.{Region}
 use Rattle.fb_regions.specs.InternalNodes.{radii_from, root_from}
 use Rattle.fb_regions.specs.InternalPlaces.{AreJoinedAbove, IsJoinedIn}
@@ -136,3 +137,32 @@ radius_within (x ∷ xs) name i r at is = by (x.name == name) refl (λ j. radius
     by false e rest =
         let n = next (placed name xs) i (sym (placed_past x xs name e) ∙ at) in
         omega (arith, rest n.before n.at (is ∙ ap (λ j. get_or (x ∷ xs) j r) n.is), radii_past x xs name e)
+
+-- where the climb from a node ends, and the radii on the way
+abbrev pub climb_in : List Region → ℕ → Option Climb
+climb_in rs leaf = option_map (λ root. record { root = root; radii = radii_from rs leaf }) (root_from rs leaf)
+
+pub climb_ended : (rs : List Region) (leaf name radii : ℕ) → root_from rs leaf ≡ Some name → radii ≡ radii_from rs leaf
+    → Some (record { root = name; radii = radii }) ≡ climb_in rs leaf
+climb_ended rs leaf name radii root sum = rw (root, sum) refl
+
+pub no_climb : (rs : List Region) (leaf : ℕ) → root_from rs leaf ≡ None → None ≡ climb_in rs leaf
+no_climb rs leaf root = rw root refl
+
+pub no_root : (rs : List Region) (leaf : ℕ) → None ≡ climb_in rs leaf → root_from rs leaf ≡ None
+no_root rs leaf e = by (root_from rs leaf) refl
+  where
+    by : (o : Option ℕ) → root_from rs leaf ≡ o → o ≡ None
+    by None f = refl
+    by (Some name) f = absurd (let clash : None ≡ Some (record { root = name; radii = radii_from rs leaf }) = e ∙ sym (climb_ended rs leaf name (radii_from rs leaf) f refl) in cc)
+
+-- a climb that ends gives the outer node's name and the radii
+pub climb_read : (rs : List Region) (leaf : ℕ) (c : Climb) → Some c ≡ climb_in rs leaf → (root_from rs leaf ≡ Some c.root) × (c.radii ≡ radii_from rs leaf)
+climb_read rs leaf c e = by (root_from rs leaf) refl
+  where
+    by : (o : Option ℕ) → root_from rs leaf ≡ o → (root_from rs leaf ≡ Some c.root) × (c.radii ≡ radii_from rs leaf)
+    by None f = absurd (let clash : Some c ≡ None = e ∙ sym (no_climb rs leaf f) in cc)
+    by (Some name) f =
+        let same : Some c ≡ Some (record { root = name; radii = radii_from rs leaf }) = e ∙ sym (climb_ended rs leaf name (radii_from rs leaf) f refl) in
+        let is : c ≡ record { root = name; radii = radii_from rs leaf } = cc in
+        (f ∙ ap (λ x. Some x.root) (sym is), ap (λ x. x.radii) is)

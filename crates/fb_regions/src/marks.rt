@@ -61,6 +61,13 @@ impl Marks {
         Ok(Marks { table })
     }
 
+    /// The number of vertices, with or without a mark.
+    pub fn vertices(&self) -> u32
+        ensures { result ≡ length self.now }
+    {
+        self.table.bound()
+    }
+
     /// The mark of a vertex; none where no node holds it.
     pub fn at(&self, v: u32) -> Option<&Mark>
         ensures { option_map (λ m. m.now) result ≡ mark_of self.now v }
@@ -110,6 +117,13 @@ impl Marks {
         ensures { self.new ≡ set self.old v None }
     {
         self.table.leave(v);
+    }
+
+    /// Takes all marks away, at the cost of none.
+    pub fn clear(&mut self)
+        ensures { self.new ≡ replicate (length self.old) None }
+    {
+        self.table.clear();
     }
 
     /// The vertices that have marks, each once, in any order.

@@ -48,6 +48,13 @@ impl PagedNumbers {
         })
     }
 
+    /// How many numbers there are.
+    pub fn len(&self) -> u32
+        ensures { result ≡ length self.now }
+    {
+        self.count
+    }
+
     /// The number at an index; none past the last one.
     pub fn get(&self, index: u32) -> Option<u32>
         ensures { MatchOption result (length self.now ≤ index) (λ n. (index < length self.now) × (n ≡ get_or self.now index 0)) }

@@ -1,4 +1,4 @@
-ghost use Rattle.std.specs.Prelude.{◌≡◌, ◌+◌, ◌<◌, ◌^◌, [], ◌∷◌, ◌++◌, length, map, filter, List, IfOk, OnOk, Option, position, ◌==◌};
+ghost use Rattle.std.specs.Prelude.{◌≡◌, ◌+◌, ◌<◌, ◌^◌, [], ◌∷◌, ◌++◌, length, map, filter, List, IfOk, OnOk, Option, option_map, position, ◌==◌};
 ghost use Rattle.std.specs.List.{concat};
 ghost use Rattle.fb_graph.specs.Dual.{layers_of};
 ghost use Rattle.fb_graph.specs.Printed.{is_positive};
@@ -55,12 +55,21 @@ pub fn root_of(places: &[Option<usize>], regions: &[Region], leaf: NodeId) -> Op
     None
 }
 
-/// The sum of the radii of a node and of the nodes round it.
-pub fn radii_of(places: &[Option<usize>], regions: &[Region], leaf: NodeId) -> u64
+/// Where the climb from a node to the outer one round it ends.
+#[derive(Clone, Copy, Debug, PartialEq, Eq)]
+pub struct Climb {
+    /// The name of the outer node.
+    pub root: NodeId,
+    /// The sum of the radii of the node and of the nodes round it.
+    pub radii: u64,
+}
+
+/// Climbs as `root_of` does, and adds up the radii on the way.
+pub fn climb_from(places: &[Option<usize>], regions: &[Region], leaf: NodeId) -> Option<Climb>
     requires index { IsIndex regions.now places.now }
     requires joined { AreJoinedAbove regions.now }
     requires fits { radii_from regions.now leaf < 2 ^ 64 }
-    ensures { result ≡ radii_from regions.now leaf }
+    ensures { result ≡ option_map (λ root. record { root = root; radii = radii_from regions.now leaf }) (root_from regions.now leaf) }
 {
     let mut name = leaf;
     let mut radii = 0;
@@ -68,11 +77,11 @@ pub fn radii_of(places: &[Option<usize>], regions: &[Region], leaf: NodeId) -> u
         let region = &regions[place];
         radii += region.radius;
         let Some(parent) = region.parent else {
-            return radii;
+            return Some(Climb { root: name, radii });
         };
         name = parent;
     }
-    radii
+    None
 }
 
 /// Makes a node the parent of these, or none.

@@ -20,7 +20,7 @@ use crate::listing::list_together;
 use crate::marks::{Hop, Mark, Marks};
 use crate::merging::{take_marks, take_nodes};
 use crate::places::{enter_from, place_of, set_place, widen};
-use crate::region::{self, Region, adopt, radii_of, root_of};
+use crate::region::{self, Region, adopt, climb_from, root_of};
 use crate::{Layer, NodeId, Step, Walk};
 use fb_graph::{NoMemory, Scope};
 use fb_links::names::names_of;
@@ -53,10 +53,23 @@ pub struct Holder {
     pub potential: u64,
 }
 
-/// The room of a dual state that is no longer used, for another one.
+/// The room of a dual state that is no longer used, for another one: emptied lists, and marks of no vertex. Contracts see
+/// the number of vertices for which it has marks.
 #[derive(Drop)]
 pub struct SpareRegions {
     regions: Vec<Region>,
+    places: Vec<Option<usize>>,
+    marks: Marks,
+}
+
+impl Model for SpareRegions {
+    ghost use Rattle.std.specs.Prelude.{ℕ, ◌≡◌, [], length, replicate, None};
+
+    ghost Value = { ℕ };
+
+    ghost view = { λ s. length s.marks };
+
+    ghost invariant = { λ s. (s.regions.items ≡ []) × (s.places.items ≡ []) × (s.marks ≡ replicate (length s.marks) None) };
 }
 
 impl<S: Scope> Model for Regions<S> {
@@ -95,14 +108,39 @@ impl<S: Scope> Regions<S> {
     pub fn on(alloc: Global, spare: SpareRegions, scope: &S) -> Result<Regions<S>, NoMemory>
         ensures { IfOk result (λ r. r ≡ record { scope = scope.now; nodes = [] }) }
     {
-        let _spare = spare;
-        Regions::new(alloc, scope)
+        if spare.marks.vertices() != scope.vertices() {
+            return Regions::new(alloc, scope);
+        }
+        let SpareRegions {
+            regions,
+            places,
+            marks,
+        } = spare;
+        Ok(Regions {
+            scope: *scope,
+            regions,
+            places,
+            marks,
+        })
     }
 
-    /// The room of the state, emptied at the cost of what it holds.
-    pub fn into_spare(self) -> SpareRegions {
+    /// The room of the state, emptied at the cost of what it holds. Takes no memory.
+    pub fn into_spare(self) -> SpareRegions
+        ensures { result ≡ (S.problem self.scope).vertices }
+    {
+        let Regions {
+            scope: _,
+            mut regions,
+            mut places,
+            mut marks,
+        } = self;
+        regions.clear();
+        places.clear();
+        marks.clear();
         SpareRegions {
-            regions: self.regions,
+            regions,
+            places,
+            marks,
         }
     }
 
@@ -377,10 +415,10 @@ impl<S: Scope> Regions<S> {
     pub fn potential(&self, v: u32) -> u64
         ensures { result ≡ height_of (all_cuts self.now.nodes) v }
     {
-        let Some(mark) = self.marks.at(v) else {
-            return 0;
-        };
-        radii_of(&self.places, &self.regions, mark.leaf) - mark.distance
+        match self.holder(v) {
+            Some(holder) => holder.potential,
+            None => 0,
+        }
     }
 
     /// What the edge can still bear where no outer node holds both of its ends: its weight less its load.
@@ -407,18 +445,16 @@ impl<S: Scope> Regions<S> {
     }
 
     /// The outer node that holds the vertex, with the vertex's potential; none for an uncovered vertex. Costs one climb,
-    /// where `cover_of` and `potential` cost two.
+    /// where `cover_of` and `potential` cost one each.
     pub fn holder(&self, v: u32) -> Option<Holder>
         ensures { IsHolder self.now.nodes v result }
     {
-        self.keeps();
-        match self.cover_of(v) {
-            Some(node) => Some(Holder {
-                node,
-                potential: self.potential(v),
-            }),
-            None => None,
-        }
+        let mark = self.marks.at(v)?;
+        let climb = climb_from(&self.places, &self.regions, mark.leaf)?;
+        Some(Holder {
+            node: climb.root,
+            potential: climb.radii - mark.distance,
+        })
     }
 
     /// The walk by which a covered vertex came, from its source defect.

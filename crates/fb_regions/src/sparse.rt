@@ -62,6 +62,13 @@ impl<T: Copy> SparseTable<T> {
         let _keys = &self.keys;
     }
 
+    /// The bound, below which all keys are.
+    pub fn bound(&self) -> u32
+        ensures { result ≡ self.now.bound }
+    {
+        self.places.len()
+    }
+
     /// The place of a key among the keys; none where the number is no key.
     pub fn place_of(&self, key: u32) -> Option<usize>
         ensures { MatchOption result (is_in self.now.keys key ≡ false)
