@@ -1,4 +1,5 @@
 pub mod Cycles
+pub mod Emptying
 pub mod Lookups
 pub mod Mapped
 pub mod Names

@@ -1,5 +1,5 @@
 -- The branch of a node by its place, and the node's role by its branch.
-use Rattle.std.proofs.Common.{ℕ, ◌≡◌, ◌<◌, ◌==◌, ◌||◌, ◌⊎◌, ◌↔◌, inl, inr, cond, Bool, true, false, List, [], ◌∷◌, ◌++◌, map, reverse, length, get_or, Some, None, refl, sym, ap, ◌∙◌, subst, arith}
+use Rattle.std.proofs.Common.{ℕ, ◌≡◌, ◌<◌, ◌==◌, ◌||◌, ◌⊎◌, ◌↔◌, inl, inr, cond, Bool, true, false, List, [], ◌∷◌, ◌++◌, map, reverse, length, get_or, Option, Some, None, refl, sym, ap, ◌∙◌, subst, arith}
 use Rattle.std.proofs.lemmas.Bool.{both_ways, false_from_ne_true, cases_Bool, eq-eqb, ne_eqb, or_left, or_parts, or_right, eqb-true}
 use Rattle.std.proofs.lemmas.List.{get_or_append_left, get_or_push, get_or-map, length-map, length-reverse, map-append, reverse-append, reverse-reverse}
 use Rattle.std.proofs.lemmas.Option.{none-some, same_Some}
@@ -11,17 +11,25 @@ use Rattle.fb_laws.specs.Trees.{EntryOf, minus_names, plus_names, tree_names}
 use Rattle.fb_trees.specs.declared.branch.Branch.{Branch}
 use Rattle.fb_trees.specs.Branches.{Grown, entries_of, entry_of}
 use Rattle.fb_trees.specs.Rooted.{IsBranchAt, IsRooted, role_in}
-use Rattle.fb_trees.specs.InternalPlaces.{branch_at, place_of}
+use Rattle.fb_trees.specs.InternalPlaces.{ArePlaces, branch_at, place_in, place_of}
 use Rattle.fb_trees.proofs.Names.{exclusive_names, root_plus}
 
 pub entries_push : (xs : List Branch) (b : Branch) → entries_of (xs ++ b ∷ []) ≡ entry_of b ∷ entries_of xs
 entries_push xs b = ap (map entry_of) (reverse-append xs (b ∷ []))
+
+pub entries_append : (xs ys : List Branch) → entries_of (xs ++ ys) ≡ entries_of ys ++ entries_of xs
+entries_append xs ys = ap (map entry_of) (reverse-append xs ys) ∙ map-append entry_of (reverse ys) (reverse xs)
 
 pub length_entries : (xs : List Branch) → length (entries_of xs) ≡ length xs
 length_entries xs = length-map (reverse xs) entry_of ∙ length-reverse xs
 
 reverse_first : {X : Type 0} (x : X) (xs : List X) → reverse (x ∷ xs) ≡ reverse xs ++ x ∷ []
 reverse_first x xs = reverse-append (x ∷ []) xs
+
+-- what the table has for a node is the place of its branch
+pub read_place : (es : List (EntryOf ℕ)) (name : ℕ) {places table : List (Option ℕ)} {at : Option ℕ} → ArePlaces places es
+    → table ≡ places → at ≡ place_in table name → place_of es name ≡ at
+read_place es name placed same is = sym (placed name) ∙ (ap (λ l. place_in l name) (sym same) ∙ sym is)
 
 -- at the place of a node there is its branch
 place_within : (es : List (EntryOf ℕ)) (name at : ℕ) → place_of es name ≡ Some at → at < length es
@@ -58,8 +66,8 @@ no_branch (e ∷ es) name is = step ((e.minus == name) || (e.plus == name)) is (
     step true is rest = absurd (none-some (length es) (sym is))
     step false is rest = rest is
 
-pub place_in : (xs : List Branch) (name at : ℕ) → place_of (entries_of xs) name ≡ Some at → at < length xs
-place_in xs name at is = subst (λ n. at < n) (length_entries xs) (place_within (entries_of xs) name at is)
+pub has_place : (xs : List Branch) (name at : ℕ) → place_of (entries_of xs) name ≡ Some at → at < length xs
+has_place xs name at is = subst (λ n. at < n) (length_entries xs) (place_within (entries_of xs) name at is)
 
 map_reverse : {X Y : Type 0} (f : X → Y) (xs : List X) → map f (reverse xs) ≡ reverse (map f xs)
 map_reverse f [] = refl
@@ -73,7 +81,7 @@ pub branch_in : (xs : List Branch) (name at : ℕ) (d : Branch) → place_of (en
     → Some (entry_of (get_or xs at d)) ≡ branch_at (entries_of xs) name
 branch_in xs name at d is =
     sym (place_branch (entries_of xs) name at (entry_of d) is
-    ∙ ap Some (ap (λ l. get_or l at (entry_of d)) (entries_back xs) ∙ get_or-map entry_of xs at d (entry_of d) (place_in xs name at is)))
+    ∙ ap Some (ap (λ l. get_or l at (entry_of d)) (entries_back xs) ∙ get_or-map entry_of xs at d (entry_of d) (has_place xs name at is)))
 
 -- a node with a branch is one of its two
 pub branch_nodes : (es : List (EntryOf ℕ)) (name : ℕ) (e : EntryOf ℕ) → branch_at es name ≡ Some e

@@ -1,7 +1,7 @@
 -- What the new list of branches is after nodes are replaced.
-use Rattle.std.proofs.Common.{ℕ, ◌≡◌, ◌<◌, ◌+◌, ◌⊎◌, inl, inr, Bool, true, List, [], ◌∷◌, ◌++◌, length, get_or, take, drop, reverse, map, Some, None, sym, ap, ◌∙◌, subst, append_assoc}
+use Rattle.std.proofs.Common.{ℕ, ◌≡◌, ◌<◌, ◌+◌, ◌⊎◌, inl, inr, Bool, true, List, [], ◌∷◌, ◌++◌, length, get_or, take, drop, Some, None, sym, ap, ◌∙◌, subst, append_assoc}
 use Rattle.std.proofs.lemmas.Bool.{both_ways}
-use Rattle.std.proofs.lemmas.List.{drop_more, map-append, reverse-append, take-append-drop}
+use Rattle.std.proofs.lemmas.List.{drop_more, take-append-drop}
 use Rattle.fb_graph.specs.Parity.{is_in}
 use Rattle.fb_links.specs.declared.cycle.CycleStep.{CycleStep}
 use Rattle.fb_laws.specs.Trees.{EntryOf, minus_names, plus_names}
@@ -12,7 +12,7 @@ use Rattle.fb_trees.specs.Branches.{Grown, entries_of, entry_of}
 use Rattle.fb_trees.specs.Replacements.{IsOpened, MayJoin, MayOpen, first_node, way_of}
 use Rattle.fb_trees.specs.Rooted.{IsMinus, IsRooted}
 use Rattle.fb_trees.specs.InternalPlaces.{branch_at, place_of}
-use Rattle.fb_trees.proofs.Lookups.{branch_in, branch_nodes, no_branch, no_branch_plus, place_in}
+use Rattle.fb_trees.proofs.Lookups.{branch_in, branch_nodes, entries_append, has_place, no_branch, no_branch_plus}
 use Rattle.fb_trees.proofs.Names.{exclusive_names}
 use Rattle.fb_trees.proofs.Replacing.{joined_rooted, opened_rooted}
 
@@ -41,9 +41,6 @@ rooted_after t gone name inside same rooted may root root_is branches is =
 pub minus_has_place : (es : List (EntryOf ℕ)) (name : ℕ) → is_in (minus_names es) name ≡ true → place_of es name ≡ None → ⊥
 minus_has_place es name minus none =
     both_ways (is_in (minus_names es) name) (no_branch_plus 0 es name (no_branch es name none)).1 minus
-
-entries_append : (xs ys : List Branch) → entries_of (xs ++ ys) ≡ entries_of ys ++ entries_of xs
-entries_append xs ys = ap (map entry_of) (reverse-append xs ys) ∙ map-append entry_of (reverse ys) (reverse xs)
 
 -- the branches newer than the one at a place, that one, and the older ones
 pub split_entries : (xs : List Branch) (i : ℕ) (d : Branch) → i < length xs
@@ -74,7 +71,7 @@ opened_is t rooted name path may xs are place at branches is new new_is = record
   newer = entries_of (drop (place + 1) xs);
   branch = entry_of (get_or xs place some_branch);
   older = entries_of (take place xs);
-  was = sym are ∙ split_entries xs place some_branch (place_in xs name place at);
+  was = sym are ∙ split_entries xs place some_branch (has_place xs name place at);
   minus = minus_at t rooted name may.minus (entry_of (get_or xs place some_branch))
       (ap (λ l. branch_at l name) (sym are) ∙ sym (branch_in xs name place some_branch at));
   root = ap (λ n. n.root) new_is;
@@ -88,4 +85,4 @@ pub opened_stays_rooted : (t : Grown) → IsRooted t.root t.branches → (name :
 opened_stays_rooted t rooted name path may xs are place at branches is =
     subst (IsRooted t.root) (sym is)
     (opened_rooted t name path rooted may (entries_of (drop (place + 1) xs)) (entries_of (take place xs)) (entry_of (get_or xs place some_branch))
-    (sym are ∙ split_entries xs place some_branch (place_in xs name place at)))
+    (sym are ∙ split_entries xs place some_branch (has_place xs name place at)))

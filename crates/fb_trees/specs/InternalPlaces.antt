@@ -1,9 +1,7 @@
 -- Where the branch of a node stands, and what a tree keeps.
-use Rattle.std.specs.Prelude.{ℕ, ◌≡◌, ◌==◌, ◌||◌, List, [], ◌∷◌, length, Option, Some, None, nat_eq, if◌then◌else◌}
-use Rattle.std.specs.declared.hash.FoldHasher.{FoldHasher}
-use Rattle.std.specs.declared.hash.BuildHasherDefault.{BuildHasherDefault}
-use Rattle.std.specs.HashMap.{get, HashMap}
+use Rattle.std.specs.Prelude.{ℕ, ◌≡◌, ◌<◌, ◌==◌, ◌||◌, List, [], ◌∷◌, length, get_or, Option, Some, None, if◌then◌else◌}
 use Rattle.fb_laws.specs.Trees.{EntryOf}
+use Rattle.fb_trees.specs.declared.branch.Branch.{Branch}
 use Rattle.fb_trees.specs.Rooted.{IsRooted}
 
 -- the place of the node's branch, counted from the oldest one
@@ -16,13 +14,19 @@ abbrev pub branch_at : List (EntryOf ℕ) → ℕ → Option (EntryOf ℕ)
 branch_at [] name = None
 branch_at (e ∷ es) name = if (e.minus == name) || (e.plus == name) then Some e else branch_at es name
 
-abbrev pub Places : Type 0
-Places = HashMap ℕ ℕ (BuildHasherDefault FoldHasher)
+-- the entry of a name in a table, none past its end
+abbrev pub place_in : List (Option ℕ) → ℕ → Option ℕ
+place_in places name = get_or places name None
 
 -- the table has the place of each node's branch, and no other
-abbrev pub ArePlaces : Places → List (EntryOf ℕ) → Type 0
-ArePlaces places branches = (name : ℕ) → get nat_eq places name ≡ place_of branches name
+abbrev pub ArePlaces : List (Option ℕ) → List (EntryOf ℕ) → Type 0
+ArePlaces places branches = (name : ℕ) → place_in places name ≡ place_of branches name
 
-pub record IsKept (root : ℕ) (branches : List (EntryOf ℕ)) (places : Places) : Type 0 where
+-- a table of that length has room for both nodes of the branch
+pub record IsWithin (count : ℕ) (b : Branch) : Type 0 where
+  pub minus : b.minus < count
+  pub plus : b.plus < count
+
+pub record IsKept (root : ℕ) (branches : List (EntryOf ℕ)) (places : List (Option ℕ)) : Type 0 where
   pub rooted : IsRooted root branches
   pub placed : ArePlaces places branches

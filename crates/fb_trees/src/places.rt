@@ -1,50 +1,97 @@
-ghost use Rattle.std.specs.Prelude.{◌≡◌, ◌==◌, ◌||◌, ◌+◌, ◌≤◌, ℕ, Some, IfOk, OnErr, OnOk, nat_eq, if◌then◌else◌};
-ghost use Rattle.std.specs.HashMap.{get, spare};
+ghost use Rattle.std.specs.Prelude.{◌≡◌, ◌≤◌, ◌<◌, ◌==◌, ◌||◌, [], ℕ, None, Some, All, OnOk, length, if◌then◌else◌};
 ghost use Rattle.fb_trees.specs.Branches.{entries_of};
-ghost use Rattle.fb_trees.specs.InternalPlaces.{ArePlaces};
+ghost use Rattle.fb_trees.specs.InternalPlaces.{ArePlaces, IsWithin, place_in};
 
 use crate::{Branch, NoMemory, NodeId};
-use std::alloc::Global;
-use std::collections::HashMap;
 
-/// The places of branches, by the names of their nodes.
-pub type Places = HashMap<NodeId, usize>;
+/// The place of each node's branch, by the node's name.
+pub type Places = Vec<Option<usize>>;
 
-/// Where the branch of each node stands.
-pub fn places_of(alloc: Global, branches: &[Branch]) -> Result<Places, NoMemory>
-    ensures { IfOk result (λ places. ArePlaces places (entries_of branches.now)) }
+/// The place of the node's branch.
+pub fn place_in(places: &[Option<usize>], node: NodeId) -> Option<usize>
+    ensures { result ≡ place_in places.now node }
 {
-    let mut places = HashMap::new(alloc);
-    for (at, branch) in branches.iter().enumerate() {
-        make_room(&mut places)?;
-        put_branch(&mut places, branch, at);
+    match places.get(node as usize) {
+        Some(place) => *place,
+        None => None,
     }
-    Ok(places)
 }
 
-/// Makes room for the nodes of one branch.
-pub fn make_room(places: &mut Places) -> Result<(), NoMemory>
-    ensures same { (name : ℕ) → get nat_eq places.new name ≡ get nat_eq places.old name }
-    ensures room { OnOk result (2 ≤ spare places.new) }
+/// Makes room for both nodes of each branch.
+pub fn make_room_for_all(places: &mut Places, branches: &[Branch]) -> Result<(), NoMemory>
+    ensures same { (name : ℕ) → place_in places.new.items name ≡ place_in places.old.items name }
+    ensures room { OnOk result (All (IsWithin (length places.new.items)) branches.now) }
 {
-    places.reserve(2)
+    for branch in branches {
+        make_room(places, branch)?;
+    }
+    Ok(())
 }
 
-/// Puts both nodes of the branch at the place. Takes no memory.
-pub fn put_branch(places: &mut Places, branch: &Branch, at: usize)
-    requires { 2 ≤ spare places.old }
-    ensures { (name : ℕ) → get nat_eq places.new name ≡ (if (branch.now.minus == name) || (branch.now.plus == name) then Some at else get nat_eq places.old name) }
+/// Makes room for both nodes of the branch.
+pub fn make_room(places: &mut Places, branch: &Branch) -> Result<(), NoMemory>
+    ensures same { (name : ℕ) → place_in places.new.items name ≡ place_in places.old.items name }
+    ensures longer { length places.old.items ≤ length places.new.items }
+    ensures room { OnOk result (IsWithin (length places.new.items) branch.now) }
 {
-    put(places, branch.minus, at);
-    put(places, branch.plus, at);
+    widen(places, branch.minus)?;
+    widen(places, branch.plus)
 }
 
-fn put(places: &mut Places, node: NodeId, at: usize)
-    requires { 1 ≤ spare places.old }
-    ensures places { (name : ℕ) → get nat_eq places.new name ≡ (if node == name then Some at else get nat_eq places.old name) }
-    ensures room { spare places.old ≤ spare places.new + 1 }
+/// Makes room for the node.
+fn widen(places: &mut Places, node: NodeId) -> Result<(), NoMemory>
+    ensures same { (name : ℕ) → place_in places.new.items name ≡ place_in places.old.items name }
+    ensures longer { length places.old.items ≤ length places.new.items }
+    ensures room { OnOk result (node < length places.new.items) }
 {
-    if places.insert(node, at).is_err() {
-        unreachable!()
+    let Some(count) = (node as usize).checked_add(1) else {
+        return Err(NoMemory);
+    };
+    if places.len() < count {
+        places.resize(count, None)?;
+    }
+    Ok(())
+}
+
+/// Enters the nodes of the branches, the oldest one first, where no node is entered yet.
+pub fn enter_all(places: &mut Places, branches: &[Branch])
+    requires room { All (IsWithin (length places.old.items)) branches.now }
+    requires empty { ArePlaces places.old.items [] }
+    ensures { ArePlaces places.new.items (entries_of branches.now) }
+{
+    for (at, branch) in branches.iter().enumerate() {
+        enter(places, branch, at);
+    }
+}
+
+/// Enters both nodes of the branch at the place.
+pub fn enter(places: &mut Places, branch: &Branch, at: usize)
+    requires { IsWithin (length places.old.items) branch.now }
+    ensures count { length places.new.items ≡ length places.old.items }
+    ensures places { (name : ℕ) → place_in places.new.items name ≡ (if (branch.now.minus == name) || (branch.now.plus == name) then Some at else place_in places.old.items name) }
+{
+    places[branch.minus as usize] = Some(at);
+    places[branch.plus as usize] = Some(at);
+}
+
+/// Takes the entries of all branches out. Takes time for each of them, however large a name is.
+pub fn take_out_all(places: &mut Places, branches: &[Branch])
+    requires { ArePlaces places.old.items (entries_of branches.now) }
+    ensures count { length places.new.items ≡ length places.old.items }
+    ensures empty { ArePlaces places.new.items [] }
+{
+    for branch in branches {
+        remove(places, branch.minus);
+        remove(places, branch.plus);
+    }
+}
+
+/// Takes the entry of the node out, if it has one.
+fn remove(places: &mut Places, node: NodeId)
+    ensures count { length places.new.items ≡ length places.old.items }
+    ensures places { (name : ℕ) → place_in places.new.items name ≡ (if node == name then None else place_in places.old.items name) }
+{
+    if let Some(place) = places.get_mut(node as usize) {
+        *place = None;
     }
 }

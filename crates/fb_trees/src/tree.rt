@@ -9,11 +9,12 @@ ghost use Rattle.fb_trees.specs.TreeSteps.{IsCycle, path_up, steps_up};
 ghost use Rattle.fb_trees.specs.InternalPlaces.{branch_at};
 
 use crate::changes::{joined_branches, names_of, opened_branches, renamed};
-use crate::places::{Places, make_room, places_of, put_branch};
+use crate::places::{
+    Places, enter, enter_all, make_room, make_room_for_all, place_in, take_out_all,
+};
 use crate::steps::{beside, cycle_along, last_plus, push_step, push_up, shared_count};
 use crate::{Branch, CycleStep, LinkId, Links, NoMemory, NodeId, Role, Roles};
 use std::alloc::Global;
-use std::collections::HashMap;
 use std::marker::Model;
 
 /// The alternating tree of one search (Edmonds 1965). Contracts see its root and its branches, the newest one first. A
@@ -23,7 +24,7 @@ pub struct Tree {
     root: NodeId,
     /// The oldest one first.
     branches: Vec<Branch>,
-    /// The place in `branches` of the branch of each node but the root.
+    /// The place in `branches` of the branch of each node but the root, by the node's name.
     places: Places,
 }
 
@@ -37,7 +38,7 @@ impl Model for Tree {
 
     ghost view = { λ t. record { root = t.root; branches = entries_of t.branches.items } };
 
-    ghost invariant = { λ t. IsKept t.root (entries_of t.branches.items) t.places };
+    ghost invariant = { λ t. IsKept t.root (entries_of t.branches.items) t.places.items };
 }
 
 impl Tree {
@@ -48,11 +49,11 @@ impl Tree {
         Ok(Tree {
             root,
             branches: Vec::new(alloc),
-            places: HashMap::new(alloc),
+            places: Vec::new(alloc),
         })
     }
 
-    /// The tree of the root alone, in the room of this one, which is emptied at the cost of what it holds.
+    /// The tree of the root alone, in the room of this one. Takes time for each branch of this one.
     pub fn restart(self, root: NodeId) -> Tree
         ensures { result ≡ bare root }
     {
@@ -61,8 +62,8 @@ impl Tree {
             mut branches,
             mut places,
         } = self;
+        take_out_all(&mut places, &branches);
         branches.clear();
-        places.clear();
         Tree {
             root,
             branches,
@@ -95,9 +96,6 @@ impl Tree {
         ensures ok { OnOk result (self.new ≡ attached self.old (record { parent = plus; tree = link; minus = minus; matched = matched.link; plus = matched.node })) }
         ensures err { OnErr result (self.new ≡ self.old) }
     {
-        // The table and the list grow by the allocator that they were made with.
-        make_room(&mut self.places)?;
-        self.branches.reserve(1)?;
         let branch = Branch {
             parent: plus,
             tree: link,
@@ -105,7 +103,10 @@ impl Tree {
             matched: matched.link,
             plus: matched.node,
         };
-        put_branch(&mut self.places, &branch, self.branches.len());
+        // The table and the list grow by the allocator that they were made with.
+        make_room(&mut self.places, &branch)?;
+        self.branches.reserve(1)?;
+        enter(&mut self.places, &branch, self.branches.len());
         self.branches.push_reserved(branch);
         Ok(())
     }
@@ -262,8 +263,7 @@ impl Tree {
         let inside = names_of(alloc, gone)?;
         let branches = joined_branches(alloc, &self.branches, &inside, blossom)?;
         let root = renamed(self.root, &inside, blossom);
-        *self = Tree::of(alloc, root, branches)?;
-        Ok(())
+        self.rebuild(root, branches)
     }
 
     /// Puts the nodes of the path in the place of the minus node.
@@ -272,25 +272,25 @@ impl Tree {
         ensures ok { OnOk result (IsOpened self.old blossom path.now self.new) }
         ensures err { OnErr result (self.new ≡ self.old) }
     {
-        let Some(place) = self.places.get(&blossom) else {
+        let Some(place) = place_in(&self.places, blossom) else {
             unreachable!()
         };
-        let branches = opened_branches(alloc, &self.branches, *place, path)?;
-        *self = Tree::of(alloc, self.root, branches)?;
-        Ok(())
+        let branches = opened_branches(alloc, &self.branches, place, path)?;
+        self.rebuild(self.root, branches)
     }
 
-    /// The tree of these branches, the oldest one first.
-    fn of(alloc: Global, root: NodeId, branches: Vec<Branch>) -> Result<Tree, NoMemory>
+    /// Puts these branches, the oldest one first, in the place of the tree's own.
+    fn rebuild(&mut self, root: NodeId, branches: Vec<Branch>) -> Result<(), NoMemory>
         requires { IsRooted root (entries_of branches.items) }
-        ensures { IfOk result (λ tree. tree ≡ record { root = root; branches = entries_of branches.items }) }
+        ensures ok { OnOk result (self.new ≡ record { root = root; branches = entries_of branches.items }) }
+        ensures err { OnErr result (self.new ≡ self.old) }
     {
-        let places = places_of(alloc, &branches)?;
-        Ok(Tree {
-            root,
-            branches,
-            places,
-        })
+        make_room_for_all(&mut self.places, &branches)?;
+        take_out_all(&mut self.places, &self.branches);
+        enter_all(&mut self.places, &branches);
+        self.root = root;
+        self.branches = branches;
+        Ok(())
     }
 
     /// The branch of the node. The root has none.
@@ -298,10 +298,8 @@ impl Tree {
         ensures kept { IsRooted self.now.root self.now.branches }
         ensures branch { option_map entry_of result ≡ branch_at self.now.branches node }
     {
-        match self.places.get(&node) {
-            Some(place) => Some(self.branches[*place]),
-            None => None,
-        }
+        let place = place_in(&self.places, node)?;
+        Some(self.branches[place])
     }
 }
 

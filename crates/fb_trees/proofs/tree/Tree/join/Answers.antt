@@ -7,8 +7,8 @@ use Rattle.fb_trees.specs.Rooted.{IsRooted}
 use Rattle.fb_trees.proofs.Replaced.{rooted_after}
 use Rattle.fb_trees.proofs.tree.Tree.join.Goals as goal
 
-pub of-requires : goal.of-requires
-of-requires c =
+pub rebuild-requires : goal.rebuild-requires
+rebuild-requires c =
     rooted_after c.args.self.now c.args.gone.now c.args.blossom (contains nat_eq c.in_ok-inside.inside)
     (fun_ext c.in_ok-inside.ensures) (subst (λ t. IsRooted t.root t.branches) c.self.view_is c.self.invariant.rooted) c.requires
     c.renamed-root.result
