@@ -11,7 +11,8 @@ use Rattle.fb_obstacles.specs.InternalLooks.{AreEnds, cover_at, edge_look, far_b
 
 -- the weight less the potentials of the known ends is the residue of the edge
 pub residue_by_ends : (p : Problem) (nodes : List Node) (k weight x : ℕ) (ends : Ends)
-    → AreEnds nodes (edge_at p.edges k) ends → weight ≡ (edge_at p.edges k).weight → x ≡ residue_by ends weight → x ≡ residue_at p nodes k
+    → AreEnds nodes (edge_at p.edges k) ends → weight ≡ (edge_at p.edges k).weight
+    → x ≡ residue_by ends weight → x ≡ residue_at p nodes k
 residue_by_ends p nodes k weight x ends known weighs is =
     omega (arith, is, weighs, known.first.potential, known.second.potential)
 
