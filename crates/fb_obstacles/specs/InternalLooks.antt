@@ -1,11 +1,13 @@
 -- How the edges and minus nodes are looked at.
-use Rattle.std.specs.Prelude.{ℕ, ◌≡◌, ◌+◌, ◌*◌, ◌/◌, ◌≤◌, ◌==◌, Bool, true, false, min, nat_lt, nat_le, List, length, All, Option, Some, None, if◌then◌else◌}
+use Rattle.std.specs.Prelude.{ℕ, ◌≡◌, ◌+◌, ◌-◌, ◌*◌, ◌/◌, ◌≤◌, ◌==◌, Bool, true, false, min, nat_lt, nat_le, List, length, All, Option, Some, None, option_map, if◌then◌else◌}
 use Rattle.fb_graph.specs.Problem.{Problem, edge_at}
 use Rattle.fb_graph.specs.Certificate.{load_of}
 use Rattle.fb_graph.specs.Dual.{Node, all_cuts, cover_of, is_empty, layers_at}
 use Rattle.fb_graph.specs.Steps.{Roles, gains, losses}
 use Rattle.fb_graph.specs.declared.parts.Edge.{Edge}
+use Rattle.fb_regions.specs.Holders.{IsHolder, potential_by}
 use Rattle.fb_regions.specs.Moves.{node_named}
+use Rattle.fb_regions.specs.declared.regions.Holder.{Holder}
 use Rattle.fb_regions.specs.declared.roles.Role.{Role}
 use Rattle.fb_regions.specs.declared.roles.Role.TheVariants as role
 use Rattle.fb_obstacles.specs.Obstacles.{Obstructs, residue_at}
@@ -15,6 +17,7 @@ use Rattle.fb_obstacles.specs.declared.looking.Look.{Look}
 use Rattle.fb_obstacles.specs.declared.looking.Look.TheVariants.{Clear, Within, Blocked}
 use Rattle.fb_obstacles.specs.declared.ends.Cover.{Cover}
 use Rattle.fb_obstacles.specs.declared.ends.Cover.TheVariants.{Plus, Minus, Out, Bare, Virtual}
+use Rattle.fb_obstacles.specs.declared.ends.Ends.{Ends}
 
 abbrev pub cover_in_role : Role → ℕ → Cover
 cover_in_role role.Plus name = Plus name
@@ -27,6 +30,19 @@ cover_by role_of real (Some name) = cover_in_role (role_of name) name
 cover_by role_of true None = Bare
 cover_by role_of false None = Virtual
 
+-- the outer node over a vertex with this holder
+abbrev pub node_by : Option Holder → Option ℕ
+node_by holder = option_map (λ h. h.node) holder
+
+-- the ends are those of the edge, each with its holder
+pub record AreEnds (nodes : List Node) (e : Edge) (ends : Ends) : Type 0 where
+  pub first : IsHolder nodes e.first ends.first
+  pub second : IsHolder nodes e.second ends.second
+
+-- the weight of an edge with these ends less the potentials of both
+abbrev pub residue_by : Ends → ℕ → ℕ
+residue_by ends weight = weight - (potential_by ends.first + potential_by ends.second)
+
 abbrev pub cover_at : Problem → (ℕ → Role) → List Node → ℕ → Cover
 cover_at p role_of nodes v = cover_by role_of (p.is_real v) (cover_of nodes v)
 
@@ -36,6 +52,12 @@ far_end (Plus m) (Plus n) = if m == n then None else Some (Plus n)
 far_end (Plus m) far = Some far
 far_end far (Plus n) = Some far
 far_end first second = None
+
+-- what a plus node grows towards along the edge with these ends
+abbrev pub far_by : Problem → (ℕ → Role) → Edge → Ends → Option Cover
+far_by p role_of e ends =
+    far_end (cover_by role_of (p.is_real e.first) (node_by ends.first))
+    (cover_by role_of (p.is_real e.second) (node_by ends.second))
 
 abbrev pub bounded : ℕ → Obstacle → Look
 bounded bound o = if bound == 0 then Blocked o else Within bound

@@ -4,7 +4,7 @@ ghost use Rattle.fb_obstacles.specs.Obstacles.{HavePlusParity, ListsMinus, resid
 ghost use Rattle.fb_obstacles.specs.Watched.{AreBounded};
 ghost use Rattle.fb_obstacles.specs.InternalLooks.{LimitsBoth};
 
-use crate::ends::keeps_dual;
+use crate::ends::{Ends, keeps_dual};
 use crate::looking::{Look, look_with};
 use crate::shrinking::{MinusNodes, look_at_minus};
 use crate::watching::Watch;
@@ -48,12 +48,13 @@ pub fn look_by_bounds<S: Scope, R: MinusNodes, L: Ledger>(
         }
         looks.tick();
         let edge = watch.edges()[place];
-        let residue = regions.residue(edge);
+        let ends = Ends::of(edge, regions);
+        let residue = ends.residue(scope.weight(edge));
         watch.set_bound(place, residue);
         if least.fits_within(residue) {
             continue;
         }
-        least = least.and(look_with(edge, residue, scope, regions, roles));
+        least = least.and(look_with(edge, ends, residue, scope, roles));
         if let Look::Blocked(_) = least {
             return least;
         }

@@ -1,10 +1,12 @@
-ghost use Rattle.std.specs.Prelude.{◌≡◌, ◌<◌};
-ghost use Rattle.fb_graph.specs.Dual.{IsDual, cover_of};
-ghost use Rattle.fb_obstacles.specs.InternalLooks.{cover_at, far_end};
+ghost use Rattle.std.specs.Prelude.{◌≡◌, ◌<◌, length};
+ghost use Rattle.fb_graph.specs.Problem.{edge_at};
+ghost use Rattle.fb_graph.specs.Dual.{IsDual};
+ghost use Rattle.fb_regions.specs.Holders.{potential_by};
+ghost use Rattle.fb_obstacles.specs.InternalLooks.{AreEnds, cover_by, far_by, far_end, node_by, residue_by};
 
 use crate::NodeId;
 use fb_graph::Scope;
-use fb_regions::{Regions, Role, Roles};
+use fb_regions::{Holder, Regions, Role, Roles};
 
 /// What is over an end of an edge.
 #[derive(Clone, Copy)]
@@ -28,14 +30,66 @@ pub fn keeps_dual<S: Scope>(regions: &Regions<S>)
     regions.keeps();
 }
 
-/// What is over the vertex.
-pub fn cover_at<S: Scope, R: Roles>(v: u32, scope: &S, regions: &Regions<S>, roles: &R) -> Cover
-    requires { v < (S.problem scope.now).vertices }
-    ensures { result ≡ cover_at (S.problem scope.now) (R.role_of roles.now) regions.now.nodes v }
+/// The nodes that hold the ends of an edge, with the potentials of the ends.
+#[derive(Clone, Copy)]
+pub struct Ends {
+    first: Option<Holder>,
+    second: Option<Holder>,
+}
+
+impl Ends {
+    /// The ends of the edge.
+    pub fn of<S: Scope>(edge: u32, regions: &Regions<S>) -> Ends
+        requires { edge < length (S.problem regions.now.scope).edges }
+        ensures { AreEnds regions.now.nodes (edge_at (S.problem regions.now.scope).edges edge) result }
+    {
+        let (first, second) = regions.scope().ends(edge);
+        Ends {
+            first: regions.holder(first),
+            second: regions.holder(second),
+        }
+    }
+
+    /// The residue of an edge of this weight: the weight less the potentials of both ends, or 0 if they are more.
+    pub fn residue(self, weight: u64) -> u64
+        ensures { result ≡ residue_by self weight }
+    {
+        weight
+            .saturating_sub(potential_by(self.first))
+            .saturating_sub(potential_by(self.second))
+    }
+
+    /// What a plus node grows towards along the edge.
+    pub fn far<S: Scope, R: Roles>(self, edge: u32, scope: &S, roles: &R) -> Option<Cover>
+        requires { edge < length (S.problem scope.now).edges }
+        ensures { result ≡ far_by (S.problem scope.now) (R.role_of roles.now) (edge_at (S.problem scope.now).edges edge) self }
+    {
+        scope.limits();
+        let (first, second) = scope.ends(edge);
+        let first = cover_by(first, self.first, scope, roles);
+        let second = cover_by(second, self.second, scope, roles);
+        far_end(first, second)
+    }
+}
+
+/// The potential of a vertex with this holder.
+fn potential_by(holder: Option<Holder>) -> u64
+    ensures { result ≡ potential_by holder }
 {
-    match regions.cover_of(v) {
-        Some(node) => match roles.role(node) {
-            Role::Plus => Cover::Plus(node),
+    match holder {
+        Some(holder) => holder.potential,
+        None => 0,
+    }
+}
+
+/// What is over a vertex with this holder.
+fn cover_by<S: Scope, R: Roles>(v: u32, holder: Option<Holder>, scope: &S, roles: &R) -> Cover
+    requires { v < (S.problem scope.now).vertices }
+    ensures { result ≡ cover_by (R.role_of roles.now) ((S.problem scope.now).is_real v) (node_by holder) }
+{
+    match holder {
+        Some(holder) => match roles.role(holder.node) {
+            Role::Plus => Cover::Plus(holder.node),
             Role::Minus => Cover::Minus,
             Role::Out => Cover::Out,
         },

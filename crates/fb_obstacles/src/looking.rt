@@ -1,9 +1,8 @@
 ghost use Rattle.std.specs.Prelude.{◌≡◌, ◌<◌, length};
 ghost use Rattle.fb_graph.specs.Problem.{edge_at};
-ghost use Rattle.fb_obstacles.specs.Obstacles.{residue_at};
-ghost use Rattle.fb_obstacles.specs.InternalLooks.{bounded, both_looks, cover_at, edge_look, far_end, fits_within, look_at};
+ghost use Rattle.fb_obstacles.specs.InternalLooks.{bounded, both_looks, edge_look, far_by, fits_within, look_at, look_if};
 
-use crate::ends::{Cover, cover_at, far_end};
+use crate::ends::{Cover, Ends};
 use crate::obstacle::Obstacle;
 use fb_graph::Scope;
 use fb_regions::{Regions, Roles};
@@ -70,50 +69,30 @@ fn look_at(far: Cover, residue: u64, edge: u32) -> Look
     }
 }
 
-/// What a plus node grows towards along the edge.
-fn far_over<S: Scope, R: Roles>(
-    edge: u32,
-    scope: &S,
-    regions: &Regions<S>,
-    roles: &R,
-) -> Option<Cover>
-    requires { edge < length (S.problem scope.now).edges }
-    ensures { let e = edge_at (S.problem scope.now).edges edge in
-        let cover = cover_at (S.problem scope.now) (R.role_of roles.now) regions.now.nodes in
-        result ≡ far_end (cover e.first) (cover e.second) }
-{
-    scope.limits();
-    let (first, second) = scope.ends(edge);
-    let first = cover_at(first, scope, regions, roles);
-    let second = cover_at(second, scope, regions, roles);
-    far_end(first, second)
-}
-
 /// A look at one edge.
 pub fn look_over<S: Scope, R: Roles>(edge: u32, scope: &S, regions: &Regions<S>, roles: &R) -> Look
     requires same { regions.now.scope ≡ scope.now }
     requires below { edge < length (S.problem scope.now).edges }
     ensures { result ≡ edge_look (S.problem scope.now) (R.role_of roles.now) regions.now.nodes edge }
 {
-    match far_over(edge, scope, regions, roles) {
-        Some(far) => look_at(far, regions.residue(edge), edge),
-        None => Look::Clear,
-    }
+    let ends = Ends::of(edge, regions);
+    let residue = ends.residue(scope.weight(edge));
+    look_with(edge, ends, residue, scope, roles)
 }
 
-/// A look at one edge whose residue is known.
+/// A look at one edge whose ends and residue are known.
 pub fn look_with<S: Scope, R: Roles>(
     edge: u32,
+    ends: Ends,
     residue: u64,
     scope: &S,
-    regions: &Regions<S>,
     roles: &R,
 ) -> Look
-    requires below { edge < length (S.problem scope.now).edges }
-    requires residue { residue ≡ residue_at (S.problem scope.now) regions.now.nodes edge }
-    ensures { result ≡ edge_look (S.problem scope.now) (R.role_of roles.now) regions.now.nodes edge }
+    requires { edge < length (S.problem scope.now).edges }
+    ensures { let e = edge_at (S.problem scope.now).edges edge in
+        result ≡ look_if (far_by (S.problem scope.now) (R.role_of roles.now) e ends) residue edge }
 {
-    match far_over(edge, scope, regions, roles) {
+    match ends.far(edge, scope, roles) {
         Some(far) => look_at(far, residue, edge),
         None => Look::Clear,
     }

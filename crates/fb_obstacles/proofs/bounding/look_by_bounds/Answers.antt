@@ -1,7 +1,10 @@
-use Rattle.std.proofs.Common.{◌≡◌, ◌-◌, length, get_or, refl, ap, subst, arith}
+use Rattle.std.proofs.Common.{ℕ, ◌≡◌, ◌-◌, length, get_or, refl, ap, subst, arith}
+use Rattle.fb_graph.specs.Problem.{edge_at}
 use Rattle.fb_graph.specs.Dual.{IsDual}
 use Rattle.fb_obstacles.specs.Obstacles.{residue_at}
+use Rattle.fb_obstacles.specs.InternalLooks.{AreEnds, edge_look}
 use Rattle.fb_obstacles.proofs.BoundedScans.{IsScanned, scanned_all, scanned_blocked, scanned_bounded, scanned_more, scanned_none, scanned_passed}
+use Rattle.fb_obstacles.proofs.HeldEnds.{look_by_ends, residue_by_ends}
 use Rattle.fb_obstacles.proofs.bounding.look_by_bounds.Goals as goal
 
 pub returns-in-Blocked-clause-limits : goal.returns-in-Blocked-clause-limits
@@ -45,9 +48,15 @@ loop-place-preserved-then-fits_within g c =
 
 pub loop-place-preserved-then-fits_within-2 : goal.loop-place-preserved-then-fits_within-2
 loop-place-preserved-then-fits_within-2 g c =
+    let k : ℕ = get_or c.edges.result.now (c.loop-place.place - 1) 0 in
+    let ends : AreEnds c.args.regions.now.nodes (edge_at (g.S.Scope.problem c.args.scope.now).edges k) c.of-ends.result =
+    subst (λ s. AreEnds c.args.regions.now.nodes (edge_at (g.S.Scope.problem s).edges k) c.of-ends.result) c.requires.same c.of-ends.ensures in
+    let residue : c.residue-residue.result ≡ residue_at (g.S.Scope.problem c.args.scope.now) c.args.regions.now.nodes k =
+    residue_by_ends (g.S.Scope.problem c.args.scope.now) c.args.regions.now.nodes k c.weight.result c.residue-residue.result c.of-ends.result
+    ends c.weight.ensures c.residue-residue.ensures in
     record {
       scanned = scanned_bounded (g.S.Scope.problem c.args.scope.now) (g.R.Roles.role_of c.args.roles.now) c.args.regions.now.nodes (g.R.MinusNodes.minus_names c.args.roles.now) c.args.watch.now c.loop-place.watch c.set_bound.new.self
-          c.loop-place.place (get_or c.edges.result.now (c.loop-place.place - 1) 0) c.residue-residue.result c.loop-place.least c.fits_within-in-loop-place.result
+          c.loop-place.place k c.residue-residue.result c.loop-place.least c.fits_within-in-loop-place.result
           (record {
             dual = subst (λ s. IsDual (g.S.Scope.problem s) c.args.regions.now.nodes) c.requires.same c.keeps_dual.ensures;
             roles = c.requires.roles;
@@ -57,8 +66,7 @@ loop-place-preserved-then-fits_within-2 g c =
           })
           c.loop-place.invariant.scanned c.loop-place-test.true
           (ap (λ xs. get_or xs (c.loop-place.place - 1) 0) c.edges.ensures)
-          (subst (λ s. c.residue-residue.result ≡ residue_at (g.S.Scope.problem s) c.args.regions.now.nodes (get_or c.edges.result.now (c.loop-place.place - 1) 0))
-          c.requires.same c.residue-residue.ensures.heights)
+          residue
           c.set_bound.ensures
           c.fits_within-in-loop-place.ensures c.if-fits_within-2.true;
       never_falls = omega (arith, c.loop-place.invariant.never_falls);
@@ -67,9 +75,18 @@ loop-place-preserved-then-fits_within-2 g c =
 
 pub loop-place-preserved : goal.loop-place-preserved
 loop-place-preserved g c =
+    let k : ℕ = get_or c.edges.result.now (c.loop-place.place - 1) 0 in
+    let ends : AreEnds c.args.regions.now.nodes (edge_at (g.S.Scope.problem c.args.scope.now).edges k) c.of-ends.result =
+    subst (λ s. AreEnds c.args.regions.now.nodes (edge_at (g.S.Scope.problem s).edges k) c.of-ends.result) c.requires.same c.of-ends.ensures in
+    let residue : c.residue-residue.result ≡ residue_at (g.S.Scope.problem c.args.scope.now) c.args.regions.now.nodes k =
+    residue_by_ends (g.S.Scope.problem c.args.scope.now) c.args.regions.now.nodes k c.weight.result c.residue-residue.result c.of-ends.result
+    ends c.weight.ensures c.residue-residue.ensures in
+    let looked : c.look_with.result ≡ edge_look (g.S.Scope.problem c.args.scope.now) (g.R.Roles.role_of c.args.roles.now) c.args.regions.now.nodes k =
+    look_by_ends (g.S.Scope.problem c.args.scope.now) (g.R.Roles.role_of c.args.roles.now) c.args.regions.now.nodes k c.residue-residue.result
+    c.of-ends.result c.look_with.result ends residue c.look_with.ensures in
     record {
       scanned = scanned_more (g.S.Scope.problem c.args.scope.now) (g.R.Roles.role_of c.args.roles.now) c.args.regions.now.nodes (g.R.MinusNodes.minus_names c.args.roles.now) c.args.watch.now c.loop-place.watch c.set_bound.new.self
-          c.loop-place.place (get_or c.edges.result.now (c.loop-place.place - 1) 0) c.residue-residue.result c.loop-place.least c.look_with.result c.and-least.result
+          c.loop-place.place k c.residue-residue.result c.loop-place.least c.look_with.result c.and-least.result
           (record {
             dual = subst (λ s. IsDual (g.S.Scope.problem s) c.args.regions.now.nodes) c.requires.same c.keeps_dual.ensures;
             roles = c.requires.roles;
@@ -79,19 +96,27 @@ loop-place-preserved g c =
           })
           c.loop-place.invariant.scanned c.loop-place-test.true
           (ap (λ xs. get_or xs (c.loop-place.place - 1) 0) c.edges.ensures)
-          (subst (λ s. c.residue-residue.result ≡ residue_at (g.S.Scope.problem s) c.args.regions.now.nodes (get_or c.edges.result.now (c.loop-place.place - 1) 0))
-          c.requires.same c.residue-residue.ensures.heights)
+          residue
           c.set_bound.ensures
-          c.look_with.ensures c.and-least.ensures;
+          looked c.and-least.ensures;
       never_falls = omega (arith, c.loop-place.invariant.never_falls);
       counted = omega (arith, c.loop-place.invariant.counted);
     }
 
 pub returns-in-Blocked-least : goal.returns-in-Blocked-least
 returns-in-Blocked-least g c =
+    let k : ℕ = get_or c.edges.result.now (c.loop-place.place - 1) 0 in
+    let ends : AreEnds c.args.regions.now.nodes (edge_at (g.S.Scope.problem c.args.scope.now).edges k) c.of-ends.result =
+    subst (λ s. AreEnds c.args.regions.now.nodes (edge_at (g.S.Scope.problem s).edges k) c.of-ends.result) c.requires.same c.of-ends.ensures in
+    let residue : c.residue-residue.result ≡ residue_at (g.S.Scope.problem c.args.scope.now) c.args.regions.now.nodes k =
+    residue_by_ends (g.S.Scope.problem c.args.scope.now) c.args.regions.now.nodes k c.weight.result c.residue-residue.result c.of-ends.result
+    ends c.weight.ensures c.residue-residue.ensures in
+    let looked : c.look_with.result ≡ edge_look (g.S.Scope.problem c.args.scope.now) (g.R.Roles.role_of c.args.roles.now) c.args.regions.now.nodes k =
+    look_by_ends (g.S.Scope.problem c.args.scope.now) (g.R.Roles.role_of c.args.roles.now) c.args.regions.now.nodes k c.residue-residue.result
+    c.of-ends.result c.look_with.result ends residue c.look_with.ensures in
     let scanned : IsScanned (g.S.Scope.problem c.args.scope.now) (g.R.Roles.role_of c.args.roles.now) c.args.regions.now.nodes (g.R.MinusNodes.minus_names c.args.roles.now) c.args.watch.now c.set_bound.new.self (c.loop-place.place - 1) c.and-least.result =
     scanned_more (g.S.Scope.problem c.args.scope.now) (g.R.Roles.role_of c.args.roles.now) c.args.regions.now.nodes (g.R.MinusNodes.minus_names c.args.roles.now) c.args.watch.now c.loop-place.watch c.set_bound.new.self
-    c.loop-place.place (get_or c.edges.result.now (c.loop-place.place - 1) 0) c.residue-residue.result c.loop-place.least c.look_with.result c.and-least.result
+    c.loop-place.place k c.residue-residue.result c.loop-place.least c.look_with.result c.and-least.result
     (record {
       dual = subst (λ s. IsDual (g.S.Scope.problem s) c.args.regions.now.nodes) c.requires.same c.keeps_dual.ensures;
       roles = c.requires.roles;
@@ -101,10 +126,9 @@ returns-in-Blocked-least g c =
     })
     c.loop-place.invariant.scanned c.loop-place-test.true
     (ap (λ xs. get_or xs (c.loop-place.place - 1) 0) c.edges.ensures)
-    (subst (λ s. c.residue-residue.result ≡ residue_at (g.S.Scope.problem s) c.args.regions.now.nodes (get_or c.edges.result.now (c.loop-place.place - 1) 0))
-    c.requires.same c.residue-residue.ensures.heights)
+    residue
     c.set_bound.ensures
-    c.look_with.ensures c.and-least.ensures in
+    looked c.and-least.ensures in
     record {
       limits = scanned_blocked (g.S.Scope.problem c.args.scope.now) (g.R.Roles.role_of c.args.roles.now) c.args.regions.now.nodes (g.R.MinusNodes.minus_names c.args.roles.now) c.args.watch.now c.set_bound.new.self (c.loop-place.place - 1)
           c.and-least.result c.in-Blocked-least.field-0 c.in-Blocked-least.is scanned;

@@ -1,0 +1,32 @@
+-- Looks at an edge by the nodes that hold its ends.
+use Rattle.std.proofs.Common.{ℕ, ◌≡◌, List, refl, ap, ◌∙◌, arith}
+use Rattle.fb_graph.specs.Problem.{Problem, edge_at}
+use Rattle.fb_graph.specs.Dual.{Node}
+use Rattle.fb_graph.specs.declared.parts.Edge.{Edge}
+use Rattle.fb_regions.specs.declared.roles.Role.{Role}
+use Rattle.fb_obstacles.specs.declared.ends.Ends.{Ends}
+use Rattle.fb_obstacles.specs.declared.looking.Look.{Look}
+use Rattle.fb_obstacles.specs.Obstacles.{residue_at}
+use Rattle.fb_obstacles.specs.InternalLooks.{AreEnds, cover_at, edge_look, far_by, far_end, look_if, residue_by}
+
+-- the weight less the potentials of the known ends is the residue of the edge
+pub residue_by_ends : (p : Problem) (nodes : List Node) (k weight x : ℕ) (ends : Ends)
+    → AreEnds nodes (edge_at p.edges k) ends → weight ≡ (edge_at p.edges k).weight
+    → x ≡ residue_by ends weight → x ≡ residue_at p nodes k
+residue_by_ends p nodes k weight x ends known weighs is =
+    omega (arith, is, weighs, known.first.potential, known.second.potential)
+
+-- what a plus node grows towards, by the known ends
+far_by_ends : (p : Problem) (role_of : ℕ → Role) (nodes : List Node) (e : Edge) (ends : Ends) → AreEnds nodes e ends
+    → far_by p role_of e ends ≡ far_end (cover_at p role_of nodes e.first) (cover_at p role_of nodes e.second)
+far_by_ends p role_of nodes e ends known = rw (known.first.node, known.second.node) refl
+
+-- a look by the known ends and the residue is a look at the edge
+pub look_by_ends : (p : Problem) (role_of : ℕ → Role) (nodes : List Node) (k x : ℕ) (ends : Ends) (l : Look)
+    → AreEnds nodes (edge_at p.edges k) ends → x ≡ residue_at p nodes k
+    → l ≡ look_if (far_by p role_of (edge_at p.edges k) ends) x k → l ≡ edge_look p role_of nodes k
+look_by_ends p role_of nodes k x ends l known residue is =
+    let e : Edge = edge_at p.edges k in
+    is
+    ∙ ap (λ y. look_if (far_by p role_of e ends) y k) residue
+    ∙ ap (λ far. look_if far (residue_at p nodes k) k) (far_by_ends p role_of nodes e ends known)
