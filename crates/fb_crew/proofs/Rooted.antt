@@ -1,14 +1,14 @@
 -- What the pieces of a finished job say of the shots of a window.
-use Rattle.std.proofs.Common.{◌≡◌, ℕ, suc, ◌+◌, ◌-◌, ◌*◌, ◌<◌, ◌≤◌, ◌^◌, true, List, [], ◌∷◌, length, get_or, slice_get, map, count_by, cond, is_none, Option, Some, None, Result, Ok, Err, IfOk, refl, sym, ap, subst, ◌∙◌, arith}
+use Rattle.std.proofs.Common.{◌≡◌, ◌≢◌, ℕ, suc, ◌+◌, ◌-◌, ◌*◌, ◌<◌, ◌≤◌, ◌^◌, true, List, [], ◌∷◌, length, get_or, slice_get, map, count_by, cond, is_none, Option, Some, None, Result, Ok, Err, IfOk, refl, sym, ap, subst, ◌∙◌, arith}
 use Rattle.std.specs.List.{All, AllZip}
 use Rattle.std.proofs.lemmas.List.Elements.{All-nil, All-cons, All-head, All-tail}
 use Rattle.fb_graph.specs.Components.{IsFirstOdd}
 use Rattle.fb_graph.specs.Limits.{DecodingGraph, IsShot, problem_of}
 use Rattle.fb_graph.specs.declared.parts.Row.{Row}
-use Rattle.fb_plan.specs.Plans.{IsPlan, JobValue, PlanTree, children_of, node_count, root_of}
+use Rattle.fb_plan.specs.Plans.{IsPlan, IsTree, JobValue, PlanTree, children_of, node_count, root_of}
 use Rattle.fb_plan.proofs.SubProblems.{fusion_of}
 use Rattle.fb_book.specs.Books.{AreRootPieces, IsPieceAt, place_of}
-use Rattle.fb_half.specs.Parts.{IsPartOf, PartValue, shot_of}
+use Rattle.fb_half.specs.Parts.{IsPartOf, PartValue}
 use Rattle.fb_book.specs.Board.{kids_in}
 use Rattle.fb_book.specs.Machine.{IsComplete}
 use Rattle.fb_book.specs.declared.entries.Entry.{Entry}
@@ -18,7 +18,8 @@ use Rattle.fb_crew.specs.InternalWindows.{AreOddAt, AreRowsOf, IsSorted, even_of
 use Rattle.fb_book.proofs.Handing.{one_item}
 use Rattle.std.proofs.lemmas.Option.{slice_get-get_or}
 use Rattle.std.proofs.lemmas.List.Sums.{sum_by-cons}
-use Rattle.fb_crew.specs.Windows.{AreRows, IsHistoryOf, IsShotRow}
+use Rattle.fb_crew.specs.InternalSolved.{item_of}
+use Rattle.fb_crew.specs.Windows.{AreRows, IsHistoryOf, IsShotRow, SolvedValue}
 
 module _ (g : DecodingGraph) where
   pub even_shots : (odd : List (Option ℕ)) (shots : List (List ℕ)) → All (IsShot g) shots → All (IsShot g) (even_of odd shots)
@@ -45,26 +46,26 @@ module _ (g : DecodingGraph) where
   even_few (None ∷ vs) (s ∷ ss) = omega (arith, even_few vs ss)
 
 module _ (job : JobValue) where
-  -- the solved parts of the roots of all slots
-  abbrev pub AreParts : List PartValue → Type 0
-  AreParts roots = AreRootPieces (λ (p : PartValue). p.job) (λ p. p.slot) (λ p. p.node) (λ p. None) job roots
+  -- the solved items of the roots of all slots
+  abbrev pub AreSolvedRoots : List SolvedValue → Type 0
+  AreSolvedRoots roots = AreRootPieces (λ (p : SolvedValue). p.job) (λ p. p.slot) (λ p. p.node) (λ p. None) job roots
 
-  root_is : (s : ℕ) (p : PartValue) → 0 < node_count job.plan
-      → IsPieceAt (λ (q : PartValue). q.job) (λ q. q.slot) (λ q. q.node) (λ q. None) job (place_of job s (root_of job.plan)) p
+  root_is : (s : ℕ) (p : SolvedValue) → 0 < node_count job.plan
+      → IsPieceAt (λ (q : SolvedValue). q.job) (λ q. q.slot) (λ q. q.node) (λ q. None) job (place_of job s (root_of job.plan)) p
       → (p.job ≡ job) × (p.slot ≡ s) × (p.node ≡ root_of job.plan)
   root_is s p some at =
       let both = one_item (node_count job.plan) s (root_of job.plan) p.slot p.node (omega (arith, some)) at.node at.place_is in
       (at.job_is, both.0, both.1)
 
-  pub at_roots : (roots : List PartValue) → 0 < node_count job.plan → AreParts roots → All (λ p. p.node ≡ root_of p.job.plan) roots
+  pub at_roots : (roots : List SolvedValue) → 0 < node_count job.plan → AreSolvedRoots roots → All (λ p. p.node ≡ root_of p.job.plan) roots
   at_roots roots some parts = λ k d less. at (get_or roots k d)
       (root_is k (get_or roots k d) some (parts.each k (get_or roots k d) (slice_get-get_or roots k d less)))
     where
-      at : (p : PartValue) {s : ℕ} → (p.job ≡ job) × (p.slot ≡ s) × (p.node ≡ root_of job.plan) → p.node ≡ root_of p.job.plan
+      at : (p : SolvedValue) {s : ℕ} → (p.job ≡ job) × (p.slot ≡ s) × (p.node ≡ root_of job.plan) → p.node ≡ root_of p.job.plan
       at p is = is.2 ∙ ap (λ (j : JobValue). root_of j.plan) (sym is.0)
 
-  rows_from : (k : ℕ) (roots : List PartValue) (shots : List (List ℕ)) (rows : List Row) → length roots ≡ length shots
-      → ((i : ℕ) (p : PartValue) → slice_get roots i ≡ Some p → (p.job ≡ job) × (p.slot ≡ k + i))
+  rows_from : (k : ℕ) (roots : List SolvedValue) (shots : List (List ℕ)) (rows : List Row) → length roots ≡ length shots
+      → ((i : ℕ) (p : SolvedValue) → slice_get roots i ≡ Some p → (p.job ≡ job) × (p.slot ≡ k + i))
       → ((i : ℕ) → i < length shots → get_or job.shots (k + i) [] ≡ get_or shots i [])
       → AreRowsOf roots rows → AreRows job.graph shots rows
   rows_from k [] [] [] many each same rows = tt
@@ -88,7 +89,7 @@ module _ (job : JobValue) where
           (subst (λ shot. IsShotRow p.job.graph shot r)
           (ap (λ n. get_or p.job.shots n []) is.1 ∙ ap (λ (j : JobValue). get_or j.shots (k + 0) []) is.0 ∙ at) rows.0)
 
-  pub rows_of_roots : (roots : List PartValue) (rows : List Row) → 0 < node_count job.plan → AreParts roots → AreRowsOf roots rows
+  pub rows_of_roots : (roots : List SolvedValue) (rows : List Row) → 0 < node_count job.plan → AreSolvedRoots roots → AreRowsOf roots rows
       → AreRows job.graph job.shots rows
   rows_of_roots roots rows some parts answers =
       rows_from 0 roots job.shots rows parts.count
@@ -114,10 +115,10 @@ pub ok_more : {A E : Type 0} (P Q : A → Type 0) (r : Result A E) → IfOk r P 
 ok_more P Q (Ok a) known more = more a known
 ok_more P Q (Err e) known more = tt
 
--- a solved part is a piece at its item
+-- a solved item is a piece at its place
 module _ (job : JobValue) where
   pub piece_of : (from slot node : ℕ) (p : PartValue) → from ≡ slot → node < node_count job.plan → IsPartOf job from node p
-      → IsPieceAt (λ (q : PartValue). q.job) (λ q. q.slot) (λ q. q.node) (λ q. None) job (place_of job slot node) p
+      → IsPieceAt (λ (q : SolvedValue). q.job) (λ q. q.slot) (λ q. q.node) (λ q. None) job (place_of job slot node) (item_of p)
   piece_of from slot node p same less is = record {
     job_is = is.job;
     place_is = ap (λ s. s * node_count job.plan + p.node) (is.slot ∙ same) ∙ ap (λ n. slot * node_count job.plan + n) is.node;
@@ -125,15 +126,25 @@ module _ (job : JobValue) where
     made = tt;
   }
 
-  pub returns_piece : {E : Type 0} (from slot node : ℕ) (p : PartValue) (r : Result PartValue E) → from ≡ slot → node < node_count job.plan
-      → IsPartOf job from node p → IfOk r (λ q. q ≡ p)
-      → IfOk r (IsPieceAt (λ (q : PartValue). q.job) (λ q. q.slot) (λ q. q.node) (λ q. None) job (place_of job slot node))
+  pub returns_piece : {E : Type 0} (from slot node : ℕ) (p : PartValue) (r : Result SolvedValue E) → from ≡ slot → node < node_count job.plan
+      → IsPartOf job from node p → IfOk r (λ q. q ≡ item_of p)
+      → IfOk r (IsPieceAt (λ (q : SolvedValue). q.job) (λ q. q.slot) (λ q. q.node) (λ q. None) job (place_of job slot node))
   returns_piece from slot node p r same less is known =
-      ok_more (λ q. q ≡ p) _ r known (λ q e. subst (IsPieceAt (λ (q : PartValue). q.job) (λ q. q.slot) (λ q. q.node) (λ q. None) job (place_of job slot node))
+      ok_more (λ q. q ≡ item_of p) _ r known (λ q e. subst (IsPieceAt (λ (q : SolvedValue). q.job) (λ q. q.slot) (λ q. q.node) (λ q. None) job (place_of job slot node))
       (sym e) (piece_of from slot node p same less is))
 
   pub fusion_below : (node left right : ℕ) → children_of job.plan node ≡ Some (left, right) → node < node_count job.plan
   fusion_below node left right told = let (i, less, is, at) = fusion_of job.plan node left right told in omega (arith, less, is)
+
+  -- the children of a fusion lie below the root
+  pub children_below : IsTree job.plan → (node left right : ℕ) → children_of job.plan node ≡ Some (left, right)
+      → (left ≢ root_of job.plan) × (right ≢ root_of job.plan)
+  children_below tree node left right told =
+      let (i, less, is, at) = fusion_of job.plan node left right told in
+      let join = tree.joins i less in (
+        (λ top. absurd (omega (arith, top, less, is, ap (λ (j : ℕ × ℕ). j.0) at, join.left))),
+        (λ top. absurd (omega (arith, top, less, is, ap (λ (j : ℕ × ℕ). j.1) at, join.right))),
+      )
 
 -- ---- a window
 
@@ -154,11 +165,11 @@ module _ (g : DecodingGraph) (t : PlanTree) (plan : IsPlan g t) (shots : List (L
   some : 0 < node_count t
   some = omega (arith, plan.tree.count)
 
-  pub at_roots_of : (j : JobValue) → j ≡ job → (roots : List PartValue) → AreParts j roots → All (λ p. p.node ≡ root_of p.job.plan) roots
-  at_roots_of j e roots parts = at_roots job roots some (subst (λ (k : JobValue). AreParts k roots) e parts)
+  pub at_roots_of : (j : JobValue) → j ≡ job → (roots : List SolvedValue) → AreSolvedRoots j roots → All (λ p. p.node ≡ root_of p.job.plan) roots
+  at_roots_of j e roots parts = at_roots job roots some (subst (λ (k : JobValue). AreSolvedRoots k roots) e parts)
 
-  pub even_rows : (j : JobValue) → j ≡ job → (roots : List PartValue) (solved : List Row) → AreParts j roots → AreRowsOf roots solved → AreRows g even solved
-  even_rows j e roots solved parts answers = rows_of_roots job roots solved some (subst (λ (k : JobValue). AreParts k roots) e parts) answers
+  pub even_rows : (j : JobValue) → j ≡ job → (roots : List SolvedValue) (solved : List Row) → AreSolvedRoots j roots → AreRowsOf roots solved → AreRows g even solved
+  even_rows j e roots solved parts answers = rows_of_roots job roots solved some (subst (λ (k : JobValue). AreSolvedRoots k roots) e parts) answers
 
   pub rows_for_even : (solved : List Row) → AreRows g even solved → length solved ≡ count_by is_none odd
   rows_for_even solved answers = as_many_rows g odd shots solved sorted.each (subst (λ ss. AreRows g ss solved) sorted.even_are answers)

@@ -6,12 +6,11 @@ use Rattle.fb_graph.specs.Limits.{DecodingGraph, problem_of}
 use Rattle.fb_graph.specs.declared.parts.Row.{Row}
 use Rattle.fb_graph.specs.declared.parts.Row.TheVariants.{Odd}
 use Rattle.fb_plan.specs.Plans.{PlanTree, IsPlan, IsTree, node_count}
-use Rattle.fb_half.specs.Parts.{PartValue, shot_of}
 use Rattle.fb_book.specs.Board.{kids_in}
 use Rattle.fb_book.specs.Machine.{IsComplete}
 use Rattle.fb_book.specs.Laws.{renumbered}
 use Rattle.fb_book.specs.declared.entries.Entry.{Entry}
-use Rattle.fb_crew.specs.Windows.{AreRows, IsHistoryOf, IsShotRow}
+use Rattle.fb_crew.specs.Windows.{AreRows, IsHistoryOf, IsShotRow, SolvedValue, shot_at}
 
 -- what a crew keeps
 pub record IsCrew (g : DecodingGraph) (t : PlanTree) (parts : DecodingGraph) (workers : ℕ) (tools : Option ℕ) : Type 0 where
@@ -60,6 +59,6 @@ SortingLaws = (g : DecodingGraph) (t : PlanTree) (workers : ℕ) (shots : List (
     → IsComplete (kids_in t.units t.joins) (node_count t) (length even * node_count t) history → All (λ e. e.worker ≤ workers) history
     → AreRows g shots (rows_by odd solved) × IsHistoryOf t workers (rows_by odd solved) (with_places places history)
 
--- the rows of the shots of these parts
-abbrev pub AreRowsOf : List PartValue → List Row → Type 0
-AreRowsOf roots rows = AllZip (λ root row. IsShotRow root.job.graph (shot_of root) row) roots rows
+-- the rows of the shots of these solved items
+abbrev pub AreRowsOf : List SolvedValue → List Row → Type 0
+AreRowsOf roots rows = AllZip (λ root row. IsShotRow root.job.graph (shot_at root) row) roots rows

@@ -1,5 +1,5 @@
 -- The rows of a window's shots, and the history of how they were made.
-use Rattle.std.specs.Prelude.{ℕ, ◌≡◌, ◌+◌, ◌*◌, ◌≤◌, Bool, true, false, if◌then◌else◌, List, [], ◌∷◌, length}
+use Rattle.std.specs.Prelude.{ℕ, ◌≡◌, ◌+◌, ◌*◌, ◌≤◌, Bool, true, false, if◌then◌else◌, List, [], ◌∷◌, length, get_or}
 use Rattle.std.specs.List.{All, AllZip}
 use Rattle.fb_graph.specs.Answers.{IsRight}
 use Rattle.fb_graph.specs.Limits.{DecodingGraph, problem_of}
@@ -9,7 +9,7 @@ use Rattle.fb_graph.specs.declared.parts.Row.TheVariants.{Best, Odd}
 use Rattle.fb_book.specs.declared.entries.Entry.{Entry}
 use Rattle.fb_book.specs.Board.{kids_in}
 use Rattle.fb_book.specs.Machine.{IsCompleteOn}
-use Rattle.fb_plan.specs.Plans.{PlanTree, node_count}
+use Rattle.fb_plan.specs.Plans.{JobValue, PlanTree, node_count}
 
 -- the row of a shot, given by its defects
 abbrev pub IsShotRow : DecodingGraph → List ℕ → Row → Type 0
@@ -40,3 +40,13 @@ pub record CrewValue : Type 0 where
   pub graph : DecodingGraph
   pub plan : PlanTree
   pub workers : ℕ
+
+-- a solved item of a job, by its slot and node
+pub record SolvedValue : Type 0 where
+  pub job : JobValue
+  pub slot : ℕ
+  pub node : ℕ
+
+-- the defects of the item's shot
+abbrev pub shot_at : SolvedValue → List ℕ
+shot_at s = get_or s.job.shots s.slot []

@@ -1,9 +1,10 @@
 //! The solver as the hands of workers.
 
-ghost use Rattle.std.specs.Prelude.{◌≡◌, ◌<◌, Some, None, length, option_map, IfOk};
-ghost use Rattle.fb_half.specs.Parts.{IsPartOf, shot_of};
+ghost use Rattle.std.specs.Prelude.{◌≡◌, ◌≢◌, ◌<◌, Some, None, length, IfOk};
+ghost use Rattle.fb_half.specs.Parts.{IsPartOf};
 ghost use Rattle.fb_plan.specs.Plans.{children_of, root_of};
-ghost use Rattle.fb_crew.specs.Windows.{IsShotRow};
+ghost use Rattle.fb_crew.specs.InternalSolved.{IsFoundAt, item_of};
+ghost use Rattle.fb_crew.specs.Windows.{IsShotRow, shot_at};
 
 use crate::hands::Hands;
 use fb_book::Piece;
@@ -18,58 +19,86 @@ use std::alloc::Global;
 use std::marker::{Brand, Model};
 use std::sync::ledger::{Blank, Ledger};
 
-/// A solved part of a job, as it waits at its item. That of the plan's root has the row of its shot, so that whoever solves
-/// it finds the row too. Both are in boxes, since a book has room for a piece at each item.
+/// A solved item of a job: what its worker posts, and what waits until the item above it takes it.
 #[derive(Drop)]
 pub struct Solved<'a> {
-    half: Box<Half<'a>, Global>,
-    row: Option<Box<Row, Global>>,
+    job: &'a Job<'a>,
+    slot: u32,
+    node: u32,
+    found: Found<'a>,
+}
+
+/// What is kept of a solved item. Nothing is fused with the plan's root, so its part is let go once its row is known. Both
+/// are in boxes, since a book has room for a piece at each item.
+#[derive(Drop)]
+enum Found<'a> {
+    /// The part of a node below the root.
+    Part(Box<Half<'a>, Global>),
+    /// The row of the root's shot.
+    Row(Box<Row, Global>),
 }
 
 impl<'a> Model for Solved<'a> {
-    ghost use Rattle.fb_half.specs.Parts.{PartValue};
-    ghost use Rattle.std.specs.Prelude.{option_map};
-    ghost use Rattle.fb_crew.specs.InternalSolved.{HasRow};
+    ghost use Rattle.fb_crew.specs.Windows.{SolvedValue};
+    ghost use Rattle.fb_crew.specs.InternalSolved.{IsFoundAt};
 
-    ghost Value = { PartValue };
+    ghost Value = { SolvedValue };
 
-    ghost view = { λ s. s.half.value };
+    ghost view = { λ s. record { job = s.job.now; slot = s.slot; node = s.node } };
 
-    ghost invariant = { λ s. HasRow s.half.value (option_map (λ b. b.value) s.row) };
+    ghost invariant = { λ s. IsFoundAt (record { job = s.job.now; slot = s.slot; node = s.node }) s.found };
 }
 
 impl<'a> Solved<'a> {
-    /// A solved part, with the row of its shot if it is that of the root.
+    /// The solved item of this part: at the root the row of its shot, elsewhere the part.
     fn of(alloc: Global, half: Half<'a>) -> Result<Solved<'a>, NoMemory>
-        ensures { IfOk result (λ s. s ≡ half.entry) }
+        ensures { IfOk result (λ s. s ≡ item_of half.entry) }
     {
-        half.keeps();
-        let mut row = None;
-        if half.node() == half.job().plan().root() {
-            let found = resolve(alloc, &half)?;
-            row = Some(boxed(alloc, found)?);
-        }
-        let half = boxed(alloc, half)?;
-        Ok(Solved { half, row })
+        let (job, slot, node) = (half.job(), half.slot(), half.node());
+        let found = Found::of(alloc, half)?;
+        Ok(Solved {
+            job,
+            slot,
+            node,
+            found,
+        })
     }
 
-    /// The part.
+    /// The part of a node below the root.
     fn into_half(self) -> Half<'a>
-        ensures { result ≡ self.entry }
+        requires { self.node ≢ root_of self.job.plan }
+        ensures { IsPartOf self.entry.job self.entry.slot self.entry.node result }
     {
-        Box::into_inner(self.half)
+        let Solved { found, .. } = self;
+        match found {
+            Found::Part(half) => Box::into_inner(half),
+            Found::Row(_) => unreachable!(),
+        }
     }
 
-    /// The row of its shot.
+    /// The row of the root's shot.
     pub fn into_row(self) -> Row
         requires { self.node ≡ root_of self.job.plan }
-        ensures { IsShotRow self.entry.job.graph (shot_of self.entry) result }
+        ensures { IsShotRow self.entry.job.graph (shot_at self.entry) result }
     {
-        let Solved { half: _half, row } = self;
-        match row {
-            Some(row) => Box::into_inner(row),
-            None => unreachable!(),
+        let Solved { found, .. } = self;
+        match found {
+            Found::Part(_) => unreachable!(),
+            Found::Row(row) => Box::into_inner(row),
         }
+    }
+}
+
+impl<'a> Found<'a> {
+    /// What is kept of a solved part.
+    fn of(alloc: Global, half: Half<'a>) -> Result<Found<'a>, NoMemory>
+        ensures { IfOk result (IsFoundAt (item_of half.entry)) }
+    {
+        if half.node() == half.job().plan().root() {
+            let row = resolve(alloc, &half)?;
+            return Ok(Found::Row(boxed(alloc, row)?));
+        }
+        Ok(Found::Part(boxed(alloc, half)?))
     }
 }
 
@@ -95,11 +124,11 @@ impl<'a> Piece for Solved<'a> {
     ghost made_of = { λ p. None };
 
     fn slot(&self) -> u32 {
-        self.half.slot()
+        self.slot
     }
 
     fn node(&self) -> u32 {
-        self.half.node()
+        self.node
     }
 }
 
@@ -190,6 +219,7 @@ impl<'a> Hands<Solved<'a>, Tools> for Solver<'a> {
         left: Solved<'a>,
         right: Solved<'a>,
     ) -> Result<Solved<'a>, NoMemory> {
+        self.job.keeps();
         let left = left.into_half();
         let right = right.into_half();
         let half = fuse_on::<Brand>(alloc, self.job, tools, node, left, right, Blank::new(1))?;
