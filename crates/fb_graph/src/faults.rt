@@ -4,6 +4,8 @@ use thiserror::Error;
 pub use std::alloc::AllocError as NoMemory;
 
 /// Why numbers or a text make no decoding graph. A place is counted from 0.
+///
+/// Its texts are for other callers: `fusion` prints a fault's name and number.
 #[derive(Clone, Copy, Debug, PartialEq, Eq, Error)]
 pub enum GraphFault {
     #[error("more than 1,048,576 vertices")]

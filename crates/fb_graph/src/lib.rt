@@ -3,8 +3,6 @@
 #![tactic(auto)]
 
 mod building;
-#[cfg(test)]
-mod component_tests;
 pub mod connected;
 pub mod connecting;
 pub mod faults;

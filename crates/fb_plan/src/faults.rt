@@ -1,6 +1,8 @@
 use thiserror::Error;
 
 /// Why ranges and fusions, or a text, make no plan of a graph. A place is counted from 0.
+///
+/// Its texts are for other callers: `fusion` prints a fault's name, and its number, member or place.
 #[derive(Clone, Copy, Debug, PartialEq, Eq, Error)]
 pub enum PlanFault {
     #[error("the text has more than 268,435,456 bytes")]

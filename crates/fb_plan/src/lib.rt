@@ -12,8 +12,6 @@ mod owners;
 pub mod parts;
 pub mod plan;
 pub mod scope;
-#[cfg(test)]
-mod tests;
 mod tree;
 
 pub use faults::{Member, Place, PlanFault};
