@@ -131,28 +131,3 @@ pub fn draw(alloc: Global, draws: &mut Draws, rate: u32, graph: &Graph) -> Resul
     draws.state = later.state;
     Ok(shot)
 }
-
-#[cfg(test)]
-mod tests {
-    use super::*;
-    use crate::lattices::lattice;
-    use std::test::Fail;
-
-    const ALWAYS: u32 = 1 << 20;
-
-    #[test]
-    fn draws_the_first_number(rt: HostRuntime) {
-        let mut draws = Draws::new(0);
-        assert_eq!(rt; draws.next_number(), 82007);
-    }
-
-    #[test]
-    fn hits_every_edge(rt: HostRuntime) -> Result<(), Fail> {
-        let graph = lattice(rt.alloc(), 3, 3)?;
-        let mut draws = Draws::new(0);
-        let shot = draw(rt.alloc(), &mut draws, ALWAYS, &graph)?;
-        let expected: [u32; 8] = [5, 6, 13, 14, 21, 22, 29, 30];
-        assert!(rt; shot.as_slice() == &expected[..]);
-        Ok(())
-    }
-}

@@ -192,30 +192,3 @@ pub fn lattice(alloc: Global, distance: u32, rounds: u32) -> Result<Graph, GenFa
         },
     }
 }
-
-#[cfg(test)]
-mod tests {
-    use super::*;
-    use std::test::Fail;
-
-    #[test]
-    fn makes_a_lattice_of_three_rounds(rt: HostRuntime) -> Result<(), Fail> {
-        let graph = lattice(rt.alloc(), 3, 3)?;
-        assert_eq!(rt; graph.vertices(), 36);
-        assert_eq!(rt; graph.edge_count(), 51);
-        assert_eq!(rt; graph.detectors(), 18);
-        if graph.edge_count() > 3 {
-            assert_eq!(rt; graph.ends(3), (1, 13));
-            assert_eq!(rt; graph.weight(3), 28);
-        }
-        Ok(())
-    }
-
-    #[test]
-    fn refuses_too_large_a_lattice(rt: HostRuntime) {
-        assert_eq!(rt;
-            lattice(rt.alloc(), 255, 17).err(),
-            Some(GenFault::LatticeTooLarge)
-        );
-    }
-}

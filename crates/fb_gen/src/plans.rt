@@ -218,19 +218,3 @@ pub fn time_plan(
     };
     Ok(plan)
 }
-
-#[cfg(test)]
-mod tests {
-    use super::*;
-    use crate::lattices::lattice;
-    use std::test::Fail;
-
-    #[test]
-    fn plans_three_rounds(rt: HostRuntime) -> Result<(), Fail> {
-        let graph = lattice(rt.alloc(), 3, 3)?;
-        let plan = time_plan(rt.alloc(), &graph, 3, 3, 2)?;
-        assert_eq!(rt; plan.units(), 2);
-        assert_eq!(rt; plan.nodes(), 3);
-        Ok(())
-    }
-}

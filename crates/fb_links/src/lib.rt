@@ -8,8 +8,6 @@ mod link;
 pub mod links;
 pub mod names;
 mod steps;
-#[cfg(test)]
-mod tests;
 pub mod walk;
 
 pub use cycle::{CycleStep, LinkId, NodeId};

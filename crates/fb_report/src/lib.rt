@@ -8,6 +8,3 @@ mod writers;
 
 pub use fb_graph::{Cut, Row};
 pub use writers::{write_done, write_head, write_row, write_trace};
-
-#[cfg(test)]
-mod tests;

@@ -12,6 +12,3 @@ mod reader;
 pub use answer::{Kind, Next, NoMemory, Vertices};
 pub use laws::goes_on_json;
 pub use reader::RecordsJson;
-
-#[cfg(test)]
-mod tests;

@@ -14,6 +14,3 @@ pub use dense::Records01;
 pub use laws::{goes_on_01, goes_on_b8, goes_on_dets};
 pub use packed::RecordsB8;
 pub use sparse::RecordsDets;
-
-#[cfg(test)]
-mod tests;

@@ -11,15 +11,11 @@ mod loads;
 mod numbers;
 mod parities;
 pub mod report_faults;
-#[cfg(test)]
-mod report_tests;
 pub mod report_text;
 pub mod reports;
 mod shares;
 mod splitting;
 mod sums;
-#[cfg(test)]
-mod tests;
 pub mod verdicts;
 mod walking;
 

@@ -9,6 +9,3 @@ mod words;
 
 pub use usage::UsageKind;
 pub use words::{Checking, Decoding, Errand, Sampling, WordsFault, read_words};
-
-#[cfg(test)]
-mod tests;
