@@ -72,6 +72,26 @@ impl Model for SpareRegions {
     ghost invariant = { λ s. (s.regions.items ≡ []) × (s.places.items ≡ []) × (s.marks ≡ replicate (length s.marks) None) };
 }
 
+impl SpareRegions {
+    /// These lists and marks, emptied.
+    fn emptied(
+        mut regions: Vec<Region>,
+        mut places: Vec<Option<usize>>,
+        mut marks: Marks,
+    ) -> SpareRegions
+        ensures { result ≡ length marks }
+    {
+        regions.clear();
+        places.clear();
+        marks.clear();
+        SpareRegions {
+            regions,
+            places,
+            marks,
+        }
+    }
+}
+
 impl<S: Scope> Model for Regions<S> {
     ghost use Rattle.fb_graph.specs.Dual.{Dual};
     ghost use Rattle.fb_regions.specs.Codes.{dual_code};
@@ -130,18 +150,11 @@ impl<S: Scope> Regions<S> {
     {
         let Regions {
             scope: _,
-            mut regions,
-            mut places,
-            mut marks,
-        } = self;
-        regions.clear();
-        places.clear();
-        marks.clear();
-        SpareRegions {
             regions,
             places,
             marks,
-        }
+        } = self;
+        SpareRegions::emptied(regions, places, marks)
     }
 
     /// The nodes of two separated parts as those of a whole. The left one's names stay, and the right one's nodes get the
@@ -159,6 +172,24 @@ impl<S: Scope> Regions<S> {
         requires right_vertices { (S.problem right.scope).vertices ≡ (S.problem scope.now).vertices }
         ensures { IfOk result (λ r. r ≡ record { scope = scope.now; nodes = left.nodes ++ renamed_nodes (name_by nodes.now) right.nodes }) }
     {
+        let (merged, _spare) = Regions::merged_with_spare(alloc, left, right, nodes, scope)?;
+        Ok(merged)
+    }
+
+    /// The same, and the emptied room of the right one.
+    pub fn merged_with_spare(
+        alloc: Global,
+        left: Regions<S>,
+        right: Regions<S>,
+        nodes: &[(NodeId, NodeId)],
+        scope: &S,
+    ) -> Result<(Regions<S>, SpareRegions), NoMemory>
+        requires names { AreNewNames left.nodes right.nodes (name_by nodes.now) }
+        requires parts { AreParts (S.problem left.scope) (S.problem right.scope) (S.problem scope.now) }
+        requires left_vertices { (S.problem left.scope).vertices ≡ (S.problem scope.now).vertices }
+        requires right_vertices { (S.problem right.scope).vertices ≡ (S.problem scope.now).vertices }
+        ensures { IfOk result (λ r. r.0 ≡ record { scope = scope.now; nodes = left.nodes ++ renamed_nodes (name_by nodes.now) right.nodes }) }
+    {
         scope.limits();
         let names = names_of(alloc, nodes)?;
         let Regions {
@@ -170,17 +201,19 @@ impl<S: Scope> Regions<S> {
         let Regions {
             scope: _,
             regions: others,
-            places: _,
+            places: other_places,
             marks: more,
         } = right;
         take_marks(&mut marks, &more, &names);
         take_nodes(&mut regions, &mut places, others, &names)?;
-        Ok(Regions {
+        let spare = SpareRegions::emptied(Vec::new(alloc), other_places, more);
+        let merged = Regions {
             scope: *scope,
             regions,
             places,
             marks,
-        })
+        };
+        Ok((merged, spare))
     }
 
     /// Does nothing. Its clauses say what every dual state keeps.

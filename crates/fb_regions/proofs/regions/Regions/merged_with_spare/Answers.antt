@@ -5,7 +5,7 @@ use Rattle.fb_regions.specs.InternalNodes.{nodes_of}
 use Rattle.fb_regions.proofs.Indexed.{distinct_names}
 use Rattle.fb_regions.proofs.MergedNames.{new_names_by, renamed_by}
 use Rattle.fb_regions.proofs.MergedStates.{kept_both, nodes_both}
-use Rattle.fb_regions.proofs.regions.Regions.merged.Goals as goal
+use Rattle.fb_regions.proofs.regions.Regions.merged_with_spare.Goals as goal
 
 pub take_marks-requires : goal.take_marks-requires
 take_marks-requires g c =
@@ -26,8 +26,8 @@ take_nodes-requires-clause-distinct g c =
     (rw (← c.left.view_is, ← c.right.view_is) at c.requires.names))
     c.take_marks.ensures (rw (← c.left.view_is) at c.requires.left_vertices))
 
-pub invariant_of-result : goal.invariant_of-result
-invariant_of-result g c = (
+pub invariant_of-merged : goal.invariant_of-merged
+invariant_of-merged g c = (
   rw c.in_ok-take_nodes.ensures.nodes
       (kept_both _ _ _ _ _ _ _ _ _ c.limits.ensures (rw (← c.left.view_is, ← c.right.view_is) at c.requires.parts)
       c.left.invariant.0 c.right.invariant.0
