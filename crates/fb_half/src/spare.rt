@@ -41,6 +41,21 @@ impl Spare {
             matching: parts.matching.emptied(),
         }
     }
+
+    /// The room of a part whose links and blossoms another part has taken over: this for its dual state, and its matching,
+    /// emptied.
+    pub(crate) fn beside(
+        alloc: Global,
+        regions: SpareRegions,
+        matching: Matching,
+    ) -> Result<Spare, NoMemory> {
+        Ok(Spare {
+            regions,
+            links: Links::new(alloc)?,
+            blossoms: Blossoms::new(alloc)?,
+            matching: matching.emptied(),
+        })
+    }
 }
 
 /// The pieces of a part without nodes, in the spare's room if there is one, else in new room.

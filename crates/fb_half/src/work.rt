@@ -197,6 +197,24 @@ impl<'a> Work<'a> {
         requires children { children_of job.now.plan node ≡ Some (left.node, right.node) }
         ensures { IfOk result (λ w. IsMerged job.now node left.entry right.entry w) }
     {
+        let (work, _spare) = Work::merge_with_spare(alloc, job, node, left, right)?;
+        Ok(work)
+    }
+
+    /// The same, and the room that is left of the right part.
+    pub fn merge_with_spare(
+        alloc: Global,
+        job: &'a Job<'a>,
+        node: u32,
+        left: Half<'a>,
+        right: Half<'a>,
+    ) -> Result<(Work<'a>, Spare), NoMemory>
+        requires left { left.job ≡ job.now }
+        requires right { right.job ≡ job.now }
+        requires slot { left.slot ≡ right.slot }
+        requires children { children_of job.now.plan node ≡ Some (left.node, right.node) }
+        ensures { IfOk result (λ r. IsMerged job.now node left.entry right.entry r.0) }
+    {
         job.keeps();
         left.keeps();
         right.keeps();
@@ -216,7 +234,13 @@ impl<'a> Work<'a> {
             right.blossoms,
             &link_names,
         )?;
-        let regions = Regions::merged(alloc, left.regions, right.regions, &names, &scope)?;
+        let (regions, room) = Regions::merged_with_spare(
+            alloc,
+            left.regions,
+            right.regions,
+            &names,
+            &scope,
+        )?;
         let mut matching = left.matching;
         take_matches(
             alloc,
@@ -235,6 +259,8 @@ impl<'a> Work<'a> {
             node,
         };
         let parts = open_seam(alloc, parts)?;
-        Ok(Work { parts })
+        let spare = Spare::beside(alloc, room, right.matching)?;
+        let work = Work { parts };
+        Ok((work, spare))
     }
 }

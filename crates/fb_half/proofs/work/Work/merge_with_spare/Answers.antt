@@ -15,7 +15,7 @@ use Rattle.fb_half.proofs.FusedHalves.{fused_part}
 use Rattle.fb_half.proofs.FusedMatches.{merged_is}
 use Rattle.fb_half.proofs.GivenHalves.{halves_of, pieces_are}
 use Rattle.fb_half.proofs.MergedHalves.{beside, leaves_apart, matches_distinct, scoped_parts}
-use Rattle.fb_half.proofs.work.Work.merge.Goals as goal
+use Rattle.fb_half.proofs.work.Work.merge_with_spare.Goals as goal
 
 pub merged-requires-2 : goal.merged-requires-2
 merged-requires-2 c =
@@ -25,8 +25,8 @@ merged-requires-2 c =
     c.limits.ensures c.keeps-2.ensures.part c.keeps-3.ensures.part c.keeps-2.ensures.matched c.keeps-3.ensures.matched in
     leaves_apart (part_of c.into_parts-left.result) (part_of c.into_parts-right.result) c.args.node h.limits h.children h.one h.two h.matched h.also
 
-pub merged-requires-3-clause-names : goal.merged-requires-3-clause-names
-merged-requires-3-clause-names c =
+pub merged_with_spare-requires-clause-names : goal.merged_with_spare-requires-clause-names
+merged_with_spare-requires-clause-names c =
     let h =
     halves_of c.args.job.now c.args.node c.graph.result.now c.plan.result.now (part_of c.into_parts-left.result) (part_of c.into_parts-right.result) c.args.left c.args.right
     c.into_parts-left.ensures.value c.into_parts-right.ensures.value c.requires.left c.requires.right c.requires.slot c.requires.children c.graph.ensures c.plan.ensures
@@ -38,8 +38,8 @@ merged-requires-3-clause-names c =
     (new_names c.into_parts-left.result.regions.nodes c.into_parts-right.result.regions.nodes c.into_parts-left.result.blossoms c.into_parts-right.result.blossoms
     c.in_ok-blossoms.blossoms c.in_ok-links.link_names.items c.in_ok-blossoms.names.items h.one.agreed h.two.agreed stores)
 
-pub merged-requires-3-clause-parts : goal.merged-requires-3-clause-parts
-merged-requires-3-clause-parts c =
+pub merged_with_spare-requires-clause-parts : goal.merged_with_spare-requires-clause-parts
+merged_with_spare-requires-clause-parts c =
     let h =
     halves_of c.args.job.now c.args.node c.graph.result.now c.plan.result.now (part_of c.into_parts-left.result) (part_of c.into_parts-right.result) c.args.left c.args.right
     c.into_parts-left.ensures.value c.into_parts-right.ensures.value c.requires.left c.requires.right c.requires.slot c.requires.children c.graph.ensures c.plan.ensures
@@ -96,8 +96,8 @@ open_seam-requires-clause-beside c =
     (beside (part_of c.into_parts-left.result) (part_of c.into_parts-right.result) c.args.node h.limits h.children h.one h.two h.matched h.also
     c.in_ok-links.link_names.items c.in_ok-blossoms.names.items c.in_ok-links.links c.in_ok-blossoms.blossoms c.in_ok-links.ensures stores)
 
-pub invariant_of-result : goal.invariant_of-result
-invariant_of-result c =
+pub invariant_of-work : goal.invariant_of-work
+invariant_of-work c =
     let h =
     halves_of c.args.job.now c.args.node c.graph.result.now c.plan.result.now (part_of c.into_parts-left.result) (part_of c.into_parts-right.result) c.args.left c.args.right
     c.into_parts-left.ensures.value c.into_parts-right.ensures.value c.requires.left c.requires.right c.requires.slot c.requires.children c.graph.ensures c.plan.ensures
