@@ -5,7 +5,7 @@ ghost use Rattle.fb_half.specs.Parts.{IsPartOf};
 ghost use Rattle.fb_plan.specs.Plans.{children_of};
 
 use fb_graph::{NoMemory, Steps, Whole};
-use fb_half::{Half, Work};
+use fb_half::{Half, Spare, Work};
 use fb_plan::Job;
 use fb_regions::NodeId;
 use fb_search::{Scratch, search_each_from};
@@ -35,11 +35,12 @@ pub fn fuse<'a, L: Ledger>(
         + length (seam_defects job.now left.entry.slot node)) + 2 * steps.old ≤ 2 * steps.new) }
 {
     let scratch = Scratch::new(alloc, &Whole(job.graph()))?;
-    let (half, _scratch) = fuse_from(alloc, job, node, left, right, scratch, steps)?;
+    let (half, _spare, _scratch) = fuse_from(alloc, job, node, left, right, scratch, steps)?;
     Ok(half)
 }
 
-/// The same with scratch space that is lent and given back, so that one serves many parts of a graph.
+/// The same with scratch space that is lent and given back, so that one serves many parts of a graph. It comes beside the
+/// room that is left of the right part, for another part.
 pub fn fuse_from<'a, L: Ledger>(
     alloc: Global,
     job: &'a Job<'a>,
@@ -48,24 +49,24 @@ pub fn fuse_from<'a, L: Ledger>(
     right: Half<'a>,
     scratch: Scratch,
     steps: &mut Steps<L>,
-) -> Result<(Half<'a>, Scratch), NoMemory>
+) -> Result<(Half<'a>, Spare, Scratch), NoMemory>
     requires left { left.job ≡ job.now }
     requires right { right.job ≡ job.now }
     requires slot { left.slot ≡ right.slot }
     requires children { children_of job.now.plan node ≡ Some (left.node, right.node) }
     requires room { scratch.edge_count ≡ length job.now.graph.edges }
     ensures half { IfOk result (λ r. IsPartOf job.now left.entry.slot node r.0) }
-    ensures room { IfOk result (λ r. r.1.edge_count ≡ scratch.edge_count) }
+    ensures room { IfOk result (λ r. r.2.edge_count ≡ scratch.edge_count) }
     ensures never_falls { steps.old ≤ steps.new }
     ensures most { IfOk result (λ r. steps.new ≤ steps.old
         + (length (freed_in left.entry node) + length (freed_in right.entry node) + length (seam_defects job.now left.entry.slot node))) }
     ensures least { IfOk result (λ r. (length (freed_in left.entry node) + length (freed_in right.entry node)
         + length (seam_defects job.now left.entry.slot node)) + 2 * steps.old ≤ 2 * steps.new) }
 {
-    let work = Work::merge(alloc, job, node, left, right)?;
+    let (work, spare) = Work::merge_with_spare(alloc, job, node, left, right)?;
     let roots = roots_of(alloc, &work)?;
     let (work, scratch) = search_each_from(alloc, work, &roots, scratch, steps)?;
-    Ok((work.close(), scratch))
+    Ok((work.close(), spare, scratch))
 }
 
 /// An unmatched node, and the first of its vertices.
