@@ -80,3 +80,15 @@ fn opens_a_blossom(rt: HostRuntime) -> Result<(), Fail> {
     assert_eq!(rt; tree.branches().len(), 4);
     Ok(())
 }
+
+#[test]
+fn starts_again(rt: HostRuntime) -> Result<(), Fail> {
+    let alloc = rt.alloc();
+    let links = Links::new(alloc)?;
+    let mut tree = three_branches(alloc, &links)?.restart(4);
+    assert_eq!(rt; tree.role(6), Role::Out);
+    tree.attach(alloc, 4, 20, 1, step(2, 21), &links)?;
+    assert_eq!(rt; tree.role(2), Role::Plus);
+    assert_eq!(rt; tree.branches().len(), 1);
+    Ok(())
+}
