@@ -1,5 +1,5 @@
-use Rattle.fb_book.proofs.tests.runs_several_slots.Given as goal
+use Rattle.fb_book.proofs.tests.has_a_slot_for_each_shot.Given as goal
 
 -- the board of the job
-abbrev pub ghosts-whole_run-N-Board : goal.ghosts-whole_run-N-Board
-ghosts-whole_run-N-Board g a = record { job = a.job.now; workers = 1 }
+abbrev pub ghosts-run-N-Board : goal.ghosts-run-N-Board
+ghosts-run-N-Board g a = record { job = a.job.now; workers = 1 }
