@@ -3,8 +3,8 @@
 use Rattle.std.proofs.Common.{ℕ, ◌≡◌, ◌+◌, ◌-◌, ◌≤◌, ◌<◌, ◌==◌, ◌||◌, ◌⊎◌, inl, inr, not, Bool, cond, true, false, List, [], ◌∷◌, ◌++◌, length, take, filter, get_or, All, Some, None, refl, sym, ap, ◌∙◌, subst, arith, length-append, if◌then◌else◌}
 use Rattle.std.specs.Prelude.{IfSome, Option}
 use Rattle.std.specs.List.{range_with_len}
-use Rattle.std.proofs.lemmas.Bool.{eqb-true, false≢true, or_cases}
-use Rattle.std.proofs.lemmas.List.{take_all, take_more}
+use Rattle.std.proofs.lemmas.Bool.{eqb-true, false≢true}
+use Rattle.std.proofs.lemmas.List.{take_all}
 use Rattle.std.proofs.lemmas.List.Elements.{All-head, All-tail, filter_passes}
 use Rattle.fb_graph.specs.Components.{Leads}
 use Rattle.fb_graph.specs.Dual.{Node, cover_of, is_empty, is_live, layers_at, layers_of, first_vertices, top_at}
@@ -15,7 +15,6 @@ use Rattle.fb_graph.specs.Problem.{Problem, edge_at, no_edge, touches}
 use Rattle.fb_graph.specs.declared.parts.Cut.{Cut}
 use Rattle.fb_graph.specs.declared.parts.Edge.{Edge}
 use Rattle.fb_graph.proofs.Among.{among_live, cover_among, top_among}
-use Rattle.fb_graph.proofs.Members.{is_in-append}
 use Rattle.fb_graph.proofs.Ranges.{filter-range_below, is_in-filter-range}
 use Rattle.fb_graph.proofs.Sets.{is_in-cases}
 use Rattle.fb_regions.specs.Moves.{BeginsWith, node_named}
@@ -136,27 +135,6 @@ HasRoomAt edges nodes far between items room = (k : ℕ) → is_in items k ≡ t
 less_room : (b : Bool) (between more less n : ℕ) → less ≤ more → (if b then between else more) ≤ n → (if b then between else less) ≤ n
 less_room true between more less n le has = has
 less_room false between more less n le has = omega arith
-
-pub room_after : (edges : List Edge) (nodes : List Node) (far between i before after : ℕ) (items : List ℕ) → i < length items
-    → HasRoomAt edges nodes far between (take i items) before → after ≤ before
-    → (if touches far (edge_at edges (get_or items i 0)) then between else after) ≤ residue_of nodes (edge_at edges (get_or items i 0))
-    → HasRoomAt edges nodes far between (take (i + 1) items) after
-room_after edges nodes far between i before after items less has fewer here k within =
-    by (or_cases (is_in (take i items) k) (is_in (get_or items i 0 ∷ []) k)
-    (sym (is_in-append (take i items) (get_or items i 0 ∷ []) k) ∙ ap (λ l. is_in l k) (sym (take_more items i 0 less)) ∙ within))
-  where
-    Here : ℕ → Type 0
-    Here j = (if touches far (edge_at edges j) then between else after) ≤ residue_of nodes (edge_at edges j)
-
-    new : (get_or items i 0 ≡ k) ⊎ (is_in [] k ≡ true) → (if touches far (edge_at edges k) then between else after) ≤ residue_of nodes (edge_at edges k)
-    new (inl same) =
-        subst (λ j. (if touches far (edge_at edges j) then between else after) ≤ residue_of nodes (edge_at edges j)) same here
-    new (inr none) = absurd (false≢true none)
-
-    by : (is_in (take i items) k ≡ true) ⊎ (is_in (get_or items i 0 ∷ []) k ≡ true)
-        → (if touches far (edge_at edges k) then between else after) ≤ residue_of nodes (edge_at edges k)
-    by (inl old) = less_room (touches far (edge_at edges k)) between before after (residue_of nodes (edge_at edges k)) fewer (has k old)
-    by (inr there) = new (is_in-cases (get_or items i 0) [] k there)
 
 pub room_of_all : (edges : List Edge) (nodes : List Node) (v far between room i : ℕ) (items : List ℕ)
     → items ≡ filter (λ k. touches v (edge_at edges k)) (range_with_len 0 (length edges)) → length items ≤ i

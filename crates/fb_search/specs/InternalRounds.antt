@@ -47,8 +47,10 @@ abbrev pub as_list : Option ℕ → List ℕ
 as_list None = []
 as_list (Some name) = name ∷ []
 
--- Searches from some of the roots, with the counter before and after them. Those that are left are still unmatched; no
--- other root is, and all other unmatched nodes are as before.
+-- Searches from each of the roots that was still unmatched in its turn, with the counter before and after them, where some
+-- were given up and left these names. Any other node that is unmatched then was so before, is none of the roots, and is as it
+-- was. The searches that are counted are at most as many as the roots without those left, and as the nodes that are no longer
+-- unmatched, and at least half as many as the latter.
 pub record HasSearchedSome (before : PartValue) (roots : List ℕ) (old new : ℕ) (left : List ℕ) (after : PartValue) : Type 0 where
   pub part : IsSamePart before after
   pub others : (n : ℕ) → is_in after.matching.unmatched n ≡ true → is_in left n ≡ false

@@ -1,17 +1,16 @@
 //! Edges over which a single defect can be matched at once, without a search: to the boundary, or with another single
 //! defect. Where noise is low most defects have one.
 
-ghost use Rattle.std.specs.Prelude.{◌≡◌, ◌-◌, ◌<◌, ◌≤◌, ◌∷◌, [], ◌⊎◌, ℕ, true, IfSome, if◌then◌else◌, length};
+ghost use Rattle.std.specs.Prelude.{◌≡◌, ◌≢◌, ◌+◌, ◌-◌, ◌<◌, ◌∷◌, [], ◌⊎◌, ℕ, true, IfSome, length};
 ghost use Rattle.fb_graph.specs.Components.{Leads};
-ghost use Rattle.fb_graph.specs.Dual.{is_live, top_at};
+ghost use Rattle.fb_graph.specs.Dual.{all_cuts, height_of, is_live, top_at};
 ghost use Rattle.fb_graph.specs.Parity.{is_in};
 ghost use Rattle.fb_graph.specs.Problem.{edge_at, touches};
-ghost use Rattle.fb_obstacles.specs.Obstacles.{residue_of};
 ghost use Rattle.fb_search.specs.InternalNear.{HasRoom, IsNear, IsReach, IsShare, IsSingleAt};
 
 use fb_graph::Scope;
 use fb_half::{Matching, Standing};
-use fb_regions::{NodeId, Regions};
+use fb_regions::{Holder, NodeId, Regions};
 
 /// An edge at a single defect that leads to the boundary or to another unmatched single defect.
 #[derive(Clone, Copy)]
@@ -63,17 +62,18 @@ fn single_vertex<S: Scope>(regions: &Regions<S>, node: NodeId) -> Option<u32>
     Some(regions.first_vertex(node))
 }
 
-/// The unmatched node that holds this vertex alone.
-fn single_at<S: Scope>(regions: &Regions<S>, matching: &Matching, v: u32) -> Option<NodeId>
-    ensures { IfSome result (IsSingleAt regions.now.nodes matching.now.unmatched v) }
+/// The unmatched node that holds this vertex alone, with the vertex's potential.
+fn single_at<S: Scope>(regions: &Regions<S>, matching: &Matching, v: u32) -> Option<Holder>
+    ensures single { IfSome result (λ h. IsSingleAt regions.now.nodes matching.now.unmatched v h.node) }
+    ensures potential { IfSome result (λ h. h.potential ≡ height_of (all_cuts regions.now.nodes) v) }
 {
     regions.keeps();
-    let node = regions.cover_of(v)?;
-    let Standing::Unmatched(_) = matching.standing(node) else {
+    let holder = regions.holder(v)?;
+    let Standing::Unmatched(_) = matching.standing(holder.node) else {
         return None;
     };
-    let _vertex = single_vertex(regions, node)?;
-    Some(node)
+    let _vertex = single_vertex(regions, holder.node)?;
+    Some(holder)
 }
 
 /// The other end of an edge at this vertex.
@@ -86,15 +86,28 @@ fn other_end<S: Scope>(scope: &S, edge: u32, v: u32) -> u32
     if first == v { second } else { first }
 }
 
-/// The edge at a single defect, if it leads to the boundary or to another unmatched single defect.
+/// The residue of an edge whose ends have these potentials.
+fn residue_between<S: Scope>(scope: &S, edge: u32, potential: u64, far_potential: u64) -> u64
+    requires { edge < length (S.problem scope.now).edges }
+    ensures { result ≡ (edge_at (S.problem scope.now).edges edge).weight - (potential + far_potential) }
+{
+    scope
+        .weight(edge)
+        .saturating_sub(potential)
+        .saturating_sub(far_potential)
+}
+
+/// The edge at a single defect of this potential, if it leads to the boundary or to another unmatched single defect.
 fn reach_over<S: Scope>(
     regions: &Regions<S>,
     matching: &Matching,
     v: u32,
+    potential: u64,
     edge: u32,
 ) -> Option<Reach>
     requires within { edge < length (S.problem regions.now.scope).edges }
     requires touches { touches v (edge_at (S.problem regions.now.scope).edges edge) ≡ true }
+    requires potential { potential ≡ height_of (all_cuts regions.now.nodes) v }
     ensures { IfSome result (IsReach (S.problem regions.now.scope) regions.now.nodes matching.now.unmatched v) }
 {
     let scope = regions.scope();
@@ -105,15 +118,15 @@ fn reach_over<S: Scope>(
             edge,
             far,
             other: None,
-            length: regions.residue(edge),
+            length: residue_between(scope, edge, potential, regions.potential(far)),
         });
     }
     let other = single_at(regions, matching, far)?;
     Some(Reach {
         edge,
         far,
-        other: Some(other),
-        length: regions.residue(edge),
+        other: Some(other.node),
+        length: residue_between(scope, edge, potential, other.potential),
     })
 }
 
@@ -133,53 +146,34 @@ fn nearest<S: Scope>(regions: &Regions<S>, matching: &Matching, v: u32) -> Optio
     requires { v < (S.problem regions.now.scope).vertices }
     ensures { IfSome result (IsReach (S.problem regions.now.scope) regions.now.nodes matching.now.unmatched v) }
 {
+    let potential = regions.potential(v);
     let mut best = None;
     for edge in regions.scope().edges_at(v) {
-        best = nearer(best, reach_over(regions, matching, v, *edge));
+        best = nearer(best, reach_over(regions, matching, v, potential, *edge));
     }
     best
-}
-
-/// Whether exactly one end of the edge is the vertex.
-fn touches<S: Scope>(scope: &S, edge: u32, v: u32) -> bool
-    requires { edge < length (S.problem scope.now).edges }
-    ensures { result ≡ touches v (edge_at (S.problem scope.now).edges edge) }
-{
-    let (first, second) = scope.ends(edge);
-    (v == first) != (v == second)
 }
 
 /// The least residue of the edges at a vertex but for those to the far one; none where one of these has less residue than
 /// `between`.
 fn room_beside<S: Scope>(regions: &Regions<S>, v: u32, far: u32, between: u64) -> Option<u64>
-    requires { v < (S.problem regions.now.scope).vertices }
+    requires below { v < (S.problem regions.now.scope).vertices }
+    requires apart { v ≢ far }
     ensures { IfSome result (HasRoom (S.problem regions.now.scope).edges regions.now.nodes v far between) }
 {
+    let scope = regions.scope();
+    let potential = regions.potential(v);
     let mut room = u64::MAX;
-    for edge in regions.scope().edges_at(v) {
-        room = room_with(regions, *edge, far, between, room)?;
+    for edge in scope.edges_at(v) {
+        let end = other_end(scope, *edge, v);
+        let residue = residue_between(scope, *edge, potential, regions.potential(end));
+        if end != far {
+            room = room.min(residue);
+        } else if residue < between {
+            return None;
+        }
     }
     Some(room)
-}
-
-/// The room with a further edge: that before, or the edge's residue where it is less; none where the edge leads to the far
-/// vertex and has less residue than `between`.
-fn room_with<S: Scope>(
-    regions: &Regions<S>,
-    edge: u32,
-    far: u32,
-    between: u64,
-    room: u64,
-) -> Option<u64>
-    requires { edge < length (S.problem regions.now.scope).edges }
-    ensures { let e = edge_at (S.problem regions.now.scope).edges edge in
-        IfSome result (λ after. (after ≤ room) × ((if touches far e then between else after) ≤ residue_of regions.now.nodes e)) }
-{
-    let residue = regions.residue(edge);
-    if !touches(regions.scope(), edge, far) {
-        return Some(room.min(residue));
-    }
-    if residue < between { None } else { Some(room) }
 }
 
 /// How much of the residue of an edge between two single defects the other one takes, about half of it; none where no

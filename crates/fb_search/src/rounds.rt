@@ -9,8 +9,7 @@ ghost use Rattle.fb_search.specs.Progress.{stepped_by};
 ghost use Rattle.fb_search.specs.Searching.{SearchValue, problem_of, roles_in};
 ghost use Rattle.fb_search.specs.Went.{HasWent};
 
-use crate::near::near_of;
-use crate::near_ends::match_near;
+use crate::near_ends::{Tried, try_near};
 use crate::scratch::Scratch;
 use crate::searching::Searching;
 use crate::went::Went;
@@ -137,13 +136,14 @@ fn finish_within<'a, L: Ledger>(
     }
 }
 
-/// Searches from the root until it is matched or the tree has grown by the limit, which is even: then the tree is given
-/// up. Counts one step if the root is matched, or else none.
+/// Searches from the root until it is matched or its tree is given up: where that would grow by more than the root's
+/// first limit times this factor, if the root's potential is even then. Counts one step if the root is matched, or else
+/// none.
 pub(crate) fn search_within<'a, L: Ledger>(
     alloc: Global,
     work: Work<'a>,
     root: NodeId,
-    limit: u64,
+    factor: u64,
     scratch: Scratch,
     steps: &mut Steps<L>,
 ) -> Result<Bounded<'a>, NoMemory>
@@ -154,30 +154,34 @@ pub(crate) fn search_within<'a, L: Ledger>(
     ensures room { IfOk result (λ b. b.scratch.edge_count ≡ scratch.edge_count) }
     ensures kept { OnErr result (steps.new ≡ steps.old) }
 {
-    work.keeps();
-    if let Some(near) = near_of(work.regions(), work.matching(), root) {
-        let work = match_near(alloc, work, root, near)?;
-        steps.tick();
-        return Ok(Bounded {
-            work,
-            scratch,
-            left: None,
-        });
+    match try_near(alloc, work, root)? {
+        Tried::Matched(work) => {
+            steps.tick();
+            Ok(Bounded {
+                work,
+                scratch,
+                left: None,
+            })
+        }
+        Tried::Left(work) => {
+            work.keeps();
+            let limit = first_limit(work.regions(), root).saturating_mul(factor);
+            let search = Searching::begin(alloc, work, scratch, root)?;
+            let bounded = finish_within::<Brand>(alloc, search, limit, Blank::new(1))?;
+            if let None = bounded.left {
+                steps.tick();
+            }
+            Ok(bounded)
+        }
     }
-    let search = Searching::begin(alloc, work, scratch, root)?;
-    let bounded = finish_within::<Brand>(alloc, search, limit, Blank::new(1))?;
-    if let None = bounded.left {
-        steps.tick();
-    }
-    Ok(bounded)
 }
 
 /// Half the heaviest weight of the edges at the node's first vertex, as an even number of at least 2.
-fn first_limit<S: Scope>(scope: &S, regions: &Regions<S>, node: NodeId) -> u64
-    requires same { S.problem regions.now.scope ≡ S.problem scope.now }
-    requires live { is_live regions.now.nodes node ≡ true }
+fn first_limit<S: Scope>(regions: &Regions<S>, node: NodeId) -> u64
+    requires { is_live regions.now.nodes node ≡ true }
 {
     regions.keeps();
+    let scope = regions.scope();
     scope.limits();
     let mut heaviest = 0;
     for edge in scope.edges_at(regions.first_vertex(node)) {
@@ -201,12 +205,7 @@ fn search_root<'a, L: Ledger>(
     ensures kept { OnErr result (steps.new ≡ steps.old) }
 {
     match work.matching().standing(root) {
-        Standing::Unmatched(_) => {
-            work.keeps();
-            let regions = work.regions();
-            let limit = first_limit(regions.scope(), regions, root).saturating_mul(factor);
-            search_within(alloc, work, root, limit, scratch, steps)
-        }
+        Standing::Unmatched(_) => search_within(alloc, work, root, factor, scratch, steps),
         _ => Ok(Bounded {
             work,
             scratch,

@@ -3,8 +3,7 @@ ghost use Rattle.fb_graph.specs.Parity.{is_in};
 ghost use Rattle.fb_half.specs.Parts.{problem_in};
 ghost use Rattle.fb_search.specs.Progress.{EndsWith, HasSearchedEach, IsSearched};
 
-use crate::near::near_of;
-use crate::near_ends::match_near;
+use crate::near_ends::{Tried, try_near};
 use crate::rounds::{Round, search_rounds};
 use crate::scratch::Scratch;
 use crate::searching::Searching;
@@ -69,13 +68,13 @@ fn match_root<'a>(
     ensures searched { IfOk result (λ after. IsSearched root work.entry after.0) }
     ensures room { IfOk result (λ after. after.1.edge_count ≡ scratch.edge_count) }
 {
-    work.keeps();
-    if let Some(near) = near_of(work.regions(), work.matching(), root) {
-        let work = match_near(alloc, work, root, near)?;
-        return Ok((work, scratch));
+    match try_near(alloc, work, root)? {
+        Tried::Matched(work) => Ok((work, scratch)),
+        Tried::Left(work) => {
+            let search = Searching::begin(alloc, work, scratch, root)?;
+            finish::<Brand>(alloc, search, Blank::new(1))
+        }
     }
-    let search = Searching::begin(alloc, work, scratch, root)?;
-    finish::<Brand>(alloc, search, Blank::new(1))
 }
 
 /// Removes one obstacle after another until the search has ended. The looks at edges are counted by themselves.
