@@ -2,19 +2,19 @@
 use Rattle.std.proofs.Common.{◌≡◌, ◌≢◌, ◌⊎◌, inl, inr, ℕ, ◌+◌, ◌%◌, ◌<◌, ◌≤◌, ◌==◌, ◌&&◌, true, false, List, [], ◌∷◌, ◌++◌, length, get_or, Option, Some, None, is_some, refl, sym, ◌∙◌, ap, subst, arith, length-append}
 use Rattle.std.specs.Option.{unwrap_or}
 use Rattle.std.proofs.lemmas.Bool.{and_from, and_parts, both_ways, cases_Bool, cases_eq, cases_lt, eq-eqb, or_cases, or_left, or_right}
-use Rattle.std.proofs.lemmas.List.{get_or_append_left, get_or_default, get_or_push}
+use Rattle.std.proofs.lemmas.List.{get_or_append_left, get_or_push}
 use Rattle.fb_links.specs.declared.walk.Step.{Step}
 use Rattle.fb_links.specs.declared.cycle.CycleStep.{CycleStep}
 use Rattle.fb_links.specs.Walks.{end_of, start_of}
 use Rattle.fb_links.specs.Table.{link_at, walk_at}
 use Rattle.fb_links.specs.Table as table
-use Rattle.fb_blossoms.specs.Nodes.{Adds, AreDistinct, AreOuter, AreWithin, IsNested, IsOddCycle, IsOuter, Node, TakesOff, blossom, cycle_at, cycle_of, defects_at, defects_of, is_in, is_on, leaf, node_at}
+use Rattle.fb_blossoms.specs.Nodes.{Adds, AreDistinct, AreOuter, AreWithin, IsNested, IsOddCycle, Node, blossom, cycle_at, cycle_of, defects_at, defects_of, is_in, is_on, leaf, node_at}
 use Rattle.fb_blossoms.specs.Nodes as nodes_spec
 use Rattle.fb_blossoms.specs.Links.{AllLinked, AreLinked, IsLinkBetween, joins, next_place, step_at}
 use Rattle.fb_blossoms.specs.InternalFixture.{AreKept, AreSteps, AreTops, IsFixture, IsPlaceOf, IsStep, IsTop, edge_walk, part_at}
 use Rattle.fb_blossoms.proofs.Climbs.{none_some}
 use Rattle.fb_blossoms.proofs.Nested.{is_in-one, one_in}
-use Rattle.fb_blossoms.proofs.Rounds.{on_place, step_on}
+use Rattle.fb_blossoms.proofs.Rounds.{on_place}
 
 -- a node that holds a defect is live
 pub holding_live : (nodes : List (Option Node)) (x d : ℕ) → is_in (defects_at nodes x) d ≡ true → nodes_spec.is_live nodes x ≡ true
@@ -119,24 +119,6 @@ module _ (links : List (Option (List Step))) (nodes : List (Option Node)) (leave
   pub leaf_free : (d x : ℕ) → d ≡ length leaves + 10 → node_at nodes x ≢ Some (leaf d)
   leaf_free d x e is = omega (arith, fixture.below x d is, e)
 
-  -- a node that holds a defect and isn't its leaf is a blossom
-  pub no_leaf : (nested : IsNested nodes) (x d k l : ℕ) → IsPlaceOf leaves d k → is_in (defects_at nodes x) d ≡ true → l ≡ get_or leaves k l → x ≢ l → cycle_at nodes x ≢ []
-  no_leaf nested x d k l place h is differ none = at (node_at nodes x) refl
-    where
-      at : (o : Option Node) → node_at nodes x ≡ o → ⊥
-      at None f = both_ways false refl (ap (λ o. is_in (defects_of o) d) (sym f) ∙ h)
-      at (Some n) f =
-          elim (nested.shaped x n f) [
-            | inl one ↦
-                let held : is_in (one.0 ∷ []) d ≡ true = ap (λ m. is_in (defects_of (Some m)) d) (sym one.1) ∙ (ap (λ o. is_in (defects_of o) d) (sym f) ∙ h) in
-                let same : one.0 ≡ d = is_in-one one.0 d held in
-                let its : l ≡ get_or leaves k 0 = is ∙ get_or_default leaves k l 0 place.0 in
-                differ (nested.leaves x (get_or leaves k 0) d (f ∙ (ap (λ m. Some m) one.1 ∙ ap (λ e. Some (leaf e)) same)) (fixture.leaf_of k place.0 ∙ ap (λ e. Some (leaf e)) (sym place.1)) ∙ sym its)
-            | inr b ↦
-                let c : length n.cycle ≡ 0 = ap length (ap cycle_of (sym f) ∙ none) in
-                omega (arith, b.cycle.three, c)
-          ]
-
   pub fixture_links : (more : List (Option (List Step))) → AreKept links more → IsFixture more nodes leaves
   fixture_links more kept = record { leaf_of = fixture.leaf_of; below = fixture.below; linked = linked_kept links more nodes kept fixture.linked }
 
@@ -174,42 +156,6 @@ module _ (links : List (Option (List Step))) (nodes : List (Option Node)) (leave
         ];
     linked = linked_new nodes new n (blossom nodes cycle) made links fixture.linked linked;
   }
-
-  pub fixture_open : (new : List (Option Node)) (n : ℕ) → cycle_at nodes n ≢ [] → IsOuter nodes n → TakesOff nodes new n → IsFixture links new leaves
-  fixture_open new n some outer gone = record {
-    leaf_of = λ e less. gone.others _ (λ same. some (ap (cycle_at nodes) (sym same) ∙ ap cycle_of (fixture.leaf_of e less))) ∙ fixture.leaf_of e less;
-    below = λ x e is.
-        elim (cases_eq x n) [
-          | inl same ↦ absurd (none_some (node_at new n) (leaf e) gone.gone (ap (node_at new) (sym same) ∙ is))
-          | inr o ↦ fixture.below x e (sym (gone.others x o) ∙ is)
-        ];
-    linked = λ p.
-        elim (cases_eq p n) [
-          | inl same ↦
-              let P : List CycleStep → Type 0 = AreLinked links new in
-              subst P (sym (ap (cycle_at new) same ∙ ap cycle_of gone.gone)) (λ i less. absurd (omega arith))
-          | inr o ↦
-              let P : List CycleStep → Type 0 = AreLinked links new in
-              subst P (sym (ap cycle_of (gone.others p o))) (λ i less. still p i less (fixture.linked p i less))
-        ];
-  }
-    where
-      stays_on : (p x : ℕ) → is_on (cycle_at nodes p) x ≡ true → AreWithin (defects_at nodes x) (defects_at new x)
-      stays_on p x on d h =
-          ap (λ o. is_in (defects_of o) d) (gone.others x (λ e. both_ways (is_on (cycle_at nodes p) n) (outer p) (ap (is_on (cycle_at nodes p)) (sym e) ∙ on))) ∙ h
-
-      following : (count i : ℕ) → i < count → next_place count i < count
-      following count i less =
-          elim (cases_Bool (i + 1 == count)) [
-            | inl e ↦ rw e (omega (arith, less))
-            | inr e ↦ rw e (let differ : i + 1 ≢ count = λ f. both_ways (i + 1 == count) e (eq-eqb (i + 1) count f) in omega (arith, less, differ))
-          ]
-
-      still : (p i : ℕ) → i < length (cycle_at nodes p) → IsLinkBetween links nodes (step_at (cycle_at nodes p) i).link (step_at (cycle_at nodes p) i).node (step_at (cycle_at nodes p) (next_place (length (cycle_at nodes p)) i)).node
-          → IsLinkBetween links new (step_at (cycle_at nodes p) i).link (step_at (cycle_at nodes p) i).node (step_at (cycle_at nodes p) (next_place (length (cycle_at nodes p)) i)).node
-      still p i less =
-          between_grown links nodes new _ _ _
-          (stays_on p _ (step_on (cycle_at nodes p) i less)) (stays_on p _ (step_on (cycle_at nodes p) _ (following (length (cycle_at nodes p)) i less)))
 
 -- so many parts with their outer nodes, and steps made of them
 pub tops_start : (nodes : List (Option Node)) (parts : List (ℕ × ℕ)) → AreTops nodes parts 0 []

@@ -1,6 +1,6 @@
-ghost use Rattle.std.specs.Prelude.{◌≡◌, ◌≢◌, ◌<◌, true, [], ◌∷◌, ◌++◌, length, IfOk, OnErr, OnOk};
+ghost use Rattle.std.specs.Prelude.{◌≡◌, ◌<◌, true, [], ◌∷◌, ◌++◌, length, IfOk, OnErr, OnOk};
 ghost use Rattle.fb_links.specs.Table;
-ghost use Rattle.fb_blossoms.specs.Nodes.{AreDistinct, cycle_at, is_on};
+ghost use Rattle.fb_blossoms.specs.Nodes.{AreDistinct, is_on};
 ghost use Rattle.fb_blossoms.specs.InternalFixture.{AreKept, AreSteps, AreTops, IsOuterWith, IsPlaceOf, IsTop, edge_walk, part_at};
 ghost use Rattle.fb_blossoms.specs.Links.{next_place};
 
@@ -54,8 +54,8 @@ impl Fixture {
         })
     }
 
-    /// Makes the next defect a leaf.
-    pub fn leaf(&mut self, alloc: Global) -> Result<NodeId, Refused> {
+    /// Makes the next defect a leaf, and returns it.
+    pub fn leaf(&mut self, alloc: Global) -> Result<u32, Refused> {
         self.blossoms.keeps();
         let Ok(defect) = u32::try_from(self.leaves.len() + 10) else {
             return Err(Refused::NoMemory);
@@ -63,11 +63,11 @@ impl Fixture {
         self.leaves.reserve(1)?;
         let node = self.blossoms.leaf(alloc, defect)?;
         self.leaves.push_reserved(node);
-        Ok(node)
+        Ok(defect)
     }
 
     /// The outer node that holds the defect.
-    pub fn outer(&self, defect: u32) -> Result<NodeId, Refused>
+    fn outer(&self, defect: u32) -> Result<NodeId, Refused>
         ensures { IfOk result (λ node. IsOuterWith self.now node defect) }
     {
         let place = place_in(&self.leaves, defect)?;
@@ -111,32 +111,6 @@ impl Fixture {
             return Err(Refused::Misplaced);
         }
         Ok(self.blossoms.form(alloc, cycle, &self.links)?)
-    }
-
-    /// The outer blossom that holds the defect.
-    fn blossom(&self, defect: u32) -> Result<NodeId, Refused>
-        ensures outer { IfOk result (λ node. IsOuterWith self.now node defect) }
-        ensures blossom { IfOk result (λ node. cycle_at self.now node ≢ []) }
-    {
-        self.blossoms.keeps();
-        let place = place_in(&self.leaves, defect)?;
-        let node = self.outer(defect)?;
-        if node == self.leaves[place] {
-            return Err(Refused::Misplaced);
-        }
-        Ok(node)
-    }
-
-    /// Opens the outer blossom that holds the defect.
-    pub fn open(&mut self, defect: u32) -> Result<Vec<CycleStep>, Refused> {
-        let node = self.blossom(defect)?;
-        Ok(self.blossoms.open_up(node))
-    }
-
-    /// The child of that blossom that holds the defect.
-    pub fn child(&self, defect: u32) -> Result<NodeId, Refused> {
-        let node = self.blossom(defect)?;
-        Ok(self.blossoms.child_holding(node, defect))
     }
 
     /// The path between two defects in an outer node.

@@ -13,8 +13,6 @@ pub mod laws;
 mod legs;
 mod names;
 #[cfg(test)]
-mod nested_tests;
-#[cfg(test)]
 mod tests;
 mod ways;
 
