@@ -264,13 +264,15 @@ impl Pair {
 fn two_units(alloc: Global, graph: &Graph) -> Result<Plan, Fail>
     ensures { IfOk result (IsPlan graph.now) }
 {
-    let units = vec![in alloc; Vec::new(alloc), Vec::new(alloc)]?;
-    let join = Join {
+    let mut units = Vec::new(alloc);
+    units.push(Vec::new(alloc))?;
+    units.push(Vec::new(alloc))?;
+    let mut fusions = Vec::new(alloc);
+    fusions.push(Join {
         left: 0,
         right: 1,
         seam: Vec::new(alloc),
-    };
-    let fusions = vec![in alloc; join]?;
+    })?;
     Ok(Plan::build(alloc, graph, &units, &fusions)?)
 }
 
