@@ -56,6 +56,25 @@ impl Blossoms {
         })
     }
 
+    /// The store without nodes, in the room of this one. Its time is that of the most nodes that the room ever held. Takes
+    /// no memory.
+    pub fn emptied(self) -> Blossoms
+        ensures { result ≡ [] }
+    {
+        let Blossoms {
+            mut nodes,
+            mut leaves,
+            made: _,
+        } = self;
+        nodes.clear();
+        leaves.clear();
+        Blossoms {
+            nodes,
+            leaves,
+            made: 0,
+        }
+    }
+
     /// Does nothing. Its clause states what every store keeps.
     pub fn keeps(&self)
         ensures { IsNested self.now }

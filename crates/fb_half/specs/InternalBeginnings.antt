@@ -1,10 +1,24 @@
--- A part while its defects become nodes, one after another.
+-- A part while it has no nodes, and while its defects become nodes, one after another.
 use Rattle.std.specs.Prelude.{ℕ, ◌≡◌, ◌==◌, if◌then◌else◌, List, [], ◌∷◌, length, Option, Some, None}
 use Rattle.fb_graph.specs.Certificate.{AreDistinct}
 use Rattle.fb_graph.specs.Dual.{Node}
+use Rattle.fb_plan.specs.Plans.{JobValue}
 use Rattle.fb_blossoms.specs.Nodes as blossoms
 use Rattle.fb_half.specs.Beginnings.{leaves_by}
 use Rattle.fb_half.specs.Matchings.{MatchingValue}
+use Rattle.fb_half.specs.Parts.{PartValue}
+
+-- a part without nodes
+abbrev pub empty_part : JobValue → ℕ → ℕ → PartValue
+empty_part j s n = record {
+  job = j;
+  slot = s;
+  node = n;
+  nodes = [];
+  links = [];
+  store = [];
+  matching = record { matches = []; unmatched = [] };
+}
 
 -- the leaf of this name
 abbrev pub leaf_at : List ℕ → List ℕ → ℕ → Option blossoms.Node

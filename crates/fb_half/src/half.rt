@@ -8,6 +8,7 @@ ghost use Rattle.fb_half.specs.Values.{HasScope, IsScopeOf, part_of};
 
 use crate::matching::Matching;
 use crate::parts::Parts;
+use crate::spare::Spare;
 use fb_blossoms::Blossoms;
 use fb_laws::part_solved;
 use fb_links::{LinkId, Links};
@@ -62,6 +63,12 @@ impl<'a> Half<'a> {
     {
         let Half { parts } = self;
         parts
+    }
+
+    /// The part's room, for another part. Its time is that of the most that the room ever held. Takes no memory.
+    pub fn into_spare(self) -> Spare {
+        let Half { parts } = self;
+        Spare::of(parts)
     }
 
     /// The job.

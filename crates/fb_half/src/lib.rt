@@ -9,6 +9,7 @@ pub mod matches;
 pub mod matching;
 pub mod merging;
 pub mod parts;
+pub mod spare;
 mod start;
 pub mod work;
 
@@ -18,4 +19,5 @@ pub use matches::{Match, Standing};
 pub use matching::Matching;
 pub use merging::leads_to_seam;
 pub use parts::Parts;
+pub use spare::Spare;
 pub use work::Work;

@@ -49,6 +49,29 @@ impl Matching {
         }
     }
 
+    /// The matching that lists no node, in the room of this one. Its time is that of the matches, the unmatched nodes and
+    /// the largest name that was listed.
+    pub fn emptied(self) -> Matching
+        ensures { result ≡ record { matches = []; unmatched = [] } }
+    {
+        let Matching {
+            mut matches,
+            mut links,
+            mut unmatched,
+            mut standings,
+        } = self;
+        matches.clear();
+        links.clear();
+        unmatched.clear();
+        standings.clear();
+        Matching {
+            matches,
+            links,
+            unmatched,
+            standings,
+        }
+    }
+
     /// The links of the matches.
     pub fn links(&self) -> &[LinkId]
         ensures { result.now ≡ match_links self.now.matches }

@@ -4,16 +4,16 @@ ghost use Rattle.fb_graph.specs.Dual.{cover_of, is_live, leaf};
 ghost use Rattle.fb_graph.specs.Parity.{is_in};
 ghost use Rattle.fb_plan.specs.Plans.{problem_at};
 ghost use Rattle.fb_blossoms.specs.Nodes as blossoms;
-ghost use Rattle.fb_half.specs.InternalBeginnings.{IsStarted};
+ghost use Rattle.fb_half.specs.InternalBeginnings.{IsStarted, empty_part};
 ghost use Rattle.fb_half.specs.Matchings.{listed_names};
-ghost use Rattle.fb_half.specs.Values.{HasScope};
+ghost use Rattle.fb_half.specs.Values.{HasScope, part_of};
 
 use crate::matching::Matching;
 use crate::parts::Parts;
 use fb_blossoms::Blossoms;
 use fb_graph::{NoMemory, Scope};
-use fb_links::{Links, NodeId};
-use fb_plan::{Job, NodeScope};
+use fb_links::NodeId;
+use fb_plan::NodeScope;
 use fb_regions::Regions;
 use std::alloc::Global;
 
@@ -60,38 +60,35 @@ pub(crate) fn add_leaf(
     Ok(name)
 }
 
-/// The pieces of a part whose nodes are these defects, none of them matched.
-pub(crate) fn start<'a>(
-    alloc: Global,
-    job: &'a Job<'a>,
-    slot: u32,
-    node: u32,
-    own: &[u32],
-) -> Result<Parts<'a>, NoMemory>
+/// The pieces of a part whose nodes are these defects, none of them matched, made of those of the part without nodes.
+pub(crate) fn start<'a>(alloc: Global, empty: Parts<'a>, own: &[u32]) -> Result<Parts<'a>, NoMemory>
+    requires scope { HasScope empty }
+    requires empty { part_of empty ≡ empty_part empty.job.now empty.slot empty.node }
     requires distinct { AreDistinct own.now }
-    requires real { All (λ v. (problem_at job.now.graph job.now.plan node []).is_real v ≡ true) own.now }
+    requires real { All (λ v. (problem_at empty.job.now.graph empty.job.now.plan empty.node []).is_real v ≡ true) own.now }
     ensures started { IfOk result (λ p. IsStarted own.now p.regions.nodes p.blossoms p.matching) }
     ensures scope { IfOk result HasScope }
     ensures links { IfOk result (λ p. p.links ≡ []) }
-    ensures job { IfOk result (λ p. p.job.now ≡ job.now) }
-    ensures slot { IfOk result (λ p. p.slot ≡ slot) }
-    ensures node { IfOk result (λ p. p.node ≡ node) }
+    ensures job { IfOk result (λ p. p.job.now ≡ empty.entry.job.now) }
+    ensures slot { IfOk result (λ p. p.slot ≡ empty.entry.slot) }
+    ensures node { IfOk result (λ p. p.node ≡ empty.entry.node) }
 {
-    let scope = NodeScope {
-        graph: job.graph(),
-        plan: job.plan(),
+    let Parts {
+        mut regions,
+        links,
+        mut blossoms,
+        mut matching,
+        job,
+        slot,
         node,
-    };
-    scope.limits();
-    let mut regions = Regions::new(alloc, &scope)?;
-    let mut blossoms = Blossoms::new(alloc)?;
-    let mut matching = Matching::new(alloc);
+    } = empty;
+    regions.scope().limits();
     for v in own {
         add_leaf(alloc, &mut regions, &mut blossoms, &mut matching, *v)?;
     }
     Ok(Parts {
         regions,
-        links: Links::new(alloc)?,
+        links,
         blossoms,
         matching,
         job,

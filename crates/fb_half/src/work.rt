@@ -10,6 +10,7 @@ use crate::half::Half;
 use crate::matching::Matching;
 use crate::merging::{open_seam, take_matches};
 use crate::parts::Parts;
+use crate::spare::{Spare, empty_parts};
 use crate::start::{own_defects, start};
 use fb_blossoms::Blossoms;
 use fb_graph::{NoMemory, Scope};
@@ -138,13 +139,29 @@ impl<'a> Work<'a> {
     }
 
     /// A unit's part before any search: each defect of the shot at a vertex of the unit is a node of radius 0, and none is
-    /// matched. Only a unit can begin: the part of a fusion is made of its children's. Takes time for each vertex of the
-    /// graph.
+    /// matched. Only a unit can begin: the part of a fusion is made of its children's. Takes time for each defect of the
+    /// shot and for each 512 vertices of the graph.
     pub fn begin(
         alloc: Global,
         job: &'a Job<'a>,
         slot: u32,
         node: u32,
+    ) -> Result<Work<'a>, NoMemory>
+        requires slot { slot < length job.now.shots }
+        requires unit { node < job.now.plan.units }
+        ensures { IfOk result (λ w. IsBegun job.now slot node w) }
+    {
+        Work::begin_on(alloc, job, slot, node, None)
+    }
+
+    /// The same in the room of a part that is no longer used, if there is one. With the room of a part of the same graph it
+    /// takes time for each defect of the shot alone.
+    pub fn begin_on(
+        alloc: Global,
+        job: &'a Job<'a>,
+        slot: u32,
+        node: u32,
+        spare: Option<Spare>,
     ) -> Result<Work<'a>, NoMemory>
         requires slot { slot < length job.now.shots }
         requires unit { node < job.now.plan.units }
@@ -157,7 +174,8 @@ impl<'a> Work<'a> {
             node,
         };
         let own = own_defects(alloc, &scope, job.shots()[slot as usize].as_slice())?;
-        let parts = start(alloc, job, slot, node, &own)?;
+        let empty = empty_parts(alloc, job, slot, node, spare)?;
+        let parts = start(alloc, empty, &own)?;
         state_begins();
         Ok(Work { parts })
     }

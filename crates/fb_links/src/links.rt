@@ -42,6 +42,19 @@ impl Links {
         })
     }
 
+    /// The table without links, in the room of this one. Its time is that of the table's length. Takes no memory.
+    pub fn emptied(self) -> Links
+        ensures { result ≡ [] }
+    {
+        let Links {
+            mut links,
+            mut free,
+        } = self;
+        links.clear();
+        free.clear();
+        Links { links, free }
+    }
+
     /// Does nothing. Its clause states what holds of every link's walk.
     pub fn keeps(&self)
         ensures { (id : ℕ) (walk : List Step) → link_at self.now id ≡ Some walk → IsLink walk }

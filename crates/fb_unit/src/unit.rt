@@ -3,7 +3,7 @@ ghost use Rattle.fb_half.specs.Beginnings.{own_defects};
 ghost use Rattle.fb_half.specs.Parts.{IsPartOf};
 
 use fb_graph::{NoMemory, Steps, Whole};
-use fb_half::{Half, Work};
+use fb_half::{Half, Spare, Work};
 use fb_obstacles::Watch;
 use fb_plan::Job;
 use fb_search::search_each_from;
@@ -27,16 +27,18 @@ pub fn solve_unit<'a, L: Ledger>(
         × (steps.new ≤ steps.old + length (own_defects half))) }
 {
     let watch = Watch::new(alloc, &Whole(job.graph()))?;
-    let (half, _watch) = solve_unit_from(alloc, job, slot, node, watch, steps)?;
+    let (half, _watch) = solve_unit_on(alloc, job, slot, node, None, watch, steps)?;
     Ok(half)
 }
 
-/// The same with a watch that is emptied first and given back, so that one watch serves many parts of a graph.
-pub fn solve_unit_from<'a, L: Ledger>(
+/// The same in the room of a part that is no longer used, if there is one, and with a watch that is emptied first and given
+/// back, so that one watch serves many parts of a graph.
+pub fn solve_unit_on<'a, L: Ledger>(
     alloc: Global,
     job: &'a Job<'a>,
     slot: u32,
     node: u32,
+    spare: Option<Spare>,
     watch: Watch,
     steps: &mut Steps<L>,
 ) -> Result<(Half<'a>, Watch), NoMemory>
@@ -49,7 +51,7 @@ pub fn solve_unit_from<'a, L: Ledger>(
     ensures steps { IfOk result (λ r. (length (own_defects r.0) + 2 * steps.old ≤ 2 * steps.new)
         × (steps.new ≤ steps.old + length (own_defects r.0))) }
 {
-    let work = Work::begin(alloc, job, slot, node)?;
+    let work = Work::begin_on(alloc, job, slot, node, spare)?;
     let roots = Vec::from_slice(alloc, work.unmatched())?;
     let (work, watch) = search_each_from(alloc, work, &roots, watch, steps)?;
     Ok((work.close(), watch))

@@ -1,9 +1,9 @@
-use Rattle.std.proofs.Common.{◌≡◌, ◌<◌, ◌∙◌, true, [], All, sym, subst, arith}
+use Rattle.std.proofs.Common.{◌≡◌, ◌<◌, ◌∙◌, true, [], All, sym, ap, subst, arith}
 use Rattle.fb_graph.specs.Certificate.{AreDistinct}
 use Rattle.fb_plan.specs.Plans.{problem_at}
 use Rattle.fb_half.specs.Values.{part_of}
 use Rattle.fb_half.proofs.BegunParts.{begun_of, own_distinct, own_is, own_real, shot_at, shot_below, shot_read}
-use Rattle.fb_half.proofs.work.Work.begin.Goals as goal
+use Rattle.fb_half.proofs.work.Work.begin_on.Goals as goal
 
 pub own_defects-requires : goal.own_defects-requires
 own_defects-requires c =
@@ -22,17 +22,20 @@ start-requires-clause-distinct c =
 
 pub start-requires-clause-real : goal.start-requires-clause-real
 start-requires-clause-real c =
-    subst (All (λ v. (problem_at c.args.job.now.graph c.args.job.now.plan c.args.node []).is_real v ≡ true))
+    subst (λ w. All (λ v. (problem_at w.job.graph w.job.plan w.node []).is_real v ≡ true) c.deref.result.now) (sym c.in_ok-empty.ensures.value)
+    (subst (All (λ v. (problem_at c.args.job.now.graph c.args.job.now.plan c.args.node []).is_real v ≡ true))
     (sym (own_is c.args.job.now c.args.slot c.args.node _ _ _ _ c.graph.ensures c.plan.ensures
     (shot_read c.args.job.now c.args.slot _ _ _ c.shots.ensures c.requires.slot c.index-shots-slot.is c.as_slice.ensures.defects)
     (c.deref.ensures.value ∙ c.in_ok-own.ensures)))
-    (own_real c.args.job.now c.args.slot c.args.node)
+    (own_real c.args.job.now c.args.slot c.args.node))
 
 pub invariant_of-result : goal.invariant_of-result
 invariant_of-result c = (
   c.in_ok-parts.ensures.scope,
   begun_of (part_of c.in_ok-parts.parts) c.args.job.now c.args.slot c.args.node c.deref.result.now c.state_begins.ensures.part
-      c.in_ok-parts.ensures.job c.in_ok-parts.ensures.slot c.in_ok-parts.ensures.node c.keeps.ensures c.requires.slot (omega (arith, c.requires.unit))
+      (c.in_ok-parts.ensures.job ∙ ap (λ w. w.job) c.in_ok-empty.ensures.value)
+      (c.in_ok-parts.ensures.slot ∙ ap (λ w. w.slot) c.in_ok-empty.ensures.value)
+      (c.in_ok-parts.ensures.node ∙ ap (λ w. w.node) c.in_ok-empty.ensures.value) c.keeps.ensures c.requires.slot (omega (arith, c.requires.unit))
       (own_is c.args.job.now c.args.slot c.args.node _ _ _ _ c.graph.ensures c.plan.ensures
       (shot_read c.args.job.now c.args.slot _ _ _ c.shots.ensures c.requires.slot c.index-shots-slot.is c.as_slice.ensures.defects)
       (c.deref.ensures.value ∙ c.in_ok-own.ensures))

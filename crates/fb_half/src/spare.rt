@@ -1,0 +1,82 @@
+ghost use Rattle.std.specs.Prelude.{◌≡◌, IfOk};
+ghost use Rattle.fb_half.specs.InternalBeginnings.{empty_part};
+ghost use Rattle.fb_half.specs.Values.{HasScope, part_of};
+
+use crate::matching::Matching;
+use crate::parts::Parts;
+use fb_blossoms::Blossoms;
+use fb_graph::NoMemory;
+use fb_links::Links;
+use fb_plan::{Job, NodeScope};
+use fb_regions::{Regions, SpareRegions};
+use std::alloc::Global;
+use std::marker::Model;
+
+/// The room of a part that is no longer used, for another part.
+#[derive(Drop)]
+pub struct Spare {
+    regions: SpareRegions,
+    links: Links,
+    blossoms: Blossoms,
+    matching: Matching,
+}
+
+impl Model for Spare {
+    ghost use Rattle.std.specs.Prelude.{◌≡◌, []};
+
+    ghost Value = { Unit {0} };
+
+    ghost view = { λ s. tt };
+
+    ghost invariant = { λ s. (s.links ≡ []) × (s.blossoms ≡ []) × (s.matching ≡ record { matches = []; unmatched = [] }) };
+}
+
+impl Spare {
+    /// The room of these pieces, emptied. Takes no memory.
+    pub(crate) fn of(parts: Parts<'_>) -> Spare {
+        Spare {
+            regions: parts.regions.into_spare(),
+            links: parts.links.emptied(),
+            blossoms: parts.blossoms.emptied(),
+            matching: parts.matching.emptied(),
+        }
+    }
+}
+
+/// The pieces of a part without nodes, in the spare's room if there is one, else in new room.
+pub(crate) fn empty_parts<'a>(
+    alloc: Global,
+    job: &'a Job<'a>,
+    slot: u32,
+    node: u32,
+    spare: Option<Spare>,
+) -> Result<Parts<'a>, NoMemory>
+    ensures value { IfOk result (λ p. part_of p ≡ empty_part job.now slot node) }
+    ensures scope { IfOk result HasScope }
+{
+    let scope = NodeScope {
+        graph: job.graph(),
+        plan: job.plan(),
+        node,
+    };
+    let Some(spare) = spare else {
+        return Ok(Parts {
+            regions: Regions::new(alloc, &scope)?,
+            links: Links::new(alloc)?,
+            blossoms: Blossoms::new(alloc)?,
+            matching: Matching::new(alloc),
+            job,
+            slot,
+            node,
+        });
+    };
+    Ok(Parts {
+        regions: Regions::on(alloc, spare.regions, &scope)?,
+        links: spare.links,
+        blossoms: spare.blossoms,
+        matching: spare.matching,
+        job,
+        slot,
+        node,
+    })
+}
