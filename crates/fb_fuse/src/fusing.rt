@@ -6,10 +6,9 @@ ghost use Rattle.fb_plan.specs.Plans.{children_of};
 
 use fb_graph::{NoMemory, Steps, Whole};
 use fb_half::{Half, Work};
-use fb_obstacles::Watch;
 use fb_plan::Job;
 use fb_regions::NodeId;
-use fb_search::search_each_from;
+use fb_search::{Scratch, search_each_from};
 use std::alloc::Global;
 use std::sync::ledger::Ledger;
 
@@ -35,28 +34,28 @@ pub fn fuse<'a, L: Ledger>(
     ensures least { IfOk result (λ half. (length (freed_in left.entry node) + length (freed_in right.entry node)
         + length (seam_defects job.now left.entry.slot node)) + 2 * steps.old ≤ 2 * steps.new) }
 {
-    let watch = Watch::new(alloc, &Whole(job.graph()))?;
-    let (half, _watch) = fuse_from(alloc, job, node, left, right, watch, steps)?;
+    let scratch = Scratch::new(alloc, &Whole(job.graph()))?;
+    let (half, _scratch) = fuse_from(alloc, job, node, left, right, scratch, steps)?;
     Ok(half)
 }
 
-/// The same with a watch that is emptied first and given back, so that one watch serves many parts of a graph.
+/// The same with scratch space that is lent and given back, so that one serves many parts of a graph.
 pub fn fuse_from<'a, L: Ledger>(
     alloc: Global,
     job: &'a Job<'a>,
     node: u32,
     left: Half<'a>,
     right: Half<'a>,
-    watch: Watch,
+    scratch: Scratch,
     steps: &mut Steps<L>,
-) -> Result<(Half<'a>, Watch), NoMemory>
+) -> Result<(Half<'a>, Scratch), NoMemory>
     requires left { left.job ≡ job.now }
     requires right { right.job ≡ job.now }
     requires slot { left.slot ≡ right.slot }
     requires children { children_of job.now.plan node ≡ Some (left.node, right.node) }
-    requires room { watch.edge_count ≡ length job.now.graph.edges }
+    requires room { scratch.edge_count ≡ length job.now.graph.edges }
     ensures half { IfOk result (λ r. IsPartOf job.now left.entry.slot node r.0) }
-    ensures room { IfOk result (λ r. r.1.edge_count ≡ watch.edge_count) }
+    ensures room { IfOk result (λ r. r.1.edge_count ≡ scratch.edge_count) }
     ensures never_falls { steps.old ≤ steps.new }
     ensures most { IfOk result (λ r. steps.new ≤ steps.old
         + (length (freed_in left.entry node) + length (freed_in right.entry node) + length (seam_defects job.now left.entry.slot node))) }
@@ -65,8 +64,8 @@ pub fn fuse_from<'a, L: Ledger>(
 {
     let work = Work::merge(alloc, job, node, left, right)?;
     let roots = roots_of(alloc, &work)?;
-    let (work, watch) = search_each_from(alloc, work, &roots, watch, steps)?;
-    Ok((work.close(), watch))
+    let (work, scratch) = search_each_from(alloc, work, &roots, scratch, steps)?;
+    Ok((work.close(), scratch))
 }
 
 /// An unmatched node, and the first of its vertices.

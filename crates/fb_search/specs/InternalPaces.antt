@@ -10,7 +10,7 @@ use Rattle.fb_search.specs.Searching.{SearchValue}
 -- The search has ended, or is given up.
 pub record IsEndedWithin (before : SearchValue) (bounded : Bounded) : Type 0 where
   pub left : IsLeft before.tree.root before.part bounded.work bounded.left
-  pub room : bounded.watch.edge_count ≡ before.watched.edge_count
+  pub room : bounded.scratch.edge_count ≡ before.watched.edge_count
 
 abbrev pub HasPaced : SearchValue → Paced → Type 0
 HasPaced before (On after left) = HasAdvanced before after

@@ -62,8 +62,8 @@ impl<'a> Searching<'a> {
         match obstacle {
             Obstacle::Absorb(edge) => Ok(Went::On(self.absorb(edge))),
             Obstacle::Boundary(edge) => {
-                let (work, watch) = self.end_at_boundary(alloc, edge)?;
-                Ok(Went::Ended(work, watch))
+                let (work, scratch) = self.end_at_boundary(alloc, edge)?;
+                Ok(Went::Ended(work, scratch))
             }
             Obstacle::Meet(edge) => self.meet(alloc, edge),
             Obstacle::PlusPair(edge) => Ok(Went::On(self.close(alloc, edge)?)),
@@ -82,8 +82,8 @@ impl<'a> Searching<'a> {
         let (plus, other) = self.met_nodes(edge);
         match self.parts.matching.standing(other) {
             Standing::Unmatched(_) => {
-                let (work, watch) = self.end_at_unmatched(alloc, edge, plus, other)?;
-                Ok(Went::Ended(work, watch))
+                let (work, scratch) = self.end_at_unmatched(alloc, edge, plus, other)?;
+                Ok(Went::Ended(work, scratch))
             }
             _ => self.meet_matched(alloc, edge, plus, other),
         }

@@ -9,13 +9,13 @@ ghost use Rattle.fb_search.specs.Searching.{SearchValue, search_of};
 ghost use Rattle.fb_search.specs.Went.{HasCleared};
 
 use crate::ending::{forget_tree, match_tree};
+use crate::scratch::Scratch;
 use crate::searching::{Pieces, Searching};
 use crate::walks::met_walk;
 use crate::watched::watch_node;
 use crate::went::Went;
 use fb_graph::{NoMemory, Scope};
 use fb_half::{Match, Work};
-use fb_obstacles::Watch;
 use fb_regions::NodeId;
 use fb_trees::{CycleStep, LinkId};
 use std::alloc::Global;
@@ -47,8 +47,8 @@ impl<'a> Searching<'a> {
         match mate_of(met.taken, met.other) {
             Some(mate) => Ok(Went::On(attach(alloc, pieces, met, mate)?)),
             None => {
-                let (work, watch) = release(alloc, pieces, met)?;
-                Ok(Went::Ended(work, watch))
+                let (work, scratch) = release(alloc, pieces, met)?;
+                Ok(Went::Ended(work, scratch))
             }
         }
     }
@@ -126,7 +126,7 @@ fn attach<'a>(
 }
 
 /// The node was matched to the boundary, and is matched with the plus node: the search ends with the root matched.
-fn release<'a>(alloc: Global, pieces: Pieces<'a>, met: Met) -> Result<(Work<'a>, Watch), NoMemory>
+fn release<'a>(alloc: Global, pieces: Pieces<'a>, met: Met) -> Result<(Work<'a>, Scratch), NoMemory>
     requires scope { HasScope pieces.parts }
     requires met { (w : SearchValue) × HasMet w met (search_of pieces) }
     requires lone { IsLone met.taken met.other }
@@ -146,5 +146,5 @@ fn release<'a>(alloc: Global, pieces: Pieces<'a>, met: Met) -> Result<(Work<'a>,
     };
     match_tree(alloc, &mut parts.matching, &tree, out)?;
     forget_tree(alloc, &mut parts.links, &tree, met.plus)?;
-    Ok((Work::from_parts(parts), watch))
+    Ok((Work::from_parts(parts), Scratch { watch, tree }))
 }

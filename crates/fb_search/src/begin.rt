@@ -3,14 +3,13 @@ ghost use Rattle.fb_graph.specs.Parity.{is_in};
 ghost use Rattle.fb_half.specs.Parts.{problem_in};
 ghost use Rattle.fb_search.specs.Progress.{IsBegunAt};
 
+use crate::scratch::Scratch;
 use crate::searching::Searching;
 use crate::watched::watch_node;
 use fb_graph::{NoMemory, Scope};
 use fb_half::Work;
-use fb_obstacles::Watch;
 use fb_plan::NodeScope;
 use fb_regions::NodeId;
-use fb_trees::Tree;
 use std::alloc::Global;
 
 impl<'a> Searching<'a> {
@@ -18,16 +17,16 @@ impl<'a> Searching<'a> {
     pub fn begin(
         alloc: Global,
         work: Work<'a>,
-        watch: Watch,
+        scratch: Scratch,
         root: NodeId,
     ) -> Result<Searching<'a>, NoMemory>
         requires unmatched { is_in work.matching.unmatched root ≡ true }
-        requires room { watch.edge_count ≡ length (problem_in work).edges }
+        requires room { scratch.edge_count ≡ length (problem_in work).edges }
         ensures begun { IfOk result (λ search. IsBegunAt root work.entry search) }
-        ensures watched { IfOk result (λ search. search.watched.edge_count ≡ watch.edge_count) }
+        ensures watched { IfOk result (λ search. search.watched.edge_count ≡ scratch.edge_count) }
     {
         work.keeps();
-        let mut watch = watch;
+        let Scratch { mut watch, tree } = scratch;
         watch.clear();
         let parts = work.into_parts();
         let scope = NodeScope {
@@ -38,7 +37,7 @@ impl<'a> Searching<'a> {
         scope.limits();
         watch_node(alloc, &mut watch, &scope, &parts.regions, root)?;
         watch.keeps();
-        let tree = Tree::start(alloc, root)?;
+        let tree = tree.restart(root);
         Ok(Searching { parts, tree, watch })
     }
 }

@@ -2,10 +2,10 @@ ghost use Rattle.std.specs.Prelude.{◌≡◌, IfOk};
 ghost use Rattle.fb_search.specs.InternalRounds.{HasEvenRoot, IsDissolved, IsRootPotential};
 
 use crate::ending::{add_matches, forget_tree, matches_at_end};
+use crate::scratch::Scratch;
 use crate::searching::Searching;
 use fb_graph::NoMemory;
 use fb_half::Work;
-use fb_obstacles::Watch;
 use std::alloc::Global;
 
 impl<'a> Searching<'a> {
@@ -19,7 +19,7 @@ impl<'a> Searching<'a> {
 
     /// Gives the tree up: its minus nodes stay matched with its plus nodes, its other links are removed, and the root is
     /// still unmatched. The dual state stays as it has grown.
-    pub(crate) fn dissolve(self, alloc: Global) -> Result<(Work<'a>, Watch), NoMemory>
+    pub(crate) fn dissolve(self, alloc: Global) -> Result<(Work<'a>, Scratch), NoMemory>
         requires { HasEvenRoot self }
         ensures { IfOk result (λ left. IsDissolved self.entry left.0 left.1) }
     {
@@ -32,6 +32,6 @@ impl<'a> Searching<'a> {
         let matches = matches_at_end(alloc, &tree, root)?;
         add_matches(alloc, &mut parts.matching, &matches)?;
         forget_tree(alloc, &mut parts.links, &tree, root)?;
-        Ok((Work::from_parts(parts), watch))
+        Ok((Work::from_parts(parts), Scratch { watch, tree }))
     }
 }

@@ -7,11 +7,11 @@ ghost use Rattle.fb_search.specs.Progress.{EndsWith};
 ghost use Rattle.fb_search.specs.Searching.{problem_of, roles_in, unmatched_in};
 
 use crate::ending::{forget_tree, match_tree};
+use crate::scratch::Scratch;
 use crate::searching::Searching;
 use crate::walks::{met_walk, out_walk};
 use fb_graph::NoMemory;
 use fb_half::{Match, Work};
-use fb_obstacles::Watch;
 use fb_regions::NodeId;
 use std::alloc::Global;
 
@@ -21,7 +21,7 @@ impl<'a> Searching<'a> {
         self,
         alloc: Global,
         edge: u32,
-    ) -> Result<(Work<'a>, Watch), NoMemory>
+    ) -> Result<(Work<'a>, Scratch), NoMemory>
         requires { Obstructs (problem_of self) (roles_in self) self.part.nodes (Boundary edge) }
         ensures { IfOk result (λ ended. EndsWith self.entry ended.0 ended.1) }
     {
@@ -41,7 +41,7 @@ impl<'a> Searching<'a> {
         };
         match_tree(alloc, &mut parts.matching, &tree, out)?;
         forget_tree(alloc, &mut parts.links, &tree, plus)?;
-        Ok((Work::from_parts(parts), watch))
+        Ok((Work::from_parts(parts), Scratch { watch, tree }))
     }
 
     /// The plus node meets an unmatched node over the edge: the search ends with this node and the root matched.
@@ -51,7 +51,7 @@ impl<'a> Searching<'a> {
         edge: u32,
         plus: NodeId,
         other: NodeId,
-    ) -> Result<(Work<'a>, Watch), NoMemory>
+    ) -> Result<(Work<'a>, Scratch), NoMemory>
         requires meets { Meets self edge plus other }
         requires unmatched { is_in (unmatched_in self) other ≡ true }
         ensures { IfOk result (λ ended. EndsWith self.entry ended.0 ended.1) }
@@ -72,6 +72,6 @@ impl<'a> Searching<'a> {
         };
         match_tree(alloc, &mut parts.matching, &tree, out)?;
         forget_tree(alloc, &mut parts.links, &tree, plus)?;
-        Ok((Work::from_parts(parts), watch))
+        Ok((Work::from_parts(parts), Scratch { watch, tree }))
     }
 }

@@ -18,6 +18,7 @@ mod opening;
 pub mod roles;
 mod rounding;
 mod rounds;
+pub mod scratch;
 pub mod searches;
 pub mod searching;
 mod stepping;
@@ -26,6 +27,7 @@ pub mod watched;
 pub mod went;
 
 pub use roles::TreeRoles;
+pub use scratch::Scratch;
 pub use searches::{search, search_each, search_each_from, search_from};
 pub use searching::Searching;
 pub use went::Went;

@@ -11,11 +11,12 @@ ghost use Rattle.fb_search.specs.Went.{HasWent};
 
 use crate::near::near_of;
 use crate::near_ends::match_near;
+use crate::scratch::Scratch;
 use crate::searching::Searching;
 use crate::went::Went;
 use fb_graph::{NoMemory, Scope, Steps};
 use fb_half::{Standing, Work};
-use fb_obstacles::{Obstacle, Watch};
+use fb_obstacles::Obstacle;
 use fb_regions::{NodeId, Regions};
 use std::alloc::Global;
 use std::marker::Brand;
@@ -28,7 +29,7 @@ const ROUNDS: u32 = 4;
 #[derive(Drop)]
 pub(crate) struct Bounded<'a> {
     pub(crate) work: Work<'a>,
-    pub(crate) watch: Watch,
+    pub(crate) scratch: Scratch,
     /// The root's name, if it is still unmatched.
     pub(crate) left: Option<NodeId>,
 }
@@ -46,7 +47,7 @@ pub(crate) enum Paced<'a> {
 #[derive(Drop)]
 pub(crate) struct Round<'a> {
     pub(crate) work: Work<'a>,
-    pub(crate) watch: Watch,
+    pub(crate) scratch: Scratch,
     /// The roots that are still unmatched.
     pub(crate) left: Vec<NodeId>,
 }
@@ -85,10 +86,10 @@ impl<'a> Searching<'a> {
         self.keeps();
         let stepped = self.step(length);
         let name = stepped.tree.root();
-        let (work, watch) = stepped.dissolve(alloc)?;
+        let (work, scratch) = stepped.dissolve(alloc)?;
         Ok(Bounded {
             work,
-            watch,
+            scratch,
             left: Some(name),
         })
     }
@@ -100,9 +101,9 @@ fn with_left(went: Went<'_>, left: u64) -> Paced<'_>
 {
     match went {
         Went::On(search) => Paced::On(search, left),
-        Went::Ended(work, watch) => Paced::Ended(Bounded {
+        Went::Ended(work, scratch) => Paced::Ended(Bounded {
             work,
-            watch,
+            scratch,
             left: None,
         }),
     }
@@ -143,14 +144,14 @@ pub(crate) fn search_within<'a, L: Ledger>(
     work: Work<'a>,
     root: NodeId,
     limit: u64,
-    watch: Watch,
+    scratch: Scratch,
     steps: &mut Steps<L>,
 ) -> Result<Bounded<'a>, NoMemory>
     requires unmatched { is_in work.matching.unmatched root ≡ true }
-    requires room { watch.edge_count ≡ length (problem_in work).edges }
+    requires room { scratch.edge_count ≡ length (problem_in work).edges }
     ensures left { IfOk result (λ b. IsLeft root work.entry b.work b.left) }
     ensures step { IfOk result (λ b. steps.new ≡ counted b.left steps.old) }
-    ensures room { IfOk result (λ b. b.watch.edge_count ≡ watch.edge_count) }
+    ensures room { IfOk result (λ b. b.scratch.edge_count ≡ scratch.edge_count) }
     ensures kept { OnErr result (steps.new ≡ steps.old) }
 {
     work.keeps();
@@ -159,11 +160,11 @@ pub(crate) fn search_within<'a, L: Ledger>(
         steps.tick();
         return Ok(Bounded {
             work,
-            watch,
+            scratch,
             left: None,
         });
     }
-    let search = Searching::begin(alloc, work, watch, root)?;
+    let search = Searching::begin(alloc, work, scratch, root)?;
     let bounded = finish_within::<Brand>(alloc, search, limit, Blank::new(1))?;
     if let None = bounded.left {
         steps.tick();
@@ -191,12 +192,12 @@ fn search_root<'a, L: Ledger>(
     work: Work<'a>,
     root: NodeId,
     factor: u64,
-    watch: Watch,
+    scratch: Scratch,
     steps: &mut Steps<L>,
 ) -> Result<Bounded<'a>, NoMemory>
-    requires room { watch.edge_count ≡ length (problem_in work).edges }
+    requires room { scratch.edge_count ≡ length (problem_in work).edges }
     ensures searched { IfOk result (λ b. HasSearchedSome work.entry (root ∷ []) steps.old steps.new (as_list b.left) b.work) }
-    ensures room { IfOk result (λ b. b.watch.edge_count ≡ watch.edge_count) }
+    ensures room { IfOk result (λ b. b.scratch.edge_count ≡ scratch.edge_count) }
     ensures kept { OnErr result (steps.new ≡ steps.old) }
 {
     match work.matching().standing(root) {
@@ -204,11 +205,11 @@ fn search_root<'a, L: Ledger>(
             work.keeps();
             let regions = work.regions();
             let limit = first_limit(regions.scope(), regions, root).saturating_mul(factor);
-            search_within(alloc, work, root, limit, watch, steps)
+            search_within(alloc, work, root, limit, scratch, steps)
         }
         _ => Ok(Bounded {
             work,
-            watch,
+            scratch,
             left: None,
         }),
     }
@@ -221,24 +222,28 @@ fn search_round<'a, L: Ledger>(
     work: Work<'a>,
     roots: &[NodeId],
     factor: u64,
-    watch: Watch,
+    scratch: Scratch,
     steps: &mut Steps<L>,
 ) -> Result<Round<'a>, NoMemory>
-    requires room { watch.edge_count ≡ length (problem_in work).edges }
+    requires room { scratch.edge_count ≡ length (problem_in work).edges }
     ensures searched { IfOk result (λ r. HasSearchedSome work.entry roots.now steps.old steps.new r.left.items r.work) }
-    ensures room { IfOk result (λ r. r.watch.edge_count ≡ watch.edge_count) }
+    ensures room { IfOk result (λ r. r.scratch.edge_count ≡ scratch.edge_count) }
     ensures never_falls { steps.old ≤ steps.new }
 {
     let mut work = work;
-    let mut watch = watch;
+    let mut scratch = scratch;
     let mut left = Vec::new(alloc);
     for root in roots {
-        let bounded = search_root(alloc, work, *root, factor, watch, steps)?;
+        let bounded = search_root(alloc, work, *root, factor, scratch, steps)?;
         work = bounded.work;
-        watch = bounded.watch;
+        scratch = bounded.scratch;
         push_left(&mut left, bounded.left)?;
     }
-    Ok(Round { work, watch, left })
+    Ok(Round {
+        work,
+        scratch,
+        left,
+    })
 }
 
 /// Adds the name, if there is one.
@@ -257,20 +262,24 @@ pub(crate) fn search_rounds<'a, L: Ledger>(
     alloc: Global,
     work: Work<'a>,
     roots: &[NodeId],
-    watch: Watch,
+    scratch: Scratch,
     steps: &mut Steps<L>,
 ) -> Result<Round<'a>, NoMemory>
-    requires room { watch.edge_count ≡ length (problem_in work).edges }
+    requires room { scratch.edge_count ≡ length (problem_in work).edges }
     ensures searched { IfOk result (λ r. HasSearchedSome work.entry roots.now steps.old steps.new r.left.items r.work) }
-    ensures room { IfOk result (λ r. r.watch.edge_count ≡ watch.edge_count) }
+    ensures room { IfOk result (λ r. r.scratch.edge_count ≡ scratch.edge_count) }
     ensures never_falls { steps.old ≤ steps.new }
 {
-    let mut round = search_round(alloc, work, roots, 1, watch, steps)?;
+    let mut round = search_round(alloc, work, roots, 1, scratch, steps)?;
     let mut factor: u64 = 1;
     for _ in 1..ROUNDS {
         factor = factor.saturating_mul(2);
-        let Round { work, watch, left } = round;
-        round = search_round(alloc, work, &left, factor, watch, steps)?;
+        let Round {
+            work,
+            scratch,
+            left,
+        } = round;
+        round = search_round(alloc, work, &left, factor, scratch, steps)?;
     }
     Ok(round)
 }

@@ -6,20 +6,21 @@ ghost use Rattle.fb_search.specs.Progress.{EndsWith, HasSearchedEach, IsSearched
 use crate::near::near_of;
 use crate::near_ends::match_near;
 use crate::rounds::{Round, search_rounds};
+use crate::scratch::Scratch;
 use crate::searching::Searching;
 use crate::went::Went;
 use fb_graph::{NoMemory, Steps};
 use fb_half::{Standing, Work};
-use fb_obstacles::Watch;
 use fb_plan::NodeScope;
 use fb_regions::NodeId;
 use std::alloc::Global;
 use std::marker::Brand;
 use std::sync::ledger::{Blank, Ledger};
 
-/// Matches the root: a tree grows from it until it meets the boundary or a node that can be matched with its root
-/// (Edmonds 1965). Counts one step, or none where memory runs out. The unmatched nodes after it are those before,
-/// without the root and without at most one other node.
+/// Matches the root: at once if it is a single defect and one of its edges leads to the boundary or to another single
+/// defect and may become tight, else by a tree that grows from it until it meets the boundary or a node that can be
+/// matched with its root (Edmonds 1965). Counts one step, or none where memory runs out. The unmatched nodes after it
+/// are those before, without the root and without at most one other node.
 pub fn search<'a, L: Ledger>(
     alloc: Global,
     work: Work<'a>,
@@ -31,27 +32,27 @@ pub fn search<'a, L: Ledger>(
     ensures step { IfOk result (λ after. steps.new ≡ steps.old + 1) }
     ensures kept { OnErr result (steps.new ≡ steps.old) }
 {
-    let watch = Watch::new(alloc, work.regions().scope())?;
-    let (work, _watch) = search_from(alloc, work, root, watch, steps)?;
+    let scratch = Scratch::new(alloc, work.regions().scope())?;
+    let (work, _scratch) = search_from(alloc, work, root, scratch, steps)?;
     Ok(work)
 }
 
-/// The same with a watch that is emptied first and given back, so that one watch serves many searches.
+/// The same with scratch space that is lent and given back, so that one serves many searches.
 pub fn search_from<'a, L: Ledger>(
     alloc: Global,
     work: Work<'a>,
     root: NodeId,
-    watch: Watch,
+    scratch: Scratch,
     steps: &mut Steps<L>,
-) -> Result<(Work<'a>, Watch), NoMemory>
+) -> Result<(Work<'a>, Scratch), NoMemory>
     requires unmatched { is_in work.matching.unmatched root ≡ true }
-    requires room { watch.edge_count ≡ length (problem_in work).edges }
+    requires room { scratch.edge_count ≡ length (problem_in work).edges }
     ensures searched { IfOk result (λ after. IsSearched root work.entry after.0) }
-    ensures room { IfOk result (λ after. after.1.edge_count ≡ watch.edge_count) }
+    ensures room { IfOk result (λ after. after.1.edge_count ≡ scratch.edge_count) }
     ensures step { IfOk result (λ after. steps.new ≡ steps.old + 1) }
     ensures kept { OnErr result (steps.new ≡ steps.old) }
 {
-    let ended = match_root(alloc, work, root, watch)?;
+    let ended = match_root(alloc, work, root, scratch)?;
     steps.tick();
     Ok(ended)
 }
@@ -61,19 +62,19 @@ fn match_root<'a>(
     alloc: Global,
     work: Work<'a>,
     root: NodeId,
-    watch: Watch,
-) -> Result<(Work<'a>, Watch), NoMemory>
+    scratch: Scratch,
+) -> Result<(Work<'a>, Scratch), NoMemory>
     requires unmatched { is_in work.matching.unmatched root ≡ true }
-    requires room { watch.edge_count ≡ length (problem_in work).edges }
+    requires room { scratch.edge_count ≡ length (problem_in work).edges }
     ensures searched { IfOk result (λ after. IsSearched root work.entry after.0) }
-    ensures room { IfOk result (λ after. after.1.edge_count ≡ watch.edge_count) }
+    ensures room { IfOk result (λ after. after.1.edge_count ≡ scratch.edge_count) }
 {
     work.keeps();
     if let Some(near) = near_of(work.regions(), work.matching(), root) {
         let work = match_near(alloc, work, root, near)?;
-        return Ok((work, watch));
+        return Ok((work, scratch));
     }
-    let search = Searching::begin(alloc, work, watch, root)?;
+    let search = Searching::begin(alloc, work, scratch, root)?;
     finish::<Brand>(alloc, search, Blank::new(1))
 }
 
@@ -82,7 +83,7 @@ fn finish<'a, L: Ledger>(
     alloc: Global,
     search: Searching<'a>,
     looks: Blank,
-) -> Result<(Work<'a>, Watch), NoMemory>
+) -> Result<(Work<'a>, Scratch), NoMemory>
     requires name { looks.name ≡ L.name }
     requires parts { looks.parts ≡ L.parts }
     requires some { 0 < looks.parts }
@@ -97,14 +98,15 @@ fn finish<'a, L: Ledger>(
                 next.keeps();
                 search = next;
             }
-            Went::Ended(work, watch) => return Ok((work, watch)),
+            Went::Ended(work, scratch) => return Ok((work, scratch)),
         }
     }
 }
 
-/// Searches from each of the nodes that is still unmatched when its turn comes, in this order. Counts a step for each
-/// search: at most one for each of the nodes and for each node that is no longer unmatched, and at least one step for
-/// every two nodes that are no longer unmatched.
+/// Searches from the nodes that are still unmatched when their turn comes, in rounds. Trees are kept small in the first
+/// rounds, so that close nodes are matched first. Counts a step for each search that matches its root: at most one for
+/// each of the nodes and for each node that is no longer unmatched, and at least one for every two nodes that are no
+/// longer unmatched.
 pub fn search_each<'a, L: Ledger>(
     alloc: Global,
     work: Work<'a>,
@@ -114,27 +116,30 @@ pub fn search_each<'a, L: Ledger>(
     ensures searched { IfOk result (HasSearchedEach work.entry roots.now steps.old steps.new) }
     ensures never_falls { steps.old ≤ steps.new }
 {
-    let watch = Watch::new(alloc, work.regions().scope())?;
-    let (work, _watch) = search_each_from(alloc, work, roots, watch, steps)?;
+    let scratch = Scratch::new(alloc, work.regions().scope())?;
+    let (work, _scratch) = search_each_from(alloc, work, roots, scratch, steps)?;
     Ok(work)
 }
 
-/// The same with a watch that is emptied first and given back, so that one watch serves many parts of a graph. Trees are
-/// kept small in the first rounds, so that close nodes are matched first.
+/// The same with scratch space that is lent and given back, so that one serves many parts of a graph.
 pub fn search_each_from<'a, L: Ledger>(
     alloc: Global,
     work: Work<'a>,
     roots: &[NodeId],
-    watch: Watch,
+    scratch: Scratch,
     steps: &mut Steps<L>,
-) -> Result<(Work<'a>, Watch), NoMemory>
-    requires room { watch.edge_count ≡ length (problem_in work).edges }
+) -> Result<(Work<'a>, Scratch), NoMemory>
+    requires room { scratch.edge_count ≡ length (problem_in work).edges }
     ensures searched { IfOk result (λ after. HasSearchedEach work.entry roots.now steps.old steps.new after.0) }
-    ensures room { IfOk result (λ after. after.1.edge_count ≡ watch.edge_count) }
+    ensures room { IfOk result (λ after. after.1.edge_count ≡ scratch.edge_count) }
     ensures never_falls { steps.old ≤ steps.new }
 {
-    let Round { work, watch, left } = search_rounds(alloc, work, roots, watch, steps)?;
-    search_all(alloc, work, &left, watch, steps)
+    let Round {
+        work,
+        scratch,
+        left,
+    } = search_rounds(alloc, work, roots, scratch, steps)?;
+    search_all(alloc, work, &left, scratch, steps)
 }
 
 /// Searches from each of the nodes that is still unmatched when its turn comes, without a limit.
@@ -142,20 +147,20 @@ fn search_all<'a, L: Ledger>(
     alloc: Global,
     work: Work<'a>,
     roots: &[NodeId],
-    watch: Watch,
+    scratch: Scratch,
     steps: &mut Steps<L>,
-) -> Result<(Work<'a>, Watch), NoMemory>
-    requires room { watch.edge_count ≡ length (problem_in work).edges }
+) -> Result<(Work<'a>, Scratch), NoMemory>
+    requires room { scratch.edge_count ≡ length (problem_in work).edges }
     ensures searched { IfOk result (λ after. HasSearchedEach work.entry roots.now steps.old steps.new after.0) }
-    ensures room { IfOk result (λ after. after.1.edge_count ≡ watch.edge_count) }
+    ensures room { IfOk result (λ after. after.1.edge_count ≡ scratch.edge_count) }
     ensures never_falls { steps.old ≤ steps.new }
 {
     let mut work = work;
-    let mut watch = watch;
+    let mut scratch = scratch;
     for root in roots {
         if let Standing::Unmatched(_) = work.matching().standing(*root) {
-            (work, watch) = search_from(alloc, work, *root, watch, steps)?;
+            (work, scratch) = search_from(alloc, work, *root, scratch, steps)?;
         }
     }
-    Ok((work, watch))
+    Ok((work, scratch))
 }

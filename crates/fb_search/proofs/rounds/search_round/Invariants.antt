@@ -6,5 +6,5 @@ use Rattle.fb_search.proofs.rounds.search_round.Given as goal
 abbrev pub invariant-loop-root : goal.invariant-loop-root
 invariant-loop-root g l =
     HasSearchedSome l.fn.work l.roots l.fn.steps l.steps (l.left.items ++ drop l.root-index l.roots) l.work
-    × (l.watch.edge_count ≡ length (problem_in l.work).edges) × (l.watch.edge_count ≡ l.fn.watch.edge_count)
+    × (l.scratch.edge_count ≡ length (problem_in l.work).edges) × (l.scratch.edge_count ≡ l.fn.scratch.edge_count)
     × (l.fn.steps ≤ l.steps)

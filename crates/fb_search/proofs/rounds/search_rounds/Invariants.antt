@@ -6,5 +6,5 @@ use Rattle.fb_search.proofs.rounds.search_rounds.Given as goal
 abbrev pub invariant-loop : goal.invariant-loop
 invariant-loop g l =
     HasSearchedSome l.fn.work l.roots l.fn.steps l.steps l.round.left.items l.round.work
-    × (l.round.watch.edge_count ≡ length (problem_in l.round.work).edges)
-    × (l.round.watch.edge_count ≡ l.fn.watch.edge_count) × (l.fn.steps ≤ l.steps)
+    × (l.round.scratch.edge_count ≡ length (problem_in l.round.work).edges)
+    × (l.round.scratch.edge_count ≡ l.fn.scratch.edge_count) × (l.fn.steps ≤ l.steps)

@@ -19,7 +19,7 @@ loop-looks-preserved g c =
 
 pub returns-in-Ended : goal.returns-in-Ended
 returns-in-Ended g c =
-    let ended : EndsWith c.loop-looks.search c.in-Ended.work c.in-Ended.watch =
+    let ended : EndsWith c.loop-looks.search c.in-Ended.work c.in-Ended.scratch =
     subst (HasWent c.loop-looks.search) c.in-Ended.is c.in_ok-next.ensures in
     record {
       searched = ends c.args.search.tree.root c.args.search.watched.edge_count c.args.search.part c.in-Ended.work c.loop-looks.search

@@ -10,10 +10,10 @@ loop-root-preserved g c =
     elim c.match-standing.branch [
       | in-Unmatched+in_ok-work w ↦
           let searched = w.in_ok-work.ensures.searched in
-          rw (w.work-is, w.watch-is, w.steps-is) (
+          rw (w.work-is, w.scratch-is, w.steps-is) (
             one_searched c.args.work c.loop-root.work c.args.roots.now c.loop-root.root-index 0 c.loop-root-test.true
                 c.loop-root.invariant.0 w.in_ok-work.field-0-0 searched,
-            same_room c.loop-root.work w.in_ok-work.field-0-0 _ c.loop-root.watch.edge_count _ searched c.loop-root.invariant.1
+            same_room c.loop-root.work w.in_ok-work.field-0-0 _ c.loop-root.scratch.edge_count _ searched c.loop-root.invariant.1
                 w.in_ok-work.ensures.room,
             omega (arith, c.loop-root.invariant.2, w.in_ok-work.ensures.step),
             omega (arith, c.loop-root.invariant.3, w.in_ok-work.ensures.step, searched.fewer),
@@ -21,7 +21,7 @@ loop-root-preserved g c =
             omega (arith, c.loop-root.invariant.5, w.in_ok-work.ensures.step),
           )
       | in_default w ↦
-          rw (w.work-is, w.watch-is, w.steps-is) (
+          rw (w.work-is, w.scratch-is, w.steps-is) (
             one_skipped c.args.work c.loop-root.work c.args.roots.now c.loop-root.root-index 0 c.loop-root-test.true
                 c.loop-root.invariant.0
                 (ap (λ m. is_in m.unmatched (get_or c.args.roots.now c.loop-root.root-index 0)) (sym c.matching.ensures)

@@ -11,12 +11,12 @@ invariant_of-result c =
     let graph = c.graph.ensures ∙ ap (λ j. j.graph) c.job.ensures in
     let plan = c.plan.ensures ∙ ap (λ j. j.plan) c.job-2.ensures in (
       c.into_parts-parts.ensures.scope,
-      rw c.in_ok-tree.ensures
+      rw c.restart-tree.ensures
           (begun_searching c.args.root (part_of c.into_parts-parts.result) c.clear.new.self c.watch_node.new.watch
           (subst IsPart (sym c.into_parts-parts.ensures.value) c.keeps.ensures)
           (kept_limits (part_of c.into_parts-parts.result) c.graph.result.now c.plan.result.now c.node.result graph plan c.node.ensures c.limits.ensures)
           (ap (λ w. is_in w.matching.unmatched c.args.root) c.into_parts-parts.ensures.value ∙ c.requires.unmatched) c.keeps-2.ensures.within
-          (ap (λ w. w.edge_count) c.clear.ensures ∙ c.requires.room ∙ sym (ap (λ w. length (problem_in w).edges) c.into_parts-parts.ensures.value))
+          (ap (λ w. w.edge_count) c.clear.ensures ∙ ap (λ w. w.edge_count) c.scratch.view_is ∙ c.requires.room ∙ sym (ap (λ w. length (problem_in w).edges) c.into_parts-parts.ensures.value))
           (ap (λ w. w.edges) c.clear.ensures)
           (kept_watches (part_of c.into_parts-parts.result) c.graph.result.now c.plan.result.now c.node.result
           (top_at c.into_parts-parts.result.regions.nodes c.args.root) c.clear.new.self c.watch_node.new.watch graph c.in_ok-watch_node.ensures)),
@@ -37,12 +37,12 @@ watch_node-requires-clause-live c =
 
 pub watch_node-requires-clause-room : goal.watch_node-requires-clause-room
 watch_node-requires-clause-room c =
-    ap (λ w. w.edge_count) c.clear.ensures ∙ c.requires.room
+    ap (λ w. w.edge_count) c.clear.ensures ∙ ap (λ w. w.edge_count) c.scratch.view_is ∙ c.requires.room
     ∙ sym (ap (λ w. length (problem_in w).edges) c.into_parts-parts.ensures.value)
     ∙ sym (ap (λ g. length g.edges) (c.graph.ensures ∙ ap (λ j. j.graph) c.job.ensures))
 
 pub returns-clause-begun : goal.returns-clause-begun
-returns-clause-begun c = record { part = c.into_parts-parts.ensures.value; tree = c.in_ok-tree.ensures }
+returns-clause-begun c = record { part = c.into_parts-parts.ensures.value; tree = c.restart-tree.ensures }
 
 pub returns-clause-watched : goal.returns-clause-watched
-returns-clause-watched c = c.in_ok-watch_node.ensures.room ∙ ap (λ w. w.edge_count) c.clear.ensures
+returns-clause-watched c = c.in_ok-watch_node.ensures.room ∙ ap (λ w. w.edge_count) c.clear.ensures ∙ ap (λ w. w.edge_count) c.scratch.view_is

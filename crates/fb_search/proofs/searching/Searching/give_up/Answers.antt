@@ -11,10 +11,10 @@ pub returns : goal.returns
 returns c =
     let name : c.root-name.result ≡ c.args.self.tree.root =
     c.root-name.ensures ∙ ap (λ s. s.tree.root) (c.stepped.view_is ∙ c.step-stepped.ensures) in
-    let is : IsDissolved (stepped_by c.args.length c.args.self) c.in_ok-work.work c.in_ok-work.watch =
-    subst (λ s. IsDissolved s c.in_ok-work.work c.in_ok-work.watch) c.step-stepped.ensures c.in_ok-work.ensures in
+    let is : IsDissolved (stepped_by c.args.length c.args.self) c.in_ok-work.work c.in_ok-work.scratch =
+    subst (λ s. IsDissolved s c.in_ok-work.work c.in_ok-work.scratch) c.step-stepped.ensures c.in_ok-work.ensures in
     record {
       left = subst (λ n. IsGivenUp c.args.self.tree.root n c.args.self.part c.in_ok-work.work) (sym name)
-          (given_up c.args.self c.args.length c.in_ok-work.work c.in_ok-work.watch c.keeps.ensures is);
+          (given_up c.args.self c.args.length c.in_ok-work.work c.in_ok-work.scratch c.keeps.ensures is);
       room = is.room;
     }

@@ -1,0 +1,36 @@
+ghost use Rattle.std.specs.Prelude.{◌≡◌, [], IfOk, length};
+
+use fb_graph::{NoMemory, Scope};
+use fb_obstacles::Watch;
+use fb_trees::Tree;
+use std::alloc::Global;
+use std::marker::Model;
+
+/// The scratch space of searches: a watch over the edges of a graph and the room of a tree. It is lent to one search
+/// after another, each of which empties it first, at the cost of what it holds. Contracts see its watch.
+#[derive(Drop)]
+pub struct Scratch {
+    pub(crate) watch: Watch,
+    pub(crate) tree: Tree,
+}
+
+impl Model for Scratch {
+    ghost use Rattle.fb_obstacles.specs.Watched.{Watched, watched_code};
+
+    ghost Value = { Watched };
+
+    ghost coded = { watched_code };
+
+    ghost view = { λ s. s.watch };
+}
+
+impl Scratch {
+    /// Watches no edge, with room for every edge of the scope.
+    pub fn new<S: Scope>(alloc: Global, scope: &S) -> Result<Scratch, NoMemory>
+        ensures { IfOk result (λ s. s ≡ record { edge_count = length (S.problem scope.now).edges; edges = []; bounds = [] }) }
+    {
+        let watch = Watch::new(alloc, scope)?;
+        let tree = Tree::start(alloc, 0)?;
+        Ok(Scratch { watch, tree })
+    }
+}
