@@ -5,7 +5,7 @@ ghost use Rattle.fb_plan.specs.Plans.{IsPlan};
 
 use crate::hands::{Bench, Gate, Hands, OpenGate};
 use crate::here::{Turn, next_item};
-use crate::{Entry, Finished, Kind, Worked, work_all, work_here};
+use crate::{Entry, Kind, Worked, work_all, work_here};
 use fb_book::{Board, Book, Piece, order_of_nodes};
 use fb_graph::{Graph, NoMemory, Shot, components, first_odd};
 use fb_plan::{Job, Join, Plan};
@@ -239,8 +239,29 @@ fn work_all_under_lock<
     Ok(())
 }
 
+/// A graph without vertices, and its plan of two units and a fusion.
+#[derive(Drop)]
+struct Pair {
+    graph: Graph,
+    plan: Plan,
+    ghost fits: { IsPlan graph plan },
+}
+
+impl Pair {
+    fn new(alloc: Global) -> Result<Pair, Fail> {
+        let graph = Graph::build(alloc, 0, &[], &[])?;
+        let plan = two_units(alloc, &graph)?;
+        Ok(Pair { graph, plan })
+    }
+
+    /// The job of one shot without a defect.
+    fn job(&self, alloc: Global) -> Result<Job<'_>, Fail> {
+        one_shot(alloc, &self.graph, &self.plan)
+    }
+}
+
 /// The plan of two units and a fusion, of a graph without vertices.
-fn pair(alloc: Global, graph: &Graph) -> Result<Plan, Fail>
+fn two_units(alloc: Global, graph: &Graph) -> Result<Plan, Fail>
     ensures { IfOk result (IsPlan graph.now) }
 {
     let mut units = Vec::new(alloc);
@@ -269,30 +290,26 @@ fn one_shot<'a>(alloc: Global, graph: &'a Graph, plan: &'a Plan) -> Result<Job<'
     Ok(Job::new(graph, plan, shots))
 }
 
-/// The nodes that the root's piece lists and the history, where so many workers do the job by way of the gate.
-fn list_by<'a, R: Threads + Wait + Sync>(
+/// Lists the nodes of the job by so many workers, by way of the gate.
+fn list_by<'a, G: Gate, R: Threads + Wait + Sync>(
     rt: &R,
     alloc: Global,
-    job: &'a Job<'a>,
+    hands: &Lister<'a>,
     workers: u32,
-    gate: &Meeting,
-) -> Result<(Vec<u32>, Vec<Entry>), Fail>
+    gate: &G,
+) -> Result<Worked<Listed<'a>, u32>, NoMemory>
     requires { (1 ≤ workers) × (workers ≤ 64) }
 {
-    let hands = Lister::new(job);
     let tools = vec![in alloc; 0; workers as usize]?;
-    let Worked {
-        mut roots,
-        history,
-        tools,
-    } = work_all(rt, alloc, job, workers, &hands, gate, tools)?;
-    if count_all(tools.as_slice()) != 3 {
-        return Err(Fail::from("the workers' tools count three items"));
-    }
-    let Some(Listed { made, .. }) = roots.pop() else {
-        return Err(Fail::from("a root for the shot"));
+    work_all(rt, alloc, hands.job, workers, hands, gate, tools)
+}
+
+/// Whether one root's piece lists its nodes in the order of the tree, and the tools count each once.
+fn lists_the_tree(worked: &Worked<Listed<'_>, u32>) -> bool {
+    let [root] = worked.roots.as_slice() else {
+        return false;
     };
-    Ok((made, history))
+    root.made.as_slice() == [0, 1, 2].as_slice() && count_all(&worked.tools) == 3
 }
 
 /// The sum of the counts.
@@ -324,63 +341,77 @@ fn list_under_lock<'a, R: Threads + Wait + Sync>(
 /// each once, and the history tells who gave which.
 #[test]
 fn meets_at_the_gate(rt: HostRuntime) -> Result<(), Fail> {
-    let graph = Graph::build(rt.alloc(), 0, &[], &[])?;
-    let plan = pair(rt.alloc(), &graph)?;
-    let job = one_shot(rt.alloc(), &graph, &plan)?;
+    let pair = Pair::new(rt.alloc())?;
+    let job = pair.job(rt.alloc())?;
     let gate = Meeting::new();
-    let (made, history) = list_by(&rt, rt.alloc(), &job, 2, &gate)?;
-    assert_eq!(rt; made.as_slice(), [0, 1, 2].as_slice());
+    let worked = list_by(&rt, rt.alloc(), &Lister::new(&job), 2, &gate)?;
     assert!(rt; gate.has_met(), "the units are made one after the other");
-    assert_eq!(rt; (history.len(), gate.passed.load(Ordering::SeqCst)), (6, 3));
     assert!(rt;
-        gate.has_seen(&history),
+        lists_the_tree(&worked),
+        "the nodes are listed in another order"
+    );
+    assert!(rt;
+        gate.has_seen(&worked.history),
         "the gate saw other items than were given"
     );
     Ok(())
 }
 
-/// One worker alone meets nobody at the gate, and nor do two that hold the lock from the claim to the post.
+/// One worker alone meets nobody at the gate.
 #[test]
-fn meets_nobody(rt: HostRuntime) -> Result<(), Fail> {
-    let graph = Graph::build(rt.alloc(), 0, &[], &[])?;
-    let plan = pair(rt.alloc(), &graph)?;
-    let job = one_shot(rt.alloc(), &graph, &plan)?;
-    let alone = Meeting::new();
-    let (_made, _history) = list_by(&rt, rt.alloc(), &job, 1, &alone)?;
-    assert!(rt; !alone.has_met(), "one worker met another");
-    let locked = Meeting::new();
-    list_under_lock(&rt, rt.alloc(), &job, &locked)?;
-    assert!(rt; !locked.has_met(), "two workers under one lock met");
-    assert_eq!(rt; locked.passed.load(Ordering::SeqCst), 3);
+fn meets_nobody_alone(rt: HostRuntime) -> Result<(), Fail> {
+    let pair = Pair::new(rt.alloc())?;
+    let job = pair.job(rt.alloc())?;
+    let gate = Meeting::new();
+    let worked = list_by(&rt, rt.alloc(), &Lister::new(&job), 1, &gate)?;
+    assert!(rt; !gate.has_met(), "one worker met another");
+    assert!(rt;
+        lists_the_tree(&worked),
+        "the nodes are listed in another order"
+    );
+    Ok(())
+}
+
+/// Two workers that hold the lock from the claim to the post don't meet at the gate.
+#[test]
+fn meets_nobody_under_a_lock(rt: HostRuntime) -> Result<(), Fail> {
+    let pair = Pair::new(rt.alloc())?;
+    let job = pair.job(rt.alloc())?;
+    let gate = Meeting::new();
+    list_under_lock(&rt, rt.alloc(), &job, &gate)?;
+    assert!(rt; !gate.has_met(), "two workers under one lock met");
+    assert!(rt;
+        gate.passed.load(Ordering::SeqCst) == 3,
+        "an item didn't pass the gate"
+    );
     Ok(())
 }
 
 /// Where one worker has no memory for a unit, the fusion above it is never asked for.
 #[test]
 fn runs_out_of_memory(rt: HostRuntime) -> Result<(), Fail> {
-    let graph = Graph::build(rt.alloc(), 0, &[], &[])?;
-    let plan = pair(rt.alloc(), &graph)?;
-    let job = one_shot(rt.alloc(), &graph, &plan)?;
+    let pair = Pair::new(rt.alloc())?;
+    let job = pair.job(rt.alloc())?;
     let hands = Lister {
         without: Some(1),
         ..Lister::new(&job)
     };
-    let tools = vec![in rt.alloc(); 0; 2]?;
-    let worked = work_all(&rt, rt.alloc(), &job, 2, &hands, &OpenGate, tools);
+    let worked = list_by(&rt, rt.alloc(), &hands, 2, &OpenGate);
     assert!(rt; worked.is_err(), "no memory for node 1");
-    assert_eq!(rt; hands.fusions.load(Ordering::SeqCst), 0);
+    assert!(rt;
+        hands.fusions.load(Ordering::SeqCst) == 0,
+        "a fusion was asked for"
+    );
     Ok(())
 }
 
-/// On the calling thread items are done in the order of the nodes, by worker 0.
+/// The calling thread does each item once.
 #[test]
 fn works_here(rt: HostRuntime) -> Result<(), Fail> {
-    let graph = Graph::build(rt.alloc(), 0, &[], &[])?;
-    let plan = pair(rt.alloc(), &graph)?;
-    let job = one_shot(rt.alloc(), &graph, &plan)?;
-    let hands = Lister::new(&job);
+    let pair = Pair::new(rt.alloc())?;
+    let job = pair.job(rt.alloc())?;
     let mut items = 0;
-    let Finished { roots, history } = work_here(rt.alloc(), &job, &hands, &mut items)?;
-    assert_eq!(rt; (roots.len(), history.len(), items), (1, 6, 3));
+    let finished = work_here(rt.alloc(), &job, &Lister::new(&job), &mut items)?;
+    assert!(rt; finished.roots.len() == 1 && items == 3);
     Ok(())
 }
