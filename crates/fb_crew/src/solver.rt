@@ -10,11 +10,11 @@ use crate::hands::Hands;
 use fb_book::Piece;
 use fb_fuse::fuse_from;
 use fb_graph::{Graph, NoMemory, Row, Steps, Whole};
-use fb_half::Half;
-use fb_obstacles::Watch;
+use fb_half::{Half, Spare};
 use fb_plan::Job;
 use fb_resolve::resolve;
-use fb_unit::solve_unit_from;
+use fb_search::Scratch;
+use fb_unit::solve_unit_on;
 use std::alloc::Global;
 use std::marker::{Brand, Model};
 use std::sync::ledger::{Blank, Ledger};
@@ -28,8 +28,8 @@ pub struct Solved<'a> {
     found: Found<'a>,
 }
 
-/// What is kept of a solved item. Nothing is fused with the plan's root, so its part is let go once its row is known. Both
-/// are in boxes, since a book has room for a piece at each item.
+/// What is kept of a solved item. Nothing is fused with the plan's root, so of its part only the room is kept, in the
+/// worker's tools. Both are in boxes, since a book has room for a piece at each item.
 #[derive(Drop)]
 enum Found<'a> {
     /// The part of a node below the root.
@@ -51,11 +51,11 @@ impl<'a> Model for Solved<'a> {
 
 impl<'a> Solved<'a> {
     /// The solved item of this part: at the root the row of its shot, elsewhere the part.
-    fn of(alloc: Global, half: Half<'a>) -> Result<Solved<'a>, NoMemory>
+    fn of(alloc: Global, tools: &mut Tools, half: Half<'a>) -> Result<Solved<'a>, NoMemory>
         ensures { IfOk result (λ s. s ≡ item_of half.entry) }
     {
         let (job, slot, node) = (half.job(), half.slot(), half.node());
-        let found = Found::of(alloc, half)?;
+        let found = Found::of(alloc, tools, half)?;
         Ok(Solved {
             job,
             slot,
@@ -90,12 +90,13 @@ impl<'a> Solved<'a> {
 }
 
 impl<'a> Found<'a> {
-    /// What is kept of a solved part.
-    fn of(alloc: Global, half: Half<'a>) -> Result<Found<'a>, NoMemory>
+    /// What is kept of a solved part. The tools keep the room of the root's.
+    fn of(alloc: Global, tools: &mut Tools, half: Half<'a>) -> Result<Found<'a>, NoMemory>
         ensures { IfOk result (IsFoundAt (item_of half.entry)) }
     {
         if half.node() == half.job().plan().root() {
             let row = resolve(alloc, &half)?;
+            tools.spare = Some(half.into_spare());
             return Ok(Found::Row(boxed(alloc, row)?));
         }
         Ok(Found::Part(boxed(alloc, half)?))
@@ -132,13 +133,16 @@ impl<'a> Piece for Solved<'a> {
     }
 }
 
-/// What a worker keeps from one part to the next: a watch, which serves one search after another.
+/// What a worker keeps from one part to the next, so that it takes no new memory for each: the scratch space of its
+/// searches, and the room of the part of the root that it solved last.
 #[derive(Drop)]
 pub struct Tools {
     /// None at first, and where memory ran out while it was lent.
-    watch: Option<Watch>,
+    scratch: Option<Scratch>,
     /// The number of edges that it is for.
     edges: u32,
+    /// None where no root was solved since the last unit.
+    spare: Option<Spare>,
 }
 
 impl Model for Tools {
@@ -148,36 +152,37 @@ impl Model for Tools {
 
     ghost view = { λ t. t.edges };
 
-    ghost invariant = { λ t. IfSome t.watch (λ w. w.edge_count ≡ t.edges) };
+    ghost invariant = { λ t. IfSome t.scratch (λ s. s.edge_count ≡ t.edges) };
 }
 
 impl Tools {
     /// Tools with nothing in them yet.
     pub fn new() -> Tools {
         Tools {
-            watch: None,
+            scratch: None,
             edges: 0,
+            spare: None,
         }
     }
 
-    /// A watch over the edges of a graph.
-    fn lend(&mut self, alloc: Global, graph: &Graph) -> Result<Watch, NoMemory>
-        ensures { IfOk result (λ w. w.edge_count ≡ length graph.now.edges) }
+    /// Scratch space for searches over the edges of a graph.
+    fn lend(&mut self, alloc: Global, graph: &Graph) -> Result<Scratch, NoMemory>
+        ensures { IfOk result (λ s. s.edge_count ≡ length graph.now.edges) }
     {
         if self.edges == graph.edge_count() {
-            if let Some(watch) = self.watch.take() {
-                return Ok(watch);
+            if let Some(scratch) = self.scratch.take() {
+                return Ok(scratch);
             }
         }
-        Watch::new(alloc, &Whole(graph))
+        Scratch::new(alloc, &Whole(graph))
     }
 
-    /// Takes a watch over the edges of a graph back.
-    fn put_back(&mut self, watch: Watch, graph: &Graph)
-        requires { watch.edge_count ≡ length graph.now.edges }
+    /// Takes the scratch space for the edges of a graph back.
+    fn put_back(&mut self, scratch: Scratch, graph: &Graph)
+        requires { scratch.edge_count ≡ length graph.now.edges }
     {
         self.edges = graph.edge_count();
-        self.watch = Some(watch);
+        self.scratch = Some(scratch);
     }
 }
 
@@ -206,8 +211,8 @@ impl<'a> Hands<Solved<'a>, Tools> for Solver<'a> {
         slot: u32,
         node: u32,
     ) -> Result<Solved<'a>, NoMemory> {
-        let half = solve_unit_on::<Brand>(alloc, self.job, tools, slot, node, Blank::new(1))?;
-        Solved::of(alloc, half)
+        let half = unit_by::<Brand>(alloc, self.job, tools, slot, node, Blank::new(1))?;
+        Solved::of(alloc, tools, half)
     }
 
     fn fusion(
@@ -222,13 +227,13 @@ impl<'a> Hands<Solved<'a>, Tools> for Solver<'a> {
         self.job.keeps();
         let left = left.into_half();
         let right = right.into_half();
-        let half = fuse_on::<Brand>(alloc, self.job, tools, node, left, right, Blank::new(1))?;
-        Solved::of(alloc, half)
+        let half = fusion_by::<Brand>(alloc, self.job, tools, node, left, right, Blank::new(1))?;
+        Solved::of(alloc, tools, half)
     }
 }
 
 /// The solved part of a unit. Its searches are counted, and the count is dropped.
-fn solve_unit_on<'a, L: Ledger>(
+fn unit_by<'a, L: Ledger>(
     alloc: Global,
     job: &'a Job<'a>,
     tools: &mut Tools,
@@ -243,15 +248,16 @@ fn solve_unit_on<'a, L: Ledger>(
     requires unit { node < job.now.plan.units }
     ensures { IfOk result (IsPartOf job.now slot node) }
 {
-    let watch = tools.lend(alloc, job.graph())?;
+    let spare = tools.spare.take();
+    let scratch = tools.lend(alloc, job.graph())?;
     let mut steps = Steps::<L>::new(blank);
-    let (half, watch) = solve_unit_from(alloc, job, slot, node, watch, &mut steps)?;
-    tools.put_back(watch, job.graph());
+    let (half, scratch) = solve_unit_on(alloc, job, slot, node, spare, scratch, &mut steps)?;
+    tools.put_back(scratch, job.graph());
     Ok(half)
 }
 
 /// The solved part of a fusion. Its searches are counted, and the count is dropped.
-fn fuse_on<'a, L: Ledger>(
+fn fusion_by<'a, L: Ledger>(
     alloc: Global,
     job: &'a Job<'a>,
     tools: &mut Tools,
@@ -269,9 +275,9 @@ fn fuse_on<'a, L: Ledger>(
     requires children { children_of job.now.plan node ≡ Some (left.node, right.node) }
     ensures { IfOk result (IsPartOf job.now left.entry.slot node) }
 {
-    let watch = tools.lend(alloc, job.graph())?;
+    let scratch = tools.lend(alloc, job.graph())?;
     let mut steps = Steps::<L>::new(blank);
-    let (half, watch) = fuse_from(alloc, job, node, left, right, watch, &mut steps)?;
-    tools.put_back(watch, job.graph());
+    let (half, scratch) = fuse_from(alloc, job, node, left, right, scratch, &mut steps)?;
+    tools.put_back(scratch, job.graph());
     Ok(half)
 }
