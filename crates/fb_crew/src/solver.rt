@@ -96,7 +96,7 @@ impl<'a> Found<'a> {
     {
         if half.node() == half.job().plan().root() {
             let row = resolve(alloc, &half)?;
-            tools.spare = Some(half.into_spare());
+            tools.keep(half.into_spare());
             return Ok(Found::Row(boxed(alloc, row)?));
         }
         Ok(Found::Part(boxed(alloc, half)?))
@@ -133,16 +133,19 @@ impl<'a> Piece for Solved<'a> {
     }
 }
 
+/// How much room of parts a worker keeps. With a balanced plan it has about as many parts at once as the plan has levels.
+const MOST_SPARES: usize = 8;
+
 /// What a worker keeps from one part to the next, so that it takes no new memory for each: the scratch space of its
-/// searches, and the room of the part of the root that it solved last.
+/// searches, and the room of roots that it has solved and of right parts that it has fused.
 #[derive(Drop)]
 pub struct Tools {
     /// None at first, and where memory ran out while it was lent.
     scratch: Option<Scratch>,
     /// The number of edges that it is for.
     edges: u32,
-    /// None where no root was solved since the last unit.
-    spare: Option<Spare>,
+    /// At most `MOST_SPARES`. The last one goes to the next unit.
+    spares: Vec<Spare>,
 }
 
 impl Model for Tools {
@@ -157,11 +160,20 @@ impl Model for Tools {
 
 impl Tools {
     /// Tools with nothing in them yet.
-    pub fn new() -> Tools {
+    pub fn new(alloc: Global) -> Tools {
         Tools {
             scratch: None,
             edges: 0,
-            spare: None,
+            spares: Vec::new(alloc),
+        }
+    }
+
+    /// Keeps the room of a part for another one, unless there is enough already or no memory to list it.
+    fn keep(&mut self, spare: Spare)
+        ensures { self.new ≡ self.old }
+    {
+        if self.spares.len() < MOST_SPARES {
+            let _kept = self.spares.push(spare);
         }
     }
 
@@ -248,7 +260,7 @@ fn unit_by<'a, L: Ledger>(
     requires unit { node < job.now.plan.units }
     ensures { IfOk result (IsPartOf job.now slot node) }
 {
-    let spare = tools.spare.take();
+    let spare = tools.spares.pop();
     let scratch = tools.lend(alloc, job.graph())?;
     let mut steps = Steps::<L>::new(blank);
     let (half, scratch) = solve_unit_on(alloc, job, slot, node, spare, scratch, &mut steps)?;
@@ -277,7 +289,8 @@ fn fusion_by<'a, L: Ledger>(
 {
     let scratch = tools.lend(alloc, job.graph())?;
     let mut steps = Steps::<L>::new(blank);
-    let (half, scratch) = fuse_from(alloc, job, node, left, right, scratch, &mut steps)?;
+    let (half, spare, scratch) = fuse_from(alloc, job, node, left, right, scratch, &mut steps)?;
     tools.put_back(scratch, job.graph());
+    tools.keep(spare);
     Ok(half)
 }

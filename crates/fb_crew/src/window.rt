@@ -148,7 +148,7 @@ fn empty_tools(alloc: Global, workers: u32) -> Result<Vec<Tools>, NoMemory>
 {
     let mut tools = Vec::with_capacity(alloc, workers as usize)?;
     for _ in 0..workers {
-        tools.push(Tools::new())?;
+        tools.push(Tools::new(alloc))?;
     }
     Ok(tools)
 }
