@@ -100,7 +100,8 @@ static void serve(void) {
 /* A script that starts the program has another name. */
 __attribute__((constructor)) static void begin(void) {
     size_t size = 0;
-    if (strncmp(program_invocation_short_name, "fusion", 6) != 0) return;
+    const char *program = getenv("COVERAGE_PROGRAM");
+    if (!program || strcmp(program_invocation_short_name, program) != 0) return;
     blocks = mapped(getenv("COVERAGE_BLOCKS"), O_RDONLY, &size);
     block_count = size / sizeof *blocks;
     if (!blocks || block_count == 0) return;

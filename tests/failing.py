@@ -141,7 +141,7 @@ class Workspace:
         variables, log = {}, self.folder / f"log-{next(self.logs)}"
         if faults is not None:
             variables = {f"FAULT_{name.upper()}": str(value) for name, value in faults.items()}
-            variables |= {"FAULT_LOG": str(log), "LD_PRELOAD": str(self.library)}
+            variables |= {"FAULT_PROGRAM": program.FUSION.name, "FAULT_LOG": str(log), "LD_PRELOAD": str(self.library)}
         given = [*prefix, program.FUSION, *(words or command.words)]
         streams = {"stdin": subprocess.DEVNULL, "stdout": subprocess.PIPE, **more}
         streams |= {"stderr": subprocess.PIPE, "cwd": self.place(command), "env": os.environ | variables}

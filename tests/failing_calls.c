@@ -1,5 +1,6 @@
 /* Preloaded into the program by tests/faults, to make calls of the system fail. It reads these variables:
  *
+ * FAULT_PROGRAM   the name of the program's file; a script that starts it has another name, and no call of it is watched
  * FAULT_CALL      the calls that it watches: open, read, write (to standard output), error (a write to standard
  *                 error), thread or allocate
  * FAULT_NUMBER    which of them fails, from 1; where it is 0 none does
@@ -38,9 +39,9 @@ static long variable(const char *name) {
     return text ? strtol(text, NULL, 10) : 0;
 }
 
-/* A script that starts the program has another name, and no call of it is watched. */
 __attribute__((constructor)) static void begin(void) {
-    if (strncmp(program_invocation_short_name, "fusion", 6) != 0) return;
+    const char *program = getenv("FAULT_PROGRAM");
+    if (!program || strcmp(program_invocation_short_name, program) != 0) return;
     if (getenv("FAULT_CALL")) watched = getenv("FAULT_CALL");
     number = variable("FAULT_NUMBER");
     lasting = variable("FAULT_LASTING");

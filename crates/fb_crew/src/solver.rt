@@ -29,7 +29,7 @@ pub struct Solved<'a> {
 }
 
 /// What is kept of a solved item. Nothing is fused with the plan's root, so of its part only the room is kept, in the
-/// worker's tools. Both are in boxes, since a book has room for a piece at each item.
+/// worker's tools. Parts and rows are in boxes, since a book has room for a piece at each item.
 #[derive(Drop)]
 enum Found<'a> {
     /// The part of a node below the root.
@@ -96,7 +96,7 @@ impl<'a> Found<'a> {
     {
         if half.node() == half.job().plan().root() {
             let row = resolve(alloc, &half)?;
-            tools.keep(half.into_spare());
+            tools.keep_root(half);
             return Ok(Found::Row(boxed(alloc, row)?));
         }
         Ok(Found::Part(boxed(alloc, half)?))
@@ -133,10 +133,13 @@ impl<'a> Piece for Solved<'a> {
     }
 }
 
-/// How much room of parts a worker keeps. With a balanced plan it has about as many parts at once as the plan has levels.
+/// The room of how many parts a worker keeps. One worker has at most so many at once with a balanced plan of 128 units.
 const MOST_SPARES: usize = 8;
 
-/// What a worker keeps from one part to the next, so that it takes no new memory for each: the scratch space of its
+/// The room of a root with more defects isn't kept: emptying it for a small shot would cost as much as it once held.
+const MOST_DEFECTS: u32 = 1_024;
+
+/// What a worker keeps from one part to the next, so that less memory is taken anew: the scratch space of its
 /// searches, and the room of roots that it has solved and of right parts that it has fused.
 #[derive(Drop)]
 pub struct Tools {
@@ -174,6 +177,17 @@ impl Tools {
     {
         if self.spares.len() < MOST_SPARES {
             let _kept = self.spares.push(spare);
+        }
+    }
+
+    /// Keeps the room of a solved root, unless it is very large.
+    fn keep_root(&mut self, half: Half<'_>)
+        ensures { self.new ≡ self.old }
+    {
+        if has_few_defects(&half) {
+            self.keep(half.into_spare());
+        } else {
+            drop(half);
         }
     }
 
@@ -293,4 +307,12 @@ fn fusion_by<'a, L: Ledger>(
     tools.put_back(scratch, job.graph());
     tools.keep(spare);
     Ok(half)
+}
+
+/// Whether the shot of a part has at most `MOST_DEFECTS` defects.
+fn has_few_defects(half: &Half<'_>) -> bool {
+    match half.job().shots().get(half.slot() as usize) {
+        Some(shot) => shot.len() <= MOST_DEFECTS,
+        None => false,
+    }
 }

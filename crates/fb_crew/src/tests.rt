@@ -120,8 +120,9 @@ impl<'a> Hands<Listed<'a>, u32> for Lister<'a> {
     }
 }
 
-/// How often a unit looks for another one at the gate: a fraction of a second, in which a second thread surely runs.
-const TURNS: u32 = 100_000_000;
+/// How often a unit looks for another one at the gate: about a second, so that a second thread is there in time on a busy
+/// machine too.
+const TURNS: u32 = 2_000_000_000;
 
 /// A gate at which the first unit waits, for a limited number of turns, until another one is there too. It notes who
 /// came with which item of the first slot.
