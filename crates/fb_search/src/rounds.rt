@@ -21,7 +21,7 @@ use std::alloc::Global;
 use std::marker::Brand;
 use std::sync::ledger::{Blank, Ledger};
 
-/// How many rounds of bounded searches there are. The limit doubles from one to the next.
+/// How many rounds of bounded searches there are at most. The limit doubles from one to the next.
 const ROUNDS: u32 = 4;
 
 /// A part after a search whose tree may be given up.
@@ -255,8 +255,8 @@ fn push_left(left: &mut Vec<NodeId>, name: Option<NodeId>) -> Result<(), NoMemor
     Ok(())
 }
 
-/// Rounds of searches from these nodes, each with twice the limits of the one before, until there are no more nodes to
-/// search from. So close nodes are matched before a tree grows over many vertices.
+/// Rounds of searches from these nodes, each with twice the limits of the one before, until no root is left unmatched or
+/// the last round is over. So close nodes are matched before a tree grows over many vertices.
 pub(crate) fn search_rounds<'a, L: Ledger>(
     alloc: Global,
     work: Work<'a>,
