@@ -21,7 +21,7 @@ use std::alloc::Global;
 use std::marker::Brand;
 use std::sync::ledger::{Blank, Ledger};
 
-/// How many rounds of bounded searches there are. The limit doubles from one to the next.
+/// How many rounds of bounded searches there are at most. The limit doubles from one to the next.
 const ROUNDS: u32 = 4;
 
 /// A part after a search whose tree may be given up.
@@ -255,8 +255,8 @@ fn push_left(left: &mut Vec<NodeId>, name: Option<NodeId>) -> Result<(), NoMemor
     Ok(())
 }
 
-/// Rounds of searches from these nodes, each with twice the limits of the one before. So close nodes are matched before
-/// a tree grows over many vertices.
+/// Rounds of searches from these nodes, each with twice the limits of the one before, until no root is left unmatched or
+/// the last round is over. So close nodes are matched before a tree grows over many vertices.
 pub(crate) fn search_rounds<'a, L: Ledger>(
     alloc: Global,
     work: Work<'a>,
@@ -272,6 +272,9 @@ pub(crate) fn search_rounds<'a, L: Ledger>(
     let mut round = search_round(alloc, work, roots, 1, scratch, steps)?;
     let mut factor: u64 = 1;
     for _ in 1..ROUNDS {
+        if round.left.is_empty() {
+            break;
+        }
         factor = factor.saturating_mul(2);
         let Round {
             work,

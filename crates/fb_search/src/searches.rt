@@ -133,6 +133,9 @@ pub fn search_each_from<'a, L: Ledger>(
     ensures room { IfOk result (λ after. after.1.edge_count ≡ scratch.edge_count) }
     ensures never_falls { steps.old ≤ steps.new }
 {
+    if roots.is_empty() {
+        return Ok((work, scratch));
+    }
     let Round {
         work,
         scratch,
