@@ -39,6 +39,6 @@ invariant_of-search g c =
       searching_rewatched w c.self.invariant.1 c.scope.result.now.graph.now c.scope.result.now.plan.now c.scope.result.now.node
           (ap (λ s. s.graph.now) c.scope.ensures ∙ scope.graph) (ap (λ s. s.plan.now) c.scope.ensures ∙ scope.plan)
           (ap (λ s. s.node) c.scope.ensures ∙ scope.node) c.next_obstacle_by_bounds-obstacle.new.watch
-          c.next_obstacle_by_bounds-obstacle.ensures.room
+          c.next_obstacle_by_bounds-obstacle.ensures.left.room
           c.next_obstacle_by_bounds-obstacle.ensures.watched c.next_obstacle_by_bounds-obstacle.ensures.bounded,
     )
