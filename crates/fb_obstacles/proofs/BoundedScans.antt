@@ -1,8 +1,9 @@
 -- Edges that are passed over since their bounds show that they bear a step, and looks that set bounds.
-use Rattle.std.proofs.Common.{ℕ, ◌≡◌, ◌+◌, ◌-◌, ◌*◌, ◌/◌, ◌≤◌, ◌<◌, ◌⊎◌, inl, inr, Bool, true, List, [], length, get_or, set, drop, All, refl, sym, ap, ◌∙◌, subst, arith}
-use Rattle.std.proofs.lemmas.Bool.{false≢true, cases_eq, cases_lt, leb-true}
+use Rattle.std.proofs.Common.{ℕ, ◌≡◌, ◌+◌, ◌-◌, ◌*◌, ◌/◌, ◌≤◌, ◌<◌, ◌==◌, ◌&&◌, ◌⊎◌, inl, inr, Bool, true, false, not, List, [], length, get_or, set, drop, All, refl, sym, ap, ◌∙◌, subst, arith}
+use Rattle.std.proofs.lemmas.Bool.{and_parts, false≢true, false_from_ne_true, cases_eq, cases_lt, eqb-true, leb-true}
 use Rattle.std.proofs.lemmas.List.{drop_all, get_or-set_same, get_or-set_other, set_past}
 use Rattle.std.proofs.lemmas.List.Elements.{All-nil}
+use Rattle.fb_graph.specs.Parity.{is_in}
 use Rattle.fb_graph.specs.Problem.{Problem, edge_at, no_edge}
 use Rattle.fb_graph.specs.Certificate.{load_of}
 use Rattle.fb_graph.specs.Dual.{Node, IsDual, AreUnderOne, all_cuts}
@@ -17,10 +18,11 @@ use Rattle.fb_obstacles.specs.declared.looking.Look.{Look}
 use Rattle.fb_obstacles.specs.declared.looking.Look.TheVariants.{Clear, Within, Blocked}
 use Rattle.fb_obstacles.specs.Obstacles.{Obstructs, residue_at, roles_by}
 use Rattle.fb_obstacles.specs.Watched.{Watched, AreBounded}
+use Rattle.fb_obstacles.specs.InnerEdges.{LeavesInner}
 use Rattle.fb_obstacles.specs.InternalLooks.{BearsShrinking, BearsStep, LimitsBoth, Limits, both_looks, edge_look, fits_within}
 use Rattle.fb_obstacles.proofs.EdgeLooks.{edge_limits}
 use Rattle.fb_obstacles.proofs.EdgeScans.{IsSeen}
-use Rattle.fb_obstacles.proofs.LookLimits.{limits_before, limits_blocked, limits_passed, limits_same}
+use Rattle.fb_obstacles.proofs.LookLimits.{limits_before, limits_blocked, limits_passed, limits_same, limits_unlimited}
 
 -- an edge bears a step that takes at most half its residue
 residue_bears : (p : Problem) (roles : Roles) (nodes : List Node) (j k : ℕ) → IsDual p nodes → AreRoles roles nodes
@@ -50,13 +52,13 @@ fitting_bound (Within m) residue fits =
 fitting_bound (Blocked o) residue fits = absurd (false≢true fits)
 
 -- what a scan from the last edge to the first knows when it has come to a place: what the minus nodes and the edges from
--- there on allow, and that bounds alone have changed
+-- there on allow, and that the edges before the place stand where they stood
 pub record IsScanned (p : Problem) (role_of : ℕ → Role) (nodes : List Node) (names : List ℕ) (old new : Watched)
     (place : ℕ) (l : Look) : Type 0 where
   pub limits : LimitsBoth p (roles_by role_of) nodes names (drop place old.edges) l
-  pub within : place ≤ length old.edges
-  pub edge_count : new.edge_count ≡ old.edge_count
-  pub edges : new.edges ≡ old.edges
+  pub within : (place ≤ length old.edges) × (place ≤ length new.edges)
+  pub same : (i : ℕ) → i < place → get_or new.edges i 0 ≡ get_or old.edges i 0
+  pub watched : LeavesInner p nodes old new
   pub bounded : AreBounded (residue_at p nodes) new
 
 -- the minus nodes were looked at, and no edge yet
@@ -70,9 +72,9 @@ scanned_none p role_of nodes names w n l all bounded limits = record {
       (λ j. All (BearsShrinking nodes j) names × All (λ k. BearsStep (roles_by role_of) nodes j (edge_at p.edges k)) [])
       (Obstructs p (roles_by role_of) nodes) l
       (λ j h. (h, All-nil (λ k. BearsStep (roles_by role_of) nodes j (edge_at p.edges k)))) (λ j h. h.0) limits);
-  within = omega (arith, all);
-  edge_count = refl;
-  edges = refl;
+  within = (omega (arith, all), omega (arith, all));
+  same = λ i less. refl;
+  watched = record { room = refl; kept = λ k watched apart. watched; none_new = λ k watched. watched };
   bounded = bounded;
 }
 
@@ -83,7 +85,7 @@ pub scanned_passed : (p : Problem) (role_of : ℕ → Role) (nodes : List Node) 
     → IsScanned p role_of nodes names old new (n - 1) l
 scanned_passed p role_of nodes names old new n bound l fits seen scanned some bounded is_fit holds =
     let i : ℕ = n - 1 in
-    let less : i < length old.edges = omega (arith, some, scanned.within) in
+    let less : i < length old.edges = omega (arith, some, scanned.within.0) in
     let next : n ≡ i + 1 = omega (arith, some) in
     let (m, is, half) = fitting_bound l bound (sym is_fit ∙ holds) in
     record {
@@ -92,11 +94,11 @@ scanned_passed p role_of nodes names old new n bound l fits seen scanned some bo
           (Obstructs p (roles_by role_of) nodes) old.edges i m l less is
           (λ j le.
           residue_bears p (roles_by role_of) nodes j (get_or old.edges i 0) seen.dual seen.roles (seen.within i 0 less)
-          (omega (arith, le, half, subst (λ xs. bound ≤ residue_at p nodes (get_or xs i 0)) scanned.edges bounded)))
+          (omega (arith, le, half, subst (λ k. bound ≤ residue_at p nodes k) (scanned.same i (omega (arith, some))) bounded)))
           (subst (λ x. LimitsBoth p (roles_by role_of) nodes names (drop x old.edges) l) next scanned.limits);
-      within = omega (arith, less);
-      edge_count = scanned.edge_count;
-      edges = scanned.edges;
+      within = (omega (arith, less), omega (arith, scanned.within.1));
+      same = λ j before. scanned.same j (omega (arith, before));
+      watched = scanned.watched;
       bounded = scanned.bounded;
     }
 
@@ -119,13 +121,14 @@ bounded_set limit w i x bounded most j less = step (cases_eq j i) (cases_lt i (l
 scanned_set : (p : Problem) (role_of : ℕ → Role) (nodes : List Node) (names : List ℕ) (old w new : Watched) (n i x : ℕ)
     (l : Look) → IsScanned p role_of nodes names old w n l → x ≤ residue_at p nodes (get_or w.edges i 0)
     → new ≡ record w { bounds = set w.bounds i x } → IsScanned p role_of nodes names old new n l
-scanned_set p role_of nodes names old w new n i x l scanned most is = record {
-  limits = scanned.limits;
-  within = scanned.within;
-  edge_count = ap (λ v. v.edge_count) is ∙ scanned.edge_count;
-  edges = ap (λ v. v.edges) is ∙ scanned.edges;
-  bounded = subst (AreBounded (residue_at p nodes)) (sym is) (bounded_set (residue_at p nodes) w i x scanned.bounded most);
-}
+scanned_set p role_of nodes names old w new n i x l scanned most is =
+    subst (λ v. IsScanned p role_of nodes names old v n l) (sym is) (record {
+      limits = scanned.limits;
+      within = scanned.within;
+      same = scanned.same;
+      watched = record { room = scanned.watched.room; kept = scanned.watched.kept; none_new = scanned.watched.none_new };
+      bounded = bounded_set (residue_at p nodes) w i x scanned.bounded most;
+    })
 
 -- the next edge gets its residue as its bound, and is passed over
 pub scanned_bounded : (p : Problem) (role_of : ℕ → Role) (nodes : List Node) (names : List ℕ) (old w new : Watched) (n k x : ℕ)
@@ -133,11 +136,11 @@ pub scanned_bounded : (p : Problem) (role_of : ℕ → Role) (nodes : List Node)
     → k ≡ get_or w.edges (n - 1) 0 → x ≡ residue_at p nodes k → new ≡ record w { bounds = set w.bounds (n - 1) x }
     → fits ≡ fits_within l x → fits ≡ true → IsScanned p role_of nodes names old new (n - 1) l
 scanned_bounded p role_of nodes names old w new n k x l fits seen scanned some at residue is is_fit holds =
-    let here : k ≡ get_or old.edges (n - 1) 0 = at ∙ ap (λ xs. get_or xs (n - 1) 0) scanned.edges in
+    let here : k ≡ get_or old.edges (n - 1) 0 = at ∙ scanned.same (n - 1) (omega (arith, some)) in
     let within : x ≤ residue_at p nodes (get_or w.edges (n - 1) 0) = omega (arith, residue, ap (residue_at p nodes) at) in
     let set : IsScanned p role_of nodes names old new n l = scanned_set p role_of nodes names old w new n (n - 1) x l scanned within is in
     scanned_passed p role_of nodes names old new n x l fits seen set some
-    (subst (λ xs. x ≤ residue_at p nodes (get_or xs (n - 1) 0)) (sym set.edges)
+    (subst (λ m. x ≤ residue_at p nodes m) (sym (set.same (n - 1) (omega (arith, some))))
     (omega (arith, residue, ap (residue_at p nodes) here)))
     is_fit holds
 
@@ -148,10 +151,10 @@ pub scanned_more : (p : Problem) (role_of : ℕ → Role) (nodes : List Node) (n
     → b ≡ edge_look p role_of nodes k → l ≡ both_looks a b → IsScanned p role_of nodes names old new (n - 1) l
 scanned_more p role_of nodes names old w new n k x a b l seen before some is residue changed looked joined =
     let i : ℕ = n - 1 in
-    let less : i < length old.edges = omega (arith, some, before.within) in
+    let less : i < length old.edges = omega (arith, some, before.within.0) in
     let next : n ≡ i + 1 = omega (arith, some) in
     let at : ℕ = get_or old.edges i 0 in
-    let here : k ≡ at = is ∙ ap (λ xs. get_or xs i 0) before.edges in
+    let here : k ≡ at = is ∙ before.same i (omega (arith, some)) in
     let short : at < length p.edges = seen.within i 0 less in
     let (r, parity) = seen.parity in
     let within : x ≤ residue_at p nodes (get_or w.edges i 0) = omega (arith, residue, ap (residue_at p nodes) is) in
@@ -166,10 +169,59 @@ scanned_more p role_of nodes names old w new n k x a b l seen before some is res
           (Limits (λ j. BearsStep (roles_by role_of) nodes j (edge_at p.edges at)) (Obstructs p (roles_by role_of) nodes))
           (sym (looked ∙ ap (edge_look p role_of nodes) here))
           (edge_limits p role_of nodes r at seen.dual seen.roles parity (seen.limits.each_edge at no_edge short).even short)));
-      within = omega (arith, less);
-      edge_count = scanned.edge_count;
-      edges = scanned.edges;
+      within = (omega (arith, less), omega (arith, scanned.within.1));
+      same = λ j before. scanned.same j (omega (arith, before));
+      watched = scanned.watched;
       bounded = scanned.bounded;
+    }
+
+-- edges but for one that is under one node leave the watch no sooner than that one
+leaves_one : (p : Problem) (nodes : List Node) (old w new : Watched) (m : ℕ) → LeavesInner p nodes old w
+    → AreUnderOne nodes (edge_at p.edges m).first (edge_at p.edges m).second → new.edge_count ≡ w.edge_count
+    → ((k : ℕ) → is_in new.edges k ≡ (is_in w.edges k && not (k == m))) → LeavesInner p nodes old new
+leaves_one p nodes old w new m before under room left = record {
+  room = room ∙ before.room;
+  kept = λ k watched apart.
+      left k
+      ∙ and_both (is_in w.edges k) (k == m) (before.kept k watched apart)
+      (false_from_ne_true (k == m)
+      (λ same.
+      apart (subst (λ e. AreUnderOne nodes (edge_at p.edges e).first (edge_at p.edges e).second) (sym (eqb-true k m same)) under)));
+  none_new = λ k watched. before.none_new k (and_parts (is_in w.edges k) (not (k == m)) (sym (left k) ∙ watched)).0;
+}
+  where
+    and_both : (a b : Bool) → a ≡ true → b ≡ false → (a && not b) ≡ true
+    and_both a b holds other = cc
+
+-- the next edge is under one node, and leaves the watch
+pub scanned_left : (p : Problem) (role_of : ℕ → Role) (nodes : List Node) (names : List ℕ) (old w new : Watched) (n k : ℕ)
+    (l : Look) → IsSeen p role_of nodes old.edges → IsScanned p role_of nodes names old w n l → 0 < n
+    → k ≡ get_or w.edges (n - 1) 0 → AreUnderOne nodes (edge_at p.edges k).first (edge_at p.edges k).second
+    → new.edge_count ≡ w.edge_count
+    → ((m : ℕ) → is_in new.edges m ≡ (is_in w.edges m && not (m == get_or w.edges (n - 1) 0)))
+    → ((i : ℕ) → i < n - 1 → get_or new.edges i 0 ≡ get_or w.edges i 0) → length new.edges + 1 ≡ length w.edges
+    → AreBounded (residue_at p nodes) new → IsScanned p role_of nodes names old new (n - 1) l
+scanned_left p role_of nodes names old w new n k l seen scanned some at under room left same fewer bounded =
+    let i : ℕ = n - 1 in
+    let less : i < length old.edges = omega (arith, some, scanned.within.0) in
+    let next : n ≡ i + 1 = omega (arith, some) in
+    let first : ℕ = get_or old.edges i 0 in
+    let short : first < length p.edges = seen.within i 0 less in
+    let here : k ≡ first = at ∙ scanned.same i (omega (arith, some)) in
+    record {
+      limits = limits_unlimited (λ j. All (BearsShrinking nodes j) names)
+          (λ j k. BearsStep (roles_by role_of) nodes j (edge_at p.edges k))
+          (Obstructs p (roles_by role_of) nodes) old.edges i l less
+          (λ j.
+          edge_within_allows p (roles_by role_of) nodes j (edge_at p.edges first) seen.dual seen.roles
+          (seen.dual.packing.fits first no_edge short)
+          (subst (λ m. AreUnderOne nodes (edge_at p.edges m).first (edge_at p.edges m).second) here under))
+          (subst (λ m. LimitsBoth p (roles_by role_of) nodes names (drop m old.edges) l) next scanned.limits);
+      within = (omega (arith, less), omega (arith, fewer, scanned.within.1));
+      same = λ j before. same j before ∙ scanned.same j (omega (arith, before));
+      watched = leaves_one p nodes old w new (get_or w.edges i 0) scanned.watched
+          (subst (λ m. AreUnderOne nodes (edge_at p.edges m).first (edge_at p.edges m).second) at under) room left;
+      bounded = bounded;
     }
 
 -- where there is an obstacle, it doesn't matter which edges were looked at

@@ -12,7 +12,7 @@ use Rattle.fb_graph.specs.Steps.{Roles, MayStep}
 use Rattle.fb_graph.specs.Covers.{AreRoles, HasNoObstacle, is_over, passes}
 use Rattle.fb_graph.specs.declared.parts.Edge.{Edge}
 use Rattle.fb_graph.proofs.Crossings.{exclusive_over, under_or_not}
-use Rattle.fb_graph.proofs.Sets.{is_in-All}
+use Rattle.fb_graph.proofs.Sets.{All-from_is_in, is_in-All}
 use Rattle.fb_laws.specs.Lengths.{HasPlus}
 use Rattle.fb_laws.proofs.StepBounds.{edge_allows, edge_within_allows, no_obstacle_before}
 use Rattle.fb_laws.proofs.StepLengths.{no_length, greatest_step}
@@ -21,6 +21,8 @@ use Rattle.fb_obstacles.specs.declared.obstacle.Obstacle.TheVariants as obstacle
 use Rattle.fb_obstacles.specs.declared.looking.Look.{Look}
 use Rattle.fb_obstacles.specs.declared.looking.Look.TheVariants.{Clear, Within, Blocked}
 use Rattle.fb_obstacles.specs.Obstacles.{CountsLooks, IsFree, IsObstacle, IsTightFrom, IsWatched, ListsMinus, Obstructs}
+use Rattle.fb_obstacles.specs.InnerEdges.{LeavesInner}
+use Rattle.fb_obstacles.specs.Watched.{Watched}
 use Rattle.fb_obstacles.specs.InternalLooks.{BearsShrinking, BearsStep, CountsLooked, Limits, LimitsBoth, both_looks}
 use Rattle.fb_obstacles.proofs.LookLimits.{limits_both, limits_same}
 use Rattle.fb_obstacles.proofs.NodeLooks.{listed_shrinking, named_place, shrinking_listed}
@@ -45,6 +47,15 @@ unwatched_bears p roles nodes watched j k dual are seen less absent = step (unde
           second = λ plus other free. absurd (both_ways (is_in watched k) absent (seen.near k less (inr plus) differs));
           both = λ plus more. absurd (both_ways (is_in watched k) absent (seen.near k less (inl plus) differs));
         })
+
+-- all that has to be watched still is, where only edges under one node have left
+pub watched_without_inner : (p : Problem) (roles : Roles) (nodes : List Node) (old new : Watched) → LeavesInner p nodes old new
+    → IsWatched p roles nodes old.edges → IsWatched p roles nodes new.edges
+watched_without_inner p roles nodes old new leaves seen = record {
+  within = All-from_is_in (λ k. k < length p.edges) new.edges
+      (λ k watched. is_in-All (λ m. m < length p.edges) old.edges seen.within k (leaves.none_new k watched));
+  near = λ k less over apart. leaves.kept k (seen.near k less over apart) apart;
+}
 
 -- the lengths that the minus nodes and the watched edges allow are those by which the tree may step
 pub look_limits : (p : Problem) (roles : Roles) (nodes : List Node) (names watched : List ℕ) (l : Look) → IsDual p nodes

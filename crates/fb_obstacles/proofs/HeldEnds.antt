@@ -1,13 +1,28 @@
 -- Looks at an edge by the nodes that hold its ends.
-use Rattle.std.proofs.Common.{ℕ, ◌≡◌, List, refl, ap, ◌∙◌, arith}
+use Rattle.std.proofs.Common.{ℕ, ◌≡◌, Bool, true, List, Option, Some, None, refl, sym, ap, ◌∙◌, arith}
+use Rattle.std.proofs.lemmas.Bool.{false≢true, eqb-true}
 use Rattle.fb_graph.specs.Problem.{Problem, edge_at}
-use Rattle.fb_graph.specs.Dual.{Node}
+use Rattle.fb_graph.specs.Dual.{AreUnderOne, Node, cover_of}
 use Rattle.fb_graph.specs.declared.parts.Edge.{Edge}
 use Rattle.fb_regions.specs.declared.roles.Role.{Role}
 use Rattle.fb_obstacles.specs.declared.ends.Ends.{Ends}
 use Rattle.fb_obstacles.specs.declared.looking.Look.{Look}
 use Rattle.fb_obstacles.specs.Obstacles.{residue_at}
-use Rattle.fb_obstacles.specs.InternalLooks.{AreEnds, cover_at, edge_look, far_by, far_end, look_if, residue_by}
+use Rattle.fb_obstacles.specs.InnerEdges.{is_one_node}
+use Rattle.fb_obstacles.specs.InternalLooks.{AreEnds, cover_at, edge_look, far_by, far_end, look_if, node_by, residue_by}
+
+-- the names are of one node only where one name is both
+pub same_node : (a b : Option ℕ) → is_one_node a b ≡ true → (name : ℕ) × (a ≡ Some name) × (b ≡ Some name)
+same_node (Some m) (Some n) same = (m, refl, ap (λ x. Some x) (sym (eqb-true m n same)))
+same_node (Some m) None same = absurd (false≢true same)
+same_node None b same = absurd (false≢true same)
+
+-- one outer node is over both ends where one holds both
+pub under_one_by_ends : (nodes : List Node) (e : Edge) (ends : Ends) (inner : Bool) → AreEnds nodes e ends
+    → inner ≡ is_one_node (node_by ends.first) (node_by ends.second) → inner ≡ true → AreUnderOne nodes e.first e.second
+under_one_by_ends nodes e ends inner known is holds =
+    same_node (cover_of nodes e.first) (cover_of nodes e.second)
+    (rw (← known.first.node, ← known.second.node) (sym is ∙ holds))
 
 -- the weight less the potentials of the known ends is the residue of the edge
 pub residue_by_ends : (p : Problem) (nodes : List Node) (k weight x : ℕ) (ends : Ends)

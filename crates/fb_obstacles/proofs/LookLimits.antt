@@ -89,6 +89,15 @@ limits_passed A P S xs i m l less is bears limits =
       λ j h. above j (h.0, (All_drop-split (P j) xs i less h.1).1),
     )
 
+-- one more allows every length
+pub limits_unlimited : (A : ℕ → Type 0) (P : ℕ → ℕ → Type 0) (S : Obstacle → Type 0) (xs : List ℕ) (i : ℕ) (l : Look)
+    → i < length xs → ((j : ℕ) → P j (get_or xs i 0)) → Limits (λ j. A j × All (P j) (drop (i + 1) xs)) S l
+    → Limits (λ j. A j × All (P j) (drop i xs)) S l
+limits_unlimited A P S xs i l less bears limits =
+    limits_same (λ j. A j × All (P j) (drop (i + 1) xs)) (λ j. A j × All (P j) (drop i xs)) S l
+    (λ j h. (h.0, All_drop-front (P j) xs i less (bears j) h.1))
+    (λ j h. (h.0, (All_drop-split (P j) xs i less h.1).1)) limits
+
 -- where an obstacle stands, it doesn't matter what else was looked at
 pub limits_blocked : (A B : ℕ → Type 0) (S : Obstacle → Type 0) (l : Look) (o : Obstacle) → l ≡ Blocked o
     → Limits A S l → Limits B S l

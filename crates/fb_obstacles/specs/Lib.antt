@@ -1,3 +1,4 @@
+pub mod InnerEdges
 pub mod InternalLooks
 pub mod InternalWatch
 pub mod Obstacles

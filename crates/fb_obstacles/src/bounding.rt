@@ -2,6 +2,7 @@ ghost use Rattle.std.specs.Prelude.{◌≡◌, ◌+◌, ◌<◌, ◌≤◌, leng
 ghost use Rattle.fb_graph.specs.Covers.{AreRoles};
 ghost use Rattle.fb_obstacles.specs.Obstacles.{HavePlusParity, ListsMinus, residue_at, roles_by};
 ghost use Rattle.fb_obstacles.specs.Watched.{AreBounded};
+ghost use Rattle.fb_obstacles.specs.InnerEdges.{LeavesInner};
 ghost use Rattle.fb_obstacles.specs.InternalLooks.{LimitsBoth};
 
 use crate::ends::{Ends, keeps_dual};
@@ -13,7 +14,8 @@ use fb_regions::Regions;
 use std::sync::ledger::Ledger;
 
 /// A look at all minus nodes and watched edges, up to the first obstacle. Passes over each edge whose bound shows that it
-/// bears what the others allow, and sets the bound of each edge that it looks at to its residue.
+/// bears what the others allow, and sets the bound of each edge that it looks at to its residue. An edge both of whose ends
+/// one outer node holds never limits the step: where the look finds one, it is watched no longer.
 ///
 /// Goes from the last edge to the first: the last ones have no bound yet, and mostly limit the step.
 pub fn look_by_bounds<S: Scope, R: MinusNodes, L: Ledger>(
@@ -30,7 +32,7 @@ pub fn look_by_bounds<S: Scope, R: MinusNodes, L: Ledger>(
     requires within { All (λ k. k < length (S.problem scope.now).edges) watch.old.edges }
     requires bounded { AreBounded (residue_at (S.problem scope.now) regions.now.nodes) watch.old }
     ensures limits { LimitsBoth (S.problem scope.now) (roles_by (R.role_of roles.now)) regions.now.nodes (R.minus_names roles.now) watch.old.edges result }
-    ensures watched { (watch.new.edge_count ≡ watch.old.edge_count) × (watch.new.edges ≡ watch.old.edges) }
+    ensures watched { LeavesInner (S.problem scope.now) regions.now.nodes watch.old watch.new }
     ensures bounded { AreBounded (residue_at (S.problem scope.now) regions.now.nodes) watch.new }
     ensures looks { (looks.old ≤ looks.new) × (looks.new ≤ looks.old + length watch.old.edges) }
 {
@@ -49,6 +51,10 @@ pub fn look_by_bounds<S: Scope, R: MinusNodes, L: Ledger>(
         looks.tick();
         let edge = watch.edges()[place];
         let ends = Ends::of(edge, regions);
+        if ends.are_under_one() {
+            watch.leave_at(place);
+            continue;
+        }
         let residue = ends.residue(scope.weight(edge));
         watch.set_bound(place, residue);
         if least.fits_within(residue) {

@@ -2,6 +2,7 @@ ghost use Rattle.std.specs.Prelude.{◌≡◌, ◌<◌, length};
 ghost use Rattle.fb_graph.specs.Problem.{edge_at};
 ghost use Rattle.fb_graph.specs.Dual.{IsDual};
 ghost use Rattle.fb_regions.specs.Holders.{potential_by};
+ghost use Rattle.fb_obstacles.specs.InnerEdges.{is_one_node};
 ghost use Rattle.fb_obstacles.specs.InternalLooks.{AreEnds, cover_by, far_by, far_end, node_by, residue_by};
 
 use crate::NodeId;
@@ -57,6 +58,16 @@ impl Ends {
         weight
             .saturating_sub(potential_by(self.first))
             .saturating_sub(potential_by(self.second))
+    }
+
+    /// Whether one outer node holds both ends.
+    pub fn are_under_one(self) -> bool
+        ensures { result ≡ is_one_node (node_by self.first) (node_by self.second) }
+    {
+        match (self.first, self.second) {
+            (Some(first), Some(second)) => first.node == second.node,
+            _ => false,
+        }
     }
 
     /// What a plus node grows towards along the edge.

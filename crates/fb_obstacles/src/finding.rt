@@ -4,6 +4,7 @@ ghost use Rattle.fb_graph.specs.Laws.{HasNoOddClosed};
 ghost use Rattle.fb_graph.specs.Dual.{leaves};
 ghost use Rattle.fb_graph.specs.Covers.{AreRoles};
 ghost use Rattle.fb_laws.specs.Lengths.{HasPlus};
+ghost use Rattle.fb_obstacles.specs.InnerEdges.{LeavesInner};
 ghost use Rattle.fb_obstacles.specs.Obstacles.{CountsLooks, HavePlusParity, IsObstacle, IsWatched, ListsMinus, residue_at, roles_by};
 ghost use Rattle.fb_obstacles.specs.Watched.{AreBounded};
 
@@ -54,7 +55,8 @@ pub fn next_obstacle<S: Scope, R: MinusNodes, L: Ledger>(
 
 /// An obstacle in the way of the tree with these roles, or how far the tree may step, as `next_obstacle` finds it, but
 /// with a look only at those watched edges whose bounds don't show that they bear the step. Sets the bound of each edge
-/// that it looks at to the edge's residue, and counts a look for it.
+/// that it looks at to the edge's residue, and counts a look for it. An edge that is found inside one outer node is watched
+/// no longer.
 pub fn next_obstacle_by_bounds<S: Scope, R: MinusNodes, L: Ledger>(
     watch: &mut Watch,
     scope: &S,
@@ -71,7 +73,8 @@ pub fn next_obstacle_by_bounds<S: Scope, R: MinusNodes, L: Ledger>(
     requires watched { IsWatched (S.problem scope.now) (roles_by (R.role_of roles.now)) regions.now.nodes watch.old.edges }
     requires bounded { AreBounded (residue_at (S.problem scope.now) regions.now.nodes) watch.old }
     ensures obstacle { IsObstacle (S.problem scope.now) (roles_by (R.role_of roles.now)) regions.now.nodes result }
-    ensures watched { (watch.new.edge_count ≡ watch.old.edge_count) × (watch.new.edges ≡ watch.old.edges) }
+    ensures left { LeavesInner (S.problem scope.now) regions.now.nodes watch.old watch.new }
+    ensures watched { IsWatched (S.problem scope.now) (roles_by (R.role_of roles.now)) regions.now.nodes watch.new.edges }
     ensures bounded { AreBounded (residue_at (S.problem scope.now) regions.now.nodes) watch.new }
     ensures looks { (looks.old ≤ looks.new) × (looks.new ≤ looks.old + length watch.old.edges) }
 {

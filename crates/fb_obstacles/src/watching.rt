@@ -104,9 +104,20 @@ impl Watch {
         ensures len { length self.new.edges + as_count (is_in self.old.edges edge) ≡ length self.old.edges }
         ensures bounds { (limit : ℕ → ℕ) → AreBounded limit self.old → AreBounded limit self.new }
     {
-        let Some(place) = self.place_of(edge) else {
-            return;
-        };
+        if let Some(place) = self.place_of(edge) {
+            self.leave_at(place);
+        }
+    }
+
+    /// Watches the edge at this place no longer. The last one takes its place, and those before it keep theirs.
+    pub(crate) fn leave_at(&mut self, place: usize)
+        requires { place < length self.old.edges }
+        ensures count { self.new.edge_count ≡ self.old.edge_count }
+        ensures edges { (e : ℕ) → is_in self.new.edges e ≡ (is_in self.old.edges e && not (e == get_or self.old.edges place 0)) }
+        ensures before { (i : ℕ) → i < place → get_or self.new.edges i 0 ≡ get_or self.old.edges i 0 }
+        ensures len { length self.new.edges + 1 ≡ length self.old.edges }
+        ensures bounds { (limit : ℕ → ℕ) → AreBounded limit self.old → AreBounded limit self.new }
+    {
         self.edges.swap_remove(place);
         self.bounds.swap_remove(place);
         if place < self.edges.len() {

@@ -1,5 +1,5 @@
 -- After the greatest free step an obstacle stands, and the search goes on from there.
-use Rattle.std.proofs.Common.{ℕ, ◌≡◌, ◌+◌, ◌≤◌, true, false, List, ◌∙◌, subst, arith}
+use Rattle.std.proofs.Common.{ℕ, ◌≡◌, ◌+◌, ◌≤◌, true, false, ◌∙◌, subst, arith}
 use Rattle.std.specs.Prelude.{IfOk, Result, Ok, Err}
 use Rattle.fb_graph.specs.Parity.{is_in}
 use Rattle.fb_graph.specs.Problem.{Problem, with_defects}
@@ -12,9 +12,10 @@ use Rattle.fb_laws.proofs.StepLengths.{greatest_bounds}
 use Rattle.fb_obstacles.specs.declared.obstacle.Obstacle.{Obstacle}
 use Rattle.fb_obstacles.specs.declared.obstacle.Obstacle.TheVariants.{Absorb, Boundary, Meet, PlusPair, LayerEmpty, BlossomEmpty, ZeroMinus, Free}
 use Rattle.fb_obstacles.specs.Obstacles.{IsFree, IsObstacle, Obstructs}
+use Rattle.fb_obstacles.specs.Watched.{Watched}
 use Rattle.fb_search.specs.declared.went.Went.{Went}
 use Rattle.fb_search.specs.declared.went.Went.TheVariants.{On, Ended}
-use Rattle.fb_search.specs.Progress.{GoesOn, HasAdvanced, rebounded, stepped_by, to_do}
+use Rattle.fb_search.specs.Progress.{GoesOn, HasAdvanced, IsRewatched, rewatched, stepped_by, to_do}
 use Rattle.fb_search.specs.Searching.{IsSearching, SearchValue, problem_of, roles_in}
 use Rattle.fb_search.specs.Went.{HasCleared, HasWent}
 use Rattle.fb_search.proofs.ExchangedObstacles.{free_exchanged}
@@ -39,20 +40,20 @@ not_free w k j are free again =
     (steps_add p roles w.part.nodes k j (tree_roles w are).exclusive first.greatest.allowed next.greatest.allowed) in
     absurd (omega (arith, most, next.some))
 
-pub obstructs_after : (w after : SearchValue) (k : ℕ) (bounds : List ℕ) (o : Obstacle) → IsSearching w
-    → IsFree (problem_of w) (roles_in w) w.part.nodes k → after ≡ rebounded bounds (stepped_by k w)
+pub obstructs_after : (w after : SearchValue) (k : ℕ) (o : Obstacle) → IsSearching w
+    → IsFree (problem_of w) (roles_in w) w.part.nodes k → IsRewatched (stepped_by k w) after
     → IsObstacle (problem_of after) (roles_in after) after.part.nodes o
     → Obstructs (problem_of after) (roles_in after) after.part.nodes o
-obstructs_after w after k bounds (Free j) are free same is =
+obstructs_after w after k (Free j) are free same is =
     not_free w k j are free
-    (subst (λ s. IsFree (problem_of s) (roles_in s) s.part.nodes j) same is)
-obstructs_after w after k bounds (Absorb e) are free same is = is
-obstructs_after w after k bounds (Boundary e) are free same is = is
-obstructs_after w after k bounds (Meet e) are free same is = is
-obstructs_after w after k bounds (PlusPair e) are free same is = is
-obstructs_after w after k bounds (LayerEmpty n) are free same is = is
-obstructs_after w after k bounds (BlossomEmpty n) are free same is = is
-obstructs_after w after k bounds (ZeroMinus n) are free same is = is
+    (subst (λ s. IsFree (problem_of s) (roles_in s) s.part.nodes j) same.same is)
+obstructs_after w after k (Absorb e) are free same is = is
+obstructs_after w after k (Boundary e) are free same is = is
+obstructs_after w after k (Meet e) are free same is = is
+obstructs_after w after k (PlusPair e) are free same is = is
+obstructs_after w after k (LayerEmpty n) are free same is = is
+obstructs_after w after k (BlossomEmpty n) are free same is = is
+obstructs_after w after k (ZeroMinus n) are free same is = is
 
 advanced_after : (w after : SearchValue) (k : ℕ) → IsSearching w → GoesOn (stepped_by k w) after → HasAdvanced w after
 advanced_after w after k are goes = record {
@@ -81,41 +82,43 @@ went_at_once : (w : SearchValue) (o : Went) → HasCleared w o → HasWent w o
 went_at_once w (On after) goes = advanced_by w after goes
 went_at_once w (Ended part watched) ends = ends
 
--- other bounds of the watched edges change nothing of it
-went_anew : (w : SearchValue) (bounds : List ℕ) (o : Went) → HasWent (rebounded bounds w) o → HasWent w o
-went_anew w bounds (On after) goes = record {
+-- a watch of other edges changes nothing of it
+went_anew : (w : SearchValue) (now : Watched) (o : Went) → now.edge_count ≡ w.watched.edge_count
+    → HasWent (rewatched now w) o → HasWent w o
+went_anew w now (On after) room goes = record {
   part = record { job = goes.part.job; slot = goes.part.slot; node = goes.part.node };
   others = goes.others;
   kept = goes.kept;
   count = goes.count;
   less = goes.less;
 }
-went_anew w bounds (Ended part watched) ends = record { searched = ends.searched; room = ends.room }
+went_anew w now (Ended part watched) room ends = record { searched = ends.searched; room = ends.room ∙ room }
 
-cleared_anew : (w : SearchValue) (bounds : List ℕ) (o : Went) → HasCleared (rebounded bounds w) o → HasCleared w o
-cleared_anew w bounds (On after) goes = record {
+cleared_anew : (w : SearchValue) (now : Watched) (o : Went) → now.edge_count ≡ w.watched.edge_count
+    → HasCleared (rewatched now w) o → HasCleared w o
+cleared_anew w now (On after) room goes = record {
   part = record { job = goes.part.job; slot = goes.part.slot; node = goes.part.node };
   others = goes.others;
   kept = goes.kept;
   count = goes.count;
   less = goes.less;
 }
-cleared_anew w bounds (Ended part watched) ends = record { searched = ends.searched; room = ends.room }
+cleared_anew w now (Ended part watched) room ends = record { searched = ends.searched; room = ends.room ∙ room }
 
 -- an obstacle cleared after a free step
 pub went_after : {E : Type 0} (w now after : SearchValue) (k : ℕ) (r : Result Went E) → IsSearching now
-    → now ≡ rebounded now.watched.bounds w → after ≡ rebounded after.watched.bounds (stepped_by k now)
+    → IsRewatched w now → IsRewatched (stepped_by k now) after
     → IfOk r (HasCleared after) → IfOk r (HasWent w)
 went_after w now after k (Ok o) are same stepped cleared =
-    went_anew w now.watched.bounds o
-    (subst (λ s. HasWent s o) same
+    went_anew w now.watched o same.room
+    (subst (λ s. HasWent s o) same.same
     (went_by now k o are
-    (cleared_anew (stepped_by k now) after.watched.bounds o (subst (λ s. HasCleared s o) stepped cleared))))
+    (cleared_anew (stepped_by k now) after.watched o stepped.room (subst (λ s. HasCleared s o) stepped.same cleared))))
 went_after w now after k (Err e) are same stepped cleared = tt
 
 -- an obstacle cleared at once
-pub went : {E : Type 0} (w now : SearchValue) (r : Result Went E) → now ≡ rebounded now.watched.bounds w
+pub went : {E : Type 0} (w now : SearchValue) (r : Result Went E) → IsRewatched w now
     → IfOk r (HasCleared now) → IfOk r (HasWent w)
 went w now (Ok o) same cleared =
-    went_anew w now.watched.bounds o (subst (λ s. HasWent s o) same (went_at_once now o cleared))
+    went_anew w now.watched o same.room (subst (λ s. HasWent s o) same.same (went_at_once now o cleared))
 went w now (Err e) same cleared = tt

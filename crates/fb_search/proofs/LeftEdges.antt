@@ -1,7 +1,6 @@
 -- The watch after a node takes up a vertex: edges between two vertices of the node leave it.
-use Rattle.std.proofs.Common.{ℕ, ◌≡◌, ◌==◌, ◌+◌, ◌<◌, ◌≤◌, ◌||◌, Bool, true, false, not, List, [], ◌∷◌, ◌++◌, filter, get_or, length, take, Option, Some, None, refl, sym, ap, ◌∙◌, subst, if◌then◌else◌}
+use Rattle.std.proofs.Common.{ℕ, ◌≡◌, ◌==◌, ◌+◌, ◌<◌, ◌≤◌, ◌||◌, Bool, true, false, not, List, [], ◌∷◌, ◌++◌, filter, get_or, length, take, refl, sym, ap, ◌∙◌, subst, if◌then◌else◌}
 use Rattle.std.specs.List.{range_with_len}
-use Rattle.std.proofs.lemmas.Bool.{false≢true, eqb-true}
 use Rattle.std.proofs.lemmas.List.{take_all, take_more}
 use Rattle.fb_graph.specs.Parity.{is_in}
 use Rattle.fb_graph.specs.Problem.{Problem, edge_at, touches}
@@ -11,15 +10,11 @@ use Rattle.fb_graph.specs.declared.parts.Edge.{Edge}
 use Rattle.fb_graph.proofs.Members.{is_in_push}
 use Rattle.fb_graph.proofs.Ranges.{is_in-filter-range}
 use Rattle.fb_half.specs.Parts.{PartValue, problem_in}
+use Rattle.fb_obstacles.specs.InnerEdges.{is_inner}
 use Rattle.fb_obstacles.specs.Watched.{Watched}
+use Rattle.fb_obstacles.proofs.HeldEnds.{same_node}
 use Rattle.fb_plan.specs.Plans.{PlanTree, problem_at}
-use Rattle.fb_search.specs.Watching.{WatchesOuter, WatchesTaken, is_inner, is_one_node}
-
--- two ends are under one node only where one name is over both
-same_node : (a b : Option ℕ) → is_one_node a b ≡ true → (name : ℕ) × (a ≡ Some name) × (b ≡ Some name)
-same_node (Some m) (Some n) same = (m, refl, ap (λ x. Some x) (sym (eqb-true m n same)))
-same_node (Some m) None same = absurd (false≢true same)
-same_node None b same = absurd (false≢true same)
+use Rattle.fb_search.specs.Watching.{WatchesOuter, WatchesTaken}
 
 -- an edge whose ends aren't under one node is not inner
 pub outer_edge : (nodes : List Node) (e : Edge) → ¬ AreUnderOne nodes e.first e.second → is_inner nodes e ≡ false

@@ -20,6 +20,7 @@ use Rattle.fb_half.specs.Translations.{link_by}
 use Rattle.fb_obstacles.specs.declared.obstacle.Obstacle.{Obstacle}
 use Rattle.fb_obstacles.specs.Obstacles.{HavePlusParity, IsObstacle, IsWatched, ListsMinus, residue_at}
 use Rattle.fb_obstacles.specs.Watched.{AreBounded, Watched}
+use Rattle.fb_search.specs.Progress.{rewatched}
 use Rattle.fb_search.specs.Searching.{IsSearching, SearchValue, problem_of, roles_in}
 use Rattle.fb_search.proofs.ExchangedObstacles.{obstacle_exchanged}
 use Rattle.fb_search.proofs.Runs.{tree_roles}
@@ -88,11 +89,11 @@ module _ (w : SearchValue) (are : IsSearching w) where
         obstacle_exchanged (problem_at w.part.job.graph w.part.job.plan w.part.node []) (is_in (shot_of w.part)) (roles_in w)
         w.part.nodes o there
 
-    -- the search with bounds that are right of the same edges
-    pub searching_rebounded : (now : Watched)
-        → (now.edge_count ≡ w.watched.edge_count) × (now.edges ≡ w.watched.edges)
-        → AreBounded (residue_at (problem_at g t n []) w.part.nodes) now → IsSearching (record w { watched = now })
-    searching_rebounded now same bounded = record {
+    -- the search with a watch that is right, of the same edges or of others
+    pub searching_rewatched : (now : Watched) → now.edge_count ≡ w.watched.edge_count
+        → IsWatched (problem_at g t n []) (roles_in w) w.part.nodes now.edges
+        → AreBounded (residue_at (problem_at g t n []) w.part.nodes) now → IsSearching (rewatched now w)
+    searching_rewatched now room watched bounded = record {
       job = are.job;
       slot = are.slot;
       node = are.node;
@@ -100,8 +101,10 @@ module _ (w : SearchValue) (are : IsSearching w) where
       agreed = are.agreed;
       links = are.links;
       matching = are.matching;
-      room = same.0 ∙ are.room;
-      watch = subst (IsWatched (problem_of w) (roles_in w) w.part.nodes) (sym same.1) are.watch;
+      room = room ∙ are.room;
+      watch =
+          let here : IsWatched (problem_at w.part.job.graph t n []) (roles_in w) w.part.nodes now.edges = rw (← eg) watched in
+          record { within = here.within; near = λ k less over apart. here.near k less over apart };
       bounds =
           let here : AreBounded (residue_at (problem_at w.part.job.graph t n []) w.part.nodes) now = rw (← eg) bounded in
           λ i less. here i less;

@@ -59,9 +59,14 @@ stepped_by k w = record w {
   watched = lowered_by k w.watched;
 }
 
--- the search with other bounds of the watched edges
-abbrev pub rebounded : List ℕ → SearchValue → SearchValue
-rebounded bounds w = record w { watched = record w.watched { bounds = bounds } }
+-- the search with other watched edges
+abbrev pub rewatched : Watched → SearchValue → SearchValue
+rewatched watched w = record w { watched = watched }
+
+-- Both are the same search, but for the edges that they watch. The watch has room for the same edges as before.
+pub record IsRewatched (before after : SearchValue) : Type 0 where
+  pub same : after ≡ rewatched after.watched before
+  pub room : after.watched.edge_count ≡ before.watched.edge_count
 
 -- The root is matched, with at most one other unmatched node. The unmatched nodes are some of those before, each as it was.
 pub record IsSearched (root : ℕ) (before after : PartValue) : Type 0 where

@@ -1,9 +1,9 @@
 -- Edges that come under watch. Bounds that are right stay so, whatever limits they keep.
-use Rattle.std.specs.Prelude.{ℕ, ◌≡◌, ◌==◌, ◌<◌, Bool, true, false, not, List, length, Option, Some, None, if◌then◌else◌}
-use Rattle.fb_graph.specs.declared.parts.Edge.{Edge}
+use Rattle.std.specs.Prelude.{ℕ, ◌≡◌, ◌<◌, true, not, List, length, if◌then◌else◌}
 use Rattle.fb_graph.specs.Parity.{is_in}
 use Rattle.fb_graph.specs.Problem.{Problem, edge_at, touches}
-use Rattle.fb_graph.specs.Dual.{Node, cover_of}
+use Rattle.fb_graph.specs.Dual.{Node}
+use Rattle.fb_obstacles.specs.InnerEdges.{is_inner}
 use Rattle.fb_obstacles.specs.Watched.{AreBounded, Watched}
 
 -- The edges are watched, and all that were watched before.
@@ -20,16 +20,6 @@ pub record Watches (p : Problem) (vertices : List ℕ) (old new : Watched) : Typ
   pub near : (v k : ℕ) → is_in vertices v ≡ true → k < length p.edges → touches v (edge_at p.edges k) ≡ true
       → is_in new.edges k ≡ true
   pub bounds : (limit : ℕ → ℕ) → AreBounded limit old → AreBounded limit new
-
--- whether both are the name of one node
-abbrev pub is_one_node : Option ℕ → Option ℕ → Bool
-is_one_node (Some m) (Some n) = m == n
-is_one_node (Some m) None = false
-is_one_node None n = false
-
--- whether one outer node holds both ends of the edge
-abbrev pub is_inner : List Node → Edge → Bool
-is_inner nodes e = is_one_node (cover_of nodes e.first) (cover_of nodes e.second)
 
 -- Of these edges, those are watched whose ends aren't under one outer node; others are watched as before.
 pub record WatchesOuter (p : Problem) (nodes : List Node) (edges : List ℕ) (old new : Watched) : Type 0 where

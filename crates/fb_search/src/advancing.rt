@@ -1,6 +1,6 @@
 ghost use Rattle.std.specs.Prelude.{◌≡◌, IfOk};
 ghost use Rattle.fb_obstacles.specs.Obstacles.{IsObstacle, Obstructs};
-ghost use Rattle.fb_search.specs.Progress.{rebounded};
+ghost use Rattle.fb_search.specs.Progress.{IsRewatched};
 ghost use Rattle.fb_search.specs.Searching.{problem_of, roles_in};
 ghost use Rattle.fb_search.specs.Went.{HasCleared, HasWent};
 
@@ -33,10 +33,11 @@ impl<'a> Searching<'a> {
         }
     }
 
-    /// What stands in the way of the tree, or how far it may step. Raises the bounds of the edges that are looked at.
+    /// What stands in the way of the tree, or how far it may step. Raises the bounds of the edges that are looked at, and
+    /// watches those no longer that it finds inside one outer node.
     pub(crate) fn next<L: Ledger>(self, looks: &mut Steps<L>) -> (Searching<'a>, Obstacle)
         ensures obstacle { IsObstacle (problem_of result.0) (roles_in result.0) result.0.part.nodes result.1 }
-        ensures same { result.0 ≡ rebounded result.0.watched.bounds self.entry }
+        ensures same { IsRewatched self.entry result.0 }
     {
         let Searching {
             parts,

@@ -1,7 +1,8 @@
 ghost use Rattle.std.specs.Prelude.{◌≡◌, ◌<◌, true, [], ◌∷◌, All, OnOk, length};
 ghost use Rattle.fb_graph.specs.Problem.{edge_at};
 ghost use Rattle.fb_graph.specs.Dual.{is_live, top_at};
-ghost use Rattle.fb_search.specs.Watching.{Enters, Watches, WatchesOuter, WatchesTaken, is_inner, is_one_node};
+ghost use Rattle.fb_obstacles.specs.InnerEdges.{is_inner, is_one_node};
+ghost use Rattle.fb_search.specs.Watching.{Enters, Watches, WatchesOuter, WatchesTaken};
 
 use fb_graph::{NoMemory, Scope};
 use fb_obstacles::Watch;

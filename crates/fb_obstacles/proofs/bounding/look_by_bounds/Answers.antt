@@ -3,8 +3,8 @@ use Rattle.fb_graph.specs.Problem.{edge_at}
 use Rattle.fb_graph.specs.Dual.{IsDual}
 use Rattle.fb_obstacles.specs.Obstacles.{residue_at}
 use Rattle.fb_obstacles.specs.InternalLooks.{AreEnds, edge_look}
-use Rattle.fb_obstacles.proofs.BoundedScans.{IsScanned, scanned_all, scanned_blocked, scanned_bounded, scanned_more, scanned_none, scanned_passed}
-use Rattle.fb_obstacles.proofs.HeldEnds.{look_by_ends, residue_by_ends}
+use Rattle.fb_obstacles.proofs.BoundedScans.{IsScanned, scanned_all, scanned_blocked, scanned_bounded, scanned_left, scanned_more, scanned_none, scanned_passed}
+use Rattle.fb_obstacles.proofs.HeldEnds.{look_by_ends, residue_by_ends, under_one_by_ends}
 use Rattle.fb_obstacles.proofs.bounding.look_by_bounds.Goals as goal
 
 pub returns-in-Blocked-clause-limits : goal.returns-in-Blocked-clause-limits
@@ -39,10 +39,36 @@ loop-place-preserved-then-fits_within g c =
             arith,
             c.bound_at.ensures,
             c.loop-place.invariant.scanned.bounded (c.loop-place.place - 1)
-                (omega (arith, ap length c.loop-place.invariant.scanned.edges)),
+                (omega (arith, c.loop-place.invariant.scanned.within.1)),
           ))
           c.fits_within.ensures c.if-fits_within.true;
       never_falls = c.loop-place.invariant.never_falls;
+      counted = omega (arith, c.loop-place.invariant.counted);
+    }
+
+pub loop-place-preserved-then-are_under_one : goal.loop-place-preserved-then-are_under_one
+loop-place-preserved-then-are_under_one g c =
+    let k : ℕ = get_or c.edges.result.now (c.loop-place.place - 1) 0 in
+    let ends : AreEnds c.args.regions.now.nodes (edge_at (g.S.Scope.problem c.args.scope.now).edges k) c.of-ends.result =
+    subst (λ s. AreEnds c.args.regions.now.nodes (edge_at (g.S.Scope.problem s).edges k) c.of-ends.result) c.requires.same c.of-ends.ensures in
+    record {
+      scanned = scanned_left (g.S.Scope.problem c.args.scope.now) (g.R.Roles.role_of c.args.roles.now) c.args.regions.now.nodes (g.R.MinusNodes.minus_names c.args.roles.now) c.args.watch.now c.loop-place.watch c.leave_at.new.self
+          c.loop-place.place k c.loop-place.least
+          (record {
+            dual = subst (λ s. IsDual (g.S.Scope.problem s) c.args.regions.now.nodes) c.requires.same c.keeps_dual.ensures;
+            roles = c.requires.roles;
+            parity = c.requires.parity;
+            limits = c.limits.ensures;
+            within = c.requires.within;
+          })
+          c.loop-place.invariant.scanned c.loop-place-test.true
+          (ap (λ xs. get_or xs (c.loop-place.place - 1) 0) c.edges.ensures)
+          (under_one_by_ends c.args.regions.now.nodes (edge_at (g.S.Scope.problem c.args.scope.now).edges k) c.of-ends.result
+          c.are_under_one.result ends c.are_under_one.ensures c.if-are_under_one.true)
+          c.leave_at.ensures.count c.leave_at.ensures.edges c.leave_at.ensures.before c.leave_at.ensures.len
+          (c.leave_at.ensures.bounds (residue_at (g.S.Scope.problem c.args.scope.now) c.args.regions.now.nodes)
+          c.loop-place.invariant.scanned.bounded);
+      never_falls = omega (arith, c.loop-place.invariant.never_falls);
       counted = omega (arith, c.loop-place.invariant.counted);
     }
 
@@ -132,7 +158,7 @@ returns-in-Blocked-least g c =
     record {
       limits = scanned_blocked (g.S.Scope.problem c.args.scope.now) (g.R.Roles.role_of c.args.roles.now) c.args.regions.now.nodes (g.R.MinusNodes.minus_names c.args.roles.now) c.args.watch.now c.set_bound.new.self (c.loop-place.place - 1)
           c.and-least.result c.in-Blocked-least.field-0 c.in-Blocked-least.is scanned;
-      watched = (scanned.edge_count, scanned.edges);
+      watched = scanned.watched;
       bounded = scanned.bounded;
       looks = (omega (arith, c.loop-place.invariant.never_falls), omega (arith, c.loop-place.invariant.counted));
     }
@@ -141,7 +167,7 @@ pub returns : goal.returns
 returns g c = record {
   limits = scanned_all (g.S.Scope.problem c.args.scope.now) (g.R.Roles.role_of c.args.roles.now) c.args.regions.now.nodes (g.R.MinusNodes.minus_names c.args.roles.now) c.args.watch.now c.loop-place.watch c.loop-place.place c.loop-place.least
       c.loop-place-test.false c.loop-place.invariant.scanned;
-  watched = (c.loop-place.invariant.scanned.edge_count, c.loop-place.invariant.scanned.edges);
+  watched = c.loop-place.invariant.scanned.watched;
   bounded = c.loop-place.invariant.scanned.bounded;
   looks = (c.loop-place.invariant.never_falls, omega (arith, c.loop-place.invariant.counted));
 }

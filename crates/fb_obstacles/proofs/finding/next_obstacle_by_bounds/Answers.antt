@@ -3,7 +3,7 @@ use Rattle.fb_graph.specs.Dual.{IsDual}
 use Rattle.fb_obstacles.specs.Obstacles.{roles_by}
 use Rattle.fb_obstacles.specs.InternalLooks.{LimitsBoth}
 use Rattle.fb_obstacles.specs.declared.looking.Look.TheVariants.{Clear, Within}
-use Rattle.fb_obstacles.proofs.Conclusions.{bound_is_free, found_obstacle, look_limits, some_bound}
+use Rattle.fb_obstacles.proofs.Conclusions.{bound_is_free, found_obstacle, look_limits, some_bound, watched_without_inner}
 use Rattle.fb_obstacles.proofs.finding.next_obstacle_by_bounds.Goals as goal
 
 pub unreachable-requires : goal.unreachable-requires
@@ -24,3 +24,13 @@ pub returns-in-Blocked-clause-obstacle : goal.returns-in-Blocked-clause-obstacle
 returns-in-Blocked-clause-obstacle g c =
     found_obstacle (g.S.Scope.problem c.args.scope.now) (roles_by (g.R.Roles.role_of c.args.roles.now)) c.args.regions.now.nodes c.in-Blocked.obstacle
     (subst (LimitsBoth (g.S.Scope.problem c.args.scope.now) (roles_by (g.R.Roles.role_of c.args.roles.now)) c.args.regions.now.nodes (g.R.MinusNodes.minus_names c.args.roles.now) c.args.watch.now.edges) c.in-Blocked.is c.look_by_bounds.ensures.limits)
+
+pub returns-in-Within-clause-watched : goal.returns-in-Within-clause-watched
+returns-in-Within-clause-watched g c =
+    watched_without_inner (g.S.Scope.problem c.args.scope.now) (roles_by (g.R.Roles.role_of c.args.roles.now)) c.args.regions.now.nodes
+    c.args.watch.now c.look_by_bounds.new.watch c.look_by_bounds.ensures.watched c.requires.watched
+
+pub returns-in-Blocked-clause-watched : goal.returns-in-Blocked-clause-watched
+returns-in-Blocked-clause-watched g c =
+    watched_without_inner (g.S.Scope.problem c.args.scope.now) (roles_by (g.R.Roles.role_of c.args.roles.now)) c.args.regions.now.nodes
+    c.args.watch.now c.look_by_bounds.new.watch c.look_by_bounds.ensures.watched c.requires.watched

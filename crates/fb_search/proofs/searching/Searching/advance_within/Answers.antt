@@ -1,7 +1,7 @@
-use Rattle.std.proofs.Common.{ℕ, ◌∙◌, ap, subst}
+use Rattle.std.proofs.Common.{ℕ, subst}
 use Rattle.std.specs.Prelude.{Ok}
 use Rattle.fb_obstacles.specs.Obstacles.{IsFree, IsObstacle}
-use Rattle.fb_search.specs.Progress.{rebounded}
+use Rattle.fb_search.specs.Progress.{IsRewatched}
 use Rattle.fb_search.specs.Searching.{SearchValue, problem_of, roles_in}
 use Rattle.fb_search.proofs.FreeSteps.{obstructs_after, went, went_after}
 use Rattle.fb_search.proofs.RoundPaces.{even_after, shorter}
@@ -29,8 +29,8 @@ clear-requires g c =
     let after : SearchValue = c.next-stepped.result.0 in
     let free : IsFree (problem_of now) (roles_in now) now.part.nodes c.in-Free.length =
     subst (IsObstacle (problem_of now) (roles_in now) now.part.nodes) c.in-Free.is c.next-search.ensures.obstacle in
-    obstructs_after now after c.in-Free.length after.watched.bounds c.next-stepped.result.1 c.keeps.ensures free
-    (c.next-stepped.ensures.same ∙ ap (rebounded after.watched.bounds) c.step.ensures) c.next-stepped.ensures.obstacle
+    obstructs_after now after c.in-Free.length c.next-stepped.result.1 c.keeps.ensures free
+    (subst (λ s. IsRewatched s after) c.step.ensures c.next-stepped.ensures.same) c.next-stepped.ensures.obstacle
 
 pub returns-in_ok-clear-in-Free : goal.returns-in_ok-clear-in-Free
 returns-in_ok-clear-in-Free g c =
@@ -38,7 +38,7 @@ returns-in_ok-clear-in-Free g c =
     c.with_left.ensures c.args.self
     (went_after {E = ℕ} c.args.self c.next-search.result.0 after c.in-Free.length (Ok c.in_ok-clear-in-Free.field-0)
     c.keeps.ensures c.next-search.ensures.same
-    (c.next-stepped.ensures.same ∙ ap (rebounded after.watched.bounds) c.step.ensures) c.in_ok-clear-in-Free.ensures)
+    (subst (λ s. IsRewatched s after) c.step.ensures c.next-stepped.ensures.same) c.in_ok-clear-in-Free.ensures)
 
 pub returns-in_ok-clear-in_default : goal.returns-in_ok-clear-in_default
 returns-in_ok-clear-in_default g c =

@@ -1,7 +1,7 @@
 use Rattle.std.proofs.Common.{◌∙◌, ap, sym}
 use Rattle.fb_half.specs.Values.{part_of}
 use Rattle.fb_search.specs.Searching.{SearchValue}
-use Rattle.fb_search.proofs.NextObstacles.{next_bounded, next_even, next_is, next_minus, next_parity, next_plus, next_roles, next_watched, searching_rebounded}
+use Rattle.fb_search.proofs.NextObstacles.{next_bounded, next_even, next_is, next_minus, next_parity, next_plus, next_roles, next_watched, searching_rewatched}
 use Rattle.fb_search.proofs.searching.Searching.next.Goals as goal
 
 pub next_obstacle_by_bounds-obstacle-requires : goal.next_obstacle_by_bounds-obstacle-requires
@@ -36,8 +36,9 @@ invariant_of-search g c =
     let w : SearchValue = record { part = part_of c.self.inside.parts; tree = c.self.inside.tree; watched = c.self.inside.watch } in
     let scope = c.self.invariant.0 in (
       scope,
-      searching_rebounded w c.self.invariant.1 c.scope.result.now.graph.now c.scope.result.now.plan.now c.scope.result.now.node
+      searching_rewatched w c.self.invariant.1 c.scope.result.now.graph.now c.scope.result.now.plan.now c.scope.result.now.node
           (ap (λ s. s.graph.now) c.scope.ensures ∙ scope.graph) (ap (λ s. s.plan.now) c.scope.ensures ∙ scope.plan)
           (ap (λ s. s.node) c.scope.ensures ∙ scope.node) c.next_obstacle_by_bounds-obstacle.new.watch
+          c.next_obstacle_by_bounds-obstacle.ensures.left.room
           c.next_obstacle_by_bounds-obstacle.ensures.watched c.next_obstacle_by_bounds-obstacle.ensures.bounded,
     )
