@@ -5,7 +5,7 @@ use Rattle.fb_graph.specs.declared.parts.Edge.{Edge}
 use Rattle.fb_graph.specs.Parity.{is_in}
 use Rattle.fb_graph.specs.Components.{Leads}
 use Rattle.fb_graph.specs.Problem.{Problem, edge_at, touches}
-use Rattle.fb_graph.specs.Dual.{Node, cover_of, is_empty, layers_at, top_at}
+use Rattle.fb_graph.specs.Dual.{Node, all_cuts, cover_of, height_of, is_empty, layers_at, top_at}
 use Rattle.fb_graph.specs.Steps.{Roles}
 use Rattle.fb_laws.specs.Trees.{roles_of}
 use Rattle.fb_obstacles.specs.Obstacles.{residue_of}
@@ -35,6 +35,7 @@ IsTarget p nodes unmatched v (Some name) = IsSingleAt nodes unmatched v name
 pub record IsReach (p : Problem) (nodes : List Node) (v : ℕ) (r : Reach) : Type 0 where
   pub within : r.edge < length p.edges
   pub leads : Leads (edge_at p.edges r.edge) v r.far
+  pub potential : r.far_potential ≡ height_of (all_cuts nodes) r.far
   pub covered : r.other ≡ cover_of nodes r.far
   pub residue : r.length ≡ residue_of nodes (edge_at p.edges r.edge)
 

@@ -19,6 +19,8 @@ pub(crate) struct Reach {
     pub(crate) edge: u32,
     /// The vertex at its other end.
     pub(crate) far: u32,
+    /// This vertex's potential.
+    pub(crate) far_potential: u64,
     /// The outer node that holds this vertex, if any.
     pub(crate) other: Option<NodeId>,
     /// Its residue.
@@ -117,6 +119,7 @@ fn reach_over<S: Scope>(regions: &Regions<S>, v: u32, potential: u64, edge: u32)
     Reach {
         edge,
         far,
+        far_potential,
         other: holder.map(|holder| holder.node),
         length: residue_between(scope, edge, potential, far_potential),
     }
@@ -147,7 +150,7 @@ fn is_nearer(reach: Reach, best: Option<Reach>) -> bool
     }
 }
 
-/// A further edge is the best one.
+/// What was found, where a further edge is the best one.
 fn with_best(around: Around, reach: Reach) -> Around
     ensures { result ≡ with_best around reach }
 {
@@ -161,7 +164,7 @@ fn with_best(around: Around, reach: Reach) -> Around
     }
 }
 
-/// A further edge was looked at.
+/// What was found, with a further edge.
 fn with_reach<S: Scope>(
     regions: &Regions<S>,
     matching: &Matching,
@@ -181,7 +184,7 @@ fn with_reach<S: Scope>(
     }
 }
 
-/// The edges at a single defect.
+/// What one pass over the edges at a single defect finds.
 fn around_vertex<S: Scope>(regions: &Regions<S>, matching: &Matching, v: u32) -> Around
     requires { v < (S.problem regions.now.scope).vertices }
     ensures reach { IfSome result.best (IsReach (S.problem regions.now.scope) regions.now.nodes v) }
@@ -205,14 +208,14 @@ fn around_vertex<S: Scope>(regions: &Regions<S>, matching: &Matching, v: u32) ->
     around
 }
 
-/// The least residue of the edges at a vertex but for those to the far one.
-fn room_beside<S: Scope>(regions: &Regions<S>, v: u32, far: u32) -> u64
+/// The least residue of the edges at a vertex of this potential, but for those to the far one.
+fn room_beside<S: Scope>(regions: &Regions<S>, v: u32, potential: u64, far: u32) -> u64
     requires below { v < (S.problem regions.now.scope).vertices }
     requires apart { v ≢ far }
+    requires potential { potential ≡ height_of (all_cuts regions.now.nodes) v }
     ensures { HasRoom (S.problem regions.now.scope).edges regions.now.nodes v far 0 result }
 {
     let scope = regions.scope();
-    let potential = regions.potential(v);
     let mut room = u64::MAX;
     for edge in scope.edges_at(v) {
         let end = other_end(scope, *edge, v);
@@ -260,7 +263,7 @@ pub(crate) fn near_of<S: Scope>(
             length: reach.length,
         });
     };
-    let other_room = room_beside(regions, reach.far, v);
+    let other_room = room_beside(regions, reach.far, reach.far_potential, v);
     let share = share(reach.length, around.room, other_room)?;
     Some(Near::Pair(NearPair {
         edge: reach.edge,
