@@ -44,6 +44,7 @@ pub mod Matched
 pub mod MetMatches
 pub mod MetOutside
 pub mod MetPairs
+pub mod NearAround
 pub mod NearEdges
 pub mod NearGrowth
 pub mod NearMatches

@@ -1,5 +1,4 @@
--- The edges at a single defect: which of them lead to the boundary or to another single defect, and what room the others
--- leave.
+-- Single defects, the edges at one, and how what is found there makes a way to match it at once.
 use Rattle.std.proofs.Common.{ℕ, ◌≡◌, ◌+◌, ◌-◌, ◌≤◌, ◌<◌, ◌==◌, ◌||◌, ◌⊎◌, inl, inr, not, Bool, cond, true, false, List, [], ◌∷◌, ◌++◌, length, take, filter, get_or, All, Some, None, refl, sym, ap, ◌∙◌, subst, arith, length-append, if◌then◌else◌}
 use Rattle.std.specs.Prelude.{IfSome, Option}
 use Rattle.std.specs.List.{range_with_len}
@@ -19,14 +18,11 @@ use Rattle.fb_graph.proofs.Ranges.{filter-range_below, is_in-filter-range}
 use Rattle.fb_graph.proofs.Sets.{is_in-cases}
 use Rattle.fb_regions.specs.Moves.{BeginsWith, node_named}
 use Rattle.fb_obstacles.specs.Obstacles.{residue_of}
-use Rattle.fb_half.specs.declared.matches.Standing.{Standing}
-use Rattle.fb_half.specs.declared.matches.Standing.TheVariants.{Unmatched}
-use Rattle.fb_half.specs.Standings.{is_unmatched}
 use Rattle.fb_search.specs.declared.near.Near.{Near}
 use Rattle.fb_search.specs.declared.near.Near.TheVariants.{Boundary, Pair}
 use Rattle.fb_search.specs.declared.near.Reach.{Reach}
 use Rattle.fb_search.proofs.TopLayers.{top_real}
-use Rattle.fb_search.specs.InternalNear.{HasRoom, IsNear, IsReach, IsShare, IsSingleAt, IsTarget}
+use Rattle.fb_search.specs.InternalNear.{HasRoom, IsNear, IsReach, IsShare, IsSingleAt, IsTarget, is_single, is_target}
 
 -- a node that joins no others and has one layer has one vertex
 one_below : (below : List Cut) (top : Cut) → length (below ++ top ∷ []) ≡ 1 → length (first_vertices (below ++ top ∷ [])) ≡ 1
@@ -57,40 +53,69 @@ one_named (n ∷ ns) name formed live joins layers =
     step true l j one rest = one_in n (All-head IsFormed n ns formed) j one
     step false l j one rest = rest l j one
 
-only_one : (xs : List ℕ) (v : ℕ) → BeginsWith v xs → length xs ≡ 1 → xs ≡ v ∷ []
-only_one [] v begins one = absurd begins
-only_one (x ∷ []) v begins one = ap (λ u. u ∷ []) begins
-only_one (x ∷ y ∷ ys) v begins one = absurd (omega (arith, one))
+single_is : (b : Bool) (n : ℕ) → (if b then false else (n == 1)) ≡ true → (b ≡ false) × (n ≡ 1)
+single_is true n is = absurd (false≢true is)
+single_is false n is = (refl, eqb-true n 1 is)
+
+single_length : (p : Problem) (nodes : List Node) (name : ℕ) → IsNest p nodes → is_live nodes name ≡ true
+    → is_single nodes name ≡ true → length (top_at nodes name) ≡ 1
+single_length p nodes name nest live single =
+    let (joins, layers) =
+    single_is (not (is_empty (node_named nodes name).children)) (length (layers_at nodes name)) single in
+    one_named nodes name nest.forest.formed live joins layers
+
+begins_one : (xs : List ℕ) (v : ℕ) → BeginsWith v xs → length xs ≡ 1 → xs ≡ v ∷ []
+begins_one [] v begins one = absurd begins
+begins_one (x ∷ []) v begins one = ap (λ u. u ∷ []) begins
+begins_one (x ∷ y ∷ ys) v begins one = absurd (omega (arith, one))
 
 pub single_top : (p : Problem) (nodes : List Node) (name v : ℕ) → IsNest p nodes → is_live nodes name ≡ true
-    → not (is_empty (node_named nodes name).children) ≡ false → length (layers_at nodes name) ≡ 1
-    → BeginsWith v (top_at nodes name) → top_at nodes name ≡ v ∷ []
-single_top p nodes name v nest live joins layers begins =
-    only_one (top_at nodes name) v begins (one_named nodes name nest.forest.formed live joins layers)
+    → is_single nodes name ≡ true → BeginsWith v (top_at nodes name) → top_at nodes name ≡ v ∷ []
+single_top p nodes name v nest live single begins =
+    begins_one (top_at nodes name) v begins (single_length p nodes name nest live single)
 
 -- the node over a vertex
 pub over_live : (nodes : List Node) (v name : ℕ) → cover_of nodes v ≡ Some name → is_live nodes name ≡ true
 over_live nodes v name over =
     let is = cover_among nodes v name over in among_live nodes is.node name is.among is.named
 
-pub single_over : (p : Problem) (nodes : List Node) (unmatched : List ℕ) (v u name : ℕ) (s : Standing) (i : ℕ) → IsNest p nodes
-    → cover_of nodes v ≡ Some name → top_at nodes name ≡ u ∷ [] → is_in unmatched name ≡ is_unmatched s → s ≡ Unmatched i
+holds_one : (xs : List ℕ) (v : ℕ) → is_in xs v ≡ true → length xs ≡ 1 → xs ≡ v ∷ []
+holds_one [] v holds one = absurd (omega (arith, one))
+holds_one (x ∷ []) v holds one = by (is_in-cases x [] v holds)
+  where
+    by : (x ≡ v) ⊎ (is_in [] v ≡ true) → x ∷ [] ≡ v ∷ []
+    by (inl same) = ap (λ u. u ∷ []) same
+    by (inr none) = absurd (false≢true none)
+holds_one (x ∷ y ∷ ys) v holds one = absurd (omega (arith, one))
+
+single_over : (p : Problem) (nodes : List Node) (unmatched : List ℕ) (v name : ℕ) → IsNest p nodes
+    → cover_of nodes v ≡ Some name → is_in unmatched name ≡ true → is_single nodes name ≡ true
     → IsSingleAt nodes unmatched v name
-single_over p nodes unmatched v u name s i nest over top listed is = record {
-  top = top ∙ ap (λ x. x ∷ []) (by (is_in-cases u [] v held));
+single_over p nodes unmatched v name nest over listed single = record {
+  top = holds_one (top_at nodes name) v held (single_length p nodes name nest (over_live nodes v name over) single);
   covered = over;
-  listed = listed ∙ ap is_unmatched is;
+  listed = listed;
 }
   where
-    held : is_in (u ∷ []) v ≡ true
+    held : is_in (top_at nodes name) v ≡ true
     held =
         let o = cover_among nodes v name over in
-        ap (λ l. is_in l v) (sym top ∙ (sym (ap (top_at nodes) o.named) ∙ top_among nodes nest.dual.names o.node o.among))
-        ∙ o.holds
+        ap (λ l. is_in l v) (sym (ap (top_at nodes) o.named) ∙ top_among nodes nest.dual.names o.node o.among) ∙ o.holds
 
-    by : (u ≡ v) ⊎ (is_in [] v ≡ true) → u ≡ v
-    by (inl same) = same
-    by (inr none) = absurd (false≢true none)
+-- what the test of a target says
+pub target_is : (p : Problem) (nodes : List Node) (unmatched : List ℕ) (v : ℕ) (o : Option ℕ) → IsNest p nodes
+    → o ≡ cover_of nodes v → is_target p nodes unmatched v o ≡ true → IsTarget p nodes unmatched v o
+target_is p nodes unmatched v None nest over is = by (p.is_real v) is
+  where
+    by : (b : Bool) → not b ≡ true → b ≡ false
+    by true is = sym is
+    by false is = refl
+target_is p nodes unmatched v (Some name) nest over is = by (is_in unmatched name) refl is
+  where
+    by : (b : Bool) → is_in unmatched name ≡ b → (if b then is_single nodes name else false) ≡ true
+        → IsSingleAt nodes unmatched v name
+    by true listed single = single_over p nodes unmatched v name nest (sym over) listed single
+    by false listed single = absurd (false≢true single)
 
 -- an edge that touches a vertex leads from it to its other end
 pub leads_to_second : (v : ℕ) (e : Edge) → e.first ≡ v → Leads e v e.second
@@ -148,9 +173,26 @@ narrowed : (edges : List Edge) (nodes : List Node) (v far between room growth : 
 narrowed edges nodes v far between room growth le has k less at =
     less_room (touches far (edge_at edges k)) between room growth (residue_of nodes (edge_at edges k)) le (has k less at)
 
+-- the room at the other defect, whose edges to the first one have at least its best edge's residue
+both_rooms : (edges : List Edge) (nodes : List Node) (v far between room other_room : ℕ)
+    → HasRoom edges nodes v far between room → HasRoom edges nodes far v 0 other_room
+    → HasRoom edges nodes far v between other_room
+both_rooms edges nodes v far between room other_room has other k less at =
+    by (touches v (edge_at edges k)) refl (other k less at)
+  where
+    there : (b : Bool) → touches far (edge_at edges k) ≡ true → touches far (edge_at edges k) ≡ b
+        → (if b then between else room) ≤ residue_of nodes (edge_at edges k) → between ≤ residue_of nodes (edge_at edges k)
+    there true at is le = le
+    there false at is le = absurd (false≢true (sym is ∙ at))
+
+    by : (b : Bool) → touches v (edge_at edges k) ≡ b → (if b then 0 else other_room) ≤ residue_of nodes (edge_at edges k)
+        → (if b then between else other_room) ≤ residue_of nodes (edge_at edges k)
+    by true to_v le = there (touches far (edge_at edges k)) at refl (has k less to_v)
+    by false to_v le = le
+
 -- what is found makes a way to match the root
-module _ (p : Problem) (nodes : List Node) (unmatched : List ℕ) (root v : ℕ) (r : Reach)
-    (top : top_at nodes root ≡ v ∷ []) (is : IsReach p nodes unmatched v r) (room : ℕ)
+module _ (p : Problem) (nodes : List Node) (unmatched : List ℕ) (root v : ℕ) (r : Reach) (top : top_at nodes root ≡ v ∷ [])
+    (is : IsReach p nodes v r) (target : IsTarget p nodes unmatched r.far r.other) (room : ℕ)
     (has : HasRoom p.edges nodes v r.far r.length room) where
   pub boundary_is_near : (near : Near) → r.other ≡ None → r.length ≤ room → near ≡ Boundary r.edge r.length
       → IsNear p nodes unmatched root near
@@ -162,17 +204,13 @@ module _ (p : Problem) (nodes : List Node) (unmatched : List ℕ) (root v : ℕ)
         within = is.within;
         leads = is.leads;
         top = top;
-        boundary = at_boundary r.other none is.target;
+        boundary = subst (λ o. IsTarget p nodes unmatched r.far o) none target;
         residue = is.residue;
         room = narrowed p.edges nodes v r.far r.length room r.length within has;
       })
-    where
-      at_boundary : (o : Option ℕ) → o ≡ None → IsTarget p nodes unmatched r.far o → p.is_real r.far ≡ false
-      at_boundary None e target = target
-      at_boundary (Some n) e target = cc
 
   pub pair_is_near : (near : Near) (other share other_room : ℕ) → r.other ≡ Some other
-      → HasRoom p.edges nodes r.far v r.length other_room → IsShare r.length room other_room share
+      → HasRoom p.edges nodes r.far v 0 other_room → IsShare r.length room other_room share
       → near ≡ Pair (record { edge = r.edge; length = r.length - share; other = other; other_length = share })
       → IsNear p nodes unmatched root near
   pair_is_near near other share other_room some more part same =
@@ -183,20 +221,21 @@ module _ (p : Problem) (nodes : List Node) (unmatched : List ℕ) (root v : ℕ)
         within = is.within;
         leads = is.leads;
         top = top;
-        single = subst (λ o. IsTarget p nodes unmatched r.far o) some is.target;
+        single = subst (λ o. IsTarget p nodes unmatched r.far o) some target;
         even = part.even;
         residue = whole ∙ is.residue;
         room = subst (λ n. HasRoom p.edges nodes v r.far n (r.length - share)) (sym whole)
             (narrowed p.edges nodes v r.far r.length room (r.length - share) (omega (arith, part.left)) has);
         other_room = subst (λ n. HasRoom p.edges nodes r.far v n share) (sym whole)
-            (narrowed p.edges nodes r.far v r.length other_room share part.within more);
+            (narrowed p.edges nodes r.far v r.length other_room share part.within
+            (both_rooms p.edges nodes v r.far r.length room other_room has more));
       })
     where
       whole : (r.length - share) + share ≡ r.length
       whole = omega (arith, part.part)
 
   pub pair_found : (result : Option Near) (other other_room : ℕ) → r.other ≡ Some other
-      → HasRoom p.edges nodes r.far v r.length other_room
+      → HasRoom p.edges nodes r.far v 0 other_room
       → IfSome result (λ near. (k : ℕ) × IsShare r.length room other_room k
       × (near ≡ Pair (record { edge = r.edge; length = r.length - k; other = other; other_length = k })))
       → IfSome result (IsNear p nodes unmatched root)

@@ -3,26 +3,37 @@
 
 ghost use Rattle.std.specs.Prelude.{◌≡◌, ◌≢◌, ◌+◌, ◌-◌, ◌<◌, ◌∷◌, [], ◌⊎◌, ℕ, true, IfSome, length};
 ghost use Rattle.fb_graph.specs.Components.{Leads};
-ghost use Rattle.fb_graph.specs.Dual.{all_cuts, height_of, is_live, top_at};
+ghost use Rattle.fb_graph.specs.Dual.{all_cuts, cover_of, height_of, is_live, top_at};
 ghost use Rattle.fb_graph.specs.Parity.{is_in};
 ghost use Rattle.fb_graph.specs.Problem.{edge_at, touches};
-ghost use Rattle.fb_search.specs.InternalNear.{HasRoom, IsNear, IsReach, IsShare, IsSingleAt};
+ghost use Rattle.fb_search.specs.InternalNear.{HasRoom, IsNear, IsReach, IsShare, IsTarget, is_nearer, is_single, is_target, with_best, with_reach};
 
 use fb_graph::Scope;
 use fb_half::{Matching, Standing};
-use fb_regions::{Holder, NodeId, Regions};
+use fb_regions::{NodeId, Regions};
 
-/// An edge at a single defect that leads to the boundary or to another unmatched single defect.
+/// An edge at a single defect, with what it reaches.
 #[derive(Clone, Copy)]
 pub(crate) struct Reach {
     /// Its number.
     pub(crate) edge: u32,
     /// The vertex at its other end.
     pub(crate) far: u32,
-    /// The node of the other defect; none at the boundary.
+    /// This vertex's potential.
+    pub(crate) far_potential: u64,
+    /// The outer node that holds this vertex, if any.
     pub(crate) other: Option<NodeId>,
     /// Its residue.
     pub(crate) length: u64,
+}
+
+/// The edges at a single defect that were looked at.
+#[derive(Clone, Copy)]
+pub(crate) struct Around {
+    /// Of those to the boundary or to another unmatched single defect, one with the least residue.
+    pub(crate) best: Option<Reach>,
+    /// The least residue of the others.
+    pub(crate) room: u64,
 }
 
 /// How a single defect can be matched at once.
@@ -47,33 +58,27 @@ pub(crate) struct NearPair {
     pub(crate) other_length: u64,
 }
 
-/// The vertex of an outer node that is a defect and holds no other vertex.
+/// Whether a node is a defect and holds no other vertex.
+fn is_single<S: Scope>(regions: &Regions<S>, node: NodeId) -> bool
+    requires { is_live regions.now.nodes node ≡ true }
+    ensures { result ≡ is_single regions.now.nodes node }
+{
+    if regions.is_joined(node) {
+        return false;
+    }
+    regions.layer_count(node) == 1
+}
+
+/// The vertex of a node that is a defect and holds no other vertex.
 fn single_vertex<S: Scope>(regions: &Regions<S>, node: NodeId) -> Option<u32>
     requires { is_live regions.now.nodes node ≡ true }
     ensures { IfSome result (λ v. top_at regions.now.nodes node ≡ v ∷ []) }
 {
     regions.keeps();
-    if regions.is_joined(node) {
-        return None;
-    }
-    if regions.layer_count(node) != 1 {
+    if !is_single(regions, node) {
         return None;
     }
     Some(regions.first_vertex(node))
-}
-
-/// The unmatched node that holds this vertex alone, with the vertex's potential.
-fn single_at<S: Scope>(regions: &Regions<S>, matching: &Matching, v: u32) -> Option<Holder>
-    ensures single { IfSome result (λ h. IsSingleAt regions.now.nodes matching.now.unmatched v h.node) }
-    ensures potential { IfSome result (λ h. h.potential ≡ height_of (all_cuts regions.now.nodes) v) }
-{
-    regions.keeps();
-    let holder = regions.holder(v)?;
-    let Standing::Unmatched(_) = matching.standing(holder.node) else {
-        return None;
-    };
-    let _vertex = single_vertex(regions, holder.node)?;
-    Some(holder)
 }
 
 /// The other end of an edge at this vertex.
@@ -97,83 +102,129 @@ fn residue_between<S: Scope>(scope: &S, edge: u32, potential: u64, far_potential
         .saturating_sub(far_potential)
 }
 
-/// The edge at a single defect of this potential, if it leads to the boundary or to another unmatched single defect.
-fn reach_over<S: Scope>(
-    regions: &Regions<S>,
-    matching: &Matching,
-    v: u32,
-    potential: u64,
-    edge: u32,
-) -> Option<Reach>
+/// The edge at a single defect of this potential, with what it reaches.
+fn reach_over<S: Scope>(regions: &Regions<S>, v: u32, potential: u64, edge: u32) -> Reach
     requires within { edge < length (S.problem regions.now.scope).edges }
     requires touches { touches v (edge_at (S.problem regions.now.scope).edges edge) ≡ true }
     requires potential { potential ≡ height_of (all_cuts regions.now.nodes) v }
-    ensures { IfSome result (IsReach (S.problem regions.now.scope) regions.now.nodes matching.now.unmatched v) }
+    ensures edge { result.edge ≡ edge }
+    ensures below { result.far < (S.problem regions.now.scope).vertices }
+    ensures reach { IsReach (S.problem regions.now.scope) regions.now.nodes v result }
 {
     let scope = regions.scope();
     scope.limits();
     let far = other_end(scope, edge, v);
-    if !scope.is_real(far) {
-        return Some(Reach {
-            edge,
-            far,
-            other: None,
-            length: residue_between(scope, edge, potential, regions.potential(far)),
-        });
-    }
-    let other = single_at(regions, matching, far)?;
-    Some(Reach {
+    let holder = regions.holder(far);
+    let far_potential = holder.map_or(0, |holder| holder.potential);
+    Reach {
         edge,
         far,
-        other: Some(other.node),
-        length: residue_between(scope, edge, potential, other.potential),
-    })
-}
-
-/// The one with less residue; the first one where both have the same.
-fn nearer(first: Option<Reach>, second: Option<Reach>) -> Option<Reach>
-    ensures { (result ≡ first) ⊎ (result ≡ second) }
-{
-    match (first, second) {
-        (Some(a), Some(b)) => { if a.length <= b.length { first } else { second } }
-        (None, _) => second,
-        _ => first,
+        far_potential,
+        other: holder.map(|holder| holder.node),
+        length: residue_between(scope, edge, potential, far_potential),
     }
 }
 
-/// Of the edges from a single defect to the boundary or to another unmatched single defect, one with the least residue.
-fn nearest<S: Scope>(regions: &Regions<S>, matching: &Matching, v: u32) -> Option<Reach>
+/// Whether the edge leads to the boundary or to another unmatched single defect.
+fn is_target<S: Scope>(regions: &Regions<S>, matching: &Matching, reach: Reach) -> bool
+    requires below { reach.far < (S.problem regions.now.scope).vertices }
+    requires covered { reach.other ≡ cover_of regions.now.nodes reach.far }
+    ensures { result ≡ is_target (S.problem regions.now.scope) regions.now.nodes matching.now.unmatched reach.far reach.other }
+{
+    let Some(node) = reach.other else {
+        return !regions.scope().is_real(reach.far);
+    };
+    let Standing::Unmatched(_) = matching.standing(node) else {
+        return false;
+    };
+    is_single(regions, node)
+}
+
+/// Whether the edge has less residue than the best one so far.
+fn is_nearer(reach: Reach, best: Option<Reach>) -> bool
+    ensures { result ≡ is_nearer reach best }
+{
+    match best {
+        Some(best) => reach.length < best.length,
+        None => true,
+    }
+}
+
+/// What was found, where a further edge is the best one.
+fn with_best(around: Around, reach: Reach) -> Around
+    ensures { result ≡ with_best around reach }
+{
+    let room = match around.best {
+        Some(best) => around.room.min(best.length),
+        None => around.room,
+    };
+    Around {
+        best: Some(reach),
+        room,
+    }
+}
+
+/// What was found, with a further edge.
+fn with_reach<S: Scope>(
+    regions: &Regions<S>,
+    matching: &Matching,
+    around: Around,
+    reach: Reach,
+) -> Around
+    requires below { reach.far < (S.problem regions.now.scope).vertices }
+    requires covered { reach.other ≡ cover_of regions.now.nodes reach.far }
+    ensures { result ≡ with_reach (S.problem regions.now.scope) regions.now.nodes matching.now.unmatched around reach }
+{
+    if is_nearer(reach, around.best) && is_target(regions, matching, reach) {
+        return with_best(around, reach);
+    }
+    Around {
+        best: around.best,
+        room: around.room.min(reach.length),
+    }
+}
+
+/// What one pass over the edges at a single defect finds.
+fn around_vertex<S: Scope>(regions: &Regions<S>, matching: &Matching, v: u32) -> Around
     requires { v < (S.problem regions.now.scope).vertices }
-    ensures { IfSome result (IsReach (S.problem regions.now.scope) regions.now.nodes matching.now.unmatched v) }
+    ensures reach { IfSome result.best (IsReach (S.problem regions.now.scope) regions.now.nodes v) }
+    ensures target { IfSome result.best
+        (λ r. IsTarget (S.problem regions.now.scope) regions.now.nodes matching.now.unmatched r.far r.other) }
+    ensures room { IfSome result.best
+        (λ r. HasRoom (S.problem regions.now.scope).edges regions.now.nodes v r.far r.length result.room) }
 {
+    regions.keeps();
+    let scope = regions.scope();
+    scope.limits();
     let potential = regions.potential(v);
-    let mut best = None;
-    for edge in regions.scope().edges_at(v) {
-        best = nearer(best, reach_over(regions, matching, v, potential, *edge));
+    let mut around = Around {
+        best: None,
+        room: u64::MAX,
+    };
+    for edge in scope.edges_at(v) {
+        let reach = reach_over(regions, v, potential, *edge);
+        around = with_reach(regions, matching, around, reach);
     }
-    best
+    around
 }
 
-/// The least residue of the edges at a vertex but for those to the far one; none where one of these has less residue than
-/// `between`.
-fn room_beside<S: Scope>(regions: &Regions<S>, v: u32, far: u32, between: u64) -> Option<u64>
+/// The least residue of the edges at a vertex of this potential, but for those to the far one.
+fn room_beside<S: Scope>(regions: &Regions<S>, v: u32, potential: u64, far: u32) -> u64
     requires below { v < (S.problem regions.now.scope).vertices }
     requires apart { v ≢ far }
-    ensures { IfSome result (HasRoom (S.problem regions.now.scope).edges regions.now.nodes v far between) }
+    requires potential { potential ≡ height_of (all_cuts regions.now.nodes) v }
+    ensures { HasRoom (S.problem regions.now.scope).edges regions.now.nodes v far 0 result }
 {
     let scope = regions.scope();
-    let potential = regions.potential(v);
     let mut room = u64::MAX;
     for edge in scope.edges_at(v) {
         let end = other_end(scope, *edge, v);
-        let residue = residue_between(scope, *edge, potential, regions.potential(end));
         if end != far {
+            let residue = residue_between(scope, *edge, potential, regions.potential(end));
             room = room.min(residue);
-        } else if residue < between {
-            return None;
         }
     }
-    Some(room)
+    room
 }
 
 /// How much of the residue of an edge between two single defects the other one takes, about half of it; none where no
@@ -201,10 +252,10 @@ pub(crate) fn near_of<S: Scope>(
     regions.keeps();
     regions.scope().limits();
     let v = single_vertex(regions, root)?;
-    let reach = nearest(regions, matching, v)?;
-    let room = room_beside(regions, v, reach.far, reach.length)?;
+    let around = around_vertex(regions, matching, v);
+    let reach = around.best?;
     let Some(other) = reach.other else {
-        if reach.length > room {
+        if reach.length > around.room {
             return None;
         }
         return Some(Near::Boundary {
@@ -212,8 +263,8 @@ pub(crate) fn near_of<S: Scope>(
             length: reach.length,
         });
     };
-    let other_room = room_beside(regions, reach.far, v, reach.length)?;
-    let share = share(reach.length, room, other_room)?;
+    let other_room = room_beside(regions, reach.far, reach.far_potential, v);
+    let share = share(reach.length, around.room, other_room)?;
     Some(Near::Pair(NearPair {
         edge: reach.edge,
         length: reach.length - share,

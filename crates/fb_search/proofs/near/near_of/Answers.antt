@@ -7,8 +7,8 @@ use Rattle.fb_search.specs.InternalNear.{IsShare}
 use Rattle.fb_search.proofs.NearEdges.{pair_found, vertex_below}
 use Rattle.fb_search.proofs.near.near_of.Goals as goal
 
-pub nearest-requires : goal.nearest-requires
-nearest-requires g c =
+pub around_vertex-around-requires : goal.around_vertex-around-requires
+around_vertex-around-requires g c =
     vertex_below (g.S.Scope.problem c.args.regions.now.scope) c.args.regions.now.nodes c.args.root c.in_ok-v.v c.keeps.ensures.nest
     (rw c.scope.ensures at c.limits.ensures) c.requires c.in_ok-v.ensures
 
@@ -23,9 +23,11 @@ returns g c =
       other_length = share;
     } in
     let found : Option Near = Some (Pair pair) in
-    let is : IfSome found (λ near. (k : ℕ) × IsShare reach.length c.in_ok-room.room c.in_ok-other_room.other_room k
+    let is : IfSome found (λ near. (k : ℕ) × IsShare reach.length c.around_vertex-around.result.room c.room_beside-other_room.result k
     × (near ≡ Pair (record { edge = reach.edge; length = reach.length - k; other = c.in-Some.other; other_length = k }))) =
     (share, c.in_ok-share.ensures, refl) in
     pair_found (g.S.Scope.problem c.args.regions.now.scope) c.args.regions.now.nodes c.args.matching.now.unmatched c.args.root c.in_ok-v.v
-    reach c.in_ok-v.ensures c.in_ok-reach.ensures c.in_ok-room.room c.in_ok-room.ensures found c.in-Some.other
-    c.in_ok-other_room.other_room c.in-Some.is c.in_ok-other_room.ensures is
+    reach c.in_ok-v.ensures (rw c.in_ok-reach.was at c.around_vertex-around.ensures.reach)
+    (rw c.in_ok-reach.was at c.around_vertex-around.ensures.target) c.around_vertex-around.result.room
+    (rw c.in_ok-reach.was at c.around_vertex-around.ensures.room) found c.in-Some.other
+    c.room_beside-other_room.result c.in-Some.is c.room_beside-other_room.ensures is

@@ -18,6 +18,6 @@ residue_between-residue-requires g c =
 
 pub returns : goal.returns
 returns g c =
-    room_of_all (g.S.Scope.problem c.args.regions.now.scope).edges c.args.regions.now.nodes c.args.v c.args.far c.args.between
+    room_of_all (g.S.Scope.problem c.args.regions.now.scope).edges c.args.regions.now.nodes c.args.v c.args.far 0
     c.loop-edge.room c.loop-edge.edge-index c.edges_at-edge-items.result.now
     (rw c.scope-scope.ensures at c.edges_at-edge-items.ensures) c.loop-edge-test.false c.loop-edge.invariant
