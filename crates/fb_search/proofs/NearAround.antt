@@ -44,6 +44,13 @@ leads_between e v f apart at far = by (v == e.first) refl (v == e.second) refl (
     by false is true ib false ic false id at far = absurd (false≢true far)
     by false is false ib c ic d id at far = absurd (false≢true at)
 
+is_in-push : (xs : List ℕ) (y k : ℕ) → is_in (xs ++ y ∷ []) k ≡ true → (y ≡ k) ⊎ (is_in xs k ≡ true)
+is_in-push xs y k within = by (is_in xs k) refl (sym (is_in-append xs (y ∷ []) k) ∙ within)
+  where
+    by : (b : Bool) → is_in xs k ≡ b → (b || is_in (y ∷ []) k) ≡ true → (y ≡ k) ⊎ (is_in xs k ≡ true)
+    by true old within = inr old
+    by false old within = inl (is_in-one y k within)
+
 -- the best edge has at most this residue
 abbrev pub IsAtMost : Option Reach → ℕ → Type 0
 IsAtMost None n = ⊥
@@ -168,14 +175,8 @@ module _ (p : Problem) (nodes : List Node) (unmatched : List ℕ) (v : ℕ) wher
       where
         cases : (k : ℕ) → is_in (take (i + 1) items) k ≡ true → (r.edge ≡ k) ⊎ (is_in (take i items) k ≡ true)
         cases k within =
-            pushed_or_in k (take i items) (ap (λ l. is_in l k) (sym (take_more items i 0 less ∙ ap (λ x. take i items ++ x ∷ []) (sym same))) ∙ within)
-          where
-            pushed_or_in : (k : ℕ) (xs : List ℕ) → is_in (xs ++ r.edge ∷ []) k ≡ true → (r.edge ≡ k) ⊎ (is_in xs k ≡ true)
-            pushed_or_in k xs within = by (is_in xs k) refl (sym (is_in-append xs (r.edge ∷ []) k) ∙ within)
-              where
-                by : (b : Bool) → is_in xs k ≡ b → (b || is_in (r.edge ∷ []) k) ≡ true → (r.edge ≡ k) ⊎ (is_in xs k ≡ true)
-                by true old h = inr old
-                by false old h = inl (is_in-one r.edge k h)
+            let more = take_more items i 0 less ∙ ap (λ x. take i items ++ x ∷ []) (sym same) in
+            is_in-push (take i items) r.edge k (ap (λ l. is_in l k) (sym more) ∙ within)
 
         by : (b : Bool) → is_nearer r a.best ≡ b → (c : Bool) → is_target p nodes unmatched r.far r.other ≡ c
             → IsAround p nodes unmatched v (take (i + 1) items) (with_reach p nodes unmatched a r)

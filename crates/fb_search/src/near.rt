@@ -129,7 +129,8 @@ fn reach_over<S: Scope>(regions: &Regions<S>, v: u32, potential: u64, edge: u32)
 fn is_target<S: Scope>(regions: &Regions<S>, matching: &Matching, reach: Reach) -> bool
     requires below { reach.far < (S.problem regions.now.scope).vertices }
     requires covered { reach.other ≡ cover_of regions.now.nodes reach.far }
-    ensures { result ≡ is_target (S.problem regions.now.scope) regions.now.nodes matching.now.unmatched reach.far reach.other }
+    ensures { result
+        ≡ is_target (S.problem regions.now.scope) regions.now.nodes matching.now.unmatched reach.far reach.other }
 {
     let Some(node) = reach.other else {
         return !regions.scope().is_real(reach.far);
@@ -173,7 +174,8 @@ fn with_reach<S: Scope>(
 ) -> Around
     requires below { reach.far < (S.problem regions.now.scope).vertices }
     requires covered { reach.other ≡ cover_of regions.now.nodes reach.far }
-    ensures { result ≡ with_reach (S.problem regions.now.scope) regions.now.nodes matching.now.unmatched around reach }
+    ensures { result
+        ≡ with_reach (S.problem regions.now.scope) regions.now.nodes matching.now.unmatched around reach }
 {
     if is_nearer(reach, around.best) && is_target(regions, matching, reach) {
         return with_best(around, reach);
