@@ -20,12 +20,9 @@ use fb_graph::{Graph, NoMemory, Row, Shot};
 use fb_inputs::{NoGraph, Outbox, RowsFault, ShotsEnd, read_graph_file, read_named};
 use fb_ports::{Files, ReadError, Sink};
 use fb_shots::{Format, ShotStream, Step};
-use fb_verify::{Judge, Report, ReportFault, read_report};
+use fb_verify::{Judge, MOST_REPORT_BYTES, Report, ReportFault, read_report};
 use fb_words::Checking;
 use std::alloc::Global;
-
-/// The most bytes of a report's text.
-const MOST_REPORT_BYTES: usize = 1 << 30;
 
 /// Why there is no report.
 #[derive(Clone, Copy, Debug, PartialEq, Eq)]

@@ -133,8 +133,9 @@ impl<'a> Piece for Solved<'a> {
     }
 }
 
-/// The room of how many parts a worker keeps. One worker has at most so many at once with a balanced plan of 128 units.
-const MOST_SPARES: usize = 8;
+/// The room of how many parts a worker keeps: more than one worker has at once with a balanced plan of as many units as a plan may
+/// have.
+const MOST_SPARES: usize = 16;
 
 /// The room of a root with more defects isn't kept: emptying it for a small shot would cost as much as it once held.
 const MOST_DEFECTS: u32 = 1_024;

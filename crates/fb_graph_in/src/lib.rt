@@ -8,4 +8,5 @@ mod numbers;
 pub mod reader;
 
 pub use faults::{Member, Place, TextFault};
+pub use numbers::MOST_TEXT_BYTES;
 pub use reader::read_graph;

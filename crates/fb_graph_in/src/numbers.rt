@@ -9,7 +9,8 @@ use crate::faults::{Member, Place, TextFault};
 use serde_json::Value;
 use std::alloc::Global;
 
-const MOST_BYTES: usize = 1 << 28;
+/// The most bytes that the text of a graph or of a plan may have.
+pub const MOST_TEXT_BYTES: usize = 1 << 28;
 
 /// The numbers of a graph, before its rules are judged.
 #[derive(Drop)]
@@ -58,7 +59,7 @@ pub fn read_numbers(alloc: Global, bytes: &[u8]) -> Result<Numbers, TextFault>
     ensures ok { IfOk result (λ n. numbers_of_text bytes.now ≡ Ok (n.vertex_num, n.edges.items, n.virtuals.items)) }
     ensures err { IfErr result (λ e. e ≢ TextFault.NoMemory → numbers_of_text bytes.now ≡ Err e) }
 {
-    if bytes.len() > MOST_BYTES {
+    if bytes.len() > MOST_TEXT_BYTES {
         return Err(TextFault::TooLong);
     }
     match Value::from_slice(alloc, bytes) {

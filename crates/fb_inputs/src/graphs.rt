@@ -5,12 +5,9 @@ ghost use Rattle.fb_ports.specs.Causes.{HasRoom, Rose};
 ghost use Rattle.fb_inputs.specs.Judging.{Asks, AsksFront, Holds, IfRefused, IsGraphText, IsNoGraph};
 
 use fb_graph::Graph;
-use fb_graph_in::{TextFault, read_graph};
+use fb_graph_in::{MOST_TEXT_BYTES, TextFault, read_graph};
 use fb_ports::{Files, ReadError, read_whole};
 use std::alloc::Global;
-
-/// The most bytes of a graph's text.
-const MOST_GRAPH_BYTES: usize = 1 << 28;
 
 /// Why there is no graph.
 #[derive(Clone, Copy, Debug, PartialEq, Eq)]
@@ -64,7 +61,7 @@ pub fn read_graph_file<F: Files>(alloc: Global, files: &mut F, name: &str) -> Re
     ensures seen { F.faults files.old < F.faults files.new → IsErrOf result NoGraph.ReadFault }
     ensures calm { result ≢ Err NoGraph.ReadFault → F.faults files.new ≡ F.faults files.old }
 {
-    match read_named(alloc, files, name, MOST_GRAPH_BYTES) {
+    match read_named(alloc, files, name, MOST_TEXT_BYTES) {
         Ok(text) => match read_graph(alloc, &text) {
             Ok(graph) => Ok(graph),
             Err(TextFault::NoMemory) => Err(NoGraph::NoMemory),

@@ -7,13 +7,11 @@ ghost use Rattle.fb_inputs.specs.Judging.{Asks, AsksFront, Holds, IfPlanRefused,
 
 use crate::graphs::read_named;
 use fb_graph::Graph;
+use fb_graph_in::MOST_TEXT_BYTES;
 use fb_plan::{Plan, PlanFault};
 use fb_plan_in::read_plan;
 use fb_ports::{Files, ReadError};
 use std::alloc::Global;
-
-/// The most bytes of a plan's text.
-const MOST_PLAN_BYTES: usize = 1 << 28;
 
 /// Why there is no plan.
 #[derive(Clone, Copy, Debug, PartialEq, Eq)]
@@ -43,7 +41,7 @@ pub fn read_plan_file<F: Files>(
     ensures seen { F.faults files.old < F.faults files.new → IsErrOf result NoPlan.ReadFault }
     ensures calm { result ≢ Err NoPlan.ReadFault → F.faults files.new ≡ F.faults files.old }
 {
-    match read_named(alloc, files, name, MOST_PLAN_BYTES) {
+    match read_named(alloc, files, name, MOST_TEXT_BYTES) {
         Ok(text) => match read_plan(alloc, &text, graph) {
             Ok(plan) => Ok(plan),
             Err(PlanFault::NoMemory) => Err(NoPlan::NoMemory),

@@ -5,11 +5,10 @@ ghost use Rattle.serde_json.specs.View.{view};
 ghost use Rattle.fb_plan_in.specs.PlanText.{fusion_from, parts_of, parts_of_text};
 
 use crate::entries::{fusions, units};
+use fb_graph_in::MOST_TEXT_BYTES;
 use fb_plan::{Join, Member, Place, PlanFault};
 use serde_json::Value;
 use std::alloc::Global;
-
-const MOST_BYTES: usize = 1 << 28;
 
 /// The ranges of the units and the fusions, before the rules of a plan are judged.
 #[derive(Drop)]
@@ -49,7 +48,7 @@ pub fn read_parts(alloc: Global, bytes: &[u8]) -> Result<Parts, PlanFault>
         ≡ Ok (map (λ u. u.items) p.units.items, map fusion_from p.fusions.items)) }
     ensures err { IfErr result (λ e. e ≢ PlanFault.NoMemory → parts_of_text bytes.now ≡ Err e) }
 {
-    if bytes.len() > MOST_BYTES {
+    if bytes.len() > MOST_TEXT_BYTES {
         return Err(PlanFault::TooLong);
     }
     match Value::from_slice(alloc, bytes) {

@@ -50,7 +50,7 @@ pub enum ReadError {
 }
 
 /// The most bytes that one read asks for.
-const MOST_ASKED: usize = 65_536;
+pub const MOST_ASKED: usize = 65_536;
 
 /// Reads at most `most` bytes of the current file into the front of `chunk`.
 fn read_at_most<F: Files>(files: &mut F, chunk: &mut [u8], most: usize) -> Result<usize, Failed>

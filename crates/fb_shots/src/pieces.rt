@@ -5,12 +5,9 @@ ghost use Rattle.std.specs.Io.KnownBytes.{Consumes, IsAtEnd, Keeps};
 ghost use Rattle.fb_ports.specs.Causes.{HasCause, ReadsAtMost, ReadConsumes};
 
 use crate::answer::NoMemory;
-use fb_ports::{Failed, Files};
+use fb_ports::{Failed, Files, MOST_ASKED};
 use std::alloc::Global;
 use std::marker::Model;
-
-/// The most bytes that one read asks for.
-const MOST_ASKED: usize = 65_536;
 
 /// A piece of a file that was read and is still to be fed to a reader, and the room for it. Contracts see its bytes.
 #[derive(Drop)]

@@ -22,6 +22,6 @@ mod walking;
 pub use checking::{Judge, check_row};
 pub use laws::{reads_as_is, reads_back};
 pub use report_faults::ReportFault;
-pub use report_text::read_report;
+pub use report_text::{MOST_REPORT_BYTES, read_report};
 pub use reports::{Report, RowList, Totals};
 pub use verdicts::Verdict;

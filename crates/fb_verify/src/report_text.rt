@@ -12,7 +12,8 @@ use crate::splitting::split_once;
 use crate::walking::Reading;
 use std::alloc::Global;
 
-const MOST_BYTES: usize = 1 << 30;
+/// The most bytes that a report may have.
+pub const MOST_REPORT_BYTES: usize = 1 << 30;
 
 /// The report that a text is, whoever made it, or the first line that fails. It takes time and memory by the text's
 /// length.
@@ -31,7 +32,7 @@ fn read_text(alloc: Global, bytes: &[u8]) -> Result<Report, ReportFault>
     ensures ok { IfOk result (λ r. report_of_text bytes.now ≡ Ok r) }
     ensures err { IfErr result (λ e. e ≢ NoMemory → report_of_text bytes.now ≡ Err e) }
 {
-    if bytes.len() > MOST_BYTES {
+    if bytes.len() > MOST_REPORT_BYTES {
         return Err(ReportFault::TooLong);
     }
     let mut reading = Reading::new(alloc);
