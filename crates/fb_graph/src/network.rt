@@ -12,8 +12,7 @@ use crate::parts::Edge;
 use std::alloc::Global;
 use std::marker::Model;
 
-/// The most vertices that a graph may have.
-pub const MOST_VERTICES: u64 = 1 << 20;
+const MOST_VERTICES: u64 = 1 << 20;
 
 const MOST_EDGES: usize = 1 << 22;
 
