@@ -15,6 +15,7 @@ pub mod Joined
 pub mod Leaves
 pub mod Linked
 pub mod Linking
+pub mod Listed
 pub mod Listings
 pub mod Lowered
 pub mod Marking
@@ -25,6 +26,7 @@ pub mod MergedPlaces
 pub mod MergedRegions
 pub mod MergedStates
 pub mod Moved
+pub mod NodeLists
 pub mod Opened
 pub mod Paged
 pub mod Parents

@@ -1,7 +1,7 @@
 -- An outer node without its top layer.
 use Rattle.std.proofs.Common.{ℕ, suc, ◌≡◌, ◌-◌, ◌≤◌, ◌==◌, ◌⊎◌, inl, inr, true, false, List, [], ◌∷◌, ◌++◌, length, set, take, get_or, Option, Some, None, refl, sym, ap, ◌∙◌, subst, arith, append_assoc}
 use Rattle.std.specs.List.{All, position}
-use Rattle.std.proofs.lemmas.Bool.{both_ways, cases_eq, eqb-true, false_from_ne_true, or_cases, or_from, or_right}
+use Rattle.std.proofs.lemmas.Bool.{both_ways, cases_eq, eqb-true, false_from_ne_true, or_cases, or_right}
 use Rattle.std.proofs.lemmas.List.{length-append, length-set}
 use Rattle.std.proofs.lemmas.List.Elements.{All-set}
 use Rattle.std.proofs.lemmas.List.Sums.{sum_by_push}
@@ -31,6 +31,7 @@ use Rattle.fb_regions.specs.InternalKept.{BeginsIn, HasMarks, HaveParents, IsKep
 use Rattle.fb_regions.proofs.Begun.{StayBegun, lists_still, set_begun, top_changed}
 use Rattle.fb_regions.proofs.Chains.{length-chain, length-stack, stack_push}
 use Rattle.fb_regions.proofs.Found.{IsFound, found}
+use Rattle.fb_regions.proofs.Listed.{distinct_before}
 use Rattle.fb_regions.proofs.Listings.{begins_left, left_begins, listed_less}
 use Rattle.fb_regions.proofs.Marking.{has_still, mark_new, mark_other, marked_below, node_still, nodes_still}
 use Rattle.fb_regions.proofs.Moved.{covered_in, in_top, marked_moved, some_cover, top_marks}
@@ -51,13 +52,6 @@ lower_push n cs c e =
     ∙ (ap (λ k. record n { below = take k (cs ++ c ∷ []); top = get_or (cs ++ c ∷ []) k n.top }) (omega (arith, length-append cs (c ∷ [])))
     ∙ (ap (λ l. record n { below = l; top = get_or (cs ++ c ∷ []) (length cs) n.top }) (take_front cs c)
     ∙ ap (λ x. record n { below = cs; top = x }) (last_of cs c n.top)))
-
-distinct_last : (xs : List ℕ) (x : ℕ) → AreDistinct (xs ++ x ∷ []) → is_in xs x ≡ false
-distinct_last [] x d = refl
-distinct_last (y ∷ ys) x d =
-    or_from (y == x) (is_in ys x)
-    (false_from_ne_true (y == x) (λ e. both_ways (is_in (ys ++ x ∷ []) y) d.0 (ap (is_in (ys ++ x ∷ [])) (eqb-true y x e) ∙ is_in_pushed ys x)))
-    (distinct_last ys x d.1)
 
 abbrev pub lowered : Mark → Region → Region
 lowered m r = record r { added = r.added - 1; last = m.before; top_value = m.under }
@@ -128,7 +122,7 @@ module _ (p : Problem) (regions : List Region) (marks : List (Option Mark)) (kep
     nest = lowering.nest_uncovered p nodes name may kept.nest
 
     out_own : is_in (node_of marks new).top.vertices x ≡ false
-    out_own = distinct_last (node_of marks new).top.vertices x (subst AreDistinct top_is (top_is_odd p nodes kept.nest (node_of marks old) among).distinct)
+    out_own = distinct_before (node_of marks new).top.vertices [] x (subst AreDistinct top_is (top_is_odd p nodes kept.nest (node_of marks old) among).distinct)
 
     same_outer : (y : ℕ) → is_outer others y ≡ is_outer nodes y
     same_outer y = mapped_outer (change name lower) (lowering.kept p nodes name may kept.nest).children nodes y

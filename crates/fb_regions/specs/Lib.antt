@@ -7,6 +7,7 @@ pub mod InternalNodes
 pub mod InternalPages
 pub mod InternalPlaces
 pub mod InternalSparse
+pub mod Listed
 pub mod Merged
 pub mod Moves
 pub mod Sparse

@@ -1,5 +1,5 @@
-ghost use Rattle.std.specs.Prelude.{◌≡◌, ◌+◌, ◌-◌, ◌<◌, ◌≤◌, ◌==◌, not, true, false, List, [], ◌∷◌, ◌++◌, length, map, filter, get_or, All, IfOk, OnOk, OnErr, IsSome, None};
-ghost use Rattle.std.specs.List.{concat};
+ghost use Rattle.std.specs.Prelude.{◌≡◌, ◌+◌, ◌-◌, ◌<◌, ◌≤◌, ◌==◌, not, true, false, List, [], ◌∷◌, ◌++◌, length, map, filter, get_or, reverse, All, IfOk, OnOk, OnErr, IsSome, None, Some};
+ghost use Rattle.std.specs.List.{concat, last_or};
 ghost use Rattle.fb_graph.specs.Parity.{is_in};
 ghost use Rattle.fb_graph.specs.Problem.{edge_at};
 ghost use Rattle.fb_graph.specs.Certificate.{load_of};
@@ -9,6 +9,7 @@ ghost use Rattle.fb_graph.specs.Printed.{is_positive};
 ghost use Rattle.fb_graph.specs.RenamedNodes.{renamed_nodes};
 ghost use Rattle.fb_links.specs.Names.{name_by};
 ghost use Rattle.fb_regions.specs.Holders.{IsHolder};
+ghost use Rattle.fb_regions.specs.Listed.{back_from, listed_before};
 ghost use Rattle.fb_regions.specs.Merged.{AreNewNames};
 ghost use Rattle.fb_graph.specs.Moves.{MayJoin, MaySplit, MayUncover, joined, split, uncovered};
 ghost use Rattle.fb_graph.specs.Nests.{IsNest};
@@ -563,6 +564,38 @@ impl<S: Scope> Regions<S> {
             unreachable!()
         };
         self.regions[place].first
+    }
+
+    /// The last of the node's vertices. Going back from it by `vertex_before` passes each of them once, in the reverse of the
+    /// order that `vertices` gives, without a copy.
+    pub fn last_vertex(&self, node: NodeId) -> u32
+        requires { is_live self.now.nodes node ≡ true }
+        ensures last { last_or None (top_at self.now.nodes node) ≡ Some result }
+        ensures all { let vertices = top_at self.now.nodes node in
+            back_from vertices (Some result) ≡ reverse vertices }
+    {
+        let Some(place) = place_of(&self.places, node) else {
+            unreachable!()
+        };
+        self.regions[place].last
+    }
+
+    /// Which of the node's vertices is listed before this one; none is before the first. Takes constant time.
+    pub fn vertex_before(&self, node: NodeId, v: u32) -> Option<u32>
+        requires live { is_live self.now.nodes node ≡ true }
+        requires held { is_in (top_at self.now.nodes node) v ≡ true }
+        ensures before { result ≡ last_or None (listed_before (top_at self.now.nodes node) v) }
+        ensures rest { let vertices = top_at self.now.nodes node in
+            back_from vertices (Some v) ≡ v ∷ back_from vertices result }
+    {
+        let Some(place) = place_of(&self.places, node) else {
+            unreachable!()
+        };
+        if v == self.regions[place].first {
+            None
+        } else {
+            Some(self.marks.before(v))
+        }
     }
 
     /// The number of the node's own layers.
