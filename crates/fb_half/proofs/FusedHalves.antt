@@ -1,6 +1,6 @@
 -- The solved parts of a fusion's two children with the seam between them opened keep what each part keeps (Wu and Zhong
 -- 2023).
-use Rattle.std.proofs.Common.{ℕ, ◌≡◌, ◌+◌, ◌<◌, ◌&&◌, ◌||◌, ◌⊎◌, inl, inr, Bool, true, false, if◌then◌else◌, List, [], ◌∷◌, ◌++◌, map, length, get_or, All, Option, Some, None, refl, sym, ap, ◌∙◌, subst, arith}
+use Rattle.std.proofs.Common.{ℕ, ◌≡◌, ◌&&◌, ◌||◌, ◌⊎◌, inl, inr, Bool, true, false, if◌then◌else◌, List, [], ◌∷◌, ◌++◌, map, length, get_or, All, Option, Some, None, refl, sym, ap, ◌∙◌, subst}
 use Rattle.std.specs.List.{filter}
 use Rattle.std.specs.List.Sorted.{IsPermutation}
 use Rattle.std.proofs.lemmas.Bool.{or_left, or_right}
@@ -21,8 +21,7 @@ use Rattle.fb_laws.specs.RenamedStates.{AreCyclesRenamed, renamed_state}
 use Rattle.fb_laws.specs.StateFusions.{merged_cycles, merged_state, seamed_state}
 use Rattle.fb_laws.proofs.RenamedStates.{state_renamed}
 use Rattle.fb_laws.proofs.StateFusions.{state_fused}
-use Rattle.fb_plan.specs.Plans.{children_of, node_count, problem_at}
-use Rattle.fb_plan.proofs.SubProblems.{fusion_of}
+use Rattle.fb_plan.specs.Plans.{children_of, problem_at}
 use Rattle.fb_links.specs.Merged.{AreMerged}
 use Rattle.fb_links.specs.Table.{is_live as is_link}
 use Rattle.fb_blossoms.specs.Merged as merged
@@ -37,7 +36,7 @@ use Rattle.fb_half.proofs.BegunParts.{kept_real, same_function, sprout_real}
 use Rattle.fb_half.proofs.BesideLinks.{link_left, link_right, links_moved, links_same}
 use Rattle.fb_half.proofs.BesideNodes.{ring_left, ring_right}
 use Rattle.fb_half.proofs.FreedMatches.{Table, firsts}
-use Rattle.fb_half.proofs.MergedHalves.{before, beside, links_are, middle, middle_part, name, link, names_apart, names_own, others, p, parts, q, real_covered, same_part, seam_real, seam_unreal, whole, whole_limits}
+use Rattle.fb_half.proofs.MergedHalves.{before, beside, links_are, middle, middle_part, name, link, names_apart, names_own, node_below, others, p, parts, q, real_covered, same_part, seam_real, seam_unreal, whole, whole_limits}
 use Rattle.fb_half.proofs.SeamedLinks.{agreed_seamed, cycles_stay, in_rings, links_seamed, not_own}
 use Rattle.fb_half.proofs.SeamedMatchings.{freed_are, freed_list, freed_names_are, links_split, matching_seamed, rest, rest_elsewhere, taken}
 use Rattle.fb_half.proofs.SproutedLeaves.{Store}
@@ -217,7 +216,7 @@ module _ (left right : PartValue) (n : ℕ) (limits : IsWithinLimits (problem_at
         (record {
           job = one.job;
           slot = one.slot;
-          node = within;
+          node = node_below left right n limits children one two matched also;
           state = subst (IsPartState fused) state_is fused_is;
           agreed = agreed_seamed own w after beside_is opened;
           links = links_seamed own w after beside_is opened
@@ -225,8 +224,3 @@ module _ (left right : PartValue) (n : ℕ) (limits : IsWithinLimits (problem_at
           matching = matching_seamed own w after beside_is opened
               (λ v real. subst (λ x. (x.is_real v ≡ true) ⊎ (owned v ≡ true)) (sym same_problem) (real_covered left right n limits children one two matched also v real));
         })
-      where
-        within : n < node_count left.job.plan
-        within =
-            let (i, less, is, join) = fusion_of left.job.plan n left.node right.node children in
-            omega (arith, less, is)

@@ -81,12 +81,12 @@ filter_same {X} test old (x ∷ xs) same =
     step true rest = ap (λ l. x ∷ l) rest
     step false rest = rest
 
-filter_all : {X : Type 0} (test : X → Bool) (xs : List X) → ((x : X) → IsAmong x xs → test x ≡ true) → filter test xs ≡ xs
+pub filter_all : {X : Type 0} (test : X → Bool) (xs : List X) → ((x : X) → IsAmong x xs → test x ≡ true) → filter test xs ≡ xs
 filter_all test [] all = refl
 filter_all test (x ∷ xs) all =
     ap (λ b. cond b (x ∷ filter test xs) (filter test xs)) (all x (inl refl)) ∙ ap (λ l. x ∷ l) (filter_all test xs (λ y a. all y (inr a)))
 
-filter_none : {X : Type 0} (test : X → Bool) (xs : List X) → ((x : X) → IsAmong x xs → test x ≡ false) → filter test xs ≡ []
+pub filter_none : {X : Type 0} (test : X → Bool) (xs : List X) → ((x : X) → IsAmong x xs → test x ≡ false) → filter test xs ≡ []
 filter_none test [] none = refl
 filter_none test (x ∷ xs) none =
     ap (λ b. cond b (x ∷ filter test xs) (filter test xs)) (none x (inl refl)) ∙ filter_none test xs (λ y a. none y (inr a))

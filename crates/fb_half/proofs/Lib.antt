@@ -13,6 +13,7 @@ pub mod GivenHalves
 pub mod Listings
 pub mod Lookups
 pub mod MergedHalves
+pub mod Reached
 pub mod RenamedMatches
 pub mod SeamOpenings
 pub mod SeamedLinks

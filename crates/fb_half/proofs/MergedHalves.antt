@@ -1,5 +1,5 @@
 -- The solved parts of a fusion's two children beside one another.
-use Rattle.std.proofs.Common.{ℕ, ◌≡◌, ◌≢◌, ◌<◌, ◌==◌, ◌&&◌, ◌||◌, ◌⊎◌, inl, inr, Bool, true, false, List, [], ◌∷◌, ◌++◌, map, flat_map, length, get_or, All, Option, Some, None, is_some, refl, sym, ap, ◌∙◌, subst}
+use Rattle.std.proofs.Common.{ℕ, ◌≡◌, ◌≢◌, ◌<◌, ◌==◌, ◌&&◌, ◌||◌, ◌⊎◌, inl, inr, Bool, true, false, List, [], ◌∷◌, ◌++◌, map, flat_map, length, get_or, All, Option, Some, None, is_some, refl, sym, ap, ◌∙◌, subst, arith}
 use Rattle.std.specs.List.Sorted.{IsPermutation}
 use Rattle.std.proofs.lemmas.Bool.{and_from, and_parts, both_ways, eq-eqb, eqb-true, false≢true, or_cases, or_from, or_left, or_right}
 use Rattle.std.proofs.lemmas.Grind.{flat_map-append}
@@ -20,10 +20,10 @@ use Rattle.fb_graph.proofs.NestParts.{leaf_real}
 use Rattle.fb_graph.proofs.RenamedNodes.{nest_renamed}
 use Rattle.fb_laws.specs.FusedStates.{without_seam}
 use Rattle.fb_laws.specs.Fusion.{IsLinkOf}
-use Rattle.fb_plan.specs.Plans.{IsPlan, JobValue, PlanTree, children_of, owner_of, problem_at}
+use Rattle.fb_plan.specs.Plans.{IsPlan, JobValue, PlanTree, children_of, node_count, owner_of, problem_at}
 use Rattle.fb_plan.specs.Seams.{is_own, is_owner}
 use Rattle.fb_plan.proofs.FusionSeams.{fusion_is_parts, seam_is_apart}
-use Rattle.fb_plan.proofs.SubProblems.{child_is_part, children_are_separated}
+use Rattle.fb_plan.proofs.SubProblems.{child_is_part, children_are_separated, fusion_of}
 use Rattle.fb_links.specs.declared.walk.Step.{Step}
 use Rattle.fb_links.specs.Merged.{AreMerged}
 use Rattle.fb_links.specs.Names.{name_by}
@@ -102,6 +102,11 @@ module _ (left right : PartValue) (n : ℕ) (limits : IsWithinLimits (problem_at
 
   abbrev pub middle : Problem
   middle = without_seam p q whole
+
+  pub node_below : n < node_count left.job.plan
+  node_below =
+      let (i, less, is, join) = fusion_of left.job.plan n left.node right.node children in
+      omega (arith, less, is)
 
   pub parts : AreParts p q whole
   parts = record {
@@ -253,6 +258,7 @@ module _ (left right : PartValue) (n : ℕ) (limits : IsWithinLimits (problem_at
     abbrev pub beside : IsBeside before
     beside = record {
       slot = one.slot;
+      node = node_below;
       real = seam_real;
       problem = middle;
       edges = refl;

@@ -2,7 +2,7 @@
 -- the plan.
 use Rattle.std.proofs.Common.{ℕ, ◌≡◌, ◌≢◌, ◌<◌, ◌&&◌, ◌||◌, ◌⊎◌, inl, inr, not, Bool, true, false, List, [], ◌∷◌, ◌++◌, map, length, get_or, All, Option, Some, None, is_some, unwrap_or, refl, sym, ap, ◌∙◌, subst, arith}
 use Rattle.std.specs.List.{filter}
-use Rattle.std.specs.List.Sorted.{IsPermutation}
+use Rattle.std.specs.List.Sorted.{IsPermutation, IsStrictlyIncreasing}
 use Rattle.std.specs.Option.{IsSome}
 use Rattle.std.proofs.lemmas.Bool.{and_parts, both_ways, eq-eqb, false_from_ne_true, false≢true, or_cases, or_from, or_left, or_right}
 use Rattle.std.proofs.lemmas.Grind.{flat_map-append}
@@ -125,6 +125,9 @@ module _ (w : PartValue) (job : IsJob w.job) (graph : IsGraph w.job.graph) (b : 
 
   shot : IsShot w.job.graph (shot_of w)
   shot = job.shots w.slot [] b.slot
+
+  pub shot_rises : IsStrictlyIncreasing (shot_of w)
+  shot_rises = shot.rising
 
   pub shot_planned : All (λ v. v < length w.job.plan.owners) (shot_of w)
   shot_planned = subst (λ n. All (λ v. v < n) (shot_of w)) (sym owners_are) (shot_below w.job.graph (shot_of w) shot)

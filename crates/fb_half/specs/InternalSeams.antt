@@ -8,7 +8,7 @@ use Rattle.fb_graph.specs.Certificate.{AreDistinct}
 use Rattle.fb_graph.specs.Laws.{Link}
 use Rattle.fb_graph.specs.Dual.{Node}
 use Rattle.fb_graph.specs.Nests.{IsNest}
-use Rattle.fb_plan.specs.Plans.{PlanTree}
+use Rattle.fb_plan.specs.Plans.{node_count}
 use Rattle.fb_links.specs.declared.walk.Step.{Step}
 use Rattle.fb_links.specs.Table.{link_at}
 use Rattle.fb_blossoms.specs.Nodes as blossoms
@@ -40,6 +40,7 @@ pub record IsSprouted (names done : List ℕ) (nodes new_nodes : List Node) (sto
 -- Two children's parts beside one another, as a part of a problem in which no vertex of the seam is real.
 pub record IsBeside (w : PartValue) : Type 0 where
   pub slot : w.slot < length w.job.shots
+  pub node : w.node < node_count w.job.plan
   -- the seam is real in the part's own problem
   pub real : (v : ℕ) → is_owned_by w.job.plan w.node v ≡ true → (problem_in w).is_real v ≡ true
   pub problem : Problem

@@ -2,10 +2,11 @@
 
 ghost use Rattle.std.specs.Prelude.{◌≡◌, ◌≢◌, ◌<◌, ◌++◌, ℕ, true, false, nat_eq, length, map, filter, drop, All, IfOk, OnOk, Some, None, []};
 ghost use Rattle.std.specs.HashMap.{get};
+ghost use Rattle.std.specs.List.Sorted.{IsStrictlyIncreasing};
 ghost use Rattle.fb_graph.specs.Certificate.{AreDistinct};
 ghost use Rattle.fb_graph.specs.Dual.{cover_of, is_live as is_node};
 ghost use Rattle.fb_graph.specs.Parity.{is_in};
-ghost use Rattle.fb_plan.specs.Plans.{problem_at};
+ghost use Rattle.fb_plan.specs.Plans.{node_count, problem_at};
 ghost use Rattle.fb_links.specs.Names.{name_by, named_by};
 ghost use Rattle.fb_links.specs.Table.{is_live};
 ghost use Rattle.fb_blossoms.specs.Nodes as blossoms;
@@ -18,7 +19,7 @@ ghost use Rattle.fb_half.specs.Values.{HasScope, part_of};
 use crate::matches::Match;
 use crate::matching::Matching;
 use crate::parts::Parts;
-use crate::start::add_leaf;
+use crate::start::{add_leaf, within};
 use fb_blossoms::Blossoms;
 use fb_graph::NoMemory;
 use fb_links::names::{Names, names_of, renamed, renamed_parent};
@@ -121,18 +122,21 @@ fn free_nodes(
     Ok(())
 }
 
-/// The defects that the node of the plan owns, in their order.
+/// The defects that the node of the plan owns, in their order. Passes over those within the node's reach alone.
 fn seam_defects(
     alloc: Global,
     plan: &Plan,
     node: u32,
     defects: &[u32],
 ) -> Result<Vec<u32>, NoMemory>
-    requires { All (λ v. v < length plan.now.owners) defects.now }
+    requires node { node < node_count plan.now }
+    requires rising { IsStrictlyIncreasing defects.now }
+    requires vertices { All (λ v. v < length plan.now.owners) defects.now }
     ensures { IfOk result (λ own. own.items ≡ filter (is_owned_by plan.now node) defects.now) }
 {
+    let reached = within(defects, plan.reach(node));
     let mut own = Vec::new(alloc);
-    for v in defects {
+    for v in reached {
         if plan.owner(*v) == Some(node) {
             own.push(*v)?;
         }

@@ -140,7 +140,7 @@ impl<'a> Work<'a> {
 
     /// A unit's part before any search: each defect of the shot at a vertex of the unit is a node of radius 0, and none is
     /// matched. Only a unit can begin: the part of a fusion is made of its children's. Takes time for each defect of the
-    /// shot and for each 512 vertices of the graph.
+    /// shot within the unit's reach, for the logarithm of all, and for each 512 vertices of the graph.
     pub fn begin(
         alloc: Global,
         job: &'a Job<'a>,
@@ -155,7 +155,7 @@ impl<'a> Work<'a> {
     }
 
     /// The same in the room of a part that is no longer used, if there is one. With the room of a part of the same graph it
-    /// takes time for each defect of the shot alone.
+    /// takes no time for the graph's vertices.
     pub fn begin_on(
         alloc: Global,
         job: &'a Job<'a>,
@@ -183,7 +183,8 @@ impl<'a> Work<'a> {
     /// The part of a fusion, made of its children's solved parts (Wu and Zhong 2023): all their cuts, and all their links
     /// but those of matches to vertices that the fusion owns. The nodes of these matches and the defects that the fusion
     /// owns are unmatched: first the left part's nodes, then the right part's, then the defects in rising order. Takes time
-    /// for the right part, for the matches of both, and for each defect of the shot.
+    /// for the right part, for the matches of both, for each defect of the shot within the fusion's reach, and for the
+    /// logarithm of all.
     pub fn merge(
         alloc: Global,
         job: &'a Job<'a>,

@@ -5,6 +5,7 @@ pub mod Growth
 pub mod Leasts
 pub mod Ownership
 pub mod Queries
+pub mod Reaches
 pub mod Roots
 pub mod Spans
 pub mod Stages

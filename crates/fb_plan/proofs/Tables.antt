@@ -13,7 +13,9 @@ use Rattle.fb_graph.proofs.Members.{AreDistinct_push, is_in-append}
 use Rattle.fb_graph.proofs.Sets.{distinct_from_rising, is_in-head, is_in-range, is_in-tail, length-le_from_within, range_rises}
 use Rattle.fb_plan.specs.Plans.{PlanTree, IsTree, is_within, join_at, names, node_count, parent_from, parent_of, subtrees}
 use Rattle.fb_plan.specs.Layout.{IsLaidOut, IsPlaced, IsPlacedFrom, size_of, span_at, tree_of}
+use Rattle.fb_plan.specs.Reaches.{IsReach, reach_at}
 use Rattle.fb_plan.specs.declared.parts.Span.{Span}
+use Rattle.fb_plan.specs.declared.reach.Reach.{Reach}
 use Rattle.fb_plan.proofs.Trees.{names_left, names_right, siblings_apart, sub_at, subtree_of_fusion, subtree_of_unit, within-le}
 use Rattle.fb_plan.proofs.Roots.{parent_cases}
 use Rattle.fb_plan.proofs.Spans.{size_of_fusion, size_of_unit, within_as_spans}
@@ -326,7 +328,8 @@ one_unit = record {
 }
 
 -- the tables of a tree as it was read
-pub laid_out : (units : ℕ) (joins seen : List (ℕ × ℕ)) (owners parents : List (Option ℕ)) (spans : List Span) → seen ≡ joins
+pub laid_out : (units : ℕ) (joins seen : List (ℕ × ℕ)) (owners parents : List (Option ℕ)) (spans : List Span) (reaches : List Reach)
+    → seen ≡ joins
     → IsTree (tree_of units joins)
     → ((v n : ℕ) → get_or owners v None ≡ Some n → n < units + length joins)
     → length owners ≤ most_vertices
@@ -334,8 +337,10 @@ pub laid_out : (units : ℕ) (joins seen : List (ℕ × ℕ)) (owners parents : 
     → ((n : ℕ) → n < units + length seen → get_or parents n None ≡ parent_of (tree_of units seen) n)
     → length spans ≡ units + length seen
     → IsPlaced (tree_of units seen) spans
-    → IsLaidOut (record { units = units; joins = joins; owners = owners }) parents spans
-laid_out units joins seen owners parents spans same tree below count parent_count each_parent span_count placed = record {
+    → length reaches ≡ units + length seen
+    → ((n : ℕ) → n < units + length seen → IsReach owners n (reach_at reaches n))
+    → IsLaidOut (record { units = units; joins = joins; owners = owners }) parents spans reaches
+laid_out units joins seen owners parents spans reaches same tree below count parent_count each_parent span_count placed reach_count each_reach = record {
   tree = tree_with_owners (tree_of units joins) owners tree;
   owners = below;
   owner_count = count;
@@ -344,4 +349,6 @@ laid_out units joins seen owners parents spans same tree below count parent_coun
   span_count = subst (λ js. length spans ≡ units + length js) same span_count;
   each_span = λ n m node_n node_m. within_as_spans (tree_of units joins) spans tree
       (subst (λ js. IsPlaced (tree_of units js) spans) same placed) n m node_n node_m;
+  reach_count = subst (λ js. length reaches ≡ units + length js) same reach_count;
+  each_reach = subst (λ js. (n : ℕ) → n < units + length js → IsReach owners n (reach_at reaches n)) same each_reach;
 }

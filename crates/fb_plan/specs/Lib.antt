@@ -2,5 +2,6 @@ pub mod Laws
 pub mod Layout
 pub mod Loads
 pub mod Plans
+pub mod Reaches
 pub mod Rules
 pub mod Seams

@@ -11,6 +11,7 @@ mod loads;
 mod owners;
 pub mod parts;
 pub mod plan;
+pub mod reach;
 pub mod scope;
 mod tree;
 
@@ -19,4 +20,5 @@ pub use job::Job;
 pub use laws::{children_apart, one_root, seam_apart, sub_problems, subtrees};
 pub use parts::Join;
 pub use plan::Plan;
+pub use reach::Reach;
 pub use scope::NodeScope;

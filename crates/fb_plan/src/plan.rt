@@ -4,6 +4,7 @@ ghost use Rattle.fb_graph.specs.Limits.{DecodingGraph, is_real_in, most_vertices
 ghost use Rattle.fb_plan.specs.Plans.{IsPlan, IsTree, children_of, is_owned_in, is_pending, is_within, node_count, owner_of, parent_of, root_of, single_of};
 ghost use Rattle.fb_plan.specs.Layout.{tree_of};
 ghost use Rattle.fb_plan.specs.Loads.{IsClaim};
+ghost use Rattle.fb_plan.specs.Reaches.{IsReach};
 ghost use Rattle.fb_plan.specs.Rules.{holds, joins_of, owner_in, plan_from};
 
 use crate::claims::gather;
@@ -12,6 +13,7 @@ use crate::judging::{first_across, judge_cover, judge_fusions};
 use crate::loads::{Measure, loads};
 use crate::owners::{owned_by, owned_by_one, pairs_of};
 use crate::parts::{Claim, Join, Span};
+use crate::reach::{Reach, reaches_of};
 use crate::tree::{parents_of, spans_of};
 use fb_graph::{Graph, NoMemory};
 use std::alloc::Global;
@@ -29,6 +31,7 @@ pub struct Plan {
     owners: Vec<Option<u32>>,
     parents: Vec<Option<u32>>,
     spans: Vec<Span>,
+    reaches: Vec<Reach>,
 }
 
 impl Model for Plan {
@@ -40,7 +43,7 @@ impl Model for Plan {
     ghost view = { λ p. record { units = p.units; joins = p.joins.items; owners = p.owners.items } };
 
     ghost invariant = { λ p. IsLaidOut (record { units = p.units; joins = p.joins.items; owners = p.owners.items })
-        p.parents.items p.spans.items };
+        p.parents.items p.spans.items p.reaches.items };
 }
 
 impl Plan {
@@ -134,12 +137,15 @@ impl Plan {
             return Err(NoMemory);
         };
         let spans = spans_of(alloc, units, fusions)?;
+        let nodes = units as usize + fusions.len();
+        let reaches = reaches_of(alloc, nodes, owners.as_slice())?;
         Ok(Plan {
             units,
             joins,
             owners,
             parents,
             spans,
+            reaches,
         })
     }
 
@@ -196,6 +202,14 @@ impl Plan {
         ensures node { IfSome result (λ n. n < node_count self.now) }
     {
         self.owners[v as usize]
+    }
+
+    /// Where the vertices lie that the node owns itself. Takes constant time.
+    pub fn reach(&self, node: u32) -> Reach
+        requires { node < node_count self.now }
+        ensures { IsReach self.now.owners node result }
+    {
+        self.reaches[node as usize]
     }
 
     /// Whether a vertex is real and its owner lies outside the node's subtree.

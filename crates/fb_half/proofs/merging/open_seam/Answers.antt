@@ -1,15 +1,16 @@
 use Rattle.std.proofs.Common.{◌≡◌, ◌≢◌, ◌<◌, ◌∙◌, ℕ, true, [], List, None, Some, length, All, sym, ap, subst}
 use Rattle.std.specs.List.{filter}
+use Rattle.std.specs.List.Sorted.{IsStrictlyIncreasing}
 use Rattle.fb_graph.specs.Certificate.{AreDistinct}
 use Rattle.fb_graph.specs.Dual.{cover_of}
 use Rattle.fb_graph.specs.Limits.{IsGraph}
-use Rattle.fb_plan.specs.Plans.{problem_at}
+use Rattle.fb_plan.specs.Plans.{node_count, problem_at}
 use Rattle.fb_blossoms.specs.Nodes as blossoms
 use Rattle.fb_half.specs.Merged.{IsPlanned, is_owned_by}
 use Rattle.fb_half.specs.Translations.{link_by}
 use Rattle.fb_half.specs.Values.{part_of}
 use Rattle.fb_half.proofs.BegunParts.{shot_read}
-use Rattle.fb_half.proofs.SeamOpenings.{freed_unlisted, live_matches, own_links, planned, seam_bare, seam_distinct, seam_leafless, seam_read, seam_real, shot_planned}
+use Rattle.fb_half.proofs.SeamOpenings.{freed_unlisted, live_matches, own_links, planned, seam_bare, seam_distinct, seam_leafless, seam_read, seam_real, shot_planned, shot_rises}
 use Rattle.fb_half.proofs.merging.open_seam.Goals as goal
 
 pub free_nodes-requires-clause-links : goal.free_nodes-requires-clause-links
@@ -23,8 +24,17 @@ free_nodes-requires-clause-ends c =
     subst (λ t. All (λ m. IsPlanned t (link_by c.args.parts.links m.link)) c.args.parts.matching.matches) (sym c.plan-plan.ensures)
     (planned (part_of c.args.parts) c.keeps.ensures (subst IsGraph c.graph.ensures c.limits.ensures) c.requires.beside c.keeps-2.ensures)
 
-pub seam_defects-requires : goal.seam_defects-requires
-seam_defects-requires c =
+pub seam_defects-requires-clause-node : goal.seam_defects-requires-clause-node
+seam_defects-requires-clause-node c = subst (λ t. c.args.parts.node < node_count t) (sym c.plan-plan.ensures) c.requires.beside.node
+
+pub seam_defects-requires-clause-rising : goal.seam_defects-requires-clause-rising
+seam_defects-requires-clause-rising c =
+    subst IsStrictlyIncreasing
+    (sym (shot_read c.args.parts.job.now c.args.parts.slot _ _ _ c.shots.ensures c.requires.beside.slot c.index-shots-slot.is c.as_slice.ensures.defects))
+    (shot_rises (part_of c.args.parts) c.keeps.ensures (subst IsGraph c.graph.ensures c.limits.ensures) c.requires.beside)
+
+pub seam_defects-requires-clause-vertices : goal.seam_defects-requires-clause-vertices
+seam_defects-requires-clause-vertices c =
     subst (λ t. All (λ v. v < length t.owners) c.as_slice.result.now) (sym c.plan-plan.ensures)
     (subst (All (λ v. v < length c.args.parts.job.now.plan.owners))
     (sym (shot_read c.args.parts.job.now c.args.parts.slot _ _ _ c.shots.ensures c.requires.beside.slot c.index-shots-slot.is c.as_slice.ensures.defects))

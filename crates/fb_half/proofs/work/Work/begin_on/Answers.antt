@@ -1,12 +1,22 @@
 use Rattle.std.proofs.Common.{◌≡◌, ◌<◌, ◌∙◌, true, [], All, sym, ap, subst, arith}
+use Rattle.std.specs.List.Sorted.{IsStrictlyIncreasing}
 use Rattle.fb_graph.specs.Certificate.{AreDistinct}
 use Rattle.fb_plan.specs.Plans.{problem_at}
 use Rattle.fb_half.specs.Values.{part_of}
 use Rattle.fb_half.proofs.BegunParts.{begun_of, own_distinct, own_is, own_real, shot_at, shot_below, shot_read}
 use Rattle.fb_half.proofs.work.Work.begin_on.Goals as goal
 
-pub own_defects-requires : goal.own_defects-requires
-own_defects-requires c =
+pub own_defects-requires-clause-unit : goal.own_defects-requires-clause-unit
+own_defects-requires-clause-unit c = subst (λ t. c.args.node < t.units) (sym c.plan.ensures) c.requires.unit
+
+pub own_defects-requires-clause-rising : goal.own_defects-requires-clause-rising
+own_defects-requires-clause-rising c =
+    subst IsStrictlyIncreasing
+    (sym (shot_read c.args.job.now c.args.slot _ _ _ c.shots.ensures c.requires.slot c.index-shots-slot.is c.as_slice.ensures.defects))
+    (shot_at c.args.job.now c.args.slot c.keeps.ensures c.requires.slot).rising
+
+pub own_defects-requires-clause-vertices : goal.own_defects-requires-clause-vertices
+own_defects-requires-clause-vertices c =
     subst (λ g. All (λ v. v < g.vertices) c.as_slice.result.now) (sym c.graph.ensures)
     (subst (All (λ v. v < c.args.job.now.graph.vertices))
     (sym (shot_read c.args.job.now c.args.slot _ _ _ c.shots.ensures c.requires.slot c.index-shots-slot.is c.as_slice.ensures.defects))

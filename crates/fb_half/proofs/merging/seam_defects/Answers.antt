@@ -1,0 +1,21 @@
+use Rattle.std.proofs.Common.{ℕ, ◌<◌, ◌∙◌, All, ap, length, subst, sym, take}
+use Rattle.std.proofs.lemmas.List.{take_all}
+use Rattle.std.proofs.lemmas.List.Elements.{All-filter}
+use Rattle.std.specs.List.{filter}
+use Rattle.fb_plan.specs.Reaches.{is_reached}
+use Rattle.fb_half.specs.Merged.{is_owned_by}
+use Rattle.fb_half.proofs.Reached.{seam_reached}
+use Rattle.fb_half.proofs.merging.seam_defects.Goals as goal
+
+pub owner-requires : goal.owner-requires
+owner-requires c =
+    subst (All (λ v. v < length c.args.plan.now.owners)) (sym c.within-reached.ensures)
+    (All-filter (is_reached c.reach.result) (λ v. v < length c.args.plan.now.owners) c.args.defects.now c.requires.vertices)
+    c.loop-v.v-index 0 c.loop-v-test.true
+
+pub returns : goal.returns
+returns c =
+    c.loop-v.invariant
+    ∙ (ap (filter (is_owned_by c.args.plan.now c.args.node))
+    (take_all c.loop-v.v-index c.within-reached.result.now c.loop-v-test.false ∙ c.within-reached.ensures)
+    ∙ seam_reached c.args.plan.now c.args.node c.reach.result c.reach.ensures c.args.defects.now)
