@@ -1,12 +1,11 @@
-ghost use Rattle.fb_links.specs.Names.{named_by};
-ghost use Rattle.std.specs.Prelude.{◌≡◌, ◌≢◌, ◌+◌, ◌<◌, ◌^◌, [], ◌∷◌, None, OnOk, MatchOption, nat_eq};
-ghost use Rattle.std.specs.HashMap.{get};
+ghost use Rattle.fb_links.specs.Names.{name_by};
+ghost use Rattle.std.specs.Prelude.{◌≡◌, ◌≢◌, ◌+◌, ◌<◌, ◌^◌, [], ◌∷◌, None, OnOk, MatchOption};
 ghost use Rattle.fb_blossoms.specs.InternalMerged.{later, renamed_item};
 ghost use Rattle.fb_blossoms.specs.InternalItems.{Item};
 
 use crate::names::renamed_cycle;
 use crate::{CycleStep, NoMemory, NodeId};
-use fb_links::names::{Names, renamed_parent};
+use fb_links::names::Names;
 use std::alloc::Global;
 use std::marker::Model;
 
@@ -137,13 +136,13 @@ impl Entry {
 
     /// Gives the parent, and the nodes and links of the cycle, their new numbers.
     pub fn rename(&mut self, alloc: Global, names: &Names, links: &Names) -> Result<(), NoMemory>
-        ensures { OnOk result (self.new ≡ renamed_item (named_by (get nat_eq names.now)) (named_by (get nat_eq links.now)) self.old) }
+        ensures { OnOk result (self.new ≡ renamed_item (name_by names.now) (name_by links.now) self.old) }
     {
         if let Shape::Cycle(cycle) = &self.shape {
             let renamed = renamed_cycle(alloc, cycle.as_slice(), names, links)?;
             self.shape = Shape::Cycle(renamed);
         }
-        self.parent = renamed_parent(names, self.parent);
+        self.parent = names.of_option(self.parent);
         Ok(())
     }
 }

@@ -1,6 +1,6 @@
 //! How the nodes of one store are put into another.
 
-ghost use Rattle.fb_links.specs.Names.{named_by};
+ghost use Rattle.fb_links.specs.Names.{name_by};
 ghost use Rattle.std.specs.Prelude.{◌≡◌, ◌≢◌, ◌==◌, ◌+◌, ◌<◌, ◌≤◌, ◌^◌, ◌++◌, ◌∷◌, [], ℕ, Some, IfOk, OnOk, if◌then◌else◌, nat_eq, option_map};
 ghost use Rattle.std.specs.HashMap.{get as found};
 ghost use Rattle.slab.specs.Slab.{get};
@@ -71,7 +71,7 @@ fn rename_one(
     names: &Names,
     links: &Names,
 ) -> Result<(), NoMemory>
-    ensures { OnOk result ((x : ℕ) → get nodes.new x ≡ (if node == x then option_map (renamed_item (named_by (found nat_eq names.now)) (named_by (found nat_eq links.now))) (get nodes.old x) else get nodes.old x)) }
+    ensures { OnOk result ((x : ℕ) → get nodes.new x ≡ (if node == x then option_map (renamed_item (name_by names.now) (name_by links.now)) (get nodes.old x) else get nodes.old x)) }
 {
     if let Some(entry) = nodes.get_mut(node as usize) {
         entry.rename(alloc, names, links)?;
@@ -88,7 +88,7 @@ pub fn rename_all(
     links: &Names,
 ) -> Result<(), NoMemory>
     requires { (b : ℕ) → new_count pairs.now b ≤ 1 }
-    ensures { OnOk result ((x : ℕ) → get nodes.new x ≡ renamed_among pairs.now (named_by (found nat_eq names.now)) (named_by (found nat_eq links.now)) x (get nodes.old x)) }
+    ensures { OnOk result ((x : ℕ) → get nodes.new x ≡ renamed_among pairs.now (name_by names.now) (name_by links.now) x (get nodes.old x)) }
 {
     for k in 0..pairs.len() {
         rename_one(alloc, nodes, pairs[k].1, names, links)?;

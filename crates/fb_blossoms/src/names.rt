@@ -1,12 +1,11 @@
 //! Cycles whose nodes and links have new numbers.
 
-ghost use Rattle.std.specs.Prelude.{◌≡◌, ◌++◌, ◌∷◌, [], IfOk, OnOk, nat_eq};
-ghost use Rattle.std.specs.HashMap.{get};
-ghost use Rattle.fb_links.specs.Names.{named_by};
+ghost use Rattle.std.specs.Prelude.{◌≡◌, ◌++◌, ◌∷◌, [], IfOk, OnOk};
+ghost use Rattle.fb_links.specs.Names.{name_by};
 ghost use Rattle.fb_blossoms.specs.Merged.{renamed_cycle, renamed_step};
 
 use crate::{CycleStep, NoMemory};
-use fb_links::names::{Names, renamed};
+use fb_links::names::Names;
 use std::alloc::Global;
 
 fn push_step(cycle: &mut Vec<CycleStep>, step: CycleStep) -> Result<(), NoMemory>
@@ -17,11 +16,11 @@ fn push_step(cycle: &mut Vec<CycleStep>, step: CycleStep) -> Result<(), NoMemory
 }
 
 fn renamed_step(step: CycleStep, names: &Names, links: &Names) -> CycleStep
-    ensures { result ≡ renamed_step (named_by (get nat_eq names.now)) (named_by (get nat_eq links.now)) step }
+    ensures { result ≡ renamed_step (name_by names.now) (name_by links.now) step }
 {
     CycleStep {
-        node: renamed(names, step.node),
-        link: renamed(links, step.link),
+        node: names.of(step.node),
+        link: links.of(step.link),
     }
 }
 
@@ -32,7 +31,7 @@ pub fn renamed_cycle(
     names: &Names,
     links: &Names,
 ) -> Result<Vec<CycleStep>, NoMemory>
-    ensures { IfOk result (λ new. new.items ≡ renamed_cycle (named_by (get nat_eq names.now)) (named_by (get nat_eq links.now)) cycle.now) }
+    ensures { IfOk result (λ new. new.items ≡ renamed_cycle (name_by names.now) (name_by links.now) cycle.now) }
 {
     let mut new = Vec::new(alloc);
     for step in cycle {

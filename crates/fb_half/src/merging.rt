@@ -1,13 +1,12 @@
 //! How the solved parts of two children become their parent's part.
 
-ghost use Rattle.std.specs.Prelude.{◌≡◌, ◌≢◌, ◌<◌, ◌++◌, ℕ, true, false, nat_eq, length, map, filter, drop, All, IfOk, OnOk, Some, None, []};
-ghost use Rattle.std.specs.HashMap.{get};
+ghost use Rattle.std.specs.Prelude.{◌≡◌, ◌≢◌, ◌<◌, ◌++◌, ℕ, true, false, length, map, filter, drop, All, IfOk, OnOk, Some, None, []};
 ghost use Rattle.std.specs.List.Sorted.{IsStrictlyIncreasing};
 ghost use Rattle.fb_graph.specs.Certificate.{AreDistinct};
 ghost use Rattle.fb_graph.specs.Dual.{cover_of, is_live as is_node};
 ghost use Rattle.fb_graph.specs.Parity.{is_in};
 ghost use Rattle.fb_plan.specs.Plans.{node_count, problem_at};
-ghost use Rattle.fb_links.specs.Names.{name_by, named_by};
+ghost use Rattle.fb_links.specs.Names.{name_by};
 ghost use Rattle.fb_links.specs.Table.{is_live};
 ghost use Rattle.fb_blossoms.specs.Nodes as blossoms;
 ghost use Rattle.fb_half.specs.InternalSeams.{IsBeside, IsFreed, IsOpened, IsSprouted};
@@ -22,7 +21,7 @@ use crate::parts::Parts;
 use crate::start::{add_leaf, within};
 use fb_blossoms::Blossoms;
 use fb_graph::NoMemory;
-use fb_links::names::{Names, names_of, renamed, renamed_parent};
+use fb_links::names::{Names, names_of};
 use fb_links::{LinkId, Links, NodeId};
 use fb_plan::{NodeScope, Plan};
 use fb_regions::Regions;
@@ -30,12 +29,12 @@ use std::alloc::Global;
 
 /// The match with new numbers of its link and of its nodes.
 fn renamed_match(m: Match, links: &Names, nodes: &Names) -> Match
-    ensures { result ≡ renamed_match (named_by (get nat_eq links.now)) (named_by (get nat_eq nodes.now)) m }
+    ensures { result ≡ renamed_match (name_by links.now) (name_by nodes.now) m }
 {
     Match {
-        link: renamed(links, m.link),
-        first: renamed(nodes, m.first),
-        second: renamed_parent(nodes, m.second),
+        link: links.of(m.link),
+        first: nodes.of(m.first),
+        second: nodes.of_option(m.second),
     }
 }
 

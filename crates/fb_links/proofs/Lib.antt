@@ -4,4 +4,5 @@ pub mod Lists
 pub mod MovedLinks
 pub mod Numbers
 pub mod Renaming
+mod SortedNames
 pub mod Turns

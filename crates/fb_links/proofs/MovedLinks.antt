@@ -1,8 +1,9 @@
 -- The right table's links move into the left one, from the last number down.
-use Rattle.std.proofs.Common.{ℕ, ◌+◌, ◌<◌, ◌≤◌, ◌≡◌, ◌≢◌, ◌==◌, true, false, List, [], ◌∷◌, ◌++◌, length, Option, Some, None, All, arith, refl, sym, ap, ◌∙◌, subst, inl, inr}
+use Rattle.std.proofs.Common.{ℕ, ◌+◌, ◌<◌, ◌≤◌, ◌≡◌, ◌≢◌, ◌==◌, true, false, List, [], ◌∷◌, ◌++◌, map, reverse, length, Option, Some, None, All, arith, refl, sym, ap, ◌∙◌, subst, inl, inr}
 use Rattle.std.specs.Prelude.{is_some}
 use Rattle.std.proofs.lemmas.Bool.{cases_lt, false≢true, or_from}
-use Rattle.std.proofs.lemmas.List.{length_push, get_or_push, get_or_past, map-append}
+use Rattle.std.proofs.lemmas.List.{length_push, get_or_push, get_or_past, map-append, reverse-append}
+use Rattle.std.proofs.lemmas.List.Sorted.{All-permutation, IsPermutation-map, IsPermutation-reverse, list_any-IsPermutation}
 use Rattle.std.proofs.lemmas.List.Elements.{All-nil, All-cons, All-get_or, All-head, All-tail, All-push, All-weaker}
 use Rattle.fb_links.specs.declared.walk.Step.{Step}
 use Rattle.fb_links.specs.Table.{Adds, IsLink, is_live, link_at}
@@ -170,6 +171,36 @@ merging_moves left right rest pairs old new id walk merging adds =
     others k none =
         let parts = not_in-push (new_numbers pairs) id k (sym (ap (λ l. is_in l k) news) ∙ none) in
         adds.others k parts.1 ∙ merging.others k parts.0
+
+listed_reversed : (number : ℕ × ℕ → ℕ) (pairs : List (ℕ × ℕ)) (id : ℕ)
+    → is_in (map number (reverse pairs)) id ≡ is_in (map number pairs) id
+listed_reversed number pairs id =
+    sym (list_any-IsPermutation (λ u. u == id) (map number pairs) (map number (reverse pairs))
+    (IsPermutation-map number pairs (reverse pairs) (IsPermutation-reverse pairs)))
+
+distinct_reversed : (number : ℕ × ℕ → ℕ) (pairs : List (ℕ × ℕ)) → AreDistinct (map number pairs)
+    → AreDistinct (map number (reverse pairs))
+distinct_reversed number [] distinct = tt
+distinct_reversed number (p ∷ ps) distinct =
+    subst AreDistinct
+    (sym (ap (map number) (reverse-append (p ∷ []) ps) ∙ map-append number (reverse ps) (p ∷ [])))
+    (AreDistinct-push (map number (reverse ps)) (number p) (distinct_reversed number ps distinct.1)
+    (listed_reversed number ps (number p) ∙ distinct.0))
+
+-- the links may be listed in the other direction as well
+pub merged_reversed : (left right : Table) (pairs : List (ℕ × ℕ)) (new : Table) → AreMerged left right pairs new
+    → AreMerged left right (reverse pairs) new
+merged_reversed left right pairs new merged =
+    record {
+      listed = λ id. listed_reversed (λ p. p.0) pairs id ∙ merged.listed id;
+      once = distinct_reversed (λ p. p.0) pairs merged.once;
+      moved = All-permutation (IsMoved right new) pairs (reverse pairs) (IsPermutation-reverse pairs) merged.moved;
+      fresh =
+          All-permutation (λ (p : ℕ × ℕ). link_at left p.1 ≡ None) pairs (reverse pairs) (IsPermutation-reverse pairs)
+          merged.fresh;
+      apart = distinct_reversed (λ p. p.1) pairs merged.apart;
+      others = λ id none. merged.others id (sym (listed_reversed (λ p. p.1) pairs id) ∙ none);
+    }
 
 -- as the code reads the right table: `entry` is the one taken off its end
 pub merging_after_none : (left right table rest : Table) (entry : Option (List Step)) (pairs : List (ℕ × ℕ)) (new : Table)

@@ -120,6 +120,8 @@ impl Links {
                 pairs.push_reserved((table.len() as LinkId, new));
             }
         }
+        // By rising old numbers, as `names_of` takes them without sorting.
+        pairs.reverse();
         Ok((links, pairs))
     }
 

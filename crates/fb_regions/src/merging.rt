@@ -1,7 +1,6 @@
-ghost use Rattle.std.specs.Prelude.{◌≡◌, ◌≤◌, ◌++◌, ◌∷◌, [], length, map, OnOk, nat_eq};
-ghost use Rattle.std.specs.HashMap.{get};
+ghost use Rattle.std.specs.Prelude.{◌≡◌, ◌≤◌, ◌++◌, ◌∷◌, [], length, map, OnOk};
 ghost use Rattle.fb_graph.specs.Certificate.{AreDistinct};
-ghost use Rattle.fb_links.specs.Names.{named_by};
+ghost use Rattle.fb_links.specs.Names.{name_by};
 ghost use Rattle.fb_regions.specs.InternalMerged.{AreMarksOver, IsEntered, renamed_region, renamed_regions};
 ghost use Rattle.fb_regions.specs.InternalPlaces.{IsIndex};
 
@@ -10,7 +9,7 @@ use crate::marks::{Mark, Marks};
 use crate::places::{set_place, widen};
 use crate::region::Region;
 use fb_graph::NoMemory;
-use fb_links::names::{Names, renamed, renamed_parent};
+use fb_links::names::Names;
 
 /// Puts nodes behind the others, one after another, under their new names.
 pub fn take_nodes(
@@ -19,9 +18,9 @@ pub fn take_nodes(
     others: Vec<Region>,
     names: &Names,
 ) -> Result<(), NoMemory>
-    requires distinct { AreDistinct (map (λ r. r.name) (regions.old.items ++ renamed_regions (named_by (get nat_eq names.now)) others.items)) }
+    requires distinct { AreDistinct (map (λ r. r.name) (regions.old.items ++ renamed_regions (name_by names.now) others.items)) }
     requires index { IsIndex regions.old.items places.old.items }
-    ensures nodes { OnOk result (regions.new.items ≡ regions.old.items ++ renamed_regions (named_by (get nat_eq names.now)) others.items) }
+    ensures nodes { OnOk result (regions.new.items ≡ regions.old.items ++ renamed_regions (name_by names.now) others.items) }
     ensures index { OnOk result (IsIndex regions.new.items places.new.items) }
 {
     for region in others {
@@ -37,11 +36,11 @@ fn take_node(
     mut region: Region,
     names: &Names,
 ) -> Result<(), NoMemory>
-    ensures nodes { OnOk result (regions.new.items ≡ regions.old.items ++ renamed_region (named_by (get nat_eq names.now)) region ∷ []) }
-    ensures entry { OnOk result (IsEntered places.old.items places.new.items (named_by (get nat_eq names.now) region.name) (length regions.old.items)) }
+    ensures nodes { OnOk result (regions.new.items ≡ regions.old.items ++ renamed_region (name_by names.now) region ∷ []) }
+    ensures entry { OnOk result (IsEntered places.old.items places.new.items (name_by names.now region.name) (length regions.old.items)) }
 {
-    region.name = renamed(names, region.name);
-    region.parent = renamed_parent(names, region.parent);
+    region.name = names.of(region.name);
+    region.parent = names.of_option(region.parent);
     rename_all(&mut region.children, names);
     regions.reserve(1)?;
     widen(places, region.name)?;
@@ -52,21 +51,21 @@ fn take_node(
 
 /// Gives each node of a list its new name.
 fn rename_all(nodes: &mut [NodeId], names: &Names)
-    ensures { nodes.new ≡ map (named_by (get nat_eq names.now)) nodes.old }
+    ensures { nodes.new ≡ map (name_by names.now) nodes.old }
 {
     for i in 0..nodes.len() {
-        nodes[i] = renamed(names, nodes[i]);
+        nodes[i] = names.of(nodes[i]);
     }
 }
 
 /// Gives each vertex that has a mark in the other table that mark, with the new name of its defect's node.
 pub fn take_marks(marks: &mut Marks, others: &Marks, names: &Names)
     requires { length others.now ≤ length marks.old }
-    ensures { AreMarksOver (named_by (get nat_eq names.now)) marks.old others.now marks.new }
+    ensures { AreMarksOver (name_by names.now) marks.old others.now marks.new }
 {
     for v in others.marked() {
         if let Some(mark) = others.at(*v) {
-            let leaf = renamed(names, mark.leaf);
+            let leaf = names.of(mark.leaf);
             marks.put(*v, Mark { leaf, ..*mark });
         }
     }

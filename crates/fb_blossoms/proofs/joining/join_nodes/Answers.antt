@@ -1,6 +1,4 @@
-use Rattle.std.proofs.Common.{nat_eq}
-use Rattle.fb_links.specs.Names.{named_by}
-use Rattle.std.specs.HashMap.{get as found}
+use Rattle.fb_links.specs.Names.{name_by}
 use Rattle.fb_blossoms.proofs.Renamings.{joined_seen, once_seen}
 use Rattle.fb_blossoms.proofs.joining.join_nodes.Goals as goal
 
@@ -10,5 +8,5 @@ rename_all-requires c = once_seen c.in_ok-pairs.pairs.items c.deref-2.result.now
 pub returns : goal.returns
 returns c =
     joined_seen c.args.nodes.now c.args.right c.take_all.new.nodes c.rename_all.new.nodes c.args.more c.args.links.now c.in_ok-pairs.pairs.items
-    c.deref.result.now c.deref-2.result.now (named_by (found nat_eq c.in_ok-names.names)) (named_by (found nat_eq c.in_ok-link_names.link_names)) c.in_ok-pairs.ensures
+    c.deref.result.now c.deref-2.result.now (name_by c.in_ok-names.names) (name_by c.in_ok-link_names.link_names) c.in_ok-pairs.ensures
     c.deref.ensures.value c.deref-2.ensures.value c.in_ok-names.ensures c.in_ok-link_names.ensures c.in_ok-rename_all.ensures

@@ -1,7 +1,6 @@
-use Rattle.std.proofs.Common.{◌≡◌, ◌++◌, ◌∷◌, [], List, length, refl, sym, ap, ◌∙◌, subst, append_assoc, append-nil, arith, nat_eq, false}
-use Rattle.std.specs.HashMap.{get}
+use Rattle.std.proofs.Common.{◌≡◌, ◌++◌, ◌∷◌, [], List, length, refl, sym, ap, ◌∙◌, subst, append_assoc, append-nil, arith, false}
 use Rattle.std.specs.Vec.Iter.{into_iter_items}
-use Rattle.fb_links.specs.Names.{named_by}
+use Rattle.fb_links.specs.Names.{name_by}
 use Rattle.fb_graph.specs.Parity.{is_in}
 use Rattle.fb_regions.specs.InternalMerged.{renamed_region, renamed_regions}
 use Rattle.fb_regions.specs.InternalPlaces.{IsIndex}
@@ -17,7 +16,7 @@ nothing_left (x ∷ xs) h = absurd (omega arith)
 pub loop-region-preserved : goal.loop-region-preserved
 loop-region-preserved c =
     let at = c.loop-region in
-    let f = named_by (get nat_eq c.args.names.now) in
+    let f = name_by c.args.names.now in
     let r = c.in-Some.region in
     let steps : into_iter_items at.region-iterator ≡ r ∷ into_iter_items c.next.new.self = c.in-Some.ensures.steps.0 in
     let all : at.yielded ++ r ∷ into_iter_items c.next.new.self ≡ c.args.others.items =
@@ -39,4 +38,4 @@ returns-clause-nodes c =
     let empty : into_iter_items at.region-iterator ≡ [] = nothing_left _ (sym at.invariant.1 ∙ c.in-None.ensures.steps.0) in
     let all : at.yielded ≡ c.args.others.items =
     sym (append-nil at.yielded) ∙ rw empty at at.invariant.0 ∙ c.into_iter-region-iterator.ensures.into_iter_gives.0 in
-    subst (λ l. at.regions.items ≡ c.args.regions.now.items ++ renamed_regions (named_by (get nat_eq c.args.names.now)) l) all at.invariant.2
+    subst (λ l. at.regions.items ≡ c.args.regions.now.items ++ renamed_regions (name_by c.args.names.now) l) all at.invariant.2

@@ -1,5 +1,6 @@
-use Rattle.std.proofs.Common.{◌≡◌, [], ◌∷◌, ◌++◌, length, ap, ◌∙◌, arith}
-use Rattle.fb_links.proofs.MovedLinks.{merging_begins, merging_ends, merging_after_none, merging_after_some, taken_link}
+use Rattle.std.proofs.Common.{◌≡◌, [], ◌∷◌, ◌++◌, length, ap, sym, subst, ◌∙◌, arith}
+use Rattle.fb_links.specs.Merged.{AreMerged}
+use Rattle.fb_links.proofs.MovedLinks.{merging_begins, merging_ends, merging_after_none, merging_after_some, merged_reversed, taken_link}
 use Rattle.fb_links.proofs.links.Links.merged.Goals as goal
 
 pub loop-entry-init : goal.loop-entry-init
@@ -18,7 +19,9 @@ put-requires c =
 
 pub returns : goal.returns
 returns c =
-    merging_ends _ _ _ _ _ (omega (arith, c.loop-entry.table.ok.0, c.in_default.ensures.cases.0)) c.loop-entry.invariant
+    subst (λ l. AreMerged c.args.left c.args.right l c.loop-entry.links) (sym c.reverse.ensures.items)
+    (merged_reversed _ _ _ _
+    (merging_ends _ _ _ _ _ (omega (arith, c.loop-entry.table.ok.0, c.in_default.ensures.cases.0)) c.loop-entry.invariant))
 
 pub loop-entry-preserved-in-Some-entry : goal.loop-entry-preserved-in-Some-entry
 loop-entry-preserved-in-Some-entry c =

@@ -1,6 +1,5 @@
-use Rattle.std.proofs.Common.{ap, ◌++◌, ◌∙◌, arith, nat_eq}
-use Rattle.std.specs.HashMap.{get}
-use Rattle.fb_links.specs.Names.{named_by, name_by}
+use Rattle.std.proofs.Common.{ap, ◌++◌, ◌∙◌, arith}
+use Rattle.fb_links.specs.Names.{name_by}
 use Rattle.fb_regions.specs.InternalNodes.{nodes_of}
 use Rattle.fb_regions.proofs.Indexed.{distinct_names}
 use Rattle.fb_regions.proofs.MergedNames.{new_names_by, renamed_by}
@@ -47,5 +46,5 @@ returns g c =
     (rw (← c.left.view_is, ← c.right.view_is) at c.requires.names))
     c.take_marks.ensures
     ∙ ap (λ ns. nodes_of c.left.inside.marks c.left.inside.regions.items ++ ns)
-    (renamed_by (named_by (get nat_eq c.in_ok-names.names)) (name_by c.args.nodes.now)
+    (renamed_by (name_by c.in_ok-names.names) (name_by c.args.nodes.now)
     (nodes_of c.right.inside.marks c.right.inside.regions.items) c.in_ok-names.ensures)))
