@@ -1,5 +1,5 @@
 -- Edges that come under watch, vertex after vertex.
-use Rattle.std.proofs.Common.{ℕ, ◌≡◌, ◌+◌, ◌==◌, ◌<◌, ◌⊎◌, inl, inr, Bool, true, false, List, [], ◌∷◌, ◌++◌, length, take, filter, get_or, refl, sym, ap, ◌∙◌, subst, if◌then◌else◌}
+use Rattle.std.proofs.Common.{ℕ, ◌≡◌, ◌+◌, ◌==◌, ◌<◌, ◌⊎◌, inl, inr, Bool, true, false, List, [], ◌∷◌, ◌++◌, length, take, filter, get_or, reverse, refl, sym, ap, ◌∙◌, subst, append_assoc, if◌then◌else◌}
 use Rattle.std.specs.List.{range_with_len}
 use Rattle.std.proofs.lemmas.Bool.{eqb-true, or_cases}
 use Rattle.std.proofs.lemmas.List.{take_more}
@@ -19,27 +19,31 @@ use Rattle.fb_search.specs.Watching.{Enters, Watches}
 use Rattle.fb_search.proofs.KeptBounds.{bounded_entered, with_edge}
 
 -- the edges at one vertex more
-pub watched_on : (p : Problem) (vs : List ℕ) (i : ℕ) (es : List ℕ) (a b c : Watched) → i < length vs
-    → es ≡ filter (λ k. touches (get_or vs i 0) (edge_at p.edges k)) (range_with_len 0 (length p.edges))
-    → Watches p (take i vs) a b → Enters es b c → Watches p (take (i + 1) vs) a c
-watched_on p vs i es a b c lt e before more = record {
+pub watched_more : (p : Problem) (vs : List ℕ) (v : ℕ) (es : List ℕ) (a b c : Watched)
+    → es ≡ filter (λ k. touches v (edge_at p.edges k)) (range_with_len 0 (length p.edges))
+    → Watches p vs a b → Enters es b c → Watches p (v ∷ vs) a c
+watched_more p vs v es a b c e before more = record {
   room = more.room ∙ before.room;
   bounds = λ limit right. more.bounds limit (before.bounds limit right);
   kept = λ k h. more.kept k (before.kept k h);
-  near = λ v k mem below touch. near v k below touch (or_cases (is_in (take i vs) v) (is_in (get_or vs i 0 ∷ []) v)
-      (sym (is_in-append (take i vs) (get_or vs i 0 ∷ []) v) ∙ ap (λ l. is_in l v) (sym (take_more vs i 0 lt)) ∙ mem));
+  near = λ u k mem below touch. near u k below touch (is_in-cases v vs u mem);
 }
   where
-    near : (v k : ℕ) → k < length p.edges → touches v (edge_at p.edges k) ≡ true
-        → (is_in (take i vs) v ≡ true) ⊎ (is_in (get_or vs i 0 ∷ []) v ≡ true) → is_in c.edges k ≡ true
-    near v k below touch (inl old) = more.kept k (before.near v k old below touch)
-    near v k below touch (inr new) = here (is_in-cases (get_or vs i 0) [] v new)
-      where
-        here : (get_or vs i 0 ≡ v) ⊎ (is_in [] v ≡ true) → is_in c.edges k ≡ true
-        here (inl same) =
-            more.entered k (rw e (is_in-filter-range (λ j. touches (get_or vs i 0) (edge_at p.edges j)) (length p.edges) k below
-            ∙ ap (λ u. touches u (edge_at p.edges k)) same ∙ touch))
-        here (inr none) = cc
+    near : (u k : ℕ) → k < length p.edges → touches u (edge_at p.edges k) ≡ true → (v ≡ u) ⊎ (is_in vs u ≡ true)
+        → is_in c.edges k ≡ true
+    near u k below touch (inl same) =
+        more.entered k (rw e (is_in-filter-range (λ j. touches v (edge_at p.edges j)) (length p.edges) k below
+        ∙ ap (λ w. touches w (edge_at p.edges k)) same ∙ touch))
+    near u k below touch (inr old) = more.kept k (before.near u k old below touch)
+
+-- a list whose later members are passed, and of the others the last one next
+pub held_next : (vs rest passed : List ℕ) (v : ℕ) → reverse (v ∷ rest) ++ passed ≡ vs → is_in vs v ≡ true
+held_next vs rest passed v is =
+    ap (λ l. is_in l v) (sym is)
+    ∙ in_left (reverse rest ++ v ∷ []) passed v (is_in_pushed (reverse rest) v)
+
+pub passed_on : (vs rest passed : List ℕ) (v : ℕ) → reverse (v ∷ rest) ++ passed ≡ vs → reverse rest ++ v ∷ passed ≡ vs
+passed_on vs rest passed v is = sym (append_assoc (reverse rest) (v ∷ []) passed) ∙ is
 
 -- a member of one place more
 taken_cases : (xs : List ℕ) (i v : ℕ) → i < length xs → is_in (take (i + 1) xs) v ≡ true

@@ -120,7 +120,7 @@ fn attach<'a>(
         link: met.taken.link,
     };
     tree.attach(alloc, met.plus, met.link, met.other, matched, &parts.links)?;
-    watch_node(alloc, &mut watch, scope, &parts.regions, mate)?;
+    watch_node(&mut watch, scope, &parts.regions, mate);
     watch.keeps();
     Ok(Searching { parts, tree, watch })
 }

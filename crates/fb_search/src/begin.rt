@@ -15,7 +15,7 @@ use std::alloc::Global;
 impl<'a> Searching<'a> {
     /// The search whose tree is the root alone. It watches the edges at the root, and no others.
     pub fn begin(
-        alloc: Global,
+        _alloc: Global,
         work: Work<'a>,
         scratch: Scratch,
         root: NodeId,
@@ -35,7 +35,7 @@ impl<'a> Searching<'a> {
             node: parts.node(),
         };
         scope.limits();
-        watch_node(alloc, &mut watch, &scope, &parts.regions, root)?;
+        watch_node(&mut watch, &scope, &parts.regions, root);
         watch.keeps();
         let tree = tree.restart(root);
         Ok(Searching { parts, tree, watch })

@@ -67,7 +67,7 @@ pub(crate) fn close_cycle<'a>(
     let cycle = tree.cycle_of(alloc, first, second, closing, &parts.links)?;
     let nodes = nodes_on(alloc, &cycle)?;
     let nodes = nodes.as_slice();
-    watch_minus(alloc, &mut watch, &parts.regions, &tree, nodes)?;
+    watch_minus(&mut watch, &parts.regions, &tree, nodes);
     watch.keeps();
     let held = &mut parts;
     held.regions.scope().limits();
@@ -110,21 +110,14 @@ fn replace_unmatched(
 }
 
 /// Watches the edges at the minus nodes among these, whose vertices are to be under a plus node.
-fn watch_minus<S: Scope>(
-    alloc: Global,
-    watch: &mut Watch,
-    regions: &Regions<S>,
-    tree: &Tree,
-    nodes: &[NodeId],
-) -> Result<(), NoMemory>
+fn watch_minus<S: Scope>(watch: &mut Watch, regions: &Regions<S>, tree: &Tree, nodes: &[NodeId])
     requires live { All (λ n. is_live regions.now.nodes n ≡ true) nodes.now }
     requires room { watch.old.edge_count ≡ length (S.problem regions.now.scope).edges }
-    ensures { OnOk result (WatchesMinus (S.problem regions.now.scope) regions.now.nodes tree.now nodes.now watch.old watch.new) }
+    ensures { WatchesMinus (S.problem regions.now.scope) regions.now.nodes tree.now nodes.now watch.old watch.new }
 {
     for node in nodes {
         if tree.role(*node) == Role::Minus {
-            watch_node(alloc, watch, regions.scope(), regions, *node)?;
+            watch_node(watch, regions.scope(), regions, *node);
         }
     }
-    Ok(())
 }

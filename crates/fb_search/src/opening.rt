@@ -41,7 +41,7 @@ impl<'a> Searching<'a> {
         tree.replace(alloc, &[node], &apart.way, &parts.links)?;
         add_matches(alloc, &mut parts.matching, &apart.matches)?;
         forget_all(&mut parts.links, &apart.left);
-        watch_plus(alloc, &mut watch, &parts.regions, &apart.way)?;
+        watch_plus(&mut watch, &parts.regions, &apart.way);
         watch.keeps();
         Ok(Searching { parts, tree, watch })
     }
@@ -215,21 +215,15 @@ fn links_left(alloc: Global, first: LinkId, steps: &[CycleStep]) -> Result<Vec<L
 }
 
 /// Watches the edges at each second node of the way, which is plus.
-fn watch_plus<S: Scope>(
-    alloc: Global,
-    watch: &mut Watch,
-    regions: &Regions<S>,
-    way: &[CycleStep],
-) -> Result<(), NoMemory>
+fn watch_plus<S: Scope>(watch: &mut Watch, regions: &Regions<S>, way: &[CycleStep])
     requires live { All (λ name. is_live regions.now.nodes name ≡ true) (second_nodes way.now) }
     requires room { watch.old.edge_count ≡ length (S.problem regions.now.scope).edges }
-    ensures { OnOk result (Watches (S.problem regions.now.scope)
-        (flat_map (top_at regions.now.nodes) (second_nodes way.now)) watch.old watch.new) }
+    ensures { Watches (S.problem regions.now.scope)
+        (flat_map (top_at regions.now.nodes) (second_nodes way.now)) watch.old watch.new }
 {
     let mut i = 0;
     while i + 1 < way.len() {
-        watch_node(alloc, watch, regions.scope(), regions, way[i + 1].node)?;
+        watch_node(watch, regions.scope(), regions, way[i + 1].node);
         i += 2;
     }
-    Ok(())
 }

@@ -1,13 +1,12 @@
-ghost use Rattle.std.specs.Prelude.{◌≡◌, ◌<◌, true, [], ◌∷◌, All, OnOk, length};
+ghost use Rattle.std.specs.Prelude.{◌≡◌, ◌<◌, true, [], ◌∷◌, All, length};
 ghost use Rattle.fb_graph.specs.Problem.{edge_at};
 ghost use Rattle.fb_graph.specs.Dual.{is_live, top_at};
 ghost use Rattle.fb_obstacles.specs.InnerEdges.{is_inner, is_one_node};
 ghost use Rattle.fb_search.specs.Watching.{Enters, Watches, WatchesOuter, WatchesTaken};
 
-use fb_graph::{NoMemory, Scope};
+use fb_graph::Scope;
 use fb_obstacles::Watch;
 use fb_regions::{NodeId, Regions};
-use std::alloc::Global;
 
 /// Watches these edges from now on.
 fn enter_all(watch: &mut Watch, edges: &[u32])
@@ -20,35 +19,20 @@ fn enter_all(watch: &mut Watch, edges: &[u32])
     }
 }
 
-/// Watches the edges at these vertices from now on.
-fn watch_vertices<S: Scope>(watch: &mut Watch, scope: &S, vertices: &[u32])
-    requires room { watch.old.edge_count ≡ length (S.problem scope.now).edges }
-    requires below { All (λ v. v < (S.problem scope.now).vertices) vertices.now }
-    ensures { Watches (S.problem scope.now) vertices.now watch.old watch.new }
-{
-    for v in vertices {
-        enter_all(watch, scope.edges_at(*v));
-    }
-}
-
-/// Watches the edges at all vertices of the node. Takes time for each of them.
-pub fn watch_node<S: Scope>(
-    alloc: Global,
-    watch: &mut Watch,
-    scope: &S,
-    regions: &Regions<S>,
-    node: NodeId,
-) -> Result<(), NoMemory>
+/// Watches the edges at all vertices of the node, the last vertex first. Takes time for each of them, and no memory.
+pub fn watch_node<S: Scope>(watch: &mut Watch, scope: &S, regions: &Regions<S>, node: NodeId)
     requires same { S.problem regions.now.scope ≡ S.problem scope.now }
     requires live { is_live regions.now.nodes node ≡ true }
     requires room { watch.old.edge_count ≡ length (S.problem scope.now).edges }
-    ensures { OnOk result (Watches (S.problem scope.now) (top_at regions.now.nodes node) watch.old watch.new) }
+    ensures { Watches (S.problem scope.now) (top_at regions.now.nodes node) watch.old watch.new }
 {
     regions.keeps();
     scope.limits();
-    let vertices = regions.vertices(alloc, node)?;
-    watch_vertices(watch, scope, vertices.as_slice());
-    Ok(())
+    let mut next = Some(regions.last_vertex(node));
+    while let Some(v) = next {
+        enter_all(watch, scope.edges_at(v));
+        next = regions.vertex_before(node, v);
+    }
 }
 
 /// Whether these are one node.

@@ -31,7 +31,7 @@ invariant_of-result c =
       attached_searching c.requires.met.0 c.args.met _ c.requires.met.1 c.args.mate c.requires.couple limits c.watch_node.new.watch
           c.keeps.ensures.within
           (kept_watches (part_of c.args.pieces.parts) _ c.scope-scope.result.now.plan.now c.scope-scope.result.now.node _
-          c.args.pieces.watch c.watch_node.new.watch graph c.in_ok-watch_node.ensures),
+          c.args.pieces.watch c.watch_node.new.watch graph c.watch_node.ensures),
     )
 
 pub returns : goal.returns

@@ -112,7 +112,7 @@ invariant_of-result c =
     c.args.pieces.parts.regions.scope c.requires.scope (rw c.scope.ensures at c.limits.ensures)
     c.replace_unmatched.new.matching
     (rw (c.root-root.ensures, c.root.ensures) at c.in_ok-replace_unmatched.ensures) c.watch_minus.new.watch
-    c.in_ok-watch_minus.ensures c.keeps.ensures.within in
+    c.watch_minus.ensures c.keeps.ensures.within in
     let scope = c.requires.scope in
     rw c.in_ok-join_nodes.ensures.ok (record { graph = scope.graph; plan = scope.plan; node = scope.node }, both.0)
 
@@ -132,5 +132,5 @@ returns c =
     c.args.pieces.parts.regions.scope c.requires.scope (rw c.scope.ensures at c.limits.ensures)
     c.replace_unmatched.new.matching
     (rw (c.root-root.ensures, c.root.ensures) at c.in_ok-replace_unmatched.ensures) c.watch_minus.new.watch
-    c.in_ok-watch_minus.ensures c.keeps.ensures.within in
+    c.watch_minus.ensures c.keeps.ensures.within in
     rw c.in_ok-join_nodes.ensures.ok both.1

@@ -8,12 +8,12 @@ use Rattle.fb_search.specs.InternalClosings.{WatchesMinus}
 use Rattle.fb_search.specs.Watching.{Watches}
 use Rattle.fb_search.proofs.WatchSteps.{minus_on, minus_past}
 use Rattle.fb_search.proofs.closing.watch_minus.Goals as goal
-use Rattle.fb_search.proofs.closing.watch_minus.Goals.{then-eq+in_ok-watch_node, else-eq}
+use Rattle.fb_search.proofs.closing.watch_minus.Goals.{then-eq, else-eq}
 
 pub loop-node-preserved : goal.loop-node-preserved
 loop-node-preserved g c =
     elim c.if-eq.branch [
-      | then-eq+in_ok-watch_node w ↦
+      | then-eq w ↦
           subst (WatchesMinus _ _ _ _ c.args.watch.now) (sym w.watch-is)
           (minus_on (g.S.Scope.problem c.args.regions.now.scope) c.args.regions.now.nodes c.args.tree.now c.args.nodes.now
           c.loop-node.node-index c.args.watch.now c.loop-node.watch w.watch_node.new.watch c.loop-node-test.true
@@ -21,7 +21,7 @@ loop-node-preserved g c =
           (subst
           (λ s.
           Watches (g.S.Scope.problem s) (top_at c.args.regions.now.nodes (get_or c.args.nodes.now c.loop-node.node-index 0))
-          c.loop-node.watch w.watch_node.new.watch) w.scope.ensures w.in_ok-watch_node.ensures))
+          c.loop-node.watch w.watch_node.new.watch) w.scope.ensures w.watch_node.ensures))
       | else-eq w ↦
           subst (WatchesMinus _ _ _ _ c.args.watch.now) (sym w.watch-is)
           (minus_past (g.S.Scope.problem c.args.regions.now.scope) c.args.regions.now.nodes c.args.tree.now c.args.nodes.now

@@ -18,7 +18,7 @@ watch_node-requires-clause-live g c =
 pub loop-i-preserved : goal.loop-i-preserved
 loop-i-preserved g c =
     let below : c.loop-i.i + 1 < length c.args.way.now = omega arith in
-    let watches = rw (c.scope.ensures) at c.in_ok-watch_node.ensures in (
+    let watches = rw (c.scope.ensures) at c.watch_node.ensures in (
       omega arith,
       watches.room ∙ c.loop-i.invariant.1,
       (seconds_hold (λ name. is_live c.args.regions.now.nodes name ≡ true) c.args.way.now c.loop-i.i no_step below

@@ -19,7 +19,7 @@ invariant_of-result c =
           (ap (λ w. w.edge_count) c.clear.ensures ∙ ap (λ w. w.edge_count) c.scratch.view_is ∙ c.requires.room ∙ sym (ap (λ w. length (problem_in w).edges) c.into_parts-parts.ensures.value))
           (ap (λ w. w.edges) c.clear.ensures)
           (kept_watches (part_of c.into_parts-parts.result) c.graph.result.now c.plan.result.now c.node.result
-          (top_at c.into_parts-parts.result.regions.nodes c.args.root) c.clear.new.self c.watch_node.new.watch graph c.in_ok-watch_node.ensures)),
+          (top_at c.into_parts-parts.result.regions.nodes c.args.root) c.clear.new.self c.watch_node.new.watch graph c.watch_node.ensures)),
     )
 
 pub watch_node-requires-clause-same : goal.watch_node-requires-clause-same
@@ -45,4 +45,4 @@ pub returns-clause-begun : goal.returns-clause-begun
 returns-clause-begun c = record { part = c.into_parts-parts.ensures.value; tree = c.restart-tree.ensures }
 
 pub returns-clause-watched : goal.returns-clause-watched
-returns-clause-watched c = c.in_ok-watch_node.ensures.room ∙ ap (λ w. w.edge_count) c.clear.ensures ∙ ap (λ w. w.edge_count) c.scratch.view_is
+returns-clause-watched c = c.watch_node.ensures.room ∙ ap (λ w. w.edge_count) c.clear.ensures ∙ ap (λ w. w.edge_count) c.scratch.view_is

@@ -156,7 +156,7 @@ invariant_of-result c =
     ∙ ap (λ l. way_on (parts l) c.child_at-below.result) cycle in
     let matches = c.deref-3.ensures.value ∙ c.in_ok-apart.ensures.matches
     ∙ ap (λ l. couples_on (rest_on (parts l) c.child_at-below.result)) cycle in
-    let watches = rw (c.in_ok-split_node.ensures.ok, c.deref-5.ensures.value ∙ way) at c.in_ok-watch_plus.ensures in
+    let watches = rw (c.in_ok-split_node.ensures.ok, c.deref-5.ensures.value ∙ way) at c.watch_plus.ensures in
     let has : HasOpened w c.args.node c.child_at-above.result c.child_at-below.result c.forget_all.new.links
     c.open_up-cycle.new.self c.replace.new.self c.watch_plus.new.watch = record {
       taken_off = c.open_up-cycle.ensures.rest;
@@ -195,7 +195,7 @@ returns c =
     ∙ ap (λ l. way_on (parts l) c.child_at-below.result) cycle in
     let matches = c.deref-3.ensures.value ∙ c.in_ok-apart.ensures.matches
     ∙ ap (λ l. couples_on (rest_on (parts l) c.child_at-below.result)) cycle in
-    let watches = rw (c.in_ok-split_node.ensures.ok, c.deref-5.ensures.value ∙ way) at c.in_ok-watch_plus.ensures in
+    let watches = rw (c.in_ok-split_node.ensures.ok, c.deref-5.ensures.value ∙ way) at c.watch_plus.ensures in
     let has : HasOpened w c.args.node c.child_at-above.result c.child_at-below.result c.forget_all.new.links
     c.open_up-cycle.new.self c.replace.new.self c.watch_plus.new.watch = record {
       taken_off = c.open_up-cycle.ensures.rest;
