@@ -8,9 +8,10 @@ ghost use Rattle.fb_shots_json.specs.TextJson.{naturals_of, vertex_fault, defect
 ghost use Rattle.fb_shots_json.specs.Entries.{real_front, first_fault};
 ghost use Rattle.fb_shots_json.specs.Stops.{IfRefused};
 
-use crate::answer::{Kind, NoMemory};
+use crate::answer::Kind;
 use crate::judging::Stop;
 use fb_graph::Graph;
+use fb_records::NoMemory;
 use serde_json::Value;
 use std::alloc::Global;
 

@@ -1,6 +1,4 @@
-pub mod Records
-pub mod Lines
-pub mod Answers
+pub mod Shots
 pub mod Text01
 pub mod Step01
 pub mod BlocksB8

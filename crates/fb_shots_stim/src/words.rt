@@ -2,12 +2,13 @@
 
 ghost use Rattle.std.specs.Prelude.{◌≡◌, ◌≢◌, ℕ, ◌+◌, ◌*◌, ◌^◌, ◌<◌, ◌≤◌, ◌∷◌, ◌++◌, [], List, min, nat_eq, Bool, true, false, length, slice_index_or, option_map, IfErr, OnOk, OnErr, Ok, Err, Some, None, All};
 ghost use Rattle.std.specs.List.{list_any};
-ghost use Rattle.fb_shots_stim.specs.Lines.{if_not_empty};
+ghost use Rattle.fb_records.specs.Lines.{if_not_empty};
 ghost use Rattle.fb_shots_stim.specs.TextDets.{index_of, with_detector, with_words, rising};
 ghost use Rattle.fb_shots_stim.specs.WordsDets.{IsMarked};
 ghost use Rattle.fb_shots_stim.specs.WordStops.{IfRefused};
 
-use crate::answer::{Detectors, Kind, NoMemory};
+use crate::answer::Kind;
+use fb_records::{NoMemory, Numbers};
 use std::alloc::Global;
 use std::marker::Model;
 use std::mem;
@@ -95,7 +96,7 @@ impl Words {
     }
 
     /// Ends the record: the detectors that it names, if a word had come. The next record begins.
-    pub fn take(&mut self) -> Option<Detectors>
+    pub fn take(&mut self) -> Option<Numbers>
         ensures taken { result ≡ option_map (rising self.old.detectors) self.old.named }
         ensures left { self.new ≡ record self.old { named = None } }
     {
@@ -106,7 +107,7 @@ impl Words {
         clear_marks(self.marks.as_mut_slice(), self.named.as_slice());
         let mut named = mem::replace(&mut self.named, Vec::new(self.alloc));
         named.sort_unstable();
-        Some(Detectors::from_vec(named))
+        Some(Numbers::from_vec(named))
     }
 }
 

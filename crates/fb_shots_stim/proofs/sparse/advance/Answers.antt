@@ -1,5 +1,5 @@
 use Rattle.std.proofs.Common.{◌+◌, ℕ, Bool, drop, subst, ◌∙◌, arith}
-use Rattle.fb_shots_stim.specs.declared.answer.Next.TheVariants as next
+use Rattle.fb_records.specs.declared.answer.Next.TheVariants as next
 use Rattle.fb_shots_stim.specs.WordStops.{IfRefused}
 use Rattle.fb_shots_stim.specs.StopsDets.{AnswersDets}
 use Rattle.fb_shots_stim.proofs.PlaceLemmas.{place_start, place_seen, place_open, refused_then}
