@@ -1,14 +1,16 @@
 -- What a reader answers: by what is read, behind what is skipped, and at the end of a line and of the input.
 use Rattle.std.specs.Prelude.{if◌then◌else◌}
-use Rattle.std.proofs.Common.{◌≡◌, ℕ, suc, ◌+◌, Bool, true, false, List, [], ◌∷◌, ◌++◌, length, Option, Some, None, Result, Ok, Err, refl, sym, ap, ◌∙◌, append_assoc, inl, inr, arith}
+use Rattle.std.proofs.Common.{◌≡◌, ℕ, suc, ◌+◌, Bool, true, false, List, [], ◌∷◌, ◌++◌, length, Some, None, Ok, refl, sym, ap, ◌∙◌, append_assoc, inl, inr, arith}
 use Rattle.std.specs.List.{prefix_len}
 use Rattle.std.proofs.lemmas.Bool.{cases_Bool}
 use Rattle.std.proofs.lemmas.List.{append-nil, length-append}
 use Rattle.fb_records.specs.declared.answer.Next.{Next}
 use Rattle.fb_records.specs.declared.answer.Next.TheVariants.{Shot, NotYet, End, Refused}
-use Rattle.fb_records.specs.Records.{Ending, at_end, still_open, refused, Records, only, in_front, Judged, with_line, Reader}
+use Rattle.fb_records.specs.declared.answer.Stop.{Stop}
+use Rattle.fb_records.specs.declared.answer.Stop.TheVariants as stop
+use Rattle.fb_records.specs.Records.{at_end, refused, Records, only, in_front, Judged, with_line, Reader}
 use Rattle.fb_records.specs.Lines.{holds, lines_of, after_lines, after_first, records_by_lines, front_by_lines, Stays}
-use Rattle.fb_records.specs.Answers.{answer_of, reading, Gives, Refuses, Answers, Skips}
+use Rattle.fb_records.specs.Answers.{answer_of, reading, Gives, Refuses, Answers, IfRefused, Skips}
 use Rattle.fb_records.proofs.LineLemmas.{whole_parts_none, last_part_none, whole_parts_one, last_part_one, after_line_one, after_line_none}
 use Rattle.fb_records.proofs.RecordLemmas.{Judge, Begun, records_one, front_one, records_none, records_go_on}
 
@@ -152,3 +154,9 @@ last_after is_blank b line h some =
     ap (λ (ls : List (List ℕ)). after_lines (suc (prefix_len is_blank ls)) (b ∷ line)) lines
     ∙ ap (λ (k : ℕ). after_lines (suc k) (b ∷ line)) count
     ∙ after_line_none (b ∷ line) h
+
+-- ---- refusals
+
+pub refused_then : {K : Type 0} (P Q : K → Type 0) (why : Stop K) → ((kind : K) → P kind → Q kind) → IfRefused P why → IfRefused Q why
+refused_then P Q stop.NoMemory h r = tt
+refused_then P Q (stop.Refused kind) h r = h kind r

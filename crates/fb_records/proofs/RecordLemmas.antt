@@ -1,5 +1,5 @@
 -- What is read of an input whose records are lines: by its first line, and in two pieces.
-use Rattle.std.proofs.Common.{◌≡◌, ℕ, false, List, [], ◌∷◌, ◌++◌, Option, Some, None, Result, Ok, Err, refl, sym, ap, subst, ◌∙◌, append_assoc}
+use Rattle.std.proofs.Common.{◌≡◌, ℕ, false, List, [], ◌∷◌, ◌++◌, Some, None, Ok, Err, refl, sym, ap, subst, ◌∙◌, append_assoc}
 use Rattle.fb_records.specs.Records.{Ending, at_end, still_open, refused, Records, only, in_front, ending_as, Judged, with_line, go_down, GoesOn}
 use Rattle.fb_records.specs.Lines.{holds, whole_parts, last_part, if_not_empty, without_return, bare, lines_of, records_by_lines, front_by_lines, Stays}
 use Rattle.fb_records.proofs.LineLemmas.{whole_parts_none, last_part_none, whole_parts_one, last_part_one, without, within, splits, holds_none, parts_of, holds_last, without_return_append}

@@ -11,10 +11,12 @@ LinesGoOn K =
     → GoesOn (front_by_lines judge begun bytes) (records_by_lines judge (bytes ++ more))
     × GoesOn (front_by_lines judge begun bytes) (front_by_lines judge begun (bytes ++ more))
 
--- Skipped lines may be left out before it is told what stands after the first record, and it is what stands after its line.
+-- What stands after the first record: skipped lines before it change nothing, and its line ends it.
 pub record Leaves {K : Type 0} (judge : List ℕ → Judged K) (after : List ℕ → List ℕ) : Type 0 where
-  pub skips : (line more : List ℕ) → holds 10 line ≡ false → judge line ≡ Ok None → after (line ++ 10 ∷ more) ≡ after more
-  pub takes : (line more shot : List ℕ) → holds 10 line ≡ false → judge line ≡ Ok (Some shot) → after (line ++ 10 ∷ more) ≡ more
+  pub skips : (line more : List ℕ) → holds 10 line ≡ false → judge line ≡ Ok None
+      → after (line ++ 10 ∷ more) ≡ after more
+  pub takes : (line more shot : List ℕ) → holds 10 line ≡ false → judge line ≡ Ok (Some shot)
+      → after (line ++ 10 ∷ more) ≡ more
 
 -- Without the bytes of its first record an input gives the same without its first shot.
 abbrev pub FirstLineLeaves : Type 0 → Type 0

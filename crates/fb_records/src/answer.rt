@@ -1,4 +1,4 @@
-//! What a reader answers.
+//! What a reader answers, and why a step of it gives nothing.
 
 use crate::numbers::Numbers;
 
@@ -15,5 +15,14 @@ pub enum Next<K> {
     /// The input is finished, and no record is left.
     End,
     /// The next record is refused, and so is each further call.
+    Refused(K),
+}
+
+/// Why a step of a reader gives nothing. `K` says why a record is refused.
+#[derive(Drop)]
+pub enum Stop<K> {
+    /// There was not enough memory.
+    NoMemory,
+    /// The record is refused.
     Refused(K),
 }

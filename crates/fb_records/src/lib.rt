@@ -8,7 +8,7 @@ mod lines;
 mod numbers;
 mod pending;
 
-pub use answer::{Next, NoMemory};
+pub use answer::{Next, NoMemory, Stop};
 pub use laws::goes_on_by_lines;
 pub use lines::without_return;
 pub use numbers::Numbers;

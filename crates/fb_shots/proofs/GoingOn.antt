@@ -1,5 +1,5 @@
 -- What is settled by a front part stands before what all bytes hold, in each format.
-use Rattle.std.proofs.Common.{◌≡◌, length, map, ap, ◌∙◌}
+use Rattle.std.proofs.Common.{length, map, ap, ◌∙◌}
 use Rattle.std.proofs.lemmas.List.{map-append}
 use Rattle.fb_graph.specs.Limits.{DecodingGraph}
 use Rattle.fb_graph.specs.Layout.{detectors_of}

@@ -3,7 +3,6 @@ use Rattle.std.proofs.Common.{◌≡◌, true, false, List, ℕ, None, Some, Res
 use Rattle.std.proofs.lemmas.Bool.{cases_Bool}
 use Rattle.fb_graph.specs.Limits.{DecodingGraph}
 use Rattle.fb_records.specs.Answers.{FirstRecordLeaves}
-use Rattle.fb_records.specs.Laws.{Leaves}
 use Rattle.fb_records.proofs.AnswerLemmas.{blank_after, record_after}
 use Rattle.fb_records.proofs.FirstRecords.{leaves_first}
 use Rattle.fb_shots_json.specs.declared.answer.Kind.{Kind}

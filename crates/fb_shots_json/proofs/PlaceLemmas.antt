@@ -1,18 +1,16 @@
 -- A reader of JSON lines at a place.
-use Rattle.std.proofs.Common.{◌≡◌, ℕ, zero, suc, ◌+◌, ◌-◌, ◌<◌, ◌≤◌, Bool, true, false, ◌&&◌, List, [], ◌∷◌, ◌++◌, length, get_or, take, drop, Ok, Err, refl, sym, ap, subst, ◌∙◌, append_assoc, inl, inr, arith}
-use Rattle.std.proofs.lemmas.Bool.{cases_lt, ne_eqb}
-use Rattle.std.proofs.lemmas.List.{append-nil, take-append-drop, drop_all, drop-drop, drop_more}
+use Rattle.std.proofs.Common.{◌≡◌, ℕ, ◌+◌, ◌<◌, ◌≤◌, Bool, true, false, ◌&&◌, List, [], ◌∷◌, ◌++◌, length, get_or, take, drop, Ok, Err, refl, sym, ap, subst, ◌∙◌, append_assoc, inl, inr, arith}
+use Rattle.std.proofs.lemmas.Bool.{cases_lt}
+use Rattle.std.proofs.lemmas.List.{append-nil, take-append-drop, drop_all, drop_more}
 use Rattle.std.proofs.lemmas.List.Folds.{list_all-append}
 use Rattle.fb_graph.specs.Limits.{DecodingGraph}
 use Rattle.fb_shots_json.specs.declared.answer.Kind.{Kind}
 use Rattle.fb_shots_json.specs.declared.answer.Kind.TheVariants.{LineTooLong}
 use Rattle.fb_records.specs.declared.answer.Next.TheVariants.{Shot, NotYet, End, Refused}
-use Rattle.fb_shots_json.specs.declared.judging.Stop.{Stop}
-use Rattle.fb_shots_json.specs.declared.judging.Stop.TheVariants as stops
 use Rattle.fb_records.specs.Lines.{holds, part_of}
 use Rattle.fb_shots_json.specs.TextJson.{is_blank, is_blank_byte, is_too_long, shot_of_line}
 use Rattle.fb_shots_json.specs.Places.{IsAt, IsPlace}
-use Rattle.fb_shots_json.specs.Stops.{AnswersTo, IfRefused}
+use Rattle.fb_shots_json.specs.Stops.{AnswersTo}
 use Rattle.fb_records.proofs.PartLemmas.{part_none, part_two, take_part, part_more}
 use Rattle.fb_shots_json.proofs.TextLemmas as text
 
@@ -114,9 +112,3 @@ place_open_short g bytes line seen blank finished p all e short =
 pub place_end : (g : DecodingGraph) (bytes : List ℕ) (line seen : ℕ) (finished : Bool) → IsPlace g bytes line seen true → seen ≡ length bytes → finished ≡ true → AnswersTo g bytes finished bytes End
 place_end g bytes line seen finished p all done =
     text.end_nothing g (take line bytes) (part_of bytes line seen) bytes finished p.parts done (sym p.tells) (end_cut g bytes line seen true p all)
-
--- ---- refusals
-
-pub refused_then : (P Q : Kind → Type 0) (stop : Stop) → ((kind : Kind) → P kind → Q kind) → IfRefused P stop → IfRefused Q stop
-refused_then P Q stops.NoMemory h r = tt
-refused_then P Q (stops.Refused kind) h r = h kind r

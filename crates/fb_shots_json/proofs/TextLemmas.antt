@@ -1,6 +1,6 @@
 -- What JSON lines come to, line by line.
 use Rattle.std.specs.Prelude.{if◌then◌else◌}
-use Rattle.std.proofs.Common.{◌≡◌, ℕ, suc, ◌+◌, ◌<◌, Bool, true, false, ◌&&◌, List, [], ◌∷◌, ◌++◌, length, Option, Some, None, Result, Ok, Err, refl, sym, ap, ◌∙◌, inl, inr, append_assoc, arith}
+use Rattle.std.proofs.Common.{◌≡◌, ℕ, ◌<◌, Bool, true, false, ◌&&◌, List, [], ◌∷◌, ◌++◌, length, Some, None, Ok, Err, refl, sym, ap, ◌∙◌, inl, inr, arith}
 use Rattle.std.proofs.lemmas.Bool.{cases_Bool, ltb-true, lt-ltb}
 use Rattle.std.proofs.lemmas.List.{length-append}
 use Rattle.std.proofs.lemmas.List.Folds.{list_all-append}
@@ -8,9 +8,9 @@ use Rattle.fb_graph.specs.Limits.{DecodingGraph}
 use Rattle.fb_shots_json.specs.declared.answer.Kind.{Kind}
 use Rattle.fb_shots_json.specs.declared.answer.Kind.TheVariants.{LineTooLong}
 use Rattle.fb_records.specs.declared.answer.Next.TheVariants.{Shot, NotYet, End, Refused}
-use Rattle.fb_records.specs.Records.{at_end, still_open, refused, only, Judged, with_line, Reader}
+use Rattle.fb_records.specs.Records.{still_open, refused, only, Judged, with_line, Reader}
 use Rattle.fb_records.specs.Lines.{holds, Stays}
-use Rattle.fb_records.specs.Answers.{Gives, Refuses}
+use Rattle.fb_records.specs.Answers.{Gives}
 use Rattle.fb_records.proofs.LineLemmas.{holds_none}
 use Rattle.fb_records.proofs.RecordLemmas.{front_one, front_none}
 use Rattle.fb_records.proofs.AnswerLemmas.{skips_nothing, skips_line, skip_gives, skip_refuses, refuses_front, refuses_last, gives_line, gives_last, records_end, blank_after, record_after, last_after}

@@ -4,18 +4,11 @@ use Rattle.fb_graph.specs.Limits.{DecodingGraph}
 use Rattle.fb_shots_json.specs.declared.answer.Kind.{Kind}
 use Rattle.fb_records.specs.declared.answer.Next.{Next}
 use Rattle.fb_records.specs.declared.answer.Next.TheVariants as next
-use Rattle.fb_shots_json.specs.declared.judging.Stop.{Stop}
-use Rattle.fb_shots_json.specs.declared.judging.Stop.TheVariants as stop
 use Rattle.fb_shots_json.specs.declared.reader.Step.{Step}
 use Rattle.fb_shots_json.specs.declared.reader.Step.TheVariants as step
 use Rattle.fb_records.specs.Records.{Reader}
 use Rattle.fb_records.specs.Answers.{Answers}
 use Rattle.fb_shots_json.specs.TextJson.{records_json, front_json, after_record}
-
--- the fact of the kind, where something is refused
-abbrev pub IfRefused : (Kind → Type 0) → Stop → Type 0
-IfRefused P stop.NoMemory = Unit {0}
-IfRefused P (stop.Refused kind) = P kind
 
 -- the answer to a rest, and what it leaves
 abbrev pub AnswersTo : DecodingGraph → List ℕ → Bool → List ℕ → Next Kind → Type 0

@@ -2,17 +2,17 @@
 
 ghost use Rattle.std.specs.Prelude.{◌≡◌, ℕ, ◌+◌, ◌-◌, ◌<◌, ◌≤◌, ◌++◌, ◌&&◌, [], Bool, true, false, length, take, drop, slice_index, IfOk, IfErr, IfSome, IfNone, OnOk, OnErr};
 ghost use Rattle.fb_records.specs.Lines.{holds, part_of};
-ghost use Rattle.fb_records.specs.Answers.{answer_of, reading, Answers, IfShot};
+ghost use Rattle.fb_records.specs.Answers.{answer_of, reading, Answers, IfRefused, IfShot};
 ghost use Rattle.fb_records.specs.declared.answer.Next.TheVariants as next;
 ghost use Rattle.fb_shots_json.specs.TextJson.{is_blank, records_json, front_json, after_record};
 ghost use Rattle.fb_graph.specs.Limits.{IsShot};
 ghost use Rattle.fb_shots_json.specs.Places.{IsPlace};
-ghost use Rattle.fb_shots_json.specs.Stops.{IfRefused, AnswersTo, used_of, answer_at};
+ghost use Rattle.fb_shots_json.specs.Stops.{AnswersTo, used_of, answer_at};
 
 use crate::answer::Kind;
-use crate::judging::{Stop, is_too_long, shot_of_line};
+use crate::judging::{is_too_long, shot_of_line};
 use fb_graph::Graph;
-use fb_records::{Next, NoMemory, Numbers, Pending};
+use fb_records::{Next, NoMemory, Numbers, Pending, Stop};
 use std::alloc::Global;
 use std::marker::Model;
 
@@ -125,7 +125,7 @@ fn advance(
     place: &mut Place,
     rest: &[u8],
     finished: bool,
-) -> Result<Step, Stop>
+) -> Result<Step, Stop<Kind>>
     requires { IsPlace graph.now rest.now place.old.line place.old.seen place.old.is_blank }
     ensures ok { IfOk result (λ step. AnswersTo graph.now rest.now finished (drop (used_of step) rest.now) (answer_at step)
         × IsPlace graph.now (drop (used_of step) rest.now) place.new.line place.new.seen place.new.is_blank) }

@@ -6,7 +6,6 @@ use Rattle.std.proofs.lemmas.Bool.{cases_Bool, cases_lt, cond-true, cond-false}
 use Rattle.fb_records.specs.Records.{Records, in_front}
 use Rattle.fb_records.specs.Lines.{without_return, bare, after_line}
 use Rattle.fb_records.specs.Answers.{FirstRecordLeaves}
-use Rattle.fb_records.specs.Laws.{Leaves}
 use Rattle.fb_records.proofs.LineLemmas.{after_line_one}
 use Rattle.fb_records.proofs.AnswerLemmas.{blank_after, record_after}
 use Rattle.fb_records.proofs.FirstRecords.{no_shots, leaves_first}

@@ -1,7 +1,7 @@
 -- The words of a line of `dets`, and what a text comes to at the end of a word, of a line and of the input.
 use Rattle.std.specs.Prelude.{if◌then◌else◌}
-use Rattle.std.proofs.Common.{◌≡◌, ℕ, suc, ◌+◌, Bool, true, false, eqb, List, [], ◌∷◌, ◌++◌, Option, Some, None, Result, Ok, Err, refl, sym, ap, subst, ◌∙◌, append_assoc, inl, inr, arith}
-use Rattle.std.specs.List.{flat_map, prefix_len}
+use Rattle.std.proofs.Common.{◌≡◌, ℕ, Bool, true, false, eqb, List, [], ◌∷◌, ◌++◌, Option, Some, None, Result, Ok, Err, refl, sym, ap, subst, ◌∙◌, append_assoc, inl, inr}
+use Rattle.std.specs.List.{flat_map}
 use Rattle.std.proofs.lemmas.Bool.{cases_Bool, or_parts, eqb-true}
 use Rattle.std.proofs.lemmas.List.{append-nil}
 use Rattle.std.proofs.lemmas.List.Concat.{flat_map-append}
@@ -11,7 +11,7 @@ use Rattle.fb_records.specs.Records.{refused}
 use Rattle.fb_records.specs.Lines.{holds, whole_parts, last_part, if_not_empty, without_return, bare, Stays}
 use Rattle.fb_shots_stim.specs.TextDets.{ended_words, words_of, with_word, with_words, with_detector, with_letter, index_of, shot_of, ending_of, line_dets, begun_dets, records_dets, front_dets, is_nothing, is_blank, after_record}
 use Rattle.fb_shots_stim.specs.WordsDets.{IsAt}
-use Rattle.fb_records.proofs.LineLemmas.{whole_parts_none, whole_parts_one, last_part_none, last_part_one, parts_of, holds_none, after_line_one}
+use Rattle.fb_records.proofs.LineLemmas.{whole_parts_none, whole_parts_one, last_part_none, last_part_one, parts_of, holds_none}
 use Rattle.fb_records.proofs.RecordLemmas.{stays_bare}
 use Rattle.fb_records.proofs.AnswerLemmas.{skips_nothing, skips_line, blank_after}
 

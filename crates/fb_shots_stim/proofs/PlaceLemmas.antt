@@ -1,16 +1,12 @@
 -- A reader of `dets` at a place.
-use Rattle.std.proofs.Common.{◌≡◌, ℕ, zero, suc, ◌+◌, ◌-◌, ◌<◌, ◌≤◌, Bool, true, false, List, [], ◌∷◌, ◌++◌, length, get_or, take, drop, Option, Some, None, Ok, Err, refl, sym, ap, subst, ◌∙◌, append_assoc, inl, inr, arith}
-use Rattle.std.proofs.lemmas.Bool.{cases_lt, ne_eqb, eq-eqb}
-use Rattle.std.proofs.lemmas.List.{append-nil, length-drop, length-append, take-append-drop, take-append-le, drop-append-le, drop_all, drop-drop, drop_more}
+use Rattle.std.proofs.Common.{◌≡◌, ℕ, ◌+◌, ◌<◌, ◌≤◌, Bool, true, false, List, [], ◌∷◌, ◌++◌, length, get_or, take, drop, Option, Some, None, Ok, Err, refl, sym, ap, subst, ◌∙◌, append_assoc, arith}
+use Rattle.std.proofs.lemmas.List.{append-nil, length-append, take-append-drop, take-append-le, drop_all, drop_more}
 use Rattle.fb_shots_stim.specs.declared.answer.Kind.{Kind}
 use Rattle.fb_records.specs.declared.answer.Next.TheVariants.{Shot, NotYet, End, Refused}
 use Rattle.fb_records.specs.Lines.{holds, if_not_empty, part_of, without_return}
 use Rattle.fb_shots_stim.specs.TextDets.{with_words, shot_of, rising}
 use Rattle.fb_shots_stim.specs.WordsDets.{RecordSoFar, IsAt, IsPlace}
 use Rattle.fb_shots_stim.specs.StopsDets.{AnswersDets}
-use Rattle.fb_shots_stim.specs.declared.words.Stop.{Stop}
-use Rattle.fb_shots_stim.specs.declared.words.Stop.TheVariants as stops
-use Rattle.fb_shots_stim.specs.WordStops.{IfRefused}
 use Rattle.fb_records.proofs.PartLemmas.{part_none, part_two, take_part, part_more, part_kept}
 use Rattle.fb_shots_stim.proofs.LemmasDets.{Words, never_none, at_start, at_more, at_space, at_newline}
 use Rattle.fb_shots_stim.proofs.StopsDets.{space_refused, newline_refused, newline_shot, open_so_far, end_refused, end_nothing, end_shot}
@@ -186,9 +182,3 @@ place_end_nothing old new bytes line word seen p all same none e =
             (subst (λ (o : Option (List ℕ)). IsAt old.detectors (take line bytes) (part_of bytes line word) (part_of bytes word seen) o) (before ∙ sym none) p.parts);
       },
     )
-
--- ---- refusals
-
-pub refused_then : (P Q : Kind → Type 0) (stop : Stop) → ((kind : Kind) → P kind → Q kind) → IfRefused P stop → IfRefused Q stop
-refused_then P Q stops.NoMemory h r = tt
-refused_then P Q (stops.Refused kind) h r = h kind r

@@ -1,11 +1,11 @@
 -- What a reader of `dets` answers at the end of a word, of a line and of the input.
-use Rattle.std.proofs.Common.{◌≡◌, ℕ, suc, ◌+◌, Bool, true, false, List, [], ◌∷◌, ◌++◌, length, Option, Some, None, Ok, Err, refl, sym, ap, ◌∙◌, append_assoc, arith}
-use Rattle.std.proofs.lemmas.List.{append-nil, length-append}
+use Rattle.std.proofs.Common.{◌≡◌, ℕ, Bool, true, false, List, [], ◌∷◌, ◌++◌, Option, Some, None, Ok, Err, refl, sym, ap, ◌∙◌, append_assoc}
+use Rattle.std.proofs.lemmas.List.{append-nil}
 use Rattle.fb_shots_stim.specs.declared.answer.Kind.{Kind}
 use Rattle.fb_records.specs.declared.answer.Next.{Next}
 use Rattle.fb_records.specs.declared.answer.Next.TheVariants.{Shot, NotYet, End, Refused}
-use Rattle.fb_records.specs.Records.{at_end, refused, only, with_line, Reader}
-use Rattle.fb_records.specs.Answers.{Gives, Refuses, Answers}
+use Rattle.fb_records.specs.Records.{refused, only, with_line, Reader}
+use Rattle.fb_records.specs.Answers.{Gives, Answers}
 use Rattle.fb_records.specs.Lines.{holds, if_not_empty, without_return, bare}
 use Rattle.fb_shots_stim.specs.TextDets.{ended_words, words_of, with_words, rising, shot_of, ending_of, line_dets, begun_dets, records_dets, front_dets, is_blank, after_record}
 use Rattle.fb_shots_stim.specs.WordsDets.{IsAt}

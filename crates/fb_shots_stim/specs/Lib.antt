@@ -5,4 +5,3 @@ pub mod BlocksB8
 pub mod TextDets
 pub mod WordsDets
 pub mod StopsDets
-pub mod WordStops

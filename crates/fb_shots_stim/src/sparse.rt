@@ -2,17 +2,16 @@
 
 ghost use Rattle.std.specs.Prelude.{◌≡◌, ℕ, ◌+◌, ◌-◌, ◌<◌, ◌≤◌, ◌++◌, ◌∷◌, [], List, Bool, true, false, ◌||◌, ◌==◌, length, take, drop, slice_index, Ok, Err, Some, None, IfOk, IfErr, IfSome, IfNone, OnOk, OnErr};
 ghost use Rattle.fb_records.specs.Lines.{holds, if_not_empty, part_of, without_return};
-ghost use Rattle.fb_records.specs.Answers.{answer_of, reading, Answers, IfShot};
+ghost use Rattle.fb_records.specs.Answers.{answer_of, reading, Answers, IfRefused, IfShot};
 ghost use Rattle.fb_records.specs.declared.answer.Next.TheVariants as next;
 ghost use Rattle.fb_shots_stim.specs.Shots.{IsShotOf};
 ghost use Rattle.fb_shots_stim.specs.TextDets.{records_dets, front_dets, after_record, shot_of, with_words};
 ghost use Rattle.fb_shots_stim.specs.WordsDets.{IsPlace, is_word_end};
-ghost use Rattle.fb_shots_stim.specs.WordStops.{IfRefused};
 ghost use Rattle.fb_shots_stim.specs.StopsDets.{AnswersDets, used_of, answer_at};
 
 use crate::answer::Kind;
-use crate::words::{Stop, Words};
-use fb_records::{Next, NoMemory, Numbers, Pending, without_return};
+use crate::words::Words;
+use fb_records::{Next, NoMemory, Numbers, Pending, Stop, without_return};
 use std::alloc::Global;
 use std::marker::Model;
 
@@ -116,7 +115,12 @@ const START: Place = Place {
 };
 
 /// Reads words up to the end of a record or of the bytes.
-fn advance(words: &mut Words, place: &mut Place, rest: &[u8], finished: bool) -> Result<Step, Stop>
+fn advance(
+    words: &mut Words,
+    place: &mut Place,
+    rest: &[u8],
+    finished: bool,
+) -> Result<Step, Stop<Kind>>
     requires { IsPlace words.old rest.now place.old.line place.old.word place.old.seen }
     ensures ok { IfOk result (λ step. AnswersDets words.old.detectors rest.now finished (drop (used_of step) rest.now) (answer_at step)
         × IsPlace words.new (drop (used_of step) rest.now) place.new.line place.new.word place.new.seen
@@ -177,7 +181,7 @@ fn word_end(bytes: &[u8], from: usize) -> usize
 }
 
 /// Takes the word that a space has ended.
-fn take_word(words: &mut Words, place: &mut Place, rest: &[u8]) -> Result<(), Stop>
+fn take_word(words: &mut Words, place: &mut Place, rest: &[u8]) -> Result<(), Stop<Kind>>
     requires at { IsPlace words.old rest.now place.old.line place.old.word place.old.seen }
     requires more { place.old.seen < length rest.now }
     requires space { slice_index rest.now place.old.seen ≡ 32 }
@@ -199,7 +203,11 @@ fn take_word(words: &mut Words, place: &mut Place, rest: &[u8]) -> Result<(), St
 }
 
 /// Takes the last word of a line that its newline has ended: the shot of the line, if it has a word.
-fn take_line(words: &mut Words, place: &mut Place, rest: &[u8]) -> Result<Option<Numbers>, Stop>
+fn take_line(
+    words: &mut Words,
+    place: &mut Place,
+    rest: &[u8],
+) -> Result<Option<Numbers>, Stop<Kind>>
     requires at { IsPlace words.old rest.now place.old.line place.old.word place.old.seen }
     requires more { place.old.seen < length rest.now }
     requires newline { slice_index rest.now place.old.seen ≡ 10 }
@@ -225,7 +233,7 @@ fn take_line(words: &mut Words, place: &mut Place, rest: &[u8]) -> Result<Option
 }
 
 /// Takes the last word of the input: the shot of its line, if it has a word.
-fn take_last(words: &mut Words, place: Place, rest: &[u8]) -> Result<Option<Numbers>, Stop>
+fn take_last(words: &mut Words, place: Place, rest: &[u8]) -> Result<Option<Numbers>, Stop<Kind>>
     requires at { IsPlace words.old rest.now place.line place.word place.seen }
     requires all { place.seen ≡ length rest.now }
     ensures nothing { IfOk result (λ found. IfNone found (AnswersDets words.old.detectors rest.now true rest.now next.End
@@ -244,7 +252,7 @@ fn take_last(words: &mut Words, place: Place, rest: &[u8]) -> Result<Option<Numb
 }
 
 /// Takes the last word of a line and ends the record.
-fn end_line(words: &mut Words, word: &[u8]) -> Result<Option<Numbers>, Stop>
+fn end_line(words: &mut Words, word: &[u8]) -> Result<Option<Numbers>, Stop<Kind>>
     ensures ok { IfOk result (λ found. shot_of words.old.detectors
         (with_words words.old.detectors (Ok words.old.named) (if_not_empty (without_return word.now))) ≡ Ok found) }
     ensures ended { OnOk result (words.new.named ≡ None) }
