@@ -1,16 +1,16 @@
 -- The answers of the readers of the formats, seen alike.
-use Rattle.std.proofs.Common.{◌≡◌, ℕ, ◌<◌, List, ◌++◌, Bool, length, All, sym, ap, subst, ◌∙◌}
+use Rattle.std.proofs.Common.{◌≡◌, ℕ, ◌<◌, List, [], ◌∷◌, ◌++◌, Bool, length, All, refl, sym, ap, subst, ◌∙◌}
 use Rattle.fb_graph.specs.Limits.{DecodingGraph, IsShot}
 use Rattle.fb_graph.specs.Layout.{detectors_of}
-use Rattle.fb_shots_stim.specs.Records as stim
-use Rattle.fb_shots_stim.specs.Answers as stim_answers
-use Rattle.fb_shots_stim.specs.declared.answer.Next.{Next as StimNext}
-use Rattle.fb_shots_stim.specs.declared.answer.Next.TheVariants as stim_next
-use Rattle.fb_shots_json.specs.Records as json
-use Rattle.fb_shots_json.specs.Answers as json_answers
-use Rattle.fb_shots_json.specs.TextJson.{records_json, front_json}
-use Rattle.fb_shots_json.specs.declared.answer.Next.{Next as JsonNext}
-use Rattle.fb_shots_json.specs.declared.answer.Next.TheVariants as json_next
+use Rattle.fb_records.specs.declared.answer.Next.{Next}
+use Rattle.fb_records.specs.declared.answer.Next.TheVariants as next
+use Rattle.fb_records.specs.Records.{Ending as AnyEnding, Records, ending_as, Reader}
+use Rattle.fb_records.specs.Answers.{IfShot}
+use Rattle.fb_records.specs.Answers as read
+use Rattle.fb_shots_stim.specs.declared.answer.Kind.{Kind as StimKind}
+use Rattle.fb_shots_stim.specs.Shots.{IsShotOf}
+use Rattle.fb_shots_json.specs.declared.answer.Kind.{Kind as JsonKind}
+use Rattle.fb_shots_json.specs.TextJson.{records_json, front_json, after_record}
 use Rattle.fb_shots.specs.declared.answer.Kind.{Kind}
 use Rattle.fb_shots.specs.declared.answer.Kind.TheVariants as kind
 use Rattle.fb_shots.specs.declared.answer.Format.{Format}
@@ -18,15 +18,12 @@ use Rattle.fb_shots.specs.declared.answer.Format.TheVariants as format
 use Rattle.fb_shots.specs.Shots.{refused, Shots, only, in_front}
 use Rattle.fb_shots.specs.Formats.{vertices_of, of_stim, of_json, records_of, front_of}
 use Rattle.fb_shots.specs.Sources.{Source}
-use Rattle.fb_shots.specs.Answers.{Answers, stim_answer, json_answer}
+use Rattle.fb_shots.specs.Answers.{Answers, answer_as, stim_answer, json_answer}
 use Rattle.fb_shots.proofs.Detectors.{vertices_are_shot}
 use Rattle.fb_shots.proofs.GoingOn.{goes_on_anywhere}
 
-abbrev StimRecords : Type 0
-StimRecords = ℕ → List ℕ → stim.Records
-
--- a reader of detectors as a source
-abbrev source : Format → DecodingGraph → stim.Reader → Source
+-- a format's reader as a source
+abbrev source : {C : Type 0} → Format → DecodingGraph → Reader C → Source
 source f g r = record { format = f; graph = g; rest = r.rest; finished = r.finished }
 
 -- what was refused of a front part is refused of more
@@ -35,69 +32,75 @@ pub stays_refused : (f : Format) (g : DecodingGraph) (bytes more : List ℕ) (wh
 stays_refused f g bytes more why e =
     (goes_on_anywhere f g bytes more).1.judged why (ap (λ (r : Shots). r.ending) e) ∙ e
 
--- ---- a reader of detectors
+-- ---- a reader, whatever its format
 
-pub stim_right : (f : Format) (g : DecodingGraph) (records front : StimRecords) (after : List ℕ → List ℕ) (old new : stim.Reader) (answer : StimNext)
-    → ((bytes : List ℕ) → records_of f g bytes ≡ of_stim g (records old.detectors bytes))
-    → ((bytes : List ℕ) → front_of f g bytes ≡ of_stim g (front old.detectors bytes))
-    → old.detectors ≡ length (detectors_of g)
-    → stim_answers.IfShot (stim.IsShotOf old.detectors) answer
-    → stim_answers.Answers records front after old new answer
-    → Answers (source f g old) (source f g new) (stim_answer g answer)
-stim_right f g records front after old new (stim_next.Shot shot) rs fs n is h =
+-- A format's records are seen as shots: each shot by its vertices, each refusal as one of this crate.
+record IsView {K : Type 0} (vertices : List ℕ → List ℕ) (say : K → Kind) (view : Records K → Shots) : Type 0 where
+  shot : (numbers : List ℕ) (r : Records K) → view (record { shots = numbers ∷ r.shots; ending = r.ending }) ≡ in_front (vertices numbers) (view r)
+  none : (ending : AnyEnding K) → view (record { shots = []; ending = ending }) ≡ only (ending_as say ending)
+
+-- bytes hold in the format what the reader's definitions say, seen as shots
+record IsFormat {K C : Type 0} (f : Format) (g : DecodingGraph) (view : Records K → Shots) (records front : C → List ℕ → Records K) (c : C) : Type 0 where
+  all : (bytes : List ℕ) → records_of f g bytes ≡ view (records c bytes)
+  open_ : (bytes : List ℕ) → front_of f g bytes ≡ view (front c bytes)
+
+reader_right : {K C : Type 0} (f : Format) (g : DecodingGraph) (vertices : List ℕ → List ℕ) (say : K → Kind) (view : Records K → Shots)
+    (records front : C → List ℕ → Records K) (after : List ℕ → List ℕ) (old new : Reader C) (answer : Next K)
+    → IsView vertices say view → IsFormat f g view records front old.subject → IfShot (λ numbers. IsShot g (vertices numbers)) answer
+    → read.Answers records front after old new answer → Answers (source f g old) (source f g new) (answer_as vertices say answer)
+reader_right {K} {C} f g vertices say view records front after old new (next.Shot numbers) v is shot h =
     let made : Bool → Source = λ b. record { format = f; graph = g; rest = new.rest; finished = b } in (
       record {
         shorter = h.0.shorter;
-        now = rs old.rest ∙ ap (of_stim g) h.0.now ∙ ap (in_front (vertices_of g shot)) (sym (rs new.rest));
-        later = λ still more. rs (old.rest ++ more) ∙ ap (of_stim g) (h.0.later still more) ∙ ap (in_front (vertices_of g shot)) (sym (rs (new.rest ++ more)));
-        onward = λ still more. fs (old.rest ++ more) ∙ ap (of_stim g) (h.0.onward still more) ∙ ap (in_front (vertices_of g shot)) (sym (fs (new.rest ++ more)));
+        now = is.all old.rest ∙ ap view h.0.now ∙ v.shot numbers _ ∙ ap (in_front (vertices numbers)) (sym (is.all new.rest));
+        later = λ still more. is.all (old.rest ++ more) ∙ ap view (h.0.later still more) ∙ v.shot numbers _ ∙ ap (in_front (vertices numbers)) (sym (is.all (new.rest ++ more)));
+        onward = λ still more. is.open_ (old.rest ++ more) ∙ ap view (h.0.onward still more) ∙ v.shot numbers _ ∙ ap (in_front (vertices numbers)) (sym (is.open_ (new.rest ++ more)));
       },
-      vertices_are_shot g shot is.rising (subst (λ (m : ℕ). All (λ k. k < m) shot) n is.below),
-      ap made (ap (λ (r : stim.Reader). r.finished) h.1),
+      shot,
+      ap made (ap (λ (r : Reader C). r.finished) h.1),
     )
-stim_right f g records front after old new stim_next.NotYet rs fs n is h =
-    (h.0, fs old.rest ∙ ap (of_stim g) h.1, ap (source f g) h.2)
-stim_right f g records front after old new stim_next.End rs fs n is h =
-    (h.0, rs old.rest ∙ ap (of_stim g) h.1, ap (source f g) h.2)
-stim_right f g records front after old new (stim_next.Refused why) rs fs n is h = (
+reader_right f g vertices say view records front after old new next.NotYet v is shot h =
+    (h.0, is.open_ old.rest ∙ ap view h.1 ∙ v.none _, ap (source f g) h.2)
+reader_right f g vertices say view records front after old new next.End v is shot h =
+    (h.0, is.all old.rest ∙ ap view h.1 ∙ v.none _, ap (source f g) h.2)
+reader_right f g vertices say view records front after old new (next.Refused why) v is shot h = (
   record {
-    now = rs old.rest ∙ ap (of_stim g) h.0.now;
-    later = λ still more. rs (old.rest ++ more) ∙ ap (of_stim g) (h.0.later still more);
-    onward = λ still more. stays_refused f g old.rest more (kind.Stim why) (fs old.rest ∙ ap (of_stim g) (h.0.so_far still));
+    now = is.all old.rest ∙ ap view h.0.now ∙ v.none _;
+    later = λ still more. is.all (old.rest ++ more) ∙ ap view (h.0.later still more) ∙ v.none _;
+    onward = λ still more. stays_refused f g old.rest more (say why) (is.open_ old.rest ∙ ap view (h.0.so_far still) ∙ v.none _);
   },
   ap (source f g) h.1,
 )
 
+-- ---- readers of detectors
+
+vertices_if_shot : (g : DecodingGraph) (n : ℕ) (answer : Next StimKind) → n ≡ length (detectors_of g) → IfShot (IsShotOf n) answer → IfShot (λ shot. IsShot g (vertices_of g shot)) answer
+vertices_if_shot g n (next.Shot shot) e is = vertices_are_shot g shot is.rising (subst (λ (m : ℕ). All (λ k. k < m) shot) e is.below)
+vertices_if_shot g n next.NotYet e is = tt
+vertices_if_shot g n next.End e is = tt
+vertices_if_shot g n (next.Refused why) e is = tt
+
+pub stim_right : (f : Format) (g : DecodingGraph) (records front : ℕ → List ℕ → Records StimKind) (after : List ℕ → List ℕ) (old new : Reader ℕ) (answer : Next StimKind)
+    → ((bytes : List ℕ) → records_of f g bytes ≡ of_stim g (records old.subject bytes))
+    → ((bytes : List ℕ) → front_of f g bytes ≡ of_stim g (front old.subject bytes))
+    → old.subject ≡ length (detectors_of g)
+    → IfShot (IsShotOf old.subject) answer
+    → read.Answers records front after old new answer
+    → Answers (source f g old) (source f g new) (stim_answer g answer)
+stim_right f g records front after old new answer rs fs n is h =
+    reader_right f g (vertices_of g) kind.Stim (of_stim g) records front after old new answer
+    (record { shot = λ numbers r. refl; none = λ ending. refl }) (record { all = rs; open_ = fs }) (vertices_if_shot g old.subject answer n is) h
+
 -- ---- the reader of vertices
 
-abbrev json_source : DecodingGraph → json.Reader → Source
-json_source g r = record { format = format.Json; graph = g; rest = r.rest; finished = r.finished }
-
-pub json_right : (g : DecodingGraph) (old new : json.Reader) (answer : JsonNext) → old.graph ≡ g
-    → json_answers.IfShot (IsShot g) answer → json_answers.Answers old new answer
-    → Answers (json_source g old) (json_source g new) (json_answer answer)
-json_right g old new (json_next.Shot shot) same is h =
-    let made : Bool → Source = λ b. record { format = format.Json; graph = g; rest = new.rest; finished = b } in
-    let gives = subst (λ (x : DecodingGraph). json_answers.Gives (records_json x) (front_json x) old new shot) same h.0 in (
-      record {
-        shorter = gives.shorter;
-        now = ap of_json gives.now;
-        later = λ still more. ap of_json (gives.later still more);
-        onward = λ still more. ap of_json (gives.onward still more);
-      },
-      is,
-      ap made (ap (λ (r : json.Reader). r.finished) h.1),
-    )
-json_right g old new json_next.NotYet same is h =
-    (h.0, ap (λ (x : DecodingGraph). of_json (front_json x old.rest)) (sym same) ∙ ap of_json h.1, ap (json_source g) h.2)
-json_right g old new json_next.End same is h =
-    (h.0, ap (λ (x : DecodingGraph). of_json (records_json x old.rest)) (sym same) ∙ ap of_json h.1, ap (json_source g) h.2)
-json_right g old new (json_next.Refused why) same is h =
-    let refuses = subst (λ (x : DecodingGraph). json_answers.Refuses (records_json x) (front_json x) old why) same h.0 in (
-      record {
-        now = ap of_json refuses.now;
-        later = λ still more. ap of_json (refuses.later still more);
-        onward = λ still more. stays_refused format.Json g old.rest more (kind.Json why) (ap of_json (refuses.so_far still));
-      },
-      ap (json_source g) h.1,
-    )
+pub json_right : (g : DecodingGraph) (old new : Reader DecodingGraph) (answer : Next JsonKind) → old.subject ≡ g
+    → IfShot (IsShot g) answer → read.Answers records_json front_json after_record old new answer
+    → Answers (source format.Json g old) (source format.Json g new) (json_answer answer)
+json_right g old new answer same is h =
+    reader_right format.Json g (λ vertices. vertices) kind.Json of_json records_json front_json after_record old new answer
+    (record { shot = λ numbers r. refl; none = λ ending. refl })
+    (record {
+      all = λ bytes. ap (λ (x : DecodingGraph). of_json (records_json x bytes)) (sym same);
+      open_ = λ bytes. ap (λ (x : DecodingGraph). of_json (front_json x bytes)) (sym same);
+    })
+    is h

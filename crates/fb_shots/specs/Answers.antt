@@ -1,10 +1,10 @@
 -- What an answer of a reader says of the bytes that it was fed.
 use Rattle.std.specs.Prelude.{◌≡◌, ℕ, ◌<◌, Bool, true, false, List, ◌++◌, length}
 use Rattle.fb_graph.specs.Limits.{DecodingGraph, IsShot}
-use Rattle.fb_shots_stim.specs.declared.answer.Next.{Next as StimNext}
-use Rattle.fb_shots_stim.specs.declared.answer.Next.TheVariants as stim
-use Rattle.fb_shots_json.specs.declared.answer.Next.{Next as JsonNext}
-use Rattle.fb_shots_json.specs.declared.answer.Next.TheVariants as json
+use Rattle.fb_records.specs.declared.answer.Next.{Next as NextOf}
+use Rattle.fb_records.specs.declared.answer.Next.TheVariants as next
+use Rattle.fb_shots_stim.specs.declared.answer.Kind.{Kind as StimKind}
+use Rattle.fb_shots_json.specs.declared.answer.Kind.{Kind as JsonKind}
 use Rattle.fb_shots.specs.declared.answer.Kind.{Kind}
 use Rattle.fb_shots.specs.declared.answer.Kind.TheVariants as kind
 use Rattle.fb_shots.specs.declared.reader.Next.{Next}
@@ -38,15 +38,17 @@ AnswersIn records front old new (Refused why) = Refuses records front old.finish
 abbrev pub Answers : Source → Source → Next → Type 0
 Answers old new answer = AnswersIn (records_of old.format old.graph) (front_of old.format old.graph) old new answer
 
--- the answer of a reader of detectors, as one of vertices
-abbrev pub stim_answer : DecodingGraph → StimNext → Next
-stim_answer g (stim.Shot shot) = Shot (vertices_of g shot)
-stim_answer g stim.NotYet = NotYet
-stim_answer g stim.End = End
-stim_answer g (stim.Refused why) = Refused (kind.Stim why)
+-- the answer of a format's reader: the shot of its numbers, and the refusal said by this crate
+abbrev pub answer_as : {K : Type 0} → (List ℕ → List ℕ) → (K → Kind) → NextOf K → Next
+answer_as vertices say (next.Shot numbers) = Shot (vertices numbers)
+answer_as vertices say next.NotYet = NotYet
+answer_as vertices say next.End = End
+answer_as vertices say (next.Refused why) = Refused (say why)
 
-abbrev pub json_answer : JsonNext → Next
-json_answer (json.Shot shot) = Shot shot
-json_answer json.NotYet = NotYet
-json_answer json.End = End
-json_answer (json.Refused why) = Refused (kind.Json why)
+-- the answer of a reader of detectors
+abbrev pub stim_answer : DecodingGraph → NextOf StimKind → Next
+stim_answer g = answer_as (vertices_of g) kind.Stim
+
+-- the answer of a reader of vertices
+abbrev pub json_answer : NextOf JsonKind → Next
+json_answer = answer_as (λ vertices. vertices) kind.Json

@@ -2,37 +2,28 @@
 use Rattle.std.specs.Prelude.{ℕ, List, ◌++◌, length, map, slice_index}
 use Rattle.fb_graph.specs.Limits.{DecodingGraph}
 use Rattle.fb_graph.specs.Layout.{detectors_of}
-use Rattle.fb_shots_stim.specs.Records as stim
+use Rattle.fb_records.specs.Records.{Records, ending_as}
+use Rattle.fb_shots_stim.specs.declared.answer.Kind.{Kind as StimKind}
 use Rattle.fb_shots_stim.specs.Text01.{records_01, front_01}
 use Rattle.fb_shots_stim.specs.BlocksB8.{records_b8, front_b8}
 use Rattle.fb_shots_stim.specs.TextDets.{records_dets, front_dets}
-use Rattle.fb_shots_json.specs.Records as json
+use Rattle.fb_shots_json.specs.declared.answer.Kind.{Kind as JsonKind}
 use Rattle.fb_shots_json.specs.TextJson.{records_json, front_json}
 use Rattle.fb_shots.specs.declared.answer.Format.{Format}
 use Rattle.fb_shots.specs.declared.answer.Format.TheVariants.{Text01, B8, Dets, Json}
 use Rattle.fb_shots.specs.declared.answer.Kind.TheVariants as kind
-use Rattle.fb_shots.specs.Shots.{Ending, at_end, still_open, refused, Shots, GoesOn}
+use Rattle.fb_shots.specs.Shots.{Shots, GoesOn}
 
 -- the vertices of detectors: detector k is the k-th real vertex in rising order
 abbrev pub vertices_of : DecodingGraph → List ℕ → List ℕ
 vertices_of g detectors = map (λ k. slice_index (detectors_of g) k) detectors
 
-abbrev pub stim_ending : stim.Ending → Ending
-stim_ending stim.at_end = at_end
-stim_ending stim.still_open = still_open
-stim_ending (stim.refused why) = refused (kind.Stim why)
-
-abbrev pub json_ending : json.Ending → Ending
-json_ending json.at_end = at_end
-json_ending json.still_open = still_open
-json_ending (json.refused why) = refused (kind.Json why)
-
 -- records of detectors, as shots of vertices
-abbrev pub of_stim : DecodingGraph → stim.Records → Shots
-of_stim g r = record { shots = map (vertices_of g) r.shots; ending = stim_ending r.ending }
+abbrev pub of_stim : DecodingGraph → Records StimKind → Shots
+of_stim g r = record { shots = map (vertices_of g) r.shots; ending = ending_as kind.Stim r.ending }
 
-abbrev pub of_json : json.Records → Shots
-of_json r = record { shots = r.shots; ending = json_ending r.ending }
+abbrev pub of_json : Records JsonKind → Shots
+of_json r = record { shots = r.shots; ending = ending_as kind.Json r.ending }
 
 -- what a whole input holds
 abbrev pub records_of : Format → DecodingGraph → List ℕ → Shots

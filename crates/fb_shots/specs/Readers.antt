@@ -31,7 +31,7 @@ source_of g r = record { format = format_of r; graph = g; rest = rest_of r; fini
 
 -- a reader of shots of this graph
 abbrev pub IsReaderOf : DecodingGraph → FormatReader → Type 0
-IsReaderOf g (Text01 r) = r.detectors ≡ length (detectors_of g)
-IsReaderOf g (B8 r) = r.detectors ≡ length (detectors_of g)
-IsReaderOf g (Dets r) = r.detectors ≡ length (detectors_of g)
-IsReaderOf g (Json r) = r.graph ≡ g
+IsReaderOf g (Text01 r) = r.subject ≡ length (detectors_of g)
+IsReaderOf g (B8 r) = r.subject ≡ length (detectors_of g)
+IsReaderOf g (Dets r) = r.subject ≡ length (detectors_of g)
+IsReaderOf g (Json r) = r.subject ≡ g

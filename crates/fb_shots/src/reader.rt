@@ -3,10 +3,9 @@
 ghost use Rattle.std.specs.Prelude.{◌≡◌, ◌++◌, [], false, true, length, IfOk, OnOk, OnErr};
 ghost use Rattle.fb_graph.specs.Layout.{detectors_of};
 ghost use Rattle.fb_graph.specs.Limits.{IsShot};
-ghost use Rattle.fb_shots_stim.specs.Records.{IsShotOf};
-ghost use Rattle.fb_shots_stim.specs.Answers.{IfShot as IfStimShot};
+ghost use Rattle.fb_records.specs.Answers.{IfShot};
+ghost use Rattle.fb_shots_stim.specs.Shots.{IsShotOf};
 ghost use Rattle.fb_shots.specs.Answers.{Answers, stim_answer, json_answer};
-ghost use Rattle.fb_shots_json.specs.Answers.{IfShot as IfJsonShot};
 ghost use Rattle.fb_shots.specs.Readers.{source_of, IsReaderOf};
 
 use crate::answer::{Format, Kind, NoMemory};
@@ -112,32 +111,32 @@ impl<'a> FormatReader<'a> {
 }
 
 /// The answer of a reader of detectors, as one of vertices.
-fn on_vertices(graph: &Graph, answer: fb_shots_stim::Next) -> Next
-    requires { IfStimShot (IsShotOf (length (detectors_of graph.now))) answer }
+fn on_vertices(graph: &Graph, answer: fb_records::Next<fb_shots_stim::Kind>) -> Next
+    requires { IfShot (IsShotOf (length (detectors_of graph.now))) answer }
     ensures { result ≡ stim_answer graph.now answer }
 {
     match answer {
-        fb_shots_stim::Next::Shot(detectors) => {
+        fb_records::Next::Shot(detectors) => {
             Next::Shot(shot_of_detectors(graph, detectors.into_vec()))
         }
-        fb_shots_stim::Next::NotYet => Next::NotYet,
-        fb_shots_stim::Next::End => Next::End,
-        fb_shots_stim::Next::Refused(kind) => Next::Refused(Kind::Stim(kind)),
+        fb_records::Next::NotYet => Next::NotYet,
+        fb_records::Next::End => Next::End,
+        fb_records::Next::Refused(kind) => Next::Refused(Kind::Stim(kind)),
     }
 }
 
 /// The answer of a reader of vertices.
-fn of_vertices(graph: &Graph, answer: fb_shots_json::Next) -> Next
-    requires { IfJsonShot (IsShot graph.now) answer }
+fn of_vertices(graph: &Graph, answer: fb_records::Next<fb_shots_json::Kind>) -> Next
+    requires { IfShot (IsShot graph.now) answer }
     ensures { result ≡ json_answer answer }
 {
     match answer {
-        fb_shots_json::Next::Shot(vertices) => {
+        fb_records::Next::Shot(vertices) => {
             Next::Shot(Shot::from_rising(graph, vertices.into_vec()))
         }
-        fb_shots_json::Next::NotYet => Next::NotYet,
-        fb_shots_json::Next::End => Next::End,
-        fb_shots_json::Next::Refused(kind) => Next::Refused(Kind::Json(kind)),
+        fb_records::Next::NotYet => Next::NotYet,
+        fb_records::Next::End => Next::End,
+        fb_records::Next::Refused(kind) => Next::Refused(Kind::Json(kind)),
     }
 }
 

@@ -1,6 +1,4 @@
 pub mod Readings
-pub mod LineLemmas
-pub mod RecordLemmas
 pub mod Defects
 pub mod TextLemmas
 pub mod PlaceLemmas

@@ -1,55 +1,18 @@
--- Parts of some bytes between places, and a reader of JSON lines at a place.
-use Rattle.std.proofs.Common.{◌≡◌, ℕ, zero, suc, ◌+◌, ◌-◌, ◌<◌, ◌≤◌, Bool, true, false, ◌&&◌, List, [], ◌∷◌, ◌++◌, length, get_or, take, drop, Ok, Err, refl, sym, ap, subst, ◌∙◌, append_assoc, inl, inr, arith}
-use Rattle.std.proofs.lemmas.Bool.{cases_lt, ne_eqb}
-use Rattle.std.proofs.lemmas.List.{append-nil, take-append-drop, drop_all, drop-drop, drop_more}
+-- A reader of JSON lines at a place.
+use Rattle.std.proofs.Common.{◌≡◌, ℕ, ◌+◌, ◌<◌, ◌≤◌, Bool, true, false, ◌&&◌, List, [], ◌∷◌, ◌++◌, length, get_or, take, drop, Ok, Err, refl, sym, ap, subst, ◌∙◌, append_assoc, inl, inr, arith}
+use Rattle.std.proofs.lemmas.Bool.{cases_lt}
+use Rattle.std.proofs.lemmas.List.{append-nil, take-append-drop, drop_all, drop_more}
 use Rattle.std.proofs.lemmas.List.Folds.{list_all-append}
 use Rattle.fb_graph.specs.Limits.{DecodingGraph}
 use Rattle.fb_shots_json.specs.declared.answer.Kind.{Kind}
 use Rattle.fb_shots_json.specs.declared.answer.Kind.TheVariants.{LineTooLong}
-use Rattle.fb_shots_json.specs.declared.answer.Next.TheVariants.{Shot, NotYet, End, Refused}
-use Rattle.fb_shots_json.specs.declared.judging.Stop.{Stop}
-use Rattle.fb_shots_json.specs.declared.judging.Stop.TheVariants as stops
-use Rattle.fb_shots_json.specs.Lines.{has_newline}
+use Rattle.fb_records.specs.declared.answer.Next.TheVariants.{Shot, NotYet, End, Refused}
+use Rattle.fb_records.specs.Lines.{holds, part_of}
 use Rattle.fb_shots_json.specs.TextJson.{is_blank, is_blank_byte, is_too_long, shot_of_line}
-use Rattle.fb_shots_json.specs.Places.{IsAt, IsPlace, part_of}
-use Rattle.fb_shots_json.specs.Stops.{AnswersTo, IfRefused}
-use Rattle.fb_shots_json.proofs.LineLemmas.{holds_none}
+use Rattle.fb_shots_json.specs.Places.{IsAt, IsPlace}
+use Rattle.fb_shots_json.specs.Stops.{AnswersTo}
+use Rattle.fb_records.proofs.PartLemmas.{part_none, part_two, take_part, part_more}
 use Rattle.fb_shots_json.proofs.TextLemmas as text
-
--- ---- parts
-
-take_two : (m n : ℕ) (xs : List ℕ) → take (m + n) xs ≡ take m xs ++ take n (drop m xs)
-take_two zero n xs = ap (λ (k : ℕ). take k xs) (let e : 0 + n ≡ n = omega arith in e)
-take_two (suc m) n [] = ap (λ (k : ℕ). take k []) (let e : suc m + n ≡ suc (m + n) = omega arith in e) ∙ sym (nothing n) where
-  nothing : (n : ℕ) → take {A = ℕ} n [] ≡ []
-  nothing zero = refl
-  nothing (suc n) = refl
-take_two (suc m) n (x ∷ xs) = ap (λ (k : ℕ). take k (x ∷ xs)) (let e : suc m + n ≡ suc (m + n) = omega arith in e) ∙ ap (λ (l : List ℕ). x ∷ l) (take_two m n xs)
-
-pub part_none : (xs : List ℕ) (a : ℕ) → part_of xs a a ≡ []
-part_none xs a = ap (λ (k : ℕ). take k (drop a xs)) (let e : a - a ≡ 0 = omega arith in e)
-
-part_two : (xs : List ℕ) (a b c : ℕ) → a ≤ b → b ≤ c → part_of xs a c ≡ part_of xs a b ++ part_of xs b c
-part_two xs a b c ab bc =
-    ap (λ (k : ℕ). take k (drop a xs)) (let e : c - a ≡ (b - a) + (c - b) = omega arith in e)
-    ∙ take_two (b - a) (c - b) (drop a xs)
-    ∙ ap (λ (l : List ℕ). part_of xs a b ++ take (c - b) l) (drop-drop (b - a) a xs ∙ ap (λ (k : ℕ). drop k xs) (let e : a + (b - a) ≡ b = omega arith in e))
-
-take_part : (xs : List ℕ) (a b : ℕ) → a ≤ b → take b xs ≡ take a xs ++ part_of xs a b
-take_part xs a b ab = ap (λ (k : ℕ). take k xs) (let e : b ≡ a + (b - a) = omega arith in e) ∙ take_two a (b - a) xs
-
-part_one : (xs : List ℕ) (i : ℕ) → i < length xs → part_of xs i (i + 1) ≡ get_or xs i 0 ∷ []
-part_one xs i lt =
-    ap (λ (k : ℕ). take k (drop i xs)) (let e : i + 1 - i ≡ 1 = omega arith in e) ∙ ap (take 1) (drop_more xs i 0 lt)
-
--- one more byte
-part_more : (xs : List ℕ) (a i : ℕ) → a ≤ i → i < length xs → part_of xs a (i + 1) ≡ part_of xs a i ++ get_or xs i 0 ∷ []
-part_more xs a i le lt = part_two xs a i (i + 1) le (omega arith) ∙ ap (λ (l : List ℕ). part_of xs a i ++ l) (part_one xs i lt)
-
--- a part whose next byte is no newline
-pub newline_none_more : (xs : List ℕ) (a i : ℕ) → a ≤ i → i < length xs → (get_or xs i 0 ≡ 10 → ⊥) → has_newline (part_of xs a i) ≡ false → has_newline (part_of xs a (i + 1)) ≡ false
-newline_none_more xs a i le lt other h =
-    ap has_newline (part_more xs a i le lt) ∙ holds_none (part_of xs a i) (get_or xs i 0 ∷ []) h (rw (ne_eqb (get_or xs i 0) 10 other) refl)
 
 -- ---- places
 
@@ -57,7 +20,7 @@ pub place_start : (g : DecodingGraph) (bytes : List ℕ) → IsPlace g bytes 0 0
 place_start g bytes = record { order = omega arith; within = omega arith; parts = text.at_start g; tells = refl }
 
 pub place_seen : (g : DecodingGraph) (bytes : List ℕ) (line same seen on : ℕ) (blank still : Bool) → IsPlace g bytes line seen blank → same ≡ line → seen ≤ on → on ≤ length bytes
-    → has_newline (part_of bytes seen on) ≡ false → still ≡ (blank && is_blank (part_of bytes seen on)) → IsPlace g bytes same on still
+    → holds 10 (part_of bytes seen on) ≡ false → still ≡ (blank && is_blank (part_of bytes seen on)) → IsPlace g bytes same on still
 place_seen g bytes line same seen on blank still p here le within h e =
     let order = p.order in
     let two = part_two bytes line seen on order le in
@@ -149,9 +112,3 @@ place_open_short g bytes line seen blank finished p all e short =
 pub place_end : (g : DecodingGraph) (bytes : List ℕ) (line seen : ℕ) (finished : Bool) → IsPlace g bytes line seen true → seen ≡ length bytes → finished ≡ true → AnswersTo g bytes finished bytes End
 place_end g bytes line seen finished p all done =
     text.end_nothing g (take line bytes) (part_of bytes line seen) bytes finished p.parts done (sym p.tells) (end_cut g bytes line seen true p all)
-
--- ---- refusals
-
-pub refused_then : (P Q : Kind → Type 0) (stop : Stop) → ((kind : Kind) → P kind → Q kind) → IfRefused P stop → IfRefused Q stop
-refused_then P Q stops.NoMemory h r = tt
-refused_then P Q (stops.Refused kind) h r = h kind r

@@ -2,26 +2,20 @@
 use Rattle.std.specs.Prelude.{ℕ, Bool, List}
 use Rattle.fb_graph.specs.Limits.{DecodingGraph}
 use Rattle.fb_shots_json.specs.declared.answer.Kind.{Kind}
-use Rattle.fb_shots_json.specs.declared.answer.Next.{Next}
-use Rattle.fb_shots_json.specs.declared.answer.Next.TheVariants as next
-use Rattle.fb_shots_json.specs.declared.judging.Stop.{Stop}
-use Rattle.fb_shots_json.specs.declared.judging.Stop.TheVariants as stop
+use Rattle.fb_records.specs.declared.answer.Next.{Next}
+use Rattle.fb_records.specs.declared.answer.Next.TheVariants as next
 use Rattle.fb_shots_json.specs.declared.reader.Step.{Step}
 use Rattle.fb_shots_json.specs.declared.reader.Step.TheVariants as step
-use Rattle.fb_shots_json.specs.Records.{Reader}
-use Rattle.fb_shots_json.specs.Answers.{Answers}
-
--- the fact of the kind, where something is refused
-abbrev pub IfRefused : (Kind → Type 0) → Stop → Type 0
-IfRefused P stop.NoMemory = Unit {0}
-IfRefused P (stop.Refused kind) = P kind
+use Rattle.fb_records.specs.Records.{Reader}
+use Rattle.fb_records.specs.Answers.{Answers}
+use Rattle.fb_shots_json.specs.TextJson.{records_json, front_json, after_record}
 
 -- the answer to a rest, and what it leaves
-abbrev pub AnswersTo : DecodingGraph → List ℕ → Bool → List ℕ → Next → Type 0
+abbrev pub AnswersTo : DecodingGraph → List ℕ → Bool → List ℕ → Next Kind → Type 0
 AnswersTo g rest finished left answer =
-    let old : Reader = record { graph = g; rest = rest; finished = finished } in
-    let new : Reader = record { graph = g; rest = left; finished = finished } in
-    Answers old new answer
+    let old : Reader DecodingGraph = record { subject = g; rest = rest; finished = finished } in
+    let new : Reader DecodingGraph = record { subject = g; rest = left; finished = finished } in
+    Answers records_json front_json after_record old new answer
 
 -- how many bytes a stop uses
 abbrev pub used_of : Step → ℕ
@@ -29,7 +23,7 @@ used_of (step.Shot shot used) = used
 used_of step.NotYet = 0
 used_of step.End = 0
 
-abbrev pub answer_at : Step → Next
+abbrev pub answer_at : Step → Next Kind
 answer_at (step.Shot shot used) = next.Shot shot
 answer_at step.NotYet = next.NotYet
 answer_at step.End = next.End

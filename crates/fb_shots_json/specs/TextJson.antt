@@ -1,7 +1,7 @@
 -- Shots as JSON values (RFC 8259), one to a line: the syndrome of Fusion Blossom (Wu and Zhong 2023), an object whose
 -- member `defect_vertices` lists the defects.
-use Rattle.std.specs.Prelude.{ℕ, zero, suc, ◌==◌, ◌^◌, nat_lt, nat_le, Bool, true, false, ◌&&◌, ◌||◌, if◌then◌else◌, List, [], ◌∷◌, ◌++◌, length, filter, codes, Option, Some, None, option_and_then, Result, Ok, Err}
-use Rattle.std.specs.List.{list_all, prefix_len, range_with_len}
+use Rattle.std.specs.Prelude.{ℕ, ◌==◌, ◌^◌, nat_lt, nat_le, Bool, true, false, ◌&&◌, ◌||◌, if◌then◌else◌, List, [], ◌∷◌, ◌++◌, length, filter, codes, Option, Some, None, option_and_then, Result, Ok, Err}
+use Rattle.std.specs.List.{list_all, range_with_len}
 use Rattle.std.specs.Str.{is_utf8}
 use Rattle.serde_json.specs.Data.{Data, null, array, Items, no_items, item}
 use Rattle.serde_json.specs.Find.{get, as_array, as_number, as_u64}
@@ -10,8 +10,8 @@ use Rattle.fb_graph.specs.Parity.{is_in}
 use Rattle.fb_graph.specs.Limits.{DecodingGraph}
 use Rattle.fb_shots_json.specs.declared.answer.Kind.{Kind}
 use Rattle.fb_shots_json.specs.declared.answer.Kind.TheVariants.{LineTooLong, NotJson, NoDefects, DefectOutOfRange, DefectOnVirtual, DefectRepeated, ErasureNotTaken}
-use Rattle.fb_shots_json.specs.Records.{Ending, still_open, refused, Records, Reader}
-use Rattle.fb_shots_json.specs.Lines.{lines_of, without_return, after_line, records_by_lines, front_by_lines}
+use Rattle.fb_records.specs.Records.{Ending, still_open, refused, Records, Judged}
+use Rattle.fb_records.specs.Lines.{without_return, after_first, records_by_lines, front_by_lines}
 
 -- ---- a value
 
@@ -109,7 +109,7 @@ is_blank line = list_all is_blank_byte line
 abbrev pub is_too_long : List ℕ → Bool
 is_too_long line = nat_lt most_bytes (length line)
 
-abbrev pub as_shot : Result (List ℕ) Kind → Result (Option (List ℕ)) Kind
+abbrev pub as_shot : Result (List ℕ) Kind → Judged Kind
 as_shot (Ok shot) = Ok (Some shot)
 as_shot (Err kind) = Err kind
 
@@ -120,31 +120,23 @@ shot_of_line g line =
     else with_option (value_of (without_return line)) NotJson (shot_in g)
 
 -- A line, without its newline. A blank one is skipped, however long.
-abbrev pub line_json : DecodingGraph → List ℕ → Result (Option (List ℕ)) Kind
+abbrev pub line_json : DecodingGraph → List ℕ → Judged Kind
 line_json g line = if is_blank line then Ok None else as_shot (shot_of_line g line)
 
 -- A line that may go on is judged once it is too long and not blank.
-abbrev pub begun_json : List ℕ → Ending
+abbrev pub begun_json : List ℕ → Ending Kind
 begun_json line = if is_blank line then still_open else (if is_too_long line then refused LineTooLong else still_open)
 
 -- what a whole input holds
-abbrev pub records_json : DecodingGraph → List ℕ → Records
+abbrev pub records_json : DecodingGraph → List ℕ → Records Kind
 records_json g = records_by_lines (line_json g)
 
 -- what is settled by bytes that may go on
-abbrev pub front_json : DecodingGraph → List ℕ → Records
+abbrev pub front_json : DecodingGraph → List ℕ → Records Kind
 front_json g = front_by_lines (line_json g) begun_json
-
--- what is read of a reader's rest: bytes that are all, or that may go on
-abbrev pub reading_json : Reader → Records
-reading_json r = if r.finished then records_json r.graph r.rest else front_json r.graph r.rest
 
 -- ---- what an answer uses
 
-abbrev pub after_lines : ℕ → List ℕ → List ℕ
-after_lines zero bytes = bytes
-after_lines (suc count) bytes = after_lines count (after_line bytes)
-
 -- what stands after the first line that isn't blank
 abbrev pub after_record : List ℕ → List ℕ
-after_record bytes = after_lines (suc (prefix_len is_blank (lines_of bytes))) bytes
+after_record = after_first is_blank

@@ -6,11 +6,11 @@ ghost use Rattle.fb_graph.specs.Limits.{IsShot};
 ghost use Rattle.serde_json.specs.View.{view, items_view};
 ghost use Rattle.fb_shots_json.specs.TextJson.{naturals_of, vertex_fault, defects_from, rising};
 ghost use Rattle.fb_shots_json.specs.Entries.{real_front, first_fault};
-ghost use Rattle.fb_shots_json.specs.Stops.{IfRefused};
+ghost use Rattle.fb_records.specs.Answers.{IfRefused};
 
-use crate::answer::{Kind, NoMemory};
-use crate::judging::Stop;
+use crate::answer::Kind;
 use fb_graph::Graph;
+use fb_records::{NoMemory, Stop};
 use serde_json::Value;
 use std::alloc::Global;
 
@@ -73,7 +73,7 @@ fn is_rising(numbers: &[u32]) -> bool
 
 /// The entries as defects, rising, or why the first entry that is none is refused. An entry that equals an earlier one
 /// stands before the first that is no real vertex, or after it and doesn't count.
-pub fn defects(alloc: Global, graph: &Graph, listed: &[u64]) -> Result<Vec<u32>, Stop>
+pub fn defects(alloc: Global, graph: &Graph, listed: &[u64]) -> Result<Vec<u32>, Stop<Kind>>
     ensures ok { OnOk result (defects_from graph.now [] listed.now ≡ Ok listed.now) }
     ensures rising { IfOk result (λ v. v.items ≡ rising graph.now listed.now) }
     ensures shot { IfOk result (λ v. IsShot graph.now v.items) }

@@ -3,24 +3,17 @@
 ghost use Rattle.std.specs.Prelude.{◌≡◌, IfOk, IfErr, Ok, Err, Some, option_map};
 ghost use Rattle.fb_graph.specs.Limits.{IsShot};
 ghost use Rattle.serde_json.specs.View.{view};
-ghost use Rattle.fb_shots_json.specs.Lines.{without_return};
 ghost use Rattle.fb_shots_json.specs.TextJson.{is_plain, is_too_long, says_nothing, shot_in, shot_of_line};
-ghost use Rattle.fb_shots_json.specs.Stops.{IfRefused};
+ghost use Rattle.fb_records.specs.Answers.{IfRefused};
 
-use crate::answer::{Kind, Vertices};
+use crate::answer::Kind;
 use crate::entries::{defects, naturals};
 use fb_graph::Graph;
+use fb_records::{Numbers, Stop, without_return};
 use serde_json::Value;
 use std::alloc::Global;
 
 const MOST_BYTES: usize = 1 << 28;
-
-/// Why a line gives no shot.
-#[derive(Drop)]
-pub enum Stop {
-    NoMemory,
-    Refused(Kind),
-}
 
 /// Whether a value says nothing: null or an empty list.
 fn is_void(value: &Value) -> bool
@@ -51,7 +44,7 @@ fn is_plain(value: &Value) -> bool
 }
 
 /// The shot that a value says.
-fn shot_in(alloc: Global, graph: &Graph, value: &Value) -> Result<Vertices, Stop>
+fn shot_in(alloc: Global, graph: &Graph, value: &Value) -> Result<Numbers, Stop<Kind>>
     ensures ok { IfOk result (λ shot. shot_in graph.now (view value.now) ≡ Ok shot) }
     ensures shot { IfOk result (IsShot graph.now) }
     ensures refused { IfErr result (IfRefused (λ kind. shot_in graph.now (view value.now) ≡ Err kind)) }
@@ -68,7 +61,7 @@ fn shot_in(alloc: Global, graph: &Graph, value: &Value) -> Result<Vertices, Stop
         Err(_) => return Err(Stop::NoMemory),
     };
     match defects(alloc, graph, &listed) {
-        Ok(found) if is_plain(value) => Ok(Vertices::from_vec(found)),
+        Ok(found) if is_plain(value) => Ok(Numbers::from_vec(found)),
         Ok(_) => Err(Stop::Refused(Kind::ErasureNotTaken)),
         Err(stop) => Err(stop),
     }
@@ -83,7 +76,7 @@ pub fn is_too_long(line: &[u8]) -> bool
 
 /// The shot of a line that isn't blank.
 #[tactic(auto, using(crate::proofs::Readings::readings))]
-pub fn shot_of_line(alloc: Global, graph: &Graph, line: &[u8]) -> Result<Vertices, Stop>
+pub fn shot_of_line(alloc: Global, graph: &Graph, line: &[u8]) -> Result<Numbers, Stop<Kind>>
     ensures ok { IfOk result (λ shot. shot_of_line graph.now line.now ≡ Ok shot) }
     ensures shot { IfOk result (IsShot graph.now) }
     ensures refused { IfErr result (IfRefused (λ kind. shot_of_line graph.now line.now ≡ Err kind)) }
@@ -95,20 +88,5 @@ pub fn shot_of_line(alloc: Global, graph: &Graph, line: &[u8]) -> Result<Vertice
         Ok(value) => shot_in(alloc, graph, &value),
         Err(error) if error.is_memory() => Err(Stop::NoMemory),
         Err(_) => Err(Stop::Refused(Kind::NotJson)),
-    }
-}
-
-/// Without one carriage return at the end.
-fn without_return(line: &[u8]) -> &[u8]
-    ensures { result.now ≡ without_return line.now }
-{
-    if line.is_empty() {
-        return line;
-    }
-    let end = line.len() - 1;
-    if line[end] == b'\r' {
-        &line[..end]
-    } else {
-        line
     }
 }

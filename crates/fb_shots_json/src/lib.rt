@@ -6,9 +6,8 @@ mod answer;
 mod entries;
 mod judging;
 mod laws;
-mod pending;
 mod reader;
 
-pub use answer::{Kind, Next, NoMemory, Vertices};
+pub use answer::Kind;
 pub use laws::goes_on_json;
 pub use reader::RecordsJson;

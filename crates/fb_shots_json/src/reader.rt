@@ -1,19 +1,18 @@
 //! The reader of JSON lines.
 
 ghost use Rattle.std.specs.Prelude.{◌≡◌, ℕ, ◌+◌, ◌-◌, ◌<◌, ◌≤◌, ◌++◌, ◌&&◌, [], Bool, true, false, length, take, drop, slice_index, IfOk, IfErr, IfSome, IfNone, OnOk, OnErr};
-ghost use Rattle.fb_shots_json.specs.Records.{Reader};
-ghost use Rattle.fb_shots_json.specs.Lines.{has_newline};
-ghost use Rattle.fb_shots_json.specs.TextJson.{is_blank, reading_json};
-ghost use Rattle.fb_shots_json.specs.Answers.{answer_of, Answers, IfShot};
+ghost use Rattle.fb_records.specs.Lines.{holds, part_of};
+ghost use Rattle.fb_records.specs.Answers.{answer_of, reading, Answers, IfRefused, IfShot};
+ghost use Rattle.fb_records.specs.declared.answer.Next.TheVariants as next;
+ghost use Rattle.fb_shots_json.specs.TextJson.{is_blank, records_json, front_json, after_record};
 ghost use Rattle.fb_graph.specs.Limits.{IsShot};
-ghost use Rattle.fb_shots_json.specs.Places.{IsPlace, part_of};
-ghost use Rattle.fb_shots_json.specs.Stops.{IfRefused, AnswersTo, used_of, answer_at};
-ghost use Rattle.fb_shots_json.specs.declared.answer.Next.TheVariants as next;
+ghost use Rattle.fb_shots_json.specs.Places.{IsPlace};
+ghost use Rattle.fb_shots_json.specs.Stops.{AnswersTo, used_of, answer_at};
 
-use crate::answer::{Kind, Next, NoMemory, Vertices};
-use crate::judging::{Stop, is_too_long, shot_of_line};
-use crate::pending::Pending;
+use crate::answer::Kind;
+use crate::judging::{is_too_long, shot_of_line};
 use fb_graph::Graph;
+use fb_records::{Next, NoMemory, Numbers, Pending, Stop};
 use std::alloc::Global;
 use std::marker::Model;
 
@@ -40,12 +39,13 @@ struct Place {
 }
 
 impl<'a> Model for RecordsJson<'a> {
-    ghost use Rattle.fb_shots_json.specs.Records.{Reader};
+    ghost use Rattle.fb_graph.specs.Limits.{DecodingGraph};
+    ghost use Rattle.fb_records.specs.Records.{Reader};
     ghost use Rattle.fb_shots_json.specs.Places.{IsPlace};
 
-    ghost Value = { Reader };
+    ghost Value = { Reader DecodingGraph };
 
-    ghost view = { λ r. record { graph = r.graph.now; rest = r.pending; finished = r.finished } };
+    ghost view = { λ r. record { subject = r.graph.now; rest = r.pending; finished = r.finished } };
 
     ghost invariant = { λ r. IsPlace r.graph.now r.pending r.place.line r.place.seen r.place.is_blank };
 }
@@ -53,7 +53,7 @@ impl<'a> Model for RecordsJson<'a> {
 impl<'a> RecordsJson<'a> {
     /// A reader of shots of a graph, with no bytes yet.
     pub fn new(alloc: Global, graph: &'a Graph) -> Self
-        ensures { result ≡ record { graph = graph.now; rest = []; finished = false } }
+        ensures { result ≡ record { subject = graph.now; rest = []; finished = false } }
     {
         RecordsJson {
             alloc,
@@ -82,12 +82,12 @@ impl<'a> RecordsJson<'a> {
 
     /// Answers by the first record of the bytes that no answer has used. A shot uses up its line and the blank lines
     /// before it, and nothing else uses any byte.
-    pub fn next(&mut self) -> Result<Next, NoMemory>
-        ensures answer { IfOk result (λ a. a ≡ answer_of (reading_json self.old)) }
-        ensures meaning { IfOk result (Answers self.old self.new) }
-        ensures graph { self.new.graph ≡ self.old.graph }
+    pub fn next(&mut self) -> Result<Next<Kind>, NoMemory>
+        ensures answer { IfOk result (λ a. a ≡ answer_of (reading records_json front_json self.old)) }
+        ensures meaning { IfOk result (Answers records_json front_json after_record self.old self.new) }
+        ensures graph { self.new.subject ≡ self.old.subject }
         ensures finished { self.new.finished ≡ self.old.finished }
-        ensures shot { IfOk result (IfShot (IsShot self.old.graph)) }
+        ensures shot { IfOk result (IfShot (IsShot self.old.subject)) }
         ensures err { OnErr result (self.new ≡ self.old) }
     {
         let rest = self.pending.as_slice();
@@ -107,7 +107,7 @@ impl<'a> RecordsJson<'a> {
 /// Where reading stops.
 enum Step {
     /// A shot, of which so many bytes are used.
-    Shot(Vertices, usize),
+    Shot(Numbers, usize),
     NotYet,
     End,
 }
@@ -125,7 +125,7 @@ fn advance(
     place: &mut Place,
     rest: &[u8],
     finished: bool,
-) -> Result<Step, Stop>
+) -> Result<Step, Stop<Kind>>
     requires { IsPlace graph.now rest.now place.old.line place.old.seen place.old.is_blank }
     ensures ok { IfOk result (λ step. AnswersTo graph.now rest.now finished (drop (used_of step) rest.now) (answer_at step)
         × IsPlace graph.now (drop (used_of step) rest.now) place.new.line place.new.seen place.new.is_blank) }
@@ -166,7 +166,7 @@ fn see_line(place: Place, bytes: &[u8]) -> Place
     ensures line { result.line ≡ place.line }
     ensures onward { place.seen ≤ result.seen }
     ensures within { result.seen ≤ length bytes.now }
-    ensures in_line { has_newline (part_of bytes.now place.seen result.seen) ≡ false }
+    ensures in_line { holds 10 (part_of bytes.now place.seen result.seen) ≡ false }
     ensures tells { result.is_blank ≡ (place.is_blank && is_blank (part_of bytes.now place.seen result.seen)) }
     ensures stops { result.seen < length bytes.now → slice_index bytes.now result.seen ≡ 10 }
 {
@@ -183,7 +183,7 @@ fn line_end(bytes: &[u8], from: usize) -> usize
     requires { from ≤ length bytes.now }
     ensures onward { from ≤ result }
     ensures within { result ≤ length bytes.now }
-    ensures in_line { has_newline (part_of bytes.now from result) ≡ false }
+    ensures in_line { holds 10 (part_of bytes.now from result) ≡ false }
     ensures stops { result < length bytes.now → slice_index bytes.now result ≡ 10 }
 {
     let mut i = from;

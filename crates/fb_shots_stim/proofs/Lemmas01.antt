@@ -6,17 +6,19 @@ use Rattle.std.proofs.lemmas.Bool.{cases_Bool, cases_lt, lt-ltb, le-ltb, eqb-tru
 use Rattle.std.proofs.lemmas.List.{append-nil, take_all, take_at, drop_at, drop-drop, take-append-le, take_rest, length-append, length-take-le, length-drop, take-append-drop, get_or-drop}
 use Rattle.fb_shots_stim.specs.declared.answer.Kind.{Kind}
 use Rattle.fb_shots_stim.specs.declared.answer.Kind.TheVariants.{BadByte, ShortRecord, LongRecord}
-use Rattle.fb_shots_stim.specs.declared.answer.Next.{Next}
-use Rattle.fb_shots_stim.specs.declared.answer.Next.TheVariants as answers
+use Rattle.fb_records.specs.declared.answer.Next.{Next}
+use Rattle.fb_records.specs.declared.answer.Next.TheVariants as answers
 use Rattle.fb_shots_stim.specs.declared.dense.Step.{Step}
 use Rattle.fb_shots_stim.specs.declared.dense.Step.TheVariants.{Line, NotYet, End, Refused}
-use Rattle.fb_shots_stim.specs.Records.{at_end, still_open, refused, only, with_line, Reader, places_from}
-use Rattle.fb_shots_stim.specs.Lines.{holds, without_return, after_line}
-use Rattle.fb_shots_stim.specs.Answers.{Answers}
+use Rattle.fb_records.specs.Records.{at_end, still_open, refused, only, with_line, Reader}
+use Rattle.fb_shots_stim.specs.Shots.{places_from}
+use Rattle.fb_records.specs.Lines.{holds, without_return, bare, after_line, Stays}
+use Rattle.fb_records.specs.Answers.{Answers}
 use Rattle.fb_shots_stim.specs.Text01.{is_bit, is_one, line_01, begun_01, records_01, front_01}
 use Rattle.fb_shots_stim.specs.Step01.{line_end_01, bad_01, step_01}
-use Rattle.fb_shots_stim.proofs.LineLemmas.{after_line_one, after_line_none, holds_none, without_return_end, without_return_at}
-use Rattle.fb_shots_stim.proofs.RecordLemmas.{Stays, records_none, front_one, front_none, refused_part, refuses_front, refuses_last, gives_line, gives_last}
+use Rattle.fb_records.proofs.LineLemmas.{after_line_one, after_line_none, holds_none, without_return_end, without_return_at}
+use Rattle.fb_records.proofs.RecordLemmas.{records_none, front_one, front_none, refused_part, stays_bare}
+use Rattle.fb_records.proofs.AnswerLemmas.{refuses_front, refuses_last, gives_line, gives_last}
 
 -- ---- one line
 
@@ -65,12 +67,12 @@ stays n part more kind e = elim (cases_Bool (list_all is_bit (take n part))) [
   ]
 ]
 
-pub stays_01 : (n : ℕ) → Stays (line_01 n) (begun_01 n)
-stays_01 n = record {
+pub stays_01 : (n : ℕ) → Stays (bare (line_01 n)) (bare (begun_01 n))
+stays_01 n = stays_bare (line_01 n) (begun_01 n) (record {
   nothing = begun_bits n [] refl (omega arith);
   line = λ part more kind e. (stays n part more kind e).0;
   part = λ part more kind e. (stays n part more kind e).1;
-}
+})
 
 -- ---- bits
 
@@ -115,11 +117,11 @@ begun_long n bits b more h e =
 
 -- ---- a step
 
-abbrev pub reader : ℕ → List ℕ → Bool → Reader
-reader n rest finished = record { detectors = n; rest = rest; finished = finished }
+abbrev pub reader : ℕ → List ℕ → Bool → Reader ℕ
+reader n rest finished = record { subject = n; rest = rest; finished = finished }
 
 -- the answer that a step leads to, and what it leaves of the rest
-abbrev pub answer_at : List ℕ → Step → Next
+abbrev pub answer_at : List ℕ → Step → Next Kind
 answer_at bits (Line used) = answers.Shot (places_from is_one 0 bits)
 answer_at bits NotYet = answers.NotYet
 answer_at bits End = answers.End
@@ -143,7 +145,7 @@ pub record AreBits (n : ℕ) (bits : List ℕ) : Type 0 where
 
 refused_right : (n : ℕ) (finished : Bool) (bits tail : List ℕ) (kind : Kind) → front_01 n (bits ++ tail) ≡ only (refused kind) → IsRight n finished bits tail (Refused kind)
 refused_right n finished bits tail kind e =
-    (refuses_front (line_01 n) (begun_01 n) (stays_01 n) (reader n (bits ++ tail) finished) kind e, refl)
+    (refuses_front (bare (line_01 n)) (bare (begun_01 n)) (stays_01 n) (reader n (bits ++ tail) finished) kind e, refl)
 
 -- at the end of a line that has its newline
 line_right : (n : ℕ) (finished : Bool) (bits tail line more : List ℕ) (ending : ℕ) → AreBits n bits → bits ++ tail ≡ line ++ 10 ∷ more → holds 10 line ≡ false → without_return line ≡ bits
@@ -153,7 +155,7 @@ line_right n finished bits tail line more ending known cut h r rest = elim (case
       let judged : line_01 n (without_return line) ≡ Ok (Some (places_from is_one 0 bits)) = ap (line_01 n) r ∙ line_exact n bits known.each (eqb-true _ _ e) in
       let whole : bits ++ tail ≡ line ++ 10 ∷ drop (length bits + ending) (bits ++ tail) = cut ∙ ap (λ (l : List ℕ). line ++ 10 ∷ l) (sym rest) in
       subst (IsRight n finished bits tail) (sym (cond-true (eqb (length bits) n) (Line (length bits + ending)) (Refused ShortRecord) e)) (
-        gives_line (line_01 n) (begun_01 n) (reader n (bits ++ tail) finished) (reader n (drop (length bits + ending) (bits ++ tail)) finished) line (places_from is_one 0 bits) whole h judged,
+        gives_line (bare (line_01 n)) (bare (begun_01 n)) (reader n (bits ++ tail) finished) (reader n (drop (length bits + ending) (bits ++ tail)) finished) line (places_from is_one 0 bits) whole h judged,
         ap (λ (l : List ℕ). reader n l finished) (rest ∙ sym (ap after_line cut ∙ after_line_one line more h)),
       )
   | inr e ↦
@@ -161,7 +163,7 @@ line_right n finished bits tail line more ending known cut h r rest = elim (case
       let judged : line_01 n (without_return line) ≡ Err ShortRecord = ap (line_01 n) r ∙ line_short n bits known.each lt in
       subst (IsRight n finished bits tail) (sym (cond-false (eqb (length bits) n) (Line (length bits + ending)) (Refused ShortRecord) e))
       (refused_right n finished bits tail ShortRecord
-      (ap (front_01 n) cut ∙ front_one (line_01 n) (begun_01 n) line more h ∙ ap (λ (given : Result (Option (List ℕ)) Kind). with_line given (front_01 n more)) judged))
+      (ap (front_01 n) cut ∙ front_one (bare (line_01 n)) (bare (begun_01 n)) line more h ∙ ap (λ (given : Result (Option (List ℕ)) Kind). with_line given (front_01 n more)) judged))
 ]
 
 -- at the end of the input
@@ -171,15 +173,15 @@ last_right n bits tail b line ending known cut h r rest = elim (cases_Bool (eqb 
   | inl e ↦
       let judged : line_01 n (without_return (b ∷ line)) ≡ Ok (Some (places_from is_one 0 bits)) = ap (line_01 n) r ∙ line_exact n bits known.each (eqb-true _ _ e) in
       subst (IsRight n true bits tail) (sym (cond-true (eqb (length bits) n) (Line (length bits + ending)) (Refused ShortRecord) e)) (
-        gives_last (line_01 n) (begun_01 n) (reader n (bits ++ tail) true) (reader n (drop (length bits + ending) (bits ++ tail)) true) b line (places_from is_one 0 bits) refl cut rest h judged,
+        gives_last (bare (line_01 n)) (bare (begun_01 n)) (reader n (bits ++ tail) true) (reader n (drop (length bits + ending) (bits ++ tail)) true) b line (places_from is_one 0 bits) refl cut rest h judged,
         ap (λ (l : List ℕ). reader n l true) (rest ∙ sym (ap after_line cut ∙ after_line_none (b ∷ line) h)),
       )
   | inr e ↦
       let lt : length bits < n = (let ne = eqb-false _ _ e in let le = known.most in omega arith) in
       let judged : line_01 n (without_return (b ∷ line)) ≡ Err ShortRecord = ap (line_01 n) r ∙ line_short n bits known.each lt in
       subst (IsRight n true bits tail) (sym (cond-false (eqb (length bits) n) (Line (length bits + ending)) (Refused ShortRecord) e)) (
-        refuses_last (line_01 n) (begun_01 n) (reader n (bits ++ tail) true) ShortRecord refl
-            (ap (records_01 n) cut ∙ records_none (line_01 n) b line h ∙ ap (λ (given : Result (Option (List ℕ)) Kind). with_line given (only at_end)) judged),
+        refuses_last (bare (line_01 n)) (bare (begun_01 n)) (reader n (bits ++ tail) true) ShortRecord refl
+            (ap (records_01 n) cut ∙ records_none (bare (line_01 n)) b line h ∙ ap (λ (given : Result (Option (List ℕ)) Kind). with_line given (only at_end)) judged),
         refl,
       )
 ]
@@ -191,12 +193,12 @@ bad_right n finished bits tail part more b rest known stop cut h r = elim (cases
   | inl e ↦
       let judged : begun_01 n (without_return part) ≡ refused LongRecord = ap (begun_01 n) r ∙ begun_long n bits b rest known.each (eqb-true _ _ e) in
       subst (IsRight n finished bits tail) (sym (cond-true (eqb (length bits) n) (Refused LongRecord) (Refused BadByte) e))
-      (refused_right n finished bits tail LongRecord (ap (front_01 n) cut ∙ (refused_part (line_01 n) (begun_01 n) (stays_01 n) part more LongRecord h judged).1))
+      (refused_right n finished bits tail LongRecord (ap (front_01 n) cut ∙ (refused_part (bare (line_01 n)) (bare (begun_01 n)) (stays_01 n) part more LongRecord h judged).1))
   | inr e ↦
       let lt : length bits < n = (let ne = eqb-false _ _ e in let le = known.most in omega arith) in
       let judged : begun_01 n (without_return part) ≡ refused BadByte = ap (begun_01 n) r ∙ begun_bad n bits b rest known.each lt (stop lt) in
       subst (IsRight n finished bits tail) (sym (cond-false (eqb (length bits) n) (Refused LongRecord) (Refused BadByte) e))
-      (refused_right n finished bits tail BadByte (ap (front_01 n) cut ∙ (refused_part (line_01 n) (begun_01 n) (stays_01 n) part more BadByte h judged).1))
+      (refused_right n finished bits tail BadByte (ap (front_01 n) cut ∙ (refused_part (bare (line_01 n)) (bare (begun_01 n)) (stays_01 n) part more BadByte h judged).1))
 ]
 
 drop_past : (k : ℕ) (bits tail : List ℕ) → drop (length bits + k) (bits ++ tail) ≡ drop k tail
@@ -208,9 +210,9 @@ some_byte (x ∷ bits) b tail = (x, bits ++ b ∷ tail, refl)
 
 nothing_right : (n : ℕ) (finished : Bool) (bits : List ℕ) → AreBits n bits → IsRight n finished bits [] (step_01 n finished (length bits) [])
 nothing_right n false bits known =
-    let bare : bits ++ [] ≡ bits = append-nil bits in (
+    let ended : bits ++ [] ≡ bits = append-nil bits in (
       refl,
-      ap (front_01 n) bare ∙ front_none (line_01 n) (begun_01 n) bits (bits_hold 10 bits refl known.each)
+      ap (front_01 n) ended ∙ front_none (bare (line_01 n)) (bare (begun_01 n)) bits (bits_hold 10 bits refl known.each)
           ∙ ap (λ (l : List ℕ). only (begun_01 n l)) (bits_return bits known.each) ∙ ap only (begun_bits n bits known.each known.most),
       refl,
     )
@@ -229,7 +231,7 @@ return_holds n bits known = holds_none 10 bits (13 ∷ []) (bits_hold 10 bits re
 return_right : (n : ℕ) (finished : Bool) (bits : List ℕ) (b : ℕ) → AreBits n bits → b ≡ 13 → IsRight n finished bits (b ∷ []) (if finished then line_end_01 n (length bits) 1 else NotYet)
 return_right n false bits b known b-is = (
   refl,
-  ap (λ (x : ℕ). front_01 n (bits ++ x ∷ [])) b-is ∙ front_none (line_01 n) (begun_01 n) (bits ++ 13 ∷ []) (return_holds n bits known)
+  ap (λ (x : ℕ). front_01 n (bits ++ x ∷ [])) b-is ∙ front_none (bare (line_01 n)) (bare (begun_01 n)) (bits ++ 13 ∷ []) (return_holds n bits known)
       ∙ ap (λ (l : List ℕ). only (begun_01 n l)) (without_return_end bits) ∙ ap only (begun_bits n bits known.each known.most),
   refl,
 )
@@ -293,10 +295,10 @@ rest_right n rest finished good step bits most within stop is =
     (subst (IsRight n finished (take good rest) (drop good rest)) step-is right)
 
 -- the same, as the code has the rest at hand
-pub next_right : (old : Reader) (n : ℕ) (rest : List ℕ) (finished : Bool) (slice : List ℕ) (good : ℕ) (step : Step) → reader n rest finished ≡ old → slice ≡ rest → list_all is_bit (take good slice) ≡ true → good ≤ n → good ≤ length slice
+pub next_right : (old : Reader ℕ) (n : ℕ) (rest : List ℕ) (finished : Bool) (slice : List ℕ) (good : ℕ) (step : Step) → reader n rest finished ≡ old → slice ≡ rest → list_all is_bit (take good slice) ≡ true → good ≤ n → good ≤ length slice
     → (good < n → good < length slice → is_bit (get_or slice good 0) ≡ false) → step ≡ step_01 n finished good (take (length slice - good) (drop good slice))
     → Answers records_01 front_01 after_line old (reader n (left_at rest step) finished) (answer_at (take good slice) step)
 next_right old n rest finished slice good step old-is slice-is bits most within stop is =
-    subst (λ (r : Reader). Answers records_01 front_01 after_line r (reader n (left_at rest step) finished) (answer_at (take good slice) step)) old-is
+    subst (λ (r : Reader ℕ). Answers records_01 front_01 after_line r (reader n (left_at rest step) finished) (answer_at (take good slice) step)) old-is
     (subst (λ (l : List ℕ). Answers records_01 front_01 after_line (reader n l finished) (reader n (left_at l step) finished) (answer_at (take good slice) step)) slice-is
     (rest_right n slice finished good step bits most within stop is))

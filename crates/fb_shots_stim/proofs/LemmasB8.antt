@@ -12,12 +12,13 @@ use Rattle.std.proofs.lemmas.Nat.{le-div}
 use Rattle.std.proofs.Math.Nat.{div-mul-le_self}
 use Rattle.fb_shots_stim.specs.declared.answer.Kind.{Kind}
 use Rattle.fb_shots_stim.specs.declared.answer.Kind.TheVariants.{ShortRecord, LongRecord, PaddingBit}
-use Rattle.fb_shots_stim.specs.declared.answer.Next.{Next}
-use Rattle.fb_shots_stim.specs.declared.answer.Next.TheVariants.{Shot, NotYet, Refused}
-use Rattle.fb_shots_stim.specs.Records.{Ending, at_end, still_open, refused, Records, only, with_line, go_down, GoesOn, Reader, places_from}
-use Rattle.fb_shots_stim.specs.Answers.{Answers, GoesOnAnywhere}
+use Rattle.fb_records.specs.declared.answer.Next.{Next}
+use Rattle.fb_records.specs.declared.answer.Next.TheVariants.{Shot, NotYet, Refused}
+use Rattle.fb_records.specs.Records.{Ending, at_end, still_open, refused, Records, only, with_line, go_down, GoesOn, Reader}
+use Rattle.fb_shots_stim.specs.Shots.{places_from}
+use Rattle.fb_records.specs.Answers.{Answers, GoesOnAnywhere}
 use Rattle.fb_shots_stim.specs.BlocksB8.{block_len, low_bits, bits_of, is_set, block_b8, blocks, whole_blocks, records_b8, front_b8}
-use Rattle.fb_shots_stim.proofs.RecordLemmas.{go_down_goes_on}
+use Rattle.fb_records.proofs.RecordLemmas.{go_down_goes_on}
 
 -- ---- places
 
@@ -203,7 +204,7 @@ whole_blocks_two size a b some =
     let sum : all ≡ count + more = omega arith in
     (blocks size more (drop (count * size) a ++ b), ap (λ (k : ℕ). blocks size k (a ++ b)) sum ∙ blocks_two size count more a b fits)
 
-blocks_go_on : (n : ℕ) (a b : List ℕ) (ending : Ending) → GoesOn (front_b8 (suc n) a) (go_down (block_b8 (suc n)) (whole_blocks (block_len (suc n)) (a ++ b)) ending)
+blocks_go_on : (n : ℕ) (a b : List ℕ) (ending : Ending Kind) → GoesOn (front_b8 (suc n) a) (go_down (block_b8 (suc n)) (whole_blocks (block_len (suc n)) (a ++ b)) ending)
 blocks_go_on n a b ending =
     let two = whole_blocks_two (block_len (suc n)) a b (omega arith) in
     subst (λ (bs : List (List ℕ)). GoesOn (front_b8 (suc n) a) (go_down (block_b8 (suc n)) bs ending)) (sym two.1)
@@ -211,19 +212,19 @@ blocks_go_on n a b ending =
 
 pub goes_on_b8 : GoesOnAnywhere records_b8 front_b8
 goes_on_b8 zero [] more = (nothing (records_b8 zero more), nothing (front_b8 zero more)) where
-  nothing : (all : Records) → GoesOn (only still_open) all
+  nothing : (all : Records Kind) → GoesOn (only still_open) all
   nothing all = record { shots = (all.shots, refl); judged = λ kind e. absurd cc }
 goes_on_b8 zero (b ∷ bytes) more = (same (only (refused LongRecord)), same (only (refused LongRecord))) where
-  same : (all : Records) → GoesOn all all
+  same : (all : Records Kind) → GoesOn all all
   same all = record { shots = ([], sym (append-nil all.shots)); judged = λ kind e. refl }
 goes_on_b8 (suc n) bytes more = (blocks_go_on n bytes more _, blocks_go_on n bytes more still_open)
 
 -- ---- answers
 
-abbrev pub reader : ℕ → List ℕ → Bool → Reader
-reader n rest finished = record { detectors = n; rest = rest; finished = finished }
+abbrev pub reader : ℕ → List ℕ → Bool → Reader ℕ
+reader n rest finished = record { subject = n; rest = rest; finished = finished }
 
-abbrev pub IsRight : ℕ → List ℕ → Bool → List ℕ → Next → Type 0
+abbrev pub IsRight : ℕ → List ℕ → Bool → List ℕ → Next Kind → Type 0
 IsRight n rest finished left a = Answers records_b8 front_b8 (drop (block_len n)) (reader n rest finished) (reader n left finished) a
 
 true_false : {P : Type 0} → true ≡ false → P
@@ -282,15 +283,15 @@ block_shot (suc n) rest finished shot some le h e =
     (record { shorter = omega (arith, length-drop size rest); now = given.0; so_far = λ _. given.1; later = λ _ more. given.2 more; onward = λ _ more. given.3 more }, refl)
 
 -- the same, as the code has the rest at hand
-pub next_refused : (old : Reader) (n : ℕ) (rest : List ℕ) (finished : Bool) (slice : List ℕ) → reader n rest finished ≡ old → slice ≡ rest → 0 < n → block_len n ≤ length slice
-    → list_any is_set (drop n (bits_of (take (block_len n) slice))) ≡ true → Answers records_b8 front_b8 (drop (block_len old.detectors)) old old (Refused PaddingBit)
+pub next_refused : (old : Reader ℕ) (n : ℕ) (rest : List ℕ) (finished : Bool) (slice : List ℕ) → reader n rest finished ≡ old → slice ≡ rest → 0 < n → block_len n ≤ length slice
+    → list_any is_set (drop n (bits_of (take (block_len n) slice))) ≡ true → Answers records_b8 front_b8 (drop (block_len old.subject)) old old (Refused PaddingBit)
 next_refused old n rest finished slice old-is slice-is some le h =
-    subst (λ (r : Reader). Answers records_b8 front_b8 (drop (block_len r.detectors)) r r (Refused PaddingBit)) old-is
+    subst (λ (r : Reader ℕ). Answers records_b8 front_b8 (drop (block_len r.subject)) r r (Refused PaddingBit)) old-is
     (subst (λ (l : List ℕ). IsRight n l finished l (Refused PaddingBit)) slice-is (block_refused n slice finished some le h))
 
-pub next_shot : (old : Reader) (n : ℕ) (rest : List ℕ) (finished : Bool) (slice shot : List ℕ) → reader n rest finished ≡ old → slice ≡ rest → 0 < n → block_len n ≤ length slice
+pub next_shot : (old : Reader ℕ) (n : ℕ) (rest : List ℕ) (finished : Bool) (slice shot : List ℕ) → reader n rest finished ≡ old → slice ≡ rest → 0 < n → block_len n ≤ length slice
     → list_any is_set (drop n (bits_of (take (block_len n) slice))) ≡ false → shot ≡ places_from is_set 0 (bits_of (take (block_len n) slice))
-    → Answers records_b8 front_b8 (drop (block_len old.detectors)) old (reader n (drop (block_len n) rest) finished) (Shot shot)
+    → Answers records_b8 front_b8 (drop (block_len old.subject)) old (reader n (drop (block_len n) rest) finished) (Shot shot)
 next_shot old n rest finished slice shot old-is slice-is some le h e =
-    subst (λ (r : Reader). Answers records_b8 front_b8 (drop (block_len r.detectors)) r (reader n (drop (block_len n) rest) finished) (Shot shot)) old-is
+    subst (λ (r : Reader ℕ). Answers records_b8 front_b8 (drop (block_len r.subject)) r (reader n (drop (block_len n) rest) finished) (Shot shot)) old-is
     (subst (λ (l : List ℕ). IsRight n l finished (drop (block_len n) l) (Shot shot)) slice-is (block_shot n slice finished shot some le h e))

@@ -1,18 +1,19 @@
 -- The words of a line of `dets`, and what a text comes to at the end of a word, of a line and of the input.
 use Rattle.std.specs.Prelude.{if◌then◌else◌}
-use Rattle.std.proofs.Common.{◌≡◌, ℕ, suc, ◌+◌, Bool, true, false, eqb, List, [], ◌∷◌, ◌++◌, Option, Some, None, Result, Ok, Err, refl, sym, ap, subst, ◌∙◌, append_assoc, inl, inr, arith}
-use Rattle.std.specs.List.{flat_map, prefix_len}
+use Rattle.std.proofs.Common.{◌≡◌, ℕ, Bool, true, false, eqb, List, [], ◌∷◌, ◌++◌, Option, Some, None, Result, Ok, Err, refl, sym, ap, subst, ◌∙◌, append_assoc, inl, inr}
+use Rattle.std.specs.List.{flat_map}
 use Rattle.std.proofs.lemmas.Bool.{cases_Bool, or_parts, eqb-true}
 use Rattle.std.proofs.lemmas.List.{append-nil}
 use Rattle.std.proofs.lemmas.List.Concat.{flat_map-append}
 use Rattle.fb_shots_stim.specs.declared.answer.Kind.{Kind}
 use Rattle.fb_shots_stim.specs.declared.answer.Kind.TheVariants.{BadToken, IndexOutOfRange, RepeatedIndex, MeasurementToken}
-use Rattle.fb_shots_stim.specs.Records.{refused, with_line}
-use Rattle.fb_shots_stim.specs.Lines.{holds, whole_parts, last_part, if_not_empty, without_return, lines_of}
-use Rattle.fb_shots_stim.specs.TextDets.{ended_words, words_of, with_word, with_words, with_detector, with_letter, index_of, shot_of, ending_of, line_dets, begun_dets, records_dets, front_dets, is_nothing, is_blank, after_lines, after_record}
+use Rattle.fb_records.specs.Records.{refused}
+use Rattle.fb_records.specs.Lines.{holds, whole_parts, last_part, if_not_empty, without_return, bare, Stays}
+use Rattle.fb_shots_stim.specs.TextDets.{ended_words, words_of, with_word, with_words, with_detector, with_letter, index_of, shot_of, ending_of, line_dets, begun_dets, records_dets, front_dets, is_nothing, is_blank, after_record}
 use Rattle.fb_shots_stim.specs.WordsDets.{IsAt}
-use Rattle.fb_shots_stim.proofs.LineLemmas.{whole_parts_none, whole_parts_one, last_part_none, last_part_one, parts_of, holds_none, after_line_one}
-use Rattle.fb_shots_stim.proofs.RecordLemmas.{Stays, records_one, front_one}
+use Rattle.fb_records.proofs.LineLemmas.{whole_parts_none, whole_parts_one, last_part_none, last_part_one, parts_of, holds_none}
+use Rattle.fb_records.proofs.RecordLemmas.{stays_bare}
+use Rattle.fb_records.proofs.AnswerLemmas.{skips_nothing, skips_line, blank_after}
 
 abbrev pub Words : Type 0
 Words = Result (Option (List ℕ)) Kind
@@ -40,8 +41,8 @@ ending_refused : (r : Words) (kind : Kind) → ending_of r ≡ refused kind → 
 ending_refused (Ok so_far) kind e = absurd cc
 ending_refused (Err k) kind e = let same : k ≡ kind = cc in ap (λ (x : Kind). Err x) same
 
-pub stays_dets : (n : ℕ) → Stays (line_dets n) (begun_dets n)
-stays_dets n = record {
+pub stays_dets : (n : ℕ) → Stays (bare (line_dets n)) (bare (begun_dets n))
+stays_dets n = stays_bare (line_dets n) (begun_dets n) (record {
   nothing = refl;
   line = λ part more kind e.
       let judged = ending_refused (with_words n (Ok None) (ended_words part)) kind e in
@@ -51,7 +52,7 @@ stays_dets n = record {
       let judged = ending_refused (with_words n (Ok None) (ended_words part)) kind e in
       ap (λ (ws : List (List ℕ)). ending_of (with_words n (Ok None) ws)) (ended_append part more)
       ∙ ap ending_of (words_append n (Ok None) (ended_words part) (ended_words (last_part 32 part ++ more)) ∙ ap (λ (r : Words). with_words n r (ended_words (last_part 32 part ++ more))) judged);
-}
+})
 
 -- ---- a line whose words before the last have ended
 
@@ -166,7 +167,7 @@ some_words n (word ∷ words) named e = refl
 -- ---- where a reader stands
 
 pub at_start : (n : ℕ) → IsAt n [] [] [] None
-at_start n = record { all = λ more. refl; front = λ more. refl; after = λ more. refl; one_line = refl; ended = refl; read = refl; in_line = refl; in_word = refl }
+at_start n = record { skips = skips_nothing (records_dets n) (front_dets n) after_record; one_line = refl; ended = refl; read = refl; in_line = refl; in_word = refl }
 
 -- what the words of the line come to with the last one
 pub whole_line : (n : ℕ) (skipped line word : List ℕ) (so_far : Option (List ℕ)) → IsAt n skipped line word so_far
@@ -189,9 +190,7 @@ one_line_of n skipped line word so_far at = holds_none 10 line word at.one_line 
 -- more bytes of the word
 pub at_more : (n : ℕ) (skipped line word more : List ℕ) (so_far : Option (List ℕ)) → IsAt n skipped line word so_far → holds 10 more ≡ false → holds 32 more ≡ false → IsAt n skipped line (word ++ more) so_far
 at_more n skipped line word more so_far at h10 h32 = record {
-  all = at.all;
-  front = at.front;
-  after = at.after;
+  skips = at.skips;
   one_line = at.one_line;
   ended = at.ended;
   read = at.read;
@@ -202,9 +201,7 @@ at_more n skipped line word more so_far at h10 h32 = record {
 -- a space after the word
 pub at_space : (n : ℕ) (skipped line word : List ℕ) (so_far now : Option (List ℕ)) → IsAt n skipped line word so_far → with_words n (Ok so_far) (if_not_empty word) ≡ Ok now → IsAt n skipped (line ++ (word ++ 32 ∷ [])) [] now
 at_space n skipped line word so_far now at e = record {
-  all = at.all;
-  front = at.front;
-  after = at.after;
+  skips = at.skips;
   one_line = holds_none 10 line (word ++ 32 ∷ []) at.one_line (holds_none 10 word (32 ∷ []) at.in_line refl);
   ended = last_more line word at.ended;
   read = ap (with_words n (Ok None)) (ended_more line word at.ended at.in_word)
@@ -214,18 +211,6 @@ at_space n skipped line word so_far now at e = record {
 }
 
 -- a newline after a line without a word
-skipped_line : (skipped line more : List ℕ) → (skipped ++ line ++ 10 ∷ []) ++ more ≡ skipped ++ (line ++ 10 ∷ more)
-skipped_line skipped line more = append_assoc (skipped ++ line) (10 ∷ []) more ∙ append_assoc skipped line (10 ∷ more)
-
-pub blank_after : (line more : List ℕ) → holds 10 line ≡ false → words_of (without_return line) ≡ [] → after_record (line ++ 10 ∷ more) ≡ after_record more
-blank_after line more h blank =
-    let lines : lines_of (line ++ 10 ∷ more) ≡ without_return line ∷ lines_of more = rw (whole_parts_one 10 line more h, last_part_one 10 line more) refl in
-    let count : prefix_len is_blank (without_return line ∷ lines_of more) ≡ suc (prefix_len is_blank (lines_of more)) =
-    ap (λ (ws : List (List ℕ)). if is_nothing ws then 1 + prefix_len is_blank (lines_of more) else 0) blank ∙ omega arith in
-    ap (λ (ls : List (List ℕ)). after_lines (suc (prefix_len is_blank ls)) (line ++ 10 ∷ more)) lines
-    ∙ ap (λ (k : ℕ). after_lines (suc k) (line ++ 10 ∷ more)) count
-    ∙ ap (λ (l : List ℕ). after_lines (suc (prefix_len is_blank (lines_of more))) l) (after_line_one line more h)
-
 pub at_newline : (n : ℕ) (skipped line word : List ℕ) (so_far : Option (List ℕ)) → IsAt n skipped line word so_far → with_words n (Ok so_far) (if_not_empty (without_return word)) ≡ Ok None
     → IsAt n (skipped ++ (line ++ word) ++ 10 ∷ []) [] [] None
 at_newline n skipped line word so_far at e =
@@ -233,11 +218,8 @@ at_newline n skipped line word so_far at e =
     let given : line_dets n (without_return (line ++ word)) ≡ Ok None = whole_line n skipped line word so_far at ∙ ap (shot_of n) e in
     let blank = no_words n (words_of (without_return (line ++ word))) (whole_words n skipped line word so_far at ∙ e) in
     record {
-      all = λ more. ap (records_dets n) (skipped_line skipped (line ++ word) more) ∙ at.all ((line ++ word) ++ 10 ∷ more) ∙ records_one (line_dets n) (line ++ word) more h
-          ∙ ap (λ (r : Words). with_line r (records_dets n more)) given;
-      front = λ more. ap (front_dets n) (skipped_line skipped (line ++ word) more) ∙ at.front ((line ++ word) ++ 10 ∷ more) ∙ front_one (line_dets n) (begun_dets n) (line ++ word) more h
-          ∙ ap (λ (r : Words). with_line r (front_dets n more)) given;
-      after = λ more. ap after_record (skipped_line skipped (line ++ word) more) ∙ at.after ((line ++ word) ++ 10 ∷ more) ∙ blank_after (line ++ word) more h blank;
+      skips = skips_line (bare (line_dets n)) (bare (begun_dets n)) after_record skipped (line ++ word) at.skips h given
+          (λ more. blank_after (bare is_blank) (line ++ word) more h (ap is_nothing blank));
       one_line = refl;
       ended = refl;
       read = refl;

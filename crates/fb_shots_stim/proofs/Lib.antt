@@ -1,5 +1,3 @@
-pub mod LineLemmas
-pub mod RecordLemmas
 pub mod Lemmas01
 pub mod LemmasB8
 pub mod LemmasDets

@@ -1,78 +1,15 @@
--- Parts of some bytes between places, and a reader of `dets` at a place.
-use Rattle.std.proofs.Common.{◌≡◌, ℕ, zero, suc, ◌+◌, ◌-◌, ◌<◌, ◌≤◌, Bool, true, false, List, [], ◌∷◌, ◌++◌, length, get_or, take, drop, Option, Some, None, Ok, Err, refl, sym, ap, subst, ◌∙◌, append_assoc, inl, inr, arith}
-use Rattle.std.proofs.lemmas.Bool.{cases_lt, ne_eqb, eq-eqb}
-use Rattle.std.proofs.lemmas.List.{append-nil, length-drop, length-append, take-append-drop, take-append-le, drop-append-le, drop_all, drop-drop, drop_more}
+-- A reader of `dets` at a place.
+use Rattle.std.proofs.Common.{◌≡◌, ℕ, ◌+◌, ◌<◌, ◌≤◌, Bool, true, false, List, [], ◌∷◌, ◌++◌, length, get_or, take, drop, Option, Some, None, Ok, Err, refl, sym, ap, subst, ◌∙◌, append_assoc, arith}
+use Rattle.std.proofs.lemmas.List.{append-nil, length-append, take-append-drop, take-append-le, drop_all, drop_more}
 use Rattle.fb_shots_stim.specs.declared.answer.Kind.{Kind}
-use Rattle.fb_shots_stim.specs.declared.answer.Next.TheVariants.{Shot, NotYet, End, Refused}
-use Rattle.fb_shots_stim.specs.Lines.{holds, if_not_empty, without_return}
+use Rattle.fb_records.specs.declared.answer.Next.TheVariants.{Shot, NotYet, End, Refused}
+use Rattle.fb_records.specs.Lines.{holds, if_not_empty, part_of, without_return}
 use Rattle.fb_shots_stim.specs.TextDets.{with_words, shot_of, rising}
-use Rattle.fb_shots_stim.specs.WordsDets.{RecordSoFar, IsAt, IsPlace, part_of}
+use Rattle.fb_shots_stim.specs.WordsDets.{RecordSoFar, IsAt, IsPlace}
 use Rattle.fb_shots_stim.specs.StopsDets.{AnswersDets}
-use Rattle.fb_shots_stim.specs.declared.words.Stop.{Stop}
-use Rattle.fb_shots_stim.specs.declared.words.Stop.TheVariants as stops
-use Rattle.fb_shots_stim.specs.WordStops.{IfRefused}
-use Rattle.fb_shots_stim.proofs.LineLemmas.{holds_none}
+use Rattle.fb_records.proofs.PartLemmas.{part_none, part_two, take_part, part_more, part_kept}
 use Rattle.fb_shots_stim.proofs.LemmasDets.{Words, never_none, at_start, at_more, at_space, at_newline}
 use Rattle.fb_shots_stim.proofs.StopsDets.{space_refused, newline_refused, newline_shot, open_so_far, end_refused, end_nothing, end_shot}
-
--- ---- parts
-
-take_two : (m n : ℕ) (xs : List ℕ) → take (m + n) xs ≡ take m xs ++ take n (drop m xs)
-take_two zero n xs = ap (λ (k : ℕ). take k xs) (let e : 0 + n ≡ n = omega arith in e)
-take_two (suc m) n [] = ap (λ (k : ℕ). take k []) (let e : suc m + n ≡ suc (m + n) = omega arith in e) ∙ sym (nothing n) where
-  nothing : (n : ℕ) → take {A = ℕ} n [] ≡ []
-  nothing zero = refl
-  nothing (suc n) = refl
-take_two (suc m) n (x ∷ xs) = ap (λ (k : ℕ). take k (x ∷ xs)) (let e : suc m + n ≡ suc (m + n) = omega arith in e) ∙ ap (λ (l : List ℕ). x ∷ l) (take_two m n xs)
-
-pub part_none : (xs : List ℕ) (a : ℕ) → part_of xs a a ≡ []
-part_none xs a = ap (λ (k : ℕ). take k (drop a xs)) (let e : a - a ≡ 0 = omega arith in e)
-
-part_two : (xs : List ℕ) (a b c : ℕ) → a ≤ b → b ≤ c → part_of xs a c ≡ part_of xs a b ++ part_of xs b c
-part_two xs a b c ab bc =
-    ap (λ (k : ℕ). take k (drop a xs)) (let e : c - a ≡ (b - a) + (c - b) = omega arith in e)
-    ∙ take_two (b - a) (c - b) (drop a xs)
-    ∙ ap (λ (l : List ℕ). part_of xs a b ++ take (c - b) l) (drop-drop (b - a) a xs ∙ ap (λ (k : ℕ). drop k xs) (let e : a + (b - a) ≡ b = omega arith in e))
-
-take_part : (xs : List ℕ) (a b : ℕ) → a ≤ b → take b xs ≡ take a xs ++ part_of xs a b
-take_part xs a b ab = ap (λ (k : ℕ). take k xs) (let e : b ≡ a + (b - a) = omega arith in e) ∙ take_two a (b - a) xs
-
-part_one : (xs : List ℕ) (i : ℕ) → i < length xs → part_of xs i (i + 1) ≡ get_or xs i 0 ∷ []
-part_one xs i lt =
-    ap (λ (k : ℕ). take k (drop i xs)) (let e : i + 1 - i ≡ 1 = omega arith in e) ∙ ap (take 1) (drop_more xs i 0 lt)
-
--- one more byte
-part_more : (xs : List ℕ) (a i : ℕ) → a ≤ i → i < length xs → part_of xs a (i + 1) ≡ part_of xs a i ++ get_or xs i 0 ∷ []
-part_more xs a i le lt = part_two xs a i (i + 1) le (omega arith) ∙ ap (λ (l : List ℕ). part_of xs a i ++ l) (part_one xs i lt)
-
--- more bytes behind change no part
-part_kept : (xs more : List ℕ) (a b : ℕ) → b ≤ length xs → part_of (xs ++ more) a b ≡ part_of xs a b
-part_kept xs more a b le = elim (cases_lt a b) [
-  | inl lt ↦ ap (take (b - a)) (drop-append-le a xs more (omega arith)) ∙ take-append-le (b - a) (drop a xs) more (omega (arith, length-drop a xs))
-  | inr ge ↦ let none : b - a ≡ 0 = omega arith in ap (λ (k : ℕ). take k (drop a (xs ++ more))) none ∙ sym (ap (λ (k : ℕ). take k (drop a xs)) none)
-]
-
--- a part whose next byte is none that is looked for
-pub holds_more : (s : ℕ) (xs : List ℕ) (a i : ℕ) → a ≤ i → i < length xs → (get_or xs i 0 ≡ s → ⊥) → holds s (part_of xs a i) ≡ false → holds s (part_of xs a (i + 1)) ≡ false
-holds_more s xs a i le lt other h =
-    ap (holds s) (part_more xs a i le lt) ∙ holds_none s (part_of xs a i) (get_or xs i 0 ∷ []) h (rw (ne_eqb (get_or xs i 0) s other) refl)
-
--- ---- carriage returns
-
-pub return_dropped : (word : List ℕ) → 0 < length word → get_or word (length word - 1) 0 ≡ 13 → take (length word - 1) word ≡ without_return word
-return_dropped [] some e = absurd (omega arith)
-return_dropped (x ∷ []) some e = rw (eq-eqb x 13 e) refl
-return_dropped (x ∷ y ∷ word) some e =
-    let len : length (x ∷ y ∷ word) - 1 ≡ suc (length (y ∷ word) - 1) = omega arith in
-    ap (λ (k : ℕ). take k (x ∷ y ∷ word)) len
-    ∙ ap (λ (l : List ℕ). x ∷ l) (return_dropped (y ∷ word) (omega arith) (sym (ap (λ (k : ℕ). get_or (x ∷ y ∷ word) k 0) len) ∙ e))
-
-pub return_kept : (word : List ℕ) → (0 < length word → get_or word (length word - 1) 0 ≡ 13 → ⊥) → word ≡ without_return word
-return_kept [] h = refl
-return_kept (x ∷ []) h = rw (ne_eqb x 13 (λ (e : x ≡ 13). h (omega arith) e)) refl
-return_kept (x ∷ y ∷ word) h =
-    let len : length (x ∷ y ∷ word) - 1 ≡ suc (length (y ∷ word) - 1) = omega arith in
-    ap (λ (l : List ℕ). x ∷ l) (return_kept (y ∷ word) (λ some e. h (omega arith) (ap (λ (k : ℕ). get_or (x ∷ y ∷ word) k 0) len ∙ e)))
 
 -- ---- places
 
@@ -245,9 +182,3 @@ place_end_nothing old new bytes line word seen p all same none e =
             (subst (λ (o : Option (List ℕ)). IsAt old.detectors (take line bytes) (part_of bytes line word) (part_of bytes word seen) o) (before ∙ sym none) p.parts);
       },
     )
-
--- ---- refusals
-
-pub refused_then : (P Q : Kind → Type 0) (stop : Stop) → ((kind : Kind) → P kind → Q kind) → IfRefused P stop → IfRefused Q stop
-refused_then P Q stops.NoMemory h r = tt
-refused_then P Q (stops.Refused kind) h r = h kind r

@@ -8,9 +8,10 @@ use Rattle.std.proofs.lemmas.List.{length-take}
 use Rattle.std.proofs.lemmas.List.Elements.{All-nil, All-cons, All-head}
 use Rattle.fb_shots_stim.specs.declared.answer.Kind.{Kind}
 use Rattle.fb_shots_stim.specs.declared.answer.Kind.TheVariants.{BadByte, ShortRecord, LongRecord, PaddingBit}
-use Rattle.fb_shots_stim.specs.Records.{Ending, at_end, Records, with_line, go_down, IsShotOf, places_from, Reader}
-use Rattle.fb_shots_stim.specs.Lines.{lines_of}
-use Rattle.fb_shots_stim.specs.Answers.{Gives}
+use Rattle.fb_records.specs.Records.{Ending, at_end, Records, with_line, go_down, Reader}
+use Rattle.fb_shots_stim.specs.Shots.{IsShotOf, places_from}
+use Rattle.fb_records.specs.Lines.{lines_of, bare, without_return}
+use Rattle.fb_records.specs.Answers.{Gives}
 use Rattle.fb_shots_stim.specs.Text01.{is_bit, is_one, line_01, records_01}
 use Rattle.fb_shots_stim.specs.BlocksB8.{block_len, bits_of, is_set, block_b8, whole_blocks, records_b8}
 use Rattle.fb_shots_stim.specs.TextDets.{with_words, words_of, rising, shot_of, line_dets, records_dets}
@@ -87,16 +88,16 @@ judged_dets n line = by_words n (with_words n (Ok None) (words_of line)) where
 
 -- ---- what a text holds
 
-all_judged : (n : ℕ) (judge : List ℕ → Result (Option (List ℕ)) Kind) → ((line : List ℕ) → IfJudged n (judge line)) → (lines : List (List ℕ)) (ending : Ending) → All (IsShotOf n) (go_down judge lines ending).shots
+all_judged : (n : ℕ) (judge : List ℕ → Result (Option (List ℕ)) Kind) → ((line : List ℕ) → IfJudged n (judge line)) → (lines : List (List ℕ)) (ending : Ending Kind) → All (IsShotOf n) (go_down judge lines ending).shots
 all_judged n judge h [] ending = All-nil (IsShotOf n)
 all_judged n judge h (line ∷ lines) ending = step n (judge line) (go_down judge lines ending) (h line) (all_judged n judge h lines ending) where
-  step : (n : ℕ) (r : Result (Option (List ℕ)) Kind) (rest : Records) → IfJudged n r → All (IsShotOf n) rest.shots → All (IsShotOf n) (with_line r rest).shots
+  step : (n : ℕ) (r : Result (Option (List ℕ)) Kind) (rest : Records Kind) → IfJudged n r → All (IsShotOf n) rest.shots → All (IsShotOf n) (with_line r rest).shots
   step n (Ok (Some shot)) rest s all = All-cons (IsShotOf n) shot rest.shots s all
   step n (Ok None) rest s all = all
   step n (Err kind) rest s all = All-nil (IsShotOf n)
 
 pub shots_01 : (n : ℕ) (bytes : List ℕ) → All (IsShotOf n) (records_01 n bytes).shots
-shots_01 n bytes = all_judged n (line_01 n) (judged_01 n) (lines_of bytes) at_end
+shots_01 n bytes = all_judged n (bare (line_01 n)) (λ line. judged_01 n (without_return line)) (lines_of bytes) at_end
 
 pub shots_b8 : (n : ℕ) (bytes : List ℕ) → All (IsShotOf n) (records_b8 n bytes).shots
 shots_b8 zero [] = All-nil (IsShotOf 0)
@@ -104,9 +105,9 @@ shots_b8 zero (b ∷ bytes) = All-nil (IsShotOf 0)
 shots_b8 (suc n) bytes = all_judged (suc n) (block_b8 (suc n)) (judged_b8 (suc n)) (whole_blocks (block_len (suc n)) bytes) _
 
 pub shots_dets : (n : ℕ) (bytes : List ℕ) → All (IsShotOf n) (records_dets n bytes).shots
-shots_dets n bytes = all_judged n (line_dets n) (judged_dets n) (lines_of bytes) at_end
+shots_dets n bytes = all_judged n (bare (line_dets n)) (λ line. judged_dets n (without_return line)) (lines_of bytes) at_end
 
 -- a shot that is given is one of the text's
-pub given_shot : (n : ℕ) (records front : List ℕ → Records) (old new : Reader) (shot : List ℕ) → ((bytes : List ℕ) → All (IsShotOf n) (records bytes).shots) → Gives records front old new shot → IsShotOf n shot
+pub given_shot : (n : ℕ) (records front : List ℕ → Records Kind) (old new : Reader ℕ) (shot : List ℕ) → ((bytes : List ℕ) → All (IsShotOf n) (records bytes).shots) → Gives records front old new shot → IsShotOf n shot
 given_shot n records front old new shot shots g =
-    All-head (IsShotOf n) shot (records new.rest).shots (subst (λ (r : Records). All (IsShotOf n) r.shots) g.now (shots old.rest))
+    All-head (IsShotOf n) shot (records new.rest).shots (subst (λ (r : Records Kind). All (IsShotOf n) r.shots) g.now (shots old.rest))

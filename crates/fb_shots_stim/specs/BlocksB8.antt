@@ -1,10 +1,10 @@
 -- The format `b8` of Stim's result formats: a block of bytes for each shot, a bit for each detector.
-use Rattle.std.specs.Prelude.{ℕ, zero, suc, ◌+◌, ◌/◌, ◌%◌, ◌==◌, Bool, List, [], ◌∷◌, length, take, drop, if◌then◌else◌, Option, Some, Result, Ok, Err}
+use Rattle.std.specs.Prelude.{ℕ, zero, suc, ◌+◌, ◌/◌, ◌%◌, ◌==◌, Bool, List, [], ◌∷◌, length, take, drop, if◌then◌else◌, Some, Ok, Err}
 use Rattle.std.specs.List.{list_any, flat_map}
 use Rattle.fb_shots_stim.specs.declared.answer.Kind.{Kind}
 use Rattle.fb_shots_stim.specs.declared.answer.Kind.TheVariants.{ShortRecord, LongRecord, PaddingBit}
-use Rattle.fb_shots_stim.specs.Records.{at_end, still_open, refused, Records, only, go_down, places_from, Reader}
-use Rattle.fb_shots_stim.specs.Answers.{reading}
+use Rattle.fb_records.specs.Records.{at_end, still_open, refused, Records, only, Judged, go_down}
+use Rattle.fb_shots_stim.specs.Shots.{places_from}
 
 -- how many bytes have a bit for each of n detectors
 abbrev pub block_len : ℕ → ℕ
@@ -22,7 +22,7 @@ abbrev pub is_set : ℕ → Bool
 is_set bit = bit == 1
 
 -- A block of n detectors. The bits after theirs only fill up the last byte.
-abbrev pub block_b8 : ℕ → List ℕ → Result (Option (List ℕ)) Kind
+abbrev pub block_b8 : ℕ → List ℕ → Judged Kind
 block_b8 n block =
     if list_any is_set (drop n (bits_of block)) then Err PaddingBit
     else Ok (Some (places_from is_set 0 (take n (bits_of block))))
@@ -36,7 +36,7 @@ abbrev pub whole_blocks : ℕ → List ℕ → List (List ℕ)
 whole_blocks size bytes = blocks size (length bytes / size) bytes
 
 -- What a whole input holds. A record of no detectors would have no bytes, so none is there, and each byte is one too many.
-abbrev pub records_b8 : ℕ → List ℕ → Records
+abbrev pub records_b8 : ℕ → List ℕ → Records Kind
 records_b8 zero [] = only at_end
 records_b8 zero (b ∷ bytes) = only (refused LongRecord)
 records_b8 (suc n) bytes =
@@ -44,10 +44,7 @@ records_b8 (suc n) bytes =
     (if length bytes % block_len (suc n) == 0 then at_end else refused ShortRecord)
 
 -- what is settled by bytes that may go on
-abbrev pub front_b8 : ℕ → List ℕ → Records
+abbrev pub front_b8 : ℕ → List ℕ → Records Kind
 front_b8 zero [] = only still_open
 front_b8 zero (b ∷ bytes) = only (refused LongRecord)
 front_b8 (suc n) bytes = go_down (block_b8 (suc n)) (whole_blocks (block_len (suc n)) bytes) still_open
-
-abbrev pub reading_b8 : Reader → Records
-reading_b8 = reading records_b8 front_b8

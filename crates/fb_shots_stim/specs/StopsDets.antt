@@ -1,18 +1,19 @@
 -- Where a reader of `dets` stops, and what that says.
 use Rattle.std.specs.Prelude.{ℕ, Bool, List}
-use Rattle.fb_shots_stim.specs.declared.answer.Next.{Next}
-use Rattle.fb_shots_stim.specs.declared.answer.Next.TheVariants as next
+use Rattle.fb_records.specs.declared.answer.Next.{Next}
+use Rattle.fb_records.specs.declared.answer.Next.TheVariants as next
+use Rattle.fb_shots_stim.specs.declared.answer.Kind.{Kind}
 use Rattle.fb_shots_stim.specs.declared.sparse.Step.{Step}
 use Rattle.fb_shots_stim.specs.declared.sparse.Step.TheVariants as step
-use Rattle.fb_shots_stim.specs.Records.{Reader}
-use Rattle.fb_shots_stim.specs.Answers.{Answers}
+use Rattle.fb_records.specs.Records.{Reader}
+use Rattle.fb_records.specs.Answers.{Answers}
 use Rattle.fb_shots_stim.specs.TextDets.{records_dets, front_dets, after_record}
 
 -- the answer to a rest of so many detectors, and what it leaves
-abbrev pub AnswersDets : ℕ → List ℕ → Bool → List ℕ → Next → Type 0
+abbrev pub AnswersDets : ℕ → List ℕ → Bool → List ℕ → Next Kind → Type 0
 AnswersDets n rest finished left answer =
-    let old : Reader = record { detectors = n; rest = rest; finished = finished } in
-    let new : Reader = record { detectors = n; rest = left; finished = finished } in
+    let old : Reader ℕ = record { subject = n; rest = rest; finished = finished } in
+    let new : Reader ℕ = record { subject = n; rest = left; finished = finished } in
     Answers records_dets front_dets after_record old new answer
 
 -- how many bytes a stop uses
@@ -21,7 +22,7 @@ used_of (step.Shot shot used) = used
 used_of step.NotYet = 0
 used_of step.End = 0
 
-abbrev pub answer_at : Step → Next
+abbrev pub answer_at : Step → Next Kind
 answer_at (step.Shot shot used) = next.Shot shot
 answer_at step.NotYet = next.NotYet
 answer_at step.End = next.End

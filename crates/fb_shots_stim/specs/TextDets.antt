@@ -1,12 +1,11 @@
 -- The format `dets` of Stim's result formats: a line for each shot, the word `shot` and a word for each detector that fired.
-use Rattle.std.specs.Prelude.{ℕ, zero, suc, ◌+◌, ◌*◌, ◌-◌, ◌==◌, nat_eq, nat_lt, nat_le, Bool, true, false, ◌&&◌, List, [], ◌∷◌, ◌++◌, filter, codes, if◌then◌else◌, Option, Some, None, Result, Ok, Err}
-use Rattle.std.specs.List.{list_any, flat_map, range_with_len, prefix_len}
+use Rattle.std.specs.Prelude.{ℕ, ◌+◌, ◌*◌, ◌-◌, ◌==◌, nat_eq, nat_lt, nat_le, Bool, true, false, ◌&&◌, List, [], ◌∷◌, ◌++◌, filter, codes, if◌then◌else◌, Option, Some, None, Ok, Err}
+use Rattle.std.specs.List.{list_any, flat_map, range_with_len}
 use Rattle.std.specs.Str.{bytes_eq}
 use Rattle.fb_shots_stim.specs.declared.answer.Kind.{Kind}
 use Rattle.fb_shots_stim.specs.declared.answer.Kind.TheVariants.{BadToken, IndexOutOfRange, RepeatedIndex, MeasurementToken}
-use Rattle.fb_shots_stim.specs.Records.{Ending, still_open, refused, Records, Reader}
-use Rattle.fb_shots_stim.specs.Lines.{whole_parts, last_part, if_not_empty, lines_of, after_line, records_by_lines, front_by_lines}
-use Rattle.fb_shots_stim.specs.Answers.{reading}
+use Rattle.fb_records.specs.Records.{Ending, still_open, refused, Records, Judged}
+use Rattle.fb_records.specs.Lines.{whole_parts, last_part, if_not_empty, bare, after_first, records_by_lines, front_by_lines}
 
 -- ---- words
 
@@ -34,13 +33,13 @@ index_of (c ∷ digits) = number_from 0 (c ∷ digits)
 -- ---- a record, word by word
 
 -- The detectors named so far, and one more.
-abbrev pub with_detector : ℕ → List ℕ → ℕ → Result (Option (List ℕ)) Kind
+abbrev pub with_detector : ℕ → List ℕ → ℕ → Judged Kind
 with_detector n named k =
     if nat_lt k n then (if list_any (nat_eq k) named then Err RepeatedIndex else Ok (Some (named ++ k ∷ [])))
     else Err IndexOutOfRange
 
 -- A letter with an index: a detector, an observable, which is ignored, or a measurement.
-abbrev pub with_letter : ℕ → List ℕ → ℕ → Option ℕ → Result (Option (List ℕ)) Kind
+abbrev pub with_letter : ℕ → List ℕ → ℕ → Option ℕ → Judged Kind
 with_letter n named letter None = Err BadToken
 with_letter n named letter (Some k) =
     if letter == 68 then with_detector n named k
@@ -48,12 +47,12 @@ with_letter n named letter (Some k) =
     else (if letter == 77 then Err MeasurementToken else Err BadToken))
 
 -- What a record is so far is nothing, or `shot` and the detectors that it names. This is a word of it.
-abbrev pub with_word : ℕ → Option (List ℕ) → List ℕ → Result (Option (List ℕ)) Kind
+abbrev pub with_word : ℕ → Option (List ℕ) → List ℕ → Judged Kind
 with_word n None word = if bytes_eq word (codes "shot") then Ok (Some []) else Err BadToken
 with_word n (Some named) [] = Err BadToken
 with_word n (Some named) (letter ∷ digits) = with_letter n named letter (index_of digits)
 
-abbrev pub with_words : ℕ → Result (Option (List ℕ)) Kind → List (List ℕ) → Result (Option (List ℕ)) Kind
+abbrev pub with_words : ℕ → Judged Kind → List (List ℕ) → Judged Kind
 with_words n (Err kind) words = Err kind
 with_words n (Ok so_far) [] = Ok so_far
 with_words n (Ok so_far) (word ∷ words) = with_words n (with_word n so_far word) words
@@ -64,33 +63,30 @@ rising n named = filter (λ k. list_any (nat_eq k) named) (range_with_len 0 n)
 
 -- ---- a line
 
-abbrev pub shot_of : ℕ → Result (Option (List ℕ)) Kind → Result (Option (List ℕ)) Kind
+abbrev pub shot_of : ℕ → Judged Kind → Judged Kind
 shot_of n (Ok None) = Ok None
 shot_of n (Ok (Some named)) = Ok (Some (rising n named))
 shot_of n (Err kind) = Err kind
 
--- A line of words. One without a word is skipped.
-abbrev pub line_dets : ℕ → List ℕ → Result (Option (List ℕ)) Kind
+-- A line of words, without the carriage return at its end. One without a word is skipped.
+abbrev pub line_dets : ℕ → List ℕ → Judged Kind
 line_dets n line = shot_of n (with_words n (Ok None) (words_of line))
 
-abbrev pub ending_of : Result (Option (List ℕ)) Kind → Ending
+abbrev pub ending_of : Judged Kind → Ending Kind
 ending_of (Ok so_far) = still_open
 ending_of (Err kind) = refused kind
 
 -- the words of a line that may go on, each judged once it has ended
-abbrev pub begun_dets : ℕ → List ℕ → Ending
+abbrev pub begun_dets : ℕ → List ℕ → Ending Kind
 begun_dets n line = ending_of (with_words n (Ok None) (ended_words line))
 
 -- what a whole input holds
-abbrev pub records_dets : ℕ → List ℕ → Records
-records_dets n = records_by_lines (line_dets n)
+abbrev pub records_dets : ℕ → List ℕ → Records Kind
+records_dets n = records_by_lines (bare (line_dets n))
 
 -- what is settled by bytes that may go on
-abbrev pub front_dets : ℕ → List ℕ → Records
-front_dets n = front_by_lines (line_dets n) (begun_dets n)
-
-abbrev pub reading_dets : Reader → Records
-reading_dets = reading records_dets front_dets
+abbrev pub front_dets : ℕ → List ℕ → Records Kind
+front_dets n = front_by_lines (bare (line_dets n)) (bare (begun_dets n))
 
 -- ---- what an answer uses
 
@@ -102,10 +98,6 @@ is_nothing (word ∷ words) = false
 abbrev pub is_blank : List ℕ → Bool
 is_blank line = is_nothing (words_of line)
 
-abbrev pub after_lines : ℕ → List ℕ → List ℕ
-after_lines zero bytes = bytes
-after_lines (suc count) bytes = after_lines count (after_line bytes)
-
 -- what stands after the first line that has a word
 abbrev pub after_record : List ℕ → List ℕ
-after_record bytes = after_lines (suc (prefix_len is_blank (lines_of bytes))) bytes
+after_record = after_first (bare is_blank)

@@ -1,7 +1,8 @@
 -- What a reader of `dets` keeps of the record begun, and where it stands in the bytes.
-use Rattle.std.specs.Prelude.{◌≡◌, ℕ, ◌-◌, ◌<◌, ◌≤◌, nat_eq, ◌==◌, ◌||◌, Bool, false, List, [], ◌++◌, length, take, drop, if◌then◌else◌, slice_index_or, Option, None, Ok, All}
+use Rattle.std.specs.Prelude.{◌≡◌, ℕ, ◌<◌, ◌≤◌, nat_eq, ◌==◌, ◌||◌, Bool, false, List, [], length, take, if◌then◌else◌, slice_index_or, Option, None, Ok, All}
 use Rattle.std.specs.List.{list_any, sum_by}
-use Rattle.fb_shots_stim.specs.Lines.{holds, last_part}
+use Rattle.fb_records.specs.Lines.{holds, last_part, part_of}
+use Rattle.fb_records.specs.Answers.{Skips}
 use Rattle.fb_shots_stim.specs.TextDets.{ended_words, with_words, records_dets, front_dets, after_record}
 
 -- a record so far: nothing, or the detectors that it names
@@ -20,19 +21,13 @@ pub record IsMarked (n : ℕ) (marks : List Bool) (named : List ℕ) : Type 0 wh
   pub once : (k : ℕ) → times k named ≤ 1
   pub below : All (λ k. k < n) named
 
--- the part of some bytes from one place up to another
-abbrev pub part_of : List ℕ → ℕ → ℕ → List ℕ
-part_of bytes from to = take (to - from) (drop from bytes)
-
 -- a byte that ends a word
 abbrev pub is_word_end : ℕ → Bool
 is_word_end b = b == 32 || b == 10
 
 -- Lines that are skipped came, then words of one line that have ended and made so_far, and then the front part of a word.
 pub record IsAt (n : ℕ) (skipped line word : List ℕ) (so_far : Option (List ℕ)) : Type 0 where
-  pub all : (more : List ℕ) → records_dets n (skipped ++ more) ≡ records_dets n more
-  pub front : (more : List ℕ) → front_dets n (skipped ++ more) ≡ front_dets n more
-  pub after : (more : List ℕ) → after_record (skipped ++ more) ≡ after_record more
+  pub skips : Skips (records_dets n) (front_dets n) after_record skipped
   pub one_line : holds 10 line ≡ false
   pub ended : last_part 32 line ≡ []
   pub read : with_words n (Ok None) (ended_words line) ≡ Ok so_far

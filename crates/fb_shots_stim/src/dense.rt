@@ -2,14 +2,14 @@
 
 ghost use Rattle.std.specs.Prelude.{◌≡◌, ℕ, ◌+◌, ◌^◌, ◌<◌, ◌≤◌, ◌++◌, [], Bool, true, false, length, take, slice_index, IfOk, OnOk, OnErr};
 ghost use Rattle.std.specs.List.{list_all};
-ghost use Rattle.fb_shots_stim.specs.Records.{IsShotOf, places_from};
-ghost use Rattle.fb_shots_stim.specs.Lines.{after_line};
-ghost use Rattle.fb_shots_stim.specs.Answers.{answer_of, Answers, IfShot};
-ghost use Rattle.fb_shots_stim.specs.Text01.{is_bit, is_one, records_01, front_01, reading_01};
+ghost use Rattle.fb_records.specs.Lines.{after_line};
+ghost use Rattle.fb_records.specs.Answers.{answer_of, reading, Answers, IfShot};
+ghost use Rattle.fb_shots_stim.specs.Shots.{IsShotOf, places_from};
+ghost use Rattle.fb_shots_stim.specs.Text01.{is_bit, is_one, records_01, front_01};
 ghost use Rattle.fb_shots_stim.specs.Step01.{step_01, line_end_01};
 
-use crate::answer::{Detectors, Kind, Next, NoMemory};
-use crate::pending::Pending;
+use crate::answer::Kind;
+use fb_records::{Next, NoMemory, Numbers, Pending};
 use std::alloc::Global;
 use std::marker::Model;
 
@@ -25,14 +25,14 @@ pub struct Records01 {
 }
 
 impl Model for Records01 {
-    ghost use Rattle.std.specs.Prelude.{◌≡◌, ◌≤◌, true, length, take};
+    ghost use Rattle.std.specs.Prelude.{◌≡◌, ℕ, ◌≤◌, true, length, take};
     ghost use Rattle.std.specs.List.{list_all};
-    ghost use Rattle.fb_shots_stim.specs.Records.{Reader};
+    ghost use Rattle.fb_records.specs.Records.{Reader};
     ghost use Rattle.fb_shots_stim.specs.Text01.{is_bit};
 
-    ghost Value = { Reader };
+    ghost Value = { Reader ℕ };
 
-    ghost view = { λ r. record { detectors = r.detectors; rest = r.pending; finished = r.finished } };
+    ghost view = { λ r. record { subject = r.detectors; rest = r.pending; finished = r.finished } };
 
     ghost invariant = { λ r. (r.scanned ≤ length r.pending) × (r.scanned ≤ r.detectors) × (list_all is_bit (take r.scanned r.pending) ≡ true) };
 }
@@ -40,7 +40,7 @@ impl Model for Records01 {
 impl Records01 {
     /// A reader of shots of so many detectors, with no bytes yet.
     pub fn new(alloc: Global, detectors: u32) -> Self
-        ensures { result ≡ record { detectors = detectors; rest = []; finished = false } }
+        ensures { result ≡ record { subject = detectors; rest = []; finished = false } }
     {
         Records01 {
             alloc,
@@ -69,12 +69,12 @@ impl Records01 {
 
     /// Answers by the first record of the bytes that no answer has used. A shot uses up its line, and
     /// nothing else uses any byte.
-    pub fn next(&mut self) -> Result<Next, NoMemory>
-        ensures answer { IfOk result (λ a. a ≡ answer_of (reading_01 self.old)) }
+    pub fn next(&mut self) -> Result<Next<Kind>, NoMemory>
+        ensures answer { IfOk result (λ a. a ≡ answer_of (reading records_01 front_01 self.old)) }
         ensures meaning { IfOk result (Answers records_01 front_01 after_line self.old self.new) }
-        ensures detectors { self.new.detectors ≡ self.old.detectors }
+        ensures detectors { self.new.subject ≡ self.old.subject }
         ensures finished { self.new.finished ≡ self.old.finished }
-        ensures shot { IfOk result (IfShot (IsShotOf self.old.detectors)) }
+        ensures shot { IfOk result (IfShot (IsShotOf self.old.subject)) }
         ensures err { OnErr result (self.new ≡ self.old) }
     {
         let rest = self.pending.as_slice();
@@ -161,7 +161,7 @@ fn line_end(detectors: u32, good: usize, ending: usize) -> Step
 }
 
 /// The places of `1` among bits.
-fn ones(alloc: Global, bits: &[u8]) -> Result<Detectors, NoMemory>
+fn ones(alloc: Global, bits: &[u8]) -> Result<Numbers, NoMemory>
     requires { length bits.now < 2 ^ 32 }
     ensures { IfOk result (λ shot. shot ≡ places_from is_one 0 bits.now) }
 {
@@ -171,5 +171,5 @@ fn ones(alloc: Global, bits: &[u8]) -> Result<Detectors, NoMemory>
             return Err(NoMemory);
         }
     }
-    Ok(Detectors::from_vec(places))
+    Ok(Numbers::from_vec(places))
 }

@@ -1,8 +1,8 @@
 //! Theorems on the definitions alone: functions that do nothing, and ensure them.
 
 ghost use Rattle.std.specs.Prelude.{drop};
-ghost use Rattle.fb_shots_stim.specs.Lines.{after_line};
-ghost use Rattle.fb_shots_stim.specs.Answers.{FirstRecordLeaves, GoesOnAnywhere};
+ghost use Rattle.fb_records.specs.Lines.{after_line};
+ghost use Rattle.fb_records.specs.Answers.{FirstRecordLeaves, GoesOnAnywhere};
 ghost use Rattle.fb_shots_stim.specs.Text01.{records_01, front_01};
 ghost use Rattle.fb_shots_stim.specs.BlocksB8.{block_len, records_b8, front_b8};
 ghost use Rattle.fb_shots_stim.specs.TextDets.{after_record, records_dets, front_dets};

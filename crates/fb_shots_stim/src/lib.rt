@@ -5,11 +5,10 @@ mod answer;
 mod dense;
 mod laws;
 mod packed;
-mod pending;
 mod sparse;
 mod words;
 
-pub use answer::{Detectors, Kind, Next, NoMemory};
+pub use answer::Kind;
 pub use dense::Records01;
 pub use laws::{goes_on_01, goes_on_b8, goes_on_dets};
 pub use packed::RecordsB8;

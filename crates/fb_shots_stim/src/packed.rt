@@ -2,12 +2,13 @@
 
 ghost use Rattle.std.specs.Prelude.{◌≡◌, ℕ, ◌+◌, ◌*◌, ◌^◌, ◌<◌, ◌≤◌, ◌∷◌, ◌++◌, [], if◌then◌else◌, Bool, true, false, length, drop, IfOk, OnOk, OnErr};
 ghost use Rattle.std.specs.List.{list_any};
-ghost use Rattle.fb_shots_stim.specs.Records.{IsShotOf, Reader, places_from};
-ghost use Rattle.fb_shots_stim.specs.Answers.{answer_of, Answers, IfShot};
-ghost use Rattle.fb_shots_stim.specs.BlocksB8.{block_len, low_bits, bits_of, is_set, records_b8, front_b8, reading_b8};
+ghost use Rattle.fb_records.specs.Records.{Reader};
+ghost use Rattle.fb_records.specs.Answers.{answer_of, reading, Answers, IfShot};
+ghost use Rattle.fb_shots_stim.specs.Shots.{IsShotOf, places_from};
+ghost use Rattle.fb_shots_stim.specs.BlocksB8.{block_len, low_bits, bits_of, is_set, records_b8, front_b8};
 
-use crate::answer::{Detectors, Kind, Next, NoMemory};
-use crate::pending::Pending;
+use crate::answer::Kind;
+use fb_records::{Next, NoMemory, Numbers, Pending};
 use std::alloc::Global;
 use std::marker::Model;
 
@@ -21,17 +22,18 @@ pub struct RecordsB8 {
 }
 
 impl Model for RecordsB8 {
-    ghost use Rattle.fb_shots_stim.specs.Records.{Reader};
+    ghost use Rattle.std.specs.Prelude.{ℕ};
+    ghost use Rattle.fb_records.specs.Records.{Reader};
 
-    ghost Value = { Reader };
+    ghost Value = { Reader ℕ };
 
-    ghost view = { λ r. record { detectors = r.detectors; rest = r.pending; finished = r.finished } };
+    ghost view = { λ r. record { subject = r.detectors; rest = r.pending; finished = r.finished } };
 }
 
 impl RecordsB8 {
     /// A reader of shots of so many detectors, with no bytes yet.
     pub fn new(alloc: Global, detectors: u32) -> Self
-        ensures { result ≡ record { detectors = detectors; rest = []; finished = false } }
+        ensures { result ≡ record { subject = detectors; rest = []; finished = false } }
     {
         RecordsB8 {
             alloc,
@@ -59,12 +61,12 @@ impl RecordsB8 {
 
     /// Answers by the first record of the bytes that no answer has used. A shot uses up its block, and
     /// nothing else uses any byte.
-    pub fn next(&mut self) -> Result<Next, NoMemory>
-        ensures answer { IfOk result (λ a. a ≡ answer_of (reading_b8 self.old)) }
-        ensures meaning { IfOk result (Answers records_b8 front_b8 (drop (block_len self.old.detectors)) self.old self.new) }
-        ensures detectors { self.new.detectors ≡ self.old.detectors }
+    pub fn next(&mut self) -> Result<Next<Kind>, NoMemory>
+        ensures answer { IfOk result (λ a. a ≡ answer_of (reading records_b8 front_b8 self.old)) }
+        ensures meaning { IfOk result (Answers records_b8 front_b8 (drop (block_len self.old.subject)) self.old self.new) }
+        ensures detectors { self.new.subject ≡ self.old.subject }
         ensures finished { self.new.finished ≡ self.old.finished }
-        ensures shot { IfOk result (IfShot (IsShotOf self.old.detectors)) }
+        ensures shot { IfOk result (IfShot (IsShotOf self.old.subject)) }
         ensures err { OnErr result (self.new ≡ self.old) }
     {
         let size = (self.detectors as usize + 7) / 8;
@@ -83,9 +85,9 @@ impl RecordsB8 {
 }
 
 /// The answer to bytes that hold no whole block.
-fn unfilled(detectors: u32, finished: bool, rest: &[u8]) -> Next
+fn unfilled(detectors: u32, finished: bool, rest: &[u8]) -> Next<Kind>
     requires { 0 < detectors → length rest.now < block_len detectors }
-    ensures { let r : Reader = record { detectors = detectors; rest = rest.now; finished = finished } in
+    ensures { let r : Reader ℕ = record { subject = detectors; rest = rest.now; finished = finished } in
         Answers records_b8 front_b8 (drop (block_len detectors)) r r result }
 {
     if rest.is_empty() {
@@ -110,7 +112,7 @@ fn has_padding(detectors: u32, block: &[u8]) -> bool
 }
 
 /// The places of the set bits, the first byte's first.
-fn set_bits(alloc: Global, block: &[u8]) -> Result<Detectors, NoMemory>
+fn set_bits(alloc: Global, block: &[u8]) -> Result<Numbers, NoMemory>
     requires { length block.now * 8 ≤ 2 ^ 32 }
     ensures { IfOk result (λ shot. shot ≡ places_from is_set 0 (bits_of block.now)) }
 {
@@ -118,7 +120,7 @@ fn set_bits(alloc: Global, block: &[u8]) -> Result<Detectors, NoMemory>
     for (i, byte) in block.iter().enumerate() {
         push_set_bits(&mut places, i * 8, *byte)?;
     }
-    Ok(Detectors::from_vec(places))
+    Ok(Numbers::from_vec(places))
 }
 
 /// Pushes the places of a byte's set bits, of which the least significant stands at `first`.

@@ -1,18 +1,17 @@
 //! The format `dets`: a line for each shot, the word `shot` and a word for each detector that fired.
 
 ghost use Rattle.std.specs.Prelude.{◌≡◌, ℕ, ◌+◌, ◌-◌, ◌<◌, ◌≤◌, ◌++◌, ◌∷◌, [], List, Bool, true, false, ◌||◌, ◌==◌, length, take, drop, slice_index, Ok, Err, Some, None, IfOk, IfErr, IfSome, IfNone, OnOk, OnErr};
-ghost use Rattle.fb_shots_stim.specs.Records.{IsShotOf, Reader};
-ghost use Rattle.fb_shots_stim.specs.Lines.{holds, if_not_empty, without_return};
-ghost use Rattle.fb_shots_stim.specs.Answers.{answer_of, Answers, IfShot};
-ghost use Rattle.fb_shots_stim.specs.TextDets.{records_dets, front_dets, reading_dets, after_record, shot_of, with_words};
-ghost use Rattle.fb_shots_stim.specs.WordsDets.{IsPlace, part_of, is_word_end};
-ghost use Rattle.fb_shots_stim.specs.WordStops.{IfRefused};
+ghost use Rattle.fb_records.specs.Lines.{holds, if_not_empty, part_of, without_return};
+ghost use Rattle.fb_records.specs.Answers.{answer_of, reading, Answers, IfRefused, IfShot};
+ghost use Rattle.fb_records.specs.declared.answer.Next.TheVariants as next;
+ghost use Rattle.fb_shots_stim.specs.Shots.{IsShotOf};
+ghost use Rattle.fb_shots_stim.specs.TextDets.{records_dets, front_dets, after_record, shot_of, with_words};
+ghost use Rattle.fb_shots_stim.specs.WordsDets.{IsPlace, is_word_end};
 ghost use Rattle.fb_shots_stim.specs.StopsDets.{AnswersDets, used_of, answer_at};
-ghost use Rattle.fb_shots_stim.specs.declared.answer.Next.TheVariants as next;
 
-use crate::answer::{Detectors, Kind, Next, NoMemory};
-use crate::pending::Pending;
-use crate::words::{Stop, Words};
+use crate::answer::Kind;
+use crate::words::Words;
+use fb_records::{Next, NoMemory, Numbers, Pending, Stop, without_return};
 use std::alloc::Global;
 use std::marker::Model;
 
@@ -37,12 +36,13 @@ struct Place {
 }
 
 impl Model for RecordsDets {
-    ghost use Rattle.fb_shots_stim.specs.Records.{Reader};
+    ghost use Rattle.std.specs.Prelude.{ℕ};
+    ghost use Rattle.fb_records.specs.Records.{Reader};
     ghost use Rattle.fb_shots_stim.specs.WordsDets.{IsPlace};
 
-    ghost Value = { Reader };
+    ghost Value = { Reader ℕ };
 
-    ghost view = { λ r. record { detectors = r.words.detectors; rest = r.pending; finished = r.finished } };
+    ghost view = { λ r. record { subject = r.words.detectors; rest = r.pending; finished = r.finished } };
 
     ghost invariant = { λ r. IsPlace r.words r.pending r.place.line r.place.word r.place.seen };
 }
@@ -50,7 +50,7 @@ impl Model for RecordsDets {
 impl RecordsDets {
     /// A reader of shots of so many detectors, with no bytes yet.
     pub fn new(alloc: Global, detectors: u32) -> Self
-        ensures { result ≡ record { detectors = detectors; rest = []; finished = false } }
+        ensures { result ≡ record { subject = detectors; rest = []; finished = false } }
     {
         RecordsDets {
             pending: Pending::new(alloc),
@@ -78,12 +78,12 @@ impl RecordsDets {
 
     /// Answers by the first record of the bytes that no answer has used. A shot uses up its line and the lines
     /// without a word before it, and nothing else uses any byte.
-    pub fn next(&mut self) -> Result<Next, NoMemory>
-        ensures answer { IfOk result (λ a. a ≡ answer_of (reading_dets self.old)) }
+    pub fn next(&mut self) -> Result<Next<Kind>, NoMemory>
+        ensures answer { IfOk result (λ a. a ≡ answer_of (reading records_dets front_dets self.old)) }
         ensures meaning { IfOk result (Answers records_dets front_dets after_record self.old self.new) }
-        ensures detectors { self.new.detectors ≡ self.old.detectors }
+        ensures detectors { self.new.subject ≡ self.old.subject }
         ensures finished { self.new.finished ≡ self.old.finished }
-        ensures shot { IfOk result (IfShot (IsShotOf self.old.detectors)) }
+        ensures shot { IfOk result (IfShot (IsShotOf self.old.subject)) }
         ensures err { OnErr result (self.new ≡ self.old) }
     {
         let rest = self.pending.as_slice();
@@ -103,7 +103,7 @@ impl RecordsDets {
 /// Where reading stops.
 enum Step {
     /// A shot, of which so many bytes are used.
-    Shot(Detectors, usize),
+    Shot(Numbers, usize),
     NotYet,
     End,
 }
@@ -115,7 +115,12 @@ const START: Place = Place {
 };
 
 /// Reads words up to the end of a record or of the bytes.
-fn advance(words: &mut Words, place: &mut Place, rest: &[u8], finished: bool) -> Result<Step, Stop>
+fn advance(
+    words: &mut Words,
+    place: &mut Place,
+    rest: &[u8],
+    finished: bool,
+) -> Result<Step, Stop<Kind>>
     requires { IsPlace words.old rest.now place.old.line place.old.word place.old.seen }
     ensures ok { IfOk result (λ step. AnswersDets words.old.detectors rest.now finished (drop (used_of step) rest.now) (answer_at step)
         × IsPlace words.new (drop (used_of step) rest.now) place.new.line place.new.word place.new.seen
@@ -176,7 +181,7 @@ fn word_end(bytes: &[u8], from: usize) -> usize
 }
 
 /// Takes the word that a space has ended.
-fn take_word(words: &mut Words, place: &mut Place, rest: &[u8]) -> Result<(), Stop>
+fn take_word(words: &mut Words, place: &mut Place, rest: &[u8]) -> Result<(), Stop<Kind>>
     requires at { IsPlace words.old rest.now place.old.line place.old.word place.old.seen }
     requires more { place.old.seen < length rest.now }
     requires space { slice_index rest.now place.old.seen ≡ 32 }
@@ -198,7 +203,11 @@ fn take_word(words: &mut Words, place: &mut Place, rest: &[u8]) -> Result<(), St
 }
 
 /// Takes the last word of a line that its newline has ended: the shot of the line, if it has a word.
-fn take_line(words: &mut Words, place: &mut Place, rest: &[u8]) -> Result<Option<Detectors>, Stop>
+fn take_line(
+    words: &mut Words,
+    place: &mut Place,
+    rest: &[u8],
+) -> Result<Option<Numbers>, Stop<Kind>>
     requires at { IsPlace words.old rest.now place.old.line place.old.word place.old.seen }
     requires more { place.old.seen < length rest.now }
     requires newline { slice_index rest.now place.old.seen ≡ 10 }
@@ -224,7 +233,7 @@ fn take_line(words: &mut Words, place: &mut Place, rest: &[u8]) -> Result<Option
 }
 
 /// Takes the last word of the input: the shot of its line, if it has a word.
-fn take_last(words: &mut Words, place: Place, rest: &[u8]) -> Result<Option<Detectors>, Stop>
+fn take_last(words: &mut Words, place: Place, rest: &[u8]) -> Result<Option<Numbers>, Stop<Kind>>
     requires at { IsPlace words.old rest.now place.line place.word place.seen }
     requires all { place.seen ≡ length rest.now }
     ensures nothing { IfOk result (λ found. IfNone found (AnswersDets words.old.detectors rest.now true rest.now next.End
@@ -243,7 +252,7 @@ fn take_last(words: &mut Words, place: Place, rest: &[u8]) -> Result<Option<Dete
 }
 
 /// Takes the last word of a line and ends the record.
-fn end_line(words: &mut Words, word: &[u8]) -> Result<Option<Detectors>, Stop>
+fn end_line(words: &mut Words, word: &[u8]) -> Result<Option<Numbers>, Stop<Kind>>
     ensures ok { IfOk result (λ found. shot_of words.old.detectors
         (with_words words.old.detectors (Ok words.old.named) (if_not_empty (without_return word.now))) ≡ Ok found) }
     ensures ended { OnOk result (words.new.named ≡ None) }
@@ -255,20 +264,5 @@ fn end_line(words: &mut Words, word: &[u8]) -> Result<Option<Detectors>, Stop>
     match words.read(without_return(word)) {
         Ok(()) => Ok(words.take()),
         Err(stop) => Err(stop),
-    }
-}
-
-/// Without one carriage return at the end.
-fn without_return(word: &[u8]) -> &[u8]
-    ensures { result.now ≡ without_return word.now }
-{
-    if word.is_empty() {
-        return word;
-    }
-    let end = word.len() - 1;
-    if word[end] == b'\r' {
-        &word[..end]
-    } else {
-        word
     }
 }

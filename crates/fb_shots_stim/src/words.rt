@@ -2,22 +2,16 @@
 
 ghost use Rattle.std.specs.Prelude.{◌≡◌, ◌≢◌, ℕ, ◌+◌, ◌*◌, ◌^◌, ◌<◌, ◌≤◌, ◌∷◌, ◌++◌, [], List, min, nat_eq, Bool, true, false, length, slice_index_or, option_map, IfErr, OnOk, OnErr, Ok, Err, Some, None, All};
 ghost use Rattle.std.specs.List.{list_any};
-ghost use Rattle.fb_shots_stim.specs.Lines.{if_not_empty};
+ghost use Rattle.fb_records.specs.Lines.{if_not_empty};
+ghost use Rattle.fb_records.specs.Answers.{IfRefused};
 ghost use Rattle.fb_shots_stim.specs.TextDets.{index_of, with_detector, with_words, rising};
 ghost use Rattle.fb_shots_stim.specs.WordsDets.{IsMarked};
-ghost use Rattle.fb_shots_stim.specs.WordStops.{IfRefused};
 
-use crate::answer::{Detectors, Kind, NoMemory};
+use crate::answer::Kind;
+use fb_records::{NoMemory, Numbers, Stop};
 use std::alloc::Global;
 use std::marker::Model;
 use std::mem;
-
-/// Why a word isn't taken.
-#[derive(Drop)]
-pub enum Stop {
-    NoMemory,
-    Refused(Kind),
-}
 
 /// A record as far as its words have come. Contracts see the detectors that it names, if any word has come.
 #[derive(Drop)]
@@ -61,7 +55,7 @@ impl Words {
     }
 
     /// Takes the next word. An empty one is none.
-    pub fn read(&mut self, word: &[u8]) -> Result<(), Stop>
+    pub fn read(&mut self, word: &[u8]) -> Result<(), Stop<Kind>>
         ensures ok { OnOk result (with_words self.old.detectors (Ok self.old.named) (if_not_empty word.now) ≡ Ok self.new.named) }
         ensures same { self.new.detectors ≡ self.old.detectors }
         ensures refused { IfErr result (IfRefused (λ kind. with_words self.old.detectors (Ok self.old.named) (if_not_empty word.now) ≡ Err kind)) }
@@ -95,7 +89,7 @@ impl Words {
     }
 
     /// Ends the record: the detectors that it names, if a word had come. The next record begins.
-    pub fn take(&mut self) -> Option<Detectors>
+    pub fn take(&mut self) -> Option<Numbers>
         ensures taken { result ≡ option_map (rising self.old.detectors) self.old.named }
         ensures left { self.new ≡ record self.old { named = None } }
     {
@@ -106,7 +100,7 @@ impl Words {
         clear_marks(self.marks.as_mut_slice(), self.named.as_slice());
         let mut named = mem::replace(&mut self.named, Vec::new(self.alloc));
         named.sort_unstable();
-        Some(Detectors::from_vec(named))
+        Some(Numbers::from_vec(named))
     }
 }
 
@@ -134,7 +128,7 @@ fn name(
     marks: &mut Vec<bool>,
     named: &mut Vec<u32>,
     index: u32,
-) -> Result<(), Stop>
+) -> Result<(), Stop<Kind>>
     requires { IsMarked detectors marks.old.items named.old.items }
     ensures ok { OnOk result (with_detector detectors named.old.items index ≡ Ok (Some named.new.items)) }
     ensures refused { IfErr result (IfRefused (λ kind. with_detector detectors named.old.items index ≡ Err kind)) }

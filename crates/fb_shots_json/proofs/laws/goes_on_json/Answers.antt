@@ -1,5 +1,5 @@
 use Rattle.fb_shots_json.specs.TextJson.{line_json, begun_json}
-use Rattle.fb_shots_json.proofs.RecordLemmas.{records_go_on, front_goes_on}
+use Rattle.fb_records.proofs.RecordLemmas.{records_go_on, front_goes_on}
 use Rattle.fb_shots_json.proofs.TextLemmas.{stays_json}
 use Rattle.fb_shots_json.proofs.FirstRecords.{leaves_json}
 use Rattle.fb_shots_json.proofs.laws.goes_on_json.Goals as goal

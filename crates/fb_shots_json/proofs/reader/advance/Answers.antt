@@ -1,9 +1,11 @@
 use Rattle.std.proofs.Common.{◌≡◌, ◌≢◌, ℕ, ◌+◌, ◌<◌, Bool, true, false, length, drop, Err, sym, subst, ◌∙◌, arith}
-use Rattle.fb_shots_json.specs.declared.answer.Next.TheVariants as next
+use Rattle.fb_records.specs.declared.answer.Next.TheVariants as next
+use Rattle.fb_records.specs.Lines.{part_of}
 use Rattle.fb_shots_json.specs.TextJson.{shot_of_line}
-use Rattle.fb_shots_json.specs.Places.{IsPlace, part_of}
+use Rattle.fb_shots_json.specs.Places.{IsPlace}
 use Rattle.fb_shots_json.specs.Stops.{AnswersTo}
-use Rattle.fb_shots_json.proofs.PlaceLemmas.{place_start, place_seen, place_known, place_newline, place_shot, place_last_shot, place_refused, place_long, place_open_blank, place_open_short, place_end, refused_then}
+use Rattle.fb_records.proofs.AnswerLemmas.{refused_then}
+use Rattle.fb_shots_json.proofs.PlaceLemmas.{place_start, place_seen, place_known, place_newline, place_shot, place_last_shot, place_refused, place_long, place_open_blank, place_open_short, place_end}
 use Rattle.fb_shots_json.proofs.reader.advance.Goals as goal
 use Rattle.fb_shots_json.proofs.reader.advance.Goals.{else-not-place-via-then-not-place+else-is_too_long, else-not-place-via-else-not-place, else-is_last-via-then-is_last+else-not-finished, else-is_last-via-else-is_last, then-is_last-2, else-is_last-2}
 

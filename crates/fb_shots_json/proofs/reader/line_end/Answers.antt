@@ -1,5 +1,5 @@
 use Rattle.std.proofs.Common.{arith}
-use Rattle.fb_shots_json.proofs.PlaceLemmas.{newline_none_more}
+use Rattle.fb_records.proofs.PartLemmas.{part_holds_more}
 use Rattle.fb_shots_json.proofs.reader.line_end.Goals as goal
 
 pub loop-i-preserved : goal.loop-i-preserved
@@ -8,5 +8,5 @@ loop-i-preserved c =
     record {
       onward = omega arith;
       within = omega arith;
-      in_line = newline_none_more c.args.bytes.now c.args.from c.loop-i.i at.onward (omega arith) c.if-bytes-i-ne10.true at.in_line;
+      in_line = part_holds_more 10 c.args.bytes.now c.args.from c.loop-i.i at.onward (omega arith) c.if-bytes-i-ne10.true at.in_line;
     }

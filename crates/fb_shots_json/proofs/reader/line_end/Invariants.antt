@@ -1,13 +1,12 @@
 use Rattle.std.proofs.Common.{◌≡◌, ◌≤◌, ◌-◌, false, length}
-use Rattle.fb_shots_json.specs.Lines.{has_newline}
-use Rattle.fb_shots_json.specs.Places.{part_of}
+use Rattle.fb_records.specs.Lines.{holds, part_of}
 use Rattle.fb_shots_json.proofs.reader.line_end.Given as goal
 
 abbrev pub invariant-loop-i : goal.invariant-loop-i
 invariant-loop-i l = record {
   onward : l.from ≤ l.i;
   within : l.i ≤ length l.bytes;
-  in_line : has_newline (part_of l.bytes l.from l.i) ≡ false;
+  in_line : holds 10 (part_of l.bytes l.from l.i) ≡ false;
 }
 
 abbrev pub decreases-loop-i : goal.decreases-loop-i

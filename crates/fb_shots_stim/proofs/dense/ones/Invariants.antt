@@ -1,6 +1,6 @@
 use Rattle.std.proofs.Common.{◌≡◌, ◌++◌, drop}
 use Rattle.fb_shots_stim.specs.Text01.{is_one}
-use Rattle.fb_shots_stim.specs.Records.{places_from}
+use Rattle.fb_shots_stim.specs.Shots.{places_from}
 use Rattle.fb_shots_stim.proofs.dense.ones.Given as goal
 
 abbrev pub invariant-loop-i : goal.invariant-loop-i

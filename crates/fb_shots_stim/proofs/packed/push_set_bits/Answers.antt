@@ -1,7 +1,7 @@
 use Rattle.std.proofs.Common.{◌≡◌, ℕ, ◌+◌, ◌-◌, ◌/◌, ◌%◌, ◌^◌, ◌<◌, List, [], ◌∷◌, ◌++◌, eqb, sym, ap, subst, ◌∙◌, append_assoc, arith}
 use Rattle.std.specs.Prelude.{if◌then◌else◌}
 use Rattle.std.proofs.lemmas.List.{append-nil}
-use Rattle.fb_shots_stim.specs.Records.{places_from}
+use Rattle.fb_shots_stim.specs.Shots.{places_from}
 use Rattle.fb_shots_stim.specs.BlocksB8.{low_bits, is_set}
 use Rattle.fb_shots_stim.proofs.LemmasB8.{low_more, low_none}
 use Rattle.fb_shots_stim.proofs.packed.push_set_bits.Goals as goal

@@ -1,5 +1,5 @@
 use Rattle.std.proofs.Common.{◌≡◌, ◌+◌, ◌-◌, ◌^◌, ◌<◌, ◌≤◌, ◌++◌}
-use Rattle.fb_shots_stim.specs.Records.{places_from}
+use Rattle.fb_shots_stim.specs.Shots.{places_from}
 use Rattle.fb_shots_stim.specs.BlocksB8.{low_bits, is_set}
 use Rattle.fb_shots_stim.proofs.packed.push_set_bits.Given as goal
 

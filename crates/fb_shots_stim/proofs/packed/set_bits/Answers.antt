@@ -1,5 +1,5 @@
 use Rattle.std.proofs.Common.{◌+◌, ◌*◌, List, ℕ, ◌++◌, drop, get_or, sym, ap, ◌∙◌, append_assoc, arith}
-use Rattle.fb_shots_stim.specs.Records.{places_from}
+use Rattle.fb_shots_stim.specs.Shots.{places_from}
 use Rattle.fb_shots_stim.specs.BlocksB8.{low_bits, bits_of, is_set}
 use Rattle.fb_shots_stim.proofs.LemmasB8.{bits_more}
 use Rattle.fb_shots_stim.proofs.packed.set_bits.Goals as goal

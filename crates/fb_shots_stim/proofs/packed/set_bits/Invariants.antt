@@ -1,5 +1,5 @@
 use Rattle.std.proofs.Common.{◌≡◌, ◌*◌, ◌++◌, drop}
-use Rattle.fb_shots_stim.specs.Records.{places_from}
+use Rattle.fb_shots_stim.specs.Shots.{places_from}
 use Rattle.fb_shots_stim.specs.BlocksB8.{bits_of, is_set}
 use Rattle.fb_shots_stim.proofs.packed.set_bits.Given as goal
 

@@ -1,8 +1,9 @@
 use Rattle.std.proofs.Common.{◌+◌, ℕ, Bool, drop, subst, ◌∙◌, arith}
-use Rattle.fb_shots_stim.specs.declared.answer.Next.TheVariants as next
-use Rattle.fb_shots_stim.specs.WordStops.{IfRefused}
+use Rattle.fb_records.specs.declared.answer.Next.TheVariants as next
+use Rattle.fb_records.specs.Answers.{IfRefused}
 use Rattle.fb_shots_stim.specs.StopsDets.{AnswersDets}
-use Rattle.fb_shots_stim.proofs.PlaceLemmas.{place_start, place_seen, place_open, refused_then}
+use Rattle.fb_records.proofs.AnswerLemmas.{refused_then}
+use Rattle.fb_shots_stim.proofs.PlaceLemmas.{place_start, place_seen, place_open}
 use Rattle.fb_shots_stim.proofs.sparse.advance.Goals as goal
 
 pub take_last-requires-clause-at : goal.take_last-requires-clause-at

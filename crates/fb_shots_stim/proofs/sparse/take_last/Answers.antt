@@ -1,10 +1,11 @@
 use Rattle.std.proofs.Common.{◌≡◌, Ok, Err, true}
-use Rattle.fb_shots_stim.specs.declared.answer.Next.TheVariants as next
-use Rattle.fb_shots_stim.specs.Lines.{if_not_empty, without_return}
+use Rattle.fb_records.specs.declared.answer.Next.TheVariants as next
+use Rattle.fb_records.specs.Lines.{if_not_empty, without_return}
 use Rattle.fb_shots_stim.specs.TextDets.{with_words}
-use Rattle.fb_shots_stim.specs.WordsDets.{part_of}
+use Rattle.fb_records.specs.Lines.{part_of}
 use Rattle.fb_shots_stim.specs.StopsDets.{AnswersDets}
-use Rattle.fb_shots_stim.proofs.PlaceLemmas.{place_end_nothing, place_end_shot, place_end_refused, refused_then}
+use Rattle.fb_records.proofs.AnswerLemmas.{refused_then}
+use Rattle.fb_shots_stim.proofs.PlaceLemmas.{place_end_nothing, place_end_shot, place_end_refused}
 use Rattle.fb_shots_stim.proofs.sparse.take_last.Goals as goal
 
 pub returns-in-Ok-None-clause-nothing : goal.returns-in-Ok-None-clause-nothing

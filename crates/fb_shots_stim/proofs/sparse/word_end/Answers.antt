@@ -1,5 +1,5 @@
 use Rattle.std.proofs.Common.{arith}
-use Rattle.fb_shots_stim.proofs.PlaceLemmas.{holds_more}
+use Rattle.fb_records.proofs.PartLemmas.{part_holds_more}
 use Rattle.fb_shots_stim.proofs.sparse.word_end.Goals as goal
 
 pub loop-i-preserved : goal.loop-i-preserved
@@ -8,6 +8,6 @@ loop-i-preserved c =
     record {
       onward = omega arith;
       within = omega arith;
-      in_line = holds_more 10 c.args.bytes.now c.args.from c.loop-i.i at.onward (omega arith) c.if-bytes-i-ne10.true at.in_line;
-      in_word = holds_more 32 c.args.bytes.now c.args.from c.loop-i.i at.onward (omega arith) c.if-bytes-i-ne32.true at.in_word;
+      in_line = part_holds_more 10 c.args.bytes.now c.args.from c.loop-i.i at.onward (omega arith) c.if-bytes-i-ne10.true at.in_line;
+      in_word = part_holds_more 32 c.args.bytes.now c.args.from c.loop-i.i at.onward (omega arith) c.if-bytes-i-ne32.true at.in_word;
     }

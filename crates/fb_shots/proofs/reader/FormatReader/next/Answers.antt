@@ -2,8 +2,8 @@ use Rattle.std.proofs.Common.{◌≡◌, ℕ, length, sym, ap, subst, subst₂}
 use Rattle.std.specs.Prelude.{drop}
 use Rattle.fb_graph.specs.Layout.{detectors_of}
 use Rattle.fb_graph.specs.Limits.{DecodingGraph, IsShot}
-use Rattle.fb_shots_json.specs.Answers.{IfShot}
-use Rattle.fb_shots_stim.specs.Lines.{after_line}
+use Rattle.fb_records.specs.Answers.{IfShot}
+use Rattle.fb_records.specs.Lines.{after_line}
 use Rattle.fb_shots_stim.specs.Text01.{records_01, front_01}
 use Rattle.fb_shots_stim.specs.BlocksB8.{block_len, records_b8, front_b8}
 use Rattle.fb_shots_stim.specs.TextDets.{after_record, records_dets, front_dets}
@@ -22,7 +22,7 @@ returns-in-Ok-clause-meaning c =
     let g = c.args.graph.now in
     let old = c.in-Text01.reader in
     let new = c.next.new.self in
-    let n : old.detectors ≡ length (detectors_of g) = subst (IsReaderOf g) c.in-Text01.is c.requires in
+    let n : old.subject ≡ length (detectors_of g) = subst (IsReaderOf g) c.in-Text01.is c.requires in
     subst₂ (λ (r : FormatReader) (a : Next). Answers (source_of g r) (source_of g (Text01 new)) a) (sym c.in-Text01.is) (sym c.on_vertices.ensures)
     (stim_right format.Text01 g records_01 front_01 after_line old new c.in-Ok.answer
     (λ bytes. ap (λ (m : ℕ). of_stim g (records_01 m bytes)) (sym n)) (λ bytes. ap (λ (m : ℕ). of_stim g (front_01 m bytes)) (sym n))
@@ -33,9 +33,9 @@ returns-in-Ok-next-clause-meaning c =
     let g = c.args.graph.now in
     let old = c.in-B8.reader in
     let new = c.next-in-B8.new.self in
-    let n : old.detectors ≡ length (detectors_of g) = subst (IsReaderOf g) c.in-B8.is c.requires in
+    let n : old.subject ≡ length (detectors_of g) = subst (IsReaderOf g) c.in-B8.is c.requires in
     subst₂ (λ (r : FormatReader) (a : Next). Answers (source_of g r) (source_of g (B8 new)) a) (sym c.in-B8.is) (sym c.on_vertices-in-Ok-next.ensures)
-    (stim_right format.B8 g records_b8 front_b8 (drop (block_len old.detectors)) old new c.in-Ok-next.answer
+    (stim_right format.B8 g records_b8 front_b8 (drop (block_len old.subject)) old new c.in-Ok-next.answer
     (λ bytes. ap (λ (m : ℕ). of_stim g (records_b8 m bytes)) (sym n)) (λ bytes. ap (λ (m : ℕ). of_stim g (front_b8 m bytes)) (sym n))
     n c.in-Ok-next.ensures.shot c.in-Ok-next.ensures.meaning)
 
@@ -44,7 +44,7 @@ returns-in-Ok-next-2-clause-meaning c =
     let g = c.args.graph.now in
     let old = c.in-Dets.reader in
     let new = c.next-in-Dets.new.self in
-    let n : old.detectors ≡ length (detectors_of g) = subst (IsReaderOf g) c.in-Dets.is c.requires in
+    let n : old.subject ≡ length (detectors_of g) = subst (IsReaderOf g) c.in-Dets.is c.requires in
     subst₂ (λ (r : FormatReader) (a : Next). Answers (source_of g r) (source_of g (Dets new)) a) (sym c.in-Dets.is) (sym c.on_vertices-in-Ok-next-2.ensures)
     (stim_right format.Dets g records_dets front_dets after_record old new c.in-Ok-next-2.answer
     (λ bytes. ap (λ (m : ℕ). of_stim g (records_dets m bytes)) (sym n)) (λ bytes. ap (λ (m : ℕ). of_stim g (front_dets m bytes)) (sym n))
@@ -55,7 +55,7 @@ returns-in-Ok-next-3-clause-meaning c =
     let g = c.args.graph.now in
     let old = c.in-Json.reader in
     let new = c.next-in-Json.new.self in
-    let same : old.graph ≡ g = subst (IsReaderOf g) c.in-Json.is c.requires in
+    let same : old.subject ≡ g = subst (IsReaderOf g) c.in-Json.is c.requires in
     subst₂ (λ (r : FormatReader) (a : Next). Answers (source_of g r) (source_of g (Json new)) a) (sym c.in-Json.is) (sym c.of_vertices.ensures)
     (json_right g old new c.in-Ok-next-3.answer same
     (subst (λ (x : DecodingGraph). IfShot (IsShot x) c.in-Ok-next-3.answer) same c.in-Ok-next-3.ensures.shot) c.in-Ok-next-3.ensures.meaning)

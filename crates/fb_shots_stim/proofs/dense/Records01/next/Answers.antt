@@ -1,8 +1,8 @@
 use Rattle.std.proofs.Common.{sym, ◌∙◌}
-use Rattle.fb_shots_stim.specs.Lines.{after_line}
+use Rattle.fb_records.specs.Lines.{after_line}
 use Rattle.fb_shots_stim.specs.Text01.{records_01, front_01}
 use Rattle.fb_shots_stim.specs.declared.dense.Step.TheVariants.{Line, NotYet, Refused}
-use Rattle.fb_shots_stim.proofs.RecordLemmas.{answer_from}
+use Rattle.fb_records.proofs.AnswerLemmas.{answer_from}
 use Rattle.fb_shots_stim.proofs.Lemmas01.{next_right}
 use Rattle.fb_shots_stim.proofs.ShotLemmas.{shots_01, given_shot}
 use Rattle.fb_shots_stim.proofs.dense.Records01.next.Goals as goal
@@ -34,5 +34,5 @@ returns-in_ok-shot-in-Line-clause-answer c = answer_from records_01 front_01 aft
 
 pub returns-in_ok-shot-in-Line-clause-shot : goal.returns-in_ok-shot-in-Line-clause-shot
 returns-in_ok-shot-in-Line-clause-shot c =
-    let n = c.args.self.now.detectors in
+    let n = c.args.self.now.subject in
     given_shot n (records_01 n) (front_01 n) _ _ _ (shots_01 n) (returns-in_ok-shot-in-Line-clause-meaning c).0

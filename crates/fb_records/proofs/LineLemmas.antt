@@ -1,9 +1,9 @@
 -- How a text falls into lines, one line at a time and in two pieces.
-use Rattle.std.proofs.Common.{◌≡◌, ℕ, Bool, true, false, ◌||◌, eqb, List, [], ◌∷◌, ◌++◌, refl, sym, ap, subst, ◌∙◌, inl, inr, ◌⊎◌}
-use Rattle.std.proofs.lemmas.Bool.{or_parts, eq-eqb, eqb-true, cases_Bool}
+use Rattle.std.proofs.Common.{◌≡◌, ℕ, suc, ◌-◌, ◌<◌, Bool, true, false, ◌||◌, eqb, List, [], ◌∷◌, ◌++◌, length, get_or, take, refl, sym, ap, subst, ◌∙◌, inl, inr, ◌⊎◌, arith}
+use Rattle.std.proofs.lemmas.Bool.{or_parts, eq-eqb, ne_eqb, eqb-true, cases_Bool}
 use Rattle.std.proofs.lemmas.List.{append-nil}
 use Rattle.std.proofs.lemmas.List.Folds.{list_any-append}
-use Rattle.fb_shots_stim.specs.Lines.{holds, onto_first_part, whole_parts, last_part, without_return, after_line}
+use Rattle.fb_records.specs.Lines.{holds, onto_first_part, whole_parts, last_part, without_return, after_line}
 
 -- ---- one part
 
@@ -176,3 +176,18 @@ without_return_at (z ∷ []) b x h =
 without_return_at (z ∷ y ∷ a) b x h =
     let more = without_return_at (y ∷ a) b x h in
     (more.0, ap (λ (l : List ℕ). z ∷ l) more.1)
+
+pub return_dropped : (line : List ℕ) → 0 < length line → get_or line (length line - 1) 0 ≡ 13 → take (length line - 1) line ≡ without_return line
+return_dropped [] some e = absurd (omega arith)
+return_dropped (x ∷ []) some e = rw (eq-eqb x 13 e) refl
+return_dropped (x ∷ y ∷ line) some e =
+    let len : length (x ∷ y ∷ line) - 1 ≡ suc (length (y ∷ line) - 1) = omega arith in
+    ap (λ (k : ℕ). take k (x ∷ y ∷ line)) len
+    ∙ ap (λ (l : List ℕ). x ∷ l) (return_dropped (y ∷ line) (omega arith) (sym (ap (λ (k : ℕ). get_or (x ∷ y ∷ line) k 0) len) ∙ e))
+
+pub return_kept : (line : List ℕ) → (0 < length line → get_or line (length line - 1) 0 ≡ 13 → ⊥) → line ≡ without_return line
+return_kept [] h = refl
+return_kept (x ∷ []) h = rw (ne_eqb x 13 (λ (e : x ≡ 13). h (omega arith) e)) refl
+return_kept (x ∷ y ∷ line) h =
+    let len : length (x ∷ y ∷ line) - 1 ≡ suc (length (y ∷ line) - 1) = omega arith in
+    ap (λ (l : List ℕ). x ∷ l) (return_kept (y ∷ line) (λ some e. h (omega arith) (ap (λ (k : ℕ). get_or (x ∷ y ∷ line) k 0) len ∙ e)))

@@ -24,6 +24,7 @@ impl Model for Pending {
 }
 
 impl Pending {
+    /// No bytes yet.
     pub fn new(alloc: Global) -> Self
         ensures { result ≡ [] }
     {
@@ -33,6 +34,7 @@ impl Pending {
         }
     }
 
+    /// The bytes that were not taken off.
     pub fn as_slice(&self) -> &[u8]
         ensures { result.now ≡ self.now }
     {

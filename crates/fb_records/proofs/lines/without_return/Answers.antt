@@ -1,7 +1,7 @@
 use Rattle.std.proofs.Common.{sym, ◌∙◌, arith}
 use Rattle.std.proofs.lemmas.Bool.{eqb-false}
-use Rattle.fb_shots_json.proofs.LineLemmas.{return_dropped, return_kept}
-use Rattle.fb_shots_json.proofs.judging.without_return.Goals as goal
+use Rattle.fb_records.proofs.LineLemmas.{return_dropped, return_kept}
+use Rattle.fb_records.proofs.lines.without_return.Goals as goal
 
 pub returns-then-line-end-eq13 : goal.returns-then-line-end-eq13
 returns-then-line-end-eq13 c =

@@ -1,0 +1,5 @@
+pub mod LineLemmas
+pub mod PartLemmas
+pub mod RecordLemmas
+pub mod AnswerLemmas
+pub mod FirstRecords

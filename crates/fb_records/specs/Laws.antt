@@ -1,0 +1,26 @@
+-- What holds of each format whose records are lines.
+use Rattle.std.specs.Prelude.{◌≡◌, ℕ, false, List, ◌∷◌, ◌++◌, Some, None, Ok}
+use Rattle.fb_records.specs.Records.{Ending, Judged, GoesOn}
+use Rattle.fb_records.specs.Lines.{holds, records_by_lines, front_by_lines, Stays}
+use Rattle.fb_records.specs.Answers.{IsLeft}
+
+-- Wherever some bytes are cut in two, what is settled by the first part stands before all that they hold.
+abbrev pub LinesGoOn : Type 0 → Type 0
+LinesGoOn K =
+    (judge : List ℕ → Judged K) (begun : List ℕ → Ending K) → Stays judge begun → (bytes more : List ℕ)
+    → GoesOn (front_by_lines judge begun bytes) (records_by_lines judge (bytes ++ more))
+    × GoesOn (front_by_lines judge begun bytes) (front_by_lines judge begun (bytes ++ more))
+
+-- What stands after the first record: skipped lines before it change nothing, and its line ends it.
+pub record Leaves {K : Type 0} (judge : List ℕ → Judged K) (after : List ℕ → List ℕ) : Type 0 where
+  pub skips : (line more : List ℕ) → holds 10 line ≡ false → judge line ≡ Ok None
+      → after (line ++ 10 ∷ more) ≡ after more
+  pub takes : (line more shot : List ℕ) → holds 10 line ≡ false → judge line ≡ Ok (Some shot)
+      → after (line ++ 10 ∷ more) ≡ more
+
+-- Without the bytes of its first record an input gives the same without its first shot.
+abbrev pub FirstLineLeaves : Type 0 → Type 0
+FirstLineLeaves K =
+    (judge : List ℕ → Judged K) (begun : List ℕ → Ending K) (after : List ℕ → List ℕ) → Leaves judge after
+    → (bytes shot : List ℕ) (shots : List (List ℕ)) → (front_by_lines judge begun bytes).shots ≡ shot ∷ shots
+    → IsLeft (records_by_lines judge) (front_by_lines judge begun) bytes shot (after bytes)
