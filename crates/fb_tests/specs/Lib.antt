@@ -1,0 +1,2 @@
+pub mod InternalFixture
+pub mod InternalSamples

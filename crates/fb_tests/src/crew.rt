@@ -1,0 +1,450 @@
+//! A plan of two units and a fusion, done by hands whose pieces list the nodes that were made for them.
+
+ghost use Rattle.std.specs.Prelude.{◌≡◌, ◌≤◌, None, Some, IfOk};
+ghost use Rattle.fb_plan.specs.Plans.{IsPlan};
+ghost use Rattle.fb_book.specs.Books.{IsPieceAt, place_of};
+
+use fb_book::{Board, Book, Claim, Permit, Piece, order_of_nodes};
+use fb_crew::{Entry, Gate, Hands, Kind, OpenGate, Worked, work_all, work_here};
+use fb_graph::{Graph, NoMemory, Shot, components, first_odd};
+use fb_plan::{Job, Join, Plan};
+use std::alloc::Global;
+use std::marker::Brand;
+use std::sync::atomic::{AtomicU64, Ordering};
+use std::sync::{Mutex, Wait};
+use std::test::Fail;
+use std::thread;
+use std::thread::Threads;
+
+/// A piece that lists the nodes that were made for it.
+#[derive(Drop)]
+struct Listed<'a> {
+    job: &'a Job<'a>,
+    slot: u32,
+    node: u32,
+    made: Vec<u32>,
+}
+
+impl<'a> Piece for Listed<'a> {
+    ghost use Rattle.std.specs.Prelude.{Some};
+
+    ghost job_of = { λ p. p.job.now };
+
+    ghost slot_of = { λ p. p.slot };
+
+    ghost node_of = { λ p. p.node };
+
+    ghost made_of = { λ p. Some p.made.items };
+
+    fn slot(&self) -> u32 {
+        self.slot
+    }
+
+    fn node(&self) -> u32 {
+        self.node
+    }
+}
+
+/// Hands that list nodes. They have no memory for one of the nodes, if it is named, and count the fusions that are asked
+/// for. A worker's tools count its items.
+#[derive(Drop)]
+struct Lister<'a> {
+    job: &'a Job<'a>,
+    without: Option<u32>,
+    fusions: AtomicU64,
+}
+
+impl<'a> Lister<'a> {
+    /// Hands with memory for all nodes of the job.
+    fn new(job: &'a Job<'a>) -> Lister<'a>
+        ensures { result.job.now ≡ job.entry.now }
+    {
+        Lister {
+            job,
+            without: None,
+            fusions: AtomicU64::new(0),
+        }
+    }
+}
+
+impl<'a> Hands<Listed<'a>, u32> for Lister<'a> {
+    ghost job = { λ h. h.job.now };
+
+    fn unit(
+        &self,
+        alloc: Global,
+        tools: &mut u32,
+        slot: u32,
+        node: u32,
+    ) -> Result<Listed<'a>, NoMemory> {
+        if self.without == Some(node) {
+            return Err(NoMemory);
+        }
+        *tools = tools.saturating_add(1);
+        self.job.keeps();
+        order_of_nodes();
+        let mut made = Vec::new(alloc);
+        made.push(node)?;
+        Ok(Listed {
+            job: self.job,
+            slot,
+            node,
+            made,
+        })
+    }
+
+    fn fusion(
+        &self,
+        _alloc: Global,
+        tools: &mut u32,
+        slot: u32,
+        node: u32,
+        left: Listed<'a>,
+        right: Listed<'a>,
+    ) -> Result<Listed<'a>, NoMemory> {
+        self.fusions.fetch_add(1, Ordering::SeqCst);
+        *tools = tools.saturating_add(1);
+        self.job.keeps();
+        order_of_nodes();
+        let Listed { mut made, .. } = left;
+        let Listed { made: mut rest, .. } = right;
+        made.append(&mut rest)?;
+        made.push(node)?;
+        Ok(Listed {
+            job: self.job,
+            slot,
+            node,
+            made,
+        })
+    }
+}
+
+/// How often a unit looks for another one at the gate: about a second, so that a second thread is there in time on a busy
+/// machine too.
+const TURNS: u32 = 2_000_000_000;
+
+/// A gate at which the first unit waits, for a limited number of turns, until another one is there too. It notes who
+/// came with which item of the first slot.
+#[derive(Drop)]
+struct Meeting {
+    units: AtomicU64,
+    /// 1 where the first unit has waited in vain.
+    missed: AtomicU64,
+    passed: AtomicU64,
+    /// One more than the worker's number, for each node; 0 where nobody came.
+    workers: [AtomicU64; 3],
+}
+
+impl Meeting {
+    fn new() -> Meeting {
+        Meeting {
+            units: AtomicU64::new(0),
+            missed: AtomicU64::new(0),
+            passed: AtomicU64::new(0),
+            workers: [AtomicU64::new(0), AtomicU64::new(0), AtomicU64::new(0)],
+        }
+    }
+
+    /// Comes with a unit, and waits for another one.
+    fn meet(&self) {
+        self.units.fetch_add(1, Ordering::SeqCst);
+        for _ in 0..TURNS {
+            if self.units.load(Ordering::SeqCst) > 1 {
+                return;
+            }
+        }
+        self.missed.store(1, Ordering::SeqCst);
+    }
+
+    /// Whether two units were at the gate at once.
+    fn has_met(&self) -> bool {
+        self.missed.load(Ordering::SeqCst) == 0
+    }
+
+    /// Whether the worker came with each item that it gave.
+    fn has_seen(&self, history: &[Entry]) -> bool {
+        history
+            .iter()
+            .all(|entry| entry.kind != Kind::Gave || self.has_noted(entry))
+    }
+
+    /// Whether an entry's worker came with its item.
+    fn has_noted(&self, entry: &Entry) -> bool {
+        match self.workers.as_slice().get(entry.node as usize) {
+            Some(worker) => entry.slot == 0
+                && worker.load(Ordering::SeqCst) == u64::from(entry.worker) + 1,
+            None => false,
+        }
+    }
+}
+
+impl Gate for Meeting {
+    fn before_post(&self, worker: u32, slot: u32, node: u32) {
+        self.passed.fetch_add(1, Ordering::SeqCst);
+        if slot == 0 {
+            if let Some(noted) = self.workers.as_slice().get(node as usize) {
+                noted.store(u64::from(worker) + 1, Ordering::SeqCst);
+            }
+        }
+        if node < 2 {
+            self.meet();
+        }
+    }
+}
+
+/// Posts the piece of the permit's item once it has passed the gate. Returns whether its worker held the item.
+fn post<'a, N: Board>(
+    gate: &Meeting,
+    book: &mut Book<Listed<'a>, N>,
+    permit: Permit<N>,
+    piece: Listed<'a>,
+) -> bool
+    requires { IsPieceAt (λ p. p.job.now) (λ p. p.slot) (λ p. p.node) (λ p. Some p.made.items) N.job
+        (place_of N.job permit.slot permit.node) piece }
+{
+    gate.before_post(permit.worker(), permit.slot(), permit.node());
+    book.post(permit, piece).is_ok()
+}
+
+/// Does the next item that can be taken. Returns whether there was one.
+fn do_next<'a, N: Board>(
+    alloc: Global,
+    hands: &Lister<'a>,
+    gate: &Meeting,
+    book: &mut Book<Listed<'a>, N>,
+    worker: u32,
+) -> Result<bool, NoMemory>
+    requires job { hands.now.job.now ≡ N.job }
+    requires worker { worker ≤ N.workers }
+{
+    let mut items = 0;
+    match book.claim(worker) {
+        Claim::Unit(permit) => {
+            let piece = hands.unit(alloc, &mut items, permit.slot(), permit.node())?;
+            Ok(post(gate, book, permit, piece))
+        }
+        Claim::Fusion(permit, left, right) => {
+            let (slot, node) = (permit.slot(), permit.node());
+            let piece = hands.fusion(alloc, &mut items, slot, node, left, right)?;
+            Ok(post(gate, book, permit, piece))
+        }
+        Claim::NotYet => Ok(false),
+        Claim::Over => Ok(false),
+    }
+}
+
+/// Does items as this worker, which holds the lock from each claim to the post.
+fn work_under_lock<'a, N: Board, R: Wait>(
+    rt: &R,
+    alloc: Global,
+    hands: &Lister<'a>,
+    gate: &Meeting,
+    book: &Mutex<Book<Listed<'a>, N>>,
+    worker: u32,
+)
+    requires job { hands.now.job.now ≡ N.job }
+    requires worker { worker ≤ N.workers }
+{
+    for _ in rt.forever() {
+        let mut held = book.lock(rt);
+        let Ok(true) = do_next(alloc, hands, gate, &mut held, worker) else {
+            break;
+        };
+    }
+}
+
+/// Does all items by two workers, each of which holds the lock from each claim to the post.
+fn work_all_under_lock<'a, N: Board + Send + Sync, R: Threads + Wait + Sync>(
+    rt: &R,
+    alloc: Global,
+    hands: &Lister<'a>,
+    gate: &Meeting,
+) -> Result<(), NoMemory>
+    requires job { hands.now.job.now ≡ N.job }
+    requires workers { N.workers ≡ 2 }
+{
+    let book: Book<Listed<'a>, N> = Book::new(alloc, hands.job, 2)?;
+    let desk = Mutex::new(book);
+    let at = &desk;
+    thread::join(
+        rt,
+        move ||
+            requires { (hands.now.job.now ≡ N.job) × (N.workers ≡ 2) }
+        { work_under_lock(rt, alloc, hands, gate, at, 0) },
+        move ||
+            requires { (hands.now.job.now ≡ N.job) × (N.workers ≡ 2) }
+        { work_under_lock(rt, alloc, hands, gate, at, 1) },
+    );
+    Ok(())
+}
+
+/// A graph without vertices, and its plan of two units and a fusion.
+#[derive(Drop)]
+struct Pair {
+    graph: Graph,
+    plan: Plan,
+    ghost fits: { IsPlan graph plan },
+}
+
+impl Pair {
+    fn new(alloc: Global) -> Result<Pair, Fail> {
+        let graph = Graph::build(alloc, 0, &[], &[])?;
+        let plan = two_units(alloc, &graph)?;
+        Ok(Pair { graph, plan })
+    }
+
+    /// The job of one shot without a defect.
+    fn job(&self, alloc: Global) -> Result<Job<'_>, Fail> {
+        one_shot(alloc, &self.graph, &self.plan)
+    }
+}
+
+/// The plan of two units and a fusion, of a graph without vertices.
+fn two_units(alloc: Global, graph: &Graph) -> Result<Plan, Fail>
+    ensures { IfOk result (IsPlan graph.now) }
+{
+    let mut units = Vec::new(alloc);
+    units.push(Vec::new(alloc))?;
+    units.push(Vec::new(alloc))?;
+    let mut fusions = Vec::new(alloc);
+    fusions.push(Join {
+        left: 0,
+        right: 1,
+        seam: Vec::new(alloc),
+    })?;
+    Ok(Plan::build(alloc, graph, &units, &fusions)?)
+}
+
+/// The job of one shot without a defect.
+fn one_shot<'a>(alloc: Global, graph: &'a Graph, plan: &'a Plan) -> Result<Job<'a>, Fail>
+    requires { IsPlan graph.now plan.now }
+{
+    let shot = Shot::from_rising(graph, Vec::new(alloc));
+    let mut parts = components(alloc, graph)?;
+    if first_odd(&mut parts, &shot).is_some() {
+        return Err(Fail::from("a shot without a defect has a correction"));
+    }
+    let mut shots = Vec::new(alloc);
+    shots.push(shot)?;
+    Ok(Job::new(graph, plan, shots))
+}
+
+/// Lists the nodes of the job by so many workers, by way of the gate.
+fn list_by<'a, G: Gate, R: Threads + Wait + Sync>(
+    rt: &R,
+    alloc: Global,
+    hands: &Lister<'a>,
+    workers: u32,
+    gate: &G,
+) -> Result<Worked<Listed<'a>, u32>, NoMemory>
+    requires { (1 ≤ workers) × (workers ≤ 64) }
+{
+    let tools = vec![in alloc; 0; workers as usize]?;
+    work_all(rt, alloc, hands.job, workers, hands, gate, tools)
+}
+
+/// Whether one root's piece lists its nodes in the order of the tree, and the tools count each once.
+fn lists_the_tree(worked: &Worked<Listed<'_>, u32>) -> bool {
+    let [root] = worked.roots.as_slice() else {
+        return false;
+    };
+    root.made.as_slice() == [0, 1, 2].as_slice() && count_all(&worked.tools) == 3
+}
+
+/// The sum of the counts.
+fn count_all(counts: &[u32]) -> u32 {
+    let mut sum: u32 = 0;
+    for count in counts {
+        sum = sum.saturating_add(*count);
+    }
+    sum
+}
+
+/// Lists the nodes of the job by two workers, each of which holds the lock from each claim to the post.
+fn list_under_lock<R: Threads + Wait + Sync>(
+    rt: &R,
+    alloc: Global,
+    job: &Job<'_>,
+    gate: &Meeting,
+) -> Result<(), NoMemory> {
+    work_all_under_lock::<Brand, R>(rt, alloc, &Lister::new(job), gate)
+}
+
+/// By two workers, each of which makes a unit while the other one does, the root's nodes are made in the order of the tree,
+/// each once, and the history tells who gave which.
+#[test]
+fn meets_at_the_gate(rt: HostRuntime) -> Result<(), Fail> {
+    let pair = Pair::new(rt.alloc())?;
+    let job = pair.job(rt.alloc())?;
+    let gate = Meeting::new();
+    let worked = list_by(&rt, rt.alloc(), &Lister::new(&job), 2, &gate)?;
+    assert!(rt; gate.has_met(), "the units are made one after the other");
+    assert!(rt;
+        lists_the_tree(&worked),
+        "the nodes are listed in another order"
+    );
+    assert!(rt;
+        gate.has_seen(&worked.history),
+        "the gate saw other items than were given"
+    );
+    Ok(())
+}
+
+/// One worker alone meets nobody at the gate.
+#[test]
+fn meets_nobody_alone(rt: HostRuntime) -> Result<(), Fail> {
+    let pair = Pair::new(rt.alloc())?;
+    let job = pair.job(rt.alloc())?;
+    let gate = Meeting::new();
+    let worked = list_by(&rt, rt.alloc(), &Lister::new(&job), 1, &gate)?;
+    assert!(rt; !gate.has_met(), "one worker met another");
+    assert!(rt;
+        lists_the_tree(&worked),
+        "the nodes are listed in another order"
+    );
+    Ok(())
+}
+
+/// Two workers that hold the lock from the claim to the post don't meet at the gate.
+#[test]
+fn meets_nobody_under_a_lock(rt: HostRuntime) -> Result<(), Fail> {
+    let pair = Pair::new(rt.alloc())?;
+    let job = pair.job(rt.alloc())?;
+    let gate = Meeting::new();
+    list_under_lock(&rt, rt.alloc(), &job, &gate)?;
+    assert!(rt; !gate.has_met(), "two workers under one lock met");
+    assert!(rt;
+        gate.passed.load(Ordering::SeqCst) == 3,
+        "an item didn't pass the gate"
+    );
+    Ok(())
+}
+
+/// Where one worker has no memory for a unit, the fusion above it is never asked for.
+#[test]
+fn runs_out_of_memory(rt: HostRuntime) -> Result<(), Fail> {
+    let pair = Pair::new(rt.alloc())?;
+    let job = pair.job(rt.alloc())?;
+    let hands = Lister {
+        without: Some(1),
+        ..Lister::new(&job)
+    };
+    let worked = list_by(&rt, rt.alloc(), &hands, 2, &OpenGate);
+    assert!(rt; worked.is_err(), "no memory for node 1");
+    assert!(rt;
+        hands.fusions.load(Ordering::SeqCst) == 0,
+        "a fusion was asked for"
+    );
+    Ok(())
+}
+
+/// The calling thread does each item once.
+#[test]
+fn works_here(rt: HostRuntime) -> Result<(), Fail> {
+    let pair = Pair::new(rt.alloc())?;
+    let job = pair.job(rt.alloc())?;
+    let mut items = 0;
+    let finished = work_here(rt.alloc(), &job, &Lister::new(&job), &mut items)?;
+    assert!(rt; finished.roots.len() == 1 && items == 3);
+    Ok(())
+}

@@ -1,0 +1,16 @@
+//! The tests that are proved: each of the crates below it over what these show. It gives nothing.
+
+#![tactic(auto)]
+
+#[cfg(test)]
+mod blossoms;
+#[cfg(test)]
+mod board;
+#[cfg(test)]
+mod crew;
+#[cfg(test)]
+mod runs;
+#[cfg(test)]
+mod shots;
+#[cfg(test)]
+mod trees;

@@ -1,0 +1,55 @@
+//! Paths and cycles in a tree of three branches.
+
+ghost use Rattle.std.specs.Prelude.{◌≡◌, IfOk};
+ghost use Rattle.fb_trees.specs.Branches.{Grown};
+ghost use Rattle.fb_tests.specs.InternalSamples.{three_branches};
+
+use fb_trees::{CycleStep, LinkId, Links, NoMemory, NodeId, Tree};
+use std::alloc::Global;
+use std::test::Fail;
+
+fn step(node: NodeId, link: LinkId) -> CycleStep
+    ensures { result ≡ record { node = node; link = link } }
+{
+    CycleStep { node, link }
+}
+
+/// Below the root 0 the branches 1, 2 and 3, 4, and below 2 the branch 5, 6. The links are 10 to 15 in that order.
+fn three_branches(alloc: Global, links: &Links) -> Result<Tree, NoMemory>
+    ensures { IfOk result (λ tree. tree ≡ three_branches) }
+{
+    let mut tree = Tree::start(alloc, 0)?;
+    tree.attach(alloc, 0, 10, 1, step(2, 11), links)?;
+    tree.attach(alloc, 0, 12, 3, step(4, 13), links)?;
+    tree.attach(alloc, 2, 14, 5, step(6, 15), links)?;
+    Ok(tree)
+}
+
+#[test]
+fn finds_paths_and_cycles(rt: HostRuntime) -> Result<(), Fail> {
+    let alloc = rt.alloc();
+    let links = Links::new(alloc)?;
+    let tree = three_branches(alloc, &links)?;
+    let path = tree.path_to_root(alloc, 6)?;
+    assert_eq!(rt;
+        path.as_slice(),
+        [step(6, 15), step(5, 14), step(2, 11), step(1, 10)].as_slice()
+    );
+    assert_eq!(rt; tree.branches_to(alloc, 6)?.len(), 2);
+    assert_eq!(rt; tree.branches_beside(alloc, 6)?.len(), 1);
+    let cycle = tree.cycle_of(alloc, 6, 4, 20, &links)?;
+    assert_eq!(rt;
+        cycle.as_slice(),
+        [
+            step(0, 10),
+            step(1, 11),
+            step(2, 14),
+            step(5, 15),
+            step(6, 20),
+            step(4, 13),
+            step(3, 12)
+        ]
+        .as_slice()
+    );
+    Ok(())
+}
