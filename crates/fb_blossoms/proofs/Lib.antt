@@ -11,7 +11,6 @@ pub mod LegLists
 pub mod Turns
 pub mod SimplePaths
 pub mod OnePath
-pub mod Grown
 pub mod PairLists
 pub mod Takings
 pub mod Renamings

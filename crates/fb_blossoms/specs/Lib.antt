@@ -1,4 +1,3 @@
-pub mod InternalFixture
 pub mod InternalForest
 pub mod InternalItems
 pub mod InternalLegs

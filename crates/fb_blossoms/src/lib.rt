@@ -5,15 +5,11 @@
 pub mod blossoms;
 mod cycles;
 mod entry;
-#[cfg(test)]
-mod fixture;
 mod forest;
 mod joining;
 pub mod laws;
 mod legs;
 mod names;
-#[cfg(test)]
-mod tests;
 mod ways;
 
 pub use blossoms::Blossoms;

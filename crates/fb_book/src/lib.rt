@@ -18,6 +18,3 @@ pub use laws::{
     complete_history, entries_of_item, items_of_plan, order_of_nodes, progress, renumbered_slots,
 };
 pub use permit::{Board, Permit, Piece};
-
-#[cfg(test)]
-mod tests;

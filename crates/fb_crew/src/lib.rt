@@ -19,6 +19,3 @@ pub use hands::{Gate, Hands, OpenGate};
 pub use here::{Finished, work_here};
 pub use solver::{Solved, Solver, Tools};
 pub use window::{Crew, Window};
-
-#[cfg(test)]
-mod tests;

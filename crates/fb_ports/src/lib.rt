@@ -20,6 +20,3 @@ pub struct Failed;
 
 /// Memory ran out.
 pub use std::alloc::AllocError as NoMemory;
-
-#[cfg(test)]
-mod tests;

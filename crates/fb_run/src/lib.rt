@@ -12,6 +12,3 @@ pub use fb_crew::{Gate, OpenGate};
 pub use fb_endings::{Cause, Ended, Refusal};
 pub use fb_words::UsageKind;
 pub use running::run;
-
-#[cfg(test)]
-mod tests;

@@ -11,6 +11,3 @@ mod stream;
 pub use answer::{Format, Kind, NoMemory, ShotFault, Step};
 pub use laws::goes_on;
 pub use stream::ShotStream;
-
-#[cfg(test)]
-mod tests;

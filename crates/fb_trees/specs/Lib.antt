@@ -2,7 +2,6 @@ pub mod Branches
 pub mod InternalNames
 pub mod InternalPaths
 pub mod InternalPlaces
-pub mod InternalSamples
 pub mod Replacements
 pub mod Rooted
 pub mod TreeLinks

@@ -7,8 +7,6 @@ mod changes;
 pub mod laws;
 mod places;
 mod steps;
-#[cfg(test)]
-mod tests;
 pub mod tree;
 
 pub use branch::Branch;

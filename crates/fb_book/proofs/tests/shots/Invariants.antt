@@ -1,9 +1,0 @@
-use Rattle.std.proofs.Common.{◌≡◌, ◌≤◌, length, All, None}
-use Rattle.fb_graph.specs.Components.{IsFirstOdd}
-use Rattle.fb_graph.specs.Limits.{IsShot, problem_of}
-use Rattle.fb_book.proofs.tests.shots.Given as goal
-
-abbrev pub invariant-loop : goal.invariant-loop
-invariant-loop l =
-    (length l.shots.items ≤ l.counter) × All (IsShot l.graph) l.shots.items
-    × All (λ defects. IsFirstOdd (problem_of l.graph defects) None) l.shots.items × (l.parts ≡ l.graph)
