@@ -4,7 +4,7 @@ use crate::plain::{PlainDual, PlainLayer, PlainNode};
 use crate::readings::Readings;
 use crate::stopped::Stopped;
 use fb_graph::Whole;
-use fb_regions::{Holder, Layer, Regions, Step};
+use fb_regions::{Holder, Layer, NodeId, Regions, Step};
 use std::alloc::Global;
 use std::fmt::Debug;
 
@@ -131,8 +131,19 @@ impl Comparison<'_, '_> {
         self.expect("vertices", name, found, expected)?;
         let first = regions.first_vertex(name);
         self.expect("first_vertex", name, first, top.vertices[0])?;
+        self.compare_way_back(name, expected)?;
         let is_joined = regions.is_joined(name);
         self.expect("is_joined", name, is_joined, !node.children.is_empty())
+    }
+
+    /// From the last vertex of a node the way back passes each of its vertices, and ends before the first.
+    fn compare_way_back(&self, name: NodeId, vertices: &[u32]) -> Result<(), Stopped> {
+        let mut at = Some(self.regions.last_vertex(name));
+        for v in vertices.iter().rev() {
+            self.expect("way back", name, at, Some(*v))?;
+            at = self.regions.vertex_before(name, *v);
+        }
+        self.expect("way back", name, at, None)
     }
 
     /// The cuts are the layers of positive value.
