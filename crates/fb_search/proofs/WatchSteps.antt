@@ -1,5 +1,5 @@
 -- Edges that come under watch, vertex after vertex.
-use Rattle.std.proofs.Common.{ℕ, ◌≡◌, ◌+◌, ◌==◌, ◌<◌, ◌⊎◌, inl, inr, Bool, true, false, List, [], ◌∷◌, ◌++◌, length, take, filter, get_or, reverse, refl, sym, ap, ◌∙◌, subst, append_assoc, if◌then◌else◌}
+use Rattle.std.proofs.Common.{ℕ, ◌≡◌, ◌+◌, ◌==◌, ◌<◌, ◌⊎◌, inl, inr, Bool, true, false, List, [], ◌∷◌, ◌++◌, length, take, filter, get_or, refl, sym, ap, ◌∙◌, subst, if◌then◌else◌}
 use Rattle.std.specs.List.{range_with_len}
 use Rattle.std.proofs.lemmas.Bool.{eqb-true, or_cases}
 use Rattle.std.proofs.lemmas.List.{take_more}
@@ -35,15 +35,6 @@ watched_more p vs v es a b c e before more = record {
         more.entered k (rw e (is_in-filter-range (λ j. touches v (edge_at p.edges j)) (length p.edges) k below
         ∙ ap (λ w. touches w (edge_at p.edges k)) same ∙ touch))
     near u k below touch (inr old) = more.kept k (before.near u k old below touch)
-
--- a list whose later members are passed, and of the others the last one next
-pub held_next : (vs rest passed : List ℕ) (v : ℕ) → reverse (v ∷ rest) ++ passed ≡ vs → is_in vs v ≡ true
-held_next vs rest passed v is =
-    ap (λ l. is_in l v) (sym is)
-    ∙ in_left (reverse rest ++ v ∷ []) passed v (is_in_pushed (reverse rest) v)
-
-pub passed_on : (vs rest passed : List ℕ) (v : ℕ) → reverse (v ∷ rest) ++ passed ≡ vs → reverse rest ++ v ∷ passed ≡ vs
-passed_on vs rest passed v is = sym (append_assoc (reverse rest) (v ∷ []) passed) ∙ is
 
 -- a member of one place more
 taken_cases : (xs : List ℕ) (i v : ℕ) → i < length xs → is_in (take (i + 1) xs) v ≡ true
