@@ -11,7 +11,8 @@ use std::alloc::{AllocError, Global};
 pub const NAMES: u64 = 64;
 
 /// The kinds that are drawn while nests are built up, some more often than others.
-pub const BUILDING: [Kind; 14] = [
+pub const BUILDING: [Kind; 15] = [
+    Kind::Open,
     Kind::Open,
     Kind::Join,
     Kind::Join,
@@ -173,7 +174,7 @@ impl<'c, 'a> Chooser<'c, 'a> {
 }
 
 /// A length from 1 to the greatest one, and often the greatest.
-fn draw_length(draws: &mut Draws, greatest: u64) -> u64 {
+pub fn draw_length(draws: &mut Draws, greatest: u64) -> u64 {
     if draws.happens(60) {
         greatest
     } else {

@@ -103,16 +103,15 @@ impl Comparison<'_, '_> {
         let graph = self.plain.graph;
         let readings = self.readings;
         let of = u64::from(edge);
-        let weight = graph.weight(edge);
         let residue = self.regions.residue(edge);
         let (first, second) = graph.ends(edge);
-        let heights = readings.height_of(first) + readings.height_of(second);
-        self.expect("residue", of, residue, weight.saturating_sub(heights))?;
+        let expected = readings.residue_of(graph, edge);
+        self.expect("residue", of, residue, expected)?;
         let cover = readings.cover_of(first);
         if cover.is_some() && cover == readings.cover_of(second) {
             return Ok(());
         }
-        let left = weight.saturating_sub(readings.load_of(edge));
+        let left = graph.weight(edge).saturating_sub(readings.load_of(edge));
         self.expect("residue", of, residue, left)
     }
 

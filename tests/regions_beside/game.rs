@@ -6,7 +6,9 @@ use crate::draws::Draws;
 use crate::moves::{Kind, Move};
 use crate::plain::PlainDual;
 use crate::readings::Readings;
+use crate::roles::DrawnRoles;
 use crate::stopped::Stopped;
+use crate::watching::Watched;
 use fb_graph::{Graph, Whole};
 use fb_regions::{NodeId, Regions, SpareRegions};
 use std::alloc::{AllocError, Global};
@@ -14,10 +16,12 @@ use std::alloc::{AllocError, Global};
 /// The two states, on which the same moves are made.
 #[derive(Drop)]
 pub struct Game<'a> {
-    regions: Regions<Whole<'a>>,
-    plain: PlainDual<'a>,
+    pub regions: Regions<Whole<'a>>,
+    pub plain: PlainDual<'a>,
     /// The observations of the plain state.
-    readings: Readings,
+    pub readings: Readings,
+    /// The edges that are watched for a tree.
+    pub watched: Watched,
     /// The least name that a new node gets.
     first_name: NodeId,
     /// The names of the blossoms that were split.
@@ -42,6 +46,7 @@ impl<'a> Game<'a> {
             regions,
             plain,
             readings,
+            watched: Watched::new(alloc, graph)?,
             first_name,
             freed: Vec::new(alloc),
         })
@@ -121,6 +126,32 @@ impl<'a> Game<'a> {
         comparison.run()
     }
 
+    /// Random roles of some outer nodes; none if no node may be plus.
+    pub fn draw_roles(
+        &self,
+        alloc: Global,
+        draws: &mut Draws,
+    ) -> Result<Option<DrawnRoles>, AllocError> {
+        DrawnRoles::draw(alloc, draws, &self.plain, &self.readings)
+    }
+
+    /// Watches what a tree with these roles needs, and some other edges.
+    pub fn renew_watch(
+        &mut self,
+        alloc: Global,
+        draws: &mut Draws,
+        roles: &DrawnRoles,
+    ) -> Result<(), AllocError> {
+        self.watched
+            .renew(alloc, draws, self.plain.graph, &self.readings, roles)
+    }
+
+    /// Compares the watched edges after a search by bounds.
+    pub fn compare_watch(&mut self, alloc: Global) -> Result<(), Stopped> {
+        self.watched
+            .compare(alloc, self.plain.graph, &self.readings)
+    }
+
     /// Whether a blossom of this name was split.
     pub fn is_freed(&self, name: NodeId) -> bool {
         self.freed.contains(&name)
@@ -165,6 +196,7 @@ impl<'a> Game<'a> {
             regions,
             plain,
             readings,
+            watched: self.watched,
             first_name: self.first_name,
             freed: self.freed,
         };

@@ -1,21 +1,28 @@
-//! Makes random moves on a dual state of `fb_regions` and on a plain one beside it, and compares every observation.
+//! Makes random moves on a dual state of `fb_regions` and on a plain one beside it, and compares every observation. After
+//! some moves it asks `fb_obstacles` what is in the way of random trees, and compares the answers with a plain scan.
 //!
 //! Its arguments are a seed, the number of rounds, and that of the moves on each part of a graph. It prints what differs,
-//! how many moves of each kind were made, and how many comparisons passed.
+//! how many moves and answers of each kind there were, and how many comparisons passed.
 
 #![tactic(auto)]
 
+mod asking;
 mod choosing;
+mod closed;
 mod comparing;
 mod draws;
 mod game;
 mod moves;
+mod obstacles;
 mod plain;
 mod readings;
+mod roles;
 mod rounds;
 mod shapes;
 mod stopped;
+mod watching;
 
+use asking::KINDS;
 use moves::Kind;
 use rounds::Player;
 use shapes::SHAPES;
@@ -41,7 +48,7 @@ fn main(rt: HostRuntime) -> io::Result<()> {
         }
     }
     print_counts(&rt, &player)?;
-    let passed = player.passed;
+    let passed = player.passed + player.asker.passed();
     println!(rt; "{passed} passed, {failed} failed")
 }
 
@@ -56,5 +63,23 @@ fn print_counts(rt: &impl Print, player: &Player) -> io::Result<()> {
     let named_again = player.named_again;
     println!(rt; "names used again: {named_again}")?;
     let (deep, deepest) = (player.deep, player.deepest);
-    println!(rt; "nests of ten or more blossoms: {deep} times, the deepest of {deepest}")
+    println!(rt; "nests of ten or more blossoms: {deep} times, the deepest of {deepest}")?;
+    print_answers(rt, "next_obstacle", &player.asker.answers)?;
+    print_answers(
+        rt,
+        "next_obstacle_by_bounds",
+        &player.asker.answers_by_bounds,
+    )
+}
+
+/// Prints how often a call gave each kind of answer.
+fn print_answers(rt: &impl Print, call: &str, answers: &[u64; 8]) -> io::Result<()> {
+    print!(rt; "{call}: ")?;
+    for (name, count) in KINDS.iter().zip(answers.iter()) {
+        if *name != KINDS[0] {
+            print!(rt; ", ")?;
+        }
+        print!(rt; "{name} {count}")?;
+    }
+    println!(rt; "")
 }

@@ -47,6 +47,25 @@ impl Readings {
         self.loads[edge as usize]
     }
 
+    /// What the potentials of the edge's ends leave of its weight; 0 if they are more.
+    pub fn residue_of(&self, graph: &Graph, edge: u32) -> u64 {
+        let (first, second) = graph.ends(edge);
+        let heights = self.height_of(first) + self.height_of(second);
+        graph.weight(edge).saturating_sub(heights)
+    }
+
+    /// The outer nodes that hold the edge's ends.
+    pub fn covers_of(&self, graph: &Graph, edge: u32) -> (Option<NodeId>, Option<NodeId>) {
+        let (first, second) = graph.ends(edge);
+        (self.cover_of(first), self.cover_of(second))
+    }
+
+    /// Whether the potentials of all defects that the outer node holds have this parity.
+    pub fn has_parity(&self, name: NodeId, parity: u64) -> bool {
+        self.defects.iter().all(|d| self.cover_of(*d) != Some(name)
+            || self.height_of(*d) % 2 == parity)
+    }
+
     /// The end of the edge that a node holds, the first one if both are held, and the other end.
     pub fn inner_and_outer_end(&self, graph: &Graph, edge: u32) -> (u32, u32) {
         let (first, second) = graph.ends(edge);
@@ -91,7 +110,7 @@ impl Readings {
 }
 
 /// A flag for each vertex, set for those of the list.
-fn flags(alloc: Global, graph: &Graph, vertices: &[u32]) -> Result<Vec<bool>, AllocError> {
+pub fn flags(alloc: Global, graph: &Graph, vertices: &[u32]) -> Result<Vec<bool>, AllocError> {
     let mut flags = vec![in alloc; false; graph.vertices() as usize]?;
     for v in vertices {
         flags[*v as usize] = true;
@@ -100,7 +119,7 @@ fn flags(alloc: Global, graph: &Graph, vertices: &[u32]) -> Result<Vec<bool>, Al
 }
 
 /// Whether exactly one of the ends has a flag.
-fn is_between(flags: &[bool], ends: (u32, u32)) -> bool {
+pub fn is_between(flags: &[bool], ends: (u32, u32)) -> bool {
     flags[ends.0 as usize] != flags[ends.1 as usize]
 }
 
@@ -164,7 +183,7 @@ fn defects(alloc: Global, nodes: &[PlainNode]) -> Result<Vec<u32>, AllocError> {
 }
 
 /// One more than the greatest name.
-fn names_end(nodes: &[PlainNode]) -> usize {
+pub fn names_end(nodes: &[PlainNode]) -> usize {
     nodes.iter().map(|n| n.name as usize + 1).max().unwrap_or(0)
 }
 

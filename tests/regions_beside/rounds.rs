@@ -1,5 +1,6 @@
 //! Rounds of moves: each on states over the parts of a graph, which are merged one after another.
 
+use crate::asking::Asker;
 use crate::choosing::{BUILDING, NAMES, TAKING_DOWN};
 use crate::draws::Draws;
 use crate::game::Game;
@@ -14,6 +15,9 @@ const TRIES: u32 = 100;
 
 /// The depth from which on a nest counts as deep.
 const DEEP: u64 = 10;
+
+/// After how many percent of the comparisons trees are asked about. Each step of a tree makes deep nests rarer.
+const ASKED: u64 = 50;
 
 /// Draws the moves, and counts what comes up.
 #[derive(Drop)]
@@ -33,6 +37,8 @@ pub struct Player {
     pub deep: u64,
     /// How many comparisons found all observations as expected.
     pub passed: u64,
+    /// Asks about trees after each comparison.
+    pub asker: Asker,
 }
 
 impl Player {
@@ -47,6 +53,7 @@ impl Player {
             deepest: 0,
             deep: 0,
             passed: 0,
+            asker: Asker::new(alloc),
         }
     }
 
@@ -70,7 +77,7 @@ impl Player {
             self.play(&mut other, count)?;
             (game, self.spare) = game.merged(alloc, &mut self.draws, other, whole)?;
             self.merged += 1;
-            self.compare(&game, None)?;
+            self.compare(&mut game, None)?;
             self.play(&mut game, moves)?;
         }
         self.spare = Some(game.into_spare());
@@ -117,14 +124,14 @@ impl Player {
         Ok(None)
     }
 
-    /// Compares both states after a move, or after a merge.
-    fn compare(&mut self, game: &Game<'_>, last: Option<&Move>) -> Result<(), Stopped> {
+    /// Compares both states after a move, or after a merge, and asks about trees on them.
+    fn compare(&mut self, game: &mut Game<'_>, last: Option<&Move>) -> Result<(), Stopped> {
         let depth = game.depth();
         self.deepest = self.deepest.max(depth);
         if depth >= DEEP {
             self.deep += 1;
         }
-        let compared = game.compare(self.alloc);
+        let compared = self.compare_and_ask(game);
         if let Err(Stopped::Differ(found)) = compared {
             let text = match last {
                 Some(last) => format!(in self.alloc; "after {last:?}: {found}")?,
@@ -132,8 +139,15 @@ impl Player {
             };
             return Err(Stopped::Differ(text));
         }
-        compared?;
+        compared
+    }
+
+    fn compare_and_ask(&mut self, game: &mut Game<'_>) -> Result<(), Stopped> {
+        game.compare(self.alloc)?;
         self.passed += 1;
+        if self.draws.happens(ASKED) {
+            self.asker.ask(&mut self.draws, game)?;
+        }
         Ok(())
     }
 }

@@ -1,0 +1,172 @@
+//! Asks what is in the way of trees of random roles, and compares the answers with the plain scan.
+
+use crate::choosing::draw_length;
+use crate::closed::has_no_odd_closed;
+use crate::draws::Draws;
+use crate::game::Game;
+use crate::moves::Move;
+use crate::obstacles::{Expected, Scan};
+use crate::roles::DrawnRoles;
+use crate::stopped::Stopped;
+use fb_graph::Steps;
+use fb_obstacles::{Obstacle, next_obstacle, next_obstacle_by_bounds};
+use std::alloc::{AllocError, Global};
+use std::marker::Brand;
+use std::sync::ledger::{Blank, Ledger};
+
+/// The kinds of answers.
+pub const KINDS: [&str; 8] = [
+    "Absorb",
+    "Boundary",
+    "Meet",
+    "PlusPair",
+    "LayerEmpty",
+    "BlossomEmpty",
+    "ZeroMinus",
+    "Free",
+];
+
+/// The place of the answer's kind in `KINDS`.
+fn kind_of(answer: Obstacle) -> usize {
+    match answer {
+        Obstacle::Absorb(_) => 0,
+        Obstacle::Boundary(_) => 1,
+        Obstacle::Meet(_) => 2,
+        Obstacle::PlusPair(_) => 3,
+        Obstacle::LayerEmpty(_) => 4,
+        Obstacle::BlossomEmpty(_) => 5,
+        Obstacle::ZeroMinus(_) => 6,
+        Obstacle::Free(_) => 7,
+    }
+}
+
+/// Asks about trees, and counts the answers that were as expected.
+#[derive(Drop)]
+pub struct Asker {
+    alloc: Global,
+    /// How often `next_obstacle` gave each kind of answer, in the order of `KINDS`.
+    pub answers: [u64; 8],
+    /// The same of `next_obstacle_by_bounds`.
+    pub answers_by_bounds: [u64; 8],
+}
+
+impl Asker {
+    pub fn new(alloc: Global) -> Asker {
+        Asker {
+            alloc,
+            answers: [0; 8],
+            answers_by_bounds: [0; 8],
+        }
+    }
+
+    /// How many answers were as expected.
+    pub fn passed(&self) -> u64 {
+        let all = self.answers.iter().chain(self.answers_by_bounds.iter());
+        all.sum()
+    }
+
+    /// Asks about trees of random roles, one after another with one watch, and ends at one of the obstacles. A tree that is
+    /// free may step, and may be asked about again. No tree is asked about if a closed set holds an odd number of defects.
+    pub fn ask(&mut self, draws: &mut Draws, game: &mut Game<'_>) -> Result<(), Stopped> {
+        let alloc = self.alloc;
+        if !has_no_odd_closed(alloc, game.plain.graph, &game.readings.defects)? {
+            return Ok(());
+        }
+        game.watched.clear();
+        let mut drawn = game.draw_roles(alloc, draws)?;
+        while let Some(roles) = drawn {
+            game.renew_watch(alloc, draws, &roles)?;
+            if let Obstacle::Free(length) = self.compare_answers(game, &roles)? {
+                if draws.happens(50) {
+                    step(alloc, game, &roles, draw_length(draws, length))?;
+                }
+            } else if draws.happens(50) {
+                return Ok(());
+            }
+            drawn = if draws.happens(60) {
+                Some(roles)
+            } else {
+                game.draw_roles(alloc, draws)?
+            };
+        }
+        Ok(())
+    }
+
+    /// Asks both calls about the tree, and compares their answers and the watched edges with what is expected.
+    fn compare_answers(
+        &mut self,
+        game: &mut Game<'_>,
+        roles: &DrawnRoles,
+    ) -> Result<Obstacle, Stopped> {
+        if !may_ask(game, roles) {
+            let plus = &roles.plus;
+            let text = format!(in self.alloc; "no call is allowed for plus nodes {plus:?}")?;
+            return Err(Stopped::Differ(text));
+        }
+        let scan = Scan {
+            alloc: self.alloc,
+            plain: &game.plain,
+            readings: &game.readings,
+            roles,
+        };
+        let expected = scan.expected()?;
+        let (answer, by_bounds) = both_answers::<Brand>(game, roles, Blank::new(1));
+        self.expect("next_obstacle", roles, answer, &expected)?;
+        self.answers[kind_of(answer)] += 1;
+        self.expect("next_obstacle_by_bounds", roles, by_bounds, &expected)?;
+        game.compare_watch(self.alloc)?;
+        self.answers_by_bounds[kind_of(by_bounds)] += 1;
+        Ok(answer)
+    }
+
+    /// Stops if the answer isn't one that is expected.
+    fn expect(
+        &self,
+        call: &str,
+        roles: &DrawnRoles,
+        answer: Obstacle,
+        expected: &Expected,
+    ) -> Result<(), Stopped> {
+        if expected.allows(answer) {
+            return Ok(());
+        }
+        let (plus, minus) = (&roles.plus, &roles.minus);
+        let text = format!(in self.alloc;
+            "{call} for plus nodes {plus:?} and minus nodes {minus:?} is {answer:?}, expected {expected:?}"
+        )?;
+        Err(Stopped::Differ(text))
+    }
+}
+
+/// Whether the conditions of both calls are met that change as the tree steps.
+fn may_ask(game: &Game<'_>, roles: &DrawnRoles) -> bool {
+    roles.have_one_parity(&game.readings)
+        && game.watched.are_bounded(game.plain.graph, &game.readings)
+}
+
+/// What each of the two calls says of the tree.
+fn both_answers<L: Ledger>(
+    game: &mut Game<'_>,
+    roles: &DrawnRoles,
+    looks: Blank,
+) -> (Obstacle, Obstacle) {
+    let mut looks = Steps::<L>::new(looks);
+    let regions = &game.regions;
+    let watch = &mut game.watched.watch;
+    let scope = regions.scope();
+    let answer = next_obstacle(watch, scope, regions, roles, &mut looks);
+    let by_bounds = next_obstacle_by_bounds(watch, scope, regions, roles, &mut looks);
+    (answer, by_bounds)
+}
+
+/// Each minus node shrinks by this length, and then each plus node grows by it. No residue falls by more than twice as much.
+fn step(alloc: Global, game: &mut Game<'_>, roles: &DrawnRoles, by: u64) -> Result<(), AllocError> {
+    for name in &roles.minus {
+        game.make(alloc, &Move::Shrink { name: *name, by })?;
+    }
+    for name in &roles.plus {
+        game.make(alloc, &Move::Grow { name: *name, by })?;
+    }
+    game.watched.lower(2 * by);
+    Ok(())
+}

@@ -1,0 +1,137 @@
+//! A watch, and beside it a plain list of what it watches.
+
+use crate::draws::Draws;
+use crate::readings::Readings;
+use crate::roles::DrawnRoles;
+use crate::stopped::Stopped;
+use fb_graph::{Graph, Whole};
+use fb_obstacles::{NodeId, Role, Watch};
+use std::alloc::{AllocError, Global};
+
+/// The edges that are watched, both ways.
+#[derive(Drop)]
+pub struct Watched {
+    pub watch: Watch,
+    /// For each edge that is watched a number that its bound is at most.
+    limits: Vec<Option<u64>>,
+}
+
+impl Watched {
+    /// Watches no edge of the graph.
+    pub fn new(alloc: Global, graph: &Graph) -> Result<Watched, AllocError> {
+        Ok(Watched {
+            watch: Watch::new(alloc, &Whole(graph))?,
+            limits: vec![in alloc; None; graph.edge_count() as usize]?,
+        })
+    }
+
+    /// Watches no edge any longer.
+    pub fn clear(&mut self) {
+        self.watch.clear();
+        for limit in self.limits.iter_mut() {
+            *limit = None;
+        }
+    }
+
+    /// Each residue may have fallen by this much.
+    pub fn lower(&mut self, by: u64) {
+        self.watch.lower(by);
+        for limit in self.limits.iter_mut() {
+            *limit = limit.map(|most| most.saturating_sub(by));
+        }
+    }
+
+    /// Watches each edge that leads from a plus node to another node or none, in a random order, and of the other edges
+    /// some from now on and some no longer.
+    pub fn renew(
+        &mut self,
+        alloc: Global,
+        draws: &mut Draws,
+        graph: &Graph,
+        readings: &Readings,
+        roles: &DrawnRoles,
+    ) -> Result<(), AllocError> {
+        let mut edges: Vec<u32> = (0..graph.edge_count()).collect(alloc)?;
+        draws.shuffle(&mut edges);
+        for edge in &edges {
+            let is_watched = self.limits[*edge as usize].is_some();
+            if leaves_plus(readings.covers_of(graph, *edge), roles) {
+                self.enter(*edge);
+            } else if is_watched && draws.happens(30) {
+                self.leave(*edge);
+            } else if draws.happens(20) {
+                self.enter(*edge);
+            }
+        }
+        Ok(())
+    }
+
+    /// Watches the edge from now on.
+    fn enter(&mut self, edge: u32) {
+        self.watch.enter(edge);
+        let limit = &mut self.limits[edge as usize];
+        if limit.is_none() {
+            *limit = Some(0);
+        }
+    }
+
+    /// Watches the edge no longer.
+    fn leave(&mut self, edge: u32) {
+        self.watch.leave(edge);
+        self.limits[edge as usize] = None;
+    }
+
+    /// Whether no bound is above its edge's residue.
+    pub fn are_bounded(&self, graph: &Graph, readings: &Readings) -> bool {
+        (0..graph.edge_count()).all(|edge| match self.limits[edge as usize] {
+            Some(most) => most <= readings.residue_of(graph, edge),
+            None => true,
+        })
+    }
+
+    /// Compares the edges after a search by bounds. Only those that one outer node holds by both ends may have left.
+    pub fn compare(
+        &mut self,
+        alloc: Global,
+        graph: &Graph,
+        readings: &Readings,
+    ) -> Result<(), Stopped> {
+        let mut count = 0;
+        for edge in 0..graph.edge_count() {
+            let is_watched = self.watch.holds(edge);
+            let was_watched = self.limits[edge as usize].is_some();
+            let may_leave = was_watched && is_inner(readings.covers_of(graph, edge));
+            if is_watched != was_watched && !may_leave {
+                let text = format!(in alloc;
+                    "holds({edge}) is {is_watched}, expected {was_watched}"
+                )?;
+                return Err(Stopped::Differ(text));
+            }
+            self.limits[edge as usize] = if is_watched {
+                count += 1;
+                Some(readings.residue_of(graph, edge))
+            } else {
+                None
+            };
+        }
+        let edges = self.watch.edges();
+        let len = self.watch.len();
+        if len != count || edges.len() != count || !edges.iter().all(|e| self.watch.holds(*e)) {
+            let text = format!(in alloc; "edges() is {edges:?}, expected {count} that are held")?;
+            return Err(Stopped::Differ(text));
+        }
+        Ok(())
+    }
+}
+
+/// Whether an edge with these nodes over its ends leads from a plus node to another node or none.
+fn leaves_plus(covers: (Option<NodeId>, Option<NodeId>), roles: &DrawnRoles) -> bool {
+    let has_plus = roles.over(covers.0) == Some(Role::Plus)
+        || roles.over(covers.1) == Some(Role::Plus);
+    has_plus && !is_inner(covers)
+}
+
+/// Whether one outer node holds both ends.
+fn is_inner(covers: (Option<NodeId>, Option<NodeId>)) -> bool {
+    covers.0.is_some() && covers.0 == covers.1
+}
