@@ -93,7 +93,7 @@ impl Asker {
     }
 
     /// Asks both calls about the tree, and compares their answers and the watched edges with what is expected.
-    fn compare_answers(
+    pub fn compare_answers(
         &mut self,
         game: &mut Game<'_>,
         roles: &DrawnRoles,
@@ -160,7 +160,7 @@ fn both_answers<L: Ledger>(
 }
 
 /// Each minus node shrinks by this length, and then each plus node grows by it. No residue falls by more than twice as much.
-fn step(alloc: Global, game: &mut Game<'_>, roles: &DrawnRoles, by: u64) -> Result<(), AllocError> {
+pub fn step(alloc: Global, game: &mut Game<'_>, roles: &DrawnRoles, by: u64) -> Result<(), AllocError> {
     for name in &roles.minus {
         game.make(alloc, &Move::Shrink { name: *name, by })?;
     }

@@ -1,5 +1,6 @@
 //! Makes random moves on a dual state of `fb_regions` and on a plain one beside it, and compares every observation. After
-//! some moves it asks `fb_obstacles` what is in the way of random trees, and compares the answers with a plain scan.
+//! some moves it asks `fb_obstacles` what is in the way of random trees, and compares the answers with a plain scan. Before
+//! them comes one search whose edges are known.
 //!
 //! Its arguments are a seed, the number of rounds, and that of the moves on each part of a graph. It prints what differs,
 //! how many moves and answers of each kind there were, and how many comparisons passed.
@@ -11,6 +12,7 @@ mod choosing;
 mod closed;
 mod comparing;
 mod draws;
+mod first_search;
 mod game;
 mod moves;
 mod obstacles;
@@ -23,6 +25,7 @@ mod stopped;
 mod watching;
 
 use asking::KINDS;
+use first_search::play_first_search;
 use moves::Kind;
 use rounds::Player;
 use shapes::SHAPES;
@@ -39,6 +42,10 @@ fn main(rt: HostRuntime) -> io::Result<()> {
     };
     let mut player = Player::new(alloc, seed);
     let mut failed = 0;
+    if let Err(stopped) = play_first_search(alloc, &mut player.asker) {
+        println!(rt; "the first search: {stopped}")?;
+        failed += 1;
+    }
     for round in 0..rounds {
         for shape in SHAPES {
             if let Err(stopped) = player.play_round(shape, moves) {

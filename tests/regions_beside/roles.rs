@@ -1,4 +1,4 @@
-//! Random roles of outer nodes.
+//! Roles of outer nodes.
 
 use crate::draws::Draws;
 use crate::plain::{PlainDual, PlainNode};
@@ -21,6 +21,27 @@ pub struct DrawnRoles {
 }
 
 impl DrawnRoles {
+    /// One plus node, and no other that has a role.
+    pub fn of_one_plus(
+        alloc: Global,
+        plain: &PlainDual<'_>,
+        name: NodeId,
+    ) -> Result<DrawnRoles, AllocError> {
+        let mut roles = DrawnRoles::none(alloc, plain)?;
+        roles.by_name[name as usize] = Role::Plus;
+        roles.plus.push(name)?;
+        Ok(roles)
+    }
+
+    /// No node has a role.
+    fn none(alloc: Global, plain: &PlainDual<'_>) -> Result<DrawnRoles, AllocError> {
+        Ok(DrawnRoles {
+            by_name: vec![in alloc; Role::Out; names_end(&plain.nodes)]?,
+            plus: Vec::new(alloc),
+            minus: Vec::new(alloc),
+        })
+    }
+
     /// Random roles of some outer nodes. All defects under plus nodes have potentials of one parity, and some node is plus;
     /// none if no node was found for that.
     pub fn draw(
@@ -32,11 +53,7 @@ impl DrawnRoles {
         let parity = draws.below(2);
         let plus_chance = draws.below(80);
         let minus_chance = draws.below(80);
-        let mut roles = DrawnRoles {
-            by_name: vec![in alloc; Role::Out; names_end(&plain.nodes)]?,
-            plus: Vec::new(alloc),
-            minus: Vec::new(alloc),
-        };
+        let mut roles = DrawnRoles::none(alloc, plain)?;
         for node in outer_in_any_order(alloc, draws, plain, readings)? {
             let name = node.name;
             let may_be_plus = readings.has_parity(name, parity);

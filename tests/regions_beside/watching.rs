@@ -66,6 +66,15 @@ impl Watched {
         Ok(())
     }
 
+    /// Watches each edge that leads from a plus node to another node or none.
+    pub fn enter_needed(&mut self, graph: &Graph, readings: &Readings, roles: &DrawnRoles) {
+        for edge in 0..graph.edge_count() {
+            if leaves_plus(readings.covers_of(graph, edge), roles) {
+                self.enter(edge);
+            }
+        }
+    }
+
     /// Watches the edge from now on.
     fn enter(&mut self, edge: u32) {
         self.watch.enter(edge);
