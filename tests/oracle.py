@@ -333,8 +333,8 @@ def decode_complaints(options, files, answer):
 def events_complaints(options, plan, graph, shots, text):
     """What is wrong with the events that a report tells: all of them where they are asked for, else none."""
     if "--trace" not in options:
-        told = any(line.startswith((b"took ", b"gave ")) for line in text.splitlines())
-        return ["events that weren't asked for"] if told else []
+        found = any(line.startswith((b"took ", b"gave ")) for line in text.splitlines())
+        return ["events that weren't asked for"] if found else []
     best = {k for k, defects in enumerate(shots) if odd_component(graph, defects) is None}
     workers, window = options.get("--workers", 1), options.get("--window", 1)
     return trace_complaints(plan, workers, window, best, len(shots), text)
