@@ -1,3 +1,4 @@
 pub mod Drawing
+pub mod FaultTexts
 pub mod Lattice
 pub mod TimePlan

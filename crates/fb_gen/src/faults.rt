@@ -1,3 +1,6 @@
+ghost use Rattle.std.specs.Prelude.{◌≡◌};
+ghost use Rattle.fb_gen.specs.FaultTexts.{fault_name};
+
 use thiserror::Error;
 
 /// Why there is no such lattice, or no such plan of it.
@@ -14,4 +17,17 @@ pub enum GenFault {
     /// Want of memory.
     #[error("out of memory")]
     NoMemory,
+}
+
+impl GenFault {
+    /// What it is called where it is printed.
+    pub fn name(self) -> &'static str
+        ensures { result.now ≡ fault_name self }
+    {
+        match self {
+            GenFault::LatticeTooLarge => "LatticeTooLarge",
+            GenFault::TooFewRounds => "TooFewRounds",
+            GenFault::NoMemory => "NoMemory",
+        }
+    }
 }

@@ -6,6 +6,7 @@ pub mod Counts
 pub mod Covers
 pub mod Dual
 pub mod Ends
+pub mod FaultTexts
 pub mod Flooding
 pub mod GraphRules
 pub mod Labelling

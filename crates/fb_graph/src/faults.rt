@@ -1,3 +1,6 @@
+ghost use Rattle.std.specs.Prelude.{◌≡◌};
+ghost use Rattle.fb_graph.specs.FaultTexts.{fault_name, fault_number};
+
 use thiserror::Error;
 
 /// Want of memory, where it is the only error: what the standard library's own allocating calls return.
@@ -5,7 +8,7 @@ pub use std::alloc::AllocError as NoMemory;
 
 /// Why numbers or a text make no decoding graph. A place is counted from 0.
 ///
-/// Its texts are for other callers: `fusion` prints a fault's name and place.
+/// Its texts are for other callers: `fusion` prints a fault's name and number.
 #[derive(Clone, Copy, Debug, PartialEq, Eq, Error)]
 pub enum GraphFault {
     #[error("more than 1,048,576 vertices")]
@@ -28,4 +31,40 @@ pub enum GraphFault {
     VirtualRepeated(u64),
     #[error("out of memory")]
     NoMemory,
+}
+
+impl GraphFault {
+    /// What it is called where it is printed.
+    pub fn name(self) -> &'static str
+        ensures { result.now ≡ fault_name self }
+    {
+        match self {
+            GraphFault::TooManyVertices => "TooManyVertices",
+            GraphFault::TooManyEdges => "TooManyEdges",
+            GraphFault::EndOutOfRange(_) => "EndOutOfRange",
+            GraphFault::SelfLoop(_) => "SelfLoop",
+            GraphFault::OddWeight(_) => "OddWeight",
+            GraphFault::WeightTooLarge(_) => "WeightTooLarge",
+            GraphFault::NegativeWeight(_) => "NegativeWeight",
+            GraphFault::VirtualOutOfRange(_) => "VirtualOutOfRange",
+            GraphFault::VirtualRepeated(_) => "VirtualRepeated",
+            GraphFault::NoMemory => "NoMemory",
+        }
+    }
+
+    /// The number of its place, where it has one: an edge's, or a place in the list of virtual vertices.
+    pub fn number(self) -> Option<u64>
+        ensures { result ≡ fault_number self }
+    {
+        match self {
+            GraphFault::TooManyVertices | GraphFault::TooManyEdges | GraphFault::NoMemory => None,
+            GraphFault::EndOutOfRange(i) => Some(i),
+            GraphFault::SelfLoop(i) => Some(i),
+            GraphFault::OddWeight(i) => Some(i),
+            GraphFault::WeightTooLarge(i) => Some(i),
+            GraphFault::NegativeWeight(i) => Some(i),
+            GraphFault::VirtualOutOfRange(i) => Some(i),
+            GraphFault::VirtualRepeated(i) => Some(i),
+        }
+    }
 }

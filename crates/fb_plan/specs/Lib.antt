@@ -1,3 +1,4 @@
+pub mod FaultTexts
 pub mod Laws
 pub mod Layout
 pub mod Loads

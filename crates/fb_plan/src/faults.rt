@@ -1,3 +1,6 @@
+ghost use Rattle.std.specs.Prelude.{◌≡◌, option_map};
+ghost use Rattle.fb_plan.specs.FaultTexts.{fault_name, fault_number, fault_place};
+
 use thiserror::Error;
 
 /// Why ranges and fusions, or a text, make no plan of a graph. A place is counted from 0.
@@ -53,4 +56,58 @@ pub enum Place {
     Unit(u64),
     #[error("fusions {0}")]
     Fusion(u64),
+}
+
+impl PlanFault {
+    /// What it is called where it is printed.
+    pub fn name(self) -> &'static str
+        ensures { result.now ≡ fault_name self }
+    {
+        match self {
+            PlanFault::TooLong => "TooLong",
+            PlanFault::NotJson => "NotJson",
+            PlanFault::Missing(_) => "Missing",
+            PlanFault::NotWhole(_) => "NotWhole",
+            PlanFault::TooManyUnits => "TooManyUnits",
+            PlanFault::BadRange(_) => "BadRange",
+            PlanFault::VertexUnowned(_) => "VertexUnowned",
+            PlanFault::VertexTwice(_) => "VertexTwice",
+            PlanFault::ChildOutOfRange(_) => "ChildOutOfRange",
+            PlanFault::ChildUsedTwice(_) => "ChildUsedTwice",
+            PlanFault::NotOneRoot => "NotOneRoot",
+            PlanFault::EdgeAcross(_) => "EdgeAcross",
+            PlanFault::NoMemory => "NoMemory",
+        }
+    }
+
+    /// The word of its place, where it has one.
+    pub fn place(self) -> Option<&'static str>
+        ensures { option_map (λ s. s.now) result ≡ fault_place self }
+    {
+        match self {
+            PlanFault::TooLong => Some("plan"),
+            PlanFault::Missing(Member::Units) => Some("units"),
+            PlanFault::Missing(Member::Fusions) => Some("fusions"),
+            PlanFault::NotWhole(Place::Units | Place::Unit(_)) => Some("units"),
+            PlanFault::NotWhole(Place::Fusions | Place::Fusion(_)) => Some("fusions"),
+            _ => None,
+        }
+    }
+
+    /// The number of its place, where it has one: that of an entry, a node, a vertex, a fusion or an edge.
+    pub fn number(self) -> Option<u64>
+        ensures { result ≡ fault_number self }
+    {
+        match self {
+            PlanFault::NotWhole(Place::Unit(i)) => Some(i),
+            PlanFault::NotWhole(Place::Fusion(i)) => Some(i),
+            PlanFault::BadRange(i) => Some(i),
+            PlanFault::VertexUnowned(i) => Some(i),
+            PlanFault::VertexTwice(i) => Some(i),
+            PlanFault::ChildOutOfRange(i) => Some(i),
+            PlanFault::ChildUsedTwice(i) => Some(i),
+            PlanFault::EdgeAcross(i) => Some(i),
+            _ => None,
+        }
+    }
 }
