@@ -1,7 +1,9 @@
 //! What the lock of a crew holds.
 
-ghost use Rattle.std.specs.Prelude.{◌≡◌, ◌+◌, ◌^◌, ◌≤◌, ◌<◌, length};
-ghost use Rattle.fb_book.specs.Books.{AreOfChildren, IsPieceAt, place_of};
+ghost use Rattle.std.specs.Prelude.{◌≡◌, ◌+◌, ◌^◌, ◌≤◌, ◌<◌, true, false, Some, length, slice_set};
+ghost use Rattle.fb_book.specs.declared.entries.Kind.TheVariants.{Gave, Left};
+ghost use Rattle.fb_book.specs.Board.{Lets, TakesUnit};
+ghost use Rattle.fb_book.specs.Books.{AreOfChildren, HandsOut, IsPieceAt, course_of, holds, place_of};
 
 use crate::seat::Seat;
 use fb_book::{Board, Book, Claim, Permit, Piece};
@@ -21,6 +23,14 @@ impl<P: Piece, N: Board> Locked<P, N> {
         ensures units { (permit : _) → result ≡ Claim.Unit permit → permit.node < N.job.plan.units }
         ensures pieces { (permit : _) (a b : P) → result ≡ Claim.Fusion permit a b
             → AreOfChildren P.job_of P.slot_of P.node_of P.made_of N.job permit.slot permit.node a b }
+        ensures unit { (permit : _) → result ≡ Claim.Unit permit → TakesUnit (course_of N.job self.old.book.0)
+            (course_of N.job self.new.book.0) seat.old.worker permit.slot permit.node }
+        ensures fusion { (permit : _) (a b : P) → result ≡ Claim.Fusion permit a b
+            → HandsOut (course_of N.job self.old.book.0) (course_of N.job self.new.book.0) seat.old.worker
+            permit.slot permit.node self.old.book.1 self.new.book.1 a b }
+        ensures not_yet { result ≡ Claim.NotYet → self.new.book ≡ self.old.book }
+        ensures over { result ≡ Claim.Over → self.new.book ≡ self.old.book }
+        ensures worker { seat.new.worker ≡ seat.old.worker }
     {
         let Locked { book, events } = self;
         book.keeps();
@@ -43,6 +53,12 @@ impl<P: Piece, N: Board> Locked<P, N> {
     pub fn post<T: Drop>(&mut self, seat: &mut Seat<T, N>, permit: Permit<N>, piece: P) -> bool
         requires { IsPieceAt P.job_of P.slot_of P.node_of P.made_of N.job
             (place_of N.job permit.slot permit.node) piece }
+        ensures posted { result ≡ true → Lets (course_of N.job self.old.book.0) (course_of N.job self.new.book.0)
+            Gave permit.worker permit.slot permit.node × (self.new.book.1
+            ≡ slice_set self.old.book.1 (place_of N.job permit.slot permit.node) (Some piece)) }
+        ensures refused { result ≡ false → (self.new.book ≡ self.old.book)
+            × (holds N.job self.old.book.0 permit.worker permit.slot permit.node ≡ false) }
+        ensures worker { seat.new.worker ≡ seat.old.worker }
     {
         let Locked { book, events } = self;
         book.keeps();
@@ -54,7 +70,12 @@ impl<P: Piece, N: Board> Locked<P, N> {
     }
 
     /// Leaves the permit's item for want of memory, if the permit's worker holds it. Then it is an event of the seat.
-    pub fn starve<T: Drop>(&mut self, seat: &mut Seat<T, N>, permit: Permit<N>) {
+    pub fn starve<T: Drop>(&mut self, seat: &mut Seat<T, N>, permit: Permit<N>)
+        ensures held { holds N.job self.old.book.0 permit.worker permit.slot permit.node ≡ true
+            → Lets (course_of N.job self.old.book.0) (course_of N.job self.new.book.0)
+            Left permit.worker permit.slot permit.node }
+        ensures worker { seat.new.worker ≡ seat.old.worker }
+    {
         let Locked { book, events } = self;
         book.keeps();
         if book.starve(permit).is_ok() {

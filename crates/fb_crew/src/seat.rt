@@ -24,6 +24,7 @@ impl<T: Drop, N: Board> Seat<T, N> {
         requires worker { worker ≤ N.workers }
         requires part { share.parts ≡ 1 }
         requires none { share.amount ≡ 0 }
+        ensures { (result.worker ≡ worker) × (result.tools ≡ tools) × (result.made ≡ 0) }
     {
         Seat {
             worker,
@@ -36,7 +37,9 @@ impl<T: Drop, N: Board> Seat<T, N> {
     /// Counts an event.
     pub fn count(&mut self, events: &mut ledger::Book<N>)
         requires { events.old.total < 2 ^ 63 }
-        ensures { events.new.total ≡ events.old.total + 1 }
+        ensures total { events.new.total ≡ events.old.total + 1 }
+        ensures made { self.new.made ≡ self.old.made + 1 }
+        ensures same { (self.new.worker ≡ self.old.worker) × (self.new.tools ≡ self.old.tools) }
     {
         let Seat { made, share, .. } = self;
         events.audit(share);
