@@ -3,6 +3,7 @@
 ghost use Rattle.std.specs.Prelude.{◌≡◌, ◌+◌, ◌^◌, ◌<◌, ◌≤◌, length, vec_capacity, All, IfOk, OnOk, []};
 ghost use Rattle.fb_book.specs.Books.{AreRootPieces};
 ghost use Rattle.fb_crew.specs.Crews.{IsCompleteOf};
+ghost use denote.Param.Send.{IsSync};
 
 use crate::desk::Desk;
 use crate::hands::{Bench, Gate, Hands};
@@ -115,6 +116,41 @@ struct Joined<P: Piece, T: Drop, N: Board> {
     ghost counted: { length book.0 ≡ made },
 }
 
+/// Lets each seat's worker do items until it ends, and gives the seats back in their order. The first seat's worker is on
+/// the calling thread, and each other one on a thread of its own. The calling thread starts them all: a system tends to
+/// put a new thread on the processor of the one that starts it, which a worker keeps busy. A worker for which no thread
+/// can be made begins once the calling thread's own has ended. The calls are as deep as there are seats, at most 64.
+fn work_each<
+    P: Piece + Send,
+    T: Send + Drop,
+    H: Hands<P, T>,
+    G: Gate,
+    N: Board + Send + Sync,
+    R: Threads + Wait + Sync,
+>(rt: &R, desk: &Desk<P, N>, bench: &Bench<'_, H, G>, mut seats: Vec<Seat<T, N>>) -> Vec<Seat<T, N>>
+    requires hands { H.job bench.now.hands.now ≡ N.job }
+    ensures count { length result.items ≡ length seats.items }
+    ensures room { vec_capacity result ≡ vec_capacity seats }
+{
+    let Some(seat) = seats.pop() else {
+        return seats;
+    };
+    if seats.is_empty() {
+        seats.push_reserved(desk.work(rt, bench, seat));
+        return seats;
+    }
+    let last = move || -> Seat<T, N>
+        requires { H.job bench.now.hands.now ≡ N.job }
+    { desk.work(rt, bench, seat) };
+    let others = move || -> Vec<Seat<T, N>>
+        requires { IsSync R.row × (H.job bench.now.hands.now ≡ N.job) }
+        ensures { (length result.items ≡ length seats.items) × (vec_capacity result ≡ vec_capacity seats) }
+    { work_each(rt, desk, bench, seats) };
+    let (seat, mut seats) = thread::join(rt, last, others);
+    seats.push_reserved(seat);
+    seats
+}
+
 /// Lets so many workers do the items of the book.
 fn join_workers<
     P: Piece + Send,
@@ -143,11 +179,7 @@ fn join_workers<
     let count = book.item_count().clamp(1, tools.len());
     let seats = take_seats(bench.alloc, &mut tools, &mut all, count as u32)?;
     let desk = Desk::new(book, events);
-    let at = &desk;
-    let work = |seat: Seat<T, N>| -> Seat<T, N>
-        requires { H.job bench.now.hands.now ≡ N.job }
-    { at.work(rt, bench, seat) };
-    let seats = thread::map_vec(rt, seats, &work)?;
+    let seats = work_each(rt, &desk, bench, seats);
     let Locked { book, mut events } = desk.into_locked();
     book.keeps();
     let made = leave_seats(seats, &mut tools, &mut events, &mut all);
