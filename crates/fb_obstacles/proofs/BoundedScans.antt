@@ -1,5 +1,5 @@
 -- Edges that are passed over since their bounds show that they bear a step, and looks that set bounds.
-use Rattle.std.proofs.Common.{ℕ, ◌≡◌, ◌+◌, ◌-◌, ◌*◌, ◌/◌, ◌≤◌, ◌<◌, ◌==◌, ◌&&◌, ◌⊎◌, inl, inr, Bool, true, false, not, List, [], length, get_or, set, drop, All, refl, sym, ap, ◌∙◌, subst, arith}
+use Rattle.std.proofs.Common.{ℕ, zero, suc, ◌≡◌, ◌+◌, ◌-◌, ◌*◌, ◌/◌, ◌≤◌, ◌<◌, ◌==◌, ◌&&◌, ◌⊎◌, inl, inr, Bool, true, false, not, List, [], length, get_or, set, drop, All, refl, sym, ap, ◌∙◌, subst, arith}
 use Rattle.std.proofs.lemmas.Bool.{and_parts, false≢true, false_from_ne_true, cases_eq, cases_lt, eqb-true, leb-true}
 use Rattle.std.proofs.lemmas.List.{drop_all, get_or-set_same, get_or-set_other, set_past}
 use Rattle.std.proofs.lemmas.List.Elements.{All-nil}
@@ -101,6 +101,20 @@ scanned_passed p role_of nodes names old new n bound l fits seen scanned some bo
       watched = scanned.watched;
       bounded = scanned.bounded;
     }
+
+-- the next edges, `d` of them, are passed over
+pub scanned_skipped : (p : Problem) (role_of : ℕ → Role) (nodes : List Node) (names : List ℕ) (old new : Watched) (d n k : ℕ)
+    (l : Look) → IsSeen p role_of nodes old.edges → IsScanned p role_of nodes names old new n l → n ≡ k + d
+    → ((i : ℕ) → k ≤ i → i < n → fits_within l (get_or new.bounds i 0) ≡ true) → IsScanned p role_of nodes names old new k l
+scanned_skipped p role_of nodes names old new zero n k l seen scanned count fits =
+    subst (λ m. IsScanned p role_of nodes names old new m l) (omega (arith, count)) scanned
+scanned_skipped p role_of nodes names old new (suc d) n k l seen scanned count fits =
+    scanned_skipped p role_of nodes names old new d (n - 1) k l seen
+    (scanned_passed p role_of nodes names old new n (get_or new.bounds (n - 1) 0) l true seen scanned (omega (arith, count))
+    (scanned.bounded (n - 1) (omega (arith, count, scanned.within.1)))
+    (sym (fits (n - 1) (omega (arith, count)) (omega (arith, count)))) refl)
+    (omega (arith, count))
+    (λ i from before. fits i from (omega (arith, before)))
 
 -- the bound of one edge is set to at most its limit
 bounded_set : (limit : ℕ → ℕ) (w : Watched) (i x : ℕ) → AreBounded limit w → x ≤ limit (get_or w.edges i 0)

@@ -5,4 +5,5 @@ pub mod EdgeScans
 pub mod HeldEnds
 pub mod LookLimits
 pub mod NodeLooks
+pub mod RaisedBounds
 pub mod StoredEdges

@@ -1,9 +1,9 @@
-ghost use Rattle.std.specs.Prelude.{◌≡◌, ◌+◌, ◌<◌, ◌≤◌, length, All};
+ghost use Rattle.std.specs.Prelude.{ℕ, ◌≡◌, ◌+◌, ◌<◌, ◌≤◌, true, length, get_or, All};
 ghost use Rattle.fb_graph.specs.Covers.{AreRoles};
 ghost use Rattle.fb_obstacles.specs.Obstacles.{HavePlusParity, ListsMinus, residue_at, roles_by};
 ghost use Rattle.fb_obstacles.specs.Watched.{AreBounded};
 ghost use Rattle.fb_obstacles.specs.InnerEdges.{LeavesInner};
-ghost use Rattle.fb_obstacles.specs.InternalLooks.{LimitsBoth};
+ghost use Rattle.fb_obstacles.specs.InternalLooks.{LimitsBoth, fits_within};
 
 use crate::ends::{Ends, keeps_dual};
 use crate::looking::{Look, look_with};
@@ -12,6 +12,21 @@ use crate::watching::Watch;
 use fb_graph::{Scope, Steps};
 use fb_regions::Regions;
 use std::sync::ledger::Ledger;
+
+/// The first place from which up to this one all bounds show that their edges bear each step that the look allows.
+fn passed_to(watch: &Watch, place: usize, least: Look) -> usize
+    requires { place ≤ length watch.now.edges }
+    ensures within { result ≤ place }
+    ensures fit { (i : ℕ) → result ≤ i → i < place → fits_within least (get_or watch.now.bounds i 0) ≡ true }
+{
+    let Look::Within(bound) = least else {
+        return place;
+    };
+    match bound.checked_mul(2) {
+        Some(limit) => watch.large_from(place, limit),
+        None => place,
+    }
+}
 
 /// A look at all minus nodes and watched edges, up to the first obstacle. Passes over each edge whose bound shows that it
 /// bears what the others allow, and sets the bound of each edge that it looks at to its residue. An edge both of whose ends
@@ -46,6 +61,7 @@ pub fn look_by_bounds<S: Scope, R: MinusNodes, L: Ledger>(
     while place > 0 {
         place -= 1;
         if least.fits_within(watch.bound_at(place)) {
+            place = passed_to(watch, place, least);
             continue;
         }
         looks.tick();

@@ -1,4 +1,4 @@
-ghost use Rattle.std.specs.Prelude.{ℕ, ◌≡◌, ◌+◌, ◌-◌, ◌<◌, ◌==◌, ◌&&◌, true, false, not, [], ◌∷◌, ◌++◌, length, map, get_or, set, All, IfOk, MatchOption, if◌then◌else◌};
+ghost use Rattle.std.specs.Prelude.{ℕ, ◌≡◌, ◌+◌, ◌-◌, ◌<◌, ◌≤◌, ◌==◌, ◌&&◌, true, false, not, [], ◌∷◌, ◌++◌, length, map, get_or, set, All, IfOk, MatchOption, if◌then◌else◌};
 ghost use Rattle.fb_graph.specs.Parity.{is_in};
 ghost use Rattle.fb_graph.specs.Counts.{as_count};
 ghost use Rattle.fb_graph.specs.Certificate.{AreDistinct};
@@ -9,20 +9,22 @@ use std::alloc::Global;
 use std::marker::Model;
 
 /// The edges that a search looks at, each once, in any order, with a lower bound of each one's residue. Only `new` takes
-/// memory, and only `new` takes time for each edge of the scope: `lower` takes time for each watched edge, and any other
-/// call the time that a few reads and writes take. So a watch is made once and serves many searches.
+/// memory, and only `new` takes time for each edge of the scope: another call takes the time of a few reads and writes. So
+/// a watch is made once and serves many searches.
 #[derive(Drop)]
 pub struct Watch {
     /// For each edge of the scope its place in the list of the watched ones. It counts only where that edge stands there.
     places: Vec<u32>,
     /// The watched edges, with room for all edges of the scope.
     edges: Vec<u32>,
-    /// For each watched edge, by its place in the list, a number that its residue is at least.
-    bounds: Vec<u64>,
+    /// For each watched edge, by its place in the list, its bound with `lowered` added. A bound of 0 may have less.
+    raised: Vec<u64>,
+    /// By how much all bounds were lowered, but for those that would be below 0.
+    lowered: u64,
 }
 
 impl Model for Watch {
-    ghost use Rattle.std.specs.Prelude.{length, vec_capacity};
+    ghost use Rattle.std.specs.Prelude.{◌-◌, length, map, vec_capacity};
     ghost use Rattle.fb_obstacles.specs.Watched.{Watched, watched_code};
     ghost use Rattle.fb_obstacles.specs.InternalWatch.{IsStored, HaveBounds};
 
@@ -30,10 +32,10 @@ impl Model for Watch {
 
     ghost coded = { watched_code };
 
-    ghost view = { λ w. record { edge_count = length w.places.items; edges = w.edges.items; bounds = w.bounds.items } };
+    ghost view = { λ w. record { edge_count = length w.places.items; edges = w.edges.items; bounds = map (λ b. b - w.lowered) w.raised.items } };
 
     ghost invariant = { λ w. IsStored w.places.items w.edges.items (vec_capacity w.edges)
-        × HaveBounds w.places.items w.edges.items w.bounds.items (vec_capacity w.bounds) };
+        × HaveBounds w.places.items w.edges.items w.raised.items (vec_capacity w.raised) };
 }
 
 impl Watch {
@@ -44,11 +46,12 @@ impl Watch {
         let count = scope.edge_count() as usize;
         let places = vec![in alloc; 0; count]?;
         let edges = Vec::with_capacity(alloc, count)?;
-        let bounds = Vec::with_capacity(alloc, count)?;
+        let raised = Vec::with_capacity(alloc, count)?;
         Ok(Watch {
             places,
             edges,
-            bounds,
+            raised,
+            lowered: 0,
         })
     }
 
@@ -93,7 +96,7 @@ impl Watch {
         }
         self.places[edge as usize] = self.edges.len() as u32;
         self.edges.push_reserved(edge);
-        self.bounds.push_reserved(0);
+        self.raised.push_reserved(self.lowered);
     }
 
     /// Watches the edge no longer.
@@ -119,7 +122,7 @@ impl Watch {
         ensures bounds { (limit : ℕ → ℕ) → AreBounded limit self.old → AreBounded limit self.new }
     {
         self.edges.swap_remove(place);
-        self.bounds.swap_remove(place);
+        self.raised.swap_remove(place);
         if place < self.edges.len() {
             let moved = self.edges[place];
             self.places[moved as usize] = place as u32;
@@ -131,14 +134,21 @@ impl Watch {
         ensures { self.new ≡ record { edge_count = self.old.edge_count; edges = []; bounds = [] } }
     {
         self.edges.clear();
-        self.bounds.clear();
+        self.raised.clear();
+        self.lowered = 0;
     }
 
     /// Each residue may have fallen by this much.
     pub fn lower(&mut self, length: u64)
         ensures { self.new ≡ record self.old { bounds = map (λ b. b - length) self.old.bounds } }
     {
-        lower_all(&mut self.bounds, length);
+        match self.lowered.checked_add(length) {
+            Some(lowered) => self.lowered = lowered,
+            None => {
+                lower_all(&mut self.raised, self.lowered);
+                self.lowered = length;
+            }
+        }
     }
 
     /// The bound of the edge at this place.
@@ -146,7 +156,7 @@ impl Watch {
         requires { place < length self.now.edges }
         ensures { result ≡ get_or self.now.bounds place 0 }
     {
-        self.bounds[place]
+        self.raised[place].saturating_sub(self.lowered)
     }
 
     /// Sets the bound of the edge at this place.
@@ -154,7 +164,26 @@ impl Watch {
         requires { place < length self.old.edges }
         ensures { self.new ≡ record self.old { bounds = set self.old.bounds place bound } }
     {
-        self.bounds[place] = bound;
+        match bound.checked_add(self.lowered) {
+            Some(raised) => self.raised[place] = raised,
+            None => {
+                lower_all(&mut self.raised, self.lowered);
+                self.lowered = 0;
+                self.raised[place] = bound;
+            }
+        }
+    }
+
+    /// The first place from which up to the end no bound is below the limit.
+    pub(crate) fn large_from(&self, end: usize, limit: u64) -> usize
+        requires { end ≤ length self.now.edges }
+        ensures within { result ≤ end }
+        ensures large { (i : ℕ) → result ≤ i → i < end → limit ≤ get_or self.now.bounds i 0 }
+    {
+        match limit.checked_add(self.lowered) {
+            Some(raised) => large_from(&self.raised, end, raised),
+            None => end,
+        }
     }
 
     /// How many edges are watched.
@@ -186,4 +215,17 @@ fn lower_all(numbers: &mut [u64], amount: u64)
     for number in numbers.iter_mut() {
         *number = number.saturating_sub(amount);
     }
+}
+
+/// The first place from which up to the end no number is below the limit.
+fn large_from(numbers: &[u64], end: usize, limit: u64) -> usize
+    requires { end ≤ length numbers.now }
+    ensures within { result ≤ end }
+    ensures large { (i : ℕ) → result ≤ i → i < end → limit ≤ get_or numbers.now i 0 }
+{
+    let mut place = end;
+    while place > 0 && numbers[place - 1] >= limit {
+        place -= 1;
+    }
+    place
 }

@@ -3,7 +3,8 @@ use Rattle.fb_graph.specs.Problem.{edge_at}
 use Rattle.fb_graph.specs.Dual.{IsDual}
 use Rattle.fb_obstacles.specs.Obstacles.{residue_at}
 use Rattle.fb_obstacles.specs.InternalLooks.{AreEnds, edge_look}
-use Rattle.fb_obstacles.proofs.BoundedScans.{IsScanned, scanned_all, scanned_blocked, scanned_bounded, scanned_left, scanned_more, scanned_none, scanned_passed}
+use Rattle.fb_obstacles.proofs.BoundedScans.{IsScanned, scanned_all, scanned_blocked, scanned_bounded, scanned_left, scanned_more, scanned_none, scanned_passed, scanned_skipped}
+use Rattle.fb_obstacles.proofs.EdgeScans.{IsSeen}
 use Rattle.fb_obstacles.proofs.HeldEnds.{look_by_ends, residue_by_ends, under_one_by_ends}
 use Rattle.fb_obstacles.proofs.bounding.look_by_bounds.Goals as goal
 
@@ -22,29 +23,39 @@ loop-place-init g c = record {
   counted = omega arith;
 }
 
+pub passed_to-place-requires : goal.passed_to-place-requires
+passed_to-place-requires g c = omega (arith, c.loop-place.invariant.scanned.within.1)
+
 pub loop-place-preserved-then-fits_within : goal.loop-place-preserved-then-fits_within
 loop-place-preserved-then-fits_within g c =
+    let seen : IsSeen (g.S.Scope.problem c.args.scope.now) (g.R.Roles.role_of c.args.roles.now) c.args.regions.now.nodes c.args.watch.now.edges = record {
+      dual = subst (λ s. IsDual (g.S.Scope.problem s) c.args.regions.now.nodes) c.requires.same c.keeps_dual.ensures;
+      roles = c.requires.roles;
+      parity = c.requires.parity;
+      limits = c.limits.ensures;
+      within = c.requires.within;
+    } in
+    let passed : IsScanned (g.S.Scope.problem c.args.scope.now) (g.R.Roles.role_of c.args.roles.now) c.args.regions.now.nodes (g.R.MinusNodes.minus_names c.args.roles.now) c.args.watch.now c.loop-place.watch (c.loop-place.place - 1) c.loop-place.least =
+    scanned_passed (g.S.Scope.problem c.args.scope.now) (g.R.Roles.role_of c.args.roles.now) c.args.regions.now.nodes (g.R.MinusNodes.minus_names c.args.roles.now) c.args.watch.now c.loop-place.watch c.loop-place.place c.bound_at.result
+    c.loop-place.least c.fits_within.result seen
+    c.loop-place.invariant.scanned c.loop-place-test.true
+    (omega (
+      arith,
+      c.bound_at.ensures,
+      c.loop-place.invariant.scanned.bounded (c.loop-place.place - 1)
+          (omega (arith, c.loop-place.invariant.scanned.within.1)),
+    ))
+    c.fits_within.ensures c.if-fits_within.true in
     record {
-      scanned = scanned_passed (g.S.Scope.problem c.args.scope.now) (g.R.Roles.role_of c.args.roles.now) c.args.regions.now.nodes (g.R.MinusNodes.minus_names c.args.roles.now) c.args.watch.now c.loop-place.watch c.loop-place.place c.bound_at.result
-          c.loop-place.least c.fits_within.result
-          (record {
-            dual = subst (λ s. IsDual (g.S.Scope.problem s) c.args.regions.now.nodes) c.requires.same c.keeps_dual.ensures;
-            roles = c.requires.roles;
-            parity = c.requires.parity;
-            limits = c.limits.ensures;
-            within = c.requires.within;
-          })
-          c.loop-place.invariant.scanned c.loop-place-test.true
-          (omega (
-            arith,
-            c.bound_at.ensures,
-            c.loop-place.invariant.scanned.bounded (c.loop-place.place - 1)
-                (omega (arith, c.loop-place.invariant.scanned.within.1)),
-          ))
-          c.fits_within.ensures c.if-fits_within.true;
+      scanned = scanned_skipped (g.S.Scope.problem c.args.scope.now) (g.R.Roles.role_of c.args.roles.now) c.args.regions.now.nodes (g.R.MinusNodes.minus_names c.args.roles.now) c.args.watch.now c.loop-place.watch
+          (c.loop-place.place - 1 - c.passed_to-place.result) (c.loop-place.place - 1) c.passed_to-place.result c.loop-place.least seen passed
+          (omega (arith, c.passed_to-place.ensures.within)) c.passed_to-place.ensures.fit;
       never_falls = c.loop-place.invariant.never_falls;
-      counted = omega (arith, c.loop-place.invariant.counted);
+      counted = omega (arith, c.loop-place.invariant.counted, c.passed_to-place.ensures.within);
     }
+
+pub loop-place-smaller-then-fits_within : goal.loop-place-smaller-then-fits_within
+loop-place-smaller-then-fits_within g c = omega (arith, c.passed_to-place.ensures.within)
 
 pub loop-place-preserved-then-are_under_one : goal.loop-place-preserved-then-are_under_one
 loop-place-preserved-then-are_under_one g c =

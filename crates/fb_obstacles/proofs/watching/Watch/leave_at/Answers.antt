@@ -3,6 +3,7 @@ use Rattle.std.proofs.lemmas.Grind.{get_or_default_zero}
 use Rattle.std.proofs.lemmas.List.{length-set}
 use Rattle.fb_obstacles.specs.InternalWatch.{IsStored}
 use Rattle.fb_obstacles.proofs.StoredEdges.{stored_distinct, stored_moved, is_in_taken, shorter_than_places}
+use Rattle.fb_obstacles.proofs.RaisedBounds.{bounded_moved}
 use Rattle.fb_obstacles.proofs.watching.Watch.leave_at.Goals as goal
 
 pub overflow_cast-place : goal.overflow_cast-place
@@ -61,3 +62,29 @@ returns-else-place-len-clause-edges c =
     (get_or c.self.inside.edges.items c.args.place 0) less refl
     (stored_distinct c.self.inside.places.items c.self.inside.edges.items (vec_capacity c.self.inside.edges) c.self.invariant.0)
     c.swap_remove.ensures.value c.swap_remove.ensures.items)
+
+pub returns-then-place-len-clause-bounds : goal.returns-then-place-len-clause-bounds
+returns-then-place-len-clause-bounds c =
+    rw (← c.self.view_is)
+    (λ limit bounded.
+    bounded_moved limit c.self.inside.edges.items c.swap_remove.new.self.items c.self.inside.raised.items c.swap_remove-2.new.self.items
+    c.self.inside.lowered c.args.place bounded (omega (arith, c.swap_remove.ensures.len))
+    (λ less. subst (λ n. get_or c.swap_remove.new.self.items c.args.place 0 ≡ get_or c.self.inside.edges.items n 0) (omega (arith, c.swap_remove.ensures.len))
+    (c.swap_remove.ensures.by_index.0 0 (omega (arith, less, c.swap_remove.ensures.len))))
+    (λ less. subst (λ n. get_or c.swap_remove-2.new.self.items c.args.place 0 ≡ get_or c.self.inside.raised.items n 0) (omega (arith, c.swap_remove.ensures.len, c.self.invariant.1.one_each))
+    (c.swap_remove-2.ensures.by_index.0 0 (omega (arith, less, c.swap_remove.ensures.len, c.swap_remove-2.ensures.len, c.self.invariant.1.one_each))))
+    (λ k differs less. c.swap_remove.ensures.by_index.1 k 0 differs (omega (arith, less, c.swap_remove.ensures.len)))
+    (λ k differs less. c.swap_remove-2.ensures.by_index.1 k 0 differs (omega (arith, less, c.swap_remove.ensures.len, c.swap_remove-2.ensures.len, c.self.invariant.1.one_each))))
+
+pub returns-else-place-len-clause-bounds : goal.returns-else-place-len-clause-bounds
+returns-else-place-len-clause-bounds c =
+    rw (← c.self.view_is)
+    (λ limit bounded.
+    bounded_moved limit c.self.inside.edges.items c.swap_remove.new.self.items c.self.inside.raised.items c.swap_remove-2.new.self.items
+    c.self.inside.lowered c.args.place bounded (omega (arith, c.swap_remove.ensures.len))
+    (λ less. subst (λ n. get_or c.swap_remove.new.self.items c.args.place 0 ≡ get_or c.self.inside.edges.items n 0) (omega (arith, c.swap_remove.ensures.len))
+    (c.swap_remove.ensures.by_index.0 0 (omega (arith, less, c.swap_remove.ensures.len))))
+    (λ less. subst (λ n. get_or c.swap_remove-2.new.self.items c.args.place 0 ≡ get_or c.self.inside.raised.items n 0) (omega (arith, c.swap_remove.ensures.len, c.self.invariant.1.one_each))
+    (c.swap_remove-2.ensures.by_index.0 0 (omega (arith, less, c.swap_remove.ensures.len, c.swap_remove-2.ensures.len, c.self.invariant.1.one_each))))
+    (λ k differs less. c.swap_remove.ensures.by_index.1 k 0 differs (omega (arith, less, c.swap_remove.ensures.len)))
+    (λ k differs less. c.swap_remove-2.ensures.by_index.1 k 0 differs (omega (arith, less, c.swap_remove.ensures.len, c.swap_remove-2.ensures.len, c.self.invariant.1.one_each))))
