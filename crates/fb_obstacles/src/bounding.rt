@@ -3,7 +3,7 @@ ghost use Rattle.fb_graph.specs.Covers.{AreRoles};
 ghost use Rattle.fb_obstacles.specs.Obstacles.{HavePlusParity, ListsMinus, residue_at, roles_by};
 ghost use Rattle.fb_obstacles.specs.Watched.{AreBounded};
 ghost use Rattle.fb_obstacles.specs.InnerEdges.{LeavesInner};
-ghost use Rattle.fb_obstacles.specs.InternalLooks.{LimitsBoth, fits_within};
+ghost use Rattle.fb_obstacles.specs.InternalLooks.{LimitsBoth, both_looks, fits_within};
 
 use crate::ends::{Ends, keeps_dual};
 use crate::looking::{Look, look_with};
@@ -26,6 +26,18 @@ fn passed_to(watch: &Watch, place: usize, least: Look) -> usize
         Some(limit) => watch.large_from(place, limit),
         None => place,
     }
+}
+
+/// Both looks in one, the other one being at the edge of this place, which is kept in mind if it limits the step.
+fn with_look(watch: &mut Watch, place: usize, least: Look, look: Look) -> Look
+    ensures both { result ≡ both_looks least look }
+    ensures same { watch.new ≡ watch.old }
+{
+    let both = least.and(look);
+    if both != least {
+        watch.set_limiting(place);
+    }
+    both
 }
 
 /// A look at all minus nodes and watched edges, up to the first obstacle. Passes over each edge whose bound shows that it
@@ -76,7 +88,8 @@ pub fn look_by_bounds<S: Scope, R: MinusNodes, L: Ledger>(
         if least.fits_within(residue) {
             continue;
         }
-        least = least.and(look_with(edge, ends, residue, scope, roles));
+        let look = look_with(edge, ends, residue, scope, roles);
+        least = with_look(watch, place, least, look);
         if let Look::Blocked(_) = least {
             return least;
         }

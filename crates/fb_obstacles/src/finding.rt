@@ -1,22 +1,22 @@
-ghost use Rattle.std.specs.Prelude.{◌≡◌, ◌+◌, ◌≤◌, length};
+ghost use Rattle.std.specs.Prelude.{◌≡◌, ◌+◌, ◌<◌, ◌≤◌, length, All, IfSome};
 ghost use Rattle.fb_graph.specs.Problem.{with_defects};
 ghost use Rattle.fb_graph.specs.Laws.{HasNoOddClosed};
 ghost use Rattle.fb_graph.specs.Dual.{leaves};
 ghost use Rattle.fb_graph.specs.Covers.{AreRoles};
 ghost use Rattle.fb_laws.specs.Lengths.{HasPlus};
 ghost use Rattle.fb_obstacles.specs.InnerEdges.{LeavesInner};
-ghost use Rattle.fb_obstacles.specs.Obstacles.{CountsLooks, HavePlusParity, IsObstacle, IsWatched, ListsMinus, residue_at, roles_by};
+ghost use Rattle.fb_obstacles.specs.Obstacles.{CountsLooks, HavePlusParity, IsObstacle, IsWatched, ListsMinus, Obstructs, residue_at, roles_by};
 ghost use Rattle.fb_obstacles.specs.Watched.{AreBounded};
 
 use crate::bounding::look_by_bounds;
 use crate::ends::keeps_dual;
-use crate::looking::Look;
+use crate::looking::{Look, look_over};
 use crate::obstacle::Obstacle;
 use crate::scanning::look_at_edges;
 use crate::shrinking::{MinusNodes, look_at_minus};
 use crate::watching::Watch;
 use fb_graph::{Scope, Steps};
-use fb_regions::Regions;
+use fb_regions::{Regions, Roles};
 use std::sync::ledger::Ledger;
 
 /// An obstacle that stands in the way of the tree with these roles, or how far the tree may step. Takes no memory, and
@@ -83,5 +83,32 @@ pub fn next_obstacle_by_bounds<S: Scope, R: MinusNodes, L: Ledger>(
         Look::Blocked(obstacle) => obstacle,
         Look::Within(most) => Obstacle::Free(most),
         Look::Clear => unreachable!(),
+    }
+}
+
+/// The obstacle at the edge that limited the tree's step when the watched edges were last looked at, if that edge is one
+/// now: after a step that went as far as it might it mostly is. Takes constant time but for the climbs from the edge's
+/// ends, and counts the look.
+pub fn limiting_obstacle<S: Scope, R: Roles, L: Ledger>(
+    watch: &Watch,
+    scope: &S,
+    regions: &Regions<S>,
+    roles: &R,
+    looks: &mut Steps<L>,
+) -> Option<Obstacle>
+    requires same { regions.now.scope ≡ scope.now }
+    requires roles { AreRoles (roles_by (R.role_of roles.now)) regions.now.nodes }
+    requires parity { HavePlusParity (roles_by (R.role_of roles.now)) regions.now.nodes }
+    requires within { All (λ k. k < length (S.problem scope.now).edges) watch.now.edges }
+    ensures obstacle { IfSome result (Obstructs (S.problem scope.now) (roles_by (R.role_of roles.now)) regions.now.nodes) }
+    ensures looks { (looks.old ≤ looks.new) × (looks.new ≤ looks.old + 1) }
+{
+    keeps_dual(regions);
+    scope.limits();
+    let edge = watch.limiting()?;
+    looks.tick();
+    match look_over(edge, scope, regions, roles) {
+        Look::Blocked(obstacle) => Some(obstacle),
+        _ => None,
     }
 }

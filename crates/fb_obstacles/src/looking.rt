@@ -8,7 +8,7 @@ use fb_graph::Scope;
 use fb_regions::{Regions, Roles};
 
 /// What a look at an edge or a minus node tells of a step.
-#[derive(Clone, Copy)]
+#[derive(Clone, Copy, PartialEq, Eq)]
 pub enum Look {
     /// It doesn't bound the step.
     Clear,

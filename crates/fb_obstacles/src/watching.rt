@@ -1,4 +1,4 @@
-ghost use Rattle.std.specs.Prelude.{ℕ, ◌≡◌, ◌+◌, ◌-◌, ◌<◌, ◌≤◌, ◌==◌, ◌&&◌, true, false, not, [], ◌∷◌, ◌++◌, length, map, get_or, set, All, IfOk, MatchOption, if◌then◌else◌};
+ghost use Rattle.std.specs.Prelude.{ℕ, ◌≡◌, ◌+◌, ◌-◌, ◌<◌, ◌≤◌, ◌==◌, ◌&&◌, true, false, not, [], ◌∷◌, ◌++◌, length, map, get_or, set, All, IfOk, IfSome, MatchOption, if◌then◌else◌};
 ghost use Rattle.fb_graph.specs.Parity.{is_in};
 ghost use Rattle.fb_graph.specs.Counts.{as_count};
 ghost use Rattle.fb_graph.specs.Certificate.{AreDistinct};
@@ -21,6 +21,8 @@ pub struct Watch {
     raised: Vec<u64>,
     /// By how much all bounds were lowered, but for those that would be below 0.
     lowered: u64,
+    /// The place of the edge that last limited a step. Another edge may be there by now, or none.
+    limiting: usize,
 }
 
 impl Model for Watch {
@@ -52,6 +54,7 @@ impl Watch {
             edges,
             raised,
             lowered: 0,
+            limiting: 0,
         })
     }
 
@@ -184,6 +187,20 @@ impl Watch {
             Some(raised) => large_from(&self.raised, end, raised),
             None => end,
         }
+    }
+
+    /// The edge at this place limits the step.
+    pub(crate) fn set_limiting(&mut self, place: usize)
+        ensures { self.new ≡ self.old }
+    {
+        self.limiting = place;
+    }
+
+    /// A watched edge that may have limited the last step.
+    pub(crate) fn limiting(&self) -> Option<u32>
+        ensures { IfSome result (λ e. is_in self.now.edges e ≡ true) }
+    {
+        self.edges.get(self.limiting).copied()
     }
 
     /// How many edges are watched.

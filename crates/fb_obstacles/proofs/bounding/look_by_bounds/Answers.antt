@@ -1,4 +1,4 @@
-use Rattle.std.proofs.Common.{ℕ, ◌≡◌, ◌-◌, length, get_or, refl, ap, subst, arith}
+use Rattle.std.proofs.Common.{ℕ, ◌≡◌, ◌∙◌, ◌-◌, length, get_or, refl, ap, subst, arith}
 use Rattle.fb_graph.specs.Problem.{edge_at}
 use Rattle.fb_graph.specs.Dual.{IsDual}
 use Rattle.fb_obstacles.specs.Obstacles.{residue_at}
@@ -122,8 +122,8 @@ loop-place-preserved g c =
     look_by_ends (g.S.Scope.problem c.args.scope.now) (g.R.Roles.role_of c.args.roles.now) c.args.regions.now.nodes k c.residue-residue.result
     c.of-ends.result c.look_with.result ends residue c.look_with.ensures in
     record {
-      scanned = scanned_more (g.S.Scope.problem c.args.scope.now) (g.R.Roles.role_of c.args.roles.now) c.args.regions.now.nodes (g.R.MinusNodes.minus_names c.args.roles.now) c.args.watch.now c.loop-place.watch c.set_bound.new.self
-          c.loop-place.place k c.residue-residue.result c.loop-place.least c.look_with.result c.and-least.result
+      scanned = scanned_more (g.S.Scope.problem c.args.scope.now) (g.R.Roles.role_of c.args.roles.now) c.args.regions.now.nodes (g.R.MinusNodes.minus_names c.args.roles.now) c.args.watch.now c.loop-place.watch c.with_look-least.new.watch
+          c.loop-place.place k c.residue-residue.result c.loop-place.least c.look_with.result c.with_look-least.result
           (record {
             dual = subst (λ s. IsDual (g.S.Scope.problem s) c.args.regions.now.nodes) c.requires.same c.keeps_dual.ensures;
             roles = c.requires.roles;
@@ -134,8 +134,8 @@ loop-place-preserved g c =
           c.loop-place.invariant.scanned c.loop-place-test.true
           (ap (λ xs. get_or xs (c.loop-place.place - 1) 0) c.edges.ensures)
           residue
-          c.set_bound.ensures
-          looked c.and-least.ensures;
+          (c.with_look-least.ensures.same ∙ c.set_bound.ensures)
+          looked c.with_look-least.ensures.both;
       never_falls = omega (arith, c.loop-place.invariant.never_falls);
       counted = omega (arith, c.loop-place.invariant.counted);
     }
@@ -151,9 +151,9 @@ returns-in-Blocked-least g c =
     let looked : c.look_with.result ≡ edge_look (g.S.Scope.problem c.args.scope.now) (g.R.Roles.role_of c.args.roles.now) c.args.regions.now.nodes k =
     look_by_ends (g.S.Scope.problem c.args.scope.now) (g.R.Roles.role_of c.args.roles.now) c.args.regions.now.nodes k c.residue-residue.result
     c.of-ends.result c.look_with.result ends residue c.look_with.ensures in
-    let scanned : IsScanned (g.S.Scope.problem c.args.scope.now) (g.R.Roles.role_of c.args.roles.now) c.args.regions.now.nodes (g.R.MinusNodes.minus_names c.args.roles.now) c.args.watch.now c.set_bound.new.self (c.loop-place.place - 1) c.and-least.result =
-    scanned_more (g.S.Scope.problem c.args.scope.now) (g.R.Roles.role_of c.args.roles.now) c.args.regions.now.nodes (g.R.MinusNodes.minus_names c.args.roles.now) c.args.watch.now c.loop-place.watch c.set_bound.new.self
-    c.loop-place.place k c.residue-residue.result c.loop-place.least c.look_with.result c.and-least.result
+    let scanned : IsScanned (g.S.Scope.problem c.args.scope.now) (g.R.Roles.role_of c.args.roles.now) c.args.regions.now.nodes (g.R.MinusNodes.minus_names c.args.roles.now) c.args.watch.now c.with_look-least.new.watch (c.loop-place.place - 1) c.with_look-least.result =
+    scanned_more (g.S.Scope.problem c.args.scope.now) (g.R.Roles.role_of c.args.roles.now) c.args.regions.now.nodes (g.R.MinusNodes.minus_names c.args.roles.now) c.args.watch.now c.loop-place.watch c.with_look-least.new.watch
+    c.loop-place.place k c.residue-residue.result c.loop-place.least c.look_with.result c.with_look-least.result
     (record {
       dual = subst (λ s. IsDual (g.S.Scope.problem s) c.args.regions.now.nodes) c.requires.same c.keeps_dual.ensures;
       roles = c.requires.roles;
@@ -164,11 +164,11 @@ returns-in-Blocked-least g c =
     c.loop-place.invariant.scanned c.loop-place-test.true
     (ap (λ xs. get_or xs (c.loop-place.place - 1) 0) c.edges.ensures)
     residue
-    c.set_bound.ensures
-    looked c.and-least.ensures in
+    (c.with_look-least.ensures.same ∙ c.set_bound.ensures)
+    looked c.with_look-least.ensures.both in
     record {
-      limits = scanned_blocked (g.S.Scope.problem c.args.scope.now) (g.R.Roles.role_of c.args.roles.now) c.args.regions.now.nodes (g.R.MinusNodes.minus_names c.args.roles.now) c.args.watch.now c.set_bound.new.self (c.loop-place.place - 1)
-          c.and-least.result c.in-Blocked-least.field-0 c.in-Blocked-least.is scanned;
+      limits = scanned_blocked (g.S.Scope.problem c.args.scope.now) (g.R.Roles.role_of c.args.roles.now) c.args.regions.now.nodes (g.R.MinusNodes.minus_names c.args.roles.now) c.args.watch.now c.with_look-least.new.watch (c.loop-place.place - 1)
+          c.with_look-least.result c.in-Blocked-least.field-0 c.in-Blocked-least.is scanned;
       watched = scanned.watched;
       bounded = scanned.bounded;
       looks = (omega (arith, c.loop-place.invariant.never_falls), omega (arith, c.loop-place.invariant.counted));
