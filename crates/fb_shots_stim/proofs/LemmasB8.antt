@@ -7,7 +7,6 @@ use Rattle.std.proofs.lemmas.Bool.{cases_Bool, cases_eq, eq-eqb, ne_eqb, or_part
 use Rattle.std.proofs.lemmas.Nat.{shr-shr, shr_below}
 use Rattle.std.proofs.lemmas.List.{append-nil, length-append, length-take-le, length-drop, take_all, take_more, drop_all, drop_at, drop-drop, take-append-drop, take-append-le, drop-append-le}
 use Rattle.std.proofs.lemmas.List.Concat.{flat_map-append}
-use Rattle.std.proofs.lemmas.List.{at_drop_more}
 use Rattle.std.proofs.lemmas.Nat.{le-div}
 use Rattle.std.proofs.Math.Nat.{div-mul-le_self}
 use Rattle.fb_shots_stim.specs.declared.answer.Kind.{Kind}
@@ -114,32 +113,6 @@ places_of_block n bits h =
     ap (places_from is_set 0) (sym (take-append-drop n bits)) ∙ places_append is_set 0 (take n bits) (drop n bits)
     ∙ ap (λ (l : List ℕ). places_from is_set 0 (take n bits) ++ l) (places_none is_set (0 + length (take n bits)) (drop n bits) h)
     ∙ append-nil (places_from is_set 0 (take n bits))
-
--- ---- the loop over a byte's bits
-
--- the place of the lowest bit, where it is set, and those of the bits above it
-pub low_more : (count place left : ℕ) → 0 < left → left < 2 ^ count
-    → (0 < count) × (left / 2 < 2 ^ (count - 1)) × (places_from is_set place (low_bits count left) ≡ (if eqb (left % 2) 1 then place ∷ [] else []) ++ places_from is_set (place + 1) (low_bits (count - 1) (left / 2)))
-unfolding low_bits
-low_more zero place left some lt = absurd (omega arith)
-low_more (suc count) place left some lt =
-    let below : left < 2 ^ (count + 1) = rw add-one lt in
-    let half : left / 2 < 2 ^ (suc count - 1) = subst (λ (k : ℕ). left / 2 < 2 ^ k) (omega arith) (shr_below left count 1 below) in (
-      omega arith,
-      half,
-      elim (cases_Bool (eqb (left % 2) 1)) [
-        | inl e ↦ rw e (ap (λ (k : ℕ). place ∷ places_from is_set (place + 1) (low_bits k (left / 2))) (omega arith))
-        | inr e ↦ rw e (ap (λ (k : ℕ). places_from is_set (place + 1) (low_bits k (left / 2))) (omega arith))
-      ],
-    )
-
--- the places in the first byte that is left, and those in the bytes after it
-pub bits_more : (block : List ℕ) (i : ℕ) → i < length block
-    → places_from is_set (i * 8) (bits_of (drop i block)) ≡ places_from is_set (i * 8) (low_bits 8 (get_or block i 0)) ++ places_from is_set ((i + 1) * 8) (bits_of (drop (i + 1) block))
-bits_more block i within =
-    at_drop_more (λ (l : List ℕ). places_from is_set (i * 8) (bits_of l)) block i 0 within
-    ∙ places_append is_set (i * 8) (low_bits 8 (get_or block i 0)) (bits_of (drop (i + 1) block))
-    ∙ ap (λ (k : ℕ). places_from is_set (i * 8) (low_bits 8 (get_or block i 0)) ++ places_from is_set k (bits_of (drop (i + 1) block))) (omega (arith, length_low 8 (get_or block i 0)))
 
 -- ---- blocks
 

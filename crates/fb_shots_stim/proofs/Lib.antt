@@ -6,3 +6,4 @@ pub mod NamedLemmas
 pub mod PlaceLemmas
 pub mod FirstRecords
 pub mod ShotLemmas
+pub mod WordBits

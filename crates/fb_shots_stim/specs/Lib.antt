@@ -5,3 +5,4 @@ pub mod BlocksB8
 pub mod TextDets
 pub mod WordsDets
 pub mod StopsDets
+pub mod FaultTexts

@@ -1,5 +1,8 @@
 //! Why a reader refuses.
 
+ghost use Rattle.std.specs.Prelude.{◌≡◌};
+ghost use Rattle.fb_shots_stim.specs.FaultTexts.{kind_name};
+
 /// Why a record is refused.
 #[derive(Clone, Copy, Debug, PartialEq, Eq)]
 pub enum Kind {
@@ -19,4 +22,22 @@ pub enum Kind {
     RepeatedIndex,
     /// A measurement stands in a record of detectors.
     MeasurementToken,
+}
+
+impl Kind {
+    /// What it is called where it is printed.
+    pub fn name(self) -> &'static str
+        ensures { result.now ≡ kind_name self }
+    {
+        match self {
+            Kind::BadByte => "BadByte",
+            Kind::ShortRecord => "ShortRecord",
+            Kind::LongRecord => "LongRecord",
+            Kind::PaddingBit => "PaddingBit",
+            Kind::BadToken => "BadToken",
+            Kind::IndexOutOfRange => "IndexOutOfRange",
+            Kind::RepeatedIndex => "RepeatedIndex",
+            Kind::MeasurementToken => "MeasurementToken",
+        }
+    }
 }

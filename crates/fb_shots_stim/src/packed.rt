@@ -1,6 +1,6 @@
 //! The format `b8`: a block of bytes for each shot, a bit for each detector, the least significant first.
 
-ghost use Rattle.std.specs.Prelude.{◌≡◌, ℕ, ◌+◌, ◌*◌, ◌^◌, ◌<◌, ◌≤◌, ◌∷◌, ◌++◌, [], if◌then◌else◌, Bool, true, false, length, drop, IfOk, OnOk, OnErr};
+ghost use Rattle.std.specs.Prelude.{◌≡◌, ℕ, ◌+◌, ◌*◌, ◌^◌, ◌<◌, ◌≤◌, ◌++◌, [], true, false, length, drop, IfOk, OnOk, OnErr};
 ghost use Rattle.std.specs.List.{list_any};
 ghost use Rattle.fb_records.specs.Records.{Reader};
 ghost use Rattle.fb_records.specs.Answers.{answer_of, reading, Answers, IfShot};
@@ -11,6 +11,9 @@ use crate::answer::Kind;
 use fb_records::{Next, NoMemory, Numbers, Pending};
 use std::alloc::Global;
 use std::marker::Model;
+
+/// How many bytes of a block are looked at together.
+const WORD_BYTES: usize = 8;
 
 /// A reader of shots in the format `b8`. Contracts see the bytes fed that no answer has used, and whether they are all.
 #[derive(Drop)]
@@ -117,33 +120,44 @@ fn set_bits(alloc: Global, block: &[u8]) -> Result<Numbers, NoMemory>
     ensures { IfOk result (λ shot. shot ≡ places_from is_set 0 (bits_of block.now)) }
 {
     let mut places = Vec::new(alloc);
-    for (i, byte) in block.iter().enumerate() {
-        push_set_bits(&mut places, i * 8, *byte)?;
+    let mut first = 0;
+    for bytes in block.chunks(WORD_BYTES) {
+        push_set_bits(&mut places, first, bytes)?;
+        first += bytes.len() * 8;
     }
     Ok(Numbers::from_vec(places))
 }
 
-/// Pushes the places of a byte's set bits, of which the least significant stands at `first`.
-fn push_set_bits(places: &mut Vec<u32>, first: usize, byte: u8) -> Result<(), NoMemory>
-    requires { first + 8 ≤ 2 ^ 32 }
-    ensures { OnOk result (places.new.items ≡ places.old.items ++ places_from is_set first (low_bits 8 byte)) }
+/// Pushes the places of the set bits of at most eight bytes, of which the first begins at `first`. It goes from set bit
+/// to set bit, so zeros take no time of their own.
+fn push_set_bits(places: &mut Vec<u32>, first: usize, bytes: &[u8]) -> Result<(), NoMemory>
+    requires size { length bytes.now ≤ 8 }
+    requires fits { first + length bytes.now * 8 ≤ 2 ^ 32 }
+    ensures { OnOk result (places.new.items ≡ places.old.items ++ places_from is_set first (bits_of bytes.now)) }
 {
     let mut place = first;
-    let mut left = byte;
+    let mut left = word_of(bytes);
     while left != 0 {
-        push_if(places, left % 2 == 1, place)?;
+        let zeros = left.trailing_zeros();
+        place += zeros as usize;
+        places.push(place as u32)?;
         place += 1;
-        left /= 2;
+        left = left >> zeros >> 1;
     }
     Ok(())
 }
 
-fn push_if(places: &mut Vec<u32>, set: bool, place: usize) -> Result<(), NoMemory>
-    requires { place < 2 ^ 32 }
-    ensures { OnOk result (places.new.items ≡ places.old.items ++ (if set then place ∷ [] else [])) }
+/// At most eight bytes as a number, the least significant first.
+fn word_of(bytes: &[u8]) -> u64
+    requires { length bytes.now ≤ 8 }
+    ensures bits { low_bits (length bytes.now * 8) result ≡ bits_of bytes.now }
+    ensures size { result < 2 ^ (length bytes.now * 8) }
 {
-    if set && places.push(place as u32).is_err() {
-        return Err(NoMemory);
+    if let Some(whole) = bytes.first_chunk::<WORD_BYTES>() {
+        return u64::from_le_bytes(*whole);
     }
-    Ok(())
+    match bytes {
+        [byte, rest @ ..] => u64::from(*byte) + word_of(rest) * 256,
+        [] => 0,
+    }
 }
