@@ -1,6 +1,6 @@
 -- What a reader answers: by what is read, behind what is skipped, and at the end of a line and of the input.
-use Rattle.std.specs.Prelude.{if◌then◌else◌}
-use Rattle.std.proofs.Common.{◌≡◌, ℕ, suc, ◌+◌, Bool, true, false, List, [], ◌∷◌, ◌++◌, length, Some, None, Ok, refl, sym, ap, ◌∙◌, append_assoc, inl, inr, arith}
+use Rattle.std.specs.Prelude.{if◌then◌else◌, IfErr}
+use Rattle.std.proofs.Common.{◌≡◌, ℕ, suc, ◌+◌, Bool, true, false, List, [], ◌∷◌, ◌++◌, length, Some, None, Result, Ok, Err, refl, sym, ap, ◌∙◌, append_assoc, inl, inr, arith}
 use Rattle.std.specs.List.{prefix_len}
 use Rattle.std.proofs.lemmas.Bool.{cases_Bool}
 use Rattle.std.proofs.lemmas.List.{append-nil, length-append}
@@ -160,3 +160,8 @@ last_after is_blank b line h some =
 pub refused_then : {K : Type 0} (P Q : K → Type 0) (why : Stop K) → ((kind : K) → P kind → Q kind) → IfRefused P why → IfRefused Q why
 refused_then P Q stop.NoMemory h r = tt
 refused_then P Q (stop.Refused kind) h r = h kind r
+
+-- the same, where `?` gives the reason again
+pub refused_by : {A K : Type 0} (r : Result A (Stop K)) (why : Stop K) (P Q : K → Type 0) → ((kind : K) → P kind → Q kind)
+    → r ≡ Err why → IfRefused P why → IfErr r (IfRefused Q)
+refused_by r why P Q h e is = rw e (refused_then P Q why h is)

@@ -1,6 +1,7 @@
 //! What a reader answers, and why a step of it gives nothing.
 
 use crate::numbers::Numbers;
+use std::alloc::AllocFailed;
 
 /// There was not enough memory.
 pub use std::alloc::AllocError as NoMemory;
@@ -25,4 +26,27 @@ pub enum Stop<K> {
     NoMemory,
     /// The record is refused.
     Refused(K),
+}
+
+impl<K> From<NoMemory> for Stop<K> {
+    ghost use Rattle.std.specs.Prelude.{◌≡◌};
+    ghost use Rattle.fb_records.specs.declared.answer.Stop.{Stop};
+
+    ghost from_gives = { λ _ stop. stop ≡ Stop.NoMemory };
+
+    fn from(_: NoMemory) -> Stop<K> {
+        Stop::NoMemory
+    }
+}
+
+/// So that a push's error converts too. The value that was to be pushed is dropped.
+impl<T: Drop, K> From<AllocFailed<T>> for Stop<K> {
+    ghost use Rattle.std.specs.Prelude.{◌≡◌};
+    ghost use Rattle.fb_records.specs.declared.answer.Stop.{Stop};
+
+    ghost from_gives = { λ _ stop. stop ≡ Stop.NoMemory };
+
+    fn from(_: AllocFailed<T>) -> Stop<K> {
+        Stop::NoMemory
+    }
 }

@@ -51,9 +51,7 @@ impl Pending {
             cut_front(&mut self.bytes, self.used);
             self.used = 0;
         }
-        if self.bytes.extend_from_slice(piece).is_err() {
-            return Err(NoMemory);
-        }
+        self.bytes.extend_from_slice(piece)?;
         Ok(())
     }
 

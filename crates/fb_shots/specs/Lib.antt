@@ -6,3 +6,4 @@ pub mod Answers
 pub mod Streams
 pub mod Steps
 pub mod Reads
+pub mod FaultTexts

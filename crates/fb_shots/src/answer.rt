@@ -1,6 +1,12 @@
 //! What a stream of shots is asked for, and what it answers.
 
+ghost use Rattle.std.specs.Prelude.{◌≡◌};
+ghost use Rattle.fb_shots.specs.FaultTexts.{kind_name};
+
 use fb_graph::Shot;
+
+/// There was not enough memory.
+pub use std::alloc::AllocError as NoMemory;
 
 /// How shots are written: the first three are result formats of Stim.
 #[derive(Clone, Copy, Debug, PartialEq, Eq)]
@@ -28,16 +34,26 @@ pub enum Kind {
     InputTooLong,
 }
 
+impl Kind {
+    /// What it is called where it is printed.
+    pub fn name(self) -> &'static str
+        ensures { result.now ≡ kind_name self }
+    {
+        match self {
+            Kind::Stim(kind) => kind.name(),
+            Kind::Json(kind) => kind.name(),
+            Kind::TooManyShots => "TooManyShots",
+            Kind::InputTooLong => "InputTooLong",
+        }
+    }
+}
+
 /// A refusal: the number of the record, counted from 0, that it stands in place of, and why.
 #[derive(Clone, Copy, Debug, PartialEq, Eq)]
 pub struct ShotFault {
     pub shot: u32,
     pub kind: Kind,
 }
-
-/// There was not enough memory.
-#[derive(Clone, Copy, Debug, PartialEq, Eq)]
-pub struct NoMemory;
 
 /// The answer of a stream that was asked for its next shot.
 #[derive(Debug, Drop)]

@@ -31,9 +31,7 @@ impl Piece {
     pub fn new(alloc: Global) -> Result<Piece, NoMemory>
         ensures { IfOk result (λ p. p ≡ []) }
     {
-        let Ok(room) = vec![in alloc; 0u8; MOST_ASKED] else {
-            return Err(NoMemory);
-        };
+        let room = vec![in alloc; 0u8; MOST_ASKED]?;
         Ok(Piece { room, unfed: 0 })
     }
 
@@ -70,9 +68,7 @@ impl Piece {
         ensures cause { HasCause (F.faults files.old) (F.faults files.new) result }
     {
         self.unfed = 0;
-        let Ok(count) = read_at_most(files, &mut self.room, most) else {
-            return Err(Failed);
-        };
+        let count = read_at_most(files, &mut self.room, most)?;
         self.unfed = count;
         Ok(count)
     }

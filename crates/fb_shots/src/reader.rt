@@ -61,13 +61,12 @@ impl<'a> FormatReader<'a> {
         ensures err { OnErr result (self.new ≡ self.old) }
         ensures reader { IsReaderOf graph.now self.new }
     {
-        let fed = match self {
-            FormatReader::Text01(reader) => reader.feed(piece).is_ok(),
-            FormatReader::B8(reader) => reader.feed(piece).is_ok(),
-            FormatReader::Dets(reader) => reader.feed(piece).is_ok(),
-            FormatReader::Json(reader) => reader.feed(piece).is_ok(),
-        };
-        if fed { Ok(()) } else { Err(NoMemory) }
+        match self {
+            FormatReader::Text01(reader) => reader.feed(piece),
+            FormatReader::B8(reader) => reader.feed(piece),
+            FormatReader::Dets(reader) => reader.feed(piece),
+            FormatReader::Json(reader) => reader.feed(piece),
+        }
     }
 
     fn finish(&mut self, graph: &Graph)
@@ -90,22 +89,10 @@ impl<'a> FormatReader<'a> {
         ensures reader { IsReaderOf graph.now self.new }
     {
         match self {
-            FormatReader::Text01(reader) => match reader.next() {
-                Ok(answer) => Ok(on_vertices(graph, answer)),
-                Err(_) => Err(NoMemory),
-            },
-            FormatReader::B8(reader) => match reader.next() {
-                Ok(answer) => Ok(on_vertices(graph, answer)),
-                Err(_) => Err(NoMemory),
-            },
-            FormatReader::Dets(reader) => match reader.next() {
-                Ok(answer) => Ok(on_vertices(graph, answer)),
-                Err(_) => Err(NoMemory),
-            },
-            FormatReader::Json(reader) => match reader.next() {
-                Ok(answer) => Ok(of_vertices(graph, answer)),
-                Err(_) => Err(NoMemory),
-            },
+            FormatReader::Text01(reader) => Ok(on_vertices(graph, reader.next()?)),
+            FormatReader::B8(reader) => Ok(on_vertices(graph, reader.next()?)),
+            FormatReader::Dets(reader) => Ok(on_vertices(graph, reader.next()?)),
+            FormatReader::Json(reader) => Ok(of_vertices(graph, reader.next()?)),
         }
     }
 }

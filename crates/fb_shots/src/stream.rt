@@ -78,10 +78,8 @@ impl<'a> ShotStream<'a> {
         ensures asks { F.asked files.new ≡ F.asked files.old }
     {
         loop {
-            match self.turn(files) {
-                Ok(None) => {}
-                Ok(Some(step)) => return Ok(step),
-                Err(NoMemory) => return Err(NoMemory),
+            if let Some(step) = self.turn(files)? {
+                return Ok(step);
             }
         }
     }
@@ -102,13 +100,8 @@ impl<'a> ShotStream<'a> {
         if let Some(kind) = self.stopped {
             return Ok(Some(refusal(self.given, kind)));
         }
-        let Ok(()) = feed(&mut self.reader, &mut self.piece) else {
-            return Err(NoMemory);
-        };
-        let Ok(next) = self.reader.next() else {
-            return Err(NoMemory);
-        };
-        match next {
+        feed(&mut self.reader, &mut self.piece)?;
+        match self.reader.next()? {
             Next::Shot(shot) => {
                 if self.given >= self.limit {
                     return Ok(Some(self.refuse(Kind::TooManyShots)));
@@ -155,9 +148,7 @@ fn feed(reader: &mut Reader<'_>, piece: &mut Piece) -> Result<(), NoMemory>
     if piece.is_empty() {
         return Ok(());
     }
-    let Ok(()) = reader.feed(piece.as_slice()) else {
-        return Err(NoMemory);
-    };
+    reader.feed(piece.as_slice())?;
     piece.clear();
     Ok(())
 }

@@ -1,5 +1,8 @@
 //! Why the reader refuses.
 
+ghost use Rattle.std.specs.Prelude.{◌≡◌};
+ghost use Rattle.fb_shots_json.specs.FaultTexts.{kind_name};
+
 /// Why a line is refused.
 #[derive(Clone, Copy, Debug, PartialEq, Eq)]
 pub enum Kind {
@@ -17,4 +20,21 @@ pub enum Kind {
     DefectRepeated,
     /// The value has `erasures` or `dynamic_weights` that is neither null nor an empty list.
     ErasureNotTaken,
+}
+
+impl Kind {
+    /// What it is called where it is printed.
+    pub fn name(self) -> &'static str
+        ensures { result.now ≡ kind_name self }
+    {
+        match self {
+            Kind::LineTooLong => "LineTooLong",
+            Kind::NotJson => "NotJson",
+            Kind::NoDefects => "NoDefects",
+            Kind::DefectOutOfRange => "DefectOutOfRange",
+            Kind::DefectOnVirtual => "DefectOnVirtual",
+            Kind::DefectRepeated => "DefectRepeated",
+            Kind::ErasureNotTaken => "ErasureNotTaken",
+        }
+    }
 }

@@ -23,9 +23,7 @@ pub fn naturals(alloc: Global, values: &[Value]) -> Result<Option<Vec<u64>>, NoM
         let Some(entry) = value.as_u64() else {
             return Ok(None);
         };
-        if found.push(entry).is_err() {
-            return Err(NoMemory);
-        }
+        found.push(entry)?;
     }
     Ok(Some(found))
 }
@@ -58,9 +56,7 @@ fn real_front(
         if let Some(kind) = vertex_fault(graph, *entry) {
             return Ok((found, Some(kind)));
         }
-        if found.push(*entry as u32).is_err() {
-            return Err(NoMemory);
-        }
+        found.push(*entry as u32)?;
     }
     Ok((found, None))
 }
@@ -79,9 +75,7 @@ pub fn defects(alloc: Global, graph: &Graph, listed: &[u64]) -> Result<Vec<u32>,
     ensures shot { IfOk result (λ v. IsShot graph.now v.items) }
     ensures refused { IfErr result (IfRefused (λ kind. defects_from graph.now [] listed.now ≡ Err kind)) }
 {
-    let Ok((mut found, fault)) = real_front(alloc, graph, listed) else {
-        return Err(Stop::NoMemory);
-    };
+    let (mut found, fault) = real_front(alloc, graph, listed)?;
     found.sort_unstable();
     if !is_rising(&found) {
         return Err(Stop::Refused(Kind::DefectRepeated));

@@ -55,16 +55,14 @@ fn shot_in(alloc: Global, graph: &Graph, value: &Value) -> Result<Numbers, Stop<
     let Some(entries) = member.as_array() else {
         return Err(Stop::Refused(Kind::NoDefects));
     };
-    let listed = match naturals(alloc, entries) {
-        Ok(Some(listed)) => listed,
-        Ok(None) => return Err(Stop::Refused(Kind::NoDefects)),
-        Err(_) => return Err(Stop::NoMemory),
+    let Some(listed) = naturals(alloc, entries)? else {
+        return Err(Stop::Refused(Kind::NoDefects));
     };
-    match defects(alloc, graph, &listed) {
-        Ok(found) if is_plain(value) => Ok(Numbers::from_vec(found)),
-        Ok(_) => Err(Stop::Refused(Kind::ErasureNotTaken)),
-        Err(stop) => Err(stop),
+    let found = defects(alloc, graph, &listed)?;
+    if !is_plain(value) {
+        return Err(Stop::Refused(Kind::ErasureNotTaken));
     }
+    Ok(Numbers::from_vec(found))
 }
 
 /// Whether a line has more bytes than one that isn't blank may have.

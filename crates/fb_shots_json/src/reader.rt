@@ -144,10 +144,7 @@ fn advance(
             return Ok(Step::NotYet);
         }
         if !place.is_blank {
-            let shot = match shot_of_line(alloc, graph, &rest[place.line..place.seen]) {
-                Ok(shot) => shot,
-                Err(stop) => return Err(stop),
-            };
+            let shot = shot_of_line(alloc, graph, &rest[place.line..place.seen])?;
             let used = if is_last { place.seen } else { place.seen + 1 };
             *place = START;
             return Ok(Step::Shot(shot, used));

@@ -1,12 +1,16 @@
 -- A reader of `dets` at a place.
-use Rattle.std.proofs.Common.{◌≡◌, ℕ, ◌+◌, ◌<◌, ◌≤◌, Bool, true, false, List, [], ◌∷◌, ◌++◌, length, get_or, take, drop, Option, Some, None, Ok, Err, refl, sym, ap, subst, ◌∙◌, append_assoc, arith}
+use Rattle.std.proofs.Common.{◌≡◌, ℕ, ◌+◌, ◌<◌, ◌≤◌, Bool, true, false, List, [], ◌∷◌, ◌++◌, length, get_or, take, drop, Option, Some, None, Result, Ok, Err, refl, sym, ap, subst, ◌∙◌, append_assoc, arith}
 use Rattle.std.proofs.lemmas.List.{append-nil, length-append, take-append-drop, take-append-le, drop_all, drop_more}
+use Rattle.std.specs.Prelude.{IfOk, IfErr, IfSome, IfNone, OnOk}
 use Rattle.fb_shots_stim.specs.declared.answer.Kind.{Kind}
+use Rattle.fb_records.specs.declared.answer.Stop.{Stop}
 use Rattle.fb_records.specs.declared.answer.Next.TheVariants.{Shot, NotYet, End, Refused}
 use Rattle.fb_records.specs.Lines.{holds, if_not_empty, part_of, without_return}
 use Rattle.fb_shots_stim.specs.TextDets.{with_words, shot_of, rising}
 use Rattle.fb_shots_stim.specs.WordsDets.{RecordSoFar, IsAt, IsPlace}
 use Rattle.fb_shots_stim.specs.StopsDets.{AnswersDets}
+use Rattle.fb_records.specs.Answers.{IfRefused}
+use Rattle.fb_records.proofs.AnswerLemmas.{refused_then}
 use Rattle.fb_records.proofs.PartLemmas.{part_none, part_two, take_part, part_more, part_kept}
 use Rattle.fb_shots_stim.proofs.LemmasDets.{Words, never_none, at_start, at_more, at_space, at_newline}
 use Rattle.fb_shots_stim.proofs.StopsDets.{space_refused, newline_refused, newline_shot, open_so_far, end_refused, end_nothing, end_shot}
@@ -150,12 +154,12 @@ pub place_open : (old : RecordSoFar) (bytes : List ℕ) (line word seen : ℕ) (
 place_open old bytes line word seen finished p all e =
     open_so_far old.detectors (take line bytes) (part_of bytes line word) (part_of bytes word seen) old.named bytes finished p.parts e (end_cut old bytes line word seen p all)
 
-pub place_end_refused : (old : RecordSoFar) (bytes : List ℕ) (line word seen : ℕ) (kind : Kind) → IsPlace old bytes line word seen → seen ≡ length bytes
+place_end_refused : (old : RecordSoFar) (bytes : List ℕ) (line word seen : ℕ) (kind : Kind) → IsPlace old bytes line word seen → seen ≡ length bytes
     → with_words old.detectors (Ok old.named) (if_not_empty (without_return (part_of bytes word seen))) ≡ Err kind → AnswersDets old.detectors bytes true bytes (Refused kind)
 place_end_refused old bytes line word seen kind p all e =
     end_refused old.detectors (take line bytes) (part_of bytes line word) (part_of bytes word seen) old.named kind bytes true p.parts refl e (end_cut old bytes line word seen p all)
 
-pub place_end_shot : (old : RecordSoFar) (bytes : List ℕ) (line word seen : ℕ) (shot : List ℕ) → IsPlace old bytes line word seen → seen ≡ length bytes
+place_end_shot : (old : RecordSoFar) (bytes : List ℕ) (line word seen : ℕ) (shot : List ℕ) → IsPlace old bytes line word seen → seen ≡ length bytes
     → shot_of old.detectors (with_words old.detectors (Ok old.named) (if_not_empty (without_return (part_of bytes word seen)))) ≡ Ok (Some shot) → AnswersDets old.detectors bytes true [] (Shot shot)
 place_end_shot old bytes line word seen shot p all e =
     let s = shot_cases old.detectors _ shot e in
@@ -167,7 +171,7 @@ still_nothing : (n : ℕ) (so_far : Option (List ℕ)) (words : List (List ℕ))
 still_nothing n None words e = refl
 still_nothing n (Some named) words e = absurd (never_none n (Ok (Some named)) words (λ (z : Ok (Some named) ≡ Ok None). absurd cc) e)
 
-pub place_end_nothing : (old new : RecordSoFar) (bytes : List ℕ) (line word seen : ℕ) → IsPlace old bytes line word seen → seen ≡ length bytes → new.detectors ≡ old.detectors → new.named ≡ None
+place_end_nothing : (old new : RecordSoFar) (bytes : List ℕ) (line word seen : ℕ) → IsPlace old bytes line word seen → seen ≡ length bytes → new.detectors ≡ old.detectors → new.named ≡ None
     → shot_of old.detectors (with_words old.detectors (Ok old.named) (if_not_empty (without_return (part_of bytes word seen)))) ≡ Ok None
     → AnswersDets old.detectors bytes true bytes End × IsPlace new bytes line word seen
 place_end_nothing old new bytes line word seen p all same none e =
@@ -182,3 +186,22 @@ place_end_nothing old new bytes line word seen p all same none e =
             (subst (λ (o : Option (List ℕ)). IsAt old.detectors (take line bytes) (part_of bytes line word) (part_of bytes word seen) o) (before ∙ sym none) p.parts);
       },
     )
+
+-- what the last word of the input comes to
+pub place_end : (old new : RecordSoFar) (bytes : List ℕ) (line word seen : ℕ) (r : Result (Option (List ℕ)) (Stop Kind))
+    → IsPlace old bytes line word seen → seen ≡ length bytes → new.detectors ≡ old.detectors → OnOk r (new.named ≡ None)
+    → IfOk r (λ found. shot_of old.detectors (with_words old.detectors (Ok old.named) (if_not_empty (without_return (part_of bytes word seen)))) ≡ Ok found)
+    → IfOk r (λ found. IfNone found (AnswersDets old.detectors bytes true bytes End × IsPlace new bytes line word seen))
+    × IfOk r (λ found. IfSome found (λ shot. (new.named ≡ None) × AnswersDets old.detectors bytes true [] (Shot shot)))
+place_end old new bytes line word seen (Ok None) p all same none e = (place_end_nothing old new bytes line word seen p all same none e, tt)
+place_end old new bytes line word seen (Ok (Some shot)) p all same none e = (tt, (none, place_end_shot old bytes line word seen shot p all e))
+place_end old new bytes line word seen (Err stop) p all same none e = (tt, tt)
+
+pub place_end_stop : (old : RecordSoFar) (bytes : List ℕ) (line word seen : ℕ) (r : Result (Option (List ℕ)) (Stop Kind))
+    → IsPlace old bytes line word seen → seen ≡ length bytes
+    → IfErr r (IfRefused (λ kind. with_words old.detectors (Ok old.named) (if_not_empty (without_return (part_of bytes word seen))) ≡ Err kind))
+    → IfErr r (IfRefused (λ kind. AnswersDets old.detectors bytes true bytes (Refused kind)))
+place_end_stop old bytes line word seen (Ok found) p all e = tt
+place_end_stop old bytes line word seen (Err stop) p all e =
+    refused_then (λ kind. with_words old.detectors (Ok old.named) (if_not_empty (without_return (part_of bytes word seen))) ≡ Err kind)
+    (λ kind. AnswersDets old.detectors bytes true bytes (Refused kind)) stop (λ kind h. place_end_refused old bytes line word seen kind p all h) e

@@ -167,8 +167,8 @@ fn ones(alloc: Global, bits: &[u8]) -> Result<Numbers, NoMemory>
 {
     let mut places = Vec::new(alloc);
     for (i, bit) in bits.iter().enumerate() {
-        if *bit == b'1' && places.push(i as u32).is_err() {
-            return Err(NoMemory);
+        if *bit == b'1' {
+            places.push(i as u32)?;
         }
     }
     Ok(Numbers::from_vec(places))

@@ -136,30 +136,18 @@ fn advance(
             if !finished {
                 return Ok(Step::NotYet);
             }
-            return match take_last(words, *place, rest) {
-                Ok(Some(shot)) => {
-                    *place = START;
-                    Ok(Step::Shot(shot, rest.len()))
-                }
-                Ok(None) => Ok(Step::End),
-                Err(stop) => Err(stop),
+            let Some(shot) = take_last(words, *place, rest)? else {
+                return Ok(Step::End);
             };
+            *place = START;
+            return Ok(Step::Shot(shot, rest.len()));
         }
         let used = place.seen + 1;
         if rest[place.seen] == b' ' {
-            match take_word(words, place, rest) {
-                Ok(()) => {}
-                Err(stop) => return Err(stop),
-            }
-        } else {
-            match take_line(words, place, rest) {
-                Ok(None) => {}
-                Ok(Some(shot)) => {
-                    *place = START;
-                    return Ok(Step::Shot(shot, used));
-                }
-                Err(stop) => return Err(stop),
-            }
+            take_word(words, place, rest)?;
+        } else if let Some(shot) = take_line(words, place, rest)? {
+            *place = START;
+            return Ok(Step::Shot(shot, used));
         }
     }
 }
@@ -192,14 +180,10 @@ fn take_word(words: &mut Words, place: &mut Place, rest: &[u8]) -> Result<(), St
         AnswersDets words.old.detectors rest.now finished rest.now (next.Refused kind))) }
     ensures err { OnErr result (IsPlace words.new rest.now place.new.line place.new.word place.new.seen) }
 {
-    match words.read(&rest[place.word..place.seen]) {
-        Ok(()) => {
-            place.seen += 1;
-            place.word = place.seen;
-            Ok(())
-        }
-        Err(stop) => Err(stop),
-    }
+    words.read(&rest[place.word..place.seen])?;
+    place.seen += 1;
+    place.word = place.seen;
+    Ok(())
 }
 
 /// Takes the last word of a line that its newline has ended: the shot of the line, if it has a word.
@@ -220,16 +204,13 @@ fn take_line(
         AnswersDets words.old.detectors rest.now finished rest.now (next.Refused kind))) }
     ensures err { OnErr result (IsPlace words.new rest.now place.new.line place.new.word place.new.seen) }
 {
-    match end_line(words, &rest[place.word..place.seen]) {
-        Ok(None) => {
-            place.seen += 1;
-            place.word = place.seen;
-            place.line = place.seen;
-            Ok(None)
-        }
-        Ok(Some(shot)) => Ok(Some(shot)),
-        Err(stop) => Err(stop),
+    if let Some(shot) = end_line(words, &rest[place.word..place.seen])? {
+        return Ok(Some(shot));
     }
+    place.seen += 1;
+    place.word = place.seen;
+    place.line = place.seen;
+    Ok(None)
 }
 
 /// Takes the last word of the input: the shot of its line, if it has a word.
@@ -244,11 +225,7 @@ fn take_last(words: &mut Words, place: Place, rest: &[u8]) -> Result<Option<Numb
     ensures refused { IfErr result (IfRefused (λ kind. AnswersDets words.old.detectors rest.now true rest.now (next.Refused kind))) }
     ensures err { OnErr result (IsPlace words.new rest.now place.line place.word place.seen) }
 {
-    match end_line(words, &rest[place.word..place.seen]) {
-        Ok(None) => Ok(None),
-        Ok(Some(shot)) => Ok(Some(shot)),
-        Err(stop) => Err(stop),
-    }
+    end_line(words, &rest[place.word..place.seen])
 }
 
 /// Takes the last word of a line and ends the record.
@@ -261,8 +238,6 @@ fn end_line(words: &mut Words, word: &[u8]) -> Result<Option<Numbers>, Stop<Kind
         with_words words.old.detectors (Ok words.old.named) (if_not_empty (without_return word.now)) ≡ Err kind)) }
     ensures err { OnErr result (words.new ≡ words.old) }
 {
-    match words.read(without_return(word)) {
-        Ok(()) => Ok(words.take()),
-        Err(stop) => Err(stop),
-    }
+    words.read(without_return(word))?;
+    Ok(words.take())
 }

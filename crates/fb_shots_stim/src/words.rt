@@ -138,15 +138,11 @@ fn name(
     if index >= detectors {
         return Err(Stop::Refused(Kind::IndexOutOfRange));
     }
-    let Ok(()) = make_marks(alloc, detectors, marks) else {
-        return Err(Stop::NoMemory);
-    };
+    make_marks(alloc, detectors, marks)?;
     if marks[index as usize] {
         return Err(Stop::Refused(Kind::RepeatedIndex));
     }
-    let Ok(()) = named.push(index) else {
-        return Err(Stop::NoMemory);
-    };
+    named.push(index)?;
     marks[index as usize] = true;
     Ok(())
 }
@@ -161,10 +157,7 @@ fn make_marks(alloc: Global, detectors: u32, marks: &mut Vec<bool>) -> Result<()
     if marks.len() == detectors as usize {
         return Ok(());
     }
-    let Ok(none) = vec![in alloc; false; detectors as usize] else {
-        return Err(NoMemory);
-    };
-    *marks = none;
+    *marks = vec![in alloc; false; detectors as usize]?;
     Ok(())
 }
 

@@ -1,8 +1,9 @@
-use Rattle.std.proofs.Common.{◌+◌, ℕ, Bool, drop, subst, ◌∙◌, arith}
+use Rattle.std.proofs.Common.{◌+◌, ℕ, Bool, drop, subst, ◌∙◌, arith, rules}
+use Rattle.std.specs.Prelude.{IfErr}
 use Rattle.fb_records.specs.declared.answer.Next.TheVariants as next
 use Rattle.fb_records.specs.Answers.{IfRefused}
 use Rattle.fb_shots_stim.specs.StopsDets.{AnswersDets}
-use Rattle.fb_records.proofs.AnswerLemmas.{refused_then}
+use Rattle.fb_records.proofs.AnswerLemmas.{refused_by}
 use Rattle.fb_shots_stim.proofs.PlaceLemmas.{place_start, place_seen, place_open}
 use Rattle.fb_shots_stim.proofs.sparse.advance.Goals as goal
 
@@ -32,27 +33,29 @@ returns-then-not-finished-clause-ok c =
       c.loop-place.invariant.1,
     )
 
-pub returns-in-Ok-Some-take_line-clause-ok : goal.returns-in-Ok-Some-take_line-clause-ok
-returns-in-Ok-Some-take_line-clause-ok c =
+pub returns-in-Some-2-clause-ok : goal.returns-in-Some-2-clause-ok
+returns-in-Some-2-clause-ok c =
     let rest = c.args.rest.now in
-    let found = rw c.in-Ok-Some-take_line.field-0-is at c.in-Ok-Some-take_line.ensures.shot in (
-      subst (λ (n : ℕ). AnswersDets n rest c.args.finished (drop (c.word_end-place.result + 1) rest) (next.Shot c.in-Ok-Some-take_line.shot)) c.loop-place.invariant.1 (found.1 c.args.finished),
+    let found = rw c.in-Some-2.is at c.in_ok-shot-2.ensures.shot in (
+      subst (λ (n : ℕ). AnswersDets n rest c.args.finished (drop (c.word_end-place.result + 1) rest) (next.Shot c.in-Some-2.shot)) c.loop-place.invariant.1 (found.1 c.args.finished),
       place_start c.take_line.new.words (drop (c.word_end-place.result + 1) rest) found.0,
-      c.in-Ok-Some-take_line.ensures.same ∙ c.loop-place.invariant.1,
+      c.in_ok-shot-2.ensures.same ∙ c.loop-place.invariant.1,
     )
 
-pub returns-in-Err-take_word-clause-refused : goal.returns-in-Err-take_word-clause-refused
-returns-in-Err-take_word-clause-refused c =
+pub returns-in_err-take_word-clause-refused : goal.returns-in_err-take_word-clause-refused
+returns-in_err-take_word-clause-refused c =
     let rest = c.args.rest.now in
     let n = c.loop-place.words.detectors in
-    subst (λ (m : ℕ). IfRefused (λ kind. AnswersDets m rest c.args.finished rest (next.Refused kind)) c.in-Err-take_word.stop) c.loop-place.invariant.1
-    (refused_then (λ kind. (finished : Bool) → AnswersDets n rest finished rest (next.Refused kind)) (λ kind. AnswersDets n rest c.args.finished rest (next.Refused kind)) c.in-Err-take_word.stop
-    (λ kind h. h c.args.finished) c.in-Err-take_word.ensures.refused)
+    subst (λ (m : ℕ). IfErr c.from_residual-in_err-take_word.result (IfRefused (λ kind. AnswersDets m rest c.args.finished rest (next.Refused kind)))) c.loop-place.invariant.1
+    (refused_by c.from_residual-in_err-take_word.result c.in_err-take_word.field-0.0
+    (λ kind. (finished : Bool) → AnswersDets n rest finished rest (next.Refused kind)) (λ kind. AnswersDets n rest c.args.finished rest (next.Refused kind))
+    (λ kind h. h c.args.finished) (search rules) c.in_err-take_word.ensures.refused)
 
-pub returns-in-Err-take_line-clause-refused : goal.returns-in-Err-take_line-clause-refused
-returns-in-Err-take_line-clause-refused c =
+pub returns-in_err-shot-2-clause-refused : goal.returns-in_err-shot-2-clause-refused
+returns-in_err-shot-2-clause-refused c =
     let rest = c.args.rest.now in
     let n = c.loop-place.words.detectors in
-    subst (λ (m : ℕ). IfRefused (λ kind. AnswersDets m rest c.args.finished rest (next.Refused kind)) c.in-Err-take_line.stop) c.loop-place.invariant.1
-    (refused_then (λ kind. (finished : Bool) → AnswersDets n rest finished rest (next.Refused kind)) (λ kind. AnswersDets n rest c.args.finished rest (next.Refused kind)) c.in-Err-take_line.stop
-    (λ kind h. h c.args.finished) c.in-Err-take_line.ensures.refused)
+    subst (λ (m : ℕ). IfErr c.from_residual-in_err-shot-2.result (IfRefused (λ kind. AnswersDets m rest c.args.finished rest (next.Refused kind)))) c.loop-place.invariant.1
+    (refused_by c.from_residual-in_err-shot-2.result c.in_err-shot-2.field-0.0
+    (λ kind. (finished : Bool) → AnswersDets n rest finished rest (next.Refused kind)) (λ kind. AnswersDets n rest c.args.finished rest (next.Refused kind))
+    (λ kind h. h c.args.finished) (search rules) c.in_err-shot-2.ensures.refused)

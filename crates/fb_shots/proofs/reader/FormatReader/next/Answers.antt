@@ -17,45 +17,45 @@ use Rattle.fb_shots.specs.Readers.{source_of, IsReaderOf}
 use Rattle.fb_shots.proofs.Readings.{stim_right, json_right}
 use Rattle.fb_shots.proofs.reader.FormatReader.next.Goals as goal
 
-pub returns-in-Ok-clause-meaning : goal.returns-in-Ok-clause-meaning
-returns-in-Ok-clause-meaning c =
+pub returns-in_ok-next-in-Text01-clause-meaning : goal.returns-in_ok-next-in-Text01-clause-meaning
+returns-in_ok-next-in-Text01-clause-meaning c =
     let g = c.args.graph.now in
     let old = c.in-Text01.reader in
     let new = c.next.new.self in
     let n : old.subject ≡ length (detectors_of g) = subst (IsReaderOf g) c.in-Text01.is c.requires in
     subst₂ (λ (r : FormatReader) (a : Next). Answers (source_of g r) (source_of g (Text01 new)) a) (sym c.in-Text01.is) (sym c.on_vertices.ensures)
-    (stim_right format.Text01 g records_01 front_01 after_line old new c.in-Ok.answer
+    (stim_right format.Text01 g records_01 front_01 after_line old new c.in_ok-next-in-Text01.field-0
     (λ bytes. ap (λ (m : ℕ). of_stim g (records_01 m bytes)) (sym n)) (λ bytes. ap (λ (m : ℕ). of_stim g (front_01 m bytes)) (sym n))
-    n c.in-Ok.ensures.shot c.in-Ok.ensures.meaning)
+    n c.in_ok-next-in-Text01.ensures.shot c.in_ok-next-in-Text01.ensures.meaning)
 
-pub returns-in-Ok-next-clause-meaning : goal.returns-in-Ok-next-clause-meaning
-returns-in-Ok-next-clause-meaning c =
+pub returns-in_ok-next-in-B8-clause-meaning : goal.returns-in_ok-next-in-B8-clause-meaning
+returns-in_ok-next-in-B8-clause-meaning c =
     let g = c.args.graph.now in
     let old = c.in-B8.reader in
     let new = c.next-in-B8.new.self in
     let n : old.subject ≡ length (detectors_of g) = subst (IsReaderOf g) c.in-B8.is c.requires in
-    subst₂ (λ (r : FormatReader) (a : Next). Answers (source_of g r) (source_of g (B8 new)) a) (sym c.in-B8.is) (sym c.on_vertices-in-Ok-next.ensures)
-    (stim_right format.B8 g records_b8 front_b8 (drop (block_len old.subject)) old new c.in-Ok-next.answer
+    subst₂ (λ (r : FormatReader) (a : Next). Answers (source_of g r) (source_of g (B8 new)) a) (sym c.in-B8.is) (sym c.on_vertices-in-B8.ensures)
+    (stim_right format.B8 g records_b8 front_b8 (drop (block_len old.subject)) old new c.in_ok-next-in-B8.field-0
     (λ bytes. ap (λ (m : ℕ). of_stim g (records_b8 m bytes)) (sym n)) (λ bytes. ap (λ (m : ℕ). of_stim g (front_b8 m bytes)) (sym n))
-    n c.in-Ok-next.ensures.shot c.in-Ok-next.ensures.meaning)
+    n c.in_ok-next-in-B8.ensures.shot c.in_ok-next-in-B8.ensures.meaning)
 
-pub returns-in-Ok-next-2-clause-meaning : goal.returns-in-Ok-next-2-clause-meaning
-returns-in-Ok-next-2-clause-meaning c =
+pub returns-in_ok-next-in-Dets-clause-meaning : goal.returns-in_ok-next-in-Dets-clause-meaning
+returns-in_ok-next-in-Dets-clause-meaning c =
     let g = c.args.graph.now in
     let old = c.in-Dets.reader in
     let new = c.next-in-Dets.new.self in
     let n : old.subject ≡ length (detectors_of g) = subst (IsReaderOf g) c.in-Dets.is c.requires in
-    subst₂ (λ (r : FormatReader) (a : Next). Answers (source_of g r) (source_of g (Dets new)) a) (sym c.in-Dets.is) (sym c.on_vertices-in-Ok-next-2.ensures)
-    (stim_right format.Dets g records_dets front_dets after_record old new c.in-Ok-next-2.answer
+    subst₂ (λ (r : FormatReader) (a : Next). Answers (source_of g r) (source_of g (Dets new)) a) (sym c.in-Dets.is) (sym c.on_vertices-in-Dets.ensures)
+    (stim_right format.Dets g records_dets front_dets after_record old new c.in_ok-next-in-Dets.field-0
     (λ bytes. ap (λ (m : ℕ). of_stim g (records_dets m bytes)) (sym n)) (λ bytes. ap (λ (m : ℕ). of_stim g (front_dets m bytes)) (sym n))
-    n c.in-Ok-next-2.ensures.shot c.in-Ok-next-2.ensures.meaning)
+    n c.in_ok-next-in-Dets.ensures.shot c.in_ok-next-in-Dets.ensures.meaning)
 
-pub returns-in-Ok-next-3-clause-meaning : goal.returns-in-Ok-next-3-clause-meaning
-returns-in-Ok-next-3-clause-meaning c =
+pub returns-in_ok-next-in-Json-clause-meaning : goal.returns-in_ok-next-in-Json-clause-meaning
+returns-in_ok-next-in-Json-clause-meaning c =
     let g = c.args.graph.now in
     let old = c.in-Json.reader in
     let new = c.next-in-Json.new.self in
     let same : old.subject ≡ g = subst (IsReaderOf g) c.in-Json.is c.requires in
     subst₂ (λ (r : FormatReader) (a : Next). Answers (source_of g r) (source_of g (Json new)) a) (sym c.in-Json.is) (sym c.of_vertices.ensures)
-    (json_right g old new c.in-Ok-next-3.answer same
-    (subst (λ (x : DecodingGraph). IfShot (IsShot x) c.in-Ok-next-3.answer) same c.in-Ok-next-3.ensures.shot) c.in-Ok-next-3.ensures.meaning)
+    (json_right g old new c.in_ok-next-in-Json.field-0 same
+    (subst (λ (x : DecodingGraph). IfShot (IsShot x) c.in_ok-next-in-Json.field-0) same c.in_ok-next-in-Json.ensures.shot) c.in_ok-next-in-Json.ensures.meaning)

@@ -1,0 +1,13 @@
+-- What it is called, where it is printed, why a line is refused.
+use Rattle.std.specs.Prelude.{ℕ, List, codes}
+use Rattle.fb_shots_json.specs.declared.answer.Kind.{Kind}
+use Rattle.fb_shots_json.specs.declared.answer.Kind.TheVariants.{LineTooLong, NotJson, NoDefects, DefectOutOfRange, DefectOnVirtual, DefectRepeated, ErasureNotTaken}
+
+abbrev pub kind_name : Kind → List ℕ
+kind_name LineTooLong = codes "LineTooLong"
+kind_name NotJson = codes "NotJson"
+kind_name NoDefects = codes "NoDefects"
+kind_name DefectOutOfRange = codes "DefectOutOfRange"
+kind_name DefectOnVirtual = codes "DefectOnVirtual"
+kind_name DefectRepeated = codes "DefectRepeated"
+kind_name ErasureNotTaken = codes "ErasureNotTaken"
