@@ -7,9 +7,10 @@ use Rattle.std.proofs.lemmas.List.Sums.{sum_by_push}
 use Rattle.fb_graph.specs.Limits.{DecodingGraph}
 use Rattle.fb_graph.specs.declared.parts.Row.{Row}
 use Rattle.fb_ports.specs.Causes.{Appends}
+use Rattle.fb_verify.specs.VerdictTexts.{is_bad}
 use Rattle.fb_verify.specs.Verdicts.{IsVerdict}
 use Rattle.fb_verify.specs.declared.verdicts.Verdict.{Verdict}
-use Rattle.fb_check.specs.Checks.{AreVerdicts, IsPairVerdict, bad_count, is_bad, pairs_of, verdict_line, verdict_lines}
+use Rattle.fb_check.specs.Checks.{AreVerdicts, IsPairVerdict, bad_count, pairs_of, verdict_line, verdict_lines}
 use Rattle.fb_inputs.specs.Outboxes.{Moves}
 use Rattle.fb_check.specs.Judges.{AddsLine, JudgesNext}
 

@@ -4,9 +4,10 @@ use Rattle.fb_graph.specs.Limits.{DecodingGraph}
 use Rattle.fb_graph.specs.declared.parts.Row.{Row}
 use Rattle.fb_ports.specs.Causes.{Appends, AppendsFront}
 use Rattle.fb_shots.specs.declared.answer.Format.{Format}
+use Rattle.fb_verify.specs.VerdictTexts.{is_bad}
 use Rattle.fb_verify.specs.Verdicts.{IsVerdict}
 use Rattle.fb_verify.specs.declared.verdicts.Verdict.{Verdict}
-use Rattle.fb_check.specs.Checks.{AreVerdicts, bad_count, check_cause, check_last, is_bad, verdict_line, verdict_lines}
+use Rattle.fb_check.specs.Checks.{AreVerdicts, bad_count, check_cause, check_last, verdict_line, verdict_lines}
 use Rattle.fb_inputs.specs.Judging.{HasFirstShots, Holds, Named}
 use Rattle.fb_check.specs.declared.checking.Judged.{Judged}
 use Rattle.fb_endings.specs.declared.ending.Cause.{Cause}

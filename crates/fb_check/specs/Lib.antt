@@ -1,6 +1,5 @@
 pub mod Ends
 pub mod Checks
-pub mod Numbers
 pub mod Judges
 pub mod NoReports
 pub mod CheckEndings

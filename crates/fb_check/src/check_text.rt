@@ -3,20 +3,11 @@
 ghost use Rattle.std.specs.Prelude.{◌≡◌, [], ◌∷◌, codes, decimal, OnOk, OnErr};
 ghost use Rattle.fb_ports.specs.Causes.{Appends, AppendsFront, HasCause};
 ghost use Rattle.fb_report.specs.Texts.{line};
-ghost use Rattle.fb_check.specs.Checks.{check_head, check_last, is_bad, verdict_line, verdict_name, verdict_numbers};
-ghost use Rattle.fb_check.specs.Numbers.{numbers_in};
+ghost use Rattle.fb_check.specs.Checks.{check_head, check_last, verdict_line};
 
 use fb_ports::{Failed, Sink, put_all, put_parts};
-use fb_verify::Verdict;
+use fb_verify::{Numbers, Verdict};
 use itoa::Buffer;
-
-/// The numbers that a verdict tells.
-#[derive(Clone, Copy, Debug, PartialEq, Eq)]
-pub enum Numbers {
-    Nothing,
-    One(u64),
-    Two(u64, u128),
-}
 
 /// Puts the first line of a check, `check-report 1`.
 #[tactic(auto, unfolding(crate::specs::Checks::check_head))]
@@ -35,10 +26,10 @@ pub fn put_verdict<S: Sink>(sink: &mut S, shot: u32, verdict: Verdict) -> Result
     ensures front { OnErr result (AppendsFront (S.taken sink.old) (S.taken sink.new) (verdict_line shot verdict)) }
     ensures cause { HasCause (S.faults sink.old) (S.faults sink.new) result }
 {
-    match verdict_numbers(verdict) {
-        Numbers::Nothing => put_bare(sink, shot, verdict_name(verdict)),
-        Numbers::One(number) => put_number(sink, shot, verdict_name(verdict), number),
-        Numbers::Two(weight, sum) => put_sums(sink, shot, verdict_name(verdict), weight, sum),
+    match verdict.numbers() {
+        Numbers::Nothing => put_bare(sink, shot, verdict.name()),
+        Numbers::One(number) => put_number(sink, shot, verdict.name(), number),
+        Numbers::Two(weight, sum) => put_sums(sink, shot, verdict.name(), weight, sum),
     }
 }
 
@@ -124,51 +115,4 @@ pub fn put_check_last<S: Sink>(sink: &mut S, rows: u64, shots: u64, bad: u64) ->
         sink,
         &[b"rows ", rows, b" shots ", shots, b" bad ", bad, b"\n"],
     )
-}
-
-pub fn is_bad(verdict: Verdict) -> bool
-    ensures { result ≡ is_bad verdict }
-{
-    !matches!(verdict, Verdict::Good)
-}
-
-/// What a verdict is called.
-fn verdict_name(verdict: Verdict) -> &'static str
-    ensures { result.now ≡ verdict_name verdict }
-{
-    match verdict {
-        Verdict::Good => "good",
-        Verdict::EdgeOutOfRange(_) => "bad EdgeOutOfRange",
-        Verdict::EdgesNotRising(_) => "bad EdgesNotRising",
-        Verdict::WrongParity(_) => "bad WrongParity",
-        Verdict::WeightNotSum(_, _) => "bad WeightNotSum",
-        Verdict::CutEmpty(_) => "bad CutEmpty",
-        Verdict::VertexOutOfRange(_) => "bad VertexOutOfRange",
-        Verdict::CutsNotRising(_) => "bad CutsNotRising",
-        Verdict::CutHoldsVirtual(_) => "bad CutHoldsVirtual",
-        Verdict::CutEven(_) => "bad CutEven",
-        Verdict::Overloaded(_) => "bad Overloaded",
-        Verdict::SumDiffers(_, _) => "bad SumDiffers",
-        Verdict::OddWrong(_) => "bad OddWrong",
-    }
-}
-
-fn verdict_numbers(verdict: Verdict) -> Numbers
-    ensures { numbers_in result ≡ verdict_numbers verdict }
-{
-    match verdict {
-        Verdict::Good => Numbers::Nothing,
-        Verdict::EdgeOutOfRange(e) => Numbers::One(u64::from(e)),
-        Verdict::EdgesNotRising(e) => Numbers::One(u64::from(e)),
-        Verdict::WrongParity(v) => Numbers::One(u64::from(v)),
-        Verdict::WeightNotSum(weight, sum) => Numbers::Two(weight, sum),
-        Verdict::CutEmpty(j) => Numbers::One(j),
-        Verdict::VertexOutOfRange(v) => Numbers::One(u64::from(v)),
-        Verdict::CutsNotRising(j) => Numbers::One(j),
-        Verdict::CutHoldsVirtual(v) => Numbers::One(u64::from(v)),
-        Verdict::CutEven(j) => Numbers::One(j),
-        Verdict::Overloaded(e) => Numbers::One(u64::from(e)),
-        Verdict::SumDiffers(weight, sum) => Numbers::Two(weight, sum),
-        Verdict::OddWrong(v) => Numbers::One(u64::from(v)),
-    }
 }

@@ -14,7 +14,7 @@ ghost use Rattle.fb_inputs.specs.Moments.{moment};
 ghost use Rattle.fb_check.specs.NoReports.{IfNoReport};
 ghost use Rattle.fb_words.specs.Seen.{seen_checking};
 
-use crate::check_text::{is_bad, put_check_head, put_check_last, put_verdict};
+use crate::check_text::{put_check_head, put_check_last, put_verdict};
 use fb_endings::{Cause, Refusal};
 use fb_graph::{Graph, NoMemory, Row, Shot};
 use fb_inputs::{NoGraph, Outbox, RowsFault, ShotsEnd, read_graph_file, read_named};
@@ -351,5 +351,5 @@ fn judge_next(
     let Ok(()) = put_verdict(outbox, k as u32, verdict) else {
         return Err(NoMemory);
     };
-    Ok(is_bad(verdict))
+    Ok(verdict.is_bad())
 }

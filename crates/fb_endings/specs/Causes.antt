@@ -1,7 +1,11 @@
 -- How a run ends: its status and what it says on standard error.
 use Rattle.std.specs.Prelude.{ℕ, List, [], ◌∷◌, ◌++◌, codes, decimal, Option, Some, None}
 use Rattle.fb_report.specs.Texts.{line}
-use Rattle.fb_endings.specs.Faults.{graph_name, graph_number, graph_place, kind_name, plan_name, plan_number, plan_place, report_name, report_number, report_place, sample_name}
+use Rattle.fb_gen.specs.FaultTexts as sample
+use Rattle.fb_graph_in.specs.FaultTexts as graph
+use Rattle.fb_plan.specs.FaultTexts as plan
+use Rattle.fb_shots.specs.FaultTexts as shot
+use Rattle.fb_verify.specs.FaultTexts as report
 use Rattle.fb_endings.specs.declared.ending.Cause.{Cause}
 use Rattle.fb_endings.specs.declared.ending.Cause.TheVariants.{Done, Odd, Bad, Refused, ReadFault, WriteFault, NoMemory, Usage}
 use Rattle.fb_endings.specs.declared.ending.Refusal.{Refusal}
@@ -20,23 +24,23 @@ status_of (Usage kind) = 6
 
 -- what is refused, and where it stands
 abbrev pub refusal_name : Refusal → List ℕ
-refusal_name (refusal.Graph fault) = graph_name fault
-refusal_name (refusal.Plan fault) = plan_name fault
-refusal_name (refusal.Report fault) = report_name fault
-refusal_name (refusal.Shot fault) = kind_name fault.kind
-refusal_name (refusal.Sample fault) = sample_name fault
+refusal_name (refusal.Graph fault) = graph.fault_name fault
+refusal_name (refusal.Plan fault) = plan.fault_name fault
+refusal_name (refusal.Report fault) = report.fault_name fault
+refusal_name (refusal.Shot fault) = shot.kind_name fault.kind
+refusal_name (refusal.Sample fault) = sample.fault_name fault
 
 abbrev pub refusal_place : Refusal → Option (List ℕ)
-refusal_place (refusal.Graph fault) = graph_place fault
-refusal_place (refusal.Plan fault) = plan_place fault
-refusal_place (refusal.Report fault) = report_place fault
+refusal_place (refusal.Graph fault) = graph.fault_place fault
+refusal_place (refusal.Plan fault) = plan.fault_place fault
+refusal_place (refusal.Report fault) = report.fault_place fault
 refusal_place (refusal.Shot fault) = Some (codes "shot")
 refusal_place (refusal.Sample fault) = None
 
 abbrev pub refusal_number : Refusal → Option ℕ
-refusal_number (refusal.Graph fault) = graph_number fault
-refusal_number (refusal.Plan fault) = plan_number fault
-refusal_number (refusal.Report fault) = report_number fault
+refusal_number (refusal.Graph fault) = graph.fault_number fault
+refusal_number (refusal.Plan fault) = plan.fault_number fault
+refusal_number (refusal.Report fault) = report.fault_number fault
 refusal_number (refusal.Shot fault) = Some fault.shot
 refusal_number (refusal.Sample fault) = None
 

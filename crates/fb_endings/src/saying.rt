@@ -4,18 +4,9 @@ ghost use Rattle.std.specs.Prelude.{◌≡◌, ◌≢◌, ◌<◌, ◌^◌, ◌-
 ghost use Rattle.fb_ports.specs.Causes.{AppendsFront, HasCause};
 ghost use Rattle.std.specs.Io.KnownBytes.{Appends};
 ghost use Rattle.fb_endings.specs.Causes.{line_of, fixed_line, refusal_line, refusal_name, refusal_place, refusal_number};
-ghost use Rattle.fb_endings.specs.Faults.{graph_name, graph_place, graph_number, member_name, member_of, plan_name, plan_number, plan_place, report_name, report_number, report_place, rule_name, rule_number, kind_name, sample_name, stim_name, json_name};
 
 use crate::ending::{Cause, Refusal};
-use fb_gen::GenFault;
-use fb_graph::GraphFault;
-use fb_graph_in::{Member, Place, TextFault};
-use fb_plan::{Member as PlanMember, Place as PlanPlace, PlanFault};
 use fb_ports::{Failed, Sink, put_all, put_parts};
-use fb_shots::Kind;
-use fb_shots_json::Kind as JsonKind;
-use fb_shots_stim::Kind as StimKind;
-use fb_verify::ReportFault;
 use fb_words::UsageKind;
 use itoa::Buffer;
 
@@ -97,11 +88,11 @@ impl Refusal {
         ensures { result.now ≡ refusal_name self }
     {
         match self {
-            Refusal::Graph(fault) => graph_name(fault),
-            Refusal::Plan(fault) => plan_name(fault),
-            Refusal::Report(fault) => report_name(fault),
-            Refusal::Shot(fault) => kind_name(fault.kind),
-            Refusal::Sample(fault) => sample_name(fault),
+            Refusal::Graph(fault) => fault.name(),
+            Refusal::Plan(fault) => fault.name(),
+            Refusal::Report(fault) => fault.name(),
+            Refusal::Shot(fault) => fault.kind.name(),
+            Refusal::Sample(fault) => fault.name(),
         }
     }
 
@@ -110,9 +101,9 @@ impl Refusal {
         ensures { option_map (λ s. s.now) result ≡ refusal_place self }
     {
         match self {
-            Refusal::Graph(fault) => graph_place(fault),
-            Refusal::Plan(fault) => plan_place(fault),
-            Refusal::Report(fault) => report_place(fault),
+            Refusal::Graph(fault) => fault.place(),
+            Refusal::Plan(fault) => fault.place(),
+            Refusal::Report(fault) => fault.place(),
             Refusal::Shot(_) => Some("shot"),
             Refusal::Sample(_) => None,
         }
@@ -123,229 +114,11 @@ impl Refusal {
         ensures { result ≡ refusal_number self }
     {
         match self {
-            Refusal::Graph(fault) => graph_number(fault),
-            Refusal::Plan(fault) => plan_number(fault),
-            Refusal::Report(fault) => report_number(fault),
+            Refusal::Graph(fault) => fault.number(),
+            Refusal::Plan(fault) => fault.number(),
+            Refusal::Report(fault) => fault.number(),
             Refusal::Shot(fault) => Some(u64::from(fault.shot)),
             Refusal::Sample(_) => None,
         }
-    }
-}
-
-fn graph_name(fault: TextFault) -> &'static str
-    ensures { result.now ≡ graph_name fault }
-{
-    match fault {
-        TextFault::TooLong => "TooLong",
-        TextFault::NotJson => "NotJson",
-        TextFault::Missing(_) => "Missing",
-        TextFault::NotWhole(_) => "NotWhole",
-        TextFault::Graph(rule) => rule_name(rule),
-        TextFault::NoMemory => "NoMemory",
-    }
-}
-
-fn graph_place(fault: TextFault) -> Option<&'static str>
-    ensures { option_map (λ s. s.now) result ≡ graph_place fault }
-{
-    match fault {
-        TextFault::TooLong => Some("graph"),
-        TextFault::Missing(member) => Some(member_name(member)),
-        TextFault::NotWhole(place) => Some(member_name(member_of(place))),
-        _ => None,
-    }
-}
-
-fn graph_number(fault: TextFault) -> Option<u64>
-    ensures { result ≡ graph_number fault }
-{
-    match fault {
-        TextFault::NotWhole(Place::Edge(i)) => Some(i),
-        TextFault::NotWhole(Place::Virtual(i)) => Some(i),
-        TextFault::Graph(rule) => rule_number(rule),
-        _ => None,
-    }
-}
-
-/// The member that a place is in.
-fn member_of(place: Place) -> Member
-    ensures { result ≡ member_of place }
-{
-    match place {
-        Place::VertexNum => Member::VertexNum,
-        Place::WeightedEdges | Place::Edge(_) => Member::WeightedEdges,
-        Place::VirtualVertices | Place::Virtual(_) => Member::VirtualVertices,
-    }
-}
-
-fn member_name(member: Member) -> &'static str
-    ensures { result.now ≡ member_name member }
-{
-    match member {
-        Member::VertexNum => "vertex_num",
-        Member::WeightedEdges => "weighted_edges",
-        Member::VirtualVertices => "virtual_vertices",
-    }
-}
-
-fn rule_name(rule: GraphFault) -> &'static str
-    ensures { result.now ≡ rule_name rule }
-{
-    match rule {
-        GraphFault::TooManyVertices => "TooManyVertices",
-        GraphFault::TooManyEdges => "TooManyEdges",
-        GraphFault::EndOutOfRange(_) => "EndOutOfRange",
-        GraphFault::SelfLoop(_) => "SelfLoop",
-        GraphFault::OddWeight(_) => "OddWeight",
-        GraphFault::WeightTooLarge(_) => "WeightTooLarge",
-        GraphFault::NegativeWeight(_) => "NegativeWeight",
-        GraphFault::VirtualOutOfRange(_) => "VirtualOutOfRange",
-        GraphFault::VirtualRepeated(_) => "VirtualRepeated",
-        GraphFault::NoMemory => "NoMemory",
-    }
-}
-
-fn rule_number(rule: GraphFault) -> Option<u64>
-    ensures { result ≡ rule_number rule }
-{
-    match rule {
-        GraphFault::TooManyVertices | GraphFault::TooManyEdges | GraphFault::NoMemory => None,
-        GraphFault::EndOutOfRange(i) => Some(i),
-        GraphFault::SelfLoop(i) => Some(i),
-        GraphFault::OddWeight(i) => Some(i),
-        GraphFault::WeightTooLarge(i) => Some(i),
-        GraphFault::NegativeWeight(i) => Some(i),
-        GraphFault::VirtualOutOfRange(i) => Some(i),
-        GraphFault::VirtualRepeated(i) => Some(i),
-    }
-}
-
-fn plan_name(fault: PlanFault) -> &'static str
-    ensures { result.now ≡ plan_name fault }
-{
-    match fault {
-        PlanFault::TooLong => "TooLong",
-        PlanFault::NotJson => "NotJson",
-        PlanFault::Missing(_) => "Missing",
-        PlanFault::NotWhole(_) => "NotWhole",
-        PlanFault::TooManyUnits => "TooManyUnits",
-        PlanFault::BadRange(_) => "BadRange",
-        PlanFault::VertexUnowned(_) => "VertexUnowned",
-        PlanFault::VertexTwice(_) => "VertexTwice",
-        PlanFault::ChildOutOfRange(_) => "ChildOutOfRange",
-        PlanFault::ChildUsedTwice(_) => "ChildUsedTwice",
-        PlanFault::NotOneRoot => "NotOneRoot",
-        PlanFault::EdgeAcross(_) => "EdgeAcross",
-        PlanFault::NoMemory => "NoMemory",
-    }
-}
-
-fn plan_place(fault: PlanFault) -> Option<&'static str>
-    ensures { option_map (λ s. s.now) result ≡ plan_place fault }
-{
-    match fault {
-        PlanFault::TooLong => Some("plan"),
-        PlanFault::Missing(PlanMember::Units) => Some("units"),
-        PlanFault::Missing(PlanMember::Fusions) => Some("fusions"),
-        PlanFault::NotWhole(PlanPlace::Units | PlanPlace::Unit(_)) => Some("units"),
-        PlanFault::NotWhole(PlanPlace::Fusions | PlanPlace::Fusion(_)) => Some("fusions"),
-        _ => None,
-    }
-}
-
-fn plan_number(fault: PlanFault) -> Option<u64>
-    ensures { result ≡ plan_number fault }
-{
-    match fault {
-        PlanFault::NotWhole(PlanPlace::Unit(i)) => Some(i),
-        PlanFault::NotWhole(PlanPlace::Fusion(i)) => Some(i),
-        PlanFault::BadRange(i) => Some(i),
-        PlanFault::VertexUnowned(i) => Some(i),
-        PlanFault::VertexTwice(i) => Some(i),
-        PlanFault::ChildOutOfRange(i) => Some(i),
-        PlanFault::ChildUsedTwice(i) => Some(i),
-        PlanFault::EdgeAcross(i) => Some(i),
-        _ => None,
-    }
-}
-
-fn report_name(fault: ReportFault) -> &'static str
-    ensures { result.now ≡ report_name fault }
-{
-    match fault {
-        ReportFault::BadLine(_) => "BadLine",
-        ReportFault::WrongShot(_) => "WrongShot",
-        ReportFault::Unfinished => "Unfinished",
-        ReportFault::TooLong => "TooLong",
-        ReportFault::NoMemory => "NoMemory",
-    }
-}
-
-fn report_place(fault: ReportFault) -> Option<&'static str>
-    ensures { option_map (λ s. s.now) result ≡ report_place fault }
-{
-    match fault {
-        ReportFault::TooLong => Some("report"),
-        _ => None,
-    }
-}
-
-fn report_number(fault: ReportFault) -> Option<u64>
-    ensures { result ≡ report_number fault }
-{
-    match fault {
-        ReportFault::BadLine(n) => Some(n),
-        ReportFault::WrongShot(n) => Some(n),
-        _ => None,
-    }
-}
-
-fn kind_name(kind: Kind) -> &'static str
-    ensures { result.now ≡ kind_name kind }
-{
-    match kind {
-        Kind::Stim(kind) => stim_name(kind),
-        Kind::Json(kind) => json_name(kind),
-        Kind::TooManyShots => "TooManyShots",
-        Kind::InputTooLong => "InputTooLong",
-    }
-}
-
-fn stim_name(kind: StimKind) -> &'static str
-    ensures { result.now ≡ stim_name kind }
-{
-    match kind {
-        StimKind::BadByte => "BadByte",
-        StimKind::ShortRecord => "ShortRecord",
-        StimKind::LongRecord => "LongRecord",
-        StimKind::PaddingBit => "PaddingBit",
-        StimKind::BadToken => "BadToken",
-        StimKind::IndexOutOfRange => "IndexOutOfRange",
-        StimKind::RepeatedIndex => "RepeatedIndex",
-        StimKind::MeasurementToken => "MeasurementToken",
-    }
-}
-
-fn json_name(kind: JsonKind) -> &'static str
-    ensures { result.now ≡ json_name kind }
-{
-    match kind {
-        JsonKind::LineTooLong => "LineTooLong",
-        JsonKind::NotJson => "NotJson",
-        JsonKind::NoDefects => "NoDefects",
-        JsonKind::DefectOutOfRange => "DefectOutOfRange",
-        JsonKind::DefectOnVirtual => "DefectOnVirtual",
-        JsonKind::DefectRepeated => "DefectRepeated",
-        JsonKind::ErasureNotTaken => "ErasureNotTaken",
-    }
-}
-
-fn sample_name(fault: GenFault) -> &'static str
-    ensures { result.now ≡ sample_name fault }
-{
-    match fault {
-        GenFault::LatticeTooLarge => "LatticeTooLarge",
-        GenFault::TooFewRounds => "TooFewRounds",
-        GenFault::NoMemory => "NoMemory",
     }
 }

@@ -1,3 +1,6 @@
+ghost use Rattle.std.specs.Prelude.{◌≡◌, option_map};
+ghost use Rattle.fb_graph_in.specs.FaultTexts.{fault_name, fault_number, fault_place, member_name, member_of};
+
 use fb_graph::GraphFault;
 
 /// Why a text is no decoding graph.
@@ -38,4 +41,70 @@ pub enum Place {
     Edge(u64),
     /// An entry of `virtual_vertices`, which is a whole number of at least 0.
     Virtual(u64),
+}
+
+impl TextFault {
+    /// What it is called where it is printed.
+    pub fn name(self) -> &'static str
+        ensures { result.now ≡ fault_name self }
+    {
+        match self {
+            TextFault::TooLong => "TooLong",
+            TextFault::NotJson => "NotJson",
+            TextFault::Missing(_) => "Missing",
+            TextFault::NotWhole(_) => "NotWhole",
+            TextFault::Graph(rule) => rule.name(),
+            TextFault::NoMemory => "NoMemory",
+        }
+    }
+
+    /// The word of its place, where it has one.
+    pub fn place(self) -> Option<&'static str>
+        ensures { option_map (λ s. s.now) result ≡ fault_place self }
+    {
+        match self {
+            TextFault::TooLong => Some("graph"),
+            TextFault::Missing(member) => Some(member.name()),
+            TextFault::NotWhole(place) => Some(place.member().name()),
+            _ => None,
+        }
+    }
+
+    /// The number of its place, where it has one: that of an entry, or the one of the rule that is broken.
+    pub fn number(self) -> Option<u64>
+        ensures { result ≡ fault_number self }
+    {
+        match self {
+            TextFault::NotWhole(Place::Edge(i)) => Some(i),
+            TextFault::NotWhole(Place::Virtual(i)) => Some(i),
+            TextFault::Graph(rule) => rule.number(),
+            _ => None,
+        }
+    }
+}
+
+impl Member {
+    /// Its name in the text.
+    pub fn name(self) -> &'static str
+        ensures { result.now ≡ member_name self }
+    {
+        match self {
+            Member::VertexNum => "vertex_num",
+            Member::WeightedEdges => "weighted_edges",
+            Member::VirtualVertices => "virtual_vertices",
+        }
+    }
+}
+
+impl Place {
+    /// The member that it is, or is in.
+    pub fn member(self) -> Member
+        ensures { result ≡ member_of self }
+    {
+        match self {
+            Place::VertexNum => Member::VertexNum,
+            Place::WeightedEdges | Place::Edge(_) => Member::WeightedEdges,
+            Place::VirtualVertices | Place::Virtual(_) => Member::VirtualVertices,
+        }
+    }
 }

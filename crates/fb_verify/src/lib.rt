@@ -24,4 +24,4 @@ pub use laws::{reads_as_is, reads_back};
 pub use report_faults::ReportFault;
 pub use report_text::{MOST_REPORT_BYTES, read_report};
 pub use reports::{Report, RowList, Totals};
-pub use verdicts::Verdict;
+pub use verdicts::{Numbers, Verdict};

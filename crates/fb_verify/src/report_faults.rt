@@ -1,3 +1,6 @@
+ghost use Rattle.std.specs.Prelude.{◌≡◌, option_map};
+ghost use Rattle.fb_verify.specs.FaultTexts.{fault_name, fault_number, fault_place};
+
 use thiserror::Error;
 
 /// Why a text is no report. Lines are counted from 1.
@@ -20,4 +23,40 @@ pub enum ReportFault {
     TooLong,
     #[error("out of memory")]
     NoMemory,
+}
+
+impl ReportFault {
+    /// What it is called where it is printed.
+    pub fn name(self) -> &'static str
+        ensures { result.now ≡ fault_name self }
+    {
+        match self {
+            ReportFault::BadLine(_) => "BadLine",
+            ReportFault::WrongShot(_) => "WrongShot",
+            ReportFault::Unfinished => "Unfinished",
+            ReportFault::TooLong => "TooLong",
+            ReportFault::NoMemory => "NoMemory",
+        }
+    }
+
+    /// The word of its place, where it has one.
+    pub fn place(self) -> Option<&'static str>
+        ensures { option_map (λ s. s.now) result ≡ fault_place self }
+    {
+        match self {
+            ReportFault::TooLong => Some("report"),
+            _ => None,
+        }
+    }
+
+    /// The number of its line, where it has one.
+    pub fn number(self) -> Option<u64>
+        ensures { result ≡ fault_number self }
+    {
+        match self {
+            ReportFault::BadLine(line) => Some(line),
+            ReportFault::WrongShot(line) => Some(line),
+            _ => None,
+        }
+    }
 }

@@ -1,3 +1,6 @@
+ghost use Rattle.std.specs.Prelude.{◌≡◌};
+ghost use Rattle.fb_verify.specs.VerdictTexts.{is_bad, numbers_in, verdict_name, verdict_numbers};
+
 /// What a check finds of a row: good, or the first rule that it breaks. Edges, vertices and cuts are named by their
 /// numbers, which count from 0.
 #[derive(Clone, Copy, Debug, PartialEq, Eq)]
@@ -28,4 +31,63 @@ pub enum Verdict {
     SumDiffers(u64, u128),
     /// The vertex of an odd row that isn't the least of the first odd component.
     OddWrong(u32),
+}
+
+/// The numbers that are printed with a verdict.
+#[derive(Clone, Copy, Debug, PartialEq, Eq)]
+pub enum Numbers {
+    Nothing,
+    One(u64),
+    Two(u64, u128),
+}
+
+impl Verdict {
+    /// Whether the row breaks a rule.
+    pub fn is_bad(self) -> bool
+        ensures { result ≡ is_bad self }
+    {
+        !matches!(self, Verdict::Good)
+    }
+
+    /// What it is called where it is printed: `good`, or `bad` and the rule.
+    pub fn name(self) -> &'static str
+        ensures { result.now ≡ verdict_name self }
+    {
+        match self {
+            Verdict::Good => "good",
+            Verdict::EdgeOutOfRange(_) => "bad EdgeOutOfRange",
+            Verdict::EdgesNotRising(_) => "bad EdgesNotRising",
+            Verdict::WrongParity(_) => "bad WrongParity",
+            Verdict::WeightNotSum(_, _) => "bad WeightNotSum",
+            Verdict::CutEmpty(_) => "bad CutEmpty",
+            Verdict::VertexOutOfRange(_) => "bad VertexOutOfRange",
+            Verdict::CutsNotRising(_) => "bad CutsNotRising",
+            Verdict::CutHoldsVirtual(_) => "bad CutHoldsVirtual",
+            Verdict::CutEven(_) => "bad CutEven",
+            Verdict::Overloaded(_) => "bad Overloaded",
+            Verdict::SumDiffers(_, _) => "bad SumDiffers",
+            Verdict::OddWrong(_) => "bad OddWrong",
+        }
+    }
+
+    /// The numbers that are printed after its name.
+    pub fn numbers(self) -> Numbers
+        ensures { numbers_in result ≡ verdict_numbers self }
+    {
+        match self {
+            Verdict::Good => Numbers::Nothing,
+            Verdict::EdgeOutOfRange(e) => Numbers::One(u64::from(e)),
+            Verdict::EdgesNotRising(e) => Numbers::One(u64::from(e)),
+            Verdict::WrongParity(v) => Numbers::One(u64::from(v)),
+            Verdict::WeightNotSum(weight, sum) => Numbers::Two(weight, sum),
+            Verdict::CutEmpty(j) => Numbers::One(j),
+            Verdict::VertexOutOfRange(v) => Numbers::One(u64::from(v)),
+            Verdict::CutsNotRising(j) => Numbers::One(j),
+            Verdict::CutHoldsVirtual(v) => Numbers::One(u64::from(v)),
+            Verdict::CutEven(j) => Numbers::One(j),
+            Verdict::Overloaded(e) => Numbers::One(u64::from(e)),
+            Verdict::SumDiffers(weight, sum) => Numbers::Two(weight, sum),
+            Verdict::OddWrong(v) => Numbers::One(u64::from(v)),
+        }
+    }
 }

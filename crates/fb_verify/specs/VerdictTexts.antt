@@ -1,0 +1,60 @@
+-- What a verdict is called where it is printed, and its numbers.
+use Rattle.std.specs.Prelude.{ℕ, Bool, true, false, List, [], ◌∷◌, codes}
+use Rattle.fb_verify.specs.declared.verdicts.Numbers.{Numbers}
+use Rattle.fb_verify.specs.declared.verdicts.Numbers.TheVariants.{Nothing, One, Two}
+use Rattle.fb_verify.specs.declared.verdicts.Verdict.{Verdict}
+use Rattle.fb_verify.specs.declared.verdicts.Verdict.TheVariants.{Good, EdgeOutOfRange, EdgesNotRising, WrongParity, WeightNotSum, CutEmpty, VertexOutOfRange, CutsNotRising, CutHoldsVirtual, CutEven, Overloaded, SumDiffers, OddWrong}
+
+-- what a verdict is called
+abbrev pub verdict_name : Verdict → List ℕ
+verdict_name Good = codes "good"
+verdict_name (EdgeOutOfRange e) = codes "bad EdgeOutOfRange"
+verdict_name (EdgesNotRising e) = codes "bad EdgesNotRising"
+verdict_name (WrongParity v) = codes "bad WrongParity"
+verdict_name (WeightNotSum weight sum) = codes "bad WeightNotSum"
+verdict_name (CutEmpty j) = codes "bad CutEmpty"
+verdict_name (VertexOutOfRange v) = codes "bad VertexOutOfRange"
+verdict_name (CutsNotRising j) = codes "bad CutsNotRising"
+verdict_name (CutHoldsVirtual v) = codes "bad CutHoldsVirtual"
+verdict_name (CutEven j) = codes "bad CutEven"
+verdict_name (Overloaded e) = codes "bad Overloaded"
+verdict_name (SumDiffers weight sum) = codes "bad SumDiffers"
+verdict_name (OddWrong v) = codes "bad OddWrong"
+
+-- the numbers that are printed after it
+abbrev pub verdict_numbers : Verdict → List ℕ
+verdict_numbers Good = []
+verdict_numbers (EdgeOutOfRange e) = e ∷ []
+verdict_numbers (EdgesNotRising e) = e ∷ []
+verdict_numbers (WrongParity v) = v ∷ []
+verdict_numbers (WeightNotSum weight sum) = weight ∷ sum ∷ []
+verdict_numbers (CutEmpty j) = j ∷ []
+verdict_numbers (VertexOutOfRange v) = v ∷ []
+verdict_numbers (CutsNotRising j) = j ∷ []
+verdict_numbers (CutHoldsVirtual v) = v ∷ []
+verdict_numbers (CutEven j) = j ∷ []
+verdict_numbers (Overloaded e) = e ∷ []
+verdict_numbers (SumDiffers weight sum) = weight ∷ sum ∷ []
+verdict_numbers (OddWrong v) = v ∷ []
+
+-- whether the row breaks a rule
+abbrev pub is_bad : Verdict → Bool
+is_bad Good = false
+is_bad (EdgeOutOfRange e) = true
+is_bad (EdgesNotRising e) = true
+is_bad (WrongParity v) = true
+is_bad (WeightNotSum weight sum) = true
+is_bad (CutEmpty j) = true
+is_bad (VertexOutOfRange v) = true
+is_bad (CutsNotRising j) = true
+is_bad (CutHoldsVirtual v) = true
+is_bad (CutEven j) = true
+is_bad (Overloaded e) = true
+is_bad (SumDiffers weight sum) = true
+is_bad (OddWrong v) = true
+
+-- numbers as a list
+abbrev pub numbers_in : Numbers → List ℕ
+numbers_in Nothing = []
+numbers_in (One a) = a ∷ []
+numbers_in (Two a b) = a ∷ b ∷ []
