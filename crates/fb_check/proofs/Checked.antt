@@ -3,13 +3,13 @@ use Rattle.std.proofs.Common.{◌≡◌, ℕ, ◌==◌, ◌&&◌, inl, inr, Bool
 use Rattle.std.proofs.KnownBytes.{Appends-nil, Appends-trans}
 use Rattle.fb_graph.specs.Limits.{DecodingGraph}
 use Rattle.fb_graph.specs.declared.parts.Row.{Row}
-use Rattle.fb_ports.specs.Causes.{Appends, AppendsFront}
-use Rattle.fb_ports.proofs.Onward.{front_first, front_second}
+use Rattle.fb_ports.specs.Causes.{Appends, AppendsPrefix}
+use Rattle.fb_ports.proofs.Onward.{prefix_first, prefix_second}
 use Rattle.fb_shots.specs.Shots.{at_end}
 use Rattle.fb_shots.specs.declared.answer.Format.{Format}
 use Rattle.fb_shots.specs.Streams.{Stream, fresh}
-use Rattle.fb_check.specs.CheckEndings.{ChecksFront, LinesEnd, WritesCheck}
-use Rattle.fb_check.specs.Checks.{bad_count, check_cause, check_front, check_head, check_last, verdict_lines}
+use Rattle.fb_check.specs.CheckEndings.{ChecksPrefix, LinesEnd, WritesCheck}
+use Rattle.fb_check.specs.Checks.{bad_count, check_cause, check_prefix, check_head, check_last, verdict_lines}
 use Rattle.fb_check.specs.Ends.{IsReadToItsEnd}
 use Rattle.fb_check.specs.Judges.{EndsCheck, FirstOf, JudgesAll, JudgesFirst, JudgesInto}
 use Rattle.fb_inputs.specs.Judging.{FirstFrom, Gathers, GathersFrom, HasFirstShots, HasShots, IsOpened, Named, most_shots, shots_of}
@@ -45,13 +45,13 @@ module _ (g : DecodingGraph) (rows : List Row) (start now : Stream) (before afte
 
   pub judged_at_fault : (last : Option (List ℕ)) (pending : List ℕ) (shots : List (List ℕ)) (bad : ℕ)
       → IfSome before (HasFirstShots start.format start.graph shots) → IsJudging g rows out new pending shots bad
-      → AppendsFront new last pending → JudgesFirst (FirstFrom before start.format start.graph) g rows out last
-  judged_at_fault last pending shots bad input judging front = record {
+      → AppendsPrefix new last pending → JudgesFirst (FirstFrom before start.format start.graph) g rows out last
+  judged_at_fault last pending shots bad input judging prefix = record {
     shots = shots;
     input = input;
     verdicts = judging.verdicts;
     answers = judging.answers;
-    written = subst (AppendsFront out last) judging.text (front_second out new last judging.flushed pending judging.appended front);
+    written = subst (AppendsPrefix out last) judging.text (prefix_second out new last judging.flushed pending judging.appended prefix);
   }
 
   pub judged_into : (Input : List (List ℕ) → Type 0) (pending : List ℕ) (j : Judged) (checking : IsChecking g rows start now before after out new pending j.shots j.bad)
@@ -81,13 +81,13 @@ module _ (Input : List (List ℕ) → Type 0) (g : DecodingGraph) (rows : List R
   }
 
   pub first_flushed : (First : List (List ℕ) → Type 0) → ((shots : List (List ℕ)) → Input shots → First shots)
-      → JudgesInto Input g rows out mid pending j → AppendsFront mid new pending → JudgesFirst First g rows out new
+      → JudgesInto Input g rows out mid pending j → AppendsPrefix mid new pending → JudgesFirst First g rows out new
   first_flushed First more into part = record {
     shots = into.shots;
     input = more into.shots into.input;
     verdicts = into.verdicts;
     answers = into.answers;
-    written = subst (AppendsFront out new) into.text (front_second out mid new into.flushed pending into.appended part);
+    written = subst (AppendsPrefix out new) into.text (prefix_second out mid new into.flushed pending into.appended part);
   }
 
 -- by another input
@@ -138,45 +138,45 @@ never_memory end.End lines shots bad old new cause (inr (part, is)) e = cc
 never_memory (end.Refused fault) lines shots bad old new cause (same, is) e = cc
 never_memory end.ReadFault lines shots bad old new cause (same, is) e = cc
 
-module _ (named : Named) (errand : Checking) (g : DecodingGraph) (rows : List Row) where
-  pub checks_head : (old new : Option (List ℕ)) → AppendsFront old new check_head → ChecksFront named errand g rows old new
-  checks_head old new front = record {
+module _ (named : Named) (request : Checking) (g : DecodingGraph) (rows : List Row) where
+  pub checks_head : (old new : Option (List ℕ)) → AppendsPrefix old new check_head → ChecksPrefix named request g rows old new
+  checks_head old new prefix = record {
     shots = [];
     input = inl refl;
     verdicts = [];
     answers = tt;
-    written = inl (front_first old new check_head [] front);
+    written = inl (prefix_first old new check_head [] prefix);
   }
 
   -- want of memory after the head
-  pub checks_after_head : (old new : Option (List ℕ)) → Appends old new check_head → ChecksFront named errand g rows old new
+  pub checks_after_head : (old new : Option (List ℕ)) → Appends old new check_head → ChecksPrefix named request g rows old new
   checks_after_head old new all = checks_head old new (check_head, [], sym (append-nil check_head), all)
 
   pub checks_first : (old mid new : Option (List ℕ)) → Appends old mid check_head
-      → JudgesFirst (FirstOf named errand.shots errand.format g) g rows mid new → ChecksFront named errand g rows old new
+      → JudgesFirst (FirstOf named request.shots request.format g) g rows mid new → ChecksPrefix named request g rows old new
   checks_first old mid new head first = record {
     shots = first.shots;
     input = first.input;
     verdicts = first.verdicts;
     answers = first.answers;
-    written = inl (front_second old mid new check_head (verdict_lines 0 first.verdicts) head first.written);
+    written = inl (prefix_second old mid new check_head (verdict_lines 0 first.verdicts) head first.written);
   }
 
   checks_by : (left old new : Option (List ℕ)) (lines shots bad : ℕ) (cause : Cause) → cause ≡ check_cause lines shots bad
-      → WritesCheck named errand g rows old new cause → LinesEnd named errand g rows left old new cause
+      → WritesCheck named request g rows old new cause → LinesEnd named request g rows left old new cause
   checks_by left old new lines shots bad cause e wrote = by_both (bad == 0 && lines == shots) e
     where
-      by_both : (good : Bool) → cause ≡ (if good then Done else Bad bad) → LinesEnd named errand g rows left old new cause
+      by_both : (good : Bool) → cause ≡ (if good then Done else Bad bad) → LinesEnd named request g rows left old new cause
       by_both true is = rw is (rw is at wrote)
       by_both false is = rw is (rw is at wrote)
 
   pub checks_on : (left old mid last new : Option (List ℕ)) (j : Judged) (lines : ℕ) (cause : Cause) → lines ≡ length rows → Appends old mid check_head
-      → JudgesAll (λ shots. Gathers named errand.shots errand.format g left shots j.end) g rows mid last j
-      → EndsCheck j.end lines j.shots j.bad last new cause → LinesEnd named errand g rows left old new cause
+      → JudgesAll (λ shots. Gathers named request.shots request.format g left shots j.end) g rows mid last j
+      → EndsCheck j.end lines j.shots j.bad last new cause → LinesEnd named request g rows left old new cause
   checks_on left old mid last new j lines cause many head all ends = go j.end all.input ends
     where
-      front : Appends old last (check_front all.verdicts)
-      front = Appends-trans old mid last check_head (verdict_lines 0 all.verdicts) head all.written
+      prefix : Appends old last (check_prefix all.verdicts)
+      prefix = Appends-trans old mid last check_head (verdict_lines 0 all.verdicts) head all.written
 
       same_line : check_last lines j.shots j.bad ≡ check_last (length rows) (length all.shots) (bad_count all.verdicts)
       same_line = ap (λ (n : ℕ). check_last n j.shots j.bad) many ∙ ap (λ (n : ℕ). check_last (length rows) n j.bad) all.many
@@ -186,25 +186,25 @@ module _ (named : Named) (errand : Checking) (g : DecodingGraph) (rows : List Ro
       same_cause = ap (λ (n : ℕ). check_cause n j.shots j.bad) many ∙ ap (λ (n : ℕ). check_cause (length rows) n j.bad) all.many
           ∙ ap (λ (n : ℕ). check_cause (length rows) (length all.shots) n) all.bad
 
-      are_first : (text : List ℕ) → HasShots errand.format g all.shots at_end text → HasFirstShots errand.format g all.shots text
+      are_first : (text : List ℕ) → HasShots request.format g all.shots at_end text → HasFirstShots request.format g all.shots text
       are_first text e = ([], ap (λ r. r.shots) e ∙ sym (append-nil all.shots))
 
-      go : (ended : ShotsEnd) → Gathers named errand.shots errand.format g left all.shots ended → EndsCheck ended lines j.shots j.bad last new cause
-          → LinesEnd named errand g rows left old new cause
+      go : (ended : ShotsEnd) → Gathers named request.shots request.format g left all.shots ended → EndsCheck ended lines j.shots j.bad last new cause
+          → LinesEnd named request g rows left old new cause
       go end.End held (inl (whole, is)) = checks_by left old new lines j.shots j.bad cause is (record {
         shots = all.shots;
         input = held;
         verdicts = all.verdicts;
         answers = all.answers;
-        written = Appends-trans old last new (check_front all.verdicts) _ front (subst (Appends last new) same_line whole);
+        written = Appends-trans old last new (check_prefix all.verdicts) _ prefix (subst (Appends last new) same_line whole);
         ends = is ∙ same_cause;
       })
       go end.End held (inr (part, is)) = rw is (record {
         shots = all.shots;
-        input = inr (holds_more named errand.shots _ _ are_first held);
+        input = inr (holds_more named request.shots _ _ are_first held);
         verdicts = all.verdicts;
         answers = all.answers;
-        written = inr (held, front_second old last new (check_front all.verdicts) _ front (subst (AppendsFront last new) same_line part));
+        written = inr (held, prefix_second old last new (check_prefix all.verdicts) _ prefix (subst (AppendsPrefix last new) same_line part));
       })
       go (end.Refused fault) held (same, is) = rw is (record {
         shots = all.shots;
@@ -212,14 +212,14 @@ module _ (named : Named) (errand : Checking) (g : DecodingGraph) (rows : List Ro
         place = held.1;
         verdicts = all.verdicts;
         answers = all.answers;
-        written = rw same front;
+        written = rw same prefix;
       })
       go end.ReadFault held (same, is) = rw is (inr (record {
         shots = all.shots;
         input = held;
         verdicts = all.verdicts;
         answers = all.answers;
-        written = rw same front;
+        written = rw same prefix;
       }))
 
 -- what the file of a name gives, by what the opened file gives

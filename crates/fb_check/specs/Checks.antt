@@ -30,12 +30,12 @@ check_last rows shots bad =
     line (codes "rows") (decimal rows ∷ codes "shots" ∷ decimal shots ∷ codes "bad" ∷ decimal bad ∷ [])
 
 -- the head and the lines of the shots, without a last line
-abbrev pub check_front : List Verdict → List ℕ
-check_front verdicts = check_head ++ verdict_lines 0 verdicts
+abbrev pub check_prefix : List Verdict → List ℕ
+check_prefix verdicts = check_head ++ verdict_lines 0 verdicts
 
 -- the whole text of a check of so many rows by so many shots
 abbrev pub check_text : ℕ → ℕ → List Verdict → List ℕ
-check_text rows shots verdicts = check_front verdicts ++ check_last rows shots (bad_count verdicts)
+check_text rows shots verdicts = check_prefix verdicts ++ check_last rows shots (bad_count verdicts)
 
 -- how a check of so many rows by so many shots ends
 abbrev pub check_cause : ℕ → ℕ → ℕ → Cause

@@ -1,7 +1,7 @@
 -- The ends that the commands have in common: at a file, in the first text, and what an end says of the input.
 use Rattle.std.specs.Prelude.{ℕ, ◌≡◌, ◌⊎◌, List, [], ◌∷◌, ⊤}
-use Rattle.fb_ports.specs.Causes.{Appends, AppendsFront, Rose}
-use Rattle.fb_inputs.specs.Judging.{Asks, AsksFront, Holds, IsNoGraph, Named}
+use Rattle.fb_ports.specs.Causes.{Appends, AppendsPrefix, Rose}
+use Rattle.fb_inputs.specs.Judging.{Asks, AsksPrefix, Holds, IsNoGraph, Named}
 use Rattle.fb_inputs.specs.Moments.{Moment}
 use Rattle.fb_endings.specs.declared.ending.Cause.{Cause}
 use Rattle.fb_endings.specs.declared.ending.Cause.TheVariants.{Done, Odd, Bad, Refused, ReadFault, WriteFault, NoMemory, Usage}
@@ -17,7 +17,7 @@ EndsAtFile IsReason name before after (Refused refusal) =
 EndsAtFile IsReason name before after ReadFault =
     Rose before.faults after.faults × Asks before.asked after.asked (name ∷ []) × Appends before.written after.written []
 EndsAtFile IsReason name before after NoMemory =
-    AsksFront before.asked after.asked (name ∷ []) × (after.faults ≡ before.faults)
+    AsksPrefix before.asked after.asked (name ∷ []) × (after.faults ≡ before.faults)
     × Appends before.written after.written []
 EndsAtFile IsReason name before after Done = ⊥
 EndsAtFile IsReason name before after Odd = ⊥
@@ -30,7 +30,7 @@ EndsAtFile IsReason name before after (Usage kind) = ⊥
 pub record EndsInText (text : List ℕ) (before after : Moment) (cause : Cause) : Type 0 where
   pub asks : Asks before.asked after.asked []
   pub unfailing : after.faults ≡ before.faults
-  pub written : AppendsFront before.written after.written text
+  pub written : AppendsPrefix before.written after.written text
   pub ends : (cause ≡ WriteFault) ⊎ (cause ≡ NoMemory)
 
 -- the text of the file of the name is no graph, and the refusal is its fault

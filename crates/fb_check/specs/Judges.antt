@@ -2,7 +2,7 @@
 use Rattle.std.specs.Prelude.{ℕ, ◌≡◌, ◌<◌, ◌≤◌, ◌⊎◌, List, [], ◌++◌, length, get_or, Bool, false, Option}
 use Rattle.fb_graph.specs.Limits.{DecodingGraph}
 use Rattle.fb_graph.specs.declared.parts.Row.{Row}
-use Rattle.fb_ports.specs.Causes.{Appends, AppendsFront}
+use Rattle.fb_ports.specs.Causes.{Appends, AppendsPrefix}
 use Rattle.fb_shots.specs.declared.answer.Format.{Format}
 use Rattle.fb_verify.specs.VerdictTexts.{is_bad}
 use Rattle.fb_verify.specs.Verdicts.{IsVerdict}
@@ -26,13 +26,13 @@ pub record JudgesAll (Input : List (List ℕ) → Type 0) (g : DecodingGraph) (r
   pub bad : j.bad ≡ bad_count verdicts
   pub written : Appends old new (verdict_lines 0 verdicts)
 
--- A front was written of the lines of some of the first shots.
+-- A prefix was written of the lines of some of the first shots.
 pub record JudgesFirst (Input : List (List ℕ) → Type 0) (g : DecodingGraph) (rows : List Row) (old new : Option (List ℕ)) : Type 0 where
   pub shots : List (List ℕ)
   pub input : Input shots
   pub verdicts : List Verdict
   pub answers : AreVerdicts g shots rows verdicts
-  pub written : AppendsFront old new (verdict_lines 0 verdicts)
+  pub written : AppendsPrefix old new (verdict_lines 0 verdicts)
 
 -- no shots, or the first ones of the file of a name
 abbrev pub FirstOf : Named → List ℕ → Format → DecodingGraph → List (List ℕ) → Type 0
@@ -56,7 +56,7 @@ JudgesNext g rows k shot old new bad =
 abbrev pub EndsCheck : ShotsEnd → ℕ → ℕ → ℕ → Option (List ℕ) → Option (List ℕ) → Cause → Type 0
 EndsCheck end.End rows shots bad old new cause =
     (Appends old new (check_last rows shots bad) × (cause ≡ check_cause rows shots bad))
-    ⊎ (AppendsFront old new (check_last rows shots bad) × (cause ≡ WriteFault))
+    ⊎ (AppendsPrefix old new (check_last rows shots bad) × (cause ≡ WriteFault))
 EndsCheck (end.Refused fault) rows shots bad old new cause = (new ≡ old) × (cause ≡ Refused (refusal.Shot fault))
 EndsCheck end.ReadFault rows shots bad old new cause = (new ≡ old) × (cause ≡ ReadFault)
 

@@ -1,7 +1,7 @@
 //! The text of a check of a report.
 
 ghost use Rattle.std.specs.Prelude.{◌≡◌, [], ◌∷◌, codes, decimal, OnOk, OnErr};
-ghost use Rattle.fb_ports.specs.Causes.{Appends, AppendsFront, HasCause};
+ghost use Rattle.fb_ports.specs.Causes.{Appends, AppendsPrefix, HasCause};
 ghost use Rattle.fb_report.specs.Texts.{line};
 ghost use Rattle.fb_check.specs.Checks.{check_head, check_last, verdict_line};
 
@@ -13,7 +13,7 @@ use itoa::Buffer;
 #[tactic(auto, unfolding(crate::specs::Checks::check_head))]
 pub fn put_check_head<S: Sink>(sink: &mut S) -> Result<(), Failed>
     ensures all { OnOk result (Appends (S.taken sink.old) (S.taken sink.new) check_head) }
-    ensures front { OnErr result (AppendsFront (S.taken sink.old) (S.taken sink.new) check_head) }
+    ensures prefix { OnErr result (AppendsPrefix (S.taken sink.old) (S.taken sink.new) check_head) }
     ensures cause { HasCause (S.faults sink.old) (S.faults sink.new) result }
 {
     put_all(sink, b"check-report 1\n")
@@ -23,7 +23,7 @@ pub fn put_check_head<S: Sink>(sink: &mut S) -> Result<(), Failed>
 #[tactic(auto, unfolding(crate::specs::Checks::verdict_line))]
 pub fn put_verdict<S: Sink>(sink: &mut S, shot: u32, verdict: Verdict) -> Result<(), Failed>
     ensures all { OnOk result (Appends (S.taken sink.old) (S.taken sink.new) (verdict_line shot verdict)) }
-    ensures front { OnErr result (AppendsFront (S.taken sink.old) (S.taken sink.new) (verdict_line shot verdict)) }
+    ensures prefix { OnErr result (AppendsPrefix (S.taken sink.old) (S.taken sink.new) (verdict_line shot verdict)) }
     ensures cause { HasCause (S.faults sink.old) (S.faults sink.new) result }
 {
     match verdict.numbers() {
@@ -36,7 +36,7 @@ pub fn put_verdict<S: Sink>(sink: &mut S, shot: u32, verdict: Verdict) -> Result
 /// Puts the line of a shot whose verdict tells no number.
 fn put_bare<S: Sink>(sink: &mut S, shot: u32, name: &str) -> Result<(), Failed>
     ensures all { OnOk result (Appends (S.taken sink.old) (S.taken sink.new) (line (codes "shot") (decimal shot ∷ name.now ∷ []))) }
-    ensures front { OnErr result (AppendsFront (S.taken sink.old) (S.taken sink.new) (line (codes "shot") (decimal shot ∷ name.now ∷ []))) }
+    ensures prefix { OnErr result (AppendsPrefix (S.taken sink.old) (S.taken sink.new) (line (codes "shot") (decimal shot ∷ name.now ∷ []))) }
     ensures cause { HasCause (S.faults sink.old) (S.faults sink.new) result }
 {
     let mut buffer = Buffer::new();
@@ -48,7 +48,7 @@ fn put_bare<S: Sink>(sink: &mut S, shot: u32, name: &str) -> Result<(), Failed>
 fn put_number<S: Sink>(sink: &mut S, shot: u32, name: &str, number: u64) -> Result<(), Failed>
     ensures all { OnOk result (Appends (S.taken sink.old) (S.taken sink.new)
         (line (codes "shot") (decimal shot ∷ name.now ∷ decimal number ∷ []))) }
-    ensures front { OnErr result (AppendsFront (S.taken sink.old) (S.taken sink.new)
+    ensures prefix { OnErr result (AppendsPrefix (S.taken sink.old) (S.taken sink.new)
         (line (codes "shot") (decimal shot ∷ name.now ∷ decimal number ∷ []))) }
     ensures cause { HasCause (S.faults sink.old) (S.faults sink.new) result }
 {
@@ -72,7 +72,7 @@ fn put_sums<S: Sink>(
 ) -> Result<(), Failed>
     ensures all { OnOk result (Appends (S.taken sink.old) (S.taken sink.new)
         (line (codes "shot") (decimal shot ∷ name.now ∷ decimal weight ∷ decimal sum ∷ []))) }
-    ensures front { OnErr result (AppendsFront (S.taken sink.old) (S.taken sink.new)
+    ensures prefix { OnErr result (AppendsPrefix (S.taken sink.old) (S.taken sink.new)
         (line (codes "shot") (decimal shot ∷ name.now ∷ decimal weight ∷ decimal sum ∷ []))) }
     ensures cause { HasCause (S.faults sink.old) (S.faults sink.new) result }
 {
@@ -102,7 +102,7 @@ fn put_sums<S: Sink>(
 #[tactic(auto, unfolding(crate::specs::Checks::check_last))]
 pub fn put_check_last<S: Sink>(sink: &mut S, rows: u64, shots: u64, bad: u64) -> Result<(), Failed>
     ensures all { OnOk result (Appends (S.taken sink.old) (S.taken sink.new) (check_last rows shots bad)) }
-    ensures front { OnErr result (AppendsFront (S.taken sink.old) (S.taken sink.new) (check_last rows shots bad)) }
+    ensures prefix { OnErr result (AppendsPrefix (S.taken sink.old) (S.taken sink.new) (check_last rows shots bad)) }
     ensures cause { HasCause (S.faults sink.old) (S.faults sink.new) result }
 {
     let mut one = Buffer::new();

@@ -2,14 +2,14 @@
 
 ghost use Rattle.std.specs.Prelude.{◌≡◌, ◌≢◌, ◌^◌, ◌<◌, ◌≤◌, [], ◌∷◌, length, All, IfOk, IfErr, OnErr, IsErrOf, Err, if◌then◌else◌};
 ghost use Rattle.fb_graph.specs.Limits.{IsShot};
-ghost use Rattle.fb_ports.specs.Causes.{HasRoom, IsEmptyIfTold, Rose};
+ghost use Rattle.fb_ports.specs.Causes.{HasRoom, IsEmptyIfKnown, Rose};
 ghost use Rattle.fb_shots.specs.Steps.{IsReadOut};
 ghost use Rattle.fb_shots.specs.Streams.{fresh};
 ghost use Rattle.fb_verify.specs.Verdicts.{HasPositiveValues};
 ghost use Rattle.fb_check.specs.CheckEndings.{CheckEnds, ChecksOn, IsNoReport, IsReportText, ReportEnds};
 ghost use Rattle.fb_check.specs.Ends.{IsReadToItsEnd, MayFollowReadFault};
 ghost use Rattle.fb_check.specs.Judges.{EndsCheck, JudgesAll, JudgesFirst, JudgesInto, JudgesNext};
-ghost use Rattle.fb_inputs.specs.Judging.{Asks, AsksFront, FirstFrom, GathersFrom, Holds, IsReadOutIfNamed, most_shots};
+ghost use Rattle.fb_inputs.specs.Judging.{Asks, AsksPrefix, FirstFrom, GathersFrom, Holds, IsReadOutIfNamed, most_shots};
 ghost use Rattle.fb_inputs.specs.Moments.{moment};
 ghost use Rattle.fb_check.specs.NoReports.{IfNoReport};
 ghost use Rattle.fb_words.specs.Seen.{seen_checking};
@@ -45,7 +45,7 @@ pub struct Judged {
 #[tactic(auto, using(crate::proofs::Reported::no_report))]
 fn read_report_file<F: Files>(alloc: Global, files: &mut F, name: &str) -> Result<Report, NoReport>
     requires { HasRoom (F.asked files.old) 16 }
-    ensures asks { AsksFront (F.asked files.old) (F.asked files.new) (name.now ∷ []) }
+    ensures asks { AsksPrefix (F.asked files.old) (F.asked files.new) (name.now ∷ []) }
     ensures asked { result ≢ Err NoReport.NoMemory → Asks (F.asked files.old) (F.asked files.new) (name.now ∷ []) }
     ensures names { F.named files.new ≡ F.named files.old }
     ensures report { IfOk result (λ r. Holds (F.named files.old) name.now (IsReportText r)) }
@@ -72,12 +72,12 @@ fn read_report_file<F: Files>(alloc: Global, files: &mut F, name: &str) -> Resul
 /// line of each row while its shot is taken.
 pub fn check<F: Files, O: Sink>(
     alloc: Global,
-    errand: &Checking<'_>,
+    request: &Checking<'_>,
     files: &mut F,
     out: &mut O,
 ) -> Cause
-    requires { IsEmptyIfTold (F.asked files.old) }
-    ensures ends { CheckEnds (seen_checking errand.now)
+    requires { IsEmptyIfKnown (F.asked files.old) }
+    ensures ends { CheckEnds (seen_checking request.now)
         (moment (F.named files.old) (F.left files.old) (F.asked files.old) (F.faults files.old) (O.taken out.old))
         (moment (F.named files.new) (F.left files.new) (F.asked files.new) (F.faults files.new) (O.taken out.new)) result }
     ensures at_end { IsReadToItsEnd result → IsReadOutIfNamed (F.named files.old) (F.left files.new) }
@@ -88,8 +88,8 @@ pub fn check<F: Files, O: Sink>(
     ensures write_later { O.faults out.old ≤ O.faults out.new }
     ensures write_calm { result ≢ Cause.WriteFault → O.faults out.new ≡ O.faults out.old }
 {
-    match read_graph_file(alloc, files, errand.graph) {
-        Ok(graph) => check_report(alloc, errand, &graph, files, out),
+    match read_graph_file(alloc, files, request.graph) {
+        Ok(graph) => check_report(alloc, request, &graph, files, out),
         Err(NoGraph::Refused(fault)) => Cause::Refused(Refusal::Graph(fault)),
         Err(NoGraph::ReadFault) => Cause::ReadFault,
         Err(NoGraph::NoMemory) => Cause::NoMemory,
@@ -100,13 +100,13 @@ pub fn check<F: Files, O: Sink>(
 #[tactic(auto, using(fb_inputs::proofs::Inputs::asking_on))]
 fn check_report<F: Files, O: Sink>(
     alloc: Global,
-    errand: &Checking<'_>,
+    request: &Checking<'_>,
     graph: &Graph,
     files: &mut F,
     out: &mut O,
 ) -> Cause
     requires { HasRoom (F.asked files.old) 15 }
-    ensures ends { ReportEnds (seen_checking errand.now) graph.now
+    ensures ends { ReportEnds (seen_checking request.now) graph.now
         (moment (F.named files.old) (F.left files.old) (F.asked files.old) (F.faults files.old) (O.taken out.old))
         (moment (F.named files.new) (F.left files.new) (F.asked files.new) (F.faults files.new) (O.taken out.new)) result }
     ensures at_end { IsReadToItsEnd result → IsReadOutIfNamed (F.named files.old) (F.left files.new) }
@@ -117,8 +117,8 @@ fn check_report<F: Files, O: Sink>(
     ensures write_later { O.faults out.old ≤ O.faults out.new }
     ensures write_calm { result ≢ Cause.WriteFault → O.faults out.new ≡ O.faults out.old }
 {
-    match read_report_file(alloc, files, errand.report) {
-        Ok(report) => check_rows(alloc, errand, graph, report.rows.as_slice(), files, out),
+    match read_report_file(alloc, files, request.report) {
+        Ok(report) => check_rows(alloc, request, graph, report.rows.as_slice(), files, out),
         Err(NoReport::Refused(fault)) => Cause::Refused(Refusal::Report(fault)),
         Err(NoReport::ReadFault) => Cause::ReadFault,
         Err(NoReport::NoMemory) => Cause::NoMemory,
@@ -128,7 +128,7 @@ fn check_report<F: Files, O: Sink>(
 /// Checks rows by the shots of the file that is named, for a graph.
 fn check_rows<F: Files, O: Sink>(
     alloc: Global,
-    errand: &Checking<'_>,
+    request: &Checking<'_>,
     graph: &Graph,
     rows: &[Row],
     files: &mut F,
@@ -137,7 +137,7 @@ fn check_rows<F: Files, O: Sink>(
     requires room { HasRoom (F.asked files.old) 16 }
     requires values { All HasPositiveValues rows.now }
     requires few { length rows.now < 2 ^ 32 }
-    ensures ends { ChecksOn (seen_checking errand.now) graph.now rows.now
+    ensures ends { ChecksOn (seen_checking request.now) graph.now rows.now
         (moment (F.named files.old) (F.left files.old) (F.asked files.old) (F.faults files.old) (O.taken out.old))
         (moment (F.named files.new) (F.left files.new) (F.asked files.new) (F.faults files.new) (O.taken out.new)) result }
     ensures at_end { IsReadToItsEnd result → IsReadOutIfNamed (F.named files.old) (F.left files.new) }
@@ -151,13 +151,13 @@ fn check_rows<F: Files, O: Sink>(
     let Ok(()) = put_check_head(out) else {
         return Cause::WriteFault;
     };
-    let Ok(name) = String::from_str(alloc, errand.shots) else {
+    let Ok(name) = String::from_str(alloc, request.shots) else {
         return Cause::NoMemory;
     };
     let Ok(()) = files.open_file(name) else {
         return Cause::ReadFault;
     };
-    match judge_file(alloc, errand.format, graph, rows, files, out) {
+    match judge_file(alloc, request.format, graph, rows, files, out) {
         Ok(judged) => end_check(judged.end, rows.len() as u64, judged.shots, judged.bad, out),
         Err(RowsFault::WriteFault) => Cause::WriteFault,
         Err(RowsFault::NoMemory) => Cause::NoMemory,

@@ -59,7 +59,7 @@ refusal_line r = line (codes "fusion:")
     (codes "refused" ∷ refusal_name r ∷ if_any (refusal_place r) ++ number_if_any (refusal_number r))
 
 -- The line of a cause that isn't a refusal. What is said of words that have no reading is the command line reader's
--- own text, and isn't told here.
+-- own text, and isn't stated here.
 abbrev pub fixed_line : Cause → List ℕ
 fixed_line Done = []
 fixed_line Odd = []

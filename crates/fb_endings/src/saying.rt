@@ -1,7 +1,7 @@
 //! What is said on standard error.
 
 ghost use Rattle.std.specs.Prelude.{◌≡◌, ◌≢◌, ◌<◌, ◌^◌, ◌-◌, ◌∷◌, [], OnOk, OnErr, option_map};
-ghost use Rattle.fb_ports.specs.Causes.{AppendsFront, HasCause};
+ghost use Rattle.fb_ports.specs.Causes.{AppendsPrefix, HasCause};
 ghost use Rattle.std.specs.Io.KnownBytes.{Appends};
 ghost use Rattle.fb_endings.specs.Causes.{line_of, fixed_line, refusal_line, refusal_name, refusal_place, refusal_number};
 
@@ -12,7 +12,7 @@ use itoa::Buffer;
 
 /// Says on a sink why a run ended, where that isn't faulty words. A fault of that sink changes nothing.
 pub fn say<E: Sink>(cause: Cause, err: &mut E)
-    ensures front { AppendsFront (E.taken err.old) (E.taken err.new) (line_of cause) }
+    ensures prefix { AppendsPrefix (E.taken err.old) (E.taken err.new) (line_of cause) }
     ensures whole { E.faults err.old < 2 ^ 64 - 1 → E.faults err.new ≡ E.faults err.old
         → Appends (E.taken err.old) (E.taken err.new) (line_of cause) }
 {
@@ -21,7 +21,7 @@ pub fn say<E: Sink>(cause: Cause, err: &mut E)
 
 fn put_line<E: Sink>(cause: Cause, err: &mut E) -> Result<(), Failed>
     ensures all { OnOk result (Appends (E.taken err.old) (E.taken err.new) (line_of cause)) }
-    ensures front { OnErr result (AppendsFront (E.taken err.old) (E.taken err.new) (line_of cause)) }
+    ensures prefix { OnErr result (AppendsPrefix (E.taken err.old) (E.taken err.new) (line_of cause)) }
     ensures cause { HasCause (E.faults err.old) (E.faults err.new) result }
 {
     match cause {
@@ -48,7 +48,7 @@ fn fixed_line(cause: Cause) -> &'static str
 /// Puts the line of a refusal: its name, and then its place.
 fn put_refusal<E: Sink>(refusal: Refusal, err: &mut E) -> Result<(), Failed>
     ensures all { OnOk result (Appends (E.taken err.old) (E.taken err.new) (refusal_line refusal)) }
-    ensures front { OnErr result (AppendsFront (E.taken err.old) (E.taken err.new) (refusal_line refusal)) }
+    ensures prefix { OnErr result (AppendsPrefix (E.taken err.old) (E.taken err.new) (refusal_line refusal)) }
     ensures cause { HasCause (E.faults err.old) (E.faults err.new) result }
 {
     let name = refusal.name().as_bytes();

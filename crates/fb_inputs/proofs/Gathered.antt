@@ -8,10 +8,10 @@ use Rattle.fb_ports.specs.Causes.{Opens}
 use Rattle.fb_shots.specs.declared.answer.Format.{Format}
 use Rattle.fb_shots.specs.declared.answer.ShotFault.{ShotFault}
 use Rattle.fb_shots.specs.Shots.{Ending, Shots, all_in_front, at_end, only, refused, still_open}
-use Rattle.fb_shots.specs.Formats.{front_of}
+use Rattle.fb_shots.specs.Formats.{prefix_of}
 use Rattle.fb_shots.specs.Streams.{Stream, follows, fresh}
-use Rattle.fb_shots.specs.Steps.{Ends, FailsToRead, GivesShot, IfTold, IsReadOut, Refuses}
-use Rattle.fb_shots.proofs.Taking.{later_read_out, open_before, stays_read_out, told_same, told_some, told_then}
+use Rattle.fb_shots.specs.Steps.{Ends, FailsToRead, GivesShot, IfKnown, IsReadOut, Refuses}
+use Rattle.fb_shots.proofs.Taking.{later_read_out, open_before, stays_read_out, known_same, known_some, known_then}
 use Rattle.fb_inputs.specs.Taking.{EndsSo, GivesShots}
 use Rattle.fb_inputs.specs.Judging.{FirstFrom, Gathers, GathersFrom, HasFirstShots, HasShots, Holds, IsOpened, IsReadInPart, IsReadOutIfNamed, Named, most_shots, shots_of}
 use Rattle.fb_inputs.specs.declared.taking.ShotsEnd.{ShotsEnd}
@@ -38,7 +38,7 @@ pub gives_none : (s : Stream) (left : Option (List ℕ)) → GivesShots s s left
 gives_none s left = record {
   piece = [];
   taken = Consumes-nil left;
-  gives = told_same (λ before later. follows s before ≡ all_in_front [] (follows s later)) left (λ text. refl);
+  gives = known_same (λ before later. follows s before ≡ all_in_front [] (follows s later)) left (λ text. refl);
   settles = λ still more. refl;
   unfinished = λ still. still;
   end = λ still done. not_both s.finished still done;
@@ -60,7 +60,7 @@ gives_one old new before after shot step =
       piece = step.piece;
       taken = step.taken;
       gives = step.gives;
-      settles = step.front;
+      settles = step.prefix;
       unfinished = step.unfinished;
       end = step.end;
       unread = step.unread;
@@ -78,14 +78,14 @@ pub gives_both : (a b c : Stream) (before middle after : Option (List ℕ)) (xs 
 gives_both a b c before middle after xs ys first second = record {
   piece = first.piece ++ second.piece;
   taken = Consumes-trans before middle after first.piece second.piece first.taken second.taken;
-  gives = told_then (λ x y. follows a x ≡ all_in_front xs (follows b y)) (λ y z. follows b y ≡ all_in_front ys (follows c z))
+  gives = known_then (λ x y. follows a x ≡ all_in_front xs (follows b y)) (λ y z. follows b y ≡ all_in_front ys (follows c z))
       (λ x z. follows a x ≡ all_in_front (xs ++ ys) (follows c z)) before middle after
       (λ x y z p q. p ∙ ap (all_in_front xs) q ∙ front-both xs ys (follows c z)) first.gives second.gives;
   settles = λ still more.
-      ap (λ (bytes : List ℕ). front_of a.format a.graph (a.rest ++ bytes)) (append_assoc first.piece second.piece more)
+      ap (λ (bytes : List ℕ). prefix_of a.format a.graph (a.rest ++ bytes)) (append_assoc first.piece second.piece more)
       ∙ first.settles (second.unfinished still) (second.piece ++ more)
       ∙ ap (all_in_front xs) (settled still more)
-      ∙ front-both xs ys (front_of a.format a.graph (c.rest ++ more));
+      ∙ front-both xs ys (prefix_of a.format a.graph (c.rest ++ more));
   unfinished = λ still. first.unfinished (second.unfinished still);
   end = λ still done. ended b.finished refl still done;
   unread = λ done. unread done;
@@ -97,10 +97,10 @@ gives_both a b c before middle after xs ys first second = record {
   all = All-append (IsShot a.graph) xs ys first.all (subst (λ (g : DecodingGraph). All (IsShot g) ys) first.graph second.all);
 }
   where
-    settled : c.finished ≡ false → (more : List ℕ) → front_of a.format a.graph (b.rest ++ (second.piece ++ more))
-        ≡ all_in_front ys (front_of a.format a.graph (c.rest ++ more))
+    settled : c.finished ≡ false → (more : List ℕ) → prefix_of a.format a.graph (b.rest ++ (second.piece ++ more))
+        ≡ all_in_front ys (prefix_of a.format a.graph (c.rest ++ more))
     settled still more =
-        subst₂ (λ (f : Format) (g : DecodingGraph). front_of f g (b.rest ++ (second.piece ++ more)) ≡ all_in_front ys (front_of f g (c.rest ++ more)))
+        subst₂ (λ (f : Format) (g : DecodingGraph). prefix_of f g (b.rest ++ (second.piece ++ more)) ≡ all_in_front ys (prefix_of f g (c.rest ++ more)))
         first.format first.graph (second.settles still more)
 
     ended : (f : Bool) → b.finished ≡ f → a.finished ≡ false → c.finished ≡ true → IsReadOut before after
@@ -141,9 +141,9 @@ module _ (start now : Stream) (before middle : Option (List ℕ)) (shots : List 
   given_read_out done = so_far.end unfinished done
 
   module _ (next : Stream) (after : Option (List ℕ)) where
-    -- what a file that was told holds, by how its shots ended
+    -- what a file holds whose bytes were known, by how its shots ended
     pub gathered_all : Ends now next middle after → IfSome before (HasShots start.format start.graph shots at_end)
-    gathered_all ends = told_some (λ x y. follows start x ≡ all_in_front shots (follows now y)) (λ y. follows now y ≡ only at_end)
+    gathered_all ends = known_some (λ x y. follows start x ≡ all_in_front shots (follows now y)) (λ y. follows now y ≡ only at_end)
         (HasShots start.format start.graph shots at_end) before middle
         (λ a b p q. sym (whole start is_fresh a) ∙ p ∙ ap (all_in_front shots) q ∙ front-only shots at_end) so_far.gives ends.gives
 
@@ -157,7 +157,7 @@ module _ (start now : Stream) (before middle : Option (List ℕ)) (shots : List 
     pub gathered_before : (fault : ShotFault) → Refuses now next middle fault
         → IfSome before (HasShots start.format start.graph shots (refused fault.kind)) × (fault.shot ≡ length shots)
     gathered_before fault refuses = (
-      told_some (λ x y. follows start x ≡ all_in_front shots (follows now y)) (λ y. follows now y ≡ only (refused fault.kind))
+      known_some (λ x y. follows start x ≡ all_in_front shots (follows now y)) (λ y. follows now y ≡ only (refused fault.kind))
           (HasShots start.format start.graph shots (refused fault.kind)) before middle
           (λ a b p q. sym (whole start is_fresh a) ∙ p ∙ ap (all_in_front shots) q ∙ front-only shots (refused fault.kind)) so_far.gives refuses.gives,
       refuses.number ∙ given_count,
@@ -166,20 +166,20 @@ module _ (start now : Stream) (before middle : Option (List ℕ)) (shots : List 
     pub gathered_part : FailsToRead now next middle after → IfSome before (IsReadInPart start.format start.graph after shots)
     gathered_part fails = part before middle after so_far.taken fails.takes.taken so_far.gives
       where
-        undecided : front_of start.format start.graph next.rest ≡ only still_open
-        undecided = subst₂ (λ (f : Format) (g : DecodingGraph). front_of f g next.rest ≡ only still_open)
+        undecided : prefix_of start.format start.graph next.rest ≡ only still_open
+        undecided = subst₂ (λ (f : Format) (g : DecodingGraph). prefix_of f g next.rest ≡ only still_open)
             (ap (λ (s : Stream). s.format) fails.takes.others ∙ so_far.format) (ap (λ (s : Stream). s.graph) fails.takes.others ∙ so_far.graph)
             fails.undecided
 
-        settled : front_of start.format start.graph (so_far.piece ++ fails.takes.piece) ≡ record { shots = shots; ending = still_open }
-        settled = ap (λ (xs : List ℕ). front_of start.format start.graph (xs ++ (so_far.piece ++ fails.takes.piece)))
+        settled : prefix_of start.format start.graph (so_far.piece ++ fails.takes.piece) ≡ record { shots = shots; ending = still_open }
+        settled = ap (λ (xs : List ℕ). prefix_of start.format start.graph (xs ++ (so_far.piece ++ fails.takes.piece)))
             (sym (ap (λ (s : Stream). s.rest) is_fresh))
             ∙ so_far.settles (open_before now next middle after fails.takes fails.unfinished) fails.takes.piece
-            ∙ ap (λ (xs : List ℕ). all_in_front shots (front_of start.format start.graph xs)) (sym fails.takes.rest)
+            ∙ ap (λ (xs : List ℕ). all_in_front shots (prefix_of start.format start.graph xs)) (sym fails.takes.rest)
             ∙ ap (all_in_front shots) undecided ∙ front-only shots still_open
 
         part : (a b c : Option (List ℕ)) → Consumes a b so_far.piece → Consumes b c fails.takes.piece
-            → IfTold (λ left later. follows start left ≡ all_in_front shots (follows now later)) a b
+            → IfKnown (λ left later. follows start left ≡ all_in_front shots (follows now later)) a b
             → IfSome a (IsReadInPart start.format start.graph c shots)
         part None b c first second gives = tt
         part (Some text) None c first second gives = absurd first
@@ -193,7 +193,7 @@ module _ (start now : Stream) (before middle : Option (List ℕ)) (shots : List 
           first = ((follows now later).shots, ap (λ (r : Shots). r.shots) (sym (whole start is_fresh text) ∙ gives));
         }
 
-    -- what a file that was told holds, where its shots end after these
+    -- what a file holds whose bytes were known, where its shots end after these
     pub gathered_so : (ended : ShotsEnd) → EndsSo now next middle after (Some ended) → GathersFrom before start.format start.graph after shots ended
     gathered_so end.End ends = gathered_all ends
     gathered_so (end.Refused fault) ends = gathered_before fault ends
@@ -206,7 +206,7 @@ module _ (start now : Stream) (before middle : Option (List ℕ)) (shots : List 
   pub given_first : FirstFrom before start.format start.graph shots
   given_first = go before middle so_far.gives
     where
-      go : (a b : Option (List ℕ)) → IfTold (λ left later. follows start left ≡ all_in_front shots (follows now later)) a b
+      go : (a b : Option (List ℕ)) → IfKnown (λ left later. follows start left ≡ all_in_front shots (follows now later)) a b
           → FirstFrom a start.format start.graph shots
       go None b gives = tt
       go (Some text) None gives = absurd gives

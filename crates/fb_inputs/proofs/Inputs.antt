@@ -1,21 +1,21 @@
 -- One read of a named file after another.
 use Rattle.std.proofs.Common.{◌≡◌, ℕ, List, [], ◌∷◌, ◌++◌, Option, Some, None, refl, sym, ap, subst, ◌∙◌, append-nil, length-append, arith, lit<}
-use Rattle.fb_ports.specs.Causes.{TellsMore, HasRoom, IsEmptyIfTold}
-use Rattle.fb_inputs.specs.Judging.{Asks, AsksFront}
+use Rattle.fb_ports.specs.Causes.{TellsMore, HasRoom, IsEmptyIfKnown}
+use Rattle.fb_inputs.specs.Judging.{Asks, AsksPrefix}
 
 some_same : (xs ys : List (List ℕ)) → ◌≡◌ {A = Option (List (List ℕ))} (Some xs) (Some ys) → xs ≡ ys
 some_same xs ys e = cc
 
 pub asks_one : (old new : Option (List (List ℕ))) (name : List ℕ) → TellsMore old new name → Asks old new (name ∷ [])
-asks_one None new name told = told
-asks_one (Some names) new name told = told
+asks_one None new name known = known
+asks_one (Some names) new name known = known
 
-pub asks_none : (old new : Option (List (List ℕ))) (wanted : List (List ℕ)) → new ≡ old → AsksFront old new wanted
+pub asks_none : (old new : Option (List (List ℕ))) (wanted : List (List ℕ)) → new ≡ old → AsksPrefix old new wanted
 asks_none None new wanted same = ([], wanted, refl, same)
 asks_none (Some names) new wanted same = ([], wanted, refl, same ∙ ap Some (sym (append-nil names)))
 
-pub asks_front_one : (old new : Option (List (List ℕ))) (name : List ℕ) → TellsMore old new name → AsksFront old new (name ∷ [])
-asks_front_one old new name told = (name ∷ [], [], refl, asks_one old new name told)
+pub asks_prefix_one : (old new : Option (List (List ℕ))) (name : List ℕ) → TellsMore old new name → AsksPrefix old new (name ∷ [])
+asks_prefix_one old new name known = (name ∷ [], [], refl, asks_one old new name known)
 
 -- ---- the names asked for
 
@@ -25,9 +25,9 @@ asks_same (Some names) new same = same ∙ ap Some (sym (append-nil names))
 
 -- no further name was asked for
 pub asks_kept : (old mid new : Option (List (List ℕ))) (name : List ℕ) → TellsMore old mid name → new ≡ mid → Asks old new (name ∷ [])
-asks_kept old mid new name told same = subst (λ (asked : Option (List (List ℕ))). Asks old asked (name ∷ [])) (sym same) (asks_one old mid name told)
+asks_kept old mid new name known same = subst (λ (asked : Option (List (List ℕ))). Asks old asked (name ∷ [])) (sym same) (asks_one old mid name known)
 
-pub room_after : (old mid : Option (List (List ℕ))) (name : List ℕ) → IsEmptyIfTold old → Asks old mid (name ∷ []) → HasRoom mid 16
+pub room_after : (old mid : Option (List (List ℕ))) (name : List ℕ) → IsEmptyIfKnown old → Asks old mid (name ∷ []) → HasRoom mid 16
 room_after None mid name empty asked = go mid asked
   where
     go : (m : Option (List (List ℕ))) → m ≡ None → HasRoom m 16
@@ -39,7 +39,7 @@ room_after (Some names) mid name empty asked = go mid (asked ∙ ap (λ xs. Some
     go None e = tt
     go (Some xs) e = rw (some_same xs (name ∷ []) e) (lit< tt)
 
-pub room_at_first : (old : Option (List (List ℕ))) → IsEmptyIfTold old → HasRoom old 16
+pub room_at_first : (old : Option (List (List ℕ))) → IsEmptyIfKnown old → HasRoom old 16
 room_at_first None empty = tt
 room_at_first (Some names) empty = rw empty (lit< tt)
 
@@ -56,7 +56,7 @@ room_next (Some names) mid name room asked = go mid asked
     go None e = tt
     go (Some xs) e = rw (some_same xs (names ++ name ∷ []) e) (omega (arith, room, length-append names (name ∷ [])))
 
-pub room_first : (old mid : Option (List (List ℕ))) (name : List ℕ) → IsEmptyIfTold old → Asks old mid (name ∷ []) → HasRoom mid 15
+pub room_first : (old mid : Option (List (List ℕ))) (name : List ℕ) → IsEmptyIfKnown old → Asks old mid (name ∷ []) → HasRoom mid 15
 room_first None mid name empty asked = go mid asked
   where
     go : (m : Option (List (List ℕ))) → m ≡ None → HasRoom m 15
@@ -72,6 +72,6 @@ pub room_more : (old : Option (List (List ℕ))) → HasRoom old 15 → HasRoom 
 room_more None room = tt
 room_more (Some names) room = omega (arith, room)
 
-pub ruleset asking = (asks_one, asks_none, asks_front_one)
+pub ruleset asking = (asks_one, asks_none, asks_prefix_one)
 
 pub ruleset asking_on = (room_after, room_at_first)

@@ -4,7 +4,7 @@ use Rattle.fb_graph.specs.Limits.{DecodingGraph}
 use Rattle.fb_graph_in.specs.GraphText.{graph_of_text}
 use Rattle.fb_graph_in.specs.declared.faults.TextFault.{TextFault}
 use Rattle.fb_shots.specs.Shots.{Ending, at_end, still_open, refused, Shots}
-use Rattle.fb_shots.specs.Formats.{front_of}
+use Rattle.fb_shots.specs.Formats.{prefix_of}
 use Rattle.fb_shots.specs.Streams.{most_bytes, stream_of}
 use Rattle.fb_shots.specs.declared.answer.Format.{Format}
 use Rattle.fb_plan.specs.Plans.{PlanTree}
@@ -17,7 +17,7 @@ use Rattle.fb_inputs.specs.declared.graphs.NoGraph.TheVariants as no_graph
 use Rattle.fb_inputs.specs.declared.taking.ShotsEnd.{ShotsEnd}
 use Rattle.fb_inputs.specs.declared.taking.ShotsEnd.TheVariants as end
 
--- the bytes of files by their names, where told
+-- the bytes of files by their names, where known
 abbrev pub Named : Type 0
 Named = Option (List ℕ → Option (List ℕ))
 
@@ -70,7 +70,7 @@ HasShots format g shots ending text = shots_of format g text ≡ record { shots 
 abbrev pub HasFirstShots : Format → DecodingGraph → List (List ℕ) → List ℕ → Type 0
 HasFirstShots format g shots text = (more : List (List ℕ)) × ((shots_of format g text).shots ≡ shots ++ more)
 
--- the first shots of what was left of a file, where told
+-- the first shots of what was left of a file, where known
 abbrev pub FirstFrom : Option (List ℕ) → Format → DecodingGraph → List (List ℕ) → Type 0
 FirstFrom left format g shots = IfSome left (HasFirstShots format g shots)
 
@@ -80,7 +80,7 @@ pub record IsReadInPart (format : Format) (g : DecodingGraph) (left : Option (Li
   pub rest : List ℕ
   pub remains : left ≡ Some rest
   pub parts : text ≡ given ++ rest
-  pub settled : front_of format g given ≡ record { shots = shots; ending = still_open }
+  pub settled : prefix_of format g given ≡ record { shots = shots; ending = still_open }
   pub first : HasFirstShots format g shots text
 
 -- the shots that were gathered from the bytes of a file, where known, until `left` remained, by how that ended
@@ -107,11 +107,11 @@ abbrev pub IsReadOutIfNamed : Named → Option (List ℕ) → Type 0
 IsReadOutIfNamed None left = ⊤
 IsReadOutIfNamed (Some named) left = left ≡ Some []
 
--- the names asked for since are these, where told
+-- the names asked for since are these, where known
 abbrev pub Asks : Option (List (List ℕ)) → Option (List (List ℕ)) → List (List ℕ) → Type 0
 Asks None new wanted = new ≡ None
 Asks (Some names) new wanted = new ≡ Some (names ++ wanted)
 
--- the names asked for since are a front part of these, where told
-abbrev pub AsksFront : Option (List (List ℕ)) → Option (List (List ℕ)) → List (List ℕ) → Type 0
-AsksFront old new wanted = (asked more : List (List ℕ)) × (wanted ≡ asked ++ more) × Asks old new asked
+-- the names asked for since are a prefix of these, where known
+abbrev pub AsksPrefix : Option (List (List ℕ)) → Option (List (List ℕ)) → List (List ℕ) → Type 0
+AsksPrefix old new wanted = (asked more : List (List ℕ)) × (wanted ≡ asked ++ more) × Asks old new asked

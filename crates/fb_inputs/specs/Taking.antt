@@ -4,8 +4,8 @@ use Rattle.std.specs.List.{All}
 use Rattle.std.specs.Io.KnownBytes.{Consumes}
 use Rattle.fb_graph.specs.Limits.{IsShot}
 use Rattle.fb_shots.specs.Shots.{all_in_front}
-use Rattle.fb_shots.specs.Formats.{front_of}
-use Rattle.fb_shots.specs.Steps.{Ends, FailsToRead, IfTold, IsReadOut, Refuses}
+use Rattle.fb_shots.specs.Formats.{prefix_of}
+use Rattle.fb_shots.specs.Steps.{Ends, FailsToRead, IfKnown, IsReadOut, Refuses}
 use Rattle.fb_shots.specs.Streams.{Stream, follows}
 use Rattle.fb_inputs.specs.declared.taking.ShotsEnd.{ShotsEnd}
 use Rattle.fb_inputs.specs.declared.taking.ShotsEnd.TheVariants as end
@@ -14,9 +14,9 @@ use Rattle.fb_inputs.specs.declared.taking.ShotsEnd.TheVariants as end
 pub record GivesShots (old new : Stream) (before after : Option (List ℕ)) (shots : List (List ℕ)) : Type 0 where
   pub piece : List ℕ
   pub taken : Consumes before after piece
-  pub gives : IfTold (λ left later. follows old left ≡ all_in_front shots (follows new later)) before after
-  pub settles : new.finished ≡ false → (more : List ℕ) → front_of old.format old.graph (old.rest ++ (piece ++ more))
-      ≡ all_in_front shots (front_of old.format old.graph (new.rest ++ more))
+  pub gives : IfKnown (λ left later. follows old left ≡ all_in_front shots (follows new later)) before after
+  pub settles : new.finished ≡ false → (more : List ℕ) → prefix_of old.format old.graph (old.rest ++ (piece ++ more))
+      ≡ all_in_front shots (prefix_of old.format old.graph (new.rest ++ more))
   pub unfinished : new.finished ≡ false → old.finished ≡ false
   pub end : old.finished ≡ false → new.finished ≡ true → IsReadOut before after
   pub unread : old.finished ≡ true → after ≡ before

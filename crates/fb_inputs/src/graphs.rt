@@ -2,7 +2,7 @@
 
 ghost use Rattle.std.specs.Prelude.{◌≡◌, ◌≢◌, ◌<◌, ◌≤◌, ◌^◌, [], ◌∷◌, length, IfOk, IfErr, IsErrOf, Err};
 ghost use Rattle.fb_ports.specs.Causes.{HasRoom, Rose};
-ghost use Rattle.fb_inputs.specs.Judging.{Asks, AsksFront, Holds, IfRefused, IsGraphText, IsNoGraph};
+ghost use Rattle.fb_inputs.specs.Judging.{Asks, AsksPrefix, Holds, IfRefused, IsGraphText, IsNoGraph};
 
 use fb_graph::Graph;
 use fb_graph_in::{MOST_TEXT_BYTES, TextFault, read_graph};
@@ -28,7 +28,7 @@ pub fn read_named<F: Files>(
 ) -> Result<Vec<u8>, ReadError>
     requires few { limit < 2 ^ 32 }
     requires room { HasRoom (F.asked files.old) 16 }
-    ensures asks { AsksFront (F.asked files.old) (F.asked files.new) (name.now ∷ []) }
+    ensures asks { AsksPrefix (F.asked files.old) (F.asked files.new) (name.now ∷ []) }
     ensures asked { result ≢ Err ReadError.NoMemory → Asks (F.asked files.old) (F.asked files.new) (name.now ∷ []) }
     ensures names { F.named files.new ≡ F.named files.old }
     ensures bytes { IfOk result (λ v. Holds (F.named files.old) name.now (λ text. text ≡ v.items)) }
@@ -51,7 +51,7 @@ pub fn read_named<F: Files>(
 /// The graph of the file of a name.
 pub fn read_graph_file<F: Files>(alloc: Global, files: &mut F, name: &str) -> Result<Graph, NoGraph>
     requires { HasRoom (F.asked files.old) 16 }
-    ensures asks { AsksFront (F.asked files.old) (F.asked files.new) (name.now ∷ []) }
+    ensures asks { AsksPrefix (F.asked files.old) (F.asked files.new) (name.now ∷ []) }
     ensures asked { result ≢ Err NoGraph.NoMemory → Asks (F.asked files.old) (F.asked files.new) (name.now ∷ []) }
     ensures names { F.named files.new ≡ F.named files.old }
     ensures graph { IfOk result (λ g. Holds (F.named files.old) name.now (IsGraphText g)) }

@@ -1,7 +1,7 @@
 //! Text on its way to a sink, kept until there is enough of it for one write.
 
 ghost use Rattle.std.specs.Prelude.{◌≡◌, ◌<◌, ◌^◌, [], Some, length, OnOk, OnErr};
-ghost use Rattle.fb_ports.specs.Causes.{Appends, AppendsFront, HasCause};
+ghost use Rattle.fb_ports.specs.Causes.{Appends, AppendsPrefix, HasCause};
 ghost use Rattle.fb_inputs.specs.Outboxes.{Moves};
 
 use fb_ports::{Failed, Sink, put_all};
@@ -62,7 +62,7 @@ impl Outbox {
         ensures ok { OnOk result (Moves (O.taken out.old) (O.taken out.new) self.old.text self.new.text) }
         ensures less { OnOk result (length self.new.text < 2 ^ 16) }
         ensures faults { self.new.faults ≡ self.old.faults }
-        ensures front { OnErr result (AppendsFront (O.taken out.old) (O.taken out.new) self.old.text) }
+        ensures prefix { OnErr result (AppendsPrefix (O.taken out.old) (O.taken out.new) self.old.text) }
         ensures cause { HasCause (O.faults out.old) (O.faults out.new) result }
     {
         if self.text.len() < ENOUGH {
@@ -76,7 +76,7 @@ impl Outbox {
         ensures ok { OnOk result (Appends (O.taken out.old) (O.taken out.new) self.old.text) }
         ensures emptied { OnOk result (self.new.text ≡ []) }
         ensures faults { self.new.faults ≡ self.old.faults }
-        ensures front { OnErr result (AppendsFront (O.taken out.old) (O.taken out.new) self.old.text) }
+        ensures prefix { OnErr result (AppendsPrefix (O.taken out.old) (O.taken out.new) self.old.text) }
         ensures cause { HasCause (O.faults out.old) (O.faults out.new) result }
     {
         let Ok(()) = put_all(out, &self.text) else {

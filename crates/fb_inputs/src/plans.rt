@@ -3,7 +3,7 @@
 ghost use Rattle.std.specs.Prelude.{◌≡◌, ◌≢◌, ◌<◌, ◌≤◌, [], ◌∷◌, IfOk, IfErr, IsErrOf, Err};
 ghost use Rattle.fb_plan.specs.Plans.{IsPlan};
 ghost use Rattle.fb_ports.specs.Causes.{HasRoom, Rose};
-ghost use Rattle.fb_inputs.specs.Judging.{Asks, AsksFront, Holds, IfPlanRefused, IsNoPlan, IsPlanText};
+ghost use Rattle.fb_inputs.specs.Judging.{Asks, AsksPrefix, Holds, IfPlanRefused, IsNoPlan, IsPlanText};
 
 use crate::graphs::read_named;
 use fb_graph::Graph;
@@ -30,7 +30,7 @@ pub fn read_plan_file<F: Files>(
     graph: &Graph,
 ) -> Result<Plan, NoPlan>
     requires { HasRoom (F.asked files.old) 16 }
-    ensures asks { AsksFront (F.asked files.old) (F.asked files.new) (name.now ∷ []) }
+    ensures asks { AsksPrefix (F.asked files.old) (F.asked files.new) (name.now ∷ []) }
     ensures asked { result ≢ Err NoPlan.NoMemory → Asks (F.asked files.old) (F.asked files.new) (name.now ∷ []) }
     ensures names { F.named files.new ≡ F.named files.old }
     ensures plan { IfOk result (λ t. Holds (F.named files.old) name.now (IsPlanText graph.now t)) }

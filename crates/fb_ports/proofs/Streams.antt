@@ -4,9 +4,9 @@ use Rattle.std.proofs.Math.Seq.{drop-append_seam}
 use Rattle.std.proofs.KnownBytes.{Consumes-trans, Consumes-nil, Consumes-kept, Consumes-whole}
 use Rattle.fb_ports.specs.Causes.{Consumes, Keeps, IsAtEnd, ConsumesAtMost}
 
--- a list of bytes less a front part
-front_taken : (xs bs ys : List ℕ) → xs ≡ bs ++ ys → (length xs ≡ length bs + length ys) × (ys ≡ drop (length xs - length ys) xs)
-front_taken xs bs ys e =
+-- a list of bytes less a prefix
+prefix_taken : (xs bs ys : List ℕ) → xs ≡ bs ++ ys → (length xs ≡ length bs + length ys) × (ys ≡ drop (length xs - length ys) xs)
+prefix_taken xs bs ys e =
     let n : length xs ≡ length bs + length ys = ap length e ∙ length-append bs ys in
     let m : length xs - length ys ≡ length bs = omega arith in
     (n, sym (ap (λ k. drop k xs) m ∙ ap (drop (length bs)) e ∙ drop-append_seam bs ys))
@@ -14,7 +14,7 @@ front_taken xs bs ys e =
 pub consumes_at_most : (a b : Option (List ℕ)) (bs : List ℕ) (n : ℕ) → Consumes a b bs → length bs ≤ n → ConsumesAtMost a b n
 consumes_at_most None b bs n p le = tt
 consumes_at_most (Some xs) None bs n p le = absurd p
-consumes_at_most (Some xs) (Some ys) bs n p le = let q = front_taken xs bs ys p in let e : length xs ≡ length bs + length ys = q.0 in (omega arith, q.1)
+consumes_at_most (Some xs) (Some ys) bs n p le = let q = prefix_taken xs bs ys p in let e : length xs ≡ length bs + length ys = q.0 in (omega arith, q.1)
 
 -- some bytes were read, and then a read failed
 pub kept_at_most : (a b c : Option (List ℕ)) (bs : List ℕ) (n : ℕ) → Consumes a b bs → Keeps b c → length bs ≤ n → ConsumesAtMost a c n

@@ -14,32 +14,32 @@ Rose before now = min (before + 1) (2 ^ 64 - 1) ≤ now
 abbrev pub HasCause : {T E : Type 0} → ℕ → ℕ → Result T E → Type 0
 HasCause before now r = MatchResult r (λ _. now ≡ before) (λ _. Rose before now × (before ≤ now))
 
--- a list that is told has gained x at its end; one that isn't told stays untold
+-- a list that is known has gained x at its end; one that isn't stays unknown
 abbrev pub TellsMore : {X : Type 0} → Option (List X) → Option (List X) → X → Type 0
 TellsMore None new x = new ≡ None
 TellsMore (Some xs) new x = new ≡ Some (xs ++ x ∷ [])
 
--- a list that is told has fewer than n entries
+-- a list that is known has fewer than n entries
 abbrev pub HasRoom : {X : Type 0} → Option (List X) → ℕ → Type 0
 HasRoom None n = ⊤
 HasRoom (Some xs) n = length xs < n
 
--- a list that is told is empty
-abbrev pub IsEmptyIfTold : {X : Type 0} → Option (List X) → Type 0
-IsEmptyIfTold None = ⊤
-IsEmptyIfTold (Some xs) = xs ≡ []
+-- a list that is known is empty
+abbrev pub IsEmptyIfKnown : {X : Type 0} → Option (List X) → Type 0
+IsEmptyIfKnown None = ⊤
+IsEmptyIfKnown (Some xs) = xs ≡ []
 
 -- opening a file by its name: Ok makes the named bytes those that are left, and the name is one that is there;
--- after a failure nothing is left. `named` is the bytes by name, where told
+-- after a failure nothing is left. `named` is the bytes by name, where known
 abbrev pub Opens : {T E : Type 0} → Option (List ℕ → Option (List ℕ)) → Option (List ℕ) → List ℕ → Result T E → Type 0
 Opens None left name r = OnErr r (IsAtEnd left)
 Opens (Some named) left name r = MatchResult r (λ _. (left ≡ named name) × IsSome (named name)) (λ _. left ≡ Some [])
 
--- what a failed write of `bs` in several parts has appended: a front part of `bs`
-abbrev pub AppendsFront : Option (List ℕ) → Option (List ℕ) → List ℕ → Type 0
-AppendsFront old new bs = (front rest : List ℕ) × (bs ≡ front ++ rest) × Appends old new front
+-- what a failed write of `bs` in several parts has appended: a prefix of `bs`
+abbrev pub AppendsPrefix : Option (List ℕ) → Option (List ℕ) → List ℕ → Type 0
+AppendsPrefix old new bs = (prefix rest : List ℕ) × (bs ≡ prefix ++ rest) × Appends old new prefix
 
--- bytes that are told have lost at most n from their front, and nothing else
+-- bytes that are known have lost at most n from their start, and nothing else
 abbrev pub ConsumesAtMost : Option (List ℕ) → Option (List ℕ) → ℕ → Type 0
 ConsumesAtMost None new n = ⊤
 ConsumesAtMost (Some xs) None n = ⊥

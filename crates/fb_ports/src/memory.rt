@@ -71,7 +71,7 @@ fn count_call(failing: &[u64], calls: &mut u64) -> bool
     failing.contains(calls)
 }
 
-/// Copies bytes from place `at` on into the front of `buf`, as many as there are, as `buf` holds and
+/// Copies bytes from place `at` on into the start of `buf`, as many as there are, as `buf` holds and
 /// as `most` says, and answers how many.
 fn copy_from(bytes: &[u8], at: usize, most: usize, buf: &mut [u8]) -> usize
     requires { at ≤ length bytes.now }

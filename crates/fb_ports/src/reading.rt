@@ -27,7 +27,7 @@ pub trait Files {
         ensures opens { Opens (named self.old) (left self.new) (string_bytes name) result }
         ensures cause { HasCause (faults self.old) (faults self.new) result };
 
-    /// Reads bytes of the current file into the front of `buf`, and answers how many. Into a buffer
+    /// Reads bytes of the current file into the start of `buf`, and answers how many. Into a buffer
     /// that is not empty it reads at least one where any is left, so there 0 is the file's end. A
     /// failed read leaves what is left as it was.
     fn read(&mut self, buf: &mut [u8]) -> Result<usize, Failed>
@@ -52,7 +52,7 @@ pub enum ReadError {
 /// The most bytes that one read asks for.
 pub const MOST_ASKED: usize = 65_536;
 
-/// Reads at most `most` bytes of the current file into the front of `chunk`.
+/// Reads at most `most` bytes of the current file into the start of `chunk`.
 fn read_at_most<F: Files>(files: &mut F, chunk: &mut [u8], most: usize) -> Result<usize, Failed>
     requires { 0 < most }
     ensures asks { F.asked files.new ≡ F.asked files.old }
@@ -67,7 +67,7 @@ fn read_at_most<F: Files>(files: &mut F, chunk: &mut [u8], most: usize) -> Resul
 }
 
 /// Reads the current file to its end, or to the first byte past `limit`, and answers its bytes. It
-/// asks for at most 65,536 bytes at a time. After an error a front part of the file may have been
+/// asks for at most 65,536 bytes at a time. After an error a prefix of the file may have been
 /// read.
 #[tactic(auto, using(crate::proofs::Streams::streams))]
 pub fn read_whole<F: Files>(

@@ -1,5 +1,5 @@
 ghost use Rattle.std.specs.Prelude.{◌≡◌, ℕ, ◌<◌, Option, List, [], length, map, OnOk, OnErr, IfOk, IsOk};
-ghost use Rattle.fb_ports.specs.Causes.{HasCause, AppendsFront, WritesAtMost, WriteAppends, Appends, concat};
+ghost use Rattle.fb_ports.specs.Causes.{HasCause, AppendsPrefix, WritesAtMost, WriteAppends, Appends, concat};
 
 use crate::Failed;
 
@@ -12,7 +12,7 @@ pub trait Sink {
 
     ghost faults: { Self → ℕ };
 
-    /// Takes a front part of `piece`, and answers its length in bytes: at least 1 where the piece is
+    /// Takes a prefix of `piece`, and answers its length in bytes: at least 1 where the piece is
     /// not empty. A failed put took nothing. A put of an empty piece takes nothing and is Ok.
     fn put(&mut self, piece: &[u8]) -> Result<usize, Failed>
         ensures bound { WritesAtMost result piece.now }
@@ -22,12 +22,12 @@ pub trait Sink {
         ensures cause { HasCause (faults self.old) (faults self.new) result };
 }
 
-/// Puts the whole piece, by as many puts as it takes. After a failure the sink has taken a front part
+/// Puts the whole piece, by as many puts as it takes. After a failure the sink has taken a prefix
 /// of the piece.
 #[tactic(auto, using(crate::proofs::Onward::onward))]
 pub fn put_all<S: Sink>(sink: &mut S, piece: &[u8]) -> Result<(), Failed>
     ensures all { OnOk result (Appends (S.taken sink.old) (S.taken sink.new) piece.now) }
-    ensures front { OnErr result (AppendsFront (S.taken sink.old) (S.taken sink.new) piece.now) }
+    ensures prefix { OnErr result (AppendsPrefix (S.taken sink.old) (S.taken sink.new) piece.now) }
     ensures nothing { piece.now ≡ [] → IsOk result }
     ensures cause { HasCause (S.faults sink.old) (S.faults sink.new) result }
 {
@@ -41,11 +41,11 @@ pub fn put_all<S: Sink>(sink: &mut S, piece: &[u8]) -> Result<(), Failed>
     Ok(())
 }
 
-/// Puts the parts whole, one after another. After a failure the sink has taken a front part of all
+/// Puts the parts whole, one after another. After a failure the sink has taken a prefix of all
 /// that they hold together.
 pub fn put_parts<S: Sink>(sink: &mut S, parts: &[&[u8]]) -> Result<(), Failed>
     ensures all { OnOk result (Appends (S.taken sink.old) (S.taken sink.new) (concat (map (λ p. p.now) parts.now))) }
-    ensures front { OnErr result (AppendsFront (S.taken sink.old) (S.taken sink.new)
+    ensures prefix { OnErr result (AppendsPrefix (S.taken sink.old) (S.taken sink.new)
         (concat (map (λ p. p.now) parts.now))) }
     ensures cause { HasCause (S.faults sink.old) (S.faults sink.new) result }
 {

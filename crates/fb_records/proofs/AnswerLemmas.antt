@@ -9,66 +9,66 @@ use Rattle.fb_records.specs.declared.answer.Next.TheVariants.{Shot, NotYet, End,
 use Rattle.fb_records.specs.declared.answer.Stop.{Stop}
 use Rattle.fb_records.specs.declared.answer.Stop.TheVariants as stop
 use Rattle.fb_records.specs.Records.{at_end, refused, Records, only, in_front, Judged, with_line, Reader}
-use Rattle.fb_records.specs.Lines.{holds, lines_of, after_lines, after_first, records_by_lines, front_by_lines, Stays}
+use Rattle.fb_records.specs.Lines.{holds, lines_of, after_lines, after_first, records_by_lines, prefix_by_lines, Stays}
 use Rattle.fb_records.specs.Answers.{answer_of, reading, Gives, Refuses, Answers, IfRefused, Skips}
 use Rattle.fb_records.proofs.LineLemmas.{whole_parts_none, last_part_none, whole_parts_one, last_part_one, after_line_one, after_line_none}
-use Rattle.fb_records.proofs.RecordLemmas.{Judge, Begun, records_one, front_one, records_none, records_go_on}
+use Rattle.fb_records.proofs.RecordLemmas.{Judge, Begun, records_one, prefix_one, records_none, records_go_on}
 
 -- ---- what was read
 
-reading_done : {K C : Type 0} (records front : C → List ℕ → Records K) (r : Reader C) → r.finished ≡ true → reading records front r ≡ records r.subject r.rest
-reading_done records front r e = rw e refl
+reading_done : {K C : Type 0} (records prefix : C → List ℕ → Records K) (r : Reader C) → r.finished ≡ true → reading records prefix r ≡ records r.subject r.rest
+reading_done records prefix r e = rw e refl
 
-reading_open : {K C : Type 0} (records front : C → List ℕ → Records K) (r : Reader C) → r.finished ≡ false → reading records front r ≡ front r.subject r.rest
-reading_open records front r e = rw e refl
+reading_open : {K C : Type 0} (records prefix : C → List ℕ → Records K) (r : Reader C) → r.finished ≡ false → reading records prefix r ≡ prefix r.subject r.rest
+reading_open records prefix r e = rw e refl
 
 -- an answer is the one that the first of what was read gives
-pub answer_from : {K C : Type 0} (records front : C → List ℕ → Records K) (after : List ℕ → List ℕ) (old new : Reader C) (a : Next K) → Answers records front after old new a → a ≡ answer_of (reading records front old)
-answer_from records front after old new (Shot shot) h = elim (cases_Bool old.finished) [
-  | inl e ↦ sym (ap answer_of (reading_done records front old e ∙ h.0.now))
-  | inr e ↦ sym (ap answer_of (reading_open records front old e ∙ h.0.so_far e))
+pub answer_from : {K C : Type 0} (records prefix : C → List ℕ → Records K) (after : List ℕ → List ℕ) (old new : Reader C) (a : Next K) → Answers records prefix after old new a → a ≡ answer_of (reading records prefix old)
+answer_from records prefix after old new (Shot shot) h = elim (cases_Bool old.finished) [
+  | inl e ↦ sym (ap answer_of (reading_done records prefix old e ∙ h.0.now))
+  | inr e ↦ sym (ap answer_of (reading_open records prefix old e ∙ h.0.so_far e))
 ]
-answer_from records front after old new NotYet h = sym (ap answer_of (reading_open records front old h.0 ∙ h.1))
-answer_from records front after old new End h = sym (ap answer_of (reading_done records front old h.0 ∙ h.1))
-answer_from records front after old new (Refused kind) h = elim (cases_Bool old.finished) [
-  | inl e ↦ sym (ap answer_of (reading_done records front old e ∙ h.0.now))
-  | inr e ↦ sym (ap answer_of (reading_open records front old e ∙ h.0.so_far e))
+answer_from records prefix after old new NotYet h = sym (ap answer_of (reading_open records prefix old h.0 ∙ h.1))
+answer_from records prefix after old new End h = sym (ap answer_of (reading_done records prefix old h.0 ∙ h.1))
+answer_from records prefix after old new (Refused kind) h = elim (cases_Bool old.finished) [
+  | inl e ↦ sym (ap answer_of (reading_done records prefix old e ∙ h.0.now))
+  | inr e ↦ sym (ap answer_of (reading_open records prefix old e ∙ h.0.so_far e))
 ]
 
 -- ---- what is skipped first
 
-pub skips_nothing : {K : Type 0} (records front : List ℕ → Records K) (after : List ℕ → List ℕ) → Skips records front after []
-skips_nothing records front after = record { whole = λ more. refl; so_far = λ more. refl; left = λ more. refl }
+pub skips_nothing : {K : Type 0} (records prefix : List ℕ → Records K) (after : List ℕ → List ℕ) → Skips records prefix after []
+skips_nothing records prefix after = record { whole = λ more. refl; so_far = λ more. refl; left = λ more. refl }
 
 skipped_line : (skipped line more : List ℕ) → (skipped ++ line ++ 10 ∷ []) ++ more ≡ skipped ++ (line ++ 10 ∷ more)
 skipped_line skipped line more = append_assoc (skipped ++ line) (10 ∷ []) more ∙ append_assoc skipped line (10 ∷ more)
 
 -- a newline after a line that is skipped
-pub skips_line : {K : Type 0} (judge : Judge K) (begun : Begun K) (after : List ℕ → List ℕ) (skipped line : List ℕ) → Skips (records_by_lines judge) (front_by_lines judge begun) after skipped → holds 10 line ≡ false
-    → judge line ≡ Ok None → ((more : List ℕ) → after (line ++ 10 ∷ more) ≡ after more) → Skips (records_by_lines judge) (front_by_lines judge begun) after (skipped ++ line ++ 10 ∷ [])
+pub skips_line : {K : Type 0} (judge : Judge K) (begun : Begun K) (after : List ℕ → List ℕ) (skipped line : List ℕ) → Skips (records_by_lines judge) (prefix_by_lines judge begun) after skipped → holds 10 line ≡ false
+    → judge line ≡ Ok None → ((more : List ℕ) → after (line ++ 10 ∷ more) ≡ after more) → Skips (records_by_lines judge) (prefix_by_lines judge begun) after (skipped ++ line ++ 10 ∷ [])
 skips_line {K} judge begun after skipped line skips h given blank = record {
   whole = λ more. ap (records_by_lines judge) (skipped_line skipped line more) ∙ skips.whole (line ++ 10 ∷ more) ∙ records_one judge line more h
       ∙ ap (λ (r : Judged K). with_line r (records_by_lines judge more)) given;
-  so_far = λ more. ap (front_by_lines judge begun) (skipped_line skipped line more) ∙ skips.so_far (line ++ 10 ∷ more) ∙ front_one judge begun line more h
-      ∙ ap (λ (r : Judged K). with_line r (front_by_lines judge begun more)) given;
+  so_far = λ more. ap (prefix_by_lines judge begun) (skipped_line skipped line more) ∙ skips.so_far (line ++ 10 ∷ more) ∙ prefix_one judge begun line more h
+      ∙ ap (λ (r : Judged K). with_line r (prefix_by_lines judge begun more)) given;
   left = λ more. ap after (skipped_line skipped line more) ∙ skips.left (line ++ 10 ∷ more) ∙ blank more;
 }
 
-pub skip_gives : {K C : Type 0} (records front : List ℕ → Records K) (after : List ℕ → List ℕ) (skipped rest : List ℕ) (old new : Reader C) (shot : List ℕ) → Skips records front after skipped → old.rest ≡ skipped ++ rest
-    → Gives records front (record old { rest = rest }) new shot → Gives records front old new shot
-skip_gives records front after skipped rest old new shot skips cut given = record {
+pub skip_gives : {K C : Type 0} (records prefix : List ℕ → Records K) (after : List ℕ → List ℕ) (skipped rest : List ℕ) (old new : Reader C) (shot : List ℕ) → Skips records prefix after skipped → old.rest ≡ skipped ++ rest
+    → Gives records prefix (record old { rest = rest }) new shot → Gives records prefix old new shot
+skip_gives records prefix after skipped rest old new shot skips cut given = record {
   shorter = (let less = given.shorter in omega (arith, ap length cut, length-append skipped rest));
   now = ap records cut ∙ skips.whole rest ∙ given.now;
-  so_far = λ open_. ap front cut ∙ skips.so_far rest ∙ given.so_far open_;
+  so_far = λ open_. ap prefix cut ∙ skips.so_far rest ∙ given.so_far open_;
   later = λ open_ more. ap (λ (l : List ℕ). records (l ++ more)) cut ∙ ap records (append_assoc skipped rest more) ∙ skips.whole (rest ++ more) ∙ given.later open_ more;
-  onward = λ open_ more. ap (λ (l : List ℕ). front (l ++ more)) cut ∙ ap front (append_assoc skipped rest more) ∙ skips.so_far (rest ++ more) ∙ given.onward open_ more;
+  onward = λ open_ more. ap (λ (l : List ℕ). prefix (l ++ more)) cut ∙ ap prefix (append_assoc skipped rest more) ∙ skips.so_far (rest ++ more) ∙ given.onward open_ more;
 }
 
-pub skip_refuses : {K C : Type 0} (records front : List ℕ → Records K) (after : List ℕ → List ℕ) (skipped rest : List ℕ) (old : Reader C) (kind : K) → Skips records front after skipped → old.rest ≡ skipped ++ rest
-    → Refuses records front (record old { rest = rest }) kind → Refuses records front old kind
-skip_refuses records front after skipped rest old kind skips cut given = record {
+pub skip_refuses : {K C : Type 0} (records prefix : List ℕ → Records K) (after : List ℕ → List ℕ) (skipped rest : List ℕ) (old : Reader C) (kind : K) → Skips records prefix after skipped → old.rest ≡ skipped ++ rest
+    → Refuses records prefix (record old { rest = rest }) kind → Refuses records prefix old kind
+skip_refuses records prefix after skipped rest old kind skips cut given = record {
   now = ap records cut ∙ skips.whole rest ∙ given.now;
-  so_far = λ open_. ap front cut ∙ skips.so_far rest ∙ given.so_far open_;
+  so_far = λ open_. ap prefix cut ∙ skips.so_far rest ∙ given.so_far open_;
   later = λ open_ more. ap (λ (l : List ℕ). records (l ++ more)) cut ∙ ap records (append_assoc skipped rest more) ∙ skips.whole (rest ++ more) ∙ given.later open_ more;
 }
 
@@ -78,8 +78,8 @@ false_true : (b : Bool) → b ≡ true → b ≡ false → ⊥
 false_true b t f = cc
 
 -- what may go on and is refused already is refused of all
-pub refuses_front : {K C : Type 0} (judge : Judge K) (begun : Begun K) → Stays judge begun → (r : Reader C) (kind : K) → front_by_lines judge begun r.rest ≡ only (refused kind) → Refuses (records_by_lines judge) (front_by_lines judge begun) r kind
-refuses_front {K} judge begun stays r kind e =
+pub refuses_prefix : {K C : Type 0} (judge : Judge K) (begun : Begun K) → Stays judge begun → (r : Reader C) (kind : K) → prefix_by_lines judge begun r.rest ≡ only (refused kind) → Refuses (records_by_lines judge) (prefix_by_lines judge begun) r kind
+refuses_prefix {K} judge begun stays r kind e =
     let go = λ (more : List ℕ). (records_go_on judge begun stays r.rest more).judged kind (ap (λ (x : Records K). x.ending) e) ∙ e in
     record {
       now = ap (records_by_lines judge) (sym (append-nil r.rest)) ∙ go [];
@@ -87,7 +87,7 @@ refuses_front {K} judge begun stays r kind e =
       later = λ _ more. go more;
     }
 
-pub refuses_last : {K C : Type 0} (judge : Judge K) (begun : Begun K) (r : Reader C) (kind : K) → r.finished ≡ true → records_by_lines judge r.rest ≡ only (refused kind) → Refuses (records_by_lines judge) (front_by_lines judge begun) r kind
+pub refuses_last : {K C : Type 0} (judge : Judge K) (begun : Begun K) (r : Reader C) (kind : K) → r.finished ≡ true → records_by_lines judge r.rest ≡ only (refused kind) → Refuses (records_by_lines judge) (prefix_by_lines judge begun) r kind
 refuses_last judge begun r kind done e = record {
   now = e;
   so_far = λ f. absurd (false_true r.finished done f);
@@ -95,23 +95,23 @@ refuses_last judge begun r kind done e = record {
 }
 
 -- a line that has its newline and is a shot
-pub gives_line : {K C : Type 0} (judge : Judge K) (begun : Begun K) (old new : Reader C) (line shot : List ℕ) → old.rest ≡ line ++ 10 ∷ new.rest → holds 10 line ≡ false → judge line ≡ Ok (Some shot) → Gives (records_by_lines judge) (front_by_lines judge begun) old new shot
+pub gives_line : {K C : Type 0} (judge : Judge K) (begun : Begun K) (old new : Reader C) (line shot : List ℕ) → old.rest ≡ line ++ 10 ∷ new.rest → holds 10 line ≡ false → judge line ≡ Ok (Some shot) → Gives (records_by_lines judge) (prefix_by_lines judge begun) old new shot
 gives_line {K} judge begun old new line shot cut h j =
     let is_shot = λ (r : Records K). ap (λ (given : Judged K). with_line given r) j in
     record {
       shorter = omega (arith, ap length cut, length-append line (10 ∷ new.rest));
       now = ap (records_by_lines judge) cut ∙ records_one judge line new.rest h ∙ is_shot (records_by_lines judge new.rest);
-      so_far = λ _. ap (front_by_lines judge begun) cut ∙ front_one judge begun line new.rest h ∙ is_shot (front_by_lines judge begun new.rest);
+      so_far = λ _. ap (prefix_by_lines judge begun) cut ∙ prefix_one judge begun line new.rest h ∙ is_shot (prefix_by_lines judge begun new.rest);
       later = λ _ more. ap (λ (l : List ℕ). records_by_lines judge (l ++ more)) cut
           ∙ ap (records_by_lines judge) (append_assoc line (10 ∷ new.rest) more)
           ∙ records_one judge line (new.rest ++ more) h ∙ is_shot (records_by_lines judge (new.rest ++ more));
-      onward = λ _ more. ap (λ (l : List ℕ). front_by_lines judge begun (l ++ more)) cut
-          ∙ ap (front_by_lines judge begun) (append_assoc line (10 ∷ new.rest) more)
-          ∙ front_one judge begun line (new.rest ++ more) h ∙ is_shot (front_by_lines judge begun (new.rest ++ more));
+      onward = λ _ more. ap (λ (l : List ℕ). prefix_by_lines judge begun (l ++ more)) cut
+          ∙ ap (prefix_by_lines judge begun) (append_assoc line (10 ∷ new.rest) more)
+          ∙ prefix_one judge begun line (new.rest ++ more) h ∙ is_shot (prefix_by_lines judge begun (new.rest ++ more));
     }
 
 -- the last line of a whole input, which is a shot
-pub gives_last : {K C : Type 0} (judge : Judge K) (begun : Begun K) (old new : Reader C) (b : ℕ) (line shot : List ℕ) → old.finished ≡ true → old.rest ≡ b ∷ line → new.rest ≡ [] → holds 10 (b ∷ line) ≡ false → judge (b ∷ line) ≡ Ok (Some shot) → Gives (records_by_lines judge) (front_by_lines judge begun) old new shot
+pub gives_last : {K C : Type 0} (judge : Judge K) (begun : Begun K) (old new : Reader C) (b : ℕ) (line shot : List ℕ) → old.finished ≡ true → old.rest ≡ b ∷ line → new.rest ≡ [] → holds 10 (b ∷ line) ≡ false → judge (b ∷ line) ≡ Ok (Some shot) → Gives (records_by_lines judge) (prefix_by_lines judge begun) old new shot
 gives_last {K} judge begun old new b line shot done old-is new-is h j = record {
   shorter = omega (arith, ap length old-is, ap length new-is);
   now = ap (records_by_lines judge) old-is ∙ records_none judge b line h

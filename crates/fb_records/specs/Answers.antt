@@ -17,36 +17,36 @@ abbrev pub answer_of : {K : Type 0} → Records K → Next K
 answer_of r = first_answer r.shots r.ending
 
 -- what is read of a reader's rest: bytes that are all, or that may go on
-abbrev pub reading : {K C : Type 0} → (records front : C → List ℕ → Records K) → Reader C → Records K
-reading records front r = if r.finished then records r.subject r.rest else front r.subject r.rest
+abbrev pub reading : {K C : Type 0} → (records prefix : C → List ℕ → Records K) → Reader C → Records K
+reading records prefix r = if r.finished then records r.subject r.rest else prefix r.subject r.rest
 
 -- The shot is the first record of the old rest, and the new rest holds all others, whatever is fed later.
-pub record Gives {K C : Type 0} (records front : List ℕ → Records K) (old new : Reader C) (shot : List ℕ) : Type 0 where
+pub record Gives {K C : Type 0} (records prefix : List ℕ → Records K) (old new : Reader C) (shot : List ℕ) : Type 0 where
   pub shorter : length new.rest < length old.rest
   pub now : records old.rest ≡ in_front shot (records new.rest)
-  pub so_far : old.finished ≡ false → front old.rest ≡ in_front shot (front new.rest)
+  pub so_far : old.finished ≡ false → prefix old.rest ≡ in_front shot (prefix new.rest)
   pub later : old.finished ≡ false → (more : List ℕ)
       → records (old.rest ++ more) ≡ in_front shot (records (new.rest ++ more))
   pub onward : old.finished ≡ false → (more : List ℕ)
-      → front (old.rest ++ more) ≡ in_front shot (front (new.rest ++ more))
+      → prefix (old.rest ++ more) ≡ in_front shot (prefix (new.rest ++ more))
 
 -- The rest begins by what is refused, whatever is fed later.
-pub record Refuses {K C : Type 0} (records front : List ℕ → Records K) (old : Reader C) (kind : K) : Type 0 where
+pub record Refuses {K C : Type 0} (records prefix : List ℕ → Records K) (old : Reader C) (kind : K) : Type 0 where
   pub now : records old.rest ≡ only (refused kind)
-  pub so_far : old.finished ≡ false → front old.rest ≡ only (refused kind)
+  pub so_far : old.finished ≡ false → prefix old.rest ≡ only (refused kind)
   pub later : old.finished ≡ false → (more : List ℕ) → records (old.rest ++ more) ≡ only (refused kind)
 
 -- an answer, what it says of the rest, and what it leaves of it
-abbrev pub Answers : {K C : Type 0} → (records front : C → List ℕ → Records K) → (List ℕ → List ℕ)
+abbrev pub Answers : {K C : Type 0} → (records prefix : C → List ℕ → Records K) → (List ℕ → List ℕ)
     → Reader C → Reader C → Next K → Type 0
-Answers records front after old new (Shot shot) =
-    Gives (records old.subject) (front old.subject) old new shot × (new ≡ record old { rest = after old.rest })
-Answers records front after old new NotYet =
-    (old.finished ≡ false) × (front old.subject old.rest ≡ only still_open) × (new ≡ old)
-Answers records front after old new End =
+Answers records prefix after old new (Shot shot) =
+    Gives (records old.subject) (prefix old.subject) old new shot × (new ≡ record old { rest = after old.rest })
+Answers records prefix after old new NotYet =
+    (old.finished ≡ false) × (prefix old.subject old.rest ≡ only still_open) × (new ≡ old)
+Answers records prefix after old new End =
     (old.finished ≡ true) × (records old.subject old.rest ≡ only at_end) × (new ≡ old)
-Answers records front after old new (Refused kind) =
-    Refuses (records old.subject) (front old.subject) old kind × (new ≡ old)
+Answers records prefix after old new (Refused kind) =
+    Refuses (records old.subject) (prefix old.subject) old kind × (new ≡ old)
 
 -- the fact of the shot, where an answer is one
 abbrev pub IfShot : {K : Type 0} → (List ℕ → Type 0) → Next K → Type 0
@@ -61,28 +61,28 @@ IfRefused P stop.NoMemory = Unit {0}
 IfRefused P (stop.Refused kind) = P kind
 
 -- Wherever some bytes are cut in two, what is settled by the first part stands before all that they hold.
-abbrev pub GoesOnAnywhere : {K C : Type 0} → (records front : C → List ℕ → Records K) → Type 0
-GoesOnAnywhere {K} {C} records front =
-    (c : C) (bytes more : List ℕ) → GoesOn (front c bytes) (records c (bytes ++ more))
-    × GoesOn (front c bytes) (front c (bytes ++ more))
+abbrev pub GoesOnAnywhere : {K C : Type 0} → (records prefix : C → List ℕ → Records K) → Type 0
+GoesOnAnywhere {K} {C} records prefix =
+    (c : C) (bytes more : List ℕ) → GoesOn (prefix c bytes) (records c (bytes ++ more))
+    × GoesOn (prefix c bytes) (prefix c (bytes ++ more))
 
 -- These bytes begin by the shot and go on by those left, whatever follows.
-abbrev pub IsLeft : {K : Type 0} → (records front : List ℕ → Records K) → (bytes shot left : List ℕ) → Type 0
-IsLeft records front bytes shot left =
-    (front bytes ≡ in_front shot (front left))
+abbrev pub IsLeft : {K : Type 0} → (records prefix : List ℕ → Records K) → (bytes shot left : List ℕ) → Type 0
+IsLeft records prefix bytes shot left =
+    (prefix bytes ≡ in_front shot (prefix left))
     × ((more : List ℕ) → records (bytes ++ more) ≡ in_front shot (records (left ++ more)))
-    × ((more : List ℕ) → front (bytes ++ more) ≡ in_front shot (front (left ++ more)))
+    × ((more : List ℕ) → prefix (bytes ++ more) ≡ in_front shot (prefix (left ++ more)))
 
 -- Without the bytes of its first record an input gives the same without its first shot.
-abbrev pub FirstRecordLeaves : {K C : Type 0} → (records front : C → List ℕ → Records K) → (C → List ℕ → List ℕ)
+abbrev pub FirstRecordLeaves : {K C : Type 0} → (records prefix : C → List ℕ → Records K) → (C → List ℕ → List ℕ)
     → Type 0
-FirstRecordLeaves {K} {C} records front after =
-    (c : C) (bytes shot : List ℕ) (shots : List (List ℕ)) → (front c bytes).shots ≡ shot ∷ shots
-    → IsLeft (records c) (front c) bytes shot (after c bytes)
+FirstRecordLeaves {K} {C} records prefix after =
+    (c : C) (bytes shot : List ℕ) (shots : List (List ℕ)) → (prefix c bytes).shots ≡ shot ∷ shots
+    → IsLeft (records c) (prefix c) bytes shot (after c bytes)
 
 -- These bytes are skipped, whatever follows.
-pub record Skips {K : Type 0} (records front : List ℕ → Records K) (after : List ℕ → List ℕ) (skipped : List ℕ)
+pub record Skips {K : Type 0} (records prefix : List ℕ → Records K) (after : List ℕ → List ℕ) (skipped : List ℕ)
     : Type 0 where
   pub whole : (more : List ℕ) → records (skipped ++ more) ≡ records more
-  pub so_far : (more : List ℕ) → front (skipped ++ more) ≡ front more
+  pub so_far : (more : List ℕ) → prefix (skipped ++ more) ≡ prefix more
   pub left : (more : List ℕ) → after (skipped ++ more) ≡ after more

@@ -1,15 +1,15 @@
 -- What holds of each format whose records are lines.
 use Rattle.std.specs.Prelude.{◌≡◌, ℕ, false, List, ◌∷◌, ◌++◌, Some, None, Ok}
 use Rattle.fb_records.specs.Records.{Ending, Judged, GoesOn}
-use Rattle.fb_records.specs.Lines.{holds, records_by_lines, front_by_lines, Stays}
+use Rattle.fb_records.specs.Lines.{holds, records_by_lines, prefix_by_lines, Stays}
 use Rattle.fb_records.specs.Answers.{IsLeft}
 
 -- Wherever some bytes are cut in two, what is settled by the first part stands before all that they hold.
 abbrev pub LinesGoOn : Type 0 → Type 0
 LinesGoOn K =
     (judge : List ℕ → Judged K) (begun : List ℕ → Ending K) → Stays judge begun → (bytes more : List ℕ)
-    → GoesOn (front_by_lines judge begun bytes) (records_by_lines judge (bytes ++ more))
-    × GoesOn (front_by_lines judge begun bytes) (front_by_lines judge begun (bytes ++ more))
+    → GoesOn (prefix_by_lines judge begun bytes) (records_by_lines judge (bytes ++ more))
+    × GoesOn (prefix_by_lines judge begun bytes) (prefix_by_lines judge begun (bytes ++ more))
 
 -- What stands after the first record: skipped lines before it change nothing, and its line ends it.
 pub record Leaves {K : Type 0} (judge : List ℕ → Judged K) (after : List ℕ → List ℕ) : Type 0 where
@@ -22,5 +22,5 @@ pub record Leaves {K : Type 0} (judge : List ℕ → Judged K) (after : List ℕ
 abbrev pub FirstLineLeaves : Type 0 → Type 0
 FirstLineLeaves K =
     (judge : List ℕ → Judged K) (begun : List ℕ → Ending K) (after : List ℕ → List ℕ) → Leaves judge after
-    → (bytes shot : List ℕ) (shots : List (List ℕ)) → (front_by_lines judge begun bytes).shots ≡ shot ∷ shots
-    → IsLeft (records_by_lines judge) (front_by_lines judge begun) bytes shot (after bytes)
+    → (bytes shot : List ℕ) (shots : List (List ℕ)) → (prefix_by_lines judge begun bytes).shots ≡ shot ∷ shots
+    → IsLeft (records_by_lines judge) (prefix_by_lines judge begun) bytes shot (after bytes)

@@ -63,9 +63,9 @@ after_first is_blank bytes = after_lines (suc (prefix_len is_blank (lines_of byt
 abbrev pub records_by_lines : {K : Type 0} → (List ℕ → Judged K) → List ℕ → Records K
 records_by_lines judge bytes = go_down judge (lines_of bytes) at_end
 
--- What is settled by bytes that may go on, where the line that may go on is judged by begun.
-abbrev pub front_by_lines : {K : Type 0} → (List ℕ → Judged K) → (List ℕ → Ending K) → List ℕ → Records K
-front_by_lines judge begun bytes = go_down judge (whole_parts 10 bytes) (begun (last_part 10 bytes))
+-- What is settled by a prefix of an input, where the line that may go on is judged by begun.
+abbrev pub prefix_by_lines : {K : Type 0} → (List ℕ → Judged K) → (List ℕ → Ending K) → List ℕ → Records K
+prefix_by_lines judge begun bytes = go_down judge (whole_parts 10 bytes) (begun (last_part 10 bytes))
 
 -- What is refused of a line that may go on is refused of that line, however it goes on.
 pub record Stays {K : Type 0} (judge : List ℕ → Judged K) (begun : List ℕ → Ending K) : Type 0 where

@@ -45,10 +45,10 @@ abbrev pub go_down : {K : Type 0} → (List ℕ → Judged K) → List (List ℕ
 go_down judge [] ending = only ending
 go_down judge (line ∷ lines) ending = with_line (judge line) (go_down judge lines ending)
 
--- What is read of the front part of some bytes stands before what is read of all of them, and what it refuses is refused.
-pub record GoesOn {K : Type 0} (front all : Records K) : Type 0 where
-  pub shots : (more : List (List ℕ)) × (all.shots ≡ front.shots ++ more)
-  pub judged : (kind : K) → front.ending ≡ refused kind → all ≡ front
+-- What is read of a prefix of some bytes stands before what is read of all of them, and what it refuses is refused.
+pub record GoesOn {K : Type 0} (prefix all : Records K) : Type 0 where
+  pub shots : (more : List (List ℕ)) × (all.shots ≡ prefix.shots ++ more)
+  pub judged : (kind : K) → prefix.ending ≡ refused kind → all ≡ prefix
 
 -- a reader: what its shots are of, the bytes fed that no answer has used, and whether they are all
 pub record Reader (C : Type 0) : Type 0 where

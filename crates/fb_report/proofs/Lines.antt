@@ -2,8 +2,8 @@
 use Rattle.std.proofs.Common.{◌≡◌, ℕ, ◌+◌, ◌<◌, ◌≤◌, List, [], ◌∷◌, ◌++◌, Option, length, take, map, get_or, refl, sym, ap, ◌∙◌, append_assoc, append-nil, subst, codes, decimal}
 use Rattle.std.proofs.KnownBytes.{Appends-trans}
 use Rattle.std.proofs.lemmas.List.{take_all}
-use Rattle.fb_ports.specs.Causes.{Appends, AppendsFront, concat}
-use Rattle.fb_ports.proofs.Onward.{parts_onward, parts_front, front_second, front_first}
+use Rattle.fb_ports.specs.Causes.{Appends, AppendsPrefix, concat}
+use Rattle.fb_ports.proofs.Onward.{parts_onward, parts_prefix, prefix_second, prefix_first}
 use Rattle.fb_graph.specs.declared.parts.Cut.{Cut}
 use Rattle.fb_graph.specs.declared.parts.Row.TheVariants.{Best}
 use Rattle.fb_report.specs.Texts.{line, line_end, cut_line, row_text}
@@ -26,10 +26,10 @@ pub numbers_onward : (a b c : Option (List ℕ)) (ns : List ℕ) (i n d : ℕ) �
 numbers_onward a b c ns i n d lt e p q = parts_onward a b c spaced ns i d lt p (subst (λ k. Appends b c (spaced k)) e q)
 
 -- a put of one more number stopped midway
-pub numbers_front : (a b c : Option (List ℕ)) (ns : List ℕ) (i n d : ℕ) → i < length ns → n ≡ get_or ns i d
-    → Appends a b (concat (map spaced (take i ns))) → AppendsFront b c (spaced n) → AppendsFront a c (line_end (map decimal ns))
-numbers_front a b c ns i n d lt e p q = subst (AppendsFront a c) (sym (line_end-numbers ns))
-    (front_first a c _ (codes "\n") (parts_front a b c spaced ns i d lt p (subst (λ k. AppendsFront b c (spaced k)) e q)))
+pub numbers_prefix : (a b c : Option (List ℕ)) (ns : List ℕ) (i n d : ℕ) → i < length ns → n ≡ get_or ns i d
+    → Appends a b (concat (map spaced (take i ns))) → AppendsPrefix b c (spaced n) → AppendsPrefix a c (line_end (map decimal ns))
+numbers_prefix a b c ns i n d lt e p q = subst (AppendsPrefix a c) (sym (line_end-numbers ns))
+    (prefix_first a c _ (codes "\n") (parts_prefix a b c spaced ns i d lt p (subst (λ k. AppendsPrefix b c (spaced k)) e q)))
 
 -- one more cut's line was put
 pub cuts_onward : (a b c : Option (List ℕ)) (cs : List Cut) (i : ℕ) (t d : Cut) → i < length cs → t ≡ get_or cs i d
@@ -37,9 +37,9 @@ pub cuts_onward : (a b c : Option (List ℕ)) (cs : List Cut) (i : ℕ) (t d : C
 cuts_onward a b c cs i t d lt e p q = parts_onward a b c cut_line cs i d lt p (subst (λ k. Appends b c (cut_line k)) e q)
 
 -- a put of one more cut's line stopped midway
-pub cuts_front : (a b c : Option (List ℕ)) (cs : List Cut) (i : ℕ) (t d : Cut) → i < length cs → t ≡ get_or cs i d
-    → Appends a b (concat (map cut_line (take i cs))) → AppendsFront b c (cut_line t) → AppendsFront a c (concat (map cut_line cs))
-cuts_front a b c cs i t d lt e p q = parts_front a b c cut_line cs i d lt p (subst (λ k. AppendsFront b c (cut_line k)) e q)
+pub cuts_prefix : (a b c : Option (List ℕ)) (cs : List Cut) (i : ℕ) (t d : Cut) → i < length cs → t ≡ get_or cs i d
+    → Appends a b (concat (map cut_line (take i cs))) → AppendsPrefix b c (cut_line t) → AppendsPrefix a c (concat (map cut_line cs))
+cuts_prefix a b c cs i t d lt e p q = parts_prefix a b c cut_line cs i d lt p (subst (λ k. AppendsPrefix b c (cut_line k)) e q)
 
 -- all numbers were put, and then the newline
 pub numbers_whole : (a b c : Option (List ℕ)) (ns : List ℕ) (i : ℕ) → length ns ≤ i
@@ -48,12 +48,12 @@ numbers_whole a b c ns i le p q = subst (Appends a c) (sym (line_end-numbers ns)
     (Appends-trans a b c _ _ (subst (λ l. Appends a b (concat (map spaced l))) (take_all i ns le) p) q)
 
 -- all numbers were put, and the put of the newline failed
-pub newline_front : (a b c : Option (List ℕ)) (ns : List ℕ) (i : ℕ) → length ns ≤ i
-    → Appends a b (concat (map spaced (take i ns))) → AppendsFront b c (codes "\n") → AppendsFront a c (line_end (map decimal ns))
-newline_front a b c ns i le p q = subst (AppendsFront a c) (sym (line_end-numbers ns))
-    (front_second a b c _ _ (subst (λ l. Appends a b (concat (map spaced l))) (take_all i ns le) p) q)
+pub newline_prefix : (a b c : Option (List ℕ)) (ns : List ℕ) (i : ℕ) → length ns ≤ i
+    → Appends a b (concat (map spaced (take i ns))) → AppendsPrefix b c (codes "\n") → AppendsPrefix a c (line_end (map decimal ns))
+newline_prefix a b c ns i le p q = subst (AppendsPrefix a c) (sym (line_end-numbers ns))
+    (prefix_second a b c _ _ (subst (λ l. Appends a b (concat (map spaced l))) (take_all i ns le) p) q)
 
--- the front of a correction's text, up to its edges, as the writer puts it
+-- the prefix of a correction's text, up to its edges, as the writer puts it
 abbrev pub opening : ℕ → List ℕ
 opening k = codes "shot " ++ (decimal k ++ codes "\nedges")
 
@@ -71,8 +71,8 @@ cut_opening value = codes "cut " ++ (decimal value ++ [])
 pub cut_line-parts : (c : Cut) → cut_line c ≡ cut_opening c.value ++ line_end (map decimal c.vertices)
 cut_line-parts c = simp append-nil
 
--- a cut's line before its vertices was put, and then a front of the rest
-pub vertices_front : (a b c : Option (List ℕ)) (t : Cut) (vertices : List ℕ) → vertices ≡ t.vertices
-    → Appends a b (cut_opening t.value) → AppendsFront b c (line_end (map decimal vertices)) → AppendsFront a c (cut_line t)
-vertices_front a b c t vertices e p q = subst (AppendsFront a c) (sym (cut_line-parts t))
-    (front_second a b c (cut_opening t.value) _ p (subst (λ l. AppendsFront b c (line_end (map decimal l))) e q))
+-- a cut's line before its vertices was put, and then a prefix of the rest
+pub vertices_prefix : (a b c : Option (List ℕ)) (t : Cut) (vertices : List ℕ) → vertices ≡ t.vertices
+    → Appends a b (cut_opening t.value) → AppendsPrefix b c (line_end (map decimal vertices)) → AppendsPrefix a c (cut_line t)
+vertices_prefix a b c t vertices e p q = subst (AppendsPrefix a c) (sym (cut_line-parts t))
+    (prefix_second a b c (cut_opening t.value) _ p (subst (λ l. AppendsPrefix b c (line_end (map decimal l))) e q))

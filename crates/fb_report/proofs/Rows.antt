@@ -2,9 +2,9 @@
 use Rattle.std.proofs.Common.{◌≡◌, ℕ, ◌+◌, ◌<◌, ◌≤◌, List, [], ◌∷◌, ◌++◌, Option, length, take, drop, get_or, sym, ap, ◌∙◌, append_assoc, append-nil, subst, arith, take-append-drop}
 use Rattle.std.proofs.KnownBytes.{Appends-trans}
 use Rattle.std.proofs.lemmas.List.{take_more, length-take-le}
-use Rattle.fb_ports.specs.Causes.{Appends, AppendsFront}
+use Rattle.fb_ports.specs.Causes.{Appends, AppendsPrefix}
 use Rattle.fb_graph.specs.declared.parts.Row.{Row}
-use Rattle.fb_ports.proofs.Onward.{front_second, front_first}
+use Rattle.fb_ports.proofs.Onward.{prefix_second, prefix_first}
 use Rattle.fb_report.specs.Texts.{row_text, rows_text}
 
 -- the text of some rows and then others
@@ -40,14 +40,14 @@ pub rows_onward : (a b c : Option (List ℕ)) (k : ℕ) (rs : List Row) (i n : �
 rows_onward a b c k rs i n r d lt e f p q = subst (Appends a c) (sym (rows_text-take k rs i d lt))
     (Appends-trans a b c _ _ p (subst (λ s. Appends b c (row_text (k + i) s)) f (subst (λ m. Appends b c (row_text m r)) e q)))
 
--- a put of row n, r, which stands at place i, stopped midway: what was taken is a front of all rows' text
-pub rows_front : (a b c : Option (List ℕ)) (k : ℕ) (rs : List Row) (i n : ℕ) (r d : Row) → i < length rs → n ≡ k + i → r ≡ get_or rs i d
-    → Appends a b (rows_text k (take i rs)) → AppendsFront b c (row_text n r) → AppendsFront a c (rows_text k rs)
-rows_front a b c k rs i n r d lt e f p q =
+-- a put of row n, r, which stands at place i, stopped midway: what was taken is a prefix of all rows' text
+pub rows_prefix : (a b c : Option (List ℕ)) (k : ℕ) (rs : List Row) (i n : ℕ) (r d : Row) → i < length rs → n ≡ k + i → r ≡ get_or rs i d
+    → Appends a b (rows_text k (take i rs)) → AppendsPrefix b c (row_text n r) → AppendsPrefix a c (rows_text k rs)
+rows_prefix a b c k rs i n r d lt e f p q =
     let le : i + 1 ≤ length rs = omega arith in
-    subst (AppendsFront a c) (sym (rows_text-split k rs (i + 1) le))
-    (front_first a c (rows_text k (take (i + 1) rs)) _ (subst (AppendsFront a c) (sym (rows_text-take k rs i d lt))
-    (front_second a b c _ _ p (subst (λ s. AppendsFront b c (row_text (k + i) s)) f (subst (λ m. AppendsFront b c (row_text m r)) e q)))))
+    subst (AppendsPrefix a c) (sym (rows_text-split k rs (i + 1) le))
+    (prefix_first a c (rows_text k (take (i + 1) rs)) _ (subst (AppendsPrefix a c) (sym (rows_text-take k rs i d lt))
+    (prefix_second a b c _ _ p (subst (λ s. AppendsPrefix b c (row_text (k + i) s)) f (subst (λ m. AppendsPrefix b c (row_text m r)) e q)))))
 
 -- row n was put behind all rows so far
 pub rows_pushed : (a b c : Option (List ℕ)) (k : ℕ) (rs : List Row) (n : ℕ) (r : Row) → n ≡ k + length rs
@@ -56,7 +56,7 @@ rows_pushed a b c k rs n r e p q = subst (Appends a c) (sym (rows_text-push k rs
     (Appends-trans a b c _ _ p (subst (λ m. Appends b c (row_text m r)) e q))
 
 -- a put of row n behind all rows so far stopped midway
-pub rows_pushed_front : (a b c : Option (List ℕ)) (k : ℕ) (rs : List Row) (n : ℕ) (r : Row) → n ≡ k + length rs
-    → Appends a b (rows_text k rs) → AppendsFront b c (row_text n r) → AppendsFront a c (rows_text k (rs ++ r ∷ []))
-rows_pushed_front a b c k rs n r e p q = subst (AppendsFront a c) (sym (rows_text-push k rs r))
-    (front_second a b c _ _ p (subst (λ m. AppendsFront b c (row_text m r)) e q))
+pub rows_pushed_prefix : (a b c : Option (List ℕ)) (k : ℕ) (rs : List Row) (n : ℕ) (r : Row) → n ≡ k + length rs
+    → Appends a b (rows_text k rs) → AppendsPrefix b c (row_text n r) → AppendsPrefix a c (rows_text k (rs ++ r ∷ []))
+rows_pushed_prefix a b c k rs n r e p q = subst (AppendsPrefix a c) (sym (rows_text-push k rs r))
+    (prefix_second a b c _ _ p (subst (λ m. AppendsPrefix b c (row_text m r)) e q))

@@ -1,5 +1,5 @@
 ghost use Rattle.std.specs.Prelude.{◌≡◌, [], ◌∷◌, ◌++◌, map, codes, decimal, OnOk, OnErr};
-ghost use Rattle.fb_ports.specs.Causes.{Appends, AppendsFront, HasCause, concat};
+ghost use Rattle.fb_ports.specs.Causes.{Appends, AppendsPrefix, HasCause, concat};
 ghost use Rattle.fb_report.specs.Texts.{line, line_end, cut_line};
 
 use fb_graph::Cut;
@@ -15,7 +15,7 @@ pub fn put_number<S: Sink>(
 ) -> Result<(), Failed>
     ensures all { OnOk result (Appends (S.taken sink.old) (S.taken sink.new)
         (before.now ++ (decimal number ++ after.now))) }
-    ensures front { OnErr result (AppendsFront (S.taken sink.old) (S.taken sink.new)
+    ensures prefix { OnErr result (AppendsPrefix (S.taken sink.old) (S.taken sink.new)
         (before.now ++ (decimal number ++ after.now))) }
     ensures cause { HasCause (S.faults sink.old) (S.faults sink.new) result }
 {
@@ -27,7 +27,7 @@ pub fn put_number<S: Sink>(
 pub fn put_line_end<S: Sink>(sink: &mut S, numbers: &[u32]) -> Result<(), Failed>
     ensures all { OnOk result (Appends (S.taken sink.old) (S.taken sink.new)
         (line_end (map decimal numbers.now))) }
-    ensures front { OnErr result (AppendsFront (S.taken sink.old) (S.taken sink.new)
+    ensures prefix { OnErr result (AppendsPrefix (S.taken sink.old) (S.taken sink.new)
         (line_end (map decimal numbers.now))) }
     ensures cause { HasCause (S.faults sink.old) (S.faults sink.new) result }
 {
@@ -42,7 +42,7 @@ pub fn put_line_end<S: Sink>(sink: &mut S, numbers: &[u32]) -> Result<(), Failed
 /// Puts the line of a cut.
 pub fn put_cut<S: Sink>(sink: &mut S, cut: &Cut) -> Result<(), Failed>
     ensures all { OnOk result (Appends (S.taken sink.old) (S.taken sink.new) (cut_line cut.now)) }
-    ensures front { OnErr result (AppendsFront (S.taken sink.old) (S.taken sink.new) (cut_line cut.now)) }
+    ensures prefix { OnErr result (AppendsPrefix (S.taken sink.old) (S.taken sink.new) (cut_line cut.now)) }
     ensures cause { HasCause (S.faults sink.old) (S.faults sink.new) result }
 {
     let Ok(()) = put_number(sink, b"cut ", cut.value, b"") else {
@@ -55,7 +55,7 @@ pub fn put_cut<S: Sink>(sink: &mut S, cut: &Cut) -> Result<(), Failed>
 pub fn put_cuts<S: Sink>(sink: &mut S, cuts: &[Cut]) -> Result<(), Failed>
     ensures all { OnOk result (Appends (S.taken sink.old) (S.taken sink.new)
         (concat (map cut_line cuts.now))) }
-    ensures front { OnErr result (AppendsFront (S.taken sink.old) (S.taken sink.new)
+    ensures prefix { OnErr result (AppendsPrefix (S.taken sink.old) (S.taken sink.new)
         (concat (map cut_line cuts.now))) }
     ensures cause { HasCause (S.faults sink.old) (S.faults sink.new) result }
 {

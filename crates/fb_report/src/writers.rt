@@ -1,5 +1,5 @@
 ghost use Rattle.std.specs.Prelude.{◌≡◌, if◌then◌else◌, codes, OnOk, OnErr};
-ghost use Rattle.fb_ports.specs.Causes.{Appends, AppendsFront, HasCause};
+ghost use Rattle.fb_ports.specs.Causes.{Appends, AppendsPrefix, HasCause};
 ghost use Rattle.fb_report.specs.Texts.{head_text, row_text, trace_line, done_text};
 ghost use Rattle.fb_graph.specs.declared.parts.Row.TheVariants.{Best, Odd};
 
@@ -10,11 +10,11 @@ use itoa::Buffer;
 
 /// Puts the first line of a report, `fusion-report 1`.
 ///
-/// After [`Failed`], here and in the other writers, the sink has taken a front part of the text.
+/// After [`Failed`], here and in the other writers, the sink has taken a prefix of the text.
 #[tactic(auto, unfolding(crate::specs::Texts::head_text))]
 pub fn write_head<S: Sink>(sink: &mut S) -> Result<(), Failed>
     ensures all { OnOk result (Appends (S.taken sink.old) (S.taken sink.new) head_text) }
-    ensures front { OnErr result (AppendsFront (S.taken sink.old) (S.taken sink.new) head_text) }
+    ensures prefix { OnErr result (AppendsPrefix (S.taken sink.old) (S.taken sink.new) head_text) }
     ensures cause { HasCause (S.faults sink.old) (S.faults sink.new) result }
 {
     put_all(sink, b"fusion-report 1\n")
@@ -39,7 +39,7 @@ pub fn write_trace<S: Sink>(
 ) -> Result<(), Failed>
     ensures all { OnOk result (Appends (S.taken sink.old) (S.taken sink.new)
         (trace_line gave worker shot node)) }
-    ensures front { OnErr result (AppendsFront (S.taken sink.old) (S.taken sink.new)
+    ensures prefix { OnErr result (AppendsPrefix (S.taken sink.old) (S.taken sink.new)
         (trace_line gave worker shot node)) }
     ensures cause { HasCause (S.faults sink.old) (S.faults sink.new) result }
 {
@@ -76,7 +76,7 @@ pub fn write_done<S: Sink>(
 ) -> Result<(), Failed>
     ensures all { OnOk result (Appends (S.taken sink.old) (S.taken sink.new)
         (done_text rows odd units fusions)) }
-    ensures front { OnErr result (AppendsFront (S.taken sink.old) (S.taken sink.new)
+    ensures prefix { OnErr result (AppendsPrefix (S.taken sink.old) (S.taken sink.new)
         (done_text rows odd units fusions)) }
     ensures cause { HasCause (S.faults sink.old) (S.faults sink.new) result }
 {
@@ -115,7 +115,7 @@ fn put_best<S: Sink>(
 ) -> Result<(), Failed>
     ensures all { OnOk result (Appends (S.taken sink.old) (S.taken sink.new)
         (row_text shot (Best edges.now weight cuts.now))) }
-    ensures front { OnErr result (AppendsFront (S.taken sink.old) (S.taken sink.new)
+    ensures prefix { OnErr result (AppendsPrefix (S.taken sink.old) (S.taken sink.new)
         (row_text shot (Best edges.now weight cuts.now))) }
     ensures cause { HasCause (S.faults sink.old) (S.faults sink.new) result }
 {
@@ -135,7 +135,7 @@ fn put_best<S: Sink>(
 #[tactic(auto, unfolding(crate::specs::Texts::row_text))]
 fn put_odd<S: Sink>(sink: &mut S, shot: u32, vertex: u32) -> Result<(), Failed>
     ensures all { OnOk result (Appends (S.taken sink.old) (S.taken sink.new) (row_text shot (Odd vertex))) }
-    ensures front { OnErr result (AppendsFront (S.taken sink.old) (S.taken sink.new) (row_text shot (Odd vertex))) }
+    ensures prefix { OnErr result (AppendsPrefix (S.taken sink.old) (S.taken sink.new) (row_text shot (Odd vertex))) }
     ensures cause { HasCause (S.faults sink.old) (S.faults sink.new) result }
 {
     let mut one = Buffer::new();
@@ -151,7 +151,7 @@ fn put_odd<S: Sink>(sink: &mut S, shot: u32, vertex: u32) -> Result<(), Failed>
 /// correction is the one line `shot K odd V`.
 pub fn write_row<S: Sink>(sink: &mut S, shot: u32, row: &Row) -> Result<(), Failed>
     ensures all { OnOk result (Appends (S.taken sink.old) (S.taken sink.new) (row_text shot row.now)) }
-    ensures front { OnErr result (AppendsFront (S.taken sink.old) (S.taken sink.new) (row_text shot row.now)) }
+    ensures prefix { OnErr result (AppendsPrefix (S.taken sink.old) (S.taken sink.new) (row_text shot row.now)) }
     ensures cause { HasCause (S.faults sink.old) (S.faults sink.new) result }
 {
     match row {

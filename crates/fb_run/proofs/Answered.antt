@@ -7,9 +7,9 @@ use Rattle.fb_run.specs.Endings.{EndsByPlan, EndsOn}
 use Rattle.fb_inputs.specs.Moments.{Moment}
 use Rattle.fb_check.specs.Ends.{IsReadToItsEnd}
 use Rattle.fb_inputs.specs.Judging.{Named}
-use Rattle.fb_run.specs.RunEndings.{EndsRight, ErrandEnds, HasReadOut, ReadsOut, cause_of_fault}
+use Rattle.fb_run.specs.RunEndings.{EndsRight, RequestEnds, HasReadOut, ReadsOut, cause_of_fault}
 use Rattle.fb_words.specs.Seen.{IsFaultOf, usage_of}
-use Rattle.fb_words.specs.Words.{Decoding, Errand, check, decode, sample}
+use Rattle.fb_words.specs.Words.{Decoding, Request, check, decode, sample}
 use Rattle.fb_endings.specs.declared.ending.Cause.{Cause}
 use Rattle.fb_endings.specs.declared.ending.Cause.TheVariants.{NoMemory, Usage, WriteFault}
 use Rattle.fb_words.specs.declared.usage.UsageKind.{UsageKind}
@@ -18,26 +18,26 @@ use Rattle.fb_words.specs.declared.words.WordsFault.{WordsFault}
 use Rattle.fb_words.specs.declared.words.WordsFault.TheVariants as fault
 use Rattle.fb_inputs.proofs.Inputs.{asks_none, asks_same}
 
-by_kind : (read : Result Errand UsageKind) (kind : UsageKind) (m : Moment) → read ≡ Err kind → EndsRight read m m (Usage kind)
-by_kind read kind m e = subst (λ (r : Result Errand UsageKind). EndsRight r m m (Usage kind)) (sym e)
+by_kind : (read : Result Request UsageKind) (kind : UsageKind) (m : Moment) → read ≡ Err kind → EndsRight read m m (Usage kind)
+by_kind read kind m e = subst (λ (r : Result Request UsageKind). EndsRight r m m (Usage kind)) (sym e)
     (inl refl, asks_same m.asked m.asked refl, refl, Appends-nil m.written)
 
-by_memory : (read : Result Errand UsageKind) (m : Moment) → EndsRight read m m NoMemory
+by_memory : (read : Result Request UsageKind) (m : Moment) → EndsRight read m m NoMemory
 by_memory (Ok (decode decoding)) m = inl (asks_none m.asked m.asked _ refl, refl, Appends-nil m.written)
 by_memory (Ok (check checking)) m = inl (asks_none m.asked m.asked _ refl, refl, Appends-nil m.written)
 by_memory (Ok (sample sampling)) m = (asks_same m.asked m.asked refl, refl, Appends-nil m.written)
 by_memory (Err kind) m = (inr refl, asks_same m.asked m.asked refl, refl, Appends-nil m.written)
 
-pub refused_right : (read : Result Errand UsageKind) (f : WordsFault) (m : Moment) → IsFaultOf read f → EndsRight read m m (cause_of_fault f)
+pub refused_right : (read : Result Request UsageKind) (f : WordsFault) (m : Moment) → IsFaultOf read f → EndsRight read m m (cause_of_fault f)
 refused_right read (fault.Parse text) m e = by_kind read usage.Parse m e
 refused_right read fault.Format m e = by_kind read usage.Format m e
 refused_right read fault.TwoInputs m e = by_kind read usage.TwoInputs m e
 refused_right read fault.NoMemory m e = by_memory read m
 
--- what was done of an errand that was read
-pub ends_read : (read : Result Errand UsageKind) (errand : Errand) (before after : Moment) (cause : Cause) → read ≡ Ok errand
-    → ErrandEnds errand before after cause → EndsRight read before after cause
-ends_read read errand before after cause e ends = subst (λ (r : Result Errand UsageKind). EndsRight r before after cause) (sym e) ends
+-- what was done of a request that was read
+pub ends_read : (read : Result Request UsageKind) (request : Request) (before after : Moment) (cause : Cause) → read ≡ Ok request
+    → RequestEnds request before after cause → EndsRight read before after cause
+ends_read read request before after cause e ends = subst (λ (r : Result Request UsageKind). EndsRight r before after cause) (sym e) ends
 
 no_usage : (kind : UsageKind) {P : Type 0} → (Usage kind ≡ WriteFault) ⊎ (Usage kind ≡ NoMemory) → P
 no_usage kind (inl e) = absurd cc
@@ -55,8 +55,8 @@ never_by_plan (Some name) decoding g before after kind (inl none) = none
 never_by_plan (Some name) decoding g before after kind (inr with_plan) =
     never_on decoding g with_plan.t with_plan.read after kind with_plan.ends
 
--- an errand that was read never ends by faulty words
-never_usage : (errand : Errand) (before after : Moment) (kind : UsageKind) → ErrandEnds errand before after (Usage kind) → ⊥
+-- a request that was read never ends by faulty words
+never_usage : (request : Request) (before after : Moment) (kind : UsageKind) → RequestEnds request before after (Usage kind) → ⊥
 never_usage (decode decoding) before after kind (inl none) = none
 never_usage (decode decoding) before after kind (inr with_graph) =
     never_by_plan decoding.plan decoding with_graph.g with_graph.read after kind with_graph.ends
@@ -70,8 +70,8 @@ never_usage (check checking) before after kind (inr with_graph) = elim with_grap
 ]
 never_usage (sample sampling) before after kind ends = ends.2
 
-pub errand_not_usage : (errand : Errand) (before after : Moment) (cause : Cause) (kind : UsageKind) → ErrandEnds errand before after cause → cause ≢ Usage kind
-errand_not_usage errand before after cause kind ends e = never_usage errand before after kind (subst (ErrandEnds errand before after) e ends)
+pub request_not_usage : (request : Request) (before after : Moment) (cause : Cause) (kind : UsageKind) → RequestEnds request before after cause → cause ≢ Usage kind
+request_not_usage request before after cause kind ends e = never_usage request before after kind (subst (RequestEnds request before after) e ends)
 
 pub fault_not_parse : (f : WordsFault) → usage_of f ≢ Some usage.Parse → cause_of_fault f ≢ Usage usage.Parse
 fault_not_parse (fault.Parse text) other e = other refl
@@ -85,13 +85,13 @@ not_to_end fault.Format none = none
 not_to_end fault.TwoInputs none = none
 not_to_end fault.NoMemory none = none
 
--- what was read of an errand that was read
-pub out_read : (read : Result Errand UsageKind) (errand : Errand) (named : Named) (left : Option (List ℕ)) (cause : Cause) → read ≡ Ok errand
-    → ReadsOut errand named left cause → HasReadOut read named left cause
-out_read read errand named left cause e out = subst (λ (r : Result Errand UsageKind). HasReadOut r named left cause) (sym e) out
+-- what was read of a request that was read
+pub out_read : (read : Result Request UsageKind) (request : Request) (named : Named) (left : Option (List ℕ)) (cause : Cause) → read ≡ Ok request
+    → ReadsOut request named left cause → HasReadOut read named left cause
+out_read read request named left cause e out = subst (λ (r : Result Request UsageKind). HasReadOut r named left cause) (sym e) out
 
 -- faulty words don't end a run at the end of its input
-pub never_out : (read : Result Errand UsageKind) (f : WordsFault) (named : Named) (left : Option (List ℕ)) → HasReadOut read named left (cause_of_fault f)
+pub never_out : (read : Result Request UsageKind) (f : WordsFault) (named : Named) (left : Option (List ℕ)) → HasReadOut read named left (cause_of_fault f)
 never_out (Ok (decode decoding)) f named left = λ reads. absurd (not_to_end f reads)
 never_out (Ok (check checking)) f named left = λ reads. absurd (not_to_end f reads)
 never_out (Ok (sample sampling)) f named left = tt

@@ -130,18 +130,18 @@ no_events : (trace : Bool) (first : ℕ) (history : List Entry) → (trace ≡ t
 no_events false first history none = refl
 no_events true first history none = rw (none refl)
 
-module _ (errand : Decoding) (g : DecodingGraph) (t : PlanTree) where
-  no_batch_rows : (b : Batch) → AnswersBatch errand g t [] b → b.rows ≡ []
+module _ (request : Decoding) (g : DecodingGraph) (t : PlanTree) where
+  no_batch_rows : (b : Batch) → AnswersBatch request g t [] b → b.rows ≡ []
   no_batch_rows b answers = no_rows g b.rows answers.rows
 
-  no_batch_text : (first : ℕ) (b : Batch) → AnswersBatch errand g t [] b → batch_text errand.trace first b ≡ []
+  no_batch_text : (first : ℕ) (b : Batch) → AnswersBatch request g t [] b → batch_text request.trace first b ≡ []
   no_batch_text first b answers =
       let none = no_batch_rows b answers in
-      ap (λ rows. rows_text first rows ++ events_text errand.trace first b.history) none
-      ∙ no_events errand.trace first b.history (λ traced. no_entry b.history (history_of traced).within)
+      ap (λ rows. rows_text first rows ++ events_text request.trace first b.history) none
+      ∙ no_events request.trace first b.history (λ traced. no_entry b.history (history_of traced).within)
     where
-      history_of : errand.trace ≡ true → IsHistoryOf t errand.workers [] b.history
-      history_of traced = subst (λ rows. IsHistoryOf t errand.workers rows b.history) (no_batch_rows b answers) (answers.history traced)
+      history_of : request.trace ≡ true → IsHistoryOf t request.workers [] b.history
+      history_of traced = subst (λ rows. IsHistoryOf t request.workers rows b.history) (no_batch_rows b answers) (answers.history traced)
 
   -- ---- the batches of shots
 
@@ -149,64 +149,64 @@ module _ (errand : Decoding) (g : DecodingGraph) (t : PlanTree) where
   append_not_nil [] ys some e = some refl
   append_not_nil (x ∷ xs) ys some e = cc
 
-  are_batches-push : (shots more : List (List ℕ)) (bs : List Batch) (b : Batch) → more ≢ [] → length more ≤ errand.window
-      → length shots ≡ errand.window * length bs → AreBatches errand g t shots bs → AnswersBatch errand g t more b
-      → AreBatches errand g t (shots ++ more) (bs ++ b ∷ [])
-  are_batches-push shots more [] b some few full answers last = subst (λ s. AreBatches errand g t (s ++ more) (b ∷ [])) (sym answers) (
+  are_batches-push : (shots more : List (List ℕ)) (bs : List Batch) (b : Batch) → more ≢ [] → length more ≤ request.window
+      → length shots ≡ request.window * length bs → AreBatches request g t shots bs → AnswersBatch request g t more b
+      → AreBatches request g t (shots ++ more) (bs ++ b ∷ [])
+  are_batches-push shots more [] b some few full answers last = subst (λ s. AreBatches request g t (s ++ more) (b ∷ [])) (sym answers) (
     some,
-    subst (λ s. AnswersBatch errand g t s b) (sym (take_all errand.window more few)) last,
-    drop_all errand.window more few,
+    subst (λ s. AnswersBatch request g t s b) (sym (take_all request.window more few)) last,
+    drop_all request.window more few,
   )
   are_batches-push shots more (c ∷ bs) b some few full (here, first, rest) last = (
     append_not_nil shots more here,
-    subst (λ s. AnswersBatch errand g t s c) (sym (take-append-le errand.window shots more long)) first,
-    subst (λ s. AreBatches errand g t s (bs ++ b ∷ [])) (sym (drop-append-le errand.window shots more long))
-        (are_batches-push (drop errand.window shots) more bs b some few fewer rest last),
+    subst (λ s. AnswersBatch request g t s c) (sym (take-append-le request.window shots more long)) first,
+    subst (λ s. AreBatches request g t s (bs ++ b ∷ [])) (sym (drop-append-le request.window shots more long))
+        (are_batches-push (drop request.window shots) more bs b some few fewer rest last),
   )
     where
-      product : errand.window * length (c ∷ bs) ≡ errand.window * length bs + errand.window
-      product = mul-suc errand.window (length bs)
+      product : request.window * length (c ∷ bs) ≡ request.window * length bs + request.window
+      product = mul-suc request.window (length bs)
 
-      long : errand.window ≤ length shots
+      long : request.window ≤ length shots
       long = omega (arith, full, product)
 
-      fewer : length (drop errand.window shots) ≡ errand.window * length bs
-      fewer = omega (arith, full, product, length-drop errand.window shots)
+      fewer : length (drop request.window shots) ≡ request.window * length bs
+      fewer = omega (arith, full, product, length-drop request.window shots)
 
-  pub rows_length : (shots : List (List ℕ)) (bs : List Batch) → AreBatches errand g t shots bs → length (all_rows bs) ≡ length shots
+  pub rows_length : (shots : List (List ℕ)) (bs : List Batch) → AreBatches request g t shots bs → length (all_rows bs) ≡ length shots
   rows_length shots [] answers = sym (ap length answers)
   rows_length shots (b ∷ bs) (some, first, rest) = omega (
     arith,
     length-append b.rows (all_rows bs),
-    AllZip-long (IsShotRow g) (take errand.window shots) b.rows first.rows,
-    rows_length (drop errand.window shots) bs rest,
-    length-append (take errand.window shots) (drop errand.window shots),
-    ap length (take-append-drop errand.window shots),
+    AllZip-long (IsShotRow g) (take request.window shots) b.rows first.rows,
+    rows_length (drop request.window shots) bs rest,
+    length-append (take request.window shots) (drop request.window shots),
+    ap length (take-append-drop request.window shots),
   )
 
   -- What a batch of further shots makes of the batches before it: it's one of them unless it has no shots.
   pub record AddsBatch (shots more : List (List ℕ)) (bs : List Batch) (b : Batch) : Type 0 where
     pub batches : List Batch
-    pub answers : AreBatches errand g t (shots ++ more) batches
+    pub answers : AreBatches request g t (shots ++ more) batches
     pub rows : all_rows batches ≡ all_rows bs ++ b.rows
-    pub text : batches_text errand.trace 0 batches ≡ batches_text errand.trace 0 bs ++ batch_text errand.trace (length (all_rows bs)) b
+    pub text : batches_text request.trace 0 batches ≡ batches_text request.trace 0 bs ++ batch_text request.trace (length (all_rows bs)) b
     pub grows : more ≢ [] → length batches ≡ length bs + 1
 
-  pub adds_batch : (shots more : List (List ℕ)) (bs : List Batch) (b : Batch) → length more ≤ errand.window → length shots ≡ errand.window * length bs
-      → AreBatches errand g t shots bs → AnswersBatch errand g t more b → AddsBatch shots more bs b
+  pub adds_batch : (shots more : List (List ℕ)) (bs : List Batch) (b : Batch) → length more ≤ request.window → length shots ≡ request.window * length bs
+      → AreBatches request g t shots bs → AnswersBatch request g t more b → AddsBatch shots more bs b
   adds_batch shots [] bs b few full answers last = record {
     batches = bs;
-    answers = subst (λ s. AreBatches errand g t s bs) (sym (append-nil shots)) answers;
+    answers = subst (λ s. AreBatches request g t s bs) (sym (append-nil shots)) answers;
     rows = sym (ap (λ rows. all_rows bs ++ rows) (no_batch_rows b last) ∙ append-nil (all_rows bs));
-    text = sym (ap (λ text. batches_text errand.trace 0 bs ++ text) (no_batch_text (length (all_rows bs)) b last)
-        ∙ append-nil (batches_text errand.trace 0 bs));
+    text = sym (ap (λ text. batches_text request.trace 0 bs ++ text) (no_batch_text (length (all_rows bs)) b last)
+        ∙ append-nil (batches_text request.trace 0 bs));
     grows = λ some. absurd (some refl);
   }
   adds_batch shots (s ∷ ss) bs b few full answers last = record {
     batches = bs ++ b ∷ [];
     answers = are_batches-push shots (s ∷ ss) bs b (λ e. cc) few full answers last;
     rows = all_rows-push bs b;
-    text = batches_text-push errand.trace 0 bs b ∙ ap (λ n. batches_text errand.trace 0 bs ++ batch_text errand.trace n b) as_many;
+    text = batches_text-push request.trace 0 bs b ∙ ap (λ n. batches_text request.trace 0 bs ++ batch_text request.trace n b) as_many;
     grows = λ some. omega (arith, length-append bs (b ∷ []));
   }
     where

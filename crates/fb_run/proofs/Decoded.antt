@@ -12,8 +12,8 @@ use Rattle.fb_inputs.specs.Taking.{EndsSo, GivesShots}
 use Rattle.fb_inputs.specs.declared.taking.ShotsEnd.{ShotsEnd}
 use Rattle.fb_inputs.specs.declared.taking.ShotsEnd.TheVariants as end
 use Rattle.fb_plan.specs.Plans.{PlanTree}
-use Rattle.fb_ports.proofs.Onward.{front_second}
-use Rattle.fb_ports.specs.Causes.{Appends, AppendsFront}
+use Rattle.fb_ports.proofs.Onward.{prefix_second}
+use Rattle.fb_ports.specs.Causes.{Appends, AppendsPrefix}
 use Rattle.fb_run.proofs.Batched.{AddsBatch, adds_batch, counted_rows, counts_added, rows_added, rows_length, slots_within}
 use Rattle.fb_run.specs.Decoding.{AnswersBatch, AreBatches, Batch, all_rows, batch_text, batches_text}
 use Rattle.fb_run.specs.InternalBatches.{AddsCounts, TakesBatch}
@@ -29,25 +29,25 @@ mul-more : (w n m : ℕ) → m ≡ n + 1 → w * m ≡ w * n + w
 mul-more w n m e = let next : m ≡ suc n = omega (arith, e) in ap (λ k. w * k) next ∙ mul-suc w n
 
 -- no shot was taken
-pub none_decoded : (errand : Decoding) (t : PlanTree) (left : Option (List ℕ)) (format : Format) (g : DecodingGraph) (out : Option (List ℕ))
-    → WritesFirstBatches (FirstFrom left format g) errand g t out out
-none_decoded errand t left format g out =
+pub none_decoded : (request : Decoding) (t : PlanTree) (left : Option (List ℕ)) (format : Format) (g : DecodingGraph) (out : Option (List ℕ))
+    → WritesFirstBatches (FirstFrom left format g) request g t out out
+none_decoded request t left format g out =
     record { shots = []; input = first_of_none left format g; batches = []; answers = refl; written = ([], [], refl, Appends-nil out) }
 
-module _ (errand : Decoding) (t : PlanTree) (start : Stream) (before out : Option (List ℕ)) where
+module _ (request : Decoding) (t : PlanTree) (start : Stream) (before out : Option (List ℕ)) where
   -- The batches of the shots that a stream has given were written, and their rows are counted.
   pub record HasDecoded (now : Stream) (after new : Option (List ℕ)) (tally : Tally) : Type 0 where
     pub shots : List (List ℕ)
     pub gives : GivesShots start now before after shots
     pub batches : List Batch
-    pub answers : AreBatches errand start.graph t shots batches
-    pub written : Appends out new (batches_text errand.trace 0 batches)
+    pub answers : AreBatches request start.graph t shots batches
+    pub written : Appends out new (batches_text request.trace 0 batches)
     pub counts : counts_in tally ≡ counts_of (all_rows batches)
 
   -- the same, and each batch has as many shots as the window
   pub record IsDecoding (now : Stream) (after new : Option (List ℕ)) (tally : Tally) : Type 0 where
     pub so_far : HasDecoded now after new tally
-    pub full : length so_far.shots ≡ errand.window * length so_far.batches
+    pub full : length so_far.shots ≡ request.window * length so_far.batches
 
   pub decoding_begins : (tally : Tally) → tally.best ≡ 0 → tally.odd ≡ 0 → IsDecoding start before out tally
   decoding_begins tally best odd = record {
@@ -69,22 +69,22 @@ module _ (errand : Decoding) (t : PlanTree) (start : Stream) (before out : Optio
     tally_rows : tally.best + tally.odd ≡ length (all_rows so_far.batches)
     tally_rows = counted_rows tally (all_rows so_far.batches) so_far.counts
 
-    pub so_far_first : WritesFirstBatches (FirstFrom before start.format start.graph) errand start.graph t out new
+    pub so_far_first : WritesFirstBatches (FirstFrom before start.format start.graph) request start.graph t out new
     so_far_first = record {
       shots = so_far.shots;
       input = given_first start now before after so_far.shots is_fresh so_far.gives;
       batches = so_far.batches;
       answers = so_far.answers;
-      written = (batches_text errand.trace 0 so_far.batches, [], sym (append-nil (batches_text errand.trace 0 so_far.batches)), so_far.written);
+      written = (batches_text request.trace 0 so_far.batches, [], sym (append-nil (batches_text request.trace 0 so_far.batches)), so_far.written);
     }
 
     -- the next batch
-    module _ (last : Stream) (rest : Option (List ℕ)) (b : Batch) (ending : Option ShotsEnd) (taken : TakesBatch errand t now last after rest b ending) where
+    module _ (last : Stream) (rest : Option (List ℕ)) (b : Batch) (ending : Option ShotsEnd) (taken : TakesBatch request t now last after rest b ending) where
       abbrev shots : List (List ℕ)
       shots = so_far.shots ++ taken.shots
 
-      answers : AnswersBatch errand start.graph t taken.shots b
-      answers = subst (λ (g : DecodingGraph). AnswersBatch errand g t taken.shots b) so_far.gives.graph taken.answers
+      answers : AnswersBatch request start.graph t taken.shots b
+      answers = subst (λ (g : DecodingGraph). AnswersBatch request g t taken.shots b) so_far.gives.graph taken.answers
 
       gives : GivesShots start taken.takes.middle before taken.takes.between shots
       gives = gives_both start now taken.takes.middle before after taken.takes.between so_far.shots taken.shots so_far.gives taken.takes.gives
@@ -94,35 +94,35 @@ module _ (errand : Decoding) (t : PlanTree) (start : Stream) (before out : Optio
       fits_more = omega (
         arith,
         tally_rows,
-        rows_length errand start.graph t so_far.shots so_far.batches so_far.answers,
+        rows_length request start.graph t so_far.shots so_far.batches so_far.answers,
         AllZip-long (IsShotRow start.graph) taken.shots b.rows answers.rows,
         length-append so_far.shots taken.shots,
         given_few start taken.takes.middle before taken.takes.between shots is_fresh gives,
       )
 
-      pub slots_more : errand.trace ≡ true → All (λ e. e.slot < length b.rows) b.history
+      pub slots_more : request.trace ≡ true → All (λ e. e.slot < length b.rows) b.history
       slots_more traced = slots_within b.rows b.history (answers.history traced).within
 
-      adds : AddsBatch errand start.graph t so_far.shots taken.shots so_far.batches b
-      adds = adds_batch errand start.graph t so_far.shots taken.shots so_far.batches b taken.takes.few decoding.full so_far.answers answers
+      adds : AddsBatch request start.graph t so_far.shots taken.shots so_far.batches b
+      adds = adds_batch request start.graph t so_far.shots taken.shots so_far.batches b taken.takes.few decoding.full so_far.answers answers
 
-      text : batches_text errand.trace 0 adds.batches
-          ≡ batches_text errand.trace 0 so_far.batches ++ batch_text errand.trace (tally.best + tally.odd) b
-      text = adds.text ∙ ap (λ n. batches_text errand.trace 0 so_far.batches ++ batch_text errand.trace n b) (sym tally_rows)
+      text : batches_text request.trace 0 adds.batches
+          ≡ batches_text request.trace 0 so_far.batches ++ batch_text request.trace (tally.best + tally.odd) b
+      text = adds.text ∙ ap (λ n. batches_text request.trace 0 so_far.batches ++ batch_text request.trace n b) (sym tally_rows)
 
       module _ (newer : Option (List ℕ)) where
-        pub more_first : AppendsFront new newer (batch_text errand.trace (tally.best + tally.odd) b)
-            → WritesFirstBatches (FirstFrom before start.format start.graph) errand start.graph t out newer
+        pub more_first : AppendsPrefix new newer (batch_text request.trace (tally.best + tally.odd) b)
+            → WritesFirstBatches (FirstFrom before start.format start.graph) request start.graph t out newer
         more_first part = record {
           shots = shots;
           input = given_first start taken.takes.middle before taken.takes.between shots is_fresh gives;
           batches = adds.batches;
           answers = adds.answers;
-          written = subst (AppendsFront out newer) (sym text)
-              (front_second out new newer (batches_text errand.trace 0 so_far.batches) (batch_text errand.trace (tally.best + tally.odd) b) so_far.written part);
+          written = subst (AppendsPrefix out newer) (sym text)
+              (prefix_second out new newer (batches_text request.trace 0 so_far.batches) (batch_text request.trace (tally.best + tally.odd) b) so_far.written part);
         }
 
-        module _ (counts : Tally) (all : Appends new newer (batch_text errand.trace (tally.best + tally.odd) b)) (counted : AddsCounts tally counts b.rows) where
+        module _ (counts : Tally) (all : Appends new newer (batch_text request.trace (tally.best + tally.odd) b)) (counted : AddsCounts tally counts b.rows) where
           more_decoded : HasDecoded taken.takes.middle taken.takes.between newer counts
           more_decoded = record {
             shots = shots;
@@ -130,11 +130,11 @@ module _ (errand : Decoding) (t : PlanTree) (start : Stream) (before out : Optio
             batches = adds.batches;
             answers = adds.answers;
             written = subst (Appends out newer) (sym text)
-                (Appends-trans out new newer (batches_text errand.trace 0 so_far.batches) (batch_text errand.trace (tally.best + tally.odd) b) so_far.written all);
+                (Appends-trans out new newer (batches_text request.trace 0 so_far.batches) (batch_text request.trace (tally.best + tally.odd) b) so_far.written all);
             counts = counts_added tally counts (all_rows so_far.batches) b.rows so_far.counts counted ∙ ap counts_of (sym adds.rows);
           }
 
-          decoding_full : length taken.shots ≡ errand.window → 1 ≤ errand.window → IsDecoding taken.takes.middle taken.takes.between newer counts
+          decoding_full : length taken.shots ≡ request.window → 1 ≤ request.window → IsDecoding taken.takes.middle taken.takes.between newer counts
           unfolding more_decoded
           decoding_full full some = record {
             so_far = more_decoded;
@@ -143,14 +143,14 @@ module _ (errand : Decoding) (t : PlanTree) (start : Stream) (before out : Optio
               length-append so_far.shots taken.shots,
               decoding.full,
               full,
-              mul-more errand.window (length so_far.batches) (length adds.batches) (adds.grows (λ none. omega (arith, ap length none, full, some))),
+              mul-more request.window (length so_far.batches) (length adds.batches) (adds.grows (λ none. omega (arith, ap length none, full, some))),
             );
           }
 
           ends_at : (ended : Option ShotsEnd) → ending ≡ ended → EndsSo taken.takes.middle last taken.takes.between rest ended
           ends_at ended is = subst (λ (e : Option ShotsEnd). EndsSo taken.takes.middle last taken.takes.between rest e) is taken.takes.ends
 
-          pub decoding_more : ending ≡ None → 1 ≤ errand.window → IsDecoding last rest newer counts
+          pub decoding_more : ending ≡ None → 1 ≤ request.window → IsDecoding last rest newer counts
           decoding_more none some =
               let same = ends_at None none in
               subst (λ (s : Stream). IsDecoding s rest newer counts) (sym same.0)
@@ -162,7 +162,7 @@ module _ (errand : Decoding) (t : PlanTree) (start : Stream) (before out : Optio
 
           -- all shots have been taken
           pub all_decoded : (ended : ShotsEnd) → ending ≡ Some ended
-              → WritesBatches (λ shots. GathersFrom before start.format start.graph rest shots ended) errand start.graph t out newer counts
+              → WritesBatches (λ shots. GathersFrom before start.format start.graph rest shots ended) request start.graph t out newer counts
           all_decoded ended is = record {
             shots = more_decoded.shots;
             input = gathered_so start taken.takes.middle before taken.takes.between more_decoded.shots is_fresh more_decoded.gives last rest ended (ends_at (Some ended) is);

@@ -3,8 +3,8 @@ use Rattle.std.proofs.Common.{◌≡◌, ℕ, ◌+◌, ◌==◌, inl, inr, Bool,
 use Rattle.std.proofs.KnownBytes.{Appends-trans}
 use Rattle.fb_graph.specs.Limits.{DecodingGraph}
 use Rattle.fb_plan.specs.Plans.{PlanTree}
-use Rattle.fb_ports.specs.Causes.{Appends, AppendsFront}
-use Rattle.fb_ports.proofs.Onward.{front_first, front_second}
+use Rattle.fb_ports.specs.Causes.{Appends, AppendsPrefix}
+use Rattle.fb_ports.proofs.Onward.{prefix_first, prefix_second}
 use Rattle.fb_report.specs.Texts.{head_text}
 use Rattle.fb_shots.specs.Shots.{Ending, at_end}
 use Rattle.fb_check.specs.Ends.{IsReadToItsEnd}
@@ -12,8 +12,8 @@ use Rattle.fb_inputs.proofs.Gathered.{gathers_opened, holds_opened}
 use Rattle.fb_inputs.proofs.Lists.{holds_more}
 use Rattle.fb_inputs.specs.Judging.{FirstFrom, Gathers, GathersFrom, HasFirstShots, HasShots, IsOpened, Named}
 use Rattle.fb_run.proofs.Batched.{counted_rows}
-use Rattle.fb_run.specs.Decoding.{all_rows, batches_text, cause_of, last_line, report_front}
-use Rattle.fb_run.specs.Endings.{RowsEnd, WritesFront, WritesReport}
+use Rattle.fb_run.specs.Decoding.{all_rows, batches_text, cause_of, last_line, report_prefix}
+use Rattle.fb_run.specs.Endings.{RowsEnd, WritesPrefix, WritesReport}
 use Rattle.fb_run.specs.Rows.{Counts, counts_of}
 use Rattle.fb_run.specs.Writes.{EndsReport, WritesBatches, WritesFirstBatches, counts_in}
 use Rattle.fb_words.specs.Words.{Decoding}
@@ -30,73 +30,73 @@ report_to_end t end.End rows counts old new cause ends reads = refl
 report_to_end t (end.Refused fault) rows counts old new cause (same, is) reads = absurd (subst IsReadToItsEnd is reads)
 report_to_end t end.ReadFault rows counts old new cause (same, is) reads = absurd (subst IsReadToItsEnd is reads)
 
-module _ (named : Named) (errand : Decoding) (g : DecodingGraph) (t : PlanTree) where
-  are_first : (shots : List (List ℕ)) (ending : Ending) (text : List ℕ) → HasShots errand.format g shots ending text → HasFirstShots errand.format g shots text
+module _ (named : Named) (request : Decoding) (g : DecodingGraph) (t : PlanTree) where
+  are_first : (shots : List (List ℕ)) (ending : Ending) (text : List ℕ) → HasShots request.format g shots ending text → HasFirstShots request.format g shots text
   are_first shots ending text e = ([], ap (λ r. r.shots) e ∙ sym (append-nil shots))
 
   -- a fault before any row
-  front_of_head : (old new : Option (List ℕ)) → AppendsFront old new head_text → WritesFront named errand g t old new
-  front_of_head old new front = record {
+  prefix_of_head : (old new : Option (List ℕ)) → AppendsPrefix old new head_text → WritesPrefix named request g t old new
+  prefix_of_head old new prefix = record {
     shots = [];
     input = inl refl;
     batches = [];
     answers = refl;
-    written = inl (front_first old new head_text [] front);
+    written = inl (prefix_first old new head_text [] prefix);
   }
 
   -- want of memory after the head
-  pub front_after_head : (old new : Option (List ℕ)) → Appends old new head_text → WritesFront named errand g t old new
-  front_after_head old new all = front_of_head old new (head_text, [], sym (append-nil head_text), all)
+  pub prefix_after_head : (old new : Option (List ℕ)) → Appends old new head_text → WritesPrefix named request g t old new
+  prefix_after_head old new all = prefix_of_head old new (head_text, [], sym (append-nil head_text), all)
 
   -- a fault while the rows are written
-  pub front_of_batches : (left old mid new : Option (List ℕ)) → IsOpened named errand.shots left → Appends old mid head_text
-      → WritesFirstBatches (FirstFrom left errand.format g) errand g t mid new → WritesFront named errand g t old new
-  front_of_batches left old mid new opened head wrote = record {
+  pub prefix_of_batches : (left old mid new : Option (List ℕ)) → IsOpened named request.shots left → Appends old mid head_text
+      → WritesFirstBatches (FirstFrom left request.format g) request g t mid new → WritesPrefix named request g t old new
+  prefix_of_batches left old mid new opened head wrote = record {
     shots = wrote.shots;
-    input = inr (holds_opened named errand.shots left (HasFirstShots errand.format g wrote.shots) opened wrote.input);
+    input = inr (holds_opened named request.shots left (HasFirstShots request.format g wrote.shots) opened wrote.input);
     batches = wrote.batches;
     answers = wrote.answers;
-    written = inl (front_second old mid new head_text (batches_text errand.trace 0 wrote.batches) head wrote.written);
+    written = inl (prefix_second old mid new head_text (batches_text request.trace 0 wrote.batches) head wrote.written);
   }
 
   -- by a decode of all shots
-  ends_by : (left old new : Option (List ℕ)) (counts : Counts) (cause : Cause) → cause ≡ cause_of counts → WritesReport named errand g t old new cause
-      → RowsEnd named errand g t left old new cause
+  ends_by : (left old new : Option (List ℕ)) (counts : Counts) (cause : Cause) → cause ≡ cause_of counts → WritesReport named request g t old new cause
+      → RowsEnd named request g t left old new cause
   ends_by left old new counts cause e wrote = by_odd (counts.odd == 0) e
     where
-      by_odd : (no_odd : Bool) → cause ≡ (if no_odd then Done else Odd) → RowsEnd named errand g t left old new cause
+      by_odd : (no_odd : Bool) → cause ≡ (if no_odd then Done else Odd) → RowsEnd named request g t left old new cause
       by_odd true is = rw is (rw is at wrote)
       by_odd false is = rw is (rw is at wrote)
 
-  pub ends_on : (before left old mid last new : Option (List ℕ)) (ended : ShotsEnd) (tally : Tally) (cause : Cause) → IsOpened named errand.shots before
-      → Appends old mid head_text → WritesBatches (λ shots. GathersFrom before errand.format g left shots ended) errand g t mid last tally
-      → EndsReport t ended (tally.best + tally.odd) (counts_in tally) last new cause → RowsEnd named errand g t left old new cause
+  pub ends_on : (before left old mid last new : Option (List ℕ)) (ended : ShotsEnd) (tally : Tally) (cause : Cause) → IsOpened named request.shots before
+      → Appends old mid head_text → WritesBatches (λ shots. GathersFrom before request.format g left shots ended) request g t mid last tally
+      → EndsReport t ended (tally.best + tally.odd) (counts_in tally) last new cause → RowsEnd named request g t left old new cause
   ends_on before left old mid last new ended tally cause opened head wrote report =
-      go ended (gathers_opened named errand.shots before errand.format g left wrote.shots ended opened wrote.input) report
+      go ended (gathers_opened named request.shots before request.format g left wrote.shots ended opened wrote.input) report
     where
-      front : Appends old last (report_front errand.trace wrote.batches)
-      front = Appends-trans old mid last head_text (batches_text errand.trace 0 wrote.batches) head wrote.written
+      prefix : Appends old last (report_prefix request.trace wrote.batches)
+      prefix = Appends-trans old mid last head_text (batches_text request.trace 0 wrote.batches) head wrote.written
 
       same_line : last_line t (tally.best + tally.odd) (counts_in tally) ≡ last_line t (length (all_rows wrote.batches)) (counts_of (all_rows wrote.batches))
       same_line = ap (λ n. last_line t n (counts_in tally)) (counted_rows tally (all_rows wrote.batches) wrote.counts)
           ∙ ap (λ c. last_line t (length (all_rows wrote.batches)) c) wrote.counts
 
-      go : (e : ShotsEnd) → Gathers named errand.shots errand.format g left wrote.shots e → EndsReport t e (tally.best + tally.odd) (counts_in tally) last new cause
-          → RowsEnd named errand g t left old new cause
+      go : (e : ShotsEnd) → Gathers named request.shots request.format g left wrote.shots e → EndsReport t e (tally.best + tally.odd) (counts_in tally) last new cause
+          → RowsEnd named request g t left old new cause
       go end.End held (inl (all, is)) = ends_by left old new (counts_in tally) cause is (record {
         shots = wrote.shots;
         input = held;
         batches = wrote.batches;
         answers = wrote.answers;
-        written = Appends-trans old last new (report_front errand.trace wrote.batches) _ front (subst (Appends last new) same_line all);
+        written = Appends-trans old last new (report_prefix request.trace wrote.batches) _ prefix (subst (Appends last new) same_line all);
         ends = is ∙ ap cause_of wrote.counts;
       })
       go end.End held (inr (part, is)) = rw is (record {
         shots = wrote.shots;
-        input = inr (holds_more named errand.shots _ _ (are_first wrote.shots at_end) held);
+        input = inr (holds_more named request.shots _ _ (are_first wrote.shots at_end) held);
         batches = wrote.batches;
         answers = wrote.answers;
-        written = inr (held, front_second old last new (report_front errand.trace wrote.batches) _ front (subst (AppendsFront last new) same_line part));
+        written = inr (held, prefix_second old last new (report_prefix request.trace wrote.batches) _ prefix (subst (AppendsPrefix last new) same_line part));
       })
       go (end.Refused fault) held (same, is) = rw is (record {
         shots = wrote.shots;
@@ -104,12 +104,12 @@ module _ (named : Named) (errand : Decoding) (g : DecodingGraph) (t : PlanTree) 
         place = held.1;
         batches = wrote.batches;
         answers = wrote.answers;
-        written = rw same front;
+        written = rw same prefix;
       })
       go end.ReadFault held (same, is) = rw is (inr (record {
         shots = wrote.shots;
         input = held;
         batches = wrote.batches;
         answers = wrote.answers;
-        written = rw same front;
+        written = rw same prefix;
       }))

@@ -47,27 +47,27 @@ abbrev pub all_rows : List Batch → List Row
 all_rows bs = flat_map (λ b. b.rows) bs
 
 -- The rows of these shots. Where the history is wanted, it tells how the rows were made.
-pub record AnswersBatch (errand : Decoding) (g : DecodingGraph) (t : PlanTree) (shots : List (List ℕ)) (b : Batch) : Type 0 where
+pub record AnswersBatch (request : Decoding) (g : DecodingGraph) (t : PlanTree) (shots : List (List ℕ)) (b : Batch) : Type 0 where
   pub rows : AreRows g shots b.rows
-  pub history : errand.trace ≡ true → IsHistoryOf t errand.workers b.rows b.history
+  pub history : request.trace ≡ true → IsHistoryOf t request.workers b.rows b.history
 
 -- the rows of shots, in batches of the window's size, the last of which may be smaller
 abbrev pub AreBatches : Decoding → DecodingGraph → PlanTree → List (List ℕ) → List Batch → Type 0
-AreBatches errand g t shots [] = shots ≡ []
-AreBatches errand g t shots (b ∷ bs) = (shots ≢ []) × AnswersBatch errand g t (take errand.window shots) b
-    × AreBatches errand g t (drop errand.window shots) bs
+AreBatches request g t shots [] = shots ≡ []
+AreBatches request g t shots (b ∷ bs) = (shots ≢ []) × AnswersBatch request g t (take request.window shots) b
+    × AreBatches request g t (drop request.window shots) bs
 
 -- the last line after so many rows: each correction counts the plan's units and its fusions
 abbrev pub last_line : PlanTree → ℕ → Counts → List ℕ
 last_line t rows counts = done_text rows counts.odd (counts.best * t.units) (counts.best * length t.joins)
 
 -- the head and the batches, without a last line
-abbrev pub report_front : Bool → List Batch → List ℕ
-report_front trace bs = head_text ++ batches_text trace 0 bs
+abbrev pub report_prefix : Bool → List Batch → List ℕ
+report_prefix trace bs = head_text ++ batches_text trace 0 bs
 
 -- the whole text of these batches
 abbrev pub report_text : PlanTree → Bool → List Batch → List ℕ
-report_text t trace bs = report_front trace bs ++ last_line t (length (all_rows bs)) (counts_of (all_rows bs))
+report_text t trace bs = report_prefix trace bs ++ last_line t (length (all_rows bs)) (counts_of (all_rows bs))
 
 -- how a decode of all shots ends
 abbrev pub cause_of : Counts → Cause

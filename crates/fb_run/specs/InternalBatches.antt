@@ -15,10 +15,10 @@ abbrev pub batch_in : Window → Batch
 batch_in w = record { rows = w.rows.items; history = w.history.items }
 
 -- The next shots were taken, as many as the window holds or fewer where they end, and these are their rows.
-pub record TakesBatch (errand : Decoding) (t : PlanTree) (old new : Stream) (before after : Option (List ℕ)) (b : Batch) (ending : Option ShotsEnd) : Type 0 where
+pub record TakesBatch (request : Decoding) (t : PlanTree) (old new : Stream) (before after : Option (List ℕ)) (b : Batch) (ending : Option ShotsEnd) : Type 0 where
   pub shots : List (List ℕ)
-  pub takes : TakesWindow errand.window old new before after shots ending
-  pub answers : AnswersBatch errand old.graph t shots b
+  pub takes : TakesWindow request.window old new before after shots ending
+  pub answers : AnswersBatch request old.graph t shots b
 
 -- these rows were counted too
 pub record AddsCounts (tally more : Tally) (rows : List Row) : Type 0 where

@@ -10,7 +10,7 @@ use Rattle.fb_gen.specs.declared.faults.GenFault.{GenFault}
 use Rattle.fb_gen.specs.declared.faults.GenFault.TheVariants as gen
 use Rattle.fb_graph.specs.Limits.{DecodingGraph}
 use Rattle.fb_plan.specs.Plans.{PlanTree}
-use Rattle.fb_ports.specs.Causes.{Appends, AppendsFront}
+use Rattle.fb_ports.specs.Causes.{Appends, AppendsPrefix}
 use Rattle.fb_words.specs.Words.{Sampling}
 use Rattle.fb_run.specs.Samples.{HaveSums, sample_text}
 
@@ -48,7 +48,7 @@ cause_of_fault gen.NoMemory = NoMemory
 abbrev pub SampleEnds : Sampling → (old new : Option (List ℕ)) → Cause → Type 0
 SampleEnds s old new Done = (text : List ℕ) × IsSampleText s text × Appends old new text
 SampleEnds s old new (Refused r) = IsSampleRefusal s r × Appends old new []
-SampleEnds s old new WriteFault = (text : List ℕ) × IsSampleText s text × AppendsFront old new text
+SampleEnds s old new WriteFault = (text : List ℕ) × IsSampleText s text × AppendsPrefix old new text
 SampleEnds s old new NoMemory = Appends old new []
 SampleEnds s old new Odd = ⊥
 SampleEnds s old new (Bad count) = ⊥

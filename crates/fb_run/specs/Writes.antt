@@ -4,7 +4,7 @@ use Rattle.fb_crew.specs.Windows.{is_best}
 use Rattle.fb_graph.specs.Limits.{DecodingGraph}
 use Rattle.fb_graph.specs.declared.parts.Row.{Row}
 use Rattle.fb_plan.specs.Plans.{PlanTree}
-use Rattle.fb_ports.specs.Causes.{Appends, AppendsFront}
+use Rattle.fb_ports.specs.Causes.{Appends, AppendsPrefix}
 use Rattle.fb_run.specs.Decoding.{AreBatches, Batch, all_rows, batches_text, cause_of, last_line}
 use Rattle.fb_run.specs.Rows.{Counts, counts_of}
 use Rattle.fb_words.specs.Words.{Decoding}
@@ -23,26 +23,26 @@ abbrev pub counted : Tally → Row → Tally
 counted t r = if is_best r then record t { best = t.best + 1 } else record t { odd = t.odd + 1 }
 
 -- The batches of the shots that the input gives were written, and their rows are counted so.
-pub record WritesBatches (Input : List (List ℕ) → Type 0) (errand : Decoding) (g : DecodingGraph) (t : PlanTree) (old new : Option (List ℕ)) (tally : Tally) : Type 0 where
+pub record WritesBatches (Input : List (List ℕ) → Type 0) (request : Decoding) (g : DecodingGraph) (t : PlanTree) (old new : Option (List ℕ)) (tally : Tally) : Type 0 where
   pub shots : List (List ℕ)
   pub input : Input shots
   pub batches : List Batch
-  pub answers : AreBatches errand g t shots batches
-  pub written : Appends old new (batches_text errand.trace 0 batches)
+  pub answers : AreBatches request g t shots batches
+  pub written : Appends old new (batches_text request.trace 0 batches)
   pub counts : counts_in tally ≡ counts_of (all_rows batches)
 
 -- A prefix was written of the batches of some of the first shots.
-pub record WritesFirstBatches (Input : List (List ℕ) → Type 0) (errand : Decoding) (g : DecodingGraph) (t : PlanTree) (old new : Option (List ℕ)) : Type 0 where
+pub record WritesFirstBatches (Input : List (List ℕ) → Type 0) (request : Decoding) (g : DecodingGraph) (t : PlanTree) (old new : Option (List ℕ)) : Type 0 where
   pub shots : List (List ℕ)
   pub input : Input shots
   pub batches : List Batch
-  pub answers : AreBatches errand g t shots batches
-  pub written : AppendsFront old new (batches_text errand.trace 0 batches)
+  pub answers : AreBatches request g t shots batches
+  pub written : AppendsPrefix old new (batches_text request.trace 0 batches)
 
 -- the end of a report of so many rows, by how the shots ended: the last line only where they were read to their end
 abbrev pub EndsReport : PlanTree → ShotsEnd → ℕ → Counts → Option (List ℕ) → Option (List ℕ) → Cause → Type 0
 EndsReport t end.End rows counts old new cause =
     (Appends old new (last_line t rows counts) × (cause ≡ cause_of counts))
-    ⊎ (AppendsFront old new (last_line t rows counts) × (cause ≡ WriteFault))
+    ⊎ (AppendsPrefix old new (last_line t rows counts) × (cause ≡ WriteFault))
 EndsReport t (end.Refused fault) rows counts old new cause = (new ≡ old) × (cause ≡ Refused (refusal.Shot fault))
 EndsReport t end.ReadFault rows counts old new cause = (new ≡ old) × (cause ≡ ReadFault)

@@ -3,7 +3,7 @@
 ghost use Rattle.std.specs.Prelude.{◌≡◌, ◌≢◌, ◌+◌, ◌++◌, ◌^◌, ◌<◌, ◌≤◌, ◌==◌, [], true, length, replicate, All, Some, IfOk, OnOk, OnErr, Err};
 ghost use Rattle.std.specs.List.{list_all};
 ghost use Rattle.fb_graph.specs.Limits.{IsShot};
-ghost use Rattle.fb_ports.specs.Causes.{Appends, AppendsFront, Rose};
+ghost use Rattle.fb_ports.specs.Causes.{Appends, AppendsPrefix, Rose};
 ghost use Rattle.fb_shots.specs.Steps.{IsReadOut};
 ghost use Rattle.fb_shots.specs.Streams.{fresh};
 ghost use Rattle.fb_inputs.specs.Judging.{FirstFrom, GathersFrom, most_shots};
@@ -91,7 +91,7 @@ impl Tally {
 pub fn decode_file<F: Files, O: Sink, G: Gate, R: Threads + Wait + Sync>(
     rt: &R,
     alloc: Global,
-    errand: &Decoding<'_>,
+    request: &Decoding<'_>,
     graph: &Graph,
     crew: Crew<'_>,
     files: &mut F,
@@ -99,13 +99,13 @@ pub fn decode_file<F: Files, O: Sink, G: Gate, R: Threads + Wait + Sync>(
     gate: &G,
 ) -> Result<Decoded, RowsFault>
     requires graph { crew.graph ≡ graph.now }
-    requires workers { crew.workers ≡ errand.now.workers }
-    requires some { 1 ≤ errand.now.window }
-    requires few { errand.now.window ≤ 64 }
-    ensures all { IfOk result (λ d. WritesBatches (λ shots. GathersFrom (F.left files.old) errand.now.format graph.now (F.left files.new) shots d.end)
-        (seen_decoding errand.now) graph.now crew.entry.plan (O.taken out.old) (O.taken out.new) d.tally) }
-    ensures first { OnErr result (WritesFirstBatches (FirstFrom (F.left files.old) errand.now.format graph.now)
-        (seen_decoding errand.now) graph.now crew.entry.plan (O.taken out.old) (O.taken out.new)) }
+    requires workers { crew.workers ≡ request.now.workers }
+    requires some { 1 ≤ request.now.window }
+    requires few { request.now.window ≤ 64 }
+    ensures all { IfOk result (λ d. WritesBatches (λ shots. GathersFrom (F.left files.old) request.now.format graph.now (F.left files.new) shots d.end)
+        (seen_decoding request.now) graph.now crew.entry.plan (O.taken out.old) (O.taken out.new) d.tally) }
+    ensures first { OnErr result (WritesFirstBatches (FirstFrom (F.left files.old) request.now.format graph.now)
+        (seen_decoding request.now) graph.now crew.entry.plan (O.taken out.old) (O.taken out.new)) }
     ensures few { IfOk result (λ d. d.tally.best + d.tally.odd < 2 ^ 32) }
     ensures at_end { IfOk result (λ d. d.end ≡ ShotsEnd.End → IsReadOut (F.left files.old) (F.left files.new)) }
     ensures asks { F.asked files.new ≡ F.asked files.old }
@@ -116,7 +116,7 @@ pub fn decode_file<F: Files, O: Sink, G: Gate, R: Threads + Wait + Sync>(
     ensures write_later { O.faults out.old ≤ O.faults out.new }
     ensures write_calm { result ≢ Err RowsFault.WriteFault → O.faults out.new ≡ O.faults out.old }
 {
-    let Ok(stream) = ShotStream::new(alloc, errand.format, graph, u32::MAX) else {
+    let Ok(stream) = ShotStream::new(alloc, request.format, graph, u32::MAX) else {
         return Err(RowsFault::NoMemory);
     };
     let (mut crew, mut stream) = (crew, stream);
@@ -124,7 +124,7 @@ pub fn decode_file<F: Files, O: Sink, G: Gate, R: Threads + Wait + Sync>(
     decode_stream(
         rt,
         alloc,
-        errand,
+        request,
         &mut crew,
         files,
         &mut stream,
@@ -138,7 +138,7 @@ pub fn decode_file<F: Files, O: Sink, G: Gate, R: Threads + Wait + Sync>(
 fn decode_stream<F: Files, O: Sink, G: Gate, R: Threads + Wait + Sync>(
     rt: &R,
     alloc: Global,
-    errand: &Decoding<'_>,
+    request: &Decoding<'_>,
     crew: &mut Crew<'_>,
     files: &mut F,
     stream: &mut ShotStream<'_>,
@@ -148,14 +148,14 @@ fn decode_stream<F: Files, O: Sink, G: Gate, R: Threads + Wait + Sync>(
 ) -> Result<Decoded, RowsFault>
     requires fresh { stream.old ≡ fresh stream.old.format stream.old.graph most_shots }
     requires graph { crew.old.graph ≡ stream.old.graph }
-    requires workers { crew.old.workers ≡ errand.now.workers }
-    requires some { 1 ≤ errand.now.window }
-    requires few { errand.now.window ≤ 64 }
+    requires workers { crew.old.workers ≡ request.now.workers }
+    requires some { 1 ≤ request.now.window }
+    requires few { request.now.window ≤ 64 }
     requires empty { outbox.old.text ≡ [] }
     ensures all { IfOk result (λ d. WritesBatches (λ shots. GathersFrom (F.left files.old) stream.old.format stream.old.graph (F.left files.new) shots d.end)
-        (seen_decoding errand.now) stream.old.graph crew.old.plan (O.taken out.old) (O.taken out.new) d.tally) }
+        (seen_decoding request.now) stream.old.graph crew.old.plan (O.taken out.old) (O.taken out.new) d.tally) }
     ensures first { OnErr result (WritesFirstBatches (FirstFrom (F.left files.old) stream.old.format stream.old.graph)
-        (seen_decoding errand.now) stream.old.graph crew.old.plan (O.taken out.old) (O.taken out.new)) }
+        (seen_decoding request.now) stream.old.graph crew.old.plan (O.taken out.old) (O.taken out.new)) }
     ensures few { IfOk result (λ d. d.tally.best + d.tally.odd < 2 ^ 32) }
     ensures at_end { IfOk result (λ d. d.end ≡ ShotsEnd.End → IsReadOut (F.left files.old) (F.left files.new)) }
     ensures asks { F.asked files.new ≡ F.asked files.old }
@@ -168,10 +168,10 @@ fn decode_stream<F: Files, O: Sink, G: Gate, R: Threads + Wait + Sync>(
 {
     let mut tally = Tally { best: 0, odd: 0 };
     loop {
-        let Ok(next) = next_batch(rt, alloc, errand, crew, files, stream, gate) else {
+        let Ok(next) = next_batch(rt, alloc, request, crew, files, stream, gate) else {
             return Err(RowsFault::NoMemory);
         };
-        tally = write_batch(&next.batch, tally, errand.trace, outbox, out)?;
+        tally = write_batch(&next.batch, tally, request.trace, outbox, out)?;
         if let Some(end) = next.end {
             return Ok(Decoded { tally, end });
         }
@@ -182,16 +182,16 @@ fn decode_stream<F: Files, O: Sink, G: Gate, R: Threads + Wait + Sync>(
 fn next_batch<F: Files, G: Gate, R: Threads + Wait + Sync>(
     rt: &R,
     alloc: Global,
-    errand: &Decoding<'_>,
+    request: &Decoding<'_>,
     crew: &mut Crew<'_>,
     files: &mut F,
     stream: &mut ShotStream<'_>,
     gate: &G,
 ) -> Result<NextBatch, NoMemory>
     requires graph { crew.old.graph ≡ stream.old.graph }
-    requires workers { crew.old.workers ≡ errand.now.workers }
-    requires few { errand.now.window ≤ 64 }
-    ensures batch { IfOk result (λ n. TakesBatch (seen_decoding errand.now) crew.old.plan stream.old stream.new
+    requires workers { crew.old.workers ≡ request.now.workers }
+    requires few { request.now.window ≤ 64 }
+    ensures batch { IfOk result (λ n. TakesBatch (seen_decoding request.now) crew.old.plan stream.old stream.new
         (F.left files.old) (F.left files.new) (batch_in n.batch) n.end) }
     ensures same { crew.new ≡ crew.old }
     ensures asks { F.asked files.new ≡ F.asked files.old }
@@ -199,8 +199,8 @@ fn next_batch<F: Files, G: Gate, R: Threads + Wait + Sync>(
     ensures later { F.faults files.old ≤ F.faults files.new }
     ensures calm { IfOk result (λ n. n.end ≢ Some ShotsEnd.ReadFault → F.faults files.new ≡ F.faults files.old) }
 {
-    let taken = take_window(alloc, files, stream, errand.window as usize)?;
-    let batch = solve_batch(rt, alloc, crew, errand.trace, taken.shots.as_slice(), gate)?;
+    let taken = take_window(alloc, files, stream, request.window as usize)?;
+    let batch = solve_batch(rt, alloc, crew, request.trace, taken.shots.as_slice(), gate)?;
     Ok(NextBatch {
         batch,
         end: taken.end,
@@ -268,7 +268,7 @@ fn write_batch<O: Sink>(
     requires empty { outbox.old.text ≡ [] }
     ensures all { OnOk result (Appends (O.taken out.old) (O.taken out.new)
         (batch_text trace (tally.best + tally.odd) (batch_in batch.now))) }
-    ensures prefix { OnErr result (AppendsFront (O.taken out.old) (O.taken out.new)
+    ensures prefix { OnErr result (AppendsPrefix (O.taken out.old) (O.taken out.new)
         (batch_text trace (tally.best + tally.odd) (batch_in batch.now))) }
     ensures counts { IfOk result (λ more. AddsCounts tally more batch.now.rows.items) }
     ensures emptied { OnOk result (outbox.new.text ≡ []) }

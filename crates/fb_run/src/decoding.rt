@@ -2,7 +2,7 @@
 
 ghost use Rattle.std.specs.Prelude.{◌≡◌, ◌≢◌, ◌+◌, ◌<◌, ◌≤◌, ◌^◌};
 ghost use Rattle.fb_plan.specs.Plans.{IsPlan};
-ghost use Rattle.fb_ports.specs.Causes.{HasRoom, IsEmptyIfTold, Rose};
+ghost use Rattle.fb_ports.specs.Causes.{HasRoom, IsEmptyIfKnown, Rose};
 ghost use Rattle.fb_check.specs.Ends.{IsReadToItsEnd, MayFollowReadFault};
 ghost use Rattle.fb_inputs.specs.Judging.{IsReadOutIfNamed};
 ghost use Rattle.fb_inputs.specs.Moments.{moment};
@@ -29,15 +29,15 @@ use std::thread::Threads;
 pub fn decode<F: Files, O: Sink, G: Gate, R: Threads + Wait + Sync>(
     rt: &R,
     alloc: Global,
-    errand: &Decoding<'_>,
+    request: &Decoding<'_>,
     files: &mut F,
     out: &mut O,
     gate: &G,
 ) -> Cause
-    requires asked { IsEmptyIfTold (F.asked files.old) }
-    requires workers { IsWithin workers errand.now.workers }
-    requires window { IsWithin windows errand.now.window }
-    ensures ends { DecodeEnds (seen_decoding errand.now)
+    requires asked { IsEmptyIfKnown (F.asked files.old) }
+    requires workers { IsWithin workers request.now.workers }
+    requires window { IsWithin windows request.now.window }
+    ensures ends { DecodeEnds (seen_decoding request.now)
         (moment (F.named files.old) (F.left files.old) (F.asked files.old) (F.faults files.old) (O.taken out.old))
         (moment (F.named files.new) (F.left files.new) (F.asked files.new) (F.faults files.new) (O.taken out.new)) result }
     ensures at_end { IsReadToItsEnd result → IsReadOutIfNamed (F.named files.old) (F.left files.new) }
@@ -48,8 +48,8 @@ pub fn decode<F: Files, O: Sink, G: Gate, R: Threads + Wait + Sync>(
     ensures write_later { O.faults out.old ≤ O.faults out.new }
     ensures write_calm { result ≢ Cause.WriteFault → O.faults out.new ≡ O.faults out.old }
 {
-    match read_graph_file(alloc, files, errand.graph) {
-        Ok(graph) => decode_on(rt, alloc, errand, &graph, files, out, gate),
+    match read_graph_file(alloc, files, request.graph) {
+        Ok(graph) => decode_on(rt, alloc, request, &graph, files, out, gate),
         Err(NoGraph::Refused(fault)) => Cause::Refused(Refusal::Graph(fault)),
         Err(NoGraph::ReadFault) => Cause::ReadFault,
         Err(NoGraph::NoMemory) => Cause::NoMemory,
@@ -60,16 +60,16 @@ pub fn decode<F: Files, O: Sink, G: Gate, R: Threads + Wait + Sync>(
 fn decode_on<F: Files, O: Sink, G: Gate, R: Threads + Wait + Sync>(
     rt: &R,
     alloc: Global,
-    errand: &Decoding<'_>,
+    request: &Decoding<'_>,
     graph: &Graph,
     files: &mut F,
     out: &mut O,
     gate: &G,
 ) -> Cause
     requires room { HasRoom (F.asked files.old) 15 }
-    requires workers { IsWithin workers errand.now.workers }
-    requires window { IsWithin windows errand.now.window }
-    ensures ends { EndsByPlan (seen_decoding errand.now).plan (seen_decoding errand.now) graph.now
+    requires workers { IsWithin workers request.now.workers }
+    requires window { IsWithin windows request.now.window }
+    ensures ends { EndsByPlan (seen_decoding request.now).plan (seen_decoding request.now) graph.now
         (moment (F.named files.old) (F.left files.old) (F.asked files.old) (F.faults files.old) (O.taken out.old))
         (moment (F.named files.new) (F.left files.new) (F.asked files.new) (F.faults files.new) (O.taken out.new)) result }
     ensures at_end { IsReadToItsEnd result → IsReadOutIfNamed (F.named files.old) (F.left files.new) }
@@ -80,14 +80,14 @@ fn decode_on<F: Files, O: Sink, G: Gate, R: Threads + Wait + Sync>(
     ensures write_later { O.faults out.old ≤ O.faults out.new }
     ensures write_calm { result ≢ Cause.WriteFault → O.faults out.new ≡ O.faults out.old }
 {
-    let Some(name) = errand.plan else {
+    let Some(name) = request.plan else {
         return match Plan::single(alloc, graph) {
-            Ok(plan) => decode_by(rt, alloc, errand, graph, &plan, files, out, gate),
+            Ok(plan) => decode_by(rt, alloc, request, graph, &plan, files, out, gate),
             Err(_) => Cause::NoMemory,
         };
     };
     match read_plan_file(alloc, files, name, graph) {
-        Ok(plan) => decode_by(rt, alloc, errand, graph, &plan, files, out, gate),
+        Ok(plan) => decode_by(rt, alloc, request, graph, &plan, files, out, gate),
         Err(NoPlan::Refused(fault)) => Cause::Refused(Refusal::Plan(fault)),
         Err(NoPlan::ReadFault) => Cause::ReadFault,
         Err(NoPlan::NoMemory) => Cause::NoMemory,
@@ -99,7 +99,7 @@ fn decode_on<F: Files, O: Sink, G: Gate, R: Threads + Wait + Sync>(
 fn decode_by<F: Files, O: Sink, G: Gate, R: Threads + Wait + Sync>(
     rt: &R,
     alloc: Global,
-    errand: &Decoding<'_>,
+    request: &Decoding<'_>,
     graph: &Graph,
     plan: &Plan,
     files: &mut F,
@@ -108,9 +108,9 @@ fn decode_by<F: Files, O: Sink, G: Gate, R: Threads + Wait + Sync>(
 ) -> Cause
     requires plan { IsPlan graph.now plan.now }
     requires room { HasRoom (F.asked files.old) 16 }
-    requires workers { IsWithin workers errand.now.workers }
-    requires window { IsWithin windows errand.now.window }
-    ensures ends { EndsOn (seen_decoding errand.now) graph.now plan.now
+    requires workers { IsWithin workers request.now.workers }
+    requires window { IsWithin windows request.now.window }
+    ensures ends { EndsOn (seen_decoding request.now) graph.now plan.now
         (moment (F.named files.old) (F.left files.old) (F.asked files.old) (F.faults files.old) (O.taken out.old))
         (moment (F.named files.new) (F.left files.new) (F.asked files.new) (F.faults files.new) (O.taken out.new)) result }
     ensures at_end { IsReadToItsEnd result → IsReadOutIfNamed (F.named files.old) (F.left files.new) }
@@ -121,19 +121,19 @@ fn decode_by<F: Files, O: Sink, G: Gate, R: Threads + Wait + Sync>(
     ensures write_later { O.faults out.old ≤ O.faults out.new }
     ensures write_calm { result ≢ Cause.WriteFault → O.faults out.new ≡ O.faults out.old }
 {
-    let Ok(crew) = Crew::new(alloc, graph, plan, errand.workers) else {
+    let Ok(crew) = Crew::new(alloc, graph, plan, request.workers) else {
         return Cause::NoMemory;
     };
     let Ok(()) = write_head(out) else {
         return Cause::WriteFault;
     };
-    let Ok(name) = String::from_str(alloc, errand.shots) else {
+    let Ok(name) = String::from_str(alloc, request.shots) else {
         return Cause::NoMemory;
     };
     let Ok(()) = files.open_file(name) else {
         return Cause::ReadFault;
     };
-    match decode_file(rt, alloc, errand, graph, crew, files, out, gate) {
+    match decode_file(rt, alloc, request, graph, crew, files, out, gate) {
         Ok(decoded) => end_report(plan, decoded, out),
         Err(RowsFault::WriteFault) => Cause::WriteFault,
         Err(RowsFault::NoMemory) => Cause::NoMemory,

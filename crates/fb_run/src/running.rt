@@ -1,14 +1,14 @@
 //! The top call.
 
 ghost use Rattle.std.specs.Prelude.{◌≡◌, ◌≢◌, ◌<◌, ◌≤◌, ◌^◌, ◌-◌, map, string_bytes, true};
-ghost use Rattle.fb_ports.specs.Causes.{Appends, AppendsFront, IsEmptyIfTold, Rose};
+ghost use Rattle.fb_ports.specs.Causes.{Appends, AppendsPrefix, IsEmptyIfKnown, Rose};
 ghost use Rattle.fb_endings.specs.Causes.{line_of, status_of};
 ghost use Rattle.fb_check.specs.Ends.{MayFollowReadFault};
 ghost use Rattle.fb_inputs.specs.Moments.{moment};
-ghost use Rattle.fb_run.specs.RunEndings.{EndsRight, ErrandEnds, HasReadOut, IfParse, ReadsOut, cause_of_fault};
+ghost use Rattle.fb_run.specs.RunEndings.{EndsRight, RequestEnds, HasReadOut, IfParse, ReadsOut, cause_of_fault};
 ghost use Rattle.fb_words.specs.Taken.{is_taken};
 ghost use Rattle.fb_words.specs.Seen.{seen};
-ghost use Rattle.fb_words.specs.Words.{IsInRanges, errand_of};
+ghost use Rattle.fb_words.specs.Words.{IsInRanges, request_of};
 
 use crate::decoding::decode;
 use crate::sampling::sample;
@@ -16,7 +16,7 @@ use fb_check::check;
 use fb_crew::Gate;
 use fb_endings::{Cause, Ended, say};
 use fb_ports::{Files, Sink, put_all};
-use fb_words::{Errand, UsageKind, WordsFault, read_words};
+use fb_words::{Request, UsageKind, WordsFault, read_words};
 use std::alloc::Global;
 use std::sync::Wait;
 use std::thread::Threads;
@@ -32,14 +32,14 @@ pub fn run<F: Files, O: Sink, E: Sink, G: Gate, R: Threads + Wait + Sync>(
     err: &mut E,
     gate: &G,
 ) -> Ended
-    requires { IsEmptyIfTold (F.asked files.old) }
+    requires { IsEmptyIfKnown (F.asked files.old) }
     ensures status { result.status ≡ status_of result.cause }
 
     // By the cause: what the files held, which names were asked for, whether a read failed, and what was written.
-    ensures ends { EndsRight (errand_of (map string_bytes words.now))
+    ensures ends { EndsRight (request_of (map string_bytes words.now))
         (moment (F.named files.old) (F.left files.old) (F.asked files.old) (F.faults files.old) (O.taken out.old))
         (moment (F.named files.new) (F.left files.new) (F.asked files.new) (F.faults files.new) (O.taken out.new)) result.cause }
-    ensures at_end { HasReadOut (errand_of (map string_bytes words.now)) (F.named files.old) (F.left files.new) result.cause }
+    ensures at_end { HasReadOut (request_of (map string_bytes words.now)) (F.named files.old) (F.left files.new) result.cause }
 
     // A fault is returned only if one occurred. If the rows of the shots before a failed read can't be written, or memory
     // runs out for them, that is returned in its place.
@@ -53,7 +53,7 @@ pub fn run<F: Files, O: Sink, E: Sink, G: Gate, R: Threads + Wait + Sync>(
 
     // What was written to standard error. Of words that have no reading it is the command line reader's own text.
     ensures said { result.cause ≢ Cause.Usage UsageKind.Parse
-        → AppendsFront (E.taken err.old) (E.taken err.new) (line_of result.cause) }
+        → AppendsPrefix (E.taken err.old) (E.taken err.new) (line_of result.cause) }
     ensures said_whole { result.cause ≢ Cause.Usage UsageKind.Parse → E.faults err.old < 2 ^ 64 - 1
         → E.faults err.new ≡ E.faults err.old → Appends (E.taken err.old) (E.taken err.new) (line_of result.cause) }
 {
@@ -75,11 +75,11 @@ fn answer<F: Files, O: Sink, E: Sink, G: Gate, R: Threads + Wait + Sync>(
     err: &mut E,
     gate: &G,
 ) -> Cause
-    requires { IsEmptyIfTold (F.asked files.old) }
-    ensures ends { EndsRight (errand_of (map string_bytes words.now))
+    requires { IsEmptyIfKnown (F.asked files.old) }
+    ensures ends { EndsRight (request_of (map string_bytes words.now))
         (moment (F.named files.old) (F.left files.old) (F.asked files.old) (F.faults files.old) (O.taken out.old))
         (moment (F.named files.new) (F.left files.new) (F.asked files.new) (F.faults files.new) (O.taken out.new)) result }
-    ensures at_end { HasReadOut (errand_of (map string_bytes words.now)) (F.named files.old) (F.left files.new) result }
+    ensures at_end { HasReadOut (request_of (map string_bytes words.now)) (F.named files.old) (F.left files.new) result }
     ensures takes { is_taken (map string_bytes words.now) ≡ true → result ≢ Cause.Usage UsageKind.Parse }
     ensures read_fault { result ≡ Cause.ReadFault → Rose (F.faults files.old) (F.faults files.new) }
     ensures read_risen { F.faults files.old < F.faults files.new → MayFollowReadFault result }
@@ -88,26 +88,26 @@ fn answer<F: Files, O: Sink, E: Sink, G: Gate, R: Threads + Wait + Sync>(
     ensures quiet { result ≢ Cause.Usage UsageKind.Parse → (E.taken err.new ≡ E.taken err.old) × (E.faults err.new ≡ E.faults err.old) }
 {
     match read_words(alloc, words) {
-        Ok(errand) => run_errand(rt, alloc, &errand, files, out, gate),
+        Ok(request) => run_request(rt, alloc, &request, files, out, gate),
         Err(fault) => refuse_words(&fault, err),
     }
 }
 
 /// Does what the words ask for.
-fn run_errand<F: Files, O: Sink, G: Gate, R: Threads + Wait + Sync>(
+fn run_request<F: Files, O: Sink, G: Gate, R: Threads + Wait + Sync>(
     rt: &R,
     alloc: Global,
-    errand: &Errand<'_>,
+    request: &Request<'_>,
     files: &mut F,
     out: &mut O,
     gate: &G,
 ) -> Cause
-    requires asked { IsEmptyIfTold (F.asked files.old) }
-    requires ranges { IsInRanges (seen errand.now) }
-    ensures ends { ErrandEnds (seen errand.now)
+    requires asked { IsEmptyIfKnown (F.asked files.old) }
+    requires ranges { IsInRanges (seen request.now) }
+    ensures ends { RequestEnds (seen request.now)
         (moment (F.named files.old) (F.left files.old) (F.asked files.old) (F.faults files.old) (O.taken out.old))
         (moment (F.named files.new) (F.left files.new) (F.asked files.new) (F.faults files.new) (O.taken out.new)) result }
-    ensures at_end { ReadsOut (seen errand.now) (F.named files.old) (F.left files.new) result }
+    ensures at_end { ReadsOut (seen request.now) (F.named files.old) (F.left files.new) result }
     ensures read_fault { result ≡ Cause.ReadFault → Rose (F.faults files.old) (F.faults files.new) }
     ensures read_later { F.faults files.old ≤ F.faults files.new }
     ensures read_risen { F.faults files.old < F.faults files.new → MayFollowReadFault result }
@@ -115,10 +115,10 @@ fn run_errand<F: Files, O: Sink, G: Gate, R: Threads + Wait + Sync>(
     ensures write_later { O.faults out.old ≤ O.faults out.new }
     ensures write_calm { result ≢ Cause.WriteFault → O.faults out.new ≡ O.faults out.old }
 {
-    match errand {
-        Errand::Decode(decoding) => decode(rt, alloc, decoding, files, out, gate),
-        Errand::Check(checking) => check(alloc, checking, files, out),
-        Errand::Sample(sampling) => sample(rt, alloc, sampling, out, gate),
+    match request {
+        Request::Decode(decoding) => decode(rt, alloc, decoding, files, out, gate),
+        Request::Check(checking) => check(alloc, checking, files, out),
+        Request::Sample(sampling) => sample(rt, alloc, sampling, out, gate),
     }
 }
 
@@ -126,7 +126,7 @@ fn run_errand<F: Files, O: Sink, G: Gate, R: Threads + Wait + Sync>(
 /// written to a sink, whole unless the sink fails.
 fn refuse_words<E: Sink>(fault: &WordsFault, err: &mut E) -> Cause
     ensures cause { result ≡ cause_of_fault fault.now }
-    ensures text { IfParse (λ text. AppendsFront (E.taken err.old) (E.taken err.new) text) fault.now }
+    ensures text { IfParse (λ text. AppendsPrefix (E.taken err.old) (E.taken err.new) text) fault.now }
     ensures text_whole { E.faults err.old < 2 ^ 64 - 1 → E.faults err.new ≡ E.faults err.old
         → IfParse (λ text. Appends (E.taken err.old) (E.taken err.new) text) fault.now }
     ensures quiet { result ≢ Cause.Usage UsageKind.Parse → (E.taken err.new ≡ E.taken err.old) × (E.faults err.new ≡ E.faults err.old) }

@@ -1,7 +1,7 @@
 //! The text of a sample.
 
 ghost use Rattle.std.specs.Prelude.{◌≡◌, ◌≢◌, ◌+◌, ◌*◌, ◌++◌, ◌≤◌, [], length, OnOk, Err};
-ghost use Rattle.fb_ports.specs.Causes.{Appends, AppendsFront, Rose};
+ghost use Rattle.fb_ports.specs.Causes.{Appends, AppendsPrefix, Rose};
 ghost use Rattle.fb_run.specs.Samples.{sample_head, sample_text, sizes_line, sums_line, work_line};
 ghost use Rattle.fb_words.specs.Seen.{seen_sampling};
 
@@ -23,22 +23,22 @@ pub struct Sums {
 /// fault it may have been written in part.
 pub fn write_sample<O: Sink>(
     alloc: Global,
-    errand: &Sampling,
+    request: &Sampling,
     plan: &Plan,
     sums: Sums,
     out: &mut O,
 ) -> Result<(), RowsFault>
     ensures all { OnOk result (Appends (O.taken out.old) (O.taken out.new)
-        (sample_text (seen_sampling errand.now) plan.now sums.defects sums.weight)) }
-    ensures prefix { result ≡ Err RowsFault.WriteFault → AppendsFront (O.taken out.old) (O.taken out.new)
-        (sample_text (seen_sampling errand.now) plan.now sums.defects sums.weight) }
+        (sample_text (seen_sampling request.now) plan.now sums.defects sums.weight)) }
+    ensures prefix { result ≡ Err RowsFault.WriteFault → AppendsPrefix (O.taken out.old) (O.taken out.new)
+        (sample_text (seen_sampling request.now) plan.now sums.defects sums.weight) }
     ensures nothing { result ≡ Err RowsFault.NoMemory → Appends (O.taken out.old) (O.taken out.new) [] }
     ensures write_fault { result ≡ Err RowsFault.WriteFault → Rose (O.faults out.old) (O.faults out.new) }
     ensures write_later { O.faults out.old ≤ O.faults out.new }
     ensures write_calm { result ≢ Err RowsFault.WriteFault → O.faults out.new ≡ O.faults out.old }
 {
     let mut outbox = Outbox::new(alloc);
-    let Ok(()) = add_sample(&mut outbox, errand, plan, sums) else {
+    let Ok(()) = add_sample(&mut outbox, request, plan, sums) else {
         return Err(RowsFault::NoMemory);
     };
     let Ok(()) = outbox.flush(out) else {
@@ -49,15 +49,20 @@ pub fn write_sample<O: Sink>(
 
 /// Adds the text of a sample to the outbox.
 #[tactic(auto, unfolding(crate::specs::Samples::sample_text))]
-fn add_sample(outbox: &mut Outbox, errand: &Sampling, plan: &Plan, sums: Sums) -> Result<(), Failed>
+fn add_sample(
+    outbox: &mut Outbox,
+    request: &Sampling,
+    plan: &Plan,
+    sums: Sums,
+) -> Result<(), Failed>
     ensures { OnOk result (outbox.new.text
-        ≡ outbox.old.text ++ sample_text (seen_sampling errand.now) plan.now sums.defects sums.weight) }
+        ≡ outbox.old.text ++ sample_text (seen_sampling request.now) plan.now sums.defects sums.weight) }
 {
-    let units = u64::from(plan.units()) * u64::from(errand.shots);
-    let fusions = u64::from(plan.nodes() - plan.units()) * u64::from(errand.shots);
+    let units = u64::from(plan.units()) * u64::from(request.shots);
+    let fusions = u64::from(plan.nodes() - plan.units()) * u64::from(request.shots);
     add_head(outbox)?;
-    add_sizes(outbox, errand)?;
-    add_sums(outbox, errand.shots, sums)?;
+    add_sizes(outbox, request)?;
+    add_sums(outbox, request.shots, sums)?;
     add_work(outbox, units, fusions)?;
     Ok(())
 }
@@ -72,19 +77,19 @@ fn add_head(outbox: &mut Outbox) -> Result<(), Failed>
 
 /// Adds the line of the lattice, its plan and the draws, `distance D rounds T units U rate R start X`.
 #[tactic(auto, unfolding(crate::specs::Samples::sizes_line))]
-fn add_sizes(outbox: &mut Outbox, errand: &Sampling) -> Result<(), Failed>
-    ensures { OnOk result (outbox.new.text ≡ outbox.old.text ++ sizes_line (seen_sampling errand.now)) }
+fn add_sizes(outbox: &mut Outbox, request: &Sampling) -> Result<(), Failed>
+    ensures { OnOk result (outbox.new.text ≡ outbox.old.text ++ sizes_line (seen_sampling request.now)) }
 {
     let mut one = Buffer::new();
     let mut two = Buffer::new();
     let mut three = Buffer::new();
     let mut four = Buffer::new();
     let mut five = Buffer::new();
-    let distance = one.format(errand.distance).as_bytes();
-    let rounds = two.format(errand.rounds).as_bytes();
-    let units = three.format(errand.units).as_bytes();
-    let rate = four.format(errand.rate).as_bytes();
-    let start = five.format(errand.start).as_bytes();
+    let distance = one.format(request.distance).as_bytes();
+    let rounds = two.format(request.rounds).as_bytes();
+    let units = three.format(request.units).as_bytes();
+    let rate = four.format(request.rate).as_bytes();
+    let start = five.format(request.start).as_bytes();
     put_parts(
         outbox,
         &[

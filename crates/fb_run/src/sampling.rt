@@ -28,28 +28,34 @@ use std::thread::Threads;
 pub fn sample<O: Sink, G: Gate, R: Threads + Wait + Sync>(
     rt: &R,
     alloc: Global,
-    errand: &Sampling,
+    request: &Sampling,
     out: &mut O,
     gate: &G,
 ) -> Cause
-    requires { IsSampleInRanges (seen_sampling errand.now) }
-    ensures ends { SampleEnds (seen_sampling errand.now) (O.taken out.old) (O.taken out.new) result }
+    requires { IsSampleInRanges (seen_sampling request.now) }
+    ensures ends { SampleEnds (seen_sampling request.now) (O.taken out.old) (O.taken out.new) result }
     ensures write_fault { result ≡ Cause.WriteFault → Rose (O.faults out.old) (O.faults out.new) }
     ensures write_later { O.faults out.old ≤ O.faults out.new }
     ensures write_calm { result ≢ Cause.WriteFault → O.faults out.new ≡ O.faults out.old }
 {
-    let graph = match lattice(alloc, errand.distance, errand.rounds) {
+    let graph = match lattice(alloc, request.distance, request.rounds) {
         Ok(graph) => graph,
         Err(fault) => return cause_of_fault(fault),
     };
-    let plan = match time_plan(alloc, &graph, errand.distance, errand.rounds, errand.units) {
+    let plan = match time_plan(
+        alloc,
+        &graph,
+        request.distance,
+        request.rounds,
+        request.units,
+    ) {
         Ok(plan) => plan,
         Err(fault) => return cause_of_fault(fault),
     };
-    let Ok(sums) = sample_on(rt, alloc, errand, &graph, &plan, gate) else {
+    let Ok(sums) = sample_on(rt, alloc, request, &graph, &plan, gate) else {
         return Cause::NoMemory;
     };
-    match write_sample(alloc, errand, &plan, sums, out) {
+    match write_sample(alloc, request, &plan, sums, out) {
         Ok(()) => Cause::Done,
         Err(RowsFault::WriteFault) => Cause::WriteFault,
         Err(RowsFault::NoMemory) => Cause::NoMemory,
@@ -72,25 +78,25 @@ fn cause_of_fault(fault: GenFault) -> Cause
 fn sample_on<G: Gate, R: Threads + Wait + Sync>(
     rt: &R,
     alloc: Global,
-    errand: &Sampling,
+    request: &Sampling,
     graph: &Graph,
     plan: &Plan,
     gate: &G,
 ) -> Result<Sums, NoMemory>
     requires plan { IsPlan graph.now plan.now }
-    requires ranges { IsSampleInRanges (seen_sampling errand.now) }
-    ensures { IfOk result (λ sums. HaveSums graph.now errand.now.rate errand.now.start errand.now.shots sums.defects sums.weight) }
+    requires ranges { IsSampleInRanges (seen_sampling request.now) }
+    ensures { IfOk result (λ sums. HaveSums graph.now request.now.rate request.now.start request.now.shots sums.defects sums.weight) }
 {
-    let mut crew = Crew::new(alloc, graph, plan, errand.workers)?;
-    let mut draws = Draws::new(errand.start);
+    let mut crew = Crew::new(alloc, graph, plan, request.workers)?;
+    let mut draws = Draws::new(request.start);
     let mut sums = Sums {
         defects: 0,
         weight: 0,
     };
     let mut drawn = 0;
-    while drawn < errand.shots {
-        let count = errand.window.min(errand.shots - drawn);
-        let shots = draw_window(alloc, &mut draws, errand.rate, graph, count)?;
+    while drawn < request.shots {
+        let count = request.window.min(request.shots - drawn);
+        let shots = draw_window(alloc, &mut draws, request.rate, graph, count)?;
         let window = crew.decode_window(rt, alloc, shots.as_slice(), gate)?;
         sums = sums.with_window(shots.as_slice(), window.rows.as_slice());
         drawn += count;

@@ -7,7 +7,7 @@ use Rattle.fb_shots.specs.declared.answer.Format.{Format}
 use Rattle.fb_shots.specs.declared.answer.Kind.{Kind}
 use Rattle.fb_shots.specs.declared.answer.Kind.TheVariants.{TooManyShots, InputTooLong}
 use Rattle.fb_shots.specs.Shots.{Ending, still_open, refused, Shots, only, in_front, capped}
-use Rattle.fb_shots.specs.Formats.{records_of, front_of}
+use Rattle.fb_shots.specs.Formats.{records_of, prefix_of}
 use Rattle.fb_shots.specs.Sources.{Source}
 use Rattle.fb_shots.specs.Answers.{Gives, Refuses}
 use Rattle.fb_shots.specs.Streams.{cut_off, within_room, Stream, follows}
@@ -35,7 +35,7 @@ capped_none shot r = cond-false (nat_le (length (shot ∷ r.shots)) 0) _ _ (lt-l
 -- what a rest holds that these bytes follow, of which at most u are taken
 abbrev pub held : Format → DecodingGraph → List ℕ → ℕ → List ℕ → Shots
 held f g rest u left =
-    if nat_le (length left) u then records_of f g (rest ++ left) else cut_off (front_of f g (rest ++ take u left))
+    if nat_le (length left) u then records_of f g (rest ++ left) else cut_off (prefix_of f g (rest ++ take u left))
 
 held_is : (f : Format) (g : DecodingGraph) (rest : List ℕ) (u : ℕ) (left : List ℕ)
     → within_room f g (length rest + u) (rest ++ left) ≡ held f g rest u left
@@ -44,7 +44,7 @@ held_is f g rest u left =
     elim (cases_lt u (length left)) [
       | inl over ↦
           cond-false (nat_le (length (rest ++ left)) (length rest + u)) _ _ (lt-leb (length (rest ++ left)) (length rest + u) (omega arith))
-          ∙ ap (λ (l : List ℕ). cut_off (front_of f g l)) (take-append-add rest left u)
+          ∙ ap (λ (l : List ℕ). cut_off (prefix_of f g l)) (take-append-add rest left u)
           ∙ sym (cond-false (nat_le (length left) u) _ _ (lt-leb (length left) u over))
       | inr fits ↦
           cond-true (nat_le (length (rest ++ left)) (length rest + u)) _ _ (le-leb (length (rest ++ left)) (length rest + u) (omega arith))
@@ -52,17 +52,17 @@ held_is f g rest u left =
     ]
 
 pub held_shot : (f : Format) (g : DecodingGraph) (old new shot : List ℕ) (u : ℕ) (left : List ℕ) (finished : Bool) → finished ≡ false
-    → Gives (records_of f g) (front_of f g) finished old new shot → held f g old u left ≡ in_front shot (held f g new u left)
+    → Gives (records_of f g) (prefix_of f g) finished old new shot → held f g old u left ≡ in_front shot (held f g new u left)
 held_shot f g old new shot u left finished still h = by_test (nat_le (length left) u) where
-  by_test : (b : Bool) → (if b then records_of f g (old ++ left) else cut_off (front_of f g (old ++ take u left)))
-      ≡ in_front shot (if b then records_of f g (new ++ left) else cut_off (front_of f g (new ++ take u left)))
+  by_test : (b : Bool) → (if b then records_of f g (old ++ left) else cut_off (prefix_of f g (old ++ take u left)))
+      ≡ in_front shot (if b then records_of f g (new ++ left) else cut_off (prefix_of f g (new ++ take u left)))
   by_test true = h.later still left
   by_test false = ap cut_off (h.onward still (take u left))
 
 pub held_refused : (f : Format) (g : DecodingGraph) (rest : List ℕ) (why : Kind) (u : ℕ) (left : List ℕ) (finished : Bool) → finished ≡ false
-    → Refuses (records_of f g) (front_of f g) finished rest why → held f g rest u left ≡ only (refused why)
+    → Refuses (records_of f g) (prefix_of f g) finished rest why → held f g rest u left ≡ only (refused why)
 held_refused f g rest why u left finished still h = by_test (nat_le (length left) u) where
-  by_test : (b : Bool) → (if b then records_of f g (rest ++ left) else cut_off (front_of f g (rest ++ take u left))) ≡ only (refused why)
+  by_test : (b : Bool) → (if b then records_of f g (rest ++ left) else cut_off (prefix_of f g (rest ++ take u left))) ≡ only (refused why)
   by_test true = h.later still left
   by_test false = ap cut_off (h.onward still (take u left))
 
@@ -74,8 +74,8 @@ held_piece f g rest bytes u v left e =
     elim (cases_lt v (length left)) [
       | inl over ↦
           cond-false (nat_le (length (bytes ++ left)) u) _ _ (lt-leb (length (bytes ++ left)) u (omega arith))
-          ∙ ap (λ (l : List ℕ). cut_off (front_of f g (rest ++ l))) (ap (λ (n : ℕ). take n (bytes ++ left)) room ∙ take-append-add bytes left v)
-          ∙ ap (λ (l : List ℕ). cut_off (front_of f g l)) (sym (append_assoc rest bytes (take v left)))
+          ∙ ap (λ (l : List ℕ). cut_off (prefix_of f g (rest ++ l))) (ap (λ (n : ℕ). take n (bytes ++ left)) room ∙ take-append-add bytes left v)
+          ∙ ap (λ (l : List ℕ). cut_off (prefix_of f g l)) (sym (append_assoc rest bytes (take v left)))
           ∙ sym (cond-false (nat_le (length left) v) _ _ (lt-leb (length left) v over))
       | inr fits ↦
           cond-true (nat_le (length (bytes ++ left)) u) _ _ (le-leb (length (bytes ++ left)) u (omega arith))
@@ -86,11 +86,11 @@ held_piece f g rest bytes u v left e =
 pub held_end : (f : Format) (g : DecodingGraph) (rest : List ℕ) (u : ℕ) → held f g rest u [] ≡ records_of f g rest
 held_end f g rest u = cond-true (nat_le 0 u) _ _ (le-leb 0 u (omega arith)) ∙ ap (records_of f g) (append-nil rest)
 
-pub held_long : (f : Format) (g : DecodingGraph) (rest left : List ℕ) → 0 < length left → front_of f g rest ≡ only still_open
+pub held_long : (f : Format) (g : DecodingGraph) (rest left : List ℕ) → 0 < length left → prefix_of f g rest ≡ only still_open
     → held f g rest 0 left ≡ only (refused InputTooLong)
 held_long f g rest left more still =
     cond-false (nat_le (length left) 0) _ _ (lt-leb (length left) 0 more)
-    ∙ ap (λ (l : List ℕ). cut_off (front_of f g l)) (append-nil rest)
+    ∙ ap (λ (l : List ℕ). cut_off (prefix_of f g l)) (append-nil rest)
     ∙ ap cut_off still
 
 -- ---- a stream that has refused nothing

@@ -1,11 +1,11 @@
--- What is settled by a front part stands before what all bytes hold, in each format.
+-- What is settled by a prefix stands before what all bytes hold, in each format.
 use Rattle.std.proofs.Common.{length, map, ap, ◌∙◌}
 use Rattle.std.proofs.lemmas.List.{map-append}
 use Rattle.fb_graph.specs.Limits.{DecodingGraph}
 use Rattle.fb_graph.specs.Layout.{detectors_of}
 use Rattle.fb_records.specs.Records.{Records, GoesOn}
 use Rattle.fb_records.specs.Lines.{bare}
-use Rattle.fb_records.proofs.RecordLemmas.{ending_judged, records_go_on, front_goes_on}
+use Rattle.fb_records.proofs.RecordLemmas.{ending_judged, records_go_on, prefix_goes_on}
 use Rattle.fb_shots_stim.specs.declared.answer.Kind.{Kind as StimKind}
 use Rattle.fb_shots_stim.specs.Text01.{line_01, begun_01}
 use Rattle.fb_shots_stim.specs.TextDets.{line_dets, begun_dets}
@@ -19,32 +19,32 @@ use Rattle.fb_shots.specs.declared.answer.Kind.TheVariants as kind
 use Rattle.fb_shots.specs.declared.answer.Format.TheVariants.{Text01, B8, Dets, Json}
 use Rattle.fb_shots.specs.Formats.{vertices_of, of_stim, of_json, GoesOnAnywhere}
 
-stim_goes_on : (g : DecodingGraph) (front all : Records StimKind) → GoesOn front all → GoesOn (of_stim g front) (of_stim g all)
-stim_goes_on g front all h = record {
-  shots = (map (vertices_of g) h.shots.0, ap (map (vertices_of g)) h.shots.1 ∙ map-append (vertices_of g) front.shots h.shots.0);
-  judged = λ why e. ending_judged kind.Stim front.ending why e (λ kind is. ap (of_stim g) (h.judged kind is));
+stim_goes_on : (g : DecodingGraph) (prefix all : Records StimKind) → GoesOn prefix all → GoesOn (of_stim g prefix) (of_stim g all)
+stim_goes_on g prefix all h = record {
+  shots = (map (vertices_of g) h.shots.0, ap (map (vertices_of g)) h.shots.1 ∙ map-append (vertices_of g) prefix.shots h.shots.0);
+  judged = λ why e. ending_judged kind.Stim prefix.ending why e (λ kind is. ap (of_stim g) (h.judged kind is));
 }
 
-json_goes_on : (front all : Records JsonKind) → GoesOn front all → GoesOn (of_json front) (of_json all)
-json_goes_on front all h = record {
+json_goes_on : (prefix all : Records JsonKind) → GoesOn prefix all → GoesOn (of_json prefix) (of_json all)
+json_goes_on prefix all h = record {
   shots = (h.shots.0, h.shots.1);
-  judged = λ why e. ending_judged kind.Json front.ending why e (λ kind is. ap of_json (h.judged kind is));
+  judged = λ why e. ending_judged kind.Json prefix.ending why e (λ kind is. ap of_json (h.judged kind is));
 }
 
 pub goes_on_anywhere : GoesOnAnywhere
 goes_on_anywhere Text01 g bytes more =
     let n = length (detectors_of g) in (
       stim_goes_on g _ _ (records_go_on (bare (line_01 n)) (bare (begun_01 n)) (stays_01 n) bytes more),
-      stim_goes_on g _ _ (front_goes_on (bare (line_01 n)) (bare (begun_01 n)) (stays_01 n) bytes more),
+      stim_goes_on g _ _ (prefix_goes_on (bare (line_01 n)) (bare (begun_01 n)) (stays_01 n) bytes more),
     )
 goes_on_anywhere B8 g bytes more =
     let on = goes_on_b8 (length (detectors_of g)) bytes more in (stim_goes_on g _ _ on.0, stim_goes_on g _ _ on.1)
 goes_on_anywhere Dets g bytes more =
     let n = length (detectors_of g) in (
       stim_goes_on g _ _ (records_go_on (bare (line_dets n)) (bare (begun_dets n)) (stays_dets n) bytes more),
-      stim_goes_on g _ _ (front_goes_on (bare (line_dets n)) (bare (begun_dets n)) (stays_dets n) bytes more),
+      stim_goes_on g _ _ (prefix_goes_on (bare (line_dets n)) (bare (begun_dets n)) (stays_dets n) bytes more),
     )
 goes_on_anywhere Json g bytes more = (
   json_goes_on _ _ (records_go_on (line_json g) begun_json (stays_json g) bytes more),
-  json_goes_on _ _ (front_goes_on (line_json g) begun_json (stays_json g) bytes more),
+  json_goes_on _ _ (prefix_goes_on (line_json g) begun_json (stays_json g) bytes more),
 )

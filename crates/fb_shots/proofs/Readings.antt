@@ -10,13 +10,13 @@ use Rattle.fb_records.specs.Answers as read
 use Rattle.fb_shots_stim.specs.declared.answer.Kind.{Kind as StimKind}
 use Rattle.fb_shots_stim.specs.Shots.{IsShotOf}
 use Rattle.fb_shots_json.specs.declared.answer.Kind.{Kind as JsonKind}
-use Rattle.fb_shots_json.specs.TextJson.{records_json, front_json, after_record}
+use Rattle.fb_shots_json.specs.TextJson.{records_json, prefix_json, after_record}
 use Rattle.fb_shots.specs.declared.answer.Kind.{Kind}
 use Rattle.fb_shots.specs.declared.answer.Kind.TheVariants as kind
 use Rattle.fb_shots.specs.declared.answer.Format.{Format}
 use Rattle.fb_shots.specs.declared.answer.Format.TheVariants as format
 use Rattle.fb_shots.specs.Shots.{refused, Shots, only, in_front}
-use Rattle.fb_shots.specs.Formats.{vertices_of, of_stim, of_json, records_of, front_of}
+use Rattle.fb_shots.specs.Formats.{vertices_of, of_stim, of_json, records_of, prefix_of}
 use Rattle.fb_shots.specs.Sources.{Source}
 use Rattle.fb_shots.specs.Answers.{Answers, answer_as, stim_answer, json_answer}
 use Rattle.fb_shots.proofs.Detectors.{vertices_are_shot}
@@ -26,9 +26,9 @@ use Rattle.fb_shots.proofs.GoingOn.{goes_on_anywhere}
 abbrev source : {C : Type 0} → Format → DecodingGraph → Reader C → Source
 source f g r = record { format = f; graph = g; rest = r.rest; finished = r.finished }
 
--- what was refused of a front part is refused of more
-pub stays_refused : (f : Format) (g : DecodingGraph) (bytes more : List ℕ) (why : Kind) → front_of f g bytes ≡ only (refused why)
-    → front_of f g (bytes ++ more) ≡ only (refused why)
+-- what was refused of a prefix is refused of more
+pub stays_refused : (f : Format) (g : DecodingGraph) (bytes more : List ℕ) (why : Kind) → prefix_of f g bytes ≡ only (refused why)
+    → prefix_of f g (bytes ++ more) ≡ only (refused why)
 stays_refused f g bytes more why e =
     (goes_on_anywhere f g bytes more).1.judged why (ap (λ (r : Shots). r.ending) e) ∙ e
 
@@ -40,15 +40,15 @@ record IsView {K : Type 0} (vertices : List ℕ → List ℕ) (say : K → Kind)
   none : (ending : AnyEnding K) → view (record { shots = []; ending = ending }) ≡ only (ending_as say ending)
 
 -- bytes hold in the format what the reader's definitions say, seen as shots
-record IsFormat {K C : Type 0} (f : Format) (g : DecodingGraph) (view : Records K → Shots) (records front : C → List ℕ → Records K) (c : C) : Type 0 where
+record IsFormat {K C : Type 0} (f : Format) (g : DecodingGraph) (view : Records K → Shots) (records prefix : C → List ℕ → Records K) (c : C) : Type 0 where
   all : (bytes : List ℕ) → records_of f g bytes ≡ view (records c bytes)
-  open_ : (bytes : List ℕ) → front_of f g bytes ≡ view (front c bytes)
+  open_ : (bytes : List ℕ) → prefix_of f g bytes ≡ view (prefix c bytes)
 
 reader_right : {K C : Type 0} (f : Format) (g : DecodingGraph) (vertices : List ℕ → List ℕ) (say : K → Kind) (view : Records K → Shots)
-    (records front : C → List ℕ → Records K) (after : List ℕ → List ℕ) (old new : Reader C) (answer : Next K)
-    → IsView vertices say view → IsFormat f g view records front old.subject → IfShot (λ numbers. IsShot g (vertices numbers)) answer
-    → read.Answers records front after old new answer → Answers (source f g old) (source f g new) (answer_as vertices say answer)
-reader_right {K} {C} f g vertices say view records front after old new (next.Shot numbers) v is shot h =
+    (records prefix : C → List ℕ → Records K) (after : List ℕ → List ℕ) (old new : Reader C) (answer : Next K)
+    → IsView vertices say view → IsFormat f g view records prefix old.subject → IfShot (λ numbers. IsShot g (vertices numbers)) answer
+    → read.Answers records prefix after old new answer → Answers (source f g old) (source f g new) (answer_as vertices say answer)
+reader_right {K} {C} f g vertices say view records prefix after old new (next.Shot numbers) v is shot h =
     let made : Bool → Source = λ b. record { format = f; graph = g; rest = new.rest; finished = b } in (
       record {
         shorter = h.0.shorter;
@@ -59,11 +59,11 @@ reader_right {K} {C} f g vertices say view records front after old new (next.Sho
       shot,
       ap made (ap (λ (r : Reader C). r.finished) h.1),
     )
-reader_right f g vertices say view records front after old new next.NotYet v is shot h =
+reader_right f g vertices say view records prefix after old new next.NotYet v is shot h =
     (h.0, is.open_ old.rest ∙ ap view h.1 ∙ v.none _, ap (source f g) h.2)
-reader_right f g vertices say view records front after old new next.End v is shot h =
+reader_right f g vertices say view records prefix after old new next.End v is shot h =
     (h.0, is.all old.rest ∙ ap view h.1 ∙ v.none _, ap (source f g) h.2)
-reader_right f g vertices say view records front after old new (next.Refused why) v is shot h = (
+reader_right f g vertices say view records prefix after old new (next.Refused why) v is shot h = (
   record {
     now = is.all old.rest ∙ ap view h.0.now ∙ v.none _;
     later = λ still more. is.all (old.rest ++ more) ∙ ap view (h.0.later still more) ∙ v.none _;
@@ -80,27 +80,27 @@ vertices_if_shot g n next.NotYet e is = tt
 vertices_if_shot g n next.End e is = tt
 vertices_if_shot g n (next.Refused why) e is = tt
 
-pub stim_right : (f : Format) (g : DecodingGraph) (records front : ℕ → List ℕ → Records StimKind) (after : List ℕ → List ℕ) (old new : Reader ℕ) (answer : Next StimKind)
+pub stim_right : (f : Format) (g : DecodingGraph) (records prefix : ℕ → List ℕ → Records StimKind) (after : List ℕ → List ℕ) (old new : Reader ℕ) (answer : Next StimKind)
     → ((bytes : List ℕ) → records_of f g bytes ≡ of_stim g (records old.subject bytes))
-    → ((bytes : List ℕ) → front_of f g bytes ≡ of_stim g (front old.subject bytes))
+    → ((bytes : List ℕ) → prefix_of f g bytes ≡ of_stim g (prefix old.subject bytes))
     → old.subject ≡ length (detectors_of g)
     → IfShot (IsShotOf old.subject) answer
-    → read.Answers records front after old new answer
+    → read.Answers records prefix after old new answer
     → Answers (source f g old) (source f g new) (stim_answer g answer)
-stim_right f g records front after old new answer rs fs n is h =
-    reader_right f g (vertices_of g) kind.Stim (of_stim g) records front after old new answer
+stim_right f g records prefix after old new answer rs fs n is h =
+    reader_right f g (vertices_of g) kind.Stim (of_stim g) records prefix after old new answer
     (record { shot = λ numbers r. refl; none = λ ending. refl }) (record { all = rs; open_ = fs }) (vertices_if_shot g old.subject answer n is) h
 
 -- ---- the reader of vertices
 
 pub json_right : (g : DecodingGraph) (old new : Reader DecodingGraph) (answer : Next JsonKind) → old.subject ≡ g
-    → IfShot (IsShot g) answer → read.Answers records_json front_json after_record old new answer
+    → IfShot (IsShot g) answer → read.Answers records_json prefix_json after_record old new answer
     → Answers (source format.Json g old) (source format.Json g new) (json_answer answer)
 json_right g old new answer same is h =
-    reader_right format.Json g (λ vertices. vertices) kind.Json of_json records_json front_json after_record old new answer
+    reader_right format.Json g (λ vertices. vertices) kind.Json of_json records_json prefix_json after_record old new answer
     (record { shot = λ numbers r. refl; none = λ ending. refl })
     (record {
       all = λ bytes. ap (λ (x : DecodingGraph). of_json (records_json x bytes)) (sym same);
-      open_ = λ bytes. ap (λ (x : DecodingGraph). of_json (front_json x bytes)) (sym same);
+      open_ = λ bytes. ap (λ (x : DecodingGraph). of_json (prefix_json x bytes)) (sym same);
     })
     is h

@@ -9,47 +9,47 @@ use Rattle.fb_shots.specs.declared.answer.ShotFault.{ShotFault}
 use Rattle.fb_shots.specs.declared.answer.Step.{Step}
 use Rattle.fb_shots.specs.declared.answer.Step.TheVariants as step
 use Rattle.fb_shots.specs.Shots.{only, in_front, at_end, refused}
-use Rattle.fb_shots.specs.Formats.{front_of}
+use Rattle.fb_shots.specs.Formats.{prefix_of}
 use Rattle.fb_shots.specs.Streams.{Stream, follows}
-use Rattle.fb_shots.specs.Steps.{IfTold, IsReadOut, IsReason, OnlyTakes, GivesShot, Ends, Refuses, FailsToRead, Answers, settled}
+use Rattle.fb_shots.specs.Steps.{IfKnown, IsReadOut, IsReason, OnlyTakes, GivesShot, Ends, Refuses, FailsToRead, Answers, settled}
 
 abbrev pub Left : Type 0
 Left = Option (List ℕ)
 
--- ---- what is told
+-- ---- what is known
 
-pub told_same : (P : List ℕ → List ℕ → Type 0) (l : Left) → ((left : List ℕ) → P left left) → IfTold P l l
-told_same P None h = tt
-told_same P (Some left) h = h left
+pub known_same : (P : List ℕ → List ℕ → Type 0) (l : Left) → ((left : List ℕ) → P left left) → IfKnown P l l
+known_same P None h = tt
+known_same P (Some left) h = h left
 
-pub told_kept : (P : List ℕ → List ℕ → Type 0) (l m : Left) → Keeps l m → ((left : List ℕ) → P left left) → IfTold P l m
-told_kept P None m k h = tt
-told_kept P (Some left) None k h = absurd k
-told_kept P (Some left) (Some later) k h = subst (P left) (sym k) (h left)
+pub known_kept : (P : List ℕ → List ℕ → Type 0) (l m : Left) → Keeps l m → ((left : List ℕ) → P left left) → IfKnown P l m
+known_kept P None m k h = tt
+known_kept P (Some left) None k h = absurd k
+known_kept P (Some left) (Some later) k h = subst (P left) (sym k) (h left)
 
-pub told_taken : (P : List ℕ → List ℕ → Type 0) (l m : Left) (bytes : List ℕ) → Consumes l m bytes
-    → ((later : List ℕ) → P (bytes ++ later) later) → IfTold P l m
-told_taken P None m bytes t h = tt
-told_taken P (Some left) None bytes t h = absurd t
-told_taken P (Some left) (Some later) bytes t h = subst (λ (x : List ℕ). P x later) (sym t) (h later)
+pub known_taken : (P : List ℕ → List ℕ → Type 0) (l m : Left) (bytes : List ℕ) → Consumes l m bytes
+    → ((later : List ℕ) → P (bytes ++ later) later) → IfKnown P l m
+known_taken P None m bytes t h = tt
+known_taken P (Some left) None bytes t h = absurd t
+known_taken P (Some left) (Some later) bytes t h = subst (λ (x : List ℕ). P x later) (sym t) (h later)
 
-pub told_end : (P : List ℕ → List ℕ → Type 0) (l m : Left) → Consumes l m [] → IsAtEnd m → P [] [] → IfTold P l m
-told_end P None m t e h = tt
-told_end P (Some left) None t e h = absurd t
-told_end P (Some left) (Some later) t e h = subst₂ P (sym (t ∙ e)) (sym e) h
+pub known_end : (P : List ℕ → List ℕ → Type 0) (l m : Left) → Consumes l m [] → IsAtEnd m → P [] [] → IfKnown P l m
+known_end P None m t e h = tt
+known_end P (Some left) None t e h = absurd t
+known_end P (Some left) (Some later) t e h = subst₂ P (sym (t ∙ e)) (sym e) h
 
-pub told_then : (P Q R : List ℕ → List ℕ → Type 0) (l m r : Left) → ((x y z : List ℕ) → P x y → Q y z → R x z)
-    → IfTold P l m → IfTold Q m r → IfTold R l r
-told_then P Q R None m r h p q = tt
-told_then P Q R (Some x) None r h p q = absurd p
-told_then P Q R (Some x) (Some y) None h p q = absurd q
-told_then P Q R (Some x) (Some y) (Some z) h p q = h x y z p q
+pub known_then : (P Q R : List ℕ → List ℕ → Type 0) (l m r : Left) → ((x y z : List ℕ) → P x y → Q y z → R x z)
+    → IfKnown P l m → IfKnown Q m r → IfKnown R l r
+known_then P Q R None m r h p q = tt
+known_then P Q R (Some x) None r h p q = absurd p
+known_then P Q R (Some x) (Some y) None h p q = absurd q
+known_then P Q R (Some x) (Some y) (Some z) h p q = h x y z p q
 
-pub told_some : (P : List ℕ → List ℕ → Type 0) (Q R : List ℕ → Type 0) (l m : Left) → ((x y : List ℕ) → P x y → Q y → R x)
-    → IfTold P l m → IfSome m Q → IfSome l R
-told_some P Q R None m h p q = tt
-told_some P Q R (Some x) None h p q = absurd p
-told_some P Q R (Some x) (Some y) h p q = h x y p q
+pub known_some : (P : List ℕ → List ℕ → Type 0) (Q R : List ℕ → Type 0) (l m : Left) → ((x y : List ℕ) → P x y → Q y → R x)
+    → IfKnown P l m → IfSome m Q → IfSome l R
+known_some P Q R None m h p q = tt
+known_some P Q R (Some x) None h p q = absurd p
+known_some P Q R (Some x) (Some y) h p q = h x y p q
 
 pub each_some : (P : List ℕ → Type 0) (l : Left) → ((left : List ℕ) → P left) → IfSome l P
 each_some P None h = tt
@@ -96,7 +96,7 @@ takes_nothing a l m still k = record {
   taken = kept l m k;
   rest = sym (append-nil a.rest);
   room = refl;
-  gives = told_kept (λ left later. follows a left ≡ follows a later) l m k (λ left. refl);
+  gives = known_kept (λ left later. follows a left ≡ follows a later) l m k (λ left. refl);
   end = λ still done. true_false a.finished done still;
   ended = λ done. refl;
   unread = λ done. true_false a.finished done still;
@@ -118,7 +118,7 @@ then_takes a b c l m r p q = record {
   taken = Consumes-trans l m r p.piece q.piece p.taken q.taken;
   rest = q.rest ∙ ap (λ (x : List ℕ). x ++ q.piece) p.rest ∙ append_assoc a.rest p.piece q.piece;
   room = q.room ∙ p.room;
-  gives = told_then (λ x y. follows a x ≡ follows b y) (λ y z. follows b y ≡ follows c z) (λ x z. follows a x ≡ follows c z)
+  gives = known_then (λ x y. follows a x ≡ follows b y) (λ y z. follows b y ≡ follows c z) (λ x z. follows a x ≡ follows c z)
       l m r (λ x y z e f. e ∙ f) p.gives q.gives;
   end = λ still done. read_out_by a b c l m r q.piece p q.taken (λ still. q.end still done) still;
   ended = λ done. q.ended (ap (λ (s : Stream). s.finished) (p.ended done) ∙ done) ∙ p.ended done;
@@ -138,15 +138,15 @@ then_gives a b c l m r shot p q =
     let limit : b.limit ≡ a.limit = ap (λ (s : Stream). s.limit) p.others in record {
       piece = p.piece ++ q.piece;
       taken = Consumes-trans l m r p.piece q.piece p.taken q.taken;
-      gives = told_then (λ x y. follows a x ≡ follows b y) (λ y z. follows b y ≡ in_front shot (follows c z))
+      gives = known_then (λ x y. follows a x ≡ follows b y) (λ y z. follows b y ≡ in_front shot (follows c z))
           (λ x z. follows a x ≡ in_front shot (follows c z)) l m r (λ x y z e f. e ∙ f) p.gives q.gives;
       holds = ap (settled c) (joined_pieces a b l m q.piece p) ∙ q.holds;
       unfinished = λ still. open_before a b l m p (q.unfinished still);
-      front = λ still more.
-          ap (front_of a.format a.graph) (ap (λ (x : List ℕ). a.rest ++ x) (append_assoc p.piece q.piece more)
+      prefix = λ still more.
+          ap (prefix_of a.format a.graph) (ap (λ (x : List ℕ). a.rest ++ x) (append_assoc p.piece q.piece more)
           ∙ sym (append_assoc a.rest p.piece (q.piece ++ more)) ∙ ap (λ (x : List ℕ). x ++ (q.piece ++ more)) (sym p.rest))
-          ∙ subst₂ (λ (f : Format) (g : DecodingGraph). front_of f g (b.rest ++ (q.piece ++ more)) ≡ in_front shot (front_of f g (c.rest ++ more)))
-          format graph (q.front still more);
+          ∙ subst₂ (λ (f : Format) (g : DecodingGraph). prefix_of f g (b.rest ++ (q.piece ++ more)) ≡ in_front shot (prefix_of f g (c.rest ++ more)))
+          format graph (q.prefix still more);
       end = λ still done. read_out_by a b c l m r q.piece p q.taken (λ still. q.end still done) still;
       unread = unread_by a b l m r p q.unread;
       is_shot = subst (λ (g : DecodingGraph). IsShot g shot) graph q.is_shot;
@@ -160,7 +160,7 @@ then_ends a b c l m r p q = record {
   piece = p.piece ++ q.piece;
   taken = Consumes-trans l m r p.piece q.piece p.taken q.taken;
   rest = q.rest ∙ sym (joined_pieces a b l m q.piece p);
-  gives = told_some (λ x y. follows a x ≡ follows b y) (λ y. follows b y ≡ only at_end) (λ x. follows a x ≡ only at_end)
+  gives = known_some (λ x y. follows a x ≡ follows b y) (λ y. follows b y ≡ only at_end) (λ x. follows a x ≡ only at_end)
       l m (λ x y e f. e ∙ f) p.gives q.gives;
   finished = q.finished;
   end = λ still. read_out_by a b c l m r q.piece p q.taken q.end still;
@@ -178,7 +178,7 @@ then_refuses a b c l m fault p q = record {
     | inr why ↦ inr (subst (λ (x : List ℕ). IsReason c x fault.kind) (sym (joined_pieces a b l m q.piece p)) why)
   ];
   number = q.number ∙ ap (λ (s : Stream). s.given) p.others;
-  gives = told_some (λ x y. follows a x ≡ follows b y) (λ y. follows b y ≡ only (refused fault.kind))
+  gives = known_some (λ x y. follows a x ≡ follows b y) (λ y. follows b y ≡ only (refused fault.kind))
       (λ x. follows a x ≡ only (refused fault.kind)) l m (λ x y e f. e ∙ f) p.gives q.gives;
   stops = q.stops;
   again = q.again;

@@ -11,7 +11,7 @@ use Rattle.fb_shots.specs.declared.reader.Next.{Next}
 use Rattle.fb_shots.specs.declared.reader.Next.TheVariants as next
 use Rattle.fb_shots.specs.declared.stream.Read.TheVariants as read
 use Rattle.fb_shots.specs.Shots.{Shots, only, in_front, at_end, still_open, refused, capped}
-use Rattle.fb_shots.specs.Formats.{records_of, front_of}
+use Rattle.fb_shots.specs.Formats.{records_of, prefix_of}
 use Rattle.fb_shots.specs.Sources.{Source}
 use Rattle.fb_shots.specs.Answers.{Gives}
 use Rattle.fb_shots.specs.Answers as reader
@@ -19,7 +19,7 @@ use Rattle.fb_shots.specs.Streams.{most_bytes, Stream, stream_by, stream_of, or_
 use Rattle.fb_shots.specs.Steps.{OnlyTakes, GivesShot, Ends, IsReason, Refuses, FailsToRead, Answers, may_read}
 use Rattle.fb_shots.specs.Reads.{ReadsOn}
 use Rattle.fb_shots.proofs.Follows.{fed, held, capped_only, capped_shot, capped_none, held_shot, held_refused, held_piece, held_end, held_long, follows_open, follows_done}
-use Rattle.fb_shots.proofs.Taking.{Left, told_same, told_taken, told_end, each_some, takes_nothing}
+use Rattle.fb_shots.proofs.Taking.{Left, known_same, known_taken, known_end, each_some, takes_nothing}
 
 -- once the piece that was read is fed
 pub when_fed : (a b : Source) (piece : List ℕ) (u k l : ℕ) (stopped : Option Kind) → b ≡ record a { rest = a.rest ++ piece }
@@ -42,7 +42,7 @@ capped_onward l k shot r less =
 -- ---- a shot
 
 follows_shot : (a : Source) (new shot : List ℕ) (u k l : ℕ) (left : List ℕ)
-    → Gives (records_of a.format a.graph) (front_of a.format a.graph) a.finished a.rest new shot → k < l
+    → Gives (records_of a.format a.graph) (prefix_of a.format a.graph) a.finished a.rest new shot → k < l
     → follows (fed a u k l None) left ≡ in_front shot (follows (fed (record a { rest = new }) u (k + 1) l None) left)
 follows_shot a new shot u k l left h less =
     let b : Source = record a { rest = new } in
@@ -58,22 +58,22 @@ follows_shot a new shot u k l left h less =
 
 -- what the bytes that were fed settle
 abbrev settled_by : Source → List ℕ → Shots
-settled_by a bytes = if a.finished then records_of a.format a.graph bytes else front_of a.format a.graph bytes
+settled_by a bytes = if a.finished then records_of a.format a.graph bytes else prefix_of a.format a.graph bytes
 
-settled_shot : (a : Source) (new shot : List ℕ) → Gives (records_of a.format a.graph) (front_of a.format a.graph) a.finished a.rest new shot
+settled_shot : (a : Source) (new shot : List ℕ) → Gives (records_of a.format a.graph) (prefix_of a.format a.graph) a.finished a.rest new shot
     → settled_by a (a.rest ++ []) ≡ in_front shot (settled_by a new)
 settled_shot a new shot h = by_flag a.finished refl
   where
-    by_flag : (f : Bool) → a.finished ≡ f → (if f then records_of a.format a.graph (a.rest ++ []) else front_of a.format a.graph (a.rest ++ []))
-        ≡ in_front shot (if f then records_of a.format a.graph new else front_of a.format a.graph new)
+    by_flag : (f : Bool) → a.finished ≡ f → (if f then records_of a.format a.graph (a.rest ++ []) else prefix_of a.format a.graph (a.rest ++ []))
+        ≡ in_front shot (if f then records_of a.format a.graph new else prefix_of a.format a.graph new)
     by_flag true done = ap (records_of a.format a.graph) (append-nil a.rest) ∙ h.now
-    by_flag false still = h.onward still [] ∙ ap (λ (x : List ℕ). in_front shot (front_of a.format a.graph x)) (append-nil new)
+    by_flag false still = h.onward still [] ∙ ap (λ (x : List ℕ). in_front shot (prefix_of a.format a.graph x)) (append-nil new)
 
-settled_refused : (a : Source) (why : Kind) → reader.Refuses (records_of a.format a.graph) (front_of a.format a.graph) a.finished a.rest why
+settled_refused : (a : Source) (why : Kind) → reader.Refuses (records_of a.format a.graph) (prefix_of a.format a.graph) a.finished a.rest why
     → settled_by a (a.rest ++ []) ≡ only (refused why)
 settled_refused a why h = by_flag a.finished refl
   where
-    by_flag : (f : Bool) → a.finished ≡ f → (if f then records_of a.format a.graph (a.rest ++ []) else front_of a.format a.graph (a.rest ++ [])) ≡ only (refused why)
+    by_flag : (f : Bool) → a.finished ≡ f → (if f then records_of a.format a.graph (a.rest ++ []) else prefix_of a.format a.graph (a.rest ++ [])) ≡ only (refused why)
     by_flag true done = ap (records_of a.format a.graph) (append-nil a.rest) ∙ h.now
     by_flag false still = h.onward still []
 
@@ -82,11 +82,11 @@ gives_from : (a : Source) (new shot : List ℕ) (u k l : ℕ) (left : Left) → 
 gives_from a new shot u k l left h less = record {
   piece = [];
   taken = Consumes-nil left;
-  gives = told_same (λ x y. follows (fed a u k l None) x ≡ in_front shot (follows (fed (record a { rest = new }) u (k + 1) l None) y)) left
+  gives = known_same (λ x y. follows (fed a u k l None) x ≡ in_front shot (follows (fed (record a { rest = new }) u (k + 1) l None) y)) left
       (λ x. follows_shot a new shot u k l x h.0 less);
   holds = settled_shot a new shot h.0;
   unfinished = λ still. still;
-  front = λ still more. h.0.onward still more;
+  prefix = λ still more. h.0.onward still more;
   end = λ still done. true_false a.finished done still;
   unread = λ done. refl;
   is_shot = h.1;
@@ -133,7 +133,7 @@ stops a b u v k l left why same count reason gives = record {
 }
 
 follows_too_many : (a : Source) (new shot : List ℕ) (u k l : ℕ) (left : List ℕ)
-    → Gives (records_of a.format a.graph) (front_of a.format a.graph) a.finished a.rest new shot → l ≤ k
+    → Gives (records_of a.format a.graph) (prefix_of a.format a.graph) a.finished a.rest new shot → l ≤ k
     → follows (fed a u k l None) left ≡ only (refused TooManyShots)
 follows_too_many a new shot u k l left h full =
     let none : l - k ≡ 0 = omega arith in
@@ -157,7 +157,7 @@ turn_too_many a b shot u k l left h full =
     holds = subst (λ (s : Source). settled_by s (a.rest ++ []) ≡ in_front shot (settled_by s s.rest)) (sym h.2) (settled_shot a b.rest shot h.0)
 
 follows_refused : (a : Source) (why : Kind) (u k l : ℕ) (left : List ℕ)
-    → reader.Refuses (records_of a.format a.graph) (front_of a.format a.graph) a.finished a.rest why
+    → reader.Refuses (records_of a.format a.graph) (prefix_of a.format a.graph) a.finished a.rest why
     → follows (fed a u k l None) left ≡ only (refused why)
 follows_refused a why u k l left h = elim (cases_Bool a.finished) [
   | inl done ↦ follows_done a u k l left done ∙ ap (capped (l - k)) h.now ∙ capped_only (l - k) (refused why)
@@ -183,8 +183,8 @@ turn_too_long a b u v k l left h none still_none more =
     (inr (inr (record {
       rest = same_rest a b h.2;
       unfinished = ap (λ (s : Source). s.finished) h.2 ∙ h.0;
-      undecided = subst (λ (s : Source). front_of s.format s.graph (a.rest ++ []) ≡ only still_open) (sym h.2)
-          (ap (front_of a.format a.graph) (append-nil a.rest) ∙ h.1);
+      undecided = subst (λ (s : Source). prefix_of s.format s.graph (a.rest ++ []) ≡ only still_open) (sym h.2)
+          (ap (prefix_of a.format a.graph) (append-nil a.rest) ∙ h.1);
       full = still_none;
       kind = refl;
     })))
@@ -248,7 +248,7 @@ takes_piece a u v k l before after bytes still taken room =
       taken = taken;
       rest = refl;
       room = omega (arith, length-append a.rest bytes);
-      gives = told_taken (λ x y. follows (fed a u k l None) x ≡ follows (fed b v k l None) y) before after bytes taken
+      gives = known_taken (λ x y. follows (fed a u k l None) x ≡ follows (fed b v k l None) y) before after bytes taken
           (λ later. follows_open a u k l (bytes ++ later) still
           ∙ ap (capped (l - k)) (held_piece a.format a.graph a.rest bytes u v later room)
           ∙ sym (follows_open b v k l later still));
@@ -272,9 +272,9 @@ sees_end a u k l before after still taken at =
       taken = taken;
       rest = sym (append-nil a.rest);
       room = refl;
-      gives = told_end (λ x y. follows (fed a u k l None) x ≡ follows (fed b u k l None) y) before after taken at
+      gives = known_end (λ x y. follows (fed a u k l None) x ≡ follows (fed b u k l None) y) before after taken at
           (follows_open a u k l [] still ∙ ap (capped (l - k)) (held_end a.format a.graph a.rest u) ∙ sym (follows_done b u k l [] refl));
-      end = λ still done. told_end (λ x y. y ≡ []) before after taken at refl;
+      end = λ still done. known_end (λ x y. y ≡ []) before after taken at refl;
       ended = λ done. true_false a.finished done still;
       unread = λ done. true_false a.finished done still;
       others = refl;

@@ -10,33 +10,33 @@ use Rattle.fb_shots.specs.declared.answer.Kind.TheVariants as kind
 use Rattle.fb_shots.specs.declared.reader.Next.{Next}
 use Rattle.fb_shots.specs.declared.reader.Next.TheVariants.{Shot, NotYet, End, Refused}
 use Rattle.fb_shots.specs.Shots.{at_end, still_open, refused, Shots, only, in_front}
-use Rattle.fb_shots.specs.Formats.{vertices_of, records_of, front_of}
+use Rattle.fb_shots.specs.Formats.{vertices_of, records_of, prefix_of}
 use Rattle.fb_shots.specs.Sources.{Source}
 
 -- The shot is the first record of the old rest, and the new rest holds all others, whatever is fed later.
-pub record Gives (records front : List ℕ → Shots) (finished : Bool) (old new shot : List ℕ) : Type 0 where
+pub record Gives (records prefix : List ℕ → Shots) (finished : Bool) (old new shot : List ℕ) : Type 0 where
   pub shorter : length new < length old
   pub now : records old ≡ in_front shot (records new)
   pub later : finished ≡ false → (more : List ℕ) → records (old ++ more) ≡ in_front shot (records (new ++ more))
-  pub onward : finished ≡ false → (more : List ℕ) → front (old ++ more) ≡ in_front shot (front (new ++ more))
+  pub onward : finished ≡ false → (more : List ℕ) → prefix (old ++ more) ≡ in_front shot (prefix (new ++ more))
 
 -- The rest begins by what is refused, whatever is fed later.
-pub record Refuses (records front : List ℕ → Shots) (finished : Bool) (old : List ℕ) (why : Kind) : Type 0 where
+pub record Refuses (records prefix : List ℕ → Shots) (finished : Bool) (old : List ℕ) (why : Kind) : Type 0 where
   pub now : records old ≡ only (refused why)
   pub later : finished ≡ false → (more : List ℕ) → records (old ++ more) ≡ only (refused why)
-  pub onward : finished ≡ false → (more : List ℕ) → front (old ++ more) ≡ only (refused why)
+  pub onward : finished ≡ false → (more : List ℕ) → prefix (old ++ more) ≡ only (refused why)
 
 -- an answer, what it says of the rest, and what it leaves of it, where bytes hold such records
-abbrev pub AnswersIn : (records front : List ℕ → Shots) → Source → Source → Next → Type 0
-AnswersIn records front old new (Shot shot) =
-    Gives records front old.finished old.rest new.rest shot × IsShot old.graph shot
+abbrev pub AnswersIn : (records prefix : List ℕ → Shots) → Source → Source → Next → Type 0
+AnswersIn records prefix old new (Shot shot) =
+    Gives records prefix old.finished old.rest new.rest shot × IsShot old.graph shot
     × (new ≡ record old { rest = new.rest })
-AnswersIn records front old new NotYet = (old.finished ≡ false) × (front old.rest ≡ only still_open) × (new ≡ old)
-AnswersIn records front old new End = (old.finished ≡ true) × (records old.rest ≡ only at_end) × (new ≡ old)
-AnswersIn records front old new (Refused why) = Refuses records front old.finished old.rest why × (new ≡ old)
+AnswersIn records prefix old new NotYet = (old.finished ≡ false) × (prefix old.rest ≡ only still_open) × (new ≡ old)
+AnswersIn records prefix old new End = (old.finished ≡ true) × (records old.rest ≡ only at_end) × (new ≡ old)
+AnswersIn records prefix old new (Refused why) = Refuses records prefix old.finished old.rest why × (new ≡ old)
 
 abbrev pub Answers : Source → Source → Next → Type 0
-Answers old new answer = AnswersIn (records_of old.format old.graph) (front_of old.format old.graph) old new answer
+Answers old new answer = AnswersIn (records_of old.format old.graph) (prefix_of old.format old.graph) old new answer
 
 -- the answer of a format's reader: the shot of its numbers, and the refusal said by this crate
 abbrev pub answer_as : {K : Type 0} → (List ℕ → List ℕ) → (K → Kind) → NextOf K → Next

@@ -4,11 +4,11 @@ use Rattle.fb_graph.specs.Limits.{DecodingGraph}
 use Rattle.fb_graph.specs.Layout.{detectors_of}
 use Rattle.fb_records.specs.Records.{Records, ending_as}
 use Rattle.fb_shots_stim.specs.declared.answer.Kind.{Kind as StimKind}
-use Rattle.fb_shots_stim.specs.Text01.{records_01, front_01}
-use Rattle.fb_shots_stim.specs.BlocksB8.{records_b8, front_b8}
-use Rattle.fb_shots_stim.specs.TextDets.{records_dets, front_dets}
+use Rattle.fb_shots_stim.specs.Text01.{records_01, prefix_01}
+use Rattle.fb_shots_stim.specs.BlocksB8.{records_b8, prefix_b8}
+use Rattle.fb_shots_stim.specs.TextDets.{records_dets, prefix_dets}
 use Rattle.fb_shots_json.specs.declared.answer.Kind.{Kind as JsonKind}
-use Rattle.fb_shots_json.specs.TextJson.{records_json, front_json}
+use Rattle.fb_shots_json.specs.TextJson.{records_json, prefix_json}
 use Rattle.fb_shots.specs.declared.answer.Format.{Format}
 use Rattle.fb_shots.specs.declared.answer.Format.TheVariants.{Text01, B8, Dets, Json}
 use Rattle.fb_shots.specs.declared.answer.Kind.TheVariants as kind
@@ -32,16 +32,16 @@ records_of B8 g bytes = of_stim g (records_b8 (length (detectors_of g)) bytes)
 records_of Dets g bytes = of_stim g (records_dets (length (detectors_of g)) bytes)
 records_of Json g bytes = of_json (records_json g bytes)
 
--- what is settled by bytes that may go on
-abbrev pub front_of : Format → DecodingGraph → List ℕ → Shots
-front_of Text01 g bytes = of_stim g (front_01 (length (detectors_of g)) bytes)
-front_of B8 g bytes = of_stim g (front_b8 (length (detectors_of g)) bytes)
-front_of Dets g bytes = of_stim g (front_dets (length (detectors_of g)) bytes)
-front_of Json g bytes = of_json (front_json g bytes)
+-- what is settled by a prefix of an input
+abbrev pub prefix_of : Format → DecodingGraph → List ℕ → Shots
+prefix_of Text01 g bytes = of_stim g (prefix_01 (length (detectors_of g)) bytes)
+prefix_of B8 g bytes = of_stim g (prefix_b8 (length (detectors_of g)) bytes)
+prefix_of Dets g bytes = of_stim g (prefix_dets (length (detectors_of g)) bytes)
+prefix_of Json g bytes = of_json (prefix_json g bytes)
 
 -- Wherever some bytes are cut in two, what is settled by the first part stands before all that they hold.
 abbrev pub GoesOnAnywhere : Type 0
 GoesOnAnywhere =
     (format : Format) (g : DecodingGraph) (bytes more : List ℕ)
-    → GoesOn (front_of format g bytes) (records_of format g (bytes ++ more))
-    × GoesOn (front_of format g bytes) (front_of format g (bytes ++ more))
+    → GoesOn (prefix_of format g bytes) (records_of format g (bytes ++ more))
+    × GoesOn (prefix_of format g bytes) (prefix_of format g (bytes ++ more))

@@ -8,18 +8,18 @@ use Rattle.fb_shots.specs.declared.answer.ShotFault.{ShotFault}
 use Rattle.fb_shots.specs.declared.answer.Step.{Step}
 use Rattle.fb_shots.specs.declared.answer.Step.TheVariants as step
 use Rattle.fb_shots.specs.Shots.{at_end, still_open, refused, Shots, only, in_front}
-use Rattle.fb_shots.specs.Formats.{front_of, records_of}
+use Rattle.fb_shots.specs.Formats.{prefix_of, records_of}
 use Rattle.fb_shots.specs.Streams.{Stream, follows}
 
--- the fact of what was left of a file before and after, where that is told
-abbrev pub IfTold : (List ℕ → List ℕ → Type 0) → Option (List ℕ) → Option (List ℕ) → Type 0
-IfTold P None after = ⊤
-IfTold P (Some left) None = ⊥
-IfTold P (Some left) (Some later) = P left later
+-- the fact of what was left of a file before and after, where that is known
+abbrev pub IfKnown : (List ℕ → List ℕ → Type 0) → Option (List ℕ) → Option (List ℕ) → Type 0
+IfKnown P None after = ⊤
+IfKnown P (Some left) None = ⊥
+IfKnown P (Some left) (Some later) = P left later
 
--- nothing is left of the file, where what was left is told
+-- nothing is left of the file, where what was left is known
 abbrev pub IsReadOut : Option (List ℕ) → Option (List ℕ) → Type 0
-IsReadOut before after = IfTold (λ left later. later ≡ []) before after
+IsReadOut before after = IfKnown (λ left later. later ≡ []) before after
 
 -- Bytes were taken from those that were left, or the file's end was seen, and no answer has used any.
 pub record OnlyTakes (old new : Stream) (before after : Option (List ℕ)) : Type 0 where
@@ -27,7 +27,7 @@ pub record OnlyTakes (old new : Stream) (before after : Option (List ℕ)) : Typ
   pub taken : Consumes before after piece
   pub rest : new.rest ≡ old.rest ++ piece
   pub room : length new.rest + new.untaken ≡ length old.rest + old.untaken
-  pub gives : IfTold (λ left later. follows old left ≡ follows new later) before after
+  pub gives : IfKnown (λ left later. follows old left ≡ follows new later) before after
   pub end : old.finished ≡ false → new.finished ≡ true → IsReadOut before after
   pub ended : old.finished ≡ true → new ≡ old
   pub unread : old.finished ≡ true → after ≡ before
@@ -36,17 +36,17 @@ pub record OnlyTakes (old new : Stream) (before after : Option (List ℕ)) : Typ
 -- what a stream has settled of these bytes, if nothing else is left: all of their records where the file's end was seen,
 -- and otherwise those that stay whatever follows
 abbrev pub settled : Stream → List ℕ → Shots
-settled s bytes = if s.finished then records_of s.format s.graph bytes else front_of s.format s.graph bytes
+settled s bytes = if s.finished then records_of s.format s.graph bytes else prefix_of s.format s.graph bytes
 
 -- A shot is given: it stands before all that follows.
 pub record GivesShot (old new : Stream) (before after : Option (List ℕ)) (shot : List ℕ) : Type 0 where
   pub piece : List ℕ
   pub taken : Consumes before after piece
-  pub gives : IfTold (λ left later. follows old left ≡ in_front shot (follows new later)) before after
+  pub gives : IfKnown (λ left later. follows old left ≡ in_front shot (follows new later)) before after
   pub holds : settled new (old.rest ++ piece) ≡ in_front shot (settled new new.rest)
   pub unfinished : new.finished ≡ false → old.finished ≡ false
-  pub front : new.finished ≡ false → (more : List ℕ) → front_of old.format old.graph (old.rest ++ (piece ++ more))
-      ≡ in_front shot (front_of old.format old.graph (new.rest ++ more))
+  pub prefix : new.finished ≡ false → (more : List ℕ) → prefix_of old.format old.graph (old.rest ++ (piece ++ more))
+      ≡ in_front shot (prefix_of old.format old.graph (new.rest ++ more))
   pub end : old.finished ≡ false → new.finished ≡ true → IsReadOut before after
   pub unread : old.finished ≡ true → after ≡ before
   pub is_shot : IsShot old.graph shot
@@ -82,7 +82,7 @@ pub record HoldsOneMore (s : Stream) (bytes : List ℕ) (why : Kind) : Type 0 wh
 pub record IsCutOff (s : Stream) (bytes : List ℕ) (why : Kind) : Type 0 where
   pub rest : s.rest ≡ bytes
   pub unfinished : s.finished ≡ false
-  pub undecided : front_of s.format s.graph bytes ≡ only still_open
+  pub undecided : prefix_of s.format s.graph bytes ≡ only still_open
   pub full : s.untaken ≡ 0
   pub kind : why ≡ InputTooLong
 
@@ -108,7 +108,7 @@ pub record FailsToRead (old new : Stream) (before after : Option (List ℕ)) : T
   pub takes : OnlyTakes old new before after
   pub unfinished : new.finished ≡ false
   pub runs : new.stopped ≡ None
-  pub undecided : front_of new.format new.graph new.rest ≡ only still_open
+  pub undecided : prefix_of new.format new.graph new.rest ≡ only still_open
 
 -- an answer, and what it says
 abbrev pub Answers : Stream → Stream → Option (List ℕ) → Option (List ℕ) → Step → Type 0

@@ -5,7 +5,7 @@ use Rattle.fb_shots.specs.declared.answer.Format.{Format}
 use Rattle.fb_shots.specs.declared.answer.Kind.{Kind}
 use Rattle.fb_shots.specs.declared.answer.Kind.TheVariants.{InputTooLong}
 use Rattle.fb_shots.specs.Shots.{Ending, at_end, still_open, refused, Shots, only, capped}
-use Rattle.fb_shots.specs.Formats.{records_of, front_of}
+use Rattle.fb_shots.specs.Formats.{records_of, prefix_of}
 use Rattle.fb_shots.specs.Sources.{Source}
 
 -- the most bytes that are taken of a file
@@ -25,7 +25,7 @@ cut_off r = record { shots = r.shots; ending = cut_ending r.ending }
 -- what bytes hold of which at most `room` are taken
 abbrev pub within_room : Format → DecodingGraph → ℕ → List ℕ → Shots
 within_room format g room bytes =
-    if nat_le (length bytes) room then records_of format g bytes else cut_off (front_of format g (take room bytes))
+    if nat_le (length bytes) room then records_of format g bytes else cut_off (prefix_of format g (take room bytes))
 
 -- what bytes hold of which at most `room` are taken and at most `limit` shots are given
 abbrev pub stream_of : Format → DecodingGraph → (limit room : ℕ) → List ℕ → Shots

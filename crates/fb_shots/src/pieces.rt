@@ -74,7 +74,7 @@ impl Piece {
     }
 }
 
-/// Reads at most `most` bytes of the current file into the front of `room`.
+/// Reads at most `most` bytes of the current file into the start of `room`.
 fn read_at_most<F: Files>(files: &mut F, room: &mut [u8], most: usize) -> Result<usize, Failed>
     requires { 0 < most }
     ensures asks { F.asked files.new ≡ F.asked files.old }

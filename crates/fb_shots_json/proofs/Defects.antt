@@ -17,7 +17,7 @@ use Rattle.fb_graph.proofs.Shots.{rising_from_sort}
 use Rattle.fb_shots_json.specs.declared.answer.Kind.{Kind}
 use Rattle.fb_shots_json.specs.declared.answer.Kind.TheVariants.{DefectOutOfRange, DefectOnVirtual, DefectRepeated}
 use Rattle.fb_shots_json.specs.TextJson.{vertex_fault, defect_fault, defects_from, unless, rising}
-use Rattle.fb_shots_json.specs.Entries.{real_front, first_fault}
+use Rattle.fb_shots_json.specs.Entries.{real_prefix, first_fault}
 
 -- ---- distinct numbers
 
@@ -90,21 +90,21 @@ judged g before v = elim (cases_Bool (nat_le g.vertices v)) [
 ]
 
 -- where no real vertex stands twice before the first entry that is none
-pub without_repeats : (g : DecodingGraph) (before vs : List ℕ) → AreDistinct (before ++ real_front g vs)
+pub without_repeats : (g : DecodingGraph) (before vs : List ℕ) → AreDistinct (before ++ real_prefix g vs)
     → defects_from g before vs ≡ unless (first_fault g vs) (Ok (before ++ vs))
 without_repeats g before [] d = ap (λ (l : List ℕ). Ok l) (sym (append-nil before))
 without_repeats g before (v ∷ vs) d = elim (judged g before v) [
   | bad kind alone fault ↦ rw (alone, fault) refl
-  | again alone held fault ↦ absurd (let front = rw alone at d in let none = before_one before v (real_front g vs) front in cc)
+  | again alone held fault ↦ absurd (let prefix = rw alone at d in let none = before_one before v (real_prefix g vs) prefix in cc)
   | good alone none fault ↦
-      let front : AreDistinct (before ++ v ∷ real_front g vs) = rw alone at d in
-      let next : AreDistinct ((before ++ v ∷ []) ++ real_front g vs) = subst AreDistinct (sym (append_assoc before (v ∷ []) (real_front g vs))) front in
+      let prefix : AreDistinct (before ++ v ∷ real_prefix g vs) = rw alone at d in
+      let next : AreDistinct ((before ++ v ∷ []) ++ real_prefix g vs) = subst AreDistinct (sym (append_assoc before (v ∷ []) (real_prefix g vs))) prefix in
       rw (alone, fault)
       (without_repeats g (before ++ v ∷ []) vs next ∙ ap (λ (l : List ℕ). unless (first_fault g vs) (Ok l)) (append_assoc before (v ∷ []) vs))
 ]
 
 -- where one does
-pub with_repeats : (g : DecodingGraph) (before vs : List ℕ) → AreDistinct before → (AreDistinct (before ++ real_front g vs) → ⊥)
+pub with_repeats : (g : DecodingGraph) (before vs : List ℕ) → AreDistinct before → (AreDistinct (before ++ real_prefix g vs) → ⊥)
     → defects_from g before vs ≡ Err DefectRepeated
 with_repeats g before [] d twice = absurd (twice (subst AreDistinct (sym (append-nil before)) d))
 with_repeats g before (v ∷ vs) d twice = elim (judged g before v) [
@@ -113,37 +113,37 @@ with_repeats g before (v ∷ vs) d twice = elim (judged g before v) [
   | good alone none fault ↦
       let more = rw alone at twice in
       rw fault
-      (with_repeats g (before ++ v ∷ []) vs (distinct_push before v d none) (λ (z : AreDistinct ((before ++ v ∷ []) ++ real_front g vs)). more (subst AreDistinct (append_assoc before (v ∷ []) (real_front g vs)) z)))
+      (with_repeats g (before ++ v ∷ []) vs (distinct_push before v d none) (λ (z : AreDistinct ((before ++ v ∷ []) ++ real_prefix g vs)). more (subst AreDistinct (append_assoc before (v ∷ []) (real_prefix g vs)) z)))
 ]
 
-front_whole : (g : DecodingGraph) (vs : List ℕ) → first_fault g vs ≡ None → real_front g vs ≡ vs
-front_whole g [] e = refl
-front_whole g (v ∷ vs) e = elim (judged g [] v) [
+prefix_whole : (g : DecodingGraph) (vs : List ℕ) → first_fault g vs ≡ None → real_prefix g vs ≡ vs
+prefix_whole g [] e = refl
+prefix_whole g (v ∷ vs) e = elim (judged g [] v) [
   | bad kind alone fault ↦ absurd (let some = rw alone at e in cc)
   | again alone held fault ↦ absurd cc
-  | good alone none fault ↦ rw alone (ap (λ (l : List ℕ). v ∷ l) (front_whole g vs (rw alone at e)))
+  | good alone none fault ↦ rw alone (ap (λ (l : List ℕ). v ∷ l) (prefix_whole g vs (rw alone at e)))
 ]
 
-front_below : (g : DecodingGraph) (vs : List ℕ) → All (λ v. v < g.vertices) (real_front g vs)
-front_below g [] = λ k d lt. absurd (omega arith)
-front_below g (v ∷ vs) = elim (cases_Bool (nat_le g.vertices v)) [
+prefix_below : (g : DecodingGraph) (vs : List ℕ) → All (λ v. v < g.vertices) (real_prefix g vs)
+prefix_below g [] = λ k d lt. absurd (omega arith)
+prefix_below g (v ∷ vs) = elim (cases_Bool (nat_le g.vertices v)) [
   | inl out ↦ rw out (λ k d lt. absurd (omega arith))
   | inr within ↦ elim (cases_Bool (is_in g.virtuals v)) [
     | inl virtual ↦ rw (within, virtual) (λ k d lt. absurd (omega arith))
-    | inr real ↦ rw (within, real) (All-cons (λ u. u < g.vertices) v (real_front g vs) (leb-false g.vertices v within) (front_below g vs))
+    | inr real ↦ rw (within, real) (All-cons (λ u. u < g.vertices) v (real_prefix g vs) (leb-false g.vertices v within) (prefix_below g vs))
   ]
 ]
 
-front_real : (g : DecodingGraph) (vs : List ℕ) → All (λ v. is_real_in g v ≡ true) (real_front g vs)
-front_real g [] = λ k d lt. absurd (omega arith)
-front_real g (v ∷ vs) = elim (cases_Bool (nat_le g.vertices v)) [
+prefix_real : (g : DecodingGraph) (vs : List ℕ) → All (λ v. is_real_in g v ≡ true) (real_prefix g vs)
+prefix_real g [] = λ k d lt. absurd (omega arith)
+prefix_real g (v ∷ vs) = elim (cases_Bool (nat_le g.vertices v)) [
   | inl out ↦ rw out (λ k d lt. absurd (omega arith))
   | inr within ↦ elim (cases_Bool (is_in g.virtuals v)) [
     | inl virtual ↦ rw (within, virtual) (λ k d lt. absurd (omega arith))
     | inr real ↦
         let below : nat_lt v g.vertices ≡ true = lt-ltb v g.vertices (leb-false g.vertices v within) in
         let here : is_real_in g v ≡ true = ap (λ (b : Bool). nat_lt v g.vertices && not b) real ∙ ap (λ (b : Bool). b && true) below in
-        rw (within, real) (All-cons (λ u. is_real_in g u ≡ true) v (real_front g vs) here (front_real g vs))
+        rw (within, real) (All-cons (λ u. is_real_in g u ≡ true) v (real_prefix g vs) here (prefix_real g vs))
   ]
 ]
 
@@ -195,26 +195,26 @@ sorted_rises g listed sorted below permuted rises =
 
 -- ---- the whole list
 
-pub defects_good : (g : DecodingGraph) (vs sorted : List ℕ) → first_fault g vs ≡ None → IsPermutation (real_front g vs) sorted → IsStrictlyIncreasing sorted
+pub defects_good : (g : DecodingGraph) (vs sorted : List ℕ) → first_fault g vs ≡ None → IsPermutation (real_prefix g vs) sorted → IsStrictlyIncreasing sorted
     → (defects_from g [] vs ≡ Ok vs) × (sorted ≡ rising g vs)
 defects_good g vs sorted none permuted rises =
-    let whole = front_whole g vs none in (
-      without_repeats g [] vs (distinct_from_sorted (real_front g vs) sorted permuted rises) ∙ ap (λ o. unless o (Ok vs)) none,
-      subst (λ (l : List ℕ). sorted ≡ rising g l) whole (sorted_rises g (real_front g vs) sorted (front_below g vs) permuted rises),
+    let whole = prefix_whole g vs none in (
+      without_repeats g [] vs (distinct_from_sorted (real_prefix g vs) sorted permuted rises) ∙ ap (λ o. unless o (Ok vs)) none,
+      subst (λ (l : List ℕ). sorted ≡ rising g l) whole (sorted_rises g (real_prefix g vs) sorted (prefix_below g vs) permuted rises),
     )
 
-pub defects_shot : (g : DecodingGraph) (vs sorted : List ℕ) → IsPermutation (real_front g vs) sorted → IsStrictlyIncreasing sorted → IsShot g sorted
+pub defects_shot : (g : DecodingGraph) (vs sorted : List ℕ) → IsPermutation (real_prefix g vs) sorted → IsStrictlyIncreasing sorted → IsShot g sorted
 defects_shot g vs sorted permuted rises = record {
   rising = rises;
-  real = All-permutation (λ v. is_real_in g v ≡ true) (real_front g vs) sorted permuted (front_real g vs);
+  real = All-permutation (λ v. is_real_in g v ≡ true) (real_prefix g vs) sorted permuted (prefix_real g vs);
 }
 
-pub defects_bad : (g : DecodingGraph) (vs sorted : List ℕ) (kind : Kind) → first_fault g vs ≡ Some kind → IsPermutation (real_front g vs) sorted → IsStrictlyIncreasing sorted
+pub defects_bad : (g : DecodingGraph) (vs sorted : List ℕ) (kind : Kind) → first_fault g vs ≡ Some kind → IsPermutation (real_prefix g vs) sorted → IsStrictlyIncreasing sorted
     → defects_from g [] vs ≡ Err kind
 defects_bad g vs sorted kind some permuted rises =
-    without_repeats g [] vs (distinct_from_sorted (real_front g vs) sorted permuted rises) ∙ ap (λ o. unless o (Ok vs)) some
+    without_repeats g [] vs (distinct_from_sorted (real_prefix g vs) sorted permuted rises) ∙ ap (λ o. unless o (Ok vs)) some
 
-pub defects_repeat : (g : DecodingGraph) (vs sorted : List ℕ) → IsPermutation (real_front g vs) sorted → IsSorted nat_cmp sorted → (IsStrictlyIncreasing sorted → ⊥)
+pub defects_repeat : (g : DecodingGraph) (vs sorted : List ℕ) → IsPermutation (real_prefix g vs) sorted → IsSorted nat_cmp sorted → (IsStrictlyIncreasing sorted → ⊥)
     → defects_from g [] vs ≡ Err DefectRepeated
 defects_repeat g vs sorted permuted ordered falls =
-    with_repeats g [] vs tt (λ d. falls (rising_from_sort (real_front g vs) sorted d permuted ordered))
+    with_repeats g [] vs tt (λ d. falls (rising_from_sort (real_prefix g vs) sorted d permuted ordered))

@@ -6,7 +6,7 @@ use Rattle.fb_records.specs.Answers.{FirstRecordLeaves}
 use Rattle.fb_records.proofs.AnswerLemmas.{blank_after, record_after}
 use Rattle.fb_records.proofs.FirstRecords.{leaves_first}
 use Rattle.fb_shots_json.specs.declared.answer.Kind.{Kind}
-use Rattle.fb_shots_json.specs.TextJson.{is_blank, as_shot, shot_of_line, line_json, begun_json, records_json, front_json, after_record}
+use Rattle.fb_shots_json.specs.TextJson.{is_blank, as_shot, shot_of_line, line_json, begun_json, records_json, prefix_json, after_record}
 use Rattle.fb_shots_json.proofs.TextLemmas.{blank_line, some_line}
 
 as_shot_some : {P : Type 0} (r : Result (List ℕ) Kind) → as_shot r ≡ Ok None → P
@@ -25,7 +25,7 @@ shot_not_blank g line shot e = elim (cases_Bool (is_blank line)) [
   | inr some ↦ some
 ]
 
-pub leaves_json : FirstRecordLeaves records_json front_json (λ g. after_record)
+pub leaves_json : FirstRecordLeaves records_json prefix_json (λ g. after_record)
 leaves_json g bytes shot shots e =
     leaves_first (line_json g) begun_json after_record
     (record {

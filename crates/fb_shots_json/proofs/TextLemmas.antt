@@ -12,9 +12,9 @@ use Rattle.fb_records.specs.Records.{still_open, refused, only, Judged, with_lin
 use Rattle.fb_records.specs.Lines.{holds, Stays}
 use Rattle.fb_records.specs.Answers.{Gives}
 use Rattle.fb_records.proofs.LineLemmas.{holds_none}
-use Rattle.fb_records.proofs.RecordLemmas.{front_one, front_none}
-use Rattle.fb_records.proofs.AnswerLemmas.{skips_nothing, skips_line, skip_gives, skip_refuses, refuses_front, refuses_last, gives_line, gives_last, records_end, blank_after, record_after, last_after}
-use Rattle.fb_shots_json.specs.TextJson.{is_blank, is_blank_byte, is_too_long, most_bytes, as_shot, shot_of_line, line_json, begun_json, records_json, front_json, after_record}
+use Rattle.fb_records.proofs.RecordLemmas.{prefix_one, prefix_none}
+use Rattle.fb_records.proofs.AnswerLemmas.{skips_nothing, skips_line, skip_gives, skip_refuses, refuses_prefix, refuses_last, gives_line, gives_last, records_end, blank_after, record_after, last_after}
+use Rattle.fb_shots_json.specs.TextJson.{is_blank, is_blank_byte, is_too_long, most_bytes, as_shot, shot_of_line, line_json, begun_json, records_json, prefix_json, after_record}
 use Rattle.fb_shots_json.specs.Places.{IsAt}
 use Rattle.fb_shots_json.specs.Stops.{AnswersTo}
 
@@ -71,7 +71,7 @@ stays_json g = record {
 -- ---- where a reader stands
 
 pub at_start : (g : DecodingGraph) → IsAt g [] []
-at_start g = record { skips = skips_nothing (records_json g) (front_json g) after_record; one_line = refl }
+at_start g = record { skips = skips_nothing (records_json g) (prefix_json g) after_record; one_line = refl }
 
 pub at_more : (g : DecodingGraph) (skipped line more : List ℕ) → IsAt g skipped line → holds 10 more ≡ false → IsAt g skipped (line ++ more)
 at_more g skipped line more at h = record { skips = at.skips; one_line = holds_none 10 line more at.one_line h }
@@ -94,9 +94,9 @@ pub newline_refused : (g : DecodingGraph) (skipped line tail : List ℕ) (kind :
 newline_refused g skipped line tail kind rest finished at some e cut =
     let here = line ++ 10 ∷ tail in
     let given : line_json g line ≡ Err kind = some_line g line some ∙ ap as_shot e in (
-      skip_refuses (records_json g) (front_json g) after_record skipped here (reader g rest finished) kind at.skips cut
-          (refuses_front (line_json g) begun_json (stays_json g) (reader g here finished) kind
-          (front_one (line_json g) begun_json line tail at.one_line ∙ ap (λ (r : Judged Kind). with_line r (front_json g tail)) given)),
+      skip_refuses (records_json g) (prefix_json g) after_record skipped here (reader g rest finished) kind at.skips cut
+          (refuses_prefix (line_json g) begun_json (stays_json g) (reader g here finished) kind
+          (prefix_one (line_json g) begun_json line tail at.one_line ∙ ap (λ (r : Judged Kind). with_line r (prefix_json g tail)) given)),
       refl,
     )
 
@@ -105,7 +105,7 @@ pub newline_shot : (g : DecodingGraph) (skipped line tail shot rest : List ℕ) 
 newline_shot g skipped line tail shot rest finished at some e cut =
     let here = line ++ 10 ∷ tail in
     let given : line_json g line ≡ Ok (Some shot) = some_line g line some ∙ ap as_shot e in (
-      skip_gives (records_json g) (front_json g) after_record skipped here (reader g rest finished) (reader g tail finished) shot at.skips cut
+      skip_gives (records_json g) (prefix_json g) after_record skipped here (reader g rest finished) (reader g tail finished) shot at.skips cut
           (gives_line (line_json g) begun_json (reader g here finished) (reader g tail finished) line shot refl at.one_line given),
       ap (λ (l : List ℕ). reader g l finished) (sym (ap after_record cut ∙ at.skips.left here ∙ record_after is_blank line tail at.one_line some)),
     )
@@ -115,16 +115,16 @@ newline_shot g skipped line tail shot rest finished at some e cut =
 pub open_refused : (g : DecodingGraph) (skipped line rest : List ℕ) (finished : Bool) → IsAt g skipped line → is_blank line ≡ false → is_too_long line ≡ true
     → rest ≡ skipped ++ line → AnswersTo g rest finished rest (Refused LineTooLong)
 open_refused g skipped line rest finished at some long cut = (
-  skip_refuses (records_json g) (front_json g) after_record skipped line (reader g rest finished) LineTooLong at.skips cut
-      (refuses_front (line_json g) begun_json (stays_json g) (reader g line finished) LineTooLong
-      (front_none (line_json g) begun_json line at.one_line ∙ ap only (begun_long line some long))),
+  skip_refuses (records_json g) (prefix_json g) after_record skipped line (reader g rest finished) LineTooLong at.skips cut
+      (refuses_prefix (line_json g) begun_json (stays_json g) (reader g line finished) LineTooLong
+      (prefix_none (line_json g) begun_json line at.one_line ∙ ap only (begun_long line some long))),
   refl,
 )
 
 open_answer : (g : DecodingGraph) (skipped line rest : List ℕ) (finished : Bool) → IsAt g skipped line → finished ≡ false → begun_json line ≡ still_open
     → rest ≡ skipped ++ line → AnswersTo g rest finished rest NotYet
 open_answer g skipped line rest finished at e begun cut =
-    (e, ap (front_json g) cut ∙ at.skips.so_far line ∙ front_none (line_json g) begun_json line at.one_line ∙ ap only begun, refl)
+    (e, ap (prefix_json g) cut ∙ at.skips.so_far line ∙ prefix_none (line_json g) begun_json line at.one_line ∙ ap only begun, refl)
 
 pub open_blank : (g : DecodingGraph) (skipped line rest : List ℕ) (finished : Bool) → IsAt g skipped line → finished ≡ false → is_blank line ≡ true
     → rest ≡ skipped ++ line → AnswersTo g rest finished rest NotYet
@@ -139,7 +139,7 @@ open_short g skipped line rest finished at e short cut = open_answer g skipped l
 pub end_refused : (g : DecodingGraph) (skipped line : List ℕ) (kind : Kind) (rest : List ℕ) (finished : Bool) → IsAt g skipped line → finished ≡ true → is_blank line ≡ false
     → shot_of_line g line ≡ Err kind → rest ≡ skipped ++ line → AnswersTo g rest finished rest (Refused kind)
 end_refused g skipped line kind rest finished at done some e cut = (
-  skip_refuses (records_json g) (front_json g) after_record skipped line (reader g rest finished) kind at.skips cut
+  skip_refuses (records_json g) (prefix_json g) after_record skipped line (reader g rest finished) kind at.skips cut
       (refuses_last (line_json g) begun_json (reader g line finished) kind done (records_end (line_json g) line (Err kind) refl at.one_line (some_line g line some ∙ ap as_shot e))),
   refl,
 )
@@ -150,7 +150,7 @@ end_nothing g skipped line rest finished at done blank cut =
     (done, ap (records_json g) cut ∙ at.skips.whole line ∙ records_end (line_json g) line (Ok None) refl at.one_line (blank_line g line blank), refl)
 
 last_gives : (g : DecodingGraph) (line shot : List ℕ) (finished : Bool) → finished ≡ true → holds 10 line ≡ false → is_blank line ≡ false → line_json g line ≡ Ok (Some shot)
-    → Gives (records_json g) (front_json g) (reader g line finished) (reader g [] finished) shot
+    → Gives (records_json g) (prefix_json g) (reader g line finished) (reader g [] finished) shot
 last_gives g [] shot finished done h some e = absurd cc
 last_gives g (b ∷ line) shot finished done h some e = gives_last (line_json g) begun_json (reader g (b ∷ line) finished) (reader g [] finished) b line shot done refl refl h e
 
@@ -161,7 +161,7 @@ after_last (b ∷ line) h some = last_after is_blank b line h some
 pub end_shot : (g : DecodingGraph) (skipped line shot rest : List ℕ) (finished : Bool) → IsAt g skipped line → finished ≡ true → is_blank line ≡ false
     → shot_of_line g line ≡ Ok shot → rest ≡ skipped ++ line → AnswersTo g rest finished [] (Shot shot)
 end_shot g skipped line shot rest finished at done some e cut = (
-  skip_gives (records_json g) (front_json g) after_record skipped line (reader g rest finished) (reader g [] finished) shot at.skips cut
+  skip_gives (records_json g) (prefix_json g) after_record skipped line (reader g rest finished) (reader g [] finished) shot at.skips cut
       (last_gives g line shot finished done at.one_line some (some_line g line some ∙ ap as_shot e)),
   ap (λ (l : List ℕ). reader g l finished) (sym (ap after_record cut ∙ at.skips.left line ∙ after_last line at.one_line some)),
 )

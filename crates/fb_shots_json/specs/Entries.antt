@@ -11,9 +11,9 @@ before_fault (Some kind) v vs = []
 before_fault None v vs = v ∷ vs
 
 -- the entries before the first one that is no real vertex
-abbrev pub real_front : DecodingGraph → List ℕ → List ℕ
-real_front g [] = []
-real_front g (v ∷ vs) = before_fault (vertex_fault g v) v (real_front g vs)
+abbrev pub real_prefix : DecodingGraph → List ℕ → List ℕ
+real_prefix g [] = []
+real_prefix g (v ∷ vs) = before_fault (vertex_fault g v) v (real_prefix g vs)
 
 -- why the first entry that is no real vertex isn't one
 abbrev pub first_fault : DecodingGraph → List ℕ → Option Kind

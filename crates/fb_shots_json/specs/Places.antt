@@ -3,11 +3,11 @@ use Rattle.std.specs.Prelude.{◌≡◌, ℕ, ◌≤◌, Bool, false, List, leng
 use Rattle.fb_graph.specs.Limits.{DecodingGraph}
 use Rattle.fb_records.specs.Lines.{holds, part_of}
 use Rattle.fb_records.specs.Answers.{Skips}
-use Rattle.fb_shots_json.specs.TextJson.{is_blank, records_json, front_json, after_record}
+use Rattle.fb_shots_json.specs.TextJson.{is_blank, records_json, prefix_json, after_record}
 
--- Lines that are skipped came, and then the front part of one line.
+-- Lines that are skipped came, and then a prefix of one line.
 pub record IsAt (g : DecodingGraph) (skipped line : List ℕ) : Type 0 where
-  pub skips : Skips (records_json g) (front_json g) after_record skipped
+  pub skips : Skips (records_json g) (prefix_json g) after_record skipped
   pub one_line : holds 10 line ≡ false
 
 -- where a reader stands in the bytes: the start of the line, how far it has seen the line, and whether that is blank

@@ -8,14 +8,14 @@ use Rattle.fb_shots_json.specs.declared.reader.Step.{Step}
 use Rattle.fb_shots_json.specs.declared.reader.Step.TheVariants as step
 use Rattle.fb_records.specs.Records.{Reader}
 use Rattle.fb_records.specs.Answers.{Answers}
-use Rattle.fb_shots_json.specs.TextJson.{records_json, front_json, after_record}
+use Rattle.fb_shots_json.specs.TextJson.{records_json, prefix_json, after_record}
 
 -- the answer to a rest, and what it leaves
 abbrev pub AnswersTo : DecodingGraph → List ℕ → Bool → List ℕ → Next Kind → Type 0
 AnswersTo g rest finished left answer =
     let old : Reader DecodingGraph = record { subject = g; rest = rest; finished = finished } in
     let new : Reader DecodingGraph = record { subject = g; rest = left; finished = finished } in
-    Answers records_json front_json after_record old new answer
+    Answers records_json prefix_json after_record old new answer
 
 -- how many bytes a stop uses
 abbrev pub used_of : Step → ℕ

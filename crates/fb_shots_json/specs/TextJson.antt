@@ -11,7 +11,7 @@ use Rattle.fb_graph.specs.Limits.{DecodingGraph}
 use Rattle.fb_shots_json.specs.declared.answer.Kind.{Kind}
 use Rattle.fb_shots_json.specs.declared.answer.Kind.TheVariants.{LineTooLong, NotJson, NoDefects, DefectOutOfRange, DefectOnVirtual, DefectRepeated, ErasureNotTaken}
 use Rattle.fb_records.specs.Records.{Ending, still_open, refused, Records, Judged}
-use Rattle.fb_records.specs.Lines.{without_return, after_first, records_by_lines, front_by_lines}
+use Rattle.fb_records.specs.Lines.{without_return, after_first, records_by_lines, prefix_by_lines}
 
 -- ---- a value
 
@@ -131,9 +131,9 @@ begun_json line = if is_blank line then still_open else (if is_too_long line the
 abbrev pub records_json : DecodingGraph → List ℕ → Records Kind
 records_json g = records_by_lines (line_json g)
 
--- what is settled by bytes that may go on
-abbrev pub front_json : DecodingGraph → List ℕ → Records Kind
-front_json g = front_by_lines (line_json g) begun_json
+-- what is settled by a prefix of an input
+abbrev pub prefix_json : DecodingGraph → List ℕ → Records Kind
+prefix_json g = prefix_by_lines (line_json g) begun_json
 
 -- ---- what an answer uses
 

@@ -5,7 +5,7 @@ ghost use Rattle.std.specs.List.Sorted.{IsStrictlyIncreasing};
 ghost use Rattle.fb_graph.specs.Limits.{IsShot};
 ghost use Rattle.serde_json.specs.View.{view, items_view};
 ghost use Rattle.fb_shots_json.specs.TextJson.{naturals_of, vertex_fault, defects_from, rising};
-ghost use Rattle.fb_shots_json.specs.Entries.{real_front, first_fault};
+ghost use Rattle.fb_shots_json.specs.Entries.{real_prefix, first_fault};
 ghost use Rattle.fb_records.specs.Answers.{IfRefused};
 
 use crate::answer::Kind;
@@ -43,12 +43,12 @@ fn vertex_fault(graph: &Graph, entry: u64) -> Option<Kind>
 }
 
 /// The entries before the first one that is no real vertex, and why that isn't one.
-fn real_front(
+fn real_prefix(
     alloc: Global,
     graph: &Graph,
     listed: &[u64],
 ) -> Result<(Vec<u32>, Option<Kind>), NoMemory>
-    ensures front { IfOk result (λ r. r.0.items ≡ real_front graph.now listed.now) }
+    ensures prefix { IfOk result (λ r. r.0.items ≡ real_prefix graph.now listed.now) }
     ensures fault { IfOk result (λ r. r.1 ≡ first_fault graph.now listed.now) }
 {
     let mut found = Vec::with_capacity(alloc, listed.len())?;
@@ -75,7 +75,7 @@ pub fn defects(alloc: Global, graph: &Graph, listed: &[u64]) -> Result<Vec<u32>,
     ensures shot { IfOk result (λ v. IsShot graph.now v.items) }
     ensures refused { IfErr result (IfRefused (λ kind. defects_from graph.now [] listed.now ≡ Err kind)) }
 {
-    let (mut found, fault) = real_front(alloc, graph, listed)?;
+    let (mut found, fault) = real_prefix(alloc, graph, listed)?;
     found.sort_unstable();
     if !is_rising(&found) {
         return Err(Stop::Refused(Kind::DefectRepeated));

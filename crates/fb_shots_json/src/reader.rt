@@ -4,7 +4,7 @@ ghost use Rattle.std.specs.Prelude.{◌≡◌, ℕ, ◌+◌, ◌-◌, ◌<◌, �
 ghost use Rattle.fb_records.specs.Lines.{holds, part_of};
 ghost use Rattle.fb_records.specs.Answers.{answer_of, reading, Answers, IfRefused, IfShot};
 ghost use Rattle.fb_records.specs.declared.answer.Next.TheVariants as next;
-ghost use Rattle.fb_shots_json.specs.TextJson.{is_blank, records_json, front_json, after_record};
+ghost use Rattle.fb_shots_json.specs.TextJson.{is_blank, records_json, prefix_json, after_record};
 ghost use Rattle.fb_graph.specs.Limits.{IsShot};
 ghost use Rattle.fb_shots_json.specs.Places.{IsPlace};
 ghost use Rattle.fb_shots_json.specs.Stops.{AnswersTo, used_of, answer_at};
@@ -83,8 +83,8 @@ impl<'a> RecordsJson<'a> {
     /// Answers by the first record of the bytes that no answer has used. A shot uses up its line and the blank lines
     /// before it, and nothing else uses any byte.
     pub fn next(&mut self) -> Result<Next<Kind>, NoMemory>
-        ensures answer { IfOk result (λ a. a ≡ answer_of (reading records_json front_json self.old)) }
-        ensures meaning { IfOk result (Answers records_json front_json after_record self.old self.new) }
+        ensures answer { IfOk result (λ a. a ≡ answer_of (reading records_json prefix_json self.old)) }
+        ensures meaning { IfOk result (Answers records_json prefix_json after_record self.old self.new) }
         ensures graph { self.new.subject ≡ self.old.subject }
         ensures finished { self.new.finished ≡ self.old.finished }
         ensures shot { IfOk result (IfShot (IsShot self.old.subject)) }

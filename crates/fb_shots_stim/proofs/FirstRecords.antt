@@ -12,10 +12,10 @@ use Rattle.fb_records.proofs.FirstRecords.{no_shots, leaves_first}
 use Rattle.fb_shots_stim.specs.declared.answer.Kind.{Kind}
 use Rattle.fb_shots_stim.specs.declared.answer.Kind.TheVariants.{BadByte, ShortRecord, LongRecord, PaddingBit}
 use Rattle.fb_shots_stim.specs.Shots.{places_from}
-use Rattle.fb_shots_stim.specs.Text01.{line_01, begun_01, is_one, records_01, front_01}
-use Rattle.fb_shots_stim.specs.BlocksB8.{block_len, bits_of, is_set, records_b8, front_b8}
-use Rattle.fb_shots_stim.specs.TextDets.{line_dets, begun_dets, words_of, shot_of, records_dets, front_dets, is_nothing, is_blank, after_record}
-use Rattle.fb_shots_stim.proofs.LemmasB8.{front_short, block_gives}
+use Rattle.fb_shots_stim.specs.Text01.{line_01, begun_01, is_one, records_01, prefix_01}
+use Rattle.fb_shots_stim.specs.BlocksB8.{block_len, bits_of, is_set, records_b8, prefix_b8}
+use Rattle.fb_shots_stim.specs.TextDets.{line_dets, begun_dets, words_of, shot_of, records_dets, prefix_dets, is_nothing, is_blank, after_record}
+use Rattle.fb_shots_stim.proofs.LemmasB8.{prefix_short, block_gives}
 use Rattle.fb_shots_stim.proofs.LemmasDets.{Words, no_words, some_words}
 
 -- ---- `01`
@@ -32,7 +32,7 @@ never_skipped n line = either _ _ _ (either _ _ _ (refused_ LongRecord) (either 
   either true x y hx hy = hx
   either false x y hx hy = hy
 
-pub leaves_01 : FirstRecordLeaves records_01 front_01 (λ n. after_line)
+pub leaves_01 : FirstRecordLeaves records_01 prefix_01 (λ n. after_line)
 leaves_01 n bytes shot shots e =
     leaves_first (bare (line_01 n)) (bare (begun_01 n)) after_line
     (record { skips = λ line more h none. absurd (never_skipped n (without_return line) none); takes = λ line more s h some. after_line_one line more h })
@@ -50,7 +50,7 @@ shot_none n (Ok None) e = refl
 shot_none n (Ok (Some named)) e = absurd cc
 shot_none n (Err kind) e = absurd cc
 
-pub leaves_dets : FirstRecordLeaves records_dets front_dets (λ n. after_record)
+pub leaves_dets : FirstRecordLeaves records_dets prefix_dets (λ n. after_record)
 leaves_dets n bytes shot shots e =
     leaves_first (bare (line_dets n)) (bare (begun_dets n)) after_record
     (record {
@@ -63,11 +63,11 @@ leaves_dets n bytes shot shots e =
 
 -- ---- `b8`
 
-pub leaves_b8 : FirstRecordLeaves records_b8 front_b8 (λ n. drop (block_len n))
+pub leaves_b8 : FirstRecordLeaves records_b8 prefix_b8 (λ n. drop (block_len n))
 leaves_b8 zero [] shot shots e = absurd cc
 leaves_b8 zero (b ∷ bytes) shot shots e = absurd cc
 leaves_b8 (suc n) bytes shot shots e = elim (cases_lt (length bytes) (block_len (suc n))) [
-  | inl lt ↦ no_shots _ _ shot shots (front_short n bytes lt) e
+  | inl lt ↦ no_shots _ _ shot shots (prefix_short n bytes lt) e
   | inr le ↦ elim (cases_Bool (list_any is_set (drop (suc n) (bits_of (take (block_len (suc n)) bytes))))) [
     | inl set_ ↦ no_shots _ _ shot shots (block_gives n bytes true (Err PaddingBit) le (cond-true _ _ _ set_)).1 e
     | inr none ↦ block_left n bytes shot shots le (block_gives n bytes true (Ok (Some _)) le (cond-false _ _ _ none)) e
@@ -75,17 +75,17 @@ leaves_b8 (suc n) bytes shot shots e = elim (cases_lt (length bytes) (block_len 
 ]
   where
     block_left : (n : ℕ) (bytes shot : List ℕ) (shots : List (List ℕ)) {first : List ℕ} → block_len (suc n) ≤ length bytes
-        → (records_b8 (suc n) bytes ≡ in_front first (records_b8 (suc n) (drop (block_len (suc n)) bytes))) × (front_b8 (suc n) bytes ≡ in_front first (front_b8 (suc n) (drop (block_len (suc n)) bytes)))
+        → (records_b8 (suc n) bytes ≡ in_front first (records_b8 (suc n) (drop (block_len (suc n)) bytes))) × (prefix_b8 (suc n) bytes ≡ in_front first (prefix_b8 (suc n) (drop (block_len (suc n)) bytes)))
         × ((more : List ℕ) → records_b8 (suc n) (bytes ++ more) ≡ in_front first (records_b8 (suc n) (drop (block_len (suc n)) bytes ++ more)))
-        × ((more : List ℕ) → front_b8 (suc n) (bytes ++ more) ≡ in_front first (front_b8 (suc n) (drop (block_len (suc n)) bytes ++ more)))
-        → (front_b8 (suc n) bytes).shots ≡ shot ∷ shots
-        → (front_b8 (suc n) bytes ≡ in_front shot (front_b8 (suc n) (drop (block_len (suc n)) bytes)))
+        × ((more : List ℕ) → prefix_b8 (suc n) (bytes ++ more) ≡ in_front first (prefix_b8 (suc n) (drop (block_len (suc n)) bytes ++ more)))
+        → (prefix_b8 (suc n) bytes).shots ≡ shot ∷ shots
+        → (prefix_b8 (suc n) bytes ≡ in_front shot (prefix_b8 (suc n) (drop (block_len (suc n)) bytes)))
         × ((more : List ℕ) → records_b8 (suc n) (bytes ++ more) ≡ in_front shot (records_b8 (suc n) (drop (block_len (suc n)) bytes ++ more)))
-        × ((more : List ℕ) → front_b8 (suc n) (bytes ++ more) ≡ in_front shot (front_b8 (suc n) (drop (block_len (suc n)) bytes ++ more)))
+        × ((more : List ℕ) → prefix_b8 (suc n) (bytes ++ more) ≡ in_front shot (prefix_b8 (suc n) (drop (block_len (suc n)) bytes ++ more)))
     block_left n bytes shot shots {first} le given e =
         let left = drop (block_len (suc n)) bytes in
-        let same : first ≡ shot = (let shown : first ∷ (front_b8 (suc n) left).shots ≡ shot ∷ shots = sym (ap (λ (x : Records Kind). x.shots) given.1) ∙ e in cc) in (
-          given.1 ∙ ap (λ (l : List ℕ). in_front l (front_b8 (suc n) left)) same,
+        let same : first ≡ shot = (let shown : first ∷ (prefix_b8 (suc n) left).shots ≡ shot ∷ shots = sym (ap (λ (x : Records Kind). x.shots) given.1) ∙ e in cc) in (
+          given.1 ∙ ap (λ (l : List ℕ). in_front l (prefix_b8 (suc n) left)) same,
           λ more. given.2 more ∙ ap (λ (l : List ℕ). in_front l (records_b8 (suc n) (left ++ more))) same,
-          λ more. given.3 more ∙ ap (λ (l : List ℕ). in_front l (front_b8 (suc n) (left ++ more))) same,
+          λ more. given.3 more ∙ ap (λ (l : List ℕ). in_front l (prefix_b8 (suc n) (left ++ more))) same,
         )

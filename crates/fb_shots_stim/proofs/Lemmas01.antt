@@ -14,11 +14,11 @@ use Rattle.fb_records.specs.Records.{at_end, still_open, refused, only, with_lin
 use Rattle.fb_shots_stim.specs.Shots.{places_from}
 use Rattle.fb_records.specs.Lines.{holds, without_return, bare, after_line, Stays}
 use Rattle.fb_records.specs.Answers.{Answers}
-use Rattle.fb_shots_stim.specs.Text01.{is_bit, is_one, line_01, begun_01, records_01, front_01}
+use Rattle.fb_shots_stim.specs.Text01.{is_bit, is_one, line_01, begun_01, records_01, prefix_01}
 use Rattle.fb_shots_stim.specs.Step01.{line_end_01, bad_01, step_01}
 use Rattle.fb_records.proofs.LineLemmas.{after_line_one, after_line_none, holds_none, without_return_end, without_return_at}
-use Rattle.fb_records.proofs.RecordLemmas.{records_none, front_one, front_none, refused_part, stays_bare}
-use Rattle.fb_records.proofs.AnswerLemmas.{refuses_front, refuses_last, gives_line, gives_last}
+use Rattle.fb_records.proofs.RecordLemmas.{records_none, prefix_one, prefix_none, refused_part, stays_bare}
+use Rattle.fb_records.proofs.AnswerLemmas.{refuses_prefix, refuses_last, gives_line, gives_last}
 
 -- ---- one line
 
@@ -53,8 +53,8 @@ stays_bad n part more h kind e =
 
 stays_long : (n : ℕ) (part more : List ℕ) → list_all is_bit (take n part) ≡ true → n < length part → (kind : Kind) → begun_01 n part ≡ refused kind → (line_01 n (part ++ more) ≡ Err kind) × (begun_01 n (part ++ more) ≡ refused kind)
 stays_long n part more h lt kind e =
-    let front : take n (part ++ more) ≡ take n part = take-append-le n part more (omega arith) in
-    let all = line_long n (part ++ more) (ap (list_all is_bit) front ∙ h) (omega (arith, length-append part more)) in
+    let prefix : take n (part ++ more) ≡ take n part = take-append-le n part more (omega arith) in
+    let all = line_long n (part ++ more) (ap (list_all is_bit) prefix ∙ h) (omega (arith, length-append part more)) in
     let same : LongRecord ≡ kind = (let now = (line_long n part h lt).1 in cc) in
     subst (λ (k : Kind). (line_01 n (part ++ more) ≡ Err k) × (begun_01 n (part ++ more) ≡ refused k)) same all
 
@@ -136,16 +136,16 @@ left_at rest (Refused kind) = rest
 -- the step is right where a line begins by the bits and goes on by the tail
 abbrev pub IsRight : ℕ → Bool → (bits tail : List ℕ) → Step → Type 0
 IsRight n finished bits tail step =
-    Answers records_01 front_01 after_line (reader n (bits ++ tail) finished) (reader n (left_at (bits ++ tail) step) finished) (answer_at bits step)
+    Answers records_01 prefix_01 after_line (reader n (bits ++ tail) finished) (reader n (left_at (bits ++ tail) step) finished) (answer_at bits step)
 
 -- what the bits of a line are known to be
 pub record AreBits (n : ℕ) (bits : List ℕ) : Type 0 where
   pub each : list_all is_bit bits ≡ true
   pub most : length bits ≤ n
 
-refused_right : (n : ℕ) (finished : Bool) (bits tail : List ℕ) (kind : Kind) → front_01 n (bits ++ tail) ≡ only (refused kind) → IsRight n finished bits tail (Refused kind)
+refused_right : (n : ℕ) (finished : Bool) (bits tail : List ℕ) (kind : Kind) → prefix_01 n (bits ++ tail) ≡ only (refused kind) → IsRight n finished bits tail (Refused kind)
 refused_right n finished bits tail kind e =
-    (refuses_front (bare (line_01 n)) (bare (begun_01 n)) (stays_01 n) (reader n (bits ++ tail) finished) kind e, refl)
+    (refuses_prefix (bare (line_01 n)) (bare (begun_01 n)) (stays_01 n) (reader n (bits ++ tail) finished) kind e, refl)
 
 -- at the end of a line that has its newline
 line_right : (n : ℕ) (finished : Bool) (bits tail line more : List ℕ) (ending : ℕ) → AreBits n bits → bits ++ tail ≡ line ++ 10 ∷ more → holds 10 line ≡ false → without_return line ≡ bits
@@ -163,7 +163,7 @@ line_right n finished bits tail line more ending known cut h r rest = elim (case
       let judged : line_01 n (without_return line) ≡ Err ShortRecord = ap (line_01 n) r ∙ line_short n bits known.each lt in
       subst (IsRight n finished bits tail) (sym (cond-false (eqb (length bits) n) (Line (length bits + ending)) (Refused ShortRecord) e))
       (refused_right n finished bits tail ShortRecord
-      (ap (front_01 n) cut ∙ front_one (bare (line_01 n)) (bare (begun_01 n)) line more h ∙ ap (λ (given : Result (Option (List ℕ)) Kind). with_line given (front_01 n more)) judged))
+      (ap (prefix_01 n) cut ∙ prefix_one (bare (line_01 n)) (bare (begun_01 n)) line more h ∙ ap (λ (given : Result (Option (List ℕ)) Kind). with_line given (prefix_01 n more)) judged))
 ]
 
 -- at the end of the input
@@ -193,12 +193,12 @@ bad_right n finished bits tail part more b rest known stop cut h r = elim (cases
   | inl e ↦
       let judged : begun_01 n (without_return part) ≡ refused LongRecord = ap (begun_01 n) r ∙ begun_long n bits b rest known.each (eqb-true _ _ e) in
       subst (IsRight n finished bits tail) (sym (cond-true (eqb (length bits) n) (Refused LongRecord) (Refused BadByte) e))
-      (refused_right n finished bits tail LongRecord (ap (front_01 n) cut ∙ (refused_part (bare (line_01 n)) (bare (begun_01 n)) (stays_01 n) part more LongRecord h judged).1))
+      (refused_right n finished bits tail LongRecord (ap (prefix_01 n) cut ∙ (refused_part (bare (line_01 n)) (bare (begun_01 n)) (stays_01 n) part more LongRecord h judged).1))
   | inr e ↦
       let lt : length bits < n = (let ne = eqb-false _ _ e in let le = known.most in omega arith) in
       let judged : begun_01 n (without_return part) ≡ refused BadByte = ap (begun_01 n) r ∙ begun_bad n bits b rest known.each lt (stop lt) in
       subst (IsRight n finished bits tail) (sym (cond-false (eqb (length bits) n) (Refused LongRecord) (Refused BadByte) e))
-      (refused_right n finished bits tail BadByte (ap (front_01 n) cut ∙ (refused_part (bare (line_01 n)) (bare (begun_01 n)) (stays_01 n) part more BadByte h judged).1))
+      (refused_right n finished bits tail BadByte (ap (prefix_01 n) cut ∙ (refused_part (bare (line_01 n)) (bare (begun_01 n)) (stays_01 n) part more BadByte h judged).1))
 ]
 
 drop_past : (k : ℕ) (bits tail : List ℕ) → drop (length bits + k) (bits ++ tail) ≡ drop k tail
@@ -212,7 +212,7 @@ nothing_right : (n : ℕ) (finished : Bool) (bits : List ℕ) → AreBits n bits
 nothing_right n false bits known =
     let ended : bits ++ [] ≡ bits = append-nil bits in (
       refl,
-      ap (front_01 n) ended ∙ front_none (bare (line_01 n)) (bare (begun_01 n)) bits (bits_hold 10 bits refl known.each)
+      ap (prefix_01 n) ended ∙ prefix_none (bare (line_01 n)) (bare (begun_01 n)) bits (bits_hold 10 bits refl known.each)
           ∙ ap (λ (l : List ℕ). only (begun_01 n l)) (bits_return bits known.each) ∙ ap only (begun_bits n bits known.each known.most),
       refl,
     )
@@ -231,7 +231,7 @@ return_holds n bits known = holds_none 10 bits (13 ∷ []) (bits_hold 10 bits re
 return_right : (n : ℕ) (finished : Bool) (bits : List ℕ) (b : ℕ) → AreBits n bits → b ≡ 13 → IsRight n finished bits (b ∷ []) (if finished then line_end_01 n (length bits) 1 else NotYet)
 return_right n false bits b known b-is = (
   refl,
-  ap (λ (x : ℕ). front_01 n (bits ++ x ∷ [])) b-is ∙ front_none (bare (line_01 n)) (bare (begun_01 n)) (bits ++ 13 ∷ []) (return_holds n bits known)
+  ap (λ (x : ℕ). prefix_01 n (bits ++ x ∷ [])) b-is ∙ prefix_none (bare (line_01 n)) (bare (begun_01 n)) (bits ++ 13 ∷ []) (return_holds n bits known)
       ∙ ap (λ (l : List ℕ). only (begun_01 n l)) (without_return_end bits) ∙ ap only (begun_bits n bits known.each known.most),
   refl,
 )
@@ -281,7 +281,7 @@ step_right n finished bits (b ∷ c ∷ tail) known stop = elim (cases_Bool (eqb
 -- what a reader's next answer is, by the step at the end of the bits that its rest begins with
 rest_right : (n : ℕ) (rest : List ℕ) (finished : Bool) (good : ℕ) (step : Step) → list_all is_bit (take good rest) ≡ true → good ≤ n → good ≤ length rest
     → (good < n → good < length rest → is_bit (get_or rest good 0) ≡ false) → step ≡ step_01 n finished good (take (length rest - good) (drop good rest))
-    → Answers records_01 front_01 after_line (reader n rest finished) (reader n (left_at rest step) finished) (answer_at (take good rest) step)
+    → Answers records_01 prefix_01 after_line (reader n rest finished) (reader n (left_at rest step) finished) (answer_at (take good rest) step)
 rest_right n rest finished good step bits most within stop is =
     let len : length (take good rest) ≡ good = length-take-le good rest within in
     let cut : take good rest ++ drop good rest ≡ rest = take-append-drop good rest in
@@ -291,14 +291,14 @@ rest_right n rest finished good step bits most within stop is =
     let right = step_right n finished (take good rest) (drop good rest) (record { each = bits; most = omega arith }) stops in
     let step-is : step_01 n finished (length (take good rest)) (drop good rest) ≡ step =
     ap (λ (k : ℕ). step_01 n finished k (drop good rest)) len ∙ sym (is ∙ ap (step_01 n finished good) tail) in
-    subst (λ (l : List ℕ). Answers records_01 front_01 after_line (reader n l finished) (reader n (left_at l step) finished) (answer_at (take good rest) step)) cut
+    subst (λ (l : List ℕ). Answers records_01 prefix_01 after_line (reader n l finished) (reader n (left_at l step) finished) (answer_at (take good rest) step)) cut
     (subst (IsRight n finished (take good rest) (drop good rest)) step-is right)
 
 -- the same, as the code has the rest at hand
 pub next_right : (old : Reader ℕ) (n : ℕ) (rest : List ℕ) (finished : Bool) (slice : List ℕ) (good : ℕ) (step : Step) → reader n rest finished ≡ old → slice ≡ rest → list_all is_bit (take good slice) ≡ true → good ≤ n → good ≤ length slice
     → (good < n → good < length slice → is_bit (get_or slice good 0) ≡ false) → step ≡ step_01 n finished good (take (length slice - good) (drop good slice))
-    → Answers records_01 front_01 after_line old (reader n (left_at rest step) finished) (answer_at (take good slice) step)
+    → Answers records_01 prefix_01 after_line old (reader n (left_at rest step) finished) (answer_at (take good slice) step)
 next_right old n rest finished slice good step old-is slice-is bits most within stop is =
-    subst (λ (r : Reader ℕ). Answers records_01 front_01 after_line r (reader n (left_at rest step) finished) (answer_at (take good slice) step)) old-is
-    (subst (λ (l : List ℕ). Answers records_01 front_01 after_line (reader n l finished) (reader n (left_at l step) finished) (answer_at (take good slice) step)) slice-is
+    subst (λ (r : Reader ℕ). Answers records_01 prefix_01 after_line r (reader n (left_at rest step) finished) (answer_at (take good slice) step)) old-is
+    (subst (λ (l : List ℕ). Answers records_01 prefix_01 after_line (reader n l finished) (reader n (left_at l step) finished) (answer_at (take good slice) step)) slice-is
     (rest_right n slice finished good step bits most within stop is))

@@ -16,7 +16,7 @@ use Rattle.fb_records.specs.declared.answer.Next.TheVariants.{Shot, NotYet, Refu
 use Rattle.fb_records.specs.Records.{Ending, at_end, still_open, refused, Records, only, with_line, go_down, GoesOn, Reader}
 use Rattle.fb_shots_stim.specs.Shots.{places_from}
 use Rattle.fb_records.specs.Answers.{Answers, GoesOnAnywhere}
-use Rattle.fb_shots_stim.specs.BlocksB8.{block_len, low_bits, bits_of, is_set, block_b8, blocks, whole_blocks, records_b8, front_b8}
+use Rattle.fb_shots_stim.specs.BlocksB8.{block_len, low_bits, bits_of, is_set, block_b8, blocks, whole_blocks, records_b8, prefix_b8}
 use Rattle.fb_records.proofs.RecordLemmas.{go_down_goes_on}
 
 -- ---- places
@@ -86,14 +86,14 @@ padding_none n block size e = drop_all n (bits_of block) (omega (arith, length_b
 padding_some : (n : ℕ) (block : List ℕ) → length block ≡ block_len n → (n % 8 ≡ 0 → ⊥) → drop n (bits_of block) ≡ low_bits (8 - n % 8) (get_or block (length block - 1) 0 / 2 ^ (n % 8))
 padding_some n block size some =
     let last = get_or block (length block - 1) 0 in
-    let front = take (length block - 1) block in
+    let prefix = take (length block - 1) block in
     let within : length block - 1 < length block = omega arith in
-    let cut : block ≡ front ++ last ∷ [] = sym (take_all (length block - 1 + 1) block (omega arith)) ∙ take_more block (length block - 1) 0 within in
-    let bits : bits_of block ≡ bits_of front ++ low_bits 8 last = ap bits_of cut ∙ flat_map-append (low_bits 8) front (last ∷ []) ∙ ap (λ (l : List ℕ). bits_of front ++ l) (append-nil (low_bits 8 last)) in
-    let len : length (bits_of front) + n % 8 ≡ n = omega (arith, length_bits front, length-take-le (length block - 1) block (omega arith)) in
-    ap (drop n) bits ∙ ap (λ (k : ℕ). drop k (bits_of front ++ low_bits 8 last)) (sym len)
-    ∙ sym (drop-drop (n % 8) (length (bits_of front)) (bits_of front ++ low_bits 8 last))
-    ∙ ap (drop (n % 8)) (drop_at (bits_of front) (low_bits 8 last) (length (bits_of front)) refl)
+    let cut : block ≡ prefix ++ last ∷ [] = sym (take_all (length block - 1 + 1) block (omega arith)) ∙ take_more block (length block - 1) 0 within in
+    let bits : bits_of block ≡ bits_of prefix ++ low_bits 8 last = ap bits_of cut ∙ flat_map-append (low_bits 8) prefix (last ∷ []) ∙ ap (λ (l : List ℕ). bits_of prefix ++ l) (append-nil (low_bits 8 last)) in
+    let len : length (bits_of prefix) + n % 8 ≡ n = omega (arith, length_bits prefix, length-take-le (length block - 1) block (omega arith)) in
+    ap (drop n) bits ∙ ap (λ (k : ℕ). drop k (bits_of prefix ++ low_bits 8 last)) (sym len)
+    ∙ sym (drop-drop (n % 8) (length (bits_of prefix)) (bits_of prefix ++ low_bits 8 last))
+    ∙ ap (drop (n % 8)) (drop_at (bits_of prefix) (low_bits 8 last) (length (bits_of prefix)) refl)
     ∙ drop_low (n % 8) 8 (8 - n % 8) last (omega arith)
 
 pub has_padding_none : (n : ℕ) (block : List ℕ) → length block ≡ block_len n → n % 8 ≡ 0 → list_any is_set (drop n (bits_of block)) ≡ false
@@ -134,9 +134,9 @@ records_first n bytes le =
     ap (λ (k : ℕ). go_down (block_b8 (suc n)) (whole_blocks size bytes) (if eqb k 0 then at_end else refused ShortRecord)) left
     ∙ ap (λ (bs : List (List ℕ)). go_down (block_b8 (suc n)) bs (if eqb (length (drop size bytes) % size) 0 then at_end else refused ShortRecord)) (blocks_first size bytes (omega arith) le)
 
-front_first : (n : ℕ) (bytes : List ℕ) → block_len (suc n) ≤ length bytes
-    → front_b8 (suc n) bytes ≡ with_line (block_b8 (suc n) (take (block_len (suc n)) bytes)) (front_b8 (suc n) (drop (block_len (suc n)) bytes))
-front_first n bytes le =
+prefix_first : (n : ℕ) (bytes : List ℕ) → block_len (suc n) ≤ length bytes
+    → prefix_b8 (suc n) bytes ≡ with_line (block_b8 (suc n) (take (block_len (suc n)) bytes)) (prefix_b8 (suc n) (drop (block_len (suc n)) bytes))
+prefix_first n bytes le =
     ap (λ (bs : List (List ℕ)). go_down (block_b8 (suc n)) bs still_open) (blocks_first (block_len (suc n)) bytes (omega arith) le)
 
 -- bytes of less than a block
@@ -147,8 +147,8 @@ records_short n b bytes lt =
     ap (λ (bs : List (List ℕ)). go_down (block_b8 (suc n)) bs (if eqb (length (b ∷ bytes) % size) 0 then at_end else refused ShortRecord)) (blocks_none size (b ∷ bytes) lt)
     ∙ ap (λ (t : Bool). only (if t then at_end else refused ShortRecord)) some
 
-pub front_short : (n : ℕ) (bytes : List ℕ) → length bytes < block_len (suc n) → front_b8 (suc n) bytes ≡ only still_open
-front_short n bytes lt = ap (λ (bs : List (List ℕ)). go_down (block_b8 (suc n)) bs still_open) (blocks_none (block_len (suc n)) bytes lt)
+pub prefix_short : (n : ℕ) (bytes : List ℕ) → length bytes < block_len (suc n) → prefix_b8 (suc n) bytes ≡ only still_open
+prefix_short n bytes lt = ap (λ (bs : List (List ℕ)). go_down (block_b8 (suc n)) bs still_open) (blocks_none (block_len (suc n)) bytes lt)
 
 -- ---- two pieces
 
@@ -177,14 +177,14 @@ whole_blocks_two size a b some =
     let sum : all ≡ count + more = omega arith in
     (blocks size more (drop (count * size) a ++ b), ap (λ (k : ℕ). blocks size k (a ++ b)) sum ∙ blocks_two size count more a b fits)
 
-blocks_go_on : (n : ℕ) (a b : List ℕ) (ending : Ending Kind) → GoesOn (front_b8 (suc n) a) (go_down (block_b8 (suc n)) (whole_blocks (block_len (suc n)) (a ++ b)) ending)
+blocks_go_on : (n : ℕ) (a b : List ℕ) (ending : Ending Kind) → GoesOn (prefix_b8 (suc n) a) (go_down (block_b8 (suc n)) (whole_blocks (block_len (suc n)) (a ++ b)) ending)
 blocks_go_on n a b ending =
     let two = whole_blocks_two (block_len (suc n)) a b (omega arith) in
-    subst (λ (bs : List (List ℕ)). GoesOn (front_b8 (suc n) a) (go_down (block_b8 (suc n)) bs ending)) (sym two.1)
+    subst (λ (bs : List (List ℕ)). GoesOn (prefix_b8 (suc n) a) (go_down (block_b8 (suc n)) bs ending)) (sym two.1)
     (go_down_goes_on (block_b8 (suc n)) (whole_blocks (block_len (suc n)) a) two.0 still_open ending (λ kind e. absurd cc))
 
-pub goes_on_b8 : GoesOnAnywhere records_b8 front_b8
-goes_on_b8 zero [] more = (nothing (records_b8 zero more), nothing (front_b8 zero more)) where
+pub goes_on_b8 : GoesOnAnywhere records_b8 prefix_b8
+goes_on_b8 zero [] more = (nothing (records_b8 zero more), nothing (prefix_b8 zero more)) where
   nothing : (all : Records Kind) → GoesOn (only still_open) all
   nothing all = record { shots = (all.shots, refl); judged = λ kind e. absurd cc }
 goes_on_b8 zero (b ∷ bytes) more = (same (only (refused LongRecord)), same (only (refused LongRecord))) where
@@ -198,7 +198,7 @@ abbrev pub reader : ℕ → List ℕ → Bool → Reader ℕ
 reader n rest finished = record { subject = n; rest = rest; finished = finished }
 
 abbrev pub IsRight : ℕ → List ℕ → Bool → List ℕ → Next Kind → Type 0
-IsRight n rest finished left a = Answers records_b8 front_b8 (drop (block_len n)) (reader n rest finished) (reader n left finished) a
+IsRight n rest finished left a = Answers records_b8 prefix_b8 (drop (block_len n)) (reader n rest finished) (reader n left finished) a
 
 true_false : {P : Type 0} → true ≡ false → P
 true_false e = absurd cc
@@ -217,25 +217,25 @@ short_end (suc n) (b ∷ rest) true some bytes lt e = (record { now = records_sh
 
 pub short_open : (n : ℕ) (rest : List ℕ) (finished : Bool) → 0 < n → length rest < block_len n → finished ≡ false → IsRight n rest finished rest NotYet
 short_open zero rest finished some lt e = absurd (omega arith)
-short_open (suc n) rest finished some lt e = (e, front_short n rest lt, refl)
+short_open (suc n) rest finished some lt e = (e, prefix_short n rest lt, refl)
 
 -- a whole block
 pub block_gives : (n : ℕ) (rest : List ℕ) (finished : Bool) (given : Result (Option (List ℕ)) Kind) → block_len (suc n) ≤ length rest → block_b8 (suc n) (take (block_len (suc n)) rest) ≡ given
-    → (records_b8 (suc n) rest ≡ with_line given (records_b8 (suc n) (drop (block_len (suc n)) rest))) × (front_b8 (suc n) rest ≡ with_line given (front_b8 (suc n) (drop (block_len (suc n)) rest)))
+    → (records_b8 (suc n) rest ≡ with_line given (records_b8 (suc n) (drop (block_len (suc n)) rest))) × (prefix_b8 (suc n) rest ≡ with_line given (prefix_b8 (suc n) (drop (block_len (suc n)) rest)))
     × ((more : List ℕ) → records_b8 (suc n) (rest ++ more) ≡ with_line given (records_b8 (suc n) (drop (block_len (suc n)) rest ++ more)))
-    × ((more : List ℕ) → front_b8 (suc n) (rest ++ more) ≡ with_line given (front_b8 (suc n) (drop (block_len (suc n)) rest ++ more)))
+    × ((more : List ℕ) → prefix_b8 (suc n) (rest ++ more) ≡ with_line given (prefix_b8 (suc n) (drop (block_len (suc n)) rest ++ more)))
 block_gives n rest finished given le e =
     let size = block_len (suc n) in (
       records_first n rest le ∙ ap (λ (g : Result (Option (List ℕ)) Kind). with_line g (records_b8 (suc n) (drop size rest))) e,
-      front_first n rest le ∙ ap (λ (g : Result (Option (List ℕ)) Kind). with_line g (front_b8 (suc n) (drop size rest))) e,
+      prefix_first n rest le ∙ ap (λ (g : Result (Option (List ℕ)) Kind). with_line g (prefix_b8 (suc n) (drop size rest))) e,
       λ more. records_first n (rest ++ more) (omega (arith, length-append rest more))
           ∙ ap (λ (l : List ℕ). with_line (block_b8 (suc n) l) (records_b8 (suc n) (drop size (rest ++ more)))) (take-append-le size rest more le)
           ∙ ap (λ (l : List ℕ). with_line (block_b8 (suc n) (take size rest)) (records_b8 (suc n) l)) (drop-append-le size rest more le)
           ∙ ap (λ (g : Result (Option (List ℕ)) Kind). with_line g (records_b8 (suc n) (drop size rest ++ more))) e,
-      λ more. front_first n (rest ++ more) (omega (arith, length-append rest more))
-          ∙ ap (λ (l : List ℕ). with_line (block_b8 (suc n) l) (front_b8 (suc n) (drop size (rest ++ more)))) (take-append-le size rest more le)
-          ∙ ap (λ (l : List ℕ). with_line (block_b8 (suc n) (take size rest)) (front_b8 (suc n) l)) (drop-append-le size rest more le)
-          ∙ ap (λ (g : Result (Option (List ℕ)) Kind). with_line g (front_b8 (suc n) (drop size rest ++ more))) e,
+      λ more. prefix_first n (rest ++ more) (omega (arith, length-append rest more))
+          ∙ ap (λ (l : List ℕ). with_line (block_b8 (suc n) l) (prefix_b8 (suc n) (drop size (rest ++ more)))) (take-append-le size rest more le)
+          ∙ ap (λ (l : List ℕ). with_line (block_b8 (suc n) (take size rest)) (prefix_b8 (suc n) l)) (drop-append-le size rest more le)
+          ∙ ap (λ (g : Result (Option (List ℕ)) Kind). with_line g (prefix_b8 (suc n) (drop size rest ++ more))) e,
     )
 
 pub block_refused : (n : ℕ) (rest : List ℕ) (finished : Bool) → 0 < n → block_len n ≤ length rest → list_any is_set (drop n (bits_of (take (block_len n) rest))) ≡ true → IsRight n rest finished rest (Refused PaddingBit)
@@ -257,14 +257,14 @@ block_shot (suc n) rest finished shot some le h e =
 
 -- the same, as the code has the rest at hand
 pub next_refused : (old : Reader ℕ) (n : ℕ) (rest : List ℕ) (finished : Bool) (slice : List ℕ) → reader n rest finished ≡ old → slice ≡ rest → 0 < n → block_len n ≤ length slice
-    → list_any is_set (drop n (bits_of (take (block_len n) slice))) ≡ true → Answers records_b8 front_b8 (drop (block_len old.subject)) old old (Refused PaddingBit)
+    → list_any is_set (drop n (bits_of (take (block_len n) slice))) ≡ true → Answers records_b8 prefix_b8 (drop (block_len old.subject)) old old (Refused PaddingBit)
 next_refused old n rest finished slice old-is slice-is some le h =
-    subst (λ (r : Reader ℕ). Answers records_b8 front_b8 (drop (block_len r.subject)) r r (Refused PaddingBit)) old-is
+    subst (λ (r : Reader ℕ). Answers records_b8 prefix_b8 (drop (block_len r.subject)) r r (Refused PaddingBit)) old-is
     (subst (λ (l : List ℕ). IsRight n l finished l (Refused PaddingBit)) slice-is (block_refused n slice finished some le h))
 
 pub next_shot : (old : Reader ℕ) (n : ℕ) (rest : List ℕ) (finished : Bool) (slice shot : List ℕ) → reader n rest finished ≡ old → slice ≡ rest → 0 < n → block_len n ≤ length slice
     → list_any is_set (drop n (bits_of (take (block_len n) slice))) ≡ false → shot ≡ places_from is_set 0 (bits_of (take (block_len n) slice))
-    → Answers records_b8 front_b8 (drop (block_len old.subject)) old (reader n (drop (block_len n) rest) finished) (Shot shot)
+    → Answers records_b8 prefix_b8 (drop (block_len old.subject)) old (reader n (drop (block_len n) rest) finished) (Shot shot)
 next_shot old n rest finished slice shot old-is slice-is some le h e =
-    subst (λ (r : Reader ℕ). Answers records_b8 front_b8 (drop (block_len r.subject)) r (reader n (drop (block_len n) rest) finished) (Shot shot)) old-is
+    subst (λ (r : Reader ℕ). Answers records_b8 prefix_b8 (drop (block_len r.subject)) r (reader n (drop (block_len n) rest) finished) (Shot shot)) old-is
     (subst (λ (l : List ℕ). IsRight n l finished (drop (block_len n) l) (Shot shot)) slice-is (block_shot n slice finished shot some le h e))

@@ -9,7 +9,7 @@ use Rattle.fb_shots_stim.specs.declared.answer.Kind.{Kind}
 use Rattle.fb_shots_stim.specs.declared.answer.Kind.TheVariants.{BadToken, IndexOutOfRange, RepeatedIndex, MeasurementToken}
 use Rattle.fb_records.specs.Records.{refused}
 use Rattle.fb_records.specs.Lines.{holds, whole_parts, last_part, if_not_empty, without_return, bare, Stays}
-use Rattle.fb_shots_stim.specs.TextDets.{ended_words, words_of, with_word, with_words, with_detector, with_letter, index_of, shot_of, ending_of, line_dets, begun_dets, records_dets, front_dets, is_nothing, is_blank, after_record}
+use Rattle.fb_shots_stim.specs.TextDets.{ended_words, words_of, with_word, with_words, with_detector, with_letter, index_of, shot_of, ending_of, line_dets, begun_dets, records_dets, prefix_dets, is_nothing, is_blank, after_record}
 use Rattle.fb_shots_stim.specs.WordsDets.{IsAt}
 use Rattle.fb_records.proofs.LineLemmas.{whole_parts_none, whole_parts_one, last_part_none, last_part_one, parts_of, holds_none}
 use Rattle.fb_records.proofs.RecordLemmas.{stays_bare}
@@ -167,7 +167,7 @@ some_words n (word ∷ words) named e = refl
 -- ---- where a reader stands
 
 pub at_start : (n : ℕ) → IsAt n [] [] [] None
-at_start n = record { skips = skips_nothing (records_dets n) (front_dets n) after_record; one_line = refl; ended = refl; read = refl; in_line = refl; in_word = refl }
+at_start n = record { skips = skips_nothing (records_dets n) (prefix_dets n) after_record; one_line = refl; ended = refl; read = refl; in_line = refl; in_word = refl }
 
 -- what the words of the line come to with the last one
 pub whole_line : (n : ℕ) (skipped line word : List ℕ) (so_far : Option (List ℕ)) → IsAt n skipped line word so_far

@@ -108,6 +108,6 @@ pub shots_dets : (n : ℕ) (bytes : List ℕ) → All (IsShotOf n) (records_dets
 shots_dets n bytes = all_judged n (bare (line_dets n)) (λ line. judged_dets n (without_return line)) (lines_of bytes) at_end
 
 -- a shot that is given is one of the text's
-pub given_shot : (n : ℕ) (records front : List ℕ → Records Kind) (old new : Reader ℕ) (shot : List ℕ) → ((bytes : List ℕ) → All (IsShotOf n) (records bytes).shots) → Gives records front old new shot → IsShotOf n shot
-given_shot n records front old new shot shots g =
+pub given_shot : (n : ℕ) (records prefix : List ℕ → Records Kind) (old new : Reader ℕ) (shot : List ℕ) → ((bytes : List ℕ) → All (IsShotOf n) (records bytes).shots) → Gives records prefix old new shot → IsShotOf n shot
+given_shot n records prefix old new shot shots g =
     All-head (IsShotOf n) shot (records new.rest).shots (subst (λ (r : Records Kind). All (IsShotOf n) r.shots) g.now (shots old.rest))

@@ -43,8 +43,8 @@ records_b8 (suc n) bytes =
     go_down (block_b8 (suc n)) (whole_blocks (block_len (suc n)) bytes)
     (if length bytes % block_len (suc n) == 0 then at_end else refused ShortRecord)
 
--- what is settled by bytes that may go on
-abbrev pub front_b8 : ℕ → List ℕ → Records Kind
-front_b8 zero [] = only still_open
-front_b8 zero (b ∷ bytes) = only (refused LongRecord)
-front_b8 (suc n) bytes = go_down (block_b8 (suc n)) (whole_blocks (block_len (suc n)) bytes) still_open
+-- what is settled by a prefix of an input
+abbrev pub prefix_b8 : ℕ → List ℕ → Records Kind
+prefix_b8 zero [] = only still_open
+prefix_b8 zero (b ∷ bytes) = only (refused LongRecord)
+prefix_b8 (suc n) bytes = go_down (block_b8 (suc n)) (whole_blocks (block_len (suc n)) bytes) still_open

@@ -7,14 +7,14 @@ use Rattle.fb_shots_stim.specs.declared.sparse.Step.{Step}
 use Rattle.fb_shots_stim.specs.declared.sparse.Step.TheVariants as step
 use Rattle.fb_records.specs.Records.{Reader}
 use Rattle.fb_records.specs.Answers.{Answers}
-use Rattle.fb_shots_stim.specs.TextDets.{records_dets, front_dets, after_record}
+use Rattle.fb_shots_stim.specs.TextDets.{records_dets, prefix_dets, after_record}
 
 -- the answer to a rest of so many detectors, and what it leaves
 abbrev pub AnswersDets : ℕ → List ℕ → Bool → List ℕ → Next Kind → Type 0
 AnswersDets n rest finished left answer =
     let old : Reader ℕ = record { subject = n; rest = rest; finished = finished } in
     let new : Reader ℕ = record { subject = n; rest = left; finished = finished } in
-    Answers records_dets front_dets after_record old new answer
+    Answers records_dets prefix_dets after_record old new answer
 
 -- how many bytes a stop uses
 abbrev pub used_of : Step → ℕ

@@ -4,7 +4,7 @@ use Rattle.std.specs.List.{list_all}
 use Rattle.fb_shots_stim.specs.declared.answer.Kind.{Kind}
 use Rattle.fb_shots_stim.specs.declared.answer.Kind.TheVariants.{BadByte, ShortRecord, LongRecord}
 use Rattle.fb_records.specs.Records.{Ending, still_open, refused, Records, Judged}
-use Rattle.fb_records.specs.Lines.{bare, records_by_lines, front_by_lines}
+use Rattle.fb_records.specs.Lines.{bare, records_by_lines, prefix_by_lines}
 use Rattle.fb_shots_stim.specs.Shots.{places_from}
 
 -- the byte `0` or `1`
@@ -32,6 +32,6 @@ begun_01 n line =
 abbrev pub records_01 : ℕ → List ℕ → Records Kind
 records_01 n = records_by_lines (bare (line_01 n))
 
--- what is settled by bytes that may go on
-abbrev pub front_01 : ℕ → List ℕ → Records Kind
-front_01 n = front_by_lines (bare (line_01 n)) (bare (begun_01 n))
+-- what is settled by a prefix of an input
+abbrev pub prefix_01 : ℕ → List ℕ → Records Kind
+prefix_01 n = prefix_by_lines (bare (line_01 n)) (bare (begun_01 n))

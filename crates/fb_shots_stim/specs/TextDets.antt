@@ -5,7 +5,7 @@ use Rattle.std.specs.Str.{bytes_eq}
 use Rattle.fb_shots_stim.specs.declared.answer.Kind.{Kind}
 use Rattle.fb_shots_stim.specs.declared.answer.Kind.TheVariants.{BadToken, IndexOutOfRange, RepeatedIndex, MeasurementToken}
 use Rattle.fb_records.specs.Records.{Ending, still_open, refused, Records, Judged}
-use Rattle.fb_records.specs.Lines.{whole_parts, last_part, if_not_empty, bare, after_first, records_by_lines, front_by_lines}
+use Rattle.fb_records.specs.Lines.{whole_parts, last_part, if_not_empty, bare, after_first, records_by_lines, prefix_by_lines}
 
 -- ---- words
 
@@ -84,9 +84,9 @@ begun_dets n line = ending_of (with_words n (Ok None) (ended_words line))
 abbrev pub records_dets : ℕ → List ℕ → Records Kind
 records_dets n = records_by_lines (bare (line_dets n))
 
--- what is settled by bytes that may go on
-abbrev pub front_dets : ℕ → List ℕ → Records Kind
-front_dets n = front_by_lines (bare (line_dets n)) (bare (begun_dets n))
+-- what is settled by a prefix of an input
+abbrev pub prefix_dets : ℕ → List ℕ → Records Kind
+prefix_dets n = prefix_by_lines (bare (line_dets n)) (bare (begun_dets n))
 
 -- ---- what an answer uses
 

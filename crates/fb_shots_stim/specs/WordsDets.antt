@@ -3,7 +3,7 @@ use Rattle.std.specs.Prelude.{◌≡◌, ℕ, ◌<◌, ◌≤◌, nat_eq, ◌==�
 use Rattle.std.specs.List.{list_any, sum_by}
 use Rattle.fb_records.specs.Lines.{holds, last_part, part_of}
 use Rattle.fb_records.specs.Answers.{Skips}
-use Rattle.fb_shots_stim.specs.TextDets.{ended_words, with_words, records_dets, front_dets, after_record}
+use Rattle.fb_shots_stim.specs.TextDets.{ended_words, with_words, records_dets, prefix_dets, after_record}
 
 -- a record so far: nothing, or the detectors that it names
 pub record RecordSoFar : Type 0 where
@@ -25,9 +25,9 @@ pub record IsMarked (n : ℕ) (marks : List Bool) (named : List ℕ) : Type 0 wh
 abbrev pub is_word_end : ℕ → Bool
 is_word_end b = b == 32 || b == 10
 
--- Lines that are skipped came, then words of one line that have ended and made so_far, and then the front part of a word.
+-- Lines that are skipped came, then words of one line that have ended and made so_far, and then a prefix of a word.
 pub record IsAt (n : ℕ) (skipped line word : List ℕ) (so_far : Option (List ℕ)) : Type 0 where
-  pub skips : Skips (records_dets n) (front_dets n) after_record skipped
+  pub skips : Skips (records_dets n) (prefix_dets n) after_record skipped
   pub one_line : holds 10 line ≡ false
   pub ended : last_part 32 line ≡ []
   pub read : with_words n (Ok None) (ended_words line) ≡ Ok so_far

@@ -5,7 +5,7 @@ ghost use Rattle.std.specs.List.{list_all};
 ghost use Rattle.fb_records.specs.Lines.{after_line};
 ghost use Rattle.fb_records.specs.Answers.{answer_of, reading, Answers, IfShot};
 ghost use Rattle.fb_shots_stim.specs.Shots.{IsShotOf, places_from};
-ghost use Rattle.fb_shots_stim.specs.Text01.{is_bit, is_one, records_01, front_01};
+ghost use Rattle.fb_shots_stim.specs.Text01.{is_bit, is_one, records_01, prefix_01};
 ghost use Rattle.fb_shots_stim.specs.Step01.{step_01, line_end_01};
 
 use crate::answer::Kind;
@@ -70,8 +70,8 @@ impl Records01 {
     /// Answers by the first record of the bytes that no answer has used. A shot uses up its line, and
     /// nothing else uses any byte.
     pub fn next(&mut self) -> Result<Next<Kind>, NoMemory>
-        ensures answer { IfOk result (λ a. a ≡ answer_of (reading records_01 front_01 self.old)) }
-        ensures meaning { IfOk result (Answers records_01 front_01 after_line self.old self.new) }
+        ensures answer { IfOk result (λ a. a ≡ answer_of (reading records_01 prefix_01 self.old)) }
+        ensures meaning { IfOk result (Answers records_01 prefix_01 after_line self.old self.new) }
         ensures detectors { self.new.subject ≡ self.old.subject }
         ensures finished { self.new.finished ≡ self.old.finished }
         ensures shot { IfOk result (IfShot (IsShotOf self.old.subject)) }

@@ -3,26 +3,26 @@
 ghost use Rattle.std.specs.Prelude.{drop};
 ghost use Rattle.fb_records.specs.Lines.{after_line};
 ghost use Rattle.fb_records.specs.Answers.{FirstRecordLeaves, GoesOnAnywhere};
-ghost use Rattle.fb_shots_stim.specs.Text01.{records_01, front_01};
-ghost use Rattle.fb_shots_stim.specs.BlocksB8.{block_len, records_b8, front_b8};
-ghost use Rattle.fb_shots_stim.specs.TextDets.{after_record, records_dets, front_dets};
+ghost use Rattle.fb_shots_stim.specs.Text01.{records_01, prefix_01};
+ghost use Rattle.fb_shots_stim.specs.BlocksB8.{block_len, records_b8, prefix_b8};
+ghost use Rattle.fb_shots_stim.specs.TextDets.{after_record, records_dets, prefix_dets};
 
-/// However an input in the format `01` is cut into pieces, the answers are the same: what is settled by its front
-/// part are the first shots of the whole, and what that part refuses is refused. Without its first record's bytes it
+/// However an input in the format `01` is cut into pieces, the answers are the same: what is settled by a
+/// prefix are the first shots of the whole, and what that prefix refuses is refused. Without its first record's bytes it
 /// gives the same without its first shot.
 pub fn goes_on_01()
-    ensures whole { GoesOnAnywhere records_01 front_01 }
-    ensures first { FirstRecordLeaves records_01 front_01 (λ n. after_line) }
+    ensures whole { GoesOnAnywhere records_01 prefix_01 }
+    ensures first { FirstRecordLeaves records_01 prefix_01 (λ n. after_line) }
 {}
 
 /// The same of the format `b8`.
 pub fn goes_on_b8()
-    ensures whole { GoesOnAnywhere records_b8 front_b8 }
-    ensures first { FirstRecordLeaves records_b8 front_b8 (λ n. drop (block_len n)) }
+    ensures whole { GoesOnAnywhere records_b8 prefix_b8 }
+    ensures first { FirstRecordLeaves records_b8 prefix_b8 (λ n. drop (block_len n)) }
 {}
 
 /// The same of the format `dets`.
 pub fn goes_on_dets()
-    ensures whole { GoesOnAnywhere records_dets front_dets }
-    ensures first { FirstRecordLeaves records_dets front_dets (λ n. after_record) }
+    ensures whole { GoesOnAnywhere records_dets prefix_dets }
+    ensures first { FirstRecordLeaves records_dets prefix_dets (λ n. after_record) }
 {}

@@ -5,7 +5,7 @@ ghost use Rattle.std.specs.List.{list_any};
 ghost use Rattle.fb_records.specs.Records.{Reader};
 ghost use Rattle.fb_records.specs.Answers.{answer_of, reading, Answers, IfShot};
 ghost use Rattle.fb_shots_stim.specs.Shots.{IsShotOf, places_from};
-ghost use Rattle.fb_shots_stim.specs.BlocksB8.{block_len, low_bits, bits_of, is_set, records_b8, front_b8};
+ghost use Rattle.fb_shots_stim.specs.BlocksB8.{block_len, low_bits, bits_of, is_set, records_b8, prefix_b8};
 
 use crate::answer::Kind;
 use fb_records::{Next, NoMemory, Numbers, Pending};
@@ -65,8 +65,8 @@ impl RecordsB8 {
     /// Answers by the first record of the bytes that no answer has used. A shot uses up its block, and
     /// nothing else uses any byte.
     pub fn next(&mut self) -> Result<Next<Kind>, NoMemory>
-        ensures answer { IfOk result (λ a. a ≡ answer_of (reading records_b8 front_b8 self.old)) }
-        ensures meaning { IfOk result (Answers records_b8 front_b8 (drop (block_len self.old.subject)) self.old self.new) }
+        ensures answer { IfOk result (λ a. a ≡ answer_of (reading records_b8 prefix_b8 self.old)) }
+        ensures meaning { IfOk result (Answers records_b8 prefix_b8 (drop (block_len self.old.subject)) self.old self.new) }
         ensures detectors { self.new.subject ≡ self.old.subject }
         ensures finished { self.new.finished ≡ self.old.finished }
         ensures shot { IfOk result (IfShot (IsShotOf self.old.subject)) }
@@ -91,7 +91,7 @@ impl RecordsB8 {
 fn unfilled(detectors: u32, finished: bool, rest: &[u8]) -> Next<Kind>
     requires { 0 < detectors → length rest.now < block_len detectors }
     ensures { let r : Reader ℕ = record { subject = detectors; rest = rest.now; finished = finished } in
-        Answers records_b8 front_b8 (drop (block_len detectors)) r r result }
+        Answers records_b8 prefix_b8 (drop (block_len detectors)) r r result }
 {
     if rest.is_empty() {
         if finished { Next::End } else { Next::NotYet }

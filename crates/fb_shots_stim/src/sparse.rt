@@ -5,7 +5,7 @@ ghost use Rattle.fb_records.specs.Lines.{holds, if_not_empty, part_of, without_r
 ghost use Rattle.fb_records.specs.Answers.{answer_of, reading, Answers, IfRefused, IfShot};
 ghost use Rattle.fb_records.specs.declared.answer.Next.TheVariants as next;
 ghost use Rattle.fb_shots_stim.specs.Shots.{IsShotOf};
-ghost use Rattle.fb_shots_stim.specs.TextDets.{records_dets, front_dets, after_record, shot_of, with_words};
+ghost use Rattle.fb_shots_stim.specs.TextDets.{records_dets, prefix_dets, after_record, shot_of, with_words};
 ghost use Rattle.fb_shots_stim.specs.WordsDets.{IsPlace, is_word_end};
 ghost use Rattle.fb_shots_stim.specs.StopsDets.{AnswersDets, used_of, answer_at};
 
@@ -79,8 +79,8 @@ impl RecordsDets {
     /// Answers by the first record of the bytes that no answer has used. A shot uses up its line and the lines
     /// without a word before it, and nothing else uses any byte.
     pub fn next(&mut self) -> Result<Next<Kind>, NoMemory>
-        ensures answer { IfOk result (λ a. a ≡ answer_of (reading records_dets front_dets self.old)) }
-        ensures meaning { IfOk result (Answers records_dets front_dets after_record self.old self.new) }
+        ensures answer { IfOk result (λ a. a ≡ answer_of (reading records_dets prefix_dets self.old)) }
+        ensures meaning { IfOk result (Answers records_dets prefix_dets after_record self.old self.new) }
         ensures detectors { self.new.subject ≡ self.old.subject }
         ensures finished { self.new.finished ≡ self.old.finished }
         ensures shot { IfOk result (IfShot (IsShotOf self.old.subject)) }

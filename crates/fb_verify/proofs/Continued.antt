@@ -21,22 +21,22 @@ use Rattle.fb_verify.proofs.ReadRows.{untraced, in_range}
 -- ---- whole rows, and one of which some lines are there
 
 -- the first line, and whole rows, each with its events
-pub record AreRows (front : List ℕ) (rows : List Row) : Type 0 where
+pub record AreRows (prefix : List ℕ) (rows : List Row) : Type 0 where
   pub traced : List TracedRow
-  pub text : front ≡ head_text ++ traced_text 0 traced
+  pub text : prefix ≡ head_text ++ traced_text 0 traced
   pub same : rows_of traced ≡ rows
   pub fits : All IsInRange traced
   pub few : length traced ≤ 2 ^ 32
 
 -- whole rows, and these lines of a further one
-pub record AreRowsAnd (begun front : List ℕ) (rows : List Row) : Type 0 where
+pub record AreRowsAnd (begun prefix : List ℕ) (rows : List Row) : Type 0 where
   pub before : List ℕ
   pub whole : AreRows before rows
-  pub text : front ≡ before ++ begun
+  pub text : prefix ≡ before ++ begun
   pub few : length rows < 2 ^ 32
 
-pub count_same : (front : List ℕ) (rows : List Row) (are : AreRows front rows) → length rows ≡ length are.traced
-count_same front rows are = ap length (sym are.same) ∙ length-map are.traced (λ (t : TracedRow). t.row)
+pub count_same : (prefix : List ℕ) (rows : List Row) (are : AreRows prefix rows) → length rows ≡ length are.traced
+count_same prefix rows are = ap length (sym are.same) ∙ length-map are.traced (λ (t : TracedRow). t.row)
 
 traced_text-append : (k : ℕ) (ts us : List TracedRow) → traced_text k (ts ++ us) ≡ traced_text k ts ++ traced_text (k + length ts) us
 traced_text-append k [] us = let e : k ≡ k + length (let none : List TracedRow = [] in none) = omega arith in ap (λ n. traced_text n us) e
@@ -55,8 +55,8 @@ traced_text-push ts r =
     ∙ ap (λ (l : List ℕ). traced_text 0 ts ++ l) (append-nil (row_text (length ts) r))
 
 -- the row is whole
-pub pushed : (front : List ℕ) (rows : List Row) (r : Row) → IsRowInRange r → AreRowsAnd (row_text (length rows) r) front rows → AreRows front (rows ++ r ∷ [])
-pushed front rows r fits are =
+pub pushed : (prefix : List ℕ) (rows : List Row) (r : Row) → IsRowInRange r → AreRowsAnd (row_text (length rows) r) prefix rows → AreRows prefix (rows ++ r ∷ [])
+pushed prefix rows r fits are =
     let whole = are.whole in
     let few = are.few in
     let count = count_same are.before rows whole in
@@ -107,9 +107,9 @@ added (u ∷ ts) t k e fits fit =
       fits = All-cons IsInRange t later.more (All-head IsInRange t (u ∷ ts) fits) later.fits;
     }
 
-pub told_event : (front : List ℕ) (rows : List Row) (e : Event) → has_none rows ≡ false → IsEventInRange e → AreRows front rows → AreRows (front ++ event_text e) rows
-told_event front rows e some fit are = by_rows are.traced are.text are.same are.fits are.few where
-  by_rows : (traced : List TracedRow) → front ≡ head_text ++ traced_text 0 traced → rows_of traced ≡ rows → All IsInRange traced → length traced ≤ 2 ^ 32 → AreRows (front ++ event_text e) rows
+pub told_event : (prefix : List ℕ) (rows : List Row) (e : Event) → has_none rows ≡ false → IsEventInRange e → AreRows prefix rows → AreRows (prefix ++ event_text e) rows
+told_event prefix rows e some fit are = by_rows are.traced are.text are.same are.fits are.few where
+  by_rows : (traced : List TracedRow) → prefix ≡ head_text ++ traced_text 0 traced → rows_of traced ≡ rows → All IsInRange traced → length traced ≤ 2 ^ 32 → AreRows (prefix ++ event_text e) rows
   by_rows [] text same fits few = absurd (let none = ap has_none same in cc)
   by_rows (t ∷ ts) text same fits few =
       let more = added ts t 0 e fits fit in
@@ -134,26 +134,26 @@ edges_text edges = line (codes "edges") (map decimal edges)
 abbrev pub weight_text : ℕ → List ℕ
 weight_text weight = line (codes "weight") (decimal weight ∷ [])
 
-pub record IsEnded (front : List ℕ) (rows : List Row) (totals : Totals) : Type 0 where
+pub record IsEnded (prefix : List ℕ) (rows : List Row) (totals : Totals) : Type 0 where
   pub traced : List TracedRow
-  pub text : front ≡ report_text traced totals.units totals.fusions
+  pub text : prefix ≡ report_text traced totals.units totals.fusions
   pub same : rows_of traced ≡ rows
   pub fits : IsReportInRange traced totals.units totals.fusions
   pub counts : (totals.rows ≡ length rows) × (totals.odd ≡ count_by is_odd rows)
 
 -- the text so far, by the rows that were read and the place of the next line
 abbrev pub IsPlace : List ℕ → List Row → Place → Type 0
-IsPlace front rows place.Start = (front ≡ []) × (rows ≡ [])
-IsPlace front rows place.InRow = AreRowsAnd (shot_text (length rows)) front rows
-IsPlace front rows (place.Listed edges) = AreRowsAnd (shot_text (length rows) ++ edges_text edges) front rows × All (λ k. k < 2 ^ 32) edges
-IsPlace front rows (place.Cuts edges weight cuts) =
-    AreRowsAnd (row_text (length rows) (row.Best edges weight cuts)) front rows × IsRowInRange (row.Best edges weight cuts)
-IsPlace front rows place.Between = AreRows front rows
-IsPlace front rows (place.End totals) = IsEnded front rows totals
+IsPlace prefix rows place.Start = (prefix ≡ []) × (rows ≡ [])
+IsPlace prefix rows place.InRow = AreRowsAnd (shot_text (length rows)) prefix rows
+IsPlace prefix rows (place.Listed edges) = AreRowsAnd (shot_text (length rows) ++ edges_text edges) prefix rows × All (λ k. k < 2 ^ 32) edges
+IsPlace prefix rows (place.Cuts edges weight cuts) =
+    AreRowsAnd (row_text (length rows) (row.Best edges weight cuts)) prefix rows × IsRowInRange (row.Best edges weight cuts)
+IsPlace prefix rows place.Between = AreRows prefix rows
+IsPlace prefix rows (place.End totals) = IsEnded prefix rows totals
 
 -- one more line of a row
-pub longer : (begun front here all : List ℕ) (rows : List Row) → AreRowsAnd begun front rows → begun ++ here ≡ all → AreRowsAnd all (front ++ here) rows
-longer begun front here all rows are e = record {
+pub longer : (begun prefix here all : List ℕ) (rows : List Row) → AreRowsAnd begun prefix rows → begun ++ here ≡ all → AreRowsAnd all (prefix ++ here) rows
+longer begun prefix here all rows are e = record {
   before = are.before;
   whole = are.whole;
   text = ap (λ (l : List ℕ). l ++ here) are.text ∙ append_assoc are.before begun here ∙ ap (λ (l : List ℕ). are.before ++ l) e;
@@ -184,26 +184,26 @@ best-cut k edges weight cuts c =
     (append_assoc (weight_text weight) all (texts.cut_line c)
     ∙ ap (λ (l : List ℕ). weight_text weight ++ l) (cuts_push cuts c)))
 
-pub edges_listed : (front : List ℕ) (rows : List Row) (edges : List ℕ) → All (λ k. k < 2 ^ 32) edges → IsPlace front rows place.InRow → IsPlace (front ++ edges_text edges) rows (place.Listed edges)
-edges_listed front rows edges fits are = (longer (shot_text (length rows)) front (edges_text edges) _ rows are refl, fits)
+pub edges_listed : (prefix : List ℕ) (rows : List Row) (edges : List ℕ) → All (λ k. k < 2 ^ 32) edges → IsPlace prefix rows place.InRow → IsPlace (prefix ++ edges_text edges) rows (place.Listed edges)
+edges_listed prefix rows edges fits are = (longer (shot_text (length rows)) prefix (edges_text edges) _ rows are refl, fits)
 
-pub weighed : (front : List ℕ) (rows : List Row) (edges : List ℕ) (weight : ℕ) → weight < 2 ^ 64 → IsPlace front rows (place.Listed edges)
-    → IsPlace (front ++ weight_text weight) rows (place.Cuts edges weight [])
-weighed front rows edges weight lt are = (
-  longer _ front (weight_text weight) _ rows are.0 (best-weighed (length rows) edges weight),
+pub weighed : (prefix : List ℕ) (rows : List Row) (edges : List ℕ) (weight : ℕ) → weight < 2 ^ 64 → IsPlace prefix rows (place.Listed edges)
+    → IsPlace (prefix ++ weight_text weight) rows (place.Cuts edges weight [])
+weighed prefix rows edges weight lt are = (
+  longer _ prefix (weight_text weight) _ rows are.0 (best-weighed (length rows) edges weight),
   (are.1, lt, All-nil IsCutInRange),
 )
 
 -- ---- a report begins so
 
-more_begins : (front more : List ℕ) → BeginsReport (front ++ more) → BeginsReport front
-more_begins front more begun = record {
+more_begins : (prefix more : List ℕ) → BeginsReport (prefix ++ more) → BeginsReport prefix
+more_begins prefix more begun = record {
   more = more ++ begun.more;
-  whole = subst IsReport (append_assoc front more begun.more) begun.whole;
+  whole = subst IsReport (append_assoc prefix more begun.more) begun.whole;
 }
 
-pub rows_begin : (front : List ℕ) (rows : List Row) → AreRows front rows → BeginsReport front
-rows_begin front rows are =
+pub rows_begin : (prefix : List ℕ) (rows : List Row) → AreRows prefix rows → BeginsReport prefix
+rows_begin prefix rows are =
     let last = done_text (length are.traced) (count_by is_odd (rows_of are.traced)) 0 0 in
     record {
       more = last;
@@ -216,16 +216,16 @@ rows_begin front rows are =
       };
     }
 
-cuts_begin : (front : List ℕ) (rows : List Row) (edges : List ℕ) (weight : ℕ) (cuts : List Cut) → IsPlace front rows (place.Cuts edges weight cuts) → BeginsReport front
-cuts_begin front rows edges weight cuts are =
-    rows_begin front (rows ++ row.Best edges weight cuts ∷ []) (pushed front rows (row.Best edges weight cuts) are.1 are.0)
+cuts_begin : (prefix : List ℕ) (rows : List Row) (edges : List ℕ) (weight : ℕ) (cuts : List Cut) → IsPlace prefix rows (place.Cuts edges weight cuts) → BeginsReport prefix
+cuts_begin prefix rows edges weight cuts are =
+    rows_begin prefix (rows ++ row.Best edges weight cuts ∷ []) (pushed prefix rows (row.Best edges weight cuts) are.1 are.0)
 
-edges_begin : (front : List ℕ) (rows : List Row) (edges : List ℕ) → IsPlace front rows (place.Listed edges) → BeginsReport front
-edges_begin front rows edges are =
-    more_begins front (weight_text 0) (cuts_begin (front ++ weight_text 0) rows edges 0 [] (weighed front rows edges 0 (omega arith) are))
+edges_begin : (prefix : List ℕ) (rows : List Row) (edges : List ℕ) → IsPlace prefix rows (place.Listed edges) → BeginsReport prefix
+edges_begin prefix rows edges are =
+    more_begins prefix (weight_text 0) (cuts_begin (prefix ++ weight_text 0) rows edges 0 [] (weighed prefix rows edges 0 (omega arith) are))
 
-pub begins : (front : List ℕ) (rows : List Row) (here : Place) → IsPlace front rows here → BeginsReport front
-begins front rows place.Start are =
+pub begins : (prefix : List ℕ) (rows : List Row) (here : Place) → IsPlace prefix rows here → BeginsReport prefix
+begins prefix rows place.Start are =
     let head : AreRows head_text [] = record {
       traced = [];
       text = sym (append-nil head_text);
@@ -234,18 +234,18 @@ begins front rows place.Start are =
       few = omega arith;
     } in
     subst BeginsReport (sym are.0) (more_begins [] head_text (rows_begin head_text [] head))
-begins front rows place.InRow are =
-    more_begins front (edges_text []) (edges_begin (front ++ edges_text []) rows [] (edges_listed front rows [] (All-nil (λ (k : ℕ). k < 2 ^ 32)) are))
-begins front rows (place.Listed edges) are = edges_begin front rows edges are
-begins front rows (place.Cuts edges weight cuts) are = cuts_begin front rows edges weight cuts are
-begins front rows place.Between are = rows_begin front rows are
-begins front rows (place.End totals) are = record {
+begins prefix rows place.InRow are =
+    more_begins prefix (edges_text []) (edges_begin (prefix ++ edges_text []) rows [] (edges_listed prefix rows [] (All-nil (λ (k : ℕ). k < 2 ^ 32)) are))
+begins prefix rows (place.Listed edges) are = edges_begin prefix rows edges are
+begins prefix rows (place.Cuts edges weight cuts) are = cuts_begin prefix rows edges weight cuts are
+begins prefix rows place.Between are = rows_begin prefix rows are
+begins prefix rows (place.End totals) are = record {
   more = [];
   whole = record {
     traced = are.traced;
     units = totals.units;
     fusions = totals.fusions;
     in_range = are.fits;
-    printed = append-nil front ∙ are.text;
+    printed = append-nil prefix ∙ are.text;
   };
 }

@@ -39,11 +39,11 @@ record IsNumeral (n : ℕ) (ds : List ℕ) : Type 0 where
   newline : holds 10 ds ≡ false
 
 numeral_more : (n : ℕ) (ds : List ℕ) → 10 ≤ n → IsNumeral (n / 10) ds → IsNumeral n (ds ++ (48 + n % 10) ∷ [])
-numeral_more n ds le front = record {
-  value = number_from-append 0 ds ((48 + n % 10) ∷ []) ∙ ap (option_and_then (λ m. number_from m ((48 + n % 10) ∷ []))) front.value
+numeral_more n ds le prefix = record {
+  value = number_from-append 0 ds ((48 + n % 10) ∷ []) ∙ ap (option_and_then (λ m. number_from m ((48 + n % 10) ∷ []))) prefix.value
       ∙ number_digit (n / 10) (n % 10) (omega arith) ∙ ap Some (let e : n / 10 * 10 + n % 10 ≡ n = omega arith in e);
-  space = holds_none 32 ds _ front.space (digit_apart 32 (n % 10) (omega arith));
-  newline = holds_none 10 ds _ front.newline (digit_apart 10 (n % 10) (omega arith));
+  space = holds_none 32 ds _ prefix.space (digit_apart 32 (n % 10) (omega arith));
+  newline = holds_none 10 ds _ prefix.newline (digit_apart 10 (n % 10) (omega arith));
 }
 
 numeral : (n : ℕ) → n < 2 ^ 64 → IsNumeral n (decimal n)
@@ -135,13 +135,13 @@ words_joined w (v ∷ vs) p q = split_at 32 w (joined v vs) p.space ∙ ap (λ (
 
 -- a printed line in front of a text
 pub record IsFirst (words : List (List ℕ)) (text more : List ℕ) : Type 0 where
-  pub front : List ℕ
-  pub split : slice_split (λ b. eqb b 10) text ≡ front ∷ slice_split (λ b. eqb b 10) more
-  pub told : words_of front ≡ words
+  pub prefix : List ℕ
+  pub split : slice_split (λ b. eqb b 10) text ≡ prefix ∷ slice_split (λ b. eqb b 10) more
+  pub told : words_of prefix ≡ words
 
 pub first_line : (w : List ℕ) (ws : List (List ℕ)) (more : List ℕ) → IsWord w → AreWords ws → IsFirst (w ∷ ws) (line w ws ++ more) more
 first_line w ws more p q = record {
-  front = joined w ws;
+  prefix = joined w ws;
   split = ap (λ (l : List ℕ). slice_split (λ b. eqb b 10) (l ++ more)) (line-joined w ws)
       ∙ ap (slice_split (λ b. eqb b 10)) (append_assoc (joined w ws) (10 ∷ []) more)
       ∙ split_at 10 (joined w ws) more (joined_newline w ws p q);

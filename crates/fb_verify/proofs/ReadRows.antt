@@ -90,7 +90,7 @@ taken : (n : ℕ) (r next : Reading) (w : List ℕ) (ws : List (List ℕ)) (said
     → read_from n r (lines_in (line w ws ++ more)) ≡ read_from (n + 1) next (lines_in more)
 taken n r next w ws said more p q says stepped =
     let first = first_line w ws more p q in
-    read_taken n r next (line w ws ++ more) first.front more first.split
+    read_taken n r next (line w ws ++ more) first.prefix more first.split
     (ap (λ (words : List (List ℕ)). with_line n r (line_of words)) first.told ∙ ap (with_line n r) says ∙ stepped)
 
 -- ---- between rows

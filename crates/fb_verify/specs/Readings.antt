@@ -40,14 +40,14 @@ newlines text = count_by (λ b. b == 10) text
 
 -- whole lines: none, or the last one too has its newline
 abbrev pub AreLines : List ℕ → Type 0
-AreLines text = (text ≡ []) ⊎ ((front : List ℕ) × (text ≡ front ++ codes "\n"))
+AreLines text = (text ≡ []) ⊎ ((prefix : List ℕ) × (text ≡ prefix ++ codes "\n"))
 
 -- line n of a text, with its newline, behind the lines before it
-pub record IsLine (n : ℕ) (text front here : List ℕ) : Type 0 where
+pub record IsLine (n : ℕ) (text prefix here : List ℕ) : Type 0 where
   pub more : List ℕ
-  pub parts : text ≡ front ++ (here ++ more)
-  pub before : AreLines front
-  pub number : n ≡ newlines front + 1
+  pub parts : text ≡ prefix ++ (here ++ more)
+  pub before : AreLines prefix
+  pub number : n ≡ newlines prefix + 1
   pub one : AreLines here × (newlines here ≡ 1)
 
 -- a line that begins the row of shot k
@@ -57,11 +57,11 @@ BeginsRow k here =
     ⊎ ((v : ℕ) × (v < 2 ^ 32) × (here ≡ line (codes "shot") (decimal k ∷ codes "odd" ∷ decimal v ∷ [])))
 
 -- a line that begins a row, behind whole rows, though not the one that comes next
-pub record IsOutOfTurn (front here : List ℕ) : Type 0 where
+pub record IsOutOfTurn (prefix here : List ℕ) : Type 0 where
   pub traced : List TracedRow
   pub rows : All IsInRange traced
   pub count : length traced ≤ 2 ^ 32
-  pub whole : front ≡ head_text ++ traced_text 0 traced
+  pub whole : prefix ≡ head_text ++ traced_text 0 traced
   pub shot : ℕ
   pub in_range : shot < 2 ^ 32
   pub row : BeginsRow shot here
@@ -71,38 +71,38 @@ pub record IsOutOfTurn (front here : List ℕ) : Type 0 where
 
 -- a report begins with the lines before line n, and none goes on with line n, not as a row out of turn
 pub record IsNoContinuation (n : ℕ) (text : List ℕ) : Type 0 where
-  pub front : List ℕ
+  pub prefix : List ℕ
   pub here : List ℕ
-  pub line : IsLine n text front here
-  pub begun : BeginsReport front
-  pub fails : ¬ BeginsReport (front ++ here)
-  pub in_turn : ¬ IsOutOfTurn front here
+  pub line : IsLine n text prefix here
+  pub begun : BeginsReport prefix
+  pub fails : ¬ BeginsReport (prefix ++ here)
+  pub in_turn : ¬ IsOutOfTurn prefix here
 
 -- the lines before line n are a whole report, and something follows them
 pub record IsBehindReport (n : ℕ) (text : List ℕ) : Type 0 where
-  pub front : List ℕ
+  pub prefix : List ℕ
   pub byte : ℕ
   pub more : List ℕ
-  pub parts : text ≡ front ++ byte ∷ more
-  pub whole : IsReport front
-  pub number : n ≡ newlines front + 1
+  pub parts : text ≡ prefix ++ byte ∷ more
+  pub whole : IsReport prefix
+  pub number : n ≡ newlines prefix + 1
 
 -- line n begins a row that isn't the next one
 pub record IsRowOutOfTurn (n : ℕ) (text : List ℕ) : Type 0 where
-  pub front : List ℕ
+  pub prefix : List ℕ
   pub here : List ℕ
-  pub line : IsLine n text front here
-  pub wrong : IsOutOfTurn front here
+  pub line : IsLine n text prefix here
+  pub wrong : IsOutOfTurn prefix here
 
 -- a report begins with all whole lines of the text, and they aren't one
 pub record IsCutShort (text : List ℕ) : Type 0 where
-  pub front : List ℕ
+  pub prefix : List ℕ
   pub last : List ℕ
-  pub parts : text ≡ front ++ last
-  pub lines : AreLines front
+  pub parts : text ≡ prefix ++ last
+  pub lines : AreLines prefix
   pub no_newline : newlines last ≡ 0
-  pub begun : BeginsReport front
-  pub not_whole : ¬ IsReport front
+  pub begun : BeginsReport prefix
+  pub not_whole : ¬ IsReport prefix
 
 -- what a reading comes to
 abbrev pub IsReadingOf : List ℕ → Result Report ReportFault → Type 0

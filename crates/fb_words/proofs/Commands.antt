@@ -26,7 +26,7 @@ use Rattle.fb_words.specs.InternalOptions.{HasNumber, HasNumberIfGiven, HasOptio
 use Rattle.fb_words.specs.Ranges.{Range}
 use Rattle.fb_words.specs.Ranges as ranges
 use Rattle.fb_words.specs.Seen.{IsFaultOf, usage_of}
-use Rattle.fb_words.specs.Words.{command_errand, errand_of, errand_unless, is_command, is_command_name}
+use Rattle.fb_words.specs.Words.{command_request, request_of, request_unless, is_command, is_command_name}
 use Rattle.fb_words.specs.declared.usage.UsageKind.{UsageKind}
 use Rattle.fb_words.specs.declared.usage.UsageKind.TheVariants as usage
 use Rattle.fb_words.specs.declared.words.WordsFault.{WordsFault}
@@ -342,22 +342,22 @@ names_command : (words : List Text) → fault_of fusion_app words ≡ [] → is_
 names_command words none =
     built_command (built fusion_app) (argument_words fusion_app words) fusion_requires fusion_helps fusion_knows none
 
--- ---- what a parse says of the errand
+-- ---- what a parse says of the request
 
-faultless_errand : (words : List Text) → fault_of fusion_app words ≡ []
-    → errand_of words ≡ command_errand (subcommand_of fusion_app words)
-faultless_errand words none = ap (λ (faults : Kinds). errand_unless faults (subcommand_of fusion_app words)) none
+faultless_request : (words : List Text) → fault_of fusion_app words ≡ []
+    → request_of words ≡ command_request (subcommand_of fusion_app words)
+faultless_request words none = ap (λ (faults : Kinds). request_unless faults (subcommand_of fusion_app words)) none
 
-faulty_errand : (kind : ErrorKind) (faults : Kinds) (command : Option (Text × List Row)) → IsAmong kind faults
-    → errand_unless faults command ≡ Err usage.Parse
-faulty_errand kind [] command among = absurd among
-faulty_errand kind (fault ∷ faults) command among = refl
+faulty_request : (kind : ErrorKind) (faults : Kinds) (command : Option (Text × List Row)) → IsAmong kind faults
+    → request_unless faults command ≡ Err usage.Parse
+faulty_request kind [] command among = absurd among
+faulty_request kind (fault ∷ faults) command among = refl
 
 module _ (a : App) (words : List Text) (is : a ≡ fusion_app) where
   pub parse_passed : (rows : List Row) (command : Option (Text × List Row))
       → (is_simple_and_free a ≡ true → fault_of a words ≡ [])
       → (is_simple a ≡ true → (rows ≡ matches_of a words) × (command ≡ subcommand_of a words))
-      → (is_command command ≡ true) × HasOptions command × (errand_of words ≡ command_errand command)
+      → (is_command command ≡ true) × HasOptions command × (request_of words ≡ command_request command)
   parse_passed rows command no_fault read =
       let none : fault_of fusion_app words ≡ [] = subst (λ (x : App). fault_of x words ≡ []) is
       (no_fault (ap is_simple_and_free is ∙ fusion_is_free)) in
@@ -365,16 +365,16 @@ module _ (a : App) (words : List Text) (is : a ≡ fusion_app) where
       (read (ap is_simple is ∙ fusion_is_simple)).1 in (
         ap is_command same ∙ names_command words none,
         subst HasOptions (sym same) (has_options words none),
-        faultless_errand words none ∙ ap command_errand (sym same),
+        faultless_request words none ∙ ap command_request (sym same),
       )
 
   pub parse_failed : (e : Error) (f : WordsFault) → (is_simple_and_free a ≡ true → HasKind (fault_of a words) e)
       → (kind_of e ≡ kind.OutOfMemory → f ≡ fault.NoMemory) → IfSome (usage_of f) (λ k. k ≡ usage.Parse)
-      → IsFaultOf (errand_of words) f
+      → IsFaultOf (request_of words) f
   parse_failed e f kinds memory parse = elim (kinds (ap is_simple_and_free is ∙ fusion_is_free)) [
     | inl out ↦ rw (memory out) tt
     | inr among ↦
-        let faulty = faulty_errand (kind_of e) (fault_of fusion_app words) (subcommand_of fusion_app words)
+        let faulty = faulty_request (kind_of e) (fault_of fusion_app words) (subcommand_of fusion_app words)
         (subst (λ (x : App). IsAmong (kind_of e) (fault_of x words)) is among) in
         IfSome_then (usage_of f) parse (λ k same. faulty ∙ ap (λ (u : UsageKind). Err u) (sym same))
   ]

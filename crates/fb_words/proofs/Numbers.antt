@@ -13,7 +13,7 @@ use Rattle.fb_words.specs.declared.usage.UsageKind.TheVariants as usage
 use Rattle.fb_words.specs.InternalOptions.{HasDecodeOptions, HasOptions, HasSampleOptions, HasNumber, HasNumberIfGiven, WritesBelow, WritesWithin}
 use Rattle.fb_words.specs.Ranges.{IsWithin, Range}
 use Rattle.fb_words.specs.Ranges as ranges
-use Rattle.fb_words.specs.Words.{Errand, IsInRanges, IsSampleInRanges, accepted_format, check, checking_of, command_errand, decode, decoding_of, errand_with, format_of, given_number, number_in, number_of, option_of, sample, sampling_of, trace_of, window_of, workers_of}
+use Rattle.fb_words.specs.Words.{Request, IsInRanges, IsSampleInRanges, accepted_format, check, checking_of, command_request, decode, decoding_of, request_with, format_of, given_number, number_in, number_of, option_of, sample, sampling_of, trace_of, window_of, workers_of}
 
 -- ---- what a getter returns
 
@@ -80,19 +80,19 @@ default_within name range options default within number = go (one_of name option
     go None h = within
     go (Some word) h = (h.2, h.3)
 
-in_result : (P : Errand → Type 0) (d e : Errand) → ◌≡◌ {A = Result Errand UsageKind} (Ok d) (Ok e) → P d → P e
+in_result : (P : Request → Type 0) (d e : Request) → ◌≡◌ {A = Result Request UsageKind} (Ok d) (Ok e) → P d → P e
 in_result P d e same holds =
     let is : d ≡ e = cc in
     subst P is holds
 
 -- ---- what a command asks for is in the ranges of its options
 
-accepted_in_ranges : (errand : Format → Errand) (format : Result Format UsageKind) (e : Errand)
-    → ((f : Format) → IsInRanges (errand f)) → errand_with format errand ≡ Ok e → IsInRanges e
-accepted_in_ranges errand (Ok format) e within same = in_result IsInRanges _ e same (within format)
-accepted_in_ranges errand (Err kind) e within same = cc
+accepted_in_ranges : (request : Format → Request) (format : Result Format UsageKind) (e : Request)
+    → ((f : Format) → IsInRanges (request f)) → request_with format request ≡ Ok e → IsInRanges e
+accepted_in_ranges request (Ok format) e within same = in_result IsInRanges _ e same (within format)
+accepted_in_ranges request (Err kind) e within same = cc
 
-decoding_in_ranges : (options : List Row) (e : Errand) → HasDecodeOptions options → decoding_of options ≡ Ok e → IsInRanges e
+decoding_in_ranges : (options : List Row) (e : Request) → HasDecodeOptions options → decoding_of options ≡ Ok e → IsInRanges e
 decoding_in_ranges options e has same =
     let graph = option_of (codes "graph") options in
     let plan = option_of (codes "plan") options in
@@ -111,7 +111,7 @@ decoding_in_ranges options e has same =
       default_within (codes "window") ranges.windows options 1 (omega arith, omega arith) has.window,
     )) same
 
-checking_in_ranges : (options : List Row) (e : Errand) → checking_of options ≡ Ok e → IsInRanges e
+checking_in_ranges : (options : List Row) (e : Request) → checking_of options ≡ Ok e → IsInRanges e
 checking_in_ranges options e same =
     let graph = option_of (codes "graph") options in
     let shots = option_of (codes "shots") options in
@@ -131,9 +131,9 @@ sampling_in_ranges options has = record {
   window = default_within (codes "window") ranges.windows options 1 (omega arith, omega arith) has.window;
 }
 
-pub errand_in_ranges : (command : Option (Text × List Row)) (e : Errand) → HasOptions command → command_errand command ≡ Ok e → IsInRanges e
-errand_in_ranges None e has same = cc
-errand_in_ranges (Some command) e has same =
+pub request_in_ranges : (command : Option (Text × List Row)) (e : Request) → HasOptions command → command_request command ≡ Ok e → IsInRanges e
+request_in_ranges None e has same = cc
+request_in_ranges (Some command) e has same =
     go (bytes_eq command.0 (codes "decode")) (bytes_eq command.0 (codes "check")) (bytes_eq command.0 (codes "sample")) has same
   where
     go : (decodes checks samples : Bool)

@@ -1,10 +1,10 @@
 -- What the words ask for, without where its texts lie in memory.
 use Rattle.std.specs.Prelude.{◌≡◌, option_map, Option, Some, None, IfSome, Result, Err}
-use Rattle.fb_words.specs.Words.{Checking, Decoding, Errand, Sampling, check, decode, sample}
+use Rattle.fb_words.specs.Words.{Checking, Decoding, Request, Sampling, check, decode, sample}
 use Rattle.fb_words.specs.declared.words.Checking.{Checking as BorrowedChecking}
 use Rattle.fb_words.specs.declared.words.Decoding.{Decoding as BorrowedDecoding}
-use Rattle.fb_words.specs.declared.words.Errand.{Errand as BorrowedErrand}
-use Rattle.fb_words.specs.declared.words.Errand.TheVariants.{Check, Decode, Sample}
+use Rattle.fb_words.specs.declared.words.Request.{Request as BorrowedRequest}
+use Rattle.fb_words.specs.declared.words.Request.TheVariants.{Check, Decode, Sample}
 use Rattle.fb_words.specs.declared.words.Sampling.{Sampling as ReadSampling}
 use Rattle.fb_words.specs.declared.usage.UsageKind.{UsageKind}
 use Rattle.fb_words.specs.declared.usage.UsageKind.TheVariants as usage
@@ -38,7 +38,7 @@ seen_sampling s = record {
   window = s.window;
 }
 
-abbrev pub seen : BorrowedErrand → Errand
+abbrev pub seen : BorrowedRequest → Request
 seen (Decode d) = decode (seen_decoding d)
 seen (Check c) = check (seen_checking c)
 seen (Sample s) = sample (seen_sampling s)

@@ -43,10 +43,10 @@ pub record Sampling : Type 0 where
   pub window : ℕ
 
 -- what a command line asks for
-pub data Errand : Type 0 where
-  decode : Decoding → Errand
-  check : Checking → Errand
-  sample : Sampling → Errand
+pub data Request : Type 0 where
+  decode : Decoding → Request
+  check : Checking → Request
+  sample : Sampling → Request
 
 -- the format that a word names
 abbrev pub format_of : Text → Option Format
@@ -69,10 +69,10 @@ abbrev pub accepted_format : Option Format → List Text → Result Format Usage
 accepted_format None names = Err usage.Format
 accepted_format (Some format) names = if has_two_inputs names then Err usage.TwoInputs else Ok format
 
--- the errand of a format that is accepted
-abbrev pub errand_with : Result Format UsageKind → (Format → Errand) → Result Errand UsageKind
-errand_with (Ok format) errand = Ok (errand format)
-errand_with (Err kind) errand = Err kind
+-- the request of a format that is accepted
+abbrev pub request_with : Result Format UsageKind → (Format → Request) → Result Request UsageKind
+request_with (Ok format) request = Ok (request format)
+request_with (Err kind) request = Err kind
 
 -- the value of an option; empty where there is none, as may be of the plan alone
 abbrev pub option_of : Text → List Row → Text
@@ -100,13 +100,13 @@ window_of options = unwrap_or (number_of (codes "window") options) 1
 abbrev pub trace_of : List Row → Bool
 trace_of options = option_map_or (λ word. bytes_eq word (codes "true")) (one_of (codes "trace") options) false
 
--- the errand of `decode` with these options
-abbrev pub decoding_of : List Row → Result Errand UsageKind
+-- the request of `decode` with these options
+abbrev pub decoding_of : List Row → Result Request UsageKind
 decoding_of options =
     let graph = option_of (codes "graph") options in
     let plan = option_of (codes "plan") options in
     let shots = option_of (codes "shots") options in
-    errand_with (accepted_format (format_of (option_of (codes "format") options)) (graph ∷ plan ∷ shots ∷ []))
+    request_with (accepted_format (format_of (option_of (codes "format") options)) (graph ∷ plan ∷ shots ∷ []))
     (λ format. decode (record {
       graph = graph;
       plan = first_of (codes "plan") options;
@@ -117,16 +117,16 @@ decoding_of options =
       trace = trace_of options;
     }))
 
--- the errand of `check` with these options
-abbrev pub checking_of : List Row → Result Errand UsageKind
+-- the request of `check` with these options
+abbrev pub checking_of : List Row → Result Request UsageKind
 checking_of options =
     let graph = option_of (codes "graph") options in
     let shots = option_of (codes "shots") options in
     let report = option_of (codes "report") options in
-    errand_with (accepted_format (format_of (option_of (codes "format") options)) (graph ∷ shots ∷ report ∷ []))
+    request_with (accepted_format (format_of (option_of (codes "format") options)) (graph ∷ shots ∷ report ∷ []))
     (λ format. check (record { graph = graph; shots = shots; format = format; report = report }))
 
--- the errand of `sample` with these options
+-- the request of `sample` with these options
 abbrev pub sampling_of : List Row → Sampling
 sampling_of options = record {
   distance = given_number (codes "distance") options;
@@ -148,23 +148,23 @@ abbrev pub is_command : Option (Text × List Row) → Bool
 is_command None = false
 is_command (Some command) = is_command_name command.0
 
--- the errand of a command with its options; words that clap takes name one of these
-abbrev pub command_errand : Option (Text × List Row) → Result Errand UsageKind
-command_errand None = Err usage.Parse
-command_errand (Some command) =
+-- the request of a command with its options; words that clap takes name one of these
+abbrev pub command_request : Option (Text × List Row) → Result Request UsageKind
+command_request None = Err usage.Parse
+command_request (Some command) =
     if bytes_eq command.0 (codes "decode") then decoding_of command.1
     else (if bytes_eq command.0 (codes "check") then checking_of command.1
     else (if bytes_eq command.0 (codes "sample") then Ok (sample (sampling_of command.1)) else Err usage.Parse))
 
--- the errand of a command, where clap finds no fault in the words
-abbrev pub errand_unless : Kinds → Option (Text × List Row) → Result Errand UsageKind
-errand_unless [] command = command_errand command
-errand_unless (fault ∷ faults) command = Err usage.Parse
+-- the request of a command, where clap finds no fault in the words
+abbrev pub request_unless : Kinds → Option (Text × List Row) → Result Request UsageKind
+request_unless [] command = command_request command
+request_unless (fault ∷ faults) command = Err usage.Parse
 
 -- What the words ask for, or what is wrong with them, whichever is first: clap doesn't take them, or they ask it for
 -- help or the version; `--format` is none of the four; more than one name is that of standard input.
-abbrev pub errand_of : List Text → Result Errand UsageKind
-errand_of words = errand_unless (fault_of fusion_app words) (subcommand_of fusion_app words)
+abbrev pub request_of : List Text → Result Request UsageKind
+request_of words = request_unless (fault_of fusion_app words) (subcommand_of fusion_app words)
 
 -- the numbers are in the ranges of their options
 pub record IsSampleInRanges (s : Sampling) : Type 0 where
@@ -177,7 +177,7 @@ pub record IsSampleInRanges (s : Sampling) : Type 0 where
   pub workers : IsWithin ranges.workers s.workers
   pub window : IsWithin ranges.windows s.window
 
-abbrev pub IsInRanges : Errand → Type 0
+abbrev pub IsInRanges : Request → Type 0
 IsInRanges (decode d) = IsWithin ranges.workers d.workers × IsWithin ranges.windows d.window
 IsInRanges (check c) = ⊤
 IsInRanges (sample s) = IsSampleInRanges s

@@ -8,4 +8,4 @@ mod usage;
 mod words;
 
 pub use usage::UsageKind;
-pub use words::{Checking, Decoding, Errand, Sampling, WordsFault, read_words};
+pub use words::{Checking, Decoding, Request, Sampling, WordsFault, read_words};

@@ -7,7 +7,7 @@ ghost use Rattle.fb_words.specs.declared.usage.UsageKind.{UsageKind};
 ghost use Rattle.fb_words.specs.InternalOptions.{HasDecodeOptions, HasNumberIfGiven, HasOptions, HasSampleOptions, WritesBelow};
 ghost use Rattle.fb_words.specs.Ranges as ranges;
 ghost use Rattle.fb_words.specs.Seen.{IsFaultOf, seen, seen_sampling, usage_of};
-ghost use Rattle.fb_words.specs.Words.{IsInRanges, accepted_format, checking_of, command_errand, decoding_of, errand_of, format_of, has_two_inputs, is_command, number_of, option_of, sampling_of, trace_of, window_of, workers_of};
+ghost use Rattle.fb_words.specs.Words.{IsInRanges, accepted_format, checking_of, command_request, decoding_of, request_of, format_of, has_two_inputs, is_command, number_of, option_of, sampling_of, trace_of, window_of, workers_of};
 
 use crate::command::fusion;
 use clap::ArgMatches;
@@ -17,7 +17,7 @@ use std::alloc::Global;
 
 /// What a command line asks for.
 #[derive(Clone, Copy)]
-pub enum Errand<'a> {
+pub enum Request<'a> {
     Decode(Decoding<'a>),
     Check(Checking<'a>),
     Sample(Sampling),
@@ -66,7 +66,7 @@ pub struct Sampling {
     pub window: u32,
 }
 
-/// Why the words give no errand.
+/// Why the words give no request.
 #[derive(Debug, Drop)]
 pub enum WordsFault {
     /// They are no command with its options, or they ask for help or the version. The text is for the user, of whole lines.
@@ -80,17 +80,17 @@ pub enum WordsFault {
 }
 
 /// Reads the words of a command line, the program's name first.
-pub fn read_words<'a>(alloc: Global, words: &'a [String]) -> Result<Errand<'a>, WordsFault>
-    ensures errand { IfOk result (λ e. errand_of (map string_bytes words.entry.now) ≡ Ok (seen e)) }
+pub fn read_words<'a>(alloc: Global, words: &'a [String]) -> Result<Request<'a>, WordsFault>
+    ensures request { IfOk result (λ e. request_of (map string_bytes words.entry.now) ≡ Ok (seen e)) }
     ensures ranges { IfOk result (λ e. IsInRanges (seen e)) }
-    ensures fault { IfErr result (IsFaultOf (errand_of (map string_bytes words.entry.now))) }
+    ensures fault { IfErr result (IsFaultOf (request_of (map string_bytes words.entry.now))) }
 
     // Words that `clap` takes aren't refused as a whole.
     ensures takes { takes fusion_app (map string_bytes words.entry.now) ≡ true
         → IfErr result (λ f. usage_of f ≢ Some UsageKind.Parse) }
 {
     match parse(alloc, words) {
-        Ok(matches) => read_errand(&matches),
+        Ok(matches) => read_request(&matches),
         Err(fault) => Err(fault),
     }
 }
@@ -99,9 +99,9 @@ pub fn read_words<'a>(alloc: Global, words: &'a [String]) -> Result<Errand<'a>, 
 fn parse<'a>(alloc: Global, words: &'a [String]) -> Result<ArgMatches<'a>, WordsFault>
     ensures command { IfOk result (λ m. is_command (subcommand_rows_of m) ≡ true) }
     ensures options { IfOk result (λ m. HasOptions (subcommand_rows_of m)) }
-    ensures errand { IfOk result (λ m. errand_of (map string_bytes words.entry.now)
-        ≡ command_errand (subcommand_rows_of m)) }
-    ensures fault { IfErr result (IsFaultOf (errand_of (map string_bytes words.entry.now))) }
+    ensures request { IfOk result (λ m. request_of (map string_bytes words.entry.now)
+        ≡ command_request (subcommand_rows_of m)) }
+    ensures fault { IfErr result (IsFaultOf (request_of (map string_bytes words.entry.now))) }
     ensures takes { takes fusion_app (map string_bytes words.entry.now) ≡ true
         → IfErr result (λ f. usage_of f ≢ Some UsageKind.Parse) }
 {
@@ -114,27 +114,27 @@ fn parse<'a>(alloc: Global, words: &'a [String]) -> Result<ArgMatches<'a>, Words
     }
 }
 
-/// The errand of the command that was parsed.
-fn read_errand<'a>(matches: &ArgMatches<'a>) -> Result<Errand<'a>, WordsFault>
+/// The request of the command that was parsed.
+fn read_request<'a>(matches: &ArgMatches<'a>) -> Result<Request<'a>, WordsFault>
     requires command { is_command (subcommand_rows_of matches.now) ≡ true }
     requires options { HasOptions (subcommand_rows_of matches.now) }
-    ensures errand { IfOk result (λ e. command_errand (subcommand_rows_of matches.now) ≡ Ok (seen e)) }
-    ensures fault { IfErr result (IsFaultOf (command_errand (subcommand_rows_of matches.now))) }
+    ensures request { IfOk result (λ e. command_request (subcommand_rows_of matches.now) ≡ Ok (seen e)) }
+    ensures fault { IfErr result (IsFaultOf (command_request (subcommand_rows_of matches.now))) }
     ensures parsed { IfErr result (λ f. usage_of f ≢ Some UsageKind.Parse) }
 {
     match matches.subcommand() {
         Some(("decode", options)) => read_decoding(options),
         Some(("check", options)) => read_checking(options),
-        Some(("sample", options)) => Ok(Errand::Sample(read_sampling(options))),
+        Some(("sample", options)) => Ok(Request::Sample(read_sampling(options))),
         _ => unreachable!(),
     }
 }
 
-/// The errand of the command `decode` with these options.
+/// The request of the command `decode` with these options.
 #[tactic(auto, using(crate::proofs::Commands::rows))]
-fn read_decoding<'a>(options: &ArgMatches<'a>) -> Result<Errand<'a>, WordsFault>
+fn read_decoding<'a>(options: &ArgMatches<'a>) -> Result<Request<'a>, WordsFault>
     requires { HasDecodeOptions (rows_of (found_of options.now)) }
-    ensures errand { IfOk result (λ e. decoding_of (rows_of (found_of options.now)) ≡ Ok (seen e)) }
+    ensures request { IfOk result (λ e. decoding_of (rows_of (found_of options.now)) ≡ Ok (seen e)) }
     ensures fault { IfErr result (IsFaultOf (decoding_of (rows_of (found_of options.now)))) }
     ensures parsed { IfErr result (λ f. usage_of f ≢ Some UsageKind.Parse) }
 {
@@ -143,7 +143,7 @@ fn read_decoding<'a>(options: &ArgMatches<'a>) -> Result<Errand<'a>, WordsFault>
     let shots = option(options, "shots");
     let names = [graph, plan.unwrap_or(""), shots];
     match accepted_format(option(options, "format"), &names) {
-        Ok(format) => Ok(Errand::Decode(Decoding {
+        Ok(format) => Ok(Request::Decode(Decoding {
             graph,
             plan,
             shots,
@@ -156,9 +156,9 @@ fn read_decoding<'a>(options: &ArgMatches<'a>) -> Result<Errand<'a>, WordsFault>
     }
 }
 
-/// The errand of the command `check` with these options.
-fn read_checking<'a>(options: &ArgMatches<'a>) -> Result<Errand<'a>, WordsFault>
-    ensures errand { IfOk result (λ e. checking_of (rows_of (found_of options.now)) ≡ Ok (seen e)) }
+/// The request of the command `check` with these options.
+fn read_checking<'a>(options: &ArgMatches<'a>) -> Result<Request<'a>, WordsFault>
+    ensures request { IfOk result (λ e. checking_of (rows_of (found_of options.now)) ≡ Ok (seen e)) }
     ensures fault { IfErr result (IsFaultOf (checking_of (rows_of (found_of options.now)))) }
     ensures parsed { IfErr result (λ f. usage_of f ≢ Some UsageKind.Parse) }
 {
@@ -166,7 +166,7 @@ fn read_checking<'a>(options: &ArgMatches<'a>) -> Result<Errand<'a>, WordsFault>
     let shots = option(options, "shots");
     let report = option(options, "report");
     match accepted_format(option(options, "format"), &[graph, shots, report]) {
-        Ok(format) => Ok(Errand::Check(Checking {
+        Ok(format) => Ok(Request::Check(Checking {
             graph,
             shots,
             format,

@@ -60,7 +60,7 @@ returns-in_default-flush_if_full-clause-first g c =
     (g.O.Sink.taken c.args.out.now) (g.O.Sink.taken c.loop-step.out) (g.O.Sink.taken c.flush_if_full.new.out) c.judge_next.new.outbox.text _ _
     (given_first c.args.stream c.next_shot.new.self (g.F.Files.left c.args.files.now) (g.F.Files.left c.next_shot.new.files) _ c.requires.fresh
     (given_at g at))
-    (judging_at g at) c.in_default-flush_if_full.ensures.front
+    (judging_at g at) c.in_default-flush_if_full.ensures.prefix
 
 pub loop-step-preserved : goal.loop-step-preserved
 loop-step-preserved g c =

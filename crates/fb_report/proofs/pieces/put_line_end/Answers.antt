@@ -1,11 +1,11 @@
 use Rattle.std.proofs.Common.{◌∙◌}
 use Rattle.std.proofs.lemmas.Result.{on_ok_weaker, on_err_weaker}
-use Rattle.fb_report.proofs.Lines.{numbers_onward, numbers_front, numbers_whole, newline_front}
+use Rattle.fb_report.proofs.Lines.{numbers_onward, numbers_prefix, numbers_whole, newline_prefix}
 use Rattle.fb_report.proofs.pieces.put_line_end.Goals as goal
 
-pub returns-in_default-clause-front : goal.returns-in_default-clause-front
-returns-in_default-clause-front g c = numbers_front _ _ _ _ _ _ _ c.loop-number-test.true c.from.ensures
-    c.loop-number.invariant.0 c.in_default.ensures.front
+pub returns-in_default-clause-prefix : goal.returns-in_default-clause-prefix
+returns-in_default-clause-prefix g c = numbers_prefix _ _ _ _ _ _ _ c.loop-number-test.true c.from.ensures
+    c.loop-number.invariant.0 c.in_default.ensures.prefix
 
 pub loop-number-preserved : goal.loop-number-preserved
 loop-number-preserved g c = (
@@ -17,6 +17,6 @@ pub returns-clause-all : goal.returns-clause-all
 returns-clause-all g c = on_ok_weaker c.put_all.result
     (numbers_whole _ _ _ _ _ c.loop-number-test.false c.loop-number.invariant.0) c.put_all.ensures.all
 
-pub returns-clause-front : goal.returns-clause-front
-returns-clause-front g c = on_err_weaker c.put_all.result
-    (newline_front _ _ _ _ _ c.loop-number-test.false c.loop-number.invariant.0) c.put_all.ensures.front
+pub returns-clause-prefix : goal.returns-clause-prefix
+returns-clause-prefix g c = on_err_weaker c.put_all.result
+    (newline_prefix _ _ _ _ _ c.loop-number-test.false c.loop-number.invariant.0) c.put_all.ensures.prefix

@@ -5,7 +5,7 @@ use Rattle.fb_run.proofs.batches.decode_stream.Given as goal
 
 abbrev pub invariant-loop-next : goal.invariant-loop-next
 invariant-loop-next g l = record {
-  decoding : IsDecoding (seen_decoding l.errand) l.initial.crew.plan l.initial.stream (g.F.Files.left l.initial.files)
+  decoding : IsDecoding (seen_decoding l.request) l.initial.crew.plan l.initial.stream (g.F.Files.left l.initial.files)
       (g.O.Sink.taken l.initial.out) l.stream (g.F.Files.left l.files) (g.O.Sink.taken l.out) l.tally;
   crew : l.crew ≡ l.initial.crew;
   empty : l.outbox.text ≡ [];

@@ -28,7 +28,7 @@ with_window-sums-requires-clause-rows g c = omega (
 pub loop-drawn-preserved : goal.loop-drawn-preserved
 loop-drawn-preserved g c =
     let edges = length c.args.graph.now.edges in
-    let start = c.args.errand.now.start in
+    let start = c.args.request.now.start in
     let drawn = c.loop-drawn.drawn in
     let count = c.min-count.result in
     let shots = c.in_ok-shots.shots.items in
@@ -36,7 +36,7 @@ loop-drawn-preserved g c =
     let graph = ap (λ crew. crew.graph) (c.loop-drawn.invariant.crew ∙ c.in_ok-crew.ensures) in
     let decoded : AreRows c.args.graph.now shots rows = rw (sym graph, sym c.as_slice.ensures.value) c.in_ok-window.ensures.rows in
     let as_many = AllZip-long (IsShotRow c.args.graph.now) shots rows decoded in record {
-      sums = more_sums c.args.graph.now c.args.errand.now.rate start c.loop-drawn.draws drawn count c.loop-drawn.sums.defects
+      sums = more_sums c.args.graph.now c.args.request.now.rate start c.loop-drawn.draws drawn count c.loop-drawn.sums.defects
           c.loop-drawn.sums.weight c.with_window-sums.result.defects c.with_window-sums.result.weight shots rows c.loop-drawn.invariant.sums
           c.loop-drawn.invariant.state c.in_ok-shots.ensures.shots decoded
           (c.with_window-sums.ensures.defects ∙ ap (λ xs. c.loop-drawn.sums.defects + defects_in xs) c.as_slice-in-loop-drawn.ensures.value)

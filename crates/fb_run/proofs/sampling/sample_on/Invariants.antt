@@ -5,13 +5,13 @@ use Rattle.fb_run.proofs.sampling.sample_on.Given as goal
 
 abbrev pub invariant-loop-drawn : goal.invariant-loop-drawn
 invariant-loop-drawn g l = record {
-  sums : HaveSums l.graph l.errand.rate l.errand.start l.drawn l.sums.defects l.sums.weight;
-  state : l.draws ≡ state_after l.errand.start (l.drawn * length l.graph.edges);
+  sums : HaveSums l.graph l.request.rate l.request.start l.drawn l.sums.defects l.sums.weight;
+  state : l.draws ≡ state_after l.request.start (l.drawn * length l.graph.edges);
   crew : l.crew ≡ l.initial.crew;
-  drawn : l.drawn ≤ l.errand.shots;
+  drawn : l.drawn ≤ l.request.shots;
   defects : l.sums.defects ≤ 2 ^ 20 * l.drawn;
   weight : l.sums.weight ≤ 2 ^ 64 * l.drawn;
 }
 
 abbrev pub decreases-loop-drawn : goal.decreases-loop-drawn
-decreases-loop-drawn g l = l.errand.shots - l.drawn
+decreases-loop-drawn g l = l.request.shots - l.drawn

@@ -15,8 +15,8 @@ returns-in-Ok-try_get_matches_from-clause-options c =
     (parse_passed (app_of c.in-Ok.command) (map string_bytes c.args.words.now) c.in-Ok.ensures (rows_of (found_of parse.matches))
     (subcommand_rows_of parse.matches) parse.ensures.kinds parse.ensures.matches).1
 
-pub returns-in-Ok-try_get_matches_from-clause-errand : goal.returns-in-Ok-try_get_matches_from-clause-errand
-returns-in-Ok-try_get_matches_from-clause-errand c =
+pub returns-in-Ok-try_get_matches_from-clause-request : goal.returns-in-Ok-try_get_matches_from-clause-request
+returns-in-Ok-try_get_matches_from-clause-request c =
     let parse = c.in-Ok-try_get_matches_from in
     (parse_passed (app_of c.in-Ok.command) (map string_bytes c.args.words.now) c.in-Ok.ensures (rows_of (found_of parse.matches))
     (subcommand_rows_of parse.matches) parse.ensures.kinds parse.ensures.matches).2

@@ -4,9 +4,9 @@ use Rattle.fb_graph.specs.Layout.{detectors_of}
 use Rattle.fb_graph.specs.Limits.{DecodingGraph, IsShot}
 use Rattle.fb_records.specs.Answers.{IfShot}
 use Rattle.fb_records.specs.Lines.{after_line}
-use Rattle.fb_shots_stim.specs.Text01.{records_01, front_01}
-use Rattle.fb_shots_stim.specs.BlocksB8.{block_len, records_b8, front_b8}
-use Rattle.fb_shots_stim.specs.TextDets.{after_record, records_dets, front_dets}
+use Rattle.fb_shots_stim.specs.Text01.{records_01, prefix_01}
+use Rattle.fb_shots_stim.specs.BlocksB8.{block_len, records_b8, prefix_b8}
+use Rattle.fb_shots_stim.specs.TextDets.{after_record, records_dets, prefix_dets}
 use Rattle.fb_shots.specs.declared.answer.Format.TheVariants as format
 use Rattle.fb_shots.specs.declared.reader.FormatReader.{FormatReader}
 use Rattle.fb_shots.specs.declared.reader.FormatReader.TheVariants.{Text01, B8, Dets, Json}
@@ -24,8 +24,8 @@ returns-in_ok-next-in-Text01-clause-meaning c =
     let new = c.next.new.self in
     let n : old.subject ≡ length (detectors_of g) = subst (IsReaderOf g) c.in-Text01.is c.requires in
     subst₂ (λ (r : FormatReader) (a : Next). Answers (source_of g r) (source_of g (Text01 new)) a) (sym c.in-Text01.is) (sym c.on_vertices.ensures)
-    (stim_right format.Text01 g records_01 front_01 after_line old new c.in_ok-next-in-Text01.field-0
-    (λ bytes. ap (λ (m : ℕ). of_stim g (records_01 m bytes)) (sym n)) (λ bytes. ap (λ (m : ℕ). of_stim g (front_01 m bytes)) (sym n))
+    (stim_right format.Text01 g records_01 prefix_01 after_line old new c.in_ok-next-in-Text01.field-0
+    (λ bytes. ap (λ (m : ℕ). of_stim g (records_01 m bytes)) (sym n)) (λ bytes. ap (λ (m : ℕ). of_stim g (prefix_01 m bytes)) (sym n))
     n c.in_ok-next-in-Text01.ensures.shot c.in_ok-next-in-Text01.ensures.meaning)
 
 pub returns-in_ok-next-in-B8-clause-meaning : goal.returns-in_ok-next-in-B8-clause-meaning
@@ -35,8 +35,8 @@ returns-in_ok-next-in-B8-clause-meaning c =
     let new = c.next-in-B8.new.self in
     let n : old.subject ≡ length (detectors_of g) = subst (IsReaderOf g) c.in-B8.is c.requires in
     subst₂ (λ (r : FormatReader) (a : Next). Answers (source_of g r) (source_of g (B8 new)) a) (sym c.in-B8.is) (sym c.on_vertices-in-B8.ensures)
-    (stim_right format.B8 g records_b8 front_b8 (drop (block_len old.subject)) old new c.in_ok-next-in-B8.field-0
-    (λ bytes. ap (λ (m : ℕ). of_stim g (records_b8 m bytes)) (sym n)) (λ bytes. ap (λ (m : ℕ). of_stim g (front_b8 m bytes)) (sym n))
+    (stim_right format.B8 g records_b8 prefix_b8 (drop (block_len old.subject)) old new c.in_ok-next-in-B8.field-0
+    (λ bytes. ap (λ (m : ℕ). of_stim g (records_b8 m bytes)) (sym n)) (λ bytes. ap (λ (m : ℕ). of_stim g (prefix_b8 m bytes)) (sym n))
     n c.in_ok-next-in-B8.ensures.shot c.in_ok-next-in-B8.ensures.meaning)
 
 pub returns-in_ok-next-in-Dets-clause-meaning : goal.returns-in_ok-next-in-Dets-clause-meaning
@@ -46,8 +46,8 @@ returns-in_ok-next-in-Dets-clause-meaning c =
     let new = c.next-in-Dets.new.self in
     let n : old.subject ≡ length (detectors_of g) = subst (IsReaderOf g) c.in-Dets.is c.requires in
     subst₂ (λ (r : FormatReader) (a : Next). Answers (source_of g r) (source_of g (Dets new)) a) (sym c.in-Dets.is) (sym c.on_vertices-in-Dets.ensures)
-    (stim_right format.Dets g records_dets front_dets after_record old new c.in_ok-next-in-Dets.field-0
-    (λ bytes. ap (λ (m : ℕ). of_stim g (records_dets m bytes)) (sym n)) (λ bytes. ap (λ (m : ℕ). of_stim g (front_dets m bytes)) (sym n))
+    (stim_right format.Dets g records_dets prefix_dets after_record old new c.in_ok-next-in-Dets.field-0
+    (λ bytes. ap (λ (m : ℕ). of_stim g (records_dets m bytes)) (sym n)) (λ bytes. ap (λ (m : ℕ). of_stim g (prefix_dets m bytes)) (sym n))
     n c.in_ok-next-in-Dets.ensures.shot c.in_ok-next-in-Dets.ensures.meaning)
 
 pub returns-in_ok-next-in-Json-clause-meaning : goal.returns-in_ok-next-in-Json-clause-meaning

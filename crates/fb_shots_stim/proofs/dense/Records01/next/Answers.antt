@@ -1,6 +1,6 @@
 use Rattle.std.proofs.Common.{sym, ◌∙◌}
 use Rattle.fb_records.specs.Lines.{after_line}
-use Rattle.fb_shots_stim.specs.Text01.{records_01, front_01}
+use Rattle.fb_shots_stim.specs.Text01.{records_01, prefix_01}
 use Rattle.fb_shots_stim.specs.declared.dense.Step.TheVariants.{Line, NotYet, Refused}
 use Rattle.fb_records.proofs.AnswerLemmas.{answer_from}
 use Rattle.fb_shots_stim.proofs.Lemmas01.{next_right}
@@ -24,15 +24,15 @@ returns-in_ok-shot-in-Line-clause-meaning c =
     (next_right _ _ _ _ _ _ (Line c.in-Line.used) c.self.view_is c.as_slice-rest.ensures at.bits at.most at.within at.stops (sym c.in-Line.is ∙ c.step_at.ensures))
 
 pub returns-in-NotYet-clause-answer : goal.returns-in-NotYet-clause-answer
-returns-in-NotYet-clause-answer c = answer_from records_01 front_01 after_line _ _ _ (returns-in-NotYet-clause-meaning c)
+returns-in-NotYet-clause-answer c = answer_from records_01 prefix_01 after_line _ _ _ (returns-in-NotYet-clause-meaning c)
 
 pub returns-in-Refused-clause-answer : goal.returns-in-Refused-clause-answer
-returns-in-Refused-clause-answer c = answer_from records_01 front_01 after_line _ _ _ (returns-in-Refused-clause-meaning c)
+returns-in-Refused-clause-answer c = answer_from records_01 prefix_01 after_line _ _ _ (returns-in-Refused-clause-meaning c)
 
 pub returns-in_ok-shot-in-Line-clause-answer : goal.returns-in_ok-shot-in-Line-clause-answer
-returns-in_ok-shot-in-Line-clause-answer c = answer_from records_01 front_01 after_line _ _ _ (returns-in_ok-shot-in-Line-clause-meaning c)
+returns-in_ok-shot-in-Line-clause-answer c = answer_from records_01 prefix_01 after_line _ _ _ (returns-in_ok-shot-in-Line-clause-meaning c)
 
 pub returns-in_ok-shot-in-Line-clause-shot : goal.returns-in_ok-shot-in-Line-clause-shot
 returns-in_ok-shot-in-Line-clause-shot c =
     let n = c.args.self.now.subject in
-    given_shot n (records_01 n) (front_01 n) _ _ _ (shots_01 n) (returns-in_ok-shot-in-Line-clause-meaning c).0
+    given_shot n (records_01 n) (prefix_01 n) _ _ _ (shots_01 n) (returns-in_ok-shot-in-Line-clause-meaning c).0

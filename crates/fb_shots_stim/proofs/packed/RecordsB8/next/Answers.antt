@@ -1,5 +1,5 @@
 use Rattle.std.proofs.Common.{drop, arith}
-use Rattle.fb_shots_stim.specs.BlocksB8.{block_len, records_b8, front_b8}
+use Rattle.fb_shots_stim.specs.BlocksB8.{block_len, records_b8, prefix_b8}
 use Rattle.fb_records.proofs.AnswerLemmas.{answer_from}
 use Rattle.fb_shots_stim.proofs.LemmasB8.{next_refused, next_shot}
 use Rattle.fb_shots_stim.proofs.ShotLemmas.{shots_b8, given_shot}
@@ -11,7 +11,7 @@ returns-then-has_padding-clause-meaning c =
 
 pub returns-then-has_padding-clause-answer : goal.returns-then-has_padding-clause-answer
 returns-then-has_padding-clause-answer c =
-    answer_from records_b8 front_b8 (drop (block_len c.args.self.now.subject)) _ _ _ (returns-then-has_padding-clause-meaning c)
+    answer_from records_b8 prefix_b8 (drop (block_len c.args.self.now.subject)) _ _ _ (returns-then-has_padding-clause-meaning c)
 
 pub returns-clause-meaning : goal.returns-clause-meaning
 returns-clause-meaning c =
@@ -20,9 +20,9 @@ returns-clause-meaning c =
 
 pub returns-clause-answer : goal.returns-clause-answer
 returns-clause-answer c =
-    answer_from records_b8 front_b8 (drop (block_len c.args.self.now.subject)) _ _ _ (returns-clause-meaning c)
+    answer_from records_b8 prefix_b8 (drop (block_len c.args.self.now.subject)) _ _ _ (returns-clause-meaning c)
 
 pub returns-clause-shot : goal.returns-clause-shot
 returns-clause-shot c =
     let n = c.args.self.now.subject in
-    given_shot n (records_b8 n) (front_b8 n) _ _ _ (shots_b8 n) (returns-clause-meaning c).0
+    given_shot n (records_b8 n) (prefix_b8 n) _ _ _ (shots_b8 n) (returns-clause-meaning c).0

@@ -1,9 +1,9 @@
 use Rattle.std.proofs.Common.{◌≡◌, ◌++◌, drop}
-use Rattle.fb_shots_json.specs.Entries.{real_front, first_fault}
-use Rattle.fb_shots_json.proofs.entries.real_front.Given as goal
+use Rattle.fb_shots_json.specs.Entries.{real_prefix, first_fault}
+use Rattle.fb_shots_json.proofs.entries.real_prefix.Given as goal
 
 -- the entries so far, and the rest
 abbrev pub invariant-loop-entry : goal.invariant-loop-entry
 invariant-loop-entry l =
-    (real_front l.graph l.listed ≡ l.found.items ++ real_front l.graph (drop l.entry-index l.listed))
+    (real_prefix l.graph l.listed ≡ l.found.items ++ real_prefix l.graph (drop l.entry-index l.listed))
     × (first_fault l.graph l.listed ≡ first_fault l.graph (drop l.entry-index l.listed))
