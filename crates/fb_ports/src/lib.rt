@@ -2,7 +2,7 @@
 
 //! The ports to the outside: files that are read by name, and sinks that take bytes.
 //!
-//! Each port counts its faults, and answers [`Failed`] only where that count rose in the call.
+//! Each port counts its faults, and returns [`Failed`] only if that count rose in the call.
 
 mod memory;
 mod reading;

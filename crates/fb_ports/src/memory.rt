@@ -62,7 +62,7 @@ fn place_of(files: &[NamedFile], name: &str) -> Option<usize>
     None
 }
 
-/// Counts a call, and answers whether it is one of those that are to fail.
+/// Counts a call, and returns whether it is one of those that are to fail.
 fn count_call(failing: &[u64], calls: &mut u64) -> bool
     ensures counts { calls.new ≡ one_more calls.old }
     ensures planned { result ≡ is_to_fail failing.now calls.old }
@@ -72,7 +72,7 @@ fn count_call(failing: &[u64], calls: &mut u64) -> bool
 }
 
 /// Copies bytes from place `at` on into the start of `buf`, as many as there are, as `buf` holds and
-/// as `most` says, and answers how many.
+/// as `most` says, and returns how many.
 fn copy_from(bytes: &[u8], at: usize, most: usize, buf: &mut [u8]) -> usize
     requires { at ≤ length bytes.now }
     ensures count { result ≡ min most (min (length buf.old) (length bytes.now - at)) }

@@ -27,7 +27,7 @@ pub trait Files {
         ensures opens { Opens (named self.old) (left self.new) (string_bytes name) result }
         ensures cause { HasCause (faults self.old) (faults self.new) result };
 
-    /// Reads bytes of the current file into the start of `buf`, and answers how many. Into a buffer
+    /// Reads bytes of the current file into the start of `buf`, and returns how many. Into a buffer
     /// that is not empty it reads at least one where any is left, so there 0 is the file's end. A
     /// failed read leaves what is left as it was.
     fn read(&mut self, buf: &mut [u8]) -> Result<usize, Failed>
@@ -66,7 +66,7 @@ fn read_at_most<F: Files>(files: &mut F, chunk: &mut [u8], most: usize) -> Resul
     files.read(&mut chunk[..asked])
 }
 
-/// Reads the current file to its end, or to the first byte past `limit`, and answers its bytes. It
+/// Reads the current file to its end, or to the first byte past `limit`, and returns its bytes. It
 /// asks for at most 65,536 bytes at a time. After an error a prefix of the file may have been
 /// read.
 #[tactic(auto, using(crate::proofs::Streams::streams))]
@@ -84,7 +84,7 @@ pub fn read_whole<F: Files>(
     ensures long { IsErrOf result ReadError.TooLong → IfSome (F.left files.old) (λ xs. limit < length xs) }
     ensures taken { ConsumesAtMost (F.left files.old) (F.left files.new) (limit + 1) }
 
-    // The answer is a fault exactly where one came.
+    // The result is an error exactly if one occurred.
     ensures fault { IsErrOf result ReadError.ReadFault → Rose (F.faults files.old) (F.faults files.new) }
     ensures later { F.faults files.old ≤ F.faults files.new }
     ensures seen { F.faults files.old < F.faults files.new → IsErrOf result ReadError.ReadFault }

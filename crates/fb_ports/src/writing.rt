@@ -12,7 +12,7 @@ pub trait Sink {
 
     ghost faults: { Self → ℕ };
 
-    /// Takes a prefix of `piece`, and answers its length in bytes: at least 1 where the piece is
+    /// Takes a prefix of `piece`, and returns its length in bytes: at least 1 where the piece is
     /// not empty. A failed put took nothing. A put of an empty piece takes nothing and is Ok.
     fn put(&mut self, piece: &[u8]) -> Result<usize, Failed>
         ensures bound { WritesAtMost result piece.now }

@@ -1,4 +1,4 @@
-//! What a reader answers, and why a step of it gives nothing.
+//! What a reader returns, and why a step of it gives nothing.
 
 use crate::numbers::Numbers;
 use std::alloc::AllocFailed;
@@ -6,7 +6,7 @@ use std::alloc::AllocFailed;
 /// There was not enough memory.
 pub use std::alloc::AllocError as NoMemory;
 
-/// The answer of a reader that was asked for its next shot. `K` says why a record is refused.
+/// The result of asking a reader for its next shot. `K` says why a record is refused.
 #[derive(Debug, Drop)]
 pub enum Next<K> {
     /// A shot: its detectors, or the vertices that are its defects.

@@ -2,7 +2,7 @@
 
 ghost use Rattle.fb_records.specs.Laws.{LinesGoOn, FirstLineLeaves};
 
-/// However an input is cut whose records are lines, the answers are the same: what is settled by a prefix are the
+/// However an input is cut whose records are lines, the results are the same: what is settled by a prefix are the
 /// first shots of the whole, and what that prefix refuses is refused. Without its first record's bytes it gives the same
 /// without its first shot. `K` says why a line is refused.
 pub fn goes_on_by_lines<K>()

@@ -1,4 +1,4 @@
-//! What the readers of shots share: bytes that are fed in pieces, the numbers of a shot, what a reader answers, and the
+//! What the readers of shots share: bytes that are fed in pieces, the numbers of a shot, what a reader returns, and the
 //! law that an input may be cut anywhere. A format adds its own refusals, its definition of a record and its reader.
 #![tactic(auto)]
 

@@ -1,4 +1,4 @@
-//! The bytes fed to a reader that no answer has used.
+//! The bytes fed to a reader that no result has used.
 
 ghost use Rattle.std.specs.Prelude.{◌≡◌, ℕ, ◌≤◌, List, [], ◌++◌, length, drop, OnOk, OnErr};
 

@@ -1,4 +1,4 @@
-//! What a stream of shots is asked for, and what it answers.
+//! What a stream of shots is asked for, and what it returns.
 
 ghost use Rattle.std.specs.Prelude.{◌≡◌};
 ghost use Rattle.fb_shots.specs.FaultTexts.{kind_name};
@@ -55,7 +55,7 @@ pub struct ShotFault {
     pub kind: Kind,
 }
 
-/// The answer of a stream that was asked for its next shot.
+/// The result of asking a stream for its next shot.
 #[derive(Debug, Drop)]
 pub enum Step {
     /// A shot.

@@ -54,7 +54,7 @@ impl Piece {
         self.unfed = 0;
     }
 
-    /// Reads a piece of the current file, of at most so many bytes, and answers how many they are: none at its end.
+    /// Reads a piece of the current file, of at most so many bytes, and returns how many they are: none at its end.
     pub fn read<F: Files>(&mut self, files: &mut F, most: usize) -> Result<usize, Failed>
         requires empty { self.old ≡ [] }
         requires some { 0 < most }

@@ -16,7 +16,7 @@ use fb_shots_stim::{Records01, RecordsB8, RecordsDets};
 use std::alloc::Global;
 use std::marker::Model;
 
-/// The answer of a reader that was asked for its next shot.
+/// The result of asking a reader for its next shot.
 #[derive(Drop)]
 pub enum Next {
     /// A shot.
@@ -97,7 +97,7 @@ impl<'a> FormatReader<'a> {
     }
 }
 
-/// The answer of a reader of detectors, as one of vertices.
+/// The result of a reader of detectors, as one of vertices.
 fn on_vertices(graph: &Graph, answer: fb_records::Next<fb_shots_stim::Kind>) -> Next
     requires { IfShot (IsShotOf (length (detectors_of graph.now))) answer }
     ensures { result ≡ stim_answer graph.now answer }
@@ -112,7 +112,7 @@ fn on_vertices(graph: &Graph, answer: fb_records::Next<fb_shots_stim::Kind>) -> 
     }
 }
 
-/// The answer of a reader of vertices.
+/// The result of a reader of vertices.
 fn of_vertices(graph: &Graph, answer: fb_records::Next<fb_shots_json::Kind>) -> Next
     requires { IfShot (IsShot graph.now) answer }
     ensures { result ≡ json_answer answer }
@@ -128,7 +128,7 @@ fn of_vertices(graph: &Graph, answer: fb_records::Next<fb_shots_json::Kind>) -> 
 }
 
 /// A reader of the shots of a graph in one of the formats, from bytes that come in pieces. Contracts see its format and
-/// graph, the bytes fed that no answer has used, and whether they are all.
+/// graph, the bytes fed that no result has used, and whether they are all.
 #[derive(Drop)]
 pub struct Reader<'a> {
     graph: &'a Graph,
@@ -172,7 +172,7 @@ impl<'a> Reader<'a> {
         self.by_format.finish(self.graph);
     }
 
-    /// Answers by the first record of the bytes that no answer has used. A shot uses up its record, and nothing else
+    /// Reads the first record of the bytes that no result has used. A shot uses up its record, and nothing else
     /// uses any byte.
     pub fn next(&mut self) -> Result<Next, NoMemory>
         ensures meaning { IfOk result (Answers self.old self.new) }

@@ -69,7 +69,7 @@ impl<'a> ShotStream<'a> {
         ensures step { IfOk result (Answers self.old self.new (F.left files.old) (F.left files.new)) }
         ensures kept { OnErr result (OnlyTakes self.old self.new (F.left files.old) (F.left files.new)) }
 
-        // The answer is a fault exactly where one came.
+        // The result is an error exactly if one occurred.
         ensures fault { result ≡ Ok Step.ReadFault → Rose (F.faults files.old) (F.faults files.new) }
         ensures later { F.faults files.old ≤ F.faults files.new }
         ensures calm { result ≢ Ok Step.ReadFault → F.faults files.new ≡ F.faults files.old }

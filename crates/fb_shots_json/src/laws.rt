@@ -3,7 +3,7 @@
 ghost use Rattle.fb_records.specs.Answers.{FirstRecordLeaves, GoesOnAnywhere};
 ghost use Rattle.fb_shots_json.specs.TextJson.{records_json, prefix_json, after_record};
 
-/// However an input of JSON lines is cut into pieces, the answers are the same: what is settled by a prefix are
+/// However an input of JSON lines is cut into pieces, the results are the same: what is settled by a prefix are
 /// the first shots of the whole, and what that prefix refuses is refused. Without its first record's bytes it gives the
 /// same without its first shot.
 pub fn goes_on_json()

@@ -17,7 +17,7 @@ use std::alloc::Global;
 use std::marker::Model;
 
 /// A reader of shots as JSON values, one to a line: objects whose `defect_vertices` lists the defects. Contracts see
-/// the graph, the bytes fed that no answer has used, and whether they are all.
+/// the graph, the bytes fed that no result has used, and whether they are all.
 #[derive(Drop)]
 pub struct RecordsJson<'a> {
     alloc: Global,
@@ -27,7 +27,7 @@ pub struct RecordsJson<'a> {
     finished: bool,
 }
 
-/// How far a reader has come in the bytes that no answer has used.
+/// How far a reader has come in the bytes that no result has used.
 #[derive(Clone, Copy)]
 struct Place {
     /// The line that is read starts here. The lines before it are blank.
@@ -80,7 +80,7 @@ impl<'a> RecordsJson<'a> {
         self.finished = true;
     }
 
-    /// Answers by the first record of the bytes that no answer has used. A shot uses up its line and the blank lines
+    /// Reads the first record of the bytes that no result has used. A shot uses up its line and the blank lines
     /// before it, and nothing else uses any byte.
     pub fn next(&mut self) -> Result<Next<Kind>, NoMemory>
         ensures answer { IfOk result (λ a. a ≡ answer_of (reading records_json prefix_json self.old)) }

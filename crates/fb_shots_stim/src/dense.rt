@@ -13,7 +13,7 @@ use fb_records::{Next, NoMemory, Numbers, Pending};
 use std::alloc::Global;
 use std::marker::Model;
 
-/// A reader of shots in the format `01`. Contracts see the bytes fed that no answer has used, and whether they are all.
+/// A reader of shots in the format `01`. Contracts see the bytes fed that no result has used, and whether they are all.
 #[derive(Drop)]
 pub struct Records01 {
     alloc: Global,
@@ -67,7 +67,7 @@ impl Records01 {
         self.finished = true;
     }
 
-    /// Answers by the first record of the bytes that no answer has used. A shot uses up its line, and
+    /// Reads the first record of the bytes that no result has used. A shot uses up its line, and
     /// nothing else uses any byte.
     pub fn next(&mut self) -> Result<Next<Kind>, NoMemory>
         ensures answer { IfOk result (λ a. a ≡ answer_of (reading records_01 prefix_01 self.old)) }

@@ -7,7 +7,7 @@ ghost use Rattle.fb_shots_stim.specs.Text01.{records_01, prefix_01};
 ghost use Rattle.fb_shots_stim.specs.BlocksB8.{block_len, records_b8, prefix_b8};
 ghost use Rattle.fb_shots_stim.specs.TextDets.{after_record, records_dets, prefix_dets};
 
-/// However an input in the format `01` is cut into pieces, the answers are the same: what is settled by a
+/// However an input in the format `01` is cut into pieces, the results are the same: what is settled by a
 /// prefix are the first shots of the whole, and what that prefix refuses is refused. Without its first record's bytes it
 /// gives the same without its first shot.
 pub fn goes_on_01()

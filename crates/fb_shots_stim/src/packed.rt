@@ -15,7 +15,7 @@ use std::marker::Model;
 /// How many bytes of a block are looked at together.
 const WORD_BYTES: usize = 8;
 
-/// A reader of shots in the format `b8`. Contracts see the bytes fed that no answer has used, and whether they are all.
+/// A reader of shots in the format `b8`. Contracts see the bytes fed that no result has used, and whether they are all.
 #[derive(Drop)]
 pub struct RecordsB8 {
     alloc: Global,
@@ -62,7 +62,7 @@ impl RecordsB8 {
         self.finished = true;
     }
 
-    /// Answers by the first record of the bytes that no answer has used. A shot uses up its block, and
+    /// Reads the first record of the bytes that no result has used. A shot uses up its block, and
     /// nothing else uses any byte.
     pub fn next(&mut self) -> Result<Next<Kind>, NoMemory>
         ensures answer { IfOk result (λ a. a ≡ answer_of (reading records_b8 prefix_b8 self.old)) }
@@ -87,7 +87,7 @@ impl RecordsB8 {
     }
 }
 
-/// The answer to bytes that hold no whole block.
+/// The result for bytes that hold no whole block.
 fn unfilled(detectors: u32, finished: bool, rest: &[u8]) -> Next<Kind>
     requires { 0 < detectors → length rest.now < block_len detectors }
     ensures { let r : Reader ℕ = record { subject = detectors; rest = rest.now; finished = finished } in

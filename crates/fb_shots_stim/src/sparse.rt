@@ -15,7 +15,7 @@ use fb_records::{Next, NoMemory, Numbers, Pending, Stop, without_return};
 use std::alloc::Global;
 use std::marker::Model;
 
-/// A reader of shots in the format `dets`. Contracts see the bytes fed that no answer has used, and whether they are all.
+/// A reader of shots in the format `dets`. Contracts see the bytes fed that no result has used, and whether they are all.
 #[derive(Drop)]
 pub struct RecordsDets {
     pending: Pending,
@@ -24,7 +24,7 @@ pub struct RecordsDets {
     finished: bool,
 }
 
-/// How far a reader has come in the bytes that no answer has used.
+/// How far a reader has come in the bytes that no result has used.
 #[derive(Clone, Copy)]
 struct Place {
     /// The line that is read starts here. The lines before it have no word.
@@ -76,7 +76,7 @@ impl RecordsDets {
         self.finished = true;
     }
 
-    /// Answers by the first record of the bytes that no answer has used. A shot uses up its line and the lines
+    /// Reads the first record of the bytes that no result has used. A shot uses up its line and the lines
     /// without a word before it, and nothing else uses any byte.
     pub fn next(&mut self) -> Result<Next<Kind>, NoMemory>
         ensures answer { IfOk result (λ a. a ≡ answer_of (reading records_dets prefix_dets self.old)) }
