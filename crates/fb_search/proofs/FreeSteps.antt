@@ -1,9 +1,9 @@
 -- After the greatest free step an obstacle stands, and the search goes on from there.
-use Rattle.std.proofs.Common.{ℕ, ◌≡◌, ◌+◌, ◌≤◌, true, false, ◌∙◌, subst, arith}
-use Rattle.std.specs.Prelude.{IfOk, Result, Ok, Err}
+use Rattle.std.proofs.Common.{ℕ, ◌≡◌, ◌+◌, ◌≤◌, true, false, List, Option, Some, None, refl, sym, ◌∙◌, subst, arith}
+use Rattle.std.specs.Prelude.{MatchOption}
 use Rattle.fb_graph.specs.Parity.{is_in}
 use Rattle.fb_graph.specs.Problem.{Problem, with_defects}
-use Rattle.fb_graph.specs.Dual.{leaves}
+use Rattle.fb_graph.specs.Dual.{Node, leaves}
 use Rattle.fb_graph.specs.Steps.{Roles, stepped}
 use Rattle.fb_graph.proofs.StepLoads.{steps_add}
 use Rattle.fb_laws.specs.Trees.{roles_of}
@@ -13,8 +13,10 @@ use Rattle.fb_obstacles.specs.declared.obstacle.Obstacle.{Obstacle}
 use Rattle.fb_obstacles.specs.declared.obstacle.Obstacle.TheVariants.{Absorb, Boundary, Meet, PlusPair, LayerEmpty, BlossomEmpty, ZeroMinus, Free}
 use Rattle.fb_obstacles.specs.Obstacles.{IsFree, IsObstacle, Obstructs}
 use Rattle.fb_obstacles.specs.Watched.{Watched}
+use Rattle.fb_search.specs.declared.advancing.TreeObstacle.{TreeObstacle}
 use Rattle.fb_search.specs.declared.went.Went.{Went}
 use Rattle.fb_search.specs.declared.went.Went.TheVariants.{On, Ended}
+use Rattle.fb_search.specs.InternalTurns.{BlocksTree, HasStepped}
 use Rattle.fb_search.specs.Progress.{GoesOn, HasAdvanced, IsRewatched, rewatched, stepped_by, to_do}
 use Rattle.fb_search.specs.Searching.{IsSearching, SearchValue, problem_of, roles_in}
 use Rattle.fb_search.specs.Went.{HasCleared, HasWent}
@@ -106,19 +108,35 @@ cleared_anew w now (On after) room goes = record {
 cleared_anew w now (Ended part watched) room ends = record { searched = ends.searched; room = ends.room ∙ room }
 
 -- an obstacle cleared after a free step
-pub went_after : {E : Type 0} (w now after : SearchValue) (k : ℕ) (r : Result Went E) → IsSearching now
-    → IsRewatched w now → IsRewatched (stepped_by k now) after
-    → IfOk r (HasCleared after) → IfOk r (HasWent w)
-went_after w now after k (Ok o) are same stepped cleared =
-    went_anew w now.watched o same.room
-    (subst (λ s. HasWent s o) same.same
-    (went_by now k o are
-    (cleared_anew (stepped_by k now) after.watched o stepped.room (subst (λ s. HasCleared s o) stepped.same cleared))))
-went_after w now after k (Err e) are same stepped cleared = tt
+pub stepped_after : (w after : SearchValue) (k : ℕ) → IsSearching w → IsRewatched (stepped_by k w) after → HasStepped w after
+stepped_after w after k are same o cleared =
+    went_by w k o are
+    (cleared_anew (stepped_by k w) after.watched o same.room (subst (λ s. HasCleared s o) same.same cleared))
 
 -- an obstacle cleared at once
-pub went : {E : Type 0} (w now : SearchValue) (r : Result Went E) → IsRewatched w now
-    → IfOk r (HasCleared now) → IfOk r (HasWent w)
-went w now (Ok o) same cleared =
-    went_anew w now.watched o same.room (subst (λ s. HasWent s o) same.same (went_at_once now o cleared))
-went w now (Err e) same cleared = tt
+pub stepped_not : (w : SearchValue) → HasStepped w w
+stepped_not w o cleared = went_at_once w o cleared
+
+-- the same, seen from before the edges that are watched have changed
+pub stepped_anew : (w now after : SearchValue) → IsRewatched w now → HasStepped now after → HasStepped w after
+stepped_anew w now after same stepped o cleared =
+    went_anew w now.watched o same.room (subst (λ s. HasWent s o) same.same (stepped o cleared))
+
+-- what was found and is no free step stands in the way
+pub obstructs_found : (p : Problem) (roles : Roles) (nodes : List Node) (o : Obstacle) → IsObstacle p roles nodes o
+    → ((k : ℕ) → o ≡ Free k → ⊥) → Obstructs p roles nodes o
+obstructs_found p roles nodes (Free j) is other = absurd (other j refl)
+obstructs_found p roles nodes (Absorb e) is other = is
+obstructs_found p roles nodes (Boundary e) is other = is
+obstructs_found p roles nodes (Meet e) is other = is
+obstructs_found p roles nodes (PlusPair e) is other = is
+obstructs_found p roles nodes (LayerEmpty n) is other = is
+obstructs_found p roles nodes (BlossomEmpty n) is other = is
+obstructs_found p roles nodes (ZeroMinus n) is other = is
+
+-- what a turn leaves, seen from before it
+pub turned : (w mid after : SearchValue) (left : Option TreeObstacle) → HasStepped w mid
+    → MatchOption left (GoesOn mid after) (λ o. BlocksTree after o × (after ≡ mid))
+    → MatchOption left (HasAdvanced w after) (λ o. BlocksTree after o × HasStepped w after)
+turned w mid after None stepped goes = stepped (On after) goes
+turned w mid after (Some o) stepped stands = (stands.0, subst (HasStepped w) (sym stands.1) stepped)

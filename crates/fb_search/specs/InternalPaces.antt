@@ -1,17 +1,27 @@
--- A search whose tree has a limit, step by step.
-use Rattle.std.specs.Prelude.{◌≡◌}
+-- A search whose tree has a limit, turn by turn.
+use Rattle.std.specs.Prelude.{ℕ, ◌≡◌}
+use Rattle.fb_graph.specs.Steps.{MayStep}
 use Rattle.fb_search.specs.declared.rounds.Bounded.{Bounded}
-use Rattle.fb_search.specs.declared.rounds.Paced.{Paced}
-use Rattle.fb_search.specs.declared.rounds.Paced.TheVariants.{Ended, On}
-use Rattle.fb_search.specs.InternalRounds.{IsLeft}
-use Rattle.fb_search.specs.Progress.{HasAdvanced}
-use Rattle.fb_search.specs.Searching.{SearchValue}
+use Rattle.fb_search.specs.declared.rounds.Turn.{Turn}
+use Rattle.fb_search.specs.declared.rounds.Turn.TheVariants.{Cleared, Spent, Stands}
+use Rattle.fb_search.specs.InternalRounds.{HasEvenRoot, IsLeft}
+use Rattle.fb_search.specs.InternalTurns.{BlocksTree, HasStepped}
+use Rattle.fb_search.specs.Progress.{HasAdvanced, IsRewatched, stepped_by}
+use Rattle.fb_search.specs.Searching.{SearchValue, problem_of, roles_in}
 
 -- The search has ended, or is given up.
 pub record IsEndedWithin (before : SearchValue) (bounded : Bounded) : Type 0 where
   pub left : IsLeft before.tree.root before.part bounded.work bounded.left
   pub room : bounded.scratch.edge_count ≡ before.watched.edge_count
 
-abbrev pub HasPaced : SearchValue → Paced → Type 0
-HasPaced before (On after left) = HasAdvanced before after
-HasPaced before (Ended bounded) = IsEndedWithin before bounded
+-- The tree may grow by this length and be given up.
+pub record IsSpent (before now : SearchValue) (left : ℕ) : Type 0 where
+  pub same : IsRewatched before now
+  pub may : MayStep (problem_of now) (roles_in now) now.part.nodes left
+  pub even : HasEvenRoot (stepped_by left now)
+
+-- a turn of the search, after which this length is left
+abbrev pub HasTurned : SearchValue → SearchValue → ℕ → Turn → Type 0
+HasTurned before now left Cleared = HasAdvanced before now
+HasTurned before now left Spent = IsSpent before now left
+HasTurned before now left (Stands obstacle) = BlocksTree now obstacle × HasStepped before now

@@ -7,7 +7,7 @@ pub mod InternalPaces
 pub mod InternalRounds
 pub mod InternalRuns
 pub mod InternalSteps
-pub mod InternalTries
+pub mod InternalTurns
 pub mod Meetings
 pub mod MetWalks
 pub mod Progress

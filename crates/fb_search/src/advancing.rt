@@ -1,8 +1,10 @@
-ghost use Rattle.std.specs.Prelude.{◌≡◌, IfOk};
+ghost use Rattle.std.specs.Prelude.{◌≡◌, IfOk, MatchOption};
 ghost use Rattle.fb_obstacles.specs.Obstacles.{IsObstacle, Obstructs};
-ghost use Rattle.fb_search.specs.Progress.{IsRewatched};
+ghost use Rattle.fb_obstacles.specs.declared.obstacle.Obstacle.TheVariants as Obstacle;
+ghost use Rattle.fb_search.specs.Progress.{GoesOn, HasAdvanced, IsRewatched};
 ghost use Rattle.fb_search.specs.Searching.{problem_of, roles_in};
-ghost use Rattle.fb_search.specs.Went.{HasCleared, HasWent};
+ghost use Rattle.fb_search.specs.InternalTurns.{BlocksTree, HasStepped};
+ghost use Rattle.fb_search.specs.Went.{HasCleared};
 
 use crate::roles::TreeRoles;
 use crate::searching::Searching;
@@ -10,68 +12,107 @@ use crate::went::Went;
 use fb_graph::{NoMemory, Steps};
 use fb_half::Standing;
 use fb_obstacles::{Obstacle, next_obstacle_by_bounds};
+use fb_regions::NodeId;
 use std::alloc::Global;
 use std::sync::ledger::Ledger;
 
+/// An obstacle that only a change of the tree or the end of the search removes.
+#[derive(Clone, Copy)]
+pub(crate) enum TreeObstacle {
+    /// A tight edge leads from a plus node to the boundary.
+    Boundary(u32),
+    /// A tight edge leads from a plus node to a node outside the tree.
+    Meet(u32),
+    /// A tight edge leads from a plus node to another.
+    PlusPair(u32),
+    /// The only layer of a minus blossom has value 0.
+    BlossomEmpty(NodeId),
+    /// The only layer of a minus defect has value 0.
+    ZeroMinus(NodeId),
+}
+
 impl<'a> Searching<'a> {
-    /// Removes what stands in the way of the tree; where nothing does, the tree steps first.
-    pub(crate) fn advance<L: Ledger>(
-        self,
-        alloc: Global,
-        looks: &mut Steps<L>,
-    ) -> Result<Went<'a>, NoMemory>
-        ensures { IfOk result (HasWent self.entry) }
+    /// Removes what stands in the way of the tree; where nothing does, the tree steps first. An obstacle that only a change
+    /// of the tree or the end of the search removes is returned.
+    pub(crate) fn turn<L: Ledger>(&mut self, looks: &mut Steps<L>) -> Option<TreeObstacle>
+        ensures { MatchOption result (HasAdvanced self.old self.new)
+            (λ left. BlocksTree self.new left × HasStepped self.old self.new) }
     {
-        let (search, obstacle) = self.next(looks);
-        search.keeps();
-        match obstacle {
-            Obstacle::Free(length) => {
-                let (stepped, obstacle) = search.step(length).next(looks);
-                stepped.clear(alloc, obstacle)
-            }
-            obstacle => search.clear(alloc, obstacle),
-        }
+        let found = self.next(looks);
+        let obstacle = self.step_past(found, looks);
+        self.remove(obstacle)
     }
 
     /// What stands in the way of the tree, or how far it may step. Raises the bounds of the edges that are looked at, and
     /// watches those no longer that it finds inside one outer node.
-    pub(crate) fn next<L: Ledger>(self, looks: &mut Steps<L>) -> (Searching<'a>, Obstacle)
-        ensures obstacle { IsObstacle (problem_of result.0) (roles_in result.0) result.0.part.nodes result.1 }
-        ensures same { IsRewatched self.entry result.0 }
+    pub(crate) fn next<L: Ledger>(&mut self, looks: &mut Steps<L>) -> Obstacle
+        ensures obstacle { IsObstacle (problem_of self.new) (roles_in self.new) self.new.part.nodes result }
+        ensures same { IsRewatched self.old self.new }
     {
-        let Searching {
-            parts,
-            tree,
-            mut watch,
-        } = self;
-        let obstacle = next_obstacle_by_bounds(
-            &mut watch,
-            parts.regions.scope(),
-            &parts.regions,
-            &TreeRoles { tree: &tree },
-            looks,
-        );
-        let search = Searching { parts, tree, watch };
-        (search, obstacle)
+        let Searching { parts, tree, watch } = self;
+        let scope = *parts.regions.scope();
+        let roles = TreeRoles { tree };
+        next_obstacle_by_bounds(watch, &scope, &parts.regions, &roles, looks)
     }
 
-    /// Removes the obstacle.
-    pub(crate) fn clear(self, alloc: Global, obstacle: Obstacle) -> Result<Went<'a>, NoMemory>
-        requires { Obstructs (problem_of self) (roles_in self) self.part.nodes obstacle }
+    /// What stands in the way of the tree after the step that it may take, if nothing stood there before.
+    pub(crate) fn step_past<L: Ledger>(
+        &mut self,
+        found: Obstacle,
+        looks: &mut Steps<L>,
+    ) -> Obstacle
+        requires { IsObstacle (problem_of self.old) (roles_in self.old) self.old.part.nodes found }
+        ensures obstacle { Obstructs (problem_of self.new) (roles_in self.new) self.new.part.nodes result }
+        ensures stepped { HasStepped self.old self.new }
+    {
+        self.keeps();
+        match found {
+            Obstacle::Free(length) => {
+                self.step(length);
+                self.next(looks)
+            }
+            obstacle => obstacle,
+        }
+    }
+
+    /// Removes the obstacle if the tree stays as it is, or else returns it.
+    pub(crate) fn remove(&mut self, obstacle: Obstacle) -> Option<TreeObstacle>
+        requires { Obstructs (problem_of self.old) (roles_in self.old) self.old.part.nodes obstacle }
+        ensures { MatchOption result (GoesOn self.old self.new)
+            (λ left. BlocksTree self.new left × (self.new ≡ self.old)) }
+    {
+        match obstacle {
+            Obstacle::Absorb(edge) => {
+                self.absorb(edge);
+                None
+            }
+            Obstacle::LayerEmpty(node) => {
+                self.uncover(node);
+                None
+            }
+            Obstacle::Boundary(edge) => Some(TreeObstacle::Boundary(edge)),
+            Obstacle::Meet(edge) => Some(TreeObstacle::Meet(edge)),
+            Obstacle::PlusPair(edge) => Some(TreeObstacle::PlusPair(edge)),
+            Obstacle::BlossomEmpty(node) => Some(TreeObstacle::BlossomEmpty(node)),
+            Obstacle::ZeroMinus(node) => Some(TreeObstacle::ZeroMinus(node)),
+            Obstacle::Free(_) => unreachable!(),
+        }
+    }
+
+    /// Changes the tree or ends the search, which removes the obstacle.
+    pub(crate) fn clear(self, alloc: Global, obstacle: TreeObstacle) -> Result<Went<'a>, NoMemory>
+        requires { BlocksTree self obstacle }
         ensures { IfOk result (HasCleared self.entry) }
     {
         match obstacle {
-            Obstacle::Absorb(edge) => Ok(Went::On(self.absorb(edge))),
-            Obstacle::Boundary(edge) => {
+            TreeObstacle::Boundary(edge) => {
                 let (work, scratch) = self.end_at_boundary(alloc, edge)?;
                 Ok(Went::Ended(work, scratch))
             }
-            Obstacle::Meet(edge) => self.meet(alloc, edge),
-            Obstacle::PlusPair(edge) => Ok(Went::On(self.close(alloc, edge)?)),
-            Obstacle::LayerEmpty(node) => Ok(Went::On(self.uncover(node))),
-            Obstacle::BlossomEmpty(node) => Ok(Went::On(self.open(alloc, node)?)),
-            Obstacle::ZeroMinus(node) => Ok(Went::On(self.round(alloc, node)?)),
-            Obstacle::Free(_) => unreachable!(),
+            TreeObstacle::Meet(edge) => self.meet(alloc, edge),
+            TreeObstacle::PlusPair(edge) => Ok(Went::On(self.close(alloc, edge)?)),
+            TreeObstacle::BlossomEmpty(node) => Ok(Went::On(self.open(alloc, node)?)),
+            TreeObstacle::ZeroMinus(node) => Ok(Went::On(self.round(alloc, node)?)),
         }
     }
 

@@ -25,18 +25,14 @@ fn free_end<S: Scope>(scope: &S, regions: &Regions<S>, edge: u32) -> u32
     }
 }
 
-impl<'a> Searching<'a> {
+impl Searching<'_> {
     /// The plus node takes up the vertex to which the tight edge leads. The edges of the vertex are watched from now on,
     /// but for those that lead to other vertices of the node.
-    pub fn absorb(self, edge: u32) -> Searching<'a>
-        requires { Obstructs (problem_of self) (roles_in self) self.part.nodes (Absorb edge) }
-        ensures { GoesOn self.entry result }
+    pub fn absorb(&mut self, edge: u32)
+        requires { Obstructs (problem_of self.old) (roles_in self.old) self.old.part.nodes (Absorb edge) }
+        ensures { GoesOn self.old self.new }
     {
-        let Searching {
-            mut parts,
-            tree,
-            mut watch,
-        } = self;
+        let Searching { parts, watch, .. } = self;
         let scope = NodeScope {
             graph: parts.job().graph(),
             plan: parts.job().plan(),
@@ -45,22 +41,15 @@ impl<'a> Searching<'a> {
         scope.limits();
         let taken = free_end(&scope, &parts.regions, edge);
         parts.regions.absorb(edge);
-        watch_taken(&mut watch, &scope, &parts.regions, taken);
+        watch_taken(watch, &scope, &parts.regions, taken);
         watch.keeps();
-        Searching { parts, tree, watch }
     }
 
     /// The empty top layer of the minus node is taken off. The edges that lead to its last vertex are watched already.
-    pub fn uncover(self, node: NodeId) -> Searching<'a>
-        requires { Obstructs (problem_of self) (roles_in self) self.part.nodes (LayerEmpty node) }
-        ensures { GoesOn self.entry result }
+    pub fn uncover(&mut self, node: NodeId)
+        requires { Obstructs (problem_of self.old) (roles_in self.old) self.old.part.nodes (LayerEmpty node) }
+        ensures { GoesOn self.old self.new }
     {
-        let Searching {
-            mut parts,
-            tree,
-            watch,
-        } = self;
-        parts.regions.uncover(node);
-        Searching { parts, tree, watch }
+        self.parts.regions.uncover(node);
     }
 }

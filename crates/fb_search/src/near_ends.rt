@@ -1,14 +1,13 @@
 //! The ways in which a single defect is matched at once.
 
-ghost use Rattle.std.specs.Prelude.{◌≡◌, true, IfOk};
+ghost use Rattle.std.specs.Prelude.{◌≡◌, true, IfOk, IfSome};
 ghost use Rattle.fb_graph.specs.Parity.{is_in};
 ghost use Rattle.fb_graph.specs.Steps.{MayStep, stepped};
 ghost use Rattle.fb_half.specs.Parts.{IsPart, problem_in};
 ghost use Rattle.fb_half.specs.Values.{HasScope, part_of};
 ghost use Rattle.fb_trees.specs.Rooted.{bare};
-ghost use Rattle.fb_search.specs.InternalNear.{IsNearBoundary, IsNearPair, alone};
+ghost use Rattle.fb_search.specs.InternalNear.{IsNear, IsNearBoundary, IsNearPair, alone};
 ghost use Rattle.fb_search.specs.InternalSteps.{IsTreeOver};
-ghost use Rattle.fb_search.specs.InternalTries.{HasTried};
 ghost use Rattle.fb_search.specs.Progress.{IsSearched};
 
 use crate::ending::add_matches;
@@ -18,15 +17,6 @@ use fb_graph::{NoMemory, Scope};
 use fb_half::{Match, Parts, Work};
 use fb_regions::{NodeId, Regions};
 use std::alloc::Global;
-
-/// A part whose root was to be matched at once.
-#[derive(Drop)]
-pub(crate) enum Tried<'a> {
-    /// The root is matched.
-    Matched(Work<'a>),
-    /// There is no way to do so, and the part is as it was.
-    Left(Work<'a>),
-}
 
 /// The outer node grows by this length.
 fn grow_node<S: Scope>(regions: &mut Regions<S>, node: NodeId, length: u64)
@@ -96,23 +86,30 @@ fn match_pair<'a>(
     Ok(Work::from_parts(parts))
 }
 
-/// Matches the root at once, if it is a single defect for which there is a way to do so.
-pub(crate) fn try_near<'a>(
+/// How the root can be matched at once, if it can.
+pub(crate) fn near_in(work: &Work<'_>, root: NodeId) -> Option<Near>
+    requires { is_in work.now.matching.unmatched root ≡ true }
+    ensures { IfSome result (IsNear (problem_in work.now) work.now.nodes work.now.matching.unmatched root) }
+{
+    work.keeps();
+    near_of(work.regions(), work.matching(), root)
+}
+
+/// Matches the root at once, in this way.
+pub(crate) fn match_near<'a>(
     alloc: Global,
     work: Work<'a>,
     root: NodeId,
-) -> Result<Tried<'a>, NoMemory>
-    requires { is_in work.matching.unmatched root ≡ true }
-    ensures { IfOk result (HasTried root work.entry) }
+    near: Near,
+) -> Result<Work<'a>, NoMemory>
+    requires unmatched { is_in work.matching.unmatched root ≡ true }
+    requires near { IsNear (problem_in work) work.nodes work.matching.unmatched root near }
+    ensures { IfOk result (IsSearched root work.entry) }
 {
     work.keeps();
-    let Some(near) = near_of(work.regions(), work.matching(), root) else {
-        return Ok(Tried::Left(work));
-    };
     let parts = work.into_parts();
-    let matched = match near {
-        Near::Boundary { edge, length } => match_at_boundary(alloc, parts, root, edge, length)?,
-        Near::Pair(pair) => match_pair(alloc, parts, root, pair)?,
-    };
-    Ok(Tried::Matched(matched))
+    match near {
+        Near::Boundary { edge, length } => match_at_boundary(alloc, parts, root, edge, length),
+        Near::Pair(pair) => match_pair(alloc, parts, root, pair),
+    }
 }

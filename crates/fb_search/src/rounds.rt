@@ -3,13 +3,13 @@ ghost use Rattle.fb_graph.specs.Dual.{is_live};
 ghost use Rattle.fb_graph.specs.Parity.{is_in};
 ghost use Rattle.fb_graph.specs.Steps.{MayStep};
 ghost use Rattle.fb_half.specs.Parts.{problem_in};
-ghost use Rattle.fb_search.specs.InternalPaces.{HasPaced, IsEndedWithin};
+ghost use Rattle.fb_search.specs.InternalPaces.{HasTurned, IsEndedWithin};
 ghost use Rattle.fb_search.specs.InternalRounds.{HasEvenRoot, HasSearchedSome, IsLeft, as_list, counted};
 ghost use Rattle.fb_search.specs.Progress.{stepped_by};
-ghost use Rattle.fb_search.specs.Searching.{SearchValue, problem_of, roles_in};
-ghost use Rattle.fb_search.specs.Went.{HasWent};
+ghost use Rattle.fb_search.specs.Searching.{problem_of, roles_in};
 
-use crate::near_ends::{Tried, try_near};
+use crate::advancing::TreeObstacle;
+use crate::near_ends::{match_near, near_in};
 use crate::scratch::Scratch;
 use crate::searching::Searching;
 use crate::went::Went;
@@ -33,13 +33,15 @@ pub(crate) struct Bounded<'a> {
     pub(crate) left: Option<NodeId>,
 }
 
-/// What has become of a search whose tree has a limit.
-#[derive(Drop)]
-pub(crate) enum Paced<'a> {
-    /// It goes on, and its tree may still grow by this length.
-    On(Searching<'a>, u64),
-    /// It has ended, or is given up.
-    Ended(Bounded<'a>),
+/// What stands in the way of a tree that has a limit.
+#[derive(Clone, Copy)]
+pub(crate) enum Turn {
+    /// No obstacle that stood there.
+    Cleared,
+    /// Its limit: it may grow by the length that is left, and is given up then.
+    Spent,
+    /// This obstacle.
+    Stands(TreeObstacle),
 }
 
 /// A part after a round of bounded searches.
@@ -52,59 +54,42 @@ pub(crate) struct Round<'a> {
 }
 
 impl<'a> Searching<'a> {
-    /// Removes what stands in the way of the tree; where nothing does, the tree steps first. A tree that would grow by
-    /// more than is left to it grows by that much and is given up, if the root's potential is even then.
-    fn advance_within<L: Ledger>(
-        self,
-        alloc: Global,
-        left: u64,
-        looks: &mut Steps<L>,
-    ) -> Result<Paced<'a>, NoMemory>
-        ensures { IfOk result (HasPaced self.entry) }
+    /// Removes what stands in the way of the tree; where nothing does, the tree steps first, which leaves less of the length
+    /// by which it may grow. A tree that would grow by more than is left is to be given up, if the root's potential is even
+    /// after that.
+    fn turn_within<L: Ledger>(&mut self, left: &mut u64, looks: &mut Steps<L>) -> Turn
+        ensures { HasTurned self.old self.new left.new result }
     {
-        let (search, obstacle) = self.next(looks);
-        search.keeps();
-        match obstacle {
-            Obstacle::Free(length) => {
-                if length > left && search.root_potential() % 2 == left % 2 {
-                    return Ok(Paced::Ended(search.give_up(alloc, left)?));
-                }
-                let (stepped, obstacle) = search.step(length).next(looks);
-                Ok(with_left(stepped.clear(alloc, obstacle)?, left.saturating_sub(length)))
+        let found = self.next(looks);
+        self.keeps();
+        if let Obstacle::Free(length) = found {
+            if length > *left && self.root_potential() % 2 == *left % 2 {
+                return Turn::Spent;
             }
-            obstacle => Ok(with_left(search.clear(alloc, obstacle)?, left)),
+            *left = left.saturating_sub(length);
+        }
+        let obstacle = self.step_past(found, looks);
+        match self.remove(obstacle) {
+            None => Turn::Cleared,
+            Some(obstacle) => Turn::Stands(obstacle),
         }
     }
 
     /// The tree grows by this length and is given up.
-    fn give_up(self, alloc: Global, length: u64) -> Result<Bounded<'a>, NoMemory>
+    fn give_up(mut self, alloc: Global, length: u64) -> Result<Bounded<'a>, NoMemory>
         requires may { MayStep (problem_of self) (roles_in self) self.part.nodes length }
         requires even { HasEvenRoot (stepped_by length self) }
         ensures { IfOk result (IsEndedWithin self.entry) }
     {
         self.keeps();
-        let stepped = self.step(length);
-        let name = stepped.tree.root();
-        let (work, scratch) = stepped.dissolve(alloc)?;
+        self.step(length);
+        let name = self.tree.root();
+        let (work, scratch) = self.dissolve(alloc)?;
         Ok(Bounded {
             work,
             scratch,
             left: Some(name),
         })
-    }
-}
-
-/// The search with the length by which its tree may still grow.
-fn with_left(went: Went<'_>, left: u64) -> Paced<'_>
-    ensures { (w : SearchValue) → HasWent w went.entry → HasPaced w result }
-{
-    match went {
-        Went::On(search) => Paced::On(search, left),
-        Went::Ended(work, scratch) => Paced::Ended(Bounded {
-            work,
-            scratch,
-            left: None,
-        }),
     }
 }
 
@@ -125,13 +110,26 @@ fn finish_within<'a, L: Ledger>(
     let mut left = limit;
     loop {
         search.keeps();
-        match search.advance_within(alloc, left, &mut looks)? {
-            Paced::On(next, rest) => {
+        let obstacle = match search.turn_within(&mut left, &mut looks) {
+            Turn::Cleared => {
+                search.keeps();
+                continue;
+            }
+            Turn::Spent => return search.give_up(alloc, left),
+            Turn::Stands(obstacle) => obstacle,
+        };
+        match search.clear(alloc, obstacle)? {
+            Went::On(next) => {
                 next.keeps();
                 search = next;
-                left = rest;
             }
-            Paced::Ended(bounded) => return Ok(bounded),
+            Went::Ended(work, scratch) => {
+                return Ok(Bounded {
+                    work,
+                    scratch,
+                    left: None,
+                });
+            }
         }
     }
 }
@@ -139,7 +137,7 @@ fn finish_within<'a, L: Ledger>(
 /// Searches from the root until it is matched or its tree is given up: where that would grow by more than the root's
 /// first limit times this factor, if the root's potential is even then. Counts one step if the root is matched, or else
 /// none.
-pub(crate) fn search_within<'a, L: Ledger>(
+fn search_within<'a, L: Ledger>(
     alloc: Global,
     work: Work<'a>,
     root: NodeId,
@@ -154,26 +152,23 @@ pub(crate) fn search_within<'a, L: Ledger>(
     ensures room { IfOk result (λ b. b.scratch.edge_count ≡ scratch.edge_count) }
     ensures kept { OnErr result (steps.new ≡ steps.old) }
 {
-    match try_near(alloc, work, root)? {
-        Tried::Matched(work) => {
-            steps.tick();
-            Ok(Bounded {
-                work,
-                scratch,
-                left: None,
-            })
-        }
-        Tried::Left(work) => {
-            work.keeps();
-            let limit = first_limit(work.regions(), root).saturating_mul(factor);
-            let search = Searching::begin(alloc, work, scratch, root)?;
-            let bounded = finish_within::<Brand>(alloc, search, limit, Blank::new(1))?;
-            if let None = bounded.left {
-                steps.tick();
-            }
-            Ok(bounded)
-        }
+    if let Some(near) = near_in(&work, root) {
+        let work = match_near(alloc, work, root, near)?;
+        steps.tick();
+        return Ok(Bounded {
+            work,
+            scratch,
+            left: None,
+        });
     }
+    work.keeps();
+    let limit = first_limit(work.regions(), root).saturating_mul(factor);
+    let search = Searching::begin(alloc, work, scratch, root)?;
+    let bounded = finish_within::<Brand>(alloc, search, limit, Blank::new(1))?;
+    if let None = bounded.left {
+        steps.tick();
+    }
+    Ok(bounded)
 }
 
 /// Half the heaviest weight of the edges at the node's first vertex, as an even number of at least 2.
@@ -188,30 +183,6 @@ fn first_limit<S: Scope>(regions: &Regions<S>, node: NodeId) -> u64
         heaviest = heaviest.max(scope.weight(*edge));
     }
     2 * (heaviest / 4).max(1)
-}
-
-/// Searches from the root, if it is still unmatched, within its first limit times this factor.
-fn search_root<'a, L: Ledger>(
-    alloc: Global,
-    work: Work<'a>,
-    root: NodeId,
-    factor: u64,
-    scratch: Scratch,
-    steps: &mut Steps<L>,
-) -> Result<Bounded<'a>, NoMemory>
-    requires room { scratch.edge_count ≡ length (problem_in work).edges }
-    ensures searched { IfOk result (λ b. HasSearchedSome work.entry (root ∷ []) steps.old steps.new (as_list b.left) b.work) }
-    ensures room { IfOk result (λ b. b.scratch.edge_count ≡ scratch.edge_count) }
-    ensures kept { OnErr result (steps.new ≡ steps.old) }
-{
-    match work.matching().standing(root) {
-        Standing::Unmatched(_) => search_within(alloc, work, root, factor, scratch, steps),
-        _ => Ok(Bounded {
-            work,
-            scratch,
-            left: None,
-        }),
-    }
 }
 
 /// A search from each of the nodes that is still unmatched when its turn comes, within its first limit times this
@@ -233,7 +204,10 @@ fn search_round<'a, L: Ledger>(
     let mut scratch = scratch;
     let mut left = Vec::new(alloc);
     for root in roots {
-        let bounded = search_root(alloc, work, *root, factor, scratch, steps)?;
+        let Standing::Unmatched(_) = work.matching().standing(*root) else {
+            continue;
+        };
+        let bounded = search_within(alloc, work, *root, factor, scratch, steps)?;
         work = bounded.work;
         scratch = bounded.scratch;
         push_left(&mut left, bounded.left)?;

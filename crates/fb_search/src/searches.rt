@@ -3,7 +3,7 @@ ghost use Rattle.fb_graph.specs.Parity.{is_in};
 ghost use Rattle.fb_half.specs.Parts.{problem_in};
 ghost use Rattle.fb_search.specs.Progress.{EndsWith, HasSearchedEach, IsSearched};
 
-use crate::near_ends::{Tried, try_near};
+use crate::near_ends::{match_near, near_in};
 use crate::rounds::{Round, search_rounds};
 use crate::scratch::Scratch;
 use crate::searching::Searching;
@@ -68,13 +68,11 @@ fn match_root<'a>(
     ensures searched { IfOk result (λ after. IsSearched root work.entry after.0) }
     ensures room { IfOk result (λ after. after.1.edge_count ≡ scratch.edge_count) }
 {
-    match try_near(alloc, work, root)? {
-        Tried::Matched(work) => Ok((work, scratch)),
-        Tried::Left(work) => {
-            let search = Searching::begin(alloc, work, scratch, root)?;
-            finish::<Brand>(alloc, search, Blank::new(1))
-        }
+    if let Some(near) = near_in(&work, root) {
+        return Ok((match_near(alloc, work, root, near)?, scratch));
     }
+    let search = Searching::begin(alloc, work, scratch, root)?;
+    finish::<Brand>(alloc, search, Blank::new(1))
 }
 
 /// Removes one obstacle after another until the search has ended. The looks at edges are counted by themselves.
@@ -92,7 +90,11 @@ fn finish<'a, L: Ledger>(
     let mut search = search;
     loop {
         search.keeps();
-        match search.advance(alloc, &mut looks)? {
+        let Some(obstacle) = search.turn(&mut looks) else {
+            search.keeps();
+            continue;
+        };
+        match search.clear(alloc, obstacle)? {
             Went::On(next) => {
                 next.keeps();
                 search = next;

@@ -4,8 +4,8 @@ use fb_trees::Tree;
 use std::marker::Model;
 
 /// A search while its tree grows (Edmonds 1965): the pieces of the half-solved part that it works on, the alternating
-/// tree, and the edges that it looks at. A step takes it and gives it back, so that nothing is left half done where
-/// memory runs out.
+/// tree, and the edges that it looks at. A step that may take memory takes the search and gives it back, so that nothing is
+/// left half done where memory runs out; any other changes it in place.
 #[derive(Drop)]
 pub struct Searching<'a> {
     pub(crate) parts: Parts<'a>,

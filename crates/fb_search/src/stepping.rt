@@ -10,22 +10,17 @@ use fb_graph::Scope;
 use fb_regions::Regions;
 use fb_trees::Tree;
 
-impl<'a> Searching<'a> {
+impl Searching<'_> {
     /// Each minus node shrinks by this length, and then each plus node grows by it. The bounds of residues fall by twice
     /// as much: a residue falls by the length at each end that is under a plus node.
-    pub(crate) fn step(self, length: u64) -> Searching<'a>
-        requires { MayStep (problem_of self) (roles_in self) self.part.nodes length }
-        ensures { result ≡ stepped_by length self.entry }
+    pub(crate) fn step(&mut self, length: u64)
+        requires { MayStep (problem_of self.old) (roles_in self.old) self.old.part.nodes length }
+        ensures { self.new ≡ stepped_by length self.old }
     {
-        let Searching {
-            mut parts,
-            tree,
-            mut watch,
-        } = self;
+        let Searching { parts, tree, watch } = self;
         parts.regions.scope().limits();
-        step_nodes(&mut parts.regions, &tree, length);
+        step_nodes(&mut parts.regions, tree, length);
         watch.lower(2 * length);
-        Searching { parts, tree, watch }
     }
 }
 

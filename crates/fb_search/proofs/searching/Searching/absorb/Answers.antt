@@ -32,8 +32,8 @@ watch_taken-requires-clause-below c =
     (end_taken w c.args.edge a _ (ap (λ g. g.edges) graph) c.free_end-taken.result c.free_end-taken.ensures)
     (ap (λ g. g.vertices) graph)
 
-pub invariant_of-result : goal.invariant_of-result
-invariant_of-result c =
+pub invariant_of-self : goal.invariant_of-self
+invariant_of-self c =
     let w : SearchValue = record { part = part_of c.self.inside.parts; tree = c.self.inside.tree; watched = c.self.inside.watch } in
     let a : Absorbs w c.args.edge = absorbs_some w c.args.edge (rw (← c.self.view_is) at c.requires) in
     let scope = c.self.invariant.0 in

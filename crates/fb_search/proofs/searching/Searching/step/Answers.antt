@@ -35,8 +35,8 @@ overflow_mul-length c =
     length_fits w c.args.length c.self.invariant.1 (searching_stepped w c.args.length c.self.invariant.1 limits may) may in
     omega (arith, fits)
 
-pub invariant_of-result : goal.invariant_of-result
-invariant_of-result c =
+pub invariant_of-self : goal.invariant_of-self
+invariant_of-self c =
     let w : SearchValue = record { part = part_of c.self.inside.parts; tree = c.self.inside.tree; watched = c.self.inside.watch } in
     let may : MayStep (problem_of w) (roles_of w.tree.root w.tree.branches) w.part.nodes c.args.length =
     step_by_names w c.args.length c.self.invariant.1 (rw (← c.self.view_is) at c.requires) in

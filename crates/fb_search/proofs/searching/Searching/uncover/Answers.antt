@@ -1,8 +1,8 @@
 use Rattle.fb_search.proofs.UncoveredLayers.{goes_on_lowered, searching_lowered}
 use Rattle.fb_search.proofs.searching.Searching.uncover.Goals as goal
 
-pub invariant_of-result : goal.invariant_of-result
-invariant_of-result c =
+pub invariant_of-self : goal.invariant_of-self
+invariant_of-self c =
     let may = rw (← c.self.view_is) at c.requires in
     let scope = c.self.invariant.0 in
     rw c.uncover.ensures (
