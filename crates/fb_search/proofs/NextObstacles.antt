@@ -1,5 +1,6 @@
 -- A search may ask for its next obstacle.
-use Rattle.std.proofs.Common.{ℕ, ◌≡◌, true, [], refl, sym, ap, ◌∙◌, subst}
+use Rattle.std.proofs.Common.{ℕ, ◌≡◌, true, [], Option, Some, None, refl, sym, ap, ◌∙◌, subst}
+use Rattle.std.specs.Prelude.{IfSome}
 use Rattle.fb_graph.specs.Parity.{is_in}
 use Rattle.fb_graph.specs.Problem.{with_defects}
 use Rattle.fb_graph.specs.Laws.{HasNoOddClosed}
@@ -18,11 +19,11 @@ use Rattle.fb_trees.proofs.Mapped as mapped
 use Rattle.fb_half.specs.Parts.{shot_of}
 use Rattle.fb_half.specs.Translations.{link_by}
 use Rattle.fb_obstacles.specs.declared.obstacle.Obstacle.{Obstacle}
-use Rattle.fb_obstacles.specs.Obstacles.{HavePlusParity, IsObstacle, IsWatched, ListsMinus, residue_at}
+use Rattle.fb_obstacles.specs.Obstacles.{HavePlusParity, IsObstacle, IsWatched, ListsMinus, Obstructs, residue_at}
 use Rattle.fb_obstacles.specs.Watched.{AreBounded, Watched}
 use Rattle.fb_search.specs.Progress.{rewatched}
 use Rattle.fb_search.specs.Searching.{IsSearching, SearchValue, problem_of, roles_in}
-use Rattle.fb_search.proofs.ExchangedObstacles.{obstacle_exchanged}
+use Rattle.fb_search.proofs.ExchangedObstacles.{obstacle_exchanged, obstructs_exchanged}
 use Rattle.fb_search.proofs.Runs.{tree_roles}
 use Rattle.fb_search.proofs.SearchRoles.{linked_tree, minus_live, no_odd_closed, roles_in_tree}
 
@@ -88,6 +89,20 @@ module _ (w : SearchValue) (are : IsSearching w) where
         rw (← eg, ← et, ← en) is in
         obstacle_exchanged (problem_at w.part.job.graph w.part.job.plan w.part.node []) (is_in (shot_of w.part)) (roles_in w)
         w.part.nodes o there
+
+    next_stands : (o : Obstacle) → Obstructs (problem_at g t n []) (roles_in w) w.part.nodes o
+        → Obstructs (problem_of w) (roles_in w) w.part.nodes o
+    next_stands o is =
+        let there : Obstructs (problem_at w.part.job.graph w.part.job.plan w.part.node []) (roles_in w) w.part.nodes o =
+        rw (← eg, ← et, ← en) is in
+        obstructs_exchanged (problem_at w.part.job.graph w.part.job.plan w.part.node []) (is_in (shot_of w.part)) (roles_in w)
+        w.part.nodes o there
+
+    pub next_limiting : (found : Option Obstacle)
+        → IfSome found (Obstructs (problem_at g t n []) (roles_in w) w.part.nodes)
+        → IfSome found (Obstructs (problem_of w) (roles_in w) w.part.nodes)
+    next_limiting None is = is
+    next_limiting (Some o) is = next_stands o is
 
     -- the search with a watch that is right, of the same edges or of others
     pub searching_rewatched : (now : Watched) → now.edge_count ≡ w.watched.edge_count

@@ -1,4 +1,4 @@
-ghost use Rattle.std.specs.Prelude.{◌≡◌, IfOk, MatchOption};
+ghost use Rattle.std.specs.Prelude.{◌≡◌, IfOk, IfSome, MatchOption};
 ghost use Rattle.fb_obstacles.specs.Obstacles.{IsObstacle, Obstructs};
 ghost use Rattle.fb_obstacles.specs.declared.obstacle.Obstacle.TheVariants as Obstacle;
 ghost use Rattle.fb_search.specs.Progress.{GoesOn, HasAdvanced, IsRewatched};
@@ -11,7 +11,7 @@ use crate::searching::Searching;
 use crate::went::Went;
 use fb_graph::{NoMemory, Steps};
 use fb_half::Standing;
-use fb_obstacles::{Obstacle, next_obstacle_by_bounds};
+use fb_obstacles::{Obstacle, limiting_obstacle, next_obstacle_by_bounds};
 use fb_regions::NodeId;
 use std::alloc::Global;
 use std::sync::ledger::Ledger;
@@ -55,12 +55,21 @@ impl<'a> Searching<'a> {
         next_obstacle_by_bounds(watch, &scope, &parts.regions, &roles, looks)
     }
 
+    /// The obstacle at the edge that limited the last step, if that edge is one now.
+    fn limiting<L: Ledger>(&self, looks: &mut Steps<L>) -> Option<Obstacle>
+        ensures { IfSome result (Obstructs (problem_of self.now) (roles_in self.now) self.now.part.nodes) }
+    {
+        limiting_obstacle(
+            &self.watch,
+            self.parts.regions.scope(),
+            &self.parts.regions,
+            &TreeRoles { tree: &self.tree },
+            looks,
+        )
+    }
+
     /// What stands in the way of the tree after the step that it may take, if nothing stood there before.
-    pub(crate) fn step_past<L: Ledger>(
-        &mut self,
-        found: Obstacle,
-        looks: &mut Steps<L>,
-    ) -> Obstacle
+    pub(crate) fn step_past<L: Ledger>(&mut self, found: Obstacle, looks: &mut Steps<L>) -> Obstacle
         requires { IsObstacle (problem_of self.old) (roles_in self.old) self.old.part.nodes found }
         ensures obstacle { Obstructs (problem_of self.new) (roles_in self.new) self.new.part.nodes result }
         ensures stepped { HasStepped self.old self.new }
@@ -69,7 +78,10 @@ impl<'a> Searching<'a> {
         match found {
             Obstacle::Free(length) => {
                 self.step(length);
-                self.next(looks)
+                match self.limiting(looks) {
+                    Some(obstacle) => obstacle,
+                    None => self.next(looks),
+                }
             }
             obstacle => obstacle,
         }

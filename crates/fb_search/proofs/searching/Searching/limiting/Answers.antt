@@ -1,0 +1,26 @@
+use Rattle.std.proofs.Common.{◌∙◌, ap, sym}
+use Rattle.fb_half.specs.Values.{part_of}
+use Rattle.fb_search.specs.Searching.{SearchValue}
+use Rattle.fb_search.proofs.NextObstacles.{next_limiting, next_parity, next_roles, next_watched}
+use Rattle.fb_search.proofs.searching.Searching.limiting.Goals as goal
+
+pub limiting_obstacle-requires : goal.limiting_obstacle-requires
+limiting_obstacle-requires g c =
+    let w : SearchValue = record { part = part_of c.self.inside.parts; tree = c.self.inside.tree; watched = c.self.inside.watch } in
+    let scope = c.self.invariant.0 in
+    record {
+      same = sym c.scope.ensures;
+      roles = next_roles w c.self.invariant.1;
+      parity = next_parity w c.self.invariant.1;
+      within = (next_watched w c.self.invariant.1 _ _ _ (ap (λ s. s.graph.now) c.scope.ensures ∙ scope.graph)
+          (ap (λ s. s.plan.now) c.scope.ensures ∙ scope.plan) (ap (λ s. s.node) c.scope.ensures ∙ scope.node)).within;
+    }
+
+pub returns : goal.returns
+returns g c =
+    let w : SearchValue = record { part = part_of c.self.inside.parts; tree = c.self.inside.tree; watched = c.self.inside.watch } in
+    let scope = c.self.invariant.0 in
+    rw (← c.self.view_is)
+    (next_limiting w c.self.invariant.1 c.scope.result.now.graph.now c.scope.result.now.plan.now c.scope.result.now.node
+    (ap (λ s. s.graph.now) c.scope.ensures ∙ scope.graph) (ap (λ s. s.plan.now) c.scope.ensures ∙ scope.plan)
+    (ap (λ s. s.node) c.scope.ensures ∙ scope.node) c.limiting_obstacle.result c.limiting_obstacle.ensures.obstacle)
