@@ -118,12 +118,12 @@ loop-place-preserved g c =
     let residue : c.residue-residue.result ≡ residue_at (g.S.Scope.problem c.args.scope.now) c.args.regions.now.nodes k =
     residue_by_ends (g.S.Scope.problem c.args.scope.now) c.args.regions.now.nodes k c.weight.result c.residue-residue.result c.of-ends.result
     ends c.weight.ensures c.residue-residue.ensures in
-    let looked : c.look_with.result ≡ edge_look (g.S.Scope.problem c.args.scope.now) (g.R.Roles.role_of c.args.roles.now) c.args.regions.now.nodes k =
+    let looked : c.look_with-look.result ≡ edge_look (g.S.Scope.problem c.args.scope.now) (g.R.Roles.role_of c.args.roles.now) c.args.regions.now.nodes k =
     look_by_ends (g.S.Scope.problem c.args.scope.now) (g.R.Roles.role_of c.args.roles.now) c.args.regions.now.nodes k c.residue-residue.result
-    c.of-ends.result c.look_with.result ends residue c.look_with.ensures in
+    c.of-ends.result c.look_with-look.result ends residue c.look_with-look.ensures in
     record {
       scanned = scanned_more (g.S.Scope.problem c.args.scope.now) (g.R.Roles.role_of c.args.roles.now) c.args.regions.now.nodes (g.R.MinusNodes.minus_names c.args.roles.now) c.args.watch.now c.loop-place.watch c.with_look-least.new.watch
-          c.loop-place.place k c.residue-residue.result c.loop-place.least c.look_with.result c.with_look-least.result
+          c.loop-place.place k c.residue-residue.result c.loop-place.least c.look_with-look.result c.with_look-least.result
           (record {
             dual = subst (λ s. IsDual (g.S.Scope.problem s) c.args.regions.now.nodes) c.requires.same c.keeps_dual.ensures;
             roles = c.requires.roles;
@@ -148,12 +148,12 @@ returns-in-Blocked-least g c =
     let residue : c.residue-residue.result ≡ residue_at (g.S.Scope.problem c.args.scope.now) c.args.regions.now.nodes k =
     residue_by_ends (g.S.Scope.problem c.args.scope.now) c.args.regions.now.nodes k c.weight.result c.residue-residue.result c.of-ends.result
     ends c.weight.ensures c.residue-residue.ensures in
-    let looked : c.look_with.result ≡ edge_look (g.S.Scope.problem c.args.scope.now) (g.R.Roles.role_of c.args.roles.now) c.args.regions.now.nodes k =
+    let looked : c.look_with-look.result ≡ edge_look (g.S.Scope.problem c.args.scope.now) (g.R.Roles.role_of c.args.roles.now) c.args.regions.now.nodes k =
     look_by_ends (g.S.Scope.problem c.args.scope.now) (g.R.Roles.role_of c.args.roles.now) c.args.regions.now.nodes k c.residue-residue.result
-    c.of-ends.result c.look_with.result ends residue c.look_with.ensures in
+    c.of-ends.result c.look_with-look.result ends residue c.look_with-look.ensures in
     let scanned : IsScanned (g.S.Scope.problem c.args.scope.now) (g.R.Roles.role_of c.args.roles.now) c.args.regions.now.nodes (g.R.MinusNodes.minus_names c.args.roles.now) c.args.watch.now c.with_look-least.new.watch (c.loop-place.place - 1) c.with_look-least.result =
     scanned_more (g.S.Scope.problem c.args.scope.now) (g.R.Roles.role_of c.args.roles.now) c.args.regions.now.nodes (g.R.MinusNodes.minus_names c.args.roles.now) c.args.watch.now c.loop-place.watch c.with_look-least.new.watch
-    c.loop-place.place k c.residue-residue.result c.loop-place.least c.look_with.result c.with_look-least.result
+    c.loop-place.place k c.residue-residue.result c.loop-place.least c.look_with-look.result c.with_look-least.result
     (record {
       dual = subst (λ s. IsDual (g.S.Scope.problem s) c.args.regions.now.nodes) c.requires.same c.keeps_dual.ensures;
       roles = c.requires.roles;

@@ -1,0 +1,16 @@
+use Rattle.std.proofs.Common.{ℕ, ◌-◌, ◌≤◌, List, get_or, map, ap, arith}
+use Rattle.fb_obstacles.proofs.RaisedBounds.{lowered_at}
+use Rattle.fb_obstacles.proofs.watching.Watch.large_from.Goals as goal
+
+pub returns-in-Some-clause-large : goal.returns-in-Some-clause-large
+returns-in-Some-clause-large c =
+    rw (← c.self.view_is)
+    (λ i from before.
+    let large : c.args.limit ≤ get_or (map (λ b. b - c.self.inside.lowered) c.self.inside.raised.items) i 0 = omega (
+      arith,
+      lowered_at c.self.inside.raised.items c.self.inside.lowered i,
+      c.large_from.ensures.large i from before,
+      ap (λ xs. get_or xs i 0) c.deref.ensures.value,
+      c.in-Some.ensures,
+    ) in
+    large)
