@@ -1,9 +1,9 @@
 -- After the greatest free step an obstacle stands, and the search goes on from there.
-use Rattle.std.proofs.Common.{ℕ, ◌≡◌, ◌+◌, ◌≤◌, true, false, List, Option, Some, None, refl, sym, ◌∙◌, subst, arith}
+use Rattle.std.proofs.Common.{ℕ, ◌≡◌, ◌+◌, ◌≤◌, true, false, Option, Some, None, sym, ◌∙◌, subst, arith}
 use Rattle.std.specs.Prelude.{MatchOption}
 use Rattle.fb_graph.specs.Parity.{is_in}
 use Rattle.fb_graph.specs.Problem.{Problem, with_defects}
-use Rattle.fb_graph.specs.Dual.{Node, leaves}
+use Rattle.fb_graph.specs.Dual.{leaves}
 use Rattle.fb_graph.specs.Steps.{Roles, stepped}
 use Rattle.fb_graph.proofs.StepLoads.{steps_add}
 use Rattle.fb_laws.specs.Trees.{roles_of}
@@ -121,18 +121,6 @@ stepped_not w o cleared = went_at_once w o cleared
 pub stepped_anew : (w now after : SearchValue) → IsRewatched w now → HasStepped now after → HasStepped w after
 stepped_anew w now after same stepped o cleared =
     went_anew w now.watched o same.room (subst (λ s. HasWent s o) same.same (stepped o cleared))
-
--- what was found and is no free step stands in the way
-pub obstructs_found : (p : Problem) (roles : Roles) (nodes : List Node) (o : Obstacle) → IsObstacle p roles nodes o
-    → ((k : ℕ) → o ≡ Free k → ⊥) → Obstructs p roles nodes o
-obstructs_found p roles nodes (Free j) is other = absurd (other j refl)
-obstructs_found p roles nodes (Absorb e) is other = is
-obstructs_found p roles nodes (Boundary e) is other = is
-obstructs_found p roles nodes (Meet e) is other = is
-obstructs_found p roles nodes (PlusPair e) is other = is
-obstructs_found p roles nodes (LayerEmpty n) is other = is
-obstructs_found p roles nodes (BlossomEmpty n) is other = is
-obstructs_found p roles nodes (ZeroMinus n) is other = is
 
 -- what a turn leaves, seen from before it
 pub turned : (w mid after : SearchValue) (left : Option TreeObstacle) → HasStepped w mid

@@ -6,7 +6,7 @@ use Rattle.std.proofs.lemmas.List.{take_more}
 use Rattle.fb_graph.specs.Parity.{is_in}
 use Rattle.fb_graph.specs.Problem.{Problem, edge_at, touches}
 use Rattle.fb_graph.specs.Dual.{Node, top_at}
-use Rattle.fb_graph.proofs.Members.{is_in-append, is_in_push, is_in_pushed}
+use Rattle.fb_graph.proofs.Members.{is_in_push, is_in_pushed}
 use Rattle.fb_graph.proofs.Ranges.{is_in-filter-range}
 use Rattle.fb_graph.proofs.Sets.{is_in-cases}
 use Rattle.fb_laws.proofs.TreePaths.{in_left}

@@ -1,4 +1,4 @@
-use Rattle.std.proofs.Common.{ℕ, ◌≡◌, ◌∙◌, [], ◌∷◌, ◌++◌, ap, subst, get_or, drop, sym, ◌+◌, arith, append-nil}
+use Rattle.std.proofs.Common.{ℕ, ◌∙◌, [], ◌∷◌, ◌++◌, ap, subst, get_or, drop, sym, ◌+◌, arith, append-nil}
 use Rattle.std.proofs.lemmas.List.{drop_all}
 use Rattle.fb_graph.specs.Parity.{is_in}
 use Rattle.fb_search.specs.InternalRounds.{HasSearchedSome, as_list}

@@ -3,7 +3,7 @@ use Rattle.fb_graph.specs.Dual.{top_at}
 use Rattle.fb_graph.specs.Parity.{is_in}
 use Rattle.fb_graph.proofs.Ranges.{filter-range_below}
 use Rattle.fb_graph.proofs.Sets.{is_in-All}
-use Rattle.fb_search.proofs.PassedVertices.{all_passed, next_held, none_passed, one_passed}
+use Rattle.fb_search.proofs.PassedVertices.{next_held, none_passed, one_passed}
 use Rattle.fb_search.proofs.TopLayers.{top_real}
 use Rattle.fb_search.proofs.watched.watch_node.Goals as goal
 

@@ -1,7 +1,6 @@
-use Rattle.std.proofs.Common.{Option, Some, None, subst}
+use Rattle.std.proofs.Common.{subst}
 use Rattle.std.specs.Prelude.{MatchOption}
 use Rattle.fb_obstacles.specs.Obstacles.{IsFree, IsObstacle}
-use Rattle.fb_search.specs.declared.advancing.TreeObstacle.{TreeObstacle}
 use Rattle.fb_search.specs.InternalTurns.{BlocksTree, HasStepped}
 use Rattle.fb_search.specs.Progress.{HasAdvanced}
 use Rattle.fb_search.specs.Searching.{SearchValue, problem_of, roles_in}
