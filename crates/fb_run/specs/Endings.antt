@@ -102,14 +102,14 @@ abbrev pub EndsByPlan : Option (List ℕ) → Decoding → DecodingGraph → Mom
 EndsByPlan None request g before after cause = EndsOn request g (single_of g) before after cause
 EndsByPlan (Some name) request g before after cause =
     EndsAtFile (IsPlanRefusal g before.named name) name before after cause
-    ⊎ EndsWithPla request g name before after cause
+    ⊎ EndsWithPlan request g name before after cause
 
 -- the file of the graph holds one, and the decode ended so for it
 pub record EndsWithGraph (request : Decoding) (before after : Moment) (cause : Cause) : Type 0 where
   pub g : DecodingGraph
   pub read : Moment
   pub graph : ReadsFile (IsGraphText g) request.graph before read
-  pub ends : EndsByPla request.pla request g read after cause
+  pub ends : EndsByPlan request.plan request g read after cause
 
 -- the end of a decode: at the graph, or with it
 abbrev pub DecodeEnds : Decoding → Moment → Moment → Cause → Type 0

@@ -10,9 +10,9 @@ use Rattle.fb_run.proofs.decoding.decode_on.Goals as goal
 
 -- the end of a decode for which a plan is named
 by_name : (plan : Option (List ℕ)) (request : Decoding) (g : DecodingGraph) (name : List ℕ) (before after : Moment) (cause : Cause) → plan ≡ Some name
-    → EndsAtFile (IsPlanRefusal g before.named name) name before after cause ⊎ EndsWithPla request g name before after cause
-    → EndsByPlan pla request g before after cause
-by_name pla request g name before after cause is ends = subst (λ (p : Option (List ℕ)). EndsByPlan p request g before after cause) (sym is) ends
+    → EndsAtFile (IsPlanRefusal g before.named name) name before after cause ⊎ EndsWithPlan request g name before after cause
+    → EndsByPlan plan request g before after cause
+by_name plan request g name before after cause is ends = subst (λ (p : Option (List ℕ)). EndsByPlan p request g before after cause) (sym is) ends
 
 pub returns-in-Ok-read_plan_file-clause-ends : goal.returns-in-Ok-read_plan_file-clause-ends
 returns-in-Ok-read_plan_file-clause-ends g c = by_name _ _ _ _ _ _ _ (ap (option_map (λ name. name.now)) c.in-Some.is) (inr (record {
