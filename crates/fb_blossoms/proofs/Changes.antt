@@ -5,14 +5,14 @@ use Rattle.std.proofs.lemmas.Bool.{both_ways, cases_Bool, cases_eq}
 use Rattle.fb_links.specs.declared.cycle.CycleStep.{CycleStep}
 use Rattle.fb_blossoms.specs.InternalItems.{Item}
 use Rattle.fb_blossoms.specs.Nodes.{Adds, Node, TakesOff, blossom, defects_at, defects_of, is_in, is_on, node_at}
-use Rattle.fb_blossoms.specs.InternalForest.{IsItem, IsKept, IsOddItem, IsPlaceOf, cycle_in, defects_in, held_at, is_kept, item_at, last_place, made_at, made_in, node_of, nodes_of, own_at, own_in, parent_at, parent_in, place_at, place_of, seated, steps_at, under}
+use Rattle.fb_blossoms.specs.InternalForest.{IsItem, IsKept, IsOddItem, IsPlaceOf, cycle_in, defects_in, held_at, is_kept, item_at, last_place, made_at, made_in, node_of, nodes_of, own_at, own_in, parent_at, parent_in, place_at, place_of, reparented_item, steps_at, with_parent}
 use Rattle.fb_blossoms.proofs.Climbs.{kept_child, kept_parent, none_some, same_some}
 use Rattle.fb_blossoms.proofs.Seats.{last_place_is}
 use Rattle.fb_blossoms.proofs.Held.{along_same, node_from, same_levels}
 use Rattle.fb_blossoms.proofs.Nested.{blossom_from, leaf_cycle, one_in}
 
 abbrev put : Bool → ℕ → Option ℕ → Option Item → Option Item
-put b k parent o = if b then option_map (under parent k) o else o
+put b k parent o = if b then option_map (with_parent parent k) o else o
 
 put_own : (b : Bool) (k : ℕ) (q : Option ℕ) (o : Option Item) → own_in (put b k q o) ≡ own_in o
 put_own false k q o = refl
@@ -74,7 +74,7 @@ pub record AreSame (old new : List (Option Item)) (key : ℕ) : Type 0 where
   pub kept : (x : ℕ) → x ≢ key → is_kept new x ≡ is_kept old x
 
 same_put : (old new : List (Option Item)) (key : ℕ) (cycle : List CycleStep) (q : Option ℕ)
-    → ((x : ℕ) → x ≢ key → item_at new x ≡ seated cycle q x (item_at old x)) → AreSame old new key
+    → ((x : ℕ) → x ≢ key → item_at new x ≡ reparented_item cycle q x (item_at old x)) → AreSame old new key
 same_put old new key cycle q h = record {
   own = λ x n. ap own_in (h x n) ∙ put_own (is_on cycle x) (last_place cycle x) q (item_at old x);
   steps = λ x n. ap cycle_in (h x n) ∙ put_steps (is_on cycle x) (last_place cycle x) q (item_at old x);
@@ -106,7 +106,7 @@ module _ (old new : List (Option Item)) (key : ℕ) (same : AreSame old new key)
 -- a node is added under a free number, and becomes the parent of outer nodes
 module _ (old new : List (Option Item)) (leaves leaves' : ℕ → Option ℕ) (made : ℕ) (kept : IsKept old leaves made) (key : ℕ) (i : Item)
     (fresh : item_at old key ≡ None) (here : item_at new key ≡ Some i) (top : i.parent ≡ None) (made_is : i.made ≡ made)
-    (others : (x : ℕ) → x ≢ key → item_at new x ≡ seated i.cycle (Some key) x (item_at old x))
+    (others : (x : ℕ) → x ≢ key → item_at new x ≡ reparented_item i.cycle (Some key) x (item_at old x))
     (live : (x : ℕ) → is_on i.cycle x ≡ true → is_kept old x ≡ true) (outer : (x : ℕ) → is_on i.cycle x ≡ true → parent_at old x ≡ None)
     (shaped : IsItem i.own i.cycle) (leaf_new : (d : ℕ) → is_in i.own d ≡ true → leaves' d ≡ Some key)
     (leaf_old : (d : ℕ) → is_in i.own d ≡ false → leaves' d ≡ leaves d)
@@ -279,7 +279,7 @@ module _ (old new : List (Option Item)) (leaves leaves' : ℕ → Option ℕ) (m
 -- an outer blossom is taken off, and its children become outer
 module _ (old new : List (Option Item)) (leaves : ℕ → Option ℕ) (made : ℕ) (kept : IsKept old leaves made) (key : ℕ)
     (top : parent_at old key ≡ None) (some : steps_at old key ≡ [] → ⊥) (here : item_at new key ≡ None)
-    (others : (x : ℕ) → x ≢ key → item_at new x ≡ seated (steps_at old key) None x (item_at old x)) where
+    (others : (x : ℕ) → x ≢ key → item_at new x ≡ reparented_item (steps_at old key) None x (item_at old x)) where
   left : AreSame old new key
   left = same_put old new key (steps_at old key) None others
 

@@ -9,7 +9,7 @@ use Rattle.fb_blossoms.specs.InternalItems.{Item}
 use Rattle.fb_blossoms.specs.Nodes.{Node, is_in, is_live, is_on, node_at}
 use Rattle.fb_blossoms.specs.InternalForest.{IsForest, IsItem, IsKept, IsPlaceOf, cycle_in, defects_in, held_at, is_kept, item_at, made_at, made_in, nodes_of, own_at, own_in, parent_at, parent_in, place_at, place_of, steps_at}
 use Rattle.fb_blossoms.specs.Merged.{AreLeavesApart, IsMerged, renamed_cycle, renamed_node, renamed_step}
-use Rattle.fb_blossoms.specs.InternalMerged.{AreJoined, AreListed, AreOwnApart, later, renamed_item}
+use Rattle.fb_blossoms.specs.InternalMerged.{AreJoined, AreListed, AreOwnApart, shifted_item, renamed_item}
 use Rattle.fb_blossoms.proofs.Climbs.{kept_child, kept_parent, none_some, same_some}
 use Rattle.fb_blossoms.proofs.Held.{levels_agree, live_from, same_levels}
 use Rattle.fb_blossoms.proofs.Nested.{is_in-one, leaf_node, one_in}
@@ -22,7 +22,7 @@ from_map f (Some q) p e = (q, refl, same_some (Some (f q)) (f q) p refl e)
 
 module _ (f g : ℕ → ℕ) (more : ℕ) where
   abbrev moved : Option Item → Option Item
-  moved o = option_map (λ i. renamed_item f g (later more i)) o
+  moved o = option_map (λ i. renamed_item f g (shifted_item more i)) o
 
   parent_moved : (o : Option Item) → parent_in (moved o) ≡ option_map f (parent_in o)
   parent_moved None = refl

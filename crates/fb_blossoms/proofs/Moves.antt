@@ -5,7 +5,7 @@ use Rattle.slab.specs.Slab.{Slab, Updates, get}
 use Rattle.fb_links.specs.declared.cycle.CycleStep.{CycleStep}
 use Rattle.fb_blossoms.specs.InternalItems.{Item}
 use Rattle.fb_blossoms.specs.Nodes.{Adds, AreOuter, IsOddCycle, IsOuter, Node, TakesOff, blossom, cycle_at, is_in, is_on, leaf, node_at}
-use Rattle.fb_blossoms.specs.InternalForest.{IsItem, IsKept, cycle_in, item_at, is_kept, last_place, nodes_of, parent_at, seated, steps_at, under}
+use Rattle.fb_blossoms.specs.InternalForest.{IsItem, IsKept, cycle_in, item_at, is_kept, last_place, nodes_of, parent_at, reparented_item, steps_at, with_parent}
 use Rattle.fb_blossoms.proofs.Held.{cycle_from, live_from}
 use Rattle.fb_blossoms.proofs.Nested.{is_in-one, leaf_node, one_in, outer_from}
 use Rattle.fb_blossoms.proofs.Changes.{adds, kept_added, kept_left, node_added, takes_off}
@@ -20,7 +20,7 @@ adds_as : (old new : List (Option Node)) (key : ℕ) (n m : Node) → Adds old n
 adds_as old new key n m h e = let P : Node → Type 0 = λ k. Adds old new key k in subst P e h
 
 module _ (old mid new : Slab Item) (leaves : ℕ → Option ℕ) (made : ℕ) (kept : IsKept old.slots leaves made) (key : ℕ) (cycle : List CycleStep)
-    (vacant : get old key ≡ None) (moved : (x : ℕ) → get mid x ≡ seated cycle (Some key) x (get old x))
+    (vacant : get old key ≡ None) (moved : (x : ℕ) → get mid x ≡ reparented_item cycle (Some key) x (get old x))
     (updates : Updates mid new key (Some (new_blossom made cycle)))
     (odd : IsOddCycle (nodes_of old.slots) cycle) (outer : AreOuter (nodes_of old.slots) cycle) where
   live : (x : ℕ) → is_on cycle x ≡ true → is_kept old.slots x ≡ true
@@ -29,7 +29,7 @@ module _ (old mid new : Slab Item) (leaves : ℕ → Option ℕ) (made : ℕ) (k
   top : (x : ℕ) → is_on cycle x ≡ true → parent_at old.slots x ≡ None
   top x on = outer_from old.slots made kept.forest x (outer x on)
 
-  others : (x : ℕ) → x ≢ key → item_at new.slots x ≡ seated cycle (Some key) x (item_at old.slots x)
+  others : (x : ℕ) → x ≢ key → item_at new.slots x ≡ reparented_item cycle (Some key) x (item_at old.slots x)
   others x n = updates.others x n ∙ moved x
 
   shaped : IsItem [] cycle
@@ -91,7 +91,7 @@ module _ (old new : Slab Item) (leaves leaves' : ℕ → Option ℕ) (made : ℕ
 
 module _ (old mid new : Slab Item) (leaves : ℕ → Option ℕ) (made : ℕ) (kept : IsKept old.slots leaves made) (key : ℕ) (i : Item)
     (found : get old key ≡ Some i) (updates : Updates old mid key None)
-    (moved : (x : ℕ) → get new x ≡ seated i.cycle None x (get mid x))
+    (moved : (x : ℕ) → get new x ≡ reparented_item i.cycle None x (get mid x))
     (some : cycle_at (nodes_of old.slots) key ≢ []) (outer : IsOuter (nodes_of old.slots) key) where
   steps : steps_at old.slots key ≡ i.cycle
   steps = ap cycle_in found
@@ -100,14 +100,14 @@ module _ (old mid new : Slab Item) (leaves : ℕ → Option ℕ) (made : ℕ) (k
   some_steps e = some (cycle_from old.slots key ∙ e)
 
   gone : item_at new.slots key ≡ None
-  gone = moved key ∙ (ap (seated i.cycle None key) updates.changed ∙ none (is_on i.cycle key))
+  gone = moved key ∙ (ap (reparented_item i.cycle None key) updates.changed ∙ none (is_on i.cycle key))
     where
-      none : (b : Bool) → (if b then option_map (under None (last_place i.cycle key)) None else None) ≡ None
+      none : (b : Bool) → (if b then option_map (with_parent None (last_place i.cycle key)) None else None) ≡ None
       none true = refl
       none false = refl
 
-  still : (x : ℕ) → x ≢ key → item_at new.slots x ≡ seated (steps_at old.slots key) None x (item_at old.slots x)
-  still x n = moved x ∙ (ap (seated i.cycle None x) (updates.others x n) ∙ ap (λ c. seated c None x (item_at old.slots x)) (sym steps))
+  still : (x : ℕ) → x ≢ key → item_at new.slots x ≡ reparented_item (steps_at old.slots key) None x (item_at old.slots x)
+  still x n = moved x ∙ (ap (reparented_item i.cycle None x) (updates.others x n) ∙ ap (λ c. reparented_item c None x (item_at old.slots x)) (sym steps))
 
   pub opened : IsKept new.slots leaves made
   opened = kept_left old.slots new.slots leaves made kept key (outer_from old.slots made kept.forest key outer) some_steps gone still
@@ -123,9 +123,9 @@ pub vacant_from : (old roomy : Slab Item) (capacity key : ℕ) → roomy ≡ rec
 vacant_from old roomy capacity key e h = ap (λ s. get s key) (sym e) ∙ h
 
 pub moved_from : (old roomy mid : Slab Item) (capacity : ℕ) (seen cycle : List CycleStep) (q : Option ℕ) → roomy ≡ record old { capacity = capacity }
-    → seen ≡ cycle → ((x : ℕ) → get mid x ≡ seated seen q x (get roomy x)) → (x : ℕ) → get mid x ≡ seated cycle q x (get old x)
+    → seen ≡ cycle → ((x : ℕ) → get mid x ≡ reparented_item seen q x (get roomy x)) → (x : ℕ) → get mid x ≡ reparented_item cycle q x (get old x)
 moved_from old roomy mid capacity seen cycle q e same h x =
-    h x ∙ (ap (λ s. seated seen q x (get s x)) e ∙ ap (λ c. seated c q x (get old x)) same)
+    h x ∙ (ap (λ s. reparented_item seen q x (get s x)) e ∙ ap (λ c. reparented_item c q x (get old x)) same)
 
 pub updates_from : (mid new : Slab Item) (at key : ℕ) (i j : Item) → at ≡ key → i ≡ j → Updates mid new at (Some i) → Updates mid new key (Some j)
 updates_from mid new at key i j e f h =
@@ -140,5 +140,5 @@ updates_roomy old roomy new capacity key o e h = record {
 }
 
 pub seen_from : (mid new : Slab Item) (seen cycle : List CycleStep) (q : Option ℕ) → seen ≡ cycle
-    → ((x : ℕ) → get new x ≡ seated seen q x (get mid x)) → (x : ℕ) → get new x ≡ seated cycle q x (get mid x)
-seen_from mid new seen cycle q same h x = h x ∙ ap (λ c. seated c q x (get mid x)) same
+    → ((x : ℕ) → get new x ≡ reparented_item seen q x (get mid x)) → (x : ℕ) → get new x ≡ reparented_item cycle q x (get mid x)
+seen_from mid new seen cycle q same h x = h x ∙ ap (λ c. reparented_item c q x (get mid x)) same

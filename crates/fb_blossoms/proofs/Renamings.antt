@@ -16,7 +16,7 @@ use Rattle.fb_blossoms.specs.Nodes.{AreDistinct, is_on}
 use Rattle.fb_blossoms.specs.Links.{step_at}
 use Rattle.fb_blossoms.specs.InternalForest.{IsItem, is_kept}
 use Rattle.fb_blossoms.specs.Merged.{new_count, old_count, renamed_cycle, renamed_step}
-use Rattle.fb_blossoms.specs.InternalMerged.{AreAllTaken, AreJoined, is_pair, later, renamed_among, renamed_item}
+use Rattle.fb_blossoms.specs.InternalMerged.{AreAllTaken, AreJoined, is_pair, shifted_item, renamed_among, renamed_item}
 use Rattle.fb_blossoms.proofs.PairLists.{new_counted, new_listed, new_pair, one_if, pair_by, pair_is, pair_same}
 
 -- the next pair's item is renamed
@@ -153,7 +153,7 @@ module _ (old right mid new : Slab Item) (more : ℕ) (links names : List (ℕ �
       named = λ a k. new_listed names a (F a) (pair a k);
     }
       where
-        twice : (o : Option Item) → option_map (renamed_item F G) (option_map (later more) o) ≡ option_map (λ i. renamed_item F G (later more i)) o
+        twice : (o : Option Item) → option_map (renamed_item F G) (option_map (shifted_item more) o) ≡ option_map (λ i. renamed_item F G (shifted_item more i)) o
         twice None = refl
         twice (Some i) = refl
 

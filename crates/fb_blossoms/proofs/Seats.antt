@@ -7,7 +7,7 @@ use Rattle.fb_links.specs.declared.cycle.CycleStep.{CycleStep}
 use Rattle.fb_blossoms.specs.InternalItems.{Item}
 use Rattle.fb_blossoms.specs.Nodes.{is_on}
 use Rattle.fb_blossoms.specs.Links.{step_at}
-use Rattle.fb_blossoms.specs.InternalForest.{IsPlaceOf, last_place, seated, under}
+use Rattle.fb_blossoms.specs.InternalForest.{IsPlaceOf, last_place, reparented_item, with_parent}
 
 pub last_place_is : (cycle : List CycleStep) (x : ℕ) → is_on cycle x ≡ true → IsPlaceOf cycle x (last_place cycle x)
 last_place_is [] x on = absurd (both_ways false refl on)
@@ -45,14 +45,14 @@ last_before (y ∷ ys) s x e on =
     ]
 
 under_twice : (b : Bool) (q : Option ℕ) (j k : ℕ) (o : Option Item)
-    → option_map (under q k) (if b then option_map (under q j) o else o) ≡ option_map (under q k) o
+    → option_map (with_parent q k) (if b then option_map (with_parent q j) o else o) ≡ option_map (with_parent q k) o
 under_twice true q j k None = refl
 under_twice true q j k (Some i) = refl
 under_twice false q j k o = refl
 
 -- one more step of the cycle puts its node under the parent
 pub seated_push : (xs : List CycleStep) (s : CycleStep) (q : Option ℕ) (x : ℕ) (o : Option Item)
-    → seated (xs ++ s ∷ []) q x o ≡ (if s.node == x then option_map (under q (length xs)) (seated xs q x o) else seated xs q x o)
+    → reparented_item (xs ++ s ∷ []) q x o ≡ (if s.node == x then option_map (with_parent q (length xs)) (reparented_item xs q x o) else reparented_item xs q x o)
 seated_push xs s q x o =
     elim (cases_Bool (s.node == x)) [
       | inl e ↦
@@ -66,10 +66,10 @@ seated_push xs s q x o =
     ]
 
 pub seated_next : (cycle : List CycleStep) (i : ℕ) (q : Option ℕ) (x : ℕ) (o : Option Item) → i < length cycle
-    → seated (take (i + 1) cycle) q x o
-    ≡ (if (step_at cycle i).node == x then option_map (under q i) (seated (take i cycle) q x o) else seated (take i cycle) q x o)
+    → reparented_item (take (i + 1) cycle) q x o
+    ≡ (if (step_at cycle i).node == x then option_map (with_parent q i) (reparented_item (take i cycle) q x o) else reparented_item (take i cycle) q x o)
 seated_next cycle i q x o less =
     let n : length (take i cycle) ≡ i = length-take-le i cycle (omega (arith, less)) in
-    ap (λ c. seated c q x o) (take_more cycle i (record { node = 0; link = 0 }) less)
+    ap (λ c. reparented_item c q x o) (take_more cycle i (record { node = 0; link = 0 }) less)
     ∙ (seated_push (take i cycle) (step_at cycle i) q x o
-    ∙ ap (λ j. if (step_at cycle i).node == x then option_map (under q j) (seated (take i cycle) q x o) else seated (take i cycle) q x o) n)
+    ∙ ap (λ j. if (step_at cycle i).node == x then option_map (with_parent q j) (reparented_item (take i cycle) q x o) else reparented_item (take i cycle) q x o) n)

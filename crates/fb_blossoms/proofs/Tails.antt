@@ -6,7 +6,7 @@ use Rattle.fb_links.specs.declared.walk.Step.{Step}
 use Rattle.fb_links.specs.Walks.{other_end}
 use Rattle.fb_links.specs.Table.{walk_at}
 use Rattle.fb_blossoms.specs.Nodes.{AreWithin, Node, cycle_at, defects_at, is_in}
-use Rattle.fb_blossoms.specs.Paths.{AreDifferent, IsLinkIn, IsSimpleEvenPath, Leads, has_link, reached}
+use Rattle.fb_blossoms.specs.Paths.{AreDifferent, IsLinkIn, IsSimpleEvenPath, Leads, has_link, reached_defects}
 use Rattle.fb_blossoms.specs.Links.{LeadsOver}
 
 pub in_either : (xs ys : List ℕ) (v : ℕ) → is_in (xs ++ ys) v ≡ true → (is_in xs v ≡ true) ⊎ (is_in ys v ≡ true)
@@ -32,8 +32,8 @@ module _ (links : List (Option (List Step))) where
   leads_append from (l ∷ p) via q to g h = (g.0, leads_append (other_end from (walk_at links l)) p via q to g.1 h)
 
   reached_append : (from : ℕ) (p : List ℕ) (via : ℕ) (q : List ℕ) → Leads links from p via
-      → reached links from (p ++ q) ≡ reached links from p ++ reached links via q
-  reached_append from [] via q g = ap (λ v. reached links v q) g
+      → reached_defects links from (p ++ q) ≡ reached_defects links from p ++ reached_defects links via q
+  reached_append from [] via q g = ap (λ v. reached_defects links v q) g
   reached_append from (l ∷ p) via q g =
       let w : ℕ = other_end from (walk_at links l) in
       ap (λ r. w ∷ r) (reached_append w p via q g.1)
@@ -42,8 +42,8 @@ module _ (links : List (Option (List Step))) where
   pub record IsTail (nodes : List (Option Node)) (name : ℕ) (node : ℕ → ℕ) (k at to : ℕ) (path : List ℕ) : Type 0 where
     pub leads : Leads links at path to
     pub count : length path % 2 ≡ k % 2
-    pub once : AreDifferent (reached links at path)
-    pub placed : (v : ℕ) → is_in (reached links at path) v ≡ true → (i : ℕ) × (i < k) × (is_in (defects_at nodes (node i)) v ≡ true)
+    pub once : AreDifferent (reached_defects links at path)
+    pub placed : (v : ℕ) → is_in (reached_defects links at path) v ≡ true → (i : ℕ) × (i < k) × (is_in (defects_at nodes (node i)) v ≡ true)
     pub inside : (l : ℕ) → is_in path l ≡ true → IsLinkIn nodes name l
 
   pub no_tail : (nodes : List (Option Node)) (name : ℕ) (node : ℕ → ℕ) (to : ℕ) → IsTail nodes name node 0 to to []
@@ -59,24 +59,24 @@ module _ (links : List (Option (List Step))) where
       (start : ℕ) (front : List ℕ) (inner : IsSimpleEvenPath links nodes (node k) start at front) (held : is_in (defects_at nodes (node k)) start ≡ true)
       (apart : (i v : ℕ) → i < k → is_in (defects_at nodes (node i)) v ≡ true → is_in (defects_at nodes (node k)) v ≡ true → ⊥)
       (child : AreWithin (defects_at nodes (node k)) (defects_at nodes name)) where
-    in_front : (v : ℕ) → is_in (start ∷ reached links start front) v ≡ true → is_in (defects_at nodes (node k)) v ≡ true
+    in_front : (v : ℕ) → is_in (start ∷ reached_defects links start front) v ≡ true → is_in (defects_at nodes (node k)) v ≡ true
     in_front v h =
-        elim (or_cases (start == v) (is_in (reached links start front) v) h) [
+        elim (or_cases (start == v) (is_in (reached_defects links start front) v) h) [
           | inl e ↦ ap (is_in (defects_at nodes (node k))) (sym (eqb-true start v e)) ∙ held
           | inr e ↦ inner.within v e
         ]
 
-    both_reach : reached links start (front ++ path) ≡ reached links start front ++ reached links at path
+    both_reach : reached_defects links start (front ++ path) ≡ reached_defects links start front ++ reached_defects links at path
     both_reach = reached_append start front at path inner.leads
 
     both_lead : Leads links start (front ++ path) to
     both_lead = leads_append start front at path to inner.leads tail.leads
 
-    both_once : AreDifferent (start ∷ reached links start (front ++ path))
+    both_once : AreDifferent (start ∷ reached_defects links start (front ++ path))
     both_once =
         let P : List ℕ → Type 0 = λ r. AreDifferent (start ∷ r) in
         subst P (sym both_reach)
-        (different_append (start ∷ reached links start front) (reached links at path) inner.once tail.once
+        (different_append (start ∷ reached_defects links start front) (reached_defects links at path) inner.once tail.once
         (λ v a b. let r = tail.placed v b in apart r.0 v r.1 r.2 (in_front v a)))
 
     both_inside : (l : ℕ) → is_in (front ++ path) l ≡ true → IsLinkIn nodes name l
@@ -86,9 +86,9 @@ module _ (links : List (Option (List Step))) where
           | inr b ↦ tail.inside l b
         ]
 
-    both_placed : (v : ℕ) → is_in (start ∷ reached links start (front ++ path)) v ≡ true → (i : ℕ) × (i < k + 1) × (is_in (defects_at nodes (node i)) v ≡ true)
+    both_placed : (v : ℕ) → is_in (start ∷ reached_defects links start (front ++ path)) v ≡ true → (i : ℕ) × (i < k + 1) × (is_in (defects_at nodes (node i)) v ≡ true)
     both_placed v h =
-        elim (in_either (start ∷ reached links start front) (reached links at path) v (ap (λ r. is_in (start ∷ r) v) (sym both_reach) ∙ h)) [
+        elim (in_either (start ∷ reached_defects links start front) (reached_defects links at path) v (ap (λ r. is_in (start ∷ r) v) (sym both_reach) ∙ h)) [
           | inl a ↦ (k, omega arith, in_front v a)
           | inr b ↦ let r = tail.placed v b in (r.0, omega (arith, r.1), r.2)
         ]
@@ -104,7 +104,7 @@ module _ (links : List (Option (List Step))) where
       even = both_even e;
       once = both_once;
       within = λ v h.
-          elim (in_either (reached links start front) (reached links at path) v (ap (λ r. is_in r v) (sym both_reach) ∙ h)) [
+          elim (in_either (reached_defects links start front) (reached_defects links at path) v (ap (λ r. is_in r v) (sym both_reach) ∙ h)) [
             | inl a ↦ child v (inner.within v a)
             | inr b ↦ let r = tail.placed v b in children r.0 r.1 v r.2
           ];
@@ -117,8 +117,8 @@ module _ (links : List (Option (List Step))) where
     tail_more l outer ends has = record {
       leads = (ends.end, let P : ℕ → Type 0 = λ w. Leads links w (front ++ path) to in subst P (sym ends.other) both_lead);
       count = omega (arith, length-append front path, inner.even, tail.count);
-      once = let P : ℕ → Type 0 = λ w. AreDifferent (w ∷ reached links w (front ++ path)) in subst P (sym ends.other) both_once;
-      placed = λ v h. both_placed v (ap (λ w. is_in (w ∷ reached links w (front ++ path)) v) (sym ends.other) ∙ h);
+      once = let P : ℕ → Type 0 = λ w. AreDifferent (w ∷ reached_defects links w (front ++ path)) in subst P (sym ends.other) both_once;
+      placed = λ v h. both_placed v (ap (λ w. is_in (w ∷ reached_defects links w (front ++ path)) v) (sym ends.other) ∙ h);
       inside = λ m h.
           elim (or_cases (l == m) (is_in (front ++ path) m) h) [
             | inl e ↦ (name, (λ v i. i), ap (has_link (cycle_at nodes name)) (sym (eqb-true l m e)) ∙ has)

@@ -5,7 +5,7 @@ use Rattle.slab.specs.Slab.{Slab, Updates, get}
 use Rattle.fb_blossoms.specs.InternalItems.{Item}
 use Rattle.fb_blossoms.specs.InternalForest.{is_kept, item_at}
 use Rattle.fb_blossoms.specs.Merged.{new_count, old_count}
-use Rattle.fb_blossoms.specs.InternalMerged.{AreTaken, IsStepOver, is_pair, later}
+use Rattle.fb_blossoms.specs.InternalMerged.{AreTaken, IsStepOver, is_pair, shifted_item}
 use Rattle.fb_blossoms.proofs.PairLists.{new_none, new_push, old_push, one_if, pair_before, pair_cases, pair_last}
 
 abbrev among : Bool → Bool → ℕ
@@ -57,7 +57,7 @@ module _ (old right new new' : Slab Item) (more key : ℕ) (names names' : List 
           ]
 
   module _ (i : Item) (here : get right key ≡ Some i) (b : ℕ) (list : names' ≡ names ++ (key, b) ∷ []) (free : get new b ≡ None)
-      (updates : Updates new new' b (Some (later more i))) where
+      (updates : Updates new new' b (Some (shifted_item more i))) where
     kept_key : is_kept right.slots key ≡ true
     kept_key = kept_some (get right key) i here
 
@@ -66,7 +66,7 @@ module _ (old right new new' : Slab Item) (more key : ℕ) (names names' : List 
         kept_none (get new x) (ap (get new) e ∙ free)
         (ap (λ (o : Option Item). is_some o) (before.taken a x h) ∙ some (item_at right.slots a) (before.alive a x h))
       where
-        some : (o : Option Item) → is_some o ≡ true → is_some (option_map (later more) o) ≡ true
+        some : (o : Option Item) → is_some o ≡ true → is_some (option_map (shifted_item more) o) ≡ true
         some None h = h
         some (Some i) h = refl
 
@@ -109,7 +109,7 @@ module _ (old right new new' : Slab Item) (more key : ℕ) (names names' : List 
           elim (pair_cases names key b a x (ap (λ l. is_pair l a x) (sym list) ∙ h)) [
             | inl was ↦ updates.others x (not_before a x was) ∙ before.taken a x was
             | inr last ↦
-                ap (get new') (sym last.1) ∙ (updates.changed ∙ (sym (ap (option_map (later more)) here) ∙ ap (λ k. option_map (later more) (get right k)) last.0))
+                ap (get new') (sym last.1) ∙ (updates.changed ∙ (sym (ap (option_map (shifted_item more)) here) ∙ ap (λ k. option_map (shifted_item more) (get right k)) last.0))
           ];
       alive = λ a x h.
           elim (pair_cases names key b a x (ap (λ l. is_pair l a x) (sym list) ∙ h)) [

@@ -101,12 +101,12 @@ last_place [] x = 0
 last_place (s ∷ ss) x = if is_on ss x then suc (last_place ss x) else 0
 
 -- the item under another parent
-abbrev pub under : Option ℕ → ℕ → Item → Item
-under parent place i = record i { parent = parent; place = place }
+abbrev pub with_parent : Option ℕ → ℕ → Item → Item
+with_parent parent place i = record i { parent = parent; place = place }
 
 -- the item, under another parent if the cycle has it
-abbrev pub seated : List CycleStep → Option ℕ → ℕ → Option Item → Option Item
-seated cycle parent x o = if is_on cycle x then option_map (under parent (last_place cycle x)) o else o
+abbrev pub reparented_item : List CycleStep → Option ℕ → ℕ → Option Item → Option Item
+reparented_item cycle parent x o = if is_on cycle x then option_map (with_parent parent (last_place cycle x)) o else o
 
 -- so many steps up from the one node lead to the other
 abbrev pub Climbs : List (Option Item) → ℕ → ℕ → ℕ → Type 0

@@ -9,8 +9,8 @@ use Rattle.fb_blossoms.specs.InternalForest.{is_kept, item_at, own_at}
 use Rattle.fb_blossoms.specs.Merged.{new_count, old_count, renamed_cycle}
 
 -- the item as if so many more nodes had been made before it
-abbrev pub later : ℕ → Item → Item
-later more i = record i { made = i.made + more }
+abbrev pub shifted_item : ℕ → Item → Item
+shifted_item more i = record i { made = i.made + more }
 
 abbrev pub renamed_item : (ℕ → ℕ) → (ℕ → ℕ) → Item → Item
 renamed_item f g i = record i { parent = option_map f i.parent; cycle = renamed_cycle f g i.cycle }
@@ -23,7 +23,7 @@ is_pair names a b = list_any (λ p. if p.0 == a then p.1 == b else false) names
 pub record AreTaken (old right new : List (Option Item)) (more bound : ℕ) (names : List (ℕ × ℕ)) : Type 0 where
   pub listed : (a : ℕ) → old_count names a ≡ (if is_kept right a then (if nat_lt a bound then 1 else 0) else 0)
   pub distinct : (b : ℕ) → new_count names b ≤ 1
-  pub taken : (a b : ℕ) → is_pair names a b ≡ true → item_at new b ≡ option_map (later more) (item_at right a)
+  pub taken : (a b : ℕ) → is_pair names a b ≡ true → item_at new b ≡ option_map (shifted_item more) (item_at right a)
   pub alive : (a b : ℕ) → is_pair names a b ≡ true → is_kept right a ≡ true
   pub fresh : (a b : ℕ) → is_pair names a b ≡ true → item_at old b ≡ None
   pub stays : (x : ℕ) → is_kept old x ≡ true → item_at new x ≡ item_at old x
@@ -41,7 +41,7 @@ AreAllTaken old right new more names = AreTaken old.slots right.slots new.slots 
 abbrev pub IsStepOver : Slab Item → Slab Item → List (ℕ × ℕ) → List (ℕ × ℕ) → ℕ → ℕ → Option Item → Type 0
 IsStepOver old new names names' key more None = (new ≡ old) × (names' ≡ names)
 IsStepOver old new names names' key more (Some i) =
-    (b : ℕ) × (names' ≡ names ++ (key, b) ∷ []) × (get old b ≡ None) × Updates old new b (Some (later more i))
+    (b : ℕ) × (names' ≡ names ++ (key, b) ∷ []) × (get old b ≡ None) × Updates old new b (Some (shifted_item more i))
 
 -- no defect is an item's own twice
 abbrev pub AreOwnApart : List (Option Item) → Type 0
@@ -60,7 +60,7 @@ pub record AreJoined (old right new : List (Option Item)) (more : ℕ) (links na
   pub apart : (a c : ℕ) → is_kept right a ≡ true → is_kept right c ≡ true → name_by names a ≡ name_by names c → a ≡ c
   pub fresh : (a : ℕ) → is_kept right a ≡ true → item_at old (name_by names a) ≡ None
   pub under : (a : ℕ) → is_kept right a ≡ true
-      → item_at new (name_by names a) ≡ option_map (λ i. renamed_item (name_by names) (name_by links) (later more i)) (item_at right a)
+      → item_at new (name_by names a) ≡ option_map (λ i. renamed_item (name_by names) (name_by links) (shifted_item more i)) (item_at right a)
   pub stays : (x : ℕ) → is_kept old x ≡ true → item_at new x ≡ item_at old x
   pub only : (x : ℕ) → is_kept new x ≡ true → (is_kept old x ≡ true) ⊎ ((a : ℕ) × (is_kept right a ≡ true) × (name_by names a ≡ x))
   pub named : (a : ℕ) → is_kept right a ≡ true → list_any (λ p. p.1 == name_by names a) names ≡ true

@@ -44,9 +44,9 @@ Leads links from [] to = from ≡ to
 Leads links from (l ∷ ls) to = (is_end (walk_at links l) from ≡ true) × Leads links (other_end from (walk_at links l)) ls to
 
 -- the defects that they lead to, one after another
-abbrev pub reached : List (Option (List Step)) → ℕ → List ℕ → List ℕ
-reached links from [] = []
-reached links from (l ∷ ls) = other_end from (walk_at links l) ∷ reached links (other_end from (walk_at links l)) ls
+abbrev pub reached_defects : List (Option (List Step)) → ℕ → List ℕ → List ℕ
+reached_defects links from [] = []
+reached_defects links from (l ∷ ls) = other_end from (walk_at links l) ∷ reached_defects links (other_end from (walk_at links l)) ls
 
 -- whether a step of the cycle has the link
 abbrev pub has_link : List CycleStep → ℕ → Bool
@@ -63,6 +63,6 @@ IsLinkIn nodes name l =
 pub record IsSimpleEvenPath (links : List (Option (List Step))) (nodes : List (Option Node)) (name from to : ℕ) (path : List ℕ) : Type 0 where
   pub leads : Leads links from path to
   pub even : length path % 2 ≡ 0
-  pub once : AreDifferent (from ∷ reached links from path)
-  pub within : AreWithin (reached links from path) (defects_at nodes name)
+  pub once : AreDifferent (from ∷ reached_defects links from path)
+  pub within : AreWithin (reached_defects links from path) (defects_at nodes name)
   pub inside : (l : ℕ) → is_in path l ≡ true → IsLinkIn nodes name l

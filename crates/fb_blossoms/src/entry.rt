@@ -1,6 +1,6 @@
 ghost use Rattle.fb_links.specs.Names.{name_by};
 ghost use Rattle.std.specs.Prelude.{◌≡◌, ◌≢◌, ◌+◌, ◌<◌, ◌^◌, [], ◌∷◌, None, OnOk, MatchOption};
-ghost use Rattle.fb_blossoms.specs.InternalMerged.{later, renamed_item};
+ghost use Rattle.fb_blossoms.specs.InternalMerged.{shifted_item, renamed_item};
 ghost use Rattle.fb_blossoms.specs.InternalItems.{Item};
 
 use crate::names::renamed_cycle;
@@ -122,9 +122,9 @@ impl Entry {
     }
 
     /// The node as if so many more had been made before it.
-    pub fn later(self, more: u64) -> Entry
+    pub fn shifted_item(self, more: u64) -> Entry
         requires { self.made + more < 2 ^ 64 }
-        ensures { result ≡ later more self }
+        ensures { result ≡ shifted_item more self }
     {
         Entry {
             parent: self.parent,

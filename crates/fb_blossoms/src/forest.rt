@@ -1,6 +1,6 @@
 ghost use Rattle.std.specs.Prelude.{◌≡◌, ◌==◌, ℕ, if◌then◌else◌, option_map, reverse, true, suc, [], ◌∷◌, ◌++◌, IfOk, OnOk};
 ghost use Rattle.slab.specs.Slab.{HasRoomFor, get};
-ghost use Rattle.fb_blossoms.specs.InternalForest.{Climbs, IsForest, IsTopOf, IsChildOver, LeadsDownTo, is_kept, parent_at, place_at, seated, steps_at, under};
+ghost use Rattle.fb_blossoms.specs.InternalForest.{Climbs, IsForest, IsTopOf, IsChildOver, LeadsDownTo, is_kept, parent_at, place_at, reparented_item, steps_at, with_parent};
 
 use crate::entry::Entry;
 use crate::{CycleStep, NoMemory, NodeId};
@@ -26,7 +26,7 @@ pub fn place_of(nodes: &Slab<Entry>, node: NodeId) -> usize
 
 /// Puts the nodes of the cycle under the parent; with none they are outer.
 pub fn put_under(nodes: &mut Slab<Entry>, cycle: &[CycleStep], parent: Option<NodeId>)
-    ensures slots { (x : ℕ) → get nodes.new x ≡ seated cycle.now parent x (get nodes.old x) }
+    ensures slots { (x : ℕ) → get nodes.new x ≡ reparented_item cycle.now parent x (get nodes.old x) }
     ensures room { HasRoomFor nodes.old 1 → HasRoomFor nodes.new 1 }
     ensures key { nodes.new.vacant_key ≡ nodes.old.vacant_key }
 {
@@ -36,7 +36,7 @@ pub fn put_under(nodes: &mut Slab<Entry>, cycle: &[CycleStep], parent: Option<No
 }
 
 fn put_one_under(nodes: &mut Slab<Entry>, node: NodeId, parent: Option<NodeId>, place: usize)
-    ensures slots { (x : ℕ) → get nodes.new x ≡ (if node == x then option_map (under parent place) (get nodes.old x) else get nodes.old x) }
+    ensures slots { (x : ℕ) → get nodes.new x ≡ (if node == x then option_map (with_parent parent place) (get nodes.old x) else get nodes.old x) }
     ensures room { HasRoomFor nodes.old 1 → HasRoomFor nodes.new 1 }
     ensures key { nodes.new.vacant_key ≡ nodes.old.vacant_key }
 {

@@ -23,7 +23,7 @@ pub fn progress()
 
 /// What was done with an item tells its status, and no item has more than two entries.
 pub fn entries_of_item()
-    ensures told { TellsStatus }
+    ensures status { TellsStatus }
     ensures two { TwoEach }
 {}
 

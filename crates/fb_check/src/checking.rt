@@ -53,8 +53,8 @@ fn read_report_file<F: Files>(alloc: Global, files: &mut F, name: &str) -> Resul
     ensures count { IfOk result (λ r. length r.rows < 2 ^ 32) }
     ensures refused { IfErr result (IfNoReport (λ fault. Holds (F.named files.old) name.now (IsNoReport fault))) }
     ensures fault { IsErrOf result NoReport.ReadFault → Rose (F.faults files.old) (F.faults files.new) }
-    ensures later { F.faults files.old ≤ F.faults files.new }
-    ensures calm { result ≢ Err NoReport.ReadFault → F.faults files.new ≡ F.faults files.old }
+    ensures never_falls { F.faults files.old ≤ F.faults files.new }
+    ensures unchanged { result ≢ Err NoReport.ReadFault → F.faults files.new ≡ F.faults files.old }
 {
     match read_named(alloc, files, name, MOST_REPORT_BYTES) {
         Ok(text) => match read_report(alloc, &text) {
@@ -86,7 +86,7 @@ pub fn check<F: Files, O: Sink>(
     ensures read_risen { F.faults files.old < F.faults files.new → MayFollowReadFault result }
     ensures write_fault { result ≡ Cause.WriteFault → Rose (O.faults out.old) (O.faults out.new) }
     ensures write_later { O.faults out.old ≤ O.faults out.new }
-    ensures write_calm { result ≢ Cause.WriteFault → O.faults out.new ≡ O.faults out.old }
+    ensures write_unchanged { result ≢ Cause.WriteFault → O.faults out.new ≡ O.faults out.old }
 {
     match read_graph_file(alloc, files, request.graph) {
         Ok(graph) => check_report(alloc, request, &graph, files, out),
@@ -115,7 +115,7 @@ fn check_report<F: Files, O: Sink>(
     ensures read_risen { F.faults files.old < F.faults files.new → MayFollowReadFault result }
     ensures write_fault { result ≡ Cause.WriteFault → Rose (O.faults out.old) (O.faults out.new) }
     ensures write_later { O.faults out.old ≤ O.faults out.new }
-    ensures write_calm { result ≢ Cause.WriteFault → O.faults out.new ≡ O.faults out.old }
+    ensures write_unchanged { result ≢ Cause.WriteFault → O.faults out.new ≡ O.faults out.old }
 {
     match read_report_file(alloc, files, request.report) {
         Ok(report) => check_rows(alloc, request, graph, report.rows.as_slice(), files, out),
@@ -146,7 +146,7 @@ fn check_rows<F: Files, O: Sink>(
     ensures read_risen { F.faults files.old < F.faults files.new → MayFollowReadFault result }
     ensures write_fault { result ≡ Cause.WriteFault → Rose (O.faults out.old) (O.faults out.new) }
     ensures write_later { O.faults out.old ≤ O.faults out.new }
-    ensures write_calm { result ≢ Cause.WriteFault → O.faults out.new ≡ O.faults out.old }
+    ensures write_unchanged { result ≢ Cause.WriteFault → O.faults out.new ≡ O.faults out.old }
 {
     let Ok(()) = put_check_head(out) else {
         return Cause::WriteFault;
@@ -169,7 +169,7 @@ fn end_check<O: Sink>(end: ShotsEnd, rows: u64, shots: u64, bad: u64, out: &mut 
     ensures end { EndsCheck end rows shots bad (O.taken out.old) (O.taken out.new) result }
     ensures write_fault { result ≡ Cause.WriteFault → Rose (O.faults out.old) (O.faults out.new) }
     ensures write_later { O.faults out.old ≤ O.faults out.new }
-    ensures write_calm { result ≢ Cause.WriteFault → O.faults out.new ≡ O.faults out.old }
+    ensures write_unchanged { result ≢ Cause.WriteFault → O.faults out.new ≡ O.faults out.old }
 {
     match end {
         ShotsEnd::End => {
@@ -204,12 +204,12 @@ fn judge_file<F: Files, O: Sink>(
     ensures at_end { IfOk result (λ j. j.end ≡ ShotsEnd.End → IsReadOut (F.left files.old) (F.left files.new)) }
     ensures asks { F.asked files.new ≡ F.asked files.old }
     ensures fault { IfOk result (λ j. j.end ≡ ShotsEnd.ReadFault → Rose (F.faults files.old) (F.faults files.new)) }
-    ensures later { F.faults files.old ≤ F.faults files.new }
-    ensures calm { IfOk result (λ j. j.end ≢ ShotsEnd.ReadFault → F.faults files.new ≡ F.faults files.old) }
+    ensures never_falls { F.faults files.old ≤ F.faults files.new }
+    ensures unchanged { IfOk result (λ j. j.end ≢ ShotsEnd.ReadFault → F.faults files.new ≡ F.faults files.old) }
     ensures unread { result ≡ Err RowsFault.NoMemory → F.faults files.new ≡ F.faults files.old }
     ensures write_fault { result ≡ Err RowsFault.WriteFault → Rose (O.faults out.old) (O.faults out.new) }
     ensures write_later { O.faults out.old ≤ O.faults out.new }
-    ensures write_calm { result ≢ Err RowsFault.WriteFault → O.faults out.new ≡ O.faults out.old }
+    ensures write_unchanged { result ≢ Err RowsFault.WriteFault → O.faults out.new ≡ O.faults out.old }
 {
     let Ok(stream) = ShotStream::new(alloc, format, graph, u32::MAX) else {
         return Err(RowsFault::NoMemory);
@@ -236,12 +236,12 @@ fn judge<F: Files, O: Sink>(
     ensures at_end { IfOk result (λ j. j.end ≡ ShotsEnd.End → IsReadOut (F.left files.old) (F.left files.new)) }
     ensures asks { F.asked files.new ≡ F.asked files.old }
     ensures fault { IfOk result (λ j. j.end ≡ ShotsEnd.ReadFault → Rose (F.faults files.old) (F.faults files.new)) }
-    ensures later { F.faults files.old ≤ F.faults files.new }
-    ensures calm { IfOk result (λ j. j.end ≢ ShotsEnd.ReadFault → F.faults files.new ≡ F.faults files.old) }
+    ensures never_falls { F.faults files.old ≤ F.faults files.new }
+    ensures unchanged { IfOk result (λ j. j.end ≢ ShotsEnd.ReadFault → F.faults files.new ≡ F.faults files.old) }
     ensures unread { result ≡ Err RowsFault.NoMemory → F.faults files.new ≡ F.faults files.old }
     ensures write_fault { result ≡ Err RowsFault.WriteFault → Rose (O.faults out.old) (O.faults out.new) }
     ensures write_later { O.faults out.old ≤ O.faults out.new }
-    ensures write_calm { result ≢ Err RowsFault.WriteFault → O.faults out.new ≡ O.faults out.old }
+    ensures write_unchanged { result ≢ Err RowsFault.WriteFault → O.faults out.new ≡ O.faults out.old }
 {
     let mut outbox = Outbox::new(alloc);
     let judged = judge_into(alloc, graph, rows, files, stream, &mut outbox, out)?;
@@ -272,12 +272,12 @@ fn judge_into<F: Files, O: Sink>(
     ensures at_end { IfOk result (λ j. j.end ≡ ShotsEnd.End → IsReadOut (F.left files.old) (F.left files.new)) }
     ensures asks { F.asked files.new ≡ F.asked files.old }
     ensures fault { IfOk result (λ j. j.end ≡ ShotsEnd.ReadFault → Rose (F.faults files.old) (F.faults files.new)) }
-    ensures later { F.faults files.old ≤ F.faults files.new }
-    ensures calm { IfOk result (λ j. j.end ≢ ShotsEnd.ReadFault → F.faults files.new ≡ F.faults files.old) }
+    ensures never_falls { F.faults files.old ≤ F.faults files.new }
+    ensures unchanged { IfOk result (λ j. j.end ≢ ShotsEnd.ReadFault → F.faults files.new ≡ F.faults files.old) }
     ensures unread { OnErr result (F.faults files.new ≡ F.faults files.old) }
     ensures write_fault { result ≡ Err RowsFault.WriteFault → Rose (O.faults out.old) (O.faults out.new) }
     ensures write_later { O.faults out.old ≤ O.faults out.new }
-    ensures write_calm { result ≢ Err RowsFault.WriteFault → O.faults out.new ≡ O.faults out.old }
+    ensures write_unchanged { result ≢ Err RowsFault.WriteFault → O.faults out.new ≡ O.faults out.old }
 {
     let mut judge = Judge::new(graph);
     let mut shots: u64 = 0;

@@ -36,9 +36,9 @@ nodes_are (n ∷ ns) formed =
     )
   where
     one : (m : Node) → IsFormed m → length (defects_of m) + cond (not (is_empty m.children)) 1 0 ≡ 1
-    one m (inl lone) =
-        subst (λ cs. length (if is_empty cs then first_vertices (layers_of m) else []) + cond (not (is_empty cs)) 1 0 ≡ 1) (sym lone.none)
-        (omega (arith, lone.defect))
+    one m (inl childless) =
+        subst (λ cs. length (if is_empty cs then first_vertices (layers_of m) else []) + cond (not (is_empty cs)) 1 0 ≡ 1) (sym childless.none)
+        (omega (arith, childless.defect))
     one m (inr many) =
         subst (λ b. length (if b then first_vertices (layers_of m) else []) + cond (not b) 1 0 ≡ 1) (sym (some_children m.children many.three)) refl
 

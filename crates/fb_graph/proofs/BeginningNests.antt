@@ -12,10 +12,10 @@ use Rattle.fb_graph.proofs.Members.{or_false}
 use Rattle.fb_graph.specs.Ends.{AreAllApart}
 use Rattle.fb_graph.specs.Nests.{IsNest, IsFormed, IsFilled, AreJoinedLater, HasSources, child_sets}
 use Rattle.fb_graph.specs.Moves.{NestBegins}
-use Rattle.fb_graph.specs.Sprouts.{Sprout, node_of, nodes_of, vertices_of}
-use Rattle.fb_graph.proofs.SproutStates.{cut_of, cuts_are, leaves_are, beginning_is_dual, vertex_in}
+use Rattle.fb_graph.specs.Singles.{Single, node_of, nodes_of, vertices_of}
+use Rattle.fb_graph.proofs.SingleStates.{cut_of, cuts_are, leaves_are, beginning_is_dual, vertex_in}
 
-joined_later : (sprouts : List Sprout) → AreJoinedLater (nodes_of sprouts)
+joined_later : (singles : List Single) → AreJoinedLater (nodes_of singles)
 joined_later [] = tt
 joined_later (s ∷ ss) = (
   All-map (λ m. is_in [] m.name ≡ false) node_of (s ∷ ss) (λ i d less. refl),
@@ -23,7 +23,7 @@ joined_later (s ∷ ss) = (
   joined_later ss,
 )
 
-differ : (sprouts : List Sprout) → AreDistinct (vertices_of sprouts) → AllPairs DifferAsSets (map cut_of sprouts)
+differ : (singles : List Single) → AreDistinct (vertices_of singles) → AllPairs DifferAsSets (map cut_of singles)
 differ [] distinct = λ i j d less below. absurd (omega arith)
 differ (s ∷ ss) distinct =
     AllPairs-cons DifferAsSets (cut_of s) (map cut_of ss)
@@ -41,31 +41,31 @@ differ (s ∷ ss) distinct =
     (differ ss distinct.1)
 
 -- a dual state of nodes of one defect each is a nest
-pub sprouts_are_nest : (p : Problem) (sprouts : List Sprout) → AreDistinct (vertices_of sprouts) → IsDual p (nodes_of sprouts)
-    → IsNest p (nodes_of sprouts)
-sprouts_are_nest p sprouts vertices dual = record {
+pub singles_are_nest : (p : Problem) (singles : List Single) → AreDistinct (vertices_of singles) → IsDual p (nodes_of singles)
+    → IsNest p (nodes_of singles)
+singles_are_nest p singles vertices dual = record {
   dual = dual;
   forest = record {
-    formed = All-map IsFormed node_of sprouts (λ i d less. inl (record { none = refl; defect = refl }));
-    live = All-map (λ n. All (λ c. is_live (nodes_of sprouts) c ≡ true) n.children) node_of sprouts
-        (λ i d less. All-nil (λ c. is_live (nodes_of sprouts) c ≡ true));
-    joined = joined_later sprouts;
-    filled = All-map (IsFilled (nodes_of sprouts)) node_of sprouts (λ i d less some v. absurd (both_ways (is_empty []) some refl));
-    parted = All-map (λ n. AreAllApart (child_sets (nodes_of sprouts) n)) node_of sprouts (λ i d less. tt);
+    formed = All-map IsFormed node_of singles (λ i d less. inl (record { none = refl; defect = refl }));
+    live = All-map (λ n. All (λ c. is_live (nodes_of singles) c ≡ true) n.children) node_of singles
+        (λ i d less. All-nil (λ c. is_live (nodes_of singles) c ≡ true));
+    joined = joined_later singles;
+    filled = All-map (IsFilled (nodes_of singles)) node_of singles (λ i d less some v. absurd (both_ways (is_empty []) some refl));
+    parted = All-map (λ n. AreAllApart (child_sets (nodes_of singles) n)) node_of singles (λ i d less. tt);
   };
-  defects = subst AreDistinct (sym (leaves_are sprouts)) vertices;
-  sources = All-map (λ n. HasSources (nodes_of sprouts) n.top.vertices) node_of sprouts
+  defects = subst AreDistinct (sym (leaves_are singles)) vertices;
+  sources = All-map (λ n. HasSources (nodes_of singles) n.top.vertices) node_of singles
       (λ i d less v within. (
         v,
         within,
-        ap (λ l. is_in l v) (leaves_are sprouts)
-            ∙ (ap (is_in (vertices_of sprouts)) (sym (eqb-true (get_or sprouts i d).vertex v (sym (or_false ((get_or sprouts i d).vertex == v)) ∙ within)))
-            ∙ vertex_in sprouts i d less),
+        ap (λ l. is_in l v) (leaves_are singles)
+            ∙ (ap (is_in (vertices_of singles)) (sym (eqb-true (get_or singles i d).vertex v (sym (or_false ((get_or singles i d).vertex == v)) ∙ within)))
+            ∙ vertex_in singles i d less),
         refl,
       ));
-  differ = subst (AllPairs DifferAsSets) (sym (cuts_are sprouts)) (differ sprouts vertices);
+  differ = subst (AllPairs DifferAsSets) (sym (cuts_are singles)) (differ singles vertices);
 }
 
 pub nest_begins : NestBegins
-nest_begins p sprouts names vertices real zero_ =
-    sprouts_are_nest p sprouts vertices (beginning_is_dual p sprouts names vertices real zero_)
+nest_begins p singles names vertices real zero_ =
+    singles_are_nest p singles vertices (beginning_is_dual p singles names vertices real zero_)

@@ -1,7 +1,7 @@
 -- The node of a name changed in its layers.
 use Rattle.std.proofs.Common.{ℕ, suc, ◌≡◌, ◌-◌, ◌≤◌, ◌==◌, inl, Bool, true, false, List, [], ◌∷◌, ◌++◌, length, get_or, take, refl, sym, ap, ◌∙◌, subst, arith, if◌then◌else◌}
 use Rattle.std.proofs.lemmas.Bool.{both_ways, eqb-true, eqb-false}
-use Rattle.fb_graph.specs.Dual.{Node, AreGrown, first_vertices, is_outer, taller}
+use Rattle.fb_graph.specs.Dual.{Node, AreGrown, first_vertices, is_outer, taller_node}
 use Rattle.fb_graph.specs.declared.parts.Cut.{Cut}
 use Rattle.fb_graph.specs.Nests.{first_set}
 use Rattle.fb_graph.proofs.Among.{IsAmong, among_All, among_right}
@@ -48,10 +48,10 @@ pub regrouped : (before layers after : List Cut) → before ++ (layers ++ after)
 regrouped [] layers after = refl
 regrouped (b ∷ bs) layers after = ap (λ l. b ∷ l) (regrouped bs layers after)
 
-pub first_taller : (v : ℕ) (n : Node) → first_set (taller v n) ≡ first_set n
+pub first_taller : (v : ℕ) (n : Node) → first_set (taller_node v n) ≡ first_set n
 first_taller v n = by n.below
   where
-    by : (below : List Cut) → first_vertices ((below ++ n.top ∷ []) ++ (taller v n).top ∷ []) ≡ first_vertices (below ++ n.top ∷ [])
+    by : (below : List Cut) → first_vertices ((below ++ n.top ∷ []) ++ (taller_node v n).top ∷ []) ≡ first_vertices (below ++ n.top ∷ [])
     by [] = refl
     by (c ∷ cs) = refl
 

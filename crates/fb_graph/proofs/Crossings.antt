@@ -14,7 +14,7 @@ use Rattle.fb_graph.proofs.ParitySums.{and-true}
 use Rattle.fb_graph.proofs.Sums.{sum_same, sum_zero, sum_add}
 use Rattle.fb_graph.specs.Counts.{as_count}
 use Rattle.fb_graph.specs.Steps.{Roles, AreExclusive, gains, losses}
-use Rattle.fb_graph.specs.Covers.{passes, is_over, PassOuterOnly, HaveParity, IsClear, CrossingsByCover, NoCrossingsWithin, LevelBetween, LevelWithin, LevelOutside, EvenResidue, FreeStep}
+use Rattle.fb_graph.specs.Covers.{passes, is_covered_by, PassOuterOnly, HaveParity, IsClear, CrossingsByCover, NoCrossingsWithin, LevelBetween, LevelWithin, LevelOutside, EvenResidue, FreeStep}
 
 -- the outer nodes of the list are apart
 abbrev AreApartWhere : (Node → Bool) → List Node → Type 0
@@ -119,7 +119,7 @@ over_named test (Some n) = refl
 
 -- how many of the nodes that pass hold the vertex
 pub count_by_cover : (test : ℕ → Bool) (nodes : List Node) (v : ℕ) → AreOuterApart nodes → PassOuterOnly test nodes
-    → sum_by (λ n. cond (test n.name && is_in n.top.vertices v) 1 0) nodes ≡ as_count (is_over test nodes v)
+    → sum_by (λ n. cond (test n.name && is_in n.top.vertices v) 1 0) nodes ≡ as_count (is_covered_by test nodes v)
 count_by_cover test nodes v apart only =
     count_over (λ n. is_outer nodes n.name) (λ n. test n.name) v nodes apart only
     ∙ ap as_count (over_named test (find (λ n. is_outer nodes n.name && is_in n.top.vertices v) nodes))
@@ -155,7 +155,7 @@ crossings_by_cover test nodes e apart only differs =
     (λ n. cond (test n.name && is_in n.top.vertices e.second) 1 0) nodes
     ∙ (ap (λ m. m + sum_by (λ n. cond (test n.name && is_in n.top.vertices e.second) 1 0) nodes)
     (count_by_cover test nodes e.first apart only)
-    ∙ ap (λ m. as_count (is_over test nodes e.first) + m) (count_by_cover test nodes e.second apart only)))
+    ∙ ap (λ m. as_count (is_covered_by test nodes e.first) + m) (count_by_cover test nodes e.second apart only)))
 
 name_in : (ns : List Node) (j : ℕ) → j < length ns → is_in (map (λ n. n.name) ns) (node_at ns j).name ≡ true
 name_in [] j less = absurd (omega arith)
@@ -300,7 +300,7 @@ level_outside roles nodes e apart names are plus more minus fewer = step (under_
         ∙ sym (crossings_by_cover roles.is_minus nodes e apart are.minus differs))
 
 pub parity_of_covered : (p : Problem) (test : ℕ → Bool) (nodes : List Node) (r v : ℕ) → IsDual p nodes → HaveParity test nodes r
-    → is_over test nodes v ≡ true → height_of (all_cuts nodes) v % 2 ≡ r
+    → is_covered_by test nodes v ≡ true → height_of (all_cuts nodes) v % 2 ≡ r
 parity_of_covered p test nodes r v dual parity over =
     let (name, cover, passing) = some_passes test (cover_of nodes v) over in
     let (d, leaf, covered, same) = dual.parity v name cover in
@@ -341,8 +341,8 @@ free_step p roles nodes r dual are parity even clear = record {
     step e light two open_ (inl under) = omega (arith, light, level_within roles nodes e dual.apart dual.names are under)
     step e light two open_ (inr differs) =
         let bears =
-        bears_one (is_over roles.is_plus nodes e.first) (is_over roles.is_minus nodes e.first)
-        (is_over roles.is_plus nodes e.second) (is_over roles.is_minus nodes e.second)
+        bears_one (is_covered_by roles.is_plus nodes e.first) (is_covered_by roles.is_minus nodes e.first)
+        (is_covered_by roles.is_plus nodes e.second) (is_covered_by roles.is_minus nodes e.second)
         (load_of (all_cuts nodes) e) e.weight light
         (exclusive_over roles (cover_of nodes e.first) are.exclusive)
         (exclusive_over roles (cover_of nodes e.second) are.exclusive)

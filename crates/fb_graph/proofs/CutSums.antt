@@ -8,7 +8,7 @@ use Rattle.fb_graph.specs.Certificate.{Fits, load_of, total_value}
 use Rattle.fb_graph.specs.Limits.{IsWithinLimits}
 use Rattle.fb_graph.specs.declared.parts.Cut.{Cut}
 use Rattle.fb_graph.specs.declared.parts.Edge.{Edge}
-use Rattle.fb_graph.specs.Dual.{Node, IsHeld, layers_of, all_cuts, taller, thicker, no_node, node_at}
+use Rattle.fb_graph.specs.Dual.{Node, IsHeld, layers_of, all_cuts, taller_node, thicker_node, no_node, node_at}
 
 -- the sum of the values of the cuts whose sets pass the test
 abbrev pub weigh : (List ℕ → Bool) → List Cut → ℕ
@@ -27,17 +27,17 @@ pub cond_zero : (b : Bool) → cond {A = ℕ} b 0 0 ≡ 0
 cond_zero true = refl
 cond_zero false = refl
 
-pub weigh-thicker : (test : List ℕ → Bool) (k : ℕ) (n : Node) → weigh test (layers_of (thicker k n)) ≡ weigh test (layers_of n) + cond (test n.top.vertices) k 0
-weigh-thicker test k n =
+pub weigh-thicker_node : (test : List ℕ → Bool) (k : ℕ) (n : Node) → weigh test (layers_of (thicker_node k n)) ≡ weigh test (layers_of n) + cond (test n.top.vertices) k 0
+weigh-thicker_node test k n =
     let f : Cut → ℕ = λ c. cond (test c.vertices) c.value 0 in
-    let new : weigh test (layers_of (thicker k n)) ≡ sum_by f n.below + cond (test n.top.vertices) (n.top.value + k) 0 = sum_by_push f n.below (thicker k n).top in
+    let new : weigh test (layers_of (thicker_node k n)) ≡ sum_by f n.below + cond (test n.top.vertices) (n.top.value + k) 0 = sum_by_push f n.below (thicker_node k n).top in
     let old : weigh test (layers_of n) ≡ sum_by f n.below + cond (test n.top.vertices) n.top.value 0 = sum_by_push f n.below n.top in
     omega (arith, new, old, cond_add (test n.top.vertices) n.top.value k)
 
-pub weigh-taller : (test : List ℕ → Bool) (v : ℕ) (n : Node) → weigh test (layers_of (taller v n)) ≡ weigh test (layers_of n)
-weigh-taller test v n =
+pub weigh-taller_node : (test : List ℕ → Bool) (v : ℕ) (n : Node) → weigh test (layers_of (taller_node v n)) ≡ weigh test (layers_of n)
+weigh-taller_node test v n =
     let f : Cut → ℕ = λ c. cond (test c.vertices) c.value 0 in
-    let new : weigh test (layers_of (taller v n)) ≡ sum_by f (layers_of n) + cond (test (n.top.vertices ++ v ∷ [])) 0 0 = sum_by_push f (layers_of n) (taller v n).top in
+    let new : weigh test (layers_of (taller_node v n)) ≡ sum_by f (layers_of n) + cond (test (n.top.vertices ++ v ∷ [])) 0 0 = sum_by_push f (layers_of n) (taller_node v n).top in
     omega (arith, new, cond_zero (test (n.top.vertices ++ v ∷ [])))
 
 -- a node changed changes the sum by its own part

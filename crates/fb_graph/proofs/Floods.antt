@@ -10,7 +10,7 @@ use Rattle.fb_graph.specs.Parity.{differ, is_in}
 use Rattle.fb_graph.specs.Problem.{edge_at, no_edge, touches}
 use Rattle.fb_graph.specs.Certificate.{AreDistinct}
 use Rattle.fb_graph.specs.Components.{IsJoined}
-use Rattle.fb_graph.specs.Flooding.{Reached, IsReached, reached, with_ends, Grows, IsSettled, IsFlooding}
+use Rattle.fb_graph.specs.Flooding.{Reached, IsReached, with_vertex, with_ends, Grows, IsSettled, IsFlooding}
 use Rattle.fb_graph.specs.Labelling.{IsLabelling, label_of}
 use Rattle.fb_graph.specs.Layout.{edges_at}
 use Rattle.fb_graph.specs.Limits.{DecodingGraph, IsGraph, problem_of}
@@ -109,12 +109,12 @@ reached_more labels flags order v label known below absent = record {
         absent_one e = ap (λ b. b || false) e
 
 -- what `reached` gives, by whether the vertex was reached before
-reached_before : (s : Reached) (v label : ℕ) → is_in s.order v ≡ true → reached s v label ≡ s
+reached_before : (s : Reached) (v label : ℕ) → is_in s.order v ≡ true → with_vertex s v label ≡ s
 reached_before s v label within =
     ap (λ b. cond b s (record { labels = set s.labels v label; order = s.order ++ v ∷ [] })) within
 
 reached_new : (s : Reached) (v label : ℕ) → is_in s.order v ≡ false
-    → reached s v label ≡ record { labels = set s.labels v label; order = s.order ++ v ∷ [] }
+    → with_vertex s v label ≡ record { labels = set s.labels v label; order = s.order ++ v ∷ [] }
 reached_new s v label absent =
     ap (λ b. cond b s (record { labels = set s.labels v label; order = s.order ++ v ∷ [] })) absent
 
@@ -140,7 +140,7 @@ kept_label : (s : Reached) (v label u : ℕ) → is_in s.order v ≡ false → i
 kept_label s v label u absent within =
     get_or-set_other s.labels v u label 0 (λ same. both_ways (is_in s.order v) absent (ap (is_in s.order) (sym same) ∙ within))
 
-pub grows_reached : (s : Reached) (v label : ℕ) → Grows s (reached s v label)
+pub grows_reached : (s : Reached) (v label : ℕ) → Grows s (with_vertex s v label)
 grows_reached s v label =
     elim (cases_Bool (is_in s.order v)) [
       | inl within ↦ subst (Grows s) (sym (reached_before s v label within)) (Grows-refl s)
@@ -155,8 +155,8 @@ grows_reached s v label =
       labels = λ u h. kept_label s v label u absent h;
     }
 
-pub is_in-reached : (s : Reached) (v label : ℕ) → is_in (reached s v label).order v ≡ true
-is_in-reached s v label =
+pub is_in-with_vertex : (s : Reached) (v label : ℕ) → is_in (with_vertex s v label).order v ≡ true
+is_in-with_vertex s v label =
     elim (cases_Bool (is_in s.order v)) [
       | inl within ↦ ap (λ t. is_in t.order v) (reached_before s v label within) ∙ within
       | inr absent ↦ ap (λ t. is_in t.order v) (reached_new s v label absent) ∙ is_in-last s.order v
@@ -172,7 +172,7 @@ settled_grows s t e grows settled = record {
 module _ (g : DecodingGraph) (graph : IsGraph g) where
   -- one more vertex that is joined to the label
   flooding_reached : (s : Reached) (head label v : ℕ) → IsFlooding g s head label → head ≤ length s.order
-      → v < g.vertices → IsJoined (problem_of g []) v label → IsFlooding g (reached s v label) head label
+      → v < g.vertices → IsJoined (problem_of g []) v label → IsFlooding g (with_vertex s v label) head label
   flooding_reached s head label v flooding place below joined =
       elim (cases_Bool (is_in s.order v)) [
         | inl within ↦ subst (λ t. IsFlooding g t head label) (sym (reached_before s v label within)) flooding
@@ -304,7 +304,7 @@ module _ (g : DecodingGraph) (graph : IsGraph g) where
         let joined = ends_joined (get_or s.order head 0) k label less touched own_joined in
         let edge = graph.each_edge k no_edge less in
         let grows = grows_reached s (edge_at g.edges k).first label in
-        flooding_reached (reached s (edge_at g.edges k).first label) head label (edge_at g.edges k).second
+        flooding_reached (with_vertex s (edge_at g.edges k).first label) head label (edge_at g.edges k).second
         (flooding_reached s head label (edge_at g.edges k).first flooding (omega arith) edge.first joined.0)
         (omega (arith, grows.longer)) edge.second joined.1
 
@@ -312,9 +312,9 @@ module _ (g : DecodingGraph) (graph : IsGraph g) where
         → IsSettled (with_ends g s k label) (edge_at g.edges k)
     settled-with_ends k less touched =
         both_settled (with_ends g s k label) head label k (flooding-with_ends k less touched) less
-        ((grows_reached (reached s (edge_at g.edges k).first label) (edge_at g.edges k).second label).within
-        (edge_at g.edges k).first (is_in-reached s (edge_at g.edges k).first label))
-        (is_in-reached (reached s (edge_at g.edges k).first label) (edge_at g.edges k).second label)
+        ((grows_reached (with_vertex s (edge_at g.edges k).first label) (edge_at g.edges k).second label).within
+        (edge_at g.edges k).first (is_in-with_vertex s (edge_at g.edges k).first label))
+        (is_in-with_vertex (with_vertex s (edge_at g.edges k).first label) (edge_at g.edges k).second label)
 
     -- all edges at it settled
     pub flooding-onward : ((k : ℕ) → is_in (edges_at g.edges (length g.edges) (get_or s.order head 0)) k ≡ true → IsSettled s (edge_at g.edges k))
@@ -340,7 +340,7 @@ module _ (g : DecodingGraph) (graph : IsGraph g) where
 
   -- a further component begins with a vertex whose label it is
   pub flooding_start : (s : Reached) (v : ℕ) → IsFlooding g s (length s.order) v → v < g.vertices
-      → IsFlooding g (reached s v v) (length s.order) v
+      → IsFlooding g (with_vertex s v v) (length s.order) v
   flooding_start s v flooding below =
       flooding_reached s (length s.order) v v flooding (le_refl (length s.order)) below (joined_self (problem_of g []) v)
 
@@ -426,7 +426,7 @@ module _ (g : DecodingGraph) (graph : IsGraph g) (old s : Reached) (head label :
     where
       grown : Grows s (with_ends g s (get_or edges i 0) label)
       grown = Grows-trans s _ _ (grows_reached s (edge_at g.edges (get_or edges i 0)).first label)
-          (grows_reached (reached s (edge_at g.edges (get_or edges i 0)).first label) (edge_at g.edges (get_or edges i 0)).second label)
+          (grows_reached (with_vertex s (edge_at g.edges (get_or edges i 0)).first label) (edge_at g.edges (get_or edges i 0)).second label)
 
       step : get_or edges i 0 < length g.edges → touches (get_or s.order head 0) (edge_at g.edges (get_or edges i 0)) ≡ true
           → (k : ℕ) → (is_in (take i edges) k ≡ true) ⊎ (get_or edges i 0 ≡ k)

@@ -14,7 +14,7 @@ use Rattle.fb_graph.proofs.Members.{AreDistinct_push}
 use Rattle.fb_graph.proofs.Sets.{All-from_is_in, is_in-All, is_in-head, is_in-tail}
 use Rattle.fb_graph.specs.Ends.{AreAllApart}
 use Rattle.fb_graph.specs.Nests.{IsNest, IsForest, IsFormed, IsFilled, AreJoinedLater, AreMany, HasSources, child_sets}
-use Rattle.fb_graph.specs.Moves.{blossom, joined, MayJoin, NestJoined}
+use Rattle.fb_graph.specs.Moves.{blossom, joined_nodes, MayJoin, NestJoined}
 use Rattle.fb_graph.proofs.Among.{IsAmong, All_among, among_All, among_left, among_either, live_among, among_live, outer_among, top_among, top_left, apart_among, among_pairs, in_concat, from_concat}
 use Rattle.fb_graph.proofs.EndSums.{apart_sym}
 use Rattle.fb_graph.proofs.Forests.{IsUnder, cuts_under}
@@ -149,7 +149,7 @@ module _ (p : Problem) (nodes : List Node) (name : ℕ) (children : List ℕ) (m
           apart_among nodes nest.dual.names nest.dual.apart is.node under.node is.among under.among (λ same. other (sym is.named ∙ same)) is.outer under.outer u holds in
           (u, λ same. both_ways (is_in under.node.top.vertices u) out (under.within u (same ∙ there)))
 
-  pub insertion : IsInserted (blossom name children nodes).top (all_cuts nodes) (all_cuts (joined name children nodes))
+  pub insertion : IsInserted (blossom name children nodes).top (all_cuts nodes) (all_cuts (joined_nodes name children nodes))
   insertion = record {
     before = all_cuts nodes;
     after = [];
@@ -158,36 +158,36 @@ module _ (p : Problem) (nodes : List Node) (name : ℕ) (children : List ℕ) (m
     bare = refl;
   }
 
-  pub same_leaves : leaves (joined name children nodes) ≡ leaves nodes
+  pub same_leaves : leaves (joined_nodes name children nodes) ≡ leaves nodes
   same_leaves =
       leaves_merged nodes (blossom name children nodes ∷ [])
       ∙ (ap (λ l. leaves nodes ++ l) (no_leaves name children nodes may.many.three) ∙ append-nil (leaves nodes))
 
-  pub height : (v : ℕ) → height_of (all_cuts (joined name children nodes)) v ≡ height_of (all_cuts nodes) v
-  height v = same_weigh (λ s. is_in s v) (blossom name children nodes).top (all_cuts nodes) (all_cuts (joined name children nodes)) insertion
+  pub height : (v : ℕ) → height_of (all_cuts (joined_nodes name children nodes)) v ≡ height_of (all_cuts nodes) v
+  height v = same_weigh (λ s. is_in s v) (blossom name children nodes).top (all_cuts nodes) (all_cuts (joined_nodes name children nodes)) insertion
 
-  fit : AreFit p (leaves (joined name children nodes)) (all_cuts (joined name children nodes))
+  fit : AreFit p (leaves (joined_nodes name children nodes)) (all_cuts (joined_nodes name children nodes))
   fit =
-      subst (λ l. AreFit p l (all_cuts (joined name children nodes))) (sym same_leaves)
-      (inserted_fit p (leaves nodes) (blossom name children nodes).top (all_cuts nodes) (all_cuts (joined name children nodes)) insertion (fit_of p nodes nest) odd
+      subst (λ l. AreFit p l (all_cuts (joined_nodes name children nodes))) (sym same_leaves)
+      (inserted_fit p (leaves nodes) (blossom name children nodes).top (all_cuts nodes) (all_cuts (joined_nodes name children nodes)) insertion (fit_of p nodes nest) odd
       (All-weaker (λ c. IsUnder nodes c.vertices)
       (λ c. IsNestedOrApart c (blossom name children nodes).top × DifferAsSets c (blossom name children nodes).top)
       beside (all_cuts nodes) (cuts_under nodes (grove_of p nodes nest))))
 
-  names : AreDistinct (map (λ n. n.name) (joined name children nodes))
+  names : AreDistinct (map (λ n. n.name) (joined_nodes name children nodes))
   names =
       subst AreDistinct (sym (names_merged nodes (blossom name children nodes ∷ [])))
       (AreDistinct_push (map (λ n. n.name) nodes) name nest.dual.names (names_live nodes name ∙ may.fresh))
 
-  still_live : (c : ℕ) → is_live nodes c ≡ true → is_live (joined name children nodes) c ≡ true
+  still_live : (c : ℕ) → is_live nodes c ≡ true → is_live (joined_nodes name children nodes) c ≡ true
   still_live c live =
       let (m, a, e) = live_among nodes c live in
-      among_live (joined name children nodes) m c (among_left nodes (blossom name children nodes ∷ []) m a) e
+      among_live (joined_nodes name children nodes) m c (among_left nodes (blossom name children nodes ∷ []) m a) e
 
-  same_sets : (n : Node) → All (λ c. is_live nodes c ≡ true) n.children → child_sets (joined name children nodes) n ≡ child_sets nodes n
+  same_sets : (n : Node) → All (λ c. is_live nodes c ≡ true) n.children → child_sets (joined_nodes name children nodes) n ≡ child_sets nodes n
   same_sets n live =
-      map_agree (top_at (joined name children nodes)) (top_at nodes) n.children
-      (All-weaker (λ c. is_live nodes c ≡ true) (λ c. top_at (joined name children nodes) c ≡ top_at nodes c)
+      map_agree (top_at (joined_nodes name children nodes)) (top_at nodes) n.children
+      (All-weaker (λ c. is_live nodes c ≡ true) (λ c. top_at (joined_nodes name children nodes) c ≡ top_at nodes c)
       (λ c h. top_left nodes (blossom name children nodes ∷ []) c h) n.children live)
 
   not_child : is_in children name ≡ false
@@ -195,13 +195,13 @@ module _ (p : Problem) (nodes : List Node) (name : ℕ) (children : List ℕ) (m
       false_from_ne_true (is_in children name)
       (λ h. both_ways (is_live nodes name) may.fresh (is_in-All (λ c. is_live nodes c ≡ true) children may.live name h))
 
-  forest : IsForest (joined name children nodes)
+  forest : IsForest (joined_nodes name children nodes)
   forest = record {
     formed = All-push IsFormed nodes (blossom name children nodes) nest.forest.formed (inr may.many);
-    live = All-push (λ n. All (λ c. is_live (joined name children nodes) c ≡ true) n.children) nodes (blossom name children nodes)
-        (All-weaker (λ n. All (λ c. is_live nodes c ≡ true) n.children) (λ n. All (λ c. is_live (joined name children nodes) c ≡ true) n.children)
-        (λ n h. All-weaker (λ c. is_live nodes c ≡ true) (λ c. is_live (joined name children nodes) c ≡ true) still_live n.children h) nodes nest.forest.live)
-        (All-weaker (λ c. is_live nodes c ≡ true) (λ c. is_live (joined name children nodes) c ≡ true) still_live children may.live);
+    live = All-push (λ n. All (λ c. is_live (joined_nodes name children nodes) c ≡ true) n.children) nodes (blossom name children nodes)
+        (All-weaker (λ n. All (λ c. is_live nodes c ≡ true) n.children) (λ n. All (λ c. is_live (joined_nodes name children nodes) c ≡ true) n.children)
+        (λ n h. All-weaker (λ c. is_live nodes c ≡ true) (λ c. is_live (joined_nodes name children nodes) c ≡ true) still_live n.children h) nodes nest.forest.live)
+        (All-weaker (λ c. is_live nodes c ≡ true) (λ c. is_live (joined_nodes name children nodes) c ≡ true) still_live children may.live);
     joined = joined_push nodes (blossom name children nodes) nest.forest.joined
         (among_All (λ n. is_in n.children name ≡ false) nodes
         (λ n a.
@@ -214,29 +214,29 @@ module _ (p : Problem) (nodes : List Node) (name : ℕ) (children : List ℕ) (m
         false_from_ne_true (is_in children c)
         (λ k. both_ways (is_in n.children c) (outer_among nodes c (is_in-All (λ x. is_outer nodes x ≡ true) children may.outer c k) n a) h)))
         not_child;
-    filled = All-push (IsFilled (joined name children nodes)) nodes (blossom name children nodes)
-        (among_All (IsFilled (joined name children nodes)) nodes
+    filled = All-push (IsFilled (joined_nodes name children nodes)) nodes (blossom name children nodes)
+        (among_All (IsFilled (joined_nodes name children nodes)) nodes
         (λ n a some v.
         All_among (IsFilled nodes) nodes nest.forest.filled n a some v
         ∙ ap (λ l. is_in (concat l) v) (sym (same_sets n (All_among (λ m. All (λ c. is_live nodes c ≡ true) m.children) nodes nest.forest.live n a)))))
         (λ some v. ap (λ l. is_in (concat l) v) (sym (same_sets (blossom name children nodes) may.live)));
-    parted = All-push (λ n. AreAllApart (child_sets (joined name children nodes) n)) nodes (blossom name children nodes)
-        (among_All (λ n. AreAllApart (child_sets (joined name children nodes) n)) nodes
+    parted = All-push (λ n. AreAllApart (child_sets (joined_nodes name children nodes) n)) nodes (blossom name children nodes)
+        (among_All (λ n. AreAllApart (child_sets (joined_nodes name children nodes) n)) nodes
         (λ n a.
         subst AreAllApart (sym (same_sets n (All_among (λ m. All (λ c. is_live nodes c ≡ true) m.children) nodes nest.forest.live n a)))
         (All_among (λ m. AreAllApart (child_sets nodes m)) nodes nest.forest.parted n a)))
         (subst AreAllApart (sym (same_sets (blossom name children nodes) may.live)) parted);
   }
 
-  outer_still : (n : ℕ) → is_outer (joined name children nodes) n ≡ true → (is_outer nodes n ≡ true) × (is_in children n ≡ false)
+  outer_still : (n : ℕ) → is_outer (joined_nodes name children nodes) n ≡ true → (is_outer nodes n ≡ true) × (is_in children n ≡ false)
   outer_still n outer =
       let outs = outer_in nodes (blossom name children nodes ∷ []) n outer in
       (outs.0, outer_among (blossom name children nodes ∷ []) n outs.1 (blossom name children nodes) (inl refl))
 
-  apart : AreOuterApart (joined name children nodes)
+  apart : AreOuterApart (joined_nodes name children nodes)
   apart =
-      among_pairs (λ m n. is_outer (joined name children nodes) m.name ≡ true → is_outer (joined name children nodes) n.name ≡ true → AreApart m.top.vertices n.top.vertices)
-      (joined name children nodes) names
+      among_pairs (λ m n. is_outer (joined_nodes name children nodes) m.name ≡ true → is_outer (joined_nodes name children nodes) n.name ≡ true → AreApart m.top.vertices n.top.vertices)
+      (joined_nodes name children nodes) names
       (λ m n a b other out_m out_n.
       by m n (among_either nodes (blossom name children nodes ∷ []) m a) (among_either nodes (blossom name children nodes ∷ []) n b) other
       (outer_still m.name out_m) (outer_still n.name out_n))
@@ -254,21 +254,21 @@ module _ (p : Problem) (nodes : List Node) (name : ℕ) (children : List ℕ) (m
       by m n (inr (inl e)) (inr (inr b)) other out_m out_n = absurd b
       by m n (inr (inr a)) b other out_m out_n = absurd a
 
-  sources : All (λ n. HasSources (joined name children nodes) n.top.vertices) (joined name children nodes)
+  sources : All (λ n. HasSources (joined_nodes name children nodes) n.top.vertices) (joined_nodes name children nodes)
   sources =
-      All-push (λ n. HasSources (joined name children nodes) n.top.vertices) nodes (blossom name children nodes)
-      (All-weaker (λ n. HasSources nodes n.top.vertices) (λ n. HasSources (joined name children nodes) n.top.vertices)
-      (λ n h. sources_same nodes (joined name children nodes) n.top.vertices same_leaves height h) nodes nest.sources)
-      (sources_same nodes (joined name children nodes) (concat (map (top_at nodes) children)) same_leaves height
+      All-push (λ n. HasSources (joined_nodes name children nodes) n.top.vertices) nodes (blossom name children nodes)
+      (All-weaker (λ n. HasSources nodes n.top.vertices) (λ n. HasSources (joined_nodes name children nodes) n.top.vertices)
+      (λ n h. sources_same nodes (joined_nodes name children nodes) n.top.vertices same_leaves height h) nodes nest.sources)
+      (sources_same nodes (joined_nodes name children nodes) (concat (map (top_at nodes) children)) same_leaves height
       (λ v within.
       let (c, among, holds) = from_concat (top_at nodes) children v within in
       let is = child c among in
       let (d, there, leaf, parity) = All_among (λ n. HasSources nodes n.top.vertices) nodes nest.sources is.node is.among v (ap (λ s. is_in s v) (sym is.top) ∙ holds) in
       (d, in_concat (top_at nodes) children c d among (ap (λ s. is_in s d) is.top ∙ there), leaf, parity)))
 
-  nest_kept : IsNest p (joined name children nodes)
+  nest_kept : IsNest p (joined_nodes name children nodes)
   nest_kept =
-      nest_of p (joined name children nodes) fit (record {
+      nest_of p (joined_nodes name children nodes) fit (record {
         names = names;
         grown = All-push (λ n. AreGrown (layers_of n)) nodes (blossom name children nodes) nest.dual.grown (tt, tt);
         forest = forest;

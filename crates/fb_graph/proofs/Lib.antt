@@ -40,7 +40,7 @@ pub mod Sets
 pub mod Shots
 pub mod SourceWalks
 pub mod SplitNests
-pub mod SproutStates
+pub mod SingleStates
 pub mod StepHeights
 pub mod StepLoads
 pub mod StepTurns

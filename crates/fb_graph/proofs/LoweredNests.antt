@@ -10,7 +10,7 @@ use Rattle.fb_graph.proofs.Members.{is_in_push}
 use Rattle.fb_graph.proofs.Nodes.{All-pieces, All-top, All-below}
 use Rattle.fb_graph.proofs.ParitySums.{odd-append}
 use Rattle.fb_graph.specs.Nests.{IsNest, HasSources}
-use Rattle.fb_graph.specs.Moves.{lower, uncovered, MayUncover, NestUncovered}
+use Rattle.fb_graph.specs.Moves.{without_top, uncovered_nodes, MayUncover, NestUncovered}
 use Rattle.fb_graph.proofs.Among.{IsAmong, All_among, among_All, apart_among}
 use Rattle.fb_graph.proofs.ChangedNodes.{change, by_name, kept_by, placed_among, layer_between, regrouped, last_split, first_below, grown_below, grown_last}
 use Rattle.fb_graph.proofs.InsertedCuts.{IsInserted, AreFit, removed_fit, same_weigh, sources_same}
@@ -28,16 +28,16 @@ module _ (p : Problem) (nodes : List Node) (name : ℕ) (may : MayUncover nodes 
   pub bare : (n : Node) → IsAmong n nodes → n.name ≡ name → (1 ≤ length n.below) × (n.top.value ≡ 0)
   bare n a = All_among (λ m. m.name ≡ name → (1 ≤ length m.below) × (m.top.value ≡ 0)) nodes may.bare n a
 
-  pub layers : (n : Node) → IsAmong n nodes → n.name ≡ name → layers_of (lower n) ≡ n.below
+  pub layers : (n : Node) → IsAmong n nodes → n.name ≡ name → layers_of (without_top n) ≡ n.below
   layers n a e = last_split n.below n.top (bare n a e).0
 
-  pub insertion : IsInserted at.node.top (all_cuts (uncovered name nodes)) (all_cuts nodes)
+  pub insertion : IsInserted at.node.top (all_cuts (uncovered_nodes name nodes)) (all_cuts nodes)
   insertion = record {
     before = all_cuts at.before ++ at.node.below;
     after = all_cuts at.after;
     old_is =
-        ap all_cuts (at.changed lower)
-        ∙ (cuts_at at.before at.after (lower at.node)
+        ap all_cuts (at.changed without_top)
+        ∙ (cuts_at at.before at.after (without_top at.node)
         ∙ (ap (λ l. all_cuts at.before ++ (l ++ all_cuts at.after)) (layers at.node there at.named)
         ∙ regrouped (all_cuts at.before) at.node.below (all_cuts at.after)));
     new_is =
@@ -46,38 +46,38 @@ module _ (p : Problem) (nodes : List Node) (name : ℕ) (may : MayUncover nodes 
     bare = (bare at.node there at.named).1;
   }
 
-  pub kept : AreKept (change name lower) nodes
+  pub kept : AreKept (change name without_top) nodes
   kept =
-      kept_by name lower nodes (λ n. refl) (λ n. refl)
+      kept_by name without_top nodes (λ n. refl) (λ n. refl)
       (λ n a e. ap first_vertices (layers n a e) ∙ sym (first_below n.below n.top (bare n a e).0)) may.outer
 
-  pub same_leaves : leaves (uncovered name nodes) ≡ leaves nodes
-  same_leaves = mapped_leaves (change name lower) kept.children nodes kept.first
+  pub same_leaves : leaves (uncovered_nodes name nodes) ≡ leaves nodes
+  same_leaves = mapped_leaves (change name without_top) kept.children nodes kept.first
 
-  pub height : (v : ℕ) → height_of (all_cuts (uncovered name nodes)) v ≡ height_of (all_cuts nodes) v
-  height v = sym (same_weigh (λ s. is_in s v) at.node.top (all_cuts (uncovered name nodes)) (all_cuts nodes) insertion)
+  pub height : (v : ℕ) → height_of (all_cuts (uncovered_nodes name nodes)) v ≡ height_of (all_cuts nodes) v
+  height v = sym (same_weigh (λ s. is_in s v) at.node.top (all_cuts (uncovered_nodes name nodes)) (all_cuts nodes) insertion)
 
-  fit : AreFit p (leaves (uncovered name nodes)) (all_cuts (uncovered name nodes))
+  fit : AreFit p (leaves (uncovered_nodes name nodes)) (all_cuts (uncovered_nodes name nodes))
   fit =
-      subst (λ l. AreFit p l (all_cuts (uncovered name nodes))) (sym same_leaves)
-      (removed_fit p (leaves nodes) at.node.top (all_cuts (uncovered name nodes)) (all_cuts nodes) insertion (fit_of p nodes nest))
+      subst (λ l. AreFit p l (all_cuts (uncovered_nodes name nodes))) (sym same_leaves)
+      (removed_fit p (leaves nodes) at.node.top (all_cuts (uncovered_nodes name nodes)) (all_cuts nodes) insertion (fit_of p nodes nest))
 
   grown_at : (n : Node) → IsAmong n nodes → AreGrown (n.below ++ n.top ∷ [])
   grown_at n a = All_among (λ m. AreGrown (layers_of m)) nodes nest.dual.grown n a
 
   -- the vertex more of the top layer
-  pub added : (n : Node) → IsAmong n nodes → n.name ≡ name → (x : ℕ) × (n.top.vertices ≡ (lower n).top.vertices ++ x ∷ [])
+  pub added : (n : Node) → IsAmong n nodes → n.name ≡ name → (x : ℕ) × (n.top.vertices ≡ (without_top n).top.vertices ++ x ∷ [])
   added n a e =
-      grown_last (lower n).below (lower n).top n.top
+      grown_last (without_top n).below (without_top n).top n.top
       (subst (λ l. AreGrown (l ++ n.top ∷ [])) (sym (layers n a e)) (grown_at n a))
 
-  shrinks : (n : Node) → IsAmong n nodes → n.name ≡ name → IsWithin (lower n).top.vertices n.top.vertices
+  shrinks : (n : Node) → IsAmong n nodes → n.name ≡ name → IsWithin (without_top n).top.vertices n.top.vertices
   shrinks n a e v h =
       let (x, more) = added n a e in
-      ap (λ s. is_in s v) more ∙ (is_in_push (lower n).top.vertices x v ∙ or_left (is_in (lower n).top.vertices v) (x == v) h)
+      ap (λ s. is_in s v) more ∙ (is_in_push (without_top n).top.vertices x v ∙ or_left (is_in (without_top n).top.vertices v) (x == v) h)
 
-  within : (n : Node) → IsAmong n nodes → IsWithin (change name lower n).top.vertices n.top.vertices
-  within n a = by_name (λ m. IsWithin m.top.vertices n.top.vertices) name lower n (shrinks n a) (λ other v h. h)
+  within : (n : Node) → IsAmong n nodes → IsWithin (change name without_top n).top.vertices n.top.vertices
+  within n a = by_name (λ m. IsWithin m.top.vertices n.top.vertices) name without_top n (shrinks n a) (λ other v h. h)
 
   odd : (n : Node) → IsAmong n nodes → All (IsOddCut (with_defects p (leaves nodes))) (n.below ++ n.top ∷ [])
   odd n a =
@@ -85,61 +85,61 @@ module _ (p : Problem) (nodes : List Node) (name : ℕ) (may : MayUncover nodes 
       (All-pieces (IsOddCut (with_defects p (leaves nodes))) layers_of nodes nest.dual.packing.odd) n a
 
   -- it isn't a defect, since both layers hold an odd number
-  pub no_defect : (n : Node) → IsAmong n nodes → n.name ≡ name → (x : ℕ) → n.top.vertices ≡ (lower n).top.vertices ++ x ∷ [] → is_in (leaves nodes) x ≡ false
+  pub no_defect : (n : Node) → IsAmong n nodes → n.name ≡ name → (x : ℕ) → n.top.vertices ≡ (without_top n).top.vertices ++ x ∷ [] → is_in (leaves nodes) x ≡ false
   no_defect n a e x more =
       false_from_ne_true (is_in (leaves nodes) x)
       (λ leaf.
       both_ways (is_odd_count (is_in (leaves nodes)) n.top.vertices)
       (ap (is_odd_count (is_in (leaves nodes))) more
-      ∙ (odd-append (is_in (leaves nodes)) (lower n).top.vertices (x ∷ [])
+      ∙ (odd-append (is_in (leaves nodes)) (without_top n).top.vertices (x ∷ [])
       ∙ (ap (λ b. differ b (differ (is_in (leaves nodes) x) false)) below
       ∙ ap (λ b. differ true (differ b false)) leaf)))
       (All-top (IsOddCut (with_defects p (leaves nodes))) n.below n.top (odd n a)).odd)
     where
-      below : is_odd_count (is_in (leaves nodes)) (lower n).top.vertices ≡ true
+      below : is_odd_count (is_in (leaves nodes)) (without_top n).top.vertices ≡ true
       below =
-          (All-top (IsOddCut (with_defects p (leaves nodes))) (lower n).below (lower n).top
+          (All-top (IsOddCut (with_defects p (leaves nodes))) (without_top n).below (without_top n).top
           (subst (All (IsOddCut (with_defects p (leaves nodes)))) (sym (layers n a e))
           (All-below (IsOddCut (with_defects p (leaves nodes))) n.below n.top (odd n a)))).odd
 
   sources_at : (n : Node) → IsAmong n nodes → HasSources nodes n.top.vertices
   sources_at n a = All_among (λ m. HasSources nodes m.top.vertices) nodes nest.sources n a
 
-  lowered_sources : (n : Node) → IsAmong n nodes → n.name ≡ name → HasSources nodes (lower n).top.vertices
+  lowered_sources : (n : Node) → IsAmong n nodes → n.name ≡ name → HasSources nodes (without_top n).top.vertices
   lowered_sources n a e v h =
       let (d, holds, leaf, parity) = sources_at n a v (shrinks n a e v h) in
       let (x, more) = added n a e in
-      (d, pick d leaf x more (or_cases (is_in (lower n).top.vertices d) (x == d) (sym (is_in_push (lower n).top.vertices x d) ∙ (ap (λ s. is_in s d) (sym more) ∙ holds))), leaf, parity)
+      (d, pick d leaf x more (or_cases (is_in (without_top n).top.vertices d) (x == d) (sym (is_in_push (without_top n).top.vertices x d) ∙ (ap (λ s. is_in s d) (sym more) ∙ holds))), leaf, parity)
     where
-      pick : (d : ℕ) → is_in (leaves nodes) d ≡ true → (x : ℕ) → n.top.vertices ≡ (lower n).top.vertices ++ x ∷ []
-          → (is_in (lower n).top.vertices d ≡ true) ⊎ ((x == d) ≡ true) → is_in (lower n).top.vertices d ≡ true
+      pick : (d : ℕ) → is_in (leaves nodes) d ≡ true → (x : ℕ) → n.top.vertices ≡ (without_top n).top.vertices ++ x ∷ []
+          → (is_in (without_top n).top.vertices d ≡ true) ⊎ ((x == d) ≡ true) → is_in (without_top n).top.vertices d ≡ true
       pick d leaf x more (inl k) = k
       pick d leaf x more (inr k) =
           absurd (both_ways (is_in (leaves nodes) x) (no_defect n a e x more) (ap (is_in (leaves nodes)) (eqb-true x d k) ∙ leaf))
 
-  nest_kept : IsNest p (uncovered name nodes)
+  nest_kept : IsNest p (uncovered_nodes name nodes)
   nest_kept =
-      nest_of p (uncovered name nodes) fit (record {
-        names = names_mapped (change name lower) nodes kept (grove_of p nodes nest);
-        grown = All-map (λ n. AreGrown (layers_of n)) (change name lower) nodes
-            (among_All (λ n. AreGrown (layers_of (change name lower n))) nodes
+      nest_of p (uncovered_nodes name nodes) fit (record {
+        names = names_mapped (change name without_top) nodes kept (grove_of p nodes nest);
+        grown = All-map (λ n. AreGrown (layers_of n)) (change name without_top) nodes
+            (among_All (λ n. AreGrown (layers_of (change name without_top n))) nodes
             (λ n a.
-            by_name (λ m. AreGrown (layers_of m)) name lower n
+            by_name (λ m. AreGrown (layers_of m)) name without_top n
             (λ e. subst AreGrown (sym (layers n a e)) (grown_below n.below n.top (grown_at n a))) (λ other. grown_at n a)));
-        forest = forest_mapped (change name lower) nodes kept (grove_of p nodes nest);
+        forest = forest_mapped (change name without_top) nodes kept (grove_of p nodes nest);
       })
-      (apart_mapped (change name lower) nodes kept (grove_of p nodes nest)
+      (apart_mapped (change name without_top) nodes kept (grove_of p nodes nest)
       (λ m n a b other out_m out_n v h.
-      false_from_ne_true (is_in (change name lower n).top.vertices v)
+      false_from_ne_true (is_in (change name without_top n).top.vertices v)
       (λ k.
       both_ways (is_in n.top.vertices v)
       (apart_among nodes nest.dual.names nest.dual.apart m n a b other out_m out_n v (within m a v h)) (within n b v k))))
       (subst AreDistinct (sym same_leaves) nest.defects)
-      (All-map (λ n. HasSources (uncovered name nodes) n.top.vertices) (change name lower) nodes
-      (among_All (λ n. HasSources (uncovered name nodes) (change name lower n).top.vertices) nodes
+      (All-map (λ n. HasSources (uncovered_nodes name nodes) n.top.vertices) (change name without_top) nodes
+      (among_All (λ n. HasSources (uncovered_nodes name nodes) (change name without_top n).top.vertices) nodes
       (λ n a.
-      sources_same nodes (uncovered name nodes) (change name lower n).top.vertices same_leaves height
-      (by_name (λ m. HasSources nodes m.top.vertices) name lower n (lowered_sources n a) (λ other. sources_at n a)))))
+      sources_same nodes (uncovered_nodes name nodes) (change name without_top n).top.vertices same_leaves height
+      (by_name (λ m. HasSources nodes m.top.vertices) name without_top n (lowered_sources n a) (λ other. sources_at n a)))))
 
 pub nest_uncovered : NestUncovered
 nest_uncovered p nodes name may nest = nest_kept p nodes name may nest

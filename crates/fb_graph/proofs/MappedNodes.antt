@@ -81,7 +81,7 @@ module _ (f : Node → Node) (nodes : List Node) (kept : AreKept f nodes) (grove
       (All-from_is_in (λ c. top_at (map f nodes) c ≡ top_at nodes c) n.children (child_top n a))
 
   formed : (n : Node) → first_set (f n) ≡ first_set n → IsFormed n → IsFormed (f n)
-  formed n first (inl lone) = inl (record { none = kept.children n ∙ lone.none; defect = ap length first ∙ lone.defect })
+  formed n first (inl childless) = inl (record { none = kept.children n ∙ childless.none; defect = ap length first ∙ childless.defect })
   formed n first (inr many) = inr (subst AreMany (sym (kept.children n)) many)
 
   pub forest_mapped : IsForest (map f nodes)

@@ -10,9 +10,9 @@ use Rattle.fb_graph.specs.Dual.{Node, all_cuts, leaves, height_of}
 use Rattle.fb_graph.specs.declared.parts.Cut.{Cut}
 use Rattle.fb_graph.specs.declared.parts.Edge.{Edge}
 use Rattle.fb_graph.specs.Nests.{IsNest}
-use Rattle.fb_graph.specs.NestUnions.{AreBeside, AreParts, HaveOwnNames, NestsMerged, NestSprouted, WalksBeside, WalksMerged, WalksSprouted}
+use Rattle.fb_graph.specs.NestUnions.{AreBeside, AreParts, HaveOwnNames, NestsMerged, NestSinglesAdded, WalksBeside, WalksMerged, WalksSinglesAdded}
 use Rattle.fb_graph.specs.SourceWalks.{IsEdgeIn, IsWalkInside, HasWalks, HaveWalks}
-use Rattle.fb_graph.specs.Sprouts.{Sprout, nodes_of, vertices_of}
+use Rattle.fb_graph.specs.Singles.{Single, nodes_of, vertices_of}
 use Rattle.fb_graph.proofs.Among.{IsAmong, All_among, among_All}
 use Rattle.fb_graph.proofs.AppendedNodes.{cuts_merged}
 use Rattle.fb_graph.proofs.BeginningNests.{nest_begins}
@@ -20,7 +20,7 @@ use Rattle.fb_graph.proofs.ClosedSets.{load-append, packings_joined}
 use Rattle.fb_graph.proofs.NestUnions.{leaves_in, left_cut, left_height, nests_beside, own_left, own_right, right_cut, right_height}
 use Rattle.fb_graph.proofs.Sets.{is_in-All}
 use Rattle.fb_graph.proofs.SourceWalks.{walks_begin}
-use Rattle.fb_graph.proofs.SproutStates.{cuts_are, no_sum, vertex_in}
+use Rattle.fb_graph.proofs.SingleStates.{cuts_are, no_sum, vertex_in}
 use Rattle.fb_graph.proofs.Walks.{walk_same}
 
 -- a walk inside a set stays one over the same edges, where its ends keep their potentials and its defect is one still
@@ -131,27 +131,27 @@ walks_merged left right whole nodes others parts names one two first second =
     walks_beside left right whole nodes others (beside_of_parts left right whole nodes others parts names one two)
     one two first second
 
--- the problem whose real vertices are those of the sprouts
-abbrev pub sprouting : Problem → List Sprout → Problem
-sprouting whole sprouts = record whole { is_real = is_in (vertices_of sprouts) }
+-- the problem whose real vertices are those of the singles
+abbrev pub only_singles : Problem → List Single → Problem
+only_singles whole singles = record whole { is_real = is_in (vertices_of singles) }
 
-pub beside_of_sprouts : (p whole : Problem) (nodes : List Node) (sprouts : List Sprout) → IsPart p whole
-    → All (λ s. whole.is_real s.vertex ≡ true) sprouts → All (λ s. p.is_real s.vertex ≡ false) sprouts
-    → All (λ s. s.value ≡ 0) sprouts → HaveOwnNames nodes (nodes_of sprouts) → IsNest p nodes
-    → AreBeside p (sprouting whole sprouts) whole nodes (nodes_of sprouts)
-beside_of_sprouts p whole nodes sprouts part real unreal bare own nest = record {
+pub beside_of_singles : (p whole : Problem) (nodes : List Node) (singles : List Single) → IsPart p whole
+    → All (λ s. whole.is_real s.vertex ≡ true) singles → All (λ s. p.is_real s.vertex ≡ false) singles
+    → All (λ s. s.value ≡ 0) singles → HaveOwnNames nodes (nodes_of singles) → IsNest p nodes
+    → AreBeside p (only_singles whole singles) whole nodes (nodes_of singles)
+beside_of_singles p whole nodes singles part real unreal bare own nest = record {
   left_edges = part.edges;
   right_edges = refl;
   left_real = part.real;
   right_real =
-      is_in-All (λ u. whole.is_real u ≡ true) (vertices_of sprouts)
-      (All-map (λ u. whole.is_real u ≡ true) (λ s. s.vertex) sprouts real);
+      is_in-All (λ u. whole.is_real u ≡ true) (vertices_of singles)
+      (All-map (λ u. whole.is_real u ≡ true) (λ s. s.vertex) singles real);
   parted = λ v real_v.
-      false_from_ne_true (is_in (vertices_of sprouts) v)
+      false_from_ne_true (is_in (vertices_of singles) v)
       (λ within.
       both_ways (p.is_real v)
-      (is_in-All (λ u. p.is_real u ≡ false) (vertices_of sprouts)
-      (All-map (λ u. p.is_real u ≡ false) (λ s. s.vertex) sprouts unreal) v within) real_v);
+      (is_in-All (λ u. p.is_real u ≡ false) (vertices_of singles)
+      (All-map (λ u. p.is_real u ≡ false) (λ s. s.vertex) singles unreal) v within) real_v);
   names = own;
   fits = λ k d less.
       light (get_or whole.edges k d)
@@ -159,30 +159,30 @@ beside_of_sprouts p whole nodes sprouts part real unreal bare own nest = record 
 }
   where
     light : (e : Edge) → load_of (all_cuts nodes) e ≤ e.weight
-        → load_of (all_cuts nodes ++ all_cuts (nodes_of sprouts)) e ≤ e.weight
+        → load_of (all_cuts nodes ++ all_cuts (nodes_of singles)) e ≤ e.weight
     light e fits =
         omega (
           arith,
           fits,
-          load-append (all_cuts nodes) (all_cuts (nodes_of sprouts)) e,
-          ap (λ cuts. load_of cuts e) (cuts_are sprouts),
-          no_sum (λ s. crosses s e) sprouts bare,
+          load-append (all_cuts nodes) (all_cuts (nodes_of singles)) e,
+          ap (λ cuts. load_of cuts e) (cuts_are singles),
+          no_sum (λ s. crosses s e) singles bare,
         )
 
-pub sprouting_nest : (whole : Problem) (sprouts : List Sprout) → AreDistinct (map (λ s. s.name) sprouts)
-    → AreDistinct (vertices_of sprouts) → All (λ s. s.value ≡ 0) sprouts
-    → IsNest (sprouting whole sprouts) (nodes_of sprouts)
-sprouting_nest whole sprouts names vertices bare =
-    nest_begins (sprouting whole sprouts) sprouts names vertices (λ i d less. vertex_in sprouts i d less) bare
+pub only_singles_nest : (whole : Problem) (singles : List Single) → AreDistinct (map (λ s. s.name) singles)
+    → AreDistinct (vertices_of singles) → All (λ s. s.value ≡ 0) singles
+    → IsNest (only_singles whole singles) (nodes_of singles)
+only_singles_nest whole singles names vertices bare =
+    nest_begins (only_singles whole singles) singles names vertices (λ i d less. vertex_in singles i d less) bare
 
-pub nest_sprouted : NestSprouted
-nest_sprouted p whole nodes sprouts limits part names vertices real unreal bare own nest =
-    nests_beside p (sprouting whole sprouts) whole nodes (nodes_of sprouts) limits
-    (beside_of_sprouts p whole nodes sprouts part real unreal bare own nest) nest
-    (sprouting_nest whole sprouts names vertices bare)
+pub nest_singles_added : NestSinglesAdded
+nest_singles_added p whole nodes singles limits part names vertices real unreal bare own nest =
+    nests_beside p (only_singles whole singles) whole nodes (nodes_of singles) limits
+    (beside_of_singles p whole nodes singles part real unreal bare own nest) nest
+    (only_singles_nest whole singles names vertices bare)
 
-pub walks_sprouted : WalksSprouted
-walks_sprouted p whole nodes sprouts part names vertices real unreal bare own nest walks =
-    walks_beside p (sprouting whole sprouts) whole nodes (nodes_of sprouts)
-    (beside_of_sprouts p whole nodes sprouts part real unreal bare own nest) nest
-    (sprouting_nest whole sprouts names vertices bare) walks (walks_begin (sprouting whole sprouts) sprouts)
+pub walks_singles_added : WalksSinglesAdded
+walks_singles_added p whole nodes singles part names vertices real unreal bare own nest walks =
+    walks_beside p (only_singles whole singles) whole nodes (nodes_of singles)
+    (beside_of_singles p whole nodes singles part real unreal bare own nest) nest
+    (only_singles_nest whole singles names vertices bare) walks (walks_begin (only_singles whole singles) singles)

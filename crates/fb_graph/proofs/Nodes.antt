@@ -10,7 +10,7 @@ use Rattle.std.proofs.lemmas.List.Sums.{fails_before_first}
 use Rattle.fb_graph.specs.Parity.{is_in}
 use Rattle.fb_graph.specs.Certificate.{AreDistinct}
 use Rattle.fb_graph.specs.declared.parts.Cut.{Cut}
-use Rattle.fb_graph.specs.Dual.{Node, AreGrown, IsWithin, layers_of, all_cuts, leaves, defects_of, is_empty, first_vertices, is_live, is_outer, change_at, taller, thicker, no_node, node_at, layers_at, top_at}
+use Rattle.fb_graph.specs.Dual.{Node, AreGrown, IsWithin, layers_of, all_cuts, leaves, defects_of, is_empty, first_vertices, is_live, is_outer, change_at, taller_node, thicker_node, no_node, node_at, layers_at, top_at}
 use Rattle.fb_graph.proofs.Sets.{equal_sym}
 use Rattle.fb_graph.proofs.Members.{is_in_push}
 
@@ -56,15 +56,15 @@ All-cuts-set P nodes i n h k = All-flat_map P layers_of (set nodes i n) (changed
 pub All-cuts-at : (P : Cut → Type 0) (nodes : List Node) (i : ℕ) → i < length nodes → All P (all_cuts nodes) → All P (layers_of (node_at nodes i))
 All-cuts-at P nodes i lt h = All-get_or (λ (x : Node). All P (layers_of x)) nodes i no_node lt (All-pieces P layers_of nodes h)
 
-pub AreGrown-taller : (below : List Cut) (top : Cut) (v : ℕ) → AreGrown (below ++ top ∷ []) → AreGrown ((below ++ top ∷ []) ++ record { value = 0; vertices = top.vertices ++ v ∷ [] } ∷ [])
-AreGrown-taller [] top v h = ((v, refl), h)
-AreGrown-taller (c ∷ []) top v h = (h.0, AreGrown-taller [] top v h.1)
-AreGrown-taller (c ∷ d ∷ ds) top v h = (h.0, AreGrown-taller (d ∷ ds) top v h.1)
+pub AreGrown-taller_node : (below : List Cut) (top : Cut) (v : ℕ) → AreGrown (below ++ top ∷ []) → AreGrown ((below ++ top ∷ []) ++ record { value = 0; vertices = top.vertices ++ v ∷ [] } ∷ [])
+AreGrown-taller_node [] top v h = ((v, refl), h)
+AreGrown-taller_node (c ∷ []) top v h = (h.0, AreGrown-taller_node [] top v h.1)
+AreGrown-taller_node (c ∷ d ∷ ds) top v h = (h.0, AreGrown-taller_node (d ∷ ds) top v h.1)
 
-pub AreGrown-thicker : (below : List Cut) (top : Cut) (k : ℕ) → AreGrown (below ++ top ∷ []) → AreGrown (below ++ record top { value = top.value + k } ∷ [])
-AreGrown-thicker [] top k h = h
-AreGrown-thicker (c ∷ []) top k h = (h.0, AreGrown-thicker [] top k h.1)
-AreGrown-thicker (c ∷ d ∷ ds) top k h = (h.0, AreGrown-thicker (d ∷ ds) top k h.1)
+pub AreGrown-thicker_node : (below : List Cut) (top : Cut) (k : ℕ) → AreGrown (below ++ top ∷ []) → AreGrown (below ++ record top { value = top.value + k } ∷ [])
+AreGrown-thicker_node [] top k h = h
+AreGrown-thicker_node (c ∷ []) top k h = (h.0, AreGrown-thicker_node [] top k h.1)
+AreGrown-thicker_node (c ∷ d ∷ ds) top k h = (h.0, AreGrown-thicker_node (d ∷ ds) top k h.1)
 
 within_pushed : (xs : List ℕ) (y v : ℕ) → is_in xs v ≡ true → is_in (xs ++ y ∷ []) v ≡ true
 within_pushed xs y v h = is_in_push xs y v ∙ or_left (is_in xs v) (y == v) h
@@ -123,17 +123,17 @@ leaves-set [] i n e = refl
 leaves-set (x ∷ xs) zero n e = ap (λ l. l ++ leaves xs) e
 leaves-set (x ∷ xs) (suc i) n e = ap (λ l. defects_of x ++ l) (leaves-set xs i n e)
 
-pub defects_of-thicker : (k : ℕ) (n : Node) → defects_of (thicker k n) ≡ defects_of n
-defects_of-thicker k n = ap (λ l. if is_empty n.children then l else []) (first n.below)
+pub defects_of-thicker_node : (k : ℕ) (n : Node) → defects_of (thicker_node k n) ≡ defects_of n
+defects_of-thicker_node k n = ap (λ l. if is_empty n.children then l else []) (first n.below)
   where
-    first : (below : List Cut) → first_vertices (below ++ (thicker k n).top ∷ []) ≡ first_vertices (below ++ n.top ∷ [])
+    first : (below : List Cut) → first_vertices (below ++ (thicker_node k n).top ∷ []) ≡ first_vertices (below ++ n.top ∷ [])
     first [] = refl
     first (c ∷ cs) = refl
 
-pub defects_of-taller : (v : ℕ) (n : Node) → defects_of (taller v n) ≡ defects_of n
-defects_of-taller v n = ap (λ l. if is_empty n.children then l else []) (first n.below)
+pub defects_of-taller_node : (v : ℕ) (n : Node) → defects_of (taller_node v n) ≡ defects_of n
+defects_of-taller_node v n = ap (λ l. if is_empty n.children then l else []) (first n.below)
   where
-    first : (below : List Cut) → first_vertices ((below ++ n.top ∷ []) ++ (taller v n).top ∷ []) ≡ first_vertices (below ++ n.top ∷ [])
+    first : (below : List Cut) → first_vertices ((below ++ n.top ∷ []) ++ (taller_node v n).top ∷ []) ≡ first_vertices (below ++ n.top ∷ [])
     first [] = refl
     first (c ∷ cs) = refl
 

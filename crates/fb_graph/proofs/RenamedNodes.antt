@@ -148,7 +148,7 @@ module _ (p : Problem) (nodes : List Node) (f : ℕ → ℕ) (once : AreRenamedA
           ∙ ap (λ l. top_at nodes c ∷ l) (by cs (λ x among. same x (is_in-tail c cs x among)))
 
   formed : (n : Node) → IsAmong n nodes → IsFormed n → IsFormed (renamed_node f n)
-  formed n a (inl lone) = inl (record { none = ap (map f) lone.none; defect = lone.defect })
+  formed n a (inl childless) = inl (record { none = ap (map f) childless.none; defect = childless.defect })
   formed n a (inr many) =
       inr (record {
         three = omega (arith, many.three, length-map n.children f);

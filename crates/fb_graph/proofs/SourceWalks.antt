@@ -9,19 +9,19 @@ use Rattle.fb_graph.specs.Parity.{is_in}
 use Rattle.fb_graph.specs.Problem.{Problem, edge_at}
 use Rattle.fb_graph.specs.Certificate.{load_of}
 use Rattle.fb_graph.specs.Components.{Leads}
-use Rattle.fb_graph.specs.Dual.{Node, AreUnderOne, IsWithin, all_cuts, layers_of, leaves, cover_of, height_of, is_live, taller, top_at}
+use Rattle.fb_graph.specs.Dual.{Node, AreUnderOne, IsWithin, all_cuts, layers_of, leaves, cover_of, height_of, is_live, taller_node, top_at}
 use Rattle.fb_graph.specs.declared.parts.Cut.{Cut}
 use Rattle.fb_graph.specs.declared.parts.Edge.{Edge}
 use Rattle.fb_graph.proofs.Members.{is_in_push, is_in_pushed, or_false}
 use Rattle.fb_graph.proofs.Nodes.{All-flat_map, All-pieces, All-top, All-below}
 use Rattle.fb_graph.proofs.Sets.{is_in-All}
 use Rattle.fb_graph.proofs.Walks.{IsWalkBy-append}
-use Rattle.fb_graph.specs.Steps.{stepped, stepped_node}
-use Rattle.fb_graph.specs.Sprouts.{nodes_of}
+use Rattle.fb_graph.specs.Steps.{stepped_nodes, stepped_node}
+use Rattle.fb_graph.specs.Singles.{nodes_of}
 use Rattle.fb_graph.specs.Nests.{IsNest}
 use Rattle.fb_graph.specs.Alike.{AreAlike}
-use Rattle.fb_graph.specs.Moves.{blossom, joined, split, taken_up, uncovered}
-use Rattle.fb_graph.specs.SourceWalks.{IsEdgeIn, IsWalkInside, HasWalks, HaveWalks, IsEdgeUnder, WalksBegin, WalksJoined, WalksSplit, WalksTakenUp, WalksUncovered, WalksStepped, CoveredWalk}
+use Rattle.fb_graph.specs.Moves.{blossom, joined_nodes, split_nodes, absorbed_nodes, uncovered_nodes}
+use Rattle.fb_graph.specs.SourceWalks.{IsEdgeIn, IsWalkInside, HasWalks, HaveWalks, IsEdgeUnder, WalksBegin, WalksJoined, WalksSplit, WalksAbsorbed, WalksUncovered, WalksStepped, CoveredWalk}
 use Rattle.fb_graph.proofs.Among.{IsAmong, All_among, among_All, live_among, top_among, same_among, covered_by, cover_among, in_concat, from_concat}
 use Rattle.fb_graph.proofs.ChangedNodes.{change, by_name}
 use Rattle.fb_graph.proofs.Forests.{IsUnder, cuts_under}
@@ -31,7 +31,7 @@ use Rattle.fb_graph.proofs.TallerNodes.{taller_alike}
 use Rattle.fb_graph.proofs.LoweredNests as lowering
 use Rattle.fb_graph.proofs.NestParts.{grove_of}
 use Rattle.fb_graph.proofs.SplitNests as splitting
-use Rattle.fb_graph.proofs.SproutStates.{cut_of, cuts_are, leaves_are, vertex_in}
+use Rattle.fb_graph.proofs.SingleStates.{cut_of, cuts_are, leaves_are, vertex_in}
 use Rattle.fb_graph.proofs.StepHeights.{leaves_stepped}
 use Rattle.fb_graph.proofs.TightLinks.{source_stepped}
 
@@ -74,31 +74,31 @@ top_walked : (p : Problem) (nodes : List Node) → HaveWalks p nodes → (n : No
 top_walked p nodes walks n a = All-top (λ c. HasWalks p nodes c.vertices) n.below n.top (layers_walked p nodes walks n a)
 
 pub walks_begin : WalksBegin
-walks_begin p sprouts =
-    subst (All (λ c. HasWalks p (nodes_of sprouts) c.vertices)) (sym (cuts_are sprouts))
-    (All-map (λ c. HasWalks p (nodes_of sprouts) c.vertices) cut_of sprouts
+walks_begin p singles =
+    subst (All (λ c. HasWalks p (nodes_of singles) c.vertices)) (sym (cuts_are singles))
+    (All-map (λ c. HasWalks p (nodes_of singles) c.vertices) cut_of singles
     (λ i e less v within.
-    let same : (get_or sprouts i e).vertex ≡ v =
-    eqb-true (get_or sprouts i e).vertex v (sym (or_false ((get_or sprouts i e).vertex == v)) ∙ within) in (
+    let same : (get_or singles i e).vertex ≡ v =
+    eqb-true (get_or singles i e).vertex v (sym (or_false ((get_or singles i e).vertex == v)) ∙ within) in (
       [],
       v,
       record {
         defect =
-            ap (λ l. is_in l v) (leaves_are sprouts)
-            ∙ (ap (is_in (map (λ s. s.vertex) sprouts)) (sym same) ∙ vertex_in sprouts i e less);
+            ap (λ l. is_in l v) (leaves_are singles)
+            ∙ (ap (is_in (map (λ s. s.vertex) singles)) (sym same) ∙ vertex_in singles i e less);
         begins = within;
-        stays = All-nil (λ k. IsEdgeIn ((get_or sprouts i e).vertex ∷ []) (edge_at p.edges k));
+        stays = All-nil (λ k. IsEdgeIn ((get_or singles i e).vertex ∷ []) (edge_at p.edges k));
         source = record { leads = refl; balance = omega arith };
       },
     )))
 
 pub walks_joined : WalksJoined
 walks_joined p nodes name children may nest walks =
-    inserted_All (λ c. HasWalks p (joined name children nodes) c.vertices) (blossom name children nodes).top (all_cuts nodes)
-    (all_cuts (joined name children nodes)) (joining.insertion p nodes name children may nest)
-    (all_same p nodes (joined name children nodes) (joining.same_leaves p nodes name children may nest) (joining.height p nodes name children may nest)
+    inserted_All (λ c. HasWalks p (joined_nodes name children nodes) c.vertices) (blossom name children nodes).top (all_cuts nodes)
+    (all_cuts (joined_nodes name children nodes)) (joining.insertion p nodes name children may nest)
+    (all_same p nodes (joined_nodes name children nodes) (joining.same_leaves p nodes name children may nest) (joining.height p nodes name children may nest)
     (all_cuts nodes) walks)
-    (walks_same p nodes (joined name children nodes) (joining.same_leaves p nodes name children may nest)
+    (walks_same p nodes (joined_nodes name children nodes) (joining.same_leaves p nodes name children may nest)
     (joining.height p nodes name children may nest) (concat (map (top_at nodes) children)) whole)
   where
     whole : HasWalks p nodes (concat (map (top_at nodes) children))
@@ -115,39 +115,39 @@ walks_joined p nodes name children may nest walks =
 
 pub walks_split : WalksSplit
 walks_split p nodes name may nest walks =
-    all_same p nodes (split name nodes) (splitting.same_leaves p nodes name may nest) (splitting.height p nodes name may nest)
-    (all_cuts (split name nodes))
-    (removed_All (λ c. HasWalks p nodes c.vertices) (splitting.at p nodes name may nest).node.top (all_cuts (split name nodes)) (all_cuts nodes)
+    all_same p nodes (split_nodes name nodes) (splitting.same_leaves p nodes name may nest) (splitting.height p nodes name may nest)
+    (all_cuts (split_nodes name nodes))
+    (removed_All (λ c. HasWalks p nodes c.vertices) (splitting.at p nodes name may nest).node.top (all_cuts (split_nodes name nodes)) (all_cuts nodes)
     (splitting.insertion p nodes name may nest) walks)
 
 pub walks_uncovered : WalksUncovered
 walks_uncovered p nodes name may nest walks =
-    all_same p nodes (uncovered name nodes) (lowering.same_leaves p nodes name may nest) (lowering.height p nodes name may nest)
-    (all_cuts (uncovered name nodes))
-    (removed_All (λ c. HasWalks p nodes c.vertices) (lowering.at p nodes name may nest).node.top (all_cuts (uncovered name nodes)) (all_cuts nodes)
+    all_same p nodes (uncovered_nodes name nodes) (lowering.same_leaves p nodes name may nest) (lowering.height p nodes name may nest)
+    (all_cuts (uncovered_nodes name nodes))
+    (removed_All (λ c. HasWalks p nodes c.vertices) (lowering.at p nodes name may nest).node.top (all_cuts (uncovered_nodes name nodes)) (all_cuts nodes)
     (lowering.insertion p nodes name may nest) walks)
 
-pub walks_taken_up : WalksTakenUp
-walks_taken_up p nodes name k u v may nest walks =
-    All-flat_map (λ c. HasWalks p (taken_up name v nodes) c.vertices) layers_of (taken_up name v nodes)
-    (All-map (λ n. All (λ c. HasWalks p (taken_up name v nodes) c.vertices) (layers_of n)) (change name (taller v)) nodes
-    (among_All (λ n. All (λ c. HasWalks p (taken_up name v nodes) c.vertices) (layers_of (change name (taller v) n))) nodes
+pub walks_absorbed : WalksAbsorbed
+walks_absorbed p nodes name k u v may nest walks =
+    All-flat_map (λ c. HasWalks p (absorbed_nodes name v nodes) c.vertices) layers_of (absorbed_nodes name v nodes)
+    (All-map (λ n. All (λ c. HasWalks p (absorbed_nodes name v nodes) c.vertices) (layers_of n)) (change name (taller_node v)) nodes
+    (among_All (λ n. All (λ c. HasWalks p (absorbed_nodes name v nodes) c.vertices) (layers_of (change name (taller_node v) n))) nodes
     (λ n a.
-    by_name (λ m. All (λ c. HasWalks p (taken_up name v nodes) c.vertices) (layers_of m)) name (taller v) n
+    by_name (λ m. All (λ c. HasWalks p (absorbed_nodes name v nodes) c.vertices) (layers_of m)) name (taller_node v) n
     (λ named.
-    All-push (λ c. HasWalks p (taken_up name v nodes) c.vertices) (layers_of n) (taller v n).top (still n a)
-    (walks_same p nodes (taken_up name v nodes) alike.defects alike.heights (n.top.vertices ++ v ∷ []) (raised n a named)))
+    All-push (λ c. HasWalks p (absorbed_nodes name v nodes) c.vertices) (layers_of n) (taller_node v n).top (still n a)
+    (walks_same p nodes (absorbed_nodes name v nodes) alike.defects alike.heights (n.top.vertices ++ v ∷ []) (raised n a named)))
     (λ other. still n a))))
   where
     no_defect : is_in (leaves nodes) v ≡ false
     no_defect =
         false_from_ne_true (is_in (leaves nodes) v) (λ leaf. false≢true (subst IsSome may.uncovered (nest.dual.defects v leaf)))
 
-    alike : AreAlike nodes (taken_up name v nodes)
+    alike : AreAlike nodes (absorbed_nodes name v nodes)
     alike = (taller_alike nodes name v no_defect).0
 
-    still : (n : Node) → IsAmong n nodes → All (λ c. HasWalks p (taken_up name v nodes) c.vertices) (layers_of n)
-    still n a = all_same p nodes (taken_up name v nodes) alike.defects alike.heights (layers_of n) (layers_walked p nodes walks n a)
+    still : (n : Node) → IsAmong n nodes → All (λ c. HasWalks p (absorbed_nodes name v nodes) c.vertices) (layers_of n)
+    still n a = all_same p nodes (absorbed_nodes name v nodes) alike.defects alike.heights (layers_of n) (layers_walked p nodes walks n a)
 
     -- the edge has the vertex's source on its other end
     full : (edge_at p.edges k).weight ≡ height_of (all_cuts nodes) u
@@ -222,17 +222,17 @@ under_one p nodes nest c under v h = covered_by nodes v nest.dual.apart under.no
 
 pub walks_stepped : WalksStepped
 walks_stepped p roles nodes k are low nest walks =
-    All-flat_map (λ c. HasWalks p (stepped roles k nodes) c.vertices) layers_of (stepped roles k nodes)
-    (All-map (λ n. All (λ c. HasWalks p (stepped roles k nodes) c.vertices) (layers_of n)) (stepped_node roles k) nodes
-    (among_All (λ n. All (λ c. HasWalks p (stepped roles k nodes) c.vertices) (layers_of (stepped_node roles k n))) nodes
+    All-flat_map (λ c. HasWalks p (stepped_nodes roles k nodes) c.vertices) layers_of (stepped_nodes roles k nodes)
+    (All-map (λ n. All (λ c. HasWalks p (stepped_nodes roles k nodes) c.vertices) (layers_of n)) (stepped_node roles k) nodes
+    (among_All (λ n. All (λ c. HasWalks p (stepped_nodes roles k nodes) c.vertices) (layers_of (stepped_node roles k n))) nodes
     (λ n a.
-    let layers = All_among (λ m. All (λ c. HasWalks p (stepped roles k nodes) c.vertices) (layers_of m)) nodes
-    (All-pieces (λ c. HasWalks p (stepped roles k nodes) c.vertices) layers_of nodes all_moved) n a in
-    All-push (λ c. HasWalks p (stepped roles k nodes) c.vertices) n.below (stepped_node roles k n).top
-    (All-below (λ c. HasWalks p (stepped roles k nodes) c.vertices) n.below n.top layers)
-    (All-top (λ c. HasWalks p (stepped roles k nodes) c.vertices) n.below n.top layers))))
+    let layers = All_among (λ m. All (λ c. HasWalks p (stepped_nodes roles k nodes) c.vertices) (layers_of m)) nodes
+    (All-pieces (λ c. HasWalks p (stepped_nodes roles k nodes) c.vertices) layers_of nodes all_moved) n a in
+    All-push (λ c. HasWalks p (stepped_nodes roles k nodes) c.vertices) n.below (stepped_node roles k n).top
+    (All-below (λ c. HasWalks p (stepped_nodes roles k nodes) c.vertices) n.below n.top layers)
+    (All-top (λ c. HasWalks p (stepped_nodes roles k nodes) c.vertices) n.below n.top layers))))
   where
-    moved : (c : Cut) → IsUnder nodes c.vertices → HasWalks p nodes c.vertices → HasWalks p (stepped roles k nodes) c.vertices
+    moved : (c : Cut) → IsUnder nodes c.vertices → HasWalks p nodes c.vertices → HasWalks p (stepped_nodes roles k nodes) c.vertices
     moved c under has v within =
         let (walk, d, is) = has v within in (
           walk,
@@ -247,7 +247,7 @@ walks_stepped p roles nodes k are low nest walks =
           },
         )
 
-    all_moved : All (λ c. HasWalks p (stepped roles k nodes) c.vertices) (all_cuts nodes)
+    all_moved : All (λ c. HasWalks p (stepped_nodes roles k nodes) c.vertices) (all_cuts nodes)
     all_moved i e less =
         moved (get_or (all_cuts nodes) i e) (cuts_under nodes (grove_of p nodes nest) i e less) (walks i e less)
 

@@ -11,7 +11,7 @@ use Rattle.fb_graph.specs.Dual.{Node, AreApart, AreGrown, AreOuterApart, all_cut
 use Rattle.fb_graph.proofs.Sets.{All-from_is_in, is_in-All}
 use Rattle.fb_graph.specs.Ends.{AreAllApart}
 use Rattle.fb_graph.specs.Nests.{IsNest, IsForest, IsFormed, IsFilled, HasSources, child_sets}
-use Rattle.fb_graph.specs.Moves.{split, MaySplit, NestSplit}
+use Rattle.fb_graph.specs.Moves.{split_nodes, MaySplit, NestSplit}
 use Rattle.fb_graph.proofs.Among.{IsAmong, All_among, among_All, among_right, live_among, among_live, outer_among, outer_or_not, top_among, same_among, apart_among, among_pairs, apart_of_two}
 use Rattle.fb_graph.proofs.EndSums.{apart_sym}
 use Rattle.fb_graph.proofs.Forests.{child_within}
@@ -30,7 +30,7 @@ module _ (p : Problem) (nodes : List Node) (name : ℕ) (may : MaySplit nodes na
   bare =
       All_among (λ n. n.name ≡ name → (is_empty n.children ≡ false) × (n.below ≡ []) × (n.top.value ≡ 0)) nodes may.bare at.node there at.named
 
-  pub insertion : IsInserted at.node.top (all_cuts (split name nodes)) (all_cuts nodes)
+  pub insertion : IsInserted at.node.top (all_cuts (split_nodes name nodes)) (all_cuts nodes)
   insertion = record {
     before = all_cuts at.before;
     after = all_cuts at.after;
@@ -41,24 +41,24 @@ module _ (p : Problem) (nodes : List Node) (name : ℕ) (may : MaySplit nodes na
     bare = bare.2;
   }
 
-  pub same_leaves : leaves (split name nodes) ≡ leaves nodes
+  pub same_leaves : leaves (split_nodes name nodes) ≡ leaves nodes
   same_leaves =
       ap leaves at.removed
       ∙ (flat_map-append defects_of at.before at.after
       ∙ (ap (λ b. leaves at.before ++ ((if b then first_vertices (layers_of at.node) else []) ++ leaves at.after)) (sym bare.0)
       ∙ (sym (leaves_at at.before at.after at.node) ∙ ap leaves (sym at.whole))))
 
-  pub height : (v : ℕ) → height_of (all_cuts (split name nodes)) v ≡ height_of (all_cuts nodes) v
-  height v = sym (same_weigh (λ s. is_in s v) at.node.top (all_cuts (split name nodes)) (all_cuts nodes) insertion)
+  pub height : (v : ℕ) → height_of (all_cuts (split_nodes name nodes)) v ≡ height_of (all_cuts nodes) v
+  height v = sym (same_weigh (λ s. is_in s v) at.node.top (all_cuts (split_nodes name nodes)) (all_cuts nodes) insertion)
 
-  fit : AreFit p (leaves (split name nodes)) (all_cuts (split name nodes))
+  fit : AreFit p (leaves (split_nodes name nodes)) (all_cuts (split_nodes name nodes))
   fit =
-      subst (λ l. AreFit p l (all_cuts (split name nodes))) (sym same_leaves)
-      (removed_fit p (leaves nodes) at.node.top (all_cuts (split name nodes)) (all_cuts nodes) insertion (fit_of p nodes nest))
+      subst (λ l. AreFit p l (all_cuts (split_nodes name nodes))) (sym same_leaves)
+      (removed_fit p (leaves nodes) at.node.top (all_cuts (split_nodes name nodes)) (all_cuts nodes) insertion (fit_of p nodes nest))
 
   -- a child of another node is there still, with its set
   child_stays : (n : Node) → IsAmong n nodes → (c : ℕ) → is_in n.children c ≡ true
-      → (m : Node) × IsAmong m nodes × IsAmong m (split name nodes) × (m.name ≡ c)
+      → (m : Node) × IsAmong m nodes × IsAmong m (split_nodes name nodes) × (m.name ≡ c)
   child_stays n a c within =
       let live : is_live nodes c ≡ true =
       is_in-All (λ x. is_live nodes x ≡ true) n.children (All_among (λ m. All (λ x. is_live nodes x ≡ true) m.children) nodes nest.forest.live n a) c within in
@@ -70,37 +70,37 @@ module _ (p : Problem) (nodes : List Node) (name : ℕ) (may : MaySplit nodes na
         e,
       )
 
-  same_sets : (n : Node) → IsAmong n nodes → child_sets (split name nodes) n ≡ child_sets nodes n
+  same_sets : (n : Node) → IsAmong n nodes → child_sets (split_nodes name nodes) n ≡ child_sets nodes n
   same_sets n a =
-      map_agree (top_at (split name nodes)) (top_at nodes) n.children
-      (All-from_is_in (λ c. top_at (split name nodes) c ≡ top_at nodes c) n.children
+      map_agree (top_at (split_nodes name nodes)) (top_at nodes) n.children
+      (All-from_is_in (λ c. top_at (split_nodes name nodes) c ≡ top_at nodes c) n.children
       (λ c h.
       let (m, b, d, e) = child_stays n a c h in
-      subst (λ x. top_at (split name nodes) x ≡ top_at nodes x) e
-      (top_among (split name nodes) (split_names name nodes nest.dual.names) m d ∙ sym (top_among nodes nest.dual.names m b))))
+      subst (λ x. top_at (split_nodes name nodes) x ≡ top_at nodes x) e
+      (top_among (split_nodes name nodes) (split_names name nodes nest.dual.names) m d ∙ sym (top_among nodes nest.dual.names m b))))
 
-  forest : IsForest (split name nodes)
+  forest : IsForest (split_nodes name nodes)
   forest = record {
     formed = split_All IsFormed name nodes nest.forest.formed;
-    live = among_All (λ n. All (λ c. is_live (split name nodes) c ≡ true) n.children) (split name nodes)
+    live = among_All (λ n. All (λ c. is_live (split_nodes name nodes) c ≡ true) n.children) (split_nodes name nodes)
         (λ n a.
-        All-from_is_in (λ c. is_live (split name nodes) c ≡ true) n.children
+        All-from_is_in (λ c. is_live (split_nodes name nodes) c ≡ true) n.children
         (λ c h.
         let (m, b, d, e) = child_stays n (among_split name nodes n a).0 c h in
-        among_live (split name nodes) m c d e));
+        among_live (split_nodes name nodes) m c d e));
     joined = split_joined name nodes nest.forest.joined;
-    filled = among_All (IsFilled (split name nodes)) (split name nodes)
+    filled = among_All (IsFilled (split_nodes name nodes)) (split_nodes name nodes)
         (λ n a some v.
         All_among (IsFilled nodes) nodes nest.forest.filled n (among_split name nodes n a).0 some v
         ∙ ap (λ l. is_in (concat l) v) (sym (same_sets n (among_split name nodes n a).0)));
-    parted = among_All (λ n. AreAllApart (child_sets (split name nodes) n)) (split name nodes)
+    parted = among_All (λ n. AreAllApart (child_sets (split_nodes name nodes) n)) (split_nodes name nodes)
         (λ n a.
         subst AreAllApart (sym (same_sets n (among_split name nodes n a).0))
         (All_among (λ m. AreAllApart (child_sets nodes m)) nodes nest.forest.parted n (among_split name nodes n a).0));
   }
 
   -- what becomes outer was joined by the node
-  outer_before : (m : Node) → is_outer (split name nodes) m.name ≡ true
+  outer_before : (m : Node) → is_outer (split_nodes name nodes) m.name ≡ true
       → (is_outer nodes m.name ≡ true) ⊎ (is_in at.node.children m.name ≡ true)
   outer_before m outer = by (outer_or_not nodes m.name)
     where
@@ -113,7 +113,7 @@ module _ (p : Problem) (nodes : List Node) (name : ℕ) (may : MaySplit nodes na
           pick (inl same) =
               inr (ap (λ x. is_in x.children m.name) (sym (same_among nodes nest.dual.names q at.node b there (same ∙ sym at.named))) ∙ child)
           pick (inr other) =
-              absurd (both_ways (is_in q.children m.name) (outer_among (split name nodes) m.name outer q (split_among name nodes q b other)) child)
+              absurd (both_ways (is_in q.children m.name) (outer_among (split_nodes name nodes) m.name outer q (split_among name nodes q b other)) child)
 
   apart_child : (m n : Node) → IsAmong m nodes → (m.name ≡ name → ⊥) → IsAmong n nodes → is_outer nodes m.name ≡ true
       → is_in at.node.children n.name ≡ true → AreApart m.top.vertices n.top.vertices
@@ -125,10 +125,10 @@ module _ (p : Problem) (nodes : List Node) (name : ℕ) (may : MaySplit nodes na
       (ap (is_outer nodes) at.named ∙ may.outer) v within)
       (child_within nodes (grove_of p nodes nest) n at.node b there child v h))
 
-  apart : AreOuterApart (split name nodes)
+  apart : AreOuterApart (split_nodes name nodes)
   apart =
-      among_pairs (λ m n. is_outer (split name nodes) m.name ≡ true → is_outer (split name nodes) n.name ≡ true → AreApart m.top.vertices n.top.vertices)
-      (split name nodes) (split_names name nodes nest.dual.names)
+      among_pairs (λ m n. is_outer (split_nodes name nodes) m.name ≡ true → is_outer (split_nodes name nodes) n.name ≡ true → AreApart m.top.vertices n.top.vertices)
+      (split_nodes name nodes) (split_names name nodes nest.dual.names)
       (λ m n a b other out_m out_n.
       by m n (among_split name nodes m a) (among_split name nodes n b) other (outer_before m out_m) (outer_before n out_n))
     where
@@ -144,17 +144,17 @@ module _ (p : Problem) (nodes : List Node) (name : ℕ) (may : MaySplit nodes na
           (apart_of_two (top_at nodes) at.node.children
           (All_among (λ x. AreAllApart (child_sets nodes x)) nodes nest.forest.parted at.node there) m.name n.name h k other))
 
-  nest_kept : IsNest p (split name nodes)
+  nest_kept : IsNest p (split_nodes name nodes)
   nest_kept =
-      nest_of p (split name nodes) fit (record {
+      nest_of p (split_nodes name nodes) fit (record {
         names = split_names name nodes nest.dual.names;
         grown = split_All (λ n. AreGrown (layers_of n)) name nodes nest.dual.grown;
         forest = forest;
       })
       apart (subst AreDistinct (sym same_leaves) nest.defects)
-      (split_All (λ n. HasSources (split name nodes) n.top.vertices) name nodes
-      (All-weaker (λ n. HasSources nodes n.top.vertices) (λ n. HasSources (split name nodes) n.top.vertices)
-      (λ n h. sources_same nodes (split name nodes) n.top.vertices same_leaves height h) nodes nest.sources))
+      (split_All (λ n. HasSources (split_nodes name nodes) n.top.vertices) name nodes
+      (All-weaker (λ n. HasSources nodes n.top.vertices) (λ n. HasSources (split_nodes name nodes) n.top.vertices)
+      (λ n h. sources_same nodes (split_nodes name nodes) n.top.vertices same_leaves height h) nodes nest.sources))
 
 pub nest_split : NestSplit
 nest_split p nodes name may nest = nest_kept p nodes name may nest

@@ -12,7 +12,7 @@ use Rattle.fb_graph.specs.declared.parts.Edge.{Edge}
 use Rattle.fb_graph.specs.declared.parts.Cut.{Cut}
 use Rattle.fb_graph.proofs.CutSums.{weigh}
 use Rattle.fb_graph.proofs.Nodes.{All-flat_map, All-pieces, All-top, All-below}
-use Rattle.fb_graph.specs.Steps.{Roles, AreExclusive, gains, losses, stepped_value, stepped_node, stepped, AllowShrinking, MayStep, LoadStepped, TightStepped, PackingStepped, StepsAdd, StepsSplit, SteppedTwice}
+use Rattle.fb_graph.specs.Steps.{Roles, AreExclusive, gains, losses, stepped_value, stepped_node, stepped_nodes, AllowShrinking, MayStep, LoadStepped, TightStepped, PackingStepped, StepsAdd, StepsSplit, SteppedTwice}
 
 -- one top layer: what it gains and loses, by its role and whether the edge crosses it
 one_top : (plus minus test : Bool) (v k : ℕ) → (plus ≡ true → minus ≡ false) → (minus ≡ true → k ≤ v)
@@ -48,7 +48,7 @@ one_node roles k test n apart low =
 -- what a step does to the sum of the cuts whose sets pass a test
 pub weigh_stepped : (roles : Roles) (nodes : List Node) (k : ℕ) (test : List ℕ → Bool) → AreExclusive roles
     → AllowShrinking roles nodes k
-    → weigh test (all_cuts (stepped roles k nodes)) + k * count_by (λ n. roles.is_minus n.name && test n.top.vertices) nodes
+    → weigh test (all_cuts (stepped_nodes roles k nodes)) + k * count_by (λ n. roles.is_minus n.name && test n.top.vertices) nodes
     ≡ weigh test (all_cuts nodes) + k * count_by (λ n. roles.is_plus n.name && test n.top.vertices) nodes
 weigh_stepped roles [] k test apart low = omega arith
 weigh_stepped roles (n ∷ ns) k test apart low =
@@ -56,9 +56,9 @@ weigh_stepped roles (n ∷ ns) k test apart low =
     let g : Node → ℕ = λ m. cond (roles.is_plus m.name && test m.top.vertices) 1 0 in
     let h : Node → ℕ = λ m. cond (roles.is_minus m.name && test m.top.vertices) 1 0 in
     let Low : Node → Type 0 = λ m. roles.is_minus m.name ≡ true → k ≤ m.top.value in
-    let new : weigh test (all_cuts (stepped roles k (n ∷ ns)))
-    ≡ weigh test (layers_of (stepped_node roles k n)) + weigh test (all_cuts (stepped roles k ns)) =
-    sum_by-append f (layers_of (stepped_node roles k n)) (all_cuts (stepped roles k ns)) in
+    let new : weigh test (all_cuts (stepped_nodes roles k (n ∷ ns)))
+    ≡ weigh test (layers_of (stepped_node roles k n)) + weigh test (all_cuts (stepped_nodes roles k ns)) =
+    sum_by-append f (layers_of (stepped_node roles k n)) (all_cuts (stepped_nodes roles k ns)) in
     let old : weigh test (all_cuts (n ∷ ns)) ≡ weigh test (layers_of n) + weigh test (all_cuts ns) =
     sum_by-append f (layers_of n) (all_cuts ns) in
     let here = one_node roles k test n apart (All-head Low n ns low) in
@@ -91,7 +91,7 @@ odd_stepped p roles k n odd =
 pub packing_stepped : PackingStepped
 packing_stepped p roles nodes k apart packing may = record {
   odd =
-      All-flat_map (IsOddCut p) layers_of (stepped roles k nodes)
+      All-flat_map (IsOddCut p) layers_of (stepped_nodes roles k nodes)
       (All-map (λ n. All (IsOddCut p) (layers_of n)) (stepped_node roles k) nodes
       (λ i d less.
       odd_stepped p roles k (get_or nodes i d) (All-pieces (IsOddCut p) layers_of nodes packing.odd i d less)));
@@ -101,17 +101,17 @@ packing_stepped p roles nodes k apart packing may = record {
 }
 
 -- a step leaves each node's name and sets
-gains_stepped : (roles : Roles) (nodes : List Node) (k : ℕ) (e : Edge) → gains roles (stepped roles k nodes) e ≡ gains roles nodes e
+gains_stepped : (roles : Roles) (nodes : List Node) (k : ℕ) (e : Edge) → gains roles (stepped_nodes roles k nodes) e ≡ gains roles nodes e
 gains_stepped roles [] k e = refl
 gains_stepped roles (n ∷ ns) k e =
     let g : Node → ℕ = λ m. cond (roles.is_plus m.name && crosses m.top.vertices e) 1 0 in
-    omega (arith, sum_by-cons g n ns, sum_by-cons g (stepped_node roles k n) (stepped roles k ns), gains_stepped roles ns k e)
+    omega (arith, sum_by-cons g n ns, sum_by-cons g (stepped_node roles k n) (stepped_nodes roles k ns), gains_stepped roles ns k e)
 
-losses_stepped : (roles : Roles) (nodes : List Node) (k : ℕ) (e : Edge) → losses roles (stepped roles k nodes) e ≡ losses roles nodes e
+losses_stepped : (roles : Roles) (nodes : List Node) (k : ℕ) (e : Edge) → losses roles (stepped_nodes roles k nodes) e ≡ losses roles nodes e
 losses_stepped roles [] k e = refl
 losses_stepped roles (n ∷ ns) k e =
     let g : Node → ℕ = λ m. cond (roles.is_minus m.name && crosses m.top.vertices e) 1 0 in
-    omega (arith, sum_by-cons g n ns, sum_by-cons g (stepped_node roles k n) (stepped roles k ns), losses_stepped roles ns k e)
+    omega (arith, sum_by-cons g n ns, sum_by-cons g (stepped_node roles k n) (stepped_nodes roles k ns), losses_stepped roles ns k e)
 
 minus_value : (plus minus : Bool) (v k j : ℕ) → (plus ≡ true → minus ≡ false) → minus ≡ true → k ≤ v
     → j ≤ cond plus (v + k) (cond minus (v - k) v) → k + j ≤ v
@@ -128,15 +128,15 @@ value_minus false true v k j apart is low = omega arith
 value_minus false false v k j apart is low = absurd (false≢true is)
 
 tops_add : (roles : Roles) (nodes : List Node) (k j : ℕ) → AreExclusive roles → AllowShrinking roles nodes k
-    → AllowShrinking roles (stepped roles k nodes) j → AllowShrinking roles nodes (k + j)
+    → AllowShrinking roles (stepped_nodes roles k nodes) j → AllowShrinking roles nodes (k + j)
 tops_add roles [] k j apart low more = All-nil (λ n. roles.is_minus n.name ≡ true → k + j ≤ n.top.value)
 tops_add roles (n ∷ ns) k j apart low more =
     let Low : ℕ → Node → Type 0 = λ x m. roles.is_minus m.name ≡ true → x ≤ m.top.value in
     All-cons (Low (k + j)) n ns
     (λ is. minus_value (roles.is_plus n.name) (roles.is_minus n.name) n.top.value k j (apart n.name) is
-    (All-head (Low k) n ns low is) (All-head (Low j) (stepped_node roles k n) (stepped roles k ns) more is))
+    (All-head (Low k) n ns low is) (All-head (Low j) (stepped_node roles k n) (stepped_nodes roles k ns) more is))
     (tops_add roles ns k j apart (All-tail (Low k) n ns low)
-    (All-tail (Low j) (stepped_node roles k n) (stepped roles k ns) more))
+    (All-tail (Low j) (stepped_node roles k n) (stepped_nodes roles k ns) more))
 
 pub steps_add : StepsAdd
 steps_add p roles nodes k j apart may more = record {
@@ -204,6 +204,6 @@ twice_value false false v k j = refl
 pub stepped_twice : SteppedTwice
 stepped_twice roles [] k j apart = refl
 stepped_twice roles (n ∷ ns) k j apart =
-    ap (λ v. record n { top = record n.top { value = v } } ∷ stepped roles j (stepped roles k ns))
+    ap (λ v. record n { top = record n.top { value = v } } ∷ stepped_nodes roles j (stepped_nodes roles k ns))
     (twice_value (roles.is_plus n.name) (roles.is_minus n.name) n.top.value k j)
     ∙ ap (λ l. stepped_node roles (k + j) n ∷ l) (stepped_twice roles ns k j apart)

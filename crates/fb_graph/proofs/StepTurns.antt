@@ -5,11 +5,11 @@ use Rattle.std.proofs.lemmas.List.Elements.{All-map}
 use Rattle.std.proofs.lemmas.List.Sums.{sum_by-cons}
 use Rattle.std.proofs.Math.Nat.{mul-le-mul_left}
 use Rattle.fb_graph.specs.Problem.{crosses}
-use Rattle.fb_graph.specs.Dual.{Node, change_at, thicker, top_at}
+use Rattle.fb_graph.specs.Dual.{Node, change_at, thicker_node, top_at}
 use Rattle.fb_graph.specs.declared.parts.Edge.{Edge}
 use Rattle.fb_graph.specs.Counts.{as_count}
-use Rattle.fb_graph.specs.Steps.{Roles, AreExclusive, gains, losses, stepped, stepped_node, AllowShrinking}
-use Rattle.fb_graph.specs.Turns.{thinner, also_minus, also_plus, IsPartlyGrown, NoTurn, ShrunkNext, GrownNext, SameRoles, TopStepped, GrowthAllowed, ShrinkAllowed}
+use Rattle.fb_graph.specs.Steps.{Roles, AreExclusive, gains, losses, stepped_nodes, stepped_node, AllowShrinking}
+use Rattle.fb_graph.specs.Turns.{thinner_node, with_minus, with_plus, IsPartlyGrown, NoTurn, ShrunkNext, GrownNext, SameRoles, TopStepped, GrowthAllowed, ShrinkAllowed}
 use Rattle.fb_graph.proofs.StepLoads.{load_stepped}
 
 pub no_turn : NoTurn
@@ -24,9 +24,9 @@ pub same_roles : SameRoles
 unfolding with_value
 same_roles roles other k [] plus minus = refl
 same_roles roles other k (n ∷ ns) plus minus =
-    ap (λ b. with_value n (cond b (n.top.value + k) (cond (roles.is_minus n.name) (n.top.value - k) n.top.value)) ∷ stepped roles k ns)
+    ap (λ b. with_value n (cond b (n.top.value + k) (cond (roles.is_minus n.name) (n.top.value - k) n.top.value)) ∷ stepped_nodes roles k ns)
     (plus n.name)
-    ∙ (ap (λ b. with_value n (cond (other.is_plus n.name) (n.top.value + k) (cond b (n.top.value - k) n.top.value)) ∷ stepped roles k ns)
+    ∙ (ap (λ b. with_value n (cond (other.is_plus n.name) (n.top.value + k) (cond b (n.top.value - k) n.top.value)) ∷ stepped_nodes roles k ns)
     (minus n.name)
     ∙ ap (λ l. stepped_node other k n ∷ l) (same_roles roles other k ns plus minus))
 
@@ -53,21 +53,21 @@ pub shrunk_next : ShrunkNext
 unfolding with_value
 shrunk_next roles k name [] plus minus = refl
 shrunk_next roles k name (n ∷ ns) plus minus =
-    ap (λ m. m ∷ change_at name (thinner k) (stepped roles k ns))
+    ap (λ m. m ∷ change_at name (thinner_node k) (stepped_nodes roles k ns))
     (shrunk_one n (n.name == name) (roles.is_plus n.name) (roles.is_minus n.name) n.top.value k
     (λ here. ap roles.is_plus (eqb-true n.name name here) ∙ plus)
     (λ here. ap roles.is_minus (eqb-true n.name name here) ∙ minus))
-    ∙ ap (λ l. stepped_node (also_minus roles name) k n ∷ l) (shrunk_next roles k name ns plus minus)
+    ∙ ap (λ l. stepped_node (with_minus roles name) k n ∷ l) (shrunk_next roles k name ns plus minus)
 
 pub grown_next : GrownNext
 unfolding with_value
 grown_next roles k name [] plus minus = refl
 grown_next roles k name (n ∷ ns) plus minus =
-    ap (λ m. m ∷ change_at name (thicker k) (stepped roles k ns))
+    ap (λ m. m ∷ change_at name (thicker_node k) (stepped_nodes roles k ns))
     (grown_one n (n.name == name) (roles.is_plus n.name) (roles.is_minus n.name) n.top.value k
     (λ here. ap roles.is_plus (eqb-true n.name name here) ∙ plus)
     (λ here. ap roles.is_minus (eqb-true n.name name here) ∙ minus))
-    ∙ ap (λ l. stepped_node (also_plus roles name) k n ∷ l) (grown_next roles k name ns plus minus)
+    ∙ ap (λ l. stepped_node (with_plus roles name) k n ∷ l) (grown_next roles k name ns plus minus)
 
 pub top_stepped : TopStepped
 top_stepped roles k name [] = refl

@@ -12,7 +12,7 @@ use Rattle.fb_graph.proofs.Nodes.{All-flat_map, All-pieces, All-top, All-below}
 use Rattle.fb_graph.specs.Counts.{as_count}
 use Rattle.fb_graph.specs.Nests.{IsNest, HasSources, first_set}
 use Rattle.fb_graph.specs.Moves.{NestStepped}
-use Rattle.fb_graph.specs.Steps.{Roles, stepped, stepped_node, stepped_value}
+use Rattle.fb_graph.specs.Steps.{Roles, stepped_nodes, stepped_node, stepped_value}
 use Rattle.fb_graph.specs.Covers.{passes}
 use Rattle.fb_graph.proofs.Among.{IsAmong, All_among, among_All, apart_among, covered_by}
 use Rattle.fb_graph.proofs.Forests.{under_outer}
@@ -32,11 +32,11 @@ sets_append (x ∷ xs) ys = ap (λ l. x.vertices ∷ l) (sets_append xs ys)
 same_node_sets : (roles : Roles) (k : ℕ) (n : Node) → map (λ c. c.vertices) (layers_of (stepped_node roles k n)) ≡ map (λ c. c.vertices) (layers_of n)
 same_node_sets roles k n = sets_append n.below ((stepped_node roles k n).top ∷ []) ∙ sym (sets_append n.below (n.top ∷ []))
 
-same_cut_sets : (roles : Roles) (k : ℕ) (ns : List Node) → map (λ c. c.vertices) (all_cuts (stepped roles k ns)) ≡ map (λ c. c.vertices) (all_cuts ns)
+same_cut_sets : (roles : Roles) (k : ℕ) (ns : List Node) → map (λ c. c.vertices) (all_cuts (stepped_nodes roles k ns)) ≡ map (λ c. c.vertices) (all_cuts ns)
 same_cut_sets roles k [] = refl
 same_cut_sets roles k (n ∷ ns) =
-    sets_append (layers_of (stepped_node roles k n)) (all_cuts (stepped roles k ns))
-    ∙ (ap (λ l. l ++ map (λ c. c.vertices) (all_cuts (stepped roles k ns))) (same_node_sets roles k n)
+    sets_append (layers_of (stepped_node roles k n)) (all_cuts (stepped_nodes roles k ns))
+    ∙ (ap (λ l. l ++ map (λ c. c.vertices) (all_cuts (stepped_nodes roles k ns))) (same_node_sets roles k n)
     ∙ (ap (λ l. map (λ c. c.vertices) (layers_of n) ++ l) (same_cut_sets roles k ns)
     ∙ sym (sets_append (layers_of n) (all_cuts ns))))
 
@@ -62,9 +62,9 @@ from_sets R (c ∷ cs) h =
     (from_sets R cs (λ i j d less below. h (suc i) (suc j) d (omega arith) (omega arith)))
 
 pairs_stepped : (R : List ℕ → List ℕ → Type 0) (roles : Roles) (k : ℕ) (ns : List Node) → AllPairs (λ c d. R c.vertices d.vertices) (all_cuts ns)
-    → AllPairs (λ c d. R c.vertices d.vertices) (all_cuts (stepped roles k ns))
+    → AllPairs (λ c d. R c.vertices d.vertices) (all_cuts (stepped_nodes roles k ns))
 pairs_stepped R roles k ns h =
-    from_sets R (all_cuts (stepped roles k ns)) (subst (AllPairs R) (sym (same_cut_sets roles k ns)) (to_sets R (all_cuts ns) h))
+    from_sets R (all_cuts (stepped_nodes roles k ns)) (subst (AllPairs R) (sym (same_cut_sets roles k ns)) (to_sets R (all_cuts ns) h))
 
 first_stepped : (roles : Roles) (k : ℕ) (n : Node) → first_set (stepped_node roles k n) ≡ first_set n
 first_stepped roles k n = by n.below
@@ -98,16 +98,16 @@ module _ (p : Problem) (roles : Roles) (nodes : List Node) (k : ℕ) (nest : IsN
     inner = λ i d less inner. refl;
   }
 
-  same_leaves : leaves (stepped roles k nodes) ≡ leaves nodes
+  same_leaves : leaves (stepped_nodes roles k nodes) ≡ leaves nodes
   same_leaves = mapped_leaves (stepped_node roles k) kept.children nodes kept.first
 
 pub nest_stepped : NestStepped
 nest_stepped p roles nodes k limits are crossed may nest =
-    nest_of p (stepped roles k nodes) (subst (λ l. AreFit p l (all_cuts (stepped roles k nodes))) (sym (same_leaves p roles nodes k nest)) (record {
+    nest_of p (stepped_nodes roles k nodes) (subst (λ l. AreFit p l (all_cuts (stepped_nodes roles k nodes))) (sym (same_leaves p roles nodes k nest)) (record {
       packing = packing;
       laminar = pairs_stepped (λ a b. IsNestedSets a b) roles k nodes nest.dual.laminar;
       held = held;
-      total = total-le p (all_cuts (stepped roles k nodes)) limits packing.fits held;
+      total = total-le p (all_cuts (stepped_nodes roles k nodes)) limits packing.fits held;
       differ = pairs_stepped (λ a b. (v : ℕ) × (is_in a v ≡ is_in b v → ⊥)) roles k nodes nest.differ;
     }))
     (record {
@@ -120,15 +120,15 @@ nest_stepped p roles nodes k limits are crossed may nest =
     (apart_mapped (stepped_node roles k) nodes (kept p roles nodes k nest) (grove_of p nodes nest)
     (λ m n a b other out_m out_n. apart_among nodes nest.dual.names nest.dual.apart m n a b other out_m out_n))
     (subst AreDistinct (sym (same_leaves p roles nodes k nest)) nest.defects)
-    (All-map (λ n. HasSources (stepped roles k nodes) n.top.vertices) (stepped_node roles k) nodes
-    (among_All (λ n. HasSources (stepped roles k nodes) n.top.vertices) nodes sources))
+    (All-map (λ n. HasSources (stepped_nodes roles k nodes) n.top.vertices) (stepped_node roles k) nodes
+    (among_All (λ n. HasSources (stepped_nodes roles k nodes) n.top.vertices) nodes sources))
   where
-    packing : IsPacking (with_defects p (leaves nodes)) (all_cuts (stepped roles k nodes))
+    packing : IsPacking (with_defects p (leaves nodes)) (all_cuts (stepped_nodes roles k nodes))
     packing = packing_stepped (with_defects p (leaves nodes)) roles nodes k are.exclusive nest.dual.packing (record { edges = may.edges; tops = may.tops })
 
-    held : All (IsHeld p) (all_cuts (stepped roles k nodes))
+    held : All (IsHeld p) (all_cuts (stepped_nodes roles k nodes))
     held =
-        All-flat_map (IsHeld p) layers_of (stepped roles k nodes)
+        All-flat_map (IsHeld p) layers_of (stepped_nodes roles k nodes)
         (All-map (λ n. All (IsHeld p) (layers_of n)) (stepped_node roles k) nodes
         (among_All (λ n. All (IsHeld p) (layers_of (stepped_node roles k n))) nodes
         (λ n a.
@@ -138,7 +138,7 @@ nest_stepped p roles nodes k limits are crossed may nest =
         (held_stepped p roles k n (All_among (λ m. roles.is_plus m.name ≡ true → IsCrossed p m.top.vertices) nodes crossed n a)
         (All-top (IsHeld p) n.below n.top own)) (All-nil (IsHeld p))))))
 
-    sources : (n : Node) → IsAmong n nodes → HasSources (stepped roles k nodes) n.top.vertices
+    sources : (n : Node) → IsAmong n nodes → HasSources (stepped_nodes roles k nodes) n.top.vertices
     sources n a v within =
         let (d, holds, leaf, parity) = All_among (λ m. HasSources nodes m.top.vertices) nodes nest.sources n a v within in
         let under = under_outer nodes (grove_of p nodes nest) n a in

@@ -6,7 +6,7 @@ use Rattle.fb_graph.specs.Certificate.{AreDistinct, load_of}
 use Rattle.fb_graph.specs.Dual.{Node, IsDual, all_cuts, leaves, cover_of, height_of, is_outer, AreUnderOne, AreOuterApart}
 use Rattle.fb_graph.specs.declared.parts.Edge.{Edge}
 use Rattle.fb_graph.specs.Counts.{as_count}
-use Rattle.fb_graph.specs.Steps.{Roles, AreExclusive, AllowShrinking, gains, losses, stepped, MayStep}
+use Rattle.fb_graph.specs.Steps.{Roles, AreExclusive, AllowShrinking, gains, losses, stepped_nodes, MayStep}
 
 -- the name, where there is one, passes the test
 abbrev pub passes : (ℕ → Bool) → Option ℕ → Bool
@@ -14,8 +14,8 @@ passes test None = false
 passes test (Some name) = test name
 
 -- an outer node whose name passes the test holds the vertex
-abbrev pub is_over : (ℕ → Bool) → List Node → ℕ → Bool
-is_over test nodes v = passes test (cover_of nodes v)
+abbrev pub is_covered_by : (ℕ → Bool) → List Node → ℕ → Bool
+is_covered_by test nodes v = passes test (cover_of nodes v)
 
 -- only outer nodes' names pass the test
 abbrev pub PassOuterOnly : (ℕ → Bool) → List Node → Type 0
@@ -29,7 +29,7 @@ crossings_of test nodes e = count_by (λ n. test n.name && crosses n.top.vertice
 abbrev pub CrossingsByCover : Type 0
 CrossingsByCover = (test : ℕ → Bool) (nodes : List Node) (e : Edge) → AreOuterApart nodes → PassOuterOnly test nodes
     → ¬ AreUnderOne nodes e.first e.second
-    → crossings_of test nodes e ≡ as_count (is_over test nodes e.first) + as_count (is_over test nodes e.second)
+    → crossings_of test nodes e ≡ as_count (is_covered_by test nodes e.first) + as_count (is_covered_by test nodes e.second)
 
 -- An edge within one outer node crosses no outer node's set.
 abbrev pub NoCrossingsWithin : Type 0
@@ -45,7 +45,7 @@ pub record AreRoles (roles : Roles) (nodes : List Node) : Type 0 where
 -- A pair between a plus and a minus node gains as much as it loses, as a link of the tree does.
 abbrev pub LevelBetween : Type 0
 LevelBetween = (roles : Roles) (nodes : List Node) (e : Edge) → AreOuterApart nodes → AreRoles roles nodes
-    → is_over roles.is_plus nodes e.first ≡ true → is_over roles.is_minus nodes e.second ≡ true
+    → is_covered_by roles.is_plus nodes e.first ≡ true → is_covered_by roles.is_minus nodes e.second ≡ true
     → gains roles nodes e ≡ losses roles nodes e
 
 -- So does a pair within one node, as a link inside a blossom does.
@@ -58,8 +58,8 @@ LevelWithin = (roles : Roles) (nodes : List Node) (e : Edge) → AreOuterApart n
 abbrev pub LevelOutside : Type 0
 LevelOutside = (roles : Roles) (nodes : List Node) (e : Edge) → AreOuterApart nodes
     → AreDistinct (map (λ n. n.name) nodes) → AreRoles roles nodes
-    → is_over roles.is_plus nodes e.first ≡ false → is_over roles.is_plus nodes e.second ≡ false
-    → is_over roles.is_minus nodes e.first ≡ false → is_over roles.is_minus nodes e.second ≡ false
+    → is_covered_by roles.is_plus nodes e.first ≡ false → is_covered_by roles.is_plus nodes e.second ≡ false
+    → is_covered_by roles.is_minus nodes e.first ≡ false → is_covered_by roles.is_minus nodes e.second ≡ false
     → gains roles nodes e ≡ losses roles nodes e
 
 -- all defects under the nodes that pass the test have potentials of this parity
@@ -71,14 +71,14 @@ HaveParity test nodes r = (d name : ℕ) → is_in (leaves nodes) d ≡ true →
 abbrev pub EvenResidue : Type 0
 EvenResidue = (p : Problem) (roles : Roles) (nodes : List Node) (r : ℕ) (e : Edge) → IsDual p nodes
     → HaveParity roles.is_plus nodes r → e.weight % 2 ≡ 0 → ¬ AreUnderOne nodes e.first e.second
-    → is_over roles.is_plus nodes e.first ≡ true → is_over roles.is_plus nodes e.second ≡ true
+    → is_covered_by roles.is_plus nodes e.first ≡ true → is_covered_by roles.is_plus nodes e.second ≡ true
     → (e.weight - load_of (all_cuts nodes) e) % 2 ≡ 0
 
 -- the edge can bear more, if one of its ends is under a plus node and the other isn't under a minus node
 pub record IsClear (roles : Roles) (nodes : List Node) (e : Edge) : Type 0 where
-  pub first : is_over roles.is_plus nodes e.first ≡ true → is_over roles.is_minus nodes e.second ≡ false
+  pub first : is_covered_by roles.is_plus nodes e.first ≡ true → is_covered_by roles.is_minus nodes e.second ≡ false
       → load_of (all_cuts nodes) e < e.weight
-  pub second : is_over roles.is_plus nodes e.second ≡ true → is_over roles.is_minus nodes e.first ≡ false
+  pub second : is_covered_by roles.is_plus nodes e.second ≡ true → is_covered_by roles.is_minus nodes e.first ≡ false
       → load_of (all_cuts nodes) e < e.weight
 
 -- nothing stands in the way of the tree: neither an edge without residue nor an empty layer
@@ -94,14 +94,14 @@ FreeStep = (p : Problem) (roles : Roles) (nodes : List Node) (r : ℕ) → IsDua
 
 -- A step leaves the outer node over a vertex, and the defects.
 abbrev pub CoverStepped : Type 0
-CoverStepped = (roles : Roles) (nodes : List Node) (k v : ℕ) → cover_of (stepped roles k nodes) v ≡ cover_of nodes v
+CoverStepped = (roles : Roles) (nodes : List Node) (k v : ℕ) → cover_of (stepped_nodes roles k nodes) v ≡ cover_of nodes v
 
 abbrev pub LeavesStepped : Type 0
-LeavesStepped = (roles : Roles) (nodes : List Node) (k : ℕ) → leaves (stepped roles k nodes) ≡ leaves nodes
+LeavesStepped = (roles : Roles) (nodes : List Node) (k : ℕ) → leaves (stepped_nodes roles k nodes) ≡ leaves nodes
 
 -- It raises all potentials under plus nodes by its length, and lowers those under minus nodes by it.
 abbrev pub HeightStepped : Type 0
 HeightStepped = (roles : Roles) (nodes : List Node) (k v : ℕ) → AreOuterApart nodes → AreRoles roles nodes
     → AllowShrinking roles nodes k
-    → height_of (all_cuts (stepped roles k nodes)) v + k * as_count (is_over roles.is_minus nodes v)
-    ≡ height_of (all_cuts nodes) v + k * as_count (is_over roles.is_plus nodes v)
+    → height_of (all_cuts (stepped_nodes roles k nodes)) v + k * as_count (is_covered_by roles.is_minus nodes v)
+    ≡ height_of (all_cuts nodes) v + k * as_count (is_covered_by roles.is_plus nodes v)

@@ -80,12 +80,12 @@ top_at [] name = []
 top_at (n ∷ ns) name = if n.name == name then n.top.vertices else top_at ns name
 
 -- the node with its top layer thicker
-abbrev pub thicker : ℕ → Node → Node
-thicker k n = record n { top = record n.top { value = n.top.value + k } }
+abbrev pub thicker_node : ℕ → Node → Node
+thicker_node k n = record n { top = record n.top { value = n.top.value + k } }
 
 -- the node with a further layer of value 0 that holds the vertex too
-abbrev pub taller : ℕ → Node → Node
-taller v n = record n { below = layers_of n; top = record { value = 0; vertices = n.top.vertices ++ v ∷ [] } }
+abbrev pub taller_node : ℕ → Node → Node
+taller_node v n = record n { below = layers_of n; top = record { value = 0; vertices = n.top.vertices ++ v ∷ [] } }
 
 -- the node of this name changed, all others as they were
 abbrev pub change_at : ℕ → (Node → Node) → List Node → List Node

@@ -21,13 +21,13 @@ pub record IsReached (labels : List ℕ) (flags : List Bool) (order : List ℕ) 
   pub below : All (λ v. v < length labels) order
 
 -- the vertex reached with this label, unless it was reached before
-abbrev pub reached : Reached → ℕ → ℕ → Reached
-reached s v label =
+abbrev pub with_vertex : Reached → ℕ → ℕ → Reached
+with_vertex s v label =
     if is_in s.order v then s else record { labels = slice_set s.labels v label; order = s.order ++ v ∷ [] }
 
 -- both ends of an edge reached with this label
 abbrev pub with_ends : DecodingGraph → Reached → ℕ → ℕ → Reached
-with_ends g s k label = reached (reached s (edge_at g.edges k).first label) (edge_at g.edges k).second label
+with_ends g s k label = with_vertex (with_vertex s (edge_at g.edges k).first label) (edge_at g.edges k).second label
 
 -- more was reached, and what was reached before stays as it was
 pub record Grows (old new : Reached) : Type 0 where

@@ -24,6 +24,6 @@ pub mod Printed
 pub mod Problem
 pub mod RenamedNodes
 pub mod SourceWalks
-pub mod Sprouts
+pub mod Singles
 pub mod Steps
 pub mod Turns

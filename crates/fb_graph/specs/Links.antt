@@ -7,7 +7,7 @@ use Rattle.fb_graph.specs.Laws.{Link, IsTight}
 use Rattle.fb_graph.specs.Dual.{Node, all_cuts, cover_of, height_of, AreOuterApart}
 use Rattle.fb_graph.specs.declared.parts.Edge.{Edge}
 use Rattle.fb_graph.specs.declared.parts.Cut.{Cut}
-use Rattle.fb_graph.specs.Steps.{Roles, AllowShrinking, stepped}
+use Rattle.fb_graph.specs.Steps.{Roles, AllowShrinking, stepped_nodes}
 use Rattle.fb_graph.specs.Covers.{AreRoles}
 
 -- two vertices as the ends of an edge without weight
@@ -71,7 +71,7 @@ abbrev pub SourceStepped : Type 0
 SourceStepped = (p : Problem) (roles : Roles) (nodes : List Node) (k : ℕ) (walk : List ℕ) (d u : ℕ)
     → AreOuterApart nodes
     → AreRoles roles nodes → AllowShrinking roles nodes k → cover_of nodes d ≡ cover_of nodes u
-    → IsSourceWalk p (all_cuts nodes) walk d u → IsSourceWalk p (all_cuts (stepped roles k nodes)) walk d u
+    → IsSourceWalk p (all_cuts nodes) walk d u → IsSourceWalk p (all_cuts (stepped_nodes roles k nodes)) walk d u
 
 -- where each edge of the problem weighs an even number
 abbrev pub AreEven : Problem → Type 0

@@ -7,7 +7,7 @@ use Rattle.fb_graph.specs.Laws.{IsPart, AreSeparated}
 use Rattle.fb_graph.specs.Dual.{Node, all_cuts, is_live}
 use Rattle.fb_graph.specs.Nests.{IsNest}
 use Rattle.fb_graph.specs.SourceWalks.{HaveWalks}
-use Rattle.fb_graph.specs.Sprouts.{Sprout, nodes_of, vertices_of}
+use Rattle.fb_graph.specs.Singles.{Single, nodes_of, vertices_of}
 
 -- two separated parts of a whole
 pub record AreParts (left right whole : Problem) : Type 0 where
@@ -43,12 +43,12 @@ NestsMerged = (left right whole : Problem) (nodes others : List Node) → IsWith
     → IsNest whole (nodes ++ others)
 
 -- And a nest of a part, with nodes without values for further defects of the whole.
-abbrev pub NestSprouted : Type 0
-NestSprouted = (p whole : Problem) (nodes : List Node) (sprouts : List Sprout) → IsWithinLimits whole → IsPart p whole
-    → AreDistinct (map (λ s. s.name) sprouts) → AreDistinct (vertices_of sprouts)
-    → All (λ s. whole.is_real s.vertex ≡ true) sprouts → All (λ s. p.is_real s.vertex ≡ false) sprouts
-    → All (λ s. s.value ≡ 0) sprouts → HaveOwnNames nodes (nodes_of sprouts) → IsNest p nodes
-    → IsNest whole (nodes ++ nodes_of sprouts)
+abbrev pub NestSinglesAdded : Type 0
+NestSinglesAdded = (p whole : Problem) (nodes : List Node) (singles : List Single) → IsWithinLimits whole → IsPart p whole
+    → AreDistinct (map (λ s. s.name) singles) → AreDistinct (vertices_of singles)
+    → All (λ s. whole.is_real s.vertex ≡ true) singles → All (λ s. p.is_real s.vertex ≡ false) singles
+    → All (λ s. s.value ≡ 0) singles → HaveOwnNames nodes (nodes_of singles) → IsNest p nodes
+    → IsNest whole (nodes ++ nodes_of singles)
 
 -- Where each side has its source walks, both together have them.
 abbrev pub WalksBeside : Type 0
@@ -61,9 +61,9 @@ WalksMerged = (left right whole : Problem) (nodes others : List Node) → ArePar
     → HaveOwnNames nodes others → IsNest left nodes → IsNest right others → HaveWalks left nodes
     → HaveWalks right others → HaveWalks whole (nodes ++ others)
 
-abbrev pub WalksSprouted : Type 0
-WalksSprouted = (p whole : Problem) (nodes : List Node) (sprouts : List Sprout) → IsPart p whole
-    → AreDistinct (map (λ s. s.name) sprouts) → AreDistinct (vertices_of sprouts)
-    → All (λ s. whole.is_real s.vertex ≡ true) sprouts → All (λ s. p.is_real s.vertex ≡ false) sprouts
-    → All (λ s. s.value ≡ 0) sprouts → HaveOwnNames nodes (nodes_of sprouts) → IsNest p nodes → HaveWalks p nodes
-    → HaveWalks whole (nodes ++ nodes_of sprouts)
+abbrev pub WalksSinglesAdded : Type 0
+WalksSinglesAdded = (p whole : Problem) (nodes : List Node) (singles : List Single) → IsPart p whole
+    → AreDistinct (map (λ s. s.name) singles) → AreDistinct (vertices_of singles)
+    → All (λ s. whole.is_real s.vertex ≡ true) singles → All (λ s. p.is_real s.vertex ≡ false) singles
+    → All (λ s. s.value ≡ 0) singles → HaveOwnNames nodes (nodes_of singles) → IsNest p nodes → HaveWalks p nodes
+    → HaveWalks whole (nodes ++ nodes_of singles)

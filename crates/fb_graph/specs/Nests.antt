@@ -17,7 +17,7 @@ abbrev pub child_sets : List Node → Node → List (List ℕ)
 child_sets nodes n = map (top_at nodes) n.children
 
 -- a node that joins no others begins with one vertex, its defect
-pub record IsLone (n : Node) : Type 0 where
+pub record IsChildless (n : Node) : Type 0 where
   pub none : n.children ≡ []
   pub defect : length (first_set n) ≡ 1
 
@@ -28,7 +28,7 @@ pub record AreMany (children : List ℕ) : Type 0 where
   pub distinct : AreDistinct children
 
 abbrev pub IsFormed : Node → Type 0
-IsFormed n = IsLone n ⊎ AreMany n.children
+IsFormed n = IsChildless n ⊎ AreMany n.children
 
 -- no node joins itself or a later one, and no two join the same
 abbrev pub AreJoinedLater : List Node → Type 0

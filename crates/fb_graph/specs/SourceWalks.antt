@@ -5,12 +5,12 @@ use Rattle.fb_graph.specs.Parity.{is_in}
 use Rattle.fb_graph.specs.Problem.{Problem, edge_at}
 use Rattle.fb_graph.specs.Dual.{Node, all_cuts, leaves, cover_of}
 use Rattle.fb_graph.specs.declared.parts.Edge.{Edge}
-use Rattle.fb_graph.specs.Steps.{Roles, AllowShrinking, stepped}
+use Rattle.fb_graph.specs.Steps.{Roles, AllowShrinking, stepped_nodes}
 use Rattle.fb_graph.specs.Covers.{AreRoles}
 use Rattle.fb_graph.specs.Links.{IsSourceWalk}
-use Rattle.fb_graph.specs.Sprouts.{Sprout, nodes_of}
+use Rattle.fb_graph.specs.Singles.{Single, nodes_of}
 use Rattle.fb_graph.specs.Nests.{IsNest}
-use Rattle.fb_graph.specs.Moves.{MayJoin, MaySplit, MayTakeUp, MayUncover, joined, split, taken_up, uncovered}
+use Rattle.fb_graph.specs.Moves.{MayJoin, MaySplit, MayAbsorb, MayUncover, joined_nodes, split_nodes, absorbed_nodes, uncovered_nodes}
 
 -- both ends of the edge lie in the set
 abbrev pub IsEdgeIn : List ℕ → Edge → Type 0
@@ -33,27 +33,27 @@ HaveWalks p nodes = All (λ c. HasWalks p nodes c.vertices) (all_cuts nodes)
 
 -- They are there at the beginning, and each move keeps them.
 abbrev pub WalksBegin : Type 0
-WalksBegin = (p : Problem) (sprouts : List Sprout) → HaveWalks p (nodes_of sprouts)
+WalksBegin = (p : Problem) (singles : List Single) → HaveWalks p (nodes_of singles)
 
 abbrev pub WalksJoined : Type 0
 WalksJoined = (p : Problem) (nodes : List Node) (name : ℕ) (children : List ℕ) → MayJoin nodes name children
-    → IsNest p nodes → HaveWalks p nodes → HaveWalks p (joined name children nodes)
+    → IsNest p nodes → HaveWalks p nodes → HaveWalks p (joined_nodes name children nodes)
 
 abbrev pub WalksSplit : Type 0
 WalksSplit = (p : Problem) (nodes : List Node) (name : ℕ) → MaySplit nodes name → IsNest p nodes → HaveWalks p nodes
-    → HaveWalks p (split name nodes)
+    → HaveWalks p (split_nodes name nodes)
 
-abbrev pub WalksTakenUp : Type 0
-WalksTakenUp = (p : Problem) (nodes : List Node) (name k u v : ℕ) → MayTakeUp p nodes name k u v → IsNest p nodes
-    → HaveWalks p nodes → HaveWalks p (taken_up name v nodes)
+abbrev pub WalksAbsorbed : Type 0
+WalksAbsorbed = (p : Problem) (nodes : List Node) (name k u v : ℕ) → MayAbsorb p nodes name k u v → IsNest p nodes
+    → HaveWalks p nodes → HaveWalks p (absorbed_nodes name v nodes)
 
 abbrev pub WalksUncovered : Type 0
 WalksUncovered = (p : Problem) (nodes : List Node) (name : ℕ) → MayUncover nodes name → IsNest p nodes
-    → HaveWalks p nodes → HaveWalks p (uncovered name nodes)
+    → HaveWalks p nodes → HaveWalks p (uncovered_nodes name nodes)
 
 abbrev pub WalksStepped : Type 0
 WalksStepped = (p : Problem) (roles : Roles) (nodes : List Node) (k : ℕ) → AreRoles roles nodes
-    → AllowShrinking roles nodes k → IsNest p nodes → HaveWalks p nodes → HaveWalks p (stepped roles k nodes)
+    → AllowShrinking roles nodes k → IsNest p nodes → HaveWalks p nodes → HaveWalks p (stepped_nodes roles k nodes)
 
 -- one outer node holds both ends of the edge
 abbrev pub IsEdgeUnder : List Node → ℕ → Edge → Type 0

@@ -33,8 +33,8 @@ abbrev pub stepped_node : Roles → ℕ → Node → Node
 stepped_node roles k n = record n { top = record n.top { value = stepped_value roles k n } }
 
 -- the nodes after a step of length k
-abbrev pub stepped : Roles → ℕ → List Node → List Node
-stepped roles k nodes = map (stepped_node roles k) nodes
+abbrev pub stepped_nodes : Roles → ℕ → List Node → List Node
+stepped_nodes roles k nodes = map (stepped_node roles k) nodes
 
 -- each minus node's top layer is at least as thick
 abbrev pub AllowShrinking : Roles → List Node → ℕ → Type 0
@@ -49,32 +49,32 @@ pub record MayStep (p : Problem) (roles : Roles) (nodes : List Node) (k : ℕ) :
 -- What a step does to the load of an edge, or of any pair of vertices.
 abbrev pub LoadStepped : Type 0
 LoadStepped = (roles : Roles) (nodes : List Node) (k : ℕ) (e : Edge) → AreExclusive roles → AllowShrinking roles nodes k
-    → load_of (all_cuts (stepped roles k nodes)) e + k * losses roles nodes e
+    → load_of (all_cuts (stepped_nodes roles k nodes)) e + k * losses roles nodes e
     ≡ load_of (all_cuts nodes) e + k * gains roles nodes e
 
 -- A tight link whose ends cross as many plus as minus sets stays tight.
 abbrev pub TightStepped : Type 0
 TightStepped = (p : Problem) (roles : Roles) (nodes : List Node) (k : ℕ) (l : Link) → AreExclusive roles
     → AllowShrinking roles nodes k → gains roles nodes (ends_of l) ≡ losses roles nodes (ends_of l)
-    → IsTight p (all_cuts nodes) l → IsTight p (all_cuts (stepped roles k nodes)) l
+    → IsTight p (all_cuts nodes) l → IsTight p (all_cuts (stepped_nodes roles k nodes)) l
 
 -- A step that every edge and every minus node allows keeps the cuts feasible.
 abbrev pub PackingStepped : Type 0
 PackingStepped = (p : Problem) (roles : Roles) (nodes : List Node) (k : ℕ) → AreExclusive roles
-    → IsPacking p (all_cuts nodes) → MayStep p roles nodes k → IsPacking p (all_cuts (stepped roles k nodes))
+    → IsPacking p (all_cuts nodes) → MayStep p roles nodes k → IsPacking p (all_cuts (stepped_nodes roles k nodes))
 
 -- Two steps are allowed one after the other where one by both lengths is.
 abbrev pub StepsAdd : Type 0
 StepsAdd = (p : Problem) (roles : Roles) (nodes : List Node) (k j : ℕ) → AreExclusive roles
-    → MayStep p roles nodes k → MayStep p roles (stepped roles k nodes) j → MayStep p roles nodes (k + j)
+    → MayStep p roles nodes k → MayStep p roles (stepped_nodes roles k nodes) j → MayStep p roles nodes (k + j)
 
 -- The other way round, a step that is allowed may be made in two.
 abbrev pub StepsSplit : Type 0
 StepsSplit = (p : Problem) (roles : Roles) (nodes : List Node) (k j : ℕ) → AreExclusive roles
     → IsPacking p (all_cuts nodes) → MayStep p roles nodes (k + j)
-    → MayStep p roles nodes k × MayStep p roles (stepped roles k nodes) j
+    → MayStep p roles nodes k × MayStep p roles (stepped_nodes roles k nodes) j
 
 -- They lead to the same nodes.
 abbrev pub SteppedTwice : Type 0
 SteppedTwice = (roles : Roles) (nodes : List Node) (k j : ℕ) → AreExclusive roles
-    → stepped roles j (stepped roles k nodes) ≡ stepped roles (k + j) nodes
+    → stepped_nodes roles j (stepped_nodes roles k nodes) ≡ stepped_nodes roles (k + j) nodes

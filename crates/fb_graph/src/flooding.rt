@@ -1,5 +1,5 @@
 ghost use Rattle.std.specs.Prelude.{◌≡◌, ◌<◌, ◌≤◌, [], length, slice_index, IfOk, OnOk, OnErr};
-ghost use Rattle.fb_graph.specs.Flooding.{reached};
+ghost use Rattle.fb_graph.specs.Flooding.{with_vertex};
 
 use crate::faults::NoMemory;
 use std::alloc::Global;
@@ -41,7 +41,7 @@ impl Flood {
     /// Reaches a vertex with this label, unless it was reached before.
     pub fn reach(&mut self, v: u32, label: u32) -> Result<(), NoMemory>
         requires { v < length self.old.labels }
-        ensures ok { OnOk result (self.new ≡ reached self.old v label) }
+        ensures ok { OnOk result (self.new ≡ with_vertex self.old v label) }
         ensures err { OnErr result (self.new ≡ self.old) }
     {
         if self.flags[v as usize] {

@@ -7,39 +7,39 @@ use Rattle.fb_graph.specs.Parity.{is_in}
 use Rattle.fb_graph.proofs.Members.{AreDistinct_push, is_in-append, or_false}
 use Rattle.fb_graph.specs.Certificate.{AreDistinct}
 use Rattle.fb_graph.specs.Dual.{Node, cover_of, is_live, defects_of, is_empty, is_outer, leaf}
-use Rattle.fb_graph.specs.Sprouts.{Sprout, nodes_of, vertices_of}
+use Rattle.fb_graph.specs.Singles.{Single, nodes_of, vertices_of}
 use Rattle.fb_blossoms.specs.Nodes as blossoms
 use Rattle.fb_half.specs.Beginnings.{leaves_by}
 use Rattle.fb_half.specs.InternalBeginnings.{IsStarted, leaf_at}
 use Rattle.fb_half.specs.Matchings.{MatchingValue, listed_names, matched_names}
 use Rattle.fb_half.proofs.Lookups.{in_at}
 
-abbrev pub sprouts_by : List ℕ → List ℕ → List Sprout
-sprouts_by [] defects = []
-sprouts_by (name ∷ names) [] = []
-sprouts_by (name ∷ names) (v ∷ defects) = record { name = name; vertex = v; value = 0 } ∷ sprouts_by names defects
+abbrev pub singles_by : List ℕ → List ℕ → List Single
+singles_by [] defects = []
+singles_by (name ∷ names) [] = []
+singles_by (name ∷ names) (v ∷ defects) = record { name = name; vertex = v; value = 0 } ∷ singles_by names defects
 
-pub sprout_nodes : (names defects : List ℕ) → nodes_of (sprouts_by names defects) ≡ leaves_by names defects
-sprout_nodes [] defects = refl
-sprout_nodes (name ∷ names) [] = refl
-sprout_nodes (name ∷ names) (v ∷ defects) = ap (λ l. leaf name v ∷ l) (sprout_nodes names defects)
+pub single_nodes : (names defects : List ℕ) → nodes_of (singles_by names defects) ≡ leaves_by names defects
+single_nodes [] defects = refl
+single_nodes (name ∷ names) [] = refl
+single_nodes (name ∷ names) (v ∷ defects) = ap (λ l. leaf name v ∷ l) (single_nodes names defects)
 
-pub sprout_names : (names defects : List ℕ) → length names ≡ length defects → map (λ s. s.name) (sprouts_by names defects) ≡ names
-sprout_names [] defects same = refl
-sprout_names (name ∷ names) [] same = absurd (omega arith)
-sprout_names (name ∷ names) (v ∷ defects) same = ap (λ l. name ∷ l) (sprout_names names defects (omega arith))
+pub single_names : (names defects : List ℕ) → length names ≡ length defects → map (λ s. s.name) (singles_by names defects) ≡ names
+single_names [] defects same = refl
+single_names (name ∷ names) [] same = absurd (omega arith)
+single_names (name ∷ names) (v ∷ defects) same = ap (λ l. name ∷ l) (single_names names defects (omega arith))
 
-pub sprout_vertices : (names defects : List ℕ) → length names ≡ length defects → vertices_of (sprouts_by names defects) ≡ defects
-sprout_vertices [] [] same = refl
-sprout_vertices [] (v ∷ defects) same = absurd (omega arith)
-sprout_vertices (name ∷ names) [] same = absurd (omega arith)
-sprout_vertices (name ∷ names) (v ∷ defects) same = ap (λ l. v ∷ l) (sprout_vertices names defects (omega arith))
+pub single_vertices : (names defects : List ℕ) → length names ≡ length defects → vertices_of (singles_by names defects) ≡ defects
+single_vertices [] [] same = refl
+single_vertices [] (v ∷ defects) same = absurd (omega arith)
+single_vertices (name ∷ names) [] same = absurd (omega arith)
+single_vertices (name ∷ names) (v ∷ defects) same = ap (λ l. v ∷ l) (single_vertices names defects (omega arith))
 
-pub sprout_values : (names defects : List ℕ) → All (λ s. s.value ≡ 0) (sprouts_by names defects)
-sprout_values [] defects = All-nil (λ s. s.value ≡ 0)
-sprout_values (name ∷ names) [] = All-nil (λ s. s.value ≡ 0)
-sprout_values (name ∷ names) (v ∷ defects) =
-    All-cons (λ s. s.value ≡ 0) (record { name = name; vertex = v; value = 0 }) (sprouts_by names defects) refl (sprout_values names defects)
+pub single_values : (names defects : List ℕ) → All (λ s. s.value ≡ 0) (singles_by names defects)
+single_values [] defects = All-nil (λ s. s.value ≡ 0)
+single_values (name ∷ names) [] = All-nil (λ s. s.value ≡ 0)
+single_values (name ∷ names) (v ∷ defects) =
+    All-cons (λ s. s.value ≡ 0) (record { name = name; vertex = v; value = 0 }) (singles_by names defects) refl (single_values names defects)
 
 pub leaves_pushed : (names defects : List ℕ) (name v : ℕ) → length names ≡ length defects
     → leaves_by (names ++ name ∷ []) (defects ++ v ∷ []) ≡ leaves_by names defects ++ leaf name v ∷ []

@@ -8,30 +8,30 @@ use Rattle.fb_graph.specs.Parity.{is_in}
 use Rattle.fb_graph.specs.Certificate.{AreDistinct}
 use Rattle.fb_graph.specs.Limits.{DecodingGraph, IsShot}
 use Rattle.fb_graph.specs.Dual.{Node, defects_of, is_empty, is_live, is_outer, leaf}
-use Rattle.fb_graph.specs.Sprouts.{nodes_of, vertices_of}
+use Rattle.fb_graph.specs.Singles.{nodes_of, vertices_of}
 use Rattle.fb_graph.proofs.Sets.{distinct-filter, distinct_from_rising, is_in-filter, All-from_is_in}
 use Rattle.fb_plan.specs.Plans.{JobValue, PlanTree, node_count, problem_at}
 use Rattle.fb_plan.specs.Laws.{IsJob}
 use Rattle.fb_links.specs.declared.walk.Step.{Step}
 use Rattle.fb_blossoms.specs.Nodes as blossoms
 use Rattle.fb_laws.specs.PartStates.{IsPartState}
-use Rattle.fb_laws.specs.StateMoves.{PartBegins, begun}
+use Rattle.fb_laws.specs.StateMoves.{PartBegins, begun_state}
 use Rattle.fb_half.specs.Beginnings.{IsBegun, leaves_by, own_defects}
 use Rattle.fb_half.specs.InternalBeginnings.{IsStarted}
 use Rattle.fb_half.specs.Matchings.{IsMatchOf, listed_names, match_links, matched_names}
 use Rattle.fb_half.specs.Parts.{AreLinksOf, IsPart, PartValue, kept_links, problem_in, shot_of, state_of}
 use Rattle.fb_half.specs.Translations.{children_at, cycles_by, link_by, ring_at, ring_links}
-use Rattle.fb_half.proofs.Begun.{held_in, leaf_cycle, leaf_live, live_leaves, outer_leaves, sprout_names, sprout_nodes, sprout_values, sprout_vertices, sprouts_by}
+use Rattle.fb_half.proofs.Begun.{held_in, leaf_cycle, leaf_live, live_leaves, outer_leaves, single_names, single_nodes, single_values, single_vertices, singles_by}
 
 pub same_function : {X Y : Type 0} (f g : X → Y) → ((x : X) → f x ≡ g x) → f ≡ g
 same_function f g h = λ i x. h x i
 
-pub sprout_real : (P : ℕ → Type 0) (names defects : List ℕ) → All P defects → All (λ s. P s.vertex) (sprouts_by names defects)
-sprout_real P [] defects all = All-nil (λ s. P s.vertex)
-sprout_real P (name ∷ names) [] all = All-nil (λ s. P s.vertex)
-sprout_real P (name ∷ names) (v ∷ defects) all =
-    All-cons (λ s. P s.vertex) (record { name = name; vertex = v; value = 0 }) (sprouts_by names defects) (All-head P v defects all)
-    (sprout_real P names defects (All-tail P v defects all))
+pub single_real : (P : ℕ → Type 0) (names defects : List ℕ) → All P defects → All (λ s. P s.vertex) (singles_by names defects)
+single_real P [] defects all = All-nil (λ s. P s.vertex)
+single_real P (name ∷ names) [] all = All-nil (λ s. P s.vertex)
+single_real P (name ∷ names) (v ∷ defects) all =
+    All-cons (λ s. P s.vertex) (record { name = name; vertex = v; value = 0 }) (singles_by names defects) (All-head P v defects all)
+    (single_real P names defects (All-tail P v defects all))
 
 each_leaf : (P : Node → Type 0) → ((name v : ℕ) → P (leaf name v)) → (names defects : List ℕ) → All P (leaves_by names defects)
 each_leaf P h [] defects = All-nil P
@@ -113,23 +113,23 @@ begun_part w begins job slot node s none = record {
     shot = job.shots w.slot [] slot
 
     defects_are : (v : ℕ) → (problem_in w).is_real v ≡ true
-        → (problem_in w).is_defect v ≡ is_in (vertices_of (sprouts_by w.matching.unmatched (own_defects w))) v
+        → (problem_in w).is_defect v ≡ is_in (vertices_of (singles_by w.matching.unmatched (own_defects w))) v
     defects_are v real =
-        sym (ap (λ l. is_in l v) (sprout_vertices w.matching.unmatched (own_defects w) s.count)
+        sym (ap (λ l. is_in l v) (single_vertices w.matching.unmatched (own_defects w) s.count)
         ∙ (is_in-filter (problem_in w).is_real (shot_of w) v ∙ (ap (λ b. is_in (shot_of w) v && b) real ∙ and_true (is_in (shot_of w) v))))
       where
         and_true : (b : Bool) → (b && true) ≡ b
         and_true true = refl
         and_true false = refl
 
-    begun_state : IsPartState (problem_in w) (begun (sprouts_by w.matching.unmatched (own_defects w)))
-    begun_state =
-        begins (problem_in w) (sprouts_by w.matching.unmatched (own_defects w))
-        (subst AreDistinct (sym (sprout_names w.matching.unmatched (own_defects w) s.count)) s.names)
-        (subst AreDistinct (sym (sprout_vertices w.matching.unmatched (own_defects w) s.count))
+    state_begun : IsPartState (problem_in w) (begun_state (singles_by w.matching.unmatched (own_defects w)))
+    state_begun =
+        begins (problem_in w) (singles_by w.matching.unmatched (own_defects w))
+        (subst AreDistinct (sym (single_names w.matching.unmatched (own_defects w) s.count)) s.names)
+        (subst AreDistinct (sym (single_vertices w.matching.unmatched (own_defects w) s.count))
         (distinct-filter (problem_in w).is_real (shot_of w) (distinct_from_rising (shot_of w) shot.rising)))
-        (sprout_real (λ v. (problem_in w).is_real v ≡ true) w.matching.unmatched (own_defects w) (kept_real (problem_in w).is_real (shot_of w)))
-        (sprout_values w.matching.unmatched (own_defects w)) defects_are
+        (single_real (λ v. (problem_in w).is_real v ≡ true) w.matching.unmatched (own_defects w) (kept_real (problem_in w).is_real (shot_of w)))
+        (single_values w.matching.unmatched (own_defects w)) defects_are
 
     state : IsPartState (problem_in w) (state_of w)
     state =
@@ -142,13 +142,13 @@ begun_part w begins job slot node s none = record {
         (subst (λ f. IsPartState (problem_in w) (record { nodes = w.nodes; cycles = f; matches = []; unmatched = w.matching.unmatched }))
         (sym (same_function (cycles_by w.links w.store) (λ name. []) (λ name. ap (λ l. map (link_by w.links) (map (λ step. step.link) l)) (no_cycle name))))
         (subst (λ l. IsPartState (problem_in w) (record { nodes = l; cycles = λ name. []; matches = []; unmatched = w.matching.unmatched }))
-        (sprout_nodes w.matching.unmatched (own_defects w) ∙ sym s.nodes_are)
+        (single_nodes w.matching.unmatched (own_defects w) ∙ sym s.nodes_are)
         (subst (λ l. IsPartState (problem_in w) (record {
-          nodes = nodes_of (sprouts_by w.matching.unmatched (own_defects w));
+          nodes = nodes_of (singles_by w.matching.unmatched (own_defects w));
           cycles = λ name. [];
           matches = [];
           unmatched = l;
-        })) (sprout_names w.matching.unmatched (own_defects w) s.count) begun_state)))
+        })) (single_names w.matching.unmatched (own_defects w) s.count) state_begun)))
 
 first_true : (a b : Bool) → (a && b) ≡ true → a ≡ true
 first_true true b h = refl

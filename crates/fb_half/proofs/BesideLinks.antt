@@ -33,7 +33,7 @@ use Rattle.fb_half.specs.Translations.{link_by, link_of, ring_at, ring_links}
 use Rattle.fb_half.proofs.BesideNodes.{same_bool}
 use Rattle.fb_half.proofs.FlatPermutations.{pieces_swapped}
 use Rattle.fb_half.proofs.FreedMatches.{Table}
-use Rattle.fb_half.proofs.SproutedLeaves.{Store}
+use Rattle.fb_half.proofs.AddedSingles.{Store}
 
 -- a walk of a part is one of a whole in which no fewer vertices are real
 pub steps_widened : (part whole : Problem) → part.edges ≡ whole.edges → ((v : ℕ) → part.is_real v ≡ true → whole.is_real v ≡ true)

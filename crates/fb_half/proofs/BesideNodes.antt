@@ -15,7 +15,7 @@ use Rattle.fb_blossoms.specs.Merged as merged
 use Rattle.fb_regions.specs.Merged.{AreNewNames}
 use Rattle.fb_half.specs.Parts.{AreAgreed}
 use Rattle.fb_half.specs.Translations.{children_at, ring_at}
-use Rattle.fb_half.proofs.SproutedLeaves.{Store}
+use Rattle.fb_half.proofs.AddedSingles.{Store}
 
 pub same_bool : (a b : Bool) → (a ≡ true → b ≡ true) → (b ≡ true → a ≡ true) → a ≡ b
 same_bool true b there back = sym (there refl)

@@ -11,7 +11,7 @@ use Rattle.fb_graph.specs.Certificate.{AreDistinct}
 use Rattle.fb_graph.specs.Dual.{is_live}
 use Rattle.fb_graph.specs.Laws.{IsPart as IsPartOfProblem, Link}
 use Rattle.fb_graph.specs.Limits.{IsShot, IsWithinLimits}
-use Rattle.fb_graph.specs.Sprouts.{Sprout, nodes_of, vertices_of}
+use Rattle.fb_graph.specs.Singles.{Single, nodes_of, vertices_of}
 use Rattle.fb_graph.proofs.Members.{is_in-append}
 use Rattle.fb_graph.proofs.Sets.{distinct-filter, distinct_from_rising, is_in-filter}
 use Rattle.fb_laws.specs.FusedStates.{AreFurther}
@@ -26,20 +26,20 @@ use Rattle.fb_links.specs.Merged.{AreMerged}
 use Rattle.fb_links.specs.Table.{is_live as is_link}
 use Rattle.fb_blossoms.specs.Merged as merged
 use Rattle.fb_half.specs.Beginnings.{leaves_by}
-use Rattle.fb_half.specs.InternalSeams.{IsBeside, IsOpened, IsSprouted, freed_matching}
+use Rattle.fb_half.specs.InternalSeams.{IsBeside, IsOpened, AddsSingles, freed_matching}
 use Rattle.fb_half.specs.Matchings.{match_links}
 use Rattle.fb_half.specs.Merged.{is_owned_by, seam_defects}
 use Rattle.fb_half.specs.Parts.{IsPart, PartValue, shot_of, state_of}
 use Rattle.fb_half.specs.Translations.{cycles_by, link_by, ring_at, ring_links}
-use Rattle.fb_half.proofs.Begun.{live_leaves, sprout_names, sprout_nodes, sprout_values, sprout_vertices, sprouts_by}
-use Rattle.fb_half.proofs.BegunParts.{kept_real, same_function, sprout_real}
+use Rattle.fb_half.proofs.Begun.{live_leaves, single_names, single_nodes, single_values, single_vertices, singles_by}
+use Rattle.fb_half.proofs.BegunParts.{kept_real, same_function, single_real}
 use Rattle.fb_half.proofs.BesideLinks.{link_left, link_right, links_moved, links_same}
 use Rattle.fb_half.proofs.BesideNodes.{ring_left, ring_right}
 use Rattle.fb_half.proofs.FreedMatches.{Table, firsts}
 use Rattle.fb_half.proofs.MergedHalves.{before, beside, links_are, middle, middle_part, name, link, names_apart, names_own, node_below, others, p, parts, q, real_covered, same_part, seam_real, seam_unreal, whole, whole_limits}
 use Rattle.fb_half.proofs.SeamedLinks.{agreed_seamed, cycles_stay, in_rings, links_seamed, not_own}
 use Rattle.fb_half.proofs.SeamedMatchings.{freed_are, freed_list, freed_names_are, links_split, matching_seamed, rest, rest_elsewhere, taken}
-use Rattle.fb_half.proofs.SproutedLeaves.{Store}
+use Rattle.fb_half.proofs.AddedSingles.{Store}
 
 same_state : (s t : PartState) → s.nodes ≡ t.nodes → s.cycles ≡ t.cycles → s.matches ≡ t.matches → s.unmatched ≡ t.unmatched → s ≡ t
 same_state s t nodes cycles matches unmatched =
@@ -99,11 +99,11 @@ module _ (left right : PartValue) (n : ℕ) (limits : IsWithinLimits (problem_at
     abbrev pub defects : List ℕ
     defects = seam_defects left.job left.slot n
 
-    sprouted : IsSprouted own defects w.nodes after.nodes w.store after.store (freed_matching w after) after.matching
-    sprouted = opened.sprouted
+    singles_added : AddsSingles own defects w.nodes after.nodes w.store after.store (freed_matching w after) after.matching
+    singles_added = opened.singles_added
 
-    abbrev pub sprouts : List Sprout
-    sprouts = sprouts_by own defects
+    abbrev pub singles : List Single
+    singles = singles_by own defects
 
     abbrev pub first_state : PartState
     first_state = state_of left
@@ -132,35 +132,35 @@ module _ (left right : PartValue) (n : ℕ) (limits : IsWithinLimits (problem_at
     shot : IsShot left.job.graph (shot_of left)
     shot = one.job.shots left.slot [] one.slot
 
-    vertices_are : vertices_of sprouts ≡ defects
-    vertices_are = sprout_vertices own defects sprouted.count
+    vertices_are : vertices_of singles ≡ defects
+    vertices_are = single_vertices own defects singles_added.count
 
-    names_are : map (λ s. s.name) sprouts ≡ own
-    names_are = sprout_names own defects sprouted.count
+    names_are : map (λ s. s.name) singles ≡ own
+    names_are = single_names own defects singles_added.count
 
     seam_is : IsSeam (middle left right n limits children one two matched also) fused w.nodes (freed_list own w after beside_is opened)
-        (rest own w after beside_is opened) sprouts owned
+        (rest own w after beside_is opened) singles owned
     seam_is = record {
       part = middle_part left right n limits children one two matched also;
       covered = real_covered left right n limits children one two matched also;
       unreal = seam_unreal left right n limits children one two matched also;
       freed_are = freed_are own w after beside_is opened;
       elsewhere = rest_elsewhere own w after beside_is opened;
-      at_seam = sprout_real (λ v. owned v ≡ true) own defects (kept_real owned (shot_of left));
-      bare = sprout_values own defects;
+      at_seam = single_real (λ v. owned v ≡ true) own defects (kept_real owned (shot_of left));
+      bare = single_values own defects;
       defects = λ v seam.
           sym (ap (λ l. is_in l v) vertices_are
           ∙ (is_in-filter owned (shot_of left) v ∙ (ap (λ c. is_in (shot_of left) v && c) seam ∙ and_true (is_in (shot_of left) v))));
     }
 
-    further : AreFurther fused w.nodes sprouts
+    further : AreFurther fused w.nodes singles
     further = record {
-      names = subst AreDistinct (sym names_are) sprouted.distinct;
+      names = subst AreDistinct (sym names_are) singles_added.distinct;
       own = λ x live.
-          ap (λ l. is_live l x) (sprout_nodes own defects)
-          ∙ (live_leaves own defects x sprouted.count ∙ not_own own w after beside_is opened x live);
+          ap (λ l. is_live l x) (single_nodes own defects)
+          ∙ (live_leaves own defects x singles_added.count ∙ not_own own w after beside_is opened x live);
       vertices = subst AreDistinct (sym vertices_are) (distinct-filter owned (shot_of left) (distinct_from_rising (shot_of left) shot.rising));
-      real = sprout_real (λ v. fused.is_real v ≡ true) own defects
+      real = single_real (λ v. fused.is_real v ≡ true) own defects
           (λ i d less. seam_real left right n limits children one two matched also (get_or defects i d) (kept_real owned (shot_of left) i d less));
     }
 
@@ -182,12 +182,12 @@ module _ (left right : PartValue) (n : ℕ) (limits : IsWithinLimits (problem_at
             ∙ or_left (is_in (match_links v.matching.matches) id) (is_in (ring_links v.nodes v.store) id) h)
 
     abbrev pub fused_state : PartState
-    fused_state = seamed_state (rest own w after beside_is opened) (freed_list own w after beside_is opened) sprouts (merged_state first_state second_state)
+    fused_state = seamed_state (rest own w after beside_is opened) (freed_list own w after beside_is opened) singles (merged_state first_state second_state)
 
     fused_is : IsPartState fused fused_state
     fused_is =
         state_fused (p left right n limits children one two matched also) (q left right n limits children one two matched also) fused first_state second_state
-        (rest own w after beside_is opened) (freed_list own w after beside_is opened) sprouts owned
+        (rest own w after beside_is opened) (freed_list own w after beside_is opened) singles owned
         (whole_limits left right n limits children one two matched also) (parts left right n limits children one two matched also)
         (names_own left right n limits children one two matched also links names table store tables stores) seam_is further
         (subst (λ l. IsPermutation l (freed_links (freed_list own w after beside_is opened) ++ rest own w after beside_is opened)) matches_are
@@ -195,15 +195,15 @@ module _ (left right : PartValue) (n : ℕ) (limits : IsWithinLimits (problem_at
         one.state second_is
 
     unmatched_are : after.matching.unmatched ≡ firsts (taken own w after beside_is opened) ++ own
-    unmatched_are = ap (λ m. m.unmatched) sprouted.matching
+    unmatched_are = ap (λ m. m.unmatched) singles_added.matching
 
     state_is : fused_state ≡ state_of after
     state_is =
-        same_state fused_state (state_of after) (ap (λ l. w.nodes ++ l) (sprout_nodes own defects) ∙ sym sprouted.nodes_are)
+        same_state fused_state (state_of after) (ap (λ l. w.nodes ++ l) (single_nodes own defects) ∙ sym singles_added.nodes_are)
         (same_function (merged_cycles first_state second_state) (cycles_by after.links after.store) all_cycles) refl
-        (ap (λ l. (l ++ map new_name right.matching.unmatched) ++ (freed_names (freed_list own w after beside_is opened) ++ map (λ s. s.name) sprouts)) matched
-        ∙ (ap (λ l. map new_name l ++ (freed_names (freed_list own w after beside_is opened) ++ map (λ s. s.name) sprouts)) also
-        ∙ (ap (λ l. l ++ map (λ s. s.name) sprouts) (freed_names_are own w after beside_is opened)
+        (ap (λ l. (l ++ map new_name right.matching.unmatched) ++ (freed_names (freed_list own w after beside_is opened) ++ map (λ s. s.name) singles)) matched
+        ∙ (ap (λ l. map new_name l ++ (freed_names (freed_list own w after beside_is opened) ++ map (λ s. s.name) singles)) also
+        ∙ (ap (λ l. l ++ map (λ s. s.name) singles) (freed_names_are own w after beside_is opened)
         ∙ (ap (λ l. firsts (taken own w after beside_is opened) ++ l) names_are ∙ sym unmatched_are))))
 
     -- the part with its job, slot and node as they are given

@@ -28,7 +28,7 @@ use Rattle.fb_half.proofs.FlatPermutations.{flat_permuted}
 use Rattle.fb_half.proofs.FreedMatches.{Table, among_filter, firsts, link_in}
 use Rattle.fb_half.proofs.MergedHalves.{before, link, live_left, live_right, name, rings_are}
 use Rattle.fb_half.proofs.SeamedLinks.{link_stays, stays_off}
-use Rattle.fb_half.proofs.SproutedLeaves.{Store}
+use Rattle.fb_half.proofs.AddedSingles.{Store}
 
 one_or_none : {X : Type 0} → (X → Bool) → X → List X
 one_or_none test x = cond (test x) (x ∷ []) []
@@ -272,9 +272,9 @@ module _ (left right : PartValue) (n : ℕ) (limits : IsWithinLimits (problem_at
       name = new_name;
       link = new_link;
       own = own;
-      count = opened.sprouted.count;
-      nodes = opened.sprouted.nodes_are;
-      unmatched = ap (λ m. m.unmatched) opened.sprouted.matching ∙ ap (λ l. l ++ own) freed_split;
+      count = opened.singles_added.count;
+      nodes = opened.singles_added.nodes_are;
+      unmatched = ap (λ m. m.unmatched) opened.singles_added.matching ∙ ap (λ l. l ++ own) freed_split;
       matches = matches_are;
       left_links = left_links;
       right_links = right_links;

@@ -18,6 +18,6 @@ pub mod RenamedMatches
 pub mod SeamOpenings
 pub mod SeamedLinks
 pub mod SeamedMatchings
-pub mod SproutedLeaves
+pub mod AddedSingles
 pub mod Tables
 pub mod Taken

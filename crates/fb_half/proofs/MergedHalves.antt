@@ -41,7 +41,7 @@ use Rattle.fb_half.proofs.BesideMatchings.{all_matched, listed_beside, matching_
 use Rattle.fb_half.proofs.BesideNodes.{agreed_beside, apart, own_names, ring_left, ring_right}
 use Rattle.fb_half.proofs.FreedMatches.{Table, link_in}
 use Rattle.fb_half.proofs.SeamOpenings.{leaf_held}
-use Rattle.fb_half.proofs.SproutedLeaves.{Store}
+use Rattle.fb_half.proofs.AddedSingles.{Store}
 
 -- who owns a real vertex by one definition owns it by the other
 pub owned_is_own : (g : DecodingGraph) (t : PlanTree) (n v : ℕ) → IsPlan g t → is_owned_by t n v ≡ true → is_own g t n v ≡ true

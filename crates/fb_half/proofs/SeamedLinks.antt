@@ -23,7 +23,7 @@ use Rattle.fb_links.specs.Table.{is_live as is_link, link_at}
 use Rattle.fb_blossoms.specs.Nodes as blossoms
 use Rattle.fb_half.specs.declared.matches.Match.{Match}
 use Rattle.fb_half.specs.Beginnings.{leaves_by}
-use Rattle.fb_half.specs.InternalSeams.{IsBeside, IsFreed, IsOpened, IsSprouted, freed_matching}
+use Rattle.fb_half.specs.InternalSeams.{IsBeside, IsFreed, IsOpened, AddsSingles, freed_matching}
 use Rattle.fb_half.specs.Matchings.{MatchingValue, listed_names, match_links, matched_names, names_of}
 use Rattle.fb_half.specs.Merged.{leads_to_seam, seam_defects, seam_matches}
 use Rattle.fb_half.specs.Parts.{AreAgreed, AreLinksOf, AreStepsOf, PartValue, kept_links, problem_in}
@@ -33,7 +33,7 @@ use Rattle.fb_half.proofs.BesideLinks.{links_same, rings_same, steps_widened}
 use Rattle.fb_half.proofs.BesideNodes.{same_bool}
 use Rattle.fb_half.proofs.FlatPermutations.{flat_permuted}
 use Rattle.fb_half.proofs.FreedMatches.{Table, among_filter, among_permuted, filter_among, first_in, link_in, name_in, parted_left}
-use Rattle.fb_half.proofs.SproutedLeaves.{Store}
+use Rattle.fb_half.proofs.AddedSingles.{Store}
 
 -- a node without a cycle has no children
 leaf_children : (at : ℕ → Option blossoms.Node) (names defects : List ℕ) → ((x : ℕ) → is_in names x ≡ true → blossoms.cycle_of (at x) ≡ [])
@@ -82,8 +82,8 @@ module _ (own : List ℕ) (w after : PartValue) (b : IsBeside w) (opened : IsOpe
   freed : IsFreed taken w.matching (freed_matching w after) w.links after.links
   freed = opened.freed
 
-  sprouted : IsSprouted own defects w.nodes after.nodes w.store after.store (freed_matching w after) after.matching
-  sprouted = opened.sprouted
+  singles_added : AddsSingles own defects w.nodes after.nodes w.store after.store (freed_matching w after) after.matching
+  singles_added = opened.singles_added
 
   pub all_names : AreDistinct (matched_names w.matching.matches)
   all_names = distinct_right w.matching.unmatched (matched_names w.matching.matches) (distinct_left (listed_names w.matching) [] b.matching.distinct)
@@ -136,16 +136,16 @@ module _ (own : List ℕ) (w after : PartValue) (b : IsBeside w) (opened : IsOpe
   -- an old node is in the store as it was
   pub not_own : (x : ℕ) → is_live w.nodes x ≡ true → is_in own x ≡ false
   not_own x live =
-      false_from_ne_true (is_in own x) (λ h. both_ways (is_live w.nodes x) (b.agreed.live x ∙ ap is_some (sprouted.fresh x h)) live)
+      false_from_ne_true (is_in own x) (λ h. both_ways (is_live w.nodes x) (b.agreed.live x ∙ ap is_some (singles_added.fresh x h)) live)
 
   pub node_stays : (x : ℕ) → is_live w.nodes x ≡ true → blossoms.node_at after.store x ≡ blossoms.node_at w.store x
-  node_stays x live = sprouted.others x (not_own x live)
+  node_stays x live = singles_added.others x (not_own x live)
 
   no_cycle : (x : ℕ) → is_in own x ≡ true → blossoms.cycle_at after.store x ≡ []
-  no_cycle x h = ap blossoms.cycle_of (sprouted.added x h) ∙ leaf_cycle own defects x
+  no_cycle x h = ap blossoms.cycle_of (singles_added.added x h) ∙ leaf_cycle own defects x
 
   pub nodes_are : after.nodes ≡ w.nodes ++ leaves_by own defects
-  nodes_are = sprouted.nodes_are
+  nodes_are = singles_added.nodes_are
 
   pub rings_stay : ring_links after.nodes after.store ≡ ring_links w.nodes w.store
   rings_stay =
@@ -163,7 +163,7 @@ module _ (own : List ℕ) (w after : PartValue) (b : IsBeside w) (opened : IsOpe
   live_either x =
       ap (λ l. is_live l x) nodes_are
       ∙ (list_any-append (λ n. n.name == x) w.nodes (leaves_by own defects)
-      ∙ ap (λ c. is_live w.nodes x || c) (live_leaves own defects x sprouted.count))
+      ∙ ap (λ c. is_live w.nodes x || c) (live_leaves own defects x singles_added.count))
 
   pub agreed_seamed : AreAgreed after.nodes after.store
   agreed_seamed = record {
@@ -183,16 +183,16 @@ module _ (own : List ℕ) (w after : PartValue) (b : IsBeside w) (opened : IsOpe
         (λ n a none.
         All_among (λ m. is_empty m.children ≡ true → defects_of m ≡ blossoms.defects_at w.store m.name) w.nodes b.agreed.leaves n a none
         ∙ ap blossoms.defects_of (sym (node_stays n.name (among_live w.nodes n n.name a refl)))))
-        (held_in (blossoms.node_at after.store) own defects sprouted.distinct sprouted.added));
+        (held_in (blossoms.node_at after.store) own defects singles_added.distinct singles_added.added));
   }
     where
       live : (x : ℕ) → (is_in own x ≡ true) ⊎ (is_in own x ≡ false) → (is_live w.nodes x || is_in own x) ≡ blossoms.is_live after.store x
       live x (inl h) =
           or_right (is_live w.nodes x) (is_in own x) h
-          ∙ sym (ap is_some (sprouted.added x h) ∙ (leaf_live own defects x sprouted.count ∙ h))
+          ∙ sym (ap is_some (singles_added.added x h) ∙ (leaf_live own defects x singles_added.count ∙ h))
       live x (inr h) =
           ap (λ c. is_live w.nodes x || c) h
-          ∙ (or_false (is_live w.nodes x) ∙ (b.agreed.live x ∙ ap is_some (sym (sprouted.others x h))))
+          ∙ (or_false (is_live w.nodes x) ∙ (b.agreed.live x ∙ ap is_some (sym (singles_added.others x h))))
 
   -- The links are those that stay.
   pub links_seamed : IsPart b.problem (problem_in w) → AreLinksOf (problem_in w) after.links (kept_links after)
@@ -219,7 +219,7 @@ module _ (own : List ℕ) (w after : PartValue) (b : IsBeside w) (opened : IsOpe
     where
       same : (l : Bool) → is_live w.nodes x ≡ l → is_in own x ≡ false → cycles_by after.links after.store x ≡ cycles_by w.links w.store x
       same true live out =
-          ap (λ o. map (link_by after.links) (map (λ s. s.link) (blossoms.cycle_of o))) (sprouted.others x out)
+          ap (λ o. map (link_by after.links) (map (λ s. s.link) (blossoms.cycle_of o))) (singles_added.others x out)
           ∙ links_same w.links after.links (ring_at w.store x)
           (λ id h.
           ap (λ o. link_of (unwrap_or o []))
@@ -227,7 +227,7 @@ module _ (own : List ℕ) (w after : PartValue) (b : IsBeside w) (opened : IsOpe
           (is_in-append (match_links after.matching.matches) (ring_links w.nodes w.store) id
           ∙ or_right (is_in (match_links after.matching.matches) id) (is_in (ring_links w.nodes w.store) id) (in_rings w.nodes w.store x id live h))))
       same false dead out =
-          ap (λ o. map (link_by after.links) (map (λ s. s.link) (blossoms.cycle_of o))) (sprouted.others x out)
+          ap (λ o. map (link_by after.links) (map (λ s. s.link) (blossoms.cycle_of o))) (singles_added.others x out)
           ∙ (ap (λ c. map (link_by after.links) (map (λ s. s.link) c)) (gone (blossoms.node_at w.store x) (sym (b.agreed.live x) ∙ dead))
           ∙ sym (ap (λ c. map (link_by w.links) (map (λ s. s.link) c)) (gone (blossoms.node_at w.store x) (sym (b.agreed.live x) ∙ dead))))
         where
@@ -238,5 +238,5 @@ module _ (own : List ℕ) (w after : PartValue) (b : IsBeside w) (opened : IsOpe
       by : (is_in own x ≡ true) ⊎ (is_in own x ≡ false) → cycles_by after.links after.store x ≡ cycles_by w.links w.store x
       by (inl h) =
           ap (λ c. map (link_by after.links) (map (λ s. s.link) c)) (no_cycle x h)
-          ∙ sym (ap (λ o. map (link_by w.links) (map (λ s. s.link) (blossoms.cycle_of o))) (sprouted.fresh x h))
+          ∙ sym (ap (λ o. map (link_by w.links) (map (λ s. s.link) (blossoms.cycle_of o))) (singles_added.fresh x h))
       by (inr h) = same (is_live w.nodes x) refl h

@@ -30,7 +30,7 @@ use Rattle.fb_laws.proofs.SearchTrees.{cover_set, leads_from}
 use Rattle.fb_laws.proofs.TreePaths.{distinct_left}
 use Rattle.fb_half.specs.declared.matches.Match.{Match}
 use Rattle.fb_half.specs.Beginnings.{leaves_by}
-use Rattle.fb_half.specs.InternalSeams.{IsBeside, IsFreed, IsOpened, IsSprouted, freed_matching}
+use Rattle.fb_half.specs.InternalSeams.{IsBeside, IsFreed, IsOpened, AddsSingles, freed_matching}
 use Rattle.fb_half.specs.Matchings.{IsMatchOf, IsMatchingOf, MatchingValue, listed_names, match_links, matched_names, names_of, second_name}
 use Rattle.fb_half.specs.Merged.{ends_at_seam, is_alone, is_owned_by, leads_to_seam, seam_defects, seam_matches}
 use Rattle.fb_half.specs.Parts.{PartValue, problem_in}
@@ -93,8 +93,8 @@ module _ (own : List ℕ) (w after : PartValue) (b : IsBeside w) (opened : IsOpe
   freed : IsFreed taken w.matching (freed_matching w after) w.links after.links
   freed = opened.freed
 
-  sprouted : IsSprouted own defects w.nodes after.nodes w.store after.store (freed_matching w after) after.matching
-  sprouted = opened.sprouted
+  singles_added : AddsSingles own defects w.nodes after.nodes w.store after.store (freed_matching w after) after.matching
+  singles_added = opened.singles_added
 
   -- a node matched to the seam is matched to no other
   alone : (ms : List Match) → ((e : Match) → IsAmong e ms → leads e ≡ true) → matched_names ms ≡ firsts ms
@@ -138,7 +138,7 @@ module _ (own : List ℕ) (w after : PartValue) (b : IsBeside w) (opened : IsOpe
       ∙ (sym (is_in-append (listed_names w.matching) [] x) ∙ b.matching.all x live outer))
 
   own_dead : (x : ℕ) → is_in own x ≡ true → is_live w.nodes x ≡ false
-  own_dead x h = b.agreed.live x ∙ ap is_some (sprouted.fresh x h)
+  own_dead x h = b.agreed.live x ∙ ap is_some (singles_added.fresh x h)
 
   moved : IsPermutation ((middle.unmatched ++ own) ++ matched_names middle.matches) (listed_names middle ++ own)
   moved =
@@ -151,7 +151,7 @@ module _ (own : List ℕ) (w after : PartValue) (b : IsBeside w) (opened : IsOpe
   all_listed : (x : ℕ) → is_in (listed_names after.matching ++ []) x ≡ (is_in (listed_names middle) x || is_in own x)
   all_listed x =
       ap (λ l. is_in l x) (append-nil (listed_names after.matching))
-      ∙ (ap (λ m. is_in (listed_names m) x) sprouted.matching
+      ∙ (ap (λ m. is_in (listed_names m) x) singles_added.matching
       ∙ (sym (same_permuted _ _ moved x) ∙ is_in-append (listed_names middle) own x))
 
   outer_is : (x : ℕ) → is_outer after.nodes x ≡ is_outer w.nodes x
@@ -194,9 +194,9 @@ module _ (own : List ℕ) (w after : PartValue) (b : IsBeside w) (opened : IsOpe
     matching_seamed = record {
       distinct =
           subst AreDistinct (sym (append-nil (listed_names after.matching)))
-          (subst (λ m. AreDistinct (listed_names m)) (sym sprouted.matching)
+          (subst (λ m. AreDistinct (listed_names m)) (sym singles_added.matching)
           (distinct_permuted (listed_names middle ++ own) ((middle.unmatched ++ own) ++ matched_names middle.matches) (IsPermutation-sym _ _ moved)
-          (distinct_append (listed_names middle) own listed_distinct sprouted.distinct
+          (distinct_append (listed_names middle) own listed_distinct singles_added.distinct
           (λ x h. false_from_ne_true (is_in own x) (λ k. both_ways (is_live w.nodes x) (own_dead x k) (listed_live x h).0)))));
       live = λ x within. live x (or_cases (is_in (listed_names middle) x) (is_in own x) (sym (all_listed x) ∙ within));
       all = λ x lives outer. all_listed x ∙ all x (sym (outer_is x) ∙ outer) (or_cases (is_live w.nodes x) (is_in own x) (sym (live_either own w after b opened x) ∙ lives));
@@ -280,15 +280,15 @@ module _ (own : List ℕ) (w after : PartValue) (b : IsBeside w) (opened : IsOpe
       one : (l : Link) (first : ℕ) (second : Option ℕ) → is_alone second ≡ true → ends_at_seam w.job.plan w.node l ≡ true
           → IsMatchOf b.problem w.nodes l first second
           → IsSetOf w.nodes first (top_at w.nodes first) × LeadsOut l (top_at w.nodes first) (seam_end owned l) × (owned (seam_end owned l) ≡ true)
-      one l first (Some s) lone at is = absurd (false≢true lone)
-      one l first None lone at (v, inl (from, to), real) =
+      one l first (Some s) childless at is = absurd (false≢true childless)
+      one l first None childless at (v, inl (from, to), real) =
           let off : owned l.from ≡ false = off_seam l.from first from in
           let there : seam_end owned l ≡ l.to = ap (λ c. if c then l.from else l.to) off in (
             (cover_set w.nodes l.from first b.nest.dual.names from).0,
             leads_from w.nodes l first (seam_end owned l) b.nest.dual.names (inl (from, sym there)),
             ap owned there ∙ (sym (ap (λ c. c || owned l.to) off) ∙ at),
           )
-      one l first None lone at (v, inr (to, from), real) =
+      one l first None childless at (v, inr (to, from), real) =
           let off : owned l.to ≡ false = off_seam l.to first to in
           let on : owned l.from ≡ true = sym (or_false (owned l.from)) ∙ (sym (ap (λ c. owned l.from || c) off) ∙ at) in
           let there : seam_end owned l ≡ l.from = ap (λ c. if c then l.from else l.to) on in (

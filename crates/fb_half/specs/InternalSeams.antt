@@ -27,7 +27,7 @@ pub record IsFreed (taken : List Match) (before after : MatchingValue) (links ne
   pub others : (id : ℕ) → is_in (match_links taken) id ≡ false → link_at new id ≡ link_at links id
 
 -- These defects have become nodes under these names, unmatched; all else is as it was.
-pub record IsSprouted (names done : List ℕ) (nodes new_nodes : List Node) (store new_store : List (Option blossoms.Node))
+pub record AddsSingles (names done : List ℕ) (nodes new_nodes : List Node) (store new_store : List (Option blossoms.Node))
     (before after : MatchingValue) : Type 0 where
   pub nodes_are : new_nodes ≡ nodes ++ leaves_by names done
   pub matching : after ≡ record { matches = before.matches; unmatched = before.unmatched ++ names }
@@ -64,4 +64,4 @@ pub record IsOpened (names : List ℕ) (before after : PartValue) : Type 0 where
   pub slot : after.slot ≡ before.slot
   pub node : after.node ≡ before.node
   pub freed : IsFreed (seam_matches before before.node) before.matching (freed_matching before after) before.links after.links
-  pub sprouted : IsSprouted names (seam_defects before.job before.slot before.node) before.nodes after.nodes before.store after.store (freed_matching before after) after.matching
+  pub singles_added : AddsSingles names (seam_defects before.job before.slot before.node) before.nodes after.nodes before.store after.store (freed_matching before after) after.matching

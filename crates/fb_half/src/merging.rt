@@ -9,7 +9,7 @@ ghost use Rattle.fb_plan.specs.Plans.{node_count, problem_at};
 ghost use Rattle.fb_links.specs.Names.{name_by};
 ghost use Rattle.fb_links.specs.Table.{is_live};
 ghost use Rattle.fb_blossoms.specs.Nodes as blossoms;
-ghost use Rattle.fb_half.specs.InternalSeams.{IsBeside, IsFreed, IsOpened, IsSprouted};
+ghost use Rattle.fb_half.specs.InternalSeams.{IsBeside, IsFreed, IsOpened, AddsSingles};
 ghost use Rattle.fb_half.specs.Matchings.{listed_names, match_links, matched_names};
 ghost use Rattle.fb_half.specs.Merged.{IsPlanned, ends_at_seam, freed_in, is_owned_by, leads_to_seam, renamed_match};
 ghost use Rattle.fb_half.specs.Translations.{link_by};
@@ -157,7 +157,7 @@ fn add_leaves(
     requires leafless { All (λ v. (x : ℕ) → blossoms.node_at store.old x ≢ Some (blossoms.leaf v)) vertices.now }
     requires live { (name : ℕ) → blossoms.node_at store.old name ≡ None → is_node regions.old.nodes name ≡ false }
     requires listed { (name : ℕ) → blossoms.node_at store.old name ≡ None → is_in (listed_names matching.old) name ≡ false }
-    ensures sprouted { OnOk result (IsSprouted (drop (length matching.old.unmatched) matching.new.unmatched) vertices.now regions.old.nodes regions.new.nodes store.old store.new matching.old matching.new) }
+    ensures singles_added { OnOk result (AddsSingles (drop (length matching.old.unmatched) matching.new.unmatched) vertices.now regions.old.nodes regions.new.nodes store.old store.new matching.old matching.new) }
     ensures scope { OnOk result (regions.new.scope ≡ regions.old.scope) }
 {
     for v in vertices {

@@ -35,9 +35,9 @@ pub fn read_named<F: Files>(
     ensures short { IfOk result (λ v. length v.items ≤ limit) }
     ensures long { IsErrOf result ReadError.TooLong → Holds (F.named files.old) name.now (λ text. limit < length text) }
     ensures fault { IsErrOf result ReadError.ReadFault → Rose (F.faults files.old) (F.faults files.new) }
-    ensures later { F.faults files.old ≤ F.faults files.new }
-    ensures seen { F.faults files.old < F.faults files.new → IsErrOf result ReadError.ReadFault }
-    ensures calm { result ≢ Err ReadError.ReadFault → F.faults files.new ≡ F.faults files.old }
+    ensures never_falls { F.faults files.old ≤ F.faults files.new }
+    ensures reported { F.faults files.old < F.faults files.new → IsErrOf result ReadError.ReadFault }
+    ensures unchanged { result ≢ Err ReadError.ReadFault → F.faults files.new ≡ F.faults files.old }
 {
     let Ok(name) = String::from_str(alloc, name) else {
         return Err(ReadError::NoMemory);
@@ -57,9 +57,9 @@ pub fn read_graph_file<F: Files>(alloc: Global, files: &mut F, name: &str) -> Re
     ensures graph { IfOk result (λ g. Holds (F.named files.old) name.now (IsGraphText g)) }
     ensures refused { IfErr result (IfRefused (λ fault. Holds (F.named files.old) name.now (IsNoGraph fault))) }
     ensures fault { IsErrOf result NoGraph.ReadFault → Rose (F.faults files.old) (F.faults files.new) }
-    ensures later { F.faults files.old ≤ F.faults files.new }
-    ensures seen { F.faults files.old < F.faults files.new → IsErrOf result NoGraph.ReadFault }
-    ensures calm { result ≢ Err NoGraph.ReadFault → F.faults files.new ≡ F.faults files.old }
+    ensures never_falls { F.faults files.old ≤ F.faults files.new }
+    ensures reported { F.faults files.old < F.faults files.new → IsErrOf result NoGraph.ReadFault }
+    ensures unchanged { result ≢ Err NoGraph.ReadFault → F.faults files.new ≡ F.faults files.old }
 {
     match read_named(alloc, files, name, MOST_TEXT_BYTES) {
         Ok(text) => match read_graph(alloc, &text) {

@@ -37,9 +37,9 @@ pub fn read_plan_file<F: Files>(
     ensures valid { IfOk result (IsPlan graph.now) }
     ensures refused { IfErr result (IfPlanRefused (λ fault. Holds (F.named files.old) name.now (IsNoPlan graph.now fault))) }
     ensures fault { IsErrOf result NoPlan.ReadFault → Rose (F.faults files.old) (F.faults files.new) }
-    ensures later { F.faults files.old ≤ F.faults files.new }
-    ensures seen { F.faults files.old < F.faults files.new → IsErrOf result NoPlan.ReadFault }
-    ensures calm { result ≢ Err NoPlan.ReadFault → F.faults files.new ≡ F.faults files.old }
+    ensures never_falls { F.faults files.old ≤ F.faults files.new }
+    ensures reported { F.faults files.old < F.faults files.new → IsErrOf result NoPlan.ReadFault }
+    ensures unchanged { result ≢ Err NoPlan.ReadFault → F.faults files.new ≡ F.faults files.old }
 {
     match read_named(alloc, files, name, MOST_TEXT_BYTES) {
         Ok(text) => match read_plan(alloc, &text, graph) {

@@ -39,8 +39,8 @@ pub fn take_window<F: Files>(
     ensures asks { F.asked files.new ≡ F.asked files.old }
     ensures names { F.named files.new ≡ F.named files.old }
     ensures fault { IfOk result (λ t. t.end ≡ Some ShotsEnd.ReadFault → Rose (F.faults files.old) (F.faults files.new)) }
-    ensures later { F.faults files.old ≤ F.faults files.new }
-    ensures calm { IfOk result (λ t. t.end ≢ Some ShotsEnd.ReadFault → F.faults files.new ≡ F.faults files.old) }
+    ensures never_falls { F.faults files.old ≤ F.faults files.new }
+    ensures unchanged { IfOk result (λ t. t.end ≢ Some ShotsEnd.ReadFault → F.faults files.new ≡ F.faults files.old) }
     ensures unread { OnErr result (F.faults files.new ≡ F.faults files.old) }
 {
     let mut shots = Vec::with_capacity(alloc, most)?;

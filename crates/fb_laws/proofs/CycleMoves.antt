@@ -13,7 +13,7 @@ use Rattle.fb_graph.specs.Covers.{AreRoles}
 use Rattle.fb_graph.specs.Nests.{child_sets}
 use Rattle.fb_laws.specs.Opening.{EndAtDefects}
 use Rattle.fb_laws.specs.PartStates.{IsRing, AreCycles, AreLiveNames, all_cycle_links, links_at}
-use Rattle.fb_graph.specs.Steps.{Roles, AllowShrinking, stepped}
+use Rattle.fb_graph.specs.Steps.{Roles, AllowShrinking, stepped_nodes}
 use Rattle.fb_laws.specs.Works.{AreMatchedLinks}
 use Rattle.fb_graph.proofs.Among.{IsAmong, All_among, among_All, among_any}
 use Rattle.fb_graph.proofs.Crossings.{level_within}
@@ -38,7 +38,7 @@ links_kept p nodes others links defects loads are = record {
 -- and by a step, where each lies under one outer node
 pub links_stepped : (p : Problem) (roles : Roles) (nodes : List Node) (k : ℕ) (links : List Link) → IsDual p nodes
     → AreRoles roles nodes → AllowShrinking roles nodes k → All (λ l. AreUnderOne nodes l.from l.to) links
-    → AreMatchedLinks p nodes links → AreMatchedLinks p (stepped roles k nodes) links
+    → AreMatchedLinks p nodes links → AreMatchedLinks p (stepped_nodes roles k nodes) links
 links_stepped p roles nodes k links dual are tops under matched = record {
   tight = λ i d less. record {
     walk = (matched.tight i d less).walk;

@@ -11,9 +11,9 @@ use Rattle.fb_laws.proofs.HalvesKept.{matching_permuted}
 use Rattle.fb_laws.proofs.NestedFusions.{nested_merged, nested_seam}
 
 pub nested_fused : NestedFused
-nested_fused left right whole nodes others links others_links rest unmatched more freed sprouts seam limits may is
+nested_fused left right whole nodes others links others_links rest unmatched more freed singles seam limits may is
     further moved here there =
-    nested_seam (without_seam left right whole) whole (nodes ++ others) freed rest sprouts seam (unmatched ++ more)
+    nested_seam (without_seam left right whole) whole (nodes ++ others) freed rest singles seam (unmatched ++ more)
     (λ i d less. (limits.each_edge i d less).even) limits is further.names further.vertices further.real further.own
     (record {
       nest = both.nest;
@@ -60,12 +60,12 @@ nested_fused left right whole nodes others links others_links rest unmatched mor
         parts (λ v h. or_cases (left.is_real v) (right.is_real v) h) may.names may.right_only may.left_only here there
 
 pub unmatched_counted : UnmatchedCounted
-unmatched_counted unmatched more freed sprouts =
+unmatched_counted unmatched more freed singles =
     omega (
       arith,
-      length-append (unmatched ++ more) (freed_names freed ++ map (λ s. s.name) sprouts),
+      length-append (unmatched ++ more) (freed_names freed ++ map (λ s. s.name) singles),
       length-append unmatched more,
-      length-append (freed_names freed) (map (λ s. s.name) sprouts),
+      length-append (freed_names freed) (map (λ s. s.name) singles),
       length-map freed (λ f. f.name),
-      length-map sprouts (λ s. s.name),
+      length-map singles (λ s. s.name),
     )

@@ -17,22 +17,22 @@ use Rattle.fb_graph.proofs.CutSums.{weigh}
 use Rattle.fb_graph.proofs.ParitySums.{odd_agree}
 use Rattle.fb_graph.proofs.Sets.{member_of_odd}
 use Rattle.fb_graph.specs.Counts.{as_count}
-use Rattle.fb_graph.specs.Steps.{stepped, stepped_node}
+use Rattle.fb_graph.specs.Steps.{stepped_nodes, stepped_node}
 use Rattle.fb_graph.specs.Ends.{ends_in, AreAllApart}
 use Rattle.fb_graph.specs.Links.{pair, IsTightLink}
 use Rattle.fb_laws.specs.Fusion.{IsLinkOf}
 use Rattle.fb_laws.specs.Opening.{IsWithinOne, EndAtDefects}
-use Rattle.fb_graph.specs.Sprouts.{Sprout, node_of, nodes_of}
+use Rattle.fb_graph.specs.Singles.{Single, node_of, nodes_of}
 use Rattle.fb_laws.specs.Works.{HasDefects, positive_cuts, outer_nodes, outer_sets, WorkBegins, MatchingStepped, MatchingPermuted, PositivePacking, PositiveLoads, PositiveTotal, CutUnderOne, HalfLevel, HalfSolved}
 use Rattle.fb_graph.proofs.Crossings.{under_or_not, cover_holds, found_place}
 use Rattle.fb_graph.proofs.EndSums.{ends_permuted}
 use Rattle.fb_laws.proofs.OpenedLevels.{first_level, levels_opened, level_solved}
 use Rattle.fb_laws.proofs.PotentialParities.{one_parity_stepped}
-use Rattle.fb_graph.proofs.SproutStates.{beginning_is_dual, leaves_are, bare_height}
+use Rattle.fb_graph.proofs.SingleStates.{beginning_is_dual, leaves_are, bare_height}
 use Rattle.fb_graph.proofs.StepHeights.{outer_stepped, leaves_stepped}
 use Rattle.fb_graph.proofs.StepLoads.{tight_stepped}
 
-pub name_in_all : (sprouts : List Sprout) → All (λ s. is_in (map (λ t. t.name) sprouts) s.name ≡ true) sprouts
+pub name_in_all : (singles : List Single) → All (λ s. is_in (map (λ t. t.name) singles) s.name ≡ true) singles
 name_in_all [] = All-nil (λ s. is_in [] s.name ≡ true)
 name_in_all (s ∷ ss) =
     All-cons (λ t. is_in (s.name ∷ map (λ u. u.name) ss) t.name ≡ true) s ss
@@ -44,30 +44,30 @@ name_in_all (s ∷ ss) =
     later false e = e
 
 pub work_begins : WorkBegins
-work_begins p sprouts names vertices real bare defects = record {
+work_begins p singles names vertices real bare defects = record {
   matching = record {
-    dual = beginning_is_dual p sprouts names vertices real bare;
-    defects = λ v is. defects v is ∙ ap (λ l. is_in l v) (sym (leaves_are sprouts));
+    dual = beginning_is_dual p singles names vertices real bare;
+    defects = λ v is. defects v is ∙ ap (λ l. is_in l v) (sym (leaves_are singles));
     links_are = record {
-      tight = All-nil (IsTightLink p (all_cuts (nodes_of sprouts)));
+      tight = All-nil (IsTightLink p (all_cuts (nodes_of singles)));
       own = All-nil (IsLinkOf p);
       at_defects =
           All-nil
-          (λ l. (p.is_real l.from ≡ true → is_in (leaves (nodes_of sprouts)) l.from ≡ true)
-          × (p.is_real l.to ≡ true → is_in (leaves (nodes_of sprouts)) l.to ≡ true));
+          (λ l. (p.is_real l.from ≡ true → is_in (leaves (nodes_of singles)) l.from ≡ true)
+          × (p.is_real l.to ≡ true → is_in (leaves (nodes_of singles)) l.to ≡ true));
     };
     matched =
         All-map
-        (λ n. is_outer (nodes_of sprouts) n.name ≡ true
-        → ends_in n.top.vertices [] + as_count (is_in (map (λ s. s.name) sprouts) n.name) ≡ 1) node_of sprouts
-        (λ i d less outer. ap (λ b. 0 + as_count b) (name_in_all sprouts i d less));
+        (λ n. is_outer (nodes_of singles) n.name ≡ true
+        → ends_in n.top.vertices [] + as_count (is_in (map (λ s. s.name) singles) n.name) ≡ 1) node_of singles
+        (λ i d less outer. ap (λ b. 0 + as_count b) (name_in_all singles i d less));
     one_parity = λ d e name leaf among cover covered. even d ∙ sym (even e);
   };
   even = λ d name leaf cover among. even d;
 }
   where
-    even : (d : ℕ) → height_of (all_cuts (nodes_of sprouts)) d % 2 ≡ 0
-    even d = ap (λ h. h % 2) (bare_height sprouts d bare)
+    even : (d : ℕ) → height_of (all_cuts (nodes_of singles)) d % 2 ≡ 0
+    even d = ap (λ h. h % 2) (bare_height singles d bare)
 
 pub matching_stepped : MatchingStepped
 matching_stepped p roles nodes links unmatched k are low dual level work = record {
@@ -83,7 +83,7 @@ matching_stepped p roles nodes links unmatched k are low dual level work = recor
   };
   matched =
       All-map
-      (λ n. is_outer (stepped roles k nodes) n.name ≡ true → ends_in n.top.vertices links + as_count (is_in unmatched n.name) ≡ 1)
+      (λ n. is_outer (stepped_nodes roles k nodes) n.name ≡ true → ends_in n.top.vertices links + as_count (is_in unmatched n.name) ≡ 1)
       (stepped_node roles k) nodes
       (λ i d less outer. work.matched i d less (sym (outer_stepped roles nodes k (get_or nodes i d).name) ∙ outer));
   one_parity = one_parity_stepped roles nodes k work.dual.apart are low work.one_parity;

@@ -51,8 +51,8 @@ module _ (p : Problem) (nodes : List Node) (held : ℕ → List ℕ) (nest : IsN
   is_member : (xs : List ℕ) (d : ℕ) → IsAmong d xs → is_in xs d ≡ true
   is_member xs d a = among_any (λ u. u == d) xs d a (eq-eqb d d refl)
 
-  lone : (q : Node) → IsAmong q nodes → is_empty q.children ≡ true → Holds q
-  lone q a none d =
+  childless : (q : Node) → IsAmong q nodes → is_empty q.children ≡ true → Holds q
+  childless q a none d =
       All_among (λ n. is_empty n.children ≡ true → (c : ℕ) → is_in (held n.name) c ≡ is_in (defects_of n) c) nodes are.own q a
       none d
       ∙ same_tests (is_in (defects_of q) d) (is_in (leaves nodes) d && is_in q.top.vertices d)
@@ -121,7 +121,7 @@ module _ (p : Problem) (nodes : List Node) (held : ℕ → List ℕ) (nest : IsN
           in_child c mine m a named (among_either before (q ∷ after) m (subst (IsAmong m) is a))
 
       step : (is_empty q.children ≡ true) ⊎ (is_empty q.children ≡ false) → Holds q
-      step (inl none) = lone q here none
+      step (inl none) = childless q here none
       step (inr some) = joined q here some child
 
   all_hold : (before after : List Node) → nodes ≡ before ++ after → ((n : Node) → IsAmong n before → Holds n)

@@ -22,9 +22,9 @@ use Rattle.fb_graph.specs.Counts.{as_count}
 use Rattle.fb_graph.specs.Ends.{AreAllApart}
 use Rattle.fb_laws.specs.Forming.{Child, sets_of, names_of, blossom_of, IsCycle}
 use Rattle.fb_laws.specs.Opening.{EndAtDefects}
-use Rattle.fb_laws.specs.Works.{AreMatchedLinks, IsMatching, IsSetOf, without}
+use Rattle.fb_laws.specs.Works.{AreMatchedLinks, IsMatching, IsSetOf, names_without}
 use Rattle.fb_laws.specs.Trees.{Entry, Connects, grown_links, paired_links, tree_names}
-use Rattle.fb_laws.specs.SearchBlossoms.{renamed, inner_branches, outer_branches, joined_tree, SearchJoined}
+use Rattle.fb_laws.specs.SearchBlossoms.{renamed_name, inner_branches, outer_branches, joined_tree, SearchJoined}
 use Rattle.fb_graph.proofs.Crossings.{cover_found, cover_holds}
 use Rattle.fb_laws.proofs.FormedNodes.{matching_formed}
 use Rattle.fb_laws.proofs.HalvesKept.{matching_permuted}
@@ -125,12 +125,12 @@ module _ (p : Problem) (nodes : List Node) (name : ℕ) (base : Child) (others :
 
   -- the node over a vertex is the one that it was, or the blossom
   pub cover_formed : (v n : ℕ) → cover_of nodes v ≡ Some n
-      → cover_of (nodes ++ blossom_of name (base ∷ others) ∷ []) v ≡ Some (renamed (is_in (names_of (base ∷ others))) name n)
+      → cover_of (nodes ++ blossom_of name (base ∷ others) ∷ []) v ≡ Some (renamed_name (is_in (names_of (base ∷ others))) name n)
   cover_formed v n cover = step (cases_Bool (is_in (names_of (base ∷ others)) n)) (cover_place nodes v n cover)
     where
       step : (is_in (names_of (base ∷ others)) n ≡ true) ⊎ (is_in (names_of (base ∷ others)) n ≡ false)
           → (i : ℕ) × (i < length nodes) × ((node_at nodes i).name ≡ n) × (is_outer nodes n ≡ true) × (is_in (node_at nodes i).top.vertices v ≡ true)
-          → cover_of (nodes ++ blossom_of name (base ∷ others) ∷ []) v ≡ Some (renamed (is_in (names_of (base ∷ others))) name n)
+          → cover_of (nodes ++ blossom_of name (base ∷ others) ∷ []) v ≡ Some (renamed_name (is_in (names_of (base ∷ others))) name n)
       step (inl among) place =
           let seam = get_or-append_seam nodes (blossom_of name (base ∷ others)) [] no_node in
           cover_found (nodes ++ blossom_of name (base ∷ others) ∷ []) v dual.apart (length nodes) no_node
@@ -171,21 +171,21 @@ module _ (p : Problem) (nodes : List Node) (name : ℕ) (base : Child) (others :
   }
 
   connects_formed : (l : Link) (a b : ℕ) → Connects nodes l a b
-      → Connects (nodes ++ blossom_of name (base ∷ others) ∷ []) l (renamed (is_in (names_of (base ∷ others))) name a) (renamed (is_in (names_of (base ∷ others))) name b)
+      → Connects (nodes ++ blossom_of name (base ∷ others) ∷ []) l (renamed_name (is_in (names_of (base ∷ others))) name a) (renamed_name (is_in (names_of (base ∷ others))) name b)
   connects_formed l a b (inl (from, to)) = inl (cover_formed l.from a from, cover_formed l.to b to)
   connects_formed l a b (inr (to, from)) = inr (cover_formed l.to a to, cover_formed l.from b from)
 
   -- a defect's node before
   pub covered_before : (d m : ℕ) → is_in (leaves nodes) d ≡ true → cover_of (nodes ++ blossom_of name (base ∷ others) ∷ []) d ≡ Some m
-      → (n : ℕ) × (cover_of nodes d ≡ Some n) × (m ≡ renamed (is_in (names_of (base ∷ others))) name n)
+      → (n : ℕ) × (cover_of nodes d ≡ Some n) × (m ≡ renamed_name (is_in (names_of (base ∷ others))) name n)
   covered_before d m leaf cover = step (cover_of nodes d) refl (old.defects d leaf)
     where
       step : (o : Option ℕ) → cover_of nodes d ≡ o → IsSome (cover_of nodes d)
-          → (n : ℕ) × (cover_of nodes d ≡ Some n) × (m ≡ renamed (is_in (names_of (base ∷ others))) name n)
+          → (n : ℕ) × (cover_of nodes d ≡ Some n) × (m ≡ renamed_name (is_in (names_of (base ∷ others))) name n)
       step None none some = absurd (false≢true (subst IsSome none some))
       step (Some n) is some =
           let there = cover_formed d n is in
-          (n, is, (let same : m ≡ renamed (is_in (names_of (base ∷ others))) name n = cc in same))
+          (n, is, (let same : m ≡ renamed_name (is_in (names_of (base ∷ others))) name n = cc in same))
 
   -- no node of the state has the blossom's name
   pub new_name : (n : ℕ) (set : List ℕ) → IsSetOf nodes n set → n ≡ name → ⊥
@@ -322,7 +322,7 @@ search_joined p nodes tree rest unmatched remaining root r name base others join
     }
 
     open_ : (is_in (names_of (base ∷ others)) root ≡ true) ⊎ (is_in (names_of (base ∷ others)) root ≡ false)
-        → is_in remaining (renamed (is_in (names_of (base ∷ others))) name root) ≡ true
+        → is_in remaining (renamed_name (is_in (names_of (base ∷ others))) name root) ≡ true
     open_ (inl h) =
         ap (is_in remaining) (new_in joined name base.name root root h)
         ∙ (named ∙ (ap (is_in unmatched) (sym (joining.branches.roots h)) ∙ state.open_root))
@@ -330,8 +330,8 @@ search_joined p nodes tree rest unmatched remaining root r name base others join
         ap (is_in remaining) (new_out joined name base.name root root h)
         ∙ (kept root h (place_name state.root_is.0 root state.root_is.2) ∙ state.open_root)
 
-    in_tree : (n m : ℕ) → m ≡ renamed (is_in (names_of (base ∷ others))) name n → (n ≡ name → ⊥)
-        → is_in (tree_names (renamed (is_in (names_of (base ∷ others))) name root) (joined_tree (is_in (names_of (base ∷ others))) name tree)) m ≡ true
+    in_tree : (n m : ℕ) → m ≡ renamed_name (is_in (names_of (base ∷ others))) name n → (n ≡ name → ⊥)
+        → is_in (tree_names (renamed_name (is_in (names_of (base ∷ others))) name root) (joined_tree (is_in (names_of (base ∷ others))) name tree)) m ≡ true
         → (is_in (names_of (base ∷ others)) n ≡ true) ⊎ (is_in (names_of (base ∷ others)) n ≡ false) → is_in (tree_names root tree) n ≡ true
     in_tree n m same other among (inl h) = child_in_tree n h
     in_tree n m same other among (inr h) = step (names_kept joined name base.name root tree joining.branches m among)
@@ -344,15 +344,15 @@ search_joined p nodes tree rest unmatched remaining root r name base others join
         step (inl (there, out)) = ap (is_in (tree_names root tree)) (sym is) ∙ there
         step (inr (new, there)) = absurd (other (sym is ∙ new))
 
-    still_open : (n m : ℕ) → m ≡ renamed (is_in (names_of (base ∷ others))) name n → (n ≡ name → ⊥)
-        → is_in (without (renamed (is_in (names_of (base ∷ others))) name root) remaining) m ≡ true
-        → (is_in (names_of (base ∷ others)) n ≡ true) ⊎ (is_in (names_of (base ∷ others)) n ≡ false) → is_in (without root unmatched) n ≡ true
+    still_open : (n m : ℕ) → m ≡ renamed_name (is_in (names_of (base ∷ others))) name n → (n ≡ name → ⊥)
+        → is_in (names_without (renamed_name (is_in (names_of (base ∷ others))) name root) remaining) m ≡ true
+        → (is_in (names_of (base ∷ others)) n ≡ true) ⊎ (is_in (names_of (base ∷ others)) n ≡ false) → is_in (names_without root unmatched) n ≡ true
     still_open n m same other among (inl h) = absurd (step (open_is_root base.name (child_in_tree base.name base_here) base_open))
       where
-        parts : (is_in remaining m ≡ true) × (not (m == renamed (is_in (names_of (base ∷ others))) name root) ≡ true)
+        parts : (is_in remaining m ≡ true) × (not (m == renamed_name (is_in (names_of (base ∷ others))) name root) ≡ true)
         parts =
-            and_parts (is_in remaining m) (not (m == renamed (is_in (names_of (base ∷ others))) name root))
-            (sym (is_in-filter (λ x. not (x == renamed (is_in (names_of (base ∷ others))) name root)) remaining m) ∙ among)
+            and_parts (is_in remaining m) (not (m == renamed_name (is_in (names_of (base ∷ others))) name root))
+            (sym (is_in-filter (λ x. not (x == renamed_name (is_in (names_of (base ∷ others))) name root)) remaining m) ∙ among)
 
         m_is : m ≡ name
         m_is = same ∙ new_in joined name base.name root n h
@@ -362,9 +362,9 @@ search_joined p nodes tree rest unmatched remaining root r name base others join
 
         step : base.name ≡ root → ⊥
         step is =
-            both_ways (not (m == renamed (is_in (names_of (base ∷ others))) name root))
-            (not_from_true (m == renamed (is_in (names_of (base ∷ others))) name root)
-            (eq-eqb m (renamed (is_in (names_of (base ∷ others))) name root)
+            both_ways (not (m == renamed_name (is_in (names_of (base ∷ others))) name root))
+            (not_from_true (m == renamed_name (is_in (names_of (base ∷ others))) name root)
+            (eq-eqb m (renamed_name (is_in (names_of (base ∷ others))) name root)
             (m_is ∙ sym (new_in joined name base.name root root (ap joined (sym is) ∙ base_here)))))
             parts.1
     still_open n m same other among (inr h) =
@@ -372,18 +372,18 @@ search_joined p nodes tree rest unmatched remaining root r name base others join
         ∙ and_from (is_in unmatched n) (not (n == root)) (sym (kept n h other) ∙ (ap (is_in remaining) (sym m_is) ∙ parts.0))
         (not_from_false (n == root) (ne_eqb n root not_root))
       where
-        parts : (is_in remaining m ≡ true) × (not (m == renamed (is_in (names_of (base ∷ others))) name root) ≡ true)
+        parts : (is_in remaining m ≡ true) × (not (m == renamed_name (is_in (names_of (base ∷ others))) name root) ≡ true)
         parts =
-            and_parts (is_in remaining m) (not (m == renamed (is_in (names_of (base ∷ others))) name root))
-            (sym (is_in-filter (λ x. not (x == renamed (is_in (names_of (base ∷ others))) name root)) remaining m) ∙ among)
+            and_parts (is_in remaining m) (not (m == renamed_name (is_in (names_of (base ∷ others))) name root))
+            (sym (is_in-filter (λ x. not (x == renamed_name (is_in (names_of (base ∷ others))) name root)) remaining m) ∙ among)
 
         m_is : m ≡ n
         m_is = same ∙ new_out joined name base.name root n h
 
         not_root : n ≡ root → ⊥
         not_root is =
-            both_ways (not (m == renamed (is_in (names_of (base ∷ others))) name root))
-            (not_from_true (m == renamed (is_in (names_of (base ∷ others))) name root)
-            (eq-eqb m (renamed (is_in (names_of (base ∷ others))) name root)
+            both_ways (not (m == renamed_name (is_in (names_of (base ∷ others))) name root))
+            (not_from_true (m == renamed_name (is_in (names_of (base ∷ others))) name root)
+            (eq-eqb m (renamed_name (is_in (names_of (base ∷ others))) name root)
             (m_is ∙ (is ∙ sym (new_out joined name base.name root root (ap joined (sym is) ∙ h))))))
             parts.1

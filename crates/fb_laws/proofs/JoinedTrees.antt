@@ -9,7 +9,7 @@ use Rattle.fb_graph.specs.Dual.{Node, cover_of}
 use Rattle.fb_graph.proofs.Sets.{is_in-cases, is_in-head, is_in-tail}
 use Rattle.fb_laws.specs.Blossoms.{IsInside}
 use Rattle.fb_laws.specs.Trees.{Entry, Connects, IsTree, grown_links, paired_links, plus_names, tree_names}
-use Rattle.fb_laws.specs.SearchBlossoms.{renamed, renamed_entry, inner_branches, outer_branches, joined_tree, AreBranches}
+use Rattle.fb_laws.specs.SearchBlossoms.{renamed_name, renamed_entry, inner_branches, outer_branches, joined_tree, AreBranches}
 
 pub branches_tail : (joined : ℕ → Bool) (base root : ℕ) (e : Entry) (es : List Entry) → AreBranches joined base root (e ∷ es) → AreBranches joined base root es
 branches_tail joined base root e es are = record {
@@ -27,10 +27,10 @@ paired_joined joined name [] = refl
 paired_joined joined name (e ∷ es) = ap (λ l. e.matched ∷ l) (paired_joined joined name es)
 
 module _ (joined : ℕ → Bool) (name base root : ℕ) where
-  pub new_in : (n : ℕ) → joined n ≡ true → renamed joined name n ≡ name
+  pub new_in : (n : ℕ) → joined n ≡ true → renamed_name joined name n ≡ name
   new_in n e = ap (λ b. cond b name n) e
 
-  pub new_out : (n : ℕ) → joined n ≡ false → renamed joined name n ≡ n
+  pub new_out : (n : ℕ) → joined n ≡ false → renamed_name joined name n ≡ n
   new_out n e = ap (λ b. cond b name n) e
 
   -- what holds of the joined tree, by whether the first branch is taken in
@@ -50,40 +50,40 @@ module _ (joined : ℕ → Bool) (name base root : ℕ) where
   -- plus nodes stay plus, under their new names
   pub plus_kept : (nodes : List Node) (tree : List Entry) → IsTree nodes root tree → AreBranches joined base root tree → (n : ℕ)
       → is_in (plus_names root tree) n ≡ true
-      → is_in (plus_names (renamed joined name root) (joined_tree joined name tree)) (renamed joined name n) ≡ true
+      → is_in (plus_names (renamed_name joined name root) (joined_tree joined name tree)) (renamed_name joined name n) ≡ true
   plus_kept nodes [] tree are n among = step (is_in-cases root [] n among)
     where
-      step : (root ≡ n) ⊎ (is_in [] n ≡ true) → is_in (renamed joined name root ∷ []) (renamed joined name n) ≡ true
-      step (inl same) = subst (λ m. is_in (renamed joined name root ∷ []) (renamed joined name m) ≡ true) same (is_in-head (renamed joined name root) [])
+      step : (root ≡ n) ⊎ (is_in [] n ≡ true) → is_in (renamed_name joined name root ∷ []) (renamed_name joined name n) ≡ true
+      step (inl same) = subst (λ m. is_in (renamed_name joined name root ∷ []) (renamed_name joined name m) ≡ true) same (is_in-head (renamed_name joined name root) [])
       step (inr none) = absurd (false≢true none)
   plus_kept nodes (e ∷ es) (parent, tree, matched, joins) are n among =
-      by_first (λ t. is_in (plus_names (renamed joined name root) t) (renamed joined name n) ≡ true) e es
+      by_first (λ t. is_in (plus_names (renamed_name joined name root) t) (renamed_name joined name n) ≡ true) e es
       (λ taken. inside taken (is_in-cases e.plus (plus_names root es) n among) (plus_kept nodes es joins (branches_tail joined base root e es are)))
       (λ left. outside (is_in-cases e.plus (plus_names root es) n among) (plus_kept nodes es joins (branches_tail joined base root e es are)))
     where
       Kept : ℕ → Type 0
-      Kept m = is_in (plus_names (renamed joined name root) (joined_tree joined name es)) (renamed joined name m) ≡ true
+      Kept m = is_in (plus_names (renamed_name joined name root) (joined_tree joined name es)) (renamed_name joined name m) ≡ true
 
       inside : joined e.minus ≡ true → (e.plus ≡ n) ⊎ (is_in (plus_names root es) n ≡ true)
           → ((m : ℕ) → is_in (plus_names root es) m ≡ true → Kept m) → Kept n
       inside taken (inl same) rest =
           let both = All-head (λ x. joined x.minus ≡ true → (joined x.parent ≡ true) × (joined x.plus ≡ true)) e es are.inner taken in
-          subst (λ m. is_in (plus_names (renamed joined name root) (joined_tree joined name es)) m ≡ true)
-          (new_in e.parent both.0 ∙ (sym (new_in e.plus both.1) ∙ ap (renamed joined name) same)) (rest e.parent parent)
+          subst (λ m. is_in (plus_names (renamed_name joined name root) (joined_tree joined name es)) m ≡ true)
+          (new_in e.parent both.0 ∙ (sym (new_in e.plus both.1) ∙ ap (renamed_name joined name) same)) (rest e.parent parent)
       inside taken (inr there) rest = rest n there
 
       outside : (e.plus ≡ n) ⊎ (is_in (plus_names root es) n ≡ true) → ((m : ℕ) → is_in (plus_names root es) m ≡ true → Kept m)
-          → is_in (renamed joined name e.plus ∷ plus_names (renamed joined name root) (joined_tree joined name es)) (renamed joined name n) ≡ true
+          → is_in (renamed_name joined name e.plus ∷ plus_names (renamed_name joined name root) (joined_tree joined name es)) (renamed_name joined name n) ≡ true
       outside (inl same) rest =
-          subst (λ m. is_in (renamed joined name e.plus ∷ plus_names (renamed joined name root) (joined_tree joined name es)) (renamed joined name m) ≡ true) same
-          (is_in-head (renamed joined name e.plus) (plus_names (renamed joined name root) (joined_tree joined name es)))
+          subst (λ m. is_in (renamed_name joined name e.plus ∷ plus_names (renamed_name joined name root) (joined_tree joined name es)) (renamed_name joined name m) ≡ true) same
+          (is_in-head (renamed_name joined name e.plus) (plus_names (renamed_name joined name root) (joined_tree joined name es)))
       outside (inr there) rest =
-          is_in-tail (renamed joined name e.plus) (plus_names (renamed joined name root) (joined_tree joined name es)) (renamed joined name n) (rest n there)
+          is_in-tail (renamed_name joined name e.plus) (plus_names (renamed_name joined name root) (joined_tree joined name es)) (renamed_name joined name n) (rest n there)
 
   abbrev IsOld : List ℕ → ℕ → Type 0
   IsOld names m = (is_in names m ≡ true) × (joined m ≡ false) ⊎ (m ≡ name) × (is_in names base ≡ true)
 
-  old_one : (names : List ℕ) (n m : ℕ) → is_in names n ≡ true → (joined n ≡ true → n ≡ base) → renamed joined name n ≡ m → IsOld names m
+  old_one : (names : List ℕ) (n m : ℕ) → is_in names n ≡ true → (joined n ≡ true → n ≡ base) → renamed_name joined name n ≡ m → IsOld names m
   old_one names n m among only same = step (cases_Bool (joined n))
     where
       step : (joined n ≡ true) ⊎ (joined n ≡ false) → IsOld names m
@@ -101,25 +101,25 @@ module _ (joined : ℕ → Bool) (name base root : ℕ) where
 
   -- the names of the joined tree are old ones, or the blossom's in the place of its base
   pub names_kept : (tree : List Entry) → AreBranches joined base root tree → (m : ℕ)
-      → is_in (tree_names (renamed joined name root) (joined_tree joined name tree)) m ≡ true → IsOld (tree_names root tree) m
-  names_kept [] are m among = step (is_in-cases (renamed joined name root) [] m among)
+      → is_in (tree_names (renamed_name joined name root) (joined_tree joined name tree)) m ≡ true → IsOld (tree_names root tree) m
+  names_kept [] are m among = step (is_in-cases (renamed_name joined name root) [] m among)
     where
-      step : (renamed joined name root ≡ m) ⊎ (is_in [] m ≡ true) → IsOld (root ∷ []) m
+      step : (renamed_name joined name root ≡ m) ⊎ (is_in [] m ≡ true) → IsOld (root ∷ []) m
       step (inl same) = old_one (root ∷ []) root m (is_in-head root []) are.roots same
       step (inr none) = absurd (false≢true none)
   names_kept (e ∷ es) are m among =
-      by_first (λ t. is_in (tree_names (renamed joined name root) t) m ≡ true → IsOld (tree_names root (e ∷ es)) m) e es
+      by_first (λ t. is_in (tree_names (renamed_name joined name root) t) m ≡ true → IsOld (tree_names root (e ∷ es)) m) e es
       (λ taken there. later (names_kept es (branches_tail joined base root e es are) m there))
       (λ left there.
-      step left (is_in-cases e.minus (renamed joined name e.plus ∷ tree_names (renamed joined name root) (joined_tree joined name es)) m there)
+      step left (is_in-cases e.minus (renamed_name joined name e.plus ∷ tree_names (renamed_name joined name root) (joined_tree joined name es)) m there)
       (names_kept es (branches_tail joined base root e es are) m))
       among
     where
       later : IsOld (tree_names root es) m → IsOld (tree_names root (e ∷ es)) m
       later old = old_more (tree_names root es) (tree_names root (e ∷ es)) m (two_more e es) old
 
-      last : joined e.minus ≡ false → (renamed joined name e.plus ≡ m) ⊎ (is_in (tree_names (renamed joined name root) (joined_tree joined name es)) m ≡ true)
-          → (is_in (tree_names (renamed joined name root) (joined_tree joined name es)) m ≡ true → IsOld (tree_names root es) m)
+      last : joined e.minus ≡ false → (renamed_name joined name e.plus ≡ m) ⊎ (is_in (tree_names (renamed_name joined name root) (joined_tree joined name es)) m ≡ true)
+          → (is_in (tree_names (renamed_name joined name root) (joined_tree joined name es)) m ≡ true → IsOld (tree_names root es) m)
           → IsOld (tree_names root (e ∷ es)) m
       last left (inl same) rest =
           old_one (tree_names root (e ∷ es)) e.plus m
@@ -128,28 +128,28 @@ module _ (joined : ℕ → Bool) (name base root : ℕ) where
       last left (inr there) rest = later (rest there)
 
       step : joined e.minus ≡ false
-          → (e.minus ≡ m) ⊎ (is_in (renamed joined name e.plus ∷ tree_names (renamed joined name root) (joined_tree joined name es)) m ≡ true)
-          → (is_in (tree_names (renamed joined name root) (joined_tree joined name es)) m ≡ true → IsOld (tree_names root es) m)
+          → (e.minus ≡ m) ⊎ (is_in (renamed_name joined name e.plus ∷ tree_names (renamed_name joined name root) (joined_tree joined name es)) m ≡ true)
+          → (is_in (tree_names (renamed_name joined name root) (joined_tree joined name es)) m ≡ true → IsOld (tree_names root es) m)
           → IsOld (tree_names root (e ∷ es)) m
       step left (inl same) rest =
           inl (subst (λ n. is_in (tree_names root (e ∷ es)) n ≡ true) same (is_in-head e.minus (e.plus ∷ tree_names root es)), ap joined (sym same) ∙ left)
       step left (inr there) rest =
-          last left (is_in-cases (renamed joined name e.plus) (tree_names (renamed joined name root) (joined_tree joined name es)) m there) rest
+          last left (is_in-cases (renamed_name joined name e.plus) (tree_names (renamed_name joined name root) (joined_tree joined name es)) m there) rest
 
   pub distinct_kept : (tree : List Entry) → AreBranches joined base root tree → AreDistinct (tree_names root tree)
-      → is_in (tree_names root tree) name ≡ false → AreDistinct (tree_names (renamed joined name root) (joined_tree joined name tree))
+      → is_in (tree_names root tree) name ≡ false → AreDistinct (tree_names (renamed_name joined name root) (joined_tree joined name tree))
   distinct_kept [] are distinct fresh = (refl, tt)
   distinct_kept (e ∷ es) are (minus_new, (plus_new, distinct)) fresh =
-      by_first (λ t. AreDistinct (tree_names (renamed joined name root) t)) e es
+      by_first (λ t. AreDistinct (tree_names (renamed_name joined name root) t)) e es
       (λ taken. distinct_kept es (branches_tail joined base root e es are) distinct fresh_rest)
       (λ left. (
-        false_from_ne_true (is_in (renamed joined name e.plus ∷ tree_names (renamed joined name root) (joined_tree joined name es)) e.minus)
-            (λ there. minus_apart left (is_in-cases (renamed joined name e.plus) (tree_names (renamed joined name root) (joined_tree joined name es)) e.minus there)),
+        false_from_ne_true (is_in (renamed_name joined name e.plus ∷ tree_names (renamed_name joined name root) (joined_tree joined name es)) e.minus)
+            (λ there. minus_apart left (is_in-cases (renamed_name joined name e.plus) (tree_names (renamed_name joined name root) (joined_tree joined name es)) e.minus there)),
         (
-          false_from_ne_true (is_in (tree_names (renamed joined name root) (joined_tree joined name es)) (renamed joined name e.plus))
+          false_from_ne_true (is_in (tree_names (renamed_name joined name root) (joined_tree joined name es)) (renamed_name joined name e.plus))
               (λ there.
               plus_apart left (cases_Bool (joined e.plus))
-              (names_kept es (branches_tail joined base root e es are) (renamed joined name e.plus) there)),
+              (names_kept es (branches_tail joined base root e es are) (renamed_name joined name e.plus) there)),
           distinct_kept es (branches_tail joined base root e es are) distinct fresh_rest,
         ),
       ))
@@ -171,19 +171,19 @@ module _ (joined : ℕ → Bool) (name base root : ℕ) where
           both_ways (is_in (e.plus ∷ tree_names root es) e.minus) minus_new (is_in-tail e.plus (tree_names root es) e.minus among)
       old_minus (inr (is, among)) = not_fresh e.minus minus_here is
 
-      minus_plus : joined e.minus ≡ false → renamed joined name e.plus ≡ e.minus → (joined e.plus ≡ true) ⊎ (joined e.plus ≡ false) → ⊥
+      minus_plus : joined e.minus ≡ false → renamed_name joined name e.plus ≡ e.minus → (joined e.plus ≡ true) ⊎ (joined e.plus ≡ false) → ⊥
       minus_plus left same (inl h) = not_fresh e.minus minus_here (sym same ∙ new_in e.plus h)
       minus_plus left same (inr h) =
           both_ways (is_in (e.plus ∷ tree_names root es) e.minus) minus_new
           (subst (λ n. is_in (e.plus ∷ tree_names root es) n ≡ true) (sym (new_out e.plus h) ∙ same) (is_in-head e.plus (tree_names root es)))
 
       minus_apart : joined e.minus ≡ false
-          → (renamed joined name e.plus ≡ e.minus) ⊎ (is_in (tree_names (renamed joined name root) (joined_tree joined name es)) e.minus ≡ true) → ⊥
+          → (renamed_name joined name e.plus ≡ e.minus) ⊎ (is_in (tree_names (renamed_name joined name root) (joined_tree joined name es)) e.minus ≡ true) → ⊥
       minus_apart left (inl same) = minus_plus left same (cases_Bool (joined e.plus))
       minus_apart left (inr there) = old_minus (names_kept es (branches_tail joined base root e es are) e.minus there)
 
       plus_apart : joined e.minus ≡ false → (joined e.plus ≡ true) ⊎ (joined e.plus ≡ false)
-          → IsOld (tree_names root es) (renamed joined name e.plus) → ⊥
+          → IsOld (tree_names root es) (renamed_name joined name e.plus) → ⊥
       plus_apart left (inl h) (inl (among, out)) =
           not_fresh name (two_more e es name (ap (is_in (tree_names root es)) (sym (new_in e.plus h)) ∙ among)) refl
       plus_apart left (inl h) (inr (is, among)) =
@@ -194,17 +194,17 @@ module _ (joined : ℕ → Bool) (name base root : ℕ) where
       plus_apart left (inr h) (inr (is, among)) = not_fresh e.plus plus_here (sym (new_out e.plus h) ∙ is)
 
   pub tree_kept : (nodes others : List Node)
-      → ((l : Link) (a b : ℕ) → Connects nodes l a b → Connects others l (renamed joined name a) (renamed joined name b))
+      → ((l : Link) (a b : ℕ) → Connects nodes l a b → Connects others l (renamed_name joined name a) (renamed_name joined name b))
       → (tree : List Entry) → IsTree nodes root tree → AreBranches joined base root tree
-      → IsTree others (renamed joined name root) (joined_tree joined name tree)
+      → IsTree others (renamed_name joined name root) (joined_tree joined name tree)
   tree_kept nodes others moved [] tree are = tt
   tree_kept nodes others moved (e ∷ es) (parent, tree, matched, joins) are =
-      by_first (IsTree others (renamed joined name root)) e es
+      by_first (IsTree others (renamed_name joined name root)) e es
       (λ taken. tree_kept nodes others moved es joins (branches_tail joined base root e es are))
       (λ left. (
         plus_kept nodes es joins (branches_tail joined base root e es are) e.parent parent,
-        subst (Connects others e.tree (renamed joined name e.parent)) (new_out e.minus left) (moved e.tree e.parent e.minus tree),
-        subst (λ n. Connects others e.matched n (renamed joined name e.plus)) (new_out e.minus left) (moved e.matched e.minus e.plus matched),
+        subst (Connects others e.tree (renamed_name joined name e.parent)) (new_out e.minus left) (moved e.tree e.parent e.minus tree),
+        subst (λ n. Connects others e.matched n (renamed_name joined name e.plus)) (new_out e.minus left) (moved e.matched e.minus e.plus matched),
         tree_kept nodes others moved es joins (branches_tail joined base root e es are),
       ))
 

@@ -7,7 +7,7 @@ use Rattle.std.proofs.lemmas.List.Elements.{All-head, All-tail, All-from_get_or}
 use Rattle.fb_graph.specs.Parity.{is_in}
 use Rattle.fb_graph.specs.Problem.{Problem}
 use Rattle.fb_graph.specs.Laws.{Link}
-use Rattle.fb_graph.specs.Dual.{Node, IsDual, leaves, cover_of, is_live, is_outer, node_at, no_node, top_at, change_at, taller}
+use Rattle.fb_graph.specs.Dual.{Node, IsDual, leaves, cover_of, is_live, is_outer, node_at, no_node, top_at, change_at, taller_node}
 use Rattle.fb_graph.proofs.ClosedSets.{not_held}
 use Rattle.fb_graph.proofs.Members.{is_in_pushed}
 use Rattle.fb_graph.proofs.Sets.{member_of_odd}
@@ -16,7 +16,7 @@ use Rattle.fb_graph.specs.Counts.{as_count}
 use Rattle.fb_graph.specs.Covers.{HaveParity}
 use Rattle.fb_graph.specs.Ends.{ends_in}
 use Rattle.fb_laws.specs.Opening.{EndAtDefects}
-use Rattle.fb_laws.specs.Works.{AreMatchedLinks, IsSetOf, IsMatching, without}
+use Rattle.fb_laws.specs.Works.{AreMatchedLinks, IsSetOf, IsMatching, names_without}
 use Rattle.fb_laws.specs.Trees.{Entry, Connects, IsTree, grown_links, paired_links, tree_names}
 use Rattle.fb_laws.specs.SearchLayers.{SearchAlike}
 use Rattle.fb_graph.specs.Alike.{AreAlike, TallerCovered}
@@ -161,11 +161,11 @@ search_alike p nodes others tree rest unmatched root r alike dual state = record
       state.joined;
   grown = links_alike p nodes others alike state.matching.dual dual (grown_links tree) state.grown;
   parity = parity_alike p nodes others alike state.matching.dual dual (is_in (tree_names root tree)) r state.parity;
-  even = parity_alike p nodes others alike state.matching.dual dual (is_in (without root unmatched)) 0 state.even;
+  even = parity_alike p nodes others alike state.matching.dual dual (is_in (names_without root unmatched)) 0 state.even;
 }
 
 found_here : (outer other : ℕ → Bool) → ((n : ℕ) → outer n ≡ other n) → (name v : ℕ) → outer name ≡ true → (ns : List Node) → is_live ns name ≡ true
-    → name_found other v ns ≡ None → name_found outer v (change_at name (taller v) ns) ≡ Some name
+    → name_found other v ns ≡ None → name_found outer v (change_at name (taller_node v) ns) ≡ Some name
 found_here outer other alike name v is [] live none = absurd (false≢true live)
 found_here outer other alike name v is (n ∷ ns) live none =
     step (cases_Bool (n.name == name)) (cases_Bool (other n.name && is_in n.top.vertices v)) (found_here outer other alike name v is ns)
@@ -177,27 +177,27 @@ found_here outer other alike name v is (n ∷ ns) live none =
     new m = other m.name && is_in m.top.vertices v
 
     step : ((n.name == name) ≡ true) ⊎ ((n.name == name) ≡ false) → (new n ≡ true) ⊎ (new n ≡ false)
-        → (is_live ns name ≡ true → name_found other v ns ≡ None → name_found outer v (change_at name (taller v) ns) ≡ Some name)
-        → option_map (λ x. x.name) (cond (old (cond (n.name == name) (taller v n) n)) (Some (cond (n.name == name) (taller v n) n)) (find old (change_at name (taller v) ns)))
+        → (is_live ns name ≡ true → name_found other v ns ≡ None → name_found outer v (change_at name (taller_node v) ns) ≡ Some name)
+        → option_map (λ x. x.name) (cond (old (cond (n.name == name) (taller_node v n) n)) (Some (cond (n.name == name) (taller_node v n) n)) (find old (change_at name (taller_node v) ns)))
         ≡ Some name
     step (inl here) test ih =
-        ap (λ b. option_map (λ x. x.name) (cond (old (cond b (taller v n) n)) (Some (cond b (taller v n) n)) (find old (change_at name (taller v) ns)))) here
-        ∙ (ap (λ b. option_map (λ x. x.name) (cond (b && is_in (n.top.vertices ++ v ∷ []) v) (Some (taller v n)) (find old (change_at name (taller v) ns))))
+        ap (λ b. option_map (λ x. x.name) (cond (old (cond b (taller_node v n) n)) (Some (cond b (taller_node v n) n)) (find old (change_at name (taller_node v) ns)))) here
+        ∙ (ap (λ b. option_map (λ x. x.name) (cond (b && is_in (n.top.vertices ++ v ∷ []) v) (Some (taller_node v n)) (find old (change_at name (taller_node v) ns))))
         (ap outer (eqb-true n.name name here) ∙ is)
-        ∙ (ap (λ b. option_map (λ x. x.name) (cond b (Some (taller v n)) (find old (change_at name (taller v) ns)))) (is_in_pushed n.top.vertices v)
+        ∙ (ap (λ b. option_map (λ x. x.name) (cond b (Some (taller_node v n)) (find old (change_at name (taller_node v) ns)))) (is_in_pushed n.top.vertices v)
         ∙ ap Some (eqb-true n.name name here)))
     step (inr there) (inl test) ih =
         let at : option_map (λ x. x.name) (cond (new n) (Some n) (find new ns)) ≡ Some n.name =
         ap (λ b. option_map (λ x. x.name) (cond b (Some n) (find new ns))) test in
         cc
     step (inr there) (inr test) ih =
-        ap (λ b. option_map (λ x. x.name) (cond (old (cond b (taller v n) n)) (Some (cond b (taller v n) n)) (find old (change_at name (taller v) ns)))) there
-        ∙ (ap (λ b. option_map (λ x. x.name) (cond b (Some n) (find old (change_at name (taller v) ns))))
+        ap (λ b. option_map (λ x. x.name) (cond (old (cond b (taller_node v n) n)) (Some (cond b (taller_node v n) n)) (find old (change_at name (taller_node v) ns)))) there
+        ∙ (ap (λ b. option_map (λ x. x.name) (cond b (Some n) (find old (change_at name (taller_node v) ns))))
         (ap (λ b. b && is_in n.top.vertices v) (alike n.name) ∙ test)
         ∙ ih (ap (λ b. b || is_live ns name) (sym there) ∙ live)
         (ap (λ b. option_map (λ x. x.name) (cond b (Some n) (find new ns))) (sym test) ∙ none))
 
 pub taller_covered : TallerCovered
 taller_covered nodes name v live outer none =
-    found_here (is_outer (change_at name (taller v) nodes)) (is_outer nodes) (λ n. outer_taller name v n nodes) name v
+    found_here (is_outer (change_at name (taller_node v) nodes)) (is_outer nodes) (λ n. outer_taller name v n nodes) name v
     (outer_taller name v name nodes ∙ outer) nodes live none

@@ -12,7 +12,7 @@ use Rattle.fb_laws.specs.LinkNumbers.{BranchesCounted, CycleCounted, LinksEnded,
 use Rattle.fb_laws.specs.OpenedCycles.{PassOf, grown_on, matched_on, opened_branches, opened_tree}
 use Rattle.fb_laws.specs.SearchBlossoms.{child_at, inner_branches, joined_tree, outer_branches, renamed_entry}
 use Rattle.fb_laws.specs.TreeCycles.{cycle_links, cycle_nodes, last_plus, links_along, links_back, nodes_along, nodes_back}
-use Rattle.fb_laws.specs.Trees.{EntryOf, beside, grown_links, minus_names, paired_links, path_to}
+use Rattle.fb_laws.specs.Trees.{EntryOf, branches_beside, grown_links, minus_names, paired_links, path_to}
 use Rattle.fb_laws.proofs.MergedParts.{distinct_across}
 use Rattle.fb_laws.proofs.OpenedCycles.{new_grown, new_paired}
 use Rattle.fb_laws.proofs.SearchTrees.{path_beside}
@@ -43,7 +43,7 @@ pub links_ended_of : {L : Type 0} (tree : List (EntryOf L)) (name : ℕ)
     → IsPermutation (tree_links tree) (links_matched tree name ++ links_dropped tree name)
 links_ended_of tree name =
     let up = path_to tree name in
-    let off = beside tree name in
+    let off = branches_beside tree name in
     IsPermutation-trans _ _ _
     (links_parted up off tree (IsPermutation-sym (up ++ off) tree (path_beside tree name)))
     (IsPermutation-trans _ _ _
@@ -121,15 +121,15 @@ same_elements {X} key xs (y ∷ ys) (new, distinct) within same =
     (IsPermutation-trans (before ++ y ∷ after) (y ∷ (before ++ after)) (y ∷ ys) (IsPermutation-middle before y after)
     (IsPermutation-cons y (before ++ after) ys
     (same_elements key (before ++ after) ys distinct
-    (λ z a. beside before after z a (among_either before (y ∷ after) z (subst (IsAmong z) is (within z (inr a)))))
+    (λ z a. branches_beside before after z a (among_either before (y ∷ after) z (subst (IsAmong z) is (within z (inr a)))))
     (let size : length xs ≡ length (before ++ y ∷ after) = ap length is in
     omega (arith, size, same, length-append before (y ∷ after), length-append before after)))))
   where
     beside : (before after : List X) (z : X) → IsAmong z ys → IsAmong z before ⊎ IsAmong z (y ∷ after) → IsAmong z (before ++ after)
-    beside before after z a (inl b) = among_left before after z b
-    beside before after z a (inr (inl here)) =
+    branches_beside before after z a (inl b) = among_left before after z b
+    branches_beside before after z a (inr (inl here)) =
         absurd (both_ways (is_in (map key ys) (key y)) new (subst (λ w. is_in (map key ys) (key w) ≡ true) (sym here) (among_key key ys z a)))
-    beside before after z a (inr (inr b)) = among_right before after z b
+    branches_beside before after z a (inr (inr b)) = among_right before after z b
 
 among_filter : {X : Type 0} (test : X → Bool) (xs : List X) (x : X) → IsAmong x xs → test x ≡ true → IsAmong x (filter test xs)
 among_filter test [] x a h = absurd a
@@ -144,11 +144,11 @@ among_filter {X} test (y ∷ ys) x a h = step (test y) refl a (λ b. among_filte
 
 path_in : {L : Type 0} (tree : List (EntryOf L)) (name : ℕ) (g : EntryOf L) → IsAmong g (path_to tree name) → IsAmong g tree
 path_in tree name g a =
-    All_among (λ x. IsAmong x tree) (path_to tree name ++ beside tree name)
-    (All-permutation (λ x. IsAmong x tree) tree (path_to tree name ++ beside tree name)
-    (IsPermutation-sym (path_to tree name ++ beside tree name) tree (path_beside tree name))
+    All_among (λ x. IsAmong x tree) (path_to tree name ++ branches_beside tree name)
+    (All-permutation (λ x. IsAmong x tree) tree (path_to tree name ++ branches_beside tree name)
+    (IsPermutation-sym (path_to tree name ++ branches_beside tree name) tree (path_beside tree name))
     (among_All (λ x. IsAmong x tree) tree (λ x b. b)))
-    g (among_left (path_to tree name) (beside tree name) g a)
+    g (among_left (path_to tree name) (branches_beside tree name) g a)
 
 minus_along : {L : Type 0} (es : List (EntryOf L)) (n : ℕ) → is_in (minus_names es) n ≡ true → is_in (nodes_along es) n ≡ true
 minus_along [] n within = within

@@ -5,18 +5,18 @@ use Rattle.std.proofs.lemmas.Bool.{both_ways, false≢true, cases_Bool, eqb-true
 use Rattle.std.proofs.lemmas.List.{length_push}
 use Rattle.std.proofs.lemmas.List.Sums.{sum_by-cons, sum_by-append}
 use Rattle.fb_graph.specs.Parity.{is_in}
-use Rattle.fb_graph.specs.Dual.{Node, leaves, cover_of, is_empty, is_live, is_outer, layers_of, node_at, no_node, change_at, taller}
+use Rattle.fb_graph.specs.Dual.{Node, leaves, cover_of, is_empty, is_live, is_outer, layers_of, node_at, no_node, change_at, taller_node}
 use Rattle.fb_graph.proofs.ParitySums.{and-true}
 use Rattle.fb_graph.proofs.Sets.{is_in-head, is_in-tail, is_in-range, All-from_is_in, member_of_odd}
 use Rattle.fb_graph.proofs.Sums.{sum_same, sum_le}
 use Rattle.fb_graph.specs.Counts.{as_count}
-use Rattle.fb_graph.specs.Covers.{is_over, passes}
-use Rattle.fb_graph.specs.Steps.{Roles, stepped, stepped_node}
+use Rattle.fb_graph.specs.Covers.{is_covered_by, passes}
+use Rattle.fb_graph.specs.Steps.{Roles, stepped_nodes, stepped_node}
 use Rattle.fb_laws.specs.Trees.{plus_names, minus_names, tree_names}
 use Rattle.fb_laws.specs.SearchLayers.{defects_beside, blossoms_beside, layers_in, FreeLowers, AttachLowers, AbsorbLowers, UncoverLowers}
 use Rattle.fb_laws.specs.Forming.{blossom_of, names_of}
 use Rattle.fb_laws.specs.SearchOpenings.{OpenedLowers}
-use Rattle.fb_laws.specs.SearchBlossoms.{renamed, joined_tree, JoinedLowers}
+use Rattle.fb_laws.specs.SearchBlossoms.{renamed_name, joined_tree, JoinedLowers}
 use Rattle.fb_graph.proofs.Crossings.{cover_found, some_passes}
 use Rattle.fb_laws.proofs.FallingRanks.{count_falls}
 use Rattle.fb_laws.proofs.JoinedSearches.{cover_formed, leaves_formed}
@@ -50,44 +50,44 @@ not_narrower false false h e = refl
 
 -- the defects beside fall where more are over, and one is over newly
 pub defects_fall : (test before : ℕ → Bool) (nodes others : List Node) (d : ℕ) → leaves others ≡ leaves nodes
-    → ((v : ℕ) → is_in (leaves nodes) v ≡ true → is_over before nodes v ≡ true → is_over test others v ≡ true)
-    → is_in (leaves nodes) d ≡ true → is_over test others d ≡ true → is_over before nodes d ≡ false
+    → ((v : ℕ) → is_in (leaves nodes) v ≡ true → is_covered_by before nodes v ≡ true → is_covered_by test others v ≡ true)
+    → is_in (leaves nodes) d ≡ true → is_covered_by test others d ≡ true → is_covered_by before nodes d ≡ false
     → defects_beside test others < defects_beside before nodes
 defects_fall test before nodes others d same wider leaf new old =
-    let fewer : count_by (λ v. not (is_over test others v) && is_in (leaves nodes) v) (leaves nodes) < count_by (λ v. not (is_over before nodes v)) (leaves nodes) =
-    count_falls (λ v. not (is_over test others v) && is_in (leaves nodes) v) (λ v. not (is_over before nodes v)) (leaves nodes) d
+    let fewer : count_by (λ v. not (is_covered_by test others v) && is_in (leaves nodes) v) (leaves nodes) < count_by (λ v. not (is_covered_by before nodes v)) (leaves nodes) =
+    count_falls (λ v. not (is_covered_by test others v) && is_in (leaves nodes) v) (λ v. not (is_covered_by before nodes v)) (leaves nodes) d
     (λ v passing.
-    let parts = and_parts (not (is_over test others v)) (is_in (leaves nodes) v) passing in
-    not_narrower (is_over test others v) (is_over before nodes v) (wider v parts.1) parts.0)
-    leaf (and_left (not (is_over test others d)) (is_in (leaves nodes) d) (not_from_true (is_over test others d) new)) (not_from_false (is_over before nodes d) old) in
-    let alike : count_by (λ v. not (is_over test others v)) (leaves nodes) ≡ count_by (λ v. not (is_over test others v) && is_in (leaves nodes) v) (leaves nodes) =
-    same_count (λ v. not (is_over test others v)) (λ v. not (is_over test others v) && is_in (leaves nodes) v) (leaves nodes)
-    (λ v among. sym (ap (λ b. not (is_over test others v) && b) among ∙ and-true (not (is_over test others v)))) in
-    omega (arith, fewer, alike, ap (λ l. count_by (λ v. not (is_over test others v)) l) same)
+    let parts = and_parts (not (is_covered_by test others v)) (is_in (leaves nodes) v) passing in
+    not_narrower (is_covered_by test others v) (is_covered_by before nodes v) (wider v parts.1) parts.0)
+    leaf (and_left (not (is_covered_by test others d)) (is_in (leaves nodes) d) (not_from_true (is_covered_by test others d) new)) (not_from_false (is_covered_by before nodes d) old) in
+    let alike : count_by (λ v. not (is_covered_by test others v)) (leaves nodes) ≡ count_by (λ v. not (is_covered_by test others v) && is_in (leaves nodes) v) (leaves nodes) =
+    same_count (λ v. not (is_covered_by test others v)) (λ v. not (is_covered_by test others v) && is_in (leaves nodes) v) (leaves nodes)
+    (λ v among. sym (ap (λ b. not (is_covered_by test others v) && b) among ∙ and-true (not (is_covered_by test others v)))) in
+    omega (arith, fewer, alike, ap (λ l. count_by (λ v. not (is_covered_by test others v)) l) same)
 
 defects_same : (test : ℕ → Bool) (nodes others : List Node) → leaves others ≡ leaves nodes
     → ((v : ℕ) → is_in (leaves nodes) v ≡ true → cover_of others v ≡ cover_of nodes v) → defects_beside test others ≡ defects_beside test nodes
 defects_same test nodes others same covers =
-    ap (λ l. count_by (λ v. not (is_over test others v)) l) same
-    ∙ same_count (λ v. not (is_over test others v)) (λ v. not (is_over test nodes v)) (leaves nodes)
+    ap (λ l. count_by (λ v. not (is_covered_by test others v)) l) same
+    ∙ same_count (λ v. not (is_covered_by test others v)) (λ v. not (is_covered_by test nodes v)) (leaves nodes)
     (λ v among. ap (λ o. not (passes test o)) (covers v among))
 
-stepped_names : (roles : Roles) (k : ℕ) (test : ℕ → Bool) (nodes : List Node) → blossoms_beside test (stepped roles k nodes) ≡ blossoms_beside test nodes
+stepped_names : (roles : Roles) (k : ℕ) (test : ℕ → Bool) (nodes : List Node) → blossoms_beside test (stepped_nodes roles k nodes) ≡ blossoms_beside test nodes
 stepped_names roles k test [] = refl
 stepped_names roles k test (n ∷ ns) =
     omega (
       arith,
-      sum_by-cons (λ (m : Node). as_count (not (is_empty m.children) && not (test m.name))) (stepped_node roles k n) (stepped roles k ns),
+      sum_by-cons (λ (m : Node). as_count (not (is_empty m.children) && not (test m.name))) (stepped_node roles k n) (stepped_nodes roles k ns),
       sum_by-cons (λ (m : Node). as_count (not (is_empty m.children) && not (test m.name))) n ns,
       stepped_names roles k test ns,
     )
 
-stepped_layers : (roles : Roles) (k : ℕ) (test : ℕ → Bool) (nodes : List Node) → layers_in test (stepped roles k nodes) ≡ layers_in test nodes
+stepped_layers : (roles : Roles) (k : ℕ) (test : ℕ → Bool) (nodes : List Node) → layers_in test (stepped_nodes roles k nodes) ≡ layers_in test nodes
 stepped_layers roles k test [] = refl
 stepped_layers roles k test (n ∷ ns) =
     omega (
       arith,
-      sum_by-cons (λ (m : Node). cond (test m.name) (length (layers_of m)) 0) (stepped_node roles k n) (stepped roles k ns),
+      sum_by-cons (λ (m : Node). cond (test m.name) (length (layers_of m)) 0) (stepped_node roles k n) (stepped_nodes roles k ns),
       sum_by-cons (λ (m : Node). cond (test m.name) (length (layers_of m)) 0) n ns,
       stepped_layers roles k test ns,
       ap (λ m. cond (test n.name) m 0) (length_push n.below (stepped_node roles k n).top ∙ sym (length_push n.below n.top)),
@@ -96,13 +96,13 @@ stepped_layers roles k test (n ∷ ns) =
 pub free_lowers : FreeLowers
 free_lowers p nodes roles k =
     inr (
-      omega (arith, defects_same roles.is_plus nodes (stepped roles k nodes) (leaves_stepped roles nodes k) (λ v among. cover_stepped roles nodes k v)),
+      omega (arith, defects_same roles.is_plus nodes (stepped_nodes roles k nodes) (leaves_stepped roles nodes k) (λ v among. cover_stepped roles nodes k v)),
       inr (
         omega (arith, stepped_names roles k roles.is_plus nodes),
         inr (
           omega (
             arith,
-            same_count (λ v. not (is_over roles.is_plus (stepped roles k nodes) v)) (λ v. not (is_over roles.is_plus nodes v)) (range_with_len 0 p.vertices)
+            same_count (λ v. not (is_covered_by roles.is_plus (stepped_nodes roles k nodes) v)) (λ v. not (is_covered_by roles.is_plus nodes v)) (range_with_len 0 p.vertices)
                 (λ v among. ap (λ o. not (passes roles.is_plus o)) (cover_stepped roles nodes k v)),
           ),
           inr (omega (arith, stepped_layers roles k roles.is_minus nodes), inl (omega arith)),
@@ -125,18 +125,18 @@ attach_lowers p nodes tree e rest unmatched root r free freed state =
     ∙ false_from_ne_true (is_in (plus_names root tree) e.plus)
     (λ plus. both_ways (is_in (tree_names root tree) e.plus) state.names.1.0 (plus_in_tree root tree e.plus plus))))
 
-taller_names : (name v : ℕ) (test : ℕ → Bool) (nodes : List Node) → blossoms_beside test (change_at name (taller v) nodes) ≡ blossoms_beside test nodes
+taller_names : (name v : ℕ) (test : ℕ → Bool) (nodes : List Node) → blossoms_beside test (change_at name (taller_node v) nodes) ≡ blossoms_beside test nodes
 taller_names name v test [] = refl
 taller_names name v test (n ∷ ns) =
     omega (
       arith,
-      sum_by-cons (λ (m : Node). as_count (not (is_empty m.children) && not (test m.name))) (cond (n.name == name) (taller v n) n) (change_at name (taller v) ns),
+      sum_by-cons (λ (m : Node). as_count (not (is_empty m.children) && not (test m.name))) (cond (n.name == name) (taller_node v n) n) (change_at name (taller_node v) ns),
       sum_by-cons (λ (m : Node). as_count (not (is_empty m.children) && not (test m.name))) n ns,
       taller_names name v test ns,
       one (n.name == name),
     )
   where
-    one : (b : Bool) → as_count (not (is_empty (cond b (taller v n) n).children) && not (test (cond b (taller v n) n).name))
+    one : (b : Bool) → as_count (not (is_empty (cond b (taller_node v n) n).children) && not (test (cond b (taller_node v n) n).name))
         ≡ as_count (not (is_empty n.children) && not (test n.name))
     one true = refl
     one false = refl
@@ -146,37 +146,37 @@ abbrev counted : (ℕ → Bool) → Node → ℕ
 counted test n = cond (test n.name) (length (layers_of n)) 0
 
 -- a layer more is not less
-counted_le : (test : ℕ → Bool) (v : ℕ) (b : Bool) (n : Node) → counted test n ≤ counted test (cond b (taller v n) n)
+counted_le : (test : ℕ → Bool) (v : ℕ) (b : Bool) (n : Node) → counted test n ≤ counted test (cond b (taller_node v n) n)
 counted_le test v false n = omega arith
 counted_le test v true n = step (test n.name)
   where
-    step : (c : Bool) → cond c (length (layers_of n)) 0 ≤ cond c (length (layers_of (taller v n))) 0
-    step true = omega (arith, length_push (layers_of n) (taller v n).top)
+    step : (c : Bool) → cond c (length (layers_of n)) 0 ≤ cond c (length (layers_of (taller_node v n))) 0
+    step true = omega (arith, length_push (layers_of n) (taller_node v n).top)
     step false = omega arith
 
-taller_layers : (name v : ℕ) (test : ℕ → Bool) (nodes : List Node) → layers_in test nodes ≤ layers_in test (change_at name (taller v) nodes)
+taller_layers : (name v : ℕ) (test : ℕ → Bool) (nodes : List Node) → layers_in test nodes ≤ layers_in test (change_at name (taller_node v) nodes)
 taller_layers name v test [] = omega arith
 taller_layers name v test (n ∷ ns) =
     omega (
       arith,
-      sum_by-cons (counted test) (cond (n.name == name) (taller v n) n) (change_at name (taller v) ns),
+      sum_by-cons (counted test) (cond (n.name == name) (taller_node v n) n) (change_at name (taller_node v) ns),
       sum_by-cons (counted test) n ns,
       taller_layers name v test ns,
       counted_le test v (n.name == name) n,
     )
 
 pub taller_layers_more : (name v : ℕ) (test : ℕ → Bool) → test name ≡ true → (nodes : List Node) → is_live nodes name ≡ true
-    → layers_in test nodes < layers_in test (change_at name (taller v) nodes)
+    → layers_in test nodes < layers_in test (change_at name (taller_node v) nodes)
 taller_layers_more name v test passing [] live = absurd (false≢true live)
 taller_layers_more name v test passing (n ∷ ns) live =
     step (cases_Bool (n.name == name)) (taller_layers_more name v test passing ns)
   where
-    sums : layers_in test (change_at name (taller v) (n ∷ ns)) ≡ counted test (cond (n.name == name) (taller v n) n) + layers_in test (change_at name (taller v) ns)
-    sums = sum_by-cons (counted test) (cond (n.name == name) (taller v n) n) (change_at name (taller v) ns)
+    sums : layers_in test (change_at name (taller_node v) (n ∷ ns)) ≡ counted test (cond (n.name == name) (taller_node v n) n) + layers_in test (change_at name (taller_node v) ns)
+    sums = sum_by-cons (counted test) (cond (n.name == name) (taller_node v n) n) (change_at name (taller_node v) ns)
 
     step : ((n.name == name) ≡ true) ⊎ ((n.name == name) ≡ false)
-        → (is_live ns name ≡ true → layers_in test ns < layers_in test (change_at name (taller v) ns))
-        → layers_in test (n ∷ ns) < layers_in test (change_at name (taller v) (n ∷ ns))
+        → (is_live ns name ≡ true → layers_in test ns < layers_in test (change_at name (taller_node v) ns))
+        → layers_in test (n ∷ ns) < layers_in test (change_at name (taller_node v) (n ∷ ns))
     step (inl here) rest =
         let counts : test n.name ≡ true = ap test (eqb-true n.name name here) ∙ passing in
         omega (
@@ -184,10 +184,10 @@ taller_layers_more name v test passing (n ∷ ns) live =
           sums,
           sum_by-cons (counted test) n ns,
           taller_layers name v test ns,
-          ap (λ b. counted test (cond b (taller v n) n)) here,
-          ap (λ c. cond c (length (layers_of (taller v n))) 0) counts,
+          ap (λ b. counted test (cond b (taller_node v n) n)) here,
+          ap (λ c. cond c (length (layers_of (taller_node v n))) 0) counts,
           ap (λ c. cond c (length (layers_of n)) 0) counts,
-          length_push (layers_of n) (taller v n).top,
+          length_push (layers_of n) (taller_node v n).top,
         )
     step (inr other) rest =
         omega (
@@ -208,28 +208,28 @@ absorb_lowers p nodes roles name v free freed no_leaf below plus live outer none
     inr (
       omega (
         arith,
-        defects_same roles.is_plus nodes (change_at name (taller v) nodes) (leaves_taller name v nodes)
+        defects_same roles.is_plus nodes (change_at name (taller_node v) nodes) (leaves_taller name v nodes)
             (λ d leaf. taller_covers nodes name v d (other_defect nodes v d no_leaf leaf)),
       ),
       inr (
         omega (arith, taller_names name v roles.is_plus nodes),
         inl
-            (count_falls (λ x. not (is_over roles.is_plus (change_at name (taller v) nodes) x)) (λ x. not (is_over roles.is_plus nodes x))
+            (count_falls (λ x. not (is_covered_by roles.is_plus (change_at name (taller_node v) nodes) x)) (λ x. not (is_covered_by roles.is_plus nodes x))
             (range_with_len 0 p.vertices) v
-            (λ x. not_narrower (is_over roles.is_plus (change_at name (taller v) nodes) x) (is_over roles.is_plus nodes x) (wider x))
+            (λ x. not_narrower (is_covered_by roles.is_plus (change_at name (taller_node v) nodes) x) (is_covered_by roles.is_plus nodes x) (wider x))
             (is_in-range p.vertices v below)
-            (not_from_true (is_over roles.is_plus (change_at name (taller v) nodes) v)
+            (not_from_true (is_covered_by roles.is_plus (change_at name (taller_node v) nodes) v)
             (ap (passes roles.is_plus) (taller_covered nodes name v live outer none) ∙ plus))
-            (not_from_false (is_over roles.is_plus nodes v) (ap (passes roles.is_plus) none))),
+            (not_from_false (is_covered_by roles.is_plus nodes v) (ap (passes roles.is_plus) none))),
       ),
     )
   where
-    wider : (x : ℕ) → is_over roles.is_plus nodes x ≡ true → is_over roles.is_plus (change_at name (taller v) nodes) x ≡ true
+    wider : (x : ℕ) → is_covered_by roles.is_plus nodes x ≡ true → is_covered_by roles.is_plus (change_at name (taller_node v) nodes) x ≡ true
     wider x over = step (cases_Bool (v == x))
       where
-        step : ((v == x) ≡ true) ⊎ ((v == x) ≡ false) → is_over roles.is_plus (change_at name (taller v) nodes) x ≡ true
+        step : ((v == x) ≡ true) ⊎ ((v == x) ≡ false) → is_covered_by roles.is_plus (change_at name (taller_node v) nodes) x ≡ true
         step (inl same) =
-            absurd (both_ways (is_over roles.is_plus nodes x) (ap (is_over roles.is_plus nodes) (sym (eqb-true v x same)) ∙ ap (passes roles.is_plus) none) over)
+            absurd (both_ways (is_covered_by roles.is_plus nodes x) (ap (is_covered_by roles.is_plus nodes) (sym (eqb-true v x same)) ∙ ap (passes roles.is_plus) none) over)
         step (inr other) = ap (passes roles.is_plus) (taller_covers nodes name v x other) ∙ over
 
 pub uncover_lowers : UncoverLowers
@@ -237,46 +237,46 @@ uncover_lowers p nodes roles name v free freed no_leaf minus not_plus live outer
     inr (
       omega (
         arith,
-        defects_same roles.is_plus nodes (change_at name (taller v) nodes) (leaves_taller name v nodes)
+        defects_same roles.is_plus nodes (change_at name (taller_node v) nodes) (leaves_taller name v nodes)
             (λ d leaf. taller_covers nodes name v d (other_defect nodes v d no_leaf leaf)),
       ),
       inr (
         omega (arith, taller_names name v roles.is_plus nodes),
         inr (
-          less_count (λ x. not (is_over roles.is_plus nodes x)) (λ x. not (is_over roles.is_plus (change_at name (taller v) nodes) x))
+          less_count (λ x. not (is_covered_by roles.is_plus nodes x)) (λ x. not (is_covered_by roles.is_plus (change_at name (taller_node v) nodes) x))
               (range_with_len 0 p.vertices)
-              (λ x. not_narrower (is_over roles.is_plus nodes x) (is_over roles.is_plus (change_at name (taller v) nodes) x) (wider x)),
+              (λ x. not_narrower (is_covered_by roles.is_plus nodes x) (is_covered_by roles.is_plus (change_at name (taller_node v) nodes) x) (wider x)),
           inl (taller_layers_more name v roles.is_minus minus nodes live),
         ),
       ),
     )
   where
-    wider : (x : ℕ) → is_over roles.is_plus (change_at name (taller v) nodes) x ≡ true → is_over roles.is_plus nodes x ≡ true
+    wider : (x : ℕ) → is_covered_by roles.is_plus (change_at name (taller_node v) nodes) x ≡ true → is_covered_by roles.is_plus nodes x ≡ true
     wider x over = step (cases_Bool (v == x))
       where
-        step : ((v == x) ≡ true) ⊎ ((v == x) ≡ false) → is_over roles.is_plus nodes x ≡ true
+        step : ((v == x) ≡ true) ⊎ ((v == x) ≡ false) → is_covered_by roles.is_plus nodes x ≡ true
         step (inl same) =
             absurd
-            (both_ways (is_over roles.is_plus (change_at name (taller v) nodes) x)
-            (ap (is_over roles.is_plus (change_at name (taller v) nodes)) (sym (eqb-true v x same))
+            (both_ways (is_covered_by roles.is_plus (change_at name (taller_node v) nodes) x)
+            (ap (is_covered_by roles.is_plus (change_at name (taller_node v) nodes)) (sym (eqb-true v x same))
             ∙ (ap (passes roles.is_plus) (taller_covered nodes name v live outer none) ∙ not_plus)) over)
         step (inr other) = ap (passes roles.is_plus) (sym (taller_covers nodes name v x other)) ∙ over
 
 pub joined_lowers : JoinedLowers
 joined_lowers p nodes tree rest unmatched root r name base others minus free freed joining dual state minus_is among =
     inl
-    (defects_fall (is_in (plus_names (renamed joined name root) (joined_tree joined name tree))) (is_in (plus_names root tree)) nodes
+    (defects_fall (is_in (plus_names (renamed_name joined name root) (joined_tree joined name tree))) (is_in (plus_names root tree)) nodes
     (nodes ++ blossom_of name (base ∷ others) ∷ []) found.0
     (leaves_formed p nodes name base others joining.nodes_are state.matching.dual dual joining.fresh)
     (λ v leaf over.
     let (n, is, plus) = some_passes (is_in (plus_names root tree)) (cover_of nodes v) over in
-    ap (passes (is_in (plus_names (renamed joined name root) (joined_tree joined name tree))))
+    ap (passes (is_in (plus_names (renamed_name joined name root) (joined_tree joined name tree))))
     (cover_formed p nodes name base others joining.nodes_are state.matching.dual dual joining.fresh v n is)
     ∙ plus_kept joined name base.name root nodes tree state.joined joining.branches n plus)
     found.1
-    (ap (passes (is_in (plus_names (renamed joined name root) (joined_tree joined name tree))))
+    (ap (passes (is_in (plus_names (renamed_name joined name root) (joined_tree joined name tree))))
     (cover_formed p nodes name base others joining.nodes_are state.matching.dual dual joining.fresh found.0 minus found.2)
-    ∙ (ap (is_in (plus_names (renamed joined name root) (joined_tree joined name tree)))
+    ∙ (ap (is_in (plus_names (renamed_name joined name root) (joined_tree joined name tree)))
     (new_in joined name base.name root minus among ∙ sym (new_in joined name base.name root base.name (is_in-head base.name (names_of others))))
     ∙ plus_kept joined name base.name root nodes tree state.joined joining.branches base.name joining.plus))
     (ap (passes (is_in (plus_names root tree))) found.2
@@ -299,15 +299,15 @@ opened_lowers p before after b children roles later free freed split not_plus ha
     inr (
       omega (
         arith,
-        ap (λ l. count_by (λ v. not (is_over later.is_plus (before ++ after) v)) l) split.defects,
-        same_count (λ v. not (is_over later.is_plus (before ++ after) v))
-            (λ v. not (is_over later.is_plus (before ++ after) v) && is_in (leaves (before ++ b ∷ after)) v) (leaves (before ++ b ∷ after))
-            (λ v among. sym (ap (λ c. not (is_over later.is_plus (before ++ after) v) && c) among ∙ and-true (not (is_over later.is_plus (before ++ after) v)))),
-        less_count (λ v. not (is_over later.is_plus (before ++ after) v) && is_in (leaves (before ++ b ∷ after)) v)
-            (λ v. not (is_over roles.is_plus (before ++ b ∷ after) v)) (leaves (before ++ b ∷ after))
+        ap (λ l. count_by (λ v. not (is_covered_by later.is_plus (before ++ after) v)) l) split.defects,
+        same_count (λ v. not (is_covered_by later.is_plus (before ++ after) v))
+            (λ v. not (is_covered_by later.is_plus (before ++ after) v) && is_in (leaves (before ++ b ∷ after)) v) (leaves (before ++ b ∷ after))
+            (λ v among. sym (ap (λ c. not (is_covered_by later.is_plus (before ++ after) v) && c) among ∙ and-true (not (is_covered_by later.is_plus (before ++ after) v)))),
+        less_count (λ v. not (is_covered_by later.is_plus (before ++ after) v) && is_in (leaves (before ++ b ∷ after)) v)
+            (λ v. not (is_covered_by roles.is_plus (before ++ b ∷ after) v)) (leaves (before ++ b ∷ after))
             (λ v passing.
-            let parts = and_parts (not (is_over later.is_plus (before ++ after) v)) (is_in (leaves (before ++ b ∷ after)) v) passing in
-            not_narrower (is_over later.is_plus (before ++ after) v) (is_over roles.is_plus (before ++ b ∷ after) v)
+            let parts = and_parts (not (is_covered_by later.is_plus (before ++ after) v)) (is_in (leaves (before ++ b ∷ after)) v) passing in
+            not_narrower (is_covered_by later.is_plus (before ++ after) v) (is_covered_by roles.is_plus (before ++ b ∷ after) v)
             (λ over.
             let (n, is, plus) = some_passes roles.is_plus (cover_of (before ++ b ∷ after) v) over in
             ap (passes later.is_plus)

@@ -15,7 +15,7 @@ use Rattle.fb_graph.specs.Ends.{ends_in}
 use Rattle.fb_laws.specs.Paths.{Branch, IsPath, LeadsOut, tip_of, tree_links, matched_links, holds, IsWhole, AreWholeOnPath}
 use Rattle.fb_graph.specs.Links.{IsTightLink}
 use Rattle.fb_laws.specs.Fusion.{IsLinkOf}
-use Rattle.fb_laws.specs.Works.{AreMatchedLinks, IsSetOf, IsBranchOf, without, MatchingReleased, MatchingAugmented, MatchingMet}
+use Rattle.fb_laws.specs.Works.{AreMatchedLinks, IsSetOf, IsBranchOf, names_without, MatchingReleased, MatchingAugmented, MatchingMet}
 use Rattle.fb_laws.proofs.BlossomSums.{whole_apart, whole_itself, holds_apart, holds_itself}
 use Rattle.fb_graph.proofs.Crossings.{one_of_name}
 use Rattle.fb_graph.proofs.EndSums.{apart_sym, ends_append, ends-cons}
@@ -169,7 +169,7 @@ matching_augmented p nodes name root path out v rest unmatched work is among bra
   matched =
       All-from_get_or
       (λ n. is_outer nodes n.name ≡ true
-      → ends_in n.top.vertices (tree_links path ++ out ∷ rest) + as_count (is_in (without name unmatched) n.name) ≡ 1)
+      → ends_in n.top.vertices (tree_links path ++ out ∷ rest) + as_count (is_in (names_without name unmatched) n.name) ≡ 1)
       nodes no_node
       (λ i less outer.
       ap (λ b. ends_in (node_at nodes i).top.vertices (tree_links path ++ out ∷ rest) + as_count b)
@@ -194,11 +194,11 @@ matching_met p nodes name other root set path out v rest unmatched work is among
   matched =
       All-from_get_or
       (λ n. is_outer nodes n.name ≡ true
-      → ends_in n.top.vertices (tree_links path ++ out ∷ rest) + as_count (is_in (without name (without other unmatched)) n.name) ≡ 1)
+      → ends_in n.top.vertices (tree_links path ++ out ∷ rest) + as_count (is_in (names_without name (names_without other unmatched)) n.name) ≡ 1)
       nodes no_node
       (λ i less outer.
       ap (λ b. ends_in (node_at nodes i).top.vertices (tree_links path ++ out ∷ rest) + as_count b)
-      (is_in-filter (λ n. not (n == name)) (without other unmatched) (node_at nodes i).name
+      (is_in-filter (λ n. not (n == name)) (names_without other unmatched) (node_at nodes i).name
       ∙ ap (λ b. b && not ((node_at nodes i).name == name)) (is_in-filter (λ n. not (n == other)) unmatched (node_at nodes i).name))
       ∙ removed_two (is_in unmatched (node_at nodes i).name) ((node_at nodes i).name == name) ((node_at nodes i).name == other)
       (ends_in (node_at nodes i).top.vertices (matched_links path ++ rest))
@@ -234,7 +234,7 @@ matching_released p nodes name other root set path out old v b rest unmatched wo
   matched =
       All-from_get_or
       (λ n. is_outer nodes n.name ≡ true
-      → ends_in n.top.vertices (tree_links path ++ out ∷ rest) + as_count (is_in (without name unmatched) n.name) ≡ 1)
+      → ends_in n.top.vertices (tree_links path ++ out ∷ rest) + as_count (is_in (names_without name unmatched) n.name) ≡ 1)
       nodes no_node
       (λ i less outer.
       ap (λ x. ends_in (node_at nodes i).top.vertices (tree_links path ++ out ∷ rest) + as_count x)

@@ -8,19 +8,19 @@ use Rattle.std.proofs.lemmas.List.Elements.{All-head, All-tail, All-map, All-wea
 use Rattle.fb_graph.specs.Parity.{is_in}
 use Rattle.fb_graph.specs.Problem.{Problem}
 use Rattle.fb_graph.specs.Certificate.{AreDistinct}
-use Rattle.fb_graph.specs.Dual.{Node, IsDual, cover_of, is_live, is_outer, leaves, taller, top_at, change_at}
+use Rattle.fb_graph.specs.Dual.{Node, IsDual, cover_of, is_live, is_outer, leaves, taller_node, top_at, change_at}
 use Rattle.fb_graph.specs.declared.parts.Cut.{Cut}
 use Rattle.fb_graph.proofs.Members.{is_in_pushed}
 use Rattle.fb_graph.proofs.Sets.{is_in-All, is_in-head, is_in-tail}
 use Rattle.fb_laws.specs.Forming.{Child, blossom_of, names_of, sets_of}
 use Rattle.fb_laws.specs.Works.{IsSetOf}
 use Rattle.fb_graph.specs.Nests.{IsNest}
-use Rattle.fb_graph.specs.Moves.{MayUncover, joined, lower, taken_up, uncovered}
+use Rattle.fb_graph.specs.Moves.{MayUncover, joined_nodes, without_top, absorbed_nodes, uncovered_nodes}
 use Rattle.fb_laws.specs.Measures.{IsLower}
-use Rattle.fb_laws.specs.SearchBlossoms.{inner_branches, joined_tree, renamed}
+use Rattle.fb_laws.specs.SearchBlossoms.{inner_branches, joined_tree, renamed_name}
 use Rattle.fb_laws.specs.SearchLayers.{left_to_do}
 use Rattle.fb_laws.specs.Trees.{Entry, minus_names, roles_of}
-use Rattle.fb_laws.specs.NestBridges.{BlossomNamed, BlossomOuter, JoiningAllowed, JoiningLowers, TakenUpLowers, UncoveredBack, UncoveredLowers}
+use Rattle.fb_laws.specs.NestBridges.{BlossomNamed, BlossomOuter, JoiningAllowed, JoiningLowers, AbsorbedLowers, UncoveredBack, UncoveredLowers}
 use Rattle.fb_graph.proofs.Among.{IsAmong, All_among, among_either, among_live, among_map, among_outer, map_among, apart_among, cover_among, same_among}
 use Rattle.fb_graph.proofs.ChangedNodes.{change, by_name}
 use Rattle.fb_graph.proofs.JoinedNests.{nest_joined}
@@ -80,17 +80,17 @@ blossom_outer p nodes name children nest are fresh =
     among_outer (nodes ++ blossom_of name children ∷ []) name
     (λ q a. false_from_ne_true (is_in q.children name)
     (λ child. both_ways (is_live nodes name) fresh
-    (joined q (among_either nodes (blossom_of name children ∷ []) q a) child)))
+    (joined_nodes q (among_either nodes (blossom_of name children ∷ []) q a) child)))
   where
     joined : (q : Node) → IsAmong q nodes ⊎ IsAmong q (blossom_of name children ∷ [])
         → is_in q.children name ≡ true → is_live nodes name ≡ true
-    joined q (inl b) child =
+    joined_nodes q (inl b) child =
         is_in-All (λ c. is_live nodes c ≡ true) q.children
         (All_among (λ n. All (λ c. is_live nodes c ≡ true) n.children) nodes nest.forest.live q b) name child
-    joined q (inr (inl e)) child =
+    joined_nodes q (inr (inl e)) child =
         is_in-All (λ c. is_live nodes c ≡ true) (names_of children) (children_live nodes children are) name
         (ap (λ n. is_in n.children name) e ∙ child)
-    joined q (inr (inr none)) child = absurd none
+    joined_nodes q (inr (inr none)) child = absurd none
 
 -- a change of each node undone
 undone : (name : ℕ) (f g : Node → Node) (ns : List Node)
@@ -118,82 +118,82 @@ module _ (p : Problem) (nodes : List Node) (name : ℕ) (may : MayUncover nodes 
   abbrev vertex : ℕ
   vertex = (added p nodes name may nest node among named).0
 
-  pushed : node.top.vertices ≡ (lower node).top.vertices ++ vertex ∷ []
+  pushed : node.top.vertices ≡ (without_top node).top.vertices ++ vertex ∷ []
   pushed = (added p nodes name may nest node among named).1
 
   abbrev with_layers : List Cut → ℕ → List ℕ → Node
   with_layers below value set = record node { below = below; top = record { value = value; vertices = set } }
 
-  raised : taller vertex (lower node) ≡ node
+  raised : taller_node vertex (without_top node) ≡ node
   raised =
-      ap (λ b. with_layers b 0 ((lower node).top.vertices ++ vertex ∷ []))
+      ap (λ b. with_layers b 0 ((without_top node).top.vertices ++ vertex ∷ []))
       (layers p nodes name may nest node among named)
       ∙ (ap (with_layers node.below 0) (sym pushed)
       ∙ ap (λ y. with_layers node.below y node.top.vertices) (sym (bare p nodes name may nest node among named).1))
 
-  outer_same : (x : ℕ) → is_outer (uncovered name nodes) x ≡ is_outer nodes x
-  outer_same x = mapped_outer (change name lower) (kept p nodes name may nest).children nodes x
+  outer_same : (x : ℕ) → is_outer (uncovered_nodes name nodes) x ≡ is_outer nodes x
+  outer_same x = mapped_outer (change name without_top) (kept p nodes name may nest).children nodes x
 
-  given_back : taken_up name vertex (uncovered name nodes) ≡ nodes
-  given_back = undone name (taller vertex) lower nodes each
+  given_back : absorbed_nodes name vertex (uncovered_nodes name nodes) ≡ nodes
+  given_back = undone name (taller_node vertex) without_top nodes each
     where
-      each : (n : Node) → IsAmong n nodes → change name (taller vertex) (change name lower n) ≡ n
+      each : (n : Node) → IsAmong n nodes → change name (taller_node vertex) (change name without_top n) ≡ n
       each n a =
-          by_name (λ m. change name (taller vertex) m ≡ n) name lower n
+          by_name (λ m. change name (taller_node vertex) m ≡ n) name without_top n
           (λ e.
-          by_name (λ m. m ≡ n) name (taller vertex) (lower n)
-          (λ f. subst (λ m. taller vertex (lower m) ≡ m)
+          by_name (λ m. m ≡ n) name (taller_node vertex) (without_top n)
+          (λ f. subst (λ m. taller_node vertex (without_top m) ≡ m)
           (same_among nodes nest.dual.names node n among a (named ∙ sym e)) raised)
           (λ other. absurd (other e)))
-          (λ other. by_name (λ m. m ≡ n) name (taller vertex) n (λ e. absurd (other e)) (λ other. refl))
+          (λ other. by_name (λ m. m ≡ n) name (taller_node vertex) n (λ e. absurd (other e)) (λ other. refl))
 
-  not_held : is_in (lower node).top.vertices vertex ≡ false
+  not_held : is_in (without_top node).top.vertices vertex ≡ false
   not_held =
-      false_from_ne_true (is_in (lower node).top.vertices vertex)
+      false_from_ne_true (is_in (without_top node).top.vertices vertex)
       (λ held.
       both_ways (is_in (vertex ∷ []) vertex)
-      (distinct_across (lower node).top.vertices (vertex ∷ []) vertex
+      (distinct_across (without_top node).top.vertices (vertex ∷ []) vertex
       (subst AreDistinct pushed (top_is_odd p nodes nest node among).distinct) held)
       (is_in-head vertex []))
 
   -- another outer node lies apart, and the node itself holds it no more
   not_over : (m : Node) → IsAmong m nodes → is_outer nodes m.name ≡ true
-      → is_in (change name lower m).top.vertices vertex ≡ true → ⊥
+      → is_in (change name without_top m).top.vertices vertex ≡ true → ⊥
   not_over m a outer held = step (cases_eq m.name name)
     where
       step : (m.name ≡ name) ⊎ (m.name ≡ name → ⊥) → ⊥
       step (inl e) =
-          both_ways (is_in (lower node).top.vertices vertex) not_held
-          (subst (λ x. is_in (lower x).top.vertices vertex ≡ true)
+          both_ways (is_in (without_top node).top.vertices vertex) not_held
+          (subst (λ x. is_in (without_top x).top.vertices vertex ≡ true)
           (same_among nodes nest.dual.names m node a among (e ∙ sym named))
           (by_name (λ x. is_in x.top.vertices vertex ≡ true
-          → is_in (lower m).top.vertices vertex ≡ true) name lower m (λ same h. h)
+          → is_in (without_top m).top.vertices vertex ≡ true) name without_top m (λ same h. h)
           (λ other. absurd (other e)) held))
       step (inr other) =
           both_ways (is_in node.top.vertices vertex)
           (apart_among nodes nest.dual.names nest.dual.apart m node a among (λ same. other (same ∙ named)) outer
           (ap (is_outer nodes) named ∙ may.outer) vertex
-          (by_name (λ x. is_in x.top.vertices vertex ≡ true → is_in m.top.vertices vertex ≡ true) name lower m
+          (by_name (λ x. is_in x.top.vertices vertex ≡ true → is_in m.top.vertices vertex ≡ true) name without_top m
           (λ e. absurd (other e))
           (λ same h. h) held))
-          (ap (λ l. is_in l vertex) pushed ∙ is_in_pushed (lower node).top.vertices vertex)
+          (ap (λ l. is_in l vertex) pushed ∙ is_in_pushed (without_top node).top.vertices vertex)
 
-  uncovered_vertex : cover_of (uncovered name nodes) vertex ≡ None
-  uncovered_vertex = no_name (cover_of (uncovered name nodes) vertex) none
+  uncovered_vertex : cover_of (uncovered_nodes name nodes) vertex ≡ None
+  uncovered_vertex = no_name (cover_of (uncovered_nodes name nodes) vertex) none
     where
-      none : (n : ℕ) → cover_of (uncovered name nodes) vertex ≡ Some n → ⊥
+      none : (n : ℕ) → cover_of (uncovered_nodes name nodes) vertex ≡ Some n → ⊥
       none n cover =
-          let over = cover_among (uncovered name nodes) vertex n cover in
-          let (m, a, same) = among_map (change name lower) nodes over.node over.among in
+          let over = cover_among (uncovered_nodes name nodes) vertex n cover in
+          let (m, a, same) = among_map (change name without_top) nodes over.node over.among in
           let kept_name : over.node.name ≡ m.name =
-          ap (λ x. x.name) (sym same) ∙ by_name (λ x. x.name ≡ m.name) name lower m (λ e. refl) (λ other. refl) in
-          not_over m a (sym (outer_same m.name) ∙ (ap (is_outer (uncovered name nodes)) (sym kept_name) ∙ over.outer))
+          ap (λ x. x.name) (sym same) ∙ by_name (λ x. x.name ≡ m.name) name without_top m (λ e. refl) (λ other. refl) in
+          not_over m a (sym (outer_same m.name) ∙ (ap (is_outer (uncovered_nodes name nodes)) (sym kept_name) ∙ over.outer))
           (ap (λ x. is_in x.top.vertices vertex) same ∙ over.holds)
 
-  still_live : is_live (uncovered name nodes) name ≡ true
+  still_live : is_live (uncovered_nodes name nodes) name ≡ true
   still_live =
-      among_live (uncovered name nodes) (change name lower node) name (map_among (change name lower) nodes node among)
-      (by_name (λ x. x.name ≡ name) name lower node (λ e. named) (λ other. named))
+      among_live (uncovered_nodes name nodes) (change name without_top node) name (map_among (change name without_top) nodes node among)
+      (by_name (λ x. x.name ≡ name) name without_top node (λ e. named) (λ other. named))
 
 pub uncovered_back : UncoveredBack
 uncovered_back p nodes name may nest = (
@@ -213,8 +213,8 @@ uncovered_back p nodes name may nest = (
 pub uncovered_lowers : UncoveredLowers
 uncovered_lowers p nodes roles name free freed may nest minus plus =
     let (v, given) = uncovered_back p nodes name may nest in
-    subst (λ ns. IsLower (left_to_do p (uncovered name nodes) roles freed) (left_to_do p ns roles free)) given.back
-    (uncover_lowers p (uncovered name nodes) roles name v free freed given.no_defect minus plus
+    subst (λ ns. IsLower (left_to_do p (uncovered_nodes name nodes) roles freed) (left_to_do p ns roles free)) given.back
+    (uncover_lowers p (uncovered_nodes name nodes) roles name v free freed given.no_defect minus plus
     given.live given.outer given.free)
 
 -- an uncovered vertex is no defect
@@ -223,8 +223,8 @@ pub no_leaf : (p : Problem) (nodes : List Node) (v : ℕ) → IsDual p nodes →
 no_leaf p nodes v dual none =
     false_from_ne_true (is_in (leaves nodes) v) (λ leaf. false≢true (subst IsSome none (dual.defects v leaf)))
 
-pub taken_up_lowers : TakenUpLowers
-taken_up_lowers p nodes roles name k u v free freed limits may nest plus =
+pub absorbed_lowers : AbsorbedLowers
+absorbed_lowers p nodes roles name k u v free freed limits may nest plus =
     let over = cover_among nodes u name may.covered in
     absorb_lowers p nodes roles name v free freed (no_leaf p nodes v nest.dual may.uncovered)
     (limits.real_below v may.real) plus (among_live nodes over.node name over.among over.named)
@@ -252,10 +252,10 @@ joining_lowers p nodes tree rest unmatched root r name base others free freed jo
     let test : ℕ → Bool = is_in (names_of (base ∷ others)) in
     let (minus, among, inner) = some_minus test tree (omega (arith, some, joining.even)) in
     let may = joining_allowed nodes tree root name base others joining some fresh in
-    let named : nodes ++ blossom_of name (base ∷ others) ∷ [] ≡ joined name (names_of (base ∷ others)) nodes =
+    let named : nodes ++ blossom_of name (base ∷ others) ∷ [] ≡ joined_nodes name (names_of (base ∷ others)) nodes =
     ap (λ b. nodes ++ b ∷ []) (blossom_named nodes name (base ∷ others) nest.dual.names joining.nodes_are) in
     subst
-    (λ ns. IsLower (left_to_do p ns (roles_of (renamed test name root) (joined_tree test name tree)) freed)
+    (λ ns. IsLower (left_to_do p ns (roles_of (renamed_name test name root) (joined_tree test name tree)) freed)
     (left_to_do p nodes (roles_of root tree) free)) named
     (joined_lowers p nodes tree rest unmatched root r name base others minus free freed joining
     (subst (IsDual p) (sym named) (nest_joined p nodes name

@@ -14,12 +14,12 @@ use Rattle.fb_graph.specs.Links.{AreEven, IsTightLink}
 use Rattle.fb_laws.specs.Merging.{Freed, freed_links, freed_names}
 use Rattle.fb_laws.specs.NestFusion.{NestedMerged, NestedSeam}
 use Rattle.fb_laws.specs.Paths.{LeadsOut}
-use Rattle.fb_graph.specs.Sprouts.{nodes_of}
+use Rattle.fb_graph.specs.Singles.{nodes_of}
 use Rattle.fb_laws.specs.UnmatchedNames.{AreOuterNames}
 use Rattle.fb_laws.specs.Works.{IsMatching, IsSetOf}
 use Rattle.fb_graph.proofs.Among.{among_live, cover_among}
 use Rattle.fb_graph.proofs.Crossings.{cover_found}
-use Rattle.fb_graph.proofs.MergedNests.{beside_of_parts, beside_of_sprouts, sprouting, sprouting_nest, walks_beside}
+use Rattle.fb_graph.proofs.MergedNests.{beside_of_parts, beside_of_singles, only_singles, only_singles_nest, walks_beside}
 use Rattle.fb_laws.proofs.FusedParts.{seam_parity}
 use Rattle.fb_laws.proofs.MergedParts.{matchings_merged, odd_in, real_held}
 use Rattle.fb_graph.proofs.NestParts.{names_live}
@@ -28,9 +28,9 @@ use Rattle.fb_laws.proofs.PotentialParities.{parities_joined}
 use Rattle.fb_laws.proofs.SearchTrees.{all_before}
 use Rattle.fb_laws.proofs.SeamStates.{seam_opened}
 use Rattle.fb_graph.proofs.SourceWalks.{walks_begin}
-use Rattle.fb_graph.proofs.SproutStates.{cuts_are, names_are, no_sum}
+use Rattle.fb_graph.proofs.SingleStates.{cuts_are, names_are, no_sum}
 use Rattle.fb_graph.proofs.TightLinks.{turned_tight}
-use Rattle.fb_laws.proofs.UnmatchedNames.{outer_beside, outer_sprouted}
+use Rattle.fb_laws.proofs.UnmatchedNames.{outer_beside, outer_singles_added}
 
 -- a node that covers a vertex is there
 cover_live : (nodes : List Node) (v name : ℕ) → cover_of nodes v ≡ Some name → is_live nodes name ≡ true
@@ -138,32 +138,32 @@ module _ (p : Problem) (nodes : List Node) (seam : ℕ → Bool) (links : List L
       name among cover
 
 pub nested_seam : NestedSeam
-nested_seam p whole nodes freed links sprouts seam unmatched even limits is distinct vertices real names state =
-    let unreal : All (λ s. p.is_real s.vertex ≡ false) sprouts =
+nested_seam p whole nodes freed links singles seam unmatched even limits is distinct vertices real names state =
+    let unreal : All (λ s. p.is_real s.vertex ≡ false) singles =
     All-weaker (λ s. seam s.vertex ≡ true) (λ s. p.is_real s.vertex ≡ false)
-    (λ s at. is.unreal s.vertex at) sprouts is.at_seam in
-    let beside = beside_of_sprouts p whole nodes sprouts is.part real unreal is.bare names state.nest in
-    let two = sprouting_nest whole sprouts distinct vertices is.bare in
-    let nest = nests_beside p (sprouting whole sprouts) whole nodes (nodes_of sprouts) limits beside state.nest two in
+    (λ s at. is.unreal s.vertex at) singles is.at_seam in
+    let beside = beside_of_singles p whole nodes singles is.part real unreal is.bare names state.nest in
+    let two = only_singles_nest whole singles distinct vertices is.bare in
+    let nest = nests_beside p (only_singles whole singles) whole nodes (nodes_of singles) limits beside state.nest two in
     record {
       nest = nest;
       work = record {
-        matching = seam_opened p whole nodes freed links sprouts seam unmatched is nest.dual state.work.matching;
+        matching = seam_opened p whole nodes freed links singles seam unmatched is nest.dual state.work.matching;
         even =
-            parity_beside p (sprouting whole sprouts) whole nodes (nodes_of sprouts) beside state.nest two
-            (is_in (unmatched ++ (freed_names freed ++ map (λ s. s.name) sprouts))) 0
-            (parity_both nodes unmatched (freed_names freed ++ map (λ s. s.name) sprouts) 0 state.work.even
-            (parity_both nodes (freed_names freed) (map (λ s. s.name) sprouts) 0 freed_even
-            (parity_absent nodes (map (λ s. s.name) sprouts) 0 away)))
+            parity_beside p (only_singles whole singles) whole nodes (nodes_of singles) beside state.nest two
+            (is_in (unmatched ++ (freed_names freed ++ map (λ s. s.name) singles))) 0
+            (parity_both nodes unmatched (freed_names freed ++ map (λ s. s.name) singles) 0 state.work.even
+            (parity_both nodes (freed_names freed) (map (λ s. s.name) singles) 0 freed_even
+            (parity_absent nodes (map (λ s. s.name) singles) 0 away)))
             (λ d name leaf cover among. ap (λ h. h % 2) (low d));
       };
       walks =
-          walks_beside p (sprouting whole sprouts) whole nodes (nodes_of sprouts) beside state.nest two state.walks
-          (walks_begin (sprouting whole sprouts) sprouts);
+          walks_beside p (only_singles whole singles) whole nodes (nodes_of singles) beside state.nest two state.walks
+          (walks_begin (only_singles whole singles) singles);
       outer =
-          subst (AreOuterNames (nodes ++ nodes_of sprouts))
-          (append_assoc unmatched (freed_names freed) (map (λ s. s.name) sprouts))
-          (outer_sprouted nodes sprouts (unmatched ++ freed_names freed) state.nest.forest away outer_old);
+          subst (AreOuterNames (nodes ++ nodes_of singles))
+          (append_assoc unmatched (freed_names freed) (map (λ s. s.name) singles))
+          (outer_singles_added nodes singles (unmatched ++ freed_names freed) state.nest.forest away outer_old);
     }
   where
     -- a freed node's set is that of an outer node
@@ -195,12 +195,12 @@ nested_seam p whole nodes freed links sprouts seam unmatched even limits is dist
         (freed_links freed) links state.work.matching.links_are.at_defects)
         is.freed_are
 
-    away : (n : ℕ) → is_in (map (λ s. s.name) sprouts) n ≡ true → is_live nodes n ≡ false
+    away : (n : ℕ) → is_in (map (λ s. s.name) singles) n ≡ true → is_live nodes n ≡ false
     away n among =
         false_from_ne_true (is_live nodes n)
         (λ live.
-        both_ways (is_live (nodes_of sprouts) n) (names n live)
-        (sym (names_live (nodes_of sprouts) n) ∙ (ap (λ l. is_in l n) (names_are sprouts) ∙ among)))
+        both_ways (is_live (nodes_of singles) n) (names n live)
+        (sym (names_live (nodes_of singles) n) ∙ (ap (λ l. is_in l n) (names_are singles) ∙ among)))
 
-    low : (d : ℕ) → height_of (all_cuts (nodes_of sprouts)) d ≡ 0
-    low d = ap (λ cuts. height_of cuts d) (cuts_are sprouts) ∙ no_sum (λ s. is_in s d) sprouts is.bare
+    low : (d : ℕ) → height_of (all_cuts (nodes_of singles)) d ≡ 0
+    low d = ap (λ cuts. height_of cuts d) (cuts_are singles) ∙ no_sum (λ s. is_in s d) singles is.bare

@@ -13,12 +13,12 @@ use Rattle.fb_laws.specs.Forming.{names_of, blossom_of}
 use Rattle.fb_laws.specs.Trees.{Entry, plus_names, roles_of}
 use Rattle.fb_laws.specs.Searches.{IsSearch}
 use Rattle.fb_graph.specs.Alike.{AreAlike}
-use Rattle.fb_laws.specs.SearchBlossoms.{joined_tree, renamed}
+use Rattle.fb_laws.specs.SearchBlossoms.{joined_tree, renamed_name}
 use Rattle.fb_graph.specs.Nests.{IsNest}
-use Rattle.fb_graph.specs.Moves.{joined, split, taken_up, uncovered}
+use Rattle.fb_graph.specs.Moves.{joined_nodes, split_nodes, absorbed_nodes, uncovered_nodes}
 use Rattle.fb_laws.specs.UnmatchedNames.{AreOuterNames}
-use Rattle.fb_laws.specs.Works.{without}
-use Rattle.fb_laws.specs.NestedSearches.{NestedWorkBegins, NestedSearchBegins, NestedFree, NestedStepped, NestedTakenUp, NestedUncovered, NestedAttached, NestedJoined, NestedOpened, NestedEnded, NestedMet, NestedReleased}
+use Rattle.fb_laws.specs.Works.{names_without}
+use Rattle.fb_laws.specs.NestedSearches.{NestedWorkBegins, NestedSearchBegins, NestedFree, NestedStepped, NestedAbsorbed, NestedUncovered, NestedAttached, NestedJoined, NestedOpened, NestedEnded, NestedMet, NestedReleased}
 use Rattle.fb_graph.proofs.Among.{among_All}
 use Rattle.fb_graph.proofs.BeginningNests.{nest_begins}
 use Rattle.fb_graph.proofs.Crossings.{free_step}
@@ -33,22 +33,22 @@ use Rattle.fb_laws.proofs.MergedParts.{odd_in}
 use Rattle.fb_laws.proofs.MoveBridges.{blossom_named, joining_allowed, no_leaf, uncovered_back}
 use Rattle.fb_graph.proofs.NestParts.{top_is_odd}
 use Rattle.fb_laws.proofs.OpenedTrees.{search_opened}
-use Rattle.fb_graph.proofs.RaisedNests.{nest_taken_up}
+use Rattle.fb_graph.proofs.RaisedNests.{nest_absorbed}
 use Rattle.fb_laws.proofs.SearchEnds.{search_ended, search_met, search_released}
 use Rattle.fb_laws.proofs.SearchStates.{search_attached, search_begins, search_roles, search_stepped}
 use Rattle.fb_laws.proofs.SearchTrees.{cover_place, plus_in_tree}
-use Rattle.fb_graph.proofs.SourceWalks.{walks_begin, walks_joined, walks_split, walks_taken_up, walks_uncovered, walks_stepped}
+use Rattle.fb_graph.proofs.SourceWalks.{walks_begin, walks_joined, walks_split, walks_absorbed, walks_uncovered, walks_stepped}
 use Rattle.fb_graph.proofs.SplitNests.{nest_split}
 use Rattle.fb_laws.proofs.StepLengths.{greatest_step}
 use Rattle.fb_graph.proofs.SteppedNests.{nest_stepped}
-use Rattle.fb_laws.proofs.UnmatchedNames.{outer_begin, outer_fewer, outer_joined, outer_split, outer_stepped, outer_taken_up, outer_uncovered}
+use Rattle.fb_laws.proofs.UnmatchedNames.{outer_begin, outer_fewer, outer_joined, outer_split, outer_stepped, outer_absorbed, outer_uncovered}
 
 pub nested_work_begins : NestedWorkBegins
-nested_work_begins p sprouts names vertices real zero_ defects = record {
-  nest = nest_begins p sprouts names vertices real zero_;
-  work = work_begins p sprouts names vertices real zero_ defects;
-  walks = walks_begin p sprouts;
-  outer = outer_begin sprouts;
+nested_work_begins p singles names vertices real zero_ defects = record {
+  nest = nest_begins p singles names vertices real zero_;
+  work = work_begins p singles names vertices real zero_ defects;
+  walks = walks_begin p singles;
+  outer = outer_begin singles;
 }
 
 pub nested_search_begins : NestedSearchBegins
@@ -98,16 +98,16 @@ nested_stepped p nodes tree rest unmatched root r k limits even may state =
       outer = outer_stepped (roles_of root tree) nodes k unmatched state.outer;
     }
 
-pub nested_taken_up : NestedTakenUp
-nested_taken_up p nodes tree rest unmatched root r name k u v even may state =
-    let nest = nest_taken_up p nodes name k u v even may state.nest in
+pub nested_absorbed : NestedAbsorbed
+nested_absorbed p nodes tree rest unmatched root r name k u v even may state =
+    let nest = nest_absorbed p nodes name k u v even may state.nest in
     record {
       nest = nest;
       search =
-          search_alike p nodes (taken_up name v nodes) tree rest unmatched root r
+          search_alike p nodes (absorbed_nodes name v nodes) tree rest unmatched root r
           (taller_alike nodes name v (no_leaf p nodes v state.nest.dual may.uncovered)).0 nest.dual state.search;
-      walks = walks_taken_up p nodes name k u v may state.nest state.walks;
-      outer = outer_taken_up nodes name v unmatched state.outer;
+      walks = walks_absorbed p nodes name k u v may state.nest state.walks;
+      outer = outer_absorbed nodes name v unmatched state.outer;
     }
 
 pub nested_uncovered : NestedUncovered
@@ -117,9 +117,9 @@ nested_uncovered p nodes tree rest unmatched root r name may state =
     record {
       nest = nest;
       search =
-          search_alike p nodes (uncovered name nodes) tree rest unmatched root r
-          (subst (λ ns. AreAlike ns (uncovered name nodes)) given.back
-          (taller_alike (uncovered name nodes) name v given.no_defect).1)
+          search_alike p nodes (uncovered_nodes name nodes) tree rest unmatched root r
+          (subst (λ ns. AreAlike ns (uncovered_nodes name nodes)) given.back
+          (taller_alike (uncovered_nodes name nodes) name v given.no_defect).1)
           nest.dual state.search;
       walks = walks_uncovered p nodes name may state.nest state.walks;
       outer = outer_uncovered nodes name unmatched state.outer;
@@ -138,14 +138,14 @@ nested_joined p nodes tree rest unmatched remaining root r name base others join
     state =
     let may = joining_allowed nodes tree root name base others joining some fresh in
     let nest = nest_joined p nodes name (names_of (base ∷ others)) may state.nest in
-    let named : nodes ++ blossom_of name (base ∷ others) ∷ [] ≡ joined name (names_of (base ∷ others)) nodes =
+    let named : nodes ++ blossom_of name (base ∷ others) ∷ [] ≡ joined_nodes name (names_of (base ∷ others)) nodes =
     ap (λ b. nodes ++ b ∷ []) (blossom_named nodes name (base ∷ others) state.nest.dual.names joining.nodes_are) in
     record {
       nest = nest;
       search =
           subst
           (λ ns. IsSearch p ns (joined_tree (is_in (names_of (base ∷ others))) name tree) rest remaining
-          (renamed (is_in (names_of (base ∷ others))) name root) r) named
+          (renamed_name (is_in (names_of (base ∷ others))) name root) r) named
           (search_joined p nodes tree rest unmatched remaining root r name base others joining
           (subst (IsDual p) (sym named) nest.dual) same
           outside state.search);
@@ -161,7 +161,7 @@ nested_opened p nodes newer older tree e kept paired more rest later unmatched r
     record {
       nest = nest;
       search =
-          search_opened p nodes (split e.minus nodes) newer older tree e kept paired more rest later unmatched root r
+          search_opened p nodes (split_nodes e.minus nodes) newer older tree e kept paired more rest later unmatched root r
           opened nest.dual state.search;
       walks = walks_split p nodes e.minus may state.nest state.walks;
       outer = outer_split nodes e.minus unmatched state.outer;
@@ -169,9 +169,9 @@ nested_opened p nodes newer older tree e kept paired more rest later unmatched r
 
 -- all but one of some outer names
 outer_without : (nodes : List Node) (root : ℕ) (names : List ℕ) → AreOuterNames nodes names
-    → AreOuterNames nodes (without root names)
+    → AreOuterNames nodes (names_without root names)
 outer_without nodes root names =
-    outer_fewer nodes names (without root names)
+    outer_fewer nodes names (names_without root names)
     (λ n within.
     (and_parts (is_in names n) (not (n == root)) (sym (is_in-filter (λ m. not (m == root)) names n) ∙ within)).0)
 
@@ -191,7 +191,7 @@ nested_met p nodes tree rest unmatched root r name other out state plus open_oth
           search_met p nodes tree rest unmatched root r name other out state.search plus open_other differs new
           connects;
       walks = state.walks;
-      outer = outer_without nodes root (without other unmatched) (outer_without nodes other unmatched state.outer);
+      outer = outer_without nodes root (names_without other unmatched) (outer_without nodes other unmatched state.outer);
     }
 
 pub nested_released : NestedReleased

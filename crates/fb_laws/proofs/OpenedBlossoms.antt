@@ -79,7 +79,7 @@ module _ (p : Problem) (before after : List Node) (b : Node) (newer older : List
   many = by (All_among IsFormed (before ++ b ∷ after) nest.forest.formed b there)
     where
       by : IsFormed b → AreMany b.children
-      by (inl lone) = absurd (both_ways (is_empty b.children) some (ap is_empty lone.none))
+      by (inl childless) = absurd (both_ways (is_empty b.children) some (ap is_empty childless.none))
       by (inr is_many) = is_many
 
   pub even : length names % 2 ≡ 0

@@ -26,7 +26,7 @@ use Rattle.fb_graph.proofs.Sums.{sum_same}
 use Rattle.fb_graph.proofs.Unions.{distinct_append}
 use Rattle.fb_laws.specs.Blossoms.{ArePaired}
 use Rattle.fb_laws.specs.Fusion.{IsLinkOf}
-use Rattle.fb_laws.specs.NestSolutions.{lone_sets}
+use Rattle.fb_laws.specs.NestSolutions.{leaf_sets}
 use Rattle.fb_laws.specs.OpenedLinks.{every_second, opened_over, pair_links, place_of, has_end, round_from, with_opened}
 use Rattle.fb_laws.specs.Opening.{IsLevel, IsOpening}
 use Rattle.fb_laws.specs.PartStates.{AreCycles, IsRing, all_cycle_links, links_at}
@@ -183,8 +183,8 @@ module _ (p : Problem) (nodes : List Node) (cycles : ℕ → List Link) (nest : 
       by n (inr (inl e)) = ap (λ x. is_in x.children m.name) (sym e) ∙ none
       by n (inr (inr a)) = absurd a
 
-  lone_turn : is_empty q.children ≡ true → IsOpenTo p nodes before links
-  lone_turn none = record {
+  childless_turn : is_empty q.children ≡ true → IsOpenTo p nodes before links
+  childless_turn none = record {
     ends = λ m a top. level.ends m a (up m top);
     apart = λ m n a b top_m top_n other. level.apart m n a b (up m top_m) (up n top_n) other;
     once = level.once;
@@ -247,7 +247,7 @@ module _ (p : Problem) (nodes : List Node) (cycles : ℕ → List Link) (nest : 
   many some = by (All_among IsFormed nodes nest.forest.formed q q_in)
     where
       by : IsFormed q → AreMany q.children
-      by (inl lone) = absurd (both_ways (is_empty q.children) some (ap is_empty lone.none))
+      by (inl childless) = absurd (both_ways (is_empty q.children) some (ap is_empty childless.none))
       by (inr is_many) = is_many
 
   abbrev More : List Link
@@ -368,9 +368,9 @@ module _ (p : Problem) (nodes : List Node) (cycles : ℕ → List Link) (nest : 
       where
         by : IsAmong m before ⊎ (is_empty m.children ≡ true) → ⊥
         by (inl b) = not_q m b e
-        by (inr lone) =
+        by (inr childless) =
             both_ways (is_empty q.children) some
-            (ap (λ n. is_empty n.children) (sym (same_among nodes nest.dual.names m q a q_in e)) ∙ lone)
+            (ap (λ n. is_empty n.children) (sym (same_among nodes nest.dual.names m q a q_in e)) ∙ childless)
 
     opened : IsOpenTo p nodes before (links ++ More)
     opened = record {
@@ -415,7 +415,7 @@ module _ (p : Problem) (nodes : List Node) (cycles : ℕ → List Link) (nest : 
           → IsOpenTo p nodes before (with_opened nodes cycles q links)
       step (inl none) =
           subst (λ b. IsOpenTo p nodes before (links ++ (if b then [] else More))) (sym none)
-          (subst (IsOpenTo p nodes before) (sym (append-nil links)) (lone_turn none))
+          (subst (IsOpenTo p nodes before) (sym (append-nil links)) (childless_turn none))
       step (inr some) =
           let one : IsOnlyOne (λ x. ends_in (top_at nodes x) links) q.children =
           only_one (λ x. ends_in (top_at nodes x) links) q.children
@@ -440,50 +440,50 @@ module _ (p : Problem) (nodes : List Node) (cycles : ℕ → List Link) (matches
       (opened_to (before ++ n ∷ []) after (is ∙ sym (append_assoc before (n ∷ []) after))) some
 
   -- with all over, the sets of the nodes without children are the level
-  lone_all : (P : List ℕ → Type 0) (ns : List Node)
-      → ((m : Node) → IsAmong m ns → is_empty m.children ≡ true → P m.top.vertices) → All P (lone_sets ns)
-  lone_all P [] each = All-nil P
-  lone_all P (n ∷ ns) each =
-      step (is_empty n.children) refl (lone_all P ns (λ m a e. each m (inr a) e))
+  childless_all : (P : List ℕ → Type 0) (ns : List Node)
+      → ((m : Node) → IsAmong m ns → is_empty m.children ≡ true → P m.top.vertices) → All P (leaf_sets ns)
+  childless_all P [] each = All-nil P
+  childless_all P (n ∷ ns) each =
+      step (is_empty n.children) refl (childless_all P ns (λ m a e. each m (inr a) e))
     where
-      step : (b : Bool) → is_empty n.children ≡ b → All P (lone_sets ns)
+      step : (b : Bool) → is_empty n.children ≡ b → All P (leaf_sets ns)
           → All P (map (λ m. m.top.vertices) (cond b (n ∷ filter (λ m. is_empty m.children) ns)
           (filter (λ m. is_empty m.children) ns)))
-      step true e rest = All-cons P n.top.vertices (lone_sets ns) (each n (inl refl) e) rest
+      step true e rest = All-cons P n.top.vertices (leaf_sets ns) (each n (inl refl) e) rest
       step false e rest = rest
 
-  lone_apart : (ns : List Node)
+  childless_apart : (ns : List Node)
       → ((m n : Node) → IsAmong m ns → IsAmong n ns → is_empty m.children ≡ true → is_empty n.children ≡ true
       → (m.name ≡ n.name → ⊥) → AreApart m.top.vertices n.top.vertices)
-      → AreDistinct (map (λ n. n.name) ns) → AreAllApart (lone_sets ns)
-  lone_apart [] each distinct = tt
-  lone_apart (n ∷ ns) each distinct =
-      step (is_empty n.children) refl (lone_apart ns (λ m k a b. each m k (inr a) (inr b)) distinct.1)
+      → AreDistinct (map (λ n. n.name) ns) → AreAllApart (leaf_sets ns)
+  childless_apart [] each distinct = tt
+  childless_apart (n ∷ ns) each distinct =
+      step (is_empty n.children) refl (childless_apart ns (λ m k a b. each m k (inr a) (inr b)) distinct.1)
     where
-      step : (b : Bool) → is_empty n.children ≡ b → AreAllApart (lone_sets ns)
+      step : (b : Bool) → is_empty n.children ≡ b → AreAllApart (leaf_sets ns)
           → AreAllApart (map (λ m. m.top.vertices) (cond b (n ∷ filter (λ m. is_empty m.children) ns)
           (filter (λ m. is_empty m.children) ns)))
       step true e rest = (
-        lone_all (AreApart n.top.vertices) ns
+        childless_all (AreApart n.top.vertices) ns
             (λ m a k. each n m (inl refl) (inr a) e k (other_name n ns distinct m a)),
         rest,
       )
       step false e rest = rest
 
-  lone_top : (m : Node) → is_empty m.children ≡ true → IsTop [] m
-  lone_top m none = record { own = inr none; free = λ q a. absurd a }
+  childless_top : (m : Node) → is_empty m.children ≡ true → IsTop [] m
+  childless_top m none = record { own = inr none; free = λ q a. absurd a }
 
-  pub opened_level : IsLevel (positive_cuts nodes) (lone_sets nodes) (opened_over nodes cycles nodes matches)
+  pub opened_level : IsLevel (positive_cuts nodes) (leaf_sets nodes) (opened_over nodes cycles nodes matches)
   opened_level =
       let last : IsOpenTo p nodes [] (opened_over nodes cycles nodes matches) = opened_to [] nodes refl in
       record {
         apart =
-            lone_apart nodes
-            (λ m n a b lone_m lone_n other. last.apart m n a b (lone_top m lone_m) (lone_top n lone_n) other)
+            childless_apart nodes
+            (λ m n a b childless_m childless_n other. last.apart m n a b (childless_top m childless_m) (childless_top n childless_n) other)
             nest.dual.names;
         ends =
-            lone_all (λ s. ends_in s (opened_over nodes cycles nodes matches) ≡ 1) nodes
-            (λ m a lone. last.ends m a (lone_top m lone));
+            childless_all (λ s. ends_in s (opened_over nodes cycles nodes matches) ≡ 1) nodes
+            (λ m a childless. last.ends m a (childless_top m childless));
         once = last.once;
       }
 

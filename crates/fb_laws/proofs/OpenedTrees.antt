@@ -4,7 +4,7 @@ use Rattle.std.proofs.lemmas.Bool.{both_ways, and_parts}
 use Rattle.fb_graph.specs.Parity.{is_in}
 use Rattle.fb_graph.specs.Dual.{IsDual, all_cuts, leaves, cover_of, height_of}
 use Rattle.fb_graph.proofs.Sets.{is_in-head, is_in-tail, is_in-filter}
-use Rattle.fb_laws.specs.Works.{without}
+use Rattle.fb_laws.specs.Works.{names_without}
 use Rattle.fb_laws.specs.Trees.{plus_names, minus_names, tree_names, paired_links}
 use Rattle.fb_laws.specs.SearchOpenings.{SearchOpened}
 use Rattle.fb_laws.proofs.HalvesKept.{matching_permuted}
@@ -56,7 +56,7 @@ search_opened p nodes others newer older tree e kept paired more rest later unma
     in_tree d n at among (inr (here, child)) =
         state.parity d e.minus at here (minus_in_tree root (newer ++ e ∷ older) e.minus (mid_names root newer older e).0)
 
-    still_open : (d n : ℕ) → is_in (leaves nodes) d ≡ true → is_in (without root unmatched) n ≡ true
+    still_open : (d n : ℕ) → is_in (leaves nodes) d ≡ true → is_in (names_without root unmatched) n ≡ true
         → (cover_of nodes d ≡ Some n) × (n ≡ e.minus → ⊥) × (is_in (kept ∷ paired) n ≡ false) ⊎ (cover_of nodes d ≡ Some e.minus) × (is_in (kept ∷ paired) n ≡ true)
         → height_of (all_cuts nodes) d % 2 ≡ 0
     still_open d n at among (inl (here, other, out)) = state.even d n at here among

@@ -10,7 +10,7 @@ use Rattle.fb_graph.specs.Parity.{is_in}
 use Rattle.fb_graph.specs.Problem.{Problem, with_defects}
 use Rattle.fb_graph.specs.Certificate.{AreDistinct, IsOddCut}
 use Rattle.fb_graph.specs.Counts.{as_count}
-use Rattle.fb_graph.specs.Covers.{PassOuterOnly, is_over}
+use Rattle.fb_graph.specs.Covers.{PassOuterOnly, is_covered_by}
 use Rattle.fb_graph.specs.Dual.{Node, AreApart, AreGrown, defects_of, first_vertices, is_empty, is_live, layers_of, leaves}
 use Rattle.fb_graph.specs.Nests.{IsNest, IsFormed, AreJoinedLater}
 use Rattle.fb_graph.specs.declared.parts.Cut.{Cut}
@@ -63,9 +63,9 @@ nodes_counted (n ∷ ns) formed =
     )
   where
     one : (m : Node) → IsFormed m → length (defects_of m) + cond (not (is_empty m.children)) 1 0 ≡ 1
-    one m (inl lone) =
-        subst (λ cs. length (if is_empty cs then first_vertices (layers_of m) else []) + cond (not (is_empty cs)) 1 0 ≡ 1) (sym lone.none)
-        (omega (arith, lone.defect))
+    one m (inl childless) =
+        subst (λ cs. length (if is_empty cs then first_vertices (layers_of m) else []) + cond (not (is_empty cs)) 1 0 ≡ 1) (sym childless.none)
+        (omega (arith, childless.defect))
     one m (inr many) =
         subst (λ b. length (if b then first_vertices (layers_of m) else []) + cond (not b) 1 0 ≡ 1) (sym (not_empty m.children many.three)) refl
 
@@ -82,7 +82,7 @@ joined_counted (n ∷ ns) formed =
     )
   where
     one : (m : Node) → IsFormed m → 3 * cond (not (is_empty m.children)) 1 0 ≤ length m.children
-    one m (inl lone) = subst (λ cs. 3 * cond (not (is_empty cs)) 1 0 ≤ length cs) (sym lone.none) (omega arith)
+    one m (inl childless) = subst (λ cs. 3 * cond (not (is_empty cs)) 1 0 ≤ length cs) (sym childless.none) (omega arith)
     one m (inr many) =
         subst (λ b. 3 * cond (not b) 1 0 ≤ length m.children) (sym (not_empty m.children many.three)) (omega (arith, many.three))
 
@@ -101,7 +101,7 @@ joined_distinct (n ∷ ns) formed (later, apart, joined) =
     (joined_distinct ns (All-tail IsFormed n ns formed) joined) (joined_apart n.children ns apart)
   where
     one : IsFormed n → AreDistinct n.children
-    one (inl lone) = subst AreDistinct (sym lone.none) tt
+    one (inl childless) = subst AreDistinct (sym childless.none) tt
     one (inr many) = many.distinct
 
 joined_all : (P : ℕ → Type 0) (ns : List Node) → All (λ n. All P n.children) ns → All P (joined_names ns)
@@ -263,12 +263,12 @@ pub parts_below : PartsBelow
 parts_below p nodes roles free below nest are =
     all_five (λ part. part < p.vertices + 2) (defects_beside roles.is_plus nodes) (blossoms_beside roles.is_plus nodes)
     (vertices_beside p roles.is_plus nodes) (layers_in roles.is_minus nodes) (as_count free)
-    (omega (arith, few, count_by-le-length (λ d. not (is_over roles.is_plus nodes d)) (leaves nodes)))
+    (omega (arith, few, count_by-le-length (λ d. not (is_covered_by roles.is_plus nodes d)) (leaves nodes)))
     (omega (arith, few, few_blossoms p nodes nest, blossoms_le roles.is_plus nodes))
     (omega (
       arith,
       length-range_with_len 0 p.vertices,
-      count_by-le-length (λ v. not (is_over roles.is_plus nodes v)) (range_with_len 0 p.vertices),
+      count_by-le-length (λ v. not (is_covered_by roles.is_plus nodes v)) (range_with_len 0 p.vertices),
     ))
     (omega (arith, layers_below p nodes roles.is_minus below nest are.minus)) (last free)
   where

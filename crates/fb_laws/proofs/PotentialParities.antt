@@ -6,8 +6,8 @@ use Rattle.fb_graph.specs.Problem.{Problem}
 use Rattle.fb_graph.specs.Components.{Leads}
 use Rattle.fb_graph.specs.Dual.{Node, IsDual, all_cuts, leaves, cover_of, height_of, AreOuterApart}
 use Rattle.fb_graph.specs.Counts.{as_count}
-use Rattle.fb_graph.specs.Steps.{Roles, AllowShrinking, stepped}
-use Rattle.fb_graph.specs.Covers.{AreRoles, HaveParity, is_over, passes}
+use Rattle.fb_graph.specs.Steps.{Roles, AllowShrinking, stepped_nodes}
+use Rattle.fb_graph.specs.Covers.{AreRoles, HaveParity, is_covered_by, passes}
 use Rattle.fb_graph.specs.Links.{pair}
 use Rattle.fb_laws.specs.Parities.{HaveOneParity, CoveredParity, MetParity, LinkedParity, ParitiesJoined, TreeParityStepped, OtherParityStepped, OneParityStepped}
 use Rattle.fb_graph.proofs.Crossings.{parity_of_covered, exclusive_over, exclusive_under}
@@ -68,22 +68,22 @@ parities_joined test other nodes r first second d name leaf cover passing =
     step (inr e) = second d name leaf cover e
 
 module _ (roles : Roles) (nodes : List Node) (k : ℕ) (apart : AreOuterApart nodes) (are : AreRoles roles nodes) (low : AllowShrinking roles nodes k) where
-  before : (d name : ℕ) → cover_of (stepped roles k nodes) d ≡ Some name → cover_of nodes d ≡ Some name
+  before : (d name : ℕ) → cover_of (stepped_nodes roles k nodes) d ≡ Some name → cover_of nodes d ≡ Some name
   before d name cover = sym (cover_stepped roles nodes k d) ∙ cover
 
-  leaf_before : (d : ℕ) → is_in (leaves (stepped roles k nodes)) d ≡ true → is_in (leaves nodes) d ≡ true
+  leaf_before : (d : ℕ) → is_in (leaves (stepped_nodes roles k nodes)) d ≡ true → is_in (leaves nodes) d ≡ true
   leaf_before d leaf = ap (λ l. is_in l d) (sym (leaves_stepped roles nodes k)) ∙ leaf
 
   pub tree_parity : (test : ℕ → Bool) (r : ℕ) → ((n : ℕ) → test n ≡ true → (roles.is_plus n ≡ true) ⊎ (roles.is_minus n ≡ true))
-      → HaveParity test nodes r → HaveParity test (stepped roles k nodes) ((r + k) % 2)
+      → HaveParity test nodes r → HaveParity test (stepped_nodes roles k nodes) ((r + k) % 2)
   tree_parity test r within parity d name leaf cover passing = step (within name passing)
     where
       old : height_of (all_cuts nodes) d % 2 ≡ r
       old = parity d name (leaf_before d leaf) (before d name cover) passing
 
-      step : (roles.is_plus name ≡ true) ⊎ (roles.is_minus name ≡ true) → height_of (all_cuts (stepped roles k nodes)) d % 2 ≡ (r + k) % 2
+      step : (roles.is_plus name ≡ true) ⊎ (roles.is_minus name ≡ true) → height_of (all_cuts (stepped_nodes roles k nodes)) d % 2 ≡ (r + k) % 2
       step (inl plus) =
-          let over : is_over roles.is_plus nodes d ≡ true = ap (passes roles.is_plus) (before d name cover) ∙ plus in
+          let over : is_covered_by roles.is_plus nodes d ≡ true = ap (passes roles.is_plus) (before d name cover) ∙ plus in
           omega (
             arith,
             old,
@@ -92,7 +92,7 @@ module _ (roles : Roles) (nodes : List Node) (k : ℕ) (apart : AreOuterApart no
             ap (λ b. k * as_count b) (exclusive_over roles (cover_of nodes d) are.exclusive over),
           )
       step (inr minus) =
-          let over : is_over roles.is_minus nodes d ≡ true = ap (passes roles.is_minus) (before d name cover) ∙ minus in
+          let over : is_covered_by roles.is_minus nodes d ≡ true = ap (passes roles.is_minus) (before d name cover) ∙ minus in
           omega (
             arith,
             old,
@@ -102,7 +102,7 @@ module _ (roles : Roles) (nodes : List Node) (k : ℕ) (apart : AreOuterApart no
           )
 
   pub other_parity : (test : ℕ → Bool) (r : ℕ) → ((n : ℕ) → test n ≡ true → (roles.is_plus n ≡ false) × (roles.is_minus n ≡ false))
-      → HaveParity test nodes r → HaveParity test (stepped roles k nodes) r
+      → HaveParity test nodes r → HaveParity test (stepped_nodes roles k nodes) r
   other_parity test r outside parity d name leaf cover passing =
       let old : height_of (all_cuts nodes) d % 2 ≡ r = parity d name (leaf_before d leaf) (before d name cover) passing in
       omega (
@@ -113,7 +113,7 @@ module _ (roles : Roles) (nodes : List Node) (k : ℕ) (apart : AreOuterApart no
         ap (λ b. k * as_count b) (ap (passes roles.is_minus) (before d name cover) ∙ (outside name passing).1),
       )
 
-  pub one_parity : HaveOneParity nodes → HaveOneParity (stepped roles k nodes)
+  pub one_parity : HaveOneParity nodes → HaveOneParity (stepped_nodes roles k nodes)
   one_parity one d e name leaf among cover covered =
       let same : cover_of nodes d ≡ cover_of nodes e = before d name cover ∙ sym (before e name covered) in
       let old : height_of (all_cuts nodes) d % 2 ≡ height_of (all_cuts nodes) e % 2 =
@@ -123,14 +123,14 @@ module _ (roles : Roles) (nodes : List Node) (k : ℕ) (apart : AreOuterApart no
       (ap (passes roles.is_plus) same) (ap (passes roles.is_minus) same) refl refl
     where
       step : (a b : Bool) → height_of (all_cuts nodes) d % 2 ≡ height_of (all_cuts nodes) e % 2
-          → height_of (all_cuts (stepped roles k nodes)) d + k * as_count (is_over roles.is_minus nodes d)
-          ≡ height_of (all_cuts nodes) d + k * as_count (is_over roles.is_plus nodes d)
-          → height_of (all_cuts (stepped roles k nodes)) e + k * as_count (is_over roles.is_minus nodes e)
-          ≡ height_of (all_cuts nodes) e + k * as_count (is_over roles.is_plus nodes e)
-          → is_over roles.is_plus nodes d ≡ is_over roles.is_plus nodes e
-          → is_over roles.is_minus nodes d ≡ is_over roles.is_minus nodes e
-          → is_over roles.is_plus nodes e ≡ a → is_over roles.is_minus nodes e ≡ b
-          → height_of (all_cuts (stepped roles k nodes)) d % 2 ≡ height_of (all_cuts (stepped roles k nodes)) e % 2
+          → height_of (all_cuts (stepped_nodes roles k nodes)) d + k * as_count (is_covered_by roles.is_minus nodes d)
+          ≡ height_of (all_cuts nodes) d + k * as_count (is_covered_by roles.is_plus nodes d)
+          → height_of (all_cuts (stepped_nodes roles k nodes)) e + k * as_count (is_covered_by roles.is_minus nodes e)
+          ≡ height_of (all_cuts nodes) e + k * as_count (is_covered_by roles.is_plus nodes e)
+          → is_covered_by roles.is_plus nodes d ≡ is_covered_by roles.is_plus nodes e
+          → is_covered_by roles.is_minus nodes d ≡ is_covered_by roles.is_minus nodes e
+          → is_covered_by roles.is_plus nodes e ≡ a → is_covered_by roles.is_minus nodes e ≡ b
+          → height_of (all_cuts (stepped_nodes roles k nodes)) d % 2 ≡ height_of (all_cuts (stepped_nodes roles k nodes)) e % 2
       step a b old first second plus minus p m =
           omega (
             arith,

@@ -4,7 +4,7 @@ use Rattle.std.proofs.lemmas.Bool.{both_ways, eq-eqb, eqb-true, false_from_ne_tr
 use Rattle.fb_graph.specs.Parity.{is_in}
 use Rattle.fb_graph.specs.Certificate.{AreDistinct}
 use Rattle.fb_graph.proofs.Sets.{is_in-head, is_in-tail}
-use Rattle.fb_laws.specs.SearchBlossoms.{renamed}
+use Rattle.fb_laws.specs.SearchBlossoms.{renamed_name}
 
 -- the new name is none of the list, and at most one name of the list is replaced
 pub record IsRenaming (joined : ℕ → Bool) (name base : ℕ) (names : List ℕ) : Type 0 where
@@ -27,10 +27,10 @@ differ a b other = false_from_ne_true (a == b) (λ same. other (eqb-true a b sam
 
 -- names that are neither replaced nor new stay
 pub renamed_other : (joined : ℕ → Bool) (name n : ℕ) (names : List ℕ) → joined n ≡ false → (n ≡ name → ⊥)
-    → is_in (map (renamed joined name) names) n ≡ is_in names n
+    → is_in (map (renamed_name joined name) names) n ≡ is_in names n
 renamed_other joined name n [] out other = refl
 renamed_other joined name n (x ∷ xs) out other =
-    ap (λ b. b || is_in (map (renamed joined name) xs) n) (step (joined x) refl)
+    ap (λ b. b || is_in (map (renamed_name joined name) xs) n) (step (joined x) refl)
     ∙ ap (λ b. (x == n) || b) (renamed_other joined name n xs out other)
   where
     step : (b : Bool) → joined x ≡ b → (cond b name x == n) ≡ (x == n)
@@ -41,10 +41,10 @@ renamed_other joined name n (x ∷ xs) out other =
 
 -- replaced names are gone
 pub renamed_gone : (joined : ℕ → Bool) (name n : ℕ) (names : List ℕ) → joined n ≡ true → (n ≡ name → ⊥)
-    → is_in (map (renamed joined name) names) n ≡ false
+    → is_in (map (renamed_name joined name) names) n ≡ false
 renamed_gone joined name n [] within other = refl
 renamed_gone joined name n (x ∷ xs) within other =
-    ap (λ b. b || is_in (map (renamed joined name) xs) n) (step (joined x) refl)
+    ap (λ b. b || is_in (map (renamed_name joined name) xs) n) (step (joined x) refl)
     ∙ renamed_gone joined name n xs within other
   where
     step : (b : Bool) → joined x ≡ b → (cond b name x == n) ≡ false
@@ -53,10 +53,10 @@ renamed_gone joined name n (x ∷ xs) within other =
 
 -- the new name is there where the replaced one was
 pub renamed_new : (joined : ℕ → Bool) (name base : ℕ) (names : List ℕ) → IsRenaming joined name base names
-    → is_in (map (renamed joined name) names) name ≡ is_in names base
+    → is_in (map (renamed_name joined name) names) name ≡ is_in names base
 renamed_new joined name base [] is = refl
 renamed_new joined name base (x ∷ xs) is =
-    ap (λ b. b || is_in (map (renamed joined name) xs) name) (step (joined x) refl)
+    ap (λ b. b || is_in (map (renamed_name joined name) xs) name) (step (joined x) refl)
     ∙ ap (λ b. (x == base) || b) (renamed_new joined name base xs (renaming_tail joined name base x xs is))
   where
     step : (b : Bool) → joined x ≡ b → (cond b name x == name) ≡ (x == base)
@@ -67,14 +67,14 @@ renamed_new joined name base (x ∷ xs) is =
         ∙ sym (differ x base (λ same. both_ways (joined x) e (ap joined same ∙ is.base_in)))
 
 pub renamed_distinct : (joined : ℕ → Bool) (name base : ℕ) (names : List ℕ) → IsRenaming joined name base names
-    → AreDistinct names → AreDistinct (map (renamed joined name) names)
+    → AreDistinct names → AreDistinct (map (renamed_name joined name) names)
 renamed_distinct joined name base [] is distinct = tt
 renamed_distinct joined name base (x ∷ xs) is (new, distinct) = (
   step (joined x) refl,
   renamed_distinct joined name base xs (renaming_tail joined name base x xs is) distinct,
 )
   where
-    step : (b : Bool) → joined x ≡ b → is_in (map (renamed joined name) xs) (cond b name x) ≡ false
+    step : (b : Bool) → joined x ≡ b → is_in (map (renamed_name joined name) xs) (cond b name x) ≡ false
     step true e =
         renamed_new joined name base xs (renaming_tail joined name base x xs is)
         ∙ (ap (is_in xs) (sym (is.alone x (is_in-head x xs) e)) ∙ new)

@@ -17,7 +17,7 @@ use Rattle.fb_graph.specs.Ends.{ends_in}
 use Rattle.fb_laws.specs.Paths.{LeadsOut}
 use Rattle.fb_graph.specs.Links.{IsTightLink}
 use Rattle.fb_laws.specs.Fusion.{IsLinkOf}
-use Rattle.fb_graph.specs.Sprouts.{Sprout, node_of, nodes_of, vertices_of}
+use Rattle.fb_graph.specs.Singles.{Single, node_of, nodes_of, vertices_of}
 use Rattle.fb_laws.specs.Works.{IsSetOf}
 use Rattle.fb_laws.specs.Merging.{Freed, freed_links, freed_names, EndElsewhere, SeamOpened}
 use Rattle.fb_graph.proofs.Crossings.{cover_found}
@@ -30,19 +30,19 @@ use Rattle.fb_graph.proofs.AppendedNodes.{cuts_merged, leaves_merged, outer_in, 
 use Rattle.fb_graph.proofs.ClosedSets.{boundary_height, not_held}
 use Rattle.fb_graph.proofs.NestParts.{leaf_real}
 use Rattle.fb_laws.proofs.PathSums.{ends_out}
-use Rattle.fb_graph.proofs.SproutStates.{cuts_are, leaves_are, names_are, no_sum}
+use Rattle.fb_graph.proofs.SingleStates.{cuts_are, leaves_are, names_are, no_sum}
 use Rattle.fb_graph.proofs.Walks.{walk_same}
 
 -- new nodes without value add nothing to any sum
-pub weigh_with : (test : List ℕ → Bool) (nodes : List Node) (sprouts : List Sprout) → All (λ s. s.value ≡ 0) sprouts
-    → weigh test (all_cuts (nodes ++ nodes_of sprouts)) ≡ weigh test (all_cuts nodes)
-weigh_with test nodes sprouts bare =
-    ap (weigh test) (cuts_merged nodes (nodes_of sprouts))
+pub weigh_with : (test : List ℕ → Bool) (nodes : List Node) (singles : List Single) → All (λ s. s.value ≡ 0) singles
+    → weigh test (all_cuts (nodes ++ nodes_of singles)) ≡ weigh test (all_cuts nodes)
+weigh_with test nodes singles bare =
+    ap (weigh test) (cuts_merged nodes (nodes_of singles))
     ∙ omega (
       arith,
-      sum_by-append (λ (c : Cut). cond (test c.vertices) c.value 0) (all_cuts nodes) (all_cuts (nodes_of sprouts)),
-      ap (weigh test) (cuts_are sprouts),
-      no_sum test sprouts bare,
+      sum_by-append (λ (c : Cut). cond (test c.vertices) c.value 0) (all_cuts nodes) (all_cuts (nodes_of singles)),
+      ap (weigh test) (cuts_are singles),
+      no_sum test singles bare,
     )
 
 -- where at most one entry has the name, one has it if the name is among them
@@ -103,7 +103,7 @@ either_named false false true old new count split named none one = absurd (false
 either_named false false false old new count split named none one = omega arith
 
 pub seam_opened : SeamOpened
-seam_opened p whole nodes freed links sprouts seam unmatched is dual work = record {
+seam_opened p whole nodes freed links singles seam unmatched is dual work = record {
   dual = dual;
   defects = λ v real. defect v (is.covered v real);
   links_are = record {
@@ -111,7 +111,7 @@ seam_opened p whole nodes freed links sprouts seam unmatched is dual work = reco
       walk = walk_same p whole is.part.edges _ _ _ (kept_tight i d less).walk;
       tight =
           same_weight p whole (get_or links i d).walk is.part
-          ∙ ((kept_tight i d less).tight ∙ sym (weigh_with (λ s. crosses s (ends_of (get_or links i d))) nodes sprouts is.bare));
+          ∙ ((kept_tight i d less).tight ∙ sym (weigh_with (λ s. crosses s (ends_of (get_or links i d))) nodes singles is.bare));
     };
     own = λ i d less. part_of_link p whole (get_or links i d) is.part (kept_own i d less);
     at_defects = λ i d less. (
@@ -120,11 +120,11 @@ seam_opened p whole nodes freed links sprouts seam unmatched is dual work = reco
     );
   };
   matched =
-      All-append Matched nodes (nodes_of sprouts)
+      All-append Matched nodes (nodes_of singles)
       (All-from_get_or Matched nodes no_node
       (λ i less outer.
       let n : Node = node_at nodes i in
-      let out = (outer_in nodes (nodes_of sprouts) n.name outer).0 in
+      let out = (outer_in nodes (nodes_of singles) n.name outer).0 in
       let one = work.matched i no_node less out in
       let split : ends_in n.top.vertices (freed_links freed ++ links)
       ≡ count_by (λ f. n.name == f.name) freed + ends_in n.top.vertices links =
@@ -134,30 +134,30 @@ seam_opened p whole nodes freed links sprouts seam unmatched is dual work = reco
         freed_ends p nodes seam freed i work.dual is.unreal less out is.freed_are,
       ) in
       ap (λ b. ends_in n.top.vertices links + as_count b)
-      (is_in-append unmatched (freed_names freed ++ map (λ s. s.name) sprouts) n.name
-      ∙ ap (λ b. is_in unmatched n.name || b) (is_in-append (freed_names freed) (map (λ s. s.name) sprouts) n.name))
-      ∙ either_named (is_in unmatched n.name) (is_in (freed_names freed) n.name) (is_in (map (λ s. s.name) sprouts) n.name)
+      (is_in-append unmatched (freed_names freed ++ map (λ s. s.name) singles) n.name
+      ∙ ap (λ b. is_in unmatched n.name || b) (is_in-append (freed_names freed) (map (λ s. s.name) singles) n.name))
+      ∙ either_named (is_in unmatched n.name) (is_in (freed_names freed) n.name) (is_in (map (λ s. s.name) singles) n.name)
       (ends_in n.top.vertices (freed_links freed ++ links)) (ends_in n.top.vertices links)
       (count_by (λ f. n.name == f.name) freed) split
       (count_named freed n.name (omega (arith, one, split)))
-      (distinct_across (map (λ m. m.name) nodes) (map (λ s. s.name) sprouts) n.name names (named_at nodes i less))
+      (distinct_across (map (λ m. m.name) nodes) (map (λ s. s.name) singles) n.name names (named_at nodes i less))
       one))
-      (All-map Matched node_of sprouts
+      (All-map Matched node_of singles
       (λ i d less outer.
-      let s : Sprout = get_or sprouts i d in
+      let s : Single = get_or singles i d in
       ap (λ b. ends_in (s.vertex ∷ []) links + as_count b)
-      (is_in-append unmatched (freed_names freed ++ map (λ t. t.name) sprouts) s.name
-      ∙ or_right (is_in unmatched s.name) (is_in (freed_names freed ++ map (λ t. t.name) sprouts) s.name)
-      (is_in-append (freed_names freed) (map (λ t. t.name) sprouts) s.name
-      ∙ or_right (is_in (freed_names freed) s.name) (is_in (map (λ t. t.name) sprouts) s.name) (name_in_all sprouts i d less)))
+      (is_in-append unmatched (freed_names freed ++ map (λ t. t.name) singles) s.name
+      ∙ or_right (is_in unmatched s.name) (is_in (freed_names freed ++ map (λ t. t.name) singles) s.name)
+      (is_in-append (freed_names freed) (map (λ t. t.name) singles) s.name
+      ∙ or_right (is_in (freed_names freed) s.name) (is_in (map (λ t. t.name) singles) s.name) (name_in_all singles i d less)))
       ∙ omega (arith, no_ends_at seam links s.vertex is.elsewhere (is.at_seam i d less))));
   one_parity = λ d e name leaf among cover other.
-      parity d e name leaf among (side_of nodes (nodes_of sprouts) d name cover) (side_of nodes (nodes_of sprouts) e name other);
+      parity d e name leaf among (side_of nodes (nodes_of singles) d name cover) (side_of nodes (nodes_of singles) e name other);
 }
   where
     Matched : Node → Type 0
-    Matched n = is_outer (nodes ++ nodes_of sprouts) n.name ≡ true
-        → ends_in n.top.vertices links + as_count (is_in (unmatched ++ (freed_names freed ++ map (λ s. s.name) sprouts)) n.name) ≡ 1
+    Matched n = is_outer (nodes ++ nodes_of singles) n.name ≡ true
+        → ends_in n.top.vertices links + as_count (is_in (unmatched ++ (freed_names freed ++ map (λ s. s.name) singles)) n.name) ≡ 1
 
     AtDefects : Link → Type 0
     AtDefects l = (p.is_real l.from ≡ true → is_in (leaves nodes) l.from ≡ true) × (p.is_real l.to ≡ true → is_in (leaves nodes) l.to ≡ true)
@@ -171,54 +171,54 @@ seam_opened p whole nodes freed links sprouts seam unmatched is dual work = reco
     kept_at : All AtDefects links
     kept_at = all_after AtDefects (freed_links freed) links work.links_are.at_defects
 
-    names : AreDistinct (map (λ n. n.name) nodes ++ map (λ s. s.name) sprouts)
+    names : AreDistinct (map (λ n. n.name) nodes ++ map (λ s. s.name) singles)
     names =
-        subst (λ l. AreDistinct (map (λ n. n.name) nodes ++ l)) (names_are sprouts)
-        (subst AreDistinct (names_merged nodes (nodes_of sprouts)) dual.names)
+        subst (λ l. AreDistinct (map (λ n. n.name) nodes ++ l)) (names_are singles)
+        (subst AreDistinct (names_merged nodes (nodes_of singles)) dual.names)
 
-    seam_vertex : (v : ℕ) → is_in (vertices_of sprouts) v ≡ true → seam v ≡ true
+    seam_vertex : (v : ℕ) → is_in (vertices_of singles) v ≡ true → seam v ≡ true
     seam_vertex =
-        is_in-All (λ v. seam v ≡ true) (vertices_of sprouts) (All-map (λ v. seam v ≡ true) (λ s. s.vertex) sprouts is.at_seam)
+        is_in-All (λ v. seam v ≡ true) (vertices_of singles) (All-map (λ v. seam v ≡ true) (λ s. s.vertex) singles is.at_seam)
 
-    all_leaves : (v : ℕ) → is_in (leaves (nodes ++ nodes_of sprouts)) v ≡ (is_in (leaves nodes) v || is_in (vertices_of sprouts) v)
+    all_leaves : (v : ℕ) → is_in (leaves (nodes ++ nodes_of singles)) v ≡ (is_in (leaves nodes) v || is_in (vertices_of singles) v)
     all_leaves v =
-        ap (λ l. is_in l v) (leaves_merged nodes (nodes_of sprouts) ∙ ap (λ l. leaves nodes ++ l) (leaves_are sprouts))
-        ∙ is_in-append (leaves nodes) (vertices_of sprouts) v
+        ap (λ l. is_in l v) (leaves_merged nodes (nodes_of singles) ∙ ap (λ l. leaves nodes ++ l) (leaves_are singles))
+        ∙ is_in-append (leaves nodes) (vertices_of singles) v
 
-    real_leaves : (v : ℕ) → p.is_real v ≡ true → is_in (leaves (nodes ++ nodes_of sprouts)) v ≡ is_in (leaves nodes) v
+    real_leaves : (v : ℕ) → p.is_real v ≡ true → is_in (leaves (nodes ++ nodes_of singles)) v ≡ is_in (leaves nodes) v
     real_leaves v real =
         all_leaves v
-        ∙ or_first (is_in (leaves nodes) v) (is_in (vertices_of sprouts) v)
-        (false_from_ne_true (is_in (vertices_of sprouts) v) (λ h. both_ways (p.is_real v) (is.unreal v (seam_vertex v h)) real))
+        ∙ or_first (is_in (leaves nodes) v) (is_in (vertices_of singles) v)
+        (false_from_ne_true (is_in (vertices_of singles) v) (λ h. both_ways (p.is_real v) (is.unreal v (seam_vertex v h)) real))
       where
         or_first : (a b : Bool) → b ≡ false → (a || b) ≡ a
         or_first true b e = refl
         or_first false b e = e
 
-    defect : (v : ℕ) → (p.is_real v ≡ true) ⊎ (seam v ≡ true) → whole.is_defect v ≡ is_in (leaves (nodes ++ nodes_of sprouts)) v
+    defect : (v : ℕ) → (p.is_real v ≡ true) ⊎ (seam v ≡ true) → whole.is_defect v ≡ is_in (leaves (nodes ++ nodes_of singles)) v
     defect v (inl real) = sym (is.part.defects v real) ∙ (work.defects v real ∙ sym (real_leaves v real))
     defect v (inr at) =
         is.defects v at
-        ∙ (ap (λ b. b || is_in (vertices_of sprouts) v)
+        ∙ (ap (λ b. b || is_in (vertices_of singles) v)
         (sym (false_from_ne_true (is_in (leaves nodes) v) (λ h. both_ways (p.is_real v) (is.unreal v at) (leaf_real p nodes v work.dual h))))
         ∙ sym (all_leaves v))
 
     at_end : (v : ℕ) → seam v ≡ false → (p.is_real v ≡ true → is_in (leaves nodes) v ≡ true) → whole.is_real v ≡ true
-        → is_in (leaves (nodes ++ nodes_of sprouts)) v ≡ true
+        → is_in (leaves (nodes ++ nodes_of singles)) v ≡ true
     at_end v away at real = step (is.covered v real)
       where
-        step : (p.is_real v ≡ true) ⊎ (seam v ≡ true) → is_in (leaves (nodes ++ nodes_of sprouts)) v ≡ true
+        step : (p.is_real v ≡ true) ⊎ (seam v ≡ true) → is_in (leaves (nodes ++ nodes_of singles)) v ≡ true
         step (inl h) = real_leaves v h ∙ at h
         step (inr h) = absurd (both_ways (seam v) away h)
 
-    height : (v : ℕ) → height_of (all_cuts (nodes ++ nodes_of sprouts)) v ≡ height_of (all_cuts nodes) v
-    height v = weigh_with (λ s. is_in s v) nodes sprouts is.bare
+    height : (v : ℕ) → height_of (all_cuts (nodes ++ nodes_of singles)) v ≡ height_of (all_cuts nodes) v
+    height v = weigh_with (λ s. is_in s v) nodes singles is.bare
 
-    low : (v : ℕ) → seam v ≡ true → height_of (all_cuts (nodes ++ nodes_of sprouts)) v ≡ 0
+    low : (v : ℕ) → seam v ≡ true → height_of (all_cuts (nodes ++ nodes_of singles)) v ≡ 0
     low v at = height v ∙ boundary_height p (all_cuts nodes) v (odd_in p nodes work.dual work.defects) (is.unreal v at)
 
     -- a vertex that a new node holds is at the seam
-    new_vertex : (ss : List Sprout) (j v : ℕ) → All (λ s. seam s.vertex ≡ true) ss → j < length (nodes_of ss)
+    new_vertex : (ss : List Single) (j v : ℕ) → All (λ s. seam s.vertex ≡ true) ss → j < length (nodes_of ss)
         → is_in (node_at (nodes_of ss) j).top.vertices v ≡ true → seam v ≡ true
     new_vertex ss j v at less within =
         is_in-All (λ u. seam u ≡ true) (node_at (nodes_of ss) j).top.vertices
@@ -226,23 +226,23 @@ seam_opened p whole nodes freed links sprouts seam unmatched is dual work = reco
         (λ i d below. All-cons (λ u. seam u ≡ true) (get_or ss i d).vertex [] (at i d below) (All-nil (λ u. seam u ≡ true))) j no_node less)
         v within
 
-    one_side : (name i j : ℕ) → i < length nodes → j < length (nodes_of sprouts) → (node_at nodes i).name ≡ name
-        → (node_at (nodes_of sprouts) j).name ≡ name → ⊥
+    one_side : (name i j : ℕ) → i < length nodes → j < length (nodes_of singles) → (node_at nodes i).name ≡ name
+        → (node_at (nodes_of singles) j).name ≡ name → ⊥
     one_side name i j less below here there =
-        both_ways (is_in (map (λ n. n.name) (nodes_of sprouts)) name)
-        (distinct_across (map (λ n. n.name) nodes) (map (λ n. n.name) (nodes_of sprouts)) name
-        (subst AreDistinct (names_merged nodes (nodes_of sprouts)) dual.names)
+        both_ways (is_in (map (λ n. n.name) (nodes_of singles)) name)
+        (distinct_across (map (λ n. n.name) nodes) (map (λ n. n.name) (nodes_of singles)) name
+        (subst AreDistinct (names_merged nodes (nodes_of singles)) dual.names)
         (ap (is_in (map (λ n. n.name) nodes)) (sym here) ∙ named_at nodes i less))
-        (ap (is_in (map (λ n. n.name) (nodes_of sprouts))) (sym there) ∙ named_at (nodes_of sprouts) j below)
+        (ap (is_in (map (λ n. n.name) (nodes_of singles))) (sym there) ∙ named_at (nodes_of singles) j below)
 
-    parity : (d e name : ℕ) → is_in (leaves (nodes ++ nodes_of sprouts)) d ≡ true → is_in (leaves (nodes ++ nodes_of sprouts)) e ≡ true
-        → HoldsIn (nodes ++ nodes_of sprouts) nodes name d ⊎ HoldsIn (nodes ++ nodes_of sprouts) (nodes_of sprouts) name d
-        → HoldsIn (nodes ++ nodes_of sprouts) nodes name e ⊎ HoldsIn (nodes ++ nodes_of sprouts) (nodes_of sprouts) name e
-        → height_of (all_cuts (nodes ++ nodes_of sprouts)) d % 2 ≡ height_of (all_cuts (nodes ++ nodes_of sprouts)) e % 2
+    parity : (d e name : ℕ) → is_in (leaves (nodes ++ nodes_of singles)) d ≡ true → is_in (leaves (nodes ++ nodes_of singles)) e ≡ true
+        → HoldsIn (nodes ++ nodes_of singles) nodes name d ⊎ HoldsIn (nodes ++ nodes_of singles) (nodes_of singles) name d
+        → HoldsIn (nodes ++ nodes_of singles) nodes name e ⊎ HoldsIn (nodes ++ nodes_of singles) (nodes_of singles) name e
+        → height_of (all_cuts (nodes ++ nodes_of singles)) d % 2 ≡ height_of (all_cuts (nodes ++ nodes_of singles)) e % 2
     parity d e name leaf among (inl (i, less, outer, named, holds_d)) (inl (j, below, outer_j, named_j, holds_e)) =
         let real_d = real_held p nodes i d work.dual less holds_d in
         let real_e = real_held p nodes j e work.dual below holds_e in
-        let out = (outer_in nodes (nodes_of sprouts) name outer).0 in
+        let out = (outer_in nodes (nodes_of singles) name outer).0 in
         ap (λ h. h % 2) (height d)
         ∙ (work.one_parity d e name (sym (real_leaves d real_d) ∙ leaf) (sym (real_leaves e real_e) ∙ among)
         (cover_found nodes d work.dual.apart i no_node less (ap (is_outer nodes) named ∙ out) holds_d ∙ ap Some named)
@@ -250,7 +250,7 @@ seam_opened p whole nodes freed links sprouts seam unmatched is dual work = reco
         ∙ ap (λ h. h % 2) (sym (height e)))
     parity d e name leaf among (inr (i, less, outer, named, holds_d)) (inr (j, below, outer_j, named_j, holds_e)) =
         ap (λ h. h % 2)
-        (low d (new_vertex sprouts i d is.at_seam less holds_d) ∙ sym (low e (new_vertex sprouts j e is.at_seam below holds_e)))
+        (low d (new_vertex singles i d is.at_seam less holds_d) ∙ sym (low e (new_vertex singles j e is.at_seam below holds_e)))
     parity d e name leaf among (inl (i, less, outer, named, holds_d)) (inr (j, below, outer_j, named_j, holds_e)) =
         absurd (one_side name i j less below named named_j)
     parity d e name leaf among (inr (i, less, outer, named, holds_d)) (inl (j, below, outer_j, named_j, holds_e)) =

@@ -11,15 +11,15 @@ use Rattle.fb_graph.proofs.ParitySums.{differ_comm}
 use Rattle.fb_graph.proofs.Sets.{is_in-cases, is_in-head, is_in-tail, is_in-filter}
 use Rattle.fb_graph.proofs.Sums.{sum_same}
 use Rattle.fb_graph.specs.Counts.{as_count}
-use Rattle.fb_graph.specs.Steps.{Roles, gains, losses, stepped}
-use Rattle.fb_graph.specs.Covers.{AreRoles, HaveParity, crossings_of, is_over, passes}
+use Rattle.fb_graph.specs.Steps.{Roles, gains, losses, stepped_nodes}
+use Rattle.fb_graph.specs.Covers.{AreRoles, HaveParity, crossings_of, is_covered_by, passes}
 use Rattle.fb_graph.specs.Ends.{ends_in}
 use Rattle.fb_graph.specs.Links.{pair, AreEven, IsTightLink}
 use Rattle.fb_laws.specs.Fusion.{IsLinkOf}
 use Rattle.fb_laws.specs.Parities.{HaveOneParity}
 use Rattle.fb_laws.specs.Opening.{EndAtDefects}
-use Rattle.fb_laws.specs.Works.{AreMatchedLinks, IsSetOf, IsBranchOf, without}
-use Rattle.fb_laws.specs.Trees.{Entry, Connects, IsTree, grown_links, paired_links, plus_names, minus_names, tree_names, roles_of, path_to, beside, branch_of, branches_of}
+use Rattle.fb_laws.specs.Works.{AreMatchedLinks, IsSetOf, IsBranchOf, names_without}
+use Rattle.fb_laws.specs.Trees.{Entry, Connects, IsTree, grown_links, paired_links, plus_names, minus_names, tree_names, roles_of, path_to, branches_beside, branch_of, branches_of}
 use Rattle.fb_laws.specs.Searches.{IsSearch, SearchBegins, SearchPermuted, SearchRoles, RestOutside, SearchLevel, SearchPath, SearchStepped, SearchAttached}
 use Rattle.fb_graph.proofs.Crossings.{level_between, level_outside, some_passes}
 use Rattle.fb_graph.proofs.EndSums.{ends_append, ends-cons, ends_of_one}
@@ -144,7 +144,7 @@ module _ (p : Problem) (nodes : List Node) (tree : List Entry) (rest : List Link
   )
 
   -- other unmatched nodes are not in the tree
-  pub unmatched_outside : (name : ℕ) → is_in (without root unmatched) name ≡ true → is_in (tree_names root tree) name ≡ false
+  pub unmatched_outside : (name : ℕ) → is_in (names_without root unmatched) name ≡ true → is_in (tree_names root tree) name ≡ false
   unmatched_outside name among =
       false_from_ne_true (is_in (tree_names root tree) name) (λ within. step within (used name within) (one_end name within))
     where
@@ -173,8 +173,8 @@ search_path p nodes tree rest unmatched root r name state among =
     branches : All (IsBranchOf nodes) (branches_of nodes (path_to tree name))
     branches =
         All-map (IsBranchOf nodes) (branch_of nodes) (path_to tree name)
-        (all_before (λ e. IsBranchOf nodes (branch_of nodes e)) (path_to tree name) (beside tree name)
-        (All-permutation (λ e. IsBranchOf nodes (branch_of nodes e)) tree (path_to tree name ++ beside tree name)
+        (all_before (λ e. IsBranchOf nodes (branch_of nodes e)) (path_to tree name) (branches_beside tree name)
+        (All-permutation (λ e. IsBranchOf nodes (branch_of nodes e)) tree (path_to tree name ++ branches_beside tree name)
         (IsPermutation-sym _ _ (path_beside tree name))
         (entries_outer nodes root state.matching.dual.names tree state.joined)))
 
@@ -225,9 +225,9 @@ module _ (p : Problem) (nodes : List Node) (tree : List Entry) (rest : List Link
       (λ n among. among) (λ n among. among)
 
   not_over : (test : ℕ → Bool) (v : ℕ) → ((n : ℕ) → test n ≡ true → is_in (tree_names root tree) n ≡ true)
-      → ((name : ℕ) → cover_of nodes v ≡ Some name → is_in (tree_names root tree) name ≡ false) → is_over test nodes v ≡ false
+      → ((name : ℕ) → cover_of nodes v ≡ Some name → is_in (tree_names root tree) name ≡ false) → is_covered_by test nodes v ≡ false
   not_over test v within away =
-      false_from_ne_true (is_over test nodes v)
+      false_from_ne_true (is_covered_by test nodes v)
       (λ over.
       let (name, cover, passing) = some_passes test (cover_of nodes v) over in
       both_ways (is_in (tree_names root tree) name) (away name cover) (within name passing))
@@ -284,7 +284,7 @@ search_stepped p nodes tree rest unmatched root r k low dual state = record {
   open_root = state.open_root;
   names = state.names;
   joined =
-      tree_moved nodes (stepped roles k nodes) root tree
+      tree_moved nodes (stepped_nodes roles k nodes) root tree
       (λ i d less. (cover_stepped roles nodes k (get_or (grown_links tree) i d).from, cover_stepped roles nodes k (get_or (grown_links tree) i d).to))
       (λ i d less. (cover_stepped roles nodes k (get_or (paired_links tree) i d).from, cover_stepped roles nodes k (get_or (paired_links tree) i d).to))
       state.joined;
@@ -300,7 +300,7 @@ search_stepped p nodes tree rest unmatched root r k low dual state = record {
   };
   parity = tree_parity_stepped roles (is_in (tree_names root tree)) nodes k r state.matching.dual.apart are low (tree_in_roles root tree) state.parity;
   even =
-      other_parity_stepped roles (is_in (without root unmatched)) nodes k 0 state.matching.dual.apart are low
+      other_parity_stepped roles (is_in (names_without root unmatched)) nodes k 0 state.matching.dual.apart are low
       (λ n among. (
         false_from_ne_true (is_in (plus_names root tree) n)
             (λ plus.

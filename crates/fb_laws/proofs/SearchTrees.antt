@@ -17,7 +17,7 @@ use Rattle.fb_graph.specs.Counts.{as_count}
 use Rattle.fb_graph.specs.Ends.{ends_in}
 use Rattle.fb_laws.specs.Paths.{Branch, IsPath, Joins, LeadsOut, tip_of, tree_links, matched_links}
 use Rattle.fb_laws.specs.Works.{IsMatching, IsSetOf, IsBranchOf}
-use Rattle.fb_laws.specs.Trees.{Entry, EntryOf, Connects, IsTree, grown_links, paired_links, plus_names, minus_names, tree_names, path_to, beside, branch_of, branches_of}
+use Rattle.fb_laws.specs.Trees.{Entry, EntryOf, Connects, IsTree, grown_links, paired_links, plus_names, minus_names, tree_names, path_to, branches_beside, branch_of, branches_of}
 use Rattle.fb_laws.specs.Searches.{LeavesNode}
 use Rattle.fb_graph.proofs.Crossings.{found_place}
 use Rattle.fb_graph.proofs.EndSums.{ends-cons, ends_of_one}
@@ -141,28 +141,28 @@ path_leads nodes root distinct (e ∷ es) (parent, tree, matched, joined) name a
         (rest name (among_rest other (is_in-cases e.plus (plus_names root es) name among)))
 
 -- the path and the branches beside it are the tree
-pub path_beside : {L : Type 0} (tree : List (EntryOf L)) (name : ℕ) → IsPermutation (path_to tree name ++ beside tree name) tree
+pub path_beside : {L : Type 0} (tree : List (EntryOf L)) (name : ℕ) → IsPermutation (path_to tree name ++ branches_beside tree name) tree
 path_beside [] name = IsPermutation-refl []
 path_beside (e ∷ es) name = step (cases_eq e.plus name) (path_beside es)
   where
-    step : (e.plus ≡ name) ⊎ (e.plus ≡ name → ⊥) → ((n : ℕ) → IsPermutation (path_to es n ++ beside es n) es)
+    step : (e.plus ≡ name) ⊎ (e.plus ≡ name → ⊥) → ((n : ℕ) → IsPermutation (path_to es n ++ branches_beside es n) es)
         → IsPermutation
         (cond (e.plus == name) (path_to es e.parent ++ e ∷ []) (path_to es name)
-        ++ cond (e.plus == name) (beside es e.parent) (e ∷ beside es name)) (e ∷ es)
+        ++ cond (e.plus == name) (branches_beside es e.parent) (e ∷ branches_beside es name)) (e ∷ es)
     step (inl same) rest =
         subst
         (λ b. IsPermutation
-        (cond b (path_to es e.parent ++ e ∷ []) (path_to es name) ++ cond b (beside es e.parent) (e ∷ beside es name)) (e ∷ es))
+        (cond b (path_to es e.parent ++ e ∷ []) (path_to es name) ++ cond b (branches_beside es e.parent) (e ∷ branches_beside es name)) (e ∷ es))
         (sym (eq-eqb e.plus name same))
-        (subst (λ l. IsPermutation l (e ∷ es)) (sym (append_assoc (path_to es e.parent) (e ∷ []) (beside es e.parent)))
-        (IsPermutation-trans _ _ _ (IsPermutation-middle (path_to es e.parent) e (beside es e.parent))
+        (subst (λ l. IsPermutation l (e ∷ es)) (sym (append_assoc (path_to es e.parent) (e ∷ []) (branches_beside es e.parent)))
+        (IsPermutation-trans _ _ _ (IsPermutation-middle (path_to es e.parent) e (branches_beside es e.parent))
         (IsPermutation-cons e _ _ (rest e.parent))))
     step (inr other) rest =
         subst
         (λ b. IsPermutation
-        (cond b (path_to es e.parent ++ e ∷ []) (path_to es name) ++ cond b (beside es e.parent) (e ∷ beside es name)) (e ∷ es))
+        (cond b (path_to es e.parent ++ e ∷ []) (path_to es name) ++ cond b (branches_beside es e.parent) (e ∷ branches_beside es name)) (e ∷ es))
         (sym (ne_eqb e.plus name other))
-        (IsPermutation-trans _ _ _ (IsPermutation-middle (path_to es name) e (beside es name))
+        (IsPermutation-trans _ _ _ (IsPermutation-middle (path_to es name) e (branches_beside es name))
         (IsPermutation-cons e _ _ (rest name)))
 
 pub entries_outer : (nodes : List Node) (root : ℕ) → AreDistinct (map (λ n. n.name) nodes) → (tree : List Entry)

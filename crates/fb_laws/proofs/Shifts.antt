@@ -14,7 +14,7 @@ use Rattle.fb_graph.proofs.Sets.{equal_sym, one_if, count_equal, crosses_as_touc
 use Rattle.fb_graph.proofs.Duality.{weak_duality}
 use Rattle.fb_graph.proofs.OddComponents.{component_uncrossed}
 use Rattle.fb_graph.proofs.Walks.{walk_same}
-use Rattle.fb_laws.specs.Signed.{negatives, shifted, added_weight, taken_weight, base_of, unshifted, SignedDuality, SignedSolved, SignedLeast, SameFirstOdd, SameNoOddClosed}
+use Rattle.fb_laws.specs.Signed.{negatives, shifted_problem, added_weight, taken_weight, base_of, unshifted_edges, SignedDuality, SignedSolved, SignedLeast, SameFirstOdd, SameNoOddClosed}
 
 range_distinct : (n : ℕ) → AreDistinct (range_with_len 0 n)
 range_distinct n = distinct_from_rising (range_with_len 0 n) (range_rises 0 n)
@@ -83,7 +83,7 @@ module _ (p : Problem) (is_negative : ℕ → Bool) where
 
   -- the edges chosen or negative, but not both, have the sum of the parities
   odd_unshifted : (chosen : List ℕ) (test : ℕ → Bool) → AreDistinct chosen → All (λ k. k < length p.edges) chosen
-      → is_odd_count test (unshifted p is_negative chosen)
+      → is_odd_count test (unshifted_edges p is_negative chosen)
       ≡ differ (is_odd_count test chosen) (is_odd_count test (negatives p is_negative))
   unfolding all_edges
   odd_unshifted chosen test distinct within =
@@ -97,13 +97,13 @@ module _ (p : Problem) (is_negative : ℕ → Bool) where
       ∙ ap (differ (is_odd_count test chosen)) (sym (odd-filter is_negative test all_edges)))))
 
   shifted_defects : (chosen : List ℕ) → AreDistinct chosen → All (λ k. k < length p.edges) chosen → Flips p chosen
-      → Flips (shifted p is_negative) (unshifted p is_negative chosen)
+      → Flips (shifted_problem p is_negative) (unshifted_edges p is_negative chosen)
   shifted_defects chosen distinct within flips v real =
       odd_unshifted chosen (λ k. touches v (edge_at p.edges k)) distinct within
       ∙ ap (λ b. differ b (is_odd_count (λ k. touches v (edge_at p.edges k)) (negatives p is_negative))) (flips v real)
 
   unshifted_defects : (chosen : List ℕ) → AreDistinct chosen → All (λ k. k < length p.edges) chosen
-      → Flips (shifted p is_negative) chosen → Flips p (unshifted p is_negative chosen)
+      → Flips (shifted_problem p is_negative) chosen → Flips p (unshifted_edges p is_negative chosen)
   unshifted_defects chosen distinct within flips v real =
       let shift : Bool = is_odd_count (λ k. touches v (edge_at p.edges k)) (negatives p is_negative) in
       odd_unshifted chosen (λ k. touches v (edge_at p.edges k)) distinct within
@@ -115,7 +115,7 @@ module _ (p : Problem) (is_negative : ℕ → Bool) where
 
   -- what a choice with the negative edges weighs, beside what it takes off
   weight_unshifted : (chosen : List ℕ) → AreDistinct chosen → All (λ k. k < length p.edges) chosen
-      → weight_of p (unshifted p is_negative chosen) + taken_weight p is_negative chosen
+      → weight_of p (unshifted_edges p is_negative chosen) + taken_weight p is_negative chosen
       ≡ added_weight p is_negative chosen + base_of p is_negative
   unfolding all_edges weight
   weight_unshifted chosen distinct within =
@@ -143,8 +143,8 @@ module _ (p : Problem) (is_negative : ℕ → Bool) where
 
   -- the same of a choice that has them already
   weight_back : (chosen : List ℕ) → AreDistinct chosen → All (λ k. k < length p.edges) chosen
-      → added_weight p is_negative (unshifted p is_negative chosen) + base_of p is_negative
-      ≡ weight_of p chosen + taken_weight p is_negative (unshifted p is_negative chosen)
+      → added_weight p is_negative (unshifted_edges p is_negative chosen) + base_of p is_negative
+      ≡ weight_of p chosen + taken_weight p is_negative (unshifted_edges p is_negative chosen)
   unfolding all_edges weight
   weight_back chosen distinct within =
       let taken : ℕ → ℕ = λ k. cond (is_negative k) (weight k) 0 in
@@ -171,8 +171,8 @@ module _ (p : Problem) (is_negative : ℕ → Bool) where
 
 pub signed_duality : SignedDuality
 signed_duality p is_negative cuts chosen packing distinct within flips =
-    let least : total_value cuts ≤ weight_of p (unshifted p is_negative chosen) =
-    weak_duality (shifted p is_negative) cuts (unshifted p is_negative chosen) packing
+    let least : total_value cuts ≤ weight_of p (unshifted_edges p is_negative chosen) =
+    weak_duality (shifted_problem p is_negative) cuts (unshifted_edges p is_negative chosen) packing
     (within_all p is_negative (λ k. differ (is_in chosen k) (is_negative k)))
     (shifted_defects p is_negative chosen distinct within flips) in
     omega (arith, least, weight_unshifted p is_negative chosen distinct within)
@@ -203,7 +203,7 @@ signed_least p is_negative cuts chosen other packing solved edge_set flips =
 -- the shift changes no set's parity that no edge crosses
 odd_shifted : (p : Problem) (is_negative : ℕ → Bool) (set : List ℕ) → AreDistinct set
     → ((k : ℕ) → k < length p.edges → crosses set (edge_at p.edges k) ≡ false)
-    → is_odd_count (shifted p is_negative).is_defect set ≡ is_odd_count p.is_defect set
+    → is_odd_count (shifted_problem p is_negative).is_defect set ≡ is_odd_count p.is_defect set
 odd_shifted p is_negative set distinct uncrossed =
     odd-differ p.is_defect (λ v. is_odd_count (λ k. touches v (edge_at p.edges k)) (negatives p is_negative)) set
     ∙ (ap (differ (is_odd_count p.is_defect set))
@@ -243,14 +243,14 @@ first_odd_same p q there back (Some v) (odd, least) = (there v odd, λ u less ot
 
 pub same_first_odd : SameFirstOdd
 same_first_odd p is_negative r =
-    (first_odd_same p (shifted p is_negative) there back r, first_odd_same (shifted p is_negative) p back there r)
+    (first_odd_same p (shifted_problem p is_negative) there back r, first_odd_same (shifted_problem p is_negative) p back there r)
   where
-    there : (v : ℕ) → IsOddAt p v → IsOddAt (shifted p is_negative) v
-    there = odd_at_same p (shifted p is_negative) refl refl (λ v h. h) (odd_shifted p is_negative)
+    there : (v : ℕ) → IsOddAt p v → IsOddAt (shifted_problem p is_negative) v
+    there = odd_at_same p (shifted_problem p is_negative) refl refl (λ v h. h) (odd_shifted p is_negative)
 
-    back : (v : ℕ) → IsOddAt (shifted p is_negative) v → IsOddAt p v
+    back : (v : ℕ) → IsOddAt (shifted_problem p is_negative) v → IsOddAt p v
     back =
-        odd_at_same (shifted p is_negative) p refl refl (λ v h. h)
+        odd_at_same (shifted_problem p is_negative) p refl refl (λ v h. h)
         (λ set distinct uncrossed. sym (odd_shifted p is_negative set distinct uncrossed))
 
 pub same_no_odd_closed : SameNoOddClosed

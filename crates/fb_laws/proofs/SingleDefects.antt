@@ -174,16 +174,16 @@ module _ (p : Problem) (nodes : List Node) (name : ℕ) (nest : IsNest p nodes) 
       let (n, b, other, second) = in_first e at_e in
       let same : n ≡ m = same_among nodes nest.dual.names n m b a (other ∙ sym named) in
       let none = All_among (λ x. x.name ≡ name → x.children ≡ []) nodes single m a named in
-      lone (first_set m) (length_one m none (All_among IsFormed nodes nest.forest.formed m a)) first
+      childless (first_set m) (length_one m none (All_among IsFormed nodes nest.forest.formed m a)) first
       (ap (λ x. is_in (first_set x) e) (sym same) ∙ second)
     where
       length_one : (m : Node) → m.children ≡ [] → IsFormed m → length (first_set m) ≡ 1
       length_one m none (inl is) = is.defect
       length_one m none (inr many) = absurd (omega (arith, many.three, ap length none))
 
-      lone : (set : List ℕ) → length set ≡ 1 → is_in set d ≡ true → is_in set e ≡ true → d ≡ e
-      lone [] short first second = absurd (false≢true first)
-      lone (x ∷ []) short first second = sym (only d first) ∙ only e second
+      childless : (set : List ℕ) → length set ≡ 1 → is_in set d ≡ true → is_in set e ≡ true → d ≡ e
+      childless [] short first second = absurd (false≢true first)
+      childless (x ∷ []) short first second = sym (only d first) ∙ only e second
         where
           only : (v : ℕ) → is_in (x ∷ []) v ≡ true → x ≡ v
           only v h = pick (is_in-cases x [] v h)
@@ -191,7 +191,7 @@ module _ (p : Problem) (nodes : List Node) (name : ℕ) (nest : IsNest p nodes) 
               pick : (x ≡ v) ⊎ (is_in [] v ≡ true) → x ≡ v
               pick (inl same) = same
               pick (inr none) = absurd (false≢true none)
-      lone (x ∷ y ∷ ys) short first second = absurd (omega (arith, short))
+      childless (x ∷ y ∷ ys) short first second = absurd (omega (arith, short))
 
   height : (d : ℕ) → IsDefectUnder nodes name d → height_of (all_cuts nodes) d ≡ total_value (layers_at nodes name)
   height d is =

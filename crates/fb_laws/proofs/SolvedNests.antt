@@ -16,7 +16,7 @@ use Rattle.fb_graph.specs.Links.{pair}
 use Rattle.fb_laws.specs.Opening.{single_sets}
 use Rattle.fb_laws.specs.Works.{positive_cuts}
 use Rattle.fb_graph.specs.Nests.{IsFormed, first_set}
-use Rattle.fb_laws.specs.NestSolutions.{DefectsFirst, LoneLevel, NestResolved, lone_sets}
+use Rattle.fb_laws.specs.NestSolutions.{DefectsFirst, LeafLevel, NestResolved, leaf_sets}
 use Rattle.fb_graph.proofs.Among.{IsAmong, All_among, among_All, leaf_among, map_among}
 use Rattle.fb_graph.proofs.Forests.{defects_first, first_within}
 use Rattle.fb_laws.proofs.HalvesKept.{positive_loads, positive_packing, positive_total}
@@ -26,8 +26,8 @@ use Rattle.fb_graph.proofs.NestParts.{grove_of, top_is_odd}
 use Rattle.fb_laws.proofs.OpenedLevels.{level_solved}
 
 -- a node with a defect of its own joins no others
-lone : (m : Node) (d : ℕ) → is_in (defects_of m) d ≡ true → is_empty m.children ≡ true
-lone m d mine = step (cases_Bool (is_empty m.children))
+childless : (m : Node) (d : ℕ) → is_in (defects_of m) d ≡ true → is_empty m.children ≡ true
+childless m d mine = step (cases_Bool (is_empty m.children))
   where
     step : (is_empty m.children ≡ true) ⊎ (is_empty m.children ≡ false) → is_empty m.children ≡ true
     step (inl e) = e
@@ -51,7 +51,7 @@ defects_in_first p nodes nest =
         → Relates nodes n m → is_in (first_set n) d ≡ true
     step n d within m mine (inl e) = ap (λ x. is_in (first_set x) d) e ∙ defects_first m d mine
     step n d within m mine (inr (inl (x, c, child, holds))) =
-        absurd (both_ways (is_in m.children x.name) (no_child m.children x.name (lone m d mine)) child)
+        absurd (both_ways (is_in m.children x.name) (no_child m.children x.name (childless m d mine)) child)
     step n d within m mine (inr (inr (inl holds))) = holds d (defects_first m d mine)
     step n d within m mine (inr (inr (inr apart))) =
         absurd (both_ways (is_in (first_set m) d) (apart d within) (defects_first m d mine))
@@ -68,19 +68,19 @@ one_of (x ∷ y ∷ ys) d one within = absurd (omega (arith, one))
 
 first_is : (m : Node) (d : ℕ) → IsFormed m → is_in (defects_of m) d ≡ true → first_set m ≡ d ∷ []
 first_is m d (inl alone) mine = one_of (first_set m) d alone.defect (defects_first m d mine)
-first_is m d (inr many) mine = absurd (none m.children (lone m d mine) many.three)
+first_is m d (inr many) mine = absurd (none m.children (childless m d mine) many.three)
   where
     none : (cs : List ℕ) → is_empty cs ≡ true → 3 ≤ length cs → ⊥
     none [] e three = absurd (omega (arith, three))
     none (x ∷ xs) e three = absurd (false≢true e)
 
-lone_among : (ns : List Node) (m : Node) → IsAmong m ns → is_empty m.children ≡ true
+childless_among : (ns : List Node) (m : Node) → IsAmong m ns → is_empty m.children ≡ true
     → IsAmong m (filter (λ n. is_empty n.children) ns)
-lone_among [] m a e = absurd a
-lone_among (n ∷ ns) m (inl same) e =
+childless_among [] m a e = absurd a
+childless_among (n ∷ ns) m (inl same) e =
     subst (λ b. IsAmong m (cond b (n ∷ filter (λ x. is_empty x.children) ns) (filter (λ x. is_empty x.children) ns)))
     (sym (ap (λ x. is_empty x.children) same ∙ e)) (inl same)
-lone_among (n ∷ ns) m (inr a) e = step (is_empty n.children) (lone_among ns m a e)
+childless_among (n ∷ ns) m (inr a) e = step (is_empty n.children) (childless_among ns m a e)
   where
     step : (b : Bool) → IsAmong m (filter (λ x. is_empty x.children) ns)
         → IsAmong m (cond b (n ∷ filter (λ x. is_empty x.children) ns) (filter (λ x. is_empty x.children) ns))
@@ -101,8 +101,8 @@ singles_apart (x ∷ xs) distinct = (
   singles_apart xs distinct.1,
 )
 
-pub lone_level : LoneLevel
-lone_level p nodes links nest at_defects level = record {
+pub leaf_level : LeafLevel
+leaf_level p nodes links nest at_defects level = record {
   apart = singles_apart (leaves nodes) nest.defects;
   ends =
       All-map (λ s. ends_in s links ≡ 1) (λ d. d ∷ []) (leaves nodes)
@@ -115,9 +115,9 @@ lone_level p nodes links nest at_defects level = record {
       let l : Link = get_or links i e in
       ap (λ x. as_count x + as_count (is_in (d ∷ []) l.to)) (same m a d mine l.from (at_defects i e less).0)
       ∙ ap (λ x. as_count (is_in m.top.vertices l.from) + as_count x) (same m a d mine l.to (at_defects i e less).1))
-      ∙ All_among (λ s. ends_in s links ≡ 1) (lone_sets nodes) level.ends m.top.vertices
+      ∙ All_among (λ s. ends_in s links ≡ 1) (leaf_sets nodes) level.ends m.top.vertices
       (map_among (λ n. n.top.vertices) (filter (λ n. is_empty n.children) nodes) m
-      (lone_among nodes m a (lone m d mine)))));
+      (childless_among nodes m a (childless m d mine)))));
   once = level.once;
 }
   where
@@ -152,7 +152,7 @@ nest_resolved p nodes links printed nest defects level tight at_defects are risi
     solved : IsSolved p (positive_cuts nodes) (odd_edges p links)
     solved =
         level_solved p (positive_cuts nodes) (leaves nodes) links (positive_packing p nodes nest.dual defects)
-        (lone_level p nodes links nest at_defects level)
+        (leaf_level p nodes links nest at_defects level)
         (λ i d less. record {
           walk = (tight i d less).walk;
           tight = (tight i d less).tight ∙ sym

@@ -11,7 +11,7 @@ use Rattle.fb_graph.proofs.Matching.{resolving}
 use Rattle.fb_laws.proofs.HalvesKept.{positive_loads, positive_packing}
 use Rattle.fb_laws.proofs.OpenedLevels.{last_level}
 use Rattle.fb_laws.proofs.OpenedParts.{end_at_turn, opened_level, opened_matched}
-use Rattle.fb_laws.proofs.SolvedNests.{lone_level}
+use Rattle.fb_laws.proofs.SolvedNests.{leaf_level}
 use Rattle.fb_laws.proofs.SolvedRows.{best_of_whole, odd_edges_only, solved_is_best}
 
 matching : (p : Problem) (s : PartState) → IsPartState p s → s.unmatched ≡ [] → IsMatching p s.nodes s.matches []
@@ -31,7 +31,7 @@ pub opened_perfect : OpenedPerfect
 opened_perfect p s is none =
     let (level, are) = level_opened p s is none in
     last_level p (positive_cuts s.nodes) (leaves s.nodes) (opened_links s)
-    (lone_level p s.nodes (opened_links s) is.work.nest are.at_defects level)
+    (leaf_level p s.nodes (opened_links s) is.work.nest are.at_defects level)
     (λ i d less. record {
       walk = (are.tight i d less).walk;
       tight = (are.tight i d less).tight ∙ sym

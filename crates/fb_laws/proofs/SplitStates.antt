@@ -9,7 +9,7 @@ use Rattle.fb_graph.specs.Certificate.{AreDistinct}
 use Rattle.fb_graph.specs.Dual.{Node, all_cuts, first_vertices, is_empty, is_live, leaves, cover_of, top_at}
 use Rattle.fb_graph.proofs.Sets.{is_in-All}
 use Rattle.fb_graph.specs.Nests.{IsNest, IsFilled, AreJoinedLater}
-use Rattle.fb_graph.specs.Moves.{split, MaySplit}
+use Rattle.fb_graph.specs.Moves.{split_nodes, MaySplit}
 use Rattle.fb_laws.specs.Trees.{Connects}
 use Rattle.fb_laws.specs.SearchOpenings.{IsSplit}
 use Rattle.fb_laws.specs.OpenedCycles.{SplitOff, EndUnderChild}
@@ -33,33 +33,33 @@ one_parent (x ∷ xs) joined m n (inr a) (inl f) c h k =
     (All_among (λ y. (v : ℕ) → is_in x.children v ≡ true → is_in y.children v ≡ false) xs joined.1 m a c (ap (λ y. is_in y.children c) f ∙ k)) h)
 one_parent (x ∷ xs) joined m n (inr a) (inr b) c h k = one_parent xs joined.2 m n a b c h k
 
-split_none : (name : ℕ) (ns : List Node) → is_in (map (λ n. n.name) ns) name ≡ false → split name ns ≡ ns
+split_none : (name : ℕ) (ns : List Node) → is_in (map (λ n. n.name) ns) name ≡ false → split_nodes name ns ≡ ns
 split_none name [] fresh = refl
 split_none name (n ∷ ns) fresh =
     let parts = or_parts (n.name == name) (is_in (map (λ m. m.name) ns) name) fresh in
-    ap (λ b. cond (not b) (n ∷ split name ns) (split name ns)) parts.0 ∙ ap (λ l. n ∷ l) (split_none name ns parts.1)
+    ap (λ b. cond (not b) (n ∷ split_nodes name ns) (split_nodes name ns)) parts.0 ∙ ap (λ l. n ∷ l) (split_none name ns parts.1)
 
 pub split_at : (before after : List Node) (b : Node) → AreDistinct (map (λ n. n.name) (before ++ b ∷ after))
-    → split b.name (before ++ b ∷ after) ≡ before ++ after
+    → split_nodes b.name (before ++ b ∷ after) ≡ before ++ after
 split_at [] after b distinct =
-    ap (λ t. cond (not t) (b ∷ split b.name after) (split b.name after)) (eq-eqb b.name b.name refl) ∙ split_none b.name after distinct.0
+    ap (λ t. cond (not t) (b ∷ split_nodes b.name after) (split_nodes b.name after)) (eq-eqb b.name b.name refl) ∙ split_none b.name after distinct.0
 split_at (n ∷ ns) after b distinct =
-    ap (λ t. cond (not t) (n ∷ split b.name (ns ++ b ∷ after)) (split b.name (ns ++ b ∷ after)))
+    ap (λ t. cond (not t) (n ∷ split_nodes b.name (ns ++ b ∷ after)) (split_nodes b.name (ns ++ b ∷ after)))
     (ne_eqb n.name b.name (other_name n (ns ++ b ∷ after) distinct b (among_right ns (b ∷ after) b (inl refl))))
     ∙ ap (λ l. n ∷ l) (split_at ns after b distinct.1)
 
 module _ (p : Problem) (nodes : List Node) (b : Node) (children : List ℕ) (among : IsAmong b nodes) (may : MaySplit nodes b.name) (nest : IsNest p nodes)
     (same : (n : ℕ) → is_in children n ≡ is_in b.children n) where
-  after : IsNest p (split b.name nodes)
+  after : IsNest p (split_nodes b.name nodes)
   after = nest_split p nodes b.name may nest
 
   -- what covers a defect elsewhere covers it still
-  outside : (d n : ℕ) → cover_of nodes d ≡ Some n → (n ≡ b.name → ⊥) → (cover_of (split b.name nodes) d ≡ Some n) × (is_in children n ≡ false)
+  outside : (d n : ℕ) → cover_of nodes d ≡ Some n → (n ≡ b.name → ⊥) → (cover_of (split_nodes b.name nodes) d ≡ Some n) × (is_in children n ≡ false)
   outside d n cover other =
       let over = cover_among nodes d n cover in (
-        covered_by (split b.name nodes) d after.dual.apart over.node
+        covered_by (split_nodes b.name nodes) d after.dual.apart over.node
             (split_among b.name nodes over.node over.among (λ e. other (sym over.named ∙ e)))
-            (among_outer (split b.name nodes) over.node.name
+            (among_outer (split_nodes b.name nodes) over.node.name
             (λ q a. outer_among nodes over.node.name over.outer q (among_split b.name nodes q a).0))
             over.holds
             ∙ ap Some over.named,
@@ -89,12 +89,12 @@ module _ (p : Problem) (nodes : List Node) (b : Node) (children : List ℕ) (amo
           ∙ (ap (λ n. is_in n.top.vertices d) (sym (same_among nodes nest.dual.names over.node b over.among among over.named)) ∙ over.holds)))
 
   pub child_covers : (m : Node) → IsAmong m nodes → is_in b.children m.name ≡ true → (d : ℕ) → is_in m.top.vertices d ≡ true
-      → cover_of (split b.name nodes) d ≡ Some m.name
+      → cover_of (split_nodes b.name nodes) d ≡ Some m.name
   child_covers m a mine d holds =
-      covered_by (split b.name nodes) d after.dual.apart m
+      covered_by (split_nodes b.name nodes) d after.dual.apart m
       (split_among b.name nodes m a
       (λ e. both_ways (is_in b.children b.name) (outer_among nodes b.name may.outer b among) (ap (is_in b.children) (sym e) ∙ mine)))
-      (among_outer (split b.name nodes) m.name
+      (among_outer (split_nodes b.name nodes) m.name
       (λ q h.
       false_from_ne_true (is_in q.children m.name)
       (λ k.
@@ -103,11 +103,11 @@ module _ (p : Problem) (nodes : List Node) (b : Node) (children : List ℕ) (amo
       holds
 
   inside : (d : ℕ) → cover_of nodes d ≡ Some b.name
-      → (n : ℕ) × (cover_of (split b.name nodes) d ≡ Some n) × (is_in children n ≡ true)
+      → (n : ℕ) × (cover_of (split_nodes b.name nodes) d ≡ Some n) × (is_in children n ≡ true)
   inside d cover = by (held_child d cover)
     where
       Found : Type 0
-      Found = (n : ℕ) × (cover_of (split b.name nodes) d ≡ Some n) × (is_in children n ≡ true)
+      Found = (n : ℕ) × (cover_of (split_nodes b.name nodes) d ≡ Some n) × (is_in children n ≡ true)
 
       named : (c : ℕ) → is_in b.children c ≡ true → is_in (top_at nodes c) d ≡ true → (m : Node) × IsAmong m nodes × (m.name ≡ c) → Found
       named c child holds (m, a, is) = (
@@ -124,12 +124,12 @@ module _ (p : Problem) (nodes : List Node) (b : Node) (children : List ℕ) (amo
           (is_in-All (λ x. is_live nodes x ≡ true) b.children
           (All_among (λ n. All (λ x. is_live nodes x ≡ true) n.children) nodes nest.forest.live b among) c child))
 
-  pub is_split : IsSplit nodes (split b.name nodes) b.name children
+  pub is_split : IsSplit nodes (split_nodes b.name nodes) b.name children
   is_split = record {
     defects = same_leaves p nodes b.name may nest;
     loads = λ e.
         sym
-        (same_weigh (λ s. crosses s e) (at p nodes b.name may nest).node.top (all_cuts (split b.name nodes)) (all_cuts nodes)
+        (same_weigh (λ s. crosses s e) (at p nodes b.name may nest).node.top (all_cuts (split_nodes b.name nodes)) (all_cuts nodes)
         (insertion p nodes b.name may nest));
     heights = height p nodes b.name may nest;
     outside = λ d n leaf cover other. outside d n cover other;
@@ -145,7 +145,7 @@ split_off p before after b children may nest same =
     )
 
 pub end_under_child : EndUnderChild
-end_under_child p nodes others blossom other children l dual split are differs connects = by connects
+end_under_child p nodes others blossom other children l dual split_nodes are differs connects = by connects
   where
     at : (p.is_real l.from ≡ true → is_in (leaves nodes) l.from ≡ true) × (p.is_real l.to ≡ true → is_in (leaves nodes) l.to ≡ true)
     at =
@@ -158,10 +158,10 @@ end_under_child p nodes others blossom other children l dual split are differs c
     leaf v n defect cover = defect (dual.real v (subst IsSome (sym cover) refl))
 
     stays : (v : ℕ) → (p.is_real v ≡ true → is_in (leaves nodes) v ≡ true) → cover_of nodes v ≡ Some other → cover_of others v ≡ Some other
-    stays v defect cover = (split.outside v other (leaf v other defect cover) cover differs).0
+    stays v defect cover = (split_nodes.outside v other (leaf v other defect cover) cover differs).0
 
     by : Connects nodes l other blossom → (child : ℕ) × (is_in children child ≡ true) × Connects others l other child
     by (inl (from, to)) =
-        let (child, there, is) = split.inside l.to (leaf l.to blossom at.1 to) to in (child, is, inl (stays l.from at.0 from, there))
+        let (child, there, is) = split_nodes.inside l.to (leaf l.to blossom at.1 to) to in (child, is, inl (stays l.from at.0 from, there))
     by (inr (to, from)) =
-        let (child, there, is) = split.inside l.from (leaf l.from blossom at.0 from) from in (child, is, inr (stays l.to at.1 to, there))
+        let (child, there, is) = split_nodes.inside l.from (leaf l.from blossom at.0 from) from in (child, is, inr (stays l.to at.1 to, there))

@@ -9,7 +9,7 @@ use Rattle.fb_graph.specs.Problem.{Problem}
 use Rattle.fb_graph.specs.Certificate.{load_of}
 use Rattle.fb_graph.specs.Laws.{Link}
 use Rattle.fb_graph.specs.Dual.{Node, all_cuts, is_empty, is_live, is_outer, leaves, top_at}
-use Rattle.fb_graph.specs.Moves.{MayJoin, blossom, joined}
+use Rattle.fb_graph.specs.Moves.{MayJoin, blossom, joined_nodes}
 use Rattle.fb_graph.specs.Nests.{IsNest, child_sets}
 use Rattle.fb_graph.proofs.Among.{IsAmong, All_among, among_All, among_either, among_left, among_live, among_outer, among_right, live_among, outer_among, top_left}
 use Rattle.fb_graph.proofs.AppendedNodes.{cuts_merged, leaves_merged}
@@ -19,7 +19,7 @@ use Rattle.fb_graph.proofs.Sets.{All-from_is_in, is_in-All, is_in-cases, is_in-f
 use Rattle.fb_graph.proofs.TightLinks.{empty_layer_loads}
 use Rattle.fb_laws.specs.Forming.{Child, blossom_of, names_of}
 use Rattle.fb_laws.specs.PartStates.{IsRing, AreCycles, IsSearchState, SearchState, all_cycle_links, links_at}
-use Rattle.fb_laws.specs.SearchBlossoms.{IsJoining, child_at, renamed}
+use Rattle.fb_laws.specs.SearchBlossoms.{IsJoining, child_at, renamed_name}
 use Rattle.fb_laws.specs.Searches.{IsSearch}
 use Rattle.fb_laws.specs.StateBlossoms.{MayClose, StateJoined, StateClosed, StateRounded, joined_state, with_cycle}
 use Rattle.fb_laws.specs.TreeCycles.{AreLinked, ArePaths, cycle_links, cycle_nodes, last_plus}
@@ -53,14 +53,14 @@ links_agree name links cycles (n ∷ ns) other =
 
 module _ (p : Problem) (nodes : List Node) (cycles : ℕ → List Link) (name first : ℕ) (names : List ℕ) (links : List Link) (nest : IsNest p nodes) (fresh : is_live nodes name ≡ false) (live : All (λ c. is_live nodes c ≡ true) (first ∷ names)) where
   all : List Node
-  all = joined name (first ∷ names) nodes
+  all = joined_nodes name (first ∷ names) nodes
 
   no_blossom : (n : Node) → IsAmong n nodes → n.name ≡ name → ⊥
   no_blossom n a same = both_ways (is_live nodes name) fresh (among_live nodes n name a same)
 
-  joined_links : (some : List Link) → AreMatchedLinks p nodes some → AreMatchedLinks p (joined name (first ∷ names) nodes) some
+  joined_links : (some : List Link) → AreMatchedLinks p nodes some → AreMatchedLinks p (joined_nodes name (first ∷ names) nodes) some
   joined_links some are =
-      links_kept p nodes (joined name (first ∷ names) nodes) some
+      links_kept p nodes (joined_nodes name (first ∷ names) nodes) some
       (leaves_merged nodes (blossom name (first ∷ names) nodes ∷ []) ∙ append-nil (leaves nodes))
       (λ e.
       ap (λ cuts. load_of cuts e) (cuts_merged nodes (blossom name (first ∷ names) nodes ∷ []))
@@ -69,9 +69,9 @@ module _ (p : Problem) (nodes : List Node) (cycles : ℕ → List Link) (name fi
       are
 
   old_rings : All (λ n. IsRing (child_sets nodes n) (cycles n.name)) nodes
-      → All (λ n. IsRing (child_sets (joined name (first ∷ names) nodes) n) (with_cycle name links cycles n.name)) nodes
+      → All (λ n. IsRing (child_sets (joined_nodes name (first ∷ names) nodes) n) (with_cycle name links cycles n.name)) nodes
   old_rings rings =
-      rings_over nodes (joined name (first ∷ names) nodes) nodes (with_cycle name links cycles)
+      rings_over nodes (joined_nodes name (first ∷ names) nodes) nodes (with_cycle name links cycles)
       (λ n a c child.
       top_left nodes (blossom name (first ∷ names) nodes ∷ []) c
       (is_in-All (λ x. is_live nodes x ≡ true) n.children
@@ -82,37 +82,37 @@ module _ (p : Problem) (nodes : List Node) (cycles : ℕ → List Link) (name fi
       (All_among (λ m. IsRing (child_sets nodes m) (cycles m.name)) nodes rings n a)))
 
   new_ring : IsRing (map (top_at nodes) (first ∷ names)) links
-      → IsRing (child_sets (joined name (first ∷ names) nodes) (blossom name (first ∷ names) nodes)) (with_cycle name links cycles name)
+      → IsRing (child_sets (joined_nodes name (first ∷ names) nodes) (blossom name (first ∷ names) nodes)) (with_cycle name links cycles name)
   new_ring ring =
-      subst (IsRing (map (top_at (joined name (first ∷ names) nodes)) (first ∷ names)))
+      subst (IsRing (map (top_at (joined_nodes name (first ∷ names) nodes)) (first ∷ names)))
       (sym (ap (λ b. cond b links (cycles name)) (eq-eqb name name refl)))
       (subst (λ sets. IsRing sets links)
       (sym
-      (map_agree (top_at (joined name (first ∷ names) nodes)) (top_at nodes) (first ∷ names)
-      (All-from_is_in (λ c. top_at (joined name (first ∷ names) nodes) c ≡ top_at nodes c) (first ∷ names)
+      (map_agree (top_at (joined_nodes name (first ∷ names) nodes)) (top_at nodes) (first ∷ names)
+      (All-from_is_in (λ c. top_at (joined_nodes name (first ∷ names) nodes) c ≡ top_at nodes c) (first ∷ names)
       (λ c within.
       top_left nodes (blossom name (first ∷ names) nodes ∷ []) c
       (is_in-All (λ x. is_live nodes x ≡ true) (first ∷ names) live c within)))))
       ring)
 
   pub cycles_joined : IsRing (map (top_at nodes) (first ∷ names)) links → AreMatchedLinks p nodes links → AreCycles p nodes cycles
-      → AreCycles p (joined name (first ∷ names) nodes) (with_cycle name links cycles)
+      → AreCycles p (joined_nodes name (first ∷ names) nodes) (with_cycle name links cycles)
   cycles_joined ring tight old = record {
     rings =
         All-append
-        (λ n. IsRing (child_sets (joined name (first ∷ names) nodes) n) (with_cycle name links cycles n.name)) nodes
+        (λ n. IsRing (child_sets (joined_nodes name (first ∷ names) nodes) n) (with_cycle name links cycles n.name)) nodes
         (blossom name (first ∷ names) nodes ∷ []) (old_rings old.rings)
         (All-cons
-        (λ n. IsRing (child_sets (joined name (first ∷ names) nodes) n) (with_cycle name links cycles n.name))
+        (λ n. IsRing (child_sets (joined_nodes name (first ∷ names) nodes) n) (with_cycle name links cycles n.name))
         (blossom name (first ∷ names) nodes) [] (new_ring ring)
-        (All-nil (λ (n : Node). IsRing (child_sets (joined name (first ∷ names) nodes) n) (with_cycle name links cycles n.name))));
+        (All-nil (λ (n : Node). IsRing (child_sets (joined_nodes name (first ∷ names) nodes) n) (with_cycle name links cycles n.name))));
     links =
-        subst (AreMatchedLinks p (joined name (first ∷ names) nodes)) (sym same)
-        (links_joined p (joined name (first ∷ names) nodes) (all_cycle_links nodes cycles) links
+        subst (AreMatchedLinks p (joined_nodes name (first ∷ names) nodes)) (sym same)
+        (links_joined p (joined_nodes name (first ∷ names) nodes) (all_cycle_links nodes cycles) links
         (joined_links (all_cycle_links nodes cycles) old.links) (joined_links links tight));
   }
     where
-      same : all_cycle_links (joined name (first ∷ names) nodes) (with_cycle name links cycles) ≡ all_cycle_links nodes cycles ++ links
+      same : all_cycle_links (joined_nodes name (first ∷ names) nodes) (with_cycle name links cycles) ≡ all_cycle_links nodes cycles ++ links
       same =
           flat_map-append (links_at (with_cycle name links cycles)) nodes (blossom name (first ∷ names) nodes ∷ [])
           ∙ (ap (λ l. l ++ (with_cycle name links cycles name ++ [])) (links_agree name links cycles nodes no_blossom)
@@ -143,7 +143,7 @@ child_in_tree root tree children are n within =
 pub state_joined : StateJoined
 state_joined p s name base others links joining some fresh linked tight state = record {
   search =
-      nested_joined p s.nodes s.tree s.rest s.unmatched (map (renamed joins name) s.unmatched) s.root s.parity name base others
+      nested_joined p s.nodes s.tree s.rest s.unmatched (map (renamed_name joins name) s.unmatched) s.root s.parity name base others
       joining some fresh (renamed_new joins name base.name s.unmatched is) gone kept state.search;
   cycles =
       cycles_joined p s.nodes s.cycles name base.name (names_of others) links nest fresh may.live
@@ -180,26 +180,26 @@ state_joined p s name base others links joining some fresh linked tight state = 
           root_is ∙ joining.branches.roots (ap joins (sym root_is) ∙ within);
     }
 
-    gone : (n : ℕ) → is_in (names_of (base ∷ others)) n ≡ true → is_in (map (renamed joins name) s.unmatched) n ≡ false
+    gone : (n : ℕ) → is_in (names_of (base ∷ others)) n ≡ true → is_in (map (renamed_name joins name) s.unmatched) n ≡ false
     gone n within = renamed_gone joins name n s.unmatched within (not_new n within)
 
     kept : (n : ℕ) → is_in (names_of (base ∷ others)) n ≡ false → (n ≡ name → ⊥)
-        → is_in (map (renamed joins name) s.unmatched) n ≡ is_in s.unmatched n
+        → is_in (map (renamed_name joins name) s.unmatched) n ≡ is_in s.unmatched n
     kept n out other = renamed_other joins name n s.unmatched out other
 
     b : Node
     b = blossom name (names_of (base ∷ others)) s.nodes
 
-    live : (n : ℕ) → is_in (map (renamed joins name) s.unmatched) n ≡ true → ((n == name) ≡ true) ⊎ ((n == name) ≡ false)
-        → (joins n ≡ true) ⊎ (joins n ≡ false) → is_live (joined name (names_of (base ∷ others)) s.nodes) n ≡ true
+    live : (n : ℕ) → is_in (map (renamed_name joins name) s.unmatched) n ≡ true → ((n == name) ≡ true) ⊎ ((n == name) ≡ false)
+        → (joins n ≡ true) ⊎ (joins n ≡ false) → is_live (joined_nodes name (names_of (base ∷ others)) s.nodes) n ≡ true
     live n within (inl same) which =
-        among_live (joined name (names_of (base ∷ others)) s.nodes) b n (among_right s.nodes (b ∷ []) b (inl refl))
+        among_live (joined_nodes name (names_of (base ∷ others)) s.nodes) b n (among_right s.nodes (b ∷ []) b (inl refl))
         (sym (eqb-true n name same))
-    live n within (inr other) (inl here) = absurd (both_ways (is_in (map (renamed joins name) s.unmatched) n) (gone n here) within)
+    live n within (inr other) (inl here) = absurd (both_ways (is_in (map (renamed_name joins name) s.unmatched) n) (gone n here) within)
     live n within (inr other) (inr out) =
         let open_ : is_in s.unmatched n ≡ true = sym (kept n out (λ same. both_ways (n == name) other (eq-eqb n name same))) ∙ within in
         let (m, a, named) = live_among s.nodes n (state.names.live n open_) in
-        among_live (joined name (names_of (base ∷ others)) s.nodes) m n (among_left s.nodes (b ∷ []) m a) named
+        among_live (joined_nodes name (names_of (base ∷ others)) s.nodes) m n (among_left s.nodes (b ∷ []) m a) named
 
 names_at : (nodes : List Node) (names : List ℕ) → names_of (map (child_at nodes) names) ≡ names
 names_at nodes [] = refl

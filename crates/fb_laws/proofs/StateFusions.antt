@@ -13,13 +13,13 @@ use Rattle.fb_graph.specs.Laws.{Link, IsPart, ends_of}
 use Rattle.fb_graph.specs.Dual.{Node, AreUnderOne, all_cuts, is_empty, is_live, leaves}
 use Rattle.fb_graph.specs.NestUnions.{AreParts, HaveOwnNames}
 use Rattle.fb_graph.specs.Nests.{IsNest, child_sets}
-use Rattle.fb_graph.specs.Sprouts.{Sprout, node_of, nodes_of}
+use Rattle.fb_graph.specs.Singles.{Single, node_of, nodes_of}
 use Rattle.fb_graph.proofs.Among.{IsAmong, All_among, among_All, among_left, among_live, among_right, live_among, top_left, top_right}
 use Rattle.fb_graph.proofs.AppendedNodes.{cuts_merged, leaves_merged}
 use Rattle.fb_graph.proofs.Members.{is_in-append}
 use Rattle.fb_graph.proofs.NestParts.{names_live}
 use Rattle.fb_graph.proofs.Sets.{is_in-All}
-use Rattle.fb_graph.proofs.SproutStates.{names_are}
+use Rattle.fb_graph.proofs.SingleStates.{names_are}
 use Rattle.fb_graph.proofs.Unions.{distinct_append}
 use Rattle.fb_graph.proofs.Walks.{walk_same}
 use Rattle.fb_laws.specs.FusedStates.{AreFurther, without_seam}
@@ -206,12 +206,12 @@ state_merged left right whole s t limits parts covered names here there = record
   names = merged_names left right whole s t parts covered names here there;
 }
 
-no_sprout_links : (cycles : ℕ → List Link) (sprouts : List Sprout) → all_cycle_links (nodes_of sprouts) cycles ≡ []
-no_sprout_links cycles [] = refl
-no_sprout_links cycles (d ∷ ds) = no_sprout_links cycles ds
+no_single_links : (cycles : ℕ → List Link) (singles : List Single) → all_cycle_links (nodes_of singles) cycles ≡ []
+no_single_links cycles [] = refl
+no_single_links cycles (d ∷ ds) = no_single_links cycles ds
 
-module _ (p whole : Problem) (s : PartState) (rest : List Link) (freed : List Freed) (sprouts : List Sprout) (seam : ℕ → Bool)
-    (is : IsSeam p whole s.nodes freed rest sprouts seam) (further : AreFurther whole s.nodes sprouts)
+module _ (p whole : Problem) (s : PartState) (rest : List Link) (freed : List Freed) (singles : List Single) (seam : ℕ → Bool)
+    (is : IsSeam p whole s.nodes freed rest singles seam) (further : AreFurther whole s.nodes singles)
     (moved : IsPermutation s.matches (freed_links freed ++ rest)) (state : IsPartState p s) where
   matching : IsMatching p s.nodes (freed_links freed ++ rest) s.unmatched
   matching = matching_permuted p s.nodes s.matches (freed_links freed ++ rest) s.unmatched moved state.work.work.matching
@@ -222,75 +222,75 @@ module _ (p whole : Problem) (s : PartState) (rest : List Link) (freed : List Fr
       (λ f (set, leads, at). (set, leads)) freed is.freed_are
 
   links_in : (links : List Link) → All (λ l. AreUnderOne s.nodes l.from l.to) links → AreMatchedLinks p s.nodes links
-      → AreMatchedLinks whole (s.nodes ++ nodes_of sprouts) links
+      → AreMatchedLinks whole (s.nodes ++ nodes_of singles) links
   links_in links under are =
-      links_widened p whole s.nodes (s.nodes ++ nodes_of sprouts) links is.part
-      (λ i d less. weigh_with (λ set. crosses set (ends_of (get_or links i d))) s.nodes sprouts is.bare)
+      links_widened p whole s.nodes (s.nodes ++ nodes_of singles) links is.part
+      (λ i d less. weigh_with (λ set. crosses set (ends_of (get_or links i d))) s.nodes singles is.bare)
       (λ i d less.
       let (name, from, to) = under i d less in (
         λ real. state.work.nest.dual.real (get_or links i d).from (subst IsSome (sym from) refl),
         λ real. state.work.nest.dual.real (get_or links i d).to (subst IsSome (sym to) refl),
       ))
-      (in_first s.nodes (nodes_of sprouts)) are
+      (in_first s.nodes (nodes_of singles)) are
 
-  pub seamed_cycles : AreCycles whole (s.nodes ++ nodes_of sprouts) s.cycles
+  pub seamed_cycles : AreCycles whole (s.nodes ++ nodes_of singles) s.cycles
   seamed_cycles = record {
     rings =
-        All-append (λ n. IsRing (child_sets (s.nodes ++ nodes_of sprouts) n) (s.cycles n.name)) s.nodes (nodes_of sprouts)
-        (rings_over s.nodes (s.nodes ++ nodes_of sprouts) s.nodes s.cycles
-        (λ n a c child. top_left s.nodes (nodes_of sprouts) c (child_live p s.nodes state.work.nest n a c child))
+        All-append (λ n. IsRing (child_sets (s.nodes ++ nodes_of singles) n) (s.cycles n.name)) s.nodes (nodes_of singles)
+        (rings_over s.nodes (s.nodes ++ nodes_of singles) s.nodes s.cycles
+        (λ n a c child. top_left s.nodes (nodes_of singles) c (child_live p s.nodes state.work.nest n a c child))
         state.cycles.rings)
-        (All-map (λ n. IsRing (child_sets (s.nodes ++ nodes_of sprouts) n) (s.cycles n.name)) node_of sprouts (λ i d less. tt));
+        (All-map (λ n. IsRing (child_sets (s.nodes ++ nodes_of singles) n) (s.cycles n.name)) node_of singles (λ i d less. tt));
     links =
-        subst (AreMatchedLinks whole (s.nodes ++ nodes_of sprouts)) (sym same)
+        subst (AreMatchedLinks whole (s.nodes ++ nodes_of singles)) (sym same)
         (links_in (all_cycle_links s.nodes s.cycles) (cycles_under_one p s.nodes s.cycles state.work.nest state.cycles.rings)
         state.cycles.links);
   }
     where
-      same : all_cycle_links (s.nodes ++ nodes_of sprouts) s.cycles ≡ all_cycle_links s.nodes s.cycles
+      same : all_cycle_links (s.nodes ++ nodes_of singles) s.cycles ≡ all_cycle_links s.nodes s.cycles
       same =
-          flat_map-append (links_at s.cycles) s.nodes (nodes_of sprouts)
-          ∙ (ap (λ l. all_cycle_links s.nodes s.cycles ++ l) (no_sprout_links s.cycles sprouts)
+          flat_map-append (links_at s.cycles) s.nodes (nodes_of singles)
+          ∙ (ap (λ l. all_cycle_links s.nodes s.cycles ++ l) (no_single_links s.cycles singles)
           ∙ append-nil (all_cycle_links s.nodes s.cycles))
 
-  sprout_live : (n : ℕ) → is_in (map (λ d. d.name) sprouts) n ≡ true → is_live (nodes_of sprouts) n ≡ true
-  sprout_live n within = sym (names_live (nodes_of sprouts) n) ∙ (ap (λ l. is_in l n) (names_are sprouts) ∙ within)
+  single_live : (n : ℕ) → is_in (map (λ d. d.name) singles) n ≡ true → is_live (nodes_of singles) n ≡ true
+  single_live n within = sym (names_live (nodes_of singles) n) ∙ (ap (λ l. is_in l n) (names_are singles) ∙ within)
 
-  not_sprout : (n : ℕ) → is_live s.nodes n ≡ true → is_in (map (λ d. d.name) sprouts) n ≡ false
-  not_sprout n live =
-      false_from_ne_true (is_in (map (λ d. d.name) sprouts) n)
-      (λ within. both_ways (is_live (nodes_of sprouts) n) (further.own n live) (sprout_live n within))
+  not_single : (n : ℕ) → is_live s.nodes n ≡ true → is_in (map (λ d. d.name) singles) n ≡ false
+  not_single n live =
+      false_from_ne_true (is_in (map (λ d. d.name) singles) n)
+      (λ within. both_ways (is_live (nodes_of singles) n) (further.own n live) (single_live n within))
 
   live_freed : (n : ℕ) → is_in (freed_names freed) n ≡ true → is_live s.nodes n ≡ true
   live_freed = freed_live p s.nodes freed rest s.unmatched matching ends
 
-  pub seamed_names : AreLiveNames (s.nodes ++ nodes_of sprouts) (s.unmatched ++ (freed_names freed ++ map (λ d. d.name) sprouts))
+  pub seamed_names : AreLiveNames (s.nodes ++ nodes_of singles) (s.unmatched ++ (freed_names freed ++ map (λ d. d.name) singles))
   seamed_names = record {
-    live = λ n within. live n (in_either s.unmatched (freed_names freed ++ map (λ d. d.name) sprouts) n within);
+    live = λ n within. live n (in_either s.unmatched (freed_names freed ++ map (λ d. d.name) singles) n within);
     distinct =
-        distinct_append s.unmatched (freed_names freed ++ map (λ d. d.name) sprouts) state.names.distinct
-        (distinct_append (freed_names freed) (map (λ d. d.name) sprouts)
+        distinct_append s.unmatched (freed_names freed ++ map (λ d. d.name) singles) state.names.distinct
+        (distinct_append (freed_names freed) (map (λ d. d.name) singles)
         (freed_once p s.nodes freed rest s.unmatched matching ends) further.names
-        (λ n within. not_sprout n (live_freed n within)))
+        (λ n within. not_single n (live_freed n within)))
         (λ n open_.
-        false_from_ne_true (is_in (freed_names freed ++ map (λ d. d.name) sprouts) n)
-        (λ within. apart n open_ (in_either (freed_names freed) (map (λ d. d.name) sprouts) n within)));
+        false_from_ne_true (is_in (freed_names freed ++ map (λ d. d.name) singles) n)
+        (λ within. apart n open_ (in_either (freed_names freed) (map (λ d. d.name) singles) n within)));
   }
     where
-      later : (n : ℕ) → (is_in (freed_names freed) n ≡ true) ⊎ (is_in (map (λ d. d.name) sprouts) n ≡ true)
-          → is_live (s.nodes ++ nodes_of sprouts) n ≡ true
-      later n (inl h) = live_first s.nodes (nodes_of sprouts) n (live_freed n h)
-      later n (inr h) = live_second s.nodes (nodes_of sprouts) n (sprout_live n h)
+      later : (n : ℕ) → (is_in (freed_names freed) n ≡ true) ⊎ (is_in (map (λ d. d.name) singles) n ≡ true)
+          → is_live (s.nodes ++ nodes_of singles) n ≡ true
+      later n (inl h) = live_first s.nodes (nodes_of singles) n (live_freed n h)
+      later n (inr h) = live_second s.nodes (nodes_of singles) n (single_live n h)
 
-      live : (n : ℕ) → (is_in s.unmatched n ≡ true) ⊎ (is_in (freed_names freed ++ map (λ d. d.name) sprouts) n ≡ true)
-          → is_live (s.nodes ++ nodes_of sprouts) n ≡ true
-      live n (inl h) = live_first s.nodes (nodes_of sprouts) n (state.names.live n h)
-      live n (inr h) = later n (in_either (freed_names freed) (map (λ d. d.name) sprouts) n h)
+      live : (n : ℕ) → (is_in s.unmatched n ≡ true) ⊎ (is_in (freed_names freed ++ map (λ d. d.name) singles) n ≡ true)
+          → is_live (s.nodes ++ nodes_of singles) n ≡ true
+      live n (inl h) = live_first s.nodes (nodes_of singles) n (state.names.live n h)
+      live n (inr h) = later n (in_either (freed_names freed) (map (λ d. d.name) singles) n h)
 
       apart : (n : ℕ) → is_in s.unmatched n ≡ true
-          → (is_in (freed_names freed) n ≡ true) ⊎ (is_in (map (λ d. d.name) sprouts) n ≡ true) → ⊥
+          → (is_in (freed_names freed) n ≡ true) ⊎ (is_in (map (λ d. d.name) singles) n ≡ true) → ⊥
       apart n open_ (inl h) = both_ways (is_in s.unmatched n) (freed_matched p s.nodes freed rest s.unmatched matching ends n h) open_
-      apart n open_ (inr h) = both_ways (is_in (map (λ d. d.name) sprouts) n) (not_sprout n (state.names.live n open_)) h
+      apart n open_ (inr h) = both_ways (is_in (map (λ d. d.name) singles) n) (not_single n (state.names.live n open_)) h
 
   pub permuted_work : IsNestedWork p s.nodes (freed_links freed ++ rest) s.unmatched
   permuted_work = record {
@@ -301,17 +301,17 @@ module _ (p whole : Problem) (s : PartState) (rest : List Link) (freed : List Fr
   }
 
 pub state_seamed : StateSeamed
-state_seamed p whole s rest freed sprouts seam even limits is further moved state = record {
+state_seamed p whole s rest freed singles seam even limits is further moved state = record {
   work =
-      nested_seam p whole s.nodes freed rest sprouts seam s.unmatched even limits is further.names further.vertices further.real
-      further.own (permuted_work p whole s rest freed sprouts seam is further moved state);
-  cycles = seamed_cycles p whole s rest freed sprouts seam is further moved state;
-  names = seamed_names p whole s rest freed sprouts seam is further moved state;
+      nested_seam p whole s.nodes freed rest singles seam s.unmatched even limits is further.names further.vertices further.real
+      further.own (permuted_work p whole s rest freed singles seam is further moved state);
+  cycles = seamed_cycles p whole s rest freed singles seam is further moved state;
+  names = seamed_names p whole s rest freed singles seam is further moved state;
 }
 
 pub state_fused : StateFused
-state_fused left right whole s t rest freed sprouts seam limits parts names is further moved here there =
-    state_seamed (without_seam left right whole) whole (merged_state s t) rest freed sprouts seam
+state_fused left right whole s t rest freed singles seam limits parts names is further moved here there =
+    state_seamed (without_seam left right whole) whole (merged_state s t) rest freed singles seam
     (λ i d less. (limits.each_edge i d less).even) limits is further moved
     (state_merged left right (without_seam left right whole) s t within inner
     (λ v h. or_cases (left.is_real v) (right.is_real v) h) names here there)

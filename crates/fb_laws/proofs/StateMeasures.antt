@@ -3,7 +3,7 @@ use Rattle.std.proofs.Common.{◌≡◌, true, false, [], ◌∷◌, ◌++◌, m
 use Rattle.std.proofs.lemmas.Bool.{both_ways, false_from_ne_true}
 use Rattle.fb_graph.specs.Parity.{is_in}
 use Rattle.fb_graph.specs.Dual.{is_empty}
-use Rattle.fb_graph.specs.Moves.{split}
+use Rattle.fb_graph.specs.Moves.{split_nodes}
 use Rattle.fb_graph.proofs.Among.{IsAmong, All_among, among_right}
 use Rattle.fb_graph.proofs.Places.{IsPlaced, placed}
 use Rattle.fb_laws.specs.Measures.{IsLower}
@@ -11,13 +11,13 @@ use Rattle.fb_laws.specs.OpenedCycles.{last_of, opened_tree, paired_of}
 use Rattle.fb_laws.specs.SearchLayers.{left_to_do}
 use Rattle.fb_laws.specs.SearchOpenings.{IsSplit}
 use Rattle.fb_laws.specs.StateBlossoms.{joined_state}
-use Rattle.fb_laws.specs.StateMeasures.{SteppedLess, TakenUpLess, UncoveredLess, AttachedLess, ClosedLess, RoundedLess, OpenedLess, still_to_do}
+use Rattle.fb_laws.specs.StateMeasures.{SteppedLess, AbsorbedLess, UncoveredLess, AttachedLess, ClosedLess, RoundedLess, OpenedLess, still_to_do}
 use Rattle.fb_laws.specs.StateMoves.{state_roles}
 use Rattle.fb_laws.specs.SearchBlossoms.{child_at}
 use Rattle.fb_laws.specs.TreeCycles.{cycle_links, cycle_nodes, last_plus}
 use Rattle.fb_laws.specs.Trees.{minus_names, plus_names, roles_of}
 use Rattle.fb_laws.proofs.LoweredParts.{attach_lowers, free_lowers, opened_lowers}
-use Rattle.fb_laws.proofs.MoveBridges.{joining_lowers, taken_up_lowers, uncovered_lowers}
+use Rattle.fb_laws.proofs.MoveBridges.{joining_lowers, absorbed_lowers, uncovered_lowers}
 use Rattle.fb_laws.proofs.OpenedCycles.{still_plus}
 use Rattle.fb_laws.proofs.SearchTrees.{exclusive_names}
 use Rattle.fb_laws.proofs.StateBlossoms.{closed_joining, closed_names, closed_some, rounded_joining}
@@ -27,9 +27,9 @@ use Rattle.fb_laws.proofs.TreePaths.{among_minus}
 pub stepped_less : SteppedLess
 stepped_less p s k = free_lowers p s.nodes (state_roles s) k
 
-pub taken_up_less : TakenUpLess
-taken_up_less p s name k u v free freed limits may plus state =
-    taken_up_lowers p s.nodes (state_roles s) name k u v free freed limits may state.search.nest plus
+pub absorbed_less : AbsorbedLess
+absorbed_less p s name k u v free freed limits may plus state =
+    absorbed_lowers p s.nodes (state_roles s) name k u v free freed limits may state.search.nest plus
 
 pub uncovered_less : UncoveredLess
 uncovered_less p s name free freed may minus state =
@@ -63,7 +63,7 @@ rounded_less p s name newer older e closing free freed tree_is closes tight fres
 
 pub opened_less : OpenedLess
 opened_less p s newer older e from way couples free freed tree_is may cycle state =
-    subst (λ nodes. IsLower (left_to_do p (split e.minus s.nodes) (roles_of s.root (opened_tree newer e older from way)) freed) (left_to_do p nodes (state_roles s) free))
+    subst (λ nodes. IsLower (left_to_do p (split_nodes e.minus s.nodes) (roles_of s.root (opened_tree newer e older from way)) freed) (left_to_do p nodes (state_roles s) free))
     (sym at.whole)
     (subst (λ nodes. IsLower (left_to_do p nodes (roles_of s.root (opened_tree newer e older from way)) freed) (left_to_do p (at.before ++ at.node ∷ at.after) (state_roles s) free))
     (sym at.removed)
@@ -71,7 +71,7 @@ opened_less p s newer older e from way couples free freed tree_is may cycle stat
     (roles_of s.root (opened_tree newer e older from way)) free freed
     (subst (λ m. IsSplit (at.before ++ at.node ∷ at.after) (at.before ++ at.after) m (last_of from way ∷ paired_of from way couples)) (sym at.named)
     (subst (λ nodes. IsSplit (at.before ++ at.node ∷ at.after) nodes e.minus (last_of from way ∷ paired_of from way couples)) at.removed
-    (subst (λ nodes. IsSplit nodes (split e.minus s.nodes) e.minus (last_of from way ∷ paired_of from way couples)) at.whole cycle.split)))
+    (subst (λ nodes. IsSplit nodes (split_nodes e.minus s.nodes) e.minus (last_of from way ∷ paired_of from way couples)) at.whole cycle.split)))
     not_plus some
     (λ n plus. still_plus newer older e s.root from n way (ap (λ t. is_in (plus_names s.root t) n) (sym tree_is) ∙ plus))))
   where

@@ -4,16 +4,16 @@ use Rattle.std.proofs.lemmas.Bool.{and_parts, eq-eqb, both_ways, false≢true}
 use Rattle.std.proofs.lemmas.List.Elements.{All-map}
 use Rattle.fb_graph.specs.Parity.{is_in}
 use Rattle.fb_graph.specs.Problem.{Problem}
-use Rattle.fb_graph.specs.Dual.{Node, is_outer, taller}
+use Rattle.fb_graph.specs.Dual.{Node, is_outer, taller_node}
 use Rattle.fb_graph.proofs.Sets.{distinct-filter, is_in-filter}
-use Rattle.fb_graph.specs.Moves.{lower, taken_up, uncovered}
+use Rattle.fb_graph.specs.Moves.{without_top, absorbed_nodes, uncovered_nodes}
 use Rattle.fb_graph.specs.Nests.{child_sets}
 use Rattle.fb_laws.specs.PartStates.{IsRing, AreCycles, AreLiveNames, IsSearchState, SearchState, all_cycle_links}
 use Rattle.fb_graph.specs.Alike.{AreAlike}
-use Rattle.fb_graph.specs.Sprouts.{Sprout, node_of, nodes_of}
-use Rattle.fb_laws.specs.StateMoves.{PartBegins, SearchFrom, StateFree, StateStepped, StateTakenUp, StateUncovered, StateAttached, StateEnded, StateMet, StateReleased, state_roles}
-use Rattle.fb_graph.specs.Steps.{stepped, stepped_node}
-use Rattle.fb_laws.specs.Works.{AreMatchedLinks, without}
+use Rattle.fb_graph.specs.Singles.{Single, node_of, nodes_of}
+use Rattle.fb_laws.specs.StateMoves.{PartBegins, SearchFrom, StateFree, StateStepped, StateAbsorbed, StateUncovered, StateAttached, StateEnded, StateMet, StateReleased, state_roles}
+use Rattle.fb_graph.specs.Steps.{stepped_nodes, stepped_node}
+use Rattle.fb_laws.specs.Works.{AreMatchedLinks, names_without}
 use Rattle.fb_graph.proofs.Among.{cover_among}
 use Rattle.fb_graph.proofs.ChangedNodes.{by_name, change}
 use Rattle.fb_laws.proofs.CycleLinks.{cycles_under_one}
@@ -21,30 +21,30 @@ use Rattle.fb_laws.proofs.CycleMoves.{cycles_mapped, links_kept, links_stepped, 
 use Rattle.fb_graph.proofs.TallerNodes.{taller_alike}
 use Rattle.fb_laws.proofs.MoveBridges.{no_leaf, uncovered_back}
 use Rattle.fb_graph.proofs.NestParts.{names_live}
-use Rattle.fb_laws.proofs.NestedStates.{nested_work_begins, nested_search_begins, nested_free, nested_stepped, nested_taken_up, nested_uncovered, nested_attached, nested_ended, nested_met, nested_released}
+use Rattle.fb_laws.proofs.NestedStates.{nested_work_begins, nested_search_begins, nested_free, nested_stepped, nested_absorbed, nested_uncovered, nested_attached, nested_ended, nested_met, nested_released}
 use Rattle.fb_laws.proofs.PartStates.{unmatched_outer}
 use Rattle.fb_laws.proofs.SearchStates.{search_permuted, search_roles}
-use Rattle.fb_graph.proofs.SproutStates.{names_are}
+use Rattle.fb_graph.proofs.SingleStates.{names_are}
 use Rattle.fb_graph.proofs.StepTurns.{top_stepped}
 
-no_links : (sprouts : List Sprout) → all_cycle_links (nodes_of sprouts) (λ n. []) ≡ []
+no_links : (singles : List Single) → all_cycle_links (nodes_of singles) (λ n. []) ≡ []
 no_links [] = refl
 no_links (s ∷ ss) = no_links ss
 
 pub part_begins : PartBegins
-part_begins p sprouts names vertices real bare defects =
-    let work = nested_work_begins p sprouts names vertices real bare defects in
+part_begins p singles names vertices real bare defects =
+    let work = nested_work_begins p singles names vertices real bare defects in
     record {
       work = work;
       cycles = record {
         rings =
-            All-map (λ n. IsRing (child_sets (nodes_of sprouts) n) []) node_of sprouts
+            All-map (λ n. IsRing (child_sets (nodes_of singles) n) []) node_of singles
             (λ i d less. tt);
-        links = subst (AreMatchedLinks p (nodes_of sprouts)) (sym (no_links sprouts)) work.work.matching.links_are;
+        links = subst (AreMatchedLinks p (nodes_of singles)) (sym (no_links singles)) work.work.matching.links_are;
       };
       names = record {
         live = λ n within.
-            sym (names_live (nodes_of sprouts) n) ∙ (ap (λ l. is_in l n) (names_are sprouts) ∙ within);
+            sym (names_live (nodes_of singles) n) ∙ (ap (λ l. is_in l n) (names_are singles) ∙ within);
         distinct = names;
       };
     }
@@ -72,7 +72,7 @@ state_stepped p s k limits even may state =
           (cycles_under_one p s.nodes s.cycles state.search.nest state.cycles.rings) state.cycles.links)
           state.cycles;
       names =
-          names_kept s.nodes (stepped (state_roles s) k s.nodes) s.unmatched
+          names_kept s.nodes (stepped_nodes (state_roles s) k s.nodes) s.unmatched
           (λ n live. live_mapped (stepped_node (state_roles s) k) (λ m. refl) s.nodes n ∙ live) state.names;
     }
 
@@ -98,11 +98,11 @@ module _ (p : Problem) (s : SearchState) (name : ℕ) (g : Node → Node) (names
       names_kept s.nodes (map (change name g) s.nodes) s.unmatched
       (λ n live. live_mapped (change name g) same_name s.nodes n ∙ live) state.names
 
-pub state_taken_up : StateTakenUp
-state_taken_up p s name k u v even may state = record {
-  search = nested_taken_up p s.nodes s.tree s.rest s.unmatched s.root s.parity name k u v even may state.search;
-  cycles = changed_cycles p s name (taller v) (λ n. refl) (λ n. refl) outer alike state;
-  names = changed_names p s name (taller v) (λ n. refl) (λ n. refl) outer alike state;
+pub state_absorbed : StateAbsorbed
+state_absorbed p s name k u v even may state = record {
+  search = nested_absorbed p s.nodes s.tree s.rest s.unmatched s.root s.parity name k u v even may state.search;
+  cycles = changed_cycles p s name (taller_node v) (λ n. refl) (λ n. refl) outer alike state;
+  names = changed_names p s name (taller_node v) (λ n. refl) (λ n. refl) outer alike state;
 }
   where
     outer : is_outer s.nodes name ≡ true
@@ -110,21 +110,21 @@ state_taken_up p s name k u v even may state = record {
         let over = cover_among s.nodes u name may.covered in
         ap (is_outer s.nodes) (sym over.named) ∙ over.outer
 
-    alike : AreAlike s.nodes (taken_up name v s.nodes)
+    alike : AreAlike s.nodes (absorbed_nodes name v s.nodes)
     alike = (taller_alike s.nodes name v (no_leaf p s.nodes v state.search.nest.dual may.uncovered)).0
 
 pub state_uncovered : StateUncovered
 state_uncovered p s name may state = record {
   search = nested_uncovered p s.nodes s.tree s.rest s.unmatched s.root s.parity name may state.search;
-  cycles = changed_cycles p s name lower (λ n. refl) (λ n. refl) may.outer alike state;
-  names = changed_names p s name lower (λ n. refl) (λ n. refl) may.outer alike state;
+  cycles = changed_cycles p s name without_top (λ n. refl) (λ n. refl) may.outer alike state;
+  names = changed_names p s name without_top (λ n. refl) (λ n. refl) may.outer alike state;
 }
   where
-    alike : AreAlike s.nodes (uncovered name s.nodes)
+    alike : AreAlike s.nodes (uncovered_nodes name s.nodes)
     alike =
         let (v, given) = uncovered_back p s.nodes name may state.search.nest in
-        subst (λ ns. AreAlike ns (uncovered name s.nodes)) given.back
-        (taller_alike (uncovered name s.nodes) name v given.no_defect).1
+        subst (λ ns. AreAlike ns (uncovered_nodes name s.nodes)) given.back
+        (taller_alike (uncovered_nodes name s.nodes) name v given.no_defect).1
 
 pub state_attached : StateAttached
 state_attached p s e rest even may state = record {
@@ -153,16 +153,16 @@ filter-le test (x ∷ xs) = step (test x) (filter-le test xs)
     step false h = omega (arith, h)
 
 -- a name taken out of a list that has it
-fewer_without : (name : ℕ) (xs : List ℕ) → is_in xs name ≡ true → length (without name xs) < length xs
+fewer_without : (name : ℕ) (xs : List ℕ) → is_in xs name ≡ true → length (names_without name xs) < length xs
 fewer_without name [] within = absurd (false≢true within)
 fewer_without name (x ∷ xs) within = step (x == name) refl (fewer_without name xs)
   where
-    step : (b : Bool) → (x == name) ≡ b → (is_in xs name ≡ true → length (without name xs) < length xs)
-        → length (cond (not b) (x ∷ without name xs) (without name xs)) < length (x ∷ xs)
+    step : (b : Bool) → (x == name) ≡ b → (is_in xs name ≡ true → length (names_without name xs) < length xs)
+        → length (cond (not b) (x ∷ names_without name xs) (names_without name xs)) < length (x ∷ xs)
     step true e ih = let h = filter-le (λ n. not (n == name)) xs in omega (arith, h)
     step false e ih = let h = ih (sym (ap (λ b. b || is_in xs name) e) ∙ within) in omega (arith, h)
 
-gone : (name : ℕ) (xs : List ℕ) → is_in (without name xs) name ≡ false
+gone : (name : ℕ) (xs : List ℕ) → is_in (names_without name xs) name ≡ false
 gone name xs =
     is_in-filter (λ n. not (n == name)) xs name
     ∙ (ap (λ b. is_in xs name && not b) (eq-eqb name name refl) ∙ none (is_in xs name))
@@ -171,13 +171,13 @@ gone name xs =
     none true = refl
     none false = refl
 
-pub kept_without : (name : ℕ) (xs : List ℕ) (n : ℕ) → is_in (without name xs) n ≡ true → is_in xs n ≡ true
+pub kept_without : (name : ℕ) (xs : List ℕ) (n : ℕ) → is_in (names_without name xs) n ≡ true → is_in xs n ≡ true
 kept_without name xs n within =
     (and_parts (is_in xs n) (not (n == name)) (sym (is_in-filter (λ m. not (m == name)) xs n) ∙ within)).0
 
-names_without : (nodes : List Node) (name : ℕ) (names : List ℕ) → AreLiveNames nodes names
-    → AreLiveNames nodes (without name names)
-names_without nodes name names are = record {
+without_names : (nodes : List Node) (name : ℕ) (names : List ℕ) → AreLiveNames nodes names
+    → AreLiveNames nodes (names_without name names)
+without_names nodes name names are = record {
   live = λ n within. are.live n (kept_without name names n within);
   distinct = distinct-filter (λ n. not (n == name)) names are.distinct;
 }
@@ -189,7 +189,7 @@ state_ended p s name out v leaves_tree leaves_node boundary state = record {
         nested_ended p s.nodes s.tree s.rest s.unmatched s.root s.parity name out v state.search leaves_tree.plus
         leaves_tree.tight leaves_node boundary;
     cycles = state.cycles;
-    names = names_without s.nodes s.root s.unmatched state.names;
+    names = without_names s.nodes s.root s.unmatched state.names;
   };
   fewer = fewer_without s.root s.unmatched state.search.search.open_root;
   matched = gone s.root s.unmatched;
@@ -198,7 +198,7 @@ state_ended p s name out v leaves_tree leaves_node boundary state = record {
 
 pub state_met : StateMet
 state_met p s name other out leaves_tree connects open_other differs state =
-    let h = filter-le (λ n. not (n == s.root)) (without other s.unmatched) in
+    let h = filter-le (λ n. not (n == s.root)) (names_without other s.unmatched) in
     let g = fewer_without other s.unmatched open_other in
     record {
       state = record {
@@ -207,13 +207,13 @@ state_met p s name other out leaves_tree connects open_other differs state =
             open_other differs leaves_tree.tight connects;
         cycles = state.cycles;
         names =
-            names_without s.nodes s.root (without other s.unmatched)
-            (names_without s.nodes other s.unmatched state.names);
+            without_names s.nodes s.root (names_without other s.unmatched)
+            (without_names s.nodes other s.unmatched state.names);
       };
       fewer = omega (arith, h, g);
-      matched = gone s.root (without other s.unmatched);
+      matched = gone s.root (names_without other s.unmatched);
       others = λ n within.
-          kept_without other s.unmatched n (kept_without s.root (without other s.unmatched) n within);
+          kept_without other s.unmatched n (kept_without s.root (names_without other s.unmatched) n within);
     }
 
 pub state_released : StateReleased
@@ -230,7 +230,7 @@ state_released p s name other out old rest b leaves_tree connects moved away bou
         })
         leaves_tree.plus leaves_tree.tight connects away boundary;
     cycles = state.cycles;
-    names = names_without s.nodes s.root s.unmatched state.names;
+    names = without_names s.nodes s.root s.unmatched state.names;
   };
   fewer = fewer_without s.root s.unmatched state.search.search.open_root;
   matched = gone s.root s.unmatched;

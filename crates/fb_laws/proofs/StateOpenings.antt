@@ -10,7 +10,7 @@ use Rattle.fb_graph.specs.Certificate.{AreDistinct}
 use Rattle.fb_graph.specs.Laws.{Link}
 use Rattle.fb_graph.specs.Links.{IsTightLink}
 use Rattle.fb_graph.specs.Dual.{Node, all_cuts, cover_of, is_empty, is_live, is_outer, leaves, top_at}
-use Rattle.fb_graph.specs.Moves.{MaySplit, split}
+use Rattle.fb_graph.specs.Moves.{MaySplit, split_nodes}
 use Rattle.fb_graph.specs.Nests.{IsNest, IsFormed, AreMany, child_sets}
 use Rattle.fb_graph.proofs.Among.{IsAmong, All_among, among_All, among_left, among_live, among_right, live_among, map_among, outer_among, top_among}
 use Rattle.fb_graph.proofs.InsertedCuts.{same_weigh}
@@ -40,12 +40,12 @@ use Rattle.fb_laws.proofs.SplitStates.{child_covers, end_under_child, is_split}
 use Rattle.fb_laws.proofs.TreePaths.{among_minus, in_either, not_both, tree_connects}
 
 -- the sets of all nodes but the one that is split
-top_split : (name c : ℕ) → (c ≡ name → ⊥) → (nodes : List Node) → top_at (split name nodes) c ≡ top_at nodes c
+top_split : (name c : ℕ) → (c ≡ name → ⊥) → (nodes : List Node) → top_at (split_nodes name nodes) c ≡ top_at nodes c
 top_split name c other [] = refl
 top_split name c other (n ∷ ns) = step (n.name == name) refl (top_split name c other ns)
   where
-    step : (b : Bool) → (n.name == name) ≡ b → top_at (split name ns) c ≡ top_at ns c
-        → top_at (cond (not b) (n ∷ split name ns) (split name ns)) c ≡ top_at (n ∷ ns) c
+    step : (b : Bool) → (n.name == name) ≡ b → top_at (split_nodes name ns) c ≡ top_at ns c
+        → top_at (cond (not b) (n ∷ split_nodes name ns) (split_nodes name ns)) c ≡ top_at (n ∷ ns) c
     step false e ih = ap (λ s. cond (n.name == c) n.top.vertices s) ih
     step true e ih =
         let differs : (n.name == c) ≡ false =
@@ -53,24 +53,24 @@ top_split name c other (n ∷ ns) = step (n.name == name) refl (top_split name c
         ih ∙ ap (λ x. cond x n.top.vertices (top_at ns c)) (sym differs)
 
 module _ (p : Problem) (nodes : List Node) (cycles : ℕ → List Link) (name : ℕ) (may : MaySplit nodes name) (nest : IsNest p nodes) where
-  split_links : (links : List Link) → AreMatchedLinks p nodes links → AreMatchedLinks p (split name nodes) links
+  split_links : (links : List Link) → AreMatchedLinks p nodes links → AreMatchedLinks p (split_nodes name nodes) links
   split_links links are =
-      links_kept p nodes (split name nodes) links (same_leaves p nodes name may nest)
+      links_kept p nodes (split_nodes name nodes) links (same_leaves p nodes name may nest)
       (λ e.
       sym
-      (same_weigh (λ s. crosses s e) (at p nodes name may nest).node.top (all_cuts (split name nodes)) (all_cuts nodes)
+      (same_weigh (λ s. crosses s e) (at p nodes name may nest).node.top (all_cuts (split_nodes name nodes)) (all_cuts nodes)
       (insertion p nodes name may nest)))
       are
 
-  fewer : (P : Link → Type 0) → All P (all_cycle_links nodes cycles) → All P (all_cycle_links (split name nodes) cycles)
+  fewer : (P : Link → Type 0) → All P (all_cycle_links nodes cycles) → All P (all_cycle_links (split_nodes name nodes) cycles)
   fewer P h =
-      All-flat_map P (links_at cycles) (split name nodes)
+      All-flat_map P (links_at cycles) (split_nodes name nodes)
       (split_All (λ n. All P (links_at cycles n)) name nodes (All-pieces P (links_at cycles) nodes h))
 
-  pub cycles_split : AreCycles p nodes cycles → AreCycles p (split name nodes) cycles
+  pub cycles_split : AreCycles p nodes cycles → AreCycles p (split_nodes name nodes) cycles
   cycles_split old = record {
     rings =
-        rings_over nodes (split name nodes) (split name nodes) cycles
+        rings_over nodes (split_nodes name nodes) (split_nodes name nodes) cycles
         (λ n a c child.
         top_split name c
         (λ same.
@@ -79,7 +79,7 @@ module _ (p : Problem) (nodes : List Node) (cycles : ℕ → List Link) (name : 
         nodes)
         (split_All (λ n. IsRing (child_sets nodes n) (cycles n.name)) name nodes old.rings);
     links =
-        split_links (all_cycle_links (split name nodes) cycles)
+        split_links (all_cycle_links (split_nodes name nodes) cycles)
         (record {
           tight = fewer (IsTightLink p (all_cuts nodes)) old.links.tight;
           own = fewer (IsLinkOf p) old.links.own;
@@ -92,13 +92,13 @@ module _ (p : Problem) (nodes : List Node) (cycles : ℕ → List Link) (name : 
 
   -- what a child of the blossom holds it covers
   freed_covers : (b : Node) → IsAmong b nodes → b.name ≡ name → (c : ℕ) → is_in b.children c ≡ true → (v : ℕ)
-      → is_in (top_at nodes c) v ≡ true → cover_of (split name nodes) v ≡ Some c
+      → is_in (top_at nodes c) v ≡ true → cover_of (split_nodes name nodes) v ≡ Some c
   freed_covers b a named c child v within =
       let (m, h, is) =
       live_among nodes c
       (is_in-All (λ x. is_live nodes x ≡ true) b.children
       (All_among (λ n. All (λ x. is_live nodes x ≡ true) n.children) nodes nest.forest.live b a) c child) in
-      subst (λ x. cover_of (split x nodes) v ≡ Some c) named
+      subst (λ x. cover_of (split_nodes x nodes) v ≡ Some c) named
       (child_covers p nodes b b.children a (subst (MaySplit nodes) (sym named) may) nest (λ n. refl) m h
       (ap (is_in b.children) is ∙ child) v
       (ap (λ s. is_in s v) (sym (top_among nodes nest.dual.names m h) ∙ ap (top_at nodes) is) ∙ within)
@@ -167,7 +167,7 @@ cycle_freed p nodes cycles name may nest are =
     among_All (λ n. n.name ≡ name → IsFreed p nodes n.children name (cycles name)) nodes
     (λ n a named. record {
       linked =
-          round_of_ring nodes (split name nodes) n.children (cycles name)
+          round_of_ring nodes (split_nodes name nodes) n.children (cycles name)
           (freed_covers p nodes cycles name may nest n a named)
           (subst (λ m. IsRing (child_sets nodes n) (cycles m)) named
           (All_among (λ x. IsRing (child_sets nodes x) (cycles x.name)) nodes are.rings n a));
@@ -188,7 +188,7 @@ state_opened p s newer older e from way couples tree_is may cycle state = record
   names = record {
     live = λ n within.
         let (m, a, named) = live_among s.nodes n (state.names.live n within) in
-        among_live (split e.minus s.nodes) m n
+        among_live (split_nodes e.minus s.nodes) m n
         (split_among e.minus s.nodes m a (λ same. both_ways (is_in s.unmatched n) (blossom_matched n (sym named ∙ same)) within)) named;
     distinct = state.names.distinct;
   };
@@ -197,10 +197,10 @@ state_opened p s newer older e from way couples tree_is may cycle state = record
     search : IsNestedSearch p s.nodes (newer ++ e ∷ older) s.rest s.unmatched s.root s.parity
     search = subst (λ t. IsNestedSearch p s.nodes t s.rest s.unmatched s.root s.parity) tree_is state.search
 
-    opened : IsOpenedTree p s.nodes (split e.minus s.nodes) newer older (opened_tree newer e older from way) e (last_of from way)
+    opened : IsOpenedTree p s.nodes (split_nodes e.minus s.nodes) newer older (opened_tree newer e older from way) e (last_of from way)
         (paired_of from way couples) (matched_on way ++ matched_beside couples) s.rest (matched_beside couples ++ s.rest) s.unmatched s.root
     opened =
-        cycle_opened p s.nodes (split e.minus s.nodes) newer older e s.rest s.unmatched s.root s.parity from way couples cycle
+        cycle_opened p s.nodes (split_nodes e.minus s.nodes) newer older e s.rest s.unmatched s.root s.parity from way couples cycle
         (nest_split p s.nodes e.minus may state.search.nest).dual search.search
 
     blossom_matched : (n : ℕ) → n ≡ e.minus → is_in s.unmatched n ≡ false
@@ -211,9 +211,9 @@ state_opened p s newer older e from way couples tree_is may cycle state = record
 
 module _ (p : Problem) (s : SearchState) (e : Entry) (within : IsAmong e s.tree) (may : MaySplit s.nodes e.minus) (state : IsSearchState p s) (b : Node) (there : IsAmong b s.nodes) (named : b.name ≡ e.minus) where
   has_split : (children : List ℕ) → ((n : ℕ) → is_in children n ≡ is_in b.children n)
-      → IsSplit s.nodes (split e.minus s.nodes) e.minus children
+      → IsSplit s.nodes (split_nodes e.minus s.nodes) e.minus children
   has_split children same =
-      subst (λ x. IsSplit s.nodes (split x s.nodes) x children) named
+      subst (λ x. IsSplit s.nodes (split_nodes x s.nodes) x children) named
       (is_split p s.nodes b children there (subst (MaySplit s.nodes) (sym named) may) state.search.nest same)
 
   one_link : (l : Link) → IsAmong l (grown_links s.tree ++ paired_links s.tree) → AreMatchedLinks p s.nodes (l ∷ [])
@@ -232,9 +232,9 @@ module _ (p : Problem) (s : SearchState) (e : Entry) (within : IsAmong e s.tree)
   abbrev Child : (ℕ → Type 0) → Type 0
   Child P = (c : ℕ) × (is_in b.children c ≡ true) × P c
 
-  above : Child (λ c. Connects (split e.minus s.nodes) e.tree e.parent c)
+  above : Child (λ c. Connects (split_nodes e.minus s.nodes) e.tree e.parent c)
   above =
-      end_under_child p s.nodes (split e.minus s.nodes) e.minus e.parent b.children e.tree state.search.nest.dual
+      end_under_child p s.nodes (split_nodes e.minus s.nodes) e.minus e.parent b.children e.tree state.search.nest.dual
       (has_split b.children (λ n. refl))
       (one_link e.tree (among_left (grown_links s.tree) (paired_links s.tree) e.tree (map_among (λ x. x.tree) s.tree e within)))
       (λ same.
@@ -244,9 +244,9 @@ module _ (p : Problem) (s : SearchState) (e : Entry) (within : IsAmong e s.tree)
       (ap (is_in (minus_names s.tree)) same ∙ among_minus s.tree e within))
       both.0
 
-  below : Child (λ c. Connects (split e.minus s.nodes) e.matched e.plus c)
+  below : Child (λ c. Connects (split_nodes e.minus s.nodes) e.matched e.plus c)
   below =
-      end_under_child p s.nodes (split e.minus s.nodes) e.minus e.plus b.children e.matched state.search.nest.dual
+      end_under_child p s.nodes (split_nodes e.minus s.nodes) e.minus e.plus b.children e.matched state.search.nest.dual
       (has_split b.children (λ n. refl))
       (one_link e.matched (among_right (grown_links s.tree) (paired_links s.tree) e.matched (map_among (λ x. x.matched) s.tree e within)))
       (λ same. not_both s.root s.tree state.search.search.names e e within within (sym same))
@@ -255,7 +255,7 @@ module _ (p : Problem) (s : SearchState) (e : Entry) (within : IsAmong e s.tree)
   abbrev Opens : Type 0
   Opens =
       (from : ℕ) × (way : List Pass) × (couples : List Couple)
-      × IsOpenedCycle p s.nodes (split e.minus s.nodes) e from way couples s.unmatched
+      × IsOpenedCycle p s.nodes (split_nodes e.minus s.nodes) e from way couples s.unmatched
 
   many : AreMany b.children
   many = by (All_among IsFormed s.nodes state.search.nest.forest.formed b there)
@@ -265,7 +265,7 @@ module _ (p : Problem) (s : SearchState) (e : Entry) (within : IsAmong e s.tree)
           (All_among (λ x. x.name ≡ e.minus → (is_empty x.children ≡ false) × (x.below ≡ []) × (x.top.value ≡ 0)) s.nodes may.bare b there named).0
 
       by : IsFormed b → AreMany b.children
-      by (inl lone) = absurd (both_ways (is_empty b.children) some (ap is_empty lone.none))
+      by (inl childless) = absurd (both_ways (is_empty b.children) some (ap is_empty childless.none))
       by (inr is_many) = is_many
 
   opens : Opens
@@ -277,9 +277,9 @@ module _ (p : Problem) (s : SearchState) (e : Entry) (within : IsAmong e s.tree)
           (cycle_freed p s.nodes s.cycles e.minus may state.search.nest state.cycles) b there named
 
       finish : (first : ℕ) (names : List ℕ) → b.children ≡ first ∷ names → (from to : ℕ)
-          → Connects (split e.minus s.nodes) e.tree e.parent from → Connects (split e.minus s.nodes) e.matched to e.plus
-          → (way : List Pass) × (couples : List Couple) × (last_of from way ≡ to) × ArePassed (split e.minus s.nodes) from way
-          × AreCoupled (split e.minus s.nodes) couples × IsPermutation (first ∷ names) (last_of from way ∷ paired_of from way couples)
+          → Connects (split_nodes e.minus s.nodes) e.tree e.parent from → Connects (split_nodes e.minus s.nodes) e.matched to e.plus
+          → (way : List Pass) × (couples : List Couple) × (last_of from way ≡ to) × ArePassed (split_nodes e.minus s.nodes) from way
+          × AreCoupled (split_nodes e.minus s.nodes) couples × IsPermutation (first ∷ names) (last_of from way ∷ paired_of from way couples)
           × ((q : Problem) (ns : List Node) → AreMatchedLinks q ns (s.cycles e.minus)
           → AreMatchedLinks q ns (matched_on way ++ (grown_on way ++ matched_beside couples)))
           → Opens
@@ -295,7 +295,7 @@ module _ (p : Problem) (s : SearchState) (e : Entry) (within : IsAmong e s.tree)
               distinct_permuted (first ∷ names) (last_of from way ∷ paired_of from way couples) moved
               (subst AreDistinct is many.distinct);
           above = over;
-          below = subst (λ n. Connects (split e.minus s.nodes) e.matched n e.plus) (sym ends) under;
+          below = subst (λ n. Connects (split_nodes e.minus s.nodes) e.matched n e.plus) (sym ends) under;
           passed = passed;
           coupled = coupled;
           links = kept p s.nodes freed.tight;
@@ -316,9 +316,9 @@ module _ (p : Problem) (s : SearchState) (e : Entry) (within : IsAmong e s.tree)
       by (first ∷ names) is =
           let (from, in_from, over) = above in
           let (to, in_to, under) = below in
-          finish first names is from to over (connects_sym (split e.minus s.nodes) e.matched e.plus to under)
-          (way_round (split e.minus s.nodes) first names (s.cycles e.minus) from to
-          (subst (λ l. AreLinkedRound (split e.minus s.nodes) l (s.cycles e.minus)) is freed.linked)
+          finish first names is from to over (connects_sym (split_nodes e.minus s.nodes) e.matched e.plus to under)
+          (way_round (split_nodes e.minus s.nodes) first names (s.cycles e.minus) from to
+          (subst (λ l. AreLinkedRound (split_nodes e.minus s.nodes) l (s.cycles e.minus)) is freed.linked)
           (let size : length b.children ≡ length (first ∷ names) = ap length is in omega (arith, size, many.odd))
           (ap (λ l. is_in l from) (sym is) ∙ in_from) (ap (λ l. is_in l to) (sym is) ∙ in_to))
 

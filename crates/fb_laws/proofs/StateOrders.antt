@@ -12,11 +12,11 @@ use Rattle.fb_graph.proofs.Among.{IsAmong, among_live}
 use Rattle.fb_graph.proofs.Sets.{is_in-filter, is_in-head, is_in-tail}
 use Rattle.fb_laws.specs.Forming.{names_of}
 use Rattle.fb_laws.specs.PartStates.{AreCycles, AreLiveNames}
-use Rattle.fb_laws.specs.SearchBlossoms.{renamed}
+use Rattle.fb_laws.specs.SearchBlossoms.{renamed_name}
 use Rattle.fb_laws.specs.StateOrders.{PartReordered, SearchReordered, OthersStay, AgreeAt}
 use Rattle.fb_laws.specs.Trees.{paired_links}
 use Rattle.fb_laws.specs.UnmatchedNames.{AreOuterNames}
-use Rattle.fb_laws.specs.Works.{AreMatchedLinks, IsMatching, without}
+use Rattle.fb_laws.specs.Works.{AreMatchedLinks, IsMatching, names_without}
 use Rattle.fb_laws.proofs.HalvesKept.{matching_permuted}
 use Rattle.fb_laws.proofs.OpenedBlossoms.{distinct_permuted, same_permuted}
 use Rattle.fb_laws.proofs.SearchStates.{search_permuted}
@@ -104,14 +104,14 @@ search_reordered p s cycles rest unmatched agree links_moved names_moved state =
 -- names in which only the root is replaced by a new name, without the root
 renamed_without : (joined : ℕ → Bool) (name root : ℕ) (names : List ℕ) → ((n : ℕ) → is_in names n ≡ true → n ≡ name → ⊥)
     → ((n : ℕ) → is_in names n ≡ true → joined n ≡ true → n ≡ root)
-    → without (renamed joined name root) (map (renamed joined name) names) ≡ without root names
+    → names_without (renamed_name joined name root) (map (renamed_name joined name) names) ≡ names_without root names
 renamed_without joined name root [] fresh alone = refl
 renamed_without joined name root (x ∷ xs) fresh alone =
     step (joined x) refl
     (renamed_without joined name root xs (λ n within. fresh n (is_in-tail x xs n within)) (λ n within. alone n (is_in-tail x xs n within)))
   where
     W : List ℕ
-    W = without (renamed joined name root) (map (renamed joined name) xs)
+    W = names_without (renamed_name joined name root) (map (renamed_name joined name) xs)
 
     same : joined x ≡ false → (b : Bool) → joined root ≡ b → (x == cond b name root) ≡ (x == root)
     same out true e =
@@ -119,12 +119,12 @@ renamed_without joined name root (x ∷ xs) fresh alone =
         ∙ sym (false_from_ne_true (x == root) (λ h. both_ways (joined x) out (ap joined (eqb-true x root h) ∙ e)))
     same out false e = refl
 
-    step : (b : Bool) → joined x ≡ b → without (renamed joined name root) (map (renamed joined name) xs) ≡ without root xs
-        → without (cond (joined root) name root) (cond b name x ∷ map (renamed joined name) xs) ≡ without root (x ∷ xs)
+    step : (b : Bool) → joined x ≡ b → names_without (renamed_name joined name root) (map (renamed_name joined name) xs) ≡ names_without root xs
+        → names_without (cond (joined root) name root) (cond b name x ∷ map (renamed_name joined name) xs) ≡ names_without root (x ∷ xs)
     step true e ih =
         let is : x ≡ root = alone x (is_in-head x xs) e in
         ap (λ t. cond (not t) (name ∷ W) W) (ap (λ t. name == cond t name root) (ap joined (sym is) ∙ e) ∙ eq-eqb name name refl)
-        ∙ (ih ∙ ap (λ t. cond (not t) (x ∷ without root xs) (without root xs)) (sym (eq-eqb x root is)))
+        ∙ (ih ∙ ap (λ t. cond (not t) (x ∷ names_without root xs) (names_without root xs)) (sym (eq-eqb x root is)))
     step false e ih =
         ap (λ t. cond (not t) (x ∷ W) W) (same e (joined root) refl)
         ∙ ap (λ l. cond (not (x == root)) (x ∷ l) l) ih

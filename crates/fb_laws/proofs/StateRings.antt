@@ -9,7 +9,7 @@ use Rattle.fb_graph.specs.Parity.{is_in}
 use Rattle.fb_graph.specs.Problem.{Problem}
 use Rattle.fb_graph.specs.Laws.{Link}
 use Rattle.fb_graph.specs.Dual.{Node, cover_of, is_empty, is_live, is_outer, leaves, top_at}
-use Rattle.fb_graph.specs.Moves.{MaySplit, split}
+use Rattle.fb_graph.specs.Moves.{MaySplit, split_nodes}
 use Rattle.fb_graph.specs.Nests.{IsFormed, AreMany}
 use Rattle.fb_graph.proofs.Among.{IsAmong, All_among, live_among, top_among}
 use Rattle.fb_graph.proofs.Sets.{is_in-All}
@@ -32,24 +32,24 @@ pub child_at_end : ChildAtEnd
 child_at_end p nodes name other child d l nest may are differs connects children held ends =
     by (live_among nodes name may.live)
   where
-    by : (b : Node) × IsAmong b nodes × (b.name ≡ name) → Connects (split name nodes) l other child
+    by : (b : Node) × IsAmong b nodes × (b.name ≡ name) → Connects (split_nodes name nodes) l other child
     by (b, a, named) = step connects ends
       where
         mine : is_in b.children child ≡ true
         mine = All_among (λ n. n.name ≡ name → is_in n.children child ≡ true) nodes children b a named
 
-        parts : IsSplit nodes (split name nodes) name b.children
+        parts : IsSplit nodes (split_nodes name nodes) name b.children
         parts =
-            subst (λ x. IsSplit nodes (split x nodes) x b.children) named
+            subst (λ x. IsSplit nodes (split_nodes x nodes) x b.children) named
             (is_split p nodes b b.children a (subst (MaySplit nodes) (sym named) may) nest (λ n. refl))
 
-        there : cover_of (split name nodes) d ≡ Some child
+        there : cover_of (split_nodes name nodes) d ≡ Some child
         there =
             let (m, among, is) =
             live_among nodes child
             (is_in-All (λ c. is_live nodes c ≡ true) b.children
             (All_among (λ n. All (λ c. is_live nodes c ≡ true) n.children) nodes nest.forest.live b a) child mine) in
-            subst (λ x. cover_of (split x nodes) d ≡ Some m.name) named
+            subst (λ x. cover_of (split_nodes x nodes) d ≡ Some m.name) named
             (child_covers p nodes b b.children a (subst (MaySplit nodes) (sym named) may) nest (λ n. refl) m among
             (ap (is_in b.children) is ∙ mine) d
             (ap (λ s. is_in s d) (sym (top_among nodes nest.dual.names m among) ∙ ap (top_at nodes) is) ∙ held))
@@ -63,7 +63,7 @@ child_at_end p nodes name other child d l nest may are differs connects children
             × (p.is_real m.to ≡ true → is_in (leaves nodes) m.to ≡ true)) l [] are.at_defects
 
         stays : (v : ℕ) → (p.is_real v ≡ true → is_in (leaves nodes) v ≡ true) → cover_of nodes v ≡ Some other
-            → (cover_of (split name nodes) v ≡ Some other) × (is_in b.children other ≡ false)
+            → (cover_of (split_nodes name nodes) v ≡ Some other) × (is_in b.children other ≡ false)
         stays v defect cover =
             parts.outside v other (defect (nest.dual.real v (subst IsSome (sym cover) refl))) cover differs
 
@@ -72,15 +72,15 @@ child_at_end p nodes name other child d l nest may are differs connects children
         apart v defect cover same =
             let (kept, out) = stays v defect cover in
             let one : Some child ≡ Some other =
-            sym there ∙ (ap (cover_of (split name nodes)) same ∙ kept) in
+            sym there ∙ (ap (cover_of (split_nodes name nodes)) same ∙ kept) in
             both_ways (is_in b.children other) out (let e : child ≡ other = cc in ap (is_in b.children) (sym e) ∙ mine)
 
-        step : Connects nodes l other name → (d ≡ l.from) ⊎ (d ≡ l.to) → Connects (split name nodes) l other child
+        step : Connects nodes l other name → (d ≡ l.from) ⊎ (d ≡ l.to) → Connects (split_nodes name nodes) l other child
         step (inl (from, to)) (inl e) = absurd (apart l.from at.0 from e)
         step (inl (from, to)) (inr e) =
-            inl ((stays l.from at.0 from).0, ap (cover_of (split name nodes)) (sym e) ∙ there)
+            inl ((stays l.from at.0 from).0, ap (cover_of (split_nodes name nodes)) (sym e) ∙ there)
         step (inr (to, from)) (inl e) =
-            inr ((stays l.to at.1 to).0, ap (cover_of (split name nodes)) (sym e) ∙ there)
+            inr ((stays l.to at.1 to).0, ap (cover_of (split_nodes name nodes)) (sym e) ∙ there)
         step (inr (to, from)) (inr e) = absurd (apart l.to at.1 to e)
 
 drop_at : (xs : List ℕ) (k d : ℕ) → k < length xs → drop k xs ≡ get_or xs k d ∷ drop (k + 1) xs
@@ -94,7 +94,7 @@ module _ (p : Problem) (s : SearchState) (newer older : List Entry) (e : Entry) 
     (place steps : ℕ) (state : IsSearchState p s) (may : MayOpenAlong s newer older e (first ∷ names) place steps)
     (b : Node) (among : IsAmong b s.nodes) (named : b.name ≡ e.minus) where
   abbrev Others : List Node
-  Others = split e.minus s.nodes
+  Others = split_nodes e.minus s.nodes
 
   abbrev From : ℕ
   From = get_or (first ∷ names) place 0
@@ -114,12 +114,12 @@ module _ (p : Problem) (s : SearchState) (newer older : List Entry) (e : Entry) 
   many = by (All_among IsFormed s.nodes state.search.nest.forest.formed b among)
     where
       by : IsFormed b → AreMany b.children
-      by (inl lone) =
+      by (inl childless) =
           absurd
           (both_ways (is_empty b.children)
           (All_among (λ x. x.name ≡ e.minus → (is_empty x.children ≡ false) × (x.below ≡ []) × (x.top.value ≡ 0)) s.nodes
           may.may_split.bare b among named).0
-          (ap is_empty lone.none))
+          (ap is_empty childless.none))
       by (inr is_many) = is_many
 
   begun : IsRoundFrom Others From Ring × IsPermutation (first ∷ names) (From ∷ Ring.others)
@@ -158,7 +158,7 @@ module _ (p : Problem) (s : SearchState) (newer older : List Entry) (e : Entry) 
     split =
         subst
         (λ x.
-        IsSplit s.nodes (split x s.nodes) x
+        IsSplit s.nodes (split_nodes x s.nodes) x
         (last_of From (way_to steps Ring) ∷ paired_of From (way_to steps Ring) (couples_after steps Ring)))
         named
         (is_split p s.nodes b _ among (subst (MaySplit s.nodes) (sym named) may.may_split) state.search.nest

@@ -7,7 +7,7 @@ use Rattle.fb_graph.specs.Dual.{Node, IsDual, all_cuts, cover_of, AreUnderOne}
 use Rattle.fb_graph.specs.declared.parts.Edge.{Edge}
 use Rattle.fb_graph.specs.Counts.{as_count}
 use Rattle.fb_graph.specs.Steps.{Roles, gains, losses}
-use Rattle.fb_graph.specs.Covers.{AreRoles, is_over}
+use Rattle.fb_graph.specs.Covers.{AreRoles, is_covered_by}
 use Rattle.fb_laws.specs.Bounds.{Bears, BoundedSteps, StepsBounded, NoObstacleBefore}
 use Rattle.fb_graph.proofs.Crossings.{crossings_by_cover, level_within, under_or_not, exclusive_over}
 
@@ -71,8 +71,8 @@ pub edge_allows : (p : Problem) (roles : Roles) (nodes : List Node) (k : ℕ) (e
     → ¬ AreUnderOne nodes e.first e.second → Bears roles nodes k e
     → load_of (all_cuts nodes) e + k * gains roles nodes e ≤ e.weight + k * losses roles nodes e
 edge_allows p roles nodes k e dual are light differs bear =
-    let h = allows (is_over roles.is_plus nodes e.first) (is_over roles.is_minus nodes e.first)
-    (is_over roles.is_plus nodes e.second) (is_over roles.is_minus nodes e.second) k
+    let h = allows (is_covered_by roles.is_plus nodes e.first) (is_covered_by roles.is_minus nodes e.first)
+    (is_covered_by roles.is_plus nodes e.second) (is_covered_by roles.is_minus nodes e.second) k
     (load_of (all_cuts nodes) e) e.weight light
     (exclusive_over roles (cover_of nodes e.first) are.exclusive)
     (exclusive_over roles (cover_of nodes e.second) are.exclusive)
@@ -89,8 +89,8 @@ pub edge_bears : (p : Problem) (roles : Roles) (nodes : List Node) (k : ℕ) (e 
     → load_of (all_cuts nodes) e + k * gains roles nodes e ≤ e.weight + k * losses roles nodes e
     → Bears roles nodes k e
 edge_bears p roles nodes k e dual are differs allowed =
-    let h = bears (is_over roles.is_plus nodes e.first) (is_over roles.is_minus nodes e.first)
-    (is_over roles.is_plus nodes e.second) (is_over roles.is_minus nodes e.second) k
+    let h = bears (is_covered_by roles.is_plus nodes e.first) (is_covered_by roles.is_minus nodes e.first)
+    (is_covered_by roles.is_plus nodes e.second) (is_covered_by roles.is_minus nodes e.second) k
     (load_of (all_cuts nodes) e) e.weight
     (exclusive_over roles (cover_of nodes e.first) are.exclusive)
     (exclusive_over roles (cover_of nodes e.second) are.exclusive)
@@ -140,8 +140,8 @@ no_obstacle_before p roles nodes k dual are some may = record {
   edges = λ i d less differs.
       let bear = edge_bears p roles nodes k (get_or p.edges i d) dual are differs (may.edges i d less) in
       let e : Edge = get_or p.edges i d in
-      let h = clear_by (is_over roles.is_plus nodes e.first) (is_over roles.is_minus nodes e.first)
-      (is_over roles.is_plus nodes e.second) (is_over roles.is_minus nodes e.second) k
+      let h = clear_by (is_covered_by roles.is_plus nodes e.first) (is_covered_by roles.is_minus nodes e.first)
+      (is_covered_by roles.is_plus nodes e.second) (is_covered_by roles.is_minus nodes e.second) k
       (load_of (all_cuts nodes) e) e.weight some (bear.first, bear.second, bear.both) in
       record { first = h.0; second = h.1 };
   layers = λ i d less minus. let h = may.tops i d less minus in omega (arith, h);

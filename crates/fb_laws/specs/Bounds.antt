@@ -5,16 +5,16 @@ use Rattle.fb_graph.specs.Certificate.{load_of}
 use Rattle.fb_graph.specs.Dual.{Node, IsDual, all_cuts, AreUnderOne}
 use Rattle.fb_graph.specs.declared.parts.Edge.{Edge}
 use Rattle.fb_graph.specs.Steps.{Roles, AllowShrinking, MayStep}
-use Rattle.fb_graph.specs.Covers.{AreRoles, HasNoObstacle, is_over}
+use Rattle.fb_graph.specs.Covers.{AreRoles, HasNoObstacle, is_covered_by}
 
 -- The edge can bear a step of length k: the length itself where one end is under a plus node and the other under
 -- neither a plus nor a minus node, and twice the length where both ends are under plus nodes.
 pub record Bears (roles : Roles) (nodes : List Node) (k : ℕ) (e : Edge) : Type 0 where
-  pub first : is_over roles.is_plus nodes e.first ≡ true → is_over roles.is_plus nodes e.second ≡ false
-      → is_over roles.is_minus nodes e.second ≡ false → load_of (all_cuts nodes) e + k ≤ e.weight
-  pub second : is_over roles.is_plus nodes e.second ≡ true → is_over roles.is_plus nodes e.first ≡ false
-      → is_over roles.is_minus nodes e.first ≡ false → load_of (all_cuts nodes) e + k ≤ e.weight
-  pub both : is_over roles.is_plus nodes e.first ≡ true → is_over roles.is_plus nodes e.second ≡ true
+  pub first : is_covered_by roles.is_plus nodes e.first ≡ true → is_covered_by roles.is_plus nodes e.second ≡ false
+      → is_covered_by roles.is_minus nodes e.second ≡ false → load_of (all_cuts nodes) e + k ≤ e.weight
+  pub second : is_covered_by roles.is_plus nodes e.second ≡ true → is_covered_by roles.is_plus nodes e.first ≡ false
+      → is_covered_by roles.is_minus nodes e.first ≡ false → load_of (all_cuts nodes) e + k ≤ e.weight
+  pub both : is_covered_by roles.is_plus nodes e.first ≡ true → is_covered_by roles.is_plus nodes e.second ≡ true
       → load_of (all_cuts nodes) e + 2 * k ≤ e.weight
 
 -- each edge that isn't within one outer node bears the length, and each minus node's top layer is at least as thick

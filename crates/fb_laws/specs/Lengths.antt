@@ -4,7 +4,7 @@ use Rattle.fb_graph.specs.Problem.{Problem}
 use Rattle.fb_graph.specs.Certificate.{IsPacking}
 use Rattle.fb_graph.specs.Laws.{HasNoOddClosed}
 use Rattle.fb_graph.specs.Dual.{Node, all_cuts, node_at}
-use Rattle.fb_graph.specs.Steps.{Roles, AreExclusive, MayStep, stepped}
+use Rattle.fb_graph.specs.Steps.{Roles, AreExclusive, MayStep, stepped_nodes}
 
 -- some node grows
 abbrev pub HasPlus : Roles → List Node → Type 0
@@ -34,4 +34,4 @@ GreatestBounds = (p : Problem) (roles : Roles) (nodes : List Node) (k j : ℕ) �
 -- After the greatest step no further one is allowed, so that the next obstacle is another one.
 abbrev pub AfterGreatest : Type 0
 AfterGreatest = (p : Problem) (roles : Roles) (nodes : List Node) (k : ℕ) → AreExclusive roles
-    → IsGreatestStep p roles nodes k → ¬ MayStep p roles (stepped roles k nodes) 1
+    → IsGreatestStep p roles nodes k → ¬ MayStep p roles (stepped_nodes roles k nodes) 1

@@ -11,7 +11,7 @@ use Rattle.fb_laws.specs.PartStates.{SearchState, IsSearchState}
 use Rattle.fb_laws.specs.SearchBlossoms.{inner_branches, joined_tree}
 use Rattle.fb_laws.specs.StateBlossoms.{MayClose}
 use Rattle.fb_laws.specs.TreeCycles.{ArePaths, cycle_links, cycle_nodes, last_plus}
-use Rattle.fb_laws.specs.Trees.{Entry, EntryOf, beside, grown_links, minus_names, paired_links, path_to}
+use Rattle.fb_laws.specs.Trees.{Entry, EntryOf, branches_beside, grown_links, minus_names, paired_links, path_to}
 
 -- all links of a tree
 abbrev pub tree_links : {L : Type 0} → List (EntryOf L) → List L
@@ -19,11 +19,11 @@ tree_links tree = grown_links tree ++ paired_links tree
 
 -- those that are matched where a search ends at the named plus node
 abbrev pub links_matched : {L : Type 0} → List (EntryOf L) → ℕ → List L
-links_matched tree name = grown_links (path_to tree name) ++ paired_links (beside tree name)
+links_matched tree name = grown_links (path_to tree name) ++ paired_links (branches_beside tree name)
 
 -- and those that aren't
 abbrev pub links_dropped : {L : Type 0} → List (EntryOf L) → ℕ → List L
-links_dropped tree name = paired_links (path_to tree name) ++ grown_links (beside tree name)
+links_dropped tree name = paired_links (path_to tree name) ++ grown_links (branches_beside tree name)
 
 -- Where a search ends each link of the tree is matched or dropped.
 abbrev pub LinksEnded : Type 0

@@ -6,7 +6,7 @@ use Rattle.fb_graph.specs.Laws.{Link, IsPart}
 use Rattle.fb_graph.specs.Dual.{Node, IsDual, is_live}
 use Rattle.fb_graph.specs.NestUnions.{AreParts}
 use Rattle.fb_laws.specs.Paths.{LeadsOut}
-use Rattle.fb_graph.specs.Sprouts.{Sprout, nodes_of, vertices_of}
+use Rattle.fb_graph.specs.Singles.{Single, nodes_of, vertices_of}
 use Rattle.fb_laws.specs.Works.{IsMatching, IsSetOf}
 
 -- What two parts keep, the whole keeps of both together, where its real vertices are those of the parts. Names may not
@@ -42,20 +42,20 @@ EndElsewhere seam links = All (λ l. (seam l.from ≡ false) × (seam l.to ≡ f
 -- Seam vertices become real. Links to them are forgotten, which leaves their nodes unmatched, and defects among them
 -- come as new unmatched nodes without value.
 pub record IsSeam (p whole : Problem) (nodes : List Node) (freed : List Freed) (links : List Link)
-    (sprouts : List Sprout)
+    (singles : List Single)
     (seam : ℕ → Bool) : Type 0 where
   pub part : IsPart p whole
   pub covered : (v : ℕ) → whole.is_real v ≡ true → (p.is_real v ≡ true) ⊎ (seam v ≡ true)
   pub unreal : (v : ℕ) → seam v ≡ true → p.is_real v ≡ false
   pub freed_are : All (λ f. IsSetOf nodes f.name f.set × LeadsOut f.link f.set f.seam × (seam f.seam ≡ true)) freed
   pub elsewhere : EndElsewhere seam links
-  pub at_seam : All (λ s. seam s.vertex ≡ true) sprouts
-  pub bare : All (λ s. s.value ≡ 0) sprouts
-  pub defects : (v : ℕ) → seam v ≡ true → whole.is_defect v ≡ is_in (vertices_of sprouts) v
+  pub at_seam : All (λ s. seam s.vertex ≡ true) singles
+  pub bare : All (λ s. s.value ≡ 0) singles
+  pub defects : (v : ℕ) → seam v ≡ true → whole.is_defect v ≡ is_in (vertices_of singles) v
 
 abbrev pub SeamOpened : Type 0
-SeamOpened = (p whole : Problem) (nodes : List Node) (freed : List Freed) (links : List Link) (sprouts : List Sprout)
-    (seam : ℕ → Bool) (unmatched : List ℕ) → IsSeam p whole nodes freed links sprouts seam
-    → IsDual whole (nodes ++ nodes_of sprouts)
+SeamOpened = (p whole : Problem) (nodes : List Node) (freed : List Freed) (links : List Link) (singles : List Single)
+    (seam : ℕ → Bool) (unmatched : List ℕ) → IsSeam p whole nodes freed links singles seam
+    → IsDual whole (nodes ++ nodes_of singles)
     → IsMatching p nodes (freed_links freed ++ links) unmatched
-    → IsMatching whole (nodes ++ nodes_of sprouts) links (unmatched ++ (freed_names freed ++ map (λ s. s.name) sprouts))
+    → IsMatching whole (nodes ++ nodes_of singles) links (unmatched ++ (freed_names freed ++ map (λ s. s.name) singles))

@@ -12,10 +12,10 @@ use Rattle.fb_laws.specs.Forming.{Child, names_of, blossom_of}
 use Rattle.fb_laws.specs.Works.{IsSetOf}
 use Rattle.fb_laws.specs.Trees.{Entry, roles_of}
 use Rattle.fb_laws.specs.SearchLayers.{left_to_do}
-use Rattle.fb_laws.specs.SearchBlossoms.{IsJoining, joined_tree, renamed}
+use Rattle.fb_laws.specs.SearchBlossoms.{IsJoining, joined_tree, renamed_name}
 use Rattle.fb_laws.specs.Searches.{IsSearch}
 use Rattle.fb_graph.specs.Nests.{IsNest}
-use Rattle.fb_graph.specs.Moves.{MayJoin, MayTakeUp, MayUncover, blossom, joined, taken_up, uncovered}
+use Rattle.fb_graph.specs.Moves.{MayJoin, MayAbsorb, MayUncover, blossom, joined_nodes, absorbed_nodes, uncovered_nodes}
 
 -- A blossom told by its children's names and sets is the one told by their names.
 abbrev pub BlossomNamed : Type 0
@@ -37,11 +37,11 @@ BlossomOuter = (p : Problem) (nodes : List Node) (name : ℕ) (children : List C
 
 -- the vertex is the one that the node has given up: no defect, under no node, and taking it up again leads back
 pub record IsGivenUp (nodes : List Node) (name v : ℕ) : Type 0 where
-  pub back : taken_up name v (uncovered name nodes) ≡ nodes
-  pub no_defect : is_in (leaves (uncovered name nodes)) v ≡ false
-  pub free : cover_of (uncovered name nodes) v ≡ None
-  pub live : is_live (uncovered name nodes) name ≡ true
-  pub outer : is_outer (uncovered name nodes) name ≡ true
+  pub back : absorbed_nodes name v (uncovered_nodes name nodes) ≡ nodes
+  pub no_defect : is_in (leaves (uncovered_nodes name nodes)) v ≡ false
+  pub free : cover_of (uncovered_nodes name nodes) v ≡ None
+  pub live : is_live (uncovered_nodes name nodes) name ≡ true
+  pub outer : is_outer (uncovered_nodes name nodes) name ≡ true
 
 -- A node whose empty top layer is taken off gives up one vertex.
 abbrev pub UncoveredBack : Type 0
@@ -52,13 +52,13 @@ UncoveredBack = (p : Problem) (nodes : List Node) (name : ℕ) → MayUncover no
 abbrev pub UncoveredLowers : Type 0
 UncoveredLowers = (p : Problem) (nodes : List Node) (roles : Roles) (name : ℕ) (free freed : Bool)
     → MayUncover nodes name → IsNest p nodes → roles.is_minus name ≡ true → roles.is_plus name ≡ false
-    → IsLower (left_to_do p (uncovered name nodes) roles freed) (left_to_do p nodes roles free)
+    → IsLower (left_to_do p (uncovered_nodes name nodes) roles freed) (left_to_do p nodes roles free)
 
--- So does a plus node that takes up a vertex.
-abbrev pub TakenUpLowers : Type 0
-TakenUpLowers = (p : Problem) (nodes : List Node) (roles : Roles) (name k u v : ℕ) (free freed : Bool)
-    → IsWithinLimits p → MayTakeUp p nodes name k u v → IsNest p nodes → roles.is_plus name ≡ true
-    → IsLower (left_to_do p (taken_up name v nodes) roles freed) (left_to_do p nodes roles free)
+-- So does a plus node that absorbs a vertex.
+abbrev pub AbsorbedLowers : Type 0
+AbsorbedLowers = (p : Problem) (nodes : List Node) (roles : Roles) (name k u v : ℕ) (free freed : Bool)
+    → IsWithinLimits p → MayAbsorb p nodes name k u v → IsNest p nodes → roles.is_plus name ≡ true
+    → IsLower (left_to_do p (absorbed_nodes name v nodes) roles freed) (left_to_do p nodes roles free)
 
 -- And nodes of a tree that are joined, since one of them is minus.
 abbrev pub JoiningLowers : Type 0
@@ -67,7 +67,7 @@ JoiningLowers = (p : Problem) (nodes : List Node) (tree : List Entry) (rest : Li
     → IsJoining nodes tree root name base others → 1 ≤ length others → is_live nodes name ≡ false → IsNest p nodes
     → IsSearch p nodes tree rest unmatched root r
     → IsLower
-    (left_to_do p (joined name (names_of (base ∷ others)) nodes)
-    (roles_of (renamed (is_in (names_of (base ∷ others))) name root)
+    (left_to_do p (joined_nodes name (names_of (base ∷ others)) nodes)
+    (roles_of (renamed_name (is_in (names_of (base ∷ others))) name root)
     (joined_tree (is_in (names_of (base ∷ others))) name tree)) freed)
     (left_to_do p nodes (roles_of root tree) free)

@@ -8,7 +8,7 @@ use Rattle.fb_graph.specs.Laws.{Link}
 use Rattle.fb_graph.specs.Dual.{Node, is_live}
 use Rattle.fb_graph.specs.Links.{AreEven}
 use Rattle.fb_graph.specs.NestUnions.{AreParts, HaveOwnNames}
-use Rattle.fb_graph.specs.Sprouts.{Sprout, nodes_of, vertices_of}
+use Rattle.fb_graph.specs.Singles.{Single, nodes_of, vertices_of}
 use Rattle.fb_laws.specs.Merging.{Freed, IsSeam, freed_links, freed_names}
 use Rattle.fb_laws.specs.NestedSearches.{IsNestedWork}
 
@@ -24,10 +24,10 @@ NestedMerged = (left right whole : Problem) (nodes others : List Node) (links mo
 
 -- With the seam made real, freed nodes and the seam's own defects are unmatched.
 abbrev pub NestedSeam : Type 0
-NestedSeam = (p whole : Problem) (nodes : List Node) (freed : List Freed) (links : List Link) (sprouts : List Sprout)
+NestedSeam = (p whole : Problem) (nodes : List Node) (freed : List Freed) (links : List Link) (singles : List Single)
     (seam : ℕ → Bool) (unmatched : List ℕ) → AreEven p → IsWithinLimits whole
-    → IsSeam p whole nodes freed links sprouts seam → AreDistinct (map (λ s. s.name) sprouts)
-    → AreDistinct (vertices_of sprouts) → All (λ s. whole.is_real s.vertex ≡ true) sprouts
-    → HaveOwnNames nodes (nodes_of sprouts) → IsNestedWork p nodes (freed_links freed ++ links) unmatched
-    → IsNestedWork whole (nodes ++ nodes_of sprouts) links
-    (unmatched ++ (freed_names freed ++ map (λ s. s.name) sprouts))
+    → IsSeam p whole nodes freed links singles seam → AreDistinct (map (λ s. s.name) singles)
+    → AreDistinct (vertices_of singles) → All (λ s. whole.is_real s.vertex ≡ true) singles
+    → HaveOwnNames nodes (nodes_of singles) → IsNestedWork p nodes (freed_links freed ++ links) unmatched
+    → IsNestedWork whole (nodes ++ nodes_of singles) links
+    (unmatched ++ (freed_names freed ++ map (λ s. s.name) singles))

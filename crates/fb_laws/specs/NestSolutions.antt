@@ -32,20 +32,20 @@ DefectsFirst = (p : Problem) (nodes : List Node) → IsNest p nodes
     nodes
 
 -- the sets of the nodes that join no others
-abbrev pub lone_sets : List Node → List (List ℕ)
-lone_sets nodes = map (λ n. n.top.vertices) (filter (λ n. is_empty n.children) nodes)
+abbrev pub leaf_sets : List Node → List (List ℕ)
+leaf_sets nodes = map (λ n. n.top.vertices) (filter (λ n. is_empty n.children) nodes)
 
 -- So links between these nodes match the defects themselves.
-abbrev pub LoneLevel : Type 0
-LoneLevel = (p : Problem) (nodes : List Node) (links : List Link) → IsNest p nodes
-    → EndAtDefects p (leaves nodes) links → IsLevel (positive_cuts nodes) (lone_sets nodes) links
+abbrev pub LeafLevel : Type 0
+LeafLevel = (p : Problem) (nodes : List Node) (links : List Link) → IsNest p nodes
+    → EndAtDefects p (leaves nodes) links → IsLevel (positive_cuts nodes) (leaf_sets nodes) links
     → IsLevel (positive_cuts nodes) (single_sets (leaves nodes)) links
 
 -- With all blossoms open, the cuts as they are printed certify the edges that lie on an odd number of the links' walks.
 -- (They can be listed in rising order, since a nest's cuts differ as sets.)
 abbrev pub NestResolved : Type 0
 NestResolved = (p : Problem) (nodes : List Node) (links : List Link) (printed : List Cut) → IsNest p nodes
-    → HasDefects p nodes → IsLevel (positive_cuts nodes) (lone_sets nodes) links
+    → HasDefects p nodes → IsLevel (positive_cuts nodes) (leaf_sets nodes) links
     → All (IsTightLink p (all_cuts nodes)) links → EndAtDefects p (leaves nodes) links
     → HasPositiveCuts (all_cuts nodes) printed → AreRising printed
     → IsBest p (odd_edges p links) (total_value (all_cuts nodes)) printed

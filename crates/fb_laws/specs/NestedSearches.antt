@@ -7,19 +7,19 @@ use Rattle.fb_graph.specs.Certificate.{AreDistinct}
 use Rattle.fb_graph.specs.Limits.{IsWithinLimits}
 use Rattle.fb_graph.specs.Laws.{Link, HasNoOddClosed}
 use Rattle.fb_graph.specs.Dual.{Node, is_live}
-use Rattle.fb_graph.specs.Steps.{MayStep, stepped}
+use Rattle.fb_graph.specs.Steps.{MayStep, stepped_nodes}
 use Rattle.fb_graph.specs.Covers.{HasNoObstacle}
 use Rattle.fb_laws.specs.Lengths.{IsGreatestStep}
 use Rattle.fb_graph.specs.Links.{AreEven}
-use Rattle.fb_graph.specs.Sprouts.{Sprout, nodes_of, vertices_of}
-use Rattle.fb_laws.specs.Works.{AreMatchedLinks, IsWork, without}
+use Rattle.fb_graph.specs.Singles.{Single, nodes_of, vertices_of}
+use Rattle.fb_laws.specs.Works.{AreMatchedLinks, IsWork, names_without}
 use Rattle.fb_laws.specs.Forming.{Child, names_of}
-use Rattle.fb_laws.specs.Trees.{Entry, Connects, grown_links, paired_links, plus_names, roles_of, path_to, beside}
+use Rattle.fb_laws.specs.Trees.{Entry, Connects, grown_links, paired_links, plus_names, roles_of, path_to, branches_beside}
 use Rattle.fb_laws.specs.Searches.{IsOuterNode, IsSearch, LeavesNode}
-use Rattle.fb_laws.specs.SearchBlossoms.{IsJoining, joined_tree, renamed}
+use Rattle.fb_laws.specs.SearchBlossoms.{IsJoining, joined_tree, renamed_name}
 use Rattle.fb_laws.specs.SearchOpenings.{IsOpenedTree}
 use Rattle.fb_graph.specs.Nests.{IsNest}
-use Rattle.fb_graph.specs.Moves.{MaySplit, MayTakeUp, MayUncover, joined, split, taken_up, uncovered}
+use Rattle.fb_graph.specs.Moves.{MaySplit, MayAbsorb, MayUncover, joined_nodes, split_nodes, absorbed_nodes, uncovered_nodes}
 use Rattle.fb_graph.specs.SourceWalks.{HaveWalks}
 use Rattle.fb_laws.specs.UnmatchedNames.{AreOuterNames}
 
@@ -40,11 +40,11 @@ pub record IsNestedSearch (p : Problem) (nodes : List Node) (tree : List Entry) 
 
 -- A part begins with its defects as nodes without values, all unmatched.
 abbrev pub NestedWorkBegins : Type 0
-NestedWorkBegins = (p : Problem) (sprouts : List Sprout) → AreDistinct (map (λ s. s.name) sprouts)
-    → AreDistinct (vertices_of sprouts) → All (λ s. p.is_real s.vertex ≡ true) sprouts
-    → All (λ s. s.value ≡ 0) sprouts
-    → ((v : ℕ) → p.is_real v ≡ true → p.is_defect v ≡ is_in (vertices_of sprouts) v)
-    → IsNestedWork p (nodes_of sprouts) [] (map (λ s. s.name) sprouts)
+NestedWorkBegins = (p : Problem) (singles : List Single) → AreDistinct (map (λ s. s.name) singles)
+    → AreDistinct (vertices_of singles) → All (λ s. p.is_real s.vertex ≡ true) singles
+    → All (λ s. s.value ≡ 0) singles
+    → ((v : ℕ) → p.is_real v ≡ true → p.is_defect v ≡ is_in (vertices_of singles) v)
+    → IsNestedWork p (nodes_of singles) [] (map (λ s. s.name) singles)
 
 -- A search begins with an unmatched node.
 abbrev pub NestedSearchBegins : Type 0
@@ -64,20 +64,20 @@ abbrev pub NestedStepped : Type 0
 NestedStepped = (p : Problem) (nodes : List Node) (tree : List Entry) (rest : List Link) (unmatched : List ℕ)
     (root r k : ℕ) → IsWithinLimits p → HasNoOddClosed p → MayStep p (roles_of root tree) nodes k
     → IsNestedSearch p nodes tree rest unmatched root r
-    → IsNestedSearch p (stepped (roles_of root tree) k nodes) tree rest unmatched root ((r + k) % 2)
+    → IsNestedSearch p (stepped_nodes (roles_of root tree) k nodes) tree rest unmatched root ((r + k) % 2)
 
--- A vertex taken up by any outer node.
-abbrev pub NestedTakenUp : Type 0
-NestedTakenUp = (p : Problem) (nodes : List Node) (tree : List Entry) (rest : List Link) (unmatched : List ℕ)
-    (root r name k u v : ℕ) → AreEven p → MayTakeUp p nodes name k u v
+-- A vertex absorbed by any outer node.
+abbrev pub NestedAbsorbed : Type 0
+NestedAbsorbed = (p : Problem) (nodes : List Node) (tree : List Entry) (rest : List Link) (unmatched : List ℕ)
+    (root r name k u v : ℕ) → AreEven p → MayAbsorb p nodes name k u v
     → IsNestedSearch p nodes tree rest unmatched root r
-    → IsNestedSearch p (taken_up name v nodes) tree rest unmatched root r
+    → IsNestedSearch p (absorbed_nodes name v nodes) tree rest unmatched root r
 
 -- An empty top layer taken off.
 abbrev pub NestedUncovered : Type 0
 NestedUncovered = (p : Problem) (nodes : List Node) (tree : List Entry) (rest : List Link) (unmatched : List ℕ)
     (root r name : ℕ) → MayUncover nodes name → IsNestedSearch p nodes tree rest unmatched root r
-    → IsNestedSearch p (uncovered name nodes) tree rest unmatched root r
+    → IsNestedSearch p (uncovered_nodes name nodes) tree rest unmatched root r
 
 -- Two matched nodes attached.
 abbrev pub NestedAttached : Type 0
@@ -96,17 +96,17 @@ NestedJoined = (p : Problem) (nodes : List Node) (tree : List Entry) (rest : Lis
     → ((n : ℕ) → is_in (names_of (base ∷ others)) n ≡ true → is_in remaining n ≡ false)
     → ((n : ℕ) → is_in (names_of (base ∷ others)) n ≡ false → (n ≡ name → ⊥) → is_in remaining n ≡ is_in unmatched n)
     → IsNestedSearch p nodes tree rest unmatched root r
-    → IsNestedSearch p (joined name (names_of (base ∷ others)) nodes)
+    → IsNestedSearch p (joined_nodes name (names_of (base ∷ others)) nodes)
     (joined_tree (is_in (names_of (base ∷ others))) name tree) rest remaining
-    (renamed (is_in (names_of (base ∷ others))) name root) r
+    (renamed_name (is_in (names_of (base ∷ others))) name root) r
 
 -- A minus blossom without value opened.
 abbrev pub NestedOpened : Type 0
 NestedOpened = (p : Problem) (nodes : List Node) (newer older tree : List Entry) (e : Entry) (kept : ℕ)
     (paired : List ℕ) (more rest later : List Link) (unmatched : List ℕ) (root r : ℕ) → MaySplit nodes e.minus
-    → IsOpenedTree p nodes (split e.minus nodes) newer older tree e kept paired more rest later unmatched root
+    → IsOpenedTree p nodes (split_nodes e.minus nodes) newer older tree e kept paired more rest later unmatched root
     → IsNestedSearch p nodes (newer ++ e ∷ older) rest unmatched root r
-    → IsNestedSearch p (split e.minus nodes) tree later unmatched root r
+    → IsNestedSearch p (split_nodes e.minus nodes) tree later unmatched root r
 
 -- The root matched to the boundary.
 abbrev pub NestedEnded : Type 0
@@ -114,8 +114,8 @@ NestedEnded = (p : Problem) (nodes : List Node) (tree : List Entry) (rest : List
     (root r name : ℕ) (out : Link) (v : ℕ) → IsNestedSearch p nodes tree rest unmatched root r
     → is_in (plus_names root tree) name ≡ true → AreMatchedLinks p nodes (out ∷ []) → LeavesNode nodes out name v
     → p.is_real v ≡ false
-    → IsNestedWork p nodes (grown_links (path_to tree name) ++ out ∷ (paired_links (beside tree name) ++ rest))
-    (without root unmatched)
+    → IsNestedWork p nodes (grown_links (path_to tree name) ++ out ∷ (paired_links (branches_beside tree name) ++ rest))
+    (names_without root unmatched)
 
 -- The root matched with another unmatched node.
 abbrev pub NestedMet : Type 0
@@ -123,8 +123,8 @@ NestedMet = (p : Problem) (nodes : List Node) (tree : List Entry) (rest : List L
     (root r name other : ℕ) (out : Link) → IsNestedSearch p nodes tree rest unmatched root r
     → is_in (plus_names root tree) name ≡ true → is_in unmatched other ≡ true → (root ≡ other → ⊥)
     → AreMatchedLinks p nodes (out ∷ []) → Connects nodes out name other
-    → IsNestedWork p nodes (grown_links (path_to tree name) ++ out ∷ (paired_links (beside tree name) ++ rest))
-    (without root (without other unmatched))
+    → IsNestedWork p nodes (grown_links (path_to tree name) ++ out ∷ (paired_links (branches_beside tree name) ++ rest))
+    (names_without root (names_without other unmatched))
 
 -- The root matched with a node that was matched to the boundary.
 abbrev pub NestedReleased : Type 0
@@ -133,5 +133,5 @@ NestedReleased = (p : Problem) (nodes : List Node) (tree : List Entry) (old : Li
     → IsNestedSearch p nodes tree (old ∷ rest) unmatched root r → is_in (plus_names root tree) name ≡ true
     → AreMatchedLinks p nodes (out ∷ []) → Connects nodes out name other → LeavesNode nodes old other b
     → p.is_real b ≡ false
-    → IsNestedWork p nodes (grown_links (path_to tree name) ++ out ∷ (paired_links (beside tree name) ++ rest))
-    (without root unmatched)
+    → IsNestedWork p nodes (grown_links (path_to tree name) ++ out ∷ (paired_links (branches_beside tree name) ++ rest))
+    (names_without root unmatched)

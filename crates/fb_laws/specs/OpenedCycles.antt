@@ -9,7 +9,7 @@ use Rattle.fb_graph.specs.Certificate.{AreDistinct}
 use Rattle.fb_graph.specs.Laws.{Link}
 use Rattle.fb_graph.specs.Dual.{Node, IsDual}
 use Rattle.fb_graph.specs.Nests.{IsNest}
-use Rattle.fb_graph.specs.Moves.{MaySplit, split}
+use Rattle.fb_graph.specs.Moves.{MaySplit, split_nodes}
 use Rattle.fb_laws.specs.Works.{AreMatchedLinks}
 use Rattle.fb_laws.specs.Trees.{Entry, EntryOf, Connects, plus_names}
 use Rattle.fb_laws.specs.Searches.{IsSearch}
@@ -125,7 +125,7 @@ abbrev pub SplitOff : Type 0
 SplitOff = (p : Problem) (before after : List Node) (b : Node) (children : List ℕ)
     → MaySplit (before ++ b ∷ after) b.name → IsNest p (before ++ b ∷ after)
     → ((n : ℕ) → is_in children n ≡ is_in b.children n)
-    → (split b.name (before ++ b ∷ after) ≡ before ++ after)
+    → (split_nodes b.name (before ++ b ∷ after) ≡ before ++ after)
     × IsSplit (before ++ b ∷ after) (before ++ after) b.name children
 
 -- So a link that ends under the blossom ends under one of its children.

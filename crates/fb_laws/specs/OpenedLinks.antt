@@ -14,7 +14,7 @@ use Rattle.fb_graph.specs.declared.parts.Cut.{Cut}
 use Rattle.fb_graph.specs.Ends.{ends_in}
 use Rattle.fb_laws.specs.Works.{AreMatchedLinks, positive_cuts}
 use Rattle.fb_graph.specs.Nests.{child_sets}
-use Rattle.fb_laws.specs.NestSolutions.{lone_sets}
+use Rattle.fb_laws.specs.NestSolutions.{leaf_sets}
 use Rattle.fb_laws.specs.Opening.{IsLevel}
 use Rattle.fb_laws.specs.PartStates.{PartState, IsPartState}
 
@@ -59,7 +59,7 @@ opened_links s = opened_over s.nodes s.cycles s.nodes s.matches
 -- They match the defects, each once, and cross no cut of positive value twice; all of them are tight.
 abbrev pub OpenedLevel : Type 0
 OpenedLevel = (p : Problem) (s : PartState) → IsPartState p s → s.unmatched ≡ []
-    → IsLevel (positive_cuts s.nodes) (lone_sets s.nodes) (opened_links s) × AreMatchedLinks p s.nodes (opened_links s)
+    → IsLevel (positive_cuts s.nodes) (leaf_sets s.nodes) (opened_links s) × AreMatchedLinks p s.nodes (opened_links s)
 
 -- So they are a perfect matching of the part's defects with one another and with the boundary,
 abbrev pub OpenedPerfect : Type 0

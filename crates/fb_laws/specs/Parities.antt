@@ -8,8 +8,8 @@ use Rattle.fb_graph.specs.Components.{Leads}
 use Rattle.fb_graph.specs.Laws.{Link}
 use Rattle.fb_graph.specs.Dual.{Node, IsDual, all_cuts, leaves, cover_of, height_of, AreUnderOne, AreOuterApart}
 use Rattle.fb_graph.specs.declared.parts.Edge.{Edge}
-use Rattle.fb_graph.specs.Steps.{Roles, AllowShrinking, stepped}
-use Rattle.fb_graph.specs.Covers.{AreRoles, HaveParity, is_over}
+use Rattle.fb_graph.specs.Steps.{Roles, AllowShrinking, stepped_nodes}
+use Rattle.fb_graph.specs.Covers.{AreRoles, HaveParity, is_covered_by}
 use Rattle.fb_graph.specs.Links.{IsTightLink, AreEven}
 
 -- any two defects under one outer node have potentials of one parity
@@ -21,20 +21,20 @@ HaveOneParity nodes = (d e name : ℕ) → is_in (leaves nodes) d ≡ true → i
 -- So has every vertex under such a node.
 abbrev pub CoveredParity : Type 0
 CoveredParity = (p : Problem) (test : ℕ → Bool) (nodes : List Node) (r v : ℕ) → IsDual p nodes → HaveParity test nodes r
-    → is_over test nodes v ≡ true → height_of (all_cuts nodes) v % 2 ≡ r
+    → is_covered_by test nodes v ≡ true → height_of (all_cuts nodes) v % 2 ≡ r
 
 -- A node that a tree's node meets over an edge without residue has the tree's parity.
 abbrev pub MetParity : Type 0
 MetParity = (p : Problem) (test : ℕ → Bool) (nodes : List Node) (r : ℕ) (e : Edge) (u v name : ℕ) → IsDual p nodes
     → HaveOneParity nodes → HaveParity test nodes r → Leads e u v → e.weight % 2 ≡ 0
-    → load_of (all_cuts nodes) e ≡ e.weight → ¬ AreUnderOne nodes e.first e.second → is_over test nodes u ≡ true
+    → load_of (all_cuts nodes) e ≡ e.weight → ¬ AreUnderOne nodes e.first e.second → is_covered_by test nodes u ≡ true
     → cover_of nodes v ≡ Some name → HaveParity (λ n. n == name) nodes r
 
 -- And so has the node that a tight link leads to.
 abbrev pub LinkedParity : Type 0
 LinkedParity = (p : Problem) (test : ℕ → Bool) (nodes : List Node) (r : ℕ) (l : Link) (name : ℕ) → IsDual p nodes
     → HaveOneParity nodes → HaveParity test nodes r → AreEven p → IsTightLink p (all_cuts nodes) l
-    → ¬ AreUnderOne nodes l.from l.to → is_over test nodes l.from ≡ true → cover_of nodes l.to ≡ Some name
+    → ¬ AreUnderOne nodes l.from l.to → is_covered_by test nodes l.from ≡ true → cover_of nodes l.to ≡ Some name
     → HaveParity (λ n. n == name) nodes r
 
 -- Nodes of one parity together.
@@ -48,15 +48,15 @@ abbrev pub TreeParityStepped : Type 0
 TreeParityStepped = (roles : Roles) (test : ℕ → Bool) (nodes : List Node) (k r : ℕ) → AreOuterApart nodes
     → AreRoles roles nodes → AllowShrinking roles nodes k
     → ((n : ℕ) → test n ≡ true → (roles.is_plus n ≡ true) ⊎ (roles.is_minus n ≡ true)) → HaveParity test nodes r
-    → HaveParity test (stepped roles k nodes) ((r + k) % 2)
+    → HaveParity test (stepped_nodes roles k nodes) ((r + k) % 2)
 
 -- It leaves those outside.
 abbrev pub OtherParityStepped : Type 0
 OtherParityStepped = (roles : Roles) (test : ℕ → Bool) (nodes : List Node) (k r : ℕ) → AreOuterApart nodes
     → AreRoles roles nodes → AllowShrinking roles nodes k
     → ((n : ℕ) → test n ≡ true → (roles.is_plus n ≡ false) × (roles.is_minus n ≡ false)) → HaveParity test nodes r
-    → HaveParity test (stepped roles k nodes) r
+    → HaveParity test (stepped_nodes roles k nodes) r
 
 abbrev pub OneParityStepped : Type 0
 OneParityStepped = (roles : Roles) (nodes : List Node) (k : ℕ) → AreOuterApart nodes → AreRoles roles nodes
-    → AllowShrinking roles nodes k → HaveOneParity nodes → HaveOneParity (stepped roles k nodes)
+    → AllowShrinking roles nodes k → HaveOneParity nodes → HaveOneParity (stepped_nodes roles k nodes)

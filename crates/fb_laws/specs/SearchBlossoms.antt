@@ -13,16 +13,16 @@ use Rattle.fb_laws.specs.Searches.{IsSearch}
 use Rattle.fb_laws.specs.SearchLayers.{left_to_do}
 
 -- the blossom's name in the place of those that it joins
-abbrev pub renamed : (ℕ → Bool) → ℕ → ℕ → ℕ
-renamed joined name n = if joined n then name else n
+abbrev pub renamed_name : (ℕ → Bool) → ℕ → ℕ → ℕ
+renamed_name joined name n = if joined n then name else n
 
 abbrev pub renamed_entry : {L : Type 0} → (ℕ → Bool) → ℕ → EntryOf L → EntryOf L
 renamed_entry joined name e = record {
-  parent = renamed joined name e.parent;
+  parent = renamed_name joined name e.parent;
   tree = e.tree;
   minus = e.minus;
   matched = e.matched;
-  plus = renamed joined name e.plus;
+  plus = renamed_name joined name e.plus;
 }
 
 -- the branches that it takes in
@@ -78,7 +78,7 @@ SearchJoined = (p : Problem) (nodes : List Node) (tree : List Entry) (rest : Lis
     → IsSearch p nodes tree rest unmatched root r
     → IsSearch p (nodes ++ blossom_of name (base ∷ others) ∷ [])
     (joined_tree (is_in (names_of (base ∷ others))) name tree) rest remaining
-    (renamed (is_in (names_of (base ∷ others))) name root) r
+    (renamed_name (is_in (names_of (base ∷ others))) name root) r
 
 -- A minus node among the children makes fewer defects that aren't plus.
 abbrev pub JoinedLowers : Type 0
@@ -89,6 +89,6 @@ JoinedLowers = (p : Problem) (nodes : List Node) (tree : List Entry) (rest : Lis
     → is_in (minus_names tree) minus ≡ true → is_in (names_of (base ∷ others)) minus ≡ true
     → IsLower
     (left_to_do p (nodes ++ blossom_of name (base ∷ others) ∷ [])
-    (roles_of (renamed (is_in (names_of (base ∷ others))) name root)
+    (roles_of (renamed_name (is_in (names_of (base ∷ others))) name root)
     (joined_tree (is_in (names_of (base ∷ others))) name tree)) freed)
     (left_to_do p nodes (roles_of root tree) free)

@@ -7,12 +7,12 @@ use Rattle.fb_graph.specs.Problem.{Problem}
 use Rattle.fb_graph.specs.Certificate.{AreDistinct}
 use Rattle.fb_graph.specs.Laws.{Link}
 use Rattle.fb_graph.specs.Dual.{Node, IsDual, leaves, cover_of, top_at}
-use Rattle.fb_graph.specs.Steps.{AllowShrinking, gains, losses, stepped}
+use Rattle.fb_graph.specs.Steps.{AllowShrinking, gains, losses, stepped_nodes}
 use Rattle.fb_graph.specs.Covers.{AreRoles, HaveParity}
 use Rattle.fb_laws.specs.Paths.{IsPath, tip_of}
 use Rattle.fb_graph.specs.Links.{pair, AreEven}
-use Rattle.fb_laws.specs.Works.{AreMatchedLinks, IsMatching, IsWork, IsBranchOf, without}
-use Rattle.fb_laws.specs.Trees.{Entry, Connects, IsTree, grown_links, paired_links, plus_names, tree_names, roles_of, path_to, beside, branches_of}
+use Rattle.fb_laws.specs.Works.{AreMatchedLinks, IsMatching, IsWork, IsBranchOf, names_without}
+use Rattle.fb_laws.specs.Trees.{Entry, Connects, IsTree, grown_links, paired_links, plus_names, tree_names, roles_of, path_to, branches_beside, branches_of}
 
 -- the named node is outer: it is over some defect, as each outer node is
 abbrev pub IsOuterNode : List Node → ℕ → Type 0
@@ -28,7 +28,7 @@ pub record IsSearch (p : Problem) (nodes : List Node) (tree : List Entry) (rest 
   pub joined : IsTree nodes root tree
   pub grown : AreMatchedLinks p nodes (grown_links tree)
   pub parity : HaveParity (is_in (tree_names root tree)) nodes r
-  pub even : HaveParity (is_in (without root unmatched)) nodes 0
+  pub even : HaveParity (is_in (names_without root unmatched)) nodes 0
 
 -- A search begins with an unmatched node as the whole tree.
 abbrev pub SearchBegins : Type 0
@@ -71,14 +71,14 @@ SearchPath = (p : Problem) (nodes : List Node) (tree : List Entry) (rest : List 
     → IsPath (top_at nodes root) (branches_of nodes (path_to tree name))
     × (tip_of (top_at nodes root) (branches_of nodes (path_to tree name)) ≡ top_at nodes name)
     × All (IsBranchOf nodes) (branches_of nodes (path_to tree name))
-    × IsPermutation (path_to tree name ++ beside tree name) tree
+    × IsPermutation (path_to tree name ++ branches_beside tree name) tree
 
 -- A step of the tree keeps the search.
 abbrev pub SearchStepped : Type 0
 SearchStepped = (p : Problem) (nodes : List Node) (tree : List Entry) (rest : List Link) (unmatched : List ℕ)
-    (root r k : ℕ) → AllowShrinking (roles_of root tree) nodes k → IsDual p (stepped (roles_of root tree) k nodes)
+    (root r k : ℕ) → AllowShrinking (roles_of root tree) nodes k → IsDual p (stepped_nodes (roles_of root tree) k nodes)
     → IsSearch p nodes tree rest unmatched root r
-    → IsSearch p (stepped (roles_of root tree) k nodes) tree rest unmatched root ((r + k) % 2)
+    → IsSearch p (stepped_nodes (roles_of root tree) k nodes) tree rest unmatched root ((r + k) % 2)
 
 -- A plus node that meets a node matched to another takes up both, the one as minus and the other as plus.
 abbrev pub SearchAttached : Type 0
@@ -100,8 +100,8 @@ SearchEnded = (p : Problem) (nodes : List Node) (tree : List Entry) (rest : List
     (root r name : ℕ) (out : Link) (v : ℕ) → IsSearch p nodes tree rest unmatched root r
     → is_in (plus_names root tree) name ≡ true → AreMatchedLinks p nodes (out ∷ []) → LeavesNode nodes out name v
     → p.is_real v ≡ false
-    → IsWork p nodes (grown_links (path_to tree name) ++ out ∷ (paired_links (beside tree name) ++ rest))
-    (without root unmatched)
+    → IsWork p nodes (grown_links (path_to tree name) ++ out ∷ (paired_links (branches_beside tree name) ++ rest))
+    (names_without root unmatched)
 
 -- So does one that meets another unmatched node: both are matched.
 abbrev pub SearchMet : Type 0
@@ -109,8 +109,8 @@ SearchMet = (p : Problem) (nodes : List Node) (tree : List Entry) (rest : List L
     (root r name other : ℕ) (out : Link) → IsSearch p nodes tree rest unmatched root r
     → is_in (plus_names root tree) name ≡ true → is_in unmatched other ≡ true → (root ≡ other → ⊥)
     → AreMatchedLinks p nodes (out ∷ []) → Connects nodes out name other
-    → IsWork p nodes (grown_links (path_to tree name) ++ out ∷ (paired_links (beside tree name) ++ rest))
-    (without root (without other unmatched))
+    → IsWork p nodes (grown_links (path_to tree name) ++ out ∷ (paired_links (branches_beside tree name) ++ rest))
+    (names_without root (names_without other unmatched))
 
 -- And one that meets a node matched to the boundary, whose link there is taken away.
 abbrev pub SearchReleased : Type 0
@@ -119,5 +119,5 @@ SearchReleased = (p : Problem) (nodes : List Node) (tree : List Entry) (old : Li
     → IsSearch p nodes tree (old ∷ rest) unmatched root r → is_in (plus_names root tree) name ≡ true
     → AreMatchedLinks p nodes (out ∷ []) → Connects nodes out name other → LeavesNode nodes old other b
     → p.is_real b ≡ false
-    → IsWork p nodes (grown_links (path_to tree name) ++ out ∷ (paired_links (beside tree name) ++ rest))
-    (without root unmatched)
+    → IsWork p nodes (grown_links (path_to tree name) ++ out ∷ (paired_links (branches_beside tree name) ++ rest))
+    (names_without root unmatched)

@@ -14,8 +14,8 @@ abbrev pub negatives : Problem → (ℕ → Bool) → List ℕ
 negatives p is_negative = filter is_negative (range_with_len 0 (length p.edges))
 
 -- the problem whose defects are shifted: a vertex changes where an odd number of edges of negative weight end
-abbrev pub shifted : Problem → (ℕ → Bool) → Problem
-shifted p is_negative =
+abbrev pub shifted_problem : Problem → (ℕ → Bool) → Problem
+shifted_problem p is_negative =
     record p {
       is_defect = λ v.
           differ (p.is_defect v) (is_odd_count (λ k. touches v (edge_at p.edges k)) (negatives p is_negative));
@@ -33,15 +33,15 @@ abbrev pub base_of : Problem → (ℕ → Bool) → ℕ
 base_of p is_negative = weight_of p (negatives p is_negative)
 
 -- the edges that are either chosen or negative, but not both
-abbrev pub unshifted : Problem → (ℕ → Bool) → List ℕ → List ℕ
-unshifted p is_negative chosen = filter (λ k. differ (is_in chosen k) (is_negative k))
+abbrev pub unshifted_edges : Problem → (ℕ → Bool) → List ℕ → List ℕ
+unshifted_edges p is_negative chosen = filter (λ k. differ (is_in chosen k) (is_negative k))
     (range_with_len 0 (length p.edges))
 
 -- Signed weak duality: total - base ≤ added - taken, each term on the side where it has no sign. Other than weak
 -- duality it needs a choice without repetition, since a negative edge chosen twice would be taken off twice.
 abbrev pub SignedDuality : Type 0
 SignedDuality = (p : Problem) (is_negative : ℕ → Bool) (cuts : List Cut) (chosen : List ℕ)
-    → IsPacking (shifted p is_negative) cuts → AreDistinct chosen → All (λ k. k < length p.edges) chosen
+    → IsPacking (shifted_problem p is_negative) cuts → AreDistinct chosen → All (λ k. k < length p.edges) chosen
     → Flips p chosen
     → total_value cuts + taken_weight p is_negative chosen ≤ added_weight p is_negative chosen + base_of p is_negative
 
@@ -55,12 +55,12 @@ pub record IsSignedSolved (p : Problem) (is_negative : ℕ → Bool) (cuts : Lis
 -- What solves the shifted problem, unshifted, solves the signed one.
 abbrev pub SignedSolved : Type 0
 SignedSolved = (p : Problem) (is_negative : ℕ → Bool) (cuts : List Cut) (chosen : List ℕ)
-    → IsSolved (shifted p is_negative) cuts chosen → IsSignedSolved p is_negative cuts (unshifted p is_negative chosen)
+    → IsSolved (shifted_problem p is_negative) cuts chosen → IsSignedSolved p is_negative cuts (unshifted_edges p is_negative chosen)
 
 -- No correction weighs less than it.
 abbrev pub SignedLeast : Type 0
 SignedLeast = (p : Problem) (is_negative : ℕ → Bool) (cuts : List Cut) (chosen other : List ℕ)
-    → IsPacking (shifted p is_negative) cuts → IsSignedSolved p is_negative cuts chosen → IsEdgeSet p other
+    → IsPacking (shifted_problem p is_negative) cuts → IsSignedSolved p is_negative cuts chosen → IsEdgeSet p other
     → Flips p other
     → added_weight p is_negative chosen + taken_weight p is_negative other
     ≤ added_weight p is_negative other + taken_weight p is_negative chosen
@@ -69,10 +69,10 @@ SignedLeast = (p : Problem) (is_negative : ℕ → Bool) (cuts : List Cut) (chos
 -- none.
 abbrev pub SameFirstOdd : Type 0
 SameFirstOdd = (p : Problem) (is_negative : ℕ → Bool) (r : Option ℕ)
-    → (IsFirstOdd p r → IsFirstOdd (shifted p is_negative) r) × (IsFirstOdd (shifted p is_negative) r → IsFirstOdd p r)
+    → (IsFirstOdd p r → IsFirstOdd (shifted_problem p is_negative) r) × (IsFirstOdd (shifted_problem p is_negative) r → IsFirstOdd p r)
 
 -- So is a closed set.
 abbrev pub SameNoOddClosed : Type 0
 SameNoOddClosed = (p : Problem) (is_negative : ℕ → Bool)
-    → (HasNoOddClosed p → HasNoOddClosed (shifted p is_negative))
-    × (HasNoOddClosed (shifted p is_negative) → HasNoOddClosed p)
+    → (HasNoOddClosed p → HasNoOddClosed (shifted_problem p is_negative))
+    × (HasNoOddClosed (shifted_problem p is_negative) → HasNoOddClosed p)

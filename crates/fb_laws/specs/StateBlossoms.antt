@@ -4,10 +4,10 @@ use Rattle.fb_graph.specs.Parity.{is_in}
 use Rattle.fb_graph.specs.Problem.{Problem}
 use Rattle.fb_graph.specs.Laws.{Link}
 use Rattle.fb_graph.specs.Dual.{is_live}
-use Rattle.fb_graph.specs.Moves.{joined}
+use Rattle.fb_graph.specs.Moves.{joined_nodes}
 use Rattle.fb_laws.specs.Forming.{Child, names_of}
 use Rattle.fb_laws.specs.PartStates.{SearchState, IsSearchState}
-use Rattle.fb_laws.specs.SearchBlossoms.{IsJoining, joined_tree, renamed}
+use Rattle.fb_laws.specs.SearchBlossoms.{IsJoining, joined_tree, renamed_name}
 use Rattle.fb_laws.specs.TreeCycles.{AreLinked, ArePaths, cycle_links, cycle_nodes, last_plus}
 use Rattle.fb_laws.specs.Trees.{Entry, Connects, plus_names}
 use Rattle.fb_laws.specs.Works.{AreMatchedLinks}
@@ -19,12 +19,12 @@ with_cycle name links cycles n = if n == name then links else cycles n
 -- these nodes of the tree as one blossom, which takes the place of each of them
 abbrev pub joined_state : ℕ → List ℕ → List Link → SearchState → SearchState
 joined_state name children links s = record {
-  nodes = joined name children s.nodes;
+  nodes = joined_nodes name children s.nodes;
   cycles = with_cycle name links s.cycles;
   tree = joined_tree (is_in children) name s.tree;
   rest = s.rest;
-  unmatched = map (renamed (is_in children) name) s.unmatched;
-  root = renamed (is_in children) name s.root;
+  unmatched = map (renamed_name (is_in children) name) s.unmatched;
+  root = renamed_name (is_in children) name s.root;
   parity = s.parity;
 }
 

@@ -7,7 +7,7 @@ use Rattle.fb_graph.specs.Laws.{Link}
 use Rattle.fb_graph.specs.Links.{AreEven}
 use Rattle.fb_graph.specs.Dual.{is_live}
 use Rattle.fb_graph.specs.NestUnions.{AreParts, HaveOwnNames}
-use Rattle.fb_graph.specs.Sprouts.{Sprout, nodes_of}
+use Rattle.fb_graph.specs.Singles.{Single, nodes_of}
 use Rattle.fb_laws.specs.FusedStates.{AreFurther, without_seam}
 use Rattle.fb_laws.specs.Merging.{Freed, IsSeam, freed_links, freed_names}
 use Rattle.fb_laws.specs.PartStates.{PartState, IsPartState}
@@ -32,26 +32,26 @@ StateMerged = (left right whole : Problem) (s t : PartState) → IsWithinLimits 
     → HaveOwnNames s.nodes t.nodes → IsPartState left s → IsPartState right t → IsPartState whole (merged_state s t)
 
 -- the part after its seam has become real: the links to the seam are forgotten, and its defects are further nodes
-abbrev pub seamed_state : List Link → List Freed → List Sprout → PartState → PartState
-seamed_state rest freed sprouts s = record {
-  nodes = s.nodes ++ nodes_of sprouts;
+abbrev pub seamed_state : List Link → List Freed → List Single → PartState → PartState
+seamed_state rest freed singles s = record {
+  nodes = s.nodes ++ nodes_of singles;
   cycles = s.cycles;
   matches = rest;
-  unmatched = s.unmatched ++ (freed_names freed ++ map (λ d. d.name) sprouts);
+  unmatched = s.unmatched ++ (freed_names freed ++ map (λ d. d.name) singles);
 }
 
 abbrev pub StateSeamed : Type 0
-StateSeamed = (p whole : Problem) (s : PartState) (rest : List Link) (freed : List Freed) (sprouts : List Sprout)
-    (seam : ℕ → Bool) → AreEven p → IsWithinLimits whole → IsSeam p whole s.nodes freed rest sprouts seam
-    → AreFurther whole s.nodes sprouts → IsPermutation s.matches (freed_links freed ++ rest) → IsPartState p s
-    → IsPartState whole (seamed_state rest freed sprouts s)
+StateSeamed = (p whole : Problem) (s : PartState) (rest : List Link) (freed : List Freed) (singles : List Single)
+    (seam : ℕ → Bool) → AreEven p → IsWithinLimits whole → IsSeam p whole s.nodes freed rest singles seam
+    → AreFurther whole s.nodes singles → IsPermutation s.matches (freed_links freed ++ rest) → IsPartState p s
+    → IsPartState whole (seamed_state rest freed singles s)
 
 -- So two parts are fused: both beside one another, and then the seam between them made real.
 abbrev pub StateFused : Type 0
 StateFused = (left right whole : Problem) (s t : PartState) (rest : List Link) (freed : List Freed)
-    (sprouts : List Sprout) (seam : ℕ → Bool) → IsWithinLimits whole → AreParts left right whole
+    (singles : List Single) (seam : ℕ → Bool) → IsWithinLimits whole → AreParts left right whole
     → HaveOwnNames s.nodes t.nodes
-    → IsSeam (without_seam left right whole) whole (s.nodes ++ t.nodes) freed rest sprouts seam
-    → AreFurther whole (s.nodes ++ t.nodes) sprouts
+    → IsSeam (without_seam left right whole) whole (s.nodes ++ t.nodes) freed rest singles seam
+    → AreFurther whole (s.nodes ++ t.nodes) singles
     → IsPermutation (s.matches ++ t.matches) (freed_links freed ++ rest)
-    → IsPartState left s → IsPartState right t → IsPartState whole (seamed_state rest freed sprouts (merged_state s t))
+    → IsPartState left s → IsPartState right t → IsPartState whole (seamed_state rest freed singles (merged_state s t))

@@ -6,13 +6,13 @@ use Rattle.fb_graph.specs.Limits.{IsWithinLimits}
 use Rattle.fb_graph.specs.Laws.{Link}
 use Rattle.fb_graph.specs.Dual.{is_live}
 use Rattle.fb_graph.specs.Links.{AreEven}
-use Rattle.fb_graph.specs.Moves.{MaySplit, MayTakeUp, MayUncover, split, taken_up, uncovered}
+use Rattle.fb_graph.specs.Moves.{MaySplit, MayAbsorb, MayUncover, split_nodes, absorbed_nodes, uncovered_nodes}
 use Rattle.fb_laws.specs.Measures.{IsLower}
 use Rattle.fb_laws.specs.OpenedCycles.{Couple, IsOpenedCycle, Pass}
 use Rattle.fb_laws.specs.PartStates.{SearchState, IsSearchState}
 use Rattle.fb_laws.specs.SearchLayers.{left_to_do}
 use Rattle.fb_laws.specs.StateBlossoms.{MayClose, joined_state}
-use Rattle.fb_laws.specs.StateMoves.{MayAttach, attached, relayered, state_roles, stepped_state}
+use Rattle.fb_laws.specs.StateMoves.{MayAttach, attached_state, relayered_state, state_roles, stepped_state}
 use Rattle.fb_laws.specs.StateOpenings.{opened_state}
 use Rattle.fb_laws.specs.TreeCycles.{ArePaths, cycle_links, cycle_nodes, last_plus}
 use Rattle.fb_laws.specs.Trees.{Entry, Connects, minus_names, plus_names}
@@ -27,23 +27,23 @@ abbrev pub SteppedLess : Type 0
 SteppedLess = (p : Problem) (s : SearchState) (k : ℕ)
     → IsLower (still_to_do p (stepped_state k s) false) (still_to_do p s true)
 
--- A vertex taken up by a plus node.
-abbrev pub TakenUpLess : Type 0
-TakenUpLess = (p : Problem) (s : SearchState) (name k u v : ℕ) (free freed : Bool) → IsWithinLimits p
-    → MayTakeUp p s.nodes name k u v → is_in (plus_names s.root s.tree) name ≡ true → IsSearchState p s
-    → IsLower (still_to_do p (relayered (taken_up name v s.nodes) s) freed) (still_to_do p s free)
+-- A vertex absorbed by a plus node.
+abbrev pub AbsorbedLess : Type 0
+AbsorbedLess = (p : Problem) (s : SearchState) (name k u v : ℕ) (free freed : Bool) → IsWithinLimits p
+    → MayAbsorb p s.nodes name k u v → is_in (plus_names s.root s.tree) name ≡ true → IsSearchState p s
+    → IsLower (still_to_do p (relayered_state (absorbed_nodes name v s.nodes) s) freed) (still_to_do p s free)
 
 -- An empty layer of a minus node taken off.
 abbrev pub UncoveredLess : Type 0
 UncoveredLess = (p : Problem) (s : SearchState) (name : ℕ) (free freed : Bool) → MayUncover s.nodes name
     → is_in (minus_names s.tree) name ≡ true → IsSearchState p s
-    → IsLower (still_to_do p (relayered (uncovered name s.nodes) s) freed) (still_to_do p s free)
+    → IsLower (still_to_do p (relayered_state (uncovered_nodes name s.nodes) s) freed) (still_to_do p s free)
 
 -- A branch attached.
 abbrev pub AttachedLess : Type 0
 AttachedLess = (p : Problem) (s : SearchState) (e : Entry) (rest : List Link) (free freed : Bool) → AreEven p
     → MayAttach p s e rest → IsSearchState p s
-    → IsLower (still_to_do p (attached e rest s) freed) (still_to_do p s free)
+    → IsLower (still_to_do p (attached_state e rest s) freed) (still_to_do p s free)
 
 -- A cycle joined.
 abbrev pub ClosedLess : Type 0
@@ -68,5 +68,5 @@ RoundedLess = (p : Problem) (s : SearchState) (name : ℕ) (newer older : List E
 abbrev pub OpenedLess : Type 0
 OpenedLess = (p : Problem) (s : SearchState) (newer older : List Entry) (e : Entry) (from : ℕ) (way : List Pass)
     (couples : List Couple) (free freed : Bool) → s.tree ≡ newer ++ e ∷ older → MaySplit s.nodes e.minus
-    → IsOpenedCycle p s.nodes (split e.minus s.nodes) e from way couples s.unmatched → IsSearchState p s
+    → IsOpenedCycle p s.nodes (split_nodes e.minus s.nodes) e from way couples s.unmatched → IsSearchState p s
     → IsLower (still_to_do p (opened_state newer older e from way couples s) freed) (still_to_do p s free)

@@ -3,7 +3,7 @@ use Rattle.std.specs.Prelude.{ℕ, ◌≡◌, List, [], ◌∷◌, ◌++◌, All
 use Rattle.fb_graph.specs.Problem.{Problem}
 use Rattle.fb_graph.specs.Laws.{Link}
 use Rattle.fb_graph.specs.Dual.{Node}
-use Rattle.fb_graph.specs.Moves.{MaySplit, split}
+use Rattle.fb_graph.specs.Moves.{MaySplit, split_nodes}
 use Rattle.fb_graph.specs.Nests.{IsNest}
 use Rattle.fb_laws.specs.OpenedCycles.{Couple, IsOpenedCycle, Pass, matched_beside, opened_tree}
 use Rattle.fb_laws.specs.PartStates.{SearchState, AreCycles, IsSearchState}
@@ -18,7 +18,7 @@ AreLinkedRound nodes (first ∷ names) links = AreLinked nodes first (names ++ f
 
 -- the links lead round the node's children once it is split
 pub record IsFreed (p : Problem) (nodes : List Node) (children : List ℕ) (name : ℕ) (links : List Link) : Type 0 where
-  pub linked : AreLinkedRound (split name nodes) children links
+  pub linked : AreLinkedRound (split_nodes name nodes) children links
   pub tight : AreMatchedLinks p nodes links
 
 -- Where a blossom is split its children are outer again, and the links of its cycle lead from each to the next.
@@ -29,7 +29,7 @@ CycleFreed = (p : Problem) (nodes : List Node) (cycles : ℕ → List Link) (nam
 -- the tree with the branches along the way in the place of the blossom's branch e, and the couples beside it matched
 abbrev pub opened_state : List Entry → List Entry → Entry → ℕ → List Pass → List Couple → SearchState → SearchState
 opened_state newer older e from way couples s = record s {
-  nodes = split e.minus s.nodes;
+  nodes = split_nodes e.minus s.nodes;
   tree = opened_tree newer e older from way;
   rest = matched_beside couples ++ s.rest;
 }
@@ -39,7 +39,7 @@ opened_state newer older e from way couples s = record s {
 abbrev pub StateOpened : Type 0
 StateOpened = (p : Problem) (s : SearchState) (newer older : List Entry) (e : Entry) (from : ℕ) (way : List Pass)
     (couples : List Couple) → s.tree ≡ newer ++ e ∷ older → MaySplit s.nodes e.minus
-    → IsOpenedCycle p s.nodes (split e.minus s.nodes) e from way couples s.unmatched → IsSearchState p s
+    → IsOpenedCycle p s.nodes (split_nodes e.minus s.nodes) e from way couples s.unmatched → IsSearchState p s
     → IsSearchState p (opened_state newer older e from way couples s)
 
 -- There always is such a way.
@@ -47,4 +47,4 @@ abbrev pub StateOpens : Type 0
 StateOpens = (p : Problem) (s : SearchState) (newer older : List Entry) (e : Entry) → s.tree ≡ newer ++ e ∷ older
     → MaySplit s.nodes e.minus → IsSearchState p s
     → (from : ℕ) × (way : List Pass) × (couples : List Couple)
-    × IsOpenedCycle p s.nodes (split e.minus s.nodes) e from way couples s.unmatched
+    × IsOpenedCycle p s.nodes (split_nodes e.minus s.nodes) e from way couples s.unmatched

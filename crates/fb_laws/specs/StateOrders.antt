@@ -9,7 +9,7 @@ use Rattle.fb_laws.specs.Forming.{Child, names_of}
 use Rattle.fb_laws.specs.PartStates.{PartState, SearchState, IsPartState, IsSearchState}
 use Rattle.fb_laws.specs.SearchBlossoms.{IsJoining}
 use Rattle.fb_laws.specs.StateBlossoms.{joined_state}
-use Rattle.fb_laws.specs.Works.{without}
+use Rattle.fb_laws.specs.Works.{names_without}
 
 -- both tables give the same links to each node
 abbrev pub AgreeAt : List Node → (ℕ → List Link) → (ℕ → List Link) → Type 0
@@ -32,6 +32,6 @@ SearchReordered = (p : Problem) (s : SearchState) (cycles : ℕ → List Link) (
 abbrev pub OthersStay : Type 0
 OthersStay = (p : Problem) (s : SearchState) (name : ℕ) (base : Child) (others : List Child) (links : List Link)
     → IsJoining s.nodes s.tree s.root name base others → is_live s.nodes name ≡ false → IsSearchState p s
-    → without (joined_state name (names_of (base ∷ others)) links s).root
+    → names_without (joined_state name (names_of (base ∷ others)) links s).root
     (joined_state name (names_of (base ∷ others)) links s).unmatched
-    ≡ without s.root s.unmatched
+    ≡ names_without s.root s.unmatched

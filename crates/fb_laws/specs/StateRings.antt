@@ -5,7 +5,7 @@ use Rattle.fb_graph.specs.Parity.{is_in}
 use Rattle.fb_graph.specs.Problem.{Problem}
 use Rattle.fb_graph.specs.Laws.{Link}
 use Rattle.fb_graph.specs.Dual.{Node, top_at}
-use Rattle.fb_graph.specs.Moves.{MaySplit, split}
+use Rattle.fb_graph.specs.Moves.{MaySplit, split_nodes}
 use Rattle.fb_graph.specs.Nests.{IsNest}
 use Rattle.fb_laws.specs.OpenedCycles.{IsOpenedCycle}
 use Rattle.fb_laws.specs.OpenedLinks.{round_from}
@@ -20,7 +20,7 @@ abbrev pub ChildAtEnd : Type 0
 ChildAtEnd = (p : Problem) (nodes : List Node) (name other child d : ℕ) (l : Link) → IsNest p nodes
     → MaySplit nodes name → AreMatchedLinks p nodes (l ∷ []) → (other ≡ name → ⊥) → Connects nodes l other name
     → All (λ n. n.name ≡ name → is_in n.children child ≡ true) nodes → is_in (top_at nodes child) d ≡ true
-    → (d ≡ l.from) ⊎ (d ≡ l.to) → Connects (split name nodes) l other child
+    → (d ≡ l.from) ⊎ (d ≡ l.to) → Connects (split_nodes name nodes) l other child
 
 -- A minus blossom of the tree with its children. The link of the tree ends at the child at a place, the matched link so
 -- many children on.
@@ -30,8 +30,8 @@ pub record MayOpenAlong (s : SearchState) (newer older : List Entry) (e : Entry)
   pub children_are : All (λ n. n.name ≡ e.minus → n.children ≡ children) s.nodes
   pub place_below : place < length children
   pub steps_below : steps < length children
-  pub above : Connects (split e.minus s.nodes) e.tree e.parent (get_or children place 0)
-  pub below : Connects (split e.minus s.nodes) e.matched (get_or (round_from place children) steps 0) e.plus
+  pub above : Connects (split_nodes e.minus s.nodes) e.tree e.parent (get_or children place 0)
+  pub below : Connects (split_nodes e.minus s.nodes) e.matched (get_or (round_from place children) steps 0) e.plus
 
 -- the blossom's ring from that place on
 abbrev pub round_of : SearchState → Entry → List ℕ → ℕ → Round Link
@@ -47,7 +47,7 @@ state_along s newer older e children place steps =
 abbrev pub CycleAlong : Type 0
 CycleAlong = (p : Problem) (s : SearchState) (newer older : List Entry) (e : Entry) (children : List ℕ)
     (place steps : ℕ) → IsSearchState p s → MayOpenAlong s newer older e children place steps
-    → IsOpenedCycle p s.nodes (split e.minus s.nodes) e (get_or children place 0)
+    → IsOpenedCycle p s.nodes (split_nodes e.minus s.nodes) e (get_or children place 0)
     (way_to steps (round_of s e children place)) (couples_after steps (round_of s e children place)) s.unmatched
 
 abbrev pub StateOpenedAlong : Type 0

@@ -59,9 +59,9 @@ path_to [] name = []
 path_to (e ∷ es) name = if e.plus == name then path_to es e.parent ++ e ∷ [] else path_to es name
 
 -- the other branches
-abbrev pub beside : {L : Type 0} → List (EntryOf L) → ℕ → List (EntryOf L)
-beside [] name = []
-beside (e ∷ es) name = if e.plus == name then beside es e.parent else e ∷ beside es name
+abbrev pub branches_beside : {L : Type 0} → List (EntryOf L) → ℕ → List (EntryOf L)
+branches_beside [] name = []
+branches_beside (e ∷ es) name = if e.plus == name then branches_beside es e.parent else e ∷ branches_beside es name
 
 -- the branch by the sets of its nodes
 abbrev pub branch_of : List Node → Entry → Branch

@@ -10,7 +10,7 @@ use Rattle.fb_graph.specs.Dual.{Node, IsDual, all_cuts, leaves, cover_of, is_out
 use Rattle.fb_graph.specs.declared.parts.Edge.{Edge}
 use Rattle.fb_graph.specs.declared.parts.Cut.{Cut}
 use Rattle.fb_graph.specs.Counts.{as_count}
-use Rattle.fb_graph.specs.Steps.{Roles, AllowShrinking, gains, losses, stepped}
+use Rattle.fb_graph.specs.Steps.{Roles, AllowShrinking, gains, losses, stepped_nodes}
 use Rattle.fb_graph.specs.Covers.{AreRoles, HaveParity}
 use Rattle.fb_graph.specs.Ends.{ends_in}
 use Rattle.fb_laws.specs.Paths.{Branch, IsPath, LeadsOut, tip_of, tree_links, matched_links}
@@ -18,7 +18,7 @@ use Rattle.fb_graph.specs.Links.{IsTightLink}
 use Rattle.fb_laws.specs.Parities.{HaveOneParity}
 use Rattle.fb_laws.specs.Fusion.{IsLinkOf}
 use Rattle.fb_laws.specs.Opening.{IsLevel, EndAtDefects, Opened, IsOpenedTo, single_sets}
-use Rattle.fb_graph.specs.Sprouts.{Sprout, nodes_of, vertices_of}
+use Rattle.fb_graph.specs.Singles.{Single, nodes_of, vertices_of}
 use Rattle.fb_graph.specs.Links.{pair}
 
 -- tight links of the part between its defects, or from a defect to the boundary
@@ -52,18 +52,18 @@ pub record IsWork (p : Problem) (nodes : List Node) (links : List Link) (unmatch
 
 -- A part begins with all its defects unmatched.
 abbrev pub WorkBegins : Type 0
-WorkBegins = (p : Problem) (sprouts : List Sprout) → AreDistinct (map (λ s. s.name) sprouts)
-    → AreDistinct (vertices_of sprouts) → All (λ s. p.is_real s.vertex ≡ true) sprouts → All (λ s. s.value ≡ 0) sprouts
-    → ((v : ℕ) → p.is_real v ≡ true → p.is_defect v ≡ is_in (vertices_of sprouts) v)
-    → IsWork p (nodes_of sprouts) [] (map (λ s. s.name) sprouts)
+WorkBegins = (p : Problem) (singles : List Single) → AreDistinct (map (λ s. s.name) singles)
+    → AreDistinct (vertices_of singles) → All (λ s. p.is_real s.vertex ≡ true) singles → All (λ s. s.value ≡ 0) singles
+    → ((v : ℕ) → p.is_real v ≡ true → p.is_defect v ≡ is_in (vertices_of singles) v)
+    → IsWork p (nodes_of singles) [] (map (λ s. s.name) singles)
 
 -- A step of a tree keeps its matching, as long as every matched link crosses as many plus as minus sets. (What
 -- becomes of parities is said by their own laws.)
 abbrev pub MatchingStepped : Type 0
 MatchingStepped = (p : Problem) (roles : Roles) (nodes : List Node) (links : List Link) (unmatched : List ℕ) (k : ℕ)
-    → AreRoles roles nodes → AllowShrinking roles nodes k → IsDual p (stepped roles k nodes)
+    → AreRoles roles nodes → AllowShrinking roles nodes k → IsDual p (stepped_nodes roles k nodes)
     → All (λ l. gains roles nodes (pair l.from l.to) ≡ losses roles nodes (pair l.from l.to)) links
-    → IsMatching p nodes links unmatched → IsMatching p (stepped roles k nodes) links unmatched
+    → IsMatching p nodes links unmatched → IsMatching p (stepped_nodes roles k nodes) links unmatched
 
 abbrev pub positive_cuts : List Node → List Cut
 positive_cuts nodes = filter is_positive (all_cuts nodes)
@@ -106,8 +106,8 @@ IsSetOf nodes name set =
 abbrev pub IsBranchOf : List Node → Branch → Type 0
 IsBranchOf nodes b = (minus : ℕ) × (plus : ℕ) × IsSetOf nodes minus b.minus × IsSetOf nodes plus b.plus
 
-abbrev pub without : ℕ → List ℕ → List ℕ
-without name names = filter (λ n. not (n == name)) names
+abbrev pub names_without : ℕ → List ℕ → List ℕ
+names_without name names = filter (λ n. not (n == name)) names
 
 -- Augmenting at the boundary matches the root and keeps all else.
 abbrev pub MatchingAugmented : Type 0
@@ -116,7 +116,7 @@ MatchingAugmented = (p : Problem) (nodes : List Node) (name : ℕ) (root : List 
     (rest : List Link) (unmatched : List ℕ) → IsMatching p nodes (matched_links path ++ rest) unmatched
     → IsSetOf nodes name root → is_in unmatched name ≡ true → All (IsBranchOf nodes) path → IsPath root path
     → AreMatchedLinks p nodes (tree_links path ++ out ∷ []) → LeadsOut out (tip_of root path) v → p.is_real v ≡ false
-    → IsMatching p nodes (tree_links path ++ out ∷ rest) (without name unmatched)
+    → IsMatching p nodes (tree_links path ++ out ∷ rest) (names_without name unmatched)
 
 -- Augmenting at another unmatched node matches both.
 abbrev pub MatchingMet : Type 0
@@ -126,7 +126,7 @@ MatchingMet = (p : Problem) (nodes : List Node) (name other : ℕ) (root set : L
     → IsSetOf nodes name root → is_in unmatched name ≡ true → IsSetOf nodes other set → is_in unmatched other ≡ true
     → (name ≡ other → ⊥) → All (IsBranchOf nodes) path → IsPath root path
     → AreMatchedLinks p nodes (tree_links path ++ out ∷ []) → LeadsOut out (tip_of root path) v → is_in set v ≡ true
-    → IsMatching p nodes (tree_links path ++ out ∷ rest) (without name (without other unmatched))
+    → IsMatching p nodes (tree_links path ++ out ∷ rest) (names_without name (names_without other unmatched))
 
 -- Augmenting at a node that is matched to the boundary takes that link away.
 abbrev pub MatchingReleased : Type 0
@@ -136,7 +136,7 @@ MatchingReleased = (p : Problem) (nodes : List Node) (name other : ℕ) (root se
     → IsSetOf nodes name root → is_in unmatched name ≡ true → IsSetOf nodes other set → All (IsBranchOf nodes) path
     → IsPath root path → AreMatchedLinks p nodes (tree_links path ++ out ∷ []) → LeadsOut out (tip_of root path) v
     → is_in set v ≡ true → LeadsOut old set b → p.is_real b ≡ false
-    → IsMatching p nodes (tree_links path ++ out ∷ rest) (without name unmatched)
+    → IsMatching p nodes (tree_links path ++ out ∷ rest) (names_without name unmatched)
 
 -- the order of the links doesn't count
 abbrev pub MatchingPermuted : Type 0

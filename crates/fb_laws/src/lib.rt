@@ -20,7 +20,7 @@ pub mod renaming;
 pub mod resolved;
 pub mod rows;
 pub mod signed;
-pub mod sprouts;
+pub mod singles;
 pub mod state_fusions;
 pub mod state_moves;
 pub mod steps;
@@ -40,7 +40,7 @@ pub use links::{
 };
 pub use merging::{matchings_merged, seam_opened};
 pub use moves::{
-    nest_begins, nest_joined, nest_split, nest_stepped, nest_taken_up, nest_uncovered,
+    nest_begins, nest_joined, nest_split, nest_stepped, nest_absorbed, nest_uncovered,
 };
 pub use nested_fusion::{nested_fused, nests_merged};
 pub use parities::{attached_parity, stepped_parity};
@@ -50,7 +50,7 @@ pub use renaming::{nest_renamed, state_renamed, work_renamed};
 pub use resolved::nest_resolved;
 pub use rows::{odd_ones_only, solved_is_best};
 pub use signed::{shifted_parity, signed_duality, signed_solution};
-pub use sprouts::beginning;
+pub use singles::beginning;
 pub use state_fusions::state_fused;
 pub use state_moves::{state_attached, state_begins, state_ended, state_layers, state_stepped};
 pub use steps::{step_keeps_packing, step_loads, steps_add};

@@ -1,6 +1,6 @@
 //! The moves of a dual state with blossoms, and that they keep it.
 
-ghost use Rattle.fb_graph.specs.Moves.{NestJoined, NestSplit, NestUncovered, NestStepped, NestTakenUp, NestBegins};
+ghost use Rattle.fb_graph.specs.Moves.{NestJoined, NestSplit, NestUncovered, NestStepped, NestAbsorbed, NestBegins};
 
 /// An odd number of outer nodes joined keep the dual state.
 pub fn nest_joined()
@@ -22,9 +22,9 @@ pub fn nest_stepped()
     ensures { NestStepped }
 {}
 
-/// The outer end of an edge without residue taken up by the node at its other end keeps the dual state, where weights are even.
-pub fn nest_taken_up()
-    ensures { NestTakenUp }
+/// The outer end of an edge without residue absorbed by the node at its other end keeps the dual state, where weights are even.
+pub fn nest_absorbed()
+    ensures { NestAbsorbed }
 {}
 
 /// Nodes of one defect each, without values, are such a state.

@@ -1,6 +1,6 @@
 //! Nests of two parts as one nest, and their whole states as one.
 
-ghost use Rattle.fb_graph.specs.NestUnions.{NestsBeside, NestsMerged, NestSprouted, WalksBeside, WalksMerged, WalksSprouted};
+ghost use Rattle.fb_graph.specs.NestUnions.{NestsBeside, NestsMerged, NestSinglesAdded, WalksBeside, WalksMerged, WalksSinglesAdded};
 ghost use Rattle.fb_laws.specs.FusedStates.{NestedFused, UnmatchedCounted};
 ghost use Rattle.fb_laws.specs.NestFusion.{NestedMerged, NestedSeam};
 
@@ -9,10 +9,10 @@ ghost use Rattle.fb_laws.specs.NestFusion.{NestedMerged, NestedSeam};
 pub fn nests_merged()
     ensures beside { NestsBeside }
     ensures merged { NestsMerged }
-    ensures sprouted { NestSprouted }
+    ensures singles_added { NestSinglesAdded }
     ensures walks_beside { WalksBeside }
     ensures walks_merged { WalksMerged }
-    ensures walks_sprouted { WalksSprouted }
+    ensures walks_singles_added { WalksSinglesAdded }
 {}
 
 /// The whole states of two separated parts are one of the whole, and one of it still when the seam is made real: then

@@ -1,6 +1,6 @@
 //! What a nest with nothing unmatched is solved by.
 
-ghost use Rattle.fb_laws.specs.NestSolutions.{NestOpened, DefectsFirst, LoneLevel, NestResolved};
+ghost use Rattle.fb_laws.specs.NestSolutions.{NestOpened, DefectsFirst, LeafLevel, NestResolved};
 
 /// Any blossom of a nest may be opened, whatever its cuts. A node holds defects only where its children do, so that
 /// with all blossoms open the links match the defects; then the cuts of the nest certify the correction that the
@@ -8,6 +8,6 @@ ghost use Rattle.fb_laws.specs.NestSolutions.{NestOpened, DefectsFirst, LoneLeve
 pub fn nest_resolved()
     ensures opened { NestOpened }
     ensures defects { DefectsFirst }
-    ensures level { LoneLevel }
+    ensures level { LeafLevel }
     ensures resolved { NestResolved }
 {}

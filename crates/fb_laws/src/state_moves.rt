@@ -1,6 +1,6 @@
 //! The moves of a half-solved part: each keeps the whole state.
 
-ghost use Rattle.fb_laws.specs.StateMoves.{PartBegins, SearchFrom, StateFree, StateStepped, StateTakenUp, StateUncovered, StateAttached, StateEnded, StateMet, StateReleased};
+ghost use Rattle.fb_laws.specs.StateMoves.{PartBegins, SearchFrom, StateFree, StateStepped, StateAbsorbed, StateUncovered, StateAttached, StateEnded, StateMet, StateReleased};
 
 /// A part begins with its defects, and a search with any unmatched node.
 pub fn state_begins()
@@ -14,9 +14,9 @@ pub fn state_stepped()
     ensures stepped { StateStepped }
 {}
 
-/// A vertex taken up and an empty layer taken off keep the state.
+/// A vertex absorbed and an empty layer taken off keep the state.
 pub fn state_layers()
-    ensures taken_up { StateTakenUp }
+    ensures absorbed { StateAbsorbed }
     ensures uncovered { StateUncovered }
 {}
 

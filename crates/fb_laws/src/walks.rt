@@ -1,6 +1,6 @@
 //! Source walks inside the sets of a dual state.
 
-ghost use Rattle.fb_graph.specs.SourceWalks.{WalksBegin, WalksJoined, WalksSplit, WalksTakenUp, WalksUncovered, WalksStepped, CoveredWalk};
+ghost use Rattle.fb_graph.specs.SourceWalks.{WalksBegin, WalksJoined, WalksSplit, WalksAbsorbed, WalksUncovered, WalksStepped, CoveredWalk};
 
 /// Each layer of each node has a source walk to each of its vertices that doesn't leave it: at the beginning, and
 /// after each move. So a source walk leads to each covered vertex under its own outer node.
@@ -8,7 +8,7 @@ pub fn walks_kept()
     ensures begins { WalksBegin }
     ensures joined { WalksJoined }
     ensures split { WalksSplit }
-    ensures taken_up { WalksTakenUp }
+    ensures absorbed { WalksAbsorbed }
     ensures uncovered { WalksUncovered }
     ensures stepped { WalksStepped }
     ensures covered { CoveredWalk }

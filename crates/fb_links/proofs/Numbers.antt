@@ -7,10 +7,10 @@ use Rattle.std.proofs.lemmas.List.{length-set, length_push, reverse-append, get_
 use Rattle.std.proofs.lemmas.List.Elements.{All-nil, All-cons, All-head, All-tail, All-get_or, All-set, All-push}
 use Rattle.std.proofs.lemmas.List.Sums.{sum_by-set, sum_by_push}
 use Rattle.fb_links.specs.declared.walk.Step.{Step}
-use Rattle.fb_links.specs.Walks.{walk_weight, share_end, joined}
+use Rattle.fb_links.specs.Walks.{walk_weight, share_end, joined_walk}
 use Rattle.fb_links.specs.Table.{IsLink, Adds, Removes, is_live, link_at, walk_at}
 use Rattle.fb_links.specs.Kept.{IsEntry, AreFree, IsKept}
-use Rattle.fb_links.proofs.Joins.{joined_walk}
+use Rattle.fb_links.proofs.Joins.{walk_joined}
 
 -- a number beyond the table has no link
 pub live_below : (links : List (Option (List Step))) (id : ℕ) → is_live links id ≡ true → id < length links
@@ -151,11 +151,11 @@ live_walk links id all live =
 -- the joined walk of two links of the table, from copies of both
 pub joined_link : (links : List (Option (List Step))) (a b : ℕ) (v w made : List Step) → All IsEntry links
     → is_live links a ≡ true → is_live links b ≡ true → share_end (walk_at links a) (walk_at links b) ≡ true
-    → walk_weight (joined (walk_at links a) (walk_at links b)) < 2 ^ 64
-    → v ≡ walk_at links a → w ≡ walk_at links b → made ≡ joined v w → IsLink made
+    → walk_weight (joined_walk (walk_at links a) (walk_at links b)) < 2 ^ 64
+    → v ≡ walk_at links a → w ≡ walk_at links b → made ≡ joined_walk v w → IsLink made
 joined_link links a b v w made all first second share light at_a at_b is =
-    let whole = joined_walk (walk_at links a) (walk_at links b) (live_walk links a all first) (live_walk links b all second) share in
-    subst IsLink (sym (is ∙ (ap (λ x. joined x w) at_a ∙ ap (joined (walk_at links a)) at_b)))
+    let whole = walk_joined (walk_at links a) (walk_at links b) (live_walk links a all first) (live_walk links b all second) share in
+    subst IsLink (sym (is ∙ (ap (λ x. joined_walk x w) at_a ∙ ap (joined_walk (walk_at links a)) at_b)))
     (record { some = whole.some; chained = whole.chained; light = light })
 
 -- a link stays what it is when another one is added

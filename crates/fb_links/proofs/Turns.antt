@@ -3,7 +3,7 @@ use Rattle.std.proofs.Common.{ℕ, ◌+◌, ◌<◌, ◌≡◌, List, [], ◌∷
 use Rattle.std.proofs.lemmas.List.{reverse-append, map-append, length_push}
 use Rattle.std.proofs.lemmas.List.Sums.{sum_by-cons, sum_by-append, sum_by_push}
 use Rattle.fb_links.specs.declared.walk.Step.{Step}
-use Rattle.fb_links.specs.Walks.{walk_weight, start_of, end_from, end_of, Runs, IsChained, turn, turned}
+use Rattle.fb_links.specs.Walks.{walk_weight, start_of, end_from, end_of, Runs, IsChained, turned_step, turned_walk}
 use Rattle.fb_links.specs.Table.{IsLink}
 use Rattle.fb_links.specs.Laws.{IsTurned}
 
@@ -11,23 +11,23 @@ pub Runs-append : (v w : List Step) (from via to : ℕ) → Runs v from via → 
 Runs-append [] w from via to first second = subst (λ x. Runs w x to) (sym first) second
 Runs-append (s ∷ ss) w from via to (begins, rest) second = (begins, Runs-append ss w s.to via to rest second)
 
-pub turned-cons : (s : Step) (ss : List Step) → turned (s ∷ ss) ≡ turned ss ++ turn s ∷ []
-turned-cons s ss = ap (map turn) (reverse-append (s ∷ []) ss) ∙ map-append turn (reverse ss) (s ∷ [])
+pub turned_walk-cons : (s : Step) (ss : List Step) → turned_walk (s ∷ ss) ≡ turned_walk ss ++ turned_step s ∷ []
+turned_walk-cons s ss = ap (map turned_step) (reverse-append (s ∷ []) ss) ∙ map-append turned_step (reverse ss) (s ∷ [])
 
-pub Runs-turned : (w : List Step) (from to : ℕ) → Runs w from to → Runs (turned w) to from
-Runs-turned [] from to walk = sym walk
-Runs-turned (s ∷ ss) from to (begins, rest) =
-    subst (λ l. Runs l to from) (sym (turned-cons s ss))
-    (Runs-append (turned ss) (turn s ∷ []) to s.to from (Runs-turned ss s.to to rest) (refl, begins))
+pub Runs-turned_walk : (w : List Step) (from to : ℕ) → Runs w from to → Runs (turned_walk w) to from
+Runs-turned_walk [] from to walk = sym walk
+Runs-turned_walk (s ∷ ss) from to (begins, rest) =
+    subst (λ l. Runs l to from) (sym (turned_walk-cons s ss))
+    (Runs-append (turned_walk ss) (turned_step s ∷ []) to s.to from (Runs-turned_walk ss s.to to rest) (refl, begins))
 
-pub weight-turned : (w : List Step) → walk_weight (turned w) ≡ walk_weight w
-weight-turned [] = refl
-weight-turned (s ∷ ss) =
-    omega (arith, ap walk_weight (turned-cons s ss), sum_by_push (λ x. x.weight) (turned ss) (turn s), sum_by-cons (λ x. x.weight) s ss, weight-turned ss)
+pub weight-turned_walk : (w : List Step) → walk_weight (turned_walk w) ≡ walk_weight w
+weight-turned_walk [] = refl
+weight-turned_walk (s ∷ ss) =
+    omega (arith, ap walk_weight (turned_walk-cons s ss), sum_by_push (λ x. x.weight) (turned_walk ss) (turned_step s), sum_by-cons (λ x. x.weight) s ss, weight-turned_walk ss)
 
-pub length-turned : (w : List Step) → length (turned w) ≡ length w
-length-turned [] = refl
-length-turned (s ∷ ss) = omega (arith, ap length (turned-cons s ss), length_push (turned ss) (turn s), length-turned ss)
+pub length-turned_walk : (w : List Step) → length (turned_walk w) ≡ length w
+length-turned_walk [] = refl
+length-turned_walk (s ∷ ss) = omega (arith, ap length (turned_walk-cons s ss), length_push (turned_walk ss) (turned_step s), length-turned_walk ss)
 
 pub weight-append : (v w : List Step) → walk_weight (v ++ w) ≡ walk_weight v + walk_weight w
 weight-append v w = sum_by-append (λ s. s.weight) v w
@@ -51,14 +51,14 @@ Runs-chained (s ∷ ss) from to walk = IsChained-from_Runs (s ∷ ss) from to (o
 
 pub turned_link : (w : List Step) → IsLink w → IsTurned w
 turned_link w link =
-    let some : 0 < length (turned w) = omega (arith, length-turned w, link.some) in
-    let back = Runs-turned w (start_of w) (end_of w) link.chained in
-    let ends = Runs-ends (turned w) (end_of w) (start_of w) some back in
+    let some : 0 < length (turned_walk w) = omega (arith, length-turned_walk w, link.some) in
+    let back = Runs-turned_walk w (start_of w) (end_of w) link.chained in
+    let ends = Runs-ends (turned_walk w) (end_of w) (start_of w) some back in
     record {
       link = record {
         some = some;
-        chained = IsChained-from_Runs (turned w) (end_of w) (start_of w) some back;
-        light = omega (arith, weight-turned w, link.light);
+        chained = IsChained-from_Runs (turned_walk w) (end_of w) (start_of w) some back;
+        light = omega (arith, weight-turned_walk w, link.light);
       };
       start = ends.0;
       end = ends.1;

@@ -1,7 +1,7 @@
 -- Laws of the definitions.
 use Rattle.std.specs.Prelude.{ℕ, ◌≡◌, ◌⊎◌, ◌+◌, ◌<◌, true, List, ◌++◌, length, Option, Some, None}
 use Rattle.fb_links.specs.declared.walk.Step.{Step}
-use Rattle.fb_links.specs.Walks.{walk_weight, start_of, end_of, Runs, IsChained, turned, share_end, meeting, other_end, joined}
+use Rattle.fb_links.specs.Walks.{walk_weight, start_of, end_of, Runs, IsChained, turned_walk, share_end, meeting_vertex, other_end, joined_walk}
 use Rattle.fb_links.specs.Table.{IsLink, Adds, is_live, link_at}
 use Rattle.fb_links.specs.Merged.{AreMerged, is_in, new_numbers}
 use Rattle.fb_links.specs.Names.{name_by}
@@ -17,17 +17,17 @@ RunIsChained = (walk : List Step) (from to : ℕ) → Runs walk from to → IsCh
 
 -- A reversed walk leads back.
 abbrev pub TurnedLeadsBack : Type 0
-TurnedLeadsBack = (walk : List Step) (from to : ℕ) → Runs walk from to → Runs (turned walk) to from
+TurnedLeadsBack = (walk : List Step) (from to : ℕ) → Runs walk from to → Runs (turned_walk walk) to from
 
 -- A reversed walk has the same weight.
 abbrev pub TurnedWeighsSame : Type 0
-TurnedWeighsSame = (walk : List Step) → walk_weight (turned walk) ≡ walk_weight walk
+TurnedWeighsSame = (walk : List Step) → walk_weight (turned_walk walk) ≡ walk_weight walk
 
 -- a link's walk reversed: it may be a link's too, and has the ends exchanged
 pub record IsTurned (walk : List Step) : Type 0 where
-  pub link : IsLink (turned walk)
-  pub start : start_of (turned walk) ≡ end_of walk
-  pub end : end_of (turned walk) ≡ start_of walk
+  pub link : IsLink (turned_walk walk)
+  pub start : start_of (turned_walk walk) ≡ end_of walk
+  pub end : end_of (turned_walk walk) ≡ start_of walk
 
 abbrev pub TurnedIsLink : Type 0
 TurnedIsLink = (walk : List Step) → IsLink walk → IsTurned walk
@@ -43,12 +43,12 @@ WalksWeigh = (first second : List Step) → walk_weight (first ++ second) ≡ wa
 
 -- the joined walk of two links leads from the other end of the first to the other end of the second
 pub record IsJoinedWalk (a b : List Step) : Type 0 where
-  pub some : 0 < length (joined a b)
-  pub leads : Runs (joined a b) (other_end (meeting a b) a) (other_end (meeting a b) b)
-  pub chained : IsChained (joined a b)
-  pub start : start_of (joined a b) ≡ other_end (meeting a b) a
-  pub end : end_of (joined a b) ≡ other_end (meeting a b) b
-  pub weighs : walk_weight (joined a b) ≡ walk_weight a + walk_weight b
+  pub some : 0 < length (joined_walk a b)
+  pub leads : Runs (joined_walk a b) (other_end (meeting_vertex a b) a) (other_end (meeting_vertex a b) b)
+  pub chained : IsChained (joined_walk a b)
+  pub start : start_of (joined_walk a b) ≡ other_end (meeting_vertex a b) a
+  pub end : end_of (joined_walk a b) ≡ other_end (meeting_vertex a b) b
+  pub weighs : walk_weight (joined_walk a b) ≡ walk_weight a + walk_weight b
 
 abbrev pub JoinedWalk : Type 0
 JoinedWalk = (a b : List Step) → IsLink a → IsLink b → share_end a b ≡ true → IsJoinedWalk a b

@@ -30,12 +30,12 @@ abbrev pub IsChained : List Step → Type 0
 IsChained walk = Runs walk (start_of walk) (end_of walk)
 
 -- the step in the other direction
-abbrev pub turn : Step → Step
-turn s = record s { from = s.to; to = s.from }
+abbrev pub turned_step : Step → Step
+turned_step s = record s { from = s.to; to = s.from }
 
 -- the walk reversed
-abbrev pub turned : List Step → List Step
-turned walk = map turn (reverse walk)
+abbrev pub turned_walk : List Step → List Step
+turned_walk walk = map turned_step (reverse walk)
 
 -- whether the walk begins or ends at the vertex
 abbrev pub is_end : List Step → ℕ → Bool
@@ -51,16 +51,16 @@ other_end v walk = if v == end_of walk then start_of walk else end_of walk
 
 -- the walk, reversed if it does not end at the vertex
 abbrev pub ending_at : ℕ → List Step → List Step
-ending_at v walk = if v == end_of walk then walk else turned walk
+ending_at v walk = if v == end_of walk then walk else turned_walk walk
 
 -- the walk, reversed if it does not begin at the vertex
 abbrev pub starting_at : ℕ → List Step → List Step
-starting_at v walk = if v == start_of walk then walk else turned walk
+starting_at v walk = if v == start_of walk then walk else turned_walk walk
 
 -- where two walks that share an end meet: at the end of the first one if that is an end of the second
-abbrev pub meeting : List Step → List Step → ℕ
-meeting a b = if is_end b (end_of a) then end_of a else start_of a
+abbrev pub meeting_vertex : List Step → List Step → ℕ
+meeting_vertex a b = if is_end b (end_of a) then end_of a else start_of a
 
 -- the two walks joined where they meet, from the other end of the first to the other end of the second
-abbrev pub joined : List Step → List Step → List Step
-joined a b = ending_at (meeting a b) a ++ starting_at (meeting a b) b
+abbrev pub joined_walk : List Step → List Step → List Step
+joined_walk a b = ending_at (meeting_vertex a b) a ++ starting_at (meeting_vertex a b) b

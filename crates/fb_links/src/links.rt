@@ -1,11 +1,11 @@
 ghost use Rattle.std.specs.Prelude.{◌≡◌, ◌<◌, ◌^◌, ℕ, true, List, [], length, Some, IfOk, OnErr};
 ghost use Rattle.fb_links.specs.declared.walk.Step.{Step};
-ghost use Rattle.fb_links.specs.Walks.{walk_weight, start_of, end_of, share_end, joined};
+ghost use Rattle.fb_links.specs.Walks.{walk_weight, start_of, end_of, share_end, joined_walk};
 ghost use Rattle.fb_links.specs.Table.{IsLink, Adds, Removes, is_live, link_at, walk_at};
 ghost use Rattle.fb_links.specs.Merged.{AreMerged};
 
 use crate::link::{Link, link_of};
-use crate::steps::{copied, joined};
+use crate::steps::{copied, joined_walk};
 use crate::{LinkId, NoMemory, Walk};
 use std::alloc::Global;
 use std::marker::Model;
@@ -80,11 +80,11 @@ impl Links {
         requires first { is_live self.old a ≡ true }
         requires second { is_live self.old b ≡ true }
         requires meet { share_end (walk_at self.old a) (walk_at self.old b) ≡ true }
-        requires light { walk_weight (joined (walk_at self.old a) (walk_at self.old b)) < 2 ^ 64 }
-        ensures ok { IfOk result (λ id. Adds self.old self.new id (joined (walk_at self.old a) (walk_at self.old b))) }
+        requires light { walk_weight (joined_walk (walk_at self.old a) (walk_at self.old b)) < 2 ^ 64 }
+        ensures ok { IfOk result (λ id. Adds self.old self.new id (joined_walk (walk_at self.old a) (walk_at self.old b))) }
         ensures err { OnErr result (self.new ≡ self.old) }
     {
-        let steps = joined(
+        let steps = joined_walk(
             alloc,
             link_of(&self.links, a).steps(),
             link_of(&self.links, b).steps(),

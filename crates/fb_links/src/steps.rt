@@ -1,5 +1,5 @@
 ghost use Rattle.std.specs.Prelude.{◌≡◌, ◌+◌, ◌<◌, ◌^◌, IfOk};
-ghost use Rattle.fb_links.specs.Walks.{walk_weight, start_of, end_of, meeting, ending_at, starting_at, turned, turn, is_end, joined};
+ghost use Rattle.fb_links.specs.Walks.{walk_weight, start_of, end_of, meeting_vertex, ending_at, starting_at, turned_walk, turned_step, is_end, joined_walk};
 
 use crate::{NoMemory, Step};
 use std::alloc::Global;
@@ -37,10 +37,10 @@ pub fn end_of(steps: &[Step]) -> u32
 }
 
 /// The two walks joined at the vertex where they meet.
-pub fn joined(alloc: Global, a: &[Step], b: &[Step]) -> Result<Vec<Step>, NoMemory>
-    ensures { IfOk result (λ v. v.items ≡ joined a.now b.now) }
+pub fn joined_walk(alloc: Global, a: &[Step], b: &[Step]) -> Result<Vec<Step>, NoMemory>
+    ensures { IfOk result (λ v. v.items ≡ joined_walk a.now b.now) }
 {
-    let v = meeting(a, b);
+    let v = meeting_vertex(a, b);
     let mut steps = ending_at(alloc, a, v)?;
     let rest = starting_at(alloc, b, v)?;
     steps.extend_from_slice(&rest)?;
@@ -48,8 +48,8 @@ pub fn joined(alloc: Global, a: &[Step], b: &[Step]) -> Result<Vec<Step>, NoMemo
 }
 
 /// The vertex where the two walks meet, if they share an end.
-fn meeting(a: &[Step], b: &[Step]) -> u32
-    ensures { result ≡ meeting a.now b.now }
+fn meeting_vertex(a: &[Step], b: &[Step]) -> u32
+    ensures { result ≡ meeting_vertex a.now b.now }
 {
     let end = end_of(a);
     if is_end(b, end) { end } else { start_of(a) }
@@ -68,7 +68,7 @@ fn ending_at(alloc: Global, steps: &[Step], v: u32) -> Result<Vec<Step>, NoMemor
     if v == end_of(steps) {
         return copied(alloc, steps);
     }
-    turned(alloc, steps)
+    turned_walk(alloc, steps)
 }
 
 /// A copy of the walk, reversed if it does not begin at the vertex.
@@ -78,7 +78,7 @@ fn starting_at(alloc: Global, steps: &[Step], v: u32) -> Result<Vec<Step>, NoMem
     if v == start_of(steps) {
         return copied(alloc, steps);
     }
-    turned(alloc, steps)
+    turned_walk(alloc, steps)
 }
 
 /// A copy of the walk.
@@ -89,15 +89,15 @@ pub fn copied(alloc: Global, steps: &[Step]) -> Result<Vec<Step>, NoMemory>
 }
 
 /// The walk reversed: from its last vertex back to its first.
-fn turned(alloc: Global, steps: &[Step]) -> Result<Vec<Step>, NoMemory>
-    ensures { IfOk result (λ w. w.items ≡ turned steps.now) }
+fn turned_walk(alloc: Global, steps: &[Step]) -> Result<Vec<Step>, NoMemory>
+    ensures { IfOk result (λ w. w.items ≡ turned_walk steps.now) }
 {
-    steps.iter().rev().map(|step| turn(step)).collect(alloc)
+    steps.iter().rev().map(|step| turned_step(step)).collect(alloc)
 }
 
 /// The step in the other direction.
-fn turn(step: &Step) -> Step
-    ensures { result ≡ turn step.now }
+fn turned_step(step: &Step) -> Step
+    ensures { result ≡ turned_step step.now }
 {
     Step {
         from: step.to,

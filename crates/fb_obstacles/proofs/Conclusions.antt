@@ -9,7 +9,7 @@ use Rattle.fb_graph.specs.Certificate.{load_of}
 use Rattle.fb_graph.specs.Components.{Leads}
 use Rattle.fb_graph.specs.Dual.{Node, IsDual, AreUnderOne, all_cuts, cover_of, is_live, leaves, node_at, no_node}
 use Rattle.fb_graph.specs.Steps.{Roles, MayStep}
-use Rattle.fb_graph.specs.Covers.{AreRoles, HasNoObstacle, is_over, passes}
+use Rattle.fb_graph.specs.Covers.{AreRoles, HasNoObstacle, is_covered_by, passes}
 use Rattle.fb_graph.specs.declared.parts.Edge.{Edge}
 use Rattle.fb_graph.proofs.Crossings.{exclusive_over, under_or_not}
 use Rattle.fb_graph.proofs.Sets.{All-from_is_in, is_in-All}
@@ -98,7 +98,7 @@ looks_limit p roles nodes names watched a b dual are lists seen first second =
 
 -- a tight edge from a plus node isn't clear
 tight_is_not_clear : (p : Problem) (roles : Roles) (nodes : List Node) (k u v : ℕ) → HasNoObstacle p roles nodes
-    → IsTightFrom p roles nodes k u v → (AreUnderOne nodes u v → ⊥) → is_over roles.is_minus nodes v ≡ false → ⊥
+    → IsTightFrom p roles nodes k u v → (AreUnderOne nodes u v → ⊥) → is_covered_by roles.is_minus nodes v ≡ false → ⊥
 tight_is_not_clear p roles nodes k u v clear edge differs free = by edge.leads
   where
     e : Edge
@@ -108,14 +108,14 @@ tight_is_not_clear p roles nodes k u v clear edge differs free = by edge.leads
     by (inl (first, second)) =
         let here = clear.edges k no_edge edge.within
         (λ under. differs (subst (λ x. AreUnderOne nodes u x) second (subst (λ x. AreUnderOne nodes x e.second) first under))) in
-        let less = here.first (subst (λ x. is_over roles.is_plus nodes x ≡ true) (sym first) edge.plus)
-        (subst (λ x. is_over roles.is_minus nodes x ≡ false) (sym second) free) in
+        let less = here.first (subst (λ x. is_covered_by roles.is_plus nodes x ≡ true) (sym first) edge.plus)
+        (subst (λ x. is_covered_by roles.is_minus nodes x ≡ false) (sym second) free) in
         absurd (omega (arith, less, edge.tight))
     by (inr (second, first)) =
         let here = clear.edges k no_edge edge.within
         (λ under. differs (let (name, a, b) = under in (name, ap (cover_of nodes) (sym second) ∙ b, ap (cover_of nodes) (sym first) ∙ a))) in
-        let less = here.second (subst (λ x. is_over roles.is_plus nodes x ≡ true) (sym second) edge.plus)
-        (subst (λ x. is_over roles.is_minus nodes x ≡ false) (sym first) free) in
+        let less = here.second (subst (λ x. is_covered_by roles.is_plus nodes x ≡ true) (sym second) edge.plus)
+        (subst (λ x. is_covered_by roles.is_minus nodes x ≡ false) (sym first) free) in
         absurd (omega (arith, less, edge.tight))
 
 uncovered_real : (p : Problem) (nodes : List Node) (v : ℕ) → IsDual p nodes → p.is_real v ≡ false → cover_of nodes v ≡ None

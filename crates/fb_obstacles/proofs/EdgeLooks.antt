@@ -7,7 +7,7 @@ use Rattle.fb_graph.specs.Components.{Leads}
 use Rattle.fb_graph.specs.Dual.{Node, IsDual, all_cuts, cover_of, AreUnderOne}
 use Rattle.fb_graph.specs.declared.parts.Edge.{Edge}
 use Rattle.fb_graph.specs.Steps.{Roles}
-use Rattle.fb_graph.specs.Covers.{AreRoles, HaveParity, is_over, passes}
+use Rattle.fb_graph.specs.Covers.{AreRoles, HaveParity, is_covered_by, passes}
 use Rattle.fb_graph.proofs.Crossings.{even_residue, under_or_not}
 use Rattle.fb_laws.specs.Bounds.{Bears}
 use Rattle.fb_laws.proofs.StepBounds.{edge_within_allows, edge_allows, edge_bears}
@@ -60,7 +60,7 @@ under_minus Bare = false
 under_minus Virtual = false
 
 plus_over : (p : Problem) (role_of : ℕ → Role) (nodes : List Node) (v : ℕ) (c : Cover)
-    → Covers p (roles_by role_of) nodes v c → is_over (roles_by role_of).is_plus nodes v ≡ under_plus c
+    → Covers p (roles_by role_of) nodes v c → is_covered_by (roles_by role_of).is_plus nodes v ≡ under_plus c
 plus_over p role_of nodes v (Plus n) (at, plus) = ap (passes (roles_by role_of).is_plus) at ∙ plus
 plus_over p role_of nodes v Minus (n, at, minus) =
     ap (passes (roles_by role_of).is_plus) at ∙ apart (role_of n) minus
@@ -74,7 +74,7 @@ plus_over p role_of nodes v Bare (at, real) = ap (passes (roles_by role_of).is_p
 plus_over p role_of nodes v Virtual (at, real) = ap (passes (roles_by role_of).is_plus) at
 
 minus_over : (p : Problem) (role_of : ℕ → Role) (nodes : List Node) (v : ℕ) (c : Cover)
-    → Covers p (roles_by role_of) nodes v c → is_over (roles_by role_of).is_minus nodes v ≡ under_minus c
+    → Covers p (roles_by role_of) nodes v c → is_covered_by (roles_by role_of).is_minus nodes v ≡ under_minus c
 minus_over p role_of nodes v (Plus n) (at, plus) =
     ap (passes (roles_by role_of).is_minus) at ∙ apart (role_of n) plus
   where
@@ -140,7 +140,7 @@ edge_limits p role_of nodes r k dual are parity even less = split (under_or_not 
     tight differs none = omega (arith, dual.loads e differs, none, light)
 
     tight_from : (u v : ℕ) → (AreUnderOne nodes e.first e.second → ⊥) → residue ≡ 0 → Leads e u v
-        → is_over roles.is_plus nodes u ≡ true → IsTightFrom p roles nodes k u v
+        → is_covered_by roles.is_plus nodes u ≡ true → IsTightFrom p roles nodes k u v
     tight_from u v differs none leads plus =
         record { within = less; leads = leads; tight = tight differs none; plus = plus }
 
@@ -150,70 +150,70 @@ edge_limits p role_of nodes r k dual are parity even less = split (under_or_not 
     bears : (AreUnderOne nodes e.first e.second → ⊥) → (j : ℕ) → Allowed j → Bears roles nodes j e
     bears differs j allowed = edge_bears p roles nodes j e dual are differs allowed
 
-    neither : (AreUnderOne nodes e.first e.second → ⊥) → is_over roles.is_plus nodes e.first ≡ false
-        → is_over roles.is_plus nodes e.second ≡ false → (j : ℕ) → Allowed j
+    neither : (AreUnderOne nodes e.first e.second → ⊥) → is_covered_by roles.is_plus nodes e.first ≡ false
+        → is_covered_by roles.is_plus nodes e.second ≡ false → (j : ℕ) → Allowed j
     neither differs lacks none j =
         allows differs j (record {
-          first = λ plus other free. absurd (both_ways (is_over roles.is_plus nodes e.first) lacks plus);
-          second = λ plus other free. absurd (both_ways (is_over roles.is_plus nodes e.second) none plus);
-          both = λ plus more. absurd (both_ways (is_over roles.is_plus nodes e.first) lacks plus);
+          first = λ plus other free. absurd (both_ways (is_covered_by roles.is_plus nodes e.first) lacks plus);
+          second = λ plus other free. absurd (both_ways (is_covered_by roles.is_plus nodes e.second) none plus);
+          both = λ plus more. absurd (both_ways (is_covered_by roles.is_plus nodes e.first) lacks plus);
         })
 
-    to_minus : (AreUnderOne nodes e.first e.second → ⊥) → is_over roles.is_plus nodes e.second ≡ false
-        → is_over roles.is_minus nodes e.second ≡ true → (j : ℕ) → Allowed j
+    to_minus : (AreUnderOne nodes e.first e.second → ⊥) → is_covered_by roles.is_plus nodes e.second ≡ false
+        → is_covered_by roles.is_minus nodes e.second ≡ true → (j : ℕ) → Allowed j
     to_minus differs none minus j =
         allows differs j (record {
-          first = λ plus other free. absurd (both_ways (is_over roles.is_minus nodes e.second) free minus);
-          second = λ plus other free. absurd (both_ways (is_over roles.is_plus nodes e.second) none plus);
-          both = λ plus more. absurd (both_ways (is_over roles.is_plus nodes e.second) none more);
+          first = λ plus other free. absurd (both_ways (is_covered_by roles.is_minus nodes e.second) free minus);
+          second = λ plus other free. absurd (both_ways (is_covered_by roles.is_plus nodes e.second) none plus);
+          both = λ plus more. absurd (both_ways (is_covered_by roles.is_plus nodes e.second) none more);
         })
 
-    from_minus : (AreUnderOne nodes e.first e.second → ⊥) → is_over roles.is_plus nodes e.first ≡ false
-        → is_over roles.is_minus nodes e.first ≡ true → (j : ℕ) → Allowed j
+    from_minus : (AreUnderOne nodes e.first e.second → ⊥) → is_covered_by roles.is_plus nodes e.first ≡ false
+        → is_covered_by roles.is_minus nodes e.first ≡ true → (j : ℕ) → Allowed j
     from_minus differs none minus j =
         allows differs j (record {
-          first = λ plus other free. absurd (both_ways (is_over roles.is_plus nodes e.first) none plus);
-          second = λ plus other free. absurd (both_ways (is_over roles.is_minus nodes e.first) free minus);
-          both = λ plus more. absurd (both_ways (is_over roles.is_plus nodes e.first) none plus);
+          first = λ plus other free. absurd (both_ways (is_covered_by roles.is_plus nodes e.first) none plus);
+          second = λ plus other free. absurd (both_ways (is_covered_by roles.is_minus nodes e.first) free minus);
+          both = λ plus more. absurd (both_ways (is_covered_by roles.is_plus nodes e.first) none plus);
         })
 
-    one_first : (AreUnderOne nodes e.first e.second → ⊥) → (o : Obstacle) → is_over roles.is_plus nodes e.first ≡ true
-        → is_over roles.is_plus nodes e.second ≡ false → is_over roles.is_minus nodes e.second ≡ false
+    one_first : (AreUnderOne nodes e.first e.second → ⊥) → (o : Obstacle) → is_covered_by roles.is_plus nodes e.first ≡ true
+        → is_covered_by roles.is_plus nodes e.second ≡ false → is_covered_by roles.is_minus nodes e.second ≡ false
         → (residue ≡ 0 → Stands o) → Limits Allowed Stands (bounded residue o)
     one_first differs o plus none free stands =
         bounded_limits Allowed Stands residue o
         (λ j le.
         allows differs j (record {
           first = λ yes_plus other free_too. omega (arith, le, light, dual.loads e differs);
-          second = λ more other free_too. absurd (both_ways (is_over roles.is_plus nodes e.second) none more);
-          both = λ yes_plus more. absurd (both_ways (is_over roles.is_plus nodes e.second) none more);
+          second = λ more other free_too. absurd (both_ways (is_covered_by roles.is_plus nodes e.second) none more);
+          both = λ yes_plus more. absurd (both_ways (is_covered_by roles.is_plus nodes e.second) none more);
         }))
         (λ j allowed. let h = (bears differs j allowed).first plus none free in omega (arith, h, dual.loads e differs))
         stands
 
-    one_second : (AreUnderOne nodes e.first e.second → ⊥) → (o : Obstacle) → is_over roles.is_plus nodes e.second ≡ true
-        → is_over roles.is_plus nodes e.first ≡ false → is_over roles.is_minus nodes e.first ≡ false
+    one_second : (AreUnderOne nodes e.first e.second → ⊥) → (o : Obstacle) → is_covered_by roles.is_plus nodes e.second ≡ true
+        → is_covered_by roles.is_plus nodes e.first ≡ false → is_covered_by roles.is_minus nodes e.first ≡ false
         → (residue ≡ 0 → Stands o) → Limits Allowed Stands (bounded residue o)
     one_second differs o plus none free stands =
         bounded_limits Allowed Stands residue o
         (λ j le.
         allows differs j (record {
-          first = λ more other free_too. absurd (both_ways (is_over roles.is_plus nodes e.first) none more);
+          first = λ more other free_too. absurd (both_ways (is_covered_by roles.is_plus nodes e.first) none more);
           second = λ yes_plus other free_too. omega (arith, le, light, dual.loads e differs);
-          both = λ more yes_plus. absurd (both_ways (is_over roles.is_plus nodes e.first) none more);
+          both = λ more yes_plus. absurd (both_ways (is_covered_by roles.is_plus nodes e.first) none more);
         }))
         (λ j allowed. let h = (bears differs j allowed).second plus none free in omega (arith, h, dual.loads e differs))
         stands
 
-    both : (AreUnderOne nodes e.first e.second → ⊥) → (o : Obstacle) → is_over roles.is_plus nodes e.first ≡ true
-        → is_over roles.is_plus nodes e.second ≡ true
+    both : (AreUnderOne nodes e.first e.second → ⊥) → (o : Obstacle) → is_covered_by roles.is_plus nodes e.first ≡ true
+        → is_covered_by roles.is_plus nodes e.second ≡ true
         → (residue ≡ 0 → Stands o) → Limits Allowed Stands (bounded (residue / 2) o)
     both differs o plus more stands =
         bounded_limits Allowed Stands (residue / 2) o
         (λ j le.
         allows differs j (record {
-          first = λ yes_plus other free. absurd (both_ways (is_over roles.is_plus nodes e.second) other more);
-          second = λ yes_plus other free. absurd (both_ways (is_over roles.is_plus nodes e.first) other plus);
+          first = λ yes_plus other free. absurd (both_ways (is_covered_by roles.is_plus nodes e.second) other more);
+          second = λ yes_plus other free. absurd (both_ways (is_covered_by roles.is_plus nodes e.first) other plus);
           both = λ yes_plus too. omega (arith, le, light, dual.loads e differs);
         }))
         (λ j allowed. let h = (bears differs j allowed).both plus more in omega (arith, h, dual.loads e differs))
@@ -235,10 +235,10 @@ edge_limits p role_of nodes r k dual are parity even less = split (under_or_not 
           record { edge = tight_from e.first e.second differs none (inl (refl, refl)) plus; other = more; apart = differs },
         )))
       where
-        plus : is_over roles.is_plus nodes e.first ≡ true
+        plus : is_covered_by roles.is_plus nodes e.first ≡ true
         plus = plus_over p role_of nodes e.first (Plus m) first
 
-        more : is_over roles.is_plus nodes e.second ≡ true
+        more : is_covered_by roles.is_plus nodes e.second ≡ true
         more = plus_over p role_of nodes e.second (Plus n) second
     core differs (Plus m) Minus first second =
         to_minus differs (plus_over p role_of nodes e.second Minus second) (minus_over p role_of nodes e.second Minus second)

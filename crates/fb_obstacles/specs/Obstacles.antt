@@ -7,7 +7,7 @@ use Rattle.fb_graph.specs.Components.{Leads}
 use Rattle.fb_graph.specs.Dual.{Node, AreUnderOne, all_cuts, cover_of, height_of, is_live, is_outer}
 use Rattle.fb_graph.specs.declared.parts.Edge.{Edge}
 use Rattle.fb_graph.specs.Steps.{Roles}
-use Rattle.fb_graph.specs.Covers.{HaveParity, is_over}
+use Rattle.fb_graph.specs.Covers.{HaveParity, is_covered_by}
 use Rattle.fb_graph.specs.Moves.{MaySplit, MayUncover}
 use Rattle.fb_laws.specs.Lengths.{IsGreatestStep}
 use Rattle.fb_regions.specs.declared.roles.Role.{Role}
@@ -51,8 +51,8 @@ pub record ListsMinus (roles : Roles) (nodes : List Node) (names : List ℕ) : T
 pub record IsWatched (p : Problem) (roles : Roles) (nodes : List Node) (edges : List ℕ) : Type 0 where
   pub within : All (λ k. k < length p.edges) edges
   pub near : (k : ℕ) → k < length p.edges
-      → (is_over roles.is_plus nodes (edge_at p.edges k).first ≡ true)
-      ⊎ (is_over roles.is_plus nodes (edge_at p.edges k).second ≡ true)
+      → (is_covered_by roles.is_plus nodes (edge_at p.edges k).first ≡ true)
+      ⊎ (is_covered_by roles.is_plus nodes (edge_at p.edges k).second ≡ true)
       → ¬ AreUnderOne nodes (edge_at p.edges k).first (edge_at p.edges k).second → is_in edges k ≡ true
 
 -- edge k has no residue, and leads from u, which is under a plus node, to v
@@ -60,9 +60,9 @@ pub record IsTightFrom (p : Problem) (roles : Roles) (nodes : List Node) (k u v 
   pub within : k < length p.edges
   pub leads : Leads (edge_at p.edges k) u v
   pub tight : load_of (all_cuts nodes) (edge_at p.edges k) ≡ (edge_at p.edges k).weight
-  pub plus : is_over roles.is_plus nodes u ≡ true
+  pub plus : is_covered_by roles.is_plus nodes u ≡ true
 
--- edge k leads to an uncovered real vertex, which the plus node can take up
+-- edge k leads to an uncovered real vertex, which the plus node can absorb
 pub record IsAbsorb (p : Problem) (roles : Roles) (nodes : List Node) (k u v : ℕ) : Type 0 where
   pub edge : IsTightFrom p roles nodes k u v
   pub uncovered : cover_of nodes v ≡ None
@@ -83,7 +83,7 @@ pub record IsMeet (p : Problem) (roles : Roles) (nodes : List Node) (k u v name 
 -- edge k leads to another plus node
 pub record IsPlusPair (p : Problem) (roles : Roles) (nodes : List Node) (k u v : ℕ) : Type 0 where
   pub edge : IsTightFrom p roles nodes k u v
-  pub other : is_over roles.is_plus nodes v ≡ true
+  pub other : is_covered_by roles.is_plus nodes v ≡ true
   pub apart : ¬ AreUnderOne nodes u v
 
 -- the outer node of this name is a defect with one layer, of value 0

@@ -86,9 +86,9 @@ pub fn read_whole<F: Files>(
 
     // The result is an error exactly if one occurred.
     ensures fault { IsErrOf result ReadError.ReadFault → Rose (F.faults files.old) (F.faults files.new) }
-    ensures later { F.faults files.old ≤ F.faults files.new }
-    ensures seen { F.faults files.old < F.faults files.new → IsErrOf result ReadError.ReadFault }
-    ensures calm { result ≢ Err ReadError.ReadFault → F.faults files.new ≡ F.faults files.old }
+    ensures never_falls { F.faults files.old ≤ F.faults files.new }
+    ensures reported { F.faults files.old < F.faults files.new → IsErrOf result ReadError.ReadFault }
+    ensures unchanged { result ≢ Err ReadError.ReadFault → F.faults files.new ≡ F.faults files.old }
 
     ensures names { F.named files.new ≡ F.named files.old }
     ensures asks { F.asked files.new ≡ F.asked files.old }

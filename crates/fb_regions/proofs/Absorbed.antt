@@ -10,21 +10,21 @@ use Rattle.fb_graph.specs.Problem.{Problem, edge_at}
 use Rattle.fb_graph.specs.Certificate.{load_of, total_value}
 use Rattle.fb_graph.specs.Components.{Leads}
 use Rattle.fb_graph.specs.Alike.{AreAlike}
-use Rattle.fb_graph.specs.Dual.{Node, AreGrown, AreUnderOne, all_cuts, change_at, cover_of, height_of, layers_of, leaves, taller, top_at}
+use Rattle.fb_graph.specs.Dual.{Node, AreGrown, AreUnderOne, all_cuts, change_at, cover_of, height_of, layers_of, leaves, taller_node, top_at}
 use Rattle.fb_graph.specs.Limits.{IsWithinLimits}
 use Rattle.fb_graph.specs.Links.{AreEven}
-use Rattle.fb_graph.specs.Moves.{MayTakeUp}
+use Rattle.fb_graph.specs.Moves.{MayAbsorb}
 use Rattle.fb_graph.specs.Nests.{IsNest}
 use Rattle.fb_graph.specs.SourceWalks.{HaveWalks}
 use Rattle.fb_graph.specs.declared.parts.Cut.{Cut}
 use Rattle.fb_graph.specs.declared.parts.Edge.{Edge}
 use Rattle.fb_graph.proofs.Among.{IsAmong, All_among, among_All, cover_among, map_among, same_among}
 use Rattle.fb_graph.proofs.ChangedNodes.{change, by_name}
-use Rattle.fb_graph.proofs.CutSums.{weigh-taller}
+use Rattle.fb_graph.proofs.CutSums.{weigh-taller_node}
 use Rattle.fb_graph.proofs.Members.{is_in-append, is_in_push, is_in_pushed}
 use Rattle.fb_graph.proofs.Nodes.{All-flat_map, All-pieces, layers_within}
-use Rattle.fb_graph.proofs.RaisedNests.{nest_taken_up}
-use Rattle.fb_graph.proofs.SourceWalks.{walks_taken_up}
+use Rattle.fb_graph.proofs.RaisedNests.{nest_absorbed}
+use Rattle.fb_graph.proofs.SourceWalks.{walks_absorbed}
 use Rattle.fb_graph.proofs.TallerNodes.{leaves_taller, outer_taller, taller_alike}
 use Rattle.fb_links.specs.declared.walk.Step.{Step}
 use Rattle.fb_regions.specs.declared.marks.Hop.{Hop}
@@ -33,7 +33,7 @@ use Rattle.fb_regions.specs.declared.region.Region.{Region}
 use Rattle.fb_regions.specs.InternalNodes.{added_to, before_in, chain, first_of, mark_of, node_of, nodes_of, radii_from, stack, under_in}
 use Rattle.fb_regions.specs.InternalListings.{AreListed, BeginAlike, IsListed}
 use Rattle.fb_regions.specs.InternalKept.{BeginsIn, HasMarks, IsAfter, HaveParents, IsKept, IsMarkIn, IsMarked}
-use Rattle.fb_regions.specs.Moves.{BeginsWith, IsOver, absorbed, inner_end, outer_end}
+use Rattle.fb_regions.specs.Moves.{BeginsWith, IsOver, absorbed_over, inner_end, outer_end}
 use Rattle.fb_regions.specs.Walks.{IsStep}
 use Rattle.fb_regions.proofs.Begun.{StayBegun, lists_still, set_begun, top_changed}
 use Rattle.fb_regions.proofs.Chains.{chain_same, stack_push, stack_same}
@@ -41,7 +41,7 @@ use Rattle.fb_regions.proofs.Found.{IsFound, among_at, found, nodes_set}
 use Rattle.fb_regions.proofs.Listings.{begins_left, listed_more}
 use Rattle.fb_regions.proofs.Marking.{has_still, mark_new, mark_other, node_still, nodes_still}
 use Rattle.fb_regions.proofs.Moved.{covered_in, from_marked, marked_moved, not_covered, some_cover, top_marks, unmarked}
-use Rattle.fb_regions.proofs.Parents.{lone_set, parents_set}
+use Rattle.fb_regions.proofs.Parents.{childless_set, parents_set}
 use Rattle.fb_regions.proofs.Radii.{radii_set}
 use Rattle.fb_regions.proofs.Readings.{length-top, radii_fit, sized}
 
@@ -60,11 +60,11 @@ taken m s r = record {
   under = r.top_value;
 }
 
-top_more : (name w x d : ℕ) (nodes : List Node) → is_in (top_at nodes x) d ≡ true → is_in (top_at (change_at name (taller w) nodes) x) d ≡ true
+top_more : (name w x d : ℕ) (nodes : List Node) → is_in (top_at nodes x) d ≡ true → is_in (top_at (change_at name (taller_node w) nodes) x) d ≡ true
 top_more name w x d nodes h =
-    top_changed (λ s. is_in s d ≡ true) (change name (taller w)) nodes x (λ n. by_name (λ y. y.name ≡ n.name) name (taller w) n (λ _. refl) (λ _. refl))
+    top_changed (λ s. is_in s d ≡ true) (change name (taller_node w)) nodes x (λ n. by_name (λ y. y.name ≡ n.name) name (taller_node w) n (λ _. refl) (λ _. refl))
     (λ n a k.
-    by_name (λ y. is_in y.top.vertices d ≡ true) name (taller w) n
+    by_name (λ y. is_in y.top.vertices d ≡ true) name (taller_node w) n
     (λ _. is_in_push n.top.vertices w d ∙ or_left (is_in n.top.vertices d) (w == d) k) (λ _. k))
     h
 
@@ -79,9 +79,9 @@ ends nodes e = by (is_some (cover_of nodes e.first))
 -- what the call is given, told of the step
 pub record IsAbsorbing (p : Problem) (nodes : List Node) (k name : ℕ) (s : Step) : Type 0 where
   pub step : IsStep p s
-  pub may : MayTakeUp p nodes name k s.from s.to
+  pub may : MayAbsorb p nodes name k s.from s.to
   pub weight : s.weight ≡ (edge_at p.edges k).weight
-  pub change : change_at name (taller s.to) nodes ≡ absorbed nodes (edge_at p.edges k)
+  pub change : change_at name (taller_node s.to) nodes ≡ absorbed_over nodes (edge_at p.edges k)
 
 pub absorbing : (p : Problem) (nodes : List Node) (k name : ℕ) (s : Step) → k < length p.edges
     → load_of (all_cuts nodes) (edge_at p.edges k) ≡ (edge_at p.edges k).weight
@@ -101,15 +101,15 @@ absorbing p nodes k name s below tight outer real over cover =
       };
       weight = over.weight;
       change =
-          ap (λ o. change_at (unwrap_or o 0) (taller s.to) nodes) (sym cover)
-          ∙ (ap (λ v. change_at (unwrap_or (cover_of nodes v) 0) (taller s.to) nodes) over.from
-          ∙ ap (λ v. change_at (unwrap_or (cover_of nodes (inner_end nodes (edge_at p.edges k))) 0) (taller v) nodes) over.to);
+          ap (λ o. change_at (unwrap_or o 0) (taller_node s.to) nodes) (sym cover)
+          ∙ (ap (λ v. change_at (unwrap_or (cover_of nodes v) 0) (taller_node s.to) nodes) over.from
+          ∙ ap (λ v. change_at (unwrap_or (cover_of nodes (inner_end nodes (edge_at p.edges k))) 0) (taller_node v) nodes) over.to);
     }
 
 module _ (p : Problem) (regions : List Region) (marks : List (Option Mark)) (kept : IsKept p regions marks) (limits : IsWithinLimits p)
     (name i k : ℕ) (s : Step) (m : Mark) (old : Region) (step : IsStep p s) (has : mark_of marks s.from ≡ Some m)
     (at : position (λ r. r.name == name) regions ≡ Some i) (is_old : old ≡ get_or regions i old)
-    (may : MayTakeUp p (nodes_of marks regions) name k s.from s.to) (weight : s.weight ≡ (edge_at p.edges k).weight) where
+    (may : MayAbsorb p (nodes_of marks regions) name k s.from s.to) (weight : s.weight ≡ (edge_at p.edges k).weight) where
   abbrev nodes : List Node
   nodes = nodes_of marks regions
 
@@ -123,7 +123,7 @@ module _ (p : Problem) (regions : List Region) (marks : List (Option Mark)) (kep
   marks' = set marks w (Some own)
 
   abbrev others : List Node
-  others = change_at name (taller w) nodes
+  others = change_at name (taller_node w) nodes
 
   there : IsFound marks regions name i old
   there = found marks regions name i old at is_old
@@ -184,7 +184,7 @@ module _ (p : Problem) (regions : List Region) (marks : List (Option Mark)) (kep
       ∙ ap (λ l. l ++ (node_of marks old).top ∷ [])
       (stack_same marks marks' (first_of marks old) (added_to marks old) (λ u h. ap under_in (mark_other marks w u (Some own) (not_added u h)))))
 
-  pub raised_node : node_of marks' (raised w old) ≡ taller w (node_of marks old)
+  pub raised_node : node_of marks' (raised w old) ≡ taller_node w (node_of marks old)
   raised_node =
       ap (λ f. built (stack marks' f (added_to marks' (raised w old))) (f ++ added_to marks' (raised w old))) first_is
       ∙ (ap (λ l. built (stack marks' (first_of marks old) l) (first_of marks old ++ l)) chain_is
@@ -194,17 +194,17 @@ module _ (p : Problem) (regions : List Region) (marks : List (Option Mark)) (kep
       built : List Cut → List ℕ → Node
       built b vs = record { name = old.name; children = old.children.items; below = b; top = record { value = 0; vertices = vs } }
 
-  pub absorbed_nodes : nodes_of marks' (set regions i (raised w old)) ≡ others
-  absorbed_nodes =
+  pub nodes_absorbed : nodes_of marks' (set regions i (raised w old)) ≡ others
+  nodes_absorbed =
       nodes_set marks' regions i (raised w old)
       ∙ (ap (λ ns. set ns i (node_of marks' (raised w old))) (nodes_still marks regions w (Some own) out)
-      ∙ (ap (set nodes i) raised_node ∙ there.placed (taller w) kept.nest.dual.names))
+      ∙ (ap (set nodes i) raised_node ∙ there.placed (taller_node w) kept.nest.dual.names))
 
   even : AreEven p
   even j d less = (limits.each_edge j d less).even
 
   nest : IsNest p others
-  nest = nest_taken_up p nodes name k s.from w even may kept.nest
+  nest = nest_absorbed p nodes name k s.from w even may kept.nest
 
   no_defect : is_in (leaves nodes) w ≡ false
   no_defect = false_from_ne_true (is_in (leaves nodes) w) (λ leaf. false≢true (subst IsSome may.uncovered (kept.nest.dual.defects w leaf)))
@@ -262,12 +262,12 @@ module _ (p : Problem) (regions : List Region) (marks : List (Option Mark)) (kep
   sets : All (λ c. HasMarks marks' c.vertices) (all_cuts others)
   sets =
       All-flat_map (λ c. HasMarks marks' c.vertices) layers_of others
-      (All-map (λ n. All (λ c. HasMarks marks' c.vertices) (layers_of n)) (change name (taller w)) nodes
-      (among_All (λ n. All (λ c. HasMarks marks' c.vertices) (layers_of (change name (taller w) n))) nodes
+      (All-map (λ n. All (λ c. HasMarks marks' c.vertices) (layers_of n)) (change name (taller_node w)) nodes
+      (among_All (λ n. All (λ c. HasMarks marks' c.vertices) (layers_of (change name (taller_node w) n))) nodes
       (λ n a.
-      by_name (λ x. All (λ c. HasMarks marks' c.vertices) (layers_of x)) name (taller w) n
+      by_name (λ x. All (λ c. HasMarks marks' c.vertices) (layers_of x)) name (taller_node w) n
       (λ named.
-      All-push (λ c. HasMarks marks' c.vertices) (layers_of n) (taller w n).top (still n a)
+      All-push (λ c. HasMarks marks' c.vertices) (layers_of n) (taller_node w n).top (still n a)
       (subst (λ x. HasMarks marks' (x.top.vertices ++ w ∷ []))
       (same_among nodes kept.nest.dual.names (node_of marks old) n among a (there.named ∙ sym named)) own_set))
       (λ other. still n a))))
@@ -284,12 +284,12 @@ module _ (p : Problem) (regions : List Region) (marks : List (Option Mark)) (kep
   radii_same : (x : ℕ) → radii_from (set regions i (raised w old)) x ≡ radii_from regions x
   radii_same = radii_set regions i old (raised w old) is_old there.below refl refl refl
 
-  changed_among : (n : Node) → IsAmong n nodes → IsAmong (change name (taller w) n) others
-  changed_among n a = map_among (change name (taller w)) nodes n a
+  changed_among : (n : Node) → IsAmong n nodes → IsAmong (change name (taller_node w) n) others
+  changed_among n a = map_among (change name (taller_node w)) nodes n a
 
-  still_in : (n : Node) (u : ℕ) → is_in n.top.vertices u ≡ true → is_in (change name (taller w) n).top.vertices u ≡ true
+  still_in : (n : Node) (u : ℕ) → is_in n.top.vertices u ≡ true → is_in (change name (taller_node w) n).top.vertices u ≡ true
   still_in n u h =
-      by_name (λ x. is_in x.top.vertices u ≡ true) name (taller w) n
+      by_name (λ x. is_in x.top.vertices u ≡ true) name (taller_node w) n
       (λ named. is_in_push n.top.vertices w u ∙ or_left (is_in n.top.vertices u) (w == u) h) (λ other. h)
 
   marked_other : (u : ℕ) (mk : Mark) → (u ≡ w → ⊥) → mark_of marks u ≡ Some mk → IsMarked p others (set regions i (raised w old)) marks' u mk
@@ -298,9 +298,9 @@ module _ (p : Problem) (regions : List Region) (marks : List (Option Mark)) (kep
       let (c, cover) = some_cover nodes u is.covered in
       let over = cover_among nodes u c cover in
       marked_moved p nodes others regions (set regions i (raised w old)) marks marks' u mk is
-      (covered_in p others nest (change name (taller w) over.node) (changed_among over.node over.among) u (still_in over.node u over.holds))
+      (covered_in p others nest (change name (taller_node w) over.node) (changed_among over.node over.among) u (still_in over.node u over.holds))
       (top_more name w mk.leaf mk.source nodes is.leaf)
-      (lone_set regions i old (raised w old) mk.leaf is_old there.below refl refl ∙ is.lone)
+      (childless_set regions i old (raised w old) mk.leaf is_old there.below refl refl ∙ is.childless)
       (alike.heights u)
       (radii_same mk.leaf)
       (λ d h. ap (λ l. is_in l d) (leaves_taller name w nodes) ∙ h)
@@ -322,11 +322,11 @@ module _ (p : Problem) (regions : List Region) (marks : List (Option Mark)) (kep
       ∙ has in
       record {
         covered =
-            covered_in p others nest (change name (taller w) (node_of marks old)) (changed_among (node_of marks old) among) w
-            (by_name (λ x. is_in x.top.vertices w ≡ true) name (taller w) (node_of marks old)
+            covered_in p others nest (change name (taller_node w) (node_of marks old)) (changed_among (node_of marks old) among) w
+            (by_name (λ x. is_in x.top.vertices w ≡ true) name (taller_node w) (node_of marks old)
             (λ named. is_in_pushed (node_of marks old).top.vertices w) (λ other. absurd (other there.named)));
         leaf = top_more name w m.leaf m.source nodes is.leaf;
-        lone = lone_set regions i old (raised w old) m.leaf is_old there.below refl refl ∙ is.lone;
+        childless = childless_set regions i old (raised w old) m.leaf is_old there.below refl refl ∙ is.childless;
         defect = ap (λ l. is_in l m.source) (leaves_taller name w nodes) ∙ is.defect;
         balance = omega (arith, is.balance, full, alike.heights w, kept.nest.dual.uncovered w may.uncovered, radii_same m.leaf);
         came = (
@@ -346,30 +346,30 @@ module _ (p : Problem) (regions : List Region) (marks : List (Option Mark)) (kep
 
   begun : StayBegun nodes others
   begun v c h =
-      top_changed (BeginsWith v) (change name (taller w)) nodes c (λ n. by_name (λ x. x.name ≡ n.name) name (taller w) n (λ _. refl) (λ _. refl))
-      (λ n a k. by_name (λ x. BeginsWith v x.top.vertices) name (taller w) n (λ _. begins_left v n.top.vertices (w ∷ []) k) (λ _. k)) h
+      top_changed (BeginsWith v) (change name (taller_node w)) nodes c (λ n. by_name (λ x. x.name ≡ n.name) name (taller_node w) n (λ _. refl) (λ _. refl))
+      (λ n a k. by_name (λ x. BeginsWith v x.top.vertices) name (taller_node w) n (λ _. begins_left v n.top.vertices (w ∷ []) k) (λ _. k)) h
 
   pub kept_absorbed : IsKept p (set regions i (raised w old)) marks'
   kept_absorbed = record {
-    nest = subst (IsNest p) (sym absorbed_nodes) nest;
-    walks = subst (HaveWalks p) (sym absorbed_nodes) (walks_taken_up p nodes name k s.from w may kept.nest kept.walks);
+    nest = subst (IsNest p) (sym nodes_absorbed) nest;
+    walks = subst (HaveWalks p) (sym nodes_absorbed) (walks_absorbed p nodes name k s.from w may kept.nest kept.walks);
     room = length-set marks w (Some own) ∙ kept.room;
     radii =
         All-set (λ r. r.radius ≡ total_value (layers_of (node_of marks' r))) regions i (raised w old)
         (radius_of old there.among
-        ∙ (sym (weigh-taller (λ _. true) w (node_of marks old)) ∙ ap (λ n. total_value (layers_of n)) (sym raised_node)))
+        ∙ (sym (weigh-taller_node (λ _. true) w (node_of marks old)) ∙ ap (λ n. total_value (layers_of n)) (sym raised_node)))
         (among_All (λ r. r.radius ≡ total_value (layers_of (node_of marks' r))) regions
         (λ r a.
         radius_of r a
         ∙ ap (λ n. total_value (layers_of n)) (sym (node_still marks r w (Some own) (out (node_of marks r) (map_among (node_of marks) regions r a))))));
     parents =
-        subst (λ ns. HaveParents ns (set regions i (raised w old))) (sym absorbed_nodes)
+        subst (λ ns. HaveParents ns (set regions i (raised w old))) (sym nodes_absorbed)
         (parents_set nodes others regions i old (raised w old) (λ x h. outer_taller name w x nodes ∙ h) is_old there.below refl refl refl kept.parents);
-    sets = subst (λ ns. All (λ c. HasMarks marks' c.vertices) (all_cuts ns)) (sym absorbed_nodes) sets;
+    sets = subst (λ ns. All (λ c. HasMarks marks' c.vertices) (all_cuts ns)) (sym nodes_absorbed) sets;
     listed = listed;
-    begins = subst (λ ns. BeginAlike ns (set regions i (raised w old))) (sym absorbed_nodes)
+    begins = subst (λ ns. BeginAlike ns (set regions i (raised w old))) (sym nodes_absorbed)
         (set_begun nodes others regions i old (raised w old) begun there.among refl refl kept.begins);
-    marked = λ u mk at'. subst (λ ns. IsMarked p ns (set regions i (raised w old)) marks' u mk) (sym absorbed_nodes) (by u mk at' (cases_eq u w));
+    marked = λ u mk at'. subst (λ ns. IsMarked p ns (set regions i (raised w old)) marks' u mk) (sym nodes_absorbed) (by u mk at' (cases_eq u w));
   }
     where
       radius_of : (r : Region) → IsAmong r regions → r.radius ≡ total_value (layers_of (node_of marks r))

@@ -13,8 +13,8 @@ use Rattle.fb_regions.specs.declared.marks.Mark.{Mark}
 use Rattle.fb_regions.specs.declared.region.Region.{Region}
 use Rattle.fb_regions.specs.InternalNodes.{mark_of, nodes_of, root_from}
 use Rattle.fb_regions.specs.InternalKept.{IsKept}
-use Rattle.fb_regions.specs.Moves.{IsOver, absorbed, inner_end, outer_end}
-use Rattle.fb_regions.proofs.Absorbed.{absorbed_nodes, absorbing, fits_absorbed, kept_absorbed, raised, taken}
+use Rattle.fb_regions.specs.Moves.{IsOver, absorbed_over, inner_end, outer_end}
+use Rattle.fb_regions.proofs.Absorbed.{nodes_absorbed, absorbing, fits_absorbed, kept_absorbed, raised, taken}
 use Rattle.fb_regions.proofs.Found.{found, not_found}
 use Rattle.fb_regions.proofs.Readings.{cover_none, cover_some}
 
@@ -36,7 +36,7 @@ may_absorb p nodes k s below tight inner outer real over =
 
 pub record IsAbsorption (p : Problem) (regions : List Region) (marks : List (Option Mark)) (k i : ℕ) (s : Step) (m : Mark) (old : Region) : Type 0 where
   pub kept : IsKept p (set regions i (raised s.to old)) (set marks s.to (Some (taken m s old)))
-  pub change : nodes_of (set marks s.to (Some (taken m s old))) (set regions i (raised s.to old)) ≡ absorbed (nodes_of marks regions) (edge_at p.edges k)
+  pub change : nodes_of (set marks s.to (Some (taken m s old))) (set regions i (raised s.to old)) ≡ absorbed_over (nodes_of marks regions) (edge_at p.edges k)
   pub distance : m.distance + s.weight ≤ 2 ^ 52
   pub size : old.base + old.added + 1 ≤ 2 ^ 20
   pub place : i < length regions
@@ -66,7 +66,7 @@ module _ (p : Problem) (regions : List Region) (marks : List (Option Mark)) (kep
       let fits = fits_absorbed p regions marks kept limits name i k s m old is.step has at is_old is.may is.weight in
       record {
         kept = kept_absorbed p regions marks kept limits name i k s m old is.step has at is_old is.may is.weight;
-        change = absorbed_nodes p regions marks kept limits name i k s m old is.step has at is_old is.may is.weight ∙ is.change;
+        change = nodes_absorbed p regions marks kept limits name i k s m old is.step has at is_old is.may is.weight ∙ is.change;
         distance = fits.0;
         size = fits.1;
         place = (found marks regions name i old at is_old).below;

@@ -81,7 +81,7 @@ kept_behind p regions marks other kept room differ still listed = record {
         (record {
           covered = is.covered;
           leaf = is.leaf;
-          lone = is.lone;
+          childless = is.childless;
           defect = is.defect;
           balance = is.balance;
           came = came_behind p (leaves (nodes_of marks regions)) marks other v x u x.by differ is.came;

@@ -1,4 +1,4 @@
--- The vertices that a node took up, read from their marks, and the layers that they began.
+-- The vertices that a node absorbed, read from their marks, and the layers that they began.
 use Rattle.std.proofs.Common.{ℕ, zero, suc, ◌≡◌, ◌+◌, ◌-◌, ◌<◌, ◌==◌, true, List, [], ◌∷◌, ◌++◌, length, reverse, Option, refl, sym, ap, ◌∙◌, arith, append_assoc}
 use Rattle.std.proofs.lemmas.Bool.{or_left, or_right, eq-eqb}
 use Rattle.std.proofs.lemmas.List.{length-append, append-nil, reverse-append}

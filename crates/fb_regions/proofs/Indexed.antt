@@ -11,7 +11,7 @@ use Rattle.fb_graph.proofs.Among.{All_among, among_All}
 use Rattle.fb_graph.proofs.NestParts.{names_live}
 use Rattle.fb_regions.specs.declared.marks.Mark.{Mark}
 use Rattle.fb_regions.specs.declared.region.Region.{Region}
-use Rattle.fb_regions.specs.InternalNodes.{adopted, children_from, nodes_of}
+use Rattle.fb_regions.specs.InternalNodes.{reparented_region, children_from, nodes_of}
 use Rattle.fb_regions.specs.InternalPlaces.{place_in, AreJoinedAbove, IsIndex, IsIndexBefore, IsJoinedIn}
 use Rattle.fb_regions.specs.InternalKept.{HasParent, HaveParents, IsKept}
 use Rattle.fb_regions.proofs.Found.{found, names_of, read_place}
@@ -24,9 +24,9 @@ pub index_set : (rs : List Region) (places : List (Option ℕ)) (i : ℕ) (old n
 index_set rs places i old new index at less named = record { entry = λ k. index.entry k ∙ sym (placed_set rs i k old new at less named) }
 
 pub index_adopted : (rs : List Region) (places : List (Option ℕ)) (children : List ℕ) (o : Option ℕ) → IsIndex rs places
-    → IsIndex (map (adopted children o) rs) places
+    → IsIndex (map (reparented_region children o) rs) places
 index_adopted rs places children o index = record {
-  entry = λ k. index.entry k ∙ sym (placed_mapped (adopted children o) (same_name children o) rs k);
+  entry = λ k. index.entry k ∙ sym (placed_mapped (reparented_region children o) (same_name children o) rs k);
 }
 
 -- the index of the same nodes in another table
@@ -109,10 +109,10 @@ fresh_name marks rs name fresh = ap (λ l. is_in l name) (names_of marks rs) ∙
 
 pub index_joined : (marks : List (Option Mark)) (rs : List Region) (places wider other : List (Option ℕ)) (children : List ℕ) (o : Option ℕ) (new : Region) (n : ℕ)
     → IsIndex rs places → ((k : ℕ) → place_in wider k ≡ place_in places k) → n ≡ length rs → is_live (nodes_of marks rs) new.name ≡ false
-    → ((k : ℕ) → place_in other k ≡ (if new.name == k then Some n else place_in wider k)) → IsIndex (map (adopted children o) rs ++ new ∷ []) other
+    → ((k : ℕ) → place_in other k ≡ (if new.name == k then Some n else place_in wider k)) → IsIndex (map (reparented_region children o) rs ++ new ∷ []) other
 index_joined marks rs places wider other children o new n index same count fresh entries =
-    index_pushed (map (adopted children o) rs) wider other new n (index_adopted rs wider children o (index_same rs places wider index same))
-    (count ∙ sym (length-map rs (adopted children o)))
+    index_pushed (map (reparented_region children o) rs) wider other new n (index_adopted rs wider children o (index_same rs places wider index same))
+    (count ∙ sym (length-map rs (reparented_region children o)))
     (ap (λ l. is_in l new.name) (adopted_names children o rs) ∙ fresh_name marks rs new.name fresh) entries
 
 -- what a dual state keeps

@@ -9,7 +9,7 @@ use Rattle.fb_graph.specs.Problem.{Problem}
 use Rattle.fb_graph.specs.Certificate.{total_value}
 use Rattle.fb_graph.specs.Dual.{Node, all_cuts, is_empty, is_live, is_outer, layers_of, leaves, top_at}
 use Rattle.fb_graph.specs.Limits.{IsWithinLimits}
-use Rattle.fb_graph.specs.Moves.{MayJoin, blossom, joined}
+use Rattle.fb_graph.specs.Moves.{MayJoin, blossom, joined_nodes}
 use Rattle.fb_graph.specs.Nests.{IsNest}
 use Rattle.fb_graph.specs.SourceWalks.{HaveWalks}
 use Rattle.fb_graph.proofs.Among.{IsAmong, All_among, among_All, among_either, among_left, among_live, among_outer, among_right, cover_among, from_concat, in_concat, live_among, map_among, outer_among, top_among, top_left}
@@ -21,8 +21,8 @@ use Rattle.fb_graph.proofs.SourceWalks.{walks_joined}
 use Rattle.fb_regions.specs.declared.marks.Hop.{Hop}
 use Rattle.fb_regions.specs.declared.marks.Mark.{Mark}
 use Rattle.fb_regions.specs.declared.region.Region.{Region}
-use Rattle.fb_regions.specs.InternalNodes.{added_to, adopted, chain, children_from, first_of, mark_of, node_of, nodes_of, radii_from}
-use Rattle.fb_regions.specs.InternalKept.{BeginsIn, HasMarks, HasParent, HaveParents, IsKept, IsMarked, is_lone}
+use Rattle.fb_regions.specs.InternalNodes.{added_to, reparented_region, chain, children_from, first_of, mark_of, node_of, nodes_of, radii_from}
+use Rattle.fb_regions.specs.InternalKept.{BeginsIn, HasMarks, HasParent, HaveParents, IsKept, IsMarked, is_childless}
 use Rattle.fb_regions.specs.InternalListings.{AreListed, BeginAlike, BeginsFirst, IsListed}
 use Rattle.fb_regions.specs.Moves.{BeginsWith}
 use Rattle.fb_regions.proofs.Begun.{StayBegun, all_begun}
@@ -30,13 +30,13 @@ use Rattle.fb_regions.proofs.Found.{names_of}
 use Rattle.fb_regions.proofs.Listings.{begins_in, held_begins}
 use Rattle.fb_regions.proofs.Moved.{covered_in, in_top, marked_moved, some_cover, top_marks}
 use Rattle.fb_regions.proofs.Opened.{whole}
-use Rattle.fb_regions.proofs.Parents.{children_push, lone_push}
+use Rattle.fb_regions.proofs.Parents.{children_push, childless_push}
 use Rattle.fb_regions.proofs.Radii.{IsBare, MayAdopt, radii_adopted, radii_push}
 use Rattle.fb_regions.proofs.Readings.{odd_sized}
 use Rattle.fb_regions.proofs.Roots.{outer_alone}
 
 -- the nodes stay, whatever stands round them
-pub adopted_node : (marks : List (Option Mark)) (names : List ℕ) (o : Option ℕ) (r : Region) → node_of marks (adopted names o r) ≡ node_of marks r
+pub adopted_node : (marks : List (Option Mark)) (names : List ℕ) (o : Option ℕ) (r : Region) → node_of marks (reparented_region names o r) ≡ node_of marks r
 adopted_node marks names o r = by (is_in names r.name)
   where
     by : (b : Bool) → node_of marks (if b then record r { parent = o } else r) ≡ node_of marks r
@@ -44,59 +44,59 @@ adopted_node marks names o r = by (is_in names r.name)
     by false = refl
 
 pub adopted_nodes : (marks : List (Option Mark)) (names : List ℕ) (o : Option ℕ) (rs : List Region)
-    → nodes_of marks (map (adopted names o) rs) ≡ nodes_of marks rs
+    → nodes_of marks (map (reparented_region names o) rs) ≡ nodes_of marks rs
 adopted_nodes marks names o [] = refl
 adopted_nodes marks names o (r ∷ rs) =
-    ap (λ n. n ∷ nodes_of marks (map (adopted names o) rs)) (adopted_node marks names o r)
+    ap (λ n. n ∷ nodes_of marks (map (reparented_region names o) rs)) (adopted_node marks names o r)
     ∙ ap (λ l. node_of marks r ∷ l) (adopted_nodes marks names o rs)
 
-pub same_name : (names : List ℕ) (o : Option ℕ) (r : Region) → (adopted names o r).name ≡ r.name
+pub same_name : (names : List ℕ) (o : Option ℕ) (r : Region) → (reparented_region names o r).name ≡ r.name
 same_name names o r = by (is_in names r.name)
   where
     by : (b : Bool) → (if b then record r { parent = o } else r).name ≡ r.name
     by true = refl
     by false = refl
 
-same_children : (names : List ℕ) (o : Option ℕ) (r : Region) → (adopted names o r).children.items ≡ r.children.items
+same_children : (names : List ℕ) (o : Option ℕ) (r : Region) → (reparented_region names o r).children.items ≡ r.children.items
 same_children names o r = by (is_in names r.name)
   where
     by : (b : Bool) → (if b then record r { parent = o } else r).children.items ≡ r.children.items
     by true = refl
     by false = refl
 
-same_radius : (names : List ℕ) (o : Option ℕ) (r : Region) → (adopted names o r).radius ≡ r.radius
+same_radius : (names : List ℕ) (o : Option ℕ) (r : Region) → (reparented_region names o r).radius ≡ r.radius
 same_radius names o r = by (is_in names r.name)
   where
     by : (b : Bool) → (if b then record r { parent = o } else r).radius ≡ r.radius
     by true = refl
     by false = refl
 
-pub adopted_children : (names : List ℕ) (o : Option ℕ) (rs : List Region) (q : ℕ) → children_from (map (adopted names o) rs) q ≡ children_from rs q
+pub adopted_children : (names : List ℕ) (o : Option ℕ) (rs : List Region) (q : ℕ) → children_from (map (reparented_region names o) rs) q ≡ children_from rs q
 adopted_children names o [] q = refl
 adopted_children names o (r ∷ rs) q =
-    ap (λ n. if n == q then (adopted names o r).children.items else children_from (map (adopted names o) rs) q) (same_name names o r)
-    ∙ (ap (λ l. if r.name == q then l else children_from (map (adopted names o) rs) q) (same_children names o r)
+    ap (λ n. if n == q then (reparented_region names o r).children.items else children_from (map (reparented_region names o) rs) q) (same_name names o r)
+    ∙ (ap (λ l. if r.name == q then l else children_from (map (reparented_region names o) rs) q) (same_children names o r)
     ∙ ap (λ l. if r.name == q then r.children.items else l) (adopted_children names o rs q))
 
-pub adopted_lone : (names : List ℕ) (o : Option ℕ) (rs : List Region) (x : ℕ) → is_lone (map (adopted names o) rs) x ≡ is_lone rs x
-adopted_lone names o [] x = refl
-adopted_lone names o (r ∷ rs) x =
-    ap (λ n. ((n == x) && is_empty (adopted names o r).children.items) || is_lone (map (adopted names o) rs) x) (same_name names o r)
-    ∙ (ap (λ l. ((r.name == x) && is_empty l) || is_lone (map (adopted names o) rs) x) (same_children names o r)
-    ∙ ap (λ b. ((r.name == x) && is_empty r.children.items) || b) (adopted_lone names o rs x))
+pub adopted_childless : (names : List ℕ) (o : Option ℕ) (rs : List Region) (x : ℕ) → is_childless (map (reparented_region names o) rs) x ≡ is_childless rs x
+adopted_childless names o [] x = refl
+adopted_childless names o (r ∷ rs) x =
+    ap (λ n. ((n == x) && is_empty (reparented_region names o r).children.items) || is_childless (map (reparented_region names o) rs) x) (same_name names o r)
+    ∙ (ap (λ l. ((r.name == x) && is_empty l) || is_childless (map (reparented_region names o) rs) x) (same_children names o r)
+    ∙ ap (λ b. ((r.name == x) && is_empty r.children.items) || b) (adopted_childless names o rs x))
 
 pub adopted_radii : (marks : List (Option Mark)) (names : List ℕ) (o : Option ℕ) (rs : List Region)
     → All (λ r. r.radius ≡ total_value (layers_of (node_of marks r))) rs
-    → All (λ r. r.radius ≡ total_value (layers_of (node_of marks r))) (map (adopted names o) rs)
+    → All (λ r. r.radius ≡ total_value (layers_of (node_of marks r))) (map (reparented_region names o) rs)
 adopted_radii marks names o rs h =
-    All-map (λ r. r.radius ≡ total_value (layers_of (node_of marks r))) (adopted names o) rs
-    (among_All (λ r. (adopted names o r).radius ≡ total_value (layers_of (node_of marks (adopted names o r)))) rs
+    All-map (λ r. r.radius ≡ total_value (layers_of (node_of marks r))) (reparented_region names o) rs
+    (among_All (λ r. (reparented_region names o r).radius ≡ total_value (layers_of (node_of marks (reparented_region names o r)))) rs
     (λ r a.
     same_radius names o r
     ∙ (All_among (λ y. y.radius ≡ total_value (layers_of (node_of marks y))) rs h r a
     ∙ ap (λ n. total_value (layers_of n)) (sym (adopted_node marks names o r)))))
 
-same_first : (names : List ℕ) (o : Option ℕ) (r : Region) → (adopted names o r).first ≡ r.first
+same_first : (names : List ℕ) (o : Option ℕ) (r : Region) → (reparented_region names o r).first ≡ r.first
 same_first names o r = by (is_in names r.name)
   where
     by : (b : Bool) → (if b then record r { parent = o } else r).first ≡ r.first
@@ -105,20 +105,20 @@ same_first names o r = by (is_in names r.name)
 
 -- so do their lists
 pub adopted_lists : (marks : List (Option Mark)) (names : List ℕ) (o : Option ℕ) (rs : List Region) → AreListed marks rs
-    → AreListed marks (map (adopted names o) rs)
+    → AreListed marks (map (reparented_region names o) rs)
 adopted_lists marks names o rs h =
-    All-map (IsListed marks) (adopted names o) rs
-    (among_All (λ r. IsListed marks (adopted names o r)) rs (λ r a. by (is_in names r.name) r (All_among (IsListed marks) rs h r a)))
+    All-map (IsListed marks) (reparented_region names o) rs
+    (among_All (λ r. IsListed marks (reparented_region names o r)) rs (λ r a. by (is_in names r.name) r (All_among (IsListed marks) rs h r a)))
   where
     by : (b : Bool) (r : Region) → IsListed marks r → IsListed marks (if b then record r { parent = o } else r)
     by true r is = record { first = is.first; whole = is.whole }
     by false r is = is
 
 pub adopted_begun : (nodes : List Node) (names : List ℕ) (o : Option ℕ) (rs : List Region) → BeginAlike nodes rs
-    → BeginAlike nodes (map (adopted names o) rs)
+    → BeginAlike nodes (map (reparented_region names o) rs)
 adopted_begun nodes names o rs h =
-    All-map (λ r. BeginsFirst nodes r.first r.children.items) (adopted names o) rs
-    (among_All (λ r. BeginsFirst nodes (adopted names o r).first (adopted names o r).children.items) rs
+    All-map (λ r. BeginsFirst nodes r.first r.children.items) (reparented_region names o) rs
+    (among_All (λ r. BeginsFirst nodes (reparented_region names o r).first (reparented_region names o r).children.items) rs
     (λ r a.
     rw (same_first names o r, same_children names o r) (All_among (λ s. BeginsFirst nodes s.first s.children.items) rs h r a)))
 
@@ -128,14 +128,14 @@ children_last (r ∷ rs) new out =
     let parts = or_parts (r.name == new.name) (is_in (map (λ s. s.name) rs) new.name) out in
     ap (λ b. if b then r.children.items else children_from (rs ++ new ∷ []) new.name) parts.0 ∙ children_last rs new parts.1
 
-pub adopted_names : (names : List ℕ) (o : Option ℕ) (rs : List Region) → map (λ r. r.name) (map (adopted names o) rs) ≡ map (λ r. r.name) rs
+pub adopted_names : (names : List ℕ) (o : Option ℕ) (rs : List Region) → map (λ r. r.name) (map (reparented_region names o) rs) ≡ map (λ r. r.name) rs
 adopted_names names o [] = refl
 adopted_names names o (r ∷ rs) =
-    ap (λ n. n ∷ map (λ s. s.name) (map (adopted names o) rs)) (same_name names o r) ∙ ap (λ l. r.name ∷ l) (adopted_names names o rs)
+    ap (λ n. n ∷ map (λ s. s.name) (map (reparented_region names o) rs)) (same_name names o r) ∙ ap (λ l. r.name ∷ l) (adopted_names names o rs)
 
 parents_joined : (nodes others : List Node) (cs : List ℕ) (new : Region) (rs : List Region) → is_in (map (λ r. r.name) rs) new.name ≡ false
     → new.children.items ≡ cs → ((x : ℕ) → is_outer nodes x ≡ true → is_in cs x ≡ false → is_outer others x ≡ true) → HaveParents nodes rs
-    → HasParent others [] new.name new.parent → HaveParents others (map (adopted cs (Some new.name)) rs ++ new ∷ [])
+    → HasParent others [] new.name new.parent → HaveParents others (map (reparented_region cs (Some new.name)) rs ++ new ∷ [])
 parents_joined nodes others cs new [] out children outer old own = (own, tt)
 parents_joined nodes others cs new (r ∷ rs) out children outer old own =
     let parts = or_parts (r.name == new.name) (is_in (map (λ s. s.name) rs) new.name) out in (
@@ -144,17 +144,17 @@ parents_joined nodes others cs new (r ∷ rs) out children outer old own =
     )
   where
     by : (b : Bool) → is_in cs r.name ≡ b → is_in (map (λ s. s.name) rs) new.name ≡ false
-        → HasParent others (map (adopted cs (Some new.name)) rs ++ new ∷ []) (if b then record r { parent = Some new.name } else r).name
+        → HasParent others (map (reparented_region cs (Some new.name)) rs ++ new ∷ []) (if b then record r { parent = Some new.name } else r).name
         (if b then record r { parent = Some new.name } else r).parent
     by true e free =
         ap (λ l. is_in l r.name)
-        (children_last (map (adopted cs (Some new.name)) rs) new (ap (λ l. is_in l new.name) (adopted_names cs (Some new.name) rs) ∙ free) ∙ children) ∙ e
+        (children_last (map (reparented_region cs (Some new.name)) rs) new (ap (λ l. is_in l new.name) (adopted_names cs (Some new.name) rs) ∙ free) ∙ children) ∙ e
     by false e free = up r.parent old.0
       where
-        up : (o : Option ℕ) → HasParent nodes rs r.name o → HasParent others (map (adopted cs (Some new.name)) rs ++ new ∷ []) r.name o
+        up : (o : Option ℕ) → HasParent nodes rs r.name o → HasParent others (map (reparented_region cs (Some new.name)) rs ++ new ∷ []) r.name o
         up None h = outer r.name h e
         up (Some q) h =
-            children_push (map (adopted cs (Some new.name)) rs) new q r.name (ap (λ l. is_in l r.name) (adopted_children cs (Some new.name) rs q) ∙ h)
+            children_push (map (reparented_region cs (Some new.name)) rs) new q r.name (ap (λ l. is_in l r.name) (adopted_children cs (Some new.name) rs q) ∙ h)
 
 part-le : (f : ℕ → List ℕ) (cs : List ℕ) (c : ℕ) → is_in cs c ≡ true → length (f c) ≤ length (concat (map f cs))
 part-le f [] c h = absurd (false≢true h)
@@ -183,10 +183,10 @@ module _ (p : Problem) (regions : List Region) (marks : List (Option Mark)) (kep
   nodes = nodes_of marks regions
 
   abbrev others : List Node
-  others = joined name children nodes
+  others = joined_nodes name children nodes
 
   abbrev regions' : List Region
-  regions' = map (adopted children (Some name)) regions ++ new ∷ []
+  regions' = map (reparented_region children (Some name)) regions ++ new ∷ []
 
   blossom_node : node_of marks new ≡ blossom name children nodes
   blossom_node =
@@ -198,9 +198,9 @@ module _ (p : Problem) (regions : List Region) (marks : List (Option Mark)) (kep
       ∙ ap (λ l. record { name = name; children = children; below = []; top = record { value = 0; vertices = l } })
       (append-nil (concat (map (top_at nodes) children)))))))
 
-  pub joined_nodes : nodes_of marks regions' ≡ others
-  joined_nodes =
-      map-append (node_of marks) (map (adopted children (Some name)) regions) (new ∷ [])
+  pub nodes_joined : nodes_of marks regions' ≡ others
+  nodes_joined =
+      map-append (node_of marks) (map (reparented_region children (Some name)) regions) (new ∷ [])
       ∙ (ap (λ l. l ++ node_of marks new ∷ []) (adopted_nodes marks children (Some name) regions) ∙ ap (λ n. nodes ++ n ∷ []) blossom_node)
 
   nest : IsNest p others
@@ -240,7 +240,7 @@ module _ (p : Problem) (regions : List Region) (marks : List (Option Mark)) (kep
 
   radii_same : (x : ℕ) → radii_from regions' x ≡ radii_from regions x
   radii_same x =
-      radii_push (map (adopted children (Some name)) regions) new is.radius is.parent x
+      radii_push (map (reparented_region children (Some name)) regions) new is.radius is.parent x
       ∙ radii_adopted regions children name (Some name) (inr refl) none_bare may_adopt x
 
   outer_still : (x : ℕ) → is_outer nodes x ≡ true → is_in children x ≡ false → is_outer others x ≡ true
@@ -276,7 +276,7 @@ module _ (p : Problem) (regions : List Region) (marks : List (Option Mark)) (kep
       marked_moved p nodes others regions regions' marks marks v m old
       (covered_in p others nest over.node (among_left nodes (blossom name children nodes ∷ []) over.node over.among) v over.holds)
       (ap (λ l. is_in l m.source) (top_left nodes (blossom name children nodes ∷ []) m.leaf (in_top nodes m.leaf m.source old.leaf)) ∙ old.leaf)
-      (lone_push (map (adopted children (Some name)) regions) new m.leaf (adopted_lone children (Some name) regions m.leaf ∙ old.lone))
+      (childless_push (map (reparented_region children (Some name)) regions) new m.leaf (adopted_childless children (Some name) regions m.leaf ∙ old.childless))
       (joining.height p nodes name children may kept.nest v) (radii_same m.leaf)
       (λ d h. ap (λ l. is_in l d) (joining.same_leaves p nodes name children may kept.nest) ∙ h) (λ s e. refl)
 
@@ -306,32 +306,32 @@ module _ (p : Problem) (regions : List Region) (marks : List (Option Mark)) (kep
 
   pub kept_joined : IsKept p regions' marks
   kept_joined = record {
-    nest = subst (IsNest p) (sym joined_nodes) nest;
-    walks = subst (HaveWalks p) (sym joined_nodes) (walks_joined p nodes name children may kept.nest kept.walks);
+    nest = subst (IsNest p) (sym nodes_joined) nest;
+    walks = subst (HaveWalks p) (sym nodes_joined) (walks_joined p nodes name children may kept.nest kept.walks);
     room = kept.room;
     radii =
-        All-push (λ r. r.radius ≡ total_value (layers_of (node_of marks r))) (map (adopted children (Some name)) regions) new
+        All-push (λ r. r.radius ≡ total_value (layers_of (node_of marks r))) (map (reparented_region children (Some name)) regions) new
         (adopted_radii marks children (Some name) regions kept.radii)
         (is.radius ∙ ap (λ n. total_value (layers_of n)) (sym blossom_node));
     parents =
-        subst (λ ns. HaveParents ns regions') (sym joined_nodes)
-        (subst (λ x. HaveParents others (map (adopted children (Some x)) regions ++ new ∷ [])) is.name_is
+        subst (λ ns. HaveParents ns regions') (sym nodes_joined)
+        (subst (λ x. HaveParents others (map (reparented_region children (Some x)) regions ++ new ∷ [])) is.name_is
         (parents_joined nodes others children new regions fresh_name is.children_are outer_still kept.parents
         (subst (HasParent others [] new.name) (sym is.parent) (ap (is_outer others) is.name_is ∙ own_outer))));
     sets =
-        subst (λ ns. All (λ c. HasMarks marks c.vertices) (all_cuts ns)) (sym joined_nodes)
+        subst (λ ns. All (λ c. HasMarks marks c.vertices) (all_cuts ns)) (sym nodes_joined)
         (inserted_All (λ c. HasMarks marks c.vertices) (blossom name children nodes).top (all_cuts nodes) (all_cuts others)
         (joining.insertion p nodes name children may kept.nest) kept.sets own_set);
     listed =
-        All-push (IsListed marks) (map (adopted children (Some name)) regions) new (adopted_lists marks children (Some name) regions kept.listed)
+        All-push (IsListed marks) (map (reparented_region children (Some name)) regions) new (adopted_lists marks children (Some name) regions kept.listed)
         (record { first = subst (BeginsWith new.first) (sym is.first) is.begins; whole = whole_list });
     begins =
-        subst (λ ns. BeginAlike ns regions') (sym joined_nodes)
-        (All-push (λ r. BeginsFirst others r.first r.children.items) (map (adopted children (Some name)) regions) new
+        subst (λ ns. BeginAlike ns regions') (sym nodes_joined)
+        (All-push (λ r. BeginsFirst others r.first r.children.items) (map (reparented_region children (Some name)) regions) new
         (adopted_begun others children (Some name) regions (all_begun nodes others regions begun kept.begins))
         (subst (BeginsFirst others new.first) (sym is.children_are)
         (own_begins children (λ c h. is_in-All (λ x. is_live nodes x ≡ true) children may.live c h) is.begins)));
-    marked = λ v m has. subst (λ ns. IsMarked p ns regions' marks v m) (sym joined_nodes) (marked v m has);
+    marked = λ v m has. subst (λ ns. IsMarked p ns regions' marks v m) (sym nodes_joined) (marked v m has);
   }
 
 -- it has no more vertices than the problem
@@ -340,5 +340,5 @@ pub blossom_sized : (p : Problem) (regions : List Region) (marks : List (Option 
 blossom_sized p regions marks kept limits name children may =
     let nodes = nodes_of marks regions in
     let new = blossom name children nodes in
-    odd_sized p limits (leaves (joined name children nodes)) new.top
-    (top_is_odd p (joined name children nodes) (joining.nest_joined p nodes name children may kept.nest) new (among_right nodes (new ∷ []) new (inl refl)))
+    odd_sized p limits (leaves (joined_nodes name children nodes)) new.top
+    (top_is_odd p (joined_nodes name children nodes) (joining.nest_joined p nodes name children may kept.nest) new (among_right nodes (new ∷ []) new (inl refl)))

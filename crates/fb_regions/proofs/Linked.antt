@@ -14,7 +14,7 @@ use Rattle.fb_regions.specs.declared.listing.Listing.{Listing}
 use Rattle.fb_regions.specs.declared.marks.Mark.{Mark}
 use Rattle.fb_regions.specs.declared.region.Region.{Region}
 use Rattle.fb_regions.specs.InternalKept.{IsKept}
-use Rattle.fb_regions.specs.InternalListings.{IsListed, Linked, count_named, linked, linked_all, listing_at, region_named}
+use Rattle.fb_regions.specs.InternalListings.{IsListed, Linked, count_named, with_listing, linked_all, listing_at, region_named}
 use Rattle.fb_regions.specs.InternalNodes.{added_to, before_in, chain, first_of, node_of, nodes_of}
 use Rattle.fb_regions.specs.Moves.{BeginsWith}
 use Rattle.fb_regions.proofs.Behind.{kept_front, new_front, nodes_behind}
@@ -91,7 +91,7 @@ module _ (p : Problem) (regions : List Region) (nodes : List Node) where
 
   -- the list of an outer node behind one that is apart from it
   behind : (vs : List ℕ) (s : Linked) → IsLinked p regions nodes vs s → (c : ℕ) (n : IsNamed s.marks regions c) → is_outer nodes c ≡ true
-      → AreApart vs (top_at nodes c) → IsLinked p regions nodes (vs ++ top_at nodes c) (linked s (listing_at n.region))
+      → AreApart vs (top_at nodes c) → IsLinked p regions nodes (vs ++ top_at nodes c) (with_listing s (listing_at n.region))
   behind vs s is c n outer apart =
       let own = own_list s.marks is.kept is.nodes_are c n in
       let f : ℕ = n.region.first in
@@ -142,10 +142,10 @@ module _ (p : Problem) (regions : List Region) (nodes : List Node) where
       let next = behind vs s is c n (All-head (λ x. is_outer nodes x ≡ true) c cs outer)
       (All-head (AreApart vs) (top_at nodes c) (map (top_at nodes) cs) apart.0) in
       subst (λ o. IsLinked p regions nodes (vs ++ (top_at nodes c ++ concat (map (top_at nodes) cs)))
-      (linked_all regions cs (elim o as (λ x. Linked) [ None ↦ s | Some r ↦ linked s (listing_at r) ]))) (sym n.is)
-      (subst (λ l. IsLinked p regions nodes l (linked_all regions cs (linked s (listing_at n.region))))
+      (linked_all regions cs (elim o as (λ x. Linked) [ None ↦ s | Some r ↦ with_listing s (listing_at r) ]))) (sym n.is)
+      (subst (λ l. IsLinked p regions nodes l (linked_all regions cs (with_listing s (listing_at n.region))))
       (append_assoc vs (top_at nodes c) (concat (map (top_at nodes) cs)))
-      (linked_rest cs (vs ++ top_at nodes c) (linked s (listing_at n.region)) next (All-tail (λ x. is_live nodes x ≡ true) c cs live)
+      (linked_rest cs (vs ++ top_at nodes c) (with_listing s (listing_at n.region)) next (All-tail (λ x. is_live nodes x ≡ true) c cs live)
       (All-tail (λ x. is_outer nodes x ≡ true) c cs outer)
       (apart_joined vs (top_at nodes c) (map (top_at nodes) cs) (All-tail (AreApart vs) (top_at nodes c) (map (top_at nodes) cs) apart.0) apart.1.0, apart.1.1)))
 
@@ -161,7 +161,7 @@ linked_nodes p regions marks kept (c ∷ cs) listing some none live outer apart 
     let n = live_named marks regions c (All-head (λ x. is_live nodes x ≡ true) c cs live) in
     let start : Linked = record { marks = marks; listing = listing } in
     subst (λ o. IsLinked p regions nodes (concat (map (top_at nodes) (c ∷ cs)))
-    (linked_all regions cs (elim o as (λ x. Linked) [ None ↦ start | Some r ↦ linked start (listing_at r) ]))) (sym n.is)
+    (linked_all regions cs (elim o as (λ x. Linked) [ None ↦ start | Some r ↦ with_listing start (listing_at r) ]))) (sym n.is)
     (subst (λ s. IsLinked p regions nodes (concat (map (top_at nodes) (c ∷ cs))) (linked_all regions cs s))
     (sym (linked_first start (listing_at n.region) (eq-eqb listing.count 0 none)))
     (linked_rest p regions nodes cs (top_at nodes c) (record { marks = marks; listing = listing_at n.region }) (own_list p regions nodes marks kept refl c n)

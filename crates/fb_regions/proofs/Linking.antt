@@ -3,7 +3,7 @@ use Rattle.std.proofs.Common.{ℕ, ◌≡◌, ◌+◌, ◌<◌, ◌==◌, Bool, 
 use Rattle.std.proofs.lemmas.List.{drop_more}
 use Rattle.fb_regions.specs.declared.listing.Listing.{Listing}
 use Rattle.fb_regions.specs.declared.region.Region.{Region}
-use Rattle.fb_regions.specs.InternalListings.{Linked, count_named, linked, linked_all, listing_at, put_behind, region_named}
+use Rattle.fb_regions.specs.InternalListings.{Linked, count_named, with_listing, linked_all, listing_at, put_behind, region_named}
 use Rattle.fb_regions.proofs.Climbs.{next, no_next}
 use Rattle.fb_regions.proofs.ByName.{placed, placed_here, placed_past}
 
@@ -31,7 +31,7 @@ named_none (x ∷ xs) name out = by (x.name == name) refl (named_none xs name)
         ap (λ b. if b then Some x else region_named xs name) e ∙ rest (no_next (placed name xs) (sym (placed_past x xs name e) ∙ out))
 
 -- the first list, and one behind another
-pub linked_first : (s : Linked) (next : Listing) → (s.listing.count == 0) ≡ true → linked s next ≡ record { marks = s.marks; listing = next }
+pub linked_first : (s : Linked) (next : Listing) → (s.listing.count == 0) ≡ true → with_listing s next ≡ record { marks = s.marks; listing = next }
 linked_first s next e = ap (λ b. if b then record { marks = s.marks; listing = next } else more) e
   where
     more : Linked
@@ -41,7 +41,7 @@ linked_first s next e = ap (λ b. if b then record { marks = s.marks; listing = 
     }
 
 pub linked_more : (s : Linked) (next : Listing) → (s.listing.count == 0) ≡ false
-    → linked s next ≡ record {
+    → with_listing s next ≡ record {
       marks = put_behind s.marks next.first s.listing.last;
       listing = record { first = s.listing.first; count = s.listing.count + next.count; last = next.last };
     }
@@ -57,16 +57,16 @@ linked_more s next e =
 
 -- the next one of the names
 pub linked_next : (rs : List Region) (names : List ℕ) (i : ℕ) (s : Linked) (r : Region) → i < length names
-    → region_named rs (get_or names i 0) ≡ Some r → linked_all rs (drop i names) s ≡ linked_all rs (drop (i + 1) names) (linked s (listing_at r))
+    → region_named rs (get_or names i 0) ≡ Some r → linked_all rs (drop i names) s ≡ linked_all rs (drop (i + 1) names) (with_listing s (listing_at r))
 linked_next rs names i s r less is =
     ap (λ l. linked_all rs l s) (drop_more names i 0 less)
-    ∙ ap (λ o. linked_all rs (drop (i + 1) names) (elim o as (λ x. Linked) [ None ↦ s | Some q ↦ linked s (listing_at q) ])) is
+    ∙ ap (λ o. linked_all rs (drop (i + 1) names) (elim o as (λ x. Linked) [ None ↦ s | Some q ↦ with_listing s (listing_at q) ])) is
 
 pub linked_none : (rs : List Region) (names : List ℕ) (i : ℕ) (s : Linked) → i < length names
     → region_named rs (get_or names i 0) ≡ None → linked_all rs (drop i names) s ≡ linked_all rs (drop (i + 1) names) s
 linked_none rs names i s less is =
     ap (λ l. linked_all rs l s) (drop_more names i 0 less)
-    ∙ ap (λ o. linked_all rs (drop (i + 1) names) (elim o as (λ x. Linked) [ None ↦ s | Some q ↦ linked s (listing_at q) ])) is
+    ∙ ap (λ o. linked_all rs (drop (i + 1) names) (elim o as (λ x. Linked) [ None ↦ s | Some q ↦ with_listing s (listing_at q) ])) is
 
 pub counted_next : (rs : List Region) (names : List ℕ) (i : ℕ) (r : Region) → i < length names → region_named rs (get_or names i 0) ≡ Some r
     → count_named rs (drop i names) ≡ (r.base + r.added) + count_named rs (drop (i + 1) names)

@@ -93,7 +93,7 @@ listed_more marks r new v before first base base_last added last is =
           ∙ (ap (λ u. first_of marks r ++ (chain marks r.added u ++ v ∷ [])) (sym before) ∙ ap (λ k. first_of marks r ++ chain marks k v) (sym two))))));
     }
 
--- one that was taken up less at the end
+-- one that was absorbed less at the end
 pub listed_less : (marks : List (Option Mark)) (r new : Region) → 1 ≤ r.added → new.first ≡ r.first → new.base ≡ r.base
     → new.base_last ≡ r.base_last → new.added ≡ r.added - 1 → new.last ≡ before_of marks r.last → IsListed marks r → IsListed marks new
 listed_less marks r new some first base base_last added last is =

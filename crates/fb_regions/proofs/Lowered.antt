@@ -9,7 +9,7 @@ use Rattle.fb_graph.specs.Parity.{is_in}
 use Rattle.fb_graph.specs.Problem.{Problem}
 use Rattle.fb_graph.specs.Certificate.{AreDistinct, total_value}
 use Rattle.fb_graph.specs.Dual.{Node, all_cuts, is_outer, layers_of, leaves, top_at}
-use Rattle.fb_graph.specs.Moves.{MayUncover, lower, uncovered}
+use Rattle.fb_graph.specs.Moves.{MayUncover, without_top, uncovered_nodes}
 use Rattle.fb_graph.specs.Nests.{IsNest}
 use Rattle.fb_graph.specs.SourceWalks.{HaveWalks}
 use Rattle.fb_graph.specs.declared.parts.Cut.{Cut}
@@ -35,7 +35,7 @@ use Rattle.fb_regions.proofs.Listed.{distinct_before}
 use Rattle.fb_regions.proofs.Listings.{begins_left, left_begins, listed_less}
 use Rattle.fb_regions.proofs.Marking.{has_still, mark_new, mark_other, marked_below, node_still, nodes_still}
 use Rattle.fb_regions.proofs.Moved.{covered_in, in_top, marked_moved, some_cover, top_marks}
-use Rattle.fb_regions.proofs.Parents.{lone_set, parents_set}
+use Rattle.fb_regions.proofs.Parents.{childless_set, parents_set}
 use Rattle.fb_regions.proofs.Radii.{radii_set}
 
 take_front : (cs : List Cut) (c : Cut) → take (length cs) (cs ++ c ∷ []) ≡ cs
@@ -46,7 +46,7 @@ last_of : (cs : List Cut) (c d : Cut) → get_or (cs ++ c ∷ []) (length cs) d 
 last_of [] c d = refl
 last_of (x ∷ xs) c d = last_of xs c d
 
-lower_push : (n : Node) (cs : List Cut) (c : Cut) → n.below ≡ cs ++ c ∷ [] → lower n ≡ record n { below = cs; top = c }
+lower_push : (n : Node) (cs : List Cut) (c : Cut) → n.below ≡ cs ++ c ∷ [] → without_top n ≡ record n { below = cs; top = c }
 lower_push n cs c e =
     ap (λ l. record n { below = take (length l - 1) l; top = get_or l (length l - 1) n.top }) e
     ∙ (ap (λ k. record n { below = take k (cs ++ c ∷ []); top = get_or (cs ++ c ∷ []) k n.top }) (omega (arith, length-append cs (c ∷ [])))
@@ -62,7 +62,7 @@ module _ (p : Problem) (regions : List Region) (marks : List (Option Mark)) (kep
   nodes = nodes_of marks regions
 
   abbrev others : List Node
-  others = uncovered name nodes
+  others = uncovered_nodes name nodes
 
   abbrev x : ℕ
   x = old.last
@@ -109,14 +109,14 @@ module _ (p : Problem) (regions : List Region) (marks : List (Option Mark)) (kep
         ∙ (stack_push marks (first_of marks old) (added_to marks new) x
         ∙ ap (λ y. (node_of marks new).below ++ record { value = y; vertices = first_of marks old ++ added_to marks new } ∷ []) (ap under_in has))
 
-    lowered_node : node_of marks new ≡ lower (node_of marks old)
+    lowered_node : node_of marks new ≡ without_top (node_of marks old)
     lowered_node = sym (lower_push (node_of marks old) (node_of marks new).below (node_of marks new).top below_is)
 
     top_is : (node_of marks old).top.vertices ≡ (node_of marks new).top.vertices ++ x ∷ []
     top_is = ap (λ l. first_of marks old ++ l) chain_is ∙ sym (append_assoc (first_of marks old) (added_to marks new) (x ∷ []))
 
     mid : nodes_of marks (set regions i new) ≡ others
-    mid = there.changed new lower kept.nest.dual.names lowered_node
+    mid = there.changed new without_top kept.nest.dual.names lowered_node
 
     nest : IsNest p others
     nest = lowering.nest_uncovered p nodes name may kept.nest
@@ -125,23 +125,23 @@ module _ (p : Problem) (regions : List Region) (marks : List (Option Mark)) (kep
     out_own = distinct_before (node_of marks new).top.vertices [] x (subst AreDistinct top_is (top_is_odd p nodes kept.nest (node_of marks old) among).distinct)
 
     same_outer : (y : ℕ) → is_outer others y ≡ is_outer nodes y
-    same_outer y = mapped_outer (change name lower) (lowering.kept p nodes name may kept.nest).children nodes y
+    same_outer y = mapped_outer (change name without_top) (lowering.kept p nodes name may kept.nest).children nodes y
 
     out : (n : Node) → IsAmong n others → is_in n.top.vertices x ≡ false
     out n a =
         false_from_ne_true (is_in n.top.vertices x)
         (λ h.
         let under = under_outer others (grove_of p others nest) n a in
-        let (q, b, e) = among_map (change name lower) nodes under.node under.among in
+        let (q, b, e) = among_map (change name without_top) nodes under.node under.among in
         both_ways (is_in under.node.top.vertices x) (by q b under.node e under.outer) (under.within x h))
       where
-        by : (q : Node) → IsAmong q nodes → (q' : Node) → change name lower q ≡ q' → is_outer others q'.name ≡ true → is_in q'.top.vertices x ≡ false
+        by : (q : Node) → IsAmong q nodes → (q' : Node) → change name without_top q ≡ q' → is_outer others q'.name ≡ true → is_in q'.top.vertices x ≡ false
         by q b q' e outer =
             ap (λ y. is_in y.top.vertices x) (sym e)
-            ∙ by_name (λ y. y ≡ q' → is_in y.top.vertices x ≡ false) name lower q
+            ∙ by_name (λ y. y ≡ q' → is_in y.top.vertices x ≡ false) name without_top q
             (λ named f.
             let same : node_of marks old ≡ q = same_among nodes kept.nest.dual.names (node_of marks old) q among b (there.named ∙ sym named) in
-            ap (λ y. is_in (lower y).top.vertices x) (sym same) ∙ (ap (λ y. is_in y.top.vertices x) (sym lowered_node) ∙ out_own))
+            ap (λ y. is_in (without_top y).top.vertices x) (sym same) ∙ (ap (λ y. is_in y.top.vertices x) (sym lowered_node) ∙ out_own))
             (λ other f.
             false_from_ne_true (is_in q.top.vertices x)
             (λ h.
@@ -160,12 +160,12 @@ module _ (p : Problem) (regions : List Region) (marks : List (Option Mark)) (kep
         removed_All (λ c. HasMarks marks c.vertices) (lowering.at p nodes name may kept.nest).node.top (all_cuts others) (all_cuts nodes)
         (lowering.insertion p nodes name may kept.nest) kept.sets
 
-    still_in : (n : Node) → IsAmong n nodes → (u : ℕ) → (u ≡ x → ⊥) → is_in n.top.vertices u ≡ true → is_in (change name lower n).top.vertices u ≡ true
+    still_in : (n : Node) → IsAmong n nodes → (u : ℕ) → (u ≡ x → ⊥) → is_in n.top.vertices u ≡ true → is_in (change name without_top n).top.vertices u ≡ true
     still_in n a u other h =
-        by_name (λ y. is_in y.top.vertices u ≡ true) name lower n
+        by_name (λ y. is_in y.top.vertices u ≡ true) name without_top n
         (λ named.
         let same : node_of marks old ≡ n = same_among nodes kept.nest.dual.names (node_of marks old) n among a (there.named ∙ sym named) in
-        ap (λ y. is_in (lower y).top.vertices u) (sym same)
+        ap (λ y. is_in (without_top y).top.vertices u) (sym same)
         ∙ (ap (λ y. is_in y.top.vertices u) (sym lowered_node)
         ∙ pick (or_cases (is_in (node_of marks new).top.vertices u) (x == u)
         (sym (is_in_push (node_of marks new).top.vertices x u) ∙ (ap (λ s. is_in s u) (sym top_is) ∙ (ap (λ y. is_in y.top.vertices u) same ∙ h))))))
@@ -175,8 +175,8 @@ module _ (p : Problem) (regions : List Region) (marks : List (Option Mark)) (kep
         pick (inl k) = k
         pick (inr k) = absurd (other (sym (eqb-true x u k)))
 
-    changed_among : (n : Node) → IsAmong n nodes → IsAmong (change name lower n) others
-    changed_among n a = map_among (change name lower) nodes n a
+    changed_among : (n : Node) → IsAmong n nodes → IsAmong (change name without_top n) others
+    changed_among n a = map_among (change name without_top) nodes n a
 
     no_defect : is_in (leaves nodes) x ≡ false
     no_defect =
@@ -187,9 +187,9 @@ module _ (p : Problem) (regions : List Region) (marks : List (Option Mark)) (kep
     leaf_still y d other h =
         let (n, a, e) = live_among nodes y (in_top nodes y d h) in
         let old_top : top_at nodes y ≡ n.top.vertices = ap (top_at nodes) (sym e) ∙ top_among nodes kept.nest.dual.names n a in
-        let named : (change name lower n).name ≡ y = (lowering.kept p nodes name may kept.nest).name n ∙ e in
-        let new_top : top_at others y ≡ (change name lower n).top.vertices =
-        ap (top_at others) (sym named) ∙ top_among others nest.dual.names (change name lower n) (changed_among n a) in
+        let named : (change name without_top n).name ≡ y = (lowering.kept p nodes name may kept.nest).name n ∙ e in
+        let new_top : top_at others y ≡ (change name without_top n).top.vertices =
+        ap (top_at others) (sym named) ∙ top_among others nest.dual.names (change name without_top n) (changed_among n a) in
         ap (λ s. is_in s d) new_top ∙ still_in n a d other (ap (λ s. is_in s d) (sym old_top) ∙ h)
 
     marked : (u : ℕ) (mk : Mark) → (u ≡ x → ⊥) → mark_of marks u ≡ Some mk → IsMarked p others (set regions i new) marks' u mk
@@ -199,20 +199,20 @@ module _ (p : Problem) (regions : List Region) (marks : List (Option Mark)) (kep
         let over = cover_among nodes u c cover in
         let here = still_in over.node over.among u other over.holds in
         let place = changed_among over.node over.among in
-        marked_moved p nodes others regions (set regions i new) marks marks' u mk is (covered_in p others nest (change name lower over.node) place u here)
+        marked_moved p nodes others regions (set regions i new) marks marks' u mk is (covered_in p others nest (change name without_top over.node) place u here)
         (leaf_still mk.leaf mk.source (λ e. both_ways (is_in (leaves nodes) x) no_defect (ap (is_in (leaves nodes)) (sym e) ∙ is.defect)) is.leaf)
-        (lone_set regions i old new mk.leaf is_old there.below refl refl ∙ is.lone)
+        (childless_set regions i old new mk.leaf is_old there.below refl refl ∙ is.childless)
         (lowering.height p nodes name may kept.nest u)
         (radii_set regions i old new is_old there.below refl refl refl mk.leaf)
         (λ d h. ap (λ l. is_in l d) (lowering.same_leaves p nodes name may kept.nest) ∙ h)
         (λ t e.
-        let (mk', at'', is') = top_marks marks others mid_sets (change name lower over.node) place u here in
+        let (mk', at'', is') = top_marks marks others mid_sets (change name without_top over.node) place u here in
         let same : mk' ≡ mk = (let f : Some mk' ≡ Some mk = sym at'' ∙ at' in cc) in
-        let begins : is_in (change name lower over.node).top.vertices t.from ≡ true =
-        subst (BeginsIn (change name lower over.node).top.vertices) (ap (λ y. y.by) same ∙ e) is'.step in
+        let begins : is_in (change name without_top over.node).top.vertices t.from ≡ true =
+        subst (BeginsIn (change name without_top over.node).top.vertices) (ap (λ y. y.by) same ∙ e) is'.step in
         mark_other marks x t.from None
-        (λ f. both_ways (is_in (change name lower over.node).top.vertices x) (out (change name lower over.node) place)
-        (ap (is_in (change name lower over.node).top.vertices) (sym f) ∙ begins)))
+        (λ f. both_ways (is_in (change name without_top over.node).top.vertices x) (out (change name without_top over.node) place)
+        (ap (is_in (change name without_top over.node).top.vertices) (sym f) ∙ begins)))
 
     listed : AreListed marks' (set regions i new)
     listed =
@@ -228,12 +228,12 @@ module _ (p : Problem) (regions : List Region) (marks : List (Option Mark)) (kep
 
     begun : StayBegun nodes others
     begun v c h =
-        top_changed (BeginsWith v) (change name lower) nodes c (λ n. by_name (λ y. y.name ≡ n.name) name lower n (λ _. refl) (λ _. refl))
+        top_changed (BeginsWith v) (change name without_top) nodes c (λ n. by_name (λ y. y.name ≡ n.name) name without_top n (λ _. refl) (λ _. refl))
         (λ n a k.
-        by_name (λ y. BeginsWith v y.top.vertices) name lower n
+        by_name (λ y. BeginsWith v y.top.vertices) name without_top n
         (λ named.
         let same : node_of marks old ≡ n = same_among nodes kept.nest.dual.names (node_of marks old) n among a (there.named ∙ sym named) in
-        subst (λ y. BeginsWith v (lower y).top.vertices) same
+        subst (λ y. BeginsWith v (without_top y).top.vertices) same
         (subst (λ y. BeginsWith v y.top.vertices) lowered_node
         (left_begins v old.first (node_of marks new).top.vertices (x ∷ []) own_begun
         (subst (BeginsWith v) top_is (subst (λ y. BeginsWith v y.top.vertices) (sym same) k)))))

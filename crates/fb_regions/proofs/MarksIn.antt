@@ -9,7 +9,7 @@ use Rattle.fb_graph.specs.Parity.{is_in}
 use Rattle.fb_graph.proofs.Sets.{is_in-All}
 use Rattle.fb_regions.specs.declared.marks.Mark.{Mark}
 use Rattle.fb_regions.specs.InternalNodes.{mark_of, marks_in}
-use Rattle.fb_regions.specs.Sparse.{Sparse, entered, value_by, value_of}
+use Rattle.fb_regions.specs.Sparse.{Sparse, with_value, value_by, value_of}
 use Rattle.fb_regions.proofs.SparseValues.{bound_entered, value_entered, value_none}
 
 pub length-marks : (table : Sparse Mark) → length (marks_in table) ≡ table.bound
@@ -52,8 +52,8 @@ marks_set table other v o bound values =
         ∙ (sym (mark_below table k below) ∙ sym (get_or-set_other (marks_in table) v k o None differs))))
 
 pub marks_entered : (table : Sparse Mark) (v : ℕ) (m : Mark) → length table.values ≡ length table.keys
-    → marks_in (entered table v m) ≡ set (marks_in table) v (Some m)
-marks_entered table v m long = marks_set table (entered table v m) v (Some m) (bound_entered table v m) (λ k. value_entered table v k m long)
+    → marks_in (with_value table v m) ≡ set (marks_in table) v (Some m)
+marks_entered table v m long = marks_set table (with_value table v m) v (Some m) (bound_entered table v m) (λ k. value_entered table v k m long)
 
 pub marks_left : (table other : Sparse Mark) (v : ℕ) → other.bound ≡ table.bound
     → ((k : ℕ) → value_of other k ≡ (if k == v then None else value_of table k)) → marks_in other ≡ set (marks_in table) v None

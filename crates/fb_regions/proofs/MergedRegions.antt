@@ -6,7 +6,7 @@ use Rattle.fb_graph.specs.Parity.{is_in}
 use Rattle.fb_graph.specs.Dual.{Node, is_empty, is_outer}
 use Rattle.fb_graph.proofs.Sets.{is_in-head, is_in-tail}
 use Rattle.fb_regions.specs.declared.region.Region.{Region}
-use Rattle.fb_regions.specs.InternalKept.{HasParent, HaveParents, is_lone}
+use Rattle.fb_regions.specs.InternalKept.{HasParent, HaveParents, is_childless}
 use Rattle.fb_regions.specs.InternalNodes.{children_from, radii_from}
 use Rattle.fb_regions.specs.InternalPlaces.{AreJoinedAbove, IsJoinedIn}
 use Rattle.fb_regions.proofs.ByName.{names}
@@ -66,10 +66,10 @@ radii_behind (r ∷ rs) ss x out =
     ap (λ b. if b then r.radius + above (rs ++ ss) r.parent else radii_from (rs ++ ss) x) parts.0
     ∙ radii_behind rs ss x parts.1
 
-pub lone_before : (rs ss : List Region) (x : ℕ) → is_lone rs x ≡ true → is_lone (rs ++ ss) x ≡ true
-lone_before rs ss x h =
-    list_any-append (λ r. (r.name == x) && is_empty r.children.items) rs ss ∙ or_left (is_lone rs x) (is_lone ss x) h
+pub childless_before : (rs ss : List Region) (x : ℕ) → is_childless rs x ≡ true → is_childless (rs ++ ss) x ≡ true
+childless_before rs ss x h =
+    list_any-append (λ r. (r.name == x) && is_empty r.children.items) rs ss ∙ or_left (is_childless rs x) (is_childless ss x) h
 
-pub lone_behind : (rs ss : List Region) (x : ℕ) → is_lone ss x ≡ true → is_lone (rs ++ ss) x ≡ true
-lone_behind rs ss x h =
-    list_any-append (λ r. (r.name == x) && is_empty r.children.items) rs ss ∙ or_right (is_lone rs x) (is_lone ss x) h
+pub childless_behind : (rs ss : List Region) (x : ℕ) → is_childless ss x ≡ true → is_childless (rs ++ ss) x ≡ true
+childless_behind rs ss x h =
+    list_any-append (λ r. (r.name == x) && is_empty r.children.items) rs ss ∙ or_right (is_childless rs x) (is_childless ss x) h

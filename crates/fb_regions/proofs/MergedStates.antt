@@ -35,9 +35,9 @@ use Rattle.fb_regions.proofs.ByName.{names}
 use Rattle.fb_regions.proofs.Found.{names_of, no_top}
 use Rattle.fb_regions.proofs.Indexed.{joined_above}
 use Rattle.fb_regions.proofs.MergedMarks.{AgreeOn, listed_kept, listed_renamed, node_kept, node_renamed}
-use Rattle.fb_regions.proofs.MergedRegions.{lone_before, lone_behind, parents_append, radii_before, radii_behind}
+use Rattle.fb_regions.proofs.MergedRegions.{childless_before, childless_behind, parents_append, radii_before, radii_behind}
 use Rattle.fb_regions.proofs.Moved.{covered_in, in_top, some_cover, top_marks}
-use Rattle.fb_regions.proofs.RenamedRegions.{AreApartBy, children_renamed, lone_renamed, parents_renamed, radii_renamed}
+use Rattle.fb_regions.proofs.RenamedRegions.{AreApartBy, children_renamed, childless_renamed, parents_renamed, radii_renamed}
 
 -- a vertex came as before where the marks before it are there under other names
 came_over : (p whole : Problem) (f : ℕ → ℕ) (defects others : List ℕ) (old new : List (Option Mark)) (v : ℕ) (m : Mark)
@@ -215,7 +215,7 @@ module _ (left right whole : Problem) (regions others : List Region) (marks more
       record {
         covered = covered_in whole all nest under.node (among_left lefts renamed under.node under.among) v under.holds;
         leaf = ap (λ l. is_in l m.source) (left_top m.leaf live) ∙ is.leaf;
-        lone = lone_before regions (renamed_regions f others) m.leaf is.lone;
+        childless = childless_before regions (renamed_regions f others) m.leaf is.childless;
         defect = left_leaf m.source is.defect;
         balance =
             omega (
@@ -239,7 +239,7 @@ module _ (left right whole : Problem) (regions others : List Region) (marks more
             covered_in whole all nest (renamed_node f under.node)
             (among_right lefts renamed (renamed_node f under.node) (map_among (renamed_node f) rights under.node under.among)) v under.holds;
         leaf = ap (λ l. is_in l m.source) (right_top m.leaf live) ∙ is.leaf;
-        lone = lone_behind regions (renamed_regions f others) (f m.leaf) (lone_renamed f others m.leaf is.lone);
+        childless = childless_behind regions (renamed_regions f others) (f m.leaf) (childless_renamed f others m.leaf is.childless);
         defect = right_leaf m.source is.defect;
         balance =
             omega (

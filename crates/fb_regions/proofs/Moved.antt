@@ -15,7 +15,7 @@ use Rattle.fb_regions.specs.declared.marks.Hop.{Hop}
 use Rattle.fb_regions.specs.declared.marks.Mark.{Mark}
 use Rattle.fb_regions.specs.declared.region.Region.{Region}
 use Rattle.fb_regions.specs.InternalNodes.{mark_of, nodes_of, radii_from}
-use Rattle.fb_regions.specs.InternalKept.{CameBy, HasMarks, IsAfter, IsKept, IsMarked, is_lone}
+use Rattle.fb_regions.specs.InternalKept.{CameBy, HasMarks, IsAfter, IsKept, IsMarked, is_childless}
 use Rattle.fb_regions.proofs.Found.{no_top}
 
 pub covered_in : (p : Problem) (nodes : List Node) → IsNest p nodes → (n : Node) → IsAmong n nodes → (v : ℕ) → is_in n.top.vertices v ≡ true
@@ -59,14 +59,14 @@ came_still p defects others old new v m more (Some s) stays h = (h.0, subst (IsA
 
 pub marked_moved : (p : Problem) (nodes others : List Node) (regions behind : List Region) (old new : List (Option Mark)) (v : ℕ) (m : Mark)
     → IsMarked p nodes regions old v m → IsSome (cover_of others v) → is_in (top_at others m.leaf) m.source ≡ true
-    → is_lone behind m.leaf ≡ true
+    → is_childless behind m.leaf ≡ true
     → height_of (all_cuts others) v ≡ height_of (all_cuts nodes) v → radii_from behind m.leaf ≡ radii_from regions m.leaf
     → ((u : ℕ) → is_in (leaves nodes) u ≡ true → is_in (leaves others) u ≡ true)
     → ((s : Hop) → m.by ≡ Some s → mark_of new s.from ≡ mark_of old s.from) → IsMarked p others behind new v m
-marked_moved p nodes others regions behind old new v m is covered leaf lone height radii more stays = record {
+marked_moved p nodes others regions behind old new v m is covered leaf childless height radii more stays = record {
   covered = covered;
   leaf = leaf;
-  lone = lone;
+  childless = childless;
   defect = more m.source is.defect;
   balance = omega (arith, is.balance, height, radii);
   came = came_still p (leaves nodes) (leaves others) old new v m more m.by stays is.came;

@@ -17,7 +17,7 @@ use Rattle.fb_graph.proofs.Sets.{is_in-All}
 use Rattle.fb_regions.specs.declared.marks.Mark.{Mark}
 use Rattle.fb_regions.specs.declared.region.Region.{Region}
 use Rattle.fb_regions.specs.InternalNodes.{chain, first_of, mark_of, node_of, nodes_of, radii_from, stack}
-use Rattle.fb_regions.specs.InternalKept.{BeginsIn, CameBy, HasMarks, HasParent, HaveParents, IsKept, IsMarked, is_lone}
+use Rattle.fb_regions.specs.InternalKept.{BeginsIn, CameBy, HasMarks, HasParent, HaveParents, IsKept, IsMarked, is_childless}
 use Rattle.fb_regions.specs.InternalListings.{BeginAlike, BeginsFirst, IsListed}
 use Rattle.fb_regions.specs.Moves.{BeginsWith}
 use Rattle.fb_regions.proofs.Begun.{StayBegun, all_begun, lists_still}
@@ -25,7 +25,7 @@ use Rattle.fb_regions.proofs.Leaves.{height, leaf_still, nest_opened, not_in_cut
 use Rattle.fb_regions.proofs.Listings.{begins_in, listed_one}
 use Rattle.fb_regions.proofs.Marking.{has_still, mark_new, mark_other, node_still, nodes_still}
 use Rattle.fb_regions.proofs.Moved.{covered_in, from_marked, in_top, marked_moved, not_covered, some_cover, unmarked}
-use Rattle.fb_regions.proofs.Parents.{lone_last, lone_push, parents_push}
+use Rattle.fb_regions.proofs.Parents.{childless_last, childless_push, parents_push}
 use Rattle.fb_regions.proofs.Radii.{IsBare, no_radii, radii_push}
 use Rattle.fb_graph.proofs.Forests.{cuts_under}
 use Rattle.fb_graph.proofs.NestParts.{grove_of}
@@ -119,7 +119,7 @@ module _ (p : Problem) (regions : List Region) (marks : List (Option Mark)) (kep
       marked_moved p nodes others regions (regions ++ new ∷ []) marks marks' u mk old
       (covered_in p others nest over.node (among_left nodes (leaf name v ∷ []) over.node over.among) u over.holds)
       (ap (λ l. is_in l mk.source) (top_left nodes (leaf name v ∷ []) mk.leaf (in_top nodes mk.leaf mk.source old.leaf)) ∙ old.leaf)
-      (lone_push regions new mk.leaf old.lone)
+      (childless_push regions new mk.leaf old.childless)
       (height p nodes name v fresh real free kept.nest u)
       (radii_push regions new is.radius is.parent mk.leaf)
       (leaf_still p nodes name v fresh real free kept.nest)
@@ -134,7 +134,7 @@ module _ (p : Problem) (regions : List Region) (marks : List (Option Mark)) (kep
         ap (λ x. is_in (top_at others x) m.source) own.leaf
         ∙ (ap (λ s. is_in s m.source) (top_among others nest.dual.names (leaf name v) (among_right nodes (leaf name v ∷ []) (leaf name v) (inl refl)))
         ∙ (ap (is_in (v ∷ [])) own.source ∙ own_in));
-    lone = ap (is_lone (regions ++ new ∷ [])) own.leaf ∙ lone_last regions new name is.name_is is.children;
+    childless = ap (is_childless (regions ++ new ∷ [])) own.leaf ∙ childless_last regions new name is.name_is is.children;
     defect = ap (is_in (leaves others)) own.source ∙ own_leaf p nodes name v fresh real free kept.nest;
     balance =
         omega (

@@ -5,7 +5,7 @@ use Rattle.std.proofs.lemmas.List.{ext_get_or, get_or-append-add, get_or-replica
 use Rattle.std.proofs.lemmas.List.FromFn.{get_or-map-range_with_len, length-map-range_with_len}
 use Rattle.std.proofs.lemmas.List.Sums.{get_or-le-sum_by, sum_by-set}
 use Rattle.std.specs.List.{sum_by}
-use Rattle.fb_regions.specs.InternalPages.{missing, no_place, number_at, numbers_of, slot, ArePaged}
+use Rattle.fb_regions.specs.InternalPages.{missing_pages, no_place, number_at, numbers_of, slot, ArePaged}
 
 pub length-numbers : (count : ℕ) (places numbers : List ℕ) → length (numbers_of count places numbers) ≡ count
 length-numbers count places numbers = length-map-range_with_len (number_at places numbers) 0 count
@@ -49,14 +49,14 @@ module _ (places numbers : List ℕ) (room : ℕ) (paged : ArePaged places numbe
   -- a page that isn't filled gets numbers behind the others
   module _ (page place more : ℕ) (longer : List ℕ) (less : page < length places) (out : get_or places page no_place ≡ no_place)
       (next : place ≡ length numbers / 512) (is : longer ≡ numbers ++ replicate 512 0) (fits : room ≤ more) where
-    others : sum_by missing (set places page place) + missing (get_or places page no_place) ≡ sum_by missing places + missing place
-    others = sum_by-set missing places page place no_place less
+    others : sum_by missing_pages (set places page place) + missing_pages (get_or places page no_place) ≡ sum_by missing_pages places + missing_pages place
+    others = sum_by-set missing_pages places page place no_place less
 
-    was_missing : missing (get_or places page no_place) ≡ 1
-    was_missing = ap missing out
+    was_missing : missing_pages (get_or places page no_place) ≡ 1
+    was_missing = ap missing_pages out
 
-    some_missing : 1 ≤ sum_by missing places
-    some_missing = omega (arith, was_missing, get_or-le-sum_by missing places page no_place less)
+    some_missing : 1 ≤ sum_by missing_pages places
+    some_missing = omega (arith, was_missing, get_or-le-sum_by missing_pages places page no_place less)
 
     pub room_for_page : length numbers + 512 ≤ 2 ^ 32
     room_for_page = omega (arith, paged.counted, paged.few, some_missing)
@@ -64,7 +64,7 @@ module _ (places numbers : List ℕ) (room : ℕ) (paged : ArePaged places numbe
     whole : 512 * place ≡ length numbers
     whole = omega (arith, paged.counted, next)
 
-    is_filled : missing place ≡ 0
+    is_filled : missing_pages place ≡ 0
     is_filled = ap (λ b. if b then 1 else 0) (ne_eqb place no_place (λ e. absurd (omega (arith, e, whole, room_for_page))))
 
     long : length longer ≡ length numbers + 512

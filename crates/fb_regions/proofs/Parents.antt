@@ -6,7 +6,7 @@ use Rattle.fb_graph.specs.Parity.{is_in}
 use Rattle.fb_graph.specs.Dual.{Node, is_empty, is_outer}
 use Rattle.fb_regions.specs.declared.region.Region.{Region}
 use Rattle.fb_regions.specs.InternalNodes.{children_from}
-use Rattle.fb_regions.specs.InternalKept.{HasParent, HaveParents, is_lone}
+use Rattle.fb_regions.specs.InternalKept.{HasParent, HaveParents, is_childless}
 
 -- outer nodes stay outer
 abbrev pub StayOuter : List Node → List Node → Type 0
@@ -71,23 +71,23 @@ parents_set nodes others (r ∷ rs) (suc i) old new outer at less names children
   parents_set nodes others rs i old new outer at (omega arith) names children parents h.1,
 )
 
-pub lone_push : (rs : List Region) (new : Region) (x : ℕ) → is_lone rs x ≡ true → is_lone (rs ++ new ∷ []) x ≡ true
-lone_push rs new x h =
+pub childless_push : (rs : List Region) (new : Region) (x : ℕ) → is_childless rs x ≡ true → is_childless (rs ++ new ∷ []) x ≡ true
+childless_push rs new x h =
     list_any-append (λ r. (r.name == x) && is_empty r.children.items) rs (new ∷ [])
-    ∙ or_left (is_lone rs x) (is_lone (new ∷ []) x) h
+    ∙ or_left (is_childless rs x) (is_childless (new ∷ []) x) h
 
-pub lone_last : (rs : List Region) (new : Region) (x : ℕ) → new.name ≡ x → new.children.items ≡ [] → is_lone (rs ++ new ∷ []) x ≡ true
-lone_last rs new x named none =
+pub childless_last : (rs : List Region) (new : Region) (x : ℕ) → new.name ≡ x → new.children.items ≡ [] → is_childless (rs ++ new ∷ []) x ≡ true
+childless_last rs new x named none =
     list_any-append (λ r. (r.name == x) && is_empty r.children.items) rs (new ∷ [])
-    ∙ or_right (is_lone rs x) (is_lone (new ∷ []) x)
+    ∙ or_right (is_childless rs x) (is_childless (new ∷ []) x)
     (or_left ((new.name == x) && is_empty new.children.items) false
     (ap (λ b. b && is_empty new.children.items) (eq-eqb new.name x named) ∙ ap is_empty none))
 
-pub lone_set : (rs : List Region) (i : ℕ) (old new : Region) (x : ℕ) → old ≡ get_or rs i old → i < length rs → new.name ≡ old.name
-    → new.children.items ≡ old.children.items → is_lone (set rs i new) x ≡ is_lone rs x
-lone_set [] i old new x at less names children = absurd (omega arith)
-lone_set (r ∷ rs) zero old new x at less names children =
-    ap (λ n. ((n == x) && is_empty new.children.items) || is_lone rs x) (names ∙ ap (λ y. y.name) at)
-    ∙ ap (λ l. ((r.name == x) && is_empty l) || is_lone rs x) (children ∙ ap (λ y. y.children.items) at)
-lone_set (r ∷ rs) (suc i) old new x at less names children =
-    ap (λ b. ((r.name == x) && is_empty r.children.items) || b) (lone_set rs i old new x at (omega arith) names children)
+pub childless_set : (rs : List Region) (i : ℕ) (old new : Region) (x : ℕ) → old ≡ get_or rs i old → i < length rs → new.name ≡ old.name
+    → new.children.items ≡ old.children.items → is_childless (set rs i new) x ≡ is_childless rs x
+childless_set [] i old new x at less names children = absurd (omega arith)
+childless_set (r ∷ rs) zero old new x at less names children =
+    ap (λ n. ((n == x) && is_empty new.children.items) || is_childless rs x) (names ∙ ap (λ y. y.name) at)
+    ∙ ap (λ l. ((r.name == x) && is_empty l) || is_childless rs x) (children ∙ ap (λ y. y.children.items) at)
+childless_set (r ∷ rs) (suc i) old new x at less names children =
+    ap (λ b. ((r.name == x) && is_empty r.children.items) || b) (childless_set rs i old new x at (omega arith) names children)

@@ -6,7 +6,7 @@ use Rattle.std.proofs.lemmas.List.Elements.{All-head, All-tail}
 use Rattle.fb_graph.specs.Parity.{is_in}
 use Rattle.fb_graph.specs.Certificate.{AreDistinct}
 use Rattle.fb_regions.specs.declared.region.Region.{Region}
-use Rattle.fb_regions.specs.InternalNodes.{adopted, radii_from, root_from}
+use Rattle.fb_regions.specs.InternalNodes.{reparented_region, radii_from, root_from}
 use Rattle.fb_regions.proofs.ByName.{name_known}
 
 -- the sum for the node of this name; 0 where there is none
@@ -67,10 +67,10 @@ abbrev pub MayAdopt : List ℕ → ℕ → Region → Type 0
 MayAdopt names b r = is_in names r.name ≡ true → (r.parent ≡ None) ⊎ (r.parent ≡ Some b)
 
 pub radii_adopted : (rs : List Region) (names : List ℕ) (b : ℕ) (o : Option ℕ) → (o ≡ None) ⊎ (o ≡ Some b) → All (IsBare b) rs → All (MayAdopt names b) rs
-    → (x : ℕ) → radii_from (map (adopted names o) rs) x ≡ radii_from rs x
+    → (x : ℕ) → radii_from (map (reparented_region names o) rs) x ≡ radii_from rs x
 radii_adopted [] names b o is bare may x = refl
 radii_adopted (r ∷ rs) names b o is bare may x =
-    radii_cons (adopted names o r) r (map (adopted names o) rs) rs (same_name (is_in names r.name)) (same_radius (is_in names r.name))
+    radii_cons (reparented_region names o r) r (map (reparented_region names o) rs) rs (same_name (is_in names r.name)) (same_radius (is_in names r.name))
     (by (is_in names r.name) refl (radii_adopted rs names b o is (All-tail (IsBare b) r rs bare) (All-tail (MayAdopt names b) r rs may)))
     (radii_adopted rs names b o is (All-tail (IsBare b) r rs bare) (All-tail (MayAdopt names b) r rs may)) x
   where
@@ -86,12 +86,12 @@ radii_adopted (r ∷ rs) names b o is bare may x =
     nothing ss p (inl e) h = ap (above ss) e
     nothing ss p (inr e) h = ap (above ss) e ∙ h
 
-    by : (c : Bool) → is_in names r.name ≡ c → ((y : ℕ) → radii_from (map (adopted names o) rs) y ≡ radii_from rs y)
-        → above (map (adopted names o) rs) (if c then record r { parent = o } else r).parent ≡ above rs r.parent
+    by : (c : Bool) → is_in names r.name ≡ c → ((y : ℕ) → radii_from (map (reparented_region names o) rs) y ≡ radii_from rs y)
+        → above (map (reparented_region names o) rs) (if c then record r { parent = o } else r).parent ≡ above rs r.parent
     by true e rest =
         let none : radii_from rs b ≡ 0 = no_radii rs b (All-tail (IsBare b) r rs bare) in
-        nothing (map (adopted names o) rs) o is (rest b ∙ none) ∙ sym (nothing rs r.parent (All-head (MayAdopt names b) r rs may e) none)
-    by false e rest = above_by (map (adopted names o) rs) rs rest r.parent
+        nothing (map (reparented_region names o) rs) o is (rest b ∙ none) ∙ sym (nothing rs r.parent (All-head (MayAdopt names b) r rs may e) none)
+    by false e rest = above_by (map (reparented_region names o) rs) rs rest r.parent
 
 pub radii_removed : (rs : List Region) (i b : ℕ) (old : Region) → old ≡ get_or rs i old → i < length rs → old.name ≡ b → All (IsBare b) rs
     → (x : ℕ) → radii_from (remove rs i) x ≡ radii_from rs x

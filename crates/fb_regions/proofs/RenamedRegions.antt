@@ -8,7 +8,7 @@ use Rattle.fb_graph.proofs.Among.{any_among, among_any, map_among}
 use Rattle.fb_graph.proofs.RenamedNodes.{in_renamed}
 use Rattle.fb_graph.proofs.Sets.{is_in-head, is_in-tail}
 use Rattle.fb_regions.specs.declared.region.Region.{Region}
-use Rattle.fb_regions.specs.InternalKept.{HasParent, HaveParents, is_lone}
+use Rattle.fb_regions.specs.InternalKept.{HasParent, HaveParents, is_childless}
 use Rattle.fb_regions.specs.InternalMerged.{renamed_region, renamed_regions}
 use Rattle.fb_regions.specs.InternalNodes.{children_from, radii_from}
 use Rattle.fb_regions.specs.InternalPlaces.{AreJoinedAbove, IsJoinedIn}
@@ -107,9 +107,9 @@ radii_renamed f (r ∷ rs) x apart joined known =
         ∙ (ap (λ n. r.radius + n) (up rest r.parent joined.0) ∙ ap old (sym e))
     by false e h rest = ap chosen (other_renamed f r rs x apart h e) ∙ (rest x h ∙ ap old (sym e))
 
-pub lone_renamed : (f : ℕ → ℕ) (rs : List Region) (x : ℕ) → is_lone rs x ≡ true → is_lone (renamed_regions f rs) (f x) ≡ true
-lone_renamed f rs x lone =
-    let (r, a, e) = any_among (λ s. (s.name == x) && is_empty s.children.items) rs lone in
+pub childless_renamed : (f : ℕ → ℕ) (rs : List Region) (x : ℕ) → is_childless rs x ≡ true → is_childless (renamed_regions f rs) (f x) ≡ true
+childless_renamed f rs x childless =
+    let (r, a, e) = any_among (λ s. (s.name == x) && is_empty s.children.items) rs childless in
     let (named, none) = and_parts (r.name == x) (is_empty r.children.items) e in
     among_any (λ s. (s.name == f x) && is_empty s.children.items) (renamed_regions f rs) (renamed_region f r)
     (map_among (renamed_region f) rs r a)

@@ -6,7 +6,7 @@ use Rattle.fb_graph.specs.Parity.{is_in}
 use Rattle.fb_graph.specs.Certificate.{AreDistinct}
 use Rattle.fb_graph.proofs.ParitySums.{and-false}
 use Rattle.fb_graph.proofs.Sets.{equal_sym, is_in-cases, is_in_at}
-use Rattle.fb_regions.specs.Sparse.{Sparse, entered, replaced, value_by, value_of}
+use Rattle.fb_regions.specs.Sparse.{Sparse, with_value, replaced_values, value_by, value_of}
 use Rattle.fb_regions.proofs.Stored.{length-swapped, swapped_here, swapped_other}
 
 -- a member's place
@@ -39,13 +39,13 @@ value_none (k ∷ ks) (x ∷ xs) key out =
     ap (λ b. if b then Some x else value_by ks xs key) parts.0 ∙ value_none ks xs key parts.1
 
 replaced_at : {T : Type 0} (keys : List ℕ) (values : List T) (i key : ℕ) (y : T) → AreDistinct keys → i < length keys → i < length values
-    → get_or keys i 0 ≡ key → replaced keys values key y ≡ set values i y
+    → get_or keys i 0 ≡ key → replaced_values keys values key y ≡ set values i y
 replaced_at [] values i key y distinct less long at = absurd (omega arith)
 replaced_at (k ∷ ks) [] i key y distinct less long at = absurd (omega arith)
 replaced_at (k ∷ ks) (x ∷ xs) zero key y distinct less long at =
-    ap (λ b. if b then y ∷ xs else x ∷ replaced ks xs key y) (eq-eqb k key at)
+    ap (λ b. if b then y ∷ xs else x ∷ replaced_values ks xs key y) (eq-eqb k key at)
 replaced_at (k ∷ ks) (x ∷ xs) (suc i) key y distinct less long at =
-    ap (λ b. if b then y ∷ xs else x ∷ replaced ks xs key y)
+    ap (λ b. if b then y ∷ xs else x ∷ replaced_values ks xs key y)
     (false_from_ne_true (k == key)
     (λ e. both_ways (is_in ks k) distinct.0 (ap (is_in ks) (eqb-true k key e ∙ sym at) ∙ is_in_at ks i 0 (omega (arith, less)))))
     ∙ ap (λ l. x ∷ l) (replaced_at ks xs i key y distinct.1 (omega (arith, less)) (omega (arith, long)) at)
@@ -53,25 +53,25 @@ replaced_at (k ∷ ks) (x ∷ xs) (suc i) key y distinct less long at =
 -- the value of a key that the table has, replaced at the key's place
 pub entered_known : {T : Type 0} (bound : ℕ) (keys : List ℕ) (values : List T) (i key : ℕ) (y : T) → AreDistinct keys → length values ≡ length keys
     → i < length keys → get_or keys i 0 ≡ key → is_in keys key ≡ true
-    → record { bound = bound; keys = keys; values = set values i y } ≡ entered (record { bound = bound; keys = keys; values = values }) key y
+    → record { bound = bound; keys = keys; values = set values i y } ≡ with_value (record { bound = bound; keys = keys; values = values }) key y
 entered_known {T} bound keys values i key y distinct long less at known =
     ap (λ vs. table keys vs) (sym (replaced_at keys values i key y distinct less (omega (arith, long, less)) at))
-    ∙ sym (ap (λ b. if b then table keys (replaced keys values key y) else table (keys ++ key ∷ []) (values ++ y ∷ [])) known)
+    ∙ sym (ap (λ b. if b then table keys (replaced_values keys values key y) else table (keys ++ key ∷ []) (values ++ y ∷ [])) known)
   where
     table : List ℕ → List T → Sparse T
     table ks vs = record { bound = bound; keys = ks; values = vs }
 
 value_replaced : {T : Type 0} (keys : List ℕ) (values : List T) (key k : ℕ) (y : T) → length values ≡ length keys → is_in keys key ≡ true
-    → value_by keys (replaced keys values key y) k ≡ (if k == key then Some y else value_by keys values k)
+    → value_by keys (replaced_values keys values key y) k ≡ (if k == key then Some y else value_by keys values k)
 value_replaced [] values key k y long known = absurd (both_ways (is_in [] key) refl known)
 value_replaced (j ∷ js) [] key k y long known = absurd (omega (arith, long))
 value_replaced {T} (j ∷ js) (x ∷ xs) key k y long known =
     by (j == key) refl (cases_eq k key) (λ later. value_replaced js xs key k y (omega (arith, long)) later) known
   where
     by : (b : Bool) → (j == key) ≡ b → (k ≡ key) ⊎ (k ≡ key → ⊥)
-        → (is_in js key ≡ true → value_by js (replaced js xs key y) k ≡ (if k == key then Some y else value_by js xs k))
+        → (is_in js key ≡ true → value_by js (replaced_values js xs key y) k ≡ (if k == key then Some y else value_by js xs k))
         → is_in (j ∷ js) key ≡ true
-        → value_by (j ∷ js) (if b then y ∷ xs else x ∷ replaced js xs key y) k ≡ (if k == key then Some y else value_by (j ∷ js) (x ∷ xs) k)
+        → value_by (j ∷ js) (if b then y ∷ xs else x ∷ replaced_values js xs key y) k ≡ (if k == key then Some y else value_by (j ∷ js) (x ∷ xs) k)
     by true e (inl same) rest known' =
         let at : (j == k) ≡ true = eq-eqb j k (eqb-true j key e ∙ sym same) in
         ap (λ b. if b then Some y else value_by js xs k) at ∙ sym (ap (λ b. if b then Some y else value_by (j ∷ js) (x ∷ xs) k) (eq-eqb k key same))
@@ -82,7 +82,7 @@ value_replaced {T} (j ∷ js) (x ∷ xs) key k y long known =
         ∙ sym (ap (λ b. if b then Some y else value_by (j ∷ js) (x ∷ xs) k) (ne_eqb k key other)))
     by false e (inl same) rest known' =
         let at : (j == k) ≡ false = ap (λ u. j == u) same ∙ e in
-        ap (λ b. if b then Some x else value_by js (replaced js xs key y) k) at
+        ap (λ b. if b then Some x else value_by js (replaced_values js xs key y) k) at
         ∙ (rest (sym (ap (λ b. b || is_in js key) e) ∙ known')
         ∙ (ap (λ b. if b then Some y else value_by js xs k) (eq-eqb k key same)
         ∙ sym (ap (λ b. if b then Some y else value_by (j ∷ js) (x ∷ xs) k) (eq-eqb k key same))))
@@ -114,23 +114,23 @@ value_pushed (j ∷ js) (x ∷ xs) key k y long out =
 
 -- a table with a key entered has that value there, and the others elsewhere
 pub value_entered : {T : Type 0} (s : Sparse T) (key k : ℕ) (y : T) → length s.values ≡ length s.keys
-    → value_of (entered s key y) k ≡ (if k == key then Some y else value_of s k)
+    → value_of (with_value s key y) k ≡ (if k == key then Some y else value_of s k)
 value_entered {T} s key k y long = by (is_in s.keys key) refl
   where
     by : (b : Bool) → is_in s.keys key ≡ b
-        → value_of (if b then record { bound = s.bound; keys = s.keys; values = replaced s.keys s.values key y }
+        → value_of (if b then record { bound = s.bound; keys = s.keys; values = replaced_values s.keys s.values key y }
         else record { bound = s.bound; keys = s.keys ++ key ∷ []; values = s.values ++ y ∷ [] }) k ≡ (if k == key then Some y else value_of s k)
     by true known = value_replaced s.keys s.values key k y long known
     by false out = value_pushed s.keys s.values key k y long out
 
-pub bound_entered : {T : Type 0} (s : Sparse T) (key : ℕ) (y : T) → (entered s key y).bound ≡ s.bound
+pub bound_entered : {T : Type 0} (s : Sparse T) (key : ℕ) (y : T) → (with_value s key y).bound ≡ s.bound
 bound_entered {T} s key y = by (is_in s.keys key)
   where
     bound_of : Sparse T → ℕ
     bound_of t = t.bound
 
     by : (b : Bool)
-        → bound_of (if b then record { bound = s.bound; keys = s.keys; values = replaced s.keys s.values key y }
+        → bound_of (if b then record { bound = s.bound; keys = s.keys; values = replaced_values s.keys s.values key y }
         else record { bound = s.bound; keys = s.keys ++ key ∷ []; values = s.values ++ y ∷ [] }) ≡ s.bound
     by true = refl
     by false = refl

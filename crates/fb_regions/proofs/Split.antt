@@ -10,7 +10,7 @@ use Rattle.fb_graph.specs.Parity.{is_in}
 use Rattle.fb_graph.specs.Problem.{Problem}
 use Rattle.fb_graph.specs.Certificate.{AreDistinct, total_value}
 use Rattle.fb_graph.specs.Dual.{Node, AreApart, all_cuts, cover_of, first_vertices, is_empty, is_live, is_outer, layers_of, top_at}
-use Rattle.fb_graph.specs.Moves.{MaySplit, split}
+use Rattle.fb_graph.specs.Moves.{MaySplit, split_nodes}
 use Rattle.fb_graph.specs.Nests.{IsNest, IsFilled, AreJoinedLater}
 use Rattle.fb_graph.specs.SourceWalks.{HaveWalks}
 use Rattle.fb_graph.proofs.Among.{IsAmong, All_among, among_All, among_outer, cover_among, from_concat, live_among, map_among, outer_among, same_among, top_among}
@@ -21,13 +21,13 @@ use Rattle.fb_graph.proofs.SourceWalks.{walks_split}
 use Rattle.fb_graph.proofs.SplitNests as splitting
 use Rattle.fb_regions.specs.declared.marks.Mark.{Mark}
 use Rattle.fb_regions.specs.declared.region.Region.{Region}
-use Rattle.fb_regions.specs.InternalNodes.{adopted, children_from, mark_of, node_of, nodes_of, radii_from}
-use Rattle.fb_regions.specs.InternalKept.{HasMarks, HasParent, HaveParents, IsKept, IsMarked, is_lone}
+use Rattle.fb_regions.specs.InternalNodes.{reparented_region, children_from, mark_of, node_of, nodes_of, radii_from}
+use Rattle.fb_regions.specs.InternalKept.{HasMarks, HasParent, HaveParents, IsKept, IsMarked, is_childless}
 use Rattle.fb_regions.specs.InternalListings.{BeginAlike, BeginsFirst, IsListed}
 use Rattle.fb_regions.specs.Moves.{BeginsWith}
 use Rattle.fb_regions.proofs.ByName.{name_known}
 use Rattle.fb_regions.proofs.Found.{IsFound, found, names_of}
-use Rattle.fb_regions.proofs.Joined.{adopted_begun, adopted_children, adopted_lists, adopted_lone, adopted_nodes, adopted_radii}
+use Rattle.fb_regions.proofs.Joined.{adopted_begun, adopted_children, adopted_lists, adopted_childless, adopted_nodes, adopted_radii}
 use Rattle.fb_regions.proofs.Moved.{covered_in, marked_moved, some_cover}
 use Rattle.fb_regions.proofs.Radii.{IsBare, MayAdopt, radii_adopted, radii_removed}
 use Rattle.fb_regions.proofs.Roots.{joiner, outer_alone}
@@ -42,19 +42,19 @@ still_among (x ∷ xs) (suc i) r (inl e) = inl e
 still_among (x ∷ xs) (suc i) r (inr a) = inr (still_among xs i r a)
 
 kept_all : (marks : List (Option Mark)) (name : ℕ) (rs : List Region) → is_in (map (λ r. r.name) rs) name ≡ false
-    → split name (nodes_of marks rs) ≡ nodes_of marks rs
+    → split_nodes name (nodes_of marks rs) ≡ nodes_of marks rs
 kept_all marks name [] out = refl
 kept_all marks name (r ∷ rs) out =
     let parts = or_parts (r.name == name) (is_in (map (λ s. s.name) rs) name) out in
-    ap (λ b. if not b then node_of marks r ∷ split name (nodes_of marks rs) else split name (nodes_of marks rs)) parts.0
+    ap (λ b. if not b then node_of marks r ∷ split_nodes name (nodes_of marks rs) else split_nodes name (nodes_of marks rs)) parts.0
     ∙ ap (λ l. node_of marks r ∷ l) (kept_all marks name rs parts.1)
 
 removed_nodes : (marks : List (Option Mark)) (rs : List Region) (i name : ℕ) (old : Region) → AreDistinct (map (λ r. r.name) rs) → old ≡ get_or rs i old
-    → i < length rs → old.name ≡ name → nodes_of marks (remove rs i) ≡ split name (nodes_of marks rs)
+    → i < length rs → old.name ≡ name → nodes_of marks (remove rs i) ≡ split_nodes name (nodes_of marks rs)
 removed_nodes marks [] i name old distinct at less named = absurd (omega arith)
 removed_nodes marks (r ∷ rs) zero name old distinct at less named =
     let same : r.name ≡ name = ap (λ y. y.name) (sym at) ∙ named in
-    sym (ap (λ b. if not b then node_of marks r ∷ split name (nodes_of marks rs) else split name (nodes_of marks rs)) (eq-eqb r.name name same)
+    sym (ap (λ b. if not b then node_of marks r ∷ split_nodes name (nodes_of marks rs) else split_nodes name (nodes_of marks rs)) (eq-eqb r.name name same)
     ∙ kept_all marks name rs (ap (is_in (map (λ s. s.name) rs)) (sym same) ∙ distinct.0))
 removed_nodes marks (r ∷ rs) (suc i) name old distinct at less named =
     let other : (r.name == name) ≡ false =
@@ -63,7 +63,7 @@ removed_nodes marks (r ∷ rs) (suc i) name old distinct at less named =
     both_ways (is_in (map (λ s. s.name) rs) r.name) distinct.0
     (ap (is_in (map (λ s. s.name) rs)) (eqb-true r.name name e ∙ sym named) ∙ name_known rs i old at (omega arith))) in
     ap (λ l. node_of marks r ∷ l) (removed_nodes marks rs i name old distinct.1 at (omega arith) named)
-    ∙ sym (ap (λ b. if not b then node_of marks r ∷ split name (nodes_of marks rs) else split name (nodes_of marks rs)) other)
+    ∙ sym (ap (λ b. if not b then node_of marks r ∷ split_nodes name (nodes_of marks rs) else split_nodes name (nodes_of marks rs)) other)
 
 -- two nodes that join the same one are one
 joined_once : (ns : List Node) → AreJoinedLater ns → (m n : Node) → IsAmong m ns → IsAmong n ns → (c : ℕ) → is_in m.children c ≡ true
@@ -85,34 +85,34 @@ children_left (r ∷ rs) zero q old at less other =
 children_left (r ∷ rs) (suc i) q old at less other =
     ap (λ l. if r.name == q then r.children.items else l) (children_left rs i q old at (omega arith) other)
 
-lone_left : (rs : List Region) (i x : ℕ) (old : Region) → old ≡ get_or rs i old → i < length rs → is_empty old.children.items ≡ false
-    → is_lone (remove rs i) x ≡ is_lone rs x
-lone_left [] i x old at less some = absurd (omega arith)
-lone_left (r ∷ rs) zero x old at less some =
-    sym (ap (λ b. ((r.name == x) && b) || is_lone rs x) (ap (λ y. is_empty y.children.items) (sym at) ∙ some) ∙ by (r.name == x))
+childless_left : (rs : List Region) (i x : ℕ) (old : Region) → old ≡ get_or rs i old → i < length rs → is_empty old.children.items ≡ false
+    → is_childless (remove rs i) x ≡ is_childless rs x
+childless_left [] i x old at less some = absurd (omega arith)
+childless_left (r ∷ rs) zero x old at less some =
+    sym (ap (λ b. ((r.name == x) && b) || is_childless rs x) (ap (λ y. is_empty y.children.items) (sym at) ∙ some) ∙ by (r.name == x))
   where
-    by : (b : Bool) → ((b && false) || is_lone rs x) ≡ is_lone rs x
+    by : (b : Bool) → ((b && false) || is_childless rs x) ≡ is_childless rs x
     by true = refl
     by false = refl
-lone_left (r ∷ rs) (suc i) x old at less some =
-    ap (λ b. ((r.name == x) && is_empty r.children.items) || b) (lone_left rs i x old at (omega arith) some)
+childless_left (r ∷ rs) (suc i) x old at less some =
+    ap (λ b. ((r.name == x) && is_empty r.children.items) || b) (childless_left rs i x old at (omega arith) some)
 
-lone_node : (marks : List (Option Mark)) (rs : List Region) (x : ℕ) → is_lone rs x ≡ true → is_live (nodes_of marks rs) x ≡ true
-lone_node marks [] x h = absurd (false≢true h)
-lone_node marks (r ∷ rs) x h = by (or_cases ((r.name == x) && is_empty r.children.items) (is_lone rs x) h) (lone_node marks rs x)
+childless_node : (marks : List (Option Mark)) (rs : List Region) (x : ℕ) → is_childless rs x ≡ true → is_live (nodes_of marks rs) x ≡ true
+childless_node marks [] x h = absurd (false≢true h)
+childless_node marks (r ∷ rs) x h = by (or_cases ((r.name == x) && is_empty r.children.items) (is_childless rs x) h) (childless_node marks rs x)
   where
-    by : (((r.name == x) && is_empty r.children.items) ≡ true) ⊎ (is_lone rs x ≡ true) → (is_lone rs x ≡ true → is_live (nodes_of marks rs) x ≡ true)
+    by : (((r.name == x) && is_empty r.children.items) ≡ true) ⊎ (is_childless rs x ≡ true) → (is_childless rs x ≡ true → is_live (nodes_of marks rs) x ≡ true)
         → ((r.name == x) || is_live (nodes_of marks rs) x) ≡ true
     by (inl e) rest = or_left (r.name == x) (is_live (nodes_of marks rs) x) (and_parts (r.name == x) (is_empty r.children.items) e).0
     by (inr e) rest = or_right (r.name == x) (is_live (nodes_of marks rs) x) (rest e)
 
 -- the set of a node that is left
-top_split : (nodes : List Node) (name c : ℕ) → (c ≡ name → ⊥) → top_at (split name nodes) c ≡ top_at nodes c
+top_split : (nodes : List Node) (name c : ℕ) → (c ≡ name → ⊥) → top_at (split_nodes name nodes) c ≡ top_at nodes c
 top_split [] name c other = refl
 top_split (n ∷ ns) name c other = by (n.name == name) refl (top_split ns name c other)
   where
-    by : (b : Bool) → (n.name == name) ≡ b → top_at (split name ns) c ≡ top_at ns c
-        → top_at (if not b then n ∷ split name ns else split name ns) c ≡ top_at (n ∷ ns) c
+    by : (b : Bool) → (n.name == name) ≡ b → top_at (split_nodes name ns) c ≡ top_at ns c
+        → top_at (if not b then n ∷ split_nodes name ns else split_nodes name ns) c ≡ top_at (n ∷ ns) c
     by false e rest = ap (λ l. if n.name == c then n.top.vertices else l) rest
     by true e rest =
         rest
@@ -125,13 +125,13 @@ module _ (p : Problem) (regions : List Region) (marks : List (Option Mark)) (kep
   nodes = nodes_of marks regions
 
   abbrev others : List Node
-  others = split name nodes
+  others = split_nodes name nodes
 
   abbrev cs : List ℕ
   cs = old.children.items
 
   abbrev regions' : List Region
-  regions' = map (adopted cs None) (remove regions i)
+  regions' = map (reparented_region cs None) (remove regions i)
 
   there : IsFound marks regions name i old
   there = found marks regions name i old at is_old
@@ -149,8 +149,8 @@ module _ (p : Problem) (regions : List Region) (marks : List (Option Mark)) (kep
   removed : nodes_of marks (remove regions i) ≡ others
   removed = removed_nodes marks regions i name old names is_old there.below there.named
 
-  pub split_nodes : nodes_of marks regions' ≡ others
-  split_nodes = adopted_nodes marks cs None (remove regions i) ∙ removed
+  pub nodes_split : nodes_of marks regions' ≡ others
+  nodes_split = adopted_nodes marks cs None (remove regions i) ∙ removed
 
   nest : IsNest p others
   nest = splitting.nest_split p nodes name may kept.nest
@@ -217,20 +217,20 @@ module _ (p : Problem) (regions : List Region) (marks : List (Option Mark)) (kep
       parts.1 (ap (λ n. n.name) (joined_once nodes kept.nest.forest.joined q (node_of marks old) parts.0 among x h child) ∙ there.named)))
 
   parents_left : (rs : List Region) (j : ℕ) → ((r : Region) → IsAmong r rs → IsAmong r regions) → old ≡ get_or rs j old → j < length rs → HaveParents nodes rs
-      → HaveParents others (map (adopted cs None) (remove rs j))
+      → HaveParents others (map (reparented_region cs None) (remove rs j))
   parents_left [] j some is less parents = absurd (omega arith)
   parents_left (r ∷ rs) zero some is less parents = rest rs parents.1
     where
-      rest : (xs : List Region) → HaveParents nodes xs → HaveParents others (map (adopted cs None) xs)
+      rest : (xs : List Region) → HaveParents nodes xs → HaveParents others (map (reparented_region cs None) xs)
       rest [] h = tt
       rest (x ∷ xs) h = (by (is_in cs x.name) refl, rest xs h.1)
         where
           by : (b : Bool) → is_in cs x.name ≡ b
-              → HasParent others (map (adopted cs None) xs) (if b then record x { parent = None } else x).name (if b then record x { parent = None } else x).parent
+              → HasParent others (map (reparented_region cs None) xs) (if b then record x { parent = None } else x).name (if b then record x { parent = None } else x).parent
           by true e = outer_child x.name e
           by false e = up x.parent h.0
             where
-              up : (o : Option ℕ) → HasParent nodes xs x.name o → HasParent others (map (adopted cs None) xs) x.name o
+              up : (o : Option ℕ) → HasParent nodes xs x.name o → HasParent others (map (reparented_region cs None) xs) x.name o
               up None k = outer_still x.name k
               up (Some q) k = ap (λ l. is_in l x.name) (adopted_children cs None xs q) ∙ k
   parents_left (r ∷ rs) (suc j) some is less parents = (
@@ -239,11 +239,11 @@ module _ (p : Problem) (regions : List Region) (marks : List (Option Mark)) (kep
   )
     where
       by : (b : Bool) → is_in cs r.name ≡ b
-          → HasParent others (map (adopted cs None) (remove rs j)) (if b then record r { parent = None } else r).name (if b then record r { parent = None } else r).parent
+          → HasParent others (map (reparented_region cs None) (remove rs j)) (if b then record r { parent = None } else r).name (if b then record r { parent = None } else r).parent
       by true e = outer_child r.name e
       by false e = up r.parent parents.0
         where
-          up : (o : Option ℕ) → HasParent nodes rs r.name o → HasParent others (map (adopted cs None) (remove rs j)) r.name o
+          up : (o : Option ℕ) → HasParent nodes rs r.name o → HasParent others (map (reparented_region cs None) (remove rs j)) r.name o
           up None k = outer_still r.name k
           up (Some q) k = ap (λ l. is_in l r.name) (adopted_children cs None (remove rs j) q ∙ children_left rs j q old is (omega arith) other) ∙ k
             where
@@ -285,14 +285,14 @@ module _ (p : Problem) (regions : List Region) (marks : List (Option Mark)) (kep
   marked : (v : ℕ) (m : Mark) → mark_of marks v ≡ Some m → IsMarked p others regions' marks v m
   marked v m has =
       let old_is : IsMarked p nodes regions marks v m = kept.marked v m has in
-      let lone : is_lone (remove regions i) m.leaf ≡ true = lone_left regions i m.leaf old is_old there.below bare.0 ∙ old_is.lone in
-      marked_moved p nodes others regions regions' marks marks v m old_is (left_over v old_is.covered) (leaf m.leaf m.source lone old_is.leaf)
-      (adopted_lone cs None (remove regions i) m.leaf ∙ lone) (splitting.height p nodes name may kept.nest v) (radii_same m.leaf)
+      let childless : is_childless (remove regions i) m.leaf ≡ true = childless_left regions i m.leaf old is_old there.below bare.0 ∙ old_is.childless in
+      marked_moved p nodes others regions regions' marks marks v m old_is (left_over v old_is.covered) (leaf m.leaf m.source childless old_is.leaf)
+      (adopted_childless cs None (remove regions i) m.leaf ∙ childless) (splitting.height p nodes name may kept.nest v) (radii_same m.leaf)
       (λ d h. ap (λ l. is_in l d) (splitting.same_leaves p nodes name may kept.nest) ∙ h) (λ s e. refl)
     where
-      leaf : (x d : ℕ) → is_lone (remove regions i) x ≡ true → is_in (top_at nodes x) d ≡ true → is_in (top_at others x) d ≡ true
-      leaf x d lone h =
-          let (n, a, named) = live_among others x (subst (λ ns. is_live ns x ≡ true) removed (lone_node marks (remove regions i) x lone)) in
+      leaf : (x d : ℕ) → is_childless (remove regions i) x ≡ true → is_in (top_at nodes x) d ≡ true → is_in (top_at others x) d ≡ true
+      leaf x d childless h =
+          let (n, a, named) = live_among others x (subst (λ ns. is_live ns x ≡ true) removed (childless_node marks (remove regions i) x childless)) in
           let one : top_at nodes x ≡ n.top.vertices = ap (top_at nodes) (sym named) ∙ top_among nodes kept.nest.dual.names n (among_split name nodes n a).0 in
           let two : top_at others x ≡ n.top.vertices = ap (top_at others) (sym named) ∙ top_among others nest.dual.names n a in
           ap (λ s. is_in s d) two ∙ (ap (λ s. is_in s d) (sym one) ∙ h)
@@ -311,26 +311,26 @@ module _ (p : Problem) (regions : List Region) (marks : List (Option Mark)) (kep
 
   pub kept_split : IsKept p regions' marks
   kept_split = record {
-    nest = subst (IsNest p) (sym split_nodes) nest;
-    walks = subst (HaveWalks p) (sym split_nodes) (walks_split p nodes name may kept.nest kept.walks);
+    nest = subst (IsNest p) (sym nodes_split) nest;
+    walks = subst (HaveWalks p) (sym nodes_split) (walks_split p nodes name may kept.nest kept.walks);
     room = kept.room;
     radii =
         adopted_radii marks cs None (remove regions i)
         (among_All (λ r. r.radius ≡ total_value (layers_of (node_of marks r))) (remove regions i) (λ r a. radius_of r (still_among regions i r a)));
-    parents = subst (λ ns. HaveParents ns regions') (sym split_nodes) (parents_left regions i (λ r a. a) is_old there.below kept.parents);
+    parents = subst (λ ns. HaveParents ns regions') (sym nodes_split) (parents_left regions i (λ r a. a) is_old there.below kept.parents);
     sets =
-        subst (λ ns. All (λ c. HasMarks marks c.vertices) (all_cuts ns)) (sym split_nodes)
+        subst (λ ns. All (λ c. HasMarks marks c.vertices) (all_cuts ns)) (sym nodes_split)
         (removed_All (λ c. HasMarks marks c.vertices) (splitting.at p nodes name may kept.nest).node.top (all_cuts others) (all_cuts nodes)
         (splitting.insertion p nodes name may kept.nest) kept.sets);
     listed =
         adopted_lists marks cs None (remove regions i)
         (among_All (IsListed marks) (remove regions i) (λ r a. All_among (IsListed marks) regions kept.listed r (still_among regions i r a)));
     begins =
-        subst (λ ns. BeginAlike ns regions') (sym split_nodes)
+        subst (λ ns. BeginAlike ns regions') (sym nodes_split)
         (adopted_begun others cs None (remove regions i)
         (among_All (λ r. BeginsFirst others r.first r.children.items) (remove regions i)
         (λ r a.
         left_begins r (still_among regions i r a) r.children.items (λ c h. h)
         (All_among (λ s. BeginsFirst nodes s.first s.children.items) regions kept.begins r (still_among regions i r a)))));
-    marked = λ v m has. subst (λ ns. IsMarked p ns regions' marks v m) (sym split_nodes) (marked v m has);
+    marked = λ v m has. subst (λ ns. IsMarked p ns regions' marks v m) (sym nodes_split) (marked v m has);
   }

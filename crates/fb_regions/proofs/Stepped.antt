@@ -11,12 +11,12 @@ use Rattle.fb_graph.specs.Problem.{Problem, crosses}
 use Rattle.fb_graph.specs.Certificate.{AreDistinct, load_of, total_value}
 use Rattle.fb_graph.specs.Counts.{as_count}
 use Rattle.fb_graph.specs.Covers.{AreRoles, passes}
-use Rattle.fb_graph.specs.Dual.{Node, AllowsGrowth, IsCrossed, all_cuts, change_at, cover_of, height_of, is_outer, layers_of, leaves, thicker, top_at}
+use Rattle.fb_graph.specs.Dual.{Node, AllowsGrowth, IsCrossed, all_cuts, change_at, cover_of, height_of, is_outer, layers_of, leaves, thicker_node, top_at}
 use Rattle.fb_graph.specs.Limits.{IsWithinLimits}
 use Rattle.fb_graph.specs.Nests.{IsNest}
 use Rattle.fb_graph.specs.SourceWalks.{HaveWalks}
-use Rattle.fb_graph.specs.Steps.{Roles, MayStep, gains, losses, stepped, stepped_node}
-use Rattle.fb_graph.specs.Turns.{also_minus, also_plus, no_roles, thinner}
+use Rattle.fb_graph.specs.Steps.{Roles, MayStep, gains, losses, stepped_nodes, stepped_node}
+use Rattle.fb_graph.specs.Turns.{with_minus, with_plus, no_roles, thinner_node}
 use Rattle.fb_graph.specs.declared.parts.Edge.{Edge}
 use Rattle.fb_graph.proofs.Among.{IsAmong, All_among, among_All, top_among}
 use Rattle.fb_graph.proofs.Nodes.{All-flat_map, All-pieces, All-top, All-below}
@@ -34,11 +34,11 @@ use Rattle.fb_regions.proofs.Begun.{set_begun}
 use Rattle.fb_regions.proofs.Found.{among_at, names_of}
 use Rattle.fb_regions.proofs.Listings.{listed_alike}
 use Rattle.fb_regions.proofs.Moved.{came_still, same_cover}
-use Rattle.fb_regions.proofs.Parents.{lone_set, parents_set}
+use Rattle.fb_regions.proofs.Parents.{childless_set, parents_set}
 use Rattle.fb_regions.proofs.Radii.{is_some_of, radii_shifted}
 use Rattle.fb_regions.proofs.Roots.{outer_alone, root_covers}
 
-gains_absent : (name : ℕ) (ns : List Node) (e : Edge) → is_in (map (λ n. n.name) ns) name ≡ false → gains (also_plus no_roles name) ns e ≡ 0
+gains_absent : (name : ℕ) (ns : List Node) (e : Edge) → is_in (map (λ n. n.name) ns) name ≡ false → gains (with_plus no_roles name) ns e ≡ 0
 gains_absent name [] e out = refl
 gains_absent name (n ∷ ns) e out =
     let parts = or_parts (n.name == name) (is_in (map (λ m. m.name) ns) name) out in
@@ -50,13 +50,13 @@ gains_absent name (n ∷ ns) e out =
     )
 
 gains_alone : (name : ℕ) (ns : List Node) (e : Edge) → AreDistinct (map (λ n. n.name) ns)
-    → gains (also_plus no_roles name) ns e ≤ as_count (crosses (top_at ns name) e)
+    → gains (with_plus no_roles name) ns e ≤ as_count (crosses (top_at ns name) e)
 gains_alone name [] e distinct = omega arith
 gains_alone name (n ∷ ns) e distinct = step (cases_Bool (n.name == name)) (gains_alone name ns e distinct.1)
   where
     step : ((n.name == name) ≡ true) ⊎ ((n.name == name) ≡ false)
-        → gains (also_plus no_roles name) ns e ≤ as_count (crosses (top_at ns name) e)
-        → gains (also_plus no_roles name) (n ∷ ns) e ≤ as_count (crosses (top_at (n ∷ ns) name) e)
+        → gains (with_plus no_roles name) ns e ≤ as_count (crosses (top_at ns name) e)
+        → gains (with_plus no_roles name) (n ∷ ns) e ≤ as_count (crosses (top_at (n ∷ ns) name) e)
     step (inl here) rest =
         omega (
           arith,
@@ -74,7 +74,7 @@ gains_alone name (n ∷ ns) e distinct = step (cases_Bool (n.name == name)) (gai
           ap (λ b. as_count (crosses (cond b n.top.vertices (top_at ns name)) e)) other,
         )
 
-gains_none : (name : ℕ) (ns : List Node) (e : Edge) → gains (also_minus no_roles name) ns e ≡ 0
+gains_none : (name : ℕ) (ns : List Node) (e : Edge) → gains (with_minus no_roles name) ns e ≡ 0
 gains_none name [] e = refl
 gains_none name (n ∷ ns) e =
     omega (arith, sum_by-cons (λ m. as_count (false && crosses m.top.vertices e)) n ns, gains_none name ns e)
@@ -86,7 +86,7 @@ pub record IsTurn (p : Problem) (nodes : List Node) (roles : Roles) (k : ℕ) : 
   pub crossed : All (λ n. roles.is_plus n.name ≡ true → IsCrossed p n.top.vertices) nodes
 
 module _ (p : Problem) (nodes : List Node) (nest : IsNest p nodes) (name k : ℕ) (outer : is_outer nodes name ≡ true) where
-  pub grown_turn : IsCrossed p (top_at nodes name) → AllowsGrowth p nodes (top_at nodes name) k → IsTurn p nodes (also_plus no_roles name) k
+  pub grown_turn : IsCrossed p (top_at nodes name) → AllowsGrowth p nodes (top_at nodes name) k → IsTurn p nodes (with_plus no_roles name) k
   grown_turn crossed room = record {
     are = record {
       exclusive = λ n h. refl;
@@ -104,18 +104,18 @@ module _ (p : Problem) (nodes : List Node) (nest : IsNest p nodes) (name k : ℕ
   }
     where
       fits : (e : Edge) → (crosses (top_at nodes name) e ≡ true → load_of (all_cuts nodes) e + k ≤ e.weight) → load_of (all_cuts nodes) e ≤ e.weight
-          → load_of (all_cuts nodes) e + k * gains (also_plus no_roles name) nodes e ≤ e.weight + k * losses (also_plus no_roles name) nodes e
+          → load_of (all_cuts nodes) e + k * gains (with_plus no_roles name) nodes e ≤ e.weight + k * losses (with_plus no_roles name) nodes e
       fits e bound fit =
-          let most : k * gains (also_plus no_roles name) nodes e ≤ k * as_count (crosses (top_at nodes name) e) =
+          let most : k * gains (with_plus no_roles name) nodes e ≤ k * as_count (crosses (top_at nodes name) e) =
           mul-le-mul_left k (gains_alone name nodes e nest.dual.names) in
           by (crosses (top_at nodes name) e) most bound
         where
-          by : (b : Bool) → k * gains (also_plus no_roles name) nodes e ≤ k * as_count b → (b ≡ true → load_of (all_cuts nodes) e + k ≤ e.weight)
-              → load_of (all_cuts nodes) e + k * gains (also_plus no_roles name) nodes e ≤ e.weight + k * losses (also_plus no_roles name) nodes e
+          by : (b : Bool) → k * gains (with_plus no_roles name) nodes e ≤ k * as_count b → (b ≡ true → load_of (all_cuts nodes) e + k ≤ e.weight)
+              → load_of (all_cuts nodes) e + k * gains (with_plus no_roles name) nodes e ≤ e.weight + k * losses (with_plus no_roles name) nodes e
           by true most b = omega (arith, most, b refl)
           by false most b = omega (arith, most, fit)
 
-  pub shrunk_turn : ((n : Node) → IsAmong n nodes → n.name ≡ name → k ≤ n.top.value) → IsTurn p nodes (also_minus no_roles name) k
+  pub shrunk_turn : ((n : Node) → IsAmong n nodes → n.name ≡ name → k ≤ n.top.value) → IsTurn p nodes (with_minus no_roles name) k
   shrunk_turn low = record {
     are = record {
       exclusive = λ n h. absurd (false≢true h);
@@ -131,22 +131,22 @@ module _ (p : Problem) (nodes : List Node) (nest : IsNest p nodes) (name k : ℕ
   }
     where
       fits : (e : Edge) → load_of (all_cuts nodes) e ≤ e.weight
-          → load_of (all_cuts nodes) e + k * gains (also_minus no_roles name) nodes e ≤ e.weight + k * losses (also_minus no_roles name) nodes e
+          → load_of (all_cuts nodes) e + k * gains (with_minus no_roles name) nodes e ≤ e.weight + k * losses (with_minus no_roles name) nodes e
       fits e fit = omega (arith, fit, ap (λ m. k * m) (gains_none name nodes e))
 
-pub thicker_as_step : (name k : ℕ) (nodes : List Node) → change_at name (thicker k) nodes ≡ stepped (also_plus no_roles name) k nodes
+pub thicker_as_step : (name k : ℕ) (nodes : List Node) → change_at name (thicker_node k) nodes ≡ stepped_nodes (with_plus no_roles name) k nodes
 thicker_as_step name k nodes =
-    ap (change_at name (thicker k)) (sym (no_turn k nodes)) ∙ grown_next no_roles k name nodes refl refl
+    ap (change_at name (thicker_node k)) (sym (no_turn k nodes)) ∙ grown_next no_roles k name nodes refl refl
 
-pub thinner_as_step : (name k : ℕ) (nodes : List Node) → change_at name (thinner k) nodes ≡ stepped (also_minus no_roles name) k nodes
+pub thinner_as_step : (name k : ℕ) (nodes : List Node) → change_at name (thinner_node k) nodes ≡ stepped_nodes (with_minus no_roles name) k nodes
 thinner_as_step name k nodes =
-    ap (change_at name (thinner k)) (sym (no_turn k nodes)) ∙ shrunk_next no_roles k name nodes refl refl
+    ap (change_at name (thinner_node k)) (sym (no_turn k nodes)) ∙ shrunk_next no_roles k name nodes refl refl
 
 -- the sets stay, so what is said of them alone does
 pub sets_stepped : (P : List ℕ → Type 0) (roles : Roles) (k : ℕ) (nodes : List Node) → All (λ c. P c.vertices) (all_cuts nodes)
-    → All (λ c. P c.vertices) (all_cuts (stepped roles k nodes))
+    → All (λ c. P c.vertices) (all_cuts (stepped_nodes roles k nodes))
 sets_stepped P roles k nodes h =
-    All-flat_map (λ c. P c.vertices) layers_of (stepped roles k nodes)
+    All-flat_map (λ c. P c.vertices) layers_of (stepped_nodes roles k nodes)
     (All-map (λ n. All (λ c. P c.vertices) (layers_of n)) (stepped_node roles k) nodes
     (among_All (λ n. All (λ c. P c.vertices) (layers_of (stepped_node roles k n))) nodes
     (λ n a.
@@ -170,14 +170,14 @@ module _ (p : Problem) (regions : List Region) (marks : List (Option Mark)) (kep
     (less : i < length regions) (same : IsRevalued old new) (outer : is_outer (nodes_of marks regions) old.name ≡ true)
     (shift : new.radius + a ≡ old.radius + b)
     (radius : new.radius ≡ total_value (layers_of (node_of marks new)))
-    (nodes_are : nodes_of marks (set regions i new) ≡ stepped roles k (nodes_of marks regions))
+    (nodes_are : nodes_of marks (set regions i new) ≡ stepped_nodes roles k (nodes_of marks regions))
     (up : (o : Option ℕ) → k * as_count (passes roles.is_plus o) ≡ cond (is_some_of o old.name) b 0)
     (down : (o : Option ℕ) → k * as_count (passes roles.is_minus o) ≡ cond (is_some_of o old.name) a 0) where
   abbrev nodes : List Node
   nodes = nodes_of marks regions
 
   abbrev others : List Node
-  others = stepped roles k nodes
+  others = stepped_nodes roles k nodes
 
   alone : old.parent ≡ None
   alone = outer_alone marks regions regions (λ r h. h) kept.parents old (among_at marks regions i old less at) outer
@@ -206,7 +206,7 @@ module _ (p : Problem) (regions : List Region) (marks : List (Option Mark)) (kep
       record {
         covered = subst IsSome (sym (cover_stepped roles nodes k v)) is.covered;
         leaf = ap (λ s. is_in s m.source) (top_stepped roles k m.leaf nodes) ∙ is.leaf;
-        lone = lone_set regions i old new m.leaf at less same.name same.children ∙ is.lone;
+        childless = childless_set regions i old new m.leaf at less same.name same.children ∙ is.childless;
         defect = ap (λ l. is_in l m.source) (leaves_stepped roles nodes k) ∙ is.defect;
         balance =
             omega (

@@ -5,7 +5,7 @@ use Rattle.fb_graph.specs.Problem.{Problem}
 use Rattle.fb_graph.specs.Dual.{Node, is_live, top_at}
 use Rattle.fb_graph.specs.Ends.{AreAllApart}
 use Rattle.fb_graph.specs.Limits.{IsWithinLimits}
-use Rattle.fb_graph.specs.Moves.{MayJoin, blossom, joined}
+use Rattle.fb_graph.specs.Moves.{MayJoin, blossom, joined_nodes}
 use Rattle.fb_graph.specs.Nests.{child_sets}
 use Rattle.fb_graph.proofs.Among.{All_among, among_right, top_left}
 use Rattle.fb_graph.proofs.JoinedNests.{nest_joined}
@@ -35,10 +35,10 @@ module _ (p : Problem) (regions : List Region) (marks : List (Option Mark)) (kep
       let nodes = nodes_of marks regions in
       let new = blossom name children nodes in
       subst AreAllApart
-      (map_agree (top_at (joined name children nodes)) (top_at nodes) children
-      (All-from_is_in (λ c. top_at (joined name children nodes) c ≡ top_at nodes c) children
+      (map_agree (top_at (joined_nodes name children nodes)) (top_at nodes) children
+      (All-from_is_in (λ c. top_at (joined_nodes name children nodes) c ≡ top_at nodes c) children
       (λ c h. top_left nodes (new ∷ []) c (is_in-All (λ x. is_live nodes x ≡ true) children may.live c h))))
-      (All_among (λ n. AreAllApart (child_sets (joined name children nodes) n)) (joined name children nodes)
+      (All_among (λ n. AreAllApart (child_sets (joined_nodes name children nodes) n)) (joined_nodes name children nodes)
       (nest_joined p nodes name children may kept.nest).forest.parted new (among_right nodes (new ∷ []) new (inl refl)))
 
   pub together : (marks' : List (Option Mark)) (l : Listing)

@@ -7,13 +7,13 @@ use Rattle.fb_graph.specs.Problem.{Problem}
 use Rattle.fb_graph.specs.Certificate.{total_value}
 use Rattle.fb_graph.specs.Counts.{as_count}
 use Rattle.fb_graph.specs.Covers.{passes}
-use Rattle.fb_graph.specs.Dual.{Node, AllowsGrowth, IsCrossed, all_cuts, change_at, is_outer, layers_of, no_node, node_at, thicker, top_at}
+use Rattle.fb_graph.specs.Dual.{Node, AllowsGrowth, IsCrossed, all_cuts, change_at, is_outer, layers_of, no_node, node_at, thicker_node, top_at}
 use Rattle.fb_graph.specs.Limits.{IsWithinLimits}
 use Rattle.fb_graph.specs.Nests.{IsNest}
-use Rattle.fb_graph.specs.Turns.{also_minus, also_plus, no_roles, thinner}
+use Rattle.fb_graph.specs.Turns.{with_minus, with_plus, no_roles, thinner_node}
 use Rattle.fb_graph.specs.declared.parts.Cut.{Cut}
 use Rattle.fb_graph.proofs.Among.{All_among, same_among, map_among}
-use Rattle.fb_graph.proofs.CutSums.{sum_by-flat_map, weigh-thicker}
+use Rattle.fb_graph.proofs.CutSums.{sum_by-flat_map, weigh-thicker_node}
 use Rattle.fb_regions.specs.declared.marks.Mark.{Mark}
 use Rattle.fb_regions.specs.declared.region.Region.{Region}
 use Rattle.fb_regions.specs.InternalNodes.{node_of, nodes_of}
@@ -95,12 +95,12 @@ module _ (p : Problem) (regions : List Region) (marks : List (Option Mark)) (kep
   }
 
   pub growth : IsCrossed p (top_at (nodes_of marks regions) name) → AllowsGrowth p (nodes_of marks regions) (top_at (nodes_of marks regions) name) k
-      → IsTurned p regions marks i (grown k old) (change_at name (thicker k) (nodes_of marks regions))
+      → IsTurned p regions marks i (grown k old) (change_at name (thicker_node k) (nodes_of marks regions))
   growth crossed room =
       let radius : old.radius + k ≡ total_value (layers_of (node_of marks (grown k old))) =
-      omega (arith, radius_is, weigh-thicker (λ _. true) k (node_of marks old)) in
-      turned (grown k old) (thicker k) 0 k refl refl radius
-      (kept_stepped p regions marks kept limits (also_plus no_roles name) k
+      omega (arith, radius_is, weigh-thicker_node (λ _. true) k (node_of marks old)) in
+      turned (grown k old) (thicker_node k) 0 k refl refl radius
+      (kept_stepped p regions marks kept limits (with_plus no_roles name) k
       (grown_turn p (nodes_of marks regions) kept.nest name k outer crossed room) i 0 k old (grown k old) is_old there.below
       (record {
         name = refl;
@@ -112,10 +112,10 @@ module _ (p : Problem) (regions : List Region) (marks : List (Option Mark)) (kep
         added = refl;
         last = refl;
       }) own_outer (omega arith) radius
-      (there.changed (grown k old) (thicker k) kept.nest.dual.names refl ∙ thicker_as_step name k (nodes_of marks regions)) counted uncounted)
+      (there.changed (grown k old) (thicker_node k) kept.nest.dual.names refl ∙ thicker_as_step name k (nodes_of marks regions)) counted uncounted)
 
   pub shrinking : k ≤ (node_named (nodes_of marks regions) name).top.value
-      → IsTurned p regions marks i (shrunk k old) (change_at name (thinner k) (nodes_of marks regions)) × (k ≤ old.top_value) × (k ≤ old.radius)
+      → IsTurned p regions marks i (shrunk k old) (change_at name (thinner_node k) (nodes_of marks regions)) × (k ≤ old.top_value) × (k ≤ old.radius)
   shrinking low =
       let most : k ≤ old.top_value = omega (arith, low, ap (λ n. n.top.value) there.is) in
       let own : old.top_value ≤ old.radius = omega (arith, radius_is, top-le (node_of marks old)) in
@@ -125,10 +125,10 @@ module _ (p : Problem) (regions : List Region) (marks : List (Option Mark)) (kep
         most,
         radius_is,
         sum_by_push (λ (c : Cut). c.value) (node_of marks old).below (node_of marks old).top,
-        sum_by_push (λ (c : Cut). c.value) (node_of marks old).below (thinner k (node_of marks old)).top,
+        sum_by_push (λ (c : Cut). c.value) (node_of marks old).below (thinner_node k (node_of marks old)).top,
       ) in (
-        turned (shrunk k old) (thinner k) k 0 refl refl radius
-            (kept_stepped p regions marks kept limits (also_minus no_roles name) k
+        turned (shrunk k old) (thinner_node k) k 0 refl refl radius
+            (kept_stepped p regions marks kept limits (with_minus no_roles name) k
             (shrunk_turn p (nodes_of marks regions) kept.nest name k outer
             (λ n a named.
             let same = same_among (nodes_of marks regions) kept.nest.dual.names n (node_of marks old) a (map_among (node_of marks) regions old there.among) (named ∙ sym there.named) in
@@ -143,7 +143,7 @@ module _ (p : Problem) (regions : List Region) (marks : List (Option Mark)) (kep
               added = refl;
               last = refl;
             }) own_outer (omega (arith, most, own)) radius
-            (there.changed (shrunk k old) (thinner k) kept.nest.dual.names refl ∙ thinner_as_step name k (nodes_of marks regions)) uncounted counted),
+            (there.changed (shrunk k old) (thinner_node k) kept.nest.dual.names refl ∙ thinner_as_step name k (nodes_of marks regions)) uncounted counted),
         most,
         omega (arith, most, own),
       )

@@ -29,7 +29,7 @@ pub record IsMarkIn (set : List ℕ) (m : Mark) : Type 0 where
 abbrev pub HasMarks : List (Option Mark) → List ℕ → Type 0
 HasMarks marks set = (v : ℕ) → is_in set v ≡ true → (m : Mark) × (mark_of marks v ≡ Some m) × IsMarkIn set m
 
--- the step comes from a vertex with the same source that was taken up before, whose distance is less by the weight
+-- the step comes from a vertex with the same source that was absorbed before, whose distance is less by the weight
 abbrev pub IsAfter : Mark → ℕ → Option Mark → Type 0
 IsAfter m weight None = ⊥
 IsAfter m weight (Some b) =
@@ -45,14 +45,14 @@ CameBy p defects marks v m None = (is_in defects v ≡ true) × (m.source ≡ v)
 CameBy p defects marks v m (Some h) = IsStep p (step_by p v h) × IsAfter m (edge_at p.edges h.edge).weight (mark_of marks h.from)
 
 -- the node of this name joins no others
-abbrev pub is_lone : List Region → ℕ → Bool
-is_lone regions name = list_any (λ r. (r.name == name) && is_empty r.children.items) regions
+abbrev pub is_childless : List Region → ℕ → Bool
+is_childless regions name = list_any (λ r. (r.name == name) && is_empty r.children.items) regions
 
 -- what the mark of a vertex says
 pub record IsMarked (p : Problem) (nodes : List Node) (regions : List Region) (marks : List (Option Mark)) (v : ℕ) (m : Mark) : Type 0 where
   pub covered : IsSome (cover_of nodes v)
   pub leaf : is_in (top_at nodes m.leaf) m.source ≡ true
-  pub lone : is_lone regions m.leaf ≡ true
+  pub childless : is_childless regions m.leaf ≡ true
   pub defect : is_in (leaves nodes) m.source ≡ true
   pub balance : m.distance + height_of (all_cuts nodes) v ≡ radii_from regions m.leaf
   pub came : CameBy p (leaves nodes) marks v m m.by

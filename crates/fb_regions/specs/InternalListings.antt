@@ -7,7 +7,7 @@ use Rattle.fb_regions.specs.declared.region.Region.{Region}
 use Rattle.fb_regions.specs.Moves.{BeginsWith}
 use Rattle.fb_regions.specs.InternalNodes.{added_to, chain, first_of, mark_of}
 
--- a node's first vertex is known, and back from its last one stand those that it took up and those of its first layer
+-- a node's first vertex is known, and back from its last one stand those that it absorbed and those of its first layer
 pub record IsListed (marks : List (Option Mark)) (r : Region) : Type 0 where
   pub first : BeginsWith r.first (first_of marks r)
   pub whole : chain marks (r.base + r.added) r.last ≡ first_of marks r ++ added_to marks r
@@ -43,8 +43,8 @@ pub record Linked : Type 0 where
   pub listing : Listing
 
 -- the list with another one behind it
-abbrev pub linked : Linked → Listing → Linked
-linked s next =
+abbrev pub with_listing : Linked → Listing → Linked
+with_listing s next =
     if s.listing.count == 0 then record { marks = s.marks; listing = next }
     else record {
       marks = put_behind s.marks next.first s.listing.last;
@@ -60,7 +60,7 @@ region_named (r ∷ rs) name = if r.name == name then Some r else region_named r
 abbrev pub linked_all : List Region → List ℕ → Linked → Linked
 linked_all regions [] s = s
 linked_all regions (c ∷ cs) s =
-    linked_all regions cs (elim (region_named regions c) as (λ o. Linked) [ None ↦ s | Some r ↦ linked s (listing_at r) ])
+    linked_all regions cs (elim (region_named regions c) as (λ o. Linked) [ None ↦ s | Some r ↦ with_listing s (listing_at r) ])
 
 -- the number of vertices of the named nodes
 abbrev pub count_named : List Region → List ℕ → ℕ

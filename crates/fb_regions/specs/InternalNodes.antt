@@ -45,7 +45,7 @@ stack marks set (v ∷ vs) = record { value = under_of marks v; vertices = set }
 abbrev pub first_of : List (Option Mark) → Region → List ℕ
 first_of marks r = chain marks r.base r.base_last
 
--- the vertices that the node has taken up
+-- the vertices that the node has absorbed
 abbrev pub added_to : List (Option Mark) → Region → List ℕ
 added_to marks r = chain marks r.added r.last
 
@@ -78,5 +78,5 @@ children_from [] name = []
 children_from (r ∷ rs) name = if r.name == name then r.children.items else children_from rs name
 
 -- the node round each of these is this one
-abbrev pub adopted : List ℕ → Option ℕ → Region → Region
-adopted names parent r = if is_in names r.name then record r { parent = parent } else r
+abbrev pub reparented_region : List ℕ → Option ℕ → Region → Region
+reparented_region names parent r = if is_in names r.name then record r { parent = parent } else r

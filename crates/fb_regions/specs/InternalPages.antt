@@ -17,13 +17,13 @@ abbrev pub numbers_of : ℕ → List ℕ → List ℕ → List ℕ
 numbers_of count places numbers = map (number_at places numbers) (range_with_len 0 count)
 
 -- 1 for a page that isn't filled
-abbrev pub missing : ℕ → ℕ
-missing place = if place == no_place then 1 else 0
+abbrev pub missing_pages : ℕ → ℕ
+missing_pages place = if place == no_place then 1 else 0
 
 -- each filled page has numbers of its own, and there is room for all others
 pub record ArePaged (places numbers : List ℕ) (room : ℕ) : Type 0 where
   pub within : All (λ q. (q ≡ no_place) ⊎ (512 * q + 512 ≤ length numbers)) places
   pub apart : (i j : ℕ) → slot places i < length numbers → slot places i ≡ slot places j → i ≡ j
-  pub counted : length numbers + 512 * sum_by missing places ≡ 512 * length places
+  pub counted : length numbers + 512 * sum_by missing_pages places ≡ 512 * length places
   pub fits : 512 * length places ≤ room
   pub few : 512 * length places ≤ 2 ^ 32

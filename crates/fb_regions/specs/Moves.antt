@@ -5,7 +5,7 @@ use Rattle.fb_graph.specs.Problem.{Problem, edge_at}
 use Rattle.fb_graph.specs.declared.parts.Edge.{Edge}
 use Rattle.fb_graph.specs.Laws.{has_real_end}
 use Rattle.fb_links.specs.declared.walk.Step.{Step}
-use Rattle.fb_graph.specs.Dual.{Node, all_cuts, leaves, cover_of, height_of, no_node, taller, change_at}
+use Rattle.fb_graph.specs.Dual.{Node, all_cuts, leaves, cover_of, height_of, no_node, taller_node, change_at}
 use Rattle.fb_regions.specs.Walks.{IsWalk}
 use Rattle.fb_links.specs.Walks.{walk_weight}
 
@@ -27,9 +27,9 @@ inner_end nodes e = if is_some (cover_of nodes e.first) then e.first else e.seco
 abbrev pub outer_end : List Node → Edge → ℕ
 outer_end nodes e = if is_some (cover_of nodes e.first) then e.second else e.first
 
--- the node that holds the inner end of the edge takes up the outer end, in a further layer of value 0
-abbrev pub absorbed : List Node → Edge → List Node
-absorbed nodes e = change_at (unwrap_or (cover_of nodes (inner_end nodes e)) 0) (taller (outer_end nodes e)) nodes
+-- the node that holds the inner end of the edge absorbs the outer end, in a further layer of value 0
+abbrev pub absorbed_over : List Node → Edge → List Node
+absorbed_over nodes e = change_at (unwrap_or (cover_of nodes (inner_end nodes e)) 0) (taller_node (outer_end nodes e)) nodes
 
 -- the step over edge k from its inner end to its outer one
 pub record IsOver (p : Problem) (nodes : List Node) (k : ℕ) (s : Step) : Type 0 where

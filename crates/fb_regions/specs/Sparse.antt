@@ -19,15 +19,15 @@ abbrev pub value_of : {T : Type 0} → Sparse T → ℕ → Option T
 value_of s key = value_by s.keys s.values key
 
 -- the values where the one of the first such key is replaced
-abbrev pub replaced : {T : Type 0} → List ℕ → List T → ℕ → T → List T
-replaced [] values key y = values
-replaced (k ∷ keys) [] key y = []
-replaced (k ∷ keys) (x ∷ values) key y = if k == key then y ∷ values else x ∷ replaced keys values key y
+abbrev pub replaced_values : {T : Type 0} → List ℕ → List T → ℕ → T → List T
+replaced_values [] values key y = values
+replaced_values (k ∷ keys) [] key y = []
+replaced_values (k ∷ keys) (x ∷ values) key y = if k == key then y ∷ values else x ∷ replaced_values keys values key y
 
 -- the table with the value under the key: in the place of the one that was there, or as the last
-abbrev pub entered : {T : Type 0} → Sparse T → ℕ → T → Sparse T
-entered s key x =
-    if is_in s.keys key then record { bound = s.bound; keys = s.keys; values = replaced s.keys s.values key x }
+abbrev pub with_value : {T : Type 0} → Sparse T → ℕ → T → Sparse T
+with_value s key x =
+    if is_in s.keys key then record { bound = s.bound; keys = s.keys; values = replaced_values s.keys s.values key x }
     else record { bound = s.bound; keys = s.keys ++ key ∷ []; values = s.values ++ x ∷ [] }
 
 abbrev pub sparse_code : {T : Type 0} → Coded T → Coded (Sparse T)

@@ -4,7 +4,7 @@ ghost use Rattle.fb_graph.specs.Dual.{layers_of};
 ghost use Rattle.fb_graph.specs.Printed.{is_positive};
 ghost use Rattle.fb_regions.specs.declared.marks.Mark.{Mark};
 ghost use Rattle.fb_graph.specs.Certificate.{AreDistinct, total_value};
-ghost use Rattle.fb_regions.specs.InternalNodes.{adopted, chain, node_of, radii_from, root_from};
+ghost use Rattle.fb_regions.specs.InternalNodes.{reparented_region, chain, node_of, radii_from, root_from};
 ghost use Rattle.fb_regions.specs.InternalPlaces.{AreJoinedAbove, IsIndex};
 
 use crate::NodeId;
@@ -27,7 +27,7 @@ pub struct Region {
     /// The number of vertices of its first layer, and the last of them.
     pub base: usize,
     pub base_last: u32,
-    /// The number of vertices that it took up, one with each further layer.
+    /// The number of vertices that it absorbed, one with each further layer.
     pub added: usize,
     /// The last of its vertices.
     pub last: u32,
@@ -93,7 +93,7 @@ pub fn adopt(
 )
     requires index { IsIndex regions.old places.now }
     requires distinct { AreDistinct (map (λ r. r.name) regions.old) }
-    ensures { regions.new ≡ map (adopted names.now parent) regions.old }
+    ensures { regions.new ≡ map (reparented_region names.now parent) regions.old }
 {
     for name in names {
         if let Some(place) = place_of(places, *name) {

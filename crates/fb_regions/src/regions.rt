@@ -3,7 +3,7 @@ ghost use Rattle.std.specs.List.{concat, last_or};
 ghost use Rattle.fb_graph.specs.Parity.{is_in};
 ghost use Rattle.fb_graph.specs.Problem.{edge_at};
 ghost use Rattle.fb_graph.specs.Certificate.{load_of};
-ghost use Rattle.fb_graph.specs.Dual.{AreUnderOne, all_cuts, change_at, cover_of, height_of, is_empty, is_live, is_outer, leaf, leaves, no_node, node_at, thicker, AllowsGrowth, IsCrossed, layers_at, top_at};
+ghost use Rattle.fb_graph.specs.Dual.{AreUnderOne, all_cuts, change_at, cover_of, height_of, is_empty, is_live, is_outer, leaf, leaves, no_node, node_at, thicker_node, AllowsGrowth, IsCrossed, layers_at, top_at};
 ghost use Rattle.fb_graph.specs.NestUnions.{AreParts};
 ghost use Rattle.fb_graph.specs.Printed.{is_positive};
 ghost use Rattle.fb_graph.specs.RenamedNodes.{renamed_nodes};
@@ -11,11 +11,11 @@ ghost use Rattle.fb_links.specs.Names.{name_by};
 ghost use Rattle.fb_regions.specs.Holders.{IsHolder};
 ghost use Rattle.fb_regions.specs.Listed.{back_from, listed_before};
 ghost use Rattle.fb_regions.specs.Merged.{AreNewNames};
-ghost use Rattle.fb_graph.specs.Moves.{MayJoin, MaySplit, MayUncover, joined, split, uncovered};
+ghost use Rattle.fb_graph.specs.Moves.{MayJoin, MaySplit, MayUncover, joined_nodes, split_nodes, uncovered_nodes};
 ghost use Rattle.fb_graph.specs.Nests.{IsNest};
 ghost use Rattle.fb_graph.specs.SourceWalks.{HaveWalks};
-ghost use Rattle.fb_graph.specs.Turns.{thinner};
-ghost use Rattle.fb_regions.specs.Moves.{BeginsWith, IsOver, IsSourceWalk, absorbed, inner_end, node_named, outer_end};
+ghost use Rattle.fb_graph.specs.Turns.{thinner_node};
+ghost use Rattle.fb_regions.specs.Moves.{BeginsWith, IsOver, IsSourceWalk, absorbed_over, inner_end, node_named, outer_end};
 
 use crate::listing::list_together;
 use crate::marks::{Hop, Mark, Marks};
@@ -33,7 +33,7 @@ use std::marker::Model;
 /// there. A node is found by its name in constant time, which takes room for each number up to the largest name. A
 /// call that returns `NoMemory` leaves the state as it was.
 ///
-/// No layer is kept as a list. A vertex that a node takes up begins a layer, and its mark has the vertex before it and
+/// No layer is kept as a list. A vertex that a node absorbs begins a layer, and its mark has the vertex before it and
 /// the value below.
 #[derive(Drop)]
 pub struct Regions<S: Scope> {
@@ -236,7 +236,7 @@ impl<S: Scope> Regions<S> {
     pub fn open_leaf(&mut self, alloc: Global, node: NodeId, v: u32) -> Result<(), NoMemory>
         requires below { v < (S.problem self.old.scope).vertices }
         requires real { (S.problem self.old.scope).is_real v ≡ true }
-        requires uncovered { cover_of self.old.nodes v ≡ None }
+        requires uncovered_nodes { cover_of self.old.nodes v ≡ None }
         requires fresh { is_live self.old.nodes node ≡ false }
         ensures ok { OnOk result (self.new ≡ record { scope = self.old.scope; nodes = self.old.nodes ++ leaf node v ∷ [] }) }
         ensures err { OnErr result (self.new ≡ self.old) }
@@ -281,7 +281,7 @@ impl<S: Scope> Regions<S> {
         children: &[NodeId],
     ) -> Result<(), NoMemory>
         requires { MayJoin self.old.nodes node children.now }
-        ensures ok { OnOk result (self.new ≡ record { scope = self.old.scope; nodes = joined node children.now self.old.nodes }) }
+        ensures ok { OnOk result (self.new ≡ record { scope = self.old.scope; nodes = joined_nodes node children.now self.old.nodes }) }
         ensures err { OnErr result (self.new ≡ self.old) }
     {
         self.scope.limits();
@@ -311,7 +311,7 @@ impl<S: Scope> Regions<S> {
     /// time for these and for each node that was made after the blossom.
     pub fn split_node(&mut self, node: NodeId) -> Result<(), NoMemory>
         requires { MaySplit self.old.nodes node }
-        ensures ok { OnOk result (self.new ≡ record { scope = self.old.scope; nodes = split node self.old.nodes }) }
+        ensures ok { OnOk result (self.new ≡ record { scope = self.old.scope; nodes = split_nodes node self.old.nodes }) }
         ensures err { OnErr result (self.new ≡ self.old) }
     {
         let Some(place) = place_of(&self.places, node) else {
@@ -335,7 +335,7 @@ impl<S: Scope> Regions<S> {
         requires outer { is_outer self.old.nodes node ≡ true }
         requires leaves { IsCrossed (S.problem self.old.scope) (top_at self.old.nodes node) }
         requires room { AllowsGrowth (S.problem self.old.scope) self.old.nodes (top_at self.old.nodes node) k }
-        ensures { self.new ≡ record { scope = self.old.scope; nodes = change_at node (thicker k) self.old.nodes } }
+        ensures { self.new ≡ record { scope = self.old.scope; nodes = change_at node (thicker_node k) self.old.nodes } }
     {
         self.scope.limits();
         let Some(place) = place_of(&self.places, node) else {
@@ -351,7 +351,7 @@ impl<S: Scope> Regions<S> {
         requires live { is_live self.old.nodes node ≡ true }
         requires outer { is_outer self.old.nodes node ≡ true }
         requires value { k ≤ (node_named self.old.nodes node).top.value }
-        ensures { self.new ≡ record { scope = self.old.scope; nodes = change_at node (thinner k) self.old.nodes } }
+        ensures { self.new ≡ record { scope = self.old.scope; nodes = change_at node (thinner_node k) self.old.nodes } }
     {
         self.scope.limits();
         let Some(place) = place_of(&self.places, node) else {
@@ -369,7 +369,7 @@ impl<S: Scope> Regions<S> {
         requires inner { IsSome (cover_of self.old.nodes (inner_end self.old.nodes (edge_at (S.problem self.old.scope).edges edge))) }
         requires outer { cover_of self.old.nodes (outer_end self.old.nodes (edge_at (S.problem self.old.scope).edges edge)) ≡ None }
         requires real { (S.problem self.old.scope).is_real (outer_end self.old.nodes (edge_at (S.problem self.old.scope).edges edge)) ≡ true }
-        ensures { self.new ≡ record { scope = self.old.scope; nodes = absorbed self.old.nodes (edge_at (S.problem self.old.scope).edges edge) } }
+        ensures { self.new ≡ record { scope = self.old.scope; nodes = absorbed_over self.old.nodes (edge_at (S.problem self.old.scope).edges edge) } }
     {
         self.scope.limits();
         let step = self.step_over(edge);
@@ -405,7 +405,7 @@ impl<S: Scope> Regions<S> {
     /// uncovered.
     pub fn uncover(&mut self, node: NodeId)
         requires { MayUncover self.old.nodes node }
-        ensures { self.new ≡ record { scope = self.old.scope; nodes = uncovered node self.old.nodes } }
+        ensures { self.new ≡ record { scope = self.old.scope; nodes = uncovered_nodes node self.old.nodes } }
     {
         let Some(place) = place_of(&self.places, node) else {
             unreachable!()
@@ -525,7 +525,7 @@ impl<S: Scope> Regions<S> {
 
     /// Copies of the layers of positive value of all nodes: for each node in the order in which they were made, from its
     /// first layer to its top one. Its time is that of the nodes, of the sets that it copies, and of the vertices that were
-    /// taken up, once each.
+    /// absorbed, once each.
     pub fn cuts(&self, alloc: Global) -> Result<Vec<Layer>, NoMemory>
         ensures { IfOk result (λ cuts. cuts.items ≡ filter is_positive (all_cuts self.now.nodes)) }
     {

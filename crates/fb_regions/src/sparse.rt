@@ -2,7 +2,7 @@ ghost use Rattle.std.specs.Prelude.{ℕ, ◌≡◌, ◌+◌, ◌<◌, ◌==◌, 
 ghost use Rattle.fb_graph.specs.Certificate.{AreDistinct};
 ghost use Rattle.fb_graph.specs.Counts.{as_count};
 ghost use Rattle.fb_graph.specs.Parity.{is_in};
-ghost use Rattle.fb_regions.specs.Sparse.{entered, value_of};
+ghost use Rattle.fb_regions.specs.Sparse.{with_value, value_of};
 
 use crate::paged_numbers::PagedNumbers;
 use fb_graph::NoMemory;
@@ -100,7 +100,7 @@ impl<T: Copy> SparseTable<T> {
     /// Gives the key the value.
     pub fn enter(&mut self, key: u32, value: T)
         requires { key < self.old.bound }
-        ensures { self.new ≡ entered self.old key value }
+        ensures { self.new ≡ with_value self.old key value }
     {
         if let Some(place) = self.place_of(key) {
             self.values[place] = value;

@@ -110,11 +110,11 @@ pub fn decode_file<F: Files, O: Sink, G: Gate, R: Threads + Wait + Sync>(
     ensures at_end { IfOk result (λ d. d.end ≡ ShotsEnd.End → IsReadOut (F.left files.old) (F.left files.new)) }
     ensures asks { F.asked files.new ≡ F.asked files.old }
     ensures fault { IfOk result (λ d. d.end ≡ ShotsEnd.ReadFault → Rose (F.faults files.old) (F.faults files.new)) }
-    ensures later { F.faults files.old ≤ F.faults files.new }
-    ensures calm { IfOk result (λ d. d.end ≢ ShotsEnd.ReadFault → F.faults files.new ≡ F.faults files.old) }
+    ensures never_falls { F.faults files.old ≤ F.faults files.new }
+    ensures unchanged { IfOk result (λ d. d.end ≢ ShotsEnd.ReadFault → F.faults files.new ≡ F.faults files.old) }
     ensures write_fault { result ≡ Err RowsFault.WriteFault → Rose (O.faults out.old) (O.faults out.new) }
     ensures write_later { O.faults out.old ≤ O.faults out.new }
-    ensures write_calm { result ≢ Err RowsFault.WriteFault → O.faults out.new ≡ O.faults out.old }
+    ensures write_unchanged { result ≢ Err RowsFault.WriteFault → O.faults out.new ≡ O.faults out.old }
 {
     let Ok(stream) = ShotStream::new(alloc, request.format, graph, u32::MAX) else {
         return Err(RowsFault::NoMemory);
@@ -160,11 +160,11 @@ fn decode_stream<F: Files, O: Sink, G: Gate, R: Threads + Wait + Sync>(
     ensures at_end { IfOk result (λ d. d.end ≡ ShotsEnd.End → IsReadOut (F.left files.old) (F.left files.new)) }
     ensures asks { F.asked files.new ≡ F.asked files.old }
     ensures fault { IfOk result (λ d. d.end ≡ ShotsEnd.ReadFault → Rose (F.faults files.old) (F.faults files.new)) }
-    ensures later { F.faults files.old ≤ F.faults files.new }
-    ensures calm { IfOk result (λ d. d.end ≢ ShotsEnd.ReadFault → F.faults files.new ≡ F.faults files.old) }
+    ensures never_falls { F.faults files.old ≤ F.faults files.new }
+    ensures unchanged { IfOk result (λ d. d.end ≢ ShotsEnd.ReadFault → F.faults files.new ≡ F.faults files.old) }
     ensures write_fault { result ≡ Err RowsFault.WriteFault → Rose (O.faults out.old) (O.faults out.new) }
     ensures write_later { O.faults out.old ≤ O.faults out.new }
-    ensures write_calm { result ≢ Err RowsFault.WriteFault → O.faults out.new ≡ O.faults out.old }
+    ensures write_unchanged { result ≢ Err RowsFault.WriteFault → O.faults out.new ≡ O.faults out.old }
 {
     let mut tally = Tally { best: 0, odd: 0 };
     loop {
@@ -196,8 +196,8 @@ fn next_batch<F: Files, G: Gate, R: Threads + Wait + Sync>(
     ensures same { crew.new ≡ crew.old }
     ensures asks { F.asked files.new ≡ F.asked files.old }
     ensures fault { IfOk result (λ n. n.end ≡ Some ShotsEnd.ReadFault → Rose (F.faults files.old) (F.faults files.new)) }
-    ensures later { F.faults files.old ≤ F.faults files.new }
-    ensures calm { IfOk result (λ n. n.end ≢ Some ShotsEnd.ReadFault → F.faults files.new ≡ F.faults files.old) }
+    ensures never_falls { F.faults files.old ≤ F.faults files.new }
+    ensures unchanged { IfOk result (λ n. n.end ≢ Some ShotsEnd.ReadFault → F.faults files.new ≡ F.faults files.old) }
 {
     let taken = take_window(alloc, files, stream, request.window as usize)?;
     let batch = solve_batch(rt, alloc, crew, request.trace, taken.shots.as_slice(), gate)?;
@@ -274,7 +274,7 @@ fn write_batch<O: Sink>(
     ensures emptied { OnOk result (outbox.new.text ≡ []) }
     ensures write_fault { result ≡ Err RowsFault.WriteFault → Rose (O.faults out.old) (O.faults out.new) }
     ensures write_later { O.faults out.old ≤ O.faults out.new }
-    ensures write_calm { result ≢ Err RowsFault.WriteFault → O.faults out.new ≡ O.faults out.old }
+    ensures write_unchanged { result ≢ Err RowsFault.WriteFault → O.faults out.new ≡ O.faults out.old }
 {
     let Ok(more) = add_batch(outbox, tally, trace, batch) else {
         return Err(RowsFault::NoMemory);

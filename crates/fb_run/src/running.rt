@@ -52,9 +52,9 @@ pub fn run<F: Files, O: Sink, E: Sink, G: Gate, R: Threads + Wait + Sync>(
     ensures takes { is_taken (map string_bytes words.now) ≡ true → result.cause ≢ Cause.Usage UsageKind.Parse }
 
     // What was written to standard error. Of words that have no reading it is the command line reader's own text.
-    ensures said { result.cause ≢ Cause.Usage UsageKind.Parse
+    ensures reported { result.cause ≢ Cause.Usage UsageKind.Parse
         → AppendsPrefix (E.taken err.old) (E.taken err.new) (line_of result.cause) }
-    ensures said_whole { result.cause ≢ Cause.Usage UsageKind.Parse → E.faults err.old < 2 ^ 64 - 1
+    ensures reported_whole { result.cause ≢ Cause.Usage UsageKind.Parse → E.faults err.old < 2 ^ 64 - 1
         → E.faults err.new ≡ E.faults err.old → Appends (E.taken err.old) (E.taken err.new) (line_of result.cause) }
 {
     let cause = answer(rt, alloc, words, files, out, err, gate);
@@ -113,7 +113,7 @@ fn run_request<F: Files, O: Sink, G: Gate, R: Threads + Wait + Sync>(
     ensures read_risen { F.faults files.old < F.faults files.new → MayFollowReadFault result }
     ensures write_fault { result ≡ Cause.WriteFault → Rose (O.faults out.old) (O.faults out.new) }
     ensures write_later { O.faults out.old ≤ O.faults out.new }
-    ensures write_calm { result ≢ Cause.WriteFault → O.faults out.new ≡ O.faults out.old }
+    ensures write_unchanged { result ≢ Cause.WriteFault → O.faults out.new ≡ O.faults out.old }
 {
     match request {
         Request::Decode(decoding) => decode(rt, alloc, decoding, files, out, gate),

@@ -35,7 +35,7 @@ pub fn write_sample<O: Sink>(
     ensures nothing { result ≡ Err RowsFault.NoMemory → Appends (O.taken out.old) (O.taken out.new) [] }
     ensures write_fault { result ≡ Err RowsFault.WriteFault → Rose (O.faults out.old) (O.faults out.new) }
     ensures write_later { O.faults out.old ≤ O.faults out.new }
-    ensures write_calm { result ≢ Err RowsFault.WriteFault → O.faults out.new ≡ O.faults out.old }
+    ensures write_unchanged { result ≢ Err RowsFault.WriteFault → O.faults out.new ≡ O.faults out.old }
 {
     let mut outbox = Outbox::new(alloc);
     let Ok(()) = add_sample(&mut outbox, request, plan, sums) else {

@@ -6,7 +6,7 @@ use Rattle.std.proofs.lemmas.List.{length-map}
 use Rattle.fb_graph.specs.Parity.{is_in}
 use Rattle.fb_graph.specs.Certificate.{AreDistinct}
 use Rattle.fb_graph.specs.Dual.{Node, defects_of, is_empty, is_live, is_outer}
-use Rattle.fb_graph.specs.Moves.{MayJoin, MaySplit, blossom, joined, split}
+use Rattle.fb_graph.specs.Moves.{MayJoin, MaySplit, blossom, joined_nodes, split_nodes}
 use Rattle.fb_graph.proofs.Among.{IsAmong, All_among, among_All, among_either, among_left, among_live, among_outer, among_right, live_among, outer_among}
 use Rattle.fb_graph.proofs.Places.{among_split, split_among}
 use Rattle.fb_graph.proofs.Sets.{is_in-All}
@@ -120,15 +120,15 @@ module _ (nodes : List Node) (old new : List (Option blossoms.Node)) (name : ℕ
       some [] three none = let h : 3 ≤ 0 = three in omega arith
       some (x ∷ xs) three none = both_ways false refl none
 
-  same_live : (x : ℕ) → is_live (joined name (nodes_of cycle) nodes) x ≡ blossoms.is_live new x
+  same_live : (x : ℕ) → is_live (joined_nodes name (nodes_of cycle) nodes) x ≡ blossoms.is_live new x
   same_live x = step (cases_eq x name)
     where
-      made_among : IsAmong (blossom name (nodes_of cycle) nodes) (joined name (nodes_of cycle) nodes)
+      made_among : IsAmong (blossom name (nodes_of cycle) nodes) (joined_nodes name (nodes_of cycle) nodes)
       made_among = among_right nodes (blossom name (nodes_of cycle) nodes ∷ []) (blossom name (nodes_of cycle) nodes) (inl refl)
 
-      there : x ≢ name → is_live (joined name (nodes_of cycle) nodes) x ≡ true → is_live nodes x ≡ true
+      there : x ≢ name → is_live (joined_nodes name (nodes_of cycle) nodes) x ≡ true → is_live nodes x ≡ true
       there differ live =
-          let (n, a, named) = live_among (joined name (nodes_of cycle) nodes) x live in
+          let (n, a, named) = live_among (joined_nodes name (nodes_of cycle) nodes) x live in
           by n named (among_either nodes (blossom name (nodes_of cycle) nodes ∷ []) n a)
         where
           by : (n : Node) → n.name ≡ x → IsAmong n nodes ⊎ IsAmong n (blossom name (nodes_of cycle) nodes ∷ []) → is_live nodes x ≡ true
@@ -136,23 +136,23 @@ module _ (nodes : List Node) (old new : List (Option blossoms.Node)) (name : ℕ
           by n named (inr (inl e)) = absurd (differ (sym named ∙ ap (λ m. m.name) (sym e)))
           by n named (inr (inr b)) = absurd b
 
-      back : is_live nodes x ≡ true → is_live (joined name (nodes_of cycle) nodes) x ≡ true
+      back : is_live nodes x ≡ true → is_live (joined_nodes name (nodes_of cycle) nodes) x ≡ true
       back live =
           let (n, a, named) = live_among nodes x live in
-          among_live (joined name (nodes_of cycle) nodes) n x (among_left nodes (blossom name (nodes_of cycle) nodes ∷ []) n a) named
+          among_live (joined_nodes name (nodes_of cycle) nodes) n x (among_left nodes (blossom name (nodes_of cycle) nodes ∷ []) n a) named
 
-      step : (x ≡ name) ⊎ (x ≡ name → ⊥) → is_live (joined name (nodes_of cycle) nodes) x ≡ blossoms.is_live new x
+      step : (x ≡ name) ⊎ (x ≡ name → ⊥) → is_live (joined_nodes name (nodes_of cycle) nodes) x ≡ blossoms.is_live new x
       step (inl e) =
-          among_live (joined name (nodes_of cycle) nodes) (blossom name (nodes_of cycle) nodes) x made_among (sym e)
+          among_live (joined_nodes name (nodes_of cycle) nodes) (blossom name (nodes_of cycle) nodes) x made_among (sym e)
           ∙ (ap (λ (o : Option blossoms.Node). is_some o) (sym adds.added) ∙ ap (blossoms.is_live new) (sym e))
       step (inr differ) =
-          same_tests (is_live (joined name (nodes_of cycle) nodes) x) (is_live nodes x) (there differ) back
+          same_tests (is_live (joined_nodes name (nodes_of cycle) nodes) x) (is_live nodes x) (there differ) back
           ∙ (agreed.live x ∙ ap (λ (o : Option blossoms.Node). is_some o) (sym (adds.others x differ)))
 
   -- after the nodes of a cycle are joined
-  pub agreed_joined : AreAgreed (joined name (nodes_of cycle) nodes) new
+  pub agreed_joined : AreAgreed (joined_nodes name (nodes_of cycle) nodes) new
   agreed_joined =
-      from_each (joined name (nodes_of cycle) nodes) new same_live (λ n a.
+      from_each (joined_nodes name (nodes_of cycle) nodes) new same_live (λ n a.
       by n (among_either nodes (blossom name (nodes_of cycle) nodes ∷ []) n a))
     where
       by : (n : Node) → IsAmong n nodes ⊎ IsAmong n (blossom name (nodes_of cycle) nodes ∷ []) → Agrees new n
@@ -162,33 +162,33 @@ module _ (nodes : List Node) (old new : List (Option blossoms.Node)) (name : ℕ
 
 module _ (nodes : List Node) (old new : List (Option blossoms.Node)) (name : ℕ) (agreed : AreAgreed nodes old)
     (gone : TakesOff old new name) where
-  split_live : (x : ℕ) → is_live (split name nodes) x ≡ blossoms.is_live new x
+  split_live : (x : ℕ) → is_live (split_nodes name nodes) x ≡ blossoms.is_live new x
   split_live x = step (cases_eq x name)
     where
-      before : is_live (split name nodes) x ≡ true → is_live nodes x ≡ true
+      before : is_live (split_nodes name nodes) x ≡ true → is_live nodes x ≡ true
       before live =
-          let (n, a, named) = live_among (split name nodes) x live in
+          let (n, a, named) = live_among (split_nodes name nodes) x live in
           among_live nodes n x (among_split name nodes n a).0 named
 
-      after : x ≢ name → is_live nodes x ≡ true → is_live (split name nodes) x ≡ true
+      after : x ≢ name → is_live nodes x ≡ true → is_live (split_nodes name nodes) x ≡ true
       after differ live =
           let (n, a, named) = live_among nodes x live in
-          among_live (split name nodes) n x (split_among name nodes n a (λ e. differ (sym named ∙ e))) named
+          among_live (split_nodes name nodes) n x (split_among name nodes n a (λ e. differ (sym named ∙ e))) named
 
-      step : (x ≡ name) ⊎ (x ≡ name → ⊥) → is_live (split name nodes) x ≡ blossoms.is_live new x
+      step : (x ≡ name) ⊎ (x ≡ name → ⊥) → is_live (split_nodes name nodes) x ≡ blossoms.is_live new x
       step (inl e) =
-          false_from_ne_true (is_live (split name nodes) x) (λ live.
-          let (n, a, named) = live_among (split name nodes) x live in
+          false_from_ne_true (is_live (split_nodes name nodes) x) (λ live.
+          let (n, a, named) = live_among (split_nodes name nodes) x live in
           (among_split name nodes n a).1 (named ∙ e))
           ∙ (ap (λ (o : Option blossoms.Node). is_some o) (sym gone.gone) ∙ ap (blossoms.is_live new) (sym e))
       step (inr differ) =
-          same_tests (is_live (split name nodes) x) (is_live nodes x) before (after differ)
+          same_tests (is_live (split_nodes name nodes) x) (is_live nodes x) before (after differ)
           ∙ (agreed.live x ∙ ap (λ (o : Option blossoms.Node). is_some o) (sym (gone.others x differ)))
 
   -- after a blossom is opened
-  pub agreed_split : AreAgreed (split name nodes) new
+  pub agreed_split : AreAgreed (split_nodes name nodes) new
   agreed_split =
-      from_each (split name nodes) new split_live (λ n a.
+      from_each (split_nodes name nodes) new split_live (λ n a.
       let (b, differ) = among_split name nodes n a in
       still_agrees old new n (gone.others n.name differ) (agrees nodes old agreed n b))
 

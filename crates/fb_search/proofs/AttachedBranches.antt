@@ -4,7 +4,7 @@ use Rattle.fb_graph.specs.Parity.{is_in}
 use Rattle.fb_graph.specs.Problem.{Problem, edge_at}
 use Rattle.fb_graph.specs.Certificate.{AreDistinct}
 use Rattle.fb_graph.specs.Limits.{IsWithinLimits}
-use Rattle.fb_graph.specs.Covers.{is_over, passes}
+use Rattle.fb_graph.specs.Covers.{is_covered_by, passes}
 use Rattle.fb_graph.specs.Dual.{AreUnderOne, Node, cover_of, top_at}
 use Rattle.fb_graph.specs.Laws.{Link}
 use Rattle.fb_graph.proofs.Sets.{is_in-cases}
@@ -48,14 +48,14 @@ plus_before t e name plus = by (is_in-cases e.plus (plus_names t.root t.branches
 module _ (p : Problem) (t : Grown) (e : EntryOf ℕ) (nodes : List Node) (limits : IsWithinLimits p)
     (distinct : AreDistinct (map (λ n. n.name) nodes)) (old new : Watched) (within : All (λ k. k < length p.edges) new.edges)
     (watched : Watches p (top_at nodes e.plus) old new) (watch : IsWatched p (roles_by (role_in t)) nodes old.edges) where
-  over_before : (u : ℕ) → is_over (λ n. grows (role_in (attached t e) n)) nodes u ≡ true
-      → (is_in (top_at nodes e.plus) u ≡ true) ⊎ (is_over (λ n. grows (role_in t n)) nodes u ≡ true)
+  over_before : (u : ℕ) → is_covered_by (λ n. grows (role_in (attached t e) n)) nodes u ≡ true
+      → (is_in (top_at nodes e.plus) u ≡ true) ⊎ (is_covered_by (λ n. grows (role_in t n)) nodes u ≡ true)
   over_before u over =
       let (name, covered, plus) = plus_over (λ n. grows (role_in (attached t e) n)) nodes u over in
       by name covered (plus_before t e name plus)
     where
       by : (name : ℕ) → cover_of nodes u ≡ Some name → (e.plus ≡ name) ⊎ (grows (role_in t name) ≡ true)
-          → (is_in (top_at nodes e.plus) u ≡ true) ⊎ (is_over (λ n. grows (role_in t n)) nodes u ≡ true)
+          → (is_in (top_at nodes e.plus) u ≡ true) ⊎ (is_covered_by (λ n. grows (role_in t n)) nodes u ≡ true)
       by name covered (inl same) = inl (cover_set nodes u e.plus distinct (covered ∙ ap (λ n. Some n) (sym same))).1
       by name covered (inr plus) = inr (ap (passes (λ n. grows (role_in t n))) covered ∙ plus)
 
@@ -64,19 +64,19 @@ module _ (p : Problem) (t : Grown) (e : EntryOf ℕ) (nodes : List Node) (limits
   watch_attached = record { within = within; near = near }
     where
       near : (k : ℕ) → k < length p.edges
-          → (is_over (λ n. grows (role_in (attached t e) n)) nodes (edge_at p.edges k).first ≡ true)
-          ⊎ (is_over (λ n. grows (role_in (attached t e) n)) nodes (edge_at p.edges k).second ≡ true)
+          → (is_covered_by (λ n. grows (role_in (attached t e) n)) nodes (edge_at p.edges k).first ≡ true)
+          ⊎ (is_covered_by (λ n. grows (role_in (attached t e) n)) nodes (edge_at p.edges k).second ≡ true)
           → (AreUnderOne nodes (edge_at p.edges k).first (edge_at p.edges k).second → ⊥) → is_in new.edges k ≡ true
       near k less (inl over) not_one = by (over_before (edge_at p.edges k).first over)
         where
           by : (is_in (top_at nodes e.plus) (edge_at p.edges k).first ≡ true)
-              ⊎ (is_over (λ n. grows (role_in t n)) nodes (edge_at p.edges k).first ≡ true) → is_in new.edges k ≡ true
+              ⊎ (is_covered_by (λ n. grows (role_in t n)) nodes (edge_at p.edges k).first ≡ true) → is_in new.edges k ≡ true
           by (inl here) = watched.near (edge_at p.edges k).first k here less (touches_first p k limits less)
           by (inr before) = watched.kept k (watch.near k less (inl before) not_one)
       near k less (inr over) not_one = by (over_before (edge_at p.edges k).second over)
         where
           by : (is_in (top_at nodes e.plus) (edge_at p.edges k).second ≡ true)
-              ⊎ (is_over (λ n. grows (role_in t n)) nodes (edge_at p.edges k).second ≡ true) → is_in new.edges k ≡ true
+              ⊎ (is_covered_by (λ n. grows (role_in t n)) nodes (edge_at p.edges k).second ≡ true) → is_in new.edges k ≡ true
           by (inl here) = watched.near (edge_at p.edges k).second k here less (touches_second p k limits less)
           by (inr before) = watched.kept k (watch.near k less (inr before) not_one)
 

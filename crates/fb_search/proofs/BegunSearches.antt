@@ -5,7 +5,7 @@ use Rattle.fb_graph.specs.Parity.{is_in, differ}
 use Rattle.fb_graph.specs.Problem.{Problem, edge_at, touches, no_edge}
 use Rattle.fb_graph.specs.Limits.{DecodingGraph, IsWithinLimits}
 use Rattle.fb_graph.specs.Dual.{cover_of, top_at}
-use Rattle.fb_graph.specs.Covers.{is_over, passes}
+use Rattle.fb_graph.specs.Covers.{is_covered_by, passes}
 use Rattle.fb_half.specs.Parts.{IsPart, PartValue, problem_in, state_of}
 use Rattle.fb_laws.proofs.SearchTrees.{cover_set}
 use Rattle.fb_laws.proofs.StateMoves.{search_from_root}
@@ -31,7 +31,7 @@ only_root root name part watched plus = by (root == name) refl plus
 
 -- so a vertex under a plus node is the root's
 under_root : (root v : ℕ) (part : PartValue) (watched : Watched) → IsPart part
-    → is_over (roles_in (begun root part watched)).is_plus part.nodes v ≡ true → is_in (top_at part.nodes root) v ≡ true
+    → is_covered_by (roles_in (begun root part watched)).is_plus part.nodes v ≡ true → is_in (top_at part.nodes root) v ≡ true
 under_root root v part watched are over = by (cover_of part.nodes v) refl over
   where
     by : (c : Option ℕ) → cover_of part.nodes v ≡ c → passes (roles_in (begun root part watched)).is_plus c ≡ true
@@ -83,8 +83,8 @@ begun_searching root part old new are limits within below room empty watched = r
     none i less = absurd (omega (arith, ap length empty, less))
 
     near : (k : ℕ) → k < length (problem_in part).edges
-        → (is_over (roles_in (begun root part new)).is_plus part.nodes (edge_at (problem_in part).edges k).first ≡ true)
-        ⊎ (is_over (roles_in (begun root part new)).is_plus part.nodes (edge_at (problem_in part).edges k).second ≡ true)
+        → (is_covered_by (roles_in (begun root part new)).is_plus part.nodes (edge_at (problem_in part).edges k).first ≡ true)
+        ⊎ (is_covered_by (roles_in (begun root part new)).is_plus part.nodes (edge_at (problem_in part).edges k).second ≡ true)
         → is_in new.edges k ≡ true
     near k less (inl over) =
         watched.near _ k (under_root root _ part new are over) less (touches_first (problem_in part) k limits less)

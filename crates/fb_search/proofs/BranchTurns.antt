@@ -6,9 +6,9 @@ use Rattle.std.proofs.lemmas.List.Sorted.{IsPermutation-sym}
 use Rattle.fb_graph.specs.Parity.{is_in}
 use Rattle.fb_graph.specs.Problem.{Problem}
 use Rattle.fb_graph.specs.Certificate.{AreDistinct}
-use Rattle.fb_graph.specs.Dual.{AllowsGrowth, IsCrossed, Node, change_at, is_live, is_outer, thicker, top_at}
-use Rattle.fb_graph.specs.Steps.{MayStep, stepped}
-use Rattle.fb_graph.specs.Turns.{thinner}
+use Rattle.fb_graph.specs.Dual.{AllowsGrowth, IsCrossed, Node, change_at, is_live, is_outer, thicker_node, top_at}
+use Rattle.fb_graph.specs.Steps.{MayStep, stepped_nodes}
+use Rattle.fb_graph.specs.Turns.{thinner_node}
 use Rattle.fb_graph.proofs.Sets.{is_in-cases, is_in-head, is_in-tail, is_in_at}
 use Rattle.fb_graph.proofs.StepTurns.{no_turn, same_roles}
 use Rattle.fb_laws.specs.Trees.{minus_names, plus_names, roles_of}
@@ -96,60 +96,60 @@ module _ (p : Problem) (t : Grown) (nodes : List Node) (are : IsTreeOver p t nod
   not_minus : (n : ℕ) → is_in (plus_names t.root t.branches) n ≡ true → is_in (minus_of bs) n ≡ false
   not_minus n plus = same_minus n ∙ are.roles.exclusive n plus
 
-  pub none_yet : nodes ≡ stepped (roles_by_names [] (minus_of (take 0 bs))) k nodes
+  pub none_yet : nodes ≡ stepped_nodes (roles_by_names [] (minus_of (take 0 bs))) k nodes
   none_yet = sym (no_turn k nodes)
 
   pub minus_may : (i : ℕ) (d : Branch) → i < length bs
-      → (is_live (stepped (roles_by_names [] (minus_of (take i bs))) k nodes) (get_or bs i d).minus ≡ true)
-      × (is_outer (stepped (roles_by_names [] (minus_of (take i bs))) k nodes) (get_or bs i d).minus ≡ true)
-      × (k ≤ (node_named (stepped (roles_by_names [] (minus_of (take i bs))) k nodes) (get_or bs i d).minus).top.value)
+      → (is_live (stepped_nodes (roles_by_names [] (minus_of (take i bs))) k nodes) (get_or bs i d).minus ≡ true)
+      × (is_outer (stepped_nodes (roles_by_names [] (minus_of (take i bs))) k nodes) (get_or bs i d).minus ≡ true)
+      × (k ≤ (node_named (stepped_nodes (roles_by_names [] (minus_of (take i bs))) k nodes) (get_or bs i d).minus).top.value)
   minus_may i d less =
       minus_turn p t nodes are (minus_of (take i bs)) k (get_or bs i d).minus may (is_minus i d less) (new_minus i d less)
 
   pub minus_done : (i : ℕ) (d : Branch) → i < length bs
-      → change_at (get_or bs i d).minus (thinner k) (stepped (roles_by_names [] (minus_of (take i bs))) k nodes)
-      ≡ stepped (roles_by_names [] (minus_of (take (i + 1) bs))) k nodes
+      → change_at (get_or bs i d).minus (thinner_node k) (stepped_nodes (roles_by_names [] (minus_of (take i bs))) k nodes)
+      ≡ stepped_nodes (roles_by_names [] (minus_of (take (i + 1) bs))) k nodes
   minus_done i d less =
       shrunk_turn (minus_of (take i bs)) k (get_or bs i d).minus nodes (new_minus i d less)
-      ∙ ap (λ l. stepped (roles_by_names [] l) k nodes) (sym (map_more (λ b. b.minus) bs i d less))
+      ∙ ap (λ l. stepped_nodes (roles_by_names [] l) k nodes) (sym (map_more (λ b. b.minus) bs i d less))
 
   pub root_may : (i : ℕ) → length bs ≤ i
-      → (is_live (stepped (roles_by_names [] (minus_of (take i bs))) k nodes) t.root ≡ true)
-      × (is_outer (stepped (roles_by_names [] (minus_of (take i bs))) k nodes) t.root ≡ true)
-      × IsCrossed p (top_at (stepped (roles_by_names [] (minus_of (take i bs))) k nodes) t.root)
-      × AllowsGrowth p (stepped (roles_by_names [] (minus_of (take i bs))) k nodes) (top_at (stepped (roles_by_names [] (minus_of (take i bs))) k nodes) t.root) k
+      → (is_live (stepped_nodes (roles_by_names [] (minus_of (take i bs))) k nodes) t.root ≡ true)
+      × (is_outer (stepped_nodes (roles_by_names [] (minus_of (take i bs))) k nodes) t.root ≡ true)
+      × IsCrossed p (top_at (stepped_nodes (roles_by_names [] (minus_of (take i bs))) k nodes) t.root)
+      × AllowsGrowth p (stepped_nodes (roles_by_names [] (minus_of (take i bs))) k nodes) (top_at (stepped_nodes (roles_by_names [] (minus_of (take i bs))) k nodes) t.root) k
   root_may i all =
       plus_turn p t nodes are [] (minus_of (take i bs)) k t.root may
       (λ n. ap (λ l. is_in (minus_of l) n) (take_all i bs all) ∙ same_minus n)
       (λ n none. absurd (false≢true none)) root_is_plus refl
 
   pub root_done : (i : ℕ) → length bs ≤ i
-      → change_at t.root (thicker k) (stepped (roles_by_names [] (minus_of (take i bs))) k nodes)
-      ≡ stepped (roles_by_names (t.root ∷ plus_of (take 0 bs)) (minus_of bs)) k nodes
+      → change_at t.root (thicker_node k) (stepped_nodes (roles_by_names [] (minus_of (take i bs))) k nodes)
+      ≡ stepped_nodes (roles_by_names (t.root ∷ plus_of (take 0 bs)) (minus_of bs)) k nodes
   root_done i all =
-      ap (λ l. change_at t.root (thicker k) (stepped (roles_by_names [] (minus_of l)) k nodes)) (take_all i bs all)
+      ap (λ l. change_at t.root (thicker_node k) (stepped_nodes (roles_by_names [] (minus_of l)) k nodes)) (take_all i bs all)
       ∙ grown_turn [] (minus_of bs) k t.root nodes refl (not_minus t.root root_is_plus)
 
   pub plus_may : (i : ℕ) (d : Branch) → i < length bs
-      → (is_live (stepped (roles_by_names (t.root ∷ plus_of (take i bs)) (minus_of bs)) k nodes) (get_or bs i d).plus ≡ true)
-      × (is_outer (stepped (roles_by_names (t.root ∷ plus_of (take i bs)) (minus_of bs)) k nodes) (get_or bs i d).plus ≡ true)
-      × IsCrossed p (top_at (stepped (roles_by_names (t.root ∷ plus_of (take i bs)) (minus_of bs)) k nodes) (get_or bs i d).plus)
-      × AllowsGrowth p (stepped (roles_by_names (t.root ∷ plus_of (take i bs)) (minus_of bs)) k nodes) (top_at (stepped (roles_by_names (t.root ∷ plus_of (take i bs)) (minus_of bs)) k nodes) (get_or bs i d).plus) k
+      → (is_live (stepped_nodes (roles_by_names (t.root ∷ plus_of (take i bs)) (minus_of bs)) k nodes) (get_or bs i d).plus ≡ true)
+      × (is_outer (stepped_nodes (roles_by_names (t.root ∷ plus_of (take i bs)) (minus_of bs)) k nodes) (get_or bs i d).plus ≡ true)
+      × IsCrossed p (top_at (stepped_nodes (roles_by_names (t.root ∷ plus_of (take i bs)) (minus_of bs)) k nodes) (get_or bs i d).plus)
+      × AllowsGrowth p (stepped_nodes (roles_by_names (t.root ∷ plus_of (take i bs)) (minus_of bs)) k nodes) (top_at (stepped_nodes (roles_by_names (t.root ∷ plus_of (take i bs)) (minus_of bs)) k nodes) (get_or bs i d).plus) k
   plus_may i d less =
       plus_turn p t nodes are (t.root ∷ plus_of (take i bs)) (minus_of bs) k (get_or bs i d).plus may same_minus (plus_before i)
       (is_plus i d less) (new_plus i d less)
 
   pub plus_done : (i : ℕ) (d : Branch) → i < length bs
-      → change_at (get_or bs i d).plus (thicker k) (stepped (roles_by_names (t.root ∷ plus_of (take i bs)) (minus_of bs)) k nodes)
-      ≡ stepped (roles_by_names (t.root ∷ plus_of (take (i + 1) bs)) (minus_of bs)) k nodes
+      → change_at (get_or bs i d).plus (thicker_node k) (stepped_nodes (roles_by_names (t.root ∷ plus_of (take i bs)) (minus_of bs)) k nodes)
+      ≡ stepped_nodes (roles_by_names (t.root ∷ plus_of (take (i + 1) bs)) (minus_of bs)) k nodes
   plus_done i d less =
       grown_turn (t.root ∷ plus_of (take i bs)) (minus_of bs) k (get_or bs i d).plus nodes (new_plus i d less)
       (not_minus (get_or bs i d).plus (is_plus i d less))
-      ∙ ap (λ l. stepped (roles_by_names (t.root ∷ l) (minus_of bs)) k nodes) (sym (map_more (λ b. b.plus) bs i d less))
+      ∙ ap (λ l. stepped_nodes (roles_by_names (t.root ∷ l) (minus_of bs)) k nodes) (sym (map_more (λ b. b.plus) bs i d less))
 
   pub all_done : (i : ℕ) → length bs ≤ i
-      → stepped (roles_by_names (t.root ∷ plus_of (take i bs)) (minus_of bs)) k nodes
-      ≡ stepped (roles_of t.root t.branches) k nodes
+      → stepped_nodes (roles_by_names (t.root ∷ plus_of (take i bs)) (minus_of bs)) k nodes
+      ≡ stepped_nodes (roles_of t.root t.branches) k nodes
   all_done i all =
-      ap (λ l. stepped (roles_by_names (t.root ∷ plus_of l) (minus_of bs)) k nodes) (take_all i bs all)
+      ap (λ l. stepped_nodes (roles_by_names (t.root ∷ plus_of l) (minus_of bs)) k nodes) (take_all i bs all)
       ∙ same_roles (roles_by_names (t.root ∷ plus_of bs) (minus_of bs)) (roles_of t.root t.branches) k nodes same_plus same_minus

@@ -14,7 +14,7 @@ use Rattle.fb_blossoms.specs.Nodes.{Adds, AreOuter, IsNested, IsOddCycle}
 use Rattle.fb_blossoms.specs.Nodes as blossoms
 use Rattle.fb_laws.specs.LinkNumbers.{tree_links}
 use Rattle.fb_laws.specs.PartStates.{SearchState}
-use Rattle.fb_laws.specs.SearchBlossoms.{joined_tree, renamed}
+use Rattle.fb_laws.specs.SearchBlossoms.{joined_tree, renamed_name}
 use Rattle.fb_laws.specs.StateBlossoms.{MayClose}
 use Rattle.fb_laws.specs.TreeCycles.{AreLinked, ArePaths, cycle_links, cycle_nodes, last_plus, nodes_along}
 use Rattle.fb_laws.specs.Trees.{Connects, Entry, EntryOf, grown_links, paired_links, tree_names}
@@ -141,8 +141,8 @@ module _ (w : SearchValue) (a b closing : ℕ) (closes : Closes w a b closing) w
 
   -- the root's name, if it is another one after it, isn't listed yet
   pub root_unlisted : (name : ℕ) (gone : List ℕ) → is_live w.part.nodes name ≡ false
-      → renamed (is_in gone) name w.tree.root ≢ w.tree.root
-      → is_in (listed_names w.part.matching) (renamed (is_in gone) name w.tree.root) ≡ false
+      → renamed_name (is_in gone) name w.tree.root ≢ w.tree.root
+      → is_in (listed_names w.part.matching) (renamed_name (is_in gone) name w.tree.root) ≡ false
   root_unlisted name gone fresh differs = by (is_in gone w.tree.root) differs
     where
       by : (b : Bool) → (if b then name else w.tree.root) ≢ w.tree.root

@@ -6,16 +6,16 @@ use Rattle.fb_graph.specs.Parity.{is_in}
 use Rattle.fb_graph.specs.Certificate.{AreDistinct}
 use Rattle.fb_graph.specs.Limits.{IsWithinLimits}
 use Rattle.fb_graph.specs.Dual.{is_live}
-use Rattle.fb_graph.specs.Moves.{MayJoin, joined}
+use Rattle.fb_graph.specs.Moves.{MayJoin, joined_nodes}
 use Rattle.fb_graph.proofs.JoinedNests.{height}
 use Rattle.fb_graph.proofs.Sets.{is_in-tail}
 use Rattle.fb_links.specs.declared.cycle.CycleStep.{CycleStep}
 use Rattle.fb_blossoms.specs.Nodes.{Adds}
 use Rattle.fb_blossoms.specs.Nodes as blossoms
 use Rattle.fb_laws.specs.PartStates.{IsSearchState, SearchState}
-use Rattle.fb_laws.specs.SearchBlossoms.{renamed}
+use Rattle.fb_laws.specs.SearchBlossoms.{renamed_name}
 use Rattle.fb_laws.specs.StateBlossoms.{MayClose}
-use Rattle.fb_laws.specs.Works.{without}
+use Rattle.fb_laws.specs.Works.{names_without}
 use Rattle.fb_laws.proofs.OpenedBlossoms.{distinct_permuted, same_permuted}
 use Rattle.fb_laws.proofs.StateBlossoms.{unmatched_is_root}
 use Rattle.fb_trees.specs.Branches.{Grown}
@@ -51,7 +51,7 @@ use Rattle.fb_search.proofs.TakenNames.{without_taken}
 abbrev pub closed_search : SearchValue → ℕ → List ℕ → List (Option blossoms.Node) → MatchingValue → Watched
     → SearchValue
 closed_search w name gone store matching watched = record {
-  part = record w.part { nodes = joined name gone w.part.nodes; store = store; matching = matching };
+  part = record w.part { nodes = joined_nodes name gone w.part.nodes; store = store; matching = matching };
   tree = replacements.joined w.tree gone name;
   watched = watched;
 }
@@ -73,7 +73,7 @@ module _ (w : SearchValue) (a b closing : ℕ) (closes : Closes w a b closing) (
   may = may_close w a b closing closes name new_name
 
   module _ (matching : MatchingValue)
-      (listed : IsReplacedBy w.tree.root (renamed (is_in cycle) name w.tree.root) w.part.matching matching)
+      (listed : IsReplacedBy w.tree.root (renamed_name (is_in cycle) name w.tree.root) w.part.matching matching)
       (watched : Watched)
       (limits : IsWithinLimits (problem_of w))
       (watches : WatchesMinus (problem_of w) w.part.nodes w.tree cycle w.watched watched)
@@ -113,9 +113,9 @@ module _ (w : SearchValue) (a b closing : ℕ) (closes : Closes w a b closing) (
         closes.search.state.1 w.part.store store steps listed.beside matching.unmatched (λ n. refl) is.links adds
         listed.was others_out listed.unmatched
 
-    agreed : AreAgreed (joined name cycle w.part.nodes) store
+    agreed : AreAgreed (joined_nodes name cycle w.part.nodes) store
     agreed =
-        subst (λ gone. AreAgreed (joined name gone w.part.nodes) store) is.nodes
+        subst (λ gone. AreAgreed (joined_nodes name gone w.part.nodes) store) is.nodes
         (agreed_joined w.part.nodes w.part.store store name steps closes.search.agreed
         (steps_join w a b closing closes steps is name new_name) adds)
 
@@ -149,21 +149,21 @@ module _ (w : SearchValue) (a b closing : ℕ) (closes : Closes w a b closing) (
           watches closes.search.watch
           (subst (λ n. All (λ k. k < n) watched.edges) (watches.room ∙ closes.search.room) below);
       bounds =
-          bounded_still (problem_of w) w.part.nodes (joined name cycle w.part.nodes) watched
+          bounded_still (problem_of w) w.part.nodes (joined_nodes name cycle w.part.nodes) watched
           (height (problem_of w) w.part.nodes name cycle
           (subst (MayJoin w.part.nodes name) is.nodes (steps_join w a b closing closes steps is name new_name))
           closes.search.state.1.search.nest)
           (watches.bounds (residue_at (problem_of w) w.part.nodes) closes.search.bounds);
     }
 
-    others_kept : (n : ℕ) → is_in (without after.tree.root matching.unmatched) n
-        ≡ is_in (without w.tree.root w.part.matching.unmatched) n
+    others_kept : (n : ℕ) → is_in (names_without after.tree.root matching.unmatched) n
+        ≡ is_in (names_without w.tree.root w.part.matching.unmatched) n
     others_kept n =
         sym
-        (same_permuted (without after.tree.root matching.unmatched) listed.beside
+        (same_permuted (names_without after.tree.root matching.unmatched) listed.beside
         (without_taken after.tree.root matching.unmatched listed.beside state.names.distinct
         (IsPermutation-sym (after.tree.root ∷ listed.beside) matching.unmatched listed.unmatched)) n)
-        ∙ same_permuted (without w.tree.root w.part.matching.unmatched) listed.beside
+        ∙ same_permuted (names_without w.tree.root w.part.matching.unmatched) listed.beside
         (without_taken w.tree.root w.part.matching.unmatched listed.beside closes.search.state.1.names.distinct
         listed.was) n
 
@@ -191,7 +191,7 @@ module _ (w : SearchValue) (a b closing : ℕ) (closes : Closes w a b closing) (
 
   -- the nodes of the steps as one blossom
   cycle_closed : (gone : List ℕ) → gone ≡ nodes_of steps → (matching : MatchingValue)
-      → IsReplacedBy w.tree.root (renamed (is_in gone) name w.tree.root) w.part.matching matching → (watched : Watched)
+      → IsReplacedBy w.tree.root (renamed_name (is_in gone) name w.tree.root) w.part.matching matching → (watched : Watched)
       → IsWithinLimits (problem_of w) → WatchesMinus (problem_of w) w.part.nodes w.tree gone w.watched watched
       → All (λ k. k < watched.edge_count) watched.edges
       → IsSearching (closed_search w name gone store matching watched)
@@ -199,7 +199,7 @@ module _ (w : SearchValue) (a b closing : ℕ) (closes : Closes w a b closing) (
   cycle_closed gone same matching listed watched limits watches below =
       subst
       (λ ns.
-      IsReplacedBy w.tree.root (renamed (is_in ns) name w.tree.root) w.part.matching matching
+      IsReplacedBy w.tree.root (renamed_name (is_in ns) name w.tree.root) w.part.matching matching
       → WatchesMinus (problem_of w) w.part.nodes w.tree ns w.watched watched
       → IsSearching (closed_search w name ns store matching watched)
       × GoesOn w (closed_search w name ns store matching watched))

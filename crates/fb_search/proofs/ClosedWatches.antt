@@ -6,12 +6,12 @@ use Rattle.fb_graph.specs.Problem.{Problem, edge_at, touches}
 use Rattle.fb_graph.specs.Limits.{DecodingGraph, IsWithinLimits}
 use Rattle.fb_graph.specs.Certificate.{AreDistinct}
 use Rattle.fb_graph.specs.Dual.{AreOuterApart, Node, cover_of, is_live, is_outer, top_at}
-use Rattle.fb_graph.specs.Covers.{is_over, passes}
-use Rattle.fb_graph.specs.Moves.{MayJoin, joined}
+use Rattle.fb_graph.specs.Covers.{is_covered_by, passes}
+use Rattle.fb_graph.specs.Moves.{MayJoin, joined_nodes}
 use Rattle.fb_graph.proofs.Among.{among_live, cover_among, top_among}
 use Rattle.fb_graph.proofs.Sets.{is_in-cases, is_in-head, is_in-tail}
 use Rattle.fb_regions.specs.declared.roles.Role.TheVariants.{Plus, Minus, Out}
-use Rattle.fb_laws.specs.SearchBlossoms.{joined_tree, outer_branches, renamed, renamed_entry}
+use Rattle.fb_laws.specs.SearchBlossoms.{joined_tree, outer_branches, renamed_name, renamed_entry}
 use Rattle.fb_laws.specs.Trees.{EntryOf, minus_names, plus_names, tree_names}
 use Rattle.fb_plan.specs.Plans.{PlanTree, problem_at}
 use Rattle.fb_half.specs.Parts.{PartValue, problem_in}
@@ -30,7 +30,7 @@ use Rattle.fb_search.proofs.TakenVertices.{plus_over}
 
 -- a plus node of the tree with the blossom in it, other than the blossom, was plus
 plus_before : {L : Type 0} (joins : ℕ → Bool) (name root : ℕ) (tree : List (EntryOf L)) (n : ℕ) → n ≢ name
-    → is_in (plus_names (renamed joins name root) (joined_tree joins name tree)) n ≡ true
+    → is_in (plus_names (renamed_name joins name root) (joined_tree joins name tree)) n ≡ true
     → is_in (plus_names root tree) n ≡ true
 plus_before {L} joins name root tree n other there = each tree there
   where
@@ -38,28 +38,28 @@ plus_before {L} joins name root tree n other there = each tree there
     one x true same = absurd (other (sym same))
     one x false same = same
 
-    base : (renamed joins name root ≡ n) ⊎ (is_in [] n ≡ true) → is_in (root ∷ []) n ≡ true
+    base : (renamed_name joins name root ≡ n) ⊎ (is_in [] n ≡ true) → is_in (root ∷ []) n ≡ true
     base (inl same) = subst (λ m. is_in (root ∷ []) m ≡ true) (one root (joins root) same) (is_in-head root [])
     base (inr none) = absurd (false≢true none)
 
-    each : (es : List (EntryOf L)) → is_in (plus_names (renamed joins name root) (joined_tree joins name es)) n ≡ true
+    each : (es : List (EntryOf L)) → is_in (plus_names (renamed_name joins name root) (joined_tree joins name es)) n ≡ true
         → is_in (plus_names root es) n ≡ true
-    each [] h = base (is_in-cases (renamed joins name root) [] n h)
+    each [] h = base (is_in-cases (renamed_name joins name root) [] n h)
     each (e ∷ es) h = step (not (joins e.minus)) h (each es)
       where
         step : (b : Bool)
             → is_in
-            (plus_names (renamed joins name root)
+            (plus_names (renamed_name joins name root)
             (map (renamed_entry joins name) (cond b (e ∷ outer_branches joins es) (outer_branches joins es)))) n
             ≡ true
-            → (is_in (plus_names (renamed joins name root) (joined_tree joins name es)) n ≡ true
+            → (is_in (plus_names (renamed_name joins name root) (joined_tree joins name es)) n ≡ true
             → is_in (plus_names root es) n ≡ true)
             → is_in (e.plus ∷ plus_names root es) n ≡ true
         step false h rest = is_in-tail e.plus (plus_names root es) n (rest h)
-        step true h rest = by (is_in-cases (renamed joins name e.plus)
-            (plus_names (renamed joins name root) (joined_tree joins name es)) n h)
+        step true h rest = by (is_in-cases (renamed_name joins name e.plus)
+            (plus_names (renamed_name joins name root) (joined_tree joins name es)) n h)
           where
-            by : (renamed joins name e.plus ≡ n) ⊎ (is_in (plus_names (renamed joins name root)
+            by : (renamed_name joins name e.plus ≡ n) ⊎ (is_in (plus_names (renamed_name joins name root)
                 (joined_tree joins name es)) n ≡ true)
                 → is_in (e.plus ∷ plus_names root es) n ≡ true
             by (inl same) =
@@ -111,14 +111,14 @@ role_there t n there = by (is_in (plus_names t.root t.branches) n) (is_in (minus
 
 module _ (p : Problem) (nodes : List Node) (tree : Grown) (name : ℕ) (children : List ℕ) (old new : Watched)
     (limits : IsWithinLimits p) (names : AreDistinct (map (λ n. n.name) nodes)) (apart : AreOuterApart nodes)
-    (apart_after : AreOuterApart (joined name children nodes))
-    (outer : is_outer (joined name children nodes) name ≡ true)
+    (apart_after : AreOuterApart (joined_nodes name children nodes))
+    (outer : is_outer (joined_nodes name children nodes) name ≡ true)
     (may : MayJoin nodes name children)
     (within : (n : ℕ) → is_in children n ≡ true → is_in (tree_names tree.root tree.branches) n ≡ true)
     (watches : WatchesMinus p nodes tree children old new) where
   -- the edges at a vertex of a minus node of the cycle are watched
   watched_at : (n v : ℕ) → is_in children n ≡ true → role_in tree n ≡ Minus → is_in (top_at nodes n) v ≡ true
-      → IsWatchedAt p (joined name children nodes) new.edges v
+      → IsWatchedAt p (joined_nodes name children nodes) new.edges v
   watched_at n v child minus held k less (inl first) one =
       watches.near n v k child minus held less
       (ap (λ u. touches u (edge_at p.edges k)) (sym first) ∙ touches_first p k limits less)
@@ -126,17 +126,17 @@ module _ (p : Problem) (nodes : List Node) (tree : Grown) (name : ℕ) (children
       watches.near n v k child minus held less
       (ap (λ u. touches u (edge_at p.edges k)) (sym second) ∙ touches_second p k limits less)
 
-  over_before : (v : ℕ) → is_over (roles_by (role_in (replacements.joined tree children name))).is_plus
-      (joined name children nodes) v ≡ true
-      → (is_over (roles_by (role_in tree)).is_plus nodes v ≡ true)
-      ⊎ IsWatchedAt p (joined name children nodes) new.edges v
+  over_before : (v : ℕ) → is_covered_by (roles_by (role_in (replacements.joined tree children name))).is_plus
+      (joined_nodes name children nodes) v ≡ true
+      → (is_covered_by (roles_by (role_in tree)).is_plus nodes v ≡ true)
+      ⊎ IsWatchedAt p (joined_nodes name children nodes) new.edges v
   over_before v over =
       let (m, cover, plus) = plus_over (roles_by (role_in (replacements.joined tree children name))).is_plus
-      (joined name children nodes) v over in
+      (joined_nodes name children nodes) v over in
       let (n, was, which) = cover_before nodes name children names apart may v m cover in by m plus n was which
     where
       still : (n : ℕ) → cover_of nodes v ≡ Some n → grows (role_in tree n) ≡ true
-          → is_over (roles_by (role_in tree)).is_plus nodes v ≡ true
+          → is_covered_by (roles_by (role_in tree)).is_plus nodes v ≡ true
       still n cover plus = ap (passes (roles_by (role_in tree)).is_plus) cover ∙ plus
 
       live : (n : ℕ) → cover_of nodes v ≡ Some n → is_live nodes n ≡ true
@@ -144,8 +144,8 @@ module _ (p : Problem) (nodes : List Node) (tree : Grown) (name : ℕ) (children
 
       joined_one : (n : ℕ) → cover_of nodes v ≡ Some n → is_in children n ≡ true
           → (grows (role_in tree n) ≡ true) ⊎ (role_in tree n ≡ Minus)
-          → (is_over (roles_by (role_in tree)).is_plus nodes v ≡ true)
-          ⊎ IsWatchedAt p (joined name children nodes) new.edges v
+          → (is_covered_by (roles_by (role_in tree)).is_plus nodes v ≡ true)
+          ⊎ IsWatchedAt p (joined_nodes name children nodes) new.edges v
       joined_one n cover child (inl plus) = inl (still n cover plus)
       joined_one n cover child (inr minus) =
           let a = cover_among nodes v n cover in
@@ -157,8 +157,8 @@ module _ (p : Problem) (nodes : List Node) (tree : Grown) (name : ℕ) (children
       by : (m : ℕ) → (roles_by (role_in (replacements.joined tree children name))).is_plus m ≡ true → (n : ℕ)
           → cover_of nodes v ≡ Some n
           → ((is_in children n ≡ true) × (m ≡ name)) ⊎ ((is_in children n ≡ false) × (m ≡ n))
-          → (is_over (roles_by (role_in tree)).is_plus nodes v ≡ true)
-          ⊎ IsWatchedAt p (joined name children nodes) new.edges v
+          → (is_covered_by (roles_by (role_in tree)).is_plus nodes v ≡ true)
+          ⊎ IsWatchedAt p (joined_nodes name children nodes) new.edges v
       by m plus n cover (inl (child, same)) = joined_one n cover child (role_there tree n (within n child))
       by m plus n cover (inr (out, same)) =
           inl
@@ -170,10 +170,10 @@ module _ (p : Problem) (nodes : List Node) (tree : Grown) (name : ℕ) (children
           (ap (roles_by (role_in (replacements.joined tree children name))).is_plus (sym same) ∙ plus)))))
 
   pub watch_closed : IsWatched p (roles_by (role_in tree)) nodes old.edges → All (λ k. k < length p.edges) new.edges
-      → IsWatched p (roles_by (role_in (replacements.joined tree children name))) (joined name children nodes) new.edges
+      → IsWatched p (roles_by (role_in (replacements.joined tree children name))) (joined_nodes name children nodes) new.edges
   watch_closed was below =
       watch_kept p (roles_by (role_in tree)) (roles_by (role_in (replacements.joined tree children name))) nodes
-      (joined name children nodes) old.edges new.edges was below watches.kept over_before
+      (joined_nodes name children nodes) old.edges new.edges was below watches.kept over_before
       (together_joined nodes name children names apart_after outer)
 
 -- the same by the scope of the part's node, which tells no defects

@@ -3,22 +3,22 @@ use Rattle.std.proofs.Common.{ℕ, ◌≡◌, ◌⊎◌, inl, inr, true, false, 
 use Rattle.fb_graph.specs.Parity.{is_in}
 use Rattle.fb_graph.specs.Certificate.{AreDistinct}
 use Rattle.fb_graph.specs.Dual.{AreOuterApart, Node, cover_of, is_live, is_outer, top_at}
-use Rattle.fb_graph.specs.Moves.{MayJoin, blossom, joined}
+use Rattle.fb_graph.specs.Moves.{MayJoin, blossom, joined_nodes}
 use Rattle.fb_graph.proofs.Among.{IsAmong, among_either, cover_among, covered_by, from_concat, live_among, outer_among, top_among}
 use Rattle.fb_graph.proofs.AppendedNodes.{outer_in}
 use Rattle.fb_graph.proofs.Sets.{is_in-All}
 
 -- It was one of those joined, if it is the blossom now, or the same node.
 pub cover_before : (nodes : List Node) (name : ℕ) (children : List ℕ) → AreDistinct (map (λ n. n.name) nodes)
-    → AreOuterApart nodes → MayJoin nodes name children → (v m : ℕ) → cover_of (joined name children nodes) v ≡ Some m
+    → AreOuterApart nodes → MayJoin nodes name children → (v m : ℕ) → cover_of (joined_nodes name children nodes) v ≡ Some m
     → (n : ℕ) × (cover_of nodes v ≡ Some n)
     × (((is_in children n ≡ true) × (m ≡ name)) ⊎ ((is_in children n ≡ false) × (m ≡ n)))
 cover_before nodes name children names apart may v m cover =
-    let over = cover_among (joined name children nodes) v m cover in
+    let over = cover_among (joined_nodes name children nodes) v m cover in
     by over.node over.named over.outer over.holds
     (among_either nodes (blossom name children nodes ∷ []) over.node over.among)
   where
-    by : (q : Node) → q.name ≡ m → is_outer (joined name children nodes) q.name ≡ true → is_in q.top.vertices v ≡ true
+    by : (q : Node) → q.name ≡ m → is_outer (joined_nodes name children nodes) q.name ≡ true → is_in q.top.vertices v ≡ true
         → IsAmong q nodes ⊎ IsAmong q (blossom name children nodes ∷ [])
         → (n : ℕ) × (cover_of nodes v ≡ Some n)
         × (((is_in children n ≡ true) × (m ≡ name)) ⊎ ((is_in children n ≡ false) × (m ≡ n)))

@@ -5,7 +5,7 @@ use Rattle.fb_graph.specs.Parity.{is_in}
 use Rattle.fb_graph.specs.Certificate.{AreDistinct}
 use Rattle.fb_graph.proofs.Sets.{is_in-head, is_in-tail}
 use Rattle.fb_laws.specs.TreeCycles.{nodes_along}
-use Rattle.fb_laws.specs.Trees.{EntryOf, beside, path_to, tree_names}
+use Rattle.fb_laws.specs.Trees.{EntryOf, branches_beside, path_to, tree_names}
 use Rattle.fb_half.specs.Matchings.{matched_names}
 use Rattle.fb_search.specs.InternalEndings.{beside_match, ended_matches, path_match}
 
@@ -26,17 +26,17 @@ path_root root (e ∷ es) distinct =
     ap (λ b. cond b (path_to es e.parent ++ e ∷ []) (path_to es root)) (root_apart root e es distinct)
     ∙ path_root root es distinct.1.1
 
-pub beside_root : (root : ℕ) (tree : List (EntryOf ℕ)) → AreDistinct (tree_names root tree) → beside tree root ≡ tree
+pub beside_root : (root : ℕ) (tree : List (EntryOf ℕ)) → AreDistinct (tree_names root tree) → branches_beside tree root ≡ tree
 beside_root root [] distinct = refl
 beside_root root (e ∷ es) distinct =
-    ap (λ b. cond b (beside es e.parent) (e ∷ beside es root)) (root_apart root e es distinct)
+    ap (λ b. cond b (branches_beside es e.parent) (e ∷ branches_beside es root)) (root_apart root e es distinct)
     ∙ ap (λ l. e ∷ l) (beside_root root es distinct.1.1)
 
 -- so each minus node stays matched with its plus node
 pub matches_root : (root : ℕ) (tree : List (EntryOf ℕ)) → AreDistinct (tree_names root tree)
     → ended_matches tree root ≡ map beside_match tree
 matches_root root tree distinct =
-    ap (λ l. map path_match l ++ map beside_match (beside tree root)) (path_root root tree distinct)
+    ap (λ l. map path_match l ++ map beside_match (branches_beside tree root)) (path_root root tree distinct)
     ∙ ap (map beside_match) (beside_root root tree distinct)
 
 pub names_beside : (tree : List (EntryOf ℕ)) → matched_names (map beside_match tree) ≡ nodes_along tree

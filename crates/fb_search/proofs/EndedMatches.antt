@@ -9,7 +9,7 @@ use Rattle.fb_graph.specs.Problem.{Problem}
 use Rattle.fb_graph.proofs.Among.{IsAmong, All_among, among_All, among_either, among_left, among_map, among_right}
 use Rattle.fb_graph.proofs.Sets.{is_in-head, is_in-tail}
 use Rattle.fb_laws.specs.TreeCycles.{nodes_along}
-use Rattle.fb_laws.specs.Trees.{Connects, EntryOf, IsTree, beside, path_to, plus_names}
+use Rattle.fb_laws.specs.Trees.{Connects, EntryOf, IsTree, branches_beside, path_to, plus_names}
 use Rattle.fb_laws.proofs.OpenedBlossoms.{distinct_permuted, same_permuted}
 use Rattle.fb_laws.proofs.SearchTrees.{path_beside}
 use Rattle.fb_links.specs.Table.{link_at}
@@ -42,25 +42,25 @@ pub tree_matches_lead : (p : Problem) (nodes : List Node) (root name : ℕ) (tab
     → IsTree nodes root (map (entry_by table) tree) → (m : Match) → IsAmong m (ended_matches tree name)
     → LeadsBy p nodes table m
 tree_matches_lead p nodes root name table tree tree_is m a =
-    by (among_either (map path_match (path_to tree name)) (map beside_match (beside tree name)) m a)
+    by (among_either (map path_match (path_to tree name)) (map beside_match (branches_beside tree name)) m a)
   where
-    whole : All (IsBranchBy nodes table) (path_to tree name ++ beside tree name)
+    whole : All (IsBranchBy nodes table) (path_to tree name ++ branches_beside tree name)
     whole =
-        All-permutation (IsBranchBy nodes table) tree (path_to tree name ++ beside tree name)
+        All-permutation (IsBranchBy nodes table) tree (path_to tree name ++ branches_beside tree name)
         (IsPermutation-sym _ _ (path_beside tree name))
         (among_All (IsBranchBy nodes table) tree (branches_lead nodes root table tree tree_is))
 
-    by : IsAmong m (map path_match (path_to tree name)) ⊎ IsAmong m (map beside_match (beside tree name)) → LeadsBy p nodes table m
+    by : IsAmong m (map path_match (path_to tree name)) ⊎ IsAmong m (map beside_match (branches_beside tree name)) → LeadsBy p nodes table m
     by (inl up) =
         let (e, there, is) = among_map path_match (path_to tree name) m up in
         subst (LeadsBy p nodes table) is
-        (All_among (IsBranchBy nodes table) (path_to tree name ++ beside tree name) whole e
-        (among_left (path_to tree name) (beside tree name) e there)).0
+        (All_among (IsBranchBy nodes table) (path_to tree name ++ branches_beside tree name) whole e
+        (among_left (path_to tree name) (branches_beside tree name) e there)).0
     by (inr off) =
-        let (e, there, is) = among_map beside_match (beside tree name) m off in
+        let (e, there, is) = among_map beside_match (branches_beside tree name) m off in
         subst (LeadsBy p nodes table) is
-        (All_among (IsBranchBy nodes table) (path_to tree name ++ beside tree name) whole e
-        (among_right (path_to tree name) (beside tree name) e there)).1
+        (All_among (IsBranchBy nodes table) (path_to tree name ++ branches_beside tree name) whole e
+        (among_right (path_to tree name) (branches_beside tree name) e there)).1
 
 link_among : (ms : List Match) (m : Match) → IsAmong m ms → is_in (match_links ms) m.link ≡ true
 link_among [] m a = absurd a

@@ -8,10 +8,10 @@ use Rattle.fb_graph.specs.Parity.{is_in}
 use Rattle.fb_graph.specs.Dual.{Node, is_live}
 use Rattle.fb_graph.specs.Laws.{Link}
 use Rattle.fb_graph.proofs.Sets.{is_in-filter, is_in-head, is_in-tail}
-use Rattle.fb_laws.specs.StateMoves.{IsEnded, ended}
+use Rattle.fb_laws.specs.StateMoves.{IsEnded, ended_state}
 use Rattle.fb_laws.specs.StateOrders.{AgreeAt}
-use Rattle.fb_laws.specs.Trees.{beside, grown_links, paired_links, path_to, plus_names}
-use Rattle.fb_laws.specs.Works.{without}
+use Rattle.fb_laws.specs.Trees.{branches_beside, grown_links, paired_links, path_to, plus_names}
+use Rattle.fb_laws.specs.Works.{names_without}
 use Rattle.fb_laws.proofs.OpenedBlossoms.{same_permuted}
 use Rattle.fb_laws.proofs.StateOrders.{part_reordered}
 use Rattle.fb_laws.proofs.TreePaths.{in_left, in_right}
@@ -150,7 +150,7 @@ reordered xs ys zs x =
 abbrev pub law_matches : SearchValue → ℕ → List Match → Link → List Link
 law_matches w name kept out =
     grown_links (path_to (map (entry_by w.part.links) w.tree.branches) name)
-    ++ out ∷ (paired_links (beside (map (entry_by w.part.links) w.tree.branches) name) ++ map (link_by w.part.links) (match_links kept))
+    ++ out ∷ (paired_links (branches_beside (map (entry_by w.part.links) w.tree.branches) name) ++ map (link_by w.part.links) (match_links kept))
 
 matches_after : (w : SearchValue) (name : ℕ) (new : Table) (unmatched : List ℕ) (kept : List Match) (out : Match) → IsSearching w
     → (is : IsEndedBy w name new unmatched kept out)
@@ -167,7 +167,7 @@ matches_after w name new unmatched kept out are is =
     up = map by (grown_links (path_to w.tree.branches name))
 
     off : List Link
-    off = map by (paired_links (beside w.tree.branches name))
+    off = map by (paired_links (branches_beside w.tree.branches name))
 
     others : List Link
     others = map by (match_links kept)
@@ -176,7 +176,7 @@ matches_after w name new unmatched kept out are is =
     law =
         (λ k. (ap grown_links (path_moved by w.tree.branches name) ∙ grown_moved by (path_to w.tree.branches name)) k
         ++ link_of is.walk
-        ∷ ((ap paired_links (beside_moved by w.tree.branches name) ∙ paired_moved by (beside w.tree.branches name)) k ++ others))
+        ∷ ((ap paired_links (beside_moved by w.tree.branches name) ∙ paired_moved by (branches_beside w.tree.branches name)) k ++ others))
 
     before : List ℕ
     before = match_links (kept ++ ended_matches w.tree.branches name)
@@ -193,7 +193,7 @@ matches_after w name new unmatched kept out are is =
         ∙ map-append by (match_links kept) (match_links (ended_matches w.tree.branches name))
         ∙ ap (λ l. others ++ map by l) (matches_linked w.tree.branches name)
         ∙ ap (λ l. others ++ l)
-        (map-append by (grown_links (path_to w.tree.branches name)) (paired_links (beside w.tree.branches name)))
+        (map-append by (grown_links (path_to w.tree.branches name)) (paired_links (branches_beside w.tree.branches name)))
 
     whole : map (link_by new) (match_links (all_matches kept w.tree.branches name out)) ≡ (others ++ (up ++ off)) ++ link_of is.walk ∷ []
     whole =
@@ -206,7 +206,7 @@ pub ended_part : (w : SearchValue) (name : ℕ) (new : Table) (unmatched named :
     (are : IsSearching w) (is : IsEndedBy w name new unmatched kept out) → IsPermutation named unmatched
     → length w.part.matching.unmatched ≤ length unmatched + 2
     → IsEnded (problem_of w) (state_at w are.state.0)
-    (ended name (link_of is.walk) (map (link_by w.part.links) (match_links kept)) named (state_at w are.state.0))
+    (ended_state name (link_of is.walk) (map (link_by w.part.links) (match_links kept)) named (state_at w are.state.0))
     → IsPart (part_after w name new unmatched kept out)
     × IsSearched w.tree.root w.part (part_after w name new unmatched kept out)
 ended_part w name new unmatched named kept out are is moved few law = (
@@ -216,7 +216,7 @@ ended_part w name new unmatched named kept out are is moved few law = (
     node = are.node;
     state =
         part_reordered (problem_of w)
-        (ended name (link_of is.walk) (map (link_by w.part.links) (match_links kept)) named (state_at w are.state.0))
+        (ended_state name (link_of is.walk) (map (link_by w.part.links) (match_links kept)) named (state_at w are.state.0))
         (cycles_by new w.part.store) (map (link_by new) (match_links (all_matches kept w.tree.branches name out))) unmatched
         agree (matches_after w name new unmatched kept out are is) moved law.state;
     agreed = are.agreed;
@@ -239,7 +239,7 @@ ended_part w name new unmatched named kept out are is moved few law = (
         (in_right (match_links (kept ++ ended_matches w.tree.branches name)) (ring_links w.part.nodes w.part.store) id
         (ring_within w.part.nodes w.part.store n live id within)))
 
-    others : (n : ℕ) → is_in named n ≡ true → is_in (without w.tree.root w.part.matching.unmatched) n ≡ true
+    others : (n : ℕ) → is_in named n ≡ true → is_in (names_without w.tree.root w.part.matching.unmatched) n ≡ true
     others n within =
         is_in-filter (λ x. not (x == w.tree.root)) w.part.matching.unmatched n
         ∙ and_from (is_in w.part.matching.unmatched n) (not (n == w.tree.root)) (law.others n within)

@@ -10,7 +10,7 @@ use Rattle.fb_graph.specs.Parity.{is_in}
 use Rattle.fb_graph.proofs.Sets.{is_in-cases}
 use Rattle.fb_laws.specs.LinkNumbers.{links_dropped, links_matched}
 use Rattle.fb_laws.specs.TreeCycles.{nodes_along}
-use Rattle.fb_laws.specs.Trees.{EntryOf, beside, grown_links, paired_links, path_to, plus_names}
+use Rattle.fb_laws.specs.Trees.{EntryOf, branches_beside, grown_links, paired_links, path_to, plus_names}
 use Rattle.fb_trees.specs.Branches.{entry_of}
 use Rattle.fb_trees.specs.Rooted.{AreHung}
 use Rattle.fb_trees.specs.declared.branch.Branch.{Branch}
@@ -30,7 +30,7 @@ abbrev pub on_path : (tree : List (EntryOf ℕ)) (name : ℕ) → List ℕ
 on_path tree name = matched_names (map path_match (path_to tree name))
 
 abbrev pub off_path : (tree : List (EntryOf ℕ)) (name : ℕ) → List ℕ
-off_path tree name = matched_names (map beside_match (beside tree name))
+off_path tree name = matched_names (map beside_match (branches_beside tree name))
 
 -- the names at a branch more at the path's end
 pushed_names : (es : List (EntryOf ℕ)) (e : EntryOf ℕ)
@@ -65,7 +65,7 @@ names_ended root (e ∷ es) name (parent, hung) plus =
         (n ∷ (matched_names (map path_match path) ++ matched_names (map beside_match others)))
 
     through : IsPermutation (root ∷ nodes_along es) (e.parent ∷ (on_path es e.parent ++ off_path es e.parent))
-        → Ended (path_to es e.parent ++ e ∷ []) (beside es e.parent) e.plus
+        → Ended (path_to es e.parent ++ e ∷ []) (branches_beside es e.parent) e.plus
     through rest =
         subst (λ l. IsPermutation (root ∷ e.minus ∷ e.plus ∷ nodes_along es) (e.plus ∷ (l ++ off_path es e.parent)))
         (sym (pushed_names (path_to es e.parent) e))
@@ -79,7 +79,7 @@ names_ended root (e ∷ es) name (parent, hung) plus =
         (IsPermutation-sym _ _ (middle_two (on_path es e.parent) e.parent e.minus (off_path es e.parent)))))))))
 
     past : IsPermutation (root ∷ nodes_along es) (name ∷ (on_path es name ++ off_path es name))
-        → Ended (path_to es name) (e ∷ beside es name) name
+        → Ended (path_to es name) (e ∷ branches_beside es name) name
     past rest =
         IsPermutation-trans _ _ _ front
         (IsPermutation-trans _ _ _ (IsPermutation-cons e.minus _ _ (IsPermutation-cons e.plus _ _ rest))
@@ -89,20 +89,20 @@ names_ended root (e ∷ es) name (parent, hung) plus =
     step : (e.plus ≡ name) ⊎ (e.plus ≡ name → ⊥)
         → ((n : ℕ) → is_in (plus_names root es) n ≡ true → IsPermutation (root ∷ nodes_along es) (n ∷ (on_path es n ++ off_path es n)))
         → Ended (cond (e.plus == name) (path_to es e.parent ++ e ∷ []) (path_to es name))
-        (cond (e.plus == name) (beside es e.parent) (e ∷ beside es name)) name
+        (cond (e.plus == name) (branches_beside es e.parent) (e ∷ branches_beside es name)) name
     step (inl same) rest =
-        subst (λ b. Ended (cond b (path_to es e.parent ++ e ∷ []) (path_to es name)) (cond b (beside es e.parent) (e ∷ beside es name)) name)
+        subst (λ b. Ended (cond b (path_to es e.parent ++ e ∷ []) (path_to es name)) (cond b (branches_beside es e.parent) (e ∷ branches_beside es name)) name)
         (sym (eq-eqb e.plus name same))
-        (subst (Ended (path_to es e.parent ++ e ∷ []) (beside es e.parent)) same (through (rest e.parent parent)))
+        (subst (Ended (path_to es e.parent ++ e ∷ []) (branches_beside es e.parent)) same (through (rest e.parent parent)))
     step (inr other) rest =
-        subst (λ b. Ended (cond b (path_to es e.parent ++ e ∷ []) (path_to es name)) (cond b (beside es e.parent) (e ∷ beside es name)) name)
+        subst (λ b. Ended (cond b (path_to es e.parent ++ e ∷ []) (path_to es name)) (cond b (branches_beside es e.parent) (e ∷ branches_beside es name)) name)
         (sym (ne_eqb e.plus name other))
         (past (rest name (among_rest other (is_in-cases e.plus (plus_names root es) name plus))))
 
 pub matches_named : (tree : List (EntryOf ℕ)) (name : ℕ)
     → matched_names (ended_matches tree name) ≡ on_path tree name ++ off_path tree name
 matches_named tree name =
-    flat_map-append names_of (map path_match (path_to tree name)) (map beside_match (beside tree name))
+    flat_map-append names_of (map path_match (path_to tree name)) (map beside_match (branches_beside tree name))
 
 path_links : (es : List (EntryOf ℕ)) → match_links (map path_match es) ≡ grown_links es
 path_links [] = refl
@@ -115,9 +115,9 @@ beside_links (e ∷ es) = ap (λ l. e.matched ∷ l) (beside_links es)
 -- their links are those that are matched
 pub matches_linked : (tree : List (EntryOf ℕ)) (name : ℕ) → match_links (ended_matches tree name) ≡ links_matched tree name
 matches_linked tree name =
-    map-append (λ m. m.link) (map path_match (path_to tree name)) (map beside_match (beside tree name))
-    ∙ ap (λ l. l ++ match_links (map beside_match (beside tree name))) (path_links (path_to tree name))
-    ∙ ap (λ l. grown_links (path_to tree name) ++ l) (beside_links (beside tree name))
+    map-append (λ m. m.link) (map path_match (path_to tree name)) (map beside_match (branches_beside tree name))
+    ∙ ap (λ l. l ++ match_links (map beside_match (branches_beside tree name))) (path_links (path_to tree name))
+    ∙ ap (λ l. grown_links (path_to tree name) ++ l) (beside_links (branches_beside tree name))
 
 -- what is read of each branch of a list, from its form as an entry
 read_as : {X : Type 0} (f : EntryOf ℕ → X) (bs : List Branch) (es : List (EntryOf ℕ)) → map entry_of bs ≡ es
@@ -125,15 +125,15 @@ read_as : {X : Type 0} (f : EntryOf ℕ → X) (bs : List Branch) (es : List (En
 read_as f bs es is = sym (map-map f entry_of bs) ∙ ap (map f) is
 
 pub matches_read : (path others : List Branch) (tree : List (EntryOf ℕ)) (name : ℕ) → map entry_of path ≡ path_to tree name
-    → map entry_of others ≡ beside tree name
+    → map entry_of others ≡ branches_beside tree name
     → map (λ b. path_match (entry_of b)) path ++ map (λ b. beside_match (entry_of b)) others ≡ ended_matches tree name
 matches_read path others tree name up off =
     ap (λ l. l ++ map (λ b. beside_match (entry_of b)) others) (read_as path_match path (path_to tree name) up)
-    ∙ ap (λ l. map path_match (path_to tree name) ++ l) (read_as beside_match others (beside tree name) off)
+    ∙ ap (λ l. map path_match (path_to tree name) ++ l) (read_as beside_match others (branches_beside tree name) off)
 
 pub links_read : (path others : List Branch) (tree : List (EntryOf ℕ)) (name : ℕ) → map entry_of path ≡ path_to tree name
-    → map entry_of others ≡ beside tree name
+    → map entry_of others ≡ branches_beside tree name
     → map (λ b. b.matched) path ++ map (λ b. b.tree) others ≡ links_dropped tree name
 links_read path others tree name up off =
     ap (λ l. l ++ map (λ b. b.tree) others) (read_as (λ e. e.matched) path (path_to tree name) up)
-    ∙ ap (λ l. paired_links (path_to tree name) ++ l) (read_as (λ e. e.tree) others (beside tree name) off)
+    ∙ ap (λ l. paired_links (path_to tree name) ++ l) (read_as (λ e. e.tree) others (branches_beside tree name) off)

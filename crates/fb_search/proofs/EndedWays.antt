@@ -8,7 +8,7 @@ use Rattle.fb_graph.proofs.Sets.{distinct-filter}
 use Rattle.fb_laws.specs.LinkNumbers.{links_dropped}
 use Rattle.fb_laws.specs.Searches.{LeavesNode}
 use Rattle.fb_laws.specs.Trees.{Connects, plus_names}
-use Rattle.fb_laws.specs.Works.{AreMatchedLinks, without}
+use Rattle.fb_laws.specs.Works.{AreMatchedLinks, names_without}
 use Rattle.fb_laws.proofs.StateMoves.{state_ended, state_met}
 use Rattle.fb_links.specs.declared.walk.Step.{Step}
 use Rattle.fb_links.specs.Table.{Adds}
@@ -51,7 +51,7 @@ pub ended_at_boundary : (w : SearchValue) (name link v : ℕ) (walk : List Step)
     → IsPart (part_after w name new unmatched w.part.matching.matches (boundary_match link name))
     × IsSearched w.tree.root w.part (part_after w name new unmatched w.part.matching.matches (boundary_match link name))
 ended_at_boundary w name link v walk new unmatched are linked leaves boundary moved =
-    ended_part w name new unmatched (without w.tree.root w.part.matching.unmatched) w.part.matching.matches
+    ended_part w name new unmatched (names_without w.tree.root w.part.matching.unmatched) w.part.matching.matches
     (boundary_match link name) are by
     (without_taken w.tree.root w.part.matching.unmatched unmatched are.state.1.names.distinct moved)
     (one_taken w.tree.root w.part.matching.unmatched unmatched moved)
@@ -80,9 +80,9 @@ pub ended_with : (w : SearchValue) (name other link : ℕ) (walk : List Step) (n
     → IsPart (part_after w name new unmatched w.part.matching.matches (met_match link name other))
     × IsSearched w.tree.root w.part (part_after w name new unmatched w.part.matching.matches (met_match link name other))
 ended_with w name other link walk new between unmatched are linked connects unpaired differs first second =
-    ended_part w name new unmatched (without w.tree.root (without other names)) w.part.matching.matches
+    ended_part w name new unmatched (names_without w.tree.root (names_without other names)) w.part.matching.matches
     (met_match link name other) are by
-    (without_taken w.tree.root (without other names) unmatched (distinct-filter (λ n. not (n == other)) names distinct)
+    (without_taken w.tree.root (names_without other names) unmatched (distinct-filter (λ n. not (n == other)) names distinct)
     (IsPermutation-trans _ _ _ (without_taken other names between distinct first) second))
     (two_taken other w.tree.root names between unmatched first second)
     (state_met (problem_of w) (state_at w are.state.0) name other (link_of walk)

@@ -4,7 +4,7 @@ use Rattle.std.specs.Prelude.{MatchOption}
 use Rattle.fb_graph.specs.Parity.{is_in}
 use Rattle.fb_graph.specs.Problem.{Problem, with_defects}
 use Rattle.fb_graph.specs.Dual.{leaves}
-use Rattle.fb_graph.specs.Steps.{Roles, stepped}
+use Rattle.fb_graph.specs.Steps.{Roles, stepped_nodes}
 use Rattle.fb_graph.proofs.StepLoads.{steps_add}
 use Rattle.fb_laws.specs.Trees.{roles_of}
 use Rattle.fb_laws.proofs.LoweredParts.{free_lowers}
@@ -34,9 +34,9 @@ not_free w k j are free again =
     let first : IsFree p roles w.part.nodes k =
     free_exchanged (problem_of w) (is_in (leaves w.part.nodes)) roles w.part.nodes k
     (subst (λ r. IsFree (problem_of w) r w.part.nodes k) (roles_in_tree w are) free) in
-    let next : IsFree p roles (stepped roles k w.part.nodes) j =
-    free_exchanged (problem_of w) (is_in (leaves w.part.nodes)) roles (stepped roles k w.part.nodes) j
-    (subst (λ r. IsFree (problem_of w) r (stepped roles k w.part.nodes) j) (roles_in_tree w are) again) in
+    let next : IsFree p roles (stepped_nodes roles k w.part.nodes) j =
+    free_exchanged (problem_of w) (is_in (leaves w.part.nodes)) roles (stepped_nodes roles k w.part.nodes) j
+    (subst (λ r. IsFree (problem_of w) r (stepped_nodes roles k w.part.nodes) j) (roles_in_tree w are) again) in
     let most : k + j ≤ k =
     greatest_bounds p roles w.part.nodes k (k + j) (tree_roles w are).exclusive are.state.1.search.nest.dual.packing first.greatest
     (steps_add p roles w.part.nodes k j (tree_roles w are).exclusive first.greatest.allowed next.greatest.allowed) in
@@ -119,12 +119,12 @@ stepped_not w o cleared = went_at_once w o cleared
 
 -- the same, seen from before the edges that are watched have changed
 pub stepped_anew : (w now after : SearchValue) → IsRewatched w now → HasStepped now after → HasStepped w after
-stepped_anew w now after same stepped o cleared =
-    went_anew w now.watched o same.room (subst (λ s. HasWent s o) same.same (stepped o cleared))
+stepped_anew w now after same stepped_nodes o cleared =
+    went_anew w now.watched o same.room (subst (λ s. HasWent s o) same.same (stepped_nodes o cleared))
 
 -- what a turn leaves, seen from before it
 pub turned : (w mid after : SearchValue) (left : Option TreeObstacle) → HasStepped w mid
     → MatchOption left (GoesOn mid after) (λ o. BlocksTree after o × (after ≡ mid))
     → MatchOption left (HasAdvanced w after) (λ o. BlocksTree after o × HasStepped w after)
-turned w mid after None stepped goes = stepped (On after) goes
-turned w mid after (Some o) stepped stands = (stands.0, subst (HasStepped w) (sym stands.1) stepped)
+turned w mid after None stepped_nodes goes = stepped_nodes (On after) goes
+turned w mid after (Some o) stepped_nodes stands = (stands.0, subst (HasStepped w) (sym stands.1) stepped_nodes)

@@ -4,7 +4,7 @@ use Rattle.std.proofs.lemmas.Bool.{both_ways, false_from_ne_true}
 use Rattle.fb_graph.specs.Parity.{is_in}
 use Rattle.fb_graph.specs.Problem.{Problem}
 use Rattle.fb_graph.specs.Dual.{Node, is_live, is_outer}
-use Rattle.fb_graph.specs.Moves.{MayJoin, blossom, joined}
+use Rattle.fb_graph.specs.Moves.{MayJoin, blossom, joined_nodes}
 use Rattle.fb_graph.proofs.Among.{IsAmong, All_among, among_either, among_outer}
 use Rattle.fb_graph.proofs.Sets.{is_in-All}
 use Rattle.fb_links.specs.declared.walk.Step.{Step}
@@ -53,9 +53,9 @@ module _ (p : Problem) (s : SearchState) (links : List (Option (List Step))) (br
       may.fresh))
 
   -- the blossom is an outer node then
-  pub outer_made : is_outer (joined name cycle s.nodes) name ≡ true
+  pub outer_made : is_outer (joined_nodes name cycle s.nodes) name ≡ true
   outer_made =
-      among_outer (joined name cycle s.nodes) name
+      among_outer (joined_nodes name cycle s.nodes) name
       (λ r among. by r (among_either s.nodes (blossom name cycle s.nodes ∷ []) r among))
     where
       other : (c : ℕ) → is_live s.nodes c ≡ true → c ≡ name → ⊥

@@ -5,7 +5,7 @@ use Rattle.std.proofs.lemmas.List.{length-map}
 use Rattle.fb_graph.specs.Parity.{is_in}
 use Rattle.fb_graph.specs.Problem.{Problem}
 use Rattle.fb_graph.specs.Certificate.{AreDistinct}
-use Rattle.fb_graph.specs.Moves.{joined}
+use Rattle.fb_graph.specs.Moves.{joined_nodes}
 use Rattle.fb_graph.proofs.Sets.{is_in-tail}
 use Rattle.fb_links.specs.declared.cycle.CycleStep.{CycleStep}
 use Rattle.fb_links.specs.declared.walk.Step.{Step}
@@ -68,10 +68,10 @@ module _ (p : Problem) (s : SearchState) (links : List (Option (List Step))) (br
       → Adds old new name (blossoms.blossom old steps)
       → AreLinksOf p links (closing ∷ (tree_links branches ++ (matches ++ ring_links s.nodes old)))
       → AreLinksOf p links
-      (tree_links (joined_tree (is_in cycle) name branches) ++ (matches ++ ring_links (joined name cycle s.nodes) new))
+      (tree_links (joined_tree (is_in cycle) name branches) ++ (matches ++ ring_links (joined_nodes name cycle s.nodes) new))
   links_closed old new steps matches nodes_are links_are adds are =
       links_reordered p links (closing ∷ (tree_links branches ++ (matches ++ ring_links s.nodes old)))
-      (tree_links (joined_tree (is_in cycle) name branches) ++ (matches ++ ring_links (joined name cycle s.nodes) new))
+      (tree_links (joined_tree (is_in cycle) name branches) ++ (matches ++ ring_links (joined_nodes name cycle s.nodes) new))
       (subst
       (λ l.
       IsPermutation (closing ∷ (tree_links branches ++ (matches ++ ring_links s.nodes old)))
@@ -81,9 +81,9 @@ module _ (p : Problem) (s : SearchState) (links : List (Option (List Step))) (br
       (cycle_links up closing down) matches (ring_links s.nodes old) numbers_joined))
       are
     where
-      rings : ring_links (joined name cycle s.nodes) new ≡ ring_links s.nodes old ++ cycle_links up closing down
+      rings : ring_links (joined_nodes name cycle s.nodes) new ≡ ring_links s.nodes old ++ cycle_links up closing down
       rings =
           subst
-          (λ c. ring_links (joined name c s.nodes) new ≡ ring_links s.nodes old ++ map (λ x. x.link) steps) nodes_are
+          (λ c. ring_links (joined_nodes name c s.nodes) new ≡ ring_links s.nodes old ++ map (λ x. x.link) steps) nodes_are
           (rings_joined s.nodes old new name steps may.fresh adds)
           ∙ ap (λ l. ring_links s.nodes old ++ l) links_are

@@ -6,10 +6,10 @@ use Rattle.std.proofs.lemmas.List.Sorted.{IsPermutation-sym}
 use Rattle.fb_graph.specs.Parity.{is_in}
 use Rattle.fb_graph.specs.Problem.{Problem}
 use Rattle.fb_graph.specs.Dual.{AreOuterApart, is_live}
-use Rattle.fb_graph.specs.Moves.{joined}
+use Rattle.fb_graph.specs.Moves.{joined_nodes}
 use Rattle.fb_links.specs.declared.walk.Step.{Step}
 use Rattle.fb_laws.specs.PartStates.{SearchState, IsSearchState}
-use Rattle.fb_laws.specs.SearchBlossoms.{joined_tree, renamed}
+use Rattle.fb_laws.specs.SearchBlossoms.{joined_tree, renamed_name}
 use Rattle.fb_laws.specs.StateBlossoms.{MayClose}
 use Rattle.fb_laws.specs.TreeCycles.{ArePaths, nodes_along}
 use Rattle.fb_laws.specs.Trees.{Entry, EntryOf, tree_names}
@@ -56,51 +56,51 @@ module _ (p : Problem) (s : SearchState) (links : List (Option (List Step))) (br
         ∙ in_right (beside ++ matched_names m.matches) (tree_names s.root branches) name there)).0)
 
     names_after : IsRenamed cycle (tree_names s.root branches)
-        (tree_names (renamed (is_in cycle) name s.root) (joined_tree (is_in cycle) name branches)) name
+        (tree_names (renamed_name (is_in cycle) name s.root) (joined_tree (is_in cycle) name branches)) name
     names_after =
         subst (λ ns. IsRenamed cycle (tree_names s.root branches) ns name)
-        (ap (λ t. tree_names (renamed (is_in cycle) name s.root) (joined_tree (is_in cycle) name t)) tree_is
-        ∙ (ap (tree_names (renamed (is_in cycle) name s.root))
+        (ap (λ t. tree_names (renamed_name (is_in cycle) name s.root) (joined_tree (is_in cycle) name t)) tree_is
+        ∙ (ap (tree_names (renamed_name (is_in cycle) name s.root))
         (joined_moved (link_by links) (is_in cycle) name branches)
-        ∙ names_moved (link_by links) (renamed (is_in cycle) name s.root) (joined_tree (is_in cycle) name branches)))
+        ∙ names_moved (link_by links) (renamed_name (is_in cycle) name s.root) (joined_tree (is_in cycle) name branches)))
         (subst
         (λ ns.
-        IsRenamed cycle ns (tree_names (renamed (is_in cycle) name s.root) (joined_tree (is_in cycle) name s.tree))
+        IsRenamed cycle ns (tree_names (renamed_name (is_in cycle) name s.root) (joined_tree (is_in cycle) name s.tree))
         name)
         names_are
         (subst
         (λ c.
         IsRenamed c (tree_names s.root s.tree)
-        (tree_names (renamed (is_in c) name s.root) (joined_tree (is_in c) name s.tree)) name)
+        (tree_names (renamed_name (is_in c) name s.root) (joined_tree (is_in c) name s.tree)) name)
         (same_cycle links s.root shared up down)
         (closed_renamed p s name a b (link_by links closing) (map (entry_by links) shared) (map (entry_by links) up)
         (map (entry_by links) down) may (paths_of links s.tree branches tree_is a b shared up down paths) state
         (ap (λ ns. is_in ns name) names_are ∙ fresh_in_tree))))
 
-    apart_after : AreOuterApart (joined name cycle s.nodes)
+    apart_after : AreOuterApart (joined_nodes name cycle s.nodes)
     apart_after =
-        subst (λ c. AreOuterApart (joined name c s.nodes)) (same_cycle links s.root shared up down)
+        subst (λ c. AreOuterApart (joined_nodes name c s.nodes)) (same_cycle links s.root shared up down)
         (state_closed p s name a b (link_by links closing) (map (entry_by links) shared) (map (entry_by links) up)
         (map (entry_by links) down) may (paths_of links s.tree branches tree_is a b shared up down paths)
         state).search.nest.dual.apart
 
     -- The blossom is listed in the place of the root, if that is on the cycle; all matches are kept.
-    pub matching_closed : IsPermutation (renamed (is_in cycle) name s.root ∷ beside) unmatched
-        → IsMatchingOf p (joined name cycle s.nodes) links (record { matches = m.matches; unmatched = unmatched })
+    pub matching_closed : IsPermutation (renamed_name (is_in cycle) name s.root ∷ beside) unmatched
+        → IsMatchingOf p (joined_nodes name cycle s.nodes) links (record { matches = m.matches; unmatched = unmatched })
         (nodes_along (joined_tree (is_in cycle) name branches))
     matching_closed listed =
         matching_joined p s.nodes name cycle links m (record { matches = m.matches; unmatched = unmatched })
         (nodes_along branches) (nodes_along (joined_tree (is_in cycle) name branches))
         (beside ++ matched_names m.matches) (tree_names s.root branches)
-        (tree_names (renamed (is_in cycle) name s.root) (joined_tree (is_in cycle) name branches)) was
+        (tree_names (renamed_name (is_in cycle) name s.root) (joined_tree (is_in cycle) name branches)) was
         (tree_listed m.unmatched beside (matched_names m.matches) s.root branches root_in)
         (IsPermutation-sym ((unmatched ++ matched_names m.matches) ++ nodes_along
         (joined_tree (is_in cycle) name branches))
         ((beside ++ matched_names m.matches)
-        ++ tree_names (renamed (is_in cycle) name s.root) (joined_tree (is_in cycle) name branches))
-        (tree_listed unmatched beside (matched_names m.matches) (renamed (is_in cycle) name s.root)
+        ++ tree_names (renamed_name (is_in cycle) name s.root) (joined_tree (is_in cycle) name branches))
+        (tree_listed unmatched beside (matched_names m.matches) (renamed_name (is_in cycle) name s.root)
         (joined_tree (is_in cycle) name branches)
-        (IsPermutation-sym (renamed (is_in cycle) name s.root ∷ beside) unmatched listed)))
+        (IsPermutation-sym (renamed_name (is_in cycle) name s.root ∷ beside) unmatched listed)))
         refl names_after
         (cycle_within p s links branches tree_is name a b closing shared up down may paths state) may.fresh
         (outer_made p s links branches tree_is name a b closing shared up down may paths state)

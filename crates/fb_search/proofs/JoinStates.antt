@@ -6,7 +6,7 @@ use Rattle.std.proofs.lemmas.List.Sorted.{IsPermutation-map, IsPermutation-refl,
 use Rattle.fb_graph.specs.Parity.{is_in}
 use Rattle.fb_graph.specs.Problem.{Problem}
 use Rattle.fb_graph.specs.Laws.{Link}
-use Rattle.fb_graph.specs.Moves.{joined}
+use Rattle.fb_graph.specs.Moves.{joined_nodes}
 use Rattle.fb_graph.specs.Steps.{Roles}
 use Rattle.fb_graph.proofs.Sets.{is_in-head, is_in-tail}
 use Rattle.fb_links.specs.declared.cycle.CycleStep.{CycleStep}
@@ -15,7 +15,7 @@ use Rattle.fb_blossoms.specs.Nodes.{Adds, cycle_of}
 use Rattle.fb_blossoms.specs.Nodes as blossoms
 use Rattle.fb_laws.specs.Measures.{IsLower}
 use Rattle.fb_laws.specs.PartStates.{SearchState, IsSearchState}
-use Rattle.fb_laws.specs.SearchBlossoms.{joined_tree, renamed}
+use Rattle.fb_laws.specs.SearchBlossoms.{joined_tree, renamed_name}
 use Rattle.fb_laws.specs.SearchLayers.{left_to_do}
 use Rattle.fb_laws.specs.StateBlossoms.{MayClose, joined_state, with_cycle}
 use Rattle.fb_laws.specs.TreeCycles.{ArePaths, cycle_links}
@@ -37,10 +37,10 @@ roles_moved links root branches =
     ∙ ap (roles_from (plus_names root branches)) (minus_moved (link_by links) branches)
 
 same_names : (joins : ℕ → Bool) (name : ℕ) (ns : List ℕ) → ((n : ℕ) → is_in ns n ≡ true → joins n ≡ false)
-    → map (renamed joins name) ns ≡ ns
+    → map (renamed_name joins name) ns ≡ ns
 same_names joins name [] out = refl
 same_names joins name (n ∷ ns) out =
-    ap (λ b. (if b then name else n) ∷ map (renamed joins name) ns) (out n (is_in-head n ns))
+    ap (λ b. (if b then name else n) ∷ map (renamed_name joins name) ns) (out n (is_in-head n ns))
     ∙ ap (λ l. n ∷ l) (same_names joins name ns (λ k there. out k (is_in-tail n ns k there)))
 
 module _ (p : Problem) (s : SearchState) (links : List (Option (List Step))) (branches : List (EntryOf ℕ))
@@ -62,15 +62,15 @@ module _ (p : Problem) (s : SearchState) (links : List (Option (List Step))) (br
       → ((n : ℕ) → s.cycles n ≡ cycles_by links old n) → map (λ c. c.link) steps ≡ cycle_links up closing down
       → Adds old new name (blossoms.blossom old steps) → IsPermutation s.unmatched (s.root ∷ beside)
       → ((n : ℕ) → is_in beside n ≡ true → is_in cycle n ≡ false)
-      → IsPermutation (renamed (is_in cycle) name s.root ∷ beside) unmatched
+      → IsPermutation (renamed_name (is_in cycle) name s.root ∷ beside) unmatched
       → IsSearchState p
       (record {
-        nodes = joined name cycle s.nodes;
+        nodes = joined_nodes name cycle s.nodes;
         cycles = cycles_by links new;
         tree = map (entry_by links) (joined_tree (is_in cycle) name branches);
         rest = s.rest;
         unmatched = unmatched;
-        root = renamed (is_in cycle) name s.root;
+        root = renamed_name (is_in cycle) name s.root;
         parity = s.parity;
       })
   state_after old new steps beside unmatched cycles_are links_are adds root_in out listed =
@@ -78,12 +78,12 @@ module _ (p : Problem) (s : SearchState) (links : List (Option (List Step))) (br
       (λ t.
       IsSearchState p
       (record {
-        nodes = joined name cycle s.nodes;
+        nodes = joined_nodes name cycle s.nodes;
         cycles = cycles_by links new;
         tree = t;
         rest = s.rest;
         unmatched = unmatched;
-        root = renamed (is_in cycle) name s.root;
+        root = renamed_name (is_in cycle) name s.root;
         parity = s.parity;
       }))
       tree_after
@@ -91,31 +91,31 @@ module _ (p : Problem) (s : SearchState) (links : List (Option (List Step))) (br
       (λ c.
       IsSearchState p
       (record {
-        nodes = joined name c s.nodes;
+        nodes = joined_nodes name c s.nodes;
         cycles = cycles_by links new;
         tree = joined_tree (is_in c) name s.tree;
         rest = s.rest;
         unmatched = unmatched;
-        root = renamed (is_in c) name s.root;
+        root = renamed_name (is_in c) name s.root;
         parity = s.parity;
       }))
       (same_cycle links s.root shared up down)
       (search_reordered p (joined_state name (cycle_from s.root (map (entry_by links) shared) (map (entry_by links) up)
       (map (entry_by links) down)) moved_links s) (cycles_by links new) s.rest unmatched
       (λ n live. cycles_agree n (cases_eq n name)) (IsPermutation-refl s.rest)
-      (subst (λ c. IsPermutation (map (renamed (is_in c) name) s.unmatched) unmatched)
+      (subst (λ c. IsPermutation (map (renamed_name (is_in c) name) s.unmatched) unmatched)
       (sym (same_cycle links s.root shared up down)) names_moved)
       (state_closed p s name a b (link_by links closing) (map (entry_by links) shared) (map (entry_by links) up)
       (map (entry_by links) down) may (paths_of links s.tree branches tree_is a b shared up down paths) state)))
     where
-      names_moved : IsPermutation (map (renamed (is_in cycle) name) s.unmatched) unmatched
+      names_moved : IsPermutation (map (renamed_name (is_in cycle) name) s.unmatched) unmatched
       names_moved =
-          IsPermutation-trans (map (renamed (is_in cycle) name) s.unmatched)
-          (renamed (is_in cycle) name s.root ∷ beside) unmatched
+          IsPermutation-trans (map (renamed_name (is_in cycle) name) s.unmatched)
+          (renamed_name (is_in cycle) name s.root ∷ beside) unmatched
           (subst
-          (λ l. IsPermutation (map (renamed (is_in cycle) name) s.unmatched) (renamed (is_in cycle) name s.root ∷ l))
+          (λ l. IsPermutation (map (renamed_name (is_in cycle) name) s.unmatched) (renamed_name (is_in cycle) name s.root ∷ l))
           (same_names (is_in cycle) name beside out)
-          (IsPermutation-map (renamed (is_in cycle) name) s.unmatched (s.root ∷ beside) root_in))
+          (IsPermutation-map (renamed_name (is_in cycle) name) s.unmatched (s.root ∷ beside) root_in))
           listed
 
       cycles_agree : (n : ℕ) → (n ≡ name) ⊎ (n ≡ name → ⊥)
@@ -135,26 +135,26 @@ module _ (p : Problem) (s : SearchState) (links : List (Option (List Step))) (br
   -- Less is left to do.
   pub less_after : (free freed : Bool)
       → IsLower
-      (left_to_do p (joined name cycle s.nodes)
-      (roles_of (renamed (is_in cycle) name s.root) (joined_tree (is_in cycle) name branches)) freed)
+      (left_to_do p (joined_nodes name cycle s.nodes)
+      (roles_of (renamed_name (is_in cycle) name s.root) (joined_tree (is_in cycle) name branches)) freed)
       (left_to_do p s.nodes (roles_of s.root branches) free)
   less_after free freed =
       subst
       (λ r.
       IsLower
-      (left_to_do p (joined name cycle s.nodes)
-      (roles_of (renamed (is_in cycle) name s.root) (joined_tree (is_in cycle) name branches)) freed)
+      (left_to_do p (joined_nodes name cycle s.nodes)
+      (roles_of (renamed_name (is_in cycle) name s.root) (joined_tree (is_in cycle) name branches)) freed)
       (left_to_do p s.nodes r free))
       (ap (roles_of s.root) tree_is ∙ roles_moved links s.root branches)
-      (subst (λ r. IsLower (left_to_do p (joined name cycle s.nodes) r freed)
+      (subst (λ r. IsLower (left_to_do p (joined_nodes name cycle s.nodes) r freed)
       (left_to_do p s.nodes (roles_of s.root s.tree) free))
-      (ap (roles_of (renamed (is_in cycle) name s.root)) tree_after
-      ∙ roles_moved links (renamed (is_in cycle) name s.root) (joined_tree (is_in cycle) name branches))
+      (ap (roles_of (renamed_name (is_in cycle) name s.root)) tree_after
+      ∙ roles_moved links (renamed_name (is_in cycle) name s.root) (joined_tree (is_in cycle) name branches))
       (subst
       (λ c.
       IsLower
-      (left_to_do p (joined name c s.nodes)
-      (roles_of (renamed (is_in c) name s.root) (joined_tree (is_in c) name s.tree)) freed)
+      (left_to_do p (joined_nodes name c s.nodes)
+      (roles_of (renamed_name (is_in c) name s.root) (joined_tree (is_in c) name s.tree)) freed)
       (left_to_do p s.nodes (roles_of s.root s.tree) free))
       (same_cycle links s.root shared up down)
       (closed_less p s name a b (link_by links closing) (map (entry_by links) shared) (map (entry_by links) up)

@@ -7,8 +7,8 @@ use Rattle.fb_graph.specs.Counts.{as_count}
 use Rattle.fb_graph.specs.Problem.{Problem, edge_at}
 use Rattle.fb_graph.specs.declared.parts.Edge.{Edge}
 use Rattle.fb_graph.specs.Dual.{AreOuterApart, Node, all_cuts, height_of}
-use Rattle.fb_graph.specs.Covers.{AreRoles, is_over}
-use Rattle.fb_graph.specs.Steps.{AllowShrinking, Roles, stepped}
+use Rattle.fb_graph.specs.Covers.{AreRoles, is_covered_by}
+use Rattle.fb_graph.specs.Steps.{AllowShrinking, Roles, stepped_nodes}
 use Rattle.fb_graph.proofs.StepHeights.{height_stepped}
 use Rattle.fb_obstacles.specs.Obstacles.{residue_at}
 use Rattle.fb_obstacles.specs.Watched.{AreBounded, Watched}
@@ -25,19 +25,19 @@ bounded_still p old new watched same bounds i less =
 -- a step raises no potential by more than its length
 module _ (roles : Roles) (nodes : List Node) (k : ℕ) (apart : AreOuterApart nodes) (are : AreRoles roles nodes)
     (low : AllowShrinking roles nodes k) where
-  raised-le : (v : ℕ) → height_of (all_cuts (stepped roles k nodes)) v ≤ height_of (all_cuts nodes) v + k
-  raised-le v = by (is_over roles.is_plus nodes v) (height_stepped roles nodes k v apart are low)
+  raised-le : (v : ℕ) → height_of (all_cuts (stepped_nodes roles k nodes)) v ≤ height_of (all_cuts nodes) v + k
+  raised-le v = by (is_covered_by roles.is_plus nodes v) (height_stepped roles nodes k v apart are low)
     where
       by : (b : Bool)
-          → height_of (all_cuts (stepped roles k nodes)) v + k * as_count (is_over roles.is_minus nodes v)
+          → height_of (all_cuts (stepped_nodes roles k nodes)) v + k * as_count (is_covered_by roles.is_minus nodes v)
           ≡ height_of (all_cuts nodes) v + k * as_count b
-          → height_of (all_cuts (stepped roles k nodes)) v ≤ height_of (all_cuts nodes) v + k
+          → height_of (all_cuts (stepped_nodes roles k nodes)) v ≤ height_of (all_cuts nodes) v + k
       by true e = omega (arith, e)
       by false e = omega (arith, e)
 
   -- so bounds that are lower by twice its length are right after it
   pub bounded_stepped : (p : Problem) (watched : Watched) → AreBounded (residue_at p nodes) watched
-      → AreBounded (residue_at p (stepped roles k nodes)) (lowered_by k watched)
+      → AreBounded (residue_at p (stepped_nodes roles k nodes)) (lowered_by k watched)
   bounded_stepped p watched bounds i less =
       let e : Edge = edge_at p.edges (get_or watched.edges i 0) in
       let none : 0 - 2 * k ≡ 0 = omega arith in

@@ -2,9 +2,9 @@
 use Rattle.std.proofs.Common.{ℕ, ◌≡◌, ◌≢◌, ◌==◌, ◌+◌, ◌-◌, ◌||◌, not, Bool, true, false, cond, List, [], ◌∷◌, ◌++◌, refl, sym, ap, ◌∙◌}
 use Rattle.std.proofs.lemmas.Bool.{and_parts, both_ways, eqb-true, false_from_ne_true, false≢true, ne_eqb}
 use Rattle.fb_graph.specs.Parity.{is_in}
-use Rattle.fb_graph.specs.Dual.{Node, change_at, is_live, taller}
-use Rattle.fb_graph.specs.Moves.{blossom, joined, lower, split, taken_up, uncovered}
-use Rattle.fb_graph.specs.Steps.{Roles, stepped, stepped_node}
+use Rattle.fb_graph.specs.Dual.{Node, change_at, is_live, taller_node}
+use Rattle.fb_graph.specs.Moves.{blossom, joined_nodes, without_top, split_nodes, absorbed_nodes, uncovered_nodes}
+use Rattle.fb_graph.specs.Steps.{Roles, stepped_nodes, stepped_node}
 use Rattle.fb_graph.proofs.Sets.{is_in-filter}
 use Rattle.fb_laws.specs.Trees.{minus_names, plus_names, roles_of, tree_names}
 use Rattle.fb_laws.proofs.SearchStates.{unmatched_outside}
@@ -31,7 +31,7 @@ named_changed name n f same other (m ∷ ms) = step (m.name == name) refl (named
 
 -- other nodes step
 named_stepped : (roles : Roles) (k n : ℕ) → roles.is_plus n ≡ false → roles.is_minus n ≡ false → (nodes : List Node)
-    → node_named (stepped roles k nodes) n ≡ node_named nodes n
+    → node_named (stepped_nodes roles k nodes) n ≡ node_named nodes n
 named_stepped roles k n plus minus [] = refl
 named_stepped roles k n plus minus (m ∷ ms) = step (m.name == n) refl (named_stepped roles k n plus minus ms)
   where
@@ -42,8 +42,8 @@ named_stepped roles k n plus minus (m ∷ ms) = step (m.name == n) refl (named_s
         (ap roles.is_plus named ∙ plus)
         ∙ ap (λ t. cond t (m.top.value - k) m.top.value) (ap roles.is_minus named ∙ minus))
 
-    step : (b : Bool) → (m.name == n) ≡ b → node_named (stepped roles k ms) n ≡ node_named ms n
-        → cond b (stepped_node roles k m) (node_named (stepped roles k ms) n) ≡ cond b m (node_named ms n)
+    step : (b : Bool) → (m.name == n) ≡ b → node_named (stepped_nodes roles k ms) n ≡ node_named ms n
+        → cond b (stepped_node roles k m) (node_named (stepped_nodes roles k ms) n) ≡ cond b m (node_named ms n)
     step true e rest = still (eqb-true m.name n e)
     step false e rest = rest
 
@@ -60,12 +60,12 @@ named_before n new (m ∷ ms) live = step (m.name == n) live (named_before n new
     step false there rest = rest there
 
 -- another node is taken away
-named_split : (name n : ℕ) → n ≢ name → (nodes : List Node) → node_named (split name nodes) n ≡ node_named nodes n
+named_split : (name n : ℕ) → n ≢ name → (nodes : List Node) → node_named (split_nodes name nodes) n ≡ node_named nodes n
 named_split name n other [] = refl
 named_split name n other (m ∷ ms) = step (m.name == name) refl (named_split name n other ms)
   where
-    step : (b : Bool) → (m.name == name) ≡ b → node_named (split name ms) n ≡ node_named ms n
-        → node_named (cond (not b) (m ∷ split name ms) (split name ms)) n ≡ node_named (m ∷ ms) n
+    step : (b : Bool) → (m.name == name) ≡ b → node_named (split_nodes name ms) n ≡ node_named ms n
+        → node_named (cond (not b) (m ∷ split_nodes name ms) (split_nodes name ms)) n ≡ node_named (m ∷ ms) n
     step true e rest =
         rest
         ∙ sym (ap (λ t. cond t m (node_named ms n)) (ne_eqb m.name n (λ k. other (sym k ∙ eqb-true m.name name e))))
@@ -117,25 +117,25 @@ beside_stepped w k are n beside =
     named_stepped (roles_of w.tree.root w.tree.branches) k n (beside_not_plus [] w are n beside)
     (beside_not_minus [] w are n beside) w.part.nodes
 
--- a plus node takes up a vertex
+-- a plus node absorbs a vertex
 pub beside_taller : (w : SearchValue) (name v : ℕ) → IsSearching w → is_in (plus_names w.tree.root w.tree.branches) name ≡ true
-    → AreKept (unmatched_beside w) w.part.nodes (taken_up name v w.part.nodes)
+    → AreKept (unmatched_beside w) w.part.nodes (absorbed_nodes name v w.part.nodes)
 beside_taller w name v are plus n beside =
-    named_changed name n (taller v) (λ m. refl) (not_the_plus [] w are n beside name plus) w.part.nodes
+    named_changed name n (taller_node v) (λ m. refl) (not_the_plus [] w are n beside name plus) w.part.nodes
 
 -- a minus node loses its top layer
 pub beside_lower : (w : SearchValue) (name : ℕ) → IsSearching w → is_in (minus_names w.tree.branches) name ≡ true
-    → AreKept (unmatched_beside w) w.part.nodes (uncovered name w.part.nodes)
+    → AreKept (unmatched_beside w) w.part.nodes (uncovered_nodes name w.part.nodes)
 beside_lower w name are minus n beside =
-    named_changed name n lower (λ m. refl) (not_the_minus [] w are n beside name minus) w.part.nodes
+    named_changed name n without_top (λ m. refl) (not_the_minus [] w are n beside name minus) w.part.nodes
 
 -- nodes become a blossom
 pub beside_joined : (more : List ℕ) (w : SearchValue) (name : ℕ) (children : List ℕ) → IsSearchingBeside more w
-    → AreKept (unmatched_beside w) w.part.nodes (joined name children w.part.nodes)
+    → AreKept (unmatched_beside w) w.part.nodes (joined_nodes name children w.part.nodes)
 beside_joined more w name children are n beside =
     named_before n (blossom name children w.part.nodes) w.part.nodes (beside_live more w are n beside)
 
 -- a minus blossom is opened
 pub beside_split : (w : SearchValue) (name : ℕ) → IsSearching w → is_in (minus_names w.tree.branches) name ≡ true
-    → AreKept (unmatched_beside w) w.part.nodes (split name w.part.nodes)
+    → AreKept (unmatched_beside w) w.part.nodes (split_nodes name w.part.nodes)
 beside_split w name are minus n beside = named_split name n (not_the_minus [] w are n beside name minus) w.part.nodes

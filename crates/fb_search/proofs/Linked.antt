@@ -10,7 +10,7 @@ use Rattle.fb_graph.specs.Parity.{is_in}
 use Rattle.fb_graph.specs.Problem.{Problem}
 use Rattle.fb_graph.specs.Certificate.{AreDistinct}
 use Rattle.fb_graph.specs.Dual.{Node, is_live}
-use Rattle.fb_graph.specs.Moves.{blossom, joined, split}
+use Rattle.fb_graph.specs.Moves.{blossom, joined_nodes, split_nodes}
 use Rattle.fb_graph.proofs.Among.{IsAmong, among_live}
 use Rattle.fb_graph.proofs.Members.{is_in-append}
 use Rattle.fb_graph.proofs.Places.{among_split, placed}
@@ -130,7 +130,7 @@ rings_same old new (n ∷ ns) same =
 -- where the nodes of a cycle are joined its links come to those round blossoms
 pub rings_joined : (nodes : List Node) (old new : List (Option blossoms.Node)) (name : ℕ) (cycle : List CycleStep)
     → is_live nodes name ≡ false → Adds old new name (blossoms.blossom old cycle)
-    → ring_links (joined name (nodes_of cycle) nodes) new ≡ ring_links nodes old ++ map (λ s. s.link) cycle
+    → ring_links (joined_nodes name (nodes_of cycle) nodes) new ≡ ring_links nodes old ++ map (λ s. s.link) cycle
 rings_joined nodes old new name cycle fresh adds =
     flat_map-append (λ (n : Node). ring_at new n.name) nodes (blossom name (nodes_of cycle) nodes ∷ [])
     ∙ (ap (λ l. l ++ (ring_at new name ++ []))
@@ -142,7 +142,7 @@ rings_joined nodes old new name cycle fresh adds =
 -- where a blossom is opened the links round it go
 pub rings_split : (nodes : List Node) (old new : List (Option blossoms.Node)) (name : ℕ)
     → AreDistinct (map (λ n. n.name) nodes) → is_live nodes name ≡ true → TakesOff old new name
-    → IsPermutation (ring_links nodes old) (ring_at old name ++ ring_links (split name nodes) new)
+    → IsPermutation (ring_links nodes old) (ring_at old name ++ ring_links (split_nodes name nodes) new)
 rings_split nodes old new name distinct live gone =
     let at = placed nodes name distinct live in
     let front = ring_links at.before old in
@@ -151,11 +151,11 @@ rings_split nodes old new name distinct live gone =
     ap (λ ns. ring_links ns old) at.whole
     ∙ (flat_map-append (λ (n : Node). ring_at old n.name) at.before (at.node ∷ at.after)
     ∙ ap (λ x. front ++ (ring_at old x ++ back)) at.named) in
-    let rest : ring_links (split name nodes) new ≡ front ++ back =
-    rings_same old new (split name nodes) (λ n a. gone.others n.name (among_split name nodes n a).1)
+    let rest : ring_links (split_nodes name nodes) new ≡ front ++ back =
+    rings_same old new (split_nodes name nodes) (λ n a. gone.others n.name (among_split name nodes n a).1)
     ∙ (ap (λ ns. ring_links ns old) at.removed
     ∙ flat_map-append (λ (n : Node). ring_at old n.name) at.before at.after) in
-    subst (λ l. IsPermutation l (ring_at old name ++ ring_links (split name nodes) new)) (sym whole)
+    subst (λ l. IsPermutation l (ring_at old name ++ ring_links (split_nodes name nodes) new)) (sym whole)
     (subst (λ l. IsPermutation (front ++ (ring_at old name ++ back)) (ring_at old name ++ l)) (sym rest)
     (subst (λ l. IsPermutation l (ring_at old name ++ (front ++ back))) (append_assoc front (ring_at old name) back)
     (subst (IsPermutation ((front ++ ring_at old name) ++ back)) (append_assoc (ring_at old name) front back)

@@ -7,7 +7,7 @@ use Rattle.fb_graph.specs.Problem.{Problem}
 use Rattle.fb_graph.specs.Certificate.{AreDistinct}
 use Rattle.fb_graph.specs.Laws.{Link}
 use Rattle.fb_graph.specs.Dual.{Node, cover_of, is_live, is_outer}
-use Rattle.fb_graph.specs.Moves.{blossom, joined}
+use Rattle.fb_graph.specs.Moves.{blossom, joined_nodes}
 use Rattle.fb_graph.proofs.Among.{IsAmong, All_among, among_All, among_any, among_either, among_left, among_live, among_outer, among_right, live_among, map_among, outer_among}
 use Rattle.fb_graph.proofs.AppendedNodes.{outer_in}
 use Rattle.fb_graph.proofs.Sets.{is_in-head, is_in-tail}
@@ -37,15 +37,15 @@ module _ (p : Problem) (nodes : List Node) (name : ℕ) (children : List ℕ) (l
     (new_names : IsPermutation (outside ++ after) (listed_names m2 ++ others2)) (same : m2.matches ≡ m.matches)
     (renamed : IsRenamed children before after name)
     (within : (n : ℕ) → is_in children n ≡ true → is_in before n ≡ true) (fresh : is_live nodes name ≡ false)
-    (outer : is_outer (joined name children nodes) name ≡ true)
+    (outer : is_outer (joined_nodes name children nodes) name ≡ true)
     (matched : (n : ℕ) → is_in (matched_names m.matches) n ≡ true → is_in outside n ≡ true)
     (cover : (v n : ℕ) → cover_of nodes v ≡ Some n → is_in children n ≡ false
-    → cover_of (joined name children nodes) v ≡ Some n) where
+    → cover_of (joined_nodes name children nodes) v ≡ Some n) where
   made : Node
   made = blossom name children nodes
 
   after_nodes : List Node
-  after_nodes = joined name children nodes
+  after_nodes = joined_nodes name children nodes
 
   distinct_before : AreDistinct (outside ++ before)
   distinct_before = distinct_permuted (listed_names m ++ others) (outside ++ before) old_names was.distinct
@@ -71,11 +71,11 @@ module _ (p : Problem) (nodes : List Node) (name : ℕ) (children : List ℕ) (l
       (renamed.from n there (λ e. both_ways (is_in outside name) outside_fresh (ap (is_in outside) (sym e) ∙ out))).0)
 
   stays : (n : ℕ) → (is_live nodes n ≡ true) × (is_outer nodes n ≡ true) → is_in children n ≡ false
-      → (is_live (joined name children nodes) n ≡ true) × (is_outer (joined name children nodes) n ≡ true)
+      → (is_live (joined_nodes name children nodes) n ≡ true) × (is_outer (joined_nodes name children nodes) n ≡ true)
   stays n (live, out) free =
       let (q, a, e) = live_among nodes n live in (
-        among_live (joined name children nodes) q n (among_left nodes (blossom name children nodes ∷ []) q a) e,
-        among_outer (joined name children nodes) n
+        among_live (joined_nodes name children nodes) q n (among_left nodes (blossom name children nodes ∷ []) q a) e,
+        among_outer (joined_nodes name children nodes) n
             (λ r b. by r (among_either nodes (blossom name children nodes ∷ []) r b)),
       )
     where
@@ -84,28 +84,28 @@ module _ (p : Problem) (nodes : List Node) (name : ℕ) (children : List ℕ) (l
       by r (inr (inl e)) = ap (λ (x : Node). is_in x.children n) (sym e) ∙ free
       by r (inr (inr b)) = absurd b
 
-  made_live : is_live (joined name children nodes) name ≡ true
+  made_live : is_live (joined_nodes name children nodes) name ≡ true
   made_live =
-      among_live (joined name children nodes) (blossom name children nodes) name
+      among_live (joined_nodes name children nodes) (blossom name children nodes) name
       (among_right nodes (blossom name children nodes ∷ []) (blossom name children nodes) (inl refl)) refl
 
   each : (n : ℕ) → is_in (outside ++ after) n ≡ true
-      → (is_live (joined name children nodes) n ≡ true) × (is_outer (joined name children nodes) n ≡ true)
+      → (is_live (joined_nodes name children nodes) n ≡ true) × (is_outer (joined_nodes name children nodes) n ≡ true)
   each n h = by (in_either outside after n h)
     where
       tree : is_in after n ≡ true → (n ≡ name) ⊎ (n ≡ name → ⊥)
-          → (is_live (joined name children nodes) n ≡ true) × (is_outer (joined name children nodes) n ≡ true)
+          → (is_live (joined_nodes name children nodes) n ≡ true) × (is_outer (joined_nodes name children nodes) n ≡ true)
       tree there (inl e) =
-          (ap (is_live (joined name children nodes)) e ∙ made_live, ap (is_outer (joined name children nodes)) e ∙ outer)
+          (ap (is_live (joined_nodes name children nodes)) e ∙ made_live, ap (is_outer (joined_nodes name children nodes)) e ∙ outer)
       tree there (inr differ) =
           let (b, free) = renamed.from n there differ in stays n (listed n (in_right outside before n b)) free
 
       by : (is_in outside n ≡ true) ⊎ (is_in after n ≡ true)
-          → (is_live (joined name children nodes) n ≡ true) × (is_outer (joined name children nodes) n ≡ true)
+          → (is_live (joined_nodes name children nodes) n ≡ true) × (is_outer (joined_nodes name children nodes) n ≡ true)
       by (inl out) = stays n (listed n (in_left outside before n out)) (not_child n out)
       by (inr there) = tree there (cases_eq n name)
 
-  every : (n : ℕ) → is_live (joined name children nodes) n ≡ true → is_outer (joined name children nodes) n ≡ true
+  every : (n : ℕ) → is_live (joined_nodes name children nodes) n ≡ true → is_outer (joined_nodes name children nodes) n ≡ true
       → is_in (outside ++ after) n ≡ true
   every n live out = by (cases_eq n name)
     where
@@ -115,7 +115,7 @@ module _ (p : Problem) (nodes : List Node) (name : ℕ) (children : List ℕ) (l
           let parts = outer_in nodes (blossom name children nodes ∷ []) n out in
           let free : is_in children n ≡ false =
           outer_among (blossom name children nodes ∷ []) n parts.1 (blossom name children nodes) (inl refl) in
-          let (q, a, e) = live_among (joined name children nodes) n live in
+          let (q, a, e) = live_among (joined_nodes name children nodes) n live in
           let old : is_live nodes n ≡ true = before_live q e (among_either nodes (blossom name children nodes ∷ []) q a) in
           there free
           (in_either outside before n
@@ -134,15 +134,15 @@ module _ (p : Problem) (nodes : List Node) (name : ℕ) (children : List ℕ) (l
 
   moved : (l : Link) (a : ℕ) (b : Option ℕ) → is_in children a ≡ false
       → ((c : ℕ) → is_in (second_name b) c ≡ true → is_in children c ≡ false) → IsMatchOf p nodes l a b
-      → IsMatchOf p (joined name children nodes) l a b
+      → IsMatchOf p (joined_nodes name children nodes) l a b
   moved l a None first second (v, leaves, real) = (v, leaves_on leaves, real)
     where
-      leaves_on : LeavesNode nodes l a v → LeavesNode (joined name children nodes) l a v
+      leaves_on : LeavesNode nodes l a v → LeavesNode (joined_nodes name children nodes) l a v
       leaves_on (inl (c, e)) = inl (cover l.from a c first, e)
       leaves_on (inr (c, e)) = inr (cover l.to a c first, e)
   moved l a (Some b) first second connects = on connects
     where
-      on : Connects nodes l a b → Connects (joined name children nodes) l a b
+      on : Connects nodes l a b → Connects (joined_nodes name children nodes) l a b
       on (inl (c, d)) = inl (cover l.from a c first, cover l.to b d (second b (is_in-head b [])))
       on (inr (c, d)) = inr (cover l.to a c first, cover l.from b d (second b (is_in-head b [])))
 
@@ -155,7 +155,7 @@ module _ (p : Problem) (nodes : List Node) (name : ℕ) (children : List ℕ) (l
       (matched c
       (is_member (matched_names m.matches) c (flat_among names_of m.matches e c a (in_among (names_of e) c there))))
 
-  pub matching_joined : IsMatchingOf p (joined name children nodes) links m2 others2
+  pub matching_joined : IsMatchingOf p (joined_nodes name children nodes) links m2 others2
   matching_joined = record {
     distinct = distinct_permuted (outside ++ after) (listed_names m2 ++ others2) new_names
         (distinct_append outside after (distinct_left outside before distinct_before) renamed.distinct apart);
@@ -163,8 +163,8 @@ module _ (p : Problem) (nodes : List Node) (name : ℕ) (children : List ℕ) (l
     all = λ n live out.
         same_permuted (outside ++ after) (listed_names m2 ++ others2) new_names n ∙ every n live out;
     connects =
-        subst (All (λ e. IsMatchOf p (joined name children nodes) (link_by links e.link) e.first e.second)) (sym same)
-        (among_All (λ e. IsMatchOf p (joined name children nodes) (link_by links e.link) e.first e.second) m.matches
+        subst (All (λ e. IsMatchOf p (joined_nodes name children nodes) (link_by links e.link) e.first e.second)) (sym same)
+        (among_All (λ e. IsMatchOf p (joined_nodes name children nodes) (link_by links e.link) e.first e.second) m.matches
         (λ e a.
         moved (link_by links e.link) e.first e.second
         (free_names e a e.first (is_in-head e.first (second_name e.second)))

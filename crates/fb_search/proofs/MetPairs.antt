@@ -1,6 +1,6 @@
 -- A tight edge between two plus nodes of a search's tree: the link that is made over it closes a cycle.
 use Rattle.std.proofs.Common.{ℕ, ◌≡◌, ◌≢◌, true, List, [], ◌∷◌, Option, Some, unwrap_or, sym, ap, ◌∙◌, subst}
-use Rattle.fb_graph.specs.Covers.{is_over, passes}
+use Rattle.fb_graph.specs.Covers.{is_covered_by, passes}
 use Rattle.fb_graph.specs.Dual.{cover_of}
 use Rattle.fb_laws.specs.Trees.{Connects}
 use Rattle.fb_laws.specs.Works.{AreMatchedLinks}
@@ -32,7 +32,7 @@ module _ (w : SearchValue) (k a b : ℕ) (pair : IsPairOver w k a b) where
       pair.covered pair.other apart
 
   plus_under : (v name : ℕ) → cover_of w.part.nodes v ≡ Some name
-      → is_over (roles_in w).is_plus w.part.nodes v ≡ true → IsPlus w.tree name
+      → is_covered_by (roles_in w).is_plus w.part.nodes v ≡ true → IsPlus w.tree name
   plus_under v name cover over = plus_in_tree w.tree name (sym (ap (passes (roles_in w).is_plus) cover) ∙ over)
 
   pub link_closes : (walk : List Step) (id : ℕ) (links : List (Option (List Step))) → IsSearching w

@@ -31,7 +31,7 @@ one_below [] top layers first = first
 one_below (c ∷ cs) top layers first = absurd (omega (arith, layers, length-append cs (top ∷ [])))
 
 one_in : (n : Node) → IsFormed n → not (is_empty n.children) ≡ false → length (layers_of n) ≡ 1 → length n.top.vertices ≡ 1
-one_in n (inl lone) joins layers = one_below n.below n.top layers lone.defect
+one_in n (inl childless) joins layers = one_below n.below n.top layers childless.defect
 one_in n (inr many) joins layers = by n.children many.three joins
   where
     by : (children : List ℕ) → 3 ≤ length children → not (is_empty children) ≡ false → length n.top.vertices ≡ 1

@@ -5,10 +5,10 @@ use Rattle.std.proofs.lemmas.List.{get_or_default}
 use Rattle.std.proofs.lemmas.List.Sums.{sum_by-cons}
 use Rattle.fb_graph.specs.Certificate.{AreDistinct, load_of}
 use Rattle.fb_graph.specs.Counts.{as_count}
-use Rattle.fb_graph.specs.Dual.{AllowsGrowth, IsCrossed, IsDual, Node, all_cuts, change_at, cover_of, height_of, is_live, is_outer, thicker, top_at}
+use Rattle.fb_graph.specs.Dual.{AllowsGrowth, IsCrossed, IsDual, Node, all_cuts, change_at, cover_of, height_of, is_live, is_outer, thicker_node, top_at}
 use Rattle.fb_graph.specs.Parity.{differ, is_in}
 use Rattle.fb_graph.specs.Problem.{Problem, crosses, edge_at, no_edge, touches}
-use Rattle.fb_graph.specs.Steps.{MayStep, gains, losses, stepped}
+use Rattle.fb_graph.specs.Steps.{MayStep, gains, losses, stepped_nodes}
 use Rattle.fb_graph.specs.declared.parts.Cut.{Cut}
 use Rattle.fb_graph.specs.declared.parts.Edge.{Edge}
 use Rattle.fb_graph.proofs.Among.{covered_by, live_among, top_among}
@@ -140,7 +140,7 @@ module _ (p : Problem) (nodes : List Node) (name v : ℕ) (dual : IsDual p nodes
 
   -- the loads after it has grown
   pub load_grown : (k : ℕ) (e : Edge)
-      → load_of (all_cuts (stepped (alone name) k nodes)) e
+      → load_of (all_cuts (stepped_nodes (alone name) k nodes)) e
       ≡ load_of (all_cuts nodes) e + (if touches v e then k else 0)
   load_grown k e =
       omega (
@@ -172,8 +172,8 @@ module _ (p : Problem) (name k : ℕ) (nodes : List Node) (over : IsTreeOver p (
       subst (λ ns. (is_live ns name ≡ true) × (is_outer ns name ≡ true) × IsCrossed p (top_at ns name) × AllowsGrowth p ns (top_at ns name) k)
       (sym (none_yet p (bare name) nodes over k may [] refl)) (root_may p (bare name) nodes over k may [] refl 0 (omega arith))
 
-  pub node_grown : change_at name (thicker k) nodes ≡ stepped (alone name) k nodes
+  pub node_grown : change_at name (thicker_node k) nodes ≡ stepped_nodes (alone name) k nodes
   node_grown =
-      ap (change_at name (thicker k)) (none_yet p (bare name) nodes over k may [] refl)
+      ap (change_at name (thicker_node k)) (none_yet p (bare name) nodes over k may [] refl)
       ∙ (root_done p (bare name) nodes over k may [] refl 0 (omega arith)
       ∙ all_done p (bare name) nodes over k may [] refl 0 (omega arith))

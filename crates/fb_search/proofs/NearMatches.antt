@@ -5,12 +5,12 @@ use Rattle.std.specs.List.Sorted.{IsPermutation}
 use Rattle.std.proofs.lemmas.Bool.{false≢true}
 use Rattle.fb_graph.specs.Certificate.{AreDistinct, load_of}
 use Rattle.fb_graph.specs.Components.{Leads}
-use Rattle.fb_graph.specs.Covers.{is_over, passes}
+use Rattle.fb_graph.specs.Covers.{is_covered_by, passes}
 use Rattle.fb_graph.specs.Dual.{AreUnderOne, IsDual, Node, all_cuts, cover_of}
 use Rattle.fb_graph.specs.Limits.{IsWithinLimits}
 use Rattle.fb_graph.specs.Parity.{is_in}
 use Rattle.fb_graph.specs.Problem.{Problem, edge_at, no_edge, touches}
-use Rattle.fb_graph.specs.Steps.{MayStep, stepped}
+use Rattle.fb_graph.specs.Steps.{MayStep, stepped_nodes}
 use Rattle.fb_graph.proofs.StepHeights.{cover_stepped}
 use Rattle.fb_links.specs.declared.walk.Step.{Step}
 use Rattle.fb_links.specs.Table.{Adds}
@@ -101,7 +101,7 @@ root_over root v part k covered = cover_stepped (alone root) part.nodes k v ∙ 
 
 -- The root is over the vertex, and plus.
 pub root_is_plus : (root v : ℕ) (part : PartValue) (k : ℕ) → cover_of part.nodes v ≡ Some root
-    → is_over (roles_in (stepped_by k (bare_search root part))).is_plus (stepped (alone root) k part.nodes) v ≡ true
+    → is_covered_by (roles_in (stepped_by k (bare_search root part))).is_plus (stepped_nodes (alone root) k part.nodes) v ≡ true
 root_is_plus root v part k covered =
     ap (passes (roles_in (stepped_by k (bare_search root part))).is_plus) (root_over root v part k covered)
     ∙ plus_of_tree (bare_search root part).tree root (root_plus root [])

@@ -12,7 +12,7 @@ use Rattle.fb_graph.specs.declared.parts.Edge.{Edge}
 use Rattle.fb_graph.proofs.Sets.{is_in-tail}
 use Rattle.fb_graph.proofs.StepHeights.{cover_stepped}
 use Rattle.fb_graph.proofs.StepTurns.{top_stepped}
-use Rattle.fb_laws.specs.Works.{without}
+use Rattle.fb_laws.specs.Works.{names_without}
 use Rattle.fb_laws.proofs.OpenedBlossoms.{same_permuted}
 use Rattle.fb_links.specs.declared.walk.Step.{Step}
 use Rattle.fb_links.specs.Table.{Adds}
@@ -217,9 +217,9 @@ module _ (part : PartValue) (root : ℕ) (pair : NearPair) (are : IsPart part) (
         ++ matched_names (met_match link root pair.other ∷ []))
     pair_listed = met_apart last pair.edge root pair.other link between unmatched pair_search pair_meets first second
 
-    left_beside : (n : ℕ) → is_in unmatched n ≡ true → is_in (without pair.other part.matching.unmatched) n ≡ true
+    left_beside : (n : ℕ) → is_in unmatched n ≡ true → is_in (names_without pair.other part.matching.unmatched) n ≡ true
     left_beside n there =
-        sym (same_permuted (without pair.other part.matching.unmatched) between
+        sym (same_permuted (names_without pair.other part.matching.unmatched) between
         (without_taken pair.other part.matching.unmatched between are.state.names.distinct first) n)
         ∙ (sym (same_permuted between (root ∷ unmatched) second n) ∙ is_in-tail root unmatched n there)
 

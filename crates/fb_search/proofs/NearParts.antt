@@ -4,7 +4,7 @@ use Rattle.std.specs.List.{range_with_len}
 use Rattle.fb_graph.specs.Dual.{Node}
 use Rattle.fb_graph.specs.Limits.{DecodingGraph, IsWithinLimits}
 use Rattle.fb_graph.specs.Parity.{is_in}
-use Rattle.fb_graph.specs.Steps.{MayStep, stepped}
+use Rattle.fb_graph.specs.Steps.{MayStep, stepped_nodes}
 use Rattle.fb_graph.proofs.Ranges.{filter-range_below, is_in-filter-range}
 use Rattle.fb_laws.specs.StateMoves.{search_from}
 use Rattle.fb_laws.proofs.StateMoves.{search_from_root, state_stepped}
@@ -52,7 +52,7 @@ searching_bare root part are within = record {
 
 -- the part with a node grown
 abbrev pub grown : ℕ → ℕ → PartValue → PartValue
-grown name k part = record part { nodes = stepped (alone name) k part.nodes }
+grown name k part = record part { nodes = stepped_nodes (alone name) k part.nodes }
 
 pub part_grown : (name k : ℕ) (part : PartValue) → IsPart part → IsWithinLimits (problem_in part)
     → is_in part.matching.unmatched name ≡ true → MayStep (problem_in part) (alone name) part.nodes k → k % 2 ≡ 0
@@ -66,7 +66,7 @@ part_grown name k part are limits within may even =
       slot = are.slot;
       node = are.node;
       state = even_dissolved (problem_in part)
-          (record (search_from name (state_of part)) { nodes = stepped (alone name) k part.nodes; parity = (0 + k) % 2 })
+          (record (search_from name (state_of part)) { nodes = stepped_nodes (alone name) k part.nodes; parity = (0 + k) % 2 })
           (state_stepped (problem_in part) (search_from name (state_of part)) k limits (no_odd_closed (bare_search name part) was) may
           (search_from_root (problem_in part) (state_of part) name are.state within))
           (omega (arith, even));

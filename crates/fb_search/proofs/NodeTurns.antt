@@ -4,9 +4,9 @@ use Rattle.std.proofs.lemmas.Bool.{eqb-true, false≢true}
 use Rattle.std.proofs.lemmas.List.Elements.{All-head, All-tail}
 use Rattle.fb_graph.specs.Parity.{is_in}
 use Rattle.fb_graph.specs.Problem.{Problem}
-use Rattle.fb_graph.specs.Dual.{AllowsGrowth, IsCrossed, Node, change_at, is_live, is_outer, thicker, top_at}
-use Rattle.fb_graph.specs.Steps.{MayStep, Roles, stepped, stepped_node}
-use Rattle.fb_graph.specs.Turns.{also_minus, also_plus, thinner}
+use Rattle.fb_graph.specs.Dual.{AllowsGrowth, IsCrossed, Node, change_at, is_live, is_outer, thicker_node, top_at}
+use Rattle.fb_graph.specs.Steps.{MayStep, Roles, stepped_nodes, stepped_node}
+use Rattle.fb_graph.specs.Turns.{with_minus, with_plus, thinner_node}
 use Rattle.fb_graph.proofs.Among.{All_among, live_among}
 use Rattle.fb_graph.proofs.MappedNodes.{mapped_outer}
 use Rattle.fb_graph.proofs.Members.{is_in_push}
@@ -20,21 +20,21 @@ use Rattle.fb_search.specs.InternalSteps.{IsTreeOver, roles_by_names}
 
 -- one more node that shrinks
 pub shrunk_turn : (done : List ℕ) (k name : ℕ) (nodes : List Node) → is_in done name ≡ false
-    → change_at name (thinner k) (stepped (roles_by_names [] done) k nodes)
-    ≡ stepped (roles_by_names [] (done ++ name ∷ [])) k nodes
+    → change_at name (thinner_node k) (stepped_nodes (roles_by_names [] done) k nodes)
+    ≡ stepped_nodes (roles_by_names [] (done ++ name ∷ [])) k nodes
 shrunk_turn done k name nodes new =
     shrunk_next (roles_by_names [] done) k name nodes refl new
-    ∙ same_roles (also_minus (roles_by_names [] done) name) (roles_by_names [] (done ++ name ∷ [])) k nodes (λ n. refl)
+    ∙ same_roles (with_minus (roles_by_names [] done) name) (roles_by_names [] (done ++ name ∷ [])) k nodes (λ n. refl)
     (λ n. ap (λ b. is_in done n || b) (equal_sym n name) ∙ sym (is_in_push done name n))
 
 -- one more node that grows
 pub grown_turn : (done minus : List ℕ) (k name : ℕ) (nodes : List Node) → is_in done name ≡ false
     → is_in minus name ≡ false
-    → change_at name (thicker k) (stepped (roles_by_names done minus) k nodes)
-    ≡ stepped (roles_by_names (done ++ name ∷ []) minus) k nodes
+    → change_at name (thicker_node k) (stepped_nodes (roles_by_names done minus) k nodes)
+    ≡ stepped_nodes (roles_by_names (done ++ name ∷ []) minus) k nodes
 grown_turn done minus k name nodes new out =
     grown_next (roles_by_names done minus) k name nodes new out
-    ∙ same_roles (also_plus (roles_by_names done minus) name) (roles_by_names (done ++ name ∷ []) minus) k nodes
+    ∙ same_roles (with_plus (roles_by_names done minus) name) (roles_by_names (done ++ name ∷ []) minus) k nodes
     (λ n. ap (λ b. is_in done n || b) (equal_sym n name) ∙ sym (is_in_push done name n)) (λ n. refl)
 
 -- what holds of each node of the name holds of the one that the name finds
@@ -51,11 +51,11 @@ named_value (n ∷ ns) k name live all =
     by false e l rest = rest l
 
 pub still_live : (roles : Roles) (k name : ℕ) (nodes : List Node) → is_live nodes name ≡ true
-    → is_live (stepped roles k nodes) name ≡ true
+    → is_live (stepped_nodes roles k nodes) name ≡ true
 still_live roles k name nodes live = live_mapped (stepped_node roles k) (λ n. refl) nodes name ∙ live
 
 still_outer : (roles : Roles) (k name : ℕ) (nodes : List Node) → is_outer nodes name ≡ true
-    → is_outer (stepped roles k nodes) name ≡ true
+    → is_outer (stepped_nodes roles k nodes) name ≡ true
 still_outer roles k name nodes outer = mapped_outer (stepped_node roles k) (λ n. refl) nodes name ∙ outer
 
 module _ (p : Problem) (t : Grown) (nodes : List Node) (are : IsTreeOver p t nodes) where
@@ -76,14 +76,14 @@ module _ (p : Problem) (t : Grown) (nodes : List Node) (are : IsTreeOver p t nod
   -- a minus node may shrink in its turn
   pub minus_turn : (done : List ℕ) (k name : ℕ) → MayStep p (roles_of t.root t.branches) nodes k
       → is_in (minus_names t.branches) name ≡ true → is_in done name ≡ false
-      → (is_live (stepped (roles_by_names [] done) k nodes) name ≡ true)
-      × (is_outer (stepped (roles_by_names [] done) k nodes) name ≡ true)
-      × (k ≤ (node_named (stepped (roles_by_names [] done) k nodes) name).top.value)
+      → (is_live (stepped_nodes (roles_by_names [] done) k nodes) name ≡ true)
+      × (is_outer (stepped_nodes (roles_by_names [] done) k nodes) name ≡ true)
+      × (k ≤ (node_named (stepped_nodes (roles_by_names [] done) k nodes) name).top.value)
   minus_turn done k name may minus new =
       let live = still_live (roles_by_names [] done) k name nodes (are.minus_live name minus) in (
         live,
         still_outer (roles_by_names [] done) k name nodes (minus_outer name minus),
-        named_value (stepped (roles_by_names [] done) k nodes) k name live
+        named_value (stepped_nodes (roles_by_names [] done) k nodes) k name live
             (shrink_allowed p (roles_by_names [] done) (roles_of t.root t.branches) nodes k name may minus new refl),
       )
 
@@ -92,17 +92,17 @@ module _ (p : Problem) (t : Grown) (nodes : List Node) (are : IsTreeOver p t nod
       → ((n : ℕ) → is_in minus n ≡ is_in (minus_names t.branches) n)
       → ((n : ℕ) → is_in done n ≡ true → is_in (plus_names t.root t.branches) n ≡ true)
       → is_in (plus_names t.root t.branches) name ≡ true → is_in done name ≡ false
-      → (is_live (stepped (roles_by_names done minus) k nodes) name ≡ true)
-      × (is_outer (stepped (roles_by_names done minus) k nodes) name ≡ true)
-      × IsCrossed p (top_at (stepped (roles_by_names done minus) k nodes) name)
-      × AllowsGrowth p (stepped (roles_by_names done minus) k nodes) (top_at (stepped (roles_by_names done minus) k nodes) name) k
+      → (is_live (stepped_nodes (roles_by_names done minus) k nodes) name ≡ true)
+      × (is_outer (stepped_nodes (roles_by_names done minus) k nodes) name ≡ true)
+      × IsCrossed p (top_at (stepped_nodes (roles_by_names done minus) k nodes) name)
+      × AllowsGrowth p (stepped_nodes (roles_by_names done minus) k nodes) (top_at (stepped_nodes (roles_by_names done minus) k nodes) name) k
   plus_turn done minus k name may same within plus new =
       let part = roles_by_names done minus in
       let top = sym (top_stepped part k name nodes) in (
         still_live part k name nodes (are.plus_live name plus),
         still_outer part k name nodes (plus_outer name plus),
         subst (IsCrossed p) top (are.crossed name plus),
-        subst (λ set. AllowsGrowth p (stepped part k nodes) set k) top
+        subst (λ set. AllowsGrowth p (stepped_nodes part k nodes) set k) top
             (growth_allowed p part (roles_of t.root t.branches) nodes k name are.roles.exclusive may
             (record { minus = same; plus = within }) plus new),
       )

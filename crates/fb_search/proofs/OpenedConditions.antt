@@ -7,7 +7,7 @@ use Rattle.std.proofs.lemmas.List.Concat.{flat_map-append}
 use Rattle.fb_graph.specs.Parity.{is_in}
 use Rattle.fb_graph.specs.Certificate.{AreDistinct}
 use Rattle.fb_graph.specs.Dual.{Node, is_live, is_outer}
-use Rattle.fb_graph.specs.Moves.{split}
+use Rattle.fb_graph.specs.Moves.{split_nodes}
 use Rattle.fb_graph.specs.Nests.{AreMany, IsNest}
 use Rattle.fb_graph.proofs.Among.{All_among, among_All}
 use Rattle.fb_graph.proofs.Places.{IsPlaced, placed}
@@ -218,9 +218,9 @@ module _ (w : SearchValue) (name : ℕ) (e : EntryOf ℕ) (above below : ℕ) (a
       (match_links (couples_on rest) ++ links_left (round_in w.part name above below) below) id
       (in_right (match_links (couples_on rest)) (links_left (round_in w.part name above below) below) id there))))))
 
-  pub plus_live : All (λ n. is_live (split name w.part.nodes) n ≡ true) (second_nodes way)
+  pub plus_live : All (λ n. is_live (split_nodes name w.part.nodes) n ≡ true) (second_nodes way)
   plus_live =
-      All-from_is_in (λ n. is_live (split name w.part.nodes) n ≡ true) (second_nodes way)
+      All-from_is_in (λ n. is_live (split_nodes name w.part.nodes) n ≡ true) (second_nodes way)
       (λ n there.
       child_live (problem_of w) w.part.nodes name (nodes_of cycle) opens.may_split nest children_are n
       (way_within n (seconds_within way n there)))

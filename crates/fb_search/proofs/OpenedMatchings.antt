@@ -9,7 +9,7 @@ use Rattle.fb_graph.specs.Certificate.{AreDistinct}
 use Rattle.fb_graph.specs.Problem.{Problem}
 use Rattle.fb_graph.specs.Laws.{Link}
 use Rattle.fb_graph.specs.Dual.{Node, cover_of, is_live, is_outer}
-use Rattle.fb_graph.specs.Moves.{split}
+use Rattle.fb_graph.specs.Moves.{split_nodes}
 use Rattle.fb_graph.proofs.Among.{IsAmong, All_among, among_All, among_any, among_either, map_among}
 use Rattle.fb_graph.proofs.Sets.{is_in-cases, is_in-head, is_in-tail}
 use Rattle.fb_graph.proofs.Unions.{distinct_append}
@@ -82,7 +82,7 @@ module _ (w : SearchValue) (name : ℕ) (e : EntryOf ℕ) (above below : ℕ) (a
   Rest = rest w name e above below are opens
 
   abbrev Others : List Node
-  Others = split name w.part.nodes
+  Others = split_nodes name w.part.nodes
 
   abbrev listed : List ℕ
   listed = listed_names w.part.matching
@@ -205,8 +205,8 @@ module _ (w : SearchValue) (name : ℕ) (e : EntryOf ℕ) (above below : ℕ) (a
       → IsMatchOf (problem_of w) Others (link_by w.part.links m.link) m.first m.second
   new_match m a =
       subst (IsMatchOf (problem_of w) Others (link_by w.part.links m.link) m.first) (sym (second_is Rest m a))
-      (subst (λ n. Connects (split n w.part.nodes) (link_by w.part.links m.link) m.first (mate_of m.second)) opens.branch.minus
-      (All_among (λ c. Connects (split e.minus w.part.nodes) c.link c.first c.second)
+      (subst (λ n. Connects (split_nodes n w.part.nodes) (link_by w.part.links m.link) m.first (mate_of m.second)) opens.branch.minus
+      (All_among (λ c. Connects (split_nodes e.minus w.part.nodes) c.link c.first c.second)
       (map (couple_by (link_by w.part.links)) (couples_on Rest)) (law_cycle w name e above below are opens).coupled
       (couple_by (link_by w.part.links) m) (map_among (couple_by (link_by w.part.links)) (couples_on Rest) m a)))
 

@@ -3,7 +3,7 @@ use Rattle.std.proofs.Common.{ℕ, ◌≡◌, List, ◌∷◌, ◌++◌, Option,
 use Rattle.std.specs.List.Sorted.{IsPermutation}
 use Rattle.std.proofs.lemmas.List.{map-append}
 use Rattle.fb_graph.specs.Certificate.{AreDistinct}
-use Rattle.fb_graph.specs.Moves.{split}
+use Rattle.fb_graph.specs.Moves.{split_nodes}
 use Rattle.fb_links.specs.declared.cycle.CycleStep.{CycleStep}
 use Rattle.fb_blossoms.specs.Nodes as blossoms
 use Rattle.fb_laws.specs.LinkNumbers.{tree_links}
@@ -73,11 +73,11 @@ module _ (w : SearchValue) (name : ℕ) (e : EntryOf ℕ) (above below : ℕ) (a
   numbers =
       subst
       (λ l.
-      IsPermutation (searched_links w) ((tree_links tree.branches ++ (l ++ ring_links (split name w.part.nodes) store)) ++ Left))
+      IsPermutation (searched_links w) ((tree_links tree.branches ++ (l ++ ring_links (split_nodes name w.part.nodes) store)) ++ Left))
       (sym (map-append (λ m. m.link) w.part.matching.matches (couples_on Rest)))
       (numbers_opened (tree_links w.tree.branches) (tree_links tree.branches) (grown_on (way_of Way) ++ matched_on (way_of Way))
       (match_links w.part.matching.matches) (match_links (couples_on Rest)) Left (ring_links w.part.nodes w.part.store)
-      (ring_at w.part.store name) (ring_links (split name w.part.nodes) store)
+      (ring_at w.part.store name) (ring_links (split_nodes name w.part.nodes) store)
       (rings_split w.part.nodes w.part.store store name (nest w name e above below are opens).dual.names opens.may_split.live
       has.taken_off)
       (ring_parted w name e above below are opens) tree_numbers)

@@ -5,7 +5,7 @@ use Rattle.std.proofs.lemmas.List.{map-append}
 use Rattle.std.proofs.lemmas.List.Sorted.{IsPermutation-append_comm, IsPermutation-refl}
 use Rattle.fb_graph.specs.Laws.{Link}
 use Rattle.fb_graph.specs.Dual.{Node}
-use Rattle.fb_graph.specs.Moves.{split}
+use Rattle.fb_graph.specs.Moves.{split_nodes}
 use Rattle.fb_graph.proofs.Among.{live_among}
 use Rattle.fb_graph.proofs.Places.{among_split}
 use Rattle.fb_links.specs.declared.cycle.CycleStep.{CycleStep}
@@ -72,24 +72,24 @@ module _ (w : SearchValue) (name : ℕ) (e : EntryOf ℕ) (above below : ℕ) (a
       ∙ ap (map (entry_by w.part.links)) (sym (branches_are w name e above below are opens links store tree watched has))
 
   by_law : IsSearchState (problem_of w)
-      (state_with (split name w.part.nodes) (cycles_by w.part.links w.part.store) (map (entry_by w.part.links) tree.branches)
+      (state_with (split_nodes name w.part.nodes) (cycles_by w.part.links w.part.store) (map (entry_by w.part.links) tree.branches)
       old_rest w.tree.root before)
   by_law =
       subst
       (λ n.
       IsSearchState (problem_of w)
-      (state_with (split n w.part.nodes) (cycles_by w.part.links w.part.store) (map (entry_by w.part.links) tree.branches)
+      (state_with (split_nodes n w.part.nodes) (cycles_by w.part.links w.part.store) (map (entry_by w.part.links) tree.branches)
       old_rest w.tree.root before))
       opens.branch.minus
       (subst
       (λ t.
       IsSearchState (problem_of w)
-      (state_with (split e.minus w.part.nodes) (cycles_by w.part.links w.part.store) t old_rest w.tree.root before))
+      (state_with (split_nodes e.minus w.part.nodes) (cycles_by w.part.links w.part.store) t old_rest w.tree.root before))
       law_tree
       (subst
       (λ r.
       IsSearchState (problem_of w)
-      (state_with (split e.minus w.part.nodes) (cycles_by w.part.links w.part.store)
+      (state_with (split_nodes e.minus w.part.nodes) (cycles_by w.part.links w.part.store)
       (opened_tree (moved w name e above below are opens opens.branch.newer) (entry_by w.part.links e)
       (moved w name e above below are opens opens.branch.older) above (passes w name e above below are opens))
       (r ++ map (link_by w.part.links) (match_links w.part.matching.matches)) w.tree.root before))
@@ -106,22 +106,22 @@ module _ (w : SearchValue) (name : ℕ) (e : EntryOf ℕ) (above below : ℕ) (a
       (λ k there.
       links_kept w name e above below are opens links store tree watched has k
       (in_right (tree_links tree.branches)
-      (match_links (w.part.matching.matches ++ couples_on Rest) ++ ring_links (split name w.part.nodes) store) k
-      (in_left (match_links (w.part.matching.matches ++ couples_on Rest)) (ring_links (split name w.part.nodes) store) k there))))))
+      (match_links (w.part.matching.matches ++ couples_on Rest) ++ ring_links (split_nodes name w.part.nodes) store) k
+      (in_left (match_links (w.part.matching.matches ++ couples_on Rest)) (ring_links (split_nodes name w.part.nodes) store) k there))))))
       (IsPermutation-append_comm (map (link_by w.part.links) (match_links (couples_on Rest)))
       (map (link_by w.part.links) (match_links w.part.matching.matches)))
 
-  cycles_agree : AgreeAt (split name w.part.nodes) (cycles_by w.part.links w.part.store) (cycles_by links store)
+  cycles_agree : AgreeAt (split_nodes name w.part.nodes) (cycles_by w.part.links w.part.store) (cycles_by links store)
   cycles_agree n live =
-      let (m, a, named) = live_among (split name w.part.nodes) n live in
+      let (m, a, named) = live_among (split_nodes name w.part.nodes) n live in
       let other : n ≢ name = λ same. (among_split name w.part.nodes m a).1 (named ∙ same) in
       links_same w.part.links links (ring_at store n)
       (λ k there.
       links_kept w name e above below are opens links store tree watched has k
       (in_right (tree_links tree.branches)
-      (match_links (w.part.matching.matches ++ couples_on Rest) ++ ring_links (split name w.part.nodes) store) k
-      (in_right (match_links (w.part.matching.matches ++ couples_on Rest)) (ring_links (split name w.part.nodes) store) k
-      (ring_among (split name w.part.nodes) store n k live there))))
+      (match_links (w.part.matching.matches ++ couples_on Rest) ++ ring_links (split_nodes name w.part.nodes) store) k
+      (in_right (match_links (w.part.matching.matches ++ couples_on Rest)) (ring_links (split_nodes name w.part.nodes) store) k
+      (ring_among (split_nodes name w.part.nodes) store n k live there))))
       ∙ ap (λ (o : Option blossoms.Node). map (link_by w.part.links) (map (λ c. c.link) (cycle_of o)))
       (has.taken_off.others n other)
 
@@ -131,46 +131,46 @@ module _ (w : SearchValue) (name : ℕ) (e : EntryOf ℕ) (above below : ℕ) (a
       (λ k there.
       links_kept w name e above below are opens links store tree watched has k
       (in_left (tree_links tree.branches)
-      (match_links (w.part.matching.matches ++ couples_on Rest) ++ ring_links (split name w.part.nodes) store) k there)))
+      (match_links (w.part.matching.matches ++ couples_on Rest) ++ ring_links (split_nodes name w.part.nodes) store) k there)))
 
   pub state_opened : IsSearchState (problem_of w) (state_at After are.state.0)
   state_opened =
       subst
       (λ r.
       IsSearchState (problem_of w)
-      (state_with (split name w.part.nodes) (cycles_by links store) (map (entry_by links) tree.branches) new_rest r before))
+      (state_with (split_nodes name w.part.nodes) (cycles_by links store) (map (entry_by links) tree.branches) new_rest r before))
       (sym has.grown.root)
       (subst
       (λ t.
       IsSearchState (problem_of w)
-      (state_with (split name w.part.nodes) (cycles_by links store) t new_rest w.tree.root before))
+      (state_with (split_nodes name w.part.nodes) (cycles_by links store) t new_rest w.tree.root before))
       entries_kept
       (search_reordered (problem_of w)
-      (state_with (split name w.part.nodes) (cycles_by w.part.links w.part.store) (map (entry_by w.part.links) tree.branches)
+      (state_with (split_nodes name w.part.nodes) (cycles_by w.part.links w.part.store) (map (entry_by w.part.links) tree.branches)
       old_rest w.tree.root before)
       (cycles_by links store) new_rest w.part.matching.unmatched cycles_agree rest_moved
       (IsPermutation-refl w.part.matching.unmatched) by_law))
 
   -- Less is left to do.
   pub less_opened : (free freed : Bool)
-      → IsLower (left_to_do (problem_of w) (split name w.part.nodes) (roles_of tree.root tree.branches) freed)
+      → IsLower (left_to_do (problem_of w) (split_nodes name w.part.nodes) (roles_of tree.root tree.branches) freed)
       (left_to_do (problem_of w) w.part.nodes (roles_of w.tree.root w.tree.branches) free)
   less_opened free freed =
       subst
       (λ roles.
-      IsLower (left_to_do (problem_of w) (split name w.part.nodes) (roles_of tree.root tree.branches) freed)
+      IsLower (left_to_do (problem_of w) (split_nodes name w.part.nodes) (roles_of tree.root tree.branches) freed)
       (left_to_do (problem_of w) w.part.nodes roles free))
       (roles_by_numbers w)
       (subst
       (λ roles.
-      IsLower (left_to_do (problem_of w) (split name w.part.nodes) roles freed)
+      IsLower (left_to_do (problem_of w) (split_nodes name w.part.nodes) roles freed)
       (left_to_do (problem_of w) w.part.nodes (roles_of w.tree.root (map (entry_by w.part.links) w.tree.branches)) free))
       (ap (roles_of w.tree.root) (law_tree ∙ entries_kept)
       ∙ (ap (λ r. roles_of r (map (entry_by links) tree.branches)) (sym has.grown.root) ∙ roles_by_numbers After))
       (subst
       (λ n.
       IsLower
-      (left_to_do (problem_of w) (split n w.part.nodes)
+      (left_to_do (problem_of w) (split_nodes n w.part.nodes)
       (roles_of w.tree.root
       (opened_tree (moved w name e above below are opens opens.branch.newer) (entry_by w.part.links e)
       (moved w name e above below are opens opens.branch.older) above (passes w name e above below are opens))) freed)

@@ -1,7 +1,7 @@
 -- A minus blossom opened keeps what every search keeps, and leaves less to do.
 use Rattle.std.proofs.Common.{ℕ, true, false, List, Option, refl, ap, ◌∙◌}
 use Rattle.fb_graph.specs.Limits.{IsWithinLimits}
-use Rattle.fb_graph.specs.Moves.{split}
+use Rattle.fb_graph.specs.Moves.{split_nodes}
 use Rattle.fb_graph.proofs.SplitNests.{height}
 use Rattle.fb_blossoms.specs.Nodes as blossoms
 use Rattle.fb_laws.specs.Trees.{EntryOf}
@@ -21,7 +21,7 @@ use Rattle.fb_search.proofs.OpenedSearchStates.{less_opened, state_opened}
 use Rattle.fb_search.proofs.OpenedWatches.{watch_opened}
 use Rattle.fb_search.proofs.Openings.{HasOpened, Opens, opened_search}
 use Rattle.fb_graph.specs.Parity.{is_in}
-use Rattle.fb_laws.specs.Works.{without}
+use Rattle.fb_laws.specs.Works.{names_without}
 
 module _ (w : SearchValue) (name : ℕ) (e : EntryOf ℕ) (above below : ℕ) (are : IsSearching w)
     (opens : Opens w name e above below) (links : Table) (store : List (Option blossoms.Node)) (tree : Grown) (watched : Watched) where
@@ -38,7 +38,7 @@ module _ (w : SearchValue) (name : ℕ) (e : EntryOf ℕ) (above below : ℕ) (a
     room = has.watches.room ∙ are.room;
     watch = watch_opened w name e above below are opens links store tree watched has limits;
     bounds =
-        bounded_still (problem_of w) w.part.nodes (split name w.part.nodes) watched
+        bounded_still (problem_of w) w.part.nodes (split_nodes name w.part.nodes) watched
         (height (problem_of w) w.part.nodes name opens.may_split are.state.1.search.nest)
         (has.watches.bounds (residue_at (problem_of w) w.part.nodes) are.bounds);
   }
@@ -47,7 +47,7 @@ module _ (w : SearchValue) (name : ℕ) (e : EntryOf ℕ) (above below : ℕ) (a
       → GoesOn w (opened_search name (rest w name e above below are opens) links store tree watched w)
   goes_on_opened has = record {
     part = record { job = refl; slot = refl; node = refl };
-    others = λ n. ap (λ r. is_in (without r w.part.matching.unmatched) n) has.grown.root;
+    others = λ n. ap (λ r. is_in (names_without r w.part.matching.unmatched) n) has.grown.root;
     kept = beside_split w name are (way_opens w name e above below are opens).minus;
     count = refl;
     less = less_opened w name e above below are opens links store tree watched has false true;

@@ -4,7 +4,7 @@ use Rattle.std.proofs.lemmas.Bool.{both_ways, cases_eq, false_from_ne_true}
 use Rattle.fb_graph.specs.Parity.{is_in}
 use Rattle.fb_graph.specs.Problem.{Problem}
 use Rattle.fb_graph.specs.Dual.{Node, cover_of, is_empty, is_live, is_outer}
-use Rattle.fb_graph.specs.Moves.{MaySplit, split}
+use Rattle.fb_graph.specs.Moves.{MaySplit, split_nodes}
 use Rattle.fb_graph.specs.Nests.{AreJoinedLater, AreMany, IsFormed, IsNest}
 use Rattle.fb_graph.proofs.Among.{IsAmong, All_among, among_live, among_outer, cover_among, covered_by, live_among, outer_among, outer_or_not}
 use Rattle.fb_graph.proofs.Places.{among_split, split_among}
@@ -52,12 +52,12 @@ module _ (p : Problem) (nodes : List Node) (name : ℕ) (children : List ℕ) (m
   children_many = by (All_among IsFormed nodes nest.forest.formed found.node found.among)
     where
       by : IsFormed found.node → AreMany children
-      by (inl lone) =
+      by (inl childless) =
           absurd
           (both_ways (is_empty found.node.children)
           (All_among (λ x. x.name ≡ name → (is_empty x.children ≡ false) × (x.below ≡ []) × (x.top.value ≡ 0)) nodes may.bare
           found.node found.among found.named).0
-          (ap is_empty lone.none))
+          (ap is_empty childless.none))
       by (inr many) = subst AreMany found.has many
 
   -- a child was not outer
@@ -69,16 +69,16 @@ module _ (p : Problem) (nodes : List Node) (name : ℕ) (children : List ℕ) (m
   child_other c child same =
       both_ways (is_outer nodes c) (child_was_inner c child) (ap (is_outer nodes) same ∙ may.outer)
 
-  pub stays_live : (x : ℕ) → is_live nodes x ≡ true → x ≢ name → is_live (split name nodes) x ≡ true
+  pub stays_live : (x : ℕ) → is_live nodes x ≡ true → x ≢ name → is_live (split_nodes name nodes) x ≡ true
   stays_live x live other =
       let (n, a, named) = live_among nodes x live in
-      among_live (split name nodes) n x (split_among name nodes n a (λ e. other (sym named ∙ e))) named
+      among_live (split_nodes name nodes) n x (split_among name nodes n a (λ e. other (sym named ∙ e))) named
 
-  pub stays_outer : (x : ℕ) → is_outer nodes x ≡ true → is_outer (split name nodes) x ≡ true
+  pub stays_outer : (x : ℕ) → is_outer nodes x ≡ true → is_outer (split_nodes name nodes) x ≡ true
   stays_outer x outer =
-      among_outer (split name nodes) x (λ q a. outer_among nodes x outer q (among_split name nodes q a).0)
+      among_outer (split_nodes name nodes) x (λ q a. outer_among nodes x outer q (among_split name nodes q a).0)
 
-  pub child_live : (c : ℕ) → is_in children c ≡ true → is_live (split name nodes) c ≡ true
+  pub child_live : (c : ℕ) → is_in children c ≡ true → is_live (split_nodes name nodes) c ≡ true
   child_live c child =
       stays_live c
       (is_in-All (λ x. is_live nodes x ≡ true) children
@@ -86,9 +86,9 @@ module _ (p : Problem) (nodes : List Node) (name : ℕ) (children : List ℕ) (m
       (All_among (λ n. All (λ x. is_live nodes x ≡ true) n.children) nodes nest.forest.live found.node found.among)) c child)
       (child_other c child)
 
-  pub child_outer : (c : ℕ) → is_in children c ≡ true → is_outer (split name nodes) c ≡ true
+  pub child_outer : (c : ℕ) → is_in children c ≡ true → is_outer (split_nodes name nodes) c ≡ true
   child_outer c child =
-      among_outer (split name nodes) c
+      among_outer (split_nodes name nodes) c
       (λ q a.
       false_from_ne_true (is_in q.children c)
       (λ h.
@@ -99,10 +99,10 @@ module _ (p : Problem) (nodes : List Node) (name : ℕ) (children : List ℕ) (m
       ∙ found.named)))
 
   -- an outer node was outer before, or is a child
-  pub outer_back : (x : ℕ) → is_live (split name nodes) x ≡ true → is_outer (split name nodes) x ≡ true
+  pub outer_back : (x : ℕ) → is_live (split_nodes name nodes) x ≡ true → is_outer (split_nodes name nodes) x ≡ true
       → ((is_live nodes x ≡ true) × (is_outer nodes x ≡ true) × (x ≢ name)) ⊎ (is_in children x ≡ true)
   outer_back x live outer =
-      let (n, a, named) = live_among (split name nodes) x live in
+      let (n, a, named) = live_among (split_nodes name nodes) x live in
       let (among, other) = among_split name nodes n a in
       by (among_live nodes n x among named) (λ e. other (named ∙ e)) (outer_or_not nodes x)
     where
@@ -119,21 +119,21 @@ module _ (p : Problem) (nodes : List Node) (name : ℕ) (children : List ℕ) (m
               (ap (λ cs. is_in cs x) (sym (All_among (λ n. n.name ≡ name → n.children ≡ children) nodes children_are q b e)) ∙ h)
           step (inr e) =
               absurd
-              (both_ways (is_in q.children x) (outer_among (split name nodes) x outer q (split_among name nodes q b e)) h)
+              (both_ways (is_in q.children x) (outer_among (split_nodes name nodes) x outer q (split_among name nodes q b e)) h)
 
   -- what another node covers it covers still
-  pub cover_stays : (v n : ℕ) → cover_of nodes v ≡ Some n → n ≢ name → cover_of (split name nodes) v ≡ Some n
+  pub cover_stays : (v n : ℕ) → cover_of nodes v ≡ Some n → n ≢ name → cover_of (split_nodes name nodes) v ≡ Some n
   cover_stays v n cover other =
       let over = cover_among nodes v n cover in
-      covered_by (split name nodes) v (nest_split p nodes name may nest).dual.apart over.node
+      covered_by (split_nodes name nodes) v (nest_split p nodes name may nest).dual.apart over.node
       (split_among name nodes over.node over.among (λ e. other (sym over.named ∙ e)))
       (stays_outer over.node.name over.outer) over.holds
       ∙ ap Some over.named
 
   -- and covered before, if it was outer
-  pub cover_was : (v n : ℕ) → cover_of (split name nodes) v ≡ Some n → is_outer nodes n ≡ true → cover_of nodes v ≡ Some n
+  pub cover_was : (v n : ℕ) → cover_of (split_nodes name nodes) v ≡ Some n → is_outer nodes n ≡ true → cover_of nodes v ≡ Some n
   cover_was v n cover outer =
-      let over = cover_among (split name nodes) v n cover in
+      let over = cover_among (split_nodes name nodes) v n cover in
       covered_by nodes v nest.dual.apart over.node (among_split name nodes over.node over.among).0
       (ap (is_outer nodes) over.named ∙ outer) over.holds
       ∙ ap Some over.named

@@ -3,7 +3,7 @@ use Rattle.std.proofs.Common.{ℕ, ◌≡◌, inl, inr, List, ◌∷◌, ◌++�
 use Rattle.std.proofs.lemmas.List.{map-append}
 use Rattle.fb_graph.specs.Laws.{Link}
 use Rattle.fb_graph.specs.Dual.{Node}
-use Rattle.fb_graph.specs.Moves.{MaySplit, split}
+use Rattle.fb_graph.specs.Moves.{MaySplit, split_nodes}
 use Rattle.fb_graph.proofs.Among.{All_among, among_All}
 use Rattle.fb_links.specs.declared.cycle.CycleStep.{CycleStep}
 use Rattle.fb_laws.specs.OpenedCycles.{Couple, IsOpenedCycle, Pass}
@@ -84,38 +84,38 @@ module _ (w : SearchValue) (name : ℕ) (e : EntryOf ℕ) (above below : ℕ) (a
         steps_within Cycle above below (many w name e above below are opens).distinct (odd w name e above below are opens)
         (above_on w name e above below are opens) (below_on w name e above below are opens);
     above =
-        subst (λ n. Connects (split n w.part.nodes) (link_by w.part.links e.tree) e.parent (get_or (nodes_of Cycle) place 0))
+        subst (λ n. Connects (split_nodes n w.part.nodes) (link_by w.part.links e.tree) e.parent (get_or (nodes_of Cycle) place 0))
         (sym opens.branch.minus)
-        (subst (Connects (split name w.part.nodes) (link_by w.part.links e.tree) e.parent)
+        (subst (Connects (split_nodes name w.part.nodes) (link_by w.part.links e.tree) e.parent)
         (sym (from_is Cycle above below (many w name e above below are opens).distinct (odd w name e above below are opens)
         (above_on w name e above below are opens) (below_on w name e above below are opens)))
         opens.at_above.connects);
     below =
         subst
         (λ n.
-        Connects (split n w.part.nodes) (link_by w.part.links e.matched) (get_or (round_from place (nodes_of Cycle)) steps 0)
+        Connects (split_nodes n w.part.nodes) (link_by w.part.links e.matched) (get_or (round_from place (nodes_of Cycle)) steps 0)
         e.plus)
         (sym opens.branch.minus)
-        (subst (λ c. Connects (split name w.part.nodes) (link_by w.part.links e.matched) c e.plus)
+        (subst (λ c. Connects (split_nodes name w.part.nodes) (link_by w.part.links e.matched) c e.plus)
         (sym (to_is Cycle above below (many w name e above below are opens).distinct (odd w name e above below are opens)
         (above_on w name e above below are opens) (below_on w name e above below are opens)))
-        (connects_back (split name w.part.nodes) (link_by w.part.links e.matched) e.plus below opens.at_below.connects));
+        (connects_back (split_nodes name w.part.nodes) (link_by w.part.links e.matched) e.plus below opens.at_below.connects));
   }
 
   -- the way and the couples, as the laws see them
-  pub law_cycle : IsOpenedCycle (problem_of w) w.part.nodes (split e.minus w.part.nodes) (entry_by w.part.links e) above passes couples
+  pub law_cycle : IsOpenedCycle (problem_of w) w.part.nodes (split_nodes e.minus w.part.nodes) (entry_by w.part.links e) above passes couples
       w.part.matching.unmatched
   law_cycle =
       subst
       (λ c.
-      IsOpenedCycle (problem_of w) w.part.nodes (split e.minus w.part.nodes) (entry_by w.part.links e) above passes c
+      IsOpenedCycle (problem_of w) w.part.nodes (split_nodes e.minus w.part.nodes) (entry_by w.part.links e) above passes c
       w.part.matching.unmatched)
       (ap (λ n. couples_after steps (round_at place (nodes_of Cycle) (cycles_by w.part.links w.part.store n))) opens.branch.minus
       ∙ couples_is Cycle above below (many w name e above below are opens).distinct (odd w name e above below are opens)
       (above_on w name e above below are opens) (below_on w name e above below are opens) (link_by w.part.links))
       (subst
       (λ p.
-      IsOpenedCycle (problem_of w) w.part.nodes (split e.minus w.part.nodes) (entry_by w.part.links e) above p
+      IsOpenedCycle (problem_of w) w.part.nodes (split_nodes e.minus w.part.nodes) (entry_by w.part.links e) above p
       (couples_after steps (round_at place (nodes_of Cycle) (cycles_by w.part.links w.part.store e.minus)))
       w.part.matching.unmatched)
       (ap (λ n. way_to steps (round_at place (nodes_of Cycle) (cycles_by w.part.links w.part.store n))) opens.branch.minus
@@ -123,7 +123,7 @@ module _ (w : SearchValue) (name : ℕ) (e : EntryOf ℕ) (above below : ℕ) (a
       (above_on w name e above below are opens) (below_on w name e above below are opens) (link_by w.part.links))
       (subst
       (λ from.
-      IsOpenedCycle (problem_of w) w.part.nodes (split e.minus w.part.nodes) (entry_by w.part.links e) from
+      IsOpenedCycle (problem_of w) w.part.nodes (split_nodes e.minus w.part.nodes) (entry_by w.part.links e) from
       (way_to steps (round_at place (nodes_of Cycle) (cycles_by w.part.links w.part.store e.minus)))
       (couples_after steps (round_at place (nodes_of Cycle) (cycles_by w.part.links w.part.store e.minus)))
       w.part.matching.unmatched)

@@ -3,10 +3,10 @@ use Rattle.std.proofs.Common.{ℕ, ◌≡◌, ◌≢◌, ◌<◌, ◌⊎◌, inl
 use Rattle.std.proofs.lemmas.Bool.{false≢true}
 use Rattle.fb_graph.specs.Parity.{is_in}
 use Rattle.fb_graph.specs.Problem.{Problem, edge_at, touches}
-use Rattle.fb_graph.specs.Covers.{is_over, passes}
+use Rattle.fb_graph.specs.Covers.{is_covered_by, passes}
 use Rattle.fb_graph.specs.Dual.{AreUnderOne, Node, cover_of, is_outer, top_at}
 use Rattle.fb_graph.specs.Limits.{IsWithinLimits}
-use Rattle.fb_graph.specs.Moves.{split}
+use Rattle.fb_graph.specs.Moves.{split_nodes}
 use Rattle.fb_graph.specs.Steps.{Roles}
 use Rattle.fb_graph.proofs.Among.{All_among, cover_among, top_among}
 use Rattle.fb_graph.proofs.Places.{among_split, split_names}
@@ -41,9 +41,9 @@ use Rattle.fb_search.proofs.TakenVertices.{plus_over}
 pub watch_kept_over : (p : Problem) (roles new_roles : Roles) (nodes new_nodes : List Node) (edges new_edges : List ℕ)
     → IsWatched p roles nodes edges → All (λ k. k < length p.edges) new_edges
     → ((k : ℕ) → is_in edges k ≡ true → is_in new_edges k ≡ true)
-    → ((v : ℕ) → is_over new_roles.is_plus new_nodes v ≡ true
-    → (is_over roles.is_plus nodes v ≡ true) ⊎ IsWatchedAt p new_nodes new_edges v)
-    → ((u v : ℕ) → is_over roles.is_plus nodes u ≡ true → AreUnderOne nodes u v → AreUnderOne new_nodes u v)
+    → ((v : ℕ) → is_covered_by new_roles.is_plus new_nodes v ≡ true
+    → (is_covered_by roles.is_plus nodes v ≡ true) ⊎ IsWatchedAt p new_nodes new_edges v)
+    → ((u v : ℕ) → is_covered_by roles.is_plus nodes u ≡ true → AreUnderOne nodes u v → AreUnderOne new_nodes u v)
     → IsWatched p new_roles new_nodes new_edges
 watch_kept_over p roles new_roles nodes new_nodes edges new_edges was within kept over together = record {
   within = within;
@@ -55,7 +55,7 @@ watch_kept_over p roles new_roles nodes new_nodes edges new_edges was within kep
 
     first : (k : ℕ) → k < length p.edges
         → ¬ AreUnderOne new_nodes (edge_at p.edges k).first (edge_at p.edges k).second
-        → (is_over roles.is_plus nodes (edge_at p.edges k).first ≡ true)
+        → (is_covered_by roles.is_plus nodes (edge_at p.edges k).first ≡ true)
         ⊎ IsWatchedAt p new_nodes new_edges (edge_at p.edges k).first → is_in new_edges k ≡ true
     first k less apart (inl old) =
         kept k
@@ -65,7 +65,7 @@ watch_kept_over p roles new_roles nodes new_nodes edges new_edges was within kep
 
     second : (k : ℕ) → k < length p.edges
         → ¬ AreUnderOne new_nodes (edge_at p.edges k).first (edge_at p.edges k).second
-        → (is_over roles.is_plus nodes (edge_at p.edges k).second ≡ true)
+        → (is_covered_by roles.is_plus nodes (edge_at p.edges k).second ≡ true)
         ⊎ IsWatchedAt p new_nodes new_edges (edge_at p.edges k).second → is_in new_edges k ≡ true
     second k less apart (inl old) =
         kept k
@@ -79,8 +79,8 @@ watch_kept_over p roles new_roles nodes new_nodes edges new_edges was within kep
 
     by : (k : ℕ) → k < length p.edges
         → ¬ AreUnderOne new_nodes (edge_at p.edges k).first (edge_at p.edges k).second
-        → (is_over new_roles.is_plus new_nodes (edge_at p.edges k).first ≡ true)
-        ⊎ (is_over new_roles.is_plus new_nodes (edge_at p.edges k).second ≡ true) → is_in new_edges k ≡ true
+        → (is_covered_by new_roles.is_plus new_nodes (edge_at p.edges k).first ≡ true)
+        ⊎ (is_covered_by new_roles.is_plus new_nodes (edge_at p.edges k).second ≡ true) → is_in new_edges k ≡ true
     by k less apart (inl u) = first k less apart (over (edge_at p.edges k).first u)
     by k less apart (inr v) = second k less apart (over (edge_at p.edges k).second v)
 
@@ -164,7 +164,7 @@ module _ (w : SearchValue) (name : ℕ) (e : EntryOf ℕ) (above below : ℕ) (a
   Way = way w name e above below are opens
 
   abbrev Others : List Node
-  Others = split name w.part.nodes
+  Others = split_nodes name w.part.nodes
 
   abbrev After : SearchValue
   After = after w name e above below are opens links store tree watched has
@@ -191,8 +191,8 @@ module _ (w : SearchValue) (name : ℕ) (e : EntryOf ℕ) (above below : ℕ) (a
       touch (inr same) =
           ap (λ u. touches u (edge_at (problem_of w).edges k)) (sym same) ∙ touches_second (problem_of w) k limits less
 
-  over_now : (v : ℕ) → is_over (roles_in After).is_plus Others v ≡ true
-      → (is_over (roles_in w).is_plus w.part.nodes v ≡ true) ⊎ IsWatchedAt (problem_of w) Others watched.edges v
+  over_now : (v : ℕ) → is_covered_by (roles_in After).is_plus Others v ≡ true
+      → (is_covered_by (roles_in w).is_plus w.part.nodes v ≡ true) ⊎ IsWatchedAt (problem_of w) Others watched.edges v
   over_now v over =
       let (m, cover, plus) = plus_over (roles_in After).is_plus Others v over in
       by m cover
@@ -201,7 +201,7 @@ module _ (w : SearchValue) (name : ℕ) (e : EntryOf ℕ) (above below : ℕ) (a
       ∙ (ap (λ r. is_in (plus_names r tree.branches) m) (sym has.grown.root) ∙ plus_in_tree tree m plus)))
     where
       old : (m : ℕ) → cover_of Others v ≡ Some m → is_in (plus_names w.tree.root w.tree.branches) m ≡ true
-          → is_over (roles_in w).is_plus w.part.nodes v ≡ true
+          → is_covered_by (roles_in w).is_plus w.part.nodes v ≡ true
       old m cover plus =
           let over = cover_among Others v m cover in
           let outer : is_outer w.part.nodes m ≡ true =
@@ -217,11 +217,11 @@ module _ (w : SearchValue) (name : ℕ) (e : EntryOf ℕ) (above below : ℕ) (a
       by : (m : ℕ) → cover_of Others v ≡ Some m
           → (is_in (plus_names w.tree.root (opens.branch.newer ++ e ∷ opens.branch.older)) m ≡ true)
           ⊎ (is_in (map (λ s. s.plus) (way_of Way)) m ≡ true)
-          → (is_over (roles_in w).is_plus w.part.nodes v ≡ true) ⊎ IsWatchedAt (problem_of w) Others watched.edges v
+          → (is_covered_by (roles_in w).is_plus w.part.nodes v ≡ true) ⊎ IsWatchedAt (problem_of w) Others watched.edges v
       by m cover (inl h) = inl (old m cover (ap (λ t. is_in (plus_names w.tree.root t) m) opens.branch.there ∙ h))
       by m cover (inr h) = inr (now_watched v m cover h)
 
-  together : (u v : ℕ) → is_over (roles_in w).is_plus w.part.nodes u ≡ true → AreUnderOne w.part.nodes u v
+  together : (u v : ℕ) → is_covered_by (roles_in w).is_plus w.part.nodes u ≡ true → AreUnderOne w.part.nodes u v
       → AreUnderOne Others u v
   together u v over (m, at_u, at_v) = (m, stays u at_u, stays v at_v)
     where

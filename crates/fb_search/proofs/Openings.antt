@@ -1,7 +1,7 @@
 -- A minus blossom opened by a search: what the calls ask for, what they make of the parts, and the search afterwards.
 use Rattle.std.proofs.Common.{ℕ, ◌<◌, All, List, ◌++◌, flat_map, Option}
 use Rattle.fb_graph.specs.Dual.{top_at}
-use Rattle.fb_graph.specs.Moves.{MaySplit, split}
+use Rattle.fb_graph.specs.Moves.{MaySplit, split_nodes}
 use Rattle.fb_laws.specs.Trees.{EntryOf}
 use Rattle.fb_links.specs.declared.cycle.CycleStep.{CycleStep}
 use Rattle.fb_links.specs.declared.walk.Step.{Step}
@@ -32,7 +32,7 @@ pub record Opens (w : SearchValue) (name : ℕ) (e : EntryOf ℕ) (above below :
 abbrev pub opened_search : ℕ → List CycleStep → List (Option (List Step)) → List (Option blossoms.Node) → Grown → Watched → SearchValue → SearchValue
 opened_search name rest links store tree watched w = record {
   part = record w.part {
-    nodes = split name w.part.nodes;
+    nodes = split_nodes name w.part.nodes;
     links = links;
     store = store;
     matching = record { matches = w.part.matching.matches ++ couples_on rest; unmatched = w.part.matching.unmatched };
@@ -48,5 +48,5 @@ pub record HasOpened (w : SearchValue) (name above below : ℕ) (links : List (O
   pub forgets : Forgets (links_left (round_in w.part name above below) below) w.part.links links
   pub within : All (λ k. k < watched.edge_count) watched.edges
   pub watches : Watches (problem_of w)
-      (flat_map (top_at (split name w.part.nodes)) (second_nodes (way_on (round_in w.part name above below) below)))
+      (flat_map (top_at (split_nodes name w.part.nodes)) (second_nodes (way_on (round_in w.part name above below) below)))
       w.watched watched

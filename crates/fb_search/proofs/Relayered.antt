@@ -22,7 +22,7 @@ use Rattle.fb_half.specs.Matchings.{IsMatchOf, IsMatchingOf, MatchingValue, matc
 use Rattle.fb_half.specs.Parts.{AreAgreed, AreLinksOf}
 use Rattle.fb_half.specs.Translations.{children_at, link_by, ring_at, ring_links}
 use Rattle.fb_half.specs.declared.matches.Match.{Match}
-use Rattle.fb_laws.specs.StateMoves.{relayered}
+use Rattle.fb_laws.specs.StateMoves.{relayered_state}
 use Rattle.fb_laws.specs.TreeCycles.{nodes_along}
 use Rattle.fb_obstacles.specs.Obstacles.{IsWatched, residue_at}
 use Rattle.fb_obstacles.specs.Watched.{AreBounded, Watched}
@@ -124,7 +124,7 @@ relayered_by f watched w = record w { part = record w.part { nodes = map f w.par
 
 pub searching_relayered : (w : SearchValue) (f : Node → Node) (watched : Watched) (are : IsSearching w)
     → AreKept f w.part.nodes → AreAlike w.part.nodes (map f w.part.nodes)
-    → IsSearchState (problem_of w) (relayered (map f w.part.nodes) (state_at w are.state.0))
+    → IsSearchState (problem_of w) (relayered_state (map f w.part.nodes) (state_at w are.state.0))
     → watched.edge_count ≡ w.watched.edge_count
     → IsWatched (problem_of w) (roles_in w) (map f w.part.nodes) watched.edges
     → AreBounded (residue_at (problem_of w) w.part.nodes) watched

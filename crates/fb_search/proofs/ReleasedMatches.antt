@@ -9,7 +9,7 @@ use Rattle.fb_graph.specs.Certificate.{AreDistinct}
 use Rattle.fb_graph.proofs.Among.{IsAmong, All_among, among_All}
 use Rattle.fb_graph.proofs.Sets.{All-from_is_in, is_in-All}
 use Rattle.fb_laws.specs.LinkNumbers.{links_dropped, tree_links}
-use Rattle.fb_laws.specs.Works.{without}
+use Rattle.fb_laws.specs.Works.{names_without}
 use Rattle.fb_laws.proofs.StateMoves.{state_released}
 use Rattle.fb_links.specs.declared.walk.Step.{Step}
 use Rattle.fb_links.specs.Table.{Removes, is_live, link_at}
@@ -20,7 +20,7 @@ use Rattle.fb_half.specs.Translations.{link_by, link_of, ring_links}
 use Rattle.fb_trees.proofs.Mapped.{plus_moved}
 use Rattle.fb_search.specs.declared.attaching.Met.{Met}
 use Rattle.fb_search.specs.InternalEndings.{Forgets, all_matches, ended_matches}
-use Rattle.fb_search.specs.InternalMeetings.{HasMet, IsLone, rematched}
+use Rattle.fb_search.specs.InternalMeetings.{HasMet, IsBoundaryMatch, rematched}
 use Rattle.fb_search.specs.Progress.{IsSearched}
 use Rattle.fb_search.specs.Searching.{SearchValue, problem_of, searched_links, state_at}
 use Rattle.fb_search.proofs.DroppedLinks.{dropped_live, dropped_once}
@@ -30,7 +30,7 @@ use Rattle.fb_search.proofs.EndedMatches.{AreTaken}
 use Rattle.fb_search.proofs.EndedNames.{ended_distinct}
 use Rattle.fb_search.proofs.EndedParts.{ended_part, others_kept, part_after}
 use Rattle.fb_search.proofs.EndedWays.{met_match}
-use Rattle.fb_search.proofs.MetMatches.{lone_leaves, names_taken}
+use Rattle.fb_search.proofs.MetMatches.{childless_leaves, names_taken}
 use Rattle.fb_search.proofs.TakenNames.{one_taken, without_taken}
 use Rattle.fb_search.proofs.TreeEnds.{tree_hung}
 
@@ -52,7 +52,7 @@ forgets_more id gone old mid new removes forgets k = by (cases_eq id k)
         ∙ (ap (λ o. cond (is_in gone k) None o) (removes.others k (λ e. other (sym e)))
         ∙ sym (ap (λ b. cond (b || is_in gone k) None (link_at old k)) (ne_eqb id k other)))
 
-module _ (w : SearchValue) (met : Met) (now : SearchValue) (h : HasMet w met now) (lone : IsLone met.taken met.other) where
+module _ (w : SearchValue) (met : Met) (now : SearchValue) (h : HasMet w met now) (childless : IsBoundaryMatch met.taken met.other) where
   abbrev kept : List Match
   kept = now.part.matching.matches
 
@@ -75,8 +75,8 @@ module _ (w : SearchValue) (met : Met) (now : SearchValue) (h : HasMet w met now
       (IsPermutation-trans _ _ _ (IsPermutation-cons met.taken.link _ _ (links_counted w.tree.branches met.plus kept rings))
       (IsPermutation-sym _ _ (IsPermutation-middle (others_kept w met.plus kept) met.taken.link dropped))))
 
-  lone_names : names_of met.taken ≡ met.other ∷ []
-  lone_names = (λ k. lone.0 k ∷ second_name (lone.1 k))
+  childless_names : names_of met.taken ≡ met.other ∷ []
+  childless_names = (λ k. childless.0 k ∷ second_name (childless.1 k))
 
   takes : (unmatched : List ℕ) → IsPermutation w.part.matching.unmatched (w.tree.root ∷ unmatched)
       → AreTaken w.part.matching w.tree.root met.plus unmatched kept out_match
@@ -88,7 +88,7 @@ module _ (w : SearchValue) (met : Met) (now : SearchValue) (h : HasMet w met now
         (IsPermutation-cons w.tree.root _ _
         (IsPermutation-trans _ _ _
         (IsPermutation-append_right unmatched (matched_names w.part.matching.matches) (met.other ∷ matched_names kept)
-        (subst (λ l. IsPermutation (matched_names w.part.matching.matches) (l ++ matched_names kept)) lone_names
+        (subst (λ l. IsPermutation (matched_names w.part.matching.matches) (l ++ matched_names kept)) childless_names
         (names_taken [] w h.was met.taken kept h.matches)))
         (IsPermutation-middle unmatched met.other (matched_names kept))));
     kept_are = λ e a.
@@ -147,8 +147,8 @@ module _ (w : SearchValue) (met : Met) (now : SearchValue) (h : HasMet w met now
         → IsPart (part_after w met.plus new rest.unmatched kept out_match)
         × IsSearched w.tree.root w.part (part_after w met.plus new rest.unmatched kept out_match)
     released new forgets =
-        let (b, leaves, boundary) = lone_leaves [] w h.was met.taken kept h.matches met.other lone in
-        ended_part w met.plus new rest.unmatched (without w.tree.root w.part.matching.unmatched) kept out_match h.was
+        let (b, leaves, boundary) = childless_leaves [] w h.was met.taken kept h.matches met.other childless in
+        ended_part w met.plus new rest.unmatched (names_without w.tree.root w.part.matching.unmatched) kept out_match h.was
         (record {
           hung = tree_hung w h.was;
           plus = h.plus;

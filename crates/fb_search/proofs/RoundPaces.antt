@@ -2,7 +2,7 @@
 use Rattle.std.proofs.Common.{ℕ, ◌≡◌, ◌+◌, ◌-◌, ◌*◌, ◌%◌, ◌<◌, true, Some, Option, None, refl, sym, ap, ◌∙◌, subst, arith}
 use Rattle.fb_graph.specs.Parity.{is_in}
 use Rattle.fb_graph.specs.Problem.{Problem, with_defects}
-use Rattle.fb_graph.specs.Covers.{is_over, passes}
+use Rattle.fb_graph.specs.Covers.{is_covered_by, passes}
 use Rattle.fb_graph.specs.Counts.{as_count}
 use Rattle.fb_graph.specs.Dual.{cover_of, is_outer, leaves, top_at}
 use Rattle.fb_graph.specs.Steps.{MayStep, Roles}
@@ -58,7 +58,7 @@ pub even_after : (w : SearchValue) (potential k : ℕ) → IsSearching w → May
     → IsRootPotential w potential → potential % 2 ≡ k % 2 → HasEvenRoot (stepped_by k w)
 even_after w potential k are may (v, covered, height) same =
     let roles : Roles = roles_of w.tree.root w.tree.branches in
-    let plus : is_over roles.is_plus w.part.nodes v ≡ true =
+    let plus : is_covered_by roles.is_plus w.part.nodes v ≡ true =
     ap (passes roles.is_plus) covered ∙ root_plus w.tree.root w.tree.branches in
     let minus = ap (passes roles.is_minus) covered ∙ exclusive w are w.tree.root (root_plus w.tree.root w.tree.branches) in
     let by_names : MayStep (problem_of w) roles w.part.nodes k =

@@ -4,7 +4,7 @@ use Rattle.std.proofs.lemmas.Bool.{and_from, both_ways, eqb-true, or_from, or_pa
 use Rattle.fb_graph.specs.Parity.{is_in}
 use Rattle.fb_graph.proofs.Members.{is_in-append, or_false}
 use Rattle.fb_graph.proofs.Sets.{equal_sym, is_in-filter}
-use Rattle.fb_laws.specs.Works.{without}
+use Rattle.fb_laws.specs.Works.{names_without}
 use Rattle.fb_laws.proofs.StateMoves.{kept_without}
 use Rattle.fb_regions.specs.Moves.{node_named}
 use Rattle.fb_half.specs.Parts.{PartValue, problem_in}
@@ -48,7 +48,7 @@ root_skipped w root start out = record {
 
 -- a list without a name has all its other elements
 among_others : (name : ℕ) (xs : List ℕ) (n : ℕ) → is_in xs n ≡ true → is_in (name ∷ []) n ≡ false
-    → is_in (without name xs) n ≡ true
+    → is_in (names_without name xs) n ≡ true
 among_others name xs n there out =
     is_in-filter (λ m. not (m == name)) xs n
     ∙ and_from (is_in xs n) (not (n == name)) there

@@ -17,7 +17,7 @@ use Rattle.fb_laws.specs.Trees.{Connects}
 use Rattle.fb_laws.specs.Works.{AreMatchedLinks}
 use Rattle.fb_laws.proofs.SingleDefects.{ends_meet_under, links_through, one_defect}
 use Rattle.fb_links.specs.declared.walk.Step.{Step}
-use Rattle.fb_links.specs.Walks.{end_of, is_end, joined, meeting, share_end, start_of, walk_weight}
+use Rattle.fb_links.specs.Walks.{end_of, is_end, joined_walk, meeting_vertex, share_end, start_of, walk_weight}
 use Rattle.fb_half.specs.Parts.{AreStepsOf}
 use Rattle.fb_half.specs.Translations.{link_of}
 use Rattle.fb_obstacles.specs.Obstacles.{IsZeroDefect}
@@ -26,10 +26,10 @@ use Rattle.fb_search.proofs.StepWalks.{joined_steps, joined_through, steps_weigh
 -- the walks may be joined, and are then a tight link between the two nodes
 pub record AreRounded (p : Problem) (nodes : List Node) (a b : ℕ) (first second : List Step) : Type 0 where
   pub meet : share_end first second ≡ true
-  pub light : walk_weight (joined first second) < 2 ^ 64
-  pub steps : AreStepsOf p (joined first second)
-  pub matched : AreMatchedLinks p nodes (link_of (joined first second) ∷ [])
-  pub connects : Connects nodes (link_of (joined first second)) a b
+  pub light : walk_weight (joined_walk first second) < 2 ^ 64
+  pub steps : AreStepsOf p (joined_walk first second)
+  pub matched : AreMatchedLinks p nodes (link_of (joined_walk first second) ∷ [])
+  pub connects : Connects nodes (link_of (joined_walk first second)) a b
 
 -- a vertex at an end of the link is one at an end of the walk
 end_there : (walk : List Step) (v : ℕ) → HasEnd (link_of walk) v → is_end walk v ≡ true
@@ -53,7 +53,7 @@ ends_shared first second v (inr same) other =
 
 -- where they meet is an end of both
 meeting_ends : (first second : List Step) → share_end first second ≡ true
-    → HasEnd (link_of first) (meeting first second) × HasEnd (link_of second) (meeting first second)
+    → HasEnd (link_of first) (meeting_vertex first second) × HasEnd (link_of second) (meeting_vertex first second)
 meeting_ends first second share = by (is_end second (end_of first)) refl
   where
     by : (b : Bool) → is_end second (end_of first) ≡ b
@@ -116,20 +116,20 @@ links_rounded p nodes first second a name b nest zero are to_first to_second apa
     to_first to_second apart_a apart_b apart in
     let share = ends_shared first second d end other in
     let ends = meeting_ends first second share in
-    let at_meeting : IsDefectUnder nodes name (meeting first second) =
-    ends_meet_under p nodes (link_of first) (link_of second) a name b (meeting first second) nest.dual are to_first
+    let at_meeting : IsDefectUnder nodes name (meeting_vertex first second) =
+    ends_meet_under p nodes (link_of first) (link_of second) a name b (meeting_vertex first second) nest.dual are to_first
     to_second apart_a apart_b apart ends.0 ends.1 in
-    let same : d ≡ meeting first second =
-    one_defect p nodes name d (meeting first second) nest single under at_meeting in
-    let is : link_through d (link_of first) (link_of second) ≡ link_of (joined first second) =
+    let same : d ≡ meeting_vertex first second =
+    one_defect p nodes name d (meeting_vertex first second) nest single under at_meeting in
+    let is : link_through d (link_of first) (link_of second) ≡ link_of (joined_walk first second) =
     ap (λ v. link_through v (link_of first) (link_of second)) same
     ∙ sym (joined_through first second (some_steps p first own_first) (some_steps p second own_second)) in
-    let whole : AreMatchedLinks p nodes (link_of (joined first second) ∷ []) =
+    let whole : AreMatchedLinks p nodes (link_of (joined_walk first second) ∷ []) =
     subst (λ l. AreMatchedLinks p nodes (l ∷ [])) is matched in
     let along = joined_steps p first second steps others in
     record {
       meet = share;
-      light = light_link p nodes (joined first second) nest.dual along whole;
+      light = light_link p nodes (joined_walk first second) nest.dual along whole;
       steps = along;
       matched = whole;
       connects = subst (λ l. Connects nodes l a b) is connects;

@@ -21,7 +21,7 @@ use Rattle.fb_laws.proofs.SearchTrees.{connects_sym, plus_in_tree}
 use Rattle.fb_laws.proofs.TreePaths.{among_plus, in_left, in_right, tree_connects}
 use Rattle.fb_links.specs.declared.walk.Step.{Step}
 use Rattle.fb_links.specs.Table.{Adds, is_live, walk_at}
-use Rattle.fb_links.specs.Walks.{joined}
+use Rattle.fb_links.specs.Walks.{joined_walk}
 use Rattle.fb_trees.specs.Rooted.{IsBranchAt, IsPlus}
 use Rattle.fb_trees.proofs.Mapped.{plus_moved}
 use Rattle.fb_half.specs.Parts.{kept_links}
@@ -37,9 +37,9 @@ use Rattle.fb_search.proofs.StepWalks.{walk_there}
 branch_apart : (nodes : List Node) (root : ℕ) (tree : List Entry) → AreDistinct (tree_names root tree)
     → IsTree nodes root tree → (e : Entry) → IsAmong e tree
     → (e.parent ≡ e.minus → ⊥) × (e.minus ≡ e.plus → ⊥) × (e.parent ≡ e.plus → ⊥)
-branch_apart nodes root [] distinct joined e a = absurd a
-branch_apart nodes root (x ∷ xs) distinct joined e (inr a) = branch_apart nodes root xs distinct.1.1 joined.3 e a
-branch_apart nodes root (x ∷ xs) distinct joined e (inl same) =
+branch_apart nodes root [] distinct joined_walk e a = absurd a
+branch_apart nodes root (x ∷ xs) distinct joined_walk e (inr a) = branch_apart nodes root xs distinct.1.1 joined_walk.3 e a
+branch_apart nodes root (x ∷ xs) distinct joined_walk e (inl same) =
     subst (λ y. (y.parent ≡ y.minus → ⊥) × (y.minus ≡ y.plus → ⊥) × (y.parent ≡ y.plus → ⊥)) same (
       λ clash.
           both_ways (is_in (x.plus ∷ tree_names root xs) x.minus) distinct.0
@@ -53,7 +53,7 @@ branch_apart nodes root (x ∷ xs) distinct joined e (inl same) =
     )
   where
     there : is_in (tree_names root xs) x.parent ≡ true
-    there = plus_in_tree root xs x.parent joined.0
+    there = plus_in_tree root xs x.parent joined_walk.0
 
 -- one of the links
 link_among : (p : Problem) (nodes : List Node) (links : List Link) (l : Link) → AreMatchedLinks p nodes links
@@ -146,8 +146,8 @@ rounding w name e are zero at = record {
 
 -- the joined link made
 module _ (w : SearchValue) (e : EntryOf ℕ) (id : ℕ) (new : List (Option (List Step))) (is : IsRounding w e)
-    (adds : Adds w.part.links new id (joined (walk_at w.part.links e.tree) (walk_at w.part.links e.matched))) where
-  made : link_of (joined (walk_at w.part.links e.tree) (walk_at w.part.links e.matched)) ≡ link_by new id
+    (adds : Adds w.part.links new id (joined_walk (walk_at w.part.links e.tree) (walk_at w.part.links e.matched))) where
+  made : link_of (joined_walk (walk_at w.part.links e.tree) (walk_at w.part.links e.matched)) ≡ link_by new id
   made = ap (λ o. link_of (unwrap_or o [])) (sym adds.added)
 
   pub rounded_connects : Connects w.part.nodes (link_by new id) e.plus e.parent
@@ -160,7 +160,7 @@ module _ (w : SearchValue) (e : EntryOf ℕ) (id : ℕ) (new : List (Option (Lis
 
   pub rounded_search : IsSearching w → IsSearchingBeside (id ∷ []) (relinked new w)
   rounded_search are =
-      link_made w id (joined (walk_at w.part.links e.tree) (walk_at w.part.links e.matched)) new are adds is.links.steps
+      link_made w id (joined_walk (walk_at w.part.links e.tree) (walk_at w.part.links e.matched)) new are adds is.links.steps
 
 -- what is left to do does not depend on links
 pub goes_on_relinked : (w after : SearchValue) (new : List (Option (List Step))) → GoesOn (relinked new w) after

@@ -5,7 +5,7 @@ use Rattle.std.proofs.lemmas.List.{take_more}
 use Rattle.fb_graph.specs.Parity.{is_in}
 use Rattle.fb_graph.proofs.Members.{is_in_push}
 use Rattle.fb_graph.proofs.Sets.{equal_sym, is_in-filter, is_in-head}
-use Rattle.fb_laws.specs.Works.{without}
+use Rattle.fb_laws.specs.Works.{names_without}
 use Rattle.fb_laws.proofs.StateMoves.{kept_without}
 use Rattle.fb_half.specs.Parts.{PartValue, problem_in}
 use Rattle.fb_search.specs.InternalRuns.{HasSearched}
@@ -13,7 +13,7 @@ use Rattle.fb_search.specs.Progress.{HasSearchedEach, IsSearched}
 use Rattle.fb_search.proofs.Runs.{same_problem}
 
 -- a list without a name doesn't hold it
-pub gone : (name : ℕ) (xs : List ℕ) (n : ℕ) → is_in (without name xs) n ≡ true → (name == n) ≡ false
+pub gone : (name : ℕ) (xs : List ℕ) (n : ℕ) → is_in (names_without name xs) n ≡ true → (name == n) ≡ false
 gone name xs n there =
     equal_sym name n
     ∙ not-true (n == name)

@@ -11,8 +11,8 @@ use Rattle.fb_laws.specs.MetLinks.{IsSourceUnder}
 use Rattle.fb_laws.specs.StepLinks.{IsTurn, StepParts}
 use Rattle.fb_laws.proofs.StepLinks.{edges_turned}
 use Rattle.fb_links.specs.declared.walk.Step.{Step}
-use Rattle.fb_links.specs.Walks.{Runs, turn, turned, walk_weight}
-use Rattle.fb_links.proofs.Turns.{turned-cons}
+use Rattle.fb_links.specs.Walks.{Runs, turned_step, turned_walk, walk_weight}
+use Rattle.fb_links.proofs.Turns.{turned_walk-cons}
 use Rattle.fb_regions.specs.Moves.{IsWalkFrom}
 use Rattle.fb_regions.specs.Walks.{IsStep, IsWalk}
 use Rattle.fb_half.specs.Parts.{AreStepsOf}
@@ -60,29 +60,29 @@ pub leads_back : (e : Edge) (u v : ℕ) → Leads e u v → Leads e v u
 leads_back e u v (inl (first, second)) = inr (second, first)
 leads_back e u v (inr (second, first)) = inl (first, second)
 
-step_back : (p : Problem) (s : Step) → IsStepOfPart p s → IsStepOfPart p (turn s)
+step_back : (p : Problem) (s : Step) → IsStepOfPart p s → IsStepOfPart p (turned_step s)
 step_back p s (is, real) = (
   record { within = is.within; leads = leads_back (edge_at p.edges s.edge) s.from s.to is.leads; weighs = is.weighs },
   real,
 )
 
 -- the walk gone back has such steps too
-pub steps_back : (p : Problem) (walk : List Step) → AreStepsOf p walk → AreStepsOf p (turned walk)
+pub steps_back : (p : Problem) (walk : List Step) → AreStepsOf p walk → AreStepsOf p (turned_walk walk)
 steps_back p [] are = All-nil (IsStepOfPart p)
 steps_back p (s ∷ ss) are =
-    subst (AreStepsOf p) (sym (turned-cons s ss))
-    (All-push (IsStepOfPart p) (turned ss) (turn s) (steps_back p ss (All-tail (IsStepOfPart p) s ss are))
+    subst (AreStepsOf p) (sym (turned_walk-cons s ss))
+    (All-push (IsStepOfPart p) (turned_walk ss) (turned_step s) (steps_back p ss (All-tail (IsStepOfPart p) s ss are))
     (step_back p s (All-head (IsStepOfPart p) s ss are)))
 
 -- how the laws read a step
 abbrev parts : StepParts Step
 parts = record { from = λ s. s.from; to = λ s. s.to; edge = λ s. s.edge }
 
-turns : IsTurn parts turn
+turns : IsTurn parts turned_step
 turns = record { from = λ s. refl; to = λ s. refl; edge = λ s. refl }
 
-pub edges_back : (walk : List Step) → map (λ s. s.edge) (turned walk) ≡ reverse (map (λ s. s.edge) walk)
-edges_back walk = edges_turned Step parts turn walk turns
+pub edges_back : (walk : List Step) → map (λ s. s.edge) (turned_walk walk) ≡ reverse (map (λ s. s.edge) walk)
+edges_back walk = edges_turned Step parts turned_step walk turns
 
 -- the source walk as the laws have it
 pub walk_under : (p : Problem) (nodes : List Node) (walk : List Step) (d v name : ℕ) → IsWalkFrom p nodes walk d v

@@ -7,10 +7,10 @@ use Rattle.fb_graph.specs.Problem.{Problem, edge_at}
 use Rattle.fb_graph.specs.declared.parts.Cut.{Cut}
 use Rattle.fb_graph.specs.Laws.{Link}
 use Rattle.fb_graph.specs.Limits.{DecodingGraph, IsWithinLimits}
-use Rattle.fb_graph.specs.Covers.{is_over, passes}
+use Rattle.fb_graph.specs.Covers.{is_covered_by, passes}
 use Rattle.fb_graph.specs.Dual.{AreUnderOne, Node, all_cuts, cover_of, first_vertices, height_of}
 use Rattle.fb_graph.specs.Nests.{first_set}
-use Rattle.fb_graph.specs.Steps.{MayStep, Roles, stepped, stepped_node}
+use Rattle.fb_graph.specs.Steps.{MayStep, Roles, stepped_nodes, stepped_node}
 use Rattle.fb_graph.proofs.Among.{among_All}
 use Rattle.fb_graph.proofs.MappedNodes.{AreKept, mapped_outer}
 use Rattle.fb_graph.proofs.StepHeights.{cover_stepped, height_stepped}
@@ -52,30 +52,30 @@ module _ (roles : Roles) (k : ℕ) (nodes : List Node) where
     inner = λ i d less inner. refl;
   }
 
-  cover : (v : ℕ) → cover_of (stepped roles k nodes) v ≡ cover_of nodes v
+  cover : (v : ℕ) → cover_of (stepped_nodes roles k nodes) v ≡ cover_of nodes v
   cover v = cover_stepped roles nodes k v
 
-  connects_stepped : (l : Link) (a b : ℕ) → Connects nodes l a b → Connects (stepped roles k nodes) l a b
+  connects_stepped : (l : Link) (a b : ℕ) → Connects nodes l a b → Connects (stepped_nodes roles k nodes) l a b
   connects_stepped l a b (inl (from, to)) = inl (cover l.from ∙ from, cover l.to ∙ to)
   connects_stepped l a b (inr (to, from)) = inr (cover l.to ∙ to, cover l.from ∙ from)
 
-  leaves_stepped : (l : Link) (a v : ℕ) → LeavesNode nodes l a v → LeavesNode (stepped roles k nodes) l a v
+  leaves_stepped : (l : Link) (a v : ℕ) → LeavesNode nodes l a v → LeavesNode (stepped_nodes roles k nodes) l a v
   leaves_stepped l a v (inl (from, to)) = inl (cover l.from ∙ from, to)
   leaves_stepped l a v (inr (to, from)) = inr (cover l.to ∙ to, from)
 
   match_stepped : (p : Problem) (l : Link) (a : ℕ) (second : Option ℕ) → IsMatchOf p nodes l a second
-      → IsMatchOf p (stepped roles k nodes) l a second
+      → IsMatchOf p (stepped_nodes roles k nodes) l a second
   match_stepped p l a None (v, leaves, real) = (v, leaves_stepped l a v leaves, real)
   match_stepped p l a (Some b) connects = connects_stepped l a b connects
 
-  over_before : (test : ℕ → _) (v : ℕ) → is_over test (stepped roles k nodes) v ≡ true → is_over test nodes v ≡ true
+  over_before : (test : ℕ → _) (v : ℕ) → is_covered_by test (stepped_nodes roles k nodes) v ≡ true → is_covered_by test nodes v ≡ true
   over_before test v over = ap (passes test) (sym (cover v)) ∙ over
 
-  under_after : (u v : ℕ) → AreUnderOne nodes u v → AreUnderOne (stepped roles k nodes) u v
+  under_after : (u v : ℕ) → AreUnderOne nodes u v → AreUnderOne (stepped_nodes roles k nodes) u v
   under_after u v (n, first, second) = (n, cover u ∙ first, cover v ∙ second)
 
   pub watch_stepped : (p : Problem) (seen : Roles) (edges : List ℕ) → IsWatched p seen nodes edges
-      → IsWatched p seen (stepped roles k nodes) edges
+      → IsWatched p seen (stepped_nodes roles k nodes) edges
   watch_stepped p seen edges watch = record {
     within = watch.within;
     near = λ j less over apart. watch.near j less (by (edge_at p.edges j).first (edge_at p.edges j).second over)
@@ -83,8 +83,8 @@ module _ (roles : Roles) (k : ℕ) (nodes : List Node) where
   }
     where
       by : (u v : ℕ)
-          → (is_over seen.is_plus (stepped roles k nodes) u ≡ true) ⊎ (is_over seen.is_plus (stepped roles k nodes) v ≡ true)
-          → (is_over seen.is_plus nodes u ≡ true) ⊎ (is_over seen.is_plus nodes v ≡ true)
+          → (is_covered_by seen.is_plus (stepped_nodes roles k nodes) u ≡ true) ⊎ (is_covered_by seen.is_plus (stepped_nodes roles k nodes) v ≡ true)
+          → (is_covered_by seen.is_plus nodes u ≡ true) ⊎ (is_covered_by seen.is_plus nodes v ≡ true)
       by u v (inl over) = inl (over_before seen.is_plus u over)
       by u v (inr over) = inr (over_before seen.is_plus v over)
 
@@ -99,7 +99,7 @@ searching_stepped w k are limits may =
       node = are.node;
       state = (
         (parity + k) % 2,
-        subst (λ r. IsSearchState (problem_of w) (record (state_at w ((parity + k) % 2)) { nodes = stepped r k w.part.nodes })) (roles_by_numbers w)
+        subst (λ r. IsSearchState (problem_of w) (record (state_at w ((parity + k) % 2)) { nodes = stepped_nodes r k w.part.nodes })) (roles_by_numbers w)
             (state_stepped (problem_of w) (state_at w parity) k limits (no_odd_closed w are)
             (subst (λ r. MayStep (problem_of w) r w.part.nodes k) (sym (roles_by_numbers w)) may) are.state.1),
       );
@@ -118,7 +118,7 @@ searching_stepped w k are limits may =
             (sym (mapped_outer (stepped_node roles k) (λ n. refl) w.part.nodes x) ∙ outer);
         connects =
             All-weaker (λ e. IsMatchOf (problem_of w) w.part.nodes (link_by w.part.links e.link) e.first e.second)
-            (λ e. IsMatchOf (problem_of w) (stepped roles k w.part.nodes) (link_by w.part.links e.link) e.first e.second)
+            (λ e. IsMatchOf (problem_of w) (stepped_nodes roles k w.part.nodes) (link_by w.part.links e.link) e.first e.second)
             (λ e is. match_stepped roles k w.part.nodes (problem_of w) (link_by w.part.links e.link) e.first e.second is)
             w.part.matching.matches are.matching.connects;
       };
@@ -146,11 +146,11 @@ length_fits w k are after may =
     ap (λ names. is_in names w.tree.root) (sym (plus_moved (link_by w.part.links) w.tree.root w.tree.branches))
     ∙ root_plus w.tree.root (map (entry_by w.part.links) w.tree.branches) in
     let least =
-    risen-le k (height_of (all_cuts w.part.nodes) d) (height_of (all_cuts (stepped roles k w.part.nodes)) d)
-    (is_over roles.is_minus w.part.nodes d) (is_over roles.is_plus w.part.nodes d)
+    risen-le k (height_of (all_cuts w.part.nodes) d) (height_of (all_cuts (stepped_nodes roles k w.part.nodes)) d)
+    (is_covered_by roles.is_minus w.part.nodes d) (is_covered_by roles.is_plus w.part.nodes d)
     (height_stepped roles w.part.nodes k d are.state.1.search.nest.dual.apart (tree_roles w are) may.tops)
     (ap (passes roles.is_minus) cover ∙ (tree_roles w are).exclusive w.tree.root plus) (ap (passes roles.is_plus) cover ∙ plus) in
-    omega (arith, least, height-le (problem_of w) (stepped roles k w.part.nodes) d after.state.1.search.nest)
+    omega (arith, least, height-le (problem_of w) (stepped_nodes roles k w.part.nodes) d after.state.1.search.nest)
 
 -- The scope of the part tells no defects, which a step doesn't ask for.
 pub tree_in_scope : (w : SearchValue) (g : DecodingGraph) (t : PlanTree) (n : ℕ) → g ≡ w.part.job.graph

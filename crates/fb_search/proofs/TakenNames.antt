@@ -6,7 +6,7 @@ use Rattle.std.proofs.lemmas.List.Sorted.{IsPermutation-cons, IsPermutation-midd
 use Rattle.fb_graph.specs.Parity.{is_in}
 use Rattle.fb_graph.specs.Certificate.{AreDistinct}
 use Rattle.fb_graph.proofs.Sets.{distinct-filter, is_in-cases, is_in-filter, is_in-head}
-use Rattle.fb_laws.specs.Works.{without}
+use Rattle.fb_laws.specs.Works.{names_without}
 use Rattle.fb_laws.proofs.OpenedBlossoms.{distinct_permuted, same_permuted}
 
 -- where an element stands
@@ -48,9 +48,9 @@ and_true false = refl
 
 -- an element taken off a distinct list
 pub without_taken : (name : ℕ) (names rest : List ℕ) → AreDistinct names → IsPermutation names (name ∷ rest)
-    → IsPermutation (without name names) rest
+    → IsPermutation (names_without name names) rest
 without_taken name names rest distinct moved =
-    same_members (without name names) rest (distinct-filter (λ n. not (n == name)) names distinct) apart.1
+    same_members (names_without name names) rest (distinct-filter (λ n. not (n == name)) names distinct) apart.1
     (λ v. is_in-filter (λ n. not (n == name)) names v ∙ by v (cases_eq v name))
   where
     apart : (is_in rest name ≡ false) × AreDistinct rest

@@ -1,4 +1,4 @@
--- A vertex that a plus node takes up keeps what every search keeps, and leaves less to do.
+-- A vertex that a plus node absorbs keeps what every search keeps, and leaves less to do.
 use Rattle.std.proofs.Common.{ℕ, ◌≡◌, ◌==◌, ◌<◌, ◌%◌, ◌⊎◌, inl, inr, Bool, true, false, List, length, All, Option, Some, None, IsSome, is_some, refl, sym, ap, ◌∙◌, subst, if◌then◌else◌}
 use Rattle.std.proofs.lemmas.Bool.{false≢true, eqb-true}
 use Rattle.std.proofs.lemmas.List.Elements.{All-weaker}
@@ -8,9 +8,9 @@ use Rattle.fb_graph.specs.Components.{Leads}
 use Rattle.fb_graph.specs.declared.parts.Edge.{Edge}
 use Rattle.fb_graph.specs.Limits.{IsEdge, IsWithinLimits}
 use Rattle.fb_graph.specs.Links.{AreEven}
-use Rattle.fb_graph.specs.Covers.{is_over, passes}
-use Rattle.fb_graph.specs.Dual.{AreUnderOne, Node, cover_of, is_outer, taller}
-use Rattle.fb_graph.specs.Moves.{MayTakeUp, taken_up}
+use Rattle.fb_graph.specs.Covers.{is_covered_by, passes}
+use Rattle.fb_graph.specs.Dual.{AreUnderOne, Node, cover_of, is_outer, taller_node}
+use Rattle.fb_graph.specs.Moves.{MayAbsorb, absorbed_nodes}
 use Rattle.fb_graph.specs.Steps.{Roles}
 use Rattle.fb_graph.proofs.Among.{cover_among}
 use Rattle.fb_graph.proofs.ChangedNodes.{change, first_taller, kept_by}
@@ -18,9 +18,9 @@ use Rattle.fb_graph.proofs.TallerNodes.{taller_alike, taller_covers}
 use Rattle.fb_laws.specs.Measures.{IsLower}
 use Rattle.fb_laws.specs.SearchLayers.{left_to_do}
 use Rattle.fb_laws.proofs.MoveBridges.{no_leaf}
-use Rattle.fb_laws.proofs.StateMeasures.{taken_up_less}
-use Rattle.fb_laws.proofs.StateMoves.{state_taken_up}
-use Rattle.fb_regions.specs.Moves.{absorbed, inner_end, outer_end}
+use Rattle.fb_laws.proofs.StateMeasures.{absorbed_less}
+use Rattle.fb_laws.proofs.StateMoves.{state_absorbed}
+use Rattle.fb_regions.specs.Moves.{absorbed_over, inner_end, outer_end}
 use Rattle.fb_trees.proofs.Mapped.{plus_moved}
 use Rattle.fb_half.specs.Translations.{link_by}
 use Rattle.fb_obstacles.specs.Obstacles.{IsAbsorb, IsWatched, residue_at}
@@ -49,7 +49,7 @@ ends_told nodes e u v name (inr (second, first)) covered free =
       ap (λ b. if b then e.second else e.first) at ∙ first,
     )
 
-pub plus_over : (test : ℕ → Bool) (nodes : List Node) (u : ℕ) → is_over test nodes u ≡ true
+pub plus_over : (test : ℕ → Bool) (nodes : List Node) (u : ℕ) → is_covered_by test nodes u ≡ true
     → (name : ℕ) × (cover_of nodes u ≡ Some name) × (test name ≡ true)
 plus_over test nodes u over = by (cover_of nodes u) refl over
   where
@@ -62,30 +62,30 @@ all_even p limits = All-weaker (IsEdge p.vertices) (λ e. e.weight % 2 ≡ 0) (�
 
 -- the edges at the vertex come under watch, but for those within the node
 module _ (p : Problem) (roles : Roles) (nodes : List Node) (name v : ℕ) (limits : IsWithinLimits p) (old new : Watched)
-    (watched : WatchesTaken p (taken_up name v nodes) v old new) (watch : IsWatched p roles nodes old.edges) where
+    (watched : WatchesTaken p (absorbed_nodes name v nodes) v old new) (watch : IsWatched p roles nodes old.edges) where
   near_taken : (k : ℕ) → k < length p.edges
-      → (is_over roles.is_plus (taken_up name v nodes) (edge_at p.edges k).first ≡ true)
-      ⊎ (is_over roles.is_plus (taken_up name v nodes) (edge_at p.edges k).second ≡ true)
-      → (AreUnderOne (taken_up name v nodes) (edge_at p.edges k).first (edge_at p.edges k).second → ⊥) → is_in new.edges k ≡ true
+      → (is_covered_by roles.is_plus (absorbed_nodes name v nodes) (edge_at p.edges k).first ≡ true)
+      ⊎ (is_covered_by roles.is_plus (absorbed_nodes name v nodes) (edge_at p.edges k).second ≡ true)
+      → (AreUnderOne (absorbed_nodes name v nodes) (edge_at p.edges k).first (edge_at p.edges k).second → ⊥) → is_in new.edges k ≡ true
   near_taken k less over not_one =
       by (v == (edge_at p.edges k).first) (v == (edge_at p.edges k).second) refl refl
     where
       at_v : (u : ℕ) → (v == u) ≡ true → touches u (edge_at p.edges k) ≡ true → is_in new.edges k ≡ true
       at_v u same touch =
-          watched_at p (taken_up name v nodes) v old new watched k less
+          watched_at p (absorbed_nodes name v nodes) v old new watched k less
           (ap (λ x. touches x (edge_at p.edges k)) (eqb-true v u same) ∙ touch) not_one
 
       by : (a b : Bool) → (v == (edge_at p.edges k).first) ≡ a → (v == (edge_at p.edges k).second) ≡ b → is_in new.edges k ≡ true
       by true b ea eb = at_v (edge_at p.edges k).first ea (touches_first p k limits less)
       by false true ea eb = at_v (edge_at p.edges k).second eb (touches_second p k limits less)
       by false false ea eb =
-          watched_elsewhere p (taken_up name v nodes) v old new watched k less (rw (ea, eb) refl)
+          watched_elsewhere p (absorbed_nodes name v nodes) v old new watched k less (rw (ea, eb) refl)
           ∙ watch.near k less (before over) one
         where
-          before : (is_over roles.is_plus (taken_up name v nodes) (edge_at p.edges k).first ≡ true)
-              ⊎ (is_over roles.is_plus (taken_up name v nodes) (edge_at p.edges k).second ≡ true)
-              → (is_over roles.is_plus nodes (edge_at p.edges k).first ≡ true)
-              ⊎ (is_over roles.is_plus nodes (edge_at p.edges k).second ≡ true)
+          before : (is_covered_by roles.is_plus (absorbed_nodes name v nodes) (edge_at p.edges k).first ≡ true)
+              ⊎ (is_covered_by roles.is_plus (absorbed_nodes name v nodes) (edge_at p.edges k).second ≡ true)
+              → (is_covered_by roles.is_plus nodes (edge_at p.edges k).first ≡ true)
+              ⊎ (is_covered_by roles.is_plus nodes (edge_at p.edges k).second ≡ true)
           before (inl h) = inl (sym (ap (passes roles.is_plus) (taller_covers nodes name v (edge_at p.edges k).first ea)) ∙ h)
           before (inr h) = inr (sym (ap (passes roles.is_plus) (taller_covers nodes name v (edge_at p.edges k).second eb)) ∙ h)
 
@@ -99,10 +99,10 @@ module _ (p : Problem) (roles : Roles) (nodes : List Node) (name v : ℕ) (limit
 
 -- the search with the vertex in the node, and with these edges watched
 abbrev pub raised : ℕ → ℕ → Watched → SearchValue → SearchValue
-raised name v watched w = relayered_by (change name (taller v)) watched w
+raised name v watched w = relayered_by (change name (taller_node v)) watched w
 
 pub may_take : (w : SearchValue) (k u v name : ℕ) → IsAbsorb (problem_of w) (roles_in w) w.part.nodes k u v
-    → cover_of w.part.nodes u ≡ Some name → MayTakeUp (problem_of w) w.part.nodes name k u v
+    → cover_of w.part.nodes u ≡ Some name → MayAbsorb (problem_of w) w.part.nodes name k u v
 may_take w k u v name is covered = record {
   within = is.edge.within;
   leads = is.edge.leads;
@@ -113,13 +113,13 @@ may_take w k u v name is covered = record {
 }
 
 pub searching_raised : (w : SearchValue) (k u v name : ℕ) (new : Watched) → IsSearching w → IsWithinLimits (problem_of w)
-    → MayTakeUp (problem_of w) w.part.nodes name k u v → All (λ j. j < new.edge_count) new.edges
-    → WatchesTaken (problem_of w) (taken_up name v w.part.nodes) v w.watched new → IsSearching (raised name v new w)
+    → MayAbsorb (problem_of w) w.part.nodes name k u v → All (λ j. j < new.edge_count) new.edges
+    → WatchesTaken (problem_of w) (absorbed_nodes name v w.part.nodes) v w.watched new → IsSearching (raised name v new w)
 searching_raised w k u v name new are limits may within watched =
-    searching_relayered w (change name (taller v)) new are
-    (kept_by name (taller v) w.part.nodes (λ n. refl) (λ n. refl) (λ n a e. first_taller v n) outer)
+    searching_relayered w (change name (taller_node v)) new are
+    (kept_by name (taller_node v) w.part.nodes (λ n. refl) (λ n. refl) (λ n a e. first_taller v n) outer)
     (taller_alike w.part.nodes name v (no_leaf (problem_of w) w.part.nodes v are.state.1.search.nest.dual may.uncovered)).0
-    (state_taken_up (problem_of w) (state_at w are.state.0) name k u v (all_even (problem_of w) limits) may are.state.1)
+    (state_absorbed (problem_of w) (state_at w are.state.0) name k u v (all_even (problem_of w) limits) may are.state.1)
     watched.room
     (record {
       within = subst (λ n. All (λ j. j < n) new.edges) (watched.room ∙ are.room) within;
@@ -133,16 +133,16 @@ searching_raised w k u v name new are limits may within watched =
         ap (is_outer w.part.nodes) (sym over.named) ∙ over.outer
 
 pub goes_on_raised : (w : SearchValue) (k u v name : ℕ) (new : Watched) → IsSearching w → IsWithinLimits (problem_of w)
-    → MayTakeUp (problem_of w) w.part.nodes name k u v → (roles_in w).is_plus name ≡ true → GoesOn w (raised name v new w)
+    → MayAbsorb (problem_of w) w.part.nodes name k u v → (roles_in w).is_plus name ≡ true → GoesOn w (raised name v new w)
 goes_on_raised w k u v name new are limits may plus = record {
   part = record { job = refl; slot = refl; node = refl };
   others = λ n. refl;
   kept = λ n beside. beside_taller w name v are (plus_in_tree w.tree name plus) n beside;
   count = refl;
   less =
-      subst (λ roles. IsLower (left_to_do (problem_of w) (taken_up name v w.part.nodes) roles true) (left_to_do (problem_of w) w.part.nodes roles false))
+      subst (λ roles. IsLower (left_to_do (problem_of w) (absorbed_nodes name v w.part.nodes) roles true) (left_to_do (problem_of w) w.part.nodes roles false))
       (roles_by_numbers w)
-      (taken_up_less (problem_of w) (state_at w are.state.0) name k u v false true limits may
+      (absorbed_less (problem_of w) (state_at w are.state.0) name k u v false true limits may
       (ap (λ names. is_in names name) (plus_moved (link_by w.part.links) w.tree.root w.tree.branches) ∙ plus_in_tree w.tree name plus)
       are.state.1);
 }
@@ -152,11 +152,11 @@ pub record Absorbs (w : SearchValue) (k : ℕ) : Type 0 where
   pub from : ℕ
   pub to : ℕ
   pub name : ℕ
-  pub may : MayTakeUp (problem_of w) w.part.nodes name k from to
+  pub may : MayAbsorb (problem_of w) w.part.nodes name k from to
   pub plus : (roles_in w).is_plus name ≡ true
   pub inner : inner_end w.part.nodes (edge_at (problem_of w).edges k) ≡ from
   pub outer : outer_end w.part.nodes (edge_at (problem_of w).edges k) ≡ to
-  pub nodes : absorbed w.part.nodes (edge_at (problem_of w).edges k) ≡ taken_up name to w.part.nodes
+  pub nodes : absorbed_over w.part.nodes (edge_at (problem_of w).edges k) ≡ absorbed_nodes name to w.part.nodes
 
 pub absorbs : (w : SearchValue) (k u v : ℕ) → IsAbsorb (problem_of w) (roles_in w) w.part.nodes k u v → Absorbs w k
 absorbs w k u v is =
@@ -181,7 +181,7 @@ module _ (w : SearchValue) (k : ℕ) (a : Absorbs w k) (edges : List Edge) (same
   pub outer_free : cover_of w.part.nodes (outer_end w.part.nodes (edge_at edges k)) ≡ None
   outer_free = rw same (ap (cover_of w.part.nodes) a.outer ∙ a.may.uncovered)
 
-  pub nodes_taken : absorbed w.part.nodes (edge_at edges k) ≡ taken_up a.name a.to w.part.nodes
+  pub nodes_taken : absorbed_over w.part.nodes (edge_at edges k) ≡ absorbed_nodes a.name a.to w.part.nodes
   nodes_taken = rw same a.nodes
 
   pub end_taken : (taken : ℕ) → taken ≡ outer_end w.part.nodes (edge_at edges k) → taken ≡ a.to

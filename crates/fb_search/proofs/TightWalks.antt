@@ -18,8 +18,8 @@ use Rattle.fb_laws.specs.Trees.{Connects}
 use Rattle.fb_laws.specs.Works.{AreMatchedLinks}
 use Rattle.fb_laws.proofs.MetLinks.{covered_real, link_met, link_to_boundary}
 use Rattle.fb_links.specs.declared.walk.Step.{Step}
-use Rattle.fb_links.specs.Walks.{IsChained, Runs, turned, walk_weight}
-use Rattle.fb_links.proofs.Turns.{Runs-append, Runs-chained, Runs-ends, Runs-turned, weight-append, weight-turned}
+use Rattle.fb_links.specs.Walks.{IsChained, Runs, turned_walk, walk_weight}
+use Rattle.fb_links.proofs.Turns.{Runs-append, Runs-chained, Runs-ends, Runs-turned_walk, weight-append, weight-turned_walk}
 use Rattle.fb_regions.specs.Moves.{IsOver, IsSourceWalk, IsWalkFrom}
 use Rattle.fb_regions.specs.Walks.{IsStep}
 use Rattle.fb_half.specs.Parts.{AreStepsOf}
@@ -100,41 +100,41 @@ module _ (p : Problem) (nodes : List Node) (a : ℕ) (s : Step) (dual : IsDual p
     -- and a source walk gone back
     module _ (b : ℕ) (apart : a ≢ b) (back : List Step) (c : ℕ) (target : IsWalkFrom p nodes back c s.to)
         (at_end : cover_of nodes s.to ≡ Some b) where
-      pub met_runs : Runs ((walk ++ s ∷ []) ++ turned back) d c
+      pub met_runs : Runs ((walk ++ s ∷ []) ++ turned_walk back) d c
       met_runs =
-          Runs-append (walk ++ s ∷ []) (turned back) d s.to c out_runs
-          (Runs-turned back c s.to (steps_run p back c s.to target.leads))
+          Runs-append (walk ++ s ∷ []) (turned_walk back) d s.to c out_runs
+          (Runs-turned_walk back c s.to (steps_run p back c s.to target.leads))
 
-      met_some : 0 < length ((walk ++ s ∷ []) ++ turned back)
+      met_some : 0 < length ((walk ++ s ∷ []) ++ turned_walk back)
       met_some = omega (arith, length-append {A = Step})
 
-      met_edges : map (λ t. t.edge) ((walk ++ s ∷ []) ++ turned back)
+      met_edges : map (λ t. t.edge) ((walk ++ s ∷ []) ++ turned_walk back)
           ≡ map (λ t. t.edge) walk ++ s.edge ∷ reverse (map (λ t. t.edge) back)
       met_edges =
-          map-append (λ t. t.edge) (walk ++ s ∷ []) (turned back)
+          map-append (λ t. t.edge) (walk ++ s ∷ []) (turned_walk back)
           ∙ (λ k. map-append (λ t. t.edge) walk (s ∷ []) k ++ edges_back back k)
           ∙ append_assoc (map (λ t. t.edge) walk) (s.edge ∷ []) (reverse (map (λ t. t.edge) back))
 
-      met_is : link_of ((walk ++ s ∷ []) ++ turned back)
+      met_is : link_of ((walk ++ s ∷ []) ++ turned_walk back)
           ≡ met_link d (map (λ t. t.edge) walk) s.edge (map (λ t. t.edge) back) c
       met_is =
-          let ends = Runs-ends ((walk ++ s ∷ []) ++ turned back) d c met_some met_runs in
+          let ends = Runs-ends ((walk ++ s ∷ []) ++ turned_walk back) d c met_some met_runs in
           rw (ends.0, ends.1, met_edges) refl
 
-      pub met_tight : IsMetWalk p nodes a b ((walk ++ s ∷ []) ++ turned back)
+      pub met_tight : IsMetWalk p nodes a b ((walk ++ s ∷ []) ++ turned_walk back)
       met_tight = record {
         walk_is = record {
           some = met_some;
           light = omega (
             arith,
-            weight-append (walk ++ s ∷ []) (turned back),
-            weight-turned back,
+            weight-append (walk ++ s ∷ []) (turned_walk back),
+            weight-turned_walk back,
             out_weighs,
             target.weighs,
             height_low p nodes c dual,
           );
           steps =
-              All-append (λ t. IsStep p t × (has_real_end p (edge_at p.edges t.edge) ≡ true)) (walk ++ s ∷ []) (turned back)
+              All-append (λ t. IsStep p t × (has_real_end p (edge_at p.edges t.edge) ≡ true)) (walk ++ s ∷ []) (turned_walk back)
               out_steps (steps_back p back (steps_real p back c s.to target.leads target.real));
           tight = subst (λ l. AreMatchedLinks p nodes (l ∷ [])) (sym met_is) link.0;
         };
@@ -166,14 +166,14 @@ module _ (p : Problem) (nodes : List Node) (k a b : ℕ) (s : Step) (walk back :
     covered = rw along.from is.first;
   }
 
-  pub between_walk : IsMetWalk p nodes a b ((walk ++ s ∷ []) ++ turned back)
+  pub between_walk : IsMetWalk p nodes a b ((walk ++ s ∷ []) ++ turned_walk back)
   between_walk =
       met_tight p nodes a s dual between_over walk source.0 source.1 b is.apart back target.0 target.1
       (rw along.to is.second)
 
-  pub between_chained : IsChained ((walk ++ s ∷ []) ++ turned back)
+  pub between_chained : IsChained ((walk ++ s ∷ []) ++ turned_walk back)
   between_chained =
-      Runs-chained ((walk ++ s ∷ []) ++ turned back) source.0 target.0
+      Runs-chained ((walk ++ s ∷ []) ++ turned_walk back) source.0 target.0
       (met_runs p nodes a s dual between_over walk source.0 source.1 b is.apart back target.0 target.1
       (rw along.to is.second))
 

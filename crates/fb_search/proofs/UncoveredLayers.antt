@@ -3,9 +3,9 @@ use Rattle.std.proofs.Common.{ℕ, ◌≡◌, ◌==◌, ◌<◌, ◌⊎◌, inl,
 use Rattle.std.proofs.lemmas.Bool.{false≢true, eqb-true}
 use Rattle.fb_graph.specs.Parity.{is_in}
 use Rattle.fb_graph.specs.Problem.{Problem, edge_at}
-use Rattle.fb_graph.specs.Covers.{is_over, passes}
+use Rattle.fb_graph.specs.Covers.{is_covered_by, passes}
 use Rattle.fb_graph.specs.Dual.{AreUnderOne, Node, cover_of, is_live, is_outer}
-use Rattle.fb_graph.specs.Moves.{MayUncover, taken_up, lower, uncovered}
+use Rattle.fb_graph.specs.Moves.{MayUncover, absorbed_nodes, without_top, uncovered_nodes}
 use Rattle.fb_graph.proofs.ChangedNodes.{change}
 use Rattle.fb_graph.proofs.LoweredNests.{kept}
 use Rattle.fb_graph.proofs.TallerNodes.{taller_alike, taller_covers}
@@ -36,17 +36,17 @@ module _ (roles : Roles) (nodes : List Node) (name v : ℕ) (apart : (n : ℕ) �
     (minus : roles.is_minus name ≡ true) (live : is_live nodes name ≡ true) (outer : is_outer nodes name ≡ true)
     (free : cover_of nodes v ≡ None) where
   -- it is not under a plus node any more
-  other : (u : ℕ) → is_over roles.is_plus nodes u ≡ true → (v == u) ≡ false
+  other : (u : ℕ) → is_covered_by roles.is_plus nodes u ≡ true → (v == u) ≡ false
   other u over = by (v == u) refl
     where
       by : (b : Bool) → (v == u) ≡ b → b ≡ false
       by false e = refl
       by true e = absurd (false≢true (sym (ap (passes roles.is_plus) (ap (cover_of nodes) (sym (eqb-true v u e)) ∙ free)) ∙ over))
 
-  still_over : (u : ℕ) → is_over roles.is_plus nodes u ≡ true → is_over roles.is_plus (taken_up name v nodes) u ≡ true
+  still_over : (u : ℕ) → is_covered_by roles.is_plus nodes u ≡ true → is_covered_by roles.is_plus (absorbed_nodes name v nodes) u ≡ true
   still_over u over = ap (passes roles.is_plus) (taller_covers nodes name v u (other u over)) ∙ over
 
-  under_one : (a b : ℕ) → is_over roles.is_plus nodes a ≡ true → AreUnderOne (taken_up name v nodes) a b → AreUnderOne nodes a b
+  under_one : (a b : ℕ) → is_covered_by roles.is_plus nodes a ≡ true → AreUnderOne (absorbed_nodes name v nodes) a b → AreUnderOne nodes a b
   under_one a b over (m, at_a, at_b) = by (v == b) refl
     where
       here : cover_of nodes a ≡ Some m
@@ -58,20 +58,20 @@ module _ (roles : Roles) (nodes : List Node) (name v : ℕ) (apart : (n : ℕ) �
       by : (c : Bool) → (v == b) ≡ c → AreUnderOne nodes a b
       by false e = (m, here, sym (taller_covers nodes name v b e) ∙ at_b)
       by true e =
-          let same : m ≡ name = ap name_in (sym at_b ∙ (ap (cover_of (taken_up name v nodes)) (sym (eqb-true v b e)) ∙ taller_covered nodes name v live outer free)) in
+          let same : m ≡ name = ap name_in (sym at_b ∙ (ap (cover_of (absorbed_nodes name v nodes)) (sym (eqb-true v b e)) ∙ taller_covered nodes name v live outer free)) in
           absurd (apart m plus (ap roles.is_minus same ∙ minus))
 
   swapped : (ns : List Node) (a b : ℕ) → AreUnderOne ns a b → AreUnderOne ns b a
   swapped ns a b (m, at_a, at_b) = (m, at_b, at_a)
 
-  pub watch_lower : (p : Problem) (edges : List ℕ) → IsWatched p roles (taken_up name v nodes) edges → IsWatched p roles nodes edges
+  pub watch_lower : (p : Problem) (edges : List ℕ) → IsWatched p roles (absorbed_nodes name v nodes) edges → IsWatched p roles nodes edges
   watch_lower p edges watch = record {
     within = watch.within;
     near = λ k less over apart_ends. near k less over apart_ends;
   }
     where
       near : (k : ℕ) → k < length p.edges
-          → (is_over roles.is_plus nodes (edge_at p.edges k).first ≡ true) ⊎ (is_over roles.is_plus nodes (edge_at p.edges k).second ≡ true)
+          → (is_covered_by roles.is_plus nodes (edge_at p.edges k).first ≡ true) ⊎ (is_covered_by roles.is_plus nodes (edge_at p.edges k).second ≡ true)
           → (AreUnderOne nodes (edge_at p.edges k).first (edge_at p.edges k).second → ⊥) → is_in edges k ≡ true
       near k less (inl over) not_one =
           watch.near k less (inl (still_over (edge_at p.edges k).first over))
@@ -81,22 +81,22 @@ module _ (roles : Roles) (nodes : List Node) (name v : ℕ) (apart : (n : ℕ) �
           (λ one.
           not_one (swapped nodes (edge_at p.edges k).second (edge_at p.edges k).first
           (under_one (edge_at p.edges k).second (edge_at p.edges k).first over
-          (swapped (taken_up name v nodes) (edge_at p.edges k).first (edge_at p.edges k).second one))))
+          (swapped (absorbed_nodes name v nodes) (edge_at p.edges k).first (edge_at p.edges k).second one))))
 
 -- the search without the layer
 abbrev pub lowered : ℕ → SearchValue → SearchValue
-lowered name w = relayered_by (change name lower) w.watched w
+lowered name w = relayered_by (change name without_top) w.watched w
 
 pub searching_lowered : (w : SearchValue) (name : ℕ) → IsSearching w → (roles_in w).is_minus name ≡ true
     → MayUncover w.part.nodes name → IsSearching (lowered name w)
 searching_lowered w name are minus may =
     let (v, given) = uncovered_back (problem_of w) w.part.nodes name may are.state.1.search.nest in
-    searching_relayered w (change name lower) w.watched are
+    searching_relayered w (change name without_top) w.watched are
     (kept (problem_of w) w.part.nodes name may are.state.1.search.nest)
-    (subst (λ ns. AreAlike ns (uncovered name w.part.nodes)) given.back
-    (taller_alike (uncovered name w.part.nodes) name v given.no_defect).1)
+    (subst (λ ns. AreAlike ns (uncovered_nodes name w.part.nodes)) given.back
+    (taller_alike (uncovered_nodes name w.part.nodes) name v given.no_defect).1)
     (state_uncovered (problem_of w) (state_at w are.state.0) name may are.state.1) refl
-    (watch_lower (roles_in w) (uncovered name w.part.nodes) name v (λ n. not_both _) minus given.live given.outer given.free
+    (watch_lower (roles_in w) (uncovered_nodes name w.part.nodes) name v (λ n. not_both _) minus given.live given.outer given.free
     (problem_of w) w.watched.edges
     (subst (λ ns. IsWatched (problem_of w) (roles_in w) ns w.watched.edges) (sym given.back) are.watch)) are.bounds
 
@@ -108,7 +108,7 @@ goes_on_lowered w name are minus may = record {
   kept = λ n beside. beside_lower w name are (minus_in_tree w.tree name minus) n beside;
   count = refl;
   less =
-      subst (λ roles. IsLower (left_to_do (problem_of w) (uncovered name w.part.nodes) roles true) (left_to_do (problem_of w) w.part.nodes roles false))
+      subst (λ roles. IsLower (left_to_do (problem_of w) (uncovered_nodes name w.part.nodes) roles true) (left_to_do (problem_of w) w.part.nodes roles false))
       (roles_by_numbers w)
       (uncovered_less (problem_of w) (state_at w are.state.0) name false true may
       (ap (λ names. is_in names name) (minus_moved (link_by w.part.links) w.tree.branches) ∙ minus_in_tree w.tree name minus)

@@ -1,7 +1,7 @@
 -- What becomes of a tree's links where a search ends: which nodes they match then, and which are forgotten.
 use Rattle.std.specs.Prelude.{ℕ, List, [], ◌∷◌, ◌++◌, map, Option, Some, None, if◌then◌else◌, ◌≡◌}
 use Rattle.fb_graph.specs.Parity.{is_in}
-use Rattle.fb_laws.specs.Trees.{EntryOf, beside, path_to}
+use Rattle.fb_laws.specs.Trees.{EntryOf, branches_beside, path_to}
 use Rattle.fb_links.specs.declared.walk.Step.{Step}
 use Rattle.fb_links.specs.Table.{link_at}
 use Rattle.fb_half.specs.declared.matches.Match.{Match}
@@ -16,7 +16,7 @@ beside_match e = record { link = e.matched; first = e.minus; second = Some e.plu
 
 -- the matches of the tree's nodes but for the last plus node
 abbrev pub ended_matches : List (EntryOf ℕ) → ℕ → List Match
-ended_matches tree name = map path_match (path_to tree name) ++ map beside_match (beside tree name)
+ended_matches tree name = map path_match (path_to tree name) ++ map beside_match (branches_beside tree name)
 
 -- what is matched where the search has ended: kept matches, those made of the tree, and the one that ends it
 abbrev pub all_matches : List Match → List (EntryOf ℕ) → ℕ → Match → List Match

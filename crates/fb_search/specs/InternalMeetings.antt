@@ -14,8 +14,8 @@ abbrev pub IsCouple : Match → ℕ → ℕ → Type 0
 IsCouple m a b = ((m.first ≡ a) × (m.second ≡ Some b)) ⊎ ((m.first ≡ b) × (m.second ≡ Some a))
 
 -- the node is matched to the boundary
-abbrev pub IsLone : Match → ℕ → Type 0
-IsLone m a = (m.first ≡ a) × (m.second ≡ None)
+abbrev pub IsBoundaryMatch : Match → ℕ → Type 0
+IsBoundaryMatch m a = (m.first ≡ a) × (m.second ≡ None)
 
 -- the search with these walks by number and these matches
 abbrev pub rematched : List (Option (List Step)) → List Match → SearchValue → SearchValue

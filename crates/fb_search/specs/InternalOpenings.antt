@@ -1,6 +1,6 @@
 -- The steps of a blossom's cycle as they are read where it is opened.
 use Rattle.std.specs.Prelude.{ℕ, ◌≡◌, ◌≢◌, ◌+◌, ◌==◌, ◌%◌, true, List, [], ◌∷◌, ◌++◌, drop, take, reverse, Some, if◌then◌else◌}
-use Rattle.fb_graph.specs.Moves.{MaySplit, split}
+use Rattle.fb_graph.specs.Moves.{MaySplit, split_nodes}
 use Rattle.fb_graph.specs.Nests.{IsNest}
 use Rattle.fb_laws.specs.Trees.{Connects}
 use Rattle.fb_laws.specs.Works.{AreMatchedLinks}
@@ -79,4 +79,4 @@ pub record MayEnter (w : PartValue) (name other link : ℕ) : Type 0 where
 -- The link leads from the other node to this child of the blossom, as is seen once the blossom is split.
 pub record EndsAtChild (w : PartValue) (name other link child : ℕ) : Type 0 where
   pub on_cycle : is_on (cycle_at w.store name) child ≡ true
-  pub connects : Connects (split name w.nodes) (link_by w.links link) other child
+  pub connects : Connects (split_nodes name w.nodes) (link_by w.links link) other child

@@ -2,7 +2,7 @@
 use Rattle.std.specs.Prelude.{ℕ, ◌≡◌, ◌+◌, ◌*◌, ◌%◌, ◌≤◌, true, false, List, [], ◌∷◌, length, Option, Some, None}
 use Rattle.fb_graph.specs.Parity.{is_in}
 use Rattle.fb_graph.specs.Dual.{all_cuts, cover_of, height_of}
-use Rattle.fb_laws.specs.Works.{without}
+use Rattle.fb_laws.specs.Works.{names_without}
 use Rattle.fb_regions.specs.Moves.{node_named}
 use Rattle.fb_half.specs.Parts.{PartValue}
 use Rattle.fb_obstacles.specs.Watched.{Watched}
@@ -28,8 +28,8 @@ pub record IsDissolved (before : SearchValue) (after : PartValue) (watched : Wat
 -- A search has been given up: its root is still unmatched, under this name, and the other unmatched nodes are as before.
 pub record IsGivenUp (root name : ℕ) (before after : PartValue) : Type 0 where
   pub part : IsSamePart before after
-  pub others : (n : ℕ) → is_in (without name after.matching.unmatched) n ≡ is_in (without root before.matching.unmatched) n
-  pub kept : AreKept (without root before.matching.unmatched) before.nodes after.nodes
+  pub others : (n : ℕ) → is_in (names_without name after.matching.unmatched) n ≡ is_in (names_without root before.matching.unmatched) n
+  pub kept : AreKept (names_without root before.matching.unmatched) before.nodes after.nodes
   pub count : length after.matching.unmatched ≡ length before.matching.unmatched
 
 -- A search from the root has ended with this part, or is given up: then the root is unmatched under this name.

@@ -2,11 +2,11 @@
 use Rattle.std.specs.Prelude.{ℕ, ◌≡◌, ◌+◌, ◌-◌, ◌*◌, ◌<◌, ◌≤◌, Bool, true, false, List, length, map}
 use Rattle.fb_graph.specs.Parity.{is_in}
 use Rattle.fb_graph.specs.Dual.{Node}
-use Rattle.fb_graph.specs.Steps.{stepped}
+use Rattle.fb_graph.specs.Steps.{stepped_nodes}
 use Rattle.fb_laws.specs.Measures.{IsLower}
 use Rattle.fb_laws.specs.SearchLayers.{left_to_do}
 use Rattle.fb_laws.specs.Trees.{roles_of}
-use Rattle.fb_laws.specs.Works.{without}
+use Rattle.fb_laws.specs.Works.{names_without}
 use Rattle.fb_regions.specs.Moves.{node_named}
 use Rattle.fb_half.specs.Parts.{PartValue}
 use Rattle.fb_trees.specs.Rooted.{bare}
@@ -19,7 +19,7 @@ to_do w free = left_to_do (problem_of w) w.part.nodes (roles_of w.tree.root w.tr
 
 -- the names of the unmatched nodes beside the root
 abbrev pub unmatched_beside : SearchValue → List ℕ
-unmatched_beside w = without w.tree.root (unmatched_in w)
+unmatched_beside w = names_without w.tree.root (unmatched_in w)
 
 -- both are of the same node of the same plan, for the same shot
 pub record IsSamePart (before after : PartValue) : Type 0 where
@@ -55,7 +55,7 @@ lowered_by k watched = record watched { bounds = map (λ b. b - 2 * k) watched.b
 -- the search after a step of this length
 abbrev pub stepped_by : ℕ → SearchValue → SearchValue
 stepped_by k w = record w {
-  part = record w.part { nodes = stepped (roles_of w.tree.root w.tree.branches) k w.part.nodes };
+  part = record w.part { nodes = stepped_nodes (roles_of w.tree.root w.tree.branches) k w.part.nodes };
   watched = lowered_by k w.watched;
 }
 
@@ -71,7 +71,7 @@ pub record IsRewatched (before after : SearchValue) : Type 0 where
 -- The root is matched, with at most one other unmatched node. The unmatched nodes are some of those before, each as it was.
 pub record IsSearched (root : ℕ) (before after : PartValue) : Type 0 where
   pub part : IsSamePart before after
-  pub others : (n : ℕ) → is_in after.matching.unmatched n ≡ true → is_in (without root before.matching.unmatched) n ≡ true
+  pub others : (n : ℕ) → is_in after.matching.unmatched n ≡ true → is_in (names_without root before.matching.unmatched) n ≡ true
   pub kept : AreKept after.matching.unmatched before.nodes after.nodes
   pub fewer : length after.matching.unmatched < length before.matching.unmatched
   pub few : length before.matching.unmatched ≤ length after.matching.unmatched + 2

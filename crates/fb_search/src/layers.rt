@@ -26,7 +26,7 @@ fn free_end<S: Scope>(scope: &S, regions: &Regions<S>, edge: u32) -> u32
 }
 
 impl Searching<'_> {
-    /// The plus node takes up the vertex to which the tight edge leads. The edges of the vertex are watched from now on,
+    /// The plus node absorbs the vertex to which the tight edge leads. The edges of the vertex are watched from now on,
     /// but for those that lead to other vertices of the node.
     pub fn absorb(&mut self, edge: u32)
         requires { Obstructs (problem_of self.old) (roles_in self.old) self.old.part.nodes (Absorb edge) }

@@ -2,7 +2,7 @@
 
 ghost use Rattle.std.specs.Prelude.{◌≡◌, true, IfOk, IfSome};
 ghost use Rattle.fb_graph.specs.Parity.{is_in};
-ghost use Rattle.fb_graph.specs.Steps.{MayStep, stepped};
+ghost use Rattle.fb_graph.specs.Steps.{MayStep, stepped_nodes};
 ghost use Rattle.fb_half.specs.Parts.{IsPart, problem_in};
 ghost use Rattle.fb_half.specs.Values.{HasScope, part_of};
 ghost use Rattle.fb_trees.specs.Rooted.{bare};
@@ -22,7 +22,7 @@ use std::alloc::Global;
 fn grow_node<S: Scope>(regions: &mut Regions<S>, node: NodeId, length: u64)
     requires tree { IsTreeOver (S.problem regions.old.scope) (bare node) regions.old.nodes }
     requires may { MayStep (S.problem regions.old.scope) (alone node) regions.old.nodes length }
-    ensures { regions.new ≡ record { scope = regions.old.scope; nodes = stepped (alone node) length regions.old.nodes } }
+    ensures { regions.new ≡ record { scope = regions.old.scope; nodes = stepped_nodes (alone node) length regions.old.nodes } }
 {
     regions.grow(node, length);
 }

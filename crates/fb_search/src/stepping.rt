@@ -1,5 +1,5 @@
 ghost use Rattle.std.specs.Prelude.{◌≡◌};
-ghost use Rattle.fb_graph.specs.Steps.{MayStep, stepped};
+ghost use Rattle.fb_graph.specs.Steps.{MayStep, stepped_nodes};
 ghost use Rattle.fb_laws.specs.Trees.{roles_of};
 ghost use Rattle.fb_search.specs.InternalSteps.{IsTreeOver};
 ghost use Rattle.fb_search.specs.Progress.{stepped_by};
@@ -29,7 +29,7 @@ impl Searching<'_> {
 fn step_nodes<S: Scope>(regions: &mut Regions<S>, tree: &Tree, length: u64)
     requires tree { IsTreeOver (S.problem regions.old.scope) tree.now regions.old.nodes }
     requires may { MayStep (S.problem regions.old.scope) (roles_of tree.now.root tree.now.branches) regions.old.nodes length }
-    ensures { regions.new ≡ record { scope = regions.old.scope; nodes = stepped (roles_of tree.now.root tree.now.branches) length regions.old.nodes } }
+    ensures { regions.new ≡ record { scope = regions.old.scope; nodes = stepped_nodes (roles_of tree.now.root tree.now.branches) length regions.old.nodes } }
 {
     let branches = tree.branches();
     for branch in branches {

@@ -1,7 +1,7 @@
 //! The walks of links that are made over a tight edge.
 
 ghost use Rattle.std.specs.Prelude.{◌≡◌, ◌++◌, ◌<◌, ℕ, length, IfOk, OnOk};
-ghost use Rattle.fb_links.specs.Walks.{turned};
+ghost use Rattle.fb_links.specs.Walks.{turned_walk};
 ghost use Rattle.fb_regions.specs.Moves.{IsOver};
 ghost use Rattle.fb_search.specs.MetWalks.{IsAlong, IsBetween, IsMetWalk, IsOut, IsOutWalk};
 
@@ -89,7 +89,7 @@ fn step_out<S: Scope>(regions: &Regions<S>, edge: u32) -> Step
 
 /// Adds the steps of a walk gone back.
 fn push_turned(steps: &mut Vec<Step>, walk: &[Step]) -> Result<(), NoMemory>
-    ensures { OnOk result (steps.new.items ≡ steps.old.items ++ turned walk.now) }
+    ensures { OnOk result (steps.new.items ≡ steps.old.items ++ turned_walk walk.now) }
 {
     let mut left = walk.len();
     while left > 0 {

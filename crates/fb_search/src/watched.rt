@@ -68,7 +68,7 @@ fn watch_outer<S: Scope>(watch: &mut Watch, scope: &S, regions: &Regions<S>, edg
     }
 }
 
-/// Watches the edges at a vertex that an outer node has taken up. Those that lead to another vertex of that node are
+/// Watches the edges at a vertex that an outer node has absorbed. Those that lead to another vertex of that node are
 /// watched no longer.
 pub fn watch_taken<S: Scope>(watch: &mut Watch, scope: &S, regions: &Regions<S>, v: u32)
     requires room { watch.old.edge_count ≡ length (S.problem scope.now).edges }

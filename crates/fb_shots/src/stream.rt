@@ -71,8 +71,8 @@ impl<'a> ShotStream<'a> {
 
         // The result is an error exactly if one occurred.
         ensures fault { result ≡ Ok Step.ReadFault → Rose (F.faults files.old) (F.faults files.new) }
-        ensures later { F.faults files.old ≤ F.faults files.new }
-        ensures calm { result ≢ Ok Step.ReadFault → F.faults files.new ≡ F.faults files.old }
+        ensures never_falls { F.faults files.old ≤ F.faults files.new }
+        ensures unchanged { result ≢ Ok Step.ReadFault → F.faults files.new ≡ F.faults files.old }
 
         ensures names { F.named files.new ≡ F.named files.old }
         ensures asks { F.asked files.new ≡ F.asked files.old }
@@ -92,8 +92,8 @@ impl<'a> ShotStream<'a> {
             (Answers self.old self.new (F.left files.old) (F.left files.new))) }
         ensures kept { OnErr result ((self.new ≡ self.old) × (F.left files.new ≡ F.left files.old)) }
         ensures fault { result ≡ Ok (Some Step.ReadFault) → Rose (F.faults files.old) (F.faults files.new) }
-        ensures later { F.faults files.old ≤ F.faults files.new }
-        ensures calm { result ≢ Ok (Some Step.ReadFault) → F.faults files.new ≡ F.faults files.old }
+        ensures never_falls { F.faults files.old ≤ F.faults files.new }
+        ensures unchanged { result ≢ Ok (Some Step.ReadFault) → F.faults files.new ≡ F.faults files.old }
         ensures names { F.named files.new ≡ F.named files.old }
         ensures asks { F.asked files.new ≡ F.asked files.old }
     {
@@ -176,8 +176,8 @@ fn read_on<F: Files>(
     ensures reads { ReadsOn reader.old reader.new piece.new untaken.old untaken.new
         (F.left files.old) (F.left files.new) result }
     ensures fault { result ≡ Read.Fault → Rose (F.faults files.old) (F.faults files.new) }
-    ensures later { F.faults files.old ≤ F.faults files.new }
-    ensures calm { result ≢ Read.Fault → F.faults files.new ≡ F.faults files.old }
+    ensures never_falls { F.faults files.old ≤ F.faults files.new }
+    ensures unchanged { result ≢ Read.Fault → F.faults files.new ≡ F.faults files.old }
     ensures names { F.named files.new ≡ F.named files.old }
     ensures asks { F.asked files.new ≡ F.asked files.old }
 {

@@ -246,8 +246,8 @@ other_right n finished bits b tail known stop ne10 ne13 =
     bad_right n finished bits (b ∷ tail) (bits ++ b ∷ []) tail b left.0 known stop (sym (append_assoc bits (b ∷ []) tail))
     (holds_none 10 bits (b ∷ []) (bits_hold 10 bits refl known.each) (rw ne10 refl)) left.1
 
-lone_return_right : (n : ℕ) (finished : Bool) (bits : List ℕ) (b c : ℕ) (tail : List ℕ) → AreBits n bits → (length bits < n → is_bit b ≡ false) → eqb b 10 ≡ false → eqb c 10 ≡ false → IsRight n finished bits (b ∷ c ∷ tail) (bad_01 n (length bits))
-lone_return_right n finished bits b c tail known stop ne10 other =
+childless_return_right : (n : ℕ) (finished : Bool) (bits : List ℕ) (b c : ℕ) (tail : List ℕ) → AreBits n bits → (length bits < n → is_bit b ≡ false) → eqb b 10 ≡ false → eqb c 10 ≡ false → IsRight n finished bits (b ∷ c ∷ tail) (bad_01 n (length bits))
+childless_return_right n finished bits b c tail known stop ne10 other =
     let left = without_return_at bits (c ∷ []) b (inr (c, [], refl)) in
     bad_right n finished bits (b ∷ c ∷ tail) (bits ++ b ∷ c ∷ []) tail b left.0 known stop (sym (append_assoc bits (b ∷ c ∷ []) tail))
     (holds_none 10 bits (b ∷ c ∷ []) (bits_hold 10 bits refl known.each) (rw (ne10, other) refl)) left.1
@@ -273,7 +273,7 @@ step_right n finished bits (b ∷ c ∷ tail) known stop = elim (cases_Bool (eqb
     | inr r ↦ subst (IsRight n finished bits (b ∷ c ∷ tail)) (sym (cond-false _ _ _ (and_left _ _ r))) (other_right n finished bits b (c ∷ tail) known (λ lt. stop lt (omega arith)) e r)
     | inl r ↦ elim (cases_Bool (eqb c 10)) [
       | inl w ↦ subst (IsRight n finished bits (b ∷ c ∷ tail)) (sym (cond-true _ _ _ (and_from _ _ r w))) (return_newline_right n finished bits b c tail known (eqb-true b 13 r) (eqb-true c 10 w))
-      | inr w ↦ subst (IsRight n finished bits (b ∷ c ∷ tail)) (sym (cond-false _ _ _ (and_right _ _ w))) (lone_return_right n finished bits b c tail known (λ lt. stop lt (omega arith)) e w)
+      | inr w ↦ subst (IsRight n finished bits (b ∷ c ∷ tail)) (sym (cond-false _ _ _ (and_right _ _ w))) (childless_return_right n finished bits b c tail known (λ lt. stop lt (omega arith)) e w)
     ]
   ])
 ]

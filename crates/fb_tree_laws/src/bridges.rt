@@ -1,6 +1,6 @@
 //! The moves of a nest, told as the laws of searches tell them.
 
-ghost use Rattle.fb_laws.specs.NestBridges.{BlossomNamed, JoiningAllowed, BlossomOuter, UncoveredBack, UncoveredLowers, TakenUpLowers, JoiningLowers};
+ghost use Rattle.fb_laws.specs.NestBridges.{BlossomNamed, JoiningAllowed, BlossomOuter, UncoveredBack, UncoveredLowers, AbsorbedLowers, JoiningLowers};
 
 /// A blossom told by its children's names and sets is the one told by their names, and what may become a blossom of a
 /// tree may be joined.
@@ -15,9 +15,9 @@ pub fn uncovered_back()
     ensures { UncoveredBack }
 {}
 
-/// A minus node's layer taken off, a vertex taken up by a plus node and nodes of a tree joined each leave less to do.
+/// A minus node's layer taken off, a vertex absorbed by a plus node and nodes of a tree joined each leave less to do.
 pub fn moves_lower()
     ensures uncovered { UncoveredLowers }
-    ensures taken_up { TakenUpLowers }
+    ensures absorbed { AbsorbedLowers }
     ensures joined { JoiningLowers }
 {}

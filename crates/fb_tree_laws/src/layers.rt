@@ -3,7 +3,7 @@
 ghost use Rattle.fb_laws.specs.SearchLayers.{SearchAlike, FreeLowers, AttachLowers, AbsorbLowers, UncoverLowers};
 ghost use Rattle.fb_graph.specs.Alike.{TallerAlike, TallerCovers, TallerCovered};
 
-/// A search stays one where a vertex is taken up, or an empty layer taken off; only that vertex changes its node.
+/// A search stays one where a vertex is absorbed, or an empty layer taken off; only that vertex changes its node.
 pub fn search_layers()
     ensures alike { SearchAlike }
     ensures taller { TallerAlike }
@@ -11,7 +11,7 @@ pub fn search_layers()
     ensures covered { TallerCovered }
 {}
 
-/// A free step, attached nodes, a vertex taken up and a layer taken off each leave less to do.
+/// A free step, attached nodes, a vertex absorbed and a layer taken off each leave less to do.
 pub fn search_lowers()
     ensures free { FreeLowers }
     ensures attached { AttachLowers }

@@ -1,7 +1,7 @@
 //! The whole state of a search, which each step keeps: a nest with its source walks, its matched links, its unmatched
 //! nodes and its tree.
 
-ghost use Rattle.fb_laws.specs.NestedSearches.{NestedWorkBegins, NestedSearchBegins, NestedFree, NestedStepped, NestedTakenUp, NestedUncovered, NestedAttached, NestedJoined, NestedOpened, NestedEnded, NestedMet, NestedReleased};
+ghost use Rattle.fb_laws.specs.NestedSearches.{NestedWorkBegins, NestedSearchBegins, NestedFree, NestedStepped, NestedAbsorbed, NestedUncovered, NestedAttached, NestedJoined, NestedOpened, NestedEnded, NestedMet, NestedReleased};
 
 /// A part begins with its defects as nodes, all unmatched, and a search with an unmatched node.
 pub fn nested_begins()
@@ -20,9 +20,9 @@ pub fn nested_stepped()
     ensures { NestedStepped }
 {}
 
-/// A vertex taken up and an empty layer taken off keep the state.
+/// A vertex absorbed and an empty layer taken off keep the state.
 pub fn nested_layers()
-    ensures taken_up { NestedTakenUp }
+    ensures absorbed { NestedAbsorbed }
     ensures uncovered { NestedUncovered }
 {}
 

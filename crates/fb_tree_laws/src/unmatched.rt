@@ -1,6 +1,6 @@
 //! Unmatched names as those of outer nodes.
 
-ghost use Rattle.fb_laws.specs.UnmatchedNames.{OuterBegin, OuterFewer, OuterStepped, OuterTakenUp, OuterUncovered, OuterSplit, OuterJoined, OuterBeside, OuterSprouted, NoChildUnmatched};
+ghost use Rattle.fb_laws.specs.UnmatchedNames.{OuterBegin, OuterFewer, OuterStepped, OuterAbsorbed, OuterUncovered, OuterSplit, OuterJoined, OuterBeside, OuterSinglesAdded, NoChildUnmatched};
 
 /// Unmatched names are those of outer nodes at the beginning, after each move and in two lists of nodes together, so
 /// that no child of a blossom is unmatched.
@@ -8,11 +8,11 @@ pub fn outer_names()
     ensures begin { OuterBegin }
     ensures fewer { OuterFewer }
     ensures stepped { OuterStepped }
-    ensures taken_up { OuterTakenUp }
+    ensures absorbed { OuterAbsorbed }
     ensures uncovered { OuterUncovered }
     ensures split { OuterSplit }
     ensures joined { OuterJoined }
     ensures beside { OuterBeside }
-    ensures sprouted { OuterSprouted }
+    ensures singles_added { OuterSinglesAdded }
     ensures child { NoChildUnmatched }
 {}

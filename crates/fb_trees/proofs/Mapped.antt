@@ -1,7 +1,7 @@
 -- Trees with their links in another form.
 use Rattle.std.proofs.Common.{ℕ, ◌≡◌, ◌==◌, cond, not, Bool, true, false, List, [], ◌∷◌, ◌++◌, map, refl, sym, ap, ◌∙◌}
 use Rattle.std.proofs.lemmas.List.{map-append}
-use Rattle.fb_laws.specs.Trees.{EntryOf, beside, grown_links, minus_names, paired_links, path_to, plus_names, tree_names}
+use Rattle.fb_laws.specs.Trees.{EntryOf, branches_beside, grown_links, minus_names, paired_links, path_to, plus_names, tree_names}
 use Rattle.fb_laws.specs.TreeCycles.{ArePaths, PartAtOnce, cycle_links, cycle_nodes, last_plus, links_along, links_back, nodes_along, nodes_back}
 use Rattle.fb_laws.specs.SearchBlossoms.{joined_tree, outer_branches, renamed_entry}
 use Rattle.fb_laws.specs.OpenedCycles.{PassOf, grown_on, last_of, matched_on, opened_branches, opened_tree, paired_on}
@@ -41,13 +41,13 @@ module _ {L M : Type 0} (f : L → M) where
       step true other here = ap (λ l. l ++ map_entry f e ∷ []) here ∙ sym (map-append (map_entry f) (path_to es e.parent) (e ∷ []))
       step false other here = other
 
-  pub beside_moved : (tree : List (EntryOf L)) (name : ℕ) → beside (moved tree) name ≡ moved (beside tree name)
+  pub beside_moved : (tree : List (EntryOf L)) (name : ℕ) → branches_beside (moved tree) name ≡ moved (branches_beside tree name)
   beside_moved [] name = refl
   beside_moved (e ∷ es) name = step (e.plus == name) (beside_moved es name) (beside_moved es e.parent)
     where
-      step : (b : Bool) → beside (moved es) name ≡ moved (beside es name) → beside (moved es) e.parent ≡ moved (beside es e.parent)
-          → cond b (beside (moved es) e.parent) (map_entry f e ∷ beside (moved es) name)
-          ≡ moved (cond b (beside es e.parent) (e ∷ beside es name))
+      step : (b : Bool) → branches_beside (moved es) name ≡ moved (branches_beside es name) → branches_beside (moved es) e.parent ≡ moved (branches_beside es e.parent)
+          → cond b (branches_beside (moved es) e.parent) (map_entry f e ∷ branches_beside (moved es) name)
+          ≡ moved (cond b (branches_beside es e.parent) (e ∷ branches_beside es name))
       step true other here = here
       step false other here = ap (λ l. map_entry f e ∷ l) other
 

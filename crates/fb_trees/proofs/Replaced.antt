@@ -5,7 +5,7 @@ use Rattle.std.proofs.lemmas.List.{drop_more, take-append-drop}
 use Rattle.fb_graph.specs.Parity.{is_in}
 use Rattle.fb_links.specs.declared.cycle.CycleStep.{CycleStep}
 use Rattle.fb_laws.specs.Trees.{EntryOf, minus_names, plus_names}
-use Rattle.fb_laws.specs.SearchBlossoms.{joined_tree, renamed}
+use Rattle.fb_laws.specs.SearchBlossoms.{joined_tree, renamed_name}
 use Rattle.fb_laws.specs.OpenedCycles.{opened_tree}
 use Rattle.fb_trees.specs.declared.branch.Branch.{Branch}
 use Rattle.fb_trees.specs.Branches.{Grown, entries_of, entry_of}
@@ -31,11 +31,11 @@ abbrev pub with_branches : Grown → List (EntryOf ℕ) → Grown
 with_branches t branches = record { root = t.root; branches = branches }
 
 pub rooted_after : (t : Grown) (gone : List ℕ) (name : ℕ) (inside : ℕ → Bool) → inside ≡ is_in gone → IsRooted t.root t.branches
-    → MayJoin t gone name → (root : ℕ) → root ≡ renamed inside name t.root → (branches : List (EntryOf ℕ))
+    → MayJoin t gone name → (root : ℕ) → root ≡ renamed_name inside name t.root → (branches : List (EntryOf ℕ))
     → branches ≡ joined_tree inside name t.branches → IsRooted root branches
 rooted_after t gone name inside same rooted may root root_is branches is =
-    subst (λ r. IsRooted r branches) (sym (root_is ∙ ap (λ f. renamed f name t.root) same))
-    (subst (IsRooted (renamed (is_in gone) name t.root)) (sym (is ∙ ap (λ f. joined_tree f name t.branches) same))
+    subst (λ r. IsRooted r branches) (sym (root_is ∙ ap (λ f. renamed_name f name t.root) same))
+    (subst (IsRooted (renamed_name (is_in gone) name t.root)) (sym (is ∙ ap (λ f. joined_tree f name t.branches) same))
     (joined_rooted t gone name rooted may))
 
 pub minus_has_place : (es : List (EntryOf ℕ)) (name : ℕ) → is_in (minus_names es) name ≡ true → place_of es name ≡ None → ⊥

@@ -8,7 +8,7 @@ use Rattle.fb_graph.specs.Certificate.{AreDistinct}
 use Rattle.fb_graph.proofs.Sets.{is_in-cases, is_in-head, is_in-tail}
 use Rattle.fb_links.specs.declared.cycle.CycleStep.{CycleStep}
 use Rattle.fb_laws.specs.Trees.{EntryOf, plus_names, tree_names}
-use Rattle.fb_laws.specs.SearchBlossoms.{AreBranches, joined_tree, outer_branches, renamed, renamed_entry}
+use Rattle.fb_laws.specs.SearchBlossoms.{AreBranches, joined_tree, outer_branches, renamed_name, renamed_entry}
 use Rattle.fb_laws.specs.OpenedCycles.{PassOf, opened_branches, opened_tree}
 use Rattle.fb_laws.proofs.JoinedTrees.{distinct_kept}
 use Rattle.fb_laws.proofs.OpenedCycles.{still_plus}
@@ -33,7 +33,7 @@ module _ (inside : ℕ → Bool) (name base root : ℕ) where
   new_tree es = joined_tree inside name es
 
   abbrev new_name : ℕ → ℕ
-  new_name n = renamed inside name n
+  new_name n = renamed_name inside name n
 
   -- what holds of the new tree, by whether the first branch is taken in
   by_first : (P : List (EntryOf ℕ) → Type 0) (e : EntryOf ℕ) (es : List (EntryOf ℕ))
@@ -104,7 +104,7 @@ module _ (inside : ℕ → Bool) (name base root : ℕ) where
       (ap (λ l. is_in l name) (names_moved no_link root es) ∙ fresh))
 
 pub joined_rooted : (t : Grown) (gone : List ℕ) (name : ℕ) → IsRooted t.root t.branches → MayJoin t gone name
-    → IsRooted (renamed (is_in gone) name t.root) (joined_tree (is_in gone) name t.branches)
+    → IsRooted (renamed_name (is_in gone) name t.root) (joined_tree (is_in gone) name t.branches)
 joined_rooted t gone name rooted may = record {
   names = names_kept (is_in gone) name may.base t.root t.branches may.taken rooted.names may.fresh;
   hung = hung_kept (is_in gone) name may.base t.root t.branches rooted.hung may.taken;

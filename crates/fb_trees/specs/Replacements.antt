@@ -5,7 +5,7 @@ use Rattle.fb_graph.specs.Parity.{is_in}
 use Rattle.fb_graph.specs.Certificate.{AreDistinct}
 use Rattle.fb_links.specs.declared.cycle.CycleStep.{CycleStep}
 use Rattle.fb_laws.specs.Trees.{EntryOf}
-use Rattle.fb_laws.specs.SearchBlossoms.{joined_tree, renamed}
+use Rattle.fb_laws.specs.SearchBlossoms.{joined_tree, renamed_name}
 use Rattle.fb_laws.specs.OpenedCycles.{PassOf, opened_tree}
 use Rattle.fb_trees.specs.Branches.{Grown}
 use Rattle.fb_trees.specs.Rooted.{AreTakenIn, IsMinus, is_node}
@@ -20,7 +20,7 @@ pub record MayJoin (t : Grown) (gone : List ℕ) (name : ℕ) : Type 0 where
 -- the tree with the blossom in the place of the nodes
 abbrev pub joined : Grown → List ℕ → ℕ → Grown
 joined t gone name = record {
-  root = renamed (is_in gone) name t.root;
+  root = renamed_name (is_in gone) name t.root;
   branches = joined_tree (is_in gone) name t.branches;
 }
 

@@ -2,7 +2,7 @@
 -- is done with it agree with the other.
 use Rattle.std.specs.Prelude.{ℕ, ◌≡◌, ◌↔◌, true, Bool, List, map}
 use Rattle.fb_graph.specs.Laws.{Link}
-use Rattle.fb_laws.specs.Trees.{EntryOf, beside, grown_links, minus_names, paired_links, path_to, plus_names, roles_of, tree_names}
+use Rattle.fb_laws.specs.Trees.{EntryOf, branches_beside, grown_links, minus_names, paired_links, path_to, plus_names, roles_of, tree_names}
 use Rattle.fb_laws.specs.TreeCycles.{ArePaths, cycle_links, cycle_nodes, last_plus}
 use Rattle.fb_laws.specs.SearchBlossoms.{AreBranches, joined_tree}
 use Rattle.fb_laws.specs.OpenedCycles.{PassOf, grown_on, last_of, matched_on, opened_tree, paired_on}
@@ -37,7 +37,7 @@ RolesKept = (f : ℕ → Link) (t : Grown) (name : ℕ) → IsRooted t.root t.br
 abbrev pub PathsKept : Type 0
 PathsKept = (f : ℕ → Link) (tree : List (EntryOf ℕ)) (name : ℕ)
     → (path_to (map (map_entry f) tree) name ≡ map (map_entry f) (path_to tree name))
-    × (beside (map (map_entry f) tree) name ≡ map (map_entry f) (beside tree name))
+    × (branches_beside (map (map_entry f) tree) name ≡ map (map_entry f) (branches_beside tree name))
 
 abbrev pub PartingKept : Type 0
 PartingKept = (f : ℕ → Link) (tree : List (EntryOf ℕ)) (a b : ℕ) (shared up down : List (EntryOf ℕ))

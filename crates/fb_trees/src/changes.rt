@@ -1,7 +1,7 @@
 ghost use Rattle.std.specs.Prelude.{◌≡◌, ◌+◌, ◌%◌, ◌<◌, ◌++◌, ◌∷◌, [], take, drop, length, get_or, nat_eq, IfOk, OnOk};
 ghost use Rattle.std.specs.HashSet.{contains};
 ghost use Rattle.fb_graph.specs.Parity.{is_in};
-ghost use Rattle.fb_laws.specs.SearchBlossoms.{joined_tree, renamed, renamed_entry};
+ghost use Rattle.fb_laws.specs.SearchBlossoms.{joined_tree, renamed_name, renamed_entry};
 ghost use Rattle.fb_laws.specs.OpenedCycles.{opened_branches, opened_tree};
 ghost use Rattle.fb_trees.specs.Branches.{entries_of, entry_of};
 ghost use Rattle.fb_trees.specs.Replacements.{first_node, way_of};
@@ -27,8 +27,8 @@ pub fn names_of(alloc: Global, nodes: &[NodeId]) -> Result<Names, NoMemory>
 }
 
 /// The node, or the name in the place of one that the blossom takes in.
-pub fn renamed(node: NodeId, inside: &Names, name: NodeId) -> NodeId
-    ensures { result ≡ renamed (contains nat_eq inside.now) name node }
+pub fn renamed_name(node: NodeId, inside: &Names, name: NodeId) -> NodeId
+    ensures { result ≡ renamed_name (contains nat_eq inside.now) name node }
 {
     if inside.contains(&node) { name } else { node }
 }
@@ -61,8 +61,8 @@ fn push_joined(
         return Ok(());
     }
     joined.push(Branch {
-        parent: renamed(branch.parent, inside, name),
-        plus: renamed(branch.plus, inside, name),
+        parent: renamed_name(branch.parent, inside, name),
+        plus: renamed_name(branch.plus, inside, name),
         ..*branch
     })?;
     Ok(())

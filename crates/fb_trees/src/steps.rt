@@ -1,5 +1,5 @@
 ghost use Rattle.std.specs.Prelude.{◌≡◌, ◌≤◌, ◌==◌, ◌++◌, ◌∷◌, [], map, length, IfOk, OnOk, if◌then◌else◌};
-ghost use Rattle.fb_laws.specs.Trees.{beside};
+ghost use Rattle.fb_laws.specs.Trees.{branches_beside};
 ghost use Rattle.fb_laws.specs.TreeCycles.{last_plus};
 ghost use Rattle.fb_trees.specs.Branches.{entries_of, entry_of};
 ghost use Rattle.fb_trees.specs.TreeSteps.{steps_up};
@@ -24,8 +24,8 @@ pub fn shared_count(up: &[Branch], down: &[Branch]) -> usize
 }
 
 /// The branches that are not on the way to the plus node, the newest one first.
-pub fn beside(alloc: Global, branches: &[Branch], plus: NodeId) -> Result<Vec<Branch>, NoMemory>
-    ensures { IfOk result (λ others. map entry_of others.items ≡ beside (entries_of branches.now) plus) }
+pub fn branches_beside(alloc: Global, branches: &[Branch], plus: NodeId) -> Result<Vec<Branch>, NoMemory>
+    ensures { IfOk result (λ others. map entry_of others.items ≡ branches_beside (entries_of branches.now) plus) }
 {
     let mut others = Vec::new(alloc);
     let mut node = plus;

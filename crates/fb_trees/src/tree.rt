@@ -1,7 +1,7 @@
 ghost use Rattle.std.specs.Prelude.{◌≡◌, ◌≢◌, ◌++◌, ℕ, true, false, map, IfOk, OnErr, OnOk};
 ghost use Rattle.std.specs.Option.{option_map};
 ghost use Rattle.fb_graph.specs.Nests.{AreMany};
-ghost use Rattle.fb_laws.specs.Trees.{beside, path_to};
+ghost use Rattle.fb_laws.specs.Trees.{branches_beside, path_to};
 ghost use Rattle.fb_trees.specs.Branches.{Grown, entries_of, entry_of};
 ghost use Rattle.fb_trees.specs.Rooted.{IsBranchAt, IsMinus, IsPlus, IsRooted, attached, bare, is_node, role_in};
 ghost use Rattle.fb_trees.specs.Replacements.{IsOpened, IsReplaced, MayJoin, MayOpen, MayReplace, joined};
@@ -12,7 +12,7 @@ use crate::changes::{joined_branches, names_of, opened_branches, renamed};
 use crate::places::{
     Places, enter, enter_all, make_room, make_room_for_all, place_in, take_out_all,
 };
-use crate::steps::{beside, cycle_along, last_plus, push_step, push_up, shared_count};
+use crate::steps::{branches_beside, cycle_along, last_plus, push_step, push_up, shared_count};
 use crate::{Branch, CycleStep, LinkId, Links, NoMemory, NodeId, Role, Roles};
 use std::alloc::Global;
 use std::marker::Model;
@@ -211,9 +211,9 @@ impl Tree {
     /// The branches that are not on the way from the root to the plus node, the newest one first. Takes time for each
     /// branch of the tree.
     pub fn branches_beside(&self, alloc: Global, plus: NodeId) -> Result<Vec<Branch>, NoMemory>
-        ensures { IfOk result (λ others. map entry_of others.items ≡ beside self.now.branches plus) }
+        ensures { IfOk result (λ others. map entry_of others.items ≡ branches_beside self.now.branches plus) }
     {
-        beside(alloc, &self.branches, plus)
+        branches_beside(alloc, &self.branches, plus)
     }
 
     /// Adds the nodes from the plus node up, each with the link to its parent.

@@ -11,12 +11,12 @@ use Rattle.fb_laws.specs.Blossoms.{IsInside}
 use Rattle.fb_graph.specs.Links.{IsTightLink}
 use Rattle.fb_laws.specs.Fusion.{IsLinkOf}
 use Rattle.fb_laws.specs.Works.{IsSetOf}
-use Rattle.fb_witnesses.specs.Samples.{link, triangle, corner_nodes, corner_sprouts}
+use Rattle.fb_witnesses.specs.Samples.{link, triangle, corner_nodes, corner_singles}
 use Rattle.fb_witnesses.specs.Witnesses.{FormingWitness}
 use Rattle.fb_witnesses.proofs.SampleLevels.{corners_apart}
 use Rattle.fb_witnesses.proofs.SampleParts.{corner_height, one_height}
-use Rattle.fb_witnesses.proofs.SampleStates.{corners_are_sprouts}
-use Rattle.fb_graph.proofs.SproutStates.{sprouts_are_dual}
+use Rattle.fb_witnesses.proofs.SampleStates.{corners_are_singles}
+use Rattle.fb_graph.proofs.SingleStates.{singles_are_dual}
 
 some_walk : (k : ℕ) (ks : List ℕ) → (k ∷ ks) ≢ []
 some_walk k ks e = cc
@@ -24,7 +24,7 @@ some_walk k ks e = cc
 pub forming_witness : FormingWitness
 forming_witness = (
   record {
-    dual = sprouts_are_dual triangle corner_sprouts corners_are_sprouts;
+    dual = singles_are_dual triangle corner_singles corners_are_singles;
     defects = λ v real. refl;
     links_are = record {
       tight =

@@ -11,20 +11,20 @@ use Rattle.fb_graph.proofs.Sets.{is_in-All}
 use Rattle.fb_graph.specs.Covers.{HasNoObstacle, IsClear}
 use Rattle.fb_laws.specs.Fusion.{IsLinkOf}
 use Rattle.fb_graph.specs.Links.{AreEven, IsTightLink}
-use Rattle.fb_graph.specs.Moves.{MaySplit, MayTakeUp, joined, uncovered}
+use Rattle.fb_graph.specs.Moves.{MaySplit, MayAbsorb, joined_nodes, uncovered_nodes}
 use Rattle.fb_graph.specs.Nests.{IsNest}
 use Rattle.fb_laws.specs.NestedSearches.{IsNestedSearch}
 use Rattle.fb_witnesses.specs.NestedWitnesses.{NestedWitness, EndingWitness, wide_nodes, low_nodes, wide_child, low_children}
-use Rattle.fb_witnesses.specs.Samples.{line, link, pair_nodes, pair_sprouts}
+use Rattle.fb_witnesses.specs.Samples.{line, link, pair_nodes, pair_singles}
 use Rattle.fb_laws.specs.SearchBlossoms.{IsJoining}
 use Rattle.fb_laws.specs.Searches.{IsSearch}
-use Rattle.fb_witnesses.specs.SearchWitnesses.{chain_branch, chain_nodes, chain_sprouts}
+use Rattle.fb_witnesses.specs.SearchWitnesses.{chain_branch, chain_nodes, chain_singles}
 use Rattle.fb_graph.specs.Steps.{MayStep}
 use Rattle.fb_laws.specs.Trees.{Entry, roles_of}
 use Rattle.fb_witnesses.specs.TreeWitnesses.{long_line, thin_nodes, thin_branch, crown_nodes}
 use Rattle.fb_laws.specs.Works.{AreMatchedLinks, IsSetOf}
-use Rattle.fb_graph.proofs.BeginningNests.{sprouts_are_nest}
-use Rattle.fb_laws.proofs.NestedStates.{nested_stepped, nested_taken_up, nested_uncovered}
+use Rattle.fb_graph.proofs.BeginningNests.{singles_are_nest}
+use Rattle.fb_laws.proofs.NestedStates.{nested_stepped, nested_absorbed, nested_uncovered}
 use Rattle.fb_witnesses.proofs.SampleNests.{limits_by_cases}
 use Rattle.fb_witnesses.proofs.SampleOpenings.{closed_nest, closed_walks, splitting_witness}
 use Rattle.fb_witnesses.proofs.SampleParts.{of_two, work_witness}
@@ -57,10 +57,10 @@ no_odd_part = no_odd_closed_by long_line (0 ∷ 3 ∷ []) (below_by_cases 5 (0 �
 thin_state : IsNestedSearch long_line thin_nodes (thin_branch ∷ []) [] (0 ∷ []) 0 0
 thin_state = record { nest = thin_nest; search = thin_search; walks = thin_walks; outer = thin_outer }
 
-given_state : IsNestedSearch long_line (uncovered 1 thin_nodes) (thin_branch ∷ []) [] (0 ∷ []) 0 0
+given_state : IsNestedSearch long_line (uncovered_nodes 1 thin_nodes) (thin_branch ∷ []) [] (0 ∷ []) 0 0
 given_state = nested_uncovered long_line thin_nodes (thin_branch ∷ []) [] (0 ∷ []) 0 0 1 may_thin thin_state
 
-may_widen : MayTakeUp long_line (uncovered 1 thin_nodes) 0 1 1 2
+may_widen : MayAbsorb long_line (uncovered_nodes 1 thin_nodes) 0 1 1 2
 may_widen = record {
   within = omega arith;
   leads = inl (refl, refl);
@@ -72,7 +72,7 @@ may_widen = record {
 
 wide_state : IsNestedSearch long_line wide_nodes (thin_branch ∷ []) [] (0 ∷ []) 0 0
 wide_state =
-    nested_taken_up long_line (uncovered 1 thin_nodes) (thin_branch ∷ []) [] (0 ∷ []) 0 0 0 1 1 2 even_long may_widen
+    nested_absorbed long_line (uncovered_nodes 1 thin_nodes) (thin_branch ∷ []) [] (0 ∷ []) 0 0 0 1 1 2 even_long may_widen
     given_state
 
 may_step : MayStep long_line (roles_of 0 (thin_branch ∷ [])) wide_nodes 2
@@ -143,13 +143,13 @@ low_joining = record {
   fresh = refl;
 }
 
-may_open : MaySplit (joined 5 (0 ∷ 1 ∷ 2 ∷ []) crown_nodes) 5
+may_open : MaySplit (joined_nodes 5 (0 ∷ 1 ∷ 2 ∷ []) crown_nodes) 5
 may_open = record {
   live = refl;
   outer = refl;
   bare =
       All-from_recursion (λ n. n.name ≡ 5 → (is_empty n.children ≡ false) × (n.below ≡ []) × (n.top.value ≡ 0))
-      (joined 5 (0 ∷ 1 ∷ 2 ∷ []) crown_nodes) (
+      (joined_nodes 5 (0 ∷ 1 ∷ 2 ∷ []) crown_nodes) (
         λ e. absurd cc,
         (
           λ e. absurd cc,
@@ -182,8 +182,8 @@ nested_witness = (
     search = splitting_witness.0;
     walks = closed_walks;
     outer =
-        is_in-All (λ n. is_outer (joined 5 (0 ∷ 1 ∷ 2 ∷ []) crown_nodes) n ≡ true) (4 ∷ [])
-        (All-from_recursion (λ n. is_outer (joined 5 (0 ∷ 1 ∷ 2 ∷ []) crown_nodes) n ≡ true) (4 ∷ []) (refl, tt));
+        is_in-All (λ n. is_outer (joined_nodes 5 (0 ∷ 1 ∷ 2 ∷ []) crown_nodes) n ≡ true) (4 ∷ [])
+        (All-from_recursion (λ n. is_outer (joined_nodes 5 (0 ∷ 1 ∷ 2 ∷ []) crown_nodes) n ≡ true) (4 ∷ []) (refl, tt));
   },
 )
 
@@ -191,10 +191,10 @@ nested_witness = (
 
 chain_nest : IsNest (line (1 ∷ 2 ∷ 3 ∷ [])) chain_nodes
 chain_nest =
-    sprouts_are_nest (line (1 ∷ 2 ∷ 3 ∷ [])) chain_sprouts (refl, (refl, (refl, tt))) search_witness.0.matching.dual
+    singles_are_nest (line (1 ∷ 2 ∷ 3 ∷ [])) chain_singles (refl, (refl, (refl, tt))) search_witness.0.matching.dual
 
 pair_nest : IsNest (line (1 ∷ 2 ∷ [])) pair_nodes
-pair_nest = sprouts_are_nest (line (1 ∷ 2 ∷ [])) pair_sprouts (refl, (refl, tt)) work_witness.4.dual
+pair_nest = singles_are_nest (line (1 ∷ 2 ∷ [])) pair_singles (refl, (refl, tt)) work_witness.4.dual
 
 no_grown : (p : Problem) (nodes : List Node) → AreMatchedLinks p nodes []
 no_grown p nodes = record {
@@ -222,8 +222,8 @@ two_open = record {
     parity = λ d name leaf cover among. pair_heights d leaf;
     even = λ d name leaf cover among. pair_heights d leaf;
   };
-  walks = walks_begin (line (1 ∷ 2 ∷ [])) pair_sprouts;
-  outer = λ n among. all_outer pair_sprouts n;
+  walks = walks_begin (line (1 ∷ 2 ∷ [])) pair_singles;
+  outer = λ n among. all_outer pair_singles n;
 }
 
 one_open : IsNestedSearch (line (1 ∷ 2 ∷ [])) pair_nodes [] (link 1 0 (0 ∷ []) ∷ []) (1 ∷ []) 1 0
@@ -239,8 +239,8 @@ one_open = record {
     parity = λ d name leaf cover among. pair_heights d leaf;
     even = λ d name leaf cover among. pair_heights d leaf;
   };
-  walks = walks_begin (line (1 ∷ 2 ∷ [])) pair_sprouts;
-  outer = λ n among. all_outer pair_sprouts n;
+  walks = walks_begin (line (1 ∷ 2 ∷ [])) pair_singles;
+  outer = λ n among. all_outer pair_singles n;
 }
 
 even_line : AreEven (line (1 ∷ 2 ∷ 3 ∷ []))
@@ -252,8 +252,8 @@ chain_state : (tree : List Entry) (rest : List Link)
 chain_state tree rest search = record {
   nest = chain_nest;
   search = search;
-  walks = walks_begin (line (1 ∷ 2 ∷ 3 ∷ [])) chain_sprouts;
-  outer = λ n among. all_outer chain_sprouts n;
+  walks = walks_begin (line (1 ∷ 2 ∷ 3 ∷ [])) chain_singles;
+  outer = λ n among. all_outer chain_singles n;
 }
 
 pub ending_witness : EndingWitness

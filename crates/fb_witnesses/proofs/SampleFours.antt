@@ -8,16 +8,16 @@ use Rattle.fb_graph.specs.Dual.{IsDual, IsHeld, all_cuts, height_of, is_outer, l
 use Rattle.fb_graph.specs.Counts.{as_count}
 use Rattle.fb_graph.specs.Covers.{AreRoles}
 use Rattle.fb_graph.specs.Ends.{ends_in}
-use Rattle.fb_graph.specs.Sprouts.{AreSprouts}
+use Rattle.fb_graph.specs.Singles.{AreSingles}
 use Rattle.fb_graph.specs.Steps.{MayStep}
 use Rattle.fb_graph.proofs.Sets.{is_in-All}
-use Rattle.fb_graph.proofs.SproutStates.{sprouts_are_dual}
+use Rattle.fb_graph.proofs.SingleStates.{singles_are_dual}
 use Rattle.fb_laws.specs.Bounds.{IsBounded}
 use Rattle.fb_laws.specs.MatchLinks.{EndsElsewhere}
 use Rattle.fb_laws.specs.Works.{IsMatching}
 use Rattle.fb_laws.proofs.SearchStates.{links_joined}
 use Rattle.fb_laws.proofs.StepBounds.{no_obstacle_before, steps_bounded}
-use Rattle.fb_witnesses.specs.BoundWitnesses.{BoundWitness, four_nodes, four_roles, four_sprouts, line_of_four}
+use Rattle.fb_witnesses.specs.BoundWitnesses.{BoundWitness, four_nodes, four_roles, four_singles, line_of_four}
 use Rattle.fb_witnesses.specs.MatchWitnesses.{BesideWitness, MatchWitness, first_match, last_match}
 use Rattle.fb_witnesses.specs.Samples.{link}
 use Rattle.fb_witnesses.specs.StateWitnesses.{pentagon_leaves}
@@ -26,11 +26,11 @@ use Rattle.fb_witnesses.proofs.SamplePentagons.{branch_state}
 use Rattle.fb_witnesses.proofs.SampleStates.{fits_by_cases, may_by_cases, odd_cut, outer_by_cases}
 use Rattle.fb_witnesses.proofs.SampleTrees.{one_link}
 
-four_are_sprouts : AreSprouts line_of_four four_sprouts
-four_are_sprouts = record {
+four_are_singles : AreSingles line_of_four four_singles
+four_are_singles = record {
   names = (refl, (refl, (refl, (refl, tt))));
   vertices = (refl, (refl, (refl, (refl, tt))));
-  real = All-from_recursion (λ s. line_of_four.is_real s.vertex ≡ true) four_sprouts (refl, (refl, (refl, (refl, tt))));
+  real = All-from_recursion (λ s. line_of_four.is_real s.vertex ≡ true) four_singles (refl, (refl, (refl, (refl, tt))));
   packing = record {
     odd =
         All-from_recursion (IsOddCut line_of_four) (all_cuts four_nodes) (
@@ -48,7 +48,7 @@ four_are_sprouts = record {
 }
 
 four_dual : IsDual line_of_four four_nodes
-four_dual = sprouts_are_dual line_of_four four_sprouts four_are_sprouts
+four_dual = singles_are_dual line_of_four four_singles four_are_singles
 
 four_are_roles : AreRoles four_roles four_nodes
 four_are_roles = record {

@@ -12,11 +12,11 @@ use Rattle.fb_graph.specs.Links.{AreEven}
 use Rattle.fb_graph.specs.NestUnions.{HaveOwnNames}
 use Rattle.fb_graph.specs.Nests.{IsNest}
 use Rattle.fb_laws.specs.NestedSearches.{IsNestedWork}
-use Rattle.fb_witnesses.specs.Samples.{sprout, link, line, line_part, end_sprouts, middle_sprouts}
-use Rattle.fb_graph.specs.Sprouts.{Sprout, nodes_of}
+use Rattle.fb_witnesses.specs.Samples.{single, link, line, line_part, end_singles, middle_singles}
+use Rattle.fb_graph.specs.Singles.{Single, nodes_of}
 use Rattle.fb_laws.specs.Works.{IsMatching}
 use Rattle.fb_graph.proofs.Among.{All_among, live_among}
-use Rattle.fb_graph.proofs.BeginningNests.{sprouts_are_nest}
+use Rattle.fb_graph.proofs.BeginningNests.{singles_are_nest}
 use Rattle.fb_laws.proofs.NestedFusions.{nested_merged}
 use Rattle.fb_witnesses.proofs.SampleNests.{limits_by_cases}
 use Rattle.fb_witnesses.proofs.SampleParts.{of_two}
@@ -31,24 +31,24 @@ own_by_cases nodes others each n live =
     subst (λ x. is_live others x ≡ false) e (All_among (λ x. is_live others x.name ≡ false) nodes each m a)
 
 -- between searches, with nothing unmatched
-none_left : (p : Problem) (sprouts : List Sprout) (links : List Link) → IsMatching p (nodes_of sprouts) links []
-    → IsNest p (nodes_of sprouts) → IsNestedWork p (nodes_of sprouts) links []
-none_left p sprouts links matching nest = record {
+none_left : (p : Problem) (singles : List Single) (links : List Link) → IsMatching p (nodes_of singles) links []
+    → IsNest p (nodes_of singles) → IsNestedWork p (nodes_of singles) links []
+none_left p singles links matching nest = record {
   nest = nest;
   work = record { matching = matching; even = λ d name leaf cover among. absurd (false≢true among) };
-  walks = walks_begin p sprouts;
-  outer = λ n among. all_outer sprouts n;
+  walks = walks_begin p singles;
+  outer = λ n among. all_outer singles n;
 }
 
-right_state : IsNestedWork (line_part (3 ∷ [])) (nodes_of (sprout 0 3 2 ∷ [])) (link 3 2 (2 ∷ []) ∷ []) []
+right_state : IsNestedWork (line_part (3 ∷ [])) (nodes_of (single 0 3 2 ∷ [])) (link 3 2 (2 ∷ []) ∷ []) []
 right_state =
-    none_left (line_part (3 ∷ [])) (sprout 0 3 2 ∷ []) (link 3 2 (2 ∷ []) ∷ []) merging_witness.1
-    (sprouts_are_nest (line_part (3 ∷ [])) (sprout 0 3 2 ∷ []) (refl, tt) merging_witness.1.dual)
+    none_left (line_part (3 ∷ [])) (single 0 3 2 ∷ []) (link 3 2 (2 ∷ []) ∷ []) merging_witness.1
+    (singles_are_nest (line_part (3 ∷ [])) (single 0 3 2 ∷ []) (refl, tt) merging_witness.1.dual)
 
-left_state : IsNestedWork (line_part (1 ∷ [])) (nodes_of (sprout 1 1 2 ∷ [])) (link 1 0 (0 ∷ []) ∷ []) []
+left_state : IsNestedWork (line_part (1 ∷ [])) (nodes_of (single 1 1 2 ∷ [])) (link 1 0 (0 ∷ []) ∷ []) []
 left_state =
-    none_left (line_part (1 ∷ [])) (sprout 1 1 2 ∷ []) (link 1 0 (0 ∷ []) ∷ []) merging_witness.2
-    (sprouts_are_nest (line_part (1 ∷ [])) (sprout 1 1 2 ∷ []) (refl, tt) merging_witness.2.dual)
+    none_left (line_part (1 ∷ [])) (single 1 1 2 ∷ []) (link 1 0 (0 ∷ []) ∷ []) merging_witness.2
+    (singles_are_nest (line_part (1 ∷ [])) (single 1 1 2 ∷ []) (refl, tt) merging_witness.2.dual)
 
 part_limits : IsWithinLimits (line_part (1 ∷ 3 ∷ []))
 part_limits =
@@ -66,10 +66,10 @@ even_part = All-from_recursion (λ e. e.weight % 2 ≡ 0) (line []).edges (refl,
 either : (v : ℕ) → is_in (1 ∷ 3 ∷ []) v ≡ true → (is_in (3 ∷ []) v ≡ true) ⊎ (is_in (1 ∷ []) v ≡ true)
 either = of_two (λ v. (is_in (3 ∷ []) v ≡ true) ⊎ (is_in (1 ∷ []) v ≡ true)) 1 3 (inr refl) (inl refl)
 
-pub own_ends : HaveOwnNames (nodes_of (sprout 0 3 2 ∷ [])) (nodes_of (sprout 1 1 2 ∷ []))
+pub own_ends : HaveOwnNames (nodes_of (single 0 3 2 ∷ [])) (nodes_of (single 1 1 2 ∷ []))
 own_ends =
-    own_by_cases (nodes_of (sprout 0 3 2 ∷ [])) (nodes_of (sprout 1 1 2 ∷ []))
-    (All-from_recursion (λ n. is_live (nodes_of (sprout 1 1 2 ∷ [])) n.name ≡ false) (nodes_of (sprout 0 3 2 ∷ []))
+    own_by_cases (nodes_of (single 0 3 2 ∷ [])) (nodes_of (single 1 1 2 ∷ []))
+    (All-from_recursion (λ n. is_live (nodes_of (single 1 1 2 ∷ [])) n.name ≡ false) (nodes_of (single 0 3 2 ∷ []))
     (refl, tt))
 
 pub fused_witness : FusedWitness
@@ -85,12 +85,12 @@ fused_witness = (
   merging_witness.5,
   (refl, tt),
   (refl, tt),
-  All-from_recursion (λ s. (line (1 ∷ 2 ∷ 3 ∷ [])).is_real s.vertex ≡ true) middle_sprouts (refl, tt),
-  own_by_cases (nodes_of end_sprouts) (nodes_of middle_sprouts)
-      (All-from_recursion (λ n. is_live (nodes_of middle_sprouts) n.name ≡ false) (nodes_of end_sprouts)
+  All-from_recursion (λ s. (line (1 ∷ 2 ∷ 3 ∷ [])).is_real s.vertex ≡ true) middle_singles (refl, tt),
+  own_by_cases (nodes_of end_singles) (nodes_of middle_singles)
+      (All-from_recursion (λ n. is_live (nodes_of middle_singles) n.name ≡ false) (nodes_of end_singles)
       (refl, (refl, tt))),
-  nested_merged (line_part (3 ∷ [])) (line_part (1 ∷ [])) (line_part (1 ∷ 3 ∷ [])) (nodes_of (sprout 0 3 2 ∷ []))
-      (nodes_of (sprout 1 1 2 ∷ [])) (link 3 2 (2 ∷ []) ∷ []) (link 1 0 (0 ∷ []) ∷ []) [] [] part_limits
+  nested_merged (line_part (3 ∷ [])) (line_part (1 ∷ [])) (line_part (1 ∷ 3 ∷ [])) (nodes_of (single 0 3 2 ∷ []))
+      (nodes_of (single 1 1 2 ∷ [])) (link 3 2 (2 ∷ []) ∷ []) (link 1 0 (0 ∷ []) ∷ []) [] [] part_limits
       merging_witness.0 either own_ends (λ n h. absurd (false≢true h)) (λ n h. absurd (false≢true h)) right_state
       left_state,
 )

@@ -16,13 +16,13 @@ use Rattle.fb_graph.specs.Covers.{AreRoles}
 use Rattle.fb_graph.specs.Ends.{ends_in}
 use Rattle.fb_laws.specs.Fusion.{IsLinkOf}
 use Rattle.fb_graph.specs.Links.{IsTightLink}
-use Rattle.fb_graph.specs.Sprouts.{nodes_of}
+use Rattle.fb_graph.specs.Singles.{nodes_of}
 use Rattle.fb_graph.specs.Nests.{IsNest}
 use Rattle.fb_graph.specs.Moves.{MayJoin, MaySplit}
 use Rattle.fb_witnesses.specs.Samples.{link}
 use Rattle.fb_laws.specs.Works.{AreMatchedLinks, IsMatching}
 use Rattle.fb_laws.specs.Searches.{IsSearch}
-use Rattle.fb_witnesses.specs.CycleWitnesses.{ClosedWitness, OpenedWitness, kite, kite_sprouts, kite_leaves, kite_blossom, kite_branch, corner_links}
+use Rattle.fb_witnesses.specs.CycleWitnesses.{ClosedWitness, OpenedWitness, kite, kite_singles, kite_leaves, kite_blossom, kite_branch, corner_links}
 use Rattle.fb_graph.proofs.BeginningNests.{nest_begins}
 use Rattle.fb_graph.proofs.JoinedNests.{nest_joined}
 use Rattle.fb_witnesses.proofs.SampleParts.{one_height}
@@ -77,7 +77,7 @@ abbrev growing : Roles
 growing = record { is_plus = is_in (0 ∷ 1 ∷ 2 ∷ 3 ∷ 4 ∷ []); is_minus = is_in [] }
 
 abbrev seeds : List Node
-seeds = nodes_of (kite_sprouts 0)
+seeds = nodes_of (kite_singles 0)
 
 growing_are : AreRoles growing seeds
 growing_are = record {
@@ -91,9 +91,9 @@ growing_are = record {
 
 seeds_nest : IsNest kite seeds
 seeds_nest =
-    nest_begins kite (kite_sprouts 0) (refl, (refl, (refl, (refl, (refl, tt))))) (refl, (refl, (refl, (refl, (refl, tt)))))
-    (All-from_recursion (λ s. kite.is_real s.vertex ≡ true) (kite_sprouts 0) (refl, (refl, (refl, (refl, (refl, tt))))))
-    (All-from_recursion (λ s. s.value ≡ 0) (kite_sprouts 0) (refl, (refl, (refl, (refl, (refl, tt))))))
+    nest_begins kite (kite_singles 0) (refl, (refl, (refl, (refl, (refl, tt))))) (refl, (refl, (refl, (refl, (refl, tt)))))
+    (All-from_recursion (λ s. kite.is_real s.vertex ≡ true) (kite_singles 0) (refl, (refl, (refl, (refl, (refl, tt))))))
+    (All-from_recursion (λ s. s.value ≡ 0) (kite_singles 0) (refl, (refl, (refl, (refl, (refl, tt))))))
 
 leaves_nest : IsNest kite kite_leaves
 leaves_nest =

@@ -1,4 +1,4 @@
--- A node for a second defect of the line, beside one that has taken up a neighbour.
+-- A node for a second defect of the line, beside one that has absorbed a neighbour.
 use Rattle.std.proofs.Common.{◌≡◌, [], ◌∷◌, refl}
 use Rattle.std.proofs.lemmas.Bool.{false≢true}
 use Rattle.fb_graph.specs.Parity.{is_in}

@@ -8,11 +8,11 @@ use Rattle.fb_graph.specs.Laws.{Link}
 use Rattle.fb_graph.specs.Dual.{Node, all_cuts, leaves}
 use Rattle.fb_graph.specs.Links.{IsTightLink}
 use Rattle.fb_graph.specs.Nests.{child_sets}
-use Rattle.fb_graph.specs.Sprouts.{nodes_of}
+use Rattle.fb_graph.specs.Singles.{nodes_of}
 use Rattle.fb_laws.specs.Fusion.{IsLinkOf}
 use Rattle.fb_laws.specs.NestedSearches.{IsNestedWork}
 use Rattle.fb_laws.specs.PartStates.{IsRing, IsPartState}
-use Rattle.fb_witnesses.specs.Samples.{line_part, sprout}
+use Rattle.fb_witnesses.specs.Samples.{line_part, single}
 use Rattle.fb_witnesses.specs.StateWitnesses.{FusedStateWitness, left_end, right_end}
 use Rattle.fb_laws.specs.Works.{AreMatchedLinks}
 use Rattle.fb_witnesses.proofs.SampleFusions.{fused_witness}
@@ -29,15 +29,15 @@ no_links p nodes = record {
 }
 
 -- one node, matched
-one_end : (p : Problem) (name v : ℕ) (links : List Link) → IsNestedWork p (nodes_of (sprout name v 2 ∷ [])) links []
-    → IsPartState p (record { nodes = nodes_of (sprout name v 2 ∷ []); cycles = λ n. []; matches = links; unmatched = [] })
+one_end : (p : Problem) (name v : ℕ) (links : List Link) → IsNestedWork p (nodes_of (single name v 2 ∷ [])) links []
+    → IsPartState p (record { nodes = nodes_of (single name v 2 ∷ []); cycles = λ n. []; matches = links; unmatched = [] })
 one_end p name v links work = record {
   work = work;
   cycles = record {
     rings =
-        All-from_recursion (λ n. IsRing (child_sets (nodes_of (sprout name v 2 ∷ [])) n) []) (nodes_of (sprout name v 2 ∷ []))
+        All-from_recursion (λ n. IsRing (child_sets (nodes_of (single name v 2 ∷ [])) n) []) (nodes_of (single name v 2 ∷ []))
         (tt, tt);
-    links = no_links p (nodes_of (sprout name v 2 ∷ []));
+    links = no_links p (nodes_of (single name v 2 ∷ []));
   };
   names = record { live = λ n within. absurd (false≢true within); distinct = tt };
 }

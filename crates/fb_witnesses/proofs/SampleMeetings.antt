@@ -1,4 +1,4 @@
--- Two defects of a line that have taken up a vertex each, and a minus defect between two others.
+-- Two defects of a line that have absorbed a vertex each, and a minus defect between two others.
 use Rattle.std.proofs.Common.{◌≡◌, ◌%◌, ◌≤◌, ◌<◌, inl, inr, true, List, [], ◌∷◌, All, refl, arith}
 use Rattle.std.proofs.lemmas.Bool.{false≢true}
 use Rattle.std.proofs.lemmas.List.Elements.{All-from_recursion}
@@ -10,51 +10,51 @@ use Rattle.fb_graph.specs.Limits.{IsWithinLimits}
 use Rattle.fb_graph.specs.Dual.{Node, IsCrossed, IsHeld, all_cuts, is_outer}
 use Rattle.fb_graph.specs.Covers.{AreRoles}
 use Rattle.fb_graph.specs.Links.{AreEven}
-use Rattle.fb_graph.specs.Moves.{MayTakeUp, taken_up}
+use Rattle.fb_graph.specs.Moves.{MayAbsorb, absorbed_nodes}
 use Rattle.fb_graph.specs.Nests.{IsNest}
 use Rattle.fb_graph.specs.SourceWalks.{HaveWalks}
-use Rattle.fb_graph.specs.Sprouts.{AreSprouts, Sprout, nodes_of}
+use Rattle.fb_graph.specs.Singles.{AreSingles, Single, nodes_of}
 use Rattle.fb_graph.specs.Steps.{AllowShrinking, Roles}
-use Rattle.fb_graph.proofs.BeginningNests.{sprouts_are_nest}
-use Rattle.fb_graph.proofs.RaisedNests.{nest_taken_up}
+use Rattle.fb_graph.proofs.BeginningNests.{singles_are_nest}
+use Rattle.fb_graph.proofs.RaisedNests.{nest_absorbed}
 use Rattle.fb_graph.proofs.Sets.{is_in-All}
-use Rattle.fb_graph.proofs.SourceWalks.{walks_begin, walks_stepped, walks_taken_up}
-use Rattle.fb_graph.proofs.SproutStates.{sprouts_are_dual}
+use Rattle.fb_graph.proofs.SourceWalks.{walks_begin, walks_stepped, walks_absorbed}
+use Rattle.fb_graph.proofs.SingleStates.{singles_are_dual}
 use Rattle.fb_laws.specs.MetLinks.{IsSourceUnder, IsTightEdge}
 use Rattle.fb_laws.specs.Works.{AreMatchedLinks}
 use Rattle.fb_laws.proofs.MetLinks as met
 use Rattle.fb_laws.proofs.SearchStates.{links_joined}
 use Rattle.fb_witnesses.specs.MetWitnesses.{MetWitness, ThroughWitness, lower_link, lower_turned, met_line, met_nodes, upper_link}
 use Rattle.fb_witnesses.specs.NestedWitnesses.{low_nodes}
-use Rattle.fb_witnesses.specs.Samples.{sprout}
+use Rattle.fb_witnesses.specs.Samples.{single}
 use Rattle.fb_witnesses.specs.TreeWitnesses.{long_line}
 use Rattle.fb_witnesses.proofs.SampleEndings.{low_state}
 use Rattle.fb_witnesses.proofs.SampleNests.{limits_by_cases, stepped_by_cases}
 use Rattle.fb_witnesses.proofs.SampleStates.{fits_by_cases, odd_cut, outer_by_cases}
 use Rattle.fb_witnesses.proofs.SampleTrees.{one_link}
 
--- before they take up a vertex, in between, and before the last step
+-- before they absorb a vertex, in between, and before the last step
 
-abbrev first_sprouts : List Sprout
-first_sprouts = sprout 0 1 2 ∷ sprout 1 4 2 ∷ []
+abbrev first_singles : List Single
+first_singles = single 0 1 2 ∷ single 1 4 2 ∷ []
 
 abbrev first_nodes : List Node
-first_nodes = nodes_of first_sprouts
+first_nodes = nodes_of first_singles
 
 abbrev second_nodes : List Node
-second_nodes = taken_up 0 2 first_nodes
+second_nodes = absorbed_nodes 0 2 first_nodes
 
 abbrev third_nodes : List Node
-third_nodes = taken_up 1 3 second_nodes
+third_nodes = absorbed_nodes 1 3 second_nodes
 
 abbrev growing : Roles
 growing = record { is_plus = is_in (0 ∷ 1 ∷ []); is_minus = is_in [] }
 
-first_are : AreSprouts met_line first_sprouts
+first_are : AreSingles met_line first_singles
 first_are = record {
   names = (refl, (refl, tt));
   vertices = (refl, (refl, tt));
-  real = All-from_recursion (λ s. met_line.is_real s.vertex ≡ true) first_sprouts (refl, (refl, tt));
+  real = All-from_recursion (λ s. met_line.is_real s.vertex ≡ true) first_singles (refl, (refl, tt));
   packing = record {
     odd =
         All-from_recursion (IsOddCut met_line) (all_cuts first_nodes)
@@ -78,9 +78,9 @@ met_limits =
     (All-from_recursion (λ v. v < 7) (1 ∷ 2 ∷ 3 ∷ 4 ∷ []) (omega arith, (omega arith, (omega arith, (omega arith, tt))))))
 
 first_nest : IsNest met_line first_nodes
-first_nest = sprouts_are_nest met_line first_sprouts (refl, (refl, tt)) (sprouts_are_dual met_line first_sprouts first_are)
+first_nest = singles_are_nest met_line first_singles (refl, (refl, tt)) (singles_are_dual met_line first_singles first_are)
 
-may_first : MayTakeUp met_line first_nodes 0 1 1 2
+may_first : MayAbsorb met_line first_nodes 0 1 1 2
 may_first = record {
   within = omega arith;
   leads = inl (refl, refl);
@@ -91,9 +91,9 @@ may_first = record {
 }
 
 second_nest : IsNest met_line second_nodes
-second_nest = nest_taken_up met_line first_nodes 0 1 1 2 even_met may_first first_nest
+second_nest = nest_absorbed met_line first_nodes 0 1 1 2 even_met may_first first_nest
 
-may_second : MayTakeUp met_line second_nodes 1 3 4 3
+may_second : MayAbsorb met_line second_nodes 1 3 4 3
 may_second = record {
   within = omega arith;
   leads = inr (refl, refl);
@@ -104,12 +104,12 @@ may_second = record {
 }
 
 third_nest : IsNest met_line third_nodes
-third_nest = nest_taken_up met_line second_nodes 1 3 4 3 even_met may_second second_nest
+third_nest = nest_absorbed met_line second_nodes 1 3 4 3 even_met may_second second_nest
 
 third_walks : HaveWalks met_line third_nodes
 third_walks =
-    walks_taken_up met_line second_nodes 1 3 4 3 may_second second_nest
-    (walks_taken_up met_line first_nodes 0 1 1 2 may_first first_nest (walks_begin met_line first_sprouts))
+    walks_absorbed met_line second_nodes 1 3 4 3 may_second second_nest
+    (walks_absorbed met_line first_nodes 0 1 1 2 may_first first_nest (walks_begin met_line first_singles))
 
 growing_are : AreRoles growing third_nodes
 growing_are = record {

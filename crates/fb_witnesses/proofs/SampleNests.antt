@@ -9,20 +9,20 @@ use Rattle.fb_graph.specs.Certificate.{load_of}
 use Rattle.fb_graph.specs.Limits.{IsEdge, IsWithinLimits, most_vertices, most_edges, most_weight}
 use Rattle.fb_graph.specs.Dual.{Node, IsCrossed, all_cuts, is_empty, is_live, is_outer, node_at}
 use Rattle.fb_graph.specs.declared.parts.Edge.{Edge}
-use Rattle.fb_graph.specs.Steps.{Roles, AllowShrinking, gains, losses, stepped}
+use Rattle.fb_graph.specs.Steps.{Roles, AllowShrinking, gains, losses, stepped_nodes}
 use Rattle.fb_graph.specs.Covers.{AreRoles}
 use Rattle.fb_graph.specs.Links.{AreEven}
-use Rattle.fb_graph.specs.Sprouts.{node_of, nodes_of}
+use Rattle.fb_graph.specs.Singles.{node_of, nodes_of}
 use Rattle.fb_graph.specs.Nests.{IsNest}
-use Rattle.fb_graph.specs.Moves.{MayJoin, MaySplit, MayTakeUp, MayUncover, taken_up}
+use Rattle.fb_graph.specs.Moves.{MayJoin, MaySplit, MayAbsorb, MayUncover, absorbed_nodes}
 use Rattle.fb_graph.specs.SourceWalks.{HaveWalks}
-use Rattle.fb_witnesses.specs.Samples.{sprout, line, triangle, corner_nodes, corner_roles, grown_nodes, grown_roles}
+use Rattle.fb_witnesses.specs.Samples.{single, line, triangle, corner_nodes, corner_roles, grown_nodes, grown_roles}
 use Rattle.fb_witnesses.specs.NestWitnesses.{NestWitness, bare_corners, blossom_nodes, blossom_roles, wider_nodes}
 use Rattle.fb_graph.proofs.BeginningNests.{nest_begins}
 use Rattle.fb_graph.proofs.JoinedNests.{nest_joined}
-use Rattle.fb_graph.proofs.RaisedNests.{nest_taken_up}
+use Rattle.fb_graph.proofs.RaisedNests.{nest_absorbed}
 use Rattle.fb_witnesses.proofs.SampleStates.{may_by_cases, of_three, outer_by_cases}
-use Rattle.fb_graph.proofs.SourceWalks.{walks_begin, walks_stepped, walks_taken_up}
+use Rattle.fb_graph.proofs.SourceWalks.{walks_begin, walks_stepped, walks_absorbed}
 use Rattle.fb_graph.proofs.SteppedNests.{nest_stepped}
 
 -- a step whose edges are looked at one by one
@@ -31,7 +31,7 @@ pub stepped_by_cases : (p : Problem) (roles : Roles) (nodes : List Node) (k : �
     → All (λ n. roles.is_plus n.name ≡ true → IsCrossed p n.top.vertices) nodes
     → list_all (λ e. leb (load_of (all_cuts nodes) e + k * gains roles nodes e)
     (e.weight + k * losses roles nodes e)) p.edges ≡ true
-    → AllowShrinking roles nodes k → IsNest p nodes → IsNest p (stepped roles k nodes)
+    → AllowShrinking roles nodes k → IsNest p nodes → IsNest p (stepped_nodes roles k nodes)
 stepped_by_cases p roles nodes k limits are crossed right tops nest =
     nest_stepped p roles nodes k limits are crossed (may_by_cases p roles nodes k right tops) nest
 
@@ -146,7 +146,7 @@ blossom_are_roles = record {
       (λ e. absurd (false≢true e), (λ e. absurd (false≢true e), (λ e. absurd (false≢true e), (λ e. refl, tt))));
 }
 
-pub grown_blossom : IsNest triangle (stepped blossom_roles 9 blossom_nodes)
+pub grown_blossom : IsNest triangle (stepped_nodes blossom_roles 9 blossom_nodes)
 grown_blossom =
     stepped_by_cases triangle blossom_roles blossom_nodes 9 triangle_limits blossom_are_roles
     (All-from_recursion (λ n. blossom_roles.is_plus n.name ≡ true → IsCrossed triangle n.top.vertices) blossom_nodes (
@@ -173,7 +173,7 @@ middle_grown : (n : Node) (k : ℕ) → n.name ≡ 0 → IsCrossed (line (2 ∷ 
     (λ e. leb (load_of (all_cuts (n ∷ [])) e + k * gains grown_roles (n ∷ []) e)
     (e.weight + k * losses grown_roles (n ∷ []) e))
     (line []).edges ≡ true
-    → IsNest (line (2 ∷ [])) (n ∷ []) → IsNest (line (2 ∷ [])) (stepped grown_roles k (n ∷ []))
+    → IsNest (line (2 ∷ [])) (n ∷ []) → IsNest (line (2 ∷ [])) (stepped_nodes grown_roles k (n ∷ []))
 middle_grown n k named crossed outer right nest =
     stepped_by_cases (line (2 ∷ [])) grown_roles (n ∷ []) k line_limits
     (record {
@@ -191,23 +191,23 @@ middle_grown n k named crossed outer right nest =
     nest
 
 alone : List Node
-alone = nodes_of (sprout 0 2 2 ∷ [])
+alone = nodes_of (single 0 2 2 ∷ [])
 
 alone_nest : IsNest (line (2 ∷ [])) alone
 unfolding alone
 alone_nest =
-    middle_grown (node_of (sprout 0 2 0)) 2 refl (1, omega arith, refl) refl refl
-    (nest_begins (line (2 ∷ [])) (sprout 0 2 0 ∷ []) (refl, tt) (refl, tt)
-    (All-from_recursion (λ s. (line (2 ∷ [])).is_real s.vertex ≡ true) (sprout 0 2 0 ∷ []) (refl, tt))
-    (All-from_recursion (λ s. s.value ≡ 0) (sprout 0 2 0 ∷ []) (refl, tt)))
+    middle_grown (node_of (single 0 2 0)) 2 refl (1, omega arith, refl) refl refl
+    (nest_begins (line (2 ∷ [])) (single 0 2 0 ∷ []) (refl, tt) (refl, tt)
+    (All-from_recursion (λ s. (line (2 ∷ [])).is_real s.vertex ≡ true) (single 0 2 0 ∷ []) (refl, tt))
+    (All-from_recursion (λ s. s.value ≡ 0) (single 0 2 0 ∷ []) (refl, tt)))
 
 even_line : AreEven (line (2 ∷ []))
 even_line = All-from_recursion (λ e. e.weight % 2 ≡ 0) (line []).edges (refl, (refl, (refl, (refl, tt))))
 
 pair : List Node
-pair = taken_up 0 3 alone
+pair = absorbed_nodes 0 3 alone
 
-may_pair : MayTakeUp (line (2 ∷ [])) alone 0 2 2 3
+may_pair : MayAbsorb (line (2 ∷ [])) alone 0 2 2 3
 unfolding alone
 may_pair = record {
   within = omega arith;
@@ -221,7 +221,7 @@ may_pair = record {
 
 pair_nest : IsNest (line (2 ∷ [])) pair
 unfolding alone pair
-pair_nest = nest_taken_up (line (2 ∷ [])) alone 0 2 2 3 even_line may_pair alone_nest
+pair_nest = nest_absorbed (line (2 ∷ [])) alone 0 2 2 3 even_line may_pair alone_nest
 
 pub wider_nest : IsNest (line (2 ∷ [])) wider_nodes
 unfolding alone pair
@@ -241,10 +241,10 @@ wider_walks =
     (All-from_recursion (λ m. grown_roles.is_minus m.name ≡ true → 2 ≤ m.top.value) pair
     (λ e. absurd (false≢true e), tt))
     pair_nest
-    (walks_taken_up (line (2 ∷ [])) alone 0 2 2 3 may_pair alone_nest (walks_begin (line (2 ∷ [])) (sprout 0 2 2 ∷ [])))
+    (walks_absorbed (line (2 ∷ [])) alone 0 2 2 3 may_pair alone_nest (walks_begin (line (2 ∷ [])) (single 0 2 2 ∷ [])))
 
-may_take_up : MayTakeUp (line (2 ∷ [])) wider_nodes 0 1 2 1
-may_take_up =
+may_absorb : MayAbsorb (line (2 ∷ [])) wider_nodes 0 1 2 1
+may_absorb =
     record {
       within = omega arith;
       leads = inr
@@ -256,7 +256,7 @@ may_take_up =
     }
 
 grown_nest : IsNest (line (2 ∷ [])) grown_nodes
-grown_nest = nest_taken_up (line (2 ∷ [])) wider_nodes 0 1 2 1 even_line may_take_up wider_nest
+grown_nest = nest_absorbed (line (2 ∷ [])) wider_nodes 0 1 2 1 even_line may_absorb wider_nest
 
 may_uncover : MayUncover grown_nodes 0
 may_uncover = record {
@@ -283,7 +283,7 @@ nest_witness = (
   blossom_nest,
   grown_blossom,
   even_line,
-  may_take_up,
+  may_absorb,
   wider_nest,
   may_uncover,
   grown_nest,

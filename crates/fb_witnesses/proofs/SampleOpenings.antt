@@ -9,18 +9,18 @@ use Rattle.fb_graph.specs.Dual.{IsHeld, all_cuts, height_of, is_live, is_outer, 
 use Rattle.fb_graph.proofs.Sets.{is_in-All}
 use Rattle.fb_graph.specs.Counts.{as_count}
 use Rattle.fb_graph.specs.Ends.{ends_in}
-use Rattle.fb_graph.specs.Moves.{MayJoin, joined}
+use Rattle.fb_graph.specs.Moves.{MayJoin, joined_nodes}
 use Rattle.fb_graph.specs.Nests.{IsNest}
 use Rattle.fb_witnesses.specs.NestWitnesses.{blossom_nodes, blossom_roles}
 use Rattle.fb_witnesses.specs.Samples.{link, triangle, cut}
 use Rattle.fb_laws.specs.SearchOpenings.{IsOpenedTree, IsSplit}
 use Rattle.fb_laws.specs.Searches.{IsSearch}
 use Rattle.fb_graph.specs.SourceWalks.{HaveWalks}
-use Rattle.fb_graph.specs.Sprouts.{AreSprouts}
-use Rattle.fb_graph.specs.Steps.{stepped}
-use Rattle.fb_witnesses.specs.TreeWitnesses.{SplittingWitness, LevelWitness, crown, crown_sprouts, crown_nodes, closed_branch, opened_branches}
+use Rattle.fb_graph.specs.Singles.{AreSingles}
+use Rattle.fb_graph.specs.Steps.{stepped_nodes}
+use Rattle.fb_witnesses.specs.TreeWitnesses.{SplittingWitness, LevelWitness, crown, crown_singles, crown_nodes, closed_branch, opened_branches}
 use Rattle.fb_laws.specs.Works.{IsMatching}
-use Rattle.fb_graph.proofs.BeginningNests.{sprouts_are_nest}
+use Rattle.fb_graph.proofs.BeginningNests.{singles_are_nest}
 use Rattle.fb_graph.proofs.JoinedNests.{nest_joined}
 use Rattle.fb_witnesses.proofs.SampleLevels.{opening_witness}
 use Rattle.fb_witnesses.proofs.SampleNests.{grown_blossom}
@@ -29,14 +29,14 @@ use Rattle.fb_witnesses.proofs.SampleStates.{fits_by_cases, odd_cut, of_three}
 use Rattle.fb_witnesses.proofs.SampleTrees.{one_link, one_search}
 use Rattle.fb_laws.proofs.SearchStates.{links_joined}
 use Rattle.fb_graph.proofs.SourceWalks.{walks_begin, walks_joined}
-use Rattle.fb_graph.proofs.SproutStates.{sprouts_are_dual}
+use Rattle.fb_graph.proofs.SingleStates.{singles_are_dual}
 use Rattle.fb_graph.proofs.TightLinks.{empty_layer_loads, empty_layer_heights}
 
-crown_are_sprouts : AreSprouts crown crown_sprouts
-crown_are_sprouts = record {
+crown_are_singles : AreSingles crown crown_singles
+crown_are_singles = record {
   names = (refl, (refl, (refl, (refl, (refl, tt)))));
   vertices = (refl, (refl, (refl, (refl, (refl, tt)))));
-  real = All-from_recursion (λ s. crown.is_real s.vertex ≡ true) crown_sprouts
+  real = All-from_recursion (λ s. crown.is_real s.vertex ≡ true) crown_singles
       (refl, (refl, (refl, (refl, (refl, tt)))));
   packing = record {
     odd =
@@ -65,8 +65,8 @@ crown_are_sprouts = record {
 
 crown_nest : IsNest crown crown_nodes
 crown_nest =
-    sprouts_are_nest crown crown_sprouts (refl, (refl, (refl, (refl, (refl, tt)))))
-    (sprouts_are_dual crown crown_sprouts crown_are_sprouts)
+    singles_are_nest crown crown_singles (refl, (refl, (refl, (refl, (refl, tt)))))
+    (singles_are_dual crown crown_singles crown_are_singles)
 
 may_close : MayJoin crown_nodes 5 (0 ∷ 1 ∷ 2 ∷ [])
 may_close = record {
@@ -77,12 +77,12 @@ may_close = record {
 }
 
 -- the corners joined
-pub closed_nest : IsNest crown (joined 5 (0 ∷ 1 ∷ 2 ∷ []) crown_nodes)
+pub closed_nest : IsNest crown (joined_nodes 5 (0 ∷ 1 ∷ 2 ∷ []) crown_nodes)
 closed_nest = nest_joined crown crown_nodes 5 (0 ∷ 1 ∷ 2 ∷ []) may_close crown_nest
 
-pub closed_walks : HaveWalks crown (joined 5 (0 ∷ 1 ∷ 2 ∷ []) crown_nodes)
+pub closed_walks : HaveWalks crown (joined_nodes 5 (0 ∷ 1 ∷ 2 ∷ []) crown_nodes)
 closed_walks =
-    walks_joined crown crown_nodes 5 (0 ∷ 1 ∷ 2 ∷ []) may_close crown_nest (walks_begin crown crown_sprouts)
+    walks_joined crown crown_nodes 5 (0 ∷ 1 ∷ 2 ∷ []) may_close crown_nest (walks_begin crown crown_singles)
 
 -- five members, one after another
 of_five : (P : ℕ → Type 0) (a b c d e : ℕ) → P a → P b → P c → P d → P e → (v : ℕ)
@@ -91,37 +91,37 @@ of_five P a b c d e first second third fourth fifth =
     is_in-All P (a ∷ b ∷ c ∷ d ∷ e ∷ [])
     (All-from_recursion P (a ∷ b ∷ c ∷ d ∷ e ∷ []) (first, (second, (third, (fourth, (fifth, tt))))))
 
-closed_search : IsSearch crown (joined 5 (0 ∷ 1 ∷ 2 ∷ []) crown_nodes) (closed_branch ∷ []) [] (4 ∷ []) 4 0
+closed_search : IsSearch crown (joined_nodes 5 (0 ∷ 1 ∷ 2 ∷ []) crown_nodes) (closed_branch ∷ []) [] (4 ∷ []) 4 0
 closed_search =
-    one_search crown (joined 5 (0 ∷ 1 ∷ 2 ∷ []) crown_nodes) (closed_branch ∷ []) [] 4 0 closed_nest.dual
+    one_search crown (joined_nodes 5 (0 ∷ 1 ∷ 2 ∷ []) crown_nodes) (closed_branch ∷ []) [] 4 0 closed_nest.dual
     (λ v real. refl)
-    (one_link crown (joined 5 (0 ∷ 1 ∷ 2 ∷ []) crown_nodes) 2 3 3 []
+    (one_link crown (joined_nodes 5 (0 ∷ 1 ∷ 2 ∷ []) crown_nodes) 2 3 3 []
     (3, omega arith, inl (refl, refl), refl) refl refl (λ h. refl) (λ h. refl))
     (All-from_recursion
-    (λ n. is_outer (joined 5 (0 ∷ 1 ∷ 2 ∷ []) crown_nodes) n.name ≡ true
+    (λ n. is_outer (joined_nodes 5 (0 ∷ 1 ∷ 2 ∷ []) crown_nodes) n.name ≡ true
     → ends_in n.top.vertices (link 2 3 (3 ∷ []) ∷ []) + as_count (is_in (4 ∷ []) n.name) ≡ 1)
-    (joined 5 (0 ∷ 1 ∷ 2 ∷ []) crown_nodes) (
+    (joined_nodes 5 (0 ∷ 1 ∷ 2 ∷ []) crown_nodes) (
       λ h. absurd (false≢true h),
       (
         λ h. absurd (false≢true h),
         (λ h. absurd (false≢true h), (λ h. refl, (λ h. refl, (λ h. refl, tt)))),
       ),
     ))
-    (of_five (λ d. height_of (all_cuts (joined 5 (0 ∷ 1 ∷ 2 ∷ []) crown_nodes)) d % 2
+    (of_five (λ d. height_of (all_cuts (joined_nodes 5 (0 ∷ 1 ∷ 2 ∷ []) crown_nodes)) d % 2
     ≡ 0) 0 1 2 3 4 refl refl refl refl refl) (4, refl, refl)
     (refl, (refl, (refl, tt))) (refl, inl (refl, refl), inl (refl, refl), tt)
-    (one_link crown (joined 5 (0 ∷ 1 ∷ 2 ∷ []) crown_nodes) 4 0 4 []
+    (one_link crown (joined_nodes 5 (0 ∷ 1 ∷ 2 ∷ []) crown_nodes) 4 0 4 []
     (0, omega arith, inr (refl, refl), refl) refl refl (λ h. refl) (λ h. refl))
 
 -- a blossom without value taken away: its three corners lie under themselves
-crown_split : IsSplit (joined 5 (0 ∷ 1 ∷ 2 ∷ []) crown_nodes) crown_nodes 5 (2 ∷ 0 ∷ 1 ∷ [])
+crown_split : IsSplit (joined_nodes 5 (0 ∷ 1 ∷ 2 ∷ []) crown_nodes) crown_nodes 5 (2 ∷ 0 ∷ 1 ∷ [])
 crown_split = record {
   defects = refl;
   loads = λ e. sym (empty_layer_loads (all_cuts crown_nodes) [] (cut 0 (0 ∷ 1 ∷ 2 ∷ [])) e refl);
   heights = λ v. sym (empty_layer_heights (all_cuts crown_nodes) [] (cut 0 (0 ∷ 1 ∷ 2 ∷ [])) v refl);
   outside = λ d n leaf.
       of_five
-      (λ x. cover_of (joined 5 (0 ∷ 1 ∷ 2 ∷ []) crown_nodes) x ≡ Some n → (n ≡ 5 → ⊥)
+      (λ x. cover_of (joined_nodes 5 (0 ∷ 1 ∷ 2 ∷ []) crown_nodes) x ≡ Some n → (n ≡ 5 → ⊥)
       → (cover_of crown_nodes x ≡ Some n) × (is_in (2 ∷ 0 ∷ 1 ∷ []) n ≡ false))
       0 1 2 3 4 (λ cover other. absurd (other (under 5 n cover))) (λ cover other. absurd (other (under 5 n cover)))
       (λ cover other. absurd (other (under 5 n cover)))
@@ -129,7 +129,7 @@ crown_split = record {
       (λ cover other. (cover, ap (is_in (2 ∷ 0 ∷ 1 ∷ [])) (under 4 n cover))) d leaf;
   inside =
       of_five
-      (λ d. cover_of (joined 5 (0 ∷ 1 ∷ 2 ∷ []) crown_nodes) d ≡ Some 5
+      (λ d. cover_of (joined_nodes 5 (0 ∷ 1 ∷ 2 ∷ []) crown_nodes) d ≡ Some 5
       → (n : ℕ) × (cover_of crown_nodes d ≡ Some n) × (is_in (2 ∷ 0 ∷ 1 ∷ []) n ≡ true))
       0 1 2 3 4 (λ cover. (0, refl, refl)) (λ cover. (1, refl, refl)) (λ cover. (2, refl, refl))
       (λ cover. absurd (not_five 3 cover (λ e. cc)))
@@ -143,7 +143,7 @@ crown_split = record {
     not_five m e other = other (under m 5 e)
 
 crown_opened : IsOpenedTree crown
-    (joined 5 (0 ∷ 1 ∷ 2 ∷ []) crown_nodes) crown_nodes [] [] opened_branches closed_branch 2 (0 ∷ 1 ∷ [])
+    (joined_nodes 5 (0 ∷ 1 ∷ 2 ∷ []) crown_nodes) crown_nodes [] [] opened_branches closed_branch 2 (0 ∷ 1 ∷ [])
     (link 0 1 (0 ∷ []) ∷ []) [] [] (4 ∷ []) 4
 crown_opened = record {
   split = crown_split;
@@ -179,23 +179,23 @@ splitting_witness = (
   of_two (λ n. is_in (3 ∷ 1 ∷ 4 ∷ []) n ≡ true) 3 4 refl refl,
 )
 
-solved_triangle : IsMatching triangle (stepped blossom_roles 9 blossom_nodes) (link 2 3 (3 ∷ []) ∷ []) []
+solved_triangle : IsMatching triangle (stepped_nodes blossom_roles 9 blossom_nodes) (link 2 3 (3 ∷ []) ∷ []) []
 solved_triangle = record {
   dual = grown_blossom.dual;
   defects = λ v real. refl;
   links_are =
-      one_link triangle (stepped blossom_roles 9 blossom_nodes) 2 3 3 []
+      one_link triangle (stepped_nodes blossom_roles 9 blossom_nodes) 2 3 3 []
       (3, omega arith, inl (refl, refl), refl) refl refl (λ h. refl)
       (λ h. absurd (false≢true h));
   matched =
       All-from_recursion
-      (λ n. is_outer (stepped blossom_roles 9 blossom_nodes) n.name ≡ true
+      (λ n. is_outer (stepped_nodes blossom_roles 9 blossom_nodes) n.name ≡ true
       → ends_in n.top.vertices (link 2 3 (3 ∷ []) ∷ []) + as_count (is_in [] n.name) ≡ 1)
-      (stepped blossom_roles 9 blossom_nodes)
+      (stepped_nodes blossom_roles 9 blossom_nodes)
       (λ h. absurd (false≢true h), (λ h. absurd (false≢true h), (λ h. absurd (false≢true h), (λ h. refl, tt))));
   one_parity =
-      one_height (stepped blossom_roles 9 blossom_nodes) 0
-      (of_three (λ d. height_of (all_cuts (stepped blossom_roles 9 blossom_nodes)) d % 2 ≡ 0) 0 1 2 refl refl refl);
+      one_height (stepped_nodes blossom_roles 9 blossom_nodes) 0
+      (of_three (λ d. height_of (all_cuts (stepped_nodes blossom_roles 9 blossom_nodes)) d % 2 ≡ 0) 0 1 2 refl refl refl);
 }
 
 pub level_witness : LevelWitness

@@ -14,13 +14,13 @@ use Rattle.fb_graph.specs.Ends.{ends_in}
 use Rattle.fb_graph.specs.Links.{IsTightLink}
 use Rattle.fb_laws.specs.Fusion.{IsLinkOf}
 use Rattle.fb_laws.specs.Parities.{HaveOneParity}
-use Rattle.fb_graph.specs.Sprouts.{AreSprouts}
+use Rattle.fb_graph.specs.Singles.{AreSingles}
 use Rattle.fb_laws.specs.Works.{AreMatchedLinks, IsMatching, outer_sets}
-use Rattle.fb_witnesses.specs.Samples.{link, line, corner_nodes, bare_sprouts, young_sprouts, young_nodes, pair_sprouts, pair_nodes, pair_roles}
+use Rattle.fb_witnesses.specs.Samples.{link, line, corner_nodes, bare_singles, young_singles, young_nodes, pair_singles, pair_nodes, pair_roles}
 use Rattle.fb_witnesses.specs.Witnesses.{ParityWitness, WorkWitness}
 use Rattle.fb_laws.proofs.HalvesKept.{work_begins}
 use Rattle.fb_witnesses.proofs.SampleStates.{fits_by_cases, odd_cut, of_three, outer_by_cases}
-use Rattle.fb_graph.proofs.SproutStates.{sprouts_are_dual}
+use Rattle.fb_graph.proofs.SingleStates.{singles_are_dual}
 
 pub corner_height : (d : ℕ) → is_in (leaves corner_nodes) d ≡ true → height_of (all_cuts corner_nodes) d % 2 ≡ 1
 corner_height = of_three (λ d. height_of (all_cuts corner_nodes) d % 2 ≡ 1) 0 1 2 refl refl refl
@@ -41,11 +41,11 @@ parity_witness = (
 pub of_two : (P : ℕ → Type 0) (a b : ℕ) → P a → P b → (v : ℕ) → is_in (a ∷ b ∷ []) v ≡ true → P v
 of_two P a b first second = is_in-All P (a ∷ b ∷ []) (All-from_recursion P (a ∷ b ∷ []) (first, (second, tt)))
 
-pair_are_sprouts : AreSprouts (line (1 ∷ 2 ∷ [])) pair_sprouts
-pair_are_sprouts = record {
+pair_are_singles : AreSingles (line (1 ∷ 2 ∷ [])) pair_singles
+pair_are_singles = record {
   names = (refl, (refl, tt));
   vertices = (refl, (refl, tt));
-  real = All-from_recursion (λ s. is_in (1 ∷ 2 ∷ 3 ∷ []) s.vertex ≡ true) pair_sprouts (refl, (refl, tt));
+  real = All-from_recursion (λ s. is_in (1 ∷ 2 ∷ 3 ∷ []) s.vertex ≡ true) pair_singles (refl, (refl, tt));
   packing = record {
     odd =
         All-from_recursion (IsOddCut (line (1 ∷ 2 ∷ []))) (all_cuts pair_nodes)
@@ -58,11 +58,11 @@ pair_are_sprouts = record {
   total = omega arith;
 }
 
-young_are_sprouts : AreSprouts (line (1 ∷ 2 ∷ [])) young_sprouts
-young_are_sprouts = record {
+young_are_singles : AreSingles (line (1 ∷ 2 ∷ [])) young_singles
+young_are_singles = record {
   names = (refl, (refl, tt));
   vertices = (refl, (refl, tt));
-  real = All-from_recursion (λ s. is_in (1 ∷ 2 ∷ 3 ∷ []) s.vertex ≡ true) young_sprouts (refl, (refl, tt));
+  real = All-from_recursion (λ s. is_in (1 ∷ 2 ∷ 3 ∷ []) s.vertex ≡ true) young_singles (refl, (refl, tt));
   packing = record {
     odd =
         All-from_recursion (IsOddCut (line (1 ∷ 2 ∷ []))) (all_cuts young_nodes)
@@ -139,7 +139,7 @@ pair_matching : (links : List Link) (unmatched : List ℕ) → AreMatchedLinks (
     → ends_in (1 ∷ []) links + as_count (is_in unmatched 0) ≡ 1 → ends_in (2 ∷ []) links + as_count (is_in unmatched 1) ≡ 1
     → IsMatching (line (1 ∷ 2 ∷ [])) pair_nodes links unmatched
 pair_matching links unmatched are first second = record {
-  dual = sprouts_are_dual (line (1 ∷ 2 ∷ [])) pair_sprouts pair_are_sprouts;
+  dual = singles_are_dual (line (1 ∷ 2 ∷ [])) pair_singles pair_are_singles;
   defects = λ v real. refl;
   links_are = are;
   matched =
@@ -151,16 +151,16 @@ pair_matching links unmatched are first second = record {
 
 pub work_witness : WorkWitness
 work_witness = (
-  work_begins (line (1 ∷ 2 ∷ [])) bare_sprouts (refl, (refl, tt)) (refl, (refl, tt))
-      (All-from_recursion (λ s. is_in (1 ∷ 2 ∷ 3 ∷ []) s.vertex ≡ true) bare_sprouts (refl, (refl, tt)))
-      (All-from_recursion (λ s. s.value ≡ 0) bare_sprouts (refl, (refl, tt))) (λ v real. refl),
+  work_begins (line (1 ∷ 2 ∷ [])) bare_singles (refl, (refl, tt)) (refl, (refl, tt))
+      (All-from_recursion (λ s. is_in (1 ∷ 2 ∷ 3 ∷ []) s.vertex ≡ true) bare_singles (refl, (refl, tt)))
+      (All-from_recursion (λ s. s.value ≡ 0) bare_singles (refl, (refl, tt))) (λ v real. refl),
   record {
     exclusive = λ name plus. refl;
     plus = outer_by_cases pair_roles.is_plus young_nodes young_outer;
     minus = outer_by_cases pair_roles.is_minus young_nodes young_outer;
   },
   record {
-    dual = sprouts_are_dual (line (1 ∷ 2 ∷ [])) young_sprouts young_are_sprouts;
+    dual = singles_are_dual (line (1 ∷ 2 ∷ [])) young_singles young_are_singles;
     defects = λ v real. refl;
     links_are = no_links young_nodes refl;
     matched =
@@ -169,7 +169,7 @@ work_witness = (
         (λ outer. refl, (λ outer. refl, tt));
     one_parity = one_height young_nodes 1 (of_two (λ d. height_of (all_cuts young_nodes) d % 2 ≡ 1) 1 2 refl refl);
   },
-  sprouts_are_dual (line (1 ∷ 2 ∷ [])) pair_sprouts pair_are_sprouts,
+  singles_are_dual (line (1 ∷ 2 ∷ [])) pair_singles pair_are_singles,
   pair_matching [] (0 ∷ 1 ∷ []) (no_links pair_nodes refl) refl refl,
   pair_matching (link 1 0 (0 ∷ []) ∷ []) (1 ∷ []) to_boundary refl refl,
   pair_matching (link 2 1 (1 ∷ []) ∷ []) [] one_another refl refl,

@@ -12,14 +12,14 @@ use Rattle.fb_graph.specs.Dual.{Node, IsDual, IsHeld, all_cuts, height_of, is_em
 use Rattle.fb_graph.specs.Counts.{as_count}
 use Rattle.fb_graph.specs.Ends.{ends_in}
 use Rattle.fb_graph.specs.Links.{IsTightLink, AreEven}
-use Rattle.fb_graph.specs.Moves.{MaySplit, blossom, split}
+use Rattle.fb_graph.specs.Moves.{MaySplit, blossom, split_nodes}
 use Rattle.fb_graph.specs.Nests.{child_sets}
-use Rattle.fb_graph.specs.Sprouts.{AreSprouts}
+use Rattle.fb_graph.specs.Singles.{AreSingles}
 use Rattle.fb_graph.proofs.Among.{among_right}
-use Rattle.fb_graph.proofs.BeginningNests.{sprouts_are_nest}
+use Rattle.fb_graph.proofs.BeginningNests.{singles_are_nest}
 use Rattle.fb_graph.proofs.Sets.{is_in-All}
 use Rattle.fb_graph.proofs.SourceWalks.{walks_begin}
-use Rattle.fb_graph.proofs.SproutStates.{sprouts_are_dual}
+use Rattle.fb_graph.proofs.SingleStates.{singles_are_dual}
 use Rattle.fb_laws.specs.Fusion.{IsLinkOf}
 use Rattle.fb_laws.specs.OpenedCycles.{IsOpenedCycle}
 use Rattle.fb_laws.specs.PartStates.{IsRing, IsPartState, IsSearchState, PartState}
@@ -27,7 +27,7 @@ use Rattle.fb_witnesses.specs.MatchWitnesses.{one_branch}
 use Rattle.fb_witnesses.specs.Samples.{link}
 use Rattle.fb_laws.specs.StateBlossoms.{MayClose, joined_state}
 use Rattle.fb_laws.specs.StateMoves.{search_from}
-use Rattle.fb_witnesses.specs.StateWitnesses.{ClosedStateWitness, OpenedStateWitness, pentagon, pentagon_sprouts, pentagon_leaves, blossom_pair, first_branch, second_branch, two_branches, blossom_branch, inner_blossom, pentagon_links, pentagon_way, pentagon_couples}
+use Rattle.fb_witnesses.specs.StateWitnesses.{ClosedStateWitness, OpenedStateWitness, pentagon, pentagon_singles, pentagon_leaves, blossom_pair, first_branch, second_branch, two_branches, blossom_branch, inner_blossom, pentagon_links, pentagon_way, pentagon_couples}
 use Rattle.fb_laws.specs.TreeCycles.{ArePaths}
 use Rattle.fb_laws.specs.Trees.{Connects}
 use Rattle.fb_laws.specs.Works.{AreMatchedLinks}
@@ -72,12 +72,12 @@ of_seven P a b c d e f g =
     is_in-All P (0 ∷ 1 ∷ 2 ∷ 3 ∷ 4 ∷ 5 ∷ 6 ∷ [])
     (All-from_recursion P (0 ∷ 1 ∷ 2 ∷ 3 ∷ 4 ∷ 5 ∷ 6 ∷ []) (a, (b, (c, (d, (e, (f, (g, tt))))))))
 
-pentagon_are : AreSprouts pentagon pentagon_sprouts
+pentagon_are : AreSingles pentagon pentagon_singles
 pentagon_are = record {
   names = (refl, (refl, (refl, (refl, (refl, (refl, (refl, tt)))))));
   vertices = (refl, (refl, (refl, (refl, (refl, (refl, (refl, tt)))))));
   real =
-      All-from_recursion (λ s. pentagon.is_real s.vertex ≡ true) pentagon_sprouts
+      All-from_recursion (λ s. pentagon.is_real s.vertex ≡ true) pentagon_singles
       (refl, (refl, (refl, (refl, (refl, (refl, (refl, tt)))))));
   packing = record {
     odd =
@@ -114,7 +114,7 @@ even_height : (d : ℕ) → is_in (leaves pentagon_leaves) d ≡ true → height
 even_height = of_seven (λ d. height_of (all_cuts pentagon_leaves) d % 2 ≡ 0) refl refl refl refl refl refl refl
 
 pentagon_dual : IsDual pentagon pentagon_leaves
-pentagon_dual = sprouts_are_dual pentagon pentagon_sprouts pentagon_are
+pentagon_dual = singles_are_dual pentagon pentagon_singles pentagon_are
 
 -- all unmatched
 abbrev pub start : PartState
@@ -123,7 +123,7 @@ start = record { nodes = pentagon_leaves; cycles = λ n. []; matches = []; unmat
 pub start_state : IsPartState pentagon start
 start_state = record {
   work = record {
-    nest = sprouts_are_nest pentagon pentagon_sprouts pentagon_are.vertices pentagon_dual;
+    nest = singles_are_nest pentagon pentagon_singles pentagon_are.vertices pentagon_dual;
     work = record {
       matching = record {
         dual = pentagon_dual;
@@ -138,8 +138,8 @@ start_state = record {
       };
       even = λ d name leaf cover among. even_height d leaf;
     };
-    walks = walks_begin pentagon pentagon_sprouts;
-    outer = outer_begin pentagon_sprouts;
+    walks = walks_begin pentagon pentagon_singles;
+    outer = outer_begin pentagon_singles;
   };
   cycles = record {
     rings =
@@ -195,7 +195,7 @@ second_state =
     (record { plus = refl; tight = one_link pentagon pentagon_leaves 2 3 2 (omega arith) (inl (refl, refl)) refl refl refl refl })
     (inl (refl, refl)) refl (λ e. omega (arith, e)) (search_from_root pentagon first_pair 2 first_state refl)).state
 
--- corner 4 takes up the first pair
+-- corner 4 absorbs the first pair
 pub branch_state : IsSearchState pentagon one_branch
 branch_state =
     state_attached pentagon (search_from 4 second_pair) first_branch (link 2 3 (2 ∷ []) ∷ []) even_edges
@@ -245,7 +245,7 @@ pair_state =
     (state_closed pentagon two_branches 7 1 2 (link 1 2 (1 ∷ [])) [] (first_branch ∷ []) (second_branch ∷ []) may_close both_paths
     branches_state)).state
 
--- and taken up by the last one
+-- and absorbed by the last one
 pub blossom_state : IsSearchState pentagon inner_blossom
 blossom_state =
     state_attached pentagon (search_from 6 blossom_pair) blossom_branch [] even_edges
@@ -289,7 +289,7 @@ same_members xs ys there back n = step (cases_Bool (is_in xs n))
         (false_from_ne_true (is_in ys n)
         (λ k. both_ways (is_in xs n) h (is_in-All (λ y. is_in xs y ≡ true) ys back n k)))
 
-opened_cycle : IsOpenedCycle pentagon inner_blossom.nodes (split 7 inner_blossom.nodes) blossom_branch 2 pentagon_way pentagon_couples inner_blossom.unmatched
+opened_cycle : IsOpenedCycle pentagon inner_blossom.nodes (split_nodes 7 inner_blossom.nodes) blossom_branch 2 pentagon_way pentagon_couples inner_blossom.unmatched
 opened_cycle = record {
   split =
       is_split pentagon inner_blossom.nodes (blossom 7 (4 ∷ 0 ∷ 1 ∷ 2 ∷ 3 ∷ []) pentagon_leaves) (0 ∷ 2 ∷ 1 ∷ 4 ∷ 3 ∷ [])
@@ -304,7 +304,7 @@ opened_cycle = record {
   below = inl (refl, refl);
   passed = (inr (refl, refl), inr (refl, refl), tt);
   coupled =
-      All-from_recursion (λ c. Connects (split 7 inner_blossom.nodes) c.link c.first c.second) pentagon_couples
+      All-from_recursion (λ c. Connects (split_nodes 7 inner_blossom.nodes) c.link c.first c.second) pentagon_couples
       (inl (refl, refl), tt);
   links =
       links_joined pentagon inner_blossom.nodes (link 1 2 (1 ∷ []) ∷ []) (link 0 1 (0 ∷ []) ∷ link 4 3 (3 ∷ []) ∷ [])

@@ -10,7 +10,7 @@ use Rattle.fb_graph.specs.Dual.{all_cuts, leaves}
 use Rattle.fb_graph.specs.declared.parts.Cut.{Cut}
 use Rattle.fb_laws.specs.Opening.{EndAtDefects, IsLevel, single_sets}
 use Rattle.fb_laws.specs.Works.{positive_cuts}
-use Rattle.fb_laws.specs.NestSolutions.{AreChildrenOf, lone_sets}
+use Rattle.fb_laws.specs.NestSolutions.{AreChildrenOf, leaf_sets}
 use Rattle.fb_witnesses.specs.ResolvedWitnesses.{ResolvedWitness, closed_nodes, opened_links, printed_triangle}
 use Rattle.fb_witnesses.specs.Samples.{blossom_cuts, cut, triangle}
 use Rattle.fb_laws.proofs.OpenedLevels.{level_permuted}
@@ -34,7 +34,7 @@ children = record {
   distinct = (refl, (refl, (refl, tt)));
 }
 
-level : IsLevel (positive_cuts closed_nodes) (lone_sets closed_nodes) opened_links
+level : IsLevel (positive_cuts closed_nodes) (leaf_sets closed_nodes) opened_links
 level =
     level_permuted blossom_cuts (single_sets (2 ∷ 0 ∷ 1 ∷ [])) ((0 ∷ []) ∷ (1 ∷ []) ∷ (2 ∷ []) ∷ []) opened_links
     opened_links (IsPermutation-append_comm ((2 ∷ []) ∷ []) ((0 ∷ []) ∷ (1 ∷ []) ∷ []))

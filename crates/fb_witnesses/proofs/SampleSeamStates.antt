@@ -10,8 +10,8 @@ use Rattle.fb_graph.specs.NestUnions.{AreParts}
 use Rattle.fb_laws.specs.FusedStates.{AreFurther, MayMerge}
 use Rattle.fb_witnesses.specs.FusedWitnesses.{SeamWitness, both_ends, freed_end, parted_line}
 use Rattle.fb_laws.specs.Merging.{IsSeam}
-use Rattle.fb_witnesses.specs.Samples.{line, line_part, link, middle_sprouts, sprout}
-use Rattle.fb_graph.specs.Sprouts.{nodes_of}
+use Rattle.fb_witnesses.specs.Samples.{line, line_part, link, middle_singles, single}
+use Rattle.fb_graph.specs.Singles.{nodes_of}
 use Rattle.fb_witnesses.proofs.SampleFusions.{own_by_cases, own_ends}
 use Rattle.fb_witnesses.proofs.SampleSeams.{merging_witness}
 use Rattle.fb_witnesses.proofs.SampleStates.{of_one, of_three}
@@ -31,8 +31,8 @@ parts = record {
   separated = merging_witness.0.separated;
 }
 
-may_merge : MayMerge (line_part (3 ∷ [])) (line_part (1 ∷ [])) (line (1 ∷ 2 ∷ 3 ∷ [])) (nodes_of (sprout 0 3 2 ∷ []))
-    (nodes_of (sprout 1 1 2 ∷ [])) [] []
+may_merge : MayMerge (line_part (3 ∷ [])) (line_part (1 ∷ [])) (line (1 ∷ 2 ∷ 3 ∷ [])) (nodes_of (single 0 3 2 ∷ []))
+    (nodes_of (single 1 1 2 ∷ [])) [] []
 may_merge = record {
   parts = parts;
   names = own_ends;
@@ -51,7 +51,7 @@ part = record {
     whole v (inl h) = parts.left_part.real v h
     whole v (inr h) = parts.right_part.real v h
 
-seam : IsSeam parted_line (line (1 ∷ 2 ∷ 3 ∷ [])) both_ends freed_end (link 1 0 (0 ∷ []) ∷ []) middle_sprouts
+seam : IsSeam parted_line (line (1 ∷ 2 ∷ 3 ∷ [])) both_ends freed_end (link 1 0 (0 ∷ []) ∷ []) middle_singles
     (λ v. v == 2)
 seam = record {
   part = part;
@@ -64,14 +64,14 @@ seam = record {
   defects = merging_witness.5.defects;
 }
 
-further : AreFurther (line (1 ∷ 2 ∷ 3 ∷ [])) both_ends middle_sprouts
+further : AreFurther (line (1 ∷ 2 ∷ 3 ∷ [])) both_ends middle_singles
 further = record {
   names = (refl, tt);
   own =
-      own_by_cases both_ends (nodes_of middle_sprouts)
-      (All-from_recursion (λ n. is_live (nodes_of middle_sprouts) n.name ≡ false) both_ends (refl, (refl, tt)));
+      own_by_cases both_ends (nodes_of middle_singles)
+      (All-from_recursion (λ n. is_live (nodes_of middle_singles) n.name ≡ false) both_ends (refl, (refl, tt)));
   vertices = (refl, tt);
-  real = All-from_recursion (λ s. (line (1 ∷ 2 ∷ 3 ∷ [])).is_real s.vertex ≡ true) middle_sprouts (refl, tt);
+  real = All-from_recursion (λ s. (line (1 ∷ 2 ∷ 3 ∷ [])).is_real s.vertex ≡ true) middle_singles (refl, tt);
 }
 
 pub seam_witness : SeamWitness

@@ -12,58 +12,58 @@ use Rattle.fb_laws.specs.Paths.{LeadsOut}
 use Rattle.fb_graph.specs.Links.{IsTightLink}
 use Rattle.fb_graph.specs.NestUnions.{AreParts}
 use Rattle.fb_laws.specs.Fusion.{IsLinkOf}
-use Rattle.fb_graph.specs.Sprouts.{AreSprouts, nodes_of}
+use Rattle.fb_graph.specs.Singles.{AreSingles, nodes_of}
 use Rattle.fb_laws.specs.Works.{IsMatching, IsSetOf}
 use Rattle.fb_laws.specs.Merging.{Freed}
-use Rattle.fb_witnesses.specs.Samples.{sprout, link, line, line_part, end_sprouts, middle_sprouts}
+use Rattle.fb_witnesses.specs.Samples.{single, link, line, line_part, end_singles, middle_singles}
 use Rattle.fb_witnesses.specs.Witnesses.{MergingWitness}
 use Rattle.fb_laws.proofs.FusedParts.{parts_turned}
 use Rattle.fb_laws.proofs.MergedParts.{matchings_merged}
 use Rattle.fb_witnesses.proofs.SampleLevels.{two_parts, either_end, left_link, right_link}
 use Rattle.fb_witnesses.proofs.SampleParts.{one_height, of_two}
 use Rattle.fb_witnesses.proofs.SampleStates.{fits_by_cases, odd_cut, of_one}
-use Rattle.fb_graph.proofs.SproutStates.{sprouts_are_dual}
+use Rattle.fb_graph.proofs.SingleStates.{singles_are_dual}
 
 turned_parts : AreParts (line_part (3 ∷ [])) (line_part (1 ∷ [])) (line_part (1 ∷ 3 ∷ []))
 turned_parts = parts_turned (line_part (1 ∷ [])) (line_part (3 ∷ [])) (line_part (1 ∷ 3 ∷ [])) two_parts
 
-right_end : AreSprouts (line_part (3 ∷ [])) (sprout 0 3 2 ∷ [])
+right_end : AreSingles (line_part (3 ∷ [])) (single 0 3 2 ∷ [])
 right_end = record {
   names = (refl, tt);
   vertices = (refl, tt);
-  real = All-from_recursion (λ s. is_in (3 ∷ []) s.vertex ≡ true) (sprout 0 3 2 ∷ []) (refl, tt);
+  real = All-from_recursion (λ s. is_in (3 ∷ []) s.vertex ≡ true) (single 0 3 2 ∷ []) (refl, tt);
   packing = record {
     odd =
-        All-from_recursion (IsOddCut (record (line_part (3 ∷ [])) { is_defect = is_in (3 ∷ []) })) (all_cuts (nodes_of (sprout 0 3 2 ∷ [])))
+        All-from_recursion (IsOddCut (record (line_part (3 ∷ [])) { is_defect = is_in (3 ∷ []) })) (all_cuts (nodes_of (single 0 3 2 ∷ [])))
         (odd_cut _ _ (refl, tt) refl refl, tt);
-    fits = fits_by_cases (record (line_part (3 ∷ [])) { is_defect = is_in (3 ∷ []) }) (all_cuts (nodes_of (sprout 0 3 2 ∷ []))) refl;
+    fits = fits_by_cases (record (line_part (3 ∷ [])) { is_defect = is_in (3 ∷ []) }) (all_cuts (nodes_of (single 0 3 2 ∷ []))) refl;
   };
-  held = All-from_recursion (IsHeld (line_part (3 ∷ []))) (all_cuts (nodes_of (sprout 0 3 2 ∷ []))) (inr (2, omega arith, refl), tt);
+  held = All-from_recursion (IsHeld (line_part (3 ∷ []))) (all_cuts (nodes_of (single 0 3 2 ∷ []))) (inr (2, omega arith, refl), tt);
   total = omega arith;
 }
 
-left_end : AreSprouts (line_part (1 ∷ [])) (sprout 1 1 2 ∷ [])
+left_end : AreSingles (line_part (1 ∷ [])) (single 1 1 2 ∷ [])
 left_end = record {
   names = (refl, tt);
   vertices = (refl, tt);
-  real = All-from_recursion (λ s. is_in (1 ∷ []) s.vertex ≡ true) (sprout 1 1 2 ∷ []) (refl, tt);
+  real = All-from_recursion (λ s. is_in (1 ∷ []) s.vertex ≡ true) (single 1 1 2 ∷ []) (refl, tt);
   packing = record {
     odd =
-        All-from_recursion (IsOddCut (record (line_part (1 ∷ [])) { is_defect = is_in (1 ∷ []) })) (all_cuts (nodes_of (sprout 1 1 2 ∷ [])))
+        All-from_recursion (IsOddCut (record (line_part (1 ∷ [])) { is_defect = is_in (1 ∷ []) })) (all_cuts (nodes_of (single 1 1 2 ∷ [])))
         (odd_cut _ _ (refl, tt) refl refl, tt);
-    fits = fits_by_cases (record (line_part (1 ∷ [])) { is_defect = is_in (1 ∷ []) }) (all_cuts (nodes_of (sprout 1 1 2 ∷ []))) refl;
+    fits = fits_by_cases (record (line_part (1 ∷ [])) { is_defect = is_in (1 ∷ []) }) (all_cuts (nodes_of (single 1 1 2 ∷ []))) refl;
   };
-  held = All-from_recursion (IsHeld (line_part (1 ∷ []))) (all_cuts (nodes_of (sprout 1 1 2 ∷ []))) (inr (0, omega arith, refl), tt);
+  held = All-from_recursion (IsHeld (line_part (1 ∷ []))) (all_cuts (nodes_of (single 1 1 2 ∷ []))) (inr (0, omega arith, refl), tt);
   total = omega arith;
 }
 
-right_matching : IsMatching (line_part (3 ∷ [])) (nodes_of (sprout 0 3 2 ∷ [])) (link 3 2 (2 ∷ []) ∷ []) []
+right_matching : IsMatching (line_part (3 ∷ [])) (nodes_of (single 0 3 2 ∷ [])) (link 3 2 (2 ∷ []) ∷ []) []
 right_matching = record {
-  dual = sprouts_are_dual (line_part (3 ∷ [])) (sprout 0 3 2 ∷ []) right_end;
+  dual = singles_are_dual (line_part (3 ∷ [])) (single 0 3 2 ∷ []) right_end;
   defects = of_one (λ v. is_in (1 ∷ 3 ∷ []) v ≡ is_in (3 ∷ []) v) 3 refl;
   links_are = record {
     tight =
-        All-from_recursion (IsTightLink (line_part (3 ∷ [])) (all_cuts (nodes_of (sprout 0 3 2 ∷ [])))) (link 3 2 (2 ∷ []) ∷ [])
+        All-from_recursion (IsTightLink (line_part (3 ∷ [])) (all_cuts (nodes_of (single 0 3 2 ∷ [])))) (link 3 2 (2 ∷ []) ∷ [])
         (record { walk = right_link.walk; tight = refl }, tt);
     own = All-from_recursion (IsLinkOf (line_part (3 ∷ []))) (link 3 2 (2 ∷ []) ∷ []) (right_link, tt);
     at_defects =
@@ -73,20 +73,20 @@ right_matching = record {
   };
   matched =
       All-from_recursion
-      (λ n. is_outer (nodes_of (sprout 0 3 2 ∷ [])) n.name ≡ true → ends_in n.top.vertices (link 3 2 (2 ∷ []) ∷ []) + as_count (is_in [] n.name) ≡ 1)
-      (nodes_of (sprout 0 3 2 ∷ [])) (λ outer. refl, tt);
+      (λ n. is_outer (nodes_of (single 0 3 2 ∷ [])) n.name ≡ true → ends_in n.top.vertices (link 3 2 (2 ∷ []) ∷ []) + as_count (is_in [] n.name) ≡ 1)
+      (nodes_of (single 0 3 2 ∷ [])) (λ outer. refl, tt);
   one_parity =
-      one_height (nodes_of (sprout 0 3 2 ∷ [])) 0
-      (of_one (λ d. height_of (all_cuts (nodes_of (sprout 0 3 2 ∷ []))) d % 2 ≡ 0) 3 refl);
+      one_height (nodes_of (single 0 3 2 ∷ [])) 0
+      (of_one (λ d. height_of (all_cuts (nodes_of (single 0 3 2 ∷ []))) d % 2 ≡ 0) 3 refl);
 }
 
-left_matching : IsMatching (line_part (1 ∷ [])) (nodes_of (sprout 1 1 2 ∷ [])) (link 1 0 (0 ∷ []) ∷ []) []
+left_matching : IsMatching (line_part (1 ∷ [])) (nodes_of (single 1 1 2 ∷ [])) (link 1 0 (0 ∷ []) ∷ []) []
 left_matching = record {
-  dual = sprouts_are_dual (line_part (1 ∷ [])) (sprout 1 1 2 ∷ []) left_end;
+  dual = singles_are_dual (line_part (1 ∷ [])) (single 1 1 2 ∷ []) left_end;
   defects = of_one (λ v. is_in (1 ∷ 3 ∷ []) v ≡ is_in (1 ∷ []) v) 1 refl;
   links_are = record {
     tight =
-        All-from_recursion (IsTightLink (line_part (1 ∷ [])) (all_cuts (nodes_of (sprout 1 1 2 ∷ [])))) (link 1 0 (0 ∷ []) ∷ [])
+        All-from_recursion (IsTightLink (line_part (1 ∷ [])) (all_cuts (nodes_of (single 1 1 2 ∷ [])))) (link 1 0 (0 ∷ []) ∷ [])
         (record { walk = left_link.walk; tight = refl }, tt);
     own = All-from_recursion (IsLinkOf (line_part (1 ∷ []))) (link 1 0 (0 ∷ []) ∷ []) (left_link, tt);
     at_defects =
@@ -96,45 +96,45 @@ left_matching = record {
   };
   matched =
       All-from_recursion
-      (λ n. is_outer (nodes_of (sprout 1 1 2 ∷ [])) n.name ≡ true → ends_in n.top.vertices (link 1 0 (0 ∷ []) ∷ []) + as_count (is_in [] n.name) ≡ 1)
-      (nodes_of (sprout 1 1 2 ∷ [])) (λ outer. refl, tt);
+      (λ n. is_outer (nodes_of (single 1 1 2 ∷ [])) n.name ≡ true → ends_in n.top.vertices (link 1 0 (0 ∷ []) ∷ []) + as_count (is_in [] n.name) ≡ 1)
+      (nodes_of (single 1 1 2 ∷ [])) (λ outer. refl, tt);
   one_parity =
-      one_height (nodes_of (sprout 1 1 2 ∷ [])) 0
-      (of_one (λ d. height_of (all_cuts (nodes_of (sprout 1 1 2 ∷ []))) d % 2 ≡ 0) 1 refl);
+      one_height (nodes_of (single 1 1 2 ∷ [])) 0
+      (of_one (λ d. height_of (all_cuts (nodes_of (single 1 1 2 ∷ []))) d % 2 ≡ 0) 1 refl);
 }
 
-both_ends : IsDual (line_part (1 ∷ 3 ∷ [])) (nodes_of end_sprouts)
+both_ends : IsDual (line_part (1 ∷ 3 ∷ [])) (nodes_of end_singles)
 both_ends =
-    sprouts_are_dual (line_part (1 ∷ 3 ∷ [])) end_sprouts (record {
+    singles_are_dual (line_part (1 ∷ 3 ∷ [])) end_singles (record {
       names = (refl, (refl, tt));
       vertices = (refl, (refl, tt));
-      real = All-from_recursion (λ s. is_in (1 ∷ 3 ∷ []) s.vertex ≡ true) end_sprouts (refl, (refl, tt));
+      real = All-from_recursion (λ s. is_in (1 ∷ 3 ∷ []) s.vertex ≡ true) end_singles (refl, (refl, tt));
       packing = record {
         odd =
-            All-from_recursion (IsOddCut (record (line_part (1 ∷ 3 ∷ [])) { is_defect = is_in (3 ∷ 1 ∷ []) })) (all_cuts (nodes_of end_sprouts))
+            All-from_recursion (IsOddCut (record (line_part (1 ∷ 3 ∷ [])) { is_defect = is_in (3 ∷ 1 ∷ []) })) (all_cuts (nodes_of end_singles))
             (odd_cut _ _ (refl, tt) refl refl, (odd_cut _ _ (refl, tt) refl refl, tt));
-        fits = fits_by_cases (record (line_part (1 ∷ 3 ∷ [])) { is_defect = is_in (3 ∷ 1 ∷ []) }) (all_cuts (nodes_of end_sprouts)) refl;
+        fits = fits_by_cases (record (line_part (1 ∷ 3 ∷ [])) { is_defect = is_in (3 ∷ 1 ∷ []) }) (all_cuts (nodes_of end_singles)) refl;
       };
       held =
-          All-from_recursion (IsHeld (line_part (1 ∷ 3 ∷ []))) (all_cuts (nodes_of end_sprouts))
+          All-from_recursion (IsHeld (line_part (1 ∷ 3 ∷ []))) (all_cuts (nodes_of end_singles))
           (inr (2, omega arith, refl), (inr (0, omega arith, refl), tt));
       total = omega arith;
     })
 
-with_middle : IsDual (line (1 ∷ 2 ∷ 3 ∷ [])) (nodes_of (end_sprouts ++ middle_sprouts))
+with_middle : IsDual (line (1 ∷ 2 ∷ 3 ∷ [])) (nodes_of (end_singles ++ middle_singles))
 with_middle =
-    sprouts_are_dual (line (1 ∷ 2 ∷ 3 ∷ [])) (end_sprouts ++ middle_sprouts) (record {
+    singles_are_dual (line (1 ∷ 2 ∷ 3 ∷ [])) (end_singles ++ middle_singles) (record {
       names = (refl, (refl, (refl, tt)));
       vertices = (refl, (refl, (refl, tt)));
-      real = All-from_recursion (λ s. is_in (1 ∷ 2 ∷ 3 ∷ []) s.vertex ≡ true) (end_sprouts ++ middle_sprouts) (refl, (refl, (refl, tt)));
+      real = All-from_recursion (λ s. is_in (1 ∷ 2 ∷ 3 ∷ []) s.vertex ≡ true) (end_singles ++ middle_singles) (refl, (refl, (refl, tt)));
       packing = record {
         odd =
-            All-from_recursion (IsOddCut (line (3 ∷ 1 ∷ 2 ∷ []))) (all_cuts (nodes_of (end_sprouts ++ middle_sprouts)))
+            All-from_recursion (IsOddCut (line (3 ∷ 1 ∷ 2 ∷ []))) (all_cuts (nodes_of (end_singles ++ middle_singles)))
             (odd_cut _ _ (refl, tt) refl refl, (odd_cut _ _ (refl, tt) refl refl, (odd_cut _ _ (refl, tt) refl refl, tt)));
-        fits = fits_by_cases (line (3 ∷ 1 ∷ 2 ∷ [])) (all_cuts (nodes_of (end_sprouts ++ middle_sprouts))) refl;
+        fits = fits_by_cases (line (3 ∷ 1 ∷ 2 ∷ [])) (all_cuts (nodes_of (end_singles ++ middle_singles))) refl;
       };
       held =
-          All-from_recursion (IsHeld (line (1 ∷ 2 ∷ 3 ∷ []))) (all_cuts (nodes_of (end_sprouts ++ middle_sprouts)))
+          All-from_recursion (IsHeld (line (1 ∷ 2 ∷ 3 ∷ []))) (all_cuts (nodes_of (end_singles ++ middle_singles)))
           (inr (2, omega arith, refl), (inr (0, omega arith, refl), (inl refl, tt)));
       total = omega arith;
     })
@@ -157,8 +157,8 @@ merging_witness = (
   right_matching,
   left_matching,
   both_ends,
-  matchings_merged (line_part (3 ∷ [])) (line_part (1 ∷ [])) (line_part (1 ∷ 3 ∷ [])) (nodes_of (sprout 0 3 2 ∷ []))
-      (nodes_of (sprout 1 1 2 ∷ [])) (link 3 2 (2 ∷ []) ∷ []) (link 1 0 (0 ∷ []) ∷ []) [] [] turned_parts
+  matchings_merged (line_part (3 ∷ [])) (line_part (1 ∷ [])) (line_part (1 ∷ 3 ∷ [])) (nodes_of (single 0 3 2 ∷ []))
+      (nodes_of (single 1 1 2 ∷ [])) (link 3 2 (2 ∷ []) ∷ []) (link 1 0 (0 ∷ []) ∷ []) [] [] turned_parts
       (λ v real. swapped v (either_end v real)) both_ends (λ n h. absurd (false≢true h)) (λ n h. absurd (false≢true h)) right_matching
       left_matching,
   record {
@@ -171,12 +171,12 @@ merging_witness = (
     unreal = at_middle (λ v. is_in (1 ∷ 3 ∷ []) v ≡ false) refl;
     freed_are =
         All-from_recursion
-        (λ f. IsSetOf (nodes_of end_sprouts) f.name f.set × LeadsOut f.link f.set f.seam × ((f.seam == 2) ≡ true)) seam_freed
+        (λ f. IsSetOf (nodes_of end_singles) f.name f.set × LeadsOut f.link f.set f.seam × ((f.seam == 2) ≡ true)) seam_freed
         (((0, omega arith, refl, refl, refl), inl (refl, refl), refl), tt);
     elsewhere =
         All-from_recursion (λ l. ((l.from == 2) ≡ false) × ((l.to == 2) ≡ false)) (link 1 0 (0 ∷ []) ∷ []) ((refl, refl), tt);
-    at_seam = All-from_recursion (λ s. (s.vertex == 2) ≡ true) middle_sprouts (refl, tt);
-    bare = All-from_recursion (λ s. s.value ≡ 0) middle_sprouts (refl, tt);
+    at_seam = All-from_recursion (λ s. (s.vertex == 2) ≡ true) middle_singles (refl, tt);
+    bare = All-from_recursion (λ s. s.value ≡ 0) middle_singles (refl, tt);
     defects = at_middle (λ v. is_in (1 ∷ 2 ∷ 3 ∷ []) v ≡ is_in (2 ∷ []) v) refl;
   },
   with_middle,

@@ -11,20 +11,20 @@ use Rattle.fb_graph.specs.Ends.{ends_in}
 use Rattle.fb_laws.specs.Fusion.{IsLinkOf}
 use Rattle.fb_graph.specs.Links.{IsTightLink, AreEven}
 use Rattle.fb_witnesses.specs.Samples.{line, link}
-use Rattle.fb_graph.specs.Sprouts.{AreSprouts}
+use Rattle.fb_graph.specs.Singles.{AreSingles}
 use Rattle.fb_laws.specs.Works.{AreMatchedLinks, IsMatching}
 use Rattle.fb_laws.specs.Searches.{IsSearch}
-use Rattle.fb_witnesses.specs.SearchWitnesses.{chain_sprouts, chain_nodes, chain_branch, SearchWitness}
+use Rattle.fb_witnesses.specs.SearchWitnesses.{chain_singles, chain_nodes, chain_branch, SearchWitness}
 use Rattle.fb_witnesses.proofs.SampleParts.{one_height}
 use Rattle.fb_witnesses.proofs.SampleStates.{fits_by_cases, odd_cut, of_three}
 use Rattle.fb_laws.proofs.SearchStates.{search_attached}
-use Rattle.fb_graph.proofs.SproutStates.{sprouts_are_dual}
+use Rattle.fb_graph.proofs.SingleStates.{singles_are_dual}
 
-chain_are_sprouts : AreSprouts (line (1 ∷ 2 ∷ 3 ∷ [])) chain_sprouts
-chain_are_sprouts = record {
+chain_are_singles : AreSingles (line (1 ∷ 2 ∷ 3 ∷ [])) chain_singles
+chain_are_singles = record {
   names = (refl, (refl, (refl, tt)));
   vertices = (refl, (refl, (refl, tt)));
-  real = All-from_recursion (λ s. is_in (1 ∷ 2 ∷ 3 ∷ []) s.vertex ≡ true) chain_sprouts (refl, (refl, (refl, tt)));
+  real = All-from_recursion (λ s. is_in (1 ∷ 2 ∷ 3 ∷ []) s.vertex ≡ true) chain_singles (refl, (refl, (refl, tt)));
   packing = record {
     odd =
         All-from_recursion (IsOddCut (line (1 ∷ 2 ∷ 3 ∷ []))) (all_cuts chain_nodes)
@@ -89,7 +89,7 @@ even_heights = of_three (λ d. height_of (all_cuts chain_nodes) d % 2 ≡ 0) 1 2
 
 chain_matching : IsMatching (line (1 ∷ 2 ∷ 3 ∷ [])) chain_nodes (link 2 1 (1 ∷ []) ∷ []) (2 ∷ [])
 chain_matching = record {
-  dual = sprouts_are_dual (line (1 ∷ 2 ∷ 3 ∷ [])) chain_sprouts chain_are_sprouts;
+  dual = singles_are_dual (line (1 ∷ 2 ∷ 3 ∷ [])) chain_singles chain_are_singles;
   defects = λ v real. refl;
   links_are = matched_pair;
   matched =

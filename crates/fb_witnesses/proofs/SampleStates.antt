@@ -13,17 +13,17 @@ use Rattle.fb_graph.specs.declared.parts.Cut.{Cut}
 use Rattle.fb_graph.proofs.ParitySums.{odd_agree, odd_none}
 use Rattle.fb_graph.proofs.Sets.{is_in-All, rising-one}
 use Rattle.fb_graph.proofs.Duality.{odd-crosses}
-use Rattle.fb_graph.specs.Steps.{Roles, AreExclusive, gains, losses, MayStep, stepped}
+use Rattle.fb_graph.specs.Steps.{Roles, AreExclusive, gains, losses, MayStep, stepped_nodes}
 use Rattle.fb_laws.specs.Lengths.{IsGreatestStep}
 use Rattle.fb_graph.specs.Covers.{AreRoles, PassOuterOnly, HasNoObstacle, IsClear}
-use Rattle.fb_laws.specs.Signed.{shifted}
+use Rattle.fb_laws.specs.Signed.{shifted_problem}
 use Rattle.fb_graph.specs.Ends.{ends_in}
 use Rattle.fb_laws.specs.Paths.{IsWhole}
 use Rattle.fb_laws.specs.Blossoms.{IsInside}
-use Rattle.fb_graph.specs.Sprouts.{AreSprouts}
-use Rattle.fb_witnesses.specs.Samples.{cut, link, line, triangle, line_sprouts, line_nodes, line_roles, grown_nodes, grown_roles, corner_sprouts, corner_nodes, corner_roles}
+use Rattle.fb_graph.specs.Singles.{AreSingles}
+use Rattle.fb_witnesses.specs.Samples.{cut, link, line, triangle, line_singles, line_nodes, line_roles, grown_nodes, grown_roles, corner_singles, corner_nodes, corner_roles}
 use Rattle.fb_witnesses.specs.Witnesses.{StepWitness, DualWitness, CoverWitness, SignedWitness, LinkWitness, PathWitness, BlossomWitness, line_path}
-use Rattle.fb_graph.proofs.SproutStates.{sprouts_are_dual}
+use Rattle.fb_graph.proofs.SingleStates.{singles_are_dual}
 
 -- a problem with a correction has no odd closed set, since no chosen edge crosses one
 pub no_odd_closed_by : (p : Problem) (chosen : List ℕ) → All (λ k. k < length p.edges) chosen → Flips p chosen → HasNoOddClosed p
@@ -103,19 +103,19 @@ step_witness = (
   refl,
   refl,
   may_by_cases (line (1 ∷ 2 ∷ 3 ∷ [])) line_roles line_nodes 1 refl (line_allows 1 (omega arith)),
-  may_by_cases (line (1 ∷ 2 ∷ 3 ∷ [])) line_roles (stepped line_roles 1 line_nodes) 1 refl
-      (All-from_recursion (λ n. line_roles.is_minus n.name ≡ true → 1 ≤ n.top.value) (stepped line_roles 1 line_nodes)
+  may_by_cases (line (1 ∷ 2 ∷ 3 ∷ [])) line_roles (stepped_nodes line_roles 1 line_nodes) 1 refl
+      (All-from_recursion (λ n. line_roles.is_minus n.name ≡ true → 1 ≤ n.top.value) (stepped_nodes line_roles 1 line_nodes)
       (λ e. absurd (false≢true e), (λ e. omega arith, (λ e. absurd (false≢true e), tt)))),
   line_greatest,
   (0, omega arith, refl),
   no_odd_closed_by (line (1 ∷ 2 ∷ 3 ∷ [])) (0 ∷ 2 ∷ []) (below_by_cases 4 (0 ∷ 2 ∷ []) refl) line_flips,
 )
 
-line_are_sprouts : AreSprouts (line (1 ∷ 2 ∷ 3 ∷ [])) line_sprouts
-line_are_sprouts = record {
+line_are_singles : AreSingles (line (1 ∷ 2 ∷ 3 ∷ [])) line_singles
+line_are_singles = record {
   names = (refl, (refl, (refl, tt)));
   vertices = (refl, (refl, (refl, tt)));
-  real = All-from_recursion (λ s. is_in (1 ∷ 2 ∷ 3 ∷ []) s.vertex ≡ true) line_sprouts (refl, (refl, (refl, tt)));
+  real = All-from_recursion (λ s. is_in (1 ∷ 2 ∷ 3 ∷ []) s.vertex ≡ true) line_singles (refl, (refl, (refl, tt)));
   packing = line_packing;
   held =
       All-from_recursion (IsHeld (line (1 ∷ 2 ∷ 3 ∷ []))) (all_cuts line_nodes)
@@ -123,11 +123,11 @@ line_are_sprouts = record {
   total = omega arith;
 }
 
-pub corners_are_sprouts : AreSprouts triangle corner_sprouts
-corners_are_sprouts = record {
+pub corners_are_singles : AreSingles triangle corner_singles
+corners_are_singles = record {
   names = (refl, (refl, (refl, tt)));
   vertices = (refl, (refl, (refl, tt)));
-  real = All-from_recursion (λ s. is_in (0 ∷ 1 ∷ 2 ∷ []) s.vertex ≡ true) corner_sprouts (refl, (refl, (refl, tt)));
+  real = All-from_recursion (λ s. is_in (0 ∷ 1 ∷ 2 ∷ []) s.vertex ≡ true) corner_singles (refl, (refl, (refl, tt)));
   packing = record {
     odd =
         All-from_recursion (IsOddCut triangle) (all_cuts corner_nodes)
@@ -172,8 +172,8 @@ line_clear = record {
 
 pub dual_witness : DualWitness
 dual_witness = (
-  line_are_sprouts,
-  sprouts_are_dual (line (1 ∷ 2 ∷ 3 ∷ [])) line_sprouts line_are_sprouts,
+  line_are_singles,
+  singles_are_dual (line (1 ∷ 2 ∷ 3 ∷ [])) line_singles line_are_singles,
   line_are_roles,
   λ d name leaf.
       of_three (λ v. cover_of line_nodes v ≡ Some name → line_roles.is_plus name ≡ true → height_of (all_cuts line_nodes) v % 2 ≡ 0)
@@ -209,7 +209,7 @@ two_corners (name, first, second) = let a : Some 0 ≡ Some name = first in let 
 
 pub cover_witness : CoverWitness
 cover_witness = (
-  sprouts_are_dual triangle corner_sprouts corners_are_sprouts,
+  singles_are_dual triangle corner_singles corners_are_singles,
   corner_are_roles,
   λ d name leaf.
       of_three (λ v. cover_of corner_nodes v ≡ Some name → corner_roles.is_plus name ≡ true → height_of (all_cuts corner_nodes) v % 2 ≡ 1)
@@ -225,12 +225,12 @@ cover_witness = (
   refl,
 )
 
-signed_packing : IsPacking (shifted (line (2 ∷ [])) (λ k. k == 1)) (cut 2 (1 ∷ []) ∷ [])
+signed_packing : IsPacking (shifted_problem (line (2 ∷ [])) (λ k. k == 1)) (cut 2 (1 ∷ []) ∷ [])
 signed_packing = record {
   odd =
-      All-from_recursion (IsOddCut (shifted (line (2 ∷ [])) (λ k. k == 1))) (cut 2 (1 ∷ []) ∷ [])
-      (odd_cut (shifted (line (2 ∷ [])) (λ k. k == 1)) (cut 2 (1 ∷ [])) (refl, tt) refl refl, tt);
-  fits = fits_by_cases (shifted (line (2 ∷ [])) (λ k. k == 1)) (cut 2 (1 ∷ []) ∷ []) refl;
+      All-from_recursion (IsOddCut (shifted_problem (line (2 ∷ [])) (λ k. k == 1))) (cut 2 (1 ∷ []) ∷ [])
+      (odd_cut (shifted_problem (line (2 ∷ [])) (λ k. k == 1)) (cut 2 (1 ∷ [])) (refl, tt) refl refl, tt);
+  fits = fits_by_cases (shifted_problem (line (2 ∷ [])) (λ k. k == 1)) (cut 2 (1 ∷ []) ∷ []) refl;
 }
 
 two_flips : Flips (line (2 ∷ [])) (0 ∷ 1 ∷ [])
@@ -244,7 +244,7 @@ signed_witness = (
     edge_set = record { rising = rising-one 0; within = below_by_cases 4 (0 ∷ []) refl };
     flips =
         of_three
-        (λ v. is_odd_count (λ k. touches v (edge_at (line []).edges k)) (0 ∷ []) ≡ (shifted (line (2 ∷ [])) (λ k. k == 1)).is_defect v)
+        (λ v. is_odd_count (λ k. touches v (edge_at (line []).edges k)) (0 ∷ []) ≡ (shifted_problem (line (2 ∷ [])) (λ k. k == 1)).is_defect v)
         1 2 3 refl refl refl;
     weighs = refl;
   },

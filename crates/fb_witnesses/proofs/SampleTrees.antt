@@ -15,29 +15,29 @@ use Rattle.fb_graph.specs.Counts.{as_count}
 use Rattle.fb_graph.specs.Ends.{ends_in}
 use Rattle.fb_laws.specs.Fusion.{IsLinkOf}
 use Rattle.fb_graph.specs.Links.{IsTightLink, AreEven}
-use Rattle.fb_graph.specs.Moves.{MayTakeUp, MayUncover, joined, uncovered}
+use Rattle.fb_graph.specs.Moves.{MayAbsorb, MayUncover, joined_nodes, uncovered_nodes}
 use Rattle.fb_graph.specs.Nests.{IsNest}
 use Rattle.fb_witnesses.specs.Samples.{link, triangle, corner_nodes}
 use Rattle.fb_laws.specs.SearchBlossoms.{IsJoining}
 use Rattle.fb_laws.specs.Searches.{IsSearch, IsOuterNode}
 use Rattle.fb_graph.specs.SourceWalks.{HaveWalks}
-use Rattle.fb_graph.specs.Sprouts.{AreSprouts, nodes_of}
+use Rattle.fb_graph.specs.Singles.{AreSingles, nodes_of}
 use Rattle.fb_laws.specs.Trees.{Entry, IsTree, grown_links, paired_links, tree_names}
-use Rattle.fb_witnesses.specs.TreeWitnesses.{LayerWitness, JoiningWitness, long_line, long_sprouts, thin_nodes, thin_branch, corner_branch, base_corner, other_corners, open_line, open_sprouts}
+use Rattle.fb_witnesses.specs.TreeWitnesses.{LayerWitness, JoiningWitness, long_line, long_singles, thin_nodes, thin_branch, corner_branch, base_corner, other_corners, open_line, open_singles}
 use Rattle.fb_laws.specs.UnmatchedNames.{AreOuterNames}
-use Rattle.fb_laws.specs.Works.{AreMatchedLinks, AreMatched, HasDefects, IsSetOf, without}
-use Rattle.fb_graph.proofs.BeginningNests.{sprouts_are_nest}
+use Rattle.fb_laws.specs.Works.{AreMatchedLinks, AreMatched, HasDefects, IsSetOf, names_without}
+use Rattle.fb_graph.proofs.BeginningNests.{singles_are_nest}
 use Rattle.fb_graph.proofs.JoinedNests.{nest_joined}
 use Rattle.fb_graph.proofs.TallerNodes.{taller_alike}
 use Rattle.fb_graph.proofs.LoweredNests.{nest_uncovered}
 use Rattle.fb_laws.proofs.MoveBridges.{joining_allowed}
-use Rattle.fb_graph.proofs.RaisedNests.{nest_taken_up}
+use Rattle.fb_graph.proofs.RaisedNests.{nest_absorbed}
 use Rattle.fb_witnesses.proofs.SampleNests.{corner_nest}
 use Rattle.fb_witnesses.proofs.SampleParts.{corner_height, one_height}
 use Rattle.fb_witnesses.proofs.SampleStates.{fits_by_cases, odd_cut, of_three}
-use Rattle.fb_graph.proofs.SourceWalks.{walks_begin, walks_taken_up}
-use Rattle.fb_graph.proofs.SproutStates.{sprouts_are_dual}
-use Rattle.fb_laws.proofs.UnmatchedNames.{all_outer, outer_taken_up}
+use Rattle.fb_graph.proofs.SourceWalks.{walks_begin, walks_absorbed}
+use Rattle.fb_graph.proofs.SingleStates.{singles_are_dual}
+use Rattle.fb_laws.proofs.UnmatchedNames.{all_outer, outer_absorbed}
 
 some_walk : (k : ℕ) (ks : List ℕ) → (k ∷ ks) ≢ []
 some_walk k ks e = cc
@@ -75,7 +75,7 @@ pub one_search : (p : Problem) (nodes : List Node) (tree : List Entry) (rest : L
     → ((d : ℕ) → is_in (leaves nodes) d ≡ true → height_of (all_cuts nodes) d % 2 ≡ r) → IsOuterNode nodes root
     → AreDistinct (tree_names root tree) → IsTree nodes root tree → AreMatchedLinks p nodes (grown_links tree)
     → IsSearch p nodes tree rest (root ∷ []) root r
-one_search p nodes tree rest root r dual defects links matched heights root_is names joined grown = record {
+one_search p nodes tree rest root r dual defects links matched heights root_is names joined_nodes grown = record {
   matching = record {
     dual = dual;
     defects = defects;
@@ -86,33 +86,33 @@ one_search p nodes tree rest root r dual defects links matched heights root_is n
   root_is = root_is;
   open_root = is_in-head root [];
   names = names;
-  joined = joined;
+  joined = joined_nodes;
   grown = grown;
   parity = λ d name leaf cover among. heights d leaf;
   even = λ d name leaf cover among. absurd (none_left name among);
 }
   where
-    none_left : (name : ℕ) → is_in (without root (root ∷ [])) name ≡ true → ⊥
+    none_left : (name : ℕ) → is_in (names_without root (root ∷ [])) name ≡ true → ⊥
     none_left name among =
         false≢true (ap (λ b. is_in (cond (not b) (root ∷ []) []) name) (sym (eq-eqb root root refl)) ∙ among)
 
 -- the longer line
 
-long_are_sprouts : AreSprouts long_line long_sprouts
-long_are_sprouts = record {
+long_are_singles : AreSingles long_line long_singles
+long_are_singles = record {
   names = (refl, (refl, (refl, tt)));
   vertices = (refl, (refl, (refl, tt)));
-  real = All-from_recursion (λ s. long_line.is_real s.vertex ≡ true) long_sprouts (refl, (refl, (refl, tt)));
+  real = All-from_recursion (λ s. long_line.is_real s.vertex ≡ true) long_singles (refl, (refl, (refl, tt)));
   packing = record {
     odd =
-        All-from_recursion (IsOddCut long_line) (all_cuts (nodes_of long_sprouts)) (
+        All-from_recursion (IsOddCut long_line) (all_cuts (nodes_of long_singles)) (
           odd_cut _ _ (refl, tt) refl refl,
           (odd_cut _ _ (refl, tt) refl refl, (odd_cut _ _ (refl, tt) refl refl, tt)),
         );
-    fits = fits_by_cases long_line (all_cuts (nodes_of long_sprouts)) refl;
+    fits = fits_by_cases long_line (all_cuts (nodes_of long_singles)) refl;
   };
   held =
-      All-from_recursion (IsHeld long_line) (all_cuts (nodes_of long_sprouts))
+      All-from_recursion (IsHeld long_line) (all_cuts (nodes_of long_singles))
       (inr (0, omega arith, refl), (inr (2, omega arith, refl), (inl refl, tt)));
   total = omega arith;
 }
@@ -120,13 +120,13 @@ long_are_sprouts = record {
 pub even_long : AreEven long_line
 even_long = All-from_recursion (λ e. e.weight % 2 ≡ 0) long_line.edges (refl, (refl, (refl, (refl, (refl, tt)))))
 
-long_nest : IsNest long_line (nodes_of long_sprouts)
+long_nest : IsNest long_line (nodes_of long_singles)
 long_nest =
-    sprouts_are_nest long_line long_sprouts (refl, (refl, (refl, tt)))
-    (sprouts_are_dual long_line long_sprouts long_are_sprouts)
+    singles_are_nest long_line long_singles (refl, (refl, (refl, tt)))
+    (singles_are_dual long_line long_singles long_are_singles)
 
--- the second defect's node may take up the vertex between the first two
-may_rise : MayTakeUp long_line (nodes_of long_sprouts) 1 2 3 2
+-- the second defect's node may absorb the vertex between the first two
+may_rise : MayAbsorb long_line (nodes_of long_singles) 1 2 3 2
 may_rise = record {
   within = omega arith;
   leads = inr (refl, refl);
@@ -137,14 +137,14 @@ may_rise = record {
 }
 
 pub thin_nest : IsNest long_line thin_nodes
-thin_nest = nest_taken_up long_line (nodes_of long_sprouts) 1 2 3 2 even_long may_rise long_nest
+thin_nest = nest_absorbed long_line (nodes_of long_singles) 1 2 3 2 even_long may_rise long_nest
 
 pub thin_walks : HaveWalks long_line thin_nodes
 thin_walks =
-    walks_taken_up long_line (nodes_of long_sprouts) 1 2 3 2 may_rise long_nest (walks_begin long_line long_sprouts)
+    walks_absorbed long_line (nodes_of long_singles) 1 2 3 2 may_rise long_nest (walks_begin long_line long_singles)
 
 pub thin_outer : AreOuterNames thin_nodes (0 ∷ [])
-thin_outer = outer_taken_up (nodes_of long_sprouts) 1 2 (0 ∷ []) (λ n among. all_outer long_sprouts n)
+thin_outer = outer_absorbed (nodes_of long_singles) 1 2 (0 ∷ []) (λ n among. all_outer long_singles n)
 
 pub thin_search : IsSearch long_line thin_nodes (thin_branch ∷ []) [] (0 ∷ []) 0 0
 thin_search =
@@ -174,7 +174,7 @@ may_thin = record {
 pub layer_witness : LayerWitness
 layer_witness = (
   thin_search,
-  (taller_alike (uncovered 1 thin_nodes) 1 2 refl).1,
+  (taller_alike (uncovered_nodes 1 thin_nodes) 1 2 refl).1,
   (nest_uncovered long_line thin_nodes 1 may_thin thin_nest).dual,
   refl,
   refl,
@@ -232,40 +232,40 @@ corner_joining = record {
   fresh = refl;
 }
 
-open_are_sprouts : AreSprouts open_line open_sprouts
-open_are_sprouts = record {
+open_are_singles : AreSingles open_line open_singles
+open_are_singles = record {
   names = (refl, (refl, (refl, tt)));
   vertices = (refl, (refl, (refl, tt)));
-  real = All-from_recursion (λ s. open_line.is_real s.vertex ≡ true) open_sprouts (refl, (refl, (refl, tt)));
+  real = All-from_recursion (λ s. open_line.is_real s.vertex ≡ true) open_singles (refl, (refl, (refl, tt)));
   packing = record {
     odd =
-        All-from_recursion (IsOddCut open_line) (all_cuts (nodes_of open_sprouts)) (
+        All-from_recursion (IsOddCut open_line) (all_cuts (nodes_of open_singles)) (
           odd_cut _ _ (refl, tt) refl refl,
           (odd_cut _ _ (refl, tt) refl refl, (odd_cut _ _ (refl, tt) refl refl, tt)),
         );
-    fits = fits_by_cases open_line (all_cuts (nodes_of open_sprouts)) refl;
+    fits = fits_by_cases open_line (all_cuts (nodes_of open_singles)) refl;
   };
   held =
-      All-from_recursion (IsHeld open_line) (all_cuts (nodes_of open_sprouts))
+      All-from_recursion (IsHeld open_line) (all_cuts (nodes_of open_singles))
       (inr (0, omega arith, refl), (inl refl, (inr (1, omega arith, refl), tt)));
   total = omega arith;
 }
 
-open_search : IsSearch open_line (nodes_of open_sprouts) (corner_branch ∷ []) [] (2 ∷ []) 2 0
+open_search : IsSearch open_line (nodes_of open_singles) (corner_branch ∷ []) [] (2 ∷ []) 2 0
 open_search =
-    one_search open_line (nodes_of open_sprouts) (corner_branch ∷ []) [] 2 0
-    (sprouts_are_dual open_line open_sprouts open_are_sprouts)
+    one_search open_line (nodes_of open_singles) (corner_branch ∷ []) [] 2 0
+    (singles_are_dual open_line open_singles open_are_singles)
     (λ v real. refl)
-    (one_link open_line (nodes_of open_sprouts) 1 0 0 [] (0, omega arith, inr (refl, refl), refl) refl refl
+    (one_link open_line (nodes_of open_singles) 1 0 0 [] (0, omega arith, inr (refl, refl), refl) refl refl
     (λ h. refl) (λ h. refl))
     (All-from_recursion
-    (λ n. is_outer (nodes_of open_sprouts) n.name ≡ true
+    (λ n. is_outer (nodes_of open_singles) n.name ≡ true
     → ends_in n.top.vertices (link 1 0 (0 ∷ []) ∷ []) + as_count (is_in (2 ∷ []) n.name) ≡ 1)
-    (nodes_of open_sprouts) (λ outer. refl, (λ outer. refl, (λ outer. refl, tt))))
-    (of_three (λ d. height_of (all_cuts (nodes_of open_sprouts)) d % 2 ≡ 0) 0 1 2 refl refl refl) (2, refl, refl)
+    (nodes_of open_singles) (λ outer. refl, (λ outer. refl, (λ outer. refl, tt))))
+    (of_three (λ d. height_of (all_cuts (nodes_of open_singles)) d % 2 ≡ 0) 0 1 2 refl refl refl) (2, refl, refl)
     (refl, (refl, (refl, tt)))
     (refl, inl (refl, refl), inl (refl, refl), tt)
-    (one_link open_line (nodes_of open_sprouts) 2 1 1 [] (1, omega arith, inr (refl, refl), refl) refl refl
+    (one_link open_line (nodes_of open_singles) 2 1 1 [] (1, omega arith, inr (refl, refl), refl) refl refl
     (λ h. refl) (λ h. refl))
 
 -- neither the old root nor the blossom

@@ -5,11 +5,11 @@ use Rattle.fb_graph.specs.Parity.{is_in}
 use Rattle.fb_graph.specs.Problem.{Problem, edge_at}
 use Rattle.fb_graph.specs.Certificate.{load_of}
 use Rattle.fb_graph.specs.Dual.{Node, IsDual, all_cuts}
-use Rattle.fb_graph.specs.Covers.{AreRoles, HasNoObstacle, is_over}
-use Rattle.fb_graph.specs.Sprouts.{Sprout, nodes_of}
+use Rattle.fb_graph.specs.Covers.{AreRoles, HasNoObstacle, is_covered_by}
+use Rattle.fb_graph.specs.Singles.{Single, nodes_of}
 use Rattle.fb_graph.specs.Steps.{MayStep, Roles}
 use Rattle.fb_laws.specs.Bounds.{IsBounded}
-use Rattle.fb_witnesses.specs.Samples.{edge, sprout}
+use Rattle.fb_witnesses.specs.Samples.{edge, single}
 
 -- the last edge leads past the second defect
 abbrev pub line_of_four : Problem
@@ -20,11 +20,11 @@ line_of_four = record {
   is_defect = is_in (1 ∷ 2 ∷ 3 ∷ 4 ∷ []);
 }
 
-abbrev pub four_sprouts : List Sprout
-four_sprouts = sprout 0 1 2 ∷ sprout 1 2 2 ∷ sprout 2 3 2 ∷ sprout 3 4 2 ∷ []
+abbrev pub four_singles : List Single
+four_singles = single 0 1 2 ∷ single 1 2 2 ∷ single 2 3 2 ∷ single 3 4 2 ∷ []
 
 abbrev pub four_nodes : List Node
-four_nodes = nodes_of four_sprouts
+four_nodes = nodes_of four_singles
 
 abbrev pub four_roles : Roles
 four_roles = record { is_plus = is_in (0 ∷ 2 ∷ []); is_minus = is_in (1 ∷ []) }
@@ -37,5 +37,5 @@ BoundWitness = IsDual line_of_four four_nodes × AreRoles four_roles four_nodes 
     × ¬ IsBounded line_of_four four_roles four_nodes 3
     × (load_of (all_cuts four_nodes) (edge_at line_of_four.edges 3) + 2 ≡ (edge_at line_of_four.edges 3).weight)
     × (load_of (all_cuts four_nodes) (edge_at line_of_four.edges 5) + 2 * 2 ≡ (edge_at line_of_four.edges 5).weight)
-    × (is_over four_roles.is_plus four_nodes 3 ≡ true) × (is_over four_roles.is_minus four_nodes 2 ≡ true)
-    × (is_over four_roles.is_plus four_nodes 4 ≡ false) × (is_over four_roles.is_minus four_nodes 4 ≡ false)
+    × (is_covered_by four_roles.is_plus four_nodes 3 ≡ true) × (is_covered_by four_roles.is_minus four_nodes 2 ≡ true)
+    × (is_covered_by four_roles.is_plus four_nodes 4 ≡ false) × (is_covered_by four_roles.is_minus four_nodes 4 ≡ false)

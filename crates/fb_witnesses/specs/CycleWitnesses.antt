@@ -10,9 +10,9 @@ use Rattle.fb_graph.specs.Dual.{Node, is_outer}
 use Rattle.fb_laws.specs.Forming.{blossom_of}
 use Rattle.fb_graph.specs.Nests.{IsNest}
 use Rattle.fb_graph.specs.Moves.{MaySplit, blossom}
-use Rattle.fb_graph.specs.Sprouts.{Sprout, nodes_of}
+use Rattle.fb_graph.specs.Singles.{Single, nodes_of}
 use Rattle.fb_laws.specs.Works.{AreMatchedLinks}
-use Rattle.fb_witnesses.specs.Samples.{edge, line, link, sprout}
+use Rattle.fb_witnesses.specs.Samples.{edge, line, link, single}
 use Rattle.fb_laws.specs.Trees.{Entry, Connects, plus_names, tree_names}
 use Rattle.fb_laws.specs.Searches.{IsSearch}
 use Rattle.fb_laws.specs.SearchBlossoms.{child_at}
@@ -39,12 +39,12 @@ kite = record {
   is_defect = is_in (0 ∷ 1 ∷ 2 ∷ 3 ∷ 4 ∷ []);
 }
 
-abbrev pub kite_sprouts : ℕ → List Sprout
-kite_sprouts y = sprout 0 0 y ∷ sprout 1 1 y ∷ sprout 2 2 y ∷ sprout 3 3 y ∷ sprout 4 4 y ∷ []
+abbrev pub kite_singles : ℕ → List Single
+kite_singles y = single 0 0 y ∷ single 1 1 y ∷ single 2 2 y ∷ single 3 3 y ∷ single 4 4 y ∷ []
 
 -- its nodes, and the blossom of the triangle's corners
 abbrev pub kite_leaves : List Node
-kite_leaves = nodes_of (kite_sprouts 1)
+kite_leaves = nodes_of (kite_singles 1)
 
 abbrev pub kite_blossom : Node
 kite_blossom = blossom 5 (0 ∷ 1 ∷ 2 ∷ []) kite_leaves

@@ -12,8 +12,8 @@ use Rattle.fb_graph.specs.Links.{AreEven}
 use Rattle.fb_graph.specs.NestUnions.{AreParts, HaveOwnNames}
 use Rattle.fb_laws.specs.Merging.{Freed, IsSeam, freed_links}
 use Rattle.fb_laws.specs.NestedSearches.{IsNestedWork}
-use Rattle.fb_witnesses.specs.Samples.{sprout, link, line, line_part, end_sprouts, middle_sprouts}
-use Rattle.fb_graph.specs.Sprouts.{nodes_of, vertices_of}
+use Rattle.fb_witnesses.specs.Samples.{single, link, line, line_part, end_singles, middle_singles}
+use Rattle.fb_graph.specs.Singles.{nodes_of, vertices_of}
 
 -- the right end, whose link leads to the middle vertex
 abbrev pub freed_end : List Freed
@@ -23,16 +23,16 @@ abbrev pub FusedWitness : Type 0
 FusedWitness = IsWithinLimits (line_part (1 ∷ 3 ∷ []))
     × AreParts (line_part (3 ∷ [])) (line_part (1 ∷ [])) (line_part (1 ∷ 3 ∷ []))
     × ((v : ℕ) → is_in (1 ∷ 3 ∷ []) v ≡ true → (is_in (3 ∷ []) v ≡ true) ⊎ (is_in (1 ∷ []) v ≡ true))
-    × HaveOwnNames (nodes_of (sprout 0 3 2 ∷ [])) (nodes_of (sprout 1 1 2 ∷ []))
-    × IsNestedWork (line_part (3 ∷ [])) (nodes_of (sprout 0 3 2 ∷ [])) (link 3 2 (2 ∷ []) ∷ []) []
-    × IsNestedWork (line_part (1 ∷ [])) (nodes_of (sprout 1 1 2 ∷ [])) (link 1 0 (0 ∷ []) ∷ []) []
+    × HaveOwnNames (nodes_of (single 0 3 2 ∷ [])) (nodes_of (single 1 1 2 ∷ []))
+    × IsNestedWork (line_part (3 ∷ [])) (nodes_of (single 0 3 2 ∷ [])) (link 3 2 (2 ∷ []) ∷ []) []
+    × IsNestedWork (line_part (1 ∷ [])) (nodes_of (single 1 1 2 ∷ [])) (link 1 0 (0 ∷ []) ∷ []) []
     × AreEven (line_part (1 ∷ 3 ∷ [])) × IsWithinLimits (line (1 ∷ 2 ∷ 3 ∷ []))
-    × IsSeam (line_part (1 ∷ 3 ∷ [])) (line (1 ∷ 2 ∷ 3 ∷ [])) (nodes_of end_sprouts) freed_end
-    (link 1 0 (0 ∷ []) ∷ []) middle_sprouts (λ v. v == 2)
-    × AreDistinct (map (λ s. s.name) middle_sprouts) × AreDistinct (vertices_of middle_sprouts)
-    × All (λ s. (line (1 ∷ 2 ∷ 3 ∷ [])).is_real s.vertex ≡ true) middle_sprouts
-    × HaveOwnNames (nodes_of end_sprouts) (nodes_of middle_sprouts)
-    × IsNestedWork (line_part (1 ∷ 3 ∷ [])) (nodes_of end_sprouts)
+    × IsSeam (line_part (1 ∷ 3 ∷ [])) (line (1 ∷ 2 ∷ 3 ∷ [])) (nodes_of end_singles) freed_end
+    (link 1 0 (0 ∷ []) ∷ []) middle_singles (λ v. v == 2)
+    × AreDistinct (map (λ s. s.name) middle_singles) × AreDistinct (vertices_of middle_singles)
+    × All (λ s. (line (1 ∷ 2 ∷ 3 ∷ [])).is_real s.vertex ≡ true) middle_singles
+    × HaveOwnNames (nodes_of end_singles) (nodes_of middle_singles)
+    × IsNestedWork (line_part (1 ∷ 3 ∷ [])) (nodes_of end_singles)
     (freed_links freed_end ++ link 1 0 (0 ∷ []) ∷ []) []
 
 -- the line before its middle is real, and the nodes of both ends
@@ -40,12 +40,12 @@ abbrev pub parted_line : Problem
 parted_line = without_seam (line_part (3 ∷ [])) (line_part (1 ∷ [])) (line (1 ∷ 2 ∷ 3 ∷ []))
 
 abbrev pub both_ends : List Node
-both_ends = nodes_of (sprout 0 3 2 ∷ []) ++ nodes_of (sprout 1 1 2 ∷ [])
+both_ends = nodes_of (single 0 3 2 ∷ []) ++ nodes_of (single 1 1 2 ∷ [])
 
 -- Both steps in one.
 abbrev pub SeamWitness : Type 0
-SeamWitness = MayMerge (line_part (3 ∷ [])) (line_part (1 ∷ [])) (line (1 ∷ 2 ∷ 3 ∷ [])) (nodes_of (sprout 0 3 2 ∷ []))
-    (nodes_of (sprout 1 1 2 ∷ [])) [] []
-    × IsSeam parted_line (line (1 ∷ 2 ∷ 3 ∷ [])) both_ends freed_end (link 1 0 (0 ∷ []) ∷ []) middle_sprouts (λ v. v == 2)
-    × AreFurther (line (1 ∷ 2 ∷ 3 ∷ [])) both_ends middle_sprouts
+SeamWitness = MayMerge (line_part (3 ∷ [])) (line_part (1 ∷ [])) (line (1 ∷ 2 ∷ 3 ∷ [])) (nodes_of (single 0 3 2 ∷ []))
+    (nodes_of (single 1 1 2 ∷ [])) [] []
+    × IsSeam parted_line (line (1 ∷ 2 ∷ 3 ∷ [])) both_ends freed_end (link 1 0 (0 ∷ []) ∷ []) middle_singles (λ v. v == 2)
+    × AreFurther (line (1 ∷ 2 ∷ 3 ∷ [])) both_ends middle_singles
     × IsPermutation (link 3 2 (2 ∷ []) ∷ link 1 0 (0 ∷ []) ∷ []) (freed_links freed_end ++ link 1 0 (0 ∷ []) ∷ [])

@@ -3,14 +3,14 @@
 use Rattle.std.specs.Prelude.{ℕ, ◌≡◌, ◌==◌, true, false, List, [], ◌∷◌, Some, if◌then◌else◌}
 use Rattle.fb_graph.specs.Parity.{is_in}
 use Rattle.fb_graph.specs.Dual.{Node, cover_of, is_live, is_outer, leaves, top_at}
-use Rattle.fb_graph.specs.Moves.{joined}
+use Rattle.fb_graph.specs.Moves.{joined_nodes}
 use Rattle.fb_graph.specs.Nests.{IsNest}
 use Rattle.fb_laws.specs.HeldDefects.{AreHeld}
 use Rattle.fb_witnesses.specs.NestedWitnesses.{low_nodes}
 use Rattle.fb_witnesses.specs.TreeWitnesses.{long_line}
 
 abbrev pub held_nodes : List Node
-held_nodes = joined 3 (0 ∷ 1 ∷ 2 ∷ []) low_nodes
+held_nodes = joined_nodes 3 (0 ∷ 1 ∷ 2 ∷ []) low_nodes
 
 abbrev pub held_defects : ℕ → List ℕ
 held_defects name =

@@ -1,5 +1,5 @@
 -- That the premises of the laws on a leaf added and on defects exchanged can be met: beside a node of the line that has
--- taken up a neighbour comes one for a second defect, and then the problem has that defect too.
+-- absorbed a neighbour comes one for a second defect, and then the problem has that defect too.
 use Rattle.std.specs.Prelude.{◌≡◌, List, [], ◌∷◌, ◌++◌, Some}
 use Rattle.fb_graph.specs.Problem.{Problem, with_defects}
 use Rattle.fb_graph.specs.Dual.{Node, IsDual, cover_of, leaf, leaves}

@@ -1,4 +1,4 @@
--- That the premises of the laws on links met can be met: two defects that have taken up a vertex each meet over a tight
+-- That the premises of the laws on links met can be met: two defects that have absorbed a vertex each meet over a tight
 -- edge, and one of them the boundary over another; a minus defect that has shrunk to nothing joins its two links.
 use Rattle.std.specs.Prelude.{ℕ, ◌≡◌, false, List, [], ◌∷◌, Some}
 use Rattle.fb_graph.specs.Parity.{is_in}

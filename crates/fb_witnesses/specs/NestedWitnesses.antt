@@ -7,24 +7,24 @@ use Rattle.fb_graph.specs.Dual.{Node, is_live}
 use Rattle.fb_graph.specs.Covers.{HasNoObstacle}
 use Rattle.fb_laws.specs.Forming.{Child}
 use Rattle.fb_graph.specs.Links.{AreEven}
-use Rattle.fb_graph.specs.Moves.{MaySplit, MayTakeUp, MayUncover, joined, taken_up, uncovered}
+use Rattle.fb_graph.specs.Moves.{MaySplit, MayAbsorb, MayUncover, joined_nodes, absorbed_nodes, uncovered_nodes}
 use Rattle.fb_laws.specs.NestedSearches.{IsNestedSearch}
 use Rattle.fb_witnesses.specs.Samples.{line, link, pair_nodes}
 use Rattle.fb_laws.specs.SearchBlossoms.{IsJoining}
 use Rattle.fb_witnesses.specs.SearchWitnesses.{chain_nodes, chain_branch}
 use Rattle.fb_laws.specs.Searches.{LeavesNode}
-use Rattle.fb_graph.specs.Steps.{MayStep, stepped}
+use Rattle.fb_graph.specs.Steps.{MayStep, stepped_nodes}
 use Rattle.fb_laws.specs.Trees.{Connects, plus_names, roles_of}
 use Rattle.fb_witnesses.specs.TreeWitnesses.{long_line, thin_nodes, thin_branch, crown, crown_nodes, closed_branch}
 use Rattle.fb_laws.specs.Works.{AreMatchedLinks}
 
--- the vertex that the minus node has given up taken up by the root
+-- the vertex that the minus node has given up absorbed by the root
 abbrev pub wide_nodes : List Node
-wide_nodes = taken_up 0 2 (uncovered 1 thin_nodes)
+wide_nodes = absorbed_nodes 0 2 (uncovered_nodes 1 thin_nodes)
 
 -- then a free step, after which the minus node has no potential
 abbrev pub low_nodes : List Node
-low_nodes = stepped (roles_of 0 (thin_branch ∷ [])) 2 wide_nodes
+low_nodes = stepped_nodes (roles_of 0 (thin_branch ∷ [])) 2 wide_nodes
 
 abbrev pub wide_child : Child
 wide_child = record { name = 0; set = 1 ∷ 2 ∷ [] }
@@ -37,8 +37,8 @@ low_children = record { name = 1; set = 3 ∷ [] } ∷ record { name = 2; set = 
 abbrev pub NestedWitness : Type 0
 NestedWitness = IsWithinLimits long_line × HasNoOddClosed long_line × AreEven long_line
     × MayUncover thin_nodes 1 × IsNestedSearch long_line thin_nodes (thin_branch ∷ []) [] (0 ∷ []) 0 0
-    × MayTakeUp long_line (uncovered 1 thin_nodes) 0 1 1 2
-    × IsNestedSearch long_line (uncovered 1 thin_nodes) (thin_branch ∷ []) [] (0 ∷ []) 0 0
+    × MayAbsorb long_line (uncovered_nodes 1 thin_nodes) 0 1 1 2
+    × IsNestedSearch long_line (uncovered_nodes 1 thin_nodes) (thin_branch ∷ []) [] (0 ∷ []) 0 0
     × MayStep long_line (roles_of 0 (thin_branch ∷ [])) wide_nodes 2
     × HasNoObstacle long_line (roles_of 0 (thin_branch ∷ [])) wide_nodes
     × IsNestedSearch long_line wide_nodes (thin_branch ∷ []) [] (0 ∷ []) 0 0
@@ -47,8 +47,8 @@ NestedWitness = IsWithinLimits long_line × HasNoOddClosed long_line × AreEven 
     × ((n : ℕ) → is_in (0 ∷ 1 ∷ 2 ∷ []) n ≡ true → is_in (3 ∷ []) n ≡ false)
     × ((n : ℕ) → is_in (0 ∷ 1 ∷ 2 ∷ []) n ≡ false → (n ≡ 3 → ⊥) → is_in (3 ∷ []) n ≡ is_in (0 ∷ []) n)
     × IsNestedSearch long_line low_nodes (thin_branch ∷ []) [] (0 ∷ []) 0 0
-    × MaySplit (joined 5 (0 ∷ 1 ∷ 2 ∷ []) crown_nodes) 5
-    × IsNestedSearch crown (joined 5 (0 ∷ 1 ∷ 2 ∷ []) crown_nodes) (closed_branch ∷ []) [] (4 ∷ []) 4 0
+    × MaySplit (joined_nodes 5 (0 ∷ 1 ∷ 2 ∷ []) crown_nodes) 5
+    × IsNestedSearch crown (joined_nodes 5 (0 ∷ 1 ∷ 2 ∷ []) crown_nodes) (closed_branch ∷ []) [] (4 ∷ []) 4 0
 
 -- On the line two matched nodes are met, and then the boundary. Two neighbours meet, both unmatched or the one
 -- matched to the boundary.

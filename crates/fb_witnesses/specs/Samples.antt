@@ -7,7 +7,7 @@ use Rattle.fb_graph.specs.Dual.{Node}
 use Rattle.fb_graph.specs.declared.parts.Edge.{Edge}
 use Rattle.fb_graph.specs.declared.parts.Cut.{Cut}
 use Rattle.fb_graph.specs.Steps.{Roles}
-use Rattle.fb_graph.specs.Sprouts.{Sprout, nodes_of}
+use Rattle.fb_graph.specs.Singles.{Single, nodes_of}
 
 abbrev pub edge : ℕ → ℕ → ℕ → Edge
 edge u v w = record { first = u; second = v; weight = w }
@@ -18,8 +18,8 @@ cut y vs = record { value = y; vertices = vs }
 abbrev pub link : ℕ → ℕ → List ℕ → Link
 link u v ks = record { from = u; to = v; walk = ks }
 
-abbrev pub sprout : ℕ → ℕ → ℕ → Sprout
-sprout name v y = record { name = name; vertex = v; value = y }
+abbrev pub single : ℕ → ℕ → ℕ → Single
+single name v y = record { name = name; vertex = v; value = y }
 
 -- a line of vertices between two boundary ones
 abbrev pub line : List ℕ → Problem
@@ -40,16 +40,16 @@ triangle = record {
 }
 
 -- three defects of the line, the middle one shrinking between its neighbours
-abbrev pub line_sprouts : List Sprout
-line_sprouts = sprout 0 1 0 ∷ sprout 1 2 2 ∷ sprout 2 3 0 ∷ []
+abbrev pub line_singles : List Single
+line_singles = single 0 1 0 ∷ single 1 2 2 ∷ single 2 3 0 ∷ []
 
 abbrev pub line_nodes : List Node
-line_nodes = nodes_of line_sprouts
+line_nodes = nodes_of line_singles
 
 abbrev pub line_roles : Roles
 line_roles = record { is_plus = is_in (0 ∷ 2 ∷ []); is_minus = is_in (1 ∷ []) }
 
--- one defect of the line that has taken up both its neighbours
+-- one defect of the line that has absorbed both its neighbours
 abbrev pub grown_nodes : List Node
 grown_nodes =
     record {
@@ -63,11 +63,11 @@ abbrev pub grown_roles : Roles
 grown_roles = record { is_plus = is_in (0 ∷ []); is_minus = is_in [] }
 
 -- the three corners of the triangle, all growing
-abbrev pub corner_sprouts : List Sprout
-corner_sprouts = sprout 0 0 1 ∷ sprout 1 1 1 ∷ sprout 2 2 1 ∷ []
+abbrev pub corner_singles : List Single
+corner_singles = single 0 0 1 ∷ single 1 1 1 ∷ single 2 2 1 ∷ []
 
 abbrev pub corner_nodes : List Node
-corner_nodes = nodes_of corner_sprouts
+corner_nodes = nodes_of corner_singles
 
 abbrev pub corner_roles : Roles
 corner_roles = record { is_plus = is_in (0 ∷ 1 ∷ 2 ∷ []); is_minus = is_in [] }
@@ -81,27 +81,27 @@ abbrev pub blossom_cuts : List Cut
 blossom_cuts = cut 1 (0 ∷ []) ∷ cut 1 (1 ∷ []) ∷ cut 1 (2 ∷ []) ∷ cut 9 (0 ∷ 1 ∷ 2 ∷ []) ∷ []
 
 -- two neighbours on the line, before and after they grow, and at last until they meet
-abbrev pub bare_sprouts : List Sprout
-bare_sprouts = sprout 0 1 0 ∷ sprout 1 2 0 ∷ []
+abbrev pub bare_singles : List Single
+bare_singles = single 0 1 0 ∷ single 1 2 0 ∷ []
 
-abbrev pub young_sprouts : List Sprout
-young_sprouts = sprout 0 1 1 ∷ sprout 1 2 1 ∷ []
+abbrev pub young_singles : List Single
+young_singles = single 0 1 1 ∷ single 1 2 1 ∷ []
 
-abbrev pub pair_sprouts : List Sprout
-pair_sprouts = sprout 0 1 2 ∷ sprout 1 2 2 ∷ []
+abbrev pub pair_singles : List Single
+pair_singles = single 0 1 2 ∷ single 1 2 2 ∷ []
 
 abbrev pub young_nodes : List Node
-young_nodes = nodes_of young_sprouts
+young_nodes = nodes_of young_singles
 
 abbrev pub pair_nodes : List Node
-pair_nodes = nodes_of pair_sprouts
+pair_nodes = nodes_of pair_singles
 
 abbrev pub pair_roles : Roles
 pair_roles = record { is_plus = is_in (0 ∷ 1 ∷ []); is_minus = is_in [] }
 
 -- the two ends of the line, matched to its boundary and to the middle, and a defect in the middle
-abbrev pub end_sprouts : List Sprout
-end_sprouts = sprout 0 3 2 ∷ sprout 1 1 2 ∷ []
+abbrev pub end_singles : List Single
+end_singles = single 0 3 2 ∷ single 1 1 2 ∷ []
 
-abbrev pub middle_sprouts : List Sprout
-middle_sprouts = sprout 2 2 0 ∷ []
+abbrev pub middle_singles : List Single
+middle_singles = single 2 2 0 ∷ []

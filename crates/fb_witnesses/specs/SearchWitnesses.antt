@@ -2,16 +2,16 @@
 -- one, the root, meets them.
 use Rattle.std.specs.Prelude.{List, [], ◌∷◌}
 use Rattle.fb_graph.specs.Dual.{Node}
-use Rattle.fb_graph.specs.Sprouts.{Sprout, nodes_of}
-use Rattle.fb_witnesses.specs.Samples.{line, link, sprout}
+use Rattle.fb_graph.specs.Singles.{Single, nodes_of}
+use Rattle.fb_witnesses.specs.Samples.{line, link, single}
 use Rattle.fb_laws.specs.Trees.{Entry}
 use Rattle.fb_laws.specs.Searches.{IsSearch}
 
-abbrev pub chain_sprouts : List Sprout
-chain_sprouts = sprout 0 1 2 ∷ sprout 1 2 2 ∷ sprout 2 3 0 ∷ []
+abbrev pub chain_singles : List Single
+chain_singles = single 0 1 2 ∷ single 1 2 2 ∷ single 2 3 0 ∷ []
 
 abbrev pub chain_nodes : List Node
-chain_nodes = nodes_of chain_sprouts
+chain_nodes = nodes_of chain_singles
 
 abbrev pub chain_branch : Entry
 chain_branch = record {

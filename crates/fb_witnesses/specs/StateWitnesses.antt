@@ -7,15 +7,15 @@ use Rattle.fb_graph.specs.Problem.{Problem}
 use Rattle.fb_graph.specs.Limits.{IsWithinLimits}
 use Rattle.fb_graph.specs.Laws.{Link}
 use Rattle.fb_graph.specs.Dual.{Node}
-use Rattle.fb_graph.specs.Moves.{MaySplit, joined, split}
+use Rattle.fb_graph.specs.Moves.{MaySplit, joined_nodes, split_nodes}
 use Rattle.fb_graph.specs.NestUnions.{AreParts, HaveOwnNames}
-use Rattle.fb_graph.specs.Sprouts.{Sprout, nodes_of}
+use Rattle.fb_graph.specs.Singles.{Single, nodes_of}
 use Rattle.fb_laws.specs.FusedStates.{AreFurther, without_seam}
 use Rattle.fb_witnesses.specs.FusedWitnesses.{freed_end}
 use Rattle.fb_laws.specs.Merging.{IsSeam, freed_links}
 use Rattle.fb_laws.specs.OpenedCycles.{Couple, IsOpenedCycle, Pass}
 use Rattle.fb_laws.specs.PartStates.{PartState, SearchState, IsPartState, IsSearchState}
-use Rattle.fb_witnesses.specs.Samples.{edge, line, line_part, link, middle_sprouts, sprout}
+use Rattle.fb_witnesses.specs.Samples.{edge, line, line_part, link, middle_singles, single}
 use Rattle.fb_laws.specs.StateBlossoms.{MayClose, with_cycle}
 use Rattle.fb_laws.specs.TreeCycles.{ArePaths}
 use Rattle.fb_laws.specs.Trees.{Entry}
@@ -30,12 +30,12 @@ pentagon = record {
   is_defect = is_in (0 ∷ 1 ∷ 2 ∷ 3 ∷ 4 ∷ 5 ∷ 6 ∷ []);
 }
 
-abbrev pub pentagon_sprouts : List Sprout
-pentagon_sprouts =
-    sprout 0 0 2 ∷ sprout 1 1 2 ∷ sprout 2 2 2 ∷ sprout 3 3 2 ∷ sprout 4 4 2 ∷ sprout 5 5 2 ∷ sprout 6 6 2 ∷ []
+abbrev pub pentagon_singles : List Single
+pentagon_singles =
+    single 0 0 2 ∷ single 1 1 2 ∷ single 2 2 2 ∷ single 3 3 2 ∷ single 4 4 2 ∷ single 5 5 2 ∷ single 6 6 2 ∷ []
 
 abbrev pub pentagon_leaves : List Node
-pentagon_leaves = nodes_of pentagon_sprouts
+pentagon_leaves = nodes_of pentagon_singles
 
 -- from corner 4 to the matched corners on either side
 abbrev pub first_branch : Entry
@@ -88,7 +88,7 @@ blossom_branch = record {
 
 abbrev pub inner_blossom : SearchState
 inner_blossom = record {
-  nodes = joined 7 (4 ∷ 0 ∷ 1 ∷ 2 ∷ 3 ∷ []) pentagon_leaves;
+  nodes = joined_nodes 7 (4 ∷ 0 ∷ 1 ∷ 2 ∷ 3 ∷ []) pentagon_leaves;
   cycles = with_cycle 7 pentagon_links (λ n. []);
   tree = blossom_branch ∷ [];
   rest = [];
@@ -116,14 +116,14 @@ pentagon_couples = record { first = 4; link = link 4 3 (3 ∷ []); second = 3 } 
 
 abbrev pub OpenedStateWitness : Type 0
 OpenedStateWitness = MaySplit inner_blossom.nodes 7
-    × IsOpenedCycle pentagon inner_blossom.nodes (split 7 inner_blossom.nodes) blossom_branch 2 pentagon_way
+    × IsOpenedCycle pentagon inner_blossom.nodes (split_nodes 7 inner_blossom.nodes) blossom_branch 2 pentagon_way
     pentagon_couples inner_blossom.unmatched
     × IsSearchState pentagon inner_blossom
 
 -- the two ends of the line
 abbrev pub right_end : PartState
 right_end = record {
-  nodes = nodes_of (sprout 0 3 2 ∷ []);
+  nodes = nodes_of (single 0 3 2 ∷ []);
   cycles = λ n. [];
   matches = link 3 2 (2 ∷ []) ∷ [];
   unmatched = [];
@@ -131,7 +131,7 @@ right_end = record {
 
 abbrev pub left_end : PartState
 left_end = record {
-  nodes = nodes_of (sprout 1 1 2 ∷ []);
+  nodes = nodes_of (single 1 1 2 ∷ []);
   cycles = λ n. [];
   matches = link 1 0 (0 ∷ []) ∷ [];
   unmatched = [];
@@ -142,7 +142,7 @@ FusedStateWitness = IsWithinLimits (line (1 ∷ 2 ∷ 3 ∷ []))
     × AreParts (line_part (3 ∷ [])) (line_part (1 ∷ [])) (line (1 ∷ 2 ∷ 3 ∷ []))
     × HaveOwnNames right_end.nodes left_end.nodes
     × IsSeam (without_seam (line_part (3 ∷ [])) (line_part (1 ∷ [])) (line (1 ∷ 2 ∷ 3 ∷ []))) (line (1 ∷ 2 ∷ 3 ∷ []))
-    (right_end.nodes ++ left_end.nodes) freed_end (link 1 0 (0 ∷ []) ∷ []) middle_sprouts (λ v. v == 2)
-    × AreFurther (line (1 ∷ 2 ∷ 3 ∷ [])) (right_end.nodes ++ left_end.nodes) middle_sprouts
+    (right_end.nodes ++ left_end.nodes) freed_end (link 1 0 (0 ∷ []) ∷ []) middle_singles (λ v. v == 2)
+    × AreFurther (line (1 ∷ 2 ∷ 3 ∷ [])) (right_end.nodes ++ left_end.nodes) middle_singles
     × IsPermutation (right_end.matches ++ left_end.matches) (freed_links freed_end ++ link 1 0 (0 ∷ []) ∷ [])
     × IsPartState (line_part (3 ∷ [])) right_end × IsPartState (line_part (1 ∷ [])) left_end

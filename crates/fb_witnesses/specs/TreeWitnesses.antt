@@ -4,16 +4,16 @@ use Rattle.fb_graph.specs.Parity.{is_in}
 use Rattle.fb_graph.specs.Problem.{Problem}
 use Rattle.fb_graph.specs.Dual.{Node, IsDual, leaves, cover_of, is_live, is_outer}
 use Rattle.fb_laws.specs.Forming.{Child, blossom_of}
-use Rattle.fb_graph.specs.Moves.{joined, uncovered}
+use Rattle.fb_graph.specs.Moves.{joined_nodes, uncovered_nodes}
 use Rattle.fb_witnesses.specs.NestWitnesses.{blossom_nodes, blossom_roles}
 use Rattle.fb_laws.specs.Opening.{Opened, IsOpenedTo, single_sets}
-use Rattle.fb_witnesses.specs.Samples.{cut, edge, link, sprout, triangle, corner_nodes}
+use Rattle.fb_witnesses.specs.Samples.{cut, edge, link, single, triangle, corner_nodes}
 use Rattle.fb_laws.specs.SearchBlossoms.{IsJoining, child_at}
 use Rattle.fb_graph.specs.Alike.{AreAlike}
 use Rattle.fb_laws.specs.SearchOpenings.{IsOpenedTree}
 use Rattle.fb_laws.specs.Searches.{IsSearch}
-use Rattle.fb_graph.specs.Sprouts.{Sprout, node_of, nodes_of}
-use Rattle.fb_graph.specs.Steps.{stepped}
+use Rattle.fb_graph.specs.Singles.{Single, node_of, nodes_of}
+use Rattle.fb_graph.specs.Steps.{stepped_nodes}
 use Rattle.fb_laws.specs.Trees.{Entry, minus_names, roles_of}
 use Rattle.fb_laws.specs.Works.{IsMatching, positive_cuts, outer_sets}
 
@@ -26,15 +26,15 @@ long_line = record {
   is_defect = is_in (1 ∷ 3 ∷ 4 ∷ []);
 }
 
-abbrev pub long_sprouts : List Sprout
-long_sprouts = sprout 0 1 2 ∷ sprout 1 3 2 ∷ sprout 2 4 0 ∷ []
+abbrev pub long_singles : List Single
+long_singles = single 0 1 2 ∷ single 1 3 2 ∷ single 2 4 0 ∷ []
 
 -- the second of its three defects has shrunk until its upper layer is empty
 abbrev pub thin_nodes : List Node
 thin_nodes =
-    node_of (sprout 0 1 2)
+    node_of (single 0 1 2)
     ∷ record { name = 1; children = []; below = cut 2 (3 ∷ []) ∷ []; top = cut 0 (3 ∷ 2 ∷ []) }
-    ∷ node_of (sprout 2 4 0) ∷ []
+    ∷ node_of (single 2 4 0) ∷ []
 
 -- it hangs on the first one, and is matched with the third
 abbrev pub thin_branch : Entry
@@ -46,14 +46,14 @@ thin_branch = record {
   plus = 2;
 }
 
--- The minus node gives up a vertex, which the root then may take up.
+-- The minus node gives up a vertex, which the root then may absorb.
 abbrev pub LayerWitness : Type 0
 LayerWitness = IsSearch long_line thin_nodes (thin_branch ∷ []) [] (0 ∷ []) 0 0
-    × AreAlike thin_nodes (uncovered 1 thin_nodes) × IsDual long_line (uncovered 1 thin_nodes)
-    × (is_in (leaves (uncovered 1 thin_nodes)) 2 ≡ false) × (cover_of (uncovered 1 thin_nodes) 2 ≡ None)
-    × (is_live (uncovered 1 thin_nodes) 1 ≡ true) × (is_outer (uncovered 1 thin_nodes) 1 ≡ true)
+    × AreAlike thin_nodes (uncovered_nodes 1 thin_nodes) × IsDual long_line (uncovered_nodes 1 thin_nodes)
+    × (is_in (leaves (uncovered_nodes 1 thin_nodes)) 2 ≡ false) × (cover_of (uncovered_nodes 1 thin_nodes) 2 ≡ None)
+    × (is_live (uncovered_nodes 1 thin_nodes) 1 ≡ true) × (is_outer (uncovered_nodes 1 thin_nodes) 1 ≡ true)
     × ((roles_of 0 (thin_branch ∷ [])).is_minus 1 ≡ true) × ((roles_of 0 (thin_branch ∷ [])).is_plus 1 ≡ false)
-    × (is_live (uncovered 1 thin_nodes) 0 ≡ true) × (is_outer (uncovered 1 thin_nodes) 0 ≡ true)
+    × (is_live (uncovered_nodes 1 thin_nodes) 0 ≡ true) × (is_outer (uncovered_nodes 1 thin_nodes) 0 ≡ true)
     × ((roles_of 0 (thin_branch ∷ [])).is_plus 0 ≡ true) × (2 < 6) × ((2 == 1) ≡ false)
 
 -- two corners of the triangle, matched, hang on the third one
@@ -81,8 +81,8 @@ open_line = record {
   is_defect = is_in (0 ∷ 1 ∷ 2 ∷ []);
 }
 
-abbrev pub open_sprouts : List Sprout
-open_sprouts = sprout 0 0 4 ∷ sprout 1 1 0 ∷ sprout 2 2 4 ∷ []
+abbrev pub open_singles : List Single
+open_singles = single 0 0 4 ∷ single 1 1 0 ∷ single 2 2 4 ∷ []
 
 -- The corners of the triangle close a cycle. On the line a minus defect without potential joins its parent and its
 -- child.
@@ -93,12 +93,12 @@ JoiningWitness = IsSearch triangle corner_nodes (corner_branch ∷ []) [] (2 ∷
     × (is_in (3 ∷ []) 3 ≡ is_in (2 ∷ []) 2)
     × ((n : ℕ) → is_in (2 ∷ 1 ∷ 0 ∷ []) n ≡ false → (n ≡ 3 → ⊥) → is_in (3 ∷ []) n ≡ is_in (2 ∷ []) n)
     × (is_in (minus_names (corner_branch ∷ [])) 1 ≡ true) × (is_in (2 ∷ 1 ∷ 0 ∷ []) 1 ≡ true)
-    × IsSearch open_line (nodes_of open_sprouts) (corner_branch ∷ []) [] (2 ∷ []) 2 0
+    × IsSearch open_line (nodes_of open_singles) (corner_branch ∷ []) [] (2 ∷ []) 2 0
     × (is_outer
-    (nodes_of open_sprouts
+    (nodes_of open_singles
     ++ blossom_of 3
-    (child_at (nodes_of open_sprouts) 2 ∷ child_at (nodes_of open_sprouts) 1 ∷ child_at
-    (nodes_of open_sprouts) 0 ∷ [])
+    (child_at (nodes_of open_singles) 2 ∷ child_at (nodes_of open_singles) 1 ∷ child_at
+    (nodes_of open_singles) 0 ∷ [])
     ∷ []) 3 ≡ true)
 
 -- a triangle with a defect beside two of its corners, and a boundary beside the third
@@ -110,11 +110,11 @@ crown = record {
   is_defect = is_in (0 ∷ 1 ∷ 2 ∷ 3 ∷ 4 ∷ []);
 }
 
-abbrev pub crown_sprouts : List Sprout
-crown_sprouts = sprout 0 0 10 ∷ sprout 1 1 10 ∷ sprout 2 2 10 ∷ sprout 3 3 4 ∷ sprout 4 4 14 ∷ []
+abbrev pub crown_singles : List Single
+crown_singles = single 0 0 10 ∷ single 1 1 10 ∷ single 2 2 10 ∷ single 3 3 4 ∷ single 4 4 14 ∷ []
 
 abbrev pub crown_nodes : List Node
-crown_nodes = nodes_of crown_sprouts
+crown_nodes = nodes_of crown_singles
 
 -- the blossom of the corners, matched with the one defect and met by the other, before and after it is opened
 abbrev pub closed_branch : Entry
@@ -133,8 +133,8 @@ opened_branches =
 
 -- The opened blossom's even path: two of its corners are matched with one another, the third one keeps its link.
 abbrev pub SplittingWitness : Type 0
-SplittingWitness = IsSearch crown (joined 5 (0 ∷ 1 ∷ 2 ∷ []) crown_nodes) (closed_branch ∷ []) [] (4 ∷ []) 4 0
-    × IsOpenedTree crown (joined 5 (0 ∷ 1 ∷ 2 ∷ []) crown_nodes) crown_nodes [] [] opened_branches closed_branch 2
+SplittingWitness = IsSearch crown (joined_nodes 5 (0 ∷ 1 ∷ 2 ∷ []) crown_nodes) (closed_branch ∷ []) [] (4 ∷ []) 4 0
+    × IsOpenedTree crown (joined_nodes 5 (0 ∷ 1 ∷ 2 ∷ []) crown_nodes) crown_nodes [] [] opened_branches closed_branch 2
     (0 ∷ 1 ∷ [])
     (link 0 1 (0 ∷ []) ∷ []) [] [] (4 ∷ []) 4
     × IsDual crown crown_nodes
@@ -153,8 +153,8 @@ opened_triangle = record {
 
 -- The triangle solved with its blossom, which is then opened.
 abbrev pub LevelWitness : Type 0
-LevelWitness = IsMatching triangle (stepped blossom_roles 9 blossom_nodes) (link 2 3 (3 ∷ []) ∷ []) []
-    × IsOpenedTo (positive_cuts (stepped blossom_roles 9 blossom_nodes))
-    (outer_sets (stepped blossom_roles 9 blossom_nodes)) (link 2 3 (3 ∷ []) ∷ []) (opened_triangle ∷ [])
+LevelWitness = IsMatching triangle (stepped_nodes blossom_roles 9 blossom_nodes) (link 2 3 (3 ∷ []) ∷ []) []
+    × IsOpenedTo (positive_cuts (stepped_nodes blossom_roles 9 blossom_nodes))
+    (outer_sets (stepped_nodes blossom_roles 9 blossom_nodes)) (link 2 3 (3 ∷ []) ∷ []) (opened_triangle ∷ [])
     (single_sets (2 ∷ 0 ∷ 1 ∷ []))
     (link 0 1 (0 ∷ []) ∷ link 2 3 (3 ∷ []) ∷ [])

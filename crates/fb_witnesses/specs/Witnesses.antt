@@ -7,10 +7,10 @@ use Rattle.fb_graph.specs.Certificate.{AreDistinct, IsOddCut, IsPacking, load_of
 use Rattle.fb_graph.specs.Components.{Leads}
 use Rattle.fb_graph.specs.Laws.{IsTight, HasNoOddClosed, IsSolved, IsPerfect, ends_of}
 use Rattle.fb_graph.specs.Dual.{IsDual, AreUnderOne, AreOuterApart, all_cuts, cover_of, height_of, AreGrown}
-use Rattle.fb_graph.specs.Steps.{AreExclusive, gains, losses, MayStep, stepped}
+use Rattle.fb_graph.specs.Steps.{AreExclusive, gains, losses, MayStep, stepped_nodes}
 use Rattle.fb_laws.specs.Lengths.{HasPlus, IsGreatestStep}
-use Rattle.fb_graph.specs.Covers.{AreRoles, HaveParity, HasNoObstacle, is_over}
-use Rattle.fb_laws.specs.Signed.{shifted, unshifted}
+use Rattle.fb_graph.specs.Covers.{AreRoles, HaveParity, HasNoObstacle, is_covered_by}
+use Rattle.fb_laws.specs.Signed.{shifted_problem, unshifted_edges}
 use Rattle.fb_graph.specs.Links.{IsSourceWalk, IsTightLink, ArePartedBy, AreEven}
 use Rattle.fb_graph.specs.Ends.{ends_in, AreAllApart}
 use Rattle.fb_laws.specs.Paths.{Branch, IsPath, AreWholeOnPath, IsWhole, LeadsOut, tip_of}
@@ -20,13 +20,13 @@ use Rattle.fb_laws.specs.Opening.{IsLevel, IsOpening, IsOpenedTo, IsWithinOne, E
 use Rattle.fb_laws.specs.Parities.{HaveOneParity}
 use Rattle.fb_graph.specs.Turns.{IsPartlyGrown}
 use Rattle.fb_laws.specs.Works.{AreMatchedLinks, IsMatching, IsWork, IsSetOf, positive_cuts, outer_sets}
-use Rattle.fb_graph.specs.Sprouts.{AreSprouts, nodes_of}
+use Rattle.fb_graph.specs.Singles.{AreSingles, nodes_of}
 use Rattle.fb_laws.specs.Measures.{IsLower}
 use Rattle.fb_laws.specs.Merging.{IsSeam, freed_links}
 use Rattle.fb_graph.specs.Counts.{as_count}
 use Rattle.fb_graph.specs.NestUnions.{AreParts}
 use Rattle.fb_laws.specs.Forming.{IsCycle}
-use Rattle.fb_witnesses.specs.Samples.{sprout, end_sprouts, middle_sprouts, link, line, triangle, cut, line_sprouts, line_nodes, line_roles, grown_nodes, grown_roles, corner_nodes, corner_roles, line_part, blossom_cuts, bare_sprouts, young_nodes, pair_nodes, pair_roles}
+use Rattle.fb_witnesses.specs.Samples.{single, end_singles, middle_singles, link, line, triangle, cut, line_singles, line_nodes, line_roles, grown_nodes, grown_roles, corner_nodes, corner_roles, line_part, blossom_cuts, bare_singles, young_nodes, pair_nodes, pair_roles}
 
 -- A step of a tree on the line: feasible cuts, a tight link between a minus and a plus node, the greatest step, made of
 -- two allowed ones.
@@ -36,32 +36,32 @@ StepWitness = AreExclusive line_roles × IsPacking (line (1 ∷ 2 ∷ 3 ∷ []))
     ≡ losses line_roles line_nodes (ends_of (link 2 3 (2 ∷ []))))
     × IsTight (line (1 ∷ 2 ∷ 3 ∷ [])) (all_cuts line_nodes) (link 2 3 (2 ∷ []))
     × MayStep (line (1 ∷ 2 ∷ 3 ∷ [])) line_roles line_nodes 1
-    × MayStep (line (1 ∷ 2 ∷ 3 ∷ [])) line_roles (stepped line_roles 1 line_nodes) 1
+    × MayStep (line (1 ∷ 2 ∷ 3 ∷ [])) line_roles (stepped_nodes line_roles 1 line_nodes) 1
     × IsGreatestStep (line (1 ∷ 2 ∷ 3 ∷ [])) line_roles line_nodes 2
     × HasPlus line_roles line_nodes × HasNoOddClosed (line (1 ∷ 2 ∷ 3 ∷ []))
 
 -- Its nodes, one for each defect, are a dual state in which nothing stands in the tree's way.
 abbrev pub DualWitness : Type 0
-DualWitness = AreSprouts (line (1 ∷ 2 ∷ 3 ∷ [])) line_sprouts × IsDual (line (1 ∷ 2 ∷ 3 ∷ [])) line_nodes
+DualWitness = AreSingles (line (1 ∷ 2 ∷ 3 ∷ [])) line_singles × IsDual (line (1 ∷ 2 ∷ 3 ∷ [])) line_nodes
     × AreRoles line_roles line_nodes × HaveParity line_roles.is_plus line_nodes 0 × AreEven (line (1 ∷ 2 ∷ 3 ∷ []))
     × HasNoObstacle (line (1 ∷ 2 ∷ 3 ∷ [])) line_roles line_nodes
-    × (is_over line_roles.is_minus line_nodes 2 ≡ true) × (is_over line_roles.is_plus line_nodes 3 ≡ true)
+    × (is_covered_by line_roles.is_minus line_nodes 2 ≡ true) × (is_covered_by line_roles.is_plus line_nodes 3 ≡ true)
 
--- Two growing corners of the triangle, with an edge between them; and a node that has taken up both ends of an edge.
+-- Two growing corners of the triangle, with an edge between them; and a node that has absorbed both ends of an edge.
 abbrev pub CoverWitness : Type 0
 CoverWitness = IsDual triangle corner_nodes × AreRoles corner_roles corner_nodes
     × HaveParity corner_roles.is_plus corner_nodes 1
-    × (¬ AreUnderOne corner_nodes 0 1) × (is_over corner_roles.is_plus corner_nodes 0 ≡ true)
-    × (is_over corner_roles.is_plus corner_nodes 1 ≡ true) × AreOuterApart grown_nodes
+    × (¬ AreUnderOne corner_nodes 0 1) × (is_covered_by corner_roles.is_plus corner_nodes 0 ≡ true)
+    × (is_covered_by corner_roles.is_plus corner_nodes 1 ≡ true) × AreOuterApart grown_nodes
     × AreDistinct (map (λ n. n.name) grown_nodes) × AreRoles grown_roles grown_nodes × AreUnderOne grown_nodes 1 2
     × IsSourceWalk (line (2 ∷ [])) (all_cuts grown_nodes) (1 ∷ []) 2 1
     × (cover_of grown_nodes 2 ≡ cover_of grown_nodes 1)
 
 -- The line whose second edge weighs less than nothing: its shifted defect is beside the boundary.
 abbrev pub SignedWitness : Type 0
-SignedWitness = IsPacking (shifted (line (2 ∷ [])) (λ k. k == 1)) (cut 2 (1 ∷ []) ∷ [])
-    × IsSolved (shifted (line (2 ∷ [])) (λ k. k == 1)) (cut 2 (1 ∷ []) ∷ []) (0 ∷ [])
-    × (unshifted (line (2 ∷ [])) (λ k. k == 1) (0 ∷ []) ≡ 0 ∷ 1 ∷ []) × Flips (line (2 ∷ [])) (0 ∷ 1 ∷ [])
+SignedWitness = IsPacking (shifted_problem (line (2 ∷ [])) (λ k. k == 1)) (cut 2 (1 ∷ []) ∷ [])
+    × IsSolved (shifted_problem (line (2 ∷ [])) (λ k. k == 1)) (cut 2 (1 ∷ []) ∷ []) (0 ∷ [])
+    × (unshifted_edges (line (2 ∷ [])) (λ k. k == 1) (0 ∷ []) ≡ 0 ∷ 1 ∷ []) × Flips (line (2 ∷ [])) (0 ∷ 1 ∷ [])
     × AreDistinct (0 ∷ 1 ∷ []) × HasNoOddClosed (line (2 ∷ []))
 
 -- Links: two corners of the triangle that meet, the boundary reached, a defect without potential between two others.
@@ -129,16 +129,16 @@ OpeningWitness = IsPacking triangle blossom_cuts × All (λ c. IsWithinOne c ((0
 -- tree the minus node has shrunk and no plus node has grown yet.
 abbrev pub ParityWitness : Type 0
 ParityWitness = HaveOneParity corner_nodes × HaveParity (λ n. n == 0) corner_nodes 1
-    × (is_over (λ n. n == 0) corner_nodes 0 ≡ true) × IsTightLink triangle (all_cuts corner_nodes) (link 0 1 (0 ∷ []))
+    × (is_covered_by (λ n. n == 0) corner_nodes 0 ≡ true) × IsTightLink triangle (all_cuts corner_nodes) (link 0 1 (0 ∷ []))
     × ((n : ℕ) → corner_roles.is_plus n ≡ true → (corner_roles.is_plus n ≡ true) ⊎ (corner_roles.is_minus n ≡ true))
     × IsPartlyGrown (record { is_plus = λ n. false; is_minus = line_roles.is_minus }) line_roles
     × (line_roles.is_plus 0 ≡ true) × (line_roles.is_minus 1 ≡ true)
 
 -- Two neighbours on the line: unmatched, the one matched to the boundary, both matched with one another.
 abbrev pub WorkWitness : Type 0
-WorkWitness = IsWork (line (1 ∷ 2 ∷ [])) (nodes_of bare_sprouts) [] (0 ∷ 1 ∷ [])
+WorkWitness = IsWork (line (1 ∷ 2 ∷ [])) (nodes_of bare_singles) [] (0 ∷ 1 ∷ [])
     × AreRoles pair_roles young_nodes × IsMatching (line (1 ∷ 2 ∷ [])) young_nodes [] (0 ∷ 1 ∷ [])
-    × IsDual (line (1 ∷ 2 ∷ [])) (stepped pair_roles 1 young_nodes)
+    × IsDual (line (1 ∷ 2 ∷ [])) (stepped_nodes pair_roles 1 young_nodes)
     × IsMatching (line (1 ∷ 2 ∷ [])) pair_nodes [] (0 ∷ 1 ∷ [])
     × IsMatching (line (1 ∷ 2 ∷ [])) pair_nodes (link 1 0 (0 ∷ []) ∷ []) (1 ∷ [])
     × IsMatching (line (1 ∷ 2 ∷ [])) pair_nodes (link 2 1 (1 ∷ []) ∷ []) []
@@ -152,18 +152,18 @@ WorkWitness = IsWork (line (1 ∷ 2 ∷ [])) (nodes_of bare_sprouts) [] (0 ∷ 1
 -- The line in two parts, the right one matched to the middle vertex, which then becomes real, with a defect.
 abbrev pub MergingWitness : Type 0
 MergingWitness = AreParts (line_part (3 ∷ [])) (line_part (1 ∷ [])) (line_part (1 ∷ 3 ∷ []))
-    × IsMatching (line_part (3 ∷ [])) (nodes_of (sprout 0 3 2 ∷ [])) (link 3 2 (2 ∷ []) ∷ []) []
-    × IsMatching (line_part (1 ∷ [])) (nodes_of (sprout 1 1 2 ∷ [])) (link 1 0 (0 ∷ []) ∷ []) []
-    × IsDual (line_part (1 ∷ 3 ∷ [])) (nodes_of end_sprouts)
-    × IsMatching (line_part (1 ∷ 3 ∷ [])) (nodes_of end_sprouts)
+    × IsMatching (line_part (3 ∷ [])) (nodes_of (single 0 3 2 ∷ [])) (link 3 2 (2 ∷ []) ∷ []) []
+    × IsMatching (line_part (1 ∷ [])) (nodes_of (single 1 1 2 ∷ [])) (link 1 0 (0 ∷ []) ∷ []) []
+    × IsDual (line_part (1 ∷ 3 ∷ [])) (nodes_of end_singles)
+    × IsMatching (line_part (1 ∷ 3 ∷ [])) (nodes_of end_singles)
     (freed_links (record { name = 0; set = 3 ∷ []; link = link 3 2 (2 ∷ []); seam = 2 } ∷ [])
     ++ link 1 0 (0 ∷ []) ∷ []) []
-    × IsSeam (line_part (1 ∷ 3 ∷ [])) (line (1 ∷ 2 ∷ 3 ∷ [])) (nodes_of end_sprouts)
-    (record { name = 0; set = 3 ∷ []; link = link 3 2 (2 ∷ []); seam = 2 } ∷ []) (link 1 0 (0 ∷ []) ∷ []) middle_sprouts
+    × IsSeam (line_part (1 ∷ 3 ∷ [])) (line (1 ∷ 2 ∷ 3 ∷ [])) (nodes_of end_singles)
+    (record { name = 0; set = 3 ∷ []; link = link 3 2 (2 ∷ []); seam = 2 } ∷ []) (link 1 0 (0 ∷ []) ∷ []) middle_singles
     (λ v. v == 2)
-    × IsDual (line (1 ∷ 2 ∷ 3 ∷ [])) (nodes_of end_sprouts ++ nodes_of middle_sprouts)
+    × IsDual (line (1 ∷ 2 ∷ 3 ∷ [])) (nodes_of end_singles ++ nodes_of middle_singles)
 
--- Counts that fall, and the layers of a node that has taken up both its neighbours.
+-- Counts that fall, and the layers of a node that has absorbed both its neighbours.
 abbrev pub EndWitness : Type 0
 EndWitness = IsLower (1 ∷ 4 ∷ 2 ∷ []) (1 ∷ 5 ∷ 0 ∷ []) × All (λ x. x < 6) (1 ∷ 4 ∷ 2 ∷ [])
     × (is_in (1 ∷ 2 ∷ 3 ∷ []) 2 ≡ true) × (line_roles.is_minus 2 ≡ false) × (line_roles.is_plus 2 ≡ true)

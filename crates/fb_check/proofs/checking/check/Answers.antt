@@ -12,7 +12,7 @@ returns-in-Ok-clause-ends g c = inr (record {
     named = c.in-Ok.ensures.names;
     text = c.in-Ok.ensures.graph;
     asks = c.in-Ok.ensures.asked (λ e. cc);
-    unfailing = c.in-Ok.ensures.calm (λ e. cc);
+    unfailing = c.in-Ok.ensures.unchanged (λ e. cc);
     written = refl;
   };
   ends = c.check_report.ensures.ends;
@@ -22,7 +22,7 @@ pub returns-in-Err-Refused-clause-ends : goal.returns-in-Err-Refused-clause-ends
 returns-in-Err-Refused-clause-ends g c =
     let refused = rw c.in-Err-Refused.field-0-is at c.in-Err-Refused.ensures.refused in
     rw c.in-Err-Refused.field-0-is
-    (inl (refused, c.in-Err-Refused.ensures.asked (λ e. cc), c.in-Err-Refused.ensures.calm (λ e. cc), Appends-nil _))
+    (inl (refused, c.in-Err-Refused.ensures.asked (λ e. cc), c.in-Err-Refused.ensures.unchanged (λ e. cc), Appends-nil _))
 
 pub returns-in-Err-ReadFault-clause-ends : goal.returns-in-Err-ReadFault-clause-ends
 returns-in-Err-ReadFault-clause-ends g c =
@@ -31,4 +31,4 @@ returns-in-Err-ReadFault-clause-ends g c =
 
 pub returns-in-Err-NoMemory-clause-ends : goal.returns-in-Err-NoMemory-clause-ends
 returns-in-Err-NoMemory-clause-ends g c =
-    inl (c.in-Err-NoMemory.ensures.asks, c.in-Err-NoMemory.ensures.calm (λ e. cc), Appends-nil _)
+    inl (c.in-Err-NoMemory.ensures.asks, c.in-Err-NoMemory.ensures.unchanged (λ e. cc), Appends-nil _)

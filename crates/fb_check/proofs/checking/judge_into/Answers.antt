@@ -65,7 +65,7 @@ returns-in_default-flush_if_full-clause-first g c =
 pub loop-step-preserved : goal.loop-step-preserved
 loop-step-preserved g c =
     let at = (goal.at.loop-step-preserved g c).In-Ok-judge_next in
-    let calm : g.F.Files.faults c.next_shot.new.files ≡ g.F.Files.faults c.loop-step.files = search rules in
+    let unchanged : g.F.Files.faults c.next_shot.new.files ≡ g.F.Files.faults c.loop-step.files = search rules in
     let shots = c.loop-step.invariant.0.shots ++ c.in-Shot.shot ∷ [] in
     let left = g.F.Files.left c.args.files.now in
     let later = g.F.Files.left c.next_shot.new.files in
@@ -84,7 +84,7 @@ loop-step-preserved g c =
       omega (arith, c.loop-step.invariant.1, c.one_if-bad.ensures, cond-le-one c.in-Ok-judge_next.is_bad),
       ap (λ (n : ℕ). n + 1) (c.loop-step.invariant.2) ∙ sym (rw c.in-Shot.is at c.in-Ok.ensures.step).counts,
       fits,
-      calm ∙ c.loop-step.invariant.4,
+      unchanged ∙ c.loop-step.invariant.4,
       c.in-Ok.ensures.asks ∙ c.loop-step.invariant.5,
       c.in-Ok-flush_if_full.ensures.cause ∙ c.loop-step.invariant.6,
       c.in-Ok-judge_next.ensures.same ∙ c.loop-step.invariant.7,

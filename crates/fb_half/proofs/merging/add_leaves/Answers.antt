@@ -1,8 +1,8 @@
 use Rattle.std.proofs.Common.{◌≡◌, ◌<◌, ◌∙◌, ◌+◌, ◌++◌, ◌∷◌, [], length, get_or, drop, take, arith, sym, ap, subst}
 use Rattle.std.proofs.lemmas.List.{take_more}
-use Rattle.fb_half.specs.InternalSeams.{IsSprouted}
+use Rattle.fb_half.specs.InternalSeams.{AddsSingles}
 use Rattle.fb_half.proofs.Begun.{not_before}
-use Rattle.fb_half.proofs.SproutedLeaves.{names_more, sprouted_more, still_leafless, still_listed, still_live, still_uncovered}
+use Rattle.fb_half.proofs.AddedSingles.{names_more, singles_added_more, still_leafless, still_listed, still_live, still_uncovered}
 use Rattle.fb_half.proofs.merging.add_leaves.Goals as goal
 
 pub add_leaf-requires-clause-uncovered : goal.add_leaf-requires-clause-uncovered
@@ -23,11 +23,11 @@ add_leaf-requires-clause-listed c = still_listed _ _ _ _ _ _ _ _ c.loop-v.invari
 
 pub loop-v-preserved : goal.loop-v-preserved
 loop-v-preserved c = (
-  subst (λ l. IsSprouted l (take (c.loop-v.v-index + 1) c.args.vertices.now) c.args.regions.now.nodes c.add_leaf.new.regions.nodes c.args.store.now c.add_leaf.new.store c.args.matching.now c.add_leaf.new.matching)
+  subst (λ l. AddsSingles l (take (c.loop-v.v-index + 1) c.args.vertices.now) c.args.regions.now.nodes c.add_leaf.new.regions.nodes c.args.store.now c.add_leaf.new.store c.args.matching.now c.add_leaf.new.matching)
       (sym (names_more _ _ _ _ _ _ _ _ c.loop-v.invariant.0 c.in_ok-add_leaf.field-0 _ c.in_ok-add_leaf.ensures.matching))
-      (subst (λ l. IsSprouted (drop (length c.args.matching.now.unmatched) c.loop-v.matching.unmatched ++ c.in_ok-add_leaf.field-0 ∷ []) l c.args.regions.now.nodes c.add_leaf.new.regions.nodes c.args.store.now c.add_leaf.new.store c.args.matching.now c.add_leaf.new.matching)
+      (subst (λ l. AddsSingles (drop (length c.args.matching.now.unmatched) c.loop-v.matching.unmatched ++ c.in_ok-add_leaf.field-0 ∷ []) l c.args.regions.now.nodes c.add_leaf.new.regions.nodes c.args.store.now c.add_leaf.new.store c.args.matching.now c.add_leaf.new.matching)
       (sym (take_more c.args.vertices.now c.loop-v.v-index 0 c.loop-v-test.true))
-      (sprouted_more _ _ _ _ _ _ _ _ c.loop-v.invariant.0 c.in_ok-add_leaf.field-0 (get_or c.args.vertices.now c.loop-v.v-index 0) _ _ _
+      (singles_added_more _ _ _ _ _ _ _ _ c.loop-v.invariant.0 c.in_ok-add_leaf.field-0 (get_or c.args.vertices.now c.loop-v.v-index 0) _ _ _
       c.in_ok-add_leaf.ensures.store c.in_ok-add_leaf.ensures.nodes c.in_ok-add_leaf.ensures.matching)),
   c.in_ok-add_leaf.ensures.scope ∙ c.loop-v.invariant.1,
 )

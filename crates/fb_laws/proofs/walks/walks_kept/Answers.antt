@@ -1,4 +1,4 @@
-use Rattle.fb_graph.proofs.SourceWalks.{covered_walk, walks_begin, walks_joined, walks_split, walks_taken_up, walks_uncovered, walks_stepped}
+use Rattle.fb_graph.proofs.SourceWalks.{covered_walk, walks_begin, walks_joined, walks_split, walks_absorbed, walks_uncovered, walks_stepped}
 use Rattle.fb_laws.proofs.walks.walks_kept.Goals as goal
 
 pub returns-clause-begins : goal.returns-clause-begins
@@ -13,8 +13,8 @@ returns-clause-split c = walks_split
 pub returns-clause-stepped : goal.returns-clause-stepped
 returns-clause-stepped c = walks_stepped
 
-pub returns-clause-taken_up : goal.returns-clause-taken_up
-returns-clause-taken_up c = walks_taken_up
+pub returns-clause-absorbed : goal.returns-clause-absorbed
+returns-clause-absorbed c = walks_absorbed
 
 pub returns-clause-uncovered : goal.returns-clause-uncovered
 returns-clause-uncovered c = walks_uncovered

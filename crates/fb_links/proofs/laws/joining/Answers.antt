@@ -1,5 +1,5 @@
 use Rattle.fb_links.proofs.Turns.{Runs-chained, Runs-ends, Runs-turned, Runs-append, weight-turned, weight-append, turned_link}
-use Rattle.fb_links.proofs.Joins.{joined_walk}
+use Rattle.fb_links.proofs.Joins.{walk_joined}
 use Rattle.fb_links.proofs.laws.joining.Goals as goal
 
 pub returns-clause-ends : goal.returns-clause-ends
@@ -24,4 +24,4 @@ pub returns-clause-weigh : goal.returns-clause-weigh
 returns-clause-weigh c = weight-append
 
 pub returns-clause-joined : goal.returns-clause-joined
-returns-clause-joined c = joined_walk
+returns-clause-joined c = walk_joined

@@ -1,6 +1,6 @@
 use Rattle.std.proofs.Common.{◌+◌, ◌==◌, drop, get_or, sym, ap, ◌∙◌, arith}
 use Rattle.std.proofs.lemmas.Bool.{eq-eqb, eqb-true, false_from_ne_true}
-use Rattle.fb_regions.specs.InternalListings.{Linked, linked, linked_all, listing_at}
+use Rattle.fb_regions.specs.InternalListings.{Linked, with_listing, linked_all, listing_at}
 use Rattle.fb_regions.proofs.Linking.{counted_next, counted_none, linked_first, linked_more, linked_next, linked_none, named_at, named_none}
 use Rattle.fb_regions.proofs.listing.list_together.Goals as goal
 use Rattle.fb_regions.proofs.listing.list_together.Goals.{in-Some+then-listing-eq0, in-Some+else-listing-eq0, in_default}
@@ -50,7 +50,7 @@ loop-name-preserved c =
           (sym (c.requires.index.entry (get_or names i 0)) ∙ (sym c.place_of.ensures ∙ w.in-Some.is)) w.index-regions-place.is in (
             rw (w.marks-is, w.put_before.ensures, w.listing-is)
                 (c.loop-name.invariant.0 ∙ (linked_next rs names i s r c.loop-name-test.true named
-                ∙ (ap (λ l. linked_all rs (drop (i + 1) names) (linked s l)) (sym w.listing_of-next.ensures)
+                ∙ (ap (λ l. linked_all rs (drop (i + 1) names) (with_listing s l)) (sym w.listing_of-next.ensures)
                 ∙ ap (λ x. linked_all rs (drop (i + 1) names) x)
                 (linked_more s w.listing_of-next.result (false_from_ne_true (c.loop-name.listing.count == 0) (λ e. w.if-listing-eq0.false (eqb-true c.loop-name.listing.count 0 e))))))),
             omega (arith, counted_next rs names i r c.loop-name-test.true named, c.loop-name.invariant.1, ap (λ l. l.count) w.listing-is, ap (λ l. l.count) w.listing_of-next.ensures),

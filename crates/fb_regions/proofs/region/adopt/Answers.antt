@@ -1,6 +1,6 @@
 use Rattle.std.proofs.Common.{◌≡◌, ◌+◌, ◌++◌, ◌∷◌, [], map, set, take, get_or, sym, ap, ◌∙◌}
 use Rattle.std.proofs.lemmas.List.{take_more}
-use Rattle.fb_regions.specs.InternalNodes.{adopted}
+use Rattle.fb_regions.specs.InternalNodes.{reparented_region}
 use Rattle.fb_regions.proofs.Adopted.{adopted_at, adopted_no_names, adopted_none}
 use Rattle.fb_regions.proofs.region.adopt.Goals as goal
 use Rattle.fb_regions.proofs.region.adopt.Goals.{in-Some, in_default}
@@ -12,9 +12,9 @@ pub loop-name-preserved : goal.loop-name-preserved
 loop-name-preserved c =
     let name = get_or c.args.names.now c.loop-name.name-index 0 in
     let before = take c.loop-name.name-index c.args.names.now in
-    let more : map (adopted (before ++ name ∷ []) c.args.parent) c.args.regions.now
-    ≡ map (adopted (take (c.loop-name.name-index + 1) c.args.names.now) c.args.parent) c.args.regions.now =
-    ap (λ l. map (adopted l c.args.parent) c.args.regions.now) (sym (take_more c.args.names.now c.loop-name.name-index 0 c.loop-name-test.true)) in
+    let more : map (reparented_region (before ++ name ∷ []) c.args.parent) c.args.regions.now
+    ≡ map (reparented_region (take (c.loop-name.name-index + 1) c.args.names.now) c.args.parent) c.args.regions.now =
+    ap (λ l. map (reparented_region l c.args.parent) c.args.regions.now) (sym (take_more c.args.names.now c.loop-name.name-index 0 c.loop-name-test.true)) in
     elim c.match-place_of.branch [
       | in-Some w ↦
           (w.regions-is

@@ -23,7 +23,7 @@ returns-in-Ok-read_plan_file-clause-ends g c = by_name _ _ _ _ _ _ _ (ap (option
     named = c.in-Ok-read_plan_file.ensures.names;
     text = c.in-Ok-read_plan_file.ensures.plan;
     asks = c.in-Ok-read_plan_file.ensures.asked (λ e. cc);
-    unfailing = c.in-Ok-read_plan_file.ensures.calm (λ e. cc);
+    unfailing = c.in-Ok-read_plan_file.ensures.unchanged (λ e. cc);
     written = refl;
   };
   ends = c.decode_by-in-Ok-read_plan_file.ensures.ends;
@@ -34,7 +34,7 @@ returns-in-Err-Refused-clause-ends g c =
     let refused = rw c.in-Err-Refused.field-0-is at c.in-Err-Refused.ensures.refused in
     rw c.in-Err-Refused.field-0-is
     (by_name _ _ _ _ _ _ _ (ap (option_map (λ name. name.now)) c.in-Some.is)
-    (inl (refused, c.in-Err-Refused.ensures.asked (λ e. cc), c.in-Err-Refused.ensures.calm (λ e. cc), Appends-nil _)))
+    (inl (refused, c.in-Err-Refused.ensures.asked (λ e. cc), c.in-Err-Refused.ensures.unchanged (λ e. cc), Appends-nil _)))
 
 pub returns-in-Err-ReadFault-clause-ends : goal.returns-in-Err-ReadFault-clause-ends
 returns-in-Err-ReadFault-clause-ends g c =
@@ -44,4 +44,4 @@ returns-in-Err-ReadFault-clause-ends g c =
 
 pub returns-in-Err-NoMemory-clause-ends : goal.returns-in-Err-NoMemory-clause-ends
 returns-in-Err-NoMemory-clause-ends g c = by_name _ _ _ _ _ _ _ (ap (option_map (λ name. name.now)) c.in-Some.is)
-    (inl (c.in-Err-NoMemory.ensures.asks, c.in-Err-NoMemory.ensures.calm (λ e. cc), Appends-nil _))
+    (inl (c.in-Err-NoMemory.ensures.asks, c.in-Err-NoMemory.ensures.unchanged (λ e. cc), Appends-nil _))

@@ -1,5 +1,5 @@
 use Rattle.std.proofs.Common.{◌≡◌, [], ◌∷◌, take}
-use Rattle.fb_graph.specs.Steps.{stepped}
+use Rattle.fb_graph.specs.Steps.{stepped_nodes}
 use Rattle.fb_search.specs.InternalSteps.{roles_by_names}
 use Rattle.fb_search.proofs.BranchNames.{minus_of, plus_of}
 use Rattle.fb_search.proofs.stepping.step_nodes.Given as goal
@@ -9,7 +9,7 @@ invariant-loop-branch g l =
     l.regions
     ≡ record {
       scope = l.fn.regions.scope;
-      nodes = stepped (roles_by_names [] (minus_of (take l.branch-index l.branches))) l.length l.fn.regions.nodes;
+      nodes = stepped_nodes (roles_by_names [] (minus_of (take l.branch-index l.branches))) l.length l.fn.regions.nodes;
     }
 
 abbrev pub invariant-loop-branch-2 : goal.invariant-loop-branch-2
@@ -17,5 +17,5 @@ invariant-loop-branch-2 g l =
     l.regions
     ≡ record {
       scope = l.fn.regions.scope;
-      nodes = stepped (roles_by_names (l.tree.root ∷ plus_of (take l.branch-index l.branches)) (minus_of l.branches)) l.length l.fn.regions.nodes;
+      nodes = stepped_nodes (roles_by_names (l.tree.root ∷ plus_of (take l.branch-index l.branches)) (minus_of l.branches)) l.length l.fn.regions.nodes;
     }

@@ -1,11 +1,11 @@
-use Rattle.fb_laws.proofs.MoveBridges.{uncovered_lowers, taken_up_lowers, joining_lowers}
+use Rattle.fb_laws.proofs.MoveBridges.{uncovered_lowers, absorbed_lowers, joining_lowers}
 use Rattle.fb_tree_laws.proofs.bridges.moves_lower.Goals as goal
 
 pub returns-clause-uncovered : goal.returns-clause-uncovered
 returns-clause-uncovered c = uncovered_lowers
 
-pub returns-clause-taken_up : goal.returns-clause-taken_up
-returns-clause-taken_up c = taken_up_lowers
+pub returns-clause-absorbed : goal.returns-clause-absorbed
+returns-clause-absorbed c = absorbed_lowers
 
 pub returns-clause-joined : goal.returns-clause-joined
 returns-clause-joined c = joining_lowers

@@ -16,8 +16,8 @@ returns-clause-rounded c = lemma.rounded_less
 pub returns-clause-stepped : goal.returns-clause-stepped
 returns-clause-stepped c = lemma.stepped_less
 
-pub returns-clause-taken_up : goal.returns-clause-taken_up
-returns-clause-taken_up c = lemma.taken_up_less
+pub returns-clause-absorbed : goal.returns-clause-absorbed
+returns-clause-absorbed c = lemma.absorbed_less
 
 pub returns-clause-uncovered : goal.returns-clause-uncovered
 returns-clause-uncovered c = lemma.uncovered_less

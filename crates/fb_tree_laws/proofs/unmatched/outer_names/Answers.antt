@@ -19,14 +19,14 @@ returns-clause-joined c = lemma.outer_joined
 pub returns-clause-split : goal.returns-clause-split
 returns-clause-split c = lemma.outer_split
 
-pub returns-clause-sprouted : goal.returns-clause-sprouted
-returns-clause-sprouted c = lemma.outer_sprouted
+pub returns-clause-singles_added : goal.returns-clause-singles_added
+returns-clause-singles_added c = lemma.outer_singles_added
 
 pub returns-clause-stepped : goal.returns-clause-stepped
 returns-clause-stepped c = lemma.outer_stepped
 
-pub returns-clause-taken_up : goal.returns-clause-taken_up
-returns-clause-taken_up c = lemma.outer_taken_up
+pub returns-clause-absorbed : goal.returns-clause-absorbed
+returns-clause-absorbed c = lemma.outer_absorbed
 
 pub returns-clause-uncovered : goal.returns-clause-uncovered
 returns-clause-uncovered c = lemma.outer_uncovered

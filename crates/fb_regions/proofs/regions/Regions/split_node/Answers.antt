@@ -1,11 +1,11 @@
 use Rattle.std.proofs.Common.{◌≡◌, length, ap, ◌∙◌, Some, None, false, true}
 use Rattle.std.specs.List.{remove}
 use Rattle.fb_graph.specs.Dual.{is_live}
-use Rattle.fb_regions.specs.InternalNodes.{adopted, nodes_of}
+use Rattle.fb_regions.specs.InternalNodes.{reparented_region, nodes_of}
 use Rattle.fb_regions.proofs.Found.{mapped_back, not_found, read_place}
 use Rattle.fb_regions.proofs.ByName.{removed_distinct}
 use Rattle.fb_regions.proofs.Indexed.{distinct_names, index_adopted, removed_before, removed_within}
-use Rattle.fb_regions.proofs.Split.{kept_split, split_nodes}
+use Rattle.fb_regions.proofs.Split.{kept_split, nodes_split}
 use Rattle.fb_regions.proofs.regions.Regions.split_node.Goals as goal
 
 pub unreachable-requires : goal.unreachable-requires
@@ -24,7 +24,7 @@ invariant_of-self g c =
       c.deref_mut.ensures.value,
       c.as_slice.ensures.value,
       c.remove-blossom.ensures.items,
-      mapped_back (adopted c.remove-blossom.result.children.items None) (remove c.self.inside.regions.items c.in-Some.place) c.remove-blossom.new.self.len
+      mapped_back (reparented_region c.remove-blossom.result.children.items None) (remove c.self.inside.regions.items c.in-Some.place) c.remove-blossom.new.self.len
           (c.remove-blossom.new.self.ok.0 ∙ ap length c.remove-blossom.ensures.items),
     ) (
       kept_split _ _ _ c.self.invariant.0 c.args.node c.in-Some.place c.remove-blossom.result
@@ -68,10 +68,10 @@ returns-clause-ok g c =
       c.deref_mut.ensures.value,
       c.as_slice.ensures.value,
       c.remove-blossom.ensures.items,
-      mapped_back (adopted c.remove-blossom.result.children.items None) (remove c.self.inside.regions.items c.in-Some.place) c.remove-blossom.new.self.len
+      mapped_back (reparented_region c.remove-blossom.result.children.items None) (remove c.self.inside.regions.items c.in-Some.place) c.remove-blossom.new.self.len
           (c.remove-blossom.new.self.ok.0 ∙ ap length c.remove-blossom.ensures.items),
     )
     (ap (λ ns. record { scope = c.self.inside.scope; nodes = ns })
-    (split_nodes _ _ _ c.self.invariant.0 c.args.node c.in-Some.place c.remove-blossom.result
+    (nodes_split _ _ _ c.self.invariant.0 c.args.node c.in-Some.place c.remove-blossom.result
     (read_place c.self.inside.regions.items _ _ c.args.node (Some c.in-Some.place) c.self.invariant.1 c.deref.ensures.value c.in-Some.ensures) c.remove-blossom.ensures.value
     (rw (← c.self.view_is) at c.requires)))

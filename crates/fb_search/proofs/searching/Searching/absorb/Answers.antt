@@ -1,6 +1,6 @@
 use Rattle.std.proofs.Common.{◌∙◌, ap}
 use Rattle.fb_graph.specs.Limits.{IsWithinLimits}
-use Rattle.fb_graph.specs.Moves.{taken_up}
+use Rattle.fb_graph.specs.Moves.{absorbed_nodes}
 use Rattle.fb_half.specs.Values.{part_of}
 use Rattle.fb_search.specs.Searching.{SearchValue, problem_of}
 use Rattle.fb_search.proofs.BegunSearches.{kept_limits}
@@ -47,7 +47,7 @@ invariant_of-self c =
       searching_raised w c.args.edge a.from a.to a.name c.watch_taken.new.watch c.self.invariant.1 limits a.may
           c.keeps.ensures.within
           (kept_taken w.part c.graph.result.now c.plan.result.now c.node.result c.free_end-taken.result a.to _ _
-          (taken_up a.name a.to w.part.nodes) w.watched c.watch_taken.new.watch graph at (ap (λ r. r.nodes) c.absorb.ensures)
+          (absorbed_nodes a.name a.to w.part.nodes) w.watched c.watch_taken.new.watch graph at (ap (λ r. r.nodes) c.absorb.ensures)
           (nodes_taken w c.args.edge a _ (ap (λ g. g.edges) scope.graph)) c.watch_taken.ensures),
     )
 

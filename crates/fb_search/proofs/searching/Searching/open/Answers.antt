@@ -1,7 +1,7 @@
 use Rattle.std.proofs.Common.{◌≡◌, ◌++◌, true, All, List, sym, subst, ap, ◌∙◌}
 use Rattle.fb_graph.specs.Certificate.{AreDistinct}
 use Rattle.fb_graph.specs.Dual.{is_live}
-use Rattle.fb_graph.specs.Moves.{split}
+use Rattle.fb_graph.specs.Moves.{split_nodes}
 use Rattle.fb_links.specs.Table as table
 use Rattle.fb_links.specs.declared.cycle.CycleStep.{CycleStep}
 use Rattle.fb_blossoms.specs.Nodes.{is_on}
@@ -137,7 +137,7 @@ watch_plus-requires-clause-live c =
     let cycle = c.deref.ensures.value ∙ c.open_up-cycle.ensures.cycle in
     let parts = λ (cycle : List CycleStep). even_on (round_on cycle c.child_at-above.result) c.child_at-below.result in
     rw (c.in_ok-split_node.ensures.ok)
-    (subst (λ l. All (λ n. is_live (split c.args.node w.part.nodes) n ≡ true) (second_nodes l))
+    (subst (λ l. All (λ n. is_live (split_nodes c.args.node w.part.nodes) n ≡ true) (second_nodes l))
     (sym (c.deref-5.ensures.value ∙ c.in_ok-apart.ensures.way
     ∙ ap (λ l. way_on (parts l) c.child_at-below.result) cycle))
     (plus_live w c.args.node e c.child_at-above.result c.child_at-below.result c.self.invariant.1 opens))

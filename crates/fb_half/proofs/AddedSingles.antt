@@ -13,7 +13,7 @@ use Rattle.fb_graph.proofs.Sets.{is_in-cases}
 use Rattle.fb_blossoms.specs.Nodes as blossoms
 use Rattle.fb_half.specs.Beginnings.{leaves_by}
 use Rattle.fb_half.specs.InternalBeginnings.{leaf_at}
-use Rattle.fb_half.specs.InternalSeams.{IsSprouted}
+use Rattle.fb_half.specs.InternalSeams.{AddsSingles}
 use Rattle.fb_half.specs.Matchings.{MatchingValue, listed_names, matched_names}
 use Rattle.fb_half.proofs.Begun.{leaf_live, leaf_pushed, leaves_pushed, live_leaves, no_leaf, uncovered}
 
@@ -62,7 +62,7 @@ drop_front [] ys = refl
 drop_front (x ∷ xs) ys = drop_front xs ys
 
 module _ (names done : List ℕ) (nodes new_nodes : List Node) (store new_store : Store) (before after : MatchingValue)
-    (s : IsSprouted names done nodes new_nodes store new_store before after) where
+    (s : AddsSingles names done nodes new_nodes store new_store before after) where
   pub still_uncovered : (v : ℕ) → cover_of nodes v ≡ None → is_in done v ≡ false → cover_of new_nodes v ≡ None
   still_uncovered v none other =
       ap (λ l. cover_of l v) s.nodes_are ∙ uncovered_both nodes (leaves_by names done) v none (uncovered names done v other)
@@ -109,10 +109,10 @@ module _ (names done : List ℕ) (nodes new_nodes : List Node) (store new_store 
   pub own_names : drop (length before.unmatched) after.unmatched ≡ names
   own_names = ap (λ m. drop (length before.unmatched) m.unmatched) s.matching ∙ drop_front before.unmatched names
 
-  pub sprouted_more : (name v : ℕ) (more : List Node) (larger : Store) (later : MatchingValue) → blossoms.Adds new_store larger name (blossoms.leaf v)
+  pub singles_added_more : (name v : ℕ) (more : List Node) (larger : Store) (later : MatchingValue) → blossoms.Adds new_store larger name (blossoms.leaf v)
       → more ≡ new_nodes ++ leaf name v ∷ [] → later ≡ record { matches = after.matches; unmatched = after.unmatched ++ name ∷ [] }
-      → IsSprouted (names ++ name ∷ []) (done ++ v ∷ []) nodes more store larger before later
-  sprouted_more name v more larger later adds nodes_new m_new = record {
+      → AddsSingles (names ++ name ∷ []) (done ++ v ∷ []) nodes more store larger before later
+  singles_added_more name v more larger later adds nodes_new m_new = record {
     nodes_are =
         nodes_new
         ∙ (ap (λ l. l ++ leaf name v ∷ []) s.nodes_are

@@ -1,9 +1,9 @@
 //! The dual state with which a search begins.
 
-ghost use Rattle.fb_graph.specs.Sprouts.{SproutsAreDual, BeginningIsDual};
+ghost use Rattle.fb_graph.specs.Singles.{SinglesAreDual, BeginningIsDual};
 
 /// Nodes of one defect each are a dual state where their cuts are feasible, as they are without values.
 pub fn beginning()
-    ensures sprouts { SproutsAreDual }
+    ensures singles { SinglesAreDual }
     ensures bare { BeginningIsDual }
 {}

@@ -15,41 +15,41 @@ use Rattle.fb_graph.specs.declared.parts.Cut.{Cut}
 use Rattle.fb_graph.proofs.Members.{or_false}
 use Rattle.fb_graph.proofs.Sets.{is_in-head, is_in-cases}
 use Rattle.fb_graph.proofs.CutSums.{weigh, weigh-either}
-use Rattle.fb_graph.specs.Sprouts.{Sprout, node_of, nodes_of, vertices_of, SproutsAreDual, BeginningIsDual}
+use Rattle.fb_graph.specs.Singles.{Single, node_of, nodes_of, vertices_of, SinglesAreDual, BeginningIsDual}
 
 -- the cuts of the nodes, one each
-abbrev pub cut_of : Sprout → Cut
+abbrev pub cut_of : Single → Cut
 cut_of s = record { value = s.value; vertices = s.vertex ∷ [] }
 
-pub cuts_are : (sprouts : List Sprout) → all_cuts (nodes_of sprouts) ≡ map cut_of sprouts
+pub cuts_are : (singles : List Single) → all_cuts (nodes_of singles) ≡ map cut_of singles
 cuts_are [] = refl
 cuts_are (s ∷ ss) = ap (λ l. cut_of s ∷ l) (cuts_are ss)
 
-pub leaves_are : (sprouts : List Sprout) → leaves (nodes_of sprouts) ≡ vertices_of sprouts
+pub leaves_are : (singles : List Single) → leaves (nodes_of singles) ≡ vertices_of singles
 leaves_are [] = refl
 leaves_are (s ∷ ss) = ap (λ l. s.vertex ∷ l) (leaves_are ss)
 
-pub names_are : (sprouts : List Sprout) → map (λ n. n.name) (nodes_of sprouts) ≡ map (λ s. s.name) sprouts
+pub names_are : (singles : List Single) → map (λ n. n.name) (nodes_of singles) ≡ map (λ s. s.name) singles
 names_are [] = refl
 names_are (s ∷ ss) = ap (λ l. s.name ∷ l) (names_are ss)
 
-all_outer : (sprouts : List Sprout) (name : ℕ) → is_outer (nodes_of sprouts) name ≡ true
-all_outer sprouts name = ap not (none sprouts)
+all_outer : (singles : List Single) (name : ℕ) → is_outer (nodes_of singles) name ≡ true
+all_outer singles name = ap not (none singles)
   where
-    none : (ss : List Sprout) → list_any (λ n. is_in n.children name) (nodes_of ss) ≡ false
+    none : (ss : List Single) → list_any (λ n. is_in n.children name) (nodes_of ss) ≡ false
     none [] = refl
     none (s ∷ ss) = none ss
 
 -- the name at the vertex
-name_at : List Sprout → ℕ → Option ℕ
+name_at : List Single → ℕ → Option ℕ
 name_at [] v = None
 name_at (s ∷ ss) v = cond (s.vertex == v) (Some s.name) (name_at ss v)
 
-cover_is : (sprouts : List Sprout) (v : ℕ) → cover_of (nodes_of sprouts) v ≡ name_at sprouts v
+cover_is : (singles : List Single) (v : ℕ) → cover_of (nodes_of singles) v ≡ name_at singles v
 unfolding name_at
-cover_is sprouts v = found (is_outer (nodes_of sprouts)) (all_outer sprouts) sprouts
+cover_is singles v = found (is_outer (nodes_of singles)) (all_outer singles) singles
   where
-    found : (outer : ℕ → Bool) → ((name : ℕ) → outer name ≡ true) → (ss : List Sprout)
+    found : (outer : ℕ → Bool) → ((name : ℕ) → outer name ≡ true) → (ss : List Single)
         → option_map (λ n. n.name) (find (λ n. outer n.name && is_in n.top.vertices v) (nodes_of ss)) ≡ name_at ss v
     found outer all [] = refl
     found outer all (s ∷ ss) =
@@ -65,8 +65,8 @@ cover_is sprouts v = found (is_outer (nodes_of sprouts)) (all_outer sprouts) spr
         step true ih = refl
         step false ih = ih
 
--- a vertex with a name is that of a sprout
-named_vertex : (sprouts : List Sprout) (v name : ℕ) → name_at sprouts v ≡ Some name → is_in (vertices_of sprouts) v ≡ true
+-- a vertex with a name is that of a single
+named_vertex : (singles : List Single) (v name : ℕ) → name_at singles v ≡ Some name → is_in (vertices_of singles) v ≡ true
 unfolding name_at
 named_vertex [] v name e = cc
 named_vertex (s ∷ ss) v name e = step (cases_Bool (s.vertex == v)) (named_vertex ss v name)
@@ -79,8 +79,8 @@ named_vertex (s ∷ ss) v name e = step (cases_Bool (s.vertex == v)) (named_vert
         ap (λ b. b || is_in (vertices_of ss) v) here
         ∙ rest (sym (ap (λ b. cond b (Some s.name) (name_at ss v)) here) ∙ e)
 
-vertex_named : (sprouts : List Sprout) (v : ℕ) → is_in (vertices_of sprouts) v ≡ true
-    → (name : ℕ) × (name_at sprouts v ≡ Some name)
+vertex_named : (singles : List Single) (v : ℕ) → is_in (vertices_of singles) v ≡ true
+    → (name : ℕ) × (name_at singles v ≡ Some name)
 unfolding name_at
 vertex_named [] v within = absurd (false≢true within)
 vertex_named (s ∷ ss) v within = step (cases_Bool (s.vertex == v)) (vertex_named ss v)
@@ -93,8 +93,8 @@ vertex_named (s ∷ ss) v within = step (cases_Bool (s.vertex == v)) (vertex_nam
         let (name, e) = rest (ap (λ b. b || is_in (vertices_of ss) v) (sym here) ∙ within) in
         (name, ap (λ b. cond b (Some s.name) (name_at ss v)) here ∙ e)
 
-pub real_of : (p : Problem) (sprouts : List Sprout) → All (λ s. p.is_real s.vertex ≡ true) sprouts → (v : ℕ)
-    → is_in (vertices_of sprouts) v ≡ true → p.is_real v ≡ true
+pub real_of : (p : Problem) (singles : List Single) → All (λ s. p.is_real s.vertex ≡ true) singles → (v : ℕ)
+    → is_in (vertices_of singles) v ≡ true → p.is_real v ≡ true
 real_of p [] real v within = absurd (false≢true within)
 real_of p (s ∷ ss) real v within =
     step (is_in-cases s.vertex (vertices_of ss) v within)
@@ -106,7 +106,7 @@ real_of p (s ∷ ss) real v within =
     step (inr e) rest = rest e
 
 -- no set holds a vertex without a name
-height_none : (sprouts : List Sprout) (v : ℕ) → name_at sprouts v ≡ None → height_of (map cut_of sprouts) v ≡ 0
+height_none : (singles : List Single) (v : ℕ) → name_at singles v ≡ None → height_of (map cut_of singles) v ≡ 0
 unfolding name_at
 height_none [] v e = refl
 height_none (s ∷ ss) v e = step (cases_Bool (s.vertex == v)) (height_none ss v)
@@ -130,17 +130,17 @@ height_none (s ∷ ss) v e = step (cases_Bool (s.vertex == v)) (height_none ss v
         )
 
 -- no set holds two vertices that aren't the same
-load_split : (sprouts : List Sprout) (e : Edge) → All (λ s. s.vertex ≡ e.first → s.vertex ≡ e.second → ⊥) sprouts
-    → load_of (map cut_of sprouts) e ≡ height_of (map cut_of sprouts) e.first + height_of (map cut_of sprouts) e.second
-load_split sprouts e differs =
-    weigh-either (λ s. is_in s e.first) (λ s. is_in s e.second) (λ s. crosses s e) (map cut_of sprouts)
+load_split : (singles : List Single) (e : Edge) → All (λ s. s.vertex ≡ e.first → s.vertex ≡ e.second → ⊥) singles
+    → load_of (map cut_of singles) e ≡ height_of (map cut_of singles) e.first + height_of (map cut_of singles) e.second
+load_split singles e differs =
+    weigh-either (λ s. is_in s e.first) (λ s. is_in s e.second) (λ s. crosses s e) (map cut_of singles)
     (All-map (λ c. (x : ℕ) → cond (crosses c.vertices e) x 0 ≡ cond (is_in c.vertices e.first) x 0 + cond (is_in c.vertices e.second) x 0)
-    cut_of sprouts
+    cut_of singles
     (λ i d less x.
-    one (is_in ((get_or sprouts i d).vertex ∷ []) e.first) (is_in ((get_or sprouts i d).vertex ∷ []) e.second) x
+    one (is_in ((get_or singles i d).vertex ∷ []) e.first) (is_in ((get_or singles i d).vertex ∷ []) e.second) x
     (λ first second.
-    differs i d less (eqb-true _ _ (sym (or_false ((get_or sprouts i d).vertex == e.first)) ∙ first))
-    (eqb-true _ _ (sym (or_false ((get_or sprouts i d).vertex == e.second)) ∙ second)))))
+    differs i d less (eqb-true _ _ (sym (or_false ((get_or singles i d).vertex == e.first)) ∙ first))
+    (eqb-true _ _ (sym (or_false ((get_or singles i d).vertex == e.second)) ∙ second)))))
   where
     one : (a b : Bool) (x : ℕ) → (a ≡ true → b ≡ true → ⊥) → cond (differ a b) x 0 ≡ cond a x 0 + cond b x 0
     one true true x h = absurd (h refl refl)
@@ -148,7 +148,7 @@ load_split sprouts e differs =
     one false true x h = omega arith
     one false false x h = refl
 
-pub vertex_in : (sprouts : List Sprout) → All (λ s. is_in (vertices_of sprouts) s.vertex ≡ true) sprouts
+pub vertex_in : (singles : List Single) → All (λ s. is_in (vertices_of singles) s.vertex ≡ true) singles
 vertex_in [] = All-nil (λ s. is_in [] s.vertex ≡ true)
 vertex_in (s ∷ ss) =
     All-cons (λ t. is_in (s.vertex ∷ vertices_of ss) t.vertex ≡ true) s ss (is_in-head s.vertex (vertices_of ss))
@@ -163,8 +163,8 @@ single_apart u w other v within =
     or_false (w == v)
     ∙ ne_eqb w v (λ same. other (eqb-true u v (sym (or_false (u == v)) ∙ within) ∙ sym same))
 
-all_apart : (sprouts : List Sprout) → AreDistinct (vertices_of sprouts)
-    → AllPairs (λ m n. AreApart m.top.vertices n.top.vertices) (nodes_of sprouts)
+all_apart : (singles : List Single) → AreDistinct (vertices_of singles)
+    → AllPairs (λ m n. AreApart m.top.vertices n.top.vertices) (nodes_of singles)
 all_apart [] distinct = λ i j d less below. absurd (omega arith)
 all_apart (s ∷ ss) distinct =
     AllPairs-cons (λ m n. AreApart m.top.vertices n.top.vertices) (node_of s) (nodes_of ss)
@@ -174,56 +174,56 @@ all_apart (s ∷ ss) distinct =
     (λ same. both_ways (is_in (vertices_of ss) s.vertex) distinct.0 (ap (is_in (vertices_of ss)) same ∙ vertex_in ss i d less))))
     (all_apart ss distinct.1)
 
-singles_laminar : (sprouts : List Sprout) → AllPairs IsNestedOrApart (map cut_of sprouts)
+singles_laminar : (singles : List Single) → AllPairs IsNestedOrApart (map cut_of singles)
 singles_laminar [] = λ i j d less below. absurd (omega arith)
 singles_laminar (s ∷ ss) =
     AllPairs-cons IsNestedOrApart (cut_of s) (map cut_of ss)
     (All-map (IsNestedOrApart (cut_of s)) cut_of ss (λ i d less. either s (get_or ss i d) (cases_eq s.vertex (get_or ss i d).vertex)))
     (singles_laminar ss)
   where
-    either : (a b : Sprout) → (a.vertex ≡ b.vertex) ⊎ (a.vertex ≡ b.vertex → ⊥) → IsNestedOrApart (cut_of a) (cut_of b)
+    either : (a b : Single) → (a.vertex ≡ b.vertex) ⊎ (a.vertex ≡ b.vertex → ⊥) → IsNestedOrApart (cut_of a) (cut_of b)
     either a b (inl same) = inl (λ v within. ap (λ w. is_in (w ∷ []) v) (sym same) ∙ within)
     either a b (inr other) = inr (inr (single_apart a.vertex b.vertex other))
 
-one_radius : (s : Sprout) → HasRadius (node_of s)
+one_radius : (s : Single) → HasRadius (node_of s)
 one_radius s d within = ap (λ b. 0 + cond b s.value 0) within
 
-pub sprouts_are_dual : SproutsAreDual
+pub singles_are_dual : SinglesAreDual
 unfolding name_at
-sprouts_are_dual p sprouts are = record {
-  packing = subst (λ l. IsPacking (with_defects p l) (all_cuts (nodes_of sprouts))) (sym (leaves_are sprouts)) are.packing;
-  names = subst AreDistinct (sym (names_are sprouts)) are.names;
-  laminar = subst (AllPairs IsNestedOrApart) (sym (cuts_are sprouts)) (singles_laminar sprouts);
-  grown = All-map (λ n. AreGrown (layers_of n)) node_of sprouts (λ i d less. (tt, tt));
+singles_are_dual p singles are = record {
+  packing = subst (λ l. IsPacking (with_defects p l) (all_cuts (nodes_of singles))) (sym (leaves_are singles)) are.packing;
+  names = subst AreDistinct (sym (names_are singles)) are.names;
+  laminar = subst (AllPairs IsNestedOrApart) (sym (cuts_are singles)) (singles_laminar singles);
+  grown = All-map (λ n. AreGrown (layers_of n)) node_of singles (λ i d less. (tt, tt));
   held = are.held;
   total = are.total;
-  apart = λ i j d less below out other. all_apart sprouts are.vertices i j d less below;
-  radii = All-map HasRadius node_of sprouts (λ i d less. one_radius (get_or sprouts i d));
+  apart = λ i j d less below out other. all_apart singles are.vertices i j d less below;
+  radii = All-map HasRadius node_of singles (λ i d less. one_radius (get_or singles i d));
   defects = λ d leaf.
-      let found = vertex_named sprouts d (ap (λ l. is_in l d) (sym (leaves_are sprouts)) ∙ leaf) in
-      subst IsSome (sym (cover_is sprouts d ∙ found.1)) refl;
-  real = λ v covered. by_name v (name_at sprouts v) refl (subst IsSome (cover_is sprouts v) covered);
+      let found = vertex_named singles d (ap (λ l. is_in l d) (sym (leaves_are singles)) ∙ leaf) in
+      subst IsSome (sym (cover_is singles d ∙ found.1)) refl;
+  real = λ v covered. by_name v (name_at singles v) refl (subst IsSome (cover_is singles v) covered);
   uncovered = λ v none.
-      ap (λ l. height_of l v) (cuts_are sprouts) ∙ height_none sprouts v (sym (cover_is sprouts v) ∙ none);
+      ap (λ l. height_of l v) (cuts_are singles) ∙ height_none singles v (sym (cover_is singles v) ∙ none);
   loads = λ e differs.
-      subst (λ cuts. load_of cuts e ≡ height_of cuts e.first + height_of cuts e.second) (sym (cuts_are sprouts))
-      (load_split sprouts e
+      subst (λ cuts. load_of cuts e ≡ height_of cuts e.first + height_of cuts e.second) (sym (cuts_are singles))
+      (load_split singles e
       (λ i d less first second.
-      let found = vertex_named sprouts (get_or sprouts i d).vertex (vertex_in sprouts i d less) in
+      let found = vertex_named singles (get_or singles i d).vertex (vertex_in singles i d less) in
       differs (
         found.0,
-        cover_is sprouts e.first ∙ (ap (name_at sprouts) (sym first) ∙ found.1),
-        cover_is sprouts e.second ∙ (ap (name_at sprouts) (sym second) ∙ found.1),
+        cover_is singles e.first ∙ (ap (name_at singles) (sym first) ∙ found.1),
+        cover_is singles e.second ∙ (ap (name_at singles) (sym second) ∙ found.1),
       )));
-  parity = λ v name cover. (v, ap (λ l. is_in l v) (leaves_are sprouts) ∙ named_vertex sprouts v name (sym (cover_is sprouts v) ∙ cover), cover, refl);
+  parity = λ v name cover. (v, ap (λ l. is_in l v) (leaves_are singles) ∙ named_vertex singles v name (sym (cover_is singles v) ∙ cover), cover, refl);
 }
   where
-    by_name : (v : ℕ) (o : Option ℕ) → name_at sprouts v ≡ o → IsSome o → p.is_real v ≡ true
+    by_name : (v : ℕ) (o : Option ℕ) → name_at singles v ≡ o → IsSome o → p.is_real v ≡ true
     by_name v None e some = absurd (false≢true some)
-    by_name v (Some name) e some = real_of p sprouts are.real v (named_vertex sprouts v name e)
+    by_name v (Some name) e some = real_of p singles are.real v (named_vertex singles v name e)
 
 -- cuts without values
-pub no_sum : (test : List ℕ → Bool) (sprouts : List Sprout) → All (λ s. s.value ≡ 0) sprouts → weigh test (map cut_of sprouts) ≡ 0
+pub no_sum : (test : List ℕ → Bool) (singles : List Single) → All (λ s. s.value ≡ 0) singles → weigh test (map cut_of singles) ≡ 0
 no_sum test [] zero_ = refl
 no_sum test (s ∷ ss) zero_ =
     omega (
@@ -238,20 +238,20 @@ no_sum test (s ∷ ss) zero_ =
     at_most true n = omega arith
     at_most false n = omega arith
 
-pub bare_height : (sprouts : List Sprout) (v : ℕ) → All (λ s. s.value ≡ 0) sprouts → height_of (all_cuts (nodes_of sprouts)) v ≡ 0
-bare_height sprouts v bare = ap (λ l. height_of l v) (cuts_are sprouts) ∙ no_sum (λ s. is_in s v) sprouts bare
+pub bare_height : (singles : List Single) (v : ℕ) → All (λ s. s.value ≡ 0) singles → height_of (all_cuts (nodes_of singles)) v ≡ 0
+bare_height singles v bare = ap (λ l. height_of l v) (cuts_are singles) ∙ no_sum (λ s. is_in s v) singles bare
 
-odd_single : (p : Problem) (sprouts : List Sprout) → All (λ s. p.is_real s.vertex ≡ true) sprouts
-    → All (IsOddCut (with_defects p (vertices_of sprouts))) (map cut_of sprouts)
-odd_single p sprouts real =
-    All-map (IsOddCut (with_defects p (vertices_of sprouts))) cut_of sprouts
+odd_single : (p : Problem) (singles : List Single) → All (λ s. p.is_real s.vertex ≡ true) singles
+    → All (IsOddCut (with_defects p (vertices_of singles))) (map cut_of singles)
+odd_single p singles real =
+    All-map (IsOddCut (with_defects p (vertices_of singles))) cut_of singles
     (λ i d less. record {
       distinct = (refl, tt);
-      real = All-cons (λ v. p.is_real v ≡ true) (get_or sprouts i d).vertex [] (real i d less) (All-nil (λ v. p.is_real v ≡ true));
-      odd = ap (λ b. differ b false) (vertex_in sprouts i d less);
+      real = All-cons (λ v. p.is_real v ≡ true) (get_or singles i d).vertex [] (real i d less) (All-nil (λ v. p.is_real v ≡ true));
+      odd = ap (λ b. differ b false) (vertex_in singles i d less);
     })
 
-total_none : (sprouts : List Sprout) → All (λ s. s.value ≡ 0) sprouts → total_value (map cut_of sprouts) ≡ 0
+total_none : (singles : List Single) → All (λ s. s.value ≡ 0) singles → total_value (map cut_of singles) ≡ 0
 total_none [] zero_ = refl
 total_none (s ∷ ss) zero_ =
     omega (
@@ -262,22 +262,22 @@ total_none (s ∷ ss) zero_ =
     )
 
 pub beginning_is_dual : BeginningIsDual
-beginning_is_dual p sprouts names vertices real zero_ =
-    sprouts_are_dual p sprouts (record {
+beginning_is_dual p singles names vertices real zero_ =
+    singles_are_dual p singles (record {
       names = names;
       vertices = vertices;
       real = real;
       packing = record {
-        odd = subst (All (IsOddCut (with_defects p (vertices_of sprouts)))) (sym (cuts_are sprouts)) (odd_single p sprouts real);
+        odd = subst (All (IsOddCut (with_defects p (vertices_of singles)))) (sym (cuts_are singles)) (odd_single p singles real);
         fits = λ i d less.
-            let none : load_of (all_cuts (nodes_of sprouts)) (get_or p.edges i d) ≡ 0 =
-            ap (λ cuts. load_of cuts (get_or p.edges i d)) (cuts_are sprouts)
-            ∙ no_sum (λ s. crosses s (get_or p.edges i d)) sprouts zero_ in
+            let none : load_of (all_cuts (nodes_of singles)) (get_or p.edges i d) ≡ 0 =
+            ap (λ cuts. load_of cuts (get_or p.edges i d)) (cuts_are singles)
+            ∙ no_sum (λ s. crosses s (get_or p.edges i d)) singles zero_ in
             omega arith;
       };
-      held = subst (All (IsHeld p)) (sym (cuts_are sprouts)) (All-map (IsHeld p) cut_of sprouts (λ i d less. inl (zero_ i d less)));
+      held = subst (All (IsHeld p)) (sym (cuts_are singles)) (All-map (IsHeld p) cut_of singles (λ i d less. inl (zero_ i d less)));
       total =
-          let none : total_value (all_cuts (nodes_of sprouts)) ≡ 0 =
-          ap total_value (cuts_are sprouts) ∙ total_none sprouts zero_ in
+          let none : total_value (all_cuts (nodes_of singles)) ≡ 0 =
+          ap total_value (cuts_are singles) ∙ total_none singles zero_ in
           omega arith;
     })
