@@ -87,7 +87,7 @@ abbrev middle_cuts : List Cut
 middle_cuts = cut 2 (1 ∷ 2 ∷ 3 ∷ []) ∷ cut 2 (2 ∷ []) ∷ cut 2 (2 ∷ 3 ∷ []) ∷ []
 
 -- a defect in the middle goes to the nearer boundary
-middle_is_best : IsBest (problem_of row (2 ∷ [])) (0 ∷ 1 ∷ []) 6 middle_cuts
+middle_is_best : IsBest (problem_of row (record { defects = 2 ∷ [] })) (0 ∷ 1 ∷ []) 6 middle_cuts
 middle_is_best = record {
   edge_set = record {
     rising = rising-cons 0 1 [] (omega arith) (rising-one 1);
@@ -96,7 +96,7 @@ middle_is_best = record {
   flips = parity_by_cases row (2 ∷ []) (parity_of row (0 ∷ 1 ∷ [])) refl;
   weighs = refl;
   printed =
-      All-from_recursion (IsPrintedCut (problem_of row (2 ∷ []))) middle_cuts (
+      All-from_recursion (IsPrintedCut (problem_of row (record { defects = 2 ∷ [] }))) middle_cuts (
         printed_cut _ _ refl refl (omega arith)
             (rising-cons 1 2 (3 ∷ []) (omega arith) (rising-cons 2 3 [] (omega arith) (rising-one 3))),
         (
@@ -105,35 +105,35 @@ middle_is_best = record {
         ),
       );
   rising = (refl, (refl, (tt, tt)));
-  fits = fits_by_cases (problem_of row (2 ∷ [])) middle_cuts refl;
+  fits = fits_by_cases (problem_of row (record { defects = 2 ∷ [] })) middle_cuts refl;
   total = refl;
 }
 
 -- a defect beside the boundary
-beside_is_best : IsBest (problem_of row (1 ∷ [])) (0 ∷ []) 2 (cut 2 (1 ∷ []) ∷ [])
+beside_is_best : IsBest (problem_of row (record { defects = 1 ∷ [] })) (0 ∷ []) 2 (cut 2 (1 ∷ []) ∷ [])
 beside_is_best = record {
   edge_set = record { rising = rising-one 0; within = below_by_cases 4 (0 ∷ []) refl };
   flips = parity_by_cases row (1 ∷ []) (parity_of row (0 ∷ [])) refl;
   weighs = refl;
   printed =
-      All-from_recursion (IsPrintedCut (problem_of row (1 ∷ []))) (cut 2 (1 ∷ []) ∷ [])
+      All-from_recursion (IsPrintedCut (problem_of row (record { defects = 1 ∷ [] }))) (cut 2 (1 ∷ []) ∷ [])
       (printed_cut _ _ refl refl (omega arith) (rising-one 1), tt);
   rising = (tt, tt);
-  fits = fits_by_cases (problem_of row (1 ∷ [])) (cut 2 (1 ∷ []) ∷ []) refl;
+  fits = fits_by_cases (problem_of row (record { defects = 1 ∷ [] })) (cut 2 (1 ∷ []) ∷ []) refl;
   total = refl;
 }
 
 -- another weight than that of the edges
-wrong_weight : ¬ IsBest (problem_of row (2 ∷ [])) (0 ∷ 1 ∷ []) 8 middle_cuts
+wrong_weight : ¬ IsBest (problem_of row (record { defects = 2 ∷ [] })) (0 ∷ 1 ∷ []) 8 middle_cuts
 wrong_weight best = cc best.weighs
 
 -- cuts that add up to the weight, but load the edge of number 2 with 3
-overloaded : ¬ IsBest (problem_of row (2 ∷ [])) (0 ∷ 1 ∷ []) 6
+overloaded : ¬ IsBest (problem_of row (record { defects = 2 ∷ [] })) (0 ∷ 1 ∷ []) 6
     (cut 1 (1 ∷ 2 ∷ 3 ∷ []) ∷ cut 3 (2 ∷ []) ∷ cut 2 (2 ∷ 3 ∷ []) ∷ [])
 overloaded best = let load : 3 ≤ 2 = best.fits 2 no_edge (omega arith) in omega arith
 
 -- a cut that holds a boundary vertex
-holds_boundary : ¬ IsBest (problem_of row (2 ∷ [])) (0 ∷ 1 ∷ []) 6
+holds_boundary : ¬ IsBest (problem_of row (record { defects = 2 ∷ [] })) (0 ∷ 1 ∷ []) 6
     (cut 2 (0 ∷ 1 ∷ 2 ∷ 3 ∷ []) ∷ cut 2 (2 ∷ []) ∷ cut 2 (2 ∷ 3 ∷ []) ∷ [])
 holds_boundary best =
     false≢true ((best.printed 0 (cut 0 []) (omega arith)).odd.real 0 0 (omega arith))
@@ -150,7 +150,7 @@ abbrev first_component : List ℕ
 first_component = 0 ∷ 1 ∷ 2 ∷ []
 
 abbrev first_problem : Problem
-first_problem = problem_of two_components first_component
+first_problem = problem_of two_components (record { defects = first_component })
 
 joined_to_first : All (IsJoined first_problem 0) first_component
 joined_to_first =
@@ -180,37 +180,37 @@ odd_without_boundary =
     refl (λ u defect real. defect) 0 refl (λ u within. zero-le)
 
 -- one defect in the one with
-odd_with_boundary : IsFirstOdd (problem_of two_components (3 ∷ [])) None
+odd_with_boundary : IsFirstOdd (problem_of two_components (record { defects = 3 ∷ [] })) None
 odd_with_boundary =
-    best_has_no_odd (problem_of two_components (3 ∷ [])) (2 ∷ []) 2 (cut 2 (3 ∷ []) ∷ [])
+    best_has_no_odd (problem_of two_components (record { defects = 3 ∷ [] })) (2 ∷ []) 2 (cut 2 (3 ∷ []) ∷ [])
     (record {
       edge_set = record { rising = rising-one 2; within = below_by_cases 3 (2 ∷ []) refl };
       flips = parity_by_cases two_components (3 ∷ []) (parity_of two_components (2 ∷ [])) refl;
       weighs = refl;
       printed =
-          All-from_recursion (IsPrintedCut (problem_of two_components (3 ∷ []))) (cut 2 (3 ∷ []) ∷ [])
+          All-from_recursion (IsPrintedCut (problem_of two_components (record { defects = 3 ∷ [] }))) (cut 2 (3 ∷ []) ∷ [])
           (printed_cut _ _ refl refl (omega arith) (rising-one 3), tt);
       rising = (tt, tt);
-      fits = fits_by_cases (problem_of two_components (3 ∷ [])) (cut 2 (3 ∷ []) ∷ []) refl;
+      fits = fits_by_cases (problem_of two_components (record { defects = 3 ∷ [] })) (cut 2 (3 ∷ []) ∷ []) refl;
       total = refl;
     })
 
 -- so no closed set of that problem is odd
-boundary_settles : HasNoOddClosed (problem_of two_components (3 ∷ []))
+boundary_settles : HasNoOddClosed (problem_of two_components (record { defects = 3 ∷ [] }))
 boundary_settles =
-    no_odd_component (problem_of two_components (3 ∷ []))
+    no_odd_component (problem_of two_components (record { defects = 3 ∷ [] }))
     (λ v real. ltb-true v 5 (and_parts (ltb v 5) _ real).0) odd_with_boundary
 
 -- the walk from the defect in the middle to the nearer boundary, as a link
 abbrev to_boundary : List Link
 to_boundary = record { from = 2; to = 0; walk = 1 ∷ 0 ∷ [] } ∷ []
 
-middle_is_perfect : IsPerfect (problem_of row (2 ∷ [])) middle_cuts to_boundary
+middle_is_perfect : IsPerfect (problem_of row (record { defects = 2 ∷ [] })) middle_cuts to_boundary
 middle_is_perfect = record {
   walks =
-      All-from_recursion (λ l. IsWalkBy (problem_of row (2 ∷ [])) l.walk l.from l.to) to_boundary
+      All-from_recursion (λ l. IsWalkBy (problem_of row (record { defects = 2 ∷ [] })) l.walk l.from l.to) to_boundary
       ((1, omega arith, inr (refl, refl), (0, omega arith, inr (refl, refl), refl)), tt);
-  tight = All-from_recursion (IsTight (problem_of row (2 ∷ [])) middle_cuts) to_boundary (refl, tt);
+  tight = All-from_recursion (IsTight (problem_of row (record { defects = 2 ∷ [] })) middle_cuts) to_boundary (refl, tt);
   flips = parity_by_cases row (2 ∷ []) (λ v. is_odd_count (λ l. touches v (ends_of l)) to_boundary) refl;
   once =
       All-from_recursion (λ c. count_by (λ l. crosses c.vertices (ends_of l)) to_boundary ≤ 1) middle_cuts
@@ -218,7 +218,7 @@ middle_is_perfect = record {
 }
 
 -- it opens to the correction
-middle_is_solved : IsSolved (problem_of row (2 ∷ [])) middle_cuts (0 ∷ 1 ∷ [])
+middle_is_solved : IsSolved (problem_of row (record { defects = 2 ∷ [] })) middle_cuts (0 ∷ 1 ∷ [])
 middle_is_solved =
-    resolving (problem_of row (2 ∷ [])) middle_cuts to_boundary
-    (packing_of_best (problem_of row (2 ∷ [])) (0 ∷ 1 ∷ []) 6 middle_cuts middle_is_best) middle_is_perfect
+    resolving (problem_of row (record { defects = 2 ∷ [] })) middle_cuts to_boundary
+    (packing_of_best (problem_of row (record { defects = 2 ∷ [] })) (0 ∷ 1 ∷ []) 6 middle_cuts middle_is_best) middle_is_perfect

@@ -7,13 +7,13 @@ use Rattle.std.proofs.lemmas.List.Elements.{All-from_get_or, All-nil, All-cons, 
 use Rattle.std.proofs.lemmas.List.Folds.{list_any-append}
 use Rattle.std.proofs.lemmas.List.FromFn.{length-range_with_len}
 use Rattle.fb_graph.specs.Parity.{differ, is_in}
-use Rattle.fb_graph.specs.Problem.{edge_at, no_edge, touches}
+use Rattle.fb_graph.specs.Problem.{Problem, edge_at, no_edge, touches}
 use Rattle.fb_graph.specs.Certificate.{AreDistinct}
 use Rattle.fb_graph.specs.Components.{IsJoined}
 use Rattle.fb_graph.specs.Flooding.{Reached, IsReached, with_vertex, with_ends, Grows, IsSettled, IsFlooding}
 use Rattle.fb_graph.specs.Labelling.{IsLabelling, label_of}
 use Rattle.fb_graph.specs.Layout.{edges_at}
-use Rattle.fb_graph.specs.Limits.{DecodingGraph, IsGraph, problem_of}
+use Rattle.fb_graph.specs.Limits.{IsWithinLimits}
 use Rattle.fb_graph.specs.declared.parts.Edge.{Edge}
 use Rattle.fb_graph.proofs.Ranges.{filter-range_below, is_in-filter-range}
 use Rattle.fb_graph.proofs.Sets.{distinct_from_rising, is_in-All, is_in-cases, is_in-head, is_in-range, is_in-tail, is_in_at, length-le_from_within, range_rises}
@@ -169,14 +169,14 @@ settled_grows s t e grows settled = record {
   same = grows.labels e.first settled.first ∙ (settled.same ∙ sym (grows.labels e.second settled.second));
 }
 
-module _ (g : DecodingGraph) (graph : IsGraph g) where
+module _ (p : Problem) (limits : IsWithinLimits p) where
   -- one more vertex that is joined to the label
-  flooding_reached : (s : Reached) (head label v : ℕ) → IsFlooding g s head label → head ≤ length s.order
-      → v < g.vertices → IsJoined (problem_of g []) v label → IsFlooding g (with_vertex s v label) head label
+  flooding_reached : (s : Reached) (head label v : ℕ) → IsFlooding p s head label → head ≤ length s.order
+      → v < p.vertices → IsJoined p v label → IsFlooding p (with_vertex s v label) head label
   flooding_reached s head label v flooding place below joined =
       elim (cases_Bool (is_in s.order v)) [
-        | inl within ↦ subst (λ t. IsFlooding g t head label) (sym (reached_before s v label within)) flooding
-        | inr absent ↦ subst (λ t. IsFlooding g t head label) (sym (reached_new s v label absent)) (more absent)
+        | inl within ↦ subst (λ t. IsFlooding p t head label) (sym (reached_before s v label within)) flooding
+        | inr absent ↦ subst (λ t. IsFlooding p t head label) (sym (reached_new s v label absent)) (more absent)
       ]
     where
       own : label_of (set s.labels v label) v ≡ label
@@ -186,14 +186,14 @@ module _ (g : DecodingGraph) (graph : IsGraph g) where
       not_passed absent (inl before) = absurd (both_ways (is_in s.order v) absent (flooding.passed v before))
       not_passed absent (inr after) = after
 
-      more : is_in s.order v ≡ false → IsFlooding g (record { labels = set s.labels v label; order = s.order ++ v ∷ [] }) head label
+      more : is_in s.order v ≡ false → IsFlooding p (record { labels = set s.labels v label; order = s.order ++ v ∷ [] }) head label
       more absent = record {
         count = length-set s.labels v label ∙ flooding.count;
         low = λ u h. low u (is_in-push s.order v u h);
         joined = λ u h. joined_to u (is_in-push s.order v u h);
         passed = λ u before. is_in-left s.order (v ∷ []) u (flooding.passed u before);
         settled = λ u h k less touched.
-            settled_grows s _ (edge_at g.edges k) grows
+            settled_grows s _ (edge_at p.edges k) grows
             (flooding.settled u (ap (λ xs. is_in xs u) (sym (take-append-le head s.order (v ∷ []) place)) ∙ h) k less touched);
         waiting = λ u h.
             waits u (is_in-push (drop head s.order) v u (ap (λ xs. is_in xs u) (sym (drop-append-le head s.order (v ∷ []) place)) ∙ h));
@@ -208,83 +208,83 @@ module _ (g : DecodingGraph) (graph : IsGraph g) where
               (subst (λ l. l ≤ v) (sym own) (not_passed absent (cases_lt v label)))
 
           joined_to : (u : ℕ) → (is_in s.order u ≡ true) ⊎ (v ≡ u)
-              → IsJoined (problem_of g []) u (label_of (set s.labels v label) u)
+              → IsJoined p u (label_of (set s.labels v label) u)
           joined_to u (inl h) =
-              subst (IsJoined (problem_of g []) u) (sym (kept_label s v label u absent h)) (flooding.joined u h)
+              subst (IsJoined p u) (sym (kept_label s v label u absent h)) (flooding.joined u h)
           joined_to u (inr same) =
-              subst (λ w. IsJoined (problem_of g []) w (label_of (set s.labels v label) w)) same
-              (subst (IsJoined (problem_of g []) v) (sym own) joined)
+              subst (λ w. IsJoined p w (label_of (set s.labels v label) w)) same
+              (subst (IsJoined p v) (sym own) joined)
 
           waits : (u : ℕ) → (is_in (drop head s.order) u ≡ true) ⊎ (v ≡ u) → label_of (set s.labels v label) u ≡ label
           waits u (inl h) = kept_label s v label u absent (is_in-drop head s.order u h) ∙ flooding.waiting u h
           waits u (inr same) = ap (label_of (set s.labels v label)) (sym same) ∙ own
 
   -- an edge touches both its ends
-  touches_first : (k : ℕ) → k < length g.edges → touches (edge_at g.edges k).first (edge_at g.edges k) ≡ true
+  touches_first : (k : ℕ) → k < length p.edges → touches (edge_at p.edges k).first (edge_at p.edges k) ≡ true
   touches_first k less =
-      let loopless = (graph.each_edge k no_edge less).loopless in
-      ap (λ a. differ a ((edge_at g.edges k).first == (edge_at g.edges k).second)) (eq-eqb _ _ refl)
-      ∙ ap (differ true) (ne_eqb (edge_at g.edges k).first (edge_at g.edges k).second loopless)
+      let loopless = (limits.each_edge k no_edge less).loopless in
+      ap (λ a. differ a ((edge_at p.edges k).first == (edge_at p.edges k).second)) (eq-eqb _ _ refl)
+      ∙ ap (differ true) (ne_eqb (edge_at p.edges k).first (edge_at p.edges k).second loopless)
 
-  touches_second : (k : ℕ) → k < length g.edges → touches (edge_at g.edges k).second (edge_at g.edges k) ≡ true
+  touches_second : (k : ℕ) → k < length p.edges → touches (edge_at p.edges k).second (edge_at p.edges k) ≡ true
   touches_second k less =
-      let loopless = (graph.each_edge k no_edge less).loopless in
-      ap (λ a. differ a ((edge_at g.edges k).second == (edge_at g.edges k).second))
-      (ne_eqb (edge_at g.edges k).second (edge_at g.edges k).first (λ e. loopless (sym e)))
-      ∙ ap (differ false) (eq-eqb (edge_at g.edges k).second (edge_at g.edges k).second refl)
+      let loopless = (limits.each_edge k no_edge less).loopless in
+      ap (λ a. differ a ((edge_at p.edges k).second == (edge_at p.edges k).second))
+      (ne_eqb (edge_at p.edges k).second (edge_at p.edges k).first (λ e. loopless (sym e)))
+      ∙ ap (differ false) (eq-eqb (edge_at p.edges k).second (edge_at p.edges k).second refl)
 
   -- an edge whose ends were both reached is settled: those that wait have one label
-  both_settled : (s : Reached) (head label k : ℕ) → IsFlooding g s head label → k < length g.edges
-      → is_in s.order (edge_at g.edges k).first ≡ true → is_in s.order (edge_at g.edges k).second ≡ true
-      → IsSettled s (edge_at g.edges k)
+  both_settled : (s : Reached) (head label k : ℕ) → IsFlooding p s head label → k < length p.edges
+      → is_in s.order (edge_at p.edges k).first ≡ true → is_in s.order (edge_at p.edges k).second ≡ true
+      → IsSettled s (edge_at p.edges k)
   both_settled s head label k flooding less first second =
-      step (is_in-take_or_drop head s.order (edge_at g.edges k).first first)
-      (is_in-take_or_drop head s.order (edge_at g.edges k).second second)
+      step (is_in-take_or_drop head s.order (edge_at p.edges k).first first)
+      (is_in-take_or_drop head s.order (edge_at p.edges k).second second)
     where
-      step : (is_in (take head s.order) (edge_at g.edges k).first ≡ true)
-          ⊎ (is_in (drop head s.order) (edge_at g.edges k).first ≡ true)
-          → (is_in (take head s.order) (edge_at g.edges k).second ≡ true)
-          ⊎ (is_in (drop head s.order) (edge_at g.edges k).second ≡ true)
-          → IsSettled s (edge_at g.edges k)
-      step (inl done) other = flooding.settled (edge_at g.edges k).first done k less (touches_first k less)
-      step (inr waits) (inl done) = flooding.settled (edge_at g.edges k).second done k less (touches_second k less)
+      step : (is_in (take head s.order) (edge_at p.edges k).first ≡ true)
+          ⊎ (is_in (drop head s.order) (edge_at p.edges k).first ≡ true)
+          → (is_in (take head s.order) (edge_at p.edges k).second ≡ true)
+          ⊎ (is_in (drop head s.order) (edge_at p.edges k).second ≡ true)
+          → IsSettled s (edge_at p.edges k)
+      step (inl done) other = flooding.settled (edge_at p.edges k).first done k less (touches_first k less)
+      step (inr waits) (inl done) = flooding.settled (edge_at p.edges k).second done k less (touches_second k less)
       step (inr waits) (inr too) = record {
         first = first;
         second = second;
-        same = flooding.waiting (edge_at g.edges k).first waits ∙ sym (flooding.waiting (edge_at g.edges k).second too);
+        same = flooding.waiting (edge_at p.edges k).first waits ∙ sym (flooding.waiting (edge_at p.edges k).second too);
       }
 
   -- both ends of an edge at v are joined to what v is joined to
-  ends_joined : (v k label : ℕ) → k < length g.edges → touches v (edge_at g.edges k) ≡ true
-      → IsJoined (problem_of g []) v label
-      → IsJoined (problem_of g []) (edge_at g.edges k).first label
-      × IsJoined (problem_of g []) (edge_at g.edges k).second label
+  ends_joined : (v k label : ℕ) → k < length p.edges → touches v (edge_at p.edges k) ≡ true
+      → IsJoined p v label
+      → IsJoined p (edge_at p.edges k).first label
+      × IsJoined p (edge_at p.edges k).second label
   ends_joined v k label less touched joined =
-      step (v == (edge_at g.edges k).first) (v == (edge_at g.edges k).second) refl refl touched
+      step (v == (edge_at p.edges k).first) (v == (edge_at p.edges k).second) refl refl touched
     where
-      ends : IsJoined (problem_of g []) (edge_at g.edges k).first (edge_at g.edges k).second
-      ends = joined_ends (problem_of g []) k less
+      ends : IsJoined p (edge_at p.edges k).first (edge_at p.edges k).second
+      ends = joined_ends p k less
 
-      by_first : v ≡ (edge_at g.edges k).first → IsJoined (problem_of g []) (edge_at g.edges k).first label
-      by_first same = subst (λ w. IsJoined (problem_of g []) w label) same joined
+      by_first : v ≡ (edge_at p.edges k).first → IsJoined p (edge_at p.edges k).first label
+      by_first same = subst (λ w. IsJoined p w label) same joined
 
-      by_second : v ≡ (edge_at g.edges k).second → IsJoined (problem_of g []) (edge_at g.edges k).second label
-      by_second same = subst (λ w. IsJoined (problem_of g []) w label) same joined
+      by_second : v ≡ (edge_at p.edges k).second → IsJoined p (edge_at p.edges k).second label
+      by_second same = subst (λ w. IsJoined p w label) same joined
 
-      step : (a b : Bool) → (v == (edge_at g.edges k).first) ≡ a → (v == (edge_at g.edges k).second) ≡ b
-          → differ (v == (edge_at g.edges k).first) (v == (edge_at g.edges k).second) ≡ true
-          → IsJoined (problem_of g []) (edge_at g.edges k).first label
-          × IsJoined (problem_of g []) (edge_at g.edges k).second label
+      step : (a b : Bool) → (v == (edge_at p.edges k).first) ≡ a → (v == (edge_at p.edges k).second) ≡ b
+          → differ (v == (edge_at p.edges k).first) (v == (edge_at p.edges k).second) ≡ true
+          → IsJoined p (edge_at p.edges k).first label
+          × IsJoined p (edge_at p.edges k).second label
       step true b e f h =
-          let here = by_first (eqb-true v (edge_at g.edges k).first e) in
-          (here, joined_trans (problem_of g []) _ _ _ (joined_sym (problem_of g []) _ _ ends) here)
+          let here = by_first (eqb-true v (edge_at p.edges k).first e) in
+          (here, joined_trans p _ _ _ (joined_sym p _ _ ends) here)
       step false true e f h =
-          let here = by_second (eqb-true v (edge_at g.edges k).second f) in
-          (joined_trans (problem_of g []) _ _ _ ends here, here)
+          let here = by_second (eqb-true v (edge_at p.edges k).second f) in
+          (joined_trans p _ _ _ ends here, here)
       step false false e f h =
-          absurd (false≢true (sym (ap (λ a. differ a (v == (edge_at g.edges k).second)) e ∙ ap (differ false) f) ∙ h))
+          absurd (false≢true (sym (ap (λ a. differ a (v == (edge_at p.edges k).second)) e ∙ ap (differ false) f) ∙ h))
 
-  module _ (s : Reached) (head label : ℕ) (flooding : IsFlooding g s head label) (place : head < length s.order) where
+  module _ (s : Reached) (head label : ℕ) (flooding : IsFlooding p s head label) (place : head < length s.order) where
     -- the vertex whose turn it is waits
     own_label : label_of s.labels (get_or s.order head 0) ≡ label
     own_label =
@@ -292,33 +292,33 @@ module _ (g : DecodingGraph) (graph : IsGraph g) where
         (ap (λ xs. is_in xs (get_or s.order head 0)) (drop_more s.order head 0 place)
         ∙ is_in-head (get_or s.order head 0) (drop (head + 1) s.order))
 
-    own_joined : IsJoined (problem_of g []) (get_or s.order head 0) label
+    own_joined : IsJoined p (get_or s.order head 0) label
     own_joined =
-        subst (IsJoined (problem_of g []) (get_or s.order head 0)) own_label
+        subst (IsJoined p (get_or s.order head 0)) own_label
         (flooding.joined (get_or s.order head 0) (is_in_at s.order head 0 place))
 
     -- an edge at it
-    pub flooding-with_ends : (k : ℕ) → k < length g.edges → touches (get_or s.order head 0) (edge_at g.edges k) ≡ true
-        → IsFlooding g (with_ends g s k label) head label
+    pub flooding-with_ends : (k : ℕ) → k < length p.edges → touches (get_or s.order head 0) (edge_at p.edges k) ≡ true
+        → IsFlooding p (with_ends p s k label) head label
     flooding-with_ends k less touched =
         let joined = ends_joined (get_or s.order head 0) k label less touched own_joined in
-        let edge = graph.each_edge k no_edge less in
-        let grows = grows_reached s (edge_at g.edges k).first label in
-        flooding_reached (with_vertex s (edge_at g.edges k).first label) head label (edge_at g.edges k).second
-        (flooding_reached s head label (edge_at g.edges k).first flooding (omega arith) edge.first joined.0)
+        let edge = limits.each_edge k no_edge less in
+        let grows = grows_reached s (edge_at p.edges k).first label in
+        flooding_reached (with_vertex s (edge_at p.edges k).first label) head label (edge_at p.edges k).second
+        (flooding_reached s head label (edge_at p.edges k).first flooding (omega arith) edge.first joined.0)
         (omega (arith, grows.longer)) edge.second joined.1
 
-    pub settled-with_ends : (k : ℕ) → k < length g.edges → touches (get_or s.order head 0) (edge_at g.edges k) ≡ true
-        → IsSettled (with_ends g s k label) (edge_at g.edges k)
+    pub settled-with_ends : (k : ℕ) → k < length p.edges → touches (get_or s.order head 0) (edge_at p.edges k) ≡ true
+        → IsSettled (with_ends p s k label) (edge_at p.edges k)
     settled-with_ends k less touched =
-        both_settled (with_ends g s k label) head label k (flooding-with_ends k less touched) less
-        ((grows_reached (with_vertex s (edge_at g.edges k).first label) (edge_at g.edges k).second label).within
-        (edge_at g.edges k).first (is_in-with_vertex s (edge_at g.edges k).first label))
-        (is_in-with_vertex (with_vertex s (edge_at g.edges k).first label) (edge_at g.edges k).second label)
+        both_settled (with_ends p s k label) head label k (flooding-with_ends k less touched) less
+        ((grows_reached (with_vertex s (edge_at p.edges k).first label) (edge_at p.edges k).second label).within
+        (edge_at p.edges k).first (is_in-with_vertex s (edge_at p.edges k).first label))
+        (is_in-with_vertex (with_vertex s (edge_at p.edges k).first label) (edge_at p.edges k).second label)
 
     -- all edges at it settled
-    pub flooding-onward : ((k : ℕ) → is_in (edges_at g.edges (length g.edges) (get_or s.order head 0)) k ≡ true → IsSettled s (edge_at g.edges k))
-        → IsFlooding g s (head + 1) label
+    pub flooding-onward : ((k : ℕ) → is_in (edges_at p.edges (length p.edges) (get_or s.order head 0)) k ≡ true → IsSettled s (edge_at p.edges k))
+        → IsFlooding p s (head + 1) label
     flooding-onward each = record {
       count = flooding.count;
       low = flooding.low;
@@ -331,22 +331,22 @@ module _ (g : DecodingGraph) (graph : IsGraph g) where
     }
       where
         settled : (v : ℕ) → (is_in (take head s.order) v ≡ true) ⊎ (get_or s.order head 0 ≡ v)
-            → (k : ℕ) → k < length g.edges → touches v (edge_at g.edges k) ≡ true → IsSettled s (edge_at g.edges k)
+            → (k : ℕ) → k < length p.edges → touches v (edge_at p.edges k) ≡ true → IsSettled s (edge_at p.edges k)
         settled v (inl done) k less touched = flooding.settled v done k less touched
         settled v (inr same) k less touched =
             each k
-            (is_in-filter-range (λ j. touches (get_or s.order head 0) (edge_at g.edges j)) (length g.edges) k less
-            ∙ (ap (λ w. touches w (edge_at g.edges k)) same ∙ touched))
+            (is_in-filter-range (λ j. touches (get_or s.order head 0) (edge_at p.edges j)) (length p.edges) k less
+            ∙ (ap (λ w. touches w (edge_at p.edges k)) same ∙ touched))
 
   -- a further component begins with a vertex whose label it is
-  pub flooding_start : (s : Reached) (v : ℕ) → IsFlooding g s (length s.order) v → v < g.vertices
-      → IsFlooding g (with_vertex s v v) (length s.order) v
+  pub flooding_start : (s : Reached) (v : ℕ) → IsFlooding p s (length s.order) v → v < p.vertices
+      → IsFlooding p (with_vertex s v v) (length s.order) v
   flooding_start s v flooding below =
-      flooding_reached s (length s.order) v v flooding (le_refl (length s.order)) below (joined_self (problem_of g []) v)
+      flooding_reached s (length s.order) v v flooding (le_refl (length s.order)) below (joined_self p v)
 
   -- and ends where nothing waits
-  pub flooding_end : (s : Reached) (v : ℕ) → IsFlooding g s (length s.order) v → is_in s.order v ≡ true
-      → IsFlooding g s (length s.order) (v + 1)
+  pub flooding_end : (s : Reached) (v : ℕ) → IsFlooding p s (length s.order) v → is_in s.order v ≡ true
+      → IsFlooding p s (length s.order) (v + 1)
   flooding_end s v flooding within = record {
     count = flooding.count;
     low = flooding.low;
@@ -360,7 +360,7 @@ module _ (g : DecodingGraph) (graph : IsGraph g) where
       passed u less (inl same) = ap (is_in s.order) same ∙ within
       passed u less (inr other) = let apart : u ≢ v = other in flooding.passed u (omega arith)
 
-  pub flooding_none : (s : Reached) → length s.labels ≡ g.vertices → s.order ≡ [] → IsFlooding g s (length s.order) 0
+  pub flooding_none : (s : Reached) → length s.labels ≡ p.vertices → s.order ≡ [] → IsFlooding p s (length s.order) 0
   flooding_none s count none = record {
     count = count;
     low = λ v h. absurd (nothing v h);
@@ -374,72 +374,72 @@ module _ (g : DecodingGraph) (graph : IsGraph g) where
       nothing v h = false≢true (sym (ap (λ xs. is_in xs v) none) ∙ h)
 
   -- once all vertices were reached the labels tell the components apart
-  pub labelling_from_flood : (s : Reached) → IsFlooding g s (length s.order) g.vertices → IsLabelling g s.labels
+  pub labelling_from_flood : (s : Reached) → IsFlooding p s (length s.order) p.vertices → IsLabelling p s.labels
   labelling_from_flood s flooding = record {
     count = flooding.count;
     low = λ v less. flooding.low v (flooding.passed v less);
     joined = λ v less. flooding.joined v (flooding.passed v less);
-    ends = All-from_get_or (λ e. label_of s.labels e.first ≡ label_of s.labels e.second) g.edges no_edge (λ k less. same k less);
+    ends = All-from_get_or (λ e. label_of s.labels e.first ≡ label_of s.labels e.second) p.edges no_edge (λ k less. same k less);
   }
     where
-      same : (k : ℕ) → k < length g.edges
-          → label_of s.labels (edge_at g.edges k).first ≡ label_of s.labels (edge_at g.edges k).second
+      same : (k : ℕ) → k < length p.edges
+          → label_of s.labels (edge_at p.edges k).first ≡ label_of s.labels (edge_at p.edges k).second
       same k less =
-          let edge = graph.each_edge k no_edge less in
-          let within : is_in s.order (edge_at g.edges k).first ≡ true = flooding.passed (edge_at g.edges k).first edge.first in
-          (flooding.settled (edge_at g.edges k).first
-          (ap (λ xs. is_in xs (edge_at g.edges k).first) (take_all (length s.order) s.order (le_refl _)) ∙ within) k less
+          let edge = limits.each_edge k no_edge less in
+          let within : is_in s.order (edge_at p.edges k).first ≡ true = flooding.passed (edge_at p.edges k).first edge.first in
+          (flooding.settled (edge_at p.edges k).first
+          (ap (λ xs. is_in xs (edge_at p.edges k).first) (take_all (length s.order) s.order (le_refl _)) ∙ within) k less
           (touches_first k less)).same
 
 -- edges settled one after another
-module _ (g : DecodingGraph) (graph : IsGraph g) (old s : Reached) (head label : ℕ) (place : head < length old.order)
-    (flooding : IsFlooding g s head label) (grows : Grows old s) where
+module _ (p : Problem) (limits : IsWithinLimits p) (old s : Reached) (head label : ℕ) (place : head < length old.order)
+    (flooding : IsFlooding p s head label) (grows : Grows old s) where
   here : head < length s.order
   here = omega (arith, grows.longer)
 
   abbrev neighbours : List ℕ
-  neighbours = edges_at g.edges (length g.edges) (get_or old.order head 0)
+  neighbours = edges_at p.edges (length p.edges) (get_or old.order head 0)
 
   neighbour : (k : ℕ) → is_in neighbours k ≡ true
-      → (k < length g.edges) × (touches (get_or s.order head 0) (edge_at g.edges k) ≡ true)
+      → (k < length p.edges) × (touches (get_or s.order head 0) (edge_at p.edges k) ≡ true)
   neighbour k within =
-      let less : k < length g.edges = is_in-All (λ j. j < length g.edges) neighbours
-      (filter-range_below (λ j. touches (get_or old.order head 0) (edge_at g.edges j)) (length g.edges)) k within in (
+      let less : k < length p.edges = is_in-All (λ j. j < length p.edges) neighbours
+      (filter-range_below (λ j. touches (get_or old.order head 0) (edge_at p.edges j)) (length p.edges)) k within in (
         less,
-        ap (λ v. touches v (edge_at g.edges k)) (grows.places head place)
-            ∙ (sym (is_in-filter-range (λ j. touches (get_or old.order head 0) (edge_at g.edges j)) (length g.edges) k less)
+        ap (λ v. touches v (edge_at p.edges k)) (grows.places head place)
+            ∙ (sym (is_in-filter-range (λ j. touches (get_or old.order head 0) (edge_at p.edges j)) (length p.edges) k less)
             ∙ within),
       )
 
-  pub neighbours_more : (edges : List ℕ) (i : ℕ) → edges ≡ edges_at g.edges (length g.edges) (get_or old.order head 0)
-      → i < length edges → ((k : ℕ) → is_in (take i edges) k ≡ true → IsSettled s (edge_at g.edges k))
-      → IsFlooding g (with_ends g s (get_or edges i 0) label) head label
-      × Grows old (with_ends g s (get_or edges i 0) label)
+  pub neighbours_more : (edges : List ℕ) (i : ℕ) → edges ≡ edges_at p.edges (length p.edges) (get_or old.order head 0)
+      → i < length edges → ((k : ℕ) → is_in (take i edges) k ≡ true → IsSettled s (edge_at p.edges k))
+      → IsFlooding p (with_ends p s (get_or edges i 0) label) head label
+      × Grows old (with_ends p s (get_or edges i 0) label)
       × ((k : ℕ) → is_in (take (i + 1) edges) k ≡ true
-      → IsSettled (with_ends g s (get_or edges i 0) label) (edge_at g.edges k))
+      → IsSettled (with_ends p s (get_or edges i 0) label) (edge_at p.edges k))
   neighbours_more edges i are less settled =
       let (below, touched) = neighbour (get_or edges i 0) (ap (λ ks. is_in ks (get_or edges i 0)) (sym are) ∙ is_in_at edges i 0 less) in (
-        flooding-with_ends g graph s head label flooding here (get_or edges i 0) below touched,
+        flooding-with_ends p limits s head label flooding here (get_or edges i 0) below touched,
         Grows-trans old s _ grows grown,
         λ k within. step below touched k (is_in-push (take i edges) (get_or edges i 0) k (ap (λ ks. is_in ks k) (sym (take_more edges i 0 less)) ∙ within)),
       )
     where
-      grown : Grows s (with_ends g s (get_or edges i 0) label)
-      grown = Grows-trans s _ _ (grows_reached s (edge_at g.edges (get_or edges i 0)).first label)
-          (grows_reached (with_vertex s (edge_at g.edges (get_or edges i 0)).first label) (edge_at g.edges (get_or edges i 0)).second label)
+      grown : Grows s (with_ends p s (get_or edges i 0) label)
+      grown = Grows-trans s _ _ (grows_reached s (edge_at p.edges (get_or edges i 0)).first label)
+          (grows_reached (with_vertex s (edge_at p.edges (get_or edges i 0)).first label) (edge_at p.edges (get_or edges i 0)).second label)
 
-      step : get_or edges i 0 < length g.edges → touches (get_or s.order head 0) (edge_at g.edges (get_or edges i 0)) ≡ true
+      step : get_or edges i 0 < length p.edges → touches (get_or s.order head 0) (edge_at p.edges (get_or edges i 0)) ≡ true
           → (k : ℕ) → (is_in (take i edges) k ≡ true) ⊎ (get_or edges i 0 ≡ k)
-          → IsSettled (with_ends g s (get_or edges i 0) label) (edge_at g.edges k)
-      step below touched k (inl before) = settled_grows s _ (edge_at g.edges k) grown (settled k before)
+          → IsSettled (with_ends p s (get_or edges i 0) label) (edge_at p.edges k)
+      step below touched k (inl before) = settled_grows s _ (edge_at p.edges k) grown (settled k before)
       step below touched k (inr same) =
-          subst (λ j. IsSettled (with_ends g s (get_or edges i 0) label) (edge_at g.edges j)) same
-          (settled-with_ends g graph s head label flooding here (get_or edges i 0) below touched)
+          subst (λ j. IsSettled (with_ends p s (get_or edges i 0) label) (edge_at p.edges j)) same
+          (settled-with_ends p limits s head label flooding here (get_or edges i 0) below touched)
 
-  pub neighbours_all : (edges : List ℕ) (i : ℕ) → edges ≡ edges_at g.edges (length g.edges) (get_or old.order head 0)
-      → length edges ≤ i → ((k : ℕ) → is_in (take i edges) k ≡ true → IsSettled s (edge_at g.edges k))
-      → IsFlooding g s (head + 1) label
+  pub neighbours_all : (edges : List ℕ) (i : ℕ) → edges ≡ edges_at p.edges (length p.edges) (get_or old.order head 0)
+      → length edges ≤ i → ((k : ℕ) → is_in (take i edges) k ≡ true → IsSettled s (edge_at p.edges k))
+      → IsFlooding p s (head + 1) label
   neighbours_all edges i are all settled =
-      flooding-onward g graph s head label flooding here
+      flooding-onward p limits s head label flooding here
       (λ k within. settled k (ap (λ ks. is_in ks k) (take_all i edges all
-      ∙ (are ∙ ap (edges_at g.edges (length g.edges)) (sym (grows.places head place)))) ∙ within))
+      ∙ (are ∙ ap (edges_at p.edges (length p.edges)) (sym (grows.places head place)))) ∙ within))

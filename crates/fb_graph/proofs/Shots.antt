@@ -56,7 +56,7 @@ rising_from_sort vs ws distinct permuted sorted k less =
     step (inr other) low = omega (arith, other)
 
 -- a shot has at most as many defects as its graph has vertices
-pub length-shot : (g : DecodingGraph) (defects : List ℕ) → IsGraph g → IsShot g defects → length defects ≤ most_vertices
+pub length-shot : (g : DecodingGraph) (defects : List ℕ) → IsGraph g → IsShot g (record { defects = defects }) → length defects ≤ most_vertices
 length-shot g defects graph shot =
     omega (
       arith,
@@ -71,7 +71,7 @@ length-shot g defects graph shot =
     below v real = ltb-true v g.vertices (and_parts (nat_lt v g.vertices) (not (is_in g.virtuals v)) real).0
 
 pub shot_from_sort : (g : DecodingGraph) (given defects : List ℕ) → AreDistinct given
-    → All (λ v. is_real_in g v ≡ true) given → IsPermutation given defects → IsSorted nat_cmp defects → IsShot g defects
+    → All (λ v. is_real_in g v ≡ true) given → IsPermutation given defects → IsSorted nat_cmp defects → IsShot g (record { defects = defects })
 shot_from_sort g given defects distinct real permuted sorted = record {
   rising = rising_from_sort given defects distinct permuted sorted;
   real = All-permutation (λ v. is_real_in g v ≡ true) given defects permuted real;

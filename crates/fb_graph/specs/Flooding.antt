@@ -1,11 +1,10 @@
--- A search through a graph that gives each vertex the label of its component, one component after another.
+-- A search through a problem that gives each vertex the label of its component, one component after another.
 use Rattle.std.specs.Prelude.{ℕ, ◌≡◌, ◌<◌, ◌≤◌, Bool, true, false, if◌then◌else◌, List, [], ◌∷◌, ◌++◌, length, take, drop, get_or, slice_set, All}
 use Rattle.fb_graph.specs.Parity.{is_in}
-use Rattle.fb_graph.specs.Problem.{edge_at, touches}
+use Rattle.fb_graph.specs.Problem.{Problem, edge_at, touches}
 use Rattle.fb_graph.specs.Certificate.{AreDistinct}
 use Rattle.fb_graph.specs.Components.{IsJoined}
 use Rattle.fb_graph.specs.Labelling.{label_of}
-use Rattle.fb_graph.specs.Limits.{DecodingGraph, problem_of}
 use Rattle.fb_graph.specs.declared.parts.Edge.{Edge}
 
 -- the vertices that were reached so far, in their order, and the label that each of them got
@@ -26,8 +25,8 @@ with_vertex s v label =
     if is_in s.order v then s else record { labels = slice_set s.labels v label; order = s.order ++ v ∷ [] }
 
 -- both ends of an edge reached with this label
-abbrev pub with_ends : DecodingGraph → Reached → ℕ → ℕ → Reached
-with_ends g s k label = with_vertex (with_vertex s (edge_at g.edges k).first label) (edge_at g.edges k).second label
+abbrev pub with_ends : Problem → Reached → ℕ → ℕ → Reached
+with_ends p s k label = with_vertex (with_vertex s (edge_at p.edges k).first label) (edge_at p.edges k).second label
 
 -- more was reached, and what was reached before stays as it was
 pub record Grows (old new : Reached) : Type 0 where
@@ -44,11 +43,11 @@ pub record IsSettled (s : Reached) (e : Edge) : Type 0 where
 
 -- Each vertex that was reached is joined to its label, which isn't above it. All below `label` were. Of the first
 -- `head` ones each edge is settled; the others have this label and wait.
-pub record IsFlooding (g : DecodingGraph) (s : Reached) (head label : ℕ) : Type 0 where
-  pub count : length s.labels ≡ g.vertices
+pub record IsFlooding (p : Problem) (s : Reached) (head label : ℕ) : Type 0 where
+  pub count : length s.labels ≡ p.vertices
   pub low : (v : ℕ) → is_in s.order v ≡ true → label_of s.labels v ≤ v
-  pub joined : (v : ℕ) → is_in s.order v ≡ true → IsJoined (problem_of g []) v (label_of s.labels v)
+  pub joined : (v : ℕ) → is_in s.order v ≡ true → IsJoined p v (label_of s.labels v)
   pub passed : (v : ℕ) → v < label → is_in s.order v ≡ true
   pub settled : (v : ℕ) → is_in (take head s.order) v ≡ true
-      → (k : ℕ) → k < length g.edges → touches v (edge_at g.edges k) ≡ true → IsSettled s (edge_at g.edges k)
+      → (k : ℕ) → k < length p.edges → touches v (edge_at p.edges k) ≡ true → IsSettled s (edge_at p.edges k)
   pub waiting : (v : ℕ) → is_in (drop head s.order) v ≡ true → label_of s.labels v ≡ label

@@ -1,8 +1,8 @@
 -- What every problem that is solved keeps, and the problem of a whole graph.
-use Rattle.std.specs.Prelude.{ℕ, ◌≡◌, ◌≢◌, ◌<◌, ◌≤◌, ◌%◌, ◌^◌, ◌&&◌, Bool, true, not, nat_lt, List, length, All}
+use Rattle.std.specs.Prelude.{ℕ, ◌≡◌, ◌≢◌, ◌<◌, ◌≤◌, ◌%◌, ◌^◌, ◌&&◌, Bool, true, false, not, nat_lt, List, [], length, All}
 use Rattle.std.specs.List.Sorted.{IsStrictlyIncreasing}
 use Rattle.fb_graph.specs.Parity.{is_in}
-use Rattle.fb_graph.specs.Problem.{Problem}
+use Rattle.fb_graph.specs.Problem.{Problem, with_defects}
 use Rattle.fb_graph.specs.declared.parts.Edge.{Edge}
 
 -- the most vertices and edges of a graph, and the greatest weight
@@ -39,10 +39,21 @@ pub record DecodingGraph : Type 0 where
 abbrev pub is_real_in : DecodingGraph → ℕ → Bool
 is_real_in g v = nat_lt v g.vertices && not (is_in g.virtuals v)
 
--- the whole graph as a problem, with these vertices as its defects
-abbrev pub problem_of : DecodingGraph → List ℕ → Problem
-problem_of g defects =
-    record { vertices = g.vertices; edges = g.edges; is_real = is_real_in g; is_defect = is_in defects }
+-- What one run of an experiment reports: its defects. What may change a shot's weights will stand beside them.
+pub record ShotValue : Type 0 where
+  pub defects : List ℕ
+
+abbrev pub no_shot : ShotValue
+no_shot = record { defects = [] }
+
+-- A problem in which this shot was seen. This is the one place where a shot meets its graph.
+abbrev pub with_shot : Problem → ShotValue → Problem
+with_shot p shot = with_defects p shot.defects
+
+-- the whole graph as a problem, in which this shot was seen
+abbrev pub problem_of : DecodingGraph → ShotValue → Problem
+problem_of g shot = with_shot
+    (record { vertices = g.vertices; edges = g.edges; is_real = is_real_in g; is_defect = λ v. false }) shot
 
 -- what every graph keeps
 pub record IsGraph (g : DecodingGraph) : Type 0 where
@@ -52,7 +63,11 @@ pub record IsGraph (g : DecodingGraph) : Type 0 where
   pub virtuals : All (λ v. v < g.vertices) g.virtuals
   pub rising : IsStrictlyIncreasing g.virtuals
 
--- the defects of a shot: real vertices, strictly rising
-pub record IsShot (g : DecodingGraph) (defects : List ℕ) : Type 0 where
-  pub rising : IsStrictlyIncreasing defects
-  pub real : All (λ v. is_real_in g v ≡ true) defects
+-- the defects of a shot: real vertices of the problem, strictly rising
+pub record IsShotIn (p : Problem) (shot : ShotValue) : Type 0 where
+  pub rising : IsStrictlyIncreasing shot.defects
+  pub real : All (λ v. p.is_real v ≡ true) shot.defects
+
+-- a shot of a whole graph
+abbrev pub IsShot : DecodingGraph → ShotValue → Type 0
+IsShot g = IsShotIn (problem_of g no_shot)

@@ -1,48 +1,49 @@
-//! Whether a shot has a correction: the components of a graph, and the defects in them.
+//! Whether a shot has a correction: the components of a scope, and the defects in them.
 
 ghost use Rattle.std.specs.Prelude.{◌≡◌, ◌<◌, ℕ, min, length, All, IfNone};
 ghost use Rattle.std.specs.List.{reduce};
 ghost use Rattle.fb_graph.specs.Components.{IsFirstOdd};
-ghost use Rattle.fb_graph.specs.Limits.{IsShot, problem_of};
+ghost use Rattle.fb_graph.specs.Limits.{IsShotIn, with_shot};
 ghost use Rattle.fb_graph.specs.Laws.{HasNoOddClosed};
 ghost use Rattle.fb_graph.specs.Labelling.{AreClear, AreOdd, AreOf, odd_labels};
 
-use crate::network::Graph;
+use crate::scope_of::Scope;
 use crate::shot::Shot;
 use std::marker::Model;
 
-/// The components of a graph, which contracts see as the graph that they serve.
-#[derive(Debug, Drop)]
-pub struct Components<'a> {
-    pub(crate) graph: &'a Graph,
+/// The components of a scope, a whole graph or a part of it, which contracts see as the scope. Its problem
+/// has no defects.
+#[derive(Drop)]
+pub struct Components<S: Scope> {
+    pub(crate) scope: S,
     /// The least vertex of each vertex's component, as its label.
     pub(crate) labels: Vec<u32>,
-    /// For each label, whether its component has a virtual vertex.
+    /// For each label, whether its component has a boundary vertex.
     pub(crate) bounded: Vec<bool>,
     /// For each label, the parity of a shot's defects. It is clear between calls.
     pub(crate) odd: Vec<bool>,
 }
 
-impl<'a> Model for Components<'a> {
-    ghost use Rattle.fb_graph.specs.Limits.{DecodingGraph};
+impl<S: Scope> Model for Components<S> {
     ghost use Rattle.fb_graph.specs.Labelling.{IsServed};
 
-    ghost Value = { DecodingGraph };
+    ghost Value = { S };
 
-    ghost view = { λ c. c.graph.now };
+    ghost coded = { S.code };
 
-    ghost invariant = { λ c. IsServed c.graph.now c.labels.items c.bounded.items c.odd.items };
+    ghost view = { λ c. c.scope };
+
+    ghost invariant = { λ c. IsServed (S.problem c.scope) c.labels.items c.bounded.items c.odd.items };
 }
 
-/// The least vertex of the first component, by least vertex, that has no virtual vertex and an odd number of the
+/// The least vertex of the first component, by least vertex, that has no boundary vertex and an odd number of the
 /// shot's defects; `None` where there is none. It takes no memory, and time linear in the number of defects.
-pub fn first_odd(parts: &mut Components, shot: &Shot) -> Option<u32>
-    requires { IsShot parts.old shot.now }
-    ensures first { IsFirstOdd (problem_of parts.old shot.now) result }
-    ensures closed { IfNone result (HasNoOddClosed (problem_of parts.old shot.now)) }
+pub fn first_odd<S: Scope>(parts: &mut Components<S>, shot: &Shot) -> Option<u32>
+    requires { IsShotIn (S.problem parts.old) shot.now }
+    ensures first { IsFirstOdd (with_shot (S.problem parts.old) shot.now) result }
+    ensures closed { IfNone result (HasNoOddClosed (with_shot (S.problem parts.old) shot.now)) }
     ensures same { parts.new ≡ parts.old }
 {
-    parts.graph.limits();
     let defects = shot.as_slice();
     let labels = parts.labels.as_slice();
     let bounded = parts.bounded.as_slice();
@@ -67,7 +68,7 @@ fn count_defects(labels: &[u32], odd: &mut [bool], defects: &[u32])
     }
 }
 
-/// The least of the labels that an odd number of the defects have, and no virtual vertex.
+/// The least of the labels that an odd number of the defects have, and no boundary vertex.
 fn least_odd(labels: &[u32], bounded: &[bool], odd: &[bool], defects: &[u32]) -> Option<u32>
     requires room { length odd.now ≡ length labels.now }
     requires boundary { length bounded.now ≡ length labels.now }

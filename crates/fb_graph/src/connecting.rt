@@ -1,4 +1,4 @@
-//! The components of a graph, found by a search from each vertex in rising order.
+//! The components of a scope, found by a search from each vertex in rising order.
 
 ghost use Rattle.std.specs.Prelude.{◌≡◌, ◌+◌, ◌<◌, ◌≤◌, length, IfOk, OnOk};
 ghost use Rattle.fb_graph.specs.Flooding.{Grows, IsFlooding, with_ends};
@@ -8,17 +8,28 @@ use crate::connected::Components;
 use crate::faults::NoMemory;
 use crate::flooding::Flood;
 use crate::network::Graph;
+use crate::scope_of::Scope;
+use crate::whole::Whole;
 use std::alloc::Global;
 
 /// The components of the graph. It takes time linear in the size of the graph.
-pub fn components(alloc: Global, graph: &Graph) -> Result<Components<'_>, NoMemory>
-    ensures { IfOk result (λ c. c ≡ graph.now) }
+pub fn components(alloc: Global, graph: &Graph) -> Result<Components<Whole<'_>>, NoMemory>
+    ensures { IfOk result (λ c. c.0.now ≡ graph.now) }
 {
-    let labels = label_vertices(alloc, graph)?;
-    let bounded = mark_bounded(alloc, graph, &labels)?;
+    components_of(alloc, Whole(graph))
+}
+
+/// The components of a scope: a vertex that isn't real there is boundary. It takes time linear in the size of the scope's
+/// graph.
+pub fn components_of<S: Scope>(alloc: Global, scope: S) -> Result<Components<S>, NoMemory>
+    ensures { IfOk result (λ c. c ≡ scope) }
+{
+    scope.limits();
+    let labels = label_vertices(alloc, &scope)?;
+    let bounded = mark_bounded(alloc, &scope, &labels)?;
     let odd = vec![in alloc; false; labels.len()]?;
     Ok(Components {
-        graph,
+        scope,
         labels,
         bounded,
         odd,
@@ -26,81 +37,81 @@ pub fn components(alloc: Global, graph: &Graph) -> Result<Components<'_>, NoMemo
 }
 
 /// The least vertex of each vertex's component.
-fn label_vertices(alloc: Global, graph: &Graph) -> Result<Vec<u32>, NoMemory>
-    ensures { IfOk result (λ v. IsLabelling graph.now v.items) }
+fn label_vertices<S: Scope>(alloc: Global, scope: &S) -> Result<Vec<u32>, NoMemory>
+    ensures { IfOk result (λ v. IsLabelling (S.problem scope.now) v.items) }
 {
-    graph.limits();
-    let n = graph.vertices();
+    scope.limits();
+    let n = scope.vertices();
     let mut flood = Flood::new(alloc, n)?;
     for v in 0..n {
         let start = flood.len();
         flood.reach(v, v)?;
-        flood_component(graph, &mut flood, start, v)?;
+        flood_component(scope, &mut flood, start, v)?;
     }
     Ok(flood.into_labels())
 }
 
 /// Reaches what is joined to the vertices from place `start` on, which have this label.
-fn flood_component(
-    graph: &Graph,
+fn flood_component<S: Scope>(
+    scope: &S,
     flood: &mut Flood,
     start: usize,
     label: u32,
 ) -> Result<(), NoMemory>
     requires place { start ≤ length flood.old.order }
-    requires flooding { IsFlooding graph.now flood.old start label }
-    ensures flooding { OnOk result (IsFlooding graph.now flood.new (length flood.new.order) label) }
+    requires flooding { IsFlooding (S.problem scope.now) flood.old start label }
+    ensures flooding { OnOk result (IsFlooding (S.problem scope.now) flood.new (length flood.new.order) label) }
     ensures grows { OnOk result (Grows flood.old flood.new) }
 {
     let mut place = start;
     while place < flood.len() {
-        flood_neighbours(graph, flood, place, label)?;
+        flood_neighbours(scope, flood, place, label)?;
         place += 1;
     }
     Ok(())
 }
 
 /// Reaches the neighbours of the vertex at this place, which has this label.
-fn flood_neighbours(
-    graph: &Graph,
+fn flood_neighbours<S: Scope>(
+    scope: &S,
     flood: &mut Flood,
     place: usize,
     label: u32,
 ) -> Result<(), NoMemory>
     requires place { place < length flood.old.order }
-    requires flooding { IsFlooding graph.now flood.old place label }
-    ensures flooding { OnOk result (IsFlooding graph.now flood.new (place + 1) label) }
+    requires flooding { IsFlooding (S.problem scope.now) flood.old place label }
+    ensures flooding { OnOk result (IsFlooding (S.problem scope.now) flood.new (place + 1) label) }
     ensures grows { OnOk result (Grows flood.old flood.new) }
 {
-    graph.limits();
-    let edges = graph.edges_at(flood.vertex_at(place));
+    scope.limits();
+    let edges = scope.edges_at(flood.vertex_at(place));
     for edge in edges {
-        reach_ends(graph, flood, *edge, label)?;
+        reach_ends(scope, flood, *edge, label)?;
     }
     Ok(())
 }
 
 /// Reaches both ends of an edge with this label.
-fn reach_ends(graph: &Graph, flood: &mut Flood, edge: u32, label: u32) -> Result<(), NoMemory>
-    requires edge { edge < length graph.now.edges }
-    requires room { length flood.old.labels ≡ graph.now.vertices }
-    ensures { OnOk result (flood.new ≡ with_ends graph.now flood.old edge label) }
+fn reach_ends<S: Scope>(scope: &S, flood: &mut Flood, edge: u32, label: u32) -> Result<(), NoMemory>
+    requires edge { edge < length (S.problem scope.now).edges }
+    requires room { length flood.old.labels ≡ (S.problem scope.now).vertices }
+    ensures { OnOk result (flood.new ≡ with_ends (S.problem scope.now) flood.old edge label) }
 {
-    graph.limits();
-    let (first, second) = graph.ends(edge);
+    scope.limits();
+    let (first, second) = scope.ends(edge);
     flood.reach(first, label)?;
     flood.reach(second, label)?;
     Ok(())
 }
 
-/// A flag for each label, set where some vertex of it is virtual.
-fn mark_bounded(alloc: Global, graph: &Graph, labels: &[u32]) -> Result<Vec<bool>, NoMemory>
-    requires { IsLabelling graph.now labels.now }
-    ensures { IfOk result (λ v. IsBounded graph.now labels.now v.items) }
+/// A flag for each label, set where some vertex of it is boundary.
+fn mark_bounded<S: Scope>(alloc: Global, scope: &S, labels: &[u32]) -> Result<Vec<bool>, NoMemory>
+    requires { IsLabelling (S.problem scope.now) labels.now }
+    ensures { IfOk result (λ v. IsBounded (S.problem scope.now) labels.now v.items) }
 {
     let mut bounded = vec![in alloc; false; labels.len()]?;
-    for v in 0..graph.vertices() {
-        if graph.is_virtual(v) {
+    for v in 0..scope.vertices() {
+        if !scope.is_real(v) {
             bounded[labels[v as usize] as usize] = true;
         }
     }

@@ -18,7 +18,7 @@ pub mod steps;
 pub mod whole;
 
 pub use connected::{Components, first_odd};
-pub use connecting::components;
+pub use connecting::{components, components_of};
 pub use faults::{GraphFault, NoMemory};
 pub use laws::{
     closed_odd_set, least_weight, no_odd_closed_set, no_odd_component, odd_has_no_correction,

@@ -9,20 +9,20 @@ use crate::network::Graph;
 use std::alloc::Global;
 use std::marker::Model;
 
-/// The defects of one shot, which contracts see as their list: real vertices of a graph, strictly rising.
+/// What one run of an experiment reports: its defects, which are real vertices of a graph, strictly rising.
 #[derive(Debug, Drop)]
 pub struct Shot {
     defects: NumberList,
 }
 
 impl Model for Shot {
-    ghost use Rattle.std.specs.Prelude.{List, ℕ, ◌≤◌, length};
+    ghost use Rattle.std.specs.Prelude.{◌≤◌, length};
     ghost use Rattle.std.specs.List.Sorted.{IsStrictlyIncreasing};
-    ghost use Rattle.fb_graph.specs.Limits.{most_vertices};
+    ghost use Rattle.fb_graph.specs.Limits.{ShotValue, most_vertices};
 
-    ghost Value = { List ℕ };
+    ghost Value = { ShotValue };
 
-    ghost view = { λ s. s.defects };
+    ghost view = { λ s. record { defects = s.defects } };
 
     ghost invariant = { λ s. IsStrictlyIncreasing s.defects × (length s.defects ≤ most_vertices) };
 }
@@ -32,7 +32,7 @@ impl Shot {
     pub fn from_defects(graph: &Graph, mut defects: Vec<u32>) -> Result<Shot, NoMemory>
         requires distinct { AreDistinct defects.items }
         requires real { All (λ v. is_real_in graph.now v ≡ true) defects.items }
-        ensures members { IfOk result (IsPermutation defects.items) }
+        ensures members { IfOk result (λ s. IsPermutation defects.items s.defects) }
         ensures shot { IfOk result (IsShot graph.now) }
     {
         graph.limits();
@@ -44,8 +44,8 @@ impl Shot {
 
     /// The shot of these defects: real vertices of the graph, strictly rising.
     pub fn from_rising(graph: &Graph, defects: Vec<u32>) -> Shot
-        requires { IsShot graph.now defects.items }
-        ensures { result ≡ defects.items }
+        requires { IsShot graph.now (record { defects = defects.items }) }
+        ensures { result ≡ record { defects = defects.items } }
     {
         graph.limits();
         Shot {
@@ -55,7 +55,7 @@ impl Shot {
 
     /// The number of defects.
     pub fn len(&self) -> u32
-        ensures length { result ≡ length self.now }
+        ensures length { result ≡ length self.now.defects }
         ensures limit { result ≤ most_vertices }
     {
         self.defects.as_slice().len() as u32
@@ -63,23 +63,23 @@ impl Shot {
 
     /// Whether the shot has no defect.
     pub fn is_empty(&self) -> bool
-        ensures { result ≡ (length self.now == 0) }
+        ensures { result ≡ (length self.now.defects == 0) }
     {
         self.defects.as_slice().is_empty()
     }
 
     /// Defect `i`, the defects being counted from 0 in rising order.
     pub fn defect(&self, i: u32) -> u32
-        requires { i < length self.now }
-        ensures { result ≡ slice_index self.now i }
+        requires { i < length self.now.defects }
+        ensures { result ≡ slice_index self.now.defects i }
     {
         self.defects.as_slice()[i as usize]
     }
 
     /// The defects, strictly rising.
     pub fn as_slice(&self) -> &[u32]
-        ensures defects { result.now ≡ self.now }
-        ensures rising { IsStrictlyIncreasing self.now }
+        ensures defects { result.now ≡ self.now.defects }
+        ensures rising { IsStrictlyIncreasing self.now.defects }
     {
         self.defects.as_slice()
     }

@@ -1,7 +1,7 @@
-ghost use Rattle.std.specs.Prelude.{◌≡◌, ℕ, ◌<◌, [], length, filter};
+ghost use Rattle.std.specs.Prelude.{◌≡◌, ℕ, ◌<◌, length, filter};
 ghost use Rattle.std.specs.List.{range_with_len};
 ghost use Rattle.fb_graph.specs.Problem.{edge_at, touches};
-ghost use Rattle.fb_graph.specs.Limits.{problem_of};
+ghost use Rattle.fb_graph.specs.Limits.{no_shot, problem_of};
 
 use crate::network::Graph;
 use crate::scope_of::Scope;
@@ -11,7 +11,7 @@ use crate::scope_of::Scope;
 pub struct Whole<'a>(pub &'a Graph);
 
 impl Scope for Whole<'_> {
-    ghost problem = { λ w. problem_of w.0.now [] };
+    ghost problem = { λ w. problem_of w.0.now no_shot };
 
     ghost place_of = { λ w v. v };
 

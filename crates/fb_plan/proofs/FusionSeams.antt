@@ -8,7 +8,7 @@ use Rattle.fb_plan.proofs.SubProblems.{fusion_of}
 use Rattle.fb_plan.proofs.Trees.{within-le, within_of_fusion, within_of_unit}
 
 pub unit_is_own : UnitIsOwn
-unit_is_own g t n v defects unit = ap (λ b. is_real_in g v && b) (by (owner_of t v))
+unit_is_own g t n v shot unit = ap (λ b. is_real_in g v && b) (by (owner_of t v))
   where
     by : (owner : Option ℕ) → is_owner_within t n owner ≡ is_owner n owner
     by None = refl
@@ -25,7 +25,7 @@ within_parts t tree n left right m children =
     ∙ ap (λ k. is_within t left m || (is_within t right m || k == m)) (sym is)))
 
 pub fusion_is_parts : FusionIsParts
-fusion_is_parts g t n left right v defects plan children =
+fusion_is_parts g t n left right v shot plan children =
     ap (λ b. is_real_in g v && b) (by (owner_of t v))
     ∙ spread (is_real_in g v) (is_owner_within t left (owner_of t v)) (is_owner_within t right (owner_of t v)) (is_owner n (owner_of t v))
   where
@@ -40,7 +40,7 @@ fusion_is_parts g t n left right v defects plan children =
     spread true false false z = refl
 
 pub seam_is_apart : SeamIsApart
-seam_is_apart g t n left right v defects plan children own = (apart left below_left, apart right below_right)
+seam_is_apart g t n left right v shot plan children own = (apart left below_left, apart right below_right)
   where
     join_below : (left < n) × (right < n)
     join_below =
@@ -59,9 +59,9 @@ seam_is_apart g t n left right v defects plan children own = (apart left below_l
     not_within child None less is within = both_ways false refl is
     not_within child (Some m) less is within = omega (arith, less, eqb-true n m is, within-le t plan.tree child m within)
 
-    apart : (child : ℕ) → child < n → (problem_at g t child defects).is_real v ≡ false
+    apart : (child : ℕ) → child < n → (problem_at g t child shot).is_real v ≡ false
     apart child less =
-        false_from_ne_true ((problem_at g t child defects).is_real v)
+        false_from_ne_true ((problem_at g t child shot).is_real v)
         (λ real.
         not_within child (owner_of t v) less (and_parts (is_real_in g v) (is_owner n (owner_of t v)) own).1
         (and_parts (is_real_in g v) (is_owner_within t child (owner_of t v)) real).1)

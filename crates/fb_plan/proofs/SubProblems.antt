@@ -2,7 +2,7 @@
 use Rattle.std.proofs.Common.{ℕ, ◌+◌, ◌-◌, ◌<◌, ◌≤◌, ◌≡◌, ◌⊎◌, Bool, true, false, ◌&&◌, ◌||◌, List, length, get_or, Option, Some, None, is_some, refl, sym, ap, ◌∙◌, subst, inl, inr, arith}
 use Rattle.std.proofs.lemmas.Bool.{and_from, and_parts, both_ways, cases_lt, cond-true, cond-false, false_from_ne_true, lt-ltb, le-ltb, ltb-true, not-false, or_cases}
 use Rattle.std.proofs.lemmas.Option.{slice_get-get_or, slice_get_past}
-use Rattle.fb_graph.specs.Limits.{DecodingGraph, is_real_in, problem_of}
+use Rattle.fb_graph.specs.Limits.{DecodingGraph, ShotValue, is_real_in, problem_of}
 use Rattle.fb_graph.specs.Laws.{IsPart}
 use Rattle.fb_graph.specs.declared.parts.Edge.{Edge}
 use Rattle.fb_graph.proofs.ClosedComponents.{no_odd_component}
@@ -13,16 +13,16 @@ use Rattle.fb_plan.proofs.Roots.{below_root, has_parent, root_has_no_parent}
 use Rattle.fb_plan.proofs.Trees.{chain, named_below, siblings_apart, within-trans, within_left, within_right}
 
 pub node_is_part : NodeIsPart
-node_is_part g t n defects = record {
+node_is_part g t n shot = record {
   edges = refl;
   real = λ v real. (and_parts _ _ real).0;
   defects = λ v real. refl;
 }
 
 pub node_has_no_odd_closed : NodeHasNoOddClosed
-node_has_no_odd_closed g t n defects none =
-    part_has_no_odd_closed (problem_at g t n defects) (problem_of g defects) (node_is_part g t n defects)
-    (no_odd_component (problem_of g defects) (λ v real. ltb-true v g.vertices (and_parts _ _ real).0) none)
+node_has_no_odd_closed g t n shot none =
+    part_has_no_odd_closed (problem_at g t n shot) (problem_of g shot) (node_is_part g t n shot)
+    (no_odd_component (problem_of g shot) (λ v real. ltb-true v g.vertices (and_parts _ _ real).0) none)
 
 -- a node with children is a fusion
 pub fusion_of : (t : PlanTree) (n left right : ℕ) → children_of t n ≡ Some (left, right)
@@ -54,22 +54,22 @@ owned_up : (t : PlanTree) (a b : ℕ) (owner : Option ℕ) → ((m : ℕ) → is
 owned_up t a b None lifts owned = owned
 owned_up t a b (Some m) lifts owned = lifts m owned
 
-part_of_owned : (g : DecodingGraph) (t : PlanTree) (a b : ℕ) (defects : List ℕ)
+part_of_owned : (g : DecodingGraph) (t : PlanTree) (a b : ℕ) (shot : ShotValue)
     → ((m : ℕ) → is_within t a m ≡ true → is_within t b m ≡ true)
-    → IsPart (problem_at g t a defects) (problem_at g t b defects)
-part_of_owned g t a b defects lifts = record {
+    → IsPart (problem_at g t a shot) (problem_at g t b shot)
+part_of_owned g t a b shot lifts = record {
   edges = refl;
   real = λ v real. and_from _ _ (and_parts _ _ real).0 (owned_up t a b (owner_of t v) lifts (and_parts _ _ real).1);
   defects = λ v real. refl;
 }
 
 pub child_is_part : ChildIsPart
-child_is_part g t n left right defects plan told =
+child_is_part g t n left right shot plan told =
     let (i, less, is, join) = fusion_of t n left right told in (
-      part_of_owned g t left n defects
+      part_of_owned g t left n shot
           (λ m within. subst (λ k. is_within t k m ≡ true) (sym is) (within_left t plan.tree i m less
           (subst (λ k. is_within t k m ≡ true) (sym (ap (λ j. j.0) join)) within))),
-      part_of_owned g t right n defects
+      part_of_owned g t right n shot
           (λ m within. subst (λ k. is_within t k m ≡ true) (sym is) (within_right t plan.tree i m less
           (subst (λ k. is_within t k m ≡ true) (sym (ap (λ j. j.1) join)) within))),
     )
@@ -94,7 +94,7 @@ unrelated t tree a b (Some m) (Some n) apart in_a in_b related =
     ]
 
 pub children_are_separated : ChildrenAreSeparated
-children_are_separated g t n left right defects plan told = record {
+children_are_separated g t n left right shot plan told = record {
   vertices = λ v in_left. false_from_ne_true _ (λ in_right.
       owned_once t left right (owner_of t v) apart (and_parts _ _ in_left).1 (and_parts _ _ in_right).1);
   edges = λ k d less some_left. false_from_ne_true _ (λ some_right.
@@ -110,8 +110,8 @@ children_are_separated g t n left right defects plan told = record {
         (subst (λ k. is_within t k m ≡ true) (sym (ap (λ j. j.1) join)) in_right)
 
     linked : (e : Edge) → goes_across t e ≡ false
-        → ((problem_at g t left defects).is_real e.first ≡ true) ⊎ ((problem_at g t left defects).is_real e.second ≡ true)
-        → ((problem_at g t right defects).is_real e.first ≡ true) ⊎ ((problem_at g t right defects).is_real e.second ≡ true)
+        → ((problem_at g t left shot).is_real e.first ≡ true) ⊎ ((problem_at g t left shot).is_real e.second ≡ true)
+        → ((problem_at g t right shot).is_real e.first ≡ true) ⊎ ((problem_at g t right shot).is_real e.second ≡ true)
         → ⊥
     linked e related (inl a) (inl b) = owned_once t left right (owner_of t e.first) apart (and_parts _ _ a).1 (and_parts _ _ b).1
     linked e related (inr a) (inr b) = owned_once t left right (owner_of t e.second) apart (and_parts _ _ a).1 (and_parts _ _ b).1
@@ -121,7 +121,7 @@ children_are_separated g t n left right defects plan told = record {
         unrelated t plan.tree right left (owner_of t e.first) (owner_of t e.second) (λ m x y. apart m y x) (and_parts _ _ b).1 (and_parts _ _ a).1 related
 
 pub root_is_whole : RootIsWhole
-root_is_whole g t v defects plan =
+root_is_whole g t v shot plan =
     ap (λ b. is_real_in g v && b) (owned (owner_of t v) refl ∙ plan.owned v) ∙ twice (is_real_in g v)
   where
     twice : (b : Bool) → (b && b) ≡ b

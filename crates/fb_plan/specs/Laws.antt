@@ -1,7 +1,7 @@
 -- What every job keeps, and what follows from the definitions alone.
 use Rattle.std.specs.Prelude.{ℕ, ◌≡◌, ◌+◌, ◌<◌, ◌^◌, ◌⊎◌, true, List, length, All, Some, None}
 use Rattle.fb_graph.specs.Components.{IsFirstOdd}
-use Rattle.fb_graph.specs.Limits.{DecodingGraph, IsShot, problem_of}
+use Rattle.fb_graph.specs.Limits.{DecodingGraph, IsShot, ShotValue, problem_of}
 use Rattle.fb_graph.specs.Laws.{HasNoOddClosed, IsPart, AreSeparated}
 use Rattle.fb_plan.specs.Plans.{PlanTree, JobValue, IsPlan, IsTree, children_of, is_within, node_count, parent_of, problem_at, root_of}
 
@@ -10,35 +10,35 @@ pub record IsJob (job : JobValue) : Type 0 where
   pub plan : IsPlan job.graph job.plan
   pub count : length job.shots < 2 ^ 32
   pub shots : All (IsShot job.graph) job.shots
-  pub even : All (λ defects. IsFirstOdd (problem_of job.graph defects) None) job.shots
+  pub even : All (λ shot. IsFirstOdd (problem_of job.graph shot) None) job.shots
 
 -- A node's sub-problem is a part of the whole.
 abbrev pub NodeIsPart : Type 0
-NodeIsPart = (g : DecodingGraph) (t : PlanTree) (n : ℕ) (defects : List ℕ)
-    → IsPart (problem_at g t n defects) (problem_of g defects)
+NodeIsPart = (g : DecodingGraph) (t : PlanTree) (n : ℕ) (shot : ShotValue)
+    → IsPart (problem_at g t n shot) (problem_of g shot)
 
 -- Where a shot's problem has no odd component, no sub-problem of a plan has a closed set with an odd number of defects.
 abbrev pub NodeHasNoOddClosed : Type 0
-NodeHasNoOddClosed = (g : DecodingGraph) (t : PlanTree) (n : ℕ) (defects : List ℕ)
-    → IsFirstOdd (problem_of g defects) None → HasNoOddClosed (problem_at g t n defects)
+NodeHasNoOddClosed = (g : DecodingGraph) (t : PlanTree) (n : ℕ) (shot : ShotValue)
+    → IsFirstOdd (problem_of g shot) None → HasNoOddClosed (problem_at g t n shot)
 
 -- A child's sub-problem is a part of its parent's.
 abbrev pub ChildIsPart : Type 0
-ChildIsPart = (g : DecodingGraph) (t : PlanTree) (n left right : ℕ) (defects : List ℕ) → IsPlan g t
+ChildIsPart = (g : DecodingGraph) (t : PlanTree) (n left right : ℕ) (shot : ShotValue) → IsPlan g t
     → children_of t n ≡ Some (left, right)
-    → IsPart (problem_at g t left defects) (problem_at g t n defects)
-    × IsPart (problem_at g t right defects) (problem_at g t n defects)
+    → IsPart (problem_at g t left shot) (problem_at g t n shot)
+    × IsPart (problem_at g t right shot) (problem_at g t n shot)
 
 -- The sub-problems of two children share no real vertex, and no edge links them.
 abbrev pub ChildrenAreSeparated : Type 0
-ChildrenAreSeparated = (g : DecodingGraph) (t : PlanTree) (n left right : ℕ) (defects : List ℕ) → IsPlan g t
+ChildrenAreSeparated = (g : DecodingGraph) (t : PlanTree) (n left right : ℕ) (shot : ShotValue) → IsPlan g t
     → children_of t n ≡ Some (left, right)
-    → AreSeparated (problem_at g t left defects) (problem_at g t right defects)
+    → AreSeparated (problem_at g t left shot) (problem_at g t right shot)
 
 -- At the root all is real that is real in the graph.
 abbrev pub RootIsWhole : Type 0
-RootIsWhole = (g : DecodingGraph) (t : PlanTree) (v : ℕ) (defects : List ℕ) → IsPlan g t
-    → (problem_at g t (root_of t) defects).is_real v ≡ (problem_of g defects).is_real v
+RootIsWhole = (g : DecodingGraph) (t : PlanTree) (v : ℕ) (shot : ShotValue) → IsPlan g t
+    → (problem_at g t (root_of t) shot).is_real v ≡ (problem_of g shot).is_real v
 
 -- The nodes are one fewer than twice the units.
 abbrev pub CountOfNodes : Type 0

@@ -4,7 +4,7 @@ use Rattle.std.specs.Prelude.{ℕ, ◌≡◌, ◌≢◌, ◌+◌, ◌-◌, ◌<�
 use Rattle.std.specs.List.{range_with_len}
 use Rattle.fb_graph.specs.Parity.{is_in}
 use Rattle.fb_graph.specs.Problem.{Problem}
-use Rattle.fb_graph.specs.Limits.{DecodingGraph, is_real_in}
+use Rattle.fb_graph.specs.Limits.{DecodingGraph, ShotValue, is_real_in, problem_of}
 use Rattle.fb_graph.specs.declared.parts.Edge.{Edge}
 
 -- a plan as contracts see it
@@ -123,16 +123,11 @@ single_of g = record {
 
 -- The sub-problem of a node (Wu and Zhong 2023): real are the vertices owned in its subtree, every other vertex is
 -- boundary. Edges and their numbers are the graph's.
-abbrev pub problem_at : DecodingGraph → PlanTree → ℕ → List ℕ → Problem
-problem_at g t n defects = record {
-  vertices = g.vertices;
-  edges = g.edges;
-  is_real = λ v. is_real_in g v && is_owned_in t n v;
-  is_defect = is_in defects;
-}
+abbrev pub problem_at : DecodingGraph → PlanTree → ℕ → ShotValue → Problem
+problem_at g t n shot = record (problem_of g shot) { is_real = λ v. is_real_in g v && is_owned_in t n v }
 
 -- A job: shots to be decoded by a plan of a graph. A slot is a place in the list of shots.
 pub record JobValue : Type 0 where
   pub graph : DecodingGraph
   pub plan : PlanTree
-  pub shots : List (List ℕ)
+  pub shots : List ShotValue

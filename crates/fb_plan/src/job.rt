@@ -33,7 +33,7 @@ impl<'a> Job<'a> {
         requires plan { IsPlan graph.now plan.now }
         requires count { length shots.items < 2 ^ 32 }
         requires shots { All (IsShot graph.now) shots.items }
-        requires even { All (λ defects. IsFirstOdd (problem_of graph.now defects) None) shots.items }
+        requires even { All (λ shot. IsFirstOdd (problem_of graph.now shot) None) shots.items }
         ensures { result ≡ record { graph = graph.now; plan = plan.now; shots = shots.items } }
     {
         Job { graph, plan, shots }

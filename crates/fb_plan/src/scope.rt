@@ -1,6 +1,7 @@
-ghost use Rattle.std.specs.Prelude.{◌≡◌, ℕ, ◌<◌, [], length, filter};
+ghost use Rattle.std.specs.Prelude.{◌≡◌, ℕ, ◌<◌, length, filter};
 ghost use Rattle.std.specs.List.{range_with_len};
 ghost use Rattle.fb_graph.specs.Problem.{edge_at, touches};
+ghost use Rattle.fb_graph.specs.Limits.{no_shot};
 ghost use Rattle.fb_plan.specs.Plans.{problem_at};
 
 use crate::plan::Plan;
@@ -16,7 +17,7 @@ pub struct NodeScope<'a> {
 }
 
 impl Scope for NodeScope<'_> {
-    ghost problem = { λ s. problem_at s.graph.now s.plan.now s.node [] };
+    ghost problem = { λ s. problem_at s.graph.now s.plan.now s.node no_shot };
 
     ghost place_of = { λ s v. v };
 

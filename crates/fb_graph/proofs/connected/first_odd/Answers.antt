@@ -1,21 +1,21 @@
 use Rattle.std.proofs.Common.{length, ap, arith}
-use Rattle.fb_graph.specs.Limits.{IsShot}
+use Rattle.fb_graph.specs.Limits.{IsShotIn}
 use Rattle.fb_graph.specs.Labelling.{AreOdd}
 use Rattle.fb_graph.proofs.LabelSteps.{least_from_reduce, of_odd}
 use Rattle.fb_graph.proofs.OddLabels.{closed_from_first, first_from_least}
 use Rattle.fb_graph.proofs.connected.first_odd.Goals as goal
 
 pub clear_counts-requires-clause-set : goal.clear_counts-requires-clause-set
-clear_counts-requires-clause-set c =
+clear_counts-requires-clause-set g c =
     of_odd c.as_slice-labels.result.now c.as_slice-defects.result.now c.count_defects.new.odd
     (omega (arith, ap length c.as_mut_slice-odd.ensures.value, ap length c.as_slice-labels.ensures.value))
     c.count_defects.ensures
 
 pub returns-clause-first : goal.returns-clause-first
-returns-clause-first c =
-    let counts : AreOdd c.parts.inside.labels.items c.args.shot.now c.count_defects.new.odd =
+returns-clause-first g c =
+    let counts : AreOdd c.parts.inside.labels.items c.args.shot.now.defects c.count_defects.new.odd =
     rw (c.as_slice-labels.ensures.value, c.as_slice-defects.ensures.defects) at c.count_defects.ensures in
-    let shot : IsShot c.parts.inside.graph.now c.args.shot.now = rw c.parts.view_is c.requires in
+    let shot : IsShotIn (g.S.Scope.problem c.parts.inside.scope) c.args.shot.now = rw c.parts.view_is c.requires in
     rw (
       ← c.parts.view_is,
       c.least_odd-first.ensures,
@@ -23,10 +23,10 @@ returns-clause-first c =
       c.as_slice-bounded.ensures.value,
       c.as_slice-defects.ensures.defects,
     )
-    (first_from_least c.parts.inside.graph.now c.parts.inside.labels.items c.limits.ensures
-    c.parts.invariant.labelling c.args.shot.now c.parts.inside.bounded.items c.count_defects.new.odd
+    (first_from_least (g.S.Scope.problem c.parts.inside.scope) c.parts.inside.labels.items c.parts.invariant.limits
+    c.parts.invariant.labelling c.args.shot.now.defects c.parts.inside.bounded.items c.count_defects.new.odd
     c.parts.invariant.boundary counts shot _ (least_from_reduce _))
 
 pub returns-clause-closed : goal.returns-clause-closed
-returns-clause-closed c =
-    closed_from_first c.args.parts.now c.args.shot.now c.least_odd-first.result (returns-clause-first c)
+returns-clause-closed g c =
+    closed_from_first (g.S.Scope.problem c.args.parts.now) c.args.shot.now.defects c.least_odd-first.result (rw (← c.parts.view_is) c.parts.invariant.limits) (returns-clause-first g c)

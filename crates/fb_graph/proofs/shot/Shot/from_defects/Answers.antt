@@ -3,7 +3,7 @@ use Rattle.fb_graph.proofs.Shots.{length-shot, shot_from_sort}
 use Rattle.fb_graph.proofs.shot.Shot.from_defects.Goals as goal
 use Rattle.fb_graph.proofs.shot.Shot.from_defects.Goals.{After-from_vec}
 
-is_shot : (c : After-from_vec) → IsShot c.args.graph.now c.from_vec.result
+is_shot : (c : After-from_vec) → IsShot c.args.graph.now (record { defects = c.from_vec.result })
 is_shot c =
     rw c.from_vec.ensures
     (shot_from_sort _ c.args.defects.items _ c.requires.distinct c.requires.real c.sort.ensures.permutation
