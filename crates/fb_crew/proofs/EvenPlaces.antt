@@ -7,7 +7,7 @@ use Rattle.std.proofs.lemmas.List.{drop_more, length-map, length-take, take_more
 use Rattle.std.proofs.Math.Seq.{set-append_seam}
 use Rattle.std.proofs.lemmas.List.Elements.{All-nil, All-cons, All-head, All-tail}
 use Rattle.fb_graph.specs.Components.{IsFirstOdd}
-use Rattle.fb_graph.specs.Limits.{DecodingGraph, problem_of}
+use Rattle.fb_graph.specs.Limits.{DecodingGraph, ShotValue, problem_of}
 use Rattle.fb_graph.specs.Parity.{is_in}
 use Rattle.fb_graph.specs.declared.parts.Row.{Row}
 use Rattle.fb_graph.specs.declared.parts.Row.TheVariants.{Best, Odd}
@@ -25,7 +25,7 @@ use Rattle.fb_crew.specs.InternalWindows.{AreOddAt, IsSorted, SortingLaws, even_
 use Rattle.fb_crew.specs.Windows.{AreRows, IsHistoryOf, IsShotRow, best_places, is_best}
 
 module _ (g : DecodingGraph) where
-  pub rows_right : (odd : List (Option ℕ)) (shots : List (List ℕ)) (solved : List Row) → AreOddAt g shots odd
+  pub rows_right : (odd : List (Option ℕ)) (shots : List ShotValue) (solved : List Row) → AreOddAt g shots odd
       → AreRows g (even_of odd shots) solved → AreRows g shots (rows_by odd solved)
   rows_right [] [] solved each rows = tt
   rows_right [] (s ∷ ss) solved each rows = absurd each
@@ -34,7 +34,7 @@ module _ (g : DecodingGraph) where
   rows_right (None ∷ vs) (s ∷ ss) [] each rows = absurd rows
   rows_right (None ∷ vs) (s ∷ ss) (r ∷ rs) each rows = (rows.0, rows_right vs ss rs each.1 rows.1)
 
-  best_row : (shot : List ℕ) (r : Row) → IsFirstOdd (problem_of g shot) None → IsShotRow g shot r → is_best r ≡ true
+  best_row : (shot : ShotValue) (r : Row) → IsFirstOdd (problem_of g shot) None → IsShotRow g shot r → is_best r ≡ true
   best_row shot (Best edges weight cuts) none right = refl
   best_row shot (Odd v) none right = absurd (none v right.0)
 
@@ -42,7 +42,7 @@ module _ (g : DecodingGraph) where
   chosen true xs ys e = refl
   chosen false xs ys e = absurd (false≢true e)
 
-  pub best_are_even : (k : ℕ) (odd : List (Option ℕ)) (shots : List (List ℕ)) (solved : List Row) → AreOddAt g shots odd
+  pub best_are_even : (k : ℕ) (odd : List (Option ℕ)) (shots : List ShotValue) (solved : List Row) → AreOddAt g shots odd
       → AreRows g (even_of odd shots) solved → best_places k (rows_by odd solved) ≡ even_places k odd
   best_are_even k [] [] solved each rows = refl
   best_are_even k [] (s ∷ ss) solved each rows = absurd each
@@ -52,7 +52,7 @@ module _ (g : DecodingGraph) where
   best_are_even k (None ∷ vs) (s ∷ ss) (r ∷ rs) each rows =
       chosen (is_best r) _ _ (best_row s r each.0 rows.0) ∙ ap (λ xs. k ∷ xs) (best_are_even (k + 1) vs ss rs each.1 rows.1)
 
-  pub same_length : (odd : List (Option ℕ)) (shots : List (List ℕ)) (solved : List Row) → AreOddAt g shots odd
+  pub same_length : (odd : List (Option ℕ)) (shots : List ShotValue) (solved : List Row) → AreOddAt g shots odd
       → AreRows g (even_of odd shots) solved → length (rows_by odd solved) ≡ length odd
   same_length [] [] solved each rows = refl
   same_length [] (s ∷ ss) solved each rows = absurd each
@@ -61,7 +61,7 @@ module _ (g : DecodingGraph) where
   same_length (None ∷ vs) (s ∷ ss) [] each rows = absurd rows
   same_length (None ∷ vs) (s ∷ ss) (r ∷ rs) each rows = ap suc (same_length vs ss rs each.1 rows.1)
 
-  pub as_many_places : (k : ℕ) (odd : List (Option ℕ)) (shots : List (List ℕ)) → AreOddAt g shots odd
+  pub as_many_places : (k : ℕ) (odd : List (Option ℕ)) (shots : List ShotValue) → AreOddAt g shots odd
       → length (even_places k odd) ≡ length (even_of odd shots)
   as_many_places k [] [] each = refl
   as_many_places k [] (s ∷ ss) each = absurd each
@@ -79,7 +79,7 @@ one_more R (w ∷ xs) [] x y all here = absurd all
 one_more R (w ∷ xs) (z ∷ ys) x y all here = (all.0, one_more R xs ys x y all.1 here)
 
 module _ (g : DecodingGraph) where
-  even_none : (odd : List (Option ℕ)) (shots : List (List ℕ)) (shot : List ℕ) → AreOddAt g shots odd
+  even_none : (odd : List (Option ℕ)) (shots : List ShotValue) (shot : ShotValue) → AreOddAt g shots odd
       → even_of (odd ++ None ∷ []) (shots ++ shot ∷ []) ≡ even_of odd shots ++ shot ∷ []
   even_none [] [] shot each = refl
   even_none [] (s ∷ ss) shot each = absurd each
@@ -87,7 +87,7 @@ module _ (g : DecodingGraph) where
   even_none (Some v ∷ vs) (s ∷ ss) shot each = even_none vs ss shot each.1
   even_none (None ∷ vs) (s ∷ ss) shot each = ap (λ xs. s ∷ xs) (even_none vs ss shot each.1)
 
-  even_some : (odd : List (Option ℕ)) (shots : List (List ℕ)) (shot : List ℕ) (u : ℕ) → AreOddAt g shots odd
+  even_some : (odd : List (Option ℕ)) (shots : List ShotValue) (shot : ShotValue) (u : ℕ) → AreOddAt g shots odd
       → even_of (odd ++ Some u ∷ []) (shots ++ shot ∷ []) ≡ even_of odd shots
   even_some [] [] shot u each = refl
   even_some [] (s ∷ ss) shot u each = absurd each
@@ -108,7 +108,7 @@ module _ (g : DecodingGraph) where
   pub sorted_first : IsSorted g [] [] [] []
   sorted_first = record { each = tt; even_are = refl; places_are = refl }
 
-  module _ (shots : List (List ℕ)) (odd : List (Option ℕ)) (even : List (List ℕ)) (places : List ℕ) (sorted : IsSorted g shots odd even places) (shot : List ℕ) where
+  module _ (shots : List ShotValue) (odd : List (Option ℕ)) (even : List ShotValue) (places : List ℕ) (sorted : IsSorted g shots odd even places) (shot : ShotValue) where
     pub sorted_even : IsFirstOdd (problem_of g shot) None
         → IsSorted g (shots ++ shot ∷ []) (odd ++ None ∷ []) (even ++ shot ∷ []) (places ++ length shots ∷ [])
     sorted_even none = record {
@@ -121,7 +121,7 @@ module _ (g : DecodingGraph) where
         from_zero : (n : ℕ) → n ≡ 0 + n
         from_zero n = omega arith
 
-        zipped : (ss : List (List ℕ)) (vs : List (Option ℕ)) → AreOddAt g ss vs → length vs ≡ length ss
+        zipped : (ss : List ShotValue) (vs : List (Option ℕ)) → AreOddAt g ss vs → length vs ≡ length ss
         zipped [] [] each = refl
         zipped [] (v ∷ vs) each = absurd each
         zipped (s ∷ ss) [] each = absurd each
@@ -139,7 +139,7 @@ module _ (g : DecodingGraph) where
     sorted_more_odd None now here some e = absurd (false≢true some)
     sorted_more_odd (Some u) now here some e = subst (λ vs. IsSorted g (shots ++ shot ∷ []) vs even places) (sym e) (sorted_odd u here)
 
-    pub sorted_more_even : (vertex : Option ℕ) (place : ℕ) (now : List (Option ℕ)) (more : List (List ℕ)) (later : List ℕ)
+    pub sorted_more_even : (vertex : Option ℕ) (place : ℕ) (now : List (Option ℕ)) (more : List ShotValue) (later : List ℕ)
         → IsFirstOdd (problem_of g shot) vertex → place ≡ length shots → is_some vertex ≡ false
         → now ≡ odd ++ vertex ∷ [] → more ≡ even ++ shot ∷ [] → later ≡ places ++ place ∷ [] → IsSorted g (shots ++ shot ∷ []) now more later
     sorted_more_even (Some u) place now more later here is none e f h = absurd (false≢true (sym none))

@@ -3,7 +3,7 @@ use Rattle.std.proofs.Common.{◌≡◌, ◌≢◌, ℕ, suc, ◌+◌, ◌-◌, 
 use Rattle.std.specs.List.{All, AllZip}
 use Rattle.std.proofs.lemmas.List.Elements.{All-nil, All-cons, All-head, All-tail}
 use Rattle.fb_graph.specs.Components.{IsFirstOdd}
-use Rattle.fb_graph.specs.Limits.{DecodingGraph, IsShot, problem_of}
+use Rattle.fb_graph.specs.Limits.{DecodingGraph, IsShot, ShotValue, no_shot, problem_of}
 use Rattle.fb_graph.specs.declared.parts.Row.{Row}
 use Rattle.fb_plan.specs.Plans.{IsPlan, IsTree, JobValue, PlanTree, children_of, node_count, root_of}
 use Rattle.fb_plan.proofs.SubProblems.{fusion_of}
@@ -22,24 +22,24 @@ use Rattle.fb_crew.specs.InternalSolved.{item_of}
 use Rattle.fb_crew.specs.Windows.{AreRows, IsHistoryOf, IsShotRow, SolvedValue}
 
 module _ (g : DecodingGraph) where
-  pub even_shots : (odd : List (Option ℕ)) (shots : List (List ℕ)) → All (IsShot g) shots → All (IsShot g) (even_of odd shots)
+  pub even_shots : (odd : List (Option ℕ)) (shots : List ShotValue) → All (IsShot g) shots → All (IsShot g) (even_of odd shots)
   even_shots [] shots all = All-nil (IsShot g)
   even_shots (v ∷ vs) [] all = All-nil (IsShot g)
   even_shots (Some v ∷ vs) (s ∷ ss) all = even_shots vs ss (All-tail (IsShot g) s ss all)
   even_shots (None ∷ vs) (s ∷ ss) all =
       All-cons (IsShot g) s (even_of vs ss) (All-head (IsShot g) s ss all) (even_shots vs ss (All-tail (IsShot g) s ss all))
 
-  abbrev pub IsEven : List ℕ → Type 0
+  abbrev pub IsEven : ShotValue → Type 0
   IsEven shot = IsFirstOdd (problem_of g shot) None
 
-  pub even_even : (odd : List (Option ℕ)) (shots : List (List ℕ)) → AreOddAt g shots odd → All IsEven (even_of odd shots)
+  pub even_even : (odd : List (Option ℕ)) (shots : List ShotValue) → AreOddAt g shots odd → All IsEven (even_of odd shots)
   even_even [] [] each = All-nil IsEven
   even_even [] (s ∷ ss) each = absurd each
   even_even (v ∷ vs) [] each = absurd each
   even_even (Some v ∷ vs) (s ∷ ss) each = even_even vs ss each.1
   even_even (None ∷ vs) (s ∷ ss) each = All-cons IsEven s (even_of vs ss) each.0 (even_even vs ss each.1)
 
-  pub even_few : (odd : List (Option ℕ)) (shots : List (List ℕ)) → length (even_of odd shots) ≤ length shots
+  pub even_few : (odd : List (Option ℕ)) (shots : List ShotValue) → length (even_of odd shots) ≤ length shots
   even_few [] shots = omega arith
   even_few (v ∷ vs) [] = omega arith
   even_few (Some v ∷ vs) (s ∷ ss) = omega (arith, even_few vs ss)
@@ -64,7 +64,7 @@ module _ (job : JobValue) where
       at : (p : SolvedValue) {s : ℕ} → (p.job ≡ job) × (p.slot ≡ s) × (p.node ≡ root_of job.plan) → p.node ≡ root_of p.job.plan
       at p is = is.2 ∙ ap (λ (j : JobValue). root_of j.plan) (sym is.0)
 
-  rows_from : (k : ℕ) (roots : List SolvedValue) (shots : List (List ℕ)) (rows : List Row) → length roots ≡ length shots
+  rows_from : (k : ℕ) (roots : List SolvedValue) (shots : List ShotValue) (rows : List Row) → length roots ≡ length shots
       → ((i : ℕ) (p : SolvedValue) → slice_get roots i ≡ Some p → (p.job ≡ job) × (p.slot ≡ k + i))
       → ((i : ℕ) → i < length shots → get_or job.shots (k + i) [] ≡ get_or shots i [])
       → AreRowsOf roots rows → AreRows job.graph shots rows
@@ -83,7 +83,7 @@ module _ (job : JobValue) where
       next : (i : ℕ) → k + suc i ≡ k + 1 + i
       next i = omega arith
 
-      here : (p.job ≡ job) × (p.slot ≡ k + 0) → get_or job.shots (k + 0) [] ≡ s → IsShotRow job.graph s r
+      here : (p.job ≡ job) × (p.slot ≡ k + 0) → get_or job.shots (k + 0) no_shot ≡ s → IsShotRow job.graph s r
       here is at =
           subst (λ (j : JobValue). IsShotRow j.graph s r) is.0
           (subst (λ shot. IsShotRow p.job.graph shot r)
@@ -99,7 +99,7 @@ module _ (job : JobValue) where
       zero_first i = omega arith
 
 -- as many rows as shots that have a correction
-pub as_many_rows : (g : DecodingGraph) (odd : List (Option ℕ)) (shots : List (List ℕ)) (rows : List Row) → AreOddAt g shots odd
+pub as_many_rows : (g : DecodingGraph) (odd : List (Option ℕ)) (shots : List ShotValue) (rows : List Row) → AreOddAt g shots odd
     → AreRows g (even_of odd shots) rows → length rows ≡ count_by is_none odd
 as_many_rows g [] [] [] each rows = refl
 as_many_rows g [] [] (r ∷ rs) each rows = absurd rows
@@ -148,7 +148,7 @@ module _ (job : JobValue) where
 
 -- ---- a window
 
-module _ (g : DecodingGraph) (t : PlanTree) (plan : IsPlan g t) (shots : List (List ℕ)) (odd : List (Option ℕ)) (even : List (List ℕ)) (places : List ℕ)
+module _ (g : DecodingGraph) (t : PlanTree) (plan : IsPlan g t) (shots : List ShotValue) (odd : List (Option ℕ)) (even : List ShotValue) (places : List ℕ)
     (sorted : IsSorted g shots odd even places) where
   abbrev job : JobValue
   job = record { graph = g; plan = t; shots = even }

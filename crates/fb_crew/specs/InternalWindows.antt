@@ -2,7 +2,7 @@
 use Rattle.std.specs.Prelude.{ℕ, ◌≡◌, ◌+◌, ◌*◌, ◌≤◌, ◌<◌, List, [], ◌∷◌, length, map, get_or, Option, Some, None, IfSome}
 use Rattle.std.specs.List.{All, AllZip}
 use Rattle.fb_graph.specs.Components.{IsFirstOdd}
-use Rattle.fb_graph.specs.Limits.{DecodingGraph, problem_of}
+use Rattle.fb_graph.specs.Limits.{DecodingGraph, ShotValue, problem_of}
 use Rattle.fb_graph.specs.declared.parts.Row.{Row}
 use Rattle.fb_graph.specs.declared.parts.Row.TheVariants.{Odd}
 use Rattle.fb_plan.specs.Plans.{PlanTree, IsPlan, IsTree, node_count}
@@ -21,7 +21,7 @@ pub record IsCrew (g : DecodingGraph) (t : PlanTree) (parts : DecodingGraph) (wo
   pub one_each : IfSome tools (λ count. count ≡ workers)
 
 -- the shots that have a correction, by the odd vertices of the others
-abbrev pub even_of : List (Option ℕ) → List (List ℕ) → List (List ℕ)
+abbrev pub even_of : List (Option ℕ) → List ShotValue → List ShotValue
 even_of [] shots = []
 even_of (v ∷ vs) [] = []
 even_of (None ∷ vs) (shot ∷ shots) = shot ∷ even_of vs shots
@@ -34,10 +34,10 @@ even_places k (None ∷ vs) = k ∷ even_places (k + 1) vs
 even_places k (Some v ∷ vs) = even_places (k + 1) vs
 
 -- the vertex of its first odd component, for a shot that has one
-abbrev pub AreOddAt : DecodingGraph → List (List ℕ) → List (Option ℕ) → Type 0
+abbrev pub AreOddAt : DecodingGraph → List ShotValue → List (Option ℕ) → Type 0
 AreOddAt g shots odd = AllZip (λ shot vertex. IsFirstOdd (problem_of g shot) vertex) shots odd
 
-pub record IsSorted (g : DecodingGraph) (shots : List (List ℕ)) (odd : List (Option ℕ)) (even : List (List ℕ)) (places : List ℕ) : Type 0 where
+pub record IsSorted (g : DecodingGraph) (shots : List ShotValue) (odd : List (Option ℕ)) (even : List ShotValue) (places : List ℕ) : Type 0 where
   pub each : AreOddAt g shots odd
   pub even_are : even ≡ even_of odd shots
   pub places_are : places ≡ even_places 0 odd
@@ -54,7 +54,7 @@ abbrev pub with_places : List ℕ → List Entry → List Entry
 with_places places history = map (renumbered (λ s. get_or places s 0)) history
 
 abbrev pub SortingLaws : Type 0
-SortingLaws = (g : DecodingGraph) (t : PlanTree) (workers : ℕ) (shots : List (List ℕ)) (odd : List (Option ℕ)) (even : List (List ℕ))
+SortingLaws = (g : DecodingGraph) (t : PlanTree) (workers : ℕ) (shots : List ShotValue) (odd : List (Option ℕ)) (even : List ShotValue)
     (places : List ℕ) (solved : List Row) (history : List Entry) → IsTree t → IsSorted g shots odd even places → AreRows g even solved
     → IsComplete (kids_in t.units t.joins) (node_count t) (length even * node_count t) history → All (λ e. e.worker ≤ workers) history
     → AreRows g shots (rows_by odd solved) × IsHistoryOf t workers (rows_by odd solved) (with_places places history)

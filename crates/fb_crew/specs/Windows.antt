@@ -2,7 +2,7 @@
 use Rattle.std.specs.Prelude.{ℕ, ◌≡◌, ◌+◌, ◌*◌, ◌≤◌, Bool, true, false, if◌then◌else◌, List, [], ◌∷◌, length, get_or}
 use Rattle.std.specs.List.{All, AllZip}
 use Rattle.fb_graph.specs.Answers.{IsRight}
-use Rattle.fb_graph.specs.Limits.{DecodingGraph, problem_of}
+use Rattle.fb_graph.specs.Limits.{DecodingGraph, ShotValue, no_shot, problem_of}
 use Rattle.fb_graph.specs.Parity.{is_in}
 use Rattle.fb_graph.specs.declared.parts.Row.{Row}
 use Rattle.fb_graph.specs.declared.parts.Row.TheVariants.{Best, Odd}
@@ -11,12 +11,12 @@ use Rattle.fb_book.specs.Board.{kids_in}
 use Rattle.fb_book.specs.Machine.{IsCompleteOn}
 use Rattle.fb_plan.specs.Plans.{JobValue, PlanTree, node_count}
 
--- the row of a shot, given by its defects
-abbrev pub IsShotRow : DecodingGraph → List ℕ → Row → Type 0
+-- the row of a shot
+abbrev pub IsShotRow : DecodingGraph → ShotValue → Row → Type 0
 IsShotRow g shot row = IsRight (problem_of g shot) row
 
 -- the rows of shots
-abbrev pub AreRows : DecodingGraph → List (List ℕ) → List Row → Type 0
+abbrev pub AreRows : DecodingGraph → List ShotValue → List Row → Type 0
 AreRows g shots rows = AllZip (IsShotRow g) shots rows
 
 abbrev pub is_best : Row → Bool
@@ -47,6 +47,6 @@ pub record SolvedValue : Type 0 where
   pub slot : ℕ
   pub node : ℕ
 
--- the defects of the item's shot
-abbrev pub shot_at : SolvedValue → List ℕ
-shot_at s = get_or s.job.shots s.slot []
+-- the item's shot
+abbrev pub shot_at : SolvedValue → ShotValue
+shot_at s = get_or s.job.shots s.slot no_shot

@@ -116,7 +116,7 @@ struct Joined<P: Piece, T: Drop, N: Board> {
     ghost counted: { length book.0 ≡ made },
 }
 
-/// Lets each seat's worker do items until it ends, and gives the seats back in their order. The first seat's worker is on
+/// Lets each seat's worker do items until it ends, and gives all seats back. The first seat's worker is on
 /// the calling thread, and each other one on a thread of its own. The calling thread starts them all: a system tends to
 /// put a new thread on the processor of the one that starts it, which a worker keeps busy. A worker for which no thread
 /// can be made begins once the calling thread's own has ended. The calls are as deep as there are seats, at most 64.

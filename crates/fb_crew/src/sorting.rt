@@ -2,11 +2,11 @@
 
 ghost use Rattle.std.specs.Prelude.{◌≡◌, ◌≤◌, ◌<◌, ◌++◌, ℕ, List, [], ◌∷◌, length, count_by, is_none, All, IfOk, OnOk};
 ghost use Rattle.fb_graph.specs.Components.{IsFirstOdd};
-ghost use Rattle.fb_graph.specs.Limits.{DecodingGraph, IsShot, problem_of};
+ghost use Rattle.fb_graph.specs.Limits.{DecodingGraph, IsShot, ShotValue, problem_of};
 ghost use Rattle.fb_crew.specs.InternalWindows.{IsSorted, SortingLaws, rows_by, with_places};
 
 use fb_book::Entry;
-use fb_graph::{Components, NoMemory, Row, Shot, first_odd};
+use fb_graph::{Components, NoMemory, Row, Shot, Whole, first_odd};
 use std::alloc::Global;
 
 /// Does nothing. Rows and history put together by `join_rows` and `renumber` are right for all shots.
@@ -32,7 +32,7 @@ impl Sorted {
         shot: &Shot,
         vertex: Option<u32>,
     ) -> Result<(), NoMemory>
-        ensures { (g : DecodingGraph) (shots : List (List ℕ)) → IsSorted g shots self.old.odd.items self.old.even.items self.old.places.items
+        ensures { (g : DecodingGraph) (shots : List ShotValue) → IsSorted g shots self.old.odd.items self.old.even.items self.old.places.items
             → IsFirstOdd (problem_of g shot.now) vertex → place ≡ length shots
             → OnOk result (IsSorted g (shots ++ shot.now ∷ []) self.new.odd.items self.new.even.items self.new.places.items) }
     {
@@ -49,12 +49,12 @@ impl Sorted {
 /// Tells which of the shots have a correction.
 pub fn sort_out(
     alloc: Global,
-    parts: &mut Components<'_>,
+    parts: &mut Components<Whole<'_>>,
     shots: &[Shot],
 ) -> Result<Sorted, NoMemory>
-    requires shots { All (IsShot parts.old) shots.now }
+    requires shots { All (IsShot parts.old.0.now) shots.now }
     requires few { length shots.now ≤ 64 }
-    ensures sorted { IfOk result (λ s. IsSorted parts.old shots.now s.odd.items s.even.items s.places.items) }
+    ensures sorted { IfOk result (λ s. IsSorted parts.old.0.now shots.now s.odd.items s.even.items s.places.items) }
     ensures same { parts.new ≡ parts.old }
 {
     let mut sorted = Sorted {

@@ -11,7 +11,7 @@ use crate::hands::Gate;
 use crate::solver::{Solved, Solver, Tools};
 use crate::sorting::{Sorted, join_rows, renumber, sort_out};
 use fb_book::Entry;
-use fb_graph::{Components, Graph, NoMemory, Row, Shot, components};
+use fb_graph::{Components, Graph, NoMemory, Row, Shot, Whole, components};
 use fb_plan::{Job, Plan};
 use std::alloc::Global;
 use std::marker::Model;
@@ -31,7 +31,7 @@ pub struct Window {
 pub struct Crew<'a> {
     graph: &'a Graph,
     plan: &'a Plan,
-    parts: Components<'a>,
+    parts: Components<Whole<'a>>,
     workers: u32,
     /// One for each worker. None where memory ran out while they were lent.
     tools: Option<Vec<Tools>>,
@@ -46,7 +46,7 @@ impl<'a> Model for Crew<'a> {
 
     ghost view = { λ c. record { graph = c.graph.now; plan = c.plan.now; workers = c.workers } };
 
-    ghost invariant = { λ c. IsCrew c.graph.now c.plan.now c.parts c.workers (option_map (λ ts. length ts.items) c.tools) };
+    ghost invariant = { λ c. IsCrew c.graph.now c.plan.now c.parts.0.now c.workers (option_map (λ ts. length ts.items) c.tools) };
 }
 
 impl<'a> Crew<'a> {
@@ -112,14 +112,14 @@ fn solve_window<G: Gate, R: Threads + Wait + Sync>(
     alloc: Global,
     graph: &Graph,
     plan: &Plan,
-    parts: &mut Components<'_>,
+    parts: &mut Components<Whole<'_>>,
     workers: u32,
     shots: &[Shot],
     tools: Vec<Tools>,
     gate: &G,
 ) -> Result<(Window, Vec<Tools>), NoMemory>
     requires plan { IsPlan graph.now plan.now }
-    requires parts { parts.old ≡ graph.now }
+    requires parts { parts.old.0.now ≡ graph.now }
     requires workers { (1 ≤ workers) × (workers ≤ 64) × (length tools.items ≡ workers) }
     requires shots { All (IsShot graph.now) shots.now }
     requires few { length shots.now ≤ 64 }

@@ -10,7 +10,7 @@ use Rattle.std.specs.List.{All}
 use Rattle.fb_book.specs.declared.entries.Entry.{Entry}
 use Rattle.fb_crew.specs.Windows.{AreRows, IsHistoryOf, IsShotRow, best_places, is_best}
 use Rattle.fb_graph.proofs.Sets.{is_in-All}
-use Rattle.fb_graph.specs.Limits.{DecodingGraph}
+use Rattle.fb_graph.specs.Limits.{DecodingGraph, ShotValue}
 use Rattle.fb_graph.specs.Parity.{is_in}
 use Rattle.fb_graph.specs.declared.parts.Row.{Row}
 use Rattle.fb_graph.specs.declared.parts.Row.TheVariants.{Best, Odd}
@@ -145,11 +145,11 @@ module _ (request : Decoding) (g : DecodingGraph) (t : PlanTree) where
 
   -- ---- the batches of shots
 
-  append_not_nil : (xs ys : List (List ℕ)) → xs ≢ [] → xs ++ ys ≢ []
+  append_not_nil : (xs ys : List ShotValue) → xs ≢ [] → xs ++ ys ≢ []
   append_not_nil [] ys some e = some refl
   append_not_nil (x ∷ xs) ys some e = cc
 
-  are_batches-push : (shots more : List (List ℕ)) (bs : List Batch) (b : Batch) → more ≢ [] → length more ≤ request.window
+  are_batches-push : (shots more : List ShotValue) (bs : List Batch) (b : Batch) → more ≢ [] → length more ≤ request.window
       → length shots ≡ request.window * length bs → AreBatches request g t shots bs → AnswersBatch request g t more b
       → AreBatches request g t (shots ++ more) (bs ++ b ∷ [])
   are_batches-push shots more [] b some few full answers last = subst (λ s. AreBatches request g t (s ++ more) (b ∷ [])) (sym answers) (
@@ -173,7 +173,7 @@ module _ (request : Decoding) (g : DecodingGraph) (t : PlanTree) where
       fewer : length (drop request.window shots) ≡ request.window * length bs
       fewer = omega (arith, full, product, length-drop request.window shots)
 
-  pub rows_length : (shots : List (List ℕ)) (bs : List Batch) → AreBatches request g t shots bs → length (all_rows bs) ≡ length shots
+  pub rows_length : (shots : List ShotValue) (bs : List Batch) → AreBatches request g t shots bs → length (all_rows bs) ≡ length shots
   rows_length shots [] answers = sym (ap length answers)
   rows_length shots (b ∷ bs) (some, first, rest) = omega (
     arith,
@@ -185,14 +185,14 @@ module _ (request : Decoding) (g : DecodingGraph) (t : PlanTree) where
   )
 
   -- What a batch of further shots makes of the batches before it: it's one of them unless it has no shots.
-  pub record AddsBatch (shots more : List (List ℕ)) (bs : List Batch) (b : Batch) : Type 0 where
+  pub record AddsBatch (shots more : List ShotValue) (bs : List Batch) (b : Batch) : Type 0 where
     pub batches : List Batch
     pub answers : AreBatches request g t (shots ++ more) batches
     pub rows : all_rows batches ≡ all_rows bs ++ b.rows
     pub text : batches_text request.trace 0 batches ≡ batches_text request.trace 0 bs ++ batch_text request.trace (length (all_rows bs)) b
     pub grows : more ≢ [] → length batches ≡ length bs + 1
 
-  pub adds_batch : (shots more : List (List ℕ)) (bs : List Batch) (b : Batch) → length more ≤ request.window → length shots ≡ request.window * length bs
+  pub adds_batch : (shots more : List ShotValue) (bs : List Batch) (b : Batch) → length more ≤ request.window → length shots ≡ request.window * length bs
       → AreBatches request g t shots bs → AnswersBatch request g t more b → AddsBatch shots more bs b
   adds_batch shots [] bs b few full answers last = record {
     batches = bs;

@@ -5,7 +5,7 @@ use Rattle.std.proofs.Math.Nat.{mul-suc}
 use Rattle.std.proofs.lemmas.Slice.Zip.{AllZip-long}
 use Rattle.std.specs.List.{All}
 use Rattle.fb_crew.specs.Windows.{IsShotRow}
-use Rattle.fb_graph.specs.Limits.{DecodingGraph}
+use Rattle.fb_graph.specs.Limits.{DecodingGraph, ShotValue}
 use Rattle.fb_inputs.proofs.Gathered.{ended_read_out, first_of_none, gathered_so, given_few, given_first, gives_both, gives_none}
 use Rattle.fb_inputs.specs.Judging.{FirstFrom, GathersFrom, most_shots}
 use Rattle.fb_inputs.specs.Taking.{EndsSo, GivesShots}
@@ -37,7 +37,7 @@ none_decoded request t left format g out =
 module _ (request : Decoding) (t : PlanTree) (start : Stream) (before out : Option (List ℕ)) where
   -- The batches of the shots that a stream has given were written, and their rows are counted.
   pub record HasDecoded (now : Stream) (after new : Option (List ℕ)) (tally : Tally) : Type 0 where
-    pub shots : List (List ℕ)
+    pub shots : List ShotValue
     pub gives : GivesShots start now before after shots
     pub batches : List Batch
     pub answers : AreBatches request start.graph t shots batches
@@ -80,7 +80,7 @@ module _ (request : Decoding) (t : PlanTree) (start : Stream) (before out : Opti
 
     -- the next batch
     module _ (last : Stream) (rest : Option (List ℕ)) (b : Batch) (ending : Option ShotsEnd) (taken : TakesBatch request t now last after rest b ending) where
-      abbrev shots : List (List ℕ)
+      abbrev shots : List ShotValue
       shots = so_far.shots ++ taken.shots
 
       answers : AnswersBatch request start.graph t taken.shots b

@@ -1,7 +1,7 @@
 -- How the report of a graph's shots ends.
 use Rattle.std.proofs.Common.{◌≡◌, ℕ, ◌+◌, ◌==◌, inl, inr, Bool, true, false, if◌then◌else◌, List, [], length, Option, refl, sym, ap, subst, ◌∙◌, append-nil}
 use Rattle.std.proofs.KnownBytes.{Appends-trans}
-use Rattle.fb_graph.specs.Limits.{DecodingGraph}
+use Rattle.fb_graph.specs.Limits.{DecodingGraph, ShotValue}
 use Rattle.fb_plan.specs.Plans.{PlanTree}
 use Rattle.fb_ports.specs.Causes.{Appends, AppendsPrefix}
 use Rattle.fb_ports.proofs.Onward.{prefix_first, prefix_second}
@@ -31,7 +31,7 @@ report_to_end t (end.Refused fault) rows counts old new cause (same, is) reads =
 report_to_end t end.ReadFault rows counts old new cause (same, is) reads = absurd (subst IsReadToItsEnd is reads)
 
 module _ (named : Named) (request : Decoding) (g : DecodingGraph) (t : PlanTree) where
-  are_first : (shots : List (List ℕ)) (ending : Ending) (text : List ℕ) → HasShots request.format g shots ending text → HasFirstShots request.format g shots text
+  are_first : (shots : List ShotValue) (ending : Ending) (text : List ℕ) → HasShots request.format g shots ending text → HasFirstShots request.format g shots text
   are_first shots ending text e = ([], ap (λ r. r.shots) e ∙ sym (append-nil shots))
 
   -- a fault before any row

@@ -5,7 +5,7 @@ use Rattle.fb_book.specs.declared.entries.Entry.{Entry}
 use Rattle.fb_book.specs.declared.entries.Kind.{Kind}
 use Rattle.fb_book.specs.declared.entries.Kind.TheVariants.{Took, Gave, Left}
 use Rattle.fb_crew.specs.Windows.{AreRows, IsHistoryOf}
-use Rattle.fb_graph.specs.Limits.{DecodingGraph}
+use Rattle.fb_graph.specs.Limits.{DecodingGraph, ShotValue}
 use Rattle.fb_graph.specs.declared.parts.Row.{Row}
 use Rattle.fb_plan.specs.Plans.{PlanTree}
 use Rattle.fb_report.specs.Texts.{head_text, rows_text, trace_line, done_text}
@@ -47,12 +47,12 @@ abbrev pub all_rows : List Batch → List Row
 all_rows bs = flat_map (λ b. b.rows) bs
 
 -- The rows of these shots. Where the history is wanted, it tells how the rows were made.
-pub record AnswersBatch (request : Decoding) (g : DecodingGraph) (t : PlanTree) (shots : List (List ℕ)) (b : Batch) : Type 0 where
+pub record AnswersBatch (request : Decoding) (g : DecodingGraph) (t : PlanTree) (shots : List ShotValue) (b : Batch) : Type 0 where
   pub rows : AreRows g shots b.rows
   pub history : request.trace ≡ true → IsHistoryOf t request.workers b.rows b.history
 
 -- the rows of shots, in batches of the window's size, the last of which may be smaller
-abbrev pub AreBatches : Decoding → DecodingGraph → PlanTree → List (List ℕ) → List Batch → Type 0
+abbrev pub AreBatches : Decoding → DecodingGraph → PlanTree → List ShotValue → List Batch → Type 0
 AreBatches request g t shots [] = shots ≡ []
 AreBatches request g t shots (b ∷ bs) = (shots ≢ []) × AnswersBatch request g t (take request.window shots) b
     × AreBatches request g t (drop request.window shots) bs

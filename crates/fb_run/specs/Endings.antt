@@ -1,6 +1,6 @@
 -- What each end of a run says of what was written and read.
 use Rattle.std.specs.Prelude.{ℕ, ◌≡◌, ◌⊎◌, List, [], ◌∷◌, length, Option, Some, None}
-use Rattle.fb_graph.specs.Limits.{DecodingGraph}
+use Rattle.fb_graph.specs.Limits.{DecodingGraph, ShotValue}
 use Rattle.fb_plan.specs.Plans.{PlanTree, single_of}
 use Rattle.fb_ports.specs.Causes.{Appends, AppendsPrefix}
 use Rattle.fb_shots.specs.Shots.{at_end, refused}
@@ -19,7 +19,7 @@ use Rattle.fb_endings.specs.declared.ending.Refusal.TheVariants as refusal
 
 -- The shots were read to their end, and a whole report of them was written.
 pub record WritesReport (named : Named) (request : Decoding) (g : DecodingGraph) (t : PlanTree) (old new : Option (List ℕ)) (cause : Cause) : Type 0 where
-  pub shots : List (List ℕ)
+  pub shots : List ShotValue
   pub input : Holds named request.shots (HasShots request.format g shots at_end)
   pub batches : List Batch
   pub answers : AreBatches request g t shots batches
@@ -28,7 +28,7 @@ pub record WritesReport (named : Named) (request : Decoding) (g : DecodingGraph)
 
 -- The shots end by a refusal, and the head and the rows of those before it were written.
 pub record WritesBefore (named : Named) (request : Decoding) (g : DecodingGraph) (t : PlanTree) (old new : Option (List ℕ)) (fault : ShotFault) : Type 0 where
-  pub shots : List (List ℕ)
+  pub shots : List ShotValue
   pub input : Holds named request.shots (HasShots request.format g shots (refused fault.kind))
   pub place : fault.shot ≡ length shots
   pub batches : List Batch
@@ -37,7 +37,7 @@ pub record WritesBefore (named : Named) (request : Decoding) (g : DecodingGraph)
 
 -- Reading the shots failed, and the head and the rows of the shots that the bytes read settle were written.
 pub record WritesGiven (named : Named) (request : Decoding) (g : DecodingGraph) (t : PlanTree) (left old new : Option (List ℕ)) : Type 0 where
-  pub shots : List (List ℕ)
+  pub shots : List ShotValue
   pub input : Holds named request.shots (IsReadInPart request.format g left shots)
   pub batches : List Batch
   pub answers : AreBatches request g t shots batches
@@ -49,7 +49,7 @@ WritesHead named left old new = IsReadOutIfNamed named left × Appends old new h
 
 -- A prefix was written of the head and the rows of some of the first shots, or of a whole report.
 pub record WritesPrefix (named : Named) (request : Decoding) (g : DecodingGraph) (t : PlanTree) (old new : Option (List ℕ)) : Type 0 where
-  pub shots : List (List ℕ)
+  pub shots : List ShotValue
   pub input : (shots ≡ []) ⊎ Holds named request.shots (HasFirstShots request.format g shots)
   pub batches : List Batch
   pub answers : AreBatches request g t shots batches

@@ -2,6 +2,7 @@
 use Rattle.std.specs.Prelude.{ℕ, ◌≡◌, ◌+◌, List, Option}
 use Rattle.fb_crew.specs.declared.window.Window.{Window}
 use Rattle.fb_graph.specs.declared.parts.Row.{Row}
+use Rattle.fb_graph.specs.Limits.{ShotValue}
 use Rattle.fb_inputs.specs.Taking.{TakesWindow}
 use Rattle.fb_inputs.specs.declared.taking.ShotsEnd.{ShotsEnd}
 use Rattle.fb_plan.specs.Plans.{PlanTree}
@@ -16,7 +17,7 @@ batch_in w = record { rows = w.rows.items; history = w.history.items }
 
 -- The next shots were taken, as many as the window holds or fewer where they end, and these are their rows.
 pub record TakesBatch (request : Decoding) (t : PlanTree) (old new : Stream) (before after : Option (List ℕ)) (b : Batch) (ending : Option ShotsEnd) : Type 0 where
-  pub shots : List (List ℕ)
+  pub shots : List ShotValue
   pub takes : TakesWindow request.window old new before after shots ending
   pub answers : AnswersBatch request old.graph t shots b
 

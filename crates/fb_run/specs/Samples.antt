@@ -2,7 +2,7 @@
 use Rattle.std.specs.Prelude.{◌≡◌, ℕ, zero, suc, ◌*◌, List, [], ◌∷◌, ◌++◌, length, codes, decimal, sum_by}
 use Rattle.fb_crew.specs.Windows.{AreRows}
 use Rattle.fb_gen.specs.Drawing.{defects_from, hits_of, state_after}
-use Rattle.fb_graph.specs.Limits.{DecodingGraph}
+use Rattle.fb_graph.specs.Limits.{DecodingGraph, ShotValue}
 use Rattle.fb_graph.specs.declared.parts.Row.{Row}
 use Rattle.fb_graph.specs.declared.parts.Row.TheVariants.{Best, Odd}
 use Rattle.fb_plan.specs.Plans.{PlanTree}
@@ -11,14 +11,14 @@ use Rattle.fb_words.specs.Words.{Sampling}
 
 -- The shots that are drawn one after another from a state of the generator, which goes on from shot to shot: each edge
 -- of a shot takes one draw.
-abbrev pub drawn_shots : DecodingGraph → (rate state count : ℕ) → List (List ℕ)
+abbrev pub drawn_shots : DecodingGraph → (rate state count : ℕ) → List ShotValue
 drawn_shots g rate x zero = []
 drawn_shots g rate x (suc n) =
-    defects_from g (hits_of x rate (length g.edges)) ∷ drawn_shots g rate (state_after x (length g.edges)) n
+    record { defects = defects_from g (hits_of x rate (length g.edges)) } ∷ drawn_shots g rate (state_after x (length g.edges)) n
 
 -- the number of defects of all shots
-abbrev pub defects_in : List (List ℕ) → ℕ
-defects_in shots = sum_by length shots
+abbrev pub defects_in : List ShotValue → ℕ
+defects_in shots = sum_by (λ shot. length shot.defects) shots
 
 -- the weight of a row's correction
 abbrev pub weight_in : Row → ℕ

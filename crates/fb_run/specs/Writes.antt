@@ -1,7 +1,7 @@
 -- What a decode has written of its shots, and how it ends.
 use Rattle.std.specs.Prelude.{ℕ, ◌≡◌, ◌+◌, ◌⊎◌, List, Option, if◌then◌else◌}
 use Rattle.fb_crew.specs.Windows.{is_best}
-use Rattle.fb_graph.specs.Limits.{DecodingGraph}
+use Rattle.fb_graph.specs.Limits.{DecodingGraph, ShotValue}
 use Rattle.fb_graph.specs.declared.parts.Row.{Row}
 use Rattle.fb_plan.specs.Plans.{PlanTree}
 use Rattle.fb_ports.specs.Causes.{Appends, AppendsPrefix}
@@ -23,8 +23,8 @@ abbrev pub counted : Tally → Row → Tally
 counted t r = if is_best r then record t { best = t.best + 1 } else record t { odd = t.odd + 1 }
 
 -- The batches of the shots that the input gives were written, and their rows are counted so.
-pub record WritesBatches (Input : List (List ℕ) → Type 0) (request : Decoding) (g : DecodingGraph) (t : PlanTree) (old new : Option (List ℕ)) (tally : Tally) : Type 0 where
-  pub shots : List (List ℕ)
+pub record WritesBatches (Input : List ShotValue → Type 0) (request : Decoding) (g : DecodingGraph) (t : PlanTree) (old new : Option (List ℕ)) (tally : Tally) : Type 0 where
+  pub shots : List ShotValue
   pub input : Input shots
   pub batches : List Batch
   pub answers : AreBatches request g t shots batches
@@ -32,8 +32,8 @@ pub record WritesBatches (Input : List (List ℕ) → Type 0) (request : Decodin
   pub counts : counts_in tally ≡ counts_of (all_rows batches)
 
 -- A prefix was written of the batches of some of the first shots.
-pub record WritesFirstBatches (Input : List (List ℕ) → Type 0) (request : Decoding) (g : DecodingGraph) (t : PlanTree) (old new : Option (List ℕ)) : Type 0 where
-  pub shots : List (List ℕ)
+pub record WritesFirstBatches (Input : List ShotValue → Type 0) (request : Decoding) (g : DecodingGraph) (t : PlanTree) (old new : Option (List ℕ)) : Type 0 where
+  pub shots : List ShotValue
   pub input : Input shots
   pub batches : List Batch
   pub answers : AreBatches request g t shots batches

@@ -231,7 +231,7 @@ fn solve_batch<G: Gate, R: Threads + Wait + Sync>(
 
 /// Whether none of the shots has a defect.
 fn are_empty(shots: &[Shot]) -> bool
-    ensures { result ≡ list_all (λ s. length s == 0) shots.now }
+    ensures { result ≡ list_all (λ s. length s.defects == 0) shots.now }
 {
     shots.iter().all(|shot| shot.is_empty())
 }

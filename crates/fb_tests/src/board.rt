@@ -5,7 +5,7 @@ ghost use Rattle.fb_graph.specs.Components.{IsFirstOdd};
 ghost use Rattle.fb_graph.specs.Limits.{IsShot, problem_of};
 
 use fb_book::{Board, Book, Claim, Permit, Piece};
-use fb_graph::{Components, Graph, NoMemory, Shot, components, first_odd};
+use fb_graph::{Components, Graph, NoMemory, Shot, Whole, components, first_odd};
 use fb_plan::{Job, Plan};
 use std::alloc::Global;
 use std::marker::Brand;
@@ -42,17 +42,17 @@ impl<'a> Piece for Solved<'a> {
 /// Adds the shot where it has a correction.
 fn add_shot(
     graph: &Graph,
-    parts: &mut Components<'_>,
+    parts: &mut Components<Whole<'_>>,
     shots: &mut Vec<Shot>,
     shot: Shot,
 ) -> Result<(), NoMemory>
-    requires parts { parts.old ≡ graph.now }
+    requires parts { parts.old.0.now ≡ graph.now }
     requires shot { IsShot graph.now shot }
     requires shots { All (IsShot graph.now) shots.old.items }
-    requires even { All (λ defects. IsFirstOdd (problem_of graph.now defects) None) shots.old.items }
+    requires even { All (λ shot. IsFirstOdd (problem_of graph.now shot) None) shots.old.items }
     ensures count { OnOk result (length shots.new.items ≤ length shots.old.items + 1) }
     ensures shots { OnOk result (All (IsShot graph.now) shots.new.items) }
-    ensures even { OnOk result (All (λ defects. IsFirstOdd (problem_of graph.now defects) None) shots.new.items) }
+    ensures even { OnOk result (All (λ shot. IsFirstOdd (problem_of graph.now shot) None) shots.new.items) }
     ensures same { parts.new ≡ parts.old }
 {
     if first_odd(parts, &shot).is_some() {
@@ -68,7 +68,7 @@ fn add_shot(
 fn shots(alloc: Global, graph: &Graph, count: u32) -> Result<Vec<Shot>, NoMemory>
     ensures count { IfOk result (λ v. length v.items ≤ count) }
     ensures shots { IfOk result (λ v. All (IsShot graph.now) v.items) }
-    ensures even { IfOk result (λ v. All (λ defects. IsFirstOdd (problem_of graph.now defects) None) v.items) }
+    ensures even { IfOk result (λ v. All (λ shot. IsFirstOdd (problem_of graph.now shot) None) v.items) }
 {
     let mut parts = components(alloc, graph)?;
     let mut shots = Vec::new(alloc);

@@ -1,12 +1,12 @@
 use Rattle.std.proofs.Common.{◌≡◌, List, ℕ, Result, Ok, Err, IfOk, sym, subst, ◌∙◌}
 use Rattle.fb_crew.specs.Windows.{AreRows}
 use Rattle.fb_crew.specs.declared.window.Window.{Window}
-use Rattle.fb_graph.specs.Limits.{DecodingGraph}
+use Rattle.fb_graph.specs.Limits.{DecodingGraph, ShotValue}
 use Rattle.fb_graph.specs.declared.parts.Row.{Row}
 use Rattle.fb_run.proofs.Emptied.{rows_of_none}
 use Rattle.fb_run.proofs.batches.solve_batch.Goals as goal
 
-rows_if_made : {E : Type 0} (g : DecodingGraph) (shots : List (List ℕ)) (rows : List Row) (made : Result Window E) → AreRows g shots rows
+rows_if_made : {E : Type 0} (g : DecodingGraph) (shots : List ShotValue) (rows : List Row) (made : Result Window E) → AreRows g shots rows
     → IfOk made (λ w. w.rows.items ≡ rows) → IfOk made (λ w. AreRows g shots w.rows.items)
 rows_if_made g shots rows (Ok w) answers e = subst (AreRows g shots) (sym e) answers
 rows_if_made g shots rows (Err fault) answers e = tt

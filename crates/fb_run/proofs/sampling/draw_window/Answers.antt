@@ -1,7 +1,7 @@
 use Rattle.std.proofs.Common.{rules, ◌≡◌, ℕ, List, [], ◌∷◌, ◌++◌, length, sym, ap, ◌∙◌}
 use Rattle.fb_gen.specs.Drawing.{defects_from, hits_of, state_after}
 use Rattle.std.proofs.lemmas.List.Elements.{All-push}
-use Rattle.fb_graph.specs.Limits.{IsShot}
+use Rattle.fb_graph.specs.Limits.{IsShot, ShotValue}
 use Rattle.fb_run.specs.Samples.{drawn_shots}
 use Rattle.fb_run.proofs.Sampled.{drawn_shots-next, state_of_next}
 use Rattle.fb_run.proofs.sampling.draw_window.Goals as goal
@@ -14,9 +14,9 @@ loop-preserved c =
     let n = c.loop.counter in
     let edges = length g.edges in record {
       shots = c.in_ok-push.ensures.items
-          ∙ ap (λ (shots : List (List ℕ)). shots ++ c.in_ok-draw.field-0 ∷ []) c.loop.invariant.shots
-          ∙ ap (λ (shot : List ℕ). drawn_shots g rate x n ++ shot ∷ []) (c.in_ok-draw.ensures.defects
-          ∙ ap (λ (y : ℕ). defects_from g (hits_of y rate edges)) c.loop.invariant.state)
+          ∙ ap (λ (shots : List ShotValue). shots ++ c.in_ok-draw.field-0 ∷ []) c.loop.invariant.shots
+          ∙ ap (λ (shot : ShotValue). drawn_shots g rate x n ++ shot ∷ []) (c.in_ok-draw.ensures.defects
+          ∙ ap (λ (y : ℕ). record { defects = defects_from g (hits_of y rate edges) }) c.loop.invariant.state)
           ∙ sym (drawn_shots-next g rate x n);
       each = rw c.in_ok-push.ensures.items (All-push (IsShot g) c.loop.shots.items c.in_ok-draw.field-0 c.loop.invariant.each c.in_ok-draw.ensures.shot);
       many = search rules;

@@ -6,4 +6,4 @@ use Rattle.fb_tests.proofs.board.shots.Given as goal
 abbrev pub invariant-loop : goal.invariant-loop
 invariant-loop l =
     (length l.shots.items ≤ l.counter) × All (IsShot l.graph) l.shots.items
-    × All (λ defects. IsFirstOdd (problem_of l.graph defects) None) l.shots.items × (l.parts ≡ l.graph)
+    × All (λ shot. IsFirstOdd (problem_of l.graph shot) None) l.shots.items × (l.parts.0.now ≡ l.graph)
