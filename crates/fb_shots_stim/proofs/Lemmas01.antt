@@ -1,9 +1,10 @@
 -- What a line of `01` comes to, by the bits that it begins with and what follows them.
 use Rattle.std.specs.Prelude.{if◌then◌else◌}
-use Rattle.std.proofs.Common.{◌≡◌, ℕ, zero, suc, ◌+◌, ◌-◌, ◌<◌, ◌≤◌, Bool, true, false, eqb, List, [], ◌∷◌, ◌++◌, length, get_or, take, drop, Option, Some, Result, Ok, Err, refl, sym, ap, subst, ◌∙◌, append_assoc, inl, inr, ◌⊎◌, arith}
+use Rattle.std.proofs.Common.{◌≡◌, ℕ, zero, suc, ◌+◌, ◌-◌, ◌<◌, ◌≤◌, Bool, true, false, eqb, List, [], ◌∷◌, ◌++◌, length, get_or, take, drop, take-add, Option, Some, Result, Ok, Err, refl, sym, ap, subst, ◌∙◌, append_assoc, inl, inr, ◌⊎◌, arith}
 use Rattle.std.specs.List.{list_all}
 use Rattle.std.proofs.lemmas.Bool.{cases_Bool, cases_lt, lt-ltb, le-ltb, eqb-true, eqb-false, or_cases, and_parts, and_left, and_right, and_from, ne_eqb, cond-true, cond-false}
-use Rattle.std.proofs.lemmas.List.{append-nil, take_all, take_at, drop_at, drop-drop, take-append-le, take_rest, length-append, length-take-le, length-drop, take-append-drop, get_or-drop}
+use Rattle.std.proofs.lemmas.List.{append-nil, take_all, take_at, drop_at, drop-drop, take-append-le, take_rest, take-take, length-append, length-take-le, length-drop, take-append-drop, get_or-drop}
+use Rattle.std.proofs.lemmas.List.Folds.{list_all-append}
 use Rattle.fb_shots_stim.specs.declared.answer.Kind.{Kind}
 use Rattle.fb_shots_stim.specs.declared.answer.Kind.TheVariants.{BadByte, ShortRecord, LongRecord}
 use Rattle.fb_records.specs.declared.answer.Next.{Next}
@@ -302,3 +303,12 @@ next_right old n rest finished slice good step old-is slice-is bits most within 
     subst (λ (r : Reader ℕ). Answers records_01 prefix_01 after_line r (reader n (left_at rest step) finished) (answer_at (take good slice) step)) old-is
     (subst (λ (l : List ℕ). Answers records_01 prefix_01 after_line (reader n l finished) (reader n (left_at l step) finished) (answer_at (take good slice) step)) slice-is
     (rest_right n slice finished good step bits most within stop is))
+
+-- the bits among the first bytes, and those that the next n bytes begin with
+pub bits_more : (bytes : List ℕ) (i n b : ℕ) → b ≤ n → list_all is_bit (take i bytes) ≡ true
+    → list_all is_bit (take b (take n (drop i bytes))) ≡ true → list_all is_bit (take (i + b) bytes) ≡ true
+bits_more bytes i n b le first next =
+    ap (list_all is_bit) (take-add i b bytes)
+    ∙ list_all-append is_bit (take i bytes) (take b (drop i bytes))
+    ∙ and_from (list_all is_bit (take i bytes)) (list_all is_bit (take b (drop i bytes))) first
+    (ap (list_all is_bit) (sym (take-take b n (drop i bytes) le)) ∙ next)

@@ -1,6 +1,6 @@
 //! The format `01`: a line for each shot, a byte `0` or `1` for each detector.
 
-ghost use Rattle.std.specs.Prelude.{◌≡◌, ℕ, ◌+◌, ◌^◌, ◌<◌, ◌≤◌, ◌++◌, [], Bool, true, false, length, take, slice_index, IfOk, OnOk, OnErr};
+ghost use Rattle.std.specs.Prelude.{◌≡◌, ℕ, ◌+◌, ◌^◌, ◌<◌, ◌≤◌, ◌++◌, [], Bool, true, false, length, replicate, take, slice_index, IfOk, OnOk, OnErr};
 ghost use Rattle.std.specs.List.{list_all};
 ghost use Rattle.fb_records.specs.Lines.{after_line};
 ghost use Rattle.fb_records.specs.Answers.{answer_of, reading, Answers, IfShot};
@@ -12,6 +12,12 @@ use crate::answer::Kind;
 use fb_records::{Next, NoMemory, Numbers, Pending};
 use std::alloc::Global;
 use std::marker::Model;
+
+/// How many bytes of a line are looked at together.
+const WORD_BYTES: usize = 8;
+
+/// A word of bytes `0`.
+const ZEROS: u64 = 0x3030_3030_3030_3030;
 
 /// A reader of shots in the format `01`. Contracts see the bytes fed that no result has used, and whether they are all.
 #[derive(Drop)]
@@ -118,11 +124,43 @@ fn leading_bits(bytes: &[u8], known: usize, limit: usize) -> usize
     ensures bits { list_all is_bit (take result bytes.now) ≡ true }
     ensures stops { result < limit → result < length bytes.now → is_bit (slice_index bytes.now result) ≡ false }
 {
+    let end = bytes.len().min(limit);
     let mut i = known;
-    while i < limit && i < bytes.len() && (bytes[i] == b'0' || bytes[i] == b'1') {
+    while i < end {
+        let word = &bytes[i..end.min(i + WORD_BYTES)];
+        let bits = leading_bits_of(word);
+        i += bits;
+        if bits < word.len() {
+            break;
+        }
+    }
+    i
+}
+
+/// How many bits a word begins with.
+fn leading_bits_of(word: &[u8]) -> usize
+    ensures within { result ≤ length word.now }
+    ensures bits { list_all is_bit (take result word.now) ≡ true }
+    ensures stops { result < length word.now → is_bit (slice_index word.now result) ≡ false }
+{
+    if are_zeros(word) {
+        return word.len();
+    }
+    let mut i = 0;
+    while i < word.len() && (word[i] == b'0' || word[i] == b'1') {
         i += 1;
     }
     i
+}
+
+/// Whether the bytes are a whole word of `0`, as most words of a shot with few defects are.
+fn are_zeros(bytes: &[u8]) -> bool
+    ensures { result ≡ true → bytes.now ≡ replicate 8 48 }
+{
+    match bytes.first_chunk::<WORD_BYTES>() {
+        Some(word) => bytes.len() == WORD_BYTES && u64::from_le_bytes(*word) == ZEROS,
+        None => false,
+    }
 }
 
 /// What a line comes to that begins by `good` bits, of the `detectors` that it is to have, and goes on by `tail`.
@@ -166,10 +204,26 @@ fn ones(alloc: Global, bits: &[u8]) -> Result<Numbers, NoMemory>
     ensures { IfOk result (λ shot. shot ≡ places_from is_one 0 bits.now) }
 {
     let mut places = Vec::new(alloc);
-    for (i, bit) in bits.iter().enumerate() {
-        if *bit == b'1' {
-            places.push(i as u32)?;
-        }
+    let mut first = 0;
+    for word in bits.chunks(WORD_BYTES) {
+        push_ones(&mut places, first, word)?;
+        first += word.len();
     }
     Ok(Numbers::from_vec(places))
+}
+
+/// Pushes the places of `1` among the bits of a word, of which the first is at `first`.
+fn push_ones(places: &mut Vec<u32>, first: usize, word: &[u8]) -> Result<(), NoMemory>
+    requires { first + length word.now < 2 ^ 32 }
+    ensures { OnOk result (places.new.items ≡ places.old.items ++ places_from is_one first word.now) }
+{
+    if are_zeros(word) {
+        return Ok(());
+    }
+    for (i, bit) in word.iter().enumerate() {
+        if *bit == b'1' {
+            places.push((first + i) as u32)?;
+        }
+    }
+    Ok(())
 }
