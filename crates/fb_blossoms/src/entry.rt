@@ -122,7 +122,7 @@ impl Entry {
     }
 
     /// The node as if so many more had been made before it.
-    pub fn shifted_item(self, more: u64) -> Entry
+    pub fn made_later(self, more: u64) -> Entry
         requires { self.made + more < 2 ^ 64 }
         ensures { result ≡ shifted_item more self }
     {

@@ -42,7 +42,7 @@ fn take_one(
         return Ok(());
     };
     nodes.reserve(1)?;
-    let node = nodes.insert_reserved(entry.later(more)) as NodeId;
+    let node = nodes.insert_reserved(entry.made_later(more)) as NodeId;
     push_pair(names, key as NodeId, node)
 }
 

@@ -121,15 +121,15 @@ same_elements {X} key xs (y ∷ ys) (new, distinct) within same =
     (IsPermutation-trans (before ++ y ∷ after) (y ∷ (before ++ after)) (y ∷ ys) (IsPermutation-middle before y after)
     (IsPermutation-cons y (before ++ after) ys
     (same_elements key (before ++ after) ys distinct
-    (λ z a. branches_beside before after z a (among_either before (y ∷ after) z (subst (IsAmong z) is (within z (inr a)))))
+    (λ z a. among_others before after z a (among_either before (y ∷ after) z (subst (IsAmong z) is (within z (inr a)))))
     (let size : length xs ≡ length (before ++ y ∷ after) = ap length is in
     omega (arith, size, same, length-append before (y ∷ after), length-append before after)))))
   where
-    beside : (before after : List X) (z : X) → IsAmong z ys → IsAmong z before ⊎ IsAmong z (y ∷ after) → IsAmong z (before ++ after)
-    branches_beside before after z a (inl b) = among_left before after z b
-    branches_beside before after z a (inr (inl here)) =
+    among_others : (before after : List X) (z : X) → IsAmong z ys → IsAmong z before ⊎ IsAmong z (y ∷ after) → IsAmong z (before ++ after)
+    among_others before after z a (inl b) = among_left before after z b
+    among_others before after z a (inr (inl here)) =
         absurd (both_ways (is_in (map key ys) (key y)) new (subst (λ w. is_in (map key ys) (key w) ≡ true) (sym here) (among_key key ys z a)))
-    branches_beside before after z a (inr (inr b)) = among_right before after z b
+    among_others before after z a (inr (inr b)) = among_right before after z b
 
 among_filter : {X : Type 0} (test : X → Bool) (xs : List X) (x : X) → IsAmong x xs → test x ≡ true → IsAmong x (filter test xs)
 among_filter test [] x a h = absurd a

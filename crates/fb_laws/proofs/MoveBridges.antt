@@ -80,17 +80,17 @@ blossom_outer p nodes name children nest are fresh =
     among_outer (nodes ++ blossom_of name children ∷ []) name
     (λ q a. false_from_ne_true (is_in q.children name)
     (λ child. both_ways (is_live nodes name) fresh
-    (joined_nodes q (among_either nodes (blossom_of name children ∷ []) q a) child)))
+    (live_child q (among_either nodes (blossom_of name children ∷ []) q a) child)))
   where
-    joined : (q : Node) → IsAmong q nodes ⊎ IsAmong q (blossom_of name children ∷ [])
+    live_child : (q : Node) → IsAmong q nodes ⊎ IsAmong q (blossom_of name children ∷ [])
         → is_in q.children name ≡ true → is_live nodes name ≡ true
-    joined_nodes q (inl b) child =
+    live_child q (inl b) child =
         is_in-All (λ c. is_live nodes c ≡ true) q.children
         (All_among (λ n. All (λ c. is_live nodes c ≡ true) n.children) nodes nest.forest.live q b) name child
-    joined_nodes q (inr (inl e)) child =
+    live_child q (inr (inl e)) child =
         is_in-All (λ c. is_live nodes c ≡ true) (names_of children) (children_live nodes children are) name
         (ap (λ n. is_in n.children name) e ∙ child)
-    joined_nodes q (inr (inr none)) child = absurd none
+    live_child q (inr (inr none)) child = absurd none
 
 -- a change of each node undone
 undone : (name : ℕ) (f g : Node → Node) (ns : List Node)

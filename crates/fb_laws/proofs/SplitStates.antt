@@ -145,7 +145,7 @@ split_off p before after b children may nest same =
     )
 
 pub end_under_child : EndUnderChild
-end_under_child p nodes others blossom other children l dual split_nodes are differs connects = by connects
+end_under_child p nodes others blossom other children l dual split are differs connects = by connects
   where
     at : (p.is_real l.from ≡ true → is_in (leaves nodes) l.from ≡ true) × (p.is_real l.to ≡ true → is_in (leaves nodes) l.to ≡ true)
     at =
@@ -158,10 +158,10 @@ end_under_child p nodes others blossom other children l dual split_nodes are dif
     leaf v n defect cover = defect (dual.real v (subst IsSome (sym cover) refl))
 
     stays : (v : ℕ) → (p.is_real v ≡ true → is_in (leaves nodes) v ≡ true) → cover_of nodes v ≡ Some other → cover_of others v ≡ Some other
-    stays v defect cover = (split_nodes.outside v other (leaf v other defect cover) cover differs).0
+    stays v defect cover = (split.outside v other (leaf v other defect cover) cover differs).0
 
     by : Connects nodes l other blossom → (child : ℕ) × (is_in children child ≡ true) × Connects others l other child
     by (inl (from, to)) =
-        let (child, there, is) = split_nodes.inside l.to (leaf l.to blossom at.1 to) to in (child, is, inl (stays l.from at.0 from, there))
+        let (child, there, is) = split.inside l.to (leaf l.to blossom at.1 to) to in (child, is, inl (stays l.from at.0 from, there))
     by (inr (to, from)) =
-        let (child, there, is) = split_nodes.inside l.from (leaf l.from blossom at.0 from) from in (child, is, inr (stays l.to at.1 to, there))
+        let (child, there, is) = split.inside l.from (leaf l.from blossom at.0 from) from in (child, is, inr (stays l.to at.1 to, there))

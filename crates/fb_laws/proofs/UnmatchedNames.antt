@@ -17,7 +17,7 @@ use Rattle.fb_graph.proofs.Forests.{absent_outer}
 use Rattle.fb_graph.proofs.MappedNodes.{mapped_outer}
 use Rattle.fb_graph.proofs.Places.{among_split}
 
--- no single joins others
+-- the nodes of single defects are all outer
 pub all_outer : (singles : List Single) (n : ℕ) → is_outer (nodes_of singles) n ≡ true
 all_outer singles n =
     is_outer-childless (nodes_of singles) n (All-map (λ m. m.children ≡ []) node_of singles (λ i d less. refl))

@@ -23,7 +23,7 @@ abbrev pub CoveredParity : Type 0
 CoveredParity = (p : Problem) (test : ℕ → Bool) (nodes : List Node) (r v : ℕ) → IsDual p nodes → HaveParity test nodes r
     → is_covered_by test nodes v ≡ true → height_of (all_cuts nodes) v % 2 ≡ r
 
--- A node that a tree's node meets over an edge without residue has the tree's parity.
+-- A node that a tree's node meets over a tight edge has the tree's parity.
 abbrev pub MetParity : Type 0
 MetParity = (p : Problem) (test : ℕ → Bool) (nodes : List Node) (r : ℕ) (e : Edge) (u v name : ℕ) → IsDual p nodes
     → HaveOneParity nodes → HaveParity test nodes r → Leads e u v → e.weight % 2 ≡ 0

@@ -80,7 +80,7 @@ SearchStepped = (p : Problem) (nodes : List Node) (tree : List Entry) (rest : Li
     → IsSearch p nodes tree rest unmatched root r
     → IsSearch p (stepped_nodes (roles_of root tree) k nodes) tree rest unmatched root ((r + k) % 2)
 
--- A plus node that meets a node matched to another takes up both, the one as minus and the other as plus.
+-- A plus node that meets a node matched to another attaches both to the tree, the one as minus and the other as plus.
 abbrev pub SearchAttached : Type 0
 SearchAttached = (p : Problem) (nodes : List Node) (tree : List Entry) (e : Entry) (rest : List Link)
     (unmatched : List ℕ) (root r : ℕ) → AreEven p → IsSearch p nodes tree (e.matched ∷ rest) unmatched root r

@@ -20,7 +20,7 @@ pub fn even_residue()
     ensures { EvenResidue }
 {}
 
-/// Where no edge without residue and no empty layer stands in its way, a tree may step.
+/// Where no tight edge and no empty layer stands in its way, a tree may step.
 pub fn free_step()
     ensures { FreeStep }
 {}

@@ -40,7 +40,7 @@ pub use links::{
 };
 pub use merging::{matchings_merged, seam_opened};
 pub use moves::{
-    nest_begins, nest_joined, nest_split, nest_stepped, nest_absorbed, nest_uncovered,
+    nest_absorbed, nest_begins, nest_joined, nest_split, nest_stepped, nest_uncovered,
 };
 pub use nested_fusion::{nested_fused, nests_merged};
 pub use parities::{attached_parity, stepped_parity};

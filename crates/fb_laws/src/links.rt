@@ -2,8 +2,7 @@
 
 ghost use Rattle.fb_graph.specs.Links.{PartedFromLow, MeetingTight, BoundaryTight, TurnedTight, JoinedTight, EmptyLayerLoads, EmptyLayerHeights, SourceStepped, LinkParity, BoundaryParity, MeetingParity, SourceParity};
 
-/// Where two nodes, or a node and the boundary, meet over an edge without residue, the source walks and the edge are a
-/// tight link.
+/// Where two nodes, or a node and the boundary, meet over a tight edge, the source walks and the edge are a tight link.
 pub fn meeting_is_tight()
     ensures parted { PartedFromLow }
     ensures met { MeetingTight }
@@ -27,8 +26,7 @@ pub fn source_walk_kept()
     ensures { SourceStepped }
 {}
 
-/// Even weights give the potentials at both ends of a tight link, of an edge without residue and of a source walk one
-/// parity.
+/// Even weights give the potentials at both ends of a tight link, of a tight edge and of a source walk one parity.
 pub fn potential_parity()
     ensures link { LinkParity }
     ensures boundary { BoundaryParity }

@@ -22,7 +22,7 @@ pub fn nest_stepped()
     ensures { NestStepped }
 {}
 
-/// The outer end of an edge without residue absorbed by the node at its other end keeps the dual state, where weights are even.
+/// Absorbing the outer end of a tight edge into the node at its other end keeps the dual state, where weights are even.
 pub fn nest_absorbed()
     ensures { NestAbsorbed }
 {}

@@ -92,7 +92,11 @@ pub fn copied(alloc: Global, steps: &[Step]) -> Result<Vec<Step>, NoMemory>
 fn turned_walk(alloc: Global, steps: &[Step]) -> Result<Vec<Step>, NoMemory>
     ensures { IfOk result (λ w. w.items ≡ turned_walk steps.now) }
 {
-    steps.iter().rev().map(|step| turned_step(step)).collect(alloc)
+    steps
+        .iter()
+        .rev()
+        .map(|step| turned_step(step))
+        .collect(alloc)
 }
 
 /// The step in the other direction.

@@ -236,7 +236,7 @@ impl<S: Scope> Regions<S> {
     pub fn open_leaf(&mut self, alloc: Global, node: NodeId, v: u32) -> Result<(), NoMemory>
         requires below { v < (S.problem self.old.scope).vertices }
         requires real { (S.problem self.old.scope).is_real v ≡ true }
-        requires uncovered_nodes { cover_of self.old.nodes v ≡ None }
+        requires uncovered { cover_of self.old.nodes v ≡ None }
         requires fresh { is_live self.old.nodes node ≡ false }
         ensures ok { OnOk result (self.new ≡ record { scope = self.old.scope; nodes = self.old.nodes ++ leaf node v ∷ [] }) }
         ensures err { OnErr result (self.new ≡ self.old) }
@@ -362,7 +362,7 @@ impl<S: Scope> Regions<S> {
         region.radius -= k;
     }
 
-    /// Takes up the outer end of a tight edge into the outer node that holds its inner end.
+    /// Absorbs the outer end of a tight edge into the outer node that holds its inner end.
     pub fn absorb(&mut self, edge: u32)
         requires below { edge < length (S.problem self.old.scope).edges }
         requires tight { let e = edge_at (S.problem self.old.scope).edges edge in load_of (all_cuts self.old.nodes) e ≡ e.weight }

@@ -1,4 +1,4 @@
-use Rattle.fb_links.proofs.Turns.{Runs-chained, Runs-ends, Runs-turned, Runs-append, weight-turned, weight-append, turned_link}
+use Rattle.fb_links.proofs.Turns.{Runs-chained, Runs-ends, Runs-turned_walk, Runs-append, weight-turned_walk, weight-append, turned_link}
 use Rattle.fb_links.proofs.Joins.{walk_joined}
 use Rattle.fb_links.proofs.laws.joining.Goals as goal
 
@@ -9,10 +9,10 @@ pub returns-clause-chained : goal.returns-clause-chained
 returns-clause-chained c = Runs-chained
 
 pub returns-clause-back : goal.returns-clause-back
-returns-clause-back c = Runs-turned
+returns-clause-back c = Runs-turned_walk
 
 pub returns-clause-same : goal.returns-clause-same
-returns-clause-same c = weight-turned
+returns-clause-same c = weight-turned_walk
 
 pub returns-clause-turned : goal.returns-clause-turned
 returns-clause-turned c = turned_link
