@@ -5,7 +5,7 @@ use Rattle.std.proofs.Math.Nat.{mod-add-mod}
 use Rattle.std.proofs.lemmas.Bool.{cases_eq, eq-eqb, ne_eqb, lt-ltb, le-ltb, ltb-true, and_parts}
 use Rattle.std.proofs.lemmas.List.{get_or-set_same, get_or-set_other}
 use Rattle.fb_graph.specs.Components.{IsFirstOdd}
-use Rattle.fb_graph.specs.Limits.{DecodingGraph, IsShot, is_real_in, problem_of}
+use Rattle.fb_graph.specs.Limits.{DecodingGraph, IsShot, ShotValue, is_real_in, problem_of}
 use Rattle.fb_graph.specs.Parity.{differ, is_in, is_odd_count}
 use Rattle.fb_graph.specs.Problem.{IsEdgeSet, Flips, edge_at, touches}
 use Rattle.fb_graph.proofs.BuildSteps.{range_more}
@@ -13,7 +13,7 @@ use Rattle.fb_graph.proofs.OddComponents.{no_correction}
 use Rattle.fb_graph.proofs.ParitySums.{odd-append, differ-false, false-differ, differ_comm}
 use Rattle.fb_graph.proofs.Ranges.{filter-range_same, filter-range_rises, filter-range_below, is_in-filter-range}
 use Rattle.fb_graph.proofs.Sets.{All-from_is_in, is_in-filter}
-use Rattle.fb_gen.specs.Drawing.{next_state, state_after, drawn_after, hits_of, defects_from}
+use Rattle.fb_gen.specs.Drawing.{next_state, state_after, drawn_after, hits_of, defects_from, shot_from}
 
 pub next_state-wrapping : (x : ℕ)
     → (((x * 6364136223846793005) % 2 ^ 64) + 1442695040888963407) % 2 ^ 64 ≡ next_state x
@@ -97,7 +97,18 @@ found_as_defects g x y rate flags told found e same each begun =
     ∙ kept_as_defects g told (hits_of y rate (length g.edges)) (λ v below. ap (λ fs. get_or fs v false) same ∙ each v below)
     ∙ ap (λ z. defects_from g (hits_of z rate (length g.edges))) begun
 
-pub drawn_is_shot : (g : DecodingGraph) (chosen : List ℕ) → IsShot g (defects_from g chosen)
+pub found_as_shot : (g : DecodingGraph) (x y rate : ℕ) (flags told : List Bool) (found : List ℕ) (shot : ShotValue)
+    → shot ≡ record { defects = found }
+    → found ≡ filter (λ v. not (is_in g.virtuals v) && get_or told v false) (range_with_len 0 g.vertices)
+    → told ≡ flags
+    → ((v : ℕ) → v < g.vertices
+    → get_or flags v false ≡ is_odd_count (λ k. touches v (edge_at g.edges k)) (hits_of y rate (length g.edges)))
+    → y ≡ x → shot ≡ shot_from g (hits_of x rate (length g.edges))
+found_as_shot g x y rate flags told found shot is e same each begun =
+    let as_shot : List ℕ → ShotValue = λ defects. record { defects = defects } in
+    is ∙ ap as_shot (found_as_defects g x y rate flags told found e same each begun)
+
+pub drawn_is_shot : (g : DecodingGraph) (chosen : List ℕ) → IsShot g (shot_from g chosen)
 drawn_is_shot g chosen = record {
   rising = filter-range_rises _ g.vertices;
   real = All-from_is_in (λ v. is_real_in g v ≡ true) (defects_from g chosen)
@@ -105,22 +116,22 @@ drawn_is_shot g chosen = record {
       (sym (is_in-filter _ (range_with_len 0 g.vertices) v) ∙ within)).1).0);
 }
 
-pub drawn_flips : (g : DecodingGraph) (chosen defects : List ℕ) → defects ≡ defects_from g chosen
-    → Flips (problem_of g defects) chosen
-drawn_flips g chosen defects e v real =
+pub drawn_flips : (g : DecodingGraph) (chosen : List ℕ) (shot : ShotValue) → shot ≡ shot_from g chosen
+    → Flips (problem_of g shot) chosen
+drawn_flips g chosen shot e v real =
     rw e (sym (is_in-filter-range _ g.vertices v (ltb-true v g.vertices (and_parts (nat_lt v g.vertices) _ real).0)
     ∙ rw real refl))
 
-pub drawn_edges : (g : DecodingGraph) (x rate : ℕ) (defects : List ℕ)
-    → IsEdgeSet (problem_of g defects) (hits_of x rate (length g.edges))
-drawn_edges g x rate defects = record {
+pub drawn_edges : (g : DecodingGraph) (x rate : ℕ) (shot : ShotValue)
+    → IsEdgeSet (problem_of g shot) (hits_of x rate (length g.edges))
+drawn_edges g x rate shot = record {
   rising = filter-range_rises (λ k. nat_lt (drawn_after x k) rate) (length g.edges);
   within = filter-range_below (λ k. nat_lt (drawn_after x k) rate) (length g.edges);
 }
 
-pub drawn_even : (g : DecodingGraph) (x rate : ℕ) (defects : List ℕ)
-    → defects ≡ defects_from g (hits_of x rate (length g.edges)) → IsFirstOdd (problem_of g defects) None
-drawn_even g x rate defects e v odd =
-    no_correction (problem_of g defects) v odd (hits_of x rate (length g.edges))
+pub drawn_even : (g : DecodingGraph) (x rate : ℕ) (shot : ShotValue)
+    → shot ≡ shot_from g (hits_of x rate (length g.edges)) → IsFirstOdd (problem_of g shot) None
+drawn_even g x rate shot e v odd =
+    no_correction (problem_of g shot) v odd (hits_of x rate (length g.edges))
     (filter-range_below (λ k. nat_lt (drawn_after x k) rate) (length g.edges))
-    (drawn_flips g (hits_of x rate (length g.edges)) defects e)
+    (drawn_flips g (hits_of x rate (length g.edges)) shot e)

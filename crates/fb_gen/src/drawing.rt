@@ -4,7 +4,7 @@ ghost use Rattle.fb_graph.specs.Components.{IsFirstOdd};
 ghost use Rattle.fb_graph.specs.Limits.{IsShot, problem_of, most_vertices};
 ghost use Rattle.fb_graph.specs.Parity.{differ, is_in, is_odd_count};
 ghost use Rattle.fb_graph.specs.Problem.{IsEdgeSet, Flips, edge_at, touches};
-ghost use Rattle.fb_gen.specs.Drawing.{next_state, state_after, drawn_after, hits_of, defects_from};
+ghost use Rattle.fb_gen.specs.Drawing.{next_state, state_after, drawn_after, hits_of, shot_from};
 
 use fb_graph::{Graph, NoMemory, NumberList, Shot};
 use std::alloc::Global;
@@ -115,7 +115,7 @@ fn real_flagged(alloc: Global, graph: &Graph, flags: &[bool]) -> Result<Vec<u32>
 /// no component is odd, and a job may have the shot.
 pub fn draw(alloc: Global, draws: &mut Draws, rate: u32, graph: &Graph) -> Result<Shot, NoMemory>
     ensures shot { IfOk result (IsShot graph.now) }
-    ensures defects { IfOk result (λ s. s ≡ defects_from graph.now (hits_of draws.old rate (length graph.now.edges))) }
+    ensures defects { IfOk result (λ s. s ≡ shot_from graph.now (hits_of draws.old rate (length graph.now.edges))) }
     ensures state { OnOk result (draws.new ≡ state_after draws.old (length graph.now.edges)) }
     ensures same { OnErr result (draws.new ≡ draws.old) }
     ensures edges { IfOk result (λ s. IsEdgeSet (problem_of graph.now s)

@@ -10,7 +10,7 @@ use Rattle.fb_graph.specs.Limits.{DecodingGraph, IsShot, is_real_in}
 use Rattle.fb_graph.specs.Layout.{detectors_of}
 use Rattle.fb_graph.specs.Parity.{is_in}
 use Rattle.fb_graph.proofs.Ranges.{filter-range_below, filter-range_rises}
-use Rattle.fb_shots.specs.Formats.{vertices_of}
+use Rattle.fb_shots.specs.Formats.{vertices_of, shot_of_detectors}
 
 both : (a b : Bool) → a ≡ true → b ≡ true → (a && b) ≡ true
 both a b p q = rw (p, q) refl
@@ -41,6 +41,6 @@ vertices_real g detectors below =
     (λ k d less. detectors_real g (get_or detectors k d) 0 (below k d less))
 
 pub vertices_are_shot : (g : DecodingGraph) (detectors : List ℕ) → IsStrictlyIncreasing detectors
-    → All (λ k. k < length (detectors_of g)) detectors → IsShot g (vertices_of g detectors)
+    → All (λ k. k < length (detectors_of g)) detectors → IsShot g (shot_of_detectors g detectors)
 vertices_are_shot g detectors rising below =
     record { rising = vertices_rise g detectors rising below; real = vertices_real g detectors below }

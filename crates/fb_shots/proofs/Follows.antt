@@ -2,7 +2,7 @@
 use Rattle.std.proofs.Common.{◌≡◌, ℕ, suc, ◌+◌, ◌-◌, ◌<◌, Bool, true, false, nat_le, if◌then◌else◌, List, [], ◌∷◌, ◌++◌, length, take, Option, None, sym, ap, ◌∙◌, inl, inr, append_assoc, append-nil, length-append, arith}
 use Rattle.std.proofs.Math.Seq.{take-append-add}
 use Rattle.std.proofs.lemmas.Bool.{cases_lt, cond-true, cond-false, le-leb, lt-leb}
-use Rattle.fb_graph.specs.Limits.{DecodingGraph}
+use Rattle.fb_graph.specs.Limits.{DecodingGraph, ShotValue}
 use Rattle.fb_shots.specs.declared.answer.Format.{Format}
 use Rattle.fb_shots.specs.declared.answer.Kind.{Kind}
 use Rattle.fb_shots.specs.declared.answer.Kind.TheVariants.{TooManyShots, InputTooLong}
@@ -17,7 +17,7 @@ use Rattle.fb_shots.specs.Streams.{cut_off, within_room, Stream, follows}
 pub capped_only : (n : ℕ) (ending : Ending) → capped n (only ending) ≡ only ending
 capped_only n ending = cond-true (nat_le 0 n) _ _ (le-leb 0 n (omega arith))
 
-pub capped_shot : (n : ℕ) (shot : List ℕ) (r : Shots) → capped (suc n) (in_front shot r) ≡ in_front shot (capped n r)
+pub capped_shot : (n : ℕ) (shot : ShotValue) (r : Shots) → capped (suc n) (in_front shot r) ≡ in_front shot (capped n r)
 capped_shot n shot r = elim (cases_lt n (length r.shots)) [
   | inl over ↦
       cond-false (nat_le (length (shot ∷ r.shots)) (suc n)) _ _ (lt-leb (length (shot ∷ r.shots)) (suc n) (omega arith))
@@ -27,7 +27,7 @@ capped_shot n shot r = elim (cases_lt n (length r.shots)) [
       ∙ sym (ap (in_front shot) (cond-true (nat_le (length r.shots) n) _ _ (le-leb (length r.shots) n fits)))
 ]
 
-pub capped_none : (shot : List ℕ) (r : Shots) → capped 0 (in_front shot r) ≡ only (refused TooManyShots)
+pub capped_none : (shot : ShotValue) (r : Shots) → capped 0 (in_front shot r) ≡ only (refused TooManyShots)
 capped_none shot r = cond-false (nat_le (length (shot ∷ r.shots)) 0) _ _ (lt-leb (length (shot ∷ r.shots)) 0 (omega arith))
 
 -- ---- at most so many bytes
@@ -51,7 +51,7 @@ held_is f g rest u left =
           ∙ sym (cond-true (nat_le (length left) u) _ _ (le-leb (length left) u fits))
     ]
 
-pub held_shot : (f : Format) (g : DecodingGraph) (old new shot : List ℕ) (u : ℕ) (left : List ℕ) (finished : Bool) → finished ≡ false
+pub held_shot : (f : Format) (g : DecodingGraph) (old new : List ℕ) (shot : ShotValue) (u : ℕ) (left : List ℕ) (finished : Bool) → finished ≡ false
     → Gives (records_of f g) (prefix_of f g) finished old new shot → held f g old u left ≡ in_front shot (held f g new u left)
 held_shot f g old new shot u left finished still h = by_test (nat_le (length left) u) where
   by_test : (b : Bool) → (if b then records_of f g (old ++ left) else cut_off (prefix_of f g (old ++ take u left)))

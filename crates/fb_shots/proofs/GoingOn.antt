@@ -1,9 +1,10 @@
 -- What is settled by a prefix stands before what all bytes hold, in each format.
-use Rattle.std.proofs.Common.{length, map, ap, ◌∙◌}
+use Rattle.std.proofs.Common.{◌≡◌, ℕ, List, ◌++◌, length, map, ap, ◌∙◌}
 use Rattle.std.proofs.lemmas.List.{map-append}
-use Rattle.fb_graph.specs.Limits.{DecodingGraph}
+use Rattle.fb_graph.specs.Limits.{DecodingGraph, ShotValue}
 use Rattle.fb_graph.specs.Layout.{detectors_of}
-use Rattle.fb_records.specs.Records.{Records, GoesOn}
+use Rattle.fb_records.specs.Records.{Records}
+use Rattle.fb_records.specs.Records as read
 use Rattle.fb_records.specs.Lines.{bare}
 use Rattle.fb_records.proofs.RecordLemmas.{ending_judged, records_go_on, prefix_goes_on}
 use Rattle.fb_shots_stim.specs.declared.answer.Kind.{Kind as StimKind}
@@ -17,17 +18,22 @@ use Rattle.fb_shots_json.specs.TextJson.{line_json, begun_json}
 use Rattle.fb_shots_json.proofs.TextLemmas.{stays_json}
 use Rattle.fb_shots.specs.declared.answer.Kind.TheVariants as kind
 use Rattle.fb_shots.specs.declared.answer.Format.TheVariants.{Text01, B8, Dets, Json}
-use Rattle.fb_shots.specs.Formats.{vertices_of, of_stim, of_json, GoesOnAnywhere}
+use Rattle.fb_shots.specs.Shots.{GoesOn}
+use Rattle.fb_shots.specs.Formats.{shot_of_detectors, shot_of_vertices, of_stim, of_json, GoesOnAnywhere}
 
-stim_goes_on : (g : DecodingGraph) (prefix all : Records StimKind) → GoesOn prefix all → GoesOn (of_stim g prefix) (of_stim g all)
+mapped_more : (shot_of : List ℕ → ShotValue) (prefix all : List (List ℕ)) → (more : List (List ℕ)) × (all ≡ prefix ++ more)
+    → (more : List ShotValue) × (map shot_of all ≡ map shot_of prefix ++ more)
+mapped_more shot_of prefix all cut = (map shot_of cut.0, ap (map shot_of) cut.1 ∙ map-append shot_of prefix cut.0)
+
+stim_goes_on : (g : DecodingGraph) (prefix all : Records StimKind) → read.GoesOn prefix all → GoesOn (of_stim g prefix) (of_stim g all)
 stim_goes_on g prefix all h = record {
-  shots = (map (vertices_of g) h.shots.0, ap (map (vertices_of g)) h.shots.1 ∙ map-append (vertices_of g) prefix.shots h.shots.0);
+  shots = mapped_more (shot_of_detectors g) prefix.shots all.shots h.shots;
   judged = λ why e. ending_judged kind.Stim prefix.ending why e (λ kind is. ap (of_stim g) (h.judged kind is));
 }
 
-json_goes_on : (prefix all : Records JsonKind) → GoesOn prefix all → GoesOn (of_json prefix) (of_json all)
+json_goes_on : (prefix all : Records JsonKind) → read.GoesOn prefix all → GoesOn (of_json prefix) (of_json all)
 json_goes_on prefix all h = record {
-  shots = (h.shots.0, h.shots.1);
+  shots = mapped_more shot_of_vertices prefix.shots all.shots h.shots;
   judged = λ why e. ending_judged kind.Json prefix.ending why e (λ kind is. ap of_json (h.judged kind is));
 }
 

@@ -1,6 +1,6 @@
 -- The answers of the readers of the formats, seen alike.
 use Rattle.std.proofs.Common.{◌≡◌, ℕ, ◌<◌, List, [], ◌∷◌, ◌++◌, Bool, length, All, refl, sym, ap, subst, ◌∙◌}
-use Rattle.fb_graph.specs.Limits.{DecodingGraph, IsShot}
+use Rattle.fb_graph.specs.Limits.{DecodingGraph, IsShot, ShotValue}
 use Rattle.fb_graph.specs.Layout.{detectors_of}
 use Rattle.fb_records.specs.declared.answer.Next.{Next}
 use Rattle.fb_records.specs.declared.answer.Next.TheVariants as next
@@ -16,7 +16,7 @@ use Rattle.fb_shots.specs.declared.answer.Kind.TheVariants as kind
 use Rattle.fb_shots.specs.declared.answer.Format.{Format}
 use Rattle.fb_shots.specs.declared.answer.Format.TheVariants as format
 use Rattle.fb_shots.specs.Shots.{refused, Shots, only, in_front}
-use Rattle.fb_shots.specs.Formats.{vertices_of, of_stim, of_json, records_of, prefix_of}
+use Rattle.fb_shots.specs.Formats.{shot_of_detectors, shot_of_vertices, of_stim, of_json, records_of, prefix_of}
 use Rattle.fb_shots.specs.Sources.{Source}
 use Rattle.fb_shots.specs.Answers.{Answers, answer_as, stim_answer, json_answer}
 use Rattle.fb_shots.proofs.Detectors.{vertices_are_shot}
@@ -34,9 +34,9 @@ stays_refused f g bytes more why e =
 
 -- ---- a reader, whatever its format
 
--- A format's records are seen as shots: each shot by its vertices, each refusal as one of this crate.
-record IsView {K : Type 0} (vertices : List ℕ → List ℕ) (say : K → Kind) (view : Records K → Shots) : Type 0 where
-  shot : (numbers : List ℕ) (r : Records K) → view (record { shots = numbers ∷ r.shots; ending = r.ending }) ≡ in_front (vertices numbers) (view r)
+-- A format's records are seen as shots: each as the shot that its numbers are, each refusal as one of this crate.
+record IsView {K : Type 0} (shot_of : List ℕ → ShotValue) (say : K → Kind) (view : Records K → Shots) : Type 0 where
+  shot : (numbers : List ℕ) (r : Records K) → view (record { shots = numbers ∷ r.shots; ending = r.ending }) ≡ in_front (shot_of numbers) (view r)
   none : (ending : AnyEnding K) → view (record { shots = []; ending = ending }) ≡ only (ending_as say ending)
 
 -- bytes hold in the format what the reader's definitions say, seen as shots
@@ -44,26 +44,26 @@ record IsFormat {K C : Type 0} (f : Format) (g : DecodingGraph) (view : Records 
   all : (bytes : List ℕ) → records_of f g bytes ≡ view (records c bytes)
   open_ : (bytes : List ℕ) → prefix_of f g bytes ≡ view (prefix c bytes)
 
-reader_right : {K C : Type 0} (f : Format) (g : DecodingGraph) (vertices : List ℕ → List ℕ) (say : K → Kind) (view : Records K → Shots)
+reader_right : {K C : Type 0} (f : Format) (g : DecodingGraph) (shot_of : List ℕ → ShotValue) (say : K → Kind) (view : Records K → Shots)
     (records prefix : C → List ℕ → Records K) (after : List ℕ → List ℕ) (old new : Reader C) (answer : Next K)
-    → IsView vertices say view → IsFormat f g view records prefix old.subject → IfShot (λ numbers. IsShot g (vertices numbers)) answer
-    → read.Answers records prefix after old new answer → Answers (source f g old) (source f g new) (answer_as vertices say answer)
-reader_right {K} {C} f g vertices say view records prefix after old new (next.Shot numbers) v is shot h =
+    → IsView shot_of say view → IsFormat f g view records prefix old.subject → IfShot (λ numbers. IsShot g (shot_of numbers)) answer
+    → read.Answers records prefix after old new answer → Answers (source f g old) (source f g new) (answer_as shot_of say answer)
+reader_right {K} {C} f g shot_of say view records prefix after old new (next.Shot numbers) v is shot h =
     let made : Bool → Source = λ b. record { format = f; graph = g; rest = new.rest; finished = b } in (
       record {
         shorter = h.0.shorter;
-        now = is.all old.rest ∙ ap view h.0.now ∙ v.shot numbers _ ∙ ap (in_front (vertices numbers)) (sym (is.all new.rest));
-        later = λ still more. is.all (old.rest ++ more) ∙ ap view (h.0.later still more) ∙ v.shot numbers _ ∙ ap (in_front (vertices numbers)) (sym (is.all (new.rest ++ more)));
-        onward = λ still more. is.open_ (old.rest ++ more) ∙ ap view (h.0.onward still more) ∙ v.shot numbers _ ∙ ap (in_front (vertices numbers)) (sym (is.open_ (new.rest ++ more)));
+        now = is.all old.rest ∙ ap view h.0.now ∙ v.shot numbers _ ∙ ap (in_front (shot_of numbers)) (sym (is.all new.rest));
+        later = λ still more. is.all (old.rest ++ more) ∙ ap view (h.0.later still more) ∙ v.shot numbers _ ∙ ap (in_front (shot_of numbers)) (sym (is.all (new.rest ++ more)));
+        onward = λ still more. is.open_ (old.rest ++ more) ∙ ap view (h.0.onward still more) ∙ v.shot numbers _ ∙ ap (in_front (shot_of numbers)) (sym (is.open_ (new.rest ++ more)));
       },
       shot,
       ap made (ap (λ (r : Reader C). r.finished) h.1),
     )
-reader_right f g vertices say view records prefix after old new next.NotYet v is shot h =
+reader_right f g shot_of say view records prefix after old new next.NotYet v is shot h =
     (h.0, is.open_ old.rest ∙ ap view h.1 ∙ v.none _, ap (source f g) h.2)
-reader_right f g vertices say view records prefix after old new next.End v is shot h =
+reader_right f g shot_of say view records prefix after old new next.End v is shot h =
     (h.0, is.all old.rest ∙ ap view h.1 ∙ v.none _, ap (source f g) h.2)
-reader_right f g vertices say view records prefix after old new (next.Refused why) v is shot h = (
+reader_right f g shot_of say view records prefix after old new (next.Refused why) v is shot h = (
   record {
     now = is.all old.rest ∙ ap view h.0.now ∙ v.none _;
     later = λ still more. is.all (old.rest ++ more) ∙ ap view (h.0.later still more) ∙ v.none _;
@@ -74,11 +74,11 @@ reader_right f g vertices say view records prefix after old new (next.Refused wh
 
 -- ---- readers of detectors
 
-vertices_if_shot : (g : DecodingGraph) (n : ℕ) (answer : Next StimKind) → n ≡ length (detectors_of g) → IfShot (IsShotOf n) answer → IfShot (λ shot. IsShot g (vertices_of g shot)) answer
-vertices_if_shot g n (next.Shot shot) e is = vertices_are_shot g shot is.rising (subst (λ (m : ℕ). All (λ k. k < m) shot) e is.below)
-vertices_if_shot g n next.NotYet e is = tt
-vertices_if_shot g n next.End e is = tt
-vertices_if_shot g n (next.Refused why) e is = tt
+shot_if_detectors : (g : DecodingGraph) (n : ℕ) (answer : Next StimKind) → n ≡ length (detectors_of g) → IfShot (IsShotOf n) answer → IfShot (λ detectors. IsShot g (shot_of_detectors g detectors)) answer
+shot_if_detectors g n (next.Shot shot) e is = vertices_are_shot g shot is.rising (subst (λ (m : ℕ). All (λ k. k < m) shot) e is.below)
+shot_if_detectors g n next.NotYet e is = tt
+shot_if_detectors g n next.End e is = tt
+shot_if_detectors g n (next.Refused why) e is = tt
 
 pub stim_right : (f : Format) (g : DecodingGraph) (records prefix : ℕ → List ℕ → Records StimKind) (after : List ℕ → List ℕ) (old new : Reader ℕ) (answer : Next StimKind)
     → ((bytes : List ℕ) → records_of f g bytes ≡ of_stim g (records old.subject bytes))
@@ -88,16 +88,16 @@ pub stim_right : (f : Format) (g : DecodingGraph) (records prefix : ℕ → List
     → read.Answers records prefix after old new answer
     → Answers (source f g old) (source f g new) (stim_answer g answer)
 stim_right f g records prefix after old new answer rs fs n is h =
-    reader_right f g (vertices_of g) kind.Stim (of_stim g) records prefix after old new answer
-    (record { shot = λ numbers r. refl; none = λ ending. refl }) (record { all = rs; open_ = fs }) (vertices_if_shot g old.subject answer n is) h
+    reader_right f g (shot_of_detectors g) kind.Stim (of_stim g) records prefix after old new answer
+    (record { shot = λ numbers r. refl; none = λ ending. refl }) (record { all = rs; open_ = fs }) (shot_if_detectors g old.subject answer n is) h
 
 -- ---- the reader of vertices
 
 pub json_right : (g : DecodingGraph) (old new : Reader DecodingGraph) (answer : Next JsonKind) → old.subject ≡ g
-    → IfShot (IsShot g) answer → read.Answers records_json prefix_json after_record old new answer
+    → IfShot (λ vertices. IsShot g (shot_of_vertices vertices)) answer → read.Answers records_json prefix_json after_record old new answer
     → Answers (source format.Json g old) (source format.Json g new) (json_answer answer)
 json_right g old new answer same is h =
-    reader_right format.Json g (λ vertices. vertices) kind.Json of_json records_json prefix_json after_record old new answer
+    reader_right format.Json g shot_of_vertices kind.Json of_json records_json prefix_json after_record old new answer
     (record { shot = λ numbers r. refl; none = λ ending. refl })
     (record {
       all = λ bytes. ap (λ (x : DecodingGraph). of_json (records_json x bytes)) (sym same);

@@ -3,7 +3,7 @@ use Rattle.std.proofs.Common.{◌≡◌, ℕ, ◌+◌, ◌<◌, Bool, true, fals
 use Rattle.std.proofs.lemmas.Bool.{cases_Bool}
 use Rattle.std.specs.Io.KnownBytes.{Consumes, Keeps, IsAtEnd}
 use Rattle.std.proofs.KnownBytes.{Consumes-trans}
-use Rattle.fb_graph.specs.Limits.{DecodingGraph, IsShot}
+use Rattle.fb_graph.specs.Limits.{DecodingGraph, IsShot, ShotValue}
 use Rattle.fb_shots.specs.declared.answer.Format.{Format}
 use Rattle.fb_shots.specs.declared.answer.ShotFault.{ShotFault}
 use Rattle.fb_shots.specs.declared.answer.Step.{Step}
@@ -130,7 +130,7 @@ then_takes a b c l m r p q = record {
 joined_pieces : (a b : Stream) (l m : Left) (piece : List ℕ) (p : OnlyTakes a b l m) → a.rest ++ (p.piece ++ piece) ≡ b.rest ++ piece
 joined_pieces a b l m piece p = sym (append_assoc a.rest p.piece piece) ∙ ap (λ (x : List ℕ). x ++ piece) (sym p.rest)
 
-then_gives : (a b c : Stream) (l m r : Left) (shot : List ℕ) → OnlyTakes a b l m → GivesShot b c m r shot → GivesShot a c l r shot
+then_gives : (a b c : Stream) (l m r : Left) (shot : ShotValue) → OnlyTakes a b l m → GivesShot b c m r shot → GivesShot a c l r shot
 then_gives a b c l m r shot p q =
     let format : b.format ≡ a.format = ap (λ (s : Stream). s.format) p.others in
     let graph : b.graph ≡ a.graph = ap (λ (s : Stream). s.graph) p.others in

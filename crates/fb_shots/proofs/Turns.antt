@@ -3,6 +3,7 @@ use Rattle.std.proofs.Common.{◌≡◌, ℕ, suc, ◌+◌, ◌-◌, ◌<◌, �
 use Rattle.std.proofs.lemmas.Bool.{cases_Bool, cond-false, cond-true}
 use Rattle.std.specs.Io.KnownBytes.{Consumes, Keeps, IsAtEnd}
 use Rattle.std.proofs.KnownBytes.{Consumes-nil}
+use Rattle.fb_graph.specs.Limits.{ShotValue}
 use Rattle.fb_shots.specs.declared.answer.Kind.{Kind}
 use Rattle.fb_shots.specs.declared.answer.Kind.TheVariants.{TooManyShots, InputTooLong}
 use Rattle.fb_shots.specs.declared.answer.Step.{Step}
@@ -34,14 +35,14 @@ when_empty a piece u k l stopped e =
 true_false : {P : Type 0} (b : Bool) → b ≡ true → b ≡ false → P
 true_false b t f = absurd cc
 
-capped_onward : (l k : ℕ) (shot : List ℕ) (r : Shots) → k < l → capped (l - k) (in_front shot r) ≡ in_front shot (capped (l - (k + 1)) r)
+capped_onward : (l k : ℕ) (shot : ShotValue) (r : Shots) → k < l → capped (l - k) (in_front shot r) ≡ in_front shot (capped (l - (k + 1)) r)
 capped_onward l k shot r less =
     let one : l - k ≡ suc (l - (k + 1)) = omega arith in
     ap (λ (n : ℕ). capped n (in_front shot r)) one ∙ capped_shot (l - (k + 1)) shot r
 
 -- ---- a shot
 
-follows_shot : (a : Source) (new shot : List ℕ) (u k l : ℕ) (left : List ℕ)
+follows_shot : (a : Source) (new : List ℕ) (shot : ShotValue) (u k l : ℕ) (left : List ℕ)
     → Gives (records_of a.format a.graph) (prefix_of a.format a.graph) a.finished a.rest new shot → k < l
     → follows (fed a u k l None) left ≡ in_front shot (follows (fed (record a { rest = new }) u (k + 1) l None) left)
 follows_shot a new shot u k l left h less =
@@ -60,7 +61,7 @@ follows_shot a new shot u k l left h less =
 abbrev settled_by : Source → List ℕ → Shots
 settled_by a bytes = if a.finished then records_of a.format a.graph bytes else prefix_of a.format a.graph bytes
 
-settled_shot : (a : Source) (new shot : List ℕ) → Gives (records_of a.format a.graph) (prefix_of a.format a.graph) a.finished a.rest new shot
+settled_shot : (a : Source) (new : List ℕ) (shot : ShotValue) → Gives (records_of a.format a.graph) (prefix_of a.format a.graph) a.finished a.rest new shot
     → settled_by a (a.rest ++ []) ≡ in_front shot (settled_by a new)
 settled_shot a new shot h = by_flag a.finished refl
   where
@@ -77,7 +78,7 @@ settled_refused a why h = by_flag a.finished refl
     by_flag true done = ap (records_of a.format a.graph) (append-nil a.rest) ∙ h.now
     by_flag false still = h.onward still []
 
-gives_from : (a : Source) (new shot : List ℕ) (u k l : ℕ) (left : Left) → reader.Answers a (record a { rest = new }) (next.Shot shot) → k < l
+gives_from : (a : Source) (new : List ℕ) (shot : ShotValue) (u k l : ℕ) (left : Left) → reader.Answers a (record a { rest = new }) (next.Shot shot) → k < l
     → GivesShot (fed a u k l None) (fed (record a { rest = new }) u (k + 1) l None) left left shot
 gives_from a new shot u k l left h less = record {
   piece = [];
@@ -95,7 +96,7 @@ gives_from a new shot u k l left h less = record {
   others = refl;
 }
 
-pub turn_gives : (a b : Source) (shot : List ℕ) (u k l : ℕ) (left : Left) → reader.Answers a b (next.Shot shot) → k < l
+pub turn_gives : (a b : Source) (shot : ShotValue) (u k l : ℕ) (left : Left) → reader.Answers a b (next.Shot shot) → k < l
     → GivesShot (fed a u k l None) (fed b u (k + 1) l None) left left shot
 turn_gives a b shot u k l left h less =
     let from = gives_from a b.rest shot u k l left (subst (λ (s : Source). reader.Answers a s (next.Shot shot)) h.2 h) less in
@@ -132,7 +133,7 @@ stops a b u v k l left why same count reason gives = record {
   others = same_but_rest a b u v k l why same;
 }
 
-follows_too_many : (a : Source) (new shot : List ℕ) (u k l : ℕ) (left : List ℕ)
+follows_too_many : (a : Source) (new : List ℕ) (shot : ShotValue) (u k l : ℕ) (left : List ℕ)
     → Gives (records_of a.format a.graph) (prefix_of a.format a.graph) a.finished a.rest new shot → l ≤ k
     → follows (fed a u k l None) left ≡ only (refused TooManyShots)
 follows_too_many a new shot u k l left h full =
@@ -147,7 +148,7 @@ follows_too_many a new shot u k l left h full =
           ∙ capped_here (held a.format a.graph new u left)
     ]
 
-pub turn_too_many : (a b : Source) (shot : List ℕ) (u k l : ℕ) (left : Left) → reader.Answers a b (next.Shot shot) → l ≤ k
+pub turn_too_many : (a b : Source) (shot : ShotValue) (u k l : ℕ) (left : Left) → reader.Answers a b (next.Shot shot) → l ≤ k
     → Refuses (fed a u k l None) (fed b u k l (Some TooManyShots)) left (record { shot = k; kind = TooManyShots })
 turn_too_many a b shot u k l left h full =
     stops a b u u k l left TooManyShots h.2 refl (inr (inl (record { shot = shot; holds = holds; full = full; kind = refl })))
@@ -328,7 +329,7 @@ answered : (now : Stream) (a b t : Source) (p q : List ℕ) (u k l : ℕ) (stopp
     → Asked now a b t p q u k l stopped answer → answer ≡ given → reader.Answers b t given
 answered now a b t p q u k l stopped answer given h e = subst (λ (n : Next). reader.Answers b t n) e h.answers
 
-pub shot_turn : (now : Stream) (a b t : Source) (p q : List ℕ) (u k l : ℕ) (stopped : Option Kind) (answer : Next) (shot : List ℕ) (left : Left)
+pub shot_turn : (now : Stream) (a b t : Source) (p q : List ℕ) (u k l : ℕ) (stopped : Option Kind) (answer : Next) (shot : ShotValue) (left : Left)
     → Asked now a b t p q u k l stopped answer → answer ≡ next.Shot shot → k < l
     → GivesShot now (stream_by t q u (k + 1) l stopped) left left shot
 shot_turn now a b t p q u k l stopped answer shot left h e less =
@@ -354,7 +355,7 @@ refused_as now old new t q v k l why before after s old-is empty new-is s-is h =
     subst (λ (x : Step). Answers now new before after x) (sym s-is)
     (subst₂ (λ (x y : Stream). Refuses x y before (record { shot = k; kind = why })) old-is is h)
 
-pub too_many_turn : (now new : Stream) (a b t : Source) (p q : List ℕ) (u k l : ℕ) (stopped : Option Kind) (answer : Next) (shot : List ℕ) (left : Left) (s : Step)
+pub too_many_turn : (now new : Stream) (a b t : Source) (p q : List ℕ) (u k l : ℕ) (stopped : Option Kind) (answer : Next) (shot : ShotValue) (left : Left) (s : Step)
     → Asked now a b t p q u k l stopped answer → answer ≡ next.Shot shot → l ≤ k
     → new ≡ stream_by t q u k l (Some TooManyShots) → s ≡ step.Refused (record { shot = k; kind = TooManyShots })
     → Answers now new left left s

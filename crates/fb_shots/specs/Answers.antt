@@ -1,6 +1,6 @@
 -- What an answer of a reader says of the bytes that it was fed.
 use Rattle.std.specs.Prelude.{◌≡◌, ℕ, ◌<◌, Bool, true, false, List, ◌++◌, length}
-use Rattle.fb_graph.specs.Limits.{DecodingGraph, IsShot}
+use Rattle.fb_graph.specs.Limits.{DecodingGraph, IsShot, ShotValue}
 use Rattle.fb_records.specs.declared.answer.Next.{Next as NextOf}
 use Rattle.fb_records.specs.declared.answer.Next.TheVariants as next
 use Rattle.fb_shots_stim.specs.declared.answer.Kind.{Kind as StimKind}
@@ -10,11 +10,11 @@ use Rattle.fb_shots.specs.declared.answer.Kind.TheVariants as kind
 use Rattle.fb_shots.specs.declared.reader.Next.{Next}
 use Rattle.fb_shots.specs.declared.reader.Next.TheVariants.{Shot, NotYet, End, Refused}
 use Rattle.fb_shots.specs.Shots.{at_end, still_open, refused, Shots, only, in_front}
-use Rattle.fb_shots.specs.Formats.{vertices_of, records_of, prefix_of}
+use Rattle.fb_shots.specs.Formats.{shot_of_detectors, shot_of_vertices, records_of, prefix_of}
 use Rattle.fb_shots.specs.Sources.{Source}
 
 -- The shot is the first record of the old rest, and the new rest holds all others, whatever is fed later.
-pub record Gives (records prefix : List ℕ → Shots) (finished : Bool) (old new shot : List ℕ) : Type 0 where
+pub record Gives (records prefix : List ℕ → Shots) (finished : Bool) (old new : List ℕ) (shot : ShotValue) : Type 0 where
   pub shorter : length new < length old
   pub now : records old ≡ in_front shot (records new)
   pub later : finished ≡ false → (more : List ℕ) → records (old ++ more) ≡ in_front shot (records (new ++ more))
@@ -38,17 +38,17 @@ AnswersIn records prefix old new (Refused why) = Refuses records prefix old.fini
 abbrev pub Answers : Source → Source → Next → Type 0
 Answers old new answer = AnswersIn (records_of old.format old.graph) (prefix_of old.format old.graph) old new answer
 
--- the answer of a format's reader: the shot of its numbers, and the refusal said by this crate
-abbrev pub answer_as : {K : Type 0} → (List ℕ → List ℕ) → (K → Kind) → NextOf K → Next
-answer_as vertices say (next.Shot numbers) = Shot (vertices numbers)
-answer_as vertices say next.NotYet = NotYet
-answer_as vertices say next.End = End
-answer_as vertices say (next.Refused why) = Refused (say why)
+-- the answer of a format's reader: the shot that its numbers are, and the refusal said by this crate
+abbrev pub answer_as : {K : Type 0} → (List ℕ → ShotValue) → (K → Kind) → NextOf K → Next
+answer_as shot_of say (next.Shot numbers) = Shot (shot_of numbers)
+answer_as shot_of say next.NotYet = NotYet
+answer_as shot_of say next.End = End
+answer_as shot_of say (next.Refused why) = Refused (say why)
 
 -- the answer of a reader of detectors
 abbrev pub stim_answer : DecodingGraph → NextOf StimKind → Next
-stim_answer g = answer_as (vertices_of g) kind.Stim
+stim_answer g = answer_as (shot_of_detectors g) kind.Stim
 
 -- the answer of a reader of vertices
 abbrev pub json_answer : NextOf JsonKind → Next
-json_answer = answer_as (λ vertices. vertices) kind.Json
+json_answer = answer_as shot_of_vertices kind.Json

@@ -1,6 +1,6 @@
 -- What bytes hold in each format, as shots of a graph's vertices.
 use Rattle.std.specs.Prelude.{ℕ, List, ◌++◌, length, map, slice_index}
-use Rattle.fb_graph.specs.Limits.{DecodingGraph}
+use Rattle.fb_graph.specs.Limits.{DecodingGraph, ShotValue}
 use Rattle.fb_graph.specs.Layout.{detectors_of}
 use Rattle.fb_records.specs.Records.{Records, ending_as}
 use Rattle.fb_shots_stim.specs.declared.answer.Kind.{Kind as StimKind}
@@ -18,12 +18,21 @@ use Rattle.fb_shots.specs.Shots.{Shots, GoesOn}
 abbrev pub vertices_of : DecodingGraph → List ℕ → List ℕ
 vertices_of g detectors = map (λ k. slice_index (detectors_of g) k) detectors
 
--- records of detectors, as shots of vertices
-abbrev pub of_stim : DecodingGraph → Records StimKind → Shots
-of_stim g r = record { shots = map (vertices_of g) r.shots; ending = ending_as kind.Stim r.ending }
+-- the shot of detectors
+abbrev pub shot_of_detectors : DecodingGraph → List ℕ → ShotValue
+shot_of_detectors g detectors = record { defects = vertices_of g detectors }
 
+-- the shot of vertices, which are its defects
+abbrev pub shot_of_vertices : List ℕ → ShotValue
+shot_of_vertices vertices = record { defects = vertices }
+
+-- records of detectors, as shots
+abbrev pub of_stim : DecodingGraph → Records StimKind → Shots
+of_stim g r = record { shots = map (shot_of_detectors g) r.shots; ending = ending_as kind.Stim r.ending }
+
+-- records of vertices, as shots
 abbrev pub of_json : Records JsonKind → Shots
-of_json r = record { shots = r.shots; ending = ending_as kind.Json r.ending }
+of_json r = record { shots = map shot_of_vertices r.shots; ending = ending_as kind.Json r.ending }
 
 -- what a whole input holds
 abbrev pub records_of : Format → DecodingGraph → List ℕ → Shots

@@ -1,17 +1,36 @@
 -- What a text of shots holds: its shots in order, and how it ends.
-use Rattle.std.specs.Prelude.{ℕ, nat_le, if◌then◌else◌, length, take}
-use Rattle.fb_records.specs.Records.{Records, Ending as AnyEnding}
+use Rattle.std.specs.Prelude.{◌≡◌, ℕ, nat_le, if◌then◌else◌, List, [], ◌∷◌, ◌++◌, length, take}
+use Rattle.fb_graph.specs.Limits.{ShotValue}
+use Rattle.fb_records.specs.Records.{Ending as AnyEnding}
 use Rattle.fb_shots.specs.declared.answer.Kind.{Kind}
 use Rattle.fb_shots.specs.declared.answer.Kind.TheVariants.{TooManyShots}
-pub use Rattle.fb_records.specs.Records.{at_end, still_open, refused, only, in_front, all_in_front, GoesOn}
+pub use Rattle.fb_records.specs.Records.{at_end, still_open, refused}
 
 -- how a text of shots ends, in any format
 abbrev pub Ending : Type 0
 Ending = AnyEnding Kind
 
--- the shots of a text in any format, each the rising list of its vertices, and how the text ends
-abbrev pub Shots : Type 0
-Shots = Records Kind
+-- the shots of a text in any format, and how the text ends
+pub record Shots : Type 0 where
+  pub shots : List ShotValue
+  pub ending : Ending
+
+-- no shot, and this ending
+abbrev pub only : Ending → Shots
+only ending = record { shots = []; ending = ending }
+
+-- the shot before all the others
+abbrev pub in_front : ShotValue → Shots → Shots
+in_front shot r = record { shots = shot ∷ r.shots; ending = r.ending }
+
+-- these shots before all the others
+abbrev pub all_in_front : List ShotValue → Shots → Shots
+all_in_front shots r = record { shots = shots ++ r.shots; ending = r.ending }
+
+-- What a prefix of some bytes settles stands before what all of them hold, and what it refuses is refused.
+pub record GoesOn (prefix all : Shots) : Type 0 where
+  pub shots : (more : List ShotValue) × (all.shots ≡ prefix.shots ++ more)
+  pub judged : (why : Kind) → prefix.ending ≡ refused why → all ≡ prefix
 
 -- at most so many shots: a further good record ends them
 abbrev pub capped : ℕ → Shots → Shots

@@ -1,7 +1,7 @@
 -- What a call of a stream has done, and what its answer says.
 use Rattle.std.specs.Prelude.{◌≡◌, ℕ, ◌+◌, ◌<◌, ◌≤◌, ◌⊎◌, true, false, if◌then◌else◌, List, [], ◌++◌, length, Option, None, Some, IfSome, ⊤}
 use Rattle.std.specs.Io.KnownBytes.{Consumes}
-use Rattle.fb_graph.specs.Limits.{IsShot}
+use Rattle.fb_graph.specs.Limits.{IsShot, ShotValue}
 use Rattle.fb_shots.specs.declared.answer.Kind.{Kind}
 use Rattle.fb_shots.specs.declared.answer.Kind.TheVariants.{InputTooLong, TooManyShots}
 use Rattle.fb_shots.specs.declared.answer.ShotFault.{ShotFault}
@@ -39,7 +39,7 @@ abbrev pub settled : Stream → List ℕ → Shots
 settled s bytes = if s.finished then records_of s.format s.graph bytes else prefix_of s.format s.graph bytes
 
 -- A shot is given: it stands before all that follows.
-pub record GivesShot (old new : Stream) (before after : Option (List ℕ)) (shot : List ℕ) : Type 0 where
+pub record GivesShot (old new : Stream) (before after : Option (List ℕ)) (shot : ShotValue) : Type 0 where
   pub piece : List ℕ
   pub taken : Consumes before after piece
   pub gives : IfKnown (λ left later. follows old left ≡ in_front shot (follows new later)) before after
@@ -73,7 +73,7 @@ pub record RefusesFirst (s : Stream) (bytes : List ℕ) (why : Kind) : Type 0 wh
 
 -- these bytes begin by a good record, and all shots that may be given were given
 pub record HoldsOneMore (s : Stream) (bytes : List ℕ) (why : Kind) : Type 0 where
-  pub shot : List ℕ
+  pub shot : ShotValue
   pub holds : settled s bytes ≡ in_front shot (settled s s.rest)
   pub full : s.limit ≤ s.given
   pub kind : why ≡ TooManyShots

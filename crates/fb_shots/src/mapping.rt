@@ -30,7 +30,7 @@ fn vertices_of(graph: &Graph, mut detectors: Vec<u32>) -> Vec<u32>
 pub fn shot_of_detectors(graph: &Graph, detectors: Vec<u32>) -> Shot
     requires rising { IsStrictlyIncreasing detectors.items }
     requires below { All (λ k. k < length (detectors_of graph.now)) detectors.items }
-    ensures { result ≡ vertices_of graph.now detectors.items }
+    ensures { result ≡ record { defects = vertices_of graph.now detectors.items } }
 {
     Shot::from_rising(graph, vertices_of(graph, detectors))
 }

@@ -6,6 +6,7 @@ ghost use Rattle.fb_graph.specs.Limits.{IsShot};
 ghost use Rattle.fb_records.specs.Answers.{IfShot};
 ghost use Rattle.fb_shots_stim.specs.Shots.{IsShotOf};
 ghost use Rattle.fb_shots.specs.Answers.{Answers, stim_answer, json_answer};
+ghost use Rattle.fb_shots.specs.Formats.{shot_of_vertices};
 ghost use Rattle.fb_shots.specs.Readers.{source_of, IsReaderOf};
 
 use crate::answer::{Format, Kind, NoMemory};
@@ -114,7 +115,7 @@ fn on_vertices(graph: &Graph, answer: fb_records::Next<fb_shots_stim::Kind>) -> 
 
 /// The result of a reader of vertices.
 fn of_vertices(graph: &Graph, answer: fb_records::Next<fb_shots_json::Kind>) -> Next
-    requires { IfShot (IsShot graph.now) answer }
+    requires { IfShot (λ vertices. IsShot graph.now (shot_of_vertices vertices)) answer }
     ensures { result ≡ json_answer answer }
 {
     match answer {

@@ -203,7 +203,7 @@ defects_good g vs sorted none permuted rises =
       subst (λ (l : List ℕ). sorted ≡ rising g l) whole (sorted_rises g (real_prefix g vs) sorted (prefix_below g vs) permuted rises),
     )
 
-pub defects_shot : (g : DecodingGraph) (vs sorted : List ℕ) → IsPermutation (real_prefix g vs) sorted → IsStrictlyIncreasing sorted → IsShot g sorted
+pub defects_shot : (g : DecodingGraph) (vs sorted : List ℕ) → IsPermutation (real_prefix g vs) sorted → IsStrictlyIncreasing sorted → IsShot g (record { defects = sorted })
 defects_shot g vs sorted permuted rises = record {
   rising = rises;
   real = All-permutation (λ v. is_real_in g v ≡ true) (real_prefix g vs) sorted permuted (prefix_real g vs);

@@ -72,7 +72,7 @@ fn is_rising(numbers: &[u32]) -> bool
 pub fn defects(alloc: Global, graph: &Graph, listed: &[u64]) -> Result<Vec<u32>, Stop<Kind>>
     ensures ok { OnOk result (defects_from graph.now [] listed.now ≡ Ok listed.now) }
     ensures rising { IfOk result (λ v. v.items ≡ rising graph.now listed.now) }
-    ensures shot { IfOk result (λ v. IsShot graph.now v.items) }
+    ensures shot { IfOk result (λ v. IsShot graph.now (record { defects = v.items })) }
     ensures refused { IfErr result (IfRefused (λ kind. defects_from graph.now [] listed.now ≡ Err kind)) }
 {
     let (mut found, fault) = real_prefix(alloc, graph, listed)?;

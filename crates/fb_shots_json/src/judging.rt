@@ -46,7 +46,7 @@ fn is_plain(value: &Value) -> bool
 /// The shot that a value says.
 fn shot_in(alloc: Global, graph: &Graph, value: &Value) -> Result<Numbers, Stop<Kind>>
     ensures ok { IfOk result (λ shot. shot_in graph.now (view value.now) ≡ Ok shot) }
-    ensures shot { IfOk result (IsShot graph.now) }
+    ensures shot { IfOk result (λ shot. IsShot graph.now (record { defects = shot })) }
     ensures refused { IfErr result (IfRefused (λ kind. shot_in graph.now (view value.now) ≡ Err kind)) }
 {
     let Some(member) = value.get("defect_vertices") else {
@@ -76,7 +76,7 @@ pub fn is_too_long(line: &[u8]) -> bool
 #[tactic(auto, using(crate::proofs::Readings::readings))]
 pub fn shot_of_line(alloc: Global, graph: &Graph, line: &[u8]) -> Result<Numbers, Stop<Kind>>
     ensures ok { IfOk result (λ shot. shot_of_line graph.now line.now ≡ Ok shot) }
-    ensures shot { IfOk result (IsShot graph.now) }
+    ensures shot { IfOk result (λ shot. IsShot graph.now (record { defects = shot })) }
     ensures refused { IfErr result (IfRefused (λ kind. shot_of_line graph.now line.now ≡ Err kind)) }
 {
     if is_too_long(line) {

@@ -87,7 +87,7 @@ impl<'a> RecordsJson<'a> {
         ensures meaning { IfOk result (Answers records_json prefix_json after_record self.old self.new) }
         ensures graph { self.new.subject ≡ self.old.subject }
         ensures finished { self.new.finished ≡ self.old.finished }
-        ensures shot { IfOk result (IfShot (IsShot self.old.subject)) }
+        ensures shot { IfOk result (IfShot (λ shot. IsShot self.old.subject (record { defects = shot }))) }
         ensures err { OnErr result (self.new ≡ self.old) }
     {
         let rest = self.pending.as_slice();
@@ -130,7 +130,7 @@ fn advance(
     ensures ok { IfOk result (λ step. AnswersTo graph.now rest.now finished (drop (used_of step) rest.now) (answer_at step)
         × IsPlace graph.now (drop (used_of step) rest.now) place.new.line place.new.seen place.new.is_blank) }
     ensures used { IfOk result (λ step. used_of step ≤ length rest.now) }
-    ensures shot { IfOk result (λ step. IfShot (IsShot graph.now) (answer_at step)) }
+    ensures shot { IfOk result (λ step. IfShot (λ shot. IsShot graph.now (record { defects = shot })) (answer_at step)) }
     ensures refused { IfErr result (IfRefused (λ kind. AnswersTo graph.now rest.now finished rest.now (next.Refused kind))) }
     ensures err { OnErr result (IsPlace graph.now rest.now place.new.line place.new.seen place.new.is_blank) }
 {

@@ -1,6 +1,6 @@
-use Rattle.std.proofs.Common.{sym, subst, ◌∙◌}
+use Rattle.std.proofs.Common.{sym, subst}
 use Rattle.fb_graph.specs.Limits.{IsShot}
-use Rattle.fb_gen.proofs.Hits.{found_as_defects, drawn_is_shot, drawn_flips, drawn_edges, drawn_even}
+use Rattle.fb_gen.proofs.Hits.{found_as_defects, found_as_shot, drawn_is_shot, drawn_flips, drawn_edges, drawn_even}
 use Rattle.fb_gen.proofs.drawing.draw.Goals as goal
 
 pub from_rising-shot-requires : goal.from_rising-shot-requires
@@ -10,24 +10,20 @@ from_rising-shot-requires c =
 
 pub returns-clause-shot : goal.returns-clause-shot
 returns-clause-shot c =
-    subst (IsShot _) (sym (c.from_rising-shot.ensures
-    ∙ found_as_defects _ _ _ _ _ _ _ c.in_ok-defects.ensures c.deref.ensures.value c.in_ok-flags.ensures.each c.draws.view_is))
+    subst (IsShot _) (sym (found_as_shot _ _ _ _ _ _ _ _ c.from_rising-shot.ensures c.in_ok-defects.ensures c.deref.ensures.value c.in_ok-flags.ensures.each c.draws.view_is))
     (drawn_is_shot _ _)
 
 pub returns-clause-defects : goal.returns-clause-defects
 returns-clause-defects c =
-    c.from_rising-shot.ensures
-    ∙ found_as_defects _ _ _ _ _ _ _ c.in_ok-defects.ensures c.deref.ensures.value c.in_ok-flags.ensures.each c.draws.view_is
+    found_as_shot _ _ _ _ _ _ _ _ c.from_rising-shot.ensures c.in_ok-defects.ensures c.deref.ensures.value c.in_ok-flags.ensures.each c.draws.view_is
 
 pub returns-clause-edges : goal.returns-clause-edges
 returns-clause-edges c = drawn_edges _ _ _ _
 
 pub returns-clause-flips : goal.returns-clause-flips
 returns-clause-flips c =
-    drawn_flips _ _ _ (c.from_rising-shot.ensures
-    ∙ found_as_defects _ _ _ _ _ _ _ c.in_ok-defects.ensures c.deref.ensures.value c.in_ok-flags.ensures.each c.draws.view_is)
+    drawn_flips _ _ _ (found_as_shot _ _ _ _ _ _ _ _ c.from_rising-shot.ensures c.in_ok-defects.ensures c.deref.ensures.value c.in_ok-flags.ensures.each c.draws.view_is)
 
 pub returns-clause-even : goal.returns-clause-even
 returns-clause-even c =
-    drawn_even _ _ _ _ (c.from_rising-shot.ensures
-    ∙ found_as_defects _ _ _ _ _ _ _ c.in_ok-defects.ensures c.deref.ensures.value c.in_ok-flags.ensures.each c.draws.view_is)
+    drawn_even _ _ _ _ (found_as_shot _ _ _ _ _ _ _ _ c.from_rising-shot.ensures c.in_ok-defects.ensures c.deref.ensures.value c.in_ok-flags.ensures.each c.draws.view_is)
