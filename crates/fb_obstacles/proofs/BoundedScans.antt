@@ -20,8 +20,7 @@ use Rattle.fb_obstacles.specs.Obstacles.{Obstructs, residue_at, roles_by}
 use Rattle.fb_obstacles.specs.Watched.{Watched, AreBounded}
 use Rattle.fb_obstacles.specs.InnerEdges.{LeavesInner}
 use Rattle.fb_obstacles.specs.InternalLooks.{BearsShrinking, BearsStep, LimitsBoth, Limits, both_looks, edge_look, fits_within}
-use Rattle.fb_obstacles.proofs.EdgeLooks.{edge_limits}
-use Rattle.fb_obstacles.proofs.EdgeScans.{IsSeen}
+use Rattle.fb_obstacles.proofs.EdgeScans.{IsSeen, edge_seen}
 use Rattle.fb_obstacles.proofs.LookLimits.{limits_before, limits_blocked, limits_passed, limits_same, limits_unlimited}
 
 -- an edge bears a step that takes at most half its residue
@@ -167,10 +166,7 @@ scanned_more p role_of nodes names old w new n k x a b l seen before some is res
     let i : ℕ = n - 1 in
     let less : i < length old.edges = omega (arith, some, before.within.0) in
     let next : n ≡ i + 1 = omega (arith, some) in
-    let at : ℕ = get_or old.edges i 0 in
-    let here : k ≡ at = is ∙ before.same i (omega (arith, some)) in
-    let short : at < length p.edges = seen.within i 0 less in
-    let (r, parity) = seen.parity in
+    let here : k ≡ get_or old.edges i 0 = is ∙ before.same i (omega (arith, some)) in
     let within : x ≤ residue_at p nodes (get_or w.edges i 0) = omega (arith, residue, ap (residue_at p nodes) is) in
     let scanned : IsScanned p role_of nodes names old new n a = scanned_set p role_of nodes names old w new n i x a before within changed in
     record {
@@ -179,10 +175,7 @@ scanned_more p role_of nodes names old w new n k x a b l seen before some is res
           (λ j m. BearsStep (roles_by role_of) nodes j (edge_at p.edges m)) (Obstructs p (roles_by role_of) nodes)
           old.edges i a b less
           (subst (λ m. LimitsBoth p (roles_by role_of) nodes names (drop m old.edges) a) next scanned.limits)
-          (subst
-          (Limits (λ j. BearsStep (roles_by role_of) nodes j (edge_at p.edges at)) (Obstructs p (roles_by role_of) nodes))
-          (sym (looked ∙ ap (edge_look p role_of nodes) here))
-          (edge_limits p role_of nodes r at seen.dual seen.roles parity (seen.limits.each_edge at no_edge short).even short)));
+          (edge_seen p role_of nodes old.edges i k b seen less here looked));
       within = (omega (arith, less), omega (arith, scanned.within.1));
       same = λ j before. scanned.same j (omega (arith, before));
       watched = scanned.watched;

@@ -27,6 +27,10 @@ limits_same A B S Clear there back limits = λ j. there j (limits j)
 limits_same A B S (Within b) there back limits = (limits.0, λ j le. there j (limits.1 j le), λ j h. limits.2 j (back j h))
 limits_same A B S (Blocked o) there back limits = limits
 
+-- where no obstacle stands, the length 1 is allowed
+pub limits_one : (A : ℕ → Type 0) (S : Obstacle → Type 0) (b : ℕ) → Limits A S (Within b) → A 1
+limits_one A S b limits = limits.1 1 limits.0
+
 -- two looks in one
 pub limits_both : (A B : ℕ → Type 0) (S : Obstacle → Type 0) (a b : Look) → Limits A S a → Limits B S b
     → Limits (λ j. A j × B j) S (both_looks a b)

@@ -13,7 +13,7 @@ use fb_graph::{Scope, Steps};
 use fb_regions::Regions;
 use std::sync::ledger::Ledger;
 
-/// The first place from which up to this one all bounds show that their edges bear each step that the look allows.
+/// A place from which up to this one all bounds show that their edges bear each step that the look allows.
 fn passed_to(watch: &Watch, place: usize, least: Look) -> usize
     requires { place ≤ length watch.now.edges }
     ensures within { result ≤ place }

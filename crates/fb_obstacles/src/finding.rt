@@ -1,10 +1,11 @@
-ghost use Rattle.std.specs.Prelude.{◌≡◌, ◌+◌, ◌<◌, ◌≤◌, length, All, IfSome};
-ghost use Rattle.fb_graph.specs.Problem.{with_defects};
+ghost use Rattle.std.specs.Prelude.{◌≡◌, ◌+◌, ◌<◌, ◌≤◌, length, MatchOption};
+ghost use Rattle.fb_graph.specs.Problem.{edge_at, with_defects};
 ghost use Rattle.fb_graph.specs.Laws.{HasNoOddClosed};
 ghost use Rattle.fb_graph.specs.Dual.{leaves};
 ghost use Rattle.fb_graph.specs.Covers.{AreRoles};
 ghost use Rattle.fb_laws.specs.Lengths.{HasPlus};
 ghost use Rattle.fb_obstacles.specs.InnerEdges.{LeavesInner};
+ghost use Rattle.fb_obstacles.specs.InternalLooks.{BearsStep};
 ghost use Rattle.fb_obstacles.specs.Obstacles.{CountsLooks, HavePlusParity, IsObstacle, IsWatched, ListsMinus, Obstructs, residue_at, roles_by};
 ghost use Rattle.fb_obstacles.specs.Watched.{AreBounded};
 
@@ -86,11 +87,10 @@ pub fn next_obstacle_by_bounds<S: Scope, R: MinusNodes, L: Ledger>(
     }
 }
 
-/// The obstacle at the edge that limited the tree's step when the watched edges were last looked at, if that edge is one
-/// now: after a step that went as far as it might it mostly is. Takes constant time but for the climbs from the edge's
-/// ends, and counts the look.
-pub fn limiting_obstacle<S: Scope, R: Roles, L: Ledger>(
-    watch: &Watch,
+/// The obstacle at the edge, or none if the edge bears a step of length 1. Takes constant time but for the climbs from the
+/// edge's ends, and counts one look.
+pub fn obstacle_at<S: Scope, R: Roles, L: Ledger>(
+    edge: u32,
     scope: &S,
     regions: &Regions<S>,
     roles: &R,
@@ -99,16 +99,18 @@ pub fn limiting_obstacle<S: Scope, R: Roles, L: Ledger>(
     requires same { regions.now.scope ≡ scope.now }
     requires roles { AreRoles (roles_by (R.role_of roles.now)) regions.now.nodes }
     requires parity { HavePlusParity (roles_by (R.role_of roles.now)) regions.now.nodes }
-    requires within { All (λ k. k < length (S.problem scope.now).edges) watch.now.edges }
-    ensures obstacle { IfSome result (Obstructs (S.problem scope.now) (roles_by (R.role_of roles.now)) regions.now.nodes) }
-    ensures looks { (looks.old ≤ looks.new) × (looks.new ≤ looks.old + 1) }
+    requires below { edge < length (S.problem scope.now).edges }
+    ensures obstacle { MatchOption result
+        (BearsStep (roles_by (R.role_of roles.now)) regions.now.nodes 1 (edge_at (S.problem scope.now).edges edge))
+        (Obstructs (S.problem scope.now) (roles_by (R.role_of roles.now)) regions.now.nodes) }
+    ensures looks { looks.new ≡ looks.old + 1 }
 {
     keeps_dual(regions);
     scope.limits();
-    let edge = watch.limiting()?;
     looks.tick();
     match look_over(edge, scope, regions, roles) {
         Look::Blocked(obstacle) => Some(obstacle),
-        _ => None,
+        Look::Clear => None,
+        Look::Within(_) => None,
     }
 }

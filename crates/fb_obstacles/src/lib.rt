@@ -12,7 +12,7 @@ pub mod shrinking;
 pub mod watching;
 
 pub use fb_regions::{NodeId, Role, Roles};
-pub use finding::{limiting_obstacle, next_obstacle, next_obstacle_by_bounds};
+pub use finding::{next_obstacle, next_obstacle_by_bounds, obstacle_at};
 pub use obstacle::Obstacle;
 pub use shrinking::MinusNodes;
 pub use watching::Watch;

@@ -177,7 +177,7 @@ impl Watch {
         }
     }
 
-    /// The first place from which up to the end no bound is below the limit.
+    /// A place from which up to the end no bound is below the limit.
     pub(crate) fn large_from(&self, end: usize, limit: u64) -> usize
         requires { end ≤ length self.now.edges }
         ensures within { result ≤ end }
@@ -196,8 +196,9 @@ impl Watch {
         self.limiting = place;
     }
 
-    /// A watched edge that may have limited the last step.
-    pub(crate) fn limiting(&self) -> Option<u32>
+    /// The edge that limited the last step, as a hint: it may be another watched edge, or none, and nothing but speed rests
+    /// on it.
+    pub fn limiting(&self) -> Option<u32>
         ensures { IfSome result (λ e. is_in self.now.edges e ≡ true) }
     {
         self.edges.get(self.limiting).copied()
@@ -239,6 +240,7 @@ fn large_from(numbers: &[u64], end: usize, limit: u64) -> usize
     requires { end ≤ length numbers.now }
     ensures within { result ≤ end }
     ensures large { (i : ℕ) → result ≤ i → i < end → limit ≤ get_or numbers.now i 0 }
+    ensures first { 0 < result → get_or numbers.now (result - 1) 0 < limit }
 {
     let mut place = end;
     while place > 0 && numbers[place - 1] >= limit {

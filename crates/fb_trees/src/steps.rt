@@ -24,7 +24,11 @@ pub fn shared_count(up: &[Branch], down: &[Branch]) -> usize
 }
 
 /// The branches that are not on the way to the plus node, the newest one first.
-pub fn branches_beside(alloc: Global, branches: &[Branch], plus: NodeId) -> Result<Vec<Branch>, NoMemory>
+pub fn branches_beside(
+    alloc: Global,
+    branches: &[Branch],
+    plus: NodeId,
+) -> Result<Vec<Branch>, NoMemory>
     ensures { IfOk result (λ others. map entry_of others.items ≡ branches_beside (entries_of branches.now) plus) }
 {
     let mut others = Vec::new(alloc);

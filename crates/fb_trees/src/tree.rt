@@ -8,7 +8,7 @@ ghost use Rattle.fb_trees.specs.Replacements.{IsOpened, IsReplaced, MayJoin, May
 ghost use Rattle.fb_trees.specs.TreeSteps.{IsCycle, path_up, steps_up};
 ghost use Rattle.fb_trees.specs.InternalPlaces.{branch_at};
 
-use crate::changes::{joined_branches, names_of, opened_branches, renamed};
+use crate::changes::{joined_branches, names_of, opened_branches, renamed_name};
 use crate::places::{
     Places, enter, enter_all, make_room, make_room_for_all, place_in, take_out_all,
 };
@@ -262,7 +262,7 @@ impl Tree {
     {
         let inside = names_of(alloc, gone)?;
         let branches = joined_branches(alloc, &self.branches, &inside, blossom)?;
-        let root = renamed(self.root, &inside, blossom);
+        let root = renamed_name(self.root, &inside, blossom);
         self.rebuild(root, branches)
     }
 

@@ -1,7 +1,7 @@
 use Rattle.std.proofs.Common.{◌≡◌, ◌≤◌, ◌++◌, length, map, take}
 use Rattle.fb_laws.specs.Trees.{branches_beside}
 use Rattle.fb_trees.specs.Branches.{entries_of, entry_of}
-use Rattle.fb_trees.proofs.steps.beside.Given as goal
+use Rattle.fb_trees.proofs.steps.branches_beside.Given as goal
 
 abbrev pub invariant-loop-i : goal.invariant-loop-i
 invariant-loop-i l =

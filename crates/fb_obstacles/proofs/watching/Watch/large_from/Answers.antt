@@ -1,4 +1,4 @@
-use Rattle.std.proofs.Common.{ℕ, ◌-◌, ◌≤◌, List, get_or, map, ap, arith}
+use Rattle.std.proofs.Common.{◌-◌, ◌≤◌, get_or, map, ap, arith}
 use Rattle.fb_obstacles.proofs.RaisedBounds.{lowered_at}
 use Rattle.fb_obstacles.proofs.watching.Watch.large_from.Goals as goal
 

@@ -68,23 +68,15 @@ returns-then-place-len-clause-bounds c =
     rw (← c.self.view_is)
     (λ limit bounded.
     bounded_moved limit c.self.inside.edges.items c.swap_remove.new.self.items c.self.inside.raised.items c.swap_remove-2.new.self.items
-    c.self.inside.lowered c.args.place bounded (omega (arith, c.swap_remove.ensures.len))
-    (λ less. subst (λ n. get_or c.swap_remove.new.self.items c.args.place 0 ≡ get_or c.self.inside.edges.items n 0) (omega (arith, c.swap_remove.ensures.len))
-    (c.swap_remove.ensures.by_index.0 0 (omega (arith, less, c.swap_remove.ensures.len))))
-    (λ less. subst (λ n. get_or c.swap_remove-2.new.self.items c.args.place 0 ≡ get_or c.self.inside.raised.items n 0) (omega (arith, c.swap_remove.ensures.len, c.self.invariant.1.one_each))
-    (c.swap_remove-2.ensures.by_index.0 0 (omega (arith, less, c.swap_remove.ensures.len, c.swap_remove-2.ensures.len, c.self.invariant.1.one_each))))
-    (λ k differs less. c.swap_remove.ensures.by_index.1 k 0 differs (omega (arith, less, c.swap_remove.ensures.len)))
-    (λ k differs less. c.swap_remove-2.ensures.by_index.1 k 0 differs (omega (arith, less, c.swap_remove.ensures.len, c.swap_remove-2.ensures.len, c.self.invariant.1.one_each))))
+    c.self.inside.lowered c.args.place (vec_len c.self.inside.edges) (vec_len c.self.inside.raised) bounded
+    (omega arith) (omega (arith, c.self.invariant.1.one_each)) (omega (arith, c.swap_remove.ensures.len))
+    c.swap_remove.ensures.by_index c.swap_remove-2.ensures.by_index)
 
 pub returns-else-place-len-clause-bounds : goal.returns-else-place-len-clause-bounds
 returns-else-place-len-clause-bounds c =
     rw (← c.self.view_is)
     (λ limit bounded.
     bounded_moved limit c.self.inside.edges.items c.swap_remove.new.self.items c.self.inside.raised.items c.swap_remove-2.new.self.items
-    c.self.inside.lowered c.args.place bounded (omega (arith, c.swap_remove.ensures.len))
-    (λ less. subst (λ n. get_or c.swap_remove.new.self.items c.args.place 0 ≡ get_or c.self.inside.edges.items n 0) (omega (arith, c.swap_remove.ensures.len))
-    (c.swap_remove.ensures.by_index.0 0 (omega (arith, less, c.swap_remove.ensures.len))))
-    (λ less. subst (λ n. get_or c.swap_remove-2.new.self.items c.args.place 0 ≡ get_or c.self.inside.raised.items n 0) (omega (arith, c.swap_remove.ensures.len, c.self.invariant.1.one_each))
-    (c.swap_remove-2.ensures.by_index.0 0 (omega (arith, less, c.swap_remove.ensures.len, c.swap_remove-2.ensures.len, c.self.invariant.1.one_each))))
-    (λ k differs less. c.swap_remove.ensures.by_index.1 k 0 differs (omega (arith, less, c.swap_remove.ensures.len)))
-    (λ k differs less. c.swap_remove-2.ensures.by_index.1 k 0 differs (omega (arith, less, c.swap_remove.ensures.len, c.swap_remove-2.ensures.len, c.self.invariant.1.one_each))))
+    c.self.inside.lowered c.args.place (vec_len c.self.inside.edges) (vec_len c.self.inside.raised) bounded
+    (omega arith) (omega (arith, c.self.invariant.1.one_each)) (omega (arith, c.swap_remove.ensures.len))
+    c.swap_remove.ensures.by_index c.swap_remove-2.ensures.by_index)

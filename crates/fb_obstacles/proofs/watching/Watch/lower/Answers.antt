@@ -1,7 +1,6 @@
-use Rattle.std.proofs.Common.{ℕ, ◌≡◌, ◌-◌, ◌∙◌, List, length, map, ap, sym, arith}
-use Rattle.std.proofs.lemmas.List.{length-map, with_items_is}
+use Rattle.std.proofs.Common.{ℕ, ◌-◌, List, length, map, ap, sym, arith}
 use Rattle.fb_obstacles.specs.Watched.{Watched}
-use Rattle.fb_obstacles.proofs.RaisedBounds.{lowered_twice}
+use Rattle.fb_obstacles.proofs.RaisedBounds.{lowered_items, lowered_twice}
 use Rattle.fb_obstacles.proofs.watching.Watch.lower.Goals as goal
 
 pub returns-in-Some : goal.returns-in-Some
@@ -12,9 +11,8 @@ returns-in-Some c =
 
 pub returns-in-None : goal.returns-in-None
 returns-in-None c =
-    let lowered : c.lower_all.new.numbers ≡ map (λ b. b - c.self.inside.lowered) c.self.inside.raised.items =
-    c.lower_all.ensures ∙ ap (map (λ b. b - c.self.inside.lowered)) c.deref_mut.ensures.value in
     let watched : List ℕ → Watched = λ bs. record { edge_count = length c.self.inside.places.items; edges = c.self.inside.edges.items; bounds = bs } in
     rw (← c.self.view_is)
     (ap (λ xs. watched (map (λ b. b - c.args.length) xs))
-    (with_items_is c.self.inside.raised c.lower_all.new.numbers (ap length lowered ∙ length-map c.self.inside.raised.items (λ b. b - c.self.inside.lowered) ∙ sym c.self.inside.raised.ok.0) ∙ lowered))
+    (lowered_items c.self.inside.raised c.lower_all.new.numbers _ c.self.inside.lowered c.lower_all.ensures
+    c.deref_mut.ensures.value (sym c.self.inside.raised.ok.0)))

@@ -11,8 +11,8 @@ pub rebuild-requires : goal.rebuild-requires
 rebuild-requires c =
     rooted_after c.args.self.now c.args.gone.now c.args.blossom (contains nat_eq c.in_ok-inside.inside)
     (fun_ext c.in_ok-inside.ensures) (subst (λ t. IsRooted t.root t.branches) c.self.view_is c.self.invariant.rooted) c.requires
-    c.renamed-root.result
-    (c.renamed-root.ensures ∙ ap (λ t. renamed_name (contains nat_eq c.in_ok-inside.inside) c.args.blossom t.root) c.self.view_is)
+    c.renamed_name-root.result
+    (c.renamed_name-root.ensures ∙ ap (λ t. renamed_name (contains nat_eq c.in_ok-inside.inside) c.args.blossom t.root) c.self.view_is)
     (entries_of c.in_ok-branches.branches.items)
     (c.in_ok-branches.ensures
     ∙ ap (joined_tree (contains nat_eq c.in_ok-inside.inside) c.args.blossom)
