@@ -2,7 +2,7 @@
 use Rattle.std.proofs.Common.{◌≡◌, ℕ, ◌==◌, true, List, [], ◌∷◌, ◌++◌, map, flat_map, refl, sym, ◌∙◌, ap}
 use Rattle.fb_graph.specs.Parity.{is_odd_count}
 use Rattle.fb_graph.specs.Laws.{Link}
-use Rattle.fb_graph.specs.Limits.{problem_of}
+use Rattle.fb_graph.specs.Limits.{no_shot, problem_of}
 use Rattle.fb_plan.specs.Plans.{problem_at}
 use Rattle.fb_plan.proofs.SubProblems.{node_is_part, root_is_whole}
 use Rattle.fb_laws.specs.OpenedLinks.{opened_links}
@@ -18,7 +18,7 @@ flat_mapped f g (x ∷ xs) = ap (λ l. f (g x) ++ l) (flat_mapped f g xs)
 
 pub root_right : OpenedByNumber → RootIsRight
 root_right by_number w edges cuts part nested root matched rising parity positive in_order = (
-  part.job.even w.slot [] part.slot,
+  part.job.even w.slot no_shot part.slot,
   row_of_part (problem_in w) (problem_of w.job.graph (shot_of w)) (state_of w) edges cuts part.state matched
       (node_is_part w.job.graph w.job.plan w.node (shot_of w)) real rising same positive in_order,
 )

@@ -15,7 +15,7 @@ use Rattle.fb_graph.specs.Counts.{as_count}
 use Rattle.fb_graph.specs.Ends.{ends_in}
 use Rattle.fb_laws.specs.Fusion.{IsLinkOf}
 use Rattle.fb_graph.specs.Links.{IsTightLink, AreEven}
-use Rattle.fb_graph.specs.Moves.{MayAbsorb, MayUncover, joined_nodes, uncovered_nodes}
+use Rattle.fb_graph.specs.Moves.{MayAbsorb, MayUncover, uncovered_nodes}
 use Rattle.fb_graph.specs.Nests.{IsNest}
 use Rattle.fb_witnesses.specs.Samples.{link, triangle, corner_nodes}
 use Rattle.fb_laws.specs.SearchBlossoms.{IsJoining}
@@ -75,7 +75,7 @@ pub one_search : (p : Problem) (nodes : List Node) (tree : List Entry) (rest : L
     → ((d : ℕ) → is_in (leaves nodes) d ≡ true → height_of (all_cuts nodes) d % 2 ≡ r) → IsOuterNode nodes root
     → AreDistinct (tree_names root tree) → IsTree nodes root tree → AreMatchedLinks p nodes (grown_links tree)
     → IsSearch p nodes tree rest (root ∷ []) root r
-one_search p nodes tree rest root r dual defects links matched heights root_is names joined_nodes grown = record {
+one_search p nodes tree rest root r dual defects links matched heights root_is names joined grown = record {
   matching = record {
     dual = dual;
     defects = defects;
@@ -86,7 +86,7 @@ one_search p nodes tree rest root r dual defects links matched heights root_is n
   root_is = root_is;
   open_root = is_in-head root [];
   names = names;
-  joined = joined_nodes;
+  joined = joined;
   grown = grown;
   parity = λ d name leaf cover among. heights d leaf;
   even = λ d name leaf cover among. absurd (none_left name among);

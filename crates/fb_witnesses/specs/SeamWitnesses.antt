@@ -1,7 +1,7 @@
 -- That the premises of the laws on the seams of a plan can be met: a line of five real vertices in three units, with two
 -- of the vertices as seams.
 use Rattle.std.specs.Prelude.{◌≡◌, ◌<◌, true, false, [], ◌∷◌, Some, None}
-use Rattle.fb_graph.specs.Limits.{DecodingGraph}
+use Rattle.fb_graph.specs.Limits.{DecodingGraph, ShotValue}
 use Rattle.fb_plan.specs.Plans.{IsPlan, PlanTree, children_of, problem_at}
 use Rattle.fb_plan.specs.Seams.{is_own}
 use Rattle.fb_witnesses.specs.Samples.{edge}
@@ -21,13 +21,17 @@ line_plan = record {
   owners = None ∷ Some 0 ∷ Some 3 ∷ Some 1 ∷ Some 4 ∷ Some 2 ∷ None ∷ [];
 }
 
+-- two defects, neither of them on a seam
+abbrev pub line_shot : ShotValue
+line_shot = record { defects = 1 ∷ 5 ∷ [] }
+
 -- Each fusion's seam is real in neither of its children; the upper one's is boundary of the lower one, too.
 abbrev pub PlanWitness : Type 0
 PlanWitness = IsPlan line_graph line_plan × (children_of line_plan 3 ≡ Some (0, 1))
     × (children_of line_plan 4 ≡ Some (3, 2)) × (1 < line_plan.units)
     × (is_own line_graph line_plan 1 3 ≡ true) × (is_own line_graph line_plan 3 2 ≡ true)
     × (is_own line_graph line_plan 4 4 ≡ true) × (is_own line_graph line_plan 4 2 ≡ false)
-    × ((problem_at line_graph line_plan 3 (1 ∷ 5 ∷ [])).is_real 2 ≡ true)
-    × ((problem_at line_graph line_plan 3 (1 ∷ 5 ∷ [])).is_real 4 ≡ false)
-    × ((problem_at line_graph line_plan 2 (1 ∷ 5 ∷ [])).is_real 4 ≡ false)
-    × ((problem_at line_graph line_plan 4 (1 ∷ 5 ∷ [])).is_real 4 ≡ true)
+    × ((problem_at line_graph line_plan 3 line_shot).is_real 2 ≡ true)
+    × ((problem_at line_graph line_plan 3 line_shot).is_real 4 ≡ false)
+    × ((problem_at line_graph line_plan 2 line_shot).is_real 4 ≡ false)
+    × ((problem_at line_graph line_plan 4 line_shot).is_real 4 ≡ true)
