@@ -3,7 +3,7 @@ use Rattle.std.proofs.Common.{◌≡◌, ℕ, ◌≤◌, Bool, true, false, List
 use Rattle.std.specs.Io.KnownBytes.{Consumes}
 use Rattle.std.proofs.KnownBytes.{Consumes-nil, Consumes-trans}
 use Rattle.std.proofs.lemmas.List.Elements.{All-append, All-cons, All-nil}
-use Rattle.fb_graph.specs.Limits.{DecodingGraph, IsShot}
+use Rattle.fb_graph.specs.Limits.{DecodingGraph, IsShot, ShotValue}
 use Rattle.fb_ports.specs.Causes.{Opens}
 use Rattle.fb_shots.specs.declared.answer.Format.{Format}
 use Rattle.fb_shots.specs.declared.answer.ShotFault.{ShotFault}
@@ -17,14 +17,14 @@ use Rattle.fb_inputs.specs.Judging.{FirstFrom, Gathers, GathersFrom, HasFirstSho
 use Rattle.fb_inputs.specs.declared.taking.ShotsEnd.{ShotsEnd}
 use Rattle.fb_inputs.specs.declared.taking.ShotsEnd.TheVariants as end
 
-same_shots : (xs ys : List (List ℕ)) (ending : Ending) → xs ≡ ys
+same_shots : (xs ys : List ShotValue) (ending : Ending) → xs ≡ ys
     → ◌≡◌ {A = Shots} (record { shots = xs; ending = ending }) (record { shots = ys; ending = ending })
 same_shots xs ys ending e = cc
 
-front-both : (xs ys : List (List ℕ)) (r : Shots) → all_in_front xs (all_in_front ys r) ≡ all_in_front (xs ++ ys) r
+front-both : (xs ys : List ShotValue) (r : Shots) → all_in_front xs (all_in_front ys r) ≡ all_in_front (xs ++ ys) r
 front-both xs ys r = same_shots _ _ r.ending (sym (append_assoc xs ys r.shots))
 
-front-only : (shots : List (List ℕ)) (ending : Ending) → all_in_front shots (only ending) ≡ record { shots = shots; ending = ending }
+front-only : (shots : List ShotValue) (ending : Ending) → all_in_front shots (only ending) ≡ record { shots = shots; ending = ending }
 front-only shots ending = same_shots _ _ ending (append-nil shots)
 
 -- what follows a stream before its first byte are the shots of what is left
@@ -51,7 +51,7 @@ gives_none s left = record {
   all = All-nil (IsShot s.graph);
 }
 
-pub gives_one : (old new : Stream) (before after : Option (List ℕ)) (shot : List ℕ) → GivesShot old new before after shot
+pub gives_one : (old new : Stream) (before after : Option (List ℕ)) (shot : ShotValue) → GivesShot old new before after shot
     → GivesShots old new before after (shot ∷ [])
 gives_one old new before after shot step =
     let format : new.format ≡ old.format = ap (λ (s : Stream). s.format) step.others in
@@ -73,7 +73,7 @@ gives_one old new before after shot step =
     }
 
 -- shots that are given one after another
-pub gives_both : (a b c : Stream) (before middle after : Option (List ℕ)) (xs ys : List (List ℕ)) → GivesShots a b before middle xs
+pub gives_both : (a b c : Stream) (before middle after : Option (List ℕ)) (xs ys : List ShotValue) → GivesShots a b before middle xs
     → GivesShots b c middle after ys → GivesShots a c before after (xs ++ ys)
 gives_both a b c before middle after xs ys first second = record {
   piece = first.piece ++ second.piece;
@@ -114,14 +114,14 @@ gives_both a b c before middle after xs ys first second = record {
         go false was = not_both a.finished (first.unfinished was) done
         go true was = second.unread was ∙ first.unread done
 
-pub gives_next : (start now next : Stream) (before middle after : Option (List ℕ)) (shots : List (List ℕ)) (shot : List ℕ)
+pub gives_next : (start now next : Stream) (before middle after : Option (List ℕ)) (shots : List ShotValue) (shot : ShotValue)
     → GivesShots start now before middle shots → GivesShot now next middle after shot → GivesShots start next before after (shots ++ shot ∷ [])
 gives_next start now next before middle after shots shot so_far step =
     gives_both start now next before middle after shots (shot ∷ []) so_far (gives_one now next middle after shot step)
 
 -- ---- from a stream that has read nothing yet
 
-module _ (start now : Stream) (before middle : Option (List ℕ)) (shots : List (List ℕ)) (is_fresh : start ≡ fresh start.format start.graph most_shots) (so_far : GivesShots start now before middle shots) where
+module _ (start now : Stream) (before middle : Option (List ℕ)) (shots : List ShotValue) (is_fresh : start ≡ fresh start.format start.graph most_shots) (so_far : GivesShots start now before middle shots) where
   none_given : start.given ≡ 0
   none_given = ap (λ (s : Stream). s.given) is_fresh
 
@@ -221,12 +221,12 @@ some_more : (P Q : List ℕ → Type 0) (left : Option (List ℕ)) → ((text : 
 some_more P Q None more held = tt
 some_more P Q (Some text) more held = more text held
 
-first_of_all : (format : Format) (g : DecodingGraph) (shots : List (List ℕ)) (ending : Ending) (text : List ℕ) → HasShots format g shots ending text
+first_of_all : (format : Format) (g : DecodingGraph) (shots : List ShotValue) (ending : Ending) (text : List ℕ) → HasShots format g shots ending text
     → HasFirstShots format g shots text
 first_of_all format g shots ending text e = ([], ap (λ (r : Shots). r.shots) e ∙ sym (append-nil shots))
 
 -- the shots that were gathered are the first ones
-pub gathered_first : (bytes : Option (List ℕ)) (format : Format) (g : DecodingGraph) (left : Option (List ℕ)) (shots : List (List ℕ)) (ended : ShotsEnd)
+pub gathered_first : (bytes : Option (List ℕ)) (format : Format) (g : DecodingGraph) (left : Option (List ℕ)) (shots : List ShotValue) (ended : ShotsEnd)
     → GathersFrom bytes format g left shots ended → IfSome bytes (HasFirstShots format g shots)
 gathered_first bytes format g left shots end.End held =
     some_more (HasShots format g shots at_end) (HasFirstShots format g shots) bytes (first_of_all format g shots at_end) held
@@ -266,7 +266,7 @@ module _ (named : Named) (name : List ℕ) (left : Option (List ℕ)) where
       go None opened = tt
       go (Some f) opened = opened_some left name P f opened.0 opened.1 held
 
-  pub gathers_opened : (format : Format) (g : DecodingGraph) (later : Option (List ℕ)) (shots : List (List ℕ)) (ended : ShotsEnd) → IsOpened named name left
+  pub gathers_opened : (format : Format) (g : DecodingGraph) (later : Option (List ℕ)) (shots : List ShotValue) (ended : ShotsEnd) → IsOpened named name left
       → GathersFrom left format g later shots ended → Gathers named name format g later shots ended
   gathers_opened format g later shots end.End opened held = holds_opened (HasShots format g shots at_end) opened held
   gathers_opened format g later shots (end.Refused fault) opened held =

@@ -1,6 +1,6 @@
 -- Which input is accepted, and which names are asked for.
 use Rattle.std.specs.Prelude.{ℕ, ◌≡◌, ◌^◌, ◌-◌, List, [], ◌++◌, length, Option, Some, None, IfSome, IsSome, Ok, Err, ⊤}
-use Rattle.fb_graph.specs.Limits.{DecodingGraph}
+use Rattle.fb_graph.specs.Limits.{DecodingGraph, ShotValue}
 use Rattle.fb_graph_in.specs.GraphText.{graph_of_text}
 use Rattle.fb_graph_in.specs.declared.faults.TextFault.{TextFault}
 use Rattle.fb_shots.specs.Shots.{Ending, at_end, still_open, refused, Shots}
@@ -63,19 +63,19 @@ abbrev pub shots_of : Format → DecodingGraph → List ℕ → Shots
 shots_of format g text = stream_of format g most_shots most_bytes text
 
 -- the text's shots are these, and end so
-abbrev pub HasShots : Format → DecodingGraph → List (List ℕ) → Ending → List ℕ → Type 0
+abbrev pub HasShots : Format → DecodingGraph → List ShotValue → Ending → List ℕ → Type 0
 HasShots format g shots ending text = shots_of format g text ≡ record { shots = shots; ending = ending }
 
 -- these are the first shots of the text
-abbrev pub HasFirstShots : Format → DecodingGraph → List (List ℕ) → List ℕ → Type 0
-HasFirstShots format g shots text = (more : List (List ℕ)) × ((shots_of format g text).shots ≡ shots ++ more)
+abbrev pub HasFirstShots : Format → DecodingGraph → List ShotValue → List ℕ → Type 0
+HasFirstShots format g shots text = (more : List ShotValue) × ((shots_of format g text).shots ≡ shots ++ more)
 
 -- the first shots of what was left of a file, where known
-abbrev pub FirstFrom : Option (List ℕ) → Format → DecodingGraph → List (List ℕ) → Type 0
+abbrev pub FirstFrom : Option (List ℕ) → Format → DecodingGraph → List ShotValue → Type 0
 FirstFrom left format g shots = IfSome left (HasFirstShots format g shots)
 
 -- Of the text all but `left` was read, and what was read settles these shots and nothing more.
-pub record IsReadInPart (format : Format) (g : DecodingGraph) (left : Option (List ℕ)) (shots : List (List ℕ)) (text : List ℕ) : Type 0 where
+pub record IsReadInPart (format : Format) (g : DecodingGraph) (left : Option (List ℕ)) (shots : List ShotValue) (text : List ℕ) : Type 0 where
   pub given : List ℕ
   pub rest : List ℕ
   pub remains : left ≡ Some rest
@@ -84,14 +84,14 @@ pub record IsReadInPart (format : Format) (g : DecodingGraph) (left : Option (Li
   pub first : HasFirstShots format g shots text
 
 -- the shots that were gathered from the bytes of a file, where known, until `left` remained, by how that ended
-abbrev pub GathersFrom : Option (List ℕ) → Format → DecodingGraph → Option (List ℕ) → List (List ℕ) → ShotsEnd → Type 0
+abbrev pub GathersFrom : Option (List ℕ) → Format → DecodingGraph → Option (List ℕ) → List ShotValue → ShotsEnd → Type 0
 GathersFrom bytes format g left shots end.End = IfSome bytes (HasShots format g shots at_end)
 GathersFrom bytes format g left shots (end.Refused fault) =
     IfSome bytes (HasShots format g shots (refused fault.kind)) × (fault.shot ≡ length shots)
 GathersFrom bytes format g left shots end.ReadFault = IfSome bytes (IsReadInPart format g left shots)
 
 -- the same of the file of a name
-abbrev pub Gathers : Named → List ℕ → Format → DecodingGraph → Option (List ℕ) → List (List ℕ) → ShotsEnd → Type 0
+abbrev pub Gathers : Named → List ℕ → Format → DecodingGraph → Option (List ℕ) → List ShotValue → ShotsEnd → Type 0
 Gathers named name format g left shots end.End = Holds named name (HasShots format g shots at_end)
 Gathers named name format g left shots (end.Refused fault) =
     Holds named name (HasShots format g shots (refused fault.kind)) × (fault.shot ≡ length shots)

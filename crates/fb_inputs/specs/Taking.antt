@@ -2,7 +2,7 @@
 use Rattle.std.specs.Prelude.{ℕ, ◌≡◌, ◌+◌, ◌≤◌, true, false, List, ◌++◌, length, Option, Some, None}
 use Rattle.std.specs.List.{All}
 use Rattle.std.specs.Io.KnownBytes.{Consumes}
-use Rattle.fb_graph.specs.Limits.{IsShot}
+use Rattle.fb_graph.specs.Limits.{IsShot, ShotValue}
 use Rattle.fb_shots.specs.Shots.{all_in_front}
 use Rattle.fb_shots.specs.Formats.{prefix_of}
 use Rattle.fb_shots.specs.Steps.{Ends, FailsToRead, IfKnown, IsReadOut, Refuses}
@@ -11,7 +11,7 @@ use Rattle.fb_inputs.specs.declared.taking.ShotsEnd.{ShotsEnd}
 use Rattle.fb_inputs.specs.declared.taking.ShotsEnd.TheVariants as end
 
 -- A stream has given these shots: they stand before all that follows.
-pub record GivesShots (old new : Stream) (before after : Option (List ℕ)) (shots : List (List ℕ)) : Type 0 where
+pub record GivesShots (old new : Stream) (before after : Option (List ℕ)) (shots : List ShotValue) : Type 0 where
   pub piece : List ℕ
   pub taken : Consumes before after piece
   pub gives : IfKnown (λ left later. follows old left ≡ all_in_front shots (follows new later)) before after
@@ -35,7 +35,7 @@ EndsSo old new before after (Some (end.Refused fault)) = Refuses old new before 
 EndsSo old new before after (Some end.ReadFault) = FailsToRead old new before after
 
 -- The next shots were taken, so many of them, or fewer where they end.
-pub record TakesWindow (most : ℕ) (old new : Stream) (before after : Option (List ℕ)) (shots : List (List ℕ)) (ending : Option ShotsEnd) : Type 0 where
+pub record TakesWindow (most : ℕ) (old new : Stream) (before after : Option (List ℕ)) (shots : List ShotValue) (ending : Option ShotsEnd) : Type 0 where
   pub middle : Stream
   pub between : Option (List ℕ)
   pub gives : GivesShots old middle before between shots

@@ -11,7 +11,7 @@ use Rattle.std.proofs.lemmas.List.Elements.{All-head, All-tail}
 use Rattle.fb_graph.specs.Answers.{IsRight}
 use Rattle.fb_graph.specs.Certificate.{AreRising, Fits, IsBefore, IsBest, IsOddCut, IsPrintedCut, load_of, total_value}
 use Rattle.fb_graph.specs.Components.{IsFirstOdd}
-use Rattle.fb_graph.specs.Limits.{DecodingGraph, is_real_in, problem_of}
+use Rattle.fb_graph.specs.Limits.{DecodingGraph, ShotValue, is_real_in, problem_of}
 use Rattle.fb_graph.specs.Parity.{differ, is_in, is_odd_count}
 use Rattle.fb_graph.specs.Problem.{Problem, Flips, edge_at, no_edge, touches, weight_of}
 use Rattle.fb_graph.specs.declared.parts.Cut.{Cut}
@@ -27,79 +27,79 @@ use Rattle.fb_verify.proofs.Goods.{as_cut, before_same, cuts-from_none, cuts_bad
 use Rattle.fb_verify.proofs.Leasts.{below-from_beyond, beyond-from_below}
 use Rattle.fb_verify.proofs.Marked.{real-below}
 
-best_bad : (g : DecodingGraph) (defects edges : List ℕ) (weight : ℕ) (cuts : List Cut)
-    → best_fault g defects edges weight cuts ≢ Some Good
-best_bad g defects edges weight cuts =
+best_bad : (g : DecodingGraph) (shot : ShotValue) (edges : List ℕ) (weight : ℕ) (cuts : List Cut)
+    → best_fault g shot edges weight cuts ≢ Some Good
+best_bad g shot edges weight cuts =
     or_bad (option_map EdgeOutOfRange (first_beyond (length g.edges) edges)) _ (map_bad EdgeOutOfRange (λ k e. cc) (first_beyond (length g.edges) edges))
     (or_bad (option_map EdgesNotRising (first_fall edges)) _ (map_bad EdgesNotRising (λ k e. cc) (first_fall edges))
-    (or_bad (option_map WrongParity (least_below g.vertices (has_wrong_parity g defects edges))) _ (map_bad WrongParity (λ k e. cc) (least_below g.vertices (has_wrong_parity g defects edges)))
-    (or_bad (fault_of_two WeightNotSum weight (weight_of (problem_of g defects) edges)) _ (two_bad WeightNotSum (λ a b e. cc) weight (weight_of (problem_of g defects) edges))
-    (or_bad (cuts_fault g defects 0 [] cuts) _ (cuts_bad g defects 0 [] cuts)
-    (or_bad (option_map Overloaded (least_below (length g.edges) (is_overloaded g cuts))) _ (map_bad Overloaded (λ k e. cc) (least_below (length g.edges) (is_overloaded g cuts)))
+    (or_bad (option_map WrongParity (least_below g.vertices (has_wrong_parity (problem_of g shot) edges))) _ (map_bad WrongParity (λ k e. cc) (least_below g.vertices (has_wrong_parity (problem_of g shot) edges)))
+    (or_bad (fault_of_two WeightNotSum weight (weight_of (problem_of g shot) edges)) _ (two_bad WeightNotSum (λ a b e. cc) weight (weight_of (problem_of g shot) edges))
+    (or_bad (cuts_fault g shot 0 [] cuts) _ (cuts_bad g shot 0 [] cuts)
+    (or_bad (option_map Overloaded (least_below (length g.edges) (is_overloaded (problem_of g shot) cuts))) _ (map_bad Overloaded (λ k e. cc) (least_below (length g.edges) (is_overloaded (problem_of g shot) cuts)))
     (or_bad (fault_of_two SumDiffers weight (total_value cuts)) None (two_bad SumDiffers (λ a b e. cc) weight (total_value cuts)) (λ e. cc)))))))
 
 none_from_good : (o : Option Verdict) → o ≢ Some Good → unwrap_or o Good ≡ Good → o ≡ None
 none_from_good None bad e = refl
 none_from_good (Some v) bad e = absurd (bad (ap Some e))
 
-flips-from_none : (g : DecodingGraph) (defects edges : List ℕ) → least_below g.vertices (has_wrong_parity g defects edges) ≡ None
-    → Flips (problem_of g defects) edges
-flips-from_none g defects edges none v real =
-    same_from_differ (is_odd_count (λ k. touches v (edge_at g.edges k)) edges) (is_in defects v)
-    (step (is_real_in g v) (differ (is_odd_count (λ k. touches v (edge_at g.edges k)) edges) (is_in defects v)) real
-    (none-least g.vertices (has_wrong_parity g defects edges) none v (real-below g v real)))
+flips-from_none : (g : DecodingGraph) (shot : ShotValue) (edges : List ℕ) → least_below g.vertices (has_wrong_parity (problem_of g shot) edges) ≡ None
+    → Flips (problem_of g shot) edges
+flips-from_none g shot edges none v real =
+    same_from_differ (is_odd_count (λ k. touches v (edge_at g.edges k)) edges) (is_in shot.defects v)
+    (step (is_real_in g v) (differ (is_odd_count (λ k. touches v (edge_at g.edges k)) edges) (is_in shot.defects v)) real
+    (none-least g.vertices (has_wrong_parity (problem_of g shot) edges) none v (real-below g v real)))
   where
     step : (a b : Bool) → a ≡ true → (a && b) ≡ false → b ≡ false
     step a b e f = ap (λ x. x && b) (sym e) ∙ f
 
-none-from_flips : (g : DecodingGraph) (defects edges : List ℕ) → Flips (problem_of g defects) edges
-    → least_below g.vertices (has_wrong_parity g defects edges) ≡ None
-none-from_flips g defects edges flips =
-    least-none g.vertices (has_wrong_parity g defects edges) (λ v less. step v (is_real_in g v) refl)
+none-from_flips : (g : DecodingGraph) (shot : ShotValue) (edges : List ℕ) → Flips (problem_of g shot) edges
+    → least_below g.vertices (has_wrong_parity (problem_of g shot) edges) ≡ None
+none-from_flips g shot edges flips =
+    least-none g.vertices (has_wrong_parity (problem_of g shot) edges) (λ v less. step v (is_real_in g v) refl)
   where
-    step : (v : ℕ) (b : Bool) → is_real_in g v ≡ b → has_wrong_parity g defects edges v ≡ false
+    step : (v : ℕ) (b : Bool) → is_real_in g v ≡ b → has_wrong_parity (problem_of g shot) edges v ≡ false
     step v true e =
-        ap (λ x. is_real_in g v && differ x (is_in defects v)) (flips v e)
-        ∙ (ap (λ x. is_real_in g v && x) (differ_self (is_in defects v)) ∙ and-false (is_real_in g v))
-    step v false e = ap (λ x. x && differ (is_odd_count (λ k. touches v (edge_at g.edges k)) edges) (is_in defects v)) e
+        ap (λ x. is_real_in g v && differ x (is_in shot.defects v)) (flips v e)
+        ∙ (ap (λ x. is_real_in g v && x) (differ_self (is_in shot.defects v)) ∙ and-false (is_real_in g v))
+    step v false e = ap (λ x. x && differ (is_odd_count (λ k. touches v (edge_at g.edges k)) edges) (is_in shot.defects v)) e
 
-fits-from_none : (g : DecodingGraph) (defects : List ℕ) (cuts : List Cut) → least_below (length g.edges) (is_overloaded g cuts) ≡ None
-    → Fits (problem_of g defects) cuts
-fits-from_none g defects cuts none k d less =
+fits-from_none : (g : DecodingGraph) (shot : ShotValue) (cuts : List Cut) → least_below (length g.edges) (is_overloaded (problem_of g shot) cuts) ≡ None
+    → Fits (problem_of g shot) cuts
+fits-from_none g shot cuts none k d less =
     subst (λ e. load_of cuts e ≤ e.weight) (get_or_default g.edges k no_edge d less)
-    (ltb-false (edge_at g.edges k).weight (load_of cuts (edge_at g.edges k)) (none-least (length g.edges) (is_overloaded g cuts) none k less))
+    (ltb-false (edge_at g.edges k).weight (load_of cuts (edge_at g.edges k)) (none-least (length g.edges) (is_overloaded (problem_of g shot) cuts) none k less))
 
-none-from_fits : (g : DecodingGraph) (defects : List ℕ) (cuts : List Cut) → Fits (problem_of g defects) cuts
-    → least_below (length g.edges) (is_overloaded g cuts) ≡ None
-none-from_fits g defects cuts fits =
-    least-none (length g.edges) (is_overloaded g cuts)
+none-from_fits : (g : DecodingGraph) (shot : ShotValue) (cuts : List Cut) → Fits (problem_of g shot) cuts
+    → least_below (length g.edges) (is_overloaded (problem_of g shot) cuts) ≡ None
+none-from_fits g shot cuts fits =
+    least-none (length g.edges) (is_overloaded (problem_of g shot) cuts)
     (λ k less. le-ltb (edge_at g.edges k).weight (load_of cuts (edge_at g.edges k)) (fits k no_edge less))
 
-best-from_none : (g : DecodingGraph) (defects edges : List ℕ) (weight : ℕ) (cuts : List Cut) → All (λ c. 1 ≤ c.value) cuts
-    → best_fault g defects edges weight cuts ≡ None → IsBest (problem_of g defects) edges weight cuts
-best-from_none g defects edges weight cuts positive none =
+best-from_none : (g : DecodingGraph) (shot : ShotValue) (edges : List ℕ) (weight : ℕ) (cuts : List Cut) → All (λ c. 1 ≤ c.value) cuts
+    → best_fault g shot edges weight cuts ≡ None → IsBest (problem_of g shot) edges weight cuts
+best-from_none g shot edges weight cuts positive none =
     let (beyond, rest) = or_none (option_map EdgeOutOfRange (first_beyond (length g.edges) edges)) _ none in
     let (fall, rest_2) = or_none (option_map EdgesNotRising (first_fall edges)) _ rest in
-    let (wrong, rest_3) = or_none (option_map WrongParity (least_below g.vertices (has_wrong_parity g defects edges))) _ rest_2 in
-    let (sum, rest_4) = or_none (fault_of_two WeightNotSum weight (weight_of (problem_of g defects) edges)) _ rest_3 in
-    let (faulty, rest_5) = or_none (cuts_fault g defects 0 [] cuts) _ rest_4 in
-    let (over, rest_6) = or_none (option_map Overloaded (least_below (length g.edges) (is_overloaded g cuts))) _ rest_5 in
+    let (wrong, rest_3) = or_none (option_map WrongParity (least_below g.vertices (has_wrong_parity (problem_of g shot) edges))) _ rest_2 in
+    let (sum, rest_4) = or_none (fault_of_two WeightNotSum weight (weight_of (problem_of g shot) edges)) _ rest_3 in
+    let (faulty, rest_5) = or_none (cuts_fault g shot 0 [] cuts) _ rest_4 in
+    let (over, rest_6) = or_none (option_map Overloaded (least_below (length g.edges) (is_overloaded (problem_of g shot) cuts))) _ rest_5 in
     let (total, rest_7) = or_none (fault_of_two SumDiffers weight (total_value cuts)) None rest_6 in
-    let (listed, rising) = cuts-from_none g defects 0 [] cuts faulty in
+    let (listed, rising) = cuts-from_none g shot 0 [] cuts faulty in
     record {
       edge_set = record {
         rising = rising-from_fall edges (map_none EdgesNotRising (first_fall edges) fall);
         within = below-from_beyond (length g.edges) edges (map_none EdgeOutOfRange (first_beyond (length g.edges) edges) beyond);
       };
-      flips = flips-from_none g defects edges (map_none WrongParity (least_below g.vertices (has_wrong_parity g defects edges)) wrong);
-      weighs = two_none WeightNotSum weight (weight_of (problem_of g defects) edges) sum;
+      flips = flips-from_none g shot edges (map_none WrongParity (least_below g.vertices (has_wrong_parity (problem_of g shot) edges)) wrong);
+      weighs = two_none WeightNotSum weight (weight_of (problem_of g shot) edges) sum;
       printed = λ k d less. record {
         odd = (listed k d less).odd;
         positive = positive k d less;
         rising = (listed k d less).rising;
       };
       rising = rising.1;
-      fits = fits-from_none g defects cuts (map_none Overloaded (least_below (length g.edges) (is_overloaded g cuts)) over);
+      fits = fits-from_none g shot cuts (map_none Overloaded (least_below (length g.edges) (is_overloaded (problem_of g shot) cuts)) over);
       total = two_none SumDiffers weight (total_value cuts) total;
     }
 
@@ -119,16 +119,16 @@ virtual-from_real true true e = absurd (false≢true e)
 virtual-from_real true false e = refl
 virtual-from_real false b e = absurd (false≢true e)
 
-none-from_cut : (g : DecodingGraph) (defects : List ℕ) (j : ℕ) (before : List ℕ) (c : Cut) → IsPrintedCut (problem_of g defects) c
-    → slice_cmp nat_cmp before c.vertices ≡ Less → cut_fault g defects j before c.vertices ≡ None
-none-from_cut g defects j before c printed order =
-    let empty = not_empty (problem_of g defects) c printed.odd in
+none-from_cut : (g : DecodingGraph) (shot : ShotValue) (j : ℕ) (before : List ℕ) (c : Cut) → IsPrintedCut (problem_of g shot) c
+    → slice_cmp nat_cmp before c.vertices ≡ Less → cut_fault g shot j before c.vertices ≡ None
+none-from_cut g shot j before c printed order =
+    let empty = not_empty (problem_of g shot) c printed.odd in
     let beyond = beyond-from_below g.vertices c.vertices (λ k d less. real-below g (get_or c.vertices k d) (printed.odd.real k d less)) in
     let fall = fall-from_rising c.vertices printed.rising in
     let virtual = none-from_all (is_in g.virtuals) c.vertices
     (λ k d less. virtual-from_real (nat_lt (get_or c.vertices k d) g.vertices) (is_in g.virtuals (get_or c.vertices k d)) (printed.odd.real k d less)) in
     none_of_six (length c.vertices == 0) (is_some (first_fall c.vertices)) (is_lt (slice_cmp nat_cmp before c.vertices))
-    (is_odd_count (is_in defects) c.vertices) (first_beyond g.vertices c.vertices) (find (is_in g.virtuals) c.vertices)
+    (is_odd_count (is_in shot.defects) c.vertices) (first_beyond g.vertices c.vertices) (find (is_in g.virtuals) c.vertices)
     empty (ap is_some fall) (ap is_lt order) printed.odd.odd beyond virtual
   where
     none_of_six : (a b l o : Bool) (x y : Option ℕ) → a ≡ false → b ≡ false → l ≡ true → o ≡ true → x ≡ None → y ≡ None
@@ -143,13 +143,13 @@ none-from_cut g defects j before c printed order =
     none_of_six false false true true (Some k) y e f h i u v = cc
     none_of_six false false true true None (Some k) e f h i u v = cc
 
-none-from_cuts : (g : DecodingGraph) (defects : List ℕ) (j : ℕ) (before : List ℕ) (cuts : List Cut)
-    → All (IsPrintedCut (problem_of g defects)) cuts → AreRising (as_cut before ∷ cuts) → cuts_fault g defects j before cuts ≡ None
-none-from_cuts g defects j before [] printed rising = refl
-none-from_cuts g defects j before (c ∷ cs) printed rising =
-    ap (λ o. option_or o (cuts_fault g defects (j + 1) c.vertices cs))
-    (none-from_cut g defects j before c (All-head (IsPrintedCut (problem_of g defects)) c cs printed) rising.0)
-    ∙ none-from_cuts g defects (j + 1) c.vertices cs (All-tail (IsPrintedCut (problem_of g defects)) c cs printed)
+none-from_cuts : (g : DecodingGraph) (shot : ShotValue) (j : ℕ) (before : List ℕ) (cuts : List Cut)
+    → All (IsPrintedCut (problem_of g shot)) cuts → AreRising (as_cut before ∷ cuts) → cuts_fault g shot j before cuts ≡ None
+none-from_cuts g shot j before [] printed rising = refl
+none-from_cuts g shot j before (c ∷ cs) printed rising =
+    ap (λ o. option_or o (cuts_fault g shot (j + 1) c.vertices cs))
+    (none-from_cut g shot j before c (All-head (IsPrintedCut (problem_of g shot)) c cs printed) rising.0)
+    ∙ none-from_cuts g shot (j + 1) c.vertices cs (All-tail (IsPrintedCut (problem_of g shot)) c cs printed)
     (before_same c (as_cut c.vertices) refl cs rising.1.0, rising.1.1)
 
 before_nothing : (p : Problem) (cuts : List Cut) → All (IsPrintedCut p) cuts → IsBefore (as_cut []) cuts
@@ -160,16 +160,16 @@ before_nothing p (c ∷ cs) printed = step c.vertices (All-head (IsPrintedCut p)
     step [] e = absurd (false≢true e)
     step (v ∷ vs) e = refl
 
-none-from_best : (g : DecodingGraph) (defects edges : List ℕ) (weight : ℕ) (cuts : List Cut)
-    → IsBest (problem_of g defects) edges weight cuts → best_fault g defects edges weight cuts ≡ None
-none-from_best g defects edges weight cuts best =
+none-from_best : (g : DecodingGraph) (shot : ShotValue) (edges : List ℕ) (weight : ℕ) (cuts : List Cut)
+    → IsBest (problem_of g shot) edges weight cuts → best_fault g shot edges weight cuts ≡ None
+none-from_best g shot edges weight cuts best =
     none_of_seven _ _ _ _ _ _ _
     (ap (option_map EdgeOutOfRange) (beyond-from_below (length g.edges) edges best.edge_set.within))
     (ap (option_map EdgesNotRising) (fall-from_rising edges best.edge_set.rising))
-    (ap (option_map WrongParity) (none-from_flips g defects edges best.flips))
-    (two-same WeightNotSum weight (weight_of (problem_of g defects) edges) best.weighs)
-    (none-from_cuts g defects 0 [] cuts best.printed (before_nothing (problem_of g defects) cuts best.printed, best.rising))
-    (ap (option_map Overloaded) (none-from_fits g defects cuts best.fits))
+    (ap (option_map WrongParity) (none-from_flips g shot edges best.flips))
+    (two-same WeightNotSum weight (weight_of (problem_of g shot) edges) best.weighs)
+    (none-from_cuts g shot 0 [] cuts best.printed (before_nothing (problem_of g shot) cuts best.printed, best.rising))
+    (ap (option_map Overloaded) (none-from_fits g shot cuts best.fits))
     (two-same SumDiffers weight (total_value cuts) best.total)
   where
     none_of_seven : (a b c d e f h : Option Verdict) → a ≡ None → b ≡ None → c ≡ None → d ≡ None → e ≡ None → f ≡ None → h ≡ None
@@ -184,30 +184,30 @@ first_odd_once p (Some u) None f g = absurd (g u f.0)
 first_odd_once p (Some u) (Some v) f g =
     ap Some (elim (cases_lt u v) [ inl less ↦ absurd (g.1 u less f.0) | inr more ↦ elim (cases_lt v u) [ inl less ↦ absurd (f.1 v less g.0) | inr low ↦ omega arith ] ])
 
-pub odd_good : (g : DecodingGraph) (defects : List ℕ) (v : ℕ) (first : Option ℕ) → IsFirstOdd (problem_of g defects) first
-    → first ≡ Some v → IsOddVerdict g defects v Good
-odd_good g defects v first odd same = inl (subst (IsFirstOdd (problem_of g defects)) same odd, refl)
+pub odd_good : (g : DecodingGraph) (shot : ShotValue) (v : ℕ) (first : Option ℕ) → IsFirstOdd (problem_of g shot) first
+    → first ≡ Some v → IsOddVerdict g shot v Good
+odd_good g shot v first odd same = inl (subst (IsFirstOdd (problem_of g shot)) same odd, refl)
 
-pub odd_wrong : (g : DecodingGraph) (defects : List ℕ) (v : ℕ) (first : Option ℕ) → IsFirstOdd (problem_of g defects) first
-    → first ≢ Some v → IsOddVerdict g defects v (OddWrong v)
-odd_wrong g defects v first odd other =
-    inr (λ f. other (first_odd_once (problem_of g defects) first (Some v) odd f), refl)
+pub odd_wrong : (g : DecodingGraph) (shot : ShotValue) (v : ℕ) (first : Option ℕ) → IsFirstOdd (problem_of g shot) first
+    → first ≢ Some v → IsOddVerdict g shot v (OddWrong v)
+odd_wrong g shot v first odd other =
+    inr (λ f. other (first_odd_once (problem_of g shot) first (Some v) odd f), refl)
 
-pub right-from_good : (g : DecodingGraph) (defects : List ℕ) (row : Row) (v : Verdict) → HasPositiveValues row
-    → IsVerdict g defects row v → v ≡ Good → IsRight (problem_of g defects) row
-right-from_good g defects (Best edges weight cuts) v positive is good =
-    let best = best-from_none g defects edges weight cuts positive
-    (none_from_good (best_fault g defects edges weight cuts) (best_bad g defects edges weight cuts) (sym is ∙ good)) in
-    (best_has_no_odd (problem_of g defects) edges weight cuts best, best)
-right-from_good g defects (Odd u) v positive (inl (first, is)) good = first
-right-from_good g defects (Odd u) v positive (inr (other, is)) good = cc
+pub right-from_good : (g : DecodingGraph) (shot : ShotValue) (row : Row) (v : Verdict) → HasPositiveValues row
+    → IsVerdict g shot row v → v ≡ Good → IsRight (problem_of g shot) row
+right-from_good g shot (Best edges weight cuts) v positive is good =
+    let best = best-from_none g shot edges weight cuts positive
+    (none_from_good (best_fault g shot edges weight cuts) (best_bad g shot edges weight cuts) (sym is ∙ good)) in
+    (best_has_no_odd (problem_of g shot) edges weight cuts best, best)
+right-from_good g shot (Odd u) v positive (inl (first, is)) good = first
+right-from_good g shot (Odd u) v positive (inr (other, is)) good = cc
 
-pub good-from_right : (g : DecodingGraph) (defects : List ℕ) (row : Row) (v : Verdict) → IsVerdict g defects row v
-    → IsRight (problem_of g defects) row → v ≡ Good
-good-from_right g defects (Best edges weight cuts) v is right =
-    is ∙ ap (λ o. unwrap_or o Good) (none-from_best g defects edges weight cuts right.1)
-good-from_right g defects (Odd u) v (inl (first, is)) right = is
-good-from_right g defects (Odd u) v (inr (other, is)) right = absurd (other right)
+pub good-from_right : (g : DecodingGraph) (shot : ShotValue) (row : Row) (v : Verdict) → IsVerdict g shot row v
+    → IsRight (problem_of g shot) row → v ≡ Good
+good-from_right g shot (Best edges weight cuts) v is right =
+    is ∙ ap (λ o. unwrap_or o Good) (none-from_best g shot edges weight cuts right.1)
+good-from_right g shot (Odd u) v (inl (first, is)) right = is
+good-from_right g shot (Odd u) v (inr (other, is)) right = absurd (other right)
 
 pub least-from_right : (p : Problem) (row : Row) → IsRight p row → IsLeastWeight p row
 least-from_right p (Best edges weight cuts) right = least_weight p edges weight cuts right.1
@@ -216,13 +216,13 @@ least-from_right p (Odd v) right = λ other set flips. no_correction p v right.0
 pub some_same : (u v : ℕ) → Some u ≡ Some v → u ≡ v
 some_same u v e = ap (λ o. unwrap_or o 0) e
 
-pub ok_good : {E : Type 0} (g : DecodingGraph) (defects : List ℕ) (row : Row) (r : Result Verdict E) → HasPositiveValues row
-    → IfOk r (IsVerdict g defects row) → IfOk r (λ v. v ≡ Good ↔ IsRight (problem_of g defects) row)
-ok_good g defects row (Ok v) positive is = (right-from_good g defects row v positive is, good-from_right g defects row v is)
-ok_good g defects row (Err e) positive is = is
+pub ok_good : {E : Type 0} (g : DecodingGraph) (shot : ShotValue) (row : Row) (r : Result Verdict E) → HasPositiveValues row
+    → IfOk r (IsVerdict g shot row) → IfOk r (λ v. v ≡ Good ↔ IsRight (problem_of g shot) row)
+ok_good g shot row (Ok v) positive is = (right-from_good g shot row v positive is, good-from_right g shot row v is)
+ok_good g shot row (Err e) positive is = is
 
-pub ok_least : {E : Type 0} (g : DecodingGraph) (defects : List ℕ) (row : Row) (r : Result Verdict E) → HasPositiveValues row
-    → IfOk r (IsVerdict g defects row) → IfOk r (λ v. v ≡ Good → IsLeastWeight (problem_of g defects) row)
-ok_least g defects row (Ok v) positive is =
-    λ good. least-from_right (problem_of g defects) row (right-from_good g defects row v positive is good)
-ok_least g defects row (Err e) positive is = is
+pub ok_least : {E : Type 0} (g : DecodingGraph) (shot : ShotValue) (row : Row) (r : Result Verdict E) → HasPositiveValues row
+    → IfOk r (IsVerdict g shot row) → IfOk r (λ v. v ≡ Good → IsLeastWeight (problem_of g shot) row)
+ok_least g shot row (Ok v) positive is =
+    λ good. least-from_right (problem_of g shot) row (right-from_good g shot row v positive is good)
+ok_least g shot row (Err e) positive is = is

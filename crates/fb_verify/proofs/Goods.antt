@@ -10,7 +10,7 @@ use Rattle.std.specs.declared.cmp.Ordering.TheVariants.{Less, Equal, Greater}
 use Rattle.std.proofs.lemmas.Bool.{eqb-true, false≢true, lt-ltb, ltb-true}
 use Rattle.std.proofs.lemmas.List.Elements.{All-cons, All-head, All-nil, All-tail}
 use Rattle.fb_graph.specs.Certificate.{AreDistinct, AreRising, IsBefore, IsOddCut}
-use Rattle.fb_graph.specs.Limits.{DecodingGraph, problem_of}
+use Rattle.fb_graph.specs.Limits.{DecodingGraph, ShotValue, problem_of}
 use Rattle.fb_graph.specs.Parity.{is_in, is_odd_count}
 use Rattle.fb_graph.specs.Problem.{Problem}
 use Rattle.fb_graph.specs.declared.parts.Cut.{Cut}
@@ -61,20 +61,20 @@ two_bad f bad a b e = step (a == b) e
     step true e = cc
     step false e = bad a b cc
 
-cut_bad : (g : DecodingGraph) (defects : List ℕ) (j : ℕ) (before vertices : List ℕ) → cut_fault g defects j before vertices ≢ Some Good
-cut_bad g defects j before vertices =
+cut_bad : (g : DecodingGraph) (shot : ShotValue) (j : ℕ) (before vertices : List ℕ) → cut_fault g shot j before vertices ≢ Some Good
+cut_bad g shot j before vertices =
     or_bad (fault_where (length vertices == 0) (CutEmpty j)) _ (where_bad (length vertices == 0) (CutEmpty j) (λ e. cc))
     (or_bad (option_map VertexOutOfRange (first_beyond g.vertices vertices)) _ (map_bad VertexOutOfRange (λ k e. cc) (first_beyond g.vertices vertices))
     (or_bad (fault_where (is_some (first_fall vertices)) (CutsNotRising j)) _ (where_bad (is_some (first_fall vertices)) (CutsNotRising j) (λ e. cc))
     (or_bad (fault_where (not (is_lt (slice_cmp nat_cmp before vertices))) (CutsNotRising j)) _ (where_bad (not (is_lt (slice_cmp nat_cmp before vertices))) (CutsNotRising j) (λ e. cc))
     (or_bad (option_map CutHoldsVirtual (find (is_in g.virtuals) vertices)) _ (map_bad CutHoldsVirtual (λ k e. cc) (find (is_in g.virtuals) vertices))
-    (or_bad (fault_where (not (is_odd_count (is_in defects) vertices)) (CutEven j)) None (where_bad (not (is_odd_count (is_in defects) vertices)) (CutEven j) (λ e. cc)) (λ e. cc))))))
+    (or_bad (fault_where (not (is_odd_count (is_in shot.defects) vertices)) (CutEven j)) None (where_bad (not (is_odd_count (is_in shot.defects) vertices)) (CutEven j) (λ e. cc)) (λ e. cc))))))
 
-pub cuts_bad : (g : DecodingGraph) (defects : List ℕ) (j : ℕ) (before : List ℕ) (cuts : List Cut) → cuts_fault g defects j before cuts ≢ Some Good
-cuts_bad g defects j before [] = λ e. cc
-cuts_bad g defects j before (c ∷ cs) =
-    or_bad (cut_fault g defects j before c.vertices) (cuts_fault g defects (j + 1) c.vertices cs)
-    (cut_bad g defects j before c.vertices) (cuts_bad g defects (j + 1) c.vertices cs)
+pub cuts_bad : (g : DecodingGraph) (shot : ShotValue) (j : ℕ) (before : List ℕ) (cuts : List Cut) → cuts_fault g shot j before cuts ≢ Some Good
+cuts_bad g shot j before [] = λ e. cc
+cuts_bad g shot j before (c ∷ cs) =
+    or_bad (cut_fault g shot j before c.vertices) (cuts_fault g shot (j + 1) c.vertices cs)
+    (cut_bad g shot j before c.vertices) (cuts_bad g shot (j + 1) c.vertices cs)
 
 -- rising lists
 rising_after : (k : ℕ) (ks : List ℕ) → first_fall_after k ks ≡ None → IsStrictlyIncreasing (k ∷ ks)
@@ -151,16 +151,16 @@ pub before_same : (a b : Cut) → a.vertices ≡ b.vertices → (cuts : List Cut
 before_same a b same [] before = tt
 before_same a b same (c ∷ cs) before = ap (λ vs. slice_cmp nat_cmp vs c.vertices) (sym same) ∙ before
 
-cut-from_none : (g : DecodingGraph) (defects : List ℕ) (j : ℕ) (before : List ℕ) (c : Cut)
-    → cut_fault g defects j before c.vertices ≡ None
-    → IsListed (problem_of g defects) c × (slice_cmp nat_cmp before c.vertices ≡ Less)
-cut-from_none g defects j before c none =
+cut-from_none : (g : DecodingGraph) (shot : ShotValue) (j : ℕ) (before : List ℕ) (c : Cut)
+    → cut_fault g shot j before c.vertices ≡ None
+    → IsListed (problem_of g shot) c × (slice_cmp nat_cmp before c.vertices ≡ Less)
+cut-from_none g shot j before c none =
     let (empty, others) = or_none (fault_where (length c.vertices == 0) (CutEmpty j)) _ none in
     let (beyond, rest) = or_none (option_map VertexOutOfRange (first_beyond g.vertices c.vertices)) _ others in
     let (fall, rest_2) = or_none (fault_where (is_some (first_fall c.vertices)) (CutsNotRising j)) _ rest in
     let (order, rest_3) = or_none (fault_where (not (is_lt (slice_cmp nat_cmp before c.vertices))) (CutsNotRising j)) _ rest_2 in
     let (virtual, rest_4) = or_none (option_map CutHoldsVirtual (find (is_in g.virtuals) c.vertices)) _ rest_3 in
-    let (even, rest_5) = or_none (fault_where (not (is_odd_count (is_in defects) c.vertices)) (CutEven j)) None rest_4 in
+    let (even, rest_5) = or_none (fault_where (not (is_odd_count (is_in shot.defects) c.vertices)) (CutEven j)) None rest_4 in
     let rising : IsStrictlyIncreasing c.vertices =
     rising-from_fall c.vertices (is_some-none (first_fall c.vertices) (where_none (is_some (first_fall c.vertices)) (CutsNotRising j) fall)) in
     let below = below-from_beyond g.vertices c.vertices (map_none VertexOutOfRange (first_beyond g.vertices c.vertices) beyond) in
@@ -170,8 +170,8 @@ cut-from_none g defects j before c none =
           distinct = distinct_from_rising c.vertices rising;
           real = λ k d less. both_true (nat_lt (get_or c.vertices k d) g.vertices) (is_in g.virtuals (get_or c.vertices k d))
               (lt-ltb (get_or c.vertices k d) g.vertices (below k d less)) (real k d less);
-          odd = not_false (is_odd_count (is_in defects) c.vertices)
-              (where_none (not (is_odd_count (is_in defects) c.vertices)) (CutEven j) even);
+          odd = not_false (is_odd_count (is_in shot.defects) c.vertices)
+              (where_none (not (is_odd_count (is_in shot.defects) c.vertices)) (CutEven j) even);
         };
         rising = rising;
       },
@@ -180,26 +180,26 @@ cut-from_none g defects j before c none =
           (where_none (not (is_lt (slice_cmp nat_cmp before c.vertices))) (CutsNotRising j) order)),
     )
 
-pub cuts-from_none : (g : DecodingGraph) (defects : List ℕ) (j : ℕ) (before : List ℕ) (cuts : List Cut)
-    → cuts_fault g defects j before cuts ≡ None
-    → All (IsListed (problem_of g defects)) cuts × AreRising (as_cut before ∷ cuts)
-cuts-from_none g defects j before [] none = (All-nil _, (tt, tt))
-cuts-from_none g defects j before (c ∷ cs) none =
-    let (here, later) = or_none (cut_fault g defects j before c.vertices) (cuts_fault g defects (j + 1) c.vertices cs) none in
-    let (listed, order) = cut-from_none g defects j before c here in
-    let (all, rising) = cuts-from_none g defects (j + 1) c.vertices cs later in (
-      All-cons (IsListed (problem_of g defects)) c cs listed all,
+pub cuts-from_none : (g : DecodingGraph) (shot : ShotValue) (j : ℕ) (before : List ℕ) (cuts : List Cut)
+    → cuts_fault g shot j before cuts ≡ None
+    → All (IsListed (problem_of g shot)) cuts × AreRising (as_cut before ∷ cuts)
+cuts-from_none g shot j before [] none = (All-nil _, (tt, tt))
+cuts-from_none g shot j before (c ∷ cs) none =
+    let (here, later) = or_none (cut_fault g shot j before c.vertices) (cuts_fault g shot (j + 1) c.vertices cs) none in
+    let (listed, order) = cut-from_none g shot j before c here in
+    let (all, rising) = cuts-from_none g shot (j + 1) c.vertices cs later in (
+      All-cons (IsListed (problem_of g shot)) c cs listed all,
       (order, (before_same (as_cut c.vertices) c refl cs rising.0, rising.1)),
     )
 
 -- none of the cuts has a vertex twice or out of range
-pub cuts_distinct : (g : DecodingGraph) (defects : List ℕ) (cuts : List Cut) → cuts_fault g defects 0 [] cuts ≡ None
+pub cuts_distinct : (g : DecodingGraph) (shot : ShotValue) (cuts : List Cut) → cuts_fault g shot 0 [] cuts ≡ None
     → All (λ c. AreDistinct c.vertices) cuts
-cuts_distinct g defects cuts none k d less = ((cuts-from_none g defects 0 [] cuts none).0 k d less).odd.distinct
+cuts_distinct g shot cuts none k d less = ((cuts-from_none g shot 0 [] cuts none).0 k d less).odd.distinct
 
-pub cuts_below : (g : DecodingGraph) (defects : List ℕ) (cuts : List Cut) → cuts_fault g defects 0 [] cuts ≡ None
+pub cuts_below : (g : DecodingGraph) (shot : ShotValue) (cuts : List Cut) → cuts_fault g shot 0 [] cuts ≡ None
     → All (λ c. All (λ v. v < g.vertices) c.vertices) cuts
-cuts_below g defects cuts none k d less i e within =
-    real-below g _ (((cuts-from_none g defects 0 [] cuts none).0 k d less).odd.real i e within)
+cuts_below g shot cuts none k d less i e within =
+    real-below g _ (((cuts-from_none g shot 0 [] cuts none).0 k d less).odd.real i e within)
 
 pub ruleset checked = (below-from_beyond, cuts_distinct, cuts_below)

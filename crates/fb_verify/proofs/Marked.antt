@@ -7,7 +7,7 @@ use Rattle.std.proofs.lemmas.Bool.{and_parts, lt-ltb, ltb-true}
 use Rattle.std.proofs.lemmas.List.Elements.{All-head, All-tail, All-cons, All-nil, All-append}
 use Rattle.fb_graph.specs.Parity.{differ, is_in, is_odd_count}
 use Rattle.fb_graph.specs.Problem.{touches, edge_at, no_edge}
-use Rattle.fb_graph.specs.Limits.{DecodingGraph, IsEdge, IsGraph, IsShot, is_real_in}
+use Rattle.fb_graph.specs.Limits.{DecodingGraph, IsEdge, IsGraph, IsShot, ShotValue, is_real_in, problem_of}
 use Rattle.fb_graph.proofs.ParitySums.{and_comm, differ-false, odd-append, odd_same, odd-flat_map, differ_assoc}
 use Rattle.fb_graph.proofs.Sets.{All-from_is_in, is_in-All, distinct_from_rising, odd_equal, equal_sym}
 use Rattle.fb_verify.specs.Marks.{ends_of}
@@ -31,19 +31,19 @@ ends_below g (k ∷ ks) graph all =
 pub real-below : (g : DecodingGraph) (v : ℕ) → is_real_in g v ≡ true → v < g.vertices
 real-below g v real = ltb-true v g.vertices (and_parts (nat_lt v g.vertices) (not (is_in g.virtuals v)) real).0
 
-pub marks_below : (g : DecodingGraph) (defects ks : List ℕ) → IsGraph g → IsShot g defects → All (λ k. k < length g.edges) ks
-    → All (λ v. v < g.vertices) (ends_of g.edges ks ++ defects)
-marks_below g defects ks graph shot within =
-    All-append (λ v. v < g.vertices) (ends_of g.edges ks) defects (ends_below g ks graph within)
-    (λ k d less. real-below g (get_or defects k d) (shot.real k d less))
+pub marks_below : (g : DecodingGraph) (shot : ShotValue) (ks : List ℕ) → IsGraph g → IsShot g shot → All (λ k. k < length g.edges) ks
+    → All (λ v. v < g.vertices) (ends_of g.edges ks ++ shot.defects)
+marks_below g shot ks graph is_shot within =
+    All-append (λ v. v < g.vertices) (ends_of g.edges ks) shot.defects (ends_below g ks graph within)
+    (λ k d less. real-below g (get_or shot.defects k d) (is_shot.real k d less))
 
-pub odd-marks : (g : DecodingGraph) (defects ks : List ℕ) → IsShot g defects → (v : ℕ)
-    → is_odd_count (λ u. u == v) (ends_of g.edges ks ++ defects)
-    ≡ differ (is_odd_count (λ k. touches v (edge_at g.edges k)) ks) (is_in defects v)
-odd-marks g defects ks shot v =
-    odd-append (λ u. u == v) (ends_of g.edges ks) defects
-    ∙ (ap (λ b. differ b (is_odd_count (λ u. u == v) defects)) ends
-    ∙ ap (differ (is_odd_count (λ k. touches v (edge_at g.edges k)) ks)) (odd_equal defects v (distinct_from_rising defects shot.rising)))
+pub odd-marks : (g : DecodingGraph) (shot : ShotValue) (ks : List ℕ) → IsShot g shot → (v : ℕ)
+    → is_odd_count (λ u. u == v) (ends_of g.edges ks ++ shot.defects)
+    ≡ differ (is_odd_count (λ k. touches v (edge_at g.edges k)) ks) (is_in shot.defects v)
+odd-marks g shot ks is_shot v =
+    odd-append (λ u. u == v) (ends_of g.edges ks) shot.defects
+    ∙ (ap (λ b. differ b (is_odd_count (λ u. u == v) shot.defects)) ends
+    ∙ ap (differ (is_odd_count (λ k. touches v (edge_at g.edges k)) ks)) (odd_equal shot.defects v (distinct_from_rising shot.defects is_shot.rising)))
   where
     two : (k : ℕ) → is_odd_count (λ u. u == v) ((edge_at g.edges k).first ∷ (edge_at g.edges k).second ∷ []) ≡ touches v (edge_at g.edges k)
     two k =
@@ -60,16 +60,16 @@ pub odd-below : (odd marks : List ℕ) (n : ℕ) → ((v : ℕ) → is_in odd v 
     → All (λ v. v < n) marks → All (λ v. v < n) odd
 odd-below odd marks n inside below = All-from_is_in (λ v. v < n) odd (λ v h. is_in-All (λ u. u < n) marks below v (inside v h))
 
-pub least_wrong : (g : DecodingGraph) (defects ks odd : List ℕ) → IsShot g defects → IsStrictlyIncreasing odd
+pub least_wrong : (g : DecodingGraph) (shot : ShotValue) (ks odd : List ℕ) → IsShot g shot → IsStrictlyIncreasing odd
     → All (λ v. v < g.vertices) odd
-    → ((test : ℕ → Bool) → is_odd_count test odd ≡ is_odd_count test (ends_of g.edges ks ++ defects))
-    → find (λ v. not (is_in g.virtuals v)) odd ≡ least_below g.vertices (has_wrong_parity g defects ks)
-least_wrong g defects ks odd shot rising below parity =
-    least-from_rising (λ v. not (is_in g.virtuals v)) (has_wrong_parity g defects ks) odd g.vertices rising below same
+    → ((test : ℕ → Bool) → is_odd_count test odd ≡ is_odd_count test (ends_of g.edges ks ++ shot.defects))
+    → find (λ v. not (is_in g.virtuals v)) odd ≡ least_below g.vertices (has_wrong_parity (problem_of g shot) ks)
+least_wrong g shot ks odd is_shot rising below parity =
+    least-from_rising (λ v. not (is_in g.virtuals v)) (has_wrong_parity (problem_of g shot) ks) odd g.vertices rising below same
   where
-    same : (v : ℕ) → v < g.vertices → (is_in odd v && not (is_in g.virtuals v)) ≡ has_wrong_parity g defects ks v
+    same : (v : ℕ) → v < g.vertices → (is_in odd v && not (is_in g.virtuals v)) ≡ has_wrong_parity (problem_of g shot) ks v
     same v less =
         ap (λ b. b && not (is_in g.virtuals v))
-        (sym (odd_equal odd v (distinct_from_rising odd rising)) ∙ (parity (λ u. u == v) ∙ odd-marks g defects ks shot v))
-        ∙ (and_comm (differ (is_odd_count (λ k. touches v (edge_at g.edges k)) ks) (is_in defects v)) (not (is_in g.virtuals v))
-        ∙ ap (λ b. (b && not (is_in g.virtuals v)) && differ (is_odd_count (λ k. touches v (edge_at g.edges k)) ks) (is_in defects v)) (sym (lt-ltb v g.vertices less)))
+        (sym (odd_equal odd v (distinct_from_rising odd rising)) ∙ (parity (λ u. u == v) ∙ odd-marks g shot ks is_shot v))
+        ∙ (and_comm (differ (is_odd_count (λ k. touches v (edge_at g.edges k)) ks) (is_in shot.defects v)) (not (is_in g.virtuals v))
+        ∙ ap (λ b. (b && not (is_in g.virtuals v)) && differ (is_odd_count (λ k. touches v (edge_at g.edges k)) ks) (is_in shot.defects v)) (sym (lt-ltb v g.vertices less)))

@@ -9,7 +9,7 @@ use Rattle.fb_graph.specs.Parity.{differ, is_odd_count, is_in}
 use Rattle.fb_graph.specs.Problem.{Problem, Flips, IsEdgeSet, edge_at, touches, weight_of}
 use Rattle.fb_graph.specs.Certificate.{load_of, total_value}
 use Rattle.fb_graph.specs.Components.{IsFirstOdd}
-use Rattle.fb_graph.specs.Limits.{DecodingGraph, is_real_in, problem_of}
+use Rattle.fb_graph.specs.Limits.{DecodingGraph, ShotValue, problem_of}
 use Rattle.fb_graph.specs.declared.parts.Cut.{Cut}
 use Rattle.fb_graph.specs.declared.parts.Row.{Row}
 use Rattle.fb_graph.specs.declared.parts.Row.TheVariants.{Best, Odd}
@@ -34,14 +34,14 @@ first_fall (k ∷ ks) = first_fall_after k ks
 abbrev pub least_below : ℕ → (ℕ → Bool) → Option ℕ
 least_below n test = find test (range_with_len 0 n)
 
--- the vertex is real, and the parity of the edges there isn't the shot's
-abbrev pub has_wrong_parity : DecodingGraph → List ℕ → List ℕ → ℕ → Bool
-has_wrong_parity g defects edges v =
-    is_real_in g v && differ (is_odd_count (λ k. touches v (edge_at g.edges k)) edges) (is_in defects v)
+-- the vertex is real, and the parity of the edges there isn't the defects'
+abbrev pub has_wrong_parity : Problem → List ℕ → ℕ → Bool
+has_wrong_parity p edges v =
+    p.is_real v && differ (is_odd_count (λ k. touches v (edge_at p.edges k)) edges) (p.is_defect v)
 
 -- the cuts load the edge above its weight
-abbrev pub is_overloaded : DecodingGraph → List Cut → ℕ → Bool
-is_overloaded g cuts k = nat_lt (edge_at g.edges k).weight (load_of cuts (edge_at g.edges k))
+abbrev pub is_overloaded : Problem → List Cut → ℕ → Bool
+is_overloaded p cuts k = nat_lt (edge_at p.edges k).weight (load_of cuts (edge_at p.edges k))
 
 -- the fault where the condition holds
 abbrev pub fault_where : Bool → Verdict → Option Verdict
@@ -58,48 +58,48 @@ first_of (fault ∷ faults) = option_or fault (first_of faults)
 
 -- the first fault of cut j, given the vertices of the cut before it (none before the first: the empty list stands
 -- before all others)
-abbrev pub cut_fault : DecodingGraph → List ℕ → ℕ → List ℕ → List ℕ → Option Verdict
-cut_fault g defects j before vertices = first_of (
+abbrev pub cut_fault : DecodingGraph → ShotValue → ℕ → List ℕ → List ℕ → Option Verdict
+cut_fault g shot j before vertices = first_of (
     fault_where (length vertices == 0) (CutEmpty j)
     ∷ option_map VertexOutOfRange (first_beyond g.vertices vertices)
     ∷ fault_where (is_some (first_fall vertices)) (CutsNotRising j)
     ∷ fault_where (not (is_lt (slice_cmp nat_cmp before vertices))) (CutsNotRising j)
     ∷ option_map CutHoldsVirtual (find (is_in g.virtuals) vertices)
-    ∷ fault_where (not (is_odd_count (is_in defects) vertices)) (CutEven j)
+    ∷ fault_where (not (is_odd_count (is_in shot.defects) vertices)) (CutEven j)
     ∷ [])
 
 -- the first fault of the first faulty cut, the cuts being counted from j on
-abbrev pub cuts_fault : DecodingGraph → List ℕ → ℕ → List ℕ → List Cut → Option Verdict
-cuts_fault g defects j before [] = None
-cuts_fault g defects j before (c ∷ cs) =
-    option_or (cut_fault g defects j before c.vertices) (cuts_fault g defects (j + 1) c.vertices cs)
+abbrev pub cuts_fault : DecodingGraph → ShotValue → ℕ → List ℕ → List Cut → Option Verdict
+cuts_fault g shot j before [] = None
+cuts_fault g shot j before (c ∷ cs) =
+    option_or (cut_fault g shot j before c.vertices) (cuts_fault g shot (j + 1) c.vertices cs)
 
 -- the first fault of a correction with its certificate
-abbrev pub best_fault : DecodingGraph → List ℕ → List ℕ → ℕ → List Cut → Option Verdict
-best_fault g defects edges weight cuts = first_of (
+abbrev pub best_fault : DecodingGraph → ShotValue → List ℕ → ℕ → List Cut → Option Verdict
+best_fault g shot edges weight cuts = first_of (
     option_map EdgeOutOfRange (first_beyond (length g.edges) edges)
     ∷ option_map EdgesNotRising (first_fall edges)
-    ∷ option_map WrongParity (least_below g.vertices (has_wrong_parity g defects edges))
-    ∷ fault_of_two WeightNotSum weight (weight_of (problem_of g defects) edges)
-    ∷ cuts_fault g defects 0 [] cuts
-    ∷ option_map Overloaded (least_below (length g.edges) (is_overloaded g cuts))
+    ∷ option_map WrongParity (least_below g.vertices (has_wrong_parity (problem_of g shot) edges))
+    ∷ fault_of_two WeightNotSum weight (weight_of (problem_of g shot) edges)
+    ∷ cuts_fault g shot 0 [] cuts
+    ∷ option_map Overloaded (least_below (length g.edges) (is_overloaded (problem_of g shot) cuts))
     ∷ fault_of_two SumDiffers weight (total_value cuts)
     ∷ [])
 
 -- what a check finds of a correction with its certificate
-abbrev pub best_verdict : DecodingGraph → List ℕ → List ℕ → ℕ → List Cut → Verdict
-best_verdict g defects edges weight cuts = unwrap_or (best_fault g defects edges weight cuts) Good
+abbrev pub best_verdict : DecodingGraph → ShotValue → List ℕ → ℕ → List Cut → Verdict
+best_verdict g shot edges weight cuts = unwrap_or (best_fault g shot edges weight cuts) Good
 
 -- What a check finds of an odd row. Which component is the first odd one is a relation, and so this is one.
-abbrev pub IsOddVerdict : DecodingGraph → List ℕ → ℕ → Verdict → Type 0
-IsOddVerdict g defects v verdict =
-    (IsFirstOdd (problem_of g defects) (Some v) × (verdict ≡ Good))
-    ⊎ ((¬ IsFirstOdd (problem_of g defects) (Some v)) × (verdict ≡ OddWrong v))
+abbrev pub IsOddVerdict : DecodingGraph → ShotValue → ℕ → Verdict → Type 0
+IsOddVerdict g shot v verdict =
+    (IsFirstOdd (problem_of g shot) (Some v) × (verdict ≡ Good))
+    ⊎ ((¬ IsFirstOdd (problem_of g shot) (Some v)) × (verdict ≡ OddWrong v))
 
 -- what a check finds of a row
-abbrev pub IsVerdict : DecodingGraph → List ℕ → Row → Verdict → Type 0
-IsVerdict g defects (Best edges weight cuts) verdict = verdict ≡ best_verdict g defects edges weight cuts
-IsVerdict g defects (Odd v) verdict = IsOddVerdict g defects v verdict
+abbrev pub IsVerdict : DecodingGraph → ShotValue → Row → Verdict → Type 0
+IsVerdict g shot (Best edges weight cuts) verdict = verdict ≡ best_verdict g shot edges weight cuts
+IsVerdict g shot (Odd v) verdict = IsOddVerdict g shot v verdict
 
 -- the row's cuts have values of at least 1, as a report that is read has them
 abbrev pub HasPositiveValues : Row → Type 0

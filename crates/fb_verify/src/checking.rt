@@ -13,7 +13,7 @@ use crate::numbers::{beyond, fall};
 use crate::parities::wrong_parity;
 use crate::sums::{sum_of_values, sum_of_weights};
 use crate::verdicts::Verdict;
-use fb_graph::{Components, Cut, Graph, NoMemory, Row, Shot, components, first_odd};
+use fb_graph::{Components, Cut, Graph, NoMemory, Row, Shot, Whole, components, first_odd};
 use std::alloc::Global;
 use std::marker::Model;
 
@@ -32,10 +32,10 @@ pub fn check_row(alloc: Global, graph: &Graph, shot: &Shot, row: &Row) -> Result
 
 /// A check of the rows of one graph, which contracts see as that graph. Its components are found for the first odd
 /// row and kept, so that each further one takes time by the number of defects.
-#[derive(Debug, Drop)]
+#[derive(Drop)]
 pub struct Judge<'a> {
     graph: &'a Graph,
-    parts: Option<Components<'a>>,
+    parts: Option<Components<Whole<'a>>>,
 }
 
 impl<'a> Model for Judge<'a> {
@@ -46,7 +46,7 @@ impl<'a> Model for Judge<'a> {
 
     ghost view = { λ j. j.graph.now };
 
-    ghost invariant = { λ j. IfSome j.parts (λ parts. parts ≡ j.graph.now) };
+    ghost invariant = { λ j. IfSome j.parts (λ parts. parts.0.now ≡ j.graph.now) };
 }
 
 impl<'a> Judge<'a> {
@@ -109,10 +109,10 @@ impl<'a> Judge<'a> {
 fn kept_or_found<'a>(
     alloc: Global,
     graph: &'a Graph,
-    kept: Option<Components<'a>>,
-) -> Result<Components<'a>, NoMemory>
-    requires { IfSome kept (λ parts. parts ≡ graph.now) }
-    ensures { IfOk result (λ parts. parts ≡ graph.entry.now) }
+    kept: Option<Components<Whole<'a>>>,
+) -> Result<Components<Whole<'a>>, NoMemory>
+    requires { IfSome kept (λ parts. parts.0.now ≡ graph.now) }
+    ensures { IfOk result (λ parts. parts.0.now ≡ graph.entry.now) }
 {
     match kept {
         Some(parts) => Ok(parts),

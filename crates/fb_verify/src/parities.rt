@@ -2,7 +2,7 @@
 
 ghost use Rattle.std.specs.Prelude.{◌≡◌, ◌<◌, ◌++◌, All, IfOk, length, not};
 ghost use Rattle.std.specs.List.{find};
-ghost use Rattle.fb_graph.specs.Limits.{IsShot};
+ghost use Rattle.fb_graph.specs.Limits.{IsShot, problem_of};
 ghost use Rattle.fb_graph.specs.Parity.{is_in, is_odd_count};
 ghost use Rattle.fb_verify.specs.Marks.{ends_of};
 ghost use Rattle.fb_verify.specs.Verdicts.{least_below, has_wrong_parity};
@@ -20,7 +20,7 @@ pub(crate) fn wrong_parity(
 ) -> Result<Option<u32>, NoMemory>
     requires shot { IsShot graph.now shot.now }
     requires within { All (λ k. k < length graph.now.edges) edges.now }
-    ensures { IfOk result (λ v. v ≡ least_below graph.now.vertices (has_wrong_parity graph.now shot.now edges.now)) }
+    ensures { IfOk result (λ v. v ≡ least_below graph.now.vertices (has_wrong_parity (problem_of graph.now shot.now) edges.now)) }
 {
     graph.limits();
     let odd = odd_ones(marks(alloc, graph, shot, edges)?);
@@ -30,7 +30,7 @@ pub(crate) fn wrong_parity(
 /// Both ends of each of the edges, and the defects.
 fn marks(alloc: Global, graph: &Graph, shot: &Shot, edges: &[u32]) -> Result<Vec<u32>, NoMemory>
     requires { All (λ k. k < length graph.now.edges) edges.now }
-    ensures { IfOk result (λ v. v.items ≡ ends_of graph.now.edges edges.now ++ shot.now) }
+    ensures { IfOk result (λ v. v.items ≡ ends_of graph.now.edges edges.now ++ shot.now.defects) }
 {
     let mut marks = both_ends(alloc, graph, edges)?;
     let Ok(()) = marks.extend_from_slice(shot.as_slice()) else {
@@ -82,7 +82,7 @@ pub(crate) fn first_virtual(graph: &Graph, vertices: &[u32]) -> Option<u32>
 
 /// Whether an odd number of the vertices are defects.
 pub(crate) fn has_odd_defects(shot: &Shot, vertices: &[u32]) -> bool
-    ensures { result ≡ is_odd_count (is_in shot.now) vertices.now }
+    ensures { result ≡ is_odd_count (is_in shot.now.defects) vertices.now }
 {
     let mut odd = false;
     for vertex in vertices {
@@ -93,7 +93,7 @@ pub(crate) fn has_odd_defects(shot: &Shot, vertices: &[u32]) -> bool
 
 /// Whether a vertex is a defect.
 fn is_defect(shot: &Shot, vertex: u32) -> bool
-    ensures { result ≡ is_in shot.now vertex }
+    ensures { result ≡ is_in shot.now.defects vertex }
 {
     shot.as_slice().binary_search(&vertex).is_ok()
 }

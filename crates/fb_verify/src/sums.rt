@@ -1,7 +1,8 @@
 //! Sums of weights and of values.
 
-ghost use Rattle.std.specs.Prelude.{◌≡◌, ◌<◌, All, length, sum_by};
-ghost use Rattle.fb_graph.specs.Problem.{edge_at};
+ghost use Rattle.std.specs.Prelude.{◌≡◌, ◌<◌, All, length};
+ghost use Rattle.fb_graph.specs.Problem.{weight_of};
+ghost use Rattle.fb_graph.specs.Limits.{no_shot, problem_of};
 ghost use Rattle.fb_graph.specs.Certificate.{total_value};
 
 use fb_graph::{Cut, Graph};
@@ -9,7 +10,7 @@ use fb_graph::{Cut, Graph};
 /// The sum of the edges' weights.
 pub(crate) fn sum_of_weights(graph: &Graph, edges: &[u32]) -> u128
     requires { All (λ k. k < length graph.now.edges) edges.now }
-    ensures { result ≡ sum_by (λ k. (edge_at graph.now.edges k).weight) edges.now }
+    ensures { result ≡ weight_of (problem_of graph.now no_shot) edges.now }
 {
     let mut total: u128 = 0;
     for edge in edges {
