@@ -228,8 +228,8 @@ impl Plan {
         &self.order.vertices[extent.own as usize..extent.end as usize]
     }
 
-    /// The real vertices of the node's subtree, each node's own ones together and rising; none of what is no node.
-    /// Takes constant time.
+    /// The real vertices of the node's subtree: those that each node owns itself together and rising, a fusion's after
+    /// its children's. There are none if there is no such node. Takes constant time.
     pub fn vertices_in(&self, node: u32) -> &[u32]
         ensures value { result.now ≡ vertices_in self.now node }
         ensures members { (v : ℕ) → is_in result.now v ≡ is_owned_in self.now node v }
@@ -243,7 +243,7 @@ impl Plan {
         &self.order.vertices[extent.start as usize..extent.end as usize]
     }
 
-    /// The place of a vertex among those of the node's subtree. Takes constant time.
+    /// The place of a vertex in `vertices_in`. Takes constant time.
     pub fn place_in(&self, node: u32, v: u32) -> u32
         requires { is_owned_in self.now node v ≡ true }
         ensures value { result ≡ place_in self.now node v }
