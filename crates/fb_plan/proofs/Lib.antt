@@ -1,3 +1,4 @@
+pub mod Extents
 pub mod FusionSeams
 pub mod Fusions
 pub mod Gathering
@@ -7,6 +8,7 @@ pub mod Ownership
 pub mod Queries
 pub mod Reaches
 pub mod Roots
+pub mod Sorting
 pub mod Spans
 pub mod Stages
 pub mod SubProblems

@@ -1,4 +1,4 @@
--- Where the subtrees lie when the nodes are listed each before its children's subtrees.
+-- Where the subtrees lie when the nodes are listed each after its children's subtrees.
 use Rattle.std.proofs.Common.{ℕ, zero, suc, ◌+◌, ◌-◌, ◌<◌, ◌≤◌, ◌≡◌, ◌⊎◌, Bool, true, false, List, [], ◌∷◌, ◌++◌, length, refl, sym, ap, ◌∙◌, subst, inl, inr, arith, length-append}
 use Rattle.std.proofs.lemmas.Bool.{and_from, and_parts, cases_lt, le-leb, leb-true, lt-ltb, ltb-true}
 use Rattle.fb_plan.specs.Plans.{PlanTree, IsTree, join_at, node_count, root_of, is_within, subtrees}
@@ -29,14 +29,14 @@ size-positive t tree n node = step (cases_lt n t.units)
         subst (λ k. 1 ≤ size_of t k) (sym is) (omega (arith, size_of_fusion t tree (n - t.units) (omega (arith, node))))
 
 -- what is told of a fusion's children
-record Children (t : PlanTree) (spans : List Span) (n i : ℕ) : Type 0 where
-  left_node : (join_at t.joins i).0 < n
-  right_node : (join_at t.joins i).1 < n
-  left_start : (span_at spans (join_at t.joins i).0).start ≡ (span_at spans n).start + 1
-  right_start : (span_at spans (join_at t.joins i).1).start ≡ (span_at spans (join_at t.joins i).0).end
-  right_end : (span_at spans (join_at t.joins i).1).end ≡ (span_at spans n).end
+pub record Children (t : PlanTree) (spans : List Span) (n i : ℕ) : Type 0 where
+  pub left_node : (join_at t.joins i).0 < n
+  pub right_node : (join_at t.joins i).1 < n
+  pub left_start : (span_at spans (join_at t.joins i).0).start ≡ (span_at spans n).start
+  pub right_start : (span_at spans (join_at t.joins i).1).start ≡ (span_at spans (join_at t.joins i).0).end
+  pub right_end : (span_at spans (join_at t.joins i).1).end + 1 ≡ (span_at spans n).end
 
-children_at : (t : PlanTree) (spans : List Span) → IsTree t → IsPlaced t spans → (n i : ℕ) → i < length t.joins
+pub children_at : (t : PlanTree) (spans : List Span) → IsTree t → IsPlaced t spans → (n i : ℕ) → i < length t.joins
     → n ≡ t.units + i → Children t spans n i
 children_at t spans tree placed n i less is =
     subst (λ k. Children t spans k i) (sym is)
@@ -87,7 +87,7 @@ nested t spans tree placed n m within = nested-by (suc n) t spans tree placed n 
 -- the other way round, for two nodes within a third one
 told-by : (fuel : ℕ) (t : PlanTree) (spans : List Span) → IsTree t → IsPlaced t spans → (a n m : ℕ) → a < fuel
     → is_within t a n ≡ true → is_within t a m ≡ true
-    → (span_at spans n).start ≤ (span_at spans m).start → (span_at spans m).start < (span_at spans n).end
+    → (span_at spans n).start < (span_at spans m).end → (span_at spans m).end ≤ (span_at spans n).end
     → is_within t n m ≡ true
 told-by zero t spans tree placed a n m enough in_n in_m from to = absurd (omega arith)
 told-by (suc fuel) t spans tree placed a n m enough in_n in_m from to =
@@ -102,7 +102,7 @@ told-by (suc fuel) t spans tree placed a n m enough in_n in_m from to =
 
     among : (i : ℕ) → Children t spans a i
         → ((b : ℕ) → b < a → is_within t b n ≡ true → is_within t b m ≡ true
-        → (span_at spans n).start ≤ (span_at spans m).start → (span_at spans m).start < (span_at spans n).end
+        → (span_at spans n).start < (span_at spans m).end → (span_at spans m).end ≤ (span_at spans n).end
         → is_within t n m ≡ true)
         → (is_within t (join_at t.joins i).0 n ≡ true) ⊎ (is_within t (join_at t.joins i).1 n ≡ true)
         → (is_within t (join_at t.joins i).0 m ≡ true) ⊎ (is_within t (join_at t.joins i).1 m ≡ true)
@@ -110,37 +110,37 @@ told-by (suc fuel) t spans tree placed a n m enough in_n in_m from to =
     among i at onward (inl n_left) (inl m_left) = onward (join_at t.joins i).0 at.left_node n_left m_left from to
     among i at onward (inr n_right) (inr m_right) = onward (join_at t.joins i).1 at.right_node n_right m_right from to
     among i at onward (inl n_left) (inr m_right) =
-        absurd (omega (arith, from, to, at.right_start, (nested t spans tree placed _ n n_left).1, (nested t spans tree placed _ m m_right).0))
+        absurd (omega (arith, to, positive, at.right_start, (nested t spans tree placed _ n n_left).1, (nested t spans tree placed _ m m_right).0))
     among i at onward (inr n_right) (inl m_left) =
-        absurd (omega (arith, from, positive, at.right_start, (nested t spans tree placed _ n n_right).0, (nested t spans tree placed _ m m_left).1))
+        absurd (omega (arith, from, at.right_start, (nested t spans tree placed _ n n_right).0, (nested t spans tree placed _ m m_left).1))
 
     step : ((b : ℕ) → b < a → is_within t b n ≡ true → is_within t b m ≡ true
-        → (span_at spans n).start ≤ (span_at spans m).start → (span_at spans m).start < (span_at spans n).end
+        → (span_at spans n).start < (span_at spans m).end → (span_at spans m).end ≤ (span_at spans n).end
         → is_within t n m ≡ true)
         → WithinCases t a n → WithinCases t a m → is_within t n m ≡ true
     step onward (inl same) other = subst (λ k. is_within t k m ≡ true) same in_m
     step onward (inr (i, less, is, inl left)) (inl same) =
         let at : Children t spans a i = children_at t spans tree placed a i less is in
-        let start : (span_at spans a).start ≡ (span_at spans m).start = ap (λ k. (span_at spans k).start) same in
-        absurd (omega (arith, from, start, at.left_start, (nested t spans tree placed _ n left).0))
-    step onward (inr (i, less, is, inr right)) (inl same) =
-        let at : Children t spans a i = children_at t spans tree placed a i less is in
-        let start : (span_at spans a).start ≡ (span_at spans m).start = ap (λ k. (span_at spans k).start) same in
+        let end : (span_at spans a).end ≡ (span_at spans m).end = ap (λ k. (span_at spans k).end) same in
         absurd (omega (
           arith,
-          from,
-          start,
-          at.left_start,
+          to,
+          end,
           at.right_start,
-          (nested t spans tree placed _ n right).0,
-          placed.width (join_at t.joins i).0 (omega (arith, at.left_node, within_is_node t a n in_n)),
+          at.right_end,
+          (nested t spans tree placed _ n left).1,
+          placed.width (join_at t.joins i).1 (omega (arith, at.right_node, within_is_node t a n in_n)),
         ))
+    step onward (inr (i, less, is, inr right)) (inl same) =
+        let at : Children t spans a i = children_at t spans tree placed a i less is in
+        let end : (span_at spans a).end ≡ (span_at spans m).end = ap (λ k. (span_at spans k).end) same in
+        absurd (omega (arith, to, end, at.right_end, (nested t spans tree placed _ n right).1))
     step onward (inr (i, less, is, child_n)) (inr (k, less_k, is_k, child_m)) =
         let same : k ≡ i = omega (arith, is, is_k) in
         among i (children_at t spans tree placed a i less is) onward child_n
         (subst (λ j. (is_within t (join_at t.joins j).0 m ≡ true) ⊎ (is_within t (join_at t.joins j).1 m ≡ true)) same child_m)
 
-same_tests : (a b : Bool) → (a ≡ true → b ≡ true) → (b ≡ true → a ≡ true) → a ≡ b
+pub same_tests : (a b : Bool) → (a ≡ true → b ≡ true) → (b ≡ true → a ≡ true) → a ≡ b
 same_tests true b there back = sym (there refl)
 same_tests false true there back = back refl
 same_tests false false there back = refl
@@ -154,13 +154,13 @@ within_as_spans t spans tree placed n m node_n node_m =
     there : is_within t n m ≡ true → covers (span_at spans n) (span_at spans m) ≡ true
     there within =
         let inner = nested t spans tree placed n m within in
-        and_from _ _ (le-leb (span_at spans n).start (span_at spans m).start inner.0)
-        (lt-ltb (span_at spans m).start (span_at spans n).end
-        (omega (arith, inner.1, placed.width m node_m, size-positive t tree m node_m)))
+        and_from _ _ (lt-ltb (span_at spans n).start (span_at spans m).end
+        (omega (arith, inner.0, placed.width m node_m, size-positive t tree m node_m)))
+        (le-leb (span_at spans m).end (span_at spans n).end inner.1)
 
     back : covers (span_at spans n) (span_at spans m) ≡ true → is_within t n m ≡ true
     back covered =
         let parts = and_parts _ _ covered in
         told-by (suc (root_of t)) t spans tree placed (root_of t) n m (omega arith) (below_root t tree n node_n)
-        (below_root t tree m node_m) (leb-true (span_at spans n).start (span_at spans m).start parts.0)
-        (ltb-true (span_at spans m).start (span_at spans n).end parts.1)
+        (below_root t tree m node_m) (ltb-true (span_at spans n).start (span_at spans m).end parts.0)
+        (leb-true (span_at spans m).end (span_at spans n).end parts.1)

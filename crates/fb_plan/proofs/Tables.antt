@@ -12,11 +12,13 @@ use Rattle.fb_graph.specs.Limits.{most_vertices}
 use Rattle.fb_graph.proofs.Members.{AreDistinct_push, is_in-append}
 use Rattle.fb_graph.proofs.Sets.{distinct_from_rising, is_in-head, is_in-range, is_in-tail, length-le_from_within, range_rises}
 use Rattle.fb_plan.specs.Plans.{PlanTree, IsTree, is_within, join_at, names, node_count, parent_from, parent_of, subtrees}
-use Rattle.fb_plan.specs.Layout.{IsLaidOut, IsPlaced, IsPlacedFrom, size_of, span_at, tree_of}
+use Rattle.fb_plan.specs.Layout.{IsLaidOut, IsPlaced, IsPlacedFrom, IsSorted, size_of, span_at, tree_of}
 use Rattle.fb_plan.specs.Reaches.{IsReach, reach_at}
+use Rattle.fb_plan.specs.declared.order.Order.{Order}
 use Rattle.fb_plan.specs.declared.parts.Span.{Span}
 use Rattle.fb_plan.specs.declared.reach.Reach.{Reach}
 use Rattle.fb_plan.proofs.Trees.{names_left, names_right, siblings_apart, sub_at, subtree_of_fusion, subtree_of_unit, within-le}
+use Rattle.fb_plan.proofs.Extents.{ordered_by}
 use Rattle.fb_plan.proofs.Roots.{parent_cases}
 use Rattle.fb_plan.proofs.Spans.{size_of_fusion, size_of_unit, within_as_spans}
 
@@ -104,7 +106,7 @@ distinct-append (x ∷ xs) ys first second apart = (
   distinct-append xs ys first.1 second (λ v in_xs in_ys. apart v (is_in-tail x xs v in_xs) in_ys),
 )
 
-distinct-by : (fuel : ℕ) (t : PlanTree) → IsTree t → (n : ℕ) → n < fuel → n < node_count t → AreDistinct (sub_at (subtrees t) n)
+pub distinct-by : (fuel : ℕ) (t : PlanTree) → IsTree t → (n : ℕ) → n < fuel → n < node_count t → AreDistinct (sub_at (subtrees t) n)
 distinct-by zero t tree n enough node = absurd (omega arith)
 distinct-by (suc fuel) t tree n enough node = step (λ k less here. distinct-by fuel t tree k less here) (cases_lt n t.units)
   where
@@ -179,6 +181,7 @@ first_placed t tree sizes spans count told each = record {
 pub all_placed : (t : PlanTree) (spans : List Span) → IsPlacedFrom t spans 0 → IsPlaced t spans
 all_placed t spans from = record {
   width = from.width;
+  limit = from.limit;
   left = λ k less. from.left k (omega arith) less;
   right = λ k less. from.right k (omega arith) less;
 }
@@ -203,7 +206,7 @@ two_written spans l r a b low_l low_r apart = record {
 
 place_written : (t : PlanTree) → IsTree t → (spans new : List Span) (i s m e : ℕ) → i < length t.joins
     → IsPlacedFrom t spans (i + 1)
-    → s ≡ (span_at spans (t.units + i)).start + 1
+    → s ≡ (span_at spans (t.units + i)).start
     → m ≡ s + size_of t (join_at t.joins i).0
     → e ≡ m + size_of t (join_at t.joins i).1
     → length new ≡ node_count t
@@ -269,9 +272,9 @@ place_written t tree spans new i s m e less placed s_is m_is e_is count told = r
         subst (λ x. x.end ≤ node_count t) (sym (told.others n not_l not_r)) (placed.limit n node)
 
     left : (k : ℕ) → i ≤ k → k < length t.joins → (k ≡ i) ⊎ (k ≡ i → ⊥)
-        → (span_at new (join_at t.joins k).0).start ≡ (span_at new (t.units + k)).start + 1
+        → (span_at new (join_at t.joins k).0).start ≡ (span_at new (t.units + k)).start
     left k above less_k (inl same) =
-        subst (λ j. (span_at new (join_at t.joins j).0).start ≡ (span_at new (t.units + j)).start + 1) (sym same)
+        subst (λ j. (span_at new (join_at t.joins j).0).start ≡ (span_at new (t.units + j)).start) (sym same)
         (omega (arith, ap (λ x. x.start) told.first, ap (λ x. x.start) (kept i (omega arith)), s_is))
     left k above less_k (inr other) =
         omega (
@@ -282,9 +285,9 @@ place_written t tree spans new i s m e less placed s_is m_is e_is count told = r
         )
 
     right : (k : ℕ) → i ≤ k → k < length t.joins → (k ≡ i) ⊎ (k ≡ i → ⊥)
-        → (span_at new (join_at t.joins k).1).start ≡ (span_at new (t.units + k)).start + 1 + size_of t (join_at t.joins k).0
+        → (span_at new (join_at t.joins k).1).start ≡ (span_at new (t.units + k)).start + size_of t (join_at t.joins k).0
     right k above less_k (inl same) =
-        subst (λ j. (span_at new (join_at t.joins j).1).start ≡ (span_at new (t.units + j)).start + 1 + size_of t (join_at t.joins j).0) (sym same)
+        subst (λ j. (span_at new (join_at t.joins j).1).start ≡ (span_at new (t.units + j)).start + size_of t (join_at t.joins j).0) (sym same)
         (omega (arith, ap (λ x. x.start) told.second, ap (λ x. x.start) (kept i (omega arith)), s_is, m_is))
     right k above less_k (inr other) =
         omega (
@@ -296,7 +299,7 @@ place_written t tree spans new i s m e less placed s_is m_is e_is count told = r
 
 pub place_more : (t : PlanTree) → IsTree t → (spans : List Span) (i s m e : ℕ) → i < length t.joins
     → IsPlacedFrom t spans (i + 1)
-    → s ≡ (span_at spans (t.units + i)).start + 1
+    → s ≡ (span_at spans (t.units + i)).start
     → m ≡ s + size_of t (join_at t.joins i).0
     → e ≡ m + size_of t (join_at t.joins i).1
     → IsPlacedFrom t (set (set spans (join_at t.joins i).0 (record { start = s; end = m })) (join_at t.joins i).1 (record { start = m; end = e })) i
@@ -329,6 +332,7 @@ one_unit = record {
 
 -- the tables of a tree as it was read
 pub laid_out : (units : ℕ) (joins seen : List (ℕ × ℕ)) (owners parents : List (Option ℕ)) (spans : List Span) (reaches : List Reach)
+    (order : Order)
     → seen ≡ joins
     → IsTree (tree_of units joins)
     → ((v n : ℕ) → get_or owners v None ≡ Some n → n < units + length joins)
@@ -339,8 +343,9 @@ pub laid_out : (units : ℕ) (joins seen : List (ℕ × ℕ)) (owners parents : 
     → IsPlaced (tree_of units seen) spans
     → length reaches ≡ units + length seen
     → ((n : ℕ) → n < units + length seen → IsReach owners n (reach_at reaches n))
-    → IsLaidOut (record { units = units; joins = joins; owners = owners }) parents spans reaches
-laid_out units joins seen owners parents spans reaches same tree below count parent_count each_parent span_count placed reach_count each_reach = record {
+    → IsSorted owners spans order
+    → IsLaidOut (record { units = units; joins = joins; owners = owners }) parents spans reaches order
+laid_out units joins seen owners parents spans reaches order same tree below count parent_count each_parent span_count placed reach_count each_reach sorted = record {
   tree = tree_with_owners (tree_of units joins) owners tree;
   owners = below;
   owner_count = count;
@@ -351,4 +356,6 @@ laid_out units joins seen owners parents spans reaches same tree below count par
       (subst (λ js. IsPlaced (tree_of units js) spans) same placed) n m node_n node_m;
   reach_count = subst (λ js. length reaches ≡ units + length js) same reach_count;
   each_reach = subst (λ js. (n : ℕ) → n < units + length js → IsReach owners n (reach_at reaches n)) same each_reach;
+  ordered = ordered_by (tree_of units joins) spans owners order tree (subst (λ js. IsPlaced (tree_of units js) spans) same placed)
+      (subst (λ js. length spans ≡ units + length js) same span_count) below sorted;
 }

@@ -1,5 +1,5 @@
 -- What every job keeps, and what follows from the definitions alone.
-use Rattle.std.specs.Prelude.{ℕ, ◌≡◌, ◌+◌, ◌<◌, ◌^◌, ◌⊎◌, true, List, length, All, Some, None}
+use Rattle.std.specs.Prelude.{ℕ, ◌≡◌, ◌+◌, ◌<◌, ◌^◌, ◌⊎◌, true, length, All, Some, None}
 use Rattle.fb_graph.specs.Components.{IsFirstOdd}
 use Rattle.fb_graph.specs.Limits.{DecodingGraph, IsShot, ShotValue, problem_of}
 use Rattle.fb_graph.specs.Laws.{HasNoOddClosed, IsPart, AreSeparated}

@@ -6,3 +6,4 @@ pub mod Plans
 pub mod Reaches
 pub mod Rules
 pub mod Seams
+pub mod Vertices

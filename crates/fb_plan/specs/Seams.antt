@@ -1,6 +1,6 @@
 -- The real vertices of a fusion's sub-problem: those of its two children, and the seam between them, which it owns (Wu
 -- and Zhong 2023).
-use Rattle.std.specs.Prelude.{ℕ, ◌≡◌, ◌<◌, ◌==◌, ◌&&◌, ◌||◌, Bool, true, false, List, Option, Some, None}
+use Rattle.std.specs.Prelude.{ℕ, ◌≡◌, ◌<◌, ◌==◌, ◌&&◌, ◌||◌, Bool, true, false, Option, Some, None}
 use Rattle.fb_graph.specs.Limits.{DecodingGraph, ShotValue, is_real_in}
 use Rattle.fb_plan.specs.Plans.{PlanTree, IsPlan, children_of, owner_of, problem_at}
 

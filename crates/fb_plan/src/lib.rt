@@ -8,6 +8,7 @@ pub mod job;
 mod judging;
 pub mod laws;
 mod loads;
+mod order;
 mod owners;
 pub mod parts;
 pub mod plan;

@@ -1,16 +1,20 @@
 ghost use Rattle.std.specs.Prelude.{◌≡◌, ◌≢◌, ℕ, ◌+◌, ◌<◌, ◌≤◌, ◌&&◌, not, nat_lt, is_some, true, length, map, get_or, count_by, All, Option, Some, None, IfOk, IfErr, IfSome, Ok, Err};
 ghost use Rattle.std.specs.List.{range_with_len};
+ghost use Rattle.fb_graph.specs.Certificate.{AreDistinct};
 ghost use Rattle.fb_graph.specs.Limits.{DecodingGraph, is_real_in, most_vertices};
+ghost use Rattle.fb_graph.specs.Parity.{is_in};
 ghost use Rattle.fb_plan.specs.Plans.{IsPlan, IsTree, children_of, is_owned_in, is_pending, is_within, node_count, owner_of, parent_of, root_of, single_of};
 ghost use Rattle.fb_plan.specs.Layout.{tree_of};
 ghost use Rattle.fb_plan.specs.Loads.{IsClaim};
 ghost use Rattle.fb_plan.specs.Reaches.{IsReach};
 ghost use Rattle.fb_plan.specs.Rules.{holds, joins_of, owner_in, plan_from};
+ghost use Rattle.fb_plan.specs.Vertices.{owned_by, place_in, vertices_in};
 
 use crate::claims::gather;
 use crate::faults::PlanFault;
 use crate::judging::{first_across, judge_cover, judge_fusions};
 use crate::loads::{Measure, loads};
+use crate::order::{Extent, Order, order_of};
 use crate::owners::{owned_by, owned_by_one, pairs_of};
 use crate::parts::{Claim, Join, Span};
 use crate::reach::{Reach, reaches_of};
@@ -32,6 +36,7 @@ pub struct Plan {
     parents: Vec<Option<u32>>,
     spans: Vec<Span>,
     reaches: Vec<Reach>,
+    order: Order,
 }
 
 impl Model for Plan {
@@ -43,7 +48,7 @@ impl Model for Plan {
     ghost view = { λ p. record { units = p.units; joins = p.joins.items; owners = p.owners.items } };
 
     ghost invariant = { λ p. IsLaidOut (record { units = p.units; joins = p.joins.items; owners = p.owners.items })
-        p.parents.items p.spans.items p.reaches.items };
+        p.parents.items p.spans.items p.reaches.items p.order };
 }
 
 impl Plan {
@@ -139,6 +144,7 @@ impl Plan {
         let spans = spans_of(alloc, units, fusions)?;
         let nodes = units as usize + fusions.len();
         let reaches = reaches_of(alloc, nodes, owners.as_slice())?;
+        let order = order_of(alloc, owners.as_slice(), spans.as_slice())?;
         Ok(Plan {
             units,
             joins,
@@ -146,6 +152,7 @@ impl Plan {
             parents,
             spans,
             reaches,
+            order,
         })
     }
 
@@ -212,6 +219,40 @@ impl Plan {
         self.reaches[node as usize]
     }
 
+    /// The vertices that the node owns itself, rising. Takes constant time.
+    pub fn owned(&self, node: u32) -> &[u32]
+        requires { node < node_count self.now }
+        ensures { result.now ≡ owned_by self.now node }
+    {
+        let extent = self.order.extents[node as usize];
+        &self.order.vertices[extent.own as usize..extent.end as usize]
+    }
+
+    /// The real vertices of the node's subtree: those that each node owns itself together and rising, a fusion's after
+    /// its children's. There are none if there is no such node. Takes constant time.
+    pub fn vertices_in(&self, node: u32) -> &[u32]
+        ensures value { result.now ≡ vertices_in self.now node }
+        ensures members { (v : ℕ) → is_in result.now v ≡ is_owned_in self.now node v }
+        ensures distinct { AreDistinct result.now }
+        ensures few { length result.now ≤ most_vertices }
+    {
+        if node as usize >= self.order.extents.len() {
+            return &[];
+        }
+        let extent = self.order.extents[node as usize];
+        &self.order.vertices[extent.start as usize..extent.end as usize]
+    }
+
+    /// The place of a vertex in `vertices_in`. Takes constant time.
+    pub fn place_in(&self, node: u32, v: u32) -> u32
+        requires { is_owned_in self.now node v ≡ true }
+        ensures value { result ≡ place_in self.now node v }
+        ensures below { result < length (vertices_in self.now node) }
+        ensures at { get_or (vertices_in self.now node) result 0 ≡ v }
+    {
+        self.order.places[v as usize] - self.order.extents[node as usize].start
+    }
+
     /// Whether a vertex is real and its owner lies outside the node's subtree.
     #[tactic(auto, using(crate::proofs::Queries::pending))]
     pub fn is_pending(&self, node: u32, v: u32) -> bool
@@ -249,7 +290,7 @@ impl Plan {
         }
         let outer = self.spans[node as usize];
         let inner = self.spans[below as usize];
-        outer.start <= inner.start && inner.start < outer.end
+        outer.start < inner.end && inner.end <= outer.end
     }
 
     /// Does nothing. Its clauses say what every plan keeps.

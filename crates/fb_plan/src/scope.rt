@@ -3,12 +3,14 @@ ghost use Rattle.std.specs.List.{range_with_len};
 ghost use Rattle.fb_graph.specs.Problem.{edge_at, touches};
 ghost use Rattle.fb_graph.specs.Limits.{no_shot};
 ghost use Rattle.fb_plan.specs.Plans.{problem_at};
+ghost use Rattle.fb_plan.specs.Vertices.{place_in, vertices_in};
 
 use crate::plan::Plan;
 use fb_graph::{Graph, Scope};
 
 /// The sub-problem of a node of a plan (Wu and Zhong 2023): the vertices owned in its subtree are real, all others
-/// are boundary.
+/// are boundary. It has exactly as many places as the plan has real vertices in the subtree: a vertex's place is that
+/// among them (`Plan::place_in`).
 #[derive(Clone, Copy)]
 pub struct NodeScope<'a> {
     pub graph: &'a Graph,
@@ -19,9 +21,9 @@ pub struct NodeScope<'a> {
 impl Scope for NodeScope<'_> {
     ghost problem = { λ s. problem_at s.graph.now s.plan.now s.node no_shot };
 
-    ghost place_of = { λ s v. v };
+    ghost place_of = { λ s v. place_in s.plan.now s.node v };
 
-    ghost place_count = { λ s. s.graph.now.vertices };
+    ghost place_count = { λ s. length (vertices_in s.plan.now s.node) };
 
     fn vertices(&self) -> u32 {
         self.graph.vertices()
@@ -48,11 +50,11 @@ impl Scope for NodeScope<'_> {
     }
 
     fn places(&self) -> u32 {
-        self.graph.vertices()
+        self.plan.vertices_in(self.node).len() as u32
     }
 
     fn place(&self, v: u32) -> u32 {
-        v
+        self.plan.place_in(self.node, v)
     }
 
     fn limits(&self) {
@@ -60,6 +62,6 @@ impl Scope for NodeScope<'_> {
     }
 
     fn places_differ(&self) {
-        self.graph.limits();
+        let _vertices = self.plan.vertices_in(self.node);
     }
 }

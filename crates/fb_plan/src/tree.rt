@@ -53,7 +53,7 @@ fn sizes_of(alloc: Global, units: u32, joins: &[(u32, u32)]) -> Result<Vec<u32>,
     Ok(sizes)
 }
 
-/// Where each subtree lies when the nodes are listed each before its children's subtrees.
+/// Where each subtree lies when the nodes are listed each after its children's subtrees.
 pub fn spans_of(alloc: Global, units: u32, joins: &[(u32, u32)]) -> Result<Vec<Span>, NoMemory>
     requires { IsTree (tree_of units joins.now) }
     ensures count { IfOk result (λ s. length s.items ≡ units + length joins.now) }
@@ -104,7 +104,7 @@ fn unplaced(alloc: Global, sizes: &[u32]) -> Result<Vec<Span>, NoMemory>
     Ok(spans)
 }
 
-/// Puts the subtrees of a fusion's children behind the fusion's own place.
+/// Puts the subtrees of a fusion's children before the fusion's own place.
 fn place_children(spans: &mut Vec<Span>, units: u32, joins: &[(u32, u32)], sizes: &[u32], i: usize)
     requires tree { IsTree (tree_of units joins.now) }
     requires count { length sizes.now ≡ units + length joins.now }
@@ -114,7 +114,7 @@ fn place_children(spans: &mut Vec<Span>, units: u32, joins: &[(u32, u32)], sizes
     ensures { IsPlacedFrom (tree_of units joins.now) spans.new.items i }
 {
     let (left, right) = joins[i];
-    let start = spans[units as usize + i].start + 1;
+    let start = spans[units as usize + i].start;
     let middle = start + sizes[left as usize];
     let end = middle + sizes[right as usize];
     spans[left as usize] = Span { start, end: middle };

@@ -11,7 +11,7 @@ returns c =
     let left : (join_at c.args.joins.now c.args.i).0 < c.args.units + c.args.i = facts.left in
     let right : (join_at c.args.joins.now c.args.i).1 < c.args.units + c.args.i = facts.right in
     place_more (tree_of c.args.units c.args.joins.now) c.requires.tree c.args.spans.now.items c.args.i _ _ _ c.requires.below c.requires.placed
-    (ap (λ x. x.start + 1) (get_or_read_under c.args.spans.now.items (c.args.units + c.args.i) _ c.index.result.now (record { start = 0; end = 0 })
+    (ap (λ x. x.start) (get_or_read_under c.args.spans.now.items (c.args.units + c.args.i) _ c.index.result.now (record { start = 0; end = 0 })
     c.index.ensures (omega (arith, c.requires.below, c.requires.placed.count)) (sym c.requires.placed.count)))
-    (ap (λ x. c.index.result.now.start + 1 + x) (c.requires.each (join_at c.args.joins.now c.args.i).0 (omega (arith, left, c.requires.below))))
-    (ap (λ x. c.index.result.now.start + 1 + get_or c.args.sizes.now (join_at c.args.joins.now c.args.i).0 0 + x) (c.requires.each (join_at c.args.joins.now c.args.i).1 (omega (arith, right, c.requires.below))))
+    (ap (λ x. c.index.result.now.start + x) (c.requires.each (join_at c.args.joins.now c.args.i).0 (omega (arith, left, c.requires.below))))
+    (ap (λ x. c.index.result.now.start + get_or c.args.sizes.now (join_at c.args.joins.now c.args.i).0 0 + x) (c.requires.each (join_at c.args.joins.now c.args.i).1 (omega (arith, right, c.requires.below))))
