@@ -1,7 +1,7 @@
 -- How a check of rows ends.
 use Rattle.std.proofs.Common.{◌≡◌, ℕ, ◌==◌, ◌&&◌, inl, inr, Bool, true, false, if◌then◌else◌, ◌≢◌, List, [], length, Option, Some, None, IfSome, refl, sym, ap, subst, ◌∙◌, append-nil}
 use Rattle.std.proofs.KnownBytes.{Appends-nil, Appends-trans}
-use Rattle.fb_graph.specs.Limits.{DecodingGraph}
+use Rattle.fb_graph.specs.Limits.{DecodingGraph, ShotValue}
 use Rattle.fb_graph.specs.declared.parts.Row.{Row}
 use Rattle.fb_ports.specs.Causes.{Appends, AppendsPrefix}
 use Rattle.fb_ports.proofs.Onward.{prefix_first, prefix_second}
@@ -26,7 +26,7 @@ use Rattle.fb_check.proofs.Lines.{IsJudging}
 
 -- A stream has given so many shots, and those that have a row are judged.
 pub record IsChecking (g : DecodingGraph) (rows : List Row) (start now : Stream) (before after out new : Option (List ℕ)) (pending : List ℕ) (count bad : ℕ) : Type 0 where
-  pub shots : List (List ℕ)
+  pub shots : List ShotValue
   pub gives : GivesShots start now before after shots
   pub judging : IsJudging g rows out new pending shots bad
   pub many : count ≡ length shots
@@ -43,7 +43,7 @@ module _ (g : DecodingGraph) (rows : List Row) (start now : Stream) (before afte
     written = (checking.judging.flushed, pending, sym checking.judging.text, checking.judging.appended);
   }
 
-  pub judged_at_fault : (last : Option (List ℕ)) (pending : List ℕ) (shots : List (List ℕ)) (bad : ℕ)
+  pub judged_at_fault : (last : Option (List ℕ)) (pending : List ℕ) (shots : List ShotValue) (bad : ℕ)
       → IfSome before (HasFirstShots start.format start.graph shots) → IsJudging g rows out new pending shots bad
       → AppendsPrefix new last pending → JudgesFirst (FirstFrom before start.format start.graph) g rows out last
   judged_at_fault last pending shots bad input judging prefix = record {
@@ -54,7 +54,7 @@ module _ (g : DecodingGraph) (rows : List Row) (start now : Stream) (before afte
     written = subst (AppendsPrefix out last) judging.text (prefix_second out new last judging.flushed pending judging.appended prefix);
   }
 
-  pub judged_into : (Input : List (List ℕ) → Type 0) (pending : List ℕ) (j : Judged) (checking : IsChecking g rows start now before after out new pending j.shots j.bad)
+  pub judged_into : (Input : List ShotValue → Type 0) (pending : List ℕ) (j : Judged) (checking : IsChecking g rows start now before after out new pending j.shots j.bad)
       → Input checking.shots → JudgesInto Input g rows out new pending j
   judged_into Input pending j checking input = record {
     shots = checking.shots;
@@ -68,7 +68,7 @@ module _ (g : DecodingGraph) (rows : List Row) (start now : Stream) (before afte
     text = checking.judging.text;
   }
 
-module _ (Input : List (List ℕ) → Type 0) (g : DecodingGraph) (rows : List Row) (out mid new : Option (List ℕ)) (pending : List ℕ) (j : Judged) where
+module _ (Input : List ShotValue → Type 0) (g : DecodingGraph) (rows : List Row) (out mid new : Option (List ℕ)) (pending : List ℕ) (j : Judged) where
   pub all_flushed : JudgesInto Input g rows out mid pending j → Appends mid new pending → JudgesAll Input g rows out new j
   all_flushed into all = record {
     shots = into.shots;
@@ -80,7 +80,7 @@ module _ (Input : List (List ℕ) → Type 0) (g : DecodingGraph) (rows : List R
     written = subst (Appends out new) into.text (Appends-trans out mid new into.flushed pending into.appended all);
   }
 
-  pub first_flushed : (First : List (List ℕ) → Type 0) → ((shots : List (List ℕ)) → Input shots → First shots)
+  pub first_flushed : (First : List ShotValue → Type 0) → ((shots : List ShotValue) → Input shots → First shots)
       → JudgesInto Input g rows out mid pending j → AppendsPrefix mid new pending → JudgesFirst First g rows out new
   first_flushed First more into part = record {
     shots = into.shots;
@@ -91,8 +91,8 @@ module _ (Input : List (List ℕ) → Type 0) (g : DecodingGraph) (rows : List R
   }
 
 -- by another input
-pub all_more : (A B : List (List ℕ) → Type 0) (g : DecodingGraph) (rows : List Row) (old new : Option (List ℕ)) (j : Judged)
-    → ((shots : List (List ℕ)) → A shots → B shots) → JudgesAll A g rows old new j → JudgesAll B g rows old new j
+pub all_more : (A B : List ShotValue → Type 0) (g : DecodingGraph) (rows : List Row) (old new : Option (List ℕ)) (j : Judged)
+    → ((shots : List ShotValue) → A shots → B shots) → JudgesAll A g rows old new j → JudgesAll B g rows old new j
 all_more A B g rows old new j more all = record {
   shots = all.shots;
   input = more all.shots all.input;
@@ -103,8 +103,8 @@ all_more A B g rows old new j more all = record {
   written = all.written;
 }
 
-pub first_more : (A B : List (List ℕ) → Type 0) (g : DecodingGraph) (rows : List Row) (old new : Option (List ℕ))
-    → ((shots : List (List ℕ)) → A shots → B shots) → JudgesFirst A g rows old new → JudgesFirst B g rows old new
+pub first_more : (A B : List ShotValue → Type 0) (g : DecodingGraph) (rows : List Row) (old new : Option (List ℕ))
+    → ((shots : List ShotValue) → A shots → B shots) → JudgesFirst A g rows old new → JudgesFirst B g rows old new
 first_more A B g rows old new more first = record {
   shots = first.shots;
   input = more first.shots first.input;

@@ -1,6 +1,6 @@
 -- What each end of a check says of what was written and read.
 use Rattle.std.specs.Prelude.{ℕ, ◌≡◌, ◌⊎◌, List, [], ◌∷◌, length, Option, Ok, Err}
-use Rattle.fb_graph.specs.Limits.{DecodingGraph}
+use Rattle.fb_graph.specs.Limits.{DecodingGraph, ShotValue}
 use Rattle.fb_graph.specs.declared.parts.Row.{Row}
 use Rattle.fb_ports.specs.Causes.{Appends, AppendsPrefix}
 use Rattle.fb_shots.specs.Shots.{at_end, refused}
@@ -30,7 +30,7 @@ IsNoReport fault text = report_of_text text ≡ Err fault
 
 -- The shots were read to their end, and the whole text of the check was written.
 pub record WritesCheck (named : Named) (request : Checking) (g : DecodingGraph) (rows : List Row) (old new : Option (List ℕ)) (cause : Cause) : Type 0 where
-  pub shots : List (List ℕ)
+  pub shots : List ShotValue
   pub input : Holds named request.shots (HasShots request.format g shots at_end)
   pub verdicts : List Verdict
   pub answers : AreVerdicts g shots rows verdicts
@@ -39,7 +39,7 @@ pub record WritesCheck (named : Named) (request : Checking) (g : DecodingGraph) 
 
 -- The shots end by a refusal, and the head and the lines of those before it were written.
 pub record ChecksBefore (named : Named) (request : Checking) (g : DecodingGraph) (rows : List Row) (old new : Option (List ℕ)) (fault : ShotFault) : Type 0 where
-  pub shots : List (List ℕ)
+  pub shots : List ShotValue
   pub input : Holds named request.shots (HasShots request.format g shots (refused fault.kind))
   pub place : fault.shot ≡ length shots
   pub verdicts : List Verdict
@@ -48,7 +48,7 @@ pub record ChecksBefore (named : Named) (request : Checking) (g : DecodingGraph)
 
 -- Reading the shots failed, and the head and the lines of the shots that the bytes read settle were written.
 pub record ChecksGiven (named : Named) (request : Checking) (g : DecodingGraph) (rows : List Row) (left old new : Option (List ℕ)) : Type 0 where
-  pub shots : List (List ℕ)
+  pub shots : List ShotValue
   pub input : Holds named request.shots (IsReadInPart request.format g left shots)
   pub verdicts : List Verdict
   pub answers : AreVerdicts g shots rows verdicts
@@ -60,7 +60,7 @@ ChecksHead named left old new = IsReadOutIfNamed named left × Appends old new c
 
 -- A prefix was written of the head and the lines of some of the first shots, or of the whole text of the check.
 pub record ChecksPrefix (named : Named) (request : Checking) (g : DecodingGraph) (rows : List Row) (old new : Option (List ℕ)) : Type 0 where
-  pub shots : List (List ℕ)
+  pub shots : List ShotValue
   pub input : FirstOf named request.shots request.format g shots
   pub verdicts : List Verdict
   pub answers : AreVerdicts g shots rows verdicts

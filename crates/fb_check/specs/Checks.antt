@@ -1,7 +1,7 @@
 -- The text of a check of a report: a line for each shot that has a row, between its head and its last line.
 use Rattle.std.specs.Prelude.{ℕ, ◌+◌, ◌==◌, ◌&&◌, if◌then◌else◌, List, [], ◌∷◌, ◌++◌, map, count_by, codes, decimal}
 use Rattle.std.specs.List.{AllZip}
-use Rattle.fb_graph.specs.Limits.{DecodingGraph}
+use Rattle.fb_graph.specs.Limits.{DecodingGraph, ShotValue}
 use Rattle.fb_graph.specs.declared.parts.Row.{Row}
 use Rattle.fb_report.specs.Texts.{line}
 use Rattle.fb_endings.specs.declared.ending.Cause.{Cause}
@@ -42,14 +42,14 @@ abbrev pub check_cause : ℕ → ℕ → ℕ → Cause
 check_cause rows shots bad = if bad == 0 && rows == shots then Done else Bad bad
 
 -- each shot with its row, as long as there are both
-abbrev pub pairs_of : List (List ℕ) → List Row → List (List ℕ × Row)
+abbrev pub pairs_of : List ShotValue → List Row → List (ShotValue × Row)
 pairs_of [] rows = []
 pairs_of (shot ∷ shots) [] = []
 pairs_of (shot ∷ shots) (row ∷ rows) = (shot, row) ∷ pairs_of shots rows
 
-abbrev pub IsPairVerdict : DecodingGraph → List ℕ × Row → Verdict → Type 0
+abbrev pub IsPairVerdict : DecodingGraph → ShotValue × Row → Verdict → Type 0
 IsPairVerdict g pair verdict = IsVerdict g pair.0 pair.1 verdict
 
 -- the verdicts on the rows of the shots
-abbrev pub AreVerdicts : DecodingGraph → List (List ℕ) → List Row → List Verdict → Type 0
+abbrev pub AreVerdicts : DecodingGraph → List ShotValue → List Row → List Verdict → Type 0
 AreVerdicts g shots rows verdicts = AllZip (IsPairVerdict g) (pairs_of shots rows) verdicts

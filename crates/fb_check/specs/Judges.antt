@@ -1,6 +1,6 @@
 -- The rows that were judged while their shots were taken.
 use Rattle.std.specs.Prelude.{ℕ, ◌≡◌, ◌<◌, ◌≤◌, ◌⊎◌, List, [], ◌++◌, length, get_or, Bool, false, Option}
-use Rattle.fb_graph.specs.Limits.{DecodingGraph}
+use Rattle.fb_graph.specs.Limits.{DecodingGraph, ShotValue}
 use Rattle.fb_graph.specs.declared.parts.Row.{Row}
 use Rattle.fb_ports.specs.Causes.{Appends, AppendsPrefix}
 use Rattle.fb_shots.specs.declared.answer.Format.{Format}
@@ -17,8 +17,8 @@ use Rattle.fb_inputs.specs.declared.taking.ShotsEnd.{ShotsEnd}
 use Rattle.fb_inputs.specs.declared.taking.ShotsEnd.TheVariants as end
 
 -- The shots that the input gives have been taken, and the lines of those that have a row were written.
-pub record JudgesAll (Input : List (List ℕ) → Type 0) (g : DecodingGraph) (rows : List Row) (old new : Option (List ℕ)) (j : Judged) : Type 0 where
-  pub shots : List (List ℕ)
+pub record JudgesAll (Input : List ShotValue → Type 0) (g : DecodingGraph) (rows : List Row) (old new : Option (List ℕ)) (j : Judged) : Type 0 where
+  pub shots : List ShotValue
   pub input : Input shots
   pub many : j.shots ≡ length shots
   pub verdicts : List Verdict
@@ -27,19 +27,19 @@ pub record JudgesAll (Input : List (List ℕ) → Type 0) (g : DecodingGraph) (r
   pub written : Appends old new (verdict_lines 0 verdicts)
 
 -- A prefix was written of the lines of some of the first shots.
-pub record JudgesFirst (Input : List (List ℕ) → Type 0) (g : DecodingGraph) (rows : List Row) (old new : Option (List ℕ)) : Type 0 where
-  pub shots : List (List ℕ)
+pub record JudgesFirst (Input : List ShotValue → Type 0) (g : DecodingGraph) (rows : List Row) (old new : Option (List ℕ)) : Type 0 where
+  pub shots : List ShotValue
   pub input : Input shots
   pub verdicts : List Verdict
   pub answers : AreVerdicts g shots rows verdicts
   pub written : AppendsPrefix old new (verdict_lines 0 verdicts)
 
 -- no shots, or the first ones of the file of a name
-abbrev pub FirstOf : Named → List ℕ → Format → DecodingGraph → List (List ℕ) → Type 0
+abbrev pub FirstOf : Named → List ℕ → Format → DecodingGraph → List ShotValue → Type 0
 FirstOf named name format g shots = (shots ≡ []) ⊎ Holds named name (HasFirstShots format g shots)
 
 -- the line of shot k was added to a text, if it has a row
-pub record AddsLine (g : DecodingGraph) (rows : List Row) (k : ℕ) (shot old new : List ℕ) (bad : Bool) : Type 0 where
+pub record AddsLine (g : DecodingGraph) (rows : List Row) (k : ℕ) (shot : ShotValue) (old new : List ℕ) (bad : Bool) : Type 0 where
   pub row : Row
   pub within : k < length rows
   pub is : row ≡ get_or rows k row
@@ -48,7 +48,7 @@ pub record AddsLine (g : DecodingGraph) (rows : List Row) (k : ℕ) (shot old ne
   pub longer : new ≡ old ++ verdict_line k verdict
   pub tells : bad ≡ is_bad verdict
 
-abbrev pub JudgesNext : DecodingGraph → List Row → ℕ → List ℕ → List ℕ → List ℕ → Bool → Type 0
+abbrev pub JudgesNext : DecodingGraph → List Row → ℕ → ShotValue → List ℕ → List ℕ → Bool → Type 0
 JudgesNext g rows k shot old new bad =
     ((length rows ≤ k) × (new ≡ old) × (bad ≡ false)) ⊎ AddsLine g rows k shot old new bad
 
@@ -61,8 +61,8 @@ EndsCheck (end.Refused fault) rows shots bad old new cause = (new ≡ old) × (c
 EndsCheck end.ReadFault rows shots bad old new cause = (new ≡ old) × (cause ≡ ReadFault)
 
 -- The shots that the input gives have been taken. The lines of those that have a row were written, or wait.
-pub record JudgesInto (Input : List (List ℕ) → Type 0) (g : DecodingGraph) (rows : List Row) (old new : Option (List ℕ)) (pending : List ℕ) (j : Judged) : Type 0 where
-  pub shots : List (List ℕ)
+pub record JudgesInto (Input : List ShotValue → Type 0) (g : DecodingGraph) (rows : List Row) (old new : Option (List ℕ)) (pending : List ℕ) (j : Judged) : Type 0 where
+  pub shots : List ShotValue
   pub input : Input shots
   pub many : j.shots ≡ length shots
   pub verdicts : List Verdict
