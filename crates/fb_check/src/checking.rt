@@ -85,7 +85,7 @@ pub fn check<F: Files, O: Sink>(
     ensures read_later { F.faults files.old ≤ F.faults files.new }
     ensures read_risen { F.faults files.old < F.faults files.new → MayFollowReadFault result }
     ensures write_fault { result ≡ Cause.WriteFault → Rose (O.faults out.old) (O.faults out.new) }
-    ensures write_later { O.faults out.old ≤ O.faults out.new }
+    ensures write_never_falls { O.faults out.old ≤ O.faults out.new }
     ensures write_unchanged { result ≢ Cause.WriteFault → O.faults out.new ≡ O.faults out.old }
 {
     match read_graph_file(alloc, files, request.graph) {
@@ -114,7 +114,7 @@ fn check_report<F: Files, O: Sink>(
     ensures read_later { F.faults files.old ≤ F.faults files.new }
     ensures read_risen { F.faults files.old < F.faults files.new → MayFollowReadFault result }
     ensures write_fault { result ≡ Cause.WriteFault → Rose (O.faults out.old) (O.faults out.new) }
-    ensures write_later { O.faults out.old ≤ O.faults out.new }
+    ensures write_never_falls { O.faults out.old ≤ O.faults out.new }
     ensures write_unchanged { result ≢ Cause.WriteFault → O.faults out.new ≡ O.faults out.old }
 {
     match read_report_file(alloc, files, request.report) {
@@ -145,7 +145,7 @@ fn check_rows<F: Files, O: Sink>(
     ensures read_later { F.faults files.old ≤ F.faults files.new }
     ensures read_risen { F.faults files.old < F.faults files.new → MayFollowReadFault result }
     ensures write_fault { result ≡ Cause.WriteFault → Rose (O.faults out.old) (O.faults out.new) }
-    ensures write_later { O.faults out.old ≤ O.faults out.new }
+    ensures write_never_falls { O.faults out.old ≤ O.faults out.new }
     ensures write_unchanged { result ≢ Cause.WriteFault → O.faults out.new ≡ O.faults out.old }
 {
     let Ok(()) = put_check_head(out) else {
@@ -168,7 +168,7 @@ fn check_rows<F: Files, O: Sink>(
 fn end_check<O: Sink>(end: ShotsEnd, rows: u64, shots: u64, bad: u64, out: &mut O) -> Cause
     ensures end { EndsCheck end rows shots bad (O.taken out.old) (O.taken out.new) result }
     ensures write_fault { result ≡ Cause.WriteFault → Rose (O.faults out.old) (O.faults out.new) }
-    ensures write_later { O.faults out.old ≤ O.faults out.new }
+    ensures write_never_falls { O.faults out.old ≤ O.faults out.new }
     ensures write_unchanged { result ≢ Cause.WriteFault → O.faults out.new ≡ O.faults out.old }
 {
     match end {
@@ -208,7 +208,7 @@ fn judge_file<F: Files, O: Sink>(
     ensures unchanged { IfOk result (λ j. j.end ≢ ShotsEnd.ReadFault → F.faults files.new ≡ F.faults files.old) }
     ensures unread { result ≡ Err RowsFault.NoMemory → F.faults files.new ≡ F.faults files.old }
     ensures write_fault { result ≡ Err RowsFault.WriteFault → Rose (O.faults out.old) (O.faults out.new) }
-    ensures write_later { O.faults out.old ≤ O.faults out.new }
+    ensures write_never_falls { O.faults out.old ≤ O.faults out.new }
     ensures write_unchanged { result ≢ Err RowsFault.WriteFault → O.faults out.new ≡ O.faults out.old }
 {
     let Ok(stream) = ShotStream::new(alloc, format, graph, u32::MAX) else {
@@ -240,7 +240,7 @@ fn judge<F: Files, O: Sink>(
     ensures unchanged { IfOk result (λ j. j.end ≢ ShotsEnd.ReadFault → F.faults files.new ≡ F.faults files.old) }
     ensures unread { result ≡ Err RowsFault.NoMemory → F.faults files.new ≡ F.faults files.old }
     ensures write_fault { result ≡ Err RowsFault.WriteFault → Rose (O.faults out.old) (O.faults out.new) }
-    ensures write_later { O.faults out.old ≤ O.faults out.new }
+    ensures write_never_falls { O.faults out.old ≤ O.faults out.new }
     ensures write_unchanged { result ≢ Err RowsFault.WriteFault → O.faults out.new ≡ O.faults out.old }
 {
     let mut outbox = Outbox::new(alloc);
@@ -276,7 +276,7 @@ fn judge_into<F: Files, O: Sink>(
     ensures unchanged { IfOk result (λ j. j.end ≢ ShotsEnd.ReadFault → F.faults files.new ≡ F.faults files.old) }
     ensures unread { OnErr result (F.faults files.new ≡ F.faults files.old) }
     ensures write_fault { result ≡ Err RowsFault.WriteFault → Rose (O.faults out.old) (O.faults out.new) }
-    ensures write_later { O.faults out.old ≤ O.faults out.new }
+    ensures write_never_falls { O.faults out.old ≤ O.faults out.new }
     ensures write_unchanged { result ≢ Err RowsFault.WriteFault → O.faults out.new ≡ O.faults out.old }
 {
     let mut judge = Judge::new(graph);

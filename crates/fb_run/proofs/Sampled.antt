@@ -3,7 +3,7 @@ use Rattle.std.proofs.Common.{◌≡◌, ℕ, zero, suc, ◌+◌, ◌*◌, List,
 use Rattle.std.proofs.Math.Nat.{add-mul, suc-mul}
 use Rattle.std.proofs.lemmas.List.Sums.{sum_by-append}
 use Rattle.fb_crew.specs.Windows.{AreRows}
-use Rattle.fb_gen.specs.Drawing.{defects_from, hits_of, next_state, state_after}
+use Rattle.fb_gen.specs.Drawing.{hits_of, next_state, shot_from, state_after}
 use Rattle.fb_graph.specs.Limits.{DecodingGraph, ShotValue}
 use Rattle.fb_graph.specs.declared.parts.Row.{Row}
 use Rattle.fb_run.specs.Samples.{HaveSums, defects_in, drawn_shots, weight_in, weights_in}
@@ -45,7 +45,7 @@ module _ (g : DecodingGraph) (rate : ℕ) where
   drawn_shots-add x (suc a) b =
       let e : suc a + b ≡ suc (a + b) = omega arith in
       ap (drawn_shots g rate x) e
-      ∙ ap (λ shots. record { defects = defects_from g (hits_of x rate edges) } ∷ shots) (drawn_shots-add (state_after x edges) a b)
+      ∙ ap (λ shots. shot_from g (hits_of x rate edges) ∷ shots) (drawn_shots-add (state_after x edges) a b)
       ∙ ap (λ y. drawn_shots g rate x (suc a) ++ drawn_shots g rate y b) later
     where
       edges : ℕ
@@ -58,7 +58,7 @@ module _ (g : DecodingGraph) (rate : ℕ) where
 
   -- one more shot
   pub drawn_shots-next : (x n : ℕ) → drawn_shots g rate x (n + 1)
-      ≡ drawn_shots g rate x n ++ record { defects = defects_from g (hits_of (state_after x (n * length g.edges)) rate (length g.edges)) } ∷ []
+      ≡ drawn_shots g rate x n ++ shot_from g (hits_of (state_after x (n * length g.edges)) rate (length g.edges)) ∷ []
   drawn_shots-next x n = drawn_shots-add x n 1
 
   rows_append : (shots more : List ShotValue) (rows added : List Row) → AreRows g shots rows → AreRows g more added

@@ -1,7 +1,7 @@
 -- What a sample draws, and the text that it writes.
 use Rattle.std.specs.Prelude.{◌≡◌, ℕ, zero, suc, ◌*◌, List, [], ◌∷◌, ◌++◌, length, codes, decimal, sum_by}
 use Rattle.fb_crew.specs.Windows.{AreRows}
-use Rattle.fb_gen.specs.Drawing.{defects_from, hits_of, state_after}
+use Rattle.fb_gen.specs.Drawing.{hits_of, shot_from, state_after}
 use Rattle.fb_graph.specs.Limits.{DecodingGraph, ShotValue}
 use Rattle.fb_graph.specs.declared.parts.Row.{Row}
 use Rattle.fb_graph.specs.declared.parts.Row.TheVariants.{Best, Odd}
@@ -14,7 +14,7 @@ use Rattle.fb_words.specs.Words.{Sampling}
 abbrev pub drawn_shots : DecodingGraph → (rate state count : ℕ) → List ShotValue
 drawn_shots g rate x zero = []
 drawn_shots g rate x (suc n) =
-    record { defects = defects_from g (hits_of x rate (length g.edges)) } ∷ drawn_shots g rate (state_after x (length g.edges)) n
+    shot_from g (hits_of x rate (length g.edges)) ∷ drawn_shots g rate (state_after x (length g.edges)) n
 
 -- the number of defects of all shots
 abbrev pub defects_in : List ShotValue → ℕ

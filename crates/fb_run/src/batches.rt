@@ -113,7 +113,7 @@ pub fn decode_file<F: Files, O: Sink, G: Gate, R: Threads + Wait + Sync>(
     ensures never_falls { F.faults files.old ≤ F.faults files.new }
     ensures unchanged { IfOk result (λ d. d.end ≢ ShotsEnd.ReadFault → F.faults files.new ≡ F.faults files.old) }
     ensures write_fault { result ≡ Err RowsFault.WriteFault → Rose (O.faults out.old) (O.faults out.new) }
-    ensures write_later { O.faults out.old ≤ O.faults out.new }
+    ensures write_never_falls { O.faults out.old ≤ O.faults out.new }
     ensures write_unchanged { result ≢ Err RowsFault.WriteFault → O.faults out.new ≡ O.faults out.old }
 {
     let Ok(stream) = ShotStream::new(alloc, request.format, graph, u32::MAX) else {
@@ -163,7 +163,7 @@ fn decode_stream<F: Files, O: Sink, G: Gate, R: Threads + Wait + Sync>(
     ensures never_falls { F.faults files.old ≤ F.faults files.new }
     ensures unchanged { IfOk result (λ d. d.end ≢ ShotsEnd.ReadFault → F.faults files.new ≡ F.faults files.old) }
     ensures write_fault { result ≡ Err RowsFault.WriteFault → Rose (O.faults out.old) (O.faults out.new) }
-    ensures write_later { O.faults out.old ≤ O.faults out.new }
+    ensures write_never_falls { O.faults out.old ≤ O.faults out.new }
     ensures write_unchanged { result ≢ Err RowsFault.WriteFault → O.faults out.new ≡ O.faults out.old }
 {
     let mut tally = Tally { best: 0, odd: 0 };
@@ -273,7 +273,7 @@ fn write_batch<O: Sink>(
     ensures counts { IfOk result (λ more. AddsCounts tally more batch.now.rows.items) }
     ensures emptied { OnOk result (outbox.new.text ≡ []) }
     ensures write_fault { result ≡ Err RowsFault.WriteFault → Rose (O.faults out.old) (O.faults out.new) }
-    ensures write_later { O.faults out.old ≤ O.faults out.new }
+    ensures write_never_falls { O.faults out.old ≤ O.faults out.new }
     ensures write_unchanged { result ≢ Err RowsFault.WriteFault → O.faults out.new ≡ O.faults out.old }
 {
     let Ok(more) = add_batch(outbox, tally, trace, batch) else {

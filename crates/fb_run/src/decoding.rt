@@ -45,7 +45,7 @@ pub fn decode<F: Files, O: Sink, G: Gate, R: Threads + Wait + Sync>(
     ensures read_later { F.faults files.old ≤ F.faults files.new }
     ensures read_risen { F.faults files.old < F.faults files.new → MayFollowReadFault result }
     ensures write_fault { result ≡ Cause.WriteFault → Rose (O.faults out.old) (O.faults out.new) }
-    ensures write_later { O.faults out.old ≤ O.faults out.new }
+    ensures write_never_falls { O.faults out.old ≤ O.faults out.new }
     ensures write_unchanged { result ≢ Cause.WriteFault → O.faults out.new ≡ O.faults out.old }
 {
     match read_graph_file(alloc, files, request.graph) {
@@ -77,7 +77,7 @@ fn decode_on<F: Files, O: Sink, G: Gate, R: Threads + Wait + Sync>(
     ensures read_later { F.faults files.old ≤ F.faults files.new }
     ensures read_risen { F.faults files.old < F.faults files.new → MayFollowReadFault result }
     ensures write_fault { result ≡ Cause.WriteFault → Rose (O.faults out.old) (O.faults out.new) }
-    ensures write_later { O.faults out.old ≤ O.faults out.new }
+    ensures write_never_falls { O.faults out.old ≤ O.faults out.new }
     ensures write_unchanged { result ≢ Cause.WriteFault → O.faults out.new ≡ O.faults out.old }
 {
     let Some(name) = request.plan else {
@@ -118,7 +118,7 @@ fn decode_by<F: Files, O: Sink, G: Gate, R: Threads + Wait + Sync>(
     ensures read_later { F.faults files.old ≤ F.faults files.new }
     ensures read_risen { F.faults files.old < F.faults files.new → MayFollowReadFault result }
     ensures write_fault { result ≡ Cause.WriteFault → Rose (O.faults out.old) (O.faults out.new) }
-    ensures write_later { O.faults out.old ≤ O.faults out.new }
+    ensures write_never_falls { O.faults out.old ≤ O.faults out.new }
     ensures write_unchanged { result ≢ Cause.WriteFault → O.faults out.new ≡ O.faults out.old }
 {
     let Ok(crew) = Crew::new(alloc, graph, plan, request.workers) else {
@@ -145,7 +145,7 @@ fn end_report<O: Sink>(plan: &Plan, decoded: Decoded, out: &mut O) -> Cause
     requires few { decoded.tally.best + decoded.tally.odd < 2 ^ 32 }
     ensures end { EndsReport plan.now decoded.end (decoded.tally.best + decoded.tally.odd) (counts_in decoded.tally) (O.taken out.old) (O.taken out.new) result }
     ensures write_fault { result ≡ Cause.WriteFault → Rose (O.faults out.old) (O.faults out.new) }
-    ensures write_later { O.faults out.old ≤ O.faults out.new }
+    ensures write_never_falls { O.faults out.old ≤ O.faults out.new }
     ensures write_unchanged { result ≢ Cause.WriteFault → O.faults out.new ≡ O.faults out.old }
 {
     let tally = decoded.tally;

@@ -112,7 +112,7 @@ fn run_request<F: Files, O: Sink, G: Gate, R: Threads + Wait + Sync>(
     ensures read_later { F.faults files.old ≤ F.faults files.new }
     ensures read_risen { F.faults files.old < F.faults files.new → MayFollowReadFault result }
     ensures write_fault { result ≡ Cause.WriteFault → Rose (O.faults out.old) (O.faults out.new) }
-    ensures write_later { O.faults out.old ≤ O.faults out.new }
+    ensures write_never_falls { O.faults out.old ≤ O.faults out.new }
     ensures write_unchanged { result ≢ Cause.WriteFault → O.faults out.new ≡ O.faults out.old }
 {
     match request {

@@ -34,7 +34,7 @@ pub fn write_sample<O: Sink>(
         (sample_text (seen_sampling request.now) plan.now sums.defects sums.weight) }
     ensures nothing { result ≡ Err RowsFault.NoMemory → Appends (O.taken out.old) (O.taken out.new) [] }
     ensures write_fault { result ≡ Err RowsFault.WriteFault → Rose (O.faults out.old) (O.faults out.new) }
-    ensures write_later { O.faults out.old ≤ O.faults out.new }
+    ensures write_never_falls { O.faults out.old ≤ O.faults out.new }
     ensures write_unchanged { result ≢ Err RowsFault.WriteFault → O.faults out.new ≡ O.faults out.old }
 {
     let mut outbox = Outbox::new(alloc);

@@ -35,7 +35,7 @@ pub fn sample<O: Sink, G: Gate, R: Threads + Wait + Sync>(
     requires { IsSampleInRanges (seen_sampling request.now) }
     ensures ends { SampleEnds (seen_sampling request.now) (O.taken out.old) (O.taken out.new) result }
     ensures write_fault { result ≡ Cause.WriteFault → Rose (O.faults out.old) (O.faults out.new) }
-    ensures write_later { O.faults out.old ≤ O.faults out.new }
+    ensures write_never_falls { O.faults out.old ≤ O.faults out.new }
     ensures write_unchanged { result ≢ Cause.WriteFault → O.faults out.new ≡ O.faults out.old }
 {
     let graph = match lattice(alloc, request.distance, request.rounds) {

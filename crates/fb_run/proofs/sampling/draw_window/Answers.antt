@@ -1,5 +1,5 @@
 use Rattle.std.proofs.Common.{rules, ◌≡◌, ℕ, List, [], ◌∷◌, ◌++◌, length, sym, ap, ◌∙◌}
-use Rattle.fb_gen.specs.Drawing.{defects_from, hits_of, state_after}
+use Rattle.fb_gen.specs.Drawing.{hits_of, shot_from, state_after}
 use Rattle.std.proofs.lemmas.List.Elements.{All-push}
 use Rattle.fb_graph.specs.Limits.{IsShot, ShotValue}
 use Rattle.fb_run.specs.Samples.{drawn_shots}
@@ -16,7 +16,7 @@ loop-preserved c =
       shots = c.in_ok-push.ensures.items
           ∙ ap (λ (shots : List ShotValue). shots ++ c.in_ok-draw.field-0 ∷ []) c.loop.invariant.shots
           ∙ ap (λ (shot : ShotValue). drawn_shots g rate x n ++ shot ∷ []) (c.in_ok-draw.ensures.defects
-          ∙ ap (λ (y : ℕ). record { defects = defects_from g (hits_of y rate edges) }) c.loop.invariant.state)
+          ∙ ap (λ (y : ℕ). shot_from g (hits_of y rate edges)) c.loop.invariant.state)
           ∙ sym (drawn_shots-next g rate x n);
       each = rw c.in_ok-push.ensures.items (All-push (IsShot g) c.loop.shots.items c.in_ok-draw.field-0 c.loop.invariant.each c.in_ok-draw.ensures.shot);
       many = search rules;
