@@ -1,15 +1,13 @@
 -- A part while the defects on its seam become nodes, one after another.
-use Rattle.std.proofs.Common.{ℕ, zero, suc, ◌≡◌, ◌≢◌, ◌+◌, ◌<◌, ◌==◌, ◌&&◌, ◌||◌, ◌⊎◌, inl, inr, Bool, true, false, cond, if◌then◌else◌, List, [], ◌∷◌, ◌++◌, map, length, drop, get_or, take, All, Option, Some, None, is_some, option_map, refl, sym, ap, ◌∙◌, subst, append_assoc, length-append, arith}
-use Rattle.std.specs.List.{find, list_any}
+use Rattle.std.proofs.Common.{ℕ, ◌≡◌, ◌≢◌, ◌+◌, ◌==◌, ◌&&◌, ◌⊎◌, inl, inr, Bool, true, false, cond, if◌then◌else◌, List, [], ◌∷◌, ◌++◌, length, drop, Option, Some, None, is_some, option_map, refl, sym, ap, ◌∙◌, append_assoc, length-append}
+use Rattle.std.specs.List.{find}
 use Rattle.std.specs.Option.{option_or}
-use Rattle.std.proofs.lemmas.Bool.{and_from, and_parts, both_ways, cases_Bool, eq-eqb, eqb-true, false_from_ne_true, false≢true, or_cases, or_from, or_left, or_parts, or_right}
+use Rattle.std.proofs.lemmas.Bool.{and_from, and_parts, both_ways, cases_Bool, eq-eqb, eqb-true, false_from_ne_true, or_cases, or_from, or_parts}
 use Rattle.std.proofs.lemmas.List.Folds.{find-append, list_any-append}
 use Rattle.fb_graph.specs.Parity.{is_in}
-use Rattle.fb_graph.specs.Certificate.{AreDistinct}
 use Rattle.fb_graph.specs.Dual.{Node, cover_of, is_live, is_outer, leaf}
 use Rattle.fb_graph.proofs.AppendedNodes.{outer_in}
-use Rattle.fb_graph.proofs.Members.{AreDistinct_push, is_in-append, is_in_push, or_false}
-use Rattle.fb_graph.proofs.Sets.{is_in-cases}
+use Rattle.fb_graph.proofs.Members.{AreDistinct_push, is_in-append, is_in_push}
 use Rattle.fb_blossoms.specs.Nodes as blossoms
 use Rattle.fb_half.specs.Beginnings.{leaves_by}
 use Rattle.fb_half.specs.InternalBeginnings.{leaf_at}

@@ -6,7 +6,7 @@ use Rattle.std.proofs.lemmas.List.Elements.{All-nil, All-cons, All-head, All-tai
 use Rattle.std.specs.List.{filter}
 use Rattle.fb_graph.specs.Parity.{is_in}
 use Rattle.fb_graph.specs.Certificate.{AreDistinct}
-use Rattle.fb_graph.specs.Limits.{DecodingGraph, IsShot}
+use Rattle.fb_graph.specs.Limits.{DecodingGraph, IsShot, ShotValue, no_shot}
 use Rattle.fb_graph.specs.Dual.{Node, defects_of, is_empty, is_live, is_outer, leaf}
 use Rattle.fb_graph.specs.Singles.{nodes_of, vertices_of}
 use Rattle.fb_graph.proofs.Sets.{distinct-filter, distinct_from_rising, is_in-filter, All-from_is_in}
@@ -110,13 +110,13 @@ begun_part w begins job slot node s none = record {
         ∙ (ap (λ l. w.matching.unmatched ++ matched_names l) s.matches ∙ append-nil w.matching.unmatched)
 
     shot : IsShot w.job.graph (shot_of w)
-    shot = job.shots w.slot [] slot
+    shot = job.shots w.slot no_shot slot
 
     defects_are : (v : ℕ) → (problem_in w).is_real v ≡ true
         → (problem_in w).is_defect v ≡ is_in (vertices_of (singles_by w.matching.unmatched (own_defects w))) v
     defects_are v real =
         sym (ap (λ l. is_in l v) (single_vertices w.matching.unmatched (own_defects w) s.count)
-        ∙ (is_in-filter (problem_in w).is_real (shot_of w) v ∙ (ap (λ b. is_in (shot_of w) v && b) real ∙ and_true (is_in (shot_of w) v))))
+        ∙ (is_in-filter (problem_in w).is_real (shot_of w).defects v ∙ (ap (λ b. is_in (shot_of w).defects v && b) real ∙ and_true (is_in (shot_of w).defects v))))
       where
         and_true : (b : Bool) → (b && true) ≡ b
         and_true true = refl
@@ -127,8 +127,8 @@ begun_part w begins job slot node s none = record {
         begins (problem_in w) (singles_by w.matching.unmatched (own_defects w))
         (subst AreDistinct (sym (single_names w.matching.unmatched (own_defects w) s.count)) s.names)
         (subst AreDistinct (sym (single_vertices w.matching.unmatched (own_defects w) s.count))
-        (distinct-filter (problem_in w).is_real (shot_of w) (distinct_from_rising (shot_of w) shot.rising)))
-        (single_real (λ v. (problem_in w).is_real v ≡ true) w.matching.unmatched (own_defects w) (kept_real (problem_in w).is_real (shot_of w)))
+        (distinct-filter (problem_in w).is_real (shot_of w).defects (distinct_from_rising (shot_of w).defects shot.rising)))
+        (single_real (λ v. (problem_in w).is_real v ≡ true) w.matching.unmatched (own_defects w) (kept_real (problem_in w).is_real (shot_of w).defects))
         (single_values w.matching.unmatched (own_defects w)) defects_are
 
     state : IsPartState (problem_in w) (state_of w)
@@ -155,33 +155,33 @@ first_true true b h = refl
 first_true false b h = h
 
 -- the defects of a shot are vertices
-pub shot_below : (g : DecodingGraph) (l : List ℕ) → IsShot g l → All (λ v. v < g.vertices) l
-shot_below g l shot =
+pub shot_below : (g : DecodingGraph) (shot : ShotValue) → IsShot g shot → All (λ v. v < g.vertices) shot.defects
+shot_below g shot is =
     λ i d less.
-    ltb-true (get_or l i d) g.vertices
-    (first_true (nat_lt (get_or l i d) g.vertices) (not (is_in g.virtuals (get_or l i d))) (shot.real i d less))
+    ltb-true (get_or shot.defects i d) g.vertices
+    (first_true (nat_lt (get_or shot.defects i d) g.vertices) (not (is_in g.virtuals (get_or shot.defects i d))) (is.real i d less))
 
 -- the defects of the shot that are real at the node
 abbrev pub own_of : JobValue → ℕ → ℕ → List ℕ
-own_of j s n = filter (problem_at j.graph j.plan n []).is_real (get_or j.shots s [])
+own_of j s n = filter (problem_at j.graph j.plan n no_shot).is_real (get_or j.shots s no_shot).defects
 
-pub shot_at : (j : JobValue) (s : ℕ) → IsJob j → s < length j.shots → IsShot j.graph (get_or j.shots s [])
-shot_at j s job less = job.shots s [] less
+pub shot_at : (j : JobValue) (s : ℕ) → IsJob j → s < length j.shots → IsShot j.graph (get_or j.shots s no_shot)
+shot_at j s job less = job.shots s no_shot less
 
-pub own_is : (j : JobValue) (s n : ℕ) (g : DecodingGraph) (t : PlanTree) (l own : List ℕ) → g ≡ j.graph → t ≡ j.plan → l ≡ get_or j.shots s []
-    → own ≡ filter (problem_at g t n []).is_real l → own ≡ own_of j s n
+pub own_is : (j : JobValue) (s n : ℕ) (g : DecodingGraph) (t : PlanTree) (l own : List ℕ) → g ≡ j.graph → t ≡ j.plan → l ≡ (get_or j.shots s no_shot).defects
+    → own ≡ filter (problem_at g t n no_shot).is_real l → own ≡ own_of j s n
 own_is j s n g t l own graph plan shot is =
     is
-    ∙ (ap (λ x. filter (problem_at x t n []).is_real l) graph
-    ∙ (ap (λ x. filter (problem_at j.graph x n []).is_real l) plan ∙ ap (filter (problem_at j.graph j.plan n []).is_real) shot))
+    ∙ (ap (λ x. filter (problem_at x t n no_shot).is_real l) graph
+    ∙ (ap (λ x. filter (problem_at j.graph x n no_shot).is_real l) plan ∙ ap (filter (problem_at j.graph j.plan n no_shot).is_real) shot))
 
 pub own_distinct : (j : JobValue) (s n : ℕ) → IsJob j → s < length j.shots → AreDistinct (own_of j s n)
 own_distinct j s n job less =
-    distinct-filter (problem_at j.graph j.plan n []).is_real (get_or j.shots s [])
-    (distinct_from_rising (get_or j.shots s []) (shot_at j s job less).rising)
+    distinct-filter (problem_at j.graph j.plan n no_shot).is_real (get_or j.shots s no_shot).defects
+    (distinct_from_rising (get_or j.shots s no_shot).defects (shot_at j s job less).rising)
 
-pub own_real : (j : JobValue) (s n : ℕ) → All (λ v. (problem_at j.graph j.plan n []).is_real v ≡ true) (own_of j s n)
-own_real j s n = kept_real (problem_at j.graph j.plan n []).is_real (get_or j.shots s [])
+pub own_real : (j : JobValue) (s n : ℕ) → All (λ v. (problem_at j.graph j.plan n no_shot).is_real v ≡ true) (own_of j s n)
+own_real j s n = kept_real (problem_at j.graph j.plan n no_shot).is_real (get_or j.shots s no_shot).defects
 
 own_in : (w : PartValue) (j : JobValue) (s n : ℕ) (own : List ℕ) → w.job ≡ j → w.slot ≡ s → w.node ≡ n → own ≡ own_of j s n → own ≡ own_defects w
 own_in w j s n own job slot node is =
@@ -209,7 +209,7 @@ is_begun w j s n own job slot node is started =
       matches = started.matches;
     }
 
-pub shot_read : (j : JobValue) (s : ℕ) (shots : List (List ℕ)) (read l : List ℕ) → shots ≡ j.shots → s < length j.shots
-    → read ≡ get_or shots s read → l ≡ read → l ≡ get_or j.shots s []
+pub shot_read : (j : JobValue) (s : ℕ) (shots : List ShotValue) (read : ShotValue) (l : List ℕ) → shots ≡ j.shots → s < length j.shots
+    → read ≡ get_or shots s read → l ≡ read.defects → l ≡ (get_or j.shots s no_shot).defects
 shot_read j s shots read l same less is same_list =
-    same_list ∙ (is ∙ (ap (λ x. get_or x s read) same ∙ get_or_default j.shots s read [] less))
+    same_list ∙ ap (λ x. x.defects) (is ∙ (ap (λ x. get_or x s read) same ∙ get_or_default j.shots s read no_shot less))

@@ -1,19 +1,18 @@
 -- Two parts beside one another: their links are those of the merged table.
-use Rattle.std.proofs.Common.{ℕ, ◌≡◌, ◌<◌, ◌==◌, length, ◌||◌, ◌⊎◌, inl, inr, Bool, true, false, List, [], ◌∷◌, ◌++◌, map, flat_map, get_or, All, Option, Some, None, is_some, unwrap_or, refl, sym, ap, ◌∙◌, subst}
+use Rattle.std.proofs.Common.{ℕ, ◌≡◌, ◌<◌, length, ◌||◌, ◌⊎◌, inl, inr, true, false, List, [], ◌∷◌, ◌++◌, map, get_or, Option, Some, None, is_some, unwrap_or, refl, sym, ap, ◌∙◌, subst}
 use Rattle.std.specs.List.Sorted.{IsPermutation}
 use Rattle.std.proofs.lemmas.Bool.{both_ways, false_from_ne_true, false≢true, or_cases, or_left, or_right}
-use Rattle.std.proofs.lemmas.Grind.{flat_map-append}
 use Rattle.std.proofs.lemmas.List.{append_assoc, map-append}
-use Rattle.std.proofs.lemmas.List.Sorted.{IsPermutation-append_left, IsPermutation-append_right, IsPermutation-append_comm, IsPermutation-sym, IsPermutation-trans}
+use Rattle.std.proofs.lemmas.List.Sorted.{IsPermutation-append_right}
 use Rattle.fb_graph.specs.Parity.{is_in}
 use Rattle.fb_graph.specs.Problem.{Problem, edge_at}
 use Rattle.fb_graph.specs.Certificate.{AreDistinct}
 use Rattle.fb_graph.specs.Components.{Leads}
-use Rattle.fb_graph.specs.Dual.{Node, is_live as is_node}
-use Rattle.fb_graph.specs.Laws.{Link, has_real_end}
+use Rattle.fb_graph.specs.Dual.{Node}
+use Rattle.fb_graph.specs.Laws.{has_real_end}
 use Rattle.fb_graph.specs.declared.parts.Edge.{Edge}
 use Rattle.fb_graph.specs.RenamedNodes.{renamed_nodes}
-use Rattle.fb_graph.proofs.Among.{IsAmong, among_live}
+use Rattle.fb_graph.proofs.Among.{IsAmong}
 use Rattle.fb_graph.proofs.Members.{is_in-append}
 use Rattle.fb_graph.proofs.RenamedNodes.{distinct_renamed, from_renamed, in_renamed}
 use Rattle.fb_graph.proofs.Sets.{is_in-head, is_in-tail}
@@ -24,7 +23,6 @@ use Rattle.fb_links.specs.Merged.{AreMerged}
 use Rattle.fb_links.specs.Names.{name_by}
 use Rattle.fb_links.specs.Table.{is_live, link_at}
 use Rattle.fb_links.proofs.Renaming.{either_one, left_stays, right_apart, right_renamed}
-use Rattle.fb_regions.specs.Walks.{IsStep}
 use Rattle.fb_half.specs.declared.matches.Match.{Match}
 use Rattle.fb_half.specs.Matchings.{match_links}
 use Rattle.fb_half.specs.Merged.{renamed_match}

@@ -1,7 +1,6 @@
 -- The solved parts of a fusion's two children with the seam between them opened keep what each part keeps (Wu and Zhong
 -- 2023).
-use Rattle.std.proofs.Common.{ℕ, ◌≡◌, ◌&&◌, ◌||◌, ◌⊎◌, inl, inr, Bool, true, false, if◌then◌else◌, List, [], ◌∷◌, ◌++◌, map, length, get_or, All, Option, Some, None, refl, sym, ap, ◌∙◌, subst}
-use Rattle.std.specs.List.{filter}
+use Rattle.std.proofs.Common.{ℕ, ◌≡◌, ◌&&◌, ◌⊎◌, Bool, true, false, if◌then◌else◌, List, [], ◌++◌, map, get_or, Some, refl, sym, ap, ◌∙◌, subst}
 use Rattle.std.specs.List.Sorted.{IsPermutation}
 use Rattle.std.proofs.lemmas.Bool.{or_left, or_right}
 use Rattle.std.proofs.lemmas.List.{map-append}
@@ -9,13 +8,13 @@ use Rattle.fb_graph.specs.Parity.{is_in}
 use Rattle.fb_graph.specs.Problem.{Problem}
 use Rattle.fb_graph.specs.Certificate.{AreDistinct}
 use Rattle.fb_graph.specs.Dual.{is_live}
-use Rattle.fb_graph.specs.Laws.{IsPart as IsPartOfProblem, Link}
-use Rattle.fb_graph.specs.Limits.{IsShot, IsWithinLimits}
-use Rattle.fb_graph.specs.Singles.{Single, nodes_of, vertices_of}
+use Rattle.fb_graph.specs.Laws.{IsPart as IsPartOfProblem}
+use Rattle.fb_graph.specs.Limits.{IsShot, IsWithinLimits, no_shot}
+use Rattle.fb_graph.specs.Singles.{Single, vertices_of}
 use Rattle.fb_graph.proofs.Members.{is_in-append}
 use Rattle.fb_graph.proofs.Sets.{distinct-filter, distinct_from_rising, is_in-filter}
 use Rattle.fb_laws.specs.FusedStates.{AreFurther}
-use Rattle.fb_laws.specs.Merging.{Freed, IsSeam, freed_links, freed_names}
+use Rattle.fb_laws.specs.Merging.{IsSeam, freed_links, freed_names}
 use Rattle.fb_laws.specs.PartStates.{IsPartState, PartState}
 use Rattle.fb_laws.specs.RenamedStates.{AreCyclesRenamed, renamed_state}
 use Rattle.fb_laws.specs.StateFusions.{merged_cycles, merged_state, seamed_state}
@@ -25,7 +24,6 @@ use Rattle.fb_plan.specs.Plans.{children_of, problem_at}
 use Rattle.fb_links.specs.Merged.{AreMerged}
 use Rattle.fb_links.specs.Table.{is_live as is_link}
 use Rattle.fb_blossoms.specs.Merged as merged
-use Rattle.fb_half.specs.Beginnings.{leaves_by}
 use Rattle.fb_half.specs.InternalSeams.{IsBeside, IsOpened, AddsSingles, freed_matching}
 use Rattle.fb_half.specs.Matchings.{match_links}
 use Rattle.fb_half.specs.Merged.{is_owned_by, seam_defects}
@@ -36,7 +34,7 @@ use Rattle.fb_half.proofs.BegunParts.{kept_real, same_function, single_real}
 use Rattle.fb_half.proofs.BesideLinks.{link_left, link_right, links_moved, links_same}
 use Rattle.fb_half.proofs.BesideNodes.{ring_left, ring_right}
 use Rattle.fb_half.proofs.FreedMatches.{Table, firsts}
-use Rattle.fb_half.proofs.MergedHalves.{before, beside, links_are, middle, middle_part, name, link, names_apart, names_own, node_below, others, p, parts, q, real_covered, same_part, seam_real, seam_unreal, whole, whole_limits}
+use Rattle.fb_half.proofs.MergedHalves.{before, links_are, middle, middle_part, name, link, names_apart, names_own, node_below, p, parts, q, real_covered, same_part, seam_real, seam_unreal, whole, whole_limits}
 use Rattle.fb_half.proofs.SeamedLinks.{agreed_seamed, cycles_stay, in_rings, links_seamed, not_own}
 use Rattle.fb_half.proofs.SeamedMatchings.{freed_are, freed_list, freed_names_are, links_split, matching_seamed, rest, rest_elsewhere, taken}
 use Rattle.fb_half.proofs.AddedSingles.{Store}
@@ -51,7 +49,7 @@ and_true : (b : Bool) → (b && true) ≡ b
 and_true true = refl
 and_true false = refl
 
-module _ (left right : PartValue) (n : ℕ) (limits : IsWithinLimits (problem_at left.job.graph left.job.plan n []))
+module _ (left right : PartValue) (n : ℕ) (limits : IsWithinLimits (problem_at left.job.graph left.job.plan n no_shot))
     (children : children_of left.job.plan n ≡ Some (left.node, right.node)) (one : IsPart left)
     (two : IsPart (record right { job = left.job; slot = left.slot })) (matched : left.matching.unmatched ≡ []) (also : right.matching.unmatched ≡ [])
     (links names : List (ℕ × ℕ)) (table : Table) (store : Store) (tables : AreMerged left.links right.links links table)
@@ -130,7 +128,7 @@ module _ (left right : PartValue) (n : ℕ) (limits : IsWithinLimits (problem_at
         by false dead = ap (λ c. if c then cycles_by left.links left.store x else cycles_by after.links after.store x) dead
 
     shot : IsShot left.job.graph (shot_of left)
-    shot = one.job.shots left.slot [] one.slot
+    shot = one.job.shots left.slot no_shot one.slot
 
     vertices_are : vertices_of singles ≡ defects
     vertices_are = single_vertices own defects singles_added.count
@@ -146,11 +144,11 @@ module _ (left right : PartValue) (n : ℕ) (limits : IsWithinLimits (problem_at
       unreal = seam_unreal left right n limits children one two matched also;
       freed_are = freed_are own w after beside_is opened;
       elsewhere = rest_elsewhere own w after beside_is opened;
-      at_seam = single_real (λ v. owned v ≡ true) own defects (kept_real owned (shot_of left));
+      at_seam = single_real (λ v. owned v ≡ true) own defects (kept_real owned (shot_of left).defects);
       bare = single_values own defects;
       defects = λ v seam.
           sym (ap (λ l. is_in l v) vertices_are
-          ∙ (is_in-filter owned (shot_of left) v ∙ (ap (λ c. is_in (shot_of left) v && c) seam ∙ and_true (is_in (shot_of left) v))));
+          ∙ (is_in-filter owned (shot_of left).defects v ∙ (ap (λ c. is_in (shot_of left).defects v && c) seam ∙ and_true (is_in (shot_of left).defects v))));
     }
 
     further : AreFurther fused w.nodes singles
@@ -159,9 +157,9 @@ module _ (left right : PartValue) (n : ℕ) (limits : IsWithinLimits (problem_at
       own = λ x live.
           ap (λ l. is_live l x) (single_nodes own defects)
           ∙ (live_leaves own defects x singles_added.count ∙ not_own own w after beside_is opened x live);
-      vertices = subst AreDistinct (sym vertices_are) (distinct-filter owned (shot_of left) (distinct_from_rising (shot_of left) shot.rising));
+      vertices = subst AreDistinct (sym vertices_are) (distinct-filter owned (shot_of left).defects (distinct_from_rising (shot_of left).defects shot.rising));
       real = single_real (λ v. fused.is_real v ≡ true) own defects
-          (λ i d less. seam_real left right n limits children one two matched also (get_or defects i d) (kept_real owned (shot_of left) i d less));
+          (λ i d less. seam_real left right n limits children one two matched also (get_or defects i d) (kept_real owned (shot_of left).defects i d less));
     }
 
     matches_are : map (link_by table) (match_links w.matching.matches) ≡ first_state.matches ++ second_state.matches

@@ -1,13 +1,10 @@
 -- The two halves that a fusion is given: what they keep, read over the job and the slot of the left one.
 use Rattle.std.proofs.Common.{ℕ, ◌≡◌, List, [], ◌++◌, map, Some, refl, sym, ap, ◌∙◌, subst}
-use Rattle.fb_graph.specs.Certificate.{AreDistinct}
-use Rattle.fb_graph.specs.Dual.{Node}
-use Rattle.fb_graph.specs.Limits.{DecodingGraph, IsWithinLimits}
+use Rattle.fb_graph.specs.Limits.{DecodingGraph, IsWithinLimits, no_shot}
 use Rattle.fb_graph.specs.RenamedNodes.{renamed_nodes}
 use Rattle.fb_plan.specs.Plans.{JobValue, PlanTree, children_of, problem_at}
 use Rattle.fb_links.specs.Names.{name_by}
 use Rattle.fb_half.specs.declared.matches.Match.{Match}
-use Rattle.fb_half.specs.Matchings.{MatchingValue, listed_names, matched_names}
 use Rattle.fb_half.specs.Merged.{renamed_match}
 use Rattle.fb_half.specs.Parts.{IsPart, PartValue}
 use Rattle.fb_half.proofs.MergedHalves.{same_part}
@@ -16,7 +13,7 @@ pub record AreHalves (j : JobValue) (left right : PartValue) (n : ℕ) : Type 0 
   pub job : left.job ≡ j
   pub same_job : right.job ≡ left.job
   pub same_slot : right.slot ≡ left.slot
-  pub limits : IsWithinLimits (problem_at left.job.graph left.job.plan n [])
+  pub limits : IsWithinLimits (problem_at left.job.graph left.job.plan n no_shot)
   pub children : children_of left.job.plan n ≡ Some (left.node, right.node)
   pub one : IsPart left
   pub two : IsPart (record right { job = left.job; slot = left.slot })
@@ -26,7 +23,7 @@ pub record AreHalves (j : JobValue) (left right : PartValue) (n : ℕ) : Type 0 
 -- two halves as they are taken apart
 pub halves_of : (j : JobValue) (n : ℕ) (g : DecodingGraph) (t : PlanTree) (left right first second : PartValue) → left ≡ first → right ≡ second
     → first.job ≡ j → second.job ≡ j → first.slot ≡ second.slot → children_of j.plan n ≡ Some (first.node, second.node)
-    → g ≡ j.graph → t ≡ j.plan → IsWithinLimits (problem_at g t n []) → IsPart first → IsPart second
+    → g ≡ j.graph → t ≡ j.plan → IsWithinLimits (problem_at g t n no_shot) → IsPart first → IsPart second
     → first.matching.unmatched ≡ [] → second.matching.unmatched ≡ [] → AreHalves j left right n
 halves_of j n g t left right first second left_is right_is first_job second_job slot children graph plan limits one two matched also =
     subst (λ x. AreHalves j x right n) (sym left_is)
@@ -36,8 +33,8 @@ halves_of j n g t left right first second left_is right_is first_job second_job 
       same_job = second_job ∙ sym first_job;
       same_slot = sym slot;
       limits =
-          subst (λ x. IsWithinLimits (problem_at x.graph x.plan n [])) (sym first_job)
-          (subst (λ x. IsWithinLimits (problem_at j.graph x n [])) plan (subst (λ x. IsWithinLimits (problem_at x t n [])) graph limits));
+          subst (λ x. IsWithinLimits (problem_at x.graph x.plan n no_shot)) (sym first_job)
+          (subst (λ x. IsWithinLimits (problem_at j.graph x n no_shot)) plan (subst (λ x. IsWithinLimits (problem_at x t n no_shot)) graph limits));
       children = ap (λ x. children_of x.plan n) first_job ∙ children;
       one = one;
       two = subst IsPart

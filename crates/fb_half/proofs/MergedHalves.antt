@@ -1,5 +1,5 @@
 -- The solved parts of a fusion's two children beside one another.
-use Rattle.std.proofs.Common.{ℕ, ◌≡◌, ◌≢◌, ◌<◌, ◌==◌, ◌&&◌, ◌||◌, ◌⊎◌, inl, inr, Bool, true, false, List, [], ◌∷◌, ◌++◌, map, flat_map, length, get_or, All, Option, Some, None, is_some, refl, sym, ap, ◌∙◌, subst, arith}
+use Rattle.std.proofs.Common.{ℕ, ◌≡◌, ◌<◌, ◌||◌, ◌⊎◌, inl, inr, true, false, List, [], ◌++◌, map, Option, Some, None, is_some, refl, sym, ap, ◌∙◌, subst, arith}
 use Rattle.std.specs.List.Sorted.{IsPermutation}
 use Rattle.std.proofs.lemmas.Bool.{and_from, and_parts, both_ways, eq-eqb, eqb-true, false≢true, or_cases, or_from, or_left, or_right}
 use Rattle.std.proofs.lemmas.Grind.{flat_map-append}
@@ -7,9 +7,9 @@ use Rattle.std.proofs.lemmas.List.{map-append}
 use Rattle.fb_graph.specs.Parity.{is_in}
 use Rattle.fb_graph.specs.Problem.{Problem}
 use Rattle.fb_graph.specs.Certificate.{AreDistinct}
-use Rattle.fb_graph.specs.Dual.{AreOuterApart, Node, is_live}
-use Rattle.fb_graph.specs.Laws.{IsPart as IsPartOfProblem, Link}
-use Rattle.fb_graph.specs.Limits.{DecodingGraph, IsWithinLimits, is_real_in}
+use Rattle.fb_graph.specs.Dual.{Node}
+use Rattle.fb_graph.specs.Laws.{IsPart as IsPartOfProblem}
+use Rattle.fb_graph.specs.Limits.{DecodingGraph, IsWithinLimits, is_real_in, no_shot}
 use Rattle.fb_graph.specs.Nests.{IsNest}
 use Rattle.fb_graph.specs.NestUnions.{AreParts, HaveOwnNames}
 use Rattle.fb_graph.specs.RenamedNodes.{AreRenamedApart, renamed_nodes}
@@ -24,7 +24,6 @@ use Rattle.fb_plan.specs.Plans.{IsPlan, JobValue, PlanTree, children_of, node_co
 use Rattle.fb_plan.specs.Seams.{is_own, is_owner}
 use Rattle.fb_plan.proofs.FusionSeams.{fusion_is_parts, seam_is_apart}
 use Rattle.fb_plan.proofs.SubProblems.{child_is_part, children_are_separated, fusion_of}
-use Rattle.fb_links.specs.declared.walk.Step.{Step}
 use Rattle.fb_links.specs.Merged.{AreMerged}
 use Rattle.fb_links.specs.Names.{name_by}
 use Rattle.fb_links.specs.Table.{is_live as is_link}
@@ -37,7 +36,7 @@ use Rattle.fb_half.specs.Merged.{is_node, is_owned_by, renamed_match}
 use Rattle.fb_half.specs.Parts.{IsPart, PartValue, kept_links, problem_in, shot_of}
 use Rattle.fb_half.specs.Translations.{link_by, ring_links}
 use Rattle.fb_half.proofs.BesideLinks.{link_left, link_right, links_beside, links_renamed, pieces_crossed, rings_renamed, rings_same}
-use Rattle.fb_half.proofs.BesideMatchings.{all_matched, listed_beside, matching_beside, names_renamed}
+use Rattle.fb_half.proofs.BesideMatchings.{listed_beside, matching_beside, names_renamed}
 use Rattle.fb_half.proofs.BesideNodes.{agreed_beside, apart, own_names, ring_left, ring_right}
 use Rattle.fb_half.proofs.FreedMatches.{Table, link_in}
 use Rattle.fb_half.proofs.SeamOpenings.{leaf_held}
@@ -74,21 +73,21 @@ same_part v w job slot node nodes links store matching =
 -- the sub-problems of the children are parts of the parent's, whichever copies of the graph and of the plan they are read from
 pub scoped_parts : (j : JobValue) (n left right l r : ℕ) (g h k : DecodingGraph) (t u w : PlanTree) → IsPlan j.graph j.plan
     → children_of j.plan n ≡ Some (left, right) → g ≡ j.graph → h ≡ j.graph → k ≡ j.graph → t ≡ j.plan → u ≡ j.plan → w ≡ j.plan
-    → l ≡ left → r ≡ right → AreParts (problem_at g t l []) (problem_at h u r []) (problem_at k w n [])
+    → l ≡ left → r ≡ right → AreParts (problem_at g t l no_shot) (problem_at h u r no_shot) (problem_at k w n no_shot)
 scoped_parts j n left right l r g h k t u w plan children eg eh ek et eu ew el er =
-    subst (λ x. AreParts x (problem_at h u r []) (problem_at k w n [])) (sym (at g t l left eg et el))
-    (subst (λ x. AreParts (problem_at j.graph j.plan left []) x (problem_at k w n [])) (sym (at h u r right eh eu er))
-    (subst (AreParts (problem_at j.graph j.plan left []) (problem_at j.graph j.plan right [])) (sym (at k w n n ek ew refl))
+    subst (λ x. AreParts x (problem_at h u r no_shot) (problem_at k w n no_shot)) (sym (at g t l left eg et el))
+    (subst (λ x. AreParts (problem_at j.graph j.plan left no_shot) x (problem_at k w n no_shot)) (sym (at h u r right eh eu er))
+    (subst (AreParts (problem_at j.graph j.plan left no_shot) (problem_at j.graph j.plan right no_shot)) (sym (at k w n n ek ew refl))
     (record {
-      left_part = (child_is_part j.graph j.plan n left right [] plan children).0;
-      right_part = (child_is_part j.graph j.plan n left right [] plan children).1;
-      separated = children_are_separated j.graph j.plan n left right [] plan children;
+      left_part = (child_is_part j.graph j.plan n left right no_shot plan children).0;
+      right_part = (child_is_part j.graph j.plan n left right no_shot plan children).1;
+      separated = children_are_separated j.graph j.plan n left right no_shot plan children;
     })))
   where
-    at : (g : DecodingGraph) (t : PlanTree) (m k : ℕ) → g ≡ j.graph → t ≡ j.plan → m ≡ k → problem_at g t m [] ≡ problem_at j.graph j.plan k []
-    at g t m k a b c = ap (λ x. problem_at x t m []) a ∙ (ap (λ x. problem_at j.graph x m []) b ∙ ap (λ x. problem_at j.graph j.plan x []) c)
+    at : (g : DecodingGraph) (t : PlanTree) (m k : ℕ) → g ≡ j.graph → t ≡ j.plan → m ≡ k → problem_at g t m no_shot ≡ problem_at j.graph j.plan k no_shot
+    at g t m k a b c = ap (λ x. problem_at x t m no_shot) a ∙ (ap (λ x. problem_at j.graph x m no_shot) b ∙ ap (λ x. problem_at j.graph j.plan x no_shot) c)
 
-module _ (left right : PartValue) (n : ℕ) (limits : IsWithinLimits (problem_at left.job.graph left.job.plan n []))
+module _ (left right : PartValue) (n : ℕ) (limits : IsWithinLimits (problem_at left.job.graph left.job.plan n no_shot))
     (children : children_of left.job.plan n ≡ Some (left.node, right.node)) (one : IsPart left)
     (two : IsPart (record right { job = left.job; slot = left.slot })) (matched : left.matching.unmatched ≡ []) (also : right.matching.unmatched ≡ []) where
   abbrev pub p : Problem

@@ -1,12 +1,12 @@
 -- The defects of a shot within a node's reach: these alone may be the node's own.
-use Rattle.std.proofs.Common.{ℕ, ◌≡◌, ◌+◌, ◌<◌, ◌&&◌, Bool, true, false, cond, List, [], ◌∷◌, ◌++◌, length, take, drop, All, Option, Some, None, nat_le, nat_lt, refl, sym, ap, ◌∙◌, subst, arith, length-take, length-drop}
+use Rattle.std.proofs.Common.{ℕ, ◌≡◌, ◌+◌, ◌<◌, Bool, true, false, cond, List, [], ◌∷◌, ◌++◌, length, take, drop, All, Option, Some, None, nat_le, nat_lt, refl, sym, ap, ◌∙◌, subst, arith, length-take, length-drop}
 use Rattle.std.specs.List.{AllWithin, filter}
 use Rattle.std.specs.List.Sorted.{IsNonDecreasingBy, IsPartitionPoint, IsStrictlyIncreasing}
 use Rattle.std.proofs.lemmas.Bool.{and_from, and_left, and_right, eqb-true, false≢true, le-leb, lt-leb, lt-ltb, ltb-false, ltb-true}
 use Rattle.std.proofs.lemmas.List.{append-nil, get_or-drop, get_or-take, get_or_default, take-append-drop}
 use Rattle.std.proofs.lemmas.List.Elements.{All-take, filter-append}
 use Rattle.std.proofs.lemmas.List.Sorted.{IsNonDecreasingBy-from_all_adjacent}
-use Rattle.fb_graph.specs.Limits.{DecodingGraph}
+use Rattle.fb_graph.specs.Limits.{DecodingGraph, no_shot}
 use Rattle.fb_graph.proofs.Among.{IsAmong, All_among}
 use Rattle.fb_plan.specs.Plans.{PlanTree, owner_of, problem_at}
 use Rattle.fb_plan.specs.Reaches.{IsReach, is_reached}
@@ -48,10 +48,10 @@ seam_reached t n r reach xs = filter_twice (is_owned_by t n) (is_reached r) (λ 
 
 -- and so are those at a unit's real vertices
 pub own_reached : (g : DecodingGraph) (t : PlanTree) (n : ℕ) (r : Reach) → n < t.units → IsReach t.owners n r → (xs : List ℕ)
-    → filter (problem_at g t n []).is_real (filter (is_reached r) xs) ≡ filter (problem_at g t n []).is_real xs
+    → filter (problem_at g t n no_shot).is_real (filter (is_reached r) xs) ≡ filter (problem_at g t n no_shot).is_real xs
 own_reached g t n r unit reach xs =
-    filter_twice (problem_at g t n []).is_real (is_reached r)
-    (λ v real. owned_reached t n v r reach (own_is_owned g t n v (sym (unit_is_own g t n v [] unit) ∙ real))) xs
+    filter_twice (problem_at g t n no_shot).is_real (is_reached r)
+    (λ v real. owned_reached t n v r reach (own_is_owned g t n v (sym (unit_is_own g t n v no_shot unit) ∙ real))) xs
 
 -- a rising list does not fall
 pub never_falls : (xs : List ℕ) → IsStrictlyIncreasing xs → IsNonDecreasingBy (λ x. x) xs

@@ -1,10 +1,9 @@
 -- What is asked where the seam of a fusion is opened: its defects lie under no node, and the links' ends are vertices of
 -- the plan.
-use Rattle.std.proofs.Common.{ℕ, ◌≡◌, ◌≢◌, ◌<◌, ◌&&◌, ◌||◌, ◌⊎◌, inl, inr, not, Bool, true, false, List, [], ◌∷◌, ◌++◌, map, length, get_or, All, Option, Some, None, is_some, unwrap_or, refl, sym, ap, ◌∙◌, subst, arith}
+use Rattle.std.proofs.Common.{ℕ, ◌≡◌, ◌≢◌, ◌<◌, ◌||◌, ◌⊎◌, inl, inr, true, false, List, [], ◌∷◌, ◌++◌, map, length, get_or, All, Option, Some, None, is_some, unwrap_or, refl, sym, ap, ◌∙◌, subst, arith}
 use Rattle.std.specs.List.{filter}
-use Rattle.std.specs.List.Sorted.{IsPermutation, IsStrictlyIncreasing}
-use Rattle.std.specs.Option.{IsSome}
-use Rattle.std.proofs.lemmas.Bool.{and_parts, both_ways, eq-eqb, false_from_ne_true, false≢true, or_cases, or_from, or_left, or_right}
+use Rattle.std.specs.List.Sorted.{IsStrictlyIncreasing}
+use Rattle.std.proofs.lemmas.Bool.{both_ways, false_from_ne_true, false≢true, or_cases, or_left, or_right}
 use Rattle.std.proofs.lemmas.Grind.{flat_map-append}
 use Rattle.std.proofs.lemmas.List.Elements.{All-head, All-tail}
 use Rattle.fb_graph.specs.Parity.{is_in}
@@ -12,11 +11,10 @@ use Rattle.fb_graph.specs.Problem.{edge_at, no_edge}
 use Rattle.fb_graph.specs.Certificate.{AreDistinct}
 use Rattle.fb_graph.specs.Components.{Leads}
 use Rattle.fb_graph.specs.Dual.{Node, cover_of, defects_of, is_empty, is_live, leaves}
-use Rattle.fb_graph.specs.Limits.{DecodingGraph, IsEdge, IsGraph, IsShot}
-use Rattle.fb_graph.specs.declared.parts.Edge.{Edge}
+use Rattle.fb_graph.specs.Limits.{DecodingGraph, IsGraph, IsShot, no_shot}
 use Rattle.fb_graph.proofs.Among.{IsAmong, All_among, among_All, live_among}
 use Rattle.fb_graph.proofs.Members.{is_in-append}
-use Rattle.fb_graph.proofs.Sets.{All-from_is_in, distinct-filter, distinct_from_rising, is_in-filter, is_in-head}
+use Rattle.fb_graph.proofs.Sets.{distinct-filter, distinct_from_rising, is_in-head}
 use Rattle.fb_laws.proofs.OpenedBlossoms.{same_permuted}
 use Rattle.fb_laws.proofs.TreePaths.{distinct_left}
 use Rattle.fb_plan.specs.Plans.{PlanTree}
@@ -25,12 +23,11 @@ use Rattle.fb_links.specs.declared.walk.Step.{Step}
 use Rattle.fb_links.specs.Table.{IsLink, is_live as is_link, link_at, walk_at}
 use Rattle.fb_links.specs.Walks.{end_from, end_of, start_of}
 use Rattle.fb_blossoms.specs.Nodes as blossoms
-use Rattle.fb_regions.specs.Walks.{IsStep}
 use Rattle.fb_half.specs.declared.matches.Match.{Match}
 use Rattle.fb_half.specs.InternalSeams.{IsBeside, IsFreed}
 use Rattle.fb_half.specs.Matchings.{MatchingValue, listed_names, match_links, matched_names, names_of}
 use Rattle.fb_half.specs.Merged.{IsPlanned, is_owned_by}
-use Rattle.fb_half.specs.Parts.{AreAgreed, AreLinksOf, AreStepsOf, PartValue, kept_links, problem_in, shot_of}
+use Rattle.fb_half.specs.Parts.{AreAgreed, PartValue, problem_in, shot_of}
 use Rattle.fb_half.specs.Translations.{children_at, link_by, ring_links}
 use Rattle.fb_half.proofs.BegunParts.{kept_real, shot_below}
 use Rattle.fb_half.proofs.FlatPermutations.{flat_permuted}
@@ -124,22 +121,22 @@ module _ (w : PartValue) (job : IsJob w.job) (graph : IsGraph w.job.graph) (b : 
           (subst (λ es. Leads (edge_at es s.edge) s.from s.to) b.edges is.leads))))
 
   shot : IsShot w.job.graph (shot_of w)
-  shot = job.shots w.slot [] b.slot
+  shot = job.shots w.slot no_shot b.slot
 
-  pub shot_rises : IsStrictlyIncreasing (shot_of w)
+  pub shot_rises : IsStrictlyIncreasing (shot_of w).defects
   shot_rises = shot.rising
 
-  pub shot_planned : All (λ v. v < length w.job.plan.owners) (shot_of w)
-  shot_planned = subst (λ n. All (λ v. v < n) (shot_of w)) (sym owners_are) (shot_below w.job.graph (shot_of w) shot)
+  pub shot_planned : All (λ v. v < length w.job.plan.owners) (shot_of w).defects
+  shot_planned = subst (λ n. All (λ v. v < n) (shot_of w).defects) (sym owners_are) (shot_below w.job.graph (shot_of w) shot)
 
   abbrev pub seam : List ℕ
-  seam = filter (is_owned_by w.job.plan w.node) (shot_of w)
+  seam = filter (is_owned_by w.job.plan w.node) (shot_of w).defects
 
   pub seam_distinct : AreDistinct seam
-  seam_distinct = distinct-filter (is_owned_by w.job.plan w.node) (shot_of w) (distinct_from_rising (shot_of w) shot.rising)
+  seam_distinct = distinct-filter (is_owned_by w.job.plan w.node) (shot_of w).defects (distinct_from_rising (shot_of w).defects shot.rising)
 
   pub seam_owned : All (λ v. is_owned_by w.job.plan w.node v ≡ true) seam
-  seam_owned = kept_real (is_owned_by w.job.plan w.node) (shot_of w)
+  seam_owned = kept_real (is_owned_by w.job.plan w.node) (shot_of w).defects
 
   pub bare : (v : ℕ) → is_owned_by w.job.plan w.node v ≡ true → cover_of w.nodes v ≡ None
   bare v owned = step (cover_of w.nodes v) refl

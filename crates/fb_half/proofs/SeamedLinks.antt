@@ -1,18 +1,17 @@
 -- A part whose seam is opened: its nodes and its links.
-use Rattle.std.proofs.Common.{ℕ, ◌≡◌, ◌==◌, ◌||◌, ◌⊎◌, inl, inr, Bool, true, false, List, [], ◌∷◌, ◌++◌, map, flat_map, All, Option, Some, None, is_some, unwrap_or, refl, sym, ap, ◌∙◌, subst}
+use Rattle.std.proofs.Common.{ℕ, ◌≡◌, ◌==◌, ◌||◌, ◌⊎◌, inl, inr, Bool, true, false, List, [], ◌∷◌, ◌++◌, map, All, Option, Some, None, is_some, unwrap_or, refl, sym, ap, ◌∙◌, subst}
 use Rattle.std.specs.List.Sorted.{IsPermutation}
-use Rattle.std.proofs.lemmas.Bool.{both_ways, cases_Bool, false_from_ne_true, false≢true, or_cases, or_left, or_right}
+use Rattle.std.proofs.lemmas.Bool.{both_ways, cases_Bool, false_from_ne_true, or_left, or_right}
 use Rattle.std.proofs.lemmas.Grind.{flat_map-append}
 use Rattle.std.proofs.lemmas.List.{append-nil, append_assoc, map-append}
 use Rattle.std.proofs.lemmas.List.Elements.{All-append, All-cons, All-nil}
 use Rattle.std.proofs.lemmas.List.Folds.{list_any-append}
 use Rattle.std.proofs.lemmas.List.Sorted.{IsPermutation-append_left, IsPermutation-map}
 use Rattle.fb_graph.specs.Parity.{is_in}
-use Rattle.fb_graph.specs.Problem.{Problem}
 use Rattle.fb_graph.specs.Certificate.{AreDistinct}
 use Rattle.fb_graph.specs.Dual.{Node, defects_of, is_empty, is_live, leaf}
-use Rattle.fb_graph.specs.Laws.{IsPart, Link}
-use Rattle.fb_graph.proofs.Among.{IsAmong, All_among, among_All, among_left, among_live, among_right, live_among}
+use Rattle.fb_graph.specs.Laws.{IsPart}
+use Rattle.fb_graph.proofs.Among.{IsAmong, All_among, among_All, among_live, among_right, live_among}
 use Rattle.fb_graph.proofs.Members.{is_in-append, or_false}
 use Rattle.fb_graph.proofs.Sets.{is_in-head, is_in-tail}
 use Rattle.fb_laws.proofs.MergedParts.{distinct_across}
@@ -24,15 +23,14 @@ use Rattle.fb_blossoms.specs.Nodes as blossoms
 use Rattle.fb_half.specs.declared.matches.Match.{Match}
 use Rattle.fb_half.specs.Beginnings.{leaves_by}
 use Rattle.fb_half.specs.InternalSeams.{IsBeside, IsFreed, IsOpened, AddsSingles, freed_matching}
-use Rattle.fb_half.specs.Matchings.{MatchingValue, listed_names, match_links, matched_names, names_of}
+use Rattle.fb_half.specs.Matchings.{listed_names, match_links, matched_names, names_of}
 use Rattle.fb_half.specs.Merged.{leads_to_seam, seam_defects, seam_matches}
 use Rattle.fb_half.specs.Parts.{AreAgreed, AreLinksOf, AreStepsOf, PartValue, kept_links, problem_in}
 use Rattle.fb_half.specs.Translations.{children_at, cycles_by, link_by, link_of, ring_at, ring_links}
 use Rattle.fb_half.proofs.Begun.{held_in, leaf_cycle, leaf_live, live_leaves}
 use Rattle.fb_half.proofs.BesideLinks.{links_same, rings_same, steps_widened}
-use Rattle.fb_half.proofs.BesideNodes.{same_bool}
 use Rattle.fb_half.proofs.FlatPermutations.{flat_permuted}
-use Rattle.fb_half.proofs.FreedMatches.{Table, among_filter, among_permuted, filter_among, first_in, link_in, name_in, parted_left}
+use Rattle.fb_half.proofs.FreedMatches.{among_permuted, filter_among, first_in, link_in, name_in, parted_left}
 use Rattle.fb_half.proofs.AddedSingles.{Store}
 
 -- a node without a cycle has no children

@@ -1,29 +1,24 @@
 -- A part whose seam is opened: its matching, and the links that are forgotten.
-use Rattle.std.proofs.Common.{ℕ, ◌≡◌, ◌==◌, ◌&&◌, ◌||◌, ◌⊎◌, inl, inr, not, Bool, true, false, cond, if◌then◌else◌, List, [], ◌∷◌, ◌++◌, map, flat_map, All, Option, Some, None, option_map, is_some, unwrap_or, refl, sym, ap, ◌∙◌, subst}
+use Rattle.std.proofs.Common.{ℕ, ◌≡◌, ◌&&◌, ◌||◌, ◌⊎◌, inl, inr, not, Bool, true, false, if◌then◌else◌, List, [], ◌∷◌, ◌++◌, map, All, Option, Some, None, option_map, is_some, unwrap_or, refl, sym, ap, ◌∙◌, subst}
 use Rattle.std.specs.List.{find, list_any}
 use Rattle.std.specs.List.Sorted.{IsPermutation}
 use Rattle.std.specs.Option.{option_or}
-use Rattle.std.proofs.lemmas.Bool.{and_parts, both_ways, cases_Bool, false_from_ne_true, false≢true, not-true, or_cases, or_from, or_left, or_parts, or_right}
+use Rattle.std.proofs.lemmas.Bool.{and_parts, both_ways, false_from_ne_true, false≢true, not-true, or_cases, or_left, or_parts, or_right}
 use Rattle.std.proofs.lemmas.Grind.{flat_map-append}
 use Rattle.std.proofs.lemmas.List.{append-nil, append_assoc, map-append}
 use Rattle.std.proofs.lemmas.List.Elements.{All-map}
 use Rattle.std.proofs.lemmas.List.Folds.{find-append, list_any-append}
 use Rattle.std.proofs.lemmas.List.Sorted.{IsPermutation-append_comm, IsPermutation-append_right, IsPermutation-map, IsPermutation-sym}
 use Rattle.fb_graph.specs.Parity.{is_in}
-use Rattle.fb_graph.specs.Problem.{Problem}
 use Rattle.fb_graph.specs.Certificate.{AreDistinct}
 use Rattle.fb_graph.specs.Dual.{Node, cover_of, is_live, is_outer, top_at}
 use Rattle.fb_graph.specs.Laws.{Link}
 use Rattle.fb_graph.proofs.Among.{IsAmong, All_among, among_All}
-use Rattle.fb_graph.proofs.AppendedNodes.{outer_both, outer_in}
 use Rattle.fb_graph.proofs.Forests.{absent_outer}
 use Rattle.fb_graph.proofs.Members.{is_in-append, or_false}
-use Rattle.fb_graph.proofs.Sets.{is_in-cases}
 use Rattle.fb_graph.proofs.Unions.{distinct_append}
 use Rattle.fb_laws.specs.Merging.{EndElsewhere, Freed, freed_links, freed_names}
 use Rattle.fb_laws.specs.Paths.{LeadsOut}
-use Rattle.fb_laws.specs.Searches.{LeavesNode}
-use Rattle.fb_laws.specs.Trees.{Connects}
 use Rattle.fb_laws.specs.Works.{IsSetOf}
 use Rattle.fb_laws.proofs.OpenedBlossoms.{distinct_permuted, same_permuted}
 use Rattle.fb_laws.proofs.SearchTrees.{cover_set, leads_from}
@@ -37,10 +32,9 @@ use Rattle.fb_half.specs.Parts.{PartValue, problem_in}
 use Rattle.fb_half.specs.Translations.{link_by, link_of}
 use Rattle.fb_half.proofs.Begun.{outer_leaves}
 use Rattle.fb_half.proofs.BegunParts.{same_function}
-use Rattle.fb_half.proofs.BesideLinks.{links_same}
 use Rattle.fb_half.proofs.FlatPermutations.{flat_permuted}
 use Rattle.fb_half.proofs.FreedMatches.{among_filter, firsts}
-use Rattle.fb_half.proofs.SeamedLinks.{all_names, live_either, match_stays, nodes_are, stays_among, stays_off}
+use Rattle.fb_half.proofs.SeamedLinks.{live_either, match_stays, nodes_are, stays_among, stays_off}
 
 -- leaves beside other nodes leave each of these as outer as it was
 outer_beside : (nodes : List Node) (names defects : List ℕ) (x : ℕ) → is_outer (nodes ++ leaves_by names defects) x ≡ is_outer nodes x
@@ -280,15 +274,15 @@ module _ (own : List ℕ) (w after : PartValue) (b : IsBeside w) (opened : IsOpe
       one : (l : Link) (first : ℕ) (second : Option ℕ) → is_alone second ≡ true → ends_at_seam w.job.plan w.node l ≡ true
           → IsMatchOf b.problem w.nodes l first second
           → IsSetOf w.nodes first (top_at w.nodes first) × LeadsOut l (top_at w.nodes first) (seam_end owned l) × (owned (seam_end owned l) ≡ true)
-      one l first (Some s) childless at is = absurd (false≢true childless)
-      one l first None childless at (v, inl (from, to), real) =
+      one l first (Some s) alone at is = absurd (false≢true alone)
+      one l first None alone at (v, inl (from, to), real) =
           let off : owned l.from ≡ false = off_seam l.from first from in
           let there : seam_end owned l ≡ l.to = ap (λ c. if c then l.from else l.to) off in (
             (cover_set w.nodes l.from first b.nest.dual.names from).0,
             leads_from w.nodes l first (seam_end owned l) b.nest.dual.names (inl (from, sym there)),
             ap owned there ∙ (sym (ap (λ c. c || owned l.to) off) ∙ at),
           )
-      one l first None childless at (v, inr (to, from), real) =
+      one l first None alone at (v, inr (to, from), real) =
           let off : owned l.to ≡ false = off_seam l.to first to in
           let on : owned l.from ≡ true = sym (or_false (owned l.from)) ∙ (sym (ap (λ c. owned l.from || c) off) ∙ at) in
           let there : seam_end owned l ≡ l.from = ap (λ c. if c then l.from else l.to) on in (

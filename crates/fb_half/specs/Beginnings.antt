@@ -6,7 +6,7 @@ use Rattle.fb_half.specs.Parts.{PartValue, problem_in, shot_of}
 
 -- the defects of the shot at the part's real vertices, in their order
 abbrev pub own_defects : PartValue → List ℕ
-own_defects w = filter (problem_in w).is_real (shot_of w)
+own_defects w = filter (problem_in w).is_real (shot_of w).defects
 
 -- each defect as a node of radius 0, with the name at its place
 abbrev pub leaves_by : List ℕ → List ℕ → List Node

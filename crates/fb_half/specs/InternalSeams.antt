@@ -5,7 +5,6 @@ use Rattle.std.specs.List.Sorted.{IsPermutation}
 use Rattle.fb_graph.specs.Parity.{is_in}
 use Rattle.fb_graph.specs.Problem.{Problem}
 use Rattle.fb_graph.specs.Certificate.{AreDistinct}
-use Rattle.fb_graph.specs.Laws.{Link}
 use Rattle.fb_graph.specs.Dual.{Node}
 use Rattle.fb_graph.specs.Nests.{IsNest}
 use Rattle.fb_plan.specs.Plans.{node_count}

@@ -1,7 +1,8 @@
 -- The part of a fusion as it begins, made of its children's solved parts (Wu and Zhong 2023).
-use Rattle.std.specs.Prelude.{ℕ, ◌≡◌, ◌<◌, ◌==◌, ◌&&◌, ◌||◌, Bool, true, false, not, List, [], ◌++◌, map, filter, length, get_or, Option, Some, None}
+use Rattle.std.specs.Prelude.{ℕ, ◌≡◌, ◌<◌, ◌==◌, ◌&&◌, ◌||◌, Bool, true, false, not, List, ◌++◌, map, filter, length, get_or, Option, Some, None}
 use Rattle.std.specs.List.Sorted.{IsPermutation}
 use Rattle.fb_graph.specs.Laws.{Link}
+use Rattle.fb_graph.specs.Limits.{no_shot}
 use Rattle.fb_graph.specs.Parity.{is_in}
 use Rattle.fb_graph.specs.RenamedNodes.{renamed_nodes}
 use Rattle.fb_plan.specs.Plans.{JobValue, PlanTree, owner_of}
@@ -50,7 +51,7 @@ freed_in w n = map (λ m. m.first) (seam_matches w n)
 
 -- the defects of the shot that the node owns
 abbrev pub seam_defects : JobValue → ℕ → ℕ → List ℕ
-seam_defects j s n = filter (is_owned_by j.plan n) (get_or j.shots s [])
+seam_defects j s n = filter (is_owned_by j.plan n) (get_or j.shots s no_shot).defects
 
 -- the links that stay
 abbrev pub staying_links : PartValue → ℕ → List ℕ

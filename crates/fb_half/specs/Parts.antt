@@ -5,6 +5,7 @@ use Rattle.fb_graph.specs.Problem.{Problem, edge_at}
 use Rattle.fb_graph.specs.Certificate.{AreDistinct}
 use Rattle.fb_graph.specs.Laws.{has_real_end}
 use Rattle.fb_graph.specs.Dual.{Node, defects_of, is_empty, is_live}
+use Rattle.fb_graph.specs.Limits.{ShotValue, no_shot}
 use Rattle.fb_plan.specs.Plans.{JobValue, node_count, problem_at}
 use Rattle.fb_plan.specs.Laws.{IsJob}
 use Rattle.fb_links.specs.declared.walk.Step.{Step}
@@ -29,9 +30,9 @@ pub record PartValue : Type 0 where
   pub store : List (Option blossoms.Node)
   pub matching : MatchingValue
 
--- the defects of the part's shot
-abbrev pub shot_of : PartValue → List ℕ
-shot_of w = get_or w.job.shots w.slot []
+-- the part's shot
+abbrev pub shot_of : PartValue → ShotValue
+shot_of w = get_or w.job.shots w.slot no_shot
 
 -- the sub-problem of the part's node
 abbrev pub problem_in : PartValue → Problem

@@ -4,6 +4,7 @@ ghost use Rattle.std.specs.Prelude.{◌≡◌, ◌≢◌, ◌<◌, ◌++◌, ℕ
 ghost use Rattle.std.specs.List.Sorted.{IsStrictlyIncreasing};
 ghost use Rattle.fb_graph.specs.Certificate.{AreDistinct};
 ghost use Rattle.fb_graph.specs.Dual.{cover_of, is_live as is_node};
+ghost use Rattle.fb_graph.specs.Limits.{no_shot};
 ghost use Rattle.fb_graph.specs.Parity.{is_in};
 ghost use Rattle.fb_plan.specs.Plans.{node_count, problem_at};
 ghost use Rattle.fb_links.specs.Names.{name_by};
@@ -152,7 +153,7 @@ fn add_leaves(
     vertices: &[u32],
 ) -> Result<(), NoMemory>
     requires distinct { AreDistinct vertices.now }
-    requires real { All (λ v. (problem_at regions.old.scope.graph.now regions.old.scope.plan.now regions.old.scope.node []).is_real v ≡ true) vertices.now }
+    requires real { All (λ v. (problem_at regions.old.scope.graph.now regions.old.scope.plan.now regions.old.scope.node no_shot).is_real v ≡ true) vertices.now }
     requires uncovered { All (λ v. cover_of regions.old.nodes v ≡ None) vertices.now }
     requires leafless { All (λ v. (x : ℕ) → blossoms.node_at store.old x ≢ Some (blossoms.leaf v)) vertices.now }
     requires live { (name : ℕ) → blossoms.node_at store.old name ≡ None → is_node regions.old.nodes name ≡ false }

@@ -2,6 +2,7 @@ ghost use Rattle.std.specs.Prelude.{◌≡◌, ◌≢◌, ◌<◌, ℕ, true, fa
 ghost use Rattle.std.specs.List.Sorted.{IsStrictlyIncreasing};
 ghost use Rattle.fb_graph.specs.Certificate.{AreDistinct};
 ghost use Rattle.fb_graph.specs.Dual.{cover_of, is_live, leaf};
+ghost use Rattle.fb_graph.specs.Limits.{no_shot};
 ghost use Rattle.fb_graph.specs.Parity.{is_in};
 ghost use Rattle.fb_plan.specs.Plans.{problem_at};
 ghost use Rattle.fb_plan.specs.Reaches.{is_reached};
@@ -37,7 +38,7 @@ pub(crate) fn own_defects(
     requires unit { scope.now.node < scope.now.plan.now.units }
     requires rising { IsStrictlyIncreasing defects.now }
     requires vertices { All (λ v. v < scope.now.graph.now.vertices) defects.now }
-    ensures { IfOk result (λ own. own.items ≡ filter (problem_at scope.now.graph.now scope.now.plan.now scope.now.node []).is_real defects.now) }
+    ensures { IfOk result (λ own. own.items ≡ filter (problem_at scope.now.graph.now scope.now.plan.now scope.now.node no_shot).is_real defects.now) }
 {
     let reached = within(defects, scope.plan.reach(scope.node));
     let mut own = Vec::new(alloc);
@@ -58,7 +59,7 @@ pub(crate) fn add_leaf(
     v: u32,
 ) -> Result<NodeId, NoMemory>
     requires below { v < regions.old.scope.graph.now.vertices }
-    requires real { (problem_at regions.old.scope.graph.now regions.old.scope.plan.now regions.old.scope.node []).is_real v ≡ true }
+    requires real { (problem_at regions.old.scope.graph.now regions.old.scope.plan.now regions.old.scope.node no_shot).is_real v ≡ true }
     requires uncovered { cover_of regions.old.nodes v ≡ None }
     requires leafless { (x : ℕ) → blossoms.node_at store.old x ≢ Some (blossoms.leaf v) }
     requires live { (name : ℕ) → blossoms.node_at store.old name ≡ None → is_live regions.old.nodes name ≡ false }
@@ -79,7 +80,7 @@ pub(crate) fn start<'a>(alloc: Global, empty: Parts<'a>, own: &[u32]) -> Result<
     requires scope { HasScope empty }
     requires empty { part_of empty ≡ empty_part empty.job.now empty.slot empty.node }
     requires distinct { AreDistinct own.now }
-    requires real { All (λ v. (problem_at empty.job.now.graph empty.job.now.plan empty.node []).is_real v ≡ true) own.now }
+    requires real { All (λ v. (problem_at empty.job.now.graph empty.job.now.plan empty.node no_shot).is_real v ≡ true) own.now }
     ensures started { IfOk result (λ p. IsStarted own.now p.regions.nodes p.blossoms p.matching) }
     ensures scope { IfOk result HasScope }
     ensures links { IfOk result (λ p. p.links ≡ []) }

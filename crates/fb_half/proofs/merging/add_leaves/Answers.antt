@@ -1,4 +1,4 @@
-use Rattle.std.proofs.Common.{◌≡◌, ◌<◌, ◌∙◌, ◌+◌, ◌++◌, ◌∷◌, [], length, get_or, drop, take, arith, sym, ap, subst}
+use Rattle.std.proofs.Common.{◌∙◌, ◌+◌, ◌++◌, ◌∷◌, [], length, get_or, drop, take, sym, subst}
 use Rattle.std.proofs.lemmas.List.{take_more}
 use Rattle.fb_half.specs.InternalSeams.{AddsSingles}
 use Rattle.fb_half.proofs.Begun.{not_before}

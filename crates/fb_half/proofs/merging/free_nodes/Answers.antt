@@ -1,10 +1,10 @@
-use Rattle.std.proofs.Common.{◌≡◌, ◌∙◌, ◌++◌, ◌∷◌, [], Bool, true, false, get_or, sym, ap, subst}
+use Rattle.std.proofs.Common.{◌≡◌, ◌∙◌, ◌++◌, ◌∷◌, [], Bool, true, get_or, ap, subst}
 use Rattle.fb_graph.specs.Parity.{is_in}
 use Rattle.fb_half.specs.declared.matches.Match.{Match}
 use Rattle.fb_half.specs.InternalStandings.{no_match}
 use Rattle.fb_half.specs.Matchings.{matched_names, names_of}
 use Rattle.fb_half.specs.Merged.{leads_to_seam}
-use Rattle.fb_half.proofs.FreedMatches.{first_at, freed_more, is_next, link_live, still_there, unlisted}
+use Rattle.fb_half.proofs.FreedMatches.{first_at, freed_more, link_live, still_there, unlisted}
 use Rattle.fb_half.proofs.merging.free_nodes.Goals as goal
 
 pub take_match-m-requires : goal.take_match-m-requires

@@ -1,12 +1,11 @@
-use Rattle.std.proofs.Common.{◌≡◌, ◌≢◌, ◌<◌, ◌∙◌, ℕ, true, [], List, None, Some, length, All, sym, ap, subst}
-use Rattle.std.specs.List.{filter}
+use Rattle.std.proofs.Common.{◌≡◌, ◌≢◌, ◌<◌, ℕ, true, None, Some, length, All, sym, subst}
 use Rattle.std.specs.List.Sorted.{IsStrictlyIncreasing}
 use Rattle.fb_graph.specs.Certificate.{AreDistinct}
 use Rattle.fb_graph.specs.Dual.{cover_of}
-use Rattle.fb_graph.specs.Limits.{IsGraph}
+use Rattle.fb_graph.specs.Limits.{IsGraph, no_shot}
 use Rattle.fb_plan.specs.Plans.{node_count, problem_at}
 use Rattle.fb_blossoms.specs.Nodes as blossoms
-use Rattle.fb_half.specs.Merged.{IsPlanned, is_owned_by}
+use Rattle.fb_half.specs.Merged.{IsPlanned}
 use Rattle.fb_half.specs.Translations.{link_by}
 use Rattle.fb_half.specs.Values.{part_of}
 use Rattle.fb_half.proofs.BegunParts.{shot_read}
@@ -48,10 +47,10 @@ add_leaves-requires-clause-distinct c =
 
 pub add_leaves-requires-clause-real : goal.add_leaves-requires-clause-real
 add_leaves-requires-clause-real c =
-    subst (λ g. All (λ v. (problem_at g c.args.parts.regions.scope.plan.now c.args.parts.regions.scope.node []).is_real v ≡ true) c.deref.result.now) (sym c.requires.scope.graph)
-    (subst (λ t. All (λ v. (problem_at c.args.parts.job.now.graph t c.args.parts.regions.scope.node []).is_real v ≡ true) c.deref.result.now) (sym c.requires.scope.plan)
-    (subst (λ n. All (λ v. (problem_at c.args.parts.job.now.graph c.args.parts.job.now.plan n []).is_real v ≡ true) c.deref.result.now) (sym c.requires.scope.node)
-    (subst (All (λ v. (problem_at c.args.parts.job.now.graph c.args.parts.job.now.plan c.args.parts.node []).is_real v ≡ true))
+    subst (λ g. All (λ v. (problem_at g c.args.parts.regions.scope.plan.now c.args.parts.regions.scope.node no_shot).is_real v ≡ true) c.deref.result.now) (sym c.requires.scope.graph)
+    (subst (λ t. All (λ v. (problem_at c.args.parts.job.now.graph t c.args.parts.regions.scope.node no_shot).is_real v ≡ true) c.deref.result.now) (sym c.requires.scope.plan)
+    (subst (λ n. All (λ v. (problem_at c.args.parts.job.now.graph c.args.parts.job.now.plan n no_shot).is_real v ≡ true) c.deref.result.now) (sym c.requires.scope.node)
+    (subst (All (λ v. (problem_at c.args.parts.job.now.graph c.args.parts.job.now.plan c.args.parts.node no_shot).is_real v ≡ true))
     (sym (seam_read _ _ _ _ _ _ _ c.plan-plan.ensures (shot_read c.args.parts.job.now c.args.parts.slot _ _ _ c.shots.ensures c.requires.beside.slot c.index-shots-slot.is c.as_slice.ensures.defects) c.in_ok-own.ensures c.deref.ensures.value))
     (seam_real (part_of c.args.parts) c.keeps.ensures (subst IsGraph c.graph.ensures c.limits.ensures) c.requires.beside))))
 

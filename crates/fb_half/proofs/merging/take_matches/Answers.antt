@@ -1,4 +1,4 @@
-use Rattle.std.proofs.Common.{◌∙◌, ◌≡◌, get_or}
+use Rattle.std.proofs.Common.{◌∙◌, get_or}
 use Rattle.fb_links.specs.Names.{name_by}
 use Rattle.fb_half.specs.declared.matches.Match.{Match}
 use Rattle.fb_half.specs.InternalStandings.{no_match}

@@ -1,7 +1,8 @@
-use Rattle.std.proofs.Common.{ℕ, ◌<◌, ◌∙◌, [], All, ap, length, subst, sym, take}
+use Rattle.std.proofs.Common.{◌<◌, ◌∙◌, All, ap, subst, sym}
 use Rattle.std.proofs.lemmas.List.{take_all}
 use Rattle.std.proofs.lemmas.List.Elements.{All-filter}
 use Rattle.std.specs.List.{filter}
+use Rattle.fb_graph.specs.Limits.{no_shot}
 use Rattle.fb_plan.specs.Plans.{problem_at}
 use Rattle.fb_plan.specs.Reaches.{is_reached}
 use Rattle.fb_half.proofs.Reached.{own_reached}
@@ -16,6 +17,6 @@ is_real-requires c =
 pub returns : goal.returns
 returns c =
     c.loop-v.invariant
-    ∙ (ap (filter (problem_at c.args.scope.now.graph.now c.args.scope.now.plan.now c.args.scope.now.node []).is_real)
+    ∙ (ap (filter (problem_at c.args.scope.now.graph.now c.args.scope.now.plan.now c.args.scope.now.node no_shot).is_real)
     (take_all c.loop-v.v-index c.within-reached.result.now c.loop-v-test.false ∙ c.within-reached.ensures)
     ∙ own_reached c.args.scope.now.graph.now c.args.scope.now.plan.now c.args.scope.now.node c.reach.result c.requires.unit c.reach.ensures c.args.defects.now)

@@ -1,6 +1,7 @@
-use Rattle.std.proofs.Common.{◌≡◌, ◌<◌, ◌∙◌, true, [], All, sym, ap, subst, arith}
+use Rattle.std.proofs.Common.{◌≡◌, ◌<◌, ◌∙◌, true, All, sym, ap, subst, arith}
 use Rattle.std.specs.List.Sorted.{IsStrictlyIncreasing}
 use Rattle.fb_graph.specs.Certificate.{AreDistinct}
+use Rattle.fb_graph.specs.Limits.{no_shot}
 use Rattle.fb_plan.specs.Plans.{problem_at}
 use Rattle.fb_half.specs.Values.{part_of}
 use Rattle.fb_half.proofs.BegunParts.{begun_of, own_distinct, own_is, own_real, shot_at, shot_below, shot_read}
@@ -32,8 +33,8 @@ start-requires-clause-distinct c =
 
 pub start-requires-clause-real : goal.start-requires-clause-real
 start-requires-clause-real c =
-    subst (λ w. All (λ v. (problem_at w.job.graph w.job.plan w.node []).is_real v ≡ true) c.deref.result.now) (sym c.in_ok-empty.ensures.value)
-    (subst (All (λ v. (problem_at c.args.job.now.graph c.args.job.now.plan c.args.node []).is_real v ≡ true))
+    subst (λ w. All (λ v. (problem_at w.job.graph w.job.plan w.node no_shot).is_real v ≡ true) c.deref.result.now) (sym c.in_ok-empty.ensures.value)
+    (subst (All (λ v. (problem_at c.args.job.now.graph c.args.job.now.plan c.args.node no_shot).is_real v ≡ true))
     (sym (own_is c.args.job.now c.args.slot c.args.node _ _ _ _ c.graph.ensures c.plan.ensures
     (shot_read c.args.job.now c.args.slot _ _ _ c.shots.ensures c.requires.slot c.index-shots-slot.is c.as_slice.ensures.defects)
     (c.deref.ensures.value ∙ c.in_ok-own.ensures)))
