@@ -28,7 +28,7 @@ use Rattle.fb_half.specs.Matchings.{MatchingValue, listed_names, match_links}
 use Rattle.fb_half.specs.Parts.{AreAgreed}
 use Rattle.fb_half.specs.Translations.{link_by}
 use Rattle.fb_half.specs.Values.{IsScopeOf}
-use Rattle.fb_obstacles.specs.Obstacles.{residue_at}
+use Rattle.fb_obstacles.specs.Obstacles.{slack_at}
 use Rattle.fb_obstacles.specs.Watched.{Watched}
 use Rattle.fb_search.specs.InternalClosings.{IsReplacedBy, WatchesMinus}
 use Rattle.fb_search.specs.Progress.{GoesOn}
@@ -153,7 +153,10 @@ module _ (w : SearchValue) (a b closing : ℕ) (closes : Closes w a b closing) (
           (height (problem_of w) w.part.nodes name cycle
           (subst (MayJoin w.part.nodes name) is.nodes (steps_join w a b closing closes steps is name new_name))
           closes.search.state.1.search.nest)
-          (watches.bounds (residue_at (problem_of w) w.part.nodes) closes.search.bounds);
+          (covered_unjoined w.part.nodes name cycle closes.search.state.1.search.nest.dual.names
+          closes.search.state.1.search.nest.dual.apart
+          (subst (MayJoin w.part.nodes name) is.nodes (steps_join w a b closing closes steps is name new_name)))
+          (watches.bounds (slack_at (problem_of w) w.part.nodes) closes.search.bounds);
     }
 
     others_kept : (n : ℕ) → is_in (names_without after.tree.root matching.unmatched) n

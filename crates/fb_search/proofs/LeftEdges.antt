@@ -41,7 +41,14 @@ watched_more p nodes edges i a b c lt before more =
     subst (λ l. WatchesOuter p nodes l a c) (sym (take_more edges i 0 lt)) (record {
       room = more.room ∙ before.room;
       watched = by;
-      bounds = λ limit right. more.bounds limit (before.bounds limit right);
+      bounds = λ limit right.
+          bounded_by
+          (λ k. if is_in (get_or edges i 0 ∷ []) k then (if is_in (take i edges) k then limit k / 2 else limit k) / 2 else (if is_in (take i edges) k then limit k / 2 else limit k))
+          (λ k. if is_in (take i edges ++ get_or edges i 0 ∷ []) k then limit k / 2 else limit k) c
+          (λ k. subst (λ b. (if is_in (get_or edges i 0 ∷ []) k then (if is_in (take i edges) k then limit k / 2 else limit k) / 2 else (if is_in (take i edges) k then limit k / 2 else limit k))
+          ≤ (if b then limit k / 2 else limit k)) (sym (is_in_push (take i edges) (get_or edges i 0) k))
+          (lesser (get_or edges i 0 == k) (is_in (take i edges) k) (limit k)))
+          (more.bounds (λ k. if is_in (take i edges) k then limit k / 2 else limit k) (before.bounds limit right));
     })
   where
     both : (e h x y : Bool) → (if e || false then x else (if h then x else y)) ≡ (if h || e then x else y)
@@ -49,6 +56,13 @@ watched_more p nodes edges i a b c lt before more =
     both true false x y = refl
     both false true x y = refl
     both false false x y = refl
+
+    lesser : (e h : Bool) (x : ℕ)
+        → (if e || false then (if h then x / 2 else x) / 2 else (if h then x / 2 else x)) ≤ (if h || e then x / 2 else x)
+    lesser true true x = omega arith
+    lesser true false x = omega arith
+    lesser false true x = omega arith
+    lesser false false x = omega arith
 
     by : (k : ℕ) → is_in c.edges k
         ≡ (if is_in (take i edges ++ get_or edges i 0 ∷ []) k then not (is_inner nodes (edge_at p.edges k)) else is_in a.edges k)
@@ -69,12 +83,32 @@ pub taken_watched : (p : Problem) (nodes : List Node) (v : ℕ) (edges : List �
     → WatchesOuter p nodes edges old new → WatchesTaken p nodes v old new
 taken_watched p nodes v edges old new e outer = record {
   room = outer.room;
-  bounds = outer.bounds;
+  bounds = λ limit right.
+      bounded_by (λ k. if is_in edges k then limit k / 2 else limit k)
+      (λ k. if touches v (edge_at p.edges k) then limit k / 2 else limit k) new
+      (λ k. more k (limit k) (cases_lt k (length p.edges))) (outer.bounds limit right);
   watched = λ k less.
       outer.watched k
       ∙ ap (λ t. if t then not (is_inner nodes (edge_at p.edges k)) else is_in old.edges k)
       (ap (λ l. is_in l k) e ∙ is_in-filter-range (λ j. touches v (edge_at p.edges j)) (length p.edges) k less);
 }
+  where
+    more : (k x : ℕ) → (k < length p.edges) ⊎ (length p.edges ≤ k)
+        → (if is_in edges k then x / 2 else x) ≤ (if touches v (edge_at p.edges k) then x / 2 else x)
+    more k x (inl less) =
+        rw (ap (λ l. is_in l k) e ∙ is_in-filter-range (λ j. touches v (edge_at p.edges j)) (length p.edges) k less) (le_refl _)
+    more k x (inr past) = rw (nowhere v (edge_at p.edges k) (get_or_past p.edges k no_edge past)) (half (is_in edges k))
+      where
+        half : (b : Bool) → (if b then x / 2 else x) ≤ x
+        half true = omega arith
+        half false = omega arith
+
+        nowhere : (v : ℕ) (e : Edge) → e ≡ no_edge → touches v e ≡ false
+        nowhere v e is = ap (touches v) is ∙ both_same (v == 0)
+          where
+            both_same : (b : Bool) → differ b b ≡ false
+            both_same true = refl
+            both_same false = refl
 
 module _ (p : Problem) (nodes : List Node) (v : ℕ) (old new : Watched) (taken : WatchesTaken p nodes v old new) (k : ℕ)
     (less : k < length p.edges) where
