@@ -3,7 +3,7 @@ use Rattle.std.proofs.Common.{ℕ, ◌≡◌, ◌==◌, ◌<◌, ◌≤◌, ◌|
 use Rattle.std.proofs.lemmas.Bool.{false≢true, eq-eqb, eqb-true, ne_eqb}
 use Rattle.fb_graph.specs.Parity.{is_in, differ}
 use Rattle.fb_graph.specs.Problem.{Problem, edge_at, touches, no_edge}
-use Rattle.fb_graph.specs.Limits.{DecodingGraph, IsWithinLimits}
+use Rattle.fb_graph.specs.Limits.{DecodingGraph, IsWithinLimits, no_shot}
 use Rattle.fb_graph.specs.Dual.{cover_of, top_at}
 use Rattle.fb_graph.specs.Covers.{is_covered_by, passes}
 use Rattle.fb_half.specs.Parts.{IsPart, PartValue, problem_in, state_of}
@@ -93,17 +93,17 @@ begun_searching root part old new are limits within below room empty watched = r
 
 -- what the scope of the part's node keeps, though it tells no defects
 pub kept_limits : (part : PartValue) (g : DecodingGraph) (t : PlanTree) (n : ℕ) → g ≡ part.job.graph → t ≡ part.job.plan
-    → n ≡ part.node → IsWithinLimits (problem_at g t n []) → IsWithinLimits (problem_in part)
+    → n ≡ part.node → IsWithinLimits (problem_at g t n no_shot) → IsWithinLimits (problem_in part)
 kept_limits part g t n eg et en limits =
-    let l : IsWithinLimits (problem_at part.job.graph part.job.plan part.node []) = rw (← eg, ← et, ← en) limits in
+    let l : IsWithinLimits (problem_at part.job.graph part.job.plan part.node no_shot) = rw (← eg, ← et, ← en) limits in
     record { vertices = l.vertices; edges = l.edges; each_edge = l.each_edge; real_below = l.real_below }
 
 pub kept_watches : (part : PartValue) (g : DecodingGraph) (t : PlanTree) (n : ℕ) (vs : List ℕ) (old new : Watched)
-    → g ≡ part.job.graph → Watches (problem_at g t n []) vs old new → Watches (problem_in part) vs old new
+    → g ≡ part.job.graph → Watches (problem_at g t n no_shot) vs old new → Watches (problem_in part) vs old new
 kept_watches part g t n vs old new eg watches =
-    let w : Watches (problem_at part.job.graph t n []) vs old new = rw (← eg) watches in
+    let w : Watches (problem_at part.job.graph t n no_shot) vs old new = rw (← eg) watches in
     record { room = w.room; kept = w.kept; near = w.near; bounds = w.bounds }
 
 pub same_scope : (g h : DecodingGraph) (t s : PlanTree) (n m : ℕ) → g ≡ h → t ≡ s → n ≡ m
-    → problem_at g t n [] ≡ problem_at h s m []
+    → problem_at g t n no_shot ≡ problem_at h s m no_shot
 same_scope g h t s n m eg et en = rw (eg, et, en) refl

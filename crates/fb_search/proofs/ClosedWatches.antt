@@ -3,7 +3,7 @@ use Rattle.std.proofs.Common.{ℕ, ◌≡◌, ◌≢◌, ◌<◌, ◌⊎◌, inl
 use Rattle.std.proofs.lemmas.Bool.{both_ways, false≢true}
 use Rattle.fb_graph.specs.Parity.{is_in}
 use Rattle.fb_graph.specs.Problem.{Problem, edge_at, touches}
-use Rattle.fb_graph.specs.Limits.{DecodingGraph, IsWithinLimits}
+use Rattle.fb_graph.specs.Limits.{DecodingGraph, IsWithinLimits, no_shot}
 use Rattle.fb_graph.specs.Certificate.{AreDistinct}
 use Rattle.fb_graph.specs.Dual.{AreOuterApart, Node, cover_of, is_live, is_outer, top_at}
 use Rattle.fb_graph.specs.Covers.{is_covered_by, passes}
@@ -179,8 +179,8 @@ module _ (p : Problem) (nodes : List Node) (tree : Grown) (name : ℕ) (children
 -- the same by the scope of the part's node, which tells no defects
 pub watches_minus : (part : PartValue) (g : DecodingGraph) (t : PlanTree) (n : ℕ) (nodes : List Node) (tree : Grown)
     (names : List ℕ) (old new : Watched) → g ≡ part.job.graph
-    → WatchesMinus (problem_at g t n []) nodes tree names old new
+    → WatchesMinus (problem_at g t n no_shot) nodes tree names old new
     → WatchesMinus (problem_in part) nodes tree names old new
 watches_minus part g t n nodes tree names old new eg watches =
-    let w : WatchesMinus (problem_at part.job.graph t n []) nodes tree names old new = rw (← eg) watches in
+    let w : WatchesMinus (problem_at part.job.graph t n no_shot) nodes tree names old new = rw (← eg) watches in
     record { room = w.room; kept = w.kept; near = w.near; bounds = w.bounds }

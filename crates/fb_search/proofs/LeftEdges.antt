@@ -4,7 +4,7 @@ use Rattle.std.specs.List.{range_with_len}
 use Rattle.std.proofs.lemmas.List.{take_all, take_more}
 use Rattle.fb_graph.specs.Parity.{is_in}
 use Rattle.fb_graph.specs.Problem.{Problem, edge_at, touches}
-use Rattle.fb_graph.specs.Limits.{DecodingGraph}
+use Rattle.fb_graph.specs.Limits.{DecodingGraph, no_shot}
 use Rattle.fb_graph.specs.Dual.{AreUnderOne, Node, cover_of}
 use Rattle.fb_graph.specs.declared.parts.Edge.{Edge}
 use Rattle.fb_graph.proofs.Members.{is_in_push}
@@ -129,7 +129,7 @@ module _ (p : Problem) (nodes : List Node) (v : ℕ) (old new : Watched) (taken 
 -- the same by the problem of the part, though the scope of its node tells no defects
 pub kept_taken : (part : PartValue) (g : DecodingGraph) (t : PlanTree) (n taken v : ℕ) (now later nodes : List Node)
     (old new : Watched) → g ≡ part.job.graph → taken ≡ v → now ≡ later → later ≡ nodes
-    → WatchesTaken (problem_at g t n []) now taken old new → WatchesTaken (problem_in part) nodes v old new
+    → WatchesTaken (problem_at g t n no_shot) now taken old new → WatchesTaken (problem_in part) nodes v old new
 kept_taken part g t n taken v now later nodes old new eg at same is watches =
-    let w : WatchesTaken (problem_at part.job.graph t n []) nodes v old new = rw (← eg, ← at, ← is, ← same) watches in
+    let w : WatchesTaken (problem_at part.job.graph t n no_shot) nodes v old new = rw (← eg, ← at, ← is, ← same) watches in
     record { room = w.room; watched = w.watched; bounds = w.bounds }

@@ -21,7 +21,7 @@ use Rattle.fb_half.specs.declared.matches.Match.{Match}
 use Rattle.fb_half.specs.Matchings.{IsMatchOf, MatchingValue, listed_names, matched_names, names_of, second_name}
 use Rattle.fb_half.specs.Translations.{link_by}
 use Rattle.fb_trees.specs.Rooted.{is_node}
-use Rattle.fb_search.specs.InternalMeetings.{HasMet, IsCouple, IsBoundaryMatch}
+use Rattle.fb_search.specs.InternalMeetings.{HasMet, IsBoundaryMatch, IsCouple}
 use Rattle.fb_search.specs.Meetings.{Meets}
 use Rattle.fb_search.specs.MetWalks.{IsMetWalk}
 use Rattle.fb_search.specs.Searching.{IsSearching, IsSearchingBeside, SearchValue, problem_of}
@@ -115,9 +115,9 @@ module _ (more : List ℕ) (w : SearchValue) (are : IsSearchingBeside more w) wh
         connects_sym w.part.nodes (link_by w.part.links taken.link) b a
         (subst (leads_to (Some a)) first (subst (λ o. leads_to o taken.first) second leads))
 
-    pub childless_leaves : (a : ℕ) → IsBoundaryMatch taken a
+    pub boundary_leaves : (a : ℕ) → IsBoundaryMatch taken a
         → (v : ℕ) × LeavesNode w.part.nodes (link_by w.part.links taken.link) a v × ((problem_of w).is_real v ≡ false)
-    childless_leaves a (first, second) = subst (leads_to None) first (subst (λ o. leads_to o taken.first) second leads)
+    boundary_leaves a (first, second) = subst (leads_to None) first (subst (λ o. leads_to o taken.first) second leads)
 
     pub couple_matched : (a b : ℕ) → IsCouple taken a b
         → (is_in (matched_names w.part.matching.matches) a ≡ true) × (is_in (matched_names w.part.matching.matches) b ≡ true)

@@ -2,7 +2,7 @@
 use Rattle.std.proofs.Common.{ℕ, ◌≡◌, ◌+◌, ◌%◌, true, List, [], length, filter, refl, arith}
 use Rattle.std.specs.List.{range_with_len}
 use Rattle.fb_graph.specs.Dual.{Node}
-use Rattle.fb_graph.specs.Limits.{DecodingGraph, IsWithinLimits}
+use Rattle.fb_graph.specs.Limits.{DecodingGraph, IsWithinLimits, no_shot}
 use Rattle.fb_graph.specs.Parity.{is_in}
 use Rattle.fb_graph.specs.Steps.{MayStep, stepped_nodes}
 use Rattle.fb_graph.proofs.Ranges.{filter-range_below, is_in-filter-range}
@@ -78,10 +78,10 @@ part_grown name k part are limits within may even =
 -- what is found in the scope of a part's regions holds of the part's sub-problem too, since the defects don't matter
 pub near_in_part : (g : DecodingGraph) (t : PlanTree) (n : ℕ) (w : PartValue) (nodes : List Node) (unmatched : List ℕ)
     (root : ℕ) (near : Near) → g ≡ w.job.graph → t ≡ w.job.plan → n ≡ w.node → nodes ≡ w.nodes
-    → unmatched ≡ w.matching.unmatched → IsNear (problem_at g t n []) nodes unmatched root near
+    → unmatched ≡ w.matching.unmatched → IsNear (problem_at g t n no_shot) nodes unmatched root near
     → IsNear (problem_in w) w.nodes w.matching.unmatched root near
 near_in_part g t n w nodes unmatched root (Boundary edge growth) eg et en es eu is =
-    let here : IsNearBoundary (problem_at w.job.graph w.job.plan w.node []) w.nodes root edge growth =
+    let here : IsNearBoundary (problem_at w.job.graph w.job.plan w.node no_shot) w.nodes root edge growth =
     rw (← eg, ← et, ← en, ← es) is in
     record {
       inner = here.inner;
@@ -94,7 +94,7 @@ near_in_part g t n w nodes unmatched root (Boundary edge growth) eg et en es eu 
       room = here.room;
     }
 near_in_part g t n w nodes unmatched root (Pair pair) eg et en es eu is =
-    let here : IsNearPair (problem_at w.job.graph w.job.plan w.node []) w.nodes w.matching.unmatched root pair =
+    let here : IsNearPair (problem_at w.job.graph w.job.plan w.node no_shot) w.nodes w.matching.unmatched root pair =
     rw (← eg, ← et, ← en, ← es, ← eu) is in
     record {
       inner = here.inner;

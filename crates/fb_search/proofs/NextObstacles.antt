@@ -1,10 +1,10 @@
 -- A search may ask for its next obstacle.
-use Rattle.std.proofs.Common.{ℕ, ◌≡◌, true, [], Option, Some, None, refl, sym, ap, ◌∙◌, subst}
-use Rattle.std.specs.Prelude.{IfSome}
+use Rattle.std.proofs.Common.{ℕ, ◌≡◌, true, Option, Some, None, refl, sym, ap, ◌∙◌, subst}
+use Rattle.std.specs.Prelude.{IfSome, MatchOption}
 use Rattle.fb_graph.specs.Parity.{is_in}
 use Rattle.fb_graph.specs.Problem.{with_defects}
 use Rattle.fb_graph.specs.Laws.{HasNoOddClosed}
-use Rattle.fb_graph.specs.Limits.{DecodingGraph}
+use Rattle.fb_graph.specs.Limits.{DecodingGraph, no_shot}
 use Rattle.fb_graph.specs.Dual.{is_live, leaves}
 use Rattle.fb_graph.specs.Steps.{Roles}
 use Rattle.fb_graph.specs.Covers.{AreRoles}
@@ -66,48 +66,48 @@ module _ (w : SearchValue) (are : IsSearching w) where
 
   -- for the scope of the part, whose problem tells no defects
   module _ (g : DecodingGraph) (t : PlanTree) (n : ℕ) (eg : g ≡ w.part.job.graph) (et : t ≡ w.part.job.plan) (en : n ≡ w.part.node) where
-    pub next_even : HasNoOddClosed (with_defects (problem_at g t n []) (leaves w.part.nodes))
+    pub next_even : HasNoOddClosed (with_defects (problem_at g t n no_shot) (leaves w.part.nodes))
     next_even =
         rw (eg, et, en)
-        (part_has_no_odd_closed (with_defects (problem_at w.part.job.graph w.part.job.plan w.part.node []) (leaves w.part.nodes))
+        (part_has_no_odd_closed (with_defects (problem_at w.part.job.graph w.part.job.plan w.part.node no_shot) (leaves w.part.nodes))
         (problem_of w) (record {
           edges = refl;
           real = λ v real. real;
           defects = λ v real. sym (are.state.1.search.search.matching.defects v real);
         }) (no_odd_closed w are))
 
-    pub next_watched : IsWatched (problem_at g t n []) (roles_in w) w.part.nodes w.watched.edges
+    pub next_watched : IsWatched (problem_at g t n no_shot) (roles_in w) w.part.nodes w.watched.edges
     next_watched = rw eg (record { within = are.watch.within; near = λ k less over apart. are.watch.near k less over apart })
 
-    pub next_bounded : AreBounded (slack_at (problem_at g t n []) w.part.nodes) w.watched
+    pub next_bounded : AreBounded (slack_at (problem_at g t n no_shot) w.part.nodes) w.watched
     next_bounded = rw eg (λ i less. are.bounds i less)
 
-    pub next_is : (o : Obstacle) → IsObstacle (problem_at g t n []) (roles_in w) w.part.nodes o
+    pub next_is : (o : Obstacle) → IsObstacle (problem_at g t n no_shot) (roles_in w) w.part.nodes o
         → IsObstacle (problem_of w) (roles_in w) w.part.nodes o
     next_is o is =
-        let there : IsObstacle (problem_at w.part.job.graph w.part.job.plan w.part.node []) (roles_in w) w.part.nodes o =
+        let there : IsObstacle (problem_at w.part.job.graph w.part.job.plan w.part.node no_shot) (roles_in w) w.part.nodes o =
         rw (← eg, ← et, ← en) is in
-        obstacle_exchanged (problem_at w.part.job.graph w.part.job.plan w.part.node []) (is_in (shot_of w.part)) (roles_in w)
+        obstacle_exchanged (problem_at w.part.job.graph w.part.job.plan w.part.node no_shot) (is_in (shot_of w.part).defects) (roles_in w)
         w.part.nodes o there
 
-    next_stands : (o : Obstacle) → Obstructs (problem_at g t n []) (roles_in w) w.part.nodes o
+    next_stands : (o : Obstacle) → Obstructs (problem_at g t n no_shot) (roles_in w) w.part.nodes o
         → Obstructs (problem_of w) (roles_in w) w.part.nodes o
     next_stands o is =
-        let there : Obstructs (problem_at w.part.job.graph w.part.job.plan w.part.node []) (roles_in w) w.part.nodes o =
+        let there : Obstructs (problem_at w.part.job.graph w.part.job.plan w.part.node no_shot) (roles_in w) w.part.nodes o =
         rw (← eg, ← et, ← en) is in
-        obstructs_exchanged (problem_at w.part.job.graph w.part.job.plan w.part.node []) (is_in (shot_of w.part)) (roles_in w)
+        obstructs_exchanged (problem_at w.part.job.graph w.part.job.plan w.part.node no_shot) (is_in (shot_of w.part).defects) (roles_in w)
         w.part.nodes o there
 
-    pub next_limiting : (found : Option Obstacle)
-        → IfSome found (Obstructs (problem_at g t n []) (roles_in w) w.part.nodes)
+    pub next_limiting : (N : Type 0) (found : Option Obstacle)
+        → MatchOption found N (Obstructs (problem_at g t n no_shot) (roles_in w) w.part.nodes)
         → IfSome found (Obstructs (problem_of w) (roles_in w) w.part.nodes)
-    next_limiting None is = is
-    next_limiting (Some o) is = next_stands o is
+    next_limiting N None is = tt
+    next_limiting N (Some o) is = next_stands o is
 
     -- the search with a watch that is right, of the same edges or of others
     pub searching_rewatched : (now : Watched) → now.edge_count ≡ w.watched.edge_count
-        → IsWatched (problem_at g t n []) (roles_in w) w.part.nodes now.edges
-        → AreBounded (slack_at (problem_at g t n []) w.part.nodes) now → IsSearching (rewatched now w)
+        → IsWatched (problem_at g t n no_shot) (roles_in w) w.part.nodes now.edges
+        → AreBounded (slack_at (problem_at g t n no_shot) w.part.nodes) now → IsSearching (rewatched now w)
     searching_rewatched now room watched bounded = record {
       job = are.job;
       slot = are.slot;
@@ -118,9 +118,9 @@ module _ (w : SearchValue) (are : IsSearching w) where
       matching = are.matching;
       room = room ∙ are.room;
       watch =
-          let here : IsWatched (problem_at w.part.job.graph t n []) (roles_in w) w.part.nodes now.edges = rw (← eg) watched in
+          let here : IsWatched (problem_at w.part.job.graph t n no_shot) (roles_in w) w.part.nodes now.edges = rw (← eg) watched in
           record { within = here.within; near = λ k less over apart. here.near k less over apart };
       bounds =
-          let here : AreBounded (slack_at (problem_at w.part.job.graph t n []) w.part.nodes) now = rw (← eg) bounded in
+          let here : AreBounded (slack_at (problem_at w.part.job.graph t n no_shot) w.part.nodes) now = rw (← eg) bounded in
           λ i less. here i less;
     }

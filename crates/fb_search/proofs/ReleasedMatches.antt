@@ -30,7 +30,7 @@ use Rattle.fb_search.proofs.EndedMatches.{AreTaken}
 use Rattle.fb_search.proofs.EndedNames.{ended_distinct}
 use Rattle.fb_search.proofs.EndedParts.{ended_part, others_kept, part_after}
 use Rattle.fb_search.proofs.EndedWays.{met_match}
-use Rattle.fb_search.proofs.MetMatches.{childless_leaves, names_taken}
+use Rattle.fb_search.proofs.MetMatches.{boundary_leaves, names_taken}
 use Rattle.fb_search.proofs.TakenNames.{one_taken, without_taken}
 use Rattle.fb_search.proofs.TreeEnds.{tree_hung}
 
@@ -52,7 +52,7 @@ forgets_more id gone old mid new removes forgets k = by (cases_eq id k)
         ∙ (ap (λ o. cond (is_in gone k) None o) (removes.others k (λ e. other (sym e)))
         ∙ sym (ap (λ b. cond (b || is_in gone k) None (link_at old k)) (ne_eqb id k other)))
 
-module _ (w : SearchValue) (met : Met) (now : SearchValue) (h : HasMet w met now) (childless : IsBoundaryMatch met.taken met.other) where
+module _ (w : SearchValue) (met : Met) (now : SearchValue) (h : HasMet w met now) (boundary : IsBoundaryMatch met.taken met.other) where
   abbrev kept : List Match
   kept = now.part.matching.matches
 
@@ -75,8 +75,8 @@ module _ (w : SearchValue) (met : Met) (now : SearchValue) (h : HasMet w met now
       (IsPermutation-trans _ _ _ (IsPermutation-cons met.taken.link _ _ (links_counted w.tree.branches met.plus kept rings))
       (IsPermutation-sym _ _ (IsPermutation-middle (others_kept w met.plus kept) met.taken.link dropped))))
 
-  childless_names : names_of met.taken ≡ met.other ∷ []
-  childless_names = (λ k. childless.0 k ∷ second_name (childless.1 k))
+  boundary_names : names_of met.taken ≡ met.other ∷ []
+  boundary_names = (λ k. boundary.0 k ∷ second_name (boundary.1 k))
 
   takes : (unmatched : List ℕ) → IsPermutation w.part.matching.unmatched (w.tree.root ∷ unmatched)
       → AreTaken w.part.matching w.tree.root met.plus unmatched kept out_match
@@ -88,7 +88,7 @@ module _ (w : SearchValue) (met : Met) (now : SearchValue) (h : HasMet w met now
         (IsPermutation-cons w.tree.root _ _
         (IsPermutation-trans _ _ _
         (IsPermutation-append_right unmatched (matched_names w.part.matching.matches) (met.other ∷ matched_names kept)
-        (subst (λ l. IsPermutation (matched_names w.part.matching.matches) (l ++ matched_names kept)) childless_names
+        (subst (λ l. IsPermutation (matched_names w.part.matching.matches) (l ++ matched_names kept)) boundary_names
         (names_taken [] w h.was met.taken kept h.matches)))
         (IsPermutation-middle unmatched met.other (matched_names kept))));
     kept_are = λ e a.
@@ -147,7 +147,7 @@ module _ (w : SearchValue) (met : Met) (now : SearchValue) (h : HasMet w met now
         → IsPart (part_after w met.plus new rest.unmatched kept out_match)
         × IsSearched w.tree.root w.part (part_after w met.plus new rest.unmatched kept out_match)
     released new forgets =
-        let (b, leaves, boundary) = childless_leaves [] w h.was met.taken kept h.matches met.other childless in
+        let (b, leaves, virtual) = boundary_leaves [] w h.was met.taken kept h.matches met.other boundary in
         ended_part w met.plus new rest.unmatched (names_without w.tree.root w.part.matching.unmatched) kept out_match h.was
         (record {
           hung = tree_hung w h.was;
@@ -171,7 +171,7 @@ module _ (w : SearchValue) (met : Met) (now : SearchValue) (h : HasMet w met now
           tight = h.walk_is.walk_is.tight;
         })
         h.walk_is.connects
-        (IsPermutation-map (link_by w.part.links) _ _ (IsPermutation-map (λ (m : Match). m.link) _ _ h.matches)) leaves boundary
+        (IsPermutation-map (link_by w.part.links) _ _ (IsPermutation-map (λ (m : Match). m.link) _ _ h.matches)) leaves virtual
         h.was.state.1)
 
     -- The part at the end, and what of it is promised.

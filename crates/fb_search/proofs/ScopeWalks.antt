@@ -5,6 +5,7 @@ use Rattle.fb_graph.specs.Components.{Leads}
 use Rattle.fb_graph.specs.Dual.{Node, all_cuts, cover_of}
 use Rattle.fb_graph.specs.Laws.{Link, has_real_end}
 use Rattle.fb_graph.specs.Links.{IsTightLink}
+use Rattle.fb_graph.specs.Limits.{no_shot}
 use Rattle.fb_graph.specs.Problem.{Problem, edge_at, with_defects}
 use Rattle.fb_laws.specs.Fusion.{IsLinkOf}
 use Rattle.fb_laws.specs.MetLinks.{IsTightEdge}
@@ -90,14 +91,14 @@ connects_back nodes l a b (inr (to, from)) = inl (from, to)
 
 -- the problem as the scope tells it
 abbrev pub scoped : NodeScope → Problem
-scoped s = problem_at s.graph.now s.plan.now s.node []
+scoped s = problem_at s.graph.now s.plan.now s.node no_shot
 
 module _ (w : PartValue) (s : NodeScope) (own : IsScopeOf s w) where
-  scope_is : scoped s ≡ problem_at w.job.graph w.job.plan w.node []
+  scope_is : scoped s ≡ problem_at w.job.graph w.job.plan w.node no_shot
   scope_is = same_scope _ _ _ _ _ _ own.graph own.plan own.node
 
   abbrev bare_problem : Problem
-  bare_problem = problem_at w.job.graph w.job.plan w.node []
+  bare_problem = problem_at w.job.graph w.job.plan w.node no_shot
 
   between_bare : (k a b : ℕ) → IsBetween (problem_in w) w.nodes k a b → IsBetween (scoped s) w.nodes k a b
   between_bare k a b is =
@@ -113,7 +114,7 @@ module _ (w : PartValue) (s : NodeScope) (own : IsScopeOf s w) where
       → ((a b : ℕ) → IsBetween (scoped s) w.nodes k a b → IsMetWalk (scoped s) w.nodes a b walk)
       → IsMetWalk (problem_in w) w.nodes a b walk
   met_bare k a b walk is walks =
-      met_with bare_problem (shot_of w) w.nodes a b walk
+      met_with bare_problem (shot_of w).defects w.nodes a b walk
       (subst (λ p. IsMetWalk p w.nodes a b walk) scope_is (walks a b (between_bare k a b is)))
 
   -- the walk that the code makes over the scope
@@ -141,5 +142,5 @@ module _ (w : PartValue) (s : NodeScope) (own : IsScopeOf s w) where
       → ((a v : ℕ) → IsOut (scoped s) w.nodes k a v → IsOutWalk (scoped s) w.nodes a v walk)
       → IsOutWalk (problem_in w) w.nodes a v walk
   out_scoped k a v walk is walks =
-      out_with bare_problem (shot_of w) w.nodes a v walk
+      out_with bare_problem (shot_of w).defects w.nodes a v walk
       (subst (λ p. IsOutWalk p w.nodes a v walk) scope_is (walks a v (out_bare k a v is)))

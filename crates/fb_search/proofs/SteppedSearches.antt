@@ -6,7 +6,7 @@ use Rattle.fb_graph.specs.Parity.{is_in}
 use Rattle.fb_graph.specs.Problem.{Problem, edge_at}
 use Rattle.fb_graph.specs.declared.parts.Cut.{Cut}
 use Rattle.fb_graph.specs.Laws.{Link}
-use Rattle.fb_graph.specs.Limits.{DecodingGraph, IsWithinLimits}
+use Rattle.fb_graph.specs.Limits.{DecodingGraph, IsWithinLimits, no_shot}
 use Rattle.fb_graph.specs.Covers.{is_covered_by, passes}
 use Rattle.fb_graph.specs.Dual.{AreUnderOne, Node, all_cuts, cover_of, first_vertices, height_of}
 use Rattle.fb_graph.specs.Nests.{first_set}
@@ -154,7 +154,7 @@ length_fits w k are after may =
 
 -- The scope of the part tells no defects, which a step doesn't ask for.
 pub tree_in_scope : (w : SearchValue) (g : DecodingGraph) (t : PlanTree) (n : ℕ) → g ≡ w.part.job.graph
-    → IsTreeOver (problem_of w) w.tree w.part.nodes → IsTreeOver (problem_at g t n []) w.tree w.part.nodes
+    → IsTreeOver (problem_of w) w.tree w.part.nodes → IsTreeOver (problem_at g t n no_shot) w.tree w.part.nodes
 tree_in_scope w g t n eg over =
     rw eg (record {
       roles = over.roles;
@@ -166,7 +166,7 @@ tree_in_scope w g t n eg over =
     })
 
 pub step_in_scope : (w : SearchValue) (g : DecodingGraph) (t : PlanTree) (n k : ℕ) (roles : Roles) → g ≡ w.part.job.graph
-    → MayStep (problem_of w) roles w.part.nodes k → MayStep (problem_at g t n []) roles w.part.nodes k
+    → MayStep (problem_of w) roles w.part.nodes k → MayStep (problem_at g t n no_shot) roles w.part.nodes k
 step_in_scope w g t n k roles eg may = rw eg (record { edges = may.edges; tops = may.tops })
 
 -- the step that is allowed by the roles of the tree

@@ -11,7 +11,7 @@ use crate::searching::Searching;
 use crate::went::Went;
 use fb_graph::{NoMemory, Steps};
 use fb_half::Standing;
-use fb_obstacles::{Obstacle, limiting_obstacle, next_obstacle_by_bounds};
+use fb_obstacles::{Obstacle, next_obstacle_by_bounds, obstacle_at};
 use fb_regions::NodeId;
 use std::alloc::Global;
 use std::sync::ledger::Ledger;
@@ -55,12 +55,13 @@ impl<'a> Searching<'a> {
         next_obstacle_by_bounds(watch, &scope, &parts.regions, &roles, looks)
     }
 
-    /// The obstacle at the edge that limited the last step, if that edge is one now.
+    /// The obstacle at the edge that limited the last step, if one is there now.
     fn limiting<L: Ledger>(&self, looks: &mut Steps<L>) -> Option<Obstacle>
         ensures { IfSome result (Obstructs (problem_of self.now) (roles_in self.now) self.now.part.nodes) }
     {
-        limiting_obstacle(
-            &self.watch,
+        let edge = self.watch.limiting()?;
+        obstacle_at(
+            edge,
             self.parts.regions.scope(),
             &self.parts.regions,
             &TreeRoles { tree: &self.tree },

@@ -2,7 +2,7 @@ ghost use Rattle.std.specs.Prelude.{◌≡◌, true, IfOk, MatchOption};
 ghost use Rattle.fb_graph.specs.Parity.{is_in};
 ghost use Rattle.fb_half.specs.Matchings.{matched_names, names_of};
 ghost use Rattle.fb_half.specs.Values.{HasScope};
-ghost use Rattle.fb_search.specs.InternalMeetings.{HasMet, IsCouple, IsBoundaryMatch};
+ghost use Rattle.fb_search.specs.InternalMeetings.{HasMet, IsBoundaryMatch, IsCouple};
 ghost use Rattle.fb_search.specs.Meetings.{Meets};
 ghost use Rattle.fb_search.specs.Progress.{EndsWith, GoesOn};
 ghost use Rattle.fb_search.specs.Searching.{SearchValue, search_of};
@@ -129,7 +129,7 @@ fn attach<'a>(
 fn release<'a>(alloc: Global, pieces: Pieces<'a>, met: Met) -> Result<(Work<'a>, Scratch), NoMemory>
     requires scope { HasScope pieces.parts }
     requires met { (w : SearchValue) × HasMet w met (search_of pieces) }
-    requires childless { IsBoundaryMatch met.taken met.other }
+    requires boundary { IsBoundaryMatch met.taken met.other }
     ensures { IfOk result (λ ended. (w : SearchValue) → HasMet w met (search_of pieces.entry) → EndsWith w ended.0 ended.1) }
 {
     let Pieces {

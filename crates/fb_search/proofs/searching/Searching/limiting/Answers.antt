@@ -1,26 +1,33 @@
-use Rattle.std.proofs.Common.{◌∙◌, ap, sym}
+use Rattle.std.proofs.Common.{ℕ, ◌∙◌, ◌<◌, length, ap, sym}
+use Rattle.fb_graph.specs.Limits.{no_shot}
+use Rattle.fb_graph.specs.Problem.{edge_at}
+use Rattle.fb_graph.proofs.Sets.{is_in-All}
+use Rattle.fb_plan.specs.Plans.{problem_at}
 use Rattle.fb_half.specs.Values.{part_of}
-use Rattle.fb_search.specs.Searching.{SearchValue}
+use Rattle.fb_obstacles.specs.InternalLooks.{BearsStep}
+use Rattle.fb_search.specs.Searching.{SearchValue, roles_in}
 use Rattle.fb_search.proofs.NextObstacles.{next_limiting, next_parity, next_roles, next_watched}
 use Rattle.fb_search.proofs.searching.Searching.limiting.Goals as goal
 
-pub limiting_obstacle-requires : goal.limiting_obstacle-requires
-limiting_obstacle-requires g c =
+pub obstacle_at-requires : goal.obstacle_at-requires
+obstacle_at-requires g c =
     let w : SearchValue = record { part = part_of c.self.inside.parts; tree = c.self.inside.tree; watched = c.self.inside.watch } in
     let scope = c.self.invariant.0 in
     record {
       same = sym c.scope.ensures;
       roles = next_roles w c.self.invariant.1;
       parity = next_parity w c.self.invariant.1;
-      within = (next_watched w c.self.invariant.1 _ _ _ (ap (λ s. s.graph.now) c.scope.ensures ∙ scope.graph)
-          (ap (λ s. s.plan.now) c.scope.ensures ∙ scope.plan) (ap (λ s. s.node) c.scope.ensures ∙ scope.node)).within;
+      below = is_in-All (λ k. k < length c.scope.result.now.graph.now.edges) w.watched.edges
+          (next_watched w c.self.invariant.1 _ _ _ (ap (λ s. s.graph.now) c.scope.ensures ∙ scope.graph)
+          (ap (λ s. s.plan.now) c.scope.ensures ∙ scope.plan) (ap (λ s. s.node) c.scope.ensures ∙ scope.node)).within
+          c.in_ok-edge.edge c.in_ok-edge.ensures;
     }
 
-pub returns : goal.returns
-returns g c =
+pub returns-in_ok-edge : goal.returns-in_ok-edge
+returns-in_ok-edge g c =
     let w : SearchValue = record { part = part_of c.self.inside.parts; tree = c.self.inside.tree; watched = c.self.inside.watch } in
     let scope = c.self.invariant.0 in
     rw (← c.self.view_is)
     (next_limiting w c.self.invariant.1 c.scope.result.now.graph.now c.scope.result.now.plan.now c.scope.result.now.node
     (ap (λ s. s.graph.now) c.scope.ensures ∙ scope.graph) (ap (λ s. s.plan.now) c.scope.ensures ∙ scope.plan)
-    (ap (λ s. s.node) c.scope.ensures ∙ scope.node) c.limiting_obstacle.result c.limiting_obstacle.ensures.obstacle)
+    (ap (λ s. s.node) c.scope.ensures ∙ scope.node) _ c.obstacle_at.result c.obstacle_at.ensures.obstacle)
