@@ -1,6 +1,9 @@
 -- The node over a vertex before some nodes were joined, or before one was split.
 use Rattle.std.proofs.Common.{ℕ, ◌≡◌, ◌⊎◌, inl, inr, true, false, List, [], ◌∷◌, map, Option, Some, None, is_some, refl, sym, ap, ◌∙◌}
 use Rattle.std.proofs.lemmas.Bool.{false≢true}
+use Rattle.fb_graph.proofs.Places.{among_split}
+use Rattle.fb_graph.proofs.NestParts.{grove_of}
+use Rattle.fb_graph.proofs.Forests.{under_outer}
 use Rattle.fb_graph.specs.Parity.{is_in}
 use Rattle.fb_graph.specs.Problem.{Problem}
 use Rattle.fb_graph.specs.Certificate.{AreDistinct}
@@ -55,7 +58,7 @@ covered_unjoined nodes name children names apart may v = by (cover_of (joined_no
   where
     by : (o : Option ℕ) → cover_of (joined_nodes name children nodes) v ≡ o → is_some o ≡ true → is_some (cover_of nodes v) ≡ true
     by None e h = absurd (false≢true h)
-    by (Some m) e h = ap (λ o. is_some o) (cover_before nodes name children names apart may v m e).1.0
+    by (Some m) e h = ap (λ o. is_some o) (cover_before nodes name children names apart may v m e).1
 
 -- what is covered once a blossom is opened was covered before
 pub covered_unsplit : (p : Problem) (nodes : List Node) (name : ℕ) → IsNest p nodes → (v : ℕ)

@@ -63,7 +63,9 @@ module _ (roles : Roles) (nodes : List Node) (k : ℕ) (apart : AreOuterApart no
           → height_of (all_cuts (stepped_nodes roles k nodes)) v + k * as_count (is_covered_by roles.is_minus nodes v)
           ≡ height_of (all_cuts nodes) v + k * as_count (is_covered_by roles.is_plus nodes v)
           → height_of (all_cuts (stepped_nodes roles k nodes)) v ≤ height_of (all_cuts nodes) v + k * as_count (is_some o)
-      by None e law = omega (arith, law, ap (λ o. as_count (passes roles.is_plus o)) e)
+      by None e law =
+          let none : k * as_count (is_covered_by roles.is_plus nodes v) ≡ k * 0 = ap (λ o. k * as_count (passes roles.is_plus o)) e in
+          omega (arith, law, none)
       by (Some n) e law = most (is_covered_by roles.is_plus nodes v) law
         where
           most : (b : Bool)

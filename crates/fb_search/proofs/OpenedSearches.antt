@@ -1,5 +1,6 @@
 -- A minus blossom opened keeps what every search keeps, and leaves less to do.
 use Rattle.std.proofs.Common.{ℕ, true, false, List, Option, refl, ap, ◌∙◌}
+use Rattle.fb_search.proofs.CoversBefore.{covered_unsplit}
 use Rattle.fb_graph.specs.Limits.{IsWithinLimits}
 use Rattle.fb_graph.specs.Moves.{split_nodes}
 use Rattle.fb_graph.proofs.SplitNests.{height}

@@ -1,15 +1,17 @@
 -- A vertex that a plus node absorbs keeps what every search keeps, and leaves less to do.
-use Rattle.std.proofs.Common.{ℕ, ◌≡◌, ◌==◌, ◌<◌, ◌%◌, ◌⊎◌, inl, inr, Bool, true, false, List, length, All, Option, Some, None, IsSome, is_some, refl, sym, ap, ◌∙◌, subst, if◌then◌else◌}
-use Rattle.std.proofs.lemmas.Bool.{false≢true, eqb-true}
+use Rattle.std.proofs.Common.{ℕ, ◌≡◌, ◌==◌, ◌<◌, ◌%◌, ◌⊎◌, inl, inr, Bool, true, false, List, length, All, Option, Some, None, IsSome, is_some, refl, sym, ap, ◌∙◌, subst, if◌then◌else◌, ◌≤◌, ◌/◌, ◌*◌, ◌&&◌, cond, get_or, arith}
+use Rattle.std.proofs.lemmas.Bool.{false≢true, eqb-true, cases_lt}
 use Rattle.std.proofs.lemmas.List.Elements.{All-weaker}
-use Rattle.fb_graph.specs.Parity.{is_in}
-use Rattle.fb_graph.specs.Problem.{Problem, edge_at, touches}
+use Rattle.std.proofs.lemmas.List.{get_or_past}
+use Rattle.fb_search.proofs.KeptBounds.{bounded_by}
+use Rattle.fb_graph.specs.Parity.{is_in, differ}
+use Rattle.fb_graph.specs.Problem.{Problem, edge_at, touches, no_edge}
 use Rattle.fb_graph.specs.Components.{Leads}
 use Rattle.fb_graph.specs.declared.parts.Edge.{Edge}
 use Rattle.fb_graph.specs.Limits.{IsEdge, IsWithinLimits}
 use Rattle.fb_graph.specs.Links.{AreEven}
 use Rattle.fb_graph.specs.Covers.{is_covered_by, passes}
-use Rattle.fb_graph.specs.Dual.{AreUnderOne, Node, cover_of, is_outer, taller_node}
+use Rattle.fb_graph.specs.Dual.{AreUnderOne, Node, cover_of, is_outer, taller_node, all_cuts, height_of}
 use Rattle.fb_graph.specs.Moves.{MayAbsorb, absorbed_nodes}
 use Rattle.fb_graph.specs.Steps.{Roles}
 use Rattle.fb_graph.proofs.Among.{cover_among}
@@ -23,7 +25,7 @@ use Rattle.fb_laws.proofs.StateMoves.{state_absorbed}
 use Rattle.fb_regions.specs.Moves.{absorbed_over, inner_end, outer_end}
 use Rattle.fb_trees.proofs.Mapped.{plus_moved}
 use Rattle.fb_half.specs.Translations.{link_by}
-use Rattle.fb_obstacles.specs.Obstacles.{IsAbsorb, IsWatched, slack_at}
+use Rattle.fb_obstacles.specs.Obstacles.{IsAbsorb, IsWatched, slack_at, residue_of}
 use Rattle.fb_obstacles.specs.Watched.{Watched}
 use Rattle.fb_search.specs.Progress.{GoesOn}
 use Rattle.fb_search.specs.Searching.{IsSearching, SearchValue, problem_of, roles_in, state_at}
