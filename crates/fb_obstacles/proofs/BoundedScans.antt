@@ -1,14 +1,14 @@
 -- Edges that are passed over since their bounds show that they bear a step, and looks that set bounds.
-use Rattle.std.proofs.Common.{ℕ, zero, suc, ◌≡◌, ◌+◌, ◌-◌, ◌*◌, ◌/◌, ◌≤◌, ◌<◌, ◌==◌, ◌&&◌, ◌⊎◌, inl, inr, Bool, true, false, not, List, [], length, get_or, set, drop, All, refl, sym, ap, ◌∙◌, subst, arith}
-use Rattle.std.proofs.lemmas.Bool.{and_parts, false≢true, false_from_ne_true, cases_eq, cases_lt, eqb-true, leb-true}
+use Rattle.std.proofs.Common.{ℕ, zero, suc, ◌≡◌, ◌+◌, ◌-◌, ◌*◌, ◌/◌, ◌≤◌, ◌<◌, ◌==◌, ◌&&◌, ◌⊎◌, inl, inr, Bool, true, false, not, cond, is_some, Option, Some, None, List, [], length, get_or, set, drop, All, refl, sym, ap, ◌∙◌, subst, arith}
+use Rattle.std.proofs.lemmas.Bool.{and_from, and_parts, false≢true, false_from_ne_true, cases_eq, cases_lt, eqb-true, leb-true}
 use Rattle.std.proofs.lemmas.List.{drop_all, get_or-set_same, get_or-set_other, set_past}
 use Rattle.std.proofs.lemmas.List.Elements.{All-nil}
 use Rattle.fb_graph.specs.Parity.{is_in}
 use Rattle.fb_graph.specs.Problem.{Problem, edge_at, no_edge}
 use Rattle.fb_graph.specs.Certificate.{load_of}
-use Rattle.fb_graph.specs.Dual.{Node, IsDual, AreUnderOne, all_cuts}
+use Rattle.fb_graph.specs.Dual.{Node, IsDual, AreUnderOne, all_cuts, cover_of}
 use Rattle.fb_graph.specs.Steps.{Roles}
-use Rattle.fb_graph.specs.Covers.{AreRoles}
+use Rattle.fb_graph.specs.Covers.{AreRoles, is_covered_by, passes}
 use Rattle.fb_graph.specs.declared.parts.Edge.{Edge}
 use Rattle.fb_graph.proofs.Crossings.{under_or_not}
 use Rattle.fb_laws.proofs.StepBounds.{edge_allows, edge_within_allows}
@@ -16,17 +16,22 @@ use Rattle.fb_regions.specs.declared.roles.Role.{Role}
 use Rattle.fb_obstacles.specs.declared.obstacle.Obstacle.{Obstacle}
 use Rattle.fb_obstacles.specs.declared.looking.Look.{Look}
 use Rattle.fb_obstacles.specs.declared.looking.Look.TheVariants.{Clear, Within, Blocked}
-use Rattle.fb_obstacles.specs.Obstacles.{Obstructs, residue_at, roles_by}
+use Rattle.fb_obstacles.specs.Obstacles.{Obstructs, residue_at, roles_by, slack_at}
 use Rattle.fb_obstacles.specs.Watched.{Watched, AreBounded}
 use Rattle.fb_obstacles.specs.InnerEdges.{LeavesInner}
 use Rattle.fb_obstacles.specs.InternalLooks.{BearsShrinking, BearsStep, LimitsBoth, Limits, both_looks, edge_look, fits_within}
 use Rattle.fb_obstacles.proofs.EdgeScans.{IsSeen, edge_seen}
 use Rattle.fb_obstacles.proofs.LookLimits.{limits_before, limits_blocked, limits_passed, limits_same, limits_unlimited}
 
--- an edge bears a step that takes at most half its residue
-residue_bears : (p : Problem) (roles : Roles) (nodes : List Node) (j k : ℕ) → IsDual p nodes → AreRoles roles nodes
-    → k < length p.edges → 2 * j ≤ residue_at p nodes k → BearsStep roles nodes j (edge_at p.edges k)
-residue_bears p roles nodes j k dual are less fits = step (under_or_not nodes e.first e.second)
+-- the name that passes the test is there
+passing_some : (test : ℕ → Bool) (name : Option ℕ) → passes test name ≡ true → is_some name ≡ true
+passing_some test (Some n) passing = refl
+passing_some test None passing = absurd (false≢true passing)
+
+-- an edge bears a step of half its slack
+slack_bears : (p : Problem) (roles : Roles) (nodes : List Node) (j k : ℕ) → IsDual p nodes → AreRoles roles nodes
+    → k < length p.edges → 2 * j ≤ slack_at p nodes k → BearsStep roles nodes j (edge_at p.edges k)
+slack_bears p roles nodes j k dual are less fits = step (under_or_not nodes e.first e.second)
   where
     e : Edge
     e = edge_at p.edges k
@@ -38,17 +43,34 @@ residue_bears p roles nodes j k dual are less fits = step (under_or_not nodes e.
     step (inl under) = edge_within_allows p roles nodes j e dual are light under
     step (inr differs) =
         edge_allows p roles nodes j e dual are light differs (record {
-          first = λ plus other free. omega (arith, fits, light, dual.loads e differs);
-          second = λ plus other free. omega (arith, fits, light, dual.loads e differs);
-          both = λ plus more. omega (arith, fits, light, dual.loads e differs);
+          first = λ plus other free. omega (arith, once, light, dual.loads e differs);
+          second = λ plus other free. omega (arith, once, light, dual.loads e differs);
+          both = λ plus more. omega (arith, twice plus more, light, dual.loads e differs);
         })
+      where
+        held : Bool
+        held = is_some (cover_of nodes e.first) && is_some (cover_of nodes e.second)
 
--- what fits within a residue bounds the step by half of it
-fitting_bound : (l : Look) (residue : ℕ) → fits_within l residue ≡ true → (m : ℕ) × (l ≡ Within m) × (2 * m ≤ residue)
-fitting_bound Clear residue fits = absurd (false≢true fits)
-fitting_bound (Within m) residue fits =
-    let half : m ≤ residue / 2 = leb-true m (residue / 2) fits in (m, refl, omega (arith, half))
-fitting_bound (Blocked o) residue fits = absurd (false≢true fits)
+        once : j ≤ residue_at p nodes k
+        once = by held fits
+          where
+            by : (b : Bool) → 2 * j ≤ cond b (residue_at p nodes k) (2 * residue_at p nodes k) → j ≤ residue_at p nodes k
+            by true few = omega (arith, few)
+            by false few = omega (arith, few)
+
+        twice : is_covered_by roles.is_plus nodes e.first ≡ true → is_covered_by roles.is_plus nodes e.second ≡ true
+            → 2 * j ≤ residue_at p nodes k
+        twice plus more =
+            let both : held ≡ true = and_from (is_some (cover_of nodes e.first)) (is_some (cover_of nodes e.second))
+            (passing_some roles.is_plus (cover_of nodes e.first) plus) (passing_some roles.is_plus (cover_of nodes e.second) more) in
+            subst (λ b. 2 * j ≤ cond b (residue_at p nodes k) (2 * residue_at p nodes k)) both fits
+
+-- what fits within a slack bounds the step by half of it
+fitting_bound : (l : Look) (slack : ℕ) → fits_within l slack ≡ true → (m : ℕ) × (l ≡ Within m) × (2 * m ≤ slack)
+fitting_bound Clear slack fits = absurd (false≢true fits)
+fitting_bound (Within m) slack fits =
+    let half : m ≤ slack / 2 = leb-true m (slack / 2) fits in (m, refl, omega (arith, half))
+fitting_bound (Blocked o) slack fits = absurd (false≢true fits)
 
 -- what a scan from the last edge to the first knows when it has come to a place: what the minus nodes and the edges from
 -- there on allow, and that the edges before the place stand where they stood
@@ -58,11 +80,11 @@ pub record IsScanned (p : Problem) (role_of : ℕ → Role) (nodes : List Node) 
   pub within : (place ≤ length old.edges) × (place ≤ length new.edges)
   pub same : (i : ℕ) → i < place → get_or new.edges i 0 ≡ get_or old.edges i 0
   pub watched : LeavesInner p nodes old new
-  pub bounded : AreBounded (residue_at p nodes) new
+  pub bounded : AreBounded (slack_at p nodes) new
 
 -- the minus nodes were looked at, and no edge yet
 pub scanned_none : (p : Problem) (role_of : ℕ → Role) (nodes : List Node) (names : List ℕ) (w : Watched) (n : ℕ) (l : Look)
-    → n ≡ length w.edges → AreBounded (residue_at p nodes) w
+    → n ≡ length w.edges → AreBounded (slack_at p nodes) w
     → Limits (λ j. All (BearsShrinking nodes j) names) (Obstructs p (roles_by role_of) nodes) l
     → IsScanned p role_of nodes names w w n l
 scanned_none p role_of nodes names w n l all bounded limits = record {
@@ -80,7 +102,7 @@ scanned_none p role_of nodes names w n l all bounded limits = record {
 -- the next edge is passed over
 pub scanned_passed : (p : Problem) (role_of : ℕ → Role) (nodes : List Node) (names : List ℕ) (old new : Watched) (n bound : ℕ)
     (l : Look) (fits : Bool) → IsSeen p role_of nodes old.edges → IsScanned p role_of nodes names old new n l → 0 < n
-    → bound ≤ residue_at p nodes (get_or new.edges (n - 1) 0) → fits ≡ fits_within l bound → fits ≡ true
+    → bound ≤ slack_at p nodes (get_or new.edges (n - 1) 0) → fits ≡ fits_within l bound → fits ≡ true
     → IsScanned p role_of nodes names old new (n - 1) l
 scanned_passed p role_of nodes names old new n bound l fits seen scanned some bounded is_fit holds =
     let i : ℕ = n - 1 in
@@ -92,8 +114,8 @@ scanned_passed p role_of nodes names old new n bound l fits seen scanned some bo
           (λ j k. BearsStep (roles_by role_of) nodes j (edge_at p.edges k))
           (Obstructs p (roles_by role_of) nodes) old.edges i m l less is
           (λ j le.
-          residue_bears p (roles_by role_of) nodes j (get_or old.edges i 0) seen.dual seen.roles (seen.within i 0 less)
-          (omega (arith, le, half, subst (λ k. bound ≤ residue_at p nodes k) (scanned.same i (omega (arith, some))) bounded)))
+          slack_bears p (roles_by role_of) nodes j (get_or old.edges i 0) seen.dual seen.roles (seen.within i 0 less)
+          (omega (arith, le, half, subst (λ k. bound ≤ slack_at p nodes k) (scanned.same i (omega (arith, some))) bounded)))
           (subst (λ x. LimitsBoth p (roles_by role_of) nodes names (drop x old.edges) l) next scanned.limits);
       within = (omega (arith, less), omega (arith, scanned.within.1));
       same = λ j before. scanned.same j (omega (arith, before));
@@ -132,7 +154,7 @@ bounded_set limit w i x bounded most j less = step (cases_eq j i) (cases_lt i (l
 
 -- the bound of the edge at a place is set
 scanned_set : (p : Problem) (role_of : ℕ → Role) (nodes : List Node) (names : List ℕ) (old w new : Watched) (n i x : ℕ)
-    (l : Look) → IsScanned p role_of nodes names old w n l → x ≤ residue_at p nodes (get_or w.edges i 0)
+    (l : Look) → IsScanned p role_of nodes names old w n l → x ≤ slack_at p nodes (get_or w.edges i 0)
     → new ≡ record w { bounds = set w.bounds i x } → IsScanned p role_of nodes names old new n l
 scanned_set p role_of nodes names old w new n i x l scanned most is =
     subst (λ v. IsScanned p role_of nodes names old v n l) (sym is) (record {
@@ -140,34 +162,34 @@ scanned_set p role_of nodes names old w new n i x l scanned most is =
       within = scanned.within;
       same = scanned.same;
       watched = record { room = scanned.watched.room; kept = scanned.watched.kept; none_new = scanned.watched.none_new };
-      bounded = bounded_set (residue_at p nodes) w i x scanned.bounded most;
+      bounded = bounded_set (slack_at p nodes) w i x scanned.bounded most;
     })
 
--- the next edge gets its residue as its bound, and is passed over
+-- the next edge gets its slack as its bound, and is passed over
 pub scanned_bounded : (p : Problem) (role_of : ℕ → Role) (nodes : List Node) (names : List ℕ) (old w new : Watched) (n k x : ℕ)
     (l : Look) (fits : Bool) → IsSeen p role_of nodes old.edges → IsScanned p role_of nodes names old w n l → 0 < n
-    → k ≡ get_or w.edges (n - 1) 0 → x ≡ residue_at p nodes k → new ≡ record w { bounds = set w.bounds (n - 1) x }
+    → k ≡ get_or w.edges (n - 1) 0 → x ≡ slack_at p nodes k → new ≡ record w { bounds = set w.bounds (n - 1) x }
     → fits ≡ fits_within l x → fits ≡ true → IsScanned p role_of nodes names old new (n - 1) l
-scanned_bounded p role_of nodes names old w new n k x l fits seen scanned some at residue is is_fit holds =
+scanned_bounded p role_of nodes names old w new n k x l fits seen scanned some at slack is is_fit holds =
     let here : k ≡ get_or old.edges (n - 1) 0 = at ∙ scanned.same (n - 1) (omega (arith, some)) in
-    let within : x ≤ residue_at p nodes (get_or w.edges (n - 1) 0) = omega (arith, residue, ap (residue_at p nodes) at) in
+    let within : x ≤ slack_at p nodes (get_or w.edges (n - 1) 0) = omega (arith, slack, ap (slack_at p nodes) at) in
     let set : IsScanned p role_of nodes names old new n l = scanned_set p role_of nodes names old w new n (n - 1) x l scanned within is in
     scanned_passed p role_of nodes names old new n x l fits seen set some
-    (subst (λ m. x ≤ residue_at p nodes m) (sym (set.same (n - 1) (omega (arith, some))))
-    (omega (arith, residue, ap (residue_at p nodes) here)))
+    (subst (λ m. x ≤ slack_at p nodes m) (sym (set.same (n - 1) (omega (arith, some))))
+    (omega (arith, slack, ap (slack_at p nodes) here)))
     is_fit holds
 
--- the next edge gets its residue as its bound, and is looked at
+-- the next edge gets its slack as its bound, and is looked at
 pub scanned_more : (p : Problem) (role_of : ℕ → Role) (nodes : List Node) (names : List ℕ) (old w new : Watched) (n k x : ℕ)
     (a b l : Look) → IsSeen p role_of nodes old.edges → IsScanned p role_of nodes names old w n a → 0 < n
-    → k ≡ get_or w.edges (n - 1) 0 → x ≡ residue_at p nodes k → new ≡ record w { bounds = set w.bounds (n - 1) x }
+    → k ≡ get_or w.edges (n - 1) 0 → x ≡ slack_at p nodes k → new ≡ record w { bounds = set w.bounds (n - 1) x }
     → b ≡ edge_look p role_of nodes k → l ≡ both_looks a b → IsScanned p role_of nodes names old new (n - 1) l
-scanned_more p role_of nodes names old w new n k x a b l seen before some is residue changed looked joined =
+scanned_more p role_of nodes names old w new n k x a b l seen before some is slack changed looked joined =
     let i : ℕ = n - 1 in
     let less : i < length old.edges = omega (arith, some, before.within.0) in
     let next : n ≡ i + 1 = omega (arith, some) in
     let here : k ≡ get_or old.edges i 0 = is ∙ before.same i (omega (arith, some)) in
-    let within : x ≤ residue_at p nodes (get_or w.edges i 0) = omega (arith, residue, ap (residue_at p nodes) is) in
+    let within : x ≤ slack_at p nodes (get_or w.edges i 0) = omega (arith, slack, ap (slack_at p nodes) is) in
     let scanned : IsScanned p role_of nodes names old new n a = scanned_set p role_of nodes names old w new n i x a before within changed in
     record {
       limits = subst (LimitsBoth p (roles_by role_of) nodes names (drop i old.edges)) (sym joined)
@@ -207,7 +229,7 @@ pub scanned_left : (p : Problem) (role_of : ℕ → Role) (nodes : List Node) (n
     → new.edge_count ≡ w.edge_count
     → ((m : ℕ) → is_in new.edges m ≡ (is_in w.edges m && not (m == get_or w.edges (n - 1) 0)))
     → ((i : ℕ) → i < n - 1 → get_or new.edges i 0 ≡ get_or w.edges i 0) → length new.edges + 1 ≡ length w.edges
-    → AreBounded (residue_at p nodes) new → IsScanned p role_of nodes names old new (n - 1) l
+    → AreBounded (slack_at p nodes) new → IsScanned p role_of nodes names old new (n - 1) l
 scanned_left p role_of nodes names old w new n k l seen scanned some at under room left same fewer bounded =
     let i : ℕ = n - 1 in
     let less : i < length old.edges = omega (arith, some, scanned.within.0) in

@@ -5,5 +5,6 @@ pub mod EdgeScans
 pub mod HeldEnds
 pub mod LookLimits
 pub mod NodeLooks
+pub mod HalvedBounds
 pub mod RaisedBounds
 pub mod StoredEdges

@@ -1,5 +1,5 @@
 -- How the edges and minus nodes are looked at.
-use Rattle.std.specs.Prelude.{ℕ, ◌≡◌, ◌+◌, ◌-◌, ◌*◌, ◌/◌, ◌≤◌, ◌==◌, Bool, true, false, min, nat_lt, nat_le, List, length, All, Option, Some, None, option_map, if◌then◌else◌}
+use Rattle.std.specs.Prelude.{ℕ, ◌≡◌, ◌+◌, ◌-◌, ◌*◌, ◌/◌, ◌≤◌, ◌==◌, ◌&&◌, Bool, true, false, min, nat_lt, nat_le, List, length, All, Option, Some, None, option_map, is_some, if◌then◌else◌}
 use Rattle.fb_graph.specs.Problem.{Problem, edge_at}
 use Rattle.fb_graph.specs.Certificate.{load_of}
 use Rattle.fb_graph.specs.Dual.{Node, all_cuts, cover_of, is_empty, layers_at}
@@ -42,6 +42,10 @@ pub record AreEnds (nodes : List Node) (e : Edge) (ends : Ends) : Type 0 where
 -- the weight of an edge with these ends less the potentials of both
 abbrev pub residue_by : Ends → ℕ → ℕ
 residue_by ends weight = weight - (potential_by ends.first + potential_by ends.second)
+
+-- the slack of an edge with these ends and this residue
+abbrev pub slack_by : Ends → ℕ → ℕ
+slack_by ends residue = if is_some (node_by ends.first) && is_some (node_by ends.second) then residue else 2 * residue
 
 abbrev pub cover_at : Problem → (ℕ → Role) → List Node → ℕ → Cover
 cover_at p role_of nodes v = cover_by role_of (p.is_real v) (cover_of nodes v)
@@ -100,11 +104,11 @@ both_looks Clear b = b
 both_looks a Clear = a
 both_looks (Within i) (Within j) = Within (min i j)
 
--- an edge with this residue bears each step that the look allows, since a step takes at most twice its length from it
+-- an edge with this slack bears each step that the look allows
 abbrev pub fits_within : Look → ℕ → Bool
-fits_within (Within bound) residue = nat_le bound (residue / 2)
-fits_within Clear residue = false
-fits_within (Blocked o) residue = false
+fits_within (Within bound) slack = nat_le bound (slack / 2)
+fits_within Clear slack = false
+fits_within (Blocked o) slack = false
 
 -- the look tells which lengths are allowed, or an obstacle that stands
 abbrev pub Limits : (ℕ → Type 0) → (Obstacle → Type 0) → Look → Type 0

@@ -1,5 +1,5 @@
 -- What stands in the way of an alternating tree (Wu and Zhong 2023).
-use Rattle.std.specs.Prelude.{ℕ, ◌≡◌, ◌+◌, ◌-◌, ◌<◌, ◌≤◌, ◌⊎◌, Bool, true, false, List, [], length, All, Some, None}
+use Rattle.std.specs.Prelude.{ℕ, ◌≡◌, ◌+◌, ◌-◌, ◌*◌, ◌<◌, ◌≤◌, ◌⊎◌, ◌&&◌, Bool, true, false, is_some, if◌then◌else◌, List, [], length, All, Some, None}
 use Rattle.fb_graph.specs.Parity.{is_in}
 use Rattle.fb_graph.specs.Problem.{Problem, edge_at}
 use Rattle.fb_graph.specs.Certificate.{load_of}
@@ -36,6 +36,17 @@ residue_of nodes e = e.weight - (height_of (all_cuts nodes) e.first + height_of 
 -- the same of the edge of a number
 abbrev pub residue_at : Problem → List Node → ℕ → ℕ
 residue_at p nodes k = residue_of nodes (edge_at p.edges k)
+
+-- Twice the length of a step that the edge bears, whatever the roles: its residue, of which a step takes at most twice its
+-- length, or twice that where no node holds one of the ends, since only the other one can then grow.
+abbrev pub slack_of : List Node → Edge → ℕ
+slack_of nodes e =
+    if is_some (cover_of nodes e.first) && is_some (cover_of nodes e.second) then residue_of nodes e
+    else 2 * residue_of nodes e
+
+-- the same of the edge of a number
+abbrev pub slack_at : Problem → List Node → ℕ → ℕ
+slack_at p nodes k = slack_of nodes (edge_at p.edges k)
 
 -- all defects under plus nodes have potentials of one parity
 abbrev pub HavePlusParity : Roles → List Node → Type 0

@@ -6,7 +6,7 @@ use Rattle.std.specs.Coded.{Coded, code_by, coded×, coded_list, coded_ℕ}
 pub record Watched : Type 0 where
   pub edge_count : ℕ
   pub edges : List ℕ
-  -- for each watched edge, by its place, a number that its residue is at least
+  -- for each watched edge, by its place, a number that its slack is at least
   pub bounds : List ℕ
 
 -- the bound of each watched edge is at most its limit

@@ -1,6 +1,6 @@
 ghost use Rattle.std.specs.Prelude.{ℕ, ◌≡◌, ◌+◌, ◌<◌, ◌≤◌, true, length, get_or, All};
 ghost use Rattle.fb_graph.specs.Covers.{AreRoles};
-ghost use Rattle.fb_obstacles.specs.Obstacles.{HavePlusParity, ListsMinus, residue_at, roles_by};
+ghost use Rattle.fb_obstacles.specs.Obstacles.{HavePlusParity, ListsMinus, slack_at, roles_by};
 ghost use Rattle.fb_obstacles.specs.Watched.{AreBounded};
 ghost use Rattle.fb_obstacles.specs.InnerEdges.{LeavesInner};
 ghost use Rattle.fb_obstacles.specs.InternalLooks.{LimitsBoth, both_looks, fits_within};
@@ -41,7 +41,7 @@ fn with_look(watch: &mut Watch, place: usize, least: Look, look: Look) -> Look
 }
 
 /// A look at all minus nodes and watched edges, up to the first obstacle. Passes over each edge whose bound shows that it
-/// bears what the others allow, and sets the bound of each edge that it looks at to its residue. An edge both of whose ends
+/// bears what the others allow, and sets the bound of each edge that it looks at to its slack. An edge both of whose ends
 /// one outer node holds never limits the step: where the look finds one, it is watched no longer.
 ///
 /// Goes from the last edge to the first: the last ones have no bound yet, and mostly limit the step.
@@ -57,10 +57,10 @@ pub fn look_by_bounds<S: Scope, R: MinusNodes, L: Ledger>(
     requires minus { ListsMinus (roles_by (R.role_of roles.now)) regions.now.nodes (R.minus_names roles.now) }
     requires parity { HavePlusParity (roles_by (R.role_of roles.now)) regions.now.nodes }
     requires within { All (λ k. k < length (S.problem scope.now).edges) watch.old.edges }
-    requires bounded { AreBounded (residue_at (S.problem scope.now) regions.now.nodes) watch.old }
+    requires bounded { AreBounded (slack_at (S.problem scope.now) regions.now.nodes) watch.old }
     ensures limits { LimitsBoth (S.problem scope.now) (roles_by (R.role_of roles.now)) regions.now.nodes (R.minus_names roles.now) watch.old.edges result }
     ensures watched { LeavesInner (S.problem scope.now) regions.now.nodes watch.old watch.new }
-    ensures bounded { AreBounded (residue_at (S.problem scope.now) regions.now.nodes) watch.new }
+    ensures bounded { AreBounded (slack_at (S.problem scope.now) regions.now.nodes) watch.new }
     ensures looks { (looks.old ≤ looks.new) × (looks.new ≤ looks.old + length watch.old.edges) }
 {
     keeps_dual(regions);
@@ -84,8 +84,9 @@ pub fn look_by_bounds<S: Scope, R: MinusNodes, L: Ledger>(
             continue;
         }
         let residue = ends.residue(scope.weight(edge));
-        watch.set_bound(place, residue);
-        if least.fits_within(residue) {
+        let slack = ends.slack(residue);
+        watch.set_bound(place, slack);
+        if least.fits_within(slack) {
             continue;
         }
         let look = look_with(edge, ends, residue, scope, roles);

@@ -32,13 +32,12 @@ impl Look {
         }
     }
 
-    /// Whether an edge with at least this residue bears each step that the look allows. A step takes at most twice its
-    /// length from a residue.
-    pub fn fits_within(self, residue: u64) -> bool
-        ensures { result ≡ fits_within self residue }
+    /// Whether an edge with at least this slack bears each step that the look allows.
+    pub fn fits_within(self, slack: u64) -> bool
+        ensures { result ≡ fits_within self slack }
     {
         match self {
-            Look::Within(bound) => bound <= residue / 2,
+            Look::Within(bound) => bound <= slack / 2,
             _ => false,
         }
     }

@@ -1,4 +1,4 @@
-ghost use Rattle.std.specs.Prelude.{ℕ, ◌≡◌, ◌+◌, ◌-◌, ◌<◌, ◌≤◌, ◌==◌, ◌&&◌, true, false, not, [], ◌∷◌, ◌++◌, length, map, get_or, set, All, IfOk, IfSome, MatchOption, if◌then◌else◌};
+ghost use Rattle.std.specs.Prelude.{ℕ, ◌≡◌, ◌+◌, ◌-◌, ◌/◌, ◌<◌, ◌≤◌, ◌==◌, ◌&&◌, ◌||◌, true, false, not, [], ◌∷◌, ◌++◌, length, map, get_or, set, All, IfOk, IfSome, MatchOption, if◌then◌else◌};
 ghost use Rattle.fb_graph.specs.Parity.{is_in};
 ghost use Rattle.fb_graph.specs.Counts.{as_count};
 ghost use Rattle.fb_graph.specs.Certificate.{AreDistinct};
@@ -8,7 +8,7 @@ use fb_graph::{NoMemory, Scope};
 use std::alloc::Global;
 use std::marker::Model;
 
-/// The edges that a search looks at, each once, in any order, with a lower bound of each one's residue. Only `new` takes
+/// The edges that a search looks at, each once, in any order, with a lower bound of each one's slack. Only `new` takes
 /// memory, and only `new` takes time for each edge of the scope: another call takes the time of a few reads and writes. So
 /// a watch is made once and serves many searches.
 #[derive(Drop)]
@@ -89,7 +89,7 @@ impl Watch {
         }
     }
 
-    /// Watches the edge from now on. Nothing is known of its residue.
+    /// Watches the edge from now on. If it wasn't watched before, nothing is known of its slack.
     pub fn enter(&mut self, edge: u32)
         requires { edge < self.old.edge_count }
         ensures { self.new ≡ (if is_in self.old.edges edge then self.old else record { edge_count = self.old.edge_count; edges = self.old.edges ++ edge ∷ []; bounds = self.old.bounds ++ 0 ∷ [] }) }
@@ -100,6 +100,24 @@ impl Watch {
         self.places[edge as usize] = self.edges.len() as u32;
         self.edges.push_reserved(edge);
         self.raised.push_reserved(self.lowered);
+    }
+
+    /// Watches the edge from now on. Its slack may be half of what it was.
+    pub fn enter_halved(&mut self, edge: u32)
+        requires { edge < self.old.edge_count }
+        ensures count { self.new.edge_count ≡ self.old.edge_count }
+        ensures edges { (e : ℕ) → is_in self.new.edges e ≡ (is_in self.old.edges e || (e == edge)) }
+        ensures bounds { (limit : ℕ → ℕ) → AreBounded limit self.old
+            → AreBounded (λ e. if e == edge then limit e / 2 else limit e) self.new }
+    {
+        self.keeps();
+        match self.place_of(edge) {
+            Some(place) => {
+                let half = self.bound_at(place) / 2;
+                self.set_bound(place, half);
+            }
+            None => self.enter(edge),
+        }
     }
 
     /// Watches the edge no longer.
@@ -141,7 +159,7 @@ impl Watch {
         self.lowered = 0;
     }
 
-    /// Each residue may have fallen by this much.
+    /// Each slack may have fallen by this much.
     pub fn lower(&mut self, length: u64)
         ensures { self.new ≡ record self.old { bounds = map (λ b. b - length) self.old.bounds } }
     {

@@ -16,7 +16,7 @@ use Rattle.fb_half.specs.declared.matches.Match.{Match}
 use Rattle.fb_half.specs.Matchings.{match_links, matched_names}
 use Rattle.fb_half.specs.Parts.{AreLinksOf}
 use Rattle.fb_half.specs.Translations.{entry_by, link_by, link_of, ring_links}
-use Rattle.fb_obstacles.specs.Obstacles.{residue_at}
+use Rattle.fb_obstacles.specs.Obstacles.{slack_at}
 use Rattle.fb_obstacles.specs.Watched.{Watched}
 use Rattle.fb_trees.specs.Rooted.{attached, is_node}
 use Rattle.fb_trees.proofs.Mapped.{plus_moved}
@@ -115,7 +115,7 @@ module _ (w : SearchValue) (met : Met) (now : SearchValue) (h : HasMet w met now
             watch_attached (problem_of w) w.tree (branch_met met mate) w.part.nodes limits
             h.was.state.1.search.nest.dual.names w.watched new
             (subst (λ n. All (λ j. j < n) new.edges) (watched.room ∙ h.was.room) within) watched h.was.watch;
-        bounds = watched.bounds (residue_at (problem_of w) w.part.nodes) h.was.bounds;
+        bounds = watched.bounds (slack_at (problem_of w) w.part.nodes) h.was.bounds;
       }
 
       rematched_goes_on : GoesOn w (with_branch (branch_met met mate) new (rematched now.part.links now.part.matching.matches w))

@@ -11,7 +11,7 @@ use Rattle.fb_laws.proofs.SearchTrees.{cover_set}
 use Rattle.fb_laws.proofs.StateMoves.{search_from_root}
 use Rattle.fb_trees.specs.Rooted.{bare}
 use Rattle.fb_obstacles.specs.Watched.{Watched}
-use Rattle.fb_obstacles.specs.Obstacles.{grows, residue_at}
+use Rattle.fb_obstacles.specs.Obstacles.{grows, slack_at}
 use Rattle.fb_regions.specs.declared.roles.Role.TheVariants.{Plus, Minus, Out}
 use Rattle.fb_plan.specs.Plans.{PlanTree, problem_at}
 use Rattle.fb_search.specs.Searching.{IsSearching, SearchValue, roles_in}
@@ -75,11 +75,11 @@ begun_searching root part old new are limits within below room empty watched = r
     within = rw (← watched.room ∙ room) below;
     near = λ k less over apart. near k less over;
   };
-  bounds = watched.bounds (residue_at (problem_in part) part.nodes) (λ i less. none i less);
+  bounds = watched.bounds (slack_at (problem_in part) part.nodes) (λ i less. none i less);
 }
   where
     none : (i : ℕ) → i < length old.edges
-        → get_or old.bounds i 0 ≤ residue_at (problem_in part) part.nodes (get_or old.edges i 0)
+        → get_or old.bounds i 0 ≤ slack_at (problem_in part) part.nodes (get_or old.edges i 0)
     none i less = absurd (omega (arith, ap length empty, less))
 
     near : (k : ℕ) → k < length (problem_in part).edges

@@ -2,6 +2,7 @@
 use Rattle.std.proofs.Common.{ℕ, ◌≡◌, ◌≤◌, ◌≢◌, ◌<◌, true, false, List, [], ◌∷◌, length, All, Option, is_some, refl, sym, ap, ◌∙◌, subst}
 use Rattle.std.proofs.lemmas.Bool.{both_ways, false_from_ne_true}
 use Rattle.std.proofs.lemmas.List.Sorted.{IsPermutation-sym, length_permutation}
+use Rattle.fb_search.proofs.CoversBefore.{covered_unjoined}
 use Rattle.fb_graph.specs.Parity.{is_in}
 use Rattle.fb_graph.specs.Certificate.{AreDistinct}
 use Rattle.fb_graph.specs.Limits.{IsWithinLimits}
@@ -28,7 +29,7 @@ use Rattle.fb_half.specs.Matchings.{MatchingValue, listed_names, match_links}
 use Rattle.fb_half.specs.Parts.{AreAgreed}
 use Rattle.fb_half.specs.Translations.{link_by}
 use Rattle.fb_half.specs.Values.{IsScopeOf}
-use Rattle.fb_obstacles.specs.Obstacles.{residue_at}
+use Rattle.fb_obstacles.specs.Obstacles.{slack_at}
 use Rattle.fb_obstacles.specs.Watched.{Watched}
 use Rattle.fb_search.specs.InternalClosings.{IsReplacedBy, WatchesMinus}
 use Rattle.fb_search.specs.Progress.{GoesOn}
@@ -153,7 +154,10 @@ module _ (w : SearchValue) (a b closing : ℕ) (closes : Closes w a b closing) (
           (height (problem_of w) w.part.nodes name cycle
           (subst (MayJoin w.part.nodes name) is.nodes (steps_join w a b closing closes steps is name new_name))
           closes.search.state.1.search.nest)
-          (watches.bounds (residue_at (problem_of w) w.part.nodes) closes.search.bounds);
+          (covered_unjoined w.part.nodes name cycle closes.search.state.1.search.nest.dual.names
+          closes.search.state.1.search.nest.dual.apart
+          (subst (MayJoin w.part.nodes name) is.nodes (steps_join w a b closing closes steps is name new_name)))
+          (watches.bounds (slack_at (problem_of w) w.part.nodes) closes.search.bounds);
     }
 
     others_kept : (n : ℕ) → is_in (names_without after.tree.root matching.unmatched) n

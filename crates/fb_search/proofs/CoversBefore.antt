@@ -1,9 +1,15 @@
--- The node over a vertex before some nodes were joined.
-use Rattle.std.proofs.Common.{ℕ, ◌≡◌, ◌⊎◌, inl, inr, true, false, List, [], ◌∷◌, map, Some, refl, sym, ap, ◌∙◌}
+-- The node over a vertex before some nodes were joined, or before one was split.
+use Rattle.std.proofs.Common.{ℕ, ◌≡◌, ◌⊎◌, inl, inr, true, false, List, [], ◌∷◌, map, Option, Some, None, is_some, refl, sym, ap, ◌∙◌}
+use Rattle.std.proofs.lemmas.Bool.{false≢true}
+use Rattle.fb_graph.proofs.Places.{among_split}
+use Rattle.fb_graph.proofs.NestParts.{grove_of}
+use Rattle.fb_graph.proofs.Forests.{under_outer}
 use Rattle.fb_graph.specs.Parity.{is_in}
+use Rattle.fb_graph.specs.Problem.{Problem}
 use Rattle.fb_graph.specs.Certificate.{AreDistinct}
 use Rattle.fb_graph.specs.Dual.{AreOuterApart, Node, cover_of, is_live, is_outer, top_at}
-use Rattle.fb_graph.specs.Moves.{MayJoin, blossom, joined_nodes}
+use Rattle.fb_graph.specs.Moves.{MayJoin, blossom, joined_nodes, split_nodes}
+use Rattle.fb_graph.specs.Nests.{IsNest}
 use Rattle.fb_graph.proofs.Among.{IsAmong, among_either, cover_among, covered_by, from_concat, live_among, outer_among, top_among}
 use Rattle.fb_graph.proofs.AppendedNodes.{outer_in}
 use Rattle.fb_graph.proofs.Sets.{is_in-All}
@@ -43,3 +49,25 @@ cover_before nodes name children names apart may v m cover =
           inl (child, sym named ∙ ap (λ (x : Node). x.name) (sym e)),
         )
     by q named outer holds (inr (inr none)) = absurd none
+
+-- what is covered once nodes are joined was covered before
+pub covered_unjoined : (nodes : List Node) (name : ℕ) (children : List ℕ) → AreDistinct (map (λ n. n.name) nodes)
+    → AreOuterApart nodes → MayJoin nodes name children → (v : ℕ) → is_some (cover_of (joined_nodes name children nodes) v) ≡ true
+    → is_some (cover_of nodes v) ≡ true
+covered_unjoined nodes name children names apart may v = by (cover_of (joined_nodes name children nodes) v) refl
+  where
+    by : (o : Option ℕ) → cover_of (joined_nodes name children nodes) v ≡ o → is_some o ≡ true → is_some (cover_of nodes v) ≡ true
+    by None e h = absurd (false≢true h)
+    by (Some m) e h = ap (λ o. is_some o) (cover_before nodes name children names apart may v m e).1
+
+-- what is covered once a blossom is opened was covered before
+pub covered_unsplit : (p : Problem) (nodes : List Node) (name : ℕ) → IsNest p nodes → (v : ℕ)
+    → is_some (cover_of (split_nodes name nodes) v) ≡ true → is_some (cover_of nodes v) ≡ true
+covered_unsplit p nodes name nest v = by (cover_of (split_nodes name nodes) v) refl
+  where
+    by : (o : Option ℕ) → cover_of (split_nodes name nodes) v ≡ o → is_some o ≡ true → is_some (cover_of nodes v) ≡ true
+    by None e h = absurd (false≢true h)
+    by (Some m) e h =
+        let over = cover_among (split_nodes name nodes) v m e in
+        let under = under_outer nodes (grove_of p nodes nest) over.node (among_split name nodes over.node over.among).0 in
+        ap (λ o. is_some o) (covered_by nodes v nest.dual.apart under.node under.among under.outer (under.within v over.holds))

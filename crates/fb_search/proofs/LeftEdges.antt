@@ -1,9 +1,12 @@
 -- The watch after a node absorbs a vertex: edges between two vertices of the node leave it.
-use Rattle.std.proofs.Common.{ℕ, ◌≡◌, ◌==◌, ◌+◌, ◌<◌, ◌≤◌, ◌||◌, Bool, true, false, not, List, [], ◌∷◌, ◌++◌, filter, get_or, length, take, refl, sym, ap, ◌∙◌, subst, if◌then◌else◌}
+use Rattle.std.proofs.Common.{ℕ, ◌≡◌, ◌==◌, ◌+◌, ◌<◌, ◌≤◌, ◌||◌, Bool, true, false, not, List, [], ◌∷◌, ◌++◌, filter, get_or, length, take, refl, sym, ap, ◌∙◌, subst, if◌then◌else◌, ◌/◌, ◌&&◌, ◌⊎◌, inl, inr, le_refl, arith}
 use Rattle.std.specs.List.{range_with_len}
-use Rattle.std.proofs.lemmas.List.{take_all, take_more}
-use Rattle.fb_graph.specs.Parity.{is_in}
-use Rattle.fb_graph.specs.Problem.{Problem, edge_at, touches}
+use Rattle.std.proofs.lemmas.List.{take_all, take_more, get_or_past}
+use Rattle.std.proofs.lemmas.Bool.{and_right, both_ways, cases_eq, cases_lt, eq-eqb, ne_eqb}
+use Rattle.fb_search.proofs.KeptBounds.{bounded_by}
+use Rattle.fb_graph.proofs.Sets.{is_in_at}
+use Rattle.fb_graph.specs.Parity.{is_in, differ}
+use Rattle.fb_graph.specs.Problem.{Problem, edge_at, touches, no_edge}
 use Rattle.fb_graph.specs.Limits.{DecodingGraph, no_shot}
 use Rattle.fb_graph.specs.Dual.{AreUnderOne, Node, cover_of}
 use Rattle.fb_graph.specs.declared.parts.Edge.{Edge}
@@ -11,7 +14,7 @@ use Rattle.fb_graph.proofs.Members.{is_in_push}
 use Rattle.fb_graph.proofs.Ranges.{is_in-filter-range}
 use Rattle.fb_half.specs.Parts.{PartValue, problem_in}
 use Rattle.fb_obstacles.specs.InnerEdges.{is_inner}
-use Rattle.fb_obstacles.specs.Watched.{Watched}
+use Rattle.fb_obstacles.specs.Watched.{Watched, AreBounded}
 use Rattle.fb_obstacles.proofs.HeldEnds.{same_node}
 use Rattle.fb_plan.specs.Plans.{PlanTree, problem_at}
 use Rattle.fb_search.specs.Watching.{WatchesOuter, WatchesTaken}
@@ -41,7 +44,14 @@ watched_more p nodes edges i a b c lt before more =
     subst (λ l. WatchesOuter p nodes l a c) (sym (take_more edges i 0 lt)) (record {
       room = more.room ∙ before.room;
       watched = by;
-      bounds = λ limit right. more.bounds limit (before.bounds limit right);
+      bounds = λ limit right.
+          bounded_by
+          (λ k. if is_in (get_or edges i 0 ∷ []) k then (if is_in (take i edges) k then limit k / 2 else limit k) / 2 else (if is_in (take i edges) k then limit k / 2 else limit k))
+          (λ k. if is_in (take i edges ++ get_or edges i 0 ∷ []) k then limit k / 2 else limit k) c
+          (λ k. subst (λ b. (if is_in (get_or edges i 0 ∷ []) k then (if is_in (take i edges) k then limit k / 2 else limit k) / 2 else (if is_in (take i edges) k then limit k / 2 else limit k))
+          ≤ (if b then limit k / 2 else limit k)) (sym (is_in_push (take i edges) (get_or edges i 0) k))
+          (lesser (get_or edges i 0 == k) (is_in (take i edges) k) (limit k)))
+          (more.bounds (λ k. if is_in (take i edges) k then limit k / 2 else limit k) (before.bounds limit right));
     })
   where
     both : (e h x y : Bool) → (if e || false then x else (if h then x else y)) ≡ (if h || e then x else y)
@@ -49,6 +59,13 @@ watched_more p nodes edges i a b c lt before more =
     both true false x y = refl
     both false true x y = refl
     both false false x y = refl
+
+    lesser : (e h : Bool) (x : ℕ)
+        → (if e || false then (if h then x / 2 else x) / 2 else (if h then x / 2 else x)) ≤ (if h || e then x / 2 else x)
+    lesser true true x = omega arith
+    lesser true false x = omega arith
+    lesser false true x = omega arith
+    lesser false false x = omega arith
 
     by : (k : ℕ) → is_in c.edges k
         ≡ (if is_in (take i edges ++ get_or edges i 0 ∷ []) k then not (is_inner nodes (edge_at p.edges k)) else is_in a.edges k)
@@ -63,18 +80,68 @@ pub watched_whole : (p : Problem) (nodes : List Node) (edges : List ℕ) (i : �
     → WatchesOuter p nodes (take i edges) a b → WatchesOuter p nodes edges a b
 watched_whole p nodes edges i a b all outer = subst (λ l. WatchesOuter p nodes l a b) (take_all i edges all) outer
 
+-- an inner edge leaves
+pub watched_left : (p : Problem) (nodes : List Node) (edge : ℕ) (old new : Watched) → is_inner nodes (edge_at p.edges edge) ≡ true
+    → new.edge_count ≡ old.edge_count → ((k : ℕ) → is_in new.edges k ≡ (is_in old.edges k && not (k == edge)))
+    → ((limit : ℕ → ℕ) → AreBounded limit old → AreBounded limit new) → WatchesOuter p nodes (edge ∷ []) old new
+watched_left p nodes edge old new inner room left bounds = record {
+  room = room;
+  watched = λ k. left k ∙ by k (cases_eq k edge);
+  bounds = λ limit right i less.
+      subst (λ b. get_or new.bounds i 0 ≤ (if b || false then limit (get_or new.edges i 0) / 2 else limit (get_or new.edges i 0)))
+      (sym (elsewhere i less)) (bounds limit right i less);
+}
+  where
+    and_true : (a : Bool) → (a && true) ≡ a
+    and_true true = refl
+    and_true false = refl
+
+    by : (k : ℕ) → (k ≡ edge) ⊎ (k ≡ edge → ⊥) → (is_in old.edges k && not (k == edge))
+        ≡ (if (edge == k) || false then not (is_inner nodes (edge_at p.edges k)) else is_in old.edges k)
+    by k (inl same) =
+        rw (eq-eqb k edge same, eq-eqb edge k (sym same))
+        (and_right (is_in old.edges k) false refl ∙ sym (ap (λ b. not b) (ap (λ j. is_inner nodes (edge_at p.edges j)) same ∙ inner)))
+    by k (inr other) = rw (ne_eqb k edge other, ne_eqb edge k (λ e. other (sym e))) (and_true (is_in old.edges k))
+
+    elsewhere : (i : ℕ) → i < length new.edges → (edge == get_or new.edges i 0) ≡ false
+    elsewhere i less =
+        ne_eqb edge (get_or new.edges i 0)
+        (λ same. both_ways (is_in new.edges edge)
+        (left edge ∙ (ap (λ b. is_in old.edges edge && not b) (eq-eqb edge edge refl) ∙ and_right (is_in old.edges edge) false refl))
+        (ap (is_in new.edges) same ∙ is_in_at new.edges i 0 less))
+
 -- the edges at a vertex
 pub taken_watched : (p : Problem) (nodes : List Node) (v : ℕ) (edges : List ℕ) (old new : Watched)
     → edges ≡ filter (λ k. touches v (edge_at p.edges k)) (range_with_len 0 (length p.edges))
     → WatchesOuter p nodes edges old new → WatchesTaken p nodes v old new
 taken_watched p nodes v edges old new e outer = record {
   room = outer.room;
-  bounds = outer.bounds;
+  bounds = λ limit right.
+      bounded_by (λ k. if is_in edges k then limit k / 2 else limit k)
+      (λ k. if touches v (edge_at p.edges k) then limit k / 2 else limit k) new
+      (λ k. more k (limit k) (cases_lt k (length p.edges))) (outer.bounds limit right);
   watched = λ k less.
       outer.watched k
       ∙ ap (λ t. if t then not (is_inner nodes (edge_at p.edges k)) else is_in old.edges k)
       (ap (λ l. is_in l k) e ∙ is_in-filter-range (λ j. touches v (edge_at p.edges j)) (length p.edges) k less);
 }
+  where
+    more : (k x : ℕ) → (k < length p.edges) ⊎ (length p.edges ≤ k)
+        → (if is_in edges k then x / 2 else x) ≤ (if touches v (edge_at p.edges k) then x / 2 else x)
+    more k x (inl less) =
+        rw (ap (λ l. is_in l k) e ∙ is_in-filter-range (λ j. touches v (edge_at p.edges j)) (length p.edges) k less) (le_refl _)
+    more k x (inr past) = rw (nowhere v (edge_at p.edges k) (get_or_past p.edges k no_edge past)) (half (is_in edges k))
+      where
+        half : (b : Bool) → (if b then x / 2 else x) ≤ x
+        half true = omega arith
+        half false = omega arith
+
+        nowhere : (v : ℕ) (e : Edge) → e ≡ no_edge → touches v e ≡ false
+        nowhere v e is = ap (touches v) is ∙ both_same (v == 0)
+          where
+            both_same : (b : Bool) → differ b b ≡ false
+            both_same true = refl
+            both_same false = refl
 
 module _ (p : Problem) (nodes : List Node) (v : ℕ) (old new : Watched) (taken : WatchesTaken p nodes v old new) (k : ℕ)
     (less : k < length p.edges) where

@@ -1,12 +1,13 @@
 -- A minus blossom opened keeps what every search keeps, and leaves less to do.
 use Rattle.std.proofs.Common.{ℕ, true, false, List, Option, refl, ap, ◌∙◌}
+use Rattle.fb_search.proofs.CoversBefore.{covered_unsplit}
 use Rattle.fb_graph.specs.Limits.{IsWithinLimits}
 use Rattle.fb_graph.specs.Moves.{split_nodes}
 use Rattle.fb_graph.proofs.SplitNests.{height}
 use Rattle.fb_blossoms.specs.Nodes as blossoms
 use Rattle.fb_laws.specs.Trees.{EntryOf}
 use Rattle.fb_trees.specs.Branches.{Grown}
-use Rattle.fb_obstacles.specs.Obstacles.{residue_at}
+use Rattle.fb_obstacles.specs.Obstacles.{slack_at}
 use Rattle.fb_obstacles.specs.Watched.{Watched}
 use Rattle.fb_search.specs.Progress.{GoesOn}
 use Rattle.fb_search.specs.Searching.{IsSearching, SearchValue, problem_of}
@@ -40,7 +41,8 @@ module _ (w : SearchValue) (name : ℕ) (e : EntryOf ℕ) (above below : ℕ) (a
     bounds =
         bounded_still (problem_of w) w.part.nodes (split_nodes name w.part.nodes) watched
         (height (problem_of w) w.part.nodes name opens.may_split are.state.1.search.nest)
-        (has.watches.bounds (residue_at (problem_of w) w.part.nodes) are.bounds);
+        (covered_unsplit (problem_of w) w.part.nodes name are.state.1.search.nest)
+        (has.watches.bounds (slack_at (problem_of w) w.part.nodes) are.bounds);
   }
 
   pub goes_on_opened : HasOpened w name above below links store tree watched

@@ -4,6 +4,7 @@ use Rattle.std.proofs.lemmas.Bool.{both_ways, eq-eqb, false_from_ne_true}
 use Rattle.fb_graph.specs.Parity.{is_in}
 use Rattle.fb_graph.specs.Certificate.{AreDistinct}
 use Rattle.fb_graph.specs.Laws.{HasNoOddClosed}
+use Rattle.fb_graph.specs.Limits.{no_shot}
 use Rattle.fb_graph.specs.Dual.{IsCrossed, cover_of, is_live, is_outer, no_node, top_at}
 use Rattle.fb_graph.specs.Nests.{IsNest}
 use Rattle.fb_graph.proofs.Among.{live_among, top_among}
@@ -87,7 +88,7 @@ module _ (w : SearchValue) (are : IsSearching w) where
   -- no sub-problem of a shot that has a correction has an odd closed set
   pub no_odd_closed : HasNoOddClosed (problem_of w)
   no_odd_closed =
-      node_has_no_odd_closed w.part.job.graph w.part.job.plan w.part.node _ (are.job.even w.part.slot [] are.slot)
+      node_has_no_odd_closed w.part.job.graph w.part.job.plan w.part.node _ (are.job.even w.part.slot no_shot are.slot)
 
   -- an edge leaves each live node
   pub crossed : (name : ℕ) → is_live w.part.nodes name ≡ true → IsCrossed (problem_of w) (top_at w.part.nodes name)

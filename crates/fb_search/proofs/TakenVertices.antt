@@ -1,15 +1,17 @@
 -- A vertex that a plus node absorbs keeps what every search keeps, and leaves less to do.
-use Rattle.std.proofs.Common.{ℕ, ◌≡◌, ◌==◌, ◌<◌, ◌%◌, ◌⊎◌, inl, inr, Bool, true, false, List, length, All, Option, Some, None, IsSome, is_some, refl, sym, ap, ◌∙◌, subst, if◌then◌else◌}
-use Rattle.std.proofs.lemmas.Bool.{false≢true, eqb-true}
+use Rattle.std.proofs.Common.{ℕ, ◌≡◌, ◌==◌, ◌<◌, ◌%◌, ◌⊎◌, inl, inr, Bool, true, false, List, length, All, Option, Some, None, IsSome, is_some, refl, sym, ap, ◌∙◌, subst, if◌then◌else◌, ◌≤◌, ◌/◌, ◌*◌, ◌&&◌, cond, get_or, arith}
+use Rattle.std.proofs.lemmas.Bool.{false≢true, eqb-true, cases_lt}
 use Rattle.std.proofs.lemmas.List.Elements.{All-weaker}
-use Rattle.fb_graph.specs.Parity.{is_in}
-use Rattle.fb_graph.specs.Problem.{Problem, edge_at, touches}
+use Rattle.std.proofs.lemmas.List.{get_or_past}
+use Rattle.fb_search.proofs.KeptBounds.{bounded_by}
+use Rattle.fb_graph.specs.Parity.{is_in, differ}
+use Rattle.fb_graph.specs.Problem.{Problem, edge_at, touches, no_edge}
 use Rattle.fb_graph.specs.Components.{Leads}
 use Rattle.fb_graph.specs.declared.parts.Edge.{Edge}
 use Rattle.fb_graph.specs.Limits.{IsEdge, IsWithinLimits}
 use Rattle.fb_graph.specs.Links.{AreEven}
 use Rattle.fb_graph.specs.Covers.{is_covered_by, passes}
-use Rattle.fb_graph.specs.Dual.{AreUnderOne, Node, cover_of, is_outer, taller_node}
+use Rattle.fb_graph.specs.Dual.{AreUnderOne, Node, cover_of, is_outer, taller_node, all_cuts, height_of}
 use Rattle.fb_graph.specs.Moves.{MayAbsorb, absorbed_nodes}
 use Rattle.fb_graph.specs.Steps.{Roles}
 use Rattle.fb_graph.proofs.Among.{cover_among}
@@ -23,7 +25,7 @@ use Rattle.fb_laws.proofs.StateMoves.{state_absorbed}
 use Rattle.fb_regions.specs.Moves.{absorbed_over, inner_end, outer_end}
 use Rattle.fb_trees.proofs.Mapped.{plus_moved}
 use Rattle.fb_half.specs.Translations.{link_by}
-use Rattle.fb_obstacles.specs.Obstacles.{IsAbsorb, IsWatched, residue_at}
+use Rattle.fb_obstacles.specs.Obstacles.{IsAbsorb, IsWatched, slack_at, residue_of}
 use Rattle.fb_obstacles.specs.Watched.{Watched}
 use Rattle.fb_search.specs.Progress.{GoesOn}
 use Rattle.fb_search.specs.Searching.{IsSearching, SearchValue, problem_of, roles_in, state_at}
@@ -97,6 +99,61 @@ module _ (p : Problem) (roles : Roles) (nodes : List Node) (name v : ℕ) (limit
                 taller_covers nodes name v (edge_at p.edges k).second eb ∙ at_second,
               )
 
+-- the slacks after a node absorbs a vertex: at the vertex at least half of what they were, elsewhere the same
+module _ (p : Problem) (nodes : List Node) (name v : ℕ) (limits : IsWithinLimits p) (free : cover_of nodes v ≡ None)
+    (heights : (u : ℕ) → height_of (all_cuts (absorbed_nodes name v nodes)) u ≡ height_of (all_cuts nodes) u) where
+  at_taken : (u : ℕ) → (v == u) ≡ true → is_some (cover_of nodes u) ≡ false
+  at_taken u e = ap (λ x. is_some (cover_of nodes x)) (sym (eqb-true v u e)) ∙ ap (λ o. is_some o) free
+
+  elsewhere : (u : ℕ) → (v == u) ≡ false → is_some (cover_of (absorbed_nodes name v nodes) u) ≡ is_some (cover_of nodes u)
+  elsewhere u e = ap (λ o. is_some o) (taller_covers nodes name v u e)
+
+  -- no edge leads from a vertex to itself
+  no_loop : (k : ℕ) → (v == (edge_at p.edges k).first) ≡ true → (v == (edge_at p.edges k).second) ≡ true
+      → residue_of nodes (edge_at p.edges k) ≡ 0
+  no_loop k first second = by (cases_lt k (length p.edges))
+    where
+      by : (k < length p.edges) ⊎ (length p.edges ≤ k) → residue_of nodes (edge_at p.edges k) ≡ 0
+      by (inl less) = absurd ((limits.each_edge k no_edge less).loopless
+          (sym (eqb-true v (edge_at p.edges k).first first) ∙ eqb-true v (edge_at p.edges k).second second))
+      by (inr past) = omega (arith, ap (λ (e : Edge). e.weight) (get_or_past p.edges k no_edge past))
+
+  slack_taken : (k : ℕ) → (if touches v (edge_at p.edges k) then slack_at p nodes k / 2 else slack_at p nodes k)
+      ≤ slack_at p (absorbed_nodes name v nodes) k
+  slack_taken k =
+      by (v == e.first) (v == e.second) (is_some (cover_of nodes e.first)) (is_some (cover_of nodes e.second))
+      (is_some (cover_of (absorbed_nodes name v nodes) e.first)) (is_some (cover_of (absorbed_nodes name v nodes) e.second))
+      (at_taken e.first) (elsewhere e.first) (at_taken e.second) (elsewhere e.second) (no_loop k)
+    where
+      e : Edge
+      e = edge_at p.edges k
+
+      was : ℕ
+      was = residue_of nodes e
+
+      now : ℕ
+      now = residue_of (absorbed_nodes name v nodes) e
+
+      same : now ≡ was
+      same = omega (arith, heights e.first, heights e.second)
+
+      by : (a b x y z t : Bool) → (a ≡ true → x ≡ false) → (a ≡ false → z ≡ x) → (b ≡ true → y ≡ false) → (b ≡ false → t ≡ y)
+          → (a ≡ true → b ≡ true → was ≡ 0)
+          → cond (differ a b) (cond (x && y) was (2 * was) / 2) (cond (x && y) was (2 * was)) ≤ cond (z && t) now (2 * now)
+      by true true x y z t f g h i none = rw (f refl) (omega (arith, none refl refl))
+      by true false x y true true f g h i none = rw (f refl) (omega (arith, same))
+      by true false x y true false f g h i none = rw (f refl) (omega (arith, same))
+      by true false x y false t f g h i none = rw (f refl) (omega (arith, same))
+      by false true true y true true f g h i none = rw (h refl) (omega (arith, same))
+      by false true true y true false f g h i none = rw (h refl) (omega (arith, same))
+      by false true true y false t f g h i none = rw (h refl) (omega (arith, same))
+      by false true false y true true f g h i none = omega (arith, same)
+      by false true false y true false f g h i none = omega (arith, same)
+      by false true false y false t f g h i none = omega (arith, same)
+      by false false true true z t f g h i none = rw (g refl, i refl) (omega (arith, same))
+      by false false true false z t f g h i none = rw (g refl, i refl) (omega (arith, same))
+      by false false false y z t f g h i none = rw (g refl) (omega (arith, same))
+
 -- the search with the vertex in the node, and with these edges watched
 abbrev pub raised : ℕ → ℕ → Watched → SearchValue → SearchValue
 raised name v watched w = relayered_by (change name (taller_node v)) watched w
@@ -116,16 +173,20 @@ pub searching_raised : (w : SearchValue) (k u v name : ℕ) (new : Watched) → 
     → MayAbsorb (problem_of w) w.part.nodes name k u v → All (λ j. j < new.edge_count) new.edges
     → WatchesTaken (problem_of w) (absorbed_nodes name v w.part.nodes) v w.watched new → IsSearching (raised name v new w)
 searching_raised w k u v name new are limits may within watched =
+    let alike = (taller_alike w.part.nodes name v (no_leaf (problem_of w) w.part.nodes v are.state.1.search.nest.dual may.uncovered)).0 in
     searching_relayered w (change name (taller_node v)) new are
-    (kept_by name (taller_node v) w.part.nodes (λ n. refl) (λ n. refl) (λ n a e. first_taller v n) outer)
-    (taller_alike w.part.nodes name v (no_leaf (problem_of w) w.part.nodes v are.state.1.search.nest.dual may.uncovered)).0
+    (kept_by name (taller_node v) w.part.nodes (λ n. refl) (λ n. refl) (λ n a e. first_taller v n) outer) alike
     (state_absorbed (problem_of w) (state_at w are.state.0) name k u v (all_even (problem_of w) limits) may are.state.1)
     watched.room
     (record {
       within = subst (λ n. All (λ j. j < n) new.edges) (watched.room ∙ are.room) within;
       near = near_taken (problem_of w) (roles_in w) w.part.nodes name v limits w.watched new watched are.watch;
     })
-    (watched.bounds (residue_at (problem_of w) w.part.nodes) are.bounds)
+    (bounded_by
+    (λ k. if touches v (edge_at (problem_of w).edges k) then slack_at (problem_of w) w.part.nodes k / 2 else slack_at (problem_of w) w.part.nodes k)
+    (slack_at (problem_of w) (absorbed_nodes name v w.part.nodes)) new
+    (slack_taken (problem_of w) w.part.nodes name v limits may.uncovered alike.heights)
+    (watched.bounds (slack_at (problem_of w) w.part.nodes) are.bounds))
   where
     outer : is_outer w.part.nodes name ≡ true
     outer =

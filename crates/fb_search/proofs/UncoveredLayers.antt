@@ -1,6 +1,7 @@
 -- A minus node's empty layer taken off keeps what every search keeps, and leaves less to do.
-use Rattle.std.proofs.Common.{ℕ, ◌≡◌, ◌==◌, ◌<◌, ◌⊎◌, inl, inr, Bool, true, false, List, length, Option, Some, None, refl, sym, ap, ◌∙◌, subst}
+use Rattle.std.proofs.Common.{ℕ, ◌≡◌, ◌==◌, ◌<◌, ◌⊎◌, inl, inr, Bool, true, false, List, length, Option, Some, None, refl, sym, ap, ◌∙◌, subst, is_some}
 use Rattle.std.proofs.lemmas.Bool.{false≢true, eqb-true}
+use Rattle.fb_search.proofs.KeptBounds.{bounded_still}
 use Rattle.fb_graph.specs.Parity.{is_in}
 use Rattle.fb_graph.specs.Problem.{Problem, edge_at}
 use Rattle.fb_graph.specs.Covers.{is_covered_by, passes}
@@ -83,6 +84,15 @@ module _ (roles : Roles) (nodes : List Node) (name v : ℕ) (apart : (n : ℕ) �
           (under_one (edge_at p.edges k).second (edge_at p.edges k).first over
           (swapped (absorbed_nodes name v nodes) (edge_at p.edges k).first (edge_at p.edges k).second one))))
 
+-- what is covered stays so where a node absorbs a vertex that no node holds
+covered_taller : (nodes : List Node) (name v u : ℕ) → cover_of nodes v ≡ None → is_some (cover_of nodes u) ≡ true
+    → is_some (cover_of (absorbed_nodes name v nodes) u) ≡ true
+covered_taller nodes name v u free held = by (v == u) refl
+  where
+    by : (b : Bool) → (v == u) ≡ b → is_some (cover_of (absorbed_nodes name v nodes) u) ≡ true
+    by true e = absurd (false≢true (sym (ap (λ o. is_some o) free) ∙ ap (λ x. is_some (cover_of nodes x)) (eqb-true v u e) ∙ held))
+    by false e = ap (λ o. is_some o) (taller_covers nodes name v u e) ∙ held
+
 -- the search without the layer
 abbrev pub lowered : ℕ → SearchValue → SearchValue
 lowered name w = relayered_by (change name without_top) w.watched w
@@ -91,14 +101,19 @@ pub searching_lowered : (w : SearchValue) (name : ℕ) → IsSearching w → (ro
     → MayUncover w.part.nodes name → IsSearching (lowered name w)
 searching_lowered w name are minus may =
     let (v, given) = uncovered_back (problem_of w) w.part.nodes name may are.state.1.search.nest in
+    let alike : AreAlike w.part.nodes (uncovered_nodes name w.part.nodes) =
+    subst (λ ns. AreAlike ns (uncovered_nodes name w.part.nodes)) given.back
+    (taller_alike (uncovered_nodes name w.part.nodes) name v given.no_defect).1 in
     searching_relayered w (change name without_top) w.watched are
-    (kept (problem_of w) w.part.nodes name may are.state.1.search.nest)
-    (subst (λ ns. AreAlike ns (uncovered_nodes name w.part.nodes)) given.back
-    (taller_alike (uncovered_nodes name w.part.nodes) name v given.no_defect).1)
+    (kept (problem_of w) w.part.nodes name may are.state.1.search.nest) alike
     (state_uncovered (problem_of w) (state_at w are.state.0) name may are.state.1) refl
     (watch_lower (roles_in w) (uncovered_nodes name w.part.nodes) name v (λ n. not_both _) minus given.live given.outer given.free
     (problem_of w) w.watched.edges
-    (subst (λ ns. IsWatched (problem_of w) (roles_in w) ns w.watched.edges) (sym given.back) are.watch)) are.bounds
+    (subst (λ ns. IsWatched (problem_of w) (roles_in w) ns w.watched.edges) (sym given.back) are.watch))
+    (bounded_still (problem_of w) w.part.nodes (uncovered_nodes name w.part.nodes) w.watched alike.heights
+    (λ u held.
+    subst (λ ns. is_some (cover_of ns u) ≡ true) given.back (covered_taller (uncovered_nodes name w.part.nodes) name v u given.free held))
+    are.bounds)
 
 pub goes_on_lowered : (w : SearchValue) (name : ℕ) → IsSearching w → (roles_in w).is_minus name ≡ true
     → MayUncover w.part.nodes name → GoesOn w (lowered name w)

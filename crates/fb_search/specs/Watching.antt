@@ -1,5 +1,6 @@
--- Edges that come under watch. Bounds that are right stay so, whatever limits they keep.
-use Rattle.std.specs.Prelude.{ℕ, ◌≡◌, ◌<◌, true, not, List, length, if◌then◌else◌}
+-- Edges that come under watch. Bounds that are right stay so, whatever limits they keep, and also where the limits at a
+-- vertex are halved: no node held it, and one does now.
+use Rattle.std.specs.Prelude.{ℕ, ◌≡◌, ◌/◌, ◌<◌, true, not, List, length, if◌then◌else◌}
 use Rattle.fb_graph.specs.Parity.{is_in}
 use Rattle.fb_graph.specs.Problem.{Problem, edge_at, touches}
 use Rattle.fb_graph.specs.Dual.{Node}
@@ -26,11 +27,12 @@ pub record WatchesOuter (p : Problem) (nodes : List Node) (edges : List ℕ) (ol
   pub room : new.edge_count ≡ old.edge_count
   pub watched : (k : ℕ) → is_in new.edges k
       ≡ (if is_in edges k then not (is_inner nodes (edge_at p.edges k)) else is_in old.edges k)
-  pub bounds : (limit : ℕ → ℕ) → AreBounded limit old → AreBounded limit new
+  pub bounds : (limit : ℕ → ℕ) → AreBounded limit old → AreBounded (λ k. if is_in edges k then limit k / 2 else limit k) new
 
 -- Of the edges at the vertex, those are watched whose ends aren't under one outer node; others are watched as before.
 pub record WatchesTaken (p : Problem) (nodes : List Node) (v : ℕ) (old new : Watched) : Type 0 where
   pub room : new.edge_count ≡ old.edge_count
   pub watched : (k : ℕ) → k < length p.edges → is_in new.edges k
       ≡ (if touches v (edge_at p.edges k) then not (is_inner nodes (edge_at p.edges k)) else is_in old.edges k)
-  pub bounds : (limit : ℕ → ℕ) → AreBounded limit old → AreBounded limit new
+  pub bounds : (limit : ℕ → ℕ) → AreBounded limit old
+      → AreBounded (λ k. if touches v (edge_at p.edges k) then limit k / 2 else limit k) new

@@ -1,11 +1,11 @@
 use Rattle.std.proofs.Common.{ℕ, ◌≡◌, ◌∙◌, ◌-◌, length, get_or, refl, ap, subst, arith}
 use Rattle.fb_graph.specs.Problem.{edge_at}
 use Rattle.fb_graph.specs.Dual.{IsDual}
-use Rattle.fb_obstacles.specs.Obstacles.{residue_at}
+use Rattle.fb_obstacles.specs.Obstacles.{residue_at, slack_at}
 use Rattle.fb_obstacles.specs.InternalLooks.{AreEnds, edge_look}
 use Rattle.fb_obstacles.proofs.BoundedScans.{IsScanned, scanned_all, scanned_blocked, scanned_bounded, scanned_left, scanned_more, scanned_none, scanned_passed, scanned_skipped}
 use Rattle.fb_obstacles.proofs.EdgeScans.{IsSeen}
-use Rattle.fb_obstacles.proofs.HeldEnds.{look_by_ends, residue_by_ends, under_one_by_ends}
+use Rattle.fb_obstacles.proofs.HeldEnds.{look_by_ends, residue_by_ends, slack_by_ends, under_one_by_ends}
 use Rattle.fb_obstacles.proofs.bounding.look_by_bounds.Goals as goal
 
 pub returns-in-Blocked-clause-limits : goal.returns-in-Blocked-clause-limits
@@ -77,7 +77,7 @@ loop-place-preserved-then-are_under_one g c =
           (under_one_by_ends c.args.regions.now.nodes (edge_at (g.S.Scope.problem c.args.scope.now).edges k) c.of-ends.result
           c.are_under_one.result ends c.are_under_one.ensures c.if-are_under_one.true)
           c.leave_at.ensures.count c.leave_at.ensures.edges c.leave_at.ensures.before c.leave_at.ensures.len
-          (c.leave_at.ensures.bounds (residue_at (g.S.Scope.problem c.args.scope.now) c.args.regions.now.nodes)
+          (c.leave_at.ensures.bounds (slack_at (g.S.Scope.problem c.args.scope.now) c.args.regions.now.nodes)
           c.loop-place.invariant.scanned.bounded);
       never_falls = omega (arith, c.loop-place.invariant.never_falls);
       counted = omega (arith, c.loop-place.invariant.counted);
@@ -91,9 +91,12 @@ loop-place-preserved-then-fits_within-2 g c =
     let residue : c.residue-residue.result ≡ residue_at (g.S.Scope.problem c.args.scope.now) c.args.regions.now.nodes k =
     residue_by_ends (g.S.Scope.problem c.args.scope.now) c.args.regions.now.nodes k c.weight.result c.residue-residue.result c.of-ends.result
     ends c.weight.ensures c.residue-residue.ensures in
+    let slack : c.slack-slack.result ≡ slack_at (g.S.Scope.problem c.args.scope.now) c.args.regions.now.nodes k =
+    slack_by_ends (g.S.Scope.problem c.args.scope.now) c.args.regions.now.nodes k c.residue-residue.result c.slack-slack.result c.of-ends.result
+    ends residue c.slack-slack.ensures in
     record {
       scanned = scanned_bounded (g.S.Scope.problem c.args.scope.now) (g.R.Roles.role_of c.args.roles.now) c.args.regions.now.nodes (g.R.MinusNodes.minus_names c.args.roles.now) c.args.watch.now c.loop-place.watch c.set_bound.new.self
-          c.loop-place.place k c.residue-residue.result c.loop-place.least c.fits_within-in-loop-place.result
+          c.loop-place.place k c.slack-slack.result c.loop-place.least c.fits_within-in-loop-place.result
           (record {
             dual = subst (λ s. IsDual (g.S.Scope.problem s) c.args.regions.now.nodes) c.requires.same c.keeps_dual.ensures;
             roles = c.requires.roles;
@@ -103,7 +106,7 @@ loop-place-preserved-then-fits_within-2 g c =
           })
           c.loop-place.invariant.scanned c.loop-place-test.true
           (ap (λ xs. get_or xs (c.loop-place.place - 1) 0) c.edges.ensures)
-          residue
+          slack
           c.set_bound.ensures
           c.fits_within-in-loop-place.ensures c.if-fits_within-2.true;
       never_falls = omega (arith, c.loop-place.invariant.never_falls);
@@ -118,12 +121,15 @@ loop-place-preserved g c =
     let residue : c.residue-residue.result ≡ residue_at (g.S.Scope.problem c.args.scope.now) c.args.regions.now.nodes k =
     residue_by_ends (g.S.Scope.problem c.args.scope.now) c.args.regions.now.nodes k c.weight.result c.residue-residue.result c.of-ends.result
     ends c.weight.ensures c.residue-residue.ensures in
+    let slack : c.slack-slack.result ≡ slack_at (g.S.Scope.problem c.args.scope.now) c.args.regions.now.nodes k =
+    slack_by_ends (g.S.Scope.problem c.args.scope.now) c.args.regions.now.nodes k c.residue-residue.result c.slack-slack.result c.of-ends.result
+    ends residue c.slack-slack.ensures in
     let looked : c.look_with-look.result ≡ edge_look (g.S.Scope.problem c.args.scope.now) (g.R.Roles.role_of c.args.roles.now) c.args.regions.now.nodes k =
     look_by_ends (g.S.Scope.problem c.args.scope.now) (g.R.Roles.role_of c.args.roles.now) c.args.regions.now.nodes k c.residue-residue.result
     c.of-ends.result c.look_with-look.result ends residue c.look_with-look.ensures in
     record {
       scanned = scanned_more (g.S.Scope.problem c.args.scope.now) (g.R.Roles.role_of c.args.roles.now) c.args.regions.now.nodes (g.R.MinusNodes.minus_names c.args.roles.now) c.args.watch.now c.loop-place.watch c.with_look-least.new.watch
-          c.loop-place.place k c.residue-residue.result c.loop-place.least c.look_with-look.result c.with_look-least.result
+          c.loop-place.place k c.slack-slack.result c.loop-place.least c.look_with-look.result c.with_look-least.result
           (record {
             dual = subst (λ s. IsDual (g.S.Scope.problem s) c.args.regions.now.nodes) c.requires.same c.keeps_dual.ensures;
             roles = c.requires.roles;
@@ -133,7 +139,7 @@ loop-place-preserved g c =
           })
           c.loop-place.invariant.scanned c.loop-place-test.true
           (ap (λ xs. get_or xs (c.loop-place.place - 1) 0) c.edges.ensures)
-          residue
+          slack
           (c.with_look-least.ensures.same ∙ c.set_bound.ensures)
           looked c.with_look-least.ensures.both;
       never_falls = omega (arith, c.loop-place.invariant.never_falls);
@@ -148,12 +154,15 @@ returns-in-Blocked-least g c =
     let residue : c.residue-residue.result ≡ residue_at (g.S.Scope.problem c.args.scope.now) c.args.regions.now.nodes k =
     residue_by_ends (g.S.Scope.problem c.args.scope.now) c.args.regions.now.nodes k c.weight.result c.residue-residue.result c.of-ends.result
     ends c.weight.ensures c.residue-residue.ensures in
+    let slack : c.slack-slack.result ≡ slack_at (g.S.Scope.problem c.args.scope.now) c.args.regions.now.nodes k =
+    slack_by_ends (g.S.Scope.problem c.args.scope.now) c.args.regions.now.nodes k c.residue-residue.result c.slack-slack.result c.of-ends.result
+    ends residue c.slack-slack.ensures in
     let looked : c.look_with-look.result ≡ edge_look (g.S.Scope.problem c.args.scope.now) (g.R.Roles.role_of c.args.roles.now) c.args.regions.now.nodes k =
     look_by_ends (g.S.Scope.problem c.args.scope.now) (g.R.Roles.role_of c.args.roles.now) c.args.regions.now.nodes k c.residue-residue.result
     c.of-ends.result c.look_with-look.result ends residue c.look_with-look.ensures in
     let scanned : IsScanned (g.S.Scope.problem c.args.scope.now) (g.R.Roles.role_of c.args.roles.now) c.args.regions.now.nodes (g.R.MinusNodes.minus_names c.args.roles.now) c.args.watch.now c.with_look-least.new.watch (c.loop-place.place - 1) c.with_look-least.result =
     scanned_more (g.S.Scope.problem c.args.scope.now) (g.R.Roles.role_of c.args.roles.now) c.args.regions.now.nodes (g.R.MinusNodes.minus_names c.args.roles.now) c.args.watch.now c.loop-place.watch c.with_look-least.new.watch
-    c.loop-place.place k c.residue-residue.result c.loop-place.least c.look_with-look.result c.with_look-least.result
+    c.loop-place.place k c.slack-slack.result c.loop-place.least c.look_with-look.result c.with_look-least.result
     (record {
       dual = subst (λ s. IsDual (g.S.Scope.problem s) c.args.regions.now.nodes) c.requires.same c.keeps_dual.ensures;
       roles = c.requires.roles;
@@ -163,7 +172,7 @@ returns-in-Blocked-least g c =
     })
     c.loop-place.invariant.scanned c.loop-place-test.true
     (ap (λ xs. get_or xs (c.loop-place.place - 1) 0) c.edges.ensures)
-    residue
+    slack
     (c.with_look-least.ensures.same ∙ c.set_bound.ensures)
     looked c.with_look-least.ensures.both in
     record {

@@ -23,8 +23,8 @@ obstacle_at-requires g c =
           c.in_ok-edge.edge c.in_ok-edge.ensures;
     }
 
-pub returns-in_ok-edge : goal.returns-in_ok-edge
-returns-in_ok-edge g c =
+pub returns : goal.returns
+returns g c =
     let w : SearchValue = record { part = part_of c.self.inside.parts; tree = c.self.inside.tree; watched = c.self.inside.watch } in
     let scope = c.self.invariant.0 in
     rw (← c.self.view_is)
