@@ -66,7 +66,7 @@ module _ (job : JobValue) where
 
   rows_from : (k : ℕ) (roots : List SolvedValue) (shots : List ShotValue) (rows : List Row) → length roots ≡ length shots
       → ((i : ℕ) (p : SolvedValue) → slice_get roots i ≡ Some p → (p.job ≡ job) × (p.slot ≡ k + i))
-      → ((i : ℕ) → i < length shots → get_or job.shots (k + i) [] ≡ get_or shots i [])
+      → ((i : ℕ) → i < length shots → get_or job.shots (k + i) no_shot ≡ get_or shots i no_shot)
       → AreRowsOf roots rows → AreRows job.graph shots rows
   rows_from k [] [] [] many each same rows = tt
   rows_from k [] [] (r ∷ rs) many each same rows = absurd rows
@@ -77,7 +77,7 @@ module _ (job : JobValue) where
     here (each 0 p refl) (same 0 (omega arith)),
     rows_from (k + 1) ps ss rs (omega (arith, many))
         (λ i q at. let is = each (suc i) q at in (is.0, is.1 ∙ next i))
-        (λ i less. ap (λ n. get_or job.shots n []) (sym (next i)) ∙ same (suc i) (omega (arith, less))) rows.1,
+        (λ i less. ap (λ n. get_or job.shots n no_shot) (sym (next i)) ∙ same (suc i) (omega (arith, less))) rows.1,
   )
     where
       next : (i : ℕ) → k + suc i ≡ k + 1 + i
@@ -87,13 +87,13 @@ module _ (job : JobValue) where
       here is at =
           subst (λ (j : JobValue). IsShotRow j.graph s r) is.0
           (subst (λ shot. IsShotRow p.job.graph shot r)
-          (ap (λ n. get_or p.job.shots n []) is.1 ∙ ap (λ (j : JobValue). get_or j.shots (k + 0) []) is.0 ∙ at) rows.0)
+          (ap (λ n. get_or p.job.shots n no_shot) is.1 ∙ ap (λ (j : JobValue). get_or j.shots (k + 0) no_shot) is.0 ∙ at) rows.0)
 
   pub rows_of_roots : (roots : List SolvedValue) (rows : List Row) → 0 < node_count job.plan → AreSolvedRoots roots → AreRowsOf roots rows
       → AreRows job.graph job.shots rows
   rows_of_roots roots rows some parts answers =
       rows_from 0 roots job.shots rows parts.count
-      (λ i p at. let is = root_is i p some (parts.each i p at) in (is.0, is.1 ∙ zero_first i)) (λ i less. ap (λ n. get_or job.shots n []) (sym (zero_first i))) answers
+      (λ i p at. let is = root_is i p some (parts.each i p at) in (is.0, is.1 ∙ zero_first i)) (λ i less. ap (λ n. get_or job.shots n no_shot) (sym (zero_first i))) answers
     where
       zero_first : (i : ℕ) → i ≡ 0 + i
       zero_first i = omega arith
