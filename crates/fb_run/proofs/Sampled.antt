@@ -84,7 +84,7 @@ module _ (g : DecodingGraph) (rate : ℕ) where
         (rows_append (drawn_shots g rate x a) more sums.rows added sums.decoded decoded);
     defects_of = defects_is
         ∙ ap (λ n. n + defects_in more) sums.defects_of
-        ∙ sym (sum_by-append length (drawn_shots g rate x a) more)
+        ∙ sym (sum_by-append (λ (shot : ShotValue). length shot.defects) (drawn_shots g rate x a) more)
         ∙ ap defects_in (sym all);
     weight_of = weight_is
         ∙ ap (λ n. n + weights_in added) sums.weight_of
