@@ -1,3 +1,4 @@
 pub mod Turns
 pub mod EvenPlaces
 pub mod Rooted
+pub mod Deferred

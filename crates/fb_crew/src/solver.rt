@@ -1,20 +1,20 @@
 //! The solver as the hands of workers.
 
-ghost use Rattle.std.specs.Prelude.{◌≡◌, ◌≢◌, ◌<◌, Some, None, length, IfOk};
+ghost use Rattle.std.specs.Prelude.{◌≡◌, ◌≢◌, ◌<◌, Some, None, length, IfOk, IfSome};
 ghost use Rattle.fb_half.specs.Parts.{IsPartOf};
-ghost use Rattle.fb_plan.specs.Plans.{children_of, root_of};
-ghost use Rattle.fb_crew.specs.InternalSolved.{IsFoundAt, item_of};
+ghost use Rattle.fb_plan.specs.Plans.{children_of, node_count, root_of};
+ghost use Rattle.fb_crew.specs.InternalSolved.{Covers, IsFoundAt, item_at, item_of};
 ghost use Rattle.fb_crew.specs.Windows.{IsShotRow, shot_at};
 
 use crate::hands::Hands;
 use fb_book::Piece;
 use fb_fuse::fuse_from;
 use fb_graph::{Graph, NoMemory, Row, Steps, Whole};
-use fb_half::{Half, Spare};
-use fb_plan::Job;
+use fb_half::{Half, Spare, hull, within};
+use fb_plan::{Job, Reach};
 use fb_resolve::resolve;
 use fb_search::Scratch;
-use fb_unit::solve_unit_on;
+use fb_unit::solve_within;
 use std::alloc::Global;
 use std::marker::{Brand, Model};
 use std::sync::ledger::{Blank, Ledger};
@@ -32,6 +32,9 @@ pub struct Solved<'a> {
 /// worker's tools. Parts and rows are in boxes, since a book has room for a piece at each item.
 #[derive(Drop)]
 enum Found<'a> {
+    /// No part yet, since few defects lie within this reach, and with them all real vertices of the sub-problem of a node
+    /// below the root. To solve the node above whole costs less than to fuse parts of few defects.
+    Deferred(Reach),
     /// The part of a node below the root.
     Part(Box<Half<'a>, Global>),
     /// The row of the root's shot.
@@ -64,14 +67,34 @@ impl<'a> Solved<'a> {
         })
     }
 
-    /// The part of a node below the root.
-    fn into_half(self) -> Half<'a>
-        requires { self.node ≢ root_of self.job.plan }
-        ensures { IsPartOf self.entry.job self.entry.slot self.entry.node result }
+    /// The reach within which the vertices of a deferred node lie.
+    fn deferred(&self) -> Option<Reach>
+        ensures { IfSome result (Covers self.now.job self.now.node) }
     {
-        let Solved { found, .. } = self;
+        match self.found {
+            Found::Deferred(reach) => Some(reach),
+            _ => None,
+        }
+    }
+
+    /// The part of a node below the root, solved now if it was deferred.
+    fn into_half(self, alloc: Global, tools: &mut Tools) -> Result<Half<'a>, NoMemory>
+        requires slot { self.slot < length self.job.shots }
+        requires node { self.node < node_count self.job.plan }
+        requires below { self.node ≢ root_of self.job.plan }
+        ensures { IfOk result (IsPartOf self.entry.job self.entry.slot self.entry.node) }
+    {
+        let Solved {
+            job,
+            slot,
+            node,
+            found,
+        } = self;
         match found {
-            Found::Part(half) => Box::into_inner(half),
+            Found::Deferred(reach) => {
+                whole_by::<Brand>(alloc, job, tools, slot, node, reach, Blank::new(1))
+            }
+            Found::Part(half) => Ok(Box::into_inner(half)),
             Found::Row(_) => unreachable!(),
         }
     }
@@ -83,8 +106,8 @@ impl<'a> Solved<'a> {
     {
         let Solved { found, .. } = self;
         match found {
-            Found::Part(_) => unreachable!(),
             Found::Row(row) => Box::into_inner(row),
+            _ => unreachable!(),
         }
     }
 }
@@ -238,47 +261,87 @@ impl<'a> Hands<Solved<'a>, Tools> for Solver<'a> {
         slot: u32,
         node: u32,
     ) -> Result<Solved<'a>, NoMemory> {
-        let half = unit_by::<Brand>(alloc, self.job, tools, slot, node, Blank::new(1))?;
-        Solved::of(alloc, tools, half)
+        let reach = self.job.plan().reach(node);
+        solved_within(alloc, self.job, tools, slot, node, reach)
     }
 
     fn fusion(
         &self,
         alloc: Global,
         tools: &mut Tools,
-        _slot: u32,
+        slot: u32,
         node: u32,
         left: Solved<'a>,
         right: Solved<'a>,
     ) -> Result<Solved<'a>, NoMemory> {
         self.job.keeps();
-        let left = left.into_half();
-        let right = right.into_half();
+        if let (Some(first), Some(second)) = (left.deferred(), right.deferred()) {
+            let children = hull(first, second);
+            let reach = hull(children, self.job.plan().reach(node));
+            return solved_within(alloc, self.job, tools, slot, node, reach);
+        }
+        let left = left.into_half(alloc, tools)?;
+        let right = right.into_half(alloc, tools)?;
         let half = fusion_by::<Brand>(alloc, self.job, tools, node, left, right, Blank::new(1))?;
         Solved::of(alloc, tools, half)
     }
 }
 
-/// The solved part of a unit. Its searches are counted, and the count is dropped.
-fn unit_by<'a, L: Ledger>(
+/// A node below the root with at most so many defects is deferred. To solve one of them costs about half of what a fusion
+/// costs without any search.
+const FEW_DEFECTS: usize = 8;
+
+/// The item of a node that is solved whole, and not from its children's parts. It is deferred if it isn't the root and few
+/// defects lie within the reach.
+fn solved_within<'a>(
     alloc: Global,
     job: &'a Job<'a>,
     tools: &mut Tools,
     slot: u32,
     node: u32,
+    reach: Reach,
+) -> Result<Solved<'a>, NoMemory>
+    requires slot { slot < length job.now.shots }
+    requires node { node < node_count job.now.plan }
+    requires reach { Covers job.now node reach }
+    ensures { IfOk result (λ s. s ≡ item_at job.now slot node) }
+{
+    job.keeps();
+    let shot = job.shots()[slot as usize].as_slice();
+    if node != job.plan().root() && within(shot, reach).len() <= FEW_DEFECTS {
+        return Ok(Solved {
+            job,
+            slot,
+            node,
+            found: Found::Deferred(reach),
+        });
+    }
+    let half = whole_by::<Brand>(alloc, job, tools, slot, node, reach, Blank::new(1))?;
+    Solved::of(alloc, tools, half)
+}
+
+/// The part of a node that is solved whole. Its searches are counted, and the count is dropped.
+fn whole_by<'a, L: Ledger>(
+    alloc: Global,
+    job: &'a Job<'a>,
+    tools: &mut Tools,
+    slot: u32,
+    node: u32,
+    reach: Reach,
     blank: Blank,
 ) -> Result<Half<'a>, NoMemory>
     requires name { blank.name ≡ L.name }
     requires parts { blank.parts ≡ L.parts }
     requires some { 0 < blank.parts }
     requires slot { slot < length job.now.shots }
-    requires unit { node < job.now.plan.units }
+    requires node { node < node_count job.now.plan }
+    requires reach { Covers job.now node reach }
     ensures { IfOk result (IsPartOf job.now slot node) }
 {
     let spare = tools.spares.pop();
     let scratch = tools.lend(alloc, job.graph())?;
     let mut steps = Steps::<L>::new(blank);
-    let (half, scratch) = solve_unit_on(alloc, job, slot, node, spare, scratch, &mut steps)?;
+    let (half, scratch) = solve_within(alloc, job, slot, node, reach, spare, scratch, &mut steps)?;
     tools.put_back(scratch, job.graph());
     Ok(half)
 }

@@ -7,11 +7,13 @@ use Rattle.std.proofs.lemmas.List.{append-nil, get_or-drop, get_or-take, get_or_
 use Rattle.std.proofs.lemmas.List.Elements.{All-take, filter-append}
 use Rattle.std.proofs.lemmas.List.Sorted.{IsNonDecreasingBy-from_all_adjacent}
 use Rattle.fb_graph.specs.Limits.{DecodingGraph, no_shot}
+use Rattle.fb_graph.specs.Problem.{Problem}
 use Rattle.fb_graph.proofs.Among.{IsAmong, All_among}
 use Rattle.fb_plan.specs.Plans.{PlanTree, owner_of, problem_at}
 use Rattle.fb_plan.specs.Reaches.{IsReach, is_reached}
 use Rattle.fb_plan.specs.declared.reach.Reach.{Reach}
 use Rattle.fb_plan.proofs.FusionSeams.{unit_is_own}
+use Rattle.fb_half.specs.Beginnings.{LiesWithin}
 use Rattle.fb_half.specs.Merged.{is_node, is_owned_by}
 use Rattle.fb_half.proofs.FusedMatches.{filter_all, filter_none}
 use Rattle.fb_half.proofs.MergedHalves.{own_is_owned}
@@ -36,7 +38,7 @@ owner_named : (n : ℕ) (o : Option ℕ) → is_node n o ≡ true → o ≡ Some
 owner_named n None h = absurd (false≢true h)
 owner_named n (Some m) h = ap Some (eqb-true m n h)
 
-owned_reached : (t : PlanTree) (n v : ℕ) (r : Reach) → IsReach t.owners n r → is_owned_by t n v ≡ true → is_reached r v ≡ true
+pub owned_reached : (t : PlanTree) (n v : ℕ) (r : Reach) → IsReach t.owners n r → is_owned_by t n v ≡ true → is_reached r v ≡ true
 owned_reached t n v r reach owned =
     let within = reach.each v (owner_named n (owner_of t v) owned) in
     and_from (nat_le r.first v) (nat_lt v r.end) (le-leb r.first v within.0) (lt-ltb v r.end within.1)
@@ -46,12 +48,13 @@ pub seam_reached : (t : PlanTree) (n : ℕ) (r : Reach) → IsReach t.owners n r
     → filter (is_owned_by t n) (filter (is_reached r) xs) ≡ filter (is_owned_by t n) xs
 seam_reached t n r reach xs = filter_twice (is_owned_by t n) (is_reached r) (λ v owned. owned_reached t n v r reach owned) xs
 
--- and so are those at a unit's real vertices
-pub own_reached : (g : DecodingGraph) (t : PlanTree) (n : ℕ) (r : Reach) → n < t.units → IsReach t.owners n r → (xs : List ℕ)
-    → filter (problem_at g t n no_shot).is_real (filter (is_reached r) xs) ≡ filter (problem_at g t n no_shot).is_real xs
-own_reached g t n r unit reach xs =
-    filter_twice (problem_at g t n no_shot).is_real (is_reached r)
-    (λ v real. owned_reached t n v r reach (own_is_owned g t n v (sym (unit_is_own g t n v no_shot unit) ∙ real))) xs
+-- and so are those at a problem's real vertices, where these lie within it
+pub real_reached : (p : Problem) (r : Reach) → LiesWithin p r → (xs : List ℕ) → filter p.is_real (filter (is_reached r) xs) ≡ filter p.is_real xs
+real_reached p r within xs = filter_twice p.is_real (is_reached r) within xs
+
+-- a unit's real vertices are those that it owns
+pub unit_within : (g : DecodingGraph) (t : PlanTree) (n : ℕ) (r : Reach) → n < t.units → IsReach t.owners n r → LiesWithin (problem_at g t n no_shot) r
+unit_within g t n r unit reach v real = owned_reached t n v r reach (own_is_owned g t n v (sym (unit_is_own g t n v no_shot unit) ∙ real))
 
 -- a rising list does not fall
 pub never_falls : (xs : List ℕ) → IsStrictlyIncreasing xs → IsNonDecreasingBy (λ x. x) xs

@@ -5,14 +5,15 @@ ghost use Rattle.fb_graph.specs.Dual.{cover_of, is_live, leaf};
 ghost use Rattle.fb_graph.specs.Limits.{no_shot};
 ghost use Rattle.fb_graph.specs.Parity.{is_in};
 ghost use Rattle.fb_plan.specs.Plans.{problem_at};
-ghost use Rattle.fb_plan.specs.Reaches.{is_reached};
 ghost use Rattle.fb_blossoms.specs.Nodes as blossoms;
+ghost use Rattle.fb_half.specs.Beginnings.{LiesWithin};
 ghost use Rattle.fb_half.specs.InternalBeginnings.{IsStarted, empty_part};
 ghost use Rattle.fb_half.specs.Matchings.{listed_names};
 ghost use Rattle.fb_half.specs.Values.{HasScope, part_of};
 
 use crate::matching::Matching;
 use crate::parts::Parts;
+use crate::reach::within;
 use fb_blossoms::Blossoms;
 use fb_graph::{NoMemory, Scope};
 use fb_links::NodeId;
@@ -20,27 +21,20 @@ use fb_plan::{NodeScope, Reach};
 use fb_regions::Regions;
 use std::alloc::Global;
 
-/// The defects of a shot within the reach, found by bisection.
-pub(crate) fn within(defects: &[u32], reach: Reach) -> &[u32]
-    requires { IsStrictlyIncreasing defects.now }
-    ensures { result.now ≡ filter (is_reached reach) defects.now }
-{
-    let from = &defects[defects.partition_point(|v| *v < reach.first)..];
-    &from[..from.partition_point(|v| *v < reach.end)]
-}
-
-/// The defects at real vertices of a unit, in their order. Passes over those within its reach alone.
+/// The defects at real vertices of a scope, in their order. Passes over those within a reach alone, which has all its real
+/// vertices.
 pub(crate) fn own_defects(
     alloc: Global,
     scope: &NodeScope<'_>,
+    reach: Reach,
     defects: &[u32],
 ) -> Result<Vec<u32>, NoMemory>
-    requires unit { scope.now.node < scope.now.plan.now.units }
+    requires reach { LiesWithin (problem_at scope.now.graph.now scope.now.plan.now scope.now.node no_shot) reach }
     requires rising { IsStrictlyIncreasing defects.now }
     requires vertices { All (λ v. v < scope.now.graph.now.vertices) defects.now }
     ensures { IfOk result (λ own. own.items ≡ filter (problem_at scope.now.graph.now scope.now.plan.now scope.now.node no_shot).is_real defects.now) }
 {
-    let reached = within(defects, scope.plan.reach(scope.node));
+    let reached = within(defects, reach);
     let mut own = Vec::new(alloc);
     for v in reached {
         if scope.is_real(*v) {

@@ -16,10 +16,10 @@ use Rattle.fb_regions.specs.declared.roles.Role.{Role}
 use Rattle.fb_obstacles.specs.declared.obstacle.Obstacle.{Obstacle}
 use Rattle.fb_obstacles.specs.declared.looking.Look.{Look}
 use Rattle.fb_obstacles.specs.declared.looking.Look.TheVariants.{Clear, Within, Blocked}
-use Rattle.fb_obstacles.specs.Obstacles.{Obstructs, residue_at, roles_by, slack_at}
+use Rattle.fb_obstacles.specs.Obstacles.{BearsStep, Obstructs, residue_at, roles_by, slack_at}
 use Rattle.fb_obstacles.specs.Watched.{Watched, AreBounded}
 use Rattle.fb_obstacles.specs.InnerEdges.{LeavesInner}
-use Rattle.fb_obstacles.specs.InternalLooks.{BearsShrinking, BearsStep, LimitsBoth, Limits, both_looks, edge_look, fits_within}
+use Rattle.fb_obstacles.specs.InternalLooks.{BearsShrinking, LimitsBoth, Limits, both_looks, edge_look, fits_within}
 use Rattle.fb_obstacles.proofs.EdgeScans.{IsSeen, edge_seen}
 use Rattle.fb_obstacles.proofs.LookLimits.{limits_before, limits_blocked, limits_passed, limits_same, limits_unlimited}
 

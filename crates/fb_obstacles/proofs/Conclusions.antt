@@ -20,10 +20,10 @@ use Rattle.fb_obstacles.specs.declared.obstacle.Obstacle.{Obstacle}
 use Rattle.fb_obstacles.specs.declared.obstacle.Obstacle.TheVariants as obstacle
 use Rattle.fb_obstacles.specs.declared.looking.Look.{Look}
 use Rattle.fb_obstacles.specs.declared.looking.Look.TheVariants.{Clear, Within, Blocked}
-use Rattle.fb_obstacles.specs.Obstacles.{CountsLooks, IsFree, IsObstacle, IsTightFrom, IsWatched, ListsMinus, Obstructs}
+use Rattle.fb_obstacles.specs.Obstacles.{BearsStep, CountsLooks, IsFree, IsObstacle, IsTightFrom, IsWatched, ListsMinus, Obstructs}
 use Rattle.fb_obstacles.specs.InnerEdges.{LeavesInner}
 use Rattle.fb_obstacles.specs.Watched.{Watched}
-use Rattle.fb_obstacles.specs.InternalLooks.{BearsShrinking, BearsStep, CountsLooked, Limits, LimitsBoth, both_looks}
+use Rattle.fb_obstacles.specs.InternalLooks.{BearsShrinking, CountsLooked, Limits, LimitsBoth, both_looks}
 use Rattle.fb_obstacles.proofs.LookLimits.{limits_both, limits_same}
 use Rattle.fb_obstacles.proofs.NodeLooks.{listed_shrinking, named_place, shrinking_listed}
 

@@ -18,8 +18,8 @@ use Rattle.fb_obstacles.specs.declared.obstacle.Obstacle.TheVariants as obstacle
 use Rattle.fb_obstacles.specs.declared.looking.Look.TheVariants.{Within, Blocked}
 use Rattle.fb_obstacles.specs.declared.ends.Cover.{Cover}
 use Rattle.fb_obstacles.specs.declared.ends.Cover.TheVariants.{Plus, Minus, Out, Bare, Virtual}
-use Rattle.fb_obstacles.specs.Obstacles.{roles_by, grows, shrinks, IsTightFrom, Obstructs, residue_of}
-use Rattle.fb_obstacles.specs.InternalLooks.{cover_in_role, cover_by, cover_at, far_end, bounded, look_if, edge_look, Limits, BearsStep}
+use Rattle.fb_obstacles.specs.Obstacles.{BearsStep, IsTightFrom, Obstructs, grows, residue_of, roles_by, shrinks}
+use Rattle.fb_obstacles.specs.InternalLooks.{cover_in_role, cover_by, cover_at, far_end, bounded, look_if, edge_look, Limits}
 
 -- what the cover of a vertex says of it
 abbrev Covers : Problem → Roles → List Node → ℕ → Cover → Type 0

@@ -6,8 +6,8 @@ use Rattle.fb_graph.specs.Dual.{Node, IsDual}
 use Rattle.fb_graph.specs.Covers.{AreRoles}
 use Rattle.fb_regions.specs.declared.roles.Role.{Role}
 use Rattle.fb_obstacles.specs.declared.looking.Look.{Look}
-use Rattle.fb_obstacles.specs.Obstacles.{HavePlusParity, Obstructs, roles_by}
-use Rattle.fb_obstacles.specs.InternalLooks.{edge_look, both_looks, Limits, BearsStep}
+use Rattle.fb_obstacles.specs.Obstacles.{BearsStep, HavePlusParity, Obstructs, roles_by}
+use Rattle.fb_obstacles.specs.InternalLooks.{edge_look, both_looks, Limits}
 use Rattle.fb_obstacles.proofs.EdgeLooks.{edge_limits}
 use Rattle.fb_obstacles.proofs.LookLimits.{limits_more}
 

@@ -4,6 +4,7 @@ pub mod EdgeLooks
 pub mod EdgeScans
 pub mod HeldEnds
 pub mod LookLimits
+pub mod LookPlaces
 pub mod NodeLooks
 pub mod HalvedBounds
 pub mod RaisedBounds

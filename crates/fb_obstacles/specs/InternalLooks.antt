@@ -1,16 +1,15 @@
 -- How the edges and minus nodes are looked at.
 use Rattle.std.specs.Prelude.{ℕ, ◌≡◌, ◌+◌, ◌-◌, ◌*◌, ◌/◌, ◌≤◌, ◌==◌, ◌&&◌, Bool, true, false, min, nat_lt, nat_le, List, length, All, Option, Some, None, option_map, is_some, if◌then◌else◌}
 use Rattle.fb_graph.specs.Problem.{Problem, edge_at}
-use Rattle.fb_graph.specs.Certificate.{load_of}
-use Rattle.fb_graph.specs.Dual.{Node, all_cuts, cover_of, is_empty, layers_at}
-use Rattle.fb_graph.specs.Steps.{Roles, gains, losses}
+use Rattle.fb_graph.specs.Dual.{Node, cover_of, is_empty, layers_at}
+use Rattle.fb_graph.specs.Steps.{Roles}
 use Rattle.fb_graph.specs.declared.parts.Edge.{Edge}
 use Rattle.fb_regions.specs.Holders.{IsHolder, potential_by}
 use Rattle.fb_regions.specs.Moves.{node_named}
 use Rattle.fb_regions.specs.declared.regions.Holder.{Holder}
 use Rattle.fb_regions.specs.declared.roles.Role.{Role}
 use Rattle.fb_regions.specs.declared.roles.Role.TheVariants as role
-use Rattle.fb_obstacles.specs.Obstacles.{Obstructs, residue_at}
+use Rattle.fb_obstacles.specs.Obstacles.{BearsStep, Obstructs, residue_at}
 use Rattle.fb_obstacles.specs.declared.obstacle.Obstacle.{Obstacle}
 use Rattle.fb_obstacles.specs.declared.obstacle.Obstacle.TheVariants as obstacle
 use Rattle.fb_obstacles.specs.declared.looking.Look.{Look}
@@ -120,11 +119,6 @@ Limits Allowed Stands (Blocked o) = Stands o
 -- the top layer of the node of this name is at least as thick
 abbrev pub BearsShrinking : List Node → ℕ → ℕ → Type 0
 BearsShrinking nodes j name = j ≤ (node_named nodes name).top.value
-
--- the edge can bear a step of length j
-abbrev pub BearsStep : Roles → List Node → ℕ → Edge → Type 0
-BearsStep roles nodes j e =
-    load_of (all_cuts nodes) e + j * gains roles nodes e ≤ e.weight + j * losses roles nodes e
 
 -- the look tells which lengths these minus nodes and these edges allow, or an obstacle that stands
 abbrev pub LimitsBoth : Problem → Roles → List Node → List ℕ → List ℕ → Look → Type 0

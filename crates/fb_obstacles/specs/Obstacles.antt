@@ -6,7 +6,7 @@ use Rattle.fb_graph.specs.Certificate.{load_of}
 use Rattle.fb_graph.specs.Components.{Leads}
 use Rattle.fb_graph.specs.Dual.{Node, AreUnderOne, all_cuts, cover_of, height_of, is_live, is_outer}
 use Rattle.fb_graph.specs.declared.parts.Edge.{Edge}
-use Rattle.fb_graph.specs.Steps.{Roles}
+use Rattle.fb_graph.specs.Steps.{Roles, gains, losses}
 use Rattle.fb_graph.specs.Covers.{HaveParity, is_covered_by}
 use Rattle.fb_graph.specs.Moves.{MaySplit, MayUncover}
 use Rattle.fb_laws.specs.Lengths.{IsGreatestStep}
@@ -47,6 +47,11 @@ slack_of nodes e =
 -- the same of the edge of a number
 abbrev pub slack_at : Problem → List Node → ℕ → ℕ
 slack_at p nodes k = slack_of nodes (edge_at p.edges k)
+
+-- the edge can bear a step of length j
+abbrev pub BearsStep : Roles → List Node → ℕ → Edge → Type 0
+BearsStep roles nodes j e =
+    load_of (all_cuts nodes) e + j * gains roles nodes e ≤ e.weight + j * losses roles nodes e
 
 -- all defects under plus nodes have potentials of one parity
 abbrev pub HavePlusParity : Roles → List Node → Type 0
@@ -113,6 +118,17 @@ Obstructs p roles nodes (LayerEmpty name) = (roles.is_minus name ≡ true) × Ma
 Obstructs p roles nodes (BlossomEmpty name) = (roles.is_minus name ≡ true) × MaySplit nodes name
 Obstructs p roles nodes (ZeroMinus name) = (roles.is_minus name ≡ true) × IsZeroDefect nodes name
 Obstructs p roles nodes (Free k) = ⊥
+
+-- the obstacle is at this edge
+abbrev pub IsAtEdge : ℕ → Obstacle → Type 0
+IsAtEdge e (Absorb k) = k ≡ e
+IsAtEdge e (Boundary k) = k ≡ e
+IsAtEdge e (Meet k) = k ≡ e
+IsAtEdge e (PlusPair k) = k ≡ e
+IsAtEdge e (LayerEmpty name) = ⊥
+IsAtEdge e (BlossomEmpty name) = ⊥
+IsAtEdge e (ZeroMinus name) = ⊥
+IsAtEdge e (Free k) = ⊥
 
 -- nothing stands in the way, and the length is the greatest by which the tree may step
 pub record IsFree (p : Problem) (roles : Roles) (nodes : List Node) (k : ℕ) : Type 0 where

@@ -1,12 +1,11 @@
-ghost use Rattle.std.specs.Prelude.{◌≡◌, ◌+◌, ◌<◌, ◌≤◌, length, MatchOption};
+ghost use Rattle.std.specs.Prelude.{◌≡◌, ◌+◌, ◌<◌, ◌≤◌, length, IfSome, MatchOption};
 ghost use Rattle.fb_graph.specs.Problem.{edge_at, with_defects};
 ghost use Rattle.fb_graph.specs.Laws.{HasNoOddClosed};
 ghost use Rattle.fb_graph.specs.Dual.{leaves};
 ghost use Rattle.fb_graph.specs.Covers.{AreRoles};
 ghost use Rattle.fb_laws.specs.Lengths.{HasPlus};
 ghost use Rattle.fb_obstacles.specs.InnerEdges.{LeavesInner};
-ghost use Rattle.fb_obstacles.specs.InternalLooks.{BearsStep};
-ghost use Rattle.fb_obstacles.specs.Obstacles.{CountsLooks, HavePlusParity, IsObstacle, IsWatched, ListsMinus, Obstructs, roles_by, slack_at};
+ghost use Rattle.fb_obstacles.specs.Obstacles.{BearsStep, CountsLooks, HavePlusParity, IsAtEdge, IsObstacle, IsWatched, ListsMinus, Obstructs, roles_by, slack_at};
 ghost use Rattle.fb_obstacles.specs.Watched.{AreBounded};
 
 use crate::bounding::look_by_bounds;
@@ -103,6 +102,7 @@ pub fn obstacle_at<S: Scope, R: Roles, L: Ledger>(
     ensures obstacle { MatchOption result
         (BearsStep (roles_by (R.role_of roles.now)) regions.now.nodes 1 (edge_at (S.problem scope.now).edges edge))
         (Obstructs (S.problem scope.now) (roles_by (R.role_of roles.now)) regions.now.nodes) }
+    ensures place { IfSome result (IsAtEdge edge) }
     ensures looks { looks.new ≡ looks.old + 1 }
 {
     keeps_dual(regions);

@@ -1,8 +1,8 @@
 ghost use Rattle.std.specs.Prelude.{◌≡◌, ◌<◌, length, All};
 ghost use Rattle.fb_graph.specs.Problem.{edge_at};
 ghost use Rattle.fb_graph.specs.Covers.{AreRoles};
-ghost use Rattle.fb_obstacles.specs.Obstacles.{HavePlusParity, Obstructs, roles_by};
-ghost use Rattle.fb_obstacles.specs.InternalLooks.{BearsStep, CountsLooked, Limits};
+ghost use Rattle.fb_obstacles.specs.Obstacles.{BearsStep, HavePlusParity, Obstructs, roles_by};
+ghost use Rattle.fb_obstacles.specs.InternalLooks.{CountsLooked, Limits};
 
 use crate::Roles;
 use crate::ends::keeps_dual;

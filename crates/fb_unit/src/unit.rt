@@ -1,10 +1,12 @@
 ghost use Rattle.std.specs.Prelude.{◌≡◌, ◌<◌, ◌+◌, ◌*◌, ◌≤◌, IfOk, length};
-ghost use Rattle.fb_half.specs.Beginnings.{own_defects};
+ghost use Rattle.fb_graph.specs.Limits.{no_shot};
+ghost use Rattle.fb_plan.specs.Plans.{node_count, problem_at};
+ghost use Rattle.fb_half.specs.Beginnings.{LiesWithin, own_defects};
 ghost use Rattle.fb_half.specs.Parts.{IsPartOf};
 
 use fb_graph::{NoMemory, Steps, Whole};
 use fb_half::{Half, Spare, Work};
-use fb_plan::Job;
+use fb_plan::{Job, Reach};
 use fb_search::{Scratch, search_each_from};
 use std::alloc::Global;
 use std::sync::ledger::Ledger;
@@ -50,7 +52,33 @@ pub fn solve_unit_on<'a, L: Ledger>(
     ensures steps { IfOk result (λ r. (length (own_defects r.0) + 2 * steps.old ≤ 2 * steps.new)
         × (steps.new ≤ steps.old + length (own_defects r.0))) }
 {
-    let work = Work::begin_on(alloc, job, slot, node, spare)?;
+    let reach = job.plan().reach(node);
+    solve_within(alloc, job, slot, node, reach, spare, scratch, steps)
+}
+
+/// The solved part of any node of a plan, a fusion's too, solved whole as if the node were a unit, and not from its
+/// children's parts. All real vertices of its sub-problem lie within the given reach.
+pub fn solve_within<'a, L: Ledger>(
+    alloc: Global,
+    job: &'a Job<'a>,
+    slot: u32,
+    node: u32,
+    reach: Reach,
+    spare: Option<Spare>,
+    scratch: Scratch,
+    steps: &mut Steps<L>,
+) -> Result<(Half<'a>, Scratch), NoMemory>
+    requires slot { slot < length job.now.shots }
+    requires node { node < node_count job.now.plan }
+    requires reach { LiesWithin (problem_at job.now.graph job.now.plan node no_shot) reach }
+    requires room { scratch.edge_count ≡ length job.now.graph.edges }
+    ensures half { IfOk result (λ r. IsPartOf job.now slot node r.0) }
+    ensures room { IfOk result (λ r. r.1.edge_count ≡ scratch.edge_count) }
+    ensures never_falls { steps.old ≤ steps.new }
+    ensures steps { IfOk result (λ r. (length (own_defects r.0) + 2 * steps.old ≤ 2 * steps.new)
+        × (steps.new ≤ steps.old + length (own_defects r.0))) }
+{
+    let work = Work::begin_within(alloc, job, slot, node, reach, spare)?;
     let roots = Vec::from_slice(alloc, work.unmatched())?;
     let (work, scratch) = search_each_from(alloc, work, &roots, scratch, steps)?;
     Ok((work.close(), scratch))

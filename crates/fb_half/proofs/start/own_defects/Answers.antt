@@ -5,13 +5,13 @@ use Rattle.std.specs.List.{filter}
 use Rattle.fb_graph.specs.Limits.{no_shot}
 use Rattle.fb_plan.specs.Plans.{problem_at}
 use Rattle.fb_plan.specs.Reaches.{is_reached}
-use Rattle.fb_half.proofs.Reached.{own_reached}
+use Rattle.fb_half.proofs.Reached.{real_reached}
 use Rattle.fb_half.proofs.start.own_defects.Goals as goal
 
 pub is_real-requires : goal.is_real-requires
 is_real-requires c =
     subst (All (λ v. v < c.args.scope.now.graph.now.vertices)) (sym c.within-reached.ensures)
-    (All-filter (is_reached c.reach.result) (λ v. v < c.args.scope.now.graph.now.vertices) c.args.defects.now c.requires.vertices)
+    (All-filter (is_reached c.args.reach) (λ v. v < c.args.scope.now.graph.now.vertices) c.args.defects.now c.requires.vertices)
     c.loop-v.v-index 0 c.loop-v-test.true
 
 pub returns : goal.returns
@@ -19,4 +19,4 @@ returns c =
     c.loop-v.invariant
     ∙ (ap (filter (problem_at c.args.scope.now.graph.now c.args.scope.now.plan.now c.args.scope.now.node no_shot).is_real)
     (take_all c.loop-v.v-index c.within-reached.result.now c.loop-v-test.false ∙ c.within-reached.ensures)
-    ∙ own_reached c.args.scope.now.graph.now c.args.scope.now.plan.now c.args.scope.now.node c.reach.result c.requires.unit c.reach.ensures c.args.defects.now)
+    ∙ real_reached (problem_at c.args.scope.now.graph.now c.args.scope.now.plan.now c.args.scope.now.node no_shot) c.args.reach c.requires.reach c.args.defects.now)

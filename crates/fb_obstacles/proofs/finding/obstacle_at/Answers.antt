@@ -1,11 +1,12 @@
 use Rattle.std.proofs.Common.{◌∙◌, sym, subst}
 use Rattle.fb_graph.specs.Problem.{edge_at}
 use Rattle.fb_graph.specs.Dual.{IsDual}
-use Rattle.fb_obstacles.specs.Obstacles.{Obstructs, roles_by}
-use Rattle.fb_obstacles.specs.InternalLooks.{BearsStep}
+use Rattle.fb_obstacles.specs.InternalLooks.{cover_at, far_end}
+use Rattle.fb_obstacles.specs.Obstacles.{BearsStep, Obstructs, residue_at, roles_by}
 use Rattle.fb_obstacles.specs.declared.looking.Look.TheVariants.{Clear, Within, Blocked}
 use Rattle.fb_obstacles.proofs.LookLimits.{limits_one}
 use Rattle.fb_obstacles.proofs.EdgeScans.{edge_looked}
+use Rattle.fb_obstacles.proofs.LookPlaces.{blocked_there}
 use Rattle.fb_obstacles.proofs.finding.obstacle_at.Goals as goal
 
 pub returns-in-Blocked-clause-obstacle : goal.returns-in-Blocked-clause-obstacle
@@ -31,3 +32,13 @@ returns-in-Within-clause-obstacle g c =
     c.args.edge (Within c.in-Within.field-0)
     (subst (λ s. IsDual (g.S.Scope.problem s) c.args.regions.now.nodes) c.requires.same c.keeps_dual.ensures)
     c.requires.roles c.requires.parity c.limits.ensures c.requires.below (sym c.in-Within.is ∙ c.look_over.ensures))
+
+pub returns-in-Blocked-clause-place : goal.returns-in-Blocked-clause-place
+returns-in-Blocked-clause-place g c =
+    blocked_there
+    (far_end (cover_at (g.S.Scope.problem c.args.scope.now) (g.R.Roles.role_of c.args.roles.now) c.args.regions.now.nodes
+    (edge_at (g.S.Scope.problem c.args.scope.now).edges c.args.edge).first)
+    (cover_at (g.S.Scope.problem c.args.scope.now) (g.R.Roles.role_of c.args.roles.now) c.args.regions.now.nodes
+    (edge_at (g.S.Scope.problem c.args.scope.now).edges c.args.edge).second))
+    (residue_at (g.S.Scope.problem c.args.scope.now) c.args.regions.now.nodes c.args.edge) c.args.edge c.in-Blocked.obstacle
+    (sym c.look_over.ensures ∙ c.in-Blocked.is)

@@ -1,8 +1,7 @@
 use Rattle.std.proofs.Common.{◌+◌, length, get_or, take, All, ap, subst, arith}
 use Rattle.fb_graph.specs.Problem.{edge_at}
 use Rattle.fb_graph.specs.Dual.{IsDual}
-use Rattle.fb_obstacles.specs.Obstacles.{Obstructs, roles_by}
-use Rattle.fb_obstacles.specs.InternalLooks.{BearsStep}
+use Rattle.fb_obstacles.specs.Obstacles.{BearsStep, Obstructs, roles_by}
 use Rattle.fb_obstacles.proofs.LookLimits.{limits_blocked, limits_whole}
 use Rattle.fb_obstacles.proofs.EdgeScans.{edges_more}
 use Rattle.fb_obstacles.proofs.scanning.look_at_edges.Goals as goal

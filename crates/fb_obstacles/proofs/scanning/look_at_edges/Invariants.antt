@@ -1,7 +1,7 @@
 use Rattle.std.proofs.Common.{◌≡◌, ◌+◌, take, All}
 use Rattle.fb_graph.specs.Problem.{edge_at}
-use Rattle.fb_obstacles.specs.Obstacles.{Obstructs, roles_by}
-use Rattle.fb_obstacles.specs.InternalLooks.{BearsStep, Limits}
+use Rattle.fb_obstacles.specs.Obstacles.{BearsStep, Obstructs, roles_by}
+use Rattle.fb_obstacles.specs.InternalLooks.{Limits}
 use Rattle.fb_obstacles.proofs.scanning.look_at_edges.Given as goal
 
 abbrev pub invariant-loop-edge : goal.invariant-loop-edge

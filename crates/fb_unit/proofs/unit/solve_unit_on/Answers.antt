@@ -1,10 +1,9 @@
-use Rattle.std.proofs.Common.{◌∙◌, ap}
-use Rattle.fb_graph.specs.Parity.{is_in}
-use Rattle.fb_search.proofs.SearchedEach.{all_matched}
+use Rattle.std.proofs.Common.{subst}
+use Rattle.fb_plan.specs.Reaches.{IsReach}
+use Rattle.fb_half.proofs.Reached.{unit_within}
 use Rattle.fb_unit.proofs.unit.solve_unit_on.Goals as goal
 
-pub close-requires : goal.close-requires
-close-requires g c =
-    all_matched _ _ _ _ _ c.in_ok-work-2.ensures.searched
-    (λ n left.
-    ap (λ l. is_in l n) (c.deref.ensures.value ∙ (c.in_ok-roots.ensures.items ∙ c.unmatched.ensures)) ∙ left)
+pub solve_within-requires-clause-reach : goal.solve_within-requires-clause-reach
+solve_within-requires-clause-reach g c =
+    unit_within c.args.job.now.graph c.args.job.now.plan c.args.node c.reach.result c.requires.unit
+    (subst (λ t. IsReach t.owners c.args.node c.reach.result) c.plan.ensures c.reach.ensures)

@@ -4,7 +4,7 @@ use Rattle.fb_graph.specs.Problem.{edge_at}
 use Rattle.fb_graph.proofs.Sets.{is_in-All}
 use Rattle.fb_plan.specs.Plans.{problem_at}
 use Rattle.fb_half.specs.Values.{part_of}
-use Rattle.fb_obstacles.specs.InternalLooks.{BearsStep}
+use Rattle.fb_obstacles.specs.Obstacles.{BearsStep}
 use Rattle.fb_search.specs.Searching.{SearchValue, roles_in}
 use Rattle.fb_search.proofs.NextObstacles.{next_limiting, next_parity, next_roles, next_watched}
 use Rattle.fb_search.proofs.searching.Searching.limiting.Goals as goal

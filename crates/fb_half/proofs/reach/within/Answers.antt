@@ -2,7 +2,7 @@ use Rattle.std.proofs.Common.{ℕ, ◌-◌, List, length, take, drop, nat_lt, ru
 use Rattle.std.proofs.lemmas.List.{take_rest}
 use Rattle.std.proofs.lemmas.List.Sorted.{IsNonDecreasingBy-drop, IsNonDecreasingBy-take, IsPartitionPoint-from_clause, IsPartitionedBy-ltb}
 use Rattle.fb_half.proofs.Reached.{cut_out, never_falls}
-use Rattle.fb_half.proofs.start.within.Goals as goal
+use Rattle.fb_half.proofs.reach.within.Goals as goal
 
 pub returns : goal.returns
 returns c =
