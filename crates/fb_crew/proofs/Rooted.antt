@@ -18,7 +18,8 @@ use Rattle.fb_crew.specs.InternalWindows.{AreOddAt, AreRowsOf, IsSorted, even_of
 use Rattle.fb_book.proofs.Handing.{one_item}
 use Rattle.std.proofs.lemmas.Option.{slice_get-get_or}
 use Rattle.std.proofs.lemmas.List.Sums.{sum_by-cons}
-use Rattle.fb_crew.specs.InternalSolved.{item_of}
+use Rattle.fb_crew.specs.InternalSolved.{item_at, item_of}
+use Rattle.fb_crew.proofs.Deferred.{item_is}
 use Rattle.fb_crew.specs.Windows.{AreRows, IsHistoryOf, IsShotRow, SolvedValue}
 
 module _ (g : DecodingGraph) where
@@ -117,21 +118,23 @@ ok_more P Q (Err e) known more = tt
 
 -- a solved item is a piece at its place
 module _ (job : JobValue) where
-  pub piece_of : (from slot node : ℕ) (p : PartValue) → from ≡ slot → node < node_count job.plan → IsPartOf job from node p
-      → IsPieceAt (λ (q : SolvedValue). q.job) (λ q. q.slot) (λ q. q.node) (λ q. None) job (place_of job slot node) (item_of p)
-  piece_of from slot node p same less is = record {
-    job_is = is.job;
-    place_is = ap (λ s. s * node_count job.plan + p.node) (is.slot ∙ same) ∙ ap (λ n. slot * node_count job.plan + n) is.node;
-    node = subst (λ n. n < node_count job.plan) (sym is.node) less;
-    made = tt;
-  }
+  pub piece_at : (slot node : ℕ) → node < node_count job.plan
+      → IsPieceAt (λ (q : SolvedValue). q.job) (λ q. q.slot) (λ q. q.node) (λ q. None) job (place_of job slot node) (item_at job slot node)
+  piece_at slot node less = record { job_is = refl; place_is = refl; node = less; made = tt }
 
-  pub returns_piece : {E : Type 0} (from slot node : ℕ) (p : PartValue) (r : Result SolvedValue E) → from ≡ slot → node < node_count job.plan
+  pub returns_piece : {E : Type 0} (slot node : ℕ) (r : Result SolvedValue E) → node < node_count job.plan
+      → IfOk r (λ q. q ≡ item_at job slot node)
+      → IfOk r (IsPieceAt (λ (q : SolvedValue). q.job) (λ q. q.slot) (λ q. q.node) (λ q. None) job (place_of job slot node))
+  returns_piece slot node r less known =
+      ok_more (λ q. q ≡ item_at job slot node) _ r known (λ q e. subst (IsPieceAt (λ (q : SolvedValue). q.job) (λ q. q.slot) (λ q. q.node) (λ q. None) job (place_of job slot node))
+      (sym e) (piece_at slot node less))
+
+  pub returns_part : {E : Type 0} (from slot node : ℕ) (p : PartValue) (r : Result SolvedValue E) → from ≡ slot → node < node_count job.plan
       → IsPartOf job from node p → IfOk r (λ q. q ≡ item_of p)
       → IfOk r (IsPieceAt (λ (q : SolvedValue). q.job) (λ q. q.slot) (λ q. q.node) (λ q. None) job (place_of job slot node))
-  returns_piece from slot node p r same less is known =
-      ok_more (λ q. q ≡ item_of p) _ r known (λ q e. subst (IsPieceAt (λ (q : SolvedValue). q.job) (λ q. q.slot) (λ q. q.node) (λ q. None) job (place_of job slot node))
-      (sym e) (piece_of from slot node p same less is))
+  returns_part from slot node p r same less is known =
+      returns_piece slot node r less
+      (ok_more (λ q. q ≡ item_of p) (λ q. q ≡ item_at job slot node) r known (λ q e. e ∙ (item_is job from node p is ∙ ap (λ s. item_at job s node) same)))
 
   pub fusion_below : (node left right : ℕ) → children_of job.plan node ≡ Some (left, right) → node < node_count job.plan
   fusion_below node left right told = let (i, less, is, at) = fusion_of job.plan node left right told in omega (arith, less, is)

@@ -5,5 +5,5 @@ use Rattle.fb_unit.proofs.unit.solve_unit_on.Goals as goal
 
 pub solve_within-requires-clause-reach : goal.solve_within-requires-clause-reach
 solve_within-requires-clause-reach g c =
-    unit_within c.args.job.now.graph c.args.job.now.plan c.args.node c.reach.result c.requires.unit
-    (subst (λ t. IsReach t.owners c.args.node c.reach.result) c.plan.ensures c.reach.ensures)
+    unit_within c.args.job.now.graph c.args.job.now.plan c.args.node c.reach-reach.result c.requires.unit
+    (subst (λ t. IsReach t.owners c.args.node c.reach-reach.result) c.plan.ensures c.reach-reach.ensures)
