@@ -106,7 +106,7 @@ pub fn adopt(
 fn listed(alloc: Global, marks: &Marks, count: usize, last: u32) -> Result<Vec<u32>, NoMemory>
     ensures { IfOk result (λ v. v.items ≡ chain marks.now count last) }
 {
-    let mut vertices = Vec::new(alloc);
+    let mut vertices = Vec::with_capacity(alloc, count)?;
     let mut at = last;
     for _ in 0..count {
         vertices.push(at)?;
@@ -153,7 +153,7 @@ pub fn put_cuts(
         put_cut(alloc, marks.under(*v), set.as_slice(), cuts)?;
         set.push(*v)?;
     }
-    put_cut(alloc, region.top_value, set.as_slice(), cuts)
+    put_top(region.top_value, set, cuts)
 }
 
 /// A layer with a copy of the set, behind those of a list, if it has a value.
@@ -163,6 +163,17 @@ fn put_cut(alloc: Global, value: u64, set: &[u32], cuts: &mut Vec<Cut>) -> Resul
     if value > 0 {
         let layer = cut(alloc, value, set)?;
         cuts.push(layer)?;
+    }
+    Ok(())
+}
+
+/// A layer of the set itself, behind those of a list, if it has a value.
+fn put_top(value: u64, set: Vec<u32>, cuts: &mut Vec<Cut>) -> Result<(), NoMemory>
+    ensures { OnOk result (cuts.new.items ≡ cuts.old.items ++ filter is_positive (record { value = value; vertices = set.items } ∷ [])) }
+{
+    if value > 0 {
+        let vertices = NumberList::from_vec(set);
+        cuts.push(Cut { value, vertices })?;
     }
     Ok(())
 }
