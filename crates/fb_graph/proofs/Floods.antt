@@ -20,16 +20,16 @@ use Rattle.fb_graph.proofs.Sets.{distinct_from_rising, is_in-All, is_in-cases, i
 use Rattle.fb_graph.proofs.Walks.{joined_ends, joined_self, joined_sym, joined_trans}
 
 -- lists with one number more
-is_in-left : (xs ys : List ℕ) (u : ℕ) → is_in xs u ≡ true → is_in (xs ++ ys) u ≡ true
+pub is_in-left : (xs ys : List ℕ) (u : ℕ) → is_in xs u ≡ true → is_in (xs ++ ys) u ≡ true
 is_in-left xs ys u within = list_any-append (λ w. w == u) xs ys ∙ or_left (is_in xs u) (is_in ys u) within
 
-is_in-right : (xs ys : List ℕ) (u : ℕ) → is_in ys u ≡ true → is_in (xs ++ ys) u ≡ true
+pub is_in-right : (xs ys : List ℕ) (u : ℕ) → is_in ys u ≡ true → is_in (xs ++ ys) u ≡ true
 is_in-right xs ys u within = list_any-append (λ w. w == u) xs ys ∙ or_right (is_in xs u) (is_in ys u) within
 
-is_in-last : (xs : List ℕ) (v : ℕ) → is_in (xs ++ v ∷ []) v ≡ true
+pub is_in-last : (xs : List ℕ) (v : ℕ) → is_in (xs ++ v ∷ []) v ≡ true
 is_in-last xs v = is_in-right xs (v ∷ []) v (is_in-head v [])
 
-is_in-both : (xs ys : List ℕ) (u : ℕ) → is_in (xs ++ ys) u ≡ true → (is_in xs u ≡ true) ⊎ (is_in ys u ≡ true)
+pub is_in-both : (xs ys : List ℕ) (u : ℕ) → is_in (xs ++ ys) u ≡ true → (is_in xs u ≡ true) ⊎ (is_in ys u ≡ true)
 is_in-both xs ys u within = or_cases (is_in xs u) (is_in ys u) (sym (list_any-append (λ w. w == u) xs ys) ∙ within)
 
 is_in-push : (xs : List ℕ) (v u : ℕ) → is_in (xs ++ v ∷ []) u ≡ true → (is_in xs u ≡ true) ⊎ (v ≡ u)
@@ -53,7 +53,7 @@ is_in-drop : (n : ℕ) (xs : List ℕ) (u : ℕ) → is_in (drop n xs) u ≡ tru
 is_in-drop n xs u within =
     sym (ap (λ ys. is_in ys u) (take-append-drop n xs)) ∙ is_in-right (take n xs) (drop n xs) u within
 
-distinct-push : (xs : List ℕ) (v : ℕ) → AreDistinct xs → is_in xs v ≡ false → AreDistinct (xs ++ v ∷ [])
+pub distinct-push : (xs : List ℕ) (v : ℕ) → AreDistinct xs → is_in xs v ≡ false → AreDistinct (xs ++ v ∷ [])
 distinct-push [] v distinct absent = (refl, tt)
 distinct-push (x ∷ xs) v distinct absent = (
   false_from_ne_true (is_in (xs ++ v ∷ []) x) (λ within. step (is_in-push xs v x within)),

@@ -27,7 +27,7 @@ is_in-map f (x ∷ xs) u within = step (is_in-cases x xs u within) (is_in-map f 
     step (inl same) rest = ap (λ y. is_in (f x ∷ map f xs) (f y)) (sym same) ∙ is_in-head (f x) (map f xs)
     step (inr later) rest = is_in-tail (f x) (map f xs) (f u) (rest later)
 
-member_of_map : (f : ℕ → ℕ) (xs : List ℕ) (y : ℕ) → is_in (map f xs) y ≡ true → (x : ℕ) × (is_in xs x ≡ true) × (f x ≡ y)
+pub member_of_map : (f : ℕ → ℕ) (xs : List ℕ) (y : ℕ) → is_in (map f xs) y ≡ true → (x : ℕ) × (is_in xs x ≡ true) × (f x ≡ y)
 member_of_map f [] y within = absurd (false≢true within)
 member_of_map f (x ∷ xs) y within = step (is_in-cases (f x) (map f xs) y within) (member_of_map f xs y)
   where

@@ -27,7 +27,7 @@ parity (suc n) = step (parity n)
     step (inl odd) = inr (omega (arith, odd))
     step (inr even) = inl (omega (arith, even))
 
-split_in : (xs : List ℕ) (v : ℕ) → is_in xs v ≡ true → (before : List ℕ) × (after : List ℕ) × (xs ≡ before ++ v ∷ after)
+pub split_in : (xs : List ℕ) (v : ℕ) → is_in xs v ≡ true → (before : List ℕ) × (after : List ℕ) × (xs ≡ before ++ v ∷ after)
 split_in [] v within = absurd (false≢true within)
 split_in (x ∷ xs) v within = step (is_in-cases x xs v within) (split_in xs v)
   where

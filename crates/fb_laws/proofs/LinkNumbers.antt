@@ -21,7 +21,7 @@ use Rattle.fb_laws.proofs.TreeCycles.{length_back}
 use Rattle.fb_laws.proofs.TreePaths.{distinct_left, in_either, in_left, in_right, length_along}
 
 -- the inner two of four lists change places
-crossed : {X : Type 0} (a b c d : List X) → IsPermutation ((a ++ b) ++ (c ++ d)) ((a ++ c) ++ (b ++ d))
+pub crossed : {X : Type 0} (a b c d : List X) → IsPermutation ((a ++ b) ++ (c ++ d)) ((a ++ c) ++ (b ++ d))
 crossed a b c d =
     subst (λ l. IsPermutation l ((a ++ c) ++ (b ++ d))) (sym (append_assoc a b (c ++ d)))
     (subst (IsPermutation (a ++ (b ++ (c ++ d)))) (sym (append_assoc a c (b ++ d)))
@@ -131,7 +131,7 @@ same_elements {X} key xs (y ∷ ys) (new, distinct) within same =
         absurd (both_ways (is_in (map key ys) (key y)) new (subst (λ w. is_in (map key ys) (key w) ≡ true) (sym here) (among_key key ys z a)))
     among_others before after z a (inr (inr b)) = among_right before after z b
 
-among_filter : {X : Type 0} (test : X → Bool) (xs : List X) (x : X) → IsAmong x xs → test x ≡ true → IsAmong x (filter test xs)
+pub among_filter : {X : Type 0} (test : X → Bool) (xs : List X) (x : X) → IsAmong x xs → test x ≡ true → IsAmong x (filter test xs)
 among_filter test [] x a h = absurd a
 among_filter {X} test (y ∷ ys) x a h = step (test y) refl a (λ b. among_filter test ys x b h)
   where

@@ -33,7 +33,7 @@ use Rattle.fb_graph.proofs.TightLinks.{turned_tight}
 use Rattle.fb_laws.proofs.UnmatchedNames.{outer_beside, outer_singles_added}
 
 -- a node that covers a vertex is there
-cover_live : (nodes : List Node) (v name : ℕ) → cover_of nodes v ≡ Some name → is_live nodes name ≡ true
+pub cover_live : (nodes : List Node) (v name : ℕ) → cover_of nodes v ≡ Some name → is_live nodes name ≡ true
 cover_live nodes v name cover =
     let over = cover_among nodes v name cover in
     among_live nodes over.node name over.among over.named

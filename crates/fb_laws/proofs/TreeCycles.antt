@@ -82,7 +82,7 @@ in_back (e ∷ es) n within = step (is_in-cases e.minus (e.plus ∷ nodes_along 
         (subst (λ m. is_in (e.plus ∷ e.minus ∷ []) m ≡ true) same (is_in-tail e.plus (e.minus ∷ []) e.minus (is_in-head e.minus [])))
     step (inr there) rest = later (is_in-cases e.plus (nodes_along es) n there) rest
 
-distinct_back : (es : List Entry) → AreDistinct (nodes_along es) → AreDistinct (nodes_back es)
+pub distinct_back : (es : List Entry) → AreDistinct (nodes_along es) → AreDistinct (nodes_back es)
 distinct_back [] distinct = tt
 distinct_back (e ∷ es) (minus_new, (plus_new, distinct)) =
     distinct_append (nodes_back es) (e.plus ∷ e.minus ∷ []) (distinct_back es distinct) (

@@ -28,7 +28,7 @@ length-ranges_of f xs fusions =
       length-map fusions (λ join. join.seam.items),
     )
 
-claims-append : (n : ℕ) (xs ys : List (List (ℕ × ℕ))) → claims_from n (xs ++ ys) ≡ claims_from n xs ++ claims_from (n + length xs) ys
+pub claims-append : (n : ℕ) (xs ys : List (List (ℕ × ℕ))) → claims_from n (xs ++ ys) ≡ claims_from n xs ++ claims_from (n + length xs) ys
 claims-append n [] ys = ap (λ k. claims_from k ys) (omega arith)
 claims-append n (x ∷ xs) ys =
     ap (λ zs. map (claim_of n) x ++ zs) (claims-append (n + 1) xs ys
