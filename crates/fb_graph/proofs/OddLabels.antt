@@ -1,7 +1,7 @@
 -- The vertices of one label are a component, so that the first odd component is found by its label.
-use Rattle.std.proofs.Common.{ℕ, ◌<◌, ◌≤◌, ◌≡◌, ◌==◌, ◌⊎◌, ◌&&◌, Bool, true, false, not, nat_lt, List, [], ◌∷◌, length, map, get_or, filter, Option, Some, None, IfNone, refl, sym, ap, subst, ◌∙◌, inl, inr, arith}
+use Rattle.std.proofs.Common.{ℕ, ◌<◌, ◌≤◌, ◌≡◌, ◌==◌, ◌⊎◌, ◌&&◌, Bool, true, false, not, List, [], ◌∷◌, length, map, get_or, filter, Option, Some, None, IfNone, refl, sym, ap, subst, ◌∙◌, inl, inr, arith}
 use Rattle.std.specs.List.{range_with_len}
-use Rattle.std.proofs.lemmas.Bool.{false≢true, both_ways, eq-eqb, eqb-true, lt-ltb, ltb-true, and_from, and_parts, not-true, not_from_false, false_from_ne_true}
+use Rattle.std.proofs.lemmas.Bool.{false≢true, both_ways, eq-eqb, eqb-true, and_from, and_parts, not-true, not_from_false, false_from_ne_true}
 use Rattle.std.proofs.lemmas.List.Folds.{list_any_none}
 use Rattle.fb_graph.specs.Parity.{is_odd_count, is_in}
 use Rattle.fb_graph.specs.Problem.{Problem, edge_at, no_edge, with_defects}
