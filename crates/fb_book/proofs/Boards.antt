@@ -12,9 +12,7 @@ use Rattle.fb_book.specs.Board.{IsBoard, is_ready, unsolved_of}
 use Rattle.fb_book.proofs.Statuses.{IsSetAt, here, there, IsTakenAt, taken, used, same, set_at, taken_at, within, child_given, MayTake}
 use Rattle.fb_book.proofs.Courses.{sum_taken}
 use Rattle.fb_book.proofs.History.{none_at, none_from}
-
-abbrev pub one_if : Bool → ℕ
-one_if b = cond b 1 0
+use Rattle.fb_graph.proofs.Sets.{one_if}
 
 -- one entry more
 pub replay_more : (kids : Kids) (n : ℕ) (h : List Entry) (start st : List Status) (e : Entry)

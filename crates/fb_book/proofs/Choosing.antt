@@ -16,8 +16,8 @@ use Rattle.fb_book.specs.Board.{Course, kids_of, nodes_of, item_count, replay_of
 use Rattle.fb_book.proofs.Statuses.{within, idle_is, MayTake}
 use Rattle.fb_book.proofs.Courses.{IsReached, reached}
 use Rattle.fb_book.proofs.History.{progress, two_each}
-use Rattle.fb_book.proofs.Boards.{one_if}
 use Rattle.fb_book.proofs.Places.{forest_of_places}
+use Rattle.fb_graph.proofs.Sets.{one_if}
 
 -- the statuses that a history leads to
 pub statuses_are : (c : Course) (st : List Status) → replay_of c ≡ Some st → statuses_of c ≡ st

@@ -15,10 +15,10 @@ use Rattle.fb_book.specs.declared.entries.Status.TheVariants.{Given, Left as Los
 use Rattle.fb_book.specs.Machine.{is_child, status_at, is_held_by, can_take, replay, all_idle}
 use Rattle.fb_book.specs.Board.{Course, kids_of, nodes_of, item_count, place_in, item_status, with_entry, is_ready, ready_parent, parent_place, AreWithin, IsBoard, IsItems, Lets, LetsNot, unsolved_of}
 use Rattle.fb_book.proofs.Statuses.{held_is}
-use Rattle.fb_book.proofs.Boards.{one_if}
 use Rattle.fb_book.proofs.Letting.{Letting, replay_gave, replay_left, kept_gave, kept_left, unsolved_held}
 use Rattle.fb_book.proofs.Choosing.{statuses_are, is_run, places_forest, status_count, history_room, length_by_ones}
 use Rattle.fb_book.proofs.Places.{parent_is, no_parent}
+use Rattle.fb_graph.proofs.Sets.{one_if}
 
 -- a fusion's parent, in the same slot
 pub some_child : (children : Option (ℕ × ℕ)) (k : ℕ) → is_child children k ≡ true → is_some children ≡ true

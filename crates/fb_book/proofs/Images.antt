@@ -9,17 +9,7 @@ use Rattle.fb_book.specs.Machine.{IsCompleteOn, is_loss, is_over, status_at}
 use Rattle.fb_book.specs.Board.{kids_in}
 use Rattle.fb_book.specs.Laws.{IsRenumbered, RenumberingCompletes, renumbered}
 use Rattle.fb_book.proofs.Renumbering.{injective, place_less, renumbering_allows, slot_below}
-
--- what has a number among the images
-pub in_image : (f : ℕ → ℕ) (on : List ℕ) (t : ℕ) → is_in (map f on) t ≡ true → (s : ℕ) × (is_in on s ≡ true) × (f s ≡ t)
-in_image f [] t h = absurd (false≢true h)
-in_image f (u ∷ on) t h = step (or_cases (f u == t) (is_in (map f on) t) h) (in_image f on t)
-  where
-    step : ((f u == t) ≡ true) ⊎ (is_in (map f on) t ≡ true)
-        → (is_in (map f on) t ≡ true → (s : ℕ) × (is_in on s ≡ true) × (f s ≡ t))
-        → (s : ℕ) × (is_in (u ∷ on) s ≡ true) × (f s ≡ t)
-    step (inl e) rest = (u, or_left (u == u) (is_in on u) (eq-eqb u u refl), eqb-true (f u) t e)
-    step (inr e) rest = let (s, at, is) = rest e in (s, or_right (u == s) (is_in on s) at, is)
+use Rattle.fb_graph.proofs.OddLabels.{member_of_map}
 
 pub renumbering_completes : RenumberingCompletes
 renumbering_completes f units joins slots more on history r some forest complete =
@@ -37,7 +27,7 @@ renumbering_completes f units joins slots more on history r some forest complete
     no_losses [] within none = All-nil (λ e. is_in (map f on) e.slot ≡ true → is_loss e ≡ false)
     no_losses (e ∷ es) within none =
         All-cons (λ e. is_in (map f on) e.slot ≡ true → is_loss e ≡ false) (renumbered f e) (map (renumbered f) es)
-        (λ at. one (in_image f on (f e.slot) at))
+        (λ at. one (member_of_map f on (f e.slot) at))
         (no_losses es (All-tail (λ e. e.slot < slots) e es within)
         (All-tail (λ e. is_in on e.slot ≡ true → is_loss e ≡ false) e es none))
       where
@@ -50,11 +40,11 @@ renumbering_completes f units joins slots more on history r some forest complete
     close : IsRenumbered f (kids_in units joins) n slots more history complete.statuses
         → IsCompleteOn (map f on) (kids_in units joins) n (more * n) (map (renumbered f) history)
     close h = record {
-      inside = λ slot node at less. inside slot node less (in_image f on slot at);
+      inside = λ slot node at less. inside slot node less (member_of_map f on slot at);
       statuses = h.statuses;
       stands = h.stands;
       unleft = no_losses history h.slots_are complete.unleft;
-      over = λ slot node at less. over slot node less (in_image f on slot at);
+      over = λ slot node at less. over slot node less (member_of_map f on slot at);
     }
       where
         inside : (slot node : ℕ) → node < n → (s : ℕ) × (is_in on s ≡ true) × (f s ≡ slot) → slot * n + node < more * n

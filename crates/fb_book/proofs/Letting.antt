@@ -14,7 +14,8 @@ use Rattle.fb_book.specs.declared.entries.Status.TheVariants.{Held, Given, Used,
 use Rattle.fb_book.specs.Machine.{Kids, is_child, status_at, is_idle, is_held_by, is_given, is_used, is_left, are_given, can_take, may, after, place, allows, replay, all_idle}
 use Rattle.fb_book.specs.Board.{IsBoard, is_ready, unsolved_of}
 use Rattle.fb_book.proofs.Statuses.{within, child_given, IsSetAt, here, there, set_at}
-use Rattle.fb_book.proofs.Boards.{one_if, replay_more, can_take_let, idle_let}
+use Rattle.fb_book.proofs.Boards.{replay_more, can_take_let, idle_let}
+use Rattle.fb_graph.proofs.Sets.{one_if}
 
 -- a test that tells the new status from the old one as little finds the same
 pub any_set : (p : Status → Bool) (st : List Status) (k : ℕ) (s : Status) → k < length st

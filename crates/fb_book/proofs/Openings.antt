@@ -9,9 +9,9 @@ use Rattle.fb_book.specs.declared.entries.Status.{Status}
 use Rattle.fb_book.specs.declared.entries.Status.TheVariants.{Idle, Used}
 use Rattle.fb_book.specs.Machine.{Kids, IsForest, status_at, is_idle, is_given, is_left, are_given, can_take, all_idle}
 use Rattle.fb_book.specs.Board.{children_in, kids_in, AreParents, IsBoard, IsItems, is_ready, unsolved_of}
-use Rattle.fb_book.proofs.Boards.{one_if}
 use Rattle.fb_book.proofs.History.{none_from}
 use Rattle.fb_book.proofs.Places.{unit_place}
+use Rattle.fb_graph.proofs.Sets.{one_if}
 
 pub idle_at : (count k : ℕ) → k < count → status_at (all_idle count) k ≡ Idle
 idle_at count k less = get_or-replicate count k Idle Used less

@@ -12,9 +12,10 @@ use Rattle.fb_book.specs.declared.items.Turn.TheVariants.{Fusion, Unit as OneUni
 use Rattle.fb_book.specs.Machine.{is_child, can_take, with_used, after}
 use Rattle.fb_book.specs.Board.{Course, kids_of, nodes_of, item_count, place_in, entry_at, Adds, is_fusion, IsFirstFusion, IsFirstUnit, is_ready, IsBoard, IsItems, IsCourse, TakesUnit, TakesFusion, after_unit}
 use Rattle.fb_book.proofs.Statuses.{MayTake}
-use Rattle.fb_book.proofs.Boards.{one_if, Taking, replay_taking, kept_fusion, kept_unit}
+use Rattle.fb_book.proofs.Boards.{Taking, replay_taking, kept_fusion, kept_unit}
 use Rattle.fb_book.proofs.Choosing.{statuses_are, is_run, slot_and_node, counted, shorter, least_of, places_forest, status_count, history_room, popped_may, popped_kids, only_units, unit_may}
 use Rattle.fb_book.proofs.Places.{after_unit_later, after_unit_is, after_unit_gap}
+use Rattle.fb_graph.proofs.Sets.{one_if}
 
 -- What a turn tells of its item.
 pub fusion_answer : (P : Item → ℕ → ℕ → Type 0) (x : Item) (a b : ℕ) → P x a b

@@ -8,7 +8,7 @@ use Rattle.fb_graph.specs.Limits.{IsGraph}
 use Rattle.fb_graph.specs.Nests.{IsFormed}
 use Rattle.fb_graph.proofs.NestParts.{names_live}
 use Rattle.fb_graph.proofs.Sets.{length-le_from_within}
-use Rattle.fb_laws.proofs.PartBounds.{few_blossoms, few_leaves}
+use Rattle.fb_laws.proofs.PartBounds.{few_blossoms, few_leaves, not_empty}
 use Rattle.fb_half.specs.declared.matches.Match.{Match}
 use Rattle.fb_half.specs.Matchings.{listed_names, matched_names, names_of}
 use Rattle.fb_half.specs.Parts.{IsPart, PartValue, problem_in}
@@ -18,10 +18,6 @@ use Rattle.fb_search.proofs.Runs.{real_below}
 named : (ms : List Match) → length ms ≤ length (matched_names ms)
 named [] = omega arith
 named (m ∷ ms) = omega (arith, named ms, length-append (names_of m) (matched_names ms))
-
-some_children : (cs : List ℕ) → 3 ≤ length cs → is_empty cs ≡ false
-some_children [] three = absurd (let h : 3 ≤ 0 = three in omega arith)
-some_children (c ∷ cs) three = refl
 
 -- each node is a defect's or a blossom
 nodes_are : (ns : List Node) → All IsFormed ns → length ns ≤ length (leaves ns) + count_by (λ n. not (is_empty n.children)) ns
@@ -40,7 +36,7 @@ nodes_are (n ∷ ns) formed =
         subst (λ cs. length (if is_empty cs then first_vertices (layers_of m) else []) + cond (not (is_empty cs)) 1 0 ≡ 1) (sym childless.none)
         (omega (arith, childless.defect))
     one m (inr many) =
-        subst (λ b. length (if b then first_vertices (layers_of m) else []) + cond (not b) 1 0 ≡ 1) (sym (some_children m.children many.three)) refl
+        subst (λ b. length (if b then first_vertices (layers_of m) else []) + cond (not b) 1 0 ≡ 1) (sym (not_empty m.children many.three)) refl
 
 module _ (w : PartValue) (part : IsPart w) where
   matches_have_nodes : length (listed_names w.matching ++ []) ≤ length w.nodes

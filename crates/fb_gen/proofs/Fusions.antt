@@ -11,6 +11,7 @@ use Rattle.fb_gen.specs.TimePlan.{first_level, fusions_of_level, level_above, fu
 use Rattle.fb_gen.specs.declared.levels.Part.{Part}
 use Rattle.fb_gen.specs.declared.levels.Fusion.{Fusion}
 use Rattle.fb_gen.proofs.Pairings.{length-level}
+use Rattle.fb_plan.proofs.Sorting.{range_split}
 
 pub count-cons : {X : Type 0} (p : X → Bool) (x : X) (xs : List X) → count_by p (x ∷ xs) ≡ one_if (p x) + count_by p xs
 count-cons p x xs = sum_by-cons (λ y. one_if (p y)) x xs
@@ -22,17 +23,6 @@ pub count-map : {X Y : Type 0} (p : Y → Bool) (f : X → Y) (xs : List X) → 
 count-map p f [] = refl
 count-map p f (x ∷ xs) =
     omega (arith, count-cons p (f x) (map f xs), count-cons (λ y. p (f y)) x xs, count-map p f xs)
-
-pub range-append : (a m n : ℕ) → range_with_len a (m + n) ≡ range_with_len a m ++ range_with_len (a + m) n
-range-append a zero n =
-    let all : 0 + n ≡ n = omega arith in
-    let start : a ≡ a + 0 = omega arith in
-    ap (range_with_len a) all ∙ ap (λ b. range_with_len b n) start
-range-append a (suc m) n =
-    let all : suc m + n ≡ suc (m + n) = omega arith in
-    let start : a + 1 + m ≡ a + suc m = omega arith in
-    ap (range_with_len a) all
-    ∙ ap (λ xs. a ∷ xs) (range-append (a + 1) m n ∙ ap (λ b. range_with_len (a + 1) m ++ range_with_len b n) start)
 
 -- an element that passes is counted
 pub count_at : {X : Type 0} (p : X → Bool) (xs : List X) (i : ℕ) (d : X) → i < length xs → p (get_or xs i d) ≡ true
@@ -145,7 +135,7 @@ uses_of_all x (suc levels) next level =
     let here : List Fusion = fusions_of_level level in
     let above : List Part = level_above next level in
     let rest : List Fusion = fusions_from levels (next + length here) above in
-    rw (length-append here rest, range-append next (length here) (length rest))
+    rw (length-append here rest, range_split next (length here) (length rest))
     (omega (
       arith,
       count-append (λ (f : Fusion). f.left == x) here rest,
@@ -238,7 +228,7 @@ uses_once units x =
       count-map {X = ℕ} {Y = Part} (λ n. n.node == x) (λ j. record { seam = j; node = j }) (range_with_len 0 units),
       count-append (λ k. k == x) (range_with_len 0 units) (range_with_len (0 + units) (length (time_fusions units))),
       ap (λ a. count_by (λ k. k == x) (range_with_len a (length (time_fusions units)))) start,
-      ap (λ xs. count_by (λ k. k == x) xs) (range-append 0 units (length (time_fusions units))),
+      ap (λ xs. count_by (λ k. k == x) xs) (range_split 0 units (length (time_fusions units))),
       count_equal-le all x (distinct_from_rising all (range_rises 0 (units + length (time_fusions units)))),
     )
 

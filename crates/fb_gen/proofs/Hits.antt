@@ -71,11 +71,7 @@ state_more x n = ap (state_after x) (add-one n)
 
 pub ruleset hits = (hits_hit, hits_missed, state_more)
 
-pub kept_more : (p : ℕ → Bool) (n : ℕ)
-    → filter p (range_with_len 0 (n + 1)) ≡ filter p (range_with_len 0 n) ++ cond (p n) (n ∷ []) []
-kept_more p n = range_more p n
-
-pub ruleset kept = (kept_more)
+pub ruleset kept = (range_more)
 
 -- The real vertices with a flag are the defects, where the flags tell of the chosen edges' ends.
 pub kept_as_defects : (g : DecodingGraph) (flags : List Bool) (chosen : List ℕ)

@@ -23,18 +23,11 @@ use Rattle.fb_gen.proofs.Acceptance.{time_tree_is_tree, fusion_is_between, joins
 use Rattle.fb_gen.proofs.Fusions.{count-cons, count-append, count_at, once_by, no_fusion, seams_once}
 use Rattle.fb_gen.proofs.Grids.{All-pieces_below, All-where_true, vertex_below}
 use Rattle.fb_gen.proofs.Rounds.{first_later, first_after_all}
+use Rattle.fb_plan.proofs.Gathering.{claims-append}
 
 -- a vertex lies within a range
 abbrev pub lies_in : ℕ → ℕ × ℕ → Bool
 lies_in v r = nat_le r.0 v && nat_lt v r.1
-
-claims-append : (n : ℕ) (xs ys : List (List (ℕ × ℕ))) → claims_from n (xs ++ ys) ≡ claims_from n xs ++ claims_from (n + length xs) ys
-claims-append n [] ys = let e : n ≡ n + 0 = omega arith in ap (λ m. claims_from m ys) e
-claims-append n (x ∷ xs) ys =
-    let e : n + 1 + length xs ≡ n + suc (length xs) = omega arith in
-    let here : List Claim = map (λ r. record { node = n; start = r.0; end = r.1 }) x in
-    ap (λ cs. here ++ cs) (claims-append (n + 1) xs ys ∙ ap (λ m. claims_from (n + 1) xs ++ claims_from m ys) e)
-    ∙ sym (append_assoc here (claims_from (n + 1) xs) (claims_from (n + suc (length xs)) ys))
 
 count-singles : {X : Type 0} (v n : ℕ) (f : X → ℕ × ℕ) (xs : List X)
     → count_by (holds v) (claims_from n (map (λ x. f x ∷ []) xs)) ≡ count_by (λ x. lies_in v (f x)) xs

@@ -25,15 +25,13 @@ use Rattle.fb_gen.proofs.Acceptance.{join_is, joins_length, time_tree_is_tree}
 use Rattle.fb_gen.proofs.Fusions.{no_fusion, length-fusions, fusion_is_later}
 use Rattle.fb_gen.proofs.Owners.{time_claims, covered_once, no_edge_across, seam_bounds}
 use Rattle.fb_gen.proofs.Rounds.{first_later, first_within, first_bound}
+use Rattle.fb_plan.proofs.Leasts.{least_none}
 
 -- no number below n passes
 none_from : (test : ℕ → Bool) (a n : ℕ) → ((k : ℕ) → a ≤ k → k < a + n → test k ≡ false) → find test (range_with_len a n) ≡ None
 none_from test a zero each = refl
 none_from test a (suc n) each =
     rw (each a (omega arith) (omega arith)) (none_from test (a + 1) n (λ k low high. each k (omega arith) (omega arith)))
-
-none_below : (n : ℕ) (test : ℕ → Bool) → ((k : ℕ) → k < n → test k ≡ false) → least n test ≡ None
-none_below n test each = none_from test 0 n (λ k low high. each k (omega arith))
 
 no_units_fault : (t u : ℕ) (units : List (List (ℕ × ℕ))) → IsShared t u → length units ≡ u → units_fault units ≡ None
 no_units_fault t u units shared count = let few : length units ≤ most_units = omega (arith, shared.limit) in rw (le-ltb most_units (length units) few) refl
@@ -44,7 +42,7 @@ fine_range n r up within = rw (le-ltb r.1 r.0 up, le-ltb n r.1 within) refl
 
 no_range_fault : (d t u : ℕ) → IsShared t u → range_fault (vertex_count d t) (time_ranges d t u) ≡ None
 no_range_fault d t u shared =
-    ap (option_map _) (none_below (length (time_ranges d t u)) (is_bad_node n (time_ranges d t u))
+    ap (option_map _) (least_none (length (time_ranges d t u)) (is_bad_node n (time_ranges d t u))
     (λ k less. all k [] less))
   where
     n : ℕ
@@ -86,17 +84,17 @@ no_range_fault d t u shared =
 
 no_unowned_fault : (d t u : ℕ) → IsShared t u → unowned_fault (lattice_graph d t) (time_claims d t u) ≡ None
 no_unowned_fault d t u shared =
-    ap (option_map _) (none_below (vertex_count d t) (is_unowned (lattice_graph d t) (time_claims d t u))
+    ap (option_map _) (least_none (vertex_count d t) (is_unowned (lattice_graph d t) (time_claims d t u))
     (λ v below. rw (covered_once d t u v shared below) (and-false (is_real_in (lattice_graph d t) v))))
 
 no_twice_fault : (d t u : ℕ) → IsShared t u → twice_fault (lattice_graph d t) (time_claims d t u) ≡ None
 no_twice_fault d t u shared =
-    ap (option_map _) (none_below (vertex_count d t) (is_owned_twice (lattice_graph d t) (time_claims d t u))
+    ap (option_map _) (least_none (vertex_count d t) (is_owned_twice (lattice_graph d t) (time_claims d t u))
     (λ v below. rw (covered_once d t u v shared below) (and-false (is_real_in (lattice_graph d t) v))))
 
 no_child_fault : (d t u : ℕ) → IsShared t u → child_fault u (time_tree d t u).joins ≡ None
 no_child_fault d t u shared =
-    ap (option_map _) (none_below (length (time_tree d t u).joins) (is_out_of_range u (time_tree d t u).joins)
+    ap (option_map _) (least_none (length (time_tree d t u).joins) (is_out_of_range u (time_tree d t u).joins)
     (λ i less.
     let within : i < length (time_fusions u) = omega (arith, joins_length d t u) in
     let later = fusion_is_later u i within in
@@ -119,7 +117,7 @@ not_named d t u i n shared less here =
 
 no_use_fault : (d t u : ℕ) → IsShared t u → use_fault (time_tree d t u).joins ≡ None
 no_use_fault d t u shared =
-    ap (option_map _) (none_below (length (time_tree d t u).joins) (is_used_twice (time_tree d t u).joins)
+    ap (option_map _) (least_none (length (time_tree d t u).joins) (is_used_twice (time_tree d t u).joins)
     (λ i less.
     let join : ℕ × ℕ = join_at (time_tree d t u).joins i in
     rw (
@@ -133,7 +131,7 @@ no_root_fault t u n shared count = rw (eq-eqb u (n + 1) (omega (arith, length-fu
 
 no_edge_fault : (d t u : ℕ) → IsShared t u → edge_fault (lattice_graph d t) (time_tree d t u) ≡ None
 no_edge_fault d t u shared =
-    ap (option_map _) (none_below (length (lattice_graph d t).edges) (λ e. goes_across (time_tree d t u) (edge_at (lattice_graph d t).edges e))
+    ap (option_map _) (least_none (length (lattice_graph d t).edges) (λ e. goes_across (time_tree d t u) (edge_at (lattice_graph d t).edges e))
     (λ e less. no_edge_across d t u shared e no_edge less))
 
 no_faults : (a b c d e f g h : Option PlanFault) → a ≡ None → b ≡ None → c ≡ None → d ≡ None → e ≡ None → f ≡ None → g ≡ None

@@ -8,7 +8,7 @@ use Rattle.fb_graph.specs.Labelling.{has_boundary, label_of}
 use Rattle.fb_graph.specs.Problem.{Problem}
 use Rattle.fb_graph.proofs.BuildSteps.{range_push}
 
-or_nothing : (a b : Bool) → b ≡ false → (a || b) ≡ a
+pub or_nothing : (a b : Bool) → b ≡ false → (a || b) ≡ a
 or_nothing true b e = refl
 or_nothing false b e = e
 

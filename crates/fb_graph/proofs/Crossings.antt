@@ -157,7 +157,7 @@ crossings_by_cover test nodes e apart only differs =
     (count_by_cover test nodes e.first apart only)
     ∙ ap (λ m. as_count (is_covered_by test nodes e.first) + m) (count_by_cover test nodes e.second apart only)))
 
-name_in : (ns : List Node) (j : ℕ) → j < length ns → is_in (map (λ n. n.name) ns) (node_at ns j).name ≡ true
+pub name_in : (ns : List Node) (j : ℕ) → j < length ns → is_in (map (λ n. n.name) ns) (node_at ns j).name ≡ true
 name_in [] j less = absurd (omega arith)
 name_in (n ∷ ns) zero less = ap (λ b. b || is_in (map (λ m. m.name) ns) n.name) (eq-eqb n.name n.name refl)
 name_in (n ∷ ns) (suc j) less = or_right (n.name == (node_at ns j).name) _ (name_in ns j (omega arith))

@@ -21,10 +21,10 @@ use Rattle.fb_graph.proofs.Matching.{resolving}
 use Rattle.fb_graph.proofs.ClosedComponents.{no_odd_component}
 use Rattle.fb_graph.proofs.OddComponents.{best_has_no_odd, least_is_first_odd}
 
-abbrev edge : ℕ → ℕ → ℕ → Edge
+abbrev pub edge : ℕ → ℕ → ℕ → Edge
 edge u v w = record { first = u; second = v; weight = w }
 
-abbrev cut : ℕ → List ℕ → Cut
+abbrev pub cut : ℕ → List ℕ → Cut
 cut y vs = record { value = y; vertices = vs }
 
 -- whether the vertex is real and has another parity than the defects ask for
@@ -45,14 +45,14 @@ parity_by_cases g defects parity right v real =
 abbrev parity_of : DecodingGraph → List ℕ → ℕ → Bool
 parity_of g chosen v = is_odd_count (λ k. touches v (edge_at g.edges k)) chosen
 
-fits_by_cases : (p : Problem) (cuts : List Cut) → list_all (λ e. leb (load_of cuts e) e.weight) p.edges ≡ true
+pub fits_by_cases : (p : Problem) (cuts : List Cut) → list_all (λ e. leb (load_of cuts e) e.weight) p.edges ≡ true
     → Fits p cuts
 fits_by_cases p cuts right =
     All-weaker (λ e. leb (load_of cuts e) e.weight ≡ true) (λ e. load_of cuts e ≤ e.weight)
     (λ e. leb-true (load_of cuts e) e.weight) p.edges
     (AllPass-from_list_all (λ e. leb (load_of cuts e) e.weight) p.edges right)
 
-below_by_cases : (n : ℕ) (xs : List ℕ) → list_all (λ k. ltb k n) xs ≡ true → All (λ k. k < n) xs
+pub below_by_cases : (n : ℕ) (xs : List ℕ) → list_all (λ k. ltb k n) xs ≡ true → All (λ k. k < n) xs
 below_by_cases n xs right =
     All-weaker (λ k. ltb k n ≡ true) (λ k. k < n) (λ k. ltb-true k n) xs
     (AllPass-from_list_all (λ k. ltb k n) xs right)

@@ -1,14 +1,13 @@
 -- A search that gives each vertex the label of its component: one more vertex, one more edge, one more component.
 use Rattle.std.proofs.Common.{ℕ, ◌+◌, ◌<◌, ◌≤◌, ◌≡◌, ◌≢◌, ◌==◌, ◌⊎◌, ◌||◌, Bool, true, false, cond, List, [], ◌∷◌, ◌++◌, length, take, drop, get_or, set, All, le_refl, le_trans, refl, sym, ap, subst, ◌∙◌, inl, inr, arith, length-set}
 use Rattle.std.specs.List.{range_with_len}
-use Rattle.std.proofs.lemmas.Bool.{false≢true, both_ways, cases_eq, cases_lt, cases_Bool, eq-eqb, eqb-true, ne_eqb, or_cases, or_left, or_right, false_from_ne_true}
+use Rattle.std.proofs.lemmas.Bool.{false≢true, both_ways, cases_eq, cases_lt, cases_Bool, eq-eqb, eqb-true, ne_eqb, or_cases, or_left, or_right}
 use Rattle.std.proofs.lemmas.List.{get_or-set_same, get_or-set_other, get_or_append_left, take-append-le, drop-append-le, take-append-drop, take_all, take_more, drop_all, drop_more, length_push}
 use Rattle.std.proofs.lemmas.List.Elements.{All-from_get_or, All-nil, All-cons, All-append}
 use Rattle.std.proofs.lemmas.List.Folds.{list_any-append}
 use Rattle.std.proofs.lemmas.List.FromFn.{length-range_with_len}
 use Rattle.fb_graph.specs.Parity.{differ, is_in}
 use Rattle.fb_graph.specs.Problem.{Problem, edge_at, no_edge, touches}
-use Rattle.fb_graph.specs.Certificate.{AreDistinct}
 use Rattle.fb_graph.specs.Components.{IsJoined}
 use Rattle.fb_graph.specs.Flooding.{Reached, IsReached, with_vertex, with_ends, Grows, IsSettled, IsFlooding}
 use Rattle.fb_graph.specs.Labelling.{IsLabelling, label_of}
@@ -18,18 +17,16 @@ use Rattle.fb_graph.specs.declared.parts.Edge.{Edge}
 use Rattle.fb_graph.proofs.Ranges.{filter-range_below, is_in-filter-range}
 use Rattle.fb_graph.proofs.Sets.{distinct_from_rising, is_in-All, is_in-cases, is_in-head, is_in-range, is_in-tail, is_in_at, length-le_from_within, range_rises}
 use Rattle.fb_graph.proofs.Walks.{joined_ends, joined_self, joined_sym, joined_trans}
+use Rattle.fb_graph.proofs.Members.{AreDistinct_push, is_in_pushed}
 
 -- lists with one number more
-is_in-left : (xs ys : List ℕ) (u : ℕ) → is_in xs u ≡ true → is_in (xs ++ ys) u ≡ true
+pub is_in-left : (xs ys : List ℕ) (u : ℕ) → is_in xs u ≡ true → is_in (xs ++ ys) u ≡ true
 is_in-left xs ys u within = list_any-append (λ w. w == u) xs ys ∙ or_left (is_in xs u) (is_in ys u) within
 
-is_in-right : (xs ys : List ℕ) (u : ℕ) → is_in ys u ≡ true → is_in (xs ++ ys) u ≡ true
+pub is_in-right : (xs ys : List ℕ) (u : ℕ) → is_in ys u ≡ true → is_in (xs ++ ys) u ≡ true
 is_in-right xs ys u within = list_any-append (λ w. w == u) xs ys ∙ or_right (is_in xs u) (is_in ys u) within
 
-is_in-last : (xs : List ℕ) (v : ℕ) → is_in (xs ++ v ∷ []) v ≡ true
-is_in-last xs v = is_in-right xs (v ∷ []) v (is_in-head v [])
-
-is_in-both : (xs ys : List ℕ) (u : ℕ) → is_in (xs ++ ys) u ≡ true → (is_in xs u ≡ true) ⊎ (is_in ys u ≡ true)
+pub is_in-both : (xs ys : List ℕ) (u : ℕ) → is_in (xs ++ ys) u ≡ true → (is_in xs u ≡ true) ⊎ (is_in ys u ≡ true)
 is_in-both xs ys u within = or_cases (is_in xs u) (is_in ys u) (sym (list_any-append (λ w. w == u) xs ys) ∙ within)
 
 is_in-push : (xs : List ℕ) (v u : ℕ) → is_in (xs ++ v ∷ []) u ≡ true → (is_in xs u ≡ true) ⊎ (v ≡ u)
@@ -53,18 +50,6 @@ is_in-drop : (n : ℕ) (xs : List ℕ) (u : ℕ) → is_in (drop n xs) u ≡ tru
 is_in-drop n xs u within =
     sym (ap (λ ys. is_in ys u) (take-append-drop n xs)) ∙ is_in-right (take n xs) (drop n xs) u within
 
-distinct-push : (xs : List ℕ) (v : ℕ) → AreDistinct xs → is_in xs v ≡ false → AreDistinct (xs ++ v ∷ [])
-distinct-push [] v distinct absent = (refl, tt)
-distinct-push (x ∷ xs) v distinct absent = (
-  false_from_ne_true (is_in (xs ++ v ∷ []) x) (λ within. step (is_in-push xs v x within)),
-  distinct-push xs v distinct.1
-      (false_from_ne_true (is_in xs v) (λ within. both_ways (is_in (x ∷ xs) v) absent (is_in-tail x xs v within))),
-)
-  where
-    step : (is_in xs x ≡ true) ⊎ (v ≡ x) → ⊥
-    step (inl within) = both_ways (is_in xs x) distinct.0 within
-    step (inr same) = both_ways (is_in (x ∷ xs) v) absent (ap (is_in (x ∷ xs)) same ∙ is_in-head x xs)
-
 -- the order is no longer than there are vertices
 pub length-order : (labels : List ℕ) (flags : List Bool) (order : List ℕ) → IsReached labels flags order
     → length order ≤ length labels
@@ -83,7 +68,7 @@ pub reached_more : (labels : List ℕ) (flags : List Bool) (order : List ℕ) (v
 reached_more labels flags order v label known below absent = record {
   count = length-set flags v true ∙ (known.count ∙ sym (length-set labels v label));
   each = λ u less. step u (subst (λ n. u < n) (length-set labels v label) less) (cases_eq u v);
-  distinct = distinct-push order v known.distinct absent;
+  distinct = AreDistinct_push order v known.distinct absent;
   below =
       subst (λ n. All (λ u. u < n) (order ++ v ∷ [])) (sym (length-set labels v label))
       (All-append (λ u. u < length labels) order (v ∷ []) known.below
@@ -98,7 +83,7 @@ reached_more labels flags order v label known below absent = record {
     step u less (inl same) =
         ap (λ w. get_or (set flags v true) w false) same
         ∙ (get_or-set_same flags v true false (omega (arith, known.count))
-        ∙ sym (ap (is_in (order ++ v ∷ [])) same ∙ is_in-last order v))
+        ∙ sym (ap (is_in (order ++ v ∷ [])) same ∙ is_in_pushed order v))
     step u less (inr other) =
         get_or-set_other flags v u true false other
         ∙ (known.each u less
@@ -159,7 +144,7 @@ pub is_in-with_vertex : (s : Reached) (v label : ℕ) → is_in (with_vertex s v
 is_in-with_vertex s v label =
     elim (cases_Bool (is_in s.order v)) [
       | inl within ↦ ap (λ t. is_in t.order v) (reached_before s v label within) ∙ within
-      | inr absent ↦ ap (λ t. is_in t.order v) (reached_new s v label absent) ∙ is_in-last s.order v
+      | inr absent ↦ ap (λ t. is_in t.order v) (reached_new s v label absent) ∙ is_in_pushed s.order v
     ]
 
 settled_grows : (s t : Reached) (e : Edge) → Grows s t → IsSettled s e → IsSettled t e

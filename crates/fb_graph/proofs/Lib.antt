@@ -1,6 +1,7 @@
 pub mod Among
 pub mod AppendedNodes
 pub mod BeginningNests
+pub mod Booleans
 pub mod Boundaries
 pub mod BuildSteps
 pub mod CancelledPairs

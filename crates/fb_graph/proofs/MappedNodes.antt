@@ -29,7 +29,7 @@ mapped_outer f same ns x = ap not (by ns)
     by [] = refl
     by (m ∷ ms) = ap (λ l. is_in l x || list_any (λ n. is_in n.children x) (map f ms)) (same m) ∙ ap (λ b. is_in m.children x || b) (by ms)
 
-mapped_live : (f : Node → Node) → ((n : Node) → (f n).name ≡ n.name) → (ns : List Node) (x : ℕ) → is_live (map f ns) x ≡ is_live ns x
+pub mapped_live : (f : Node → Node) → ((n : Node) → (f n).name ≡ n.name) → (ns : List Node) (x : ℕ) → is_live (map f ns) x ≡ is_live ns x
 mapped_live f same [] x = refl
 mapped_live f same (n ∷ ns) x = ap (λ y. (y == x) || is_live (map f ns) x) (same n) ∙ ap (λ b. (n.name == x) || b) (mapped_live f same ns x)
 

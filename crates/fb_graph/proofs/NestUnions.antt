@@ -76,7 +76,7 @@ own_right left right nodes others parted one v real =
     (false_from_ne_true (is_in (leaves nodes) v)
     (λ leaf. both_ways (right.is_real v) (parted v (leaf_real left nodes v one.dual leaf)) real))
 
-some_name : (o : Option ℕ) → IsSome o → (m : ℕ) × (o ≡ Some m)
+pub some_name : (o : Option ℕ) → IsSome o → (m : ℕ) × (o ≡ Some m)
 some_name None some = absurd (false≢true some)
 some_name (Some m) some = (m, refl)
 

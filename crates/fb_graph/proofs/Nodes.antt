@@ -21,11 +21,11 @@ All-flat_map {X} P f (x ∷ xs) h =
     let Q : X → Type 0 = λ y. All P (f y) in
     All-append P (f x) (flat_map f xs) (All-head Q x xs h) (All-flat_map P f xs (All-tail Q x xs h))
 
-All-left : {Y : Type 0} (P : Y → Type 0) (ys zs : List Y) → All P (ys ++ zs) → All P ys
+pub All-left : {Y : Type 0} (P : Y → Type 0) (ys zs : List Y) → All P (ys ++ zs) → All P ys
 All-left P [] zs h = All-nil P
 All-left P (y ∷ ys) zs h = All-cons P y ys (All-head P y (ys ++ zs) h) (All-left P ys zs (All-tail P y (ys ++ zs) h))
 
-All-right : {Y : Type 0} (P : Y → Type 0) (ys zs : List Y) → All P (ys ++ zs) → All P zs
+pub All-right : {Y : Type 0} (P : Y → Type 0) (ys zs : List Y) → All P (ys ++ zs) → All P zs
 All-right P [] zs h = h
 All-right P (y ∷ ys) zs h = All-right P ys zs (All-tail P y (ys ++ zs) h)
 

@@ -1,7 +1,7 @@
 -- The vertices of one label are a component, so that the first odd component is found by its label.
-use Rattle.std.proofs.Common.{ℕ, ◌<◌, ◌≤◌, ◌≡◌, ◌==◌, ◌⊎◌, ◌&&◌, Bool, true, false, not, nat_lt, List, [], ◌∷◌, length, map, get_or, filter, Option, Some, None, IfNone, refl, sym, ap, subst, ◌∙◌, inl, inr, arith}
+use Rattle.std.proofs.Common.{ℕ, ◌<◌, ◌≤◌, ◌≡◌, ◌==◌, ◌⊎◌, ◌&&◌, Bool, true, false, not, List, [], ◌∷◌, length, map, get_or, filter, Option, Some, None, IfNone, refl, sym, ap, subst, ◌∙◌, inl, inr, arith}
 use Rattle.std.specs.List.{range_with_len}
-use Rattle.std.proofs.lemmas.Bool.{false≢true, both_ways, eq-eqb, eqb-true, lt-ltb, ltb-true, and_from, and_parts, not-true, not_from_false, false_from_ne_true}
+use Rattle.std.proofs.lemmas.Bool.{false≢true, both_ways, eq-eqb, eqb-true, and_from, and_parts, not-true, not_from_false, false_from_ne_true}
 use Rattle.std.proofs.lemmas.List.Folds.{list_any_none}
 use Rattle.fb_graph.specs.Parity.{is_odd_count, is_in}
 use Rattle.fb_graph.specs.Problem.{Problem, edge_at, no_edge, with_defects}
@@ -27,7 +27,7 @@ is_in-map f (x ∷ xs) u within = step (is_in-cases x xs u within) (is_in-map f 
     step (inl same) rest = ap (λ y. is_in (f x ∷ map f xs) (f y)) (sym same) ∙ is_in-head (f x) (map f xs)
     step (inr later) rest = is_in-tail (f x) (map f xs) (f u) (rest later)
 
-member_of_map : (f : ℕ → ℕ) (xs : List ℕ) (y : ℕ) → is_in (map f xs) y ≡ true → (x : ℕ) × (is_in xs x ≡ true) × (f x ≡ y)
+pub member_of_map : (f : ℕ → ℕ) (xs : List ℕ) (y : ℕ) → is_in (map f xs) y ≡ true → (x : ℕ) × (is_in xs x ≡ true) × (f x ≡ y)
 member_of_map f [] y within = absurd (false≢true within)
 member_of_map f (x ∷ xs) y within = step (is_in-cases (f x) (map f xs) y within) (member_of_map f xs y)
   where

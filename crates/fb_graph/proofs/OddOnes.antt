@@ -25,7 +25,7 @@ and_equal test j k = step (j == k) refl
     step true e = rw e (and-true (test k) ∙ ap test (sym (eqb-true j k e)))
     step false e = rw e (and-false (test k))
 
-range_distinct : (n : ℕ) → AreDistinct (range_with_len 0 n)
+pub range_distinct : (n : ℕ) → AreDistinct (range_with_len 0 n)
 range_distinct n = distinct_from_rising (range_with_len 0 n) (range_rises 0 n)
 
 -- of the numbers below n just j is j

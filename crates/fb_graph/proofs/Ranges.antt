@@ -10,6 +10,7 @@ use Rattle.std.proofs.lemmas.List.FromFn.{get_or-range_with_len, length-range_wi
 use Rattle.std.proofs.lemmas.List.Kept.{IsStrictlyIncreasing-filter}
 use Rattle.fb_graph.specs.Parity.{is_in}
 use Rattle.fb_graph.proofs.BuildSteps.{range_more}
+use Rattle.fb_graph.proofs.Members.{or_false}
 
 -- tests that agree below n keep the same numbers
 pub filter-range_same : (p q : ℕ → Bool) (n : ℕ) → ((k : ℕ) → k < n → p k ≡ q k)
@@ -46,12 +47,8 @@ pub not_in_below : (xs : List ℕ) (n : ℕ) → All (λ v. v < n) xs → is_in 
 not_in_below xs n below =
     list_any_none (λ u. eqb u n) xs (λ k d lt. ne_eqb (get_or xs k d) n (λ e. absurd (omega (arith, below k d lt))))
 
-or_nothing : (b : Bool) → (b || false) ≡ b
-or_nothing true = refl
-or_nothing false = refl
-
 is_in-one : (b : Bool) (n v : ℕ) → is_in (cond b (n ∷ []) []) v ≡ cond b (eqb n v) false
-is_in-one true n v = or_nothing (eqb n v)
+is_in-one true n v = or_false (eqb n v)
 is_in-one false n v = refl
 
 -- the kept numbers are those that pass
@@ -72,7 +69,7 @@ is_in-filter-range p (suc n) v lt =
       | inr other ↦
           ap (λ b. is_in (filter p (range_with_len 0 n)) v || cond (p n) b false) (ne_eqb n v other)
           ∙ ap (λ b. is_in (filter p (range_with_len 0 n)) v || b) (cond-same (p n))
-          ∙ or_nothing (is_in (filter p (range_with_len 0 n)) v)
+          ∙ or_false (is_in (filter p (range_with_len 0 n)) v)
           ∙ is_in-filter-range p n v (let ne : ◌≢◌ n v = other in omega arith)
     ]
   where

@@ -17,6 +17,7 @@ use Rattle.fb_graph.proofs.Among.{IsAmong, All_among, among_All, among_live, amo
 use Rattle.fb_graph.proofs.InsertedCuts.{AreFit, sources_same}
 use Rattle.fb_graph.proofs.NestParts.{fit_of, nest_of, names_live}
 use Rattle.fb_graph.proofs.Sets.{is_in-All, is_in-cases, is_in-head, is_in-tail}
+use Rattle.fb_graph.proofs.OddLabels.{member_of_map}
 
 -- members of a list under other names
 pub in_renamed : (f : ℕ → ℕ) (xs : List ℕ) (x : ℕ) → is_in xs x ≡ true → is_in (map f xs) (f x) ≡ true
@@ -26,15 +27,6 @@ in_renamed f (y ∷ ys) x within = step (is_in-cases y ys x within) (in_renamed 
     step : (y ≡ x) ⊎ (is_in ys x ≡ true) → (is_in ys x ≡ true → is_in (map f ys) (f x) ≡ true) → is_in (f y ∷ map f ys) (f x) ≡ true
     step (inl same) rest = subst (λ z. is_in (f y ∷ map f ys) (f z) ≡ true) same (is_in-head (f y) (map f ys))
     step (inr there) rest = is_in-tail (f y) (map f ys) (f x) (rest there)
-
-pub from_renamed : (f : ℕ → ℕ) (xs : List ℕ) (z : ℕ) → is_in (map f xs) z ≡ true → (x : ℕ) × (is_in xs x ≡ true) × (f x ≡ z)
-from_renamed f [] z within = absurd (false≢true within)
-from_renamed f (y ∷ ys) z within = step (is_in-cases (f y) (map f ys) z within) (from_renamed f ys z)
-  where
-    step : (f y ≡ z) ⊎ (is_in (map f ys) z ≡ true) → (is_in (map f ys) z ≡ true → (x : ℕ) × (is_in ys x ≡ true) × (f x ≡ z))
-        → (x : ℕ) × (is_in (y ∷ ys) x ≡ true) × (f x ≡ z)
-    step (inl same) rest = (y, is_in-head y ys, same)
-    step (inr there) rest = let (x, among, e) = rest there in (x, is_in-tail y ys x among, e)
 
 -- a name is in the list under its new name only if it was before
 pub same_renamed : (f : ℕ → ℕ) (xs : List ℕ) (x : ℕ) → ((y : ℕ) → is_in xs y ≡ true → f y ≡ f x → y ≡ x)
@@ -46,7 +38,7 @@ same_renamed f xs x once = step (cases_Bool (is_in xs x))
     step (inr out) =
         false_from_ne_true (is_in (map f xs) (f x))
         (λ h.
-        let (y, among, e) = from_renamed f xs (f x) h in
+        let (y, among, e) = member_of_map f xs (f x) h in
         both_ways (is_in xs x) out (ap (is_in xs) (sym (once y among e)) ∙ among))
         ∙ sym out
 
@@ -167,7 +159,7 @@ module _ (p : Problem) (nodes : List Node) (f : ℕ → ℕ) (once : AreRenamedA
     All-map (λ m. AreApart (map f n.children) m.children) (renamed_node f) ns
         (among_All (λ m. AreApart (map f n.children) (map f m.children)) ns
         (λ m a z within.
-        let (x, among, e) = from_renamed f n.children z within in
+        let (x, among, e) = member_of_map f n.children z within in
         ap (is_in (map f m.children)) (sym e)
         ∙ (child_same m (some m (inr a)) x (child_live n (some n (inl refl)) x among)
         ∙ All_among (λ y. AreApart n.children y.children) ns joined.1 m a x among))),

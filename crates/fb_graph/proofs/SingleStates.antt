@@ -33,7 +33,7 @@ pub names_are : (singles : List Single) → map (λ n. n.name) (nodes_of singles
 names_are [] = refl
 names_are (s ∷ ss) = ap (λ l. s.name ∷ l) (names_are ss)
 
-all_outer : (singles : List Single) (name : ℕ) → is_outer (nodes_of singles) name ≡ true
+pub all_outer : (singles : List Single) (name : ℕ) → is_outer (nodes_of singles) name ≡ true
 all_outer singles name = ap not (none singles)
   where
     none : (ss : List Single) → list_any (λ n. is_in n.children name) (nodes_of ss) ≡ false

@@ -66,7 +66,7 @@ pairs_stepped : (R : List ℕ → List ℕ → Type 0) (roles : Roles) (k : ℕ)
 pairs_stepped R roles k ns h =
     from_sets R (all_cuts (stepped_nodes roles k ns)) (subst (AllPairs R) (sym (same_cut_sets roles k ns)) (to_sets R (all_cuts ns) h))
 
-first_stepped : (roles : Roles) (k : ℕ) (n : Node) → first_set (stepped_node roles k n) ≡ first_set n
+pub first_stepped : (roles : Roles) (k : ℕ) (n : Node) → first_set (stepped_node roles k n) ≡ first_set n
 first_stepped roles k n = by n.below
   where
     by : (below : List Cut) → first_vertices (below ++ (stepped_node roles k n).top ∷ []) ≡ first_vertices (below ++ n.top ∷ [])

@@ -1,5 +1,5 @@
 -- A node with a vertex more leaves the loads, the potentials and the nodes over all other vertices as they were.
-use Rattle.std.proofs.Common.{ℕ, ◌≡◌, ◌+◌, ◌%◌, ◌<◌, ◌==◌, ◌&&◌, ◌||◌, ◌⊎◌, not, Bool, true, false, cond, List, ◌∷◌, ◌++◌, Option, Some, refl, sym, ap, ◌∙◌, arith, []}
+use Rattle.std.proofs.Common.{ℕ, ◌≡◌, ◌+◌, ◌==◌, ◌&&◌, ◌||◌, not, Bool, true, false, cond, List, ◌∷◌, ◌++◌, Option, Some, refl, sym, ap, ◌∙◌, arith, []}
 use Rattle.std.specs.List.{find, list_any}
 use Rattle.std.specs.Option.{option_map}
 use Rattle.std.proofs.lemmas.Bool.{both_ways, eqb-true, false_from_ne_true}

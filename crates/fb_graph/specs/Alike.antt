@@ -1,5 +1,5 @@
 -- States with the same defects, loads and potentials. A vertex absorbed, or an empty layer taken off, leads from one to the other.
-use Rattle.std.specs.Prelude.{ℕ, ◌≡◌, ◌==◌, ◌&&◌, ◌<◌, true, false, List, ◌∷◌, Some, None, if◌then◌else◌}
+use Rattle.std.specs.Prelude.{ℕ, ◌≡◌, ◌==◌, true, false, List, Some, None}
 use Rattle.fb_graph.specs.Parity.{is_in}
 use Rattle.fb_graph.specs.Certificate.{load_of}
 use Rattle.fb_graph.specs.Dual.{Node, all_cuts, leaves, cover_of, height_of, is_live, is_outer, change_at, taller_node}

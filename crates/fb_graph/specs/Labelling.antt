@@ -1,7 +1,7 @@
 -- How the components of a problem are told apart: the label of a vertex is the least vertex of its component.
-use Rattle.std.specs.Prelude.{ℕ, ◌≡◌, ◌<◌, ◌≤◌, ◌==◌, ◌&&◌, Bool, true, false, not, List, [], length, map, get_or, filter, All}
+use Rattle.std.specs.Prelude.{ℕ, ◌≡◌, ◌<◌, ◌≤◌, ◌==◌, ◌&&◌, Bool, true, false, not, List, length, map, get_or, filter, All}
 use Rattle.std.specs.List.{range_with_len, list_any}
-use Rattle.fb_graph.specs.Parity.{is_odd_count, is_in}
+use Rattle.fb_graph.specs.Parity.{is_odd_count}
 use Rattle.fb_graph.specs.Components.{IsJoined}
 use Rattle.fb_graph.specs.Limits.{IsWithinLimits}
 use Rattle.fb_graph.specs.Problem.{Problem}

@@ -14,7 +14,7 @@ use Rattle.fb_graph.specs.declared.parts.Edge.{Edge}
 use Rattle.fb_graph.specs.RenamedNodes.{renamed_nodes}
 use Rattle.fb_graph.proofs.Among.{IsAmong}
 use Rattle.fb_graph.proofs.Members.{is_in-append}
-use Rattle.fb_graph.proofs.RenamedNodes.{distinct_renamed, from_renamed, in_renamed}
+use Rattle.fb_graph.proofs.RenamedNodes.{distinct_renamed, in_renamed}
 use Rattle.fb_graph.proofs.Sets.{is_in-head, is_in-tail}
 use Rattle.fb_graph.proofs.Unions.{distinct_append}
 use Rattle.fb_laws.proofs.OpenedBlossoms.{distinct_permuted, same_permuted}
@@ -28,10 +28,11 @@ use Rattle.fb_half.specs.Matchings.{match_links}
 use Rattle.fb_half.specs.Merged.{renamed_match}
 use Rattle.fb_half.specs.Parts.{AreLinksOf, AreStepsOf}
 use Rattle.fb_half.specs.Translations.{link_by, link_of, ring_at, ring_links}
-use Rattle.fb_half.proofs.BesideNodes.{same_bool}
-use Rattle.fb_half.proofs.FlatPermutations.{pieces_swapped}
-use Rattle.fb_half.proofs.FreedMatches.{Table}
 use Rattle.fb_half.proofs.AddedSingles.{Store}
+use Rattle.fb_graph.proofs.Booleans.{same_bool}
+use Rattle.fb_graph.proofs.OddLabels.{member_of_map}
+use Rattle.fb_laws.proofs.OpenedCycles.{swapped}
+use Rattle.fb_links.proofs.MovedLinks.{Table}
 
 -- a walk of a part is one of a whole in which no fewer vertices are real
 pub steps_widened : (part whole : Problem) → part.edges ≡ whole.edges → ((v : ℕ) → part.is_real v ≡ true → whole.is_real v ≡ true)
@@ -72,13 +73,6 @@ rings_renamed f g (n ∷ ns) old new same =
     ∙ (ap (λ l. map g (ring_at old n.name) ++ l) (rings_renamed f g ns old new (λ m a. same m (inr a)))
     ∙ sym (map-append g (ring_at old n.name) (ring_links ns old)))
 
--- the second and the third of four pieces exchanged
-pub pieces_crossed : {X : Type 0} (ws xs ys zs : List X) → IsPermutation ((ws ++ xs) ++ (ys ++ zs)) ((ws ++ ys) ++ (xs ++ zs))
-pieces_crossed ws xs ys zs =
-    subst (λ l. IsPermutation l ((ws ++ ys) ++ (xs ++ zs))) (sym (append_assoc ws xs (ys ++ zs)))
-    (subst (IsPermutation (ws ++ (xs ++ (ys ++ zs)))) (sym (append_assoc ws ys (xs ++ zs)))
-    (IsPermutation-append_right ws (xs ++ (ys ++ zs)) (ys ++ (xs ++ zs)) (pieces_swapped xs ys zs)))
-
 module _ (first second table : Table) (pairs : List (ℕ × ℕ)) (both : AreMerged first second pairs table) where
   abbrev pub link : ℕ → ℕ
   link = name_by pairs
@@ -99,7 +93,7 @@ module _ (first second table : Table) (pairs : List (ℕ × ℕ)) (both : AreMer
     apart id within =
         false_from_ne_true (is_in (map link two) id)
         (λ h.
-        let (a, there, named) = from_renamed link two id h in
+        let (a, there, named) = member_of_map link two id h in
         both_ways (is_live first id)
         (ap (is_live first) (sym named) ∙ ap is_some (right_renamed first second pairs table both a (live_two a ∙ there)).fresh)
         (live_one id ∙ within))
@@ -126,7 +120,7 @@ module _ (first second table : Table) (pairs : List (ℕ × ℕ)) (both : AreMer
         back : (is_in one id ≡ true) ⊎ (is_in (map link two) id ≡ true) → is_live table id ≡ true
         back (inl h) = let live : is_live first id ≡ true = live_one id ∙ h in ap is_some (stays id live) ∙ live
         back (inr h) =
-            let (old, there, named) = from_renamed link two id h in
+            let (old, there, named) = member_of_map link two id h in
             let live : is_live second old ≡ true = live_two old ∙ there in
             ap (is_live table) (sym named) ∙ (ap is_some (moved old live) ∙ live)
 

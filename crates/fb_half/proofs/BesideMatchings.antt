@@ -17,7 +17,7 @@ use Rattle.fb_graph.proofs.Among.{IsAmong, All_among, among_All, among_left, amo
 use Rattle.fb_graph.proofs.AppendedNodes.{outer_both, outer_in}
 use Rattle.fb_graph.proofs.Forests.{absent_outer}
 use Rattle.fb_graph.proofs.Members.{is_in-append}
-use Rattle.fb_graph.proofs.RenamedNodes.{cover_same, distinct_renamed, from_renamed, in_renamed, nest_renamed, outer_same, still_live}
+use Rattle.fb_graph.proofs.RenamedNodes.{cover_same, distinct_renamed, in_renamed, nest_renamed, outer_same, still_live}
 use Rattle.fb_graph.proofs.Unions.{distinct_append}
 use Rattle.fb_laws.specs.FusedStates.{without_seam}
 use Rattle.fb_laws.specs.Fusion.{IsLinkOf}
@@ -26,7 +26,8 @@ use Rattle.fb_half.specs.declared.matches.Match.{Match}
 use Rattle.fb_half.specs.Matchings.{IsMatchOf, IsMatchingOf, MatchingValue, listed_names, matched_names, names_of, second_name}
 use Rattle.fb_half.specs.Merged.{renamed_match, renamed_second}
 use Rattle.fb_half.specs.Translations.{link_by}
-use Rattle.fb_half.proofs.FreedMatches.{Table}
+use Rattle.fb_graph.proofs.OddLabels.{member_of_map}
+use Rattle.fb_links.proofs.MovedLinks.{Table}
 
 pub names_renamed : (g f : ℕ → ℕ) (ms : List Match) → matched_names (map (renamed_match g f) ms) ≡ map f (matched_names ms)
 names_renamed g f [] = refl
@@ -133,7 +134,7 @@ module _ (p q whole : Problem) (left right : List Node) (f : ℕ → ℕ) (parts
     away x h =
         false_from_ne_true (is_in (map f theirs) x)
         (λ k.
-        let (a, within, named) = from_renamed f theirs x k in
+        let (a, within, named) = member_of_map f theirs x k in
         both_ways (is_live left x) (not_left x (ap (is_live others) (sym named) ∙ new_live a (theirs_live a within).0)) (mine_live x h).0)
 
     pub listed_beside : AreDistinct (mine ++ map f theirs)
@@ -186,7 +187,7 @@ module _ (p q whole : Problem) (left right : List Node) (f : ℕ → ℕ) (parts
             let (lives, outer) = mine_live x h in
             (live_both x ∙ or_left (is_live left x) (is_live others x) lives, outer_left x lives outer)
         live x (inr h) =
-            let (a, within, named) = from_renamed f theirs x h in
+            let (a, within, named) = member_of_map f theirs x h in
             let (lives, outer) = theirs_live a within in
             let here_too : is_live others x ≡ true = ap (is_live others) (sym named) ∙ new_live a lives in (
               live_both x ∙ or_right (is_live left x) (is_live others x) here_too,

@@ -15,11 +15,7 @@ use Rattle.fb_regions.specs.Merged.{AreNewNames}
 use Rattle.fb_half.specs.Parts.{AreAgreed}
 use Rattle.fb_half.specs.Translations.{children_at, ring_at}
 use Rattle.fb_half.proofs.AddedSingles.{Store}
-
-pub same_bool : (a b : Bool) → (a ≡ true → b ≡ true) → (b ≡ true → a ≡ true) → a ≡ b
-same_bool true b there back = sym (there refl)
-same_bool false true there back = back refl
-same_bool false false there back = refl
+use Rattle.fb_graph.proofs.Booleans.{same_bool}
 
 cycle_renamed : (f g : ℕ → ℕ) (o : Option blossoms.Node)
     → blossoms.cycle_of (option_map (merged.renamed_node f g) o) ≡ merged.renamed_cycle f g (blossoms.cycle_of o)

@@ -4,24 +4,18 @@ use Rattle.std.proofs.Math.ListN.{set}
 use Rattle.std.specs.List.{swap}
 use Rattle.std.specs.List.Sorted.{IsPermutation}
 use Rattle.std.proofs.lemmas.List.Sorted.{IsPermutation-append_comm, IsPermutation-append_left, IsPermutation-append_right, IsPermutation-keeps, IsPermutation-refl, IsPermutation-trans}
-
--- the first of three pieces goes behind the second
-pub pieces_swapped : {Y : Type 0} (xs ys zs : List Y) → IsPermutation (xs ++ (ys ++ zs)) (ys ++ (xs ++ zs))
-pieces_swapped xs ys zs =
-    subst (λ l. IsPermutation l (ys ++ (xs ++ zs))) (append_assoc xs ys zs)
-    (subst (IsPermutation ((xs ++ ys) ++ zs)) (append_assoc ys xs zs)
-    (IsPermutation-append_left zs (xs ++ ys) (ys ++ xs) (IsPermutation-append_comm xs ys)))
+use Rattle.fb_laws.proofs.OpenedCycles.{swapped}
 
 module _ {X Y : Type 0} (f : X → List Y) where
   -- an element takes the place of another
   flat_replaced : (xs : List X) (i : ℕ) (v d : X) → i < length xs
       → IsPermutation (f v ++ flat_map f xs) (f (get_or xs i d) ++ flat_map f (set xs i v))
   flat_replaced [] i v d less = absurd (omega (arith, less))
-  flat_replaced (x ∷ xs) zero v d less = pieces_swapped (f v) (f x) (flat_map f xs)
+  flat_replaced (x ∷ xs) zero v d less = swapped (f v) (f x) (flat_map f xs)
   flat_replaced (x ∷ xs) (suc i) v d less =
-      IsPermutation-trans _ _ _ (pieces_swapped (f v) (f x) (flat_map f xs))
+      IsPermutation-trans _ _ _ (swapped (f v) (f x) (flat_map f xs))
       (IsPermutation-trans _ _ _ (IsPermutation-append_right (f x) _ _ (flat_replaced xs i v d (omega (arith, less))))
-      (pieces_swapped (f x) (f (get_or xs i d)) (flat_map f (set xs i v))))
+      (swapped (f x) (f (get_or xs i d)) (flat_map f (set xs i v))))
 
   flat_exchanged : (xs : List X) (i j : ℕ) (d : X) → i < length xs → j < length xs
       → IsPermutation (flat_map f xs) (flat_map f (set (set xs i (get_or xs j d)) j (get_or xs i d)))

@@ -13,7 +13,7 @@ use Rattle.fb_graph.proofs.Members.{is_in-append}
 use Rattle.fb_graph.proofs.Sets.{is_in-cases, is_in-head, is_in-tail}
 use Rattle.fb_laws.proofs.MergedParts.{distinct_across}
 use Rattle.fb_laws.proofs.OpenedBlossoms.{distinct_permuted, same_permuted}
-use Rattle.fb_laws.proofs.TreePaths.{distinct_left, distinct_right}
+use Rattle.fb_laws.proofs.TreePaths.{distinct_right}
 use Rattle.fb_links.specs.declared.walk.Step.{Step}
 use Rattle.fb_links.specs.Table.{Removes, is_live, link_at}
 use Rattle.fb_half.specs.declared.matches.Match.{Match}
@@ -21,9 +21,8 @@ use Rattle.fb_half.specs.InternalSeams.{IsFreed}
 use Rattle.fb_half.specs.InternalStandings.{no_match}
 use Rattle.fb_half.specs.Matchings.{MatchingValue, listed_names, match_links, matched_names, names_of}
 use Rattle.fb_half.proofs.FlatPermutations.{flat_permuted}
-
-abbrev pub Table : Type 0
-Table = List (Option (List Step))
+use Rattle.fb_links.proofs.MovedLinks.{Table}
+use Rattle.fb_laws.proofs.NestOrders.{distinct_left}
 
 abbrev pub firsts : List Match → List ℕ
 firsts ms = map (λ m. m.first) ms

@@ -33,21 +33,19 @@ use Rattle.fb_half.proofs.Begun.{live_leaves, single_names, single_nodes, single
 use Rattle.fb_half.proofs.BegunParts.{kept_real, same_function, single_real}
 use Rattle.fb_half.proofs.BesideLinks.{link_left, link_right, links_moved, links_same}
 use Rattle.fb_half.proofs.BesideNodes.{ring_left, ring_right}
-use Rattle.fb_half.proofs.FreedMatches.{Table, firsts}
+use Rattle.fb_half.proofs.FreedMatches.{firsts}
 use Rattle.fb_half.proofs.MergedHalves.{before, links_are, middle, middle_part, name, link, names_apart, names_own, node_below, p, parts, q, real_covered, same_part, seam_real, seam_unreal, whole, whole_limits}
 use Rattle.fb_half.proofs.SeamedLinks.{agreed_seamed, cycles_stay, in_rings, links_seamed, not_own}
 use Rattle.fb_half.proofs.SeamedMatchings.{freed_are, freed_list, freed_names_are, links_split, matching_seamed, rest, rest_elsewhere, taken}
 use Rattle.fb_half.proofs.AddedSingles.{Store}
+use Rattle.fb_links.proofs.MovedLinks.{Table}
+use Rattle.fb_graph.proofs.ParitySums.{and-true}
 
 same_state : (s t : PartState) → s.nodes ≡ t.nodes → s.cycles ≡ t.cycles → s.matches ≡ t.matches → s.unmatched ≡ t.unmatched → s ≡ t
 same_state s t nodes cycles matches unmatched =
     ap (λ x. record s { nodes = x }) nodes
     ∙ (ap (λ x. record s { nodes = t.nodes; cycles = x }) cycles
     ∙ (ap (λ x. record s { nodes = t.nodes; cycles = t.cycles; matches = x }) matches ∙ ap (λ x. record t { unmatched = x }) unmatched))
-
-and_true : (b : Bool) → (b && true) ≡ b
-and_true true = refl
-and_true false = refl
 
 module _ (left right : PartValue) (n : ℕ) (limits : IsWithinLimits (problem_at left.job.graph left.job.plan n no_shot))
     (children : children_of left.job.plan n ≡ Some (left.node, right.node)) (one : IsPart left)
@@ -148,7 +146,7 @@ module _ (left right : PartValue) (n : ℕ) (limits : IsWithinLimits (problem_at
       bare = single_values own defects;
       defects = λ v seam.
           sym (ap (λ l. is_in l v) vertices_are
-          ∙ (is_in-filter owned (shot_of left).defects v ∙ (ap (λ c. is_in (shot_of left).defects v && c) seam ∙ and_true (is_in (shot_of left).defects v))));
+          ∙ (is_in-filter owned (shot_of left).defects v ∙ (ap (λ c. is_in (shot_of left).defects v && c) seam ∙ and-true (is_in (shot_of left).defects v))));
     }
 
     further : AreFurther fused w.nodes singles

@@ -24,10 +24,11 @@ use Rattle.fb_half.specs.Parts.{IsPart, PartValue, kept_links}
 use Rattle.fb_half.specs.Translations.{link_by, ring_links}
 use Rattle.fb_half.proofs.BesideLinks.{link_left, link_right, links_renamed, moved, stays}
 use Rattle.fb_half.proofs.FlatPermutations.{flat_permuted}
-use Rattle.fb_half.proofs.FreedMatches.{Table, among_filter, firsts, link_in}
+use Rattle.fb_half.proofs.FreedMatches.{among_filter, firsts, link_in}
 use Rattle.fb_half.proofs.MergedHalves.{before, link, live_left, live_right, name, rings_are}
 use Rattle.fb_half.proofs.SeamedLinks.{link_stays, stays_off}
 use Rattle.fb_half.proofs.AddedSingles.{Store}
+use Rattle.fb_links.proofs.MovedLinks.{Table}
 
 one_or_none : {X : Type 0} → (X → Bool) → X → List X
 one_or_none test x = cond (test x) (x ∷ []) []

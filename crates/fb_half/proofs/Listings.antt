@@ -15,6 +15,7 @@ use Rattle.fb_half.proofs.Changes.{kept_cut, kept_swapped, pushed, taken_last, t
 use Rattle.fb_half.proofs.Tables.{table_kept}
 use Rattle.fb_half.proofs.Taken.{moved_below, moved_from, swap_removed}
 use Rattle.fb_half.proofs.Lookups.{in_at, listed_matched, listed_unmatched, place_in, within_table}
+use Rattle.fb_graph.proofs.Sets.{All-from_is_in, is_in-All}
 
 -- a table whose entries are the same
 pub same_entries : (matches : List Match) (names : List ℕ) (table new_table : List Standing) → AreStanding matches names table
@@ -67,14 +68,6 @@ unmatched_added matches names table new_table name are fresh new = record {
       (λ k i h e. not_unmatched matches names table name are fresh i (ap (standing_of table) (eqb-true name k h) ∙ e));
 }
 
--- what holds of all of a list holds of each number in it, and the other way round
-pub All-in : (P : ℕ → Type 0) (xs : List ℕ) → All P xs → (x : ℕ) → is_in xs x ≡ true → P x
-All-in P xs all x h =
-    let place = place_in xs x h in subst P (eqb-true (get_or xs place.0 0) x place.2) (all place.0 0 place.1)
-
-pub in-All : (P : ℕ → Type 0) (xs : List ℕ) → ((x : ℕ) → is_in xs x ≡ true → P x) → All P xs
-in-All P xs each = λ i d less. each (get_or xs i d) (in_at xs i (get_or xs i d) less (eq-eqb (get_or xs i 0) (get_or xs i d) (get_or_default xs i 0 d less)))
-
 pub match_added : (matches : List Match) (names : List ℕ) (table new_table : List Standing) (m : Match) → AreStanding matches names table
     → All (λ name. is_in (names ++ matched_names matches) name ≡ false) (names_of m)
     → ((k : ℕ) → standing_of new_table k ≡ (if is_in (names_of m) k then Matched (length matches) else standing_of table k))
@@ -83,11 +76,11 @@ match_added matches names table new_table m are fresh new = record {
   matched =
       pushed (λ e k. is_in (names_of e) k) no_match Matched Unmatched (λ i j e. cc) (λ i j e. cc) (λ i e. cc) (λ i e. cc) matches m (standing_of table) (standing_of new_table)
       are.matched new
-      (λ k i h e. not_matched matches names table k are (All-in (λ name. is_in (names ++ matched_names matches) name ≡ false) (names_of m) fresh k h) i e);
+      (λ k i h e. not_matched matches names table k are (is_in-All (λ name. is_in (names ++ matched_names matches) name ≡ false) (names_of m) fresh k h) i e);
   unmatched =
       table_kept (length names) (is_name names) Unmatched (standing_of table) (standing_of new_table) (λ k. is_in (names_of m) k) (Matched (length matches))
       are.unmatched new (λ i e. cc)
-      (λ k i h e. not_unmatched matches names table k are (All-in (λ name. is_in (names ++ matched_names matches) name ≡ false) (names_of m) fresh k h) i e);
+      (λ k i h e. not_unmatched matches names table k are (is_in-All (λ name. is_in (names ++ matched_names matches) name ≡ false) (names_of m) fresh k h) i e);
 }
 
 pub unmatched_last : (matches : List Match) (names : List ℕ) (table new_table : List Standing) (i name : ℕ) → AreStanding matches names table
@@ -148,7 +141,7 @@ match_swapped matches names table middle new_table i m moved are less is within 
 pub names_within : (matches : List Match) (names : List ℕ) (table : List Standing) (i : ℕ) (m : Match) → AreStanding matches names table
     → i < length matches → m ≡ get_or matches i m → All (λ name. name < length table) (names_of m)
 names_within matches names table i m are less is =
-    in-All (λ name. name < length table) (names_of m)
+    All-from_is_in (λ name. name < length table) (names_of m)
     (λ name h. within_table table name
     (λ e. clash (sym (are.matched.entered name i less (ap (λ x. is_in (names_of x) name) (get_or_default matches i no_match m less ∙ sym is) ∙ h)) ∙ e)))
   where

@@ -32,15 +32,18 @@ use Rattle.fb_blossoms.specs.Merged as merged
 use Rattle.fb_half.specs.declared.matches.Match.{Match}
 use Rattle.fb_half.specs.InternalSeams.{IsBeside}
 use Rattle.fb_half.specs.Matchings.{MatchingValue, listed_names, match_links, matched_names}
-use Rattle.fb_half.specs.Merged.{is_node, is_owned_by, renamed_match}
+use Rattle.fb_half.specs.Merged.{is_owned_by, renamed_match}
 use Rattle.fb_half.specs.Parts.{IsPart, PartValue, kept_links, problem_in, shot_of}
 use Rattle.fb_half.specs.Translations.{link_by, ring_links}
-use Rattle.fb_half.proofs.BesideLinks.{link_left, link_right, links_beside, links_renamed, pieces_crossed, rings_renamed, rings_same}
+use Rattle.fb_half.proofs.BesideLinks.{link_left, link_right, links_beside, links_renamed, rings_renamed, rings_same}
 use Rattle.fb_half.proofs.BesideMatchings.{listed_beside, matching_beside, names_renamed}
 use Rattle.fb_half.proofs.BesideNodes.{agreed_beside, apart, own_names, ring_left, ring_right}
-use Rattle.fb_half.proofs.FreedMatches.{Table, link_in}
+use Rattle.fb_half.proofs.FreedMatches.{link_in}
 use Rattle.fb_half.proofs.SeamOpenings.{leaf_held}
 use Rattle.fb_half.proofs.AddedSingles.{Store}
+use Rattle.fb_laws.proofs.LinkNumbers.{crossed}
+use Rattle.fb_links.proofs.MovedLinks.{Table}
+use Rattle.fb_plan.specs.Vertices.{is_node}
 
 -- who owns a real vertex by one definition owns it by the other
 pub owned_is_own : (g : DecodingGraph) (t : PlanTree) (n v : ℕ) → IsPlan g t → is_owned_by t n v ≡ true → is_own g t n v ≡ true
@@ -238,7 +241,7 @@ module _ (left right : PartValue) (n : ℕ) (limits : IsWithinLimits (problem_at
         (subst (λ l. IsPermutation (kept_links left ++ (map link (match_links right.matching.matches) ++ map link (ring_links right.nodes right.store))) (l ++ ring_links (left.nodes ++ others) store)) (sym links_are)
         (subst (λ l. IsPermutation (kept_links left ++ (map link (match_links right.matching.matches) ++ map link (ring_links right.nodes right.store)))
         ((match_links left.matching.matches ++ map link (match_links right.matching.matches)) ++ l)) (sym rings_are)
-        (pieces_crossed (match_links left.matching.matches) (ring_links left.nodes left.store) (map link (match_links right.matching.matches))
+        (crossed (match_links left.matching.matches) (ring_links left.nodes left.store) (map link (match_links right.matching.matches))
         (map link (ring_links right.nodes right.store)))))
 
     pub live_left : (e : Match) → IsAmong e left.matching.matches → is_link left.links e.link ≡ true

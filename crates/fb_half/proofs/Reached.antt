@@ -14,9 +14,10 @@ use Rattle.fb_plan.specs.Reaches.{IsReach, is_reached}
 use Rattle.fb_plan.specs.declared.reach.Reach.{Reach}
 use Rattle.fb_plan.proofs.FusionSeams.{unit_is_own}
 use Rattle.fb_half.specs.Beginnings.{LiesWithin}
-use Rattle.fb_half.specs.Merged.{is_node, is_owned_by}
+use Rattle.fb_half.specs.Merged.{is_owned_by}
 use Rattle.fb_half.proofs.FusedMatches.{filter_all, filter_none}
 use Rattle.fb_half.proofs.MergedHalves.{own_is_owned}
+use Rattle.fb_plan.specs.Vertices.{is_node}
 
 -- where one test lets only that pass which another one does, what passes both is what passes it
 filter_twice : {X : Type 0} (test wide : X → Bool) → ((x : X) → test x ≡ true → wide x ≡ true) → (xs : List X)

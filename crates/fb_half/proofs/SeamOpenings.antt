@@ -16,7 +16,6 @@ use Rattle.fb_graph.proofs.Among.{IsAmong, All_among, among_All, live_among}
 use Rattle.fb_graph.proofs.Members.{is_in-append}
 use Rattle.fb_graph.proofs.Sets.{distinct-filter, distinct_from_rising, is_in-head}
 use Rattle.fb_laws.proofs.OpenedBlossoms.{same_permuted}
-use Rattle.fb_laws.proofs.TreePaths.{distinct_left}
 use Rattle.fb_plan.specs.Plans.{PlanTree}
 use Rattle.fb_plan.specs.Laws.{IsJob}
 use Rattle.fb_links.specs.declared.walk.Step.{Step}
@@ -31,7 +30,9 @@ use Rattle.fb_half.specs.Parts.{AreAgreed, PartValue, problem_in, shot_of}
 use Rattle.fb_half.specs.Translations.{children_at, link_by, ring_links}
 use Rattle.fb_half.proofs.BegunParts.{kept_real, shot_below}
 use Rattle.fb_half.proofs.FlatPermutations.{flat_permuted}
-use Rattle.fb_half.proofs.FreedMatches.{Table, first_listed, firsts, link_in}
+use Rattle.fb_half.proofs.FreedMatches.{first_listed, firsts, link_in}
+use Rattle.fb_links.proofs.MovedLinks.{Table}
+use Rattle.fb_laws.proofs.NestOrders.{distinct_left}
 
 -- a step along an edge of the graph has both its ends among the vertices
 step_below : (g : DecodingGraph) → IsGraph g → (s : Step) → s.edge < length g.edges → Leads (edge_at g.edges s.edge) s.from s.to

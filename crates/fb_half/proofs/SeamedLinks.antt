@@ -16,7 +16,7 @@ use Rattle.fb_graph.proofs.Members.{is_in-append, or_false}
 use Rattle.fb_graph.proofs.Sets.{is_in-head, is_in-tail}
 use Rattle.fb_laws.proofs.MergedParts.{distinct_across}
 use Rattle.fb_laws.proofs.OpenedBlossoms.{distinct_permuted, same_permuted}
-use Rattle.fb_laws.proofs.TreePaths.{distinct_left, distinct_right}
+use Rattle.fb_laws.proofs.TreePaths.{distinct_right}
 use Rattle.fb_links.specs.declared.walk.Step.{Step}
 use Rattle.fb_links.specs.Table.{is_live as is_link, link_at}
 use Rattle.fb_blossoms.specs.Nodes as blossoms
@@ -32,6 +32,7 @@ use Rattle.fb_half.proofs.BesideLinks.{links_same, rings_same, steps_widened}
 use Rattle.fb_half.proofs.FlatPermutations.{flat_permuted}
 use Rattle.fb_half.proofs.FreedMatches.{among_permuted, filter_among, first_in, link_in, name_in, parted_left}
 use Rattle.fb_half.proofs.AddedSingles.{Store}
+use Rattle.fb_laws.proofs.NestOrders.{distinct_left}
 
 -- a node without a cycle has no children
 leaf_children : (at : ℕ → Option blossoms.Node) (names defects : List ℕ) → ((x : ℕ) → is_in names x ≡ true → blossoms.cycle_of (at x) ≡ [])

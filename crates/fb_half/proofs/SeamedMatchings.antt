@@ -22,7 +22,6 @@ use Rattle.fb_laws.specs.Paths.{LeadsOut}
 use Rattle.fb_laws.specs.Works.{IsSetOf}
 use Rattle.fb_laws.proofs.OpenedBlossoms.{distinct_permuted, same_permuted}
 use Rattle.fb_laws.proofs.SearchTrees.{cover_set, leads_from}
-use Rattle.fb_laws.proofs.TreePaths.{distinct_left}
 use Rattle.fb_half.specs.declared.matches.Match.{Match}
 use Rattle.fb_half.specs.Beginnings.{leaves_by}
 use Rattle.fb_half.specs.InternalSeams.{IsBeside, IsFreed, IsOpened, AddsSingles, freed_matching}
@@ -35,6 +34,7 @@ use Rattle.fb_half.proofs.BegunParts.{same_function}
 use Rattle.fb_half.proofs.FlatPermutations.{flat_permuted}
 use Rattle.fb_half.proofs.FreedMatches.{among_filter, firsts}
 use Rattle.fb_half.proofs.SeamedLinks.{live_either, match_stays, nodes_are, stays_among, stays_off}
+use Rattle.fb_laws.proofs.NestOrders.{distinct_left}
 
 -- leaves beside other nodes leave each of these as outer as it was
 outer_beside : (nodes : List Node) (names defects : List ℕ) (x : ℕ) → is_outer (nodes ++ leaves_by names defects) x ≡ is_outer nodes x

@@ -13,14 +13,11 @@ use Rattle.fb_half.specs.Beginnings.{leaves_by}
 use Rattle.fb_half.specs.Matchings.{match_links}
 use Rattle.fb_half.specs.Parts.{PartValue}
 use Rattle.fb_half.specs.Translations.{link_by, ring_links}
+use Rattle.fb_plan.specs.Vertices.{is_node}
 
 -- both ends of the link are vertices of the plan
 abbrev pub IsPlanned : PlanTree → Link → Type 0
 IsPlanned t l = (l.from < length t.owners) × (l.to < length t.owners)
-
-abbrev pub is_node : ℕ → Option ℕ → Bool
-is_node n None = false
-is_node n (Some m) = m == n
 
 -- the node of the plan owns the vertex
 abbrev pub is_owned_by : PlanTree → ℕ → ℕ → Bool

@@ -17,8 +17,7 @@ use Rattle.fb_graph.specs.Steps.{Roles, AllowShrinking, stepped_nodes}
 use Rattle.fb_laws.specs.Works.{AreMatchedLinks}
 use Rattle.fb_graph.proofs.Among.{IsAmong, All_among, among_All, among_any}
 use Rattle.fb_graph.proofs.Crossings.{level_within}
-use Rattle.fb_graph.proofs.MappedNodes.{mapped_names}
-use Rattle.fb_graph.proofs.NestParts.{map_agree, names_live}
+use Rattle.fb_graph.proofs.NestParts.{map_agree}
 use Rattle.fb_graph.proofs.StepHeights.{leaves_stepped}
 use Rattle.fb_graph.proofs.StepLoads.{tight_stepped}
 
@@ -113,12 +112,6 @@ top_changed name g names c other (n ∷ ns) = step (n.name == name) refl (top_ch
         ap (λ m. cond (m == c) (g n).top.vertices (top_at (change_at name g ns) c)) (names n)
         ∙ (ap (λ x. cond x (g n).top.vertices (top_at (change_at name g ns) c)) differs
         ∙ (ih ∙ ap (λ x. cond x n.top.vertices (top_at ns c)) (sym differs)))
-
--- names of nodes are those of nodes changed in place
-pub live_mapped : (f : Node → Node) → ((n : Node) → (f n).name ≡ n.name) → (nodes : List Node) (x : ℕ)
-    → is_live (map f nodes) x ≡ is_live nodes x
-live_mapped f same nodes x =
-    sym (names_live (map f nodes) x) ∙ (ap (λ l. is_in l x) (mapped_names f same nodes) ∙ names_live nodes x)
 
 pub names_kept : (nodes others : List Node) (names : List ℕ) → ((n : ℕ) → is_live nodes n ≡ true → is_live others n ≡ true)
     → AreLiveNames nodes names → AreLiveNames others names

@@ -17,7 +17,7 @@ use Rattle.fb_laws.specs.OpenedCycles.{Pass, Couple, ArePassed, AreCoupled, last
 use Rattle.fb_laws.proofs.OpenedCycles.{links_left, links_right, links_moved}
 use Rattle.fb_laws.proofs.SearchStates.{links_joined}
 use Rattle.fb_laws.proofs.SearchTrees.{connects_sym}
-use Rattle.fb_laws.proofs.TreePaths.{in_left, in_right, in_either}
+use Rattle.fb_graph.proofs.Floods.{is_in-both, is_in-left, is_in-right}
 
 parity : (n : ℕ) → (n % 2 ≡ 1) ⊎ (n % 2 ≡ 0)
 parity zero = inr refl
@@ -27,7 +27,7 @@ parity (suc n) = step (parity n)
     step (inl odd) = inr (omega (arith, odd))
     step (inr even) = inl (omega (arith, even))
 
-split_in : (xs : List ℕ) (v : ℕ) → is_in xs v ≡ true → (before : List ℕ) × (after : List ℕ) × (xs ≡ before ++ v ∷ after)
+pub split_in : (xs : List ℕ) (v : ℕ) → is_in xs v ≡ true → (before : List ℕ) × (after : List ℕ) × (xs ≡ before ++ v ∷ after)
 split_in [] v within = absurd (false≢true within)
 split_in (x ∷ xs) v within = step (is_in-cases x xs v within) (split_in xs v)
   where
@@ -229,7 +229,7 @@ module _ (nodes : List Node) where
           (linked_cut first us from (vs ++ first ∷ []) links
           (subst (λ l. AreLinked nodes first l links) (ap (λ l. l ++ first ∷ []) is ∙ append_assoc us (from ∷ vs) (first ∷ [])) linked))
           (omega (arith, even, sym (length-append us (from ∷ vs)) ∙ sym (ap length is)))
-          (in_either (first ∷ us) (from ∷ vs) to (ap (λ l. is_in (first ∷ l) to) (sym is) ∙ there)))
+          (is_in-both (first ∷ us) (from ∷ vs) to (ap (λ l. is_in (first ∷ l) to) (sym is) ∙ there)))
         where
           around : (us vs : List ℕ)
               → (one : List Link) × (other : List Link) × (links ≡ one ++ other) × AreLinked nodes first (us ++ from ∷ []) one
@@ -247,8 +247,8 @@ module _ (nodes : List Node) where
               (omega (arith, size, length-append vs (first ∷ us))) (turned among))
             where
               turned : (is_in (first ∷ us) to ≡ true) ⊎ (is_in (from ∷ vs) to ≡ true) → is_in (from ∷ (vs ++ first ∷ us)) to ≡ true
-              turned (inl h) = in_right (from ∷ vs) (first ∷ us) to h
-              turned (inr h) = in_left (from ∷ vs) (first ∷ us) to h
+              turned (inl h) = is_in-right (from ∷ vs) (first ∷ us) to h
+              turned (inr h) = is_in-left (from ∷ vs) (first ∷ us) to h
 
 pub way_round : WayRound
 way_round nodes first names links from to linked even within there = begun nodes first from to names links linked even within there

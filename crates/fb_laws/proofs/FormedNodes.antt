@@ -21,11 +21,12 @@ use Rattle.fb_laws.specs.Fusion.{IsLinkOf}
 use Rattle.fb_laws.specs.Works.{IsSetOf}
 use Rattle.fb_laws.specs.Forming.{Child, sets_of, names_of, blossom_of, MatchingFormed}
 use Rattle.fb_laws.proofs.BlossomSums.{base_alone}
-use Rattle.fb_graph.proofs.Crossings.{cover_found}
+use Rattle.fb_graph.proofs.Crossings.{cover_found, name_in}
 use Rattle.fb_graph.proofs.EndSums.{ends-cons, ends_append, apart_sym, apart_union}
-use Rattle.fb_laws.proofs.MatchedNodes.{set_relation, all_after}
-use Rattle.fb_laws.proofs.MergedParts.{HoldsIn, side_of, distinct_across, named_at}
+use Rattle.fb_laws.proofs.MatchedNodes.{set_relation}
+use Rattle.fb_laws.proofs.MergedParts.{HoldsIn, side_of, distinct_across}
 use Rattle.fb_graph.proofs.AppendedNodes.{cuts_merged, leaves_merged, outer_in, names_merged}
+use Rattle.fb_graph.proofs.Nodes.{All-right}
 
 -- links inside a set have no end in one apart from it
 inside_elsewhere : (set union : List ℕ) (links : List Link) → AreApart set union → All (IsInside union) links → ends_in set links ≡ 0
@@ -97,9 +98,9 @@ matching_formed p nodes name base others inner rest unmatched remaining r cycle 
       walk = (old_tight i d less).walk;
       tight = (old_tight i d less).tight ∙ sym (same_sums (λ s. crosses s (ends_of (get_or rest i d))));
     };
-    own = all_after (IsLinkOf p) inner rest work.links_are.own;
+    own = All-right (IsLinkOf p) inner rest work.links_are.own;
     at_defects = subst (λ l. All (λ m. (p.is_real m.from ≡ true → is_in l m.from ≡ true) × (p.is_real m.to ≡ true → is_in l m.to ≡ true)) rest)
-        (sym same_leaves) (all_after AtDefects inner rest work.links_are.at_defects);
+        (sym same_leaves) (All-right AtDefects inner rest work.links_are.at_defects);
   };
   matched =
       All-append Matched nodes (blossom_of name (base ∷ others) ∷ [])
@@ -159,7 +160,7 @@ matching_formed p nodes name base others inner rest unmatched remaining r cycle 
         )
 
     old_tight : All (IsTightLink p (all_cuts nodes)) rest
-    old_tight = all_after (IsTightLink p (all_cuts nodes)) inner rest work.links_are.tight
+    old_tight = All-right (IsTightLink p (all_cuts nodes)) inner rest work.links_are.tight
 
     child_matched : (c : Child) → IsSetOf nodes c.name c.set → ends_in c.set (inner ++ rest) + as_count (is_in unmatched c.name) ≡ 1
     child_matched c (j, below, outer, is, same) =
@@ -172,8 +173,8 @@ matching_formed p nodes name base others inner rest unmatched remaining r cycle 
         both_ways (is_in (map (λ m. m.name) (blossom_of name (base ∷ others) ∷ [])) n)
         (distinct_across (map (λ m. m.name) nodes) (map (λ m. m.name) (blossom_of name (base ∷ others) ∷ [])) n
         (subst AreDistinct (names_merged nodes (blossom_of name (base ∷ others) ∷ [])) dual.names)
-        (ap (is_in (map (λ m. m.name) nodes)) (sym here) ∙ named_at nodes i less))
-        (ap (is_in (map (λ m. m.name) (blossom_of name (base ∷ others) ∷ []))) (sym there) ∙ named_at (blossom_of name (base ∷ others) ∷ []) j below)
+        (ap (is_in (map (λ m. m.name) nodes)) (sym here) ∙ name_in nodes i less))
+        (ap (is_in (map (λ m. m.name) (blossom_of name (base ∷ others) ∷ []))) (sym there) ∙ name_in (blossom_of name (base ∷ others) ∷ []) j below)
 
     height : (v : ℕ) → height_of (all_cuts (nodes ++ blossom_of name (base ∷ others) ∷ [])) v ≡ height_of (all_cuts nodes) v
     height v = same_sums (λ s. is_in s v)

@@ -13,13 +13,9 @@ use Rattle.fb_graph.proofs.Sets.{is_in-All}
 use Rattle.fb_laws.specs.HeldDefects.{AreHeld, CoveredIsHeld, HeldInSets, HeldIsCovered}
 use Rattle.fb_laws.proofs.OpenedParts.{flat_among, in_among}
 use Rattle.fb_laws.proofs.SolvedNests.{defects_in_first}
+use Rattle.fb_graph.proofs.Booleans.{same_bool}
 
-same_tests : (a b : Bool) → (a ≡ true → b ≡ true) → (b ≡ true → a ≡ true) → a ≡ b
-same_tests true b there back = sym (there refl)
-same_tests false true there back = back refl
-same_tests false false there back = refl
-
-both : (a b : Bool) → a ≡ true → b ≡ true → (a && b) ≡ true
+pub both : (a b : Bool) → a ≡ true → b ≡ true → (a && b) ≡ true
 both true true e f = refl
 both true false e f = f
 both false b e f = e
@@ -55,7 +51,7 @@ module _ (p : Problem) (nodes : List Node) (held : ℕ → List ℕ) (nest : IsN
   childless q a none d =
       All_among (λ n. is_empty n.children ≡ true → (c : ℕ) → is_in (held n.name) c ≡ is_in (defects_of n) c) nodes are.own q a
       none d
-      ∙ same_tests (is_in (defects_of q) d) (is_in (leaves nodes) d && is_in q.top.vertices d)
+      ∙ same_bool (is_in (defects_of q) d) (is_in (leaves nodes) d && is_in q.top.vertices d)
       (λ mine.
       both (is_in (leaves nodes) d) (is_in q.top.vertices d)
       (is_member (leaves nodes) d (flat_among defects_of nodes q d a (in_among (defects_of q) d mine)))
@@ -69,7 +65,7 @@ module _ (p : Problem) (nodes : List Node) (held : ℕ → List ℕ) (nest : IsN
       All_among
       (λ n. is_empty n.children ≡ false → (e : ℕ) → is_in (held n.name) e ≡ list_any (λ c. is_in (held c) e) n.children)
       nodes are.joined q a some d
-      ∙ same_tests (list_any (λ c. is_in (held c) d) q.children) (is_in (leaves nodes) d && is_in q.top.vertices d) up down
+      ∙ same_bool (list_any (λ c. is_in (held c) d) q.children) (is_in (leaves nodes) d && is_in q.top.vertices d) up down
     where
       filled : is_in (first_set q) d ≡ is_in (concat (child_sets nodes q)) d
       filled = All_among (IsFilled nodes) nodes nest.forest.filled q a some d

@@ -25,12 +25,12 @@ use Rattle.fb_laws.specs.Opening.{EndAtDefects}
 use Rattle.fb_laws.specs.Works.{AreMatchedLinks, IsMatching, IsSetOf, names_without}
 use Rattle.fb_laws.specs.Trees.{Entry, Connects, grown_links, paired_links, tree_names}
 use Rattle.fb_laws.specs.SearchBlossoms.{renamed_name, inner_branches, outer_branches, joined_tree, SearchJoined}
-use Rattle.fb_graph.proofs.Crossings.{cover_found, cover_holds}
+use Rattle.fb_graph.proofs.Crossings.{cover_found, cover_holds, name_in}
 use Rattle.fb_laws.proofs.FormedNodes.{matching_formed}
 use Rattle.fb_laws.proofs.HalvesKept.{matching_permuted}
 use Rattle.fb_laws.proofs.JoinedTrees.{names_kept, distinct_kept, tree_kept, inner_inside, grown_joined, paired_joined, new_in, new_out}
 use Rattle.fb_laws.proofs.MatchedNodes.{set_relation}
-use Rattle.fb_laws.proofs.MergedParts.{distinct_across, named_at}
+use Rattle.fb_laws.proofs.MergedParts.{distinct_across}
 use Rattle.fb_graph.proofs.AppendedNodes.{cuts_merged, leaves_merged, names_merged}
 use Rattle.fb_laws.proofs.SearchEnds.{links_part}
 use Rattle.fb_laws.proofs.SearchStates.{named_set, unmatched_outside}
@@ -193,7 +193,7 @@ module _ (p : Problem) (nodes : List Node) (name : ℕ) (base : Child) (others :
       both_ways (is_in (map (λ m. m.name) (blossom_of name (base ∷ others) ∷ [])) n)
       (distinct_across (map (λ m. m.name) nodes) (map (λ m. m.name) (blossom_of name (base ∷ others) ∷ [])) n
       (subst AreDistinct (names_merged nodes (blossom_of name (base ∷ others) ∷ [])) dual.names)
-      (ap (is_in (map (λ m. m.name) nodes)) (sym named) ∙ named_at nodes i less))
+      (ap (is_in (map (λ m. m.name) nodes)) (sym named) ∙ name_in nodes i less))
       (subst (λ x. is_in (name ∷ []) x ≡ true) (sym is) (is_in-head name []))
 
 pub search_joined : SearchJoined

@@ -11,9 +11,9 @@ use Rattle.fb_laws.specs.Forming.{Child}
 use Rattle.fb_laws.specs.Works.{IsSetOf}
 use Rattle.fb_laws.specs.Trees.{Entry, IsTree, plus_names, minus_names, tree_names}
 use Rattle.fb_laws.specs.SearchBlossoms.{child_at, inner_branches, ThreeJoining}
-use Rattle.fb_laws.proofs.MatchedNodes.{all_after}
 use Rattle.fb_laws.proofs.SearchStates.{named_set}
-use Rattle.fb_laws.proofs.SearchTrees.{plus_in_tree, minus_in_tree, exclusive_names, all_before}
+use Rattle.fb_laws.proofs.SearchTrees.{plus_in_tree, minus_in_tree, exclusive_names}
+use Rattle.fb_graph.proofs.Nodes.{All-right, All-left}
 
 -- each branch's two names stand in the tree's
 abbrev pub HasNames : ℕ → List Entry → Entry → Type 0
@@ -193,12 +193,12 @@ three_joining p nodes newer older e rest unmatched root r name state fresh = rec
     differ = all_differ root newer older e state.names
 
     newer_names : All (HasNames root (newer ++ e ∷ older)) newer
-    newer_names = all_before (HasNames root (newer ++ e ∷ older)) newer (e ∷ older) (have_names root (newer ++ e ∷ older))
+    newer_names = All-left (HasNames root (newer ++ e ∷ older)) newer (e ∷ older) (have_names root (newer ++ e ∷ older))
 
     older_names : All (HasNames root (newer ++ e ∷ older)) older
     older_names =
         All-tail (HasNames root (newer ++ e ∷ older)) e older
-        (all_after (HasNames root (newer ++ e ∷ older)) newer (e ∷ older) (have_names root (newer ++ e ∷ older)))
+        (All-right (HasNames root (newer ++ e ∷ older)) newer (e ∷ older) (have_names root (newer ++ e ∷ older)))
 
     -- a plus node is no minus node
     apart : (m n : ℕ) → is_in (plus_names root (newer ++ e ∷ older)) m ≡ true → is_in (minus_names (newer ++ e ∷ older)) n ≡ true → m ≡ n → ⊥

@@ -23,13 +23,10 @@ use Rattle.fb_graph.specs.Alike.{AreAlike, TallerCovered}
 use Rattle.fb_graph.proofs.Crossings.{cover_found, cover_holds}
 use Rattle.fb_graph.proofs.EndSums.{ends_of_one}
 use Rattle.fb_laws.proofs.MatchedNodes.{odd_top}
-use Rattle.fb_laws.proofs.SearchTrees.{cover_set, matched_named, all_before}
+use Rattle.fb_laws.proofs.SearchTrees.{cover_set, matched_named}
 use Rattle.fb_graph.proofs.TallerNodes.{name_found, outer_taller}
-
-same_bool : (a b : Bool) → (a ≡ true → b ≡ true) → (b ≡ true → a ≡ true) → a ≡ b
-same_bool true b there back = sym (there refl)
-same_bool false true there back = back refl
-same_bool false false there back = refl
+use Rattle.fb_graph.proofs.Booleans.{same_bool}
+use Rattle.fb_graph.proofs.Nodes.{All-left}
 
 -- sets that agree at the links' ends have as many
 ends_agree : (a b : List ℕ) (links : List Link)
@@ -156,7 +153,7 @@ search_alike p nodes others tree rest unmatched root r alike dual state = record
   names = state.names;
   joined =
       tree_alike p nodes others alike state.matching.dual dual root tree state.grown.at_defects
-      (all_before (λ l. (p.is_real l.from ≡ true → is_in (leaves nodes) l.from ≡ true) × (p.is_real l.to ≡ true → is_in (leaves nodes) l.to ≡ true))
+      (All-left (λ l. (p.is_real l.from ≡ true → is_in (leaves nodes) l.from ≡ true) × (p.is_real l.to ≡ true → is_in (leaves nodes) l.to ≡ true))
       (paired_links tree) rest state.matching.links_are.at_defects)
       state.joined;
   grown = links_alike p nodes others alike state.matching.dual dual (grown_links tree) state.grown;

@@ -18,10 +18,12 @@ use Rattle.fb_laws.proofs.OpenedCycles.{new_grown, new_paired}
 use Rattle.fb_laws.proofs.SearchTrees.{path_beside}
 use Rattle.fb_laws.proofs.StateBlossoms.{closed_joining, closed_names}
 use Rattle.fb_laws.proofs.TreeCycles.{length_back}
-use Rattle.fb_laws.proofs.TreePaths.{distinct_left, in_either, in_left, in_right, length_along}
+use Rattle.fb_laws.proofs.TreePaths.{length_along}
+use Rattle.fb_graph.proofs.Floods.{is_in-both, is_in-left, is_in-right}
+use Rattle.fb_laws.proofs.NestOrders.{distinct_left}
 
 -- the inner two of four lists change places
-crossed : {X : Type 0} (a b c d : List X) → IsPermutation ((a ++ b) ++ (c ++ d)) ((a ++ c) ++ (b ++ d))
+pub crossed : {X : Type 0} (a b c d : List X) → IsPermutation ((a ++ b) ++ (c ++ d)) ((a ++ c) ++ (b ++ d))
 crossed a b c d =
     subst (λ l. IsPermutation l ((a ++ c) ++ (b ++ d))) (sym (append_assoc a b (c ++ d)))
     (subst (IsPermutation (a ++ (b ++ (c ++ d)))) (sym (append_assoc a c (b ++ d)))
@@ -131,7 +133,7 @@ same_elements {X} key xs (y ∷ ys) (new, distinct) within same =
         absurd (both_ways (is_in (map key ys) (key y)) new (subst (λ w. is_in (map key ys) (key w) ≡ true) (sym here) (among_key key ys z a)))
     among_others before after z a (inr (inr b)) = among_right before after z b
 
-among_filter : {X : Type 0} (test : X → Bool) (xs : List X) (x : X) → IsAmong x xs → test x ≡ true → IsAmong x (filter test xs)
+pub among_filter : {X : Type 0} (test : X → Bool) (xs : List X) (x : X) → IsAmong x xs → test x ≡ true → IsAmong x (filter test xs)
 among_filter test [] x a h = absurd a
 among_filter {X} test (y ∷ ys) x a h = step (test y) refl a (λ b. among_filter test ys x b h)
   where
@@ -168,9 +170,9 @@ minus_back (e ∷ es) n within =
     step : (e.minus ≡ n) ⊎ (is_in (minus_names es) n ≡ true) → (is_in (minus_names es) n ≡ true → is_in (nodes_back es) n ≡ true)
         → is_in (nodes_back es ++ e.plus ∷ e.minus ∷ []) n ≡ true
     step (inl same) rest =
-        in_right (nodes_back es) (e.plus ∷ e.minus ∷ []) n
+        is_in-right (nodes_back es) (e.plus ∷ e.minus ∷ []) n
         (subst (λ m. is_in (e.plus ∷ e.minus ∷ []) m ≡ true) same (is_in-tail e.plus (e.minus ∷ []) e.minus (is_in-head e.minus [])))
-    step (inr there) rest = in_left (nodes_back es) (e.plus ∷ e.minus ∷ []) n (rest there)
+    step (inr there) rest = is_in-left (nodes_back es) (e.plus ∷ e.minus ∷ []) n (rest there)
 
 distinct_down : {L : Type 0} (es : List (EntryOf L)) → AreDistinct (nodes_back es) → AreDistinct (minus_names es)
 distinct_down [] distinct = tt
@@ -190,14 +192,14 @@ distinct_cycle (e ∷ es) down distinct = (
   false_from_ne_true (is_in (minus_names es ++ minus_names down) e.minus)
       (λ within.
       both_ways (is_in (e.plus ∷ (nodes_along es ++ nodes_back down)) e.minus) distinct.0
-      (is_in-tail e.plus (nodes_along es ++ nodes_back down) e.minus (there (in_either (minus_names es) (minus_names down) e.minus within)))),
+      (is_in-tail e.plus (nodes_along es ++ nodes_back down) e.minus (there (is_in-both (minus_names es) (minus_names down) e.minus within)))),
   distinct_cycle es down distinct.1.1,
 )
   where
     there : (is_in (minus_names es) e.minus ≡ true) ⊎ (is_in (minus_names down) e.minus ≡ true)
         → is_in (nodes_along es ++ nodes_back down) e.minus ≡ true
-    there (inl h) = in_left (nodes_along es) (nodes_back down) e.minus (minus_along es e.minus h)
-    there (inr h) = in_right (nodes_along es) (nodes_back down) e.minus (minus_back down e.minus h)
+    there (inl h) = is_in-left (nodes_along es) (nodes_back down) e.minus (minus_along es e.minus h)
+    there (inr h) = is_in-right (nodes_along es) (nodes_back down) e.minus (minus_back down e.minus h)
 
 -- the links along branches are those of the branches
 along_links : {L : Type 0} (es : List (EntryOf L)) → IsPermutation (tree_links es) (links_along es)
@@ -263,10 +265,10 @@ links_joined_in joined name a b closing tree shared up down paths is =
     member : (g : EntryOf ℕ) → IsAmong g up ⊎ IsAmong g down → IsAmong g (inner_branches joined tree)
     member g (inl h) =
         among_filter (λ e. joined e.minus) tree g (path_in tree a g (subst (IsAmong g) (sym paths.first) (among_right shared up g h)))
-        (is.nodes g.minus (in_left (nodes_along up) (nodes_back down) g.minus (minus_along up g.minus (among_key (λ e. e.minus) up g h))))
+        (is.nodes g.minus (is_in-left (nodes_along up) (nodes_back down) g.minus (minus_along up g.minus (among_key (λ e. e.minus) up g h))))
     member g (inr h) =
         among_filter (λ e. joined e.minus) tree g (path_in tree b g (subst (IsAmong g) (sym paths.second) (among_right shared down g h)))
-        (is.nodes g.minus (in_right (nodes_along up) (nodes_back down) g.minus (minus_back down g.minus (among_key (λ e. e.minus) down g h))))
+        (is.nodes g.minus (is_in-right (nodes_along up) (nodes_back down) g.minus (minus_back down g.minus (among_key (λ e. e.minus) down g h))))
 
     branches : IsPermutation (inner_branches joined tree) (up ++ down)
     branches =

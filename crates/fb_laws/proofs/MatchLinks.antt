@@ -20,9 +20,9 @@ use Rattle.fb_laws.specs.Fusion.{IsLinkOf}
 use Rattle.fb_laws.specs.Trees.{Entry, Connects, IsTree, paired_links, tree_names}
 use Rattle.fb_laws.specs.Works.{AreMatchedLinks, IsSetOf}
 use Rattle.fb_laws.specs.MatchLinks.{EndsElsewhere, HasMatch, LeadsToBoundary, LeadsToMate, MatchOf, MatchOfMet, MateOutside}
-use Rattle.fb_laws.proofs.MatchedNodes.{all_after}
 use Rattle.fb_laws.proofs.SearchStates.{outside}
 use Rattle.fb_laws.proofs.SearchTrees.{connected, connects_sym, cover_set, end_of, matched_named, no_ends}
+use Rattle.fb_graph.proofs.Nodes.{All-right}
 
 -- the one link of a list that has an end in the set
 record HasOneEnd (set : List ℕ) (links : List Link) : Type 0 where
@@ -133,7 +133,7 @@ module _ (p : Problem) (nodes : List Node) (links : List Link) (name : ℕ) (dua
         record {
           leads = leads found.link found.one
               (All-head AtDefects found.link found.after
-              (all_after AtDefects found.before (found.link ∷ found.after) (subst (All AtDefects) found.place are.at_defects)));
+              (All-right AtDefects found.before (found.link ∷ found.after) (subst (All AtDefects) found.place are.at_defects)));
           others = All-weaker (λ l. (is_in (top_at nodes name) l.from ≡ false) × (is_in (top_at nodes name) l.to ≡ false))
               (EndsElsewhere nodes name) (λ l out. (beyond l.from out.0, beyond l.to out.1)) (found.before ++ found.after)
               found.others;
@@ -202,10 +202,10 @@ none_in_tree nodes root (e ∷ es) name distinct (parent, grown, matched, joined
 pub links_after : (p : Problem) (nodes : List Node) (links more : List Link) → AreMatchedLinks p nodes (links ++ more)
     → AreMatchedLinks p nodes more
 links_after p nodes links more are = record {
-  tight = all_after (IsTightLink p (all_cuts nodes)) links more are.tight;
-  own = all_after (IsLinkOf p) links more are.own;
+  tight = All-right (IsTightLink p (all_cuts nodes)) links more are.tight;
+  own = All-right (IsLinkOf p) links more are.own;
   at_defects =
-      all_after
+      All-right
       (λ l. (p.is_real l.from ≡ true → is_in (leaves nodes) l.from ≡ true) × (p.is_real l.to ≡ true → is_in (leaves nodes) l.to ≡ true))
       links more are.at_defects;
 }
@@ -255,7 +255,7 @@ mate_outside p nodes tree before l after unmatched root r name mate state connec
     out : Outside l
     out =
         All-head Outside l after
-        (all_after Outside before (l ∷ after) (outside p nodes tree (before ++ l ∷ after) unmatched root r state))
+        (All-right Outside before (l ∷ after) (outside p nodes tree (before ++ l ∷ after) unmatched root r state))
 
     not_in_tree : Connects nodes l name mate → is_in (tree_names root tree) mate ≡ false
     not_in_tree (inl (from, to)) = out.1 mate to

@@ -1,14 +1,14 @@
 -- What augmenting makes of the nodes of a part.
 use Rattle.std.proofs.Common.{ℕ, ◌≡◌, ◌+◌, ◌<◌, ◌==◌, ◌&&◌, ◌⊎◌, inl, inr, not, Bool, true, false, List, [], ◌∷◌, ◌++◌, length, All, get_or, refl, sym, ap, ◌∙◌, subst, arith}
 use Rattle.std.proofs.lemmas.Bool.{false≢true, cases_eq, eqb-true, eq-eqb, ne_eqb, cases_order}
-use Rattle.std.proofs.lemmas.List.Elements.{All-cons, All-tail, All-append, All-from_get_or}
+use Rattle.std.proofs.lemmas.List.Elements.{All-cons, All-append, All-from_get_or}
 use Rattle.fb_graph.specs.Parity.{is_in}
 use Rattle.fb_graph.specs.Problem.{Problem, with_defects}
 use Rattle.fb_graph.specs.Certificate.{IsOddCut}
 use Rattle.fb_graph.specs.Laws.{Link}
 use Rattle.fb_graph.specs.Dual.{Node, IsDual, all_cuts, leaves, is_outer, node_at, no_node, AreApart}
 use Rattle.fb_graph.proofs.ClosedSets.{not_held}
-use Rattle.fb_graph.proofs.Nodes.{All-cuts-at, All-top, All-below}
+use Rattle.fb_graph.proofs.Nodes.{All-cuts-at, All-top, All-below, All-right}
 use Rattle.fb_graph.proofs.Sets.{member_of_odd, is_in-filter}
 use Rattle.fb_graph.specs.Counts.{as_count}
 use Rattle.fb_graph.specs.Ends.{ends_in}
@@ -93,16 +93,12 @@ vertex_held p nodes name set v i dual less outer is within = step (set_relation 
     step (inr (other, apart)) =
         apart_sym (node_at nodes i).top.vertices set apart v within ∙ sym (ne_eqb (node_at nodes i).name name other)
 
-pub all_after : {X : Type 0} (P : X → Type 0) (xs ys : List X) → All P (xs ++ ys) → All P ys
-all_after P [] ys all = all
-all_after P (x ∷ xs) ys all = all_after P xs ys (All-tail P x (xs ++ ys) all)
-
 -- the tree's links and the one that leads out in the place of the matched ones
 all_swapped : (P : Link → Type 0) (tree matched rest : List Link) (out : Link) → All P (tree ++ out ∷ []) → All P (matched ++ rest)
     → All P (tree ++ out ∷ rest)
 all_swapped P tree matched rest out new old =
     All-append P tree (out ∷ rest) (All-below P tree out new)
-    (All-cons P out rest (All-top P tree out new) (all_after P matched rest old))
+    (All-cons P out rest (All-top P tree out new) (All-right P matched rest old))
 
 links_swapped : (p : Problem) (nodes : List Node) (tree matched rest : List Link) (out : Link)
     → AreMatchedLinks p nodes (tree ++ out ∷ []) → AreMatchedLinks p nodes (matched ++ rest)
@@ -227,9 +223,9 @@ matching_released p nodes name other root set path out old v b rest unmatched wo
   dual = work.dual;
   defects = work.defects;
   links_are = links_swapped p nodes (tree_links path) [] rest out links (record {
-    tight = all_after (IsTightLink p (all_cuts nodes)) (old ∷ []) rest (all_after (IsTightLink p (all_cuts nodes)) (matched_links path) (old ∷ rest) work.links_are.tight);
-    own = all_after (IsLinkOf p) (old ∷ []) rest (all_after (IsLinkOf p) (matched_links path) (old ∷ rest) work.links_are.own);
-    at_defects = all_after AtDefects (old ∷ []) rest (all_after AtDefects (matched_links path) (old ∷ rest) work.links_are.at_defects);
+    tight = All-right (IsTightLink p (all_cuts nodes)) (old ∷ []) rest (All-right (IsTightLink p (all_cuts nodes)) (matched_links path) (old ∷ rest) work.links_are.tight);
+    own = All-right (IsLinkOf p) (old ∷ []) rest (All-right (IsLinkOf p) (matched_links path) (old ∷ rest) work.links_are.own);
+    at_defects = All-right AtDefects (old ∷ []) rest (All-right AtDefects (matched_links path) (old ∷ rest) work.links_are.at_defects);
   });
   matched =
       All-from_get_or

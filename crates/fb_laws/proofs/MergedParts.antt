@@ -21,7 +21,7 @@ use Rattle.fb_graph.specs.NestUnions.{AreParts}
 use Rattle.fb_laws.specs.Fusion.{IsLinkOf}
 use Rattle.fb_laws.specs.Works.{HasDefects}
 use Rattle.fb_laws.specs.Merging.{MatchingsMerged}
-use Rattle.fb_graph.proofs.Crossings.{cover_found, found_place}
+use Rattle.fb_graph.proofs.Crossings.{cover_found, found_place, name_in}
 use Rattle.fb_graph.proofs.EndSums.{ends_append}
 use Rattle.fb_laws.proofs.FusedParts.{parts_turned, link_ends_away, tight_fused, tight_fused_right, fused_ends, height_fused}
 use Rattle.fb_laws.proofs.HalvesKept.{odd_of_part}
@@ -89,11 +89,6 @@ live_at [] j less = absurd (omega arith)
 live_at (n ∷ ns) zero less = or_left (n.name == n.name) (is_live ns n.name) (eq-eqb n.name n.name refl)
 live_at (n ∷ ns) (suc j) less =
     or_right (n.name == (node_at ns j).name) (is_live ns (node_at ns j).name) (live_at ns j (omega arith))
-
-pub named_at : (ns : List Node) (j : ℕ) → j < length ns → is_in (map (λ n. n.name) ns) (node_at ns j).name ≡ true
-named_at [] j less = absurd (omega arith)
-named_at (n ∷ ns) zero less = or_left (n.name == n.name) _ (eq-eqb n.name n.name refl)
-named_at (n ∷ ns) (suc j) less = or_right (n.name == (node_at ns j).name) _ (named_at ns j (omega arith))
 
 pub real_held : (p : Problem) (nodes : List Node) (j v : ℕ) → IsDual p nodes → j < length nodes
     → is_in (node_at nodes j).top.vertices v ≡ true → p.is_real v ≡ true
@@ -280,8 +275,8 @@ matchings_merged left right whole nodes others links more unmatched open_ parts 
         both_ways (is_in (map (λ n. n.name) others) name)
         (distinct_across (map (λ n. n.name) nodes) (map (λ n. n.name) others) name
         (subst AreDistinct (names_merged nodes others) dual.names)
-        (ap (is_in (map (λ n. n.name) nodes)) (sym here) ∙ named_at nodes i less))
-        (ap (is_in (map (λ n. n.name) others)) (sym there) ∙ named_at others j below)
+        (ap (is_in (map (λ n. n.name) nodes)) (sym here) ∙ name_in nodes i less))
+        (ap (is_in (map (λ n. n.name) others)) (sym there) ∙ name_in others j below)
 
     parity : (d e name : ℕ) → is_in (leaves (nodes ++ others)) d ≡ true → is_in (leaves (nodes ++ others)) e ≡ true
         → HoldsIn (nodes ++ others) nodes name d ⊎ HoldsIn (nodes ++ others) others name d

@@ -45,7 +45,7 @@ last_free (n ∷ ns) q joined =
       own,
     )
 
-distinct_left : (xs ys : List ℕ) → AreDistinct (xs ++ ys) → AreDistinct xs
+pub distinct_left : (xs ys : List ℕ) → AreDistinct (xs ++ ys) → AreDistinct xs
 distinct_left [] ys distinct = tt
 distinct_left (x ∷ xs) ys distinct = (
   (or_parts (is_in xs x) (is_in ys x) (sym (is_in-append xs ys x) ∙ distinct.0)).0,

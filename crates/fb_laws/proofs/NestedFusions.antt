@@ -25,15 +25,15 @@ use Rattle.fb_laws.proofs.MergedParts.{matchings_merged, odd_in, real_held}
 use Rattle.fb_graph.proofs.NestParts.{names_live}
 use Rattle.fb_graph.proofs.NestUnions.{nests_beside, parity_beside}
 use Rattle.fb_laws.proofs.PotentialParities.{parities_joined}
-use Rattle.fb_laws.proofs.SearchTrees.{all_before}
 use Rattle.fb_laws.proofs.SeamStates.{seam_opened}
 use Rattle.fb_graph.proofs.SourceWalks.{walks_begin}
 use Rattle.fb_graph.proofs.SingleStates.{cuts_are, names_are, no_sum}
 use Rattle.fb_graph.proofs.TightLinks.{turned_tight}
 use Rattle.fb_laws.proofs.UnmatchedNames.{outer_beside, outer_singles_added}
+use Rattle.fb_graph.proofs.Nodes.{All-left}
 
 -- a node that covers a vertex is there
-cover_live : (nodes : List Node) (v name : ℕ) → cover_of nodes v ≡ Some name → is_live nodes name ≡ true
+pub cover_live : (nodes : List Node) (v name : ℕ) → cover_of nodes v ≡ Some name → is_live nodes name ≡ true
 cover_live nodes v name cover =
     let over = cover_among nodes v name cover in
     among_live nodes over.node name over.among over.named
@@ -188,8 +188,8 @@ nested_seam p whole nodes freed links singles seam unmatched even limits is dist
     freed_even : HaveParity (is_in (freed_names freed)) nodes 0
     freed_even =
         freed_parity p nodes seam (freed_links freed ++ links) unmatched even is.unreal state.work.matching freed
-        (all_before (IsTightLink p (all_cuts nodes)) (freed_links freed) links state.work.matching.links_are.tight)
-        (all_before
+        (All-left (IsTightLink p (all_cuts nodes)) (freed_links freed) links state.work.matching.links_are.tight)
+        (All-left
         (λ l. (p.is_real l.from ≡ true → is_in (leaves nodes) l.from ≡ true)
         × (p.is_real l.to ≡ true → is_in (leaves nodes) l.to ≡ true))
         (freed_links freed) links state.work.matching.links_are.at_defects)

@@ -25,28 +25,31 @@ use Rattle.fb_graph.proofs.Among.{IsAmong, All_among, among_left, among_right, m
 use Rattle.fb_graph.proofs.Crossings.{cover_found}
 use Rattle.fb_graph.proofs.EndSums.{ends-cons, ends_of_one}
 use Rattle.fb_laws.proofs.JoinedThree.{mid_names}
-use Rattle.fb_laws.proofs.MatchedNodes.{all_after, odd_top}
+use Rattle.fb_laws.proofs.MatchedNodes.{odd_top}
 use Rattle.fb_laws.proofs.MergedParts.{distinct_across}
 use Rattle.fb_laws.proofs.OpenedSearches.{held_by, links_split, at_ends, unheld}
 use Rattle.fb_laws.proofs.SearchStates.{links_joined, named_set}
-use Rattle.fb_laws.proofs.SearchTrees.{cover_set, matched_named, minus_in_tree, exclusive_names, all_before}
-use Rattle.fb_laws.proofs.TreePaths.{distinct_left, distinct_right, in_left, in_right, in_either, along_append, names_along, along_minus, among_minus, among_plus, tree_connects}
+use Rattle.fb_laws.proofs.SearchTrees.{cover_set, matched_named, minus_in_tree, exclusive_names}
+use Rattle.fb_laws.proofs.TreePaths.{distinct_right, along_append, names_along, along_minus, among_minus, among_plus, tree_connects}
 use Rattle.fb_graph.proofs.Unions.{distinct_append}
+use Rattle.fb_graph.proofs.Floods.{is_in-both, is_in-left, is_in-right}
+use Rattle.fb_graph.proofs.Nodes.{All-right, All-left}
+use Rattle.fb_laws.proofs.NestOrders.{distinct_left}
 
 pub links_left : (p : Problem) (nodes : List Node) (xs ys : List Link) → AreMatchedLinks p nodes (xs ++ ys) → AreMatchedLinks p nodes xs
 links_left p nodes xs ys are = record {
-  tight = all_before (IsTightLink p (all_cuts nodes)) xs ys are.tight;
-  own = all_before (IsLinkOf p) xs ys are.own;
-  at_defects = all_before
+  tight = All-left (IsTightLink p (all_cuts nodes)) xs ys are.tight;
+  own = All-left (IsLinkOf p) xs ys are.own;
+  at_defects = All-left
       (λ l. (p.is_real l.from ≡ true → is_in (leaves nodes) l.from ≡ true) × (p.is_real l.to ≡ true → is_in (leaves nodes) l.to ≡ true))
       xs ys are.at_defects;
 }
 
 pub links_right : (p : Problem) (nodes : List Node) (xs ys : List Link) → AreMatchedLinks p nodes (xs ++ ys) → AreMatchedLinks p nodes ys
 links_right p nodes xs ys are = record {
-  tight = all_after (IsTightLink p (all_cuts nodes)) xs ys are.tight;
-  own = all_after (IsLinkOf p) xs ys are.own;
-  at_defects = all_after
+  tight = All-right (IsTightLink p (all_cuts nodes)) xs ys are.tight;
+  own = All-right (IsLinkOf p) xs ys are.own;
+  at_defects = All-right
       (λ l. (p.is_real l.from ≡ true → is_in (leaves nodes) l.from ≡ true) × (p.is_real l.to ≡ true → is_in (leaves nodes) l.to ≡ true))
       xs ys are.at_defects;
 }
@@ -88,7 +91,7 @@ new_paired parent tree minus (s ∷ ss) matched plus =
     (new_paired s.plus s.tree s.minus ss matched plus))
 
 -- two parts of a list change places
-swapped : {X : Type 0} (xs ys zs : List X) → IsPermutation (xs ++ (ys ++ zs)) (ys ++ (xs ++ zs))
+pub swapped : {X : Type 0} (xs ys zs : List X) → IsPermutation (xs ++ (ys ++ zs)) (ys ++ (xs ++ zs))
 swapped xs ys zs =
     subst (λ l. IsPermutation l (ys ++ (xs ++ zs))) (append_assoc xs ys zs)
     (subst (IsPermutation ((xs ++ ys) ++ zs)) (append_assoc ys xs zs)
@@ -124,7 +127,7 @@ new_in parent tree minus [] matched plus n within = step (of_two minus plus n wi
     step (inr same) = inl same
 new_in parent tree minus (s ∷ ss) matched plus n within =
     step
-    (in_either (nodes_along (opened_branches s.plus s.tree s.minus ss matched plus)) (minus ∷ s.plus ∷ []) n
+    (is_in-both (nodes_along (opened_branches s.plus s.tree s.minus ss matched plus)) (minus ∷ s.plus ∷ []) n
     (ap (λ l. is_in l n)
     (sym (along_append (opened_branches s.plus s.tree s.minus ss matched plus)
     (record { parent = parent; tree = tree; minus = minus; matched = s.matched; plus = s.plus } ∷ [])))
@@ -184,7 +187,7 @@ new_distinct parent tree minus (s ∷ ss) matched plus (last_new, (minus_new, (p
     both_ways (is_in (last_of s.minus ss ∷ minus ∷ s.plus ∷ paired_on s.minus ss) plus) fresh
     (more_one (last_of s.minus ss) minus s.plus plus (paired_on s.minus ss) there)))) (
       false_from_ne_true (is_in (s.plus ∷ []) minus)
-          (λ there. both_ways (is_in (s.plus ∷ paired_on s.minus ss) minus) minus_new (in_left (s.plus ∷ []) (paired_on s.minus ss) minus there)),
+          (λ there. both_ways (is_in (s.plus ∷ paired_on s.minus ss) minus) minus_new (is_in-left (s.plus ∷ []) (paired_on s.minus ss) minus there)),
       (refl, tt),
     )
     (λ n within.
@@ -411,10 +414,10 @@ module _ (p : Problem) (nodes others : List Node) (newer older : List Entry) (e 
           (cover_found nodes member.0 old.apart i no_node less (ap (is_outer nodes) named ∙ outer) member.1 ∙ ap Some named) other).1
 
   in_newer : (n : ℕ) → is_in (nodes_along newer) n ≡ true → is_in (tree_names root (newer ++ e ∷ older)) n ≡ true
-  in_newer n within = ap (λ l. is_in l n) names_before ∙ in_left (nodes_along newer) (e.minus ∷ e.plus ∷ After) n within
+  in_newer n within = ap (λ l. is_in l n) names_before ∙ is_in-left (nodes_along newer) (e.minus ∷ e.plus ∷ After) n within
 
   in_last : (n : ℕ) → is_in (e.minus ∷ e.plus ∷ After) n ≡ true → is_in (tree_names root (newer ++ e ∷ older)) n ≡ true
-  in_last n within = ap (λ l. is_in l n) names_before ∙ in_right (nodes_along newer) (e.minus ∷ e.plus ∷ After) n within
+  in_last n within = ap (λ l. is_in l n) names_before ∙ is_in-right (nodes_along newer) (e.minus ∷ e.plus ∷ After) n within
 
   in_older : (n : ℕ) → is_in After n ≡ true → is_in (tree_names root (newer ++ e ∷ older)) n ≡ true
   in_older n within = in_last n (is_in-tail e.minus (e.plus ∷ After) n (is_in-tail e.plus After n within))
@@ -423,7 +426,7 @@ module _ (p : Problem) (nodes others : List Node) (newer older : List Entry) (e 
   plus_in = in_last e.plus (is_in-tail e.minus (e.plus ∷ After) e.plus (is_in-head e.plus After))
 
   on_way : (n : ℕ) → is_in (last_of from way ∷ paired_on from way) n ≡ true → is_in (last_of from way ∷ paired_of from way couples) n ≡ true
-  on_way n within = in_left (last_of from way ∷ paired_on from way) (paired_beside couples) n within
+  on_way n within = is_in-left (last_of from way ∷ paired_on from way) (paired_beside couples) n within
 
   names_distinct : AreDistinct (tree_names root (opened_tree newer e older from way))
   names_distinct =
@@ -438,7 +441,7 @@ module _ (p : Problem) (nodes others : List Node) (newer older : List Entry) (e 
       last_distinct.1.1
       (λ n within. false_from_ne_true (is_in After n) (λ there. after n there (new_in e.parent e.tree from way e.matched e.plus n within))))
       (λ n within.
-      false_from_ne_true (is_in (nodes_along Branches ++ After) n) (λ there. before n within (in_either (nodes_along Branches) After n there))))
+      false_from_ne_true (is_in (nodes_along Branches ++ After) n) (λ there. before n within (is_in-both (nodes_along Branches) After n there))))
     where
       after : (n : ℕ) → is_in After n ≡ true → (e.plus ≡ n) ⊎ (is_in (last_of from way ∷ paired_on from way) n ≡ true) → ⊥
       after n within (inl same) = both_ways (is_in After e.plus) last_distinct.1.0 (ap (is_in After) same ∙ within)
@@ -460,7 +463,7 @@ module _ (p : Problem) (nodes others : List Node) (newer older : List Entry) (e 
 
   old_names : (n : ℕ) → is_in (tree_names root (opened_tree newer e older from way)) n ≡ true
       → is_in (last_of from way ∷ paired_of from way couples) n ≡ false → is_in (tree_names root (newer ++ e ∷ older)) n ≡ true
-  old_names n within out = first (in_either (nodes_along newer) (nodes_along Branches ++ After) n (ap (λ l. is_in l n) (sym names_after) ∙ within))
+  old_names n within out = first (is_in-both (nodes_along newer) (nodes_along Branches ++ After) n (ap (λ l. is_in l n) (sym names_after) ∙ within))
     where
       of_branch : (e.plus ≡ n) ⊎ (is_in (last_of from way ∷ paired_on from way) n ≡ true) → is_in (tree_names root (newer ++ e ∷ older)) n ≡ true
       of_branch (inl same) = subst (λ m. is_in (tree_names root (newer ++ e ∷ older)) m ≡ true) same plus_in
@@ -473,7 +476,7 @@ module _ (p : Problem) (nodes others : List Node) (newer older : List Entry) (e 
       first : (is_in (nodes_along newer) n ≡ true) ⊎ (is_in (nodes_along Branches ++ After) n ≡ true)
           → is_in (tree_names root (newer ++ e ∷ older)) n ≡ true
       first (inl there) = in_newer n there
-      first (inr there) = second (in_either (nodes_along Branches) After n there)
+      first (inr there) = second (is_in-both (nodes_along Branches) After n there)
 
   abbrev AtDefects : Link → Type 0
   AtDefects l = (p.is_real l.from ≡ true → is_in (leaves nodes) l.from ≡ true) × (p.is_real l.to ≡ true → is_in (leaves nodes) l.to ≡ true)
@@ -522,7 +525,7 @@ module _ (p : Problem) (nodes others : List Node) (newer older : List Entry) (e 
       (tree_same nodes others root older
       (λ x a.
       branch_moved x (among_right newer (e ∷ older) x (inr a))
-      (older_other x.minus (in_left (nodes_along older) (root ∷ []) x.minus (along_minus older x a))))
+      (older_other x.minus (is_in-left (nodes_along older) (root ∷ []) x.minus (along_minus older x a))))
       (tree_rest nodes root newer (e ∷ older) state.joined).3))
 
   moved_links : (links : List Link) → AreMatchedLinks p nodes links → AreMatchedLinks p others links

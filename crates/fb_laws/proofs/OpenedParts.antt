@@ -38,7 +38,8 @@ use Rattle.fb_laws.proofs.OpenedLevels.{level_permuted, next_level}
 use Rattle.fb_laws.proofs.OpenedRings.{IsOnlyOne, only_one, pairs_round}
 use Rattle.fb_laws.proofs.SearchStates.{links_joined}
 use Rattle.fb_laws.proofs.SolvedNests.{defects_in_first}
-use Rattle.fb_laws.proofs.TreePaths.{distinct_left, distinct_right}
+use Rattle.fb_laws.proofs.TreePaths.{distinct_right}
+use Rattle.fb_laws.proofs.NestOrders.{distinct_left}
 
 -- No closed node joins the node, and it is closed itself or joins none.
 pub record IsTop (closed : List Node) (m : Node) : Type 0 where

@@ -46,7 +46,7 @@ abbrev joined_names : List Node → List ℕ
 joined_names [] = []
 joined_names (n ∷ ns) = n.children ++ joined_names ns
 
-not_empty : (cs : List ℕ) → 3 ≤ length cs → is_empty cs ≡ false
+pub not_empty : (cs : List ℕ) → 3 ≤ length cs → is_empty cs ≡ false
 not_empty [] three = absurd (let h : 3 ≤ 0 = three in omega arith)
 not_empty (c ∷ cs) three = refl
 

@@ -13,13 +13,14 @@ use Rattle.fb_graph.specs.Dual.{Node, all_cuts, cover_of, height_of, is_empty, i
 use Rattle.fb_graph.specs.Nests.{IsNest, child_sets}
 use Rattle.fb_graph.specs.RenamedNodes.{AreRenamedApart, renamed_node, renamed_nodes}
 use Rattle.fb_graph.proofs.Among.{IsAmong, All_among, among_All, among_live, cover_among}
-use Rattle.fb_graph.proofs.RenamedNodes.{cover_same, cuts_renamed, distinct_renamed, from_renamed, leaves_renamed, nest_renamed, outer_same, same_renamed, same_sets, still_live, walks_renamed}
+use Rattle.fb_graph.proofs.RenamedNodes.{cover_same, cuts_renamed, distinct_renamed, leaves_renamed, nest_renamed, outer_same, same_renamed, same_sets, still_live, walks_renamed}
 use Rattle.fb_laws.specs.Opening.{EndAtDefects}
 use Rattle.fb_laws.specs.Parities.{HaveOneParity}
 use Rattle.fb_laws.specs.PartStates.{PartState, IsRing, all_cycle_links, links_at}
 use Rattle.fb_laws.specs.RenamedStates.{AreCyclesRenamed, LinksRenamed, LiveLinksRenamed, NestedWorkRenamed, StateRenamed, WorkRenamed}
 use Rattle.fb_laws.specs.UnmatchedNames.{AreOuterNames}
 use Rattle.fb_laws.specs.Works.{AreMatched, AreMatchedLinks, IsMatching}
+use Rattle.fb_graph.proofs.OddLabels.{member_of_map}
 
 pub links_renamed : LinksRenamed
 links_renamed p nodes links f are = record {
@@ -89,7 +90,7 @@ module _ (p : Problem) (nodes : List Node) (links : List Link) (unmatched : List
 
   outer : AreOuterNames nodes unmatched → AreOuterNames (renamed_nodes f nodes) (map f unmatched)
   outer are n among =
-      let (m, within, named) = from_renamed f unmatched n among in
+      let (m, within, named) = member_of_map f unmatched n among in
       ap (is_outer (renamed_nodes f nodes)) (sym named) ∙ (outer_same p nodes f once nest m (live m within) ∙ are m within)
 
 pub work_renamed : WorkRenamed
@@ -141,7 +142,7 @@ state_renamed p s f cycles once renamed is = record {
   };
   names = record {
     live = λ n among.
-        let (m, within, named) = from_renamed f s.unmatched n among in
+        let (m, within, named) = member_of_map f s.unmatched n among in
         ap (is_live (renamed_nodes f s.nodes)) (sym named) ∙ still_live p s.nodes f once is.work.nest m (is.names.live m within);
     distinct = distinct_renamed f s.unmatched (λ x y a b e. once x y (is.names.live x a) (is.names.live y b) e) is.names.distinct;
   };

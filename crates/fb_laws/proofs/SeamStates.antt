@@ -20,18 +20,19 @@ use Rattle.fb_laws.specs.Fusion.{IsLinkOf}
 use Rattle.fb_graph.specs.Singles.{Single, node_of, nodes_of, vertices_of}
 use Rattle.fb_laws.specs.Works.{IsSetOf}
 use Rattle.fb_laws.specs.Merging.{Freed, freed_links, freed_names, EndElsewhere, SeamOpened}
-use Rattle.fb_graph.proofs.Crossings.{cover_found}
+use Rattle.fb_graph.proofs.Crossings.{cover_found, name_in}
 use Rattle.fb_graph.proofs.EndSums.{ends-cons, ends_append}
 use Rattle.fb_laws.proofs.FusedParts.{same_weight}
 use Rattle.fb_laws.proofs.HalvesKept.{name_in_all}
-use Rattle.fb_laws.proofs.MatchedNodes.{odd_top, set_whole, set_held, all_after}
-use Rattle.fb_laws.proofs.MergedParts.{HoldsIn, odd_in, side_of, distinct_across, named_at, real_held, part_of_link}
+use Rattle.fb_laws.proofs.MatchedNodes.{odd_top, set_whole, set_held}
+use Rattle.fb_laws.proofs.MergedParts.{HoldsIn, odd_in, side_of, distinct_across, real_held, part_of_link}
 use Rattle.fb_graph.proofs.AppendedNodes.{cuts_merged, leaves_merged, outer_in, names_merged}
 use Rattle.fb_graph.proofs.ClosedSets.{boundary_height, not_held}
 use Rattle.fb_graph.proofs.NestParts.{leaf_real}
 use Rattle.fb_laws.proofs.PathSums.{ends_out}
 use Rattle.fb_graph.proofs.SingleStates.{cuts_are, leaves_are, names_are, no_sum}
 use Rattle.fb_graph.proofs.Walks.{walk_same}
+use Rattle.fb_graph.proofs.Nodes.{All-right}
 
 -- new nodes without value add nothing to any sum
 pub weigh_with : (test : List ℕ → Bool) (nodes : List Node) (singles : List Single) → All (λ s. s.value ≡ 0) singles
@@ -140,7 +141,7 @@ seam_opened p whole nodes freed links singles seam unmatched is dual work = reco
       (ends_in n.top.vertices (freed_links freed ++ links)) (ends_in n.top.vertices links)
       (count_by (λ f. n.name == f.name) freed) split
       (count_named freed n.name (omega (arith, one, split)))
-      (distinct_across (map (λ m. m.name) nodes) (map (λ s. s.name) singles) n.name names (named_at nodes i less))
+      (distinct_across (map (λ m. m.name) nodes) (map (λ s. s.name) singles) n.name names (name_in nodes i less))
       one))
       (All-map Matched node_of singles
       (λ i d less outer.
@@ -163,13 +164,13 @@ seam_opened p whole nodes freed links singles seam unmatched is dual work = reco
     AtDefects l = (p.is_real l.from ≡ true → is_in (leaves nodes) l.from ≡ true) × (p.is_real l.to ≡ true → is_in (leaves nodes) l.to ≡ true)
 
     kept_tight : All (IsTightLink p (all_cuts nodes)) links
-    kept_tight = all_after (IsTightLink p (all_cuts nodes)) (freed_links freed) links work.links_are.tight
+    kept_tight = All-right (IsTightLink p (all_cuts nodes)) (freed_links freed) links work.links_are.tight
 
     kept_own : All (IsLinkOf p) links
-    kept_own = all_after (IsLinkOf p) (freed_links freed) links work.links_are.own
+    kept_own = All-right (IsLinkOf p) (freed_links freed) links work.links_are.own
 
     kept_at : All AtDefects links
-    kept_at = all_after AtDefects (freed_links freed) links work.links_are.at_defects
+    kept_at = All-right AtDefects (freed_links freed) links work.links_are.at_defects
 
     names : AreDistinct (map (λ n. n.name) nodes ++ map (λ s. s.name) singles)
     names =
@@ -232,8 +233,8 @@ seam_opened p whole nodes freed links singles seam unmatched is dual work = reco
         both_ways (is_in (map (λ n. n.name) (nodes_of singles)) name)
         (distinct_across (map (λ n. n.name) nodes) (map (λ n. n.name) (nodes_of singles)) name
         (subst AreDistinct (names_merged nodes (nodes_of singles)) dual.names)
-        (ap (is_in (map (λ n. n.name) nodes)) (sym here) ∙ named_at nodes i less))
-        (ap (is_in (map (λ n. n.name) (nodes_of singles))) (sym there) ∙ named_at (nodes_of singles) j below)
+        (ap (is_in (map (λ n. n.name) nodes)) (sym here) ∙ name_in nodes i less))
+        (ap (is_in (map (λ n. n.name) (nodes_of singles))) (sym there) ∙ name_in (nodes_of singles) j below)
 
     parity : (d e name : ℕ) → is_in (leaves (nodes ++ nodes_of singles)) d ≡ true → is_in (leaves (nodes ++ nodes_of singles)) e ≡ true
         → HoldsIn (nodes ++ nodes_of singles) nodes name d ⊎ HoldsIn (nodes ++ nodes_of singles) (nodes_of singles) name d

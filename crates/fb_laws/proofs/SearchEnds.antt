@@ -18,15 +18,16 @@ use Rattle.fb_laws.specs.Searches.{LeavesNode, IsSearch, SearchEnded, SearchMet,
 use Rattle.fb_laws.proofs.HalvesKept.{matching_permuted}
 use Rattle.fb_laws.proofs.MatchedNodes.{matching_augmented, matching_met, matching_released}
 use Rattle.fb_laws.proofs.SearchStates.{links_joined, root_set, search_path}
-use Rattle.fb_laws.proofs.SearchTrees.{cover_set, leads_from, all_before, branches_tree, branches_matched}
+use Rattle.fb_laws.proofs.SearchTrees.{cover_set, leads_from, branches_tree, branches_matched}
+use Rattle.fb_graph.proofs.Nodes.{All-left}
 
 -- links of the first of two lists, in any order
 pub links_part : (p : Problem) (nodes : List Node) (links first other : List Link) → IsPermutation links (first ++ other)
     → AreMatchedLinks p nodes links → AreMatchedLinks p nodes first
 links_part p nodes links first other moved are = record {
-  tight = all_before (IsTightLink p (all_cuts nodes)) first other (All-permutation (IsTightLink p (all_cuts nodes)) links (first ++ other) moved are.tight);
-  own = all_before (IsLinkOf p) first other (All-permutation (IsLinkOf p) links (first ++ other) moved are.own);
-  at_defects = all_before AtDefects first other (All-permutation AtDefects links (first ++ other) moved are.at_defects);
+  tight = All-left (IsTightLink p (all_cuts nodes)) first other (All-permutation (IsTightLink p (all_cuts nodes)) links (first ++ other) moved are.tight);
+  own = All-left (IsLinkOf p) first other (All-permutation (IsLinkOf p) links (first ++ other) moved are.own);
+  at_defects = All-left AtDefects first other (All-permutation AtDefects links (first ++ other) moved are.at_defects);
 }
   where
     AtDefects : Link → Type 0

@@ -24,12 +24,12 @@ use Rattle.fb_laws.specs.Searches.{IsSearch, SearchBegins, SearchPermuted, Searc
 use Rattle.fb_graph.proofs.Crossings.{level_between, level_outside, some_passes}
 use Rattle.fb_graph.proofs.EndSums.{ends_append, ends-cons, ends_of_one}
 use Rattle.fb_laws.proofs.HalvesKept.{matching_stepped, matching_permuted}
-use Rattle.fb_laws.proofs.MatchedNodes.{all_after}
 use Rattle.fb_laws.proofs.PotentialParities.{linked_parity, tree_parity_stepped, other_parity_stepped}
-use Rattle.fb_laws.proofs.SearchTrees.{cover_set, connects_sym, connected, path_leads, path_beside, entries_outer, tree_set, plus_in_tree, minus_in_tree, tree_in_roles, exclusive_names, used_end, matched_named, no_ends, all_before}
+use Rattle.fb_laws.proofs.SearchTrees.{cover_set, connects_sym, connected, path_leads, path_beside, entries_outer, tree_set, plus_in_tree, minus_in_tree, tree_in_roles, exclusive_names, used_end, matched_named, no_ends}
 use Rattle.fb_graph.proofs.StepHeights.{cover_stepped, leaves_stepped}
 use Rattle.fb_graph.proofs.StepLoads.{tight_stepped}
 use Rattle.fb_graph.proofs.TightLinks.{turned_tight}
+use Rattle.fb_graph.proofs.Nodes.{All-right, All-left}
 
 pub search_begins : SearchBegins
 search_begins p nodes links unmatched root work is open_ = record {
@@ -173,7 +173,7 @@ search_path p nodes tree rest unmatched root r name state among =
     branches : All (IsBranchOf nodes) (branches_of nodes (path_to tree name))
     branches =
         All-map (IsBranchOf nodes) (branch_of nodes) (path_to tree name)
-        (all_before (λ e. IsBranchOf nodes (branch_of nodes e)) (path_to tree name) (branches_beside tree name)
+        (All-left (λ e. IsBranchOf nodes (branch_of nodes e)) (path_to tree name) (branches_beside tree name)
         (All-permutation (λ e. IsBranchOf nodes (branch_of nodes e)) tree (path_to tree name ++ branches_beside tree name)
         (IsPermutation-sym _ _ (path_beside tree name))
         (entries_outer nodes root state.matching.dual.names tree state.joined)))
@@ -413,7 +413,7 @@ search_attached p nodes tree e rest unmatched root r even state parent grown mat
     plus_parity =
         connected_parity p nodes r e.matched e.minus e.plus dual state.matching.one_parity even
         (All-head (IsTightLink p (all_cuts nodes)) e.matched rest
-        (all_after (IsTightLink p (all_cuts nodes)) (paired_links tree) (e.matched ∷ rest) state.matching.links_are.tight))
+        (All-right (IsTightLink p (all_cuts nodes)) (paired_links tree) (e.matched ∷ rest) state.matching.links_are.tight))
         two minus_parity matched
 
     by : (d name : ℕ) → is_in (leaves nodes) d ≡ true → cover_of nodes d ≡ Some name

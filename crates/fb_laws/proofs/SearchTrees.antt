@@ -5,7 +5,7 @@ use Rattle.std.specs.List.Sorted.{IsPermutation}
 use Rattle.std.specs.Option.{option_map}
 use Rattle.std.proofs.lemmas.Bool.{both_ways, false≢true, cases_eq, and_parts, eq-eqb, ne_eqb, false_from_ne_true}
 use Rattle.std.proofs.lemmas.List.{append_assoc, map-append}
-use Rattle.std.proofs.lemmas.List.Elements.{All-nil, All-cons, All-head, All-tail}
+use Rattle.std.proofs.lemmas.List.Elements.{All-nil, All-cons}
 use Rattle.std.proofs.lemmas.List.Sorted.{IsPermutation-refl, IsPermutation-cons, IsPermutation-trans, IsPermutation-middle}
 use Rattle.fb_graph.specs.Parity.{is_in}
 use Rattle.fb_graph.specs.Problem.{Problem}
@@ -19,9 +19,8 @@ use Rattle.fb_laws.specs.Paths.{Branch, IsPath, Joins, LeadsOut, tip_of, tree_li
 use Rattle.fb_laws.specs.Works.{IsMatching, IsSetOf, IsBranchOf}
 use Rattle.fb_laws.specs.Trees.{Entry, EntryOf, Connects, IsTree, grown_links, paired_links, plus_names, minus_names, tree_names, path_to, branches_beside, branch_of, branches_of}
 use Rattle.fb_laws.specs.Searches.{LeavesNode}
-use Rattle.fb_graph.proofs.Crossings.{found_place}
+use Rattle.fb_graph.proofs.Crossings.{found_place, name_in}
 use Rattle.fb_graph.proofs.EndSums.{ends-cons, ends_of_one}
-use Rattle.fb_laws.proofs.MergedParts.{named_at}
 use Rattle.fb_laws.proofs.PathSums.{paths_joined}
 
 -- the node that covers a vertex stands at a place
@@ -58,7 +57,7 @@ top_at_place (n ∷ ns) distinct (suc i) less =
     (ne_eqb n.name (node_at ns i).name
     (λ same.
     both_ways (is_in (map (λ m. m.name) ns) n.name) distinct.0
-    (ap (is_in (map (λ m. m.name) ns)) same ∙ named_at ns i (omega arith))))
+    (ap (is_in (map (λ m. m.name) ns)) same ∙ name_in ns i (omega arith))))
     ∙ top_at_place ns distinct.1 i (omega arith)
 
 -- the set of a node that covers a vertex
@@ -346,11 +345,6 @@ no_ends set (l ∷ links) none =
     apart true b e = absurd (omega arith)
     apart false true e = absurd (omega arith)
     apart false false e = (refl, refl)
-
-pub all_before : {X : Type 0} (P : X → Type 0) (xs ys : List X) → All P (xs ++ ys) → All P xs
-all_before P [] ys all = All-nil P
-all_before P (x ∷ xs) ys all =
-    All-cons P x xs (All-head P x (xs ++ ys) all) (all_before P xs ys (All-tail P x (xs ++ ys) all))
 
 pub branches_tree : (nodes : List Node) (path : List Entry) → tree_links (branches_of nodes path) ≡ grown_links path
 branches_tree nodes [] = refl

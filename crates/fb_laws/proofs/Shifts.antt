@@ -15,9 +15,7 @@ use Rattle.fb_graph.proofs.Duality.{weak_duality}
 use Rattle.fb_graph.proofs.OddComponents.{component_uncrossed}
 use Rattle.fb_graph.proofs.Walks.{walk_same}
 use Rattle.fb_laws.specs.Signed.{negatives, shifted_problem, added_weight, taken_weight, base_of, unshifted_edges, SignedDuality, SignedSolved, SignedLeast, SameFirstOdd, SameNoOddClosed}
-
-range_distinct : (n : ℕ) → AreDistinct (range_with_len 0 n)
-range_distinct n = distinct_from_rising (range_with_len 0 n) (range_rises 0 n)
+use Rattle.fb_graph.proofs.OddOnes.{range_distinct}
 
 one_times : (b : Bool) (n : ℕ) → one_if b * n ≡ cond b n 0
 one_times true n = omega arith

@@ -15,7 +15,7 @@ use Rattle.fb_graph.proofs.Among.{IsAmong, All_among, among_All, covered_by, lea
 use Rattle.fb_graph.proofs.CutSums.{weigh_none}
 use Rattle.fb_graph.proofs.Forests.{IsGrove, after, child_within, defects_first, first_within}
 use Rattle.fb_graph.proofs.NestParts.{grove_of}
-use Rattle.fb_graph.proofs.Nodes.{All-flat_map, layers_within}
+use Rattle.fb_graph.proofs.Nodes.{All-flat_map, layers_within, All-left}
 use Rattle.fb_graph.proofs.Sets.{is_in-cases}
 use Rattle.fb_laws.specs.MetLinks.{turned_link}
 use Rattle.fb_laws.specs.SingleDefects.{DefectHeight, EndsMeetUnder, HasEnd, IsDefectUnder, IsSingle, LinksThrough, OneDefect, ending_link, starting_link}
@@ -25,7 +25,7 @@ use Rattle.fb_laws.specs.Fusion.{IsLinkOf}
 use Rattle.fb_laws.proofs.MatchLinks.{links_after}
 use Rattle.fb_laws.proofs.MetLinks.{covered_real, link_turned, links_joined}
 use Rattle.fb_laws.proofs.SearchStates.{links_joined as matched_append}
-use Rattle.fb_laws.proofs.SearchTrees.{all_before, connects_sym}
+use Rattle.fb_laws.proofs.SearchTrees.{connects_sym}
 
 -- an outer blossom that holds the set
 record IsUnderBlossom (nodes : List Node) (set : List ℕ) : Type 0 where
@@ -119,9 +119,9 @@ links_of_two : (p : Problem) (nodes : List Node) (l m : Link) → AreMatchedLink
     → AreMatchedLinks p nodes (l ∷ []) × AreMatchedLinks p nodes (m ∷ [])
 links_of_two p nodes l m are = (
   record {
-    tight = all_before (IsTightLink p (all_cuts nodes)) (l ∷ []) (m ∷ []) are.tight;
-    own = all_before (IsLinkOf p) (l ∷ []) (m ∷ []) are.own;
-    at_defects = all_before
+    tight = All-left (IsTightLink p (all_cuts nodes)) (l ∷ []) (m ∷ []) are.tight;
+    own = All-left (IsLinkOf p) (l ∷ []) (m ∷ []) are.own;
+    at_defects = All-left
         (λ x. (p.is_real x.from ≡ true → is_in (leaves nodes) x.from ≡ true) × (p.is_real x.to ≡ true → is_in (leaves nodes) x.to ≡ true))
         (l ∷ []) (m ∷ []) are.at_defects;
   },

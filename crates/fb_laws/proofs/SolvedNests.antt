@@ -24,6 +24,7 @@ use Rattle.fb_laws.proofs.MergedParts.{odd_in}
 use Rattle.fb_laws.proofs.NestOrders.{Relates, related}
 use Rattle.fb_graph.proofs.NestParts.{grove_of, top_is_odd}
 use Rattle.fb_laws.proofs.OpenedLevels.{level_solved}
+use Rattle.fb_graph.proofs.Booleans.{same_bool}
 
 -- a node with a defect of its own joins no others
 childless : (m : Node) (d : ℕ) → is_in (defects_of m) d ≡ true → is_empty m.children ≡ true
@@ -55,11 +56,6 @@ defects_in_first p nodes nest =
     step n d within m mine (inr (inr (inl holds))) = holds d (defects_first m d mine)
     step n d within m mine (inr (inr (inr apart))) =
         absurd (both_ways (is_in (first_set m) d) (apart d within) (defects_first m d mine))
-
-same_tests : (a b : Bool) → (a ≡ true → b ≡ true) → (b ≡ true → a ≡ true) → a ≡ b
-same_tests true b there back = sym (there refl)
-same_tests false true there back = back refl
-same_tests false false there back = refl
 
 one_of : (xs : List ℕ) (d : ℕ) → length xs ≡ 1 → is_in xs d ≡ true → xs ≡ d ∷ []
 one_of [] d one within = absurd (false≢true within)
@@ -125,7 +121,7 @@ leaf_level p nodes links nest at_defects level = record {
         → (p.is_real v ≡ true → is_in (leaves nodes) v ≡ true) → is_in (d ∷ []) v ≡ is_in m.top.vertices v
     same m a d mine v at =
         let first : first_set m ≡ d ∷ [] = first_is m d (All_among IsFormed nodes nest.forest.formed m a) mine in
-        same_tests (is_in (d ∷ []) v) (is_in m.top.vertices v)
+        same_bool (is_in (d ∷ []) v) (is_in m.top.vertices v)
         (λ h.
         first_within m v (All_among (λ x. AreGrown (layers_of x)) nodes nest.dual.grown m a)
         (ap (λ s. is_in s v) first ∙ h))

@@ -3,12 +3,10 @@ use Rattle.std.proofs.Common.{ℕ, ◌≡◌, ◌<◌, ◌≤◌, ◌==◌, ◌&
 use Rattle.std.specs.List.{range_with_len}
 use Rattle.std.specs.List.Sorted.{IsStrictlyIncreasing}
 use Rattle.std.proofs.lemmas.Bool.{both_ways, cases_Bool, eqb-true, false≢true}
-use Rattle.std.proofs.lemmas.List.Elements.{All-nil, All-cons}
 use Rattle.fb_graph.specs.Parity.{is_in, is_odd_count}
-use Rattle.fb_graph.specs.Problem.{Problem, edge_at, touches, weight_of}
+use Rattle.fb_graph.specs.Problem.{edge_at, touches, weight_of}
 use Rattle.fb_graph.specs.Certificate.{load_of}
 use Rattle.fb_graph.specs.Laws.{odd_ones}
-use Rattle.fb_graph.specs.Components.{IsWalkBy}
 use Rattle.fb_graph.specs.Dual.{all_cuts}
 use Rattle.fb_graph.proofs.ClosedSets.{odd_cut_of_part}
 use Rattle.fb_graph.proofs.Nodes.{All-flat_map}
@@ -18,6 +16,7 @@ use Rattle.fb_graph.proofs.Sets.{All-from_is_in, member_of_odd, distinct_from_ri
 use Rattle.fb_laws.specs.Rows.{OddOnesOnly, OddEdgesOnly, BestOfWhole, SolvedIsBest}
 use Rattle.fb_laws.proofs.HalvesKept.{positive_total}
 use Rattle.fb_laws.proofs.MergedParts.{odd_in}
+use Rattle.fb_graph.proofs.Walks.{walk_within}
 
 -- rising lists of the same numbers are equal
 rising_same : (xs ys : List ℕ) → IsStrictlyIncreasing xs → IsStrictlyIncreasing ys
@@ -78,11 +77,6 @@ odd_ones_only n numbers ones rising below parity =
     same v (inr h) (inl k) = here v (is_in-All (λ j. j < n) (odd_ones n numbers) (odd_ones_rise n numbers).1 v k)
     same v (inr h) (inr k) = h ∙ sym k
 
-walk_below : (p : Problem) (walk : List ℕ) (from to : ℕ) → IsWalkBy p walk from to → All (λ k. k < length p.edges) walk
-walk_below p [] from to is = All-nil (λ k. k < length p.edges)
-walk_below p (k ∷ ks) from to (next, within, leads, rest) =
-    All-cons (λ j. j < length p.edges) k ks within (walk_below p ks next to rest)
-
 pub odd_edges_only : OddEdgesOnly
 odd_edges_only p links ones walks rising parity =
     odd_ones_only (length p.edges) (flat_map (λ l. l.walk) links) ones rising
@@ -93,7 +87,7 @@ odd_edges_only p links ones walks rising parity =
     (sym (parity k) ∙ (odd_equal ones k (distinct_from_rising ones rising) ∙ within)) in
     is_in-All (λ i. i < length p.edges) (flat_map (λ l. l.walk) links)
     (All-flat_map (λ i. i < length p.edges) (λ l. l.walk) links
-    (λ i d less. walk_below p (get_or links i d).walk (get_or links i d).from (get_or links i d).to (walks i d less)))
+    (λ i d less. walk_within p (get_or links i d).walk (get_or links i d).from (get_or links i d).to (walks i d less)))
     k (subst (λ i. is_in (flat_map (λ l. l.walk) links) i ≡ true) (eqb-true j k same) there)))
     parity
 

@@ -19,7 +19,7 @@ use Rattle.fb_graph.proofs.Places.{among_split, split_among}
 use Rattle.fb_graph.proofs.SplitNests.{nest_split, insertion, same_leaves, height, bare, at}
 
 -- no two nodes join the same
-one_parent : (ns : List Node) → AreJoinedLater ns → (m n : Node) → IsAmong m ns → IsAmong n ns → (c : ℕ) → is_in m.children c ≡ true
+pub one_parent : (ns : List Node) → AreJoinedLater ns → (m n : Node) → IsAmong m ns → IsAmong n ns → (c : ℕ) → is_in m.children c ≡ true
     → is_in n.children c ≡ true → m ≡ n
 one_parent [] joined m n a b c h k = absurd a
 one_parent (x ∷ xs) joined m n (inl e) (inl f) c h k = sym e ∙ f

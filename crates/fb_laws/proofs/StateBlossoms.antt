@@ -34,7 +34,8 @@ use Rattle.fb_laws.proofs.RenamedNames.{IsRenaming, renamed_distinct, renamed_go
 use Rattle.fb_laws.proofs.RingLinks.{cycle_link_in, linked_live, links_among, ring_of_linked}
 use Rattle.fb_laws.proofs.SearchStates.{links_joined, unmatched_outside}
 use Rattle.fb_laws.proofs.TreeCycles.{cycle_joining, cycle_linked, cycle_many}
-use Rattle.fb_laws.proofs.TreePaths.{in_left, in_right, path_among, tree_connects}
+use Rattle.fb_laws.proofs.TreePaths.{path_among, tree_connects}
+use Rattle.fb_graph.proofs.Floods.{is_in-left, is_in-right}
 
 other_cycle : (name n : ℕ) (links : List Link) (cycles : ℕ → List Link) → (n ≡ name → ⊥)
     → with_cycle name links cycles n ≡ cycles n
@@ -239,8 +240,8 @@ module _ (p : Problem) (s : SearchState) (name a b : ℕ) (closing : Link) (shar
     where
       either : (first ≡ n) ⊎ (is_in (cycle_nodes up down) n ≡ true) → is_in (cycle_nodes up down ++ first ∷ []) n ≡ true
       either (inl here) =
-          in_right (cycle_nodes up down) (first ∷ []) n (subst (λ m. is_in (first ∷ []) m ≡ true) here (is_in-head first []))
-      either (inr there) = in_left (cycle_nodes up down) (first ∷ []) n there
+          is_in-right (cycle_nodes up down) (first ∷ []) n (subst (λ m. is_in (first ∷ []) m ≡ true) here (is_in-head first []))
+      either (inr there) = is_in-left (cycle_nodes up down) (first ∷ []) n there
 
   pub closed_joining : IsJoining s.nodes s.tree s.root name (child_at s.nodes (last_plus s.root shared)) (map (child_at s.nodes) (cycle_nodes up down))
   closed_joining =
@@ -296,8 +297,8 @@ module _ (p : Problem) (s : SearchState) (name : ℕ) (newer older : List Entry)
     where
       either : (e.parent ≡ n) ⊎ (is_in (e.minus ∷ e.plus ∷ []) n ≡ true) → is_in ((e.minus ∷ e.plus ∷ []) ++ e.parent ∷ []) n ≡ true
       either (inl here) =
-          in_right (e.minus ∷ e.plus ∷ []) (e.parent ∷ []) n (subst (λ m. is_in (e.parent ∷ []) m ≡ true) here (is_in-head e.parent []))
-      either (inr there) = in_left (e.minus ∷ e.plus ∷ []) (e.parent ∷ []) n there
+          is_in-right (e.minus ∷ e.plus ∷ []) (e.parent ∷ []) n (subst (λ m. is_in (e.parent ∷ []) m ≡ true) here (is_in-head e.parent []))
+      either (inr there) = is_in-left (e.minus ∷ e.plus ∷ []) (e.parent ∷ []) n there
 
   pub rounded_joining : IsJoining s.nodes s.tree s.root name (child_at s.nodes e.parent) (child_at s.nodes e.minus ∷ child_at s.nodes e.plus ∷ [])
   rounded_joining =

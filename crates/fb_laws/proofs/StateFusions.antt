@@ -38,7 +38,7 @@ use Rattle.fb_laws.proofs.MergedParts.{odd_in, part_of_link}
 use Rattle.fb_laws.proofs.NestedFusions.{nested_merged, nested_seam}
 use Rattle.fb_laws.proofs.SeamStates.{weigh_with}
 use Rattle.fb_laws.proofs.SearchStates.{links_joined}
-use Rattle.fb_laws.proofs.TreePaths.{in_either}
+use Rattle.fb_graph.proofs.Floods.{is_in-both}
 
 -- links of a part are links of a larger one where no cut more loads them and each of their ends is real only in the part
 links_widened : (p q : Problem) (nodes others : List Node) (links : List Link) → IsPart p q
@@ -184,7 +184,7 @@ module _ (left right whole : Problem) (s t : PartState) (parts : AreParts left r
 
   pub merged_names : AreLiveNames (s.nodes ++ t.nodes) (s.unmatched ++ t.unmatched)
   merged_names = record {
-    live = λ n within. live n (in_either s.unmatched t.unmatched n within);
+    live = λ n within. live n (is_in-both s.unmatched t.unmatched n within);
     distinct =
         distinct_append s.unmatched t.unmatched here.names.distinct there.names.distinct
         (λ n open_.
@@ -266,7 +266,7 @@ module _ (p whole : Problem) (s : PartState) (rest : List Link) (freed : List Fr
 
   pub seamed_names : AreLiveNames (s.nodes ++ nodes_of singles) (s.unmatched ++ (freed_names freed ++ map (λ d. d.name) singles))
   seamed_names = record {
-    live = λ n within. live n (in_either s.unmatched (freed_names freed ++ map (λ d. d.name) singles) n within);
+    live = λ n within. live n (is_in-both s.unmatched (freed_names freed ++ map (λ d. d.name) singles) n within);
     distinct =
         distinct_append s.unmatched (freed_names freed ++ map (λ d. d.name) singles) state.names.distinct
         (distinct_append (freed_names freed) (map (λ d. d.name) singles)
@@ -274,7 +274,7 @@ module _ (p whole : Problem) (s : PartState) (rest : List Link) (freed : List Fr
         (λ n within. not_single n (live_freed n within)))
         (λ n open_.
         false_from_ne_true (is_in (freed_names freed ++ map (λ d. d.name) singles) n)
-        (λ within. apart n open_ (in_either (freed_names freed) (map (λ d. d.name) singles) n within)));
+        (λ within. apart n open_ (is_in-both (freed_names freed) (map (λ d. d.name) singles) n within)));
   }
     where
       later : (n : ℕ) → (is_in (freed_names freed) n ≡ true) ⊎ (is_in (map (λ d. d.name) singles) n ≡ true)
@@ -285,7 +285,7 @@ module _ (p whole : Problem) (s : PartState) (rest : List Link) (freed : List Fr
       live : (n : ℕ) → (is_in s.unmatched n ≡ true) ⊎ (is_in (freed_names freed ++ map (λ d. d.name) singles) n ≡ true)
           → is_live (s.nodes ++ nodes_of singles) n ≡ true
       live n (inl h) = live_first s.nodes (nodes_of singles) n (state.names.live n h)
-      live n (inr h) = later n (in_either (freed_names freed) (map (λ d. d.name) singles) n h)
+      live n (inr h) = later n (is_in-both (freed_names freed) (map (λ d. d.name) singles) n h)
 
       apart : (n : ℕ) → is_in s.unmatched n ≡ true
           → (is_in (freed_names freed) n ≡ true) ⊎ (is_in (map (λ d. d.name) singles) n ≡ true) → ⊥

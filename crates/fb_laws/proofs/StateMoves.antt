@@ -17,7 +17,7 @@ use Rattle.fb_laws.specs.Works.{AreMatchedLinks, names_without}
 use Rattle.fb_graph.proofs.Among.{cover_among}
 use Rattle.fb_graph.proofs.ChangedNodes.{by_name, change}
 use Rattle.fb_laws.proofs.CycleLinks.{cycles_under_one}
-use Rattle.fb_laws.proofs.CycleMoves.{cycles_mapped, links_kept, links_stepped, live_mapped, names_kept, top_changed}
+use Rattle.fb_laws.proofs.CycleMoves.{cycles_mapped, links_kept, links_stepped, names_kept, top_changed}
 use Rattle.fb_graph.proofs.TallerNodes.{taller_alike}
 use Rattle.fb_laws.proofs.MoveBridges.{no_leaf, uncovered_back}
 use Rattle.fb_graph.proofs.NestParts.{names_live}
@@ -26,6 +26,7 @@ use Rattle.fb_laws.proofs.PartStates.{unmatched_outer}
 use Rattle.fb_laws.proofs.SearchStates.{search_permuted, search_roles}
 use Rattle.fb_graph.proofs.SingleStates.{names_are}
 use Rattle.fb_graph.proofs.StepTurns.{top_stepped}
+use Rattle.fb_graph.proofs.MappedNodes.{mapped_live}
 
 no_links : (singles : List Single) → all_cycle_links (nodes_of singles) (λ n. []) ≡ []
 no_links [] = refl
@@ -73,7 +74,7 @@ state_stepped p s k limits even may state =
           state.cycles;
       names =
           names_kept s.nodes (stepped_nodes (state_roles s) k s.nodes) s.unmatched
-          (λ n live. live_mapped (stepped_node (state_roles s) k) (λ m. refl) s.nodes n ∙ live) state.names;
+          (λ n live. mapped_live (stepped_node (state_roles s) k) (λ m. refl) s.nodes n ∙ live) state.names;
     }
 
 -- the node of an outer name changed in its layers, with the same loads
@@ -96,7 +97,7 @@ module _ (p : Problem) (s : SearchState) (name : ℕ) (g : Node → Node) (names
   changed_names : AreLiveNames (map (change name g) s.nodes) s.unmatched
   changed_names =
       names_kept s.nodes (map (change name g) s.nodes) s.unmatched
-      (λ n live. live_mapped (change name g) same_name s.nodes n ∙ live) state.names
+      (λ n live. mapped_live (change name g) same_name s.nodes n ∙ live) state.names
 
 pub state_absorbed : StateAbsorbed
 state_absorbed p s name k u v even may state = record {

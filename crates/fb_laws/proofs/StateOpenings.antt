@@ -37,7 +37,8 @@ use Rattle.fb_laws.proofs.RingLinks.{links_among}
 use Rattle.fb_laws.proofs.SearchStates.{links_joined}
 use Rattle.fb_laws.proofs.SearchTrees.{connects_sym, exclusive_names}
 use Rattle.fb_laws.proofs.SplitStates.{child_covers, end_under_child, is_split}
-use Rattle.fb_laws.proofs.TreePaths.{among_minus, in_either, not_both, tree_connects}
+use Rattle.fb_laws.proofs.TreePaths.{among_minus, not_both, tree_connects}
+use Rattle.fb_graph.proofs.Floods.{is_in-both}
 
 -- the sets of all nodes but the one that is split
 top_split : (name c : ℕ) → (c ≡ name → ⊥) → (nodes : List Node) → top_at (split_nodes name nodes) c ≡ top_at nodes c
@@ -143,7 +144,7 @@ round_of_ring nodes others (first ∷ names) links covers ring =
 
     either : (c : ℕ) → (first ≡ c) ⊎ (is_in (names ++ first ∷ []) c ≡ true) → is_in (first ∷ names) c ≡ true
     either c (inl same) = subst (λ m. is_in (first ∷ names) m ≡ true) same (is_in-head first names)
-    either c (inr within) = last c (in_either names (first ∷ []) c within)
+    either c (inr within) = last c (is_in-both names (first ∷ []) c within)
 
 -- the links of a blossom's cycle
 tight_at : (p : Problem) (nodes : List Node) (cycles : ℕ → List Link) (b : Node) → IsAmong b nodes → is_empty b.children ≡ false

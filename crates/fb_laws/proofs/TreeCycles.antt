@@ -20,8 +20,10 @@ use Rattle.fb_laws.proofs.JoinedThree.{root_plus}
 use Rattle.fb_laws.proofs.MergedParts.{distinct_across}
 use Rattle.fb_laws.proofs.SearchStates.{named_set}
 use Rattle.fb_laws.proofs.SearchTrees.{connects_sym, plus_in_tree, minus_in_tree, exclusive_names}
-use Rattle.fb_laws.proofs.TreePaths.{IsChain, distinct_left, distinct_right, in_left, in_right, in_either, along_append, names_along, along_minus, along_plus, along_among, among_minus, among_plus, minus_among, same_minus, same_branch, path_among, path_holds, path_begins, path_distinct, path_chain, chain_rest, chain_parent, last_in, last_is_plus, shared_begins, tree_connects, length_along}
+use Rattle.fb_laws.proofs.TreePaths.{IsChain, distinct_right, along_append, names_along, along_minus, along_plus, along_among, among_minus, among_plus, minus_among, same_minus, same_branch, path_among, path_holds, path_begins, path_distinct, path_chain, chain_rest, chain_parent, last_in, last_is_plus, shared_begins, tree_connects, length_along}
 use Rattle.fb_graph.proofs.Unions.{distinct_append}
+use Rattle.fb_graph.proofs.Floods.{is_in-both, is_in-left, is_in-right}
+use Rattle.fb_laws.proofs.NestOrders.{distinct_left}
 
 pub paths_part : PathsPart
 paths_part tree root a b distinct =
@@ -46,7 +48,7 @@ paths_part tree root a b distinct =
 -- the names on the way back are those on the way there
 back_in : (es : List Entry) (n : ℕ) → is_in (nodes_back es) n ≡ true → is_in (nodes_along es) n ≡ true
 back_in [] n within = within
-back_in (e ∷ es) n within = step (in_either (nodes_back es) (e.plus ∷ e.minus ∷ []) n within) (back_in es n)
+back_in (e ∷ es) n within = step (is_in-both (nodes_back es) (e.plus ∷ e.minus ∷ []) n within) (back_in es n)
   where
     last : (e.minus ≡ n) ⊎ (is_in [] n ≡ true) → is_in (e.minus ∷ e.plus ∷ nodes_along es) n ≡ true
     last (inl same) = subst (λ m. is_in (e.minus ∷ e.plus ∷ nodes_along es) m ≡ true) same (is_in-head e.minus (e.plus ∷ nodes_along es))
@@ -72,17 +74,17 @@ in_back (e ∷ es) n within = step (is_in-cases e.minus (e.plus ∷ nodes_along 
 
     later : (e.plus ≡ n) ⊎ (is_in (nodes_along es) n ≡ true) → (is_in (nodes_along es) n ≡ true → is_in (nodes_back es) n ≡ true) → Goal
     later (inl same) rest =
-        in_right (nodes_back es) (e.plus ∷ e.minus ∷ []) n
+        is_in-right (nodes_back es) (e.plus ∷ e.minus ∷ []) n
         (subst (λ m. is_in (e.plus ∷ e.minus ∷ []) m ≡ true) same (is_in-head e.plus (e.minus ∷ [])))
-    later (inr there) rest = in_left (nodes_back es) (e.plus ∷ e.minus ∷ []) n (rest there)
+    later (inr there) rest = is_in-left (nodes_back es) (e.plus ∷ e.minus ∷ []) n (rest there)
 
     step : (e.minus ≡ n) ⊎ (is_in (e.plus ∷ nodes_along es) n ≡ true) → (is_in (nodes_along es) n ≡ true → is_in (nodes_back es) n ≡ true) → Goal
     step (inl same) rest =
-        in_right (nodes_back es) (e.plus ∷ e.minus ∷ []) n
+        is_in-right (nodes_back es) (e.plus ∷ e.minus ∷ []) n
         (subst (λ m. is_in (e.plus ∷ e.minus ∷ []) m ≡ true) same (is_in-tail e.plus (e.minus ∷ []) e.minus (is_in-head e.minus [])))
     step (inr there) rest = later (is_in-cases e.plus (nodes_along es) n there) rest
 
-distinct_back : (es : List Entry) → AreDistinct (nodes_along es) → AreDistinct (nodes_back es)
+pub distinct_back : (es : List Entry) → AreDistinct (nodes_along es) → AreDistinct (nodes_back es)
 distinct_back [] distinct = tt
 distinct_back (e ∷ es) (minus_new, (plus_new, distinct)) =
     distinct_append (nodes_back es) (e.plus ∷ e.minus ∷ []) (distinct_back es distinct) (
@@ -241,7 +243,7 @@ module _ (p : Problem) (nodes : List Node) (tree : List Entry) (rest : List Link
   pub distinct : AreDistinct (last_plus root shared ∷ cycle_nodes up down)
   distinct = (
     false_from_ne_true (is_in (nodes_along up ++ nodes_back down) (last_plus root shared))
-        (λ within. by (in_either (nodes_along up) (nodes_back down) (last_plus root shared) within)),
+        (λ within. by (is_in-both (nodes_along up) (nodes_back down) (last_plus root shared) within)),
     distinct_append (nodes_along up) (nodes_back down) (distinct_right (root ∷ nodes_along shared) (nodes_along up) first_distinct)
         (distinct_back down (distinct_right (root ∷ nodes_along shared) (nodes_along down) second_distinct))
         (λ n within.
@@ -280,11 +282,11 @@ module _ (p : Problem) (nodes : List Node) (tree : List Entry) (rest : List Link
 
       by : (last_plus root shared ≡ n) ⊎ (is_in (cycle_nodes up down) n ≡ true) → (last_plus root shared ≡ n) ⊎ Found
       by (inl same) = inl same
-      by (inr h) = inr (of_both (in_either (nodes_along up) (nodes_back down) n h))
+      by (inr h) = inr (of_both (is_in-both (nodes_along up) (nodes_back down) n h))
 
   -- nodes of both paths are in the cycle
   from_up : (n : ℕ) → is_in (last_plus root shared ∷ nodes_along up) n ≡ true → is_in (last_plus root shared ∷ cycle_nodes up down) n ≡ true
-  from_up n within = in_left (last_plus root shared ∷ nodes_along up) (nodes_back down) n within
+  from_up n within = is_in-left (last_plus root shared ∷ nodes_along up) (nodes_back down) n within
 
   from_down : (n : ℕ) → is_in (last_plus root shared ∷ nodes_along down) n ≡ true → is_in (last_plus root shared ∷ cycle_nodes up down) n ≡ true
   from_down n within = by (is_in-cases (last_plus root shared) (nodes_along down) n within)
@@ -293,7 +295,7 @@ module _ (p : Problem) (nodes : List Node) (tree : List Entry) (rest : List Link
       by (inl same) =
           subst (λ m. is_in (last_plus root shared ∷ cycle_nodes up down) m ≡ true) same (is_in-head (last_plus root shared) (cycle_nodes up down))
       by (inr h) =
-          is_in-tail (last_plus root shared) (cycle_nodes up down) n (in_right (nodes_along up) (nodes_back down) n (in_back down n h))
+          is_in-tail (last_plus root shared) (cycle_nodes up down) n (is_in-right (nodes_along up) (nodes_back down) n (in_back down n h))
 
   abbrev AllIn : Entry → Type 0
   AllIn g =

@@ -1,11 +1,10 @@
 -- Paths of a search's tree as lists of its branches.
 use Rattle.std.proofs.Common.{ℕ, ◌≡◌, ◌*◌, ◌==◌, ◌⊎◌, inl, inr, cond, true, false, List, [], ◌∷◌, ◌++◌, length, refl, sym, ap, ◌∙◌, subst, arith}
-use Rattle.std.proofs.lemmas.Bool.{both_ways, false≢true, cases_eq, eq-eqb, ne_eqb, false_from_ne_true, or_parts, or_cases, or_left, or_right}
+use Rattle.std.proofs.lemmas.Bool.{both_ways, false≢true, cases_eq, eq-eqb, ne_eqb, false_from_ne_true}
 use Rattle.std.proofs.lemmas.List.{append_assoc}
 use Rattle.fb_graph.specs.Parity.{is_in}
 use Rattle.fb_graph.specs.Certificate.{AreDistinct}
 use Rattle.fb_graph.specs.Dual.{Node}
-use Rattle.fb_graph.proofs.Members.{is_in-append}
 use Rattle.fb_graph.proofs.Sets.{is_in-cases, is_in-head, is_in-tail}
 use Rattle.fb_laws.specs.Trees.{Entry, Connects, IsTree, plus_names, minus_names, tree_names, path_to}
 use Rattle.fb_laws.specs.TreeCycles.{nodes_along, last_plus, PartAtOnce}
@@ -13,24 +12,11 @@ use Rattle.fb_graph.proofs.Among.{IsAmong, among_right, among_either}
 use Rattle.fb_laws.proofs.MergedParts.{distinct_across}
 use Rattle.fb_laws.proofs.SearchTrees.{plus_in_tree, minus_in_tree, exclusive_names}
 use Rattle.fb_graph.proofs.Unions.{distinct_append}
-
-pub distinct_left : (xs ys : List ℕ) → AreDistinct (xs ++ ys) → AreDistinct xs
-distinct_left [] ys distinct = tt
-distinct_left (x ∷ xs) ys distinct =
-    ((or_parts (is_in xs x) (is_in ys x) (sym (is_in-append xs ys x) ∙ distinct.0)).0, distinct_left xs ys distinct.1)
+use Rattle.fb_graph.proofs.Floods.{is_in-left}
 
 pub distinct_right : (xs ys : List ℕ) → AreDistinct (xs ++ ys) → AreDistinct ys
 distinct_right [] ys distinct = distinct
 distinct_right (x ∷ xs) ys distinct = distinct_right xs ys distinct.1
-
-pub in_left : (xs ys : List ℕ) (v : ℕ) → is_in xs v ≡ true → is_in (xs ++ ys) v ≡ true
-in_left xs ys v h = is_in-append xs ys v ∙ or_left (is_in xs v) (is_in ys v) h
-
-pub in_right : (xs ys : List ℕ) (v : ℕ) → is_in ys v ≡ true → is_in (xs ++ ys) v ≡ true
-in_right xs ys v h = is_in-append xs ys v ∙ or_right (is_in xs v) (is_in ys v) h
-
-pub in_either : (xs ys : List ℕ) (v : ℕ) → is_in (xs ++ ys) v ≡ true → (is_in xs v ≡ true) ⊎ (is_in ys v ≡ true)
-in_either xs ys v h = or_cases (is_in xs v) (is_in ys v) (sym (is_in-append xs ys v) ∙ h)
 
 pub along_append : (xs ys : List Entry) → nodes_along (xs ++ ys) ≡ nodes_along xs ++ nodes_along ys
 along_append [] ys = refl
@@ -231,7 +217,7 @@ path_distinct root tree distinct name = (
         false_from_ne_true (is_in (e.minus ∷ e.plus ∷ []) n) (λ there. first (is_in-cases e.minus (e.plus ∷ []) n there))
       where
         among : is_in (tree_names root es) n ≡ true
-        among = ap (λ l. is_in l n) (names_along root es) ∙ in_left (nodes_along es) (root ∷ []) n within
+        among = ap (λ l. is_in l n) (names_along root es) ∙ is_in-left (nodes_along es) (root ∷ []) n within
 
         second : (e.plus ≡ n) ⊎ (is_in [] n ≡ true) → ⊥
         second (inl same) = both_ways (is_in (tree_names root es) e.plus) plus_fresh (ap (is_in (tree_names root es)) same ∙ among)
@@ -246,7 +232,7 @@ path_distinct root tree distinct name = (
     pair : (e : Entry) (es : List Entry) → AreDistinct (tree_names root (e ∷ es)) → AreDistinct (e.minus ∷ e.plus ∷ [])
     pair e es (minus_fresh, rest) = (
       false_from_ne_true (is_in (e.plus ∷ []) e.minus)
-          (λ there. both_ways (is_in (e.plus ∷ tree_names root es) e.minus) minus_fresh (in_left (e.plus ∷ []) (tree_names root es) e.minus there)),
+          (λ there. both_ways (is_in (e.plus ∷ tree_names root es) e.minus) minus_fresh (is_in-left (e.plus ∷ []) (tree_names root es) e.minus there)),
       (refl, tt),
     )
 

@@ -1,13 +1,11 @@
 -- Outer names stay outer.
 use Rattle.std.proofs.Common.{ℕ, ◌≡◌, ◌⊎◌, inl, inr, true, false, List, [], ◌∷◌, ◌++◌, map, refl, sym, ap, ◌∙◌}
 use Rattle.std.proofs.lemmas.Bool.{both_ways, false_from_ne_true, cases_eq, or_cases}
-use Rattle.std.proofs.lemmas.List.Elements.{All-map}
 use Rattle.fb_graph.specs.Parity.{is_in}
 use Rattle.fb_graph.specs.Dual.{Node, is_outer, taller_node}
 use Rattle.fb_graph.proofs.Members.{is_in-append}
-use Rattle.fb_graph.proofs.Nodes.{is_outer-childless}
 use Rattle.fb_graph.specs.Steps.{stepped_node}
-use Rattle.fb_graph.specs.Singles.{Single, node_of, nodes_of}
+use Rattle.fb_graph.specs.Singles.{nodes_of}
 use Rattle.fb_graph.specs.Moves.{blossom, joined_nodes, split_nodes, without_top}
 use Rattle.fb_laws.specs.UnmatchedNames.{OuterBegin, OuterFewer, OuterStepped, OuterAbsorbed, OuterUncovered, OuterSplit, OuterJoined, OuterBeside, OuterSinglesAdded, NoChildUnmatched}
 use Rattle.fb_graph.proofs.Among.{IsAmong, among_either, among_right, outer_among, among_outer}
@@ -16,11 +14,7 @@ use Rattle.fb_graph.proofs.ChangedNodes.{change, by_name}
 use Rattle.fb_graph.proofs.Forests.{absent_outer}
 use Rattle.fb_graph.proofs.MappedNodes.{mapped_outer}
 use Rattle.fb_graph.proofs.Places.{among_split}
-
--- the nodes of single defects are all outer
-pub all_outer : (singles : List Single) (n : ℕ) → is_outer (nodes_of singles) n ≡ true
-all_outer singles n =
-    is_outer-childless (nodes_of singles) n (All-map (λ m. m.children ≡ []) node_of singles (λ i d less. refl))
+use Rattle.fb_graph.proofs.SingleStates.{all_outer}
 
 pub outer_begin : OuterBegin
 outer_begin singles n within = all_outer singles n

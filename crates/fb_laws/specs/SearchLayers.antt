@@ -1,5 +1,5 @@
 -- A search in which layers without value come and go, and what its steps leave to do.
-use Rattle.std.specs.Prelude.{ℕ, ◌≡◌, ◌==◌, ◌&&◌, ◌<◌, Bool, true, false, not, List, ◌∷◌, length, sum_by, count_by, None, if◌then◌else◌, []}
+use Rattle.std.specs.Prelude.{ℕ, ◌≡◌, ◌&&◌, ◌<◌, Bool, true, false, not, List, ◌∷◌, length, sum_by, count_by, None, if◌then◌else◌, []}
 use Rattle.std.specs.List.{range_with_len}
 use Rattle.fb_graph.specs.Parity.{is_in}
 use Rattle.fb_graph.specs.Problem.{Problem}

@@ -13,7 +13,7 @@ use Rattle.fb_links.specs.InternalMerging.{AreMerging}
 use Rattle.fb_links.proofs.Lists.{AreDistinct-push, is_in-push_other, is_in-push_same, not_in-push, unequal}
 use Rattle.fb_links.proofs.Numbers.{get_or-push_other}
 
-abbrev Table : Type 0
+abbrev pub Table : Type 0
 Table = List (Option (List Step))
 
 pub merging_begins : (left right : Table) → All IsEntry right → AreMerging left right right [] left

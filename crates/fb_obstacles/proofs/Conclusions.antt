@@ -118,7 +118,7 @@ tight_is_not_clear p roles nodes k u v clear edge differs free = by edge.leads
         (subst (λ x. is_covered_by roles.is_minus nodes x ≡ false) (sym first) free) in
         absurd (omega (arith, less, edge.tight))
 
-uncovered_real : (p : Problem) (nodes : List Node) (v : ℕ) → IsDual p nodes → p.is_real v ≡ false → cover_of nodes v ≡ None
+pub uncovered_real : (p : Problem) (nodes : List Node) (v : ℕ) → IsDual p nodes → p.is_real v ≡ false → cover_of nodes v ≡ None
 uncovered_real p nodes v dual boundary = step (cover_of nodes v) refl
   where
     step : (o : Option ℕ) → cover_of nodes v ≡ o → o ≡ None

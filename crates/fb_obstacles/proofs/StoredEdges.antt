@@ -1,35 +1,16 @@
 -- Lists of edges that are stored with the place of each.
-use Rattle.std.proofs.Common.{ℕ, zero, suc, ◌≡◌, ◌+◌, ◌-◌, ◌≤◌, ◌<◌, ◌≢◌, ◌==◌, ◌&&◌, ◌⊎◌, inl, inr, Bool, true, false, not, ◌||◌, sum_by, eq-eqb, subst, List, [], ◌∷◌, ◌++◌, length, length-append, get_or, set, All, refl, sym, ap, ◌∙◌, arith}
-use Rattle.std.proofs.lemmas.Bool.{both_ways, cases_eq, cases_lt, eqb-true, false_from_ne_true}
+use Rattle.std.proofs.Common.{ℕ, ◌≡◌, ◌+◌, ◌-◌, ◌≤◌, ◌<◌, ◌≢◌, ◌⊎◌, inl, inr, true, false, subst, List, [], ◌∷◌, ◌++◌, length, length-append, get_or, set, refl, sym, ap, ◌∙◌, arith}
+use Rattle.std.proofs.lemmas.Bool.{both_ways, cases_eq, cases_lt, false_from_ne_true}
 use Rattle.std.proofs.lemmas.List.{length-set, get_or-set_same, get_or-set_other, get_or_append_left, get_or_push}
 use Rattle.std.proofs.lemmas.List.Elements.{All-push}
 use Rattle.std.proofs.lemmas.List.Elements.{All-from_get_or}
 use Rattle.std.specs.List.{range_with_len}
 use Rattle.std.proofs.lemmas.List.FromFn.{length-range_with_len}
-use Rattle.std.specs.List.{swap_remove}
-use Rattle.std.specs.List.Sorted.{IsPermutation}
-use Rattle.std.proofs.lemmas.List.Sorted.{IsPermutation-swap_remove, list_any-IsPermutation, sum_by_popped}
-use Rattle.std.proofs.lemmas.List.Sums.{get_or-le-sum_by}
-use Rattle.std.proofs.lemmas.Grind.{get_or_default_zero}
 use Rattle.fb_graph.specs.Parity.{is_in}
 use Rattle.fb_graph.specs.Certificate.{AreDistinct}
-use Rattle.fb_graph.proofs.Sets.{one_if, count_equal-le, equal_sym, is_in-All, is_in_at, is_in-range, length-le_from_within, distinct_from_rising, range_rises}
-use Rattle.fb_graph.proofs.ParitySums.{and-true, and-false}
+use Rattle.fb_graph.proofs.Sets.{is_in-All, is_in_at, is_in-range, length-le_from_within, distinct_from_rising, range_rises}
 use Rattle.fb_obstacles.specs.InternalWatch.{IsStored}
-
--- a list is distinct whose members have its places, counted from c on
-distinct_from_places : (place : ℕ → ℕ) (c : ℕ) (xs : List ℕ)
-    → ((i : ℕ) → i < length xs → place (get_or xs i 0) ≡ i + c) → AreDistinct xs
-distinct_from_places place c [] at = tt
-distinct_from_places place c (x ∷ xs) at = (
-  false_from_ne_true (is_in xs x)
-      (λ within.
-      let later : c < place x = is_in-All (λ u. c < place u) xs
-      (All-from_get_or (λ u. c < place u) xs 0 (λ i less. let h = at (suc i) (omega arith) in omega (arith, h))) x within in
-      let first : place x ≡ 0 + c = at 0 (omega arith) in
-      absurd (omega arith)),
-  distinct_from_places place (c + 1) xs (λ i less. let h = at (suc i) (omega arith) in omega (arith, h)),
-)
+use Rattle.fb_regions.proofs.Stored.{distinct_from_places, fewer_than_all}
 
 pub stored_distinct : (places edges : List ℕ) (capacity : ℕ) → IsStored places edges capacity → AreDistinct edges
 stored_distinct places edges capacity stored =
@@ -44,22 +25,6 @@ stored_place places edges capacity e stored within =
     (λ i less. let h = stored.placed i less in (omega (arith, h), ap (λ j. get_or edges j 0) h)))
     e within
 
--- distinct numbers below n that lack one of them are fewer
-pub fewer_than_all : (xs : List ℕ) (n e : ℕ) → AreDistinct xs → All (λ k. k < n) xs → e < n → is_in xs e ≡ false
-    → length xs < n
-fewer_than_all xs n e distinct below within absent =
-    omega (
-      arith,
-      length-le_from_within (e ∷ xs) (range_with_len 0 n) (absent, distinct) (distinct_from_rising (range_with_len 0 n) (range_rises 0 n))
-          (λ v inside. is_in-range n v
-          (is_in-All (λ k. k < n) (e ∷ xs) (All-from_get_or (λ k. k < n) (e ∷ xs) 0 each) v inside)),
-      length-range_with_len 0 n,
-    )
-  where
-    each : (i : ℕ) → i < length (e ∷ xs) → get_or (e ∷ xs) i 0 < n
-    each zero less = within
-    each (suc i) less = below i 0 (omega arith)
-
 -- an edge is not watched where its place has another edge, or none
 pub absent_elsewhere : (places edges : List ℕ) (capacity e place : ℕ) → IsStored places edges capacity
     → place ≡ get_or places e 0 → (place < length edges → get_or edges place 0 ≡ e → ⊥) → is_in edges e ≡ false
@@ -68,51 +33,6 @@ absent_elsewhere places edges capacity e place stored at other =
     (λ within.
     let (less, there) = stored_place places edges capacity e stored within in
     other (omega (arith, less, at)) (ap (λ i. get_or edges i 0) at ∙ there))
-
--- a number that is taken out of a distinct list stands in the rest no more
-absent_rest : (x : ℕ) (xs ys : List ℕ) → AreDistinct xs → IsPermutation xs (x ∷ ys) → is_in ys x ≡ false
-absent_rest x xs ys distinct moved =
-    false_from_ne_true (is_in ys x)
-    (λ within.
-    both_ways (x == x)
-    (is_in-All (λ u. (u == x) ≡ false) ys
-    (λ i d less.
-    false_from_ne_true (get_or ys i d == x)
-    (λ same.
-    let part : one (get_or ys i d) ≤ sum_by one ys = get_or-le-sum_by one ys i d less in
-    let count : sum_by one ys + one x ≡ sum_by one xs = sum_by_popped one x xs ys moved in
-    let few : sum_by one xs ≤ 1 = count_equal-le xs x distinct in
-    absurd (omega (arith, part, count, few, ap one_if same, ap one_if (eq-eqb x x refl)))))
-    x within)
-    (eq-eqb x x refl))
-  where
-    one : ℕ → ℕ
-    one u = one_if (u == x)
-
--- which numbers are left when one is taken out of a distinct list
-pub is_in_removed : (xs : List ℕ) (i x : ℕ) → i < length xs → get_or xs i 0 ≡ x → AreDistinct xs
-    → (e : ℕ) → is_in (swap_remove xs i x) e ≡ (is_in xs e && not (e == x))
-is_in_removed xs i x less at distinct e =
-    step (is_in xs e) (e == x) refl
-    (ap (λ b. b || is_in (swap_remove xs i x) e) (equal_sym e x) ∙ sym (list_any-IsPermutation (λ u. u == e) xs (x ∷ swap_remove xs i x) moved))
-  where
-    moved : IsPermutation xs (x ∷ swap_remove xs i x)
-    moved = IsPermutation-swap_remove xs i x less (sym at ∙ sym (get_or_default_zero xs i x less))
-
-    step : (whole same : Bool) → (e == x) ≡ same → (same || is_in (swap_remove xs i x) e) ≡ whole
-        → is_in (swap_remove xs i x) e ≡ (whole && not same)
-    step whole true is all =
-        let same : x ≡ e = sym (eqb-true e x is) in
-        ap (is_in (swap_remove xs i x)) (sym same) ∙ (absent_rest x xs (swap_remove xs i x) distinct moved ∙ sym (and-false whole))
-    step whole false is all = all ∙ sym (and-true whole)
-
--- the same of what is left by a call that gives the number back
-pub is_in_taken : (xs rest : List ℕ) (i taken x : ℕ) → i < length xs → get_or xs i 0 ≡ x → AreDistinct xs
-    → taken ≡ get_or xs i taken → rest ≡ swap_remove xs i taken
-    → (e : ℕ) → is_in rest e ≡ (is_in xs e && not (e == x))
-is_in_taken xs rest i taken x less at distinct gives left e =
-    let same : taken ≡ x = gives ∙ (get_or_default_zero xs i taken less ∙ at) in
-    ap (λ ys. is_in ys e) (left ∙ ap (swap_remove xs i) same) ∙ is_in_removed xs i x less at distinct e
 
 -- the list is no longer than the table
 pub shorter_than_places : (places edges : List ℕ) (capacity : ℕ) → IsStored places edges capacity

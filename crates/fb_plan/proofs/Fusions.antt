@@ -1,5 +1,5 @@
 -- The rules on the children of fusions, and that fusions which break none make a tree.
-use Rattle.std.proofs.Common.{ℕ, ◌+◌, ◌<◌, ◌≤◌, ◌≡◌, ◌⊎◌, Bool, true, false, ◌||◌, eqb, leb, List, length, take, set, get_or, refl, sym, ap, ◌∙◌, subst, inl, inr, arith, length-set}
+use Rattle.std.proofs.Common.{ℕ, ◌+◌, ◌<◌, ◌≤◌, ◌≡◌, ◌⊎◌, Bool, true, false, ◌||◌, eqb, leb, List, length, take, set, get_or, sym, ap, ◌∙◌, subst, inl, inr, arith, length-set}
 use Rattle.std.proofs.lemmas.Bool.{both_ways, cases_eq, cases_order, eq-eqb, eqb-false, leb-false, or_from, or_left, or_parts, or_right, ne_eqb}
 use Rattle.std.proofs.lemmas.List.{get_or-map, get_or-set_same, get_or-set_other, length-map, length-take-le}
 use Rattle.std.proofs.lemmas.List.Folds.{list_any_at, list_any_more}
@@ -9,6 +9,7 @@ use Rattle.fb_plan.specs.Rules.{is_named, is_out_of_range, is_used_twice, joins_
 use Rattle.fb_plan.specs.declared.parts.Join.{Join}
 use Rattle.fb_plan.proofs.Trees.{names_cases}
 use Rattle.fb_plan.proofs.Tables.{get_or-take}
+use Rattle.fb_graph.proofs.Boundaries.{or_nothing}
 
 pub length-joins_of : (fusions : List Join) → length (joins_of fusions) ≡ length fusions
 length-joins_of fusions = length-map fusions (λ join. (join.left, join.right))
@@ -41,10 +42,6 @@ used_twice_at fusions i nodes join used less is left right told =
     ∙ ap (λ b. eqb join.left join.right || b || is_named (take i (joins_of fusions)) join.right) (sym (told join.left left))
     ∙ ap (λ b. eqb join.left join.right || get_or used join.left false || b) (sym (told join.right right))
 
-or_none : (a b : Bool) → b ≡ false → (a || b) ≡ a
-or_none true b e = refl
-or_none false b e = e
-
 -- both children of one more fusion flagged
 pub named_more : (fusions : List Join) (i nodes : ℕ) (join : Join) (used : List Bool) → i < length fusions
     → join ≡ get_or fusions i join → join.left < nodes → join.right < nodes → length used ≡ nodes
@@ -71,7 +68,7 @@ named_more fusions i nodes join used less is left right count told n node =
         get_or-set_other (set used join.left true) join.right n true false not_right
         ∙ get_or-set_other used join.left n true false not_left
         ∙ told n node
-        ∙ sym (or_none (is_named (take i (joins_of fusions)) n) _
+        ∙ sym (or_nothing (is_named (take i (joins_of fusions)) n) _
         (or_from _ _ (ne_eqb join.left n (λ e. not_left (sym e))) (ne_eqb join.right n (λ e. not_right (sym e)))))
 
 -- fusions that break no rule make a tree

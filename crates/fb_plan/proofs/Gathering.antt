@@ -1,10 +1,11 @@
 -- The ranges of all nodes, one node after another.
 use Rattle.std.proofs.Common.{ℕ, ◌+◌, ◌-◌, ◌<◌, ◌≤◌, ◌≡◌, ◌||◌, List, [], ◌∷◌, ◌++◌, length, map, take, length-take-le, get_or, sym, ap, ◌∙◌, arith, append_assoc, append-nil, length-append, false}
 use Rattle.std.specs.List.{list_any}
-use Rattle.std.proofs.lemmas.List.{length-map, get_or_append_left, get_or-append_right, get_or-map, map-append, take_more}
+use Rattle.std.proofs.lemmas.List.{length-map, get_or_append_left, get_or-append_right, get_or-map, take_more}
 use Rattle.std.proofs.lemmas.List.Folds.{list_any_more}
 use Rattle.fb_plan.specs.Rules.{claim_of, claims_from, is_bad_range, ranges_of}
 use Rattle.fb_plan.specs.declared.parts.Join.{Join}
+use Rattle.fb_graph.proofs.BuildSteps.{map_more}
 
 pub left_list : {X Y : Type 0} (f : X → List (ℕ × ℕ)) (g : Y → List (ℕ × ℕ)) (xs : List X) (ys : List Y) (k : ℕ) (d : X)
     → k < length xs → get_or (map f xs ++ map g ys) k [] ≡ f (get_or xs k d)
@@ -28,7 +29,7 @@ length-ranges_of f xs fusions =
       length-map fusions (λ join. join.seam.items),
     )
 
-claims-append : (n : ℕ) (xs ys : List (List (ℕ × ℕ))) → claims_from n (xs ++ ys) ≡ claims_from n xs ++ claims_from (n + length xs) ys
+pub claims-append : (n : ℕ) (xs ys : List (List (ℕ × ℕ))) → claims_from n (xs ++ ys) ≡ claims_from n xs ++ claims_from (n + length xs) ys
 claims-append n [] ys = ap (λ k. claims_from k ys) (omega arith)
 claims-append n (x ∷ xs) ys =
     ap (λ zs. map (claim_of n) x ++ zs) (claims-append (n + 1) xs ys
@@ -50,10 +51,6 @@ pub bad_more : (vertices i : ℕ) (ranges : List (ℕ × ℕ)) (d : ℕ × ℕ) 
     → list_any (is_bad_range vertices) (take (i + 1) ranges) ≡ false
 bad_more vertices i ranges d less none here =
     list_any_more (is_bad_range vertices) ranges i d less ∙ ap (λ b. b || is_bad_range vertices (get_or ranges i d)) none ∙ here
-
-pub map_more : {X Y : Type 0} (f : X → Y) (xs : List X) (i : ℕ) (d : X) → i < length xs
-    → map f (take (i + 1) xs) ≡ map f (take i xs) ++ f (get_or xs i d) ∷ []
-map_more f xs i d less = ap (map f) (take_more xs i d less) ∙ map-append f (take i xs) (get_or xs i d ∷ [])
 
 pub ruleset adding = (bad_more, map_more)
 

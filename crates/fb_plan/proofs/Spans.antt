@@ -1,11 +1,12 @@
 -- Where the subtrees lie when the nodes are listed each after its children's subtrees.
-use Rattle.std.proofs.Common.{ℕ, zero, suc, ◌+◌, ◌-◌, ◌<◌, ◌≤◌, ◌≡◌, ◌⊎◌, Bool, true, false, List, [], ◌∷◌, ◌++◌, length, refl, sym, ap, ◌∙◌, subst, inl, inr, arith, length-append}
+use Rattle.std.proofs.Common.{ℕ, zero, suc, ◌+◌, ◌-◌, ◌<◌, ◌≤◌, ◌≡◌, ◌⊎◌, true, List, [], ◌∷◌, ◌++◌, length, sym, ap, ◌∙◌, subst, inl, inr, arith, length-append}
 use Rattle.std.proofs.lemmas.Bool.{and_from, and_parts, cases_lt, le-leb, leb-true, lt-ltb, ltb-true}
 use Rattle.fb_plan.specs.Plans.{PlanTree, IsTree, join_at, node_count, root_of, is_within, subtrees}
 use Rattle.fb_plan.specs.Layout.{IsPlaced, covers, size_of, span_at}
 use Rattle.fb_plan.specs.declared.parts.Span.{Span}
 use Rattle.fb_plan.proofs.Trees.{WithinCases, sub_at, subtree_of_fusion, subtree_of_unit, within_cases, within_is_node, within-le}
 use Rattle.fb_plan.proofs.Roots.{below_root}
+use Rattle.fb_graph.proofs.Booleans.{same_bool}
 
 pub size_of_unit : (t : PlanTree) (n : ℕ) → n < t.units → size_of t n ≡ 1
 size_of_unit t n less = ap length (subtree_of_unit t n less)
@@ -140,16 +141,11 @@ told-by (suc fuel) t spans tree placed a n m enough in_n in_m from to =
         among i (children_at t spans tree placed a i less is) onward child_n
         (subst (λ j. (is_within t (join_at t.joins j).0 m ≡ true) ⊎ (is_within t (join_at t.joins j).1 m ≡ true)) same child_m)
 
-pub same_tests : (a b : Bool) → (a ≡ true → b ≡ true) → (b ≡ true → a ≡ true) → a ≡ b
-same_tests true b there back = sym (there refl)
-same_tests false true there back = back refl
-same_tests false false there back = refl
-
 -- a node lies within another exactly where its place does
 pub within_as_spans : (t : PlanTree) (spans : List Span) → IsTree t → IsPlaced t spans → (n m : ℕ) → n < node_count t
     → m < node_count t → is_within t n m ≡ covers (span_at spans n) (span_at spans m)
 within_as_spans t spans tree placed n m node_n node_m =
-    same_tests (is_within t n m) (covers (span_at spans n) (span_at spans m)) there back
+    same_bool (is_within t n m) (covers (span_at spans n) (span_at spans m)) there back
   where
     there : is_within t n m ≡ true → covers (span_at spans n) (span_at spans m) ≡ true
     there within =

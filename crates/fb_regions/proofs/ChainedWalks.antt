@@ -8,7 +8,7 @@ use Rattle.fb_links.proofs.Turns.{Runs-chained}
 use Rattle.fb_regions.specs.Moves.{IsSourceWalk}
 use Rattle.fb_regions.specs.Walks.{IsWalk}
 
-walk_runs : (p : Problem) (walk : List Step) (from to : ℕ) → IsWalk p walk from to → Runs walk from to
+pub walk_runs : (p : Problem) (walk : List Step) (from to : ℕ) → IsWalk p walk from to → Runs walk from to
 walk_runs p [] from to same = same
 walk_runs p (s ∷ ss) from to (begins, step, more) = (begins, walk_runs p ss s.to to more)
 

@@ -16,7 +16,7 @@ use Rattle.fb_graph.proofs.ParitySums.{and-true, and-false}
 use Rattle.fb_regions.specs.InternalSparse.{IsStored}
 
 -- a list is distinct whose members have its places, counted from c on
-distinct_from_places : (place : ℕ → ℕ) (c : ℕ) (xs : List ℕ)
+pub distinct_from_places : (place : ℕ → ℕ) (c : ℕ) (xs : List ℕ)
     → ((i : ℕ) → i < length xs → place (get_or xs i 0) ≡ i + c) → AreDistinct xs
 distinct_from_places place c [] at = tt
 distinct_from_places place c (x ∷ xs) at = (
@@ -30,7 +30,7 @@ distinct_from_places place c (x ∷ xs) at = (
 )
 
 -- distinct numbers below n that lack one of them are fewer
-fewer_than_all : (xs : List ℕ) (n e : ℕ) → AreDistinct xs → All (λ k. k < n) xs → e < n → is_in xs e ≡ false
+pub fewer_than_all : (xs : List ℕ) (n e : ℕ) → AreDistinct xs → All (λ k. k < n) xs → e < n → is_in xs e ≡ false
     → length xs < n
 fewer_than_all xs n e distinct below within absent =
     omega (
@@ -46,7 +46,7 @@ fewer_than_all xs n e distinct below within absent =
     each (suc i) less = below i 0 (omega arith)
 
 -- a number that is taken out of a distinct list stands in the rest no more
-absent_rest : (x : ℕ) (xs ys : List ℕ) → AreDistinct xs → IsPermutation xs (x ∷ ys) → is_in ys x ≡ false
+pub absent_rest : (x : ℕ) (xs ys : List ℕ) → AreDistinct xs → IsPermutation xs (x ∷ ys) → is_in ys x ≡ false
 absent_rest x xs ys distinct moved =
     false_from_ne_true (is_in ys x)
     (λ within.
@@ -66,7 +66,7 @@ absent_rest x xs ys distinct moved =
     one u = one_if (u == x)
 
 -- which numbers are left when one is taken out of a distinct list
-is_in_removed : (xs : List ℕ) (i x : ℕ) → i < length xs → get_or xs i 0 ≡ x → AreDistinct xs
+pub is_in_removed : (xs : List ℕ) (i x : ℕ) → i < length xs → get_or xs i 0 ≡ x → AreDistinct xs
     → (e : ℕ) → is_in (swap_remove xs i x) e ≡ (is_in xs e && not (e == x))
 is_in_removed xs i x less at distinct e =
     step (is_in xs e) (e == x) refl

@@ -6,6 +6,8 @@ use Rattle.fb_graph.specs.Parity.{is_in}
 use Rattle.fb_graph.specs.Certificate.{AreDistinct}
 use Rattle.fb_graph.specs.Dual.{Node, all_cuts, is_live, layers_at, layers_of, no_node}
 use Rattle.fb_graph.specs.declared.parts.Cut.{Cut}
+use Rattle.fb_graph.proofs.NestParts.{names_live}
+use Rattle.fb_graph.proofs.AppendedNodes.{cuts_merged}
 
 named_length : (ns : List Node) → length (map (λ n. n.name) ns) ≡ length ns
 named_length [] = refl
@@ -18,15 +20,11 @@ named_in (n ∷ ns) (suc i) less =
     or_right (n.name == get_or (map (λ m. m.name) ns) i 0) (is_in (map (λ m. m.name) ns) (get_or (map (λ m. m.name) ns) i 0))
     (named_in ns i (omega (arith, less)))
 
-live_in : (ns : List Node) (x : ℕ) → is_in (map (λ n. n.name) ns) x ≡ is_live ns x
-live_in [] x = refl
-live_in (n ∷ ns) x = ap (λ b. (n.name == x) || b) (live_in ns x)
-
 pub live_at : (ns : List Node) (names : List ℕ) (i : ℕ) → names ≡ map (λ n. n.name) ns → i < length names
     → is_live ns (get_or names i 0) ≡ true
 live_at ns names i e less =
     ap (λ (l : List ℕ). is_live ns (get_or l i 0)) e
-    ∙ (sym (live_in ns (get_or (map (λ n. n.name) ns) i 0))
+    ∙ (sym (names_live ns (get_or (map (λ n. n.name) ns) i 0))
     ∙ named_in ns i (let c : length names ≡ length ns = ap length e ∙ named_length ns in omega (arith, less, c)))
 
 layers_here : (ns : List Node) → AreDistinct (map (λ n. n.name) ns) → (i : ℕ) → i < length ns
@@ -45,11 +43,6 @@ layers_here (n ∷ ns) distinct (suc i) less =
           ∙ layers_here ns distinct.1 i (omega (arith, less))
     ]
 
-cuts_append : (xs ys : List Node) → all_cuts (xs ++ ys) ≡ all_cuts xs ++ all_cuts ys
-cuts_append [] ys = refl
-cuts_append (x ∷ xs) ys =
-    ap (λ l. layers_of x ++ l) (cuts_append xs ys) ∙ sym (append_assoc (layers_of x) (all_cuts xs) (all_cuts ys))
-
 pub cuts_more : (ns : List Node) (names : List ℕ) (i : ℕ) (done layers new : List Cut) → AreDistinct (map (λ n. n.name) ns)
     → names ≡ map (λ n. n.name) ns → i < length names → done ≡ all_cuts (take i ns) → layers ≡ layers_at ns (get_or names i 0)
     → new ≡ done ++ layers → new ≡ all_cuts (take (i + 1) ns)
@@ -60,4 +53,4 @@ cuts_more ns names i done layers new distinct e less d l added =
     added
     ∙ (ap (λ k. k ++ layers) d
     ∙ (ap (λ k. all_cuts (take i ns) ++ k) (here ∙ sym (append-nil (layers_of (get_or ns i no_node))))
-    ∙ (sym (cuts_append (take i ns) (get_or ns i no_node ∷ [])) ∙ ap all_cuts (sym (take_more ns i no_node below)))))
+    ∙ (sym (cuts_merged (take i ns) (get_or ns i no_node ∷ [])) ∙ ap all_cuts (sym (take_more ns i no_node below)))))

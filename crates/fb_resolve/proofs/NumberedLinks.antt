@@ -21,23 +21,14 @@ use Rattle.fb_laws.specs.HeldDefects.{AreHeld}
 use Rattle.fb_laws.specs.OpenedLinks.{every_second, has_end, opened_over, pair_links, place_of, round_from}
 use Rattle.fb_laws.specs.PartStates.{all_cycle_links, links_at}
 use Rattle.fb_laws.proofs.OpenedParts.{flat_among}
-use Rattle.fb_laws.proofs.HeldDefects.{held_in_sets}
+use Rattle.fb_laws.proofs.HeldDefects.{held_in_sets, both}
 use Rattle.fb_laws.proofs.RingReads.{second_by_number}
 use Rattle.fb_half.specs.Translations.{children_at, cycles_by, link_by, ring_at}
 use Rattle.fb_half.specs.Matchings.{match_links}
 use Rattle.fb_half.specs.Parts.{IsPart, PartValue, problem_in}
 use Rattle.fb_resolve.specs.Openings.{OpenedByNumber, holds_end, is_reached, opened_numbers, pair_numbers}
 use Rattle.fb_resolve.proofs.Rings.{All_pairs, place_same}
-
-same_tests : (a b : Bool) → (a ≡ true → b ≡ true) → (b ≡ true → a ≡ true) → a ≡ b
-same_tests true b there back = sym (there refl)
-same_tests false true there back = back refl
-same_tests false false there back = refl
-
-both : (a b : Bool) → a ≡ true → b ≡ true → (a && b) ≡ true
-both true true e f = refl
-both true false e f = f
-both false b e f = e
+use Rattle.fb_graph.proofs.Booleans.{same_bool}
 
 -- what is in the lists along a cycle is in those of its nodes' names
 along_any : (held : ℕ → List ℕ) (ss : List CycleStep) (d : ℕ)
@@ -103,7 +94,7 @@ module _ (w : PartValue) (part : IsPart w) (nested : IsNested w.store) where
       (held_in_sets (problem_in w) w.nodes held nest are_held) r.0 r.1 in
       let at : is_in (top_at w.nodes r.0.name) d ≡ is_in (held r.0.name) d =
       ap (λ l. is_in l d) (top_among w.nodes nest.dual.names r.0 r.1)
-      ∙ same_tests (is_in r.0.top.vertices d) (is_in (held r.0.name) d)
+      ∙ same_bool (is_in r.0.top.vertices d) (is_in (held r.0.name) d)
       (λ h. sets d ∙ both (is_in (leaves w.nodes) d) (is_in r.0.top.vertices d) (own (top_real r.0 r.1 h)) h)
       (λ h. (and_parts (is_in (leaves w.nodes) d) (is_in r.0.top.vertices d) (sym (sets d) ∙ h)).1) in
       subst (λ (n : ℕ). is_in (top_at w.nodes n) d ≡ is_in (held n) d) r.2 at

@@ -8,6 +8,7 @@ use Rattle.fb_blossoms.proofs.Nested.{is_in-one, one_in}
 use Rattle.fb_blossoms.proofs.Held.{from_along}
 use Rattle.fb_blossoms.proofs.Rounds.{cycle_kept}
 use Rattle.fb_resolve.specs.InternalMarks.{AreClosed, IsMarkedUp, is_marked}
+use Rattle.fb_graph.proofs.Booleans.{same_bool}
 
 -- a node that holds a defect is its leaf, or one of its children holds the defect
 pub held_below : (store : List (Option Node)) (x d : ℕ) → IsNested store → is_in (defects_at store x) d ≡ true
@@ -96,16 +97,11 @@ holders_marked store marks l d nested closed leaf_is marked (suc size) x less h 
           (holders_marked store marks l d nested closed leaf_is marked size r.0 (omega (arith, smaller, less)) r.2)
     ]
 
-same_tests : (a b : Bool) → (a ≡ true → b ≡ true) → (b ≡ true → a ≡ true) → a ≡ b
-same_tests true b there back = sym (there refl)
-same_tests false true there back = back refl
-same_tests false false there back = refl
-
 -- So with the nodes from a leaf up just those are marked that hold its defect.
 pub marks_up : (store : List (Option Node)) (old new : List Bool) (l d x : ℕ) → IsNested store
     → node_at store l ≡ Some (leaf d) → IsMarkedUp store old new l
     → is_marked new x ≡ (is_marked old x || is_in (defects_at store x) d)
-marks_up store old new l d x nested leaf_is up = same_tests (is_marked new x) (is_marked old x || is_in (defects_at store x) d) there back
+marks_up store old new l d x nested leaf_is up = same_bool (is_marked new x) (is_marked old x || is_in (defects_at store x) d) there back
   where
     held : is_in (defects_at store l) d ≡ true
     held = ap (λ o. is_in (defects_of o) d) leaf_is ∙ one_in d

@@ -15,11 +15,7 @@ use Rattle.fb_blossoms.specs.Nodes.{Adds, AreOuter, IsOddCycle, IsOuter, TakesOf
 use Rattle.fb_blossoms.specs.Nodes as blossoms
 use Rattle.fb_half.specs.Parts.{AreAgreed}
 use Rattle.fb_half.specs.Translations.{children_at}
-
-same_tests : (a b : Bool) → (a ≡ true → b ≡ true) → (b ≡ true → a ≡ true) → a ≡ b
-same_tests true b there back = sym (there refl)
-same_tests false true there back = back refl
-same_tests false false there back = refl
+use Rattle.fb_graph.proofs.Booleans.{same_bool}
 
 -- the nodes of a cycle
 abbrev pub nodes_of : List CycleStep → List ℕ
@@ -146,7 +142,7 @@ module _ (nodes : List Node) (old new : List (Option blossoms.Node)) (name : ℕ
           among_live (joined_nodes name (nodes_of cycle) nodes) (blossom name (nodes_of cycle) nodes) x made_among (sym e)
           ∙ (ap (λ (o : Option blossoms.Node). is_some o) (sym adds.added) ∙ ap (blossoms.is_live new) (sym e))
       step (inr differ) =
-          same_tests (is_live (joined_nodes name (nodes_of cycle) nodes) x) (is_live nodes x) (there differ) back
+          same_bool (is_live (joined_nodes name (nodes_of cycle) nodes) x) (is_live nodes x) (there differ) back
           ∙ (agreed.live x ∙ ap (λ (o : Option blossoms.Node). is_some o) (sym (adds.others x differ)))
 
   -- after the nodes of a cycle are joined
@@ -182,7 +178,7 @@ module _ (nodes : List Node) (old new : List (Option blossoms.Node)) (name : ℕ
           (among_split name nodes n a).1 (named ∙ e))
           ∙ (ap (λ (o : Option blossoms.Node). is_some o) (sym gone.gone) ∙ ap (blossoms.is_live new) (sym e))
       step (inr differ) =
-          same_tests (is_live (split_nodes name nodes) x) (is_live nodes x) before (after differ)
+          same_bool (is_live (split_nodes name nodes) x) (is_live nodes x) before (after differ)
           ∙ (agreed.live x ∙ ap (λ (o : Option blossoms.Node). is_some o) (sym (gone.others x differ)))
 
   -- after a blossom is opened

@@ -13,7 +13,7 @@ use Rattle.fb_laws.proofs.OpenedCycles.{parent_plus}
 use Rattle.fb_laws.proofs.OpenedParts.{matched_some}
 use Rattle.fb_laws.proofs.PartStates.{search_tight}
 use Rattle.fb_laws.proofs.SearchTrees.{connects_sym, exclusive_names}
-use Rattle.fb_laws.proofs.TreePaths.{among_plus, in_left, in_right, tree_connects}
+use Rattle.fb_laws.proofs.TreePaths.{among_plus, tree_connects}
 use Rattle.fb_links.specs.Table.{is_live}
 use Rattle.fb_half.specs.Parts.{kept_links}
 use Rattle.fb_half.specs.Translations.{entry_by}
@@ -21,6 +21,7 @@ use Rattle.fb_trees.specs.Rooted.{IsBranchAt}
 use Rattle.fb_search.specs.InternalOpenings.{EndsAtChild, MayEnter}
 use Rattle.fb_search.specs.Searching.{IsSearching, SearchValue, problem_of, state_at}
 use Rattle.fb_search.proofs.Openings.{Opens}
+use Rattle.fb_graph.proofs.Floods.{is_in-left, is_in-right}
 
 module _ (w : SearchValue) (name : ℕ) (e : EntryOf ℕ) (are : IsSearching w) (may : MaySplit w.part.nodes name)
     (branch : IsBranchAt w.tree name e) where
@@ -68,14 +69,14 @@ module _ (w : SearchValue) (name : ℕ) (e : EntryOf ℕ) (are : IsSearching w) 
       at m (inr none) b = absurd none
 
   live : (id : ℕ) → is_in (tree_links w.tree.branches) id ≡ true → is_live w.part.links id ≡ true
-  live id within = are.links.live id ∙ in_left (tree_links w.tree.branches) (kept_links w.part) id within
+  live id within = are.links.live id ∙ is_in-left (tree_links w.tree.branches) (kept_links w.part) id within
 
   pub enters_above : MayEnter w.part name e.parent e.tree
   enters_above = record {
     nest = are.state.1.search.nest;
     agreed = are.agreed;
     may_split = may;
-    live = live e.tree (in_left (grown_links w.tree.branches) (paired_links w.tree.branches) e.tree
+    live = live e.tree (is_in-left (grown_links w.tree.branches) (paired_links w.tree.branches) e.tree
         (listed (grown_links w.tree.branches) e.tree (map_among (λ x. x.tree) w.tree.branches e among)));
     tight = tight entry.tree (inl (map_among (λ x. x.tree) tree entry entry_among));
     apart = plus_apart e.parent (parent_plus w.part.nodes w.tree.root tree are.state.1.search.search.joined entry entry_among);
@@ -87,7 +88,7 @@ module _ (w : SearchValue) (name : ℕ) (e : EntryOf ℕ) (are : IsSearching w) 
     nest = are.state.1.search.nest;
     agreed = are.agreed;
     may_split = may;
-    live = live e.matched (in_right (grown_links w.tree.branches) (paired_links w.tree.branches) e.matched
+    live = live e.matched (is_in-right (grown_links w.tree.branches) (paired_links w.tree.branches) e.matched
         (listed (paired_links w.tree.branches) e.matched (map_among (λ x. x.matched) w.tree.branches e among)));
     tight = tight entry.matched (inr (map_among (λ x. x.matched) tree entry entry_among));
     apart = plus_apart e.plus (among_plus w.tree.root tree entry entry_among);

@@ -13,7 +13,6 @@ use Rattle.fb_graph.proofs.Sets.{is_in-cases, is_in-head, is_in-tail, is_in_at}
 use Rattle.fb_graph.proofs.StepTurns.{no_turn, same_roles}
 use Rattle.fb_laws.specs.Trees.{minus_names, plus_names, roles_of}
 use Rattle.fb_laws.proofs.OpenedBlossoms.{distinct_permuted, same_permuted}
-use Rattle.fb_laws.proofs.TreePaths.{in_left}
 use Rattle.fb_half.proofs.Begun.{not_before}
 use Rattle.fb_regions.specs.Moves.{node_named}
 use Rattle.fb_trees.specs.Branches.{Grown, entries_of}
@@ -21,10 +20,11 @@ use Rattle.fb_trees.specs.declared.branch.Branch.{Branch}
 use Rattle.fb_search.specs.InternalSteps.{IsTreeOver, roles_by_names}
 use Rattle.fb_search.proofs.BranchNames.{minus_moved, minus_of, plus_moved, plus_of}
 use Rattle.fb_search.proofs.NodeTurns.{grown_turn, minus_turn, plus_turn, shrunk_turn}
+use Rattle.fb_graph.proofs.Floods.{is_in-left}
 
 before_is_in : (xs : List ℕ) (i n : ℕ) → is_in (take i xs) n ≡ true → is_in xs n ≡ true
 before_is_in xs i n within =
-    subst (λ l. is_in l n ≡ true) (take-append-drop i xs) (in_left (take i xs) (drop i xs) n within)
+    subst (λ l. is_in l n ≡ true) (take-append-drop i xs) (is_in-left (take i xs) (drop i xs) n within)
 
 module _ (p : Problem) (t : Grown) (nodes : List Node) (are : IsTreeOver p t nodes) (k : ℕ)
     (may : MayStep p (roles_of t.root t.branches) nodes k) (bs : List Branch) (read : entries_of bs ≡ t.branches) where

@@ -24,7 +24,7 @@ use Rattle.fb_laws.proofs.OpenedCycles.{links_left}
 use Rattle.fb_laws.proofs.RingLinks.{cycle_link_in, links_among}
 use Rattle.fb_laws.proofs.SearchStates.{links_joined}
 use Rattle.fb_laws.proofs.TreeCycles.{cycle_linked}
-use Rattle.fb_laws.proofs.TreePaths.{in_either, in_left, in_right, path_among}
+use Rattle.fb_laws.proofs.TreePaths.{path_among}
 use Rattle.fb_trees.specs.Branches.{Grown}
 use Rattle.fb_trees.specs.Replacements.{IsReplaced, MayReplace}
 use Rattle.fb_trees.specs.Replacements as replacements
@@ -41,6 +41,7 @@ use Rattle.fb_search.proofs.JoinConditions.{nodes_may_join, tree_may_join}
 use Rattle.fb_search.proofs.JoinLinks.{numbers_joined}
 use Rattle.fb_search.proofs.LinkedSteps.{steps_linked}
 use Rattle.fb_search.proofs.Renamed.{along_names}
+use Rattle.fb_graph.proofs.Floods.{is_in-both, is_in-left, is_in-right}
 
 -- The link, which the search keeps beside its own, is tight and leads between two plus nodes.
 pub record Closes (w : SearchValue) (a b closing : ℕ) : Type 0 where
@@ -106,7 +107,7 @@ module _ (w : SearchValue) (a b closing : ℕ) (closes : Closes w a b closing) w
   in_tree_live : (n : ℕ) → is_in (tree_names w.tree.root w.tree.branches) n ≡ true → is_live w.part.nodes n ≡ true
   in_tree_live n within =
       by
-      (in_either along (w.tree.root ∷ []) n
+      (is_in-both along (w.tree.root ∷ []) n
       (ap (λ ns. is_in ns n) (sym (along_names w.tree.root w.tree.branches)) ∙ within))
     where
       along : List ℕ
@@ -122,7 +123,7 @@ module _ (w : SearchValue) (a b closing : ℕ) (closes : Closes w a b closing) w
       root (inr none) = absurd (both_ways false refl none)
 
       by : (is_in along n ≡ true) ⊎ (is_in (w.tree.root ∷ []) n ≡ true) → is_live w.part.nodes n ≡ true
-      by (inl there) = (closes.search.matching.live n (in_right listed along n there)).0
+      by (inl there) = (closes.search.matching.live n (is_in-right listed along n there)).0
       by (inr here) = root (is_in-cases w.tree.root [] n here)
 
   pub new_in_tree : (name : ℕ) → is_live w.part.nodes name ≡ false
@@ -136,7 +137,7 @@ module _ (w : SearchValue) (a b closing : ℕ) (closes : Closes w a b closing) w
       false_from_ne_true (is_in (listed_names w.part.matching) name)
       (λ there.
       both_ways (is_live w.part.nodes name) fresh
-      (closes.search.matching.live name (in_left (listed_names w.part.matching) (nodes_along w.tree.branches) name
+      (closes.search.matching.live name (is_in-left (listed_names w.part.matching) (nodes_along w.tree.branches) name
       there)).0)
 
   -- the root's name, if it is another one after it, isn't listed yet
@@ -183,14 +184,14 @@ module _ (w : SearchValue) (a b closing : ℕ) (closes : Closes w a b closing) w
     numbers_live : (id : ℕ) → is_in (cycle_links is.up closing is.down) id ≡ true → table.is_live w.part.links id ≡ true
     numbers_live id there =
         closes.search.links.live id
-        ∙ in_left (closing ∷ tree_links w.tree.branches) (kept_links w.part) id
+        ∙ is_in-left (closing ∷ tree_links w.tree.branches) (kept_links w.part) id
         (sym
         (same_permuted (closing ∷ tree_links w.tree.branches)
         (tree_links (joined_tree (is_in cycle) (length w.part.store) w.tree.branches) ++ cycle_links is.up closing
         is.down)
         (numbers_joined (problem_of w) s w.part.links w.tree.branches refl (length w.part.store) a b closing is.shared
         is.up is.down (may_close (length w.part.store) unused) is.paths closes.search.state.1) id)
-        ∙ in_right (tree_links (joined_tree (is_in cycle) (length w.part.store) w.tree.branches))
+        ∙ is_in-right (tree_links (joined_tree (is_in cycle) (length w.part.store) w.tree.branches))
         (cycle_links is.up closing is.down) id there)
       where
         cycle : List ℕ

@@ -17,7 +17,7 @@ use Rattle.fb_laws.specs.Trees.{paired_links, tree_names}
 use Rattle.fb_laws.proofs.MergedParts.{distinct_across}
 use Rattle.fb_laws.proofs.OpenedBlossoms.{distinct_permuted, same_permuted}
 use Rattle.fb_laws.proofs.StateOrders.{part_reordered}
-use Rattle.fb_laws.proofs.TreePaths.{distinct_left, distinct_right, in_left, in_right}
+use Rattle.fb_laws.proofs.TreePaths.{distinct_right}
 use Rattle.fb_links.specs.declared.walk.Step.{Step}
 use Rattle.fb_links.specs.Table.{is_live, link_at}
 use Rattle.fb_trees.proofs.Mapped.{names_moved, paired_moved}
@@ -31,10 +31,12 @@ use Rattle.fb_search.specs.Searching.{IsSearching, SearchValue, problem_of, sear
 use Rattle.fb_search.proofs.DissolvedStates.{dissolved, state_dissolved}
 use Rattle.fb_search.proofs.DissolvedTrees.{matches_root, names_beside}
 use Rattle.fb_search.proofs.EndedCases.{links_counted}
-use Rattle.fb_search.proofs.EndedLinks.{Table}
 use Rattle.fb_search.proofs.EndedMatches.{LeadsBy, leads_still, tree_matches_lead}
 use Rattle.fb_search.proofs.EndedParts.{map_same, ring_within}
 use Rattle.fb_search.proofs.EndedTrees.{beside_links}
+use Rattle.fb_links.proofs.MovedLinks.{Table}
+use Rattle.fb_laws.proofs.NestOrders.{distinct_left}
+use Rattle.fb_graph.proofs.Floods.{is_in-left, is_in-right}
 
 in_front : (kept gone : List ℕ) (k : ℕ) → is_in gone k ≡ false → is_in (kept ++ gone) k ≡ is_in kept k
 in_front kept gone k out = is_in-append kept gone k ∙ (ap (λ b. is_in kept k || b) out ∙ or_false (is_in kept k))
@@ -71,7 +73,7 @@ module _ (w : SearchValue) (are : IsSearching w) where
   left_live i d less =
       are.links.live (get_or (gone_ids w) i d)
       ∙ (sym (same_permuted (searched_links w) (kept_ids w ++ gone_ids w) counted (get_or (gone_ids w) i d))
-      ∙ in_right (kept_ids w) (gone_ids w) (get_or (gone_ids w) i d) (is_in_at (gone_ids w) i d less))
+      ∙ is_in-right (kept_ids w) (gone_ids w) (get_or (gone_ids w) i d) (is_in_at (gone_ids w) i d less))
 
   tree_distinct : AreDistinct (tree_names w.tree.root w.tree.branches)
   tree_distinct =
@@ -124,7 +126,7 @@ module _ (w : SearchValue) (new : Table) (are : IsSearching w) (forgets : Forget
     live = λ n within. are.matching.live n (ap (λ l. is_in l n) (sym same) ∙ within);
     all = λ n live outer. ap (λ l. is_in l n) same ∙ are.matching.all n live outer;
     connects = leads_still (problem_of w) w.part.nodes w.part.links new (w.part.matching.matches ++ stayed w)
-        (λ id within. stays id (in_left (match_links (w.part.matching.matches ++ stayed w)) (ring_links w.part.nodes w.part.store) id within))
+        (λ id within. stays id (is_in-left (match_links (w.part.matching.matches ++ stayed w)) (ring_links w.part.nodes w.part.store) id within))
         (λ m a. by m (among_either w.part.matching.matches (stayed w) m a));
   }
     where
@@ -148,7 +150,7 @@ module _ (w : SearchValue) (new : Table) (are : IsSearching w) (forgets : Forget
       ++ map (link_by w.part.links) (paired_links w.tree.branches)
   matches_are =
       map_same (link_by new) (link_by w.part.links) (match_links (w.part.matching.matches ++ stayed w))
-      (λ id within. stays_by id (in_left (match_links (w.part.matching.matches ++ stayed w)) (ring_links w.part.nodes w.part.store) id within))
+      (λ id within. stays_by id (is_in-left (match_links (w.part.matching.matches ++ stayed w)) (ring_links w.part.nodes w.part.store) id within))
       ∙ (ap (map (link_by w.part.links)) (map-append (λ m. m.link) w.part.matching.matches (stayed w))
       ∙ (map-append (link_by w.part.links) (match_links w.part.matching.matches) (match_links (stayed w))
       ∙ ap (λ l. map (link_by w.part.links) (match_links w.part.matching.matches) ++ map (link_by w.part.links) l)
@@ -173,7 +175,7 @@ module _ (w : SearchValue) (new : Table) (are : IsSearching w) (forgets : Forget
       agree n live =
           map_same (link_by new) (link_by w.part.links) (ring_at w.part.store n)
           (λ id within. stays_by id
-          (in_right (match_links (w.part.matching.matches ++ stayed w)) (ring_links w.part.nodes w.part.store) id
+          (is_in-right (match_links (w.part.matching.matches ++ stayed w)) (ring_links w.part.nodes w.part.store) id
           (ring_within w.part.nodes w.part.store n live id within)))
 
       moved : IsPermutation (dissolved (state_at w are.state.0)).matches (map (link_by new) (match_links (part_left w new).matching.matches))

@@ -7,11 +7,13 @@ use Rattle.fb_graph.specs.Certificate.{AreDistinct}
 use Rattle.fb_graph.specs.Problem.{Problem}
 use Rattle.fb_graph.proofs.Sets.{is_in_at}
 use Rattle.fb_laws.proofs.OpenedBlossoms.{distinct_permuted, same_permuted}
-use Rattle.fb_laws.proofs.TreePaths.{distinct_right, in_right}
+use Rattle.fb_laws.proofs.TreePaths.{distinct_right}
 use Rattle.fb_links.specs.declared.walk.Step.{Step}
 use Rattle.fb_links.specs.Table.{Adds, is_live}
 use Rattle.fb_half.specs.Parts.{AreLinksOf}
-use Rattle.fb_search.proofs.EndedLinks.{Table, new_number}
+use Rattle.fb_search.proofs.EndedLinks.{new_number}
+use Rattle.fb_links.proofs.MovedLinks.{Table}
+use Rattle.fb_graph.proofs.Floods.{is_in-right}
 
 pub dropped_once : (p : Problem) (old : Table) (ids kept gone : List ℕ) → AreLinksOf p old ids → IsPermutation ids (kept ++ gone)
     → AreDistinct gone
@@ -22,7 +24,7 @@ pub dropped_live : (p : Problem) (old mid : Table) (ids kept gone : List ℕ) (i
 dropped_live p old mid ids kept gone id walk are moved adds i d less =
     ap is_some (adds.others (get_or gone i d) other)
     ∙ (are.live (get_or gone i d)
-    ∙ (sym (same_permuted ids (kept ++ gone) moved (get_or gone i d)) ∙ in_right kept gone (get_or gone i d) (is_in_at gone i d less)))
+    ∙ (sym (same_permuted ids (kept ++ gone) moved (get_or gone i d)) ∙ is_in-right kept gone (get_or gone i d) (is_in_at gone i d less)))
   where
     other : get_or gone i d ≡ id → ⊥
     other same =

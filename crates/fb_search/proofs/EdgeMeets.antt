@@ -8,8 +8,8 @@ use Rattle.fb_graph.specs.declared.parts.Edge.{Edge}
 use Rattle.fb_obstacles.specs.Obstacles.{IsMeet, IsPlusPair}
 use Rattle.fb_search.specs.Meetings.{IsPairOver}
 use Rattle.fb_search.specs.Searching.{SearchValue, problem_of, roles_in}
-use Rattle.fb_search.proofs.SourceSteps.{leads_back}
 use Rattle.fb_search.proofs.TakenVertices.{plus_over}
+use Rattle.fb_graph.proofs.Walks.{Leads_flip}
 
 -- both ends of the edge are under a node
 abbrev pub AreHeld : List Node → Edge → Type 0
@@ -41,7 +41,7 @@ pair_back : (p : Problem) (roles : Roles) (nodes : List Node) (k u v : ℕ) → 
 pair_back p roles nodes k u v is = record {
   edge = record {
     within = is.edge.within;
-    leads = leads_back (edge_at p.edges k) u v is.edge.leads;
+    leads = Leads_flip (edge_at p.edges k) u v is.edge.leads;
     tight = is.edge.tight;
     plus = is.other;
   };

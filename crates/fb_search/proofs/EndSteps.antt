@@ -6,12 +6,12 @@ use Rattle.fb_graph.specs.Parity.{is_in}
 use Rattle.fb_graph.specs.Certificate.{AreDistinct}
 use Rattle.fb_graph.proofs.Sets.{is_in_at}
 use Rattle.fb_laws.proofs.MergedParts.{distinct_across}
-use Rattle.fb_laws.proofs.TreePaths.{in_either, in_left}
 use Rattle.fb_links.specs.declared.walk.Step.{Step}
 use Rattle.fb_links.specs.Table.{is_live, link_at}
 use Rattle.fb_half.specs.declared.matches.Match.{Match}
 use Rattle.fb_half.specs.Matchings.{MatchingValue, listed_names, matched_names, names_of}
 use Rattle.fb_search.specs.InternalEndings.{Forgets}
+use Rattle.fb_graph.proofs.Floods.{is_in-both, is_in-left}
 
 -- no element of such a list comes before itself
 distinct_at : (xs : List ℕ) (i d : ℕ) → AreDistinct xs → i < length xs → is_in (take i xs) (get_or xs i d) ≡ false
@@ -35,12 +35,12 @@ fresh : (names : List ℕ) (ms : List Match) (i : ℕ) (d : Match) → AreDistin
     → (n : ℕ) → is_in (names_of (get_or ms i d)) n ≡ true → is_in (names ++ matched_names (take i ms)) n ≡ false
 fresh names [] i d distinct lt n within = absurd (omega (arith, lt))
 fresh names (m ∷ ms) zero d distinct lt n within =
-    false_from_ne_true (is_in (names ++ []) n) (λ h. clash (in_either names [] n h))
+    false_from_ne_true (is_in (names ++ []) n) (λ h. clash (is_in-both names [] n h))
   where
     clash : (is_in names n ≡ true) ⊎ (is_in [] n ≡ true) → ⊥
     clash (inl there) =
         false≢true (sym (distinct_across names (names_of m ++ matched_names ms) n distinct there)
-        ∙ in_left (names_of m) (matched_names ms) n within)
+        ∙ is_in-left (names_of m) (matched_names ms) n within)
     clash (inr none) = false≢true none
 fresh names (m ∷ ms) (suc i) d distinct lt n within =
     subst (λ l. is_in l n ≡ false) (append_assoc names (names_of m) (matched_names (take i ms)))

@@ -12,7 +12,6 @@ use Rattle.fb_laws.specs.TreeCycles.{nodes_along}
 use Rattle.fb_laws.specs.Trees.{EntryOf, plus_names}
 use Rattle.fb_laws.proofs.MergedParts.{distinct_across}
 use Rattle.fb_laws.proofs.OpenedBlossoms.{distinct_permuted, same_permuted}
-use Rattle.fb_laws.proofs.TreePaths.{distinct_left}
 use Rattle.fb_links.specs.declared.walk.Step.{Step}
 use Rattle.fb_links.specs.Table.{Adds, is_live, link_at}
 use Rattle.fb_trees.specs.Rooted.{AreHung}
@@ -21,9 +20,8 @@ use Rattle.fb_half.specs.Matchings.{MatchingValue, listed_names, matched_names}
 use Rattle.fb_half.specs.Parts.{AreLinksOf, AreStepsOf}
 use Rattle.fb_search.specs.InternalEndings.{Forgets, ended_matches}
 use Rattle.fb_search.proofs.EndedTrees.{matches_named, names_ended, off_path, on_path}
-
-abbrev pub Table : Type 0
-Table = List (Option (List Step))
+use Rattle.fb_links.proofs.MovedLinks.{Table}
+use Rattle.fb_laws.proofs.NestOrders.{distinct_left}
 
 -- a number that no link has is none of the links' numbers
 pub new_number : (p : Problem) (old mid : Table) (ids kept gone : List ℕ) (id : ℕ) (walk : List Step) → AreLinksOf p old ids

@@ -18,7 +18,9 @@ use Rattle.fb_half.specs.declared.matches.Match.{Match}
 use Rattle.fb_half.specs.Matchings.{IsMatchOf, IsMatchingOf, MatchingValue, listed_names, match_links, matched_names, names_of}
 use Rattle.fb_half.specs.Translations.{entry_by, link_by, link_of}
 use Rattle.fb_search.specs.InternalEndings.{all_matches, beside_match, ended_matches, path_match}
-use Rattle.fb_search.proofs.EndedLinks.{Table, names_listed}
+use Rattle.fb_search.proofs.EndedLinks.{names_listed}
+use Rattle.fb_links.proofs.MovedLinks.{Table}
+use Rattle.fb_half.proofs.FreedMatches.{link_in}
 
 -- the links of the branch lead where they should
 abbrev IsBranchBy : List Node → Table → EntryOf ℕ → Type 0
@@ -62,12 +64,6 @@ tree_matches_lead p nodes root name table tree tree_is m a =
         (All_among (IsBranchBy nodes table) (path_to tree name ++ branches_beside tree name) whole e
         (among_right (path_to tree name) (branches_beside tree name) e there)).1
 
-link_among : (ms : List Match) (m : Match) → IsAmong m ms → is_in (match_links ms) m.link ≡ true
-link_among [] m a = absurd a
-link_among (x ∷ xs) m (inl same) =
-    subst (λ e. is_in (match_links (x ∷ xs)) e.link ≡ true) same (is_in-head x.link (match_links xs))
-link_among (x ∷ xs) m (inr a) = is_in-tail x.link (match_links xs) m.link (link_among xs m a)
-
 -- matches whose links stay lead where they led
 pub leads_still : (p : Problem) (nodes : List Node) (old new : Table) (ms : List Match)
     → ((id : ℕ) → is_in (match_links ms) id ≡ true → link_at new id ≡ link_at old id)
@@ -77,7 +73,7 @@ leads_still p nodes old new ms stays lead = among_All (LeadsBy p nodes new) ms e
     each : (m : Match) → IsAmong m ms → LeadsBy p nodes new m
     each m a =
         subst (λ l. IsMatchOf p nodes l m.first m.second)
-        (ap (λ o. link_of (unwrap_or o [])) (sym (stays m.link (link_among ms m a)))) (lead m a)
+        (ap (λ o. link_of (unwrap_or o [])) (sym (stays m.link (link_in ms m a)))) (lead m a)
 
 append_empty : (xs : List ℕ) → xs ++ [] ≡ xs
 append_empty [] = refl

@@ -13,8 +13,9 @@ use Rattle.fb_half.specs.declared.matches.Match.{Match}
 use Rattle.fb_half.specs.Matchings.{IsMatchingOf, MatchingValue, matched_names, names_of}
 use Rattle.fb_trees.specs.Rooted.{AreHung}
 use Rattle.fb_search.specs.InternalEndings.{ended_matches}
-use Rattle.fb_search.proofs.EndedLinks.{Table, names_listed}
+use Rattle.fb_search.proofs.EndedLinks.{names_listed}
 use Rattle.fb_search.proofs.EndedMatches.{AreTaken}
+use Rattle.fb_links.proofs.MovedLinks.{Table}
 
 -- the names of the tree's matches at its end, and of the one that ends it, are not those of the matches that stay
 pub ended_distinct : (p : Problem) (nodes : List Node) (table : Table) (m : MatchingValue) (root name : ℕ) (tree : List (EntryOf ℕ))

@@ -14,7 +14,6 @@ use Rattle.fb_laws.specs.Trees.{branches_beside, grown_links, paired_links, path
 use Rattle.fb_laws.specs.Works.{names_without}
 use Rattle.fb_laws.proofs.OpenedBlossoms.{same_permuted}
 use Rattle.fb_laws.proofs.StateOrders.{part_reordered}
-use Rattle.fb_laws.proofs.TreePaths.{in_left, in_right}
 use Rattle.fb_blossoms.specs.Nodes as blossoms
 use Rattle.fb_links.specs.declared.walk.Step.{Step}
 use Rattle.fb_links.specs.Table.{Adds, link_at}
@@ -27,9 +26,11 @@ use Rattle.fb_half.specs.Translations.{cycles_by, entry_by, link_by, link_of, ri
 use Rattle.fb_search.specs.Searching.{IsSearching, SearchValue, problem_of, searched_links, state_at}
 use Rattle.fb_search.specs.Progress.{IsSearched}
 use Rattle.fb_search.specs.InternalEndings.{Forgets, all_matches, ended_matches}
-use Rattle.fb_search.proofs.EndedLinks.{Table, link_kept, links_kept, links_permuted, new_number}
+use Rattle.fb_search.proofs.EndedLinks.{link_kept, links_kept, links_permuted, new_number}
 use Rattle.fb_search.proofs.EndedMatches.{AreTaken, ended_matching}
 use Rattle.fb_search.proofs.EndedTrees.{matches_linked}
+use Rattle.fb_links.proofs.MovedLinks.{Table}
+use Rattle.fb_graph.proofs.Floods.{is_in-left, is_in-right}
 
 pub map_same : (f g : ℕ → Link) (ids : List ℕ) → ((id : ℕ) → is_in ids id ≡ true → f id ≡ g id) → map f ids ≡ map g ids
 map_same f g [] same = refl
@@ -46,9 +47,9 @@ ring_within (x ∷ xs) store n live id within =
     by : ((x.name == n) ≡ true) ⊎ (is_live xs n ≡ true) → (is_live xs n ≡ true → is_in (ring_links xs store) id ≡ true)
         → is_in (ring_links (x ∷ xs) store) id ≡ true
     by (inl here) rest =
-        in_left (ring_at store x.name) (ring_links xs store) id
+        is_in-left (ring_at store x.name) (ring_links xs store) id
         (ap (λ m. is_in (ring_at store m) id) (eqb-true x.name n here) ∙ within)
-    by (inr there) rest = in_right (ring_at store x.name) (ring_links xs store) id (rest there)
+    by (inr there) rest = is_in-right (ring_at store x.name) (ring_links xs store) id (rest there)
 
 -- what the code makes of the search's links and matches
 pub record IsEndedBy (w : SearchValue) (name : ℕ) (new : Table) (unmatched : List ℕ) (kept : List Match) (out : Match) : Type 0 where
@@ -134,7 +135,7 @@ ended_lists w name new unmatched kept out are is =
     ended_matching (problem_of w) w.part.nodes w.part.links new w.part.matching w.tree.root name w.tree.branches unmatched kept out
     are.matching are.state.1.search.search.joined is.hung is.plus is.takes
     (λ id within. stays w name new unmatched kept out are is id
-    (in_left (match_links (kept ++ ended_matches w.tree.branches name)) (ring_links w.part.nodes w.part.store) id within))
+    (is_in-left (match_links (kept ++ ended_matches w.tree.branches name)) (ring_links w.part.nodes w.part.store) id within))
     (subst (λ l. IsMatchOf (problem_of w) w.part.nodes l out.first out.second)
     (sym (new_link w name new unmatched kept out are is)) is.leads)
 
@@ -185,7 +186,7 @@ matches_after w name new unmatched kept out are is =
     same =
         map_same (link_by new) by before
         (λ id within. stays_by w name new unmatched kept out are is id
-        (in_left before (ring_links w.part.nodes w.part.store) id within))
+        (is_in-left before (ring_links w.part.nodes w.part.store) id within))
 
     apart : map by before ≡ others ++ (up ++ off)
     apart =
@@ -236,7 +237,7 @@ ended_part w name new unmatched named kept out are is moved few law = (
     agree n live =
         map_same (link_by new) (link_by w.part.links) (ring_at w.part.store n)
         (λ id within. stays_by w name new unmatched kept out are is id
-        (in_right (match_links (kept ++ ended_matches w.tree.branches name)) (ring_links w.part.nodes w.part.store) id
+        (is_in-right (match_links (kept ++ ended_matches w.tree.branches name)) (ring_links w.part.nodes w.part.store) id
         (ring_within w.part.nodes w.part.store n live id within)))
 
     others : (n : ℕ) → is_in named n ≡ true → is_in (names_without w.tree.root w.part.matching.unmatched) n ≡ true

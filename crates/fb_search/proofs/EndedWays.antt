@@ -21,9 +21,9 @@ use Rattle.fb_search.specs.Searching.{IsSearching, SearchValue, problem_of, stat
 use Rattle.fb_search.specs.InternalEndings.{Forgets}
 use Rattle.fb_search.specs.Progress.{IsSearched}
 use Rattle.fb_search.proofs.EndedCases.{links_counted, taken_at_boundary, taken_with}
-use Rattle.fb_search.proofs.EndedLinks.{Table}
 use Rattle.fb_search.proofs.EndedParts.{IsEndedBy, ended_part, part_after}
 use Rattle.fb_search.proofs.TakenNames.{one_taken, two_taken, without_taken}
+use Rattle.fb_links.proofs.MovedLinks.{Table}
 
 -- what the calls did to the links: one is made, and the tree's that match no node are forgotten
 pub record AreRelinked (w : SearchValue) (name link : ℕ) (walk : List Step) (new : Table) : Type 0 where

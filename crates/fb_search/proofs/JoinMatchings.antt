@@ -15,7 +15,6 @@ use Rattle.fb_laws.specs.TreeCycles.{ArePaths, nodes_along}
 use Rattle.fb_laws.specs.Trees.{Entry, EntryOf, tree_names}
 use Rattle.fb_laws.proofs.OpenedBlossoms.{same_permuted}
 use Rattle.fb_laws.proofs.StateBlossoms.{state_closed}
-use Rattle.fb_laws.proofs.TreePaths.{in_right}
 use Rattle.fb_trees.proofs.Mapped.{joined_moved, names_moved}
 use Rattle.fb_half.specs.Matchings.{IsMatchingOf, MatchingValue, listed_names, matched_names}
 use Rattle.fb_half.specs.Translations.{entry_by, link_by}
@@ -23,6 +22,7 @@ use Rattle.fb_search.proofs.Cycles.{cycle_from, same_cycle, paths_of}
 use Rattle.fb_search.proofs.JoinConditions.{cycle_within, outer_made}
 use Rattle.fb_search.proofs.Matched.{IsRenamed, matching_joined}
 use Rattle.fb_search.proofs.Renamed.{closed_renamed, cover_joined, tree_listed}
+use Rattle.fb_graph.proofs.Floods.{is_in-right}
 
 module _ (p : Problem) (s : SearchState) (links : List (Option (List Step))) (branches : List (EntryOf ℕ))
     (tree_is : s.tree ≡ map (entry_by links) branches) (name a b closing : ℕ) (shared up down : List (EntryOf ℕ))
@@ -53,7 +53,7 @@ module _ (p : Problem) (s : SearchState) (links : List (Option (List Step))) (br
         (same_permuted (listed_names m ++ nodes_along branches)
         ((beside ++ matched_names m.matches) ++ tree_names s.root branches)
         (tree_listed m.unmatched beside (matched_names m.matches) s.root branches root_in) name)
-        ∙ in_right (beside ++ matched_names m.matches) (tree_names s.root branches) name there)).0)
+        ∙ is_in-right (beside ++ matched_names m.matches) (tree_names s.root branches) name there)).0)
 
     names_after : IsRenamed cycle (tree_names s.root branches)
         (tree_names (renamed_name (is_in cycle) name s.root) (joined_tree (is_in cycle) name branches)) name
@@ -104,4 +104,4 @@ module _ (p : Problem) (s : SearchState) (links : List (Option (List Step))) (br
         refl names_after
         (cycle_within p s links branches tree_is name a b closing shared up down may paths state) may.fresh
         (outer_made p s links branches tree_is name a b closing shared up down may paths state)
-        (λ n there. in_right beside (matched_names m.matches) n there) (cover_joined s.nodes name cycle apart_after)
+        (λ n there. is_in-right beside (matched_names m.matches) n there) (cover_joined s.nodes name cycle apart_after)

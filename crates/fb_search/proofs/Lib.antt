@@ -27,7 +27,6 @@ pub mod EndedTrees
 pub mod EndedWays
 pub mod EnteredChildren
 pub mod ExchangedObstacles
-pub mod FlatPermutations
 pub mod FreeSteps
 pub mod JoinConditions
 pub mod JoinLinks

@@ -10,7 +10,6 @@ use Rattle.fb_laws.specs.LinkNumbers.{tree_links}
 use Rattle.fb_laws.specs.PartStates.{IsSearchState, SearchState}
 use Rattle.fb_laws.specs.Trees.{Entry, EntryOf, grown_links, paired_links}
 use Rattle.fb_laws.proofs.StateOrders.{search_reordered}
-use Rattle.fb_laws.proofs.TreePaths.{in_left, in_right}
 use Rattle.fb_links.specs.declared.walk.Step.{Step}
 use Rattle.fb_links.specs.Table.{Adds, link_at}
 use Rattle.fb_half.specs.Matchings.{IsMatchOf, match_links}
@@ -20,9 +19,8 @@ use Rattle.fb_search.specs.Searching.{IsSearching, IsSearchingBeside, SearchValu
 use Rattle.fb_search.proofs.EndedMatches.{leads_still}
 use Rattle.fb_search.proofs.EndedParts.{map_same, ring_within}
 use Rattle.fb_search.proofs.Linked.{links_made}
-
-abbrev Table : Type 0
-Table = List (Option (List Step))
+use Rattle.fb_links.proofs.MovedLinks.{Table}
+use Rattle.fb_graph.proofs.Floods.{is_in-left, is_in-right}
 
 -- branches whose links stay
 entries_same : (old new : Table) (tree : List (EntryOf ℕ))
@@ -71,7 +69,7 @@ searching_relinked w some more new are stays links = record {
     all = are.matching.all;
     connects =
         leads_still (problem_of w) w.part.nodes w.part.links new w.part.matching.matches
-        (λ id h. stays id (in_kept id (in_left matches rings id h)))
+        (λ id h. stays id (in_kept id (is_in-left matches rings id h)))
         (λ m among.
         All_among (λ e. IsMatchOf (problem_of w) w.part.nodes (link_by w.part.links e.link) e.first e.second) w.part.matching.matches
         are.matching.connects m among);
@@ -91,7 +89,7 @@ searching_relinked w some more new are stays links = record {
     rings = ring_links w.part.nodes w.part.store
 
     in_kept : (id : ℕ) → is_in (matches ++ rings) id ≡ true → is_in (searched_links w) id ≡ true
-    in_kept id h = in_right tree (matches ++ rings) id h
+    in_kept id h = is_in-right tree (matches ++ rings) id h
 
     by : (id : ℕ) → is_in (searched_links w) id ≡ true → link_by new id ≡ link_by w.part.links id
     by id h = ap (λ o. link_of (unwrap_or o [])) (stays id h)
@@ -100,12 +98,12 @@ searching_relinked w some more new are stays links = record {
     same_tree =
         entries_same w.part.links new w.tree.branches
         (λ id h.
-        by id (in_left tree (matches ++ rings) id (in_left (grown_links w.tree.branches) (paired_links w.tree.branches) id h)))
+        by id (is_in-left tree (matches ++ rings) id (is_in-left (grown_links w.tree.branches) (paired_links w.tree.branches) id h)))
         (λ id h.
-        by id (in_left tree (matches ++ rings) id (in_right (grown_links w.tree.branches) (paired_links w.tree.branches) id h)))
+        by id (is_in-left tree (matches ++ rings) id (is_in-right (grown_links w.tree.branches) (paired_links w.tree.branches) id h)))
 
     same_rest : map (link_by new) matches ≡ map (link_by w.part.links) matches
-    same_rest = map_same (link_by new) (link_by w.part.links) matches (λ id h. by id (in_kept id (in_left matches rings id h)))
+    same_rest = map_same (link_by new) (link_by w.part.links) matches (λ id h. by id (in_kept id (is_in-left matches rings id h)))
 
     state : IsSearchState (problem_of w) (state_at (relinked new w) are.state.0)
     state =
@@ -114,7 +112,7 @@ searching_relinked w some more new are stays links = record {
         w.part.matching.unmatched
         (λ n live.
         map_same (link_by new) (link_by w.part.links) (ring_at w.part.store n)
-        (λ id h. by id (in_kept id (in_right matches rings id (ring_within w.part.nodes w.part.store n live id h)))))
+        (λ id h. by id (in_kept id (is_in-right matches rings id (ring_within w.part.nodes w.part.store n live id h)))))
         (subst (IsPermutation (map (link_by w.part.links) matches)) (sym same_rest) (IsPermutation-refl (map (link_by w.part.links) matches)))
         (IsPermutation-refl w.part.matching.unmatched) are.state.1)
 

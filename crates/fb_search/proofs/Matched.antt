@@ -18,11 +18,12 @@ use Rattle.fb_laws.specs.Trees.{Connects}
 use Rattle.fb_laws.proofs.MergedParts.{distinct_across}
 use Rattle.fb_laws.proofs.OpenedBlossoms.{distinct_permuted, same_permuted}
 use Rattle.fb_laws.proofs.OpenedParts.{flat_among, in_among}
-use Rattle.fb_laws.proofs.TreePaths.{distinct_left, in_either, in_left, in_right}
 use Rattle.fb_half.specs.Matchings.{IsMatchOf, IsMatchingOf, MatchingValue, listed_names, match_links, matched_names, names_of, second_name}
 use Rattle.fb_half.specs.declared.matches.Match.{Match}
 use Rattle.fb_half.specs.Translations.{link_by}
 use Rattle.fb_search.proofs.Linked.{AreSameBeside, link_kept}
+use Rattle.fb_graph.proofs.Floods.{is_in-both, is_in-left, is_in-right}
+use Rattle.fb_laws.proofs.NestOrders.{distinct_left}
 
 -- The names of a tree after some of its nodes are joined under the new name.
 pub record IsRenamed (children before after : List ℕ) (name : ℕ) : Type 0 where
@@ -61,7 +62,7 @@ module _ (p : Problem) (nodes : List Node) (name : ℕ) (children : List ℕ) (l
   outside_fresh : is_in outside name ≡ false
   outside_fresh =
       false_from_ne_true (is_in outside name)
-      (λ h. both_ways (is_live nodes name) fresh (listed name (in_left outside before name h)).0)
+      (λ h. both_ways (is_live nodes name) fresh (listed name (is_in-left outside before name h)).0)
 
   apart : (n : ℕ) → is_in outside n ≡ true → is_in after n ≡ false
   apart n out =
@@ -91,18 +92,18 @@ module _ (p : Problem) (nodes : List Node) (name : ℕ) (children : List ℕ) (l
 
   each : (n : ℕ) → is_in (outside ++ after) n ≡ true
       → (is_live (joined_nodes name children nodes) n ≡ true) × (is_outer (joined_nodes name children nodes) n ≡ true)
-  each n h = by (in_either outside after n h)
+  each n h = by (is_in-both outside after n h)
     where
       tree : is_in after n ≡ true → (n ≡ name) ⊎ (n ≡ name → ⊥)
           → (is_live (joined_nodes name children nodes) n ≡ true) × (is_outer (joined_nodes name children nodes) n ≡ true)
       tree there (inl e) =
           (ap (is_live (joined_nodes name children nodes)) e ∙ made_live, ap (is_outer (joined_nodes name children nodes)) e ∙ outer)
       tree there (inr differ) =
-          let (b, free) = renamed.from n there differ in stays n (listed n (in_right outside before n b)) free
+          let (b, free) = renamed.from n there differ in stays n (listed n (is_in-right outside before n b)) free
 
       by : (is_in outside n ≡ true) ⊎ (is_in after n ≡ true)
           → (is_live (joined_nodes name children nodes) n ≡ true) × (is_outer (joined_nodes name children nodes) n ≡ true)
-      by (inl out) = stays n (listed n (in_left outside before n out)) (not_child n out)
+      by (inl out) = stays n (listed n (is_in-left outside before n out)) (not_child n out)
       by (inr there) = tree there (cases_eq n name)
 
   every : (n : ℕ) → is_live (joined_nodes name children nodes) n ≡ true → is_outer (joined_nodes name children nodes) n ≡ true
@@ -110,7 +111,7 @@ module _ (p : Problem) (nodes : List Node) (name : ℕ) (children : List ℕ) (l
   every n live out = by (cases_eq n name)
     where
       by : (n ≡ name) ⊎ (n ≡ name → ⊥) → is_in (outside ++ after) n ≡ true
-      by (inl e) = in_right outside after n (ap (is_in after) e ∙ renamed.made)
+      by (inl e) = is_in-right outside after n (ap (is_in after) e ∙ renamed.made)
       by (inr differ) =
           let parts = outer_in nodes (blossom name children nodes ∷ []) n out in
           let free : is_in children n ≡ false =
@@ -118,7 +119,7 @@ module _ (p : Problem) (nodes : List Node) (name : ℕ) (children : List ℕ) (l
           let (q, a, e) = live_among (joined_nodes name children nodes) n live in
           let old : is_live nodes n ≡ true = before_live q e (among_either nodes (blossom name children nodes ∷ []) q a) in
           there free
-          (in_either outside before n
+          (is_in-both outside before n
           (same_permuted (listed_names m ++ others) (outside ++ before) old_names n ∙ was.all n old parts.0))
         where
           before_live : (q : Node) → q.name ≡ n → IsAmong q nodes ⊎ IsAmong q (blossom name children nodes ∷ [])
@@ -129,8 +130,8 @@ module _ (p : Problem) (nodes : List Node) (name : ℕ) (children : List ℕ) (l
 
           there : is_in children n ≡ false → (is_in outside n ≡ true) ⊎ (is_in before n ≡ true)
               → is_in (outside ++ after) n ≡ true
-          there free (inl o) = in_left outside after n o
-          there free (inr b) = in_right outside after n (renamed.kept n b free)
+          there free (inl o) = is_in-left outside after n o
+          there free (inr b) = is_in-right outside after n (renamed.kept n b free)
 
   moved : (l : Link) (a : ℕ) (b : Option ℕ) → is_in children a ≡ false
       → ((c : ℕ) → is_in (second_name b) c ≡ true → is_in children c ≡ false) → IsMatchOf p nodes l a b

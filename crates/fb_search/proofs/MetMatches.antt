@@ -14,7 +14,7 @@ use Rattle.fb_laws.specs.Trees.{Connects, tree_names}
 use Rattle.fb_laws.proofs.MergedParts.{distinct_across}
 use Rattle.fb_laws.proofs.OpenedBlossoms.{distinct_permuted, same_permuted}
 use Rattle.fb_laws.proofs.SearchTrees.{connects_sym}
-use Rattle.fb_laws.proofs.TreePaths.{distinct_left, distinct_right, in_left, in_right}
+use Rattle.fb_laws.proofs.TreePaths.{distinct_right}
 use Rattle.fb_links.specs.declared.walk.Step.{Step}
 use Rattle.fb_links.specs.Table.{Adds}
 use Rattle.fb_half.specs.declared.matches.Match.{Match}
@@ -25,9 +25,11 @@ use Rattle.fb_search.specs.InternalMeetings.{HasMet, IsBoundaryMatch, IsCouple}
 use Rattle.fb_search.specs.Meetings.{Meets}
 use Rattle.fb_search.specs.MetWalks.{IsMetWalk}
 use Rattle.fb_search.specs.Searching.{IsSearching, IsSearchingBeside, SearchValue, problem_of}
-use Rattle.fb_search.proofs.FlatPermutations.{flat_permuted}
+use Rattle.fb_half.proofs.FlatPermutations.{flat_permuted}
 use Rattle.fb_search.proofs.Renamed.{tree_listed}
 use Rattle.fb_search.proofs.TreeEnds.{meeting_plus}
+use Rattle.fb_laws.proofs.NestOrders.{distinct_left}
+use Rattle.fb_graph.proofs.Floods.{is_in-left, is_in-right}
 
 pub couple_names : (m : Match) (a b : ℕ) → IsCouple m a b → IsPermutation (names_of m) (a ∷ b ∷ [])
 couple_names m a b (inl (first, second)) =
@@ -68,7 +70,7 @@ module _ (more : List ℕ) (w : SearchValue) (are : IsSearchingBeside more w) wh
       free : is_in (nodes_along w.tree.branches) n ≡ false
       free =
           distinct_across (listed_names w.part.matching) (nodes_along w.tree.branches) n are.matching.distinct
-          (in_right w.part.matching.unmatched names n matched)
+          (is_in-right w.part.matching.unmatched names n matched)
 
       other : w.tree.root ≡ n → ⊥
       other same =
@@ -81,8 +83,8 @@ module _ (more : List ℕ) (w : SearchValue) (are : IsSearchingBeside more w) wh
   pub matched_live : (n : ℕ) → is_in (matched_names w.part.matching.matches) n ≡ true → is_live w.part.nodes n ≡ true
   matched_live n matched =
       (are.matching.live n
-      (in_left (listed_names w.part.matching) (nodes_along w.tree.branches) n
-      (in_right w.part.matching.unmatched (matched_names w.part.matching.matches) n matched))).0
+      (is_in-left (listed_names w.part.matching) (nodes_along w.tree.branches) n
+      (is_in-right w.part.matching.unmatched (matched_names w.part.matching.matches) n matched))).0
 
   module _ (taken : Match) (matches : List Match) (moved : IsPermutation w.part.matching.matches (taken ∷ matches)) where
     pub names_taken : IsPermutation (matched_names w.part.matching.matches) (names_of taken ++ matched_names matches)
@@ -91,7 +93,7 @@ module _ (more : List ℕ) (w : SearchValue) (are : IsSearchingBeside more w) wh
     pub taken_matched : (n : ℕ) → is_in (names_of taken) n ≡ true → is_in (matched_names w.part.matching.matches) n ≡ true
     taken_matched n within =
         sym (same_permuted (matched_names w.part.matching.matches) (names_of taken ++ matched_names matches) names_taken n)
-        ∙ in_left (names_of taken) (matched_names matches) n within
+        ∙ is_in-left (names_of taken) (matched_names matches) n within
 
     taken_distinct : AreDistinct (names_of taken)
     taken_distinct =

@@ -5,7 +5,6 @@ use Rattle.fb_graph.specs.Parity.{is_in}
 use Rattle.fb_graph.proofs.Sets.{is_in-cases, is_in-head, is_in-tail}
 use Rattle.fb_laws.specs.TreeCycles.{nodes_along}
 use Rattle.fb_laws.specs.Trees.{EntryOf, minus_names, plus_names}
-use Rattle.fb_laws.proofs.TreePaths.{in_either}
 use Rattle.fb_half.specs.declared.matches.Standing.{Standing}
 use Rattle.fb_half.specs.declared.matches.Standing.TheVariants.{Absent, Unmatched, Matched}
 use Rattle.fb_half.specs.Matchings.{listed_names, matched_names}
@@ -13,6 +12,7 @@ use Rattle.fb_half.specs.Standings.{is_unmatched}
 use Rattle.fb_search.specs.Searching.{IsSearching, SearchValue, unmatched_in}
 use Rattle.fb_search.specs.Meetings.{Meets}
 use Rattle.fb_search.proofs.SearchRoles.{outer_live, roles_in_tree}
+use Rattle.fb_graph.proofs.Floods.{is_in-both}
 
 pub not_unmatched : (s : Standing) → ((i : ℕ) → s ≡ Unmatched i → ⊥) → is_unmatched s ≡ false
 not_unmatched Absent other = refl
@@ -47,7 +47,7 @@ along_roles root (e ∷ es) n there = first (is_in-cases e.minus (e.plus ∷ nod
 pub met_matched : (w : SearchValue) (edge plus other : ℕ) → IsSearching w → Meets w edge plus other
     → is_in (unmatched_in w) other ≡ false → is_in (matched_names w.part.matching.matches) other ≡ true
 met_matched w edge plus other are meets taken =
-    by (in_either (listed_names w.part.matching) (nodes_along w.tree.branches) other
+    by (is_in-both (listed_names w.part.matching) (nodes_along w.tree.branches) other
     (let (live, outer) = outer_live w are meets.outer other meets.obstacle.covered in are.matching.all other live outer))
   where
     not_plus : is_in (plus_names w.tree.root w.tree.branches) other ≡ false
@@ -67,5 +67,5 @@ met_matched w edge plus other are meets taken =
 
     by : (is_in (listed_names w.part.matching) other ≡ true) ⊎ (is_in (nodes_along w.tree.branches) other ≡ true)
         → is_in (matched_names w.part.matching.matches) other ≡ true
-    by (inl there) = listed (in_either (unmatched_in w) (matched_names w.part.matching.matches) other there)
+    by (inl there) = listed (is_in-both (unmatched_in w) (matched_names w.part.matching.matches) other there)
     by (inr along) = absurd (none (along_roles w.tree.root w.tree.branches other along))

@@ -21,7 +21,7 @@ use Rattle.fb_search.specs.declared.near.Reach.{Reach}
 use Rattle.fb_search.specs.InternalNear.{HasRoom, IsReach, IsTarget, is_nearer, is_target, room_with, with_best, with_reach}
 use Rattle.fb_search.proofs.NearEdges.{target_is}
 use Rattle.fb_search.proofs.NearMatches.{leads_apart, touches_from}
-use Rattle.fb_search.proofs.SourceSteps.{leads_back}
+use Rattle.fb_graph.proofs.Walks.{Leads_flip}
 
 -- an edge leads from a vertex to one other
 leads_one : (e : Edge) (v f g : ℕ) → Leads e v f → Leads e v g → f ≡ g
@@ -224,7 +224,7 @@ module _ (p : Problem) (nodes : List Node) (unmatched : List ℕ) (v : ℕ) wher
                   → a.room ≤ residue_of nodes (edge_at p.edges k)
               beside off (inl same) =
                   absurd (false≢true (sym off ∙ (ap (λ j. touches r.far (edge_at p.edges j)) (sym same)
-                  ∙ touches_from p r.edge r.far v limits reach.within (leads_back (edge_at p.edges r.edge) v r.far reach.leads))))
+                  ∙ touches_from p r.edge r.far v limits reach.within (Leads_flip (edge_at p.edges r.edge) v r.far reach.leads))))
               beside off (inr le) = le
 
               split : (b : Bool) → touches r.far (edge_at p.edges k) ≡ b

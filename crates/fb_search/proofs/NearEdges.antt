@@ -23,6 +23,7 @@ use Rattle.fb_search.specs.declared.near.Near.TheVariants.{Boundary, Pair}
 use Rattle.fb_search.specs.declared.near.Reach.{Reach}
 use Rattle.fb_search.proofs.TopLayers.{top_real}
 use Rattle.fb_search.specs.InternalNear.{HasRoom, IsNear, IsReach, IsShare, IsSingleAt, IsTarget, is_single, is_target}
+use Rattle.fb_laws.proofs.NestedFusions.{cover_live}
 
 -- a node that joins no others and has one layer has one vertex
 one_below : (below : List Cut) (top : Cut) → length (below ++ top ∷ []) ≡ 1 → length (first_vertices (below ++ top ∷ [])) ≡ 1
@@ -74,11 +75,6 @@ pub single_top : (p : Problem) (nodes : List Node) (name v : ℕ) → IsNest p n
 single_top p nodes name v nest live single begins =
     begins_one (top_at nodes name) v begins (single_length p nodes name nest live single)
 
--- the node over a vertex
-pub over_live : (nodes : List Node) (v name : ℕ) → cover_of nodes v ≡ Some name → is_live nodes name ≡ true
-over_live nodes v name over =
-    let is = cover_among nodes v name over in among_live nodes is.node name is.among is.named
-
 holds_one : (xs : List ℕ) (v : ℕ) → is_in xs v ≡ true → length xs ≡ 1 → xs ≡ v ∷ []
 holds_one [] v holds one = absurd (omega (arith, one))
 holds_one (x ∷ []) v holds one = by (is_in-cases x [] v holds)
@@ -92,7 +88,7 @@ single_over : (p : Problem) (nodes : List Node) (unmatched : List ℕ) (v name :
     → cover_of nodes v ≡ Some name → is_in unmatched name ≡ true → is_single nodes name ≡ true
     → IsSingleAt nodes unmatched v name
 single_over p nodes unmatched v name nest over listed single = record {
-  top = holds_one (top_at nodes name) v held (single_length p nodes name nest (over_live nodes v name over) single);
+  top = holds_one (top_at nodes name) v held (single_length p nodes name nest (cover_live nodes v name over) single);
   covered = over;
   listed = listed;
 }

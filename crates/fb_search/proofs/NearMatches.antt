@@ -29,7 +29,6 @@ use Rattle.fb_search.specs.Progress.{IsSearched, stepped_by}
 use Rattle.fb_search.specs.Searching.{IsSearching, SearchValue, roles_in}
 use Rattle.fb_search.proofs.AttachedBranches.{plus_of_tree}
 use Rattle.fb_search.proofs.BegunSearches.{kept_limits, touches_first, touches_second}
-use Rattle.fb_search.proofs.EndedLinks.{Table}
 use Rattle.fb_search.proofs.EndedParts.{part_after}
 use Rattle.fb_search.proofs.EndedWays.{boundary_match}
 use Rattle.fb_search.proofs.KeptNodes.{beside_stepped}
@@ -39,6 +38,7 @@ use Rattle.fb_search.proofs.ScopeWalks.{out_bare, out_scoped, scoped}
 use Rattle.fb_search.proofs.SearchRoles.{tree_over}
 use Rattle.fb_search.proofs.SteppedSearches.{searching_stepped, step_in_scope, tree_in_scope}
 use Rattle.fb_search.proofs.TreeEnds.{boundary_apart, boundary_ended, leads_out}
+use Rattle.fb_links.proofs.MovedLinks.{Table}
 
 -- an edge touches the end from which it leads, and the end to which it leads
 pub touches_from : (p : Problem) (k u v : ℕ) → IsWithinLimits p → k < length p.edges → Leads (edge_at p.edges k) u v

@@ -30,19 +30,19 @@ use Rattle.fb_search.specs.Meetings.{Meets}
 use Rattle.fb_search.specs.MetWalks.{IsBetween, IsMetWalk}
 use Rattle.fb_search.specs.Progress.{IsSearched, stepped_by}
 use Rattle.fb_search.specs.Searching.{IsSearching, SearchValue, roles_in}
-use Rattle.fb_search.proofs.EndedLinks.{Table}
 use Rattle.fb_search.proofs.EndedParts.{part_after}
 use Rattle.fb_search.proofs.EndedWays.{met_match}
 use Rattle.fb_search.proofs.KeptNodes.{beside_stepped}
 use Rattle.fb_search.proofs.NearGrowth.{covered_alone, load_grown, may_grow}
 use Rattle.fb_search.proofs.NearMatches.{bears_growth, leads_apart, root_is_plus, root_over, searched_after, slack, touches_from}
 use Rattle.fb_search.proofs.NearParts.{bare_search, grown, part_grown, searching_bare}
-use Rattle.fb_search.proofs.SourceSteps.{leads_back}
 use Rattle.fb_search.proofs.ScopeWalks.{between_scoped, met_scoped, scoped}
 use Rattle.fb_search.proofs.SearchRoles.{tree_over}
 use Rattle.fb_search.proofs.SteppedSearches.{searching_stepped, step_in_scope, tree_in_scope}
 use Rattle.fb_search.proofs.TakenNames.{without_taken}
 use Rattle.fb_search.proofs.TreeEnds.{meets_between, met_apart, met_ended, root_left}
+use Rattle.fb_links.proofs.MovedLinks.{Table}
+use Rattle.fb_graph.proofs.Walks.{Leads_flip}
 
 -- a node beside the root of a tree that is the root alone has no role
 module _ (root other : ℕ) (part : PartValue) (k : ℕ) (apart : root ≢ other) where
@@ -138,7 +138,7 @@ module _ (part : PartValue) (root : ℕ) (pair : NearPair) (are : IsPart part) (
   tight : load_of (all_cuts last.part.nodes) e ≡ e.weight
   tight =
       let touch = touches_from p pair.edge near.inner near.outer limits near.within near.leads in
-      let back = touches_from p pair.edge near.outer near.inner limits near.within (leads_back e near.inner near.outer near.leads) in
+      let back = touches_from p pair.edge near.outer near.inner limits near.within (Leads_flip e near.inner near.outer near.leads) in
       omega (
         arith,
         load_grown p mid.nodes root near.inner mid_dual mid_top pair.length e,

@@ -8,12 +8,11 @@ use Rattle.fb_graph.specs.Dual.{AllowsGrowth, IsCrossed, Node, change_at, is_liv
 use Rattle.fb_graph.specs.Steps.{MayStep, Roles, stepped_nodes, stepped_node}
 use Rattle.fb_graph.specs.Turns.{with_minus, with_plus, thinner_node}
 use Rattle.fb_graph.proofs.Among.{All_among, live_among}
-use Rattle.fb_graph.proofs.MappedNodes.{mapped_outer}
+use Rattle.fb_graph.proofs.MappedNodes.{mapped_outer, mapped_live}
 use Rattle.fb_graph.proofs.Members.{is_in_push}
 use Rattle.fb_graph.proofs.Sets.{equal_sym}
 use Rattle.fb_graph.proofs.StepTurns.{grown_next, growth_allowed, same_roles, shrink_allowed, shrunk_next, top_stepped}
 use Rattle.fb_laws.specs.Trees.{minus_names, plus_names, roles_of}
-use Rattle.fb_laws.proofs.CycleMoves.{live_mapped}
 use Rattle.fb_regions.specs.Moves.{node_named}
 use Rattle.fb_trees.specs.Branches.{Grown}
 use Rattle.fb_search.specs.InternalSteps.{IsTreeOver, roles_by_names}
@@ -52,7 +51,7 @@ named_value (n ∷ ns) k name live all =
 
 pub still_live : (roles : Roles) (k name : ℕ) (nodes : List Node) → is_live nodes name ≡ true
     → is_live (stepped_nodes roles k nodes) name ≡ true
-still_live roles k name nodes live = live_mapped (stepped_node roles k) (λ n. refl) nodes name ∙ live
+still_live roles k name nodes live = mapped_live (stepped_node roles k) (λ n. refl) nodes name ∙ live
 
 still_outer : (roles : Roles) (k name : ℕ) (nodes : List Node) → is_outer nodes name ≡ true
     → is_outer (stepped_nodes roles k nodes) name ≡ true

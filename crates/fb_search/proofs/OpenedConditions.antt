@@ -21,7 +21,7 @@ use Rattle.fb_laws.specs.OpenedCycles.{grown_on, matched_on}
 use Rattle.fb_laws.specs.TreeCycles.{nodes_along}
 use Rattle.fb_laws.specs.Trees.{EntryOf, minus_names, tree_names}
 use Rattle.fb_laws.proofs.OpenedBlossoms.{distinct_permuted, same_permuted}
-use Rattle.fb_laws.proofs.TreePaths.{distinct_left, distinct_right, in_either, in_left, in_right}
+use Rattle.fb_laws.proofs.TreePaths.{distinct_right}
 use Rattle.fb_half.specs.Matchings.{listed_names, match_links, matched_names}
 use Rattle.fb_half.specs.Translations.{children_at, ring_at, ring_links}
 use Rattle.fb_trees.specs.Replacements.{MayOpen, first_node, way_of}
@@ -33,6 +33,8 @@ use Rattle.fb_search.proofs.OpenedAlong.{couples_listed, first_is, links_parted,
 use Rattle.fb_search.proofs.OpenedNames.{along_way, names-along}
 use Rattle.fb_search.proofs.OpenedSplits.{child_live, child_was_inner, children_many}
 use Rattle.fb_search.proofs.Openings.{Opens, round_in}
+use Rattle.fb_graph.proofs.Floods.{is_in-both, is_in-left, is_in-right}
+use Rattle.fb_laws.proofs.NestOrders.{distinct_left}
 
 seconds_within : (steps : List CycleStep) (n : ℕ) → is_in (second_nodes steps) n ≡ true → is_in (nodes_of steps) n ≡ true
 seconds_within [] n there = absurd (false≢true there)
@@ -89,12 +91,12 @@ module _ (w : SearchValue) (name : ℕ) (e : EntryOf ℕ) (above below : ℕ) (a
   pub way_within : (n : ℕ) → is_in (nodes_of way) n ≡ true → is_in (nodes_of cycle) n ≡ true
   way_within n there =
       sym (same_permuted (nodes_of cycle) (nodes_of way ++ nodes_of rest) parted n)
-      ∙ in_left (nodes_of way) (nodes_of rest) n there
+      ∙ is_in-left (nodes_of way) (nodes_of rest) n there
 
   pub rest_within : (n : ℕ) → is_in (nodes_of rest) n ≡ true → is_in (nodes_of cycle) n ≡ true
   rest_within n there =
       sym (same_permuted (nodes_of cycle) (nodes_of way ++ nodes_of rest) parted n)
-      ∙ in_right (nodes_of way) (nodes_of rest) n there
+      ∙ is_in-right (nodes_of way) (nodes_of rest) n there
 
   pub inner : (n : ℕ) → is_in (nodes_of cycle) n ≡ true → is_outer w.part.nodes n ≡ false
   inner n there =
@@ -110,19 +112,19 @@ module _ (w : SearchValue) (name : ℕ) (e : EntryOf ℕ) (above below : ℕ) (a
   tree_listed : (n : ℕ) → is_in (tree_names w.tree.root w.tree.branches) n ≡ true
       → is_in (listed_names w.part.matching ++ nodes_along w.tree.branches) n ≡ true
   tree_listed n there =
-      by (in_either (nodes_along w.tree.branches) (w.tree.root ∷ []) n
+      by (is_in-both (nodes_along w.tree.branches) (w.tree.root ∷ []) n
       (ap (λ l. is_in l n) (sym (names-along w.tree.root w.tree.branches)) ∙ there))
     where
       by : (is_in (nodes_along w.tree.branches) n ≡ true) ⊎ (is_in (w.tree.root ∷ []) n ≡ true)
           → is_in (listed_names w.part.matching ++ nodes_along w.tree.branches) n ≡ true
-      by (inl h) = in_right (listed_names w.part.matching) (nodes_along w.tree.branches) n h
+      by (inl h) = is_in-right (listed_names w.part.matching) (nodes_along w.tree.branches) n h
       by (inr h) = root (is_in-cases w.tree.root [] n h)
         where
           root : (w.tree.root ≡ n) ⊎ (is_in [] n ≡ true)
               → is_in (listed_names w.part.matching ++ nodes_along w.tree.branches) n ≡ true
           root (inl same) =
-              in_left (listed_names w.part.matching) (nodes_along w.tree.branches) n
-              (in_left (unmatched_in w) (matched_names w.part.matching.matches) n
+              is_in-left (listed_names w.part.matching) (nodes_along w.tree.branches) n
+              (is_in-left (unmatched_in w) (matched_names w.part.matching.matches) n
               (ap (is_in (unmatched_in w)) (sym same) ∙ are.state.1.search.search.open_root))
           root (inr none) = absurd (false≢true none)
 
@@ -131,7 +133,7 @@ module _ (w : SearchValue) (name : ℕ) (e : EntryOf ℕ) (above below : ℕ) (a
     minus =
         ap (λ l. is_in (minus_names l) name) opens.branch.there
         ∙ (ap (λ l. is_in l name) (map-append (λ x. x.minus) opens.branch.newer (e ∷ opens.branch.older))
-        ∙ in_right (minus_names opens.branch.newer) (minus_names (e ∷ opens.branch.older)) name
+        ∙ is_in-right (minus_names opens.branch.newer) (minus_names (e ∷ opens.branch.older)) name
         (subst (λ x. is_in (e.minus ∷ minus_names opens.branch.older) x ≡ true) opens.branch.minus
         (is_in-head e.minus (minus_names opens.branch.older))));
     odd = way_odd cycle above below many.distinct odd above_on below_on;
@@ -164,7 +166,7 @@ module _ (w : SearchValue) (name : ℕ) (e : EntryOf ℕ) (above below : ℕ) (a
       false_from_ne_true (is_in (nodes_of rest) n)
       (λ there.
       both_ways (is_in (nodes_of cycle) n)
-      (not_child n (in_left (listed_names w.part.matching) (nodes_along w.tree.branches) n listed))
+      (not_child n (is_in-left (listed_names w.part.matching) (nodes_along w.tree.branches) n listed))
       (rest_within n there))))
 
   pub ring_parted : IsPermutation (ring_at w.part.store name)
@@ -208,15 +210,15 @@ module _ (w : SearchValue) (name : ℕ) (e : EntryOf ℕ) (above below : ℕ) (a
       All-from_is_in (λ id. table.is_live w.part.links id ≡ true) (links_left (round_in w.part name above below) below)
       (λ id there.
       are.links.live id
-      ∙ in_right (tree_links w.tree.branches) (match_links w.part.matching.matches ++ ring_links w.part.nodes w.part.store) id
-      (in_right (match_links w.part.matching.matches) (ring_links w.part.nodes w.part.store) id
+      ∙ is_in-right (tree_links w.tree.branches) (match_links w.part.matching.matches ++ ring_links w.part.nodes w.part.store) id
+      (is_in-right (match_links w.part.matching.matches) (ring_links w.part.nodes w.part.store) id
       (ap (λ l. is_in l id) rings_are
-      ∙ in_right front (ring_at w.part.store name ++ back) id
-      (in_left (ring_at w.part.store name) back id
+      ∙ is_in-right front (ring_at w.part.store name ++ back) id
+      (is_in-left (ring_at w.part.store name) back id
       (sym (same_permuted (ring_at w.part.store name) _ ring_parted id)
-      ∙ in_right (grown_on (way_of way) ++ matched_on (way_of way))
+      ∙ is_in-right (grown_on (way_of way) ++ matched_on (way_of way))
       (match_links (couples_on rest) ++ links_left (round_in w.part name above below) below) id
-      (in_right (match_links (couples_on rest)) (links_left (round_in w.part name above below) below) id there))))))
+      (is_in-right (match_links (couples_on rest)) (links_left (round_in w.part name above below) below) id there))))))
 
   pub plus_live : All (λ n. is_live (split_nodes name w.part.nodes) n ≡ true) (second_nodes way)
   plus_live =

@@ -18,13 +18,12 @@ use Rattle.fb_laws.specs.Trees.{EntryOf, grown_links, paired_links}
 use Rattle.fb_laws.proofs.MergedParts.{distinct_across}
 use Rattle.fb_laws.proofs.OpenedBlossoms.{distinct_permuted, same_permuted}
 use Rattle.fb_laws.proofs.OpenedParts.{flat_among, in_among}
-use Rattle.fb_laws.proofs.TreePaths.{distinct_left, in_left, in_right}
 use Rattle.fb_half.specs.Parts.{AreLinksOf, AreStepsOf}
 use Rattle.fb_half.specs.Translations.{entry_by, link_by, link_of, ring_at, ring_links}
 use Rattle.fb_search.specs.InternalEndings.{Forgets}
-
-abbrev pub Table : Type 0
-Table = List (Option (List Step))
+use Rattle.fb_links.proofs.MovedLinks.{Table}
+use Rattle.fb_laws.proofs.NestOrders.{distinct_left}
+use Rattle.fb_graph.proofs.Floods.{is_in-left, is_in-right}
 
 module _ (p : Problem) (old new : Table) (ids kept gone : List ℕ) (are : AreLinksOf p old ids) (moved : IsPermutation ids (kept ++ gone))
     (forgets : Forgets gone old new) where
@@ -73,8 +72,8 @@ links_same old new (k ∷ ks) same =
 pub entries_same : (old new : Table) (tree : List (EntryOf ℕ)) → AreSameLinks old new (tree_links tree)
     → map (entry_by new) tree ≡ map (entry_by old) tree
 entries_same old new tree same =
-    each tree (λ k there. same k (in_left (grown_links tree) (paired_links tree) k there))
-    (λ k there. same k (in_right (grown_links tree) (paired_links tree) k there))
+    each tree (λ k there. same k (is_in-left (grown_links tree) (paired_links tree) k there))
+    (λ k there. same k (is_in-right (grown_links tree) (paired_links tree) k there))
   where
     each : (es : List (EntryOf ℕ)) → AreSameLinks old new (grown_links es) → AreSameLinks old new (paired_links es)
         → map (entry_by new) es ≡ map (entry_by old) es

@@ -21,7 +21,6 @@ use Rattle.fb_laws.specs.TreeCycles.{nodes_along}
 use Rattle.fb_laws.specs.Trees.{Connects, EntryOf}
 use Rattle.fb_laws.proofs.OpenedBlossoms.{distinct_permuted, same_permuted}
 use Rattle.fb_laws.proofs.OpenedParts.{flat_among, in_among}
-use Rattle.fb_laws.proofs.TreePaths.{in_either, in_left, in_right}
 use Rattle.fb_half.specs.declared.matches.Match.{Match}
 use Rattle.fb_half.specs.Matchings.{IsMatchOf, IsMatchingOf, listed_names, match_links, matched_names, names_of, second_name}
 use Rattle.fb_half.specs.Translations.{link_by, ring_links}
@@ -32,13 +31,15 @@ use Rattle.fb_search.specs.InternalOpenings.{couples_on}
 use Rattle.fb_search.specs.Searching.{IsSearching, SearchValue, problem_of}
 use Rattle.fb_search.proofs.Agreed.{nodes_of}
 use Rattle.fb_search.proofs.OpenedConditions.{children_are, couples_named, cycle, many, nest, not_child, parted, rest, way, way_named}
-use Rattle.fb_search.proofs.OpenedLinks.{Table}
 use Rattle.fb_search.proofs.OpenedNames.{along_before, along_beside, along_way, names_opened}
 use Rattle.fb_search.proofs.OpenedNumbers.{branches_are, links_kept}
 use Rattle.fb_search.proofs.OpenedSplits.{child_live, child_outer, cover_stays, outer_back, stays_live, stays_outer}
 use Rattle.fb_search.proofs.OpenedStates.{law_cycle}
 use Rattle.fb_search.proofs.OpenedWays.{couple_by, mate_of}
 use Rattle.fb_search.proofs.Openings.{HasOpened, Opens}
+use Rattle.fb_graph.proofs.Floods.{is_in-both, is_in-left, is_in-right}
+use Rattle.fb_links.proofs.MovedLinks.{Table}
+use Rattle.fb_half.proofs.FreedMatches.{link_in}
 
 -- a link under other nodes than the one that is split leads where it led
 match_stays : (p : Problem) (nodes others : List Node) (name : ℕ)
@@ -64,10 +65,6 @@ second_is [] m a = absurd a
 second_is (s ∷ []) m a = absurd a
 second_is (s ∷ t ∷ ss) m (inl same) = subst (λ x. x.second ≡ Some (mate_of x.second)) same refl
 second_is (s ∷ t ∷ ss) m (inr a) = second_is ss m a
-
-link_listed : (ms : List Match) (m : Match) → IsAmong m ms → is_in (match_links ms) m.link ≡ true
-link_listed ms m a =
-    among_any (λ u. u == m.link) (match_links ms) m.link (map_among (λ (x : Match). x.link) ms m a) (eq-eqb m.link m.link refl)
 
 module _ (w : SearchValue) (name : ℕ) (e : EntryOf ℕ) (above below : ℕ) (are : IsSearching w)
     (opens : Opens w name e above below) (links : Table) (store : List (Option blossoms.Node)) (tree : Grown) (watched : Watched)
@@ -139,7 +136,7 @@ module _ (w : SearchValue) (name : ℕ) (e : EntryOf ℕ) (above below : ℕ) (a
       both_ways (is_in (listed ++ beside) name) distinct_was.0 (ap (is_in (listed ++ beside)) (sym same) ∙ there)
 
   each : (n : ℕ) → is_in (Cycle ++ (listed ++ beside)) n ≡ true → (is_live Others n ≡ true) × (is_outer Others n ≡ true)
-  each n there = by (in_either Cycle (listed ++ beside) n there)
+  each n there = by (is_in-both Cycle (listed ++ beside) n there)
     where
       by : (is_in Cycle n ≡ true) ⊎ (is_in (listed ++ beside) n ≡ true) → (is_live Others n ≡ true) × (is_outer Others n ≡ true)
       by (inl child) = (
@@ -168,19 +165,19 @@ module _ (w : SearchValue) (name : ℕ) (e : EntryOf ℕ) (above below : ℕ) (a
       by : ((is_live w.part.nodes n ≡ true) × (is_outer w.part.nodes n ≡ true) × (n ≢ name)) ⊎ (is_in Cycle n ≡ true)
           → is_in (Cycle ++ (listed ++ beside)) n ≡ true
       by (inl (was, out, other)) =
-          in_right Cycle (listed ++ beside) n
+          is_in-right Cycle (listed ++ beside) n
           (later other
           (is_in-cases name (listed ++ beside) n
           (same_permuted (listed ++ nodes_along w.tree.branches) (name ∷ (listed ++ beside)) was_listed n
           ∙ are.matching.all n was out)))
-      by (inr child) = in_left Cycle (listed ++ beside) n child
+      by (inr child) = is_in-left Cycle (listed ++ beside) n child
 
   -- the links of matches stay
   same_link : (m : Match) → IsAmong m matches_after → link_by links m.link ≡ link_by w.part.links m.link
   same_link m a =
       links_kept w name e above below are opens links store tree watched has m.link
-      (in_right (tree_links tree.branches) (match_links matches_after ++ ring_links Others store) m.link
-      (in_left (match_links matches_after) (ring_links Others store) m.link (link_listed matches_after m a)))
+      (is_in-right (tree_links tree.branches) (match_links matches_after ++ ring_links Others store) m.link
+      (is_in-left (match_links matches_after) (ring_links Others store) m.link (link_in matches_after m a)))
 
   old_match : (m : Match) → IsAmong m w.part.matching.matches
       → IsMatchOf (problem_of w) Others (link_by w.part.links m.link) m.first m.second
@@ -196,8 +193,8 @@ module _ (w : SearchValue) (name : ℕ) (e : EntryOf ℕ) (above below : ℕ) (a
       free : (c : ℕ) → is_in (names_of m) c ≡ true → c ≢ name
       free c there =
           other_name c
-          (in_left listed beside c
-          (in_right w.part.matching.unmatched (matched_names w.part.matching.matches) c
+          (is_in-left listed beside c
+          (is_in-right w.part.matching.unmatched (matched_names w.part.matching.matches) c
           (among_any (λ u. u == c) (matched_names w.part.matching.matches) c
           (flat_among names_of w.part.matching.matches m c a (in_among (names_of m) c there)) (eq-eqb c c refl))))
 

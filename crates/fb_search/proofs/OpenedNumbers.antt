@@ -21,9 +21,10 @@ use Rattle.fb_search.specs.InternalOpenings.{couples_on, links_left}
 use Rattle.fb_search.specs.Searching.{IsSearching, SearchValue, problem_of, searched_links}
 use Rattle.fb_search.proofs.Linked.{rings_split}
 use Rattle.fb_search.proofs.OpenedConditions.{nest, rest, ring_parted, way, way_first}
-use Rattle.fb_search.proofs.OpenedLinks.{AreSameLinks, Table, link_stays, links_stay}
+use Rattle.fb_search.proofs.OpenedLinks.{AreSameLinks, link_stays, links_stay}
 use Rattle.fb_search.proofs.OpenedNames.{IsSameBranch, numbers_opened, same_branch}
 use Rattle.fb_search.proofs.Openings.{HasOpened, Opens, opened_search, round_in}
+use Rattle.fb_links.proofs.MovedLinks.{Table}
 
 module _ (w : SearchValue) (name : ℕ) (e : EntryOf ℕ) (above below : ℕ) (are : IsSearching w)
     (opens : Opens w name e above below) (links : Table) (store : List (Option blossoms.Node)) (tree : Grown) (watched : Watched)

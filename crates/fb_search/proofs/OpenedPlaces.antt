@@ -7,6 +7,7 @@ use Rattle.fb_graph.specs.Parity.{is_in}
 use Rattle.fb_links.specs.declared.cycle.CycleStep.{CycleStep}
 use Rattle.fb_search.specs.InternalOpenings.{link_on, place_on, rest_on, round_on, turned_from, turned_on, way_on}
 use Rattle.fb_search.proofs.Agreed.{nodes_of}
+use Rattle.fb_trees.proofs.Lookups.{map_reverse}
 
 -- the links of a cycle
 abbrev pub links_of : List CycleStep → List ℕ
@@ -121,20 +122,13 @@ turned_last node [] s = (refl, refl)
 turned_last node (x ∷ xs) s =
     let rest = turned_last x.node xs s in (ap (λ l. node ∷ l) rest.0, ap (λ l. x.link ∷ l) rest.1)
 
-pub map-reverse : {X Y : Type 0} (f : X → Y) (xs : List X) → map f (reverse xs) ≡ reverse (map f xs)
-map-reverse f [] = refl
-map-reverse f (x ∷ xs) =
-    ap (map f) (reverse-append (x ∷ []) xs)
-    ∙ (map-append f (reverse xs) (x ∷ [])
-    ∙ (ap (λ l. l ++ f x ∷ []) (map-reverse f xs) ∙ sym (reverse-append (f x ∷ []) (map f xs))))
-
 pub turned_nodes : (s : CycleStep) (ss : List CycleStep) → nodes_of (turned_on (s ∷ ss)) ≡ s.node ∷ reverse (nodes_of ss)
 turned_nodes s ss =
     ap (λ l. nodes_of (turned_from s.node l)) (reverse-append (s ∷ []) ss)
-    ∙ ((turned_last s.node (reverse ss) s).0 ∙ ap (λ l. s.node ∷ l) (map-reverse (λ x. x.node) ss))
+    ∙ ((turned_last s.node (reverse ss) s).0 ∙ ap (λ l. s.node ∷ l) (map_reverse (λ x. x.node) ss))
 
 pub turned_links : (s : CycleStep) (ss : List CycleStep) → links_of (turned_on (s ∷ ss)) ≡ reverse (links_of (s ∷ ss))
 turned_links s ss =
     ap (λ l. links_of (turned_from s.node l)) (reverse-append (s ∷ []) ss)
     ∙ ((turned_last s.node (reverse ss) s).1
-    ∙ (ap links_of (sym (reverse-append (s ∷ []) ss)) ∙ map-reverse (λ x. x.link) (s ∷ ss)))
+    ∙ (ap links_of (sym (reverse-append (s ∷ []) ss)) ∙ map_reverse (λ x. x.link) (s ∷ ss)))

@@ -14,7 +14,8 @@ use Rattle.fb_laws.proofs.TreePaths.{distinct_right}
 use Rattle.fb_laws.proofs.MergedParts.{distinct_across}
 use Rattle.fb_search.specs.InternalOpenings.{even_on, place_on, round_on, turned_on}
 use Rattle.fb_search.proofs.Agreed.{nodes_of}
-use Rattle.fb_search.proofs.OpenedPlaces.{IsPlacedOn, links_of, map-reverse, nodes-append, links-append, others_of, placed_on, round_is, turned_links, turned_nodes}
+use Rattle.fb_search.proofs.OpenedPlaces.{IsPlacedOn, links_of, nodes-append, links-append, others_of, placed_on, round_is, turned_links, turned_nodes}
+use Rattle.fb_trees.proofs.Lookups.{map_reverse}
 
 abbrev tail_of : List ℕ → List ℕ
 tail_of [] = []
@@ -77,7 +78,7 @@ module _ {M : Type 0} (f : ℕ → M) where
       ap (λ l. record { others = l; links = reverse (map f (links_of (s ∷ ss))) })
       (sym (others_tail (turned_on (s ∷ ss)) ∙ ap tail_of (turned_nodes s ss)))
       ∙ ap (λ l. record { others = others_of (turned_on (s ∷ ss)); links = l })
-      (sym (map-reverse f (links_of (s ∷ ss))) ∙ ap (map f) (sym (turned_links s ss)))
+      (sym (map_reverse f (links_of (s ∷ ss))) ∙ ap (map f) (sym (turned_links s ss)))
 
   pub even_round_is : (r : List CycleStep) (name : ℕ)
       → even_round (place_on r name) (round_by r) ≡ round_by (even_on r name)

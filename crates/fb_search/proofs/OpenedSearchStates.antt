@@ -20,7 +20,6 @@ use Rattle.fb_laws.specs.StateOrders.{AgreeAt}
 use Rattle.fb_laws.specs.Trees.{Entry, EntryOf, roles_of}
 use Rattle.fb_laws.proofs.StateMeasures.{opened_less}
 use Rattle.fb_laws.proofs.StateOrders.{search_reordered}
-use Rattle.fb_laws.proofs.TreePaths.{in_left, in_right}
 use Rattle.fb_half.specs.Matchings.{match_links}
 use Rattle.fb_half.specs.Translations.{cycles_by, entry_by, link_by, ring_at, ring_links}
 use Rattle.fb_trees.specs.Branches.{Grown}
@@ -30,12 +29,14 @@ use Rattle.fb_obstacles.specs.Watched.{Watched}
 use Rattle.fb_search.specs.InternalOpenings.{couples_on}
 use Rattle.fb_search.specs.Searching.{IsSearching, SearchValue, problem_of, state_at}
 use Rattle.fb_search.proofs.OpenedConditions.{rest, way}
-use Rattle.fb_search.proofs.OpenedLinks.{Table, entries_same, links_same, ring_among}
+use Rattle.fb_search.proofs.OpenedLinks.{entries_same, links_same, ring_among}
 use Rattle.fb_search.proofs.OpenedNumbers.{after, branches_are, links_kept}
 use Rattle.fb_search.proofs.OpenedStates.{couples, law_cycle, law_state, may_split, moved, passes, tree_was}
 use Rattle.fb_search.proofs.OpenedWays.{couples_links}
 use Rattle.fb_search.proofs.Openings.{HasOpened, Opens}
 use Rattle.fb_search.proofs.Runs.{roles_by_numbers}
+use Rattle.fb_links.proofs.MovedLinks.{Table}
+use Rattle.fb_graph.proofs.Floods.{is_in-left, is_in-right}
 
 -- a state with other parts
 abbrev state_with : List Node → (ℕ → List Link) → List Entry → List Link → ℕ → SearchState → SearchState
@@ -105,9 +106,9 @@ module _ (w : SearchValue) (name : ℕ) (e : EntryOf ℕ) (above below : ℕ) (a
       ∙ sym (links_same w.part.links links (match_links (w.part.matching.matches ++ couples_on Rest))
       (λ k there.
       links_kept w name e above below are opens links store tree watched has k
-      (in_right (tree_links tree.branches)
+      (is_in-right (tree_links tree.branches)
       (match_links (w.part.matching.matches ++ couples_on Rest) ++ ring_links (split_nodes name w.part.nodes) store) k
-      (in_left (match_links (w.part.matching.matches ++ couples_on Rest)) (ring_links (split_nodes name w.part.nodes) store) k there))))))
+      (is_in-left (match_links (w.part.matching.matches ++ couples_on Rest)) (ring_links (split_nodes name w.part.nodes) store) k there))))))
       (IsPermutation-append_comm (map (link_by w.part.links) (match_links (couples_on Rest)))
       (map (link_by w.part.links) (match_links w.part.matching.matches)))
 
@@ -118,9 +119,9 @@ module _ (w : SearchValue) (name : ℕ) (e : EntryOf ℕ) (above below : ℕ) (a
       links_same w.part.links links (ring_at store n)
       (λ k there.
       links_kept w name e above below are opens links store tree watched has k
-      (in_right (tree_links tree.branches)
+      (is_in-right (tree_links tree.branches)
       (match_links (w.part.matching.matches ++ couples_on Rest) ++ ring_links (split_nodes name w.part.nodes) store) k
-      (in_right (match_links (w.part.matching.matches ++ couples_on Rest)) (ring_links (split_nodes name w.part.nodes) store) k
+      (is_in-right (match_links (w.part.matching.matches ++ couples_on Rest)) (ring_links (split_nodes name w.part.nodes) store) k
       (ring_among (split_nodes name w.part.nodes) store n k live there))))
       ∙ ap (λ (o : Option blossoms.Node). map (link_by w.part.links) (map (λ c. c.link) (cycle_of o)))
       (has.taken_off.others n other)
@@ -130,7 +131,7 @@ module _ (w : SearchValue) (name : ℕ) (e : EntryOf ℕ) (above below : ℕ) (a
       sym (entries_same w.part.links links tree.branches
       (λ k there.
       links_kept w name e above below are opens links store tree watched has k
-      (in_left (tree_links tree.branches)
+      (is_in-left (tree_links tree.branches)
       (match_links (w.part.matching.matches ++ couples_on Rest) ++ ring_links (split_nodes name w.part.nodes) store) k there)))
 
   pub state_opened : IsSearchState (problem_of w) (state_at After are.state.0)

@@ -15,7 +15,6 @@ use Rattle.fb_search.proofs.Agreed.{agreed_split}
 use Rattle.fb_search.proofs.KeptBounds.{bounded_still}
 use Rattle.fb_search.proofs.KeptNodes.{beside_split}
 use Rattle.fb_search.proofs.OpenedConditions.{rest, way_opens}
-use Rattle.fb_search.proofs.OpenedLinks.{Table}
 use Rattle.fb_search.proofs.OpenedMatchings.{matching_opened}
 use Rattle.fb_search.proofs.OpenedNumbers.{links_after}
 use Rattle.fb_search.proofs.OpenedSearchStates.{less_opened, state_opened}
@@ -23,6 +22,7 @@ use Rattle.fb_search.proofs.OpenedWatches.{watch_opened}
 use Rattle.fb_search.proofs.Openings.{HasOpened, Opens, opened_search}
 use Rattle.fb_graph.specs.Parity.{is_in}
 use Rattle.fb_laws.specs.Works.{names_without}
+use Rattle.fb_links.proofs.MovedLinks.{Table}
 
 module _ (w : SearchValue) (name : ℕ) (e : EntryOf ℕ) (above below : ℕ) (are : IsSearching w)
     (opens : Opens w name e above below) (links : Table) (store : List (Option blossoms.Node)) (tree : Grown) (watched : Watched) where

@@ -11,23 +11,7 @@ use Rattle.fb_graph.proofs.Places.{among_split, split_among}
 use Rattle.fb_graph.proofs.Sets.{is_in-All}
 use Rattle.fb_graph.proofs.SplitNests.{nest_split}
 use Rattle.fb_laws.proofs.CycleMoves.{child_inner}
-
--- no two nodes join the same
-same_parent : (ns : List Node) → AreJoinedLater ns → (m n : Node) → IsAmong m ns → IsAmong n ns → (c : ℕ)
-    → is_in m.children c ≡ true → is_in n.children c ≡ true → m ≡ n
-same_parent [] joined m n a b c h k = absurd a
-same_parent (x ∷ xs) joined m n (inl e) (inl f) c h k = sym e ∙ f
-same_parent (x ∷ xs) joined m n (inl e) (inr b) c h k =
-    absurd
-    (both_ways (is_in n.children c)
-    (All_among (λ y. (v : ℕ) → is_in x.children v ≡ true → is_in y.children v ≡ false) xs joined.1 n b c
-    (ap (λ (y : Node). is_in y.children c) e ∙ h)) k)
-same_parent (x ∷ xs) joined m n (inr a) (inl f) c h k =
-    absurd
-    (both_ways (is_in m.children c)
-    (All_among (λ y. (v : ℕ) → is_in x.children v ≡ true → is_in y.children v ≡ false) xs joined.1 m a c
-    (ap (λ (y : Node). is_in y.children c) f ∙ k)) h)
-same_parent (x ∷ xs) joined m n (inr a) (inr b) c h k = same_parent xs joined.2 m n a b c h k
+use Rattle.fb_laws.proofs.SplitStates.{one_parent}
 
 module _ (p : Problem) (nodes : List Node) (name : ℕ) (children : List ℕ) (may : MaySplit nodes name) (nest : IsNest p nodes)
     (children_are : All (λ n. n.name ≡ name → n.children ≡ children) nodes) where
@@ -95,7 +79,7 @@ module _ (p : Problem) (nodes : List Node) (name : ℕ) (children : List ℕ) (m
       let (among, other) = among_split name nodes q a in
       other
       (ap (λ (n : Node). n.name)
-      (same_parent nodes nest.forest.joined q found.node among found.among c h (ap (λ cs. is_in cs c) found.has ∙ child))
+      (one_parent nodes nest.forest.joined q found.node among found.among c h (ap (λ cs. is_in cs c) found.has ∙ child))
       ∙ found.named)))
 
   -- an outer node was outer before, or is a child

@@ -26,10 +26,7 @@ use Rattle.fb_search.proofs.OpenedConditions.{above_on, below_on, children_are, 
 use Rattle.fb_search.proofs.OpenedPlaces.{place_within}
 use Rattle.fb_search.proofs.OpenedWays.{couple_by}
 use Rattle.fb_search.proofs.Openings.{Opens}
-
-connects_back : (nodes : List Node) (l : Link) (a b : ℕ) → Connects nodes l a b → Connects nodes l b a
-connects_back nodes l a b (inl (from, to)) = inr (to, from)
-connects_back nodes l a b (inr (to, from)) = inl (from, to)
+use Rattle.fb_laws.proofs.SearchTrees.{connects_sym}
 
 module _ (w : SearchValue) (name : ℕ) (e : EntryOf ℕ) (above below : ℕ) (are : IsSearching w)
     (opens : Opens w name e above below) where
@@ -99,7 +96,7 @@ module _ (w : SearchValue) (name : ℕ) (e : EntryOf ℕ) (above below : ℕ) (a
         (subst (λ c. Connects (split_nodes name w.part.nodes) (link_by w.part.links e.matched) c e.plus)
         (sym (to_is Cycle above below (many w name e above below are opens).distinct (odd w name e above below are opens)
         (above_on w name e above below are opens) (below_on w name e above below are opens)))
-        (connects_back (split_nodes name w.part.nodes) (link_by w.part.links e.matched) e.plus below opens.at_below.connects));
+        (connects_sym (split_nodes name w.part.nodes) (link_by w.part.links e.matched) e.plus below opens.at_below.connects));
   }
 
   -- the way and the couples, as the laws see them

@@ -15,7 +15,6 @@ use Rattle.fb_links.specs.declared.cycle.CycleStep.{CycleStep}
 use Rattle.fb_blossoms.specs.Nodes as blossoms
 use Rattle.fb_laws.specs.OpenedCycles.{PassOf, opened_branches, opened_tree}
 use Rattle.fb_laws.specs.Trees.{EntryOf, minus_names, plus_names}
-use Rattle.fb_laws.proofs.TreePaths.{in_left, in_right}
 use Rattle.fb_regions.specs.declared.roles.Role.TheVariants.{Plus, Minus, Out}
 use Rattle.fb_trees.specs.Branches.{Grown}
 use Rattle.fb_trees.specs.Replacements.{way_of}
@@ -28,13 +27,14 @@ use Rattle.fb_search.proofs.Agreed.{nodes_of}
 use Rattle.fb_search.proofs.BegunSearches.{touches_first, touches_second}
 use Rattle.fb_search.proofs.KeptWatches.{IsWatchedAt}
 use Rattle.fb_search.proofs.OpenedConditions.{children_are, cycle, nest, way, way_opens, way_seconds}
-use Rattle.fb_search.proofs.OpenedLinks.{Table}
 use Rattle.fb_search.proofs.OpenedNumbers.{after, branches_are}
 use Rattle.fb_search.proofs.OpenedSplits.{cover_stays, cover_was}
 use Rattle.fb_search.proofs.Openings.{HasOpened, Opens}
 use Rattle.fb_search.proofs.RolesInTree.{plus_in_tree}
 use Rattle.fb_search.proofs.Runs.{tree_roles}
 use Rattle.fb_search.proofs.TakenVertices.{plus_over}
+use Rattle.fb_links.proofs.MovedLinks.{Table}
+use Rattle.fb_graph.proofs.Floods.{is_in-left, is_in-right}
 
 -- Where all edges stay watched, plus nodes keep their vertices, and the edges at each vertex that is newly under a plus
 -- node enter.
@@ -146,8 +146,8 @@ in_flat g (x ∷ xs) n v there held = by (is_in-cases x xs n there) (λ h. in_fl
   where
     by : (x ≡ n) ⊎ (is_in xs n ≡ true) → (is_in xs n ≡ true → is_in (flat_map g xs) v ≡ true)
         → is_in (g x ++ flat_map g xs) v ≡ true
-    by (inl same) rest = in_left (g x) (flat_map g xs) v (ap (λ y. is_in (g y) v) same ∙ held)
-    by (inr h) rest = in_right (g x) (flat_map g xs) v (rest h)
+    by (inl same) rest = is_in-left (g x) (flat_map g xs) v (ap (λ y. is_in (g y) v) same ∙ held)
+    by (inr h) rest = is_in-right (g x) (flat_map g xs) v (rest h)
 
 plus_role : (t : Grown) (name : ℕ) → is_in (plus_names t.root t.branches) name ≡ true
     → grows (role_in t name) ≡ true

@@ -8,7 +8,7 @@ use Rattle.fb_graph.specs.Alike.{AreAlike}
 use Rattle.fb_graph.specs.Dual.{IsDual, Node, cover_of, defects_of, is_empty, is_live, is_outer, leaves}
 use Rattle.fb_graph.specs.Nests.{first_set}
 use Rattle.fb_graph.proofs.Among.{All_among, among_All}
-use Rattle.fb_graph.proofs.MappedNodes.{AreKept, mapped_outer}
+use Rattle.fb_graph.proofs.MappedNodes.{AreKept, mapped_outer, mapped_live}
 use Rattle.fb_blossoms.specs.Nodes.{defects_at}
 use Rattle.fb_blossoms.specs.Nodes as blossoms
 use Rattle.fb_links.specs.declared.walk.Step.{Step}
@@ -16,7 +16,6 @@ use Rattle.fb_laws.specs.Opening.{EndAtDefects}
 use Rattle.fb_laws.specs.PartStates.{IsSearchState}
 use Rattle.fb_laws.specs.Searches.{LeavesNode}
 use Rattle.fb_laws.specs.Trees.{Connects, paired_links}
-use Rattle.fb_laws.proofs.CycleMoves.{live_mapped}
 use Rattle.fb_laws.specs.LinkNumbers.{tree_links}
 use Rattle.fb_half.specs.Matchings.{IsMatchOf, IsMatchingOf, MatchingValue, match_links}
 use Rattle.fb_half.specs.Parts.{AreAgreed, AreLinksOf}
@@ -27,13 +26,14 @@ use Rattle.fb_laws.specs.TreeCycles.{nodes_along}
 use Rattle.fb_obstacles.specs.Obstacles.{IsWatched, slack_at}
 use Rattle.fb_obstacles.specs.Watched.{AreBounded, Watched}
 use Rattle.fb_search.specs.Searching.{IsSearching, SearchValue, problem_of, roles_in, state_at}
+use Rattle.fb_graph.proofs.Nodes.{All-right}
 
 abbrev At : Problem → List ℕ → Link → Type 0
 At p defects l = (p.is_real l.from ≡ true → is_in defects l.from ≡ true) × (p.is_real l.to ≡ true → is_in defects l.to ≡ true)
 
 module _ (f : Node → Node) (nodes : List Node) (kept : AreKept f nodes) where
   live_kept : (x : ℕ) → is_live (map f nodes) x ≡ is_live nodes x
-  live_kept = live_mapped f kept.name nodes
+  live_kept = mapped_live f kept.name nodes
 
   outer_kept : (x : ℕ) → is_outer (map f nodes) x ≡ is_outer nodes x
   outer_kept = mapped_outer f kept.children nodes
@@ -112,11 +112,6 @@ matching_relayered p f nodes links m outside kept alike dual at are = record {
   connects = matches_kept p nodes (map f nodes) alike dual links m.matches at are.connects;
 }
 
--- the other matched links, beside those of the tree
-pub all_after : {X : Type 0} (P : X → Type 0) (xs ys : List X) → All P (xs ++ ys) → All P ys
-all_after P [] ys all = all
-all_after P (x ∷ xs) ys all = all_after P xs ys (All-tail P x (xs ++ ys) all)
-
 -- the search with its nodes in other layers, and with other edges watched
 abbrev pub relayered_by : (Node → Node) → Watched → SearchValue → SearchValue
 relayered_by f watched w = record w { part = record w.part { nodes = map f w.part.nodes }; watched = watched }
@@ -140,7 +135,7 @@ searching_relayered w f watched are kept alike state room watch bounds = record 
   matching =
       matching_relayered (problem_of w) f w.part.nodes w.part.links w.part.matching (nodes_along w.tree.branches) kept alike
       are.state.1.search.nest.dual
-      (all_after (At (problem_of w) (leaves w.part.nodes)) (paired_links (state_at w are.state.0).tree) (state_at w are.state.0).rest
+      (All-right (At (problem_of w) (leaves w.part.nodes)) (paired_links (state_at w are.state.0).tree) (state_at w are.state.0).rest
       are.state.1.search.search.matching.links_are.at_defects)
       are.matching;
   room = room ∙ are.room;

@@ -25,7 +25,6 @@ use Rattle.fb_search.specs.Progress.{IsSearched}
 use Rattle.fb_search.specs.Searching.{SearchValue, problem_of, searched_links, state_at}
 use Rattle.fb_search.proofs.DroppedLinks.{dropped_live, dropped_once}
 use Rattle.fb_search.proofs.EndedCases.{links_counted}
-use Rattle.fb_search.proofs.EndedLinks.{Table}
 use Rattle.fb_search.proofs.EndedMatches.{AreTaken}
 use Rattle.fb_search.proofs.EndedNames.{ended_distinct}
 use Rattle.fb_search.proofs.EndedParts.{ended_part, others_kept, part_after}
@@ -33,6 +32,7 @@ use Rattle.fb_search.proofs.EndedWays.{met_match}
 use Rattle.fb_search.proofs.MetMatches.{boundary_leaves, names_taken}
 use Rattle.fb_search.proofs.TakenNames.{one_taken, without_taken}
 use Rattle.fb_search.proofs.TreeEnds.{tree_hung}
+use Rattle.fb_links.proofs.MovedLinks.{Table}
 
 -- a link is forgotten before others
 forgets_more : (id : ℕ) (gone : List ℕ) (old mid new : Table) → Removes old mid id → Forgets gone mid new → Forgets (id ∷ gone) old new

@@ -7,7 +7,7 @@ use Rattle.fb_graph.specs.Parity.{is_in}
 use Rattle.fb_laws.proofs.OpenedBlossoms.{same_permuted}
 use Rattle.fb_half.specs.Matchings.{MatchingValue, listed_names, matched_names}
 use Rattle.fb_search.specs.InternalClosings.{IsReplacedBy}
-use Rattle.fb_search.proofs.TakenNames.{split_at}
+use Rattle.fb_laws.proofs.CycleWays.{split_in}
 
 -- with a name taken off, the matching lists no further name
 pub unlisted : (before taken : MatchingValue) (old new : ℕ) → is_in (listed_names before) new ≡ false
@@ -36,7 +36,7 @@ replaced_by before taken after old new same moved is = record {
 -- the same name again
 pub replaced_same : (m : MatchingValue) (old new : ℕ) → is_in m.unmatched old ≡ true → new ≡ old → IsReplacedBy old new m m
 replaced_same m old new listed same =
-    let (before, after, is) = split_at m.unmatched old listed in
+    let (before, after, is) = split_in m.unmatched old listed in
     let moved : IsPermutation m.unmatched (old ∷ (before ++ after)) =
     subst (λ l. IsPermutation l (old ∷ (before ++ after))) (sym is) (IsPermutation-middle before old after) in
     record {

@@ -18,7 +18,7 @@ use Rattle.fb_laws.specs.Works.{AreMatchedLinks}
 use Rattle.fb_laws.proofs.OpenedCycles.{links_left, parent_plus}
 use Rattle.fb_laws.proofs.SearchStates.{links_joined}
 use Rattle.fb_laws.proofs.SearchTrees.{connects_sym, plus_in_tree}
-use Rattle.fb_laws.proofs.TreePaths.{among_plus, in_left, in_right, tree_connects}
+use Rattle.fb_laws.proofs.TreePaths.{among_plus, tree_connects}
 use Rattle.fb_links.specs.declared.walk.Step.{Step}
 use Rattle.fb_links.specs.Table.{Adds, is_live, walk_at}
 use Rattle.fb_links.specs.Walks.{joined_walk}
@@ -32,6 +32,7 @@ use Rattle.fb_search.specs.Searching.{IsSearching, IsSearchingBeside, SearchValu
 use Rattle.fb_search.proofs.MadeLinks.{link_made}
 use Rattle.fb_search.proofs.RoundedLinks.{AreRounded, links_rounded}
 use Rattle.fb_search.proofs.StepWalks.{walk_there}
+use Rattle.fb_graph.proofs.Floods.{is_in-left, is_in-right}
 
 -- the three nodes of a branch are different
 branch_apart : (nodes : List Node) (root : ℕ) (tree : List Entry) → AreDistinct (tree_names root tree)
@@ -125,19 +126,19 @@ rounding w name e are zero at = record {
     apart = branch_apart w.part.nodes w.tree.root tree search.names search.joined entry listed
 
     live : (id : ℕ) → is_in (tree_links w.tree.branches) id ≡ true → is_live w.part.links id ≡ true
-    live id h = are.links.live id ∙ in_left (tree_links w.tree.branches) (kept_links w.part) id h
+    live id h = are.links.live id ∙ is_in-left (tree_links w.tree.branches) (kept_links w.part) id h
 
     live_tree : is_live w.part.links e.tree ≡ true
     live_tree =
         live e.tree
-        (in_left (grown_links w.tree.branches) (paired_links w.tree.branches) e.tree
+        (is_in-left (grown_links w.tree.branches) (paired_links w.tree.branches) e.tree
         (among_any (λ id. id == e.tree) (grown_links w.tree.branches) e.tree
         (map_among (λ x. x.tree) w.tree.branches e among) (eq-eqb e.tree e.tree refl)))
 
     live_matched : is_live w.part.links e.matched ≡ true
     live_matched =
         live e.matched
-        (in_right (grown_links w.tree.branches) (paired_links w.tree.branches) e.matched
+        (is_in-right (grown_links w.tree.branches) (paired_links w.tree.branches) e.matched
         (among_any (λ id. id == e.matched) (paired_links w.tree.branches) e.matched
         (map_among (λ x. x.matched) w.tree.branches e among) (eq-eqb e.matched e.matched refl)))
 

@@ -21,6 +21,7 @@ use Rattle.fb_half.specs.Translations.{link_of}
 use Rattle.fb_half.specs.Values.{IsScopeOf}
 use Rattle.fb_search.specs.MetWalks.{IsBetween, IsMetWalk, IsOut, IsOutWalk, IsTightWalk}
 use Rattle.fb_search.proofs.BegunSearches.{same_scope}
+use Rattle.fb_laws.proofs.SearchTrees.{connects_sym}
 
 module _ (p : Problem) (defects : List ℕ) (nodes : List Node) where
   tight_with : (l : Link) → IsTightLink p (all_cuts nodes) l → IsTightLink (with_defects p defects) (all_cuts nodes) l
@@ -85,10 +86,6 @@ between_them p nodes k u v a b is at_u at_v apart = by is.leads
       apart = λ e. apart (sym e);
     })
 
-connects_back : (nodes : List Node) (l : Link) (a b : ℕ) → Connects nodes l a b → Connects nodes l b a
-connects_back nodes l a b (inl (from, to)) = inr (to, from)
-connects_back nodes l a b (inr (to, from)) = inl (from, to)
-
 -- the problem as the scope tells it
 abbrev pub scoped : NodeScope → Problem
 scoped s = problem_at s.graph.now s.plan.now s.node no_shot
@@ -124,7 +121,7 @@ module _ (w : PartValue) (s : NodeScope) (own : IsScopeOf s w) where
   met_scoped k a b walk (inl is) walks = met_bare k a b walk is walks
   met_scoped k a b walk (inr is) walks =
       let back = met_bare k b a walk is walks in
-      record { walk_is = back.walk_is; connects = connects_back w.nodes (link_of walk) b a back.connects }
+      record { walk_is = back.walk_is; connects = connects_sym w.nodes (link_of walk) b a back.connects }
 
   pub out_bare : (k a v : ℕ) → IsOut (problem_in w) w.nodes k a v → IsOut (scoped s) w.nodes k a v
   out_bare k a v is =

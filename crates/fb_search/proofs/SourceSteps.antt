@@ -16,11 +16,7 @@ use Rattle.fb_links.proofs.Turns.{turned_walk-cons}
 use Rattle.fb_regions.specs.Moves.{IsWalkFrom}
 use Rattle.fb_regions.specs.Walks.{IsStep, IsWalk}
 use Rattle.fb_half.specs.Parts.{AreStepsOf}
-
--- the steps of a walk follow one another
-pub steps_run : (p : Problem) (walk : List Step) (from to : ℕ) → IsWalk p walk from to → Runs walk from to
-steps_run p [] from to same = same
-steps_run p (s ∷ ss) from to (begins, step, more) = (begins, steps_run p ss s.to to more)
+use Rattle.fb_graph.proofs.Walks.{Leads_flip}
 
 -- they are a walk by their edges
 edges_lead : (p : Problem) (walk : List Step) (from to : ℕ) → IsWalk p walk from to
@@ -55,14 +51,9 @@ steps_real p (s ∷ ss) from to (begins, step, more) real =
     All-cons (IsStepOfPart p) s ss (step, All-head (HasRealEnd p) s ss real)
     (steps_real p ss s.to to more (All-tail (HasRealEnd p) s ss real))
 
--- an edge may be gone either way
-pub leads_back : (e : Edge) (u v : ℕ) → Leads e u v → Leads e v u
-leads_back e u v (inl (first, second)) = inr (second, first)
-leads_back e u v (inr (second, first)) = inl (first, second)
-
 step_back : (p : Problem) (s : Step) → IsStepOfPart p s → IsStepOfPart p (turned_step s)
 step_back p s (is, real) = (
-  record { within = is.within; leads = leads_back (edge_at p.edges s.edge) s.from s.to is.leads; weighs = is.weighs },
+  record { within = is.within; leads = Leads_flip (edge_at p.edges s.edge) s.from s.to is.leads; weighs = is.weighs },
   real,
 )
 

@@ -12,13 +12,12 @@ use Rattle.fb_graph.specs.Dual.{AreUnderOne, Node, all_cuts, cover_of, first_ver
 use Rattle.fb_graph.specs.Nests.{first_set}
 use Rattle.fb_graph.specs.Steps.{MayStep, Roles, stepped_nodes, stepped_node}
 use Rattle.fb_graph.proofs.Among.{among_All}
-use Rattle.fb_graph.proofs.MappedNodes.{AreKept, mapped_outer}
+use Rattle.fb_graph.proofs.MappedNodes.{AreKept, mapped_outer, mapped_live}
 use Rattle.fb_graph.proofs.StepHeights.{cover_stepped, height_stepped}
 use Rattle.fb_laws.specs.LinkNumbers.{tree_links}
 use Rattle.fb_laws.specs.PartStates.{IsSearchState}
 use Rattle.fb_laws.specs.Searches.{LeavesNode}
 use Rattle.fb_laws.specs.Trees.{Connects, plus_names, roles_of}
-use Rattle.fb_laws.proofs.CycleMoves.{live_mapped}
 use Rattle.fb_laws.proofs.JoinedThree.{root_plus}
 use Rattle.fb_laws.proofs.StateMoves.{state_stepped}
 use Rattle.fb_regions.proofs.Readings.{height-le}
@@ -110,11 +109,11 @@ searching_stepped w k are limits may =
       matching = record {
         distinct = are.matching.distinct;
         live = λ x listed. (
-          live_mapped (stepped_node roles k) (λ n. refl) w.part.nodes x ∙ (are.matching.live x listed).0,
+          mapped_live (stepped_node roles k) (λ n. refl) w.part.nodes x ∙ (are.matching.live x listed).0,
           mapped_outer (stepped_node roles k) (λ n. refl) w.part.nodes x ∙ (are.matching.live x listed).1,
         );
         all = λ x live outer.
-            are.matching.all x (sym (live_mapped (stepped_node roles k) (λ n. refl) w.part.nodes x) ∙ live)
+            are.matching.all x (sym (mapped_live (stepped_node roles k) (λ n. refl) w.part.nodes x) ∙ live)
             (sym (mapped_outer (stepped_node roles k) (λ n. refl) w.part.nodes x) ∙ outer);
         connects =
             All-weaker (λ e. IsMatchOf (problem_of w) w.part.nodes (link_by w.part.links e.link) e.first e.second)

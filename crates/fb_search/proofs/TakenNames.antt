@@ -8,23 +8,15 @@ use Rattle.fb_graph.specs.Certificate.{AreDistinct}
 use Rattle.fb_graph.proofs.Sets.{distinct-filter, is_in-cases, is_in-filter, is_in-head}
 use Rattle.fb_laws.specs.Works.{names_without}
 use Rattle.fb_laws.proofs.OpenedBlossoms.{distinct_permuted, same_permuted}
-
--- where an element stands
-pub split_at : (ys : List ℕ) (x : ℕ) → is_in ys x ≡ true → (before : List ℕ) × (after : List ℕ) × (ys ≡ before ++ x ∷ after)
-split_at [] x within = absurd (false≢true within)
-split_at (y ∷ ys) x within = by (is_in-cases y ys x within) (λ h. split_at ys x h)
-  where
-    by : (y ≡ x) ⊎ (is_in ys x ≡ true) → (is_in ys x ≡ true → (b : List ℕ) × (a : List ℕ) × (ys ≡ b ++ x ∷ a))
-        → (before : List ℕ) × (after : List ℕ) × (y ∷ ys ≡ before ++ x ∷ after)
-    by (inl same) rest = ([], ys, ap (λ z. z ∷ ys) same)
-    by (inr there) rest = let (b, a, is) = rest there in (y ∷ b, a, ap (λ l. y ∷ l) is)
+use Rattle.fb_graph.proofs.ParitySums.{and-true, and-false}
+use Rattle.fb_laws.proofs.CycleWays.{split_in}
 
 -- distinct lists with the same elements differ in their order alone
 pub same_members : (xs ys : List ℕ) → AreDistinct xs → AreDistinct ys → ((v : ℕ) → is_in xs v ≡ is_in ys v) → IsPermutation xs ys
 same_members [] [] first second same = IsPermutation-refl []
 same_members [] (y ∷ ys) first second same = absurd (false≢true (same y ∙ is_in-head y ys))
 same_members (x ∷ xs) ys (new, first) second same =
-    let (b, a, is) = split_at ys x (sym (same x) ∙ is_in-head x xs) in
+    let (b, a, is) = split_in ys x (sym (same x) ∙ is_in-head x xs) in
     let moved : IsPermutation ys (x ∷ (b ++ a)) = subst (λ l. IsPermutation l (x ∷ (b ++ a))) (sym is) (IsPermutation-middle b x a) in
     let apart : AreDistinct (x ∷ (b ++ a)) = distinct_permuted ys (x ∷ (b ++ a)) moved second in
     let alike : (v : ℕ) → is_in (x ∷ xs) v ≡ is_in (x ∷ (b ++ a)) v = λ v. same v ∙ sym (same_permuted ys (x ∷ (b ++ a)) moved v) in
@@ -38,14 +30,6 @@ same_members (x ∷ xs) ys (new, first) second same =
     beside others out v both (inr ne) =
         sym (ap (λ t. t || is_in xs v) (ne_eqb x v ne)) ∙ (both ∙ ap (λ t. t || is_in others v) (ne_eqb x v ne))
 
-and_false : (b : Bool) → (b && false) ≡ false
-and_false true = refl
-and_false false = refl
-
-and_true : (b : Bool) → (b && true) ≡ b
-and_true true = refl
-and_true false = refl
-
 -- an element taken off a distinct list
 pub without_taken : (name : ℕ) (names rest : List ℕ) → AreDistinct names → IsPermutation names (name ∷ rest)
     → IsPermutation (names_without name names) rest
@@ -58,10 +42,10 @@ without_taken name names rest distinct moved =
 
     by : (v : ℕ) → (v ≡ name) ⊎ (v ≡ name → ⊥) → (is_in names v && not (v == name)) ≡ is_in rest v
     by v (inl e) =
-        ap (λ t. is_in names v && not t) (eq-eqb v name e) ∙ (and_false (is_in names v) ∙ (sym apart.0 ∙ ap (is_in rest) (sym e)))
+        ap (λ t. is_in names v && not t) (eq-eqb v name e) ∙ (and-false (is_in names v) ∙ (sym apart.0 ∙ ap (is_in rest) (sym e)))
     by v (inr ne) =
         ap (λ t. is_in names v && not t) (ne_eqb v name ne)
-        ∙ (and_true (is_in names v)
+        ∙ (and-true (is_in names v)
         ∙ (sym (same_permuted names (name ∷ rest) moved v) ∙ ap (λ t. t || is_in rest v) (ne_eqb name v (λ e. ne (sym e)))))
 
 -- at most two elements taken off a list

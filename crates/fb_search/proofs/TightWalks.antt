@@ -26,7 +26,9 @@ use Rattle.fb_half.specs.Parts.{AreStepsOf}
 use Rattle.fb_half.specs.Translations.{link_of}
 use Rattle.fb_search.specs.MetWalks.{IsAlong, IsBetween, IsMetWalk, IsOut, IsOutWalk}
 use Rattle.fb_search.proofs.TakenVertices.{ends_told}
-use Rattle.fb_search.proofs.SourceSteps.{edges_back, steps_back, steps_real, steps_run, walk_under}
+use Rattle.fb_search.proofs.SourceSteps.{edges_back, steps_back, steps_real, walk_under}
+use Rattle.fb_regions.proofs.ChainedWalks.{walk_runs}
+use Rattle.fb_obstacles.proofs.Conclusions.{uncovered_real}
 
 -- no potential is above the value of all cuts
 height_low : (p : Problem) (nodes : List Node) (v : ℕ) → IsDual p nodes → height_of (all_cuts nodes) v ≤ 2 ^ 52
@@ -62,7 +64,7 @@ module _ (p : Problem) (nodes : List Node) (a : ℕ) (s : Step) (dual : IsDual p
   -- a source walk and the step
   module _ (walk : List Step) (d : ℕ) (source : IsWalkFrom p nodes walk d s.from) where
     pub out_runs : Runs (walk ++ s ∷ []) d s.to
-    out_runs = Runs-append walk (s ∷ []) d s.from s.to (steps_run p walk d s.from source.leads) (refl, refl)
+    out_runs = Runs-append walk (s ∷ []) d s.from s.to (walk_runs p walk d s.from source.leads) (refl, refl)
 
     out_steps : AreStepsOf p (walk ++ s ∷ [])
     out_steps =
@@ -103,7 +105,7 @@ module _ (p : Problem) (nodes : List Node) (a : ℕ) (s : Step) (dual : IsDual p
       pub met_runs : Runs ((walk ++ s ∷ []) ++ turned_walk back) d c
       met_runs =
           Runs-append (walk ++ s ∷ []) (turned_walk back) d s.to c out_runs
-          (Runs-turned_walk back c s.to (steps_run p back c s.to target.leads))
+          (Runs-turned_walk back c s.to (walk_runs p back c s.to target.leads))
 
       met_some : 0 < length ((walk ++ s ∷ []) ++ turned_walk back)
       met_some = omega (arith, length-append {A = Step})
@@ -177,20 +179,11 @@ module _ (p : Problem) (nodes : List Node) (k a b : ℕ) (s : Step) (walk back :
       (met_runs p nodes a s dual between_over walk source.0 source.1 b is.apart back target.0 target.1
       (rw along.to is.second))
 
--- no node holds a vertex of the boundary
-pub boundary_free : (p : Problem) (nodes : List Node) (v : ℕ) → IsDual p nodes → p.is_real v ≡ false
-    → cover_of nodes v ≡ None
-boundary_free p nodes v dual unreal = by (cover_of nodes v) (dual.real v)
-  where
-    by : (o : Option ℕ) → (IsSome o → p.is_real v ≡ true) → o ≡ None
-    by None h = refl
-    by (Some name) h = absurd (both_ways (p.is_real v) unreal (h refl))
-
 module _ (p : Problem) (nodes : List Node) (k a v : ℕ) (s : Step) (dual : IsDual p nodes) (is : IsOut p nodes k a v)
     (over : IsOver p nodes k s) where
   told : (s.from ≡ is.inner) × (s.to ≡ v)
   told =
-      let free = boundary_free p nodes v dual is.boundary in
+      let free = uncovered_real p nodes v dual is.boundary in
       let ends = ends_told nodes (edge_at p.edges k) is.inner v a is.leads is.covered free in
       (over.from ∙ ends.0, over.to ∙ ends.1)
 

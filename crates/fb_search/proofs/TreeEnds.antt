@@ -30,12 +30,13 @@ use Rattle.fb_search.specs.Searching.{IsSearching, SearchValue, problem_of, role
 use Rattle.fb_search.proofs.AttachedBranches.{plus_of_tree}
 use Rattle.fb_search.proofs.DroppedLinks.{dropped_live, dropped_once}
 use Rattle.fb_search.proofs.EndedCases.{links_counted, taken_at_boundary, taken_with}
-use Rattle.fb_search.proofs.EndedLinks.{Table, names_listed}
+use Rattle.fb_search.proofs.EndedLinks.{names_listed}
 use Rattle.fb_search.proofs.EndedMatches.{AreTaken}
 use Rattle.fb_search.proofs.EndedParts.{others_kept, part_after}
 use Rattle.fb_search.proofs.EndedWays.{AreRelinked, boundary_match, ended_at_boundary, ended_with, met_match}
 use Rattle.fb_search.proofs.RolesInTree.{plus_in_tree}
 use Rattle.fb_search.proofs.ScopeWalks.{IsBetweenThem, between_them}
+use Rattle.fb_links.proofs.MovedLinks.{Table}
 
 hung_of : (nodes : List Node) (root : ℕ) (table : Table) (tree : List (EntryOf ℕ))
     → IsTree nodes root (map (entry_by table) tree) → AreHung root tree

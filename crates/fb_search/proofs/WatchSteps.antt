@@ -9,7 +9,6 @@ use Rattle.fb_graph.specs.Dual.{Node, top_at}
 use Rattle.fb_graph.proofs.Members.{is_in_push, is_in_pushed}
 use Rattle.fb_graph.proofs.Ranges.{is_in-filter-range}
 use Rattle.fb_graph.proofs.Sets.{is_in-cases}
-use Rattle.fb_laws.proofs.TreePaths.{in_left}
 use Rattle.fb_regions.specs.declared.roles.Role.TheVariants.{Minus}
 use Rattle.fb_trees.specs.Branches.{Grown}
 use Rattle.fb_trees.specs.Rooted.{role_in}
@@ -17,6 +16,7 @@ use Rattle.fb_obstacles.specs.Watched.{Watched}
 use Rattle.fb_search.specs.InternalClosings.{WatchesMinus}
 use Rattle.fb_search.specs.Watching.{Enters, Watches}
 use Rattle.fb_search.proofs.KeptBounds.{bounded_entered, with_edge}
+use Rattle.fb_graph.proofs.Floods.{is_in-left}
 
 -- the edges at one vertex more
 pub watched_more : (p : Problem) (vs : List ℕ) (v : ℕ) (es : List ℕ) (a b c : Watched)
@@ -68,14 +68,14 @@ entered_on edges i a b c lt even is before =
         here k (inr same) = ap (is_in b.edges) (sym same) ∙ held
     by false absent = record {
       room = before.room;
-      kept = λ k mem. in_left b.edges (get_or edges i 0 ∷ []) k (before.kept k mem);
+      kept = λ k mem. is_in-left b.edges (get_or edges i 0 ∷ []) k (before.kept k mem);
       entered = λ k mem. here k (taken_cases edges i k lt mem);
       bounds = λ limit right. bounded_entered limit b (get_or edges i 0) even (before.bounds limit right);
     }
       where
         here : (k : ℕ) → (is_in (take i edges) k ≡ true) ⊎ (get_or edges i 0 ≡ k)
             → is_in (b.edges ++ get_or edges i 0 ∷ []) k ≡ true
-        here k (inl old) = in_left b.edges (get_or edges i 0 ∷ []) k (before.entered k old)
+        here k (inl old) = is_in-left b.edges (get_or edges i 0 ∷ []) k (before.entered k old)
         here k (inr same) = ap (is_in (b.edges ++ get_or edges i 0 ∷ [])) (sym same) ∙ is_in_pushed b.edges (get_or edges i 0)
 
 -- the edges at one minus node more

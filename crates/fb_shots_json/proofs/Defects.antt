@@ -18,6 +18,7 @@ use Rattle.fb_shots_json.specs.declared.answer.Kind.{Kind}
 use Rattle.fb_shots_json.specs.declared.answer.Kind.TheVariants.{DefectOutOfRange, DefectOnVirtual, DefectRepeated}
 use Rattle.fb_shots_json.specs.TextJson.{vertex_fault, defect_fault, defects_from, unless, rising}
 use Rattle.fb_shots_json.specs.Entries.{real_prefix, first_fault}
+use Rattle.fb_graph.proofs.Members.{AreDistinct_push}
 
 -- ---- distinct numbers
 
@@ -32,14 +33,6 @@ before_one (x ∷ xs) v ys d =
     at_v false b true t e = absurd cc
     at_v false b false t e = absurd cc
 
-distinct_push : (xs : List ℕ) (v : ℕ) → AreDistinct xs → is_in xs v ≡ false → AreDistinct (xs ++ v ∷ [])
-distinct_push [] v d e = (refl, tt)
-distinct_push (x ∷ xs) v d e = elim (cases_eq x v) [
-  | inl same ↦ absurd (let here : is_in (x ∷ xs) v ≡ true = subst (λ (u : ℕ). is_in (x ∷ xs) u ≡ true) same (is_in-head x xs) in cc)
-  | inr other ↦ (
-    list_any-append (λ (u : ℕ). eqb u x) xs (v ∷ []) ∙ rw (d.0, ne_eqb v x (λ (z : v ≡ x). other (sym z))) refl,
-    distinct_push xs v d.1 (tail_not x xs v e),
-  )
 ]
   where
     tail_not : (x : ℕ) (xs : List ℕ) (v : ℕ) → is_in (x ∷ xs) v ≡ false → is_in xs v ≡ false
@@ -113,7 +106,7 @@ with_repeats g before (v ∷ vs) d twice = elim (judged g before v) [
   | good alone none fault ↦
       let more = rw alone at twice in
       rw fault
-      (with_repeats g (before ++ v ∷ []) vs (distinct_push before v d none) (λ (z : AreDistinct ((before ++ v ∷ []) ++ real_prefix g vs)). more (subst AreDistinct (append_assoc before (v ∷ []) (real_prefix g vs)) z)))
+      (with_repeats g (before ++ v ∷ []) vs (AreDistinct_push before v d none) (λ (z : AreDistinct ((before ++ v ∷ []) ++ real_prefix g vs)). more (subst AreDistinct (append_assoc before (v ∷ []) (real_prefix g vs)) z)))
 ]
 
 prefix_whole : (g : DecodingGraph) (vs : List ℕ) → first_fault g vs ≡ None → real_prefix g vs ≡ vs

@@ -1,6 +1,6 @@
 -- The cycle of two paths has an odd number of at least three nodes, each once.
 use Rattle.std.proofs.Common.{ℕ, ◌≡◌, ◌==◌, ◌||◌, ◌⊎◌, ◌+◌, ◌*◌, ◌≤◌, inl, inr, cond, Bool, true, false, List, [], ◌∷◌, ◌++◌, length, map, refl, sym, ap, ◌∙◌, subst, arith}
-use Rattle.std.proofs.lemmas.Bool.{both_ways, cases_Bool, eqb-true, false_from_ne_true, false≢true, or_from, or_parts}
+use Rattle.std.proofs.lemmas.Bool.{both_ways, cases_Bool, eqb-true, false_from_ne_true, false≢true, or_from}
 use Rattle.std.proofs.lemmas.List.{length-append, length-map}
 use Rattle.fb_graph.specs.Parity.{is_in}
 use Rattle.fb_graph.specs.Certificate.{AreDistinct}
@@ -8,13 +8,13 @@ use Rattle.fb_graph.specs.Dual.{AreApart}
 use Rattle.fb_graph.specs.Nests.{AreMany}
 use Rattle.fb_graph.proofs.Among.{IsAmong, among_right}
 use Rattle.fb_graph.proofs.Members.{is_in-append}
-use Rattle.fb_graph.proofs.Sets.{equal_sym, is_in-cases, is_in-tail}
+use Rattle.fb_graph.proofs.Sets.{is_in-cases, is_in-tail}
 use Rattle.fb_graph.proofs.Unions.{distinct_append}
 use Rattle.fb_links.specs.declared.cycle.CycleStep.{CycleStep}
 use Rattle.fb_laws.specs.Trees.{Entry, EntryOf, path_to, plus_names, tree_names}
 use Rattle.fb_laws.specs.TreeCycles.{ArePaths, cycle_nodes, last_plus, nodes_along, nodes_back}
 use Rattle.fb_laws.proofs.MergedParts.{distinct_across}
-use Rattle.fb_laws.proofs.TreeCycles.{length_back}
+use Rattle.fb_laws.proofs.TreeCycles.{length_back, distinct_back}
 use Rattle.fb_laws.proofs.TreePaths.{along_among, along_append, along_minus, distinct_right, last_in, length_along, path_among, path_begins, path_distinct, path_holds, same_branch, shared_begins}
 use Rattle.fb_trees.specs.Branches.{Grown}
 use Rattle.fb_trees.specs.Rooted.{IsPlus, IsRooted}
@@ -41,22 +41,6 @@ same_back (e ∷ es) n =
     is_in-append (nodes_back es) (e.plus ∷ e.minus ∷ []) n
     ∙ (or_turned (e.minus == n) (e.plus == n) (is_in (nodes_back es) n)
     ∙ ap (λ b. (e.minus == n) || ((e.plus == n) || b)) (same_back es n))
-
-distinct_back : (es : List Entry) → AreDistinct (nodes_along es) → AreDistinct (nodes_back es)
-distinct_back [] distinct = tt
-distinct_back (e ∷ es) (minus_new, (plus_new, distinct)) =
-    let parts = or_parts (e.plus == e.minus) (is_in (nodes_along es) e.minus) minus_new in
-    distinct_append (nodes_back es) (e.plus ∷ e.minus ∷ []) (distinct_back es distinct)
-    (or_from (e.minus == e.plus) false (equal_sym e.minus e.plus ∙ parts.0) refl, (refl, tt))
-    (λ n within.
-    let along : is_in (nodes_along es) n ≡ true = sym (same_back es n) ∙ within in
-    or_from (e.plus == n) ((e.minus == n) || false)
-    (false_from_ne_true (e.plus == n)
-    (λ same. both_ways (is_in (nodes_along es) e.plus) plus_new (ap (is_in (nodes_along es)) (eqb-true e.plus n same) ∙ along)))
-    (or_from (e.minus == n) false
-    (false_from_ne_true (e.minus == n)
-    (λ same. both_ways (is_in (nodes_along es) e.minus) parts.1 (ap (is_in (nodes_along es)) (eqb-true e.minus n same) ∙ along)))
-    refl))
 
 module _ (root : ℕ) (tree : List Entry) (names : AreDistinct (tree_names root tree)) (a b : ℕ) (shared up down : List Entry)
     (paths : ArePaths tree a b shared up down) where

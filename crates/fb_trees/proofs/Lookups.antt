@@ -69,7 +69,7 @@ no_branch (e ∷ es) name is = step ((e.minus == name) || (e.plus == name)) is (
 pub has_place : (xs : List Branch) (name at : ℕ) → place_of (entries_of xs) name ≡ Some at → at < length xs
 has_place xs name at is = subst (λ n. at < n) (length_entries xs) (place_within (entries_of xs) name at is)
 
-map_reverse : {X Y : Type 0} (f : X → Y) (xs : List X) → map f (reverse xs) ≡ reverse (map f xs)
+pub map_reverse : {X Y : Type 0} (f : X → Y) (xs : List X) → map f (reverse xs) ≡ reverse (map f xs)
 map_reverse f [] = refl
 map_reverse f (x ∷ xs) =
     ap (map f) (reverse_first x xs) ∙ (map-append f (reverse xs) (x ∷ []) ∙ (ap (λ l. l ++ f x ∷ []) (map_reverse f xs) ∙ sym (reverse_first (f x) (map f xs))))

@@ -136,7 +136,7 @@ not_false : (b : Bool) → not b ≡ false → b ≡ true
 not_false true e = refl
 not_false false e = sym e
 
-is_some-none : (o : Option ℕ) → is_some o ≡ false → o ≡ None
+pub is_some-none : (o : Option ℕ) → is_some o ≡ false → o ≡ None
 is_some-none None e = refl
 is_some-none (Some v) e = absurd (false≢true (sym e))
 

@@ -29,10 +29,11 @@ use Rattle.fb_witnesses.proofs.SampleNests.{limits_by_cases}
 use Rattle.fb_witnesses.proofs.SampleOpenings.{closed_nest, closed_walks, splitting_witness}
 use Rattle.fb_witnesses.proofs.SampleParts.{of_two, work_witness}
 use Rattle.fb_witnesses.proofs.SampleSearches.{search_witness}
-use Rattle.fb_witnesses.proofs.SampleStates.{below_by_cases, may_by_cases, no_odd_closed_by, of_three}
+use Rattle.fb_witnesses.proofs.SampleStates.{may_by_cases, no_odd_closed_by, of_three}
 use Rattle.fb_witnesses.proofs.SampleTrees.{elsewhere, even_long, may_thin, one_link, thin_nest, thin_outer, thin_search, thin_walks}
 use Rattle.fb_graph.proofs.SourceWalks.{walks_begin}
-use Rattle.fb_laws.proofs.UnmatchedNames.{all_outer}
+use Rattle.fb_graph.proofs.Examples.{below_by_cases}
+use Rattle.fb_graph.proofs.SingleStates.{all_outer}
 
 -- four members, one after another
 of_four : (P : ℕ → Type 0) (a b c d : ℕ) → P a → P b → P c → P d → (v : ℕ) → is_in (a ∷ b ∷ c ∷ d ∷ []) v ≡ true → P v

@@ -23,7 +23,7 @@ use Rattle.fb_witnesses.proofs.SampleParts.{of_two}
 use Rattle.fb_witnesses.proofs.SampleSeams.{merging_witness}
 use Rattle.fb_witnesses.proofs.SampleStates.{of_three}
 use Rattle.fb_graph.proofs.SourceWalks.{walks_begin}
-use Rattle.fb_laws.proofs.UnmatchedNames.{all_outer}
+use Rattle.fb_graph.proofs.SingleStates.{all_outer}
 
 pub own_by_cases : (nodes others : List Node) → All (λ n. is_live others n.name ≡ false) nodes → HaveOwnNames nodes others
 own_by_cases nodes others each n live =

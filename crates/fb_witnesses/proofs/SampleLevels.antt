@@ -17,7 +17,8 @@ use Rattle.fb_laws.specs.Fusion.{IsLinkOf}
 use Rattle.fb_laws.specs.Opening.{IsWithinOne, IsAlikeOver, single_sets}
 use Rattle.fb_witnesses.specs.Samples.{cut, link, line, line_part, triangle, blossom_cuts}
 use Rattle.fb_witnesses.specs.Witnesses.{FusionWitness, OpeningWitness}
-use Rattle.fb_witnesses.proofs.SampleStates.{fits_by_cases, odd_cut, of_one, of_three, whole_one, apart_ones}
+use Rattle.fb_witnesses.proofs.SampleStates.{odd_cut, of_one, of_three, whole_one, apart_ones}
+use Rattle.fb_graph.proofs.Examples.{fits_by_cases}
 
 part_of_line : (vertices : List ℕ) → ((v : ℕ) → is_in vertices v ≡ true → is_in (1 ∷ 3 ∷ []) v ≡ true)
     → IsPart (line_part vertices) (line_part (1 ∷ 3 ∷ []))

@@ -25,12 +25,13 @@ use Rattle.fb_graph.proofs.JoinedNests.{nest_joined}
 use Rattle.fb_witnesses.proofs.SampleLevels.{opening_witness}
 use Rattle.fb_witnesses.proofs.SampleNests.{grown_blossom}
 use Rattle.fb_witnesses.proofs.SampleParts.{of_two, one_height}
-use Rattle.fb_witnesses.proofs.SampleStates.{fits_by_cases, odd_cut, of_three}
+use Rattle.fb_witnesses.proofs.SampleStates.{odd_cut, of_three}
 use Rattle.fb_witnesses.proofs.SampleTrees.{one_link, one_search}
 use Rattle.fb_laws.proofs.SearchStates.{links_joined}
 use Rattle.fb_graph.proofs.SourceWalks.{walks_begin, walks_joined}
 use Rattle.fb_graph.proofs.SingleStates.{singles_are_dual}
 use Rattle.fb_graph.proofs.TightLinks.{empty_layer_loads, empty_layer_heights}
+use Rattle.fb_graph.proofs.Examples.{fits_by_cases}
 
 crown_are_singles : AreSingles crown crown_singles
 crown_are_singles = record {

@@ -16,9 +16,10 @@ use Rattle.fb_laws.specs.Works.{AreMatchedLinks, IsMatching}
 use Rattle.fb_laws.specs.Searches.{IsSearch}
 use Rattle.fb_witnesses.specs.SearchWitnesses.{chain_singles, chain_nodes, chain_branch, SearchWitness}
 use Rattle.fb_witnesses.proofs.SampleParts.{one_height}
-use Rattle.fb_witnesses.proofs.SampleStates.{fits_by_cases, odd_cut, of_three}
+use Rattle.fb_witnesses.proofs.SampleStates.{odd_cut, of_three}
 use Rattle.fb_laws.proofs.SearchStates.{search_attached}
 use Rattle.fb_graph.proofs.SingleStates.{singles_are_dual}
+use Rattle.fb_graph.proofs.Examples.{fits_by_cases}
 
 chain_are_singles : AreSingles (line (1 ∷ 2 ∷ 3 ∷ [])) chain_singles
 chain_are_singles = record {

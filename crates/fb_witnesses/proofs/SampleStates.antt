@@ -24,6 +24,7 @@ use Rattle.fb_graph.specs.Singles.{AreSingles}
 use Rattle.fb_witnesses.specs.Samples.{cut, link, line, triangle, line_singles, line_nodes, line_roles, grown_nodes, grown_roles, corner_singles, corner_nodes, corner_roles}
 use Rattle.fb_witnesses.specs.Witnesses.{StepWitness, DualWitness, CoverWitness, SignedWitness, LinkWitness, PathWitness, BlossomWitness, line_path}
 use Rattle.fb_graph.proofs.SingleStates.{singles_are_dual}
+use Rattle.fb_graph.proofs.Examples.{fits_by_cases, below_by_cases}
 
 -- a problem with a correction has no odd closed set, since no chosen edge crosses one
 pub no_odd_closed_by : (p : Problem) (chosen : List ℕ) → All (λ k. k < length p.edges) chosen → Flips p chosen → HasNoOddClosed p
@@ -32,16 +33,6 @@ no_odd_closed_by p chosen within flips set closed =
     ∙ (odd_agree (λ k. crosses set (edge_at p.edges k)) (λ k. false) chosen
     (λ i d less. closed.uncrossed (get_or chosen i d) no_edge (within i d less))
     ∙ odd_none chosen)
-
-pub fits_by_cases : (p : Problem) (cuts : List Cut) → list_all (λ e. leb (load_of cuts e) e.weight) p.edges ≡ true → Fits p cuts
-fits_by_cases p cuts right =
-    All-weaker (λ e. leb (load_of cuts e) e.weight ≡ true) (λ e. load_of cuts e ≤ e.weight)
-    (λ e. leb-true (load_of cuts e) e.weight) p.edges
-    (AllPass-from_list_all (λ e. leb (load_of cuts e) e.weight) p.edges right)
-
-pub below_by_cases : (n : ℕ) (xs : List ℕ) → list_all (λ k. ltb k n) xs ≡ true → All (λ k. k < n) xs
-below_by_cases n xs right =
-    All-weaker (λ k. ltb k n ≡ true) (λ k. k < n) (λ k. ltb-true k n) xs (AllPass-from_list_all (λ k. ltb k n) xs right)
 
 pub odd_cut : (p : Problem) (c : Cut) → AreDistinct c.vertices → list_all p.is_real c.vertices ≡ true
     → is_odd_count p.is_defect c.vertices ≡ true → IsOddCut p c

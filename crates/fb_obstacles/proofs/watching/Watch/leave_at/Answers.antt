@@ -2,8 +2,9 @@ use Rattle.std.proofs.Common.{◌≡◌, ◌-◌, ◌∙◌, ◌<◌, length, ge
 use Rattle.std.proofs.lemmas.Grind.{get_or_default_zero}
 use Rattle.std.proofs.lemmas.List.{length-set}
 use Rattle.fb_obstacles.specs.InternalWatch.{IsStored}
-use Rattle.fb_obstacles.proofs.StoredEdges.{stored_distinct, stored_moved, is_in_taken, shorter_than_places}
+use Rattle.fb_obstacles.proofs.StoredEdges.{stored_distinct, stored_moved, shorter_than_places}
 use Rattle.fb_obstacles.proofs.RaisedBounds.{bounded_moved}
+use Rattle.fb_regions.proofs.Stored.{is_in_taken}
 use Rattle.fb_obstacles.proofs.watching.Watch.leave_at.Goals as goal
 
 pub overflow_cast-place : goal.overflow_cast-place
