@@ -1,7 +1,7 @@
 -- A node found by its name, and lists of nodes of which one is changed.
 use Rattle.std.proofs.Common.{ℕ, zero, suc, ◌≡◌, ◌+◌, ◌<◌, ◌==◌, inl, inr, cond, true, false, List, [], ◌∷◌, ◌++◌, length, map, set, take, drop, get_or, Option, Some, None, refl, sym, ap, ◌∙◌, arith, not, nat_lt, if◌then◌else◌}
 use Rattle.std.specs.List.{position, position_or_len}
-use Rattle.std.proofs.lemmas.Bool.{eqb-true, or_parts}
+use Rattle.std.proofs.lemmas.Bool.{both_ways, eqb-true, or_parts}
 use Rattle.std.proofs.lemmas.List.{length-append, length-map}
 use Rattle.std.proofs.lemmas.List.Quantifiers.{position-Some}
 use Rattle.fb_graph.specs.Certificate.{AreDistinct}
@@ -29,6 +29,11 @@ nodes_place marks regions name =
 pub not_found : (marks : List (Option Mark)) (regions : List Region) (name : ℕ)
     → position (λ r. r.name == name) regions ≡ None → is_live (nodes_of marks regions) name ≡ false
 not_found marks regions name e = no_place (nodes_of marks regions) name (nodes_place marks regions name ∙ e)
+
+-- a live node has a place
+pub always_found : (marks : List (Option Mark)) (regions : List Region) (name : ℕ) → is_live (nodes_of marks regions) name ≡ true
+    → position (λ r. r.name == name) regions ≡ None → ⊥
+always_found marks regions name live e = both_ways (is_live (nodes_of marks regions) name) (not_found marks regions name e) live
 
 pub no_top : (nodes : List Node) (name : ℕ) → is_live nodes name ≡ false → top_at nodes name ≡ []
 no_top [] name h = refl

@@ -1,8 +1,8 @@
-use Rattle.std.proofs.Common.{◌≡◌, length, ap, ◌∙◌, Some, None, false, true}
+use Rattle.std.proofs.Common.{◌≡◌, length, ap, ◌∙◌, Some, None, true}
 use Rattle.std.specs.List.{remove}
 use Rattle.fb_graph.specs.Dual.{is_live}
 use Rattle.fb_regions.specs.InternalNodes.{reparented_region, nodes_of}
-use Rattle.fb_regions.proofs.Found.{mapped_back, not_found, read_place}
+use Rattle.fb_regions.proofs.Found.{always_found, mapped_back, read_place}
 use Rattle.fb_regions.proofs.ByName.{removed_distinct}
 use Rattle.fb_regions.proofs.Indexed.{distinct_names, index_adopted, removed_before, removed_within}
 use Rattle.fb_regions.proofs.Split.{kept_split, nodes_split}
@@ -12,10 +12,8 @@ pub unreachable-requires : goal.unreachable-requires
 unreachable-requires g c =
     let may = rw (← c.self.view_is) at c.requires in
     let live : is_live (nodes_of c.self.inside.marks c.self.inside.regions.items) c.args.node ≡ true = may.live in
-    let gone : is_live (nodes_of c.self.inside.marks c.self.inside.regions.items) c.args.node ≡ false =
-    not_found c.self.inside.marks c.self.inside.regions.items c.args.node
-    (read_place c.self.inside.regions.items _ _ c.args.node None c.self.invariant.1 c.deref.ensures.value c.in_default.ensures) in
-    cc
+    absurd (always_found c.self.inside.marks c.self.inside.regions.items c.args.node live
+    (read_place c.self.inside.regions.items _ _ c.args.node None c.self.invariant.1 c.deref.ensures.value c.in_default.ensures))
 
 pub invariant_of-self : goal.invariant_of-self
 invariant_of-self g c =

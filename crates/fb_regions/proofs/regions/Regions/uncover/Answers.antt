@@ -1,8 +1,8 @@
-use Rattle.std.proofs.Common.{◌≡◌, refl, ap, sym, ◌∙◌, Some, None, false, true}
+use Rattle.std.proofs.Common.{◌≡◌, refl, ap, sym, ◌∙◌, Some, None, true}
 use Rattle.fb_graph.specs.Dual.{is_live}
 use Rattle.fb_regions.specs.InternalNodes.{mark_of, nodes_of}
 use Rattle.fb_regions.proofs.Indexed.{index_changed}
-use Rattle.fb_regions.proofs.Found.{not_found, read_place}
+use Rattle.fb_regions.proofs.Found.{always_found, read_place}
 use Rattle.fb_regions.proofs.Lowered.{kept_lowered, last_marked, lowered_nodes, some_added}
 use Rattle.fb_regions.proofs.regions.Regions.uncover.Goals as goal
 
@@ -10,10 +10,8 @@ pub unreachable-requires : goal.unreachable-requires
 unreachable-requires g c =
     let may = rw (← c.self.view_is) at c.requires in
     let live : is_live (nodes_of c.self.inside.marks c.self.inside.regions.items) c.args.node ≡ true = may.live in
-    let gone : is_live (nodes_of c.self.inside.marks c.self.inside.regions.items) c.args.node ≡ false =
-    not_found c.self.inside.marks c.self.inside.regions.items c.args.node
-    (read_place c.self.inside.regions.items _ _ c.args.node None c.self.invariant.1 c.deref.ensures.value c.in_default.ensures) in
-    cc
+    absurd (always_found c.self.inside.marks c.self.inside.regions.items c.args.node live
+    (read_place c.self.inside.regions.items _ _ c.args.node None c.self.invariant.1 c.deref.ensures.value c.in_default.ensures))
 
 pub unreachable-requires-in_default-at : goal.unreachable-requires-in_default-at
 unreachable-requires-in_default-at g c =

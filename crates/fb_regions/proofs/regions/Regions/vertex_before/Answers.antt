@@ -1,17 +1,15 @@
-use Rattle.std.proofs.Common.{◌≡◌, Some, None, false, true}
+use Rattle.std.proofs.Common.{◌≡◌, Some, None, true}
 use Rattle.fb_graph.specs.Dual.{is_live}
 use Rattle.fb_regions.specs.InternalNodes.{nodes_of}
-use Rattle.fb_regions.proofs.Found.{not_found, read_place}
+use Rattle.fb_regions.proofs.Found.{always_found, read_place}
 use Rattle.fb_regions.proofs.NodeLists.{none_follows, some_follows}
 use Rattle.fb_regions.proofs.regions.Regions.vertex_before.Goals as goal
 
 pub unreachable-requires : goal.unreachable-requires
 unreachable-requires g c =
     let live : is_live (nodes_of c.self.inside.marks c.self.inside.regions.items) c.args.node ≡ true = rw (← c.self.view_is) at c.requires.live in
-    let gone : is_live (nodes_of c.self.inside.marks c.self.inside.regions.items) c.args.node ≡ false =
-    not_found c.self.inside.marks c.self.inside.regions.items c.args.node
-    (read_place c.self.inside.regions.items _ _ c.args.node None c.self.invariant.1 c.deref.ensures.value c.in_default.ensures) in
-    cc
+    absurd (always_found c.self.inside.marks c.self.inside.regions.items c.args.node live
+    (read_place c.self.inside.regions.items _ _ c.args.node None c.self.invariant.1 c.deref.ensures.value c.in_default.ensures))
 
 pub returns-then-v-index-clause-before : goal.returns-then-v-index-clause-before
 returns-then-v-index-clause-before g c =
