@@ -6,7 +6,7 @@ ghost use Rattle.fb_links.specs.Merged.{AreMerged};
 
 use crate::link::{Link, link_of};
 use crate::steps::{copied, joined_walk};
-use crate::{LinkId, NoMemory, Walk};
+use crate::{LinkId, NoMemory, Step, Walk};
 use std::alloc::Global;
 use std::marker::Model;
 
@@ -131,6 +131,14 @@ impl Links {
         ensures { result ≡ (start_of (walk_at self.now link), end_of (walk_at self.now link)) }
     {
         link_of(&self.links, link).ends()
+    }
+
+    /// The steps of the link's walk.
+    pub fn steps(&self, link: LinkId) -> &[Step]
+        requires { is_live self.now link ≡ true }
+        ensures { result.now ≡ walk_at self.now link }
+    {
+        link_of(&self.links, link).steps()
     }
 
     /// A copy of the link's walk.

@@ -55,18 +55,17 @@ fn edges_of(alloc: Global, links: &Links, ids: &[LinkId]) -> Result<Vec<u32>, No
 {
     let mut edges = Vec::new(alloc);
     for id in ids {
-        push_walk(alloc, links, &mut edges, *id)?;
+        push_walk(links, &mut edges, *id)?;
     }
     Ok(edges)
 }
 
 /// Adds the edges of the link's walk.
-fn push_walk(alloc: Global, links: &Links, edges: &mut Vec<u32>, id: LinkId) -> Result<(), NoMemory>
+fn push_walk(links: &Links, edges: &mut Vec<u32>, id: LinkId) -> Result<(), NoMemory>
     requires { is_live links.now id ≡ true }
     ensures { OnOk result (edges.new.items ≡ edges.old.items ++ map (λ s. s.edge) (walk_at links.now id)) }
 {
-    let walk = links.walk(alloc, id)?;
-    for step in walk.steps() {
+    for step in links.steps(id) {
         edges.push(step.edge)?;
     }
     Ok(())
