@@ -12,7 +12,7 @@ use Rattle.fb_graph.specs.Certificate.{AreDistinct}
 use Rattle.fb_graph.specs.Limits.{DecodingGraph, IsShot, is_real_in}
 use Rattle.fb_graph.specs.Parity.{is_in}
 use Rattle.fb_graph.proofs.Ranges.{filter-range_below, filter-range_rises, is_in-filter-range, not_in_below}
-use Rattle.fb_graph.proofs.Sets.{one_if, count_equal-le, distinct_from_rising, is_in-cases, is_in-head, is_in-tail, rising-tail, rising_above}
+use Rattle.fb_graph.proofs.Sets.{one_if, count_equal-le, distinct_from_rising, is_in-cases, is_in-head, rising-tail, rising_above}
 use Rattle.fb_graph.proofs.Shots.{rising_from_sort}
 use Rattle.fb_shots_json.specs.declared.answer.Kind.{Kind}
 use Rattle.fb_shots_json.specs.declared.answer.Kind.TheVariants.{DefectOutOfRange, DefectOnVirtual, DefectRepeated}
@@ -32,14 +32,6 @@ before_one (x ∷ xs) v ys d =
     at_v true b c t e = absurd cc
     at_v false b true t e = absurd cc
     at_v false b false t e = absurd cc
-
-]
-  where
-    tail_not : (x : ℕ) (xs : List ℕ) (v : ℕ) → is_in (x ∷ xs) v ≡ false → is_in xs v ≡ false
-    tail_not x xs v e = elim (cases_Bool (is_in xs v)) [
-      | inl held ↦ absurd (let more = is_in-tail x xs v held in cc)
-      | inr none ↦ none
-    ]
 
 is_in_counts : (xs : List ℕ) (v : ℕ) → is_in xs v ≡ true → 1 ≤ count_by (λ u. u == v) xs
 is_in_counts [] v e = absurd cc
