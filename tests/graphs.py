@@ -96,5 +96,5 @@ SHAPES = [rings_in_rings, star, long_line, complete_graph, grid]
 
 def random_shot(draw, graph, most):
     real = [v for v in range(graph.vertices) if v not in graph.virtuals]
-    count = draw.choice([1, 2, 3, 4, 6, 8, 12, most, len(real)])
+    count = draw.choice([1, 2, 3, 4, 6, 8, 12, 20, most, len(real)])
     return sorted(draw.sample(real, min(count, most, len(real))))
