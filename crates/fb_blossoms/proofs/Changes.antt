@@ -2,9 +2,10 @@
 use Rattle.std.proofs.Common.{◌≡◌, ◌≢◌, inl, inr, ℕ, suc, ◌+◌, ◌<◌, Bool, true, false, if◌then◌else◌, List, [], ◌∷◌, ◌++◌, Option, Some, None, is_some, option_map, refl, sym, ◌∙◌, ap, subst, arith}
 use Rattle.std.specs.List.{flat_map}
 use Rattle.std.proofs.lemmas.Bool.{both_ways, cases_Bool, cases_eq}
+use Rattle.fb_links.specs.Lists.{is_in}
 use Rattle.fb_links.specs.declared.cycle.CycleStep.{CycleStep}
 use Rattle.fb_blossoms.specs.InternalItems.{Item}
-use Rattle.fb_blossoms.specs.Nodes.{Adds, Node, TakesOff, blossom, defects_at, defects_of, is_in, is_on, node_at}
+use Rattle.fb_blossoms.specs.Nodes.{Adds, Node, TakesOff, blossom, defects_at, defects_of, is_on, node_at}
 use Rattle.fb_blossoms.specs.InternalForest.{IsItem, IsKept, IsOddItem, IsPlaceOf, cycle_in, defects_in, held_at, is_kept, item_at, last_place, made_at, made_in, node_of, nodes_of, own_at, own_in, parent_at, parent_in, place_at, place_of, reparented_item, steps_at, with_parent}
 use Rattle.fb_blossoms.proofs.Climbs.{kept_child, kept_parent, none_some, same_some}
 use Rattle.fb_blossoms.proofs.Seats.{last_place_is}
@@ -45,10 +46,6 @@ put_outer k (Some i) = refl
 put_place : (k : ℕ) (q : Option ℕ) (o : Option Item) → is_some o ≡ true → place_of (put true k q o) ≡ k
 put_place k q None h = absurd (both_ways false refl h)
 put_place k q (Some i) h = refl
-
-empty_steps : (o : Option Item) → is_some o ≡ false → cycle_in o ≡ []
-empty_steps None h = refl
-empty_steps (Some i) h = absurd (both_ways true h refl)
 
 -- the node of a number that is kept, and of one that isn't
 pub node_when : (slots : List (Option Item)) (x : ℕ) → is_kept slots x ≡ true → node_at (nodes_of slots) x ≡ Some (record { defects = held_at slots x; cycle = steps_at slots x })

@@ -38,12 +38,6 @@ climb_on slots (suc k) x p top e below c =
     let same : p ≡ c.0 = same_some (parent_at slots x) p c.0 e c.1 in
     (k, (c.2.0, ap (parent_at slots) same ∙ c.2.1, c.2.2))
 
--- below a node that is above it there is a step up
-pub climb_step : (slots : List (Option Item)) (k x top : ℕ) → (x ≡ top → ⊥) → Climbs slots k x top
-    → (p : ℕ) × (parent_at slots x ≡ Some p) × ((j : ℕ) × Climbs slots j p top)
-climb_step slots zero x top below c = absurd (below c)
-climb_step slots (suc k) x top below c = (c.0, c.1, (k, c.2))
-
 module _ (slots : List (Option Item)) (made : ℕ) (forest : IsForest slots made) where
   pub climb_older : (k x top : ℕ) → Climbs slots k x top → made_at slots x ≤ made_at slots top
   climb_older zero x top c = let e : made_at slots x ≡ made_at slots top = ap (made_at slots) c in omega arith

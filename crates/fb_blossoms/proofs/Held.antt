@@ -3,9 +3,10 @@ use Rattle.std.proofs.Common.{◌≡◌, inl, inr, ℕ, zero, suc, ◌<◌, ◌�
 use Rattle.std.specs.List.{flat_map}
 use Rattle.std.proofs.lemmas.Bool.{both_ways, eq-eqb, eqb-true, or_cases, or_left, or_right}
 use Rattle.std.proofs.lemmas.List.Folds.{list_any-append}
+use Rattle.fb_links.specs.Lists.{is_in}
 use Rattle.fb_links.specs.declared.cycle.CycleStep.{CycleStep}
 use Rattle.fb_blossoms.specs.InternalItems.{Item}
-use Rattle.fb_blossoms.specs.Nodes.{Node, cycle_at, cycle_of, defects_at, defects_of, is_in, is_live, is_on, node_at}
+use Rattle.fb_blossoms.specs.Nodes.{Node, cycle_at, cycle_of, defects_at, defects_of, is_live, is_on, node_at}
 use Rattle.fb_blossoms.specs.InternalForest.{Climbs, IsForest, cycle_in, defects_in, held_at, is_kept, item_at, made_at, made_in, node_of, nodes_of, own_at, own_in, parent_at, steps_at}
 use Rattle.fb_blossoms.proofs.Climbs.{climb_more, kept_child}
 

@@ -1,12 +1,13 @@
 -- What a store keeps when the nodes of another join it under new names.
 use Rattle.std.proofs.Common.{◌≡◌, inl, inr, ℕ, zero, suc, ◌+◌, ◌<◌, true, false, if◌then◌else◌, List, [], ◌∷◌, ◌++◌, length, Option, Some, None, is_some, option_map, refl, sym, ◌∙◌, ap, subst, arith}
+use Rattle.fb_links.specs.Lists.{is_in}
 use Rattle.fb_links.specs.Names.{name_by}
 use Rattle.std.specs.List.{flat_map}
 use Rattle.std.proofs.lemmas.Bool.{both_ways}
 use Rattle.std.proofs.lemmas.List.{length-map}
 use Rattle.fb_links.specs.declared.cycle.CycleStep.{CycleStep}
 use Rattle.fb_blossoms.specs.InternalItems.{Item}
-use Rattle.fb_blossoms.specs.Nodes.{Node, is_in, is_live, is_on, node_at}
+use Rattle.fb_blossoms.specs.Nodes.{Node, is_live, is_on, node_at}
 use Rattle.fb_blossoms.specs.InternalForest.{IsForest, IsItem, IsKept, IsPlaceOf, cycle_in, defects_in, held_at, is_kept, item_at, made_at, made_in, nodes_of, own_at, own_in, parent_at, parent_in, place_at, place_of, steps_at}
 use Rattle.fb_blossoms.specs.Merged.{AreLeavesApart, IsMerged, renamed_cycle, renamed_node, renamed_step}
 use Rattle.fb_blossoms.specs.InternalMerged.{AreJoined, AreListed, AreOwnApart, shifted_item, renamed_item}

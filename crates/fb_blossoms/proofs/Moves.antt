@@ -2,9 +2,10 @@
 use Rattle.std.proofs.Common.{◌≡◌, ◌≢◌, inl, inr, ℕ, ◌+◌, Bool, true, false, if◌then◌else◌, List, [], ◌∷◌, nat_eq, Option, Some, None, option_map, refl, sym, ◌∙◌, ap, subst}
 use Rattle.std.proofs.lemmas.Bool.{both_ways, ne_eqb}
 use Rattle.slab.specs.Slab.{Slab, Updates, get}
+use Rattle.fb_links.specs.Lists.{is_in}
 use Rattle.fb_links.specs.declared.cycle.CycleStep.{CycleStep}
 use Rattle.fb_blossoms.specs.InternalItems.{Item}
-use Rattle.fb_blossoms.specs.Nodes.{Adds, AreOuter, IsOddCycle, IsOuter, Node, TakesOff, blossom, cycle_at, is_in, is_on, leaf, node_at}
+use Rattle.fb_blossoms.specs.Nodes.{Adds, AreOuter, IsOddCycle, IsOuter, Node, TakesOff, blossom, cycle_at, is_on, leaf, node_at}
 use Rattle.fb_blossoms.specs.InternalForest.{IsItem, IsKept, cycle_in, item_at, is_kept, last_place, nodes_of, parent_at, reparented_item, steps_at, with_parent}
 use Rattle.fb_blossoms.proofs.Held.{cycle_from, live_from}
 use Rattle.fb_blossoms.proofs.Nested.{is_in-one, leaf_node, one_in, outer_from}

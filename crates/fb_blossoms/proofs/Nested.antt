@@ -3,9 +3,10 @@ use Rattle.std.proofs.Common.{◌≡◌, ◌⊎◌, inl, inr, ℕ, zero, suc, �
 use Rattle.std.specs.List.{flat_map}
 use Rattle.std.proofs.lemmas.Bool.{both_ways, cases_Bool, eq-eqb, eqb-true, or_left}
 use Rattle.std.proofs.lemmas.List.{append-nil}
+use Rattle.fb_links.specs.Lists.{is_in}
 use Rattle.fb_links.specs.declared.cycle.CycleStep.{CycleStep}
 use Rattle.fb_blossoms.specs.InternalItems.{Item}
-use Rattle.fb_blossoms.specs.Nodes.{IsBlossom, IsChildHolding, IsLeaf, IsNested, IsOuter, IsOuterOf, IsParent, Node, cycle_at, cycle_of, defects_along, defects_at, defects_of, is_in, is_on, leaf, node_at}
+use Rattle.fb_blossoms.specs.Nodes.{IsBlossom, IsChildHolding, IsLeaf, IsNested, IsOuter, IsOuterOf, IsParent, Node, cycle_at, cycle_of, defects_along, defects_at, defects_of, is_on, leaf, node_at}
 use Rattle.fb_blossoms.specs.InternalForest.{Climbs, IsChildOver, IsForest, IsItem, IsKept, IsLeafItem, IsOddItem, IsPlaceOf, IsTopOf, LeadsDownTo, cycle_in, defects_in, held_at, is_kept, item_at, made_at, made_in, node_of, nodes_of, own_at, own_in, parent_at, place_at, steps_at}
 use Rattle.fb_blossoms.specs.InternalWays.{LeadsDown}
 use Rattle.fb_blossoms.proofs.Climbs.{kept_child, none_some, same_child, same_some, same_top}

@@ -1,10 +1,11 @@
 -- There is at most one even path between two defects of a node.
 use Rattle.std.proofs.Common.{◌≡◌, ◌⊎◌, inl, inr, ℕ, suc, ◌%◌, ◌<◌, ◌==◌, Bool, true, false, if◌then◌else◌, List, [], ◌∷◌, ◌++◌, length, Option, refl, sym, ◌∙◌, ap, subst, arith}
 use Rattle.std.proofs.lemmas.Bool.{both_ways, cases_eq, cases_lt, eqb-true, or_cases}
+use Rattle.fb_links.specs.Lists.{is_in}
 use Rattle.fb_links.specs.declared.walk.Step.{Step}
 use Rattle.fb_links.specs.Walks.{end_of, is_end, other_end, start_of}
 use Rattle.fb_links.specs.Table.{walk_at}
-use Rattle.fb_blossoms.specs.Nodes.{IsNested, Node, cycle_at, defects_at, is_in}
+use Rattle.fb_blossoms.specs.Nodes.{IsNested, Node, cycle_at, defects_at}
 use Rattle.fb_blossoms.specs.Links.{AllLinked, LeadsOver, link_after, node_after, place_after, step_at}
 use Rattle.fb_blossoms.specs.Paths.{GoesRound, IsEvenPath, ends_here, goes_on, goes_round, stays}
 use Rattle.fb_blossoms.proofs.Rounds.{back_is, child_within, cycle_distinct, cycle_odd, on_round, onward_is, place_lt, place_zero, places_differ, round_apart, steps_differ}

@@ -1,5 +1,6 @@
 -- Lists of names, each beside its new one.
 use Rattle.std.proofs.Common.{◌≡◌, ◌⊎◌, inl, inr, ℕ, ◌+◌, ◌≤◌, ◌==◌, ◌||◌, Bool, true, false, if◌then◌else◌, List, [], ◌∷◌, ◌++◌, refl, sym, ◌∙◌, ap, arith}
+use Rattle.std.proofs.Math.Bool.{or-false}
 use Rattle.fb_links.specs.Names.{name_by}
 use Rattle.std.specs.List.{list_any}
 use Rattle.std.proofs.lemmas.Bool.{both_ways, cases_Bool, eq-eqb, eqb-true, or_cases, or_left, or_right}
@@ -17,16 +18,12 @@ old_push names k b a = sum_by_push (λ p. one_if (p.0 == a)) names (k, b)
 pub new_push : (names : List (ℕ × ℕ)) (k b x : ℕ) → new_count (names ++ (k, b) ∷ []) x ≡ new_count names x + one_if (b == x)
 new_push names k b x = sum_by_push (λ p. one_if (p.1 == x)) names (k, b)
 
-or_false : (b : Bool) → (b || false) ≡ b
-or_false true = refl
-or_false false = refl
-
 -- the last pair is the one, or the pair is among those before it
 pub pair_cases : (names : List (ℕ × ℕ)) (k b a x : ℕ) → is_pair (names ++ (k, b) ∷ []) a x ≡ true → (is_pair names a x ≡ true) ⊎ ((k ≡ a) × (b ≡ x))
 pair_cases names k b a x h =
     elim (or_cases (is_pair names a x) ((if k == a then b == x else false) || false) (sym (list_any-append (λ p. if p.0 == a then p.1 == x else false) names ((k, b) ∷ [])) ∙ h)) [
       | inl before ↦ inl before
-      | inr last ↦ inr (both (k == a) refl (sym (or_false (if k == a then b == x else false)) ∙ last))
+      | inr last ↦ inr (both (k == a) refl (sym (or-false (if k == a then b == x else false)) ∙ last))
     ]
   where
     both : (t : Bool) → (k == a) ≡ t → (if t then b == x else false) ≡ true → (k ≡ a) × (b ≡ x)

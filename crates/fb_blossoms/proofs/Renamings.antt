@@ -1,5 +1,6 @@
 -- Items that get new numbers, and cycles of renamed nodes.
 use Rattle.std.proofs.Common.{◌≡◌, inl, inr, ℕ, ◌+◌, ◌<◌, ◌≤◌, ◌%◌, ◌==◌, ◌||◌, Bool, true, false, if◌then◌else◌, List, [], ◌∷◌, ◌++◌, length, get_or, take, nat_lt, Option, Some, None, is_some, option_map, refl, sym, ◌∙◌, ap, subst, arith}
+use Rattle.std.proofs.Math.Bool.{or-false}
 use Rattle.fb_links.specs.Names.{name_by}
 use Rattle.std.specs.List.{flat_map, list_any}
 use Rattle.std.specs.Option.{IsSome}
@@ -12,7 +13,7 @@ use Rattle.fb_links.specs.declared.cycle.CycleStep.{CycleStep}
 use Rattle.slab.specs.Slab.{Slab, get}
 use Rattle.slab.proofs.SlabLemmas.{ContainsKey-within}
 use Rattle.fb_blossoms.specs.InternalItems.{Item}
-use Rattle.fb_blossoms.specs.Nodes.{AreDistinct, is_on}
+use Rattle.fb_blossoms.specs.Nodes.{HasDistinctNodes, is_on}
 use Rattle.fb_blossoms.specs.Links.{step_at}
 use Rattle.fb_blossoms.specs.InternalForest.{IsItem, is_kept}
 use Rattle.fb_blossoms.specs.Merged.{new_count, old_count, renamed_cycle, renamed_step}
@@ -53,11 +54,7 @@ renamed_next f g names k x old o o' less once before now =
         ap (option_map (renamed_item f g)) none
         ∙ sym (ap R (listed ∙ (ap (λ t. list_any (λ q. q.1 == x) (take k names) || (t || false)) e ∙ or_right (list_any (λ q. q.1 == x) (take k names)) (true || false) refl)))
     at false e =
-        before ∙ sym (ap R (listed ∙ (ap (λ t. list_any (λ q. q.1 == x) (take k names) || (t || false)) e ∙ or_none (list_any (λ q. q.1 == x) (take k names)))))
-      where
-        or_none : (b : Bool) → (b || (false || false)) ≡ b
-        or_none true = refl
-        or_none false = refl
+        before ∙ sym (ap R (listed ∙ (ap (λ t. list_any (λ q. q.1 == x) (take k names) || (t || false)) e ∙ or-false (list_any (λ q. q.1 == x) (take k names)))))
 
 -- a renamed cycle has the renamed nodes
 pub on_to : (f g : ℕ → ℕ) (ss : List CycleStep) (y : ℕ) → is_on ss y ≡ true → is_on (renamed_cycle f g ss) (f y) ≡ true
@@ -79,7 +76,7 @@ on_from f g (s ∷ ss) x on =
     ]
 
 distinct_renamed : (f g : ℕ → ℕ) (ss : List CycleStep) → ((y z : ℕ) → is_on ss y ≡ true → is_on ss z ≡ true → f y ≡ f z → y ≡ z)
-    → AreDistinct ss → AreDistinct (renamed_cycle f g ss)
+    → HasDistinctNodes ss → HasDistinctNodes (renamed_cycle f g ss)
 distinct_renamed f g [] apart distinct = tt
 distinct_renamed f g (s ∷ ss) apart distinct = (
   elim (cases_Bool (is_on (renamed_cycle f g ss) (f s.node))) [

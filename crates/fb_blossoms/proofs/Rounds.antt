@@ -2,11 +2,12 @@
 use Rattle.std.proofs.Common.{◌≡◌, ◌≢◌, ◌⊎◌, inl, inr, ℕ, zero, suc, ◌+◌, ◌-◌, ◌%◌, ◌<◌, ◌≤◌, ◌==◌, ◌&&◌, Bool, true, false, List, [], ◌∷◌, length, Option, Some, None, refl, sym, ◌∙◌, ap, subst, arith}
 use Rattle.std.proofs.lemmas.Bool.{and_parts, both_ways, cases_eq, cases_lt, eq-eqb, eqb-true, le-leb, le-ltb, lt-leb, lt-ltb, ne_eqb, or_cases, or_left, or_right}
 use Rattle.std.proofs.lemmas.List.Folds.{list_any_at}
+use Rattle.fb_links.specs.Lists.{is_in}
 use Rattle.fb_links.specs.declared.walk.Step.{Step}
 use Rattle.fb_links.specs.declared.cycle.CycleStep.{CycleStep}
 use Rattle.fb_links.specs.Walks.{end_of, start_of}
 use Rattle.fb_links.specs.Table.{walk_at}
-use Rattle.fb_blossoms.specs.Nodes.{AreDistinct, AreWithin, IsBlossom, IsNested, IsOddCycle, Node, cycle_at, cycle_of, defects_along, defects_at, defects_of, is_in, is_on, node_at}
+use Rattle.fb_blossoms.specs.Nodes.{HasDistinctNodes, AreWithin, IsBlossom, IsNested, IsOddCycle, Node, cycle_at, cycle_of, defects_along, defects_at, defects_of, is_on, node_at}
 use Rattle.fb_blossoms.specs.Links.{AreLinked, IsLinkBetween, link_after, next_place, node_after, place_after, step_at}
 use Rattle.fb_blossoms.specs.Paths.{has_link}
 use Rattle.fb_blossoms.proofs.Held.{to_along}
@@ -84,7 +85,7 @@ step_on cycle i less = list_any_at (λ s. s.node == (step_at cycle i).node) cycl
 step_has : (cycle : List CycleStep) (i : ℕ) → i < length cycle → has_link cycle (step_at cycle i).link ≡ true
 step_has cycle i less = list_any_at (λ s. s.link == (step_at cycle i).link) cycle i (record { node = 0; link = 0 }) less (eq-eqb _ _ refl)
 
-pub steps_differ : (cycle : List CycleStep) → AreDistinct cycle → (i k : ℕ) → i < length cycle → k < length cycle → i ≢ k → (step_at cycle i).node ≢ (step_at cycle k).node
+pub steps_differ : (cycle : List CycleStep) → HasDistinctNodes cycle → (i k : ℕ) → i < length cycle → k < length cycle → i ≢ k → (step_at cycle i).node ≢ (step_at cycle k).node
 steps_differ [] d i k a b n e = omega arith
 steps_differ (s ∷ ss) d zero zero a b n e = n refl
 steps_differ (s ∷ ss) d zero (suc k) a b n e =
@@ -121,10 +122,10 @@ module _ (nodes : List (Option Node)) (nested : IsNested nodes) (name : ℕ) whe
       let on_n : is_on b.0.cycle x ≡ true = ap (λ o. is_on (cycle_of o) x) (sym b.1) ∙ on in
       ap (λ o. is_in (defects_of o) d) b.1 ∙ (ap (λ l. is_in l d) b.2.defects ∙ to_along (defects_at nodes) b.0.cycle x d on_n h)
 
-  pub cycle_distinct : (x : ℕ) → is_on (cycle_at nodes name) x ≡ true → AreDistinct (cycle_at nodes name)
+  pub cycle_distinct : (x : ℕ) → is_on (cycle_at nodes name) x ≡ true → HasDistinctNodes (cycle_at nodes name)
   cycle_distinct x on =
       let b = blossom_is x on in
-      let P : Option Node → Type 0 = λ o. AreDistinct (cycle_of o) in
+      let P : Option Node → Type 0 = λ o. HasDistinctNodes (cycle_of o) in
       subst P (sym b.1) b.2.cycle.distinct
 
   pub cycle_odd : (x : ℕ) → is_on (cycle_at nodes name) x ≡ true → length (cycle_at nodes name) % 2 ≡ 1

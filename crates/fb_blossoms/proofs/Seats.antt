@@ -1,5 +1,6 @@
 -- The places of the nodes in a cycle.
 use Rattle.std.proofs.Common.{◌≡◌, inl, inr, ℕ, suc, ◌+◌, ◌<◌, ◌==◌, ◌||◌, Bool, true, false, if◌then◌else◌, List, [], ◌∷◌, ◌++◌, length, length-take-le, take, Option, Some, None, option_map, refl, sym, ◌∙◌, ap, arith}
+use Rattle.std.proofs.Math.Bool.{or-false}
 use Rattle.std.proofs.lemmas.Bool.{both_ways, cases_Bool, eqb-true, or_cases}
 use Rattle.std.proofs.lemmas.List.{take_more}
 use Rattle.std.proofs.lemmas.List.Folds.{list_any-append}
@@ -28,10 +29,6 @@ or_true : (b : Bool) → (b || (true || false)) ≡ true
 or_true true = refl
 or_true false = refl
 
-or_false : (b : Bool) → (b || (false || false)) ≡ b
-or_false true = refl
-or_false false = refl
-
 last_here : (xs : List CycleStep) (s : CycleStep) (x : ℕ) → (s.node == x) ≡ true → last_place (xs ++ s ∷ []) x ≡ length xs
 last_here [] s x e = refl
 last_here (y ∷ ys) s x e = rw (on_push ys s x true e ∙ or_true (is_on ys x)) (ap suc (last_here ys s x e))
@@ -40,8 +37,8 @@ last_before : (xs : List CycleStep) (s : CycleStep) (x : ℕ) → (s.node == x) 
 last_before [] s x e on = absurd (both_ways false refl on)
 last_before (y ∷ ys) s x e on =
     elim (cases_Bool (is_on ys x)) [
-      | inl later ↦ rw (on_push ys s x false e ∙ or_false (is_on ys x), later) (ap suc (last_before ys s x e later))
-      | inr off ↦ rw (on_push ys s x false e ∙ or_false (is_on ys x), off) refl
+      | inl later ↦ rw (on_push ys s x false e ∙ or-false (is_on ys x), later) (ap suc (last_before ys s x e later))
+      | inr off ↦ rw (on_push ys s x false e ∙ or-false (is_on ys x), off) refl
     ]
 
 under_twice : (b : Bool) (q : Option ℕ) (j k : ℕ) (o : Option Item)
@@ -60,8 +57,8 @@ seated_push xs s q x o =
           (sym (under_twice (is_on xs x) q (last_place xs x) (length xs) o))
       | inr e ↦
           elim (cases_Bool (is_on xs x)) [
-            | inl on ↦ rw (e, on_push xs s x false e ∙ or_false (is_on xs x), last_before xs s x e on) refl
-            | inr off ↦ rw (e, on_push xs s x false e ∙ or_false (is_on xs x), off) refl
+            | inl on ↦ rw (e, on_push xs s x false e ∙ or-false (is_on xs x), last_before xs s x e on) refl
+            | inr off ↦ rw (e, on_push xs s x false e ∙ or-false (is_on xs x), off) refl
           ]
     ]
 

@@ -1,8 +1,9 @@
 -- The even path inside a node passes no defect twice.
 use Rattle.std.proofs.Common.{◌≡◌, ℕ, suc, ◌+◌, ◌%◌, ◌<◌, Bool, true, List, [], ◌∷◌, ◌++◌, length, Option, refl, sym, subst, arith}
 use Rattle.std.proofs.lemmas.List.{append-nil}
+use Rattle.fb_links.specs.Lists.{is_in}
 use Rattle.fb_links.specs.declared.walk.Step.{Step}
-use Rattle.fb_blossoms.specs.Nodes.{IsNested, Node, cycle_at, defects_at, is_in}
+use Rattle.fb_blossoms.specs.Nodes.{IsNested, Node, cycle_at, defects_at}
 use Rattle.fb_blossoms.specs.Links.{AllLinked, LeadsOver, link_after, node_after}
 use Rattle.fb_blossoms.specs.Paths.{GoesRound, IsEvenPath, IsSimpleEvenPath, ends_here, goes_on, goes_round, stays}
 use Rattle.fb_blossoms.proofs.Rounds.{child_within, on_round, round_apart, round_has}

@@ -9,6 +9,10 @@ use Rattle.fb_blossoms.specs.Links.{AreLinked, node_after}
 use Rattle.fb_blossoms.specs.InternalLegs.{legs_size}
 use Rattle.fb_blossoms.proofs.Rounds.{cycle_kept, on_round, round_differs}
 
+pub length_some : (xs : List ℕ) → xs ≢ [] → 1 ≤ length xs
+length_some [] h = absurd (h refl)
+length_some (x ∷ xs) h = omega arith
+
 module _ (nodes : List (Option Node)) where
   pub size_append : (xs ys : List Leg) → legs_size nodes (xs ++ ys) ≡ legs_size nodes xs + legs_size nodes ys
   size_append [] ys = omega arith
@@ -58,13 +62,9 @@ module _ (nodes : List (Option Node)) where
   all_marked : (ss : List CycleStep) → ((x : ℕ) → is_on ss x ≡ true → defects_at nodes x ≢ []) → marked (λ _. true) ss + length ss ≤ length (defects_along nodes ss)
   all_marked [] h = omega arith
   all_marked (s ∷ ss) h =
-      let some : 1 ≤ length (defects_at nodes s.node) = filled (defects_at nodes s.node) (h s.node (or_left (s.node == s.node) (is_on ss s.node) (eq-eqb s.node s.node refl))) in
+      let some : 1 ≤ length (defects_at nodes s.node) = length_some (defects_at nodes s.node) (h s.node (or_left (s.node == s.node) (is_on ss s.node) (eq-eqb s.node s.node refl))) in
       let rest : marked (λ _. true) ss + length ss ≤ length (defects_along nodes ss) = all_marked ss (λ x on. h x (or_right (s.node == x) (is_on ss x) on)) in
       omega (arith, some, rest, length-append (defects_at nodes s.node) (defects_along nodes ss))
-    where
-      filled : (xs : List ℕ) → xs ≢ [] → 1 ≤ length xs
-      filled [] h = absurd (h refl)
-      filled (x ∷ xs) h = omega arith
 
 -- the node was passed
 abbrev seen : List CycleStep → Bool → ℕ → ℕ → ℕ → Bool

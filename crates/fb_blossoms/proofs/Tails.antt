@@ -2,11 +2,12 @@
 use Rattle.std.proofs.Common.{◌≡◌, ◌⊎◌, inl, inr, ℕ, ◌+◌, ◌%◌, ◌<◌, ◌==◌, true, false, List, [], ◌∷◌, ◌++◌, length, Option, refl, sym, ◌∙◌, ap, subst, arith, length-append}
 use Rattle.std.proofs.lemmas.Bool.{both_ways, cases_Bool, eq-eqb, eqb-true, or_cases, or_left, or_right}
 use Rattle.std.proofs.lemmas.List.Folds.{list_any-append}
+use Rattle.fb_links.specs.Lists.{AreDistinct, is_in}
 use Rattle.fb_links.specs.declared.walk.Step.{Step}
 use Rattle.fb_links.specs.Walks.{other_end}
 use Rattle.fb_links.specs.Table.{walk_at}
-use Rattle.fb_blossoms.specs.Nodes.{AreWithin, Node, cycle_at, defects_at, is_in}
-use Rattle.fb_blossoms.specs.Paths.{AreDifferent, IsLinkIn, IsSimpleEvenPath, Leads, has_link, reached_defects}
+use Rattle.fb_blossoms.specs.Nodes.{AreWithin, Node, cycle_at, defects_at}
+use Rattle.fb_blossoms.specs.Paths.{IsLinkIn, IsSimpleEvenPath, Leads, has_link, reached_defects}
 use Rattle.fb_blossoms.specs.Links.{LeadsOver}
 
 pub in_either : (xs ys : List ℕ) (v : ℕ) → is_in (xs ++ ys) v ≡ true → (is_in xs v ≡ true) ⊎ (is_in ys v ≡ true)
@@ -18,7 +19,7 @@ not_in xs v h = elim (cases_Bool (is_in xs v)) [ inl e ↦ absurd (h e) | inr e 
 pub in_first : (x : ℕ) (xs : List ℕ) → is_in (x ∷ xs) x ≡ true
 in_first x xs = or_left (x == x) (is_in xs x) (eq-eqb x x refl)
 
-different_append : (xs ys : List ℕ) → AreDifferent xs → AreDifferent ys → ((v : ℕ) → is_in xs v ≡ true → is_in ys v ≡ true → ⊥) → AreDifferent (xs ++ ys)
+different_append : (xs ys : List ℕ) → AreDistinct xs → AreDistinct ys → ((v : ℕ) → is_in xs v ≡ true → is_in ys v ≡ true → ⊥) → AreDistinct (xs ++ ys)
 different_append [] ys d e apart = e
 different_append (x ∷ xs) ys d e apart = (
   not_in (xs ++ ys) x
@@ -42,7 +43,7 @@ module _ (links : List (Option (List Step))) where
   pub record IsTail (nodes : List (Option Node)) (name : ℕ) (node : ℕ → ℕ) (k at to : ℕ) (path : List ℕ) : Type 0 where
     pub leads : Leads links at path to
     pub count : length path % 2 ≡ k % 2
-    pub once : AreDifferent (reached_defects links at path)
+    pub once : AreDistinct (reached_defects links at path)
     pub placed : (v : ℕ) → is_in (reached_defects links at path) v ≡ true → (i : ℕ) × (i < k) × (is_in (defects_at nodes (node i)) v ≡ true)
     pub inside : (l : ℕ) → is_in path l ≡ true → IsLinkIn nodes name l
 
@@ -72,9 +73,9 @@ module _ (links : List (Option (List Step))) where
     both_lead : Leads links start (front ++ path) to
     both_lead = leads_append start front at path to inner.leads tail.leads
 
-    both_once : AreDifferent (start ∷ reached_defects links start (front ++ path))
+    both_once : AreDistinct (start ∷ reached_defects links start (front ++ path))
     both_once =
-        let P : List ℕ → Type 0 = λ r. AreDifferent (start ∷ r) in
+        let P : List ℕ → Type 0 = λ r. AreDistinct (start ∷ r) in
         subst P (sym both_reach)
         (different_append (start ∷ reached_defects links start front) (reached_defects links at path) inner.once tail.once
         (λ v a b. let r = tail.placed v b in apart r.0 v r.1 r.2 (in_front v a)))
@@ -117,7 +118,7 @@ module _ (links : List (Option (List Step))) where
     tail_more l outer ends has = record {
       leads = (ends.end, let P : ℕ → Type 0 = λ w. Leads links w (front ++ path) to in subst P (sym ends.other) both_lead);
       count = omega (arith, length-append front path, inner.even, tail.count);
-      once = let P : ℕ → Type 0 = λ w. AreDifferent (w ∷ reached_defects links w (front ++ path)) in subst P (sym ends.other) both_once;
+      once = let P : ℕ → Type 0 = λ w. AreDistinct (w ∷ reached_defects links w (front ++ path)) in subst P (sym ends.other) both_once;
       placed = λ v h. both_placed v (ap (λ w. is_in (w ∷ reached_defects links w (front ++ path)) v) (sym ends.other) ∙ h);
       inside = λ m h.
           elim (or_cases (l == m) (is_in (front ++ path) m) h) [

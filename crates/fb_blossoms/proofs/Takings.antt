@@ -139,19 +139,3 @@ module _ (old right new new' : Slab Item) (more key : ℕ) (names names' : List 
   pub over_one : (o : Option Item) → get right key ≡ o → IsStepOver new new' names names' key more o → AreTaken old.slots right.slots new'.slots more (key + 1) names'
   over_one None e step = over_none e step.0 step.1
   over_one (Some i) e step = over_some i e step.0 step.1 step.2 step.3
-
--- before the first number nothing is taken
-pub over_zero : (old right : Slab Item) (more : ℕ) → AreTaken old.slots right.slots old.slots more 0 []
-over_zero old right more = record {
-  listed = λ a. sym (none (is_kept right.slots a) a);
-  distinct = λ b. omega arith;
-  taken = λ a b h. absurd (both_ways false refl h);
-  alive = λ a b h. absurd (both_ways false refl h);
-  fresh = λ a b h. absurd (both_ways false refl h);
-  stays = λ x k. refl;
-  only = λ x k. inl k;
-}
-  where
-    none : (t : Bool) (a : ℕ) → among t (nat_lt a 0) ≡ 0
-    none true a = ap one_if (le-ltb a 0 (omega arith))
-    none false a = refl

@@ -1,20 +1,20 @@
 -- The legs of a path round a cycle.
-use Rattle.std.proofs.Common.{◌≡◌, inl, inr, ℕ, suc, ◌+◌, ◌*◌, ◌%◌, ◌<◌, Bool, true, false, List, [], ◌∷◌, ◌++◌, length, reverse, Option, Some, None, Result, Ok, Err, OnOk, refl, sym, ◌∙◌, ap, subst, arith, append_assoc}
-use Rattle.std.proofs.lemmas.Bool.{both_ways}
+use Rattle.std.proofs.Common.{◌≡◌, ℕ, suc, ◌+◌, ◌*◌, ◌%◌, ◌<◌, Bool, true, List, [], ◌∷◌, ◌++◌, length, reverse, Option, refl, sym, ◌∙◌, ap, subst, arith, append_assoc, Result, Ok, Err, OnOk}
 use Rattle.std.proofs.lemmas.List.{append-nil, reverse-append}
+use Rattle.fb_links.specs.Lists.{is_in}
 use Rattle.fb_links.specs.declared.walk.Step.{Step}
 use Rattle.fb_blossoms.specs.declared.cycles.Round.{Round}
 use Rattle.fb_blossoms.specs.declared.ways.Way.{Way}
 use Rattle.fb_blossoms.specs.declared.legs.Ends.{Ends}
 use Rattle.fb_blossoms.specs.declared.legs.Leg.{Leg}
 use Rattle.fb_blossoms.specs.declared.legs.Leg.TheVariants.{Inside, Over}
-use Rattle.fb_blossoms.specs.Nodes.{IsNested, Node, cycle_at, cycle_of, defects_at, defects_of, is_in, is_on, leaf, node_at}
+use Rattle.fb_blossoms.specs.Nodes.{IsNested, Node, cycle_at, defects_at, defects_of, is_on}
 use Rattle.fb_blossoms.specs.Links.{AreLinked, LeadsOver, link_after, node_after, place_after, step_at}
 use Rattle.fb_blossoms.specs.Paths.{GoesRound, IsEvenPath, ends_here, goes_on, goes_round, stays}
 use Rattle.fb_blossoms.specs.InternalForest.{IsPlaceOf}
 use Rattle.fb_blossoms.specs.InternalWays.{IsWay, LeadsDown}
 use Rattle.fb_blossoms.specs.InternalLegs.{AllBecome, AreEndWays, AreLegs, GoesOn, IsLeg, IsRoundOf, Replaces, legs_size}
-use Rattle.fb_blossoms.proofs.Nested.{is_in-one, one_in}
+use Rattle.fb_blossoms.proofs.Nested.{one_in}
 use Rattle.fb_blossoms.proofs.Rounds.{child_within, none_after, on_place}
 use Rattle.fb_blossoms.proofs.Sizes.{passed, round_shorter, size_append}
 use Rattle.fb_blossoms.proofs.LegLists.{become_both, become_one, become_split, legs_both, legs_split, one_become}
@@ -215,10 +215,6 @@ pub goes_over : (links : List (Option (List Step))) (nodes : List (Option Node))
     → new ≡ old ++ l ∷ [] → GoesOn links nodes before (Over l) old before new
 goes_over links nodes before l old new e = record { gone = l ∷ []; grown = e; replaced = replaced_over links nodes before l }
 
-pub goes_inside : (links : List (Option (List Step))) (nodes : List (Option Node)) (before after : List Leg) (name : ℕ) (ends : Ends) (old : List ℕ)
-    → Replaces links nodes before (Inside name ends) [] after → GoesOn links nodes before (Inside name ends) old after old
-goes_inside links nodes before after name ends old h = record { gone = []; grown = sym (append-nil old); replaced = h }
-
 pub way_shorter : (links : List (Option (List Step))) (nodes : List (Option Node)) (todo before after : List Leg) (leg : Leg) (old new : List ℕ)
     → todo ≡ before ++ leg ∷ [] → GoesOn links nodes before leg old after new → legs_size nodes after < legs_size nodes todo
 way_shorter links nodes todo before after leg old new popped h =
@@ -267,23 +263,6 @@ module _ (links : List (Option (List Step))) (nodes : List (Option Node)) (name 
       let P : List Leg → Type 0 = λ t. AllBecome links nodes t [] in
       let Q : List ℕ → Type 0 = IsEvenPath links nodes name from to in
       subst Q (append-nil path) (way.become [] (subst P (sym e) refl))
-
--- a node that holds two defects is no leaf
-pub two_held : (nodes : List (Option Node)) (name d e : ℕ) → IsNested nodes → is_in (defects_at nodes name) d ≡ true → is_in (defects_at nodes name) e ≡ true
-    → (d ≡ e → ⊥) → cycle_at nodes name ≡ [] → ⊥
-two_held nodes name d e nested g h differ none = at (node_at nodes name) refl
-  where
-    at : (o : Option Node) → node_at nodes name ≡ o → ⊥
-    at None f = both_ways false refl (ap (λ o. is_in (defects_of o) d) (sym f) ∙ g)
-    at (Some n) f =
-        elim (nested.shaped name n f) [
-          | inl l ↦
-              let same : node_at nodes name ≡ Some (leaf l.0) = f ∙ ap (λ m. Some m) l.1 in
-              differ (sym (is_in-one l.0 d (ap (λ o. is_in (defects_of o) d) (sym same) ∙ g)) ∙ is_in-one l.0 e (ap (λ o. is_in (defects_of o) e) (sym same) ∙ h))
-          | inr b ↦
-              let c : length n.cycle ≡ 0 = ap length (ap cycle_of (sym f) ∙ none) in
-              omega (arith, b.cycle.three, c)
-        ]
 
 pub on_ok : {T E : Type 0} (P Q : Type 0) (r : Result T E) → (P → Q) → OnOk r P → OnOk r Q
 on_ok P Q (Ok x) f h = f h

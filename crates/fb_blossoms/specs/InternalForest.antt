@@ -1,8 +1,9 @@
 -- What a store keeps of the nodes as they are stored.
 use Rattle.std.specs.Prelude.{ℕ, zero, suc, ◌≡◌, ◌<◌, ◌%◌, ◌≤◌, ◌⊎◌, Bool, true, if◌then◌else◌, List, [], ◌∷◌, ◌++◌, map, length, flat_map, get_or, Option, Some, None, is_some, option_map}
+use Rattle.fb_links.specs.Lists.{is_in}
 use Rattle.fb_links.specs.declared.cycle.CycleStep.{CycleStep}
 use Rattle.fb_blossoms.specs.InternalItems.{Item}
-use Rattle.fb_blossoms.specs.Nodes.{Node, AreDistinct, is_in, is_on}
+use Rattle.fb_blossoms.specs.Nodes.{Node, HasDistinctNodes, is_on}
 use Rattle.fb_blossoms.specs.Links.{step_at}
 
 abbrev pub item_at : List (Option Item) → ℕ → Option Item
@@ -64,7 +65,7 @@ pub record IsOddItem (own : List ℕ) (cycle : List CycleStep) : Type 0 where
   pub bare : own ≡ []
   pub odd : length cycle % 2 ≡ 1
   pub three : 3 ≤ length cycle
-  pub distinct : AreDistinct cycle
+  pub distinct : HasDistinctNodes cycle
 
 -- one defect, and no cycle
 pub record IsLeafItem (own : List ℕ) (cycle : List CycleStep) : Type 0 where

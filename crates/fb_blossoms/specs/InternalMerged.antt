@@ -1,10 +1,10 @@
 -- Items under other names.
 use Rattle.std.specs.Prelude.{ℕ, ◌≡◌, ◌+◌, ◌≤◌, ◌==◌, ◌⊎◌, Bool, true, false, if◌then◌else◌, List, [], ◌∷◌, ◌++◌, length, nat_lt, Option, Some, None, option_map}
 use Rattle.std.specs.List.{list_any}
+use Rattle.fb_links.specs.Lists.{is_in}
 use Rattle.fb_blossoms.specs.InternalItems.{Item}
 use Rattle.fb_links.specs.Names.{name_by}
 use Rattle.slab.specs.Slab.{Slab, Updates, get}
-use Rattle.fb_blossoms.specs.Nodes.{is_in}
 use Rattle.fb_blossoms.specs.InternalForest.{is_kept, item_at, own_at}
 use Rattle.fb_blossoms.specs.Merged.{new_count, old_count, renamed_cycle}
 

@@ -1,10 +1,11 @@
 -- The cycle of a blossom: how its nodes are linked, and the way round it.
 use Rattle.std.specs.Prelude.{ℕ, ◌≡◌, ◌+◌, ◌-◌, ◌<◌, ◌==◌, ◌&&◌, ◌||◌, Bool, true, nat_lt, nat_le, if◌then◌else◌, List, length, get_or, Option}
+use Rattle.fb_links.specs.Lists.{is_in}
 use Rattle.fb_links.specs.declared.walk.Step.{Step}
 use Rattle.fb_links.specs.declared.cycle.CycleStep.{CycleStep}
 use Rattle.fb_links.specs.Walks.{start_of, end_of, is_end, other_end}
 use Rattle.fb_links.specs.Table.{is_live, walk_at}
-use Rattle.fb_blossoms.specs.Nodes.{Node, cycle_at, defects_at, is_in}
+use Rattle.fb_blossoms.specs.Nodes.{Node, cycle_at, defects_at}
 
 -- whether the walk leads between the two sets
 abbrev pub joins : List Step → List ℕ → List ℕ → Bool

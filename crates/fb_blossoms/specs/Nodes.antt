@@ -3,6 +3,7 @@
 use Rattle.std.specs.Prelude.{ℕ, ◌≡◌, ◌≢◌, ◌%◌, ◌≤◌, ◌==◌, ◌⊎◌, Bool, true, false, List, [], ◌∷◌, length, flat_map, get_or, Option, Some, None, MatchOption, is_some, refl}
 use Rattle.std.specs.List.{list_any}
 use Rattle.std.specs.Coded.{Coded, code_by, coded×, coded_list, coded_option, coded_ℕ}
+use Rattle.fb_links.specs.Lists.{is_in}
 use Rattle.fb_links.specs.declared.cycle.CycleStep.{CycleStep}
 use Rattle.fb_blossoms.specs.InternalItems.{step_code}
 
@@ -41,18 +42,14 @@ defects_at nodes name = defects_of (node_at nodes name)
 abbrev pub cycle_at : List (Option Node) → ℕ → List CycleStep
 cycle_at nodes name = cycle_of (node_at nodes name)
 
--- the list holds the number
-abbrev pub is_in : List ℕ → ℕ → Bool
-is_in set v = list_any (λ u. u == v) set
-
 -- the node is one of the cycle's
 abbrev pub is_on : List CycleStep → ℕ → Bool
 is_on cycle name = list_any (λ s. s.node == name) cycle
 
 -- no node of the cycle comes twice
-abbrev pub AreDistinct : List CycleStep → Type 0
-AreDistinct [] = Unit {0}
-AreDistinct (s ∷ ss) = (is_on ss s.node ≡ false) × AreDistinct ss
+abbrev pub HasDistinctNodes : List CycleStep → Type 0
+HasDistinctNodes [] = Unit {0}
+HasDistinctNodes (s ∷ ss) = (is_on ss s.node ≡ false) × HasDistinctNodes ss
 
 -- no blossom has the node in its cycle
 abbrev pub IsOuter : List (Option Node) → ℕ → Type 0
@@ -78,7 +75,7 @@ blossom nodes cycle = record { defects = defects_along nodes cycle; cycle = cycl
 pub record IsOddCycle (nodes : List (Option Node)) (cycle : List CycleStep) : Type 0 where
   pub odd : length cycle % 2 ≡ 1
   pub three : 3 ≤ length cycle
-  pub distinct : AreDistinct cycle
+  pub distinct : HasDistinctNodes cycle
   pub live : (x : ℕ) → is_on cycle x ≡ true → is_live nodes x ≡ true
 
 -- the cycle's nodes are outer

@@ -1,11 +1,12 @@
 -- Paths of links inside a blossom.
-use Rattle.std.specs.Prelude.{ℕ, suc, ◌≡◌, ◌%◌, ◌<◌, ◌==◌, Bool, true, false, List, [], ◌∷◌, ◌++◌, length, Option}
+use Rattle.std.specs.Prelude.{ℕ, suc, ◌≡◌, ◌%◌, ◌<◌, ◌==◌, Bool, true, List, [], ◌∷◌, ◌++◌, length, Option}
 use Rattle.std.specs.List.{list_any}
+use Rattle.fb_links.specs.Lists.{AreDistinct, is_in}
 use Rattle.fb_links.specs.declared.walk.Step.{Step}
 use Rattle.fb_links.specs.declared.cycle.CycleStep.{CycleStep}
 use Rattle.fb_links.specs.Walks.{is_end, other_end}
 use Rattle.fb_links.specs.Table.{walk_at}
-use Rattle.fb_blossoms.specs.Nodes.{AreWithin, Node, cycle_at, defects_at, is_in}
+use Rattle.fb_blossoms.specs.Nodes.{AreWithin, Node, cycle_at, defects_at}
 use Rattle.fb_blossoms.specs.Links.{LeadsOver, link_after, node_after}
 
 mutual
@@ -33,11 +34,6 @@ mutual
         → GoesRound links nodes name onward s k entry to rest
         → GoesRound links nodes name onward s (suc k) from to (front ++ link_after (cycle_at nodes name) onward s k ∷ rest)
 
--- no number comes twice
-abbrev pub AreDifferent : List ℕ → Type 0
-AreDifferent [] = Unit {0}
-AreDifferent (x ∷ xs) = (is_in xs x ≡ false) × AreDifferent xs
-
 -- the links lead from the one defect to the other, each from the defect that the one before it led to
 abbrev pub Leads : List (Option (List Step)) → ℕ → List ℕ → ℕ → Type 0
 Leads links from [] to = from ≡ to
@@ -63,6 +59,6 @@ IsLinkIn nodes name l =
 pub record IsSimpleEvenPath (links : List (Option (List Step))) (nodes : List (Option Node)) (name from to : ℕ) (path : List ℕ) : Type 0 where
   pub leads : Leads links from path to
   pub even : length path % 2 ≡ 0
-  pub once : AreDifferent (from ∷ reached_defects links from path)
+  pub once : AreDistinct (from ∷ reached_defects links from path)
   pub within : AreWithin (reached_defects links from path) (defects_at nodes name)
   pub inside : (l : ℕ) → is_in path l ≡ true → IsLinkIn nodes name l

@@ -1,8 +1,9 @@
 ghost use Rattle.std.specs.Prelude.{◌≡◌, ◌≢◌, ℕ, nat_eq, [], reverse, true, false, IfNone, IfOk, IfSome, OnErr, Some};
 ghost use Rattle.std.specs.HashMap.{get};
+ghost use Rattle.fb_links.specs.Lists.{is_in};
 ghost use Rattle.fb_blossoms.specs.Links.{AllLinked, AreLinked};
 ghost use Rattle.fb_blossoms.specs.Paths.{IsEvenPath};
-ghost use Rattle.fb_blossoms.specs.Nodes.{Adds, AreOuter, IsChildHolding, IsNested, IsOddCycle, IsOuter, IsOuterOf, IsParent, TakesOff, blossom, cycle_at, defects_at, is_in, is_live, is_on, leaf, node_at};
+ghost use Rattle.fb_blossoms.specs.Nodes.{Adds, AreOuter, IsChildHolding, IsNested, IsOddCycle, IsOuter, IsOuterOf, IsParent, TakesOff, blossom, cycle_at, defects_at, is_live, is_on, leaf, node_at};
 ghost use Rattle.fb_blossoms.specs.Merged.{AreLeavesApart, IsMerged};
 ghost use Rattle.fb_blossoms.specs.InternalForest.{IsPlaceOf};
 ghost use Rattle.fb_blossoms.specs.InternalWays.{LeadsDown};
@@ -58,7 +59,7 @@ impl Blossoms {
 
     /// The store without nodes, in the room of this one. Its time is that of the most nodes that the room ever held. Takes
     /// no memory.
-    pub fn emptied(self) -> Blossoms
+    pub fn into_empty(self) -> Blossoms
         ensures { result ≡ [] }
     {
         let Blossoms {

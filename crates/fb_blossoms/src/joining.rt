@@ -1,10 +1,10 @@
 //! How the nodes of one store are put into another.
 
+ghost use Rattle.fb_links.specs.Lists.{is_in};
 ghost use Rattle.fb_links.specs.Names.{name_by};
 ghost use Rattle.std.specs.Prelude.{◌≡◌, ◌≢◌, ◌==◌, ◌+◌, ◌<◌, ◌≤◌, ◌^◌, ◌++◌, ◌∷◌, [], ℕ, Some, IfOk, OnOk, if◌then◌else◌, nat_eq, option_map};
 ghost use Rattle.std.specs.HashMap.{get as found};
 ghost use Rattle.slab.specs.Slab.{get};
-ghost use Rattle.fb_blossoms.specs.Nodes.{is_in};
 ghost use Rattle.fb_blossoms.specs.InternalForest.{made_in, own_in};
 ghost use Rattle.fb_blossoms.specs.Merged.{new_count};
 ghost use Rattle.fb_blossoms.specs.InternalMerged.{AreAllTaken, AreJoined, AreListed, AreOwnApart, IsStepOver, renamed_among, renamed_item};

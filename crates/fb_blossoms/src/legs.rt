@@ -1,7 +1,8 @@
 //! The path inside a blossom, leg by leg.
 
 ghost use Rattle.std.specs.Prelude.{◌≡◌, ◌≢◌, true, [], ◌∷◌, ◌++◌, IfOk, OnOk};
-ghost use Rattle.fb_blossoms.specs.Nodes.{cycle_at, defects_at, is_in, is_on};
+ghost use Rattle.fb_links.specs.Lists.{is_in};
+ghost use Rattle.fb_blossoms.specs.Nodes.{cycle_at, defects_at, is_on};
 ghost use Rattle.fb_blossoms.specs.Links.{AllLinked, IsLinkBetween, LeadsOver};
 ghost use Rattle.fb_blossoms.specs.Paths.{IsEvenPath};
 ghost use Rattle.fb_blossoms.specs.InternalLegs.{AreEndWays, GoesOn, IsLeg, IsRoundOf, Replaces};

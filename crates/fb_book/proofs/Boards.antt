@@ -1,6 +1,6 @@
 -- What is kept beside a history stays so with each entry.
-use Rattle.std.proofs.Common.{ℕ, ◌≡◌, ◌+◌, ◌<◌, ◌≤◌, ◌==◌, ◌&&◌, ◌||◌, Bool, true, false, not, is_some, Option, Some, None, List, [], ◌∷◌, ◌++◌, length, set, sum_by, count_by, cond, if◌then◌else◌, ◌⊎◌, inl, inr, refl, sym, ap, subst, ◌∙◌, arith}
-use Rattle.std.proofs.lemmas.Bool.{eqb-true, eqb-false, eq-eqb, ne_eqb, lt-ltb, true≢false, cases_lt, and_left, and_right, and_from}
+use Rattle.std.proofs.Common.{ℕ, ◌≡◌, ◌+◌, ◌<◌, ◌≤◌, ◌==◌, ◌&&◌, Bool, true, false, not, is_some, Option, Some, None, List, [], ◌∷◌, ◌++◌, length, set, sum_by, count_by, if◌then◌else◌, ◌⊎◌, inl, inr, refl, sym, ap, subst, ◌∙◌, arith}
+use Rattle.std.proofs.lemmas.Bool.{eqb-true, eqb-false, eq-eqb, ne_eqb, lt-ltb, true≢false, cases_lt, and_left, and_right, and_from, or_right, or_left}
 use Rattle.std.specs.Prelude.{nat_lt}
 use Rattle.std.specs.List.{list_any}
 use Rattle.fb_book.specs.declared.entries.Kind.TheVariants.{Took}
@@ -12,7 +12,8 @@ use Rattle.fb_book.specs.Board.{IsBoard, is_ready, unsolved_of}
 use Rattle.fb_book.proofs.Statuses.{IsSetAt, here, there, IsTakenAt, taken, used, same, set_at, taken_at, within, child_given, MayTake}
 use Rattle.fb_book.proofs.Courses.{sum_taken}
 use Rattle.fb_book.proofs.History.{none_at, none_from}
-use Rattle.fb_graph.proofs.Sets.{one_if}
+use Rattle.fb_graph.specs.Counts.{as_count}
+use Rattle.fb_graph.proofs.Booleans.{as_count-le}
 
 -- one entry more
 pub replay_more : (kids : Kids) (n : ℕ) (h : List Entry) (start st : List Status) (e : Entry)
@@ -58,17 +59,10 @@ can_take_else kids forest st w k m q apart = step (at q)
     all_given None e = refl
     all_given (Some (a, b)) e =
         let one : is_given (status_at new a) ≡ is_given (status_at st a) =
-        given a (ap (λ o. is_child o a) e ∙ left (a == a) (b == a) (eq-eqb a a refl)) (at a) in
+        given a (ap (λ o. is_child o a) e ∙ or_left (a == a) (b == a) (eq-eqb a a refl)) (at a) in
         let two : is_given (status_at new b) ≡ is_given (status_at st b) =
-        given b (ap (λ o. is_child o b) e ∙ right (a == b) (b == b) (eq-eqb b b refl)) (at b) in
+        given b (ap (λ o. is_child o b) e ∙ or_right (a == b) (b == b) (eq-eqb b b refl)) (at b) in
         ap (λ x. x && is_given (status_at new b)) one ∙ ap (λ x. is_given (status_at st a) && x) two
-      where
-        left : (x y : Bool) → x ≡ true → (x || y) ≡ true
-        left x y e = rw e refl
-
-        right : (x y : Bool) → y ≡ true → (x || y) ≡ true
-        right true y e = refl
-        right false y e = e
 
     step : IsTakenAt (kids k) k w q (status_at st q) (status_at new q)
         → (is_idle (status_at new q) && are_given new (kids q)) ≡ (is_idle (status_at st q) && are_given st (kids q))
@@ -115,17 +109,10 @@ can_take_let kids st w k s held busy q apart = step (at q)
     all_given None e = refl
     all_given (Some (a, b)) e =
         let one : is_given (status_at new a) ≡ is_given (status_at st a) =
-        given a (ap (λ o. is_child o a) e ∙ left (a == a) (b == a) (eq-eqb a a refl)) (at a) apart in
+        given a (ap (λ o. is_child o a) e ∙ or_left (a == a) (b == a) (eq-eqb a a refl)) (at a) apart in
         let two : is_given (status_at new b) ≡ is_given (status_at st b) =
-        given b (ap (λ o. is_child o b) e ∙ right (a == b) (b == b) (eq-eqb b b refl)) (at b) apart in
+        given b (ap (λ o. is_child o b) e ∙ or_right (a == b) (b == b) (eq-eqb b b refl)) (at b) apart in
         ap (λ x. x && is_given (status_at new b)) one ∙ ap (λ x. is_given (status_at st a) && x) two
-      where
-        left : (x y : Bool) → x ≡ true → (x || y) ≡ true
-        left x y e = rw e refl
-
-        right : (x y : Bool) → y ≡ true → (x || y) ≡ true
-        right true y e = refl
-        right false y e = e
 
     step : IsSetAt k s q (status_at st q) (status_at new q)
         → (is_idle (status_at new q) && are_given new (kids q)) ≡ (is_idle (status_at st q) && are_given st (kids q))
@@ -212,7 +199,7 @@ pub kept_fusion : (kids : Kids) (n count : ℕ) → IsForest kids → (h : List 
     → IsBoard kids n count h st ready ready_room next unsolved starved room
     → (e : Entry) (k : ℕ) → Taking kids n st e k → is_some (kids k) ≡ true
     → (left : List ℕ) → length left ≤ length ready
-    → ((q : ℕ) → count_by (λ j. j == q) ready ≡ one_if (k == q) + count_by (λ j. j == q) left)
+    → ((q : ℕ) → count_by (λ j. j == q) ready ≡ as_count (k == q) + count_by (λ j. j == q) left)
     → IsBoard kids n count (h ++ e ∷ []) (after kids st Took e.worker k) left ready_room next unsolved starved room
 kept_fusion kids n count forest h st ready ready_room next unsolved starved room b e k t fusion left shorter popped = record {
   stands = replay_taking kids n count h st e k b.stands t;
@@ -235,26 +222,22 @@ kept_fusion kids n count forest h st ready ready_room next unsolved starved room
     new : List Status
     new = after kids st Took e.worker k
 
-    tally : (q : ℕ) (x : Bool) → (k == q) ≡ x → count_by (λ j. j == q) left ≡ one_if (is_ready kids new q)
+    tally : (q : ℕ) (x : Bool) → (k == q) ≡ x → count_by (λ j. j == q) left ≡ as_count (is_ready kids new q)
     tally q true at =
-        let mine : count_by (λ j. j == q) ready ≡ one_if (is_ready kids st q) = b.each q in
-        let one : one_if (k == q) ≡ 1 = ap one_if at in
-        let few : one_if (is_ready kids st q) ≤ 1 = at_most (is_ready kids st q) in
-        let gone : one_if (is_ready kids new q) ≡ 0 =
-        ap one_if (and_right (is_some (kids q)) (can_take kids new q)
+        let mine : count_by (λ j. j == q) ready ≡ as_count (is_ready kids st q) = b.each q in
+        let one : as_count (k == q) ≡ 1 = ap as_count at in
+        let few : as_count (is_ready kids st q) ≤ 1 = as_count-le (is_ready kids st q) in
+        let gone : as_count (is_ready kids new q) ≡ 0 =
+        ap as_count (and_right (is_some (kids q)) (can_take kids new q)
         (ap (can_take kids new) (sym (eqb-true k q at)) ∙ can_take_self kids st e.worker k t.may)) in
-        let step : count_by (λ j. j == q) ready ≡ one_if (k == q) + count_by (λ j. j == q) left = popped q in
+        let step : count_by (λ j. j == q) ready ≡ as_count (k == q) + count_by (λ j. j == q) left = popped q in
         omega (arith, mine, one, few, gone, step)
-      where
-        at_most : (x : Bool) → one_if x ≤ 1
-        at_most true = omega arith
-        at_most false = omega arith
     tally q false at =
-        let mine : count_by (λ j. j == q) ready ≡ one_if (is_ready kids st q) = b.each q in
-        let none : one_if (k == q) ≡ 0 = ap one_if at in
-        let kept : one_if (is_ready kids new q) ≡ one_if (is_ready kids st q) =
-        ap (λ x. one_if (is_some (kids q) && x)) (can_take_else kids forest st e.worker k t.may q at) in
-        let step : count_by (λ j. j == q) ready ≡ one_if (k == q) + count_by (λ j. j == q) left = popped q in
+        let mine : count_by (λ j. j == q) ready ≡ as_count (is_ready kids st q) = b.each q in
+        let none : as_count (k == q) ≡ 0 = ap as_count at in
+        let kept : as_count (is_ready kids new q) ≡ as_count (is_ready kids st q) =
+        ap (λ x. as_count (is_some (kids q) && x)) (can_take_else kids forest st e.worker k t.may q at) in
+        let step : count_by (λ j. j == q) ready ≡ as_count (k == q) + count_by (λ j. j == q) left = popped q in
         omega (arith, mine, none, kept, step)
 
     before : (q : ℕ) (x : Bool) → (k == q) ≡ x → is_idle (status_at st q) ≡ false → is_idle (status_at new q) ≡ false
@@ -282,7 +265,7 @@ kept_unit kids n count forest h st ready ready_room next unsolved starved room b
       sum_taken unsolved_of refl kids forest st e.worker next t.may in
       let was : unsolved ≡ sum_by unsolved_of st = b.rest in
       omega (arith, more, was);
-  each = λ q. b.each q ∙ ap one_if (sym (as_before q (next == q) refl));
+  each = λ q. b.each q ∙ ap as_count (sym (as_before q (next == q) refl));
   heap_room = b.heap_room;
   before = λ q is less. before q is less (next == q) refl (cases_lt q next);
   unit = is_unit;

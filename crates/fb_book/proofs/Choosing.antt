@@ -17,7 +17,7 @@ use Rattle.fb_book.proofs.Statuses.{within, idle_is, MayTake}
 use Rattle.fb_book.proofs.Courses.{IsReached, reached}
 use Rattle.fb_book.proofs.History.{progress, two_each}
 use Rattle.fb_book.proofs.Places.{forest_of_places}
-use Rattle.fb_graph.proofs.Sets.{one_if}
+use Rattle.fb_graph.specs.Counts.{as_count}
 
 -- the statuses that a history leads to
 pub statuses_are : (c : Course) (st : List Status) → replay_of c ≡ Some st → statuses_of c ≡ st
@@ -41,10 +41,10 @@ slot_and_node c k some less = record {
 
 -- the places that can be taken: how often a place stands among them
 pub counted : (ready left : List ℕ) (k q : ℕ) → IsPermutation ready (k ∷ left)
-    → count_by (λ j. j == q) ready ≡ one_if (k == q) + count_by (λ j. j == q) left
+    → count_by (λ j. j == q) ready ≡ as_count (k == q) + count_by (λ j. j == q) left
 counted ready left k q h =
-    let e : sum_by (λ j. one_if (j == q)) left + one_if (k == q) ≡ sum_by (λ j. one_if (j == q)) ready =
-    sum_by_popped (λ j. one_if (j == q)) k ready left h in
+    let e : sum_by (λ j. as_count (j == q)) left + as_count (k == q) ≡ sum_by (λ j. as_count (j == q)) ready =
+    sum_by_popped (λ j. as_count (j == q)) k ready left h in
     omega (arith, e)
 
 pub length_by_ones : (xs : List ℕ) → sum_by (λ x. 1) xs ≡ length xs
@@ -68,12 +68,12 @@ least_of (x ∷ xs) k q all some = step (x == q) refl (least_of xs k q (All-tail
     step : (b : Bool) → (x == q) ≡ b → (0 < count_by (λ j. j == q) xs → k ≤ q) → k ≤ q
     step true e go = subst (λ y. k ≤ y) (eqb-true x q e) (All-head (λ j. k ≤ j) x xs all)
     step false e go =
-        let cons : count_by (λ j. j == q) (x ∷ xs) ≡ one_if (x == q) + count_by (λ j. j == q) xs =
-        sum_by-cons (λ j. one_if (j == q)) x xs in
-        let none : one_if (x == q) ≡ 0 = ap one_if e in
+        let cons : count_by (λ j. j == q) (x ∷ xs) ≡ as_count (x == q) + count_by (λ j. j == q) xs =
+        sum_by-cons (λ j. as_count (j == q)) x xs in
+        let none : as_count (x == q) ≡ 0 = ap as_count e in
         go (omega (arith, cons, none, some))
 
-pub true_from_one : (b : Bool) → 0 < one_if b → b ≡ true
+pub true_from_one : (b : Bool) → 0 < as_count b → b ≡ true
 true_from_one true h = refl
 true_from_one false h = absurd (omega (arith, h))
 
@@ -111,13 +111,13 @@ module _ {c : Course} {nodes : ℕ} {parents : List (Option ℕ)} {st : List Sta
 
   pub ready_is : (k : ℕ) → 0 < count_by (λ j. j == k) ready → is_ready (kids_of c) st k ≡ true
   ready_is k some =
-      let e : count_by (λ j. j == k) ready ≡ one_if (is_ready (kids_of c) st k) = i.board.each k in
+      let e : count_by (λ j. j == k) ready ≡ as_count (is_ready (kids_of c) st k) = i.board.each k in
       true_from_one (is_ready (kids_of c) st k) (omega (arith, e, some))
 
   pub popped_ready : (k : ℕ) (left : List ℕ) → IsPermutation ready (k ∷ left) → is_ready (kids_of c) st k ≡ true
   popped_ready k left h =
-      let e : count_by (λ j. j == k) ready ≡ one_if (k == k) + count_by (λ j. j == k) left = counted ready left k k h in
-      let one : one_if (k == k) ≡ 1 = ap one_if (eq-eqb k k refl) in
+      let e : count_by (λ j. j == k) ready ≡ as_count (k == k) + count_by (λ j. j == k) left = counted ready left k k h in
+      let one : as_count (k == k) ≡ 1 = ap as_count (eq-eqb k k refl) in
       ready_is k (omega (arith, e, one))
 
   pub popped_may : (k : ℕ) (left : List ℕ) → IsPermutation ready (k ∷ left) → starved ≡ false
@@ -135,9 +135,9 @@ module _ {c : Course} {nodes : ℕ} {parents : List (Option ℕ)} {st : List Sta
       step : (b : Bool) → is_ready (kids_of c) st q ≡ b → b ≡ false
       step false e = refl
       step true e =
-          let each : count_by (λ j. j == q) ready ≡ one_if (is_ready (kids_of c) st q) = i.board.each q in
+          let each : count_by (λ j. j == q) ready ≡ as_count (is_ready (kids_of c) st q) = i.board.each q in
           let none : count_by (λ j. j == q) ready ≡ 0 = ap (count_by (λ j. j == q)) empty in
-          let one : one_if (is_ready (kids_of c) st q) ≡ 1 = ap one_if e in
+          let one : as_count (is_ready (kids_of c) st q) ≡ 1 = ap as_count e in
           absurd (omega (arith, each, none, one))
 
   -- Where no fusion can be taken, what can be taken is a unit that none was taken behind.

@@ -1,10 +1,11 @@
 -- What every allowed history keeps, by one induction over its entries.
-use Rattle.std.proofs.Common.{ℕ, ◌≡◌, ◌+◌, ◌*◌, ◌<◌, ◌==◌, ◌||◌, Bool, true, false, Option, Some, None, List, [], ◌∷◌, ◌++◌, length, set, replicate, map, filter, sum_by, cond, if◌then◌else◌, refl, sym, ap, subst, ◌∙◌, arith}
-use Rattle.std.proofs.lemmas.Bool.{eq-eqb, false≢true, true≢false, and_parts}
+use Rattle.std.proofs.Common.{ℕ, ◌≡◌, ◌+◌, ◌*◌, ◌<◌, ◌==◌, Bool, true, false, Option, Some, None, List, [], ◌∷◌, ◌++◌, length, set, replicate, map, filter, sum_by, cond, if◌then◌else◌, refl, sym, ap, subst, ◌∙◌, arith}
+use Rattle.std.proofs.lemmas.Bool.{eq-eqb, false≢true, true≢false, and_parts, or_right, or_left}
 use Rattle.std.proofs.lemmas.List.{get_or-replicate, length-replicate, length-append, length-set, append_assoc, append-nil, map-append}
 use Rattle.std.proofs.lemmas.List.Elements.{filter-append}
 use Rattle.std.proofs.lemmas.List.Folds.{sum_by-replicate}
 use Rattle.std.proofs.lemmas.List.Sums.{sum_by-set, sum_by_push}
+use Rattle.std.proofs.lemmas.Option.{same_Some}
 use Rattle.std.specs.Prelude.{nat_lt}
 use Rattle.fb_book.specs.declared.entries.Kind.{Kind}
 use Rattle.fb_book.specs.declared.entries.Kind.TheVariants.{Took, Gave, Left}
@@ -64,8 +65,8 @@ pub sum_used : (f : Status → ℕ) → f Given ≡ f Used → (children : Optio
     → sum_by f (with_used children st) ≡ sum_by f st
 sum_used f level None st given differ = refl
 sum_used f level (Some (a, b)) st given differ =
-    let a_is : status_at st a ≡ Given = child_given (Some (a, b)) st a given (left (a == a) (b == a) (eq-eqb a a refl)) in
-    let b_is : status_at st b ≡ Given = child_given (Some (a, b)) st b given (right (a == b) (b == b) (eq-eqb b b refl)) in
+    let a_is : status_at st a ≡ Given = child_given (Some (a, b)) st a given (or_left (a == a) (b == a) (eq-eqb a a refl)) in
+    let b_is : status_at st b ≡ Given = child_given (Some (a, b)) st b given (or_right (a == b) (b == b) (eq-eqb b b refl)) in
     let a_less : a < length st = within st a (ap is_used a_is) in
     let b_less : b < length st = within st b (ap is_used b_is) in
     let one : sum_by f (set st a Used) + f (status_at st a) ≡ sum_by f st + f Used = sum_by-set f st a Used Used a_less in
@@ -76,13 +77,6 @@ sum_used f level (Some (a, b)) st given differ =
     let f_b : f (status_at (set st a Used) b) ≡ f Used = ap f kept ∙ level in
     omega (arith, one, two, f_a, f_b)
   where
-    left : (x y : Bool) → x ≡ true → (x || y) ≡ true
-    left x y e = rw e refl
-
-    right : (x y : Bool) → y ≡ true → (x || y) ≡ true
-    right true y e = refl
-    right false y e = e
-
     stays : IsSetAt a Used b (status_at st b) (status_at (set st a Used) b) → status_at st b ≡ Given
         → status_at (set st a Used) b ≡ Given
     stays (here e f) g = absurd (true≢false (sym (eq-eqb a b e) ∙ differ (a, b) refl))
@@ -314,10 +308,7 @@ reached_step kids n count forest st h e r allowed =
 pub reached_on : (kids : Kids) (n count : ℕ) → IsForest kids → (es : List Entry) (st end : List Status) (h : List Entry)
     → IsReached kids n count st h → replay kids n st es ≡ Some end → IsReached kids n count end (h ++ es)
 reached_on kids n count forest [] st end h r e =
-    subst (λ s. IsReached kids n count s (h ++ [])) (some_is e) (subst (λ x. IsReached kids n count st x) (sym (append-nil h)) r)
-  where
-    some_is : {X : Type 0} {x y : X} → Some x ≡ Some y → x ≡ y
-    some_is e = cc
+    subst (λ s. IsReached kids n count s (h ++ [])) (same_Some _ _ e) (subst (λ x. IsReached kids n count st x) (sym (append-nil h)) r)
 reached_on kids n count forest (x ∷ es) st end h r e =
     step (allows kids n st x) refl e
     (λ r' e'. reached_on kids n count forest es (after kids st x.kind x.worker (place n x)) end (h ++ x ∷ []) r' e')

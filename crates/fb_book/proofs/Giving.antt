@@ -1,6 +1,6 @@
 -- What a run keeps stays so when a worker gives or leaves an item that it holds.
-use Rattle.std.proofs.Common.{ℕ, ◌≡◌, ◌+◌, ◌*◌, ◌/◌, ◌%◌, ◌<◌, ◌≤◌, ◌==◌, ◌&&◌, ◌||◌, Bool, true, false, is_some, option_map, IfSome, Option, Some, None, List, [], ◌∷◌, ◌++◌, length, get_or, set, sum_by, count_by, if◌then◌else◌, refl, sym, ap, subst, ◌∙◌, arith}
-use Rattle.std.proofs.lemmas.Bool.{eqb-true, eq-eqb, false≢true, true≢false, and_from, and_left, and_right}
+use Rattle.std.proofs.Common.{ℕ, ◌≡◌, ◌+◌, ◌*◌, ◌/◌, ◌%◌, ◌<◌, ◌≤◌, ◌==◌, ◌&&◌, Bool, true, false, is_some, option_map, IfSome, Option, Some, None, List, [], ◌∷◌, ◌++◌, length, get_or, set, sum_by, count_by, if◌then◌else◌, refl, sym, ap, subst, ◌∙◌, arith}
+use Rattle.std.proofs.lemmas.Bool.{eqb-true, eq-eqb, false≢true, true≢false, and_from, and_left, and_right, or_right, or_left}
 use Rattle.std.proofs.lemmas.Nat.{div_below, mul-add-lt}
 use Rattle.std.proofs.lemmas.List.{length-append}
 use Rattle.std.proofs.lemmas.List.Sorted.{sum_by-IsPermutation}
@@ -18,7 +18,7 @@ use Rattle.fb_book.proofs.Statuses.{held_is}
 use Rattle.fb_book.proofs.Letting.{Letting, replay_gave, replay_left, kept_gave, kept_left, unsolved_held}
 use Rattle.fb_book.proofs.Choosing.{statuses_are, is_run, places_forest, status_count, history_room, length_by_ones}
 use Rattle.fb_book.proofs.Places.{parent_is, no_parent}
-use Rattle.fb_graph.proofs.Sets.{one_if}
+use Rattle.fb_graph.specs.Counts.{as_count}
 
 -- a fusion's parent, in the same slot
 pub some_child : (children : Option (ℕ × ℕ)) (k : ℕ) → is_child children k ≡ true → is_some children ≡ true
@@ -27,7 +27,7 @@ some_child (Some pair) k h = refl
 
 pub count_of_permutation : (xs ys : List ℕ) (q : ℕ) → IsPermutation xs ys
     → count_by (λ j. j == q) ys ≡ count_by (λ j. j == q) xs
-count_of_permutation xs ys q h = sum_by-IsPermutation (λ j. one_if (j == q)) xs ys h
+count_of_permutation xs ys q h = sum_by-IsPermutation (λ j. as_count (j == q)) xs ys h
 
 pub length_of_permutation : (xs ys : List ℕ) → IsPermutation xs ys → length ys ≡ length xs
 length_of_permutation xs ys h =
@@ -141,16 +141,9 @@ module _ {c : Course} {nodes : ℕ} {parents : List (Option ℕ)} {st : List Sta
       kids_below p less None e = tt
       kids_below p less (Some (a, b)) e =
           let f = places_forest i in
-          let left : a < p = f.before p a (ap (λ o. is_child o a) e ∙ here (a == a) (b == a) (eq-eqb a a refl)) in
-          let right : b < p = f.before p b (ap (λ o. is_child o b) e ∙ there (a == b) (b == b) (eq-eqb b b refl)) in
+          let left : a < p = f.before p a (ap (λ o. is_child o a) e ∙ or_left (a == a) (b == a) (eq-eqb a a refl)) in
+          let right : b < p = f.before p b (ap (λ o. is_child o b) e ∙ or_right (a == b) (b == b) (eq-eqb b b refl)) in
           (omega (arith, left, less), omega (arith, right, less))
-        where
-          here : (x y : Bool) → x ≡ true → (x || y) ≡ true
-          here x y e = rw e refl
-
-          there : (x y : Bool) → y ≡ true → (x || y) ≡ true
-          there true y e = refl
-          there false y e = e
 
       step : (o : Option ℕ) → Parent o → IfSome o (λ p. AreWithin (kids_of c p) (length st))
       step None q = tt
@@ -159,9 +152,9 @@ module _ {c : Course} {nodes : ℕ} {parents : List (Option ℕ)} {st : List Sta
   -- The parent goes to the places that can be taken where it can be.
   pub pushed : (new : List Status) (o : Option ℕ) → Parent o → (q : ℕ)
       → count_by (λ j. j == q) (option_to_list (ready_parent (kids_of c) new o))
-      ≡ one_if (is_child (kids_of c q) at_place && is_ready (kids_of c) new q)
+      ≡ as_count (is_child (kids_of c q) at_place && is_ready (kids_of c) new q)
   pushed new None (nobody none) q =
-      sym (ap one_if (and_left (is_child (kids_of c q) at_place) (is_ready (kids_of c) new q) (none q)))
+      sym (ap as_count (and_left (is_child (kids_of c q) at_place) (is_ready (kids_of c) new q) (none q)))
   pushed new (Some p) (fusion _ child less) q = step (can_take (kids_of c) new p) refl (p == q) refl
     where
       other : (p == q) ≡ false → is_child (kids_of c q) at_place ≡ false
@@ -173,31 +166,31 @@ module _ {c : Course} {nodes : ℕ} {parents : List (Option ℕ)} {st : List Sta
 
       step : (b : Bool) → can_take (kids_of c) new p ≡ b → (t : Bool) → (p == q) ≡ t
           → count_by (λ j. j == q) (option_to_list (if b then Some p else None))
-          ≡ one_if (is_child (kids_of c q) at_place && is_ready (kids_of c) new q)
+          ≡ as_count (is_child (kids_of c q) at_place && is_ready (kids_of c) new q)
       step true can true e =
-          let cons : count_by (λ j. j == q) (p ∷ []) ≡ one_if (p == q) + 0 = sum_by-cons (λ j. one_if (j == q)) p [] in
-          let one : one_if (p == q) ≡ 1 = ap one_if e in
+          let cons : count_by (λ j. j == q) (p ∷ []) ≡ as_count (p == q) + 0 = sum_by-cons (λ j. as_count (j == q)) p [] in
+          let one : as_count (p == q) ≡ 1 = ap as_count e in
           let same : p ≡ q = eqb-true p q e in
-          let all : one_if (is_child (kids_of c q) at_place && is_ready (kids_of c) new q) ≡ 1 =
-          ap one_if (and_from (is_child (kids_of c q) at_place) (is_ready (kids_of c) new q)
+          let all : as_count (is_child (kids_of c q) at_place && is_ready (kids_of c) new q) ≡ 1 =
+          ap as_count (and_from (is_child (kids_of c q) at_place) (is_ready (kids_of c) new q)
           (subst (λ x. is_child (kids_of c x) at_place ≡ true) same child)
           (subst (λ x. is_ready (kids_of c) new x ≡ true) same
           (and_from (is_some (kids_of c p)) (can_take (kids_of c) new p) (some_child (kids_of c p) at_place child) can))) in
           omega (arith, cons, one, all)
       step true can false e =
-          let cons : count_by (λ j. j == q) (p ∷ []) ≡ one_if (p == q) + 0 = sum_by-cons (λ j. one_if (j == q)) p [] in
-          let one : one_if (p == q) ≡ 0 = ap one_if e in
-          let all : one_if (is_child (kids_of c q) at_place && is_ready (kids_of c) new q) ≡ 0 =
-          ap one_if (and_left (is_child (kids_of c q) at_place) (is_ready (kids_of c) new q) (other e)) in
+          let cons : count_by (λ j. j == q) (p ∷ []) ≡ as_count (p == q) + 0 = sum_by-cons (λ j. as_count (j == q)) p [] in
+          let one : as_count (p == q) ≡ 0 = ap as_count e in
+          let all : as_count (is_child (kids_of c q) at_place && is_ready (kids_of c) new q) ≡ 0 =
+          ap as_count (and_left (is_child (kids_of c q) at_place) (is_ready (kids_of c) new q) (other e)) in
           omega (arith, cons, one, all)
       step false can true e =
-          sym (ap one_if (and_right (is_child (kids_of c q) at_place) (is_ready (kids_of c) new q)
+          sym (ap as_count (and_right (is_child (kids_of c q) at_place) (is_ready (kids_of c) new q)
           (and_right (is_some (kids_of c q)) (can_take (kids_of c) new q) (ap (can_take (kids_of c) new) (sym (eqb-true p q e)) ∙ can))))
       step false can false e =
-          sym (ap one_if (and_left (is_child (kids_of c q) at_place) (is_ready (kids_of c) new q) (other e)))
+          sym (ap as_count (and_left (is_child (kids_of c q) at_place) (is_ready (kids_of c) new q) (other e)))
 
   count_append : (xs ys : List ℕ) (q : ℕ) → count_by (λ j. j == q) (xs ++ ys) ≡ count_by (λ j. j == q) xs + count_by (λ j. j == q) ys
-  count_append xs ys q = sum_by-append (λ j. one_if (j == q)) xs ys
+  count_append xs ys q = sum_by-append (λ j. as_count (j == q)) xs ys
 
   few_parents : (new : List Status) (o : Option ℕ) → length (option_to_list (ready_parent (kids_of c) new o)) ≤ 1
   few_parents new None = omega arith
@@ -246,12 +239,12 @@ module _ {c : Course} {nodes : ℕ} {parents : List (Option ℕ)} {st : List Sta
           omega (arith, a, b, d)
 
       tally : (q : ℕ) → count_by (λ j. j == q) more
-          ≡ count_by (λ j. j == q) ready + one_if (is_child (kids_of c q) at_place && is_ready (kids_of c) new q)
+          ≡ count_by (λ j. j == q) ready + as_count (is_child (kids_of c q) at_place && is_ready (kids_of c) new q)
       tally q =
           let a : count_by (λ j. j == q) more ≡ count_by (λ j. j == q) (added ++ ready) = count_of_permutation (added ++ ready) more q moved in
           let b : count_by (λ j. j == q) (added ++ ready) ≡ count_by (λ j. j == q) added + count_by (λ j. j == q) ready =
           count_append added ready q in
-          let d : count_by (λ j. j == q) added ≡ one_if (is_child (kids_of c q) at_place && is_ready (kids_of c) new q) =
+          let d : count_by (λ j. j == q) added ≡ as_count (is_child (kids_of c q) at_place && is_ready (kids_of c) new q) =
           pushed new parent parent_known q in
           omega (arith, a, b, d)
 

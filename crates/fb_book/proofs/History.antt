@@ -1,6 +1,6 @@
 -- What follows of allowed and of complete histories.
-use Rattle.std.proofs.Common.{ℕ, ◌≡◌, ◌+◌, ◌*◌, ◌<◌, ◌≤◌, ◌==◌, ◌||◌, Bool, true, false, Option, Some, None, List, [], ◌∷◌, ◌++◌, length, sum_by, cond, if◌then◌else◌, ◌⊎◌, inl, inr, refl, sym, ap, subst, ◌∙◌, arith, zero, suc}
-use Rattle.std.proofs.lemmas.Bool.{eq-eqb, false≢true, true≢false, cases_lt, and_parts, or_parts, or_from, and_from}
+use Rattle.std.proofs.Common.{ℕ, ◌≡◌, ◌+◌, ◌*◌, ◌<◌, ◌≤◌, ◌==◌, Bool, true, false, Option, Some, None, List, [], ◌∷◌, ◌++◌, length, sum_by, cond, if◌then◌else◌, ◌⊎◌, inl, inr, refl, sym, ap, subst, ◌∙◌, arith, zero, suc}
+use Rattle.std.proofs.lemmas.Bool.{eq-eqb, false≢true, true≢false, cases_lt, and_parts, or_parts, or_from, and_from, or_right, or_left}
 use Rattle.std.proofs.lemmas.List.Sums.{sum_by-cons}
 use Rattle.std.specs.Prelude.{nat_lt}
 use Rattle.std.proofs.lemmas.List.Elements.{All-nil, All-cons}
@@ -77,15 +77,8 @@ scanned kids n count st h forest r unheld unleft (suc k) le =
         → (children : Option (ℕ × ℕ)) → kids k ≡ children → are_given st children ≡ true
     given before idle None e = refl
     given before idle (Some (a, b)) e =
-        and_from (is_given (status_at st a)) (is_given (status_at st b)) (one a (left (a == a) (b == a) (eq-eqb a a refl))) (one b (right (a == b) (b == b) (eq-eqb b b refl)))
+        and_from (is_given (status_at st a)) (is_given (status_at st b)) (one a (or_left (a == a) (b == a) (eq-eqb a a refl))) (one b (or_right (a == b) (b == b) (eq-eqb b b refl)))
       where
-        left : (x y : Bool) → x ≡ true → (x || y) ≡ true
-        left x y e = rw e refl
-
-        right : (x y : Bool) → y ≡ true → (x || y) ≡ true
-        right true y e = refl
-        right false y e = e
-
         one : (c : ℕ) → is_child (Some (a, b)) c ≡ true → is_given (status_at st c) ≡ true
         one c child =
             let mine : is_child (kids k) c ≡ true = ap (λ o. is_child o c) e ∙ child in

@@ -15,7 +15,7 @@ use Rattle.fb_book.specs.Machine.{Kids, is_child, status_at, is_idle, is_held_by
 use Rattle.fb_book.specs.Board.{IsBoard, is_ready, unsolved_of}
 use Rattle.fb_book.proofs.Statuses.{within, child_given, IsSetAt, here, there, set_at}
 use Rattle.fb_book.proofs.Boards.{replay_more, can_take_let, idle_let}
-use Rattle.fb_graph.proofs.Sets.{one_if}
+use Rattle.fb_graph.specs.Counts.{as_count}
 
 -- a test that tells the new status from the old one as little finds the same
 pub any_set : (p : Status → Bool) (st : List Status) (k : ℕ) (s : Status) → k < length st
@@ -86,7 +86,7 @@ pub kept_gave : (kids : Kids) (n count : ℕ) (h : List Entry) (st : List Status
     → (e : Entry) (k : ℕ) → Letting n st e Gave k
     → (more : List ℕ) → length more ≤ length ready + 1
     → ((q : ℕ) → count_by (λ j. j == q) more
-    ≡ count_by (λ j. j == q) ready + one_if (is_child (kids q) k && is_ready kids (set st k Given) q))
+    ≡ count_by (λ j. j == q) ready + as_count (is_child (kids q) k && is_ready kids (set st k Given) q))
     → (rest : ℕ) → rest + 1 ≡ unsolved
     → IsBoard kids n count (h ++ e ∷ []) (set st k Given) more ready_room next rest starved room
 kept_gave kids n count h st ready ready_room next unsolved starved room b e k l more longer pushed rest less = record {
@@ -114,20 +114,20 @@ kept_gave kids n count h st ready ready_room next unsolved starved room b e k l 
     inside : k < length st
     inside = within st k (ap is_used l.held)
 
-    tally : (q : ℕ) (x : Bool) → is_child (kids q) k ≡ x → count_by (λ j. j == q) more ≡ one_if (is_ready kids new q)
+    tally : (q : ℕ) (x : Bool) → is_child (kids q) k ≡ x → count_by (λ j. j == q) more ≡ as_count (is_ready kids new q)
     tally q true child =
-        let step : count_by (λ j. j == q) more ≡ count_by (λ j. j == q) ready + one_if (is_child (kids q) k && is_ready kids new q) = pushed q in
-        let was : count_by (λ j. j == q) ready ≡ one_if (is_ready kids st q) = b.each q in
-        let none : one_if (is_ready kids st q) ≡ 0 = ap one_if (unready_parent kids st e.worker k q l.held child) in
-        let here : one_if (is_child (kids q) k && is_ready kids new q) ≡ one_if (is_ready kids new q) =
-        ap (λ x. one_if (x && is_ready kids new q)) child in
+        let step : count_by (λ j. j == q) more ≡ count_by (λ j. j == q) ready + as_count (is_child (kids q) k && is_ready kids new q) = pushed q in
+        let was : count_by (λ j. j == q) ready ≡ as_count (is_ready kids st q) = b.each q in
+        let none : as_count (is_ready kids st q) ≡ 0 = ap as_count (unready_parent kids st e.worker k q l.held child) in
+        let here : as_count (is_child (kids q) k && is_ready kids new q) ≡ as_count (is_ready kids new q) =
+        ap (λ x. as_count (x && is_ready kids new q)) child in
         omega (arith, step, was, none, here)
     tally q false child =
-        let step : count_by (λ j. j == q) more ≡ count_by (λ j. j == q) ready + one_if (is_child (kids q) k && is_ready kids new q) = pushed q in
-        let was : count_by (λ j. j == q) ready ≡ one_if (is_ready kids st q) = b.each q in
-        let none : one_if (is_child (kids q) k && is_ready kids new q) ≡ 0 = ap (λ x. one_if (x && is_ready kids new q)) child in
-        let kept : one_if (is_ready kids new q) ≡ one_if (is_ready kids st q) =
-        ap (λ x. one_if (is_some (kids q) && x)) (can_take_let kids st e.worker k Given l.held refl q (inr child)) in
+        let step : count_by (λ j. j == q) more ≡ count_by (λ j. j == q) ready + as_count (is_child (kids q) k && is_ready kids new q) = pushed q in
+        let was : count_by (λ j. j == q) ready ≡ as_count (is_ready kids st q) = b.each q in
+        let none : as_count (is_child (kids q) k && is_ready kids new q) ≡ 0 = ap (λ x. as_count (x && is_ready kids new q)) child in
+        let kept : as_count (is_ready kids new q) ≡ as_count (is_ready kids st q) =
+        ap (λ x. as_count (is_some (kids q) && x)) (can_take_let kids st e.worker k Given l.held refl q (inr child)) in
         omega (arith, step, was, none, kept)
 
 pub kept_left : (kids : Kids) (n count : ℕ) (h : List Entry) (st : List Status) (ready : List ℕ)
@@ -144,7 +144,7 @@ kept_left kids n count h st ready ready_room next unsolved starved room b e k l 
       let one : unsolved_of (status_at st k) ≡ 1 = ap unsolved_of l.held in
       let was : unsolved ≡ sum_by unsolved_of st = b.rest in
       omega (arith, step, one, was);
-  each = λ q. b.each q ∙ ap (λ x. one_if (is_some (kids q) && x)) (sym (can_take_let kids st e.worker k Lost l.held refl q (inl refl)));
+  each = λ q. b.each q ∙ ap (λ x. as_count (is_some (kids q) && x)) (sym (can_take_let kids st e.worker k Lost l.held refl q (inl refl)));
   heap_room = b.heap_room;
   before = λ q is below. idle_let st e.worker k Lost l.held refl q ∙ b.before q is below;
   unit = b.unit;

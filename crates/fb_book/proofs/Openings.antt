@@ -11,7 +11,7 @@ use Rattle.fb_book.specs.Machine.{Kids, IsForest, status_at, is_idle, is_given, 
 use Rattle.fb_book.specs.Board.{children_in, kids_in, AreParents, IsBoard, IsItems, is_ready, unsolved_of}
 use Rattle.fb_book.proofs.History.{none_from}
 use Rattle.fb_book.proofs.Places.{unit_place}
-use Rattle.fb_graph.proofs.Sets.{one_if}
+use Rattle.fb_graph.specs.Counts.{as_count}
 
 pub idle_at : (count k : ℕ) → k < count → status_at (all_idle count) k ≡ Idle
 idle_at count k less = get_or-replicate count k Idle Used less
@@ -46,7 +46,7 @@ board_start units joins slots room count some count_is enough = subst
       stands = refl;
       loss = sym (none_from is_left (all_idle count) (λ k less. ap is_left (idle_at count k (subst (λ x. k < x) (length-replicate count Idle) less))));
       rest = let e : sum_by unsolved_of (replicate count Idle) ≡ count * 1 = sum_by-replicate unsolved_of count Idle in omega (arith, e);
-      each = λ k. sym (ap one_if (unready_at (kids_in units joins) count k));
+      each = λ k. sym (ap as_count (unready_at (kids_in units joins) count k));
       heap_room = omega arith;
       before = λ k unit less. absurd (omega (arith, less));
       unit = λ less. unit_place units joins 0 (first units (units + length joins) some);

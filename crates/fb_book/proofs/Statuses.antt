@@ -1,6 +1,6 @@
 -- What an entry does to the statuses.
-use Rattle.std.proofs.Common.{ℕ, ◌≡◌, ◌<◌, ◌≤◌, ◌==◌, ◌||◌, Bool, true, false, not, Option, Some, None, List, length, set, ◌⊎◌, inl, inr, refl, sym, ap, ◌∙◌, arith}
-use Rattle.std.proofs.lemmas.Bool.{eqb-true, eqb-false, eq-eqb, false≢true, cases_lt, and_parts, or_left, or_right, not-true}
+use Rattle.std.proofs.Common.{ℕ, ◌≡◌, ◌<◌, ◌≤◌, ◌==◌, Bool, true, false, not, Option, Some, None, List, length, set, ◌⊎◌, inl, inr, refl, sym, ap, ◌∙◌, arith}
+use Rattle.std.proofs.lemmas.Bool.{eqb-true, eqb-false, eq-eqb, false≢true, cases_lt, and_parts, or_left, or_right, not-true, or_from}
 use Rattle.std.proofs.lemmas.List.{get_or-set_same, get_or-set_other, get_or_past, length-set}
 use Rattle.std.specs.List.{list_any}
 use Rattle.fb_book.specs.declared.entries.Kind.TheVariants.{Took}
@@ -65,10 +65,7 @@ used_at (Some (a, b)) st j = step (set_used_at (set st a Used) b j) (set_used_at
         → IsUsedAt (Some (a, b)) j (status_at st j) last
     step (here e f) other = used (or_right (a == j) (b == j) (eq-eqb b j e)) f
     step (there e f) (here g h) = used (or_left (a == j) (b == j) (eq-eqb a j g)) (f ∙ h)
-    step (there e f) (there g h) = same (both (a == j) (b == j) g e) (f ∙ h)
-      where
-        both : (x y : Bool) → x ≡ false → y ≡ false → (x || y) ≡ false
-        both x y p q = rw p q
+    step (there e f) (there g h) = same (or_from (a == j) (b == j) g e) (f ∙ h)
 
 pub length-with_used : (children : Option (ℕ × ℕ)) (st : List Status) → length (with_used children st) ≡ length st
 length-with_used None st = refl
@@ -126,10 +123,7 @@ child_given (Some (a, b)) st c given child = step (a == c) refl (b == c) refl
     step : (x : Bool) → (a == c) ≡ x → (y : Bool) → (b == c) ≡ y → status_at st c ≡ Given
     step true e y f = ap (status_at st) (sym (eqb-true a c e)) ∙ given_is (status_at st a) parts.0
     step false e true f = ap (status_at st) (sym (eqb-true b c f)) ∙ given_is (status_at st b) parts.1
-    step false e false f = absurd (false≢true (sym (no (a == c) (b == c) e f) ∙ child))
-      where
-        no : (x y : Bool) → x ≡ false → y ≡ false → (x || y) ≡ false
-        no x y p q = rw p q
+    step false e false f = absurd (false≢true (sym (or_from (a == c) (b == c) e f) ∙ child))
 
 -- the parts of what allows to take an item
 pub record MayTake (kids : Kids) (st : List Status) (k : ℕ) : Type 0 where

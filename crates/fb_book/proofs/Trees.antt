@@ -1,12 +1,13 @@
 -- The nodes of a plan's tree are a forest, and its parents are those of its joins.
-use Rattle.std.proofs.Common.{ℕ, ◌≡◌, ◌+◌, ◌-◌, ◌^◌, ◌<◌, ◌≤◌, ◌==◌, Bool, true, false, Option, Some, None, List, [], ◌∷◌, length, get_or, slice_get, if◌then◌else◌, ◌⊎◌, inl, inr, refl, sym, ap, subst, ◌∙◌, arith, zero, suc}
-use Rattle.std.proofs.lemmas.Bool.{eqb-true, ne_eqb, le-ltb, ltb-false, false≢true, cases_lt, or_cases}
+use Rattle.std.proofs.Common.{ℕ, ◌≡◌, ◌+◌, ◌-◌, ◌^◌, ◌<◌, ◌≤◌, Bool, true, false, Option, Some, None, List, [], ◌∷◌, length, get_or, slice_get, if◌then◌else◌, ◌⊎◌, inl, inr, refl, sym, ap, subst, ◌∙◌, arith, zero, suc}
+use Rattle.std.proofs.lemmas.Bool.{ne_eqb, le-ltb, ltb-false, false≢true, cases_lt}
 use Rattle.std.proofs.lemmas.List.{get_or_past}
 use Rattle.std.proofs.lemmas.Option.{get_or_from_slice_get, slice_get-get_or, slice_get_within}
 use Rattle.std.specs.Prelude.{nat_lt}
 use Rattle.fb_plan.specs.Plans.{PlanTree, IsTree, IsJoin, names, join_at, node_count, parent_from, parent_of}
 use Rattle.fb_book.specs.Machine.{IsForest, is_child}
 use Rattle.fb_book.specs.Board.{children_in, AreParents}
+use Rattle.fb_plan.proofs.Trees.{names_cases}
 
 pub record Joined (units : ℕ) (joins : List (ℕ × ℕ)) (k : ℕ) (pair : ℕ × ℕ) : Type 0 where
   pub above : units ≤ k
@@ -62,7 +63,7 @@ forest_of_tree t tree = record {
   before = λ k c h.
       let m = naming t.units t.joins k c h in
       let j = tree.joins (k - t.units) m.less in
-      below k c m.above j (is_one (join_at t.joins (k - t.units)) c m.names_it);
+      below k c m.above j (names_cases (join_at t.joins (k - t.units)) c m.names_it);
   differ = λ k pair e.
       let j = joined t.units t.joins k pair e in
       let d = (tree.joins (k - t.units) j.less).differ in
@@ -76,12 +77,6 @@ forest_of_tree t tree = record {
       omega (arith, same, a_above, b_above);
 }
   where
-    is_one : (join : ℕ × ℕ) (c : ℕ) → names join c ≡ true → (join.0 ≡ c) ⊎ (join.1 ≡ c)
-    is_one join c h = elim (or_cases (join.0 == c) (join.1 == c) h) [
-      | inl e ↦ inl (eqb-true join.0 c e)
-      | inr e ↦ inr (eqb-true join.1 c e)
-    ]
-
     below : (k c : ℕ) → t.units ≤ k → IsJoin (t.units + (k - t.units)) (join_at t.joins (k - t.units))
         → ((join_at t.joins (k - t.units)).0 ≡ c) ⊎ ((join_at t.joins (k - t.units)).1 ≡ c) → c < k
     below k c above j (inl e) =

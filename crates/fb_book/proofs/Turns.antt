@@ -15,7 +15,7 @@ use Rattle.fb_book.proofs.Statuses.{MayTake}
 use Rattle.fb_book.proofs.Boards.{Taking, replay_taking, kept_fusion, kept_unit}
 use Rattle.fb_book.proofs.Choosing.{statuses_are, is_run, slot_and_node, counted, shorter, least_of, places_forest, status_count, history_room, popped_may, popped_kids, only_units, unit_may}
 use Rattle.fb_book.proofs.Places.{after_unit_later, after_unit_is, after_unit_gap}
-use Rattle.fb_graph.proofs.Sets.{one_if}
+use Rattle.fb_graph.specs.Counts.{as_count}
 
 -- What a turn tells of its item.
 pub fusion_answer : (P : Item → ℕ → ℕ → Type 0) (x : Item) (a b : ℕ) → P x a b
@@ -131,8 +131,8 @@ module _ {c : Course} {nodes : ℕ} {parents : List (Option ℕ)} {st : List Sta
           let same : can_take (kids_of c) st j ≡ true =
           ap (λ s. can_take (kids_of c) s j) (sym (statuses_are c st i.board.stands)) ∙ can in
           let is : is_ready (kids_of c) st j ≡ true = and_from (is_some (kids_of c j)) (can_take (kids_of c) st j) fusion same in
-          let each : count_by (λ x. x == j) ready ≡ one_if (is_ready (kids_of c) st j) = i.board.each j in
-          let one : one_if (is_ready (kids_of c) st j) ≡ 1 = ap one_if is in
+          let each : count_by (λ x. x == j) ready ≡ as_count (is_ready (kids_of c) st j) = i.board.each j in
+          let one : as_count (is_ready (kids_of c) st j) ≡ 1 = ap as_count is in
           least_of ready k j least (omega (arith, each, one))
 
   -- Unit `next` is taken where no fusion can be.

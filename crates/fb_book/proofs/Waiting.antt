@@ -1,14 +1,14 @@
 -- What a book keeps stays so.
-use Rattle.std.proofs.Common.{ℕ, ◌≡◌, ◌+◌, ◌*◌, ◌<◌, ◌≤◌, ◌==◌, ◌||◌, Bool, true, false, is_some, Option, Some, None, List, [], length, get_or, set, All, ◌⊎◌, inl, inr, refl, sym, ap, subst, ◌∙◌, arith}
-use Rattle.std.proofs.lemmas.Bool.{eqb-true, eqb-false, eq-eqb, false≢true, true≢false, cases_lt, and_parts, or_parts, or_left, or_right}
+use Rattle.std.proofs.Common.{ℕ, ◌≡◌, ◌+◌, ◌*◌, ◌<◌, ◌≤◌, ◌==◌, Bool, true, false, is_some, Option, Some, None, List, [], length, get_or, set, All, ◌⊎◌, inl, inr, refl, sym, ap, subst, ◌∙◌, arith}
+use Rattle.std.proofs.lemmas.Bool.{eqb-true, eqb-false, eq-eqb, false≢true, true≢false, cases_lt, and_parts, or_parts, or_left, or_right, or_from}
 use Rattle.std.proofs.lemmas.List.{get_or-set_same, get_or-set_other, get_or_past, length-set}
 use Rattle.std.proofs.lemmas.List.Elements.{All-push}
 use Rattle.std.proofs.lemmas.Nat.{mul-add-lt}
+use Rattle.std.proofs.lemmas.Option.{same_Some}
 use Rattle.std.specs.Prelude.{nat_lt}
 use Rattle.fb_book.specs.declared.entries.Kind.{Kind}
 use Rattle.fb_book.specs.declared.entries.Kind.TheVariants.{Took, Gave, Left}
 use Rattle.fb_book.specs.declared.entries.Entry.{Entry}
-use Rattle.fb_book.specs.declared.entries.Status.{Status}
 use Rattle.fb_book.specs.declared.entries.Status.TheVariants.{Held, Given, Left as Lost}
 use Rattle.fb_book.specs.Machine.{is_child, status_at, is_given, is_used, may, after, all_idle}
 use Rattle.fb_book.specs.Board.{Course, kids_of, nodes_of, item_count, statuses_of, IsRun, place_in, with_entry, Adds, Lets, TakesUnit, TakesFusion}
@@ -38,16 +38,13 @@ added old new kind worker slot node run a =
     close : Midway (kids_of old) (nodes_of old) (all_idle (item_count old)) old.history e [] (statuses_of next)
         → Added old next kind worker (place_in old slot node)
     close m =
-        let same : m.statuses ≡ statuses_of old = some_is m.statuses (statuses_of old) (sym m.stands ∙ run) in
+        let same : m.statuses ≡ statuses_of old = same_Some m.statuses (statuses_of old) (sym m.stands ∙ run) in
         record {
           allowed = subst (λ s. may (kids_of old) s kind worker (place_in old slot node) ≡ true) same
               (and_parts (nat_lt node (nodes_of old)) (may (kids_of old) m.statuses kind worker (place_in old slot node)) m.allowed).1;
           statuses = sym (subst (λ s. after (kids_of old) s kind worker (place_in old slot node) ≡ statuses_of next) same
-              (some_is (after (kids_of old) m.statuses kind worker (place_in old slot node)) (statuses_of next) m.onward));
+              (same_Some (after (kids_of old) m.statuses kind worker (place_in old slot node)) (statuses_of next) m.onward));
         }
-      where
-        some_is : (x y : List Status) → Some x ≡ Some y → x ≡ y
-        some_is x y e = cc
 
 -- the entry of a place in a list
 pub get_set : {X : Type 0} (xs : List (Option X)) (i j : ℕ) (x : Option X) → i < length xs → (i == j) ≡ true
@@ -165,10 +162,7 @@ module _ {P : Type 0} (job_of : P → JobValue) (slot_of node_of : P → ℕ) (m
       gone j x e true f child = (emptied (set parked left None) right j).0 f
       gone j true e false f child = (emptied (set parked left None) right j).1 f ∙ (emptied parked left j).0 e
       gone j false e false f child =
-          absurd (false≢true (sym (neither (left == j) (right == j) e f) ∙ (sym (is_kid j) ∙ child)))
-        where
-          neither : (x y : Bool) → x ≡ false → y ≡ false → (x || y) ≡ false
-          neither x y e f = rw e f
+          absurd (false≢true (sym (or_from (left == j) (right == j) e f) ∙ (sym (is_kid j) ∙ child)))
 
       stays : (j : ℕ) → is_child (kids_of old q) j ≡ false → get_or after_it j None ≡ get_or parked j None
       stays j other =

@@ -1,5 +1,5 @@
 -- How a check of rows ends.
-use Rattle.std.proofs.Common.{◌≡◌, ℕ, ◌==◌, ◌&&◌, inl, inr, Bool, true, false, if◌then◌else◌, ◌≢◌, List, [], length, Option, Some, None, IfSome, refl, sym, ap, subst, ◌∙◌, append-nil}
+use Rattle.std.proofs.Common.{◌≡◌, ℕ, ◌==◌, ◌&&◌, inl, inr, Bool, true, false, if◌then◌else◌, ◌≢◌, List, [], length, Option, IfSome, refl, sym, ap, subst, ◌∙◌, append-nil}
 use Rattle.std.proofs.KnownBytes.{Appends-nil, Appends-trans}
 use Rattle.fb_graph.specs.Limits.{DecodingGraph, ShotValue}
 use Rattle.fb_graph.specs.declared.parts.Row.{Row}
@@ -8,11 +8,11 @@ use Rattle.fb_ports.proofs.Onward.{prefix_first, prefix_second}
 use Rattle.fb_shots.specs.Shots.{at_end}
 use Rattle.fb_shots.specs.declared.answer.Format.{Format}
 use Rattle.fb_shots.specs.Streams.{Stream, fresh}
-use Rattle.fb_check.specs.CheckEndings.{ChecksPrefix, LinesEnd, WritesCheck}
+use Rattle.fb_check.specs.CheckEndings.{ChecksPrefix, LinesEnd, WritesCheck, FirstOf}
 use Rattle.fb_check.specs.Checks.{bad_count, check_cause, check_prefix, check_head, check_last, verdict_lines}
 use Rattle.fb_check.specs.Ends.{IsReadToItsEnd}
-use Rattle.fb_check.specs.Judges.{EndsCheck, FirstOf, JudgesAll, JudgesFirst, JudgesInto}
-use Rattle.fb_inputs.specs.Judging.{FirstFrom, Gathers, GathersFrom, HasFirstShots, HasShots, IsOpened, Named, most_shots, shots_of}
+use Rattle.fb_check.specs.Judges.{EndsCheck, JudgesAll, JudgesFirst, JudgesInto}
+use Rattle.fb_inputs.specs.Judging.{FirstFrom, Gathers, GathersFrom, HasFirstShots, HasShots, IsOpened, Named, most_shots}
 use Rattle.fb_words.specs.Words.{Checking}
 use Rattle.fb_check.specs.declared.checking.Judged.{Judged}
 use Rattle.fb_endings.specs.declared.ending.Cause.{Cause}

@@ -4,6 +4,7 @@ use Rattle.fb_graph.specs.Limits.{DecodingGraph, ShotValue}
 use Rattle.fb_graph.specs.declared.parts.Row.{Row}
 use Rattle.fb_ports.specs.Causes.{Appends, AppendsPrefix}
 use Rattle.fb_shots.specs.Shots.{at_end, refused}
+use Rattle.fb_shots.specs.declared.answer.Format.{Format}
 use Rattle.fb_shots.specs.declared.answer.ShotFault.{ShotFault}
 use Rattle.fb_verify.specs.Reports.{report_of_text}
 use Rattle.fb_verify.specs.declared.report_faults.ReportFault.{ReportFault}
@@ -11,8 +12,7 @@ use Rattle.fb_verify.specs.declared.reports.Report.{Report}
 use Rattle.fb_verify.specs.declared.verdicts.Verdict.{Verdict}
 use Rattle.fb_check.specs.Checks.{AreVerdicts, bad_count, check_cause, check_prefix, check_head, check_text}
 use Rattle.fb_check.specs.Ends.{EndsAtFile, EndsInText, IsGraphRefusal}
-use Rattle.fb_check.specs.Judges.{FirstOf}
-use Rattle.fb_inputs.specs.Judging.{Asks, HasShots, Holds, IsGraphText, IsReadInPart, IsReadOutIfNamed, Named}
+use Rattle.fb_inputs.specs.Judging.{Asks, HasFirstShots, HasShots, Holds, IsGraphText, IsReadInPart, IsReadOutIfNamed, Named}
 use Rattle.fb_inputs.specs.Moments.{Moment, ReadsFile}
 use Rattle.fb_words.specs.Words.{Checking}
 use Rattle.fb_endings.specs.declared.ending.Cause.{Cause}
@@ -57,6 +57,10 @@ pub record ChecksGiven (named : Named) (request : Checking) (g : DecodingGraph) 
 -- the shots couldn't be opened, so nothing is left to be read, and the head was written
 abbrev pub ChecksHead : Named → Option (List ℕ) → Option (List ℕ) → Option (List ℕ) → Type 0
 ChecksHead named left old new = IsReadOutIfNamed named left × Appends old new check_head
+
+-- no shots, or the first ones of the file of a name
+abbrev pub FirstOf : Named → List ℕ → Format → DecodingGraph → List ShotValue → Type 0
+FirstOf named name format g shots = (shots ≡ []) ⊎ Holds named name (HasFirstShots format g shots)
 
 -- A prefix was written of the head and the lines of some of the first shots, or of the whole text of the check.
 pub record ChecksPrefix (named : Named) (request : Checking) (g : DecodingGraph) (rows : List Row) (old new : Option (List ℕ)) : Type 0 where

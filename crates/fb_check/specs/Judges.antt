@@ -1,14 +1,12 @@
 -- The rows that were judged while their shots were taken.
-use Rattle.std.specs.Prelude.{ℕ, ◌≡◌, ◌<◌, ◌≤◌, ◌⊎◌, List, [], ◌++◌, length, get_or, Bool, false, Option}
+use Rattle.std.specs.Prelude.{ℕ, ◌≡◌, ◌<◌, ◌≤◌, ◌⊎◌, List, ◌++◌, length, get_or, Bool, false, Option}
 use Rattle.fb_graph.specs.Limits.{DecodingGraph, ShotValue}
 use Rattle.fb_graph.specs.declared.parts.Row.{Row}
 use Rattle.fb_ports.specs.Causes.{Appends, AppendsPrefix}
-use Rattle.fb_shots.specs.declared.answer.Format.{Format}
 use Rattle.fb_verify.specs.VerdictTexts.{is_bad}
 use Rattle.fb_verify.specs.Verdicts.{IsVerdict}
 use Rattle.fb_verify.specs.declared.verdicts.Verdict.{Verdict}
 use Rattle.fb_check.specs.Checks.{AreVerdicts, bad_count, check_cause, check_last, verdict_line, verdict_lines}
-use Rattle.fb_inputs.specs.Judging.{HasFirstShots, Holds, Named}
 use Rattle.fb_check.specs.declared.checking.Judged.{Judged}
 use Rattle.fb_endings.specs.declared.ending.Cause.{Cause}
 use Rattle.fb_endings.specs.declared.ending.Cause.TheVariants.{Refused, ReadFault, WriteFault}
@@ -33,10 +31,6 @@ pub record JudgesFirst (Input : List ShotValue → Type 0) (g : DecodingGraph) (
   pub verdicts : List Verdict
   pub answers : AreVerdicts g shots rows verdicts
   pub written : AppendsPrefix old new (verdict_lines 0 verdicts)
-
--- no shots, or the first ones of the file of a name
-abbrev pub FirstOf : Named → List ℕ → Format → DecodingGraph → List ShotValue → Type 0
-FirstOf named name format g shots = (shots ≡ []) ⊎ Holds named name (HasFirstShots format g shots)
 
 -- the line of shot k was added to a text, if it has a row
 pub record AddsLine (g : DecodingGraph) (rows : List Row) (k : ℕ) (shot : ShotValue) (old new : List ℕ) (bad : Bool) : Type 0 where

@@ -1,5 +1,5 @@
 -- Nodes that are solved whole: within which reach their vertices lie, and what their items are.
-use Rattle.std.proofs.Common.{ℕ, ◌≡◌, ◌+◌, ◌<◌, ◌||◌, ◌⊎◌, inl, inr, true, Some, refl, sym, ap, ◌∙◌, subst, arith}
+use Rattle.std.proofs.Common.{ℕ, ◌≡◌, ◌<◌, ◌||◌, ◌⊎◌, inl, inr, true, Some, sym, ap, ◌∙◌, arith}
 use Rattle.std.proofs.lemmas.Bool.{or_cases}
 use Rattle.fb_graph.specs.Limits.{no_shot}
 use Rattle.fb_graph.specs.Problem.{Problem}

@@ -1,5 +1,5 @@
 -- Shots of a window by whether they have a correction, and their rows put together.
-use Rattle.std.specs.Prelude.{ℕ, ◌≡◌, ◌+◌, ◌*◌, ◌≤◌, ◌<◌, List, [], ◌∷◌, length, map, get_or, Option, Some, None, IfSome}
+use Rattle.std.specs.Prelude.{ℕ, ◌≡◌, ◌+◌, ◌*◌, ◌≤◌, List, [], ◌∷◌, length, map, get_or, Option, Some, None, IfSome}
 use Rattle.std.specs.List.{All, AllZip}
 use Rattle.fb_graph.specs.Components.{IsFirstOdd}
 use Rattle.fb_graph.specs.Limits.{DecodingGraph, ShotValue, problem_of}

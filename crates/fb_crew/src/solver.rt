@@ -32,8 +32,8 @@ pub struct Solved<'a> {
 /// worker's tools. Parts and rows are in boxes, since a book has room for a piece at each item.
 #[derive(Drop)]
 enum Found<'a> {
-    /// No part yet, since few defects lie within this reach, and with them all real vertices of the sub-problem of a node
-    /// below the root. To solve the node above whole costs less than to fuse parts of few defects.
+    /// No part yet of a node below the root: all real vertices of its sub-problem lie within this reach, and few defects of
+    /// the shot do. To solve the node above whole costs less than to fuse parts of few defects.
     Deferred(Reach),
     /// The part of a node below the root.
     Part(Box<Half<'a>, Global>),

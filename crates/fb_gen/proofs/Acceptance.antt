@@ -3,18 +3,18 @@ use Rattle.std.proofs.Common.{◌≡◌, ℕ, zero, suc, ◌+◌, ◌-◌, ◌<�
 use Rattle.std.specs.List.{range_with_len}
 use Rattle.std.proofs.lemmas.Bool.{eq-eqb}
 use Rattle.std.proofs.lemmas.List.{length-map, get_or-map}
-use Rattle.fb_graph.proofs.Sets.{one_if}
 use Rattle.fb_plan.specs.Plans.{PlanTree, IsTree, IsJoin, names, join_at, is_within}
 use Rattle.fb_plan.proofs.Trees.{within_left, within_right, within_self, within-trans}
 use Rattle.fb_gen.specs.TimePlan.{IsShared, first_level, fusions_of_level, level_above, fusions_from, time_fusions, time_tree}
 use Rattle.fb_gen.specs.declared.levels.Part.{Part}
 use Rattle.fb_gen.specs.declared.levels.Fusion.{Fusion}
 use Rattle.fb_gen.proofs.Fusions.{count-cons, count_at, once_by, no_fusion, uses_of, length-fusions, fusion_is_later, uses_once}
+use Rattle.fb_graph.specs.Counts.{as_count}
 
 abbrev pub nodes_of : Fusion → ℕ × ℕ
 nodes_of f = (f.left, f.right)
 
-one_or : (a b : Bool) → one_if (a || b) ≤ one_if a + one_if b
+one_or : (a b : Bool) → as_count (a || b) ≤ as_count a + as_count b
 one_or true b = omega arith
 one_or false b = omega arith
 

@@ -1,23 +1,24 @@
 -- What the fusions of all levels are: so many, each of two earlier nodes that no other fusion names, by each seam once.
-use Rattle.std.proofs.Common.{◌≡◌, ℕ, zero, suc, ◌+◌, ◌-◌, ◌<◌, ◌≤◌, inl, inr, Bool, true, ◌==◌, List, [], ◌∷◌, ◌++◌, length, map, get_or, count_by, All, refl, ap, ◌∙◌, arith, length-append}
+use Rattle.std.proofs.Common.{◌≡◌, ℕ, zero, suc, ◌+◌, ◌-◌, ◌<◌, ◌≤◌, inl, inr, Bool, true, ◌==◌, List, [], ◌∷◌, ◌++◌, length, map, get_or, count_by, All, refl, ap, arith, length-append}
 use Rattle.std.specs.List.{range_with_len}
 use Rattle.std.proofs.lemmas.Bool.{cases_lt}
 use Rattle.std.proofs.lemmas.List.{length-map, get_or_append_left, get_or-append_right}
 use Rattle.std.proofs.lemmas.List.Elements.{All-nil, All-cons, All-head, All-tail, All-map}
 use Rattle.std.proofs.lemmas.List.FromFn.{length-range_with_len}
 use Rattle.std.proofs.lemmas.List.Sums.{sum_by-cons, sum_by-append}
-use Rattle.fb_graph.proofs.Sets.{one_if, count_equal-le, distinct_from_rising, range_rises, range_below}
+use Rattle.fb_graph.proofs.Sets.{count_equal-le, distinct_from_rising, range_rises, range_below}
 use Rattle.fb_gen.specs.TimePlan.{first_level, fusions_of_level, level_above, fusions_from, time_fusions}
 use Rattle.fb_gen.specs.declared.levels.Part.{Part}
 use Rattle.fb_gen.specs.declared.levels.Fusion.{Fusion}
 use Rattle.fb_gen.proofs.Pairings.{length-level}
 use Rattle.fb_plan.proofs.Sorting.{range_split}
+use Rattle.fb_graph.specs.Counts.{as_count}
 
-pub count-cons : {X : Type 0} (p : X → Bool) (x : X) (xs : List X) → count_by p (x ∷ xs) ≡ one_if (p x) + count_by p xs
-count-cons p x xs = sum_by-cons (λ y. one_if (p y)) x xs
+pub count-cons : {X : Type 0} (p : X → Bool) (x : X) (xs : List X) → count_by p (x ∷ xs) ≡ as_count (p x) + count_by p xs
+count-cons p x xs = sum_by-cons (λ y. as_count (p y)) x xs
 
 pub count-append : {X : Type 0} (p : X → Bool) (xs ys : List X) → count_by p (xs ++ ys) ≡ count_by p xs + count_by p ys
-count-append p xs ys = sum_by-append (λ y. one_if (p y)) xs ys
+count-append p xs ys = sum_by-append (λ y. as_count (p y)) xs ys
 
 pub count-map : {X Y : Type 0} (p : Y → Bool) (f : X → Y) (xs : List X) → count_by p (map f xs) ≡ count_by (λ x. p (f x)) xs
 count-map p f [] = refl
@@ -28,7 +29,7 @@ count-map p f (x ∷ xs) =
 pub count_at : {X : Type 0} (p : X → Bool) (xs : List X) (i : ℕ) (d : X) → i < length xs → p (get_or xs i d) ≡ true
     → 1 ≤ count_by p xs
 count_at p [] i d less here = absurd (omega arith)
-count_at p (x ∷ xs) zero d less here = omega (arith, count-cons p x xs, ap one_if here)
+count_at p (x ∷ xs) zero d less here = omega (arith, count-cons p x xs, ap as_count here)
 count_at p (x ∷ xs) (suc i) d less here = omega (arith, count-cons p x xs, count_at p xs i d (omega arith) here)
 
 -- where at most one element passes, two places that pass are one
@@ -37,9 +38,9 @@ pub once_by : {X : Type 0} (p : X → Bool) (xs : List X) (i k : ℕ) (d : X) �
 once_by p [] i k d once ilt klt here there = absurd (omega arith)
 once_by p (x ∷ xs) zero zero d once ilt klt here there = refl
 once_by p (x ∷ xs) zero (suc k) d once ilt klt here there =
-    absurd (omega (arith, once, count-cons p x xs, ap one_if here, count_at p xs k d (omega arith) there))
+    absurd (omega (arith, once, count-cons p x xs, ap as_count here, count_at p xs k d (omega arith) there))
 once_by p (x ∷ xs) (suc i) zero d once ilt klt here there =
-    absurd (omega (arith, once, count-cons p x xs, ap one_if there, count_at p xs i d (omega arith) here))
+    absurd (omega (arith, once, count-cons p x xs, ap as_count there, count_at p xs i d (omega arith) here))
 once_by p (x ∷ xs) (suc i) (suc k) d once ilt klt here there =
     ap (λ n. suc n) (once_by p xs i k d (omega (arith, once, count-cons p x xs)) (omega arith) (omega arith) here there)
 

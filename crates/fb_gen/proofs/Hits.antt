@@ -62,10 +62,6 @@ hits_missed x rate n missed =
     ∙ ap (λ b. hits_of x rate n ++ cond b (n ∷ []) []) (le-ltb (drawn_after x n) rate missed)
     ∙ append-nil (hits_of x rate n)
 
--- a draw after others is the first one from their state
-pub drawn_next : (x n : ℕ) → drawn_after (state_after x n) 0 ≡ drawn_after x n
-drawn_next x n = refl
-
 pub state_more : (x n : ℕ) → state_after x (n + 1) ≡ next_state (state_after x n)
 state_more x n = ap (state_after x) (add-one n)
 

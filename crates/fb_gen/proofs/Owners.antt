@@ -1,5 +1,5 @@
 -- Each vertex lies in one range of the plan by time, and no edge joins vertices of unrelated nodes.
-use Rattle.std.proofs.Common.{◌≡◌, ℕ, zero, suc, ◌+◌, ◌-◌, ◌*◌, ◌<◌, ◌≤◌, ◌⊎◌, inl, inr, Bool, true, false, not, ◌&&◌, ◌||◌, ◌==◌, nat_lt, nat_le, ℤ, cond, List, [], ◌∷◌, ◌++◌, length, map, get_or, count_by, All, refl, sym, ap, ◌∙◌, subst, arith, append_assoc}
+use Rattle.std.proofs.Common.{◌≡◌, ℕ, zero, suc, ◌+◌, ◌-◌, ◌*◌, ◌<◌, ◌≤◌, ◌⊎◌, inl, inr, Bool, true, false, not, ◌&&◌, ◌||◌, ◌==◌, nat_lt, nat_le, ℤ, cond, List, [], ◌∷◌, ◌++◌, length, map, get_or, count_by, All, refl, sym, ap, ◌∙◌, subst, arith}
 use Rattle.std.specs.Prelude.{Option, Some, None, find, option_map}
 use Rattle.std.specs.List.{range_with_len}
 use Rattle.std.proofs.Math.Nat.{mul-le-mul_right}
@@ -10,8 +10,9 @@ use Rattle.std.proofs.lemmas.List.FromFn.{get_or-range_with_len, length-range_wi
 use Rattle.fb_graph.specs.GraphRules.{edge_from}
 use Rattle.fb_graph.specs.Limits.{is_real_in}
 use Rattle.fb_graph.specs.declared.parts.Edge.{Edge}
+use Rattle.fb_graph.specs.Counts.{as_count}
 use Rattle.fb_graph.proofs.BuildSteps.{range_push}
-use Rattle.fb_graph.proofs.Sets.{one_if, count_equal-le, distinct_from_rising, range_rises}
+use Rattle.fb_graph.proofs.Sets.{count_equal-le, distinct_from_rising, range_rises}
 use Rattle.fb_plan.specs.Plans.{is_within, are_unrelated, goes_across, owner_of}
 use Rattle.fb_plan.specs.Rules.{claims_from, holds, owner_in}
 use Rattle.fb_plan.specs.declared.parts.Claim.{Claim}
@@ -142,7 +143,7 @@ seam_bounds t u i shared less = step (cases_lt 0 s) (cases_lt s u)
             omega (
               arith,
               count-cons q a (range_with_len (a + 1) n),
-              ap one_if (ap q (sym first) ∙ nothing 0 (omega arith)),
+              ap as_count (ap q (sym first) ∙ nothing 0 (omega arith)),
               count_none q (a + 1) n (λ k lt. let e : a + 1 + k ≡ a + suc k = omega arith in ap q e ∙ nothing (suc k) (omega arith)),
             )
 
@@ -376,7 +377,7 @@ no_edge_across d t u shared =
 
 -- three ranges that follow on each other
 three_parts : (v a b c : ℕ) → a ≤ b → b ≤ c
-    → one_if (nat_lt v a) + one_if (nat_le a v && nat_lt v b) + one_if (nat_le b v && nat_lt v c) ≡ one_if (nat_lt v c)
+    → as_count (nat_lt v a) + as_count (nat_le a v && nat_lt v b) + as_count (nat_le b v && nat_lt v c) ≡ as_count (nat_lt v c)
 three_parts v a b c ab bc = elim (cases_lt v a) [
   | inl first ↦
       let vb : v < b = omega arith in
@@ -390,18 +391,18 @@ three_parts v a b c ab bc = elim (cases_lt v a) [
   ]
 ]
   where
-    last : (x : Bool) → one_if false + one_if (true && false) + one_if (true && x) ≡ one_if x
+    last : (x : Bool) → as_count false + as_count (true && false) + as_count (true && x) ≡ as_count x
     last true = refl
     last false = refl
 
 -- one more of a range's numbers
 count-range_push : (p : ℕ → Bool) (a n m : ℕ) → m ≡ a + n
-    → count_by p (range_with_len a (suc n)) ≡ count_by p (range_with_len a n) + one_if (p m)
+    → count_by p (range_with_len a (suc n)) ≡ count_by p (range_with_len a n) + as_count (p m)
 count-range_push p a n m is =
     rw is
     (ap (count_by p) (range_push a n)
     ∙ count-append p (range_with_len a n) ((a + n) ∷ [])
-    ∙ ap (λ k. count_by p (range_with_len a n) + k) (count-cons p (a + n) [] ∙ add_nothing (one_if (p (a + n)))))
+    ∙ ap (λ k. count_by p (range_with_len a n) + k) (count-cons p (a + n) [] ∙ add_nothing (as_count (p (a + n)))))
   where
     add_nothing : (k : ℕ) → k + 0 ≡ k
     add_nothing k = omega arith
@@ -410,11 +411,11 @@ count-range_push p a n m is =
 covered_up_to : (d t u v n : ℕ) → IsShared t u
     → count_by (λ j. lies_in v (unit_range d t u j)) (range_with_len 0 (suc n))
     + count_by (λ j. lies_in v (seam_range d t u j)) (range_with_len 1 n)
-    ≡ one_if (nat_lt v ((first_round t u (suc n) - 1) * (d * (d + 1))))
+    ≡ as_count (nat_lt v ((first_round t u (suc n) - 1) * (d * (d + 1))))
 covered_up_to d t u v zero shared =
     omega (arith, count-cons (λ j. lies_in v (unit_range d t u j)) 0 [], first)
   where
-    first : one_if (lies_in v (unit_range d t u 0)) ≡ one_if (nat_lt v ((first_round t u (suc zero) - 1) * (d * (d + 1))))
+    first : as_count (lies_in v (unit_range d t u 0)) ≡ as_count (nat_lt v ((first_round t u (suc zero) - 1) * (d * (d + 1))))
     first = let none : 0 * (d * (d + 1)) ≤ v = omega arith in rw (le-leb (0 * (d * (d + 1))) v none) refl
 covered_up_to d t u v (suc n) shared =
     let w : ℕ = d * (d + 1) in
@@ -426,7 +427,7 @@ covered_up_to d t u v (suc n) shared =
       arith,
       count-range_push units 0 (suc n) (suc n) (omega arith),
       count-range_push seams 1 n (suc n) (omega arith),
-      ap (λ m. one_if (nat_le (first_round t u (suc n) * w) v && nat_lt v ((first_round t u m - 1) * w))) next,
+      ap (λ m. as_count (nat_le (first_round t u (suc n) * w) v && nat_lt v ((first_round t u m - 1) * w))) next,
       covered_up_to d t u v n shared,
       three_parts v ((first_round t u (suc n) - 1) * w) (first_round t u (suc n) * w) ((first_round t u (suc (suc n)) - 1) * w)
           (mul-le-mul_right {m = first_round t u (suc n) - 1} {n = first_round t u (suc n)} w (omega arith))
@@ -448,7 +449,7 @@ covered_once d t (suc n) v shared below =
       count-singles v (suc n) (λ (f : Fusion). seam_range d t (suc n) f.seam) (time_fusions (suc n)),
       rw less at (seams_once (suc n) (λ j. lies_in v (seam_range d t (suc n) j)) shared.positive),
       covered_up_to d t (suc n) v n shared,
-      ap one_if (lt-ltb v ((first_round t (suc n) (suc n) - 1) * (d * (d + 1))) inside),
+      ap as_count (lt-ltb v ((first_round t (suc n) (suc n) - 1) * (d * (d + 1))) inside),
     )
   where
     inside : v < (first_round t (suc n) (suc n) - 1) * (d * (d + 1))

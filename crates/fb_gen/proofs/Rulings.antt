@@ -1,5 +1,6 @@
 -- The ranges and joins of a plan by time make that plan.
 use Rattle.std.proofs.Common.{◌≡◌, ℕ, zero, suc, ◌+◌, ◌-◌, ◌*◌, ◌<◌, ◌≤◌, ◌⊎◌, inl, inr, Bool, true, false, List, [], ◌∷◌, length, map, take, get_or, All, refl, sym, ap, ◌∙◌, arith}
+use Rattle.std.proofs.Math.Bool.{and-false}
 use Rattle.std.specs.Prelude.{Option, None, find, option_map, Ok}
 use Rattle.std.specs.List.{range_with_len, list_any}
 use Rattle.std.proofs.Math.Nat.{mul-le-mul_right}
@@ -11,10 +12,9 @@ use Rattle.std.proofs.lemmas.List.FromFn.{length-range_with_len}
 use Rattle.std.proofs.lemmas.Simd.{map-map}
 use Rattle.fb_graph.specs.Limits.{DecodingGraph, is_real_in, most_vertices}
 use Rattle.fb_graph.specs.Problem.{edge_at, no_edge}
-use Rattle.fb_graph.proofs.ParitySums.{and-false}
 use Rattle.fb_graph.proofs.Sets.{range_below}
 use Rattle.fb_plan.specs.Plans.{PlanTree, names, join_at, goes_across, most_units}
-use Rattle.fb_plan.specs.Rules.{claims_from, joins_of, seams_of, ranges_of, tree_by, plan_from, first_of_faults, units_fault, range_fault, unowned_fault, twice_fault, child_fault, use_fault, root_fault, edge_fault, least, is_bad_node, is_bad_range, is_unowned, is_owned_twice, is_out_of_range, is_used_twice, is_named}
+use Rattle.fb_plan.specs.Rules.{claims_from, joins_of, seams_of, ranges_of, tree_by, plan_from, first_of_faults, units_fault, range_fault, unowned_fault, twice_fault, child_fault, use_fault, root_fault, edge_fault, is_bad_node, is_bad_range, is_unowned, is_owned_twice, is_out_of_range, is_used_twice, is_named}
 use Rattle.fb_plan.specs.declared.parts.Join.{Join}
 use Rattle.fb_plan.specs.declared.faults.PlanFault.{PlanFault}
 use Rattle.fb_plan.proofs.Trees.{names_left, names_right}
@@ -25,7 +25,7 @@ use Rattle.fb_gen.proofs.Acceptance.{join_is, joins_length, time_tree_is_tree}
 use Rattle.fb_gen.proofs.Fusions.{no_fusion, length-fusions, fusion_is_later}
 use Rattle.fb_gen.proofs.Owners.{time_claims, covered_once, no_edge_across, seam_bounds}
 use Rattle.fb_gen.proofs.Rounds.{first_later, first_within, first_bound}
-use Rattle.fb_plan.proofs.Leasts.{least_none}
+use Rattle.fb_graph.proofs.Leasts.{least_none}
 
 -- no number below n passes
 none_from : (test : ℕ → Bool) (a n : ℕ) → ((k : ℕ) → a ≤ k → k < a + n → test k ≡ false) → find test (range_with_len a n) ≡ None

@@ -1,5 +1,5 @@
 -- Elements of lists without their places, and nodes by their names.
-use Rattle.std.proofs.Common.{ℕ, zero, suc, ◌≡◌, ◌==◌, ◌&&◌, ◌||◌, ◌⊎◌, inl, inr, not, cond, Bool, true, false, List, [], ◌∷◌, ◌++◌, map, All, AllPairs, Option, Some, None, refl, sym, ap, ◌∙◌, subst, arith, if◌then◌else◌}
+use Rattle.std.proofs.Common.{ℕ, zero, suc, ◌≡◌, ◌==◌, ◌&&◌, ◌||◌, ◌⊎◌, inl, inr, not, cond, Bool, true, false, List, [], ◌∷◌, ◌++◌, map, All, AllPairs, Option, Some, None, refl, sym, ap, ◌∙◌, subst, arith, if◌then◌else◌, filter}
 use Rattle.std.specs.List.{find, list_any, concat}
 use Rattle.std.specs.Option.{option_map}
 use Rattle.std.proofs.lemmas.Bool.{both_ways, false≢true, false_from_ne_true, cases_Bool, or_cases, or_left, or_right, or_from, or_parts, and_parts, eq-eqb, eqb-true, not-true}
@@ -86,6 +86,25 @@ pairs_among R (z ∷ zs) h x y (inr a) (inl f) =
 pairs_among R (z ∷ zs) h x y (inr a) (inr b) =
     pairs_among R zs (λ i j d less below. h (suc i) (suc j) d (omega arith) (omega arith)) x y a b
 
+pub among_is_in : (xs : List ℕ) (x : ℕ) → IsAmong x xs → is_in xs x ≡ true
+among_is_in xs x a = among_any (λ u. u == x) xs x a (eq-eqb x x refl)
+
+pub among_filter : {X : Type 0} (test : X → Bool) (xs : List X) (x : X) → IsAmong x xs → test x ≡ true → IsAmong x (filter test xs)
+among_filter test [] x a h = absurd a
+among_filter {X} test (y ∷ ys) x a h = step (test y) refl a (λ b. among_filter test ys x b h)
+  where
+    step : (b : Bool) → test y ≡ b → IsAmong x (y ∷ ys) → (IsAmong x ys → IsAmong x (filter test ys))
+        → IsAmong x (cond b (y ∷ filter test ys) (filter test ys))
+    step true e (inl same) rest = inl same
+    step true e (inr b) rest = inr (rest b)
+    step false e (inl same) rest = absurd (both_ways (test x) (ap test (sym same) ∙ e) h)
+    step false e (inr b) rest = rest b
+
+pub All_unmapped : {X Y : Type 0} (P : Y → Type 0) (f : X → Y) (xs : List X) → All P (map f xs) → All (λ x. P (f x)) xs
+All_unmapped P f [] all = All-nil (λ x. P (f x))
+All_unmapped P f (x ∷ xs) all =
+    All-cons (λ y. P (f y)) x xs (All-head P (f x) (map f xs) all) (All_unmapped P f xs (All-tail P (f x) (map f xs) all))
+
 pub name_among : (ns : List Node) (m : Node) → IsAmong m ns → is_in (map (λ n. n.name) ns) m.name ≡ true
 name_among [] m a = absurd a
 name_among (n ∷ ns) m (inl e) =
@@ -116,6 +135,9 @@ live_among ns name live = let (m, a, e) = any_among (λ n. n.name == name) ns li
 
 pub among_live : (ns : List Node) (m : Node) (name : ℕ) → IsAmong m ns → m.name ≡ name → is_live ns name ≡ true
 among_live ns m name a e = among_any (λ n. n.name == name) ns m a (eq-eqb m.name name e)
+
+pub own_live : (nodes : List Node) (n : Node) → IsAmong n nodes → is_live nodes n.name ≡ true
+own_live nodes n a = among_live nodes n n.name a refl
 
 pub outer_among : (ns : List Node) (name : ℕ) → is_outer ns name ≡ true → (q : Node) → IsAmong q ns → is_in q.children name ≡ false
 outer_among ns name outer q a = none_among (λ n. is_in n.children name) ns (not-true _ outer) q a

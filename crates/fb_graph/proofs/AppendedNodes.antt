@@ -5,8 +5,8 @@ use Rattle.std.proofs.lemmas.Bool.{or_parts, not-true, not_from_false}
 use Rattle.std.proofs.lemmas.List.Concat.{flat_map-append}
 use Rattle.std.proofs.lemmas.List.Folds.{list_any-append}
 use Rattle.fb_graph.specs.Parity.{is_in}
-use Rattle.fb_graph.specs.Dual.{Node, all_cuts, layers_of, leaves, defects_of, is_outer}
-use Rattle.fb_graph.proofs.Among.{IsAmong, among_either, among_outer, outer_among}
+use Rattle.fb_graph.specs.Dual.{Node, all_cuts, layers_of, leaves, defects_of, is_outer, is_live}
+use Rattle.fb_graph.proofs.Among.{IsAmong, among_either, among_outer, outer_among, among_left, among_right, among_live, live_among}
 
 pub cuts_merged : (nodes others : List Node) → all_cuts (nodes ++ others) ≡ all_cuts nodes ++ all_cuts others
 cuts_merged nodes others = flat_map-append layers_of nodes others
@@ -37,3 +37,12 @@ outer_both nodes others n one other =
 pub names_merged : (nodes others : List Node) → map (λ n. n.name) (nodes ++ others) ≡ map (λ n. n.name) nodes ++ map (λ n. n.name) others
 names_merged [] others = refl
 names_merged (n ∷ ns) others = ap (λ l. n.name ∷ l) (names_merged ns others)
+
+-- a live name of either list is one of both
+pub live_left : (nodes others : List Node) (n : ℕ) → is_live nodes n ≡ true → is_live (nodes ++ others) n ≡ true
+live_left nodes others n live =
+    let (m, a, named) = live_among nodes n live in among_live (nodes ++ others) m n (among_left nodes others m a) named
+
+pub live_right : (nodes others : List Node) (n : ℕ) → is_live others n ≡ true → is_live (nodes ++ others) n ≡ true
+live_right nodes others n live =
+    let (m, a, named) = live_among others n live in among_live (nodes ++ others) m n (among_right nodes others m a) named

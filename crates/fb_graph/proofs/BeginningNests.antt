@@ -1,5 +1,6 @@
 -- Nodes of one defect each are a nest.
 use Rattle.std.proofs.Common.{◌≡◌, ◌==◌, inl, true, false, List, [], ◌∷◌, map, All, AllPairs, get_or, refl, sym, ap, ◌∙◌, subst, arith}
+use Rattle.std.proofs.Math.Bool.{or-false}
 use Rattle.std.proofs.lemmas.Bool.{both_ways, eq-eqb, eqb-true}
 use Rattle.std.proofs.lemmas.List.Elements.{All-nil, All-map}
 use Rattle.std.proofs.lemmas.List.Kept.{AllPairs-cons}
@@ -8,7 +9,6 @@ use Rattle.fb_graph.specs.Certificate.{AreDistinct}
 use Rattle.fb_graph.specs.Printed.{DifferAsSets}
 use Rattle.fb_graph.specs.Problem.{Problem}
 use Rattle.fb_graph.specs.Dual.{IsDual, AreApart, is_empty, is_live}
-use Rattle.fb_graph.proofs.Members.{or_false}
 use Rattle.fb_graph.specs.Ends.{AreAllApart}
 use Rattle.fb_graph.specs.Nests.{IsNest, IsFormed, IsFilled, AreJoinedLater, HasSources, child_sets}
 use Rattle.fb_graph.specs.Moves.{NestBegins}
@@ -34,8 +34,8 @@ differ (s ∷ ss) distinct =
           both_ways (is_in (vertices_of ss) s.vertex) distinct.0
           (ap (is_in (vertices_of ss))
           (sym (eqb-true (get_or ss i d).vertex s.vertex
-          (sym (or_false ((get_or ss i d).vertex == s.vertex))
-          ∙ (sym same ∙ (or_false (s.vertex == s.vertex) ∙ eq-eqb s.vertex s.vertex refl)))))
+          (sym (or-false ((get_or ss i d).vertex == s.vertex))
+          ∙ (sym same ∙ (or-false (s.vertex == s.vertex) ∙ eq-eqb s.vertex s.vertex refl)))))
           ∙ vertex_in ss i d less),
     )))
     (differ ss distinct.1)
@@ -59,7 +59,7 @@ singles_are_nest p singles vertices dual = record {
         v,
         within,
         ap (λ l. is_in l v) (leaves_are singles)
-            ∙ (ap (is_in (vertices_of singles)) (sym (eqb-true (get_or singles i d).vertex v (sym (or_false ((get_or singles i d).vertex == v)) ∙ within)))
+            ∙ (ap (is_in (vertices_of singles)) (sym (eqb-true (get_or singles i d).vertex v (sym (or-false ((get_or singles i d).vertex == v)) ∙ within)))
             ∙ vertex_in singles i d less),
         refl,
       ));

@@ -7,10 +7,7 @@ use Rattle.std.proofs.lemmas.List.Folds.{list_any-append}
 use Rattle.fb_graph.specs.Labelling.{has_boundary, label_of}
 use Rattle.fb_graph.specs.Problem.{Problem}
 use Rattle.fb_graph.proofs.BuildSteps.{range_push}
-
-pub or_nothing : (a b : Bool) → b ≡ false → (a || b) ≡ a
-or_nothing true b e = refl
-or_nothing false b e = e
+use Rattle.fb_graph.proofs.Booleans.{or_nothing}
 
 has_boundary-more : (p : Problem) (labels : List ℕ) (n label : ℕ)
     → has_boundary p labels (n + 1) label ≡ (has_boundary p labels n label || (label_of labels n == label && not (p.is_real n)))

@@ -1,9 +1,9 @@
 -- The steps of the loops that build a graph.
-use Rattle.std.proofs.Common.{◌≡◌, ◌≢◌, ℕ, zero, suc, ◌+◌, ◌%◌, ◌<◌, ◌≤◌, ◌||◌, Bool, true, false, cond, List, [], ◌∷◌, ◌++◌, length, map, take, drop, set, get_or, filter, Option, Some, None, ℤ, pos, negsuc, int_lt, unsigned_abs, nat_le, eqb, refl, sym, ap, ◌∙◌, inl, inr, arith, add-one, append-nil, length-set}
+use Rattle.std.proofs.Common.{◌≡◌, ◌≢◌, ℕ, zero, suc, ◌+◌, ◌%◌, ◌<◌, ◌≤◌, Bool, true, false, cond, List, [], ◌∷◌, ◌++◌, length, take, drop, set, get_or, filter, Option, Some, None, ℤ, pos, negsuc, int_lt, unsigned_abs, nat_le, eqb, refl, sym, ap, ◌∙◌, inl, inr, arith, add-one, append-nil, length-set}
 use Rattle.std.specs.List.{range_with_len}
 use Rattle.std.proofs.Math.Seq.{drop-cons}
 use Rattle.std.proofs.lemmas.Bool.{or_parts, or_right, leb-false, ltb-false, eqb-false, cases_eq, eq-eqb, ne_eqb, cond-true, cond-false}
-use Rattle.std.proofs.lemmas.List.{take_more, map-append, get_or-set_same, get_or-set_other}
+use Rattle.std.proofs.lemmas.List.{take_more, get_or-set_same, get_or-set_other, map_more}
 use Rattle.std.proofs.lemmas.List.Elements.{filter-append}
 use Rattle.std.proofs.lemmas.List.Folds.{list_any_more}
 use Rattle.fb_graph.specs.Parity.{is_in, differ}
@@ -13,6 +13,7 @@ use Rattle.fb_graph.specs.Limits.{IsEdge, most_weight}
 use Rattle.fb_graph.specs.GraphRules.{edge_fault, edges_fault, virtuals_fault, edge_from}
 use Rattle.fb_graph.specs.declared.parts.Edge.{Edge}
 use Rattle.fb_graph.specs.declared.faults.GraphFault.TheVariants.{VirtualOutOfRange, VirtualRepeated}
+use Rattle.fb_graph.proofs.Booleans.{or_nothing}
 
 -- no fault comes first, so the rest is fine
 none_after : {X : Type 0} (b : Bool) (x : X) (y : Option X) → cond b (Some x) y ≡ None → (b ≡ false) × (y ≡ None)
@@ -47,10 +48,6 @@ pub edges_fault_more : (n i : ℕ) (es : List (ℕ × ℕ × ℤ)) (d : ℕ × �
 edges_fault_more n i es d lt good =
     rw (drop-cons es i d lt, good) (ap (λ j. edges_fault n (i + 1) (drop j es)) (sym (add-one i)))
 
-pub map_more : {X Y : Type 0} (f : X → Y) (xs : List X) (i : ℕ) (d : X) → i < length xs
-    → map f (take (i + 1) xs) ≡ map f (take i xs) ++ f (get_or xs i d) ∷ []
-map_more f xs i d lt = rw (take_more xs i d lt) (map-append f (take i xs) (get_or xs i d ∷ []))
-
 pub virtuals_fault_more : (n i : ℕ) (vs : List ℕ) → i < length vs → nat_le n (get_or vs i 0) ≡ false
     → is_in (take i vs) (get_or vs i 0) ≡ false
     → virtuals_fault n (take i vs) i (drop i vs) ≡ virtuals_fault n (take (i + 1) vs) (i + 1) (drop (i + 1) vs)
@@ -78,12 +75,8 @@ flags_more flags n vs i len lt low told k below =
           ∙ get_or-set_same flags (get_or vs i 0) true false (omega arith)
           ∙ sym (or_right (is_in (take i vs) k) (eqb (get_or vs i 0) k) (eq-eqb (get_or vs i 0) k (sym same)))
       | inr other ↦ get_or-set_other flags (get_or vs i 0) k true false other ∙ told k below
-          ∙ sym (or_none (is_in (take i vs) k) (eqb (get_or vs i 0) k) (ne_eqb (get_or vs i 0) k (λ e. other (sym e))))
+          ∙ sym (or_nothing (is_in (take i vs) k) (eqb (get_or vs i 0) k) (ne_eqb (get_or vs i 0) k (λ e. other (sym e))))
     ])
-  where
-    or_none : (a b : Bool) → b ≡ false → (a || b) ≡ a
-    or_none true b e = refl
-    or_none false b e = e
 
 pub range_push : (a n : ℕ) → range_with_len a (suc n) ≡ range_with_len a n ++ (a + n) ∷ []
 range_push a zero = ap (λ x. x ∷ []) (omega arith)

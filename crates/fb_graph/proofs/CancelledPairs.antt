@@ -9,7 +9,7 @@ use Rattle.std.specs.List.Sorted.{IsNonDecreasing, IsPermutation, IsStrictlyIncr
 use Rattle.fb_graph.specs.Parity.{differ, is_odd_count, is_in}
 use Rattle.fb_graph.specs.Printed.{CancelsTo}
 use Rattle.fb_graph.proofs.ParitySums.{differ_assoc, differ_self, differ-false, false-differ, odd-append}
-use Rattle.fb_graph.proofs.Sets.{odd_equal, member_of_odd, distinct_from_rising, is_in_at, is_in-All, All-from_is_in}
+use Rattle.fb_graph.proofs.Sets.{odd_equal, member_of_odd, distinct_from_rising, is_in_at, is_in-All}
 
 -- the parity of a number
 abbrev is_odd : ℕ → Bool
@@ -89,10 +89,6 @@ rising_push ks x rising last k less = step (cases_lt (k + 1) (length ks))
         let before : get_or ks k 0 < x =
         subst (λ n. get_or ks n 0 < x) same (last (omega (arith, bound))) in
         omega arith
-
--- no numbers yet
-pub cancels-nil : CancelsTo [] []
-cancels-nil = record { rising = λ k less. absurd (omega arith); parity = λ test. refl; weight = λ f. omega arith }
 
 -- the next number is the last one that is left: both go
 cancels_pop : (xs ks : List ℕ) (x : ℕ) → CancelsTo xs (ks ++ x ∷ []) → CancelsTo (xs ++ x ∷ []) ks
@@ -190,8 +186,3 @@ cancels-IsPermutation xs ys ks moved left = record {
   parity = λ test. left.parity test ∙ odd-IsPermutation test xs ys moved;
   weight = λ f. omega (arith, left.weight f, sum_by-IsPermutation f xs ys moved);
 }
-
--- what holds of each number holds of each that is left
-pub All-odd_ones : (P : ℕ → Type 0) (numbers ones : List ℕ)
-    → ((v : ℕ) → is_in ones v ≡ true → is_in numbers v ≡ true) → All P numbers → All P ones
-All-odd_ones P numbers ones inside all = All-from_is_in P ones (λ v within. is_in-All P numbers all v (inside v within))

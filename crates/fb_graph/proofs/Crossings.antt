@@ -1,5 +1,6 @@
 -- The sets of outer nodes that an edge crosses.
 use Rattle.std.proofs.Common.{ℕ, zero, suc, ◌≡◌, ◌+◌, ◌-◌, ◌*◌, ◌%◌, ◌≤◌, ◌<◌, ◌==◌, ◌&&◌, ◌||◌, ◌⊎◌, inl, inr, Bool, true, false, cond, List, [], ◌∷◌, map, length, All, AllPairs, Option, Some, None, sum_by, get_or, refl, sym, ap, ◌∙◌, arith}
+use Rattle.std.proofs.Math.Bool.{and-true}
 use Rattle.std.specs.List.{find}
 use Rattle.std.specs.Option.{option_map}
 use Rattle.std.proofs.lemmas.Bool.{false≢true, cases_eq, cases_Bool, both_ways, and_from, and_parts, eq-eqb, or_right, false_from_ne_true}
@@ -10,7 +11,6 @@ use Rattle.fb_graph.specs.Problem.{Problem, crosses}
 use Rattle.fb_graph.specs.Certificate.{AreDistinct, load_of}
 use Rattle.fb_graph.specs.Dual.{Node, IsDual, all_cuts, cover_of, height_of, is_outer, node_at, no_node, AreUnderOne, AreOuterApart, AreApart}
 use Rattle.fb_graph.specs.declared.parts.Edge.{Edge}
-use Rattle.fb_graph.proofs.ParitySums.{and-true}
 use Rattle.fb_graph.proofs.Sums.{sum_same, sum_zero, sum_add}
 use Rattle.fb_graph.specs.Counts.{as_count}
 use Rattle.fb_graph.specs.Steps.{Roles, AreExclusive, gains, losses}

@@ -1,14 +1,14 @@
 -- Sums over cuts: of the values of those whose sets pass a test.
-use Rattle.std.proofs.Common.{◌≡◌, ℕ, ◌+◌, ◌*◌, ◌^◌, ◌<◌, ◌≤◌, inl, inr, Bool, true, false, cond, List, [], ◌∷◌, ◌++◌, length, set, refl, sym, ◌∙◌, ap, arith}
+use Rattle.std.proofs.Common.{◌≡◌, ℕ, ◌+◌, ◌*◌, ◌^◌, ◌≤◌, inl, inr, Bool, true, false, cond, List, [], ◌∷◌, ◌++◌, length, refl, sym, ◌∙◌, ap, arith}
 use Rattle.std.specs.List.{sum_by, flat_map, All}
-use Rattle.std.proofs.lemmas.List.Sums.{sum_by-cons, sum_by-append, sum_by_push, sum_by-set, sum_by-le-sum_by, sum_by-le, get_or-le-sum_by}
+use Rattle.std.proofs.lemmas.List.Sums.{sum_by-cons, sum_by-append, sum_by_push, sum_by-le-sum_by, sum_by-le, get_or-le-sum_by}
 use Rattle.std.proofs.lemmas.List.Elements.{All-head, All-tail}
 use Rattle.fb_graph.specs.Problem.{Problem, edge_at, no_edge, crosses}
 use Rattle.fb_graph.specs.Certificate.{Fits, load_of, total_value}
 use Rattle.fb_graph.specs.Limits.{IsWithinLimits}
 use Rattle.fb_graph.specs.declared.parts.Cut.{Cut}
 use Rattle.fb_graph.specs.declared.parts.Edge.{Edge}
-use Rattle.fb_graph.specs.Dual.{Node, IsHeld, layers_of, all_cuts, taller_node, thicker_node, no_node, node_at}
+use Rattle.fb_graph.specs.Dual.{Node, IsHeld, layers_of, taller_node, thicker_node}
 
 -- the sum of the values of the cuts whose sets pass the test
 abbrev pub weigh : (List ℕ → Bool) → List Cut → ℕ
@@ -39,17 +39,6 @@ weigh-taller_node test v n =
     let f : Cut → ℕ = λ c. cond (test c.vertices) c.value 0 in
     let new : weigh test (layers_of (taller_node v n)) ≡ sum_by f (layers_of n) + cond (test (n.top.vertices ++ v ∷ [])) 0 0 = sum_by_push f (layers_of n) (taller_node v n).top in
     omega (arith, new, cond_zero (test (n.top.vertices ++ v ∷ [])))
-
--- a node changed changes the sum by its own part
-pub weigh-set : (test : List ℕ → Bool) (nodes : List Node) (i : ℕ) (n : Node) → i < length nodes
-    → weigh test (all_cuts (set nodes i n)) + weigh test (layers_of (node_at nodes i)) ≡ weigh test (all_cuts nodes) + weigh test (layers_of n)
-weigh-set test nodes i n lt =
-    let f : Cut → ℕ = λ c. cond (test c.vertices) c.value 0 in
-    let g : Node → ℕ = λ x. weigh test (layers_of x) in
-    let new : weigh test (all_cuts (set nodes i n)) ≡ sum_by g (set nodes i n) = sum_by-flat_map f layers_of (set nodes i n) in
-    let old : weigh test (all_cuts nodes) ≡ sum_by g nodes = sum_by-flat_map f layers_of nodes in
-    let step : sum_by g (set nodes i n) + g (node_at nodes i) ≡ sum_by g nodes + g n = sum_by-set g nodes i n no_node lt in
-    omega (arith, new, old, step)
 
 pub weigh_none : (test : List ℕ → Bool) (cuts : List Cut) → All (λ c. test c.vertices ≡ false) cuts → weigh test cuts ≡ 0
 weigh_none test [] h = refl

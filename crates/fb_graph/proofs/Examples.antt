@@ -13,6 +13,7 @@ use Rattle.fb_graph.specs.Laws.{HasNoOddClosed, Link, ends_of, IsTight, IsPerfec
 use Rattle.fb_graph.specs.Limits.{DecodingGraph, is_real_in, problem_of}
 use Rattle.fb_graph.specs.declared.parts.Edge.{Edge}
 use Rattle.fb_graph.specs.declared.parts.Cut.{Cut}
+use Rattle.fb_graph.specs.InternalSamples.{cut, edge}
 use Rattle.fb_graph.proofs.ParitySums.{same_from_differ}
 use Rattle.fb_graph.proofs.Sets.{is_in-All, rising-one, rising-cons, distinct_from_rising}
 use Rattle.fb_graph.proofs.Walks.{joined_self, joined_ends, joined_trans}
@@ -20,12 +21,6 @@ use Rattle.fb_graph.proofs.Duality.{packing_of_best}
 use Rattle.fb_graph.proofs.Matching.{resolving}
 use Rattle.fb_graph.proofs.ClosedComponents.{no_odd_component}
 use Rattle.fb_graph.proofs.OddComponents.{best_has_no_odd, least_is_first_odd}
-
-abbrev pub edge : ℕ → ℕ → ℕ → Edge
-edge u v w = record { first = u; second = v; weight = w }
-
-abbrev pub cut : ℕ → List ℕ → Cut
-cut y vs = record { value = y; vertices = vs }
 
 -- whether the vertex is real and has another parity than the defects ask for
 abbrev is_wrong : DecodingGraph → List ℕ → (ℕ → Bool) → ℕ → Bool

@@ -18,6 +18,7 @@ use Rattle.fb_graph.proofs.Ranges.{filter-range_below, is_in-filter-range}
 use Rattle.fb_graph.proofs.Sets.{distinct_from_rising, is_in-All, is_in-cases, is_in-head, is_in-range, is_in-tail, is_in_at, length-le_from_within, range_rises}
 use Rattle.fb_graph.proofs.Walks.{joined_ends, joined_self, joined_sym, joined_trans}
 use Rattle.fb_graph.proofs.Members.{AreDistinct_push, is_in_pushed}
+use Rattle.fb_graph.proofs.Booleans.{or_nothing}
 
 -- lists with one number more
 pub is_in-left : (xs ys : List ℕ) (u : ℕ) → is_in xs u ≡ true → is_in (xs ++ ys) u ≡ true
@@ -75,10 +76,6 @@ reached_more labels flags order v label known below absent = record {
       (All-cons (λ u. u < length labels) v [] below (All-nil (λ u. u < length labels))));
 }
   where
-    same_or : (a b : Bool) → b ≡ false → a ≡ (a || b)
-    same_or true b e = refl
-    same_or false b e = sym e
-
     step : (u : ℕ) → u < length labels → (u ≡ v) ⊎ (u ≡ v → ⊥) → get_or (set flags v true) u false ≡ is_in (order ++ v ∷ []) u
     step u less (inl same) =
         ap (λ w. get_or (set flags v true) w false) same
@@ -87,7 +84,7 @@ reached_more labels flags order v label known below absent = record {
     step u less (inr other) =
         get_or-set_other flags v u true false other
         ∙ (known.each u less
-        ∙ (same_or (is_in order u) (is_in (v ∷ []) u) (absent_one (ne_eqb v u (λ e. other (sym e))))
+        ∙ (sym (or_nothing (is_in order u) (is_in (v ∷ []) u) (absent_one (ne_eqb v u (λ e. other (sym e)))))
         ∙ sym (list_any-append (λ w. w == u) order (v ∷ []))))
       where
         absent_one : (v == u) ≡ false → ((v == u) || false) ≡ false

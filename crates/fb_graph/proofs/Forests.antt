@@ -7,7 +7,7 @@ use Rattle.std.proofs.lemmas.List.Sums.{sum_by-cons}
 use Rattle.fb_graph.specs.Parity.{differ, is_in}
 use Rattle.fb_graph.specs.Problem.{Problem, crosses, with_defects}
 use Rattle.fb_graph.specs.Certificate.{AreDistinct, IsOddCut, IsPacking, total_value}
-use Rattle.fb_graph.specs.Dual.{Node, IsDual, IsHeld, IsNestedOrApart, IsWithin, AreGrown, AreOuterApart, HasRadius, all_cuts, layers_of, leaves, defects_of, first_vertices, is_empty, cover_of, height_of, is_live, is_outer, top_at}
+use Rattle.fb_graph.specs.Dual.{Node, AreApart, IsDual, IsHeld, IsNestedOrApart, IsWithin, AreGrown, AreOuterApart, HasRadius, all_cuts, layers_of, leaves, defects_of, first_vertices, is_empty, cover_of, height_of, is_live, is_outer, top_at}
 use Rattle.fb_graph.specs.declared.parts.Cut.{Cut}
 use Rattle.fb_graph.proofs.CutSums.{weigh_none, weigh-either}
 use Rattle.fb_graph.proofs.Nodes.{All-flat_map, All-pieces, All-top, layers_within, layers_hold}
@@ -201,3 +201,26 @@ dual_of p nodes base = record {
         let over = cover_among nodes v name e in
         is_in-All (λ u. p.is_real u ≡ true) over.node.top.vertices
         (tops_odd (with_defects p (leaves nodes)) nodes base.packing.odd over.node over.among).real v over.holds
+
+-- a node's children are live
+pub children_live : (nodes : List Node) → IsForest nodes → (n : Node) → IsAmong n nodes → All (λ c. is_live nodes c ≡ true) n.children
+children_live nodes forest n a = All_among (λ m. All (λ c. is_live nodes c ≡ true) m.children) nodes forest.live n a
+
+pub child_live : (nodes : List Node) → IsForest nodes → (n : Node) → IsAmong n nodes → (c : ℕ) → is_in n.children c ≡ true
+    → is_live nodes c ≡ true
+child_live nodes forest n a = is_in-All (λ c. is_live nodes c ≡ true) n.children (children_live nodes forest n a)
+
+-- no two nodes join the same
+pub one_parent : (ns : List Node) → AreJoinedLater ns → (m n : Node) → IsAmong m ns → IsAmong n ns → (c : ℕ) → is_in m.children c ≡ true
+    → is_in n.children c ≡ true → m ≡ n
+one_parent [] joined m n a b c h k = absurd a
+one_parent (x ∷ xs) joined m n (inl e) (inl f) c h k = sym e ∙ f
+one_parent (x ∷ xs) joined m n (inl e) (inr b) c h k =
+    absurd
+    (both_ways (is_in n.children c)
+    (All_among (λ y. AreApart x.children y.children) xs joined.1 n b c (ap (λ y. is_in y.children c) e ∙ h)) k)
+one_parent (x ∷ xs) joined m n (inr a) (inl f) c h k =
+    absurd
+    (both_ways (is_in m.children c)
+    (All_among (λ y. AreApart x.children y.children) xs joined.1 m a c (ap (λ y. is_in y.children c) f ∙ k)) h)
+one_parent (x ∷ xs) joined m n (inr a) (inr b) c h k = one_parent xs joined.2 m n a b c h k

@@ -1,11 +1,11 @@
 -- The steps of the loops over the labels of a shot's defects.
-use Rattle.std.proofs.Common.{ℕ, ◌+◌, ◌<◌, ◌≤◌, ◌≡◌, ◌==◌, ◌||◌, Bool, true, false, not, min, List, [], ◌∷◌, length, get_or, set, take, drop, All, Option, Some, None, refl, sym, ap, ◌∙◌, ◌⊎◌, inl, inr, le_refl, arith}
+use Rattle.std.proofs.Common.{ℕ, ◌+◌, ◌<◌, ◌≤◌, ◌≡◌, ◌==◌, Bool, true, false, not, min, List, [], ◌∷◌, length, get_or, set, take, All, Option, Some, None, refl, sym, ap, ◌∙◌, ◌⊎◌, inl, inr, le_refl, arith}
 use Rattle.std.specs.List.{list_any, reduce, fold}
-use Rattle.std.proofs.lemmas.Bool.{cases_eq, cases_lt, eq-eqb, ne_eqb, true≢false, false_from_ne_true, false≢true, or_left, or_right}
-use Rattle.std.proofs.lemmas.List.{take_more, drop_more, get_or-set_same, get_or-set_other, set_past, get_or_past}
+use Rattle.std.proofs.lemmas.Bool.{cases_eq, cases_lt, eq-eqb, ne_eqb, true≢false, false≢true, or_left, or_right}
+use Rattle.std.proofs.lemmas.List.{take_more, get_or-set_same, get_or-set_other, get_or_past}
 use Rattle.std.proofs.lemmas.List.Elements.{All-nil, All-cons, All-head, All-tail}
 use Rattle.fb_graph.specs.Parity.{differ, is_odd_count, is_in}
-use Rattle.fb_graph.specs.Labelling.{AreClear, AreOdd, AreOf, label_of}
+use Rattle.fb_graph.specs.Labelling.{AreOdd, AreOf, label_of}
 use Rattle.fb_graph.proofs.ParitySums.{odd-append, differ-false}
 use Rattle.fb_graph.proofs.Sets.{is_in-head, is_in-tail, is_in-cases, member_of_odd}
 
@@ -70,39 +70,6 @@ of_odd labels defects odd room told label is_set = step (cases_lt label (length 
         member_of_odd (λ d. label_of labels d == label) defects (sym (told label below) ∙ is_set) in
         any_from_is_in (λ d. label_of labels d == label) defects d among here
     step (inr past) = absurd (true≢false (sym is_set ∙ get_or_past odd label false (omega arith)))
-
--- the flag of one more defect's label, cleared
-pub clear_more : (labels defects : List ℕ) (odd : List Bool) (i : ℕ) → i < length defects
-    → AreOf labels (drop i defects) odd
-    → AreOf labels (drop (i + 1) defects) (set odd (label_of labels (get_or defects i 0)) false)
-clear_more labels defects odd i less told label is_set =
-    elim (cases_eq label x) [
-      | inl same ↦ absurd (true≢false (sym is_set ∙ cleared same))
-      | inr other ↦
-          without (x == label) (list_any (λ d. label_of labels d == label) (drop (i + 1) defects))
-          (ne_eqb x label (λ e. other (sym e)))
-          (sym (ap (list_any (λ d. label_of labels d == label)) (drop_more defects i 0 less))
-          ∙ told label (sym (get_or-set_other odd x label false false other) ∙ is_set))
-    ]
-  where
-    x : ℕ
-    x = label_of labels (get_or defects i 0)
-
-    cleared : label ≡ x → get_or (set odd x false) label false ≡ false
-    cleared same =
-        ap (λ r. get_or (set odd x false) r false) same
-        ∙ elim (cases_lt x (length odd)) [
-          | inl below ↦ get_or-set_same odd x false false below
-          | inr past ↦ ap (λ l. get_or l x false) (set_past odd x false past) ∙ get_or_past odd x false past
-        ]
-
-    without : (a b : Bool) → a ≡ false → (a || b) ≡ true → b ≡ true
-    without true b e h = absurd (true≢false e)
-    without false b e h = h
-
-pub clear_all : (labels : List ℕ) (odd : List Bool) → AreOf labels [] odd → AreClear odd
-clear_all labels odd told label =
-    false_from_ne_true (get_or odd label false) (λ is_set. true≢false (sym (told label is_set)))
 
 -- the least of the numbers; None where there is none
 abbrev pub IsLeast : List ℕ → Option ℕ → Type 0

@@ -19,6 +19,7 @@ pub mod InsertedCuts
 pub mod JoinedNests
 pub mod LabelSteps
 pub mod Layouts
+pub mod Leasts
 pub mod LoweredNests
 pub mod MappedNodes
 pub mod Matching
@@ -31,6 +32,7 @@ pub mod Nodes
 pub mod OddComponents
 pub mod OddLabels
 pub mod OddOnes
+pub mod Options
 pub mod ParitySums
 pub mod Places
 pub mod PrintedCuts

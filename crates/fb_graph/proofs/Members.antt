@@ -1,13 +1,11 @@
 -- Sets of vertices as lists: members, distinct lists and parities after a push.
-use Rattle.std.proofs.Common.{◌≡◌, ℕ, ◌==◌, Bool, true, false, ◌||◌, List, [], ◌∷◌, ◌++◌, refl, ◌∙◌, ap}
-use Rattle.std.proofs.lemmas.Bool.{eq-eqb, or_from, or_parts, or_right}
+use Rattle.std.proofs.Common.{◌≡◌, ◌⊎◌, inl, inr, ℕ, ◌+◌, ◌<◌, ◌==◌, Bool, true, false, ◌||◌, List, [], ◌∷◌, ◌++◌, length, take, get_or, refl, sym, ◌∙◌, ap}
+use Rattle.std.proofs.Math.Bool.{or-false}
+use Rattle.std.proofs.lemmas.Bool.{eq-eqb, or_from, or_parts, or_right, or_cases, eqb-true}
+use Rattle.std.proofs.lemmas.List.{take_more}
 use Rattle.fb_graph.proofs.Sets.{equal_sym, is_in-head, is_in-tail}
 use Rattle.fb_graph.specs.Parity.{differ, is_odd_count, is_in}
 use Rattle.fb_graph.specs.Certificate.{AreDistinct}
-
-pub or_false : (b : Bool) → (b || false) ≡ b
-or_false true = refl
-or_false false = refl
 
 pub is_in-append : (xs ys : List ℕ) (v : ℕ) → is_in (xs ++ ys) v ≡ (is_in xs v || is_in ys v)
 is_in-append [] ys v = refl
@@ -18,7 +16,7 @@ is_in-append (x ∷ xs) ys v = rw (is_in-append xs ys v) (assoc (x == v) (is_in 
     assoc false b c = refl
 
 pub is_in_push : (xs : List ℕ) (y v : ℕ) → is_in (xs ++ y ∷ []) v ≡ (is_in xs v || (y == v))
-is_in_push xs y v = is_in-append xs (y ∷ []) v ∙ ap (λ b. is_in xs v || b) (or_false (y == v))
+is_in_push xs y v = is_in-append xs (y ∷ []) v ∙ ap (λ b. is_in xs v || b) (or-false (y == v))
 
 pub is_in_pushed : (xs : List ℕ) (y : ℕ) → is_in (xs ++ y ∷ []) y ≡ true
 is_in_pushed xs y = is_in_push xs y y ∙ or_right (is_in xs y) (y == y) (eq-eqb y y refl)
@@ -40,3 +38,20 @@ is_odd_count-agree p q (x ∷ xs) h =
     let here : p x ≡ q x = h x (is_in-head x xs) in
     let rest : is_odd_count p xs ≡ is_odd_count q xs = is_odd_count-agree p q xs (λ v i. h v (is_in-tail x xs v i)) in
     cc
+
+pub distinct_left : (xs ys : List ℕ) → AreDistinct (xs ++ ys) → AreDistinct xs
+distinct_left [] ys distinct = tt
+distinct_left (x ∷ xs) ys distinct = (
+  (or_parts (is_in xs x) (is_in ys x) (sym (is_in-append xs ys x) ∙ distinct.0)).0,
+  distinct_left xs ys distinct.1,
+)
+
+-- a member of one place more
+pub is_in-take_more : (xs : List ℕ) (i v : ℕ) → i < length xs → is_in (take (i + 1) xs) v ≡ true
+    → (is_in (take i xs) v ≡ true) ⊎ (get_or xs i 0 ≡ v)
+is_in-take_more xs i v less within =
+    elim (or_cases (is_in (take i xs) v) (get_or xs i 0 == v)
+    (sym (ap (λ l. is_in l v) (take_more xs i 0 less) ∙ is_in_push (take i xs) (get_or xs i 0) v) ∙ within)) [
+      | inl before ↦ inl before
+      | inr same ↦ inr (eqb-true (get_or xs i 0) v same)
+    ]

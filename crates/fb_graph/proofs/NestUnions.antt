@@ -1,8 +1,8 @@
 -- Two nests beside one another are a nest.
-use Rattle.std.proofs.Common.{ℕ, ◌≡◌, ◌+◌, ◌%◌, ◌<◌, ◌||◌, ◌⊎◌, inl, inr, cond, Bool, true, false, List, [], ◌∷◌, ◌++◌, map, length, All, AllPairs, Option, Some, None, get_or, refl, sym, ap, ◌∙◌, subst, arith}
+use Rattle.std.proofs.Common.{ℕ, ◌≡◌, ◌+◌, ◌%◌, ◌<◌, ◌||◌, ◌⊎◌, inl, inr, cond, Bool, true, false, List, [], ◌∷◌, ◌++◌, map, length, All, AllPairs, Some, get_or, refl, sym, ap, ◌∙◌, subst, arith}
+use Rattle.std.proofs.Math.Bool.{or-false}
 use Rattle.std.specs.List.{concat}
-use Rattle.std.specs.Option.{IsSome}
-use Rattle.std.proofs.lemmas.Bool.{both_ways, false≢true, false_from_ne_true, or_cases, or_left, or_right}
+use Rattle.std.proofs.lemmas.Bool.{both_ways, false_from_ne_true, or_cases, or_left, or_right}
 use Rattle.std.proofs.lemmas.List.Elements.{All-append, All-weaker}
 use Rattle.std.proofs.lemmas.List.Kept.{AllPairs-cons}
 use Rattle.std.proofs.lemmas.List.Sums.{sum_by-append}
@@ -17,17 +17,18 @@ use Rattle.fb_graph.specs.Covers.{HaveParity}
 use Rattle.fb_graph.specs.Ends.{AreAllApart}
 use Rattle.fb_graph.specs.Nests.{IsNest, IsForest, IsFormed, IsFilled, AreJoinedLater, HasSources, child_sets}
 use Rattle.fb_graph.specs.NestUnions.{AreBeside, NestsBeside}
-use Rattle.fb_graph.proofs.Among.{IsAmong, All_among, among_All, among_left, among_live, among_right, cover_among, covered_by, live_among, top_left, top_right}
-use Rattle.fb_graph.proofs.AppendedNodes.{cuts_merged, leaves_merged, names_merged, outer_both, outer_in}
+use Rattle.fb_graph.proofs.Among.{IsAmong, All_among, among_All, among_left, among_live, among_right, cover_among, covered_by, top_left, top_right}
+use Rattle.fb_graph.proofs.AppendedNodes.{cuts_merged, leaves_merged, names_merged, outer_both, outer_in, live_left, live_right}
 use Rattle.fb_graph.proofs.ClosedSets.{boundary_height, not_held}
 use Rattle.fb_graph.proofs.CutSums.{total-le}
-use Rattle.fb_graph.proofs.Forests.{absent_outer}
+use Rattle.fb_graph.proofs.Forests.{absent_outer, child_live, children_live}
 use Rattle.fb_graph.proofs.InsertedCuts.{AreFit, pairs_head, pairs_tail}
-use Rattle.fb_graph.proofs.Members.{is_in-append, or_false}
+use Rattle.fb_graph.proofs.Members.{is_in-append}
 use Rattle.fb_graph.proofs.NestParts.{leaf_real, map_agree, names_live, nest_of, top_is_odd}
 use Rattle.fb_graph.proofs.ParitySums.{odd_agree}
 use Rattle.fb_graph.proofs.Sets.{is_in-All, member_of_odd}
 use Rattle.fb_graph.proofs.Unions.{distinct_append}
+use Rattle.fb_graph.proofs.Options.{some_name}
 
 pairs_append : {X : Type 0} (R : X → X → Type 0) (xs ys : List X) → AllPairs R xs → AllPairs R ys
     → ((x y : X) → IsAmong x xs → IsAmong y ys → R x y) → AllPairs R (xs ++ ys)
@@ -64,7 +65,7 @@ own_left left right nodes others parted two v real =
     ∙ (ap (λ b. is_in (leaves nodes) v || b)
     (false_from_ne_true (is_in (leaves others) v)
     (λ leaf. both_ways (right.is_real v) (parted v real) (leaf_real right others v two.dual leaf)))
-    ∙ or_false (is_in (leaves nodes) v))
+    ∙ or-false (is_in (leaves nodes) v))
 
 pub own_right : (left right : Problem) (nodes others : List Node)
     → ((v : ℕ) → left.is_real v ≡ true → right.is_real v ≡ false)
@@ -75,10 +76,6 @@ own_right left right nodes others parted one v real =
     ∙ ap (λ b. b || is_in (leaves others) v)
     (false_from_ne_true (is_in (leaves nodes) v)
     (λ leaf. both_ways (right.is_real v) (parted v (leaf_real left nodes v one.dual leaf)) real))
-
-pub some_name : (o : Option ℕ) → IsSome o → (m : ℕ) × (o ≡ Some m)
-some_name None some = absurd (false≢true some)
-some_name (Some m) some = (m, refl)
 
 module _ (left right whole : Problem) (nodes others : List Node) (beside : AreBeside left right whole nodes others)
     (one : IsNest left nodes) (two : IsNest right others) where
@@ -163,26 +160,12 @@ module _ (left right whole : Problem) (nodes others : List Node) (beside : AreBe
         ));
   }
 
-  left_child : (n : Node) → IsAmong n nodes → All (λ c. is_live nodes c ≡ true) n.children
-  left_child n a = All_among (λ m. All (λ c. is_live nodes c ≡ true) m.children) nodes one.forest.live n a
-
-  right_child : (n : Node) → IsAmong n others → All (λ c. is_live others c ≡ true) n.children
-  right_child n a = All_among (λ m. All (λ c. is_live others c ≡ true) m.children) others two.forest.live n a
-
-  live_left : (c : ℕ) → is_live nodes c ≡ true → is_live (nodes ++ others) c ≡ true
-  live_left c live = let (m, a, e) = live_among nodes c live in among_live (nodes ++ others) m c
-      (among_left nodes others m a) e
-
-  live_right : (c : ℕ) → is_live others c ≡ true → is_live (nodes ++ others) c ≡ true
-  live_right c live = let (m, a, e) = live_among others c live in among_live (nodes ++ others) m c
-      (among_right nodes others m a) e
-
   left_sets : (n : Node) → IsAmong n nodes → child_sets (nodes ++ others) n ≡ child_sets nodes n
   left_sets n a =
       map_agree (top_at (nodes ++ others)) (top_at nodes) n.children
       (All-weaker (λ c. is_live nodes c ≡ true) (λ c. top_at (nodes ++ others) c ≡ top_at nodes c)
       (top_left nodes others) n.children
-      (left_child n a))
+      (children_live nodes one.forest n a))
 
   right_sets : (n : Node) → IsAmong n others → child_sets (nodes ++ others) n ≡ child_sets others n
   right_sets n a =
@@ -191,7 +174,7 @@ module _ (left right whole : Problem) (nodes others : List Node) (beside : AreBe
       (λ c live.
       top_right nodes others c (false_from_ne_true (is_live nodes c)
       (λ h. both_ways (is_live others c) (beside.names c h) live)))
-      n.children (right_child n a))
+      n.children (children_live others two.forest n a))
 
   forest : IsForest (nodes ++ others)
   forest = record {
@@ -199,25 +182,25 @@ module _ (left right whole : Problem) (nodes others : List Node) (beside : AreBe
     live = All-append (λ n. All (λ c. is_live (nodes ++ others) c ≡ true) n.children) nodes others
         (among_All (λ n. All (λ c. is_live (nodes ++ others) c ≡ true) n.children) nodes
         (λ n a.
-        All-weaker (λ c. is_live nodes c ≡ true) (λ c. is_live (nodes ++ others) c ≡ true) live_left n.children
-        (left_child n a)))
+        All-weaker (λ c. is_live nodes c ≡ true) (λ c. is_live (nodes ++ others) c ≡ true) (live_left nodes others) n.children
+        (children_live nodes one.forest n a)))
         (among_All (λ n. All (λ c. is_live (nodes ++ others) c ≡ true) n.children) others
         (λ n a.
-        All-weaker (λ c. is_live others c ≡ true) (λ c. is_live (nodes ++ others) c ≡ true) live_right n.children
-        (right_child n a)));
+        All-weaker (λ c. is_live others c ≡ true) (λ c. is_live (nodes ++ others) c ≡ true) (live_right nodes others) n.children
+        (children_live others two.forest n a)));
     joined = joined_append nodes others one.forest.joined two.forest.joined
         (λ n m a b. (
           false_from_ne_true (is_in n.children m.name)
               (λ h.
               both_ways (is_live others m.name)
-              (beside.names m.name (is_in-All (λ c. is_live nodes c ≡ true) n.children (left_child n a) m.name h))
+              (beside.names m.name (child_live nodes one.forest n a m.name h))
               (among_live others m m.name b refl)),
           λ c h.
               false_from_ne_true (is_in m.children c)
               (λ k.
               both_ways (is_live others c)
-              (beside.names c (is_in-All (λ x. is_live nodes x ≡ true) n.children (left_child n a) c h))
-              (is_in-All (λ x. is_live others x ≡ true) m.children (right_child m b) c k)),
+              (beside.names c (child_live nodes one.forest n a c h))
+              (child_live others two.forest m b c k)),
         ));
     filled = All-append (IsFilled (nodes ++ others)) nodes others
         (among_All (IsFilled (nodes ++ others)) nodes

@@ -1,5 +1,6 @@
 -- A node for one more defect keeps a nest and its source walks.
 use Rattle.std.proofs.Common.{ℕ, ◌≡◌, ◌%◌, ◌==◌, ◌||◌, ◌⊎◌, inl, inr, true, false, List, [], ◌∷◌, ◌++◌, map, All, None, Some, get_or, refl, sym, ap, ◌∙◌, subst, arith}
+use Rattle.std.proofs.Math.Bool.{or-false}
 use Rattle.std.specs.List.{concat}
 use Rattle.std.specs.Option.{IsSome}
 use Rattle.std.proofs.lemmas.Bool.{both_ways, false≢true, false_from_ne_true, or_from, or_left, eq-eqb, eqb-true, ne_eqb}
@@ -11,25 +12,24 @@ use Rattle.fb_graph.specs.Certificate.{AreDistinct, IsOddCut}
 use Rattle.fb_graph.specs.Printed.{DifferAsSets}
 use Rattle.fb_graph.specs.Dual.{Node, AreApart, AreGrown, AreOuterApart, IsNestedOrApart, all_cuts, layers_of, leaf, leaves, height_of, is_empty, is_live, is_outer, top_at, cover_of}
 use Rattle.fb_graph.specs.declared.parts.Cut.{Cut}
-use Rattle.fb_graph.proofs.Members.{AreDistinct_push, is_in_push, is_in_pushed, is_odd_count-agree, or_false}
+use Rattle.fb_graph.proofs.Members.{AreDistinct_push, is_in_push, is_in_pushed, is_odd_count-agree}
 use Rattle.fb_graph.proofs.Nodes.{All-pieces, All-top}
-use Rattle.fb_graph.proofs.Sets.{is_in-All}
 use Rattle.fb_graph.specs.Ends.{AreAllApart}
 use Rattle.fb_graph.specs.Nests.{IsNest, IsForest, IsFormed, IsFilled, HasSources, child_sets}
 use Rattle.fb_graph.specs.SourceWalks.{IsEdgeIn, HasWalks, HaveWalks}
 use Rattle.fb_graph.specs.NewLeaves.{MayAddLeaf, NestLeafAdded, WalksLeafAdded}
-use Rattle.fb_graph.proofs.Among.{IsAmong, All_among, among_All, among_left, among_either, live_among, among_live, top_left, apart_among, among_pairs, covered_by}
+use Rattle.fb_graph.proofs.Among.{IsAmong, All_among, among_All, among_either, top_left, apart_among, among_pairs, covered_by}
 use Rattle.fb_graph.proofs.EndSums.{apart_sym}
-use Rattle.fb_graph.proofs.Forests.{IsUnder, cuts_under}
+use Rattle.fb_graph.proofs.Forests.{IsUnder, cuts_under, child_live, children_live}
 use Rattle.fb_graph.proofs.InsertedCuts.{IsInserted, AreFit, inserted_All, inserted_fit, same_weigh}
 use Rattle.fb_graph.proofs.JoinedNests.{joined_push}
-use Rattle.fb_graph.proofs.AppendedNodes.{cuts_merged, leaves_merged, names_merged, outer_in}
+use Rattle.fb_graph.proofs.AppendedNodes.{cuts_merged, leaves_merged, names_merged, outer_in, live_left}
 use Rattle.fb_graph.proofs.NestParts.{grove_of, fit_of, nest_of, names_live, map_agree}
 
 module _ (p : Problem) (nodes : List Node) (name v : ℕ) (may : MayAddLeaf p nodes name v) (nest : IsNest p nodes) where
   -- no set holds the vertex
-  free : All (λ c. is_in c.vertices v ≡ false) (all_cuts nodes)
-  free =
+  pub not_held : All (λ c. is_in c.vertices v ≡ false) (all_cuts nodes)
+  not_held =
       All-weaker (λ c. IsUnder nodes c.vertices) (λ c. is_in c.vertices v ≡ false)
       (λ c under.
       false_from_ne_true (is_in c.vertices v)
@@ -52,14 +52,14 @@ module _ (p : Problem) (nodes : List Node) (name v : ℕ) (may : MayAddLeaf p no
   leaves_are : leaves (nodes ++ leaf name v ∷ []) ≡ leaves nodes ++ v ∷ []
   leaves_are = leaves_merged nodes (leaf name v ∷ [])
 
-  height : (w : ℕ) → height_of (all_cuts (nodes ++ leaf name v ∷ [])) w ≡ height_of (all_cuts nodes) w
+  pub height : (w : ℕ) → height_of (all_cuts (nodes ++ leaf name v ∷ [])) w ≡ height_of (all_cuts nodes) w
   height w = same_weigh (λ s. is_in s w) (leaf name v).top (all_cuts nodes) (all_cuts (nodes ++ leaf name v ∷ [])) insertion
 
-  still_leaf : (d : ℕ) → is_in (leaves nodes) d ≡ true → is_in (leaves (nodes ++ leaf name v ∷ [])) d ≡ true
+  pub still_leaf : (d : ℕ) → is_in (leaves nodes) d ≡ true → is_in (leaves (nodes ++ leaf name v ∷ [])) d ≡ true
   still_leaf d h =
       ap (λ l. is_in l d) leaves_are ∙ (is_in_push (leaves nodes) v d ∙ or_left (is_in (leaves nodes) d) (v == d) h)
 
-  is_leaf : is_in (leaves (nodes ++ leaf name v ∷ [])) v ≡ true
+  pub is_leaf : is_in (leaves (nodes ++ leaf name v ∷ [])) v ≡ true
   is_leaf = ap (λ l. is_in l v) leaves_are ∙ is_in_pushed (leaves nodes) v
 
   not_leaf : is_in (leaves nodes) v ≡ false
@@ -78,7 +78,7 @@ module _ (p : Problem) (nodes : List Node) (name v : ℕ) (may : MayAddLeaf p no
         is_in_push (leaves nodes) v w
         ∙ (ap (λ b. is_in (leaves nodes) w || b)
         (ne_eqb v w (λ same. both_ways (is_in c.vertices v) out (ap (is_in c.vertices) same ∙ h)))
-        ∙ or_false (is_in (leaves nodes) w)))
+        ∙ or-false (is_in (leaves nodes) w)))
         ∙ odd.odd;
   }
 
@@ -89,7 +89,7 @@ module _ (p : Problem) (nodes : List Node) (name v : ℕ) (may : MayAddLeaf p no
       (inserted_fit p (leaves nodes ++ v ∷ []) (leaf name v).top (all_cuts nodes) (all_cuts (nodes ++ leaf name v ∷ [])) insertion
       (record {
         packing = record {
-          odd = λ i d less. odd_still (get_or (all_cuts nodes) i d) (free i d less) (old.packing.odd i d less);
+          odd = λ i d less. odd_still (get_or (all_cuts nodes) i d) (not_held i d less) (old.packing.odd i d less);
           fits = old.packing.fits;
         };
         laminar = old.laminar;
@@ -106,22 +106,14 @@ module _ (p : Problem) (nodes : List Node) (name v : ℕ) (may : MayAddLeaf p no
       (λ c out. (
         inr (inr (λ w h.
             or_from (v == w) false (ne_eqb v w (λ same. both_ways (is_in c.vertices v) out (ap (is_in c.vertices) same ∙ h))) refl)),
-        (v, λ same. both_ways (is_in c.vertices v) out (same ∙ (or_false (v == v) ∙ eq-eqb v v refl))),
-      )) (all_cuts nodes) free))
-
-  child_live : (n : Node) → IsAmong n nodes → All (λ c. is_live nodes c ≡ true) n.children
-  child_live n a = All_among (λ m. All (λ c. is_live nodes c ≡ true) m.children) nodes nest.forest.live n a
-
-  still_live : (c : ℕ) → is_live nodes c ≡ true → is_live (nodes ++ leaf name v ∷ []) c ≡ true
-  still_live c live =
-      let (m, a, e) = live_among nodes c live in
-      among_live (nodes ++ leaf name v ∷ []) m c (among_left nodes (leaf name v ∷ []) m a) e
+        (v, λ same. both_ways (is_in c.vertices v) out (same ∙ (or-false (v == v) ∙ eq-eqb v v refl))),
+      )) (all_cuts nodes) not_held))
 
   same_sets : (n : Node) → IsAmong n nodes → child_sets (nodes ++ leaf name v ∷ []) n ≡ child_sets nodes n
   same_sets n a =
       map_agree (top_at (nodes ++ leaf name v ∷ [])) (top_at nodes) n.children
       (All-weaker (λ c. is_live nodes c ≡ true) (λ c. top_at (nodes ++ leaf name v ∷ []) c ≡ top_at nodes c)
-      (top_left nodes (leaf name v ∷ [])) n.children (child_live n a))
+      (top_left nodes (leaf name v ∷ [])) n.children (children_live nodes nest.forest n a))
 
   forest : IsForest (nodes ++ leaf name v ∷ [])
   forest = record {
@@ -129,14 +121,14 @@ module _ (p : Problem) (nodes : List Node) (name v : ℕ) (may : MayAddLeaf p no
     live = All-push (λ n. All (λ c. is_live (nodes ++ leaf name v ∷ []) c ≡ true) n.children) nodes (leaf name v)
         (among_All (λ n. All (λ c. is_live (nodes ++ leaf name v ∷ []) c ≡ true) n.children) nodes
         (λ n a.
-        All-weaker (λ c. is_live nodes c ≡ true) (λ c. is_live (nodes ++ leaf name v ∷ []) c ≡ true) still_live n.children
-        (child_live n a)))
+        All-weaker (λ c. is_live nodes c ≡ true) (λ c. is_live (nodes ++ leaf name v ∷ []) c ≡ true) (live_left nodes (leaf name v ∷ [])) n.children
+        (children_live nodes nest.forest n a)))
         (All-nil (λ c. is_live (nodes ++ leaf name v ∷ []) c ≡ true));
     joined = joined_push nodes (leaf name v) nest.forest.joined
         (among_All (λ n. is_in n.children name ≡ false) nodes
         (λ n a.
         false_from_ne_true (is_in n.children name)
-        (λ h. both_ways (is_live nodes name) may.fresh (is_in-All (λ c. is_live nodes c ≡ true) n.children (child_live n a) name h))))
+        (λ h. both_ways (is_live nodes name) may.fresh (child_live nodes nest.forest n a name h))))
         (among_All (λ n. AreApart n.children []) nodes (λ n a c h. refl))
         refl;
     filled = All-push (IsFilled (nodes ++ leaf name v ∷ [])) nodes (leaf name v)
@@ -164,7 +156,7 @@ module _ (p : Problem) (nodes : List Node) (name v : ℕ) (may : MayAddLeaf p no
       both_ways (is_in m.top.vertices v)
       (All-top (λ c. is_in c.vertices v ≡ false) m.below m.top
       (All_among (λ n. All (λ c. is_in c.vertices v ≡ false) (layers_of n)) nodes
-      (All-pieces (λ c. is_in c.vertices v ≡ false) layers_of nodes free) m a))
+      (All-pieces (λ c. is_in c.vertices v ≡ false) layers_of nodes not_held) m a))
       (ap (is_in m.top.vertices) same ∙ h)))
       refl
 
@@ -200,7 +192,7 @@ module _ (p : Problem) (nodes : List Node) (name v : ℕ) (may : MayAddLeaf p no
       (λ w within. (w, within, ap (is_in (leaves (nodes ++ leaf name v ∷ []))) (own w within) ∙ is_leaf, refl))
     where
       own : (w : ℕ) → is_in (v ∷ []) w ≡ true → w ≡ v
-      own w within = sym (eqb-true v w (sym (or_false (v == w)) ∙ within))
+      own w within = sym (eqb-true v w (sym (or-false (v == w)) ∙ within))
 
   nest_kept : IsNest p (nodes ++ leaf name v ∷ [])
   nest_kept =
@@ -228,7 +220,7 @@ module _ (p : Problem) (nodes : List Node) (name v : ℕ) (may : MayAddLeaf p no
         },
       )) (all_cuts nodes) walks)
       (λ w within.
-      let same : v ≡ w = eqb-true v w (sym (or_false (v == w)) ∙ within) in (
+      let same : v ≡ w = eqb-true v w (sym (or-false (v == w)) ∙ within) in (
         [],
         w,
         record {

@@ -1,6 +1,6 @@
 -- Layers of nodes, and lists of nodes of which one is changed.
-use Rattle.std.proofs.Common.{◌≡◌, ℕ, zero, suc, ◌+◌, ◌<◌, ◌==◌, not, Bool, true, false, cond, List, [], ◌∷◌, ◌++◌, map, length, set, Some, None, refl, ◌∙◌, ap, arith, if◌then◌else◌, nat_lt}
-use Rattle.std.specs.List.{list_any, find, flat_map, All, position, position_or_len}
+use Rattle.std.proofs.Common.{◌≡◌, ℕ, zero, suc, ◌+◌, ◌<◌, ◌==◌, Bool, true, false, cond, List, [], ◌∷◌, ◌++◌, map, length, set, Some, None, refl, ◌∙◌, ap, arith, if◌then◌else◌, nat_lt}
+use Rattle.std.specs.List.{find, flat_map, All, position, position_or_len}
 use Rattle.std.proofs.lemmas.Bool.{or_left, or_parts}
 use Rattle.std.proofs.lemmas.Bool.Decides.{nat_tests}
 use Rattle.std.proofs.lemmas.List.Elements.{All-nil, All-cons, All-head, All-tail, All-append, All-get_or, All-from_get_or}
@@ -10,7 +10,7 @@ use Rattle.std.proofs.lemmas.List.Sums.{fails_before_first}
 use Rattle.fb_graph.specs.Parity.{is_in}
 use Rattle.fb_graph.specs.Certificate.{AreDistinct}
 use Rattle.fb_graph.specs.declared.parts.Cut.{Cut}
-use Rattle.fb_graph.specs.Dual.{Node, AreGrown, IsWithin, layers_of, all_cuts, leaves, defects_of, is_empty, first_vertices, is_live, is_outer, change_at, taller_node, thicker_node, no_node, node_at, layers_at, top_at}
+use Rattle.fb_graph.specs.Dual.{Node, AreGrown, IsWithin, layers_of, all_cuts, defects_of, is_empty, first_vertices, is_live, change_at, taller_node, no_node, node_at, layers_at, top_at}
 use Rattle.fb_graph.proofs.Sets.{equal_sym}
 use Rattle.fb_graph.proofs.Members.{is_in_push}
 
@@ -40,19 +40,6 @@ All-top P ys y h = All-head P y [] (All-right P ys (y ∷ []) h)
 pub All-below : {Y : Type 0} (P : Y → Type 0) (ys : List Y) (y : Y) → All P (ys ++ y ∷ []) → All P ys
 All-below P ys y h = All-left P ys (y ∷ []) h
 
--- a fact of all cuts where one node is changed
-pub All-cuts-set : (P : Cut → Type 0) (nodes : List Node) (i : ℕ) (n : Node) → All P (all_cuts nodes) → All P (layers_of n) → All P (all_cuts (set nodes i n))
-All-cuts-set P nodes i n h k = All-flat_map P layers_of (set nodes i n) (changed nodes i (All-pieces P layers_of nodes h))
-  where
-    Q : Node → Type 0
-    Q x = All P (layers_of x)
-
-    changed : (ns : List Node) (j : ℕ) → All (λ x. All P (layers_of x)) ns → All (λ x. All P (layers_of x)) (set ns j n)
-    changed [] j h' = h'
-    changed (x ∷ xs) zero h' = All-cons (λ (y : Node). All P (layers_of y)) n xs k (All-tail (λ (y : Node). All P (layers_of y)) x xs h')
-    changed (x ∷ xs) (suc j) h' =
-        All-cons (λ (y : Node). All P (layers_of y)) x (set xs j n) (All-head (λ (y : Node). All P (layers_of y)) x xs h') (changed xs j (All-tail (λ (y : Node). All P (layers_of y)) x xs h'))
-
 pub All-cuts-at : (P : Cut → Type 0) (nodes : List Node) (i : ℕ) → i < length nodes → All P (all_cuts nodes) → All P (layers_of (node_at nodes i))
 All-cuts-at P nodes i lt h = All-get_or (λ (x : Node). All P (layers_of x)) nodes i no_node lt (All-pieces P layers_of nodes h)
 
@@ -60,11 +47,6 @@ pub AreGrown-taller_node : (below : List Cut) (top : Cut) (v : ℕ) → AreGrown
 AreGrown-taller_node [] top v h = ((v, refl), h)
 AreGrown-taller_node (c ∷ []) top v h = (h.0, AreGrown-taller_node [] top v h.1)
 AreGrown-taller_node (c ∷ d ∷ ds) top v h = (h.0, AreGrown-taller_node (d ∷ ds) top v h.1)
-
-pub AreGrown-thicker_node : (below : List Cut) (top : Cut) (k : ℕ) → AreGrown (below ++ top ∷ []) → AreGrown (below ++ record top { value = top.value + k } ∷ [])
-AreGrown-thicker_node [] top k h = h
-AreGrown-thicker_node (c ∷ []) top k h = (h.0, AreGrown-thicker_node [] top k h.1)
-AreGrown-thicker_node (c ∷ d ∷ ds) top k h = (h.0, AreGrown-thicker_node (d ∷ ds) top k h.1)
 
 within_pushed : (xs : List ℕ) (y v : ℕ) → is_in xs v ≡ true → is_in (xs ++ y ∷ []) v ≡ true
 within_pushed xs y v h = is_in_push xs y v ∙ or_left (is_in xs v) (y == v) h
@@ -113,39 +95,12 @@ change_at-place f (n ∷ ns) (suc i) d lt =
     absent name (m ∷ ms) zero e l = (or_parts (m.name == name) (is_in (map (λ x. x.name) ms) name) e).0
     absent name (m ∷ ms) (suc j) e l = absent name ms j (or_parts (m.name == name) (is_in (map (λ x. x.name) ms) name) e).1 (omega arith)
 
-pub names-set : (nodes : List Node) (i : ℕ) (n : Node) → n.name ≡ (node_at nodes i).name → map (λ x. x.name) (set nodes i n) ≡ map (λ x. x.name) nodes
-names-set [] i n e = refl
-names-set (x ∷ xs) zero n e = rw e refl
-names-set (x ∷ xs) (suc i) n e = ap (λ l. x.name ∷ l) (names-set xs i n e)
-
-pub leaves-set : (nodes : List Node) (i : ℕ) (n : Node) → defects_of n ≡ defects_of (node_at nodes i) → leaves (set nodes i n) ≡ leaves nodes
-leaves-set [] i n e = refl
-leaves-set (x ∷ xs) zero n e = ap (λ l. l ++ leaves xs) e
-leaves-set (x ∷ xs) (suc i) n e = ap (λ l. defects_of x ++ l) (leaves-set xs i n e)
-
-pub defects_of-thicker_node : (k : ℕ) (n : Node) → defects_of (thicker_node k n) ≡ defects_of n
-defects_of-thicker_node k n = ap (λ l. if is_empty n.children then l else []) (first n.below)
-  where
-    first : (below : List Cut) → first_vertices (below ++ (thicker_node k n).top ∷ []) ≡ first_vertices (below ++ n.top ∷ [])
-    first [] = refl
-    first (c ∷ cs) = refl
-
 pub defects_of-taller_node : (v : ℕ) (n : Node) → defects_of (taller_node v n) ≡ defects_of n
 defects_of-taller_node v n = ap (λ l. if is_empty n.children then l else []) (first n.below)
   where
     first : (below : List Cut) → first_vertices ((below ++ n.top ∷ []) ++ (taller_node v n).top ∷ []) ≡ first_vertices (below ++ n.top ∷ [])
     first [] = refl
     first (c ∷ cs) = refl
-
-pub is_outer-childless : (nodes : List Node) (name : ℕ) → All (λ n. n.children ≡ []) nodes → is_outer nodes name ≡ true
-is_outer-childless nodes name h = ap not (none nodes h)
-  where
-    none : (ns : List Node) → All (λ n. n.children ≡ []) ns → list_any (λ n. is_in n.children name) ns ≡ false
-    none [] h' = refl
-    none (n ∷ ns) h' =
-        let here : n.children ≡ [] = All-head (λ (x : Node). x.children ≡ []) n ns h' in
-        let rest : list_any (λ (x : Node). is_in x.children name) ns ≡ false = none ns (All-tail (λ (x : Node). x.children ≡ []) n ns h') in
-        rw (here, rest) refl
 
 pub find-agree : {X : Type 0} (p q : X → Bool) (xs : List X) → ((x : X) → p x ≡ q x) → find p xs ≡ find q xs
 find-agree p q [] h = refl

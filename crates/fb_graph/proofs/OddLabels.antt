@@ -1,7 +1,7 @@
 -- The vertices of one label are a component, so that the first odd component is found by its label.
-use Rattle.std.proofs.Common.{ℕ, ◌<◌, ◌≤◌, ◌≡◌, ◌==◌, ◌⊎◌, ◌&&◌, Bool, true, false, not, List, [], ◌∷◌, length, map, get_or, filter, Option, Some, None, IfNone, refl, sym, ap, subst, ◌∙◌, inl, inr, arith}
+use Rattle.std.proofs.Common.{ℕ, ◌<◌, ◌≤◌, ◌≡◌, ◌==◌, ◌⊎◌, ◌&&◌, Bool, true, false, not, List, [], ◌∷◌, length, map, get_or, filter, Option, Some, None, IfNone, sym, ap, subst, ◌∙◌, inl, inr, arith}
 use Rattle.std.specs.List.{range_with_len}
-use Rattle.std.proofs.lemmas.Bool.{false≢true, both_ways, eq-eqb, eqb-true, and_from, and_parts, not-true, not_from_false, false_from_ne_true}
+use Rattle.std.proofs.lemmas.Bool.{false≢true, both_ways, eq-eqb, eqb-true, and_from, and_parts, not-true, not_from_false, false_from_ne_true, not-false}
 use Rattle.std.proofs.lemmas.List.Folds.{list_any_none}
 use Rattle.fb_graph.specs.Parity.{is_odd_count, is_in}
 use Rattle.fb_graph.specs.Problem.{Problem, edge_at, no_edge, with_defects}
@@ -17,6 +17,7 @@ use Rattle.fb_graph.proofs.ParitySums.{odd_agree}
 use Rattle.fb_graph.proofs.Ranges.{filter-range_below, is_in-filter-range}
 use Rattle.fb_graph.proofs.Sets.{All-from_is_in, distinct_from_rising, distinct-filter, is_in-All, is_in-cases, is_in-filter, is_in-head, is_in-range, is_in-tail, member_of_odd, odd_same_set, odd_shared, range_below, range_rises}
 use Rattle.fb_graph.proofs.Walks.{joined_trans, joined_sym}
+use Rattle.fb_graph.proofs.Booleans.{same_bool}
 
 is_in-map : (f : ℕ → ℕ) (xs : List ℕ) (u : ℕ) → is_in xs u ≡ true → is_in (map f xs) (f u) ≡ true
 is_in-map f [] u within = absurd (false≢true within)
@@ -139,16 +140,12 @@ module _ (p : Problem) (labels : List ℕ) (limits : IsWithinLimits p) (labellin
     real_members : (r : ℕ) → r < p.vertices → get_or bounded r false ≡ false → (u : ℕ) → is_in (members_of r) u ≡ true
         → p.is_real u ≡ true
     real_members r below unbounded u within =
-        by (p.is_real u) (false_from_ne_true (not (p.is_real u)) (λ is_boundary.
+        not-false (p.is_real u) (false_from_ne_true (not (p.is_real u)) (λ is_boundary.
         both_ways (has_boundary p labels p.vertices r) (sym (boundary.each r below) ∙ unbounded)
         (any_from_is_in (λ v. label_of labels v == r && not (p.is_real v)) (range_with_len 0 p.vertices) u
         (is_in-range p.vertices u (members_below r u within))
         (and_from (label_of labels u == r) (not (p.is_real u))
         (eq-eqb (label_of labels u) r (members_label r u within)) is_boundary))))
-      where
-        by : (real : Bool) → not real ≡ false → real ≡ true
-        by true e = refl
-        by false e = sym e
 
     unbounded_at : (v : ℕ) → IsOddAt (with_defects p defects) v → get_or bounded (label_of labels v) false ≡ false
     unbounded_at v at =
@@ -183,14 +180,9 @@ module _ (p : Problem) (labels : List ℕ) (limits : IsWithinLimits p) (labellin
             let low : label_of labels v ≤ v = labelling.low v at.below in omega (arith, at.below, labelling.count)
 
         same_members : (u : ℕ) → is_in (members_of (label_of labels v)) u ≡ is_in at.members u
-        same_members u = both _ _
+        same_members u = same_bool _ _
             (λ h. at.component.whole u ((component_of v at.below).inside u h))
             (λ h. (component_of v at.below).whole u (at.component.inside u h))
-          where
-            both : (a b : Bool) → (a ≡ true → b ≡ true) → (b ≡ true → a ≡ true) → a ≡ b
-            both true b there back = sym (there refl)
-            both false true there back = back refl
-            both false false there back = refl
 
         odd_count : is_odd_count (λ d. label_of labels d == label_of labels v) defects ≡ true
         odd_count =

@@ -1,5 +1,6 @@
 -- The numbers that stand in a list an odd number of times.
 use Rattle.std.proofs.Common.{ℕ, ◌<◌, ◌≤◌, ◌≡◌, ◌==◌, ◌&&◌, Bool, true, false, cond, get_or, sum_by, refl, sym, ap, ◌∙◌, le_trans, le_of_eq, zero-le}
+use Rattle.std.proofs.Math.Bool.{and-true, and-false, and_comm}
 use Rattle.std.specs.List.{range_with_len}
 use Rattle.std.proofs.lemmas.Bool.{eqb-true, cond_both}
 use Rattle.std.proofs.lemmas.List.Elements.{All-filter}
@@ -7,7 +8,7 @@ use Rattle.std.proofs.lemmas.List.Kept.{IsStrictlyIncreasing-filter}
 use Rattle.fb_graph.specs.Parity.{is_odd_count}
 use Rattle.fb_graph.specs.Certificate.{AreDistinct}
 use Rattle.fb_graph.specs.Laws.{OddOnesRise, OddOnesCount, OddOnesWeigh}
-use Rattle.fb_graph.proofs.ParitySums.{odd_same, odd_agree, odd_exchange, odd-and, odd-filter, and_comm, and-true, and-false}
+use Rattle.fb_graph.proofs.ParitySums.{odd_same, odd_agree, odd_exchange, odd-and, odd-filter}
 use Rattle.fb_graph.proofs.Sums.{sum_le, sum_same, sum_exchange, sum-filter, le-sum_of_odd, sum_of_once}
 use Rattle.fb_graph.proofs.Sets.{equal_sym, odd_equal, count_equal-le, distinct_from_rising, range_rises, range_below, is_in-range}
 

@@ -3,20 +3,6 @@ use Rattle.std.proofs.Common.{◌≡◌, ◌&&◌, Bool, true, false, filter, fl
 use Rattle.std.proofs.lemmas.List.Elements.{All-head, All-tail}
 use Rattle.fb_graph.specs.Parity.{differ, is_odd_count}
 
-pub and_comm : (a b : Bool) → (a && b) ≡ (b && a)
-and_comm true true = refl
-and_comm true false = refl
-and_comm false true = refl
-and_comm false false = refl
-
-pub and-true : (a : Bool) → (a && true) ≡ a
-and-true true = refl
-and-true false = refl
-
-pub and-false : (a : Bool) → (a && false) ≡ false
-and-false true = refl
-and-false false = refl
-
 pub differ_comm : (a b : Bool) → differ a b ≡ differ b a
 differ_comm true true = refl
 differ_comm true false = refl

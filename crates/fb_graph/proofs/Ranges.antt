@@ -1,5 +1,6 @@
 -- The numbers below n that pass a test.
 use Rattle.std.proofs.Common.{◌≡◌, ◌≢◌, ℕ, zero, suc, ◌+◌, ◌<◌, ◌≤◌, ◌||◌, Bool, true, false, not, cond, List, [], ◌∷◌, ◌++◌, length, get_or, All, filter, eqb, refl, sym, ap, ◌∙◌, inl, inr, arith, add-one}
+use Rattle.std.proofs.Math.Bool.{or-false}
 use Rattle.std.specs.List.{range_with_len}
 use Rattle.std.specs.List.Sorted.{IsStrictlyIncreasing}
 use Rattle.std.proofs.lemmas.Bool.{cases_eq, eq-eqb, ne_eqb}
@@ -10,7 +11,6 @@ use Rattle.std.proofs.lemmas.List.FromFn.{get_or-range_with_len, length-range_wi
 use Rattle.std.proofs.lemmas.List.Kept.{IsStrictlyIncreasing-filter}
 use Rattle.fb_graph.specs.Parity.{is_in}
 use Rattle.fb_graph.proofs.BuildSteps.{range_more}
-use Rattle.fb_graph.proofs.Members.{or_false}
 
 -- tests that agree below n keep the same numbers
 pub filter-range_same : (p q : ℕ → Bool) (n : ℕ) → ((k : ℕ) → k < n → p k ≡ q k)
@@ -48,7 +48,7 @@ not_in_below xs n below =
     list_any_none (λ u. eqb u n) xs (λ k d lt. ne_eqb (get_or xs k d) n (λ e. absurd (omega (arith, below k d lt))))
 
 is_in-one : (b : Bool) (n v : ℕ) → is_in (cond b (n ∷ []) []) v ≡ cond b (eqb n v) false
-is_in-one true n v = or_false (eqb n v)
+is_in-one true n v = or-false (eqb n v)
 is_in-one false n v = refl
 
 -- the kept numbers are those that pass
@@ -69,7 +69,7 @@ is_in-filter-range p (suc n) v lt =
       | inr other ↦
           ap (λ b. is_in (filter p (range_with_len 0 n)) v || cond (p n) b false) (ne_eqb n v other)
           ∙ ap (λ b. is_in (filter p (range_with_len 0 n)) v || b) (cond-same (p n))
-          ∙ or_false (is_in (filter p (range_with_len 0 n)) v)
+          ∙ or-false (is_in (filter p (range_with_len 0 n)) v)
           ∙ is_in-filter-range p n v (let ne : ◌≢◌ n v = other in omega arith)
     ]
   where

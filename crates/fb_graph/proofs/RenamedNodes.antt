@@ -13,11 +13,12 @@ use Rattle.fb_graph.specs.Ends.{AreAllApart}
 use Rattle.fb_graph.specs.Nests.{IsNest, IsForest, IsFilled, IsFormed, AreJoinedLater, HasSources, child_sets}
 use Rattle.fb_graph.specs.SourceWalks.{HasWalks}
 use Rattle.fb_graph.specs.RenamedNodes.{AreRenamedApart, CoverRenamed, NestRenamed, OuterRenamed, WalksRenamed, renamed_node, renamed_nodes}
-use Rattle.fb_graph.proofs.Among.{IsAmong, All_among, among_All, among_live, among_map, among_pairs, apart_among, live_among, map_among, top_among}
+use Rattle.fb_graph.proofs.Among.{IsAmong, All_among, among_All, among_live, among_map, among_pairs, apart_among, live_among, map_among, top_among, own_live}
 use Rattle.fb_graph.proofs.InsertedCuts.{AreFit, sources_same}
 use Rattle.fb_graph.proofs.NestParts.{fit_of, nest_of, names_live}
-use Rattle.fb_graph.proofs.Sets.{is_in-All, is_in-cases, is_in-head, is_in-tail}
+use Rattle.fb_graph.proofs.Sets.{is_in-cases, is_in-head, is_in-tail}
 use Rattle.fb_graph.proofs.OddLabels.{member_of_map}
+use Rattle.fb_graph.proofs.Forests.{child_live}
 
 -- members of a list under other names
 pub in_renamed : (f : ℕ → ℕ) (xs : List ℕ) (x : ℕ) → is_in xs x ≡ true → is_in (map f xs) (f x) ≡ true
@@ -84,16 +85,14 @@ find_renamed f test old (n ∷ ns) same =
     step true rest = refl
     step false rest = rest
 
+pub is_empty-map : (f : ℕ → ℕ) (cs : List ℕ) → is_empty (map f cs) ≡ is_empty cs
+is_empty-map f [] = refl
+is_empty-map f (c ∷ cs) = refl
+
 module _ (p : Problem) (nodes : List Node) (f : ℕ → ℕ) (once : AreRenamedApart f nodes) (nest : IsNest p nodes) where
-  mine : (n : Node) → IsAmong n nodes → is_live nodes n.name ≡ true
-  mine n a = among_live nodes n n.name a refl
-
-  child_live : (n : Node) → IsAmong n nodes → (c : ℕ) → is_in n.children c ≡ true → is_live nodes c ≡ true
-  child_live n a = is_in-All (λ c. is_live nodes c ≡ true) n.children (All_among (λ m. All (λ c. is_live nodes c ≡ true) m.children) nodes nest.forest.live n a)
-
   -- a live name is a child's new name where it was a child's
   child_same : (n : Node) → IsAmong n nodes → (c : ℕ) → is_live nodes c ≡ true → is_in (map f n.children) (f c) ≡ is_in n.children c
-  child_same n a c live = same_renamed f n.children c (λ y among e. once y c (child_live n a y among) live e)
+  child_same n a c live = same_renamed f n.children c (λ y among e. once y c (child_live nodes nest.forest n a y among) live e)
 
   pub outer_same : (c : ℕ) → is_live nodes c ≡ true → is_outer (renamed_nodes f nodes) (f c) ≡ is_outer nodes c
   outer_same c live = ap not (by nodes (λ n a. child_same n a c live))
@@ -114,7 +113,7 @@ module _ (p : Problem) (nodes : List Node) (f : ℕ → ℕ) (once : AreRenamedA
   cover_same v =
       find_renamed f (λ n. is_outer (renamed_nodes f nodes) n.name && is_in n.top.vertices v)
       (λ n. is_outer nodes n.name && is_in n.top.vertices v) nodes
-      (λ n a. ap (λ b. b && is_in n.top.vertices v) (outer_same n.name (mine n a)))
+      (λ n a. ap (λ b. b && is_in n.top.vertices v) (outer_same n.name (own_live nodes n a)))
 
   names : AreDistinct (map (λ n. n.name) (renamed_nodes f nodes))
   names =
@@ -130,7 +129,7 @@ module _ (p : Problem) (nodes : List Node) (f : ℕ → ℕ) (once : AreRenamedA
       ∙ (sym (top_among nodes nest.dual.names m a) ∙ ap (top_at nodes) e))
 
   pub same_sets : (n : Node) → IsAmong n nodes → child_sets (renamed_nodes f nodes) (renamed_node f n) ≡ child_sets nodes n
-  same_sets n a = by n.children (λ c among. top_same c (child_live n a c among))
+  same_sets n a = by n.children (λ c among. top_same c (child_live nodes nest.forest n a c among))
     where
       by : (cs : List ℕ) → ((c : ℕ) → is_in cs c ≡ true → top_at (renamed_nodes f nodes) (f c) ≡ top_at nodes c)
           → map (top_at (renamed_nodes f nodes)) (map f cs) ≡ map (top_at nodes) cs
@@ -145,7 +144,7 @@ module _ (p : Problem) (nodes : List Node) (f : ℕ → ℕ) (once : AreRenamedA
       inr (record {
         three = omega (arith, many.three, length-map n.children f);
         odd = ap (λ k. k % 2) (length-map n.children f) ∙ many.odd;
-        distinct = distinct_renamed f n.children (λ x y b c e. once x y (child_live n a x b) (child_live n a y c) e) many.distinct;
+        distinct = distinct_renamed f n.children (λ x y b c e. once x y (child_live nodes nest.forest n a x b) (child_live nodes nest.forest n a y c) e) many.distinct;
       })
 
   joined_later : (ns : List Node) → ((n : Node) → IsAmong n ns → IsAmong n nodes) → AreJoinedLater ns → AreJoinedLater (renamed_nodes f ns)
@@ -154,14 +153,14 @@ module _ (p : Problem) (nodes : List Node) (f : ℕ → ℕ) (once : AreRenamedA
     All-map (λ m. is_in (map f n.children) m.name ≡ false) (renamed_node f) (n ∷ ns)
         (among_All (λ m. is_in (map f n.children) (f m.name) ≡ false) (n ∷ ns)
         (λ m a.
-        child_same n (some n (inl refl)) m.name (mine m (some m a))
+        child_same n (some n (inl refl)) m.name (own_live nodes m (some m a))
         ∙ All_among (λ x. is_in n.children x.name ≡ false) (n ∷ ns) joined.0 m a)),
     All-map (λ m. AreApart (map f n.children) m.children) (renamed_node f) ns
         (among_All (λ m. AreApart (map f n.children) (map f m.children)) ns
         (λ m a z within.
         let (x, among, e) = member_of_map f n.children z within in
         ap (is_in (map f m.children)) (sym e)
-        ∙ (child_same m (some m (inr a)) x (child_live n (some n (inl refl)) x among)
+        ∙ (child_same m (some m (inr a)) x (child_live nodes nest.forest n (some n (inl refl)) x among)
         ∙ All_among (λ y. AreApart n.children y.children) ns joined.1 m a x among))),
     joined_later ns (λ m a. some m (inr a)) joined.2,
   )
@@ -180,16 +179,12 @@ module _ (p : Problem) (nodes : List Node) (f : ℕ → ℕ) (once : AreRenamedA
     filled = All-map (IsFilled (renamed_nodes f nodes)) (renamed_node f) nodes
         (among_All (λ n. IsFilled (renamed_nodes f nodes) (renamed_node f n)) nodes
         (λ n a some v.
-        All_among (IsFilled nodes) nodes nest.forest.filled n a (sym (empty_same n.children) ∙ some) v
+        All_among (IsFilled nodes) nodes nest.forest.filled n a (sym (is_empty-map f n.children) ∙ some) v
         ∙ ap (λ l. is_in (concat l) v) (sym (same_sets n a))));
     parted = All-map (λ n. AreAllApart (child_sets (renamed_nodes f nodes) n)) (renamed_node f) nodes
         (among_All (λ n. AreAllApart (child_sets (renamed_nodes f nodes) (renamed_node f n))) nodes
         (λ n a. subst AreAllApart (sym (same_sets n a)) (All_among (λ m. AreAllApart (child_sets nodes m)) nodes nest.forest.parted n a)));
   }
-    where
-      empty_same : (cs : List ℕ) → is_empty (map f cs) ≡ is_empty cs
-      empty_same [] = refl
-      empty_same (c ∷ cs) = refl
 
   apart : AreOuterApart (renamed_nodes f nodes)
   apart =
@@ -207,7 +202,7 @@ module _ (p : Problem) (nodes : List Node) (f : ℕ → ℕ) (once : AreRenamedA
       (outer m x c e out_x) (outer n y d g out_y))))
     where
       outer : (m x : Node) → IsAmong m nodes → renamed_node f m ≡ x → is_outer (renamed_nodes f nodes) x.name ≡ true → is_outer nodes m.name ≡ true
-      outer m x a e out = sym (outer_same m.name (mine m a)) ∙ (ap (λ z. is_outer (renamed_nodes f nodes) z.name) e ∙ out)
+      outer m x a e out = sym (outer_same m.name (own_live nodes m a)) ∙ (ap (λ z. is_outer (renamed_nodes f nodes) z.name) e ∙ out)
 
   nest_kept : IsNest p (renamed_nodes f nodes)
   nest_kept =

@@ -1,6 +1,7 @@
 -- Sets of numbers as lists, and the edges that cross them.
 use Rattle.std.proofs.Common.{ℕ, ◌+◌, ◌<◌, ◌≤◌, ◌≡◌, ◌==◌, ◌||◌, ◌&&◌, filter, Bool, true, false, List, [], ◌∷◌, length, get_or, All, zero, suc, ◌⊎◌, inl, inr, subst, cond, sum_by, count_by, le_trans, le_of_eq, lt_irrefl, refl, sym, ap, ◌∙◌, arith}
-use Rattle.std.proofs.lemmas.Bool.{eqb-true, eqb-false, eq-eqb, ne_eqb, or_cases, or_left, or_right, cond_both, false≢true, false_from_ne_true, cases_lt}
+use Rattle.std.proofs.Math.Bool.{and-true, and-false}
+use Rattle.std.proofs.lemmas.Bool.{eqb-true, eqb-false, eq-eqb, ne_eqb, or_cases, or_left, or_right, cond_both, false≢true, false_from_ne_true, cases_lt, cases_eq, cases_Bool}
 use Rattle.std.proofs.lemmas.List.Elements.{All-head, All-tail}
 use Rattle.std.proofs.lemmas.List.Folds.{list_any_at}
 use Rattle.std.proofs.lemmas.List.FromFn.{length-range_with_len, get_or-range_with_len}
@@ -11,8 +12,9 @@ use Rattle.fb_graph.specs.Parity.{differ, is_odd_count, is_in}
 use Rattle.fb_graph.specs.Problem.{touches, crosses}
 use Rattle.fb_graph.specs.Certificate.{AreDistinct}
 use Rattle.fb_graph.specs.declared.parts.Edge.{Edge}
+use Rattle.fb_graph.specs.Counts.{as_count}
 use Rattle.fb_graph.proofs.Sums.{sum_le, sum_same, sum_ones, sum_exchange}
-use Rattle.fb_graph.proofs.ParitySums.{and-true, and-false, odd_same, odd_agree, odd_exchange, odd-and, odd-differ, differ-false, false-differ}
+use Rattle.fb_graph.proofs.ParitySums.{odd_same, odd_agree, odd_exchange, odd-and, odd-differ, false-differ}
 
 pub equal_sym : (j k : ℕ) → (j == k) ≡ (k == j)
 equal_sym j k = step (k == j) refl
@@ -39,28 +41,24 @@ odd_equal (w ∷ vs) v distinct = step (w == v) refl (odd_equal vs v distinct.1)
         rw e (here (is_in vs v) (is_odd_count (λ u. u == v) vs) (ap (is_in vs) (sym (eqb-true w v e)) ∙ distinct.0) ih)
     step false e ih = rw e (there (is_in vs v) (is_odd_count (λ u. u == v) vs) ih)
 
--- 1 where the test holds, else 0
-abbrev pub one_if : Bool → ℕ
-one_if b = cond b 1 0
-
 -- and once exactly there
-pub count_equal : (vs : List ℕ) (v : ℕ) → AreDistinct vs → count_by (λ u. u == v) vs ≡ one_if (is_in vs v)
+pub count_equal : (vs : List ℕ) (v : ℕ) → AreDistinct vs → count_by (λ u. u == v) vs ≡ as_count (is_in vs v)
 count_equal [] v distinct = refl
 count_equal (w ∷ vs) v distinct = step (w == v) refl (count_equal vs v distinct.1)
   where
     one : ℕ → ℕ
-    one u = one_if (u == v)
+    one u = as_count (u == v)
 
-    absent : (w == v) ≡ true → one_if (is_in vs v) ≡ 0
-    absent e = ap one_if (ap (is_in vs) (sym (eqb-true w v e)) ∙ distinct.0)
+    absent : (w == v) ≡ true → as_count (is_in vs v) ≡ 0
+    absent e = ap as_count (ap (is_in vs) (sym (eqb-true w v e)) ∙ distinct.0)
 
-    step : (t : Bool) → (w == v) ≡ t → count_by (λ u. u == v) vs ≡ one_if (is_in vs v)
-        → count_by (λ u. u == v) (w ∷ vs) ≡ one_if ((w == v) || is_in vs v)
+    step : (t : Bool) → (w == v) ≡ t → count_by (λ u. u == v) vs ≡ as_count (is_in vs v)
+        → count_by (λ u. u == v) (w ∷ vs) ≡ as_count ((w == v) || is_in vs v)
     step true e ih =
         sum_by-cons one w vs
-        ∙ omega (arith, ap one_if e, ap (λ b. one_if (b || is_in vs v)) e, ih, absent e)
+        ∙ omega (arith, ap as_count e, ap (λ b. as_count (b || is_in vs v)) e, ih, absent e)
     step false e ih =
-        sum_by-cons one w vs ∙ omega (arith, ap one_if e, ap (λ b. one_if (b || is_in vs v)) e, ih)
+        sum_by-cons one w vs ∙ omega (arith, ap as_count e, ap (λ b. as_count (b || is_in vs v)) e, ih)
 
 pub count_equal-le : (vs : List ℕ) (v : ℕ) → AreDistinct vs → count_by (λ u. u == v) vs ≤ 1
 count_equal-le vs v distinct =
@@ -239,20 +237,20 @@ pub length-le_from_within : (xs ys : List ℕ) → AreDistinct xs → AreDistinc
 length-le_from_within xs ys first second within =
     le_trans (le_of_eq (sym (sum_ones xs)))
     (le_trans
-    (sum_le (λ x. 1) (λ x. sum_by (λ y. one_if (y == x)) ys) xs
+    (sum_le (λ x. 1) (λ x. sum_by (λ y. as_count (y == x)) ys) xs
     (λ k d less. le_of_eq (sym (count_equal ys (get_or xs k d) second
-    ∙ ap one_if (within (get_or xs k d) (is_in_at xs k d less))))))
-    (le_trans (le_of_eq (sum_exchange (λ x y. one_if (y == x)) xs ys))
+    ∙ ap as_count (within (get_or xs k d) (is_in_at xs k d less))))))
+    (le_trans (le_of_eq (sum_exchange (λ x y. as_count (y == x)) xs ys))
     (le_trans
-    (sum_le (λ y. sum_by (λ x. one_if (y == x)) xs) (λ y. 1) ys (λ k d less. each (get_or ys k d)))
+    (sum_le (λ y. sum_by (λ x. as_count (y == x)) xs) (λ y. 1) ys (λ k d less. each (get_or ys k d)))
     (le_of_eq (sum_ones ys)))))
   where
-    each : (y : ℕ) → sum_by (λ x. one_if (y == x)) xs ≤ 1
+    each : (y : ℕ) → sum_by (λ x. as_count (y == x)) xs ≤ 1
     each y =
         le_trans
         (le_of_eq
-        (sum_same (λ x. one_if (y == x)) (λ x. one_if (x == y)) xs
-        (λ k d less. ap one_if (equal_sym y (get_or xs k d)))))
+        (sum_same (λ x. as_count (y == x)) (λ x. as_count (x == y)) xs
+        (λ k d less. ap as_count (equal_sym y (get_or xs k d)))))
         (count_equal-le xs y first)
 
 pub is_in-filter : (test : ℕ → Bool) (xs : List ℕ) (v : ℕ) → is_in (filter test xs) v ≡ (is_in xs v && test v)
@@ -290,7 +288,36 @@ pub odd_shared : (xs ys : List ℕ) → AreDistinct xs → AreDistinct ys
     → is_odd_count (is_in ys) xs ≡ is_odd_count (is_in xs) ys
 odd_shared xs ys first second = odd_meet (λ x. true) xs ys first second
 
--- a distinct list that holds v holds an odd number of the members of v alone
-pub odd_single : (v : ℕ) (set : List ℕ) → AreDistinct set → is_in set v ≡ true → is_odd_count (is_in (v ∷ [])) set ≡ true
-odd_single v set distinct within =
-    odd_shared set (v ∷ []) distinct (refl, tt) ∙ (differ-false (is_in set v) ∙ within)
+-- strictly rising lists with the same members are the same
+pub rising_same : (xs ys : List ℕ) → IsStrictlyIncreasing xs → IsStrictlyIncreasing ys → ((v : ℕ) → is_in xs v ≡ is_in ys v) → xs ≡ ys
+rising_same [] [] rx ry same = refl
+rising_same [] (y ∷ ys) rx ry same = absurd (let here = is_in-head y ys in let none = same y in cc)
+rising_same (x ∷ xs) [] rx ry same = absurd (let here = is_in-head x xs in let none = same x in cc)
+rising_same (x ∷ xs) (y ∷ ys) rx ry same = elim (cases_eq x y) [
+  | inl e ↦ ap (λ (v : ℕ). v ∷ xs) e ∙ ap (λ (l : List ℕ). y ∷ l) (rising_same xs ys (rising-tail x xs rx) (rising-tail y ys ry) (tails x y xs ys rx ry e same))
+  | inr other ↦ absurd (
+      let under : y < x = above y ys x ry (sym (same x) ∙ is_in-head x xs) (λ (z : y ≡ x). other (sym z)) in
+      let over : x < y = above x xs y rx (same y ∙ is_in-head y ys) other in
+      omega arith)
+]
+  where
+    above : (x : ℕ) (xs : List ℕ) (v : ℕ) → IsStrictlyIncreasing (x ∷ xs) → is_in (x ∷ xs) v ≡ true → (x ≡ v → ⊥) → x < v
+    above x xs v rises held other = elim (is_in-cases x xs v held) [
+      | inl here ↦ absurd (other here)
+      | inr later ↦ rising_above x xs rises v later
+    ]
+
+    not_head : (x : ℕ) (xs : List ℕ) → IsStrictlyIncreasing (x ∷ xs) → is_in xs x ≡ false
+    not_head x xs rises = elim (cases_Bool (is_in xs x)) [
+      | inl held ↦ absurd (omega (arith, rising_above x xs rises x held))
+      | inr none ↦ none
+    ]
+
+    tails : (x y : ℕ) (xs ys : List ℕ) → IsStrictlyIncreasing (x ∷ xs) → IsStrictlyIncreasing (y ∷ ys) → x ≡ y → ((v : ℕ) → is_in (x ∷ xs) v ≡ is_in (y ∷ ys) v) → (v : ℕ) → is_in xs v ≡ is_in ys v
+    tails x y xs ys rx ry e same v = elim (cases_eq x v) [
+      | inl here ↦ subst (λ (u : ℕ). is_in xs u ≡ false) here (not_head x xs rx) ∙ sym (subst (λ (u : ℕ). is_in ys u ≡ false) (sym e ∙ here) (not_head y ys ry))
+      | inr other ↦
+          let left : is_in (x ∷ xs) v ≡ is_in xs v = ap (λ (b : Bool). b || is_in xs v) (ne_eqb x v other) in
+          let right : is_in (y ∷ ys) v ≡ is_in ys v = ap (λ (b : Bool). b || is_in ys v) (ne_eqb y v (λ (z : y ≡ v). other (e ∙ z))) in
+          sym left ∙ same v ∙ right
+    ]

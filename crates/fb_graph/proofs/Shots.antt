@@ -10,14 +10,15 @@ use Rattle.std.proofs.lemmas.List.Sums.{sum_by-cons}
 use Rattle.fb_graph.specs.Parity.{is_in}
 use Rattle.fb_graph.specs.Certificate.{AreDistinct}
 use Rattle.fb_graph.specs.Limits.{DecodingGraph, IsGraph, IsShot, is_real_in, most_vertices}
-use Rattle.fb_graph.proofs.Sets.{one_if, count_equal-le, distinct_from_rising, is_in-All, is_in-range, length-le_from_within, range_rises}
+use Rattle.fb_graph.specs.Counts.{as_count}
+use Rattle.fb_graph.proofs.Sets.{count_equal-le, distinct_from_rising, is_in-All, is_in-range, length-le_from_within, range_rises}
 
 count_at : (vs : List ℕ) (k v : ℕ) → k < length vs → get_or vs k 0 ≡ v → 1 ≤ count_by (λ u. u == v) vs
 count_at [] k v less here = absurd (omega arith)
 count_at (w ∷ vs) zero v less here =
-    omega (arith, sum_by-cons (λ u. one_if (u == v)) w vs, ap one_if (eq-eqb w v here))
+    omega (arith, sum_by-cons (λ u. as_count (u == v)) w vs, ap as_count (eq-eqb w v here))
 count_at (w ∷ vs) (suc k) v less here =
-    omega (arith, sum_by-cons (λ u. one_if (u == v)) w vs, count_at vs k v (omega arith) here)
+    omega (arith, sum_by-cons (λ u. as_count (u == v)) w vs, count_at vs k v (omega arith) here)
 
 count_twice : (vs : List ℕ) (k v : ℕ) → k + 1 < length vs → get_or vs k 0 ≡ v → get_or vs (k + 1) 0 ≡ v
     → 2 ≤ count_by (λ u. u == v) vs
@@ -25,15 +26,15 @@ count_twice [] k v less here next = absurd (omega arith)
 count_twice (w ∷ vs) zero v less here next =
     omega (
       arith,
-      sum_by-cons (λ u. one_if (u == v)) w vs,
-      ap one_if (eq-eqb w v here),
+      sum_by-cons (λ u. as_count (u == v)) w vs,
+      ap as_count (eq-eqb w v here),
       count_at vs 0 v (omega arith) next,
     )
 count_twice (w ∷ vs) (suc k) v less here next =
     let e : suc k + 1 ≡ suc (k + 1) = omega arith in
     omega (
       arith,
-      sum_by-cons (λ u. one_if (u == v)) w vs,
+      sum_by-cons (λ u. as_count (u == v)) w vs,
       count_twice vs k v (omega arith) here (rw e at next),
     )
 
@@ -50,7 +51,7 @@ rising_from_sort vs ws distinct permuted sorted k less =
         absurd (omega (
           arith,
           count_twice ws k (get_or ws k 0) less refl (sym same),
-          sum_by-IsPermutation (λ u. one_if (u == get_or ws k 0)) vs ws permuted,
+          sum_by-IsPermutation (λ u. as_count (u == get_or ws k 0)) vs ws permuted,
           count_equal-le vs (get_or ws k 0) distinct,
         ))
     step (inr other) low = omega (arith, other)

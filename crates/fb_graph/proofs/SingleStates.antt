@@ -1,8 +1,9 @@
 -- Nodes of one defect each are a dual state.
 use Rattle.std.proofs.Common.{ℕ, ◌≡◌, ◌+◌, ◌≤◌, ◌==◌, ◌&&◌, ◌||◌, ◌⊎◌, inl, inr, Bool, true, false, not, cond, List, [], ◌∷◌, map, All, AllPairs, Option, Some, None, get_or, refl, sym, ap, ◌∙◌, subst, arith}
+use Rattle.std.proofs.Math.Bool.{or-false}
 use Rattle.std.specs.List.{find, list_any}
 use Rattle.std.specs.Option.{option_map, IsSome}
-use Rattle.std.proofs.lemmas.Bool.{eqb-true, ne_eqb, false≢true, cases_eq, cases_Bool, both_ways}
+use Rattle.std.proofs.lemmas.Bool.{eqb-true, ne_eqb, false≢true, cases_eq, cases_Bool, both_ways, or_right}
 use Rattle.std.proofs.lemmas.List.Elements.{All-nil, All-cons, All-head, All-tail, All-map}
 use Rattle.std.proofs.lemmas.List.Kept.{AllPairs-cons}
 use Rattle.std.proofs.lemmas.List.Sums.{sum_by-cons}
@@ -12,7 +13,6 @@ use Rattle.fb_graph.specs.Certificate.{AreDistinct, IsOddCut, IsPacking, load_of
 use Rattle.fb_graph.specs.Dual.{Node, IsHeld, IsNestedOrApart, AreApart, HasRadius, AreGrown, layers_of, all_cuts, leaves, cover_of, height_of, is_outer}
 use Rattle.fb_graph.specs.declared.parts.Edge.{Edge}
 use Rattle.fb_graph.specs.declared.parts.Cut.{Cut}
-use Rattle.fb_graph.proofs.Members.{or_false}
 use Rattle.fb_graph.proofs.Sets.{is_in-head, is_in-cases}
 use Rattle.fb_graph.proofs.CutSums.{weigh, weigh-either}
 use Rattle.fb_graph.specs.Singles.{Single, node_of, nodes_of, vertices_of, SinglesAreDual, BeginningIsDual}
@@ -54,7 +54,7 @@ cover_is singles v = found (is_outer (nodes_of singles)) (all_outer singles) sin
     found outer all [] = refl
     found outer all (s ∷ ss) =
         ap (λ b. option_map (λ m. m.name) (cond (b && ((s.vertex == v) || false)) (Some (node_of s)) (find test (nodes_of ss)))) (all s.name)
-        ∙ (ap (λ b. option_map (λ m. m.name) (cond b (Some (node_of s)) (find test (nodes_of ss)))) (or_false (s.vertex == v))
+        ∙ (ap (λ b. option_map (λ m. m.name) (cond b (Some (node_of s)) (find test (nodes_of ss)))) (or-false (s.vertex == v))
         ∙ step (s.vertex == v) (found outer all ss))
       where
         test : Node → Bool
@@ -124,7 +124,7 @@ height_none (s ∷ ss) v e = step (cases_Bool (s.vertex == v)) (height_none ss v
         omega (
           arith,
           sum_by-cons part (cut_of s) (map cut_of ss),
-          ap (λ b. cond b s.value 0) (or_false (s.vertex == v)),
+          ap (λ b. cond b s.value 0) (or-false (s.vertex == v)),
           ap (λ b. cond b s.value 0) here,
           rest (sym (ap (λ b. cond b (Some s.name) (name_at ss v)) here) ∙ e),
         )
@@ -139,8 +139,8 @@ load_split singles e differs =
     (λ i d less x.
     one (is_in ((get_or singles i d).vertex ∷ []) e.first) (is_in ((get_or singles i d).vertex ∷ []) e.second) x
     (λ first second.
-    differs i d less (eqb-true _ _ (sym (or_false ((get_or singles i d).vertex == e.first)) ∙ first))
-    (eqb-true _ _ (sym (or_false ((get_or singles i d).vertex == e.second)) ∙ second)))))
+    differs i d less (eqb-true _ _ (sym (or-false ((get_or singles i d).vertex == e.first)) ∙ first))
+    (eqb-true _ _ (sym (or-false ((get_or singles i d).vertex == e.second)) ∙ second)))))
   where
     one : (a b : Bool) (x : ℕ) → (a ≡ true → b ≡ true → ⊥) → cond (differ a b) x 0 ≡ cond a x 0 + cond b x 0
     one true true x h = absurd (h refl refl)
@@ -152,16 +152,12 @@ pub vertex_in : (singles : List Single) → All (λ s. is_in (vertices_of single
 vertex_in [] = All-nil (λ s. is_in [] s.vertex ≡ true)
 vertex_in (s ∷ ss) =
     All-cons (λ t. is_in (s.vertex ∷ vertices_of ss) t.vertex ≡ true) s ss (is_in-head s.vertex (vertices_of ss))
-    (λ i d less. later (s.vertex == (get_or ss i d).vertex) (vertex_in ss i d less))
-  where
-    later : (b : Bool) {c : Bool} → c ≡ true → (b || c) ≡ true
-    later true e = refl
-    later false e = e
+    (λ i d less. or_right (s.vertex == (get_or ss i d).vertex) _ (vertex_in ss i d less))
 
 single_apart : (u w : ℕ) → (u ≡ w → ⊥) → AreApart (u ∷ []) (w ∷ [])
 single_apart u w other v within =
-    or_false (w == v)
-    ∙ ne_eqb w v (λ same. other (eqb-true u v (sym (or_false (u == v)) ∙ within) ∙ sym same))
+    or-false (w == v)
+    ∙ ne_eqb w v (λ same. other (eqb-true u v (sym (or-false (u == v)) ∙ within) ∙ sym same))
 
 all_apart : (singles : List Single) → AreDistinct (vertices_of singles)
     → AllPairs (λ m n. AreApart m.top.vertices n.top.vertices) (nodes_of singles)

@@ -1,5 +1,6 @@
 -- Each move keeps the source walks.
 use Rattle.std.proofs.Common.{ℕ, ◌≡◌, ◌==◌, ◌⊎◌, inl, inr, true, false, List, [], ◌∷◌, ◌++◌, map, All, Some, None, get_or, refl, sym, ap, ◌∙◌, subst, arith}
+use Rattle.std.proofs.Math.Bool.{or-false}
 use Rattle.std.specs.List.{concat}
 use Rattle.std.proofs.lemmas.Bool.{false≢true, false_from_ne_true, or_cases, or_left, eqb-true}
 use Rattle.std.proofs.lemmas.List.Elements.{All-nil, All-map, All-push, All-weaker}
@@ -12,7 +13,7 @@ use Rattle.fb_graph.specs.Components.{Leads}
 use Rattle.fb_graph.specs.Dual.{Node, AreUnderOne, IsWithin, all_cuts, layers_of, leaves, cover_of, height_of, is_live, taller_node, top_at}
 use Rattle.fb_graph.specs.declared.parts.Cut.{Cut}
 use Rattle.fb_graph.specs.declared.parts.Edge.{Edge}
-use Rattle.fb_graph.proofs.Members.{is_in_push, is_in_pushed, or_false}
+use Rattle.fb_graph.proofs.Members.{is_in_push, is_in_pushed}
 use Rattle.fb_graph.proofs.Nodes.{All-flat_map, All-pieces, All-top, All-below}
 use Rattle.fb_graph.proofs.Sets.{is_in-All}
 use Rattle.fb_graph.proofs.Walks.{IsWalkBy-append}
@@ -79,7 +80,7 @@ walks_begin p singles =
     (All-map (λ c. HasWalks p (nodes_of singles) c.vertices) cut_of singles
     (λ i e less v within.
     let same : (get_or singles i e).vertex ≡ v =
-    eqb-true (get_or singles i e).vertex v (sym (or_false ((get_or singles i e).vertex == v)) ∙ within) in (
+    eqb-true (get_or singles i e).vertex v (sym (or-false ((get_or singles i e).vertex == v)) ∙ within) in (
       [],
       v,
       record {

@@ -1,6 +1,6 @@
 -- A step of a tree keeps a nest.
 use Rattle.std.proofs.Common.{ℕ, suc, ◌≡◌, ◌+◌, ◌-◌, ◌*◌, inl, inr, Bool, true, false, List, [], ◌∷◌, ◌++◌, map, All, AllPairs, refl, sym, ap, ◌∙◌, subst, arith, if◌then◌else◌}
-use Rattle.std.proofs.lemmas.List.Elements.{All-nil, All-cons, All-head, All-tail, All-append, All-map}
+use Rattle.std.proofs.lemmas.List.Elements.{All-nil, All-cons, All-append, All-map}
 use Rattle.std.proofs.lemmas.List.Kept.{AllPairs-cons}
 use Rattle.fb_graph.specs.Parity.{is_in}
 use Rattle.fb_graph.specs.Problem.{Problem, with_defects}
@@ -14,7 +14,7 @@ use Rattle.fb_graph.specs.Nests.{IsNest, HasSources, first_set}
 use Rattle.fb_graph.specs.Moves.{NestStepped}
 use Rattle.fb_graph.specs.Steps.{Roles, stepped_nodes, stepped_node, stepped_value}
 use Rattle.fb_graph.specs.Covers.{passes}
-use Rattle.fb_graph.proofs.Among.{IsAmong, All_among, among_All, apart_among, covered_by}
+use Rattle.fb_graph.proofs.Among.{IsAmong, All_among, among_All, apart_among, covered_by, All_unmapped}
 use Rattle.fb_graph.proofs.Forests.{under_outer}
 use Rattle.fb_graph.proofs.InsertedCuts.{AreFit, pairs_head, pairs_tail}
 use Rattle.fb_graph.proofs.MappedNodes.{AreKept, names_mapped, forest_mapped, apart_mapped, mapped_leaves}
@@ -48,17 +48,11 @@ to_sets R (c ∷ cs) h =
     (All-map (R c.vertices) (λ x. x.vertices) cs (pairs_head (λ x y. R x.vertices y.vertices) c cs h))
     (to_sets R cs (pairs_tail (λ x y. R x.vertices y.vertices) c cs h))
 
-All_unmap : (P : List ℕ → Type 0) (cuts : List Cut) → All P (map (λ c. c.vertices) cuts) → All (λ c. P c.vertices) cuts
-All_unmap P [] h = All-nil (λ c. P c.vertices)
-All_unmap P (c ∷ cs) h =
-    All-cons (λ x. P x.vertices) c cs (All-head P c.vertices (map (λ x. x.vertices) cs) h)
-    (All_unmap P cs (All-tail P c.vertices (map (λ x. x.vertices) cs) h))
-
 from_sets : (R : List ℕ → List ℕ → Type 0) (cuts : List Cut) → AllPairs R (map (λ c. c.vertices) cuts) → AllPairs (λ c d. R c.vertices d.vertices) cuts
 from_sets R [] h = λ i j d less below. absurd (omega arith)
 from_sets R (c ∷ cs) h =
     AllPairs-cons (λ x y. R x.vertices y.vertices) c cs
-    (All_unmap (R c.vertices) cs (λ i d less. h 0 (suc i) d (omega arith) (omega arith)))
+    (All_unmapped (R c.vertices) (λ x. x.vertices) cs (λ i d less. h 0 (suc i) d (omega arith) (omega arith)))
     (from_sets R cs (λ i j d less below. h (suc i) (suc j) d (omega arith) (omega arith)))
 
 pairs_stepped : (R : List ℕ → List ℕ → Type 0) (roles : Roles) (k : ℕ) (ns : List Node) → AllPairs (λ c d. R c.vertices d.vertices) (all_cuts ns)

@@ -1,5 +1,6 @@
 -- A node with a vertex more leaves the loads, the potentials and the nodes over all other vertices as they were.
 use Rattle.std.proofs.Common.{ℕ, ◌≡◌, ◌+◌, ◌==◌, ◌&&◌, ◌||◌, not, Bool, true, false, cond, List, ◌∷◌, ◌++◌, Option, Some, refl, sym, ap, ◌∙◌, arith, []}
+use Rattle.std.proofs.Math.Bool.{or-false}
 use Rattle.std.specs.List.{find, list_any}
 use Rattle.std.specs.Option.{option_map}
 use Rattle.std.proofs.lemmas.Bool.{both_ways, eqb-true, false_from_ne_true}
@@ -9,7 +10,7 @@ use Rattle.fb_graph.specs.Problem.{crosses}
 use Rattle.fb_graph.specs.Dual.{Node, all_cuts, leaves, is_outer, layers_of, defects_of, change_at, taller_node}
 use Rattle.fb_graph.specs.declared.parts.Cut.{Cut}
 use Rattle.fb_graph.proofs.CutSums.{weigh, weigh-taller_node}
-use Rattle.fb_graph.proofs.Members.{is_in_push, or_false}
+use Rattle.fb_graph.proofs.Members.{is_in_push}
 use Rattle.fb_graph.proofs.Nodes.{defects_of-taller_node}
 use Rattle.fb_graph.specs.Alike.{TallerAlike, TallerCovers}
 
@@ -79,7 +80,7 @@ found_same outer other alike name v u differs (n ∷ ns) = step (n.name == name)
     step true ih =
         ap (λ c. option_map (λ x. x.name) (cond (c && is_in (n.top.vertices ++ v ∷ []) u) (Some (taller_node v n)) (find old (change_at name (taller_node v) ns)))) (alike n.name)
         ∙ (ap (λ c. option_map (λ x. x.name) (cond (other n.name && c) (Some (taller_node v n)) (find old (change_at name (taller_node v) ns))))
-        (is_in_push n.top.vertices v u ∙ (ap (λ c. is_in n.top.vertices u || c) differs ∙ or_false (is_in n.top.vertices u)))
+        (is_in_push n.top.vertices v u ∙ (ap (λ c. is_in n.top.vertices u || c) differs ∙ or-false (is_in n.top.vertices u)))
         ∙ pick (new n) (taller_node v n) refl ih)
     step false ih =
         ap (λ c. option_map (λ x. x.name) (cond (c && is_in n.top.vertices u) (Some n) (find old (change_at name (taller_node v) ns)))) (alike n.name)

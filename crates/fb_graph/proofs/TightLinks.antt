@@ -15,6 +15,7 @@ use Rattle.fb_graph.proofs.Walks.{IsWalkBy-append, IsWalkBy-reverse}
 use Rattle.fb_graph.specs.Counts.{as_count}
 use Rattle.fb_graph.specs.Covers.{passes}
 use Rattle.fb_graph.specs.Links.{pair, AreEven, PartedFromLow, MeetingTight, BoundaryTight, TurnedTight, JoinedTight, EmptyLayerLoads, EmptyLayerHeights, SourceStepped, LinkParity, BoundaryParity, MeetingParity, SourceParity}
+use Rattle.fb_graph.specs.Limits.{IsWithinLimits}
 use Rattle.fb_graph.proofs.StepHeights.{height_stepped}
 
 -- tests that agree on each set weigh the same
@@ -200,3 +201,7 @@ meeting_parity cuts e even full parted = omega (arith, even, full, parted)
 
 pub source_parity : SourceParity
 source_parity p cuts walk d u even source = omega (arith, even_walk p walk d u even source.leads, source.balance)
+
+-- the weights of a graph within the limits are even
+pub all_even : (p : Problem) → IsWithinLimits p → AreEven p
+all_even p limits j d less = (limits.each_edge j d less).even

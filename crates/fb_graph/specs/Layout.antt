@@ -1,10 +1,10 @@
 -- How a graph lies in memory: beside its edges, the edges at each vertex, a flag for each virtual vertex, and the
 -- detectors' vertices.
-use Rattle.std.specs.Prelude.{ℕ, ◌≡◌, ◌<◌, Bool, false, not, List, [], ◌∷◌, ◌++◌, length, get_or, slice_set, filter}
+use Rattle.std.specs.Prelude.{ℕ, ◌≡◌, ◌<◌, Bool, false, List, [], ◌∷◌, ◌++◌, length, get_or, slice_set, filter}
 use Rattle.std.specs.List.{range_with_len}
 use Rattle.fb_graph.specs.Parity.{is_in}
 use Rattle.fb_graph.specs.Problem.{edge_at, touches}
-use Rattle.fb_graph.specs.Limits.{DecodingGraph, IsGraph}
+use Rattle.fb_graph.specs.Limits.{DecodingGraph, IsGraph, detectors_of}
 use Rattle.fb_graph.specs.declared.parts.Edge.{Edge}
 
 -- the numbers of the edges at v among the first `count`, rising
@@ -15,10 +15,6 @@ edges_at edges count v = filter (λ k. touches v (edge_at edges k)) (range_with_
 abbrev pub with_edge : List (List ℕ) → Edge → ℕ → List (List ℕ)
 with_edge adjacent e k =
     slice_set (slice_set adjacent e.first (get_or adjacent e.first [] ++ k ∷ [])) e.second (get_or adjacent e.second [] ++ k ∷ [])
-
--- detector k's vertex at place k: the real vertices, rising
-abbrev pub detectors_of : DecodingGraph → List ℕ
-detectors_of g = filter (λ v. not (is_in g.virtuals v)) (range_with_len 0 g.vertices)
 
 pub record IsLaidOut (g : DecodingGraph) (adjacent : List (List ℕ)) (flags : List Bool) (detectors : List ℕ) : Type 0 where
   pub graph : IsGraph g

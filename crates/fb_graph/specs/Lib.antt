@@ -9,9 +9,11 @@ pub mod Ends
 pub mod FaultTexts
 pub mod Flooding
 pub mod GraphRules
+pub mod InternalSamples
 pub mod Labelling
 pub mod Laws
 pub mod Layout
+pub mod Leasts
 pub mod Limits
 pub mod Links
 pub mod LocalPlaces

@@ -1,5 +1,6 @@
 -- What every problem that is solved keeps, and the problem of a whole graph.
-use Rattle.std.specs.Prelude.{ℕ, ◌≡◌, ◌≢◌, ◌<◌, ◌≤◌, ◌%◌, ◌^◌, ◌&&◌, Bool, true, false, not, nat_lt, List, [], length, All}
+use Rattle.std.specs.Prelude.{ℕ, ◌≡◌, ◌≢◌, ◌<◌, ◌≤◌, ◌%◌, ◌^◌, ◌&&◌, Bool, true, false, not, nat_lt, List, [], length, All, filter}
+use Rattle.std.specs.List.{range_with_len}
 use Rattle.std.specs.List.Sorted.{IsStrictlyIncreasing}
 use Rattle.fb_graph.specs.Parity.{is_in}
 use Rattle.fb_graph.specs.Problem.{Problem, with_defects}
@@ -38,6 +39,10 @@ pub record DecodingGraph : Type 0 where
 -- a real vertex is one in range that isn't virtual
 abbrev pub is_real_in : DecodingGraph → ℕ → Bool
 is_real_in g v = nat_lt v g.vertices && not (is_in g.virtuals v)
+
+-- detector k's vertex at place k: the real vertices, rising
+abbrev pub detectors_of : DecodingGraph → List ℕ
+detectors_of g = filter (λ v. not (is_in g.virtuals v)) (range_with_len 0 g.vertices)
 
 -- What one run of an experiment reports: its defects. What may change a shot's weights will stand beside them.
 pub record ShotValue : Type 0 where

@@ -1,7 +1,7 @@
 ghost use Rattle.std.specs.Prelude.{◌≡◌, ◌≢◌, ℕ, ◌<◌, length, slice_index, IfOk, IfErr, Ok, Err};
-ghost use Rattle.fb_graph.specs.Layout.{edges_at, detectors_of};
+ghost use Rattle.fb_graph.specs.Limits.{detectors_of, IsGraph};
+ghost use Rattle.fb_graph.specs.Layout.{edges_at};
 ghost use Rattle.fb_graph.specs.Problem.{edge_at};
-ghost use Rattle.fb_graph.specs.Limits.{IsGraph};
 ghost use Rattle.fb_graph.specs.Parity.{is_in};
 ghost use Rattle.fb_graph.specs.GraphRules.{graph_of};
 

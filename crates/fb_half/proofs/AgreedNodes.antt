@@ -1,8 +1,9 @@
 -- A node is outer in a dual state where it is outer in the store that has the same nodes.
-use Rattle.std.proofs.Common.{ℕ, ◌≡◌, ◌==◌, ◌||◌, not, Bool, true, false, List, [], ◌∷◌, map, All, Option, Some, None, is_some, refl, sym, ap, ◌∙◌}
+use Rattle.std.proofs.Common.{ℕ, ◌≡◌, ◌==◌, ◌||◌, not, Bool, true, false, List, [], ◌∷◌, map, All, Option, Some, None, is_some, refl, sym, ap, ◌∙◌, flat_map}
 use Rattle.std.specs.List.{list_any}
-use Rattle.std.proofs.lemmas.Bool.{both_ways, eqb-true}
+use Rattle.std.proofs.lemmas.Bool.{both_ways, eqb-true, not-true}
 use Rattle.std.proofs.lemmas.List.Elements.{All-head, All-tail}
+use Rattle.std.proofs.lemmas.List.Folds.{list_any-append}
 use Rattle.fb_graph.specs.Parity.{is_in}
 use Rattle.fb_graph.specs.Dual.{Node, is_live}
 use Rattle.fb_links.specs.declared.cycle.CycleStep.{CycleStep}
@@ -21,10 +22,6 @@ first_false true b h = h
 second_false : (a b : Bool) → (a || b) ≡ false → b ≡ false
 second_false false b h = h
 second_false true b h = absurd (both_ways true h refl)
-
-pub not_false : (b : Bool) → not b ≡ true → b ≡ false
-not_false false h = refl
-not_false true h = sym h
 
 on_none : (nodes : List Node) (store : List (Option blossoms.Node)) (name p : ℕ) → All (λ n. n.children ≡ children_at store n.name) nodes
     → list_any (λ n. is_in n.children name) nodes ≡ false → is_live nodes p ≡ true → blossoms.is_on (blossoms.cycle_at store p) name ≡ false
@@ -53,7 +50,7 @@ outer_in_store nodes store name agreed outer p = by_cases (is_live nodes p) refl
 
     by_cases : (b : Bool) → is_live nodes p ≡ b → blossoms.is_on (blossoms.cycle_at store p) name ≡ false
     by_cases true is =
-        on_none nodes store name p agreed.children (not_false (list_any (λ n. is_in n.children name) nodes) outer) is
+        on_none nodes store name p agreed.children (not-true (list_any (λ n. is_in n.children name) nodes) outer) is
     by_cases false is = dead (blossoms.node_at store p) (sym (agreed.live p) ∙ is)
 
 none_on : (nodes : List Node) (store : List (Option blossoms.Node)) (name : ℕ) → All (λ n. n.children ≡ children_at store n.name) nodes
@@ -67,3 +64,11 @@ none_on (n ∷ nodes) store name same outer =
 
 pub outer_in_nodes : OuterInNodes
 outer_in_nodes nodes store name agreed outer = ap not (none_on nodes store name agreed.children outer)
+
+-- what is in the lists along a cycle is in those of its nodes' names
+pub along_any : (held : ℕ → List ℕ) (ss : List CycleStep) (d : ℕ)
+    → is_in (flat_map (λ s. held s.node) ss) d ≡ list_any (λ c. is_in (held c) d) (map (λ s. s.node) ss)
+along_any held [] d = refl
+along_any held (s ∷ ss) d =
+    list_any-append (λ u. u == d) (held s.node) (flat_map (λ s. held s.node) ss)
+    ∙ ap (λ b. is_in (held s.node) d || b) (along_any held ss d)

@@ -1,10 +1,11 @@
 -- The nodes of a part that begins: each defect a leaf with the name at its place.
 use Rattle.std.proofs.Common.{ℕ, zero, suc, ◌≡◌, ◌≢◌, ◌+◌, ◌<◌, get_or, take, ◌==◌, ◌&&◌, ◌||◌, Bool, true, false, cond, List, [], ◌∷◌, ◌++◌, map, length, All, Option, Some, None, is_some, option_map, arith, refl, sym, ap, ◌∙◌, subst, length-append, if◌then◌else◌}
+use Rattle.std.proofs.Math.Bool.{or-false}
 use Rattle.std.specs.List.{find}
-use Rattle.std.proofs.lemmas.Bool.{both_ways, eqb-true, eq-eqb}
+use Rattle.std.proofs.lemmas.Bool.{both_ways, eqb-true, eq-eqb, or_right, or_parts, and_right}
 use Rattle.std.proofs.lemmas.List.Elements.{All-nil, All-cons}
 use Rattle.fb_graph.specs.Parity.{is_in}
-use Rattle.fb_graph.proofs.Members.{AreDistinct_push, is_in-append, or_false}
+use Rattle.fb_graph.proofs.Members.{AreDistinct_push, is_in-append}
 use Rattle.fb_graph.specs.Certificate.{AreDistinct}
 use Rattle.fb_graph.specs.Dual.{Node, cover_of, is_live, defects_of, is_empty, is_outer, leaf}
 use Rattle.fb_graph.specs.Singles.{Single, nodes_of, vertices_of}
@@ -59,10 +60,6 @@ outer_leaves [] defects x = refl
 outer_leaves (n ∷ names) [] x = refl
 outer_leaves (n ∷ names) (w ∷ defects) x = outer_leaves names defects x
 
-and_false : (a b : Bool) → b ≡ false → (a && b) ≡ false
-and_false false b h = refl
-and_false true b h = h
-
 uncovered_in : (all : List Node) (names defects : List ℕ) (v : ℕ) → is_in defects v ≡ false
     → find (λ n. is_outer all n.name && is_in n.top.vertices v) (leaves_by names defects) ≡ None
 uncovered_in all [] defects v h = refl
@@ -75,7 +72,7 @@ uncovered_in all (n ∷ names) (w ∷ defects) v h = by_cases (uncovered_in all 
     by_cases rest true is = absurd (both_ways (is_in (w ∷ defects) v) h (ap (λ b. b || is_in defects v) is))
     by_cases rest false is =
         ap (λ c. cond c (Some (leaf n w)) (find (λ m. is_outer all m.name && is_in m.top.vertices v) (leaves_by names defects)))
-        (and_false (is_outer all n) ((w == v) || false) (or_false (w == v) ∙ is))
+        (and_right (is_outer all n) ((w == v) || false) (or-false (w == v) ∙ is))
         ∙ rest (sym (ap (λ b. b || is_in defects v) is) ∙ h)
 
 pub uncovered : (names defects : List ℕ) (v : ℕ) → is_in defects v ≡ false → cover_of (leaves_by names defects) v ≡ None
@@ -107,17 +104,13 @@ leaf_pushed [] (w ∷ defects) name v x same fresh = absurd (omega arith)
 leaf_pushed (n ∷ names) [] name v x same fresh = absurd (omega arith)
 leaf_pushed (n ∷ names) (w ∷ defects) name v x same fresh = by_cases (leaf_pushed names defects name v x (omega arith)) (n == x) refl
   where
-    split : (a b : Bool) → (a || b) ≡ false → (a ≡ false) × (b ≡ false)
-    split false b none = (refl, none)
-    split true b none = absurd (both_ways true none refl)
-
     by_cases : (is_in names name ≡ false
         → leaf_at (names ++ name ∷ []) (defects ++ v ∷ []) x ≡ (if name == x then Some (blossoms.leaf v) else leaf_at names defects x))
         → (b : Bool) → (n == x) ≡ b
         → (if n == x then Some (blossoms.leaf w) else leaf_at (names ++ name ∷ []) (defects ++ v ∷ []) x)
         ≡ (if name == x then Some (blossoms.leaf v) else (if n == x then Some (blossoms.leaf w) else leaf_at names defects x))
     by_cases rest true is =
-        let parts = split (n == name) (is_in names name) fresh in
+        let parts = or_parts (n == name) (is_in names name) fresh in
         other (name == x) refl (λ h. both_ways (n == name) parts.0 (eq-eqb n name (eqb-true n x is ∙ sym (eqb-true name x h)))) is
       where
         other : (b : Bool) → (name == x) ≡ b → ((name == x) ≡ true → ⊥) → (n == x) ≡ true
@@ -129,7 +122,7 @@ leaf_pushed (n ∷ names) (w ∷ defects) name v x same fresh = by_cases (leaf_p
             ∙ (sym (ap (λ b. if b then Some (blossoms.leaf w) else leaf_at names defects x) here)
             ∙ sym (ap (λ b. if b then Some (blossoms.leaf v) else (if n == x then Some (blossoms.leaf w) else leaf_at names defects x)) was))
     by_cases rest false is =
-        let parts = split (n == name) (is_in names name) fresh in
+        let parts = or_parts (n == name) (is_in names name) fresh in
         ap (λ b. if b then Some (blossoms.leaf w) else leaf_at (names ++ name ∷ []) (defects ++ v ∷ []) x) is
         ∙ (rest parts.1
         ∙ ap (λ o. if name == x then Some (blossoms.leaf v) else o) (sym (ap (λ b. if b then Some (blossoms.leaf w) else leaf_at names defects x) is)))
@@ -167,20 +160,13 @@ held_in at (n ∷ names) (w ∷ defects) distinct same =
     (same n (ap (λ b. b || is_in names n) (eq-eqb n n refl))
     ∙ ap (λ b. if b then Some (blossoms.leaf w) else leaf_at names defects n) (eq-eqb n n refl))))
     (held_in at names defects distinct.1
-    (λ x within. same x (later (n == x) (is_in names x) within) ∙ past x within (n == x) refl))
+    (λ x within. same x (or_right (n == x) (is_in names x) within) ∙ past x within (n == x) refl))
   where
-    later : (a b : Bool) → b ≡ true → (a || b) ≡ true
-    later true b h = refl
-    later false b h = h
-
     past : (x : ℕ) → is_in names x ≡ true → (b : Bool) → (n == x) ≡ b
         → (if n == x then Some (blossoms.leaf w) else leaf_at names defects x) ≡ leaf_at names defects x
     past x within true is =
         absurd (both_ways (is_in names n) distinct.0 (ap (is_in names) (eqb-true n x is) ∙ within))
     past x within false is = ap (λ b. if b then Some (blossoms.leaf w) else leaf_at names defects x) is
-
-pub started : IsStarted [] [] [] (record { matches = []; unmatched = [] })
-started = record { nodes_are = refl; count = refl; matches = refl; names = tt; entries = λ x. refl }
 
 -- a name that the store doesn't have is new
 pub fresh_name : (done : List ℕ) (nodes : List Node) (store : List (Option blossoms.Node)) (m : MatchingValue) (name : ℕ)
@@ -219,7 +205,7 @@ pub fresh_listed : (done : List ℕ) (nodes : List Node) (store : List (Option b
     → IsStarted done nodes store m → blossoms.node_at store name ≡ None → is_in (listed_names m) name ≡ false
 fresh_listed done nodes store m name s none =
     ap (λ l. is_in (m.unmatched ++ matched_names l) name) s.matches
-    ∙ (is_in-append m.unmatched [] name ∙ (or_false (is_in m.unmatched name) ∙ fresh_name done nodes store m name s none))
+    ∙ (is_in-append m.unmatched [] name ∙ (or-false (is_in m.unmatched name) ∙ fresh_name done nodes store m name s none))
 
 -- a distinct list has no element twice
 pub not_before : (xs : List ℕ) (i : ℕ) → AreDistinct xs → i < length xs → is_in (take i xs) (get_or xs i 0) ≡ false

@@ -1,5 +1,6 @@
 -- What a part keeps when its defects have become nodes.
 use Rattle.std.proofs.Common.{ℕ, ◌≡◌, ◌<◌, ◌&&◌, Bool, true, false, List, [], ◌∷◌, ◌++◌, map, flat_map, length, get_or, All, Some, None, is_some, nat_lt, not, refl, sym, ap, ◌∙◌, subst}
+use Rattle.std.proofs.Math.Bool.{and-true}
 use Rattle.std.proofs.lemmas.Bool.{ltb-true}
 use Rattle.std.proofs.lemmas.List.{append-nil, get_or_default}
 use Rattle.std.proofs.lemmas.List.Elements.{All-nil, All-cons, All-head, All-tail}
@@ -16,7 +17,7 @@ use Rattle.fb_links.specs.declared.walk.Step.{Step}
 use Rattle.fb_blossoms.specs.Nodes as blossoms
 use Rattle.fb_laws.specs.PartStates.{IsPartState}
 use Rattle.fb_laws.specs.StateMoves.{PartBegins, begun_state}
-use Rattle.fb_half.specs.Beginnings.{IsBegun, leaves_by, own_defects}
+use Rattle.fb_half.specs.Beginnings.{leaves_by, own_defects}
 use Rattle.fb_half.specs.InternalBeginnings.{IsStarted}
 use Rattle.fb_half.specs.Matchings.{IsMatchOf, listed_names, match_links, matched_names}
 use Rattle.fb_half.specs.Parts.{AreLinksOf, IsPart, PartValue, kept_links, problem_in, shot_of, state_of}
@@ -116,11 +117,7 @@ begun_part w begins job slot node s none = record {
         → (problem_in w).is_defect v ≡ is_in (vertices_of (singles_by w.matching.unmatched (own_defects w))) v
     defects_are v real =
         sym (ap (λ l. is_in l v) (single_vertices w.matching.unmatched (own_defects w) s.count)
-        ∙ (is_in-filter (problem_in w).is_real (shot_of w).defects v ∙ (ap (λ b. is_in (shot_of w).defects v && b) real ∙ and_true (is_in (shot_of w).defects v))))
-      where
-        and_true : (b : Bool) → (b && true) ≡ b
-        and_true true = refl
-        and_true false = refl
+        ∙ (is_in-filter (problem_in w).is_real (shot_of w).defects v ∙ (ap (λ b. is_in (shot_of w).defects v && b) real ∙ and-true (is_in (shot_of w).defects v))))
 
     state_begun : IsPartState (problem_in w) (begun_state (singles_by w.matching.unmatched (own_defects w)))
     state_begun =
@@ -195,19 +192,6 @@ begun_of w j s n own begins job slot node is_job some within is started none =
     (subst (λ x. w.slot < length x.shots) (sym job) (subst (λ x. x < length j.shots) (sym slot) some))
     (subst (λ x. w.node < node_count x.plan) (sym job) (subst (λ x. x < node_count j.plan) (sym node) within))
     (subst (λ l. IsStarted l w.nodes w.store w.matching) (own_in w j s n own job slot node is) started) none
-
-pub is_begun : (w : PartValue) (j : JobValue) (s n : ℕ) (own : List ℕ) → w.job ≡ j → w.slot ≡ s → w.node ≡ n
-    → own ≡ own_of j s n → IsStarted own w.nodes w.store w.matching → IsBegun j s n w
-is_begun w j s n own job slot node is started =
-    let whole = own_in w j s n own job slot node is in
-    record {
-      job = job;
-      slot = slot;
-      node = node;
-      nodes = started.nodes_are ∙ ap (leaves_by w.matching.unmatched) whole;
-      count = started.count ∙ ap length whole;
-      matches = started.matches;
-    }
 
 pub shot_read : (j : JobValue) (s : ℕ) (shots : List ShotValue) (read : ShotValue) (l : List ℕ) → shots ≡ j.shots → s < length j.shots
     → read ≡ get_or shots s read → l ≡ read.defects → l ≡ (get_or j.shots s no_shot).defects

@@ -2,8 +2,7 @@
 use Rattle.std.proofs.Common.{ℕ, ◌≡◌, ◌<◌, length, ◌||◌, ◌⊎◌, inl, inr, true, false, List, [], ◌∷◌, ◌++◌, map, get_or, Option, Some, None, is_some, unwrap_or, refl, sym, ap, ◌∙◌, subst}
 use Rattle.std.specs.List.Sorted.{IsPermutation}
 use Rattle.std.proofs.lemmas.Bool.{both_ways, false_from_ne_true, false≢true, or_cases, or_left, or_right}
-use Rattle.std.proofs.lemmas.List.{append_assoc, map-append}
-use Rattle.std.proofs.lemmas.List.Sorted.{IsPermutation-append_right}
+use Rattle.std.proofs.lemmas.List.{map-append}
 use Rattle.fb_graph.specs.Parity.{is_in}
 use Rattle.fb_graph.specs.Problem.{Problem, edge_at}
 use Rattle.fb_graph.specs.Certificate.{AreDistinct}
@@ -31,7 +30,6 @@ use Rattle.fb_half.specs.Translations.{link_by, link_of, ring_at, ring_links}
 use Rattle.fb_half.proofs.AddedSingles.{Store}
 use Rattle.fb_graph.proofs.Booleans.{same_bool}
 use Rattle.fb_graph.proofs.OddLabels.{member_of_map}
-use Rattle.fb_laws.proofs.OpenedCycles.{swapped}
 use Rattle.fb_links.proofs.MovedLinks.{Table}
 
 -- a walk of a part is one of a whole in which no fewer vertices are real

@@ -1,5 +1,5 @@
 -- Two parts beside one another, the right one's nodes under new names: their matchings are one.
-use Rattle.std.proofs.Common.{ℕ, ◌≡◌, ◌==◌, ◌||◌, ◌⊎◌, inl, inr, true, false, List, [], ◌∷◌, ◌++◌, map, Option, Some, None, option_map, refl, sym, ap, ◌∙◌, subst}
+use Rattle.std.proofs.Common.{ℕ, ◌≡◌, ◌==◌, ◌||◌, ◌⊎◌, inl, inr, true, false, List, [], ◌∷◌, ◌++◌, map, Option, Some, None, option_map, refl, sym, ap, ◌∙◌, subst, option_to_list}
 use Rattle.std.proofs.lemmas.Bool.{both_ways, false_from_ne_true, or_cases, or_from, or_left, or_right}
 use Rattle.std.proofs.lemmas.Grind.{flat_map-append}
 use Rattle.std.proofs.lemmas.List.{append-nil, map-append}
@@ -23,7 +23,7 @@ use Rattle.fb_laws.specs.FusedStates.{without_seam}
 use Rattle.fb_laws.specs.Fusion.{IsLinkOf}
 use Rattle.fb_laws.proofs.FusedParts.{link_ends_away, parts_turned}
 use Rattle.fb_half.specs.declared.matches.Match.{Match}
-use Rattle.fb_half.specs.Matchings.{IsMatchOf, IsMatchingOf, MatchingValue, listed_names, matched_names, names_of, second_name}
+use Rattle.fb_half.specs.Matchings.{IsMatchOf, IsMatchingOf, MatchingValue, listed_names, matched_names, names_of}
 use Rattle.fb_half.specs.Merged.{renamed_match, renamed_second}
 use Rattle.fb_half.specs.Translations.{link_by}
 use Rattle.fb_graph.proofs.OddLabels.{member_of_map}
@@ -32,10 +32,10 @@ use Rattle.fb_links.proofs.MovedLinks.{Table}
 pub names_renamed : (g f : ℕ → ℕ) (ms : List Match) → matched_names (map (renamed_match g f) ms) ≡ map f (matched_names ms)
 names_renamed g f [] = refl
 names_renamed g f (m ∷ ms) =
-    ap (λ l. (f m.first ∷ second_name (renamed_second f m.second)) ++ l) (names_renamed g f ms)
+    ap (λ l. (f m.first ∷ option_to_list (renamed_second f m.second)) ++ l) (names_renamed g f ms)
     ∙ (ap (λ l. (f m.first ∷ l) ++ map f (matched_names ms)) (by m.second) ∙ sym (map-append f (names_of m) (matched_names ms)))
   where
-    by : (o : Option ℕ) → second_name (renamed_second f o) ≡ map f (second_name o)
+    by : (o : Option ℕ) → option_to_list (renamed_second f o) ≡ map f (option_to_list o)
     by None = refl
     by (Some b) = refl
 

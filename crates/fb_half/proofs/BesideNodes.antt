@@ -1,12 +1,12 @@
 -- Two parts beside one another, the right one's nodes under new names: their nodes are those of the merged store.
-use Rattle.std.proofs.Common.{ℕ, ◌≡◌, ◌==◌, ◌||◌, ◌⊎◌, inl, inr, Bool, true, false, if◌then◌else◌, List, [], ◌∷◌, ◌++◌, map, Option, Some, None, is_some, option_map, refl, sym, ap, ◌∙◌}
+use Rattle.std.proofs.Common.{ℕ, ◌≡◌, ◌==◌, ◌||◌, ◌⊎◌, inl, inr, true, false, if◌then◌else◌, List, [], ◌∷◌, ◌++◌, map, Option, Some, None, is_some, option_map, refl, sym, ap, ◌∙◌}
 use Rattle.std.proofs.lemmas.Bool.{both_ways, false_from_ne_true, or_cases, or_left, or_right}
 use Rattle.std.proofs.lemmas.List.Elements.{All-append, All-map}
 use Rattle.std.proofs.lemmas.List.Folds.{list_any-append}
 use Rattle.fb_graph.specs.Dual.{Node, defects_of, first_vertices, is_empty, is_live, layers_of}
 use Rattle.fb_graph.specs.NestUnions.{HaveOwnNames}
 use Rattle.fb_graph.specs.RenamedNodes.{AreRenamedApart, renamed_node, renamed_nodes}
-use Rattle.fb_graph.proofs.Among.{IsAmong, All_among, among_All, among_live, among_map, live_among, map_among}
+use Rattle.fb_graph.proofs.Among.{All_among, among_All, among_live, among_map, live_among, map_among, own_live}
 use Rattle.fb_links.specs.declared.cycle.CycleStep.{CycleStep}
 use Rattle.fb_links.specs.Names.{name_by}
 use Rattle.fb_blossoms.specs.Nodes as blossoms
@@ -16,6 +16,7 @@ use Rattle.fb_half.specs.Parts.{AreAgreed}
 use Rattle.fb_half.specs.Translations.{children_at, ring_at}
 use Rattle.fb_half.proofs.AddedSingles.{Store}
 use Rattle.fb_graph.proofs.Booleans.{same_bool}
+use Rattle.fb_graph.proofs.RenamedNodes.{is_empty-map}
 
 cycle_renamed : (f g : ℕ → ℕ) (o : Option blossoms.Node)
     → blossoms.cycle_of (option_map (merged.renamed_node f g) o) ≡ merged.renamed_cycle f g (blossoms.cycle_of o)
@@ -37,10 +38,6 @@ nodes_of_cycle f g (s ∷ ss) = ap (λ l. f s.node ∷ l) (nodes_of_cycle f g ss
 links_of_cycle : (f g : ℕ → ℕ) (c : List CycleStep) → map (λ s. s.link) (merged.renamed_cycle f g c) ≡ map g (map (λ s. s.link) c)
 links_of_cycle f g [] = refl
 links_of_cycle f g (s ∷ ss) = ap (λ l. g s.link ∷ l) (links_of_cycle f g ss)
-
-empty_renamed : (f : ℕ → ℕ) (cs : List ℕ) → is_empty (map f cs) ≡ is_empty cs
-empty_renamed f [] = refl
-empty_renamed f (c ∷ cs) = refl
 
 module _ (left right : List Node) (first second store : Store) (links names : List (ℕ × ℕ)) (one : AreAgreed left first)
     (two : AreAgreed right second) (both : merged.IsMerged first second store links names) where
@@ -108,12 +105,6 @@ module _ (left right : List Node) (first second store : Store) (links names : Li
       back (inr (a, live, named)) =
           or_right (is_live left x) (is_live others x) (ap (is_live others) (sym named) ∙ still_live a (two.live a ∙ live))
 
-  mine : (n : Node) → IsAmong n left → is_live left n.name ≡ true
-  mine n a = among_live left n n.name a refl
-
-  theirs : (n : Node) → IsAmong n right → is_live right n.name ≡ true
-  theirs n a = among_live right n n.name a refl
-
   pub ring_left : (x : ℕ) → is_live left x ≡ true → ring_at store x ≡ ring_at first x
   ring_left x live = ap (λ o. map (λ s. s.link) (blossoms.cycle_of o)) (in_left x live)
 
@@ -132,12 +123,12 @@ module _ (left right : List Node) (first second store : Store) (links names : Li
         (among_All (λ n. n.children ≡ children_at store n.name) left
         (λ n a.
         All_among (λ m. m.children ≡ children_at first m.name) left one.children n a
-        ∙ ap (λ o. map (λ s. s.node) (blossoms.cycle_of o)) (sym (in_left n.name (mine n a)))))
+        ∙ ap (λ o. map (λ s. s.node) (blossoms.cycle_of o)) (sym (in_left n.name (own_live left n a)))))
         (All-map (λ n. n.children ≡ children_at store n.name) (renamed_node name) right
         (among_All (λ n. map name n.children ≡ children_at store (name n.name)) right
         (λ n a.
         ap (map name) (All_among (λ m. m.children ≡ children_at second m.name) right two.children n a)
-        ∙ sym (ap (λ o. map (λ s. s.node) (blossoms.cycle_of o)) (in_right n.name (theirs n a))
+        ∙ sym (ap (λ o. map (λ s. s.node) (blossoms.cycle_of o)) (in_right n.name (own_live right n a))
         ∙ (ap (map (λ s. s.node)) (cycle_renamed name link (blossoms.node_at second n.name))
         ∙ nodes_of_cycle name link (blossoms.cycle_at second n.name))))));
     leaves =
@@ -145,14 +136,14 @@ module _ (left right : List Node) (first second store : Store) (links names : Li
         (among_All IsTrue left
         (λ n a none.
         All_among (λ m. is_empty m.children ≡ true → defects_of m ≡ blossoms.defects_at first m.name) left one.leaves n a none
-        ∙ ap blossoms.defects_of (sym (in_left n.name (mine n a)))))
+        ∙ ap blossoms.defects_of (sym (in_left n.name (own_live left n a)))))
         (All-map IsTrue (renamed_node name) right
         (among_All (λ n. IsTrue (renamed_node name n)) right
         (λ n a none.
-        ap (λ b. if b then first_vertices (layers_of n) else []) (empty_renamed name n.children)
+        ap (λ b. if b then first_vertices (layers_of n) else []) (is_empty-map name n.children)
         ∙ (All_among (λ m. is_empty m.children ≡ true → defects_of m ≡ blossoms.defects_at second m.name) right two.leaves n a
-        (sym (empty_renamed name n.children) ∙ none)
-        ∙ sym (ap blossoms.defects_of (in_right n.name (theirs n a)) ∙ defects_renamed name link (blossoms.node_at second n.name))))));
+        (sym (is_empty-map name n.children) ∙ none)
+        ∙ sym (ap blossoms.defects_of (in_right n.name (own_live right n a)) ∙ defects_renamed name link (blossoms.node_at second n.name))))));
   }
     where
       IsTrue : Node → Type 0

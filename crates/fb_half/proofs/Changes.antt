@@ -7,8 +7,9 @@ use Rattle.std.specs.List.{swap_remove}
 use Rattle.fb_half.specs.declared.matches.Standing.{Standing}
 use Rattle.fb_half.specs.declared.matches.Standing.TheVariants.{Absent}
 use Rattle.fb_half.specs.InternalStandings.{IsTable}
-use Rattle.fb_half.proofs.Taken.{last_put, others_stay, shorter}
+use Rattle.fb_half.proofs.Taken.{last_put, others_stay}
 use Rattle.fb_half.proofs.Tables.{table_cut, table_kept, table_pushed, table_swapped}
+use Rattle.fb_regions.proofs.Stored.{length-swapped}
 
 abbrev pub has_at : {X : Type 0} → (X → ℕ → Bool) → X → List X → ℕ → ℕ → Bool
 has_at test d xs i name = test (get_or xs i d) name
@@ -30,7 +31,7 @@ module _ {X : Type 0} (test : X → ℕ → Bool) (d : X) (place other : ℕ →
       → ((name : ℕ) → new_entry name ≡ (if test x name then Absent else entry name))
       → IsTable (length (swap_remove xs i x)) (has_at test d (swap_remove xs i x)) place new_entry
   taken_last xs i x entry new_entry table less is end new =
-      let short = shorter xs i x less in
+      let short = length-swapped xs i x less in
       let last : length (swap_remove xs i x) ≡ i = omega (arith, short) in
       let there : get_or xs (length (swap_remove xs i x)) d ≡ x = ap (λ k. get_or xs k d) last ∙ (get_or_default xs i d x less ∙ sym is) in
       table_cut (length (swap_remove xs i x)) (has_at test d xs) (has_at test d (swap_remove xs i x)) place entry new_entry Absent injective
@@ -44,7 +45,7 @@ module _ {X : Type 0} (test : X → ℕ → Bool) (d : X) (place other : ℕ →
       → ((name : ℕ) → new_entry name ≡ (if test moved name then place i else middle name))
       → IsTable (length (swap_remove xs i x)) (has_at test d (swap_remove xs i x)) place new_entry
   taken_swapped xs i x moved entry middle new_entry table less is within is_moved mid new =
-      let short = shorter xs i x less in
+      let short = length-swapped xs i x less in
       let before : i + 1 < length xs = omega (arith, short) in
       let here : get_or xs i d ≡ x = get_or_default xs i d x less ∙ sym is in
       let put : get_or (swap_remove xs i x) i d ≡ get_or xs (length (swap_remove xs i x)) d = last_put xs i x d before in
@@ -81,7 +82,7 @@ module _ {X : Type 0} (test : X → ℕ → Bool) (d : X) (place other : ℕ →
       by_cases : (name j : ℕ) → test moved name ≡ true → middle name ≡ other j → (b : Bool) → test x name ≡ b → ⊥
       by_cases name j h e true was = some_other j (sym (mid name ∙ ap (λ b. if b then Absent else entry name) was) ∙ e)
       by_cases name j h e false was =
-          let short = shorter xs i x less in
+          let short = length-swapped xs i x less in
           let before : i + 1 < length xs = omega (arith, short) in
           let there : get_or xs (length (swap_remove xs i x)) d ≡ moved =
           sym (last_put xs i x d before) ∙ (get_or_default (swap_remove xs i x) i d moved within ∙ sym is_moved) in

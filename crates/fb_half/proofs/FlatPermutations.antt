@@ -1,9 +1,9 @@
 -- Lists that differ in their order alone still do when they are flattened.
-use Rattle.std.proofs.Common.{ℕ, zero, suc, ◌<◌, List, [], ◌∷◌, ◌++◌, flat_map, length, get_or, subst, append_assoc, arith}
+use Rattle.std.proofs.Common.{ℕ, zero, suc, ◌<◌, List, [], ◌∷◌, ◌++◌, flat_map, length, get_or, arith}
 use Rattle.std.proofs.Math.ListN.{set}
 use Rattle.std.specs.List.{swap}
 use Rattle.std.specs.List.Sorted.{IsPermutation}
-use Rattle.std.proofs.lemmas.List.Sorted.{IsPermutation-append_comm, IsPermutation-append_left, IsPermutation-append_right, IsPermutation-keeps, IsPermutation-refl, IsPermutation-trans}
+use Rattle.std.proofs.lemmas.List.Sorted.{IsPermutation-append_right, IsPermutation-keeps, IsPermutation-refl, IsPermutation-trans}
 use Rattle.fb_laws.proofs.OpenedCycles.{swapped}
 
 module _ {X Y : Type 0} (f : X → List Y) where

@@ -1,5 +1,5 @@
 -- Matches by the names that they list: a name is in one match alone, also as matches are taken out one after another.
-use Rattle.std.proofs.Common.{ℕ, zero, suc, ◌≡◌, ◌+◌, ◌<◌, ◌==◌, ◌||◌, ◌⊎◌, inl, inr, not, Bool, true, false, List, [], ◌∷◌, ◌++◌, map, flat_map, length, get_or, take, All, Option, None, is_some, refl, sym, ap, ◌∙◌, subst, append_assoc, arith, cond}
+use Rattle.std.proofs.Common.{ℕ, zero, suc, ◌≡◌, ◌+◌, ◌<◌, ◌==◌, ◌||◌, ◌⊎◌, inl, inr, not, Bool, true, false, List, [], ◌∷◌, ◌++◌, map, flat_map, length, get_or, take, All, None, is_some, refl, sym, ap, ◌∙◌, subst, append_assoc, arith, cond}
 use Rattle.std.specs.List.{filter}
 use Rattle.std.specs.List.Sorted.{IsPermutation}
 use Rattle.std.proofs.lemmas.Bool.{both_ways, false≢true, cases_eq, eq-eqb, false_from_ne_true, or_cases, or_from, or_left, or_parts, or_right}
@@ -9,12 +9,11 @@ use Rattle.std.proofs.lemmas.List.Sorted.{All-permutation, IsPermutation-append_
 use Rattle.fb_graph.specs.Parity.{is_in}
 use Rattle.fb_graph.specs.Certificate.{AreDistinct}
 use Rattle.fb_graph.proofs.Among.{IsAmong, All_among, among_All, among_right}
-use Rattle.fb_graph.proofs.Members.{is_in-append}
+use Rattle.fb_graph.proofs.Members.{is_in-append, distinct_left}
 use Rattle.fb_graph.proofs.Sets.{is_in-cases, is_in-head, is_in-tail}
 use Rattle.fb_laws.proofs.MergedParts.{distinct_across}
 use Rattle.fb_laws.proofs.OpenedBlossoms.{distinct_permuted, same_permuted}
 use Rattle.fb_laws.proofs.TreePaths.{distinct_right}
-use Rattle.fb_links.specs.declared.walk.Step.{Step}
 use Rattle.fb_links.specs.Table.{Removes, is_live, link_at}
 use Rattle.fb_half.specs.declared.matches.Match.{Match}
 use Rattle.fb_half.specs.InternalSeams.{IsFreed}
@@ -22,7 +21,6 @@ use Rattle.fb_half.specs.InternalStandings.{no_match}
 use Rattle.fb_half.specs.Matchings.{MatchingValue, listed_names, match_links, matched_names, names_of}
 use Rattle.fb_half.proofs.FlatPermutations.{flat_permuted}
 use Rattle.fb_links.proofs.MovedLinks.{Table}
-use Rattle.fb_laws.proofs.NestOrders.{distinct_left}
 
 abbrev pub firsts : List Match → List ℕ
 firsts ms = map (λ m. m.first) ms
@@ -81,26 +79,15 @@ among_permuted {X} xs ys x moved a = All_among (λ y. IsAmong y xs) ys whole x a
     whole : All (λ y. IsAmong y xs) ys
     whole = All-permutation (λ y. IsAmong y xs) xs ys moved (among_All (λ y. IsAmong y xs) xs (λ y b. b))
 
-pub among_filter : {X : Type 0} (test : X → Bool) (xs : List X) (x : X) → IsAmong x (filter test xs) → IsAmong x xs × (test x ≡ true)
-among_filter test [] x a = absurd a
-among_filter {X} test (y ∷ ys) x a = step (test y) refl a (among_filter test ys x)
+pub filter_parts : {X : Type 0} (test : X → Bool) (xs : List X) (x : X) → IsAmong x (filter test xs) → IsAmong x xs × (test x ≡ true)
+filter_parts test [] x a = absurd a
+filter_parts {X} test (y ∷ ys) x a = step (test y) refl a (filter_parts test ys x)
   where
     step : (b : Bool) → test y ≡ b → IsAmong x (cond b (y ∷ filter test ys) (filter test ys))
         → (IsAmong x (filter test ys) → IsAmong x ys × (test x ≡ true)) → IsAmong x (y ∷ ys) × (test x ≡ true)
     step true is (inl e) rest = (inl e, ap test (sym e) ∙ is)
     step true is (inr b) rest = let both = rest b in (inr both.0, both.1)
     step false is b rest = let both = rest b in (inr both.0, both.1)
-
-pub filter_among : {X : Type 0} (test : X → Bool) (xs : List X) (x : X) → IsAmong x xs → test x ≡ true → IsAmong x (filter test xs)
-filter_among test [] x a h = absurd a
-filter_among {X} test (y ∷ ys) x a h = step (test y) refl a (λ b. filter_among test ys x b h)
-  where
-    step : (b : Bool) → test y ≡ b → IsAmong x (y ∷ ys) → (IsAmong x ys → IsAmong x (filter test ys))
-        → IsAmong x (cond b (y ∷ filter test ys) (filter test ys))
-    step true is (inl e) rest = inl e
-    step true is (inr b) rest = inr (rest b)
-    step false is (inl e) rest = absurd (both_ways (test x) (ap test (sym e) ∙ is) h)
-    step false is (inr b) rest = rest b
 
 pub at_among : {X : Type 0} (xs : List X) (i : ℕ) (d : X) → i < length xs → IsAmong (get_or xs i d) xs
 at_among [] i d less = absurd (omega (arith, less))
@@ -158,7 +145,7 @@ module _ (test : Match → Bool) (before : MatchingValue) (links : Table) (names
     next = get_or seam i d
 
     next_among : IsAmong next before.matches
-    next_among = (among_filter test before.matches next (at_among seam i d less)).0
+    next_among = (filter_parts test before.matches next (at_among seam i d less)).0
 
     listed : IsPermutation (matched_names before.matches) (matched_names (take i seam) ++ matched_names now.matches)
     listed =

@@ -1,6 +1,7 @@
 -- The solved parts of a fusion's two children with the seam between them opened keep what each part keeps (Wu and Zhong
 -- 2023).
 use Rattle.std.proofs.Common.{ℕ, ◌≡◌, ◌&&◌, ◌⊎◌, Bool, true, false, if◌then◌else◌, List, [], ◌++◌, map, get_or, Some, refl, sym, ap, ◌∙◌, subst}
+use Rattle.std.proofs.Math.Bool.{and-true}
 use Rattle.std.specs.List.Sorted.{IsPermutation}
 use Rattle.std.proofs.lemmas.Bool.{or_left, or_right}
 use Rattle.std.proofs.lemmas.List.{map-append}
@@ -39,7 +40,6 @@ use Rattle.fb_half.proofs.SeamedLinks.{agreed_seamed, cycles_stay, in_rings, lin
 use Rattle.fb_half.proofs.SeamedMatchings.{freed_are, freed_list, freed_names_are, links_split, matching_seamed, rest, rest_elsewhere, taken}
 use Rattle.fb_half.proofs.AddedSingles.{Store}
 use Rattle.fb_links.proofs.MovedLinks.{Table}
-use Rattle.fb_graph.proofs.ParitySums.{and-true}
 
 same_state : (s t : PartState) → s.nodes ≡ t.nodes → s.cycles ≡ t.cycles → s.matches ≡ t.matches → s.unmatched ≡ t.unmatched → s ≡ t
 same_state s t nodes cycles matches unmatched =

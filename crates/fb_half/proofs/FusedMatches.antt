@@ -4,6 +4,7 @@ use Rattle.std.specs.List.{filter}
 use Rattle.std.specs.List.Sorted.{IsPermutation}
 use Rattle.std.proofs.lemmas.Bool.{false≢true, or_cases, or_left, or_right}
 use Rattle.std.proofs.lemmas.List.{map-append}
+use Rattle.std.proofs.lemmas.List.Elements.{filter-append}
 use Rattle.std.proofs.lemmas.List.Sorted.{IsPermutation-map, IsPermutation-sym}
 use Rattle.fb_graph.specs.Parity.{is_in}
 use Rattle.fb_graph.specs.Limits.{IsWithinLimits, no_shot}
@@ -24,7 +25,7 @@ use Rattle.fb_half.specs.Parts.{IsPart, PartValue, kept_links}
 use Rattle.fb_half.specs.Translations.{link_by, ring_links}
 use Rattle.fb_half.proofs.BesideLinks.{link_left, link_right, links_renamed, moved, stays}
 use Rattle.fb_half.proofs.FlatPermutations.{flat_permuted}
-use Rattle.fb_half.proofs.FreedMatches.{among_filter, firsts, link_in}
+use Rattle.fb_half.proofs.FreedMatches.{filter_parts, firsts, link_in}
 use Rattle.fb_half.proofs.MergedHalves.{before, link, live_left, live_right, name, rings_are}
 use Rattle.fb_half.proofs.SeamedLinks.{link_stays, stays_off}
 use Rattle.fb_half.proofs.AddedSingles.{Store}
@@ -48,15 +49,6 @@ pub filter_permuted : {X : Type 0} (test : X → Bool) (xs ys : List X) → IsPe
 filter_permuted test xs ys moved_ =
     subst (λ l. IsPermutation l (filter test ys)) (sym (filter_flat test xs))
     (subst (IsPermutation (flat_map (one_or_none test) xs)) (sym (filter_flat test ys)) (flat_permuted (one_or_none test) xs ys moved_))
-
-filter_joined : {X : Type 0} (test : X → Bool) (xs ys : List X) → filter test (xs ++ ys) ≡ filter test xs ++ filter test ys
-filter_joined test [] ys = refl
-filter_joined {X} test (x ∷ xs) ys = step (test x) (filter_joined test xs ys)
-  where
-    step : (b : Bool) → filter test (xs ++ ys) ≡ filter test xs ++ filter test ys
-        → cond b (x ∷ filter test (xs ++ ys)) (filter test (xs ++ ys)) ≡ cond b (x ∷ filter test xs) (filter test xs) ++ filter test ys
-    step true rest = ap (λ l. x ∷ l) rest
-    step false rest = rest
 
 -- elements changed so that each passes where it did
 pub filter_changed : {X Y : Type 0} (change : X → Y) (test : Y → Bool) (old : X → Bool) (xs : List X) → ((x : X) → IsAmong x xs → test (change x) ≡ old x)
@@ -99,7 +91,7 @@ firsts_renamed g f (m ∷ ms) = ap (λ l. f m.first ∷ l) (firsts_renamed g f m
 link_kept : (test : Match → Bool) (ms : List Match) (id : ℕ) → is_in (match_links (filter test ms)) id ≡ true → is_in (match_links ms) id ≡ true
 link_kept test ms id h =
     let (m, a, e) = among_map_link (filter test ms) id h in
-    ap (is_in (match_links ms)) (sym e) ∙ link_in ms m (among_filter test ms m a).0
+    ap (is_in (match_links ms)) (sym e) ∙ link_in ms m (filter_parts test ms m a).0
   where
     among_map_link : (xs : List Match) (k : ℕ) → is_in (match_links xs) k ≡ true → (m : Match) × IsAmong m xs × (m.link ≡ k)
     among_map_link [] k h = absurd (false≢true h)
@@ -147,7 +139,7 @@ module _ (left right : PartValue) (n : ℕ) (limits : IsWithinLimits (problem_at
 
   pub seam_split : seam_matches w n ≡ seam_matches left n ++ map (renamed_match new_link new_name) (seam_matches right n)
   seam_split =
-      filter_joined leads left.matching.matches (map (renamed_match new_link new_name) right.matching.matches)
+      filter-append leads left.matching.matches (map (renamed_match new_link new_name) right.matching.matches)
       ∙ (ap (λ l. l ++ filter leads (map (renamed_match new_link new_name) right.matching.matches))
       (filter_same leads (leads_to_seam left.job.plan n left.links) left.matching.matches leads_left)
       ∙ ap (λ l. seam_matches left n ++ l)
@@ -155,7 +147,7 @@ module _ (left right : PartValue) (n : ℕ) (limits : IsWithinLimits (problem_at
 
   pub other_split : other_matches w n ≡ other_matches left n ++ map (renamed_match new_link new_name) (other_matches right n)
   other_split =
-      filter_joined (λ m. not (leads m)) left.matching.matches (map (renamed_match new_link new_name) right.matching.matches)
+      filter-append (λ m. not (leads m)) left.matching.matches (map (renamed_match new_link new_name) right.matching.matches)
       ∙ (ap (λ l. l ++ filter (λ m. not (leads m)) (map (renamed_match new_link new_name) right.matching.matches))
       (filter_same (λ m. not (leads m)) (λ m. not (leads_to_seam left.job.plan n left.links m)) left.matching.matches (λ e a. ap not (leads_left e a)))
       ∙ ap (λ l. other_matches left n ++ l)
@@ -173,9 +165,9 @@ module _ (left right : PartValue) (n : ℕ) (limits : IsWithinLimits (problem_at
     others_are : IsPermutation (other_matches w n) after.matching.matches
     others_are =
         subst (IsPermutation (other_matches w n))
-        (filter_joined (λ m. not (leads m)) (seam_matches w n) after.matching.matches
+        (filter-append (λ m. not (leads m)) (seam_matches w n) after.matching.matches
         ∙ (ap (λ l. l ++ filter (λ m. not (leads m)) after.matching.matches)
-        (filter_none (λ m. not (leads m)) (seam_matches w n) (λ e a. ap not (among_filter leads w.matching.matches e a).1))
+        (filter_none (λ m. not (leads m)) (seam_matches w n) (λ e a. ap not (filter_parts leads w.matching.matches e a).1))
         ∙ filter_all (λ m. not (leads m)) after.matching.matches (λ e a. ap not (stays_off own w after beside_is opened e a))))
         (filter_permuted (λ m. not (leads m)) w.matching.matches (seam_matches w n ++ after.matching.matches) opened.freed.matches)
 

@@ -14,7 +14,7 @@ use Rattle.fb_half.specs.Standings.{is_matched, is_unmatched}
 use Rattle.fb_half.proofs.Changes.{kept_cut, kept_swapped, pushed, taken_last, taken_swapped}
 use Rattle.fb_half.proofs.Tables.{table_kept}
 use Rattle.fb_half.proofs.Taken.{moved_below, moved_from, swap_removed}
-use Rattle.fb_half.proofs.Lookups.{in_at, listed_matched, listed_unmatched, place_in, within_table}
+use Rattle.fb_half.proofs.Lookups.{listed_matched, listed_unmatched, within_table}
 use Rattle.fb_graph.proofs.Sets.{All-from_is_in, is_in-All}
 
 -- a table whose entries are the same

@@ -1,8 +1,8 @@
 -- The defects of a shot within a node's reach: these alone may be the node's own.
-use Rattle.std.proofs.Common.{ℕ, ◌≡◌, ◌+◌, ◌<◌, Bool, true, false, cond, List, [], ◌∷◌, ◌++◌, length, take, drop, All, Option, Some, None, nat_le, nat_lt, refl, sym, ap, ◌∙◌, subst, arith, length-take, length-drop}
+use Rattle.std.proofs.Common.{ℕ, ◌≡◌, ◌+◌, ◌<◌, Bool, true, false, cond, List, [], ◌∷◌, ◌++◌, length, take, drop, All, Option, Some, None, nat_le, nat_lt, refl, sym, ap, ◌∙◌, subst, arith, length-take, length-drop, ◌≤◌, ◌-◌, min, max}
 use Rattle.std.specs.List.{AllWithin, filter}
 use Rattle.std.specs.List.Sorted.{IsNonDecreasingBy, IsPartitionPoint, IsStrictlyIncreasing}
-use Rattle.std.proofs.lemmas.Bool.{and_from, and_left, and_right, eqb-true, false≢true, le-leb, lt-leb, lt-ltb, ltb-false, ltb-true}
+use Rattle.std.proofs.lemmas.Bool.{and_from, and_left, and_right, eqb-true, false≢true, le-leb, lt-leb, lt-ltb, ltb-false, ltb-true, and_parts, leb-true}
 use Rattle.std.proofs.lemmas.List.{append-nil, get_or-drop, get_or-take, get_or_default, take-append-drop}
 use Rattle.std.proofs.lemmas.List.Elements.{All-take, filter-append}
 use Rattle.std.proofs.lemmas.List.Sorted.{IsNonDecreasingBy-from_all_adjacent}
@@ -13,7 +13,7 @@ use Rattle.fb_plan.specs.Plans.{PlanTree, owner_of, problem_at}
 use Rattle.fb_plan.specs.Reaches.{IsReach, is_reached}
 use Rattle.fb_plan.specs.declared.reach.Reach.{Reach}
 use Rattle.fb_plan.proofs.FusionSeams.{unit_is_own}
-use Rattle.fb_half.specs.Beginnings.{LiesWithin}
+use Rattle.fb_half.specs.Beginnings.{IsInside, LiesWithin}
 use Rattle.fb_half.specs.Merged.{is_owned_by}
 use Rattle.fb_half.proofs.FusedMatches.{filter_all, filter_none}
 use Rattle.fb_half.proofs.MergedHalves.{own_is_owned}
@@ -34,6 +34,15 @@ filter_twice {X} test wide under (x ∷ xs) = step (wide x) refl (filter_twice t
     step true is rest = ap (λ l. cond (test x) (x ∷ l) l) rest
     step false is rest = rest ∙ sym (off (test x) refl is)
 
+-- what a reach is, by its ends
+pub reached_parts : (r : Reach) (v : ℕ) → is_reached r v ≡ true → (r.first ≤ v) × (v < r.end)
+reached_parts r v reached =
+    let parts = and_parts (nat_le r.first v) (nat_lt v r.end) reached in
+    (leb-true r.first v parts.0, ltb-true v r.end parts.1)
+
+pub reached_between : (r : Reach) (v : ℕ) → r.first ≤ v → v < r.end → is_reached r v ≡ true
+reached_between r v above below = and_from (nat_le r.first v) (nat_lt v r.end) (le-leb r.first v above) (lt-ltb v r.end below)
+
 -- who is the owner by the test is the owner
 owner_named : (n : ℕ) (o : Option ℕ) → is_node n o ≡ true → o ≡ Some n
 owner_named n None h = absurd (false≢true h)
@@ -41,8 +50,7 @@ owner_named n (Some m) h = ap Some (eqb-true m n h)
 
 pub owned_reached : (t : PlanTree) (n v : ℕ) (r : Reach) → IsReach t.owners n r → is_owned_by t n v ≡ true → is_reached r v ≡ true
 owned_reached t n v r reach owned =
-    let within = reach.each v (owner_named n (owner_of t v) owned) in
-    and_from (nat_le r.first v) (nat_lt v r.end) (le-leb r.first v within.0) (lt-ltb v r.end within.1)
+    let within = reach.each v (owner_named n (owner_of t v) owned) in reached_between r v within.0 within.1
 
 -- the defects that a node owns are within its reach
 pub seam_reached : (t : PlanTree) (n : ℕ) (r : Reach) → IsReach t.owners n r → (xs : List ℕ)
@@ -104,3 +112,19 @@ cut_out r xs rest i j rest_is from to =
     beyond v a =
         and_right (nat_le r.first v) (nat_lt v r.end)
         (All_among (λ u. nat_lt u r.end ≡ false) (drop j rest) (back (λ u. nat_lt u r.end ≡ false) rest j to.1) v a)
+
+-- a reach that isn't empty has its ends inside another that is over it
+ends_inside : (inner outer : Reach) → inner.first < inner.end → IsInside inner outer → (outer.first ≤ inner.first) × (inner.end ≤ outer.end)
+ends_inside inner outer some inside =
+    let first = reached_parts outer inner.first (inside inner.first (reached_between inner inner.first (omega arith) some)) in
+    let last = reached_parts outer (inner.end - 1) (inside (inner.end - 1) (reached_between inner (inner.end - 1) (omega arith) (omega arith))) in
+    (first.0, omega (arith, last.1, some))
+
+-- so a reach from the lesser first to the greater end of both is within each that is over both
+pub least_over : (left right result outer : Reach) → left.first < left.end → right.first < right.end → result.first ≡ min left.first right.first
+    → result.end ≡ max left.end right.end → IsInside left outer → IsInside right outer → IsInside result outer
+least_over left right result outer some other first end one two v reached =
+    let parts = reached_parts result v reached in
+    let left_ends = ends_inside left outer some one in
+    let right_ends = ends_inside right outer other two in
+    reached_between outer v (omega (arith, parts.0, first, left_ends.0, right_ends.0)) (omega (arith, parts.1, end, left_ends.1, right_ends.1))

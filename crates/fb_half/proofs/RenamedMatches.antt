@@ -1,5 +1,5 @@
 -- Matches under other numbers of their links and names of their nodes.
-use Rattle.std.proofs.Common.{ℕ, ◌≡◌, ◌<◌, ◌+◌, true, false, List, [], ◌∷◌, ◌++◌, map, length, get_or, take, All, Option, Some, None, option_map, refl, sym, ap, ◌∙◌, subst, append_assoc, arith}
+use Rattle.std.proofs.Common.{ℕ, ◌≡◌, ◌<◌, ◌+◌, true, false, List, [], ◌∷◌, ◌++◌, map, length, get_or, take, All, Option, Some, None, refl, sym, ap, ◌∙◌, subst, append_assoc, arith}
 use Rattle.std.proofs.lemmas.Grind.{flat_map-append}
 use Rattle.std.proofs.lemmas.List.{get_or-map, length-map, take-map, map_more}
 use Rattle.fb_graph.specs.Parity.{is_in}
@@ -9,10 +9,6 @@ use Rattle.fb_half.specs.declared.matches.Match.{Match}
 use Rattle.fb_half.specs.Matchings.{MatchingValue, listed_names, matched_names, names_of}
 use Rattle.fb_half.specs.Merged.{renamed_match, renamed_second}
 use Rattle.fb_half.proofs.FreedMatches.{names_new}
-
-pub same_second : (f : ℕ → ℕ) (second : Option ℕ) → option_map f second ≡ renamed_second f second
-same_second f None = refl
-same_second f (Some b) = refl
 
 -- functions that are equal at each number rename alike
 pub same_renaming : (g h f k : ℕ → ℕ) → ((a : ℕ) → g a ≡ h a) → ((a : ℕ) → f a ≡ k a) → (m : Match) → renamed_match g f m ≡ renamed_match h k m

@@ -13,7 +13,7 @@ use Rattle.fb_graph.specs.Components.{Leads}
 use Rattle.fb_graph.specs.Dual.{Node, cover_of, defects_of, is_empty, is_live, leaves}
 use Rattle.fb_graph.specs.Limits.{DecodingGraph, IsGraph, IsShot, no_shot}
 use Rattle.fb_graph.proofs.Among.{IsAmong, All_among, among_All, live_among}
-use Rattle.fb_graph.proofs.Members.{is_in-append}
+use Rattle.fb_graph.proofs.Members.{is_in-append, distinct_left}
 use Rattle.fb_graph.proofs.Sets.{distinct-filter, distinct_from_rising, is_in-head}
 use Rattle.fb_laws.proofs.OpenedBlossoms.{same_permuted}
 use Rattle.fb_plan.specs.Plans.{PlanTree}
@@ -32,7 +32,6 @@ use Rattle.fb_half.proofs.BegunParts.{kept_real, shot_below}
 use Rattle.fb_half.proofs.FlatPermutations.{flat_permuted}
 use Rattle.fb_half.proofs.FreedMatches.{first_listed, firsts, link_in}
 use Rattle.fb_links.proofs.MovedLinks.{Table}
-use Rattle.fb_laws.proofs.NestOrders.{distinct_left}
 
 -- a step along an edge of the graph has both its ends among the vertices
 step_below : (g : DecodingGraph) → IsGraph g → (s : Step) → s.edge < length g.edges → Leads (edge_at g.edges s.edge) s.from s.to

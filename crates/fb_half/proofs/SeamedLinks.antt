@@ -1,5 +1,6 @@
 -- A part whose seam is opened: its nodes and its links.
 use Rattle.std.proofs.Common.{ℕ, ◌≡◌, ◌==◌, ◌||◌, ◌⊎◌, inl, inr, Bool, true, false, List, [], ◌∷◌, ◌++◌, map, All, Option, Some, None, is_some, unwrap_or, refl, sym, ap, ◌∙◌, subst}
+use Rattle.std.proofs.Math.Bool.{or-false}
 use Rattle.std.specs.List.Sorted.{IsPermutation}
 use Rattle.std.proofs.lemmas.Bool.{both_ways, cases_Bool, false_from_ne_true, or_left, or_right}
 use Rattle.std.proofs.lemmas.Grind.{flat_map-append}
@@ -11,8 +12,8 @@ use Rattle.fb_graph.specs.Parity.{is_in}
 use Rattle.fb_graph.specs.Certificate.{AreDistinct}
 use Rattle.fb_graph.specs.Dual.{Node, defects_of, is_empty, is_live, leaf}
 use Rattle.fb_graph.specs.Laws.{IsPart}
-use Rattle.fb_graph.proofs.Among.{IsAmong, All_among, among_All, among_live, among_right, live_among}
-use Rattle.fb_graph.proofs.Members.{is_in-append, or_false}
+use Rattle.fb_graph.proofs.Among.{IsAmong, All_among, among_All, among_live, among_right, live_among, among_filter}
+use Rattle.fb_graph.proofs.Members.{is_in-append, distinct_left}
 use Rattle.fb_graph.proofs.Sets.{is_in-head, is_in-tail}
 use Rattle.fb_laws.proofs.MergedParts.{distinct_across}
 use Rattle.fb_laws.proofs.OpenedBlossoms.{distinct_permuted, same_permuted}
@@ -30,9 +31,8 @@ use Rattle.fb_half.specs.Translations.{children_at, cycles_by, link_by, link_of,
 use Rattle.fb_half.proofs.Begun.{held_in, leaf_cycle, leaf_live, live_leaves}
 use Rattle.fb_half.proofs.BesideLinks.{links_same, rings_same, steps_widened}
 use Rattle.fb_half.proofs.FlatPermutations.{flat_permuted}
-use Rattle.fb_half.proofs.FreedMatches.{among_permuted, filter_among, first_in, link_in, name_in, parted_left}
+use Rattle.fb_half.proofs.FreedMatches.{among_permuted, first_in, link_in, name_in, parted_left}
 use Rattle.fb_half.proofs.AddedSingles.{Store}
-use Rattle.fb_laws.proofs.NestOrders.{distinct_left}
 
 -- a node without a cycle has no children
 leaf_children : (at : ℕ → Option blossoms.Node) (names defects : List ℕ) → ((x : ℕ) → is_in names x ≡ true → blossoms.cycle_of (at x) ≡ [])
@@ -100,7 +100,7 @@ module _ (own : List ℕ) (w after : PartValue) (b : IsBeside w) (opened : IsOpe
       (subst AreDistinct (flat_map-append names_of taken after.matching.matches)
       (distinct_permuted (matched_names w.matching.matches) (matched_names (taken ++ after.matching.matches))
       (flat_permuted names_of w.matching.matches (taken ++ after.matching.matches) freed.matches) all_names))
-      (name_in taken e e.first (filter_among leads w.matching.matches e (stays_among e a) h) (first_in e)))
+      (name_in taken e e.first (among_filter leads w.matching.matches e (stays_among e a) h) (first_in e)))
       (name_in after.matching.matches e e.first a (first_in e)))
 
   links_split : IsPermutation (kept_links w) ((match_links taken ++ match_links after.matching.matches) ++ ring_links w.nodes w.store)
@@ -191,7 +191,7 @@ module _ (own : List ℕ) (w after : PartValue) (b : IsBeside w) (opened : IsOpe
           ∙ sym (ap is_some (singles_added.added x h) ∙ (leaf_live own defects x singles_added.count ∙ h))
       live x (inr h) =
           ap (λ c. is_live w.nodes x || c) h
-          ∙ (or_false (is_live w.nodes x) ∙ (b.agreed.live x ∙ ap is_some (sym (singles_added.others x h))))
+          ∙ (or-false (is_live w.nodes x) ∙ (b.agreed.live x ∙ ap is_some (sym (singles_added.others x h))))
 
   -- The links are those that stay.
   pub links_seamed : IsPart b.problem (problem_in w) → AreLinksOf (problem_in w) after.links (kept_links after)

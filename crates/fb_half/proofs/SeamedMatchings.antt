@@ -1,5 +1,6 @@
 -- A part whose seam is opened: its matching, and the links that are forgotten.
-use Rattle.std.proofs.Common.{ℕ, ◌≡◌, ◌&&◌, ◌||◌, ◌⊎◌, inl, inr, not, Bool, true, false, if◌then◌else◌, List, [], ◌∷◌, ◌++◌, map, All, Option, Some, None, option_map, is_some, unwrap_or, refl, sym, ap, ◌∙◌, subst}
+use Rattle.std.proofs.Common.{ℕ, ◌≡◌, ◌&&◌, ◌||◌, ◌⊎◌, inl, inr, not, Bool, true, false, if◌then◌else◌, List, [], ◌∷◌, ◌++◌, map, All, Option, Some, None, option_map, is_some, unwrap_or, refl, sym, ap, ◌∙◌, subst, option_to_list}
+use Rattle.std.proofs.Math.Bool.{or-false}
 use Rattle.std.specs.List.{find, list_any}
 use Rattle.std.specs.List.Sorted.{IsPermutation}
 use Rattle.std.specs.Option.{option_or}
@@ -15,7 +16,7 @@ use Rattle.fb_graph.specs.Dual.{Node, cover_of, is_live, is_outer, top_at}
 use Rattle.fb_graph.specs.Laws.{Link}
 use Rattle.fb_graph.proofs.Among.{IsAmong, All_among, among_All}
 use Rattle.fb_graph.proofs.Forests.{absent_outer}
-use Rattle.fb_graph.proofs.Members.{is_in-append, or_false}
+use Rattle.fb_graph.proofs.Members.{is_in-append, distinct_left}
 use Rattle.fb_graph.proofs.Unions.{distinct_append}
 use Rattle.fb_laws.specs.Merging.{EndElsewhere, Freed, freed_links, freed_names}
 use Rattle.fb_laws.specs.Paths.{LeadsOut}
@@ -25,23 +26,22 @@ use Rattle.fb_laws.proofs.SearchTrees.{cover_set, leads_from}
 use Rattle.fb_half.specs.declared.matches.Match.{Match}
 use Rattle.fb_half.specs.Beginnings.{leaves_by}
 use Rattle.fb_half.specs.InternalSeams.{IsBeside, IsFreed, IsOpened, AddsSingles, freed_matching}
-use Rattle.fb_half.specs.Matchings.{IsMatchOf, IsMatchingOf, MatchingValue, listed_names, match_links, matched_names, names_of, second_name}
+use Rattle.fb_half.specs.Matchings.{IsMatchOf, IsMatchingOf, MatchingValue, listed_names, match_links, matched_names, names_of}
 use Rattle.fb_half.specs.Merged.{ends_at_seam, is_alone, is_owned_by, leads_to_seam, seam_defects, seam_matches}
 use Rattle.fb_half.specs.Parts.{PartValue, problem_in}
 use Rattle.fb_half.specs.Translations.{link_by, link_of}
 use Rattle.fb_half.proofs.Begun.{outer_leaves}
 use Rattle.fb_half.proofs.BegunParts.{same_function}
 use Rattle.fb_half.proofs.FlatPermutations.{flat_permuted}
-use Rattle.fb_half.proofs.FreedMatches.{among_filter, firsts}
+use Rattle.fb_half.proofs.FreedMatches.{filter_parts, firsts}
 use Rattle.fb_half.proofs.SeamedLinks.{live_either, match_stays, nodes_are, stays_among, stays_off}
-use Rattle.fb_laws.proofs.NestOrders.{distinct_left}
 
 -- leaves beside other nodes leave each of these as outer as it was
 outer_beside : (nodes : List Node) (names defects : List ℕ) (x : ℕ) → is_outer (nodes ++ leaves_by names defects) x ≡ is_outer nodes x
 outer_beside nodes names defects x =
     ap not
     (list_any-append (λ n. is_in n.children x) nodes (leaves_by names defects)
-    ∙ (ap (λ c. list_any (λ n. is_in n.children x) nodes || c) (not-true _ (outer_leaves names defects x)) ∙ or_false (list_any (λ n. is_in n.children x) nodes)))
+    ∙ (ap (λ c. list_any (λ n. is_in n.children x) nodes || c) (not-true _ (outer_leaves names defects x)) ∙ or-false (list_any (λ n. is_in n.children x) nodes)))
 
 -- and each vertex under its node
 pub cover_beside : (nodes : List Node) (names defects : List ℕ) (v m : ℕ) → cover_of nodes v ≡ Some m
@@ -97,12 +97,12 @@ module _ (own : List ℕ) (w after : PartValue) (b : IsBeside w) (opened : IsOpe
       ap (λ l. (m.first ∷ l) ++ matched_names ms) (by m.second (and_parts (is_alone m.second) (ends_at_seam w.job.plan w.node (link_by w.links m.link)) (all m (inl refl))).0)
       ∙ ap (λ l. m.first ∷ l) (alone ms (λ e a. all e (inr a)))
     where
-      by : (o : Option ℕ) → is_alone o ≡ true → second_name o ≡ []
+      by : (o : Option ℕ) → is_alone o ≡ true → option_to_list o ≡ []
       by None h = refl
       by (Some x) h = absurd (false≢true h)
 
   taken_leads : (e : Match) → IsAmong e taken → leads e ≡ true
-  taken_leads e a = (among_filter leads w.matching.matches e a).1
+  taken_leads e a = (filter_parts leads w.matching.matches e a).1
 
   abbrev pub middle : MatchingValue
   middle = freed_matching w after
@@ -128,7 +128,7 @@ module _ (own : List ℕ) (w after : PartValue) (b : IsBeside w) (opened : IsOpe
   live_listed : (x : ℕ) → is_live w.nodes x ≡ true → is_outer w.nodes x ≡ true → is_in (listed_names middle) x ≡ true
   live_listed x live outer =
       same_permuted _ _ listed_stay x
-      ∙ (sym (or_false (is_in (listed_names w.matching) x))
+      ∙ (sym (or-false (is_in (listed_names w.matching) x))
       ∙ (sym (is_in-append (listed_names w.matching) [] x) ∙ b.matching.all x live outer))
 
   own_dead : (x : ℕ) → is_in own x ≡ true → is_live w.nodes x ≡ false
@@ -267,7 +267,7 @@ module _ (own : List ℕ) (w after : PartValue) (b : IsBeside w) (opened : IsOpe
       (among_All (λ e. IsSetOf w.nodes e.first (top_at w.nodes e.first) × LeadsOut (link_by w.links e.link) (top_at w.nodes e.first) (seam_end owned (link_by w.links e.link))
       × (owned (seam_end owned (link_by w.links e.link)) ≡ true)) taken
       (λ e a.
-      let was = among_filter leads w.matching.matches e a in
+      let was = filter_parts leads w.matching.matches e a in
       let both = and_parts (is_alone e.second) (ends_at_seam w.job.plan w.node (link_by w.links e.link)) was.1 in
       one (link_by w.links e.link) e.first e.second both.0 both.1 (was_match e was.0)))
     where
@@ -284,7 +284,7 @@ module _ (own : List ℕ) (w after : PartValue) (b : IsBeside w) (opened : IsOpe
           )
       one l first None alone at (v, inr (to, from), real) =
           let off : owned l.to ≡ false = off_seam l.to first to in
-          let on : owned l.from ≡ true = sym (or_false (owned l.from)) ∙ (sym (ap (λ c. owned l.from || c) off) ∙ at) in
+          let on : owned l.from ≡ true = sym (or-false (owned l.from)) ∙ (sym (ap (λ c. owned l.from || c) off) ∙ at) in
           let there : seam_end owned l ≡ l.from = ap (λ c. if c then l.from else l.to) on in (
             (cover_set w.nodes l.to first b.nest.dual.names to).0,
             leads_from w.nodes l first (seam_end owned l) b.nest.dual.names (inr (to, sym there)),

@@ -15,6 +15,10 @@ own_defects w = filter (problem_in w).is_real (shot_of w).defects
 abbrev pub LiesWithin : Problem → Reach → Type 0
 LiesWithin p r = (v : ℕ) → p.is_real v ≡ true → is_reached r v ≡ true
 
+-- what lies within the one reach lies within the other one
+abbrev pub IsInside : Reach → Reach → Type 0
+IsInside inner outer = (v : ℕ) → is_reached inner v ≡ true → is_reached outer v ≡ true
+
 -- each defect as a node of radius 0, with the name at its place
 abbrev pub leaves_by : List ℕ → List ℕ → List Node
 leaves_by [] defects = []

@@ -1,5 +1,5 @@
 -- Which outer nodes are matched, by which links, and which are not.
-use Rattle.std.specs.Prelude.{ℕ, ◌≡◌, ◌<◌, true, false, List, [], ◌∷◌, ◌++◌, All, flat_map, map, length, get_or, Option, Some, None}
+use Rattle.std.specs.Prelude.{ℕ, ◌≡◌, ◌<◌, true, false, List, ◌∷◌, ◌++◌, All, flat_map, map, length, get_or, Option, Some, None, option_to_list}
 use Rattle.fb_graph.specs.Parity.{is_in}
 use Rattle.fb_graph.specs.Problem.{Problem}
 use Rattle.fb_graph.specs.Certificate.{AreDistinct}
@@ -16,13 +16,9 @@ pub record MatchingValue : Type 0 where
   -- the names of the outer nodes without a match
   pub unmatched : List ℕ
 
-abbrev pub second_name : Option ℕ → List ℕ
-second_name None = []
-second_name (Some b) = b ∷ []
-
 -- the nodes that the match matches
 abbrev pub names_of : Match → List ℕ
-names_of m = m.first ∷ second_name m.second
+names_of m = m.first ∷ option_to_list m.second
 
 abbrev pub matched_names : List Match → List ℕ
 matched_names matches = flat_map names_of matches

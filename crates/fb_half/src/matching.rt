@@ -51,7 +51,7 @@ impl Matching {
 
     /// The matching that lists no node, in the room of this one. Its time is that of the matches, the unmatched nodes and
     /// the largest name that was listed.
-    pub fn emptied(self) -> Matching
+    pub fn into_empty(self) -> Matching
         ensures { result ≡ record { matches = []; unmatched = [] } }
     {
         let Matching {

@@ -1,8 +1,10 @@
 //! Spans of vertices, and the defects of a shot within one.
 
-ghost use Rattle.std.specs.Prelude.{◌≡◌, ℕ, true, filter};
+ghost use Rattle.std.specs.Prelude.{◌≡◌, filter};
 ghost use Rattle.std.specs.List.Sorted.{IsStrictlyIncreasing};
 ghost use Rattle.fb_plan.specs.Reaches.{is_reached};
+ghost use Rattle.fb_plan.specs.declared.reach.Reach.{Reach};
+ghost use Rattle.fb_half.specs.Beginnings.{IsInside};
 
 use fb_plan::Reach;
 
@@ -15,15 +17,16 @@ pub fn within(defects: &[u32], reach: Reach) -> &[u32]
     &from[..from.partition_point(|v| *v < reach.end)]
 }
 
-/// The least reach over both: what lies within either one lies within it.
+/// The least reach over both: what lies within either one lies within it, and each reach that is over both is over it.
 pub fn hull(left: Reach, right: Reach) -> Reach
-    ensures left { (v : ℕ) → is_reached left v ≡ true → is_reached result v ≡ true }
-    ensures right { (v : ℕ) → is_reached right v ≡ true → is_reached result v ≡ true }
+    ensures left { IsInside left result }
+    ensures right { IsInside right result }
+    ensures least { (outer : Reach) → IsInside left outer → IsInside right outer → IsInside result outer }
 {
-    if left.first == left.end {
+    if left.end <= left.first {
         return right;
     }
-    if right.first == right.end {
+    if right.end <= right.first {
         return left;
     }
     Reach {

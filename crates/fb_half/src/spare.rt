@@ -36,9 +36,9 @@ impl Spare {
     pub(crate) fn of(parts: Parts<'_>) -> Spare {
         Spare {
             regions: parts.regions.into_spare(),
-            links: parts.links.emptied(),
-            blossoms: parts.blossoms.emptied(),
-            matching: parts.matching.emptied(),
+            links: parts.links.into_empty(),
+            blossoms: parts.blossoms.into_empty(),
+            matching: parts.matching.into_empty(),
         }
     }
 
@@ -53,7 +53,7 @@ impl Spare {
             regions,
             links: Links::new(alloc)?,
             blossoms: Blossoms::new(alloc)?,
-            matching: matching.emptied(),
+            matching: matching.into_empty(),
         })
     }
 }

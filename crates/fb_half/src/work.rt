@@ -140,8 +140,8 @@ impl<'a> Work<'a> {
     }
 
     /// A unit's part before any search: each defect of the shot at a vertex of the unit is a node of radius 0, and none is
-    /// matched. Only a unit can begin: the part of a fusion is made of its children's. Takes time for each defect of the
-    /// shot within the unit's reach, for the logarithm of all, and for each 512 vertices of the graph.
+    /// matched. Takes time for each defect of the shot within the unit's reach, for the logarithm of all, and for each 512
+    /// vertices of the graph.
     pub fn begin(
         alloc: Global,
         job: &'a Job<'a>,
@@ -152,29 +152,14 @@ impl<'a> Work<'a> {
         requires unit { node < job.now.plan.units }
         ensures { IfOk result (λ w. IsBegun job.now slot node w) }
     {
-        Work::begin_on(alloc, job, slot, node, None)
-    }
-
-    /// The same in the room of a part that is no longer used, if there is one. With the room of a part of the same graph it
-    /// takes no time for the graph's vertices.
-    pub fn begin_on(
-        alloc: Global,
-        job: &'a Job<'a>,
-        slot: u32,
-        node: u32,
-        spare: Option<Spare>,
-    ) -> Result<Work<'a>, NoMemory>
-        requires slot { slot < length job.now.shots }
-        requires unit { node < job.now.plan.units }
-        ensures { IfOk result (λ w. IsBegun job.now slot node w) }
-    {
         job.keeps();
-        Work::begin_within(alloc, job, slot, node, job.plan().reach(node), spare)
+        Work::begin_within(alloc, job, slot, node, job.plan().reach(node), None)
     }
 
     /// The part of any node of the plan before any search, a fusion's too, as if the node were a unit: each defect of the
     /// shot at a real vertex of its sub-problem is a node. All these vertices lie within the given reach, and only the
-    /// defects there are passed over.
+    /// defects there are passed over. In the room of a part that is no longer used, if there is one: with that of a part of
+    /// the same graph it takes no time for the graph's vertices.
     pub fn begin_within(
         alloc: Global,
         job: &'a Job<'a>,

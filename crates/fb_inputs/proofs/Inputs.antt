@@ -1,5 +1,5 @@
 -- One read of a named file after another.
-use Rattle.std.proofs.Common.{◌≡◌, ℕ, List, [], ◌∷◌, ◌++◌, Option, Some, None, refl, sym, ap, subst, ◌∙◌, append-nil, length-append, arith, lit<}
+use Rattle.std.proofs.Common.{◌≡◌, ℕ, List, [], ◌∷◌, ◌++◌, Option, Some, None, refl, sym, ap, subst, ◌∙◌, append-nil, lit<}
 use Rattle.fb_ports.specs.Causes.{TellsMore, HasRoom, IsEmptyIfKnown}
 use Rattle.fb_inputs.specs.Judging.{Asks, AsksPrefix}
 
@@ -42,35 +42,6 @@ room_after (Some names) mid name empty asked = go mid (asked ∙ ap (λ xs. Some
 pub room_at_first : (old : Option (List (List ℕ))) → IsEmptyIfKnown old → HasRoom old 16
 room_at_first None empty = tt
 room_at_first (Some names) empty = rw empty (lit< tt)
-
--- one name more is asked for
-pub room_next : (old mid : Option (List (List ℕ))) (name : List ℕ) → HasRoom old 15 → Asks old mid (name ∷ []) → HasRoom mid 16
-room_next None mid name room asked = go mid asked
-  where
-    go : (m : Option (List (List ℕ))) → m ≡ None → HasRoom m 16
-    go None e = tt
-    go (Some xs) e = cc
-room_next (Some names) mid name room asked = go mid asked
-  where
-    go : (m : Option (List (List ℕ))) → m ≡ Some (names ++ name ∷ []) → HasRoom m 16
-    go None e = tt
-    go (Some xs) e = rw (some_same xs (names ++ name ∷ []) e) (omega (arith, room, length-append names (name ∷ [])))
-
-pub room_first : (old mid : Option (List (List ℕ))) (name : List ℕ) → IsEmptyIfKnown old → Asks old mid (name ∷ []) → HasRoom mid 15
-room_first None mid name empty asked = go mid asked
-  where
-    go : (m : Option (List (List ℕ))) → m ≡ None → HasRoom m 15
-    go None e = tt
-    go (Some xs) e = cc
-room_first (Some names) mid name empty asked = go mid (asked ∙ ap (λ xs. Some (xs ++ name ∷ [])) empty)
-  where
-    go : (m : Option (List (List ℕ))) → m ≡ Some (name ∷ []) → HasRoom m 15
-    go None e = tt
-    go (Some xs) e = rw (some_same xs (name ∷ []) e) (lit< tt)
-
-pub room_more : (old : Option (List (List ℕ))) → HasRoom old 15 → HasRoom old 16
-room_more None room = tt
-room_more (Some names) room = omega (arith, room)
 
 pub ruleset asking = (asks_one, asks_none, asks_prefix_one)
 

@@ -1,5 +1,5 @@
 -- Texts of files.
-use Rattle.std.proofs.Common.{ℕ, List, [], ◌∷◌, ◌++◌, None, Some}
+use Rattle.std.proofs.Common.{ℕ, List, None, Some}
 use Rattle.fb_inputs.specs.Judging.{Holds, Named}
 
 -- what holds of a file's text, by what holds of every such text

@@ -1,14 +1,17 @@
 -- A dual state doesn't see the problem's own defects.
-use Rattle.std.proofs.Common.{ℕ, ◌≡◌, ◌+◌, List, All, sum_by, refl, subst}
+use Rattle.std.proofs.Common.{ℕ, Bool, ◌≡◌, ◌+◌, List, All, sum_by, refl, subst}
 use Rattle.std.proofs.lemmas.List.Elements.{All-weaker}
 use Rattle.fb_graph.specs.Problem.{Problem, edge_at, with_defects}
 use Rattle.fb_graph.specs.Dual.{Node, IsDual, all_cuts, height_of}
 use Rattle.fb_graph.specs.SourceWalks.{IsEdgeIn, HasWalks}
+use Rattle.fb_graph.specs.Parity.{is_in}
 use Rattle.fb_laws.specs.ExchangedDefects.{DualExchanged, NestExchanged, WalksExchanged}
 use Rattle.fb_graph.proofs.Walks.{walk_same}
 
-dual_onto : (p : Problem) (nodes : List Node) (defects : List ℕ) → IsDual p nodes → IsDual (with_defects p defects) nodes
-dual_onto p nodes defects dual = record {
+-- the defects of two problems of one graph may differ
+dual_by : (p : Problem) (f g : ℕ → Bool) (nodes : List Node) → IsDual (record p { is_defect = f }) nodes
+    → IsDual (record p { is_defect = g }) nodes
+dual_by p f g nodes dual = record {
   packing = dual.packing;
   names = dual.names;
   laminar = dual.laminar;
@@ -24,22 +27,11 @@ dual_onto p nodes defects dual = record {
   parity = dual.parity;
 }
 
+dual_onto : (p : Problem) (nodes : List Node) (defects : List ℕ) → IsDual p nodes → IsDual (with_defects p defects) nodes
+dual_onto p nodes defects = dual_by p p.is_defect (is_in defects) nodes
+
 dual_back : (p : Problem) (nodes : List Node) (defects : List ℕ) → IsDual (with_defects p defects) nodes → IsDual p nodes
-dual_back p nodes defects dual = record {
-  packing = dual.packing;
-  names = dual.names;
-  laminar = dual.laminar;
-  grown = dual.grown;
-  held = dual.held;
-  total = dual.total;
-  apart = dual.apart;
-  radii = dual.radii;
-  defects = dual.defects;
-  real = dual.real;
-  uncovered = dual.uncovered;
-  loads = dual.loads;
-  parity = dual.parity;
-}
+dual_back p nodes defects = dual_by p (is_in defects) p.is_defect nodes
 
 pub dual_exchanged : DualExchanged
 dual_exchanged p nodes defects = (dual_onto p nodes defects, dual_back p nodes defects)

@@ -1,5 +1,6 @@
 -- A blossom in the state of a part.
 use Rattle.std.proofs.Common.{ℕ, zero, suc, ◌≡◌, ◌+◌, ◌%◌, ◌<◌, ◌==◌, ◌⊎◌, inl, inr, cond, Bool, true, false, List, [], ◌∷◌, ◌++◌, map, length, All, Some, get_or, refl, sym, ap, ◌∙◌, subst, arith}
+use Rattle.std.proofs.Math.Bool.{or-false}
 use Rattle.std.specs.List.{concat}
 use Rattle.std.proofs.lemmas.Bool.{both_ways, false≢true, or_cases, or_parts, or_left, or_right, eq-eqb, not-true}
 use Rattle.std.proofs.lemmas.List.{length-map, append-nil}
@@ -12,7 +13,7 @@ use Rattle.fb_graph.specs.Laws.{Link, ends_of}
 use Rattle.fb_graph.specs.Dual.{Node, IsDual, AreApart, all_cuts, leaves, cover_of, height_of, is_outer, node_at, no_node}
 use Rattle.fb_graph.specs.declared.parts.Cut.{Cut}
 use Rattle.fb_graph.proofs.CutSums.{weigh, cond_zero}
-use Rattle.fb_graph.proofs.Members.{is_in-append, or_false}
+use Rattle.fb_graph.proofs.Members.{is_in-append}
 use Rattle.fb_graph.specs.Counts.{as_count}
 use Rattle.fb_graph.specs.Ends.{ends_in}
 use Rattle.fb_laws.specs.Blossoms.{IsInside}
@@ -20,6 +21,7 @@ use Rattle.fb_graph.specs.Links.{IsTightLink}
 use Rattle.fb_laws.specs.Fusion.{IsLinkOf}
 use Rattle.fb_laws.specs.Works.{IsSetOf}
 use Rattle.fb_laws.specs.Forming.{Child, sets_of, names_of, blossom_of, MatchingFormed}
+use Rattle.fb_laws.specs.Opening.{EndsAtDefects}
 use Rattle.fb_laws.proofs.BlossomSums.{base_alone}
 use Rattle.fb_graph.proofs.Crossings.{cover_found, name_in}
 use Rattle.fb_graph.proofs.EndSums.{ends-cons, ends_append, apart_sym, apart_union}
@@ -99,8 +101,8 @@ matching_formed p nodes name base others inner rest unmatched remaining r cycle 
       tight = (old_tight i d less).tight ∙ sym (same_sums (λ s. crosses s (ends_of (get_or rest i d))));
     };
     own = All-right (IsLinkOf p) inner rest work.links_are.own;
-    at_defects = subst (λ l. All (λ m. (p.is_real m.from ≡ true → is_in l m.from ≡ true) × (p.is_real m.to ≡ true → is_in l m.to ≡ true)) rest)
-        (sym same_leaves) (All-right AtDefects inner rest work.links_are.at_defects);
+    at_defects = subst (λ l. All (EndsAtDefects p l) rest)
+        (sym same_leaves) (All-right (EndsAtDefects p (leaves nodes)) inner rest work.links_are.at_defects);
   };
   matched =
       All-append Matched nodes (blossom_of name (base ∷ others) ∷ [])
@@ -109,7 +111,7 @@ matching_formed p nodes name base others inner rest unmatched remaining r cycle 
       let n : Node = node_at nodes i in
       let outs = outer_in nodes (blossom_of name (base ∷ others) ∷ []) n.name outer in
       let no_child : is_in (names_of (base ∷ others)) n.name ≡ false =
-      sym (or_false (is_in (names_of (base ∷ others)) n.name)) ∙ not-true _ outs.1 in
+      sym (or-false (is_in (names_of (base ∷ others)) n.name)) ∙ not-true _ outs.1 in
       let one = work.matched i no_node less outs.0 in
       omega (
         arith,
@@ -142,9 +144,6 @@ matching_formed p nodes name base others inner rest unmatched remaining r cycle 
   where
     Matched : Node → Type 0
     Matched n = is_outer (nodes ++ blossom_of name (base ∷ others) ∷ []) n.name ≡ true → ends_in n.top.vertices rest + as_count (is_in remaining n.name) ≡ 1
-
-    AtDefects : Link → Type 0
-    AtDefects l = (p.is_real l.from ≡ true → is_in (leaves nodes) l.from ≡ true) × (p.is_real l.to ≡ true → is_in (leaves nodes) l.to ≡ true)
 
     same_leaves : leaves (nodes ++ blossom_of name (base ∷ others) ∷ []) ≡ leaves nodes
     same_leaves = leaves_merged nodes (blossom_of name (base ∷ others) ∷ []) ∙ append-nil (leaves nodes)

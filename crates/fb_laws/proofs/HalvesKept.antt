@@ -2,7 +2,7 @@
 use Rattle.std.proofs.Common.{ℕ, zero, suc, ◌≡◌, ◌+◌, ◌*◌, ◌%◌, ◌≤◌, ◌<◌, ◌==◌, ◌&&◌, ◌||◌, ◌⊎◌, inl, inr, Bool, true, false, cond, List, [], ◌∷◌, map, length, All, AllPairs, Option, Some, None, filter, sum_by, get_or, refl, sym, ap, ◌∙◌, subst, arith}
 use Rattle.std.specs.List.{find}
 use Rattle.std.specs.Option.{option_map}
-use Rattle.std.proofs.lemmas.Bool.{cases_Bool, eq-eqb, ltb-true, ltb-false, and_parts}
+use Rattle.std.proofs.lemmas.Bool.{cases_Bool, eq-eqb, ltb-true, ltb-false, and_parts, or_right}
 use Rattle.std.proofs.lemmas.List.Elements.{All-nil, All-cons, All-head, All-tail, All-map, All-filter}
 use Rattle.std.proofs.lemmas.List.Kept.{AllPairs-filter}
 use Rattle.std.proofs.lemmas.List.Sums.{sum_by-cons, get_or-le-sum_by}
@@ -13,7 +13,7 @@ use Rattle.fb_graph.specs.Certificate.{IsOddCut, load_of}
 use Rattle.fb_graph.specs.Printed.{is_positive}
 use Rattle.fb_graph.specs.Dual.{Node, IsDual, all_cuts, leaves, cover_of, is_outer, height_of, node_at, AreApart, AreUnderOne, IsWithin}
 use Rattle.fb_graph.specs.declared.parts.Cut.{Cut}
-use Rattle.fb_graph.proofs.CutSums.{weigh}
+use Rattle.fb_graph.proofs.CutSums.{weigh, cond_zero}
 use Rattle.fb_graph.proofs.ParitySums.{odd_agree}
 use Rattle.fb_graph.proofs.Sets.{member_of_odd}
 use Rattle.fb_graph.specs.Counts.{as_count}
@@ -21,7 +21,7 @@ use Rattle.fb_graph.specs.Steps.{stepped_nodes, stepped_node}
 use Rattle.fb_graph.specs.Ends.{ends_in, AreAllApart}
 use Rattle.fb_graph.specs.Links.{pair, IsTightLink}
 use Rattle.fb_laws.specs.Fusion.{IsLinkOf}
-use Rattle.fb_laws.specs.Opening.{IsWithinOne, EndAtDefects}
+use Rattle.fb_laws.specs.Opening.{IsWithinOne, EndAtDefects, EndsAtDefects}
 use Rattle.fb_graph.specs.Singles.{Single, node_of, nodes_of}
 use Rattle.fb_laws.specs.Works.{HasDefects, positive_cuts, outer_nodes, outer_sets, WorkBegins, MatchingStepped, MatchingPermuted, PositivePacking, PositiveLoads, PositiveTotal, CutUnderOne, HalfLevel, HalfSolved}
 use Rattle.fb_graph.proofs.Crossings.{under_or_not, cover_holds, found_place}
@@ -37,11 +37,7 @@ name_in_all [] = All-nil (λ s. is_in [] s.name ≡ true)
 name_in_all (s ∷ ss) =
     All-cons (λ t. is_in (s.name ∷ map (λ u. u.name) ss) t.name ≡ true) s ss
     (ap (λ b. b || is_in (map (λ u. u.name) ss) s.name) (eq-eqb s.name s.name refl))
-    (λ i d less. later (s.name == (get_or ss i d).name) (name_in_all ss i d less))
-  where
-    later : (b : Bool) {c : Bool} → c ≡ true → (b || c) ≡ true
-    later true e = refl
-    later false e = e
+    (λ i d less. or_right (s.name == (get_or ss i d).name) _ (name_in_all ss i d less))
 
 pub work_begins : WorkBegins
 work_begins p singles names vertices real bare defects = record {
@@ -53,8 +49,7 @@ work_begins p singles names vertices real bare defects = record {
       own = All-nil (IsLinkOf p);
       at_defects =
           All-nil
-          (λ l. (p.is_real l.from ≡ true → is_in (leaves (nodes_of singles)) l.from ≡ true)
-          × (p.is_real l.to ≡ true → is_in (leaves (nodes_of singles)) l.to ≡ true));
+          (EndsAtDefects p (leaves (nodes_of singles)));
     };
     matched =
         All-map
@@ -98,7 +93,7 @@ matching_permuted p nodes links more unmatched moved work = record {
     own = All-permutation (IsLinkOf p) links more moved work.links_are.own;
     at_defects =
         All-permutation
-        (λ l. (p.is_real l.from ≡ true → is_in (leaves nodes) l.from ≡ true) × (p.is_real l.to ≡ true → is_in (leaves nodes) l.to ≡ true))
+        (EndsAtDefects p (leaves nodes))
         links more moved work.links_are.at_defects;
   };
   matched = λ i d less outer.
@@ -128,11 +123,7 @@ no_value c e = let h : c.value ≤ 0 = ltb-false 0 c.value e in omega arith
 pub positive_loads : PositiveLoads
 positive_loads nodes e =
     sum-positive (λ c. cond (crosses c.vertices e) c.value 0)
-    (λ c none. ap (λ v. cond (crosses c.vertices e) v 0) (no_value c none) ∙ both (crosses c.vertices e)) (all_cuts nodes)
-  where
-    both : (b : Bool) → cond {A = ℕ} b 0 0 ≡ 0
-    both true = refl
-    both false = refl
+    (λ c none. ap (λ v. cond (crosses c.vertices e) v 0) (no_value c none) ∙ cond_zero (crosses c.vertices e)) (all_cuts nodes)
 
 pub positive_total : PositiveTotal
 positive_total nodes = sum-positive (λ c. c.value) no_value (all_cuts nodes)

@@ -1,24 +1,19 @@
 -- The defects that a node holds lie in its set.
-use Rattle.std.proofs.Common.{ℕ, ◌≡◌, ◌==◌, ◌&&◌, ◌⊎◌, inl, inr, Bool, true, false, List, [], ◌∷◌, ◌++◌, All, Some, refl, sym, ap, ◌∙◌, subst, if◌then◌else◌}
+use Rattle.std.proofs.Common.{ℕ, ◌≡◌, ◌&&◌, ◌⊎◌, inl, inr, true, false, List, [], ◌∷◌, ◌++◌, All, Some, refl, sym, ap, ◌∙◌, subst, if◌then◌else◌}
 use Rattle.std.specs.List.{concat, list_any}
-use Rattle.std.proofs.lemmas.Bool.{and_parts, both_ways, cases_Bool, eq-eqb}
+use Rattle.std.proofs.lemmas.Bool.{and_parts, both_ways, cases_Bool, and_from}
 use Rattle.std.proofs.lemmas.List.{append-nil, append_assoc}
 use Rattle.fb_graph.specs.Parity.{is_in}
 use Rattle.fb_graph.specs.Problem.{Problem}
 use Rattle.fb_graph.specs.Dual.{Node, AreGrown, defects_of, is_empty, is_live, is_outer, layers_of, leaves, top_at}
 use Rattle.fb_graph.specs.Nests.{AreJoinedLater, IsFilled, IsNest, child_sets, first_set}
-use Rattle.fb_graph.proofs.Among.{IsAmong, All_among, among_All, among_any, among_either, among_live, among_right, any_among, cover_among, covered_by, from_concat, in_concat, live_among, top_among}
+use Rattle.fb_graph.proofs.Among.{IsAmong, All_among, among_All, among_any, among_either, among_live, among_right, any_among, cover_among, covered_by, from_concat, in_concat, live_among, top_among, among_is_in}
 use Rattle.fb_graph.proofs.Forests.{defects_first, first_within}
 use Rattle.fb_graph.proofs.Sets.{is_in-All}
 use Rattle.fb_laws.specs.HeldDefects.{AreHeld, CoveredIsHeld, HeldInSets, HeldIsCovered}
 use Rattle.fb_laws.proofs.OpenedParts.{flat_among, in_among}
 use Rattle.fb_laws.proofs.SolvedNests.{defects_in_first}
 use Rattle.fb_graph.proofs.Booleans.{same_bool}
-
-pub both : (a b : Bool) → a ≡ true → b ≡ true → (a && b) ≡ true
-both true true e f = refl
-both true false e f = f
-both false b e f = e
 
 -- no node joins itself or a later one
 joined_after : (before : List Node) (q : Node) (after : List Node) → AreJoinedLater (before ++ q ∷ after)
@@ -44,17 +39,14 @@ module _ (p : Problem) (nodes : List Node) (held : ℕ → List ℕ) (nest : IsN
   to_top : (q : Node) → IsAmong q nodes → (d : ℕ) → is_in (first_set q) d ≡ true → is_in q.top.vertices d ≡ true
   to_top q a d within = first_within q d (All_among (λ x. AreGrown (layers_of x)) nodes nest.dual.grown q a) within
 
-  is_member : (xs : List ℕ) (d : ℕ) → IsAmong d xs → is_in xs d ≡ true
-  is_member xs d a = among_any (λ u. u == d) xs d a (eq-eqb d d refl)
-
   childless : (q : Node) → IsAmong q nodes → is_empty q.children ≡ true → Holds q
   childless q a none d =
       All_among (λ n. is_empty n.children ≡ true → (c : ℕ) → is_in (held n.name) c ≡ is_in (defects_of n) c) nodes are.own q a
       none d
       ∙ same_bool (is_in (defects_of q) d) (is_in (leaves nodes) d && is_in q.top.vertices d)
       (λ mine.
-      both (is_in (leaves nodes) d) (is_in q.top.vertices d)
-      (is_member (leaves nodes) d (flat_among defects_of nodes q d a (in_among (defects_of q) d mine)))
+      and_from (is_in (leaves nodes) d) (is_in q.top.vertices d)
+      (among_is_in (leaves nodes) d (flat_among defects_of nodes q d a (in_among (defects_of q) d mine)))
       (to_top q a d (defects_first q d mine)))
       (λ holds. ap (λ b. is_in (if b then first_set q else []) d) none ∙ (first_of q a d holds).1)
 
@@ -73,9 +65,9 @@ module _ (p : Problem) (nodes : List Node) (held : ℕ → List ℕ) (nest : IsN
       up : list_any (λ c. is_in (held c) d) q.children ≡ true → (is_in (leaves nodes) d && is_in q.top.vertices d) ≡ true
       up holds =
           let (c, among, mine) = any_among (λ x. is_in (held x) d) q.children holds in
-          let is = is_member q.children c among in
+          let is = among_is_in q.children c among in
           let parts = and_parts (is_in (leaves nodes) d) (is_in (top_at nodes c) d) (sym (child c is d) ∙ mine) in
-          both (is_in (leaves nodes) d) (is_in q.top.vertices d) parts.0
+          and_from (is_in (leaves nodes) d) (is_in q.top.vertices d) parts.0
           (to_top q a d (filled ∙ in_concat (top_at nodes) q.children c d is parts.1))
 
       down : (is_in (leaves nodes) d && is_in q.top.vertices d) ≡ true → list_any (λ c. is_in (held c) d) q.children ≡ true
@@ -83,7 +75,7 @@ module _ (p : Problem) (nodes : List Node) (held : ℕ → List ℕ) (nest : IsN
           let (leaf, first) = first_of q a d holds in
           let (c, is, within) = from_concat (top_at nodes) q.children d (sym filled ∙ first) in
           among_any (λ x. is_in (held x) d) q.children c (in_among q.children c is)
-          (child c is d ∙ both (is_in (leaves nodes) d) (is_in (top_at nodes c) d) leaf within)
+          (child c is d ∙ and_from (is_in (leaves nodes) d) (is_in (top_at nodes c) d) leaf within)
 
   next : (before : List Node) (q : Node) (after : List Node) → nodes ≡ before ++ q ∷ after
       → ((n : Node) → IsAmong n before → Holds n) → Holds q
@@ -154,5 +146,5 @@ covered_is_held p nodes held name d nest are leaf cover =
       ap (is_outer nodes) (sym over.named) ∙ over.outer,
       ap (λ x. is_in (held x) d) (sym over.named)
           ∙ (all_hold p nodes held nest are [] nodes refl (λ n b. absurd b) over.node over.among d
-          ∙ both (is_in (leaves nodes) d) (is_in over.node.top.vertices d) leaf over.holds),
+          ∙ and_from (is_in (leaves nodes) d) (is_in over.node.top.vertices d) leaf over.holds),
     )

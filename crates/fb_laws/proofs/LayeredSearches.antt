@@ -15,7 +15,7 @@ use Rattle.fb_graph.proofs.Sums.{sum_same}
 use Rattle.fb_graph.specs.Counts.{as_count}
 use Rattle.fb_graph.specs.Covers.{HaveParity}
 use Rattle.fb_graph.specs.Ends.{ends_in}
-use Rattle.fb_laws.specs.Opening.{EndAtDefects}
+use Rattle.fb_laws.specs.Opening.{EndAtDefects, EndsAtDefects}
 use Rattle.fb_laws.specs.Works.{AreMatchedLinks, IsSetOf, IsMatching, names_without}
 use Rattle.fb_laws.specs.Trees.{Entry, Connects, IsTree, grown_links, paired_links, tree_names}
 use Rattle.fb_laws.specs.SearchLayers.{SearchAlike}
@@ -36,6 +36,16 @@ ends_agree a b links same =
     (λ i d less.
     ap (λ x. as_count x + as_count (is_in a (get_or links i d).to)) (same i d less).0
     ∙ ap (λ x. as_count (is_in b (get_or links i d).from) + as_count x) (same i d less).1)
+
+module _ (p : Problem) (nodes others : List Node) (alike : AreAlike nodes others) (dual : IsDual p nodes) where
+  pub cover_kept : (v name : ℕ) → (p.is_real v ≡ true → is_in (leaves nodes) v ≡ true) → cover_of nodes v ≡ Some name
+      → cover_of others v ≡ Some name
+  cover_kept v name at cover = alike.covers v (at (dual.real v (subst IsSome (sym cover) refl))) ∙ cover
+
+  -- a connected end is a defect, whose cover stays
+  pub connects_kept : (l : Link) (a b : ℕ) → EndsAtDefects p (leaves nodes) l → Connects nodes l a b → Connects others l a b
+  connects_kept l a b (at_from, at_to) (inl (from, to)) = inl (cover_kept l.from a at_from from, cover_kept l.to b at_to to)
+  connects_kept l a b (at_from, at_to) (inr (to, from)) = inr (cover_kept l.to a at_to to, cover_kept l.from b at_from from)
 
 module _ (p : Problem) (nodes others : List Node) (alike : AreAlike nodes others) (old : IsDual p nodes) (dual : IsDual p others) where
   before : (d : ℕ) → is_in (leaves others) d ≡ true → is_in (leaves nodes) d ≡ true
@@ -58,30 +68,15 @@ module _ (p : Problem) (nodes others : List Node) (alike : AreAlike nodes others
     at_defects = subst (λ l. EndAtDefects p l links) (sym alike.defects) are.at_defects;
   }
 
-  -- a connected end is a defect, whose cover stays
-  moved : (l : Link) (a b : ℕ) → (p.is_real l.from ≡ true → is_in (leaves nodes) l.from ≡ true) × (p.is_real l.to ≡ true → is_in (leaves nodes) l.to ≡ true)
-      → Connects nodes l a b → Connects others l a b
-  moved l a b (at_from, at_to) connects = step connects
-    where
-      kept : (v name : ℕ) → (p.is_real v ≡ true → is_in (leaves nodes) v ≡ true) → cover_of nodes v ≡ Some name → cover_of others v ≡ Some name
-      kept v name at cover = alike.covers v (at (old.real v (subst IsSome (sym cover) refl))) ∙ cover
-
-      step : Connects nodes l a b → Connects others l a b
-      step (inl (from, to)) = inl (kept l.from a at_from from, kept l.to b at_to to)
-      step (inr (to, from)) = inr (kept l.to a at_to to, kept l.from b at_from from)
-
   tree_alike : (root : ℕ) (tree : List Entry) → EndAtDefects p (leaves nodes) (grown_links tree)
       → EndAtDefects p (leaves nodes) (paired_links tree) → IsTree nodes root tree → IsTree others root tree
   tree_alike root [] grown paired joined = tt
   tree_alike root (e ∷ es) grown paired (parent, tree, matched, joined) = (
     parent,
-    moved e.tree e.parent e.minus (All-head At e.tree (grown_links es) grown) tree,
-    moved e.matched e.minus e.plus (All-head At e.matched (paired_links es) paired) matched,
-    tree_alike root es (All-tail At e.tree (grown_links es) grown) (All-tail At e.matched (paired_links es) paired) joined,
+    connects_kept p nodes others alike old e.tree e.parent e.minus (All-head (EndsAtDefects p (leaves nodes)) e.tree (grown_links es) grown) tree,
+    connects_kept p nodes others alike old e.matched e.minus e.plus (All-head (EndsAtDefects p (leaves nodes)) e.matched (paired_links es) paired) matched,
+    tree_alike root es (All-tail (EndsAtDefects p (leaves nodes)) e.tree (grown_links es) grown) (All-tail (EndsAtDefects p (leaves nodes)) e.matched (paired_links es) paired) joined,
   )
-    where
-      At : Link → Type 0
-      At l = (p.is_real l.from ≡ true → is_in (leaves nodes) l.from ≡ true) × (p.is_real l.to ≡ true → is_in (leaves nodes) l.to ≡ true)
 
   matching_alike : (links : List Link) (unmatched : List ℕ) → IsMatching p nodes links unmatched → IsMatching p others links unmatched
   matching_alike links unmatched work = record {
@@ -153,7 +148,7 @@ search_alike p nodes others tree rest unmatched root r alike dual state = record
   names = state.names;
   joined =
       tree_alike p nodes others alike state.matching.dual dual root tree state.grown.at_defects
-      (All-left (λ l. (p.is_real l.from ≡ true → is_in (leaves nodes) l.from ≡ true) × (p.is_real l.to ≡ true → is_in (leaves nodes) l.to ≡ true))
+      (All-left (EndsAtDefects p (leaves nodes))
       (paired_links tree) rest state.matching.links_are.at_defects)
       state.joined;
   grown = links_alike p nodes others alike state.matching.dual dual (grown_links tree) state.grown;

@@ -35,6 +35,7 @@ pub mod OpenedSearches
 pub mod OpenedTrees
 pub mod PartBounds
 pub mod PartStates
+pub mod PathNodes
 pub mod PathSums
 pub mod PotentialParities
 pub mod RenamedNames

@@ -6,7 +6,7 @@ use Rattle.std.proofs.lemmas.List.{length-map, map-append}
 use Rattle.std.proofs.lemmas.List.Sorted.{All-permutation, IsPermutation-append, IsPermutation-append_comm, IsPermutation-append_left, IsPermutation-append_right, IsPermutation-cons, IsPermutation-filter_both, IsPermutation-map, IsPermutation-middle, IsPermutation-refl, IsPermutation-sym, IsPermutation-trans}
 use Rattle.fb_graph.specs.Parity.{is_in}
 use Rattle.fb_graph.specs.Certificate.{AreDistinct}
-use Rattle.fb_graph.proofs.Among.{IsAmong, All_among, among_All, among_either, among_left, among_right}
+use Rattle.fb_graph.proofs.Among.{IsAmong, All_among, among_All, among_either, among_left, among_right, among_filter}
 use Rattle.fb_graph.proofs.Sets.{is_in-cases, is_in-head, is_in-tail}
 use Rattle.fb_laws.specs.LinkNumbers.{BranchesCounted, CycleCounted, LinksEnded, LinksJoined, LinksOpened, links_dropped, links_matched, tree_links}
 use Rattle.fb_laws.specs.OpenedCycles.{PassOf, grown_on, matched_on, opened_branches, opened_tree}
@@ -17,10 +17,10 @@ use Rattle.fb_laws.proofs.MergedParts.{distinct_across}
 use Rattle.fb_laws.proofs.OpenedCycles.{new_grown, new_paired}
 use Rattle.fb_laws.proofs.SearchTrees.{path_beside}
 use Rattle.fb_laws.proofs.StateBlossoms.{closed_joining, closed_names}
-use Rattle.fb_laws.proofs.TreeCycles.{length_back}
+use Rattle.fb_laws.proofs.PathNodes.{length_back}
 use Rattle.fb_laws.proofs.TreePaths.{length_along}
 use Rattle.fb_graph.proofs.Floods.{is_in-both, is_in-left, is_in-right}
-use Rattle.fb_laws.proofs.NestOrders.{distinct_left}
+use Rattle.fb_graph.proofs.Members.{distinct_left}
 
 -- the inner two of four lists change places
 pub crossed : {X : Type 0} (a b c d : List X) → IsPermutation ((a ++ b) ++ (c ++ d)) ((a ++ c) ++ (b ++ d))
@@ -132,17 +132,6 @@ same_elements {X} key xs (y ∷ ys) (new, distinct) within same =
     among_others before after z a (inr (inl here)) =
         absurd (both_ways (is_in (map key ys) (key y)) new (subst (λ w. is_in (map key ys) (key w) ≡ true) (sym here) (among_key key ys z a)))
     among_others before after z a (inr (inr b)) = among_right before after z b
-
-pub among_filter : {X : Type 0} (test : X → Bool) (xs : List X) (x : X) → IsAmong x xs → test x ≡ true → IsAmong x (filter test xs)
-among_filter test [] x a h = absurd a
-among_filter {X} test (y ∷ ys) x a h = step (test y) refl a (λ b. among_filter test ys x b h)
-  where
-    step : (b : Bool) → test y ≡ b → IsAmong x (y ∷ ys) → (IsAmong x ys → IsAmong x (filter test ys))
-        → IsAmong x (cond b (y ∷ filter test ys) (filter test ys))
-    step true e (inl same) rest = inl same
-    step true e (inr b) rest = inr (rest b)
-    step false e (inl same) rest = absurd (both_ways (test x) (ap test (sym same) ∙ e) h)
-    step false e (inr b) rest = rest b
 
 path_in : {L : Type 0} (tree : List (EntryOf L)) (name : ℕ) (g : EntryOf L) → IsAmong g (path_to tree name) → IsAmong g tree
 path_in tree name g a =

@@ -1,7 +1,6 @@
 -- The match of an outer node.
-use Rattle.std.proofs.Common.{ℕ, ◌≡◌, ◌+◌, ◌≤◌, ◌⊎◌, inl, inr, Bool, true, false, List, [], ◌∷◌, ◌++◌, map, All, Option, None, Some, refl, sym, ap, ◌∙◌, subst, arith}
-use Rattle.std.specs.Option.{IsSome}
-use Rattle.std.proofs.lemmas.Bool.{both_ways, false≢true, false_from_ne_true, cases_Bool}
+use Rattle.std.proofs.Common.{ℕ, ◌≡◌, ◌+◌, ◌≤◌, ◌⊎◌, inl, inr, Bool, true, false, List, [], ◌∷◌, ◌++◌, map, All, Some, refl, sym, ap, ◌∙◌, subst, arith}
+use Rattle.std.proofs.lemmas.Bool.{both_ways, false_from_ne_true, cases_Bool}
 use Rattle.std.proofs.lemmas.List.Elements.{All-cons, All-head, All-weaker}
 use Rattle.fb_graph.specs.Parity.{is_in}
 use Rattle.fb_graph.specs.Problem.{Problem, with_defects}
@@ -20,9 +19,11 @@ use Rattle.fb_laws.specs.Fusion.{IsLinkOf}
 use Rattle.fb_laws.specs.Trees.{Entry, Connects, IsTree, paired_links, tree_names}
 use Rattle.fb_laws.specs.Works.{AreMatchedLinks, IsSetOf}
 use Rattle.fb_laws.specs.MatchLinks.{EndsElsewhere, HasMatch, LeadsToBoundary, LeadsToMate, MatchOf, MatchOfMet, MateOutside}
+use Rattle.fb_laws.specs.Opening.{EndsAtDefects}
 use Rattle.fb_laws.proofs.SearchStates.{outside}
 use Rattle.fb_laws.proofs.SearchTrees.{connected, connects_sym, cover_set, end_of, matched_named, no_ends}
 use Rattle.fb_graph.proofs.Nodes.{All-right}
+use Rattle.fb_graph.proofs.Options.{some_name}
 
 -- the one link of a list that has an end in the set
 record HasOneEnd (set : List ℕ) (links : List Link) : Type 0 where
@@ -91,28 +92,21 @@ module _ (p : Problem) (nodes : List Node) (links : List Link) (name : ℕ) (dua
 
   -- a link with one end in the set leads to the boundary or to a mate
   leads : (l : Link) → ends_of_one (top_at nodes name) l ≡ 1
-      → (p.is_real l.from ≡ true → is_in (leaves nodes) l.from ≡ true) × (p.is_real l.to ≡ true → is_in (leaves nodes) l.to ≡ true)
+      → EndsAtDefects p (leaves nodes) l
       → LeadsToBoundary p nodes name l ⊎ LeadsToMate nodes name l
   leads l one (from_leaf, to_leaf) = step (is_in (top_at nodes name) l.from) (is_in (top_at nodes name) l.to) refl refl
     where
-      some_name : (v : ℕ) → is_in (leaves nodes) v ≡ true → (m : ℕ) × (cover_of nodes v ≡ Some m)
-      some_name v leaf = by (cover_of nodes v) (dual.defects v leaf)
-        where
-          by : (o : Option ℕ) → IsSome o → (m : ℕ) × (o ≡ Some m)
-          by None some = absurd (false≢true some)
-          by (Some m) some = (m, refl)
-
       from_here : cover_of nodes l.from ≡ Some name → is_in (top_at nodes name) l.to ≡ false
           → (p.is_real l.to ≡ true) ⊎ (p.is_real l.to ≡ false) → LeadsToBoundary p nodes name l ⊎ LeadsToMate nodes name l
       from_here cover out (inl real) =
-          let (m, other) = some_name l.to (to_leaf real) in
+          let (m, other) = some_name (cover_of nodes l.to) (dual.defects l.to (to_leaf real)) in
           inr (m, inl (cover, other), λ same. beyond l.to out (other ∙ ap Some (sym same)))
       from_here cover out (inr unreal) = inl (l.to, inl (cover, refl), unreal)
 
       to_here : cover_of nodes l.to ≡ Some name → is_in (top_at nodes name) l.from ≡ false
           → (p.is_real l.from ≡ true) ⊎ (p.is_real l.from ≡ false) → LeadsToBoundary p nodes name l ⊎ LeadsToMate nodes name l
       to_here cover out (inl real) =
-          let (m, other) = some_name l.from (from_leaf real) in
+          let (m, other) = some_name (cover_of nodes l.from) (dual.defects l.from (from_leaf real)) in
           inr (m, inr (cover, other), λ same. beyond l.from out (other ∙ ap Some (sym same)))
       to_here cover out (inr unreal) = inl (l.from, inr (cover, refl), unreal)
 
@@ -132,16 +126,13 @@ module _ (p : Problem) (nodes : List Node) (links : List Link) (name : ℕ) (dua
         found.place,
         record {
           leads = leads found.link found.one
-              (All-head AtDefects found.link found.after
-              (All-right AtDefects found.before (found.link ∷ found.after) (subst (All AtDefects) found.place are.at_defects)));
+              (All-head (EndsAtDefects p (leaves nodes)) found.link found.after
+              (All-right (EndsAtDefects p (leaves nodes)) found.before (found.link ∷ found.after) (subst (All (EndsAtDefects p (leaves nodes))) found.place are.at_defects)));
           others = All-weaker (λ l. (is_in (top_at nodes name) l.from ≡ false) × (is_in (top_at nodes name) l.to ≡ false))
               (EndsElsewhere nodes name) (λ l out. (beyond l.from out.0, beyond l.to out.1)) (found.before ++ found.after)
               found.others;
         },
       )
-    where
-      AtDefects : Link → Type 0
-      AtDefects l = (p.is_real l.from ≡ true → is_in (leaves nodes) l.from ≡ true) × (p.is_real l.to ≡ true → is_in (leaves nodes) l.to ≡ true)
 
 set_of : (p : Problem) (nodes : List Node) (name : ℕ) → IsDual p nodes → is_live nodes name ≡ true → is_outer nodes name ≡ true
     → IsSetOf nodes name (top_at nodes name)
@@ -206,7 +197,7 @@ links_after p nodes links more are = record {
   own = All-right (IsLinkOf p) links more are.own;
   at_defects =
       All-right
-      (λ l. (p.is_real l.from ≡ true → is_in (leaves nodes) l.from ≡ true) × (p.is_real l.to ≡ true → is_in (leaves nodes) l.to ≡ true))
+      (EndsAtDefects p (leaves nodes))
       links more are.at_defects;
 }
 

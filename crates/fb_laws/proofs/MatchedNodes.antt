@@ -16,6 +16,7 @@ use Rattle.fb_laws.specs.Paths.{Branch, IsPath, LeadsOut, tip_of, tree_links, ma
 use Rattle.fb_graph.specs.Links.{IsTightLink}
 use Rattle.fb_laws.specs.Fusion.{IsLinkOf}
 use Rattle.fb_laws.specs.Works.{AreMatchedLinks, IsSetOf, IsBranchOf, names_without, MatchingReleased, MatchingAugmented, MatchingMet}
+use Rattle.fb_laws.specs.Opening.{EndsAtDefects}
 use Rattle.fb_laws.proofs.BlossomSums.{whole_apart, whole_itself, holds_apart, holds_itself}
 use Rattle.fb_graph.proofs.Crossings.{one_of_name}
 use Rattle.fb_graph.proofs.EndSums.{apart_sym, ends_append, ends-cons}
@@ -108,7 +109,7 @@ links_swapped p nodes tree matched rest out new old = record {
   own = all_swapped (IsLinkOf p) tree matched rest out new.own old.own;
   at_defects =
       all_swapped
-      (λ l. (p.is_real l.from ≡ true → is_in (leaves nodes) l.from ≡ true) × (p.is_real l.to ≡ true → is_in (leaves nodes) l.to ≡ true))
+      (EndsAtDefects p (leaves nodes))
       tree matched rest out new.at_defects old.at_defects;
 }
 
@@ -225,7 +226,7 @@ matching_released p nodes name other root set path out old v b rest unmatched wo
   links_are = links_swapped p nodes (tree_links path) [] rest out links (record {
     tight = All-right (IsTightLink p (all_cuts nodes)) (old ∷ []) rest (All-right (IsTightLink p (all_cuts nodes)) (matched_links path) (old ∷ rest) work.links_are.tight);
     own = All-right (IsLinkOf p) (old ∷ []) rest (All-right (IsLinkOf p) (matched_links path) (old ∷ rest) work.links_are.own);
-    at_defects = All-right AtDefects (old ∷ []) rest (All-right AtDefects (matched_links path) (old ∷ rest) work.links_are.at_defects);
+    at_defects = All-right (EndsAtDefects p (leaves nodes)) (old ∷ []) rest (All-right (EndsAtDefects p (leaves nodes)) (matched_links path) (old ∷ rest) work.links_are.at_defects);
   });
   matched =
       All-from_get_or
@@ -256,6 +257,3 @@ matching_released p nodes name other root set path out old v b rest unmatched wo
       )));
   one_parity = work.one_parity;
 }
-  where
-    AtDefects : Link → Type 0
-    AtDefects l = (p.is_real l.from ≡ true → is_in (leaves nodes) l.from ≡ true) × (p.is_real l.to ≡ true → is_in (leaves nodes) l.to ≡ true)

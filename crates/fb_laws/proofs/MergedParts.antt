@@ -21,6 +21,7 @@ use Rattle.fb_graph.specs.NestUnions.{AreParts}
 use Rattle.fb_laws.specs.Fusion.{IsLinkOf}
 use Rattle.fb_laws.specs.Works.{HasDefects}
 use Rattle.fb_laws.specs.Merging.{MatchingsMerged}
+use Rattle.fb_laws.specs.Opening.{EndsAtDefects}
 use Rattle.fb_graph.proofs.Crossings.{cover_found, found_place, name_in}
 use Rattle.fb_graph.proofs.EndSums.{ends_append}
 use Rattle.fb_laws.proofs.FusedParts.{parts_turned, link_ends_away, tight_fused, tight_fused_right, fused_ends, height_fused}
@@ -31,6 +32,7 @@ use Rattle.fb_graph.proofs.AppendedNodes.{cuts_merged, leaves_merged, names_merg
 use Rattle.fb_graph.proofs.ClosedSets.{boundary_height}
 use Rattle.fb_graph.proofs.NestParts.{leaf_real}
 use Rattle.fb_graph.proofs.Walks.{walk_same}
+use Rattle.fb_graph.proofs.Booleans.{or_nothing}
 
 pub odd_in : (p : Problem) (nodes : List Node) → IsDual p nodes → HasDefects p nodes → All (IsOddCut p) (all_cuts nodes)
 odd_in p nodes dual defects i d less = odd_of_part p nodes (get_or (all_cuts nodes) i d) defects (dual.packing.odd i d less)
@@ -136,7 +138,7 @@ matchings_merged left right whole nodes others links more unmatched open_ parts 
         (λ i d less. part_of_link left whole (get_or links i d) parts.left_part (first.links_are.own i d less))
         (λ i d less. part_of_link right whole (get_or more i d) parts.right_part (second.links_are.own i d less));
     at_defects =
-        All-append AtDefects links more
+        All-append (EndsAtDefects whole (leaves (nodes ++ others))) links more
         (λ i d less.
         let away_ends = link_ends_away left right whole (get_or links i d) parts (first.links_are.own i d less) in (
           left_end (get_or links i d).from away_ends.0 (first.links_are.at_defects i d less).0,
@@ -202,11 +204,6 @@ matchings_merged left right whole nodes others links more unmatched open_ parts 
     right_only : (a b : Bool) → a ≡ false → as_count (a || b) ≡ as_count b
     right_only a b e = ap (λ x. as_count (x || b)) e
 
-    AtDefects : Link → Type 0
-    AtDefects l =
-        (whole.is_real l.from ≡ true → is_in (leaves (nodes ++ others)) l.from ≡ true)
-        × (whole.is_real l.to ≡ true → is_in (leaves (nodes ++ others)) l.to ≡ true)
-
     in_left : (v : ℕ) → is_in (leaves nodes) v ≡ true → is_in (leaves (nodes ++ others)) v ≡ true
     in_left v h =
         ap (λ l. is_in l v) (leaves_merged nodes others)
@@ -238,13 +235,9 @@ matchings_merged left right whole nodes others links more unmatched open_ parts 
     left_leaves v real =
         ap (λ l. is_in l v) (leaves_merged nodes others)
         ∙ (is_in-append (leaves nodes) (leaves others) v
-        ∙ or_first (is_in (leaves nodes) v) (is_in (leaves others) v)
+        ∙ or_nothing (is_in (leaves nodes) v) (is_in (leaves others) v)
         (false_from_ne_true (is_in (leaves others) v)
         (λ h. both_ways (right.is_real v) (parts.separated.vertices v real) (leaf_real right others v second.dual h))))
-      where
-        or_first : (a b : Bool) → b ≡ false → (a || b) ≡ a
-        or_first true b e = refl
-        or_first false b e = e
 
     right_leaves : (v : ℕ) → right.is_real v ≡ true → is_in (leaves (nodes ++ others)) v ≡ is_in (leaves others) v
     right_leaves v real =

@@ -17,6 +17,7 @@ use Rattle.fb_laws.specs.Searches.{LeavesNode}
 use Rattle.fb_graph.specs.SourceWalks.{IsEdgeUnder}
 use Rattle.fb_laws.specs.Trees.{Connects}
 use Rattle.fb_laws.specs.Works.{AreMatchedLinks}
+use Rattle.fb_laws.specs.Opening.{EndsAtDefects}
 use Rattle.fb_graph.proofs.SourceWalks.{covered_walk}
 use Rattle.fb_graph.proofs.TightLinks.{boundary_tight, joined_tight, meeting_tight, turned_tight}
 
@@ -73,9 +74,9 @@ one_link p nodes l tight own from to = record {
   tight = All-cons (IsTightLink p (all_cuts nodes)) l [] tight (All-nil (IsTightLink p (all_cuts nodes)));
   own = All-cons (IsLinkOf p) l [] own (All-nil (IsLinkOf p));
   at_defects = All-cons
-      (λ m. (p.is_real m.from ≡ true → is_in (leaves nodes) m.from ≡ true) × (p.is_real m.to ≡ true → is_in (leaves nodes) m.to ≡ true))
+      (EndsAtDefects p (leaves nodes))
       l [] (from, to)
-      (All-nil (λ m. (p.is_real m.from ≡ true → is_in (leaves nodes) m.from ≡ true) × (p.is_real m.to ≡ true → is_in (leaves nodes) m.to ≡ true)));
+      (All-nil (EndsAtDefects p (leaves nodes)));
 }
 
 pub link_met : LinkMet
@@ -142,9 +143,9 @@ link_turned p nodes l are = (
     own : IsLinkOf p l
     own = All-head (IsLinkOf p) l [] are.own
 
-    ends : (p.is_real l.from ≡ true → is_in (leaves nodes) l.from ≡ true) × (p.is_real l.to ≡ true → is_in (leaves nodes) l.to ≡ true)
+    ends : EndsAtDefects p (leaves nodes) l
     ends = All-head
-        (λ m. (p.is_real m.from ≡ true → is_in (leaves nodes) m.from ≡ true) × (p.is_real m.to ≡ true → is_in (leaves nodes) m.to ≡ true))
+        (EndsAtDefects p (leaves nodes))
         l [] are.at_defects
 
     connects : (a b : ℕ) → Connects nodes l a b → Connects nodes (turned_link l) a b
@@ -167,9 +168,6 @@ links_joined p nodes l m a b dual other are meet low at_from at_to = (
   inl (at_from, at_to),
 )
   where
-    AtDefects : Link → Type 0
-    AtDefects x = (p.is_real x.from ≡ true → is_in (leaves nodes) x.from ≡ true) × (p.is_real x.to ≡ true → is_in (leaves nodes) x.to ≡ true)
-
     second : (P : Link → Type 0) → All P (l ∷ m ∷ []) → P m
     second P h = All-head P m [] (All-tail P l (m ∷ []) h)
 
@@ -179,11 +177,11 @@ links_joined p nodes l m a b dual other are meet low at_from at_to = (
     own_m : IsLinkOf p m
     own_m = second (IsLinkOf p) are.own
 
-    ends_l : AtDefects l
-    ends_l = All-head AtDefects l (m ∷ []) are.at_defects
+    ends_l : EndsAtDefects p (leaves nodes) l
+    ends_l = All-head (EndsAtDefects p (leaves nodes)) l (m ∷ []) are.at_defects
 
-    ends_m : AtDefects m
-    ends_m = second AtDefects are.at_defects
+    ends_m : EndsAtDefects p (leaves nodes) m
+    ends_m = second (EndsAtDefects p (leaves nodes)) are.at_defects
 
     tight : IsTightLink p (all_cuts nodes) (joined_link l m)
     tight =

@@ -1,13 +1,14 @@
 -- Of two nodes of a nest the one lies within a child of the other, or they lie apart.
 use Rattle.std.proofs.Common.{ℕ, ◌≡◌, ◌==◌, ◌⊎◌, inl, inr, true, false, List, [], ◌∷◌, ◌++◌, map, All, refl, sym, ap, ◌∙◌, subst}
+use Rattle.std.proofs.Math.Bool.{or-false}
 use Rattle.std.specs.List.{concat}
-use Rattle.std.proofs.lemmas.Bool.{both_ways, cases_Bool, eq-eqb, false≢true, false_from_ne_true, or_parts}
+use Rattle.std.proofs.lemmas.Bool.{both_ways, cases_Bool, eq-eqb, false≢true, false_from_ne_true}
 use Rattle.std.proofs.lemmas.List.{append-nil, append_assoc}
 use Rattle.std.proofs.lemmas.List.Elements.{All-nil, All-cons, All-head}
 use Rattle.fb_graph.specs.Parity.{is_in}
 use Rattle.fb_graph.specs.Certificate.{AreDistinct}
 use Rattle.fb_graph.specs.Dual.{Node, AreApart, AreGrown, AreOuterApart, IsWithin, layers_of, is_empty, is_live, is_outer, top_at}
-use Rattle.fb_graph.proofs.Members.{is_in-append, or_false}
+use Rattle.fb_graph.proofs.Members.{distinct_left}
 use Rattle.fb_graph.proofs.Nodes.{All-below, All-top}
 use Rattle.fb_graph.proofs.Sets.{All-from_is_in, is_in-All}
 use Rattle.fb_graph.specs.Ends.{AreAllApart}
@@ -44,13 +45,6 @@ last_free (n ∷ ns) q joined =
           (All-top (λ m. is_in n.children m.name ≡ false) (n ∷ ns) q joined.0) none,
       own,
     )
-
-pub distinct_left : (xs ys : List ℕ) → AreDistinct (xs ++ ys) → AreDistinct xs
-distinct_left [] ys distinct = tt
-distinct_left (x ∷ xs) ys distinct = (
-  (or_parts (is_in xs x) (is_in ys x) (sym (is_in-append xs ys x) ∙ distinct.0)).0,
-  distinct_left xs ys distinct.1,
-)
 
 -- a node that joins another holds it in its first layer
 pub filled_by : (nodes : List Node) (q : Node) (c : ℕ) → IsFilled nodes q → is_in q.children c ≡ true → (v : ℕ)
@@ -158,7 +152,7 @@ module _ (xs : List Node) (q : Node) (stand : IsStand (xs ++ q ∷ [])) where
       both_ways (is_in (q.name ∷ []) m.name)
       (distinct_across (map (λ n. n.name) xs) (q.name ∷ []) m.name
       (subst AreDistinct (names_merged xs (q ∷ [])) stand.grove.names) (name_among xs m a))
-      (or_false (q.name == m.name) ∙ eq-eqb q.name m.name (sym e))
+      (or-false (q.name == m.name) ∙ eq-eqb q.name m.name (sym e))
 
   beside_q : (m : Node) → IsAmong m xs → is_outer (xs ++ q ∷ []) m.name ≡ true
       → AreApart m.top.vertices q.top.vertices

@@ -17,6 +17,7 @@ use Rattle.fb_laws.specs.Paths.{LeadsOut}
 use Rattle.fb_graph.specs.Singles.{nodes_of}
 use Rattle.fb_laws.specs.UnmatchedNames.{AreOuterNames}
 use Rattle.fb_laws.specs.Works.{IsMatching, IsSetOf}
+use Rattle.fb_laws.specs.Opening.{EndsAtDefects}
 use Rattle.fb_graph.proofs.Among.{among_live, cover_among}
 use Rattle.fb_graph.proofs.Crossings.{cover_found}
 use Rattle.fb_graph.proofs.MergedNests.{beside_of_parts, beside_of_singles, only_singles, only_singles_nest, walks_beside}
@@ -78,17 +79,12 @@ module _ (p : Problem) (nodes : List Node) (seam : ℕ → Bool) (links : List L
   abbrev IsFreed : Freed → Type 0
   IsFreed f = IsSetOf nodes f.name f.set × LeadsOut f.link f.set f.seam × (seam f.seam ≡ true)
 
-  abbrev AtDefects : Link → Type 0
-  AtDefects l =
-      (p.is_real l.from ≡ true → is_in (leaves nodes) l.from ≡ true)
-      × (p.is_real l.to ≡ true → is_in (leaves nodes) l.to ≡ true)
-
   -- all defects under the node have even potentials
   abbrev IsEvenAt : Freed → Type 0
   IsEvenAt f = (d : ℕ) → is_in (leaves nodes) d ≡ true → cover_of nodes d ≡ Some f.name
       → height_of (all_cuts nodes) d % 2 ≡ 0
 
-  one_even : (f : Freed) → IsTightLink p (all_cuts nodes) f.link → AtDefects f.link → IsFreed f → IsEvenAt f
+  one_even : (f : Freed) → IsTightLink p (all_cuts nodes) f.link → EndsAtDefects p (leaves nodes) f.link → IsFreed f → IsEvenAt f
   one_even f tight at ((i, less, outer, named, same), leads, at_seam) d leaf cover = step leads
     where
       -- by the defect at which the link ends
@@ -115,19 +111,19 @@ module _ (p : Problem) (nodes : List Node) (seam : ℕ → Bool) (links : List L
           (ap p.is_real from ∙ unreal f.seam at_seam))
 
   each_even : (freed : List Freed) → All (IsTightLink p (all_cuts nodes)) (freed_links freed)
-      → All AtDefects (freed_links freed)
+      → All (EndsAtDefects p (leaves nodes)) (freed_links freed)
       → All IsFreed freed → All IsEvenAt freed
   each_even [] tight at are = All-nil IsEvenAt
   each_even (f ∷ fs) tight at are =
       All-cons IsEvenAt f fs
       (one_even f (All-head (IsTightLink p (all_cuts nodes)) f.link (freed_links fs) tight)
-      (All-head AtDefects f.link (freed_links fs) at)
+      (All-head (EndsAtDefects p (leaves nodes)) f.link (freed_links fs) at)
       (All-head IsFreed f fs are))
       (each_even fs (All-tail (IsTightLink p (all_cuts nodes)) f.link (freed_links fs) tight)
-      (All-tail AtDefects f.link (freed_links fs) at) (All-tail IsFreed f fs are))
+      (All-tail (EndsAtDefects p (leaves nodes)) f.link (freed_links fs) at) (All-tail IsFreed f fs are))
 
   freed_parity : (freed : List Freed) → All (IsTightLink p (all_cuts nodes)) (freed_links freed)
-      → All AtDefects (freed_links freed)
+      → All (EndsAtDefects p (leaves nodes)) (freed_links freed)
       → All IsFreed freed → HaveParity (is_in (freed_names freed)) nodes 0
   freed_parity freed tight at are d name leaf cover among =
       is_in-All (λ n. cover_of nodes d ≡ Some n → height_of (all_cuts nodes) d % 2 ≡ 0) (freed_names freed)
@@ -190,8 +186,7 @@ nested_seam p whole nodes freed links singles seam unmatched even limits is dist
         freed_parity p nodes seam (freed_links freed ++ links) unmatched even is.unreal state.work.matching freed
         (All-left (IsTightLink p (all_cuts nodes)) (freed_links freed) links state.work.matching.links_are.tight)
         (All-left
-        (λ l. (p.is_real l.from ≡ true → is_in (leaves nodes) l.from ≡ true)
-        × (p.is_real l.to ≡ true → is_in (leaves nodes) l.to ≡ true))
+        (EndsAtDefects p (leaves nodes))
         (freed_links freed) links state.work.matching.links_are.at_defects)
         is.freed_are
 

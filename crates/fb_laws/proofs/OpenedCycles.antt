@@ -1,5 +1,5 @@
 -- A blossom's way in its place in the tree.
-use Rattle.std.proofs.Common.{ℕ, ◌≡◌, ◌+◌, ◌≤◌, ◌⊎◌, inl, inr, Bool, true, false, List, [], ◌∷◌, ◌++◌, All, Option, Some, None, IsSome, refl, sym, ap, ◌∙◌, subst, arith}
+use Rattle.std.proofs.Common.{ℕ, ◌≡◌, ◌+◌, ◌≤◌, ◌⊎◌, inl, inr, true, false, List, [], ◌∷◌, ◌++◌, All, Option, Some, None, IsSome, refl, sym, ap, ◌∙◌, subst, arith}
 use Rattle.std.specs.List.Sorted.{IsPermutation}
 use Rattle.std.proofs.lemmas.Bool.{both_ways, false≢true, cases_eq, ne_eqb, eq-eqb, false_from_ne_true}
 use Rattle.std.proofs.lemmas.List.{append_assoc, map-append}
@@ -21,6 +21,7 @@ use Rattle.fb_laws.specs.Searches.{IsSearch}
 use Rattle.fb_laws.specs.SearchOpenings.{PairUp, IsOpenedTree}
 use Rattle.fb_laws.specs.TreeCycles.{nodes_along}
 use Rattle.fb_laws.specs.OpenedCycles.{Pass, PassOf, Couple, ArePassed, AreCoupled, last_of, paired_on, paired_beside, paired_of, matched_on, grown_on, matched_beside, opened_branches, opened_tree, IsOpenedCycle, CycleOpened, StillPlus}
+use Rattle.fb_laws.specs.Opening.{EndsAtDefects}
 use Rattle.fb_graph.proofs.Among.{IsAmong, All_among, among_left, among_right, map_among}
 use Rattle.fb_graph.proofs.Crossings.{cover_found}
 use Rattle.fb_graph.proofs.EndSums.{ends-cons, ends_of_one}
@@ -34,14 +35,15 @@ use Rattle.fb_laws.proofs.TreePaths.{distinct_right, along_append, names_along, 
 use Rattle.fb_graph.proofs.Unions.{distinct_append}
 use Rattle.fb_graph.proofs.Floods.{is_in-both, is_in-left, is_in-right}
 use Rattle.fb_graph.proofs.Nodes.{All-right, All-left}
-use Rattle.fb_laws.proofs.NestOrders.{distinct_left}
+use Rattle.fb_graph.proofs.Members.{distinct_left}
+use Rattle.fb_graph.proofs.Booleans.{as_count-le}
 
 pub links_left : (p : Problem) (nodes : List Node) (xs ys : List Link) → AreMatchedLinks p nodes (xs ++ ys) → AreMatchedLinks p nodes xs
 links_left p nodes xs ys are = record {
   tight = All-left (IsTightLink p (all_cuts nodes)) xs ys are.tight;
   own = All-left (IsLinkOf p) xs ys are.own;
   at_defects = All-left
-      (λ l. (p.is_real l.from ≡ true → is_in (leaves nodes) l.from ≡ true) × (p.is_real l.to ≡ true → is_in (leaves nodes) l.to ≡ true))
+      (EndsAtDefects p (leaves nodes))
       xs ys are.at_defects;
 }
 
@@ -50,7 +52,7 @@ links_right p nodes xs ys are = record {
   tight = All-right (IsTightLink p (all_cuts nodes)) xs ys are.tight;
   own = All-right (IsLinkOf p) xs ys are.own;
   at_defects = All-right
-      (λ l. (p.is_real l.from ≡ true → is_in (leaves nodes) l.from ≡ true) × (p.is_real l.to ≡ true → is_in (leaves nodes) l.to ≡ true))
+      (EndsAtDefects p (leaves nodes))
       xs ys are.at_defects;
 }
 
@@ -59,7 +61,7 @@ links_moved p nodes xs ys moved are = record {
   tight = All-permutation (IsTightLink p (all_cuts nodes)) xs ys moved are.tight;
   own = All-permutation (IsLinkOf p) xs ys moved are.own;
   at_defects = All-permutation
-      (λ l. (p.is_real l.from ≡ true → is_in (leaves nodes) l.from ≡ true) × (p.is_real l.to ≡ true → is_in (leaves nodes) l.to ≡ true))
+      (EndsAtDefects p (leaves nodes))
       xs ys moved are.at_defects;
 }
 
@@ -478,17 +480,14 @@ module _ (p : Problem) (nodes others : List Node) (newer older : List Entry) (e 
       first (inl there) = in_newer n there
       first (inr there) = second (is_in-both (nodes_along Branches) After n there)
 
-  abbrev AtDefects : Link → Type 0
-  AtDefects l = (p.is_real l.from ≡ true → is_in (leaves nodes) l.from ≡ true) × (p.is_real l.to ≡ true → is_in (leaves nodes) l.to ≡ true)
-
-  paired_at : (x : Entry) → IsAmong x (newer ++ e ∷ older) → AtDefects x.matched
+  paired_at : (x : Entry) → IsAmong x (newer ++ e ∷ older) → EndsAtDefects p (leaves nodes) x.matched
   paired_at x a =
-      All_among AtDefects (paired_links (newer ++ e ∷ older) ++ rest) state.matching.links_are.at_defects x.matched
+      All_among (EndsAtDefects p (leaves nodes)) (paired_links (newer ++ e ∷ older) ++ rest) state.matching.links_are.at_defects x.matched
       (among_left (paired_links (newer ++ e ∷ older)) rest x.matched (map_among (λ y. y.matched) (newer ++ e ∷ older) x a))
 
-  grown_at : (x : Entry) → IsAmong x (newer ++ e ∷ older) → AtDefects x.tree
+  grown_at : (x : Entry) → IsAmong x (newer ++ e ∷ older) → EndsAtDefects p (leaves nodes) x.tree
   grown_at x a =
-      All_among AtDefects (grown_links (newer ++ e ∷ older)) state.grown.at_defects x.tree
+      All_among (EndsAtDefects p (leaves nodes)) (grown_links (newer ++ e ∷ older)) state.grown.at_defects x.tree
       (map_among (λ y. y.tree) (newer ++ e ∷ older) x a)
 
   -- links between other nodes connect them still
@@ -497,7 +496,7 @@ module _ (p : Problem) (nodes others : List Node) (newer older : List Entry) (e 
   moved_cover v n at other cover =
       (opened.split.outside v n (at (old.real v (subst IsSome (sym cover) refl))) cover other).0
 
-  moved : (l : Link) (a b : ℕ) → AtDefects l → (a ≡ e.minus → ⊥) → (b ≡ e.minus → ⊥) → Connects nodes l a b → Connects others l a b
+  moved : (l : Link) (a b : ℕ) → EndsAtDefects p (leaves nodes) l → (a ≡ e.minus → ⊥) → (b ≡ e.minus → ⊥) → Connects nodes l a b → Connects others l a b
   moved l a b at a_other b_other (inl (from_, to)) = inl (moved_cover l.from a at.0 a_other from_, moved_cover l.to b at.1 b_other to)
   moved l a b at a_other b_other (inr (to, from_)) = inr (moved_cover l.to a at.1 a_other to, moved_cover l.from b at.0 b_other from_)
 
@@ -567,7 +566,7 @@ module _ (p : Problem) (nodes others : List Node) (newer older : List Entry) (e 
       × (1 ≤ ends_of_one (top_at others (last_of from way)) e.matched)
   below_end = by opened.below
     where
-      at : AtDefects e.matched
+      at : EndsAtDefects p (leaves nodes) e.matched
       at = paired_at e e_among
 
       by : Connects others e.matched (last_of from way) e.plus
@@ -626,15 +625,11 @@ module _ (p : Problem) (nodes others : List Node) (newer older : List Entry) (e 
       by v leaf None none some = absurd (false≢true (subst IsSome none some))
       by v leaf (Some m) cover some = step (cases_eq m e.minus)
         where
-          most : (b : Bool) → as_count b ≤ 1
-          most true = omega arith
-          most false = omega arith
-
           step : (m ≡ e.minus) ⊎ (m ≡ e.minus → ⊥) → as_count (is_in Kept v) ≤ as_count (is_in Whole v)
           step (inl same) =
               omega (
                 arith,
-                most (is_in Kept v),
+                as_count-le (is_in Kept v),
                 ap as_count (held_by p nodes e.minus m v Whole old whole_set cover ∙ eq-eqb m e.minus same),
               )
           step (inr other) =

@@ -1,5 +1,6 @@
 -- Levels of opened blossoms.
 use Rattle.std.proofs.Common.{ℕ, ◌≡◌, ◌+◌, ◌%◌, ◌≤◌, ◌==◌, ◌||◌, ◌⊎◌, inl, inr, Bool, true, false, List, [], ◌∷◌, ◌++◌, All, count_by, get_or, refl, sym, ap, ◌∙◌, arith}
+use Rattle.std.proofs.Math.Bool.{or-false}
 use Rattle.std.specs.List.{concat, list_any, IsDistinct}
 use Rattle.std.proofs.lemmas.Bool.{both_ways, false≢true, false_from_ne_true, ne_eqb, or_cases, or_parts, or_from, cases_Bool}
 use Rattle.std.proofs.lemmas.List.Sorted.{All-permutation, IsPermutation-refl, sum_by-IsPermutation}
@@ -12,7 +13,7 @@ use Rattle.fb_graph.specs.Laws.{Link, ends_of}
 use Rattle.fb_graph.specs.Dual.{AreApart, IsWithin}
 use Rattle.fb_graph.specs.declared.parts.Cut.{Cut}
 use Rattle.fb_graph.proofs.Matching.{resolving}
-use Rattle.fb_graph.proofs.Members.{or_false, is_in-append}
+use Rattle.fb_graph.proofs.Members.{is_in-append}
 use Rattle.fb_graph.proofs.ParitySums.{differ_self, odd_agree, odd_none}
 use Rattle.fb_graph.proofs.Sets.{is_in-All, is_in-cases, is_in-head, is_in-tail}
 use Rattle.fb_graph.specs.Counts.{as_count}
@@ -283,8 +284,8 @@ last_level p cuts defects links level tight at_defects same = record {
         odd_agree (λ l. touches v (ends_of l)) (λ l. crosses (v ∷ []) (ends_of l)) links
         (λ i d less.
         let l : Link = get_or links i d in
-        ap (λ b. differ b (v == l.to)) (sym (or_false (v == l.from)))
-        ∙ ap (differ ((v == l.from) || false)) (sym (or_false (v == l.to))))
+        ap (λ b. differ b (v == l.to)) (sym (or-false (v == l.from)))
+        ∙ ap (differ ((v == l.from) || false)) (sym (or-false (v == l.to))))
         ∙ (true_of_count (is_odd_count (λ l. crosses (v ∷ []) (ends_of l)) links)
         (omega (arith, odd_of_count (λ l. crosses (v ∷ []) (ends_of l)) links, (crossed_once (v ∷ []) links one).0))
         ∙ (sym defect ∙ sym (same v real)))

@@ -24,11 +24,13 @@ use Rattle.fb_graph.proofs.NestParts.{grove_of, top_is_odd}
 use Rattle.fb_graph.proofs.Sets.{is_in-All}
 use Rattle.fb_graph.proofs.Sums.{sum_same}
 use Rattle.fb_graph.proofs.Unions.{distinct_append}
+use Rattle.fb_graph.proofs.Booleans.{same_bool}
+use Rattle.fb_graph.proofs.Members.{distinct_left}
 use Rattle.fb_laws.specs.Blossoms.{ArePaired}
 use Rattle.fb_laws.specs.Fusion.{IsLinkOf}
 use Rattle.fb_laws.specs.NestSolutions.{leaf_sets}
 use Rattle.fb_laws.specs.OpenedLinks.{every_second, opened_over, pair_links, place_of, has_end, round_from, with_opened}
-use Rattle.fb_laws.specs.Opening.{IsLevel, IsOpening}
+use Rattle.fb_laws.specs.Opening.{IsLevel, IsOpening, EndsAtDefects}
 use Rattle.fb_laws.specs.PartStates.{AreCycles, IsRing, all_cycle_links, links_at}
 use Rattle.fb_laws.specs.Works.{AreMatchedLinks, IsMatching, positive_cuts}
 use Rattle.fb_laws.proofs.HalvesKept.{half_level}
@@ -39,7 +41,6 @@ use Rattle.fb_laws.proofs.OpenedRings.{IsOnlyOne, only_one, pairs_round}
 use Rattle.fb_laws.proofs.SearchStates.{links_joined}
 use Rattle.fb_laws.proofs.SolvedNests.{defects_in_first}
 use Rattle.fb_laws.proofs.TreePaths.{distinct_right}
-use Rattle.fb_laws.proofs.NestOrders.{distinct_left}
 
 -- No closed node joins the node, and it is closed itself or joins none.
 pub record IsTop (closed : List Node) (m : Node) : Type 0 where
@@ -139,8 +140,7 @@ matched_some p nodes links some within are = record {
   own = over (IsLinkOf p) are.own;
   at_defects =
       over
-      (λ l. (p.is_real l.from ≡ true → is_in (leaves nodes) l.from ≡ true)
-      × (p.is_real l.to ≡ true → is_in (leaves nodes) l.to ≡ true))
+      (EndsAtDefects p (leaves nodes))
       are.at_defects;
 }
   where
@@ -211,16 +211,11 @@ module _ (p : Problem) (nodes : List Node) (cycles : ℕ → List Link) (nest : 
   filled : is_empty q.children ≡ false → (v : ℕ) → is_in (first_set q) v ≡ is_in (concat Sets) v
   filled some = All_among (IsFilled nodes) nodes nest.forest.filled q q_in some
 
-  same_tests : (a b : Bool) → (a ≡ true → b ≡ true) → (b ≡ true → a ≡ true) → a ≡ b
-  same_tests true b there back = sym (there refl)
-  same_tests false true there back = back refl
-  same_tests false false there back = refl
-
   -- a defect, or a vertex that isn't real, lies in a child where it lies in the blossom
   same_at : is_empty q.children ≡ false → (v : ℕ) → (p.is_real v ≡ true → is_in (leaves nodes) v ≡ true)
       → is_in (concat Sets) v ≡ is_in q.top.vertices v
   same_at some v at =
-      same_tests (is_in (concat Sets) v) (is_in q.top.vertices v)
+      same_bool (is_in (concat Sets) v) (is_in q.top.vertices v)
       (λ h.
       first_within q v (All_among (λ x. AreGrown (layers_of x)) nodes nest.dual.grown q q_in) (filled some v ∙ h))
       (λ h.

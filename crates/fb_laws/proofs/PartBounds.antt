@@ -51,7 +51,7 @@ not_empty [] three = absurd (let h : 3 ≤ 0 = three in omega arith)
 not_empty (c ∷ cs) three = refl
 
 -- each node is a defect's or a blossom
-nodes_counted : (ns : List Node) → All IsFormed ns → length ns ≡ length (leaves ns) + count_by (λ n. not (is_empty n.children)) ns
+pub nodes_counted : (ns : List Node) → All IsFormed ns → length ns ≡ length (leaves ns) + count_by (λ n. not (is_empty n.children)) ns
 nodes_counted [] formed = refl
 nodes_counted (n ∷ ns) formed =
     omega (

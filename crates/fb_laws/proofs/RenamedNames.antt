@@ -1,6 +1,6 @@
 -- Names in a list where some are replaced by one new name.
 use Rattle.std.proofs.Common.{ℕ, ◌≡◌, ◌==◌, ◌||◌, cond, Bool, true, false, List, [], ◌∷◌, map, refl, sym, ap, ◌∙◌, subst}
-use Rattle.std.proofs.lemmas.Bool.{both_ways, eq-eqb, eqb-true, false_from_ne_true}
+use Rattle.std.proofs.lemmas.Bool.{both_ways, eq-eqb, false_from_ne_true, ne_eqb}
 use Rattle.fb_graph.specs.Parity.{is_in}
 use Rattle.fb_graph.specs.Certificate.{AreDistinct}
 use Rattle.fb_graph.proofs.Sets.{is_in-head, is_in-tail}
@@ -22,9 +22,6 @@ renaming_tail joined name base n names is = record {
   alone = λ m within. is.alone m (is_in-tail n names m within);
 }
 
-differ : (a b : ℕ) → (a ≡ b → ⊥) → (a == b) ≡ false
-differ a b other = false_from_ne_true (a == b) (λ same. other (eqb-true a b same))
-
 -- names that are neither replaced nor new stay
 pub renamed_other : (joined : ℕ → Bool) (name n : ℕ) (names : List ℕ) → joined n ≡ false → (n ≡ name → ⊥)
     → is_in (map (renamed_name joined name) names) n ≡ is_in names n
@@ -35,8 +32,8 @@ renamed_other joined name n (x ∷ xs) out other =
   where
     step : (b : Bool) → joined x ≡ b → (cond b name x == n) ≡ (x == n)
     step true e =
-        differ name n (λ same. other (sym same))
-        ∙ sym (differ x n (λ same. both_ways (joined n) out (ap joined (sym same) ∙ e)))
+        ne_eqb name n (λ same. other (sym same))
+        ∙ sym (ne_eqb x n (λ same. both_ways (joined n) out (ap joined (sym same) ∙ e)))
     step false e = refl
 
 -- replaced names are gone
@@ -48,8 +45,8 @@ renamed_gone joined name n (x ∷ xs) within other =
     ∙ renamed_gone joined name n xs within other
   where
     step : (b : Bool) → joined x ≡ b → (cond b name x == n) ≡ false
-    step true e = differ name n (λ same. other (sym same))
-    step false e = differ x n (λ same. both_ways (joined x) e (ap joined same ∙ within))
+    step true e = ne_eqb name n (λ same. other (sym same))
+    step false e = ne_eqb x n (λ same. both_ways (joined x) e (ap joined same ∙ within))
 
 -- the new name is there where the replaced one was
 pub renamed_new : (joined : ℕ → Bool) (name base : ℕ) (names : List ℕ) → IsRenaming joined name base names
@@ -62,9 +59,9 @@ renamed_new joined name base (x ∷ xs) is =
     step : (b : Bool) → joined x ≡ b → (cond b name x == name) ≡ (x == base)
     step true e = eq-eqb name name refl ∙ sym (eq-eqb x base (is.alone x (is_in-head x xs) e))
     step false e =
-        differ x name
+        ne_eqb x name
         (λ same. both_ways (is_in (x ∷ xs) name) is.fresh (subst (λ m. is_in (x ∷ xs) m ≡ true) same (is_in-head x xs)))
-        ∙ sym (differ x base (λ same. both_ways (joined x) e (ap joined same ∙ is.base_in)))
+        ∙ sym (ne_eqb x base (λ same. both_ways (joined x) e (ap joined same ∙ is.base_in)))
 
 pub renamed_distinct : (joined : ℕ → Bool) (name base : ℕ) (names : List ℕ) → IsRenaming joined name base names
     → AreDistinct names → AreDistinct (map (renamed_name joined name) names)

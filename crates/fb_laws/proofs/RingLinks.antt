@@ -15,6 +15,7 @@ use Rattle.fb_laws.specs.PartStates.{AreChained, IsRing}
 use Rattle.fb_laws.specs.TreeCycles.{AreLinked, cycle_links, links_along, links_back}
 use Rattle.fb_laws.specs.Trees.{Entry, grown_links, paired_links}
 use Rattle.fb_laws.specs.Works.{AreMatchedLinks}
+use Rattle.fb_laws.specs.Opening.{EndsAtDefects}
 use Rattle.fb_laws.proofs.SearchTrees.{connected, connects_sym, joins_of}
 
 chain_of_linked : (nodes : List Node) → AreDistinct (map (λ n. n.name) nodes) → (from : ℕ) (names : List ℕ) (links : List Link)
@@ -53,11 +54,8 @@ pub links_among : (p : Problem) (nodes : List Node) (links some : List Link)
 links_among p nodes links some within are = record {
   tight = among_All (IsTightLink p (all_cuts nodes)) links (λ l a. All_among (IsTightLink p (all_cuts nodes)) some are.tight l (within l a));
   own = among_All (IsLinkOf p) links (λ l a. All_among (IsLinkOf p) some are.own l (within l a));
-  at_defects = among_All End links (λ l a. All_among End some are.at_defects l (within l a));
+  at_defects = among_All (EndsAtDefects p (leaves nodes)) links (λ l a. All_among (EndsAtDefects p (leaves nodes)) some are.at_defects l (within l a));
 }
-  where
-    End : Link → Type 0
-    End l = (p.is_real l.from ≡ true → is_in (leaves nodes) l.from ≡ true) × (p.is_real l.to ≡ true → is_in (leaves nodes) l.to ≡ true)
 
 abbrev IsLinkIn : Link → List Entry → Type 0
 IsLinkIn l es = (e : Entry) × IsAmong e es × ((e.tree ≡ l) ⊎ (e.matched ≡ l))

@@ -152,35 +152,24 @@ beside_by_number table steps r long even low = step (steps % 2 == 0) refl
         (omega (arith, both, is_even, few, length-drop k names))
         ∙ map_second table (drop k links))
 
+    Reads : Bool → Type 0
+    Reads b =
+        matched_beside
+        (couples_along
+        (drop (if b then steps else length r.others + 1 - steps)
+        (if b then round_by table r else turned_round (round_by table r)).others)
+        (drop (if b then steps else length r.others + 1 - steps)
+        (if b then round_by table r else turned_round (round_by table r)).links))
+        ≡ map table
+        (every_second
+        (drop (if b then steps else length r.others + 1 - steps) (if b then r else turned_round r).links))
+
     step : (b : Bool) → (steps % 2 == 0) ≡ b
         → matched_beside (couples_after steps (round_by table r))
         ≡ map table (every_second (drop (even_steps steps r) (even_round steps r).links))
-    step true e =
-        subst
-        (λ b.
-        matched_beside
-        (couples_along
-        (drop (if b then steps else length r.others + 1 - steps)
-        (if b then round_by table r else turned_round (round_by table r)).others)
-        (drop (if b then steps else length r.others + 1 - steps)
-        (if b then round_by table r else turned_round (round_by table r)).links))
-        ≡ map table
-        (every_second
-        (drop (if b then steps else length r.others + 1 - steps) (if b then r else turned_round r).links)))
-        (sym e) (off steps r.others r.links long even low (eqb-true (steps % 2) 0 e))
+    step true e = subst Reads (sym e) (off steps r.others r.links long even low (eqb-true (steps % 2) 0 e))
     step false e =
-        subst
-        (λ b.
-        matched_beside
-        (couples_along
-        (drop (if b then steps else length r.others + 1 - steps)
-        (if b then round_by table r else turned_round (round_by table r)).others)
-        (drop (if b then steps else length r.others + 1 - steps)
-        (if b then round_by table r else turned_round (round_by table r)).links))
-        ≡ map table
-        (every_second
-        (drop (if b then steps else length r.others + 1 - steps) (if b then r else turned_round r).links)))
-        (sym e)
+        subst Reads (sym e)
         (ap
         (λ l.
         matched_beside

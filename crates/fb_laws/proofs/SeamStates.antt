@@ -1,5 +1,6 @@
 -- A seam made real.
 use Rattle.std.proofs.Common.{ℕ, ◌≡◌, ◌+◌, ◌%◌, ◌≤◌, ◌<◌, ◌==◌, ◌||◌, ◌⊎◌, inl, inr, cond, Bool, true, false, List, [], ◌∷◌, ◌++◌, map, length, All, Some, count_by, get_or, refl, sym, ap, ◌∙◌, subst, arith}
+use Rattle.std.proofs.Math.Bool.{or-false}
 use Rattle.std.proofs.lemmas.Bool.{both_ways, false≢true, false_from_ne_true, or_right, ne_eqb}
 use Rattle.std.proofs.lemmas.List.Elements.{All-nil, All-cons, All-head, All-tail, All-append, All-map, All-from_get_or}
 use Rattle.std.proofs.lemmas.List.Sums.{sum_by-cons, sum_by-append}
@@ -10,7 +11,7 @@ use Rattle.fb_graph.specs.Laws.{Link, ends_of}
 use Rattle.fb_graph.specs.Dual.{Node, IsDual, all_cuts, leaves, height_of, is_outer, node_at, no_node}
 use Rattle.fb_graph.specs.declared.parts.Cut.{Cut}
 use Rattle.fb_graph.proofs.CutSums.{weigh}
-use Rattle.fb_graph.proofs.Members.{is_in-append, or_false}
+use Rattle.fb_graph.proofs.Members.{is_in-append}
 use Rattle.fb_graph.proofs.Sets.{equal_sym, is_in-All}
 use Rattle.fb_graph.specs.Counts.{as_count}
 use Rattle.fb_graph.specs.Ends.{ends_in}
@@ -20,6 +21,7 @@ use Rattle.fb_laws.specs.Fusion.{IsLinkOf}
 use Rattle.fb_graph.specs.Singles.{Single, node_of, nodes_of, vertices_of}
 use Rattle.fb_laws.specs.Works.{IsSetOf}
 use Rattle.fb_laws.specs.Merging.{Freed, freed_links, freed_names, EndElsewhere, SeamOpened}
+use Rattle.fb_laws.specs.Opening.{EndsAtDefects}
 use Rattle.fb_graph.proofs.Crossings.{cover_found, name_in}
 use Rattle.fb_graph.proofs.EndSums.{ends-cons, ends_append}
 use Rattle.fb_laws.proofs.FusedParts.{same_weight}
@@ -33,6 +35,7 @@ use Rattle.fb_laws.proofs.PathSums.{ends_out}
 use Rattle.fb_graph.proofs.SingleStates.{cuts_are, leaves_are, names_are, no_sum}
 use Rattle.fb_graph.proofs.Walks.{walk_same}
 use Rattle.fb_graph.proofs.Nodes.{All-right}
+use Rattle.fb_graph.proofs.Booleans.{or_nothing}
 
 -- new nodes without value add nothing to any sum
 pub weigh_with : (test : List ℕ → Bool) (nodes : List Node) (singles : List Single) → All (λ s. s.value ≡ 0) singles
@@ -91,8 +94,8 @@ no_ends_at seam (l ∷ links) v elsewhere at =
       arith,
       ends-cons (v ∷ []) l links,
       no_ends_at seam links v (All-tail Away l links elsewhere) at,
-      ap as_count (or_false (v == l.from) ∙ ne_eqb v l.from (λ e. both_ways (seam l.from) here.0 (ap seam (sym e) ∙ at))),
-      ap as_count (or_false (v == l.to) ∙ ne_eqb v l.to (λ e. both_ways (seam l.to) here.1 (ap seam (sym e) ∙ at))),
+      ap as_count (or-false (v == l.from) ∙ ne_eqb v l.from (λ e. both_ways (seam l.from) here.0 (ap seam (sym e) ∙ at))),
+      ap as_count (or-false (v == l.to) ∙ ne_eqb v l.to (λ e. both_ways (seam l.to) here.1 (ap seam (sym e) ∙ at))),
     )
 
 either_named : (u f s : Bool) (old new count : ℕ) → old ≡ count + new → as_count f ≡ count → s ≡ false → old + as_count u ≡ 1
@@ -160,17 +163,14 @@ seam_opened p whole nodes freed links singles seam unmatched is dual work = reco
     Matched n = is_outer (nodes ++ nodes_of singles) n.name ≡ true
         → ends_in n.top.vertices links + as_count (is_in (unmatched ++ (freed_names freed ++ map (λ s. s.name) singles)) n.name) ≡ 1
 
-    AtDefects : Link → Type 0
-    AtDefects l = (p.is_real l.from ≡ true → is_in (leaves nodes) l.from ≡ true) × (p.is_real l.to ≡ true → is_in (leaves nodes) l.to ≡ true)
-
     kept_tight : All (IsTightLink p (all_cuts nodes)) links
     kept_tight = All-right (IsTightLink p (all_cuts nodes)) (freed_links freed) links work.links_are.tight
 
     kept_own : All (IsLinkOf p) links
     kept_own = All-right (IsLinkOf p) (freed_links freed) links work.links_are.own
 
-    kept_at : All AtDefects links
-    kept_at = All-right AtDefects (freed_links freed) links work.links_are.at_defects
+    kept_at : All (EndsAtDefects p (leaves nodes)) links
+    kept_at = All-right (EndsAtDefects p (leaves nodes)) (freed_links freed) links work.links_are.at_defects
 
     names : AreDistinct (map (λ n. n.name) nodes ++ map (λ s. s.name) singles)
     names =
@@ -189,12 +189,8 @@ seam_opened p whole nodes freed links singles seam unmatched is dual work = reco
     real_leaves : (v : ℕ) → p.is_real v ≡ true → is_in (leaves (nodes ++ nodes_of singles)) v ≡ is_in (leaves nodes) v
     real_leaves v real =
         all_leaves v
-        ∙ or_first (is_in (leaves nodes) v) (is_in (vertices_of singles) v)
+        ∙ or_nothing (is_in (leaves nodes) v) (is_in (vertices_of singles) v)
         (false_from_ne_true (is_in (vertices_of singles) v) (λ h. both_ways (p.is_real v) (is.unreal v (seam_vertex v h)) real))
-      where
-        or_first : (a b : Bool) → b ≡ false → (a || b) ≡ a
-        or_first true b e = refl
-        or_first false b e = e
 
     defect : (v : ℕ) → (p.is_real v ≡ true) ⊎ (seam v ≡ true) → whole.is_defect v ≡ is_in (leaves (nodes ++ nodes_of singles)) v
     defect v (inl real) = sym (is.part.defects v real) ∙ (work.defects v real ∙ sym (real_leaves v real))

@@ -15,6 +15,7 @@ use Rattle.fb_laws.specs.Fusion.{IsLinkOf}
 use Rattle.fb_laws.specs.Works.{AreMatchedLinks, IsMatching, names_without}
 use Rattle.fb_laws.specs.Trees.{Entry, Connects, grown_links, paired_links, plus_names, path_to, branches_beside, branches_of}
 use Rattle.fb_laws.specs.Searches.{LeavesNode, IsSearch, SearchEnded, SearchMet, SearchReleased}
+use Rattle.fb_laws.specs.Opening.{EndsAtDefects}
 use Rattle.fb_laws.proofs.HalvesKept.{matching_permuted}
 use Rattle.fb_laws.proofs.MatchedNodes.{matching_augmented, matching_met, matching_released}
 use Rattle.fb_laws.proofs.SearchStates.{links_joined, root_set, search_path}
@@ -27,11 +28,8 @@ pub links_part : (p : Problem) (nodes : List Node) (links first other : List Lin
 links_part p nodes links first other moved are = record {
   tight = All-left (IsTightLink p (all_cuts nodes)) first other (All-permutation (IsTightLink p (all_cuts nodes)) links (first ++ other) moved are.tight);
   own = All-left (IsLinkOf p) first other (All-permutation (IsLinkOf p) links (first ++ other) moved are.own);
-  at_defects = All-left AtDefects first other (All-permutation AtDefects links (first ++ other) moved are.at_defects);
+  at_defects = All-left (EndsAtDefects p (leaves nodes)) first other (All-permutation (EndsAtDefects p (leaves nodes)) links (first ++ other) moved are.at_defects);
 }
-  where
-    AtDefects : Link → Type 0
-    AtDefects l = (p.is_real l.from ≡ true → is_in (leaves nodes) l.from ≡ true) × (p.is_real l.to ≡ true → is_in (leaves nodes) l.to ≡ true)
 
 out_of : (nodes : List Node) (l : Link) (a b : ℕ) → Connects nodes l a b → (v : ℕ) × LeavesNode nodes l a v × (cover_of nodes v ≡ Some b)
 out_of nodes l a b (inl (from, to)) = (l.to, inl (from, refl), to)

@@ -17,7 +17,7 @@ use Rattle.fb_graph.specs.Ends.{ends_in}
 use Rattle.fb_graph.specs.Links.{pair, AreEven, IsTightLink}
 use Rattle.fb_laws.specs.Fusion.{IsLinkOf}
 use Rattle.fb_laws.specs.Parities.{HaveOneParity}
-use Rattle.fb_laws.specs.Opening.{EndAtDefects}
+use Rattle.fb_laws.specs.Opening.{EndAtDefects, EndsAtDefects}
 use Rattle.fb_laws.specs.Works.{AreMatchedLinks, IsSetOf, IsBranchOf, names_without}
 use Rattle.fb_laws.specs.Trees.{Entry, Connects, IsTree, grown_links, paired_links, plus_names, minus_names, tree_names, roles_of, path_to, branches_beside, branch_of, branches_of}
 use Rattle.fb_laws.specs.Searches.{IsSearch, SearchBegins, SearchPermuted, SearchRoles, RestOutside, SearchLevel, SearchPath, SearchStepped, SearchAttached}
@@ -41,7 +41,7 @@ search_begins p nodes links unmatched root work is open_ = record {
   grown = record {
     tight = All-nil (IsTightLink p (all_cuts nodes));
     own = All-nil (IsLinkOf p);
-    at_defects = All-nil AtDefects;
+    at_defects = All-nil (EndsAtDefects p (leaves nodes));
   };
   parity = λ d name leaf cover among. step d name leaf cover (is_in-cases root [] name among);
   even = λ d name leaf cover among.
@@ -49,9 +49,6 @@ search_begins p nodes links unmatched root work is open_ = record {
       (and_parts (is_in unmatched name) (not (name == root)) (sym (is_in-filter (λ n. not (n == root)) unmatched name) ∙ among)).0;
 }
   where
-    AtDefects : Link → Type 0
-    AtDefects l = (p.is_real l.from ≡ true → is_in (leaves nodes) l.from ≡ true) × (p.is_real l.to ≡ true → is_in (leaves nodes) l.to ≡ true)
-
     step : (d name : ℕ) → is_in (leaves nodes) d ≡ true → cover_of nodes d ≡ Some name → (root ≡ name) ⊎ (is_in [] name ≡ true)
         → height_of (all_cuts nodes) d % 2 ≡ 0
     step d name leaf cover (inl same) = work.even d name leaf cover (ap (is_in unmatched) (sym same) ∙ open_)
@@ -79,7 +76,7 @@ links_joined p nodes links more one other = record {
   own = All-append (IsLinkOf p) links more one.own other.own;
   at_defects =
       All-append
-      (λ l. (p.is_real l.from ≡ true → is_in (leaves nodes) l.from ≡ true) × (p.is_real l.to ≡ true → is_in (leaves nodes) l.to ≡ true))
+      (EndsAtDefects p (leaves nodes))
       links more one.at_defects other.at_defects;
 }
 

@@ -1,5 +1,6 @@
 -- Shifted defects and signed weights.
 use Rattle.std.proofs.Common.{ℕ, ◌≡◌, ◌+◌, ◌*◌, ◌≤◌, ◌<◌, ◌==◌, ◌&&◌, Bool, true, false, cond, List, length, All, Option, Some, None, filter, sum_by, get_or, refl, sym, ap, ◌∙◌, subst, arith}
+use Rattle.std.proofs.Math.Bool.{and-true, and_comm}
 use Rattle.std.specs.List.{range_with_len}
 use Rattle.std.proofs.lemmas.Bool.{eqb-true}
 use Rattle.std.proofs.lemmas.List.Elements.{All-filter}
@@ -8,16 +9,17 @@ use Rattle.fb_graph.specs.Parity.{differ, is_odd_count, is_in}
 use Rattle.fb_graph.specs.Problem.{Problem, Flips, edge_at, touches, crosses, weight_of, no_edge}
 use Rattle.fb_graph.specs.Certificate.{AreDistinct, total_value}
 use Rattle.fb_graph.specs.Components.{IsJoined, IsOddAt, IsFirstOdd}
-use Rattle.fb_graph.proofs.ParitySums.{differ_assoc, differ_self, differ-false, odd_same, odd_agree, odd_none, odd_exchange, odd-differ, odd-filter, and_comm, and-true}
+use Rattle.fb_graph.specs.Counts.{as_count}
+use Rattle.fb_graph.proofs.ParitySums.{differ_assoc, differ_self, differ-false, odd_same, odd_agree, odd_none, odd_exchange, odd-differ, odd-filter}
 use Rattle.fb_graph.proofs.Sums.{sum_same, sum_add, sum_exchange, sum-filter, sum_of_count}
-use Rattle.fb_graph.proofs.Sets.{equal_sym, one_if, count_equal, crosses_as_touches, odd_meet, distinct_from_rising, range_rises, range_below, is_in-range}
+use Rattle.fb_graph.proofs.Sets.{equal_sym, count_equal, crosses_as_touches, odd_meet, distinct_from_rising, range_rises, range_below, is_in-range}
 use Rattle.fb_graph.proofs.Duality.{weak_duality}
 use Rattle.fb_graph.proofs.OddComponents.{component_uncrossed}
 use Rattle.fb_graph.proofs.Walks.{walk_same}
 use Rattle.fb_laws.specs.Signed.{negatives, shifted_problem, added_weight, taken_weight, base_of, unshifted_edges, SignedDuality, SignedSolved, SignedLeast, SameFirstOdd, SameNoOddClosed}
 use Rattle.fb_graph.proofs.OddOnes.{range_distinct}
 
-one_times : (b : Bool) (n : ℕ) → one_if b * n ≡ cond b n 0
+one_times : (b : Bool) (n : ℕ) → as_count b * n ≡ cond b n 0
 one_times true n = omega arith
 one_times false n = omega arith
 
@@ -27,7 +29,7 @@ sum_at_one n j f less =
     sum_same (λ k. cond (j == k) (f k) 0) (λ k. cond (k == j) (f j) 0) (range_with_len 0 n)
     (λ i d below. same (get_or (range_with_len 0 n) i d))
     ∙ (sum_of_count (λ k. k == j) (f j) (range_with_len 0 n)
-    ∙ (ap (λ m. m * f j) (count_equal (range_with_len 0 n) j (range_distinct n) ∙ ap one_if (is_in-range n j less))
+    ∙ (ap (λ m. m * f j) (count_equal (range_with_len 0 n) j (range_distinct n) ∙ ap as_count (is_in-range n j less))
     ∙ one_times true (f j)))
   where
     same : (k : ℕ) → cond (j == k) (f k) 0 ≡ cond (k == j) (f j) 0

@@ -22,6 +22,7 @@ use Rattle.fb_laws.specs.SingleDefects.{DefectHeight, EndsMeetUnder, HasEnd, IsD
 use Rattle.fb_laws.specs.Trees.{Connects}
 use Rattle.fb_laws.specs.Works.{AreMatchedLinks}
 use Rattle.fb_laws.specs.Fusion.{IsLinkOf}
+use Rattle.fb_laws.specs.Opening.{EndsAtDefects}
 use Rattle.fb_laws.proofs.MatchLinks.{links_after}
 use Rattle.fb_laws.proofs.MetLinks.{covered_real, link_turned, links_joined}
 use Rattle.fb_laws.proofs.SearchStates.{links_joined as matched_append}
@@ -122,7 +123,7 @@ links_of_two p nodes l m are = (
     tight = All-left (IsTightLink p (all_cuts nodes)) (l ∷ []) (m ∷ []) are.tight;
     own = All-left (IsLinkOf p) (l ∷ []) (m ∷ []) are.own;
     at_defects = All-left
-        (λ x. (p.is_real x.from ≡ true → is_in (leaves nodes) x.from ≡ true) × (p.is_real x.to ≡ true → is_in (leaves nodes) x.to ≡ true))
+        (EndsAtDefects p (leaves nodes))
         (l ∷ []) (m ∷ []) are.at_defects;
   },
   links_after p nodes (l ∷ []) (m ∷ []) are,
@@ -133,10 +134,10 @@ links_two : (p : Problem) (nodes : List Node) (l m : Link) → AreMatchedLinks p
 links_two p nodes l m one other = matched_append p nodes (l ∷ []) (m ∷ []) one other
 
 at_ends : (p : Problem) (nodes : List Node) (l : Link) → AreMatchedLinks p nodes (l ∷ [])
-    → (p.is_real l.from ≡ true → is_in (leaves nodes) l.from ≡ true) × (p.is_real l.to ≡ true → is_in (leaves nodes) l.to ≡ true)
+    → EndsAtDefects p (leaves nodes) l
 at_ends p nodes l are =
     All-head
-    (λ x. (p.is_real x.from ≡ true → is_in (leaves nodes) x.from ≡ true) × (p.is_real x.to ≡ true → is_in (leaves nodes) x.to ≡ true))
+    (EndsAtDefects p (leaves nodes))
     l [] are.at_defects
 
 -- an end under a node is a defect

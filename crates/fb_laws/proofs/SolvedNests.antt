@@ -1,12 +1,12 @@
 -- A nest whose blossoms are open is solved.
 use Rattle.std.proofs.Common.{ℕ, ◌≡◌, ◌+◌, ◌≤◌, ◌==◌, ◌⊎◌, inl, inr, Bool, true, false, List, [], ◌∷◌, length, filter, cond, get_or, refl, sym, ap, ◌∙◌, subst, arith, if◌then◌else◌}
+use Rattle.std.proofs.Math.Bool.{or-false}
 use Rattle.std.proofs.lemmas.Bool.{both_ways, cases_Bool, eqb-true, false≢true, false_from_ne_true}
 use Rattle.std.proofs.lemmas.List.Elements.{All-map}
 use Rattle.fb_graph.specs.Parity.{is_in}
 use Rattle.fb_graph.specs.Certificate.{AreDistinct}
 use Rattle.fb_graph.specs.Laws.{Link, IsSolved, odd_edges}
 use Rattle.fb_graph.specs.Dual.{Node, AreApart, AreGrown, all_cuts, defects_of, is_empty, layers_of, leaves}
-use Rattle.fb_graph.proofs.Members.{or_false}
 use Rattle.fb_graph.proofs.PrintedCuts.{Fits-same_loads, printed-All, printed-load, printed-total}
 use Rattle.fb_graph.proofs.Sets.{All-from_is_in, is_in-All}
 use Rattle.fb_graph.proofs.Sums.{sum_same}
@@ -59,7 +59,7 @@ defects_in_first p nodes nest =
 
 one_of : (xs : List ℕ) (d : ℕ) → length xs ≡ 1 → is_in xs d ≡ true → xs ≡ d ∷ []
 one_of [] d one within = absurd (false≢true within)
-one_of (x ∷ []) d one within = ap (λ y. y ∷ []) (eqb-true x d (sym (or_false (x == d)) ∙ within))
+one_of (x ∷ []) d one within = ap (λ y. y ∷ []) (eqb-true x d (sym (or-false (x == d)) ∙ within))
 one_of (x ∷ y ∷ ys) d one within = absurd (omega (arith, one))
 
 first_is : (m : Node) (d : ℕ) → IsFormed m → is_in (defects_of m) d ≡ true → first_set m ≡ d ∷ []
@@ -92,8 +92,8 @@ singles_apart (x ∷ xs) distinct = (
       false_from_ne_true (is_in (y ∷ []) v)
       (λ held.
       both_ways (is_in xs x) distinct.0
-      (ap (is_in xs) (eqb-true x v (sym (or_false (x == v)) ∙ within) ∙ sym
-      (eqb-true y v (sym (or_false (y == v)) ∙ held))) ∙ h)))),
+      (ap (is_in xs) (eqb-true x v (sym (or-false (x == v)) ∙ within) ∙ sym
+      (eqb-true y v (sym (or-false (y == v)) ∙ held))) ∙ h)))),
   singles_apart xs distinct.1,
 )
 

@@ -1,8 +1,7 @@
 -- From a solved part to the row of a report.
-use Rattle.std.proofs.Common.{ℕ, ◌≡◌, ◌<◌, ◌≤◌, ◌==◌, ◌&&◌, ◌⊎◌, inl, inr, true, false, List, [], ◌∷◌, length, All, flat_map, get_or, sum_by, refl, sym, ap, ◌∙◌, subst, arith}
+use Rattle.std.proofs.Common.{ℕ, ◌≡◌, ◌<◌, ◌≤◌, ◌==◌, ◌&&◌, ◌⊎◌, inl, inr, true, false, length, All, flat_map, get_or, sum_by, sym, ap, ◌∙◌, subst}
 use Rattle.std.specs.List.{range_with_len}
-use Rattle.std.specs.List.Sorted.{IsStrictlyIncreasing}
-use Rattle.std.proofs.lemmas.Bool.{both_ways, cases_Bool, eqb-true, false≢true}
+use Rattle.std.proofs.lemmas.Bool.{cases_Bool, eqb-true}
 use Rattle.fb_graph.specs.Parity.{is_in, is_odd_count}
 use Rattle.fb_graph.specs.Problem.{edge_at, touches, weight_of}
 use Rattle.fb_graph.specs.Certificate.{load_of}
@@ -12,51 +11,11 @@ use Rattle.fb_graph.proofs.ClosedSets.{odd_cut_of_part}
 use Rattle.fb_graph.proofs.Nodes.{All-flat_map}
 use Rattle.fb_graph.proofs.OddOnes.{odd_ones_rise}
 use Rattle.fb_graph.proofs.PrintedCuts.{Fits-same_loads, printed-All, printed-load, printed-total}
-use Rattle.fb_graph.proofs.Sets.{All-from_is_in, member_of_odd, distinct_from_rising, is_in-All, is_in-cases, is_in-filter, is_in-head, is_in-range, is_in-tail, odd_equal, rising-tail, rising_above}
+use Rattle.fb_graph.proofs.Sets.{All-from_is_in, member_of_odd, distinct_from_rising, is_in-All, is_in-filter, is_in-range, odd_equal, rising_same}
 use Rattle.fb_laws.specs.Rows.{OddOnesOnly, OddEdgesOnly, BestOfWhole, SolvedIsBest}
 use Rattle.fb_laws.proofs.HalvesKept.{positive_total}
 use Rattle.fb_laws.proofs.MergedParts.{odd_in}
 use Rattle.fb_graph.proofs.Walks.{walk_within}
-
--- rising lists of the same numbers are equal
-rising_same : (xs ys : List ℕ) → IsStrictlyIncreasing xs → IsStrictlyIncreasing ys
-    → ((v : ℕ) → is_in xs v ≡ is_in ys v) → xs ≡ ys
-rising_same [] [] up higher same = refl
-rising_same [] (y ∷ ys) up higher same = absurd (false≢true (same y ∙ is_in-head y ys))
-rising_same (x ∷ xs) [] up higher same = absurd (false≢true (sym (same x) ∙ is_in-head x xs))
-rising_same (x ∷ xs) (y ∷ ys) up higher same =
-    first
-    (λ tails. rising_same xs ys (rising-tail x xs up) (rising-tail y ys higher) tails)
-    (is_in-cases y ys x (sym (same x) ∙ is_in-head x xs)) (is_in-cases x xs y (same y ∙ is_in-head y ys))
-  where
-    tail_same : x ≡ y → (v : ℕ) → is_in xs v ≡ is_in ys v
-    tail_same e v = step (cases_Bool (is_in xs v)) (cases_Bool (is_in ys v))
-      where
-        step : (is_in xs v ≡ true) ⊎ (is_in xs v ≡ false) → (is_in ys v ≡ true) ⊎ (is_in ys v ≡ false)
-            → is_in xs v ≡ is_in ys v
-        step (inl h) (inl k) = h ∙ sym k
-        step (inr h) (inr k) = h ∙ sym k
-        step (inl h) (inr k) = by (is_in-cases y ys v (sym (same v) ∙ is_in-tail x xs v h))
-          where
-            by : (y ≡ v) ⊎ (is_in ys v ≡ true) → is_in xs v ≡ is_in ys v
-            by (inl f) = let low : x < v = rising_above x xs up v h in absurd (omega (arith, low, e, f))
-            by (inr there) = absurd (both_ways (is_in ys v) k there)
-        step (inr h) (inl k) = by (is_in-cases x xs v (same v ∙ is_in-tail y ys v k))
-          where
-            by : (x ≡ v) ⊎ (is_in xs v ≡ true) → is_in xs v ≡ is_in ys v
-            by (inl f) = let low : y < v = rising_above y ys higher v k in absurd (omega (arith, low, e, f))
-            by (inr there) = absurd (both_ways (is_in xs v) h there)
-
-    heads : (((v : ℕ) → is_in xs v ≡ is_in ys v) → xs ≡ ys) → x ≡ y → x ∷ xs ≡ y ∷ ys
-    heads rest e = ap (λ l. x ∷ l) (rest (tail_same e)) ∙ ap (λ z. z ∷ ys) e
-
-    first : (((v : ℕ) → is_in xs v ≡ is_in ys v) → xs ≡ ys) → (y ≡ x) ⊎ (is_in ys x ≡ true) → (x ≡ y) ⊎ (is_in xs y ≡ true) → x ∷ xs ≡ y ∷ ys
-    first rest (inl e) h = heads rest (sym e)
-    first rest (inr there) (inl e) = heads rest e
-    first rest (inr there) (inr back) =
-        let low : y < x = rising_above y ys higher x there in
-        let high : x < y = rising_above x xs up y back in
-        absurd (omega (arith, low, high))
 
 pub odd_ones_only : OddOnesOnly
 odd_ones_only n numbers ones rising below parity =

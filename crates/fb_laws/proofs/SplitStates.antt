@@ -8,30 +8,17 @@ use Rattle.fb_graph.specs.Problem.{Problem, crosses}
 use Rattle.fb_graph.specs.Certificate.{AreDistinct}
 use Rattle.fb_graph.specs.Dual.{Node, all_cuts, first_vertices, is_empty, is_live, leaves, cover_of, top_at}
 use Rattle.fb_graph.proofs.Sets.{is_in-All}
-use Rattle.fb_graph.specs.Nests.{IsNest, IsFilled, AreJoinedLater}
+use Rattle.fb_graph.specs.Nests.{IsNest, IsFilled}
 use Rattle.fb_graph.specs.Moves.{split_nodes, MaySplit}
 use Rattle.fb_laws.specs.Trees.{Connects}
 use Rattle.fb_laws.specs.SearchOpenings.{IsSplit}
 use Rattle.fb_laws.specs.OpenedCycles.{SplitOff, EndUnderChild}
+use Rattle.fb_laws.specs.Opening.{EndsAtDefects}
 use Rattle.fb_graph.proofs.Among.{IsAmong, IsOver, All_among, among_right, live_among, outer_among, among_outer, top_among, covered_by, cover_among, from_concat, same_among, other_name}
 use Rattle.fb_graph.proofs.InsertedCuts.{same_weigh}
 use Rattle.fb_graph.proofs.Places.{among_split, split_among}
 use Rattle.fb_graph.proofs.SplitNests.{nest_split, insertion, same_leaves, height, bare, at}
-
--- no two nodes join the same
-pub one_parent : (ns : List Node) → AreJoinedLater ns → (m n : Node) → IsAmong m ns → IsAmong n ns → (c : ℕ) → is_in m.children c ≡ true
-    → is_in n.children c ≡ true → m ≡ n
-one_parent [] joined m n a b c h k = absurd a
-one_parent (x ∷ xs) joined m n (inl e) (inl f) c h k = sym e ∙ f
-one_parent (x ∷ xs) joined m n (inl e) (inr b) c h k =
-    absurd
-    (both_ways (is_in n.children c)
-    (All_among (λ y. (v : ℕ) → is_in x.children v ≡ true → is_in y.children v ≡ false) xs joined.1 n b c (ap (λ y. is_in y.children c) e ∙ h)) k)
-one_parent (x ∷ xs) joined m n (inr a) (inl f) c h k =
-    absurd
-    (both_ways (is_in m.children c)
-    (All_among (λ y. (v : ℕ) → is_in x.children v ≡ true → is_in y.children v ≡ false) xs joined.1 m a c (ap (λ y. is_in y.children c) f ∙ k)) h)
-one_parent (x ∷ xs) joined m n (inr a) (inr b) c h k = one_parent xs joined.2 m n a b c h k
+use Rattle.fb_graph.proofs.Forests.{one_parent}
 
 split_none : (name : ℕ) (ns : List Node) → is_in (map (λ n. n.name) ns) name ≡ false → split_nodes name ns ≡ ns
 split_none name [] fresh = refl
@@ -147,10 +134,10 @@ split_off p before after b children may nest same =
 pub end_under_child : EndUnderChild
 end_under_child p nodes others blossom other children l dual split are differs connects = by connects
   where
-    at : (p.is_real l.from ≡ true → is_in (leaves nodes) l.from ≡ true) × (p.is_real l.to ≡ true → is_in (leaves nodes) l.to ≡ true)
+    at : EndsAtDefects p (leaves nodes) l
     at =
         All-head
-        (λ m. (p.is_real m.from ≡ true → is_in (leaves nodes) m.from ≡ true) × (p.is_real m.to ≡ true → is_in (leaves nodes) m.to ≡ true)) l []
+        (EndsAtDefects p (leaves nodes)) l []
         are.at_defects
 
     -- an end that is covered is at a defect

@@ -12,13 +12,12 @@ use Rattle.fb_graph.specs.Limits.{IsWithinLimits}
 use Rattle.fb_graph.specs.Laws.{Link, IsPart, ends_of}
 use Rattle.fb_graph.specs.Dual.{Node, AreUnderOne, all_cuts, is_empty, is_live, leaves}
 use Rattle.fb_graph.specs.NestUnions.{AreParts, HaveOwnNames}
-use Rattle.fb_graph.specs.Nests.{IsNest, child_sets}
+use Rattle.fb_graph.specs.Nests.{child_sets}
 use Rattle.fb_graph.specs.Singles.{Single, node_of, nodes_of}
-use Rattle.fb_graph.proofs.Among.{IsAmong, All_among, among_All, among_left, among_live, among_right, live_among, top_left, top_right}
-use Rattle.fb_graph.proofs.AppendedNodes.{cuts_merged, leaves_merged}
+use Rattle.fb_graph.proofs.Among.{IsAmong, All_among, among_All, among_live, top_left, top_right}
+use Rattle.fb_graph.proofs.AppendedNodes.{cuts_merged, leaves_merged, live_left, live_right}
 use Rattle.fb_graph.proofs.Members.{is_in-append}
 use Rattle.fb_graph.proofs.NestParts.{names_live}
-use Rattle.fb_graph.proofs.Sets.{is_in-All}
 use Rattle.fb_graph.proofs.SingleStates.{names_are}
 use Rattle.fb_graph.proofs.Unions.{distinct_append}
 use Rattle.fb_graph.proofs.Walks.{walk_same}
@@ -39,6 +38,7 @@ use Rattle.fb_laws.proofs.NestedFusions.{nested_merged, nested_seam}
 use Rattle.fb_laws.proofs.SeamStates.{weigh_with}
 use Rattle.fb_laws.proofs.SearchStates.{links_joined}
 use Rattle.fb_graph.proofs.Floods.{is_in-both}
+use Rattle.fb_graph.proofs.Forests.{child_live}
 
 -- links of a part are links of a larger one where no cut more loads them and each of their ends is real only in the part
 links_widened : (p q : Problem) (nodes others : List Node) (links : List Link) → IsPart p q
@@ -69,14 +69,6 @@ in_second nodes others v leaf =
     ap (λ l. is_in l v) (leaves_merged nodes others)
     ∙ (is_in-append (leaves nodes) (leaves others) v ∙ or_right (is_in (leaves nodes) v) (is_in (leaves others) v) leaf)
 
-live_first : (nodes others : List Node) (n : ℕ) → is_live nodes n ≡ true → is_live (nodes ++ others) n ≡ true
-live_first nodes others n live =
-    let (m, a, named) = live_among nodes n live in among_live (nodes ++ others) m n (among_left nodes others m a) named
-
-live_second : (nodes others : List Node) (n : ℕ) → is_live others n ≡ true → is_live (nodes ++ others) n ≡ true
-live_second nodes others n live =
-    let (m, a, named) = live_among others n live in among_live (nodes ++ others) m n (among_right nodes others m a) named
-
 -- the links of nodes to which two tables give the same
 pub links_same : (cycles more : ℕ → List Link) (nodes : List Node) → ((n : Node) → IsAmong n nodes → more n.name ≡ cycles n.name)
     → all_cycle_links nodes more ≡ all_cycle_links nodes cycles
@@ -92,12 +84,6 @@ rings_same nodes some cycles more same rings =
     (λ n a.
     subst (IsRing (child_sets nodes n)) (sym (same n a))
     (All_among (λ m. IsRing (child_sets nodes m) (cycles m.name)) some rings n a))
-
-pub child_live : (p : Problem) (nodes : List Node) → IsNest p nodes → (n : Node) → IsAmong n nodes → (c : ℕ) → is_in n.children c ≡ true
-    → is_live nodes c ≡ true
-child_live p nodes nest n a c child =
-    is_in-All (λ x. is_live nodes x ≡ true) n.children
-    (All_among (λ m. All (λ x. is_live nodes x ≡ true) m.children) nodes nest.forest.live n a) c child
 
 module _ (left right whole : Problem) (s t : PartState) (parts : AreParts left right whole)
     (covered : (v : ℕ) → whole.is_real v ≡ true → (left.is_real v ≡ true) ⊎ (right.is_real v ≡ true)) (names : HaveOwnNames s.nodes t.nodes)
@@ -164,10 +150,10 @@ module _ (left right whole : Problem) (s t : PartState) (parts : AreParts left r
     rings =
         All-append (λ n. IsRing (child_sets (s.nodes ++ t.nodes) n) (merged_cycles s t n.name)) s.nodes t.nodes
         (rings_over s.nodes (s.nodes ++ t.nodes) s.nodes (merged_cycles s t)
-        (λ n a c child. top_left s.nodes t.nodes c (child_live left s.nodes here.work.nest n a c child))
+        (λ n a c child. top_left s.nodes t.nodes c (child_live s.nodes here.work.nest.forest n a c child))
         (rings_same s.nodes s.nodes s.cycles (merged_cycles s t) same_left here.cycles.rings))
         (rings_over t.nodes (s.nodes ++ t.nodes) t.nodes (merged_cycles s t)
-        (λ n a c child. top_right s.nodes t.nodes c (not_left c (child_live right t.nodes there.work.nest n a c child)))
+        (λ n a c child. top_right s.nodes t.nodes c (not_left c (child_live t.nodes there.work.nest.forest n a c child)))
         (rings_same t.nodes t.nodes t.cycles (merged_cycles s t) same_right there.cycles.rings));
     links =
         subst (AreMatchedLinks whole (s.nodes ++ t.nodes)) (sym same)
@@ -193,8 +179,8 @@ module _ (left right whole : Problem) (s t : PartState) (parts : AreParts left r
   }
     where
       live : (n : ℕ) → (is_in s.unmatched n ≡ true) ⊎ (is_in t.unmatched n ≡ true) → is_live (s.nodes ++ t.nodes) n ≡ true
-      live n (inl h) = live_first s.nodes t.nodes n (here.names.live n h)
-      live n (inr h) = live_second s.nodes t.nodes n (there.names.live n h)
+      live n (inl h) = live_left s.nodes t.nodes n (here.names.live n h)
+      live n (inr h) = live_right s.nodes t.nodes n (there.names.live n h)
 
 pub state_merged : StateMerged
 state_merged left right whole s t limits parts covered names here there = record {
@@ -238,7 +224,7 @@ module _ (p whole : Problem) (s : PartState) (rest : List Link) (freed : List Fr
     rings =
         All-append (λ n. IsRing (child_sets (s.nodes ++ nodes_of singles) n) (s.cycles n.name)) s.nodes (nodes_of singles)
         (rings_over s.nodes (s.nodes ++ nodes_of singles) s.nodes s.cycles
-        (λ n a c child. top_left s.nodes (nodes_of singles) c (child_live p s.nodes state.work.nest n a c child))
+        (λ n a c child. top_left s.nodes (nodes_of singles) c (child_live s.nodes state.work.nest.forest n a c child))
         state.cycles.rings)
         (All-map (λ n. IsRing (child_sets (s.nodes ++ nodes_of singles) n) (s.cycles n.name)) node_of singles (λ i d less. tt));
     links =
@@ -279,12 +265,12 @@ module _ (p whole : Problem) (s : PartState) (rest : List Link) (freed : List Fr
     where
       later : (n : ℕ) → (is_in (freed_names freed) n ≡ true) ⊎ (is_in (map (λ d. d.name) singles) n ≡ true)
           → is_live (s.nodes ++ nodes_of singles) n ≡ true
-      later n (inl h) = live_first s.nodes (nodes_of singles) n (live_freed n h)
-      later n (inr h) = live_second s.nodes (nodes_of singles) n (single_live n h)
+      later n (inl h) = live_left s.nodes (nodes_of singles) n (live_freed n h)
+      later n (inr h) = live_right s.nodes (nodes_of singles) n (single_live n h)
 
       live : (n : ℕ) → (is_in s.unmatched n ≡ true) ⊎ (is_in (freed_names freed ++ map (λ d. d.name) singles) n ≡ true)
           → is_live (s.nodes ++ nodes_of singles) n ≡ true
-      live n (inl h) = live_first s.nodes (nodes_of singles) n (state.names.live n h)
+      live n (inl h) = live_left s.nodes (nodes_of singles) n (state.names.live n h)
       live n (inr h) = later n (is_in-both (freed_names freed) (map (λ d. d.name) singles) n h)
 
       apart : (n : ℕ) → is_in s.unmatched n ≡ true

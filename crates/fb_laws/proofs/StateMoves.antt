@@ -1,5 +1,6 @@
 -- The moves of a half-solved part keep the whole state.
 use Rattle.std.proofs.Common.{ℕ, ◌≡◌, ◌≤◌, ◌<◌, ◌==◌, ◌&&◌, ◌||◌, not, cond, Bool, true, false, List, [], ◌∷◌, map, filter, length, refl, sym, ap, ◌∙◌, subst, arith}
+use Rattle.std.proofs.Math.Bool.{and-false}
 use Rattle.std.proofs.lemmas.Bool.{and_parts, eq-eqb, both_ways, false≢true}
 use Rattle.std.proofs.lemmas.List.Elements.{All-map}
 use Rattle.fb_graph.specs.Parity.{is_in}
@@ -166,11 +167,7 @@ fewer_without name (x ∷ xs) within = step (x == name) refl (fewer_without name
 gone : (name : ℕ) (xs : List ℕ) → is_in (names_without name xs) name ≡ false
 gone name xs =
     is_in-filter (λ n. not (n == name)) xs name
-    ∙ (ap (λ b. is_in xs name && not b) (eq-eqb name name refl) ∙ none (is_in xs name))
-  where
-    none : (b : Bool) → (b && false) ≡ false
-    none true = refl
-    none false = refl
+    ∙ (ap (λ b. is_in xs name && not b) (eq-eqb name name refl) ∙ and-false (is_in xs name))
 
 pub kept_without : (name : ℕ) (xs : List ℕ) (n : ℕ) → is_in (names_without name xs) n ≡ true → is_in xs n ≡ true
 kept_without name xs n within =

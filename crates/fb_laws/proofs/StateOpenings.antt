@@ -28,6 +28,7 @@ use Rattle.fb_laws.specs.StateOpenings.{AreLinkedRound, CycleFreed, IsFreed, Sta
 use Rattle.fb_laws.specs.TreeCycles.{AreLinked}
 use Rattle.fb_laws.specs.Trees.{Entry, Connects, grown_links, minus_names, paired_links}
 use Rattle.fb_laws.specs.Works.{AreMatchedLinks}
+use Rattle.fb_laws.specs.Opening.{EndsAtDefects}
 use Rattle.fb_laws.proofs.CycleMoves.{child_inner, links_kept, rings_over}
 use Rattle.fb_laws.proofs.CycleWays.{way_round}
 use Rattle.fb_laws.proofs.NestedStates.{nested_opened}
@@ -86,7 +87,7 @@ module _ (p : Problem) (nodes : List Node) (cycles : ℕ → List Link) (name : 
           own = fewer (IsLinkOf p) old.links.own;
           at_defects =
               fewer
-              (λ l. (p.is_real l.from ≡ true → is_in (leaves nodes) l.from ≡ true) × (p.is_real l.to ≡ true → is_in (leaves nodes) l.to ≡ true))
+              (EndsAtDefects p (leaves nodes))
               old.links.at_defects;
         });
   }
@@ -156,7 +157,7 @@ tight_at p nodes cycles b a some are =
       own = piece (IsLinkOf p) are.links.own;
       at_defects =
           piece
-          (λ l. (p.is_real l.from ≡ true → is_in (leaves nodes) l.from ≡ true) × (p.is_real l.to ≡ true → is_in (leaves nodes) l.to ≡ true))
+          (EndsAtDefects p (leaves nodes))
           are.links.at_defects;
     })
   where

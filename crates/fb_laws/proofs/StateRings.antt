@@ -21,6 +21,7 @@ use Rattle.fb_laws.specs.SearchOpenings.{IsSplit}
 use Rattle.fb_laws.specs.StateOpenings.{AreLinkedRound, IsFreed}
 use Rattle.fb_laws.specs.StateRings.{ChildAtEnd, CycleAlong, MayOpenAlong, StateOpenedAlong, round_of}
 use Rattle.fb_laws.specs.Trees.{Connects, Entry}
+use Rattle.fb_laws.specs.Opening.{EndsAtDefects}
 use Rattle.fb_laws.proofs.CycleMoves.{child_inner}
 use Rattle.fb_laws.proofs.OpenedBlossoms.{distinct_permuted, in_permuted, same_permuted}
 use Rattle.fb_laws.proofs.OpenedParts.{matched_some, round_among}
@@ -55,12 +56,10 @@ child_at_end p nodes name other child d l nest may are differs connects children
             (ap (λ s. is_in s d) (sym (top_among nodes nest.dual.names m among) ∙ ap (top_at nodes) is) ∙ held))
             ∙ ap Some is
 
-        at : (p.is_real l.from ≡ true → is_in (leaves nodes) l.from ≡ true)
-            × (p.is_real l.to ≡ true → is_in (leaves nodes) l.to ≡ true)
+        at : EndsAtDefects p (leaves nodes) l
         at =
             All-head
-            (λ m. (p.is_real m.from ≡ true → is_in (leaves nodes) m.from ≡ true)
-            × (p.is_real m.to ≡ true → is_in (leaves nodes) m.to ≡ true)) l [] are.at_defects
+            (EndsAtDefects p (leaves nodes)) l [] are.at_defects
 
         stays : (v : ℕ) → (p.is_real v ≡ true → is_in (leaves nodes) v ≡ true) → cover_of nodes v ≡ Some other
             → (cover_of (split_nodes name nodes) v ≡ Some other) × (is_in b.children other ≡ false)

@@ -1,13 +1,13 @@
 -- The cycle that a link between two plus nodes closes.
 use Rattle.std.proofs.Common.{ℕ, ◌≡◌, ◌+◌, ◌*◌, ◌≤◌, ◌⊎◌, inl, inr, cond, Bool, true, false, List, [], ◌∷◌, ◌++◌, map, filter, length, All, refl, sym, ap, ◌∙◌, subst, arith}
-use Rattle.std.proofs.lemmas.Bool.{both_ways, false≢true, cases_eq, and_parts, and_from, false_from_ne_true}
+use Rattle.std.proofs.lemmas.Bool.{both_ways, cases_eq, and_parts, and_from, false_from_ne_true}
 use Rattle.std.proofs.lemmas.List.{append_assoc, append-nil, length-append, length-map}
 use Rattle.std.proofs.lemmas.List.Elements.{All-map}
 use Rattle.fb_graph.specs.Parity.{is_in}
 use Rattle.fb_graph.specs.Problem.{Problem}
 use Rattle.fb_graph.specs.Certificate.{AreDistinct}
 use Rattle.fb_graph.specs.Laws.{Link}
-use Rattle.fb_graph.specs.Dual.{Node, AreApart, is_outer}
+use Rattle.fb_graph.specs.Dual.{Node, is_outer}
 use Rattle.fb_graph.proofs.Sets.{is_in-cases, is_in-head, is_in-tail, is_in-filter, distinct-filter, length-le_from_within, All-from_is_in}
 use Rattle.fb_laws.specs.Forming.{Child, names_of, blossom_of}
 use Rattle.fb_laws.specs.Works.{IsSetOf}
@@ -18,12 +18,13 @@ use Rattle.fb_laws.specs.TreeCycles.{nodes_along, nodes_back, links_along, links
 use Rattle.fb_graph.proofs.Among.{IsAmong, among_All, among_left, among_right, among_either}
 use Rattle.fb_laws.proofs.JoinedThree.{root_plus}
 use Rattle.fb_laws.proofs.MergedParts.{distinct_across}
+use Rattle.fb_laws.proofs.PathNodes.{distinct_cycle, end_among, ends_apart, ends_distinct, length_cycle, same_back}
 use Rattle.fb_laws.proofs.SearchStates.{named_set}
 use Rattle.fb_laws.proofs.SearchTrees.{connects_sym, plus_in_tree, minus_in_tree, exclusive_names}
-use Rattle.fb_laws.proofs.TreePaths.{IsChain, distinct_right, along_append, names_along, along_minus, along_plus, along_among, among_minus, among_plus, minus_among, same_minus, same_branch, path_among, path_holds, path_begins, path_distinct, path_chain, chain_rest, chain_parent, last_in, last_is_plus, shared_begins, tree_connects, length_along}
+use Rattle.fb_laws.proofs.TreePaths.{IsChain, distinct_right, along_append, names_along, along_minus, along_plus, along_among, among_minus, among_plus, minus_among, same_minus, same_branch, path_among, path_chain, chain_rest, chain_parent, last_is_plus, tree_connects}
 use Rattle.fb_graph.proofs.Unions.{distinct_append}
 use Rattle.fb_graph.proofs.Floods.{is_in-both, is_in-left, is_in-right}
-use Rattle.fb_laws.proofs.NestOrders.{distinct_left}
+use Rattle.fb_graph.proofs.Members.{distinct_left}
 
 pub paths_part : PathsPart
 paths_part tree root a b distinct =
@@ -44,74 +45,6 @@ paths_part tree root a b distinct =
             let is : x ≡ y = same_minus root tree distinct x y (in_xs x (inl refl)) (in_ys y (inl refl)) same in
             (x ∷ shared, up, down, ap (λ l. x ∷ l) first, ap (λ e. e ∷ ys) (sym is) ∙ ap (λ l. x ∷ l) second, parted)
         step (inr other) rest = ([], x ∷ xs, y ∷ ys, refl, refl, other)
-
--- the names on the way back are those on the way there
-back_in : (es : List Entry) (n : ℕ) → is_in (nodes_back es) n ≡ true → is_in (nodes_along es) n ≡ true
-back_in [] n within = within
-back_in (e ∷ es) n within = step (is_in-both (nodes_back es) (e.plus ∷ e.minus ∷ []) n within) (back_in es n)
-  where
-    last : (e.minus ≡ n) ⊎ (is_in [] n ≡ true) → is_in (e.minus ∷ e.plus ∷ nodes_along es) n ≡ true
-    last (inl same) = subst (λ m. is_in (e.minus ∷ e.plus ∷ nodes_along es) m ≡ true) same (is_in-head e.minus (e.plus ∷ nodes_along es))
-    last (inr none) = absurd (false≢true none)
-
-    here : (e.plus ≡ n) ⊎ (is_in (e.minus ∷ []) n ≡ true) → is_in (e.minus ∷ e.plus ∷ nodes_along es) n ≡ true
-    here (inl same) =
-        subst (λ m. is_in (e.minus ∷ e.plus ∷ nodes_along es) m ≡ true) same
-        (is_in-tail e.minus (e.plus ∷ nodes_along es) e.plus (is_in-head e.plus (nodes_along es)))
-    here (inr there) = last (is_in-cases e.minus [] n there)
-
-    step : (is_in (nodes_back es) n ≡ true) ⊎ (is_in (e.plus ∷ e.minus ∷ []) n ≡ true)
-        → (is_in (nodes_back es) n ≡ true → is_in (nodes_along es) n ≡ true) → is_in (e.minus ∷ e.plus ∷ nodes_along es) n ≡ true
-    step (inl there) rest = is_in-tail e.minus (e.plus ∷ nodes_along es) n (is_in-tail e.plus (nodes_along es) n (rest there))
-    step (inr there) rest = here (is_in-cases e.plus (e.minus ∷ []) n there)
-
-in_back : (es : List Entry) (n : ℕ) → is_in (nodes_along es) n ≡ true → is_in (nodes_back es) n ≡ true
-in_back [] n within = within
-in_back (e ∷ es) n within = step (is_in-cases e.minus (e.plus ∷ nodes_along es) n within) (in_back es n)
-  where
-    Goal : Type 0
-    Goal = is_in (nodes_back es ++ e.plus ∷ e.minus ∷ []) n ≡ true
-
-    later : (e.plus ≡ n) ⊎ (is_in (nodes_along es) n ≡ true) → (is_in (nodes_along es) n ≡ true → is_in (nodes_back es) n ≡ true) → Goal
-    later (inl same) rest =
-        is_in-right (nodes_back es) (e.plus ∷ e.minus ∷ []) n
-        (subst (λ m. is_in (e.plus ∷ e.minus ∷ []) m ≡ true) same (is_in-head e.plus (e.minus ∷ [])))
-    later (inr there) rest = is_in-left (nodes_back es) (e.plus ∷ e.minus ∷ []) n (rest there)
-
-    step : (e.minus ≡ n) ⊎ (is_in (e.plus ∷ nodes_along es) n ≡ true) → (is_in (nodes_along es) n ≡ true → is_in (nodes_back es) n ≡ true) → Goal
-    step (inl same) rest =
-        is_in-right (nodes_back es) (e.plus ∷ e.minus ∷ []) n
-        (subst (λ m. is_in (e.plus ∷ e.minus ∷ []) m ≡ true) same (is_in-tail e.plus (e.minus ∷ []) e.minus (is_in-head e.minus [])))
-    step (inr there) rest = later (is_in-cases e.plus (nodes_along es) n there) rest
-
-pub distinct_back : (es : List Entry) → AreDistinct (nodes_along es) → AreDistinct (nodes_back es)
-distinct_back [] distinct = tt
-distinct_back (e ∷ es) (minus_new, (plus_new, distinct)) =
-    distinct_append (nodes_back es) (e.plus ∷ e.minus ∷ []) (distinct_back es distinct) (
-      false_from_ne_true (is_in (e.minus ∷ []) e.plus) (λ there. turned (is_in-cases e.minus [] e.plus there)),
-      (refl, tt),
-    )
-    (λ n within. false_from_ne_true (is_in (e.plus ∷ e.minus ∷ []) n) (λ there. first n (back_in es n within) (is_in-cases e.plus (e.minus ∷ []) n there)))
-  where
-    turned : (e.minus ≡ e.plus) ⊎ (is_in [] e.plus ≡ true) → ⊥
-    turned (inl same) =
-        both_ways (is_in (e.plus ∷ nodes_along es) e.minus) minus_new
-        (subst (λ m. is_in (e.plus ∷ nodes_along es) m ≡ true) (sym same) (is_in-head e.plus (nodes_along es)))
-    turned (inr none) = false≢true none
-
-    second : (n : ℕ) → is_in (nodes_along es) n ≡ true → (e.minus ≡ n) ⊎ (is_in [] n ≡ true) → ⊥
-    second n within (inl same) =
-        both_ways (is_in (e.plus ∷ nodes_along es) e.minus) minus_new
-        (is_in-tail e.plus (nodes_along es) e.minus (ap (is_in (nodes_along es)) same ∙ within))
-    second n within (inr none) = false≢true none
-
-    first : (n : ℕ) → is_in (nodes_along es) n ≡ true → (e.plus ≡ n) ⊎ (is_in (e.minus ∷ []) n ≡ true) → ⊥
-    first n within (inl same) = both_ways (is_in (nodes_along es) e.plus) plus_new (ap (is_in (nodes_along es)) same ∙ within)
-    first n within (inr there) = second n within (is_in-cases e.minus [] n there)
-
-pub length_back : (es : List Entry) → length (nodes_back es) ≡ 2 * length es
-length_back [] = refl
-length_back (e ∷ es) = omega (arith, length-append (nodes_back es) (e.plus ∷ e.minus ∷ []), length_back es)
 
 minus_in_along : (es : List Entry) (n : ℕ) → is_in (minus_names es) n ≡ true → is_in (nodes_along es) n ≡ true
 minus_in_along es n within = by (minus_among es n within)
@@ -174,47 +107,12 @@ names_at nodes (n ∷ ns) = ap (λ l. n ∷ l) (names_at nodes ns)
 module _ (p : Problem) (nodes : List Node) (tree : List Entry) (rest : List Link) (unmatched : List ℕ) (root r a b : ℕ) (shared up down : List Entry)
     (state : IsSearch p nodes tree rest unmatched root r) (plus_a : is_in (plus_names root tree) a ≡ true) (plus_b : is_in (plus_names root tree) b ≡ true)
     (paths : ArePaths tree a b shared up down) where
-  first_distinct : AreDistinct ((root ∷ nodes_along shared) ++ nodes_along up)
-  first_distinct =
-      subst (λ l. AreDistinct (root ∷ l)) (ap nodes_along paths.first ∙ along_append shared up) (path_distinct root tree state.names a)
-
-  second_distinct : AreDistinct ((root ∷ nodes_along shared) ++ nodes_along down)
-  second_distinct =
-      subst (λ l. AreDistinct (root ∷ l)) (ap nodes_along paths.second ∙ along_append shared down) (path_distinct root tree state.names b)
-
-  up_among : (g : Entry) → IsAmong g up → IsAmong g (path_to tree a)
-  up_among g h = subst (IsAmong g) (sym paths.first) (among_right shared up g h)
-
-  down_among : (g : Entry) → IsAmong g down → IsAmong g (path_to tree b)
-  down_among g h = subst (IsAmong g) (sym paths.second) (among_right shared down g h)
-
   both_among : (g : Entry) → IsAmong g (up ++ down) → IsAmong g tree
   both_among g h = by (among_either up down g h)
     where
       by : IsAmong g up ⊎ IsAmong g down → IsAmong g tree
-      by (inl h) = path_among tree a g (up_among g h)
-      by (inr h) = path_among tree b g (down_among g h)
-
-  -- no branch is of both
-  no_common : (g : Entry) → IsAmong g up → IsAmong g down → ⊥
-  no_common g h k =
-      let (ys, first) = path_begins root tree state.names a g (up_among g h) in
-      let (zs, second) = path_begins root tree state.names b g (down_among g k) in
-      let within : IsAmong g shared =
-      shared_begins shared up down (path_to tree g.plus) ys zs (sym paths.first ∙ first) (sym paths.second ∙ second) paths.parted g
-      (path_holds root tree state.names g (path_among tree a g (up_among g h))) in
-      both_ways (is_in (nodes_along up) g.minus)
-      (distinct_across (root ∷ nodes_along shared) (nodes_along up) g.minus first_distinct
-      (is_in-tail root (nodes_along shared) g.minus (along_minus shared g within)))
-      (along_minus up g h)
-
-  apart : AreApart (nodes_along up) (nodes_along down)
-  apart n within = false_from_ne_true (is_in (nodes_along down) n) (λ there. by (along_among up n within) (along_among down n there))
-    where
-      by : (e : Entry) × IsAmong e up × ((e.minus ≡ n) ⊎ (e.plus ≡ n)) → (f : Entry) × IsAmong f down × ((f.minus ≡ n) ⊎ (f.plus ≡ n)) → ⊥
-      by (e, h, is) (f, k, is_) =
-          let same : e ≡ f = same_branch root tree state.names e f (path_among tree a e (up_among e h)) (path_among tree b f (down_among f k)) n is is_ in
-          no_common e h (subst (λ x. IsAmong x down) (sym same) k)
+      by (inl h) = path_among tree a g (end_among tree a shared up paths.first g h)
+      by (inr h) = path_among tree b g (end_among tree b shared down paths.second g h)
 
   top_plus : is_in (plus_names root tree) (last_plus root shared) ≡ true
   top_plus =
@@ -240,28 +138,6 @@ module _ (p : Problem) (nodes : List Node) (tree : List Entry) (rest : List Link
       (subst (λ l. AreLinked nodes a (nodes_back down ++ last_plus root shared ∷ []) (closing ∷ l)) (append-nil (links_back down))
       (linked_back nodes down (λ e h. connects e (both_among e (among_right up down e h))) (last_plus root shared) b a closing down_chain closes [] [] tt)))
 
-  pub distinct : AreDistinct (last_plus root shared ∷ cycle_nodes up down)
-  distinct = (
-    false_from_ne_true (is_in (nodes_along up ++ nodes_back down) (last_plus root shared))
-        (λ within. by (is_in-both (nodes_along up) (nodes_back down) (last_plus root shared) within)),
-    distinct_append (nodes_along up) (nodes_back down) (distinct_right (root ∷ nodes_along shared) (nodes_along up) first_distinct)
-        (distinct_back down (distinct_right (root ∷ nodes_along shared) (nodes_along down) second_distinct))
-        (λ n within.
-        false_from_ne_true (is_in (nodes_back down) n) (λ there. both_ways (is_in (nodes_along down) n) (apart n within) (back_in down n there))),
-  )
-    where
-      by : (is_in (nodes_along up) (last_plus root shared) ≡ true) ⊎ (is_in (nodes_back down) (last_plus root shared) ≡ true) → ⊥
-      by (inl h) =
-          both_ways (is_in (nodes_along up) (last_plus root shared))
-          (distinct_across (root ∷ nodes_along shared) (nodes_along up) (last_plus root shared) first_distinct (last_in root shared)) h
-      by (inr h) =
-          both_ways (is_in (nodes_along down) (last_plus root shared))
-          (distinct_across (root ∷ nodes_along shared) (nodes_along down) (last_plus root shared) second_distinct (last_in root shared))
-          (back_in down (last_plus root shared) h)
-
-  pub size : length (cycle_nodes up down) ≡ 2 * (length up + length down)
-  size = omega (arith, length-append (nodes_along up) (nodes_back down), length_along up, length_back down)
-
   -- a node of the cycle is the top or in a branch
   in_cycle : (n : ℕ) → is_in (last_plus root shared ∷ cycle_nodes up down) n ≡ true
       → (last_plus root shared ≡ n) ⊎ ((g : Entry) × IsAmong g (up ++ down) × ((g.minus ≡ n) ⊎ (g.plus ≡ n)))
@@ -278,7 +154,7 @@ module _ (p : Problem) (nodes : List Node) (tree : List Entry) (rest : List Link
 
       of_both : (is_in (nodes_along up) n ≡ true) ⊎ (is_in (nodes_back down) n ≡ true) → Found
       of_both (inl h) = left (along_among up n h)
-      of_both (inr h) = right (along_among down n (back_in down n h))
+      of_both (inr h) = right (along_among down n (sym (same_back down n) ∙ h))
 
       by : (last_plus root shared ≡ n) ⊎ (is_in (cycle_nodes up down) n ≡ true) → (last_plus root shared ≡ n) ⊎ Found
       by (inl same) = inl same
@@ -295,7 +171,7 @@ module _ (p : Problem) (nodes : List Node) (tree : List Entry) (rest : List Link
       by (inl same) =
           subst (λ m. is_in (last_plus root shared ∷ cycle_nodes up down) m ≡ true) same (is_in-head (last_plus root shared) (cycle_nodes up down))
       by (inr h) =
-          is_in-tail (last_plus root shared) (cycle_nodes up down) n (is_in-right (nodes_along up) (nodes_back down) n (in_back down n h))
+          is_in-tail (last_plus root shared) (cycle_nodes up down) n (is_in-right (nodes_along up) (nodes_back down) n (same_back down n ∙ h))
 
   abbrev AllIn : Entry → Type 0
   AllIn g =
@@ -391,8 +267,9 @@ module _ (p : Problem) (nodes : List Node) (tree : List Entry) (rest : List Link
       both_distinct =
           distinct_minus (up ++ down)
           (subst AreDistinct (sym (along_append up down))
-          (distinct_append (nodes_along up) (nodes_along down) (distinct_right (root ∷ nodes_along shared) (nodes_along up) first_distinct)
-          (distinct_right (root ∷ nodes_along shared) (nodes_along down) second_distinct) apart))
+          (distinct_append (nodes_along up) (nodes_along down) (distinct_right (root ∷ nodes_along shared) (nodes_along up) (ends_distinct root tree state.names a shared up paths.first))
+          (distinct_right (root ∷ nodes_along shared) (nodes_along down) (ends_distinct root tree state.names b shared down paths.second))
+          (ends_apart root tree state.names a b shared up down paths)))
 
       there : (n : ℕ) → is_in (filter joined (minus_names tree)) n ≡ true → is_in (minus_names (up ++ down)) n ≡ true
       there n within =
@@ -438,13 +315,13 @@ module _ (p : Problem) (nodes : List Node) (tree : List Entry) (rest : List Link
       → IsJoining nodes tree root name (child_at nodes (last_plus root shared)) (map (child_at nodes) (cycle_nodes up down))
   joining name fresh = record {
     nodes_are = each (λ c. IsSetOf nodes c.name c.set) (λ n within. named_set p nodes tree rest unmatched root r state n (in_tree n within));
-    distinct = subst AreDistinct (sym named) distinct;
+    distinct = subst AreDistinct (sym named) (distinct_cycle root tree state.names a b shared up down paths);
     in_tree = each (λ c. is_in (tree_names root tree) c.name ≡ true) in_tree;
     plus = top_plus;
     branches = subst (λ l. AreBranches (is_in l) (last_plus root shared) root tree) (sym named) branches;
     even =
         length-map (cycle_nodes up down) (child_at nodes)
-        ∙ (size ∙ (ap (λ n. 2 * n) (sym (length-append up down) ∙ sym inner_count) ∙ ap (λ l. 2 * length (inner_branches (is_in l) tree)) (sym named)));
+        ∙ (length_cycle up down ∙ (ap (λ n. 2 * n) (sym (length-append up down) ∙ sym inner_count) ∙ ap (λ l. 2 * length (inner_branches (is_in l) tree)) (sym named)));
     fresh = fresh;
   }
     where
@@ -486,12 +363,12 @@ cycle_linked p nodes tree rest unmatched root r a b shared up down closing state
 
 pub cycle_many : CycleMany
 cycle_many p nodes tree rest unmatched root r a b shared up down state plus_a plus_b paths other =
-    let sized = size p nodes tree rest unmatched root r a b shared up down state plus_a plus_b paths in
+    let sized = length_cycle up down in
     let some = some_branch p nodes tree rest unmatched root r a b shared up down state plus_a plus_b paths other in
     record {
       three = omega (arith, sized, some);
       odd = omega (arith, sized);
-      distinct = distinct p nodes tree rest unmatched root r a b shared up down state plus_a plus_b paths;
+      distinct = distinct_cycle root tree state.names a b shared up down paths;
     }
 
 pub cycle_minus : CycleMinus

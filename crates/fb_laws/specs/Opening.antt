@@ -80,12 +80,13 @@ LevelsOpened = (cuts : List Cut) (sets last_sets : List (List ℕ)) (links last_
 abbrev pub single_sets : List ℕ → List (List ℕ)
 single_sets defects = map (λ d. d ∷ []) defects
 
+-- the link's real ends are defects
+abbrev pub EndsAtDefects : Problem → List ℕ → Link → Type 0
+EndsAtDefects p defects l = (p.is_real l.from ≡ true → is_in defects l.from ≡ true) × (p.is_real l.to ≡ true → is_in defects l.to ≡ true)
+
 -- no link ends at a real vertex that isn't a defect
 abbrev pub EndAtDefects : Problem → List ℕ → List Link → Type 0
-EndAtDefects p defects links =
-    All
-    (λ l. (p.is_real l.from ≡ true → is_in defects l.from ≡ true) × (p.is_real l.to ≡ true → is_in defects l.to ≡ true))
-    links
+EndAtDefects p defects links = All (EndsAtDefects p defects) links
 
 -- At the last level the tight links are a perfect matching of the defects.
 abbrev pub LastLevel : Type 0

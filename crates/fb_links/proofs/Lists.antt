@@ -2,7 +2,7 @@
 use Rattle.std.proofs.Common.{ℕ, ◌≡◌, ◌≢◌, ◌==◌, Bool, true, false, ◌||◌, List, [], ◌∷◌, ◌++◌, refl, sym, ap, ◌∙◌}
 use Rattle.std.proofs.Math.Bool.{or-false}
 use Rattle.std.proofs.lemmas.Bool.{eqb-true, eq-eqb, or_parts, or_right, both_ways}
-use Rattle.fb_links.specs.Merged.{is_in, AreDistinct}
+use Rattle.fb_links.specs.Lists.{AreDistinct, is_in}
 
 pub is_in-push : (xs : List ℕ) (y v : ℕ) → is_in (xs ++ y ∷ []) v ≡ (is_in xs v || (y == v))
 is_in-push [] y v = or-false (y == v)

@@ -5,10 +5,11 @@ use Rattle.std.proofs.lemmas.Bool.{cases_lt, false≢true, or_from}
 use Rattle.std.proofs.lemmas.List.{length_push, get_or_push, get_or_past, map-append, reverse-append}
 use Rattle.std.proofs.lemmas.List.Sorted.{All-permutation, IsPermutation-map, IsPermutation-reverse, list_any-IsPermutation}
 use Rattle.std.proofs.lemmas.List.Elements.{All-nil, All-cons, All-get_or, All-head, All-tail, All-push, All-weaker}
+use Rattle.fb_links.specs.Lists.{AreDistinct, is_in}
 use Rattle.fb_links.specs.declared.walk.Step.{Step}
 use Rattle.fb_links.specs.Table.{Adds, IsLink, is_live, link_at}
 use Rattle.fb_links.specs.Kept.{IsEntry}
-use Rattle.fb_links.specs.Merged.{AreDistinct, AreMerged, IsMoved, is_in, old_numbers, new_numbers}
+use Rattle.fb_links.specs.Merged.{AreMerged, IsMoved, old_numbers, new_numbers}
 use Rattle.fb_links.specs.InternalMerging.{AreMerging}
 use Rattle.fb_links.proofs.Lists.{AreDistinct-push, is_in-push_other, is_in-push_same, not_in-push, unequal}
 use Rattle.fb_links.proofs.Numbers.{get_or-push_other}

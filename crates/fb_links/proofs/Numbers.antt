@@ -3,12 +3,12 @@ use Rattle.std.proofs.Common.{ℕ, zero, suc, ◌+◌, ◌<◌, ◌≤◌, ◌�
 use Rattle.std.specs.Prelude.{◌^◌, count_by, is_some, unwrap_or}
 use Rattle.std.proofs.lemmas.Bool.{cases_lt, false≢true}
 use Rattle.std.proofs.lemmas.Option.{none-some}
-use Rattle.std.proofs.lemmas.List.{length-set, length_push, reverse-append, get_or-set_same, get_or-set_other, get_or_push, get_or_past}
-use Rattle.std.proofs.lemmas.List.Elements.{All-nil, All-cons, All-head, All-tail, All-get_or, All-set, All-push}
-use Rattle.std.proofs.lemmas.List.Sums.{sum_by-set, sum_by_push}
+use Rattle.std.proofs.lemmas.List.{length-set, reverse-append, get_or-set_same, get_or-set_other, get_or_past}
+use Rattle.std.proofs.lemmas.List.Elements.{All-nil, All-cons, All-head, All-tail, All-get_or, All-set}
+use Rattle.std.proofs.lemmas.List.Sums.{sum_by-set}
 use Rattle.fb_links.specs.declared.walk.Step.{Step}
 use Rattle.fb_links.specs.Walks.{walk_weight, share_end, joined_walk}
-use Rattle.fb_links.specs.Table.{IsLink, Adds, Removes, is_live, link_at, walk_at}
+use Rattle.fb_links.specs.Table.{IsLink, Adds, is_live, link_at, walk_at}
 use Rattle.fb_links.specs.Kept.{IsEntry, AreFree, IsKept}
 use Rattle.fb_links.proofs.Joins.{walk_joined}
 
@@ -39,36 +39,11 @@ free_set links (k ∷ ks) id x others (below, none, apart, rest) = (
   free_set links ks id x (All-tail (λ j. j ≢ id) k ks others) rest,
 )
 
-pub added_in_place : (links : List (Option (List Step))) (id : ℕ) (walk : List Step) → id < length links
-    → link_at links id ≡ None → Adds links (set links id (Some walk)) id walk
-added_in_place links id walk within none =
-    record {
-      fresh = none;
-      added = get_or-set_same links id (Some walk) None within;
-      others = λ k other. get_or-set_other links id k (Some walk) None other;
-    }
-
 pub get_or-push_other : {X : Type 0} → (xs : List X) (y d : X) (k : ℕ) → k ≢ length xs → get_or (xs ++ y ∷ []) k d ≡ get_or xs k d
 get_or-push_other [] y d zero other = absurd (other refl)
 get_or-push_other [] y d (suc k) other = refl
 get_or-push_other (x ∷ xs) y d zero other = refl
 get_or-push_other (x ∷ xs) y d (suc k) other = get_or-push_other xs y d k (λ e. other (ap suc e))
-
-pub added_at_end : (links : List (Option (List Step))) (walk : List Step)
-    → Adds links (links ++ Some walk ∷ []) (length links) walk
-added_at_end links walk =
-    record {
-      fresh = get_or_past links (length links) None (omega arith);
-      added = get_or_push links (Some walk) None (length links) refl;
-      others = λ k other. get_or-push_other links (Some walk) None k other;
-    }
-
-pub taken_off : (links : List (Option (List Step))) (id : ℕ) → is_live links id ≡ true → Removes links (set links id None) id
-taken_off links id live =
-    record {
-      gone = get_or-set_same links id None None (live_below links id live);
-      others = λ k other. get_or-set_other links id k None None other;
-    }
 
 -- the number of links after a change at one place
 count_set : (links : List (Option (List Step))) (id : ℕ) (x : Option (List Step)) → id < length links
@@ -87,18 +62,6 @@ kept_in_place links id free capacity walk kept link =
       room = subst (λ n. n ≤ capacity) (sym (length-set links id (Some walk))) kept.room;
     }
 
--- a further number gets a walk where none is free
-pub kept_at_end : (links : List (Option (List Step))) (capacity more : ℕ) (walk : List Step) → IsKept links [] capacity
-    → length links + 1 ≤ more → IsLink walk → IsKept (links ++ Some walk ∷ []) [] more
-kept_at_end links capacity more walk kept room link =
-    record {
-      walks = All-push IsEntry links (Some walk) kept.walks link;
-      unused = tt;
-      counted =
-          omega (arith, sum_by_push (λ o. cond {A = ℕ} (is_some o) 1 0) links (Some walk), length_push links (Some walk), kept.counted);
-      room = omega (arith, length_push links (Some walk), room);
-    }
-
 -- the number of a link taken off becomes the last freed
 pub kept_without : (links : List (Option (List Step))) (free : List ℕ) (capacity id : ℕ) → IsKept links free capacity
     → is_live links id ≡ true → IsKept (set links id None) (id ∷ free) capacity
@@ -113,12 +76,6 @@ kept_without links free capacity id kept live =
           omega (arith, count_set links id None within, ap {A = Bool} (λ b. cond {A = ℕ} b 1 0) live, length-set links id None, kept.counted);
       room = subst (λ n. n ≤ capacity) (sym (length-set links id None)) kept.room;
     }
-
--- what stands in the table is a link's walk
-pub link_kept : (links : List (Option (List Step))) (id : ℕ) (walk : List Step) → All IsEntry links
-    → link_at links id ≡ Some walk → IsLink walk
-link_kept links id walk all is =
-    subst IsEntry is (All-get_or IsEntry links id None (live_below links id (ap is_some is)) all)
 
 reverse_push : (ids : List ℕ) (id : ℕ) → reverse (ids ++ id ∷ []) ≡ id ∷ reverse ids
 reverse_push ids id = reverse-append ids (id ∷ [])

@@ -1,12 +1,13 @@
 -- The new numbers of the links that move, as a function of their old ones.
-use Rattle.std.proofs.Common.{ℕ, ◌<◌, ◌≡◌, length, get_or, ◌⊎◌, ◌==◌, Bool, true, false, ◌||◌, cond, List, [], ◌∷◌, Option, Some, None, All, refl, sym, ap, ◌∙◌, subst, inl, inr}
+use Rattle.std.proofs.Common.{ℕ, ◌≡◌, ◌⊎◌, ◌==◌, Bool, true, false, ◌||◌, cond, List, [], ◌∷◌, Option, Some, None, All, refl, sym, ap, ◌∙◌, subst, inl, inr}
 use Rattle.std.specs.Prelude.{is_some}
 use Rattle.std.proofs.lemmas.Bool.{eqb-true, eq-eqb, or_cases, or_left, or_right, false≢true}
 use Rattle.std.proofs.lemmas.Option.{none-some}
 use Rattle.std.proofs.lemmas.List.Elements.{All-head, All-tail}
+use Rattle.fb_links.specs.Lists.{AreDistinct, is_in}
 use Rattle.fb_links.specs.declared.walk.Step.{Step}
 use Rattle.fb_links.specs.Table.{is_live, link_at}
-use Rattle.fb_links.specs.Merged.{AreDistinct, AreMerged, IsMoved, is_in, old_numbers, new_numbers}
+use Rattle.fb_links.specs.Merged.{AreMerged, IsMoved, old_numbers, new_numbers}
 use Rattle.fb_links.specs.Names.{name_by}
 use Rattle.fb_links.specs.Laws.{IsRenamed}
 use Rattle.fb_links.proofs.Lists.{unequal}
@@ -116,12 +117,3 @@ either_one left right pairs new merged id live = by (is_in (new_numbers pairs) i
         let found = old_of pairs id merged.once among in
         inr (found.0, sym (merged.listed found.0) ∙ found.1, found.2)
     by false among = inl (sym (ap is_some (merged.others id among)) ∙ live)
-
--- a listed link is live under its new number
-pub new_live : (left right : List (Option (List Step))) (pairs items : List (ℕ × ℕ)) (new : List (Option (List Step)))
-    (i : ℕ) (p : ℕ × ℕ) → AreMerged left right pairs new → items ≡ pairs → i < length items → p ≡ get_or items i p
-    → is_live new p.1 ≡ true
-new_live left right pairs items new i p merged same within is =
-    let all = subst (All (IsMoved right new)) (sym same) merged.moved in
-    let here = subst (IsMoved right new) (sym is) (all i p within) in
-    ap is_some here.1 ∙ here.0

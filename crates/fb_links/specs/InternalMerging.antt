@@ -1,9 +1,10 @@
 -- While two tables are made one.
 use Rattle.std.specs.Prelude.{ℕ, ◌≡◌, ◌<◌, ◌≤◌, false, List, length, Option, None, All}
+use Rattle.fb_links.specs.Lists.{AreDistinct, is_in}
 use Rattle.fb_links.specs.declared.walk.Step.{Step}
 use Rattle.fb_links.specs.Table.{is_live, link_at}
 use Rattle.fb_links.specs.Kept.{IsEntry}
-use Rattle.fb_links.specs.Merged.{AreDistinct, IsMoved, is_in, old_numbers, new_numbers}
+use Rattle.fb_links.specs.Merged.{IsMoved, old_numbers, new_numbers}
 
 -- `rest` is the beginning of the right table that is still to move; the links after it are moved
 pub record AreMerging (left right rest : List (Option (List Step))) (pairs : List (ℕ × ℕ))

@@ -1,9 +1,10 @@
 -- Laws of the definitions.
 use Rattle.std.specs.Prelude.{ℕ, ◌≡◌, ◌⊎◌, ◌+◌, ◌<◌, true, List, ◌++◌, length, Option, Some, None}
+use Rattle.fb_links.specs.Lists.{is_in}
 use Rattle.fb_links.specs.declared.walk.Step.{Step}
 use Rattle.fb_links.specs.Walks.{walk_weight, start_of, end_of, Runs, IsChained, turned_walk, share_end, meeting_vertex, other_end, joined_walk}
 use Rattle.fb_links.specs.Table.{IsLink, Adds, is_live, link_at}
-use Rattle.fb_links.specs.Merged.{AreMerged, is_in, new_numbers}
+use Rattle.fb_links.specs.Merged.{AreMerged, new_numbers}
 use Rattle.fb_links.specs.Names.{name_by}
 
 -- A walk that leads from one vertex to another has these ends, if it has a step.

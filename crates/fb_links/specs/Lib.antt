@@ -1,6 +1,7 @@
 pub mod InternalMerging
 pub mod Kept
 pub mod Laws
+pub mod Lists
 pub mod Merged
 pub mod Names
 pub mod Table

@@ -1,17 +1,8 @@
 -- Two tables of links made one: the right one's links move into the left one, under new numbers.
-use Rattle.std.specs.Prelude.{ℕ, ◌≡◌, ◌==◌, Bool, true, false, List, [], ◌∷◌, map, Option, None, All}
-use Rattle.std.specs.List.{list_any}
+use Rattle.std.specs.Prelude.{ℕ, ◌≡◌, true, false, List, map, Option, None, All}
 use Rattle.fb_links.specs.declared.walk.Step.{Step}
+use Rattle.fb_links.specs.Lists.{AreDistinct, is_in}
 use Rattle.fb_links.specs.Table.{is_live, link_at}
-
--- the list holds the number
-abbrev pub is_in : List ℕ → ℕ → Bool
-is_in set v = list_any (λ u. u == v) set
-
--- no number comes twice
-abbrev pub AreDistinct : List ℕ → Type 0
-AreDistinct [] = Unit {0}
-AreDistinct (v ∷ vs) = (is_in vs v ≡ false) × AreDistinct vs
 
 -- the old numbers of the links that move
 abbrev pub old_numbers : List (ℕ × ℕ) → List ℕ

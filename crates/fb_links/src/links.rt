@@ -43,7 +43,7 @@ impl Links {
     }
 
     /// The table without links, in the room of this one. Its time is that of the table's length. Takes no memory.
-    pub fn emptied(self) -> Links
+    pub fn into_empty(self) -> Links
         ensures { result ≡ [] }
     {
         let Links {

@@ -1,6 +1,6 @@
 -- Edges that are passed over since their bounds show that they bear a step, and looks that set bounds.
 use Rattle.std.proofs.Common.{ℕ, zero, suc, ◌≡◌, ◌+◌, ◌-◌, ◌*◌, ◌/◌, ◌≤◌, ◌<◌, ◌==◌, ◌&&◌, ◌⊎◌, inl, inr, Bool, true, false, not, cond, is_some, Option, Some, None, List, [], length, get_or, set, drop, All, refl, sym, ap, ◌∙◌, subst, arith}
-use Rattle.std.proofs.lemmas.Bool.{and_from, and_parts, false≢true, false_from_ne_true, cases_eq, cases_lt, eqb-true, leb-true}
+use Rattle.std.proofs.lemmas.Bool.{and_from, and_parts, false≢true, false_from_ne_true, cases_eq, cases_lt, eqb-true, leb-true, not_from_false}
 use Rattle.std.proofs.lemmas.List.{drop_all, get_or-set_same, get_or-set_other, set_past}
 use Rattle.std.proofs.lemmas.List.Elements.{All-nil}
 use Rattle.fb_graph.specs.Parity.{is_in}
@@ -212,15 +212,12 @@ leaves_one p nodes old w new m before under room left = record {
   room = room ∙ before.room;
   kept = λ k watched apart.
       left k
-      ∙ and_both (is_in w.edges k) (k == m) (before.kept k watched apart)
-      (false_from_ne_true (k == m)
+      ∙ and_from (is_in w.edges k) (not (k == m)) (before.kept k watched apart)
+      (not_from_false (k == m) (false_from_ne_true (k == m)
       (λ same.
-      apart (subst (λ e. AreUnderOne nodes (edge_at p.edges e).first (edge_at p.edges e).second) (sym (eqb-true k m same)) under)));
+      apart (subst (λ e. AreUnderOne nodes (edge_at p.edges e).first (edge_at p.edges e).second) (sym (eqb-true k m same)) under))));
   none_new = λ k watched. before.none_new k (and_parts (is_in w.edges k) (not (k == m)) (sym (left k) ∙ watched)).0;
 }
-  where
-    and_both : (a b : Bool) → a ≡ true → b ≡ false → (a && not b) ≡ true
-    and_both a b holds other = cc
 
 -- the next edge is under one node, and leaves the watch
 pub scanned_left : (p : Problem) (role_of : ℕ → Role) (nodes : List Node) (names : List ℕ) (old w new : Watched) (n k : ℕ)

@@ -1,6 +1,6 @@
 -- Looks at one thing after another.
 use Rattle.std.proofs.Common.{ℕ, ◌≡◌, ◌+◌, ◌≤◌, ◌<◌, ◌∷◌, ◌++◌, List, [], length, get_or, take, take_all, drop, All, sym, subst, arith}
-use Rattle.std.proofs.lemmas.List.Elements.{All-nil, All-cons, All-head, All-tail, All-same, All-push}
+use Rattle.std.proofs.lemmas.List.Elements.{All-cons, All-head, All-tail, All-same, All-push}
 use Rattle.std.proofs.lemmas.List.{take_more, drop_more}
 use Rattle.fb_graph.proofs.Nodes.{All-below, All-top}
 use Rattle.fb_obstacles.specs.declared.obstacle.Obstacle.{Obstacle}
@@ -47,10 +47,6 @@ limits_both A B S (Within i) (Within k) first second = (
   λ j le. (first.1 j (omega arith), second.1 j (omega arith)),
   λ j h. let one = first.2 j h.0 in let other = second.2 j h.1 in omega (arith, one, other),
 )
-
--- nothing was looked at
-pub limits_none : (P : ℕ → ℕ → Type 0) (S : Obstacle → Type 0) → Limits (λ j. All (P j) []) S Clear
-limits_none P S j = All-nil (P j)
 
 -- one more of a list is looked at
 pub limits_more : (P : ℕ → ℕ → Type 0) (S : Obstacle → Type 0) (xs : List ℕ) (i : ℕ) (a b : Look) → i < length xs

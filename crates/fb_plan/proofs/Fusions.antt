@@ -9,7 +9,7 @@ use Rattle.fb_plan.specs.Rules.{is_named, is_out_of_range, is_used_twice, joins_
 use Rattle.fb_plan.specs.declared.parts.Join.{Join}
 use Rattle.fb_plan.proofs.Trees.{names_cases}
 use Rattle.fb_plan.proofs.Tables.{get_or-take}
-use Rattle.fb_graph.proofs.Boundaries.{or_nothing}
+use Rattle.fb_graph.proofs.Booleans.{or_nothing}
 
 pub length-joins_of : (fusions : List Join) → length (joins_of fusions) ≡ length fusions
 length-joins_of fusions = length-map fusions (λ join. (join.left, join.right))

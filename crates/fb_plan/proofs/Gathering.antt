@@ -1,11 +1,10 @@
 -- The ranges of all nodes, one node after another.
 use Rattle.std.proofs.Common.{ℕ, ◌+◌, ◌-◌, ◌<◌, ◌≤◌, ◌≡◌, ◌||◌, List, [], ◌∷◌, ◌++◌, length, map, take, length-take-le, get_or, sym, ap, ◌∙◌, arith, append_assoc, append-nil, length-append, false}
 use Rattle.std.specs.List.{list_any}
-use Rattle.std.proofs.lemmas.List.{length-map, get_or_append_left, get_or-append_right, get_or-map, take_more}
+use Rattle.std.proofs.lemmas.List.{length-map, get_or_append_left, get_or-append_right, get_or-map, take_more, map_more}
 use Rattle.std.proofs.lemmas.List.Folds.{list_any_more}
 use Rattle.fb_plan.specs.Rules.{claim_of, claims_from, is_bad_range, ranges_of}
 use Rattle.fb_plan.specs.declared.parts.Join.{Join}
-use Rattle.fb_graph.proofs.BuildSteps.{map_more}
 
 pub left_list : {X Y : Type 0} (f : X → List (ℕ × ℕ)) (g : Y → List (ℕ × ℕ)) (xs : List X) (ys : List Y) (k : ℕ) (d : X)
     → k < length xs → get_or (map f xs ++ map g ys) k [] ≡ f (get_or xs k d)

@@ -8,21 +8,24 @@ use Rattle.std.proofs.lemmas.List.{get_or-map, get_or_default, length-map}
 use Rattle.std.proofs.lemmas.List.Elements.{All-append, All-head, All-nil, All-tail}
 use Rattle.std.proofs.lemmas.List.FromFn.{length-map-range_with_len}
 use Rattle.std.proofs.lemmas.List.Sums.{sum_by-cons}
+use Rattle.std.proofs.lemmas.Option.{same_Some}
 use Rattle.fb_graph.specs.Problem.{edge_at, no_edge}
 use Rattle.fb_graph.specs.Limits.{DecodingGraph, is_real_in}
 use Rattle.fb_graph.specs.declared.parts.Edge.{Edge}
 use Rattle.fb_plan.specs.Layout.{given_owner, tree_of}
 use Rattle.fb_plan.specs.Loads.{load_at}
 use Rattle.fb_plan.specs.Plans.{IsPlan, IsTree, PlanTree, goes_across, most_units, node_count, owner_of}
-use Rattle.fb_plan.specs.Rules.{child_fault, claim_of, claims_from, edge_fault, holds, is_out_of_range, is_owned_twice, is_unowned, is_used_twice, joins_of, least, owner_in, plan_fault, range_fault, ranges_of, root_fault, seams_of, tree_by, twice_fault, units_fault, unowned_fault, use_fault}
+use Rattle.fb_plan.specs.Rules.{child_fault, claim_of, claims_from, edge_fault, holds, is_out_of_range, is_owned_twice, is_unowned, is_used_twice, joins_of, owner_in, plan_fault, range_fault, ranges_of, root_fault, seams_of, tree_by, twice_fault, units_fault, unowned_fault, use_fault, or_fault}
+use Rattle.fb_graph.specs.Leasts.{least}
 use Rattle.fb_plan.specs.declared.faults.PlanFault.TheVariants.{TooManyUnits, VertexUnowned, VertexTwice, ChildOutOfRange, ChildUsedTwice, NotOneRoot}
+use Rattle.fb_plan.specs.declared.faults.PlanFault.{PlanFault}
 use Rattle.fb_plan.specs.declared.loads.Measure.TheVariants.{Nodes}
 use Rattle.fb_plan.specs.declared.parts.Claim.{Claim}
 use Rattle.fb_plan.specs.declared.parts.Join.{Join}
 use Rattle.fb_plan.proofs.Fusions.{join_of, length-joins_of, tree_of_rules}
-use Rattle.fb_plan.proofs.Leasts.{least_failed}
+use Rattle.fb_graph.proofs.Leasts.{least_failed}
 use Rattle.fb_plan.proofs.Ownership.{owner_told, unreal_beyond}
-use Rattle.fb_plan.proofs.Tables.{tree_with_owners}
+use Rattle.fb_plan.proofs.Tables.{tree_with_owners, option_or-none}
 
 -- the ranges of each node are of a node
 claims_of_nodes : (n : ℕ) (ranges : List (List (ℕ × ℕ))) → All (λ c. c.node < n + length ranges) (claims_from n ranges)
@@ -159,16 +162,13 @@ given_owner_below g nodes count below v n is =
     (sym (owner_told (given_owner g nodes) g.vertices v
     (λ above. ap (λ b. cond b (Some (get_or nodes v 0)) None) (unreal_beyond g v above))) ∙ is)
   where
-    some_is : (x y : ℕ) → Some x ≡ Some y → x ≡ y
-    some_is x y e = cc
-
     node : is_real_in g v ≡ true → (v < g.vertices) ⊎ (g.vertices ≤ v) → v < g.vertices
     node real (inl less) = less
     node real (inr above) = absurd (both_ways (is_real_in g v) (unreal_beyond g v above) real)
 
     step : (b : Bool) → is_real_in g v ≡ b → cond (is_real_in g v) (Some (get_or nodes v 0)) None ≡ Some n → n < count
     step true e found =
-        let same : get_or nodes v 0 ≡ n = some_is _ _ (sym (ap (λ b. cond b (Some (get_or nodes v 0)) None) e) ∙ found) in
+        let same : get_or nodes v 0 ≡ n = same_Some _ _ (sym (ap (λ b. cond b (Some (get_or nodes v 0)) None) e) ∙ found) in
         subst (λ x. x < count) same (below v (node e (cases_lt v g.vertices)) e)
     step false e found =
         absurd (both_ways false refl (ap is_some (sym (ap (λ b. cond b (Some (get_or nodes v 0)) None) e) ∙ found)))
@@ -212,15 +212,12 @@ is_plan_by g units joins seams tree range_count once across = record {
     owned v true real = ap is_some (found v real) ∙ sym real
     owned v false unreal = ap is_some (none v unreal) ∙ sym unreal
 
-    some_is : (x y : ℕ) → Some x ≡ Some y → x ≡ y
-    some_is x y e = cc
-
     below : (v n : ℕ) (b : Bool) → is_real_in g v ≡ b → owner_in g (claims_from 0 (units ++ seams)) v ≡ Some n
         → n < node_count (tree_by g units joins seams)
     below v n true real is =
         omega (
           arith,
-          some_is _ _ (sym (found v real) ∙ is),
+          same_Some _ _ (sym (found v real) ∙ is),
           load_below (claims_from 0 (units ++ seams)) v (length units + length joins)
               (claims_below (units ++ seams) (length units + length joins) range_count)
               (once v (node v real (cases_lt v g.vertices)) real),
@@ -294,13 +291,9 @@ all_but_edges g units fusions limit good cover children =
     (none_parts _ _ (none_parts _ _ children).1).0
     (ap (root_fault (length units)) (length-joins_of fusions) ∙ (none_parts _ _ (none_parts _ _ children).1).1)
   where
-    or_none : {X : Type 0} (o : Option X) → option_or o None ≡ o
-    or_none None = refl
-    or_none (Some x) = refl
-
     seven : {X : Type 0} (a b c d e f h r : Option X) → a ≡ None → b ≡ None → c ≡ None → d ≡ None → e ≡ None → f ≡ None → h ≡ None
         → option_or a (option_or b (option_or c (option_or d (option_or e (option_or f (option_or h (option_or r None))))))) ≡ r
-    seven a b c d e f h r ae be ce de ee fe he = rw (ae, be, ce, de, ee, fe, he) (or_none r)
+    seven a b c d e f h r ae be ce de ee fe he = rw (ae, be, ce, de, ee, fe, he) (option_or-none r)
 
 pub same_plan : (g : DecodingGraph) (n m : ℕ) (fusions : List Join) (claims claims' : List Claim) → n ≡ m → claims ≡ claims'
     → (let first : PlanTree = record { units = n; joins = joins_of fusions; owners = map (owner_in g claims) (range_with_len 0 g.vertices) } in first)
@@ -310,3 +303,22 @@ same_plan g n m fusions claims claims' first second = rw (first, second) refl
 abbrev pub IsGrown : DecodingGraph → List Claim → ℕ → List Join → PlanTree → Type 0
 IsGrown g claims units fusions t =
     t ≡ record { units = units; joins = joins_of fusions; owners = map (owner_in g claims) (range_with_len 0 g.vertices) }
+
+-- the first fault of parts that break no rule but that of the edges
+pub fault_of_edges : (g : DecodingGraph) (units : List (List (ℕ × ℕ))) (fusions : List Join) (n : ℕ) (claims : List Claim) (plan : PlanTree)
+    → length units ≡ n → n ≤ most_units → claims ≡ claims_from 0 (ranges_of units fusions)
+    → plan ≡ tree_by g units (joins_of fusions) (seams_of fusions)
+    → range_fault g.vertices (ranges_of units fusions) ≡ None
+    → option_or (unowned_fault g claims) (twice_fault g claims) ≡ None
+    → option_or (child_fault n (joins_of fusions)) (option_or (use_fault (joins_of fusions)) (root_fault n (length fusions))) ≡ None
+    → (fault : Option PlanFault) → edge_fault g plan ≡ fault
+    → or_fault (plan_fault g units (joins_of fusions) (seams_of fusions)) (tree_by g units (joins_of fusions) (seams_of fusions))
+    ≡ or_fault fault (tree_by g units (joins_of fusions) (seams_of fusions))
+fault_of_edges g units fusions n claims plan count few is built ranges cover children fault edges =
+    let tree : PlanTree = tree_by g units (joins_of fusions) (seams_of fusions) in
+    ap (λ first. or_fault first tree)
+    (all_but_edges g units fusions (omega (arith, count, few)) ranges
+    (subst (λ cs. option_or (unowned_fault g cs) (twice_fault g cs) ≡ None) is cover)
+    (subst (λ m. option_or (child_fault m (joins_of fusions)) (option_or (use_fault (joins_of fusions)) (root_fault m (length fusions))) ≡ None)
+    (sym count) children)
+    ∙ (ap (edge_fault g) (sym built) ∙ edges))

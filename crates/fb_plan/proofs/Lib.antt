@@ -3,7 +3,6 @@ pub mod FusionSeams
 pub mod Fusions
 pub mod Gathering
 pub mod Growth
-pub mod Leasts
 pub mod Ownership
 pub mod Queries
 pub mod Reaches

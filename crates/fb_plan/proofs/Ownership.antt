@@ -1,7 +1,6 @@
 -- The owners of the vertices, one after another.
-use Rattle.std.proofs.Common.{ℕ, ◌+◌, ◌<◌, ◌≤◌, ◌≡◌, Bool, true, false, cond, List, [], ◌∷◌, ◌++◌, length, map, get_or, Option, Some, None, is_some, IfOk, Ok, Err, refl, sym, ap, ◌∙◌, inl, inr, arith}
+use Rattle.std.proofs.Common.{ℕ, ◌+◌, ◌<◌, ◌≤◌, ◌≡◌, Bool, true, false, cond, List, [], ◌∷◌, ◌++◌, length, map, get_or, Option, Some, None, is_some, refl, sym, ap, ◌∙◌, inl, inr, arith}
 use Rattle.std.specs.List.{range_with_len}
-use Rattle.std.specs.Prelude.{Result}
 use Rattle.std.proofs.lemmas.Bool.{and_left, both_ways, cases_lt, le-ltb}
 use Rattle.std.proofs.lemmas.List.{get_or_past}
 use Rattle.std.proofs.lemmas.List.FromFn.{get_or-map-range_with_len, length-map-range_with_len, map-range_with_len_more}
@@ -73,7 +72,3 @@ single_count g = length-map-range_with_len (real_owner g 0) 0 g.vertices
 pub single_from : (g : DecodingGraph) (joins : List (ℕ × ℕ)) (owners : List (Option ℕ)) → joins ≡ []
     → owners ≡ (single_of g).owners → record { units = 1; joins = joins; owners = owners } ≡ single_of g
 single_from g joins owners none same = rw (none, same) refl
-
-pub each_if_ok : {T E : Type 0} (r : Result T E) (P Q : T → Type 0) → ((x : T) → P x → Q x) → IfOk r P → IfOk r Q
-each_if_ok (Ok x) P Q onward is = onward x is
-each_if_ok (Err e) P Q onward is = is

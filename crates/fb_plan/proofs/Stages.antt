@@ -4,12 +4,13 @@ use Rattle.std.specs.Option.{option_or}
 use Rattle.std.proofs.lemmas.Bool.{leb-false, or_parts}
 use Rattle.fb_graph.specs.Limits.{DecodingGraph, is_real_in}
 use Rattle.fb_plan.specs.Loads.{load_at}
-use Rattle.fb_plan.specs.Rules.{is_out_of_range, is_owned_twice, is_unowned, joins_of, least}
+use Rattle.fb_plan.specs.Rules.{is_out_of_range, is_owned_twice, is_unowned, joins_of}
+use Rattle.fb_graph.specs.Leasts.{least}
 use Rattle.fb_plan.specs.declared.loads.Measure.TheVariants.{Ranges}
 use Rattle.fb_plan.specs.declared.parts.Claim.{Claim}
 use Rattle.fb_plan.specs.declared.parts.Join.{Join}
 use Rattle.fb_plan.proofs.Fusions.{join_of, length-joins_of}
-use Rattle.fb_plan.proofs.Leasts.{least_agree, least_failed}
+use Rattle.fb_graph.proofs.Leasts.{least_agree, least_failed}
 
 -- the counts are those of the ranges
 abbrev pub AreCounts : DecodingGraph → List Claim → List ℕ → Type 0
@@ -48,9 +49,3 @@ second_fault a b x none some = rw (none, some) refl
 
 pub no_fault : {X : Type 0} (a b : Option X) → a ≡ None → b ≡ None → None ≡ option_or a b
 no_fault a b first second = rw (first, second) refl
-
-pub third_fault : {X : Type 0} (a b c : Option X) (x : X) → a ≡ None → b ≡ None → c ≡ Some x → Some x ≡ option_or a (option_or b c)
-third_fault a b c x first second some = rw (first, second, some) refl
-
-pub none_of_three : {X : Type 0} (a b c : Option X) → a ≡ None → b ≡ None → c ≡ None → None ≡ option_or a (option_or b c)
-none_of_three a b c first second third = rw (first, second, third) refl

@@ -1,7 +1,8 @@
 -- How the sub-problems of the nodes of a plan lie to each other.
-use Rattle.std.proofs.Common.{ℕ, ◌+◌, ◌-◌, ◌<◌, ◌≤◌, ◌≡◌, ◌⊎◌, Bool, true, false, ◌&&◌, ◌||◌, length, get_or, Option, Some, None, is_some, refl, sym, ap, ◌∙◌, subst, inl, inr, arith}
+use Rattle.std.proofs.Common.{ℕ, ◌+◌, ◌-◌, ◌<◌, ◌≤◌, ◌≡◌, ◌⊎◌, true, false, ◌&&◌, ◌||◌, length, get_or, Option, Some, None, is_some, refl, sym, ap, ◌∙◌, subst, inl, inr, arith}
+use Rattle.std.proofs.Math.Bool.{and_self}
 use Rattle.std.proofs.lemmas.Bool.{and_from, and_parts, both_ways, cases_lt, cond-true, cond-false, false_from_ne_true, lt-ltb, le-ltb, ltb-true, not-false, or_cases}
-use Rattle.std.proofs.lemmas.Option.{slice_get-get_or, slice_get_past}
+use Rattle.std.proofs.lemmas.Option.{slice_get-get_or, slice_get_past, same_Some, none-some}
 use Rattle.fb_graph.specs.Limits.{DecodingGraph, ShotValue, is_real_in, problem_of}
 use Rattle.fb_graph.specs.Laws.{IsPart}
 use Rattle.fb_graph.specs.declared.parts.Edge.{Edge}
@@ -29,25 +30,19 @@ pub fusion_of : (t : PlanTree) (n left right : ℕ) → children_of t n ≡ Some
     → (i : ℕ) × (i < length t.joins) × (n ≡ t.units + i) × (join_at t.joins i ≡ (left, right))
 fusion_of t n left right told = step (cases_lt n t.units) (cases_lt (n - t.units) (length t.joins))
   where
-    none_is_some : {X : Type 0} (o : Option X) (x : X) → o ≡ None → o ≡ Some x → ⊥
-    none_is_some o x none some = both_ways (is_some o) (ap is_some none) (ap is_some some)
-
-    some_is : {X : Type 0} (x y : X) → Some x ≡ Some y → x ≡ y
-    some_is x y e = cc
-
     step : (n < t.units) ⊎ (t.units ≤ n) → (n - t.units < length t.joins) ⊎ (length t.joins ≤ n - t.units)
         → (i : ℕ) × (i < length t.joins) × (n ≡ t.units + i) × (join_at t.joins i ≡ (left, right))
     step (inl unit) any =
-        absurd (none_is_some (children_of t n) (left, right) (cond-true _ None _ (lt-ltb n t.units unit)) told)
+        absurd (none-some (left, right) (sym (cond-true _ None _ (lt-ltb n t.units unit)) ∙ told))
     step (inr above) (inl less) = (
       n - t.units,
       less,
       omega arith,
-      some_is _ _ (sym (slice_get-get_or t.joins (n - t.units) (0, 0) less) ∙ sym (cond-false _ None _ (le-ltb n t.units above)) ∙ told),
+      same_Some _ _ (sym (slice_get-get_or t.joins (n - t.units) (0, 0) less) ∙ sym (cond-false _ None _ (le-ltb n t.units above)) ∙ told),
     )
     step (inr above) (inr beyond) =
-        absurd (none_is_some (children_of t n) (left, right)
-        (cond-false _ None _ (le-ltb n t.units above) ∙ slice_get_past t.joins (n - t.units) beyond) told)
+        absurd (none-some (left, right)
+        (sym (cond-false _ None _ (le-ltb n t.units above) ∙ slice_get_past t.joins (n - t.units) beyond) ∙ told))
 
 owned_up : (t : PlanTree) (a b : ℕ) (owner : Option ℕ) → ((m : ℕ) → is_within t a m ≡ true → is_within t b m ≡ true)
     → is_owner_within t a owner ≡ true → is_owner_within t b owner ≡ true
@@ -122,12 +117,8 @@ children_are_separated g t n left right shot plan told = record {
 
 pub root_is_whole : RootIsWhole
 root_is_whole g t v shot plan =
-    ap (λ b. is_real_in g v && b) (owned (owner_of t v) refl ∙ plan.owned v) ∙ twice (is_real_in g v)
+    ap (λ b. is_real_in g v && b) (owned (owner_of t v) refl ∙ plan.owned v) ∙ and_self (is_real_in g v)
   where
-    twice : (b : Bool) → (b && b) ≡ b
-    twice true = refl
-    twice false = refl
-
     owned : (owner : Option ℕ) → owner_of t v ≡ owner → is_owner_within t (root_of t) owner ≡ is_some owner
     owned None is = refl
     owned (Some m) is = below_root t plan.tree m (plan.owners v m is)

@@ -10,7 +10,8 @@ use Rattle.fb_graph.specs.Parity.{is_in}
 use Rattle.fb_graph.specs.Certificate.{AreDistinct}
 use Rattle.fb_graph.specs.Limits.{most_vertices}
 use Rattle.fb_graph.proofs.Members.{AreDistinct_push, is_in-append}
-use Rattle.fb_graph.proofs.Sets.{distinct_from_rising, is_in-head, is_in-range, is_in-tail, length-le_from_within, range_rises}
+use Rattle.fb_graph.proofs.Sets.{distinct_from_rising, is_in-range, length-le_from_within, range_rises}
+use Rattle.fb_graph.proofs.Unions.{distinct_append}
 use Rattle.fb_plan.specs.Plans.{PlanTree, IsTree, is_within, join_at, names, node_count, parent_from, parent_of, subtrees}
 use Rattle.fb_plan.specs.Layout.{IsLaidOut, IsPlaced, IsPlacedFrom, IsSorted, size_of, span_at, tree_of}
 use Rattle.fb_plan.specs.Reaches.{IsReach, reach_at}
@@ -41,9 +42,9 @@ parent_push a (first ∷ joins) join n = step (cases_Bool (names first n)) (pare
     step (inr here) rest =
         rw here (rest ∙ ap (λ k. option_or (parent_from (a + 1) joins n) (cond (names join n) (Some k) None)) (omega arith))
 
-or_none : (o : Option ℕ) → option_or o None ≡ o
-or_none None = refl
-or_none (Some x) = refl
+pub option_or-none : {X : Type 0} (o : Option X) → option_or o None ≡ o
+option_or-none None = refl
+option_or-none (Some x) = refl
 
 -- what a fusion names has no parent among the fusions before it
 unnamed_before : (t : PlanTree) → IsTree t → (i n : ℕ) → i < length t.joins → names (join_at t.joins i) n ≡ true
@@ -77,7 +78,7 @@ parents_more t tree parents i less count told n node =
 
     elsewhere : names (join_at t.joins i) n ≡ false
         → get_or parents n None ≡ option_or (parent_from t.units (take i t.joins) n) (cond (names (join_at t.joins i) n) (Some (t.units + i)) None)
-    elsewhere unnamed = rw unnamed (told n node ∙ sym (or_none (parent_from t.units (take i t.joins) n)))
+    elsewhere unnamed = rw unnamed (told n node ∙ sym (option_or-none (parent_from t.units (take i t.joins) n)))
 
     written : (n ≡ (join_at t.joins i).1) ⊎ (n ≡ (join_at t.joins i).1 → ⊥)
         → (n ≡ (join_at t.joins i).0) ⊎ (n ≡ (join_at t.joins i).0 → ⊥)
@@ -98,14 +99,6 @@ parents_more t tree parents i less count told n node =
         ∙ get_or-set_other parents (join_at t.joins i).0 n (Some (t.units + i)) None not_left
         ∙ elsewhere (or_from _ _ (ne_eqb (join_at t.joins i).0 n (λ e. not_left (sym e))) (ne_eqb (join_at t.joins i).1 n (λ e. not_right (sym e))))
 
-distinct-append : (xs ys : List ℕ) → AreDistinct xs → AreDistinct ys
-    → ((v : ℕ) → is_in xs v ≡ true → is_in ys v ≡ true → ⊥) → AreDistinct (xs ++ ys)
-distinct-append [] ys first second apart = second
-distinct-append (x ∷ xs) ys first second apart = (
-  is_in-append xs ys x ∙ or_from _ _ first.0 (false_from_ne_true (is_in ys x) (λ held. apart x (is_in-head x xs) held)),
-  distinct-append xs ys first.1 second (λ v in_xs in_ys. apart v (is_in-tail x xs v in_xs) in_ys),
-)
-
 pub distinct-by : (fuel : ℕ) (t : PlanTree) → IsTree t → (n : ℕ) → n < fuel → n < node_count t → AreDistinct (sub_at (subtrees t) n)
 distinct-by zero t tree n enough node = absurd (omega arith)
 distinct-by (suc fuel) t tree n enough node = step (λ k less here. distinct-by fuel t tree k less here) (cases_lt n t.units)
@@ -118,9 +111,10 @@ distinct-by (suc fuel) t tree n enough node = step (λ k less here. distinct-by 
         subst (λ k. AreDistinct (sub_at (subtrees t) k)) (sym is)
         (subst AreDistinct (sym (subtree_of_fusion t tree i less))
         (AreDistinct_push (sub_at (subtrees t) (join_at t.joins i).0 ++ sub_at (subtrees t) (join_at t.joins i).1) (t.units + i)
-        (distinct-append (sub_at (subtrees t) (join_at t.joins i).0) (sub_at (subtrees t) (join_at t.joins i).1)
+        (distinct_append (sub_at (subtrees t) (join_at t.joins i).0) (sub_at (subtrees t) (join_at t.joins i).1)
         (onward (join_at t.joins i).0 (omega arith) (omega arith)) (onward (join_at t.joins i).1 (omega arith) (omega arith))
-        (λ v in_left in_right. siblings_apart t tree i v less in_left in_right))
+        (λ v in_left.
+        false_from_ne_true (is_in (sub_at (subtrees t) (join_at t.joins i).1) v) (λ in_right. siblings_apart t tree i v less in_left in_right)))
         (is_in-append (sub_at (subtrees t) (join_at t.joins i).0) (sub_at (subtrees t) (join_at t.joins i).1) (t.units + i)
         ∙ or_from _ _
         (false_from_ne_true (is_within t (join_at t.joins i).0 (t.units + i)) (λ within. omega (arith, left, within-le t tree _ _ within)))

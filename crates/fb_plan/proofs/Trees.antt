@@ -1,12 +1,13 @@
 -- The subtrees of a tree: which nodes they hold, and how two of them lie to each other.
 use Rattle.std.proofs.Common.{ℕ, zero, suc, ◌+◌, ◌-◌, ◌<◌, ◌≤◌, ◌≡◌, ◌≢◌, ◌⊎◌, Bool, true, false, ◌||◌, eqb, List, [], ◌∷◌, ◌++◌, length, map, get_or, refl, sym, ap, ◌∙◌, subst, inl, inr, arith, length-append}
+use Rattle.std.proofs.Math.Bool.{or-false}
 use Rattle.std.specs.List.{range_with_len}
 use Rattle.std.proofs.Math.Seq.{get_or-append_seam}
 use Rattle.std.proofs.lemmas.Bool.{both_ways, cases_lt, eq-eqb, eqb-true, or_cases, or_left, or_right}
 use Rattle.std.proofs.lemmas.List.{get_or_append_left, get_or_past}
 use Rattle.std.proofs.lemmas.List.FromFn.{get_or-map-range_with_len, length-map-range_with_len}
 use Rattle.fb_graph.specs.Parity.{is_in}
-use Rattle.fb_graph.proofs.Members.{is_in-append, or_false}
+use Rattle.fb_graph.proofs.Members.{is_in-append}
 use Rattle.fb_plan.specs.Plans.{PlanTree, IsTree, join_at, names, node_count, subtrees, subtrees_from, is_within}
 
 abbrev pub sub_at : List (List ℕ) → ℕ → List ℕ
@@ -74,12 +75,12 @@ subtree_of_fusion t tree i less =
     (omega (arith, leaves-length t)) (tree.joins i less).left (tree.joins i less).right
 
 pub within_of_unit : (t : PlanTree) (n m : ℕ) → n < t.units → is_within t n m ≡ eqb n m
-within_of_unit t n m less = ap (λ xs. is_in xs m) (subtree_of_unit t n less) ∙ or_false (eqb n m)
+within_of_unit t n m less = ap (λ xs. is_in xs m) (subtree_of_unit t n less) ∙ or-false (eqb n m)
 
 or_three : (a b c : Bool) → ((a || b) || (c || false)) ≡ (a || (b || c))
 or_three true b c = refl
 or_three false true c = refl
-or_three false false c = or_false c
+or_three false false c = or-false c
 
 pub is_in_joined : (xs ys : List ℕ) (n m : ℕ) → is_in (xs ++ ys ++ n ∷ []) m ≡ (is_in xs m || (is_in ys m || eqb n m))
 is_in_joined xs ys n m =

@@ -4,15 +4,12 @@ use Rattle.std.specs.List.{range_with_len, list_any}
 use Rattle.std.specs.Option.{option_or}
 use Rattle.fb_graph.specs.Problem.{edge_at}
 use Rattle.fb_graph.specs.Limits.{DecodingGraph, is_real_in}
+use Rattle.fb_graph.specs.Leasts.{least}
 use Rattle.fb_plan.specs.Plans.{PlanTree, most_units, names, join_at, goes_across}
 use Rattle.fb_plan.specs.declared.parts.Claim.{Claim}
 use Rattle.fb_plan.specs.declared.parts.Join.{Join}
 use Rattle.fb_plan.specs.declared.faults.PlanFault.{PlanFault}
 use Rattle.fb_plan.specs.declared.faults.PlanFault.TheVariants.{TooManyUnits, BadRange, VertexUnowned, VertexTwice, ChildOutOfRange, ChildUsedTwice, NotOneRoot, EdgeAcross}
-
--- the least number below n that passes
-abbrev pub least : ℕ → (ℕ → Bool) → Option ℕ
-least n test = find test (range_with_len 0 n)
 
 -- the children of each fusion
 abbrev pub joins_of : List Join → List (ℕ × ℕ)

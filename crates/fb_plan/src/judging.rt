@@ -6,7 +6,8 @@ ghost use Rattle.fb_plan.specs.Loads.{IsClaim};
 ghost use Rattle.fb_graph.specs.Problem.{edge_at};
 ghost use Rattle.fb_graph.specs.Limits.{is_real_in};
 ghost use Rattle.fb_plan.specs.Plans.{are_unrelated, goes_across, owner_of};
-ghost use Rattle.fb_plan.specs.Rules.{child_fault, is_out_of_range, is_used_twice, joins_of, least, root_fault, twice_fault, unowned_fault, use_fault};
+ghost use Rattle.fb_plan.specs.Rules.{child_fault, is_out_of_range, is_used_twice, joins_of, root_fault, twice_fault, unowned_fault, use_fault};
+ghost use Rattle.fb_graph.specs.Leasts.{least};
 
 use crate::faults::PlanFault;
 use crate::loads::{Measure, loads};

@@ -1,24 +1,13 @@
 -- Bytes that are appended in several puts.
-use Rattle.std.proofs.Common.{◌≡◌, ℕ, zero, suc, zero-add, ◌+◌, ◌≤◌, ◌<◌, get_or, List, [], ◌∷◌, ◌++◌, Option, length, take, drop, map, refl, sym, ap, ◌∙◌, append_assoc, subst, arith, take-append-drop}
+use Rattle.std.proofs.Common.{◌≡◌, ℕ, ◌+◌, ◌≤◌, ◌<◌, get_or, List, [], ◌∷◌, ◌++◌, Option, length, take, drop, map, sym, ap, ◌∙◌, append_assoc, subst, take-append-drop, take-add}
 use Rattle.std.proofs.KnownBytes.{Appends-trans, Appends-nil, Appends-kept}
 use Rattle.std.proofs.lemmas.List.Folds.{concat-append}
 use Rattle.std.proofs.lemmas.List.{take_all, map_more, map-append, append-nil}
 use Rattle.fb_ports.specs.Causes.{Appends, AppendsPrefix, Keeps, concat}
 
--- nothing is a prefix of nothing
-take-nil : (n : ℕ) → take {A = ℕ} n [] ≡ []
-take-nil zero = refl
-take-nil (suc n) = refl
-
--- the first i bytes, and then n bytes of the rest, are the first i + n
-pub take-plus : (i n : ℕ) (xs : List ℕ) → take (i + n) xs ≡ take i xs ++ take n (drop i xs)
-take-plus zero n xs = ap (λ k. take k xs) (zero-add n)
-take-plus (suc i) n [] = take-nil (suc i + n) ∙ sym (take-nil n)
-take-plus (suc i) n (x ∷ xs) = let e : suc i + n ≡ suc (i + n) = omega arith in rw e (ap (λ l. x ∷ l) (take-plus i n xs))
-
 pub appends_onward : (a b c : Option (List ℕ)) (i n : ℕ) (xs : List ℕ)
     → Appends a b (take i xs) → Appends b c (take n (drop i xs)) → Appends a c (take (i + n) xs)
-appends_onward a b c i n xs p q = subst (Appends a c) (sym (take-plus i n xs)) (Appends-trans a b c _ _ p q)
+appends_onward a b c i n xs p q = subst (Appends a c) (sym (take-add i n xs)) (Appends-trans a b c _ _ p q)
 
 -- a prefix that is as long as the whole
 pub appends_whole : (a b : Option (List ℕ)) (i : ℕ) (xs : List ℕ) → length xs ≤ i → Appends a b (take i xs) → Appends a b xs

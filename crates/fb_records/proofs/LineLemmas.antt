@@ -1,6 +1,6 @@
 -- How a text falls into lines, one line at a time and in two pieces.
-use Rattle.std.proofs.Common.{◌≡◌, ℕ, suc, ◌-◌, ◌<◌, Bool, true, false, ◌||◌, eqb, List, [], ◌∷◌, ◌++◌, length, get_or, take, refl, sym, ap, subst, ◌∙◌, inl, inr, ◌⊎◌, arith}
-use Rattle.std.proofs.lemmas.Bool.{or_parts, eq-eqb, ne_eqb, eqb-true, cases_Bool}
+use Rattle.std.proofs.Common.{◌≡◌, ℕ, suc, ◌-◌, ◌<◌, true, false, ◌||◌, eqb, List, [], ◌∷◌, ◌++◌, length, get_or, take, refl, sym, ap, subst, ◌∙◌, inl, inr, ◌⊎◌, arith}
+use Rattle.std.proofs.lemmas.Bool.{or_parts, eq-eqb, ne_eqb, eqb-true, cases_Bool, or_right}
 use Rattle.std.proofs.lemmas.List.{append-nil}
 use Rattle.std.proofs.lemmas.List.Folds.{list_any-append}
 use Rattle.fb_records.specs.Lines.{holds, onto_first_part, whole_parts, last_part, without_return, after_line}
@@ -25,10 +25,7 @@ whole_parts_one s (b ∷ p) more h =
 
 holds_after : (s : ℕ) (p more : List ℕ) → holds s (p ++ s ∷ more) ≡ true
 holds_after s [] more = rw (eq-eqb s s refl) refl
-holds_after s (b ∷ p) more = or_right_true (eqb b s) _ (holds_after s p more) where
-  or_right_true : (x y : Bool) → y ≡ true → (x || y) ≡ true
-  or_right_true true y e = refl
-  or_right_true false y e = e
+holds_after s (b ∷ p) more = or_right (eqb b s) _ (holds_after s p more)
 
 holds_here : (s b : ℕ) (bytes : List ℕ) → eqb b s ≡ true → holds s (b ∷ bytes) ≡ true
 holds_here s b bytes e = rw e refl

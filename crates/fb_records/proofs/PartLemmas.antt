@@ -1,17 +1,9 @@
 -- Parts of some bytes between places.
-use Rattle.std.proofs.Common.{◌≡◌, ℕ, zero, suc, ◌+◌, ◌-◌, ◌<◌, ◌≤◌, false, List, [], ◌∷◌, ◌++◌, length, get_or, take, drop, refl, sym, ap, ◌∙◌, inl, inr, arith}
-use Rattle.std.proofs.lemmas.Bool.{cases_lt, ne_eqb}
-use Rattle.std.proofs.lemmas.List.{length-drop, take-append-le, drop-append-le, drop-drop, drop_more}
+use Rattle.std.proofs.Common.{◌≡◌, ℕ, ◌+◌, ◌-◌, ◌<◌, ◌≤◌, false, List, [], ◌∷◌, ◌++◌, length, get_or, take, drop, refl, ap, ◌∙◌, arith, take-add}
+use Rattle.std.proofs.lemmas.Bool.{ne_eqb}
+use Rattle.std.proofs.lemmas.List.{drop-drop, drop_more}
 use Rattle.fb_records.specs.Lines.{holds, part_of}
 use Rattle.fb_records.proofs.LineLemmas.{holds_none}
-
-take_two : (m n : ℕ) (xs : List ℕ) → take (m + n) xs ≡ take m xs ++ take n (drop m xs)
-take_two zero n xs = ap (λ (k : ℕ). take k xs) (let e : 0 + n ≡ n = omega arith in e)
-take_two (suc m) n [] = ap (λ (k : ℕ). take k []) (let e : suc m + n ≡ suc (m + n) = omega arith in e) ∙ sym (nothing n) where
-  nothing : (n : ℕ) → take {A = ℕ} n [] ≡ []
-  nothing zero = refl
-  nothing (suc n) = refl
-take_two (suc m) n (x ∷ xs) = ap (λ (k : ℕ). take k (x ∷ xs)) (let e : suc m + n ≡ suc (m + n) = omega arith in e) ∙ ap (λ (l : List ℕ). x ∷ l) (take_two m n xs)
 
 pub part_none : (xs : List ℕ) (a : ℕ) → part_of xs a a ≡ []
 part_none xs a = ap (λ (k : ℕ). take k (drop a xs)) (let e : a - a ≡ 0 = omega arith in e)
@@ -19,11 +11,11 @@ part_none xs a = ap (λ (k : ℕ). take k (drop a xs)) (let e : a - a ≡ 0 = om
 pub part_two : (xs : List ℕ) (a b c : ℕ) → a ≤ b → b ≤ c → part_of xs a c ≡ part_of xs a b ++ part_of xs b c
 part_two xs a b c ab bc =
     ap (λ (k : ℕ). take k (drop a xs)) (let e : c - a ≡ (b - a) + (c - b) = omega arith in e)
-    ∙ take_two (b - a) (c - b) (drop a xs)
+    ∙ take-add (b - a) (c - b) (drop a xs)
     ∙ ap (λ (l : List ℕ). part_of xs a b ++ take (c - b) l) (drop-drop (b - a) a xs ∙ ap (λ (k : ℕ). drop k xs) (let e : a + (b - a) ≡ b = omega arith in e))
 
 pub take_part : (xs : List ℕ) (a b : ℕ) → a ≤ b → take b xs ≡ take a xs ++ part_of xs a b
-take_part xs a b ab = ap (λ (k : ℕ). take k xs) (let e : b ≡ a + (b - a) = omega arith in e) ∙ take_two a (b - a) xs
+take_part xs a b ab = ap (λ (k : ℕ). take k xs) (let e : b ≡ a + (b - a) = omega arith in e) ∙ take-add a (b - a) xs
 
 part_one : (xs : List ℕ) (i : ℕ) → i < length xs → part_of xs i (i + 1) ≡ get_or xs i 0 ∷ []
 part_one xs i lt =
@@ -32,13 +24,6 @@ part_one xs i lt =
 -- one more byte
 pub part_more : (xs : List ℕ) (a i : ℕ) → a ≤ i → i < length xs → part_of xs a (i + 1) ≡ part_of xs a i ++ get_or xs i 0 ∷ []
 part_more xs a i le lt = part_two xs a i (i + 1) le (omega arith) ∙ ap (λ (l : List ℕ). part_of xs a i ++ l) (part_one xs i lt)
-
--- more bytes behind change no part
-pub part_kept : (xs more : List ℕ) (a b : ℕ) → b ≤ length xs → part_of (xs ++ more) a b ≡ part_of xs a b
-part_kept xs more a b le = elim (cases_lt a b) [
-  | inl lt ↦ ap (take (b - a)) (drop-append-le a xs more (omega arith)) ∙ take-append-le (b - a) (drop a xs) more (omega (arith, length-drop a xs))
-  | inr ge ↦ let none : b - a ≡ 0 = omega arith in ap (λ (k : ℕ). take k (drop a (xs ++ more))) none ∙ sym (ap (λ (k : ℕ). take k (drop a xs)) none)
-]
 
 -- a part whose next byte is none that is looked for
 pub part_holds_more : (s : ℕ) (xs : List ℕ) (a i : ℕ) → a ≤ i → i < length xs → (get_or xs i 0 ≡ s → ⊥) → holds s (part_of xs a i) ≡ false → holds s (part_of xs a (i + 1)) ≡ false

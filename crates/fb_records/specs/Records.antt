@@ -20,10 +20,6 @@ only ending = record { shots = []; ending = ending }
 abbrev pub in_front : {K : Type 0} → List ℕ → Records K → Records K
 in_front shot r = record { shots = shot ∷ r.shots; ending = r.ending }
 
--- so many shots before all the others
-abbrev pub all_in_front : {K : Type 0} → List (List ℕ) → Records K → Records K
-all_in_front shots r = record { shots = shots ++ r.shots; ending = r.ending }
-
 -- the ending, its refusal said otherwise
 abbrev pub ending_as : {K L : Type 0} → (K → L) → Ending K → Ending L
 ending_as say at_end = at_end

@@ -12,7 +12,6 @@ use Rattle.fb_graph.specs.Components.{Leads}
 use Rattle.fb_graph.specs.Alike.{AreAlike}
 use Rattle.fb_graph.specs.Dual.{Node, AreGrown, AreUnderOne, all_cuts, change_at, cover_of, height_of, layers_of, leaves, taller_node, top_at}
 use Rattle.fb_graph.specs.Limits.{IsWithinLimits}
-use Rattle.fb_graph.specs.Links.{AreEven}
 use Rattle.fb_graph.specs.Moves.{MayAbsorb}
 use Rattle.fb_graph.specs.Nests.{IsNest}
 use Rattle.fb_graph.specs.SourceWalks.{HaveWalks}
@@ -26,6 +25,7 @@ use Rattle.fb_graph.proofs.Nodes.{All-flat_map, All-pieces, layers_within}
 use Rattle.fb_graph.proofs.RaisedNests.{nest_absorbed}
 use Rattle.fb_graph.proofs.SourceWalks.{walks_absorbed}
 use Rattle.fb_graph.proofs.TallerNodes.{leaves_taller, outer_taller, taller_alike}
+use Rattle.fb_graph.proofs.TightLinks.{all_even}
 use Rattle.fb_links.specs.declared.walk.Step.{Step}
 use Rattle.fb_regions.specs.declared.marks.Hop.{Hop}
 use Rattle.fb_regions.specs.declared.marks.Mark.{Mark}
@@ -200,11 +200,8 @@ module _ (p : Problem) (regions : List Region) (marks : List (Option Mark)) (kep
       ∙ (ap (λ ns. set ns i (node_of marks' (raised w old))) (nodes_still marks regions w (Some own) out)
       ∙ (ap (set nodes i) raised_node ∙ there.placed (taller_node w) kept.nest.dual.names))
 
-  even : AreEven p
-  even j d less = (limits.each_edge j d less).even
-
   nest : IsNest p others
-  nest = nest_absorbed p nodes name k s.from w even may kept.nest
+  nest = nest_absorbed p nodes name k s.from w (all_even p limits) may kept.nest
 
   no_defect : is_in (leaves nodes) w ≡ false
   no_defect = false_from_ne_true (is_in (leaves nodes) w) (λ leaf. false≢true (subst IsSome may.uncovered (kept.nest.dual.defects w leaf)))

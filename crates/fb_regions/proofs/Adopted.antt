@@ -1,9 +1,10 @@
 -- A parent given to some nodes, one by one.
 use Rattle.std.proofs.Common.{ℕ, ◌≡◌, ◌==◌, ◌||◌, Bool, true, false, List, [], ◌∷◌, ◌++◌, map, set, get_or, Option, Some, None, refl, sym, ap, ◌∙◌, if◌then◌else◌}
+use Rattle.std.proofs.Math.Bool.{or-false}
 use Rattle.std.proofs.lemmas.Bool.{eq-eqb, eqb-true, false_from_ne_true, both_ways, or_right}
 use Rattle.fb_graph.specs.Parity.{is_in}
 use Rattle.fb_graph.specs.Certificate.{AreDistinct}
-use Rattle.fb_graph.proofs.Members.{is_in_push, or_false}
+use Rattle.fb_graph.proofs.Members.{is_in_push}
 use Rattle.fb_regions.specs.declared.region.Region.{Region}
 use Rattle.fb_regions.specs.InternalNodes.{reparented_region}
 use Rattle.fb_regions.proofs.Climbs.{next, no_next}
@@ -14,7 +15,7 @@ adopted_other cs name o r other =
     ap (λ b. if b then record r { parent = o } else r)
     (is_in_push cs name r.name
     ∙ (ap (λ b. is_in cs r.name || b) (false_from_ne_true (name == r.name) (λ e. both_ways (r.name == name) other (eq-eqb r.name name (sym (eqb-true name r.name e)))))
-    ∙ or_false (is_in cs r.name)))
+    ∙ or-false (is_in cs r.name)))
 
 adopted_own : (cs : List ℕ) (name : ℕ) (o : Option ℕ) (r : Region) → (r.name == name) ≡ true
     → reparented_region (cs ++ name ∷ []) o r ≡ record (reparented_region cs o r) { parent = o }

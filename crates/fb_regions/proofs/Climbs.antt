@@ -1,12 +1,13 @@
 -- From a node to the one that joins it, and on to the outer node.
-use Rattle.std.proofs.Common.{ℕ, suc, ◌≡◌, ◌+◌, ◌<◌, ◌≤◌, ◌==◌, Bool, true, false, List, [], ◌∷◌, get_or, Option, Some, None, refl, sym, ap, ◌∙◌, subst, arith, add-zero, if◌then◌else◌}
+use Rattle.std.proofs.Common.{ℕ, suc, ◌≡◌, ◌+◌, ◌<◌, ◌≤◌, ◌==◌, Bool, true, false, List, [], ◌∷◌, get_or, Option, Some, None, refl, sym, ap, ◌∙◌, subst, arith, add-zero, if◌then◌else◌, length, ◌-◌}
+use Rattle.std.specs.List.{position_or_len}
 use Rattle.std.specs.Prelude.{option_map}
 use Rattle.fb_graph.specs.Parity.{is_in}
 use Rattle.fb_regions.specs.declared.region.Climb.{Climb}
 use Rattle.fb_regions.specs.declared.region.Region.{Region}
 use Rattle.fb_regions.specs.InternalNodes.{radii_from, root_from}
 use Rattle.fb_regions.specs.InternalPlaces.{AreJoinedAbove, IsJoinedIn}
-use Rattle.fb_regions.proofs.ByName.{known_placed, names, other_name, placed, placed_here, placed_known, placed_past}
+use Rattle.fb_regions.proofs.ByName.{known_placed, names, other_name, placed, placed_here, placed_known, placed_past, first_placed}
 
 abbrev root_above : List Region → ℕ → Option ℕ → Option ℕ
 root_above rs x None = Some x
@@ -166,3 +167,11 @@ climb_read rs leaf c e = by (root_from rs leaf) refl
         let same : Some c ≡ Some (record { root = name; radii = radii_from rs leaf }) = e ∙ sym (climb_ended rs leaf name (radii_from rs leaf) f refl) in
         let is : c ≡ record { root = name; radii = radii_from rs leaf } = cc in
         (f ∙ ap (λ x. Some x.root) (sym is), ap (λ x. x.radii) is)
+
+-- a climb comes to an end: places rise
+pub climb_rises : (rs : List Region) (name i q : ℕ) (r : Region) → placed name rs ≡ Some i → IsClimb rs name i q r
+    → length rs - position_or_len (λ x. x.name == q) rs < length rs - position_or_len (λ x. x.name == name) rs
+climb_rises rs name i q r at up =
+    let one = first_placed rs name i at in
+    let two = first_placed rs q up.place up.at in
+    omega (arith, one.0, one.1, two.0, two.1, up.later)

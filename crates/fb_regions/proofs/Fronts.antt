@@ -9,7 +9,7 @@ use Rattle.fb_graph.specs.Ends.{AreAllApart}
 use Rattle.fb_graph.specs.Nests.{AreJoinedLater, child_sets}
 use Rattle.fb_graph.proofs.Among.{IsAmong, All_among, among_map, apart_among, apart_of_two, outer_or_not, same_among, top_among}
 use Rattle.fb_graph.proofs.Forests.{after, child_within}
-use Rattle.fb_graph.proofs.Members.{is_in-append}
+use Rattle.fb_graph.proofs.Members.{is_in-append, distinct_left}
 use Rattle.fb_graph.proofs.NestParts.{grove_of}
 use Rattle.fb_graph.proofs.Sets.{is_in-head}
 use Rattle.fb_regions.specs.declared.marks.Mark.{Mark}
@@ -25,13 +25,6 @@ use Rattle.fb_regions.proofs.Marking.{node_read}
 -- the list begins with the vertex if it holds it
 abbrev pub IsFront : ℕ → List ℕ → Type 0
 IsFront f vs = is_in vs f ≡ true → BeginsWith f vs
-
-pub distinct_left : (xs ys : List ℕ) → AreDistinct (xs ++ ys) → AreDistinct xs
-distinct_left [] ys d = tt
-distinct_left (x ∷ xs) ys d = (
-  (or_parts (is_in xs x) (is_in ys x) (sym (is_in-append xs ys x) ∙ d.0)).0,
-  distinct_left xs ys d.1,
-)
 
 pub distinct_apart : (xs ys : List ℕ) → AreDistinct (xs ++ ys) → (v : ℕ) → is_in xs v ≡ true → is_in ys v ≡ true → ⊥
 distinct_apart [] ys d v h k = false≢true h

@@ -1,5 +1,5 @@
 -- The index of the nodes, as nodes come and go.
-use Rattle.std.proofs.Common.{ℕ, zero, suc, ◌≡◌, ◌+◌, ◌<◌, ◌≤◌, ◌==◌, ◌||◌, Bool, true, false, List, [], ◌∷◌, ◌++◌, length, map, set, drop, get_or, Option, Some, None, refl, sym, ap, ◌∙◌, subst, arith, add-one, drop-cons, if◌then◌else◌}
+use Rattle.std.proofs.Common.{ℕ, zero, suc, ◌≡◌, ◌+◌, ◌<◌, ◌==◌, ◌||◌, Bool, true, false, List, [], ◌∷◌, ◌++◌, length, map, set, drop, get_or, Option, Some, None, refl, sym, ap, ◌∙◌, subst, arith, add-one, drop-cons, if◌then◌else◌}
 use Rattle.std.specs.List.{All, remove}
 use Rattle.std.proofs.lemmas.Bool.{eqb-true}
 use Rattle.std.proofs.lemmas.List.{length-map}
@@ -72,15 +72,6 @@ index_entered rs places other i r distinct at less index entries = record { entr
     by k out false e =
         index.entry k
         (ap (λ l. is_in (names l) k) (cut rs i r at less) ∙ (ap (λ b. b || is_in (names (drop (i + 1) rs)) k) e ∙ out))
-
-pub index_whole : (rs : List Region) (places : List (Option ℕ)) (i : ℕ) → length rs ≤ i → IsIndexBefore i rs places → IsIndex rs places
-index_whole rs places i past index = record { entry = λ k. index.entry k (ap (λ l. is_in (names l) k) (none rs i past)) }
-  where
-    none : (xs : List Region) (j : ℕ) → length xs ≤ j → drop j xs ≡ []
-    none [] zero less = refl
-    none [] (suc j) less = refl
-    none (x ∷ xs) zero less = absurd (omega arith)
-    none (x ∷ xs) (suc j) less = none xs j (omega arith)
 
 pub place_within : (ps : List (Option ℕ)) (k i : ℕ) → place_in ps k ≡ Some i → k < length ps
 place_within [] zero i e = absurd (let clash : None ≡ Some i = e in cc)

@@ -12,7 +12,6 @@ pub mod Found
 pub mod Fronts
 pub mod Indexed
 pub mod Joined
-pub mod Leaves
 pub mod Linked
 pub mod Linking
 pub mod Listed

@@ -1,5 +1,6 @@
 -- Names of regions that are put behind others, one after another.
-use Rattle.std.proofs.Common.{ℕ, ◌≡◌, ◌==◌, ◌||◌, Bool, true, false, List, [], ◌∷◌, ◌++◌, refl, sym, ap, ◌∙◌, subst}
+use Rattle.std.proofs.Common.{ℕ, ◌≡◌, ◌==◌, ◌||◌, true, false, List, [], ◌∷◌, ◌++◌, refl, sym, ap, ◌∙◌, subst}
+use Rattle.std.proofs.Math.Bool.{or-true}
 use Rattle.std.proofs.lemmas.Bool.{both_ways, false_from_ne_true, eqb-true, or_from}
 use Rattle.std.proofs.lemmas.List.{map-append}
 use Rattle.fb_graph.specs.Parity.{is_in}
@@ -21,11 +22,7 @@ distinct_before (x ∷ xs) ys y distinct =
   where
     there : (zs : List ℕ) → is_in (zs ++ y ∷ ys) y ≡ true
     there [] = is_in-head y ys
-    there (z ∷ zs) = ap (λ b. (z == y) || b) (there zs) ∙ by (z == y)
-      where
-        by : (b : Bool) → (b || true) ≡ true
-        by true = refl
-        by false = refl
+    there (z ∷ zs) = ap (λ b. (z == y) || b) (there zs) ∙ or-true (z == y)
 
 pub fresh_next : (f : ℕ → ℕ) (rs done rest all : List Region) (r : Region) → done ++ r ∷ rest ≡ all
     → AreDistinct (names (rs ++ renamed_regions f all)) → is_in (names (rs ++ renamed_regions f done)) (f r.name) ≡ false

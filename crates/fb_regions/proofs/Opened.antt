@@ -1,7 +1,8 @@
 -- A node of one defect more.
 use Rattle.std.proofs.Common.{ℕ, ◌≡◌, ◌<◌, ◌==◌, ◌⊎◌, inl, inr, true, false, List, [], ◌∷◌, ◌++◌, length, set, get_or, Option, Some, None, refl, sym, ap, ◌∙◌, subst, arith}
+use Rattle.std.proofs.Math.Bool.{or-false}
 use Rattle.std.specs.List.{All}
-use Rattle.std.proofs.lemmas.Bool.{both_ways, cases_eq, false_from_ne_true, eq-eqb, eqb-true, or_left}
+use Rattle.std.proofs.lemmas.Bool.{both_ways, cases_eq, false_from_ne_true, eqb-true}
 use Rattle.std.proofs.lemmas.List.{length-set, map-append}
 use Rattle.std.proofs.lemmas.List.Elements.{All-push}
 use Rattle.fb_graph.specs.Parity.{is_in}
@@ -9,11 +10,12 @@ use Rattle.fb_graph.specs.Problem.{Problem}
 use Rattle.fb_graph.specs.Certificate.{total_value}
 use Rattle.fb_graph.specs.Dual.{Node, all_cuts, cover_of, is_live, is_outer, layers_of, leaf, leaves, top_at}
 use Rattle.fb_graph.specs.Nests.{IsNest}
+use Rattle.fb_graph.specs.NewLeaves.{MayAddLeaf}
 use Rattle.fb_graph.specs.SourceWalks.{HaveWalks}
 use Rattle.fb_graph.proofs.Among.{IsAmong, All_among, among_All, among_either, among_left, among_live, among_right, cover_among, map_among, among_outer, outer_among, top_among, top_left}
 use Rattle.fb_graph.proofs.AppendedNodes.{cuts_merged}
-use Rattle.fb_graph.proofs.Members.{or_false}
-use Rattle.fb_graph.proofs.Sets.{is_in-All}
+use Rattle.fb_graph.proofs.NewLeaves.{height, is_leaf, nest_leaf_added, not_held, still_leaf, walks_leaf_added}
+use Rattle.fb_graph.proofs.Sets.{is_in-All, is_in-head}
 use Rattle.fb_regions.specs.declared.marks.Mark.{Mark}
 use Rattle.fb_regions.specs.declared.region.Region.{Region}
 use Rattle.fb_regions.specs.InternalNodes.{chain, first_of, mark_of, node_of, nodes_of, radii_from, stack}
@@ -21,14 +23,11 @@ use Rattle.fb_regions.specs.InternalKept.{BeginsIn, CameBy, HasMarks, HasParent,
 use Rattle.fb_regions.specs.InternalListings.{BeginAlike, BeginsFirst, IsListed}
 use Rattle.fb_regions.specs.Moves.{BeginsWith}
 use Rattle.fb_regions.proofs.Begun.{StayBegun, all_begun, lists_still}
-use Rattle.fb_regions.proofs.Leaves.{height, leaf_still, nest_opened, not_in_cut, own_leaf, walks_opened}
 use Rattle.fb_regions.proofs.Listings.{begins_in, listed_one}
 use Rattle.fb_regions.proofs.Marking.{has_still, mark_new, mark_other, node_still, nodes_still}
 use Rattle.fb_regions.proofs.Moved.{covered_in, from_marked, in_top, marked_moved, not_covered, some_cover, unmarked}
 use Rattle.fb_regions.proofs.Parents.{childless_last, childless_push, parents_push}
 use Rattle.fb_regions.proofs.Radii.{IsBare, no_radii, radii_push}
-use Rattle.fb_graph.proofs.Forests.{cuts_under}
-use Rattle.fb_graph.proofs.NestParts.{grove_of}
 
 -- the region of one defect
 pub record IsLeafRegion (name v : ℕ) (r : Region) : Type 0 where
@@ -78,6 +77,9 @@ module _ (p : Problem) (regions : List Region) (marks : List (Option Mark)) (kep
   abbrev marks' : List (Option Mark)
   marks' = set marks v (Some m)
 
+  may : MayAddLeaf p nodes name v
+  may = record { fresh = fresh; real = real; uncovered = free }
+
   out : (n : Node) → IsAmong n nodes → is_in n.top.vertices v ≡ false
   out = not_covered p nodes kept.nest v free
 
@@ -87,7 +89,7 @@ module _ (p : Problem) (regions : List Region) (marks : List (Option Mark)) (kep
       ∙ (ap (λ l. l ++ node_of marks' new ∷ []) (nodes_still marks regions v (Some m) out) ∙ ap (λ n. nodes ++ n ∷ []) (leaf_node marks' name v new is))
 
   nest : IsNest p others
-  nest = nest_opened p nodes name v fresh real free kept.nest
+  nest = nest_leaf_added p nodes name v may kept.nest
 
   outer_still : (x : ℕ) → is_outer nodes x ≡ true → is_outer others x ≡ true
   outer_still x outer =
@@ -120,27 +122,27 @@ module _ (p : Problem) (regions : List Region) (marks : List (Option Mark)) (kep
       (covered_in p others nest over.node (among_left nodes (leaf name v ∷ []) over.node over.among) u over.holds)
       (ap (λ l. is_in l mk.source) (top_left nodes (leaf name v ∷ []) mk.leaf (in_top nodes mk.leaf mk.source old.leaf)) ∙ old.leaf)
       (childless_push regions new mk.leaf old.childless)
-      (height p nodes name v fresh real free kept.nest u)
+      (height p nodes name v may kept.nest u)
       (radii_push regions new is.radius is.parent mk.leaf)
-      (leaf_still p nodes name v fresh real free kept.nest)
+      (still_leaf p nodes name v may kept.nest)
       (λ s e.
       let (b, has) = from_marked p (leaves nodes) marks u mk s e old.came in
       still s.from (λ same. let none : mark_of marks s.from ≡ None = ap (mark_of marks) same ∙ unmarked p regions marks kept v free in absurd (let clash : None ≡ Some b = sym none ∙ has in cc)))
 
   own_marked : IsMarked p others (regions ++ new ∷ []) marks' v m
   own_marked = record {
-    covered = covered_in p others nest (leaf name v) (among_right nodes (leaf name v ∷ []) (leaf name v) (inl refl)) v own_in;
+    covered = covered_in p others nest (leaf name v) (among_right nodes (leaf name v ∷ []) (leaf name v) (inl refl)) v (is_in-head v []);
     leaf =
         ap (λ x. is_in (top_at others x) m.source) own.leaf
         ∙ (ap (λ s. is_in s m.source) (top_among others nest.dual.names (leaf name v) (among_right nodes (leaf name v ∷ []) (leaf name v) (inl refl)))
-        ∙ (ap (is_in (v ∷ [])) own.source ∙ own_in));
+        ∙ (ap (is_in (v ∷ [])) own.source ∙ is_in-head v []));
     childless = ap (is_childless (regions ++ new ∷ [])) own.leaf ∙ childless_last regions new name is.name_is is.children;
-    defect = ap (is_in (leaves others)) own.source ∙ own_leaf p nodes name v fresh real free kept.nest;
+    defect = ap (is_in (leaves others)) own.source ∙ is_leaf p nodes name v may kept.nest;
     balance =
         omega (
           arith,
           own.distance,
-          height p nodes name v fresh real free kept.nest v,
+          height p nodes name v may kept.nest v,
           kept.nest.dual.uncovered v free,
           ap (radii_from (regions ++ new ∷ [])) own.leaf,
           radii_push regions new is.radius is.parent name,
@@ -148,12 +150,9 @@ module _ (p : Problem) (regions : List Region) (marks : List (Option Mark)) (kep
         );
     came =
         subst (CameBy p (leaves others) marks' v m) (sym own.by)
-        (own_leaf p nodes name v fresh real free kept.nest, own.source, own.distance);
+        (is_leaf p nodes name v may kept.nest, own.source, own.distance);
   }
     where
-      own_in : is_in (v ∷ []) v ≡ true
-      own_in = or_left (v == v) false (eq-eqb v v refl)
-
       none_bare : All (IsBare name) regions
       none_bare =
           among_All (IsBare name) regions
@@ -166,7 +165,7 @@ module _ (p : Problem) (regions : List Region) (marks : List (Option Mark)) (kep
   pub kept_opened : IsKept p (regions ++ new ∷ []) marks'
   kept_opened = record {
     nest = subst (IsNest p) (sym opened_nodes) nest;
-    walks = subst (HaveWalks p) (sym opened_nodes) (walks_opened p nodes name v fresh real free kept.nest kept.walks);
+    walks = subst (HaveWalks p) (sym opened_nodes) (walks_leaf_added p nodes name v may kept.nest kept.walks);
     room = length-set marks v (Some m) ∙ kept.room;
     radii = All-push (λ r. r.radius ≡ total_value (layers_of (node_of marks' r))) regions new
         (among_All (λ r. r.radius ≡ total_value (layers_of (node_of marks' r))) regions
@@ -182,7 +181,7 @@ module _ (p : Problem) (regions : List Region) (marks : List (Option Mark)) (kep
         subst (All (λ c. HasMarks marks' c.vertices)) (sym (ap all_cuts opened_nodes ∙ cuts_merged nodes (leaf name v ∷ [])))
         (All-push (λ c. HasMarks marks' c.vertices) (all_cuts nodes) (leaf name v).top
         (λ i d less. has_still marks (get_or (all_cuts nodes) i d).vertices v (Some m)
-        (not_in_cut p nodes name v fresh real free kept.nest (get_or (all_cuts nodes) i d) (cuts_under nodes (grove_of p nodes kept.nest) i d less))
+        (not_held p nodes name v may kept.nest i d less)
         (kept.sets i d less))
         own_set);
     listed =
@@ -196,12 +195,12 @@ module _ (p : Problem) (regions : List Region) (marks : List (Option Mark)) (kep
     where
       own_set : HasMarks marks' (v ∷ [])
       own_set u within =
-          let same : v ≡ u = eqb-true v u (sym (or_false (v == u)) ∙ within) in (
+          let same : v ≡ u = eqb-true v u (sym (or-false (v == u)) ∙ within) in (
             m,
             ap (mark_of marks') (sym same) ∙ mark_new marks v (Some m) below,
             record {
               rank = omega (arith, own.rank);
-              source = ap (is_in (v ∷ [])) own.source ∙ or_left (v == v) false (eq-eqb v v refl);
+              source = ap (is_in (v ∷ [])) own.source ∙ is_in-head v [];
               step = subst (BeginsIn (v ∷ [])) (sym own.by) tt;
             },
           )

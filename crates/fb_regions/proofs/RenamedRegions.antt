@@ -19,10 +19,6 @@ pub children_renamed : (f : ℕ → ℕ) (r : Region) → (renamed_region f r).c
 children_renamed f r =
     with_items_is r.children (map f r.children.items) (length-map r.children.items f ∙ sym r.children.ok.0)
 
-pub names_renamed : (f : ℕ → ℕ) (rs : List Region) → names (renamed_regions f rs) ≡ map f (names rs)
-names_renamed f [] = refl
-names_renamed f (r ∷ rs) = ap (λ l. f r.name ∷ l) (names_renamed f rs)
-
 -- no two of the regions get the same name
 abbrev pub AreApartBy : (ℕ → ℕ) → List Region → Type 0
 AreApartBy f rs = (a b : ℕ) → is_in (names rs) a ≡ true → is_in (names rs) b ≡ true → f a ≡ f b → a ≡ b

@@ -1,10 +1,10 @@
 -- The values of a table over few of many numbers.
 use Rattle.std.proofs.Common.{ℕ, zero, suc, ◌≡◌, ◌+◌, ◌-◌, ◌≤◌, ◌<◌, ◌==◌, ◌&&◌, ◌⊎◌, inl, inr, Bool, true, false, not, ◌||◌, List, [], ◌∷◌, ◌++◌, length, get_or, set, Some, None, refl, sym, ap, ◌∙◌, arith, if◌then◌else◌}
+use Rattle.std.proofs.Math.Bool.{and-false}
 use Rattle.std.proofs.lemmas.Bool.{both_ways, cases_eq, cases_lt, eq-eqb, eqb-true, false_from_ne_true, ne_eqb, or_parts}
 use Rattle.std.specs.List.{swap_remove}
 use Rattle.fb_graph.specs.Parity.{is_in}
 use Rattle.fb_graph.specs.Certificate.{AreDistinct}
-use Rattle.fb_graph.proofs.ParitySums.{and-false}
 use Rattle.fb_graph.proofs.Sets.{equal_sym, is_in-cases, is_in_at}
 use Rattle.fb_regions.specs.Sparse.{Sparse, with_value, replaced_values, value_by, value_of}
 use Rattle.fb_regions.proofs.Stored.{length-swapped, swapped_here, swapped_other}

@@ -9,9 +9,9 @@ use Rattle.fb_graph.specs.declared.parts.Cut.{Cut}
 use Rattle.fb_graph.specs.Parity.{is_in}
 use Rattle.fb_graph.specs.Problem.{Problem}
 use Rattle.fb_graph.specs.Certificate.{AreDistinct, total_value}
-use Rattle.fb_graph.specs.Dual.{Node, AreApart, all_cuts, cover_of, first_vertices, is_empty, is_live, is_outer, layers_of, top_at}
+use Rattle.fb_graph.specs.Dual.{Node, all_cuts, cover_of, first_vertices, is_empty, is_live, is_outer, layers_of, top_at}
 use Rattle.fb_graph.specs.Moves.{MaySplit, split_nodes}
-use Rattle.fb_graph.specs.Nests.{IsNest, IsFilled, AreJoinedLater}
+use Rattle.fb_graph.specs.Nests.{IsNest, IsFilled}
 use Rattle.fb_graph.specs.SourceWalks.{HaveWalks}
 use Rattle.fb_graph.proofs.Among.{IsAmong, All_among, among_All, among_outer, cover_among, from_concat, live_among, map_among, outer_among, same_among, top_among}
 use Rattle.fb_graph.proofs.InsertedCuts.{removed_All}
@@ -19,6 +19,7 @@ use Rattle.fb_graph.proofs.Places.{among_split, split_among}
 use Rattle.fb_graph.proofs.Sets.{is_in-All, is_in-head}
 use Rattle.fb_graph.proofs.SourceWalks.{walks_split}
 use Rattle.fb_graph.proofs.SplitNests as splitting
+use Rattle.fb_graph.proofs.Forests.{one_parent}
 use Rattle.fb_regions.specs.declared.marks.Mark.{Mark}
 use Rattle.fb_regions.specs.declared.region.Region.{Region}
 use Rattle.fb_regions.specs.InternalNodes.{reparented_region, children_from, mark_of, node_of, nodes_of, radii_from}
@@ -64,17 +65,6 @@ removed_nodes marks (r ∷ rs) (suc i) name old distinct at less named =
     (ap (is_in (map (λ s. s.name) rs)) (eqb-true r.name name e ∙ sym named) ∙ name_known rs i old at (omega arith))) in
     ap (λ l. node_of marks r ∷ l) (removed_nodes marks rs i name old distinct.1 at (omega arith) named)
     ∙ sym (ap (λ b. if not b then node_of marks r ∷ split_nodes name (nodes_of marks rs) else split_nodes name (nodes_of marks rs)) other)
-
--- two nodes that join the same one are one
-joined_once : (ns : List Node) → AreJoinedLater ns → (m n : Node) → IsAmong m ns → IsAmong n ns → (c : ℕ) → is_in m.children c ≡ true
-    → is_in n.children c ≡ true → m ≡ n
-joined_once [] joined m n a b c h k = absurd a
-joined_once (x ∷ xs) joined m n (inl e) (inl f) c h k = sym e ∙ f
-joined_once (x ∷ xs) joined m n (inl e) (inr b) c h k =
-    absurd (both_ways (is_in n.children c) (All_among (λ y. AreApart x.children y.children) xs joined.1 n b c (ap (λ y. is_in y.children c) e ∙ h)) k)
-joined_once (x ∷ xs) joined m n (inr a) (inl f) c h k =
-    absurd (both_ways (is_in m.children c) (All_among (λ y. AreApart x.children y.children) xs joined.1 m a c (ap (λ y. is_in y.children c) f ∙ k)) h)
-joined_once (x ∷ xs) joined m n (inr a) (inr b) c h k = joined_once xs joined.2 m n a b c h k
 
 children_left : (rs : List Region) (i q : ℕ) (old : Region) → old ≡ get_or rs i old → i < length rs → (old.name ≡ q → ⊥)
     → children_from (remove rs i) q ≡ children_from rs q
@@ -188,7 +178,7 @@ module _ (p : Problem) (regions : List Region) (marks : List (Option Mark)) (kep
       by (Some q) f h =
           let is = joiner marks rs q s.name h in
           let one : node_of marks is.region ≡ node_of marks old =
-          joined_once nodes kept.nest.forest.joined (node_of marks is.region) (node_of marks old)
+          one_parent nodes kept.nest.forest.joined (node_of marks is.region) (node_of marks old)
           (map_among (node_of marks) regions is.region (some is.region (inr is.among))) among s.name is.joins (ap (λ x. is_in cs x.name) e ∙ child) in
           inr (ap (λ x. x.parent) (sym e) ∙ (f ∙ ap Some (sym is.named ∙ (ap (λ n. n.name) one ∙ there.named))))
 
@@ -214,7 +204,7 @@ module _ (p : Problem) (regions : List Region) (marks : List (Option Mark)) (kep
       let parts = among_split name nodes q a in
       false_from_ne_true (is_in q.children x)
       (λ h.
-      parts.1 (ap (λ n. n.name) (joined_once nodes kept.nest.forest.joined q (node_of marks old) parts.0 among x h child) ∙ there.named)))
+      parts.1 (ap (λ n. n.name) (one_parent nodes kept.nest.forest.joined q (node_of marks old) parts.0 among x h child) ∙ there.named)))
 
   parents_left : (rs : List Region) (j : ℕ) → ((r : Region) → IsAmong r rs → IsAmong r regions) → old ≡ get_or rs j old → j < length rs → HaveParents nodes rs
       → HaveParents others (map (reparented_region cs None) (remove rs j))

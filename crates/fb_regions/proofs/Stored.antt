@@ -1,5 +1,6 @@
 -- Numbers that are stored in a list, with the place of each.
 use Rattle.std.proofs.Common.{ℕ, zero, suc, ◌≡◌, ◌+◌, ◌-◌, ◌≤◌, ◌<◌, ◌==◌, ◌&&◌, ◌⊎◌, inl, inr, Bool, true, false, not, ◌||◌, sum_by, subst, List, [], ◌∷◌, ◌++◌, length, length-append, get_or, set, All, refl, sym, ap, ◌∙◌, arith}
+use Rattle.std.proofs.Math.Bool.{and-true, and-false}
 use Rattle.std.proofs.lemmas.Bool.{both_ways, cases_eq, cases_lt, eq-eqb, eqb-true, false_from_ne_true}
 use Rattle.std.proofs.lemmas.List.{get_or-set_same, get_or-set_other, get_or-take, get_or_append_left, get_or_default, get_or_push, length-set, length-take-le}
 use Rattle.std.proofs.lemmas.List.Elements.{All-from_get_or, All-push}
@@ -11,8 +12,8 @@ use Rattle.std.proofs.lemmas.List.Sums.{get_or-le-sum_by}
 use Rattle.std.proofs.lemmas.Grind.{get_or_default_zero}
 use Rattle.fb_graph.specs.Parity.{is_in}
 use Rattle.fb_graph.specs.Certificate.{AreDistinct}
-use Rattle.fb_graph.proofs.Sets.{one_if, count_equal-le, equal_sym, is_in-All, is_in_at, is_in-range, length-le_from_within, distinct_from_rising, range_rises}
-use Rattle.fb_graph.proofs.ParitySums.{and-true, and-false}
+use Rattle.fb_graph.specs.Counts.{as_count}
+use Rattle.fb_graph.proofs.Sets.{count_equal-le, equal_sym, is_in-All, is_in_at, is_in-range, length-le_from_within, distinct_from_rising, range_rises}
 use Rattle.fb_regions.specs.InternalSparse.{IsStored}
 
 -- a list is distinct whose members have its places, counted from c on
@@ -58,12 +59,12 @@ absent_rest x xs ys distinct moved =
     let part : one (get_or ys i d) ≤ sum_by one ys = get_or-le-sum_by one ys i d less in
     let count : sum_by one ys + one x ≡ sum_by one xs = sum_by_popped one x xs ys moved in
     let few : sum_by one xs ≤ 1 = count_equal-le xs x distinct in
-    absurd (omega (arith, part, count, few, ap one_if same, ap one_if (eq-eqb x x refl)))))
+    absurd (omega (arith, part, count, few, ap as_count same, ap as_count (eq-eqb x x refl)))))
     x within)
     (eq-eqb x x refl))
   where
     one : ℕ → ℕ
-    one u = one_if (u == x)
+    one u = as_count (u == x)
 
 -- which numbers are left when one is taken out of a distinct list
 pub is_in_removed : (xs : List ℕ) (i x : ℕ) → i < length xs → get_or xs i 0 ≡ x → AreDistinct xs

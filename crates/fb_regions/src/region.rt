@@ -102,8 +102,13 @@ pub fn adopt(
     }
 }
 
-/// So many vertices back from one, each listed before the next, the last one last.
-fn listed(alloc: Global, marks: &Marks, count: usize, last: u32) -> Result<Vec<u32>, NoMemory>
+/// `count` vertices back from `last`, each listed before the next one; `last` is the last of them.
+fn vertices_back(
+    alloc: Global,
+    marks: &Marks,
+    count: usize,
+    last: u32,
+) -> Result<Vec<u32>, NoMemory>
     ensures { IfOk result (λ v. v.items ≡ chain marks.now count last) }
 {
     let mut vertices = Vec::with_capacity(alloc, count)?;
@@ -120,9 +125,9 @@ fn listed(alloc: Global, marks: &Marks, count: usize, last: u32) -> Result<Vec<u
 pub fn layers(alloc: Global, marks: &Marks, region: &Region) -> Result<Vec<Cut>, NoMemory>
     ensures { IfOk result (λ v. v.items ≡ layers_of (node_of marks.now region.now)) }
 {
-    let added = listed(alloc, marks, region.added, region.last)?;
+    let added = vertices_back(alloc, marks, region.added, region.last)?;
     let mut layers = Vec::new(alloc);
-    let mut set = listed(alloc, marks, region.base, region.base_last)?;
+    let mut set = vertices_back(alloc, marks, region.base, region.base_last)?;
     for v in added.as_slice() {
         let below = cut(alloc, marks.under(*v), set.as_slice())?;
         layers.push(below)?;
@@ -147,8 +152,8 @@ pub fn put_cuts(
     if region.radius == 0 {
         return Ok(());
     }
-    let added = listed(alloc, marks, region.added, region.last)?;
-    let mut set = listed(alloc, marks, region.base, region.base_last)?;
+    let added = vertices_back(alloc, marks, region.added, region.last)?;
+    let mut set = vertices_back(alloc, marks, region.base, region.base_last)?;
     for v in added.as_slice() {
         put_cut(alloc, marks.under(*v), set.as_slice(), cuts)?;
         set.push(*v)?;
@@ -190,8 +195,8 @@ fn cut(alloc: Global, value: u64, set: &[u32]) -> Result<Cut, NoMemory>
 pub fn vertices(alloc: Global, marks: &Marks, region: &Region) -> Result<Vec<u32>, NoMemory>
     ensures { IfOk result (λ v. v.items ≡ (node_of marks.now region.now).top.vertices) }
 {
-    let added = listed(alloc, marks, region.added, region.last)?;
-    let mut vertices = listed(alloc, marks, region.base, region.base_last)?;
+    let added = vertices_back(alloc, marks, region.added, region.last)?;
+    let mut vertices = vertices_back(alloc, marks, region.base, region.base_last)?;
     vertices.extend_from_slice(added.as_slice())?;
     Ok(vertices)
 }

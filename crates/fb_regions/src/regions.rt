@@ -75,7 +75,7 @@ impl Model for SpareRegions {
 
 impl SpareRegions {
     /// These lists and marks, emptied.
-    fn emptied(
+    fn from_used(
         mut regions: Vec<Region>,
         mut places: Vec<Option<usize>>,
         mut marks: Marks,
@@ -155,7 +155,7 @@ impl<S: Scope> Regions<S> {
             places,
             marks,
         } = self;
-        SpareRegions::emptied(regions, places, marks)
+        SpareRegions::from_used(regions, places, marks)
     }
 
     /// The nodes of two separated parts as those of a whole. The left one's names stay, and the right one's nodes get the
@@ -207,7 +207,7 @@ impl<S: Scope> Regions<S> {
         } = right;
         take_marks(&mut marks, &more, &names);
         take_nodes(&mut regions, &mut places, others, &names)?;
-        let spare = SpareRegions::emptied(Vec::new(alloc), other_places, more);
+        let spare = SpareRegions::from_used(Vec::new(alloc), other_places, more);
         let merged = Regions {
             scope: *scope,
             regions,

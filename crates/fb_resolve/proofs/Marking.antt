@@ -4,9 +4,10 @@ use Rattle.std.proofs.Math.ListN.{set}
 use Rattle.std.proofs.lemmas.Bool.{both_ways, cases_Bool, eqb-true, eqb-false}
 use Rattle.std.proofs.lemmas.List.{get_or-set_other, get_or-set_same}
 use Rattle.std.proofs.lemmas.List.Sums.{sum_by-set}
-use Rattle.fb_blossoms.specs.Nodes.{AreWithin, IsNested, IsOuter, IsParent, Node, cycle_at, cycle_of, defects_at, is_live, is_on, node_at}
+use Rattle.std.proofs.lemmas.Option.{same_Some}
+use Rattle.fb_blossoms.specs.Nodes.{AreWithin, IsNested, IsParent, Node, cycle_at, cycle_of, defects_at, is_live, is_on, node_at}
 use Rattle.fb_blossoms.proofs.Rounds.{child_within}
-use Rattle.fb_resolve.specs.InternalMarks.{AreClosed, IsMarkedUp, is_marked}
+use Rattle.fb_resolve.specs.InternalMarks.{is_marked}
 
 abbrev pub unmarked : Bool → ℕ
 unmarked b = cond b 0 1
@@ -31,23 +32,6 @@ pub record IsGoingUp (store : List (Option Node)) (old marks : List Bool) (node 
       → (is_marked old x ≡ true) ⊎ AreWithin (defects_at store node) (defects_at store x)
   pub within : (y : ℕ) → next ≡ Some y → AreWithin (defects_at store node) (defects_at store y)
 
-some_is : (x y : ℕ) → Some x ≡ Some y → x ≡ y
-some_is x y e = cc
-
-pub going_starts : (store : List (Option Node)) (old : List Bool) (node : ℕ) → AreClosed store old → is_live store node ≡ true
-    → IsGoingUp store old old node (Some node)
-going_starts store old node closed live = record {
-  live = λ y e. ap (is_live store) (some_is y node (sym e)) ∙ live;
-  closed = λ p x on marked. inl (closed p x on marked);
-  reached = inr refl;
-  kept = λ x h. h;
-  only = λ x h. inl h;
-  within = λ y e d h. ap (λ z. is_in_defects z d) (some_is y node (sym e)) ∙ h;
-}
-  where
-    is_in_defects : ℕ → ℕ → Bool
-    is_in_defects z d = Rattle.fb_blossoms.specs.Nodes.is_in (defects_at store z) d
-
 parent_live : (o : Option Node) (y : ℕ) → is_on (cycle_of o) y ≡ true → is_some o ≡ true
 parent_live None y on = absurd (both_ways false refl on)
 parent_live (Some n) y on = refl
@@ -58,7 +42,7 @@ pub going_on : (store : List (Option Node)) (old marks : List Bool) (node y : �
 going_on store old marks node y next nested up less none parent = record {
   live = λ p e. parent_live (node_at store p) y (on_next p e);
   closed = closed;
-  reached = inl (elim up.reached [ inl h ↦ kept node h | inr e ↦ here node (some_is y node e) ]);
+  reached = inl (elim up.reached [ inl h ↦ kept node h | inr e ↦ here node (same_Some y node e) ]);
   kept = λ x h. kept x (up.kept x h);
   only = only;
   within = λ p e d h. child_within store nested p y (on_next p e) d (up.within y refl d h);
@@ -90,7 +74,7 @@ going_on store old marks node y next nested up less none parent = record {
       | inr e ↦
           elim (up.closed p x on (sym (other x (λ same. eqb-false y x e (sym same))) ∙ h)) [
             | inl marked ↦ inl (kept p marked)
-            | inr same ↦ inl (here p (some_is y p same))
+            | inr same ↦ inl (here p (same_Some y p same))
           ]
     ]
 
@@ -102,13 +86,3 @@ going_on store old marks node y next nested up less none parent = record {
           inr (subst P (eqb-true y x e) (up.within y refl))
       | inr e ↦ up.only x (sym (other x (λ same. eqb-false y x e (sym same))) ∙ h)
     ]
-
-pub going_done : (store : List (Option Node)) (old marks : List Bool) (node : ℕ) (next : Option ℕ)
-    → IsGoingUp store old marks node next → ((y : ℕ) → next ≡ Some y → is_marked marks y ≡ true)
-    → IsMarkedUp store old marks node
-going_done store old marks node next up end = record {
-  closed = λ p x on h. elim (up.closed p x on h) [ inl m ↦ m | inr e ↦ end p e ];
-  marked = elim up.reached [ inl m ↦ m | inr e ↦ end node e ];
-  kept = up.kept;
-  only = up.only;
-}

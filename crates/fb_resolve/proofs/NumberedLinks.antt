@@ -1,15 +1,14 @@
 -- The links that solve a part by their numbers.
 use Rattle.std.proofs.Common.{◌≡◌, inl, inr, ℕ, ◌||◌, ◌&&◌, ◌==◌, Bool, true, false, List, [], ◌∷◌, ◌++◌, map, flat_map, All, refl, sym, ◌∙◌, ap, subst, if◌then◌else◌}
 use Rattle.std.specs.List.{list_any}
-use Rattle.std.proofs.lemmas.Bool.{and_parts, both_ways, eq-eqb, or_left}
+use Rattle.std.proofs.lemmas.Bool.{and_parts, both_ways, eq-eqb, or_left, and_from}
 use Rattle.std.proofs.lemmas.List.{map-append}
 use Rattle.std.proofs.lemmas.List.Elements.{All-append, All-cons, All-head, All-tail, All-nil}
-use Rattle.std.proofs.lemmas.List.Folds.{list_any-append}
 use Rattle.fb_graph.specs.Parity.{is_in}
 use Rattle.fb_graph.specs.Laws.{Link}
 use Rattle.fb_graph.specs.Dual.{Node, defects_of, is_empty, is_live, leaves, top_at}
 use Rattle.fb_graph.specs.Nests.{IsNest, child_sets}
-use Rattle.fb_graph.proofs.Among.{IsAmong, All_among, among_All, live_among, top_among}
+use Rattle.fb_graph.proofs.Among.{IsAmong, All_among, among_All, live_among, top_among, All_unmapped}
 use Rattle.fb_graph.proofs.NestParts.{top_is_odd}
 use Rattle.fb_graph.proofs.Sets.{is_in-All}
 use Rattle.fb_links.specs.declared.cycle.CycleStep.{CycleStep}
@@ -21,7 +20,7 @@ use Rattle.fb_laws.specs.HeldDefects.{AreHeld}
 use Rattle.fb_laws.specs.OpenedLinks.{every_second, has_end, opened_over, pair_links, place_of, round_from}
 use Rattle.fb_laws.specs.PartStates.{all_cycle_links, links_at}
 use Rattle.fb_laws.proofs.OpenedParts.{flat_among}
-use Rattle.fb_laws.proofs.HeldDefects.{held_in_sets, both}
+use Rattle.fb_laws.proofs.HeldDefects.{held_in_sets}
 use Rattle.fb_laws.proofs.RingReads.{second_by_number}
 use Rattle.fb_half.specs.Translations.{children_at, cycles_by, link_by, ring_at}
 use Rattle.fb_half.specs.Matchings.{match_links}
@@ -29,14 +28,7 @@ use Rattle.fb_half.specs.Parts.{IsPart, PartValue, problem_in}
 use Rattle.fb_resolve.specs.Openings.{OpenedByNumber, holds_end, is_reached, opened_numbers, pair_numbers}
 use Rattle.fb_resolve.proofs.Rings.{All_pairs, place_same}
 use Rattle.fb_graph.proofs.Booleans.{same_bool}
-
--- what is in the lists along a cycle is in those of its nodes' names
-along_any : (held : ℕ → List ℕ) (ss : List CycleStep) (d : ℕ)
-    → is_in (flat_map (λ s. held s.node) ss) d ≡ list_any (λ c. is_in (held c) d) (map (λ s. s.node) ss)
-along_any held [] d = refl
-along_any held (s ∷ ss) d =
-    list_any-append (λ u. u == d) (held s.node) (flat_map (λ s. held s.node) ss)
-    ∙ ap (λ b. is_in (held s.node) d || b) (along_any held ss d)
+use Rattle.fb_half.proofs.AgreedNodes.{along_any}
 
 no_pairs : (table : ℕ → Link) (test : ℕ → Bool) (ss : List CycleStep) → is_empty (map (λ s. s.node) ss) ≡ true
     → map table (every_second (round_from (place_of test (map (λ s. s.node) ss)) (map (λ s. s.link) ss))) ≡ []
@@ -46,11 +38,6 @@ no_pairs table test (s ∷ ss) e = absurd (both_ways false refl e)
 no_ring : (P : ℕ → Type 0) (ss : List CycleStep) → is_empty (map (λ s. s.node) ss) ≡ true → All P (map (λ s. s.link) ss)
 no_ring P [] e = All-nil P
 no_ring P (s ∷ ss) e = absurd (both_ways false refl e)
-
-all_mapped : {X Y : Type 0} (P : Y → Type 0) (f : X → Y) (xs : List X) → All P (map f xs) → All (λ x. P (f x)) xs
-all_mapped P f [] all = All-nil (λ x. P (f x))
-all_mapped P f (x ∷ xs) all =
-    All-cons (λ y. P (f y)) x xs (All-head P (f x) (map f xs) all) (all_mapped P f xs (All-tail P (f x) (map f xs) all))
 
 module _ (w : PartValue) (part : IsPart w) (nested : IsNested w.store) where
   nest : IsNest (problem_in w) w.nodes
@@ -95,7 +82,7 @@ module _ (w : PartValue) (part : IsPart w) (nested : IsNested w.store) where
       let at : is_in (top_at w.nodes r.0.name) d ≡ is_in (held r.0.name) d =
       ap (λ l. is_in l d) (top_among w.nodes nest.dual.names r.0 r.1)
       ∙ same_bool (is_in r.0.top.vertices d) (is_in (held r.0.name) d)
-      (λ h. sets d ∙ both (is_in (leaves w.nodes) d) (is_in r.0.top.vertices d) (own (top_real r.0 r.1 h)) h)
+      (λ h. sets d ∙ and_from (is_in (leaves w.nodes) d) (is_in r.0.top.vertices d) (own (top_real r.0 r.1 h)) h)
       (λ h. (and_parts (is_in (leaves w.nodes) d) (is_in r.0.top.vertices d) (sym (sets d) ∙ h)).1) in
       subst (λ (n : ℕ). is_in (top_at w.nodes n) d ≡ is_in (held n) d) r.2 at
     where
@@ -162,7 +149,7 @@ module _ (w : PartValue) (part : IsPart w) (nested : IsNested w.store) where
       at : (b : Bool) → is_empty n.children ≡ b → All IsOwnId (ring_at w.store n.name)
       at true e = no_ring IsOwnId (cycle_at w.store n.name) (ap is_empty (sym (kids_of n a)) ∙ e)
       at false e =
-          all_mapped IsOwn (link_by w.links) (ring_at w.store n.name)
+          All_unmapped IsOwn (link_by w.links) (ring_at w.store n.name)
           (among_All IsOwn (cycles_by w.links w.store n.name)
           (λ l al.
           All_among IsOwn (all_cycle_links w.nodes (cycles_by w.links w.store)) part.state.cycles.links.at_defects l
@@ -174,7 +161,7 @@ module _ (w : PartValue) (part : IsPart w) (nested : IsNested w.store) where
       ≡ map (link_by w.links) (opened_numbers w.links w.store (match_links w.matching.matches) (map (λ n. n.name) after)))
       × All IsOwnId (opened_numbers w.links w.store (match_links w.matching.matches) (map (λ n. n.name) after))
   over [] within =
-      (refl, all_mapped IsOwn (link_by w.links) (match_links w.matching.matches) part.state.work.work.matching.links_are.at_defects)
+      (refl, All_unmapped IsOwn (link_by w.links) (match_links w.matching.matches) part.state.work.work.matching.links_are.at_defects)
   over (n ∷ ns) within =
       let later : List ℕ = opened_numbers w.links w.store (match_links w.matching.matches) (map (λ m. m.name) ns) in
       let rest = over ns (λ m a. within m (inr a)) in (

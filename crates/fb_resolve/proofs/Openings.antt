@@ -1,5 +1,5 @@
 -- What a link reaches, and the node that is opened.
-use Rattle.std.proofs.Common.{◌≡◌, inl, inr, ℕ, ◌+◌, ◌-◌, ◌<◌, ◌||◌, Bool, true, false, List, [], ◌∷◌, ◌++◌, length, map, take, drop, get_or, All, Option, refl, sym, ◌∙◌, ap, subst}
+use Rattle.std.proofs.Common.{◌≡◌, inl, inr, ℕ, ◌+◌, ◌-◌, ◌||◌, Bool, true, false, List, [], ◌∷◌, ◌++◌, length, map, take, drop, All, Option, refl, sym, ◌∙◌, ap, subst}
 use Rattle.std.proofs.lemmas.Bool.{both_ways, or_cases, or_left, or_right}
 use Rattle.std.proofs.lemmas.List.Folds.{list_any-append}
 use Rattle.fb_graph.specs.Parity.{is_in}
@@ -12,9 +12,9 @@ use Rattle.fb_blossoms.specs.Nodes.{AreWithin, IsNested, Node, cycle_at, defects
 use Rattle.fb_blossoms.proofs.Rounds.{child_within}
 use Rattle.fb_laws.specs.OpenedLinks.{every_second, place_of, round_from}
 use Rattle.fb_half.specs.Translations.{children_at, ring_at}
-use Rattle.fb_resolve.specs.Openings.{holds_end, is_reached, opened_numbers, pair_numbers}
+use Rattle.fb_resolve.specs.Openings.{holds_end, is_reached, pair_numbers}
 use Rattle.fb_resolve.specs.InternalMarks.{AreClosed, AreMarks, is_marked}
-use Rattle.fb_resolve.proofs.Rings.{All_pairs, cons_at, place_tests, rest_is}
+use Rattle.fb_resolve.proofs.Rings.{All_pairs, place_tests, rest_is}
 
 reached_round : (links : List (Option (List Step))) (store : List (Option Node)) (ids : List ℕ) (x p : ℕ)
     → AreWithin (defects_at store x) (defects_at store p) → is_reached links store ids x ≡ true
@@ -67,15 +67,6 @@ marks_more links store old pairs all list n before after count same e are new x 
     ∙ (ap (λ b. b || is_reached links store pairs x) (are x)
     ∙ (sym (list_any-append (λ id. holds_end (defects_at store x) (walk_at links id)) old pairs)
     ∙ ap (λ l. is_reached links store l x) (sym e))))
-
--- one node more is opened
-pub opened_more : (links : List (Option (List Step))) (store : List (Option Node)) (matches names ids new : List ℕ) (i : ℕ) → i < length names
-    → ids ≡ opened_numbers links store matches (drop (i + 1) names)
-    → new ≡ ids ++ pair_numbers links store ids (get_or names i 0)
-    → new ≡ opened_numbers links store matches (drop i names)
-opened_more links store matches names ids new i less e f =
-    f ∙ (ap (λ l. l ++ pair_numbers links store l (get_or names i 0)) e
-    ∙ ap (opened_numbers links store matches) (sym (cons_at names i 0 less)))
 
 pub pairs_from : (links : List (Option (List Step))) (store : List (Option Node)) (ids : List ℕ) (marks : List Bool) (name place : ℕ)
     (cycle : List CycleStep) → cycle ≡ cycle_at store name → AreMarks links store ids marks

@@ -2,11 +2,13 @@
 use Rattle.std.proofs.Common.{◌≡◌, ◌≢◌, inl, inr, ℕ, zero, suc, ◌+◌, ◌<◌, ◌≤◌, ◌==◌, ◌⊎◌, ◌||◌, Bool, true, false, List, [], ◌∷◌, ◌++◌, length, Option, Some, None, flat_map, refl, sym, ◌∙◌, ap, arith}
 use Rattle.std.proofs.lemmas.Bool.{both_ways, eq-eqb, eqb-true, or_cases, or_left, or_right}
 use Rattle.std.proofs.lemmas.List.{length-append}
+use Rattle.fb_links.specs.Lists.{is_in}
 use Rattle.fb_links.specs.declared.cycle.CycleStep.{CycleStep}
-use Rattle.fb_blossoms.specs.Nodes.{IsNested, IsOddCycle, Node, cycle_at, cycle_of, defects_at, defects_along, defects_of, is_in, is_on, leaf, node_at}
+use Rattle.fb_blossoms.specs.Nodes.{IsNested, IsOddCycle, Node, cycle_at, cycle_of, defects_at, defects_along, defects_of, is_on, leaf, node_at}
 use Rattle.fb_blossoms.proofs.Nested.{is_in-one, one_in}
 use Rattle.fb_blossoms.proofs.Held.{from_along}
 use Rattle.fb_blossoms.proofs.Rounds.{cycle_kept}
+use Rattle.fb_blossoms.proofs.Sizes.{length_some}
 use Rattle.fb_resolve.specs.InternalMarks.{AreClosed, IsMarkedUp, is_marked}
 use Rattle.fb_graph.proofs.Booleans.{same_bool}
 
@@ -32,11 +34,7 @@ held_below store x d nested h = at (node_at store x) refl
           inr (r.0.node, ap (λ o. is_on (cycle_of o) r.0.node) e ∙ r.1, r.2)
     ]
 
-long : (xs : List ℕ) → xs ≢ [] → 1 ≤ length xs
-long [] h = absurd (h refl)
-long (x ∷ xs) h = omega arith
-
--- lists that aren't empty are together at least as long as they are many
+-- lists that aren't empty are together at least as length_some as they are many
 all_long : (f : ℕ → List ℕ) (ss : List CycleStep) → ((x : ℕ) → is_on ss x ≡ true → f x ≢ [])
     → length ss ≤ length (flat_map (λ s. f s.node) ss)
 all_long f [] some = omega arith
@@ -44,7 +42,7 @@ all_long f (s ∷ ss) some =
     let e : length (f s.node ++ flat_map (λ s. f s.node) ss) ≡ length (f s.node) + length (flat_map (λ s. f s.node) ss) =
     length-append (f s.node) (flat_map (λ s. f s.node) ss) in
     let here : 1 ≤ length (f s.node) =
-    long (f s.node) (some s.node (or_left (s.node == s.node) (is_on ss s.node) (eq-eqb s.node s.node refl))) in
+    length_some (f s.node) (some s.node (or_left (s.node == s.node) (is_on ss s.node) (eq-eqb s.node s.node refl))) in
     let rest : length ss ≤ length (flat_map (λ s. f s.node) ss) =
     all_long f ss (λ x on. some x (or_right (s.node == x) (is_on ss x) on)) in
     omega arith
@@ -64,7 +62,7 @@ shorter f (s ∷ ss) y some on =
           omega arith
       | inr there ↦
           let one : 1 ≤ length (f s.node) =
-          long (f s.node) (some s.node (or_left (s.node == s.node) (is_on ss s.node) (eq-eqb s.node s.node refl))) in
+          length_some (f s.node) (some s.node (or_left (s.node == s.node) (is_on ss s.node) (eq-eqb s.node s.node refl))) in
           let rest : length (f y) + length ss ≤ length (flat_map (λ s. f s.node) ss) + 1 = shorter f ss y later there in
           omega arith
     ]
@@ -119,6 +117,3 @@ marks_up store old new l d x nested leaf_is up = same_bool (is_marked new x) (is
     ]
 
 -- no node holds the vertex
-pub marks_none : (a b : Bool) → b ≡ false → a ≡ (a || b)
-marks_none true b e = refl
-marks_none false b e = sym e

@@ -1,10 +1,7 @@
 -- Every second link of a ring, and the place of the first node that passes a test.
-use Rattle.std.proofs.Common.{◌≡◌, inl, inr, ℕ, zero, suc, ◌+◌, ◌<◌, ◌==◌, ◌⊎◌, ◌||◌, ◌-◌, not, Bool, true, false, List, [], ◌∷◌, ◌++◌, length, map, take, drop, get_or, All, refl, sym, ◌∙◌, ap, arith, add-one, if◌then◌else◌, append_assoc}
-use Rattle.std.proofs.Math.Seq.{drop-append_seam, drop-cons}
-use Rattle.std.proofs.lemmas.Bool.{both_ways, eqb-true, or_cases}
-use Rattle.std.proofs.lemmas.List.{append-nil, drop-map, length-append, take-map, take_all, take_more}
-use Rattle.std.proofs.lemmas.List.Folds.{list_any-append}
-use Rattle.fb_graph.specs.Parity.{is_in}
+use Rattle.std.proofs.Common.{◌≡◌, ℕ, zero, suc, ◌+◌, ◌<◌, ◌-◌, not, Bool, true, false, List, [], ◌∷◌, ◌++◌, length, map, take, drop, get_or, All, refl, sym, ◌∙◌, ap, arith, if◌then◌else◌, append_assoc}
+use Rattle.std.proofs.Math.Seq.{drop-append_seam}
+use Rattle.std.proofs.lemmas.List.{append-nil, drop-map, length-append, take-map, take_all, drop_more}
 use Rattle.std.proofs.lemmas.List.Elements.{All-append, All-cons, All-drop, All-head, All-tail, All-take}
 use Rattle.fb_laws.specs.OpenedLinks.{every_second, place_of, round_from}
 
@@ -30,22 +27,19 @@ pub All_pairs : (P : ℕ → Type 0) (place : ℕ) (xs : List ℕ) → All P xs 
 All_pairs P place xs all =
     All_second P (round_from place xs) (All-append P (drop place xs) (take place xs) (All-drop P place xs all) (All-take P place xs all))
 
-pub cons_at : {X : Type 0} (xs : List X) (i : ℕ) (d : X) → i < length xs → drop i xs ≡ get_or xs i d ∷ drop (i + 1) xs
-cons_at xs i d less = rw (add-one, drop-cons xs i d) refl
-
 -- the rest of the links to be pushed, with the next one pushed
 pub pushed_one : (done all ring : List ℕ) (i : ℕ) (more : List ℕ) (d : ℕ) → i < length ring
     → done ++ seconds true (drop i ring ++ more) ≡ all
     → (done ++ get_or ring i d ∷ []) ++ seconds false (drop (i + 1) ring ++ more) ≡ all
 pushed_one done all ring i more d less e =
     append_assoc done (get_or ring i d ∷ []) (seconds false (drop (i + 1) ring ++ more))
-    ∙ (ap (λ l. done ++ seconds true (l ++ more)) (sym (cons_at ring i d less)) ∙ e)
+    ∙ (ap (λ l. done ++ seconds true (l ++ more)) (sym (drop_more ring i d less)) ∙ e)
 
 pub passed_one : (done all ring : List ℕ) (i : ℕ) (more : List ℕ) (d : ℕ) → i < length ring
     → done ++ seconds false (drop i ring ++ more) ≡ all
     → done ++ seconds true (drop (i + 1) ring ++ more) ≡ all
 passed_one done all ring i more d less e =
-    ap (λ l. done ++ seconds false (l ++ more)) (sym (cons_at ring i d less)) ∙ e
+    ap (λ l. done ++ seconds false (l ++ more)) (sym (drop_more ring i d less)) ∙ e
 
 -- tests that agree find the same place
 pub place_same : {X Y : Type 0} (p : X → Bool) (q : Y → Bool) (f : Y → X) (ys : List Y) → All (λ y. p (f y) ≡ q y) ys
@@ -79,20 +73,6 @@ rest_is old pairs xs e =
     let count : length xs ≡ length old + length pairs = ap length e ∙ length-append old pairs in
     ap (take (length xs - length old)) rest ∙ take_all (length xs - length old) pairs (omega (arith, count))
 
-pub in_more : (xs : List ℕ) (i x : ℕ) → i < length xs → is_in (take (i + 1) xs) x ≡ true
-    → (is_in (take i xs) x ≡ true) ⊎ (get_or xs i 0 ≡ x)
-in_more xs i x less h =
-    let e : is_in (take (i + 1) xs) x ≡ (is_in (take i xs) x || ((get_or xs i 0 == x) || false)) =
-    ap (λ l. is_in l x) (take_more xs i 0 less) ∙ list_any-append (λ u. u == x) (take i xs) (get_or xs i 0 ∷ []) in
-    elim (or_cases (is_in (take i xs) x) ((get_or xs i 0 == x) || false) (sym e ∙ h)) [
-      | inl a ↦ inl a
-      | inr b ↦
-          elim (or_cases (get_or xs i 0 == x) false b) [
-            | inl same ↦ inr (eqb-true (get_or xs i 0) x same)
-            | inr none ↦ absurd (both_ways false refl none)
-          ]
-    ]
-
 map_length : {X : Type 0} (f : X → ℕ) (xs : List X) → length (map f xs) ≡ length xs
 map_length f [] = refl
 map_length f (x ∷ xs) = ap suc (map_length f xs)
@@ -116,7 +96,7 @@ pub place_found : {X : Type 0} (f : X → ℕ) (test : ℕ → Bool) (xs : List 
     → i ≡ place_of test (map f xs)
 place_found f test xs i d less y e =
     let here : place_of test (drop i (map f xs)) ≡ 0 =
-    ap (place_of test) (cons_at (map f xs) i (f d) (let l : length (map f xs) ≡ length xs = map_length f xs in omega (arith, less, l)))
+    ap (place_of test) (drop_more (map f xs) i (f d) (let l : length (map f xs) ≡ length xs = map_length f xs in omega (arith, less, l)))
     ∙ ap (λ b. if b then 0 else 1 + place_of test (drop (i + 1) (map f xs))) (ap test (sym (get_map f xs i d)) ∙ y) in
     omega (arith, e, here)
 
@@ -125,7 +105,7 @@ pub place_passed : {X : Type 0} (f : X → ℕ) (test : ℕ → Bool) (xs : List
     → place_of test (map f xs) ≡ i + 1 + place_of test (drop (i + 1) (map f xs))
 place_passed f test xs i d less n e =
     let next : place_of test (drop i (map f xs)) ≡ 1 + place_of test (drop (i + 1) (map f xs)) =
-    ap (place_of test) (cons_at (map f xs) i (f d) (let l : length (map f xs) ≡ length xs = map_length f xs in omega (arith, less, l)))
+    ap (place_of test) (drop_more (map f xs) i (f d) (let l : length (map f xs) ≡ length xs = map_length f xs in omega (arith, less, l)))
     ∙ ap (λ b. if b then 0 else 1 + place_of test (drop (i + 1) (map f xs))) (ap test (sym (get_map f xs i d)) ∙ n) in
     omega (arith, e, next)
 

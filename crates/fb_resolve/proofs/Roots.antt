@@ -1,5 +1,6 @@
 -- The row of a root.
-use Rattle.std.proofs.Common.{◌≡◌, ℕ, ◌==◌, true, List, [], ◌∷◌, ◌++◌, map, flat_map, refl, sym, ◌∙◌, ap}
+use Rattle.std.proofs.Common.{◌≡◌, ℕ, ◌==◌, true, flat_map, sym, ◌∙◌, ap}
+use Rattle.std.proofs.lemmas.List.Folds.{flat_map-map}
 use Rattle.fb_graph.specs.Parity.{is_odd_count}
 use Rattle.fb_graph.specs.Laws.{Link}
 use Rattle.fb_graph.specs.Limits.{no_shot, problem_of}
@@ -11,10 +12,6 @@ use Rattle.fb_half.specs.Translations.{link_by}
 use Rattle.fb_half.specs.Parts.{problem_in, shot_of, state_of}
 use Rattle.fb_resolve.specs.Openings.{OpenedByNumber, numbers_of}
 use Rattle.fb_resolve.specs.Rows.{RootIsRight, walked_edges}
-
-flat_mapped : {X Y Z : Type 0} (f : Y → List Z) (g : X → Y) (xs : List X) → flat_map f (map g xs) ≡ flat_map (λ x. f (g x)) xs
-flat_mapped f g [] = refl
-flat_mapped f g (x ∷ xs) = ap (λ l. f (g x) ++ l) (flat_mapped f g xs)
 
 pub root_right : OpenedByNumber → RootIsRight
 root_right by_number w edges cuts part nested root matched rising parity positive in_order = (
@@ -31,7 +28,7 @@ root_right by_number w edges cuts part nested root matched rising parity positiv
     walks : flat_map (λ l. l.walk) (opened_links (state_of w)) ≡ walked_edges w
     walks =
         ap (flat_map (λ (l : Link). l.walk)) (by_number w part nested)
-        ∙ flat_mapped (λ (l : Link). l.walk) (link_by w.links) (numbers_of w)
+        ∙ flat_map-map (λ (l : Link). l.walk) (link_by w.links) (numbers_of w)
 
     same : (k : ℕ) → is_odd_count (λ j. j == k) edges ≡ is_odd_count (λ j. j == k) (flat_map (λ l. l.walk) (opened_links (state_of w)))
     same k = parity k ∙ ap (is_odd_count (λ j. j == k)) (sym walks)

@@ -41,7 +41,7 @@ pub fn resolve(alloc: Global, half: &Half) -> Result<Row, NoMemory>
 fn names_of<S: Scope>(alloc: Global, regions: &Regions<S>) -> Result<Vec<NodeId>, NoMemory>
     ensures { IfOk result (λ names. names.items ≡ map (λ n. n.name) regions.now.nodes) }
 {
-    let mut names = Vec::new(alloc);
+    let mut names = Vec::with_capacity(alloc, regions.len())?;
     for place in 0..regions.len() {
         names.push(regions.name_at(place))?;
     }

@@ -1,6 +1,5 @@
 -- How faulty words end a run.
 use Rattle.std.proofs.Common.{◌≡◌, ◌≢◌, ◌⊎◌, inl, inr, ℕ, List, Option, Result, Ok, Err, None, Some, refl, sym, subst}
-use Rattle.std.proofs.KnownBytes.{Appends-nil}
 use Rattle.fb_graph.specs.Limits.{DecodingGraph}
 use Rattle.fb_plan.specs.Plans.{PlanTree, single_of}
 use Rattle.fb_run.specs.Endings.{EndsByPlan, EndsOn}
@@ -8,7 +7,7 @@ use Rattle.fb_inputs.specs.Moments.{Moment}
 use Rattle.fb_check.specs.Ends.{IsReadToItsEnd}
 use Rattle.fb_inputs.specs.Judging.{Named}
 use Rattle.fb_run.specs.RunEndings.{EndsRight, RequestEnds, HasReadOut, ReadsOut, cause_of_fault}
-use Rattle.fb_words.specs.Seen.{IsFaultOf, usage_of}
+use Rattle.fb_words.specs.Seen.{usage_of}
 use Rattle.fb_words.specs.Words.{Decoding, Request, check, decode, sample}
 use Rattle.fb_endings.specs.declared.ending.Cause.{Cause}
 use Rattle.fb_endings.specs.declared.ending.Cause.TheVariants.{NoMemory, Usage, WriteFault}
@@ -16,23 +15,6 @@ use Rattle.fb_words.specs.declared.usage.UsageKind.{UsageKind}
 use Rattle.fb_words.specs.declared.usage.UsageKind.TheVariants as usage
 use Rattle.fb_words.specs.declared.words.WordsFault.{WordsFault}
 use Rattle.fb_words.specs.declared.words.WordsFault.TheVariants as fault
-use Rattle.fb_inputs.proofs.Inputs.{asks_none, asks_same}
-
-by_kind : (read : Result Request UsageKind) (kind : UsageKind) (m : Moment) → read ≡ Err kind → EndsRight read m m (Usage kind)
-by_kind read kind m e = subst (λ (r : Result Request UsageKind). EndsRight r m m (Usage kind)) (sym e)
-    (inl refl, asks_same m.asked m.asked refl, refl, Appends-nil m.written)
-
-by_memory : (read : Result Request UsageKind) (m : Moment) → EndsRight read m m NoMemory
-by_memory (Ok (decode decoding)) m = inl (asks_none m.asked m.asked _ refl, refl, Appends-nil m.written)
-by_memory (Ok (check checking)) m = inl (asks_none m.asked m.asked _ refl, refl, Appends-nil m.written)
-by_memory (Ok (sample sampling)) m = (asks_same m.asked m.asked refl, refl, Appends-nil m.written)
-by_memory (Err kind) m = (inr refl, asks_same m.asked m.asked refl, refl, Appends-nil m.written)
-
-pub refused_right : (read : Result Request UsageKind) (f : WordsFault) (m : Moment) → IsFaultOf read f → EndsRight read m m (cause_of_fault f)
-refused_right read (fault.Parse text) m e = by_kind read usage.Parse m e
-refused_right read fault.Format m e = by_kind read usage.Format m e
-refused_right read fault.TwoInputs m e = by_kind read usage.TwoInputs m e
-refused_right read fault.NoMemory m e = by_memory read m
 
 -- what was done of a request that was read
 pub ends_read : (read : Result Request UsageKind) (request : Request) (before after : Moment) (cause : Cause) → read ≡ Ok request

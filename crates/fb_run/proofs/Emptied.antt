@@ -1,7 +1,7 @@
 -- The rows of shots without defects.
-use Rattle.std.proofs.Common.{◌≡◌, ℕ, ◌<◌, ◌==◌, ◌&&◌, List, [], ◌∷◌, Bool, true, false, length, replicate, refl, sym, arith}
+use Rattle.std.proofs.Common.{◌≡◌, ℕ, ◌<◌, ◌==◌, List, [], ◌∷◌, true, false, length, replicate, refl, sym, arith}
 use Rattle.std.specs.List.{list_all}
-use Rattle.std.proofs.lemmas.Bool.{eqb-true}
+use Rattle.std.proofs.lemmas.Bool.{eqb-true, and_parts}
 use Rattle.std.proofs.lemmas.List.Elements.{All-nil}
 use Rattle.fb_crew.specs.Windows.{AreRows, IsShotRow}
 use Rattle.fb_graph.specs.Problem.{Problem}
@@ -29,13 +29,9 @@ row_of_none g [] e =
     (best_has_no_odd (problem_of g no_shot) [] 0 [] best, best)
 row_of_none g (k ∷ ks) e = absurd (omega (arith, eqb-true (length (k ∷ ks)) 0 e))
 
-both : (a b : Bool) → (a && b) ≡ true → (a ≡ true) × (b ≡ true)
-both true b e = (refl, e)
-both false b e = absurd cc
-
 pub rows_of_none : (g : DecodingGraph) (shots : List ShotValue) → list_all (λ s. length s.defects == 0) shots ≡ true
     → AreRows g shots (replicate (length shots) (Best [] 0 []))
 rows_of_none g [] none = tt
 rows_of_none g (shot ∷ shots) none =
-    let parts = both (length shot.defects == 0) (list_all (λ s. length s.defects == 0) shots) none in
+    let parts = and_parts (length shot.defects == 0) (list_all (λ s. length s.defects == 0) shots) none in
     (row_of_none g shot.defects parts.0, rows_of_none g shots parts.1)

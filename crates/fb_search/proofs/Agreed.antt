@@ -1,13 +1,13 @@
 -- That the dual state and the store of blossoms have the same nodes is kept where nodes are joined and where a blossom
 -- is opened.
-use Rattle.std.proofs.Common.{ℕ, ◌≡◌, ◌≢◌, ◌==◌, ◌||◌, ◌⊎◌, ◌%◌, ◌≤◌, inl, inr, Bool, true, false, List, [], ◌∷◌, map, length, Option, Some, None, is_some, refl, sym, ap, ◌∙◌, subst, arith}
+use Rattle.std.proofs.Common.{ℕ, ◌≡◌, ◌≢◌, ◌==◌, ◌||◌, ◌⊎◌, ◌%◌, ◌≤◌, inl, inr, true, false, List, [], ◌∷◌, map, length, Option, Some, None, is_some, refl, sym, ap, ◌∙◌, subst, arith}
 use Rattle.std.proofs.lemmas.Bool.{both_ways, false_from_ne_true, cases_eq}
 use Rattle.std.proofs.lemmas.List.{length-map}
 use Rattle.fb_graph.specs.Parity.{is_in}
 use Rattle.fb_graph.specs.Certificate.{AreDistinct}
 use Rattle.fb_graph.specs.Dual.{Node, defects_of, is_empty, is_live, is_outer}
 use Rattle.fb_graph.specs.Moves.{MayJoin, MaySplit, blossom, joined_nodes, split_nodes}
-use Rattle.fb_graph.proofs.Among.{IsAmong, All_among, among_All, among_either, among_left, among_live, among_outer, among_right, live_among, outer_among}
+use Rattle.fb_graph.proofs.Among.{IsAmong, All_among, among_All, among_either, among_left, among_live, among_right, live_among, outer_among}
 use Rattle.fb_graph.proofs.Places.{among_split, split_among}
 use Rattle.fb_graph.proofs.Sets.{is_in-All}
 use Rattle.fb_links.specs.declared.cycle.CycleStep.{CycleStep}
@@ -46,14 +46,6 @@ outer_in_store nodes store name agreed outer p =
     both_ways (is_in n.children name) (outer_among nodes name outer n a)
     (ap (λ cs. is_in cs name) (All_among (λ m. m.children ≡ children_at store m.name) nodes agreed.children n a)
     ∙ (ap (λ x. is_in (children_at store x) name) named ∙ (sym (on_is_in (cycle_at store p) name) ∙ on))))
-
--- and the other way round
-pub outer_in_nodes : (nodes : List Node) (store : List (Option blossoms.Node)) (name : ℕ) → AreAgreed nodes store
-    → IsOuter store name → is_outer nodes name ≡ true
-outer_in_nodes nodes store name agreed outer =
-    among_outer nodes name (λ n a.
-    ap (λ cs. is_in cs name) (All_among (λ m. m.children ≡ children_at store m.name) nodes agreed.children n a)
-    ∙ (sym (on_is_in (cycle_at store n.name) name) ∙ outer n.name))
 
 -- where nodes may be joined in the dual state, their cycle may be formed in the store
 pub cycle_odd : (nodes : List Node) (store : List (Option blossoms.Node)) (name : ℕ) (cycle : List CycleStep)

@@ -8,6 +8,7 @@ use Rattle.fb_graph.specs.Covers.{is_covered_by, passes}
 use Rattle.fb_graph.specs.Dual.{AreUnderOne, Node, cover_of, top_at}
 use Rattle.fb_graph.specs.Laws.{Link}
 use Rattle.fb_graph.proofs.Sets.{is_in-cases}
+use Rattle.fb_graph.proofs.TightLinks.{all_even}
 use Rattle.fb_laws.specs.Measures.{IsLower}
 use Rattle.fb_laws.specs.SearchLayers.{left_to_do}
 use Rattle.fb_laws.specs.StateMoves.{MayAttach}
@@ -25,7 +26,7 @@ use Rattle.fb_search.specs.Progress.{to_do}
 use Rattle.fb_search.specs.Searching.{IsSearchingBeside, SearchValue, problem_of, state_at}
 use Rattle.fb_search.specs.Watching.{Watches}
 use Rattle.fb_search.proofs.BegunSearches.{touches_first, touches_second}
-use Rattle.fb_search.proofs.TakenVertices.{all_even, plus_over}
+use Rattle.fb_search.proofs.TakenVertices.{plus_over}
 use Rattle.fb_search.proofs.RolesInTree.{plus_in_tree}
 
 pub plus_of_tree : (t : Grown) (name : ℕ) → is_in (plus_names t.root t.branches) name ≡ true → grows (role_in t name) ≡ true

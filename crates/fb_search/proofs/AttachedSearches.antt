@@ -30,7 +30,7 @@ use Rattle.fb_search.proofs.AttachedMatches.{matching_attached}
 use Rattle.fb_search.proofs.Linked.{links_reordered}
 use Rattle.fb_search.proofs.MadeLinks.{link_made}
 use Rattle.fb_search.proofs.MetMatches.{couple_connects, couple_differs, couple_matched, couple_names, matched_live, matched_outside, names_taken}
-use Rattle.fb_search.proofs.TakenVertices.{all_even}
+use Rattle.fb_graph.proofs.TightLinks.{all_even}
 
 -- the branch of the node and its mate
 abbrev pub branch_met : Met → ℕ → EntryOf ℕ

@@ -1,10 +1,10 @@
 -- The two links of a minus blossom's branch lead to it from other nodes, so that each ends at one of its children.
-use Rattle.std.proofs.Common.{ℕ, ◌≡◌, ◌≢◌, ◌==◌, ◌⊎◌, inl, inr, true, List, [], ◌∷◌, ◌++◌, refl, sym, ap, ◌∙◌, subst}
-use Rattle.std.proofs.lemmas.Bool.{both_ways, eq-eqb}
+use Rattle.std.proofs.Common.{ℕ, ◌≡◌, ◌≢◌, ◌⊎◌, inl, inr, true, List, [], ◌∷◌, ◌++◌, refl, sym, ap, ◌∙◌, subst}
+use Rattle.std.proofs.lemmas.Bool.{both_ways}
 use Rattle.fb_graph.specs.Parity.{is_in}
 use Rattle.fb_graph.specs.Laws.{Link}
 use Rattle.fb_graph.specs.Moves.{MaySplit}
-use Rattle.fb_graph.proofs.Among.{IsAmong, among_any, among_left, among_right, map_among}
+use Rattle.fb_graph.proofs.Among.{IsAmong, among_left, among_right, map_among, among_is_in}
 use Rattle.fb_laws.specs.LinkNumbers.{tree_links}
 use Rattle.fb_laws.specs.PartStates.{all_cycle_links, search_links}
 use Rattle.fb_laws.specs.Trees.{Connects, Entry, EntryOf, grown_links, minus_names, paired_links, plus_names}
@@ -40,16 +40,13 @@ module _ (w : SearchValue) (name : ℕ) (e : EntryOf ℕ) (are : IsSearching w) 
   connected : Connects w.part.nodes entry.tree e.parent e.minus × Connects w.part.nodes entry.matched e.minus e.plus
   connected = tree_connects w.part.nodes w.tree.root tree are.state.1.search.search.joined entry entry_among
 
-  listed : (xs : List ℕ) (x : ℕ) → IsAmong x xs → is_in xs x ≡ true
-  listed xs x a = among_any (λ u. u == x) xs x a (eq-eqb x x refl)
-
   -- a plus node is another node
   plus_apart : (n : ℕ) → is_in (plus_names w.tree.root tree) n ≡ true → n ≢ name
   plus_apart n plus same =
       both_ways (is_in (minus_names tree) n)
       (exclusive_names w.tree.root tree are.state.1.search.search.names n plus)
       (ap (is_in (minus_names tree)) (same ∙ sym branch.minus)
-      ∙ listed (minus_names tree) e.minus (map_among (λ x. x.minus) tree entry entry_among))
+      ∙ among_is_in (minus_names tree) e.minus (map_among (λ x. x.minus) tree entry entry_among))
 
   tight : (l : Link) → IsAmong l (grown_links tree) ⊎ IsAmong l (paired_links tree)
       → AreMatchedLinks (problem_of w) w.part.nodes (l ∷ [])
@@ -77,7 +74,7 @@ module _ (w : SearchValue) (name : ℕ) (e : EntryOf ℕ) (are : IsSearching w) 
     agreed = are.agreed;
     may_split = may;
     live = live e.tree (is_in-left (grown_links w.tree.branches) (paired_links w.tree.branches) e.tree
-        (listed (grown_links w.tree.branches) e.tree (map_among (λ x. x.tree) w.tree.branches e among)));
+        (among_is_in (grown_links w.tree.branches) e.tree (map_among (λ x. x.tree) w.tree.branches e among)));
     tight = tight entry.tree (inl (map_among (λ x. x.tree) tree entry entry_among));
     apart = plus_apart e.parent (parent_plus w.part.nodes w.tree.root tree are.state.1.search.search.joined entry entry_among);
     connects = subst (Connects w.part.nodes entry.tree e.parent) branch.minus connected.0;
@@ -89,7 +86,7 @@ module _ (w : SearchValue) (name : ℕ) (e : EntryOf ℕ) (are : IsSearching w) 
     agreed = are.agreed;
     may_split = may;
     live = live e.matched (is_in-right (grown_links w.tree.branches) (paired_links w.tree.branches) e.matched
-        (listed (paired_links w.tree.branches) e.matched (map_among (λ x. x.matched) w.tree.branches e among)));
+        (among_is_in (paired_links w.tree.branches) e.matched (map_among (λ x. x.matched) w.tree.branches e among)));
     tight = tight entry.matched (inr (map_among (λ x. x.matched) tree entry entry_among));
     apart = plus_apart e.plus (among_plus w.tree.root tree entry entry_among);
     connects = subst (Connects w.part.nodes entry.matched e.plus) branch.minus

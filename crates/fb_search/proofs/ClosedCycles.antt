@@ -10,7 +10,7 @@ use Rattle.fb_graph.proofs.Sets.{All-from_is_in, is_in-cases}
 use Rattle.fb_links.specs.declared.cycle.CycleStep.{CycleStep}
 use Rattle.fb_links.specs.Table as table
 use Rattle.fb_blossoms.specs.Links as blossoms_links
-use Rattle.fb_blossoms.specs.Nodes.{Adds, AreOuter, IsNested, IsOddCycle}
+use Rattle.fb_blossoms.specs.Nodes.{AreOuter, IsNested, IsOddCycle}
 use Rattle.fb_blossoms.specs.Nodes as blossoms
 use Rattle.fb_laws.specs.LinkNumbers.{tree_links}
 use Rattle.fb_laws.specs.PartStates.{SearchState}

@@ -1,5 +1,6 @@
 -- A search whose tree is given up leaves a part.
 use Rattle.std.proofs.Common.{ℕ, ◌≡◌, ◌%◌, ◌||◌, ◌⊎◌, inl, inr, cond, true, false, Bool, All, List, [], ◌++◌, map, get_or, Some, None, is_some, unwrap_or, sym, ap, subst, ◌∙◌, append_assoc, append-nil}
+use Rattle.std.proofs.Math.Bool.{or-false}
 use Rattle.std.specs.List.Sorted.{IsPermutation}
 use Rattle.std.proofs.lemmas.Bool.{cases_Bool, false_from_ne_true, false≢true}
 use Rattle.std.proofs.lemmas.Grind.{flat_map-append}
@@ -8,7 +9,7 @@ use Rattle.std.proofs.lemmas.List.Sorted.{IsPermutation-append_comm, IsPermutati
 use Rattle.fb_graph.specs.Parity.{is_in}
 use Rattle.fb_graph.specs.Certificate.{AreDistinct}
 use Rattle.fb_graph.proofs.Among.{IsAmong, All_among, among_either}
-use Rattle.fb_graph.proofs.Members.{is_in-append, or_false}
+use Rattle.fb_graph.proofs.Members.{is_in-append, distinct_left}
 use Rattle.fb_graph.proofs.Sets.{is_in_at}
 use Rattle.fb_laws.specs.LinkNumbers.{links_dropped}
 use Rattle.fb_laws.specs.StateOrders.{AgreeAt}
@@ -35,11 +36,10 @@ use Rattle.fb_search.proofs.EndedMatches.{LeadsBy, leads_still, tree_matches_lea
 use Rattle.fb_search.proofs.EndedParts.{map_same, ring_within}
 use Rattle.fb_search.proofs.EndedTrees.{beside_links}
 use Rattle.fb_links.proofs.MovedLinks.{Table}
-use Rattle.fb_laws.proofs.NestOrders.{distinct_left}
 use Rattle.fb_graph.proofs.Floods.{is_in-left, is_in-right}
 
 in_front : (kept gone : List ℕ) (k : ℕ) → is_in gone k ≡ false → is_in (kept ++ gone) k ≡ is_in kept k
-in_front kept gone k out = is_in-append kept gone k ∙ (ap (λ b. is_in kept k || b) out ∙ or_false (is_in kept k))
+in_front kept gone k out = is_in-append kept gone k ∙ (ap (λ b. is_in kept k || b) out ∙ or-false (is_in kept k))
 
 -- the matches of the tree's nodes where it is given up
 abbrev pub stayed : SearchValue → List Match

@@ -1,12 +1,13 @@
 -- Which links and which names a part has where a search has ended.
-use Rattle.std.proofs.Common.{ℕ, ◌≡◌, ◌==◌, ◌⊎◌, inl, inr, ◌||◌, cond, true, false, Bool, List, [], ◌∷◌, ◌++◌, Option, Some, None, is_some, unwrap_or, sym, ap, subst, ◌∙◌, append_assoc}
+use Rattle.std.proofs.Common.{ℕ, ◌≡◌, ◌==◌, ◌⊎◌, inl, inr, ◌||◌, cond, true, false, Bool, List, [], ◌∷◌, ◌++◌, Some, None, is_some, unwrap_or, sym, ap, subst, ◌∙◌, append_assoc}
+use Rattle.std.proofs.Math.Bool.{or-false}
 use Rattle.std.specs.List.Sorted.{IsPermutation}
 use Rattle.std.proofs.lemmas.Bool.{cases_Bool, cases_eq, false_from_ne_true, false≢true, ne_eqb, or_from, or_parts}
 use Rattle.std.proofs.lemmas.List.Sorted.{IsPermutation-append_comm, IsPermutation-append_left, IsPermutation-append_right, IsPermutation-cons, IsPermutation-middle, IsPermutation-sym, IsPermutation-trans}
 use Rattle.fb_graph.specs.Parity.{is_in}
 use Rattle.fb_graph.specs.Certificate.{AreDistinct}
 use Rattle.fb_graph.specs.Problem.{Problem}
-use Rattle.fb_graph.proofs.Members.{is_in-append, or_false}
+use Rattle.fb_graph.proofs.Members.{is_in-append, distinct_left}
 use Rattle.fb_graph.proofs.Sets.{is_in-head}
 use Rattle.fb_laws.specs.TreeCycles.{nodes_along}
 use Rattle.fb_laws.specs.Trees.{EntryOf, plus_names}
@@ -21,7 +22,6 @@ use Rattle.fb_half.specs.Parts.{AreLinksOf, AreStepsOf}
 use Rattle.fb_search.specs.InternalEndings.{Forgets, ended_matches}
 use Rattle.fb_search.proofs.EndedTrees.{matches_named, names_ended, off_path, on_path}
 use Rattle.fb_links.proofs.MovedLinks.{Table}
-use Rattle.fb_laws.proofs.NestOrders.{distinct_left}
 
 -- a number that no link has is none of the links' numbers
 pub new_number : (p : Problem) (old mid : Table) (ids kept gone : List ℕ) (id : ℕ) (walk : List Step) → AreLinksOf p old ids
@@ -79,7 +79,7 @@ links_kept p old mid new ids kept gone id walk are moved adds forgets steps = re
         ∙ (sym (same_permuted ids (kept ++ gone) moved k)
         ∙ (is_in-append kept gone k
         ∙ (ap (λ b. is_in kept k || b) g
-        ∙ (or_false (is_in kept k) ∙ sym (ap (λ b. b || is_in kept k) (ne_eqb id k (λ e. other (sym e)))))))))
+        ∙ (or-false (is_in kept k) ∙ sym (ap (λ b. b || is_in kept k) (ne_eqb id k (λ e. other (sym e)))))))))
 
     along : (k : ℕ) (path : List Step) → link_at new k ≡ Some path → (is_in gone k ≡ true) ⊎ (is_in gone k ≡ false)
         → (k ≡ id) ⊎ (k ≡ id → ⊥) → AreStepsOf p path

@@ -7,7 +7,6 @@ use Rattle.fb_graph.specs.Parity.{is_in}
 use Rattle.fb_graph.specs.Dual.{Node}
 use Rattle.fb_graph.specs.Problem.{Problem}
 use Rattle.fb_graph.proofs.Among.{IsAmong, All_among, among_All, among_either, among_left, among_map, among_right}
-use Rattle.fb_graph.proofs.Sets.{is_in-head, is_in-tail}
 use Rattle.fb_laws.specs.TreeCycles.{nodes_along}
 use Rattle.fb_laws.specs.Trees.{Connects, EntryOf, IsTree, branches_beside, path_to, plus_names}
 use Rattle.fb_laws.proofs.OpenedBlossoms.{distinct_permuted, same_permuted}

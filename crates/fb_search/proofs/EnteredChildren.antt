@@ -1,9 +1,9 @@
 -- The child of a blossom at which a tight link to the blossom ends, found by the defects that the nodes hold.
-use Rattle.std.proofs.Common.{ℕ, ◌≡◌, ◌≢◌, ◌==◌, ◌&&◌, ◌||◌, ◌⊎◌, inl, inr, true, false, List, [], ◌∷◌, map, flat_map, All, Option, Some, refl, sym, ap, ◌∙◌}
+use Rattle.std.proofs.Common.{ℕ, ◌≡◌, ◌≢◌, ◌==◌, ◌&&◌, ◌⊎◌, inl, inr, true, false, List, [], ◌∷◌, map, flat_map, All, Option, Some, refl, sym, ap, ◌∙◌}
 use Rattle.std.specs.List.{list_any}
 use Rattle.std.proofs.lemmas.Bool.{and_parts, both_ways, eq-eqb, or_left}
 use Rattle.std.proofs.lemmas.List.Elements.{All-head}
-use Rattle.std.proofs.lemmas.List.Folds.{list_any-append}
+use Rattle.std.proofs.lemmas.Option.{same_Some}
 use Rattle.fb_graph.specs.Parity.{is_in}
 use Rattle.fb_graph.specs.Problem.{Problem}
 use Rattle.fb_graph.specs.Laws.{Link}
@@ -19,20 +19,14 @@ use Rattle.fb_blossoms.proofs.Rounds.{cycle_kept}
 use Rattle.fb_laws.specs.HeldDefects.{AreHeld}
 use Rattle.fb_laws.specs.Trees.{Connects}
 use Rattle.fb_laws.specs.Works.{AreMatchedLinks}
+use Rattle.fb_laws.specs.Opening.{EndsAtDefects}
 use Rattle.fb_laws.proofs.HeldDefects.{covered_is_held, held_in_sets}
 use Rattle.fb_laws.proofs.StateRings.{child_at_end}
 use Rattle.fb_half.specs.Parts.{AreAgreed, PartValue, problem_in}
 use Rattle.fb_half.specs.Translations.{children_at, link_by}
 use Rattle.fb_search.specs.InternalOpenings.{EndsAtChild, MayEnter}
 use Rattle.fb_search.proofs.Agreed.{on_is_in}
-
--- what is in the lists along a cycle is in those of its nodes' names
-along_any : (held : ℕ → List ℕ) (ss : List CycleStep) (d : ℕ)
-    → is_in (flat_map (λ s. held s.node) ss) d ≡ list_any (λ c. is_in (held c) d) (map (λ s. s.node) ss)
-along_any held [] d = refl
-along_any held (s ∷ ss) d =
-    list_any-append (λ u. u == d) (held s.node) (flat_map (λ s. held s.node) ss)
-    ∙ ap (λ b. is_in (held s.node) d || b) (along_any held ss d)
+use Rattle.fb_half.proofs.AgreedNodes.{along_any}
 
 module _ (nodes : List Node) (store : List (Option blossoms.Node)) (agreed : AreAgreed nodes store)
     (nested : IsNested store) where
@@ -74,12 +68,10 @@ end_is_leaf p nodes l d name nest are ends cover = by ends
         is_in-All (λ v. p.is_real v ≡ true) over.node.top.vertices
         (top_is_odd p nodes nest over.node over.among).real d over.holds
 
-    at : (p.is_real l.from ≡ true → is_in (leaves nodes) l.from ≡ true)
-        × (p.is_real l.to ≡ true → is_in (leaves nodes) l.to ≡ true)
+    at : EndsAtDefects p (leaves nodes) l
     at =
         All-head
-        (λ l. (p.is_real l.from ≡ true → is_in (leaves nodes) l.from ≡ true)
-        × (p.is_real l.to ≡ true → is_in (leaves nodes) l.to ≡ true)) l [] are.at_defects
+        (EndsAtDefects p (leaves nodes)) l [] are.at_defects
 
     by : (d ≡ l.from) ⊎ (d ≡ l.to) → is_in (leaves nodes) d ≡ true
     by (inl e) = ap (is_in (leaves nodes)) e ∙ at.0 (ap p.is_real (sym e) ∙ real)
@@ -95,11 +87,8 @@ pub end_found : (nodes : List Node) (l : Link) (other name d : ℕ) → Connects
     → (cover_of nodes l.from ≡ Some name → d ≡ l.from) → (cover_of nodes l.from ≢ Some name → d ≡ l.to)
     → IsEndUnder nodes l name d
 end_found nodes l other name d (inl (first, second)) apart is_first is_second =
-    let is : d ≡ l.to = is_second (λ e. apart (some_same (sym first ∙ e))) in
+    let is : d ≡ l.to = is_second (λ e. apart (same_Some _ _ (sym first ∙ e))) in
     record { cover = ap (cover_of nodes) is ∙ second; end = inr is }
-  where
-    some_same : {a b : ℕ} → Some a ≡ Some b → a ≡ b
-    some_same {a} {b} e = cc
 end_found nodes l other name d (inr (first, second)) apart is_first is_second =
     let is : d ≡ l.from = is_first second in
     record { cover = ap (cover_of nodes) is ∙ second; end = inl is }

@@ -1,17 +1,19 @@
 -- The watch after a node absorbs a vertex: edges between two vertices of the node leave it.
 use Rattle.std.proofs.Common.{ℕ, ◌≡◌, ◌==◌, ◌+◌, ◌<◌, ◌≤◌, ◌||◌, Bool, true, false, not, List, [], ◌∷◌, ◌++◌, filter, get_or, length, take, refl, sym, ap, ◌∙◌, subst, if◌then◌else◌, ◌/◌, ◌&&◌, ◌⊎◌, inl, inr, le_refl, arith}
+use Rattle.std.proofs.Math.Bool.{and-true}
 use Rattle.std.specs.List.{range_with_len}
 use Rattle.std.proofs.lemmas.List.{take_all, take_more, get_or_past}
 use Rattle.std.proofs.lemmas.Bool.{and_right, both_ways, cases_eq, cases_lt, eq-eqb, ne_eqb}
 use Rattle.fb_search.proofs.KeptBounds.{bounded_by}
 use Rattle.fb_graph.proofs.Sets.{is_in_at}
-use Rattle.fb_graph.specs.Parity.{is_in, differ}
+use Rattle.fb_graph.specs.Parity.{is_in}
 use Rattle.fb_graph.specs.Problem.{Problem, edge_at, touches, no_edge}
 use Rattle.fb_graph.specs.Limits.{DecodingGraph, no_shot}
 use Rattle.fb_graph.specs.Dual.{AreUnderOne, Node, cover_of}
 use Rattle.fb_graph.specs.declared.parts.Edge.{Edge}
 use Rattle.fb_graph.proofs.Members.{is_in_push}
 use Rattle.fb_graph.proofs.Ranges.{is_in-filter-range}
+use Rattle.fb_graph.proofs.ParitySums.{differ_self}
 use Rattle.fb_half.specs.Parts.{PartValue, problem_in}
 use Rattle.fb_obstacles.specs.InnerEdges.{is_inner}
 use Rattle.fb_obstacles.specs.Watched.{Watched, AreBounded}
@@ -92,16 +94,12 @@ watched_left p nodes edge old new inner room left bounds = record {
       (sym (elsewhere i less)) (bounds limit right i less);
 }
   where
-    and_true : (a : Bool) → (a && true) ≡ a
-    and_true true = refl
-    and_true false = refl
-
     by : (k : ℕ) → (k ≡ edge) ⊎ (k ≡ edge → ⊥) → (is_in old.edges k && not (k == edge))
         ≡ (if (edge == k) || false then not (is_inner nodes (edge_at p.edges k)) else is_in old.edges k)
     by k (inl same) =
         rw (eq-eqb k edge same, eq-eqb edge k (sym same))
         (and_right (is_in old.edges k) false refl ∙ sym (ap (λ b. not b) (ap (λ j. is_inner nodes (edge_at p.edges j)) same ∙ inner)))
-    by k (inr other) = rw (ne_eqb k edge other, ne_eqb edge k (λ e. other (sym e))) (and_true (is_in old.edges k))
+    by k (inr other) = rw (ne_eqb k edge other, ne_eqb edge k (λ e. other (sym e))) (and-true (is_in old.edges k))
 
     elsewhere : (i : ℕ) → i < length new.edges → (edge == get_or new.edges i 0) ≡ false
     elsewhere i less =
@@ -137,11 +135,7 @@ taken_watched p nodes v edges old new e outer = record {
         half false = omega arith
 
         nowhere : (v : ℕ) (e : Edge) → e ≡ no_edge → touches v e ≡ false
-        nowhere v e is = ap (touches v) is ∙ both_same (v == 0)
-          where
-            both_same : (b : Bool) → differ b b ≡ false
-            both_same true = refl
-            both_same false = refl
+        nowhere v e is = ap (touches v) is ∙ differ_self (v == 0)
 
 module _ (p : Problem) (nodes : List Node) (v : ℕ) (old new : Watched) (taken : WatchesTaken p nodes v old new) (k : ℕ)
     (less : k < length p.edges) where

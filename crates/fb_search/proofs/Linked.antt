@@ -12,7 +12,6 @@ use Rattle.fb_graph.specs.Certificate.{AreDistinct}
 use Rattle.fb_graph.specs.Dual.{Node, is_live}
 use Rattle.fb_graph.specs.Moves.{blossom, joined_nodes, split_nodes}
 use Rattle.fb_graph.proofs.Among.{IsAmong, among_live}
-use Rattle.fb_graph.proofs.Members.{is_in-append}
 use Rattle.fb_graph.proofs.Places.{among_split, placed}
 use Rattle.fb_graph.proofs.Sets.{is_in-head}
 use Rattle.fb_links.specs.declared.cycle.CycleStep.{CycleStep}
@@ -20,12 +19,10 @@ use Rattle.fb_links.specs.declared.walk.Step.{Step}
 use Rattle.fb_links.specs.Table as table
 use Rattle.fb_blossoms.specs.Nodes.{Adds, TakesOff, cycle_of, node_at}
 use Rattle.fb_blossoms.specs.Nodes as blossoms
-use Rattle.fb_blossoms.proofs.Climbs.{none_some, same_some}
-use Rattle.fb_laws.specs.LinkNumbers.{tree_links}
-use Rattle.fb_laws.specs.Trees.{EntryOf, grown_links, paired_links}
+use Rattle.fb_blossoms.proofs.Climbs.{same_some}
 use Rattle.fb_laws.proofs.OpenedBlossoms.{distinct_permuted, same_permuted}
 use Rattle.fb_half.specs.Parts.{AreLinksOf, AreStepsOf}
-use Rattle.fb_half.specs.Translations.{entry_by, link_by, link_of, ring_at, ring_links}
+use Rattle.fb_half.specs.Translations.{link_by, link_of, ring_at, ring_links}
 use Rattle.fb_search.proofs.Agreed.{nodes_of}
 
 -- another number is in the longer list where it is in the shorter one
@@ -55,23 +52,6 @@ links_made p old new ids id walk links adds steps = record {
         subst (AreStepsOf p) (same_some (table.link_at new k) walk w (ap (table.link_at new) e ∙ adds.added) there) steps
     kept k w there (inr differ) = links.steps k w (sym (adds.others k differ) ∙ there)
 
-pub links_forgotten : (p : Problem) (old new : List (Option (List Step))) (ids : List ℕ) (id : ℕ)
-    → AreLinksOf p old (id ∷ ids) → table.Removes old new id → AreLinksOf p new ids
-links_forgotten p old new ids id links gone = record {
-  distinct = links.distinct.1;
-  live = λ k. live k (cases_eq k id);
-  steps = λ k w there. kept k w there (cases_eq k id);
-}
-  where
-    live : (k : ℕ) → (k ≡ id) ⊎ (k ≡ id → ⊥) → table.is_live new k ≡ is_in ids k
-    live k (inl e) =
-        ap (table.is_live new) e ∙ (ap some_walk gone.gone ∙ (sym links.distinct.0 ∙ ap (is_in ids) (sym e)))
-    live k (inr differ) = ap some_walk (gone.others k differ) ∙ (links.live k ∙ in_rest id ids k differ)
-
-    kept : (k : ℕ) (w : List Step) → table.link_at new k ≡ Some w → (k ≡ id) ⊎ (k ≡ id → ⊥) → AreStepsOf p w
-    kept k w there (inl e) = absurd (none_some (table.link_at new k) w (ap (table.link_at new) e ∙ gone.gone) there)
-    kept k w there (inr differ) = links.steps k w (sym (gone.others k differ) ∙ there)
-
 pub links_reordered : (p : Problem) (links : List (Option (List Step))) (ids others : List ℕ) → IsPermutation ids others
     → AreLinksOf p links ids → AreLinksOf p links others
 links_reordered p links ids others moved are = record {
@@ -95,29 +75,6 @@ links_kept old new id (k ∷ ks) same out =
     let parts = or_parts (k == id) (is_in ks id) out in
     ap (λ l. l ∷ map (link_by new) ks) (link_kept old new id k same (eqb-false k id parts.0))
     ∙ ap (λ ls. link_by old k ∷ ls) (links_kept old new id ks same parts.1)
-
-pub entries_kept : (old new : List (Option (List Step))) (id : ℕ) (tree : List (EntryOf ℕ)) → AreSameBeside old new id
-    → is_in (tree_links tree) id ≡ false → map (entry_by new) tree ≡ map (entry_by old) tree
-entries_kept old new id tree same out =
-    let parts = or_parts (is_in (grown_links tree) id) (is_in (paired_links tree) id)
-    (sym (is_in-append (grown_links tree) (paired_links tree) id) ∙ out) in
-    each tree parts.0 parts.1
-  where
-    each : (es : List (EntryOf ℕ)) → is_in (grown_links es) id ≡ false → is_in (paired_links es) id ≡ false
-        → map (entry_by new) es ≡ map (entry_by old) es
-    each [] grown paired = refl
-    each (e ∷ es) grown paired =
-        let first = or_parts (e.tree == id) (is_in (grown_links es) id) grown in
-        let second = or_parts (e.matched == id) (is_in (paired_links es) id) paired in
-        ap
-        (λ l. record { parent = e.parent; tree = l; minus = e.minus; matched = link_by new e.matched; plus = e.plus }
-        ∷ map (entry_by new) es)
-        (link_kept old new id e.tree same (eqb-false e.tree id first.0))
-        ∙ (ap
-        (λ l. record { parent = e.parent; tree = link_by old e.tree; minus = e.minus; matched = l; plus = e.plus }
-        ∷ map (entry_by new) es)
-        (link_kept old new id e.matched same (eqb-false e.matched id second.0))
-        ∙ ap (λ l. entry_by old e ∷ l) (each es first.1 second.1))
 
 rings_same : (old new : List (Option blossoms.Node)) (nodes : List Node)
     → ((n : Node) → IsAmong n nodes → node_at new n.name ≡ node_at old n.name)

@@ -9,19 +9,20 @@ use Rattle.fb_graph.specs.Nests.{IsNest}
 use Rattle.fb_links.specs.declared.cycle.CycleStep.{CycleStep}
 use Rattle.fb_links.specs.declared.walk.Step.{Step}
 use Rattle.fb_links.specs.Table.{is_live, walk_at}
-use Rattle.fb_blossoms.specs.Links.{IsLinkBetween, joins, next_place, step_at}
+use Rattle.fb_blossoms.specs.Links.{joins, next_place, step_at}
 use Rattle.fb_blossoms.specs.Links as blossoms_links
 use Rattle.fb_blossoms.specs.Nodes.{IsNested, defects_at}
 use Rattle.fb_blossoms.specs.Nodes as blossoms
 use Rattle.fb_laws.specs.TreeCycles.{AreLinked}
 use Rattle.fb_laws.specs.Trees.{Connects}
 use Rattle.fb_laws.specs.Works.{AreMatchedLinks}
+use Rattle.fb_laws.specs.Opening.{EndsAtDefects}
 use Rattle.fb_laws.proofs.HeldDefects.{covered_is_held}
 use Rattle.fb_half.specs.Parts.{AreAgreed}
 use Rattle.fb_half.specs.Translations.{link_by}
-use Rattle.fb_trees.proofs.Taken.{all_before_map}
 use Rattle.fb_search.proofs.Agreed.{nodes_of}
 use Rattle.fb_search.proofs.EnteredChildren.{are_held}
+use Rattle.fb_graph.proofs.Among.{All_unmapped}
 
 -- each step's link connects its node and the next one
 chained : (nodes : List Node) (table : ℕ → Link) (s : CycleStep) (ss : List CycleStep) (last : ℕ)
@@ -77,12 +78,6 @@ either_way false b false d (inr h) = cc
 
 module _ (p : Problem) (nodes : List Node) (store : List (Option blossoms.Node)) (links : List (Option (List Step)))
     (nest : IsNest p nodes) (agreed : AreAgreed nodes store) (nested : IsNested store) where
-  -- the link's real ends are defects
-  abbrev HasOwnEnds : Link → Type 0
-  HasOwnEnds l =
-      (p.is_real l.from ≡ true → is_in (leaves nodes) l.from ≡ true)
-      × (p.is_real l.to ≡ true → is_in (leaves nodes) l.to ≡ true)
-
   -- an outer node over the end of a link holds it
   end_held : (x d : ℕ) → (p.is_real d ≡ true → is_in (leaves nodes) d ≡ true) → cover_of nodes d ≡ Some x
       → is_in (defects_at store x) d ≡ true
@@ -90,7 +85,7 @@ module _ (p : Problem) (nodes : List Node) (store : List (Option blossoms.Node))
       (covered_is_held p nodes (defects_at store) x d nest (are_held nodes store agreed nested)
       (own (nest.dual.real d (subst IsSome (sym cover) refl))) cover).2
 
-  joined_by : (id x y : ℕ) → HasOwnEnds (link_by links id) → Connects nodes (link_by links id) x y
+  joined_by : (id x y : ℕ) → EndsAtDefects p (leaves nodes) (link_by links id) → Connects nodes (link_by links id) x y
       → joins (walk_at links id) (defects_at store x) (defects_at store y) ≡ true
   joined_by id x y own connects =
       either_way (is_in (defects_at store x) (link_by links id).from) (is_in (defects_at store y) (link_by links id).to)
@@ -118,11 +113,11 @@ module _ (p : Problem) (nodes : List Node) (store : List (Option blossoms.Node))
       → blossoms_links.AreLinked links store steps
   steps_linked first names [] named linked live tight k less = absurd (omega (arith, less))
   steps_linked first names (s ∷ ss) named linked live tight k less = (
-    all_before_map (λ id. is_live links id ≡ true) (λ t. t.link) (s ∷ ss) live k none less,
+    All_unmapped (λ id. is_live links id ≡ true) (λ t. t.link) (s ∷ ss) live k none less,
     joined_by (step_at (s ∷ ss) k).link (step_at (s ∷ ss) k).node
         (step_at (s ∷ ss) (next_place (length (s ∷ ss)) k)).node
-        (all_before_map (λ id. HasOwnEnds (link_by links id)) (λ t. t.link) (s ∷ ss)
-        (all_before_map HasOwnEnds (link_by links) (map (λ t. t.link) (s ∷ ss)) tight.at_defects) k none less)
+        (All_unmapped (λ id. EndsAtDefects p (leaves nodes) (link_by links id)) (λ t. t.link) (s ∷ ss)
+        (All_unmapped (EndsAtDefects p (leaves nodes)) (link_by links) (map (λ t. t.link) (s ∷ ss)) tight.at_defects) k none less)
         (subst (Connects nodes (link_by links (step_at (s ∷ ss) k).link) (step_at (s ∷ ss) k).node)
         (next_node s ss k less)
         (chained nodes (link_by links) s ss s.node turned k less)),

@@ -1,14 +1,14 @@
 -- A matching lists each outer node once after some nodes, none of them matched, are joined: the new node in their place.
-use Rattle.std.proofs.Common.{ℕ, ◌≡◌, ◌≢◌, ◌==◌, ◌⊎◌, inl, inr, true, false, List, [], ◌∷◌, ◌++◌, All, Option, Some, None, refl, sym, ap, ◌∙◌, subst}
+use Rattle.std.proofs.Common.{ℕ, ◌≡◌, ◌≢◌, ◌⊎◌, inl, inr, true, false, List, [], ◌∷◌, ◌++◌, All, Option, Some, None, refl, sym, ap, ◌∙◌, subst, option_to_list}
 use Rattle.std.specs.List.Sorted.{IsPermutation}
-use Rattle.std.proofs.lemmas.Bool.{both_ways, cases_eq, eq-eqb, false_from_ne_true}
+use Rattle.std.proofs.lemmas.Bool.{both_ways, cases_eq, false_from_ne_true}
 use Rattle.fb_graph.specs.Parity.{is_in}
 use Rattle.fb_graph.specs.Problem.{Problem}
 use Rattle.fb_graph.specs.Certificate.{AreDistinct}
 use Rattle.fb_graph.specs.Laws.{Link}
 use Rattle.fb_graph.specs.Dual.{Node, cover_of, is_live, is_outer}
 use Rattle.fb_graph.specs.Moves.{blossom, joined_nodes}
-use Rattle.fb_graph.proofs.Among.{IsAmong, All_among, among_All, among_any, among_either, among_left, among_live, among_outer, among_right, live_among, map_among, outer_among}
+use Rattle.fb_graph.proofs.Among.{IsAmong, All_among, among_All, among_either, among_left, among_live, among_outer, among_right, live_among, outer_among, among_is_in}
 use Rattle.fb_graph.proofs.AppendedNodes.{outer_in}
 use Rattle.fb_graph.proofs.Sets.{is_in-head, is_in-tail}
 use Rattle.fb_graph.proofs.Unions.{distinct_append}
@@ -18,12 +18,11 @@ use Rattle.fb_laws.specs.Trees.{Connects}
 use Rattle.fb_laws.proofs.MergedParts.{distinct_across}
 use Rattle.fb_laws.proofs.OpenedBlossoms.{distinct_permuted, same_permuted}
 use Rattle.fb_laws.proofs.OpenedParts.{flat_among, in_among}
-use Rattle.fb_half.specs.Matchings.{IsMatchOf, IsMatchingOf, MatchingValue, listed_names, match_links, matched_names, names_of, second_name}
+use Rattle.fb_half.specs.Matchings.{IsMatchOf, IsMatchingOf, MatchingValue, listed_names, matched_names, names_of}
 use Rattle.fb_half.specs.declared.matches.Match.{Match}
 use Rattle.fb_half.specs.Translations.{link_by}
-use Rattle.fb_search.proofs.Linked.{AreSameBeside, link_kept}
 use Rattle.fb_graph.proofs.Floods.{is_in-both, is_in-left, is_in-right}
-use Rattle.fb_laws.proofs.NestOrders.{distinct_left}
+use Rattle.fb_graph.proofs.Members.{distinct_left}
 
 -- The names of a tree after some of its nodes are joined under the new name.
 pub record IsRenamed (children before after : List ℕ) (name : ℕ) : Type 0 where
@@ -134,7 +133,7 @@ module _ (p : Problem) (nodes : List Node) (name : ℕ) (children : List ℕ) (l
           there free (inr b) = is_in-right outside after n (renamed.kept n b free)
 
   moved : (l : Link) (a : ℕ) (b : Option ℕ) → is_in children a ≡ false
-      → ((c : ℕ) → is_in (second_name b) c ≡ true → is_in children c ≡ false) → IsMatchOf p nodes l a b
+      → ((c : ℕ) → is_in (option_to_list b) c ≡ true → is_in children c ≡ false) → IsMatchOf p nodes l a b
       → IsMatchOf p (joined_nodes name children nodes) l a b
   moved l a None first second (v, leaves, real) = (v, leaves_on leaves, real)
     where
@@ -147,14 +146,11 @@ module _ (p : Problem) (nodes : List Node) (name : ℕ) (children : List ℕ) (l
       on (inl (c, d)) = inl (cover l.from a c first, cover l.to b d (second b (is_in-head b [])))
       on (inr (c, d)) = inr (cover l.to a c first, cover l.from b d (second b (is_in-head b [])))
 
-  is_member : (xs : List ℕ) (d : ℕ) → IsAmong d xs → is_in xs d ≡ true
-  is_member xs d a = among_any (λ u. u == d) xs d a (eq-eqb d d refl)
-
   free_names : (e : Match) → IsAmong e m.matches → (c : ℕ) → is_in (names_of e) c ≡ true → is_in children c ≡ false
   free_names e a c there =
       not_child c
       (matched c
-      (is_member (matched_names m.matches) c (flat_among names_of m.matches e c a (in_among (names_of e) c there))))
+      (among_is_in (matched_names m.matches) c (flat_among names_of m.matches e c a (in_among (names_of e) c there))))
 
   pub matching_joined : IsMatchingOf p (joined_nodes name children nodes) links m2 others2
   matching_joined = record {
@@ -168,27 +164,7 @@ module _ (p : Problem) (nodes : List Node) (name : ℕ) (children : List ℕ) (l
         (among_All (λ e. IsMatchOf p (joined_nodes name children nodes) (link_by links e.link) e.first e.second) m.matches
         (λ e a.
         moved (link_by links e.link) e.first e.second
-        (free_names e a e.first (is_in-head e.first (second_name e.second)))
-        (λ c there. free_names e a c (is_in-tail e.first (second_name e.second) c there))
+        (free_names e a e.first (is_in-head e.first (option_to_list e.second)))
+        (λ c there. free_names e a c (is_in-tail e.first (option_to_list e.second) c there))
         (All_among (λ f. IsMatchOf p nodes (link_by links f.link) f.first f.second) m.matches was.connects e a)));
   }
-
--- a matching stays one where a link that it doesn't list is made or forgotten
-pub matching_relinked : (p : Problem) (nodes : List Node) (old new : List (Option (List Step))) (id : ℕ) (m : MatchingValue)
-    (others : List ℕ) → AreSameBeside old new id → is_in (match_links m.matches) id ≡ false
-    → IsMatchingOf p nodes old m others → IsMatchingOf p nodes new m others
-matching_relinked p nodes old new id m others same out was = record {
-  distinct = was.distinct;
-  live = was.live;
-  all = was.all;
-  connects = among_All (λ e. IsMatchOf p nodes (link_by new e.link) e.first e.second) m.matches
-      (λ e a.
-      subst (λ l. IsMatchOf p nodes l e.first e.second) (sym (link_kept old new id e.link same (other e a)))
-      (All_among (λ f. IsMatchOf p nodes (link_by old f.link) f.first f.second) m.matches was.connects e a));
-}
-  where
-    other : (e : Match) → IsAmong e m.matches → e.link ≢ id
-    other e a is =
-        both_ways (is_in (match_links m.matches) id) out
-        (among_any (λ u. u == id) (match_links m.matches) e.link (map_among (λ (f : Match). f.link) m.matches e a)
-        (eq-eqb e.link id is))

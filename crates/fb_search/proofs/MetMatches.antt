@@ -1,5 +1,5 @@
 -- A matched node that a tree has met: the link to it, and its match, which is taken out of the matching.
-use Rattle.std.proofs.Common.{ℕ, ◌≡◌, ◌≢◌, ◌==◌, inl, inr, true, false, List, [], ◌∷◌, ◌++◌, Option, Some, None, sym, ap, subst, ◌∙◌}
+use Rattle.std.proofs.Common.{ℕ, ◌≡◌, ◌≢◌, ◌==◌, inl, inr, true, false, List, [], ◌∷◌, ◌++◌, Option, Some, None, sym, ap, subst, ◌∙◌, option_to_list}
 use Rattle.std.specs.List.Sorted.{IsPermutation}
 use Rattle.std.proofs.lemmas.Bool.{both_ways, ne_eqb, or_from}
 use Rattle.std.proofs.lemmas.List.Elements.{All-head}
@@ -18,7 +18,7 @@ use Rattle.fb_laws.proofs.TreePaths.{distinct_right}
 use Rattle.fb_links.specs.declared.walk.Step.{Step}
 use Rattle.fb_links.specs.Table.{Adds}
 use Rattle.fb_half.specs.declared.matches.Match.{Match}
-use Rattle.fb_half.specs.Matchings.{IsMatchOf, MatchingValue, listed_names, matched_names, names_of, second_name}
+use Rattle.fb_half.specs.Matchings.{IsMatchOf, MatchingValue, listed_names, matched_names, names_of}
 use Rattle.fb_half.specs.Translations.{link_by}
 use Rattle.fb_trees.specs.Rooted.{is_node}
 use Rattle.fb_search.specs.InternalMeetings.{HasMet, IsBoundaryMatch, IsCouple}
@@ -28,15 +28,15 @@ use Rattle.fb_search.specs.Searching.{IsSearching, IsSearchingBeside, SearchValu
 use Rattle.fb_half.proofs.FlatPermutations.{flat_permuted}
 use Rattle.fb_search.proofs.Renamed.{tree_listed}
 use Rattle.fb_search.proofs.TreeEnds.{meeting_plus}
-use Rattle.fb_laws.proofs.NestOrders.{distinct_left}
 use Rattle.fb_graph.proofs.Floods.{is_in-left, is_in-right}
+use Rattle.fb_graph.proofs.Members.{distinct_left}
 
 pub couple_names : (m : Match) (a b : ℕ) → IsCouple m a b → IsPermutation (names_of m) (a ∷ b ∷ [])
 couple_names m a b (inl (first, second)) =
-    let names : names_of m ≡ a ∷ b ∷ [] = (λ k. first k ∷ second_name (second k)) in
+    let names : names_of m ≡ a ∷ b ∷ [] = (λ k. first k ∷ option_to_list (second k)) in
     subst (λ l. IsPermutation l (a ∷ b ∷ [])) (sym names) (IsPermutation-refl (a ∷ b ∷ []))
 couple_names m a b (inr (first, second)) =
-    let names : names_of m ≡ b ∷ a ∷ [] = (λ k. first k ∷ second_name (second k)) in
+    let names : names_of m ≡ b ∷ a ∷ [] = (λ k. first k ∷ option_to_list (second k)) in
     subst (λ l. IsPermutation l (a ∷ b ∷ [])) (sym names) (IsPermutation-middle (b ∷ []) a [])
 
 -- the link is made and the match taken out

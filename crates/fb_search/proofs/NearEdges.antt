@@ -2,18 +2,17 @@
 use Rattle.std.proofs.Common.{ℕ, ◌≡◌, ◌+◌, ◌-◌, ◌≤◌, ◌<◌, ◌==◌, ◌||◌, ◌⊎◌, inl, inr, not, Bool, cond, true, false, List, [], ◌∷◌, ◌++◌, length, take, filter, get_or, All, Some, None, refl, sym, ap, ◌∙◌, subst, arith, length-append, if◌then◌else◌}
 use Rattle.std.specs.Prelude.{IfSome, Option}
 use Rattle.std.specs.List.{range_with_len}
-use Rattle.std.proofs.lemmas.Bool.{eqb-true, false≢true}
+use Rattle.std.proofs.lemmas.Bool.{eqb-true, false≢true, not-true}
 use Rattle.std.proofs.lemmas.List.{take_all}
 use Rattle.std.proofs.lemmas.List.Elements.{All-head, All-tail, filter_passes}
-use Rattle.fb_graph.specs.Components.{Leads}
 use Rattle.fb_graph.specs.Dual.{Node, cover_of, is_empty, is_live, layers_at, layers_of, first_vertices, top_at}
 use Rattle.fb_graph.specs.Limits.{IsWithinLimits}
 use Rattle.fb_graph.specs.Nests.{IsFormed, IsNest}
-use Rattle.fb_graph.specs.Parity.{differ, is_in}
-use Rattle.fb_graph.specs.Problem.{Problem, edge_at, no_edge, touches}
+use Rattle.fb_graph.specs.Parity.{is_in}
+use Rattle.fb_graph.specs.Problem.{Problem, edge_at, touches}
 use Rattle.fb_graph.specs.declared.parts.Cut.{Cut}
 use Rattle.fb_graph.specs.declared.parts.Edge.{Edge}
-use Rattle.fb_graph.proofs.Among.{among_live, cover_among, top_among}
+use Rattle.fb_graph.proofs.Among.{cover_among, top_among}
 use Rattle.fb_graph.proofs.Ranges.{filter-range_below, is_in-filter-range}
 use Rattle.fb_graph.proofs.Sets.{is_in-cases}
 use Rattle.fb_regions.specs.Moves.{BeginsWith, node_named}
@@ -101,36 +100,13 @@ single_over p nodes unmatched v name nest over listed single = record {
 -- what the test of a target says
 pub target_is : (p : Problem) (nodes : List Node) (unmatched : List ℕ) (v : ℕ) (o : Option ℕ) → IsNest p nodes
     → o ≡ cover_of nodes v → is_target p nodes unmatched v o ≡ true → IsTarget p nodes unmatched v o
-target_is p nodes unmatched v None nest over is = by (p.is_real v) is
-  where
-    by : (b : Bool) → not b ≡ true → b ≡ false
-    by true is = sym is
-    by false is = refl
+target_is p nodes unmatched v None nest over is = not-true (p.is_real v) is
 target_is p nodes unmatched v (Some name) nest over is = by (is_in unmatched name) refl is
   where
     by : (b : Bool) → is_in unmatched name ≡ b → (if b then is_single nodes name else false) ≡ true
         → IsSingleAt nodes unmatched v name
     by true listed single = single_over p nodes unmatched v name nest (sym over) listed single
     by false listed single = absurd (false≢true single)
-
--- an edge that touches a vertex leads from it to its other end
-pub leads_to_second : (v : ℕ) (e : Edge) → e.first ≡ v → Leads e v e.second
-leads_to_second v e same = inl (same, refl)
-
-pub leads_to_first : (v : ℕ) (e : Edge) → touches v e ≡ true → (e.first ≡ v → ⊥) → Leads e v e.first
-leads_to_first v e at other = by (v == e.first) refl (v == e.second) refl at
-  where
-    by : (a : Bool) → (v == e.first) ≡ a → (b : Bool) → (v == e.second) ≡ b → differ a b ≡ true → Leads e v e.first
-    by true is b same at = absurd (other (sym (eqb-true v e.first is)))
-    by false is true same at = inr (sym (eqb-true v e.second same), refl)
-    by false is false same at = absurd (false≢true at)
-
--- it ends within the graph
-pub end_below : (p : Problem) (k u v : ℕ) → IsWithinLimits p → k < length p.edges → Leads (edge_at p.edges k) u v → v < p.vertices
-end_below p k u v limits less (inl (first, second)) =
-    subst (λ x. x < p.vertices) second (limits.each_edge k no_edge less).second
-end_below p k u v limits less (inr (second, first)) =
-    subst (λ x. x < p.vertices) first (limits.each_edge k no_edge less).first
 
 -- the edges that a scope lists at a vertex
 pub listed_below : (edges : List Edge) (v i : ℕ) (items : List ℕ)

@@ -34,7 +34,7 @@ use Rattle.fb_search.proofs.OpenedNames.{along_way, names-along}
 use Rattle.fb_search.proofs.OpenedSplits.{child_live, child_was_inner, children_many}
 use Rattle.fb_search.proofs.Openings.{Opens, round_in}
 use Rattle.fb_graph.proofs.Floods.{is_in-both, is_in-left, is_in-right}
-use Rattle.fb_laws.proofs.NestOrders.{distinct_left}
+use Rattle.fb_graph.proofs.Members.{distinct_left}
 
 seconds_within : (steps : List CycleStep) (n : ℕ) → is_in (second_nodes steps) n ≡ true → is_in (nodes_of steps) n ≡ true
 seconds_within [] n there = absurd (false≢true there)

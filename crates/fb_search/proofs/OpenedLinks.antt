@@ -1,5 +1,6 @@
 -- Links that are forgotten: the others stay as they were.
 use Rattle.std.proofs.Common.{ℕ, ◌≡◌, ◌==◌, ◌||◌, ◌⊎◌, inl, inr, cond, Bool, true, false, List, [], ◌∷◌, ◌++◌, map, Option, Some, None, is_some, unwrap_or, refl, sym, ap, ◌∙◌}
+use Rattle.std.proofs.Math.Bool.{or-false}
 use Rattle.std.specs.List.Sorted.{IsPermutation}
 use Rattle.std.proofs.lemmas.Bool.{cases_Bool, eq-eqb, false_from_ne_true, false≢true}
 use Rattle.fb_graph.specs.Parity.{is_in}
@@ -7,7 +8,7 @@ use Rattle.fb_graph.specs.Certificate.{AreDistinct}
 use Rattle.fb_graph.specs.Problem.{Problem}
 use Rattle.fb_graph.specs.Dual.{Node, is_live}
 use Rattle.fb_graph.proofs.Among.{among_any, live_among}
-use Rattle.fb_graph.proofs.Members.{is_in-append, or_false}
+use Rattle.fb_graph.proofs.Members.{is_in-append, distinct_left}
 use Rattle.fb_graph.proofs.Sets.{is_in-head, is_in-tail}
 use Rattle.fb_links.specs.declared.walk.Step.{Step}
 use Rattle.fb_links.specs.Table.{link_at}
@@ -22,7 +23,6 @@ use Rattle.fb_half.specs.Parts.{AreLinksOf, AreStepsOf}
 use Rattle.fb_half.specs.Translations.{entry_by, link_by, link_of, ring_at, ring_links}
 use Rattle.fb_search.specs.InternalEndings.{Forgets}
 use Rattle.fb_links.proofs.MovedLinks.{Table}
-use Rattle.fb_laws.proofs.NestOrders.{distinct_left}
 use Rattle.fb_graph.proofs.Floods.{is_in-left, is_in-right}
 
 module _ (p : Problem) (old new : Table) (ids kept gone : List ℕ) (are : AreLinksOf p old ids) (moved : IsPermutation ids (kept ++ gone))
@@ -52,7 +52,7 @@ module _ (p : Problem) (old new : Table) (ids kept gone : List ℕ) (are : AreLi
           ap is_some (read k false g)
           ∙ (are.live k
           ∙ (sym (same_permuted ids (kept ++ gone) moved k)
-          ∙ (is_in-append kept gone k ∙ (ap (λ b. is_in kept k || b) g ∙ or_false (is_in kept k)))))
+          ∙ (is_in-append kept gone k ∙ (ap (λ b. is_in kept k || b) g ∙ or-false (is_in kept k)))))
 
       along : (k : ℕ) (path : List Step) → link_at new k ≡ Some path → (is_in gone k ≡ true) ⊎ (is_in gone k ≡ false)
           → AreStepsOf p path

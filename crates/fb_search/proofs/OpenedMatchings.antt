@@ -1,5 +1,5 @@
 -- The matching of a search after a minus blossom of its tree is opened: the children beside the way are matched in pairs.
-use Rattle.std.proofs.Common.{ℕ, ◌≡◌, ◌≢◌, ◌==◌, ◌⊎◌, inl, inr, true, List, [], ◌∷◌, ◌++◌, map, Option, Some, None, refl, sym, ap, ◌∙◌, subst}
+use Rattle.std.proofs.Common.{ℕ, ◌≡◌, ◌≢◌, ◌==◌, ◌⊎◌, inl, inr, true, List, [], ◌∷◌, ◌++◌, map, Option, Some, None, refl, sym, ap, ◌∙◌, subst, option_to_list}
 use Rattle.std.specs.List.Sorted.{IsPermutation}
 use Rattle.std.proofs.lemmas.Bool.{both_ways, eq-eqb, false_from_ne_true}
 use Rattle.std.proofs.lemmas.List.Concat.{flat_map-append}
@@ -22,7 +22,7 @@ use Rattle.fb_laws.specs.Trees.{Connects, EntryOf}
 use Rattle.fb_laws.proofs.OpenedBlossoms.{distinct_permuted, same_permuted}
 use Rattle.fb_laws.proofs.OpenedParts.{flat_among, in_among}
 use Rattle.fb_half.specs.declared.matches.Match.{Match}
-use Rattle.fb_half.specs.Matchings.{IsMatchOf, IsMatchingOf, listed_names, match_links, matched_names, names_of, second_name}
+use Rattle.fb_half.specs.Matchings.{IsMatchOf, IsMatchingOf, listed_names, match_links, matched_names, names_of}
 use Rattle.fb_half.specs.Translations.{link_by, ring_links}
 use Rattle.fb_trees.specs.Branches.{Grown}
 use Rattle.fb_trees.specs.Replacements.{way_of}
@@ -44,7 +44,7 @@ use Rattle.fb_half.proofs.FreedMatches.{link_in}
 -- a link under other nodes than the one that is split leads where it led
 match_stays : (p : Problem) (nodes others : List Node) (name : ℕ)
     → ((v n : ℕ) → cover_of nodes v ≡ Some n → n ≢ name → cover_of others v ≡ Some n) → (l : Link) (a : ℕ) (b : Option ℕ)
-    → a ≢ name → ((c : ℕ) → is_in (second_name b) c ≡ true → c ≢ name) → IsMatchOf p nodes l a b → IsMatchOf p others l a b
+    → a ≢ name → ((c : ℕ) → is_in (option_to_list b) c ≡ true → c ≢ name) → IsMatchOf p nodes l a b → IsMatchOf p others l a b
 match_stays p nodes others name cover l a None first second (v, leaves, real) = (v, on leaves, real)
   where
     on : LeavesNode nodes l a v → LeavesNode others l a v
@@ -185,8 +185,8 @@ module _ (w : SearchValue) (name : ℕ) (e : EntryOf ℕ) (above below : ℕ) (a
       match_stays (problem_of w) w.part.nodes Others name
       (cover_stays (problem_of w) w.part.nodes name Cycle opens.may_split (nest w name e above below are opens)
       (children_are w name e above below are opens))
-      (link_by w.part.links m.link) m.first m.second (free m.first (is_in-head m.first (second_name m.second)))
-      (λ c there. free c (is_in-tail m.first (second_name m.second) c there))
+      (link_by w.part.links m.link) m.first m.second (free m.first (is_in-head m.first (option_to_list m.second)))
+      (λ c there. free c (is_in-tail m.first (option_to_list m.second) c there))
       (All_among (λ x. IsMatchOf (problem_of w) w.part.nodes (link_by w.part.links x.link) x.first x.second)
       w.part.matching.matches are.matching.connects m a)
     where

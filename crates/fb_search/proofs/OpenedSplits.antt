@@ -1,17 +1,17 @@
 -- The outer nodes after a blossom is split: those before, without the blossom and with its children.
-use Rattle.std.proofs.Common.{ℕ, ◌≡◌, ◌≢◌, ◌⊎◌, inl, inr, true, false, List, [], ◌∷◌, All, Some, sym, ap, ◌∙◌, subst}
+use Rattle.std.proofs.Common.{ℕ, ◌≡◌, ◌≢◌, ◌⊎◌, inl, inr, true, false, List, [], All, Some, sym, ap, ◌∙◌, subst}
 use Rattle.std.proofs.lemmas.Bool.{both_ways, cases_eq, false_from_ne_true}
 use Rattle.fb_graph.specs.Parity.{is_in}
 use Rattle.fb_graph.specs.Problem.{Problem}
 use Rattle.fb_graph.specs.Dual.{Node, cover_of, is_empty, is_live, is_outer}
 use Rattle.fb_graph.specs.Moves.{MaySplit, split_nodes}
-use Rattle.fb_graph.specs.Nests.{AreJoinedLater, AreMany, IsFormed, IsNest}
+use Rattle.fb_graph.specs.Nests.{AreMany, IsFormed, IsNest}
 use Rattle.fb_graph.proofs.Among.{IsAmong, All_among, among_live, among_outer, cover_among, covered_by, live_among, outer_among, outer_or_not}
 use Rattle.fb_graph.proofs.Places.{among_split, split_among}
 use Rattle.fb_graph.proofs.Sets.{is_in-All}
 use Rattle.fb_graph.proofs.SplitNests.{nest_split}
+use Rattle.fb_graph.proofs.Forests.{one_parent}
 use Rattle.fb_laws.proofs.CycleMoves.{child_inner}
-use Rattle.fb_laws.proofs.SplitStates.{one_parent}
 
 module _ (p : Problem) (nodes : List Node) (name : ℕ) (children : List ℕ) (may : MaySplit nodes name) (nest : IsNest p nodes)
     (children_are : All (λ n. n.name ≡ name → n.children ≡ children) nodes) where

@@ -5,7 +5,7 @@ use Rattle.std.proofs.lemmas.List.{append_assoc, map-append}
 use Rattle.std.proofs.lemmas.List.Sorted.{IsPermutation-append_comm, IsPermutation-append_left, IsPermutation-append_right, IsPermutation-cons, IsPermutation-middle, IsPermutation-refl, IsPermutation-sym, IsPermutation-trans}
 use Rattle.fb_graph.specs.Laws.{Link}
 use Rattle.fb_links.specs.declared.cycle.CycleStep.{CycleStep}
-use Rattle.fb_laws.specs.OpenedCycles.{Couple, grown_on, last_of, matched_beside, matched_on, paired_beside, paired_on}
+use Rattle.fb_laws.specs.OpenedCycles.{Couple, grown_on, last_of, matched_beside, matched_on, paired_on}
 use Rattle.fb_laws.specs.RingWays.{couples_along, passes_along}
 use Rattle.fb_half.specs.Matchings.{match_links, matched_names}
 use Rattle.fb_half.specs.declared.matches.Match.{Match}
@@ -64,12 +64,6 @@ links_after f (b ∷ bs) s after = links_after f bs s after
 pub couples_links : (f : ℕ → Link) (ms : List Match) → matched_beside (map (couple_by f) ms) ≡ map f (match_links ms)
 couples_links f [] = refl
 couples_links f (m ∷ ms) = ap (λ l. f m.link ∷ l) (couples_links f ms)
-
-pub couples_names : (f : ℕ → Link) (rest : List CycleStep)
-    → paired_beside (map (couple_by f) (couples_on rest)) ≡ matched_names (couples_on rest)
-couples_names f [] = refl
-couples_names f (s ∷ []) = refl
-couples_names f (s ∷ t ∷ ss) = ap (λ l. s.node ∷ t.node ∷ l) (couples_names f ss)
 
 -- an even number of steps are all in couples
 pub couples_nodes : (rest : List CycleStep) → length rest % 2 ≡ 0 → matched_names (couples_on rest) ≡ nodes_of rest

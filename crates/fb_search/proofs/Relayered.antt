@@ -1,21 +1,20 @@
 -- A search whose nodes have other layers over the same defects keeps what every search keeps.
-use Rattle.std.proofs.Common.{ℕ, ◌≡◌, inl, inr, true, List, [], ◌∷◌, ◌++◌, map, All, Option, Some, None, IsSome, refl, sym, ap, ◌∙◌, subst, if◌then◌else◌}
+use Rattle.std.proofs.Common.{ℕ, ◌≡◌, inl, inr, true, List, [], ◌∷◌, ◌++◌, map, All, Option, Some, None, refl, sym, ap, ◌∙◌, subst, if◌then◌else◌}
 use Rattle.std.proofs.lemmas.List.Elements.{All-cons, All-head, All-map, All-nil, All-tail, All-weaker}
-use Rattle.fb_graph.specs.Parity.{is_in}
 use Rattle.fb_graph.specs.Problem.{Problem}
 use Rattle.fb_graph.specs.Laws.{Link}
 use Rattle.fb_graph.specs.Alike.{AreAlike}
-use Rattle.fb_graph.specs.Dual.{IsDual, Node, cover_of, defects_of, is_empty, is_live, is_outer, leaves}
+use Rattle.fb_graph.specs.Dual.{IsDual, Node, defects_of, is_empty, is_live, is_outer, leaves}
 use Rattle.fb_graph.specs.Nests.{first_set}
 use Rattle.fb_graph.proofs.Among.{All_among, among_All}
 use Rattle.fb_graph.proofs.MappedNodes.{AreKept, mapped_outer, mapped_live}
 use Rattle.fb_blossoms.specs.Nodes.{defects_at}
 use Rattle.fb_blossoms.specs.Nodes as blossoms
 use Rattle.fb_links.specs.declared.walk.Step.{Step}
-use Rattle.fb_laws.specs.Opening.{EndAtDefects}
+use Rattle.fb_laws.specs.Opening.{EndAtDefects, EndsAtDefects}
 use Rattle.fb_laws.specs.PartStates.{IsSearchState}
 use Rattle.fb_laws.specs.Searches.{LeavesNode}
-use Rattle.fb_laws.specs.Trees.{Connects, paired_links}
+use Rattle.fb_laws.specs.Trees.{paired_links}
 use Rattle.fb_laws.specs.LinkNumbers.{tree_links}
 use Rattle.fb_half.specs.Matchings.{IsMatchOf, IsMatchingOf, MatchingValue, match_links}
 use Rattle.fb_half.specs.Parts.{AreAgreed, AreLinksOf}
@@ -27,9 +26,7 @@ use Rattle.fb_obstacles.specs.Obstacles.{IsWatched, slack_at}
 use Rattle.fb_obstacles.specs.Watched.{AreBounded, Watched}
 use Rattle.fb_search.specs.Searching.{IsSearching, SearchValue, problem_of, roles_in, state_at}
 use Rattle.fb_graph.proofs.Nodes.{All-right}
-
-abbrev At : Problem → List ℕ → Link → Type 0
-At p defects l = (p.is_real l.from ≡ true → is_in defects l.from ≡ true) × (p.is_real l.to ≡ true → is_in defects l.to ≡ true)
+use Rattle.fb_laws.proofs.LayeredSearches.{cover_kept, connects_kept}
 
 module _ (f : Node → Node) (nodes : List Node) (kept : AreKept f nodes) where
   live_kept : (x : ℕ) → is_live (map f nodes) x ≡ is_live nodes x
@@ -69,22 +66,14 @@ module _ (f : Node → Node) (nodes : List Node) (kept : AreKept f nodes) where
           ap (λ x. ring_at store x ++ ring_links (map f ns) store) (kept.name n) ∙ ap (λ l. ring_at store n.name ++ l) (by ns)
 
 module _ (p : Problem) (nodes others : List Node) (alike : AreAlike nodes others) (dual : IsDual p nodes) where
-  cover_kept : (v name : ℕ) → (p.is_real v ≡ true → is_in (leaves nodes) v ≡ true) → cover_of nodes v ≡ Some name
-      → cover_of others v ≡ Some name
-  cover_kept v name at cover = alike.covers v (at (dual.real v (subst IsSome (sym cover) refl))) ∙ cover
+  leaves_kept : (l : Link) (a v : ℕ) → EndsAtDefects p (leaves nodes) l → LeavesNode nodes l a v → LeavesNode others l a v
+  leaves_kept l a v (at_from, at_to) (inl (cover, end)) = inl (cover_kept p nodes others alike dual l.from a at_from cover, end)
+  leaves_kept l a v (at_from, at_to) (inr (cover, end)) = inr (cover_kept p nodes others alike dual l.to a at_to cover, end)
 
-  connects_kept : (l : Link) (a b : ℕ) → At p (leaves nodes) l → Connects nodes l a b → Connects others l a b
-  connects_kept l a b (at_from, at_to) (inl (from, to)) = inl (cover_kept l.from a at_from from, cover_kept l.to b at_to to)
-  connects_kept l a b (at_from, at_to) (inr (to, from)) = inr (cover_kept l.to a at_to to, cover_kept l.from b at_from from)
-
-  leaves_kept : (l : Link) (a v : ℕ) → At p (leaves nodes) l → LeavesNode nodes l a v → LeavesNode others l a v
-  leaves_kept l a v (at_from, at_to) (inl (cover, end)) = inl (cover_kept l.from a at_from cover, end)
-  leaves_kept l a v (at_from, at_to) (inr (cover, end)) = inr (cover_kept l.to a at_to cover, end)
-
-  match_kept : (l : Link) (a : ℕ) (second : Option ℕ) → At p (leaves nodes) l → IsMatchOf p nodes l a second
+  match_kept : (l : Link) (a : ℕ) (second : Option ℕ) → EndsAtDefects p (leaves nodes) l → IsMatchOf p nodes l a second
       → IsMatchOf p others l a second
   match_kept l a None at (v, leaves_node, real) = (v, leaves_kept l a v at leaves_node, real)
-  match_kept l a (Some b) at connects = connects_kept l a b at connects
+  match_kept l a (Some b) at connects = connects_kept p nodes others alike dual l a b at connects
 
   pub matches_kept : (links : List (Option (List Step))) (matches : List Match)
       → EndAtDefects p (leaves nodes) (map (link_by links) (match_links matches))
@@ -94,10 +83,10 @@ module _ (p : Problem) (nodes others : List Node) (alike : AreAlike nodes others
   matches_kept links (m ∷ ms) at are =
       All-cons (λ e. IsMatchOf p others (link_by links e.link) e.first e.second) m ms
       (match_kept (link_by links m.link) m.first m.second
-      (All-head (At p (leaves nodes)) (link_by links m.link) (map (link_by links) (match_links ms)) at)
+      (All-head (EndsAtDefects p (leaves nodes)) (link_by links m.link) (map (link_by links) (match_links ms)) at)
       (All-head (λ e. IsMatchOf p nodes (link_by links e.link) e.first e.second) m ms are))
       (matches_kept links ms
-      (All-tail (At p (leaves nodes)) (link_by links m.link) (map (link_by links) (match_links ms)) at)
+      (All-tail (EndsAtDefects p (leaves nodes)) (link_by links m.link) (map (link_by links) (match_links ms)) at)
       (All-tail (λ e. IsMatchOf p nodes (link_by links e.link) e.first e.second) m ms are))
 
 pub matching_relayered : (p : Problem) (f : Node → Node) (nodes : List Node) (links : List (Option (List Step)))
@@ -135,7 +124,7 @@ searching_relayered w f watched are kept alike state room watch bounds = record 
   matching =
       matching_relayered (problem_of w) f w.part.nodes w.part.links w.part.matching (nodes_along w.tree.branches) kept alike
       are.state.1.search.nest.dual
-      (All-right (At (problem_of w) (leaves w.part.nodes)) (paired_links (state_at w are.state.0).tree) (state_at w are.state.0).rest
+      (All-right (EndsAtDefects (problem_of w) (leaves w.part.nodes)) (paired_links (state_at w are.state.0).tree) (state_at w are.state.0).rest
       are.state.1.search.search.matching.links_are.at_defects)
       are.matching;
   room = room ∙ are.room;

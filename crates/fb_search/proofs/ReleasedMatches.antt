@@ -1,5 +1,5 @@
 -- A search that ends at a node that was matched to the boundary: the node is matched with the tree in the place of it.
-use Rattle.std.proofs.Common.{ℕ, ◌≡◌, ◌||◌, ◌⊎◌, inl, inr, cond, true, false, All, Bool, List, [], ◌∷◌, ◌++◌, map, Option, None, is_some, refl, sym, ap, subst, ◌∙◌}
+use Rattle.std.proofs.Common.{ℕ, ◌≡◌, ◌||◌, ◌⊎◌, inl, inr, cond, true, false, All, Bool, List, [], ◌∷◌, ◌++◌, map, Option, None, is_some, refl, sym, ap, subst, ◌∙◌, option_to_list}
 use Rattle.std.specs.List.Sorted.{IsPermutation}
 use Rattle.std.proofs.lemmas.Bool.{both_ways, cases_eq, eq-eqb, ne_eqb}
 use Rattle.std.proofs.lemmas.List.Elements.{All-head, All-tail}
@@ -14,7 +14,7 @@ use Rattle.fb_laws.proofs.StateMoves.{state_released}
 use Rattle.fb_links.specs.declared.walk.Step.{Step}
 use Rattle.fb_links.specs.Table.{Removes, is_live, link_at}
 use Rattle.fb_half.specs.declared.matches.Match.{Match}
-use Rattle.fb_half.specs.Matchings.{MatchingValue, listed_names, match_links, matched_names, names_of, second_name}
+use Rattle.fb_half.specs.Matchings.{MatchingValue, listed_names, match_links, matched_names, names_of}
 use Rattle.fb_half.specs.Parts.{IsPart}
 use Rattle.fb_half.specs.Translations.{link_by, link_of, ring_links}
 use Rattle.fb_trees.proofs.Mapped.{plus_moved}
@@ -76,7 +76,7 @@ module _ (w : SearchValue) (met : Met) (now : SearchValue) (h : HasMet w met now
       (IsPermutation-sym _ _ (IsPermutation-middle (others_kept w met.plus kept) met.taken.link dropped))))
 
   boundary_names : names_of met.taken ≡ met.other ∷ []
-  boundary_names = (λ k. boundary.0 k ∷ second_name (boundary.1 k))
+  boundary_names = (λ k. boundary.0 k ∷ option_to_list (boundary.1 k))
 
   takes : (unmatched : List ℕ) → IsPermutation w.part.matching.unmatched (w.tree.root ∷ unmatched)
       → AreTaken w.part.matching w.tree.root met.plus unmatched kept out_match

@@ -1,5 +1,6 @@
 -- The nodes of a cycle are those of it gone round from one of them, in either direction; and the link of a node's step.
 use Rattle.std.proofs.Common.{ℕ, suc, ◌≡◌, ◌+◌, ◌==◌, ◌%◌, ◌||◌, Bool, true, false, List, [], ◌∷◌, ◌++◌, get_or, drop, take, reverse, refl, sym, ap, ◌∙◌, if◌then◌else◌, arith}
+use Rattle.std.proofs.Math.Bool.{or_comm}
 use Rattle.std.proofs.lemmas.Bool.{false≢true}
 use Rattle.std.proofs.lemmas.List.{take-append-drop}
 use Rattle.std.proofs.lemmas.Grind.{reverse_onto}
@@ -7,12 +8,6 @@ use Rattle.std.proofs.lemmas.List.Folds.{list_any-append}
 use Rattle.fb_links.specs.declared.cycle.CycleStep.{CycleStep}
 use Rattle.fb_blossoms.specs.Nodes.{is_on}
 use Rattle.fb_search.specs.InternalOpenings.{between_on, even_on, link_on, links_left, place_on, rest_on, round_on, turned_from, turned_on}
-
-or_comm : (a b : Bool) → (a || b) ≡ (b || a)
-or_comm true true = refl
-or_comm true false = refl
-or_comm false true = refl
-or_comm false false = refl
 
 on_append : (xs ys : List CycleStep) (n : ℕ) → is_on (xs ++ ys) n ≡ (is_on xs n || is_on ys n)
 on_append xs ys n = list_any-append (λ s. s.node == n) xs ys

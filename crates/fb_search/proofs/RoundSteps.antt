@@ -1,15 +1,16 @@
 -- Searches from some of a part's unmatched nodes, one after another.
-use Rattle.std.proofs.Common.{ℕ, suc, ◌≡◌, ◌==◌, ◌||◌, ◌+◌, ◌<◌, Bool, true, false, not, List, [], ◌∷◌, ◌++◌, length, drop, get_or, Option, Some, None, refl, sym, ap, ◌∙◌, subst, arith, length-append, drop-cons}
+use Rattle.std.proofs.Common.{ℕ, suc, ◌≡◌, ◌==◌, ◌||◌, ◌+◌, ◌<◌, Bool, true, false, not, List, [], ◌∷◌, ◌++◌, length, drop, get_or, Option, Some, None, refl, sym, ap, ◌∙◌, subst, arith, length-append, drop-cons, option_to_list}
+use Rattle.std.proofs.Math.Bool.{or-false}
 use Rattle.std.proofs.lemmas.Bool.{and_from, both_ways, eqb-true, or_from, or_parts}
 use Rattle.fb_graph.specs.Parity.{is_in}
-use Rattle.fb_graph.proofs.Members.{is_in-append, or_false}
+use Rattle.fb_graph.proofs.Members.{is_in-append}
 use Rattle.fb_graph.proofs.Sets.{equal_sym, is_in-filter}
 use Rattle.fb_laws.specs.Works.{names_without}
 use Rattle.fb_laws.proofs.StateMoves.{kept_without}
 use Rattle.fb_regions.specs.Moves.{node_named}
 use Rattle.fb_half.specs.Parts.{PartValue, problem_in}
-use Rattle.fb_search.specs.InternalRounds.{HasSearchedSome, IsLeft, as_list, counted}
-use Rattle.fb_search.specs.Progress.{HasSearchedEach, IsSamePart}
+use Rattle.fb_search.specs.InternalRounds.{HasSearchedSome, IsLeft, counted}
+use Rattle.fb_search.specs.Progress.{IsSamePart}
 use Rattle.fb_search.proofs.Runs.{same_problem}
 use Rattle.fb_search.proofs.SearchedEach.{gone}
 
@@ -18,16 +19,6 @@ same_trans before now after was is = record {
   job = is.job ∙ was.job;
   slot = is.slot ∙ was.slot;
   node = is.node ∙ was.node;
-}
-
--- before any search
-pub none_yet : (w : PartValue) (roots : List ℕ) (start : ℕ) → HasSearchedSome w roots start start roots w
-none_yet w roots start = record {
-  part = record { job = refl; slot = refl; node = refl };
-  others = λ n there out. (there, out, refl);
-  steps = omega arith;
-  each = omega arith;
-  few = omega arith;
 }
 
 -- the root is no longer unmatched
@@ -52,10 +43,10 @@ among_others : (name : ℕ) (xs : List ℕ) (n : ℕ) → is_in xs n ≡ true �
 among_others name xs n there out =
     is_in-filter (λ m. not (m == name)) xs n
     ∙ and_from (is_in xs n) (not (n == name)) there
-    (ap not (sym (equal_sym name n) ∙ (sym (or_false (name == n)) ∙ out)))
+    (ap not (sym (equal_sym name n) ∙ (sym (or-false (name == n)) ∙ out)))
 
 pub root_searched : (root : ℕ) (before after : PartValue) (old new : ℕ) (left : Option ℕ)
-    → IsLeft root before after left → new ≡ counted left old → HasSearchedSome before (root ∷ []) old new (as_list left) after
+    → IsLeft root before after left → new ≡ counted left old → HasSearchedSome before (root ∷ []) old new (option_to_list left) after
 root_searched root before after old new None is one = record {
   part = is.part;
   others = λ n there _.
@@ -110,7 +101,7 @@ one_more_root before now after roots left rest more root start old new was is = 
         let old = was.others n here.0
         (is_in-append left (root ∷ rest) n
         ∙ or_from (is_in left n) (is_in (root ∷ rest) n) parts.0
-        (or_from (root == n) (is_in rest n) (sym (or_false (root == n)) ∙ here.1) back)) in
+        (or_from (root == n) (is_in rest n) (sym (or-false (root == n)) ∙ here.1) back)) in
         (old.0, old.1, here.2 ∙ old.2)
 
 -- one round after another
@@ -123,24 +114,6 @@ rounds_on before now after roots left more start old new was is = record {
       let here = is.others n there out in
       let old = was.others n here.0 here.1 in
       (old.0, old.1, here.2 ∙ old.2);
-  steps = omega (arith, was.steps, is.steps);
-  each = omega (arith, was.each, is.each);
-  few = omega (arith, was.few, is.few);
-}
-
--- a search from each that is left
-pub rounds_end : (before now after : PartValue) (roots left : List ℕ) (start old new : ℕ)
-    → HasSearchedSome before roots start old left now → HasSearchedEach now left old new after
-    → HasSearchedEach before roots start new after
-rounds_end before now after roots left start old new was is = record {
-  part = same_trans before now after was.part is.part;
-  matched = λ n there.
-      let here = is.matched n there in
-      let old = was.others n here.0 here.1 in
-      (old.0, old.1);
-  kept = λ n there.
-      let here = is.matched n there in
-      is.kept n there ∙ (was.others n here.0 here.1).2;
   steps = omega (arith, was.steps, is.steps);
   each = omega (arith, was.each, is.each);
   few = omega (arith, was.few, is.few);

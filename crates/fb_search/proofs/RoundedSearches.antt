@@ -15,6 +15,7 @@ use Rattle.fb_laws.specs.LinkNumbers.{tree_links}
 use Rattle.fb_laws.specs.Searches.{IsSearch}
 use Rattle.fb_laws.specs.Trees.{Connects, Entry, EntryOf, IsTree, grown_links, paired_links, plus_names, tree_names}
 use Rattle.fb_laws.specs.Works.{AreMatchedLinks}
+use Rattle.fb_laws.specs.Opening.{EndsAtDefects}
 use Rattle.fb_laws.proofs.OpenedCycles.{links_left, parent_plus}
 use Rattle.fb_laws.proofs.SearchStates.{links_joined}
 use Rattle.fb_laws.proofs.SearchTrees.{connects_sym, plus_in_tree}
@@ -64,8 +65,7 @@ link_among p nodes links l are a = record {
   own = one (IsLinkOf p) are.own;
   at_defects = one
       (λ m.
-      (p.is_real m.from ≡ true → is_in (leaves nodes) m.from ≡ true)
-      × (p.is_real m.to ≡ true → is_in (leaves nodes) m.to ≡ true))
+      EndsAtDefects p (leaves nodes) m)
       are.at_defects;
 }
   where

@@ -15,7 +15,7 @@ use Rattle.fb_trees.proofs.Mapped.{plus_moved, minus_moved}
 use Rattle.fb_half.specs.Parts.{PartValue, problem_in}
 use Rattle.fb_half.specs.Translations.{entry_by, link_by}
 use Rattle.fb_search.specs.Searching.{IsSearching, SearchValue, problem_of, state_at}
-use Rattle.fb_search.specs.Progress.{GoesOn, HasAdvanced, IsBegunAt, IsSamePart, IsSearched, to_do}
+use Rattle.fb_search.specs.Progress.{GoesOn, HasAdvanced, IsSamePart, IsSearched, to_do}
 use Rattle.fb_search.specs.InternalRuns.{HasBegun, rank_left}
 
 pub lower_trans : (xs ys zs : List ℕ) → IsLower xs ys → IsLower ys zs → IsLower xs zs
@@ -79,20 +79,6 @@ rank_falls_on before after are goes =
     Falls q =
         IsLower (to_do after true) (left_to_do q before.part.nodes (roles_of before.tree.root before.tree.branches) true)
         → rank_left after < search_rank q before.part.nodes (roles_of before.tree.root before.tree.branches) true
-
-pub begins : (root room : ℕ) (work : PartValue) (w : SearchValue) → IsBegunAt root work w → w.watched.edge_count ≡ room
-    → HasBegun root work room w
-begins root room work w is edges = record {
-  part = record {
-    job = ap (λ x. x.job) is.part;
-    slot = ap (λ x. x.slot) is.part;
-    node = ap (λ x. x.node) is.part;
-  };
-  others = λ n. rw (is.tree, is.part) refl;
-  kept = λ n beside. rw is.part refl;
-  count = ap (λ x. length x.matching.unmatched) is.part;
-  edges = edges;
-}
 
 pub goes_on : (root room : ℕ) (work : PartValue) (before after : SearchValue) → HasBegun root work room before
     → IsSearching before → IsSearching after → HasAdvanced before after → HasBegun root work room after

@@ -9,7 +9,6 @@ use Rattle.fb_graph.specs.Limits.{no_shot}
 use Rattle.fb_graph.specs.Problem.{Problem, edge_at, with_defects}
 use Rattle.fb_laws.specs.Fusion.{IsLinkOf}
 use Rattle.fb_laws.specs.MetLinks.{IsTightEdge}
-use Rattle.fb_laws.specs.Trees.{Connects}
 use Rattle.fb_laws.specs.Works.{AreMatchedLinks}
 use Rattle.fb_graph.proofs.Walks.{walk_same}
 use Rattle.fb_links.specs.declared.walk.Step.{Step}

@@ -19,13 +19,6 @@ gone name xs n there =
     ∙ not-true (n == name)
     (and_parts (is_in xs n) (not (n == name)) (sym (is_in-filter (λ m. not (m == name)) xs n) ∙ there)).1
 
-pub none_searched : (w : PartValue) → HasSearched w [] w
-none_searched w = record {
-  part = record { job = refl; slot = refl; node = refl };
-  matched = λ n there. (there, refl);
-  kept = λ n there. refl;
-}
-
 module _ (before now : PartValue) (roots : List ℕ) (i d : ℕ) (less : i < length roots) (was : HasSearched before (take i roots) now) where
   one_more : (n : ℕ) → is_in (take i roots) n ≡ false → (get_or roots i d == n) ≡ false → is_in (take (i + 1) roots) n ≡ false
   one_more n old new =

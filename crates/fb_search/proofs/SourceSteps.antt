@@ -1,17 +1,16 @@
 -- Source walks step by step, as the laws have them, and gone back.
-use Rattle.std.proofs.Common.{ℕ, ◌≡◌, ◌+◌, inl, inr, true, List, [], ◌∷◌, map, reverse, All, Some, refl, sym, ap, ◌∙◌, subst, arith}
+use Rattle.std.proofs.Common.{ℕ, ◌≡◌, ◌+◌, true, List, [], ◌∷◌, map, reverse, All, Some, refl, sym, ap, ◌∙◌, subst, arith}
 use Rattle.std.proofs.lemmas.List.Elements.{All-cons, All-head, All-map, All-nil, All-push, All-tail}
 use Rattle.std.proofs.lemmas.List.Sums.{sum_by-cons}
 use Rattle.fb_graph.specs.Problem.{Problem, edge_at, weight_of}
 use Rattle.fb_graph.specs.Components.{IsWalkBy, Leads}
 use Rattle.fb_graph.specs.Dual.{Node, all_cuts, cover_of, height_of}
 use Rattle.fb_graph.specs.Laws.{has_real_end}
-use Rattle.fb_graph.specs.declared.parts.Edge.{Edge}
 use Rattle.fb_laws.specs.MetLinks.{IsSourceUnder}
 use Rattle.fb_laws.specs.StepLinks.{IsTurn, StepParts}
 use Rattle.fb_laws.proofs.StepLinks.{edges_turned}
 use Rattle.fb_links.specs.declared.walk.Step.{Step}
-use Rattle.fb_links.specs.Walks.{Runs, turned_step, turned_walk, walk_weight}
+use Rattle.fb_links.specs.Walks.{turned_step, turned_walk, walk_weight}
 use Rattle.fb_links.proofs.Turns.{turned_walk-cons}
 use Rattle.fb_regions.specs.Moves.{IsWalkFrom}
 use Rattle.fb_regions.specs.Walks.{IsStep, IsWalk}

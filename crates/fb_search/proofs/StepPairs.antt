@@ -1,14 +1,14 @@
 -- The steps of a round read one after another, or two by two.
-use Rattle.std.proofs.Common.{ℕ, ◌≡◌, ◌+◌, ◌<◌, ◌≤◌, ◌⊎◌, inl, inr, true, All, List, [], ◌∷◌, ◌++◌, length, get_or, drop, take, reverse, flat_map, Some, refl, sym, ap, ◌∙◌, subst, append_assoc, arith}
+use Rattle.std.proofs.Common.{ℕ, ◌≡◌, ◌+◌, ◌<◌, ◌≤◌, ◌⊎◌, inl, inr, true, All, List, [], ◌∷◌, ◌++◌, length, get_or, drop, flat_map, refl, sym, ap, ◌∙◌, subst, append_assoc, arith}
 use Rattle.std.proofs.lemmas.Bool.{false≢true, or_cases}
-use Rattle.std.proofs.lemmas.List.{drop_more, length-drop, reverse-append, take_more}
+use Rattle.std.proofs.lemmas.List.{drop_more, length-drop}
 use Rattle.std.proofs.lemmas.List.Elements.{All-head, All-tail}
 use Rattle.fb_graph.specs.Parity.{is_in}
 use Rattle.fb_graph.specs.Problem.{Problem, edge_at, touches}
 use Rattle.fb_graph.proofs.Members.{is_in-append}
 use Rattle.fb_links.specs.declared.cycle.CycleStep.{CycleStep}
 use Rattle.fb_obstacles.specs.Watched.{Watched}
-use Rattle.fb_search.specs.InternalOpenings.{between_on, couples_on, second_nodes, turned_from, turned_on}
+use Rattle.fb_search.specs.InternalOpenings.{between_on, couples_on, second_nodes}
 use Rattle.fb_search.specs.Watching.{Watches}
 
 -- two elements more
@@ -20,12 +20,6 @@ two_more xs i d lt =
     ∙ ap (λ l. get_or xs i d ∷ l)
     (drop_more xs (i + 1) d lt ∙ ap (λ n. get_or xs (i + 1) d ∷ drop n xs) next)
 
-pub couples_more : (xs : List CycleStep) (i : ℕ) (d : CycleStep) → i + 1 < length xs
-    → couples_on (drop i xs)
-    ≡ record { link = (get_or xs i d).link; first = (get_or xs i d).node; second = Some (get_or xs (i + 1) d).node }
-    ∷ couples_on (drop (i + 2) xs)
-couples_more xs i d lt = ap couples_on (two_more xs i d lt)
-
 pub between_more : (xs : List CycleStep) (i : ℕ) (d : CycleStep) → i + 1 < length xs
     → between_on (drop i xs) ≡ (get_or xs (i + 1) d).link ∷ between_on (drop (i + 2) xs)
 between_more xs i d lt = ap between_on (two_more xs i d lt)
@@ -33,19 +27,6 @@ between_more xs i d lt = ap between_on (two_more xs i d lt)
 pub seconds_more : (xs : List CycleStep) (i : ℕ) (d : CycleStep) → i + 1 < length xs
     → second_nodes (drop i xs) ≡ (get_or xs (i + 1) d).node ∷ second_nodes (drop (i + 2) xs)
 seconds_more xs i d lt = ap second_nodes (two_more xs i d lt)
-
--- one step more in the other direction
-pub turned_more : (xs : List CycleStep) (i node : ℕ) (d : CycleStep) → i < length xs
-    → turned_from node (reverse (take (i + 1) xs))
-    ≡ record { node = node; link = (get_or xs i d).link } ∷ turned_from (get_or xs i d).node (reverse (take i xs))
-turned_more xs i node d lt =
-    ap (turned_from node)
-    (ap reverse (take_more xs i d lt) ∙ reverse-append (take i xs) (get_or xs i d ∷ []))
-
-pub turned_whole : (xs : List CycleStep) (d : CycleStep) → 0 < length xs
-    → turned_on xs ≡ turned_from (get_or xs 0 d).node (reverse xs)
-turned_whole [] d lt = absurd (omega (arith, lt))
-turned_whole (s ∷ ss) d lt = refl
 
 pub links_step : (steps : List CycleStep) (i : ℕ) (d : CycleStep) (all done new : List ℕ) → i + 1 < length steps
     → all ≡ done ++ between_on (drop i steps) → new ≡ done ++ (get_or steps (i + 1) d).link ∷ []

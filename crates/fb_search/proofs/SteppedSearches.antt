@@ -1,19 +1,19 @@
 -- A step of the tree keeps what every search keeps.
-use Rattle.std.proofs.Common.{ℕ, ◌≡◌, ◌+◌, ◌*◌, ◌%◌, ◌^◌, ◌≤◌, ◌⊎◌, inl, inr, Bool, true, false, map, List, [], ◌∷◌, ◌++◌, Option, Some, None, refl, sym, ap, ◌∙◌, subst, arith}
+use Rattle.std.proofs.Common.{ℕ, ◌≡◌, ◌+◌, ◌*◌, ◌%◌, ◌^◌, ◌≤◌, ◌⊎◌, inl, inr, Bool, true, false, map, List, ◌++◌, Option, Some, None, refl, sym, ap, ◌∙◌, subst, arith}
 use Rattle.std.proofs.lemmas.List.Elements.{All-weaker}
 use Rattle.fb_graph.specs.Counts.{as_count}
 use Rattle.fb_graph.specs.Parity.{is_in}
 use Rattle.fb_graph.specs.Problem.{Problem, edge_at}
-use Rattle.fb_graph.specs.declared.parts.Cut.{Cut}
 use Rattle.fb_graph.specs.Laws.{Link}
 use Rattle.fb_graph.specs.Limits.{DecodingGraph, IsWithinLimits, no_shot}
 use Rattle.fb_graph.specs.Covers.{is_covered_by, passes}
-use Rattle.fb_graph.specs.Dual.{AreUnderOne, Node, all_cuts, cover_of, first_vertices, height_of}
+use Rattle.fb_graph.specs.Dual.{AreUnderOne, Node, all_cuts, cover_of, height_of}
 use Rattle.fb_graph.specs.Nests.{first_set}
 use Rattle.fb_graph.specs.Steps.{MayStep, Roles, stepped_nodes, stepped_node}
 use Rattle.fb_graph.proofs.Among.{among_All}
 use Rattle.fb_graph.proofs.MappedNodes.{AreKept, mapped_outer, mapped_live}
 use Rattle.fb_graph.proofs.StepHeights.{cover_stepped, height_stepped}
+use Rattle.fb_graph.proofs.SteppedNests.{first_stepped}
 use Rattle.fb_laws.specs.LinkNumbers.{tree_links}
 use Rattle.fb_laws.specs.PartStates.{IsSearchState}
 use Rattle.fb_laws.specs.Searches.{LeavesNode}
@@ -36,18 +36,11 @@ use Rattle.fb_search.proofs.Runs.{roles_by_numbers, tree_roles}
 use Rattle.fb_search.proofs.SearchRoles.{no_odd_closed, roles_in_tree}
 
 module _ (roles : Roles) (k : ℕ) (nodes : List Node) where
-  first_stepped : (n : Node) → first_set (stepped_node roles k n) ≡ first_set n
-  first_stepped n = by n.below
-    where
-      by : (below : List Cut) → first_vertices (below ++ (stepped_node roles k n).top ∷ []) ≡ first_vertices (below ++ n.top ∷ [])
-      by [] = refl
-      by (c ∷ cs) = refl
-
   pub kept_stepped : AreKept (stepped_node roles k) nodes
   kept_stepped = record {
     name = λ n. refl;
     children = λ n. refl;
-    first = among_All (λ n. first_set (stepped_node roles k n) ≡ first_set n) nodes (λ n a. first_stepped n);
+    first = among_All (λ n. first_set (stepped_node roles k n) ≡ first_set n) nodes (λ n a. first_stepped roles k n);
     inner = λ i d less inner. refl;
   }
 

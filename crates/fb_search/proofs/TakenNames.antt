@@ -1,14 +1,14 @@
 -- Names taken off a list: what stays is the same by the law's filter and in the code's order.
-use Rattle.std.proofs.Common.{ℕ, ◌≡◌, ◌==◌, ◌+◌, ◌≤◌, ◌||◌, ◌&&◌, ◌⊎◌, inl, inr, Bool, not, true, false, List, [], ◌∷◌, ◌++◌, length, refl, sym, ap, subst, ◌∙◌, arith}
+use Rattle.std.proofs.Common.{ℕ, ◌≡◌, ◌==◌, ◌+◌, ◌≤◌, ◌||◌, ◌&&◌, ◌⊎◌, inl, inr, not, true, false, List, [], ◌∷◌, ◌++◌, length, sym, ap, subst, ◌∙◌, arith}
+use Rattle.std.proofs.Math.Bool.{and-true, and-false}
 use Rattle.std.specs.List.Sorted.{IsPermutation}
 use Rattle.std.proofs.lemmas.Bool.{cases_eq, eq-eqb, false≢true, ne_eqb}
 use Rattle.std.proofs.lemmas.List.Sorted.{IsPermutation-cons, IsPermutation-middle, IsPermutation-refl, IsPermutation-sym, IsPermutation-trans, length_permutation}
 use Rattle.fb_graph.specs.Parity.{is_in}
 use Rattle.fb_graph.specs.Certificate.{AreDistinct}
-use Rattle.fb_graph.proofs.Sets.{distinct-filter, is_in-cases, is_in-filter, is_in-head}
+use Rattle.fb_graph.proofs.Sets.{distinct-filter, is_in-filter, is_in-head}
 use Rattle.fb_laws.specs.Works.{names_without}
 use Rattle.fb_laws.proofs.OpenedBlossoms.{distinct_permuted, same_permuted}
-use Rattle.fb_graph.proofs.ParitySums.{and-true, and-false}
 use Rattle.fb_laws.proofs.CycleWays.{split_in}
 
 -- distinct lists with the same elements differ in their order alone

@@ -1,15 +1,13 @@
 -- A vertex that a plus node absorbs keeps what every search keeps, and leaves less to do.
-use Rattle.std.proofs.Common.{ℕ, ◌≡◌, ◌==◌, ◌<◌, ◌%◌, ◌⊎◌, inl, inr, Bool, true, false, List, length, All, Option, Some, None, IsSome, is_some, refl, sym, ap, ◌∙◌, subst, if◌then◌else◌, ◌≤◌, ◌/◌, ◌*◌, ◌&&◌, cond, get_or, arith}
+use Rattle.std.proofs.Common.{ℕ, ◌≡◌, ◌==◌, ◌<◌, ◌⊎◌, inl, inr, Bool, true, false, List, length, All, Option, Some, None, IsSome, is_some, refl, sym, ap, ◌∙◌, subst, if◌then◌else◌, ◌≤◌, ◌/◌, ◌*◌, ◌&&◌, cond, arith}
 use Rattle.std.proofs.lemmas.Bool.{false≢true, eqb-true, cases_lt}
-use Rattle.std.proofs.lemmas.List.Elements.{All-weaker}
 use Rattle.std.proofs.lemmas.List.{get_or_past}
 use Rattle.fb_search.proofs.KeptBounds.{bounded_by}
 use Rattle.fb_graph.specs.Parity.{is_in, differ}
 use Rattle.fb_graph.specs.Problem.{Problem, edge_at, touches, no_edge}
 use Rattle.fb_graph.specs.Components.{Leads}
 use Rattle.fb_graph.specs.declared.parts.Edge.{Edge}
-use Rattle.fb_graph.specs.Limits.{IsEdge, IsWithinLimits}
-use Rattle.fb_graph.specs.Links.{AreEven}
+use Rattle.fb_graph.specs.Limits.{IsWithinLimits}
 use Rattle.fb_graph.specs.Covers.{is_covered_by, passes}
 use Rattle.fb_graph.specs.Dual.{AreUnderOne, Node, cover_of, is_outer, taller_node, all_cuts, height_of}
 use Rattle.fb_graph.specs.Moves.{MayAbsorb, absorbed_nodes}
@@ -17,6 +15,7 @@ use Rattle.fb_graph.specs.Steps.{Roles}
 use Rattle.fb_graph.proofs.Among.{cover_among}
 use Rattle.fb_graph.proofs.ChangedNodes.{change, first_taller, kept_by}
 use Rattle.fb_graph.proofs.TallerNodes.{taller_alike, taller_covers}
+use Rattle.fb_graph.proofs.TightLinks.{all_even}
 use Rattle.fb_laws.specs.Measures.{IsLower}
 use Rattle.fb_laws.specs.SearchLayers.{left_to_do}
 use Rattle.fb_laws.proofs.MoveBridges.{no_leaf}
@@ -58,9 +57,6 @@ plus_over test nodes u over = by (cover_of nodes u) refl over
     by : (c : Option ℕ) → cover_of nodes u ≡ c → passes test c ≡ true → (name : ℕ) × (cover_of nodes u ≡ Some name) × (test name ≡ true)
     by None e h = absurd (false≢true h)
     by (Some name) e h = (name, e, h)
-
-pub all_even : (p : Problem) → IsWithinLimits p → AreEven p
-all_even p limits = All-weaker (IsEdge p.vertices) (λ e. e.weight % 2 ≡ 0) (λ e is. is.even) p.edges limits.each_edge
 
 -- the edges at the vertex come under watch, but for those within the node
 module _ (p : Problem) (roles : Roles) (nodes : List Node) (name v : ℕ) (limits : IsWithinLimits p) (old new : Watched)

@@ -1,12 +1,10 @@
 -- Edges that come under watch, vertex after vertex.
-use Rattle.std.proofs.Common.{ℕ, ◌≡◌, ◌+◌, ◌==◌, ◌<◌, ◌⊎◌, inl, inr, Bool, true, false, List, [], ◌∷◌, ◌++◌, length, take, filter, get_or, refl, sym, ap, ◌∙◌, subst, if◌then◌else◌}
+use Rattle.std.proofs.Common.{ℕ, ◌≡◌, ◌+◌, ◌<◌, ◌⊎◌, inl, inr, Bool, true, false, List, [], ◌∷◌, ◌++◌, length, take, filter, get_or, refl, sym, ap, ◌∙◌, subst, if◌then◌else◌}
 use Rattle.std.specs.List.{range_with_len}
-use Rattle.std.proofs.lemmas.Bool.{eqb-true, or_cases}
-use Rattle.std.proofs.lemmas.List.{take_more}
 use Rattle.fb_graph.specs.Parity.{is_in}
 use Rattle.fb_graph.specs.Problem.{Problem, edge_at, touches}
 use Rattle.fb_graph.specs.Dual.{Node, top_at}
-use Rattle.fb_graph.proofs.Members.{is_in_push, is_in_pushed}
+use Rattle.fb_graph.proofs.Members.{is_in_pushed, is_in-take_more}
 use Rattle.fb_graph.proofs.Ranges.{is_in-filter-range}
 use Rattle.fb_graph.proofs.Sets.{is_in-cases}
 use Rattle.fb_regions.specs.declared.roles.Role.TheVariants.{Minus}
@@ -36,17 +34,6 @@ watched_more p vs v es a b c e before more = record {
         ∙ ap (λ w. touches w (edge_at p.edges k)) same ∙ touch))
     near u k below touch (inr old) = more.kept k (before.near u k old below touch)
 
--- a member of one place more
-taken_cases : (xs : List ℕ) (i v : ℕ) → i < length xs → is_in (take (i + 1) xs) v ≡ true
-    → (is_in (take i xs) v ≡ true) ⊎ (get_or xs i 0 ≡ v)
-taken_cases xs i v lt mem =
-    by (or_cases (is_in (take i xs) v) (get_or xs i 0 == v)
-    (sym (ap (λ l. is_in l v) (take_more xs i 0 lt) ∙ is_in_push (take i xs) (get_or xs i 0) v) ∙ mem))
-  where
-    by : (is_in (take i xs) v ≡ true) ⊎ ((get_or xs i 0 == v) ≡ true) → (is_in (take i xs) v ≡ true) ⊎ (get_or xs i 0 ≡ v)
-    by (inl old) = inl old
-    by (inr same) = inr (eqb-true (get_or xs i 0) v same)
-
 -- one edge more
 pub entered_on : (edges : List ℕ) (i : ℕ) (a b c : Watched) → i < length edges → length b.bounds ≡ length b.edges
     → c ≡ (if is_in b.edges (get_or edges i 0) then b else with_edge b (get_or edges i 0))
@@ -59,7 +46,7 @@ entered_on edges i a b c lt even is before =
     by true held = record {
       room = before.room;
       kept = before.kept;
-      entered = λ k mem. here k (taken_cases edges i k lt mem);
+      entered = λ k mem. here k (is_in-take_more edges i k lt mem);
       bounds = before.bounds;
     }
       where
@@ -69,7 +56,7 @@ entered_on edges i a b c lt even is before =
     by false absent = record {
       room = before.room;
       kept = λ k mem. is_in-left b.edges (get_or edges i 0 ∷ []) k (before.kept k mem);
-      entered = λ k mem. here k (taken_cases edges i k lt mem);
+      entered = λ k mem. here k (is_in-take_more edges i k lt mem);
       bounds = λ limit right. bounded_entered limit b (get_or edges i 0) even (before.bounds limit right);
     }
       where
@@ -85,7 +72,7 @@ pub minus_on : (p : Problem) (nodes : List Node) (tree : Grown) (names : List �
 minus_on p nodes tree names i a b c lt before more = record {
   room = more.room ∙ before.room;
   kept = λ k h. more.kept k (before.kept k h);
-  near = λ name v k mem minus held less touch. by name v k minus held less touch (taken_cases names i name lt mem);
+  near = λ name v k mem minus held less touch. by name v k minus held less touch (is_in-take_more names i name lt mem);
   bounds = λ limit right. more.bounds limit (before.bounds limit right);
 }
   where
@@ -103,7 +90,7 @@ pub minus_past : (p : Problem) (nodes : List Node) (tree : Grown) (names : List 
 minus_past p nodes tree names i a b lt other before = record {
   room = before.room;
   kept = before.kept;
-  near = λ name v k mem minus held less touch. by name v k minus held less touch (taken_cases names i name lt mem);
+  near = λ name v k mem minus held less touch. by name v k minus held less touch (is_in-take_more names i name lt mem);
   bounds = before.bounds;
 }
   where

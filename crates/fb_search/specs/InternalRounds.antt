@@ -1,5 +1,5 @@
 -- Searches whose trees grow to a limit and are then given up.
-use Rattle.std.specs.Prelude.{ℕ, ◌≡◌, ◌+◌, ◌*◌, ◌%◌, ◌≤◌, true, false, List, [], ◌∷◌, length, Option, Some, None}
+use Rattle.std.specs.Prelude.{ℕ, ◌≡◌, ◌+◌, ◌*◌, ◌%◌, ◌≤◌, true, false, List, length, Option, Some, None}
 use Rattle.fb_graph.specs.Parity.{is_in}
 use Rattle.fb_graph.specs.Dual.{all_cuts, cover_of, height_of}
 use Rattle.fb_laws.specs.Works.{names_without}
@@ -41,11 +41,6 @@ IsLeft root before after (Some name) = IsGivenUp root name before after
 abbrev pub counted : Option ℕ → ℕ → ℕ
 counted None steps = steps + 1
 counted (Some name) steps = steps
-
--- the name, if there is one, as a list
-abbrev pub as_list : Option ℕ → List ℕ
-as_list None = []
-as_list (Some name) = name ∷ []
 
 -- Searches from each of the roots that was still unmatched in its turn, with the counter before and after them, where some
 -- were given up and left these names. Any other node that is unmatched then was so before, is none of the roots, and is as it

@@ -1,10 +1,10 @@
-ghost use Rattle.std.specs.Prelude.{◌≡◌, ◌<◌, ◌∷◌, ◌++◌, ◌≤◌, [], true, IfOk, OnErr, OnOk, length};
+ghost use Rattle.std.specs.Prelude.{◌≡◌, ◌<◌, ◌∷◌, ◌++◌, ◌≤◌, [], true, IfOk, OnErr, OnOk, length, option_to_list};
 ghost use Rattle.fb_graph.specs.Dual.{is_live};
 ghost use Rattle.fb_graph.specs.Parity.{is_in};
 ghost use Rattle.fb_graph.specs.Steps.{MayStep};
 ghost use Rattle.fb_half.specs.Parts.{problem_in};
 ghost use Rattle.fb_search.specs.InternalPaces.{HasTurned, IsEndedWithin};
-ghost use Rattle.fb_search.specs.InternalRounds.{HasEvenRoot, HasSearchedSome, IsLeft, as_list, counted};
+ghost use Rattle.fb_search.specs.InternalRounds.{HasEvenRoot, HasSearchedSome, IsLeft, counted};
 ghost use Rattle.fb_search.specs.Progress.{stepped_by};
 ghost use Rattle.fb_search.specs.Searching.{problem_of, roles_in};
 
@@ -221,7 +221,7 @@ fn search_round<'a, L: Ledger>(
 
 /// Adds the name, if there is one.
 fn push_left(left: &mut Vec<NodeId>, name: Option<NodeId>) -> Result<(), NoMemory>
-    ensures { OnOk result (left.new.items ≡ left.old.items ++ as_list name) }
+    ensures { OnOk result (left.new.items ≡ left.old.items ++ option_to_list name) }
 {
     if let Some(name) = name {
         left.push(name)?;

@@ -1,24 +1,20 @@
 -- The vertices of rising detectors are a shot.
-use Rattle.std.proofs.Common.{◌≡◌, ℕ, ◌+◌, ◌<◌, Bool, true, not, ◌&&◌, nat_lt, List, length, map, get_or, All, refl, subst, arith}
+use Rattle.std.proofs.Common.{◌≡◌, ℕ, ◌+◌, ◌<◌, true, not, nat_lt, List, length, map, get_or, All, subst, arith}
 use Rattle.std.specs.List.{range_with_len}
 use Rattle.std.specs.List.Sorted.{IsStrictlyIncreasing}
-use Rattle.std.proofs.lemmas.Bool.{lt-ltb}
+use Rattle.std.proofs.lemmas.Bool.{lt-ltb, and_from}
 use Rattle.std.proofs.lemmas.List.{get_or-map, length-map}
 use Rattle.std.proofs.lemmas.List.Elements.{All-map, filter_passes}
 use Rattle.std.proofs.lemmas.List.Kept.{AllPairs-from_increasing}
-use Rattle.fb_graph.specs.Limits.{DecodingGraph, IsShot, is_real_in}
-use Rattle.fb_graph.specs.Layout.{detectors_of}
+use Rattle.fb_graph.specs.Limits.{DecodingGraph, IsShot, is_real_in, detectors_of}
 use Rattle.fb_graph.specs.Parity.{is_in}
 use Rattle.fb_graph.proofs.Ranges.{filter-range_below, filter-range_rises}
 use Rattle.fb_shots.specs.Formats.{vertices_of, shot_of_detectors}
 
-both : (a b : Bool) → a ≡ true → b ≡ true → (a && b) ≡ true
-both a b p q = rw (p, q) refl
-
 detectors_real : (g : DecodingGraph) → All (λ v. is_real_in g v ≡ true) (detectors_of g)
 detectors_real g k d less =
     let v = get_or (detectors_of g) k d in
-    both (nat_lt v g.vertices) (not (is_in g.virtuals v))
+    and_from (nat_lt v g.vertices) (not (is_in g.virtuals v))
     (lt-ltb v g.vertices (filter-range_below (λ u. not (is_in g.virtuals u)) g.vertices k d less))
     (filter_passes (λ u. not (is_in g.virtuals u)) (range_with_len 0 g.vertices) k d less)
 

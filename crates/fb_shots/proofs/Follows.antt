@@ -1,5 +1,5 @@
 -- What a stream gives, by what it does.
-use Rattle.std.proofs.Common.{◌≡◌, ℕ, suc, ◌+◌, ◌-◌, ◌<◌, Bool, true, false, nat_le, if◌then◌else◌, List, [], ◌∷◌, ◌++◌, length, take, Option, None, sym, ap, ◌∙◌, inl, inr, append_assoc, append-nil, length-append, arith}
+use Rattle.std.proofs.Common.{◌≡◌, ℕ, suc, ◌+◌, ◌-◌, ◌<◌, Bool, true, false, nat_le, if◌then◌else◌, List, ◌∷◌, ◌++◌, length, take, Option, None, sym, ap, ◌∙◌, inl, inr, append_assoc, append-nil, length-append, arith}
 use Rattle.std.proofs.Math.Seq.{take-append-add}
 use Rattle.std.proofs.lemmas.Bool.{cases_lt, cond-true, cond-false, le-leb, lt-leb}
 use Rattle.fb_graph.specs.Limits.{DecodingGraph, ShotValue}
@@ -82,9 +82,6 @@ held_piece f g rest bytes u v left e =
           ∙ ap (records_of f g) (sym (append_assoc rest bytes left))
           ∙ sym (cond-true (nat_le (length left) v) _ _ (le-leb (length left) v fits))
     ]
-
-pub held_end : (f : Format) (g : DecodingGraph) (rest : List ℕ) (u : ℕ) → held f g rest u [] ≡ records_of f g rest
-held_end f g rest u = cond-true (nat_le 0 u) _ _ (le-leb 0 u (omega arith)) ∙ ap (records_of f g) (append-nil rest)
 
 pub held_long : (f : Format) (g : DecodingGraph) (rest left : List ℕ) → 0 < length left → prefix_of f g rest ≡ only still_open
     → held f g rest 0 left ≡ only (refused InputTooLong)

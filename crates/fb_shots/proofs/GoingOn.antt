@@ -1,8 +1,7 @@
 -- What is settled by a prefix stands before what all bytes hold, in each format.
 use Rattle.std.proofs.Common.{◌≡◌, ℕ, List, ◌++◌, length, map, ap, ◌∙◌}
 use Rattle.std.proofs.lemmas.List.{map-append}
-use Rattle.fb_graph.specs.Limits.{DecodingGraph, ShotValue}
-use Rattle.fb_graph.specs.Layout.{detectors_of}
+use Rattle.fb_graph.specs.Limits.{DecodingGraph, ShotValue, detectors_of}
 use Rattle.fb_records.specs.Records.{Records}
 use Rattle.fb_records.specs.Records as read
 use Rattle.fb_records.specs.Lines.{bare}

@@ -1,7 +1,6 @@
 -- The answers of the readers of the formats, seen alike.
 use Rattle.std.proofs.Common.{◌≡◌, ℕ, ◌<◌, List, [], ◌∷◌, ◌++◌, Bool, length, All, refl, sym, ap, subst, ◌∙◌}
-use Rattle.fb_graph.specs.Limits.{DecodingGraph, IsShot, ShotValue}
-use Rattle.fb_graph.specs.Layout.{detectors_of}
+use Rattle.fb_graph.specs.Limits.{DecodingGraph, IsShot, ShotValue, detectors_of}
 use Rattle.fb_records.specs.declared.answer.Next.{Next}
 use Rattle.fb_records.specs.declared.answer.Next.TheVariants as next
 use Rattle.fb_records.specs.Records.{Ending as AnyEnding, Records, ending_as, Reader}

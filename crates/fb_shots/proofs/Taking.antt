@@ -1,7 +1,7 @@
 -- Bytes that are taken before an answer.
 use Rattle.std.proofs.Common.{◌≡◌, ℕ, ◌+◌, ◌<◌, Bool, true, false, List, [], ◌∷◌, ◌++◌, Option, Some, None, IfSome, refl, sym, ap, subst, subst₂, ◌∙◌, inl, inr, ◌⊎◌, length, arith, append_assoc, append-nil, length-append}
 use Rattle.std.proofs.lemmas.Bool.{cases_Bool}
-use Rattle.std.specs.Io.KnownBytes.{Consumes, Keeps, IsAtEnd}
+use Rattle.std.specs.Io.KnownBytes.{Consumes, Keeps}
 use Rattle.std.proofs.KnownBytes.{Consumes-trans}
 use Rattle.fb_graph.specs.Limits.{DecodingGraph, IsShot, ShotValue}
 use Rattle.fb_shots.specs.declared.answer.Format.{Format}
@@ -32,11 +32,6 @@ pub known_taken : (P : List ℕ → List ℕ → Type 0) (l m : Left) (bytes : L
 known_taken P None m bytes t h = tt
 known_taken P (Some left) None bytes t h = absurd t
 known_taken P (Some left) (Some later) bytes t h = subst (λ (x : List ℕ). P x later) (sym t) (h later)
-
-pub known_end : (P : List ℕ → List ℕ → Type 0) (l m : Left) → Consumes l m [] → IsAtEnd m → P [] [] → IfKnown P l m
-known_end P None m t e h = tt
-known_end P (Some left) None t e h = absurd t
-known_end P (Some left) (Some later) t e h = subst₂ P (sym (t ∙ e)) (sym e) h
 
 pub known_then : (P Q R : List ℕ → List ℕ → Type 0) (l m r : Left) → ((x y z : List ℕ) → P x y → Q y z → R x z)
     → IfKnown P l m → IfKnown Q m r → IfKnown R l r

@@ -1,7 +1,7 @@
 -- What one turn of a stream does: its bytes are fed, its reader is asked, and where that decides nothing a read is made.
 use Rattle.std.proofs.Common.{◌≡◌, ℕ, suc, ◌+◌, ◌-◌, ◌<◌, ◌≤◌, Bool, true, false, List, [], ◌++◌, length, if◌then◌else◌, Option, Some, None, IfSome, refl, sym, ap, subst, subst₂, ◌∙◌, inl, inr, append-nil, length-append, arith}
-use Rattle.std.proofs.lemmas.Bool.{cases_Bool, cond-false, cond-true}
-use Rattle.std.specs.Io.KnownBytes.{Consumes, Keeps, IsAtEnd}
+use Rattle.std.proofs.lemmas.Bool.{cases_Bool, cond-false}
+use Rattle.std.specs.Io.KnownBytes.{Consumes, Keeps}
 use Rattle.std.proofs.KnownBytes.{Consumes-nil}
 use Rattle.fb_graph.specs.Limits.{ShotValue}
 use Rattle.fb_shots.specs.declared.answer.Kind.{Kind}
@@ -16,11 +16,11 @@ use Rattle.fb_shots.specs.Formats.{records_of, prefix_of}
 use Rattle.fb_shots.specs.Sources.{Source}
 use Rattle.fb_shots.specs.Answers.{Gives}
 use Rattle.fb_shots.specs.Answers as reader
-use Rattle.fb_shots.specs.Streams.{most_bytes, Stream, stream_by, stream_of, or_refusal, follows}
+use Rattle.fb_shots.specs.Streams.{most_bytes, Stream, stream_by, stream_of, follows}
 use Rattle.fb_shots.specs.Steps.{OnlyTakes, GivesShot, Ends, IsReason, Refuses, FailsToRead, Answers, may_read}
 use Rattle.fb_shots.specs.Reads.{ReadsOn}
-use Rattle.fb_shots.proofs.Follows.{fed, held, capped_only, capped_shot, capped_none, held_shot, held_refused, held_piece, held_end, held_long, follows_open, follows_done}
-use Rattle.fb_shots.proofs.Taking.{Left, known_same, known_taken, known_end, each_some, takes_nothing}
+use Rattle.fb_shots.proofs.Follows.{fed, held, capped_only, capped_shot, capped_none, held_shot, held_refused, held_piece, held_long, follows_open, follows_done}
+use Rattle.fb_shots.proofs.Taking.{Left, known_same, known_taken, each_some, takes_nothing}
 
 -- once the piece that was read is fed
 pub when_fed : (a b : Source) (piece : List ℕ) (u k l : ℕ) (stopped : Option Kind) → b ≡ record a { rest = a.rest ++ piece }
@@ -198,24 +198,6 @@ turn_too_long a b u v k l left h none still_none more =
         ∙ ap (capped (l - k)) (ap (λ (n : ℕ). held a.format a.graph a.rest n x) none ∙ held_long a.format a.graph a.rest x more h.1)
         ∙ capped_only (l - k) (refused InputTooLong)
 
-stopped_gives : (stopped : Option Kind) (why : Kind) (r : Shots) → stopped ≡ Some why → or_refusal stopped r ≡ only (refused why)
-stopped_gives stopped why r e = ap (λ (o : Option Kind). or_refusal o r) e
-
--- it was refused before
-pub stays_stopped : (s : Stream) (left : Left) (why : Kind) → s.stopped ≡ Some why → Refuses s s left (record { shot = s.given; kind = why })
-stays_stopped s left why e =
-    let again : (x : List ℕ) → follows s x ≡ only (refused why) = λ x. stopped_gives s.stopped why _ e in
-    record {
-      number = refl;
-      gives = each_some (λ x. follows s x ≡ only (refused why)) left again;
-      piece = [];
-      room = omega arith;
-      reason = inl e;
-      stops = e;
-      again = again;
-      others = refl;
-    }
-
 -- ---- the end
 
 follows_end : (a : Source) (u k l : ℕ) (left : List ℕ) → a.finished ≡ true → records_of a.format a.graph a.rest ≡ only at_end
@@ -264,31 +246,6 @@ pub turn_takes : (a b c : Source) (u v k l : ℕ) (before after : Left) (bytes :
 turn_takes a b c u v k l before after bytes h same taken room =
     subst (λ (s : Source). OnlyTakes (fed a u k l None) (stream_by s bytes v k l None) before after) (sym (same ∙ h.2))
     (takes_piece a u v k l before after bytes h.0 taken room)
-
-sees_end : (a : Source) (u k l : ℕ) (before after : Left) → a.finished ≡ false → Consumes before after [] → IsAtEnd after
-    → OnlyTakes (fed a u k l None) (fed (record a { finished = true }) u k l None) before after
-sees_end a u k l before after still taken at =
-    let b : Source = record a { finished = true } in record {
-      piece = [];
-      taken = taken;
-      rest = sym (append-nil a.rest);
-      room = refl;
-      gives = known_end (λ x y. follows (fed a u k l None) x ≡ follows (fed b u k l None) y) before after taken at
-          (follows_open a u k l [] still ∙ ap (capped (l - k)) (held_end a.format a.graph a.rest u) ∙ sym (follows_done b u k l [] refl));
-      end = λ still done. known_end (λ x y. y ≡ []) before after taken at refl;
-      ended = λ done. true_false a.finished done still;
-      unread = λ done. true_false a.finished done still;
-      others = refl;
-    }
-
-pub turn_sees_end : (a b c : Source) (u v k l : ℕ) (before after : Left) (piece : List ℕ) → reader.Answers a b next.NotYet → c ≡ record b { finished = true }
-    → piece ≡ [] → Consumes before after [] → IsAtEnd after → v ≡ u → OnlyTakes (fed a u k l None) (stream_by c piece v k l None) before after
-turn_sees_end a b c u v k l before after piece h same empty taken at count =
-    let is : stream_by c piece v k l None ≡ fed (record a { finished = true }) u k l None =
-    when_empty c piece v k l None empty
-    ∙ ap (λ (s : Source). fed s v k l None) (same ∙ ap (λ (s : Source). record s { finished = true }) h.2)
-    ∙ ap (λ (n : ℕ). fed (record a { finished = true }) n k l None) count in
-    subst (λ (s : Stream). OnlyTakes (fed a u k l None) s before after) (sym is) (sees_end a u k l before after h.0 taken at)
 
 pub turn_fails : (a b c : Source) (u v k l : ℕ) (before after : Left) (piece : List ℕ) → reader.Answers a b next.NotYet → c ≡ b
     → piece ≡ [] → Keeps before after → v ≡ u → FailsToRead (fed a u k l None) (stream_by c piece v k l None) before after
@@ -398,20 +355,6 @@ piece_turn now a b t c p q r u v k l stopped answer before after h e reads =
       subst₂ (λ (x y : Stream). OnlyTakes x y before after) old is (turn_takes b t c u v k l before after r asked reads.0 reads.1 reads.3),
       subst (λ (x : Stream). may_read (stream_by c r v k l stopped) < may_read x) old
           (reads_less b c r u v k l stopped asked.0 (omega (arith, cond-false {A = ℕ} c.finished 0 1 still))),
-    )
-
-pub file_end_turn : (now : Stream) (a b t c : Source) (p q r : List ℕ) (u v k l : ℕ) (stopped : Option Kind) (answer : Next) (before after : Left)
-    → Asked now a b t p q u k l stopped answer → answer ≡ next.NotYet → ReadsOn t c r u v before after read.End
-    → OnlyTakes now (stream_by c r v k l stopped) before after × (may_read (stream_by c r v k l stopped) < may_read now)
-file_end_turn now a b t c p q r u v k l stopped answer before after h e reads =
-    let asked = answered now a b t p q u k l stopped answer next.NotYet h e in
-    let is : stream_by c r v k l None ≡ stream_by c r v k l stopped = ap (λ (o : Option Kind). stream_by c r v k l o) (sym h.runs) in
-    let old = was now a b t p q u k l stopped answer h in
-    let done : c.finished ≡ true = ap (λ (s : Source). s.finished) reads.0 in
-    let count : v ≡ u = reads.4 in (
-      subst₂ (λ (x y : Stream). OnlyTakes x y before after) old is (turn_sees_end b t c u v k l before after r asked reads.0 reads.1 reads.2 reads.3 reads.4),
-      subst (λ (x : Stream). may_read (stream_by c r v k l stopped) < may_read x) old
-          (reads_less b c r u v k l stopped asked.0 (omega (arith, cond-true {A = ℕ} c.finished 0 1 done))),
     )
 
 pub fault_turn : (now : Stream) (a b t c : Source) (p q r : List ℕ) (u v k l : ℕ) (stopped : Option Kind) (answer : Next) (before after : Left)

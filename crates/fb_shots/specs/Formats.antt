@@ -1,7 +1,6 @@
 -- What bytes hold in each format, as shots of a graph's vertices.
 use Rattle.std.specs.Prelude.{ℕ, List, ◌++◌, length, map, slice_index}
-use Rattle.fb_graph.specs.Limits.{DecodingGraph, ShotValue}
-use Rattle.fb_graph.specs.Layout.{detectors_of}
+use Rattle.fb_graph.specs.Limits.{DecodingGraph, ShotValue, detectors_of}
 use Rattle.fb_records.specs.Records.{Records, ending_as}
 use Rattle.fb_shots_stim.specs.declared.answer.Kind.{Kind as StimKind}
 use Rattle.fb_shots_stim.specs.Text01.{records_01, prefix_01}

@@ -1,7 +1,6 @@
 -- The readers of the formats, seen alike.
 use Rattle.std.specs.Prelude.{◌≡◌, ℕ, Bool, List, length}
-use Rattle.fb_graph.specs.Limits.{DecodingGraph}
-use Rattle.fb_graph.specs.Layout.{detectors_of}
+use Rattle.fb_graph.specs.Limits.{DecodingGraph, detectors_of}
 use Rattle.fb_shots.specs.declared.answer.Format.{Format}
 use Rattle.fb_shots.specs.declared.answer.Format.TheVariants as format
 use Rattle.fb_shots.specs.declared.reader.FormatReader.{FormatReader}

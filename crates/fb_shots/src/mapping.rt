@@ -2,7 +2,7 @@
 
 ghost use Rattle.std.specs.Prelude.{◌≡◌, ◌<◌, length, All};
 ghost use Rattle.std.specs.List.Sorted.{IsStrictlyIncreasing};
-ghost use Rattle.fb_graph.specs.Layout.{detectors_of};
+ghost use Rattle.fb_graph.specs.Limits.{detectors_of};
 ghost use Rattle.fb_shots.specs.Formats.{vertices_of};
 
 use fb_graph::{Graph, Shot};

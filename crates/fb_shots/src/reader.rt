@@ -1,8 +1,7 @@
 //! One reader for all formats.
 
 ghost use Rattle.std.specs.Prelude.{◌≡◌, ◌++◌, [], false, true, length, IfOk, OnOk, OnErr};
-ghost use Rattle.fb_graph.specs.Layout.{detectors_of};
-ghost use Rattle.fb_graph.specs.Limits.{IsShot};
+ghost use Rattle.fb_graph.specs.Limits.{detectors_of, IsShot};
 ghost use Rattle.fb_records.specs.Answers.{IfShot};
 ghost use Rattle.fb_shots_stim.specs.Shots.{IsShotOf};
 ghost use Rattle.fb_shots.specs.Answers.{Answers, stim_answer, json_answer};

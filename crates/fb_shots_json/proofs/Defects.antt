@@ -3,7 +3,7 @@ use Rattle.std.specs.Prelude.{nat_le, nat_lt, ◌==◌, ◌&&◌, not, All, coun
 use Rattle.std.proofs.Common.{◌≡◌, ℕ, ◌<◌, ◌≤◌, Bool, true, false, ◌||◌, eqb, List, [], ◌∷◌, ◌++◌, Some, None, Ok, Err, refl, sym, ap, subst, ◌∙◌, inl, inr, append_assoc, append-nil, arith}
 use Rattle.std.specs.Ordering.{nat_cmp}
 use Rattle.std.specs.List.Sorted.{IsPermutation, IsSorted, IsStrictlyIncreasing}
-use Rattle.std.proofs.lemmas.Bool.{cases_Bool, cases_eq, cases_lt, eq-eqb, ne_eqb, leb-false, lt-ltb}
+use Rattle.std.proofs.lemmas.Bool.{cases_Bool, cases_lt, eq-eqb, ne_eqb, leb-false, lt-ltb}
 use Rattle.std.proofs.lemmas.List.Elements.{All-cons}
 use Rattle.std.proofs.lemmas.List.Folds.{list_any-append}
 use Rattle.std.proofs.lemmas.List.Sums.{sum_by-cons}
@@ -11,8 +11,9 @@ use Rattle.std.proofs.lemmas.List.Sorted.{All-permutation, sum_by-IsPermutation,
 use Rattle.fb_graph.specs.Certificate.{AreDistinct}
 use Rattle.fb_graph.specs.Limits.{DecodingGraph, IsShot, is_real_in}
 use Rattle.fb_graph.specs.Parity.{is_in}
+use Rattle.fb_graph.specs.Counts.{as_count}
 use Rattle.fb_graph.proofs.Ranges.{filter-range_below, filter-range_rises, is_in-filter-range, not_in_below}
-use Rattle.fb_graph.proofs.Sets.{one_if, count_equal-le, distinct_from_rising, is_in-cases, is_in-head, rising-tail, rising_above}
+use Rattle.fb_graph.proofs.Sets.{count_equal-le, distinct_from_rising, is_in-cases, rising_same}
 use Rattle.fb_graph.proofs.Shots.{rising_from_sort}
 use Rattle.fb_shots_json.specs.declared.answer.Kind.{Kind}
 use Rattle.fb_shots_json.specs.declared.answer.Kind.TheVariants.{DefectOutOfRange, DefectOnVirtual, DefectRepeated}
@@ -36,23 +37,23 @@ before_one (x ∷ xs) v ys d =
 is_in_counts : (xs : List ℕ) (v : ℕ) → is_in xs v ≡ true → 1 ≤ count_by (λ u. u == v) xs
 is_in_counts [] v e = absurd cc
 is_in_counts (x ∷ xs) v e = elim (is_in-cases x xs v e) [
-  | inl here ↦ omega (arith, sum_by-cons (λ u. one_if (u == v)) x xs, ap one_if (eq-eqb x v here))
-  | inr later ↦ omega (arith, sum_by-cons (λ u. one_if (u == v)) x xs, is_in_counts xs v later)
+  | inl here ↦ omega (arith, sum_by-cons (λ u. as_count (u == v)) x xs, ap as_count (eq-eqb x v here))
+  | inr later ↦ omega (arith, sum_by-cons (λ u. as_count (u == v)) x xs, is_in_counts xs v later)
 ]
 
 distinct_from_counts : (xs : List ℕ) → ((v : ℕ) → count_by (λ u. u == v) xs ≤ 1) → AreDistinct xs
 distinct_from_counts [] once = tt
 distinct_from_counts (x ∷ xs) once = (
   elim (cases_Bool (is_in xs x)) [
-    | inl held ↦ absurd (omega (arith, once x, sum_by-cons (λ u. one_if (u == x)) x xs, ap one_if (eq-eqb x x refl), is_in_counts xs x held))
+    | inl held ↦ absurd (omega (arith, once x, sum_by-cons (λ u. as_count (u == x)) x xs, ap as_count (eq-eqb x x refl), is_in_counts xs x held))
     | inr none ↦ none
   ],
-  distinct_from_counts xs (λ v. omega (arith, once v, sum_by-cons (λ u. one_if (u == v)) x xs)),
+  distinct_from_counts xs (λ v. omega (arith, once v, sum_by-cons (λ u. as_count (u == v)) x xs)),
 )
 
 distinct_from_sorted : (xs sorted : List ℕ) → IsPermutation xs sorted → IsStrictlyIncreasing sorted → AreDistinct xs
 distinct_from_sorted xs sorted same rises =
-    distinct_from_counts xs (λ v. omega (arith, count_equal-le sorted v (distinct_from_rising sorted rises), sum_by-IsPermutation (λ u. one_if (u == v)) xs sorted same))
+    distinct_from_counts xs (λ v. omega (arith, count_equal-le sorted v (distinct_from_rising sorted rises), sum_by-IsPermutation (λ u. as_count (u == v)) xs sorted same))
 
 -- ---- entries, one by one
 
@@ -133,40 +134,6 @@ prefix_real g (v ∷ vs) = elim (cases_Bool (nat_le g.vertices v)) [
 ]
 
 -- ---- the rising list
-
--- strictly rising lists with the same members are the same
-rising_same : (xs ys : List ℕ) → IsStrictlyIncreasing xs → IsStrictlyIncreasing ys → ((v : ℕ) → is_in xs v ≡ is_in ys v) → xs ≡ ys
-rising_same [] [] rx ry same = refl
-rising_same [] (y ∷ ys) rx ry same = absurd (let here = is_in-head y ys in let none = same y in cc)
-rising_same (x ∷ xs) [] rx ry same = absurd (let here = is_in-head x xs in let none = same x in cc)
-rising_same (x ∷ xs) (y ∷ ys) rx ry same = elim (cases_eq x y) [
-  | inl e ↦ ap (λ (v : ℕ). v ∷ xs) e ∙ ap (λ (l : List ℕ). y ∷ l) (rising_same xs ys (rising-tail x xs rx) (rising-tail y ys ry) (tails x y xs ys rx ry e same))
-  | inr other ↦ absurd (
-      let under : y < x = above y ys x ry (sym (same x) ∙ is_in-head x xs) (λ (z : y ≡ x). other (sym z)) in
-      let over : x < y = above x xs y rx (same y ∙ is_in-head y ys) other in
-      omega arith)
-]
-  where
-    above : (x : ℕ) (xs : List ℕ) (v : ℕ) → IsStrictlyIncreasing (x ∷ xs) → is_in (x ∷ xs) v ≡ true → (x ≡ v → ⊥) → x < v
-    above x xs v rises held other = elim (is_in-cases x xs v held) [
-      | inl here ↦ absurd (other here)
-      | inr later ↦ rising_above x xs rises v later
-    ]
-
-    not_head : (x : ℕ) (xs : List ℕ) → IsStrictlyIncreasing (x ∷ xs) → is_in xs x ≡ false
-    not_head x xs rises = elim (cases_Bool (is_in xs x)) [
-      | inl held ↦ absurd (omega (arith, rising_above x xs rises x held))
-      | inr none ↦ none
-    ]
-
-    tails : (x y : ℕ) (xs ys : List ℕ) → IsStrictlyIncreasing (x ∷ xs) → IsStrictlyIncreasing (y ∷ ys) → x ≡ y → ((v : ℕ) → is_in (x ∷ xs) v ≡ is_in (y ∷ ys) v) → (v : ℕ) → is_in xs v ≡ is_in ys v
-    tails x y xs ys rx ry e same v = elim (cases_eq x v) [
-      | inl here ↦ subst (λ (u : ℕ). is_in xs u ≡ false) here (not_head x xs rx) ∙ sym (subst (λ (u : ℕ). is_in ys u ≡ false) (sym e ∙ here) (not_head y ys ry))
-      | inr other ↦
-          let left : is_in (x ∷ xs) v ≡ is_in xs v = ap (λ (b : Bool). b || is_in xs v) (ne_eqb x v other) in
-          let right : is_in (y ∷ ys) v ≡ is_in ys v = ap (λ (b : Bool). b || is_in ys v) (ne_eqb y v (λ (z : y ≡ v). other (e ∙ z))) in
-          sym left ∙ same v ∙ right
-    ]
 
 sorted_rises : (g : DecodingGraph) (listed sorted : List ℕ) → All (λ v. v < g.vertices) listed → IsPermutation listed sorted → IsStrictlyIncreasing sorted → sorted ≡ rising g listed
 sorted_rises g listed sorted below permuted rises =

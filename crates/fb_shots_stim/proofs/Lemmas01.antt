@@ -1,8 +1,8 @@
 -- What a line of `01` comes to, by the bits that it begins with and what follows them.
 use Rattle.std.specs.Prelude.{if◌then◌else◌}
-use Rattle.std.proofs.Common.{◌≡◌, ℕ, zero, suc, ◌+◌, ◌-◌, ◌<◌, ◌≤◌, Bool, true, false, eqb, List, [], ◌∷◌, ◌++◌, length, get_or, take, drop, take-add, Option, Some, Result, Ok, Err, refl, sym, ap, subst, ◌∙◌, append_assoc, inl, inr, ◌⊎◌, arith}
+use Rattle.std.proofs.Common.{◌≡◌, ℕ, zero, suc, ◌+◌, ◌-◌, ◌<◌, ◌≤◌, Bool, true, false, eqb, List, [], ◌∷◌, ◌++◌, length, get_or, take, drop, take-add, Option, Some, Result, Ok, Err, refl, sym, ap, subst, ◌∙◌, append_assoc, inl, inr, arith}
 use Rattle.std.specs.List.{list_all}
-use Rattle.std.proofs.lemmas.Bool.{cases_Bool, cases_lt, lt-ltb, le-ltb, eqb-true, eqb-false, or_cases, and_parts, and_left, and_right, and_from, ne_eqb, cond-true, cond-false}
+use Rattle.std.proofs.lemmas.Bool.{cases_Bool, cases_lt, lt-ltb, le-ltb, eqb-true, eqb-false, and_parts, and_left, and_right, and_from, ne_eqb, cond-true, cond-false}
 use Rattle.std.proofs.lemmas.List.{append-nil, take_all, take_at, drop_at, drop-drop, take-append-le, take_rest, take-take, length-append, length-take-le, length-drop, take-append-drop, get_or-drop}
 use Rattle.std.proofs.lemmas.List.Folds.{list_all-append}
 use Rattle.fb_shots_stim.specs.declared.answer.Kind.{Kind}
@@ -76,12 +76,6 @@ stays_01 n = stays_bare (line_01 n) (begun_01 n) (record {
 })
 
 -- ---- bits
-
-bit_cases : (b : ℕ) → is_bit b ≡ true → (b ≡ 48) ⊎ (b ≡ 49)
-bit_cases b h = elim (or_cases (eqb b 48) (eqb b 49) h) [
-  | inl e ↦ inl (eqb-true b 48 e)
-  | inr e ↦ inr (eqb-true b 49 e)
-]
 
 bit_other : (b c : ℕ) → is_bit b ≡ true → is_bit c ≡ false → eqb b c ≡ false
 bit_other b c h n = elim (cases_Bool (eqb b c)) [

@@ -1,6 +1,7 @@
 -- Indices in words, marks of detectors, and their rising list.
 use Rattle.std.specs.Prelude.{if◌then◌else◌, option_map, All}
 use Rattle.std.proofs.Common.{◌≡◌, ◌≢◌, ℕ, zero, suc, ◌+◌, ◌-◌, ◌*◌, ◌<◌, ◌≤◌, min, Bool, true, false, ◌||◌, cond, eqb, List, [], ◌∷◌, ◌++◌, length, get_or, set, drop, Some, refl, sym, ap, subst, ◌∙◌, inl, inr, arith}
+use Rattle.std.proofs.Math.Bool.{or-false}
 use Rattle.std.specs.Ordering.{nat_cmp}
 use Rattle.std.specs.List.{list_any, filter, range_with_len}
 use Rattle.std.specs.List.Sorted.{IsPermutation, IsSorted, IsNonDecreasingBy}
@@ -71,7 +72,7 @@ marked_more n marks named index m size lt new = record {
     | inl e ↦ subst (λ (j : ℕ). get_or (set marks index true) j false ≡ list_any (eqb j) (named ++ index ∷ [])) (sym e)
         (get_or-set_same marks index true false (omega arith) ∙ sym (any_last index index named ∙ rw (new, eq-eqb index index refl) refl))
     | inr e ↦ get_or-set_other marks index k true false e ∙ m.tells k (omega (arith, length-set marks index true))
-        ∙ sym (any_last k index named ∙ rw (ne_eqb k index e) (or_false (list_any (eqb k) named)))
+        ∙ sym (any_last k index named ∙ rw (ne_eqb k index e) (or-false (list_any (eqb k) named)))
   ];
   once = λ k. elim (cases_eq k index) [
     | inl e ↦ let none : times k named ≡ 0 = times_none k named (subst (λ (j : ℕ). list_any (eqb j) named ≡ false) (sym e) new) in
@@ -82,10 +83,6 @@ marked_more n marks named index m size lt new = record {
   ];
   below = All-push (λ (k : ℕ). k < n) named index m.below lt;
 }
-  where
-    or_false : (b : Bool) → (b || (false || false)) ≡ b
-    or_false true = refl
-    or_false false = refl
 
 -- ---- the rising list
 

@@ -1,6 +1,6 @@
 -- A reader of `dets` at a place.
 use Rattle.std.proofs.Common.{◌≡◌, ℕ, ◌+◌, ◌<◌, ◌≤◌, Bool, true, false, List, [], ◌∷◌, ◌++◌, length, get_or, take, drop, Option, Some, None, Result, Ok, Err, refl, sym, ap, subst, ◌∙◌, append_assoc, arith}
-use Rattle.std.proofs.lemmas.List.{append-nil, length-append, take-append-drop, take-append-le, drop_all, drop_more}
+use Rattle.std.proofs.lemmas.List.{append-nil, take-append-drop, drop_all, drop_more}
 use Rattle.std.specs.Prelude.{IfOk, IfErr, IfSome, IfNone, OnOk}
 use Rattle.fb_shots_stim.specs.declared.answer.Kind.{Kind}
 use Rattle.fb_records.specs.declared.answer.Stop.{Stop}
@@ -11,7 +11,7 @@ use Rattle.fb_shots_stim.specs.WordsDets.{RecordSoFar, IsAt, IsPlace}
 use Rattle.fb_shots_stim.specs.StopsDets.{AnswersDets}
 use Rattle.fb_records.specs.Answers.{IfRefused}
 use Rattle.fb_records.proofs.AnswerLemmas.{refused_then}
-use Rattle.fb_records.proofs.PartLemmas.{part_none, part_two, take_part, part_more, part_kept}
+use Rattle.fb_records.proofs.PartLemmas.{part_none, part_two, take_part, part_more}
 use Rattle.fb_shots_stim.proofs.LemmasDets.{Words, never_none, at_start, at_more, at_space, at_newline}
 use Rattle.fb_shots_stim.proofs.StopsDets.{space_refused, newline_refused, newline_shot, open_so_far, end_refused, end_nothing, end_shot}
 
@@ -35,20 +35,6 @@ place_start now bytes e = record {
   within = omega arith;
   parts = subst (λ (o : Option (List ℕ)). IsAt now.detectors [] [] [] o) (sym e) (at_start now.detectors);
 }
-
-pub place_fed : (now : RecordSoFar) (bytes more : List ℕ) (line word seen : ℕ) → IsPlace now bytes line word seen → IsPlace now (bytes ++ more) line word seen
-place_fed now bytes more line word seen p =
-    let first = p.line_first in
-    let next = p.word_next in
-    let within = p.within in
-    record {
-      line_first = first;
-      word_next = next;
-      within = omega (arith, length-append bytes more);
-      parts = subst (λ (l : List ℕ). IsAt now.detectors (take line (bytes ++ more)) (part_of (bytes ++ more) line word) l now.named) (sym (part_kept bytes more word seen (omega arith)))
-          (subst (λ (l : List ℕ). IsAt now.detectors (take line (bytes ++ more)) l (part_of bytes word seen) now.named) (sym (part_kept bytes more line word (omega arith)))
-          (subst (λ (l : List ℕ). IsAt now.detectors l (part_of bytes line word) (part_of bytes word seen) now.named) (sym (take-append-le line bytes more (omega arith))) p.parts));
-    }
 
 pub place_seen : (now : RecordSoFar) (bytes : List ℕ) (line word seen on : ℕ) → IsPlace now bytes line word seen → seen ≤ on → on ≤ length bytes → holds 10 (part_of bytes seen on) ≡ false → holds 32 (part_of bytes seen on) ≡ false
     → IsPlace now bytes line word on

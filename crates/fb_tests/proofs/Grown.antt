@@ -3,12 +3,13 @@ use Rattle.std.proofs.Common.{◌≡◌, ◌≢◌, ◌⊎◌, inl, inr, ℕ, �
 use Rattle.std.specs.Option.{unwrap_or}
 use Rattle.std.proofs.lemmas.Bool.{and_from, and_parts, both_ways, cases_Bool, cases_eq, cases_lt, eq-eqb, or_cases, or_left, or_right}
 use Rattle.std.proofs.lemmas.List.{get_or_append_left, get_or_push}
+use Rattle.fb_links.specs.Lists.{is_in}
 use Rattle.fb_links.specs.declared.walk.Step.{Step}
 use Rattle.fb_links.specs.declared.cycle.CycleStep.{CycleStep}
 use Rattle.fb_links.specs.Walks.{end_of, start_of}
 use Rattle.fb_links.specs.Table.{link_at, walk_at}
 use Rattle.fb_links.specs.Table as table
-use Rattle.fb_blossoms.specs.Nodes.{Adds, AreDistinct, AreOuter, AreWithin, IsNested, IsOddCycle, Node, blossom, cycle_at, cycle_of, defects_at, defects_of, is_in, is_on, leaf, node_at}
+use Rattle.fb_blossoms.specs.Nodes.{Adds, HasDistinctNodes, AreOuter, AreWithin, IsNested, IsOddCycle, Node, blossom, cycle_at, cycle_of, defects_at, defects_of, is_on, leaf, node_at}
 use Rattle.fb_blossoms.specs.Nodes as nodes_spec
 use Rattle.fb_blossoms.specs.Links.{AllLinked, AreLinked, IsLinkBetween, joins, next_place, step_at}
 use Rattle.fb_tests.specs.InternalFixture.{AreKept, AreSteps, AreTops, IsFixture, IsStep, IsTop, edge_walk, part_at}
@@ -200,7 +201,7 @@ module _ (links : List (Option (List Step))) (nodes : List (Option Node)) (parts
       let P : ℕ → Type 0 = IsTop nodes (part_at parts r.0) in
       (r.0, subst P r.2 (node_is r.0 r.1))
 
-  pub parts_cycle : length parts % 2 ≡ 1 → 3 ≤ length parts → AreDistinct cycle → IsOddCycle nodes cycle
+  pub parts_cycle : length parts % 2 ≡ 1 → 3 ≤ length parts → HasDistinctNodes cycle → IsOddCycle nodes cycle
   parts_cycle odd three distinct = record {
     odd = let e : length cycle ≡ length parts = made.counted ∙ full in ap (λ n. n % 2) e ∙ odd;
     three = omega (arith, three, made.counted, full);

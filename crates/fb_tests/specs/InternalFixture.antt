@@ -1,11 +1,11 @@
 -- What the fixture of the tests keeps: leaves of the defects 10, 11, 12, .., and blossoms linked by walks of one edge.
 use Rattle.std.specs.Prelude.{ℕ, ◌≡◌, ◌+◌, ◌<◌, true, List, [], ◌∷◌, length, get_or, Option, Some}
+use Rattle.fb_links.specs.Lists.{is_in}
 use Rattle.fb_links.specs.declared.walk.Step.{Step}
 use Rattle.fb_links.specs.declared.cycle.CycleStep.{CycleStep}
 use Rattle.fb_links.specs.Table.{link_at}
-use Rattle.fb_blossoms.specs.Nodes.{IsOuter, Node, defects_at, is_in, leaf, node_at}
-use Rattle.fb_blossoms.specs.Links.{next_place, step_at}
-use Rattle.fb_blossoms.specs.Links.{AllLinked}
+use Rattle.fb_blossoms.specs.Nodes.{IsOuter, Node, defects_at, leaf, node_at}
+use Rattle.fb_blossoms.specs.Links.{next_place, step_at, AllLinked}
 
 -- each leaf is of a defect below this one
 abbrev pub AreLeavesBelow : List (Option Node) → ℕ → Type 0

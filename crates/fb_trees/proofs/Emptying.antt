@@ -6,8 +6,9 @@ use Rattle.std.proofs.lemmas.Option.{none-some}
 use Rattle.fb_laws.specs.Trees.{EntryOf}
 use Rattle.fb_trees.specs.declared.branch.Branch.{Branch}
 use Rattle.fb_trees.specs.Branches.{entries_of, entry_of}
-use Rattle.fb_trees.specs.InternalPlaces.{place_in, place_of}
+use Rattle.fb_trees.specs.InternalPlaces.{place_of}
 use Rattle.fb_trees.proofs.Lookups.{entries_append}
+use Rattle.fb_regions.specs.InternalPlaces.{place_in}
 
 -- each name with an entry is a node of the branches
 abbrev pub AreListed : List (Option ℕ) → List (EntryOf ℕ) → Type 0

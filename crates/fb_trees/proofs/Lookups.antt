@@ -1,5 +1,6 @@
 -- The branch of a node by its place, and the node's role by its branch.
 use Rattle.std.proofs.Common.{ℕ, ◌≡◌, ◌<◌, ◌==◌, ◌||◌, ◌⊎◌, ◌↔◌, inl, inr, cond, Bool, true, false, List, [], ◌∷◌, ◌++◌, map, reverse, length, get_or, Option, Some, None, refl, sym, ap, ◌∙◌, subst, arith}
+use Rattle.std.proofs.Math.Bool.{or-false}
 use Rattle.std.proofs.lemmas.Bool.{both_ways, false_from_ne_true, cases_Bool, eq-eqb, ne_eqb, or_left, or_parts, or_right, eqb-true}
 use Rattle.std.proofs.lemmas.List.{get_or_append_left, get_or_push, get_or-map, length-map, length-reverse, map-append, reverse-append, reverse-reverse}
 use Rattle.std.proofs.lemmas.Option.{none-some, same_Some}
@@ -7,11 +8,12 @@ use Rattle.fb_graph.specs.Parity.{is_in}
 use Rattle.fb_graph.specs.Certificate.{AreDistinct}
 use Rattle.fb_graph.proofs.Sets.{is_in-tail}
 use Rattle.fb_regions.specs.declared.roles.Role.TheVariants.{Plus, Minus, Out}
+use Rattle.fb_regions.specs.InternalPlaces.{place_in}
 use Rattle.fb_laws.specs.Trees.{EntryOf, minus_names, plus_names, tree_names}
 use Rattle.fb_trees.specs.declared.branch.Branch.{Branch}
 use Rattle.fb_trees.specs.Branches.{Grown, entries_of, entry_of}
 use Rattle.fb_trees.specs.Rooted.{IsBranchAt, IsRooted, role_in}
-use Rattle.fb_trees.specs.InternalPlaces.{ArePlaces, branch_at, place_in, place_of}
+use Rattle.fb_trees.specs.InternalPlaces.{ArePlaces, branch_at, place_of}
 use Rattle.fb_trees.proofs.Names.{exclusive_names, root_plus}
 
 pub entries_push : (xs : List Branch) (b : Branch) → entries_of (xs ++ b ∷ []) ≡ entry_of b ∷ entries_of xs
@@ -120,11 +122,7 @@ branch_nodes (x ∷ xs) name e is = step (cases_Bool (x.minus == name)) (cases_B
 -- a node without a branch is the root, or not in the tree
 pub no_branch_plus : (root : ℕ) (es : List (EntryOf ℕ)) (name : ℕ) → branch_at es name ≡ None
     → (is_in (plus_names root es) name ≡ (root == name)) × (is_in (minus_names es) name ≡ false)
-no_branch_plus root [] name is = (or_end (root == name), refl)
-  where
-    or_end : (b : Bool) → (b || false) ≡ b
-    or_end true = refl
-    or_end false = refl
+no_branch_plus root [] name is = (or-false (root == name), refl)
 no_branch_plus root (e ∷ es) name is = step (cases_Bool ((e.minus == name) || (e.plus == name))) (no_branch_plus root es name)
   where
     step : (((e.minus == name) || (e.plus == name)) ≡ true) ⊎ (((e.minus == name) || (e.plus == name)) ≡ false)

@@ -1,7 +1,7 @@
 -- Paths of a tree with the numbers of its links.
 use Rattle.std.proofs.Common.{ℕ, ◌≡◌, ◌==◌, ◌||◌, ◌⊎◌, ◌+◌, ◌<◌, inl, inr, cond, true, false, List, [], ◌∷◌, ◌++◌, map, reverse, length, take, drop, Some, None, refl, sym, ap, ◌∙◌, subst, arith, append_assoc}
 use Rattle.std.proofs.lemmas.Bool.{both_ways, cases_Bool, eq-eqb, ne_eqb, eqb-true, eqb-false, or_left, or_parts, or_right}
-use Rattle.std.proofs.lemmas.List.{append-nil, drop-map, drop_at, length-append, take-map, take_at}
+use Rattle.std.proofs.lemmas.List.{drop-map, drop_at, length-append, take-map, take_at}
 use Rattle.std.proofs.lemmas.Option.{none-some, same_Some}
 use Rattle.fb_graph.specs.Parity.{is_in}
 use Rattle.fb_graph.specs.Certificate.{AreDistinct}
@@ -96,9 +96,6 @@ path_none (e ∷ es) name is = step (cases_Bool ((e.minus == name) || (e.plus ==
 pub record HasPassed (t : Grown) (plus node : ℕ) (passed : List Branch) : Type 0 where
   pub is_plus : IsPlus t node
   pub path : path_to t.branches plus ≡ path_to t.branches node ++ entries_of passed
-
-pub passed_none : (t : Grown) (plus : ℕ) → IsPlus t plus → HasPassed t plus plus []
-passed_none t plus is = record { is_plus = is; path = sym (append-nil (path_to t.branches plus)) }
 
 pub passed_more : (t : Grown) → IsRooted t.root t.branches → (plus node : ℕ) (passed : List Branch) → HasPassed t plus node passed
     → (b : Branch) → Some (entry_of b) ≡ branch_at t.branches node → HasPassed t plus b.parent (passed ++ b ∷ [])

@@ -5,6 +5,7 @@ use Rattle.std.proofs.lemmas.List.{map-append}
 use Rattle.std.proofs.lemmas.List.Elements.{All-head, All-map, All-tail}
 use Rattle.fb_graph.specs.Parity.{is_in}
 use Rattle.fb_graph.specs.Certificate.{AreDistinct}
+use Rattle.fb_graph.specs.Dual.{AreApart}
 use Rattle.fb_graph.proofs.Sets.{is_in-cases, is_in-head, is_in-tail}
 use Rattle.fb_links.specs.declared.cycle.CycleStep.{CycleStep}
 use Rattle.fb_laws.specs.Trees.{EntryOf, plus_names, tree_names}
@@ -115,20 +116,13 @@ abbrev nodes_on : ℕ → List (PassOf ℕ) → List ℕ
 nodes_on from [] = from ∷ []
 nodes_on from (s ∷ ss) = from ∷ s.plus ∷ nodes_on s.minus ss
 
--- the names are in no tree whose names the other names are
-abbrev AreNew : List ℕ → List ℕ → Type 0
-AreNew names others = (n : ℕ) → is_in names n ≡ true → is_in others n ≡ false
-
-new_tail : (m : ℕ) (names others : List ℕ) → AreNew (m ∷ names) others → AreNew names others
-new_tail m names others new n within = new n (is_in-tail m names n within)
-
 -- the branches along a way on older ones
 record IsOnto (root : ℕ) (older : List (EntryOf ℕ)) (parent minus : ℕ) (way : List (PassOf ℕ)) (plus : ℕ) : Type 0 where
   pub hung : AreHung root older
   pub parent_in : is_in (plus_names root older) parent ≡ true
   pub names : AreDistinct (tree_names root older)
   pub distinct : AreDistinct (nodes_on minus way)
-  pub new : AreNew (nodes_on minus way) (tree_names root older)
+  pub new : AreApart (nodes_on minus way) (tree_names root older)
   pub plus_new : is_in (tree_names root older) plus ≡ false
   pub plus_apart : is_in (nodes_on minus way) plus ≡ false
 
@@ -242,7 +236,7 @@ record IsLaidIn (root : ℕ) (newer older : List (EntryOf ℕ)) (e : EntryOf ℕ
 
 laid_in : (root : ℕ) (newer older : List (EntryOf ℕ)) (e : EntryOf ℕ) (from : ℕ) (way : List (PassOf ℕ))
     → IsRooted root (newer ++ e ∷ older) → AreDistinct (nodes_on from way)
-    → AreNew (nodes_on from way) (tree_names root (newer ++ e ∷ older)) → IsLaidIn root newer older e from way
+    → AreApart (nodes_on from way) (tree_names root (newer ++ e ∷ older)) → IsLaidIn root newer older e from way
 laid_in root [] older e from way rooted distinct new =
     let laid = laid_on root older e.parent e.tree from way e.matched e.plus (record {
       hung = rooted.hung.1;

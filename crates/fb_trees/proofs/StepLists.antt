@@ -1,9 +1,9 @@
 -- Steps of branches, one branch more or less.
-use Rattle.std.proofs.Common.{ℕ, zero, suc, ◌≡◌, ◌<◌, ◌≤◌, ◌+◌, ◌-◌, ◌⊎◌, inl, inr, min, cond, Some, List, [], ◌∷◌, ◌++◌, map, length, get_or, take, drop, refl, sym, ap, ◌∙◌, arith, append_assoc}
-use Rattle.std.proofs.lemmas.Bool.{cases_lt, eq-eqb, ne_eqb}
+use Rattle.std.proofs.Common.{ℕ, zero, suc, ◌≡◌, ◌<◌, ◌≤◌, ◌+◌, ◌-◌, ◌⊎◌, inl, inr, min, Some, List, [], ◌∷◌, ◌++◌, map, length, get_or, take, drop, refl, sym, ap, ◌∙◌, arith, append_assoc}
+use Rattle.std.proofs.lemmas.Bool.{cases_lt}
 use Rattle.std.proofs.lemmas.Option.{none-some, same_Some}
 use Rattle.std.specs.List.{slice_get}
-use Rattle.std.proofs.lemmas.List.{drop_all, drop_more, map-append, map_more}
+use Rattle.std.proofs.lemmas.List.{drop_all, map-append, map_more}
 use Rattle.fb_links.specs.declared.cycle.CycleStep.{CycleStep}
 use Rattle.fb_laws.specs.Trees.{EntryOf}
 use Rattle.fb_laws.specs.TreeCycles.{cycle_links, cycle_nodes, last_plus, links_along, links_back, nodes_along, nodes_back}
@@ -22,12 +22,6 @@ pub up_more : (xs : List Branch) (i : ℕ) (d : Branch) → i < length xs
     ≡ step (get_or xs i d).plus (get_or xs i d).matched ∷ step (get_or xs i d).minus (get_or xs i d).tree ∷ steps_up (map entry_of (take i xs))
 up_more xs i d below =
     ap steps_up (map_more entry_of xs i d below) ∙ up_push (map entry_of (take i xs)) (entry_of (get_or xs i d))
-
-pub down_more : (node : ℕ) (xs : List Branch) (i : ℕ) (d : Branch) (closing : ℕ) → i < length xs
-    → steps_down node (map entry_of (drop i xs)) closing
-    ≡ step node (get_or xs i d).tree ∷ step (get_or xs i d).minus (get_or xs i d).matched
-    ∷ steps_down (get_or xs i d).plus (map entry_of (drop (i + 1) xs)) closing
-down_more node xs i d closing below = ap (λ l. steps_down node (map entry_of l) closing) (drop_more xs i d below)
 
 -- the nodes and the links of a cycle
 nodes_down : (node : ℕ) (es : List (EntryOf ℕ)) (closing : ℕ) → map (λ (s : CycleStep). s.node) (steps_down node es closing) ≡ node ∷ nodes_along es
@@ -68,26 +62,6 @@ links_round base up closing down =
 pub last_push : (node : ℕ) (es : List (EntryOf ℕ)) (e : EntryOf ℕ) → last_plus node (es ++ e ∷ []) ≡ e.plus
 last_push node [] e = refl
 last_push node (x ∷ xs) e = last_push x.plus xs e
-
--- two paths that go on together, or part
-pub common_more : (xs ys : List Branch) (i : ℕ) (d : Branch) → i < length xs → i < length ys
-    → (get_or xs i d).minus ≡ (get_or ys i d).minus
-    → common_count (map entry_of (drop i xs)) (map entry_of (drop i ys))
-    ≡ 1 + common_count (map entry_of (drop (i + 1) xs)) (map entry_of (drop (i + 1) ys))
-common_more xs ys i d in_xs in_ys same =
-    ap (λ l. common_count (map entry_of l) (map entry_of (drop i ys))) (drop_more xs i d in_xs)
-    ∙ (ap (λ l. common_count (map entry_of (get_or xs i d ∷ drop (i + 1) xs)) (map entry_of l)) (drop_more ys i d in_ys)
-    ∙ ap (λ b. cond b (1 + common_count (map entry_of (drop (i + 1) xs)) (map entry_of (drop (i + 1) ys))) 0)
-    (eq-eqb (get_or xs i d).minus (get_or ys i d).minus same))
-
-pub common_apart : (xs ys : List Branch) (i : ℕ) (d : Branch) → i < length xs → i < length ys
-    → ((get_or xs i d).minus ≡ (get_or ys i d).minus → ⊥)
-    → common_count (map entry_of (drop i xs)) (map entry_of (drop i ys)) ≡ 0
-common_apart xs ys i d in_xs in_ys other =
-    ap (λ l. common_count (map entry_of l) (map entry_of (drop i ys))) (drop_more xs i d in_xs)
-    ∙ (ap (λ l. common_count (map entry_of (get_or xs i d ∷ drop (i + 1) xs)) (map entry_of l)) (drop_more ys i d in_ys)
-    ∙ ap (λ b. cond b (1 + common_count (map entry_of (drop (i + 1) xs)) (map entry_of (drop (i + 1) ys))) 0)
-    (ne_eqb (get_or xs i d).minus (get_or ys i d).minus other))
 
 pub common_right : (xs : List (EntryOf ℕ)) → common_count xs [] ≡ 0
 common_right [] = refl

@@ -1,8 +1,9 @@
 -- Where the branch of a node stands, and what a tree keeps.
-use Rattle.std.specs.Prelude.{ℕ, ◌≡◌, ◌<◌, ◌==◌, ◌||◌, List, [], ◌∷◌, length, get_or, Option, Some, None, if◌then◌else◌}
+use Rattle.std.specs.Prelude.{ℕ, ◌≡◌, ◌<◌, ◌==◌, ◌||◌, List, [], ◌∷◌, length, Option, Some, None, if◌then◌else◌}
 use Rattle.fb_laws.specs.Trees.{EntryOf}
 use Rattle.fb_trees.specs.declared.branch.Branch.{Branch}
 use Rattle.fb_trees.specs.Rooted.{IsRooted}
+use Rattle.fb_regions.specs.InternalPlaces.{place_in}
 
 -- the place of the node's branch, counted from the oldest one
 abbrev pub place_of : List (EntryOf ℕ) → ℕ → Option ℕ
@@ -13,10 +14,6 @@ place_of (e ∷ es) name = if (e.minus == name) || (e.plus == name) then Some (l
 abbrev pub branch_at : List (EntryOf ℕ) → ℕ → Option (EntryOf ℕ)
 branch_at [] name = None
 branch_at (e ∷ es) name = if (e.minus == name) || (e.plus == name) then Some e else branch_at es name
-
--- the entry of a name in a table, none past its end
-abbrev pub place_in : List (Option ℕ) → ℕ → Option ℕ
-place_in places name = get_or places name None
 
 -- the table has the place of each node's branch, and no other
 abbrev pub ArePlaces : List (Option ℕ) → List (EntryOf ℕ) → Type 0

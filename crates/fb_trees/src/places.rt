@@ -1,6 +1,7 @@
 ghost use Rattle.std.specs.Prelude.{◌≡◌, ◌≤◌, ◌<◌, ◌==◌, ◌||◌, [], ℕ, None, Some, All, OnOk, length, if◌then◌else◌};
+ghost use Rattle.fb_regions.specs.InternalPlaces.{place_in};
 ghost use Rattle.fb_trees.specs.Branches.{entries_of};
-ghost use Rattle.fb_trees.specs.InternalPlaces.{ArePlaces, IsWithin, place_in};
+ghost use Rattle.fb_trees.specs.InternalPlaces.{ArePlaces, IsWithin};
 
 use crate::{Branch, NoMemory, NodeId};
 

@@ -27,37 +27,15 @@ pub fn solve_unit<'a, L: Ledger>(
     ensures steps { IfOk result (λ half. (length (own_defects half) + 2 * steps.old ≤ 2 * steps.new)
         × (steps.new ≤ steps.old + length (own_defects half))) }
 {
+    let reach = job.plan().reach(node);
     let scratch = Scratch::new(alloc, &Whole(job.graph()))?;
-    let (half, _scratch) = solve_unit_on(alloc, job, slot, node, None, scratch, steps)?;
+    let (half, _scratch) = solve_within(alloc, job, slot, node, reach, None, scratch, steps)?;
     Ok(half)
 }
 
-/// The same in the room of a part that is no longer used, if there is one, and with scratch space that is lent and given back,
-/// so that one serves many parts of a graph.
-pub fn solve_unit_on<'a, L: Ledger>(
-    alloc: Global,
-    job: &'a Job<'a>,
-    slot: u32,
-    node: u32,
-    spare: Option<Spare>,
-    scratch: Scratch,
-    steps: &mut Steps<L>,
-) -> Result<(Half<'a>, Scratch), NoMemory>
-    requires slot { slot < length job.now.shots }
-    requires unit { node < job.now.plan.units }
-    requires room { scratch.edge_count ≡ length job.now.graph.edges }
-    ensures half { IfOk result (λ r. IsPartOf job.now slot node r.0) }
-    ensures room { IfOk result (λ r. r.1.edge_count ≡ scratch.edge_count) }
-    ensures never_falls { steps.old ≤ steps.new }
-    ensures steps { IfOk result (λ r. (length (own_defects r.0) + 2 * steps.old ≤ 2 * steps.new)
-        × (steps.new ≤ steps.old + length (own_defects r.0))) }
-{
-    let reach = job.plan().reach(node);
-    solve_within(alloc, job, slot, node, reach, spare, scratch, steps)
-}
-
 /// The solved part of any node of a plan, a fusion's too, solved whole as if the node were a unit, and not from its
-/// children's parts. All real vertices of its sub-problem lie within the given reach.
+/// children's parts. All real vertices of its sub-problem lie within the given reach. In the room of a part that is no longer
+/// used, if there is one, and with scratch space that is lent and given back, so that one serves many parts of a graph.
 pub fn solve_within<'a, L: Ledger>(
     alloc: Global,
     job: &'a Job<'a>,

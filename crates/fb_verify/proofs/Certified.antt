@@ -1,5 +1,6 @@
 -- A row has the verdict `Good` just where it is right.
 use Rattle.std.proofs.Common.{ℕ, ◌+◌, ◌≤◌, ◌≡◌, ◌≢◌, ◌==◌, ◌&&◌, ◌↔◌, inl, inr, not, nat_lt, cond, Bool, true, false, List, [], ◌∷◌, length, get_or, All, Option, Some, None, Result, Ok, Err, IfOk, refl, sym, ap, subst, ◌∙◌, arith}
+use Rattle.std.proofs.Math.Bool.{and-false}
 use Rattle.std.specs.List.{find}
 use Rattle.std.specs.Option.{option_map, option_or, is_some, unwrap_or}
 use Rattle.std.specs.Ordering.{nat_cmp, is_lt}
@@ -19,11 +20,13 @@ use Rattle.fb_graph.specs.declared.parts.Row.{Row}
 use Rattle.fb_graph.specs.declared.parts.Row.TheVariants.{Best, Odd}
 use Rattle.fb_graph.proofs.Duality.{least_weight}
 use Rattle.fb_graph.proofs.OddComponents.{best_has_no_odd, no_correction}
-use Rattle.fb_graph.proofs.ParitySums.{differ_self, same_from_differ, and-false}
-use Rattle.fb_verify.specs.Verdicts.{HasPositiveValues, IsLeastWeight, IsOddVerdict, IsVerdict, best_fault, cut_fault, cuts_fault, fault_of_two, fault_where, first_beyond, first_fall, has_wrong_parity, is_overloaded, least_below}
+use Rattle.fb_graph.proofs.ParitySums.{differ_self, same_from_differ}
+use Rattle.fb_graph.proofs.Leasts.{least_none, least_failed}
+use Rattle.fb_verify.specs.Verdicts.{HasPositiveValues, IsLeastWeight, IsOddVerdict, IsVerdict, best_fault, cut_fault, cuts_fault, fault_of_two, fault_where, first_beyond, first_fall, has_wrong_parity, is_overloaded}
+use Rattle.fb_graph.specs.Leasts.{least}
 use Rattle.fb_verify.specs.declared.verdicts.Verdict.{Verdict}
 use Rattle.fb_verify.specs.declared.verdicts.Verdict.TheVariants.{Good, EdgeOutOfRange, EdgesNotRising, WrongParity, WeightNotSum, CutEmpty, VertexOutOfRange, CutsNotRising, CutHoldsVirtual, CutEven, Overloaded, SumDiffers, OddWrong}
-use Rattle.fb_verify.proofs.Goods.{as_cut, before_same, cuts-from_none, cuts_bad, fall-from_rising, least-none, map_bad, map_none, none-from_all, none-least, or_bad, or_none, rising-from_fall, two_bad, two_none}
+use Rattle.fb_verify.proofs.Goods.{as_cut, before_same, cuts-from_none, cuts_bad, fall-from_rising, map_bad, map_none, none-from_all, or_bad, or_none, rising-from_fall, two_bad, two_none}
 use Rattle.fb_verify.proofs.Leasts.{below-from_beyond, beyond-from_below}
 use Rattle.fb_verify.proofs.Marked.{real-below}
 
@@ -32,30 +35,30 @@ best_bad : (g : DecodingGraph) (shot : ShotValue) (edges : List ℕ) (weight : �
 best_bad g shot edges weight cuts =
     or_bad (option_map EdgeOutOfRange (first_beyond (length g.edges) edges)) _ (map_bad EdgeOutOfRange (λ k e. cc) (first_beyond (length g.edges) edges))
     (or_bad (option_map EdgesNotRising (first_fall edges)) _ (map_bad EdgesNotRising (λ k e. cc) (first_fall edges))
-    (or_bad (option_map WrongParity (least_below g.vertices (has_wrong_parity (problem_of g shot) edges))) _ (map_bad WrongParity (λ k e. cc) (least_below g.vertices (has_wrong_parity (problem_of g shot) edges)))
+    (or_bad (option_map WrongParity (least g.vertices (has_wrong_parity (problem_of g shot) edges))) _ (map_bad WrongParity (λ k e. cc) (least g.vertices (has_wrong_parity (problem_of g shot) edges)))
     (or_bad (fault_of_two WeightNotSum weight (weight_of (problem_of g shot) edges)) _ (two_bad WeightNotSum (λ a b e. cc) weight (weight_of (problem_of g shot) edges))
     (or_bad (cuts_fault g shot 0 [] cuts) _ (cuts_bad g shot 0 [] cuts)
-    (or_bad (option_map Overloaded (least_below (length g.edges) (is_overloaded (problem_of g shot) cuts))) _ (map_bad Overloaded (λ k e. cc) (least_below (length g.edges) (is_overloaded (problem_of g shot) cuts)))
+    (or_bad (option_map Overloaded (least (length g.edges) (is_overloaded (problem_of g shot) cuts))) _ (map_bad Overloaded (λ k e. cc) (least (length g.edges) (is_overloaded (problem_of g shot) cuts)))
     (or_bad (fault_of_two SumDiffers weight (total_value cuts)) None (two_bad SumDiffers (λ a b e. cc) weight (total_value cuts)) (λ e. cc)))))))
 
 none_from_good : (o : Option Verdict) → o ≢ Some Good → unwrap_or o Good ≡ Good → o ≡ None
 none_from_good None bad e = refl
 none_from_good (Some v) bad e = absurd (bad (ap Some e))
 
-flips-from_none : (g : DecodingGraph) (shot : ShotValue) (edges : List ℕ) → least_below g.vertices (has_wrong_parity (problem_of g shot) edges) ≡ None
+flips-from_none : (g : DecodingGraph) (shot : ShotValue) (edges : List ℕ) → least g.vertices (has_wrong_parity (problem_of g shot) edges) ≡ None
     → Flips (problem_of g shot) edges
 flips-from_none g shot edges none v real =
     same_from_differ (is_odd_count (λ k. touches v (edge_at g.edges k)) edges) (is_in shot.defects v)
     (step (is_real_in g v) (differ (is_odd_count (λ k. touches v (edge_at g.edges k)) edges) (is_in shot.defects v)) real
-    (none-least g.vertices (has_wrong_parity (problem_of g shot) edges) none v (real-below g v real)))
+    (least_failed g.vertices (has_wrong_parity (problem_of g shot) edges) none v (real-below g v real)))
   where
     step : (a b : Bool) → a ≡ true → (a && b) ≡ false → b ≡ false
     step a b e f = ap (λ x. x && b) (sym e) ∙ f
 
 none-from_flips : (g : DecodingGraph) (shot : ShotValue) (edges : List ℕ) → Flips (problem_of g shot) edges
-    → least_below g.vertices (has_wrong_parity (problem_of g shot) edges) ≡ None
+    → least g.vertices (has_wrong_parity (problem_of g shot) edges) ≡ None
 none-from_flips g shot edges flips =
-    least-none g.vertices (has_wrong_parity (problem_of g shot) edges) (λ v less. step v (is_real_in g v) refl)
+    least_none g.vertices (has_wrong_parity (problem_of g shot) edges) (λ v less. step v (is_real_in g v) refl)
   where
     step : (v : ℕ) (b : Bool) → is_real_in g v ≡ b → has_wrong_parity (problem_of g shot) edges v ≡ false
     step v true e =
@@ -63,16 +66,16 @@ none-from_flips g shot edges flips =
         ∙ (ap (λ x. is_real_in g v && x) (differ_self (is_in shot.defects v)) ∙ and-false (is_real_in g v))
     step v false e = ap (λ x. x && differ (is_odd_count (λ k. touches v (edge_at g.edges k)) edges) (is_in shot.defects v)) e
 
-fits-from_none : (g : DecodingGraph) (shot : ShotValue) (cuts : List Cut) → least_below (length g.edges) (is_overloaded (problem_of g shot) cuts) ≡ None
+fits-from_none : (g : DecodingGraph) (shot : ShotValue) (cuts : List Cut) → least (length g.edges) (is_overloaded (problem_of g shot) cuts) ≡ None
     → Fits (problem_of g shot) cuts
 fits-from_none g shot cuts none k d less =
     subst (λ e. load_of cuts e ≤ e.weight) (get_or_default g.edges k no_edge d less)
-    (ltb-false (edge_at g.edges k).weight (load_of cuts (edge_at g.edges k)) (none-least (length g.edges) (is_overloaded (problem_of g shot) cuts) none k less))
+    (ltb-false (edge_at g.edges k).weight (load_of cuts (edge_at g.edges k)) (least_failed (length g.edges) (is_overloaded (problem_of g shot) cuts) none k less))
 
 none-from_fits : (g : DecodingGraph) (shot : ShotValue) (cuts : List Cut) → Fits (problem_of g shot) cuts
-    → least_below (length g.edges) (is_overloaded (problem_of g shot) cuts) ≡ None
+    → least (length g.edges) (is_overloaded (problem_of g shot) cuts) ≡ None
 none-from_fits g shot cuts fits =
-    least-none (length g.edges) (is_overloaded (problem_of g shot) cuts)
+    least_none (length g.edges) (is_overloaded (problem_of g shot) cuts)
     (λ k less. le-ltb (edge_at g.edges k).weight (load_of cuts (edge_at g.edges k)) (fits k no_edge less))
 
 best-from_none : (g : DecodingGraph) (shot : ShotValue) (edges : List ℕ) (weight : ℕ) (cuts : List Cut) → All (λ c. 1 ≤ c.value) cuts
@@ -80,10 +83,10 @@ best-from_none : (g : DecodingGraph) (shot : ShotValue) (edges : List ℕ) (weig
 best-from_none g shot edges weight cuts positive none =
     let (beyond, rest) = or_none (option_map EdgeOutOfRange (first_beyond (length g.edges) edges)) _ none in
     let (fall, rest_2) = or_none (option_map EdgesNotRising (first_fall edges)) _ rest in
-    let (wrong, rest_3) = or_none (option_map WrongParity (least_below g.vertices (has_wrong_parity (problem_of g shot) edges))) _ rest_2 in
+    let (wrong, rest_3) = or_none (option_map WrongParity (least g.vertices (has_wrong_parity (problem_of g shot) edges))) _ rest_2 in
     let (sum, rest_4) = or_none (fault_of_two WeightNotSum weight (weight_of (problem_of g shot) edges)) _ rest_3 in
     let (faulty, rest_5) = or_none (cuts_fault g shot 0 [] cuts) _ rest_4 in
-    let (over, rest_6) = or_none (option_map Overloaded (least_below (length g.edges) (is_overloaded (problem_of g shot) cuts))) _ rest_5 in
+    let (over, rest_6) = or_none (option_map Overloaded (least (length g.edges) (is_overloaded (problem_of g shot) cuts))) _ rest_5 in
     let (total, rest_7) = or_none (fault_of_two SumDiffers weight (total_value cuts)) None rest_6 in
     let (listed, rising) = cuts-from_none g shot 0 [] cuts faulty in
     record {
@@ -91,7 +94,7 @@ best-from_none g shot edges weight cuts positive none =
         rising = rising-from_fall edges (map_none EdgesNotRising (first_fall edges) fall);
         within = below-from_beyond (length g.edges) edges (map_none EdgeOutOfRange (first_beyond (length g.edges) edges) beyond);
       };
-      flips = flips-from_none g shot edges (map_none WrongParity (least_below g.vertices (has_wrong_parity (problem_of g shot) edges)) wrong);
+      flips = flips-from_none g shot edges (map_none WrongParity (least g.vertices (has_wrong_parity (problem_of g shot) edges)) wrong);
       weighs = two_none WeightNotSum weight (weight_of (problem_of g shot) edges) sum;
       printed = λ k d less. record {
         odd = (listed k d less).odd;
@@ -99,7 +102,7 @@ best-from_none g shot edges weight cuts positive none =
         rising = (listed k d less).rising;
       };
       rising = rising.1;
-      fits = fits-from_none g shot cuts (map_none Overloaded (least_below (length g.edges) (is_overloaded (problem_of g shot) cuts)) over);
+      fits = fits-from_none g shot cuts (map_none Overloaded (least (length g.edges) (is_overloaded (problem_of g shot) cuts)) over);
       total = two_none SumDiffers weight (total_value cuts) total;
     }
 
@@ -212,9 +215,6 @@ good-from_right g shot (Odd u) v (inr (other, is)) right = absurd (other right)
 pub least-from_right : (p : Problem) (row : Row) → IsRight p row → IsLeastWeight p row
 least-from_right p (Best edges weight cuts) right = least_weight p edges weight cuts right.1
 least-from_right p (Odd v) right = λ other set flips. no_correction p v right.0 other set.within flips
-
-pub some_same : (u v : ℕ) → Some u ≡ Some v → u ≡ v
-some_same u v e = ap (λ o. unwrap_or o 0) e
 
 pub ok_good : {E : Type 0} (g : DecodingGraph) (shot : ShotValue) (row : Row) (r : Result Verdict E) → HasPositiveValues row
     → IfOk r (IsVerdict g shot row) → IfOk r (λ v. v ≡ Good ↔ IsRight (problem_of g shot) row)

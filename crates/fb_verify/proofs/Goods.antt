@@ -1,22 +1,23 @@
 -- A row is good just where it is right.
-use Rattle.std.proofs.Common.{ℕ, ◌+◌, ◌<◌, ◌≡◌, ◌≢◌, ◌==◌, ◌&&◌, not, nat_lt, cond, Bool, true, false, List, [], ◌∷◌, length, get_or, All, Option, Some, None, refl, sym, ap, ◌∙◌, arith}
-use Rattle.std.specs.List.{find, range_with_len}
+use Rattle.std.proofs.Common.{ℕ, ◌+◌, ◌<◌, ◌≡◌, ◌≢◌, ◌==◌, not, nat_lt, cond, Bool, true, false, List, [], ◌∷◌, length, get_or, All, Option, Some, None, refl, sym, ap, ◌∙◌, arith}
+use Rattle.std.specs.List.{find}
 use Rattle.std.specs.List.Sorted.{IsStrictlyIncreasing}
 use Rattle.std.specs.Option.{option_map, option_or, is_some}
 use Rattle.std.specs.Ordering.{nat_cmp, is_lt}
 use Rattle.std.specs.Cmp.Lexicographic.{slice_cmp}
 use Rattle.std.specs.declared.cmp.Ordering.{Ordering}
 use Rattle.std.specs.declared.cmp.Ordering.TheVariants.{Less, Equal, Greater}
-use Rattle.std.proofs.lemmas.Bool.{eqb-true, false≢true, lt-ltb, ltb-true}
+use Rattle.std.proofs.lemmas.Bool.{eqb-true, false≢true, lt-ltb, ltb-true, not-false, and_from, not_from_false}
 use Rattle.std.proofs.lemmas.List.Elements.{All-cons, All-head, All-nil, All-tail}
 use Rattle.fb_graph.specs.Certificate.{AreDistinct, AreRising, IsBefore, IsOddCut}
 use Rattle.fb_graph.specs.Limits.{DecodingGraph, ShotValue, problem_of}
 use Rattle.fb_graph.specs.Parity.{is_in, is_odd_count}
 use Rattle.fb_graph.specs.Problem.{Problem}
 use Rattle.fb_graph.specs.declared.parts.Cut.{Cut}
-use Rattle.fb_graph.proofs.Sets.{distinct_from_rising, is_in-All, is_in-range, range_below, rising-cons, rising-nil, rising-one, rising-tail}
+use Rattle.fb_graph.proofs.Sets.{distinct_from_rising, rising-cons, rising-nil, rising-one, rising-tail}
+use Rattle.fb_graph.proofs.Options.{is_some-none}
 use Rattle.fb_verify.proofs.Marked.{real-below}
-use Rattle.fb_verify.specs.Verdicts.{cut_fault, cuts_fault, fault_of_two, fault_where, first_beyond, first_fall, first_fall_after, least_below}
+use Rattle.fb_verify.specs.Verdicts.{cut_fault, cuts_fault, fault_of_two, fault_where, first_beyond, first_fall, first_fall_after}
 use Rattle.fb_verify.specs.declared.verdicts.Verdict.{Verdict}
 use Rattle.fb_verify.specs.declared.verdicts.Verdict.TheVariants.{Good, CutEmpty, VertexOutOfRange, CutsNotRising, CutHoldsVirtual, CutEven}
 use Rattle.fb_verify.proofs.Leasts.{below-from_beyond}
@@ -114,14 +115,6 @@ none-from_all p [] all = refl
 none-from_all p (x ∷ xs) all =
     rw (All-head (λ y. p y ≡ false) x xs all) (none-from_all p xs (All-tail (λ y. p y ≡ false) x xs all))
 
-pub least-none : (n : ℕ) (test : ℕ → Bool) → ((v : ℕ) → v < n → test v ≡ false) → least_below n test ≡ None
-least-none n test each =
-    none-from_all test (range_with_len 0 n) (λ k d less. each (get_or (range_with_len 0 n) k d) (range_below n k d less))
-
-pub none-least : (n : ℕ) (test : ℕ → Bool) → least_below n test ≡ None → (v : ℕ) → v < n → test v ≡ false
-none-least n test none v less =
-    is_in-All (λ u. test u ≡ false) (range_with_len 0 n) (all-from_none test (range_with_len 0 n) none) v (is_in-range n v less)
-
 -- a cut that keeps its rules by itself, but for its value
 pub record IsListed (p : Problem) (c : Cut) : Type 0 where
   pub odd : IsOddCut p c
@@ -131,17 +124,6 @@ is_less : (o : Ordering) → is_lt o ≡ true → o ≡ Less
 is_less Less e = refl
 is_less Equal e = absurd (false≢true e)
 is_less Greater e = absurd (false≢true e)
-
-not_false : (b : Bool) → not b ≡ false → b ≡ true
-not_false true e = refl
-not_false false e = sym e
-
-pub is_some-none : (o : Option ℕ) → is_some o ≡ false → o ≡ None
-is_some-none None e = refl
-is_some-none (Some v) e = absurd (false≢true (sym e))
-
-pub both_true : (a b : Bool) → a ≡ true → b ≡ false → (a && not b) ≡ true
-both_true a b e f = ap (λ x. x && not b) e ∙ ap not f
 
 -- the vertices before, as a cut
 abbrev pub as_cut : List ℕ → Cut
@@ -168,15 +150,15 @@ cut-from_none g shot j before c none =
       record {
         odd = record {
           distinct = distinct_from_rising c.vertices rising;
-          real = λ k d less. both_true (nat_lt (get_or c.vertices k d) g.vertices) (is_in g.virtuals (get_or c.vertices k d))
-              (lt-ltb (get_or c.vertices k d) g.vertices (below k d less)) (real k d less);
-          odd = not_false (is_odd_count (is_in shot.defects) c.vertices)
+          real = λ k d less. and_from (nat_lt (get_or c.vertices k d) g.vertices) (not (is_in g.virtuals (get_or c.vertices k d)))
+              (lt-ltb (get_or c.vertices k d) g.vertices (below k d less)) (not_from_false (is_in g.virtuals (get_or c.vertices k d)) (real k d less));
+          odd = not-false (is_odd_count (is_in shot.defects) c.vertices)
               (where_none (not (is_odd_count (is_in shot.defects) c.vertices)) (CutEven j) even);
         };
         rising = rising;
       },
       is_less (slice_cmp nat_cmp before c.vertices)
-          (not_false (is_lt (slice_cmp nat_cmp before c.vertices))
+          (not-false (is_lt (slice_cmp nat_cmp before c.vertices))
           (where_none (not (is_lt (slice_cmp nat_cmp before c.vertices))) (CutsNotRising j) order)),
     )
 

@@ -4,13 +4,14 @@ use Rattle.std.specs.List.{find, range_with_len}
 use Rattle.std.specs.Result.{MatchResult, is_ok}
 use Rattle.std.specs.Ordering.{nat_cmp}
 use Rattle.std.specs.List.Sorted.{IsBinarySearchResult, IsStrictlyIncreasing}
-use Rattle.std.proofs.lemmas.Bool.{and_parts, cases_lt, false≢true, both_ways, false_from_ne_true, lt-ltb, ltb-true}
+use Rattle.std.proofs.lemmas.Bool.{and_parts, cases_lt, false≢true, both_ways, false_from_ne_true, lt-ltb, ltb-true, and_from}
 use Rattle.std.proofs.lemmas.List.{get_or_default}
 use Rattle.std.proofs.lemmas.List.Elements.{All-cons, All-nil, All-head, All-tail}
 use Rattle.std.proofs.lemmas.List.Sorted.{searched}
 use Rattle.fb_graph.specs.Parity.{is_in}
 use Rattle.fb_graph.proofs.Sets.{is_in-All, is_in-cases, is_in-head, is_in-tail, is_in-range, is_in_at, range_below, range_rises, rising-tail, rising_above}
-use Rattle.fb_verify.specs.Verdicts.{first_beyond, least_below}
+use Rattle.fb_verify.specs.Verdicts.{first_beyond}
+use Rattle.fb_graph.specs.Leasts.{least}
 
 -- what a look-up gives is the least number of the list that passes
 abbrev pub IsLeast : (ℕ → Bool) → List ℕ → Option ℕ → Type 0
@@ -35,14 +36,11 @@ pub same_least : (p q : ℕ → Bool) (xs ys : List ℕ) (a b : Option ℕ) → 
     → ((v : ℕ) → (is_in xs v && p v) ≡ (is_in ys v && q v)) → a ≡ b
 same_least p q xs ys a b first second same = step a b first second
   where
-    both : (s t : Bool) → s ≡ true → t ≡ true → (s && t) ≡ true
-    both s t e f = ap (λ z. z && t) e ∙ f
-
     there : (v : ℕ) → is_in xs v ≡ true → p v ≡ true → (is_in ys v ≡ true) × (q v ≡ true)
-    there v e f = and_parts (is_in ys v) (q v) (sym (same v) ∙ both (is_in xs v) (p v) e f)
+    there v e f = and_parts (is_in ys v) (q v) (sym (same v) ∙ and_from (is_in xs v) (p v) e f)
 
     back : (v : ℕ) → is_in ys v ≡ true → q v ≡ true → (is_in xs v ≡ true) × (p v ≡ true)
-    back v e f = and_parts (is_in xs v) (p v) (same v ∙ both (is_in ys v) (q v) e f)
+    back v e f = and_parts (is_in xs v) (p v) (same v ∙ and_from (is_in ys v) (q v) e f)
 
     order : (u v : ℕ) → (u < v → ⊥) → (v < u → ⊥) → u ≡ v
     order u v above below = elim (cases_lt u v) [ inl less ↦ absurd (above less) | inr more ↦ elim (cases_lt v u) [ inl less ↦ absurd (below less) | inr low ↦ omega arith ] ]
@@ -56,17 +54,17 @@ same_least p q xs ys a b first second same = step a b first second
         let k = back v g.0 g.1 in
         ap Some (order u v (λ less. both_ways (q u) (g.2 u h.0 less) h.1) (λ less. both_ways (p v) (f.2 v k.0 less) k.1))
 
-pub least_below_is_least : (n : ℕ) (q : ℕ → Bool) → IsLeast q (range_with_len 0 n) (least_below n q)
-least_below_is_least n q = find_is_least q (range_with_len 0 n) (range_rises 0 n)
+pub least_is_least : (n : ℕ) (q : ℕ → Bool) → IsLeast q (range_with_len 0 n) (least n q)
+least_is_least n q = find_is_least q (range_with_len 0 n) (range_rises 0 n)
 
 pub is_in-range-below : (n v : ℕ) → is_in (range_with_len 0 n) v ≡ true → v < n
 is_in-range-below n v within = is_in-All (λ u. u < n) (range_with_len 0 n) (range_below n) v within
 
 -- the list holds just the numbers below n, as far as the tests see
 pub least-from_rising : (p q : ℕ → Bool) (xs : List ℕ) (n : ℕ) → IsStrictlyIncreasing xs → All (λ v. v < n) xs
-    → ((v : ℕ) → v < n → (is_in xs v && p v) ≡ q v) → find p xs ≡ least_below n q
+    → ((v : ℕ) → v < n → (is_in xs v && p v) ≡ q v) → find p xs ≡ least n q
 least-from_rising p q xs n rising below same =
-    same_least p q xs (range_with_len 0 n) (find p xs) (least_below n q) (find_is_least p xs rising) (least_below_is_least n q)
+    same_least p q xs (range_with_len 0 n) (find p xs) (least n q) (find_is_least p xs rising) (least_is_least n q)
     (λ v. elim (cases_lt v n) [ inl less ↦ inside v less | inr more ↦ outside v more ])
   where
     inside : (v : ℕ) → v < n → (is_in xs v && p v) ≡ (is_in (range_with_len 0 n) v && q v)

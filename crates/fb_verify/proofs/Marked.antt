@@ -1,6 +1,7 @@
 -- The vertices where the edges' parity isn't the shot's occur an odd number of times among the edges' ends and the
 -- defects together.
 use Rattle.std.proofs.Common.{ℕ, ◌<◌, ◌≡◌, ◌==◌, ◌&&◌, not, nat_lt, Bool, true, List, [], ◌∷◌, ◌++◌, length, get_or, All, sym, ap, ◌∙◌}
+use Rattle.std.proofs.Math.Bool.{and_comm}
 use Rattle.std.specs.List.{find}
 use Rattle.std.specs.List.Sorted.{IsStrictlyIncreasing}
 use Rattle.std.proofs.lemmas.Bool.{and_parts, lt-ltb, ltb-true}
@@ -8,16 +9,12 @@ use Rattle.std.proofs.lemmas.List.Elements.{All-head, All-tail, All-cons, All-ni
 use Rattle.fb_graph.specs.Parity.{differ, is_in, is_odd_count}
 use Rattle.fb_graph.specs.Problem.{touches, edge_at, no_edge}
 use Rattle.fb_graph.specs.Limits.{DecodingGraph, IsEdge, IsGraph, IsShot, ShotValue, is_real_in, problem_of}
-use Rattle.fb_graph.proofs.ParitySums.{and_comm, differ-false, odd-append, odd_same, odd-flat_map, differ_assoc}
+use Rattle.fb_graph.proofs.ParitySums.{differ-false, odd-append, odd_same, odd-flat_map}
 use Rattle.fb_graph.proofs.Sets.{All-from_is_in, is_in-All, distinct_from_rising, odd_equal, equal_sym}
 use Rattle.fb_verify.specs.Marks.{ends_of}
-use Rattle.fb_verify.specs.Verdicts.{least_below, has_wrong_parity}
+use Rattle.fb_verify.specs.Verdicts.{has_wrong_parity}
+use Rattle.fb_graph.specs.Leasts.{least}
 use Rattle.fb_verify.proofs.Leasts.{least-from_rising}
-
--- one step of a count's parity
-pub odd_step : {X : Type 0} (test : X → Bool) (all odd : Bool) (x : X) (xs : List X)
-    → all ≡ differ odd (is_odd_count test (x ∷ xs)) → all ≡ differ (differ odd (test x)) (is_odd_count test xs)
-odd_step test all odd x xs e = e ∙ sym (differ_assoc odd (test x) (is_odd_count test xs))
 
 pub ends_below : (g : DecodingGraph) (ks : List ℕ) → IsGraph g → All (λ k. k < length g.edges) ks
     → All (λ v. v < g.vertices) (ends_of g.edges ks)
@@ -63,7 +60,7 @@ odd-below odd marks n inside below = All-from_is_in (λ v. v < n) odd (λ v h. i
 pub least_wrong : (g : DecodingGraph) (shot : ShotValue) (ks odd : List ℕ) → IsShot g shot → IsStrictlyIncreasing odd
     → All (λ v. v < g.vertices) odd
     → ((test : ℕ → Bool) → is_odd_count test odd ≡ is_odd_count test (ends_of g.edges ks ++ shot.defects))
-    → find (λ v. not (is_in g.virtuals v)) odd ≡ least_below g.vertices (has_wrong_parity (problem_of g shot) ks)
+    → find (λ v. not (is_in g.virtuals v)) odd ≡ least g.vertices (has_wrong_parity (problem_of g shot) ks)
 least_wrong g shot ks odd is_shot rising below parity =
     least-from_rising (λ v. not (is_in g.virtuals v)) (has_wrong_parity (problem_of g shot) ks) odd g.vertices rising below same
   where

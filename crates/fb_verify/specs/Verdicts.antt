@@ -1,7 +1,7 @@
 -- What a check of a row finds: the first rule that the row breaks. For a correction these are the rules of its
 -- certificate (Edmonds and Johnson 1973).
 use Rattle.std.specs.Prelude.{ℕ, ◌≡◌, ◌≤◌, ◌==◌, ◌+◌, ◌&&◌, ◌⊎◌, ⊤, All, Bool, not, if◌then◌else◌, nat_lt, List, [], ◌∷◌, length, Option, Some, None}
-use Rattle.std.specs.List.{find, range_with_len}
+use Rattle.std.specs.List.{find}
 use Rattle.std.specs.Option.{option_map, option_or, is_some, unwrap_or}
 use Rattle.std.specs.Ordering.{nat_cmp, is_lt}
 use Rattle.std.specs.Cmp.Lexicographic.{slice_cmp}
@@ -13,6 +13,7 @@ use Rattle.fb_graph.specs.Limits.{DecodingGraph, ShotValue, problem_of}
 use Rattle.fb_graph.specs.declared.parts.Cut.{Cut}
 use Rattle.fb_graph.specs.declared.parts.Row.{Row}
 use Rattle.fb_graph.specs.declared.parts.Row.TheVariants.{Best, Odd}
+use Rattle.fb_graph.specs.Leasts.{least}
 use Rattle.fb_verify.specs.declared.verdicts.Verdict.{Verdict}
 use Rattle.fb_verify.specs.declared.verdicts.Verdict.TheVariants.{Good, EdgeOutOfRange, EdgesNotRising, WrongParity, WeightNotSum, CutEmpty, VertexOutOfRange, CutsNotRising, CutHoldsVirtual, CutEven, Overloaded, SumDiffers, OddWrong}
 
@@ -29,10 +30,6 @@ first_fall_after before (k ∷ ks) = if nat_lt before k then first_fall_after k 
 abbrev pub first_fall : List ℕ → Option ℕ
 first_fall [] = None
 first_fall (k ∷ ks) = first_fall_after k ks
-
--- the least number below n that passes the test
-abbrev pub least_below : ℕ → (ℕ → Bool) → Option ℕ
-least_below n test = find test (range_with_len 0 n)
 
 -- the vertex is real, and the parity of the edges there isn't the defects'
 abbrev pub has_wrong_parity : Problem → List ℕ → ℕ → Bool
@@ -79,10 +76,10 @@ abbrev pub best_fault : DecodingGraph → ShotValue → List ℕ → ℕ → Lis
 best_fault g shot edges weight cuts = first_of (
     option_map EdgeOutOfRange (first_beyond (length g.edges) edges)
     ∷ option_map EdgesNotRising (first_fall edges)
-    ∷ option_map WrongParity (least_below g.vertices (has_wrong_parity (problem_of g shot) edges))
+    ∷ option_map WrongParity (least g.vertices (has_wrong_parity (problem_of g shot) edges))
     ∷ fault_of_two WeightNotSum weight (weight_of (problem_of g shot) edges)
     ∷ cuts_fault g shot 0 [] cuts
-    ∷ option_map Overloaded (least_below (length g.edges) (is_overloaded (problem_of g shot) cuts))
+    ∷ option_map Overloaded (least (length g.edges) (is_overloaded (problem_of g shot) cuts))
     ∷ fault_of_two SumDiffers weight (total_value cuts)
     ∷ [])
 

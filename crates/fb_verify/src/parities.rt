@@ -5,7 +5,8 @@ ghost use Rattle.std.specs.List.{find};
 ghost use Rattle.fb_graph.specs.Limits.{IsShot, problem_of};
 ghost use Rattle.fb_graph.specs.Parity.{is_in, is_odd_count};
 ghost use Rattle.fb_verify.specs.Marks.{ends_of};
-ghost use Rattle.fb_verify.specs.Verdicts.{least_below, has_wrong_parity};
+ghost use Rattle.fb_verify.specs.Verdicts.{has_wrong_parity};
+ghost use Rattle.fb_graph.specs.Leasts.{least};
 
 use fb_graph::{Graph, NoMemory, Shot, odd_ones};
 use std::alloc::Global;
@@ -20,7 +21,7 @@ pub(crate) fn wrong_parity(
 ) -> Result<Option<u32>, NoMemory>
     requires shot { IsShot graph.now shot.now }
     requires within { All (λ k. k < length graph.now.edges) edges.now }
-    ensures { IfOk result (λ v. v ≡ least_below graph.now.vertices (has_wrong_parity (problem_of graph.now shot.now) edges.now)) }
+    ensures { IfOk result (λ v. v ≡ least graph.now.vertices (has_wrong_parity (problem_of graph.now shot.now) edges.now)) }
 {
     graph.limits();
     let odd = odd_ones(marks(alloc, graph, shot, edges)?);

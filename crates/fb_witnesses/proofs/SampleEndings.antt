@@ -23,6 +23,7 @@ use Rattle.fb_graph.specs.Steps.{MayStep}
 use Rattle.fb_laws.specs.Trees.{Entry, roles_of}
 use Rattle.fb_witnesses.specs.TreeWitnesses.{long_line, thin_nodes, thin_branch, crown_nodes}
 use Rattle.fb_laws.specs.Works.{AreMatchedLinks, IsSetOf}
+use Rattle.fb_laws.specs.Opening.{EndsAtDefects}
 use Rattle.fb_graph.proofs.BeginningNests.{singles_are_nest}
 use Rattle.fb_laws.proofs.NestedStates.{nested_stepped, nested_absorbed, nested_uncovered}
 use Rattle.fb_witnesses.proofs.SampleNests.{limits_by_cases}
@@ -203,8 +204,7 @@ no_grown p nodes = record {
   own = All-nil (IsLinkOf p);
   at_defects =
       All-nil
-      (λ l. (p.is_real l.from ≡ true → is_in (leaves nodes) l.from ≡ true)
-      × (p.is_real l.to ≡ true → is_in (leaves nodes) l.to ≡ true));
+      (EndsAtDefects p (leaves nodes));
 }
 
 pair_heights : (d : ℕ) → is_in (leaves pair_nodes) d ≡ true → height_of (all_cuts pair_nodes) d % 2 ≡ 0

@@ -13,9 +13,10 @@ use Rattle.fb_graph.proofs.Sets.{is_in-All}
 use Rattle.fb_graph.specs.Ends.{ends_in, AreAllApart, crossing_links}
 use Rattle.fb_graph.specs.Links.{IsTightLink}
 use Rattle.fb_graph.specs.NestUnions.{AreParts}
+use Rattle.fb_graph.specs.InternalSamples.{cut}
 use Rattle.fb_laws.specs.Fusion.{IsLinkOf}
-use Rattle.fb_laws.specs.Opening.{IsWithinOne, IsAlikeOver, single_sets}
-use Rattle.fb_witnesses.specs.Samples.{cut, link, line, line_part, triangle, blossom_cuts}
+use Rattle.fb_laws.specs.Opening.{IsWithinOne, IsAlikeOver, single_sets, EndsAtDefects}
+use Rattle.fb_witnesses.specs.Samples.{link, line, line_part, triangle, blossom_cuts}
 use Rattle.fb_witnesses.specs.Witnesses.{FusionWitness, OpeningWitness}
 use Rattle.fb_witnesses.proofs.SampleStates.{odd_cut, of_one, of_three, whole_one, apart_ones}
 use Rattle.fb_graph.proofs.Examples.{fits_by_cases}
@@ -162,8 +163,7 @@ opening_witness = (
     (record { walk = (3, omega arith, inl (refl, refl), refl); tight = refl }, tt),
   ),
   All-from_recursion
-      (λ l. (triangle.is_real l.from ≡ true → is_in (2 ∷ 0 ∷ 1 ∷ []) l.from ≡ true)
-      × (triangle.is_real l.to ≡ true → is_in (2 ∷ 0 ∷ 1 ∷ []) l.to ≡ true))
+      (EndsAtDefects triangle (2 ∷ 0 ∷ 1 ∷ []))
       (link 0 1 (0 ∷ []) ∷ link 2 3 (3 ∷ []) ∷ [])
       ((λ h. refl, λ h. refl), ((λ h. refl, λ h. absurd (false≢true h)), tt)),
   of_three (λ v. is_in (0 ∷ 1 ∷ 2 ∷ []) v ≡ is_in (2 ∷ 0 ∷ 1 ∷ []) v) 0 1 2 refl refl refl,

@@ -1,8 +1,7 @@
 -- The whole states of two ends of a line, before they are fused.
-use Rattle.std.proofs.Common.{ℕ, ◌≡◌, true, List, [], ◌∷◌}
+use Rattle.std.proofs.Common.{ℕ, true, List, [], ◌∷◌}
 use Rattle.std.proofs.lemmas.Bool.{false≢true}
 use Rattle.std.proofs.lemmas.List.Elements.{All-from_recursion, All-nil}
-use Rattle.fb_graph.specs.Parity.{is_in}
 use Rattle.fb_graph.specs.Problem.{Problem}
 use Rattle.fb_graph.specs.Laws.{Link}
 use Rattle.fb_graph.specs.Dual.{Node, all_cuts, leaves}
@@ -15,6 +14,7 @@ use Rattle.fb_laws.specs.PartStates.{IsRing, IsPartState}
 use Rattle.fb_witnesses.specs.Samples.{line_part, single}
 use Rattle.fb_witnesses.specs.StateWitnesses.{FusedStateWitness, left_end, right_end}
 use Rattle.fb_laws.specs.Works.{AreMatchedLinks}
+use Rattle.fb_laws.specs.Opening.{EndsAtDefects}
 use Rattle.fb_witnesses.proofs.SampleFusions.{fused_witness}
 use Rattle.fb_witnesses.proofs.SampleSeamStates.{seam_witness}
 
@@ -24,8 +24,7 @@ no_links p nodes = record {
   own = All-nil (IsLinkOf p);
   at_defects =
       All-nil
-      (λ (l : Link). (p.is_real l.from ≡ true → is_in (leaves nodes) l.from ≡ true)
-      × (p.is_real l.to ≡ true → is_in (leaves nodes) l.to ≡ true));
+      (EndsAtDefects p (leaves nodes));
 }
 
 -- one node, matched

@@ -1,11 +1,12 @@
 -- The triangle's blossom, matched to the boundary, opened.
 use Rattle.std.proofs.Common.{ℕ, ◌≡◌, ◌+◌, ◌%◌, ◌<◌, ◌==◌, inl, inr, true, List, [], ◌∷◌, refl, sym, ap, ◌∙◌, arith}
+use Rattle.std.proofs.Math.Bool.{or-false}
 use Rattle.std.proofs.lemmas.Bool.{eqb-true, false≢true}
 use Rattle.std.proofs.lemmas.List.Elements.{All-nil, All-from_recursion}
 use Rattle.fb_graph.specs.Parity.{is_in}
 use Rattle.fb_graph.specs.Problem.{edge_at}
 use Rattle.fb_graph.specs.Components.{Leads}
-use Rattle.fb_graph.specs.Laws.{IsTight, Link, has_real_end}
+use Rattle.fb_graph.specs.Laws.{IsTight, has_real_end}
 use Rattle.fb_graph.specs.Dual.{all_cuts, height_of, is_outer, leaves}
 use Rattle.fb_graph.specs.Counts.{as_count}
 use Rattle.fb_graph.specs.Ends.{ends_in}
@@ -19,17 +20,12 @@ use Rattle.fb_laws.specs.PartStates.{IsPartState, IsRing}
 use Rattle.fb_witnesses.specs.ResolvedWitnesses.{closed_nodes}
 use Rattle.fb_witnesses.specs.Samples.{link, triangle}
 use Rattle.fb_laws.specs.Works.{AreMatchedLinks, IsMatching}
-use Rattle.fb_graph.proofs.Members.{or_false}
+use Rattle.fb_laws.specs.Opening.{EndsAtDefects}
 use Rattle.fb_graph.proofs.Sets.{is_in-All}
 use Rattle.fb_witnesses.proofs.SampleNests.{grown_blossom}
 use Rattle.fb_witnesses.proofs.SampleResolutions.{resolved_witness}
 use Rattle.fb_witnesses.proofs.SampleSearches.{some_walk}
 use Rattle.fb_laws.proofs.SearchStates.{links_joined}
-
-abbrev AtDefects : Link → Type 0
-AtDefects l =
-    (triangle.is_real l.from ≡ true → is_in (leaves closed_nodes) l.from ≡ true)
-    × (triangle.is_real l.to ≡ true → is_in (leaves closed_nodes) l.to ≡ true)
 
 over_edge : (u v k : ℕ) → k < 4 → Leads (edge_at triangle.edges k) u v
     → IsTight triangle (all_cuts closed_nodes) (link u v (k ∷ []))
@@ -48,7 +44,7 @@ over_edge u v k less leads tight real = record {
         },
         tt,
       );
-  at_defects = All-from_recursion AtDefects (link u v (k ∷ []) ∷ []) ((λ h. h, λ h. h), tt);
+  at_defects = All-from_recursion (EndsAtDefects triangle (leaves closed_nodes)) (link u v (k ∷ []) ∷ []) ((λ h. h, λ h. h), tt);
 }
 
 matched : AreMatchedLinks triangle closed_nodes (link 2 3 (3 ∷ []) ∷ [])
@@ -99,7 +95,7 @@ walks_of_defects set within v h = (
 corner : (c : ℕ) → is_in (0 ∷ 1 ∷ 2 ∷ []) c ≡ true → (v : ℕ) → is_in (c ∷ []) v ≡ true
     → is_in (leaves closed_nodes) v ≡ true
 corner c within v h =
-    ap (is_in (0 ∷ 1 ∷ 2 ∷ [])) (sym (eqb-true c v (sym (or_false (c == v)) ∙ h))) ∙ within
+    ap (is_in (0 ∷ 1 ∷ 2 ∷ [])) (sym (eqb-true c v (sym (or-false (c == v)) ∙ h))) ∙ within
 
 work : IsNestedWork triangle closed_nodes (link 2 3 (3 ∷ []) ∷ []) []
 work = record {

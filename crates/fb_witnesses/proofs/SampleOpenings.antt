@@ -12,12 +12,13 @@ use Rattle.fb_graph.specs.Ends.{ends_in}
 use Rattle.fb_graph.specs.Moves.{MayJoin, joined_nodes}
 use Rattle.fb_graph.specs.Nests.{IsNest}
 use Rattle.fb_witnesses.specs.NestWitnesses.{blossom_nodes, blossom_roles}
-use Rattle.fb_witnesses.specs.Samples.{link, triangle, cut}
+use Rattle.fb_witnesses.specs.Samples.{link, triangle}
 use Rattle.fb_laws.specs.SearchOpenings.{IsOpenedTree, IsSplit}
 use Rattle.fb_laws.specs.Searches.{IsSearch}
 use Rattle.fb_graph.specs.SourceWalks.{HaveWalks}
 use Rattle.fb_graph.specs.Singles.{AreSingles}
 use Rattle.fb_graph.specs.Steps.{stepped_nodes}
+use Rattle.fb_graph.specs.InternalSamples.{cut}
 use Rattle.fb_witnesses.specs.TreeWitnesses.{SplittingWitness, LevelWitness, crown, crown_singles, crown_nodes, closed_branch, opened_branches}
 use Rattle.fb_laws.specs.Works.{IsMatching}
 use Rattle.fb_graph.proofs.BeginningNests.{singles_are_nest}

@@ -16,6 +16,7 @@ use Rattle.fb_laws.specs.Fusion.{IsLinkOf}
 use Rattle.fb_laws.specs.Parities.{HaveOneParity}
 use Rattle.fb_graph.specs.Singles.{AreSingles}
 use Rattle.fb_laws.specs.Works.{AreMatchedLinks, IsMatching, outer_sets}
+use Rattle.fb_laws.specs.Opening.{EndsAtDefects}
 use Rattle.fb_witnesses.specs.Samples.{link, line, corner_nodes, bare_singles, young_singles, young_nodes, pair_singles, pair_nodes, pair_roles}
 use Rattle.fb_witnesses.specs.Witnesses.{ParityWitness, WorkWitness}
 use Rattle.fb_laws.proofs.HalvesKept.{work_begins}
@@ -90,8 +91,7 @@ no_links nodes are = record {
   own = All-nil (IsLinkOf (line (1 ∷ 2 ∷ [])));
   at_defects =
       All-nil
-      (λ l. ((line (1 ∷ 2 ∷ [])).is_real l.from ≡ true → is_in (leaves nodes) l.from ≡ true)
-      × ((line (1 ∷ 2 ∷ [])).is_real l.to ≡ true → is_in (leaves nodes) l.to ≡ true));
+      (EndsAtDefects (line (1 ∷ 2 ∷ [])) (leaves nodes));
 }
 
 to_boundary : AreMatchedLinks (line (1 ∷ 2 ∷ [])) pair_nodes (link 1 0 (0 ∷ []) ∷ [])

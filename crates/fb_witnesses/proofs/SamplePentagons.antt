@@ -7,7 +7,7 @@ use Rattle.fb_graph.specs.Parity.{is_in}
 use Rattle.fb_graph.specs.Problem.{Problem, edge_at, weight_of}
 use Rattle.fb_graph.specs.Certificate.{IsOddCut, load_of}
 use Rattle.fb_graph.specs.Components.{Leads}
-use Rattle.fb_graph.specs.Laws.{Link, ends_of, has_real_end}
+use Rattle.fb_graph.specs.Laws.{ends_of, has_real_end}
 use Rattle.fb_graph.specs.Dual.{Node, IsDual, IsHeld, all_cuts, height_of, is_empty, is_live, is_outer, leaves}
 use Rattle.fb_graph.specs.Counts.{as_count}
 use Rattle.fb_graph.specs.Ends.{ends_in}
@@ -31,6 +31,7 @@ use Rattle.fb_witnesses.specs.StateWitnesses.{ClosedStateWitness, OpenedStateWit
 use Rattle.fb_laws.specs.TreeCycles.{ArePaths}
 use Rattle.fb_laws.specs.Trees.{Connects}
 use Rattle.fb_laws.specs.Works.{AreMatchedLinks}
+use Rattle.fb_laws.specs.Opening.{EndsAtDefects}
 use Rattle.fb_witnesses.proofs.SampleParts.{one_height}
 use Rattle.fb_witnesses.proofs.SampleStates.{odd_cut}
 use Rattle.fb_laws.proofs.SearchStates.{links_joined}
@@ -60,7 +61,7 @@ one_link p nodes u v k less leads tight real first second = record {
       );
   at_defects =
       All-from_recursion
-      (λ l. (p.is_real l.from ≡ true → is_in (leaves nodes) l.from ≡ true) × (p.is_real l.to ≡ true → is_in (leaves nodes) l.to ≡ true))
+      (EndsAtDefects p (leaves nodes))
       (link u v (k ∷ []) ∷ []) ((λ h. first, λ h. second), tt);
 }
   where
@@ -159,8 +160,7 @@ start_state = record {
       own = All-nil (IsLinkOf pentagon);
       at_defects =
           All-nil
-          (λ (l : Link). (pentagon.is_real l.from ≡ true → is_in (leaves pentagon_leaves) l.from ≡ true)
-          × (pentagon.is_real l.to ≡ true → is_in (leaves pentagon_leaves) l.to ≡ true));
+          (EndsAtDefects pentagon (leaves pentagon_leaves));
     }
 
 even_edges : AreEven pentagon

@@ -8,11 +8,12 @@ use Rattle.fb_graph.specs.Parity.{is_in}
 use Rattle.fb_graph.specs.Printed.{HasPositiveCuts, IsResorted}
 use Rattle.fb_graph.specs.Dual.{all_cuts, leaves}
 use Rattle.fb_graph.specs.declared.parts.Cut.{Cut}
-use Rattle.fb_laws.specs.Opening.{EndAtDefects, IsLevel, single_sets}
+use Rattle.fb_graph.specs.InternalSamples.{cut}
+use Rattle.fb_laws.specs.Opening.{EndAtDefects, IsLevel, single_sets, EndsAtDefects}
 use Rattle.fb_laws.specs.Works.{positive_cuts}
 use Rattle.fb_laws.specs.NestSolutions.{AreChildrenOf, leaf_sets}
 use Rattle.fb_witnesses.specs.ResolvedWitnesses.{ResolvedWitness, closed_nodes, opened_links, printed_triangle}
-use Rattle.fb_witnesses.specs.Samples.{blossom_cuts, cut, triangle}
+use Rattle.fb_witnesses.specs.Samples.{blossom_cuts, triangle}
 use Rattle.fb_laws.proofs.OpenedLevels.{level_permuted}
 use Rattle.fb_witnesses.proofs.SampleLevels.{opening_witness}
 use Rattle.fb_witnesses.proofs.SampleNests.{grown_blossom}
@@ -43,8 +44,7 @@ level =
 at_defects : EndAtDefects triangle (leaves closed_nodes) opened_links
 at_defects =
     All-from_recursion
-    (λ l. (triangle.is_real l.from ≡ true → is_in (leaves closed_nodes) l.from ≡ true)
-    × (triangle.is_real l.to ≡ true → is_in (leaves closed_nodes) l.to ≡ true)) opened_links
+    (EndsAtDefects triangle (leaves closed_nodes)) opened_links
     ((λ h. refl, λ h. refl), ((λ h. refl, λ h. absurd (false≢true h)), tt))
 
 single_sorted : (c : Cut) → length c.vertices ≤ 1 → IsResorted c c

@@ -1,12 +1,12 @@
 -- The premises of the laws, computed on small graphs.
-use Rattle.std.proofs.Common.{ℕ, ◌≡◌, ◌+◌, ◌*◌, ◌%◌, ◌≤◌, ◌<◌, ◌==◌, inl, inr, Bool, true, false, List, [], ◌∷◌, length, All, Some, leb, ltb, get_or, refl, sym, ◌∙◌, arith}
+use Rattle.std.proofs.Common.{ℕ, ◌≡◌, ◌+◌, ◌*◌, ◌%◌, ◌≤◌, ◌<◌, ◌==◌, inl, inr, Bool, true, false, List, [], ◌∷◌, length, All, Some, leb, get_or, refl, sym, ◌∙◌, arith}
 use Rattle.std.specs.List.{list_all, concat}
-use Rattle.std.proofs.lemmas.Bool.{false≢true, true≢false, leb-true, ltb-true}
+use Rattle.std.proofs.lemmas.Bool.{false≢true, true≢false, leb-true}
 use Rattle.std.proofs.lemmas.List.Elements.{All-nil, All-weaker, All-from_recursion}
 use Rattle.std.proofs.lemmas.List.Sums.{AllPass-from_list_all}
 use Rattle.fb_graph.specs.Parity.{is_odd_count, is_in}
 use Rattle.fb_graph.specs.Problem.{Problem, Flips, edge_at, no_edge, touches, crosses}
-use Rattle.fb_graph.specs.Certificate.{AreDistinct, IsOddCut, IsPacking, Fits, load_of}
+use Rattle.fb_graph.specs.Certificate.{AreDistinct, IsOddCut, IsPacking, load_of}
 use Rattle.fb_graph.specs.Laws.{HasNoOddClosed}
 use Rattle.fb_graph.specs.Dual.{Node, IsHeld, AreApart, AreUnderOne, all_cuts, cover_of, height_of, is_outer, no_node}
 use Rattle.fb_graph.specs.declared.parts.Cut.{Cut}
@@ -21,7 +21,8 @@ use Rattle.fb_graph.specs.Ends.{ends_in}
 use Rattle.fb_laws.specs.Paths.{IsWhole}
 use Rattle.fb_laws.specs.Blossoms.{IsInside}
 use Rattle.fb_graph.specs.Singles.{AreSingles}
-use Rattle.fb_witnesses.specs.Samples.{cut, link, line, triangle, line_singles, line_nodes, line_roles, grown_nodes, grown_roles, corner_singles, corner_nodes, corner_roles}
+use Rattle.fb_graph.specs.InternalSamples.{cut}
+use Rattle.fb_witnesses.specs.Samples.{link, line, triangle, line_singles, line_nodes, line_roles, grown_nodes, grown_roles, corner_singles, corner_nodes, corner_roles}
 use Rattle.fb_witnesses.specs.Witnesses.{StepWitness, DualWitness, CoverWitness, SignedWitness, LinkWitness, PathWitness, BlossomWitness, line_path}
 use Rattle.fb_graph.proofs.SingleStates.{singles_are_dual}
 use Rattle.fb_graph.proofs.Examples.{fits_by_cases, below_by_cases}

@@ -26,6 +26,7 @@ use Rattle.fb_laws.specs.Trees.{Entry, IsTree, grown_links, paired_links, tree_n
 use Rattle.fb_witnesses.specs.TreeWitnesses.{LayerWitness, JoiningWitness, long_line, long_singles, thin_nodes, thin_branch, corner_branch, base_corner, other_corners, open_line, open_singles}
 use Rattle.fb_laws.specs.UnmatchedNames.{AreOuterNames}
 use Rattle.fb_laws.specs.Works.{AreMatchedLinks, AreMatched, HasDefects, IsSetOf, names_without}
+use Rattle.fb_laws.specs.Opening.{EndsAtDefects}
 use Rattle.fb_graph.proofs.BeginningNests.{singles_are_nest}
 use Rattle.fb_graph.proofs.JoinedNests.{nest_joined}
 use Rattle.fb_graph.proofs.TallerNodes.{taller_alike}
@@ -63,8 +64,7 @@ one_link p nodes u v k ks walk tight real at_u at_v = record {
       );
   at_defects =
       All-from_recursion
-      (λ l. (p.is_real l.from ≡ true → is_in (leaves nodes) l.from ≡ true)
-      × (p.is_real l.to ≡ true → is_in (leaves nodes) l.to ≡ true))
+      (EndsAtDefects p (leaves nodes))
       (link u v (k ∷ ks) ∷ []) ((at_u, at_v), tt);
 }
 

@@ -2,9 +2,9 @@
 -- of the vertices as seams.
 use Rattle.std.specs.Prelude.{◌≡◌, ◌<◌, true, false, [], ◌∷◌, Some, None}
 use Rattle.fb_graph.specs.Limits.{DecodingGraph, ShotValue}
+use Rattle.fb_graph.specs.InternalSamples.{edge}
 use Rattle.fb_plan.specs.Plans.{IsPlan, PlanTree, children_of, problem_at}
 use Rattle.fb_plan.specs.Seams.{is_own}
-use Rattle.fb_witnesses.specs.Samples.{edge}
 
 abbrev pub line_graph : DecodingGraph
 line_graph = record {

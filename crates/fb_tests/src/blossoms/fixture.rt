@@ -1,6 +1,6 @@
 ghost use Rattle.std.specs.Prelude.{◌≡◌, ◌<◌, true, [], ◌∷◌, ◌++◌, length, IfOk, OnErr, OnOk};
 ghost use Rattle.fb_links.specs.Table;
-ghost use Rattle.fb_blossoms.specs.Nodes.{AreDistinct, is_on};
+ghost use Rattle.fb_blossoms.specs.Nodes.{HasDistinctNodes, is_on};
 ghost use Rattle.fb_tests.specs.InternalFixture.{AreKept, AreSteps, AreTops, IsOuterWith, IsPlaceOf, IsTop, edge_walk, part_at};
 ghost use Rattle.fb_blossoms.specs.Links.{next_place};
 
@@ -205,7 +205,7 @@ fn is_among(cycle: &[CycleStep], node: NodeId) -> bool
 }
 
 fn are_distinct(cycle: &[CycleStep]) -> bool
-    ensures { result ≡ true → AreDistinct cycle.now }
+    ensures { result ≡ true → HasDistinctNodes cycle.now }
 {
     let [first, rest @ ..] = cycle else {
         return true;

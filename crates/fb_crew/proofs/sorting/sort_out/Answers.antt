@@ -1,4 +1,4 @@
-use Rattle.std.proofs.Common.{sym, subst, ◌≡◌}
+use Rattle.std.proofs.Common.{sym, subst}
 use Rattle.fb_graph.specs.Limits.{IsShot}
 use Rattle.fb_crew.proofs.sorting.sort_out.Goals as goal
 

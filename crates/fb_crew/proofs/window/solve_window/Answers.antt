@@ -1,4 +1,4 @@
-use Rattle.std.proofs.Common.{◌≡◌, ◌∙◌, ◌<◌, ℕ, List, Option, All, length, count_by, is_none, sym, subst, ap}
+use Rattle.std.proofs.Common.{◌∙◌, ◌<◌, ℕ, List, Option, All, length, count_by, is_none, sym, subst, ap}
 use Rattle.fb_book.specs.declared.entries.Entry.{Entry}
 use Rattle.fb_graph.specs.Limits.{DecodingGraph, IsShot}
 use Rattle.fb_graph.specs.declared.parts.Row.{Row}

@@ -4,7 +4,7 @@ use Rattle.fb_plan.specs.Rules.{claim_of, claims_from, is_bad_node, is_bad_range
 use Rattle.fb_plan.specs.declared.faults.PlanFault.TheVariants.{BadRange}
 use Rattle.std.specs.Prelude.{option_map}
 use Rattle.fb_plan.proofs.Gathering.{claims_more, length-ranges_of}
-use Rattle.fb_plan.proofs.Leasts.{least_none, least_some, none_more}
+use Rattle.fb_graph.proofs.Leasts.{least_none, least_some, none_more}
 use Rattle.fb_plan.proofs.claims.gather.Goals as goal
 
 pub returns-in-Err-clause-err : goal.returns-in-Err-clause-err

@@ -1,7 +1,7 @@
 use Rattle.std.proofs.Common.{◌<◌, ◌∙◌, ap, length, sym, arith}
 use Rattle.fb_graph.specs.Problem.{edge_at, no_edge}
 use Rattle.fb_plan.specs.Plans.{are_unrelated, goes_across, owner_of}
-use Rattle.fb_plan.proofs.Leasts.{least_none, least_some}
+use Rattle.fb_graph.proofs.Leasts.{least_none, least_some}
 use Rattle.fb_plan.proofs.judging.first_across.Goals as goal
 
 pub is_across-requires-clause-first : goal.is_across-requires-clause-first

@@ -1,7 +1,7 @@
 use Rattle.std.proofs.Common.{◌∙◌, length, sym, arith}
 use Rattle.fb_plan.specs.Rules.{is_out_of_range, joins_of}
 use Rattle.fb_plan.proofs.Fusions.{length-joins_of, out_of_range_at}
-use Rattle.fb_plan.proofs.Leasts.{least_none, least_some, none_more}
+use Rattle.fb_graph.proofs.Leasts.{least_none, least_some, none_more}
 use Rattle.fb_plan.proofs.judging.first_out_of_range.Goals as goal
 
 pub returns-then-is_out_of_range : goal.returns-then-is_out_of_range

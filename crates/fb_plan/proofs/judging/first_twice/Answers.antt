@@ -1,6 +1,6 @@
 use Rattle.std.proofs.Common.{◌&&◌, ◌∙◌, ltb, get_or, sym, arith}
 use Rattle.fb_graph.specs.Limits.{is_real_in}
-use Rattle.fb_plan.proofs.Leasts.{least_none, least_some}
+use Rattle.fb_graph.proofs.Leasts.{least_none, least_some}
 use Rattle.fb_plan.proofs.judging.first_twice.Goals as goal
 
 pub returns-then-is_owned_twice : goal.returns-then-is_owned_twice

@@ -1,7 +1,7 @@
 use Rattle.std.proofs.Common.{◌<◌, ◌∙◌, false, ap, get_or, length, sym, take, arith, length-set}
 use Rattle.fb_plan.specs.Rules.{is_used_twice, joins_of}
 use Rattle.fb_plan.proofs.Fusions.{AreNamed, length-joins_of, named_more, used_twice_at}
-use Rattle.fb_plan.proofs.Leasts.{least_none, least_some, none_more}
+use Rattle.fb_graph.proofs.Leasts.{least_none, least_some, none_more}
 use Rattle.fb_plan.proofs.judging.first_used_twice.Goals as goal
 
 pub returns-then-is_used_twice : goal.returns-then-is_used_twice

@@ -1,4 +1,5 @@
-use Rattle.std.proofs.Common.{◌≡◌, ◌++◌, ◌∷◌, [], List, length, refl, sym, ap, ◌∙◌, subst, append_assoc, append-nil, arith, false}
+use Rattle.std.proofs.Common.{◌≡◌, ◌++◌, ◌∷◌, [], length, refl, sym, ap, ◌∙◌, subst, append_assoc, append-nil, arith, false}
+use Rattle.std.proofs.lemmas.List.{nil_from_length}
 use Rattle.std.specs.Vec.Iter.{into_iter_items}
 use Rattle.fb_links.specs.Names.{name_by}
 use Rattle.fb_graph.specs.Parity.{is_in}
@@ -8,10 +9,6 @@ use Rattle.fb_regions.proofs.ByName.{names}
 use Rattle.fb_regions.proofs.Indexed.{index_pushed}
 use Rattle.fb_regions.proofs.MergedPlaces.{fresh_next, renamed_push}
 use Rattle.fb_regions.proofs.merging.take_nodes.Goals as goal
-
-nothing_left : {X : Type 0} (l : List X) → length l ≡ 0 → l ≡ []
-nothing_left [] h = refl
-nothing_left (x ∷ xs) h = absurd (omega arith)
 
 pub loop-region-preserved : goal.loop-region-preserved
 loop-region-preserved c =
@@ -35,7 +32,7 @@ loop-region-preserved c =
 pub returns-clause-nodes : goal.returns-clause-nodes
 returns-clause-nodes c =
     let at = c.loop-region in
-    let empty : into_iter_items at.region-iterator ≡ [] = nothing_left _ (sym at.invariant.1 ∙ c.in-None.ensures.steps.0) in
+    let empty : into_iter_items at.region-iterator ≡ [] = nil_from_length _ (sym at.invariant.1 ∙ c.in-None.ensures.steps.0) in
     let all : at.yielded ≡ c.args.others.items =
     sym (append-nil at.yielded) ∙ rw empty at at.invariant.0 ∙ c.into_iter-region-iterator.ensures.into_iter_gives.0 in
     subst (λ l. at.regions.items ≡ c.args.regions.now.items ++ renamed_regions (name_by c.args.names.now) l) all at.invariant.2

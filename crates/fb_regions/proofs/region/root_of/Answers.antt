@@ -1,6 +1,6 @@
-use Rattle.std.proofs.Common.{◌≡◌, sym, ◌∙◌, arith, Some, None}
-use Rattle.fb_regions.proofs.ByName.{first_placed, placed}
-use Rattle.fb_regions.proofs.Climbs.{stepped_up, stepped_out, not_stepped}
+use Rattle.std.proofs.Common.{◌≡◌, sym, ◌∙◌, Some, None}
+use Rattle.fb_regions.proofs.ByName.{placed}
+use Rattle.fb_regions.proofs.Climbs.{stepped_up, stepped_out, not_stepped, climb_rises}
 use Rattle.fb_regions.proofs.region.root_of.Goals as goal
 
 pub returns-in_default-parent : goal.returns-in_default-parent
@@ -12,9 +12,7 @@ pub loop-place-smaller : goal.loop-place-smaller
 loop-place-smaller c =
     let at : placed c.loop-place.name c.args.regions.now ≡ Some c.in-Some.place = sym (c.requires.index.entry c.loop-place.name) ∙ sym c.in-Some.ensures in
     let up = stepped_up c.args.regions.now c.loop-place.name c.in-Some.place c.in-Some-parent.parent _ c.requires.joined at c.index-regions-place.is c.in-Some-parent.is in
-    let one = first_placed c.args.regions.now c.loop-place.name c.in-Some.place at in
-    let two = first_placed c.args.regions.now c.in-Some-parent.parent up.place up.at in
-    omega (arith, one.0, one.1, two.0, two.1, up.later)
+    climb_rises c.args.regions.now c.loop-place.name c.in-Some.place c.in-Some-parent.parent _ at up
 
 pub loop-place-preserved : goal.loop-place-preserved
 loop-place-preserved c =

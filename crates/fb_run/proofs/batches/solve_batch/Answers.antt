@@ -1,4 +1,4 @@
-use Rattle.std.proofs.Common.{◌≡◌, List, ℕ, Result, Ok, Err, IfOk, sym, subst, ◌∙◌}
+use Rattle.std.proofs.Common.{◌≡◌, List, Result, Ok, Err, IfOk, sym, subst, ◌∙◌}
 use Rattle.fb_crew.specs.Windows.{AreRows}
 use Rattle.fb_crew.specs.declared.window.Window.{Window}
 use Rattle.fb_graph.specs.Limits.{DecodingGraph, ShotValue}

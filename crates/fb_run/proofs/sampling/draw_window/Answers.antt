@@ -1,4 +1,4 @@
-use Rattle.std.proofs.Common.{rules, ◌≡◌, ℕ, List, [], ◌∷◌, ◌++◌, length, sym, ap, ◌∙◌}
+use Rattle.std.proofs.Common.{rules, ℕ, List, [], ◌∷◌, ◌++◌, length, sym, ap, ◌∙◌}
 use Rattle.fb_gen.specs.Drawing.{hits_of, shot_from, state_after}
 use Rattle.std.proofs.lemmas.List.Elements.{All-push}
 use Rattle.fb_graph.specs.Limits.{IsShot, ShotValue}

@@ -1,9 +1,7 @@
-use Rattle.std.proofs.Common.{rules, arith, ◌≡◌, ℕ, ◌+◌, ◌*◌, List, length, All, sym, ap, ◌∙◌}
+use Rattle.std.proofs.Common.{arith, ◌+◌, length, All, sym, ap, ◌∙◌}
 use Rattle.std.proofs.lemmas.Slice.Zip.{AllZip-long}
 use Rattle.fb_crew.specs.Windows.{AreRows, IsShotRow}
-use Rattle.fb_gen.specs.Drawing.{state_after}
 use Rattle.fb_graph.specs.Limits.{IsShot}
-use Rattle.fb_graph.specs.declared.parts.Row.{Row}
 use Rattle.fb_run.specs.Samples.{defects_in, weights_in}
 use Rattle.fb_run.proofs.Sampled.{more_sums, state_of_more}
 use Rattle.fb_run.proofs.sampling.sample_on.Goals as goal

@@ -1,7 +1,7 @@
-use Rattle.std.proofs.Common.{ℕ, ◌∙◌, [], ◌∷◌, ◌++◌, ap, subst, get_or, drop, sym, ◌+◌, arith, append-nil}
+use Rattle.std.proofs.Common.{ℕ, ◌∙◌, [], ◌∷◌, ◌++◌, ap, subst, get_or, drop, sym, ◌+◌, arith, append-nil, option_to_list}
 use Rattle.std.proofs.lemmas.List.{drop_all}
 use Rattle.fb_graph.specs.Parity.{is_in}
-use Rattle.fb_search.specs.InternalRounds.{HasSearchedSome, as_list}
+use Rattle.fb_search.specs.InternalRounds.{HasSearchedSome}
 use Rattle.fb_search.proofs.MetOutside.{not_unmatched}
 use Rattle.fb_search.proofs.RoundSteps.{one_more_at, room_after, root_searched, root_skipped}
 use Rattle.fb_search.proofs.rounds.search_round.Goals as goal
@@ -25,12 +25,12 @@ loop-root-preserved-in_default g c =
 pub loop-root-preserved : goal.loop-root-preserved
 loop-root-preserved g c =
     let root : ℕ = get_or c.args.roots.now c.loop-root.root-index 0 in
-    let searched : HasSearchedSome c.loop-root.work (root ∷ []) c.loop-root.steps c.search_within.new.steps (as_list c.in_ok-bounded.bounded.left) c.in_ok-bounded.bounded.work =
+    let searched : HasSearchedSome c.loop-root.work (root ∷ []) c.loop-root.steps c.search_within.new.steps (option_to_list c.in_ok-bounded.bounded.left) c.in_ok-bounded.bounded.work =
     root_searched root c.loop-root.work c.in_ok-bounded.bounded.work c.loop-root.steps c.search_within.new.steps
     c.in_ok-bounded.bounded.left c.in_ok-bounded.ensures.left c.in_ok-bounded.ensures.step in (
       rw c.in_ok-push_left.ensures
           (one_more_at c.args.work c.loop-root.work c.in_ok-bounded.bounded.work c.args.roots.now c.loop-root.left.items
-          (as_list c.in_ok-bounded.bounded.left) c.loop-root.root-index 0 c.args.steps.now c.loop-root.steps
+          (option_to_list c.in_ok-bounded.bounded.left) c.loop-root.root-index 0 c.args.steps.now c.loop-root.steps
           c.search_within.new.steps c.loop-root-test.true c.loop-root.invariant.0 searched),
       room_after _ _ _ _ _ _ _ _ searched c.loop-root.invariant.1 c.in_ok-bounded.ensures.room,
       c.in_ok-bounded.ensures.room ∙ c.loop-root.invariant.2,
@@ -40,7 +40,7 @@ loop-root-preserved g c =
 pub returns-in_err-push_left-clause-never_falls : goal.returns-in_err-push_left-clause-never_falls
 returns-in_err-push_left-clause-never_falls g c =
     let root : ℕ = get_or c.args.roots.now c.loop-root.root-index 0 in
-    let searched : HasSearchedSome c.loop-root.work (root ∷ []) c.loop-root.steps c.search_within.new.steps (as_list c.in_ok-bounded.bounded.left) c.in_ok-bounded.bounded.work =
+    let searched : HasSearchedSome c.loop-root.work (root ∷ []) c.loop-root.steps c.search_within.new.steps (option_to_list c.in_ok-bounded.bounded.left) c.in_ok-bounded.bounded.work =
     root_searched root c.loop-root.work c.in_ok-bounded.bounded.work c.loop-root.steps c.search_within.new.steps
     c.in_ok-bounded.bounded.left c.in_ok-bounded.ensures.left c.in_ok-bounded.ensures.step in
     omega (arith, c.loop-root.invariant.3, searched.steps, searched.each)

@@ -1,8 +1,8 @@
 use Rattle.std.proofs.Common.{ℕ, ◌<◌, length, set, get_or, ap, ◌∙◌, arith}
 use Rattle.std.proofs.lemmas.List.Edits.{map_over_more}
 use Rattle.std.proofs.lemmas.List.{get_or_default}
-use Rattle.fb_graph.specs.Layout.{detectors_of}
 use Rattle.fb_shots.proofs.mapping.put_vertices.Goals as goal
+use Rattle.fb_graph.specs.Limits.{detectors_of}
 
 pub loop-detector-preserved : goal.loop-detector-preserved
 loop-detector-preserved c =

@@ -1,6 +1,6 @@
 use Rattle.std.proofs.Common.{◌≡◌, ◌++◌, map, take, drop, get_or}
-use Rattle.fb_graph.specs.Layout.{detectors_of}
 use Rattle.fb_shots.proofs.mapping.put_vertices.Given as goal
+use Rattle.fb_graph.specs.Limits.{detectors_of}
 
 abbrev pub invariant-loop-detector : goal.invariant-loop-detector
 invariant-loop-detector l =

@@ -1,7 +1,5 @@
-use Rattle.std.proofs.Common.{◌≡◌, ◌+◌, ◌-◌, ◌≤◌, true, drop, take, length, arith}
-use Rattle.std.specs.List.{list_all}
+use Rattle.std.proofs.Common.{◌-◌, ◌≤◌, true, drop, arith}
 use Rattle.std.proofs.lemmas.List.{length-take}
-use Rattle.fb_shots_stim.specs.Text01.{is_bit}
 use Rattle.fb_shots_stim.proofs.Lemmas01.{bits_more}
 use Rattle.fb_shots_stim.proofs.dense.leading_bits.Goals as goal
 

@@ -1,4 +1,4 @@
-use Rattle.std.proofs.Common.{◌-◌, ◌≡◌, ◌≤◌, true, length, take}
+use Rattle.std.proofs.Common.{◌-◌, ◌≡◌, ◌≤◌, true, take}
 use Rattle.std.specs.List.{list_all}
 use Rattle.fb_shots_stim.specs.Text01.{is_bit}
 use Rattle.fb_shots_stim.proofs.dense.leading_bits.Given as goal

@@ -2,7 +2,7 @@ use Rattle.std.proofs.Common.{◌≡◌, ℕ, List, All, Option, None, sym, subs
 use Rattle.std.proofs.lemmas.List.Elements.{All-push}
 use Rattle.fb_graph.specs.Components.{IsFirstOdd}
 use Rattle.fb_graph.specs.Limits.{IsShot, ShotValue, problem_of}
-use Rattle.fb_tests.proofs.Nothing.{none_of}
+use Rattle.fb_graph.proofs.Options.{is_some-none}
 use Rattle.fb_tests.proofs.board.add_shot.Goals as goal
 
 pub returns-clause-shots : goal.returns-clause-shots
@@ -13,7 +13,7 @@ returns-clause-shots c =
 pub returns-clause-even : goal.returns-clause-even
 returns-clause-even c =
     let IsEven : ShotValue → Type 0 = λ shot. IsFirstOdd (problem_of c.args.graph.now shot) None in
-    let none : c.first_odd.result ≡ None = none_of c.first_odd.result (sym c.is_some.ensures ∙ c.if-is_some.false) in
+    let none : c.first_odd.result ≡ None = is_some-none c.first_odd.result (sym c.is_some.ensures ∙ c.if-is_some.false) in
     let here : IsEven c.args.shot = subst (λ (o : Option ℕ). IsFirstOdd (problem_of c.args.graph.now c.args.shot) o) none (rw c.requires.parts at c.first_odd.ensures.first) in
     subst (λ (xs : List ShotValue). All IsEven xs) (sym c.in-Ok.ensures.items)
     (All-push IsEven c.args.shots.now.items c.args.shot c.requires.even here)

@@ -1,5 +1,6 @@
 use Rattle.std.proofs.Common.{ℕ, ◌≡◌, false, List, Option, Some, None, IfSome, IfNone, sym}
-use Rattle.fb_blossoms.specs.Nodes.{is_in, defects_at, leaf, node_at}
+use Rattle.fb_links.specs.Lists.{is_in}
+use Rattle.fb_blossoms.specs.Nodes.{defects_at, leaf, node_at}
 use Rattle.fb_blossoms.specs.InternalItems.{Item}
 use Rattle.fb_blossoms.specs.InternalForest.{IsKept, nodes_of}
 use Rattle.fb_blossoms.proofs.Climbs.{none_some}

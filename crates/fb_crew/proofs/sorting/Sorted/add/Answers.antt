@@ -1,4 +1,4 @@
-use Rattle.std.proofs.Common.{sym, subst, ◌∙◌}
+use Rattle.std.proofs.Common.{sym, ◌∙◌}
 use Rattle.fb_crew.proofs.EvenPlaces.{sorted_more_even, sorted_more_odd}
 use Rattle.fb_crew.proofs.sorting.Sorted.add.Goals as goal
 

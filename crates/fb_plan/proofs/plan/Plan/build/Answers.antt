@@ -6,11 +6,12 @@ use Rattle.std.proofs.lemmas.List.FromFn.{length-map-range_with_len}
 use Rattle.fb_graph.specs.Problem.{edge_at}
 use Rattle.fb_plan.specs.Plans.{IsPlan, IsTree, goes_across}
 use Rattle.fb_plan.specs.Layout.{tree_of}
-use Rattle.fb_plan.specs.Rules.{child_fault, claims_from, edge_fault, joins_of, least, or_fault, owner_in, range_fault, ranges_of, root_fault, seams_of, tree_by, twice_fault, unowned_fault, use_fault}
+use Rattle.fb_plan.specs.Rules.{claims_from, joins_of, owner_in, range_fault, ranges_of, seams_of, tree_by, twice_fault, unowned_fault}
+use Rattle.fb_graph.specs.Leasts.{least}
 use Rattle.fb_plan.specs.declared.faults.PlanFault.TheVariants.{EdgeAcross}
 use Rattle.fb_plan.proofs.Fusions.{length-joins_of}
 use Rattle.fb_plan.proofs.Gathering.{length-ranges_of}
-use Rattle.fb_plan.proofs.Growth.{all_but_edges, claims_below, is_plan_by, once_from, same_plan, tree_from_rules}
+use Rattle.fb_plan.proofs.Growth.{fault_of_edges, claims_below, is_plan_by, once_from, same_plan, tree_from_rules}
 use Rattle.fb_plan.proofs.plan.Plan.build.Goals as goal
 
 pub grown-requires-clause-nodes : goal.grown-requires-clause-nodes
@@ -44,15 +45,12 @@ returns-in-Some-first_across-clause-err c not_memory =
     let count : length units ≡ length c.args.units.now = length-map c.args.units.now (λ u. u.items) in
     let plan : c.in-Ok-grown.plan ≡ tree_by c.args.graph.now units (joins_of c.args.fusions.now) (seams_of c.args.fusions.now) =
     c.in-Ok-grown.ensures ∙ same_plan c.args.graph.now _ _ c.args.fusions.now c.deref-2.result.now _ (sym count) claims in
-    ap (λ fault. or_fault fault (tree_by c.args.graph.now units (joins_of c.args.fusions.now) (seams_of c.args.fusions.now)))
-    (all_but_edges c.args.graph.now units c.args.fusions.now (omega (arith, count))
+    fault_of_edges c.args.graph.now units c.args.fusions.now (length c.args.units.now) c.deref.result.now c.in-Ok-grown.plan count (omega arith)
+    (c.deref.ensures.value ∙ c.in-Ok.ensures.ok) plan
     (subst (λ n. range_fault n (ranges_of units c.args.fusions.now) ≡ None) c.vertices.ensures c.in-Ok.ensures.good)
-    (subst (λ cs. option_or (unowned_fault c.args.graph.now cs) (twice_fault c.args.graph.now cs) ≡ None)
-    (c.deref.ensures.value ∙ c.in-Ok.ensures.ok) (sym c.in-Ok-None.ensures ∙ c.in-Ok-None.field-0-is))
-    (subst (λ n. option_or (child_fault n (joins_of c.args.fusions.now)) (option_or (use_fault (joins_of c.args.fusions.now)) (root_fault n (length c.args.fusions.now))) ≡ None)
-    (sym count) (sym c.in-Ok-None-judge_fusions.ensures ∙ c.in-Ok-None-judge_fusions.field-0-is))
-    ∙ ap (λ p. edge_fault c.args.graph.now p) (sym plan)
-    ∙ ap (option_map EdgeAcross) (sym c.first_across.ensures ∙ c.in-Some-first_across.is)
+    (sym c.in-Ok-None.ensures ∙ c.in-Ok-None.field-0-is)
+    (sym c.in-Ok-None-judge_fusions.ensures ∙ c.in-Ok-None-judge_fusions.field-0-is)
+    _ (ap (option_map EdgeAcross) (sym c.first_across.ensures ∙ c.in-Some-first_across.is)
     ∙ ap (λ k. Some (EdgeAcross k)) (sym c.from.ensures))
 
 pub returns-clause-ok : goal.returns-clause-ok
@@ -62,15 +60,12 @@ returns-clause-ok c =
     let count : length units ≡ length c.args.units.now = length-map c.args.units.now (λ u. u.items) in
     let plan : c.in-Ok-grown.plan ≡ tree_by c.args.graph.now units (joins_of c.args.fusions.now) (seams_of c.args.fusions.now) =
     c.in-Ok-grown.ensures ∙ same_plan c.args.graph.now _ _ c.args.fusions.now c.deref-2.result.now _ (sym count) claims in
-    ap (λ fault. or_fault fault (tree_by c.args.graph.now units (joins_of c.args.fusions.now) (seams_of c.args.fusions.now)))
-    (all_but_edges c.args.graph.now units c.args.fusions.now (omega (arith, count))
+    fault_of_edges c.args.graph.now units c.args.fusions.now (length c.args.units.now) c.deref.result.now c.in-Ok-grown.plan count (omega arith)
+    (c.deref.ensures.value ∙ c.in-Ok.ensures.ok) plan
     (subst (λ n. range_fault n (ranges_of units c.args.fusions.now) ≡ None) c.vertices.ensures c.in-Ok.ensures.good)
-    (subst (λ cs. option_or (unowned_fault c.args.graph.now cs) (twice_fault c.args.graph.now cs) ≡ None)
-    (c.deref.ensures.value ∙ c.in-Ok.ensures.ok) (sym c.in-Ok-None.ensures ∙ c.in-Ok-None.field-0-is))
-    (subst (λ n. option_or (child_fault n (joins_of c.args.fusions.now)) (option_or (use_fault (joins_of c.args.fusions.now)) (root_fault n (length c.args.fusions.now))) ≡ None)
-    (sym count) (sym c.in-Ok-None-judge_fusions.ensures ∙ c.in-Ok-None-judge_fusions.field-0-is))
-    ∙ ap (λ p. edge_fault c.args.graph.now p) (sym plan)
-    ∙ ap (option_map EdgeAcross) (sym c.first_across.ensures ∙ c.in-None.is))
+    (sym c.in-Ok-None.ensures ∙ c.in-Ok-None.field-0-is)
+    (sym c.in-Ok-None-judge_fusions.ensures ∙ c.in-Ok-None-judge_fusions.field-0-is)
+    _ (ap (option_map EdgeAcross) (sym c.first_across.ensures ∙ c.in-None.is))
     ∙ ap Ok (sym plan)
 
 pub returns-clause-valid : goal.returns-clause-valid

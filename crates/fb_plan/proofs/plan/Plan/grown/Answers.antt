@@ -2,10 +2,10 @@ use Rattle.std.proofs.Common.{ℕ, ◌≡◌, ◌+◌, ◌<◌, ◌∙◌, None,
 use Rattle.fb_plan.specs.Loads.{load_at}
 use Rattle.fb_plan.specs.declared.loads.Measure.TheVariants.{Nodes}
 use Rattle.std.proofs.lemmas.List.FromFn.{length-map-range_with_len}
+use Rattle.std.proofs.lemmas.Result.{IfOk-weaker}
 use Rattle.fb_plan.specs.Layout.{given_owner}
 use Rattle.fb_plan.proofs.Fusions.{length-joins_of}
 use Rattle.fb_plan.proofs.Growth.{IsGrown, children_small, given_below, given_owner_below, owners_counted, same_tree}
-use Rattle.fb_plan.proofs.Ownership.{each_if_ok}
 use Rattle.fb_plan.proofs.plan.Plan.grown.Goals as goal
 
 pub owned_by-requires-clause-small : goal.owned_by-requires-clause-small
@@ -47,7 +47,7 @@ pub returns : goal.returns
 returns c =
     let told : (u : ℕ) → u < c.args.graph.now.vertices → get_or c.deref.result.now u 0 ≡ load_at Nodes c.args.claims.now u =
     λ u below. ap (λ s. get_or s u 0) c.deref.ensures.value ∙ c.in_ok-nodes.ensures.each u (subst (λ k. u < k) (sym c.vertices.ensures) below) in
-    each_if_ok _ _ (IsGrown c.args.graph.now c.args.claims.now c.args.units c.args.fusions.now)
+    IfOk-weaker _ _ (IsGrown c.args.graph.now c.args.claims.now c.args.units c.args.fusions.now)
     (λ p is. is ∙ same_tree c.args.units _ _ _ _ c.in_ok-joins.ensures
     (c.in_ok-owners.ensures ∙ owners_counted c.args.graph.now c.args.claims.now c.deref.result.now told c.requires.once))
     c.planted.ensures

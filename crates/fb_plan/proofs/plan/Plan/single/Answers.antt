@@ -1,6 +1,7 @@
 use Rattle.std.proofs.Common.{◌<◌, ◌∙◌, None, ap, get_or, length, subst, sym, arith}
+use Rattle.std.proofs.lemmas.Result.{IfOk-weaker}
 use Rattle.fb_plan.specs.Plans.{IsPlan}
-use Rattle.fb_plan.proofs.Ownership.{each_if_ok, single_count, single_from, single_is_plan, single_owner_below}
+use Rattle.fb_plan.proofs.Ownership.{single_count, single_from, single_is_plan, single_owner_below}
 use Rattle.fb_plan.proofs.plan.Plan.single.Goals as goal
 
 pub planted-requires-clause-owners : goal.planted-requires-clause-owners
@@ -14,6 +15,6 @@ planted-requires-clause-count c =
 
 pub returns-clause-valid : goal.returns-clause-valid
 returns-clause-valid c =
-    each_if_ok _ _ (IsPlan c.args.graph.now)
+    IfOk-weaker _ _ (IsPlan c.args.graph.now)
     (λ p is. subst (IsPlan c.args.graph.now) (sym (is ∙ single_from c.args.graph.now _ _ c.new.ensures.items c.in_ok-owners.ensures)) (single_is_plan c.args.graph.now))
     c.planted.ensures

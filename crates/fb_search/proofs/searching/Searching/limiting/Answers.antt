@@ -1,11 +1,7 @@
-use Rattle.std.proofs.Common.{ℕ, ◌∙◌, ◌<◌, length, ap, sym}
-use Rattle.fb_graph.specs.Limits.{no_shot}
-use Rattle.fb_graph.specs.Problem.{edge_at}
+use Rattle.std.proofs.Common.{◌∙◌, ◌<◌, length, ap, sym}
 use Rattle.fb_graph.proofs.Sets.{is_in-All}
-use Rattle.fb_plan.specs.Plans.{problem_at}
 use Rattle.fb_half.specs.Values.{part_of}
-use Rattle.fb_obstacles.specs.Obstacles.{BearsStep}
-use Rattle.fb_search.specs.Searching.{SearchValue, roles_in}
+use Rattle.fb_search.specs.Searching.{SearchValue}
 use Rattle.fb_search.proofs.NextObstacles.{next_limiting, next_parity, next_roles, next_watched}
 use Rattle.fb_search.proofs.searching.Searching.limiting.Goals as goal
 

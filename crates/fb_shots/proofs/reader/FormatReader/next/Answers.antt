@@ -1,7 +1,6 @@
 use Rattle.std.proofs.Common.{◌≡◌, ℕ, length, sym, ap, subst, subst₂}
 use Rattle.std.specs.Prelude.{drop}
-use Rattle.fb_graph.specs.Layout.{detectors_of}
-use Rattle.fb_graph.specs.Limits.{DecodingGraph, IsShot}
+use Rattle.fb_graph.specs.Limits.{DecodingGraph, IsShot, detectors_of}
 use Rattle.fb_records.specs.Answers.{IfShot}
 use Rattle.fb_records.specs.Lines.{after_line}
 use Rattle.fb_shots_stim.specs.Text01.{records_01, prefix_01}

@@ -1,7 +1,7 @@
 use Rattle.std.proofs.Common.{subst}
 use Rattle.fb_plan.specs.Reaches.{IsReach}
 use Rattle.fb_half.proofs.Reached.{unit_within}
-use Rattle.fb_unit.proofs.unit.solve_unit_on.Goals as goal
+use Rattle.fb_unit.proofs.unit.solve_unit.Goals as goal
 
 pub solve_within-requires-clause-reach : goal.solve_within-requires-clause-reach
 solve_within-requires-clause-reach g c =

@@ -2,7 +2,7 @@
 use Rattle.std.proofs.Common.{ℕ, zero, suc, ◌+◌, ◌<◌, ◌≡◌, Bool, true, false, cond, find, is_none, Some, None, refl, sym, ap, ◌∙◌, subst, arith, inl, inr, ◌⊎◌}
 use Rattle.std.specs.List.{range_with_len}
 use Rattle.std.proofs.lemmas.Bool.{both_ways, cases_eq, cond-true, cond-false}
-use Rattle.fb_plan.specs.Rules.{least}
+use Rattle.fb_graph.specs.Leasts.{least}
 
 none_from : (a n : ℕ) (test : ℕ → Bool) → ((k : ℕ) → k < n → test (a + k) ≡ false)
     → find test (range_with_len a n) ≡ None

@@ -1,7 +1,7 @@
 use Rattle.std.proofs.Common.{subst}
 use Rattle.fb_plan.specs.Reaches.{IsReach}
 use Rattle.fb_half.proofs.Reached.{unit_within}
-use Rattle.fb_half.proofs.work.Work.begin_on.Goals as goal
+use Rattle.fb_half.proofs.work.Work.begin.Goals as goal
 
 pub begin_within-requires-clause-reach : goal.begin_within-requires-clause-reach
 begin_within-requires-clause-reach c =
