@@ -2,6 +2,7 @@
 use Rattle.std.proofs.Common.{ℕ, ◌≡◌, ◌+◌, ◌*◌, ◌/◌, ◌%◌, ◌<◌, ◌==◌, true, Option, Some, None, List, refl, sym, ap, subst, ◌∙◌, arith}
 use Rattle.std.proofs.lemmas.Bool.{eq-eqb, or_left, or_right}
 use Rattle.std.proofs.lemmas.Nat.{div-mul-add, mod-mul-add}
+use Rattle.std.proofs.lemmas.Option.{same_Some}
 use Rattle.fb_plan.specs.Plans.{JobValue, children_of, node_count}
 use Rattle.fb_book.specs.declared.entries.Entry.{Entry}
 use Rattle.fb_book.specs.Machine.{IsForest, is_child}
@@ -30,9 +31,6 @@ module _ {P : Type 0} (job_of : P → JobValue) (slot_of node_of : P → ℕ) (m
       before : (c : ℕ) → is_child (Some (left, right)) c ≡ true → c < base + n
       before c h = forest.before (place_of job s n) c (ap (λ o. is_child o c) kids ∙ h)
 
-      some_is : (x y : ℕ × ℕ) → Some x ≡ Some y → x ≡ y
-      some_is x y e = cc
-
       both_nodes : (l r x y : ℕ) → children_of job.plan n ≡ Some (l, r) → x ≡ l → y ≡ r
           → children_of job.plan n ≡ Some (x, y)
       both_nodes l r x y e left_is right_is =
@@ -46,7 +44,7 @@ module _ {P : Type 0} (job_of : P → JobValue) (slot_of node_of : P → ℕ) (m
           cc
       step (Some (l, r)) e h =
           let pair : ◌≡◌ {A = ℕ × ℕ} (base + l, base + r) (left, right) =
-          some_is (base + l, base + r) (left, right) (sym (ap (shifted base) e) ∙ h) in
+          same_Some (base + l, base + r) (left, right) (sym (ap (shifted base) e) ∙ h) in
           let l_is : base + l ≡ left = ap (λ x. x.0) pair in
           let r_is : base + r ≡ right = ap (λ x. x.1) pair in
           let l_before : left < base + n = before left (or_left (left == left) (right == left) (eq-eqb left left refl)) in

@@ -2,7 +2,7 @@
 use Rattle.std.proofs.Common.{ℕ, ◌≡◌, ◌+◌, ◌-◌, ◌*◌, ◌/◌, ◌%◌, ◌<◌, ◌≤◌, ◌==◌, Bool, true, false, is_some, Option, Some, None, List, length, get_or, if◌then◌else◌, ◌⊎◌, inl, inr, refl, sym, ap, subst, ◌∙◌, arith, slice_get}
 use Rattle.std.proofs.lemmas.Bool.{eqb-true, eqb-false, eq-eqb, ne_eqb, lt-ltb, le-ltb, ltb-true, ltb-false, false≢true, cases_lt, or_left, or_right, or_cases}
 use Rattle.std.proofs.lemmas.Nat.{div-add-mod', div-mul-add, mod-mul-add, mod_below}
-use Rattle.std.proofs.lemmas.Option.{slice_get-get_or}
+use Rattle.std.proofs.lemmas.Option.{slice_get-get_or, same_Some}
 use Rattle.std.specs.Prelude.{nat_lt}
 use Rattle.fb_book.specs.Machine.{IsForest, is_child}
 use Rattle.fb_book.specs.Board.{children_in, shifted, kids_in, after_unit, AreParents}
@@ -94,14 +94,11 @@ forest_of_places units joins some f = record {
     apart k pair (Some (a, b)) e h =
         let base : ℕ = k / n * n in
         let is : Some (base + a, base + b) ≡ Some pair = sym (ap (shifted base) e) ∙ h in
-        let pair_is : (base + a, base + b) ≡ pair = some_is (base + a, base + b) pair is in
+        let pair_is : (base + a, base + b) ≡ pair = same_Some (base + a, base + b) pair is in
         let differ : (a == b) ≡ false = f.differ (k % n) (a, b) e in
         let left : pair.0 ≡ base + a = ap (λ x. x.0) (sym pair_is) in
         let right : pair.1 ≡ base + b = ap (λ x. x.1) (sym pair_is) in
         ne_eqb pair.0 pair.1 (λ s. eqb-false a b differ (let t : base + a ≡ base + b = sym left ∙ (s ∙ right) in omega (arith, t)))
-      where
-        some_is : (x y : ℕ × ℕ) → Some x ≡ Some y → x ≡ y
-        some_is x y e = cc
 
     same : (j k c : ℕ) → ChildAt units joins j c → ChildAt units joins k c → j ≡ k
     same j k c a b =

@@ -10,8 +10,8 @@ use Rattle.fb_graph.specs.GraphRules.{edge_fault, edges_fault, virtuals_fault, g
 use Rattle.fb_graph.specs.Limits.{most_vertices, most_edges}
 use Rattle.fb_graph.proofs.BuildSteps.{range_push}
 use Rattle.fb_graph.proofs.Nodes.{All-flat_map}
-use Rattle.fb_graph.proofs.Ranges.{not_in_below, range_below}
-use Rattle.fb_graph.proofs.Sets.{All-from_is_in, is_in-All}
+use Rattle.fb_graph.proofs.Ranges.{not_in_below}
+use Rattle.fb_graph.proofs.Sets.{All-from_is_in, is_in-All, range_below}
 use Rattle.fb_gen.specs.Lattice.{vertex_at, vertex_count, weight_within, weight_later, where_true, is_inner, edges_from, edges_of_row, edges_of_round, lattice_edges, virtuals_of_row, virtuals_of_round, lattice_virtuals, lattice_graph}
 
 pub flat_map-range_more : {A : Type 0} (f : ℕ → List A) (n : ℕ)

@@ -3,10 +3,8 @@ ghost use Rattle.fb_graph.specs.Limits.{most_vertices};
 ghost use Rattle.fb_gen.specs.Lattice.{vertex_at, vertex_count, where_true, is_inner, edges_from, edges_of_row, edges_of_round, lattice_edges, virtuals_of_row, virtuals_of_round, lattice_virtuals, lattice_of};
 
 use crate::faults::GenFault;
-use fb_graph::{Graph, GraphFault, NoMemory};
+use fb_graph::{Graph, GraphFault, MOST_VERTICES, NoMemory};
 use std::alloc::Global;
-
-const MOST_VERTICES: u128 = 1 << 20;
 
 const WEIGHT_WITHIN: i128 = 20;
 
@@ -177,7 +175,7 @@ pub fn lattice(alloc: Global, distance: u32, rounds: u32) -> Result<Graph, GenFa
     ensures err { IfErr result (λ e. e ≢ GenFault.NoMemory → lattice_of distance rounds ≡ Err e) }
 {
     let count = count_vertices(distance, rounds);
-    if count > MOST_VERTICES {
+    if count > u128::from(MOST_VERTICES) {
         return Err(GenFault::LatticeTooLarge);
     }
     let size = size_of(distance, rounds);

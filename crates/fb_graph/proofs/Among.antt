@@ -7,7 +7,7 @@ use Rattle.std.proofs.lemmas.List.Elements.{All-nil, All-cons, All-head, All-tai
 use Rattle.std.proofs.lemmas.List.Kept.{AllPairs-cons}
 use Rattle.fb_graph.specs.Parity.{is_in}
 use Rattle.fb_graph.specs.Certificate.{AreDistinct}
-use Rattle.fb_graph.specs.Dual.{Node, AreApart, AreOuterApart, cover_of, is_live, is_outer, leaves, defects_of, top_at}
+use Rattle.fb_graph.specs.Dual.{Node, AreApart, AreOuterApart, cover_of, is_live, is_outer, leaves, defects_of, top_at, is_empty}
 use Rattle.fb_graph.proofs.Members.{is_in-append}
 use Rattle.fb_graph.specs.Ends.{AreAllApart}
 use Rattle.fb_graph.proofs.Crossings.{cover_found}
@@ -85,6 +85,10 @@ pairs_among R (z ∷ zs) h x y (inr a) (inl f) =
     inr (inr (subst (λ w. R w x) f (All_among (R z) zs (λ j d less. h zero (suc j) d (omega arith) (omega arith)) x a)))
 pairs_among R (z ∷ zs) h x y (inr a) (inr b) =
     pairs_among R zs (λ i j d less below. h (suc i) (suc j) d (omega arith) (omega arith)) x y a b
+
+pub is_in-empty : (xs : List ℕ) (v : ℕ) → is_empty xs ≡ true → is_in xs v ≡ false
+is_in-empty [] v none = refl
+is_in-empty (x ∷ xs) v none = absurd (false≢true none)
 
 pub among_is_in : (xs : List ℕ) (x : ℕ) → IsAmong x xs → is_in xs x ≡ true
 among_is_in xs x a = among_any (λ u. u == x) xs x a (eq-eqb x x refl)

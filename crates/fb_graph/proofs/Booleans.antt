@@ -1,5 +1,5 @@
 -- When two tests say the same.
-use Rattle.std.proofs.Common.{◌≡◌, ◌||◌, Bool, true, false, refl, sym, ◌≤◌, arith}
+use Rattle.std.proofs.Common.{◌≡◌, ◌||◌, Bool, true, false, refl, sym, ◌≤◌, arith, ap, ℕ, cond}
 use Rattle.fb_graph.specs.Counts.{as_count}
 
 -- where each of them follows from the other
@@ -16,3 +16,11 @@ or_nothing false b e = e
 pub as_count-le : (b : Bool) → as_count b ≤ 1
 as_count-le true = omega arith
 as_count-le false = omega arith
+
+pub as_count-mono : (a b : Bool) → (a ≡ true → b ≡ true) → as_count a ≤ as_count b
+as_count-mono true b h = let e : as_count b ≡ 1 = ap as_count (h refl) in omega arith
+as_count-mono false b h = omega arith
+
+pub cond-le : (b : Bool) (n : ℕ) → cond b n 0 ≤ n
+cond-le true n = omega arith
+cond-le false n = omega arith

@@ -9,6 +9,7 @@ use Rattle.fb_graph.specs.Limits.{IsWithinLimits}
 use Rattle.fb_graph.specs.declared.parts.Cut.{Cut}
 use Rattle.fb_graph.specs.declared.parts.Edge.{Edge}
 use Rattle.fb_graph.specs.Dual.{Node, IsHeld, layers_of, taller_node, thicker_node}
+use Rattle.fb_graph.proofs.Booleans.{cond-le}
 
 -- the sum of the values of the cuts whose sets pass the test
 abbrev pub weigh : (List ℕ → Bool) → List Cut → ℕ
@@ -49,11 +50,7 @@ weigh_none test (c ∷ cs) h =
     omega (arith, all, here, rest)
 
 pub weigh-le : (test : List ℕ → Bool) (cuts : List Cut) → weigh test cuts ≤ total_value cuts
-weigh-le test cuts = sum_by-le-sum_by (λ (c : Cut). cond (test c.vertices) c.value 0) (λ c. c.value) cuts (λ c. at_most (test c.vertices) c.value)
-  where
-    at_most : (b : Bool) (n : ℕ) → cond b n 0 ≤ n
-    at_most true n = omega arith
-    at_most false n = omega arith
+weigh-le test cuts = sum_by-le-sum_by (λ (c : Cut). cond (test c.vertices) c.value 0) (λ c. c.value) cuts (λ c. cond-le (test c.vertices) c.value)
 
 -- the sets that pass one of two tests which none passes both
 pub weigh-either : (one other test : List ℕ → Bool) (cuts : List Cut)
@@ -68,11 +65,6 @@ weigh-either one other test (c ∷ cs) h =
     let u : weigh one (c ∷ cs) ≡ cond (one c.vertices) c.value 0 + weigh one cs = sum_by-cons (λ (x : Cut). cond (one x.vertices) x.value 0) c cs in
     let w : weigh other (c ∷ cs) ≡ cond (other c.vertices) c.value 0 + weigh other cs = sum_by-cons (λ (x : Cut). cond (other x.vertices) x.value 0) c cs in
     omega (arith, here, rest, t, u, w)
-
-sum_by-plus : {X : Type 0} (f g : X → ℕ) (xs : List X) → sum_by (λ x. f x + g x) xs ≡ sum_by f xs + sum_by g xs
-sum_by-plus f g [] = refl
-sum_by-plus {X} f g (x ∷ xs) =
-    omega (arith, sum_by-plus f g xs, sum_by-cons f x xs, sum_by-cons g x xs, sum_by-cons (λ (y : X). f y + g y) x xs)
 
 -- each value above 0 is borne by some edge, so all loads together are at least the sum of the values
 total-le-loads : (p : Problem) (cuts : List Cut) → All (IsHeld p) cuts → total_value cuts ≤ sum_by (λ e. load_of cuts e) p.edges

@@ -1,9 +1,9 @@
 -- Sets of vertices as lists: members, distinct lists and parities after a push.
-use Rattle.std.proofs.Common.{◌≡◌, ◌⊎◌, inl, inr, ℕ, ◌+◌, ◌<◌, ◌==◌, Bool, true, false, ◌||◌, List, [], ◌∷◌, ◌++◌, length, take, get_or, refl, sym, ◌∙◌, ap}
+use Rattle.std.proofs.Common.{◌≡◌, ◌⊎◌, inl, inr, ℕ, ◌+◌, ◌<◌, ◌==◌, Bool, true, false, ◌||◌, List, [], ◌∷◌, ◌++◌, length, take, get_or, refl, sym, ◌∙◌, ap, map, subst}
 use Rattle.std.proofs.Math.Bool.{or-false}
-use Rattle.std.proofs.lemmas.Bool.{eq-eqb, or_from, or_parts, or_right, or_cases, eqb-true}
+use Rattle.std.proofs.lemmas.Bool.{eq-eqb, or_from, or_parts, or_right, or_cases, eqb-true, false≢true}
 use Rattle.std.proofs.lemmas.List.{take_more}
-use Rattle.fb_graph.proofs.Sets.{equal_sym, is_in-head, is_in-tail}
+use Rattle.fb_graph.proofs.Sets.{equal_sym, is_in-head, is_in-tail, is_in-cases}
 use Rattle.fb_graph.specs.Parity.{differ, is_odd_count, is_in}
 use Rattle.fb_graph.specs.Certificate.{AreDistinct}
 
@@ -55,3 +55,11 @@ is_in-take_more xs i v less within =
       | inl before ↦ inl before
       | inr same ↦ inr (eqb-true (get_or xs i 0) v same)
     ]
+
+pub is_in-map : (f : ℕ → ℕ) (xs : List ℕ) (x : ℕ) → is_in xs x ≡ true → is_in (map f xs) (f x) ≡ true
+is_in-map f [] x within = absurd (false≢true within)
+is_in-map f (y ∷ ys) x within = step (is_in-cases y ys x within) (is_in-map f ys x)
+  where
+    step : (y ≡ x) ⊎ (is_in ys x ≡ true) → (is_in ys x ≡ true → is_in (map f ys) (f x) ≡ true) → is_in (f y ∷ map f ys) (f x) ≡ true
+    step (inl same) rest = subst (λ z. is_in (f y ∷ map f ys) (f z) ≡ true) same (is_in-head (f y) (map f ys))
+    step (inr there) rest = is_in-tail (f y) (map f ys) (f x) (rest there)

@@ -18,15 +18,7 @@ use Rattle.fb_graph.proofs.Ranges.{filter-range_below, is_in-filter-range}
 use Rattle.fb_graph.proofs.Sets.{All-from_is_in, distinct_from_rising, distinct-filter, is_in-All, is_in-cases, is_in-filter, is_in-head, is_in-range, is_in-tail, member_of_odd, odd_same_set, odd_shared, range_below, range_rises}
 use Rattle.fb_graph.proofs.Walks.{joined_trans, joined_sym}
 use Rattle.fb_graph.proofs.Booleans.{same_bool}
-
-is_in-map : (f : ℕ → ℕ) (xs : List ℕ) (u : ℕ) → is_in xs u ≡ true → is_in (map f xs) (f u) ≡ true
-is_in-map f [] u within = absurd (false≢true within)
-is_in-map f (x ∷ xs) u within = step (is_in-cases x xs u within) (is_in-map f xs u)
-  where
-    step : (x ≡ u) ⊎ (is_in xs u ≡ true) → (is_in xs u ≡ true → is_in (map f xs) (f u) ≡ true)
-        → is_in (f x ∷ map f xs) (f u) ≡ true
-    step (inl same) rest = ap (λ y. is_in (f x ∷ map f xs) (f y)) (sym same) ∙ is_in-head (f x) (map f xs)
-    step (inr later) rest = is_in-tail (f x) (map f xs) (f u) (rest later)
+use Rattle.fb_graph.proofs.Members.{is_in-map}
 
 pub member_of_map : (f : ℕ → ℕ) (xs : List ℕ) (y : ℕ) → is_in (map f xs) y ≡ true → (x : ℕ) × (is_in xs x ≡ true) × (f x ≡ y)
 member_of_map f [] y within = absurd (false≢true within)

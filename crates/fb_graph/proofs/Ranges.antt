@@ -11,6 +11,7 @@ use Rattle.std.proofs.lemmas.List.FromFn.{get_or-range_with_len, length-range_wi
 use Rattle.std.proofs.lemmas.List.Kept.{IsStrictlyIncreasing-filter}
 use Rattle.fb_graph.specs.Parity.{is_in}
 use Rattle.fb_graph.proofs.BuildSteps.{range_more}
+use Rattle.fb_graph.proofs.Sets.{range_below}
 
 -- tests that agree below n keep the same numbers
 pub filter-range_same : (p q : ℕ → Bool) (n : ℕ) → ((k : ℕ) → k < n → p k ≡ q k)
@@ -24,11 +25,6 @@ filter-range_same p q (suc n) same =
     ∙ ap (λ b. filter q (range_with_len 0 n) ++ cond b (n ∷ []) []) here
     ∙ sym (range_more q n)
     ∙ ap (λ m. filter q (range_with_len 0 m)) (add-one n)
-
-pub range_below : (n : ℕ) → All (λ v. v < n) (range_with_len 0 n)
-range_below n k d lt =
-    let short : k < n = omega (arith, length-range_with_len 0 n) in
-    omega (arith, get_or-range_with_len 0 n k d short)
 
 pub filter-range_below : (p : ℕ → Bool) (n : ℕ) → All (λ v. v < n) (filter p (range_with_len 0 n))
 filter-range_below p n = All-filter p (λ v. v < n) (range_with_len 0 n) (range_below n)

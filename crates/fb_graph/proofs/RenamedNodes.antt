@@ -2,7 +2,7 @@
 use Rattle.std.proofs.Common.{ℕ, ◌≡◌, ◌%◌, ◌&&◌, ◌||◌, ◌⊎◌, inl, inr, not, cond, Bool, true, false, List, [], ◌∷◌, ◌++◌, map, All, Some, refl, sym, ap, ◌∙◌, subst, arith, if◌then◌else◌}
 use Rattle.std.specs.List.{concat, find, list_any}
 use Rattle.std.specs.Option.{option_map}
-use Rattle.std.proofs.lemmas.Bool.{both_ways, false≢true, false_from_ne_true, cases_Bool}
+use Rattle.std.proofs.lemmas.Bool.{both_ways, false_from_ne_true, cases_Bool}
 use Rattle.std.proofs.lemmas.List.{length-map}
 use Rattle.std.proofs.lemmas.List.Elements.{All-map, All-weaker}
 use Rattle.fb_graph.specs.Parity.{is_in}
@@ -16,26 +16,19 @@ use Rattle.fb_graph.specs.RenamedNodes.{AreRenamedApart, CoverRenamed, NestRenam
 use Rattle.fb_graph.proofs.Among.{IsAmong, All_among, among_All, among_live, among_map, among_pairs, apart_among, live_among, map_among, top_among, own_live}
 use Rattle.fb_graph.proofs.InsertedCuts.{AreFit, sources_same}
 use Rattle.fb_graph.proofs.NestParts.{fit_of, nest_of, names_live}
-use Rattle.fb_graph.proofs.Sets.{is_in-cases, is_in-head, is_in-tail}
+use Rattle.fb_graph.proofs.Sets.{is_in-head, is_in-tail}
 use Rattle.fb_graph.proofs.OddLabels.{member_of_map}
 use Rattle.fb_graph.proofs.Forests.{child_live}
+use Rattle.fb_graph.proofs.Members.{is_in-map}
 
 -- members of a list under other names
-pub in_renamed : (f : ℕ → ℕ) (xs : List ℕ) (x : ℕ) → is_in xs x ≡ true → is_in (map f xs) (f x) ≡ true
-in_renamed f [] x within = absurd (false≢true within)
-in_renamed f (y ∷ ys) x within = step (is_in-cases y ys x within) (in_renamed f ys x)
-  where
-    step : (y ≡ x) ⊎ (is_in ys x ≡ true) → (is_in ys x ≡ true → is_in (map f ys) (f x) ≡ true) → is_in (f y ∷ map f ys) (f x) ≡ true
-    step (inl same) rest = subst (λ z. is_in (f y ∷ map f ys) (f z) ≡ true) same (is_in-head (f y) (map f ys))
-    step (inr there) rest = is_in-tail (f y) (map f ys) (f x) (rest there)
-
 -- a name is in the list under its new name only if it was before
 pub same_renamed : (f : ℕ → ℕ) (xs : List ℕ) (x : ℕ) → ((y : ℕ) → is_in xs y ≡ true → f y ≡ f x → y ≡ x)
     → is_in (map f xs) (f x) ≡ is_in xs x
 same_renamed f xs x once = step (cases_Bool (is_in xs x))
   where
     step : (is_in xs x ≡ true) ⊎ (is_in xs x ≡ false) → is_in (map f xs) (f x) ≡ is_in xs x
-    step (inl within) = in_renamed f xs x within ∙ sym within
+    step (inl within) = is_in-map f xs x within ∙ sym within
     step (inr out) =
         false_from_ne_true (is_in (map f xs) (f x))
         (λ h.

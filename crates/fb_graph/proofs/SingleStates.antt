@@ -1,5 +1,5 @@
 -- Nodes of one defect each are a dual state.
-use Rattle.std.proofs.Common.{ℕ, ◌≡◌, ◌+◌, ◌≤◌, ◌==◌, ◌&&◌, ◌||◌, ◌⊎◌, inl, inr, Bool, true, false, not, cond, List, [], ◌∷◌, map, All, AllPairs, Option, Some, None, get_or, refl, sym, ap, ◌∙◌, subst, arith}
+use Rattle.std.proofs.Common.{ℕ, ◌≡◌, ◌+◌, ◌==◌, ◌&&◌, ◌||◌, ◌⊎◌, inl, inr, Bool, true, false, not, cond, List, [], ◌∷◌, map, All, AllPairs, Option, Some, None, get_or, refl, sym, ap, ◌∙◌, subst, arith}
 use Rattle.std.proofs.Math.Bool.{or-false}
 use Rattle.std.specs.List.{find, list_any}
 use Rattle.std.specs.Option.{option_map, IsSome}
@@ -15,6 +15,7 @@ use Rattle.fb_graph.specs.declared.parts.Edge.{Edge}
 use Rattle.fb_graph.specs.declared.parts.Cut.{Cut}
 use Rattle.fb_graph.proofs.Sets.{is_in-head, is_in-cases}
 use Rattle.fb_graph.proofs.CutSums.{weigh, weigh-either}
+use Rattle.fb_graph.proofs.Booleans.{cond-le}
 use Rattle.fb_graph.specs.Singles.{Single, node_of, nodes_of, vertices_of, SinglesAreDual, BeginningIsDual}
 
 -- the cuts of the nodes, one each
@@ -226,13 +227,9 @@ no_sum test (s ∷ ss) zero_ =
       arith,
       sum_by-cons (λ (c : Cut). cond (test c.vertices) c.value 0) (cut_of s) (map cut_of ss),
       no_sum test ss (All-tail (λ t. t.value ≡ 0) s ss zero_),
-      at_most (test (s.vertex ∷ [])) s.value,
+      cond-le (test (s.vertex ∷ [])) s.value,
       All-head (λ t. t.value ≡ 0) s ss zero_,
     )
-  where
-    at_most : (b : Bool) (n : ℕ) → cond b n 0 ≤ n
-    at_most true n = omega arith
-    at_most false n = omega arith
 
 pub bare_height : (singles : List Single) (v : ℕ) → All (λ s. s.value ≡ 0) singles → height_of (all_cuts (nodes_of singles)) v ≡ 0
 bare_height singles v bare = ap (λ l. height_of l v) (cuts_are singles) ∙ no_sum (λ s. is_in s v) singles bare

@@ -4,7 +4,9 @@ use Rattle.std.proofs.lemmas.List.Elements.{All-head, All-tail}
 use Rattle.std.proofs.lemmas.List.Sums.{sum_by-cons, sum_by-append}
 use Rattle.std.proofs.lemmas.Bool.{false≢true}
 use Rattle.fb_graph.specs.Parity.{differ, is_odd_count}
+use Rattle.fb_graph.specs.Counts.{as_count}
 use Rattle.fb_graph.proofs.ParitySums.{false-differ}
+use Rattle.fb_graph.proofs.Booleans.{as_count-mono}
 
 -- an odd number of elements that pass is at least one
 pub le-sum_of_odd : {X : Type 0} (q : X → Bool) (y : ℕ) (xs : List X) → is_odd_count q xs ≡ true
@@ -136,3 +138,9 @@ pub sum_of_once : {X : Type 0} (q : X → Bool) (y : ℕ) (xs : List X) → coun
     → sum_by (λ x. cond (q x) y 0) xs ≤ y
 sum_of_once q y xs once =
     omega (arith, sum_of_count q y xs, mul-le-mul_right y once)
+
+-- a test that lets less through counts less
+pub count_by-le : (test before : ℕ → Bool) (xs : List ℕ) → ((x : ℕ) → test x ≡ true → before x ≡ true) → count_by test xs ≤ count_by before xs
+count_by-le test before xs narrower =
+    sum_le (λ x. as_count (test x)) (λ x. as_count (before x)) xs
+    (λ i d less. as_count-mono (test (get_or xs i d)) (before (get_or xs i d)) (narrower (get_or xs i d)))

@@ -25,7 +25,7 @@ pub use laws::{
     odd_occurrences, packings_of_parts, resolving, walk_parity, weak_duality,
 };
 pub use lists::{CutList, NumberList};
-pub use network::Graph;
+pub use network::{Graph, MOST_VERTICES};
 pub use parts::{Cut, Edge, Row};
 pub use printed::{odd_ones, printed_cuts};
 pub use scope_of::Scope;

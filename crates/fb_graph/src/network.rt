@@ -12,7 +12,8 @@ use crate::parts::Edge;
 use std::alloc::Global;
 use std::marker::Model;
 
-const MOST_VERTICES: u64 = 1 << 20;
+/// The most vertices that a graph may have.
+pub const MOST_VERTICES: u64 = 1 << 20;
 
 const MOST_EDGES: usize = 1 << 22;
 

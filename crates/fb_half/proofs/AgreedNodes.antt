@@ -1,7 +1,7 @@
 -- A node is outer in a dual state where it is outer in the store that has the same nodes.
 use Rattle.std.proofs.Common.{ℕ, ◌≡◌, ◌==◌, ◌||◌, not, Bool, true, false, List, [], ◌∷◌, map, All, Option, Some, None, is_some, refl, sym, ap, ◌∙◌, flat_map}
 use Rattle.std.specs.List.{list_any}
-use Rattle.std.proofs.lemmas.Bool.{both_ways, eqb-true, not-true}
+use Rattle.std.proofs.lemmas.Bool.{both_ways, eqb-true, not-true, or_parts}
 use Rattle.std.proofs.lemmas.List.Elements.{All-head, All-tail}
 use Rattle.std.proofs.lemmas.List.Folds.{list_any-append}
 use Rattle.fb_graph.specs.Parity.{is_in}
@@ -15,14 +15,6 @@ on_cycle : (cycle : List CycleStep) (name : ℕ) → is_in (map (λ s. s.node) c
 on_cycle [] name = refl
 on_cycle (s ∷ cycle) name = ap (λ b. (s.node == name) || b) (on_cycle cycle name)
 
-first_false : (a b : Bool) → (a || b) ≡ false → a ≡ false
-first_false false b h = refl
-first_false true b h = h
-
-second_false : (a b : Bool) → (a || b) ≡ false → b ≡ false
-second_false false b h = h
-second_false true b h = absurd (both_ways true h refl)
-
 on_none : (nodes : List Node) (store : List (Option blossoms.Node)) (name p : ℕ) → All (λ n. n.children ≡ children_at store n.name) nodes
     → list_any (λ n. is_in n.children name) nodes ≡ false → is_live nodes p ≡ true → blossoms.is_on (blossoms.cycle_at store p) name ≡ false
 on_none [] store name p same none lives = absurd (both_ways (is_live [] p) refl lives)
@@ -35,10 +27,10 @@ on_none (n ∷ nodes) store name p same none lives = by_cases (on_none nodes sto
         sym (on_cycle (blossoms.cycle_at store p) name)
         ∙ (ap (λ x. is_in (children_at store x) name) (sym (eqb-true n.name p is))
         ∙ (ap (λ l. is_in l name) (sym (All-head (λ m. m.children ≡ children_at store m.name) n nodes same))
-        ∙ first_false (is_in n.children name) (list_any (λ m. is_in m.children name) nodes) none))
+        ∙ (or_parts (is_in n.children name) (list_any (λ m. is_in m.children name) nodes) none).0))
     by_cases rest false is =
         rest (All-tail (λ m. m.children ≡ children_at store m.name) n nodes same)
-        (second_false (is_in n.children name) (list_any (λ m. is_in m.children name) nodes) none)
+        (or_parts (is_in n.children name) (list_any (λ m. is_in m.children name) nodes) none).1
         (sym (ap (λ b. b || is_live nodes p) is) ∙ lives)
 
 pub outer_in_store : OuterInStore

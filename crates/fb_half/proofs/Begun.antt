@@ -78,10 +78,6 @@ uncovered_in all (n ∷ names) (w ∷ defects) v h = by_cases (uncovered_in all 
 pub uncovered : (names defects : List ℕ) (v : ℕ) → is_in defects v ≡ false → cover_of (leaves_by names defects) v ≡ None
 uncovered names defects v h = ap (option_map (λ n. n.name)) (uncovered_in (leaves_by names defects) names defects v h)
 
-false_rest : (a b : Bool) → (a || b) ≡ false → b ≡ false
-false_rest false b none = none
-false_rest true b none = absurd (both_ways true none refl)
-
 pub no_leaf : (names defects : List ℕ) (v x : ℕ) → is_in defects v ≡ false → leaf_at names defects x ≢ Some (blossoms.leaf v)
 no_leaf [] defects v x h e = cc
 no_leaf (n ∷ names) [] v x h e = cc
@@ -95,7 +91,7 @@ no_leaf (n ∷ names) (w ∷ defects) v x h e = by_cases (no_leaf names defects 
         let equal = same (ap blossoms.defects_of (sym (ap (λ b. if b then Some (blossoms.leaf w) else leaf_at names defects x) is) ∙ e)) in
         both_ways (is_in (w ∷ defects) v) h (ap (λ b. b || is_in defects v) (eq-eqb w v equal))
     by_cases rest false is =
-        rest (false_rest (w == v) (is_in defects v) h) (sym (ap (λ b. if b then Some (blossoms.leaf w) else leaf_at names defects x) is) ∙ e)
+        rest (or_parts (w == v) (is_in defects v) h).1 (sym (ap (λ b. if b then Some (blossoms.leaf w) else leaf_at names defects x) is) ∙ e)
 
 pub leaf_pushed : (names defects : List ℕ) (name v x : ℕ) → length names ≡ length defects → is_in names name ≡ false
     → leaf_at (names ++ name ∷ []) (defects ++ v ∷ []) x ≡ (if name == x then Some (blossoms.leaf v) else leaf_at names defects x)

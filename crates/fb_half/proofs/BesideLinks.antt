@@ -12,8 +12,8 @@ use Rattle.fb_graph.specs.Laws.{has_real_end}
 use Rattle.fb_graph.specs.declared.parts.Edge.{Edge}
 use Rattle.fb_graph.specs.RenamedNodes.{renamed_nodes}
 use Rattle.fb_graph.proofs.Among.{IsAmong}
-use Rattle.fb_graph.proofs.Members.{is_in-append}
-use Rattle.fb_graph.proofs.RenamedNodes.{distinct_renamed, in_renamed}
+use Rattle.fb_graph.proofs.Members.{is_in-append, is_in-map}
+use Rattle.fb_graph.proofs.RenamedNodes.{distinct_renamed}
 use Rattle.fb_graph.proofs.Sets.{is_in-head, is_in-tail}
 use Rattle.fb_graph.proofs.Unions.{distinct_append}
 use Rattle.fb_laws.proofs.OpenedBlossoms.{distinct_permuted, same_permuted}
@@ -113,7 +113,7 @@ module _ (first second table : Table) (pairs : List (ℕ × ℕ)) (both : AreMer
         there (inl h) = or_left (is_in one id) (is_in (map link two) id) (sym (live_one id) ∙ h)
         there (inr (old, h, named)) =
             or_right (is_in one id) (is_in (map link two) id)
-            (ap (is_in (map link two)) (sym named) ∙ in_renamed link two old (sym (live_two old) ∙ h))
+            (ap (is_in (map link two)) (sym named) ∙ is_in-map link two old (sym (live_two old) ∙ h))
 
         back : (is_in one id ≡ true) ⊎ (is_in (map link two) id ≡ true) → is_live table id ≡ true
         back (inl h) = let live : is_live first id ≡ true = live_one id ∙ h in ap is_some (stays id live) ∙ live

@@ -16,8 +16,8 @@ use Rattle.fb_graph.specs.RenamedNodes.{AreRenamedApart, renamed_node, renamed_n
 use Rattle.fb_graph.proofs.Among.{IsAmong, All_among, among_All, among_left, among_live, among_map, among_right, cover_among, covered_by, live_among}
 use Rattle.fb_graph.proofs.AppendedNodes.{outer_both, outer_in}
 use Rattle.fb_graph.proofs.Forests.{absent_outer}
-use Rattle.fb_graph.proofs.Members.{is_in-append}
-use Rattle.fb_graph.proofs.RenamedNodes.{cover_same, distinct_renamed, in_renamed, nest_renamed, outer_same, still_live}
+use Rattle.fb_graph.proofs.Members.{is_in-append, is_in-map}
+use Rattle.fb_graph.proofs.RenamedNodes.{cover_same, distinct_renamed, nest_renamed, outer_same, still_live}
 use Rattle.fb_graph.proofs.Unions.{distinct_append}
 use Rattle.fb_laws.specs.FusedStates.{without_seam}
 use Rattle.fb_laws.specs.Fusion.{IsLinkOf}
@@ -206,7 +206,7 @@ module _ (p q whole : Problem) (left right : List Node) (f : ℕ → ℕ) (parts
             let named : f e.name ≡ x = ap (λ y. y.name) same_node ∙ is in
             or_right (is_in mine x) (is_in (map f theirs) x)
             (ap (is_in (map f theirs)) (sym named)
-            ∙ in_renamed f theirs e.name
+            ∙ is_in-map f theirs e.name
             (sym (ap (λ l. is_in l e.name) theirs_are)
             ∙ there.all e.name lives
             (sym (outer_same q right f once two e.name lives)

@@ -9,8 +9,7 @@ use Rattle.std.proofs.lemmas.List.Sorted.{IsPermutation-map, IsPermutation-sym}
 use Rattle.fb_graph.specs.Parity.{is_in}
 use Rattle.fb_graph.specs.Limits.{IsWithinLimits, no_shot}
 use Rattle.fb_graph.proofs.Among.{IsAmong}
-use Rattle.fb_graph.proofs.Members.{is_in-append}
-use Rattle.fb_graph.proofs.RenamedNodes.{in_renamed}
+use Rattle.fb_graph.proofs.Members.{is_in-append, is_in-map}
 use Rattle.fb_graph.proofs.Sets.{is_in-cases}
 use Rattle.fb_laws.proofs.OpenedBlossoms.{same_permuted}
 use Rattle.fb_plan.specs.Plans.{children_of, problem_at}
@@ -239,12 +238,12 @@ module _ (left right : PartValue) (n : ℕ) (limits : IsWithinLimits (problem_at
             or_left (is_in (match_links after.matching.matches) (new_link id)) (is_in (ring_links w.nodes w.store) (new_link id))
             (in_matches (new_link id)
             ∙ or_right (is_in (match_links (other_matches left n)) (new_link id)) (is_in (map new_link (match_links (other_matches right n))) (new_link id))
-            (in_renamed new_link (match_links (other_matches right n)) id h))
+            (is_in-map new_link (match_links (other_matches right n)) id h))
         there (inr h) =
             or_right (is_in (match_links after.matching.matches) (new_link id)) (is_in (ring_links w.nodes w.store) (new_link id))
             (in_rings_ (new_link id)
             ∙ or_right (is_in (ring_links left.nodes left.store) (new_link id)) (is_in (map new_link (ring_links right.nodes right.store)) (new_link id))
-            (in_renamed new_link (ring_links right.nodes right.store) id h))
+            (is_in-map new_link (ring_links right.nodes right.store) id h))
 
         kept : (is_in (match_links (other_matches right n)) id ≡ true) ⊎ (is_in (ring_links right.nodes right.store) id ≡ true) → is_in (kept_links right) id ≡ true
         kept (inl h) =

@@ -1,6 +1,6 @@
 -- A matching's table stays true to its lists as a node or a match is added or taken out.
-use Rattle.std.proofs.Common.{ℕ, ◌≡◌, ◌≢◌, ◌<◌, ◌≤◌, ◌==◌, ◌||◌, Bool, true, false, if◌then◌else◌, List, [], ◌∷◌, ◌++◌, length, get_or, All, refl, sym, ap, ◌∙◌, subst}
-use Rattle.std.proofs.lemmas.Bool.{both_ways, eqb-true, eq-eqb}
+use Rattle.std.proofs.Common.{ℕ, ◌≡◌, ◌≢◌, ◌<◌, ◌≤◌, ◌==◌, true, false, if◌then◌else◌, List, [], ◌∷◌, ◌++◌, length, get_or, All, sym, ap, ◌∙◌, subst}
+use Rattle.std.proofs.lemmas.Bool.{both_ways, eqb-true, eq-eqb, or_parts}
 use Rattle.std.proofs.lemmas.List.{get_or_default}
 use Rattle.std.specs.List.{swap_remove}
 use Rattle.fb_graph.specs.Parity.{is_in}
@@ -31,26 +31,18 @@ same_entries matches names table new_table are same = record {
   };
 }
 
-first_false : (a b : Bool) → (a || b) ≡ false → a ≡ false
-first_false false b h = refl
-first_false true b h = h
-
-second_false : (a b : Bool) → (a || b) ≡ false → b ≡ false
-second_false false b h = h
-second_false true b h = absurd (both_ways true h refl)
-
 not_unmatched : (matches : List Match) (names : List ℕ) (table : List Standing) (name : ℕ) → AreStanding matches names table
     → is_in (names ++ matched_names matches) name ≡ false → (i : ℕ) → standing_of table name ≢ Unmatched i
 not_unmatched matches names table name are h i e =
     both_ways (is_in names name)
-    (first_false (is_in names name) (is_in (matched_names matches) name) (sym (is_in-append names (matched_names matches) name) ∙ h))
+    (or_parts (is_in names name) (is_in (matched_names matches) name) (sym (is_in-append names (matched_names matches) name) ∙ h)).0
     (listed_unmatched matches names table name are ∙ ap is_unmatched e)
 
 not_matched : (matches : List Match) (names : List ℕ) (table : List Standing) (name : ℕ) → AreStanding matches names table
     → is_in (names ++ matched_names matches) name ≡ false → (i : ℕ) → standing_of table name ≢ Matched i
 not_matched matches names table name are h i e =
     both_ways (is_in (matched_names matches) name)
-    (second_false (is_in names name) (is_in (matched_names matches) name) (sym (is_in-append names (matched_names matches) name) ∙ h))
+    (or_parts (is_in names name) (is_in (matched_names matches) name) (sym (is_in-append names (matched_names matches) name) ∙ h)).1
     (listed_matched matches names table name are ∙ ap is_matched e)
 
 pub unmatched_added : (matches : List Match) (names : List ℕ) (table new_table : List Standing) (name : ℕ) → AreStanding matches names table

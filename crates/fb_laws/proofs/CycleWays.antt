@@ -14,8 +14,8 @@ use Rattle.fb_laws.specs.Works.{AreMatchedLinks}
 use Rattle.fb_laws.specs.Trees.{Connects}
 use Rattle.fb_laws.specs.TreeCycles.{AreLinked}
 use Rattle.fb_laws.specs.OpenedCycles.{Pass, Couple, ArePassed, AreCoupled, last_of, paired_on, paired_beside, paired_of, matched_on, grown_on, matched_beside, WayRound}
-use Rattle.fb_laws.proofs.OpenedCycles.{links_left, links_right, links_moved}
-use Rattle.fb_laws.proofs.SearchStates.{links_joined}
+use Rattle.fb_laws.proofs.OpenedCycles.{links_moved}
+use Rattle.fb_laws.proofs.SearchStates.{links_joined, links_right, links_left}
 use Rattle.fb_laws.proofs.SearchTrees.{connects_sym}
 use Rattle.fb_graph.proofs.Floods.{is_in-both, is_in-left, is_in-right}
 

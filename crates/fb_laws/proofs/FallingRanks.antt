@@ -1,11 +1,13 @@
 -- Parts read as digits.
-use Rattle.std.proofs.Common.{ℕ, ◌≡◌, ◌+◌, ◌*◌, ◌≤◌, ◌<◌, ◌⊎◌, inl, inr, suc, Bool, true, false, List, [], ◌∷◌, length, All, count_by, refl, ap, ◌∙◌, arith}
+use Rattle.std.proofs.Common.{ℕ, ◌≡◌, ◌+◌, ◌*◌, ◌≤◌, ◌<◌, ◌⊎◌, inl, inr, suc, true, false, List, [], ◌∷◌, length, All, count_by, refl, ap, ◌∙◌, arith}
 use Rattle.std.proofs.lemmas.Bool.{false≢true}
 use Rattle.std.proofs.lemmas.List.Elements.{All-head, All-tail}
 use Rattle.std.proofs.lemmas.List.Sums.{sum_by-cons}
 use Rattle.std.proofs.Math.Nat.{mul-le-mul_right}
 use Rattle.fb_graph.specs.Parity.{is_in}
 use Rattle.fb_graph.proofs.Sets.{is_in-cases}
+use Rattle.fb_graph.proofs.Booleans.{as_count-mono}
+use Rattle.fb_graph.proofs.Sums.{count_by-le}
 use Rattle.fb_graph.specs.Counts.{as_count}
 use Rattle.fb_laws.specs.Measures.{scale_of, rank_of, IsLower, RankFalls, CountFalls}
 
@@ -44,21 +46,6 @@ rank_falls bound (x ∷ xs) (y ∷ ys) same below lower = step lower (rank_falls
         let grown : x * scale_of bound xs ≤ y * scale_of bound xs = mul-le-mul_right (scale_of bound xs) le in
         omega (arith, grown, ih lower_, ap (λ n. y * n) (same_scale bound xs ys tails))
 
-one-le : (a b : Bool) → (a ≡ true → b ≡ true) → as_count a ≤ as_count b
-one-le true b h = let e : as_count b ≡ 1 = ap as_count (h refl) in omega arith
-one-le false b h = omega arith
-
-count-le : (test before : ℕ → Bool) (xs : List ℕ) → ((y : ℕ) → test y ≡ true → before y ≡ true) → count_by test xs ≤ count_by before xs
-count-le test before [] narrower = omega arith
-count-le test before (x ∷ xs) narrower =
-    omega (
-      arith,
-      sum_by-cons (λ y. as_count (test y)) x xs,
-      sum_by-cons (λ y. as_count (before y)) x xs,
-      count-le test before xs narrower,
-      one-le (test x) (before x) (narrower x),
-    )
-
 pub count_falls : CountFalls
 count_falls test before [] x narrower within out old = absurd (false≢true within)
 count_falls test before (y ∷ ys) x narrower within out old =
@@ -72,7 +59,7 @@ count_falls test before (y ∷ ys) x narrower within out old =
           arith,
           sum_by-cons (λ z. as_count (test z)) y ys,
           sum_by-cons (λ z. as_count (before z)) y ys,
-          count-le test before ys narrower,
+          count_by-le test before ys narrower,
           ap as_count (ap test e ∙ out),
           ap as_count (ap before e ∙ old),
         )
@@ -82,5 +69,5 @@ count_falls test before (y ∷ ys) x narrower within out old =
           sum_by-cons (λ z. as_count (test z)) y ys,
           sum_by-cons (λ z. as_count (before z)) y ys,
           ih h out old,
-          one-le (test y) (before y) (narrower y),
+          as_count-mono (test y) (before y) (narrower y),
         )

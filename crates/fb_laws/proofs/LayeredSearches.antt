@@ -29,7 +29,7 @@ use Rattle.fb_graph.proofs.Booleans.{same_bool}
 use Rattle.fb_graph.proofs.Nodes.{All-left}
 
 -- sets that agree at the links' ends have as many
-ends_agree : (a b : List ℕ) (links : List Link)
+pub ends_agree : (a b : List ℕ) (links : List Link)
     → All (λ l. (is_in a l.from ≡ is_in b l.from) × (is_in a l.to ≡ is_in b l.to)) links → ends_in a links ≡ ends_in b links
 ends_agree a b links same =
     sum_same (ends_of_one a) (ends_of_one b) links

@@ -8,7 +8,7 @@ use Rattle.std.proofs.lemmas.List.Sums.{sum_by-cons, sum_by-append}
 use Rattle.fb_graph.specs.Parity.{is_in}
 use Rattle.fb_graph.specs.Dual.{Node, leaves, cover_of, is_empty, is_live, is_outer, layers_of, node_at, no_node, change_at, taller_node}
 use Rattle.fb_graph.proofs.Sets.{is_in-head, is_in-tail, is_in-range, All-from_is_in, member_of_odd}
-use Rattle.fb_graph.proofs.Sums.{sum_same, sum_le}
+use Rattle.fb_graph.proofs.Sums.{sum_same, sum_le, count_by-le}
 use Rattle.fb_graph.specs.Counts.{as_count}
 use Rattle.fb_graph.specs.Covers.{is_covered_by, passes}
 use Rattle.fb_graph.specs.Steps.{Roles, stepped_nodes, stepped_node}
@@ -33,15 +33,6 @@ same_count : (test before : ℕ → Bool) (xs : List ℕ) → ((x : ℕ) → is_
 same_count test before xs same =
     sum_same (λ x. as_count (test x)) (λ x. as_count (before x)) xs
     (All-from_is_in (λ x. as_count (test x) ≡ as_count (before x)) xs (λ x among. ap as_count (same x among)))
-
-less_count : (test before : ℕ → Bool) (xs : List ℕ) → ((x : ℕ) → test x ≡ true → before x ≡ true) → count_by test xs ≤ count_by before xs
-less_count test before xs narrower =
-    sum_le (λ x. as_count (test x)) (λ x. as_count (before x)) xs (λ i d less. one (test (get_or xs i d)) (before (get_or xs i d)) (narrower (get_or xs i d)))
-  where
-    one : (a b : Bool) → (a ≡ true → b ≡ true) → as_count a ≤ as_count b
-    one true true h = omega arith
-    one true false h = absurd (false≢true (h refl))
-    one false b h = omega arith
 
 not_narrower : (a b : Bool) → (b ≡ true → a ≡ true) → not a ≡ true → not b ≡ true
 not_narrower true b h e = absurd (false≢true e)
@@ -243,7 +234,7 @@ uncover_lowers p nodes roles name v free freed no_leaf minus not_plus live outer
       inr (
         omega (arith, taller_names name v roles.is_plus nodes),
         inr (
-          less_count (λ x. not (is_covered_by roles.is_plus nodes x)) (λ x. not (is_covered_by roles.is_plus (change_at name (taller_node v) nodes) x))
+          count_by-le (λ x. not (is_covered_by roles.is_plus nodes x)) (λ x. not (is_covered_by roles.is_plus (change_at name (taller_node v) nodes) x))
               (range_with_len 0 p.vertices)
               (λ x. not_narrower (is_covered_by roles.is_plus nodes x) (is_covered_by roles.is_plus (change_at name (taller_node v) nodes) x) (wider x)),
           inl (taller_layers_more name v roles.is_minus minus nodes live),
@@ -303,7 +294,7 @@ opened_lowers p before after b children roles later free freed split not_plus ha
         same_count (λ v. not (is_covered_by later.is_plus (before ++ after) v))
             (λ v. not (is_covered_by later.is_plus (before ++ after) v) && is_in (leaves (before ++ b ∷ after)) v) (leaves (before ++ b ∷ after))
             (λ v among. sym (ap (λ c. not (is_covered_by later.is_plus (before ++ after) v) && c) among ∙ and-true (not (is_covered_by later.is_plus (before ++ after) v)))),
-        less_count (λ v. not (is_covered_by later.is_plus (before ++ after) v) && is_in (leaves (before ++ b ∷ after)) v)
+        count_by-le (λ v. not (is_covered_by later.is_plus (before ++ after) v) && is_in (leaves (before ++ b ∷ after)) v)
             (λ v. not (is_covered_by roles.is_plus (before ++ b ∷ after) v)) (leaves (before ++ b ∷ after))
             (λ v passing.
             let parts = and_parts (not (is_covered_by later.is_plus (before ++ after) v)) (is_in (leaves (before ++ b ∷ after)) v) passing in

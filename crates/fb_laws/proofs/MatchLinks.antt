@@ -8,19 +8,17 @@ use Rattle.fb_graph.specs.Certificate.{AreDistinct}
 use Rattle.fb_graph.specs.Counts.{as_count}
 use Rattle.fb_graph.specs.Ends.{ends_in}
 use Rattle.fb_graph.specs.Laws.{Link}
-use Rattle.fb_graph.specs.Dual.{Node, IsDual, all_cuts, cover_of, is_live, is_outer, leaves, no_node, top_at}
+use Rattle.fb_graph.specs.Dual.{Node, IsDual, cover_of, is_live, is_outer, leaves, no_node, top_at}
 use Rattle.fb_graph.proofs.Among.{live_among, covered_by}
 use Rattle.fb_graph.proofs.Crossings.{cover_found}
 use Rattle.fb_graph.proofs.EndSums.{ends_append, ends_of_one, ends-cons}
 use Rattle.fb_graph.proofs.Forests.{tops_odd}
 use Rattle.fb_graph.proofs.Sets.{is_in-head, is_in-tail, member_of_odd}
-use Rattle.fb_graph.specs.Links.{IsTightLink}
-use Rattle.fb_laws.specs.Fusion.{IsLinkOf}
 use Rattle.fb_laws.specs.Trees.{Entry, Connects, IsTree, paired_links, tree_names}
 use Rattle.fb_laws.specs.Works.{AreMatchedLinks, IsSetOf}
 use Rattle.fb_laws.specs.MatchLinks.{EndsElsewhere, HasMatch, LeadsToBoundary, LeadsToMate, MatchOf, MatchOfMet, MateOutside}
 use Rattle.fb_laws.specs.Opening.{EndsAtDefects}
-use Rattle.fb_laws.proofs.SearchStates.{outside}
+use Rattle.fb_laws.proofs.SearchStates.{outside, links_right}
 use Rattle.fb_laws.proofs.SearchTrees.{connected, connects_sym, cover_set, end_of, matched_named, no_ends}
 use Rattle.fb_graph.proofs.Nodes.{All-right}
 use Rattle.fb_graph.proofs.Options.{some_name}
@@ -190,17 +188,6 @@ none_in_tree nodes root (e ∷ es) name distinct (parent, grown, matched, joined
         )
 
 -- links of the end of a list
-pub links_after : (p : Problem) (nodes : List Node) (links more : List Link) → AreMatchedLinks p nodes (links ++ more)
-    → AreMatchedLinks p nodes more
-links_after p nodes links more are = record {
-  tight = All-right (IsTightLink p (all_cuts nodes)) links more are.tight;
-  own = All-right (IsLinkOf p) links more are.own;
-  at_defects =
-      All-right
-      (EndsAtDefects p (leaves nodes))
-      links more are.at_defects;
-}
-
 pub match_of_met : MatchOfMet
 match_of_met p nodes tree rest unmatched root r name state live outer out = step (cases_Bool (is_in unmatched name))
   where
@@ -213,7 +200,7 @@ match_of_met p nodes tree rest unmatched root r name state live outer out = step
         (λ within.
         let both : Some n ≡ Some name =
         sym cover ∙ under p nodes rest name state.matching.dual
-        (links_after p nodes (paired_links tree) rest state.matching.links_are) set v within in
+        (links_right p nodes (paired_links tree) rest state.matching.links_are) set v within in
         let same : n ≡ name = cc in
         differs same)
 
@@ -222,7 +209,7 @@ match_of_met p nodes tree rest unmatched root r name state live outer out = step
     step (inr taken) =
         let one = matched_named p nodes (paired_links tree ++ rest) unmatched name (top_at nodes name) state.matching set in
         inr
-        (match_among p nodes rest name state.matching.dual (links_after p nodes (paired_links tree) rest state.matching.links_are) set
+        (match_among p nodes rest name state.matching.dual (links_right p nodes (paired_links tree) rest state.matching.links_are) set
         (omega (
           arith,
           one,

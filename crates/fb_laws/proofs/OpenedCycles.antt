@@ -29,32 +29,13 @@ use Rattle.fb_laws.proofs.JoinedThree.{mid_names}
 use Rattle.fb_laws.proofs.MatchedNodes.{odd_top}
 use Rattle.fb_laws.proofs.MergedParts.{distinct_across}
 use Rattle.fb_laws.proofs.OpenedSearches.{held_by, links_split, at_ends, unheld}
-use Rattle.fb_laws.proofs.SearchStates.{links_joined, named_set}
+use Rattle.fb_laws.proofs.SearchStates.{links_joined, named_set, links_right, links_left}
 use Rattle.fb_laws.proofs.SearchTrees.{cover_set, matched_named, minus_in_tree, exclusive_names}
 use Rattle.fb_laws.proofs.TreePaths.{distinct_right, along_append, names_along, along_minus, among_minus, among_plus, tree_connects}
 use Rattle.fb_graph.proofs.Unions.{distinct_append}
 use Rattle.fb_graph.proofs.Floods.{is_in-both, is_in-left, is_in-right}
-use Rattle.fb_graph.proofs.Nodes.{All-right, All-left}
 use Rattle.fb_graph.proofs.Members.{distinct_left}
 use Rattle.fb_graph.proofs.Booleans.{as_count-le}
-
-pub links_left : (p : Problem) (nodes : List Node) (xs ys : List Link) → AreMatchedLinks p nodes (xs ++ ys) → AreMatchedLinks p nodes xs
-links_left p nodes xs ys are = record {
-  tight = All-left (IsTightLink p (all_cuts nodes)) xs ys are.tight;
-  own = All-left (IsLinkOf p) xs ys are.own;
-  at_defects = All-left
-      (EndsAtDefects p (leaves nodes))
-      xs ys are.at_defects;
-}
-
-pub links_right : (p : Problem) (nodes : List Node) (xs ys : List Link) → AreMatchedLinks p nodes (xs ++ ys) → AreMatchedLinks p nodes ys
-links_right p nodes xs ys are = record {
-  tight = All-right (IsTightLink p (all_cuts nodes)) xs ys are.tight;
-  own = All-right (IsLinkOf p) xs ys are.own;
-  at_defects = All-right
-      (EndsAtDefects p (leaves nodes))
-      xs ys are.at_defects;
-}
 
 pub links_moved : (p : Problem) (nodes : List Node) (xs ys : List Link) → IsPermutation xs ys → AreMatchedLinks p nodes xs → AreMatchedLinks p nodes ys
 links_moved p nodes xs ys moved are = record {

@@ -22,11 +22,8 @@ use Rattle.fb_laws.specs.Paths.{LeadsOut}
 use Rattle.fb_laws.specs.Blossoms.{ArePaired}
 use Rattle.fb_laws.specs.Opening.{IsWithinOne, IsAlikeOver, single_sets, WithinOnce, FirstLevel, NextLevel, LevelPermuted, LevelsOpened, LastLevel, LevelSolved}
 use Rattle.fb_graph.proofs.EndSums.{ends-cons, ends_append, ends_union, ends_by_crossings, ends_permuted, crossed_once, apart_sym}
+use Rattle.fb_graph.proofs.Booleans.{as_count-mono}
 use Rattle.fb_laws.proofs.BlossomSums.{opened_once, opened_elsewhere}
-
-as_count-le : (a b : Bool) → (a ≡ true → b ≡ true) → as_count a ≤ as_count b
-as_count-le true b h = let e : as_count b ≡ 1 = ap as_count (h refl) in omega arith
-as_count-le false b h = omega arith
 
 ends-le : (inner outer : List ℕ) (links : List Link) → IsWithin inner outer → ends_in inner links ≤ ends_in outer links
 ends-le inner outer [] within = omega arith
@@ -36,8 +33,8 @@ ends-le inner outer (l ∷ links) within =
       ends-cons inner l links,
       ends-cons outer l links,
       ends-le inner outer links within,
-      as_count-le (is_in inner l.from) (is_in outer l.from) (within l.from),
-      as_count-le (is_in inner l.to) (is_in outer l.to) (within l.to),
+      as_count-mono (is_in inner l.from) (is_in outer l.from) (within l.from),
+      as_count-mono (is_in inner l.to) (is_in outer l.to) (within l.to),
     )
 
 pub within_once : WithinOnce

@@ -2,7 +2,7 @@
 use Rattle.std.proofs.Common.{ℕ, zero, suc, ◌≡◌, ◌+◌, ◌≤◌, ◌==◌, ◌⊎◌, inl, inr, Bool, true, false, List, [], ◌∷◌, ◌++◌, cond, map, length, take, drop, get_or, filter, flat_map, sum_by, All, refl, sym, ap, ◌∙◌, subst, arith, if◌then◌else◌}
 use Rattle.std.specs.List.{concat}
 use Rattle.std.specs.List.Sorted.{IsPermutation}
-use Rattle.std.proofs.lemmas.Bool.{both_ways, cases_Bool, eqb-true, false≢true}
+use Rattle.std.proofs.lemmas.Bool.{both_ways, cases_Bool, eqb-true}
 use Rattle.std.proofs.lemmas.List.{append-nil, append_assoc, length-append, length-map, map-append}
 use Rattle.std.proofs.lemmas.List.Elements.{All-nil, All-cons, All-head}
 use Rattle.std.proofs.lemmas.List.Sorted.{IsPermutation-append_comm, IsPermutation-refl, list_any-IsPermutation}
@@ -16,7 +16,7 @@ use Rattle.fb_graph.specs.Counts.{as_count}
 use Rattle.fb_graph.specs.Ends.{ends_in, crossing_links, AreAllApart}
 use Rattle.fb_graph.specs.Links.{IsTightLink}
 use Rattle.fb_graph.specs.Nests.{IsNest, IsFormed, IsFilled, AreMany, AreJoinedLater, child_sets, first_set}
-use Rattle.fb_graph.proofs.Among.{IsAmong, All_among, among_All, among_either, among_left, among_right, among_live, among_outer, any_among, apart_among, apart_of_two, map_among, name_among, other_name, same_among, top_among}
+use Rattle.fb_graph.proofs.Among.{IsAmong, All_among, among_All, among_either, among_left, among_right, among_live, among_outer, any_among, apart_among, apart_of_two, map_among, name_among, other_name, same_among, top_among, is_in-empty}
 use Rattle.fb_graph.proofs.AppendedNodes.{names_merged}
 use Rattle.fb_graph.proofs.EndSums.{apart_sym, ends_union}
 use Rattle.fb_graph.proofs.Forests.{child_within, first_within}
@@ -70,10 +70,6 @@ begun p nodes links work = record {
   once = (half_level p nodes links work).once;
   matched = work.links_are;
 }
-
-none_in : (xs : List ℕ) (v : ℕ) → is_empty xs ≡ true → is_in xs v ≡ false
-none_in [] v none = refl
-none_in (x ∷ xs) v none = absurd (false≢true none)
 
 -- no node joins itself or a later one
 joined_before : (before : List Node) (q : Node) (after : List Node) → AreJoinedLater (before ++ q ∷ after) → (m : Node)
@@ -193,7 +189,7 @@ module _ (p : Problem) (nodes : List Node) (cycles : ℕ → List Link) (nest : 
   }
     where
       up : (m : Node) → IsTop before m → IsTop (before ++ q ∷ []) m
-      up m top = was_top m top (none_in q.children m.name none)
+      up m top = was_top m top (is_in-empty q.children m.name none)
 
   abbrev Sets : List (List ℕ)
   Sets = child_sets nodes q

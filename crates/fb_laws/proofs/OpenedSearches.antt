@@ -20,6 +20,7 @@ use Rattle.fb_graph.proofs.EndSums.{ends-cons, ends_append, ends_of_one}
 use Rattle.fb_laws.proofs.MatchedNodes.{odd_top}
 use Rattle.fb_laws.proofs.SearchStates.{links_joined}
 use Rattle.fb_laws.proofs.SearchTrees.{cover_set, matched_named, top_at_place}
+use Rattle.fb_laws.proofs.LayeredSearches.{ends_agree}
 
 -- a set of an outer node holds a vertex where it covers it
 pub held_by : (p : Problem) (nodes : List Node) (n m v : ℕ) (set : List ℕ) → IsDual p nodes → IsSetOf nodes n set → cover_of nodes v ≡ Some m
@@ -74,21 +75,6 @@ pair_ends p nodes n set dual is (a ∷ b ∷ names) (l ∷ links) (connects, pai
 pair_ends p nodes n set dual is (a ∷ []) links paired distinct = absurd paired
 pair_ends p nodes n set dual is [] (l ∷ links) paired distinct = absurd paired
 pair_ends p nodes n set dual is (a ∷ b ∷ names) [] paired distinct = absurd paired
-
--- ends add up where each vertex that links end at is counted so
-ends_same : (a b : List ℕ) (links : List Link) → All (λ l. (is_in a l.from ≡ is_in b l.from) × (is_in a l.to ≡ is_in b l.to)) links
-    → ends_in a links ≡ ends_in b links
-ends_same a b [] same = refl
-ends_same a b (l ∷ links) same =
-    let here = All-head (λ m. (is_in a m.from ≡ is_in b m.from) × (is_in a m.to ≡ is_in b m.to)) l links same in
-    omega (
-      arith,
-      ends-cons a l links,
-      ends-cons b l links,
-      ap as_count here.0,
-      ap as_count here.1,
-      ends_same a b links (All-tail (λ m. (is_in a m.from ≡ is_in b m.from) × (is_in a m.to ≡ is_in b m.to)) l links same),
-    )
 
 abbrev Fewer : List ℕ → List ℕ → List ℕ → ℕ → Type 0
 Fewer a b whole v = as_count (is_in a v) + as_count (is_in b v) ≤ as_count (is_in whole v)
@@ -164,7 +150,7 @@ module _ (p : Problem) (nodes others : List Node) (blossom : ℕ) (children : Li
   ends_outside : (n : ℕ) (set set' : List ℕ) (links : List Link) → EndAtDefects p (leaves nodes) links → IsSetOf nodes n set → IsSetOf others n set'
       → (n ≡ blossom → ⊥) → is_in children n ≡ false → ends_in set' links ≡ ends_in set links
   ends_outside n set set' links at is is' other out =
-      ends_same set' set links
+      ends_agree set' set links
       (at_ends (λ v. is_in set' v ≡ is_in set v) links at
       (λ v off. unheld others n v set' dual is' off ∙ sym (unheld nodes n v set old is off))
       (λ v leaf. by v leaf (cover_of nodes v) refl (old.defects v leaf)))

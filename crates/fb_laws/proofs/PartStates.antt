@@ -7,8 +7,7 @@ use Rattle.fb_laws.specs.PartStates.{LiveTight, SearchTight, UnmatchedOuter, all
 use Rattle.fb_laws.specs.Trees.{grown_links, paired_links}
 use Rattle.fb_graph.proofs.Among.{covered_by, live_among}
 use Rattle.fb_graph.proofs.NestParts.{top_is_odd}
-use Rattle.fb_laws.proofs.OpenedCycles.{links_left, links_right}
-use Rattle.fb_laws.proofs.SearchStates.{links_joined}
+use Rattle.fb_laws.proofs.SearchStates.{links_joined, links_right, links_left}
 
 pub live_tight : LiveTight
 live_tight p s state =

@@ -16,9 +16,9 @@ use Rattle.fb_laws.specs.Trees.{Connects}
 use Rattle.fb_laws.specs.Works.{AreMatchedLinks}
 use Rattle.fb_laws.proofs.CycleWays.{linked_join, linked_turned}
 use Rattle.fb_laws.proofs.OpenedBlossoms.{even, opened}
-use Rattle.fb_laws.proofs.OpenedCycles.{links_left, links_right, links_moved}
+use Rattle.fb_laws.proofs.OpenedCycles.{links_moved}
 use Rattle.fb_laws.proofs.OpenedParts.{matched_some, round_among}
-use Rattle.fb_laws.proofs.SearchStates.{links_joined}
+use Rattle.fb_laws.proofs.SearchStates.{links_joined, links_right, links_left}
 
 -- the last of the names, or the one that they come from
 last_name : ℕ → List ℕ → ℕ

@@ -421,3 +421,21 @@ search_attached p nodes tree e rest unmatched root r even state parent grown mat
         later : (e.plus ≡ name) ⊎ (is_in (tree_names root tree) name ≡ true) → height_of (all_cuts nodes) d % 2 ≡ r
         later (inl same) = plus_parity d name leaf cover (eq-eqb name e.plus (sym same))
         later (inr among) = state.parity d name leaf cover among
+
+pub links_left : (p : Problem) (nodes : List Node) (xs ys : List Link) → AreMatchedLinks p nodes (xs ++ ys) → AreMatchedLinks p nodes xs
+links_left p nodes xs ys are = record {
+  tight = All-left (IsTightLink p (all_cuts nodes)) xs ys are.tight;
+  own = All-left (IsLinkOf p) xs ys are.own;
+  at_defects = All-left
+      (EndsAtDefects p (leaves nodes))
+      xs ys are.at_defects;
+}
+
+pub links_right : (p : Problem) (nodes : List Node) (xs ys : List Link) → AreMatchedLinks p nodes (xs ++ ys) → AreMatchedLinks p nodes ys
+links_right p nodes xs ys are = record {
+  tight = All-right (IsTightLink p (all_cuts nodes)) xs ys are.tight;
+  own = All-right (IsLinkOf p) xs ys are.own;
+  at_defects = All-right
+      (EndsAtDefects p (leaves nodes))
+      xs ys are.at_defects;
+}

@@ -23,9 +23,8 @@ use Rattle.fb_laws.specs.Trees.{Connects}
 use Rattle.fb_laws.specs.Works.{AreMatchedLinks}
 use Rattle.fb_laws.specs.Fusion.{IsLinkOf}
 use Rattle.fb_laws.specs.Opening.{EndsAtDefects}
-use Rattle.fb_laws.proofs.MatchLinks.{links_after}
 use Rattle.fb_laws.proofs.MetLinks.{covered_real, link_turned, links_joined}
-use Rattle.fb_laws.proofs.SearchStates.{links_joined as matched_append}
+use Rattle.fb_laws.proofs.SearchStates.{links_joined as matched_append, links_right}
 use Rattle.fb_laws.proofs.SearchTrees.{connects_sym}
 
 -- an outer blossom that holds the set
@@ -126,7 +125,7 @@ links_of_two p nodes l m are = (
         (EndsAtDefects p (leaves nodes))
         (l ∷ []) (m ∷ []) are.at_defects;
   },
-  links_after p nodes (l ∷ []) (m ∷ []) are,
+  links_right p nodes (l ∷ []) (m ∷ []) are,
 )
 
 links_two : (p : Problem) (nodes : List Node) (l m : Link) → AreMatchedLinks p nodes (l ∷ []) → AreMatchedLinks p nodes (m ∷ [])

@@ -1,5 +1,5 @@
 -- A nest whose blossoms are open is solved.
-use Rattle.std.proofs.Common.{ℕ, ◌≡◌, ◌+◌, ◌≤◌, ◌==◌, ◌⊎◌, inl, inr, Bool, true, false, List, [], ◌∷◌, length, filter, cond, get_or, refl, sym, ap, ◌∙◌, subst, arith, if◌then◌else◌}
+use Rattle.std.proofs.Common.{ℕ, ◌≡◌, ◌+◌, ◌≤◌, ◌==◌, ◌⊎◌, inl, inr, Bool, true, false, List, [], ◌∷◌, length, filter, cond, get_or, sym, ap, ◌∙◌, subst, arith, if◌then◌else◌}
 use Rattle.std.proofs.Math.Bool.{or-false}
 use Rattle.std.proofs.lemmas.Bool.{both_ways, cases_Bool, eqb-true, false≢true, false_from_ne_true}
 use Rattle.std.proofs.lemmas.List.Elements.{All-map}
@@ -17,7 +17,7 @@ use Rattle.fb_laws.specs.Opening.{single_sets}
 use Rattle.fb_laws.specs.Works.{positive_cuts}
 use Rattle.fb_graph.specs.Nests.{IsFormed, first_set}
 use Rattle.fb_laws.specs.NestSolutions.{DefectsFirst, LeafLevel, NestResolved, leaf_sets}
-use Rattle.fb_graph.proofs.Among.{IsAmong, All_among, among_All, leaf_among, map_among}
+use Rattle.fb_graph.proofs.Among.{IsAmong, All_among, among_All, leaf_among, map_among, is_in-empty}
 use Rattle.fb_graph.proofs.Forests.{defects_first, first_within}
 use Rattle.fb_laws.proofs.HalvesKept.{positive_loads, positive_packing, positive_total}
 use Rattle.fb_laws.proofs.MergedParts.{odd_in}
@@ -34,10 +34,6 @@ childless m d mine = step (cases_Bool (is_empty m.children))
     step (inl e) = e
     step (inr e) = absurd (false≢true (ap (λ b. is_in (if b then first_set m else []) d) (sym e) ∙ mine))
 
-no_child : (cs : List ℕ) (c : ℕ) → is_empty cs ≡ true → is_in cs c ≡ false
-no_child [] c e = refl
-no_child (x ∷ xs) c e = absurd (false≢true e)
-
 pub defects_in_first : DefectsFirst
 defects_in_first p nodes nest =
     among_All
@@ -52,7 +48,7 @@ defects_in_first p nodes nest =
         → Relates nodes n m → is_in (first_set n) d ≡ true
     step n d within m mine (inl e) = ap (λ x. is_in (first_set x) d) e ∙ defects_first m d mine
     step n d within m mine (inr (inl (x, c, child, holds))) =
-        absurd (both_ways (is_in m.children x.name) (no_child m.children x.name (childless m d mine)) child)
+        absurd (both_ways (is_in m.children x.name) (is_in-empty m.children x.name (childless m d mine)) child)
     step n d within m mine (inr (inr (inl holds))) = holds d (defects_first m d mine)
     step n d within m mine (inr (inr (inr apart))) =
         absurd (both_ways (is_in (first_set m) d) (apart d within) (defects_first m d mine))

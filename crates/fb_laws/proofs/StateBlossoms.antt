@@ -29,11 +29,10 @@ use Rattle.fb_laws.proofs.CycleMoves.{links_kept, rings_over}
 use Rattle.fb_laws.proofs.JoinedThree.{three_joining}
 use Rattle.fb_laws.proofs.MoveBridges.{joining_allowed}
 use Rattle.fb_laws.proofs.NestedStates.{nested_joined}
-use Rattle.fb_laws.proofs.OpenedCycles.{links_left}
 use Rattle.fb_laws.proofs.RenamedNames.{IsRenaming, renamed_distinct, renamed_gone, renamed_new, renamed_other}
 use Rattle.fb_laws.proofs.RingLinks.{cycle_link_in, linked_live, links_among, ring_of_linked}
-use Rattle.fb_laws.proofs.SearchStates.{links_joined, unmatched_outside}
-use Rattle.fb_laws.proofs.TreeCycles.{cycle_joining, cycle_linked, cycle_many}
+use Rattle.fb_laws.proofs.SearchStates.{links_joined, unmatched_outside, links_left}
+use Rattle.fb_laws.proofs.TreeCycles.{cycle_joining, cycle_linked, cycle_many, names_at}
 use Rattle.fb_laws.proofs.TreePaths.{path_among, tree_connects}
 use Rattle.fb_graph.proofs.Floods.{is_in-left, is_in-right}
 
@@ -201,10 +200,6 @@ state_joined p s name base others links joining some fresh linked tight state = 
         let open_ : is_in s.unmatched n ≡ true = sym (kept n out (λ same. both_ways (n == name) other (eq-eqb n name same))) ∙ within in
         let (m, a, named) = live_among s.nodes n (state.names.live n open_) in
         among_live (joined_nodes name (names_of (base ∷ others)) s.nodes) m n (among_left s.nodes (b ∷ []) m a) named
-
-names_at : (nodes : List Node) (names : List ℕ) → names_of (map (child_at nodes) names) ≡ names
-names_at nodes [] = refl
-names_at nodes (n ∷ names) = ap (λ l. n ∷ l) (names_at nodes names)
 
 -- the further node is outer where its name is new and its children are nodes
 fresh_outer : (p : Problem) (nodes : List Node) (b : Node) → IsNest p nodes → is_live nodes b.name ≡ false

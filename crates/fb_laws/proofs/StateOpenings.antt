@@ -33,9 +33,9 @@ use Rattle.fb_laws.proofs.CycleMoves.{child_inner, links_kept, rings_over}
 use Rattle.fb_laws.proofs.CycleWays.{way_round}
 use Rattle.fb_laws.proofs.NestedStates.{nested_opened}
 use Rattle.fb_laws.proofs.OpenedBlossoms.{distinct_permuted, in_permuted, same_permuted}
-use Rattle.fb_laws.proofs.OpenedCycles.{cycle_opened, links_left, parent_plus}
+use Rattle.fb_laws.proofs.OpenedCycles.{cycle_opened, parent_plus}
 use Rattle.fb_laws.proofs.RingLinks.{links_among}
-use Rattle.fb_laws.proofs.SearchStates.{links_joined}
+use Rattle.fb_laws.proofs.SearchStates.{links_joined, links_left}
 use Rattle.fb_laws.proofs.SearchTrees.{connects_sym, exclusive_names}
 use Rattle.fb_laws.proofs.SplitStates.{child_covers, end_under_child, is_split}
 use Rattle.fb_laws.proofs.TreePaths.{among_minus, not_both, tree_connects}

@@ -100,7 +100,7 @@ linked_back nodes (e ∷ es) connects top b a closing chain closes names links r
       (connects_sym nodes e.tree top e.minus (subst (λ n. Connects nodes e.tree n e.minus) chain.0 here.0), rest),
     )))
 
-names_at : (nodes : List Node) (names : List ℕ) → names_of (map (child_at nodes) names) ≡ names
+pub names_at : (nodes : List Node) (names : List ℕ) → names_of (map (child_at nodes) names) ≡ names
 names_at nodes [] = refl
 names_at nodes (n ∷ ns) = ap (λ l. n ∷ l) (names_at nodes ns)
 

@@ -5,8 +5,8 @@ use Rattle.std.proofs.lemmas.List.{length-map, with_items_is}
 use Rattle.fb_graph.specs.Parity.{is_in}
 use Rattle.fb_graph.specs.Dual.{Node, is_empty, is_outer}
 use Rattle.fb_graph.proofs.Among.{any_among, among_any, map_among}
-use Rattle.fb_graph.proofs.RenamedNodes.{in_renamed}
 use Rattle.fb_graph.proofs.Sets.{is_in-head, is_in-tail}
+use Rattle.fb_graph.proofs.Members.{is_in-map}
 use Rattle.fb_regions.specs.declared.region.Region.{Region}
 use Rattle.fb_regions.specs.InternalKept.{HasParent, HaveParents, is_childless}
 use Rattle.fb_regions.specs.InternalMerged.{renamed_region, renamed_regions}
@@ -59,7 +59,7 @@ child_renamed f (r ∷ rs) q x apart h = by (r.name == q) refl h (child_renamed 
         → is_in (children_from (renamed_regions f (r ∷ rs)) (f q)) (f x) ≡ true
     by true e k rest =
         ap (λ b. is_in (chosen b) (f x)) (eq-eqb (f r.name) (f q) (ap f (eqb-true r.name q e)))
-        ∙ (ap (λ l. is_in l (f x)) (children_renamed f r) ∙ in_renamed f r.children.items x k)
+        ∙ (ap (λ l. is_in l (f x)) (children_renamed f r) ∙ is_in-map f r.children.items x k)
     by false e k rest =
         ap (λ b. is_in (chosen b) (f x)) (other_renamed f r rs q apart (joiner_known rs q x k) e) ∙ rest k
 

@@ -20,9 +20,8 @@ use Rattle.fb_laws.specs.TreeCycles.{AreLinked, ArePaths, cycle_links, cycle_nod
 use Rattle.fb_laws.specs.Trees.{Connects, Entry, EntryOf, grown_links, paired_links, tree_names}
 use Rattle.fb_laws.specs.Works.{AreMatchedLinks}
 use Rattle.fb_laws.proofs.OpenedBlossoms.{same_permuted}
-use Rattle.fb_laws.proofs.OpenedCycles.{links_left}
 use Rattle.fb_laws.proofs.RingLinks.{cycle_link_in, links_among}
-use Rattle.fb_laws.proofs.SearchStates.{links_joined}
+use Rattle.fb_laws.proofs.SearchStates.{links_joined, links_left}
 use Rattle.fb_laws.proofs.TreeCycles.{cycle_linked}
 use Rattle.fb_laws.proofs.TreePaths.{path_among}
 use Rattle.fb_trees.specs.Branches.{Grown}

@@ -16,8 +16,8 @@ use Rattle.fb_laws.specs.Searches.{IsSearch}
 use Rattle.fb_laws.specs.Trees.{Connects, Entry, EntryOf, IsTree, grown_links, paired_links, plus_names, tree_names}
 use Rattle.fb_laws.specs.Works.{AreMatchedLinks}
 use Rattle.fb_laws.specs.Opening.{EndsAtDefects}
-use Rattle.fb_laws.proofs.OpenedCycles.{links_left, parent_plus}
-use Rattle.fb_laws.proofs.SearchStates.{links_joined}
+use Rattle.fb_laws.proofs.OpenedCycles.{parent_plus}
+use Rattle.fb_laws.proofs.SearchStates.{links_joined, links_left}
 use Rattle.fb_laws.proofs.SearchTrees.{connects_sym, plus_in_tree}
 use Rattle.fb_laws.proofs.TreePaths.{among_plus, tree_connects}
 use Rattle.fb_links.specs.declared.walk.Step.{Step}

@@ -1,6 +1,6 @@
 -- Source walks step by step, as the laws have them, and gone back.
-use Rattle.std.proofs.Common.{ℕ, ◌≡◌, ◌+◌, true, List, [], ◌∷◌, map, reverse, All, Some, refl, sym, ap, ◌∙◌, subst, arith}
-use Rattle.std.proofs.lemmas.List.Elements.{All-cons, All-head, All-map, All-nil, All-push, All-tail}
+use Rattle.std.proofs.Common.{ℕ, ◌≡◌, ◌+◌, true, List, [], ◌∷◌, map, reverse, All, Some, refl, ap, ◌∙◌, subst, arith}
+use Rattle.std.proofs.lemmas.List.Elements.{All-cons, All-head, All-map, All-nil, All-tail}
 use Rattle.std.proofs.lemmas.List.Sums.{sum_by-cons}
 use Rattle.fb_graph.specs.Problem.{Problem, edge_at, weight_of}
 use Rattle.fb_graph.specs.Components.{IsWalkBy, Leads}
@@ -11,11 +11,9 @@ use Rattle.fb_laws.specs.StepLinks.{IsTurn, StepParts}
 use Rattle.fb_laws.proofs.StepLinks.{edges_turned}
 use Rattle.fb_links.specs.declared.walk.Step.{Step}
 use Rattle.fb_links.specs.Walks.{turned_step, turned_walk, walk_weight}
-use Rattle.fb_links.proofs.Turns.{turned_walk-cons}
 use Rattle.fb_regions.specs.Moves.{IsWalkFrom}
 use Rattle.fb_regions.specs.Walks.{IsStep, IsWalk}
 use Rattle.fb_half.specs.Parts.{AreStepsOf}
-use Rattle.fb_graph.proofs.Walks.{Leads_flip}
 
 -- they are a walk by their edges
 edges_lead : (p : Problem) (walk : List Step) (from to : ℕ) → IsWalk p walk from to
@@ -49,20 +47,6 @@ steps_real p [] from to same real = All-nil (IsStepOfPart p)
 steps_real p (s ∷ ss) from to (begins, step, more) real =
     All-cons (IsStepOfPart p) s ss (step, All-head (HasRealEnd p) s ss real)
     (steps_real p ss s.to to more (All-tail (HasRealEnd p) s ss real))
-
-step_back : (p : Problem) (s : Step) → IsStepOfPart p s → IsStepOfPart p (turned_step s)
-step_back p s (is, real) = (
-  record { within = is.within; leads = Leads_flip (edge_at p.edges s.edge) s.from s.to is.leads; weighs = is.weighs },
-  real,
-)
-
--- the walk gone back has such steps too
-pub steps_back : (p : Problem) (walk : List Step) → AreStepsOf p walk → AreStepsOf p (turned_walk walk)
-steps_back p [] are = All-nil (IsStepOfPart p)
-steps_back p (s ∷ ss) are =
-    subst (AreStepsOf p) (sym (turned_walk-cons s ss))
-    (All-push (IsStepOfPart p) (turned_walk ss) (turned_step s) (steps_back p ss (All-tail (IsStepOfPart p) s ss are))
-    (step_back p s (All-head (IsStepOfPart p) s ss are)))
 
 -- how the laws read a step
 abbrev parts : StepParts Step

@@ -26,7 +26,8 @@ use Rattle.fb_half.specs.Parts.{AreStepsOf}
 use Rattle.fb_half.specs.Translations.{link_of}
 use Rattle.fb_search.specs.MetWalks.{IsAlong, IsBetween, IsMetWalk, IsOut, IsOutWalk}
 use Rattle.fb_search.proofs.TakenVertices.{ends_told}
-use Rattle.fb_search.proofs.SourceSteps.{edges_back, steps_back, steps_real, walk_under}
+use Rattle.fb_search.proofs.SourceSteps.{edges_back, steps_real, walk_under}
+use Rattle.fb_search.proofs.StepWalks.{turned_steps}
 use Rattle.fb_regions.proofs.ChainedWalks.{walk_runs}
 use Rattle.fb_obstacles.proofs.Conclusions.{uncovered_real}
 
@@ -137,7 +138,7 @@ module _ (p : Problem) (nodes : List Node) (a : ℕ) (s : Step) (dual : IsDual p
           );
           steps =
               All-append (λ t. IsStep p t × (has_real_end p (edge_at p.edges t.edge) ≡ true)) (walk ++ s ∷ []) (turned_walk back)
-              out_steps (steps_back p back (steps_real p back c s.to target.leads target.real));
+              out_steps (turned_steps p back (steps_real p back c s.to target.leads target.real));
           tight = subst (λ l. AreMatchedLinks p nodes (l ∷ [])) (sym met_is) link.0;
         };
         connects = subst (λ l. Connects nodes l a b) (sym met_is) link.1;

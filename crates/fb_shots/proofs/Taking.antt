@@ -1,6 +1,6 @@
 -- Bytes that are taken before an answer.
-use Rattle.std.proofs.Common.{◌≡◌, ℕ, ◌+◌, ◌<◌, Bool, true, false, List, [], ◌∷◌, ◌++◌, Option, Some, None, IfSome, refl, sym, ap, subst, subst₂, ◌∙◌, inl, inr, ◌⊎◌, length, arith, append_assoc, append-nil, length-append}
-use Rattle.std.proofs.lemmas.Bool.{cases_Bool}
+use Rattle.std.proofs.Common.{◌≡◌, ℕ, ◌+◌, ◌<◌, true, false, List, [], ◌∷◌, ◌++◌, Option, Some, None, IfSome, refl, sym, ap, subst, subst₂, ◌∙◌, inl, inr, ◌⊎◌, length, arith, append_assoc, append-nil, length-append}
+use Rattle.std.proofs.lemmas.Bool.{cases_Bool, both_ways}
 use Rattle.std.specs.Io.KnownBytes.{Consumes, Keeps}
 use Rattle.std.proofs.KnownBytes.{Consumes-trans}
 use Rattle.fb_graph.specs.Limits.{DecodingGraph, IsShot, ShotValue}
@@ -68,12 +68,9 @@ later_read_out (Some x) (Some y) (Some z) bytes t e = e
 
 -- ---- bytes that are taken, and then more
 
-true_false : {P : Type 0} (b : Bool) → b ≡ true → b ≡ false → P
-true_false b t f = absurd cc
-
 pub open_before : (a b : Stream) (l m : Left) → OnlyTakes a b l m → b.finished ≡ false → a.finished ≡ false
 open_before a b l m p still = elim (cases_Bool a.finished) [
-  | inl done ↦ true_false b.finished (ap (λ (s : Stream). s.finished) (p.ended done) ∙ done) still
+  | inl done ↦ absurd (both_ways b.finished still (ap (λ (s : Stream). s.finished) (p.ended done) ∙ done))
   | inr still ↦ still
 ]
 
@@ -92,9 +89,9 @@ takes_nothing a l m still k = record {
   rest = sym (append-nil a.rest);
   room = refl;
   gives = known_kept (λ left later. follows a left ≡ follows a later) l m k (λ left. refl);
-  end = λ still done. true_false a.finished done still;
+  end = λ still done. absurd (both_ways a.finished still done);
   ended = λ done. refl;
-  unread = λ done. true_false a.finished done still;
+  unread = λ done. absurd (both_ways a.finished still done);
   others = refl;
 }
   where

@@ -1,6 +1,6 @@
 -- What one turn of a stream does: its bytes are fed, its reader is asked, and where that decides nothing a read is made.
 use Rattle.std.proofs.Common.{◌≡◌, ℕ, suc, ◌+◌, ◌-◌, ◌<◌, ◌≤◌, Bool, true, false, List, [], ◌++◌, length, if◌then◌else◌, Option, Some, None, IfSome, refl, sym, ap, subst, subst₂, ◌∙◌, inl, inr, append-nil, length-append, arith}
-use Rattle.std.proofs.lemmas.Bool.{cases_Bool, cond-false}
+use Rattle.std.proofs.lemmas.Bool.{cases_Bool, cond-false, both_ways}
 use Rattle.std.specs.Io.KnownBytes.{Consumes, Keeps}
 use Rattle.std.proofs.KnownBytes.{Consumes-nil}
 use Rattle.fb_graph.specs.Limits.{ShotValue}
@@ -31,9 +31,6 @@ pub when_empty : (a : Source) (piece : List ℕ) (u k l : ℕ) (stopped : Option
 when_empty a piece u k l stopped e =
     let made : List ℕ → Stream = λ rest. fed (record a { rest = rest }) u k l stopped in
     ap made (ap (λ (p : List ℕ). a.rest ++ p) e ∙ append-nil a.rest)
-
-true_false : {P : Type 0} (b : Bool) → b ≡ true → b ≡ false → P
-true_false b t f = absurd cc
 
 capped_onward : (l k : ℕ) (shot : ShotValue) (r : Shots) → k < l → capped (l - k) (in_front shot r) ≡ in_front shot (capped (l - (k + 1)) r)
 capped_onward l k shot r less =
@@ -88,7 +85,7 @@ gives_from a new shot u k l left h less = record {
   holds = settled_shot a new shot h.0;
   unfinished = λ still. still;
   prefix = λ still more. h.0.onward still more;
-  end = λ still done. true_false a.finished done still;
+  end = λ still done. absurd (both_ways a.finished still done);
   unread = λ done. refl;
   is_shot = h.1;
   counts = refl;
@@ -215,7 +212,7 @@ turn_ends a b u k l left h = subst (λ (s : Source). Ends (fed a u k l None) (fe
       rest = sym (append-nil a.rest);
       gives = each_some (λ x. follows (fed a u k l None) x ≡ only at_end) left (λ x. follows_end a u k l x h.0 h.1);
       finished = h.0;
-      end = λ still. true_false a.finished h.0 still;
+      end = λ still. absurd (both_ways a.finished still h.0);
       unread = λ done. refl;
       again = λ x. follows_end a u k l x h.0 h.1;
       others = refl;
@@ -235,9 +232,9 @@ takes_piece a u v k l before after bytes still taken room =
           (λ later. follows_open a u k l (bytes ++ later) still
           ∙ ap (capped (l - k)) (held_piece a.format a.graph a.rest bytes u v later room)
           ∙ sym (follows_open b v k l later still));
-      end = λ still done. true_false a.finished done still;
-      ended = λ done. true_false a.finished done still;
-      unread = λ done. true_false a.finished done still;
+      end = λ still done. absurd (both_ways a.finished still done);
+      ended = λ done. absurd (both_ways a.finished still done);
+      unread = λ done. absurd (both_ways a.finished still done);
       others = refl;
     }
 

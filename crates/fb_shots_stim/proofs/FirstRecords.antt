@@ -16,7 +16,7 @@ use Rattle.fb_shots_stim.specs.Text01.{line_01, begun_01, is_one, records_01, pr
 use Rattle.fb_shots_stim.specs.BlocksB8.{block_len, bits_of, is_set, records_b8, prefix_b8}
 use Rattle.fb_shots_stim.specs.TextDets.{line_dets, begun_dets, words_of, shot_of, records_dets, prefix_dets, is_nothing, is_blank, after_record}
 use Rattle.fb_shots_stim.proofs.LemmasB8.{prefix_short, block_gives}
-use Rattle.fb_shots_stim.proofs.LemmasDets.{Words, no_words, some_words}
+use Rattle.fb_shots_stim.proofs.LemmasDets.{Words, no_words, some_words, shot_none}
 
 -- ---- `01`
 
@@ -44,11 +44,6 @@ shot_some : (n : ℕ) (r : Words) (shot : List ℕ) → shot_of n r ≡ Ok (Some
 shot_some n (Ok None) shot e = absurd cc
 shot_some n (Ok (Some named)) shot e = (named, refl)
 shot_some n (Err kind) shot e = absurd cc
-
-shot_none : (n : ℕ) (r : Words) → shot_of n r ≡ Ok None → r ≡ Ok None
-shot_none n (Ok None) e = refl
-shot_none n (Ok (Some named)) e = absurd cc
-shot_none n (Err kind) e = absurd cc
 
 pub leaves_dets : FirstRecordLeaves records_dets prefix_dets (λ n. after_record)
 leaves_dets n bytes shot shots e =

@@ -226,3 +226,8 @@ at_newline n skipped line word so_far at e =
       in_line = refl;
       in_word = refl;
     }
+
+pub shot_none : (n : ℕ) (r : Words) → shot_of n r ≡ Ok None → r ≡ Ok None
+shot_none n (Ok None) e = refl
+shot_none n (Ok (Some named)) e = absurd cc
+shot_none n (Err kind) e = absurd cc

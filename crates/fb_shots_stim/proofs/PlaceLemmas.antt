@@ -12,7 +12,7 @@ use Rattle.fb_shots_stim.specs.StopsDets.{AnswersDets}
 use Rattle.fb_records.specs.Answers.{IfRefused}
 use Rattle.fb_records.proofs.AnswerLemmas.{refused_then}
 use Rattle.fb_records.proofs.PartLemmas.{part_none, part_two, take_part, part_more}
-use Rattle.fb_shots_stim.proofs.LemmasDets.{Words, never_none, at_start, at_more, at_space, at_newline}
+use Rattle.fb_shots_stim.proofs.LemmasDets.{Words, never_none, at_start, at_more, at_space, at_newline, shot_none}
 use Rattle.fb_shots_stim.proofs.StopsDets.{space_refused, newline_refused, newline_shot, open_so_far, end_refused, end_nothing, end_shot}
 
 -- ---- places
@@ -94,11 +94,6 @@ shot_cases n (Ok None) shot e = absurd cc
 shot_cases n (Ok (Some named)) shot e = (named, refl, cc)
 shot_cases n (Err kind) shot e = absurd cc
 
-blank_case : (n : ℕ) (r : Words) → shot_of n r ≡ Ok None → r ≡ Ok None
-blank_case n (Ok None) e = refl
-blank_case n (Ok (Some named)) e = absurd cc
-blank_case n (Err kind) e = absurd cc
-
 pub place_newline_shot : (old : RecordSoFar) (bytes : List ℕ) (line word seen : ℕ) (shot : List ℕ) → IsPlace old bytes line word seen → seen < length bytes → get_or bytes seen 0 ≡ 10
     → shot_of old.detectors (with_words old.detectors (Ok old.named) (if_not_empty (without_return (part_of bytes word seen)))) ≡ Ok (Some shot)
     → (finished : Bool) → AnswersDets old.detectors bytes finished (drop (seen + 1) bytes) (Shot shot)
@@ -118,7 +113,7 @@ place_newline old new bytes line word seen p lt newline same none e =
     ∙ ap (λ (l : List ℕ). l ++ get_or bytes seen 0 ∷ []) (part_two bytes line word seen first next)
     ∙ ap (λ (b : ℕ). (part_of bytes line word ++ part_of bytes word seen) ++ b ∷ []) newline)
     ∙ sym (append_assoc (take line bytes) (part_of bytes line word ++ part_of bytes word seen) (10 ∷ [])) in
-    let at = at_newline old.detectors (take line bytes) (part_of bytes line word) (part_of bytes word seen) old.named p.parts (blank_case old.detectors _ e) in
+    let at = at_newline old.detectors (take line bytes) (part_of bytes line word) (part_of bytes word seen) old.named p.parts (shot_none old.detectors _ e) in
     record {
       line_first = omega arith;
       word_next = omega arith;
@@ -161,7 +156,7 @@ place_end_nothing : (old new : RecordSoFar) (bytes : List ℕ) (line word seen :
     → shot_of old.detectors (with_words old.detectors (Ok old.named) (if_not_empty (without_return (part_of bytes word seen)))) ≡ Ok None
     → AnswersDets old.detectors bytes true bytes End × IsPlace new bytes line word seen
 place_end_nothing old new bytes line word seen p all same none e =
-    let blank = blank_case old.detectors _ e in
+    let blank = shot_none old.detectors _ e in
     let before = still_nothing old.detectors old.named _ blank in (
       end_nothing old.detectors (take line bytes) (part_of bytes line word) (part_of bytes word seen) old.named bytes true p.parts refl blank (end_cut old bytes line word seen p all),
       record {
