@@ -7,7 +7,7 @@ use Rattle.fb_book.specs.declared.entries.Kind.TheVariants.{Took}
 use Rattle.fb_book.specs.declared.entries.Entry.{Entry}
 use Rattle.fb_book.specs.declared.entries.Status.{Status}
 use Rattle.fb_book.specs.declared.entries.Status.TheVariants.{Held}
-use Rattle.fb_book.specs.Machine.{Kids, IsForest, is_child, status_at, is_idle, is_given, is_used, is_left, are_given, can_take, may, after, place, allows, replay, all_idle}
+use Rattle.fb_book.specs.Machine.{Kids, IsForest, is_child, status_at, is_idle, is_given, is_used, is_left, are_given, can_take, is_permitted, after, place, allows, replay, all_idle}
 use Rattle.fb_book.specs.Board.{IsBoard, is_ready, unsolved_of}
 use Rattle.fb_book.proofs.Statuses.{IsSetAt, here, there, IsTakenAt, taken, used, same, set_at, taken_at, within, child_given, MayTake}
 use Rattle.fb_book.proofs.Courses.{sum_taken}
@@ -175,14 +175,14 @@ pub record Taking (kids : Kids) (n : ℕ) (st : List Status) (e : Entry) (k : �
 pub allows_taking : (kids : Kids) (n : ℕ) (st : List Status) (e : Entry) (k : ℕ) → Taking kids n st e k
     → allows kids n st e ≡ true
 allows_taking kids n st e k t =
-    and_from (nat_lt e.node n) (may kids st e.kind e.worker (place n e)) (lt-ltb e.node n t.node)
-    (subst (λ x. may kids st x e.worker (place n e) ≡ true) (sym t.kind)
-    (subst (λ p. may kids st Took e.worker p ≡ true) (sym t.place) granted))
+    and_from (nat_lt e.node n) (is_permitted kids st e.kind e.worker (place n e)) (lt-ltb e.node n t.node)
+    (subst (λ x. is_permitted kids st x e.worker (place n e) ≡ true) (sym t.kind)
+    (subst (λ p. is_permitted kids st Took e.worker p ≡ true) (sym t.place) granted))
   where
     idle : can_take kids st k ≡ true
     idle = and_from (is_idle (status_at st k)) (are_given st (kids k)) (ap is_idle t.may.idle) t.may.given
 
-    granted : may kids st Took e.worker k ≡ true
+    granted : is_permitted kids st Took e.worker k ≡ true
     granted = and_from (not (list_any is_left st)) (can_take kids st k) (ap not t.may.unstarved) idle
 
 pub replay_taking : (kids : Kids) (n count : ℕ) (h : List Entry) (st : List Status) (e : Entry) (k : ℕ)

@@ -12,7 +12,7 @@ use Rattle.fb_book.specs.declared.entries.Kind.TheVariants.{Took, Gave, Left}
 use Rattle.fb_book.specs.declared.entries.Entry.{Entry}
 use Rattle.fb_book.specs.declared.entries.Status.{Status}
 use Rattle.fb_book.specs.declared.entries.Status.TheVariants.{Idle, Held, Given, Used, Left as Lost}
-use Rattle.fb_book.specs.Machine.{Kids, IsForest, is_child, status_at, is_idle, is_held_by, is_used, are_given, may, with_used, after, place, allows, replay, trace, all_idle, is_loss, is_loss_kind}
+use Rattle.fb_book.specs.Machine.{Kids, IsForest, is_child, status_at, is_idle, is_held_by, is_used, are_given, is_permitted, with_used, after, place, allows, replay, trace, all_idle, is_loss, is_loss_kind}
 use Rattle.fb_book.specs.Laws.{Told, entries_of}
 use Rattle.fb_book.proofs.Statuses.{IsSetAt, here, there, IsTakenAt, taken, used, same, set_at, taken_at, used_at, IsUsedAt, within, length-after, length-with_used, held_is, child_given, MayTake, may_take}
 
@@ -117,7 +117,7 @@ reached_start kids n count forest = record {
 -- an item that wasn't used is no child of one that was taken before
 abbrev pub Step : Kids → ℕ → ℕ → List Status → List Entry → Entry → Kind → Type 0
 Step kids n count st h e kind = IsReached kids n count st h → e.kind ≡ kind
-    → may kids st kind e.worker (place n e) ≡ true
+    → is_permitted kids st kind e.worker (place n e) ≡ true
     → IsReached kids n count (after kids st kind e.worker (place n e)) (h ++ e ∷ [])
 
 pub reached_took : (kids : Kids) (n count : ℕ) → IsForest kids → (st : List Status) (h : List Entry) (e : Entry)
@@ -297,9 +297,9 @@ pub reached_step : (kids : Kids) (n count : ℕ) → IsForest kids → (st : Lis
     → IsReached kids n count st h → allows kids n st e ≡ true
     → IsReached kids n count (after kids st e.kind e.worker (place n e)) (h ++ e ∷ [])
 reached_step kids n count forest st h e r allowed =
-    turn e.kind refl (and_parts (nat_lt e.node n) (may kids st e.kind e.worker (place n e)) allowed).1
+    turn e.kind refl (and_parts (nat_lt e.node n) (is_permitted kids st e.kind e.worker (place n e)) allowed).1
   where
-    turn : (kind : Kind) → e.kind ≡ kind → may kids st kind e.worker (place n e) ≡ true
+    turn : (kind : Kind) → e.kind ≡ kind → is_permitted kids st kind e.worker (place n e) ≡ true
         → IsReached kids n count (after kids st kind e.worker (place n e)) (h ++ e ∷ [])
     turn Took is may = reached_took kids n count forest st h e r is may
     turn Gave is may = reached_let kids n count st h e Gave Given given_facts r is may

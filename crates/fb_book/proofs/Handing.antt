@@ -6,7 +6,7 @@ use Rattle.std.proofs.lemmas.Option.{same_Some}
 use Rattle.fb_plan.specs.Plans.{JobValue, children_of, node_count}
 use Rattle.fb_book.specs.declared.entries.Entry.{Entry}
 use Rattle.fb_book.specs.Machine.{IsForest, is_child}
-use Rattle.fb_book.specs.Board.{Course, kids_in, kids_of, shifted}
+use Rattle.fb_book.specs.Board.{Course, kids_in, kids_of, shifted_children}
 use Rattle.fb_book.specs.Books.{AreOfChildren, HandsOut, IsKept, IsMadeOf, IsPieceAt, course_of, place_of}
 use Rattle.fb_book.proofs.Places.{kids_at}
 
@@ -37,14 +37,14 @@ module _ {P : Type 0} (job_of : P → JobValue) (slot_of node_of : P → ℕ) (m
           e ∙ (ap (λ z. Some (z, r)) (sym left_is) ∙ ap (λ z. Some (x, z)) (sym right_is))
 
       step : (o : Option (ℕ × ℕ)) → children_of job.plan n ≡ o
-          → shifted base (children_of job.plan n) ≡ Some (left, right)
+          → shifted_children base (children_of job.plan n) ≡ Some (left, right)
           → AreOfChildren job_of slot_of node_of made_of job s n a b
       step None e h =
-          let none : shifted base (children_of job.plan n) ≡ None = ap (shifted base) e in
+          let none : shifted_children base (children_of job.plan n) ≡ None = ap (shifted_children base) e in
           cc
       step (Some (l, r)) e h =
           let pair : ◌≡◌ {A = ℕ × ℕ} (base + l, base + r) (left, right) =
-          same_Some (base + l, base + r) (left, right) (sym (ap (shifted base) e) ∙ h) in
+          same_Some (base + l, base + r) (left, right) (sym (ap (shifted_children base) e) ∙ h) in
           let l_is : base + l ≡ left = ap (λ x. x.0) pair in
           let r_is : base + r ≡ right = ap (λ x. x.1) pair in
           let l_before : left < base + n = before left (or_left (left == left) (right == left) (eq-eqb left left refl)) in

@@ -11,7 +11,7 @@ use Rattle.fb_book.specs.declared.entries.Kind.TheVariants.{Took, Gave}
 use Rattle.fb_book.specs.declared.entries.Entry.{Entry}
 use Rattle.fb_book.specs.declared.entries.Status.{Status}
 use Rattle.fb_book.specs.declared.entries.Status.TheVariants.{Idle, Held, Given, Used, Left as Lost}
-use Rattle.fb_book.specs.Machine.{Kids, IsForest, is_child, status_at, is_idle, is_held, is_given, is_used, is_left, is_over, are_given, can_take, may, after, place, allows, replay, trace, all_idle, is_loss}
+use Rattle.fb_book.specs.Machine.{Kids, IsForest, is_child, status_at, is_idle, is_held, is_given, is_used, is_left, is_over, are_given, can_take, is_permitted, after, place, allows, replay, trace, all_idle, is_loss}
 use Rattle.fb_book.specs.Laws.{Told, entries_of, Progress, TellsStatus, TwoEach, TakenAndGiven, TakenAndGivenOn, CompleteOnSlots, ChildrenBefore, UsedByParent, DoneIsComplete}
 use Rattle.fb_book.proofs.Statuses.{child_given, MayTake, may_take}
 use Rattle.fb_book.proofs.Courses.{IsReached, reached, losses_of, loss_of}
@@ -224,9 +224,9 @@ children_before kids n count before rest took st forest stands is_took c child =
 
     close : Midway kids n (all_idle count) before took rest st → (w : ℕ) × (trace n c before ≡ (Took, w) ∷ (Gave, w) ∷ [])
     close m =
-        let both = and_parts (nat_lt took.node n) (may kids m.statuses took.kind took.worker p) m.allowed in
+        let both = and_parts (nat_lt took.node n) (is_permitted kids m.statuses took.kind took.worker p) m.allowed in
         let mine : MayTake kids m.statuses p =
-        may_take kids m.statuses took.worker p (ap (λ k. may kids m.statuses k took.worker p) (sym is_took) ∙ both.1) in
+        may_take kids m.statuses took.worker p (ap (λ k. is_permitted kids m.statuses k took.worker p) (sym is_took) ∙ both.1) in
         let r = reached kids n count forest before m.statuses m.stands in
         let given : status_at m.statuses c ≡ Given = child_given (kids p) m.statuses c mine.given child in
         let size : length m.statuses ≡ count = r.size in

@@ -6,7 +6,7 @@ use Rattle.fb_graph.specs.Parity.{is_in}
 use Rattle.fb_book.specs.declared.entries.Entry.{Entry}
 use Rattle.fb_book.specs.Machine.{IsCompleteOn, is_loss, is_over, status_at}
 use Rattle.fb_book.specs.Board.{kids_in}
-use Rattle.fb_book.specs.Laws.{IsRenumbered, RenumberingCompletes, renumbered}
+use Rattle.fb_book.specs.Laws.{IsRenumbered, RenumberingCompletes, renumbered_entry}
 use Rattle.fb_book.proofs.Renumbering.{injective, place_less, renumbering_allows, slot_below}
 use Rattle.fb_graph.proofs.OddLabels.{member_of_map}
 
@@ -22,10 +22,10 @@ renumbering_completes f units joins slots more on history r some forest complete
 
     no_losses : (es : List Entry) → All (λ e. e.slot < slots) es
         → All (λ e. is_in on e.slot ≡ true → is_loss e ≡ false) es
-        → All (λ e. is_in (map f on) e.slot ≡ true → is_loss e ≡ false) (map (renumbered f) es)
+        → All (λ e. is_in (map f on) e.slot ≡ true → is_loss e ≡ false) (map (renumbered_entry f) es)
     no_losses [] within none = All-nil (λ e. is_in (map f on) e.slot ≡ true → is_loss e ≡ false)
     no_losses (e ∷ es) within none =
-        All-cons (λ e. is_in (map f on) e.slot ≡ true → is_loss e ≡ false) (renumbered f e) (map (renumbered f) es)
+        All-cons (λ e. is_in (map f on) e.slot ≡ true → is_loss e ≡ false) (renumbered_entry f e) (map (renumbered_entry f) es)
         (λ at. one (member_of_map f on (f e.slot) at))
         (no_losses es (All-tail (λ e. e.slot < slots) e es within)
         (All-tail (λ e. is_in on e.slot ≡ true → is_loss e ≡ false) e es none))
@@ -37,7 +37,7 @@ renumbering_completes f units joins slots more on history r some forest complete
             (injective f n slots more r s e.slot (below s at) (All-head (λ e. e.slot < slots) e es within) is) at)
 
     close : IsRenumbered f (kids_in units joins) n slots more history complete.statuses
-        → IsCompleteOn (map f on) (kids_in units joins) n (more * n) (map (renumbered f) history)
+        → IsCompleteOn (map f on) (kids_in units joins) n (more * n) (map (renumbered_entry f) history)
     close h = record {
       inside = λ slot node at less. inside slot node less (member_of_map f on slot at);
       statuses = h.statuses;

@@ -11,7 +11,7 @@ use Rattle.fb_book.specs.declared.entries.Kind.TheVariants.{Gave, Left}
 use Rattle.fb_book.specs.declared.entries.Entry.{Entry}
 use Rattle.fb_book.specs.declared.entries.Status.{Status}
 use Rattle.fb_book.specs.declared.entries.Status.TheVariants.{Held, Given, Used, Left as Lost}
-use Rattle.fb_book.specs.Machine.{Kids, is_child, status_at, is_idle, is_held_by, is_given, is_used, is_left, are_given, can_take, may, after, place, allows, replay, all_idle}
+use Rattle.fb_book.specs.Machine.{Kids, is_child, status_at, is_idle, is_held_by, is_given, is_used, is_left, are_given, can_take, is_permitted, after, place, allows, replay, all_idle}
 use Rattle.fb_book.specs.Board.{IsBoard, is_ready, unsolved_of}
 use Rattle.fb_book.proofs.Statuses.{within, child_given, IsSetAt, here, there, set_at}
 use Rattle.fb_book.proofs.Boards.{replay_more, can_take_let, idle_let}
@@ -44,9 +44,9 @@ replay_gave kids n count h st e k stands l =
   where
     allowed : allows kids n st e ≡ true
     allowed =
-        and_from (nat_lt e.node n) (may kids st e.kind e.worker (place n e)) (lt-ltb e.node n l.node)
-        (subst (λ x. may kids st x e.worker (place n e) ≡ true) (sym l.kind_is)
-        (subst (λ p. may kids st Gave e.worker p ≡ true) (sym l.place_is) (held_by e.worker (status_at st k) l.held)))
+        and_from (nat_lt e.node n) (is_permitted kids st e.kind e.worker (place n e)) (lt-ltb e.node n l.node)
+        (subst (λ x. is_permitted kids st x e.worker (place n e) ≡ true) (sym l.kind_is)
+        (subst (λ p. is_permitted kids st Gave e.worker p ≡ true) (sym l.place_is) (held_by e.worker (status_at st k) l.held)))
 
 pub replay_left : (kids : Kids) (n count : ℕ) (h : List Entry) (st : List Status) (e : Entry) (k : ℕ)
     → replay kids n (all_idle count) h ≡ Some st → Letting n st e Left k
@@ -58,9 +58,9 @@ replay_left kids n count h st e k stands l =
   where
     allowed : allows kids n st e ≡ true
     allowed =
-        and_from (nat_lt e.node n) (may kids st e.kind e.worker (place n e)) (lt-ltb e.node n l.node)
-        (subst (λ x. may kids st x e.worker (place n e) ≡ true) (sym l.kind_is)
-        (subst (λ p. may kids st Left e.worker p ≡ true) (sym l.place_is) (held_by e.worker (status_at st k) l.held)))
+        and_from (nat_lt e.node n) (is_permitted kids st e.kind e.worker (place n e)) (lt-ltb e.node n l.node)
+        (subst (λ x. is_permitted kids st x e.worker (place n e) ≡ true) (sym l.kind_is)
+        (subst (λ p. is_permitted kids st Left e.worker p ≡ true) (sym l.place_is) (held_by e.worker (status_at st k) l.held)))
 
 -- an item that is held isn't over yet
 pub unsolved_held : (st : List Status) (w k : ℕ) → status_at st k ≡ Held w → 0 < sum_by unsolved_of st

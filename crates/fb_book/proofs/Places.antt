@@ -5,10 +5,10 @@ use Rattle.std.proofs.lemmas.Nat.{div-add-mod', div-mul-add, mod-mul-add, mod_be
 use Rattle.std.proofs.lemmas.Option.{slice_get-get_or, same_Some}
 use Rattle.std.specs.Prelude.{nat_lt}
 use Rattle.fb_book.specs.Machine.{IsForest, is_child}
-use Rattle.fb_book.specs.Board.{children_in, shifted, kids_in, after_unit, AreParents}
+use Rattle.fb_book.specs.Board.{children_in, shifted_children, kids_in, after_unit, AreParents}
 
 -- a child of a shifted pair is a shifted child
-pub child_of_shifted : (base : ℕ) (o : Option (ℕ × ℕ)) (c : ℕ) → is_child (shifted base o) c ≡ true
+pub child_of_shifted : (base : ℕ) (o : Option (ℕ × ℕ)) (c : ℕ) → is_child (shifted_children base o) c ≡ true
     → (m : ℕ) × (c ≡ base + m) × (is_child o m ≡ true)
 child_of_shifted base None c h = absurd (false≢true h)
 child_of_shifted base (Some (a, b)) c h = elim (or_cases (base + a == c) (base + b == c) h) [
@@ -17,7 +17,7 @@ child_of_shifted base (Some (a, b)) c h = elim (or_cases (base + a == c) (base +
 ]
 
 pub shifted_child : (base : ℕ) (o : Option (ℕ × ℕ)) (m : ℕ) → is_child o m ≡ true
-    → is_child (shifted base o) (base + m) ≡ true
+    → is_child (shifted_children base o) (base + m) ≡ true
 shifted_child base None m h = absurd (false≢true h)
 shifted_child base (Some (a, b)) m h = elim (or_cases (a == m) (b == m) h) [
   | inl e ↦ or_left (base + a == base + m) (base + b == base + m) (eq-eqb (base + a) (base + m) (ap (λ x. base + x) (eqb-true a m e)))
@@ -27,10 +27,10 @@ shifted_child base (Some (a, b)) m h = elim (or_cases (a == m) (b == m) h) [
 -- the children of node m in slot s
 pub kids_at : (units : ℕ) (joins : List (ℕ × ℕ)) (s m : ℕ) → m < units + length joins
     → kids_in units joins (s * (units + length joins) + m)
-    ≡ shifted (s * (units + length joins)) (children_in units joins m)
+    ≡ shifted_children (s * (units + length joins)) (children_in units joins m)
 kids_at units joins s m less =
-    ap (λ x. shifted (x * n) (children_in units joins ((s * n + m) % n))) (div-mul-add s n m less)
-    ∙ ap (λ x. shifted (s * n) (children_in units joins x)) (mod-mul-add s n m less)
+    ap (λ x. shifted_children (x * n) (children_in units joins ((s * n + m) % n))) (div-mul-add s n m less)
+    ∙ ap (λ x. shifted_children (s * n) (children_in units joins x)) (mod-mul-add s n m less)
   where
     n : ℕ
     n = units + length joins
@@ -53,8 +53,8 @@ unit_below units joins s m less none = step (nat_lt m units) refl
         some : is_some (kids_in units joins (base + m)) ≡ true
         some =
             ap is_some (kids_at units joins s m less)
-            ∙ (ap (λ b. is_some (shifted base (if b then None else slice_get joins (m - units)))) e
-            ∙ ap (λ o. is_some (shifted base o)) (slice_get-get_or joins (m - units) (0, 0) inside))
+            ∙ (ap (λ b. is_some (shifted_children base (if b then None else slice_get joins (m - units)))) e
+            ∙ ap (λ o. is_some (shifted_children base o)) (slice_get-get_or joins (m - units) (0, 0) inside))
 
 -- a child by its slot and node
 pub record ChildAt (units : ℕ) (joins : List (ℕ × ℕ)) (k c : ℕ) : Type 0 where
@@ -87,13 +87,13 @@ forest_of_places units joins some f = record {
     n = units + length joins
 
     apart : (k : ℕ) (pair : ℕ × ℕ) (o : Option (ℕ × ℕ)) → children_in units joins (k % n) ≡ o
-        → shifted (k / n * n) (children_in units joins (k % n)) ≡ Some pair → (pair.0 == pair.1) ≡ false
+        → shifted_children (k / n * n) (children_in units joins (k % n)) ≡ Some pair → (pair.0 == pair.1) ≡ false
     apart k pair None e h =
-        let none : shifted (k / n * n) (children_in units joins (k % n)) ≡ None = ap (shifted (k / n * n)) e in
+        let none : shifted_children (k / n * n) (children_in units joins (k % n)) ≡ None = ap (shifted_children (k / n * n)) e in
         cc
     apart k pair (Some (a, b)) e h =
         let base : ℕ = k / n * n in
-        let is : Some (base + a, base + b) ≡ Some pair = sym (ap (shifted base) e) ∙ h in
+        let is : Some (base + a, base + b) ≡ Some pair = sym (ap (shifted_children base) e) ∙ h in
         let pair_is : (base + a, base + b) ≡ pair = same_Some (base + a, base + b) pair is in
         let differ : (a == b) ≡ false = f.differ (k % n) (a, b) e in
         let left : pair.0 ≡ base + a = ap (λ x. x.0) (sym pair_is) in
@@ -125,7 +125,7 @@ parent_is units joins parents p k m some e =
     let n : ℕ = units + length joins in
     let (below, child) = p.sound (k % n) m e in
     subst (λ o. is_child o k ≡ true) (sym (kids_at units joins (k / n) m below))
-    (subst (λ x. is_child (shifted (k / n * n) (children_in units joins m)) x ≡ true) (div-add-mod' k n)
+    (subst (λ x. is_child (shifted_children (k / n * n) (children_in units joins m)) x ≡ true) (div-add-mod' k n)
     (shifted_child (k / n * n) (children_in units joins m) (k % n) child))
 
 pub no_parent : (units : ℕ) (joins : List (ℕ × ℕ)) (parents : List (Option ℕ)) → AreParents units joins parents
@@ -159,7 +159,7 @@ fusion_node units joins m less more =
     ap (λ b. is_some (if b then None else slice_get joins (m - units))) (le-ltb m units more)
     ∙ ap is_some (slice_get-get_or joins (m - units) (0, 0) (omega (arith, less, more)))
 
-pub some_shifted : (base : ℕ) (o : Option (ℕ × ℕ)) → is_some (shifted base o) ≡ is_some o
+pub some_shifted : (base : ℕ) (o : Option (ℕ × ℕ)) → is_some (shifted_children base o) ≡ is_some o
 some_shifted base None = refl
 some_shifted base (Some pair) = refl
 
@@ -167,7 +167,7 @@ pub unit_place : (units : ℕ) (joins : List (ℕ × ℕ)) (k : ℕ) → k % (un
     → kids_in units joins k ≡ None
 unit_place units joins k less =
     let n : ℕ = units + length joins in
-    ap (shifted (k / n * n)) (unit_node units joins (k % n) less)
+    ap (shifted_children (k / n * n)) (unit_node units joins (k % n) less)
 
 pub unit_of_place : (units : ℕ) (joins : List (ℕ × ℕ)) (k : ℕ) → 0 < units → kids_in units joins k ≡ None
     → k % (units + length joins) < units

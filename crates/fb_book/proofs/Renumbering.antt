@@ -12,9 +12,9 @@ use Rattle.fb_book.specs.declared.entries.Kind.TheVariants.{Took, Gave, Left}
 use Rattle.fb_book.specs.declared.entries.Entry.{Entry}
 use Rattle.fb_book.specs.declared.entries.Status.{Status}
 use Rattle.fb_book.specs.declared.entries.Status.TheVariants.{Idle, Held, Given, Used, Left as Lost}
-use Rattle.fb_book.specs.Machine.{Kids, is_child, status_at, is_idle, is_held_by, is_given, is_left, is_used, are_given, may, with_used, after, place, allows, replay, all_idle}
-use Rattle.fb_book.specs.Board.{kids_in, children_in, shifted}
-use Rattle.fb_book.specs.Laws.{IsRenumbering, IsRenumbered, RenumberingAllows, renumbered}
+use Rattle.fb_book.specs.Machine.{Kids, is_child, status_at, is_idle, is_held_by, is_given, is_left, is_used, are_given, is_permitted, with_used, after, place, allows, replay, all_idle}
+use Rattle.fb_book.specs.Board.{kids_in, children_in, shifted_children}
+use Rattle.fb_book.specs.Laws.{IsRenumbering, IsRenumbered, RenumberingAllows, renumbered_entry}
 use Rattle.fb_book.proofs.History.{none_at, none_from}
 use Rattle.fb_book.proofs.Handing.{one_item}
 use Rattle.fb_book.proofs.Places.{kids_at, shifted_child}
@@ -87,7 +87,7 @@ module _ (f : ℕ → ℕ) (n slots more : ℕ) (r : IsRenumbering f slots more)
 
   put_used : (st new : List Status) → Goes f n slots more st new → (s : ℕ) → s < slots → (o : Option (ℕ × ℕ))
       → ((c : ℕ) → is_child o c ≡ true → c < n)
-      → Goes f n slots more (with_used (shifted (s * n) o) st) (with_used (shifted (f s * n) o) new)
+      → Goes f n slots more (with_used (shifted_children (s * n) o) st) (with_used (shifted_children (f s * n) o) new)
   put_used st new g s s_less None low = g
   put_used st new g s s_less (Some (a, b)) low =
       put (set st (s * n + a) Used) (set new (f s * n + a) Used)
@@ -96,7 +96,7 @@ module _ (f : ℕ → ℕ) (n slots more : ℕ) (r : IsRenumbering f slots more)
 
   given_too : (st new : List Status) → Goes f n slots more st new → (s : ℕ) → s < slots → (o : Option (ℕ × ℕ))
       → ((c : ℕ) → is_child o c ≡ true → c < n)
-      → are_given new (shifted (f s * n) o) ≡ are_given st (shifted (s * n) o)
+      → are_given new (shifted_children (f s * n) o) ≡ are_given st (shifted_children (s * n) o)
   given_too st new g s s_less None low = refl
   given_too st new g s s_less (Some (a, b)) low =
       ap (λ x. is_given x && is_given (status_at new (f s * n + b)))
@@ -117,14 +117,14 @@ module _ (f : ℕ → ℕ) (n slots more : ℕ) (r : IsRenumbering f slots more)
               ∙ (ap is_left (g.same s m s_less m_less) ∙ none_at is_left refl st none (s * n + m))
 
   module _ (kids : Kids) (tree : ℕ → Option (ℕ × ℕ))
-      (kids_are : (s m : ℕ) → m < n → kids (s * n + m) ≡ shifted (s * n) (tree m))
+      (kids_are : (s m : ℕ) → m < n → kids (s * n + m) ≡ shifted_children (s * n) (tree m))
       (low : (m c : ℕ) → m < n → is_child (tree m) c ≡ true → c < n) where
     went : (st new : List Status) → Goes f n slots more st new → (e : Entry) → allows kids n st e ≡ true
-        → (e.slot < slots) × (allows kids n new (renumbered f e) ≡ true)
+        → (e.slot < slots) × (allows kids n new (renumbered_entry f e) ≡ true)
         × Goes f n slots more (after kids st e.kind e.worker (place n e))
-        (after kids new e.kind e.worker (place n (renumbered f e)))
+        (after kids new e.kind e.worker (place n (renumbered_entry f e)))
     went st new g e allowed =
-        let both = and_parts (nat_lt e.node n) (may kids st e.kind e.worker (place n e)) allowed in
+        let both = and_parts (nat_lt e.node n) (is_permitted kids st e.kind e.worker (place n e)) allowed in
         turn e.kind (ltb-true e.node n both.0) both.0 both.1
       where
         held_below : e.node < n → is_held_by e.worker (status_at st (place n e)) ≡ true → e.slot < slots
@@ -136,12 +136,12 @@ module _ (f : ℕ → ℕ) (n slots more : ℕ) (r : IsRenumbering f slots more)
         Moved : Option (ℕ × ℕ) → Option (ℕ × ℕ) → Type 0
         Moved children images =
             Goes f n slots more (set (with_used children st) (place n e) (Held e.worker))
-            (set (with_used images new) (place n (renumbered f e)) (Held e.worker))
+            (set (with_used images new) (place n (renumbered_entry f e)) (Held e.worker))
 
-        turn : (kind : Kind) → e.node < n → nat_lt e.node n ≡ true → may kids st kind e.worker (place n e) ≡ true
-            → (e.slot < slots) × ((nat_lt e.node n && may kids new kind e.worker (place n (renumbered f e))) ≡ true)
+        turn : (kind : Kind) → e.node < n → nat_lt e.node n ≡ true → is_permitted kids st kind e.worker (place n e) ≡ true
+            → (e.slot < slots) × ((nat_lt e.node n && is_permitted kids new kind e.worker (place n (renumbered_entry f e))) ≡ true)
             × Goes f n slots more (after kids st kind e.worker (place n e))
-            (after kids new kind e.worker (place n (renumbered f e)))
+            (after kids new kind e.worker (place n (renumbered_entry f e)))
         turn Took less node may_it =
             let m = may_take kids st e.worker (place n e) may_it in
             let s_less = slot_below n e.slot e.node slots less (subst (λ c. place n e < c) g.size m.less) in
@@ -152,8 +152,8 @@ module _ (f : ℕ → ℕ) (n slots more : ℕ) (r : IsRenumbering f slots more)
             let idle = ap is_idle (g.same e.slot e.node s_less less ∙ m.idle) in (
               s_less,
               and_from _ _ node (and_from _ _ (ap not (unlost st new g m.unstarved)) (and_from _ _ idle given)),
-              subst (λ o. Moved o (kids (place n (renumbered f e)))) (sym old_kids)
-                  (subst (Moved (shifted (e.slot * n) (tree e.node))) (sym new_kids)
+              subst (λ o. Moved o (kids (place n (renumbered_entry f e)))) (sym old_kids)
+                  (subst (Moved (shifted_children (e.slot * n) (tree e.node))) (sym new_kids)
                   (put _ _ (put_used st new g e.slot s_less (tree e.node) (λ c. low e.node c less))
                   e.slot e.node s_less less (Held e.worker))),
             )
@@ -171,7 +171,7 @@ module _ (f : ℕ → ℕ) (n slots more : ℕ) (r : IsRenumbering f slots more)
             )
 
     went_on : (es : List Entry) (st new end : List Status) → Goes f n slots more st new → replay kids n st es ≡ Some end
-        → (last : List Status) × (replay kids n new (map (renumbered f) es) ≡ Some last)
+        → (last : List Status) × (replay kids n new (map (renumbered_entry f) es) ≡ Some last)
         × Goes f n slots more end last × All (λ e. e.slot < slots) es
     went_on [] st new end g h =
         let ends : st ≡ end = some_is st end h in
@@ -185,19 +185,19 @@ module _ (f : ℕ → ℕ) (n slots more : ℕ) (r : IsRenumbering f slots more)
         next = after kids st e.kind e.worker (place n e)
 
         new_next : List Status
-        new_next = after kids new e.kind e.worker (place n (renumbered f e))
+        new_next = after kids new e.kind e.worker (place n (renumbered_entry f e))
 
         step : (b : Bool) → allows kids n st e ≡ b → (if b then replay kids n next es else None) ≡ Some end
             → (Goes f n slots more next new_next → replay kids n next es ≡ Some end
-            → (last : List Status) × (replay kids n new_next (map (renumbered f) es) ≡ Some last)
+            → (last : List Status) × (replay kids n new_next (map (renumbered_entry f) es) ≡ Some last)
             × Goes f n slots more end last × All (λ e. e.slot < slots) es)
-            → (last : List Status) × (replay kids n new (map (renumbered f) (e ∷ es)) ≡ Some last)
+            → (last : List Status) × (replay kids n new (map (renumbered_entry f) (e ∷ es)) ≡ Some last)
             × Goes f n slots more end last × All (λ e. e.slot < slots) (e ∷ es)
         step true may e' rest =
             let (s_less, allowed, g') = went st new g e may in
             let (last, stands, goes, all) = rest g' e' in (
               last,
-              ap (λ b. if b then replay kids n new_next (map (renumbered f) es) else None) allowed ∙ stands,
+              ap (λ b. if b then replay kids n new_next (map (renumbered_entry f) es) else None) allowed ∙ stands,
               goes,
               All-cons (λ e. e.slot < slots) e es s_less all,
             )
@@ -226,12 +226,12 @@ renumbering_allows f units joins slots more history st r forest stands =
 
     low : (m c : ℕ) → m < n → is_child (children_in units joins m) c ≡ true → c < n
     low m c less h =
-        let at : kids_in units joins (0 * n + m) ≡ shifted (0 * n) (children_in units joins m) = kids_at units joins 0 m less in
+        let at : kids_in units joins (0 * n + m) ≡ shifted_children (0 * n) (children_in units joins m) = kids_at units joins 0 m less in
         let before : 0 * n + c < 0 * n + m =
         forest.before (0 * n + m) (0 * n + c) (ap (λ o. is_child o (0 * n + c)) at ∙ shifted_child (0 * n) (children_in units joins m) c h) in
         omega (arith, before, less)
 
-    close : (last : List Status) × (replay (kids_in units joins) n (all_idle (more * n)) (map (renumbered f) history) ≡ Some last)
+    close : (last : List Status) × (replay (kids_in units joins) n (all_idle (more * n)) (map (renumbered_entry f) history) ≡ Some last)
         × Goes f n slots more st last × All (λ e. e.slot < slots) history
         → IsRenumbered f (kids_in units joins) n slots more history st
     close (last, ends, goes, all) = record {

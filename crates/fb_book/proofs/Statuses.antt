@@ -6,7 +6,7 @@ use Rattle.std.specs.List.{list_any}
 use Rattle.fb_book.specs.declared.entries.Kind.TheVariants.{Took}
 use Rattle.fb_book.specs.declared.entries.Status.{Status}
 use Rattle.fb_book.specs.declared.entries.Status.TheVariants.{Idle, Held, Given, Used, Left as Lost}
-use Rattle.fb_book.specs.Machine.{Kids, is_child, status_at, is_idle, is_held_by, is_given, is_used, is_left, are_given, can_take, may, with_used, after}
+use Rattle.fb_book.specs.Machine.{Kids, is_child, status_at, is_idle, is_held_by, is_given, is_used, is_left, are_given, can_take, is_permitted, with_used, after}
 
 -- the status at j, old and new, where that at i became s
 pub data IsSetAt (i : ℕ) (s : Status) (j : ℕ) (old new : Status) : Type 0 where
@@ -132,7 +132,7 @@ pub record MayTake (kids : Kids) (st : List Status) (k : ℕ) : Type 0 where
   pub given : are_given st (kids k) ≡ true
   pub less : k < length st
 
-pub may_take : (kids : Kids) (st : List Status) (w k : ℕ) → may kids st Took w k ≡ true → MayTake kids st k
+pub may_take : (kids : Kids) (st : List Status) (w k : ℕ) → is_permitted kids st Took w k ≡ true → MayTake kids st k
 may_take kids st w k h =
     let outer = and_parts (not (list_any is_left st)) (can_take kids st k) h in
     let inner = and_parts (is_idle (status_at st k)) (are_given st (kids k)) outer.1 in

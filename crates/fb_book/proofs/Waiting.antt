@@ -10,7 +10,7 @@ use Rattle.fb_book.specs.declared.entries.Kind.{Kind}
 use Rattle.fb_book.specs.declared.entries.Kind.TheVariants.{Took, Gave, Left}
 use Rattle.fb_book.specs.declared.entries.Entry.{Entry}
 use Rattle.fb_book.specs.declared.entries.Status.TheVariants.{Held, Given, Left as Lost}
-use Rattle.fb_book.specs.Machine.{is_child, status_at, is_given, is_used, may, after, all_idle}
+use Rattle.fb_book.specs.Machine.{is_child, status_at, is_given, is_used, is_permitted, after, all_idle}
 use Rattle.fb_book.specs.Board.{Course, kids_of, nodes_of, item_count, statuses_of, IsRun, place_in, with_entry, Adds, Lets, TakesUnit, TakesFusion}
 use Rattle.fb_book.specs.Books.{course_of, IsKept, IsPieceAt}
 use Rattle.fb_plan.specs.Plans.{JobValue}
@@ -19,7 +19,7 @@ use Rattle.fb_book.proofs.History.{Midway, midway}
 
 -- what an entry did to the statuses
 pub record Added (old : Course) (new : Course) (kind : Kind) (worker k : ℕ) : Type 0 where
-  pub allowed : may (kids_of old) (statuses_of old) kind worker k ≡ true
+  pub allowed : is_permitted (kids_of old) (statuses_of old) kind worker k ≡ true
   pub statuses : statuses_of new ≡ after (kids_of old) (statuses_of old) kind worker k
 
 pub added : (old new : Course) (kind : Kind) (worker slot node : ℕ) → IsRun old → Adds old new kind worker slot node
@@ -40,8 +40,8 @@ added old new kind worker slot node run a =
     close m =
         let same : m.statuses ≡ statuses_of old = same_Some m.statuses (statuses_of old) (sym m.stands ∙ run) in
         record {
-          allowed = subst (λ s. may (kids_of old) s kind worker (place_in old slot node) ≡ true) same
-              (and_parts (nat_lt node (nodes_of old)) (may (kids_of old) m.statuses kind worker (place_in old slot node)) m.allowed).1;
+          allowed = subst (λ s. is_permitted (kids_of old) s kind worker (place_in old slot node) ≡ true) same
+              (and_parts (nat_lt node (nodes_of old)) (is_permitted (kids_of old) m.statuses kind worker (place_in old slot node)) m.allowed).1;
           statuses = sym (subst (λ s. after (kids_of old) s kind worker (place_in old slot node) ≡ statuses_of next) same
               (same_Some (after (kids_of old) m.statuses kind worker (place_in old slot node)) (statuses_of next) m.onward));
         }

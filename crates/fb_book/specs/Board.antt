@@ -12,14 +12,14 @@ use Rattle.fb_book.specs.Machine.{Kids, IsForest, is_child, status_at, is_idle, 
 abbrev pub children_in : ℕ → List (ℕ × ℕ) → ℕ → Option (ℕ × ℕ)
 children_in units joins n = if nat_lt n units then None else slice_get joins (n - units)
 
-abbrev pub shifted : ℕ → Option (ℕ × ℕ) → Option (ℕ × ℕ)
-shifted base None = None
-shifted base (Some pair) = Some (base + pair.0, base + pair.1)
+abbrev pub shifted_children : ℕ → Option (ℕ × ℕ) → Option (ℕ × ℕ)
+shifted_children base None = None
+shifted_children base (Some pair) = Some (base + pair.0, base + pair.1)
 
 -- the places of an item's children, which are in its slot
 abbrev pub kids_in : ℕ → List (ℕ × ℕ) → Kids
 kids_in units joins k =
-    let n = units + length joins in shifted (k / n * n) (children_in units joins (k % n))
+    let n = units + length joins in shifted_children (k / n * n) (children_in units joins (k % n))
 
 -- a run: the units and joins of a tree, the number of slots, and the history
 pub record Course : Type 0 where

@@ -103,13 +103,13 @@ pub record IsRenumbering (f : ℕ → ℕ) (slots more : ℕ) : Type 0 where
   pub rising : (s t : ℕ) → s < t → t < slots → f s < f t
   pub below : (s : ℕ) → s < slots → f s < more
 
-abbrev pub renumbered : (ℕ → ℕ) → Entry → Entry
-renumbered f e = record e { slot = f e.slot }
+abbrev pub renumbered_entry : (ℕ → ℕ) → Entry → Entry
+renumbered_entry f e = record e { slot = f e.slot }
 
 -- The history over more slots is allowed, and leads each item to the status that it had by its former number.
 pub record IsRenumbered (f : ℕ → ℕ) (kids : Kids) (n slots more : ℕ) (history : List Entry) (st : List Status) : Type 0 where
   pub statuses : List Status
-  pub stands : replay kids n (all_idle (more * n)) (map (renumbered f) history) ≡ Some statuses
+  pub stands : replay kids n (all_idle (more * n)) (map (renumbered_entry f) history) ≡ Some statuses
   pub same : (s node : ℕ) → s < slots → node < n → status_at statuses (f s * n + node) ≡ status_at st (s * n + node)
   pub slots_are : All (λ e. e.slot < slots) history
 
@@ -126,4 +126,4 @@ RenumberingCompletes = (f : ℕ → ℕ) (units : ℕ) (joins : List (ℕ × ℕ
     (history : List Entry) → IsRenumbering f slots more → 0 < units → IsForest (kids_in units joins)
     → IsCompleteOn on (kids_in units joins) (units + length joins) (slots * (units + length joins)) history
     → IsCompleteOn (map f on) (kids_in units joins) (units + length joins) (more * (units + length joins))
-    (map (renumbered f) history)
+    (map (renumbered_entry f) history)

@@ -81,10 +81,10 @@ abbrev pub can_take : Kids → List Status → ℕ → Bool
 can_take kids st k = is_idle (status_at st k) && are_given st (kids k)
 
 -- what a worker may do with the item at this place
-abbrev pub may : Kids → List Status → Kind → ℕ → ℕ → Bool
-may kids st Took w k = not (list_any is_left st) && can_take kids st k
-may kids st Gave w k = is_held_by w (status_at st k)
-may kids st Left w k = is_held_by w (status_at st k)
+abbrev pub is_permitted : Kids → List Status → Kind → ℕ → ℕ → Bool
+is_permitted kids st Took w k = not (list_any is_left st) && can_take kids st k
+is_permitted kids st Gave w k = is_held_by w (status_at st k)
+is_permitted kids st Left w k = is_held_by w (status_at st k)
 
 abbrev pub with_used : Option (ℕ × ℕ) → List Status → List Status
 with_used None st = st
@@ -101,7 +101,7 @@ abbrev pub place : ℕ → Entry → ℕ
 place n e = e.slot * n + e.node
 
 abbrev pub allows : Kids → ℕ → List Status → Entry → Bool
-allows kids n st e = nat_lt e.node n && may kids st e.kind e.worker (place n e)
+allows kids n st e = nat_lt e.node n && is_permitted kids st e.kind e.worker (place n e)
 
 -- the statuses after all entries, or none where one of them isn't allowed
 abbrev pub replay : Kids → ℕ → List Status → List Entry → Option (List Status)

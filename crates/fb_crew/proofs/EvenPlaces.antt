@@ -14,7 +14,7 @@ use Rattle.fb_graph.specs.declared.parts.Row.TheVariants.{Best, Odd}
 use Rattle.fb_plan.specs.Plans.{PlanTree, IsTree, node_count}
 use Rattle.fb_book.specs.Board.{kids_in}
 use Rattle.fb_book.specs.Machine.{IsComplete, IsCompleteOn, IsForest, AreSlots}
-use Rattle.fb_book.specs.Laws.{IsRenumbering, renumbered}
+use Rattle.fb_book.specs.Laws.{IsRenumbering, renumbered_entry}
 use Rattle.fb_book.specs.declared.entries.Entry.{Entry}
 use Rattle.fb_book.proofs.History.{complete_on_slots}
 use Rattle.fb_book.proofs.Images.{renumbering_completes}
@@ -172,19 +172,19 @@ get_at : {A : Type 0} (ys : List A) (x : A) (xs : List A) (d : A) → get_or (ys
 get_at [] x xs d = refl
 get_at (y ∷ ys) x xs d = get_at ys x xs d
 
-with_more : (places : List ℕ) (es : List Entry) (e : Entry) → with_places places (es ++ e ∷ []) ≡ with_places places es ++ renumbered (λ s. get_or places s 0) e ∷ []
+with_more : (places : List ℕ) (es : List Entry) (e : Entry) → with_places places (es ++ e ∷ []) ≡ with_places places es ++ renumbered_entry (λ s. get_or places s 0) e ∷ []
 with_more places [] e = refl
-with_more places (x ∷ es) e = ap (λ xs. renumbered (λ s. get_or places s 0) x ∷ xs) (with_more places es e)
+with_more places (x ∷ es) e = ap (λ xs. renumbered_entry (λ s. get_or places s 0) x ∷ xs) (with_more places es e)
 
 seam : (places : List ℕ) (done : List Entry) (x : Entry) (rest : List Entry) (i : ℕ) (y z : Entry) → length done ≡ i
     → y ≡ get_or (done ++ x ∷ rest) i y → z ≡ get_or (done ++ x ∷ rest) i z
     → slice_set (done ++ x ∷ rest) i (record { kind = z.kind; worker = z.worker; slot = slice_index_or places y.slot 0; node = z.node })
-    ≡ done ++ renumbered (λ s. get_or places s 0) x ∷ rest
+    ≡ done ++ renumbered_entry (λ s. get_or places s 0) x ∷ rest
 seam places done x rest i y z e at_y at_z =
     let is_y : y ≡ x = at_y ∙ subst (λ k. get_or (done ++ x ∷ rest) k y ≡ x) e (get_at done x rest y) in
     let is_z : z ≡ x = at_z ∙ subst (λ k. get_or (done ++ x ∷ rest) k z ≡ x) e (get_at done x rest z) in
-    rw (is_y, is_z) (subst (λ k. slice_set (done ++ x ∷ rest) k (renumbered (λ s. get_or places s 0) x)
-    ≡ done ++ renumbered (λ s. get_or places s 0) x ∷ rest) e (set-append_seam done x rest (renumbered (λ s. get_or places s 0) x)))
+    rw (is_y, is_z) (subst (λ k. slice_set (done ++ x ∷ rest) k (renumbered_entry (λ s. get_or places s 0) x)
+    ≡ done ++ renumbered_entry (λ s. get_or places s 0) x ∷ rest) e (set-append_seam done x rest (renumbered_entry (λ s. get_or places s 0) x)))
 
 -- the next entry gets its place
 pub renumbered_next : (places : List ℕ) (old now : List Entry) (i : ℕ) (y z : Entry) → i < length old
@@ -209,10 +209,10 @@ renumbered_next places old now i y z less is at_y at_z = go (is ∙ ap (λ xs. d
     taken = omega (arith, length-take i old, less)
 
     as_many : length done ≡ i
-    as_many = length-map (take i old) (renumbered (λ s. get_or places s 0)) ∙ taken
+    as_many = length-map (take i old) (renumbered_entry (λ s. get_or places s 0)) ∙ taken
 
-    ends : done ++ renumbered (λ s. get_or places s 0) x ∷ rest ≡ with_places places (take (i + 1) old) ++ rest
-    ends = sym (append_assoc done (renumbered (λ s. get_or places s 0) x ∷ []) rest)
+    ends : done ++ renumbered_entry (λ s. get_or places s 0) x ∷ rest ≡ with_places places (take (i + 1) old) ++ rest
+    ends = sym (append_assoc done (renumbered_entry (λ s. get_or places s 0) x ∷ []) rest)
         ∙ ap (λ xs. xs ++ rest) (sym (with_more places (take i old) x) ∙ ap (with_places places) (sym (take_more old i y less)))
 
     go : now ≡ done ++ x ∷ rest
@@ -296,9 +296,9 @@ module _ (t : PlanTree) (tree : IsTree t) (workers more : ℕ) (odd : List (Opti
     subst (λ on. IsCompleteOn on (kids_in t.units t.joins) n (more * n) (with_places places history)) (images places)
         (renumbering_completes at t.units t.joins (length places) more all history (renumbering enough) some_units forest
         (complete_on_slots all (kids_in t.units t.joins) n (length places * n) history all_slots complete)),
-    All-map (λ e. e.slot < length places) (λ e. is_in places e.slot ≡ true) (renumbered at) (λ e less. in_places places e.slot less) history
+    All-map (λ e. e.slot < length places) (λ e. is_in places e.slot ≡ true) (renumbered_entry at) (λ e less. in_places places e.slot less) history
         (renumbering_allows at t.units t.joins (length places) more history complete.statuses (renumbering enough) forest complete.stands).slots_are,
-    All-map (λ e. e.worker ≤ workers) (λ e. e.worker ≤ workers) (renumbered at) (λ e le. le) history by,
+    All-map (λ e. e.worker ≤ workers) (λ e. e.worker ≤ workers) (renumbered_entry at) (λ e le. le) history by,
   )
 
 -- the entries of a complete history are of its slots

@@ -8,7 +8,7 @@ use Rattle.fb_graph.specs.declared.parts.Row.TheVariants.{Odd}
 use Rattle.fb_plan.specs.Plans.{PlanTree, IsPlan, IsTree, node_count}
 use Rattle.fb_book.specs.Board.{kids_in}
 use Rattle.fb_book.specs.Machine.{IsComplete}
-use Rattle.fb_book.specs.Laws.{renumbered}
+use Rattle.fb_book.specs.Laws.{renumbered_entry}
 use Rattle.fb_book.specs.declared.entries.Entry.{Entry}
 use Rattle.fb_crew.specs.Windows.{AreRows, IsHistoryOf, IsShotRow, SolvedValue, shot_at}
 
@@ -51,7 +51,7 @@ rows_by (None ∷ vs) (r ∷ rs) = r ∷ rows_by vs rs
 
 -- the entries with the places of their shots for their slots
 abbrev pub with_places : List ℕ → List Entry → List Entry
-with_places places history = map (renumbered (λ s. get_or places s 0)) history
+with_places places history = map (renumbered_entry (λ s. get_or places s 0)) history
 
 abbrev pub SortingLaws : Type 0
 SortingLaws = (g : DecodingGraph) (t : PlanTree) (workers : ℕ) (shots : List ShotValue) (odd : List (Option ℕ)) (even : List ShotValue)

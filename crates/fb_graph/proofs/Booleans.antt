@@ -1,8 +1,9 @@
--- When two tests say the same.
-use Rattle.std.proofs.Common.{◌≡◌, ◌||◌, Bool, true, false, refl, sym, ◌≤◌, arith, ap, ℕ, cond}
+-- Tests: when two say the same, and what they count.
+use Rattle.std.proofs.Common.{◌≡◌, ◌||◌, Bool, true, false, refl, sym, ◌≤◌, arith, ap, ℕ, cond, ◌+◌}
 use Rattle.fb_graph.specs.Counts.{as_count}
+use Rattle.fb_graph.specs.Parity.{differ}
 
--- where each of them follows from the other
+-- where each of two tests follows from the other, they are one
 pub same_bool : (a b : Bool) → (a ≡ true → b ≡ true) → (b ≡ true → a ≡ true) → a ≡ b
 same_bool true b there back = sym (there refl)
 same_bool false true there back = back refl
@@ -24,3 +25,9 @@ as_count-mono false b h = omega arith
 pub cond-le : (b : Bool) (n : ℕ) → cond b n 0 ≤ n
 cond-le true n = omega arith
 cond-le false n = omega arith
+
+pub cond-differ : (a b : Bool) (x : ℕ) → (a ≡ true → b ≡ true → ⊥) → cond (differ a b) x 0 ≡ cond a x 0 + cond b x 0
+cond-differ true true x h = absurd (h refl refl)
+cond-differ true false x h = omega arith
+cond-differ false true x h = omega arith
+cond-differ false false x h = refl

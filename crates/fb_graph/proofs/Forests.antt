@@ -4,7 +4,7 @@ use Rattle.std.specs.Option.{IsSome}
 use Rattle.std.proofs.lemmas.Bool.{both_ways, false≢true, false_from_ne_true}
 use Rattle.std.proofs.lemmas.List.Elements.{All-head, All-tail, All-weaker}
 use Rattle.std.proofs.lemmas.List.Sums.{sum_by-cons}
-use Rattle.fb_graph.specs.Parity.{differ, is_in}
+use Rattle.fb_graph.specs.Parity.{is_in}
 use Rattle.fb_graph.specs.Problem.{Problem, crosses, with_defects}
 use Rattle.fb_graph.specs.Certificate.{AreDistinct, IsOddCut, IsPacking, total_value}
 use Rattle.fb_graph.specs.Dual.{Node, AreApart, IsDual, IsHeld, IsNestedOrApart, IsWithin, AreGrown, AreOuterApart, HasRadius, all_cuts, layers_of, leaves, defects_of, first_vertices, is_empty, cover_of, height_of, is_live, is_outer, top_at}
@@ -14,6 +14,7 @@ use Rattle.fb_graph.proofs.Nodes.{All-flat_map, All-pieces, All-top, layers_with
 use Rattle.fb_graph.proofs.Sets.{is_in-All}
 use Rattle.fb_graph.specs.Nests.{IsForest, IsFilled, AreJoinedLater, HasSources, first_set}
 use Rattle.fb_graph.proofs.Among.{IsAmong, All_among, among_All, outer_or_not, among_outer, top_among, covered_by, cover_among, in_concat, leaf_among}
+use Rattle.fb_graph.proofs.Booleans.{cond-differ}
 
 -- all layers hold what the first one holds
 pub first_held : (n : Node) (v : ℕ) → AreGrown (layers_of n) → is_in (first_set n) v ≡ true → All (λ c. is_in c.vertices v ≡ true) (layers_of n)
@@ -175,7 +176,7 @@ dual_of p nodes base = record {
       (All-weaker (λ c. IsUnder nodes c.vertices)
       (λ c. (x : ℕ) → cond (crosses c.vertices e) x 0 ≡ cond (is_in c.vertices e.first) x 0 + cond (is_in c.vertices e.second) x 0)
       (λ c under x.
-      one (is_in c.vertices e.first) (is_in c.vertices e.second) x
+      cond-differ (is_in c.vertices e.first) (is_in c.vertices e.second) x
       (λ h k.
       differs (
         under.node.name,
@@ -189,12 +190,6 @@ dual_of p nodes base = record {
       (d, leaf, covered_by nodes d base.apart over.node over.among over.outer within ∙ ap Some over.named, same);
 }
   where
-    one : (a b : Bool) (x : ℕ) → (a ≡ true → b ≡ true → ⊥) → cond (differ a b) x 0 ≡ cond a x 0 + cond b x 0
-    one true true x h = absurd (h refl refl)
-    one true false x h = omega arith
-    one false true x h = omega arith
-    one false false x h = refl
-
     real : (v : ℕ) (o : Option ℕ) → cover_of nodes v ≡ o → IsSome (cover_of nodes v) → p.is_real v ≡ true
     real v None e some = absurd (false≢true (subst IsSome e some))
     real v (Some name) e some =

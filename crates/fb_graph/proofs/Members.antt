@@ -1,4 +1,4 @@
--- Sets of vertices as lists: members, distinct lists and parities after a push.
+-- Sets of vertices as lists: members, distinct lists and parities of longer, shorter and mapped ones.
 use Rattle.std.proofs.Common.{◌≡◌, ◌⊎◌, inl, inr, ℕ, ◌+◌, ◌<◌, ◌==◌, Bool, true, false, ◌||◌, List, [], ◌∷◌, ◌++◌, length, take, get_or, refl, sym, ◌∙◌, ap, map, subst}
 use Rattle.std.proofs.Math.Bool.{or-false}
 use Rattle.std.proofs.lemmas.Bool.{eq-eqb, or_from, or_parts, or_right, or_cases, eqb-true, false≢true}

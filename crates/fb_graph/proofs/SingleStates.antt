@@ -15,7 +15,7 @@ use Rattle.fb_graph.specs.declared.parts.Edge.{Edge}
 use Rattle.fb_graph.specs.declared.parts.Cut.{Cut}
 use Rattle.fb_graph.proofs.Sets.{is_in-head, is_in-cases}
 use Rattle.fb_graph.proofs.CutSums.{weigh, weigh-either}
-use Rattle.fb_graph.proofs.Booleans.{cond-le}
+use Rattle.fb_graph.proofs.Booleans.{cond-le, cond-differ}
 use Rattle.fb_graph.specs.Singles.{Single, node_of, nodes_of, vertices_of, SinglesAreDual, BeginningIsDual}
 
 -- the cuts of the nodes, one each
@@ -138,16 +138,10 @@ load_split singles e differs =
     (All-map (λ c. (x : ℕ) → cond (crosses c.vertices e) x 0 ≡ cond (is_in c.vertices e.first) x 0 + cond (is_in c.vertices e.second) x 0)
     cut_of singles
     (λ i d less x.
-    one (is_in ((get_or singles i d).vertex ∷ []) e.first) (is_in ((get_or singles i d).vertex ∷ []) e.second) x
+    cond-differ (is_in ((get_or singles i d).vertex ∷ []) e.first) (is_in ((get_or singles i d).vertex ∷ []) e.second) x
     (λ first second.
     differs i d less (eqb-true _ _ (sym (or-false ((get_or singles i d).vertex == e.first)) ∙ first))
     (eqb-true _ _ (sym (or-false ((get_or singles i d).vertex == e.second)) ∙ second)))))
-  where
-    one : (a b : Bool) (x : ℕ) → (a ≡ true → b ≡ true → ⊥) → cond (differ a b) x 0 ≡ cond a x 0 + cond b x 0
-    one true true x h = absurd (h refl refl)
-    one true false x h = omega arith
-    one false true x h = omega arith
-    one false false x h = refl
 
 pub vertex_in : (singles : List Single) → All (λ s. is_in (vertices_of singles) s.vertex ≡ true) singles
 vertex_in [] = All-nil (λ s. is_in [] s.vertex ≡ true)

@@ -45,9 +45,9 @@ numbers_of d =
     Ok (n, triples, vertices)))))))))
 
 -- what the rules of a graph say of its numbers
-abbrev pub judged : Result DecodingGraph GraphFault → Result DecodingGraph TextFault
-judged (Ok g) = Ok g
-judged (Err fault) = Err (Graph fault)
+abbrev pub graph_or_fault : Result DecodingGraph GraphFault → Result DecodingGraph TextFault
+graph_or_fault (Ok g) = Ok g
+graph_or_fault (Err fault) = Err (Graph fault)
 
 -- the numbers that a text has
 abbrev pub numbers_of_text : List ℕ → Result (ℕ × List (ℕ × ℕ × ℤ) × List ℕ) TextFault
@@ -57,4 +57,4 @@ numbers_of_text bytes =
 
 -- the graph of a text, or the first rule that the text breaks
 abbrev pub graph_of_text : List ℕ → Result DecodingGraph TextFault
-graph_of_text bytes = with_result (numbers_of_text bytes) (λ numbers. judged (graph_of numbers.0 numbers.1 numbers.2))
+graph_of_text bytes = with_result (numbers_of_text bytes) (λ numbers. graph_or_fault (graph_of numbers.0 numbers.1 numbers.2))

@@ -19,7 +19,7 @@ use Rattle.fb_obstacles.specs.declared.looking.Look.TheVariants.{Within, Blocked
 use Rattle.fb_obstacles.specs.declared.ends.Cover.{Cover}
 use Rattle.fb_obstacles.specs.declared.ends.Cover.TheVariants.{Plus, Minus, Out, Bare, Virtual}
 use Rattle.fb_obstacles.specs.Obstacles.{BearsStep, IsTightFrom, Obstructs, grows, residue_of, roles_by, shrinks}
-use Rattle.fb_obstacles.specs.InternalLooks.{cover_in_role, cover_by, cover_at, far_end, bounded, look_if, edge_look, Limits}
+use Rattle.fb_obstacles.specs.InternalLooks.{cover_in_role, cover_by, cover_at, far_end, bounded_look, look_if, edge_look, Limits}
 
 -- what the cover of a vertex says of it
 abbrev Covers : Problem → Roles → List Node → ℕ → Cover → Type 0
@@ -90,7 +90,7 @@ minus_over p role_of nodes v Virtual (at, real) = ap (passes (roles_by role_of).
 -- a bound, or the obstacle where it is 0
 pub bounded_limits : (Allowed : ℕ → Type 0) (Stands : Obstacle → Type 0) (bound : ℕ) (o : Obstacle)
     → ((j : ℕ) → j ≤ bound → Allowed j) → ((j : ℕ) → Allowed j → j ≤ bound) → (bound ≡ 0 → Stands o)
-    → Limits Allowed Stands (bounded bound o)
+    → Limits Allowed Stands (bounded_look bound o)
 bounded_limits Allowed Stands bound o below above none = step (bound == 0) refl
   where
     step : (b : Bool) → (bound == 0) ≡ b → Limits Allowed Stands (cond b (Blocked o) (Within bound))
@@ -179,7 +179,7 @@ edge_limits p role_of nodes r k dual are parity even less = split (under_or_not 
 
     one_first : (AreUnderOne nodes e.first e.second → ⊥) → (o : Obstacle) → is_covered_by roles.is_plus nodes e.first ≡ true
         → is_covered_by roles.is_plus nodes e.second ≡ false → is_covered_by roles.is_minus nodes e.second ≡ false
-        → (residue ≡ 0 → Stands o) → Limits Allowed Stands (bounded residue o)
+        → (residue ≡ 0 → Stands o) → Limits Allowed Stands (bounded_look residue o)
     one_first differs o plus none free stands =
         bounded_limits Allowed Stands residue o
         (λ j le.
@@ -193,7 +193,7 @@ edge_limits p role_of nodes r k dual are parity even less = split (under_or_not 
 
     one_second : (AreUnderOne nodes e.first e.second → ⊥) → (o : Obstacle) → is_covered_by roles.is_plus nodes e.second ≡ true
         → is_covered_by roles.is_plus nodes e.first ≡ false → is_covered_by roles.is_minus nodes e.first ≡ false
-        → (residue ≡ 0 → Stands o) → Limits Allowed Stands (bounded residue o)
+        → (residue ≡ 0 → Stands o) → Limits Allowed Stands (bounded_look residue o)
     one_second differs o plus none free stands =
         bounded_limits Allowed Stands residue o
         (λ j le.
@@ -207,7 +207,7 @@ edge_limits p role_of nodes r k dual are parity even less = split (under_or_not 
 
     both : (AreUnderOne nodes e.first e.second → ⊥) → (o : Obstacle) → is_covered_by roles.is_plus nodes e.first ≡ true
         → is_covered_by roles.is_plus nodes e.second ≡ true
-        → (residue ≡ 0 → Stands o) → Limits Allowed Stands (bounded (residue / 2) o)
+        → (residue ≡ 0 → Stands o) → Limits Allowed Stands (bounded_look (residue / 2) o)
     both differs o plus more stands =
         bounded_limits Allowed Stands (residue / 2) o
         (λ j le.

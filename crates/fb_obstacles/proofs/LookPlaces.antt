@@ -1,7 +1,7 @@
 -- The obstacle that a look at an edge finds is at that edge.
 use Rattle.std.proofs.Common.{ℕ, ◌≡◌, ◌/◌, ◌==◌, Bool, true, false, if◌then◌else◌, Option, Some, None, refl, ap, subst}
 use Rattle.std.proofs.lemmas.Bool.{false≢true}
-use Rattle.fb_obstacles.specs.InternalLooks.{bounded, look_if}
+use Rattle.fb_obstacles.specs.InternalLooks.{bounded_look, look_if}
 use Rattle.fb_obstacles.specs.Obstacles.{IsAtEdge}
 use Rattle.fb_obstacles.specs.declared.ends.Cover.{Cover}
 use Rattle.fb_obstacles.specs.declared.ends.Cover.TheVariants.{Plus, Minus, Out, Bare, Virtual}
@@ -20,7 +20,7 @@ found_in other Clear = other
 found_in other (Within j) = other
 found_in other (Blocked o) = o
 
-bounded_there : (bound k : ℕ) (x o : Obstacle) → IsAtEdge k x → bounded bound x ≡ Blocked o → IsAtEdge k o
+bounded_there : (bound k : ℕ) (x o : Obstacle) → IsAtEdge k x → bounded_look bound x ≡ Blocked o → IsAtEdge k o
 bounded_there bound k x o at is = step (bound == 0) is
   where
     step : (b : Bool) → (if b then Blocked x else Within bound) ≡ Blocked o → IsAtEdge k o

@@ -62,16 +62,16 @@ far_by p role_of e ends =
     far_end (cover_by role_of (p.is_real e.first) (node_by ends.first))
     (cover_by role_of (p.is_real e.second) (node_by ends.second))
 
-abbrev pub bounded : ℕ → Obstacle → Look
-bounded bound o = if bound == 0 then Blocked o else Within bound
+abbrev pub bounded_look : ℕ → Obstacle → Look
+bounded_look bound o = if bound == 0 then Blocked o else Within bound
 
 -- how far a plus node may grow towards this end of the edge
 abbrev pub look_at : Cover → ℕ → ℕ → Look
-look_at (Plus n) residue k = bounded (residue / 2) (obstacle.PlusPair k)
+look_at (Plus n) residue k = bounded_look (residue / 2) (obstacle.PlusPair k)
 look_at Minus residue k = Clear
-look_at Out residue k = bounded residue (obstacle.Meet k)
-look_at Bare residue k = bounded residue (obstacle.Absorb k)
-look_at Virtual residue k = bounded residue (obstacle.Boundary k)
+look_at Out residue k = bounded_look residue (obstacle.Meet k)
+look_at Bare residue k = bounded_look residue (obstacle.Absorb k)
+look_at Virtual residue k = bounded_look residue (obstacle.Boundary k)
 
 abbrev pub look_if : Option Cover → ℕ → ℕ → Look
 look_if None residue k = Clear

@@ -1,6 +1,6 @@
 ghost use Rattle.std.specs.Prelude.{◌≡◌, ◌<◌, length};
 ghost use Rattle.fb_graph.specs.Problem.{edge_at};
-ghost use Rattle.fb_obstacles.specs.InternalLooks.{bounded, both_looks, edge_look, far_by, fits_within, look_at, look_if};
+ghost use Rattle.fb_obstacles.specs.InternalLooks.{bounded_look, both_looks, edge_look, far_by, fits_within, look_at, look_if};
 
 use crate::ends::{Cover, Ends};
 use crate::obstacle::Obstacle;
@@ -44,8 +44,8 @@ impl Look {
 }
 
 /// The bound, or the obstacle where it is 0.
-fn bounded(bound: u64, obstacle: Obstacle) -> Look
-    ensures { result ≡ bounded bound obstacle }
+fn bounded_look(bound: u64, obstacle: Obstacle) -> Look
+    ensures { result ≡ bounded_look bound obstacle }
 {
     if bound == 0 {
         Look::Blocked(obstacle)
@@ -60,11 +60,11 @@ fn look_at(far: Cover, residue: u64, edge: u32) -> Look
     ensures { result ≡ look_at far residue edge }
 {
     match far {
-        Cover::Plus(_) => bounded(residue / 2, Obstacle::PlusPair(edge)),
+        Cover::Plus(_) => bounded_look(residue / 2, Obstacle::PlusPair(edge)),
         Cover::Minus => Look::Clear,
-        Cover::Out => bounded(residue, Obstacle::Meet(edge)),
-        Cover::Bare => bounded(residue, Obstacle::Absorb(edge)),
-        Cover::Virtual => bounded(residue, Obstacle::Boundary(edge)),
+        Cover::Out => bounded_look(residue, Obstacle::Meet(edge)),
+        Cover::Bare => bounded_look(residue, Obstacle::Absorb(edge)),
+        Cover::Virtual => bounded_look(residue, Obstacle::Boundary(edge)),
     }
 }
 

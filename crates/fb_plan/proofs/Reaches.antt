@@ -3,7 +3,7 @@ use Rattle.std.proofs.Common.{ℕ, ◌+◌, ◌-◌, ◌<◌, ◌≤◌, ◌==�
 use Rattle.std.proofs.lemmas.Bool.{cases_eq, cases_lt, cond-true, cond-false, eq-eqb, ne_eqb}
 use Rattle.std.proofs.lemmas.List.{get_or-set_same, get_or-set_other, get_or-take, get_or_past, length-take-le}
 use Rattle.std.proofs.lemmas.Option.{none-some}
-use Rattle.fb_plan.specs.Reaches.{IsReach, reach_at, widened}
+use Rattle.fb_plan.specs.Reaches.{IsReach, reach_at, widened_reach}
 use Rattle.fb_plan.specs.declared.reach.Reach.{Reach}
 
 -- what is known of one of the first vertices holds of all
@@ -44,7 +44,7 @@ reach_same owners i n r less other is = record {
 
 -- a vertex is passed that is the node's own
 pub reach_more : (owners : List (Option ℕ)) (i n : ℕ) (r : Reach) → i < length owners → get_or owners i None ≡ Some n
-    → IsReach (take i owners) n r → IsReach (take (i + 1) owners) n (widened r i)
+    → IsReach (take i owners) n r → IsReach (take (i + 1) owners) n (widened_reach r i)
 reach_more owners i n r less here is = step (cases_eq r.first r.end)
   where
     last : get_or (take (i + 1) owners) i None ≡ Some n
@@ -52,13 +52,13 @@ reach_more owners i n r less here is = step (cases_eq r.first r.end)
 
     from : (first : ℕ) → (cond (r.first == r.end) i r.first) ≡ first
         → IsReach (take (i + 1) owners) n (record { first = first; end = i + 1 })
-        → IsReach (take (i + 1) owners) n (widened r i)
+        → IsReach (take (i + 1) owners) n (widened_reach r i)
     from first e reach = subst (λ k. IsReach (take (i + 1) owners) n (record { first = k; end = i + 1 })) (sym e) reach
 
     greatest : get_or (take (i + 1) owners) (i + 1 - 1) None ≡ Some n
     greatest = subst (λ k. get_or (take (i + 1) owners) k None ≡ Some n) (omega arith) last
 
-    step : (r.first ≡ r.end) ⊎ (r.first ≢ r.end) → IsReach (take (i + 1) owners) n (widened r i)
+    step : (r.first ≡ r.end) ⊎ (r.first ≢ r.end) → IsReach (take (i + 1) owners) n (widened_reach r i)
     step (inl same) =
         from i (cond-true (r.first == r.end) i r.first (eq-eqb r.first r.end same))
         (record {
@@ -109,7 +109,7 @@ reaches_same owners nodes i reaches less none are n node =
     reach_same owners i n (reach_at reaches n) less (λ own. none-some n (sym none ∙ own)) (are n node)
 
 pub reaches_more : (owners : List (Option ℕ)) (nodes i m : ℕ) (reaches : List Reach) (r : Reach) → i < length owners
-    → get_or owners i None ≡ Some m → length reaches ≡ nodes → r ≡ widened (reach_at reaches m) i
+    → get_or owners i None ≡ Some m → length reaches ≡ nodes → r ≡ widened_reach (reach_at reaches m) i
     → ((n : ℕ) → n < nodes → IsReach (take i owners) n (reach_at reaches n))
     → (n : ℕ) → n < nodes → IsReach (take (i + 1) owners) n (reach_at (set reaches m r) n)
 reaches_more owners nodes i m reaches r less here count is are n node = step (cases_eq n m)
@@ -124,7 +124,7 @@ reaches_more owners nodes i m reaches r less here count is are n node = step (ca
     step (inl same) =
         subst (IsReach (take (i + 1) owners) n)
         (sym (ap (λ k. get_or (set reaches m r) k none) same
-        ∙ (get_or-set_same reaches m r none (omega (arith, count, node, same)) ∙ (is ∙ ap (λ k. widened (reach_at reaches k) i) (sym same)))))
+        ∙ (get_or-set_same reaches m r none (omega (arith, count, node, same)) ∙ (is ∙ ap (λ k. widened_reach (reach_at reaches k) i) (sym same)))))
         (reach_more owners i n (reach_at reaches n) less (here ∙ ap Some (sym same)) (are n node))
     step (inr differ) =
         subst (IsReach (take (i + 1) owners) n) (sym (get_or-set_other reaches m n r none differ))

@@ -17,5 +17,5 @@ abbrev pub reach_at : List Reach → ℕ → Reach
 reach_at reaches n = get_or reaches n (record { first = 0; end = 0 })
 
 -- the reach with one more vertex, which is greater than all before it
-abbrev pub widened : Reach → ℕ → Reach
-widened r v = record { first = if r.first == r.end then v else r.first; end = v + 1 }
+abbrev pub widened_reach : Reach → ℕ → Reach
+widened_reach r v = record { first = if r.first == r.end then v else r.first; end = v + 1 }

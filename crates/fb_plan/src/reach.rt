@@ -2,7 +2,7 @@
 
 ghost use Rattle.std.specs.Prelude.{◌≡◌, ℕ, ◌+◌, ◌<◌, ◌≤◌, ◌^◌, length, get_or, Some, None, IfOk};
 ghost use Rattle.fb_graph.specs.Limits.{most_vertices};
-ghost use Rattle.fb_plan.specs.Reaches.{IsReach, reach_at, widened};
+ghost use Rattle.fb_plan.specs.Reaches.{IsReach, reach_at, widened_reach};
 
 use fb_graph::NoMemory;
 use std::alloc::Global;
@@ -19,7 +19,7 @@ impl Reach {
     /// With one more vertex, which is greater than all before it.
     fn with(self, v: u32) -> Reach
         requires { v + 1 < 2 ^ 32 }
-        ensures { result ≡ widened self v }
+        ensures { result ≡ widened_reach self v }
     {
         let first = if self.first == self.end {
             v

@@ -11,13 +11,14 @@ use Rattle.fb_graph.proofs.Among.{All_among, among_All}
 use Rattle.fb_graph.proofs.NestParts.{names_live}
 use Rattle.fb_regions.specs.declared.marks.Mark.{Mark}
 use Rattle.fb_regions.specs.declared.region.Region.{Region}
-use Rattle.fb_regions.specs.InternalNodes.{reparented_region, children_from, nodes_of}
+use Rattle.fb_regions.specs.InternalNodes.{reparented_region, nodes_of}
 use Rattle.fb_regions.specs.InternalPlaces.{place_in, AreJoinedAbove, IsIndex, IsIndexBefore, IsJoinedIn}
 use Rattle.fb_regions.specs.InternalKept.{HasParent, HaveParents, IsKept}
 use Rattle.fb_regions.proofs.Found.{found, names_of, read_place}
 use Rattle.fb_regions.proofs.Joined.{adopted_names, same_name}
 use Rattle.fb_regions.proofs.Split.{still_among}
 use Rattle.fb_regions.proofs.ByName.{first_placed, names, not_placed, placed, placed_mapped, placed_own, placed_push, placed_push_own, placed_removed, placed_set, removed_own}
+use Rattle.fb_regions.proofs.RenamedRegions.{joiner_known}
 
 pub index_set : (rs : List Region) (places : List (Option ℕ)) (i : ℕ) (old new : Region) → IsIndex rs places → old ≡ get_or rs i old → i < length rs
     → new.name ≡ old.name → IsIndex (set rs i new) places
@@ -114,18 +115,9 @@ module _ (p : Problem) (regions : List Region) (marks : List (Option Mark)) (kep
   pub joined_above : AreJoinedAbove regions
   joined_above = by regions distinct_names kept.parents
     where
-      known : (rs : List Region) (q x : ℕ) → is_in (children_from rs q) x ≡ true → is_in (names rs) q ≡ true
-      known [] q x h = h
-      known (r ∷ rs) q x h = at (r.name == q) h (known rs q x)
-        where
-          at : (b : Bool) → is_in (if b then r.children.items else children_from rs q) x ≡ true
-              → (is_in (children_from rs q) x ≡ true → is_in (names rs) q ≡ true) → (b || is_in (names rs) q) ≡ true
-          at true k rest = refl
-          at false k rest = rest k
-
       up : (rs : List Region) (name : ℕ) (o : Option ℕ) → HasParent (nodes_of marks regions) rs name o → IsJoinedIn rs o
       up rs name None h = tt
-      up rs name (Some q) h = known rs q name h
+      up rs name (Some q) h = joiner_known rs q name h
 
       by : (rs : List Region) → AreDistinct (names rs) → HaveParents (nodes_of marks regions) rs → AreJoinedAbove rs
       by [] distinct parents = tt

@@ -18,7 +18,7 @@ use Rattle.fb_plan.specs.Plans.{PlanTree}
 use Rattle.fb_run.specs.Decoding.{AnswersBatch, AreBatches, Batch, all_rows, batch_text, batches_text, events_text}
 use Rattle.fb_run.specs.InternalBatches.{AddsCounts}
 use Rattle.fb_run.specs.Rows.{Counts, counts_of, is_odd}
-use Rattle.fb_run.specs.Writes.{counted, counts_in}
+use Rattle.fb_run.specs.Writes.{tally_with, counts_in}
 use Rattle.fb_run.specs.declared.batches.Tally.{Tally}
 use Rattle.fb_report.specs.Texts.{rows_text}
 use Rattle.fb_words.specs.Words.{Decoding}
@@ -62,12 +62,12 @@ rows_added-take tally more rows i le adds = omega (arith, rows_added tally more 
 
 -- one more of the rows is counted
 pub counts-take : (tally now : Tally) (rows : List Row) (i : ℕ) (row : Row) → i < length rows → row ≡ get_or rows i row → AddsCounts tally now (take i rows)
-    → AddsCounts tally (counted now row) (take (i + 1) rows)
-counts-take tally now rows i row less is adds = subst (AddsCounts tally (counted now row))
+    → AddsCounts tally (tally_with now row) (take (i + 1) rows)
+counts-take tally now rows i row less is adds = subst (AddsCounts tally (tally_with now row))
     (ap (λ r. take i rows ++ r ∷ []) is ∙ sym (take_more rows i row less))
     (by_row row)
   where
-    by_row : (r : Row) → AddsCounts tally (counted now r) (take i rows ++ r ∷ [])
+    by_row : (r : Row) → AddsCounts tally (tally_with now r) (take i rows ++ r ∷ [])
     by_row (Best edges weight cuts) = record {
       best = omega (arith, adds.best, count_by-append is_best (take i rows) (Best edges weight cuts ∷ []));
       odd = omega (arith, adds.odd, count_by-append is_odd (take i rows) (Best edges weight cuts ∷ []));

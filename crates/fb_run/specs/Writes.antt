@@ -19,8 +19,8 @@ abbrev pub counts_in : Tally → Counts
 counts_in t = record { best = t.best; odd = t.odd }
 
 -- one row more
-abbrev pub counted : Tally → Row → Tally
-counted t r = if is_best r then record t { best = t.best + 1 } else record t { odd = t.odd + 1 }
+abbrev pub tally_with : Tally → Row → Tally
+tally_with t r = if is_best r then record t { best = t.best + 1 } else record t { odd = t.odd + 1 }
 
 -- The batches of the shots that the input gives were written, and their rows are counted so.
 pub record WritesBatches (Input : List ShotValue → Type 0) (request : Decoding) (g : DecodingGraph) (t : PlanTree) (old new : Option (List ℕ)) (tally : Tally) : Type 0 where

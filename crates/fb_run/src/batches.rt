@@ -11,7 +11,7 @@ ghost use Rattle.fb_report.specs.Texts.{rows_text};
 ghost use Rattle.fb_crew.specs.Windows.{AreRows, IsHistoryOf};
 ghost use Rattle.fb_run.specs.Decoding.{batch_text, cause_of, events_text};
 ghost use Rattle.fb_run.specs.InternalBatches.{AddsCounts, TakesBatch, batch_in};
-ghost use Rattle.fb_run.specs.Writes.{WritesBatches, WritesFirstBatches, counted, counts_in};
+ghost use Rattle.fb_run.specs.Writes.{WritesBatches, WritesFirstBatches, tally_with, counts_in};
 ghost use Rattle.fb_words.specs.Seen.{seen_decoding};
 
 use fb_crew::{Crew, Entry, Gate, Kind, Window};
@@ -68,10 +68,10 @@ impl Tally {
     }
 
     /// The tally with one row more.
-    fn counted(self, row: &Row) -> Tally
+    fn with_row(self, row: &Row) -> Tally
         requires best { self.best < 2 ^ 32 }
         requires odd { self.odd < 2 ^ 32 }
-        ensures { result ≡ counted self row.now }
+        ensures { result ≡ tally_with self row.now }
     {
         match row {
             Row::Best { .. } => Tally {
@@ -318,7 +318,7 @@ fn add_rows(outbox: &mut Outbox, tally: Tally, rows: &[Row]) -> Result<Tally, No
         let Ok(()) = write_row(outbox, tally.rows() as u32, row) else {
             return Err(NoMemory);
         };
-        tally = tally.counted(row);
+        tally = tally.with_row(row);
     }
     Ok(tally)
 }

@@ -7,7 +7,7 @@ ghost use Rattle.fb_check.specs.Ends.{MayFollowReadFault};
 ghost use Rattle.fb_inputs.specs.Moments.{moment};
 ghost use Rattle.fb_run.specs.RunEndings.{EndsRight, RequestEnds, HasReadOut, IfParse, ReadsOut, cause_of_fault};
 ghost use Rattle.fb_words.specs.Taken.{is_taken};
-ghost use Rattle.fb_words.specs.Seen.{seen};
+ghost use Rattle.fb_words.specs.Seen.{seen_request};
 ghost use Rattle.fb_words.specs.Words.{IsInRanges, request_of};
 
 use crate::decoding::decode;
@@ -103,11 +103,11 @@ fn run_request<F: Files, O: Sink, G: Gate, R: Threads + Wait + Sync>(
     gate: &G,
 ) -> Cause
     requires asked { IsEmptyIfKnown (F.asked files.old) }
-    requires ranges { IsInRanges (seen request.now) }
-    ensures ends { RequestEnds (seen request.now)
+    requires ranges { IsInRanges (seen_request request.now) }
+    ensures ends { RequestEnds (seen_request request.now)
         (moment (F.named files.old) (F.left files.old) (F.asked files.old) (F.faults files.old) (O.taken out.old))
         (moment (F.named files.new) (F.left files.new) (F.asked files.new) (F.faults files.new) (O.taken out.new)) result }
-    ensures at_end { ReadsOut (seen request.now) (F.named files.old) (F.left files.new) result }
+    ensures at_end { ReadsOut (seen_request request.now) (F.named files.old) (F.left files.new) result }
     ensures read_fault { result ≡ Cause.ReadFault → Rose (F.faults files.old) (F.faults files.new) }
     ensures read_later { F.faults files.old ≤ F.faults files.new }
     ensures read_risen { F.faults files.old < F.faults files.new → MayFollowReadFault result }

@@ -1,5 +1,5 @@
 -- Two matched nodes attached to a tree: what stays watched, and that less is left to do.
-use Rattle.std.proofs.Common.{ℕ, ◌≡◌, ◌<◌, ◌⊎◌, inl, inr, Bool, true, false, List, ◌∷◌, map, length, All, Some, refl, sym, ap, ◌∙◌, if◌then◌else◌}
+use Rattle.std.proofs.Common.{ℕ, ◌≡◌, ◌<◌, ◌⊎◌, inl, inr, true, false, List, ◌∷◌, map, length, All, Some, sym, ap, ◌∙◌, if◌then◌else◌}
 use Rattle.fb_graph.specs.Parity.{is_in}
 use Rattle.fb_graph.specs.Problem.{Problem, edge_at}
 use Rattle.fb_graph.specs.Certificate.{AreDistinct}
@@ -20,7 +20,7 @@ use Rattle.fb_obstacles.specs.Watched.{Watched}
 use Rattle.fb_regions.specs.declared.roles.Role.TheVariants.{Plus, Minus, Out}
 use Rattle.fb_trees.proofs.Mapped.{minus_moved, plus_moved}
 use Rattle.fb_trees.specs.Branches.{Grown}
-use Rattle.fb_trees.specs.Rooted.{attached, role_in}
+use Rattle.fb_trees.specs.Rooted.{attached_grown, role_in}
 use Rattle.fb_half.specs.Translations.{link_by}
 use Rattle.fb_search.specs.Progress.{to_do}
 use Rattle.fb_search.specs.Searching.{IsSearchingBeside, SearchValue, problem_of, state_at}
@@ -29,30 +29,26 @@ use Rattle.fb_search.proofs.BegunSearches.{touches_first, touches_second}
 use Rattle.fb_search.proofs.TakenVertices.{plus_over}
 use Rattle.fb_search.proofs.RolesInTree.{plus_in_tree}
 
-pub plus_of_tree : (t : Grown) (name : ℕ) → is_in (plus_names t.root t.branches) name ≡ true → grows (role_in t name) ≡ true
-plus_of_tree t name plus = by (is_in (plus_names t.root t.branches) name) plus
-  where
-    by : (b : Bool) → b ≡ true
-        → grows (if b then Plus else (if is_in (minus_names t.branches) name then Minus else Out)) ≡ true
-    by true h = refl
-    by false h = cc
+pub plus_role : (t : Grown) (name : ℕ) → is_in (plus_names t.root t.branches) name ≡ true → grows (role_in t name) ≡ true
+plus_role t name plus =
+    ap (λ b. grows (if b then Plus else (if is_in (minus_names t.branches) name then Minus else Out))) plus
 
 -- a plus node of the new tree is the new one or was plus before
-plus_before : (t : Grown) (e : EntryOf ℕ) (name : ℕ) → grows (role_in (attached t e) name) ≡ true
+plus_before : (t : Grown) (e : EntryOf ℕ) (name : ℕ) → grows (role_in (attached_grown t e) name) ≡ true
     → (e.plus ≡ name) ⊎ (grows (role_in t name) ≡ true)
-plus_before t e name plus = by (is_in-cases e.plus (plus_names t.root t.branches) name (plus_in_tree (attached t e) name plus))
+plus_before t e name plus = by (is_in-cases e.plus (plus_names t.root t.branches) name (plus_in_tree (attached_grown t e) name plus))
   where
     by : (e.plus ≡ name) ⊎ (is_in (plus_names t.root t.branches) name ≡ true) → (e.plus ≡ name) ⊎ (grows (role_in t name) ≡ true)
     by (inl same) = inl same
-    by (inr old) = inr (plus_of_tree t name old)
+    by (inr old) = inr (plus_role t name old)
 
 module _ (p : Problem) (t : Grown) (e : EntryOf ℕ) (nodes : List Node) (limits : IsWithinLimits p)
     (distinct : AreDistinct (map (λ n. n.name) nodes)) (old new : Watched) (within : All (λ k. k < length p.edges) new.edges)
     (watched : Watches p (top_at nodes e.plus) old new) (watch : IsWatched p (roles_by (role_in t)) nodes old.edges) where
-  over_before : (u : ℕ) → is_covered_by (λ n. grows (role_in (attached t e) n)) nodes u ≡ true
+  over_before : (u : ℕ) → is_covered_by (λ n. grows (role_in (attached_grown t e) n)) nodes u ≡ true
       → (is_in (top_at nodes e.plus) u ≡ true) ⊎ (is_covered_by (λ n. grows (role_in t n)) nodes u ≡ true)
   over_before u over =
-      let (name, covered, plus) = plus_over (λ n. grows (role_in (attached t e) n)) nodes u over in
+      let (name, covered, plus) = plus_over (λ n. grows (role_in (attached_grown t e) n)) nodes u over in
       by name covered (plus_before t e name plus)
     where
       by : (name : ℕ) → cover_of nodes u ≡ Some name → (e.plus ≡ name) ⊎ (grows (role_in t name) ≡ true)
@@ -61,12 +57,12 @@ module _ (p : Problem) (t : Grown) (e : EntryOf ℕ) (nodes : List Node) (limits
       by name covered (inr plus) = inr (ap (passes (λ n. grows (role_in t n))) covered ∙ plus)
 
   -- with the edges of the new plus node all are watched that have to be
-  pub watch_attached : IsWatched p (roles_by (role_in (attached t e))) nodes new.edges
+  pub watch_attached : IsWatched p (roles_by (role_in (attached_grown t e))) nodes new.edges
   watch_attached = record { within = within; near = near }
     where
       near : (k : ℕ) → k < length p.edges
-          → (is_covered_by (λ n. grows (role_in (attached t e) n)) nodes (edge_at p.edges k).first ≡ true)
-          ⊎ (is_covered_by (λ n. grows (role_in (attached t e) n)) nodes (edge_at p.edges k).second ≡ true)
+          → (is_covered_by (λ n. grows (role_in (attached_grown t e) n)) nodes (edge_at p.edges k).first ≡ true)
+          ⊎ (is_covered_by (λ n. grows (role_in (attached_grown t e) n)) nodes (edge_at p.edges k).second ≡ true)
           → (AreUnderOne nodes (edge_at p.edges k).first (edge_at p.edges k).second → ⊥) → is_in new.edges k ≡ true
       near k less (inl over) not_one = by (over_before (edge_at p.edges k).first over)
         where

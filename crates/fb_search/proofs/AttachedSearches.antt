@@ -18,12 +18,12 @@ use Rattle.fb_half.specs.Parts.{AreLinksOf}
 use Rattle.fb_half.specs.Translations.{entry_by, link_by, link_of, ring_links}
 use Rattle.fb_obstacles.specs.Obstacles.{slack_at}
 use Rattle.fb_obstacles.specs.Watched.{Watched}
-use Rattle.fb_trees.specs.Rooted.{attached, is_node}
+use Rattle.fb_trees.specs.Rooted.{attached_grown, is_node}
 use Rattle.fb_trees.proofs.Mapped.{plus_moved}
 use Rattle.fb_search.specs.declared.attaching.Met.{Met}
-use Rattle.fb_search.specs.InternalMeetings.{HasMet, IsCouple, rematched}
+use Rattle.fb_search.specs.InternalMeetings.{HasMet, IsCouple, rematched_search}
 use Rattle.fb_search.specs.Progress.{GoesOn}
-use Rattle.fb_search.specs.Searching.{IsSearching, IsSearchingBeside, SearchValue, problem_of, relinked, searched_links, state_at}
+use Rattle.fb_search.specs.Searching.{IsSearching, IsSearchingBeside, SearchValue, problem_of, relinked_search, searched_links, state_at}
 use Rattle.fb_search.specs.Watching.{Watches}
 use Rattle.fb_search.proofs.AttachedBranches.{less_attached, watch_attached}
 use Rattle.fb_search.proofs.AttachedMatches.{matching_attached}
@@ -38,7 +38,7 @@ branch_met met mate = record { parent = met.plus; tree = met.link; minus = met.o
 
 -- the search with this branch, and with these edges watched
 abbrev pub with_branch : EntryOf ℕ → Watched → SearchValue → SearchValue
-with_branch e watched w = record { part = w.part; tree = attached w.tree e; watched = watched }
+with_branch e watched w = record { part = w.part; tree = attached_grown w.tree e; watched = watched }
 
 -- a link of the tree, and one of the matches, which goes into the tree, come in front
 numbers_attached : (link matched : ℕ) (grown paired old matches rings : List ℕ) → IsPermutation old (matched ∷ matches)
@@ -54,7 +54,7 @@ numbers_attached link matched grown paired old matches rings moved =
 module _ (w : SearchValue) (met : Met) (now : SearchValue) (h : HasMet w met now) (mate : ℕ) (couple : IsCouple met.taken met.other mate)
   where
     abbrev made_search : SearchValue
-    made_search = relinked now.part.links w
+    made_search = relinked_search now.part.links w
 
     made : IsSearchingBeside (met.link ∷ []) made_search
     made = link_made w met.link h.walk now.part.links h.was h.adds h.walk_is.walk_is.steps
@@ -92,7 +92,7 @@ module _ (w : SearchValue) (met : Met) (now : SearchValue) (h : HasMet w met now
 
     module _ (limits : IsWithinLimits (problem_of w)) (new : Watched) where
       rematched_searching : All (λ j. j < new.edge_count) new.edges → Watches (problem_of w) (top_at w.part.nodes mate) w.watched new
-          → IsSearching (with_branch (branch_met met mate) new (rematched now.part.links now.part.matching.matches w))
+          → IsSearching (with_branch (branch_met met mate) new (rematched_search now.part.links now.part.matching.matches w))
       rematched_searching within watched = record {
         job = h.was.job;
         slot = h.was.slot;
@@ -118,7 +118,7 @@ module _ (w : SearchValue) (met : Met) (now : SearchValue) (h : HasMet w met now
         bounds = watched.bounds (slack_at (problem_of w) w.part.nodes) h.was.bounds;
       }
 
-      rematched_goes_on : GoesOn w (with_branch (branch_met met mate) new (rematched now.part.links now.part.matching.matches w))
+      rematched_goes_on : GoesOn w (with_branch (branch_met met mate) new (rematched_search now.part.links now.part.matching.matches w))
       rematched_goes_on = record {
         part = record { job = refl; slot = refl; node = refl };
         others = λ n. refl;

@@ -17,7 +17,7 @@ use Rattle.fb_search.specs.declared.advancing.TreeObstacle.{TreeObstacle}
 use Rattle.fb_search.specs.declared.went.Went.{Went}
 use Rattle.fb_search.specs.declared.went.Went.TheVariants.{On, Ended}
 use Rattle.fb_search.specs.InternalTurns.{BlocksTree, HasStepped}
-use Rattle.fb_search.specs.Progress.{GoesOn, HasAdvanced, IsRewatched, rewatched, stepped_by, to_do}
+use Rattle.fb_search.specs.Progress.{GoesOn, HasAdvanced, IsRewatched, rewatched_search, stepped_by, to_do}
 use Rattle.fb_search.specs.Searching.{IsSearching, SearchValue, problem_of, roles_in}
 use Rattle.fb_search.specs.Went.{HasCleared, HasWent}
 use Rattle.fb_search.proofs.ExchangedObstacles.{free_exchanged}
@@ -86,7 +86,7 @@ went_at_once w (Ended part watched) ends = ends
 
 -- a watch of other edges changes nothing of it
 went_anew : (w : SearchValue) (now : Watched) (o : Went) → now.edge_count ≡ w.watched.edge_count
-    → HasWent (rewatched now w) o → HasWent w o
+    → HasWent (rewatched_search now w) o → HasWent w o
 went_anew w now (On after) room goes = record {
   part = record { job = goes.part.job; slot = goes.part.slot; node = goes.part.node };
   others = goes.others;
@@ -97,7 +97,7 @@ went_anew w now (On after) room goes = record {
 went_anew w now (Ended part watched) room ends = record { searched = ends.searched; room = ends.room ∙ room }
 
 cleared_anew : (w : SearchValue) (now : Watched) (o : Went) → now.edge_count ≡ w.watched.edge_count
-    → HasCleared (rewatched now w) o → HasCleared w o
+    → HasCleared (rewatched_search now w) o → HasCleared w o
 cleared_anew w now (On after) room goes = record {
   part = record { job = goes.part.job; slot = goes.part.slot; node = goes.part.node };
   others = goes.others;

@@ -15,7 +15,7 @@ use Rattle.fb_links.specs.Table.{Adds, link_at}
 use Rattle.fb_half.specs.Matchings.{IsMatchOf, match_links}
 use Rattle.fb_half.specs.Parts.{AreLinksOf, AreStepsOf}
 use Rattle.fb_half.specs.Translations.{cycles_by, entry_by, link_by, link_of, ring_at, ring_links}
-use Rattle.fb_search.specs.Searching.{IsSearching, IsSearchingBeside, SearchValue, problem_of, relinked, searched_links, state_at}
+use Rattle.fb_search.specs.Searching.{IsSearching, IsSearchingBeside, SearchValue, problem_of, relinked_search, searched_links, state_at}
 use Rattle.fb_search.proofs.EndedMatches.{leads_still}
 use Rattle.fb_search.proofs.EndedParts.{map_same, ring_within}
 use Rattle.fb_search.proofs.Linked.{links_made}
@@ -55,7 +55,7 @@ state_with w new parity tree = record {
 -- Where the links that a search keeps stay, it keeps what it kept.
 pub searching_relinked : (w : SearchValue) (some more : List ℕ) (new : Table) → IsSearchingBeside some w
     → ((id : ℕ) → is_in (searched_links w) id ≡ true → link_at new id ≡ link_at w.part.links id)
-    → AreLinksOf (problem_of w) new (more ++ searched_links w) → IsSearchingBeside more (relinked new w)
+    → AreLinksOf (problem_of w) new (more ++ searched_links w) → IsSearchingBeside more (relinked_search new w)
 searching_relinked w some more new are stays links = record {
   job = are.job;
   slot = are.slot;
@@ -105,7 +105,7 @@ searching_relinked w some more new are stays links = record {
     same_rest : map (link_by new) matches ≡ map (link_by w.part.links) matches
     same_rest = map_same (link_by new) (link_by w.part.links) matches (λ id h. by id (in_kept id (is_in-left matches rings id h)))
 
-    state : IsSearchState (problem_of w) (state_at (relinked new w) are.state.0)
+    state : IsSearchState (problem_of w) (state_at (relinked_search new w) are.state.0)
     state =
         subst (λ t. IsSearchState (problem_of w) (state_with w new are.state.0 t)) (sym same_tree)
         (search_reordered (problem_of w) (state_at w are.state.0) (cycles_by new w.part.store) (map (link_by new) matches)
@@ -118,7 +118,7 @@ searching_relinked w some more new are stays links = record {
 
 -- A link along edges of the problem is made.
 pub link_made : (w : SearchValue) (id : ℕ) (walk : List Step) (new : Table) → IsSearching w → Adds w.part.links new id walk
-    → AreStepsOf (problem_of w) walk → IsSearchingBeside (id ∷ []) (relinked new w)
+    → AreStepsOf (problem_of w) walk → IsSearchingBeside (id ∷ []) (relinked_search new w)
 link_made w id walk new are adds steps =
     searching_relinked w [] (id ∷ []) new are
     (λ k within. adds.others k (λ same. fresh (subst (λ n. is_in (searched_links w) n ≡ true) same within)))

@@ -10,7 +10,7 @@ use Rattle.fb_half.specs.Translations.{link_by, link_of}
 use Rattle.fb_trees.specs.Rooted.{IsPlus}
 use Rattle.fb_search.specs.Meetings.{IsPairOver}
 use Rattle.fb_search.specs.MetWalks.{IsMetWalk}
-use Rattle.fb_search.specs.Searching.{IsSearching, SearchValue, problem_of, relinked, roles_in}
+use Rattle.fb_search.specs.Searching.{IsSearching, SearchValue, problem_of, relinked_search, roles_in}
 use Rattle.fb_search.proofs.ClosedCycles.{Closes}
 use Rattle.fb_search.proofs.MadeLinks.{link_made}
 use Rattle.fb_search.proofs.RolesInTree.{plus_in_tree}
@@ -37,7 +37,7 @@ module _ (w : SearchValue) (k a b : ℕ) (pair : IsPairOver w k a b) where
 
   pub link_closes : (walk : List Step) (id : ℕ) (links : List (Option (List Step))) → IsSearching w
       → Adds w.part.links links id walk → IsMetWalk (problem_of w) w.part.nodes a b walk
-      → Closes (relinked links w) a b id
+      → Closes (relinked_search links w) a b id
   link_closes walk id links are adds met = record {
     search = link_made w id walk links are adds met.walk_is.steps;
     first = plus_under pair.inner a pair.covered pair.obstacle.edge.plus;

@@ -27,7 +27,6 @@ use Rattle.fb_search.specs.Meetings.{LeadsOut}
 use Rattle.fb_search.specs.MetWalks.{IsOut, IsOutWalk}
 use Rattle.fb_search.specs.Progress.{IsSearched, stepped_by}
 use Rattle.fb_search.specs.Searching.{IsSearching, SearchValue, roles_in}
-use Rattle.fb_search.proofs.AttachedBranches.{plus_of_tree}
 use Rattle.fb_search.proofs.BegunSearches.{kept_limits, touches_first, touches_second}
 use Rattle.fb_search.proofs.EndedParts.{part_after}
 use Rattle.fb_search.proofs.EndedWays.{boundary_match}
@@ -38,6 +37,7 @@ use Rattle.fb_search.proofs.ScopeWalks.{out_bare, out_scoped, scoped}
 use Rattle.fb_search.proofs.SearchRoles.{tree_over}
 use Rattle.fb_search.proofs.SteppedSearches.{searching_stepped, step_in_scope, tree_in_scope}
 use Rattle.fb_search.proofs.TreeEnds.{boundary_apart, boundary_ended, leads_out}
+use Rattle.fb_search.proofs.AttachedBranches.{plus_role}
 use Rattle.fb_links.proofs.MovedLinks.{Table}
 
 -- an edge touches the end from which it leads, and the end to which it leads
@@ -104,7 +104,7 @@ pub root_is_plus : (root v : ℕ) (part : PartValue) (k : ℕ) → cover_of part
     → is_covered_by (roles_in (stepped_by k (bare_search root part))).is_plus (stepped_nodes (alone root) k part.nodes) v ≡ true
 root_is_plus root v part k covered =
     ap (passes (roles_in (stepped_by k (bare_search root part))).is_plus) (root_over root v part k covered)
-    ∙ plus_of_tree (bare_search root part).tree root (root_plus root [])
+    ∙ plus_role (bare_search root part).tree root (root_plus root [])
 
 same_either : (b : Bool) (l k n : ℕ) → l + (if b then k else k) ≤ n → l + k ≤ n
 same_either true l k n h = h

@@ -21,7 +21,7 @@ use Rattle.fb_half.specs.Translations.{link_by}
 use Rattle.fb_obstacles.specs.declared.obstacle.Obstacle.{Obstacle}
 use Rattle.fb_obstacles.specs.Obstacles.{HavePlusParity, IsObstacle, IsWatched, ListsMinus, Obstructs, slack_at}
 use Rattle.fb_obstacles.specs.Watched.{AreBounded, Watched}
-use Rattle.fb_search.specs.Progress.{rewatched}
+use Rattle.fb_search.specs.Progress.{rewatched_search}
 use Rattle.fb_search.specs.Searching.{IsSearching, SearchValue, problem_of, roles_in}
 use Rattle.fb_search.proofs.ExchangedObstacles.{obstacle_exchanged, obstructs_exchanged}
 use Rattle.fb_search.proofs.Runs.{tree_roles}
@@ -107,7 +107,7 @@ module _ (w : SearchValue) (are : IsSearching w) where
     -- the search with a watch that is right, of the same edges or of others
     pub searching_rewatched : (now : Watched) → now.edge_count ≡ w.watched.edge_count
         → IsWatched (problem_at g t n no_shot) (roles_in w) w.part.nodes now.edges
-        → AreBounded (slack_at (problem_at g t n no_shot) w.part.nodes) now → IsSearching (rewatched now w)
+        → AreBounded (slack_at (problem_at g t n no_shot) w.part.nodes) now → IsSearching (rewatched_search now w)
     searching_rewatched now room watched bounded = record {
       job = are.job;
       slot = are.slot;

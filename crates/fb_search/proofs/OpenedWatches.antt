@@ -1,5 +1,5 @@
 -- Which edges are watched after a minus blossom is opened: those at its children that become plus come under watch.
-use Rattle.std.proofs.Common.{ℕ, ◌≡◌, ◌≢◌, ◌<◌, ◌⊎◌, inl, inr, true, List, [], ◌∷◌, ◌++◌, map, flat_map, length, All, Option, Some, refl, sym, ap, ◌∙◌, subst, if◌then◌else◌, append_assoc}
+use Rattle.std.proofs.Common.{ℕ, ◌≡◌, ◌≢◌, ◌<◌, ◌⊎◌, inl, inr, true, List, [], ◌∷◌, ◌++◌, map, flat_map, length, All, Option, Some, refl, sym, ap, ◌∙◌, subst, append_assoc}
 use Rattle.std.proofs.lemmas.Bool.{false≢true}
 use Rattle.fb_graph.specs.Parity.{is_in}
 use Rattle.fb_graph.specs.Problem.{Problem, edge_at, touches}
@@ -15,11 +15,9 @@ use Rattle.fb_links.specs.declared.cycle.CycleStep.{CycleStep}
 use Rattle.fb_blossoms.specs.Nodes as blossoms
 use Rattle.fb_laws.specs.OpenedCycles.{PassOf, opened_branches, opened_tree}
 use Rattle.fb_laws.specs.Trees.{EntryOf, minus_names, plus_names}
-use Rattle.fb_regions.specs.declared.roles.Role.TheVariants.{Plus, Minus, Out}
 use Rattle.fb_trees.specs.Branches.{Grown}
 use Rattle.fb_trees.specs.Replacements.{way_of}
-use Rattle.fb_trees.specs.Rooted.{role_in}
-use Rattle.fb_obstacles.specs.Obstacles.{IsWatched, grows}
+use Rattle.fb_obstacles.specs.Obstacles.{IsWatched}
 use Rattle.fb_obstacles.specs.Watched.{Watched}
 use Rattle.fb_search.specs.InternalOpenings.{second_nodes}
 use Rattle.fb_search.specs.Searching.{IsSearching, SearchValue, problem_of, roles_in}
@@ -33,6 +31,7 @@ use Rattle.fb_search.proofs.Openings.{HasOpened, Opens}
 use Rattle.fb_search.proofs.RolesInTree.{plus_in_tree}
 use Rattle.fb_search.proofs.Runs.{tree_roles}
 use Rattle.fb_search.proofs.TakenVertices.{plus_over}
+use Rattle.fb_search.proofs.AttachedBranches.{plus_role}
 use Rattle.fb_links.proofs.MovedLinks.{Table}
 use Rattle.fb_graph.proofs.Floods.{is_in-left, is_in-right}
 
@@ -148,11 +147,6 @@ in_flat g (x ∷ xs) n v there held = by (is_in-cases x xs n there) (λ h. in_fl
         → is_in (g x ++ flat_map g xs) v ≡ true
     by (inl same) rest = is_in-left (g x) (flat_map g xs) v (ap (λ y. is_in (g y) v) same ∙ held)
     by (inr h) rest = is_in-right (g x) (flat_map g xs) v (rest h)
-
-plus_role : (t : Grown) (name : ℕ) → is_in (plus_names t.root t.branches) name ≡ true
-    → grows (role_in t name) ≡ true
-plus_role t name plus =
-    ap (λ b. grows (if b then Plus else (if is_in (minus_names t.branches) name then Minus else Out))) plus
 
 module _ (w : SearchValue) (name : ℕ) (e : EntryOf ℕ) (above below : ℕ) (are : IsSearching w)
     (opens : Opens w name e above below) (links : Table) (store : List (Option blossoms.Node)) (tree : Grown) (watched : Watched)

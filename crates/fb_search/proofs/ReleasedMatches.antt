@@ -20,7 +20,7 @@ use Rattle.fb_half.specs.Translations.{link_by, link_of, ring_links}
 use Rattle.fb_trees.proofs.Mapped.{plus_moved}
 use Rattle.fb_search.specs.declared.attaching.Met.{Met}
 use Rattle.fb_search.specs.InternalEndings.{Forgets, all_matches, ended_matches}
-use Rattle.fb_search.specs.InternalMeetings.{HasMet, IsBoundaryMatch, rematched}
+use Rattle.fb_search.specs.InternalMeetings.{HasMet, IsBoundaryMatch, rematched_search}
 use Rattle.fb_search.specs.Progress.{IsSearched}
 use Rattle.fb_search.specs.Searching.{SearchValue, problem_of, searched_links, state_at}
 use Rattle.fb_search.proofs.DroppedLinks.{dropped_live, dropped_once}
@@ -182,7 +182,7 @@ module _ (w : SearchValue) (met : Met) (now : SearchValue) (h : HasMet w met now
         × IsSearched w.tree.root w.part (record now.part { links = new; matching = m })
     part_released mid new m removes forgets matching =
         subst (λ s. Ended s m) (sym h.is)
-        (subst (Ended (rematched now.part.links kept w))
+        (subst (Ended (rematched_search now.part.links kept w))
         (sym (matching
         ∙ (λ k.
         record { matches = all_matches (same k) (tree_is k).branches met.plus out_match; unmatched = rest.unmatched })))

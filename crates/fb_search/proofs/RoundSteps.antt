@@ -9,7 +9,7 @@ use Rattle.fb_laws.specs.Works.{names_without}
 use Rattle.fb_laws.proofs.StateMoves.{kept_without}
 use Rattle.fb_regions.specs.Moves.{node_named}
 use Rattle.fb_half.specs.Parts.{PartValue, problem_in}
-use Rattle.fb_search.specs.InternalRounds.{HasSearchedSome, IsLeft, counted}
+use Rattle.fb_search.specs.InternalRounds.{HasSearchedSome, IsLeft, steps_with}
 use Rattle.fb_search.specs.Progress.{IsSamePart}
 use Rattle.fb_search.proofs.Runs.{same_problem}
 use Rattle.fb_search.proofs.SearchedEach.{gone}
@@ -46,7 +46,7 @@ among_others name xs n there out =
     (ap not (sym (equal_sym name n) ∙ (sym (or-false (name == n)) ∙ out)))
 
 pub root_searched : (root : ℕ) (before after : PartValue) (old new : ℕ) (left : Option ℕ)
-    → IsLeft root before after left → new ≡ counted left old → HasSearchedSome before (root ∷ []) old new (option_to_list left) after
+    → IsLeft root before after left → new ≡ steps_with left old → HasSearchedSome before (root ∷ []) old new (option_to_list left) after
 root_searched root before after old new None is one = record {
   part = is.part;
   others = λ n there _.

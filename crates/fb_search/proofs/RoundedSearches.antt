@@ -29,7 +29,7 @@ use Rattle.fb_half.specs.Parts.{kept_links}
 use Rattle.fb_half.specs.Translations.{entry_by, link_by, link_of}
 use Rattle.fb_obstacles.specs.Obstacles.{IsZeroDefect}
 use Rattle.fb_search.specs.Progress.{GoesOn}
-use Rattle.fb_search.specs.Searching.{IsSearching, IsSearchingBeside, SearchValue, problem_of, relinked, state_at}
+use Rattle.fb_search.specs.Searching.{IsSearching, IsSearchingBeside, SearchValue, problem_of, relinked_search, state_at}
 use Rattle.fb_search.proofs.MadeLinks.{link_made}
 use Rattle.fb_search.proofs.RoundedLinks.{AreRounded, links_rounded}
 use Rattle.fb_search.proofs.StepWalks.{walk_there}
@@ -159,12 +159,12 @@ module _ (w : SearchValue) (e : EntryOf ℕ) (id : ℕ) (new : List (Option (Lis
   pub rounded_matched : AreMatchedLinks (problem_of w) w.part.nodes (link_by new id ∷ [])
   rounded_matched = subst (λ l. AreMatchedLinks (problem_of w) w.part.nodes (l ∷ [])) made is.links.matched
 
-  pub rounded_search : IsSearching w → IsSearchingBeside (id ∷ []) (relinked new w)
+  pub rounded_search : IsSearching w → IsSearchingBeside (id ∷ []) (relinked_search new w)
   rounded_search are =
       link_made w id (joined_walk (walk_at w.part.links e.tree) (walk_at w.part.links e.matched)) new are adds is.links.steps
 
 -- what is left to do does not depend on links
-pub goes_on_relinked : (w after : SearchValue) (new : List (Option (List Step))) → GoesOn (relinked new w) after
+pub goes_on_relinked : (w after : SearchValue) (new : List (Option (List Step))) → GoesOn (relinked_search new w) after
     → GoesOn w after
 goes_on_relinked w after new on = record {
   part = record { job = on.part.job; slot = on.part.slot; node = on.part.node };

@@ -27,7 +27,6 @@ use Rattle.fb_search.specs.Meetings.{LeadsOut, Meets}
 use Rattle.fb_search.specs.MetWalks.{IsMetWalk, IsOut, IsOutWalk, IsTightWalk}
 use Rattle.fb_search.specs.Progress.{IsSearched}
 use Rattle.fb_search.specs.Searching.{IsSearching, SearchValue, problem_of, roles_in, searched_links}
-use Rattle.fb_search.proofs.AttachedBranches.{plus_of_tree}
 use Rattle.fb_search.proofs.DroppedLinks.{dropped_live, dropped_once}
 use Rattle.fb_search.proofs.EndedCases.{links_counted, taken_at_boundary, taken_with}
 use Rattle.fb_search.proofs.EndedLinks.{names_listed}
@@ -36,6 +35,7 @@ use Rattle.fb_search.proofs.EndedParts.{others_kept, part_after}
 use Rattle.fb_search.proofs.EndedWays.{AreRelinked, boundary_match, ended_at_boundary, ended_with, met_match}
 use Rattle.fb_search.proofs.RolesInTree.{plus_in_tree}
 use Rattle.fb_search.proofs.ScopeWalks.{IsBetweenThem, between_them}
+use Rattle.fb_search.proofs.AttachedBranches.{plus_role}
 use Rattle.fb_links.proofs.MovedLinks.{Table}
 
 hung_of : (nodes : List Node) (root : ℕ) (table : Table) (tree : List (EntryOf ℕ))
@@ -73,7 +73,7 @@ leads_out w k plus leads = record {
 other_than : (w : SearchValue) (k plus other name : ℕ) → Meets w k plus other
     → is_in (plus_names w.tree.root w.tree.branches) name ≡ true → name ≢ other
 other_than w k plus other name meets is same =
-    false≢true (sym meets.obstacle.not_plus ∙ (ap (roles_in w).is_plus (sym same) ∙ plus_of_tree w.tree name is))
+    false≢true (sym meets.obstacle.not_plus ∙ (ap (roles_in w).is_plus (sym same) ∙ plus_role w.tree name is))
 
 pub root_apart : (w : SearchValue) (k plus other : ℕ) → Meets w k plus other → w.tree.root ≢ other
 root_apart w k plus other meets = other_than w k plus other w.tree.root meets (root_plus w.tree.root w.tree.branches)

@@ -18,8 +18,8 @@ abbrev pub IsBoundaryMatch : Match → ℕ → Type 0
 IsBoundaryMatch m a = (m.first ≡ a) × (m.second ≡ None)
 
 -- the search with these walks by number and these matches
-abbrev pub rematched : List (Option (List Step)) → List Match → SearchValue → SearchValue
-rematched links matches w = record w {
+abbrev pub rematched_search : List (Option (List Step)) → List Match → SearchValue → SearchValue
+rematched_search links matches w = record w {
   part = record w.part { links = links; matching = record { matches = matches; unmatched = w.part.matching.unmatched } };
 }
 
@@ -27,7 +27,7 @@ rematched links matches w = record w {
 pub record HasMet (w : SearchValue) (met : Met) (now : SearchValue) : Type 0 where
   pub was : IsSearching w
   -- all but the links and matches is as it was
-  pub is : now ≡ rematched now.part.links now.part.matching.matches w
+  pub is : now ≡ rematched_search now.part.links now.part.matching.matches w
   pub plus : IsPlus w.tree met.plus
   pub walk : List Step
   pub walk_is : IsMetWalk (problem_of w) w.part.nodes met.plus met.other walk

@@ -38,9 +38,9 @@ IsLeft root before after None = IsSearched root before after
 IsLeft root before after (Some name) = IsGivenUp root name before after
 
 -- A search is counted only if it has matched its root.
-abbrev pub counted : Option ℕ → ℕ → ℕ
-counted None steps = steps + 1
-counted (Some name) steps = steps
+abbrev pub steps_with : Option ℕ → ℕ → ℕ
+steps_with None steps = steps + 1
+steps_with (Some name) steps = steps
 
 -- Searches from each of the roots that was still unmatched in its turn, with the counter before and after them, where some
 -- were given up and left these names. Any other node that is unmatched then was so before, is none of the roots, and is as it

@@ -60,12 +60,12 @@ stepped_by k w = record w {
 }
 
 -- the search with other watched edges
-abbrev pub rewatched : Watched → SearchValue → SearchValue
-rewatched watched w = record w { watched = watched }
+abbrev pub rewatched_search : Watched → SearchValue → SearchValue
+rewatched_search watched w = record w { watched = watched }
 
 -- Both are the same search, but for the edges that they watch. The watch has room for the same edges as before.
 pub record IsRewatched (before after : SearchValue) : Type 0 where
-  pub same : after ≡ rewatched after.watched before
+  pub same : after ≡ rewatched_search after.watched before
   pub room : after.watched.edge_count ≡ before.watched.edge_count
 
 -- The root is matched, with at most one other unmatched node. The unmatched nodes are some of those before, each as it was.

@@ -72,8 +72,8 @@ abbrev pub IsSearching : SearchValue → Type 0
 IsSearching w = IsSearchingBeside [] w
 
 -- the search with other walks by number
-abbrev pub relinked : List (Option (List Step)) → SearchValue → SearchValue
-relinked links w = record w { part = record w.part { links = links } }
+abbrev pub relinked_search : List (Option (List Step)) → SearchValue → SearchValue
+relinked_search links w = record w { part = record w.part { links = links } }
 
 -- the search that these pieces are
 abbrev pub search_of : Pieces → SearchValue

@@ -4,7 +4,7 @@ ghost use Rattle.fb_graph.specs.Parity.{is_in};
 ghost use Rattle.fb_graph.specs.Steps.{MayStep};
 ghost use Rattle.fb_half.specs.Parts.{problem_in};
 ghost use Rattle.fb_search.specs.InternalPaces.{HasTurned, IsEndedWithin};
-ghost use Rattle.fb_search.specs.InternalRounds.{HasEvenRoot, HasSearchedSome, IsLeft, counted};
+ghost use Rattle.fb_search.specs.InternalRounds.{HasEvenRoot, HasSearchedSome, IsLeft, steps_with};
 ghost use Rattle.fb_search.specs.Progress.{stepped_by};
 ghost use Rattle.fb_search.specs.Searching.{problem_of, roles_in};
 
@@ -148,7 +148,7 @@ fn search_within<'a, L: Ledger>(
     requires unmatched { is_in work.matching.unmatched root ≡ true }
     requires room { scratch.edge_count ≡ length (problem_in work).edges }
     ensures left { IfOk result (λ b. IsLeft root work.entry b.work b.left) }
-    ensures step { IfOk result (λ b. steps.new ≡ counted b.left steps.old) }
+    ensures step { IfOk result (λ b. steps.new ≡ steps_with b.left steps.old) }
     ensures room { IfOk result (λ b. b.scratch.edge_count ≡ scratch.edge_count) }
     ensures kept { OnErr result (steps.new ≡ steps.old) }
 {

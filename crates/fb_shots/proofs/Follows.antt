@@ -6,7 +6,7 @@ use Rattle.fb_graph.specs.Limits.{DecodingGraph, ShotValue}
 use Rattle.fb_shots.specs.declared.answer.Format.{Format}
 use Rattle.fb_shots.specs.declared.answer.Kind.{Kind}
 use Rattle.fb_shots.specs.declared.answer.Kind.TheVariants.{TooManyShots, InputTooLong}
-use Rattle.fb_shots.specs.Shots.{Ending, still_open, refused, Shots, only, in_front, capped}
+use Rattle.fb_shots.specs.Shots.{Ending, still_open, refused, Shots, only, in_front, capped_shots}
 use Rattle.fb_shots.specs.Formats.{records_of, prefix_of}
 use Rattle.fb_shots.specs.Sources.{Source}
 use Rattle.fb_shots.specs.Answers.{Gives, Refuses}
@@ -14,10 +14,10 @@ use Rattle.fb_shots.specs.Streams.{cut_off, within_room, Stream, follows}
 
 -- ---- at most so many shots
 
-pub capped_only : (n : ℕ) (ending : Ending) → capped n (only ending) ≡ only ending
+pub capped_only : (n : ℕ) (ending : Ending) → capped_shots n (only ending) ≡ only ending
 capped_only n ending = cond-true (nat_le 0 n) _ _ (le-leb 0 n (omega arith))
 
-pub capped_shot : (n : ℕ) (shot : ShotValue) (r : Shots) → capped (suc n) (in_front shot r) ≡ in_front shot (capped n r)
+pub capped_shot : (n : ℕ) (shot : ShotValue) (r : Shots) → capped_shots (suc n) (in_front shot r) ≡ in_front shot (capped_shots n r)
 capped_shot n shot r = elim (cases_lt n (length r.shots)) [
   | inl over ↦
       cond-false (nat_le (length (shot ∷ r.shots)) (suc n)) _ _ (lt-leb (length (shot ∷ r.shots)) (suc n) (omega arith))
@@ -27,7 +27,7 @@ capped_shot n shot r = elim (cases_lt n (length r.shots)) [
       ∙ sym (ap (in_front shot) (cond-true (nat_le (length r.shots) n) _ _ (le-leb (length r.shots) n fits)))
 ]
 
-pub capped_none : (shot : ShotValue) (r : Shots) → capped 0 (in_front shot r) ≡ only (refused TooManyShots)
+pub capped_none : (shot : ShotValue) (r : Shots) → capped_shots 0 (in_front shot r) ≡ only (refused TooManyShots)
 capped_none shot r = cond-false (nat_le (length (shot ∷ r.shots)) 0) _ _ (lt-leb (length (shot ∷ r.shots)) 0 (omega arith))
 
 -- ---- at most so many bytes
@@ -106,10 +106,10 @@ fed s untaken given limit stopped = record {
 }
 
 pub follows_open : (s : Source) (u k l : ℕ) (left : List ℕ) → s.finished ≡ false
-    → follows (fed s u k l None) left ≡ capped (l - k) (held s.format s.graph s.rest u left)
+    → follows (fed s u k l None) left ≡ capped_shots (l - k) (held s.format s.graph s.rest u left)
 follows_open s u k l left still =
-    cond-false s.finished _ _ still ∙ ap (capped (l - k)) (held_is s.format s.graph s.rest u left)
+    cond-false s.finished _ _ still ∙ ap (capped_shots (l - k)) (held_is s.format s.graph s.rest u left)
 
 pub follows_done : (s : Source) (u k l : ℕ) (left : List ℕ) → s.finished ≡ true
-    → follows (fed s u k l None) left ≡ capped (l - k) (records_of s.format s.graph s.rest)
+    → follows (fed s u k l None) left ≡ capped_shots (l - k) (records_of s.format s.graph s.rest)
 follows_done s u k l left done = cond-true s.finished _ _ done

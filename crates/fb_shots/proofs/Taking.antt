@@ -11,7 +11,7 @@ use Rattle.fb_shots.specs.declared.answer.Step.TheVariants as step
 use Rattle.fb_shots.specs.Shots.{only, in_front, at_end, refused}
 use Rattle.fb_shots.specs.Formats.{prefix_of}
 use Rattle.fb_shots.specs.Streams.{Stream, follows}
-use Rattle.fb_shots.specs.Steps.{IfKnown, IsReadOut, IsReason, OnlyTakes, GivesShot, Ends, Refuses, FailsToRead, Answers, settled}
+use Rattle.fb_shots.specs.Steps.{IfKnown, IsReadOut, IsReason, OnlyTakes, GivesShot, Ends, Refuses, FailsToRead, Answers, settled_shots}
 
 abbrev pub Left : Type 0
 Left = Option (List ℕ)
@@ -132,7 +132,7 @@ then_gives a b c l m r shot p q =
       taken = Consumes-trans l m r p.piece q.piece p.taken q.taken;
       gives = known_then (λ x y. follows a x ≡ follows b y) (λ y z. follows b y ≡ in_front shot (follows c z))
           (λ x z. follows a x ≡ in_front shot (follows c z)) l m r (λ x y z e f. e ∙ f) p.gives q.gives;
-      holds = ap (settled c) (joined_pieces a b l m q.piece p) ∙ q.holds;
+      holds = ap (settled_shots c) (joined_pieces a b l m q.piece p) ∙ q.holds;
       unfinished = λ still. open_before a b l m p (q.unfinished still);
       prefix = λ still more.
           ap (prefix_of a.format a.graph) (ap (λ (x : List ℕ). a.rest ++ x) (append_assoc p.piece q.piece more)

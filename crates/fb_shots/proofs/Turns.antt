@@ -11,7 +11,7 @@ use Rattle.fb_shots.specs.declared.answer.Step.TheVariants as step
 use Rattle.fb_shots.specs.declared.reader.Next.{Next}
 use Rattle.fb_shots.specs.declared.reader.Next.TheVariants as next
 use Rattle.fb_shots.specs.declared.stream.Read.TheVariants as read
-use Rattle.fb_shots.specs.Shots.{Shots, only, in_front, at_end, still_open, refused, capped}
+use Rattle.fb_shots.specs.Shots.{Shots, only, in_front, at_end, still_open, refused, capped_shots}
 use Rattle.fb_shots.specs.Formats.{records_of, prefix_of}
 use Rattle.fb_shots.specs.Sources.{Source}
 use Rattle.fb_shots.specs.Answers.{Gives}
@@ -32,10 +32,10 @@ when_empty a piece u k l stopped e =
     let made : List ℕ → Stream = λ rest. fed (record a { rest = rest }) u k l stopped in
     ap made (ap (λ (p : List ℕ). a.rest ++ p) e ∙ append-nil a.rest)
 
-capped_onward : (l k : ℕ) (shot : ShotValue) (r : Shots) → k < l → capped (l - k) (in_front shot r) ≡ in_front shot (capped (l - (k + 1)) r)
+capped_onward : (l k : ℕ) (shot : ShotValue) (r : Shots) → k < l → capped_shots (l - k) (in_front shot r) ≡ in_front shot (capped_shots (l - (k + 1)) r)
 capped_onward l k shot r less =
     let one : l - k ≡ suc (l - (k + 1)) = omega arith in
-    ap (λ (n : ℕ). capped n (in_front shot r)) one ∙ capped_shot (l - (k + 1)) shot r
+    ap (λ (n : ℕ). capped_shots n (in_front shot r)) one ∙ capped_shot (l - (k + 1)) shot r
 
 -- ---- a shot
 
@@ -46,10 +46,10 @@ follows_shot a new shot u k l left h less =
     let b : Source = record a { rest = new } in
     elim (cases_Bool a.finished) [
       | inl done ↦
-          follows_done a u k l left done ∙ ap (capped (l - k)) h.now ∙ capped_onward l k shot (records_of a.format a.graph new) less
+          follows_done a u k l left done ∙ ap (capped_shots (l - k)) h.now ∙ capped_onward l k shot (records_of a.format a.graph new) less
           ∙ ap (in_front shot) (sym (follows_done b u (k + 1) l left done))
       | inr still ↦
-          follows_open a u k l left still ∙ ap (capped (l - k)) (held_shot a.format a.graph a.rest new shot u left a.finished still h)
+          follows_open a u k l left still ∙ ap (capped_shots (l - k)) (held_shot a.format a.graph a.rest new shot u left a.finished still h)
           ∙ capped_onward l k shot (held a.format a.graph new u left) less
           ∙ ap (in_front shot) (sym (follows_open b u (k + 1) l left still))
     ]
@@ -135,13 +135,13 @@ follows_too_many : (a : Source) (new : List ℕ) (shot : ShotValue) (u k l : ℕ
     → follows (fed a u k l None) left ≡ only (refused TooManyShots)
 follows_too_many a new shot u k l left h full =
     let none : l - k ≡ 0 = omega arith in
-    let capped_here : (r : Shots) → capped (l - k) (in_front shot r) ≡ only (refused TooManyShots) =
-    λ r. ap (λ (n : ℕ). capped n (in_front shot r)) none ∙ capped_none shot r in
+    let capped_here : (r : Shots) → capped_shots (l - k) (in_front shot r) ≡ only (refused TooManyShots) =
+    λ r. ap (λ (n : ℕ). capped_shots n (in_front shot r)) none ∙ capped_none shot r in
     elim (cases_Bool a.finished) [
       | inl done ↦
-          follows_done a u k l left done ∙ ap (capped (l - k)) h.now ∙ capped_here (records_of a.format a.graph new)
+          follows_done a u k l left done ∙ ap (capped_shots (l - k)) h.now ∙ capped_here (records_of a.format a.graph new)
       | inr still ↦
-          follows_open a u k l left still ∙ ap (capped (l - k)) (held_shot a.format a.graph a.rest new shot u left a.finished still h)
+          follows_open a u k l left still ∙ ap (capped_shots (l - k)) (held_shot a.format a.graph a.rest new shot u left a.finished still h)
           ∙ capped_here (held a.format a.graph new u left)
     ]
 
@@ -158,9 +158,9 @@ follows_refused : (a : Source) (why : Kind) (u k l : ℕ) (left : List ℕ)
     → reader.Refuses (records_of a.format a.graph) (prefix_of a.format a.graph) a.finished a.rest why
     → follows (fed a u k l None) left ≡ only (refused why)
 follows_refused a why u k l left h = elim (cases_Bool a.finished) [
-  | inl done ↦ follows_done a u k l left done ∙ ap (capped (l - k)) h.now ∙ capped_only (l - k) (refused why)
+  | inl done ↦ follows_done a u k l left done ∙ ap (capped_shots (l - k)) h.now ∙ capped_only (l - k) (refused why)
   | inr still ↦
-      follows_open a u k l left still ∙ ap (capped (l - k)) (held_refused a.format a.graph a.rest why u left a.finished still h)
+      follows_open a u k l left still ∙ ap (capped_shots (l - k)) (held_refused a.format a.graph a.rest why u left a.finished still h)
       ∙ capped_only (l - k) (refused why)
 ]
 
@@ -192,14 +192,14 @@ turn_too_long a b u v k l left h none still_none more =
     in_left None more = tt
     in_left (Some x) more =
         follows_open a u k l x h.0
-        ∙ ap (capped (l - k)) (ap (λ (n : ℕ). held a.format a.graph a.rest n x) none ∙ held_long a.format a.graph a.rest x more h.1)
+        ∙ ap (capped_shots (l - k)) (ap (λ (n : ℕ). held a.format a.graph a.rest n x) none ∙ held_long a.format a.graph a.rest x more h.1)
         ∙ capped_only (l - k) (refused InputTooLong)
 
 -- ---- the end
 
 follows_end : (a : Source) (u k l : ℕ) (left : List ℕ) → a.finished ≡ true → records_of a.format a.graph a.rest ≡ only at_end
     → follows (fed a u k l None) left ≡ only at_end
-follows_end a u k l left done e = follows_done a u k l left done ∙ ap (capped (l - k)) e ∙ capped_only (l - k) at_end
+follows_end a u k l left done e = follows_done a u k l left done ∙ ap (capped_shots (l - k)) e ∙ capped_only (l - k) at_end
 
 pub turn_ends : (a b : Source) (u k l : ℕ) (left : Left) → reader.Answers a b next.End
     → Ends (fed a u k l None) (fed b u k l None) left left
@@ -230,7 +230,7 @@ takes_piece a u v k l before after bytes still taken room =
       room = omega (arith, length-append a.rest bytes);
       gives = known_taken (λ x y. follows (fed a u k l None) x ≡ follows (fed b v k l None) y) before after bytes taken
           (λ later. follows_open a u k l (bytes ++ later) still
-          ∙ ap (capped (l - k)) (held_piece a.format a.graph a.rest bytes u v later room)
+          ∙ ap (capped_shots (l - k)) (held_piece a.format a.graph a.rest bytes u v later room)
           ∙ sym (follows_open b v k l later still));
       end = λ still done. absurd (both_ways a.finished still done);
       ended = λ done. absurd (both_ways a.finished still done);

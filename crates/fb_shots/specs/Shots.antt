@@ -33,7 +33,7 @@ pub record GoesOn (prefix all : Shots) : Type 0 where
   pub judged : (why : Kind) → prefix.ending ≡ refused why → all ≡ prefix
 
 -- at most so many shots: a further good record ends them
-abbrev pub capped : ℕ → Shots → Shots
-capped limit r =
+abbrev pub capped_shots : ℕ → Shots → Shots
+capped_shots limit r =
     if nat_le (length r.shots) limit then r
     else record { shots = take limit r.shots; ending = refused TooManyShots }

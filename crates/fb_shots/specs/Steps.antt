@@ -35,15 +35,15 @@ pub record OnlyTakes (old new : Stream) (before after : Option (List ℕ)) : Typ
 
 -- what a stream has settled of these bytes, if nothing else is left: all of their records where the file's end was seen,
 -- and otherwise those that stay whatever follows
-abbrev pub settled : Stream → List ℕ → Shots
-settled s bytes = if s.finished then records_of s.format s.graph bytes else prefix_of s.format s.graph bytes
+abbrev pub settled_shots : Stream → List ℕ → Shots
+settled_shots s bytes = if s.finished then records_of s.format s.graph bytes else prefix_of s.format s.graph bytes
 
 -- A shot is given: it stands before all that follows.
 pub record GivesShot (old new : Stream) (before after : Option (List ℕ)) (shot : ShotValue) : Type 0 where
   pub piece : List ℕ
   pub taken : Consumes before after piece
   pub gives : IfKnown (λ left later. follows old left ≡ in_front shot (follows new later)) before after
-  pub holds : settled new (old.rest ++ piece) ≡ in_front shot (settled new new.rest)
+  pub holds : settled_shots new (old.rest ++ piece) ≡ in_front shot (settled_shots new new.rest)
   pub unfinished : new.finished ≡ false → old.finished ≡ false
   pub prefix : new.finished ≡ false → (more : List ℕ) → prefix_of old.format old.graph (old.rest ++ (piece ++ more))
       ≡ in_front shot (prefix_of old.format old.graph (new.rest ++ more))
@@ -69,12 +69,12 @@ pub record Ends (old new : Stream) (before after : Option (List ℕ)) : Type 0 w
 -- the stream's rest are these bytes, and the first record of them is refused
 pub record RefusesFirst (s : Stream) (bytes : List ℕ) (why : Kind) : Type 0 where
   pub rest : s.rest ≡ bytes
-  pub settles : settled s bytes ≡ only (refused why)
+  pub settles : settled_shots s bytes ≡ only (refused why)
 
 -- these bytes begin by a good record, and all shots that may be given were given
 pub record HoldsOneMore (s : Stream) (bytes : List ℕ) (why : Kind) : Type 0 where
   pub shot : ShotValue
-  pub holds : settled s bytes ≡ in_front shot (settled s s.rest)
+  pub holds : settled_shots s bytes ≡ in_front shot (settled_shots s s.rest)
   pub full : s.limit ≤ s.given
   pub kind : why ≡ TooManyShots
 

@@ -4,7 +4,7 @@ use Rattle.fb_graph.specs.Limits.{DecodingGraph}
 use Rattle.fb_shots.specs.declared.answer.Format.{Format}
 use Rattle.fb_shots.specs.declared.answer.Kind.{Kind}
 use Rattle.fb_shots.specs.declared.answer.Kind.TheVariants.{InputTooLong}
-use Rattle.fb_shots.specs.Shots.{Ending, at_end, still_open, refused, Shots, only, capped}
+use Rattle.fb_shots.specs.Shots.{Ending, at_end, still_open, refused, Shots, only, capped_shots}
 use Rattle.fb_shots.specs.Formats.{records_of, prefix_of}
 use Rattle.fb_shots.specs.Sources.{Source}
 
@@ -29,7 +29,7 @@ within_room format g room bytes =
 
 -- what bytes hold of which at most `room` are taken and at most `limit` shots are given
 abbrev pub stream_of : Format → DecodingGraph → (limit room : ℕ) → List ℕ → Shots
-stream_of format g limit room bytes = capped limit (within_room format g room bytes)
+stream_of format g limit room bytes = capped_shots limit (within_room format g room bytes)
 
 -- A stream: `rest` are the bytes taken that no answer has used, `finished` tells that the file's end was seen,
 -- `untaken` is how many bytes may still be taken, `given` and `limit` count shots, and `stopped` is what it has refused.
@@ -77,5 +77,5 @@ or_refusal (Some kind) r = only (refused kind)
 abbrev pub follows : Stream → List ℕ → Shots
 follows s left =
     or_refusal s.stopped
-    (if s.finished then capped (s.limit - s.given) (records_of s.format s.graph s.rest)
+    (if s.finished then capped_shots (s.limit - s.given) (records_of s.format s.graph s.rest)
     else stream_of s.format s.graph (s.limit - s.given) (length s.rest + s.untaken) (s.rest ++ left))

@@ -18,8 +18,8 @@ pub record MayJoin (t : Grown) (gone : List ℕ) (name : ℕ) : Type 0 where
   pub fresh : is_node t name ≡ false
 
 -- the tree with the blossom in the place of the nodes
-abbrev pub joined : Grown → List ℕ → ℕ → Grown
-joined t gone name = record {
+abbrev pub joined_grown : Grown → List ℕ → ℕ → Grown
+joined_grown t gone name = record {
   root = renamed_name (is_in gone) name t.root;
   branches = joined_tree (is_in gone) name t.branches;
 }
@@ -66,5 +66,5 @@ MayReplace t gone path = ⊥
 
 abbrev pub IsReplaced : Grown → List ℕ → List CycleStep → Grown → Type 0
 IsReplaced old (name ∷ []) path new = IsOpened old name path new
-IsReplaced old (m ∷ n ∷ ns) (s ∷ []) new = new ≡ joined old (m ∷ n ∷ ns) s.node
+IsReplaced old (m ∷ n ∷ ns) (s ∷ []) new = new ≡ joined_grown old (m ∷ n ∷ ns) s.node
 IsReplaced old gone path new = ⊥

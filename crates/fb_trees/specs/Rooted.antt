@@ -47,8 +47,8 @@ abbrev pub bare : ℕ → Grown
 bare root = record { root = root; branches = [] }
 
 -- the tree with one branch more
-abbrev pub attached : Grown → EntryOf ℕ → Grown
-attached t e = record t { branches = e ∷ t.branches }
+abbrev pub attached_grown : Grown → EntryOf ℕ → Grown
+attached_grown t e = record t { branches = e ∷ t.branches }
 
 -- The branches that a blossom takes in, those with a minus node in it, hang on its base or on one another, and only the
 -- base hangs on a branch that it doesn't take in.

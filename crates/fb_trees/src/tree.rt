@@ -3,8 +3,8 @@ ghost use Rattle.std.specs.Option.{option_map};
 ghost use Rattle.fb_graph.specs.Nests.{AreMany};
 ghost use Rattle.fb_laws.specs.Trees.{branches_beside, path_to};
 ghost use Rattle.fb_trees.specs.Branches.{Grown, entries_of, entry_of};
-ghost use Rattle.fb_trees.specs.Rooted.{IsBranchAt, IsMinus, IsPlus, IsRooted, attached, bare, is_node, role_in};
-ghost use Rattle.fb_trees.specs.Replacements.{IsOpened, IsReplaced, MayJoin, MayOpen, MayReplace, joined};
+ghost use Rattle.fb_trees.specs.Rooted.{IsBranchAt, IsMinus, IsPlus, IsRooted, attached_grown, bare, is_node, role_in};
+ghost use Rattle.fb_trees.specs.Replacements.{IsOpened, IsReplaced, MayJoin, MayOpen, MayReplace, joined_grown};
 ghost use Rattle.fb_trees.specs.TreeSteps.{IsCycle, path_up, steps_up};
 ghost use Rattle.fb_trees.specs.InternalPlaces.{branch_at};
 
@@ -93,7 +93,7 @@ impl Tree {
         requires minus { is_node self.old minus ≡ false }
         requires matched { is_node self.old matched.node ≡ false }
         requires apart { minus ≢ matched.node }
-        ensures ok { OnOk result (self.new ≡ attached self.old (record { parent = plus; tree = link; minus = minus; matched = matched.link; plus = matched.node })) }
+        ensures ok { OnOk result (self.new ≡ attached_grown self.old (record { parent = plus; tree = link; minus = minus; matched = matched.link; plus = matched.node })) }
         ensures err { OnErr result (self.new ≡ self.old) }
     {
         let branch = Branch {
@@ -257,7 +257,7 @@ impl Tree {
     /// Puts the blossom in the place of the nodes.
     fn join(&mut self, alloc: Global, gone: &[NodeId], blossom: NodeId) -> Result<(), NoMemory>
         requires { MayJoin self.old gone.now blossom }
-        ensures ok { OnOk result (self.new ≡ joined self.old gone.now blossom) }
+        ensures ok { OnOk result (self.new ≡ joined_grown self.old gone.now blossom) }
         ensures err { OnErr result (self.new ≡ self.old) }
     {
         let inside = names_of(alloc, gone)?;

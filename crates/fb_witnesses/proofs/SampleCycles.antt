@@ -1,5 +1,5 @@
 -- The premises of the law on a cycle that becomes a blossom, computed on the triangle.
-use Rattle.std.proofs.Common.{ℕ, ◌≡◌, ◌≢◌, ◌+◌, inl, true, false, List, [], ◌∷◌, refl, arith}
+use Rattle.std.proofs.Common.{◌≡◌, ◌+◌, inl, true, false, [], ◌∷◌, refl, arith}
 use Rattle.std.proofs.lemmas.List.Elements.{All-from_recursion}
 use Rattle.fb_graph.specs.Parity.{is_in}
 use Rattle.fb_graph.specs.Problem.{edge_at}
@@ -14,12 +14,9 @@ use Rattle.fb_laws.specs.Works.{IsSetOf}
 use Rattle.fb_witnesses.specs.Samples.{link, triangle, corner_nodes, corner_singles}
 use Rattle.fb_witnesses.specs.Witnesses.{FormingWitness}
 use Rattle.fb_witnesses.proofs.SampleLevels.{corners_apart}
-use Rattle.fb_witnesses.proofs.SampleParts.{corner_height, one_height}
+use Rattle.fb_witnesses.proofs.SampleParts.{corner_height, one_height, some_walk}
 use Rattle.fb_witnesses.proofs.SampleStates.{corners_are_singles}
 use Rattle.fb_graph.proofs.SingleStates.{singles_are_dual}
-
-some_walk : (k : ℕ) (ks : List ℕ) → (k ∷ ks) ≢ []
-some_walk k ks e = cc
 
 pub forming_witness : FormingWitness
 forming_witness = (

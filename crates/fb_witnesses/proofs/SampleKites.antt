@@ -25,8 +25,8 @@ use Rattle.fb_laws.specs.Searches.{IsSearch}
 use Rattle.fb_witnesses.specs.CycleWitnesses.{ClosedWitness, OpenedWitness, kite, kite_singles, kite_leaves, kite_blossom, kite_branch, corner_links}
 use Rattle.fb_graph.proofs.BeginningNests.{nest_begins}
 use Rattle.fb_graph.proofs.JoinedNests.{nest_joined}
-use Rattle.fb_witnesses.proofs.SampleParts.{one_height}
-use Rattle.fb_witnesses.proofs.SampleSearches.{some_walk, search_witness}
+use Rattle.fb_witnesses.proofs.SampleParts.{one_height, some_walk}
+use Rattle.fb_witnesses.proofs.SampleSearches.{search_witness}
 use Rattle.fb_witnesses.proofs.SampleStates.{may_by_cases, outer_by_cases, of_three}
 use Rattle.fb_laws.proofs.SearchStates.{links_joined}
 use Rattle.fb_graph.proofs.SteppedNests.{nest_stepped}

@@ -19,6 +19,7 @@ use Rattle.fb_laws.specs.Opening.{IsWithinOne, IsAlikeOver, single_sets, EndsAtD
 use Rattle.fb_witnesses.specs.Samples.{link, line, line_part, triangle, blossom_cuts}
 use Rattle.fb_witnesses.specs.Witnesses.{FusionWitness, OpeningWitness}
 use Rattle.fb_witnesses.proofs.SampleStates.{odd_cut, of_one, of_three, whole_one, apart_ones}
+use Rattle.fb_witnesses.proofs.SampleParts.{some_walk}
 use Rattle.fb_graph.proofs.Examples.{fits_by_cases}
 
 part_of_line : (vertices : List ℕ) → ((v : ℕ) → is_in vertices v ≡ true → is_in (1 ∷ 3 ∷ []) v ≡ true)
@@ -42,9 +43,6 @@ pub either_end : (v : ℕ) → is_in (1 ∷ 3 ∷ []) v ≡ true → (is_in (1 �
 either_end =
     is_in-All (λ v. (is_in (1 ∷ []) v ≡ true) ⊎ (is_in (3 ∷ []) v ≡ true)) (1 ∷ 3 ∷ [])
     (All-from_recursion (λ v. (is_in (1 ∷ []) v ≡ true) ⊎ (is_in (3 ∷ []) v ≡ true)) (1 ∷ 3 ∷ []) (inl refl, (inr refl, tt)))
-
-some_walk : (k : ℕ) (ks : List ℕ) → (k ∷ ks) ≢ []
-some_walk k ks e = cc
 
 pub left_link : IsLinkOf (line_part (1 ∷ [])) (link 1 0 (0 ∷ []))
 left_link = record {

@@ -7,7 +7,7 @@ use Rattle.fb_graph.proofs.NestParts.{names_live}
 use Rattle.fb_graph.proofs.Sets.{is_in-All}
 use Rattle.fb_laws.specs.RenamedStates.{AreCyclesRenamed}
 use Rattle.fb_laws.proofs.RenamedStates.{live_links_renamed, state_renamed}
-use Rattle.fb_witnesses.specs.RenamedWitnesses.{RenamedWitness, mirrored, mirrored_cycles}
+use Rattle.fb_witnesses.specs.RenamedWitnesses.{RenamedWitness, mirrored_name, mirrored_cycles}
 use Rattle.fb_witnesses.specs.StateWitnesses.{blossom_pair, pentagon}
 use Rattle.fb_witnesses.proofs.SamplePentagons.{pair_state}
 
@@ -24,18 +24,18 @@ few =
     of_live (λ n. n ≤ 7) (omega arith) (omega arith) (omega arith) (omega arith) (omega arith) (omega arith)
     (omega arith) (omega arith)
 
-back : (n : ℕ) → is_live blossom_pair.nodes n ≡ true → mirrored n ≡ 7 - n
-back = of_live (λ n. mirrored n ≡ 7 - n) refl refl refl refl refl refl refl refl
+back : (n : ℕ) → is_live blossom_pair.nodes n ≡ true → mirrored_name n ≡ 7 - n
+back = of_live (λ n. mirrored_name n ≡ 7 - n) refl refl refl refl refl refl refl refl
 
-apart : AreRenamedApart mirrored blossom_pair.nodes
+apart : AreRenamedApart mirrored_name blossom_pair.nodes
 apart a b live other same =
     let first : a ≤ 7 = few a live in
     let second : b ≤ 7 = few b other in
     let e : 7 - a ≡ 7 - b = sym (back a live) ∙ (same ∙ back b other) in
     omega arith
 
-cycles : AreCyclesRenamed mirrored blossom_pair mirrored_cycles
-cycles = of_live (λ n. mirrored_cycles (mirrored n) ≡ blossom_pair.cycles n) refl refl refl refl refl refl refl refl
+cycles : AreCyclesRenamed mirrored_name blossom_pair mirrored_cycles
+cycles = of_live (λ n. mirrored_cycles (mirrored_name n) ≡ blossom_pair.cycles n) refl refl refl refl refl refl refl refl
 
 pub renamed_witness : RenamedWitness
 renamed_witness = (
@@ -45,11 +45,11 @@ renamed_witness = (
   refl,
   refl,
   refl,
-  state_renamed pentagon blossom_pair mirrored mirrored_cycles apart cycles pair_state,
+  state_renamed pentagon blossom_pair mirrored_name mirrored_cycles apart cycles pair_state,
   refl,
   refl,
   refl,
   refl,
   refl,
-  live_links_renamed blossom_pair mirrored mirrored_cycles cycles,
+  live_links_renamed blossom_pair mirrored_name mirrored_cycles cycles,
 )

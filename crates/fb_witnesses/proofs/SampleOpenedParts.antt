@@ -24,7 +24,7 @@ use Rattle.fb_laws.specs.Opening.{EndsAtDefects}
 use Rattle.fb_graph.proofs.Sets.{is_in-All}
 use Rattle.fb_witnesses.proofs.SampleNests.{grown_blossom}
 use Rattle.fb_witnesses.proofs.SampleResolutions.{resolved_witness}
-use Rattle.fb_witnesses.proofs.SampleSearches.{some_walk}
+use Rattle.fb_witnesses.proofs.SampleParts.{some_walk}
 use Rattle.fb_laws.proofs.SearchStates.{links_joined}
 
 over_edge : (u v k : ℕ) → k < 4 → Leads (edge_at triangle.edges k) u v

@@ -77,7 +77,7 @@ young_are_singles = record {
   total = omega arith;
 }
 
-some_walk : (k : ℕ) (ks : List ℕ) → (k ∷ ks) ≢ []
+pub some_walk : (k : ℕ) (ks : List ℕ) → (k ∷ ks) ≢ []
 some_walk k ks e = cc
 
 AtDefects : Link → Type 0

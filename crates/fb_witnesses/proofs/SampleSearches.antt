@@ -1,5 +1,5 @@
 -- A search on a line.
-use Rattle.std.proofs.Common.{ℕ, ◌≡◌, ◌+◌, ◌%◌, ◌≢◌, inl, inr, true, List, [], ◌∷◌, refl, arith}
+use Rattle.std.proofs.Common.{ℕ, ◌≡◌, ◌+◌, ◌%◌, inl, inr, true, [], ◌∷◌, refl, arith}
 use Rattle.std.proofs.lemmas.List.Elements.{All-nil, All-from_recursion}
 use Rattle.fb_graph.specs.Parity.{is_in}
 use Rattle.fb_graph.specs.Problem.{edge_at}
@@ -15,7 +15,7 @@ use Rattle.fb_graph.specs.Singles.{AreSingles}
 use Rattle.fb_laws.specs.Works.{AreMatchedLinks, IsMatching}
 use Rattle.fb_laws.specs.Searches.{IsSearch}
 use Rattle.fb_witnesses.specs.SearchWitnesses.{chain_singles, chain_nodes, chain_branch, SearchWitness}
-use Rattle.fb_witnesses.proofs.SampleParts.{one_height}
+use Rattle.fb_witnesses.proofs.SampleParts.{one_height, some_walk}
 use Rattle.fb_witnesses.proofs.SampleStates.{odd_cut, of_three}
 use Rattle.fb_laws.proofs.SearchStates.{search_attached}
 use Rattle.fb_graph.proofs.SingleStates.{singles_are_dual}
@@ -37,9 +37,6 @@ chain_are_singles = record {
       (inr (0, omega arith, refl), (inr (1, omega arith, refl), (inl refl, tt)));
   total = omega arith;
 }
-
-pub some_walk : (k : ℕ) (ks : List ℕ) → (k ∷ ks) ≢ []
-some_walk k ks e = cc
 
 AtDefects : Link → Type 0
 AtDefects l =

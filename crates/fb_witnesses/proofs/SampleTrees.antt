@@ -34,15 +34,12 @@ use Rattle.fb_graph.proofs.LoweredNests.{nest_uncovered}
 use Rattle.fb_laws.proofs.MoveBridges.{joining_allowed}
 use Rattle.fb_graph.proofs.RaisedNests.{nest_absorbed}
 use Rattle.fb_witnesses.proofs.SampleNests.{corner_nest}
-use Rattle.fb_witnesses.proofs.SampleParts.{corner_height, one_height}
+use Rattle.fb_witnesses.proofs.SampleParts.{corner_height, one_height, some_walk}
 use Rattle.fb_witnesses.proofs.SampleStates.{odd_cut, of_three}
 use Rattle.fb_graph.proofs.SourceWalks.{walks_begin, walks_absorbed}
 use Rattle.fb_graph.proofs.SingleStates.{singles_are_dual, all_outer}
 use Rattle.fb_laws.proofs.UnmatchedNames.{outer_absorbed}
 use Rattle.fb_graph.proofs.Examples.{fits_by_cases}
-
-some_walk : (k : ℕ) (ks : List ℕ) → (k ∷ ks) ≢ []
-some_walk k ks e = cc
 
 -- one link whose walk begins with an edge
 pub one_link : (p : Problem) (nodes : List Node) (u v k : ℕ) (ks : List ℕ) → IsWalkBy p (k ∷ ks) u v

@@ -38,10 +38,10 @@ seen_sampling s = record {
   window = s.window;
 }
 
-abbrev pub seen : BorrowedRequest → Request
-seen (Decode d) = decode (seen_decoding d)
-seen (Check c) = check (seen_checking c)
-seen (Sample s) = sample (seen_sampling s)
+abbrev pub seen_request : BorrowedRequest → Request
+seen_request (Decode d) = decode (seen_decoding d)
+seen_request (Check c) = check (seen_checking c)
+seen_request (Sample s) = sample (seen_sampling s)
 
 -- what a fault says is wrong with the words; none where memory was wanting
 abbrev pub usage_of : WordsFault → Option UsageKind

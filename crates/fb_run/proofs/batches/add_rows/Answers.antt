@@ -23,5 +23,5 @@ loop-row-preserved c =
           ∙ ap (λ (n : ℕ). c.args.outbox.now.text ++ (so_far ++ row_text n c.row-item.result)) place
           ∙ ap (λ r. c.args.outbox.now.text ++ (so_far ++ row_text (first + i) r)) c.row-item.is
           ∙ ap (λ (text : List ℕ). c.args.outbox.now.text ++ text) (sym (rows_text-take first rows i c.row-item.result c.loop-row-test.true));
-      counts = rw c.counted-tally.ensures (counts-take c.args.tally c.loop-row.tally rows i c.row-item.result c.loop-row-test.true c.row-item.is c.loop-row.invariant.counts);
+      counts = rw c.with_row-tally.ensures (counts-take c.args.tally c.loop-row.tally rows i c.row-item.result c.loop-row-test.true c.row-item.is c.loop-row.invariant.counts);
     }

@@ -3,7 +3,7 @@ use Rattle.fb_half.specs.Values.{part_of}
 use Rattle.fb_search.specs.Meetings.{IsPairOver}
 use Rattle.fb_search.specs.MetWalks.{IsMetWalk}
 use Rattle.fb_search.specs.Progress.{GoesOn}
-use Rattle.fb_search.specs.Searching.{SearchValue, problem_of, relinked}
+use Rattle.fb_search.specs.Searching.{SearchValue, problem_of, relinked_search}
 use Rattle.fb_search.proofs.ClosedCycles.{Closes}
 use Rattle.fb_search.proofs.MetPairs.{link_closes, pair_between}
 use Rattle.fb_search.proofs.RoundedSearches.{goes_on_relinked}
@@ -69,7 +69,7 @@ close_cycle-requires c =
     met_scoped w.part c.self.inside.parts.regions.scope c.self.invariant.0 c.args.edge c.paired_nodes-first.result.0
     c.paired_nodes-first.result.1 c.in_ok-walk.walk (pair_between w c.args.edge c.paired_nodes-first.result.0
     c.paired_nodes-first.result.1 pair) c.in_ok-walk.ensures in
-    let closes : Closes (relinked c.make.new.self w) c.paired_nodes-first.result.0 c.paired_nodes-first.result.1
+    let closes : Closes (relinked_search c.make.new.self w) c.paired_nodes-first.result.0 c.paired_nodes-first.result.1
     c.in_ok-closing.closing =
     link_closes w c.args.edge c.paired_nodes-first.result.0 c.paired_nodes-first.result.1 pair c.in_ok-walk.walk
     c.in_ok-closing.closing
@@ -93,5 +93,5 @@ returns c =
       watched = c.self.inside.watch;
     } in
     rw (← c.self.view_is)
-    (IfOk-weaker c.close_cycle.result (GoesOn (relinked c.make.new.self w)) (GoesOn w)
+    (IfOk-weaker c.close_cycle.result (GoesOn (relinked_search c.make.new.self w)) (GoesOn w)
     (λ after goes. goes_on_relinked w after c.make.new.self goes) c.close_cycle.ensures)
