@@ -25,7 +25,7 @@ pub on_is_in : (cycle : List CycleStep) (x : ℕ) → is_on cycle x ≡ is_in (n
 on_is_in [] x = refl
 on_is_in (s ∷ ss) x = ap (λ b. (s.node == x) || b) (on_is_in ss x)
 
-pub steps_distinct : (cycle : List CycleStep) → AreDistinct (nodes_of cycle) → blossoms.AreDistinct cycle
+pub steps_distinct : (cycle : List CycleStep) → AreDistinct (nodes_of cycle) → blossoms.HasDistinctNodes cycle
 steps_distinct [] distinct = tt
 steps_distinct (s ∷ ss) distinct = (on_is_in ss s.node ∙ distinct.0, steps_distinct ss distinct.1)
 
