@@ -8,7 +8,8 @@ use Rattle.fb_ports.proofs.Onward.{prefix_first, prefix_second}
 use Rattle.fb_shots.specs.Shots.{at_end}
 use Rattle.fb_shots.specs.declared.answer.Format.{Format}
 use Rattle.fb_shots.specs.Streams.{Stream, fresh}
-use Rattle.fb_check.specs.CheckEndings.{ChecksPrefix, LinesEnd, WritesCheck, FirstOf}
+use Rattle.fb_check.specs.CheckEndings.{check_account, check_source}
+use Rattle.fb_check.specs.TextEnds.{FirstOf, TextEnds, WritesPrefix, WritesWhole}
 use Rattle.fb_check.specs.Checks.{bad_count, check_cause, check_prefix, check_head, check_last, verdict_lines}
 use Rattle.fb_check.specs.Ends.{IsReadToItsEnd}
 use Rattle.fb_check.specs.Judges.{EndsCheck, JudgesAll, JudgesFirst, JudgesInto}
@@ -139,40 +140,40 @@ never_memory (end.Refused fault) lines shots bad old new cause (same, is) e = cc
 never_memory end.ReadFault lines shots bad old new cause (same, is) e = cc
 
 module _ (named : Named) (request : Checking) (g : DecodingGraph) (rows : List Row) where
-  pub checks_head : (old new : Option (List ℕ)) → AppendsPrefix old new check_head → ChecksPrefix named request g rows old new
+  pub checks_head : (old new : Option (List ℕ)) → AppendsPrefix old new check_head → WritesPrefix (check_account g rows) named (check_source request g) old new
   checks_head old new prefix = record {
     shots = [];
     input = inl refl;
-    verdicts = [];
-    answers = tt;
+    answers = [];
+    right = tt;
     written = inl (prefix_first old new check_head [] prefix);
   }
 
   -- want of memory after the head
-  pub checks_after_head : (old new : Option (List ℕ)) → Appends old new check_head → ChecksPrefix named request g rows old new
+  pub checks_after_head : (old new : Option (List ℕ)) → Appends old new check_head → WritesPrefix (check_account g rows) named (check_source request g) old new
   checks_after_head old new all = checks_head old new (check_head, [], sym (append-nil check_head), all)
 
   pub checks_first : (old mid new : Option (List ℕ)) → Appends old mid check_head
-      → JudgesFirst (FirstOf named request.shots request.format g) g rows mid new → ChecksPrefix named request g rows old new
+      → JudgesFirst (FirstOf named request.shots request.format g) g rows mid new → WritesPrefix (check_account g rows) named (check_source request g) old new
   checks_first old mid new head first = record {
     shots = first.shots;
     input = first.input;
-    verdicts = first.verdicts;
-    answers = first.answers;
+    answers = first.verdicts;
+    right = first.answers;
     written = inl (prefix_second old mid new check_head (verdict_lines 0 first.verdicts) head first.written);
   }
 
   checks_by : (left old new : Option (List ℕ)) (lines shots bad : ℕ) (cause : Cause) → cause ≡ check_cause lines shots bad
-      → WritesCheck named request g rows old new cause → LinesEnd named request g rows left old new cause
+      → WritesWhole (check_account g rows) named (check_source request g) old new cause → TextEnds (check_account g rows) named (check_source request g) left old new cause
   checks_by left old new lines shots bad cause e wrote = by_both (bad == 0 && lines == shots) e
     where
-      by_both : (good : Bool) → cause ≡ (if good then Done else Bad bad) → LinesEnd named request g rows left old new cause
+      by_both : (good : Bool) → cause ≡ (if good then Done else Bad bad) → TextEnds (check_account g rows) named (check_source request g) left old new cause
       by_both true is = rw is (rw is at wrote)
       by_both false is = rw is (rw is at wrote)
 
   pub checks_on : (left old mid last new : Option (List ℕ)) (j : Judged) (lines : ℕ) (cause : Cause) → lines ≡ length rows → Appends old mid check_head
       → JudgesAll (λ shots. Gathers named request.shots request.format g left shots j.end) g rows mid last j
-      → EndsCheck j.end lines j.shots j.bad last new cause → LinesEnd named request g rows left old new cause
+      → EndsCheck j.end lines j.shots j.bad last new cause → TextEnds (check_account g rows) named (check_source request g) left old new cause
   checks_on left old mid last new j lines cause many head all ends = go j.end all.input ends
     where
       prefix : Appends old last (check_prefix all.verdicts)
@@ -190,35 +191,35 @@ module _ (named : Named) (request : Checking) (g : DecodingGraph) (rows : List R
       are_first text e = ([], ap (λ r. r.shots) e ∙ sym (append-nil all.shots))
 
       go : (ended : ShotsEnd) → Gathers named request.shots request.format g left all.shots ended → EndsCheck ended lines j.shots j.bad last new cause
-          → LinesEnd named request g rows left old new cause
+          → TextEnds (check_account g rows) named (check_source request g) left old new cause
       go end.End held (inl (whole, is)) = checks_by left old new lines j.shots j.bad cause is (record {
         shots = all.shots;
         input = held;
-        verdicts = all.verdicts;
-        answers = all.answers;
+        answers = all.verdicts;
+        right = all.answers;
         written = Appends-trans old last new (check_prefix all.verdicts) _ prefix (subst (Appends last new) same_line whole);
         ends = is ∙ same_cause;
       })
       go end.End held (inr (part, is)) = rw is (record {
         shots = all.shots;
         input = inr (holds_more named request.shots _ _ are_first held);
-        verdicts = all.verdicts;
-        answers = all.answers;
+        answers = all.verdicts;
+        right = all.answers;
         written = inr (held, prefix_second old last new (check_prefix all.verdicts) _ prefix (subst (AppendsPrefix last new) same_line part));
       })
       go (end.Refused fault) held (same, is) = rw is (record {
         shots = all.shots;
         input = held.0;
         place = held.1;
-        verdicts = all.verdicts;
-        answers = all.answers;
+        answers = all.verdicts;
+        right = all.answers;
         written = rw same prefix;
       })
       go end.ReadFault held (same, is) = rw is (inr (record {
         shots = all.shots;
         input = held;
-        verdicts = all.verdicts;
-        answers = all.answers;
+        answers = all.verdicts;
+        right = all.answers;
         written = rw same prefix;
       }))
 

@@ -1,5 +1,6 @@
-pub mod Ends
+pub mod CheckEndings
 pub mod Checks
+pub mod Ends
 pub mod Judges
 pub mod NoReports
-pub mod CheckEndings
+pub mod TextEnds

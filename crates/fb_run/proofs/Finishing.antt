@@ -8,12 +8,13 @@ use Rattle.fb_ports.proofs.Onward.{prefix_first, prefix_second}
 use Rattle.fb_report.specs.Texts.{head_text}
 use Rattle.fb_shots.specs.Shots.{Ending, at_end}
 use Rattle.fb_check.specs.Ends.{IsReadToItsEnd}
+use Rattle.fb_check.specs.TextEnds.{TextEnds, WritesPrefix, WritesWhole}
 use Rattle.fb_inputs.proofs.Gathered.{gathers_opened, holds_opened}
 use Rattle.fb_inputs.proofs.Lists.{holds_more}
 use Rattle.fb_inputs.specs.Judging.{FirstFrom, Gathers, GathersFrom, HasFirstShots, HasShots, IsOpened, Named}
 use Rattle.fb_run.proofs.Batched.{counted_rows}
 use Rattle.fb_run.specs.Decoding.{all_rows, batches_text, cause_of, last_line, report_prefix}
-use Rattle.fb_run.specs.Endings.{RowsEnd, WritesPrefix, WritesReport}
+use Rattle.fb_run.specs.Endings.{decode_account, decode_source}
 use Rattle.fb_run.specs.Rows.{Counts, counts_of}
 use Rattle.fb_run.specs.Writes.{EndsReport, WritesBatches, WritesFirstBatches, counts_in}
 use Rattle.fb_words.specs.Words.{Decoding}
@@ -35,42 +36,42 @@ module _ (named : Named) (request : Decoding) (g : DecodingGraph) (t : PlanTree)
   are_first shots ending text e = ([], ap (λ r. r.shots) e ∙ sym (append-nil shots))
 
   -- a fault before any row
-  prefix_of_head : (old new : Option (List ℕ)) → AppendsPrefix old new head_text → WritesPrefix named request g t old new
+  prefix_of_head : (old new : Option (List ℕ)) → AppendsPrefix old new head_text → WritesPrefix (decode_account request g t) named (decode_source request g) old new
   prefix_of_head old new prefix = record {
     shots = [];
     input = inl refl;
-    batches = [];
-    answers = refl;
+    answers = [];
+    right = refl;
     written = inl (prefix_first old new head_text [] prefix);
   }
 
   -- want of memory after the head
-  pub prefix_after_head : (old new : Option (List ℕ)) → Appends old new head_text → WritesPrefix named request g t old new
+  pub prefix_after_head : (old new : Option (List ℕ)) → Appends old new head_text → WritesPrefix (decode_account request g t) named (decode_source request g) old new
   prefix_after_head old new all = prefix_of_head old new (head_text, [], sym (append-nil head_text), all)
 
   -- a fault while the rows are written
   pub prefix_of_batches : (left old mid new : Option (List ℕ)) → IsOpened named request.shots left → Appends old mid head_text
-      → WritesFirstBatches (FirstFrom left request.format g) request g t mid new → WritesPrefix named request g t old new
+      → WritesFirstBatches (FirstFrom left request.format g) request g t mid new → WritesPrefix (decode_account request g t) named (decode_source request g) old new
   prefix_of_batches left old mid new opened head wrote = record {
     shots = wrote.shots;
     input = inr (holds_opened named request.shots left (HasFirstShots request.format g wrote.shots) opened wrote.input);
-    batches = wrote.batches;
-    answers = wrote.answers;
+    answers = wrote.batches;
+    right = wrote.answers;
     written = inl (prefix_second old mid new head_text (batches_text request.trace 0 wrote.batches) head wrote.written);
   }
 
   -- by a decode of all shots
-  ends_by : (left old new : Option (List ℕ)) (counts : Counts) (cause : Cause) → cause ≡ cause_of counts → WritesReport named request g t old new cause
-      → RowsEnd named request g t left old new cause
+  ends_by : (left old new : Option (List ℕ)) (counts : Counts) (cause : Cause) → cause ≡ cause_of counts → WritesWhole (decode_account request g t) named (decode_source request g) old new cause
+      → TextEnds (decode_account request g t) named (decode_source request g) left old new cause
   ends_by left old new counts cause e wrote = by_odd (counts.odd == 0) e
     where
-      by_odd : (no_odd : Bool) → cause ≡ (if no_odd then Done else Odd) → RowsEnd named request g t left old new cause
+      by_odd : (no_odd : Bool) → cause ≡ (if no_odd then Done else Odd) → TextEnds (decode_account request g t) named (decode_source request g) left old new cause
       by_odd true is = rw is (rw is at wrote)
       by_odd false is = rw is (rw is at wrote)
 
   pub ends_on : (before left old mid last new : Option (List ℕ)) (ended : ShotsEnd) (tally : Tally) (cause : Cause) → IsOpened named request.shots before
       → Appends old mid head_text → WritesBatches (λ shots. GathersFrom before request.format g left shots ended) request g t mid last tally
-      → EndsReport t ended (tally.best + tally.odd) (counts_in tally) last new cause → RowsEnd named request g t left old new cause
+      → EndsReport t ended (tally.best + tally.odd) (counts_in tally) last new cause → TextEnds (decode_account request g t) named (decode_source request g) left old new cause
   ends_on before left old mid last new ended tally cause opened head wrote report =
       go ended (gathers_opened named request.shots before request.format g left wrote.shots ended opened wrote.input) report
     where
@@ -82,34 +83,34 @@ module _ (named : Named) (request : Decoding) (g : DecodingGraph) (t : PlanTree)
           ∙ ap (λ c. last_line t (length (all_rows wrote.batches)) c) wrote.counts
 
       go : (e : ShotsEnd) → Gathers named request.shots request.format g left wrote.shots e → EndsReport t e (tally.best + tally.odd) (counts_in tally) last new cause
-          → RowsEnd named request g t left old new cause
+          → TextEnds (decode_account request g t) named (decode_source request g) left old new cause
       go end.End held (inl (all, is)) = ends_by left old new (counts_in tally) cause is (record {
         shots = wrote.shots;
         input = held;
-        batches = wrote.batches;
-        answers = wrote.answers;
+        answers = wrote.batches;
+        right = wrote.answers;
         written = Appends-trans old last new (report_prefix request.trace wrote.batches) _ prefix (subst (Appends last new) same_line all);
         ends = is ∙ ap cause_of wrote.counts;
       })
       go end.End held (inr (part, is)) = rw is (record {
         shots = wrote.shots;
         input = inr (holds_more named request.shots _ _ (are_first wrote.shots at_end) held);
-        batches = wrote.batches;
-        answers = wrote.answers;
+        answers = wrote.batches;
+        right = wrote.answers;
         written = inr (held, prefix_second old last new (report_prefix request.trace wrote.batches) _ prefix (subst (AppendsPrefix last new) same_line part));
       })
       go (end.Refused fault) held (same, is) = rw is (record {
         shots = wrote.shots;
         input = held.0;
         place = held.1;
-        batches = wrote.batches;
-        answers = wrote.answers;
+        answers = wrote.batches;
+        right = wrote.answers;
         written = rw same prefix;
       })
       go end.ReadFault held (same, is) = rw is (inr (record {
         shots = wrote.shots;
         input = held;
-        batches = wrote.batches;
-        answers = wrote.answers;
+        answers = wrote.batches;
+        right = wrote.answers;
         written = rw same prefix;
       }))

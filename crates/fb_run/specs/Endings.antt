@@ -1,81 +1,37 @@
 -- What each end of a run says of what was written and read.
-use Rattle.std.specs.Prelude.{ℕ, ◌≡◌, ◌⊎◌, List, [], ◌∷◌, length, Option, Some, None}
-use Rattle.fb_graph.specs.Limits.{DecodingGraph, ShotValue}
+use Rattle.std.specs.Prelude.{ℕ, ◌⊎◌, List, [], ◌∷◌, Option, Some, None}
+use Rattle.fb_graph.specs.Limits.{DecodingGraph}
 use Rattle.fb_plan.specs.Plans.{PlanTree, single_of}
-use Rattle.fb_ports.specs.Causes.{Appends, AppendsPrefix}
-use Rattle.fb_shots.specs.Shots.{at_end, refused}
-use Rattle.fb_shots.specs.declared.answer.ShotFault.{ShotFault}
 use Rattle.fb_check.specs.Ends.{EndsAtFile, EndsInText, IsGraphRefusal}
+use Rattle.fb_check.specs.TextEnds.{Account, Source, TextEnds}
 use Rattle.fb_run.specs.Decoding.{AreBatches, Batch, all_rows, cause_of, report_prefix, report_text}
 use Rattle.fb_report.specs.Texts.{head_text}
-use Rattle.fb_inputs.specs.Judging.{Asks, HasFirstShots, HasShots, Holds, IsGraphText, IsNoPlan, IsPlanText, IsReadInPart, IsReadOutIfNamed, Named}
+use Rattle.fb_inputs.specs.Judging.{Asks, Holds, IsGraphText, IsNoPlan, IsPlanText, Named}
 use Rattle.fb_inputs.specs.Moments.{Moment, ReadsFile}
 use Rattle.fb_run.specs.Rows.{counts_of}
 use Rattle.fb_words.specs.Words.{Decoding}
 use Rattle.fb_endings.specs.declared.ending.Cause.{Cause}
-use Rattle.fb_endings.specs.declared.ending.Cause.TheVariants.{Done, Odd, Bad, Refused, ReadFault, WriteFault, NoMemory, Usage}
 use Rattle.fb_endings.specs.declared.ending.Refusal.{Refusal}
 use Rattle.fb_endings.specs.declared.ending.Refusal.TheVariants as refusal
 
--- The shots were read to their end, and a whole report of them was written.
-pub record WritesReport (named : Named) (request : Decoding) (g : DecodingGraph) (t : PlanTree) (old new : Option (List ℕ)) (cause : Cause) : Type 0 where
-  pub shots : List ShotValue
-  pub input : Holds named request.shots (HasShots request.format g shots at_end)
-  pub batches : List Batch
-  pub answers : AreBatches request g t shots batches
-  pub written : Appends old new (report_text t request.trace batches)
-  pub ends : cause ≡ cause_of (counts_of (all_rows batches))
+-- a decode writes a right row for each shot, in batches
+abbrev pub decode_account : Decoding → DecodingGraph → PlanTree → Account Batch
+decode_account request g t = record {
+  Answers = AreBatches request g t;
+  head = head_text;
+  prefix = report_prefix request.trace;
+  whole = λ shots batches. report_text t request.trace batches;
+  cause = λ shots batches. cause_of (counts_of (all_rows batches));
+}
 
--- The shots end by a refusal, and the head and the rows of those before it were written.
-pub record WritesBefore (named : Named) (request : Decoding) (g : DecodingGraph) (t : PlanTree) (old new : Option (List ℕ)) (fault : ShotFault) : Type 0 where
-  pub shots : List ShotValue
-  pub input : Holds named request.shots (HasShots request.format g shots (refused fault.kind))
-  pub place : fault.shot ≡ length shots
-  pub batches : List Batch
-  pub answers : AreBatches request g t shots batches
-  pub written : Appends old new (report_prefix request.trace batches)
-
--- Reading the shots failed, and the head and the rows of the shots that the bytes read settle were written.
-pub record WritesGiven (named : Named) (request : Decoding) (g : DecodingGraph) (t : PlanTree) (left old new : Option (List ℕ)) : Type 0 where
-  pub shots : List ShotValue
-  pub input : Holds named request.shots (IsReadInPart request.format g left shots)
-  pub batches : List Batch
-  pub answers : AreBatches request g t shots batches
-  pub written : Appends old new (report_prefix request.trace batches)
-
--- the shots couldn't be opened, so nothing is left to be read, and the head was written
-abbrev pub WritesHead : Named → Option (List ℕ) → Option (List ℕ) → Option (List ℕ) → Type 0
-WritesHead named left old new = IsReadOutIfNamed named left × Appends old new head_text
-
--- A prefix was written of the head and the rows of some of the first shots, or of a whole report.
-pub record WritesPrefix (named : Named) (request : Decoding) (g : DecodingGraph) (t : PlanTree) (old new : Option (List ℕ)) : Type 0 where
-  pub shots : List ShotValue
-  pub input : (shots ≡ []) ⊎ Holds named request.shots (HasFirstShots request.format g shots)
-  pub batches : List Batch
-  pub answers : AreBatches request g t shots batches
-  pub written : AppendsPrefix old new (report_prefix request.trace batches)
-      ⊎ (Holds named request.shots (HasShots request.format g shots at_end) × AppendsPrefix old new (report_text t request.trace batches))
-
--- the end of a decode by a plan that asked for the shots of a graph, when `left` remains of them
-abbrev pub RowsEnd : Named → Decoding → DecodingGraph → PlanTree → Option (List ℕ) → Option (List ℕ) → Option (List ℕ) → Cause → Type 0
-RowsEnd named request g t left old new Done = WritesReport named request g t old new Done
-RowsEnd named request g t left old new Odd = WritesReport named request g t old new Odd
-RowsEnd named request g t left old new (Bad count) = ⊥
-RowsEnd named request g t left old new (Refused (refusal.Graph fault)) = ⊥
-RowsEnd named request g t left old new (Refused (refusal.Plan fault)) = ⊥
-RowsEnd named request g t left old new (Refused (refusal.Report fault)) = ⊥
-RowsEnd named request g t left old new (Refused (refusal.Sample fault)) = ⊥
-RowsEnd named request g t left old new (Refused (refusal.Shot fault)) = WritesBefore named request g t old new fault
-RowsEnd named request g t left old new ReadFault = WritesHead named left old new ⊎ WritesGiven named request g t left old new
-RowsEnd named request g t left old new WriteFault = WritesPrefix named request g t old new
-RowsEnd named request g t left old new NoMemory = WritesPrefix named request g t old new
-RowsEnd named request g t left old new (Usage kind) = ⊥
+abbrev pub decode_source : Decoding → DecodingGraph → Source
+decode_source request g = record { name = request.shots; format = request.format; graph = g }
 
 -- the shots were asked for, and the decode ended so
 abbrev pub EndsAtShots : Decoding → DecodingGraph → PlanTree → Moment → Moment → Cause → Type 0
 EndsAtShots request g t before after cause =
     Asks before.asked after.asked (request.shots ∷ [])
-    × RowsEnd before.named request g t after.left before.written after.written cause
+    × TextEnds (decode_account request g t) before.named (decode_source request g) after.left before.written after.written cause
 
 -- the end of a decode for a graph by a plan of it: before the shots are asked for, or after
 abbrev pub EndsOn : Decoding → DecodingGraph → PlanTree → Moment → Moment → Cause → Type 0

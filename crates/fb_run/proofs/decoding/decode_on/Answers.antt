@@ -1,7 +1,8 @@
-use Rattle.std.proofs.Common.{◌≡◌, ◌⊎◌, inl, inr, ℕ, List, Option, Some, option_map, refl, sym, ap, subst}
+use Rattle.std.proofs.Common.{◌≡◌, ◌⊎◌, inl, inr, ℕ, List, Option, None, Some, option_map, refl, sym, ap, subst}
 use Rattle.std.proofs.KnownBytes.{Appends-nil}
 use Rattle.fb_graph.specs.Limits.{DecodingGraph}
-use Rattle.fb_run.specs.Endings.{EndsByPlan, EndsWithPlan, IsPlanRefusal}
+use Rattle.fb_plan.specs.Plans.{PlanTree, single_of}
+use Rattle.fb_run.specs.Endings.{EndsByPlan, EndsOn, EndsWithPlan, IsPlanRefusal}
 use Rattle.fb_check.specs.Ends.{EndsAtFile}
 use Rattle.fb_inputs.specs.Moments.{Moment, moment}
 use Rattle.fb_words.specs.Words.{Decoding}
@@ -13,6 +14,17 @@ by_name : (plan : Option (List ℕ)) (request : Decoding) (g : DecodingGraph) (n
     → EndsAtFile (IsPlanRefusal g before.named name) name before after cause ⊎ EndsWithPlan request g name before after cause
     → EndsByPlan plan request g before after cause
 by_name plan request g name before after cause is ends = subst (λ (p : Option (List ℕ)). EndsByPlan p request g before after cause) (sym is) ends
+
+-- the end of a decode for which none is named
+by_default : (plan : Option (List ℕ)) (request : Decoding) (g : DecodingGraph) (t : PlanTree) (before after : Moment) (cause : Cause) → plan ≡ None
+    → t ≡ single_of g → EndsOn request g t before after cause → EndsByPlan plan request g before after cause
+by_default plan request g t before after cause is single ends =
+    subst (λ (p : Option (List ℕ)). EndsByPlan p request g before after cause) (sym is)
+    (subst (λ (u : PlanTree). EndsOn request g u before after cause) single ends)
+
+pub returns-in-Ok-clause-ends : goal.returns-in-Ok-clause-ends
+returns-in-Ok-clause-ends g c = by_default _ _ _ _ _ _ _ (ap (option_map (λ name. name.now)) c.in_default.is)
+    c.in-Ok.ensures.plan c.decode_by.ensures.ends
 
 pub returns-in-Ok-read_plan_file-clause-ends : goal.returns-in-Ok-read_plan_file-clause-ends
 returns-in-Ok-read_plan_file-clause-ends g c = by_name _ _ _ _ _ _ _ (ap (option_map (λ name. name.now)) c.in-Some.is) (inr (record {
