@@ -1,6 +1,6 @@
 """Runs the program while the system fails it, and judges what it has written by then; for the scripts beside this file.
 
-The oracle judges the answers without faults. A run under a fault must have such an answer, or tell the fault and have
+The oracle judges the answers without faults. A run under a fault must have such an answer, or report the fault and have
 written a prefix of it that isn't whole.
 """
 
@@ -43,7 +43,7 @@ SAMPLE = {"distance": 3, "rounds": 3, "units": 2, "rate": 200_000, "start": 5, "
 SAID = {3: b"fusion: read fault\n", 4: b"fusion: write fault\n", 5: b"fusion: out of memory\n"}
 
 # A command with its files; what it writes and its status where nothing fails; and what it writes for the first shots,
-# by how many they are, without its last line. Where the order of its events isn't known, `replay` tells what is wrong
+# by how many they are, without its last line. Where the order of its events isn't known, `replay` says what is wrong
 # with those of a text.
 Command = namedtuple("Command", "name words files whole status texts replay", defaults=[None, None, None, None])
 Outcome = namedtuple("Outcome", "answer log")
@@ -92,13 +92,13 @@ def whole_complaints(command, answer):
 
 
 def fault_complaints(command, answer, status):
-    """What is wrong with an answer that tells a fault."""
+    """What is wrong with an answer that reports a fault."""
     found = oracle.differences(answer, answer.stdout, SAID[status], status)
     return found + ([] if is_proper_prefix(command, answer.stdout) else [f"no prefix: {oracle.shown(answer.stdout)}"])
 
 
 def memory_complaints(command, answer):
-    """What is wrong with an answer that may tell want of memory."""
+    """What is wrong with an answer that may report want of memory."""
     if answer.status == 5:
         return fault_complaints(command, answer, 5)
     return whole_complaints(command, answer)

@@ -30,7 +30,7 @@ def lattice(distance, rounds):
 
 
 def fusions_of(rounds, units):
-    """The number of fusions of a plan of so many units, with a round between each two."""
+    """The number of fusions of a plan of `units` units, with a round between each two."""
     if rounds < 2 * units - 1:
         raise Refused("TooFewRounds")
     return units - 1

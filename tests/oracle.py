@@ -331,7 +331,7 @@ def decode_complaints(options, files, answer):
 
 
 def events_complaints(options, plan, graph, shots, text):
-    """What is wrong with the events that a report tells: all of them where they are asked for, else none."""
+    """What is wrong with the events that a report lists: all of them if they are asked for, else none."""
     if "--trace" not in options:
         found = any(line.startswith((b"took ", b"gave ")) for line in text.splitlines())
         return ["events that weren't asked for"] if found else []

@@ -1,4 +1,4 @@
-"""Replays the events that a report tells by a small model of the board, and judges the order in which parts were taken.
+"""Replays the events that a report lists by a small model of the board, and judges the order in which parts were taken.
 
 Nothing here is shared with the program. A part is a node of the plan for one shot. It is idle, held by a worker, given, or
 used by the fusion above it. A fusion may be taken once both its children are given. Whoever takes a part takes a fusion if
@@ -25,7 +25,7 @@ def events_of(text, shots, window):
 
 
 def trace_complaints(plan, workers, window, best, shots, text):
-    """What is wrong with the events of a report of so many shots, of which those in `best` have a correction."""
+    """What is wrong with the events of a report of `shots` shots, of which those in `best` have a correction."""
     events, complaints = events_of(text, shots, window)
     for place in range((shots + window - 1) // window):
         numbers = [k for k in range(place * window, min(shots, (place + 1) * window)) if k in best]

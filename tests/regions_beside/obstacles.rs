@@ -16,7 +16,7 @@ pub struct Expected {
 }
 
 impl Expected {
-    /// Whether the answer is one of the obstacles that stand; if none stands, the greatest length.
+    /// Whether the answer is one of the obstacles that there are; if there is none, the greatest length.
     pub fn allows(&self, answer: Obstacle) -> bool {
         match answer {
             Obstacle::Free(length) => {
