@@ -47,7 +47,7 @@ steps_at slots name = cycle_in (item_at slots name)
 abbrev pub is_kept : List (Option Item) → ℕ → Bool
 is_kept slots name = is_some (item_at slots name)
 
--- the defects of a node, down to so many levels
+-- the defects of a node, down to the given number of levels
 abbrev pub defects_in : List (Option Item) → ℕ → ℕ → List ℕ
 defects_in slots zero name = []
 defects_in slots (suc levels) name =
@@ -109,7 +109,7 @@ with_parent parent place i = record i { parent = parent; place = place }
 abbrev pub reparented_item : List CycleStep → Option ℕ → ℕ → Option Item → Option Item
 reparented_item cycle parent x o = if is_on cycle x then option_map (with_parent parent (last_place cycle x)) o else o
 
--- so many steps up from the one node lead to the other
+-- k steps up from the one node lead to the other
 abbrev pub Climbs : List (Option Item) → ℕ → ℕ → ℕ → Type 0
 Climbs slots zero x top = x ≡ top
 Climbs slots (suc k) x top = (p : ℕ) × (parent_at slots x ≡ Some p) × Climbs slots k p top

@@ -8,7 +8,7 @@ pub record Item : Type 0 where
   pub parent : Option ℕ
   -- its place in that cycle
   pub place : ℕ
-  -- how many nodes were made before it
+  -- the number of nodes that were made before it
   pub made : ℕ
   -- the defect that it is itself; none for a blossom
   pub own : List ℕ

@@ -8,7 +8,7 @@ use Rattle.slab.specs.Slab.{Slab, Updates, get}
 use Rattle.fb_blossoms.specs.InternalForest.{is_kept, item_at, own_at}
 use Rattle.fb_blossoms.specs.Merged.{new_count, old_count, renamed_cycle}
 
--- the item as if so many more nodes had been made before it
+-- the item as if `more` further nodes had been made before it
 abbrev pub shifted_item : ℕ → Item → Item
 shifted_item more i = record i { made = i.made + more }
 
@@ -19,7 +19,7 @@ renamed_item f g i = record i { parent = option_map f i.parent; cycle = renamed_
 abbrev pub is_pair : List (ℕ × ℕ) → ℕ → ℕ → Bool
 is_pair names a b = list_any (λ p. if p.0 == a then p.1 == b else false) names
 
--- the items below a bound are put into free slots, each later by so many, and the list has their names
+-- the items below a bound are put into free slots, each later by `more`, and the list has their names
 pub record AreTaken (old right new : List (Option Item)) (more bound : ℕ) (names : List (ℕ × ℕ)) : Type 0 where
   pub listed : (a : ℕ) → old_count names a ≡ (if is_kept right a then (if nat_lt a bound then 1 else 0) else 0)
   pub distinct : (b : ℕ) → new_count names b ≤ 1
@@ -37,7 +37,7 @@ renamed_among names f g x o = if list_any (λ p. p.1 == x) names then option_map
 abbrev pub AreAllTaken : Slab Item → Slab Item → Slab Item → ℕ → List (ℕ × ℕ) → Type 0
 AreAllTaken old right new more names = AreTaken old.slots right.slots new.slots more (length right.slots) names
 
--- a free slot has the item now, later by so many, and the list its name; without an item all stays as it was
+-- a free slot has the item now, later by `more`, and the list its name; without an item all stays as it was
 abbrev pub IsStepOver : Slab Item → Slab Item → List (ℕ × ℕ) → List (ℕ × ℕ) → ℕ → ℕ → Option Item → Type 0
 IsStepOver old new names names' key more None = (new ≡ old) × (names' ≡ names)
 IsStepOver old new names names' key more (Some i) =

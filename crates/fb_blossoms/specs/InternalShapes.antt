@@ -1,4 +1,4 @@
--- What a stored shape tells.
+-- The defect and the cycle of a stored shape.
 use Rattle.std.specs.Prelude.{ℕ, List, [], ◌∷◌}
 use Rattle.fb_links.specs.declared.cycle.CycleStep.{CycleStep}
 use Rattle.fb_blossoms.specs.declared.entry.Shape.{Shape}

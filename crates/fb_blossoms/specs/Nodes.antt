@@ -21,7 +21,7 @@ node_code =
 abbrev pub table_code : Coded (List (Option Node))
 table_code = coded_list (coded_option node_code)
 
--- the node of this number; none where it isn't live
+-- the node of this number; none if it isn't live
 abbrev pub node_at : List (Option Node) → ℕ → Option Node
 node_at nodes name = get_or nodes name None
 

@@ -20,7 +20,7 @@ mutual
         → steps < length (cycle_at nodes name) → steps % 2 ≡ 0 → GoesRound links nodes name onward s steps from to path
         → IsEvenPath links nodes name from to path
 
-  -- The rest of such a path: it is at the defect `from` of the child that is so many steps from the child at the place s,
+  -- The rest of such a path: it is at the defect `from` of the child that is k steps from the child at the place s,
   -- where it ends. In the last child it is the child's even path. Before that it is the child's even path to the defect
   -- where the link to the next child leaves it, the link, and the rest from the defect where the link enters the next child.
   pub data GoesRound (links : List (Option (List Step))) (nodes : List (Option Node)) : ℕ → Bool → ℕ → ℕ → ℕ → ℕ → List ℕ → Type 0 where

@@ -139,7 +139,7 @@ impl Blossoms {
     }
 
     /// The two stores as one, and the list of the right one's nodes, each beside its new number. The left one's numbers
-    /// stay. The right one's links get the new numbers that stand beside them in the list. Its time is that of the right
+    /// stay. The right one's links get the new numbers that the list has beside them. Its time is that of the right
     /// one's nodes.
     pub fn merged(
         alloc: Global,

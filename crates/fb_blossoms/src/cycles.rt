@@ -5,7 +5,7 @@ ghost use Rattle.fb_blossoms.specs.Links.{link_after, node_after, place_after};
 
 use crate::{CycleStep, LinkId, NodeId};
 
-/// A way round a cycle to the place `end`. It begins at the place that is so many steps from there, onward or back.
+/// A way round a cycle to the place `end`. It begins at the place that is `steps` steps from there, onward or back.
 #[derive(Clone, Copy, Debug, PartialEq, Eq)]
 pub struct Round {
     pub onward: bool,
@@ -43,7 +43,7 @@ fn place_after(count: usize, onward: bool, start: usize, k: usize) -> usize
     }
 }
 
-/// The even way round a cycle of so many nodes from the one place to the other.
+/// The even way round a cycle of `count` nodes from the one place to the other.
 pub fn round_from(count: usize, first: usize, last: usize) -> Round
     requires odd { count % 2 ≡ 1 }
     requires first { first < count }

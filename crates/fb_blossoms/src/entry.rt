@@ -76,12 +76,6 @@ impl Entry {
         self.place
     }
 
-    pub fn made(&self) -> u64
-        ensures { result ≡ self.now.made }
-    {
-        self.made
-    }
-
     /// The steps of the cycle; none for a leaf.
     pub fn cycle(&self) -> &[CycleStep]
         ensures { result.now ≡ self.now.cycle }
@@ -121,7 +115,7 @@ impl Entry {
         }
     }
 
-    /// The node as if so many more had been made before it.
+    /// The node as if `more` further nodes had been made before it.
     pub fn made_later(self, more: u64) -> Entry
         requires { self.made + more < 2 ^ 64 }
         ensures { result ≡ shifted_item more self }

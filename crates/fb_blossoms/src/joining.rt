@@ -46,7 +46,7 @@ fn take_one(
     push_pair(names, key as NodeId, node)
 }
 
-/// Takes all nodes into free slots, as if so many more had been made before each. They keep the numbers of their
+/// Takes all nodes into free slots, as if `more` others had been made before each. They keep the numbers of their
 /// parents, nodes and links.
 pub fn take_all(
     alloc: Global,
@@ -129,7 +129,7 @@ pub fn list_all(
     Ok(())
 }
 
-/// Puts the nodes of the right store into free slots, as if so many more had been made before each, under new numbers.
+/// Puts the nodes of the right store into free slots, as if `more` others had been made before each, under new numbers.
 /// The links of their cycles get the new numbers of the list.
 pub fn join_nodes(
     alloc: Global,

@@ -4,7 +4,8 @@ use Rattle.std.proofs.lemmas.Bool.{cases_lt}
 use Rattle.std.proofs.lemmas.List.{get_or-replicate, get_or_past, length-replicate}
 use Rattle.std.proofs.lemmas.List.Elements.{All-nil}
 use Rattle.fb_book.specs.Board.{Course, item_count}
-use Rattle.fb_book.specs.Books.{course_of, IsBook}
+use Rattle.fb_book.specs.Books.{course_of}
+use Rattle.fb_book.specs.InternalBoard.{IsBook}
 use Rattle.fb_plan.specs.Plans.{JobValue}
 use Rattle.fb_book.proofs.Openings.{ungiven_at}
 

@@ -8,7 +8,7 @@ use Rattle.fb_book.specs.declared.entries.Entry.{Entry}
 use Rattle.fb_book.specs.declared.entries.Status.{Status}
 use Rattle.fb_book.specs.declared.entries.Status.TheVariants.{Held}
 use Rattle.fb_book.specs.Machine.{Kids, IsForest, is_child, status_at, is_idle, is_given, is_used, is_left, are_given, can_take, is_permitted, after, place, allows, replay, all_idle}
-use Rattle.fb_book.specs.Board.{IsBoard, is_ready, unsolved_of}
+use Rattle.fb_book.specs.InternalBoard.{IsBoard, is_ready, unsolved_of}
 use Rattle.fb_book.proofs.Statuses.{IsSetAt, here, there, IsTakenAt, taken, used, same, set_at, taken_at, within, child_given, MayTake}
 use Rattle.fb_book.proofs.Courses.{sum_taken}
 use Rattle.fb_book.proofs.History.{none_at, none_from}
@@ -19,12 +19,12 @@ use Rattle.fb_graph.proofs.Booleans.{as_count-le}
 pub replay_more : (kids : Kids) (n : ℕ) (h : List Entry) (start st : List Status) (e : Entry)
     → replay kids n start h ≡ Some st → allows kids n st e ≡ true
     → replay kids n start (h ++ e ∷ []) ≡ Some (after kids st e.kind e.worker (place n e))
-replay_more kids n [] start st e stands allowed =
+replay_more kids n [] start st e replayed allowed =
     let same : start ≡ st = cc in
     subst (λ s. (if allows kids n s e then Some (after kids s e.kind e.worker (place n e)) else None) ≡ Some (after kids st e.kind e.worker (place n e))) (sym same)
     (rw allowed refl)
-replay_more kids n (x ∷ h) start st e stands allowed =
-    step (allows kids n start x) stands (λ s. replay_more kids n h (after kids start x.kind x.worker (place n x)) st e s allowed)
+replay_more kids n (x ∷ h) start st e replayed allowed =
+    step (allows kids n start x) replayed (λ s. replay_more kids n h (after kids start x.kind x.worker (place n x)) st e s allowed)
   where
     next : List Status
     next = after kids start x.kind x.worker (place n x)
@@ -188,8 +188,8 @@ allows_taking kids n st e k t =
 pub replay_taking : (kids : Kids) (n count : ℕ) (h : List Entry) (st : List Status) (e : Entry) (k : ℕ)
     → replay kids n (all_idle count) h ≡ Some st → Taking kids n st e k
     → replay kids n (all_idle count) (h ++ e ∷ []) ≡ Some (after kids st Took e.worker k)
-replay_taking kids n count h st e k stands t =
-    replay_more kids n h (all_idle count) st e stands (allows_taking kids n st e k t)
+replay_taking kids n count h st e k replayed t =
+    replay_more kids n h (all_idle count) st e replayed (allows_taking kids n st e k t)
     ∙ (ap (λ x. Some (after kids st x e.worker (place n e))) t.kind
     ∙ ap (λ p. Some (after kids st Took e.worker p)) t.place)
 
@@ -202,7 +202,7 @@ pub kept_fusion : (kids : Kids) (n count : ℕ) → IsForest kids → (h : List 
     → ((q : ℕ) → count_by (λ j. j == q) ready ≡ as_count (k == q) + count_by (λ j. j == q) left)
     → IsBoard kids n count (h ++ e ∷ []) (after kids st Took e.worker k) left ready_room next unsolved starved room
 kept_fusion kids n count forest h st ready ready_room next unsolved starved room b e k t fusion left shorter popped = record {
-  stands = replay_taking kids n count h st e k b.stands t;
+  replayed = replay_taking kids n count h st e k b.replayed t;
   loss = b.loss ∙ (t.may.unstarved ∙ sym (unleft_after kids st e.worker k t.may));
   rest =
       let more : sum_by unsolved_of new + 1 ≡ sum_by unsolved_of st + 1 =
@@ -258,7 +258,7 @@ pub kept_unit : (kids : Kids) (n count : ℕ) → IsForest kids → (h : List En
     → ((q : ℕ) → kids q ≡ None → next < q → after_it ≤ q)
     → IsBoard kids n count (h ++ e ∷ []) (after kids st Took e.worker next) ready ready_room after_it unsolved starved room
 kept_unit kids n count forest h st ready ready_room next unsolved starved room b e t unit after_it later is_unit gap = record {
-  stands = replay_taking kids n count h st e next b.stands t;
+  replayed = replay_taking kids n count h st e next b.replayed t;
   loss = b.loss ∙ (t.may.unstarved ∙ sym (unleft_after kids st e.worker next t.may));
   rest =
       let more : sum_by unsolved_of new + 1 ≡ sum_by unsolved_of st + 1 =

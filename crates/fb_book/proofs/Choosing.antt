@@ -12,7 +12,8 @@ use Rattle.fb_book.specs.declared.entries.Entry.{Entry}
 use Rattle.fb_book.specs.declared.entries.Status.{Status}
 use Rattle.fb_book.specs.declared.entries.Status.TheVariants.{Idle}
 use Rattle.fb_book.specs.Machine.{Kids, IsForest, status_at, is_idle, is_held, is_used, is_left, is_over, are_given, can_take, replay, all_idle}
-use Rattle.fb_book.specs.Board.{Course, kids_of, nodes_of, item_count, replay_of, statuses_of, place_in, IsRun, MustWait, is_finished, is_ready, is_starved, unsolved_of, IsItems}
+use Rattle.fb_book.specs.Board.{Course, kids_of, nodes_of, item_count, replay_of, statuses_of, place_in, IsRun, MustWait, is_finished, is_starved}
+use Rattle.fb_book.specs.InternalBoard.{is_ready, unsolved_of, IsItems}
 use Rattle.fb_book.proofs.Statuses.{within, idle_is, MayTake}
 use Rattle.fb_book.proofs.Courses.{IsReached, reached}
 use Rattle.fb_book.proofs.History.{progress, two_each}
@@ -91,7 +92,7 @@ module _ {c : Course} {nodes : ℕ} {parents : List (Option ℕ)} {st : List Sta
   places_forest = forest_of_places c.units c.joins i.some i.forest
 
   pub is_reached : IsReached (kids_of c) (nodes_of c) (item_count c) st c.history
-  is_reached = reached (kids_of c) (nodes_of c) (item_count c) places_forest c.history st i.board.stands
+  is_reached = reached (kids_of c) (nodes_of c) (item_count c) places_forest c.history st i.board.replayed
 
   pub status_count : length st ≡ item_count c
   status_count = is_reached.size
@@ -102,8 +103,8 @@ module _ {c : Course} {nodes : ℕ} {parents : List (Option ℕ)} {st : List Sta
   -- room for one more entry, which the machine allows
   pub history_room : (h : List Entry) (s : List Status) (e : Entry) → h ≡ c.history ++ e ∷ []
       → replay (kids_of c) (nodes_of c) (all_idle (item_count c)) h ≡ Some s → length c.history < room
-  history_room h s e is stands =
-      let most = two_each (kids_of c) (nodes_of c) (item_count c) h s places_forest stands in
+  history_room h s e is replayed =
+      let most = two_each (kids_of c) (nodes_of c) (item_count c) h s places_forest replayed in
       let few : length h ≤ 2 * item_count c = most.0 in
       let long : length h ≡ length c.history + 1 = ap length is ∙ length-append c.history (e ∷ []) in
       let enough : 2 * item_count c ≤ room = i.board.history_room in
@@ -197,7 +198,7 @@ module _ {c : Course} {nodes : ℕ} {parents : List (Option ℕ)} {st : List Sta
   finished_if = step (unsolved == 0) refl (list_all is_over st) refl
     where
       st_is : is_finished c ≡ list_all is_over st
-      st_is = ap (list_all is_over) (statuses_are c st i.board.stands)
+      st_is = ap (list_all is_over) (statuses_are c st i.board.replayed)
 
       step : (a : Bool) → (unsolved == 0) ≡ a → (b : Bool) → list_all is_over st ≡ b → a ≡ is_finished c
       step true e b f = sym (st_is ∙ unsolved_all st (sym i.board.rest ∙ eqb-true unsolved 0 e))
@@ -205,22 +206,22 @@ module _ {c : Course} {nodes : ℕ} {parents : List (Option ℕ)} {st : List Sta
       step false e false f = sym (st_is ∙ f)
 
   pub starved_if : starved ≡ is_starved c
-  starved_if = i.board.loss ∙ ap (list_any is_left) (sym (statuses_are c st i.board.stands))
+  starved_if = i.board.loss ∙ ap (list_any is_left) (sym (statuses_are c st i.board.replayed))
 
   pub must_wait : starved ≡ false → ready ≡ [] → item_count c ≤ next → (unsolved == 0) ≡ false → MustWait c
   must_wait fed empty over unfinished = waits
     where
       held : (b : Bool) → list_any is_held st ≡ b → b ≡ true
       held true e = refl
-      held false e = pick (progress (kids_of c) (nodes_of c) (item_count c) c.history st places_forest i.board.stands e (unleft_from fed))
+      held false e = pick (progress (kids_of c) (nodes_of c) (item_count c) c.history st places_forest i.board.replayed e (unleft_from fed))
         where
           pick : ((k : ℕ) × (k < item_count c) × (can_take (kids_of c) st k ≡ true)) ⊎ (list_all is_over st ≡ true)
               → false ≡ true
           pick (inl (k, less, can)) = absurd (true≢false (sym can ∙ nothing_left empty over k))
-          pick (inr all) = absurd (true≢false (sym (finished_if ∙ (ap (list_all is_over) (statuses_are c st i.board.stands) ∙ all)) ∙ unfinished))
+          pick (inr all) = absurd (true≢false (sym (finished_if ∙ (ap (list_all is_over) (statuses_are c st i.board.replayed) ∙ all)) ∙ unfinished))
 
       same : statuses_of c ≡ st
-      same = statuses_are c st i.board.stands
+      same = statuses_are c st i.board.replayed
 
       waits : MustWait c
       waits = record {

@@ -13,7 +13,7 @@ use Rattle.fb_book.specs.declared.entries.Entry.{Entry}
 use Rattle.fb_book.specs.declared.entries.Status.{Status}
 use Rattle.fb_book.specs.declared.entries.Status.TheVariants.{Idle, Held, Given, Used, Left as Lost}
 use Rattle.fb_book.specs.Machine.{Kids, IsForest, is_child, status_at, is_idle, is_held_by, is_used, are_given, is_permitted, with_used, after, place, allows, replay, trace, all_idle, is_loss, is_loss_kind}
-use Rattle.fb_book.specs.Laws.{Told, entries_of}
+use Rattle.fb_book.specs.Laws.{IsTraceOf, entries_of}
 use Rattle.fb_book.proofs.Statuses.{IsSetAt, here, there, IsTakenAt, taken, used, same, set_at, taken_at, used_at, IsUsedAt, within, length-after, length-with_used, held_is, child_given, MayTake, may_take}
 
 -- how many of its entries are losses
@@ -30,7 +30,7 @@ loss_of e = cond (is_loss e) 1 0
 -- what holds after each allowed history
 pub record IsReached (kids : Kids) (n count : ℕ) (st : List Status) (h : List Entry) : Type 0 where
   pub size : length st ≡ count
-  pub told : (k : ℕ) → k < count → Told (status_at st k) (trace n k h)
+  pub told : (k : ℕ) → k < count → IsTraceOf (status_at st k) (trace n k h)
   pub entries : length h ≡ sum_by entries_of st
   pub losses : sum_by loss_of h ≡ sum_by losses_of st
   pub waits : (k c : ℕ) → status_at st k ≡ Idle → is_child (kids k) c ≡ true → is_used (status_at st c) ≡ false
@@ -101,7 +101,7 @@ sum_taken f level kids forest st w k m =
 pub reached_start : (kids : Kids) (n count : ℕ) → IsForest kids → IsReached kids n count (all_idle count) []
 reached_start kids n count forest = record {
   size = length-replicate count Idle;
-  told = λ k less. subst (λ s. Told s []) (sym (idle k less)) refl;
+  told = λ k less. subst (λ s. IsTraceOf s []) (sym (idle k less)) refl;
   entries = let e : sum_by entries_of (replicate count Idle) ≡ count * 0 = sum_by-replicate entries_of count Idle in omega (arith, e);
   losses = let e : sum_by losses_of (replicate count Idle) ≡ count * 0 = sum_by-replicate losses_of count Idle in omega (arith, e);
   waits = λ k c at child.
@@ -156,19 +156,19 @@ reached_took kids n count forest st h e r kind allowed = record {
     at k = taken_at kids st p w k m.less
 
     told : (k : ℕ) → k < count → IsTakenAt (kids p) p w k (status_at st k) (status_at new k)
-        → Told (status_at st k) (trace n k h) → Told (status_at new k) (trace n k (h ++ e ∷ []))
+        → IsTraceOf (status_at st k) (trace n k h) → IsTraceOf (status_at new k) (trace n k (h ++ e ∷ []))
     told k less (taken i f) before =
-        let nothing : trace n k h ≡ [] = subst (λ s. Told s (trace n k h)) (ap (status_at st) (sym i) ∙ m.idle) before in
-        subst (λ s. Told s (trace n k (h ++ e ∷ []))) (sym f)
+        let nothing : trace n k h ≡ [] = subst (λ s. IsTraceOf s (trace n k h)) (ap (status_at st) (sym i) ∙ m.idle) before in
+        subst (λ s. IsTraceOf s (trace n k (h ++ e ∷ []))) (sym f)
         (trace_here n k h e i ∙ (ap (λ xs. xs ++ (e.kind, w) ∷ []) nothing ∙ ap (λ x. (x, w) ∷ []) kind))
     told k less (used apart child f) before =
         let was : status_at st k ≡ Given = child_given (kids p) st k m.given child in
-        let given : Told Given (trace n k h) = subst (λ s. Told s (trace n k h)) was before in
-        subst (λ s. Told s (trace n k (h ++ e ∷ []))) (sym f)
-        (subst (λ xs. Told Used xs) (sym (trace_else n k h e apart)) given)
+        let given : IsTraceOf Given (trace n k h) = subst (λ s. IsTraceOf s (trace n k h)) was before in
+        subst (λ s. IsTraceOf s (trace n k (h ++ e ∷ []))) (sym f)
+        (subst (λ xs. IsTraceOf Used xs) (sym (trace_else n k h e apart)) given)
     told k less (same apart child f) before =
-        subst (λ s. Told s (trace n k (h ++ e ∷ []))) (sym f)
-        (subst (λ xs. Told (status_at st k) xs) (sym (trace_else n k h e apart)) before)
+        subst (λ s. IsTraceOf s (trace n k (h ++ e ∷ []))) (sym f)
+        (subst (λ xs. IsTraceOf (status_at st k) xs) (sym (trace_else n k h e apart)) before)
 
     waits : (k c : ℕ) → status_at new k ≡ Idle → is_child (kids k) c ≡ true
         → IsTakenAt (kids p) p w k (status_at st k) (status_at new k)
@@ -209,7 +209,7 @@ pub record IsLet (kind : Kind) (s : Status) : Type 0 where
   pub losses : losses_of s ≡ cond (is_loss_kind kind) 1 0
   pub busy : is_idle s ≡ false
   pub unused : is_used s ≡ false
-  pub told : (w : ℕ) → Told s ((Took, w) ∷ (kind, w) ∷ [])
+  pub told : (w : ℕ) → IsTraceOf s ((Took, w) ∷ (kind, w) ∷ [])
 
 pub reached_let : (kids : Kids) (n count : ℕ) (st : List Status) (h : List Entry) (e : Entry) (kind : Kind) (s : Status)
     → IsLet kind s → IsReached kids n count st h → e.kind ≡ kind
@@ -254,17 +254,17 @@ reached_let kids n count st h e kind s facts r kind_is allowed = record {
     at k = set_at st p s k less
 
     told : (k : ℕ) → k < count → IsSetAt p s k (status_at st k) (status_at new k)
-        → Told (status_at st k) (trace n k h) → Told (status_at new k) (trace n k (h ++ e ∷ []))
+        → IsTraceOf (status_at st k) (trace n k h) → IsTraceOf (status_at new k) (trace n k (h ++ e ∷ []))
     told k below (here i f) before =
         let one : trace n k h ≡ (Took, e.worker) ∷ [] =
-        subst (λ s. Told s (trace n k h)) (ap (status_at st) (sym i) ∙ held) before in
+        subst (λ s. IsTraceOf s (trace n k h)) (ap (status_at st) (sym i) ∙ held) before in
         let two : trace n k (h ++ e ∷ []) ≡ (Took, e.worker) ∷ (kind, e.worker) ∷ [] =
         trace_here n k h e i
         ∙ (ap (λ xs. xs ++ (e.kind, e.worker) ∷ []) one ∙ ap (λ x. (Took, e.worker) ∷ (x, e.worker) ∷ []) kind_is) in
-        subst (λ s. Told s (trace n k (h ++ e ∷ []))) (sym f) (subst (λ xs. Told s xs) (sym two) (facts.told e.worker))
+        subst (λ s. IsTraceOf s (trace n k (h ++ e ∷ []))) (sym f) (subst (λ xs. IsTraceOf s xs) (sym two) (facts.told e.worker))
     told k below (there apart f) before =
-        subst (λ s. Told s (trace n k (h ++ e ∷ []))) (sym f)
-        (subst (λ xs. Told (status_at st k) xs) (sym (trace_else n k h e apart)) before)
+        subst (λ s. IsTraceOf s (trace n k (h ++ e ∷ []))) (sym f)
+        (subst (λ xs. IsTraceOf (status_at st k) xs) (sym (trace_else n k h e apart)) before)
 
     waits : (k c : ℕ) → status_at new k ≡ Idle → is_child (kids k) c ≡ true
         → IsSetAt p s k (status_at st k) (status_at new k) → IsSetAt p s c (status_at st c) (status_at new c)

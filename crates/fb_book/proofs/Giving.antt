@@ -13,7 +13,8 @@ use Rattle.fb_book.specs.declared.entries.Entry.{Entry}
 use Rattle.fb_book.specs.declared.entries.Status.{Status}
 use Rattle.fb_book.specs.declared.entries.Status.TheVariants.{Given, Left as Lost}
 use Rattle.fb_book.specs.Machine.{is_child, status_at, is_held_by, can_take, replay, all_idle}
-use Rattle.fb_book.specs.Board.{Course, kids_of, nodes_of, item_count, place_in, item_status, with_entry, is_ready, ready_parent, parent_place, AreWithin, IsBoard, IsItems, Lets, LetsNot, unsolved_of}
+use Rattle.fb_book.specs.Board.{Course, kids_of, nodes_of, item_count, place_in, item_status, with_entry, Lets}
+use Rattle.fb_book.specs.InternalBoard.{is_ready, ready_parent, parent_place, AreWithin, IsBoard, IsItems, LetsNot, unsolved_of}
 use Rattle.fb_book.proofs.Statuses.{held_is}
 use Rattle.fb_book.proofs.Letting.{Letting, replay_gave, replay_left, kept_gave, kept_left, unsolved_held}
 use Rattle.fb_book.proofs.Choosing.{statuses_are, is_run, places_forest, status_count, history_room, length_by_ones}
@@ -54,7 +55,7 @@ module _ {c : Course} {nodes : ℕ} {parents : List (Option ℕ)} {st : List Sta
 
   pub status_is : (w : ℕ) → is_held_by w (item_status c slot node) ≡ is_held_by w (status_at st at_place)
   status_is w =
-      ap (λ s. is_held_by w (status_at s (place_in c slot node))) (statuses_are c st i.board.stands)
+      ap (λ s. is_held_by w (status_at s (place_in c slot node))) (statuses_are c st i.board.replayed)
       ∙ ap (λ k. is_held_by w (status_at st k)) (sym place_is)
 
   abbrev pub entry_for : Kind → ℕ → Entry
@@ -72,12 +73,12 @@ module _ {c : Course} {nodes : ℕ} {parents : List (Option ℕ)} {st : List Sta
   pub gave_replay : (w : ℕ) → is_held_by w (status_at st at_place) ≡ true
       → replay (kids_of c) (nodes_of c) (all_idle (item_count c)) (c.history ++ entry_for Gave w ∷ []) ≡ Some (set st at_place Given)
   gave_replay w held =
-      replay_gave (kids_of c) (nodes_of c) (item_count c) c.history st (entry_for Gave w) at_place i.board.stands (letting Gave w held)
+      replay_gave (kids_of c) (nodes_of c) (item_count c) c.history st (entry_for Gave w) at_place i.board.replayed (letting Gave w held)
 
   pub left_replay : (w : ℕ) → is_held_by w (status_at st at_place) ≡ true
       → replay (kids_of c) (nodes_of c) (all_idle (item_count c)) (c.history ++ entry_for Left w ∷ []) ≡ Some (set st at_place Lost)
   left_replay w held =
-      replay_left (kids_of c) (nodes_of c) (item_count c) c.history st (entry_for Left w) at_place i.board.stands (letting Left w held)
+      replay_left (kids_of c) (nodes_of c) (item_count c) c.history st (entry_for Left w) at_place i.board.replayed (letting Left w held)
 
   pub room_to_let : (w : ℕ) → is_held_by w (status_at st at_place) ≡ true → length c.history < room
   room_to_let w held =

@@ -12,7 +12,7 @@ use Rattle.fb_book.specs.declared.entries.Entry.{Entry}
 use Rattle.fb_book.specs.declared.entries.Status.{Status}
 use Rattle.fb_book.specs.declared.entries.Status.TheVariants.{Idle, Held, Given, Used, Left as Lost}
 use Rattle.fb_book.specs.Machine.{Kids, IsForest, is_child, status_at, is_idle, is_held, is_given, is_used, is_left, is_over, are_given, can_take, is_permitted, after, place, allows, replay, trace, all_idle, is_loss}
-use Rattle.fb_book.specs.Laws.{Told, entries_of, Progress, TellsStatus, TwoEach, TakenAndGiven, TakenAndGivenOn, CompleteOnSlots, ChildrenBefore, UsedByParent, DoneIsComplete}
+use Rattle.fb_book.specs.Laws.{IsTraceOf, entries_of, Progress, TraceGivesStatus, TwoEach, TakenAndGiven, TakenAndGivenOn, CompleteOnSlots, ChildrenBefore, UsedByParent, DoneIsComplete}
 use Rattle.fb_book.proofs.Statuses.{child_given, MayTake, may_take}
 use Rattle.fb_book.proofs.Courses.{IsReached, reached, losses_of, loss_of}
 
@@ -95,8 +95,8 @@ scanned kids n count st h forest r unheld unleft (suc k) le =
     step (inr before) Lost e = absurd (true≢false (sym (ap is_left e) ∙ none_at is_left refl st unleft k))
 
 pub progress : Progress
-progress kids n count history st forest stands unheld unleft =
-    close (reached kids n count forest history st stands)
+progress kids n count history st forest replayed unheld unleft =
+    close (reached kids n count forest history st replayed)
   where
     close : IsReached kids n count st history
         → ((k : ℕ) × (k < count) × (can_take kids st k ≡ true)) ⊎ (list_all is_over st ≡ true)
@@ -105,8 +105,8 @@ progress kids n count history st forest stands unheld unleft =
       | inr over ↦ inr (all_from is_over st (λ k less. over k (subst (λ x. k < x) r.size less)))
     ]
 
-pub tells_status : TellsStatus
-tells_status kids n count history st forest stands = (reached kids n count forest history st stands).told
+pub trace_gives_status : TraceGivesStatus
+trace_gives_status kids n count history st forest replayed = (reached kids n count forest history st replayed).told
 
 entries_at_most : (st : List Status) → sum_by entries_of st ≤ 2 * length st
 entries_at_most [] = omega arith
@@ -124,21 +124,21 @@ entries_at_most (s ∷ st) =
     one Lost = omega arith
 
 pub two_each : TwoEach
-two_each kids n count history st forest stands =
-    let r = reached kids n count forest history st stands in
+two_each kids n count history st forest replayed =
+    let r = reached kids n count forest history st replayed in
     let most : sum_by entries_of st ≤ 2 * length st = entries_at_most st in
     let all : length history ≡ sum_by entries_of st = r.entries in
     let size : length st ≡ count = r.size in
     (omega (arith, most, all, size), λ k less. few (status_at st k) (trace n k history) (r.told k less))
   where
-    few : (s : Status) (done : List (Kind × ℕ)) → Told s done → length done ≤ 2
+    few : (s : Status) (done : List (Kind × ℕ)) → IsTraceOf s done → length done ≤ 2
     few Idle done e = rw e (omega arith)
     few (Held w) done e = rw e (omega arith)
     few Given done (w, e) = rw e (omega arith)
     few Used done (w, e) = rw e (omega arith)
     few Lost done (w, e) = rw e (omega arith)
 
-pub over_told : (s : Status) (done : List (Kind × ℕ)) → is_over s ≡ true → Told s done
+pub over_told : (s : Status) (done : List (Kind × ℕ)) → is_over s ≡ true → IsTraceOf s done
     → (w : ℕ) × (done ≡ (Took, w) ∷ (Gave, w) ∷ [])
 over_told Idle done over told = absurd (false≢true over)
 over_told (Held w) done over told = absurd (false≢true over)
@@ -150,20 +150,20 @@ pub taken_and_given : TakenAndGiven
 taken_and_given kids n count history forest complete k less =
     over_told (status_at complete.statuses k) (trace n k history)
     (all_at is_over refl complete.statuses complete.over k)
-    ((reached kids n count forest history complete.statuses complete.stands).told k less)
+    ((reached kids n count forest history complete.statuses complete.replayed).told k less)
 
 pub taken_and_given_on : TakenAndGivenOn
 taken_and_given_on slots kids n count history forest complete slot node at within =
     over_told (status_at complete.statuses (slot * n + node)) (trace n (slot * n + node) history)
     (complete.over slot node at within)
-    ((reached kids n count forest history complete.statuses complete.stands).told (slot * n + node)
+    ((reached kids n count forest history complete.statuses complete.replayed).told (slot * n + node)
     (complete.inside slot node at within))
 
 pub complete_on_slots : CompleteOnSlots
 complete_on_slots slots kids n count history inside complete = record {
   inside = inside;
   statuses = complete.statuses;
-  stands = complete.stands;
+  replayed = complete.replayed;
   unleft = no_losses history complete.unleft;
   over = λ slot node at within. all_at is_over refl complete.statuses complete.over (slot * n + node);
 }
@@ -180,23 +180,23 @@ complete_on_slots slots kids n count history inside complete = record {
 pub record Midway (kids : Kids) (n : ℕ) (start : List Status) (before : List Entry) (e : Entry) (rest : List Entry)
     (end : List Status) : Type 0 where
   pub statuses : List Status
-  pub stands : replay kids n start before ≡ Some statuses
+  pub replayed : replay kids n start before ≡ Some statuses
   pub allowed : allows kids n statuses e ≡ true
   pub onward : replay kids n (after kids statuses e.kind e.worker (place n e)) rest ≡ Some end
 
 pub midway : (kids : Kids) (n : ℕ) (before : List Entry) (start : List Status) (e : Entry) (rest : List Entry)
     (end : List Status) → replay kids n start (before ++ e ∷ rest) ≡ Some end → Midway kids n start before e rest end
-midway kids n [] start e rest end stands = step (allows kids n start e) refl stands
+midway kids n [] start e rest end replayed = step (allows kids n start e) refl replayed
   where
     next : List Status
     next = after kids start e.kind e.worker (place n e)
 
     step : (b : Bool) → allows kids n start e ≡ b → (if b then replay kids n next rest else None) ≡ Some end
         → Midway kids n start [] e rest end
-    step true may h = record { statuses = start; stands = refl; allowed = may; onward = h }
+    step true may h = record { statuses = start; replayed = refl; allowed = may; onward = h }
     step false may h = cc
-midway kids n (x ∷ before) start e rest end stands =
-    step (allows kids n start x) refl stands (midway kids n before (after kids start x.kind x.worker (place n x)) e rest end)
+midway kids n (x ∷ before) start e rest end replayed =
+    step (allows kids n start x) refl replayed (midway kids n before (after kids start x.kind x.worker (place n x)) e rest end)
   where
     next : List Status
     next = after kids start x.kind x.worker (place n x)
@@ -209,15 +209,15 @@ midway kids n (x ∷ before) start e rest end stands =
         let m = go h in
         record {
           statuses = m.statuses;
-          stands = ap (λ b. if b then replay kids n next before else None) may ∙ m.stands;
+          replayed = ap (λ b. if b then replay kids n next before else None) may ∙ m.replayed;
           allowed = m.allowed;
           onward = m.onward;
         }
     step false may h go = cc
 
 pub children_before : ChildrenBefore
-children_before kids n count before rest took st forest stands is_took c child =
-    close (midway kids n before (all_idle count) took rest st stands)
+children_before kids n count before rest took st forest replayed is_took c child =
+    close (midway kids n before (all_idle count) took rest st replayed)
   where
     p : ℕ
     p = place n took
@@ -227,7 +227,7 @@ children_before kids n count before rest took st forest stands is_took c child =
         let both = and_parts (nat_lt took.node n) (is_permitted kids m.statuses took.kind took.worker p) m.allowed in
         let mine : MayTake kids m.statuses p =
         may_take kids m.statuses took.worker p (ap (λ k. is_permitted kids m.statuses k took.worker p) (sym is_took) ∙ both.1) in
-        let r = reached kids n count forest before m.statuses m.stands in
+        let r = reached kids n count forest before m.statuses m.replayed in
         let given : status_at m.statuses c ≡ Given = child_given (kids p) m.statuses c mine.given child in
         let size : length m.statuses ≡ count = r.size in
         let p_less : p < length m.statuses = mine.less in
@@ -235,18 +235,18 @@ children_before kids n count before rest took st forest stands is_took c child =
         over_told (status_at m.statuses c) (trace n c before) (ap is_over given) (r.told c (omega arith))
 
 pub used_by_parent : UsedByParent
-used_by_parent kids n count history st forest stands c less is =
-    (reached kids n count forest history st stands).parent c less is
+used_by_parent kids n count history st forest replayed c less is =
+    (reached kids n count forest history st replayed).parent c less is
 
 -- where all is over no entry is a loss
 pub no_loss : (kids : Kids) (n count : ℕ) (history : List Entry) (st : List Status) → IsForest kids
     → replay kids n (all_idle count) history ≡ Some st → list_any is_left st ≡ false
     → list_any is_loss history ≡ false
-no_loss kids n count history st forest stands unleft =
+no_loss kids n count history st forest replayed unleft =
     none history (r.losses ∙ nothing st (none_at is_left refl st unleft))
   where
     r : IsReached kids n count st history
-    r = reached kids n count forest history st stands
+    r = reached kids n count forest history st replayed
 
     nothing : (st : List Status) → ((k : ℕ) → is_left (status_at st k) ≡ false) → sum_by losses_of st ≡ 0
     nothing [] each = refl
@@ -274,10 +274,10 @@ no_loss kids n count history st forest stands unleft =
         one false h = refl
 
 pub done_is_complete : DoneIsComplete
-done_is_complete kids n count history st forest stands over = record {
+done_is_complete kids n count history st forest replayed over = record {
   statuses = st;
-  stands = stands;
-  unleft = no_loss kids n count history st forest stands
+  replayed = replayed;
+  unleft = no_loss kids n count history st forest replayed
       (none_from is_left st (λ k less. one (status_at st k) (all_at is_over refl st over k)));
   over = over;
 }

@@ -12,7 +12,7 @@ use Rattle.fb_graph.proofs.OddLabels.{member_of_map}
 
 pub renumbering_completes : RenumberingCompletes
 renumbering_completes f units joins slots more on history r some forest complete =
-    close (renumbering_allows f units joins slots more history complete.statuses r forest complete.stands)
+    close (renumbering_allows f units joins slots more history complete.statuses r forest complete.replayed)
   where
     n : ℕ
     n = units + length joins
@@ -41,7 +41,7 @@ renumbering_completes f units joins slots more on history r some forest complete
     close h = record {
       inside = λ slot node at less. inside slot node less (member_of_map f on slot at);
       statuses = h.statuses;
-      stands = h.stands;
+      replayed = h.replayed;
       unleft = no_losses history h.slots_are complete.unleft;
       over = λ slot node at less. over slot node less (member_of_map f on slot at);
     }

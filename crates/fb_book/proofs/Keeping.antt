@@ -9,8 +9,9 @@ use Rattle.fb_book.specs.declared.entries.Kind.TheVariants.{Took, Gave, Left}
 use Rattle.fb_book.specs.declared.entries.Status.{Status}
 use Rattle.fb_book.specs.declared.entries.Status.TheVariants.{Idle, Held, Given, Used, Left as Lost}
 use Rattle.fb_book.specs.Machine.{IsForest, is_child, is_given, is_held_by, is_over, status_at}
-use Rattle.fb_book.specs.Board.{Course, IsCourse, IsRun, nodes_of, item_count, place_in, item_status, Adds, Lets, LetsNot, MustWait, TakesUnit, TakesFusion, is_finished, is_fusion, is_starved, kids_of, statuses_of}
-use Rattle.fb_book.specs.Books.{course_of, AreRootPieces, HandsOut, IsBook, IsPieceAt, holds, place_of}
+use Rattle.fb_book.specs.Board.{Course, IsRun, nodes_of, item_count, place_in, item_status, Adds, Lets, MustWait, TakesUnit, TakesFusion, is_finished, is_fusion, is_starved, kids_of, statuses_of}
+use Rattle.fb_book.specs.InternalBoard.{IsBook, IsCourse, LetsNot}
+use Rattle.fb_book.specs.Books.{course_of, AreRootPieces, HandsOut, IsPieceAt, holds, place_of}
 use Rattle.fb_plan.specs.Plans.{JobValue, node_count}
 use Rattle.fb_book.proofs.History.{all_at, two_each, used_by_parent}
 use Rattle.fb_book.proofs.Places.{child_at, unit_below}

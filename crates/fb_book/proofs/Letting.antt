@@ -12,7 +12,7 @@ use Rattle.fb_book.specs.declared.entries.Entry.{Entry}
 use Rattle.fb_book.specs.declared.entries.Status.{Status}
 use Rattle.fb_book.specs.declared.entries.Status.TheVariants.{Held, Given, Used, Left as Lost}
 use Rattle.fb_book.specs.Machine.{Kids, is_child, status_at, is_idle, is_held_by, is_given, is_used, is_left, are_given, can_take, is_permitted, after, place, allows, replay, all_idle}
-use Rattle.fb_book.specs.Board.{IsBoard, is_ready, unsolved_of}
+use Rattle.fb_book.specs.InternalBoard.{IsBoard, is_ready, unsolved_of}
 use Rattle.fb_book.proofs.Statuses.{within, child_given, IsSetAt, here, there, set_at}
 use Rattle.fb_book.proofs.Boards.{replay_more, can_take_let, idle_let}
 use Rattle.fb_graph.specs.Counts.{as_count}
@@ -37,8 +37,8 @@ held_by w s e = ap (is_held_by w) e ∙ eq-eqb w w refl
 pub replay_gave : (kids : Kids) (n count : ℕ) (h : List Entry) (st : List Status) (e : Entry) (k : ℕ)
     → replay kids n (all_idle count) h ≡ Some st → Letting n st e Gave k
     → replay kids n (all_idle count) (h ++ e ∷ []) ≡ Some (set st k Given)
-replay_gave kids n count h st e k stands l =
-    replay_more kids n h (all_idle count) st e stands allowed
+replay_gave kids n count h st e k replayed l =
+    replay_more kids n h (all_idle count) st e replayed allowed
     ∙ (ap (λ x. Some (after kids st x e.worker (place n e))) l.kind_is
     ∙ ap (λ p. Some (set st p Given)) l.place_is)
   where
@@ -51,8 +51,8 @@ replay_gave kids n count h st e k stands l =
 pub replay_left : (kids : Kids) (n count : ℕ) (h : List Entry) (st : List Status) (e : Entry) (k : ℕ)
     → replay kids n (all_idle count) h ≡ Some st → Letting n st e Left k
     → replay kids n (all_idle count) (h ++ e ∷ []) ≡ Some (set st k Lost)
-replay_left kids n count h st e k stands l =
-    replay_more kids n h (all_idle count) st e stands allowed
+replay_left kids n count h st e k replayed l =
+    replay_more kids n h (all_idle count) st e replayed allowed
     ∙ (ap (λ x. Some (after kids st x e.worker (place n e))) l.kind_is
     ∙ ap (λ p. Some (set st p Lost)) l.place_is)
   where
@@ -90,7 +90,7 @@ pub kept_gave : (kids : Kids) (n count : ℕ) (h : List Entry) (st : List Status
     → (rest : ℕ) → rest + 1 ≡ unsolved
     → IsBoard kids n count (h ++ e ∷ []) (set st k Given) more ready_room next rest starved room
 kept_gave kids n count h st ready ready_room next unsolved starved room b e k l more longer pushed rest less = record {
-  stands = replay_gave kids n count h st e k b.stands l;
+  replayed = replay_gave kids n count h st e k b.replayed l;
   loss = b.loss ∙ sym (any_set is_left st k Given inside (sym (ap is_left l.held)));
   rest =
       let step : sum_by unsolved_of new + unsolved_of (status_at st k) ≡ sum_by unsolved_of st + 0 =
@@ -136,7 +136,7 @@ pub kept_left : (kids : Kids) (n count : ℕ) (h : List Entry) (st : List Status
     → (e : Entry) (k : ℕ) → Letting n st e Left k
     → IsBoard kids n count (h ++ e ∷ []) (set st k Lost) ready ready_room next unsolved true room
 kept_left kids n count h st ready ready_room next unsolved starved room b e k l = record {
-  stands = replay_left kids n count h st e k b.stands l;
+  replayed = replay_left kids n count h st e k b.replayed l;
   loss = sym (list_any_at is_left new k Used inside_new (lost (set_at st k Lost k inside)));
   rest =
       let step : sum_by unsolved_of new + unsolved_of (status_at st k) ≡ sum_by unsolved_of st + 1 =

@@ -8,7 +8,8 @@ use Rattle.fb_book.specs.declared.entries.Entry.{Entry}
 use Rattle.fb_book.specs.declared.entries.Status.{Status}
 use Rattle.fb_book.specs.declared.entries.Status.TheVariants.{Idle, Used}
 use Rattle.fb_book.specs.Machine.{Kids, IsForest, status_at, is_idle, is_given, is_left, are_given, can_take, all_idle}
-use Rattle.fb_book.specs.Board.{children_in, kids_in, AreParents, IsBoard, IsItems, is_ready, unsolved_of}
+use Rattle.fb_book.specs.Board.{children_in, kids_in}
+use Rattle.fb_book.specs.InternalBoard.{AreParents, node_limit, IsBoard, IsItems, is_ready, unsolved_of}
 use Rattle.fb_book.proofs.History.{none_from}
 use Rattle.fb_book.proofs.Places.{unit_place}
 use Rattle.fb_graph.specs.Counts.{as_count}
@@ -43,7 +44,7 @@ pub board_start : (units : ℕ) (joins : List (ℕ × ℕ)) (slots room count : 
 board_start units joins slots room count some count_is enough = subst
     (λ n. IsBoard (kids_in units joins) (units + length joins) n [] (all_idle count) [] count 0 count false room) count_is
     (record {
-      stands = refl;
+      replayed = refl;
       loss = sym (none_from is_left (all_idle count) (λ k less. ap is_left (idle_at count k (subst (λ x. k < x) (length-replicate count Idle) less))));
       rest = let e : sum_by unsolved_of (replicate count Idle) ≡ count * 1 = sum_by-replicate unsolved_of count Idle in omega (arith, e);
       each = λ k. sym (ap as_count (unready_at (kids_in units joins) count k));
@@ -58,7 +59,7 @@ board_start units joins slots room count some count_is enough = subst
     first units n some = let e : 0 % n ≡ 0 = zero-mod n in omega (arith, e, some)
 
 pub items_start : (units : ℕ) (joins : List (ℕ × ℕ)) (parents : List (Option ℕ)) (slots nodes count : ℕ)
-    → 0 < units → units + length joins < 2 ^ 13 → slots < 2 ^ 32
+    → 0 < units → units + length joins < node_limit → slots < 2 ^ 32
     → IsForest (children_in units joins) → AreParents units joins parents
     → nodes ≡ units + length joins → count ≡ slots * nodes
     → (st : List Status) → st ≡ replicate count Idle → (ready : List ℕ) → ready ≡ []

@@ -5,7 +5,8 @@ use Rattle.std.proofs.lemmas.Nat.{div-add-mod', div-mul-add, mod-mul-add, mod_be
 use Rattle.std.proofs.lemmas.Option.{slice_get-get_or, same_Some}
 use Rattle.std.specs.Prelude.{nat_lt}
 use Rattle.fb_book.specs.Machine.{IsForest, is_child}
-use Rattle.fb_book.specs.Board.{children_in, shifted_children, kids_in, after_unit, AreParents}
+use Rattle.fb_book.specs.Board.{children_in, shifted_children, kids_in}
+use Rattle.fb_book.specs.InternalBoard.{after_unit, AreParents}
 
 -- a child of a shifted pair is a shifted child
 pub child_of_shifted : (base : ℕ) (o : Option (ℕ × ℕ)) (c : ℕ) → is_child (shifted_children base o) c ≡ true

@@ -195,9 +195,9 @@ module _ (f : ℕ → ℕ) (n slots more : ℕ) (r : IsRenumbering f slots more)
             × Goes f n slots more end last × All (λ e. e.slot < slots) (e ∷ es)
         step true may e' rest =
             let (s_less, allowed, g') = went st new g e may in
-            let (last, stands, goes, all) = rest g' e' in (
+            let (last, replayed, goes, all) = rest g' e' in (
               last,
-              ap (λ b. if b then replay kids n new_next (map (renumbered_entry f) es) else None) allowed ∙ stands,
+              ap (λ b. if b then replay kids n new_next (map (renumbered_entry f) es) else None) allowed ∙ replayed,
               goes,
               All-cons (λ e. e.slot < slots) e es s_less all,
             )
@@ -217,9 +217,9 @@ goes_first f n slots more r = record {
 }
 
 pub renumbering_allows : RenumberingAllows
-renumbering_allows f units joins slots more history st r forest stands =
+renumbering_allows f units joins slots more history st r forest replayed =
     close (went_on f n slots more r (kids_in units joins) (children_in units joins) (λ s m less. kids_at units joins s m less)
-    low history (all_idle (slots * n)) (all_idle (more * n)) st (goes_first f n slots more r) stands)
+    low history (all_idle (slots * n)) (all_idle (more * n)) st (goes_first f n slots more r) replayed)
   where
     n : ℕ
     n = units + length joins
@@ -236,7 +236,7 @@ renumbering_allows f units joins slots more history st r forest stands =
         → IsRenumbered f (kids_in units joins) n slots more history st
     close (last, ends, goes, all) = record {
       statuses = last;
-      stands = ends;
+      replayed = ends;
       same = goes.same;
       slots_are = all;
     }

@@ -1,12 +1,13 @@
 -- The nodes of a plan's tree are a forest, and its parents are those of its joins.
-use Rattle.std.proofs.Common.{ℕ, ◌≡◌, ◌+◌, ◌-◌, ◌^◌, ◌<◌, ◌≤◌, Bool, true, false, Option, Some, None, List, [], ◌∷◌, length, get_or, slice_get, if◌then◌else◌, ◌⊎◌, inl, inr, refl, sym, ap, subst, ◌∙◌, arith, zero, suc}
+use Rattle.std.proofs.Common.{ℕ, ◌≡◌, ◌+◌, ◌-◌, ◌<◌, ◌≤◌, Bool, true, false, Option, Some, None, List, [], ◌∷◌, length, get_or, slice_get, if◌then◌else◌, ◌⊎◌, inl, inr, refl, sym, ap, subst, ◌∙◌, arith, zero, suc}
 use Rattle.std.proofs.lemmas.Bool.{ne_eqb, le-ltb, ltb-false, false≢true, cases_lt}
 use Rattle.std.proofs.lemmas.List.{get_or_past}
 use Rattle.std.proofs.lemmas.Option.{get_or_from_slice_get, slice_get-get_or, slice_get_within}
 use Rattle.std.specs.Prelude.{nat_lt}
-use Rattle.fb_plan.specs.Plans.{PlanTree, IsTree, IsJoin, names, join_at, node_count, parent_from, parent_of}
+use Rattle.fb_plan.specs.Plans.{PlanTree, IsTree, most_units, IsJoin, names, join_at, node_count, parent_from, parent_of}
 use Rattle.fb_book.specs.Machine.{IsForest, is_child}
-use Rattle.fb_book.specs.Board.{children_in, AreParents}
+use Rattle.fb_book.specs.Board.{children_in}
+use Rattle.fb_book.specs.InternalBoard.{AreParents, node_limit}
 use Rattle.fb_plan.proofs.Trees.{names_cases}
 
 pub record Joined (units : ℕ) (joins : List (ℕ × ℕ)) (k : ℕ) (pair : ℕ × ℕ) : Type 0 where
@@ -165,8 +166,8 @@ parents_of_tree t tree parents count each = record {
         let n_less : n < m = (forest_of_tree t tree).before m n h in
         each n (omega (arith, n_less, m_above, m_less)) ∙ (e ∙ ap Some is)
 
-pub small_tree : (t : PlanTree) → IsTree t → (0 < t.units) × (t.units + length t.joins < 2 ^ 13)
+pub small_tree : (t : PlanTree) → IsTree t → (0 < t.units) × (t.units + length t.joins < node_limit)
 small_tree t tree =
-    let most : t.units ≤ 4096 = tree.limit in
+    let most : t.units ≤ most_units = tree.limit in
     let count : t.units ≡ length t.joins + 1 = tree.count in
     (omega (arith, count), omega (arith, most, count))

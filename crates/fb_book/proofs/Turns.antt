@@ -10,7 +10,8 @@ use Rattle.fb_book.specs.declared.entries.Status.TheVariants.{Held}
 use Rattle.fb_book.specs.declared.items.Item.{Item}
 use Rattle.fb_book.specs.declared.items.Turn.TheVariants.{Fusion, Unit as OneUnit}
 use Rattle.fb_book.specs.Machine.{is_child, can_take, with_used, after}
-use Rattle.fb_book.specs.Board.{Course, kids_of, nodes_of, item_count, place_in, entry_at, Adds, is_fusion, IsFirstFusion, IsFirstUnit, is_ready, IsBoard, IsItems, IsCourse, TakesUnit, TakesFusion, after_unit}
+use Rattle.fb_book.specs.Board.{Course, kids_of, nodes_of, item_count, place_in, Adds, is_fusion, IsFirstFusion, IsFirstUnit, TakesUnit, TakesFusion}
+use Rattle.fb_book.specs.InternalBoard.{node_limit, entry_at, is_ready, IsBoard, IsItems, IsCourse, after_unit}
 use Rattle.fb_book.proofs.Statuses.{MayTake}
 use Rattle.fb_book.proofs.Boards.{Taking, replay_taking, kept_fusion, kept_unit}
 use Rattle.fb_book.proofs.Choosing.{statuses_are, is_run, slot_and_node, counted, shorter, least_of, places_forest, status_count, history_room, popped_may, popped_kids, only_units, unit_may}
@@ -36,9 +37,9 @@ module _ {c : Course} {nodes : ℕ} {parents : List (Option ℕ)} {st : List Sta
     (i : IsItems c nodes parents st ready ready_room next unsolved starved room) where
   pub few_items : item_count c < 2 ^ 45
   few_items =
-      let nodes_few : nodes_of c < 2 ^ 13 = i.few_nodes in
+      let nodes_few : nodes_of c < node_limit = i.few_nodes in
       let slots_few : c.slots < 2 ^ 32 = i.few_slots in
-      let a : c.slots * nodes_of c ≤ c.slots * 2 ^ 13 = mul-le-mul_left c.slots (omega (arith, nodes_few)) in
+      let a : c.slots * nodes_of c ≤ c.slots * node_limit = mul-le-mul_left c.slots (omega (arith, nodes_few)) in
       omega (arith, a, slots_few)
 
   pub is_course : IsCourse c
@@ -47,7 +48,7 @@ module _ {c : Course} {nodes : ℕ} {parents : List (Option ℕ)} {st : List Sta
     few_nodes = i.few_nodes;
     few_slots = i.few_slots;
     forest = places_forest i;
-    run = is_run c st i.board.stands;
+    run = is_run c st i.board.replayed;
   }
 
   -- a place that may be taken
@@ -71,7 +72,7 @@ module _ {c : Course} {nodes : ℕ} {parents : List (Option ℕ)} {st : List Sta
   pub room_to_take : (w k : ℕ) → MayTake (kids_of c) st k → length c.history < room
   room_to_take w k m =
       history_room i (c.history ++ entry_at Took w nodes k ∷ []) (after (kids_of c) st Took w k) (entry_at Took w nodes k) refl
-      (replay_taking (kids_of c) (nodes_of c) (item_count c) c.history st (entry_at Took w nodes k) k i.board.stands (taking w k m))
+      (replay_taking (kids_of c) (nodes_of c) (item_count c) c.history st (entry_at Took w nodes k) k i.board.replayed (taking w k m))
 
   abbrev pub taken_course : ℕ → ℕ → Course
   taken_course w k = record c { history = c.history ++ entry_at Took w nodes k ∷ [] }
@@ -84,7 +85,7 @@ module _ {c : Course} {nodes : ℕ} {parents : List (Option ℕ)} {st : List Sta
         in_nodes = subst (λ n. k % n < nodes_of c) (sym i.nodes_is) s.node;
         entry = refl;
         run = is_run (taken_course w k) (after (kids_of c) st Took w k)
-            (replay_taking (kids_of c) (nodes_of c) (item_count c) c.history st (entry_at Took w nodes k) k i.board.stands (taking w k m));
+            (replay_taking (kids_of c) (nodes_of c) (item_count c) c.history st (entry_at Took w nodes k) k i.board.replayed (taking w k m));
       }
 
   pub place_taken : (k : ℕ) → MayTake (kids_of c) st k → place_in c (k / nodes) (k % nodes) ≡ k
@@ -129,7 +130,7 @@ module _ {c : Course} {nodes : ℕ} {parents : List (Option ℕ)} {st : List Sta
       first : IsFirstFusion c k
       first j fusion can =
           let same : can_take (kids_of c) st j ≡ true =
-          ap (λ s. can_take (kids_of c) s j) (sym (statuses_are c st i.board.stands)) ∙ can in
+          ap (λ s. can_take (kids_of c) s j) (sym (statuses_are c st i.board.replayed)) ∙ can in
           let is : is_ready (kids_of c) st j ≡ true = and_from (is_some (kids_of c j)) (can_take (kids_of c) st j) fusion same in
           let each : count_by (λ x. x == j) ready ≡ as_count (is_ready (kids_of c) st j) = i.board.each j in
           let one : as_count (is_ready (kids_of c) st j) ≡ 1 = ap as_count is in
@@ -168,7 +169,7 @@ module _ {c : Course} {nodes : ℕ} {parents : List (Option ℕ)} {st : List Sta
       first : IsFirstUnit c next
       first j can =
           let same : can_take (kids_of c) st j ≡ true =
-          ap (λ s. can_take (kids_of c) s j) (sym (statuses_are c st i.board.stands)) ∙ can in
+          ap (λ s. can_take (kids_of c) s j) (sym (statuses_are c st i.board.replayed)) ∙ can in
           let (unit, more, within) = only_units i empty j same in
           (ap is_some unit, more)
 

@@ -38,7 +38,7 @@ added old new kind worker slot node run a =
     close : Midway (kids_of old) (nodes_of old) (all_idle (item_count old)) old.history e [] (statuses_of next)
         → Added old next kind worker (place_in old slot node)
     close m =
-        let same : m.statuses ≡ statuses_of old = same_Some m.statuses (statuses_of old) (sym m.stands ∙ run) in
+        let same : m.statuses ≡ statuses_of old = same_Some m.statuses (statuses_of old) (sym m.replayed ∙ run) in
         record {
           allowed = subst (λ s. is_permitted (kids_of old) s kind worker (place_in old slot node) ≡ true) same
               (and_parts (nat_lt node (nodes_of old)) (is_permitted (kids_of old) m.statuses kind worker (place_in old slot node)) m.allowed).1;

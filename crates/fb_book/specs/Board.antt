@@ -1,12 +1,11 @@
--- A run over the items of a plan's nodes in several slots, and what is kept beside its history so that the next item
--- is found without a search.
-use Rattle.std.specs.Prelude.{ℕ, ◌≡◌, ◌+◌, ◌-◌, ◌*◌, ◌/◌, ◌%◌, ◌^◌, ◌<◌, ◌≤◌, ◌==◌, ◌&&◌, Bool, true, false, nat_lt, if◌then◌else◌, cond, is_some, unwrap_or, option_map, Option, Some, None, List, [], ◌∷◌, ◌++◌, length, get_or, slice_get, sum_by, count_by}
+-- A run over the items of a plan's nodes in several slots.
+use Rattle.std.specs.Prelude.{ℕ, ◌≡◌, ◌+◌, ◌-◌, ◌*◌, ◌/◌, ◌%◌, ◌<◌, ◌≤◌, Bool, true, false, nat_lt, if◌then◌else◌, is_some, unwrap_or, Option, Some, None, List, [], ◌∷◌, ◌++◌, length, slice_get}
 use Rattle.std.specs.List.{list_any, list_all}
 use Rattle.fb_book.specs.declared.entries.Kind.{Kind}
 use Rattle.fb_book.specs.declared.entries.Kind.TheVariants.{Took}
 use Rattle.fb_book.specs.declared.entries.Entry.{Entry}
 use Rattle.fb_book.specs.declared.entries.Status.{Status}
-use Rattle.fb_book.specs.Machine.{Kids, IsForest, is_child, status_at, is_idle, is_held, is_held_by, is_left, is_over, can_take, replay, all_idle}
+use Rattle.fb_book.specs.Machine.{Kids, status_at, is_held, is_held_by, is_left, is_over, can_take, replay, all_idle}
 
 -- the two children of a node; a unit has none
 abbrev pub children_in : ℕ → List (ℕ × ℕ) → ℕ → Option (ℕ × ℕ)
@@ -71,11 +70,11 @@ can_take_item c k = can_take (kids_of c) (statuses_of c) k
 abbrev pub is_fusion : Course → ℕ → Bool
 is_fusion c k = is_some (kids_of c k)
 
--- No fusion that can be taken stands before this one.
+-- No fusion that can be taken comes before this one.
 abbrev pub IsFirstFusion : Course → ℕ → Type 0
 IsFirstFusion c k = (j : ℕ) → is_fusion c j ≡ true → can_take_item c j ≡ true → k ≤ j
 
--- No fusion can be taken, and no unit that can be taken stands before this one.
+-- No fusion can be taken, and no unit that can be taken comes before this one.
 abbrev pub IsFirstUnit : Course → ℕ → Type 0
 IsFirstUnit c k = (j : ℕ) → can_take_item c j ≡ true → (is_fusion c j ≡ false) × (k ≤ j)
 
@@ -92,93 +91,19 @@ is_starved c = list_any is_left (statuses_of c)
 abbrev pub is_finished : Course → Bool
 is_finished c = list_all is_over (statuses_of c)
 
--- What is kept beside the history.
-
--- the parent of each node
-pub record AreParents (units : ℕ) (joins : List (ℕ × ℕ)) (parents : List (Option ℕ)) : Type 0 where
-  pub count : length parents ≡ units + length joins
-  pub sound : (n m : ℕ) → get_or parents n None ≡ Some m
-      → (m < units + length joins) × (is_child (children_in units joins m) n ≡ true)
-  pub whole : (n m : ℕ) → is_child (children_in units joins m) n ≡ true → get_or parents n None ≡ Some m
-
--- a fusion that can be taken
-abbrev pub is_ready : Kids → List Status → ℕ → Bool
-is_ready kids st k = is_some (kids k) && can_take kids st k
-
-abbrev pub unsolved_of : Status → ℕ
-unsolved_of s = cond (is_over s) 0 1
-
--- Beside the statuses: the places of the fusions that can be taken, room for more of them, the first unit that was
--- not taken, the number of items that are neither given nor used, whether an item was left, and room in the history.
-pub record IsBoard (kids : Kids) (n count : ℕ) (history : List Entry) (st : List Status) (ready : List ℕ)
-    (ready_room next unsolved : ℕ) (starved : Bool) (room : ℕ) : Type 0 where
-  pub stands : replay kids n (all_idle count) history ≡ Some st
-  pub loss : starved ≡ list_any is_left st
-  pub rest : unsolved ≡ sum_by unsolved_of st
-  pub each : (k : ℕ) → count_by (λ j. j == k) ready ≡ cond (is_ready kids st k) 1 0
-  pub heap_room : length ready + unsolved ≤ ready_room
-  pub before : (k : ℕ) → kids k ≡ None → k < next → is_idle (status_at st k) ≡ false
-  pub unit : next < count → kids next ≡ None
-  pub behind : (k : ℕ) → kids k ≡ None → next ≤ k → k < count → is_idle (status_at st k) ≡ true
-  pub history_room : 2 * count ≤ room
-
--- What a run keeps beside its history.
-pub record IsItems (c : Course) (nodes : ℕ) (parents : List (Option ℕ)) (st : List Status) (ready : List ℕ)
-    (ready_room next unsolved : ℕ) (starved : Bool) (room : ℕ) : Type 0 where
-  pub some : 0 < c.units
-  pub forest : IsForest (children_in c.units c.joins)
-  pub nodes_is : nodes ≡ nodes_of c
-  pub few_nodes : nodes_of c < 2 ^ 13
-  pub few_slots : c.slots < 2 ^ 32
-  pub parents_are : AreParents c.units c.joins parents
-  pub board : IsBoard (kids_of c) (nodes_of c) (item_count c) c.history st ready ready_room next unsolved starved room
-
--- Unit (slot, node) is taken: nothing that can be taken stands before it, and no fusion can be taken.
+-- Unit (slot, node) is taken: nothing that can be taken comes before it, and no fusion can be taken.
 pub record TakesUnit (old new : Course) (worker slot node : ℕ) : Type 0 where
   pub adds : Adds old new Took worker slot node
   pub unit : is_fusion old (place_in old slot node) ≡ false
   pub first : IsFirstUnit old (place_in old slot node)
 
--- Fusion (slot, node), of these children, is taken: no fusion that can be taken stands before it.
+-- Fusion (slot, node), of these children, is taken: no fusion that can be taken comes before it.
 pub record TakesFusion (old new : Course) (worker slot node left right : ℕ) : Type 0 where
   pub adds : Adds old new Took worker slot node
   pub children : kids_of old (place_in old slot node) ≡ Some (left, right)
   pub first : IsFirstFusion old (place_in old slot node)
 
--- both children are items
-abbrev pub AreWithin : Option (ℕ × ℕ) → ℕ → Type 0
-AreWithin None count = Unit {0}
-AreWithin (Some pair) count = (pair.0 < count) × (pair.1 < count)
-
-abbrev pub entry_at : Kind → ℕ → ℕ → ℕ → Entry
-entry_at kind worker nodes k = record { kind = kind; worker = worker; slot = k / nodes; node = k % nodes }
-
-abbrev pub parent_place : ℕ → List (Option ℕ) → ℕ → Option ℕ
-parent_place nodes parents k = option_map (λ m. k / nodes * nodes + m) (get_or parents (k % nodes) None)
-
--- The unit after the one at place k: the next node, or the first one of the next slot.
-abbrev pub after_unit : ℕ → ℕ → ℕ → ℕ
-after_unit units n k = if nat_lt (k % n + 1) units then k + 1 else k / n * n + n
-
--- the parent, where it can be taken
-abbrev pub ready_parent : Kids → List Status → Option ℕ → Option ℕ
-ready_parent kids st None = None
-ready_parent kids st (Some p) = if can_take kids st p then Some p else None
-
--- what every run keeps
-pub record IsCourse (c : Course) : Type 0 where
-  pub some : 0 < c.units
-  pub few_nodes : nodes_of c < 2 ^ 13
-  pub few_slots : c.slots < 2 ^ 32
-  pub forest : IsForest (kids_of c)
-  pub run : IsRun c
-
 -- The item was held by the worker, and there is one entry more.
 pub record Lets (old new : Course) (kind : Kind) (worker slot node : ℕ) : Type 0 where
   pub adds : Adds old new kind worker slot node
   pub held : is_held_by worker (item_status old slot node) ≡ true
-
--- Nothing changed, since the worker doesn't hold the item.
-pub record LetsNot (old new : Course) (worker slot node : ℕ) : Type 0 where
-  pub same : new ≡ old
-  pub unheld : is_held_by worker (item_status old slot node) ≡ false

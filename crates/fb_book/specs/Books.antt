@@ -16,7 +16,7 @@ course_of job history =
 abbrev pub nodes_made : PlanTree → ℕ → List ℕ
 nodes_made tree n = get_or (subtrees tree) n []
 
--- Where it is known which nodes were made for the piece, they are those of its node's subtree, in order.
+-- If it is known which nodes were made for the piece, they are those of its node's subtree, in order.
 abbrev pub IsMadeOf : {P : Type 0} → (P → ℕ) → (P → Option (List ℕ)) → JobValue → P → Type 0
 IsMadeOf node_of made_of job p = IfSome (made_of p) (λ made. made ≡ nodes_made job.plan (node_of p))
 
@@ -47,13 +47,6 @@ pub record IsKept {P : Type 0} (job_of : P → JobValue) (slot_of node_of : P �
   pub count : length parked ≡ item_count (course_of job history)
   pub given : (k : ℕ) → is_given (status_at (statuses_of (course_of job history)) k) ≡ is_some (get_or parked k None)
   pub pieces : (k : ℕ) (p : P) → get_or parked k None ≡ Some p → IsPieceAt job_of slot_of node_of made_of job k p
-
-pub record IsBook {P : Type 0} (job_of : P → JobValue) (slot_of node_of : P → ℕ) (made_of : P → Option (List ℕ))
-    (job : JobValue) (workers : ℕ) (c : Course) (parked : List (Option P)) (roots : List P) (room : ℕ) : Type 0 where
-  pub course : c ≡ course_of job c.history
-  pub kept : IsKept job_of slot_of node_of made_of job workers c.history parked
-  pub roots_are : roots ≡ []
-  pub roots_room : length job.shots ≤ room
 
 -- Fusion (slot, node) is taken, and the two pieces that wait at its children are handed out, the left one first.
 pub record HandsOut {P : Type 0} (old new : Course) (worker slot node : ℕ) (parked parked_after : List (Option P)) (a b : P) : Type 0 where

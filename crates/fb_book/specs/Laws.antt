@@ -26,14 +26,14 @@ FusionIsMadeLast = (tree : PlanTree) → IsTree tree → (n left right : ℕ) �
     → nodes_made tree n ≡ nodes_made tree left ++ nodes_made tree right ++ n ∷ []
 
 -- what was done with an item of this status
-abbrev pub Told : Status → List (Kind × ℕ) → Type 0
-Told Idle done = done ≡ []
-Told (Held w) done = done ≡ (Took, w) ∷ []
-Told Given done = (w : ℕ) × (done ≡ (Took, w) ∷ (Gave, w) ∷ [])
-Told Used done = (w : ℕ) × (done ≡ (Took, w) ∷ (Gave, w) ∷ [])
-Told Lost done = (w : ℕ) × (done ≡ (Took, w) ∷ (Left, w) ∷ [])
+abbrev pub IsTraceOf : Status → List (Kind × ℕ) → Type 0
+IsTraceOf Idle done = done ≡ []
+IsTraceOf (Held w) done = done ≡ (Took, w) ∷ []
+IsTraceOf Given done = (w : ℕ) × (done ≡ (Took, w) ∷ (Gave, w) ∷ [])
+IsTraceOf Used done = (w : ℕ) × (done ≡ (Took, w) ∷ (Gave, w) ∷ [])
+IsTraceOf Lost done = (w : ℕ) × (done ≡ (Took, w) ∷ (Left, w) ∷ [])
 
--- how many entries an item of this status has
+-- the number of entries of an item of this status
 abbrev pub entries_of : Status → ℕ
 entries_of Idle = 0
 entries_of (Held w) = 1
@@ -41,18 +41,18 @@ entries_of Given = 2
 entries_of Used = 2
 entries_of Lost = 2
 
--- Where nothing is held or left, some item can be taken, or every item is given or used.
+-- If nothing is held or left, some item can be taken, or every item is given or used.
 abbrev pub Progress : Type 0
 Progress = (kids : Kids) (n count : ℕ) (history : List Entry) (st : List Status) → IsForest kids
     → replay kids n (all_idle count) history ≡ Some st
     → list_any is_held st ≡ false → list_any is_left st ≡ false
     → ((k : ℕ) × (k < count) × (can_take kids st k ≡ true)) ⊎ (list_all is_over st ≡ true)
 
--- What was done with an item tells its status.
-abbrev pub TellsStatus : Type 0
-TellsStatus = (kids : Kids) (n count : ℕ) (history : List Entry) (st : List Status) → IsForest kids
+-- What was done with an item determines its status.
+abbrev pub TraceGivesStatus : Type 0
+TraceGivesStatus = (kids : Kids) (n count : ℕ) (history : List Entry) (st : List Status) → IsForest kids
     → replay kids n (all_idle count) history ≡ Some st
-    → (k : ℕ) → k < count → Told (status_at st k) (trace n k history)
+    → (k : ℕ) → k < count → IsTraceOf (status_at st k) (trace n k history)
 
 -- No item has more than two entries, and so all together no more than twice their number.
 abbrev pub TwoEach : Type 0
@@ -109,7 +109,7 @@ renumbered_entry f e = record e { slot = f e.slot }
 -- The history over more slots is allowed, and leads each item to the status that it had by its former number.
 pub record IsRenumbered (f : ℕ → ℕ) (kids : Kids) (n slots more : ℕ) (history : List Entry) (st : List Status) : Type 0 where
   pub statuses : List Status
-  pub stands : replay kids n (all_idle (more * n)) (map (renumbered_entry f) history) ≡ Some statuses
+  pub replayed : replay kids n (all_idle (more * n)) (map (renumbered_entry f) history) ≡ Some statuses
   pub same : (s node : ℕ) → s < slots → node < n → status_at statuses (f s * n + node) ≡ status_at st (s * n + node)
   pub slots_are : All (λ e. e.slot < slots) history
 

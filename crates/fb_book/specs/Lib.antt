@@ -1,4 +1,5 @@
 pub mod Board
 pub mod Books
+pub mod InternalBoard
 pub mod Laws
 pub mod Machine

@@ -16,7 +16,7 @@ abbrev pub is_child : Option (ℕ × ℕ) → ℕ → Bool
 is_child None c = false
 is_child (Some pair) c = (pair.0 == c) || (pair.1 == c)
 
--- Children stand before their fusion, the two differ, and no item is a child of two.
+-- Children come before their fusion, the two differ, and no item is a child of two.
 pub record IsForest (kids : Kids) : Type 0 where
   pub before : (k c : ℕ) → is_child (kids k) c ≡ true → c < k
   pub differ : (k : ℕ) (pair : ℕ × ℕ) → kids k ≡ Some pair → (pair.0 == pair.1) ≡ false
@@ -103,7 +103,7 @@ place n e = e.slot * n + e.node
 abbrev pub allows : Kids → ℕ → List Status → Entry → Bool
 allows kids n st e = nat_lt e.node n && is_permitted kids st e.kind e.worker (place n e)
 
--- the statuses after all entries, or none where one of them isn't allowed
+-- the statuses after all entries, or none if one of them isn't allowed
 abbrev pub replay : Kids → ℕ → List Status → List Entry → Option (List Status)
 replay kids n st [] = Some st
 replay kids n st (e ∷ es) =
@@ -128,7 +128,7 @@ is_loss e = is_loss_kind e.kind
 -- The history is allowed, nothing was left, and at its end every item is given or used.
 pub record IsComplete (kids : Kids) (n count : ℕ) (history : List Entry) : Type 0 where
   pub statuses : List Status
-  pub stands : replay kids n (all_idle count) history ≡ Some statuses
+  pub replayed : replay kids n (all_idle count) history ≡ Some statuses
   pub unleft : list_any is_loss history ≡ false
   pub over : list_all is_over statuses ≡ true
 
@@ -140,7 +140,7 @@ AreSlots slots n count = (slot node : ℕ) → is_in slots slot ≡ true → nod
 pub record IsCompleteOn (slots : List ℕ) (kids : Kids) (n count : ℕ) (history : List Entry) : Type 0 where
   pub inside : AreSlots slots n count
   pub statuses : List Status
-  pub stands : replay kids n (all_idle count) history ≡ Some statuses
+  pub replayed : replay kids n (all_idle count) history ≡ Some statuses
   pub unleft : All (λ e. is_in slots e.slot ≡ true → is_loss e ≡ false) history
   pub over : (slot node : ℕ) → is_in slots slot ≡ true → node < n
       → is_over (status_at statuses (slot * n + node)) ≡ true

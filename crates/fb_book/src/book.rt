@@ -1,4 +1,4 @@
-ghost use Rattle.std.specs.Prelude.{◌≡◌, ◌*◌, ◌^◌, ◌<◌, ◌≤◌, ◌⊎◌, true, false, Some, None, List, [], length, slice_set, replicate, All, IfOk, IfErr, OnErr, OnOk};
+ghost use Rattle.std.specs.Prelude.{◌≡◌, ◌*◌, ◌^◌, ◌<◌, ◌≤◌, ◌⊎◌, true, false, Some, None, List, [], length, slice_set, replicate, IfOk, IfErr, OnErr, OnOk};
 ghost use Rattle.fb_book.specs.declared.entries.Kind.TheVariants.{Gave, Left};
 ghost use Rattle.fb_book.specs.Machine.{IsForest};
 ghost use Rattle.fb_book.specs.Board.{IsRun, Lets, MustWait, TakesUnit, is_finished, is_starved, item_count, kids_of};
@@ -39,7 +39,7 @@ pub struct Book<P: Piece, N: Board> {
 impl<P: Piece, N: Board> Model for Book<P, N> {
     ghost use Rattle.std.specs.Prelude.{List, Option, vec_capacity};
     ghost use Rattle.fb_book.specs.declared.entries.Entry.{Entry};
-    ghost use Rattle.fb_book.specs.Books.{IsBook};
+    ghost use Rattle.fb_book.specs.InternalBoard.{IsBook};
 
     ghost Value = { List Entry × List (Option P) };
 
@@ -105,7 +105,7 @@ impl<P: Piece, N: Board> Book<P, N> {
         }
     }
 
-    /// Gives the item of the permit, and leaves its piece for the fusion above it. Gives both back where the item isn't
+    /// Gives the item of the permit, and leaves its piece for the fusion above it. Gives both back if the item isn't
     /// held by the permit's worker.
     pub fn post(&mut self, permit: Permit<N>, piece: P) -> Result<(), (Permit<N>, P)>
         requires { IsPieceAt P.job_of P.slot_of P.node_of P.made_of N.job
@@ -131,7 +131,7 @@ impl<P: Piece, N: Board> Book<P, N> {
     }
 
     /// Leaves the item of the permit, for want of memory. From then on nothing can be taken. Gives the permit back
-    /// where the item isn't held by its worker.
+    /// if the item isn't held by its worker.
     pub fn starve(&mut self, permit: Permit<N>) -> Result<(), Permit<N>>
         ensures ok { OnOk result (Lets (course_of N.job self.old.0) (course_of N.job self.new.0) Left permit.worker
             permit.slot permit.node × (self.new.1 ≡ self.old.1)) }

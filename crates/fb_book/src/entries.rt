@@ -17,7 +17,7 @@ pub struct Entry {
     pub node: u32,
 }
 
-/// How an item stands. It is held by the worker with this number, given once it is solved, and used once the fusion
+/// The state of an item. It is held by the worker with this number, given once it is solved, and used once the fusion
 /// above it is taken.
 #[derive(Clone, Copy, PartialEq, Eq, Debug)]
 pub enum Status {

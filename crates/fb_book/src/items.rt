@@ -2,7 +2,8 @@ ghost use Rattle.std.specs.Prelude.{◌≡◌, ℕ, ◌+◌, ◌*◌, ◌^◌, �
 ghost use Rattle.fb_book.specs.declared.entries.Kind.TheVariants.{Gave, Left};
 ghost use Rattle.fb_book.specs.declared.items.Item.{Item};
 ghost use Rattle.fb_book.specs.Machine.{IsForest};
-ghost use Rattle.fb_book.specs.Board.{AreParents, IsCourse, Lets, LetsNot, MustWait, TakesFusion, TakesUnit, children_in, is_finished, is_starved, nodes_of};
+ghost use Rattle.fb_book.specs.Board.{Lets, MustWait, TakesFusion, TakesUnit, children_in, is_finished, is_starved, nodes_of};
+ghost use Rattle.fb_book.specs.InternalBoard.{AreParents, IsCourse, LetsNot, node_limit};
 
 use crate::entries::{Entry, Kind, Status};
 use crate::moves::{
@@ -48,7 +49,8 @@ pub struct Items {
 
 impl Model for Items {
     ghost use Rattle.std.specs.Prelude.{vec_capacity};
-    ghost use Rattle.fb_book.specs.Board.{Course, IsItems};
+    ghost use Rattle.fb_book.specs.Board.{Course};
+    ghost use Rattle.fb_book.specs.InternalBoard.{IsItems};
 
     ghost Value = { Course };
 
@@ -62,7 +64,7 @@ impl Model for Items {
 }
 
 impl Items {
-    /// A run over so many slots of a tree, with nothing taken. The joins are the children of each fusion, and each node
+    /// A run over `slots` copies of a tree, one for each slot, with nothing taken. The joins are the children of each fusion, and each node
     /// has its parent.
     pub fn new(
         alloc: Global,
@@ -72,7 +74,7 @@ impl Items {
         slots: usize,
     ) -> Result<Items, NoMemory>
         requires some { 0 < units }
-        requires few { units + length joins.items < 2 ^ 13 }
+        requires few { units + length joins.items < node_limit }
         requires slots { slots < 2 ^ 32 }
         requires forest { IsForest (children_in units joins.items) }
         requires parents { AreParents units joins.items parents.items }

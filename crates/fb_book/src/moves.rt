@@ -2,7 +2,8 @@
 
 ghost use Rattle.std.specs.Prelude.{◌≡◌, ◌+◌, ◌-◌, ◌*◌, ◌/◌, ◌%◌, ◌^◌, ◌<◌, ◌≤◌, ◌&&◌, ◌∷◌, [], ◌++◌, length, IfSome, slice_set, vec_capacity};
 ghost use Rattle.fb_book.specs.Machine.{is_idle, is_given, is_held_by, are_given, status_at, with_used};
-ghost use Rattle.fb_book.specs.Board.{AreWithin, entry_at, after_unit, kids_in, parent_place, ready_parent};
+ghost use Rattle.fb_book.specs.Board.{kids_in};
+ghost use Rattle.fb_book.specs.InternalBoard.{AreWithin, entry_at, after_unit, parent_place, ready_parent, node_limit};
 
 use crate::entries::{Entry, Kind, Status};
 
@@ -49,7 +50,7 @@ pub fn is_takeable(statuses: &[Status], kids: Option<(usize, usize)>, place: usi
     }
 }
 
-/// The parent, where it is a fusion that can be taken.
+/// The parent, if it is a fusion that can be taken.
 pub fn takeable_parent(
     units: usize,
     joins: &[(u32, u32)],
@@ -72,7 +73,7 @@ pub fn takeable_parent(
     }
 }
 
-/// The unit after the one at this place, where units are the first nodes of a slot.
+/// The place of the unit after the one at this place. Units are the first nodes of a slot.
 pub fn unit_after(units: usize, nodes: usize, place: usize) -> usize
     requires some { 0 < nodes }
     requires few { units < 2 ^ 32 }
@@ -195,10 +196,10 @@ pub fn let_go(
     history.push_reserved(entry);
 }
 
-/// The place of an item, where a slot has so many nodes.
+/// The place of an item in a run of slots of `nodes` nodes each.
 #[tactic(auto, using(crate::proofs::Products::products))]
 pub fn place_of(nodes: usize, slot: u32, node: u32) -> usize
-    requires { nodes < 2 ^ 13 }
+    requires { nodes < node_limit }
     ensures { result ≡ slot * nodes + node }
 {
     slot as usize * nodes + node as usize
@@ -208,7 +209,7 @@ pub fn place_of(nodes: usize, slot: u32, node: u32) -> usize
 #[tactic(auto, using(crate::proofs::Products::products))]
 pub fn count_of(slots: usize, nodes: usize) -> usize
     requires slots { slots < 2 ^ 32 }
-    requires nodes { nodes < 2 ^ 13 }
+    requires nodes { nodes < node_limit }
     ensures value { result ≡ slots * nodes }
     ensures few { result ≤ 2 ^ 45 }
 {
@@ -220,7 +221,7 @@ pub fn count_of(slots: usize, nodes: usize) -> usize
 pub fn root_place(slot: usize, nodes: usize) -> usize
     requires some { 0 < nodes }
     requires slot { slot < 2 ^ 32 }
-    requires nodes { nodes < 2 ^ 13 }
+    requires nodes { nodes < node_limit }
     ensures { result ≡ slot * nodes + (nodes - 1) }
 {
     slot * nodes + (nodes - 1)

@@ -1,6 +1,7 @@
 //! Pieces by the places of their items.
 
 ghost use Rattle.std.specs.Prelude.{◌≡◌, ℕ, ◌+◌, ◌-◌, ◌*◌, ◌^◌, ◌<◌, ◌≤◌, true, is_some, Some, None, [], length, get_or, slice_get, slice_set, replicate, vec_capacity, IfOk};
+ghost use Rattle.fb_book.specs.InternalBoard.{node_limit};
 
 use crate::moves::{count_of, root_place};
 use fb_graph::NoMemory;
@@ -13,7 +14,7 @@ pub fn empty_places<P: Drop>(
     nodes: usize,
 ) -> Result<Vec<Option<P>>, NoMemory>
     requires slots { slots < 2 ^ 32 }
-    requires nodes { nodes < 2 ^ 13 }
+    requires nodes { nodes < node_limit }
     ensures { IfOk result (λ v. v.items ≡ replicate (slots * nodes) None) }
 {
     let count = count_of(slots, nodes);
@@ -46,7 +47,7 @@ pub fn roots_of<P: Drop>(
 )
     requires some { 0 < nodes }
     requires slots { slots < 2 ^ 32 }
-    requires nodes { nodes < 2 ^ 13 }
+    requires nodes { nodes < node_limit }
     requires count { length parked.old.items ≡ slots * nodes }
     requires waits { (s : ℕ) → s < slots → is_some (get_or parked.old.items (s * nodes + (nodes - 1)) None) ≡ true }
     requires empty { roots.old.items ≡ [] }

@@ -13,7 +13,7 @@ pub trait Piece: Drop {
 
     ghost node_of: { Self → ℕ };
 
-    /// The nodes that were made for it, in order, where that is known.
+    /// The nodes that were made for it, in order, if that is known.
     ghost made_of: { Self → Option (List ℕ) };
 
     /// The slot of its item.
@@ -44,7 +44,7 @@ impl<P: Piece> Piece for Box<P, Global> {
     }
 }
 
-/// Names a run: its job, and the number of its workers. It is chosen where the run begins.
+/// Names a run: its job, and the number of its workers. It is chosen when the run begins.
 pub trait Board: Ledger {
     ghost job: { JobValue };
 

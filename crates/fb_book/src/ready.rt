@@ -17,7 +17,7 @@ pub struct Ready {
 
 impl Model for Ready {
     ghost use Rattle.std.specs.Prelude.{◌≤◌, ℕ, List, map};
-    ghost use Rattle.std.specs.BinaryHeap.{heap_items, heap_capacity, heap_len, IsHeap};
+    ghost use Rattle.std.specs.BinaryHeap.{heap_items, heap_capacity, IsHeap};
     ghost use Rattle.std.specs.Ordering.{nat_cmp};
 
     ghost Value = { List ℕ × ℕ };
@@ -28,7 +28,7 @@ impl Model for Ready {
 }
 
 impl Ready {
-    /// No place, and room for so many.
+    /// No places, and room for `room` of them.
     pub fn new(alloc: Global, room: usize) -> Result<Ready, NoMemory>
         ensures { IfOk result (λ r. r ≡ ([], room)) }
     {

@@ -12,8 +12,9 @@ use Rattle.fb_check.specs.CheckEndings.{check_account, check_source}
 use Rattle.fb_check.specs.TextEnds.{FirstOf, TextEnds, WritesPrefix, WritesWhole}
 use Rattle.fb_check.specs.Checks.{bad_count, check_cause, check_prefix, check_head, check_last, verdict_lines}
 use Rattle.fb_check.specs.Ends.{IsReadToItsEnd}
-use Rattle.fb_check.specs.Judges.{EndsCheck, JudgesAll, JudgesFirst, JudgesInto}
-use Rattle.fb_inputs.specs.Judging.{FirstFrom, Gathers, GathersFrom, HasFirstShots, HasShots, IsOpened, Named, most_shots}
+use Rattle.fb_check.specs.InternalJudges.{EndsCheck, JudgesAll, JudgesFirst, JudgesInto}
+use Rattle.fb_inputs.specs.Judging.{HasFirstShots, HasShots, Named, most_shots}
+use Rattle.fb_inputs.specs.InternalGathers.{FirstFrom, Gathers, GathersFrom, IsOpened}
 use Rattle.fb_words.specs.Words.{Checking}
 use Rattle.fb_check.specs.declared.checking.Judged.{Judged}
 use Rattle.fb_endings.specs.declared.ending.Cause.{Cause}
@@ -25,7 +26,7 @@ use Rattle.fb_inputs.specs.Taking.{GivesShots}
 use Rattle.fb_inputs.proofs.Gathered.{first_of_none, gathers_opened, given_first, holds_opened}
 use Rattle.fb_check.proofs.Lines.{IsJudging}
 
--- A stream has given so many shots, and those that have a row are judged.
+-- A stream has given `shots`, and those that have a row are judged.
 pub record IsChecking (g : DecodingGraph) (rows : List Row) (start now : Stream) (before after out new : Option (List ℕ)) (pending : List ℕ) (count bad : ℕ) : Type 0 where
   pub shots : List ShotValue
   pub gives : GivesShots start now before after shots

@@ -12,7 +12,7 @@ use Rattle.fb_verify.specs.Verdicts.{IsVerdict}
 use Rattle.fb_verify.specs.declared.verdicts.Verdict.{Verdict}
 use Rattle.fb_check.specs.Checks.{AreVerdicts, IsPairVerdict, bad_count, pairs_of, verdict_line, verdict_lines}
 use Rattle.fb_inputs.specs.Outboxes.{Moves}
-use Rattle.fb_check.specs.Judges.{AddsLine, JudgesNext}
+use Rattle.fb_check.specs.InternalJudges.{AddsLine, JudgesNext}
 
 -- The rows of these shots have been judged. Their lines are what was written and then what waits.
 pub record IsJudging (g : DecodingGraph) (rows : List Row) (start now : Option (List ℕ)) (pending : List ℕ) (shots : List ShotValue) (bad : ℕ) : Type 0 where
@@ -67,7 +67,7 @@ module _ (g : DecodingGraph) (rows : List Row) (start : Option (List ℕ)) where
         (sym (pairs-push shots rows shot adds.row within))
         (all_zipped_more (IsPairVerdict g) (pairs_of shots rows) judging.verdicts (shot, get_or rows (length shots) adds.row) adds.verdict judging.answers
         (subst (λ (r : Row). IsVerdict g shot r adds.verdict) (adds.is ∙ ap (λ (n : ℕ). get_or rows n adds.row) many) adds.answer));
-    counts = ap (λ (n : ℕ). n + cond b 1 0) judging.counts ∙ ap (λ (c : Bool). bad_count judging.verdicts + cond c 1 0) adds.tells
+    counts = ap (λ (n : ℕ). n + cond b 1 0) judging.counts ∙ ap (λ (c : Bool). bad_count judging.verdicts + cond c 1 0) adds.counts
         ∙ sym (bad-push judging.verdicts adds.verdict);
     flushed = judging.flushed;
     appended = judging.appended;

@@ -1,6 +1,5 @@
 pub mod CheckEndings
 pub mod Checks
 pub mod Ends
-pub mod Judges
-pub mod NoReports
+pub mod InternalJudges
 pub mod TextEnds

@@ -64,7 +64,7 @@ pub record WritesPrefix {A : Type 0} (account : Account A) (named : Named) (sour
   pub written : AppendsPrefix old new (account.prefix answers)
       ⊎ (Holds named source.name (HasShots source.format source.graph shots at_end) × AppendsPrefix old new (account.whole shots answers))
 
--- the end of a command that asked for the shots, when `left` remains of them. Where they couldn't be opened, nothing is
+-- the end of a command that asked for the shots, when `left` remains of them. If they couldn't be opened, nothing is
 -- left to be read, and the head was written.
 abbrev pub TextEnds : {A : Type 0} → Account A → Named → Source → Option (List ℕ) → Option (List ℕ) → Option (List ℕ) → Cause → Type 0
 TextEnds account named source left old new Done = WritesWhole account named source old new Done

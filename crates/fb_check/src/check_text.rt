@@ -33,7 +33,7 @@ pub fn put_verdict<S: Sink>(sink: &mut S, shot: u32, verdict: Verdict) -> Result
     }
 }
 
-/// Puts the line of a shot whose verdict tells no number.
+/// Puts the line of a shot whose verdict has no number.
 fn put_bare<S: Sink>(sink: &mut S, shot: u32, name: &str) -> Result<(), Failed>
     ensures all { OnOk result (Appends (S.taken sink.old) (S.taken sink.new) (line (codes "shot") (decimal shot ∷ name.now ∷ []))) }
     ensures prefix { OnErr result (AppendsPrefix (S.taken sink.old) (S.taken sink.new) (line (codes "shot") (decimal shot ∷ name.now ∷ []))) }
@@ -44,7 +44,7 @@ fn put_bare<S: Sink>(sink: &mut S, shot: u32, name: &str) -> Result<(), Failed>
     put_parts(sink, &[b"shot ", shot, b" ", name.as_bytes(), b"\n"])
 }
 
-/// Puts the line of a shot whose verdict tells a number.
+/// Puts the line of a shot whose verdict has a number.
 fn put_number<S: Sink>(sink: &mut S, shot: u32, name: &str, number: u64) -> Result<(), Failed>
     ensures all { OnOk result (Appends (S.taken sink.old) (S.taken sink.new)
         (line (codes "shot") (decimal shot ∷ name.now ∷ decimal number ∷ []))) }
@@ -62,7 +62,7 @@ fn put_number<S: Sink>(sink: &mut S, shot: u32, name: &str, number: u64) -> Resu
     )
 }
 
-/// Puts the line of a shot whose verdict tells a weight and a sum.
+/// Puts the line of a shot whose verdict has a weight and a sum.
 fn put_sums<S: Sink>(
     sink: &mut S,
     shot: u32,

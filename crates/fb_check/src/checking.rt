@@ -8,30 +8,21 @@ ghost use Rattle.fb_shots.specs.Streams.{fresh};
 ghost use Rattle.fb_verify.specs.Verdicts.{HasPositiveValues};
 ghost use Rattle.fb_check.specs.CheckEndings.{CheckEnds, ChecksOn, IsNoReport, IsReportText, ReportEnds};
 ghost use Rattle.fb_check.specs.Ends.{IsReadToItsEnd, MayFollowReadFault};
-ghost use Rattle.fb_check.specs.Judges.{EndsCheck, JudgesAll, JudgesFirst, JudgesInto, JudgesNext};
-ghost use Rattle.fb_inputs.specs.Judging.{Asks, AsksPrefix, FirstFrom, GathersFrom, Holds, IsReadOutIfNamed, most_shots};
+ghost use Rattle.fb_check.specs.InternalJudges.{EndsCheck, JudgesAll, JudgesFirst, JudgesInto, JudgesNext};
+ghost use Rattle.fb_inputs.specs.Judging.{Asks, AsksPrefix, Holds, IfRefused, IsReadOutIfNamed, most_shots};
+ghost use Rattle.fb_inputs.specs.InternalGathers.{FirstFrom, GathersFrom};
 ghost use Rattle.fb_inputs.specs.Moments.{moment};
-ghost use Rattle.fb_check.specs.NoReports.{IfNoReport};
-ghost use Rattle.fb_words.specs.Seen.{seen_checking};
+ghost use Rattle.fb_words.specs.PlainRequests.{plain_checking};
 
 use crate::check_text::{put_check_head, put_check_last, put_verdict};
 use fb_endings::{Cause, Refusal};
 use fb_graph::{Graph, NoMemory, Row, Shot};
-use fb_inputs::{NoGraph, Outbox, RowsFault, ShotsEnd, read_graph_file, read_named};
+use fb_inputs::{FileFault, MOST_SHOTS, Outbox, RowsFault, ShotsEnd, read_graph_file, read_named};
 use fb_ports::{Files, ReadError, Sink};
 use fb_shots::{Format, ShotStream, Step};
 use fb_verify::{Judge, MOST_REPORT_BYTES, Report, ReportFault, read_report};
 use fb_words::Checking;
 use std::alloc::Global;
-
-/// Why there is no report.
-#[derive(Clone, Copy, Debug, PartialEq, Eq)]
-pub enum NoReport {
-    /// The text is no report. It is never the want of memory.
-    Refused(ReportFault),
-    ReadFault,
-    NoMemory,
-}
 
 /// How many shots were taken, how many rows are bad, and how the shots ended.
 #[derive(Clone, Copy, Debug, PartialEq, Eq)]
@@ -41,30 +32,34 @@ pub struct Judged {
     pub end: ShotsEnd,
 }
 
-/// The report of the file of a name.
+/// The report of the named file.
 #[tactic(auto, using(crate::proofs::Reported::no_report))]
-fn read_report_file<F: Files>(alloc: Global, files: &mut F, name: &str) -> Result<Report, NoReport>
+fn read_report_file<F: Files>(
+    alloc: Global,
+    files: &mut F,
+    name: &str,
+) -> Result<Report, FileFault<ReportFault>>
     requires { HasRoom (F.asked files.old) 16 }
     ensures asks { AsksPrefix (F.asked files.old) (F.asked files.new) (name.now ∷ []) }
-    ensures asked { result ≢ Err NoReport.NoMemory → Asks (F.asked files.old) (F.asked files.new) (name.now ∷ []) }
+    ensures asked { result ≢ Err FileFault.NoMemory → Asks (F.asked files.old) (F.asked files.new) (name.now ∷ []) }
     ensures names { F.named files.new ≡ F.named files.old }
     ensures report { IfOk result (λ r. Holds (F.named files.old) name.now (IsReportText r)) }
     ensures values { IfOk result (λ r. All HasPositiveValues r.rows) }
     ensures count { IfOk result (λ r. length r.rows < 2 ^ 32) }
-    ensures refused { IfErr result (IfNoReport (λ fault. Holds (F.named files.old) name.now (IsNoReport fault))) }
-    ensures fault { IsErrOf result NoReport.ReadFault → Rose (F.faults files.old) (F.faults files.new) }
+    ensures refused { IfErr result (IfRefused (λ fault. Holds (F.named files.old) name.now (IsNoReport fault))) }
+    ensures fault { IsErrOf result FileFault.ReadFault → Rose (F.faults files.old) (F.faults files.new) }
     ensures never_falls { F.faults files.old ≤ F.faults files.new }
-    ensures unchanged { result ≢ Err NoReport.ReadFault → F.faults files.new ≡ F.faults files.old }
+    ensures unchanged { result ≢ Err FileFault.ReadFault → F.faults files.new ≡ F.faults files.old }
 {
     match read_named(alloc, files, name, MOST_REPORT_BYTES) {
         Ok(text) => match read_report(alloc, &text) {
             Ok(report) => Ok(report),
-            Err(ReportFault::NoMemory) => Err(NoReport::NoMemory),
-            Err(fault) => Err(NoReport::Refused(fault)),
+            Err(ReportFault::NoMemory) => Err(FileFault::NoMemory),
+            Err(fault) => Err(FileFault::Refused(fault)),
         },
-        Err(ReadError::TooLong) => Err(NoReport::Refused(ReportFault::TooLong)),
-        Err(ReadError::ReadFault) => Err(NoReport::ReadFault),
-        Err(ReadError::NoMemory) => Err(NoReport::NoMemory),
+        Err(ReadError::TooLong) => Err(FileFault::Refused(ReportFault::TooLong)),
+        Err(ReadError::ReadFault) => Err(FileFault::ReadFault),
+        Err(ReadError::NoMemory) => Err(FileFault::NoMemory),
     }
 }
 
@@ -77,22 +72,22 @@ pub fn check<F: Files, O: Sink>(
     out: &mut O,
 ) -> Cause
     requires { IsEmptyIfKnown (F.asked files.old) }
-    ensures ends { CheckEnds (seen_checking request.now)
+    ensures ends { CheckEnds (plain_checking request.now)
         (moment (F.named files.old) (F.left files.old) (F.asked files.old) (F.faults files.old) (O.taken out.old))
         (moment (F.named files.new) (F.left files.new) (F.asked files.new) (F.faults files.new) (O.taken out.new)) result }
     ensures at_end { IsReadToItsEnd result → IsReadOutIfNamed (F.named files.old) (F.left files.new) }
     ensures read_fault { result ≡ Cause.ReadFault → Rose (F.faults files.old) (F.faults files.new) }
-    ensures read_later { F.faults files.old ≤ F.faults files.new }
-    ensures read_risen { F.faults files.old < F.faults files.new → MayFollowReadFault result }
+    ensures read_never_falls { F.faults files.old ≤ F.faults files.new }
+    ensures read_reported { F.faults files.old < F.faults files.new → MayFollowReadFault result }
     ensures write_fault { result ≡ Cause.WriteFault → Rose (O.faults out.old) (O.faults out.new) }
     ensures write_never_falls { O.faults out.old ≤ O.faults out.new }
     ensures write_unchanged { result ≢ Cause.WriteFault → O.faults out.new ≡ O.faults out.old }
 {
     match read_graph_file(alloc, files, request.graph) {
         Ok(graph) => check_report(alloc, request, &graph, files, out),
-        Err(NoGraph::Refused(fault)) => Cause::Refused(Refusal::Graph(fault)),
-        Err(NoGraph::ReadFault) => Cause::ReadFault,
-        Err(NoGraph::NoMemory) => Cause::NoMemory,
+        Err(FileFault::Refused(fault)) => Cause::Refused(Refusal::Graph(fault)),
+        Err(FileFault::ReadFault) => Cause::ReadFault,
+        Err(FileFault::NoMemory) => Cause::NoMemory,
     }
 }
 
@@ -106,22 +101,22 @@ fn check_report<F: Files, O: Sink>(
     out: &mut O,
 ) -> Cause
     requires { HasRoom (F.asked files.old) 15 }
-    ensures ends { ReportEnds (seen_checking request.now) graph.now
+    ensures ends { ReportEnds (plain_checking request.now) graph.now
         (moment (F.named files.old) (F.left files.old) (F.asked files.old) (F.faults files.old) (O.taken out.old))
         (moment (F.named files.new) (F.left files.new) (F.asked files.new) (F.faults files.new) (O.taken out.new)) result }
     ensures at_end { IsReadToItsEnd result → IsReadOutIfNamed (F.named files.old) (F.left files.new) }
     ensures read_fault { result ≡ Cause.ReadFault → Rose (F.faults files.old) (F.faults files.new) }
-    ensures read_later { F.faults files.old ≤ F.faults files.new }
-    ensures read_risen { F.faults files.old < F.faults files.new → MayFollowReadFault result }
+    ensures read_never_falls { F.faults files.old ≤ F.faults files.new }
+    ensures read_reported { F.faults files.old < F.faults files.new → MayFollowReadFault result }
     ensures write_fault { result ≡ Cause.WriteFault → Rose (O.faults out.old) (O.faults out.new) }
     ensures write_never_falls { O.faults out.old ≤ O.faults out.new }
     ensures write_unchanged { result ≢ Cause.WriteFault → O.faults out.new ≡ O.faults out.old }
 {
     match read_report_file(alloc, files, request.report) {
         Ok(report) => check_rows(alloc, request, graph, report.rows.as_slice(), files, out),
-        Err(NoReport::Refused(fault)) => Cause::Refused(Refusal::Report(fault)),
-        Err(NoReport::ReadFault) => Cause::ReadFault,
-        Err(NoReport::NoMemory) => Cause::NoMemory,
+        Err(FileFault::Refused(fault)) => Cause::Refused(Refusal::Report(fault)),
+        Err(FileFault::ReadFault) => Cause::ReadFault,
+        Err(FileFault::NoMemory) => Cause::NoMemory,
     }
 }
 
@@ -137,13 +132,13 @@ fn check_rows<F: Files, O: Sink>(
     requires room { HasRoom (F.asked files.old) 16 }
     requires values { All HasPositiveValues rows.now }
     requires few { length rows.now < 2 ^ 32 }
-    ensures ends { ChecksOn (seen_checking request.now) graph.now rows.now
+    ensures ends { ChecksOn (plain_checking request.now) graph.now rows.now
         (moment (F.named files.old) (F.left files.old) (F.asked files.old) (F.faults files.old) (O.taken out.old))
         (moment (F.named files.new) (F.left files.new) (F.asked files.new) (F.faults files.new) (O.taken out.new)) result }
     ensures at_end { IsReadToItsEnd result → IsReadOutIfNamed (F.named files.old) (F.left files.new) }
     ensures read_fault { result ≡ Cause.ReadFault → Rose (F.faults files.old) (F.faults files.new) }
-    ensures read_later { F.faults files.old ≤ F.faults files.new }
-    ensures read_risen { F.faults files.old < F.faults files.new → MayFollowReadFault result }
+    ensures read_never_falls { F.faults files.old ≤ F.faults files.new }
+    ensures read_reported { F.faults files.old < F.faults files.new → MayFollowReadFault result }
     ensures write_fault { result ≡ Cause.WriteFault → Rose (O.faults out.old) (O.faults out.new) }
     ensures write_never_falls { O.faults out.old ≤ O.faults out.new }
     ensures write_unchanged { result ≢ Cause.WriteFault → O.faults out.new ≡ O.faults out.old }
@@ -164,7 +159,7 @@ fn check_rows<F: Files, O: Sink>(
     }
 }
 
-/// Ends the text of a check: by its last line where the shots were read to their end.
+/// Ends the text of a check: with its last line if the shots were read to their end.
 fn end_check<O: Sink>(end: ShotsEnd, rows: u64, shots: u64, bad: u64, out: &mut O) -> Cause
     ensures end { EndsCheck end rows shots bad (O.taken out.old) (O.taken out.new) result }
     ensures write_fault { result ≡ Cause.WriteFault → Rose (O.faults out.old) (O.faults out.new) }
@@ -211,7 +206,7 @@ fn judge_file<F: Files, O: Sink>(
     ensures write_never_falls { O.faults out.old ≤ O.faults out.new }
     ensures write_unchanged { result ≢ Err RowsFault.WriteFault → O.faults out.new ≡ O.faults out.old }
 {
-    let Ok(stream) = ShotStream::new(alloc, format, graph, u32::MAX) else {
+    let Ok(stream) = ShotStream::new(alloc, format, graph, MOST_SHOTS) else {
         return Err(RowsFault::NoMemory);
     };
     judge(alloc, graph, rows, files, stream, out)

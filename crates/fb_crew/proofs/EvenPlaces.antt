@@ -297,7 +297,7 @@ module _ (t : PlanTree) (tree : IsTree t) (workers more : ℕ) (odd : List (Opti
         (renumbering_completes at t.units t.joins (length places) more all history (renumbering enough) some_units forest
         (complete_on_slots all (kids_in t.units t.joins) n (length places * n) history all_slots complete)),
     All-map (λ e. e.slot < length places) (λ e. is_in places e.slot ≡ true) (renumbered_entry at) (λ e less. in_places places e.slot less) history
-        (renumbering_allows at t.units t.joins (length places) more history complete.statuses (renumbering enough) forest complete.stands).slots_are,
+        (renumbering_allows at t.units t.joins (length places) more history complete.statuses (renumbering enough) forest complete.replayed).slots_are,
     All-map (λ e. e.worker ≤ workers) (λ e. e.worker ≤ workers) (renumbered_entry at) (λ e le. le) history by,
   )
 
@@ -306,7 +306,7 @@ pub slots_within : (t : PlanTree) → IsTree t → (slots : ℕ) (history : List
     → IsComplete (kids_in t.units t.joins) (node_count t) (slots * node_count t) history → All (λ e. e.slot < slots) history
 slots_within t tree slots history complete =
     (renumbering_allows (λ s. s) t.units t.joins slots slots history complete.statuses (record { rising = λ s u less within. less; below = λ s within. within })
-    (forest_of_places t.units t.joins (small_tree t tree).0 (forest_of_tree t tree)) complete.stands).slots_are
+    (forest_of_places t.units t.joins (small_tree t tree).0 (forest_of_tree t tree)) complete.replayed).slots_are
 
 pub sorting_laws : SortingLaws
 sorting_laws g t workers shots odd even ps solved history tree sorted rows complete by = (

@@ -12,15 +12,16 @@ use Rattle.fb_half.specs.Parts.{IsPartOf, PartValue}
 use Rattle.fb_book.specs.Board.{kids_in}
 use Rattle.fb_book.specs.Machine.{IsComplete}
 use Rattle.fb_book.specs.declared.entries.Entry.{Entry}
+use Rattle.fb_crew.specs.declared.window.TheConstants.{MOST_AT_ONCE}
 use Rattle.fb_crew.specs.Crews.{IsCompleteOf}
 use Rattle.fb_crew.proofs.EvenPlaces.{as_many_places, slots_within, sorting_laws}
 use Rattle.fb_crew.specs.InternalWindows.{AreOddAt, AreRowsOf, IsSorted, even_of, rows_by, with_places}
 use Rattle.fb_book.proofs.Handing.{one_item}
 use Rattle.std.proofs.lemmas.Option.{slice_get-get_or}
 use Rattle.std.proofs.lemmas.List.Sums.{sum_by-cons}
-use Rattle.fb_crew.specs.InternalSolved.{item_at, item_of}
+use Rattle.fb_crew.specs.InternalSolved.{SolvedValue, item_at, item_of}
 use Rattle.fb_crew.proofs.Deferred.{item_is}
-use Rattle.fb_crew.specs.Windows.{AreRows, IsHistoryOf, IsShotRow, SolvedValue}
+use Rattle.fb_crew.specs.Windows.{AreRows, IsHistoryOf, IsShotRow}
 
 module _ (g : DecodingGraph) where
   pub even_shots : (odd : List (Option ℕ)) (shots : List ShotValue) → All (IsShot g) shots → All (IsShot g) (even_of odd shots)
@@ -156,7 +157,7 @@ module _ (g : DecodingGraph) (t : PlanTree) (plan : IsPlan g t) (shots : List Sh
   abbrev job : JobValue
   job = record { graph = g; plan = t; shots = even }
 
-  pub even_of_few : length shots ≤ 64 → length even < 2 ^ 32
+  pub even_of_few : length shots ≤ MOST_AT_ONCE → length even < 2 ^ 32
   even_of_few few = omega (arith, ap length sorted.even_are, even_few g odd shots, few)
 
   pub even_of_shots : All (IsShot g) shots → All (IsShot g) even

@@ -16,7 +16,7 @@ use Rattle.fb_book.proofs.History.{none_at, none_from}
 use Rattle.fb_book.proofs.Openings.{idle_at}
 use Rattle.fb_book.proofs.Statuses.{IsSetAt, here, there, IsTakenAt, taken, used, same, set_at, taken_at, within, held_is, may_take}
 use Rattle.fb_book.proofs.Waiting.{Added, added}
-use Rattle.fb_crew.specs.Crews.{IsQuiet}
+use Rattle.fb_crew.specs.InternalQuiet.{IsQuiet}
 
 pub one_more : (job : JobValue) (old new : List Entry) (kind : Kind) (w s n : ℕ)
     → Adds (course_of job old) (course_of job new) kind w s n → length new ≡ length old + 1

@@ -1,13 +1,23 @@
 -- What is kept of a solved item.
-use Rattle.std.specs.Prelude.{ℕ, ◌≡◌, ◌≢◌}
-use Rattle.fb_graph.specs.Limits.{no_shot}
+use Rattle.std.specs.Prelude.{ℕ, ◌≡◌, ◌≢◌, get_or}
+use Rattle.fb_graph.specs.Limits.{ShotValue, no_shot}
 use Rattle.fb_half.specs.Beginnings.{LiesWithin}
 use Rattle.fb_half.specs.Parts.{IsPartOf, PartValue}
 use Rattle.fb_plan.specs.Plans.{JobValue, problem_at, root_of}
 use Rattle.fb_crew.specs.declared.solver.Found.{Found}
 use Rattle.fb_crew.specs.declared.solver.Found.TheVariants.{Deferred, Part, Row}
-use Rattle.fb_crew.specs.Windows.{IsShotRow, SolvedValue, shot_at}
+use Rattle.fb_crew.specs.Windows.{IsShotRow}
 use Rattle.fb_plan.specs.declared.reach.Reach.{Reach}
+
+-- a solved item of a job, by its slot and node
+pub record SolvedValue : Type 0 where
+  pub job : JobValue
+  pub slot : ℕ
+  pub node : ℕ
+
+-- the item's shot
+abbrev pub shot_at : SolvedValue → ShotValue
+shot_at s = get_or s.job.shots s.slot no_shot
 
 -- the item of a shot and a node of the plan
 abbrev pub item_at : JobValue → ℕ → ℕ → SolvedValue

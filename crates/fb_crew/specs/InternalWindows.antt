@@ -10,14 +10,16 @@ use Rattle.fb_book.specs.Board.{kids_in}
 use Rattle.fb_book.specs.Machine.{IsComplete}
 use Rattle.fb_book.specs.Laws.{renumbered_entry}
 use Rattle.fb_book.specs.declared.entries.Entry.{Entry}
-use Rattle.fb_crew.specs.Windows.{AreRows, IsHistoryOf, IsShotRow, SolvedValue, shot_at}
+use Rattle.fb_crew.specs.declared.crew.TheConstants.{MOST_WORKERS}
+use Rattle.fb_crew.specs.InternalSolved.{SolvedValue, shot_at}
+use Rattle.fb_crew.specs.Windows.{AreRows, IsHistoryOf, IsShotRow}
 
 -- what a crew keeps
 pub record IsCrew (g : DecodingGraph) (t : PlanTree) (parts : DecodingGraph) (workers : ℕ) (tools : Option ℕ) : Type 0 where
   pub plan : IsPlan g t
   pub parts_are : parts ≡ g
   pub some : 1 ≤ workers
-  pub few : workers ≤ 64
+  pub few : workers ≤ MOST_WORKERS
   pub one_each : IfSome tools (λ count. count ≡ workers)
 
 -- the shots that have a correction, by the odd vertices of the others
@@ -27,7 +29,7 @@ even_of (v ∷ vs) [] = []
 even_of (None ∷ vs) (shot ∷ shots) = shot ∷ even_of vs shots
 even_of (Some v ∷ vs) (shot ∷ shots) = even_of vs shots
 
--- their places, where the first shot has this one
+-- their places, if the first shot has this one
 abbrev pub even_places : ℕ → List (Option ℕ) → List ℕ
 even_places k [] = []
 even_places k (None ∷ vs) = k ∷ even_places (k + 1) vs

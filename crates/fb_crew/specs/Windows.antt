@@ -1,15 +1,15 @@
 -- The rows of a window's shots, and the history of how they were made.
-use Rattle.std.specs.Prelude.{ℕ, ◌≡◌, ◌+◌, ◌*◌, ◌≤◌, Bool, true, false, if◌then◌else◌, List, [], ◌∷◌, length, get_or}
+use Rattle.std.specs.Prelude.{ℕ, ◌≡◌, ◌+◌, ◌*◌, ◌≤◌, Bool, true, false, if◌then◌else◌, List, [], ◌∷◌, length}
 use Rattle.std.specs.List.{All, AllZip}
 use Rattle.fb_graph.specs.Answers.{IsRight}
-use Rattle.fb_graph.specs.Limits.{DecodingGraph, ShotValue, no_shot, problem_of}
+use Rattle.fb_graph.specs.Limits.{DecodingGraph, ShotValue, problem_of}
 use Rattle.fb_graph.specs.Parity.{is_in}
 use Rattle.fb_graph.specs.declared.parts.Row.{Row}
 use Rattle.fb_graph.specs.declared.parts.Row.TheVariants.{Best, Odd}
 use Rattle.fb_book.specs.declared.entries.Entry.{Entry}
 use Rattle.fb_book.specs.Board.{kids_in}
 use Rattle.fb_book.specs.Machine.{IsCompleteOn}
-use Rattle.fb_plan.specs.Plans.{JobValue, PlanTree, node_count}
+use Rattle.fb_plan.specs.Plans.{PlanTree, node_count}
 
 -- the row of a shot
 abbrev pub IsShotRow : DecodingGraph → ShotValue → Row → Type 0
@@ -34,19 +34,3 @@ pub record IsHistoryOf (t : PlanTree) (workers : ℕ) (rows : List Row) (history
   pub complete : IsCompleteOn (best_places 0 rows) (kids_in t.units t.joins) (node_count t) (length rows * node_count t) history
   pub within : All (λ e. is_in (best_places 0 rows) e.slot ≡ true) history
   pub by : All (λ e. e.worker ≤ workers) history
-
--- what a crew is for: the shots of this graph, by this plan, with at most so many workers
-pub record CrewValue : Type 0 where
-  pub graph : DecodingGraph
-  pub plan : PlanTree
-  pub workers : ℕ
-
--- a solved item of a job, by its slot and node
-pub record SolvedValue : Type 0 where
-  pub job : JobValue
-  pub slot : ℕ
-  pub node : ℕ
-
--- the item's shot
-abbrev pub shot_at : SolvedValue → ShotValue
-shot_at s = get_or s.job.shots s.slot no_shot

@@ -20,6 +20,9 @@ use std::sync::{Wait, ledger};
 use std::thread;
 use std::thread::Threads;
 
+/// The most workers of a crew. The calls that start them are as deep as there are workers.
+pub const MOST_WORKERS: u32 = 64;
+
 /// A job that a crew has finished: the pieces of all slots' roots in the order of the slots, the history of the run, and
 /// the workers' tools in the order in which they were given.
 #[derive(Drop)]
@@ -29,7 +32,7 @@ pub struct Worked<P: Piece, T: Drop> {
     pub tools: Vec<T>,
 }
 
-/// Takes the last tools out, and gives each a seat with a part of the ledger.
+/// Takes the last `count` tools, and gives each a seat with a part of the ledger.
 fn take_seats<T: Drop, N: Board>(
     alloc: Global,
     tools: &mut Vec<T>,
@@ -56,7 +59,7 @@ fn take_seats<T: Drop, N: Board>(
     Ok(seats)
 }
 
-/// Gives the tools of the seats back, and the number of events that their workers have made: as many as the ledger has.
+/// Puts the tools of the seats back. Returns the number of events that their workers have made: as many as the ledger has.
 fn leave_seats<T: Drop, N: Board>(
     mut seats: Vec<Seat<T, N>>,
     tools: &mut Vec<T>,
@@ -81,8 +84,8 @@ fn leave_seats<T: Drop, N: Board>(
     made
 }
 
-/// What is left of a job once its workers have ended, done by the caller as one more worker. Where items still stay open,
-/// the caller does the whole job anew.
+/// Does what is left of a job once its workers have ended, as one more worker. If items stay open all the same, does the
+/// whole job anew.
 fn complete<P: Piece, T, H: Hands<P, T>, G: Gate, N: Board>(
     bench: &Bench<'_, H, G>,
     job: &Job<'_>,
@@ -119,7 +122,8 @@ struct Joined<P: Piece, T: Drop, N: Board> {
 /// Lets each seat's worker do items until it ends, and gives all seats back. The first seat's worker is on
 /// the calling thread, and each other one on a thread of its own. The calling thread starts them all: a system tends to
 /// put a new thread on the processor of the one that starts it, which a worker keeps busy. A worker for which no thread
-/// can be made begins once the calling thread's own has ended. The calls are as deep as there are seats, at most 64.
+/// can be made begins once the calling thread's own has ended. The calls are as deep as there are seats, at most
+/// `MOST_WORKERS`.
 fn work_each<
     P: Piece + Send,
     T: Send + Drop,
@@ -151,7 +155,7 @@ fn work_each<
     seats
 }
 
-/// Lets so many workers do the items of the book.
+/// Lets a worker for each of the tools do the items of the book, but no more workers than there are items.
 fn join_workers<
     P: Piece + Send,
     T: Send + Drop,
@@ -172,7 +176,7 @@ fn join_workers<
     requires parts { blank.parts ≡ N.parts }
     requires one_each { blank.parts ≡ N.workers + 1 }
     requires tools { length tools.items ≡ N.workers }
-    requires some { (1 ≤ N.workers) × (N.workers ≤ 64) }
+    requires some { (1 ≤ N.workers) × (N.workers ≤ MOST_WORKERS) }
     ensures { IfOk result (λ j. length j.tools.items ≡ N.workers) }
 {
     let (events, mut all) = blank.open::<N>();
@@ -204,7 +208,7 @@ fn run_all<
     requires hands { H.job bench.now.hands.now ≡ N.job }
     requires job { N.job ≡ job.now }
     requires workers { N.workers ≡ length tools.items }
-    requires some { (1 ≤ N.workers) × (N.workers ≤ 64) }
+    requires some { (1 ≤ N.workers) × (N.workers ≤ MOST_WORKERS) }
     requires name { blank.name ≡ N.name }
     requires parts { blank.parts ≡ N.parts }
     requires one_each { blank.parts ≡ N.workers + 1 }
@@ -232,7 +236,7 @@ fn run_all<
 }
 
 /// Does all items of the job by this number of workers, each on a thread of its own but one, which is on the calling
-/// thread. A job of fewer items has fewer workers, and a single worker takes no lock.
+/// thread. A job of fewer items has fewer workers. If the number is 1, no lock is taken.
 pub fn work_all<P: Piece + Send, T: Send + Drop, H: Hands<P, T>, G: Gate, R: Threads + Wait + Sync>(
     rt: &R,
     alloc: Global,
@@ -243,7 +247,7 @@ pub fn work_all<P: Piece + Send, T: Send + Drop, H: Hands<P, T>, G: Gate, R: Thr
     mut tools: Vec<T>,
 ) -> Result<Worked<P, T>, NoMemory>
     requires hands { H.job hands.now ≡ job.now }
-    requires workers { (1 ≤ workers) × (workers ≤ 64) × (length tools.items ≡ workers) }
+    requires workers { (1 ≤ workers) × (workers ≤ MOST_WORKERS) × (length tools.items ≡ workers) }
     ensures roots { IfOk result (λ w. AreRootPieces P.job_of P.slot_of P.node_of P.made_of job.now w.roots.items) }
     ensures history { IfOk result (λ w. IsCompleteOf job.now w.history.items) }
     ensures workers { IfOk result (λ w. All (λ e. e.worker ≤ workers) w.history.items) }

@@ -32,7 +32,7 @@ impl<P: Piece, N: Board> Desk<P, N> {
         self.locked.into_inner()
     }
 
-    /// The next item for the seat's worker. Waits where none can be taken as yet.
+    /// The next item for the seat's worker. Waits while none can be taken yet.
     fn claim<T: Drop, R: Wait>(&self, rt: &R, seat: &mut Seat<T, N>) -> Claim<P, N>
         ensures units { (permit : _) → result ≡ Claim.Unit permit → permit.node < N.job.plan.units }
         ensures pieces { (permit : _) (a b : P) → result ≡ Claim.Fusion permit a b
@@ -50,7 +50,7 @@ impl<P: Piece, N: Board> Desk<P, N> {
         unreachable!()
     }
 
-    /// Posts the piece of the permit's item, and says whether the permit's worker held it.
+    /// Posts the piece of the permit's item. Returns whether the permit's worker held it.
     fn post<T: Drop, R: Wait>(
         &self,
         rt: &R,
@@ -72,8 +72,8 @@ impl<P: Piece, N: Board> Desk<P, N> {
         self.changed.notify_all();
     }
 
-    /// Does the next item for the seat's worker, and says whether the worker goes on. It ends where no item comes, where
-    /// its post is refused, and where memory runs out.
+    /// Does the next item for the seat's worker. Returns whether the worker goes on: it ends if no item comes, if its post is
+    /// refused, or if memory runs out.
     fn turn<T: Drop, H: Hands<P, T>, G: Gate, R: Wait>(
         &self,
         rt: &R,
@@ -102,7 +102,7 @@ impl<P: Piece, N: Board> Desk<P, N> {
         }
     }
 
-    /// Does items until the worker ends, and gives its seat back.
+    /// Does items until the worker ends, and returns its seat.
     pub fn work<T: Drop, H: Hands<P, T>, G: Gate, R: Wait>(
         &self,
         rt: &R,

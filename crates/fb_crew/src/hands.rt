@@ -8,7 +8,7 @@ use fb_book::{Board, Permit, Piece};
 use fb_graph::NoMemory;
 use std::alloc::Global;
 
-/// Stands between a worker's solving of an item and its post. It returns.
+/// What a worker passes between solving an item and posting it. It returns.
 pub trait Gate: Sync {
     /// Is called once the worker has solved the item, before it posts it.
     fn before_post(&self, worker: u32, slot: u32, node: u32);

@@ -4,7 +4,8 @@ ghost use Rattle.std.specs.Prelude.{◌≡◌, ◌+◌, ◌≤◌, true, length,
 ghost use Rattle.fb_book.specs.declared.entries.Kind.TheVariants.{Gave};
 ghost use Rattle.fb_book.specs.Board.{Lets, is_finished};
 ghost use Rattle.fb_book.specs.Books.{AreRootPieces, IsPieceAt, course_of, holds, place_of};
-ghost use Rattle.fb_crew.specs.Crews.{IsCompleteOf, IsQuiet};
+ghost use Rattle.fb_crew.specs.Crews.{IsCompleteOf};
+ghost use Rattle.fb_crew.specs.InternalQuiet.{IsQuiet};
 
 use crate::hands::{Bench, Gate, Hands, OpenGate};
 use fb_book::{Board, Book, Claim, Entry, Permit, Piece, complete_history};

@@ -9,13 +9,12 @@ pub mod hands;
 pub mod here;
 mod locked;
 mod seat;
-pub mod solver;
-pub mod sorting;
+mod solver;
+mod sorting;
 pub mod window;
 
-pub use crew::{Worked, work_all};
+pub use crew::{MOST_WORKERS, Worked, work_all};
 pub use fb_book::{Entry, Kind};
 pub use hands::{Gate, Hands, OpenGate};
 pub use here::{Finished, work_here};
-pub use solver::{Solved, Solver, Tools};
-pub use window::{Crew, Window};
+pub use window::{Crew, MOST_AT_ONCE, Window};

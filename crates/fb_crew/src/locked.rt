@@ -48,8 +48,8 @@ impl<P: Piece, N: Board> Locked<P, N> {
         }
     }
 
-    /// Posts the piece of the permit's item, and says whether the permit's worker held it. If so, the post is an event of
-    /// the seat.
+    /// Posts the piece of the permit's item. Returns whether the permit's worker held it: then the post is an event of the
+    /// seat.
     pub fn post<T: Drop>(&mut self, seat: &mut Seat<T, N>, permit: Permit<N>, piece: P) -> bool
         requires { IsPieceAt P.job_of P.slot_of P.node_of P.made_of N.job
             (place_of N.job permit.slot permit.node) piece }

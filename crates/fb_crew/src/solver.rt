@@ -3,8 +3,8 @@
 ghost use Rattle.std.specs.Prelude.{◌≡◌, ◌≢◌, ◌<◌, Some, None, length, IfOk, IfSome};
 ghost use Rattle.fb_half.specs.Parts.{IsPartOf};
 ghost use Rattle.fb_plan.specs.Plans.{children_of, node_count, root_of};
-ghost use Rattle.fb_crew.specs.InternalSolved.{Covers, IsFoundAt, item_at, item_of};
-ghost use Rattle.fb_crew.specs.Windows.{IsShotRow, shot_at};
+ghost use Rattle.fb_crew.specs.InternalSolved.{Covers, IsFoundAt, item_at, item_of, shot_at};
+ghost use Rattle.fb_crew.specs.Windows.{IsShotRow};
 
 use crate::hands::Hands;
 use fb_book::Piece;
@@ -28,7 +28,7 @@ pub struct Solved<'a> {
     found: Found<'a>,
 }
 
-/// What is kept of a solved item. Nothing is fused with the plan's root, so of its part only the room is kept, in the
+/// What is kept of a solved item. Nothing is fused with the plan's root, so only the room of its part is kept, in the
 /// worker's tools. Parts and rows are in boxes, since a book has room for a piece at each item.
 #[derive(Drop)]
 enum Found<'a> {
@@ -42,8 +42,7 @@ enum Found<'a> {
 }
 
 impl<'a> Model for Solved<'a> {
-    ghost use Rattle.fb_crew.specs.Windows.{SolvedValue};
-    ghost use Rattle.fb_crew.specs.InternalSolved.{IsFoundAt};
+    ghost use Rattle.fb_crew.specs.InternalSolved.{IsFoundAt, SolvedValue};
 
     ghost Value = { SolvedValue };
 
@@ -120,19 +119,9 @@ impl<'a> Found<'a> {
         if half.node() == half.job().plan().root() {
             let row = resolve(alloc, &half)?;
             tools.keep_root(half);
-            return Ok(Found::Row(boxed(alloc, row)?));
+            return Ok(Found::Row(Box::new(alloc, row)?));
         }
-        Ok(Found::Part(boxed(alloc, half)?))
-    }
-}
-
-/// A value in a box.
-fn boxed<T: Drop>(alloc: Global, value: T) -> Result<Box<T, Global>, NoMemory>
-    ensures { IfOk result (λ b. b.value ≡ value) }
-{
-    match Box::new(alloc, value) {
-        Ok(boxed) => Ok(boxed),
-        Err(_) => Err(NoMemory),
+        Ok(Found::Part(Box::new(alloc, half)?))
     }
 }
 
@@ -156,18 +145,19 @@ impl<'a> Piece for Solved<'a> {
     }
 }
 
-/// The room of how many parts a worker keeps: more than one worker has at once with a balanced plan of as many units as a plan may
+/// The most parts whose room a worker keeps: more than it has at once with a balanced plan of the most units that a plan may
 /// have.
 const MOST_SPARES: usize = 16;
 
-/// The room of a root with more defects isn't kept: emptying it for a small shot would cost as much as it once held.
-const MOST_DEFECTS: u32 = 1_024;
+/// The most defects of a root whose room is kept. To empty a larger one would cost as much as it once held, for a small shot
+/// too.
+const MOST_KEPT_DEFECTS: u32 = 1_024;
 
 /// What a worker keeps from one part to the next, so that less memory is taken anew: the scratch space of its
 /// searches, and the room of roots that it has solved and of right parts that it has fused.
 #[derive(Drop)]
 pub struct Tools {
-    /// None at first, and where memory ran out while it was lent.
+    /// None at first, and if memory ran out while it was lent.
     scratch: Option<Scratch>,
     /// The number of edges that it is for.
     edges: u32,
@@ -204,7 +194,7 @@ impl Tools {
         }
     }
 
-    /// Keeps the room of a solved root, unless it is very large.
+    /// Keeps the room of a solved root, unless its shot has many defects.
     fn keep_root(&mut self, half: Half<'_>)
         ensures { self.new ≡ self.old }
     {
@@ -287,9 +277,8 @@ impl<'a> Hands<Solved<'a>, Tools> for Solver<'a> {
     }
 }
 
-/// A node below the root with at most so many defects is deferred. To solve one of them costs about half of what a fusion
-/// costs without any search.
-const FEW_DEFECTS: usize = 8;
+/// The most defects of a node that is deferred. Before any search a fusion costs about as much as two defects.
+const MOST_DEFERRED_DEFECTS: usize = 8;
 
 /// The item of a node that is solved whole, and not from its children's parts. It is deferred if it isn't the root and few
 /// defects lie within the reach.
@@ -308,7 +297,7 @@ fn solved_within<'a>(
 {
     job.keeps();
     let shot = job.shots()[slot as usize].as_slice();
-    if node != job.plan().root() && within(shot, reach).len() <= FEW_DEFECTS {
+    if node != job.plan().root() && within(shot, reach).len() <= MOST_DEFERRED_DEFECTS {
         return Ok(Solved {
             job,
             slot,
@@ -373,10 +362,10 @@ fn fusion_by<'a, L: Ledger>(
     Ok(half)
 }
 
-/// Whether the shot of a part has at most `MOST_DEFECTS` defects.
+/// Whether the shot of a part has at most `MOST_KEPT_DEFECTS` defects.
 fn has_few_defects(half: &Half<'_>) -> bool {
     match half.job().shots().get(half.slot() as usize) {
-        Some(shot) => shot.len() <= MOST_DEFECTS,
+        Some(shot) => shot.len() <= MOST_KEPT_DEFECTS,
         None => false,
     }
 }

@@ -5,6 +5,7 @@ ghost use Rattle.fb_graph.specs.Components.{IsFirstOdd};
 ghost use Rattle.fb_graph.specs.Limits.{DecodingGraph, IsShot, ShotValue, problem_of};
 ghost use Rattle.fb_crew.specs.InternalWindows.{IsSorted, SortingLaws, rows_by, with_places};
 
+use crate::window::MOST_AT_ONCE;
 use fb_book::Entry;
 use fb_graph::{Components, NoMemory, Row, Shot, Whole, first_odd};
 use std::alloc::Global;
@@ -46,14 +47,14 @@ impl Sorted {
     }
 }
 
-/// Tells which of the shots have a correction.
+/// Sorts the shots by whether they have a correction.
 pub fn sort_out(
     alloc: Global,
     parts: &mut Components<Whole<'_>>,
     shots: &[Shot],
 ) -> Result<Sorted, NoMemory>
     requires shots { All (IsShot parts.old.0.now) shots.now }
-    requires few { length shots.now ≤ 64 }
+    requires few { length shots.now ≤ MOST_AT_ONCE }
     ensures sorted { IfOk result (λ s. IsSorted parts.old.0.now shots.now s.odd.items s.even.items s.places.items) }
     ensures same { parts.new ≡ parts.old }
 {

@@ -6,7 +6,7 @@ ghost use Rattle.fb_plan.specs.Plans.{IsPlan, root_of};
 ghost use Rattle.fb_crew.specs.InternalWindows.{AreRowsOf};
 ghost use Rattle.fb_crew.specs.Windows.{AreRows, IsHistoryOf};
 
-use crate::crew::{Worked, work_all};
+use crate::crew::{MOST_WORKERS, Worked, work_all};
 use crate::hands::Gate;
 use crate::solver::{Solved, Solver, Tools};
 use crate::sorting::{Sorted, join_rows, renumber, sort_out};
@@ -18,6 +18,9 @@ use std::marker::Model;
 use std::sync::Wait;
 use std::thread::Threads;
 
+/// The most shots of a window.
+pub const MOST_AT_ONCE: usize = 64;
+
 /// The rows of some shots, and which worker took and gave which part of them: an entry's slot is the place of its shot.
 #[derive(Drop)]
 pub struct Window {
@@ -25,20 +28,20 @@ pub struct Window {
     pub history: Vec<Entry>,
 }
 
-/// What solves the shots of a graph by a plan, with so many workers. It is made once: the graph's components are found, and
-/// each worker's tools serve one window after another.
+/// What solves the shots of a graph by a plan, with a number of workers. It is made once: it finds the graph's components
+/// then, and keeps each worker's tools from one window to the next.
 #[derive(Drop)]
 pub struct Crew<'a> {
     graph: &'a Graph,
     plan: &'a Plan,
     parts: Components<Whole<'a>>,
     workers: u32,
-    /// One for each worker. None where memory ran out while they were lent.
+    /// One for each worker. None at first, and if memory ran out while they were lent.
     tools: Option<Vec<Tools>>,
 }
 
 impl<'a> Model for Crew<'a> {
-    ghost use Rattle.fb_crew.specs.Windows.{CrewValue};
+    ghost use Rattle.fb_crew.specs.Crews.{CrewValue};
     ghost use Rattle.std.specs.Prelude.{length, option_map};
     ghost use Rattle.fb_crew.specs.InternalWindows.{IsCrew};
 
@@ -50,7 +53,7 @@ impl<'a> Model for Crew<'a> {
 }
 
 impl<'a> Crew<'a> {
-    /// What solves the shots of the graph by the plan, with so many workers.
+    /// What solves the shots of the graph by the plan, with this number of workers.
     pub fn new(
         alloc: Global,
         graph: &'a Graph,
@@ -59,7 +62,7 @@ impl<'a> Crew<'a> {
     ) -> Result<Crew<'a>, NoMemory>
         requires plan { IsPlan graph.now plan.now }
         requires some { 1 ≤ workers }
-        requires few { workers ≤ 64 }
+        requires few { workers ≤ MOST_WORKERS }
         ensures { IfOk result (λ c. c ≡ record { graph = graph.now; plan = plan.now; workers = workers }) }
     {
         let parts = components(alloc, graph)?;
@@ -81,7 +84,7 @@ impl<'a> Crew<'a> {
         gate: &G,
     ) -> Result<Window, NoMemory>
         requires shots { All (IsShot self.old.graph) shots.now }
-        requires few { length shots.now ≤ 64 }
+        requires few { length shots.now ≤ MOST_AT_ONCE }
         ensures rows { IfOk result (λ w. AreRows self.old.graph shots.now w.rows.items) }
         ensures history { IfOk result (λ w. IsHistoryOf self.old.plan self.old.workers w.rows.items w.history.items) }
         ensures same { self.new ≡ self.old }
@@ -106,7 +109,7 @@ impl<'a> Crew<'a> {
     }
 }
 
-/// The rows of shots and how they were made by so many workers, and the workers' tools.
+/// The rows of shots and how they were made by this number of workers, and the workers' tools.
 fn solve_window<G: Gate, R: Threads + Wait + Sync>(
     rt: &R,
     alloc: Global,
@@ -120,9 +123,9 @@ fn solve_window<G: Gate, R: Threads + Wait + Sync>(
 ) -> Result<(Window, Vec<Tools>), NoMemory>
     requires plan { IsPlan graph.now plan.now }
     requires parts { parts.old.0.now ≡ graph.now }
-    requires workers { (1 ≤ workers) × (workers ≤ 64) × (length tools.items ≡ workers) }
+    requires workers { (1 ≤ workers) × (workers ≤ MOST_WORKERS) × (length tools.items ≡ workers) }
     requires shots { All (IsShot graph.now) shots.now }
-    requires few { length shots.now ≤ 64 }
+    requires few { length shots.now ≤ MOST_AT_ONCE }
     ensures rows { IfOk result (λ r. AreRows graph.now shots.now r.0.rows.items) }
     ensures history { IfOk result (λ r. IsHistoryOf plan.now workers r.0.rows.items r.0.history.items) }
     ensures tools { IfOk result (λ r. length r.1.items ≡ workers) }

@@ -1,4 +1,4 @@
--- How a run ends: its status and what it says on standard error.
+-- Why a run ends: the status of its process, and its line on standard error.
 use Rattle.std.specs.Prelude.{ℕ, List, [], ◌∷◌, ◌++◌, codes, decimal, Option, Some, None}
 use Rattle.fb_report.specs.Texts.{line}
 use Rattle.fb_gen.specs.FaultTexts as sample
@@ -22,7 +22,7 @@ status_of WriteFault = 4
 status_of NoMemory = 5
 status_of (Usage kind) = 6
 
--- what is refused, and where it stands
+-- the name of the rule that is broken, and its place: a word, a number, both or neither
 abbrev pub refusal_name : Refusal → List ℕ
 refusal_name (refusal.Graph fault) = graph.fault_name fault
 refusal_name (refusal.Plan fault) = plan.fault_name fault
@@ -44,7 +44,7 @@ refusal_number (refusal.Report fault) = report.fault_number fault
 refusal_number (refusal.Shot fault) = Some fault.shot
 refusal_number (refusal.Sample fault) = None
 
--- a word, where there is one
+-- a word, if there is one
 abbrev pub if_any : Option (List ℕ) → List (List ℕ)
 if_any None = []
 if_any (Some word) = word ∷ []
@@ -58,8 +58,8 @@ abbrev pub refusal_line : Refusal → List ℕ
 refusal_line r = line (codes "fusion:")
     (codes "refused" ∷ refusal_name r ∷ if_any (refusal_place r) ++ number_if_any (refusal_number r))
 
--- The line of a cause that isn't a refusal. What is said of words that have no reading is the command line reader's
--- own text, and isn't stated here.
+-- The line of a cause that isn't a refusal. A command line that clap refuses has a text of clap's own, which isn't stated
+-- here.
 abbrev pub fixed_line : Cause → List ℕ
 fixed_line Done = []
 fixed_line Odd = []

@@ -1,4 +1,4 @@
-//! How a run ends.
+//! Why a run ends, and the status of its process.
 
 ghost use Rattle.std.specs.Prelude.{◌≡◌};
 ghost use Rattle.fb_endings.specs.Causes.{status_of};
@@ -10,18 +10,18 @@ use fb_shots::ShotFault;
 use fb_verify::ReportFault;
 use fb_words::UsageKind;
 
-/// Why the input isn't accepted.
+/// Why an input isn't accepted.
 #[derive(Clone, Copy, Debug, PartialEq, Eq)]
 pub enum Refusal {
-    /// The graph's text is no decoding graph. It is never the want of memory.
+    /// The graph's text is no decoding graph. The fault is never `NoMemory`.
     Graph(TextFault),
-    /// The plan's text is no plan of the graph. It is never the want of memory.
+    /// The plan's text is no plan of the graph. The fault is never `NoMemory`.
     Plan(PlanFault),
-    /// The report's text is none. It is never the want of memory.
+    /// The report's text is no report. The fault is never `NoMemory`.
     Report(ReportFault),
-    /// A shot, or what stands in its place.
+    /// A record of the shots is none, or the shots are too many or too long.
     Shot(ShotFault),
-    /// There is no such lattice to sample, or no such plan of it. It is never the want of memory.
+    /// There is no such lattice to sample, or no such plan of it. The fault is never `NoMemory`.
     Sample(GenFault),
 }
 
@@ -33,17 +33,17 @@ pub enum Cause {
     Done,
     /// The input was read to its end, and some shot has no correction.
     Odd,
-    /// The input was read to its end, and so many rows are bad, or there are more or fewer than shots.
+    /// The input was read to its end, and this many rows are bad, or there are more or fewer rows than shots.
     Bad(u64),
-    /// The input isn't accepted.
+    /// An input isn't accepted.
     Refused(Refusal),
-    /// A file could not be opened or read.
+    /// A file can't be opened or read.
     ReadFault,
-    /// The output could not be written.
+    /// Standard output can't be written.
     WriteFault,
     /// Memory ran out.
     NoMemory,
-    /// The words are faulty.
+    /// The command line is invalid.
     Usage(UsageKind),
 }
 

@@ -1,4 +1,4 @@
-//! How a run ends, and what is said of it on standard error.
+//! Why a run ends: the status of its process, and its line on standard error.
 
 #![tactic(auto)]
 

@@ -1,4 +1,4 @@
-//! What is said on standard error.
+//! The line of a cause on standard error.
 
 ghost use Rattle.std.specs.Prelude.{◌≡◌, ◌≢◌, ◌<◌, ◌^◌, ◌-◌, ◌∷◌, [], OnOk, OnErr, option_map};
 ghost use Rattle.fb_ports.specs.Causes.{AppendsPrefix, HasCause};
@@ -10,7 +10,8 @@ use fb_ports::{Failed, Sink, put_all, put_parts};
 use fb_words::UsageKind;
 use itoa::Buffer;
 
-/// Says on a sink why a run ended, where that isn't faulty words. A fault of that sink changes nothing.
+/// Puts the line of a cause into a sink: why a run ended. `Done`, `Odd` and `Bad` have none, and neither has a command
+/// line that `clap` refuses, whose text is `clap`'s own. A fault of the sink is ignored: it may have taken a prefix.
 pub fn say<E: Sink>(cause: Cause, err: &mut E)
     ensures prefix { AppendsPrefix (E.taken err.old) (E.taken err.new) (line_of cause) }
     ensures whole { E.faults err.old < 2 ^ 64 - 1 → E.faults err.new ≡ E.faults err.old
@@ -19,6 +20,7 @@ pub fn say<E: Sink>(cause: Cause, err: &mut E)
     let _ = put_line(cause, err);
 }
 
+/// Puts the line of a cause.
 fn put_line<E: Sink>(cause: Cause, err: &mut E) -> Result<(), Failed>
     ensures all { OnOk result (Appends (E.taken err.old) (E.taken err.new) (line_of cause)) }
     ensures prefix { OnErr result (AppendsPrefix (E.taken err.old) (E.taken err.new) (line_of cause)) }
@@ -83,7 +85,7 @@ fn put_refusal<E: Sink>(refusal: Refusal, err: &mut E) -> Result<(), Failed>
 }
 
 impl Refusal {
-    /// What is refused.
+    /// The name of the rule that is broken.
     fn name(self) -> &'static str
         ensures { result.now ≡ refusal_name self }
     {

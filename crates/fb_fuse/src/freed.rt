@@ -3,8 +3,8 @@ ghost use Rattle.fb_half.specs.Merged.{freed_in};
 
 use fb_half::{Half, leads_to_seam};
 
-/// How many nodes of a solved part are matched to a vertex that the node of the plan owns: so many become unmatched where
-/// the part is fused at that node. Takes no memory.
+/// How many nodes of a solved part are matched to a vertex that the node of the plan owns. They become unmatched when the
+/// part is fused at that node. Takes no memory.
 pub fn freed_count(half: &Half, node: u32) -> u32
     ensures { result ≡ length (freed_in half.now node) }
 {

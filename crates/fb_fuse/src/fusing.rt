@@ -39,8 +39,8 @@ pub fn fuse<'a, L: Ledger>(
     Ok(half)
 }
 
-/// The same with scratch space that is lent and given back, so that one serves many parts of a graph. It comes beside the
-/// room that is left of the right part, for another part.
+/// The same as `fuse`, with scratch space that is lent and returned, so that one serves many parts of a graph. The room that
+/// is left of the right part is returned too, for another part.
 pub fn fuse_from<'a, L: Ledger>(
     alloc: Global,
     job: &'a Job<'a>,

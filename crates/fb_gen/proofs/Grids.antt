@@ -12,7 +12,7 @@ use Rattle.fb_graph.proofs.BuildSteps.{range_push}
 use Rattle.fb_graph.proofs.Nodes.{All-flat_map}
 use Rattle.fb_graph.proofs.Ranges.{not_in_below}
 use Rattle.fb_graph.proofs.Sets.{All-from_is_in, is_in-All, range_below}
-use Rattle.fb_gen.specs.Lattice.{vertex_at, vertex_count, weight_within, weight_later, where_true, is_inner, edges_from, edges_of_row, edges_of_round, lattice_edges, virtuals_of_row, virtuals_of_round, lattice_virtuals, lattice_graph}
+use Rattle.fb_gen.specs.Lattice.{vertex_at, vertex_count, weight_within, weight_later, entry_if, is_inner, edges_from, edges_of_row, edges_of_round, lattice_edges, virtuals_of_row, virtuals_of_round, lattice_virtuals, lattice_graph}
 
 pub flat_map-range_more : {A : Type 0} (f : ℕ → List A) (n : ℕ)
     → flat_map f (range_with_len 0 (n + 1)) ≡ flat_map f (range_with_len 0 n) ++ f n
@@ -99,13 +99,13 @@ faultless_within n u w below under apart i = rw (lt-leb n u below, lt-leb n w un
 pub faultless_later : (n u w : ℕ) → u < n → w < n → u ≢ w → IsFaultless n (u, w, weight_later)
 faultless_later n u w below under apart i = rw (lt-leb n u below, lt-leb n w under, ne_eqb u w apart) refl
 
-pub All-where_true : {A : Type 0} (P : A → Type 0) (b : Bool) (entry : A) → (b ≡ true → P entry) → All P (where_true b entry)
-All-where_true P true entry h = All-cons P entry [] (h refl) (All-nil P)
-All-where_true P false entry h = All-nil P
+pub All-entry_if : {A : Type 0} (P : A → Type 0) (b : Bool) (entry : A) → (b ≡ true → P entry) → All P (entry_if b entry)
+All-entry_if P true entry h = All-cons P entry [] (h refl) (All-nil P)
+All-entry_if P false entry h = All-nil P
 
-pub length-where_true : {A : Type 0} (b : Bool) (entry : A) → length (where_true b entry) ≤ 1
-length-where_true true entry = omega arith
-length-where_true false entry = omega arith
+pub length-entry_if : {A : Type 0} (b : Bool) (entry : A) → length (entry_if b entry) ≤ 1
+length-entry_if true entry = omega arith
+length-entry_if false entry = omega arith
 
 pub vertex_below : (d t k r c : ℕ) → k < t → r < d → c < d + 1 → vertex_at d k r c < vertex_count d t
 vertex_below d t k r c later lower right =
@@ -126,16 +126,16 @@ later_edge d k r c = (vertex_at d k r c, vertex_at d (k + 1) r c, weight_later)
 pub faultless_edges : (d t k r c : ℕ) → k < t → r < d → c < d + 1
     → All (IsFaultless (vertex_count d t)) (edges_from d t k r c)
 faultless_edges d t k r c kt rd cd =
-    All-append (IsFaultless n) (where_true is_right (right_edge d k r c) ++ where_true is_down (down_edge d k r c))
-    (where_true is_later (later_edge d k r c))
-    (All-append (IsFaultless n) (where_true is_right (right_edge d k r c)) (where_true is_down (down_edge d k r c))
-    (All-where_true (IsFaultless n) is_right (right_edge d k r c)
+    All-append (IsFaultless n) (entry_if is_right (right_edge d k r c) ++ entry_if is_down (down_edge d k r c))
+    (entry_if is_later (later_edge d k r c))
+    (All-append (IsFaultless n) (entry_if is_right (right_edge d k r c)) (entry_if is_down (down_edge d k r c))
+    (All-entry_if (IsFaultless n) is_right (right_edge d k r c)
     (λ b. let cc : c < d = ltb-true c d b in
     faultless_within n _ _ here (vertex_below d t k r (c + 1) kt rd (omega arith)) (omega arith)))
-    (All-where_true (IsFaultless n) is_down (down_edge d k r c)
+    (All-entry_if (IsFaultless n) is_down (down_edge d k r c)
     (λ b. let more : r + 1 < d = ltb-true (r + 1) d (and_parts (is_inner d c) _ b).1 in
     faultless_within n _ _ here (vertex_below d t k (r + 1) c kt more cd) (omega arith))))
-    (All-where_true (IsFaultless n) is_later (later_edge d k r c)
+    (All-entry_if (IsFaultless n) is_later (later_edge d k r c)
     (λ b. let more : k + 1 < t = ltb-true (k + 1) t (and_parts (is_inner d c) _ b).1 in
     faultless_later n _ _ here (vertex_below d t (k + 1) r c more rd cd) (omega (arith, further))))
   where
@@ -170,19 +170,19 @@ length-edges_from d t k r c =
       arith,
       length-append (right ++ down) later,
       length-append right down,
-      length-where_true (nat_lt c d) (right_edge d k r c),
-      length-where_true (is_inner d c && nat_lt (r + 1) d) (down_edge d k r c),
-      length-where_true (is_inner d c && nat_lt (k + 1) t) (later_edge d k r c),
+      length-entry_if (nat_lt c d) (right_edge d k r c),
+      length-entry_if (is_inner d c && nat_lt (r + 1) d) (down_edge d k r c),
+      length-entry_if (is_inner d c && nat_lt (k + 1) t) (later_edge d k r c),
     )
   where
     right : List (ℕ × ℕ × ℤ)
-    right = where_true (nat_lt c d) (right_edge d k r c)
+    right = entry_if (nat_lt c d) (right_edge d k r c)
 
     down : List (ℕ × ℕ × ℤ)
-    down = where_true (is_inner d c && nat_lt (r + 1) d) (down_edge d k r c)
+    down = entry_if (is_inner d c && nat_lt (r + 1) d) (down_edge d k r c)
 
     later : List (ℕ × ℕ × ℤ)
-    later = where_true (is_inner d c && nat_lt (k + 1) t) (later_edge d k r c)
+    later = entry_if (is_inner d c && nat_lt (k + 1) t) (later_edge d k r c)
 
 round_climbs : (d k : ℕ) → Climbs (k * d * (d + 1)) ((k + 1) * d * (d + 1)) (virtuals_of_round d k)
 round_climbs d k =

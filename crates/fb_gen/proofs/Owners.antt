@@ -17,12 +17,13 @@ use Rattle.fb_plan.specs.Plans.{is_within, are_unrelated, goes_across, owner_of}
 use Rattle.fb_plan.specs.Rules.{claims_from, holds, owner_in}
 use Rattle.fb_plan.specs.declared.parts.Claim.{Claim}
 use Rattle.fb_plan.proofs.Trees.{within_self}
-use Rattle.fb_gen.specs.Lattice.{vertex_at, vertex_count, where_true, is_inner, edges_from, edges_of_row, edges_of_round, lattice_edges, lattice_graph, weight_within, weight_later}
-use Rattle.fb_gen.specs.TimePlan.{IsShared, first_round, unit_range, seam_range, time_fusions, time_ranges, time_tree}
+use Rattle.fb_gen.specs.Lattice.{vertex_at, vertex_count, entry_if, is_inner, edges_from, edges_of_row, edges_of_round, lattice_edges, lattice_graph, weight_within, weight_later}
+use Rattle.fb_gen.specs.TimePlan.{first_round, unit_range, seam_range, time_fusions, time_ranges, time_tree}
+use Rattle.fb_gen.specs.InternalSharing.{IsShared}
 use Rattle.fb_gen.specs.declared.levels.Fusion.{Fusion}
 use Rattle.fb_gen.proofs.Acceptance.{time_tree_is_tree, fusion_is_between, joins_length}
 use Rattle.fb_gen.proofs.Fusions.{count-cons, count-append, count_at, once_by, no_fusion, seams_once}
-use Rattle.fb_gen.proofs.Grids.{All-pieces_below, All-where_true, vertex_below}
+use Rattle.fb_gen.proofs.Grids.{All-pieces_below, All-entry_if, vertex_below}
 use Rattle.fb_gen.proofs.Rounds.{first_later, first_after_all}
 use Rattle.fb_plan.proofs.Gathering.{claims-append}
 
@@ -325,17 +326,17 @@ StaysWithin d t u e = goes_across (time_tree d t u) (edge_from e) ≡ false
 
 edges_stay : (d t u k r c : ℕ) → IsShared t u → k < t → r < d → c < d + 1 → All (StaysWithin d t u) (edges_from d t k r c)
 edges_stay d t u k r c shared kt rd cd =
-    All-append P (where_true is_right right ++ where_true is_down down) (where_true is_later later)
-    (All-append P (where_true is_right right) (where_true is_down down)
-    (All-where_true P is_right right
+    All-append P (entry_if is_right right ++ entry_if is_down down) (entry_if is_later later)
+    (All-append P (entry_if is_right right) (entry_if is_down down)
+    (All-entry_if P is_right right
     (λ b. let cc : c < d = ltb-true c d b in
     not_across d t u k k (r * (d + 1) + c) (r * (d + 1) + (c + 1)) (edge_from right) shared (inl refl) here
     (place_below d r (c + 1) rd (omega arith)) (omega arith) (omega arith) below (vertex_below d t k r (c + 1) kt rd (omega arith))))
-    (All-where_true P is_down down
+    (All-entry_if P is_down down
     (λ b. let more : r + 1 < d = ltb-true (r + 1) d (and_parts (is_inner d c) _ b).1 in
     not_across d t u k k (r * (d + 1) + c) ((r + 1) * (d + 1) + c) (edge_from down) shared (inl refl) here
     (place_below d (r + 1) c more cd) (omega arith) (omega arith) below (vertex_below d t k (r + 1) c kt more cd))))
-    (All-where_true P is_later later
+    (All-entry_if P is_later later
     (λ b. let more : k + 1 < t = ltb-true (k + 1) t (and_parts (is_inner d c) _ b).1 in
     not_across d t u k (k + 1) (r * (d + 1) + c) (r * (d + 1) + c) (edge_from later) shared (inr refl) here
     here (omega arith) (omega arith) below (vertex_below d t (k + 1) r c more rd cd)))

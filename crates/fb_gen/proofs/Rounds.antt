@@ -5,7 +5,8 @@ use Rattle.std.proofs.Math.Nat.{div-add-mod}
 use Rattle.std.proofs.lemmas.Bool.{cases_lt, lt-ltb, le-ltb}
 use Rattle.std.proofs.lemmas.List.{map-append}
 use Rattle.fb_graph.proofs.BuildSteps.{range_push}
-use Rattle.fb_gen.specs.TimePlan.{IsShared, shared_rounds, rounds_of_unit, first_round}
+use Rattle.fb_gen.specs.TimePlan.{shared_rounds, rounds_of_unit, first_round}
+use Rattle.fb_gen.specs.InternalSharing.{IsShared}
 
 -- each unit has a round
 pub round_of_unit : (t u j : ℕ) → IsShared t u → 1 ≤ rounds_of_unit t u j

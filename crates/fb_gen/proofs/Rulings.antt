@@ -19,7 +19,8 @@ use Rattle.fb_plan.specs.declared.parts.Join.{Join}
 use Rattle.fb_plan.specs.declared.faults.PlanFault.{PlanFault}
 use Rattle.fb_plan.proofs.Trees.{names_left, names_right}
 use Rattle.fb_gen.specs.Lattice.{vertex_count, lattice_graph, lattice_of}
-use Rattle.fb_gen.specs.TimePlan.{IsShared, first_round, unit_range, seam_range, time_fusions, time_ranges, time_tree, time_plan_of, plain_join, join_of}
+use Rattle.fb_gen.specs.TimePlan.{first_round, unit_range, seam_range, time_fusions, time_ranges, time_tree, time_plan_of}
+use Rattle.fb_gen.specs.InternalSharing.{IsShared, plain_join, join_of}
 use Rattle.fb_gen.specs.declared.levels.Fusion.{Fusion}
 use Rattle.fb_gen.proofs.Acceptance.{join_is, joins_length, time_tree_is_tree}
 use Rattle.fb_gen.proofs.Fusions.{no_fusion, length-fusions, fusion_is_later}

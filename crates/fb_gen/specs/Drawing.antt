@@ -9,16 +9,16 @@ use Rattle.fb_graph.specs.Limits.{DecodingGraph, ShotValue, is_real_in}
 unfoldable pub next_state : ℕ → ℕ
 next_state x = (x * 6364136223846793005 + 1442695040888963407) % 2 ^ 64
 
--- the state after so many draws
+-- the state after n draws
 abbrev pub state_after : ℕ → ℕ → ℕ
 state_after x zero = x
 state_after x (suc n) = next_state (state_after x n)
 
--- the number that the draw gives which comes after so many others: the upper 20 bits of its new state
+-- the number that the draw after n others gives: the upper 20 bits of its new state
 abbrev pub drawn_after : ℕ → ℕ → ℕ
 drawn_after x n = next_state (state_after x n) / 2 ^ 44
 
--- The edges of a shot that are hit, rising: one draw for each edge, in order, which is hit where the draw is below the
+-- The edges of a shot that are hit, rising: one draw for each edge, in order, which is hit if the draw is below the
 -- rate.
 abbrev pub hits_of : ℕ → ℕ → ℕ → List ℕ
 hits_of x rate edges = filter (λ k. nat_lt (drawn_after x k) rate) (range_with_len 0 edges)

@@ -1,4 +1,4 @@
--- What a fault of what is to be sampled is called where it is printed.
+-- The name that is printed of a fault of a lattice or of its plan.
 use Rattle.std.specs.Prelude.{ℕ, List, codes}
 use Rattle.fb_gen.specs.declared.faults.GenFault.{GenFault}
 use Rattle.fb_gen.specs.declared.faults.GenFault.TheVariants.{LatticeTooLarge, TooFewRounds, NoMemory}

@@ -22,9 +22,9 @@ weight_within = pos 20
 abbrev pub weight_later : ℤ
 weight_later = pos 28
 
--- the entry where the test holds
-abbrev pub where_true : {A : Type 0} → Bool → A → List A
-where_true test entry = if test then entry ∷ [] else []
+-- the entry, if the test holds
+abbrev pub entry_if : {A : Type 0} → Bool → A → List A
+entry_if test entry = if test then entry ∷ [] else []
 
 -- a column that isn't virtual
 abbrev pub is_inner : ℕ → ℕ → Bool
@@ -34,11 +34,11 @@ is_inner distance c = nat_lt 0 c && nat_lt c distance
 -- the next round.
 abbrev pub edges_from : ℕ → ℕ → ℕ → ℕ → ℕ → List (ℕ × ℕ × ℤ)
 edges_from distance rounds k r c =
-    where_true (nat_lt c distance)
+    entry_if (nat_lt c distance)
     (vertex_at distance k r c, vertex_at distance k r (c + 1), weight_within)
-    ++ where_true (is_inner distance c && nat_lt (r + 1) distance)
+    ++ entry_if (is_inner distance c && nat_lt (r + 1) distance)
     (vertex_at distance k r c, vertex_at distance k (r + 1) c, weight_within)
-    ++ where_true (is_inner distance c && nat_lt (k + 1) rounds)
+    ++ entry_if (is_inner distance c && nat_lt (k + 1) rounds)
     (vertex_at distance k r c, vertex_at distance (k + 1) r c, weight_later)
 
 -- those of a row's vertices

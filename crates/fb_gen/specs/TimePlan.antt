@@ -1,10 +1,9 @@
 -- The plan of a lattice by time: its units are runs of rounds with one round between two of them, and the fusions join
 -- them two and two, level by level.
-use Rattle.std.specs.Prelude.{ℕ, zero, suc, ◌+◌, ◌-◌, ◌*◌, ◌/◌, ◌%◌, ◌≤◌, nat_lt, if◌then◌else◌, List, [], ◌∷◌, ◌++◌, map, length, Result, Ok, Err}
+use Rattle.std.specs.Prelude.{ℕ, zero, suc, ◌+◌, ◌-◌, ◌*◌, ◌/◌, ◌%◌, nat_lt, if◌then◌else◌, List, [], ◌∷◌, ◌++◌, map, length, Result, Ok, Err}
 use Rattle.std.specs.List.{range_with_len}
-use Rattle.fb_plan.specs.Plans.{PlanTree, most_units}
+use Rattle.fb_plan.specs.Plans.{PlanTree}
 use Rattle.fb_plan.specs.Rules.{claims_from, owner_in}
-use Rattle.fb_plan.specs.declared.parts.Join.{Join}
 use Rattle.fb_gen.specs.Lattice.{lattice_graph, vertex_count}
 use Rattle.fb_gen.specs.declared.faults.GenFault.{GenFault}
 use Rattle.fb_gen.specs.declared.faults.GenFault.TheVariants.{TooFewRounds}
@@ -15,7 +14,7 @@ use Rattle.fb_gen.specs.declared.levels.Fusion.{Fusion}
 abbrev pub shared_rounds : ℕ → ℕ → ℕ
 shared_rounds rounds units = rounds - (units - 1)
 
--- how many of them unit j has: the first units have one more where they don't share evenly
+-- how many of them unit j has: the first units have one more if they don't share evenly
 abbrev pub rounds_of_unit : ℕ → ℕ → ℕ → ℕ
 rounds_of_unit rounds units j =
     shared_rounds rounds units / units + (if nat_lt j (shared_rounds rounds units % units) then 1 else 0)
@@ -56,7 +55,7 @@ level_above next [] = []
 level_above next (last ∷ []) = last ∷ []
 level_above next (left ∷ right ∷ more) = record { seam = left.seam; node = next } ∷ level_above (next + 1) more
 
--- the fusions of a level and of so many levels above it
+-- the fusions of a level and of those above it, `levels` levels in all
 abbrev pub fusions_from : ℕ → ℕ → List Part → List Fusion
 fusions_from zero next level = []
 fusions_from (suc levels) next level =
@@ -82,22 +81,8 @@ time_tree distance rounds units = record {
       (range_with_len 0 (vertex_count distance rounds));
 }
 
--- a join without its memory: its two nodes and the ranges of its seam
-abbrev pub plain_join : Join → ℕ × ℕ × List (ℕ × ℕ)
-plain_join join = (join.left, join.right, join.seam.items)
-
--- the join that a fusion asks for
-abbrev pub join_of : ℕ → ℕ → ℕ → Fusion → ℕ × ℕ × List (ℕ × ℕ)
-join_of distance rounds units f = (f.left, f.right, seam_range distance rounds units f.seam ∷ [])
-
 -- the plan, or that there are too few rounds for so many units
 abbrev pub time_plan_of : ℕ → ℕ → ℕ → Result PlanTree GenFault
 time_plan_of distance rounds units =
     if nat_lt rounds (2 * units - 1) then Err TooFewRounds
     else Ok (time_tree distance rounds units)
-
--- rounds enough for units within the limit of a plan
-pub record IsShared (rounds units : ℕ) : Type 0 where
-  pub positive : 1 ≤ units
-  pub limit : units ≤ most_units
-  pub enough : 2 * units ≤ rounds + 1

@@ -61,7 +61,7 @@ fn turn(flags: &mut Vec<bool>, v: u32)
     flags[v as usize] = !flag;
 }
 
-/// Draws once for each edge. A vertex gets a flag where an odd number of hit edges end there.
+/// Draws once for each edge. A vertex gets a flag if an odd number of hit edges end there.
 #[tactic(auto, using(crate::proofs::Hits::hits))]
 fn flags_of_hits(
     alloc: Global,
@@ -110,7 +110,7 @@ fn real_flagged(alloc: Global, graph: &Graph, flags: &[bool]) -> Result<Vec<u32>
     Ok(found.into_vec())
 }
 
-/// A shot drawn at random: one draw for each edge, in order, which is hit where the draw is below the rate (of
+/// A shot drawn at random: one draw for each edge, in order, which is hit if the draw is below the rate (of
 /// 1,048,576); the defects are the real vertices with an odd number of hit edges. The hit edges are a correction, so
 /// no component is odd, and a job may have the shot.
 pub fn draw(alloc: Global, draws: &mut Draws, rate: u32, graph: &Graph) -> Result<Shot, NoMemory>

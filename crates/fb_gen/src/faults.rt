@@ -14,13 +14,13 @@ pub enum GenFault {
     /// There are fewer rounds than one for each unit and one between each two of them.
     #[error("too few rounds for so many units")]
     TooFewRounds,
-    /// Want of memory.
+    /// Memory ran out.
     #[error("out of memory")]
     NoMemory,
 }
 
 impl GenFault {
-    /// What it is called where it is printed.
+    /// The name that is printed.
     pub fn name(self) -> &'static str
         ensures { result.now ≡ fault_name self }
     {

@@ -1,6 +1,6 @@
 ghost use Rattle.std.specs.Prelude.{◌≡◌, ◌≢◌, ◌+◌, ◌*◌, ◌<◌, ◌≤◌, ◌++◌, IfOk, IfErr, OnOk, Ok, Err};
 ghost use Rattle.fb_graph.specs.Limits.{most_vertices};
-ghost use Rattle.fb_gen.specs.Lattice.{vertex_at, vertex_count, where_true, is_inner, edges_from, edges_of_row, edges_of_round, lattice_edges, virtuals_of_row, virtuals_of_round, lattice_virtuals, lattice_of};
+ghost use Rattle.fb_gen.specs.Lattice.{vertex_at, vertex_count, entry_if, is_inner, edges_from, edges_of_row, edges_of_round, lattice_edges, virtuals_of_row, virtuals_of_round, lattice_virtuals, lattice_of};
 
 use crate::faults::GenFault;
 use fb_graph::{Graph, GraphFault, MOST_VERTICES, NoMemory};
@@ -46,9 +46,9 @@ impl Size {
 }
 
 impl Parts {
-    /// Adds an edge where it is wanted.
+    /// Adds an edge if it is wanted.
     fn push_if(&mut self, is_wanted: bool, edge: (u64, u64, i128)) -> Result<(), NoMemory>
-        ensures edges { OnOk result (self.new.edges.items ≡ self.old.edges.items ++ where_true is_wanted edge) }
+        ensures edges { OnOk result (self.new.edges.items ≡ self.old.edges.items ++ entry_if is_wanted edge) }
         ensures virtuals { self.new.virtuals ≡ self.old.virtuals }
     {
         if is_wanted {

@@ -69,7 +69,7 @@ fn join_level(
     Ok(above)
 }
 
-/// All fusions of so many units, in the order in which they are made.
+/// All fusions of a plan of `units` units, in the order in which they are made.
 #[tactic(auto, using(crate::proofs::Pairings::turn_steps), unfolding(crate::specs::TimePlan::time_fusions))]
 pub fn all_fusions(alloc: Global, units: u64) -> Result<Vec<Fusion>, NoMemory>
     requires { units ≤ most_units }

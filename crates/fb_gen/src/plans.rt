@@ -3,7 +3,8 @@ ghost use Rattle.std.specs.List.{range_with_len};
 ghost use Rattle.fb_graph.specs.Limits.{most_vertices};
 ghost use Rattle.fb_plan.specs.Plans.{IsPlan, most_units};
 ghost use Rattle.fb_gen.specs.Lattice.{lattice_graph, lattice_of, vertex_count};
-ghost use Rattle.fb_gen.specs.TimePlan.{IsShared, rounds_of_unit, first_round, range_of_rounds, unit_range, time_fusions, time_tree, time_plan_of, plain_join, join_of};
+ghost use Rattle.fb_gen.specs.TimePlan.{rounds_of_unit, first_round, range_of_rounds, unit_range, time_fusions, time_tree, time_plan_of};
+ghost use Rattle.fb_gen.specs.InternalSharing.{IsShared, plain_join, join_of};
 
 use crate::faults::GenFault;
 use crate::levels::{Fusion, all_fusions};
@@ -177,7 +178,7 @@ impl Sharing {
 
 /// The plan of a lattice by time: `units` runs of rounds with one round between two of them, which are joined two and
 /// two, level by level, by the rounds between them. A run is as long as another or one round longer, the longer ones
-/// first. The graph is the lattice of this distance and so many rounds; a plan has 1 to 4,096 units.
+/// first. The graph is the lattice of this distance and number of rounds; a plan has 1 to 4,096 units.
 #[tactic(auto, using(crate::proofs::Rulings::plans))]
 pub fn time_plan(
     alloc: Global,

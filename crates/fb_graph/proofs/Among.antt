@@ -259,7 +259,7 @@ leaf_among (n ∷ ns) d h = step (or_cases (is_in (defects_of n) d) (is_in (leav
     step (inl e) rest = (n, inl refl, e)
     step (inr e) rest = let (m, a, t) = rest e in (m, inr a, t)
 
--- sets apart from one another, told for two of them
+-- sets apart from one another, for two of them
 pub apart_of_two : (f : ℕ → List ℕ) (cs : List ℕ) → AreAllApart (map f cs) → (a b : ℕ) → is_in cs a ≡ true → is_in cs b ≡ true → (a ≡ b → ⊥)
     → AreApart (f a) (f b)
 apart_of_two f [] apart a b h k other = absurd (false≢true h)

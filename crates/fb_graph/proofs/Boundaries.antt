@@ -4,7 +4,7 @@ use Rattle.std.specs.List.{range_with_len, list_any}
 use Rattle.std.proofs.lemmas.Bool.{cases_eq, eq-eqb, ne_eqb, or_right, and_left, and_right}
 use Rattle.std.proofs.lemmas.List.{get_or-set_same, get_or-set_other}
 use Rattle.std.proofs.lemmas.List.Folds.{list_any-append}
-use Rattle.fb_graph.specs.Labelling.{has_boundary, label_of}
+use Rattle.fb_graph.specs.InternalLabelling.{has_boundary, label_of}
 use Rattle.fb_graph.specs.Problem.{Problem}
 use Rattle.fb_graph.proofs.BuildSteps.{range_push}
 use Rattle.fb_graph.proofs.Booleans.{or_nothing}
@@ -20,7 +20,7 @@ has_boundary-more p labels n label =
     test v = label_of labels v == label && not (p.is_real v)
 
 module _ (p : Problem) (labels : List ℕ) (bounded : List Bool) (n : ℕ)
-    (told : (label : ℕ) → label < p.vertices → get_or bounded label false ≡ has_boundary p labels n label) where
+    (known : (label : ℕ) → label < p.vertices → get_or bounded label false ≡ has_boundary p labels n label) where
   -- a boundary vertex sets the flag of its label
   pub bounded_set : label_of labels n < length bounded → not (p.is_real n) ≡ true
       → (label : ℕ) → label < p.vertices
@@ -37,7 +37,7 @@ module _ (p : Problem) (labels : List ℕ) (bounded : List Bool) (n : ℕ)
           (ap (λ b. b && not (p.is_real n)) (eq-eqb (label_of labels n) label (sym same)) ∙ is_virtual)))
       step (inr other) =
           get_or-set_other bounded (label_of labels n) label true false other
-          ∙ (told label below
+          ∙ (known label below
           ∙ sym (or_nothing (has_boundary p labels n label) _
           (and_left (label_of labels n == label) (not (p.is_real n)) (ne_eqb (label_of labels n) label (λ e. other (sym e))))))
 
@@ -45,6 +45,6 @@ module _ (p : Problem) (labels : List ℕ) (bounded : List Bool) (n : ℕ)
   pub bounded_kept : not (p.is_real n) ≡ false → (label : ℕ) → label < p.vertices
       → get_or bounded label false ≡ has_boundary p labels (n + 1) label
   bounded_kept is_real label below =
-      told label below
+      known label below
       ∙ sym (has_boundary-more p labels n label
       ∙ or_nothing (has_boundary p labels n label) _ (and_right (label_of labels n == label) (not (p.is_real n)) is_real))

@@ -8,7 +8,8 @@ use Rattle.std.proofs.lemmas.List.Elements.{filter-append}
 use Rattle.std.proofs.lemmas.List.Folds.{list_any_more}
 use Rattle.fb_graph.specs.Parity.{is_in, differ}
 use Rattle.fb_graph.specs.Problem.{edge_at, touches}
-use Rattle.fb_graph.specs.Layout.{edges_at, with_edge}
+use Rattle.fb_graph.specs.Adjacency.{edges_at}
+use Rattle.fb_graph.specs.InternalLayout.{with_edge}
 use Rattle.fb_graph.specs.Limits.{IsEdge, most_weight}
 use Rattle.fb_graph.specs.GraphRules.{edge_fault, edges_fault, virtuals_fault, edge_from}
 use Rattle.fb_graph.specs.declared.parts.Edge.{Edge}
@@ -68,13 +69,13 @@ virtuals_fault_repeats n i vs lt low seen = rw (drop-cons vs i 0 lt, low, seen) 
 pub flags_more : (flags : List Bool) (n : ℕ) (vs : List ℕ) (i : ℕ) → length flags ≡ n → i < length vs → get_or vs i 0 < n
     → ((k : ℕ) → k < n → get_or flags k false ≡ is_in (take i vs) k)
     → (k : ℕ) → k < n → get_or (set flags (get_or vs i 0) true) k false ≡ is_in (take (i + 1) vs) k
-flags_more flags n vs i len lt low told k below =
+flags_more flags n vs i len lt low known k below =
     rw (list_any_more (λ u. eqb u k) vs i 0 lt)
     (elim (cases_eq k (get_or vs i 0)) [
       | inl same ↦ ap (λ j. get_or (set flags (get_or vs i 0) true) j false) same
           ∙ get_or-set_same flags (get_or vs i 0) true false (omega arith)
           ∙ sym (or_right (is_in (take i vs) k) (eqb (get_or vs i 0) k) (eq-eqb (get_or vs i 0) k (sym same)))
-      | inr other ↦ get_or-set_other flags (get_or vs i 0) k true false other ∙ told k below
+      | inr other ↦ get_or-set_other flags (get_or vs i 0) k true false other ∙ known k below
           ∙ sym (or_nothing (is_in (take i vs) k) (eqb (get_or vs i 0) k) (ne_eqb (get_or vs i 0) k (λ e. other (sym e))))
     ])
 
@@ -101,14 +102,14 @@ pub adjacent_more : (edges : List Edge) (adjacent : List (List ℕ)) (n k : ℕ)
     → ((v : ℕ) → v < n → get_or adjacent v [] ≡ edges_at edges k v)
     → (v : ℕ) → v < n
     → get_or (with_edge adjacent (edge_at edges k) k) v [] ≡ edges_at edges (k + 1) v
-adjacent_more edges adjacent n k len lu lw apart told v below =
+adjacent_more edges adjacent n k len lu lw apart known v below =
     rw (range_more (λ j. touches v (edge_at edges j)) k)
     (elim (cases_eq v e.second) [
       | inl is_second ↦
           let not_first : (v ≡ e.first) → ⊥ = λ is_first. apart (sym is_first ∙ is_second) in
           ap (λ j. get_or outer j []) is_second
           ∙ get_or-set_same inner e.second (get_or adjacent e.second [] ++ k ∷ []) [] (omega (arith, len, length-set adjacent e.first (get_or adjacent e.first [] ++ k ∷ [])))
-          ∙ ap (λ xs. xs ++ k ∷ []) (ap (λ j. get_or adjacent j []) (sym is_second) ∙ told v below)
+          ∙ ap (λ xs. xs ++ k ∷ []) (ap (λ j. get_or adjacent j []) (sym is_second) ∙ known v below)
           ∙ ap (λ xs. edges_at edges k v ++ xs) (sym (cond-true (touches v e) (k ∷ []) []
           (differ_from (eqb v e.first) (eqb v e.second) false true (ne_eqb v e.first not_first) (eq-eqb v e.second is_second))))
       | inr not_second ↦ elim (cases_eq v e.first) [
@@ -116,13 +117,13 @@ adjacent_more edges adjacent n k len lu lw apart told v below =
             get_or-set_other inner e.second v (get_or adjacent e.second [] ++ k ∷ []) [] not_second
             ∙ ap (λ j. get_or inner j []) is_first
             ∙ get_or-set_same adjacent e.first (get_or adjacent e.first [] ++ k ∷ []) [] (omega (arith, len))
-            ∙ ap (λ xs. xs ++ k ∷ []) (ap (λ j. get_or adjacent j []) (sym is_first) ∙ told v below)
+            ∙ ap (λ xs. xs ++ k ∷ []) (ap (λ j. get_or adjacent j []) (sym is_first) ∙ known v below)
             ∙ ap (λ xs. edges_at edges k v ++ xs) (sym (cond-true (touches v e) (k ∷ []) []
             (differ_from (eqb v e.first) (eqb v e.second) true false (eq-eqb v e.first is_first) (ne_eqb v e.second not_second))))
         | inr not_first ↦
             get_or-set_other inner e.second v (get_or adjacent e.second [] ++ k ∷ []) [] not_second
             ∙ get_or-set_other adjacent e.first v (get_or adjacent e.first [] ++ k ∷ []) [] not_first
-            ∙ told v below
+            ∙ known v below
             ∙ sym (append-nil (edges_at edges k v))
             ∙ ap (λ xs. edges_at edges k v ++ xs) (sym (cond-false (touches v e) (k ∷ []) []
             (differ_from (eqb v e.first) (eqb v e.second) false false (ne_eqb v e.first not_first) (ne_eqb v e.second not_second))))

@@ -7,7 +7,7 @@ use Rattle.std.proofs.lemmas.List.Sums.{sum_by-cons, sum_by_push}
 use Rattle.std.proofs.lemmas.List.Sorted.{sum_by-IsPermutation}
 use Rattle.std.specs.List.Sorted.{IsNonDecreasing, IsPermutation, IsStrictlyIncreasing}
 use Rattle.fb_graph.specs.Parity.{differ, is_odd_count, is_in}
-use Rattle.fb_graph.specs.Printed.{CancelsTo}
+use Rattle.fb_graph.specs.InternalCancelledPairs.{CancelsTo}
 use Rattle.fb_graph.proofs.ParitySums.{differ_assoc, differ_self, differ-false, false-differ, odd-append}
 use Rattle.fb_graph.proofs.Sets.{odd_equal, member_of_odd, distinct_from_rising, is_in_at, is_in-All}
 
@@ -24,7 +24,7 @@ is_odd-more n = step (cases_eq (n % 2) 1)
     step (inr even) =
         ap (differ true) (ne_eqb (n % 2) 1 even) ∙ sym (eq-eqb ((1 + n) % 2) 1 (omega arith))
 
--- an odd number of elements pass exactly where their number is odd
+-- an odd number of elements pass if and only if their number is odd
 odd-as_sum : {X : Type 0} (test : X → Bool) (xs : List X)
     → is_odd_count test xs ≡ is_odd (sum_by (λ x. cond (test x) 1 0) xs)
 odd-as_sum test [] = refl
@@ -56,10 +56,10 @@ odd-IsPermutation test xs ys moved =
 -- what is left has stood in the whole
 pub cancelled-inside : (xs ks : List ℕ) → CancelsTo xs ks → (v : ℕ) → is_in ks v ≡ true → is_in xs v ≡ true
 cancelled-inside xs ks left v within =
-    let (u, stands, same) =
+    let (u, within, same) =
     member_of_odd (λ u. u == v) xs
     (sym (left.parity (λ u. u == v)) ∙ (odd_equal ks v (distinct_from_rising ks left.rising) ∙ within)) in
-    subst (λ w. is_in xs w ≡ true) (eqb-true u v same) stands
+    subst (λ w. is_in xs w ≡ true) (eqb-true u v same) within
 
 -- the front of a rising list
 rising-front : (ks : List ℕ) (x : ℕ) → IsStrictlyIncreasing (ks ++ x ∷ []) → IsStrictlyIncreasing ks

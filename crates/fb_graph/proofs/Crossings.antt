@@ -178,7 +178,7 @@ one_of_name (n ∷ ns) distinct (suc i) zero first second same =
 one_of_name (n ∷ ns) distinct (suc i) (suc j) first second same =
     one_of_name ns distinct.1 i j (omega arith) (omega arith) same
 
--- what is found stands at a place, and passes
+-- what is found is at a place, and passes
 pub found_place : (test : Node → Bool) (ns : List Node) (m : Node) → find test ns ≡ Some m
     → (j : ℕ) × (j < length ns) × (node_at ns j ≡ m) × (test m ≡ true)
 found_place test [] m e = cc

@@ -9,7 +9,8 @@ use Rattle.fb_graph.proofs.ParitySums.{odd_same, odd_agree, odd_exchange}
 use Rattle.fb_graph.proofs.Sums.{le-sum_of_odd, sum_le, sum_exchange}
 use Rattle.fb_graph.proofs.Sets.{crosses_as_touches}
 
--- how often the chosen edges cross a distinct set of real vertices is odd exactly where its defects are
+-- the chosen edges cross a distinct set of real vertices an odd number of times if and only if it has an odd number of
+-- defects
 pub odd-crosses : (p : Problem) (chosen set : List ℕ) → Flips p chosen → AreDistinct set
     → All (λ v. p.is_real v ≡ true) set
     → is_odd_count (λ k. crosses set (edge_at p.edges k)) chosen ≡ is_odd_count p.is_defect set

@@ -9,9 +9,9 @@ use Rattle.std.proofs.lemmas.List.FromFn.{length-range_with_len}
 use Rattle.fb_graph.specs.Parity.{differ, is_in}
 use Rattle.fb_graph.specs.Problem.{Problem, edge_at, no_edge, touches}
 use Rattle.fb_graph.specs.Components.{IsJoined}
-use Rattle.fb_graph.specs.Flooding.{Reached, IsReached, with_vertex, with_ends, Grows, IsSettled, IsFlooding}
-use Rattle.fb_graph.specs.Labelling.{IsLabelling, label_of}
-use Rattle.fb_graph.specs.Layout.{edges_at}
+use Rattle.fb_graph.specs.InternalFlooding.{Reached, IsReached, with_vertex, with_ends, Grows, IsSettled, IsFlooding}
+use Rattle.fb_graph.specs.InternalLabelling.{IsLabelling, label_of}
+use Rattle.fb_graph.specs.Adjacency.{edges_at}
 use Rattle.fb_graph.specs.Limits.{IsWithinLimits}
 use Rattle.fb_graph.specs.declared.parts.Edge.{Edge}
 use Rattle.fb_graph.proofs.Ranges.{filter-range_below, is_in-filter-range}
@@ -342,20 +342,7 @@ module _ (p : Problem) (limits : IsWithinLimits p) where
       passed u less (inl same) = ap (is_in s.order) same ∙ within
       passed u less (inr other) = let apart : u ≢ v = other in flooding.passed u (omega arith)
 
-  pub flooding_none : (s : Reached) → length s.labels ≡ p.vertices → s.order ≡ [] → IsFlooding p s (length s.order) 0
-  flooding_none s count none = record {
-    count = count;
-    low = λ v h. absurd (nothing v h);
-    joined = λ v h. absurd (nothing v h);
-    passed = λ v less. absurd (omega arith);
-    settled = λ v h. absurd (nothing v (ap (λ xs. is_in xs v) (sym (take_all (length s.order) s.order (le_refl _))) ∙ h));
-    waiting = λ v h. absurd (nothing v (is_in-drop (length s.order) s.order v h));
-  }
-    where
-      nothing : (v : ℕ) → is_in s.order v ≡ true → ⊥
-      nothing v h = false≢true (sym (ap (λ xs. is_in xs v) none) ∙ h)
-
-  -- once all vertices were reached the labels tell the components apart
+  -- once all vertices were reached the labels are those of the components
   pub labelling_from_flood : (s : Reached) → IsFlooding p s (length s.order) p.vertices → IsLabelling p s.labels
   labelling_from_flood s flooding = record {
     count = flooding.count;

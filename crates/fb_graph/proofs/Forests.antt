@@ -39,7 +39,7 @@ not_empty : (cs : List ℕ) (c : ℕ) → is_in cs c ≡ true → is_empty cs �
 not_empty [] c h = absurd (false≢true h)
 not_empty (x ∷ xs) c h = refl
 
--- what a forest tells with distinct names and grown layers
+-- what follows from a forest with distinct names and grown layers
 pub record IsGrove (nodes : List Node) : Type 0 where
   pub names : AreDistinct (map (λ n. n.name) nodes)
   pub grown : All (λ n. AreGrown (layers_of n)) nodes

@@ -5,7 +5,7 @@ use Rattle.std.proofs.lemmas.Bool.{cases_eq, cases_lt, eq-eqb, ne_eqb, true≢fa
 use Rattle.std.proofs.lemmas.List.{take_more, get_or-set_same, get_or-set_other, get_or_past}
 use Rattle.std.proofs.lemmas.List.Elements.{All-nil, All-cons, All-head, All-tail}
 use Rattle.fb_graph.specs.Parity.{differ, is_odd_count, is_in}
-use Rattle.fb_graph.specs.Labelling.{AreOdd, AreOf, label_of}
+use Rattle.fb_graph.specs.InternalLabelling.{AreOdd, AreOf, label_of}
 use Rattle.fb_graph.proofs.ParitySums.{odd-append, differ-false}
 use Rattle.fb_graph.proofs.Sets.{is_in-head, is_in-tail, is_in-cases, member_of_odd}
 
@@ -37,19 +37,19 @@ pub odd_more : (labels defects : List ℕ) (odd : List Bool) (i : ℕ) → lengt
     → label_of labels (get_or defects i 0) < length labels → AreOdd labels (take i defects) odd
     → AreOdd labels (take (i + 1) defects)
     (set odd (label_of labels (get_or defects i 0)) (not (get_or odd (label_of labels (get_or defects i 0)) false)))
-odd_more labels defects odd i room less within told label below =
+odd_more labels defects odd i room less within known label below =
     elim (cases_eq label x) [
       | inl same ↦
           ap (λ r. get_or (set odd x (not (get_or odd x false))) r false) same
           ∙ (get_or-set_same odd x (not (get_or odd x false)) false (omega arith)
           ∙ (not_as_differ (get_or odd x false)
           ∙ (ap (λ r. differ (get_or odd r false) true) (sym same)
-          ∙ (ap (λ b. differ b true) (told label below)
+          ∙ (ap (λ b. differ b true) (known label below)
           ∙ (ap (differ (is_odd_count (λ d. label_of labels d == label) (take i defects))) (sym (eq-eqb x label (sym same)))
           ∙ sym (odd_push labels defects i label less))))))
       | inr other ↦
           get_or-set_other odd x label (not (get_or odd x false)) false other
-          ∙ (told label below
+          ∙ (known label below
           ∙ (sym (differ-false (is_odd_count (λ d. label_of labels d == label) (take i defects)))
           ∙ (ap (differ (is_odd_count (λ d. label_of labels d == label) (take i defects)))
           (sym (ne_eqb x label (λ e. other (sym e))))
@@ -62,12 +62,12 @@ odd_more labels defects odd i room less within told label below =
 -- a number that an odd number of elements pass for is that of one of them
 pub of_odd : (labels defects : List ℕ) (odd : List Bool) → length odd ≡ length labels → AreOdd labels defects odd
     → AreOf labels defects odd
-of_odd labels defects odd room told label is_set = step (cases_lt label (length labels))
+of_odd labels defects odd room known label is_set = step (cases_lt label (length labels))
   where
     step : (label < length labels) ⊎ (length labels ≤ label) → list_any (λ d. label_of labels d == label) defects ≡ true
     step (inl below) =
         let (d, among, here) =
-        member_of_odd (λ d. label_of labels d == label) defects (sym (told label below) ∙ is_set) in
+        member_of_odd (λ d. label_of labels d == label) defects (sym (known label below) ∙ is_set) in
         any_from_is_in (λ d. label_of labels d == label) defects d among here
     step (inr past) = absurd (true≢false (sym is_set ∙ get_or_past odd label false (omega arith)))
 

@@ -15,7 +15,7 @@ use Rattle.fb_graph.proofs.Among.{IsAmong, All_among, among_All, apart_among}
 use Rattle.fb_graph.proofs.ChangedNodes.{change, by_name, kept_by, placed_among, layer_between, regrouped, last_split, first_below, grown_below, grown_last}
 use Rattle.fb_graph.proofs.InsertedCuts.{IsInserted, AreFit, removed_fit, same_weigh, sources_same}
 use Rattle.fb_graph.proofs.MappedNodes.{AreKept, names_mapped, forest_mapped, apart_mapped, mapped_leaves}
-use Rattle.fb_graph.proofs.NestParts.{grove_of, fit_of, nest_of}
+use Rattle.fb_graph.proofs.NestParts.{grove_of, fit_of, nest_of, sources_at}
 use Rattle.fb_graph.proofs.Places.{IsPlaced, placed, cuts_at}
 
 module _ (p : Problem) (nodes : List Node) (name : ℕ) (may : MayUncover nodes name) (nest : IsNest p nodes) where
@@ -102,12 +102,9 @@ module _ (p : Problem) (nodes : List Node) (name : ℕ) (may : MayUncover nodes 
           (subst (All (IsOddCut (with_defects p (leaves nodes)))) (sym (layers n a e))
           (All-below (IsOddCut (with_defects p (leaves nodes))) n.below n.top (odd n a)))).odd
 
-  sources_at : (n : Node) → IsAmong n nodes → HasSources nodes n.top.vertices
-  sources_at n a = All_among (λ m. HasSources nodes m.top.vertices) nodes nest.sources n a
-
   lowered_sources : (n : Node) → IsAmong n nodes → n.name ≡ name → HasSources nodes (without_top n).top.vertices
   lowered_sources n a e v h =
-      let (d, holds, leaf, parity) = sources_at n a v (shrinks n a e v h) in
+      let (d, holds, leaf, parity) = sources_at p nodes nest n a v (shrinks n a e v h) in
       let (x, more) = added n a e in
       (d, pick d leaf x more (or_cases (is_in (without_top n).top.vertices d) (x == d) (sym (is_in_push (without_top n).top.vertices x d) ∙ (ap (λ s. is_in s d) (sym more) ∙ holds))), leaf, parity)
     where
@@ -139,7 +136,7 @@ module _ (p : Problem) (nodes : List Node) (name : ℕ) (may : MayUncover nodes 
       (among_All (λ n. HasSources (uncovered_nodes name nodes) (change name without_top n).top.vertices) nodes
       (λ n a.
       sources_same nodes (uncovered_nodes name nodes) (change name without_top n).top.vertices same_leaves height
-      (by_name (λ m. HasSources nodes m.top.vertices) name without_top n (lowered_sources n a) (λ other. sources_at n a)))))
+      (by_name (λ m. HasSources nodes m.top.vertices) name without_top n (lowered_sources n a) (λ other. sources_at p nodes nest n a)))))
 
 pub nest_uncovered : NestUncovered
 nest_uncovered p nodes name may nest = nest_kept p nodes name may nest

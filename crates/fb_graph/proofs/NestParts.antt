@@ -1,13 +1,15 @@
 -- A nest taken apart and put together.
-use Rattle.std.proofs.Common.{ℕ, ◌≡◌, ◌==◌, ◌||◌, true, List, [], ◌∷◌, map, All, refl, ap, ◌∙◌}
+use Rattle.std.proofs.Common.{ℕ, ◌≡◌, ◌==◌, ◌||◌, inl, inr, true, false, List, [], ◌∷◌, map, All, refl, ap, ◌∙◌}
+use Rattle.std.proofs.lemmas.Bool.{both_ways}
 use Rattle.std.proofs.lemmas.List.Elements.{All-head, All-tail}
 use Rattle.fb_graph.specs.Parity.{is_in}
 use Rattle.fb_graph.specs.Problem.{Problem, with_defects}
 use Rattle.fb_graph.specs.Certificate.{AreDistinct, IsOddCut}
-use Rattle.fb_graph.specs.Dual.{Node, IsDual, AreOuterApart, all_cuts, leaves, is_live}
+use Rattle.fb_graph.specs.Dual.{Node, IsDual, AreOuterApart, all_cuts, is_empty, leaves, is_live}
 use Rattle.fb_graph.proofs.Sets.{member_of_odd}
-use Rattle.fb_graph.specs.Nests.{IsNest, HasSources}
-use Rattle.fb_graph.proofs.Among.{IsAmong}
+use Rattle.fb_graph.specs.Nests.{IsNest, IsFormed, AreMany, HasSources}
+use Rattle.fb_graph.specs.Moves.{MaySplit}
+use Rattle.fb_graph.proofs.Among.{IsAmong, All_among}
 use Rattle.fb_graph.proofs.Forests.{IsGrove, dual_of, tops_odd}
 use Rattle.fb_graph.proofs.InsertedCuts.{AreFit}
 
@@ -49,6 +51,25 @@ pub top_holds : (p : Problem) (nodes : List Node) → IsNest p nodes → (m : No
 top_holds p nodes nest m a =
     let (v, within, leaf) = member_of_odd (is_in (leaves nodes)) m.top.vertices (top_is_odd p nodes nest m a).odd in
     (v, within)
+
+-- a node's top set has the source of each of its vertices
+pub sources_at : (p : Problem) (nodes : List Node) → IsNest p nodes → (n : Node) → IsAmong n nodes → HasSources nodes n.top.vertices
+sources_at p nodes nest n a = All_among (λ m. HasSources nodes m.top.vertices) nodes nest.sources n a
+
+-- a node that joins others joins an odd number of at least three
+pub joins_many : (p : Problem) (nodes : List Node) → IsNest p nodes → (n : Node) → IsAmong n nodes → is_empty n.children ≡ false
+    → AreMany n.children
+joins_many p nodes nest n a some = step (All_among IsFormed nodes nest.forest.formed n a)
+  where
+    step : IsFormed n → AreMany n.children
+    step (inl childless) = absurd (both_ways (is_empty n.children) some (ap is_empty childless.none))
+    step (inr many) = many
+
+-- the node that may be split joins others, and has one layer, of value 0
+pub split_is_bare : (nodes : List Node) (name : ℕ) → MaySplit nodes name → (n : Node) → IsAmong n nodes → n.name ≡ name
+    → (is_empty n.children ≡ false) × (n.below ≡ []) × (n.top.value ≡ 0)
+split_is_bare nodes name may =
+    All_among (λ n. n.name ≡ name → (is_empty n.children ≡ false) × (n.below ≡ []) × (n.top.value ≡ 0)) nodes may.bare
 
 -- the defects of a dual state are real
 pub leaf_real : (p : Problem) (nodes : List Node) (v : ℕ) → IsDual p nodes → is_in (leaves nodes) v ≡ true → p.is_real v ≡ true

@@ -1,6 +1,6 @@
 -- Layers of nodes, and lists of nodes of which one is changed.
-use Rattle.std.proofs.Common.{◌≡◌, ℕ, zero, suc, ◌+◌, ◌<◌, ◌==◌, Bool, true, false, cond, List, [], ◌∷◌, ◌++◌, map, length, set, Some, None, refl, ◌∙◌, ap, arith, if◌then◌else◌, nat_lt}
-use Rattle.std.specs.List.{find, flat_map, All, position, position_or_len}
+use Rattle.std.proofs.Common.{◌≡◌, ℕ, zero, suc, ◌<◌, ◌==◌, Bool, true, false, cond, List, [], ◌∷◌, ◌++◌, map, length, set, Some, None, refl, ◌∙◌, ap, arith, if◌then◌else◌, nat_lt}
+use Rattle.std.specs.List.{flat_map, All, position, position_or_len}
 use Rattle.std.proofs.lemmas.Bool.{or_left, or_parts}
 use Rattle.std.proofs.lemmas.Bool.Decides.{nat_tests}
 use Rattle.std.proofs.lemmas.List.Elements.{All-nil, All-cons, All-head, All-tail, All-append, All-get_or, All-from_get_or}
@@ -101,27 +101,6 @@ defects_of-taller_node v n = ap (λ l. if is_empty n.children then l else []) (f
     first : (below : List Cut) → first_vertices ((below ++ n.top ∷ []) ++ (taller_node v n).top ∷ []) ≡ first_vertices (below ++ n.top ∷ [])
     first [] = refl
     first (c ∷ cs) = refl
-
-pub find-agree : {X : Type 0} (p q : X → Bool) (xs : List X) → ((x : X) → p x ≡ q x) → find p xs ≡ find q xs
-find-agree p q [] h = refl
-find-agree {X} p q (x ∷ xs) h =
-    let here : p x ≡ q x = h x in
-    let rest : find p xs ≡ find q xs = find-agree p q xs h in
-    cc
-
-pub find_none : (test : Node → Bool) (nodes : List Node) → ((i : ℕ) → i < length nodes → test (node_at nodes i) ≡ false) → find test nodes ≡ None
-find_none test [] h = refl
-find_none test (n ∷ ns) h =
-    let here : test n ≡ false = h zero (omega arith) in
-    rw here (find_none test ns (λ i lt. h (suc i) (omega arith)))
-
-pub find_first : (test : Node → Bool) (nodes : List Node) (i : ℕ) → i < length nodes → test (node_at nodes i) ≡ true
-    → ((j : ℕ) → j < i → test (node_at nodes j) ≡ false) → find test nodes ≡ Some (node_at nodes i)
-find_first test [] i lt e h = absurd (omega arith)
-find_first test (n ∷ ns) zero lt e h = rw e refl
-find_first test (n ∷ ns) (suc i) lt e h =
-    let here : test n ≡ false = h zero (omega arith) in
-    rw here (find_first test ns i (omega arith) e (λ j l. h (suc j) (omega arith)))
 
 -- where a node of the name is
 pub no_place : (nodes : List Node) (name : ℕ) → position (λ n. n.name == name) nodes ≡ None → is_live nodes name ≡ false

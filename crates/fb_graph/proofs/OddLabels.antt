@@ -9,7 +9,7 @@ use Rattle.fb_graph.specs.Certificate.{AreDistinct}
 use Rattle.fb_graph.specs.Components.{Leads, IsWalkBy, IsJoined, IsComponent, IsOddAt, IsFirstOdd}
 use Rattle.fb_graph.specs.Limits.{IsShotIn, IsWithinLimits}
 use Rattle.fb_graph.specs.Laws.{HasNoOddClosed}
-use Rattle.fb_graph.specs.Labelling.{IsLabelling, IsBounded, AreOdd, label_of, has_boundary, odd_labels}
+use Rattle.fb_graph.specs.InternalLabelling.{IsLabelling, IsBounded, AreOdd, label_of, has_boundary, odd_labels}
 use Rattle.fb_graph.specs.declared.parts.Edge.{Edge}
 use Rattle.fb_graph.proofs.ClosedComponents.{no_odd_component}
 use Rattle.fb_graph.proofs.LabelSteps.{IsLeast, any_from_is_in}
@@ -128,7 +128,7 @@ module _ (p : Problem) (labels : List ℕ) (limits : IsWithinLimits p) (labellin
         (All-from_is_in (λ d. is_in (members_of r) d ≡ (label_of labels d == r)) defects
         (λ d among. in_members r d (defect_below d among)))
 
-    -- a component has no boundary vertex exactly where its label isn't flagged
+    -- a component has no boundary vertex if and only if its label isn't flagged
     real_members : (r : ℕ) → r < p.vertices → get_or bounded r false ≡ false → (u : ℕ) → is_in (members_of r) u ≡ true
         → p.is_real u ≡ true
     real_members r below unbounded u within =

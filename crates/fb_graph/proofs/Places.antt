@@ -11,7 +11,7 @@ use Rattle.fb_graph.specs.Moves.{split_nodes}
 use Rattle.fb_graph.proofs.Among.{IsAmong, All_among, among_All, live_among, other_name}
 use Rattle.fb_graph.proofs.NestParts.{names_live}
 
--- what stands before the node and after it
+-- what comes before the node and after it
 pub record IsPlaced (nodes : List Node) (name : ℕ) : Type 0 where
   pub before : List Node
   pub node : Node

@@ -22,7 +22,7 @@ use Rattle.fb_graph.proofs.EndSums.{apart_sym}
 use Rattle.fb_graph.proofs.Forests.{IsUnder, cuts_under}
 use Rattle.fb_graph.proofs.InsertedCuts.{IsInserted, AreFit, inserted_fit, same_weigh, sources_same}
 use Rattle.fb_graph.proofs.MappedNodes.{AreKept, names_mapped, forest_mapped, apart_mapped, mapped_leaves}
-use Rattle.fb_graph.proofs.NestParts.{grove_of, fit_of, nest_of, top_is_odd}
+use Rattle.fb_graph.proofs.NestParts.{grove_of, fit_of, nest_of, top_is_odd, sources_at}
 use Rattle.fb_graph.proofs.Places.{IsPlaced, placed, cuts_at}
 
 module _ (p : Problem) (nodes : List Node) (name k u v : ℕ) (even : AreEven p) (may : MayAbsorb p nodes name k u v) (nest : IsNest p nodes) where
@@ -134,9 +134,6 @@ module _ (p : Problem) (nodes : List Node) (name k u v : ℕ) (even : AreEven p)
           λ under. let clash : None ≡ Some under.0 = sym may.uncovered ∙ (ap (cover_of nodes) (sym b) ∙ under.1) in absurd (cc) in
           omega (arith, tight, two, nest.dual.loads e apart, ap (height_of (all_cuts nodes)) a, ap (height_of (all_cuts nodes)) b, nest.dual.uncovered v may.uncovered)
 
-  sources_at : (n : Node) → IsAmong n nodes → HasSources nodes n.top.vertices
-  sources_at n a = All_among (λ m. HasSources nodes m.top.vertices) nodes nest.sources n a
-
   raised_sources : (n : Node) → IsAmong n nodes → n.name ≡ name → HasSources nodes (n.top.vertices ++ v ∷ [])
   raised_sources n a e w h = pick (or_cases (is_in n.top.vertices w) (v == w) (sym (is_in_push n.top.vertices v w) ∙ h))
     where
@@ -144,7 +141,7 @@ module _ (p : Problem) (nodes : List Node) (name k u v : ℕ) (even : AreEven p)
           → (d : ℕ) × (is_in (n.top.vertices ++ v ∷ []) d ≡ true) × (is_in (leaves nodes) d ≡ true)
           × (height_of (all_cuts nodes) d % 2 ≡ height_of (all_cuts nodes) w % 2)
       from x within same =
-          let (d, holds, leaf, parity) = sources_at n a x within in
+          let (d, holds, leaf, parity) = sources_at p nodes nest n a x within in
           (d, is_in_push n.top.vertices v d ∙ or_left (is_in n.top.vertices d) (v == d) holds, leaf, parity ∙ same)
 
       pick : (is_in n.top.vertices w ≡ true) ⊎ ((v == w) ≡ true)
@@ -190,7 +187,7 @@ module _ (p : Problem) (nodes : List Node) (name k u v : ℕ) (even : AreEven p)
       (among_All (λ n. HasSources (absorbed_nodes name v nodes) (change name (taller_node v) n).top.vertices) nodes
       (λ n a.
       sources_same nodes (absorbed_nodes name v nodes) (change name (taller_node v) n).top.vertices same_leaves height
-      (by_name (λ m. HasSources nodes m.top.vertices) name (taller_node v) n (raised_sources n a) (λ other. sources_at n a)))))
+      (by_name (λ m. HasSources nodes m.top.vertices) name (taller_node v) n (raised_sources n a) (λ other. sources_at p nodes nest n a)))))
 
 pub nest_absorbed : NestAbsorbed
 nest_absorbed p nodes name k u v even may nest = nest_kept p nodes name k u v even may nest

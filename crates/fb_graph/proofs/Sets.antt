@@ -23,7 +23,7 @@ equal_sym j k = step (k == j) refl
     step true e = eq-eqb j k (sym (eqb-true k j e))
     step false e = ne_eqb j k (λ same. eqb-false k j e (sym same))
 
--- in a distinct list a number stands an odd number of times exactly where it stands at all
+-- a number occurs an odd number of times in a distinct list if and only if it occurs at all
 pub odd_equal : (vs : List ℕ) (v : ℕ) → AreDistinct vs → is_odd_count (λ u. u == v) vs ≡ is_in vs v
 odd_equal [] v distinct = refl
 odd_equal (w ∷ vs) v distinct = step (w == v) refl (odd_equal vs v distinct.1)
@@ -65,7 +65,7 @@ count_equal-le vs v distinct =
     le_trans (le_of_eq (count_equal vs v distinct))
     (cond_both {A = ℕ} (is_in vs v) 1 0 (λ x. x ≤ 1) (λ e. omega arith) (λ e. omega arith))
 
--- an edge crosses a set exactly where it touches an odd number of the set's members
+-- an edge crosses a set if and only if it touches an odd number of the set's members
 pub crosses_as_touches : (set : List ℕ) (e : Edge) → AreDistinct set
     → crosses set e ≡ is_odd_count (λ v. touches v e) set
 crosses_as_touches set e distinct =
@@ -158,7 +158,7 @@ rising-tail v ws rising k less =
     let e : suc k + 1 ≡ suc (k + 1) = omega arith in
     rw e at (rising (suc k) (omega arith))
 
--- what stands behind the first entry of a rising list is above it
+-- what follows the first entry of a rising list is above it
 pub rising_above : (v : ℕ) (ws : List ℕ) → IsStrictlyIncreasing (v ∷ ws) → (u : ℕ) → is_in ws u ≡ true → v < u
 rising_above v [] rising u within = absurd (false≢true within)
 rising_above v (w ∷ ws) rising u within =

@@ -16,7 +16,7 @@ use Rattle.fb_graph.proofs.Among.{IsAmong, All_among, among_All, among_right, li
 use Rattle.fb_graph.proofs.EndSums.{apart_sym}
 use Rattle.fb_graph.proofs.Forests.{child_within}
 use Rattle.fb_graph.proofs.InsertedCuts.{IsInserted, AreFit, removed_fit, same_weigh, sources_same}
-use Rattle.fb_graph.proofs.NestParts.{grove_of, fit_of, nest_of, map_agree}
+use Rattle.fb_graph.proofs.NestParts.{grove_of, fit_of, nest_of, map_agree, split_is_bare}
 use Rattle.fb_graph.proofs.Places.{IsPlaced, placed, cuts_at, leaves_at, among_split, split_among, split_All, split_names, split_joined}
 
 module _ (p : Problem) (nodes : List Node) (name : ℕ) (may : MaySplit nodes name) (nest : IsNest p nodes) where
@@ -27,8 +27,7 @@ module _ (p : Problem) (nodes : List Node) (name : ℕ) (may : MaySplit nodes na
   there = subst (IsAmong at.node) (sym at.whole) (among_right at.before (at.node ∷ at.after) at.node (inl refl))
 
   pub bare : (is_empty at.node.children ≡ false) × (at.node.below ≡ []) × (at.node.top.value ≡ 0)
-  bare =
-      All_among (λ n. n.name ≡ name → (is_empty n.children ≡ false) × (n.below ≡ []) × (n.top.value ≡ 0)) nodes may.bare at.node there at.named
+  bare = split_is_bare nodes name may at.node there at.named
 
   pub insertion : IsInserted at.node.top (all_cuts (split_nodes name nodes)) (all_cuts nodes)
   insertion = record {

@@ -12,8 +12,8 @@ pub record AreAlike (nodes others : List Node) : Type 0 where
   pub heights : (v : ℕ) → height_of (all_cuts others) v ≡ height_of (all_cuts nodes) v
   pub covers : (d : ℕ) → is_in (leaves nodes) d ≡ true → cover_of others d ≡ cover_of nodes d
 
--- So are the states before and after a vertex that is no defect is absorbed, and the other way round where an empty
--- layer is taken off.
+-- The states before and after a vertex that is no defect is absorbed are alike, either way round: an empty layer taken
+-- off undoes it.
 abbrev pub TallerAlike : Type 0
 TallerAlike = (nodes : List Node) (name v : ℕ) → is_in (leaves nodes) v ≡ false
     → AreAlike nodes (change_at name (taller_node v) nodes) × AreAlike (change_at name (taller_node v) nodes) nodes

@@ -10,7 +10,7 @@ use Rattle.fb_graph.specs.Problem.{Problem, Flips, IsEdgeSet, weight_of, crosses
 use Rattle.fb_graph.specs.declared.parts.Edge.{Edge}
 use Rattle.fb_graph.specs.declared.parts.Cut.{Cut}
 
--- no number stands twice in the list
+-- no number occurs twice in the list
 abbrev pub AreDistinct : List ℕ → Type 0
 AreDistinct [] = Unit {0}
 AreDistinct (v ∷ vs) = (is_in vs v ≡ false) × AreDistinct vs
@@ -44,7 +44,7 @@ pub record IsPrintedCut (p : Problem) (c : Cut) : Type 0 where
   pub positive : 1 ≤ c.value
   pub rising : IsStrictlyIncreasing c.vertices
 
--- the cut stands before the next one: entry by entry, a proper prefix first
+-- the cut comes before the next one: entry by entry, a proper prefix first
 abbrev pub IsBefore : Cut → List Cut → Type 0
 IsBefore c [] = Unit {0}
 IsBefore c (d ∷ ds) = slice_cmp nat_cmp c.vertices d.vertices ≡ Less
@@ -54,7 +54,7 @@ abbrev pub AreRising : List Cut → Type 0
 AreRising [] = Unit {0}
 AreRising (c ∷ cs) = IsBefore c cs × AreRising cs
 
--- A correction with its certificate. Where it holds, no correction weighs less (see the law of weak duality).
+-- A correction with its certificate. If it holds, no correction weighs less (see the law of weak duality).
 pub record IsBest (p : Problem) (chosen : List ℕ) (weight : ℕ) (cuts : List Cut) : Type 0 where
   pub edge_set : IsEdgeSet p chosen
   pub flips : Flips p chosen

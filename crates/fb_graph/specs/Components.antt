@@ -34,7 +34,7 @@ pub record IsOddAt (p : Problem) (v : ℕ) : Type 0 where
   pub real : (u : ℕ) → is_in members u ≡ true → p.is_real u ≡ true
   pub odd : is_odd_count p.is_defect members ≡ true
 
--- the least vertex with an odd component; None where there is none
+-- the least vertex with an odd component; None if there is none
 abbrev pub IsFirstOdd : Problem → Option ℕ → Type 0
 IsFirstOdd p (Some v) = IsOddAt p v × ((u : ℕ) → u < v → ¬ IsOddAt p u)
 IsFirstOdd p None = (u : ℕ) → ¬ IsOddAt p u

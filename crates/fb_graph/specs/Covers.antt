@@ -1,4 +1,4 @@
--- What an edge gains and loses by a step, told by the outer nodes over its two ends.
+-- What an edge gains and loses by a step, from the outer nodes over its two ends.
 use Rattle.std.specs.Prelude.{ℕ, ◌≡◌, ◌+◌, ◌-◌, ◌*◌, ◌%◌, ◌≤◌, ◌<◌, ◌&&◌, Bool, true, false, List, map, All, count_by, Option, Some, None}
 use Rattle.fb_graph.specs.Parity.{is_in}
 use Rattle.fb_graph.specs.Problem.{Problem, crosses}
@@ -8,7 +8,7 @@ use Rattle.fb_graph.specs.declared.parts.Edge.{Edge}
 use Rattle.fb_graph.specs.Counts.{as_count}
 use Rattle.fb_graph.specs.Steps.{Roles, AreExclusive, AllowShrinking, gains, losses, stepped_nodes, MayStep}
 
--- the name, where there is one, passes the test
+-- the name, if there is one, passes the test
 abbrev pub passes : (ℕ → Bool) → Option ℕ → Bool
 passes test None = false
 passes test (Some name) = test name
@@ -67,7 +67,7 @@ abbrev pub HaveParity : (ℕ → Bool) → List Node → ℕ → Type 0
 HaveParity test nodes r = (d name : ℕ) → is_in (leaves nodes) d ≡ true → cover_of nodes d ≡ Some name → test name ≡ true
     → height_of (all_cuts nodes) d % 2 ≡ r
 
--- Where weights are even, an edge between two plus nodes can bear an even further load, so that both may grow by half.
+-- If weights are even, the slack of an edge between two plus nodes is even, so that both may grow by half of it.
 abbrev pub EvenResidue : Type 0
 EvenResidue = (p : Problem) (roles : Roles) (nodes : List Node) (r : ℕ) (e : Edge) → IsDual p nodes
     → HaveParity roles.is_plus nodes r → e.weight % 2 ≡ 0 → ¬ AreUnderOne nodes e.first e.second
@@ -81,7 +81,7 @@ pub record IsClear (roles : Roles) (nodes : List Node) (e : Edge) : Type 0 where
   pub second : is_covered_by roles.is_plus nodes e.second ≡ true → is_covered_by roles.is_minus nodes e.first ≡ false
       → load_of (all_cuts nodes) e < e.weight
 
--- nothing stands in the way of the tree: neither an edge without residue nor an empty layer
+-- the tree has no obstacle: neither a tight edge nor an empty layer
 pub record HasNoObstacle (p : Problem) (roles : Roles) (nodes : List Node) : Type 0 where
   pub edges : All (λ e. ¬ AreUnderOne nodes e.first e.second → IsClear roles nodes e) p.edges
   pub layers : All (λ n. roles.is_minus n.name ≡ true → 1 ≤ n.top.value) nodes

@@ -62,14 +62,14 @@ cover_of nodes v = option_map (λ n. n.name) (find (λ n. is_outer nodes n.name 
 abbrev pub height_of : List Cut → ℕ → ℕ
 height_of cuts v = sum_by (λ c. cond (is_in c.vertices v) c.value 0) cuts
 
--- a node that stands at no place
+-- what is read past the end of a list of nodes
 abbrev pub no_node : Node
 no_node = record { name = 0; children = []; below = []; top = record { value = 0; vertices = [] } }
 
 abbrev pub node_at : List Node → ℕ → Node
 node_at nodes i = get_or nodes i no_node
 
--- the layers of the node of this name, from the first to the top; none where no node has the name
+-- the layers of the node of this name, from the first to the top; none if no node has the name
 abbrev pub layers_at : List Node → ℕ → List Cut
 layers_at [] name = []
 layers_at (n ∷ ns) name = if n.name == name then layers_of n else layers_at ns name

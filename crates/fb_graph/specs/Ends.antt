@@ -29,7 +29,7 @@ abbrev pub EndsAppend : Type 0
 EndsAppend = (set : List ℕ) (links more : List Link)
     → ends_in set (links ++ more) ≡ ends_in set links + ends_in set more
 
--- The order of the links doesn't count.
+-- The order of the links doesn't matter.
 abbrev pub EndsPermuted : Type 0
 EndsPermuted = (set : List ℕ) (links more : List Link) → IsPermutation links more → ends_in set more ≡ ends_in set links
 

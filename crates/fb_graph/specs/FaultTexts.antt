@@ -1,4 +1,4 @@
--- What a fault of a graph is called where it is printed, and the number of its place.
+-- The name under which a fault of a graph is printed, and its place.
 use Rattle.std.specs.Prelude.{ℕ, List, codes, Option, Some, None}
 use Rattle.fb_graph.specs.declared.faults.GraphFault.{GraphFault}
 use Rattle.fb_graph.specs.declared.faults.GraphFault.TheVariants.{TooManyVertices, TooManyEdges, EndOutOfRange, SelfLoop, OddWeight, WeightTooLarge, NegativeWeight, VirtualOutOfRange, VirtualRepeated, NoMemory}

@@ -30,7 +30,7 @@ virtuals_fault n seen i (v ∷ vs) =
     if nat_le n v then Some (VirtualOutOfRange i)
     else (if is_in seen v then Some (VirtualRepeated i) else virtuals_fault n (seen ++ v ∷ []) (i + 1) vs)
 
--- the first rule that the numbers break; None where they make a graph
+-- the first rule that the numbers break; None if they make a graph
 abbrev pub graph_fault : ℕ → List (ℕ × ℕ × ℤ) → List ℕ → Option GraphFault
 graph_fault n edges virtuals =
     if nat_lt most_vertices n then Some TooManyVertices

@@ -86,11 +86,11 @@ pub record AreSeparated (left right : Problem) : Type 0 where
   pub vertices : (v : ℕ) → left.is_real v ≡ true → right.is_real v ≡ false
   pub edges : All (λ e. has_real_end left e ≡ true → has_real_end right e ≡ false) left.edges
 
--- A part has no odd closed set where the whole has none.
+-- A part has no odd closed set if the whole has none.
 abbrev pub PartHasNoOddClosed : Type 0
 PartHasNoOddClosed = (small large : Problem) → IsPart small large → HasNoOddClosed large → HasNoOddClosed small
 
--- Where there is no odd closed set, some edge leaves each odd cut, so that it can grow.
+-- If there is no odd closed set, some edge leaves each odd cut, so that it can grow.
 abbrev pub EdgeLeaves : Type 0
 EdgeLeaves = (p : Problem) (c : Cut) → HasNoOddClosed p → IsOddCut p c
     → (k : ℕ) × (k < length p.edges) × (crosses c.vertices (edge_at p.edges k) ≡ true)
@@ -105,12 +105,12 @@ abbrev pub PackingsJoined : Type 0
 PackingsJoined = (left right whole : Problem) (cuts more : List Cut) → IsPart left whole → IsPart right whole
     → AreSeparated left right → IsPacking left cuts → IsPacking right more → IsPacking whole (cuts ++ more)
 
--- Of a walk's edges, an odd number end at a vertex exactly where just one of the walk's own ends is there.
+-- An odd number of a walk's edges end at a vertex if and only if exactly one of the walk's own ends is there.
 abbrev pub WalkParity : Type 0
 WalkParity = (p : Problem) (ks : List ℕ) (from to : ℕ) → IsWalkBy p ks from to
     → (v : ℕ) → is_odd_count (λ k. touches v (edge_at p.edges k)) ks ≡ differ (v == from) (v == to)
 
--- the numbers below n that stand in the list an odd number of times, rising
+-- the numbers below n that occur in the list an odd number of times, rising
 abbrev pub odd_ones : ℕ → List ℕ → List ℕ
 odd_ones n ks = filter (λ k. is_odd_count (λ j. j == k) ks) (range_with_len 0 n)
 
@@ -118,7 +118,7 @@ odd_ones n ks = filter (λ k. is_odd_count (λ j. j == k) ks) (range_with_len 0 
 abbrev pub OddOnesRise : Type 0
 OddOnesRise = (n : ℕ) (ks : List ℕ) → IsStrictlyIncreasing (odd_ones n ks) × All (λ k. k < n) (odd_ones n ks)
 
--- As many of them pass a test as of the list, but for an even number.
+-- As many of them pass a test as in the list, up to an even number.
 abbrev pub OddOnesCount : Type 0
 OddOnesCount = (n : ℕ) (ks : List ℕ) → All (λ k. k < n) ks
     → (test : ℕ → Bool) → is_odd_count test (odd_ones n ks) ≡ is_odd_count test ks
@@ -143,7 +143,7 @@ abbrev pub IsTight : Problem → List Cut → Link → Type 0
 IsTight p cuts l = weight_of p l.walk ≡ load_of cuts (ends_of l)
 
 -- Tight links that match the defects with one another or with the boundary: an odd number of ends at a real vertex
--- exactly where it is a defect, and no cut crossed by two of them (Edmonds 1965).
+-- if and only if it is a defect, and no cut crossed by two of them (Edmonds 1965).
 pub record IsPerfect (p : Problem) (cuts : List Cut) (links : List Link) : Type 0 where
   pub walks : All (λ l. IsWalkBy p l.walk l.from l.to) links
   pub tight : All (IsTight p cuts) links
@@ -165,10 +165,10 @@ abbrev pub Resolving : Type 0
 Resolving = (p : Problem) (cuts : List Cut) (links : List Link) → IsPacking p cuts → IsPerfect p cuts links
     → IsSolved p cuts (odd_edges p links)
 
--- Where no component is odd, no closed set is, since a closed set is made of components.
+-- If no component is odd, no closed set is, since a closed set is made of components.
 abbrev pub NoOddComponent : Type 0
 NoOddComponent = (p : Problem) → ((v : ℕ) → p.is_real v ≡ true → v < p.vertices) → IsFirstOdd p None → HasNoOddClosed p
 
--- Where no closed set is odd, no component is.
+-- If no closed set is odd, no component is.
 abbrev pub NoOddClosedSet : Type 0
 NoOddClosedSet = (p : Problem) → HasNoOddClosed p → IsFirstOdd p None

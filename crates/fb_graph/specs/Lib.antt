@@ -1,3 +1,4 @@
+pub mod Adjacency
 pub mod Alike
 pub mod Answers
 pub mod Certificate
@@ -7,12 +8,13 @@ pub mod Covers
 pub mod Dual
 pub mod Ends
 pub mod FaultTexts
-pub mod Flooding
 pub mod GraphRules
+pub mod InternalCancelledPairs
+pub mod InternalFlooding
+pub mod InternalLabelling
+pub mod InternalLayout
 pub mod InternalSamples
-pub mod Labelling
 pub mod Laws
-pub mod Layout
 pub mod Leasts
 pub mod Limits
 pub mod Links
@@ -25,7 +27,7 @@ pub mod Parity
 pub mod Printed
 pub mod Problem
 pub mod RenamedNodes
-pub mod SourceWalks
 pub mod Singles
+pub mod SourceWalks
 pub mod Steps
 pub mod Turns

@@ -1,20 +1,21 @@
 -- What every problem that is solved keeps, and the problem of a whole graph.
-use Rattle.std.specs.Prelude.{ℕ, ◌≡◌, ◌≢◌, ◌<◌, ◌≤◌, ◌%◌, ◌^◌, ◌&&◌, Bool, true, false, not, nat_lt, List, [], length, All, filter}
+use Rattle.std.specs.Prelude.{ℕ, ◌≡◌, ◌≢◌, ◌<◌, ◌≤◌, ◌%◌, ◌&&◌, Bool, true, false, not, nat_lt, List, [], length, All, filter}
 use Rattle.std.specs.List.{range_with_len}
 use Rattle.std.specs.List.Sorted.{IsStrictlyIncreasing}
 use Rattle.fb_graph.specs.Parity.{is_in}
 use Rattle.fb_graph.specs.Problem.{Problem, with_defects}
+use Rattle.fb_graph.specs.declared.graph.TheConstants.{MOST_VERTICES, MOST_EDGES, MOST_WEIGHT}
 use Rattle.fb_graph.specs.declared.parts.Edge.{Edge}
 
--- the most vertices and edges of a graph, and the greatest weight
+-- the most vertices and edges of a graph, and the greatest weight: the constants that `Graph::build` tests
 abbrev pub most_vertices : ℕ
-most_vertices = 2 ^ 20
+most_vertices = MOST_VERTICES
 
 abbrev pub most_edges : ℕ
-most_edges = 2 ^ 22
+most_edges = MOST_EDGES
 
 abbrev pub most_weight : ℕ
-most_weight = 2 ^ 30
+most_weight = MOST_WEIGHT
 
 -- two different ends in range, and an even weight within its limit
 pub record IsEdge (vertices : ℕ) (e : Edge) : Type 0 where
@@ -44,18 +45,18 @@ is_real_in g v = nat_lt v g.vertices && not (is_in g.virtuals v)
 abbrev pub detectors_of : DecodingGraph → List ℕ
 detectors_of g = filter (λ v. not (is_in g.virtuals v)) (range_with_len 0 g.vertices)
 
--- What one run of an experiment reports: its defects. What may change a shot's weights will stand beside them.
+-- What one run of an experiment reports: its defects. Weights of its own would be a further field.
 pub record ShotValue : Type 0 where
   pub defects : List ℕ
 
 abbrev pub no_shot : ShotValue
 no_shot = record { defects = [] }
 
--- A problem in which this shot was seen. This is the one place where a shot meets its graph.
+-- The problem with the defects of this shot. Nowhere else does a shot meet its graph.
 abbrev pub with_shot : Problem → ShotValue → Problem
 with_shot p shot = with_defects p shot.defects
 
--- the whole graph as a problem, in which this shot was seen
+-- the whole graph as a problem, with the defects of this shot
 abbrev pub problem_of : DecodingGraph → ShotValue → Problem
 problem_of g shot = with_shot
     (record { vertices = g.vertices; edges = g.edges; is_real = is_real_in g; is_defect = λ v. false }) shot

@@ -32,7 +32,7 @@ ArePartedBy cuts u v = load_of cuts (pair u v) ≡ height_of cuts u + height_of 
 abbrev pub PartedFromLow : Type 0
 PartedFromLow = (cuts : List Cut) (u v : ℕ) → height_of cuts v ≡ 0 → ArePartedBy cuts u v
 
--- Where two nodes meet over an edge without residue, the two source walks and the edge make a tight link.
+-- If two nodes meet over a tight edge, the two source walks and the edge make a tight link.
 abbrev pub MeetingTight : Type 0
 MeetingTight = (p : Problem) (cuts : List Cut) (walk back : List ℕ) (k d u v c : ℕ) → IsSourceWalk p cuts walk d u
     → IsSourceWalk p cuts back c v → k < length p.edges → Leads (edge_at p.edges k) u v
@@ -57,7 +57,7 @@ JoinedTight = (p : Problem) (cuts : List Cut) (l m : Link) → IsTightLink p cut
     → l.to ≡ m.from → height_of cuts l.to ≡ 0 → ArePartedBy cuts l.from m.to
     → IsTightLink p cuts (record { from = l.from; to = m.to; walk = l.walk ++ m.walk })
 
--- A layer without value may come or go, as where nodes are joined or split, a vertex absorbed or a layer taken off.
+-- A layer without value may come or go, as when nodes are joined or split, a vertex absorbed or a layer taken off.
 abbrev pub EmptyLayerLoads : Type 0
 EmptyLayerLoads = (cuts more : List Cut) (c : Cut) (e : Edge) → c.value ≡ 0
     → load_of (cuts ++ c ∷ more) e ≡ load_of (cuts ++ more) e
@@ -73,11 +73,11 @@ SourceStepped = (p : Problem) (roles : Roles) (nodes : List Node) (k : ℕ) (wal
     → AreRoles roles nodes → AllowShrinking roles nodes k → cover_of nodes d ≡ cover_of nodes u
     → IsSourceWalk p (all_cuts nodes) walk d u → IsSourceWalk p (all_cuts (stepped_nodes roles k nodes)) walk d u
 
--- where each edge of the problem weighs an even number
+-- each edge of the problem has an even weight
 abbrev pub AreEven : Problem → Type 0
 AreEven p = All (λ e. e.weight % 2 ≡ 0) p.edges
 
--- Then the defects of a tight link have potentials of one parity, and one that is linked to the boundary an even one.
+-- Then the defects of a tight link have potentials of one parity, and a defect linked to the boundary an even one.
 abbrev pub LinkParity : Type 0
 LinkParity = (p : Problem) (cuts : List Cut) (l : Link) → AreEven p → IsTightLink p cuts l
     → ArePartedBy cuts l.from l.to
@@ -87,7 +87,7 @@ abbrev pub BoundaryParity : Type 0
 BoundaryParity = (p : Problem) (cuts : List Cut) (l : Link) → AreEven p → IsTightLink p cuts l → height_of cuts l.to ≡ 0
     → height_of cuts l.from % 2 ≡ 0
 
--- So have the ends of an edge without residue.
+-- So have the ends of a tight edge.
 abbrev pub MeetingParity : Type 0
 MeetingParity = (cuts : List Cut) (e : Edge) → e.weight % 2 ≡ 0 → load_of cuts e ≡ e.weight
     → load_of cuts e ≡ height_of cuts e.first + height_of cuts e.second

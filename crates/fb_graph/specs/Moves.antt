@@ -70,7 +70,7 @@ pub record MaySplit (nodes : List Node) (name : ℕ) : Type 0 where
 abbrev pub NestSplit : Type 0
 NestSplit = (p : Problem) (nodes : List Node) (name : ℕ) → MaySplit nodes name → IsNest p nodes → IsNest p (split_nodes name nodes)
 
--- edge k has no residue, and leads from a vertex under the outer node of this name to an uncovered real one
+-- edge k is tight, and leads from a vertex under the outer node of this name to an uncovered real one
 pub record MayAbsorb (p : Problem) (nodes : List Node) (name k u v : ℕ) : Type 0 where
   pub within : k < length p.edges
   pub leads : Leads (edge_at p.edges k) u v
@@ -93,7 +93,7 @@ abbrev pub NestUncovered : Type 0
 NestUncovered = (p : Problem) (nodes : List Node) (name : ℕ) → MayUncover nodes name → IsNest p nodes
     → IsNest p (uncovered_nodes name nodes)
 
--- A step keeps it where some edge leaves each plus node's set.
+-- A step keeps it if some edge leaves each plus node's set.
 abbrev pub NestStepped : Type 0
 NestStepped = (p : Problem) (roles : Roles) (nodes : List Node) (k : ℕ) → IsWithinLimits p → AreRoles roles nodes
     → All (λ n. roles.is_plus n.name ≡ true → IsCrossed p n.top.vertices) nodes → MayStep p roles nodes k

@@ -1,16 +1,9 @@
 -- From what a solver found to the row that a report prints.
-use Rattle.std.specs.Prelude.{ℕ, ◌≡◌, ◌≢◌, ◌≤◌, Bool, List, filter, nat_lt, sum_by}
+use Rattle.std.specs.Prelude.{ℕ, ◌≡◌, ◌≢◌, Bool, List, filter, nat_lt}
 use Rattle.std.specs.List.{AllZip}
-use Rattle.std.specs.List.Sorted.{IsPermutation, IsNonDecreasing, IsStrictlyIncreasing}
-use Rattle.fb_graph.specs.Parity.{is_odd_count, is_in}
+use Rattle.std.specs.List.Sorted.{IsPermutation, IsNonDecreasing}
+use Rattle.fb_graph.specs.Parity.{is_in}
 use Rattle.fb_graph.specs.declared.parts.Cut.{Cut}
-
--- The second list has, rising, the numbers that occur an odd number of times in the first. Pairs of equal
--- numbers have gone, so each parity stays.
-pub record CancelsTo (numbers odd_ones : List ℕ) : Type 0 where
-  pub rising : IsStrictlyIncreasing odd_ones
-  pub parity : (test : ℕ → Bool) → is_odd_count test odd_ones ≡ is_odd_count test numbers
-  pub weight : (f : ℕ → ℕ) → sum_by f odd_ones ≤ sum_by f numbers
 
 -- some vertex lies in exactly one of the two cuts
 abbrev pub DifferAsSets : Cut → Cut → Type 0

@@ -1,5 +1,5 @@
 -- The problem of minimum-weight decoding (Edmonds and Johnson 1973, as T-joins; Wu and Zhong 2023): which edges
--- to choose so that each real vertex has an odd number of chosen edges exactly where it is a defect.
+-- to choose so that each real vertex has an odd number of chosen edges if and only if it is a defect.
 use Rattle.std.specs.Prelude.{ℕ, ◌≡◌, ◌<◌, ◌==◌, Bool, true, List, length, All, sum_by, get_or}
 use Rattle.std.specs.List.Sorted.{IsStrictlyIncreasing}
 use Rattle.fb_graph.specs.Parity.{differ, is_odd_count, is_in}
@@ -33,7 +33,7 @@ pub record IsEdgeSet (p : Problem) (chosen : List ℕ) : Type 0 where
   pub rising : IsStrictlyIncreasing chosen
   pub within : All (λ k. k < length p.edges) chosen
 
--- the edge set is a correction: at each real vertex, an odd number of its edges exactly where it is a defect
+-- the edge set is a correction: a real vertex has an odd number of its edges if and only if it is a defect
 abbrev pub Flips : Problem → List ℕ → Type 0
 Flips p chosen = (v : ℕ) → p.is_real v ≡ true
     → is_odd_count (λ k. touches v (edge_at p.edges k)) chosen ≡ p.is_defect v

@@ -1,4 +1,4 @@
--- Nodes under other names, as where two parts of a problem become one and their names would clash.
+-- Nodes under other names, as when two parts of a problem become one and their names would clash.
 use Rattle.std.specs.Prelude.{ℕ, ◌≡◌, true, List, map, option_map}
 use Rattle.fb_graph.specs.Problem.{Problem}
 use Rattle.fb_graph.specs.Dual.{Node, cover_of, is_live, is_outer}

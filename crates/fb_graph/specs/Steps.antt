@@ -63,7 +63,7 @@ abbrev pub PackingStepped : Type 0
 PackingStepped = (p : Problem) (roles : Roles) (nodes : List Node) (k : ℕ) → AreExclusive roles
     → IsPacking p (all_cuts nodes) → MayStep p roles nodes k → IsPacking p (all_cuts (stepped_nodes roles k nodes))
 
--- Two steps are allowed one after the other where one by both lengths is.
+-- If two steps are allowed one after the other, so is one by both lengths.
 abbrev pub StepsAdd : Type 0
 StepsAdd = (p : Problem) (roles : Roles) (nodes : List Node) (k j : ℕ) → AreExclusive roles
     → MayStep p roles nodes k → MayStep p roles (stepped_nodes roles k nodes) j → MayStep p roles nodes (k + j)

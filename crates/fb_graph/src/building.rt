@@ -4,16 +4,16 @@ ghost use Rattle.std.specs.Prelude.{◌≡◌, ◌≢◌, ℕ, ◌+◌, ◌<◌,
 ghost use Rattle.std.specs.List.{range_with_len};
 ghost use Rattle.std.specs.Bool.{beq};
 ghost use Rattle.fb_graph.specs.Parity.{is_in};
-ghost use Rattle.fb_graph.specs.Layout.{edges_at, with_edge};
+ghost use Rattle.fb_graph.specs.Adjacency.{edges_at};
+ghost use Rattle.fb_graph.specs.InternalLayout.{with_edge};
 ghost use Rattle.fb_graph.specs.Limits.{IsEdge, most_edges, most_vertices};
 ghost use Rattle.fb_graph.specs.GraphRules.{edge_fault, edges_fault, virtuals_fault, edge_from};
 
 use crate::faults::{GraphFault, NoMemory};
+use crate::graph::MOST_WEIGHT;
 use crate::lists::NumberList;
 use crate::parts::Edge;
 use std::alloc::Global;
-
-const MOST_WEIGHT: i128 = 1 << 30;
 
 /// The first rule that edge `i` breaks in a graph of `n` vertices.
 pub fn judge_edge(n: u32, i: usize, edge: (u64, u64, i128)) -> Option<GraphFault>
@@ -27,7 +27,7 @@ pub fn judge_edge(n: u32, i: usize, edge: (u64, u64, i128)) -> Option<GraphFault
         Some(GraphFault::SelfLoop(place))
     } else if weight.unsigned_abs() % 2 == 1 {
         Some(GraphFault::OddWeight(place))
-    } else if MOST_WEIGHT < weight {
+    } else if weight > i128::from(MOST_WEIGHT) {
         Some(GraphFault::WeightTooLarge(place))
     } else if weight < 0 {
         Some(GraphFault::NegativeWeight(place))
@@ -68,19 +68,13 @@ pub fn build_edges(
 {
     let mut built = Vec::new(alloc);
     for (i, edge) in edges.iter().enumerate() {
-        match checked_edge(n, i, *edge) {
-            Ok(edge) => {
-                if built.push(edge).is_err() {
-                    return Err(GraphFault::NoMemory);
-                }
-            }
-            Err(fault) => return Err(fault),
-        }
+        let edge = checked_edge(n, i, *edge)?;
+        built.push(edge)?;
     }
     Ok(built)
 }
 
-/// A flag for each vertex, set where it is virtual, or the first rule that a virtual vertex breaks.
+/// A flag for each vertex, set if it is virtual, or the first rule that a virtual vertex breaks.
 #[tactic(auto, using(crate::proofs::BuildSteps::flag_steps))]
 pub fn mark_virtuals(alloc: Global, n: u32, virtuals: &[u64]) -> Result<Vec<bool>, GraphFault>
     ensures good { IfOk result (λ v. virtuals_fault n [] 0 virtuals.now ≡ None) }
@@ -89,9 +83,7 @@ pub fn mark_virtuals(alloc: Global, n: u32, virtuals: &[u64]) -> Result<Vec<bool
     ensures below { IfOk result (λ v. All (λ u. u < n) virtuals.now) }
     ensures err { IfErr result (λ e. e ≢ GraphFault.NoMemory → virtuals_fault n [] 0 virtuals.now ≡ Some e) }
 {
-    let Ok(mut flags) = vec![in alloc; false; n as usize] else {
-        return Err(GraphFault::NoMemory);
-    };
+    let mut flags = vec![in alloc; false; n as usize]?;
     for (i, vertex) in virtuals.iter().enumerate() {
         if u64::from(n) <= *vertex {
             return Err(GraphFault::VirtualOutOfRange(i as u64));
@@ -106,40 +98,28 @@ pub fn mark_virtuals(alloc: Global, n: u32, virtuals: &[u64]) -> Result<Vec<bool
 
 /// The numbers of the vertices whose flag is as wanted, rising.
 #[tactic(auto, using(crate::proofs::BuildSteps::range_steps))]
-pub fn vertices_flagged(
-    alloc: Global,
-    flags: &[bool],
-    wanted: bool,
-) -> Result<NumberList, GraphFault>
+pub fn vertices_flagged(alloc: Global, flags: &[bool], wanted: bool) -> Result<NumberList, NoMemory>
     requires { length flags.now ≤ most_vertices }
-    ensures ok { IfOk result (λ v. v ≡ filter (λ k. beq (get_or flags.now k false) wanted) (range_with_len 0 (length flags.now))) }
-    ensures err { IfErr result (λ e. e ≡ GraphFault.NoMemory) }
+    ensures { IfOk result (λ v. v ≡ filter (λ k. beq (get_or flags.now k false) wanted) (range_with_len 0 (length flags.now))) }
 {
     let mut found = NumberList::from_vec(Vec::new(alloc));
     for (vertex, flag) in flags.iter().enumerate() {
-        if found.push_if(*flag == wanted, vertex as u32).is_err() {
-            return Err(GraphFault::NoMemory);
-        }
+        found.push_if(*flag == wanted, vertex as u32)?;
     }
     Ok(found)
 }
 
 /// For each vertex the numbers of the edges at it, rising.
 #[tactic(auto, using(crate::proofs::BuildSteps::adjacent_steps))]
-pub fn edges_by_vertex(alloc: Global, n: u32, edges: &[Edge]) -> Result<Vec<NumberList>, GraphFault>
+pub fn edges_by_vertex(alloc: Global, n: u32, edges: &[Edge]) -> Result<Vec<NumberList>, NoMemory>
     requires count { length edges.now ≤ most_edges }
     requires each { All (IsEdge n) edges.now }
     ensures len { IfOk result (λ v. length v.items ≡ n) }
     ensures each { IfOk result (λ a. (v : ℕ) → v < n → get_or a.items v [] ≡ edges_at edges.now (length edges.now) v) }
-    ensures err { IfErr result (λ e. e ≡ GraphFault.NoMemory) }
 {
-    let Ok(mut adjacent) = empty_lists(alloc, n) else {
-        return Err(GraphFault::NoMemory);
-    };
+    let mut adjacent = empty_lists(alloc, n)?;
     for (k, edge) in edges.iter().enumerate() {
-        if put_edge(&mut adjacent, *edge, k as u32).is_err() {
-            return Err(GraphFault::NoMemory);
-        }
+        put_edge(&mut adjacent, *edge, k as u32)?;
     }
     Ok(adjacent)
 }
@@ -156,17 +136,14 @@ fn put_edge(adjacent: &mut Vec<NumberList>, edge: Edge, k: u32) -> Result<(), No
     Ok(())
 }
 
-/// So many empty lists.
-fn empty_lists(alloc: Global, n: u32) -> Result<Vec<NumberList>, GraphFault>
+/// A list of `n` empty lists.
+fn empty_lists(alloc: Global, n: u32) -> Result<Vec<NumberList>, NoMemory>
     ensures len { IfOk result (λ v. length v.items ≡ n) }
     ensures each { IfOk result (λ a. (v : ℕ) → v < n → get_or a.items v [] ≡ []) }
-    ensures err { IfErr result (λ e. e ≡ GraphFault.NoMemory) }
 {
     let mut lists = Vec::new(alloc);
     for i in 0..n {
-        if lists.push(NumberList::from_vec(Vec::new(alloc))).is_err() {
-            return Err(GraphFault::NoMemory);
-        }
+        lists.push(NumberList::from_vec(Vec::new(alloc)))?;
     }
     Ok(lists)
 }

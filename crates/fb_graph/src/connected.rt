@@ -5,9 +5,9 @@ ghost use Rattle.std.specs.List.{reduce};
 ghost use Rattle.fb_graph.specs.Components.{IsFirstOdd};
 ghost use Rattle.fb_graph.specs.Limits.{IsShotIn, with_shot};
 ghost use Rattle.fb_graph.specs.Laws.{HasNoOddClosed};
-ghost use Rattle.fb_graph.specs.Labelling.{AreClear, AreOdd, AreOf, odd_labels};
+ghost use Rattle.fb_graph.specs.InternalLabelling.{AreClear, AreOdd, AreOf, odd_labels};
 
-use crate::scope_of::Scope;
+use crate::scope::Scope;
 use crate::shot::Shot;
 use std::marker::Model;
 
@@ -25,7 +25,7 @@ pub struct Components<S: Scope> {
 }
 
 impl<S: Scope> Model for Components<S> {
-    ghost use Rattle.fb_graph.specs.Labelling.{IsServed};
+    ghost use Rattle.fb_graph.specs.InternalLabelling.{IsServed};
 
     ghost Value = { S };
 
@@ -37,12 +37,12 @@ impl<S: Scope> Model for Components<S> {
 }
 
 /// The least vertex of the first component, by least vertex, that has no boundary vertex and an odd number of the
-/// shot's defects; `None` where there is none. It takes no memory, and time linear in the number of defects.
+/// shot's defects; `None` if there is none. It takes no memory, and time linear in the number of defects.
 pub fn first_odd<S: Scope>(parts: &mut Components<S>, shot: &Shot) -> Option<u32>
     requires { IsShotIn (S.problem parts.old) shot.now }
     ensures first { IsFirstOdd (with_shot (S.problem parts.old) shot.now) result }
     ensures closed { IfNone result (HasNoOddClosed (with_shot (S.problem parts.old) shot.now)) }
-    ensures same { parts.new ≡ parts.old }
+    ensures unchanged { parts.new ≡ parts.old }
 {
     let defects = shot.as_slice();
     let labels = parts.labels.as_slice();
@@ -83,7 +83,7 @@ fn least_odd(labels: &[u32], bounded: &[bool], odd: &[bool], defects: &[u32]) ->
         .min()
 }
 
-/// Clears the flags of the defects' labels, where no other flags are set.
+/// Clears the flags of the defects' labels. No other flags are set.
 fn clear_counts(labels: &[u32], odd: &mut [bool], defects: &[u32])
     requires room { length odd.old ≡ length labels.now }
     requires labels { All (λ label. label < length labels.now) labels.now }

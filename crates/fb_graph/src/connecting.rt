@@ -1,14 +1,14 @@
 //! The components of a scope, found by a search from each vertex in rising order.
 
 ghost use Rattle.std.specs.Prelude.{◌≡◌, ◌+◌, ◌<◌, ◌≤◌, length, IfOk, OnOk};
-ghost use Rattle.fb_graph.specs.Flooding.{Grows, IsFlooding, with_ends};
-ghost use Rattle.fb_graph.specs.Labelling.{IsBounded, IsLabelling};
+ghost use Rattle.fb_graph.specs.InternalFlooding.{Grows, IsFlooding, with_ends};
+ghost use Rattle.fb_graph.specs.InternalLabelling.{IsBounded, IsLabelling};
 
 use crate::connected::Components;
 use crate::faults::NoMemory;
-use crate::flooding::Flood;
-use crate::network::Graph;
-use crate::scope_of::Scope;
+use crate::flood::Flood;
+use crate::graph::Graph;
+use crate::scope::Scope;
 use crate::whole::Whole;
 use std::alloc::Global;
 
@@ -104,7 +104,7 @@ fn reach_ends<S: Scope>(scope: &S, flood: &mut Flood, edge: u32, label: u32) -> 
     Ok(())
 }
 
-/// A flag for each label, set where some vertex of it is boundary.
+/// A flag for each label, set if some vertex of it is boundary.
 fn mark_bounded<S: Scope>(alloc: Global, scope: &S, labels: &[u32]) -> Result<Vec<bool>, NoMemory>
     requires { IsLabelling (S.problem scope.now) labels.now }
     ensures { IfOk result (λ v. IsBounded (S.problem scope.now) labels.now v.items) }

@@ -1,9 +1,10 @@
 ghost use Rattle.std.specs.Prelude.{◌≡◌};
 ghost use Rattle.fb_graph.specs.FaultTexts.{fault_name, fault_number};
 
+use std::alloc::AllocFailed;
 use thiserror::Error;
 
-/// Want of memory, where it is the only error: what the standard library's own allocating calls return.
+/// Memory ran out. It is the error of calls that fail in no other way, as of the standard library's allocating calls.
 pub use std::alloc::AllocError as NoMemory;
 
 /// Why numbers or a text make no decoding graph. A place is counted from 0.
@@ -33,8 +34,31 @@ pub enum GraphFault {
     NoMemory,
 }
 
+impl From<NoMemory> for GraphFault {
+    ghost use Rattle.std.specs.Prelude.{◌≡◌};
+    ghost use Rattle.fb_graph.specs.declared.faults.GraphFault.{GraphFault};
+
+    ghost from_gives = { λ _ fault. fault ≡ GraphFault.NoMemory };
+
+    fn from(_: NoMemory) -> GraphFault {
+        GraphFault::NoMemory
+    }
+}
+
+/// So that a push's error converts too. The value that was to be pushed is dropped.
+impl<T: Drop> From<AllocFailed<T>> for GraphFault {
+    ghost use Rattle.std.specs.Prelude.{◌≡◌};
+    ghost use Rattle.fb_graph.specs.declared.faults.GraphFault.{GraphFault};
+
+    ghost from_gives = { λ _ fault. fault ≡ GraphFault.NoMemory };
+
+    fn from(_: AllocFailed<T>) -> GraphFault {
+        GraphFault::NoMemory
+    }
+}
+
 impl GraphFault {
-    /// What it is called where it is printed.
+    /// The name under which it is printed.
     pub fn name(self) -> &'static str
         ensures { result.now ≡ fault_name self }
     {
@@ -52,7 +76,7 @@ impl GraphFault {
         }
     }
 
-    /// The number of its place, where it has one: an edge's, or a place in the list of virtual vertices.
+    /// Its place, if it has one: the number of an edge, or a place in the list of virtual vertices.
     pub fn number(self) -> Option<u64>
         ensures { result ≡ fault_number self }
     {

@@ -43,12 +43,12 @@ pub fn packings_of_parts()
     ensures joined { PackingsJoined }
 {}
 
-/// Of a walk's edges an odd number end at a vertex exactly where just one of the walk's own ends is there.
+/// An odd number of a walk's edges end at a vertex if and only if exactly one of the walk's own ends is there.
 pub fn walk_parity()
     ensures { WalkParity }
 {}
 
-/// The numbers that stand in a list an odd number of times are a strictly rising list below the bound, of the list's
+/// The numbers that occur in a list an odd number of times are a strictly rising list below the bound, of the list's
 /// parity for every test and of at most its weight for all weights.
 pub fn odd_occurrences()
     ensures rise { OddOnesRise }
@@ -61,8 +61,8 @@ pub fn resolving()
     ensures { Resolving }
 {}
 
-/// Where no component without boundary holds an odd number of defects, no set of real vertices that no edge leaves
-/// does, and the other way round.
+/// If no component without boundary holds an odd number of defects, neither does any set of real vertices that no edge
+/// leaves, and the other way round.
 pub fn no_odd_component()
     ensures closed { NoOddComponent }
     ensures component { NoOddClosedSet }

@@ -6,13 +6,13 @@ mod building;
 pub mod connected;
 pub mod connecting;
 pub mod faults;
-mod flooding;
+mod flood;
+pub mod graph;
 pub mod laws;
 pub mod lists;
-pub mod network;
 pub mod parts;
 pub mod printed;
-pub mod scope_of;
+pub mod scope;
 pub mod shot;
 pub mod steps;
 pub mod whole;
@@ -20,15 +20,15 @@ pub mod whole;
 pub use connected::{Components, first_odd};
 pub use connecting::{components, components_of};
 pub use faults::{GraphFault, NoMemory};
+pub use graph::{Graph, MOST_VERTICES};
 pub use laws::{
     closed_odd_set, least_weight, no_odd_closed_set, no_odd_component, odd_has_no_correction,
     odd_occurrences, packings_of_parts, resolving, walk_parity, weak_duality,
 };
 pub use lists::{CutList, NumberList};
-pub use network::{Graph, MOST_VERTICES};
 pub use parts::{Cut, Edge, Row};
 pub use printed::{odd_ones, printed_cuts};
-pub use scope_of::Scope;
+pub use scope::Scope;
 pub use shot::Shot;
 pub use steps::Steps;
 pub use whole::Whole;

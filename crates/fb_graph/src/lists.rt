@@ -19,25 +19,28 @@ impl Model for NumberList {
 }
 
 impl NumberList {
+    /// The list of these numbers.
     pub fn from_vec(numbers: Vec<u32>) -> NumberList
         ensures { result ≡ numbers.items }
     {
         NumberList { numbers }
     }
 
+    /// Its numbers, without a copy.
     pub fn into_vec(self) -> Vec<u32>
         ensures { result.items ≡ self }
     {
         self.numbers
     }
 
+    /// Its numbers.
     pub fn as_slice(&self) -> &[u32]
         ensures { result.now ≡ self.now }
     {
         self.numbers.as_slice()
     }
 
-    /// Adds a number at the end where it is wanted.
+    /// Adds a number at the end if it is wanted.
     pub fn push_if(&mut self, is_wanted: bool, number: u32) -> Result<(), NoMemory>
         ensures ok { OnOk result (self.new ≡ self.old ++ (if is_wanted then number ∷ [] else [])) }
         ensures err { OnErr result (self.new ≡ self.old) }
@@ -70,18 +73,21 @@ impl Model for CutList {
 }
 
 impl CutList {
+    /// The list of these cuts.
     pub fn from_vec(cuts: Vec<Cut>) -> CutList
         ensures { result ≡ cuts.items }
     {
         CutList { cuts }
     }
 
+    /// Its cuts, without a copy.
     pub fn into_vec(self) -> Vec<Cut>
         ensures { result.items ≡ self }
     {
         self.cuts
     }
 
+    /// Its cuts.
     pub fn as_slice(&self) -> &[Cut]
         ensures { result.now ≡ self.now }
     {

@@ -1,6 +1,6 @@
 use crate::lists::{CutList, NumberList};
 
-/// An edge between two vertices. Its weight is that of the error that it stands for.
+/// An edge between two vertices: an error that flips the detectors at both, and its weight.
 #[derive(Clone, Copy, Debug, PartialEq, Eq)]
 pub struct Edge {
     pub first: u32,
@@ -16,7 +16,7 @@ pub struct Cut {
     pub vertices: NumberList,
 }
 
-/// The answer to one shot.
+/// The result for one shot.
 #[derive(Debug, Drop)]
 pub enum Row {
     /// A correction, its weight, and cuts whose values add up to it.

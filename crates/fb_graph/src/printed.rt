@@ -6,7 +6,8 @@ ghost use Rattle.std.specs.List.Sorted.{IsNonDecreasing, IsStrictlyIncreasing};
 ghost use Rattle.fb_graph.specs.Parity.{is_odd_count, is_in};
 ghost use Rattle.fb_graph.specs.Problem.{Problem};
 ghost use Rattle.fb_graph.specs.Certificate.{IsOddCut, IsPrintedCut, AreRising, load_of, total_value};
-ghost use Rattle.fb_graph.specs.Printed.{CancelsTo, DifferAsSets, HasPositiveCuts, IsResorted};
+ghost use Rattle.fb_graph.specs.InternalCancelledPairs.{CancelsTo};
+ghost use Rattle.fb_graph.specs.Printed.{DifferAsSets, HasPositiveCuts, IsResorted};
 ghost use Rattle.fb_graph.specs.declared.parts.Edge.{Edge};
 
 use crate::lists::{CutList, NumberList};
@@ -30,7 +31,7 @@ pub fn odd_ones(mut numbers: Vec<u32>) -> NumberList
     NumberList::from_vec(numbers)
 }
 
-/// Leaves at the front, once each, the numbers that occur an odd number of times, and says how many they are.
+/// Moves the numbers that occur an odd number of times to the beginning, once each, and returns their count.
 fn cancel_pairs(numbers: &mut [u32]) -> usize
     requires { IsNonDecreasing numbers.old }
     ensures short { result ≤ length numbers.old }
@@ -75,7 +76,7 @@ fn sort_each(alloc: Global, cuts: &mut [Cut])
     }
 }
 
-/// Sorts the vertices of a cut in their place. The list that stands in for them meanwhile takes no memory.
+/// Sorts the vertices of a cut in place. The empty list that replaces them meanwhile takes no memory.
 fn sort_vertices(alloc: Global, cut: &mut Cut)
     ensures { IsResorted cut.old cut.new }
 {

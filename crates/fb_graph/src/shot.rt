@@ -4,8 +4,8 @@ ghost use Rattle.fb_graph.specs.Certificate.{AreDistinct};
 ghost use Rattle.fb_graph.specs.Limits.{IsShot, is_real_in, most_vertices};
 
 use crate::faults::NoMemory;
+use crate::graph::Graph;
 use crate::lists::NumberList;
-use crate::network::Graph;
 use std::alloc::Global;
 use std::marker::Model;
 

@@ -3,8 +3,8 @@ ghost use Rattle.std.specs.List.{range_with_len};
 ghost use Rattle.fb_graph.specs.Problem.{edge_at, touches};
 ghost use Rattle.fb_graph.specs.Limits.{no_shot, problem_of};
 
-use crate::network::Graph;
-use crate::scope_of::Scope;
+use crate::graph::Graph;
+use crate::scope::Scope;
 
 /// The sub-problem of everything: a whole graph as a scope.
 #[derive(Clone, Copy)]

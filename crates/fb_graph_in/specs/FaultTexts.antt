@@ -1,4 +1,4 @@
--- What a fault of a graph's text is called where it is printed, and its place: a word, a number, both or neither.
+-- What is printed of a fault of a graph's text: its name, and its place, which is a word, a number, both or neither.
 use Rattle.std.specs.Prelude.{ℕ, List, codes, Option, Some, None}
 use Rattle.fb_graph.specs.FaultTexts.{fault_name as rule_name, fault_number as rule_number}
 use Rattle.fb_graph_in.specs.declared.faults.Member.{Member}

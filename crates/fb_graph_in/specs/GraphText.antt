@@ -6,7 +6,7 @@ use Rattle.serde_json.specs.Find.{get, as_array, as_integer, as_number}
 use Rattle.fb_graph.specs.GraphRules.{graph_of}
 use Rattle.fb_graph.specs.Limits.{DecodingGraph}
 use Rattle.fb_graph.specs.declared.faults.GraphFault.{GraphFault}
-use Rattle.fb_graph_in.specs.JsonText.{most_bytes, with_option, with_result, value_of, natural_of, entries_by}
+use Rattle.fb_json.specs.JsonText.{most_bytes, with_option, with_result, value_of, natural_of, entries_by}
 use Rattle.fb_graph_in.specs.declared.faults.Member.TheVariants as member
 use Rattle.fb_graph_in.specs.declared.faults.Place.{Place}
 use Rattle.fb_graph_in.specs.declared.faults.Place.TheVariants as place

@@ -3,7 +3,7 @@
 ghost use Rattle.std.specs.Prelude.{◌≡◌, ◌≢◌, IfOk, IfErr};
 ghost use Rattle.serde_json.specs.View.{view, items_view};
 ghost use Rattle.fb_graph_in.specs.GraphText.{whole_of, edge_of, entries_of};
-ghost use Rattle.fb_graph_in.specs.JsonText.{natural_of};
+ghost use Rattle.fb_json.specs.JsonText.{natural_of};
 
 use crate::faults::{Place, TextFault};
 use serde_json::Value;
@@ -36,16 +36,12 @@ pub fn edges(alloc: Global, values: &[Value]) -> Result<Vec<(u64, u64, i128)>, T
     ensures err { IfErr result (λ e. e ≢ TextFault.NoMemory
         → entries_of edge_of Place.Edge 0 (items_view values.now) ≡ Err e) }
 {
-    let Ok(mut found) = Vec::with_capacity(alloc, values.len()) else {
-        return Err(TextFault::NoMemory);
-    };
+    let mut found = Vec::with_capacity(alloc, values.len())?;
     for (i, value) in values.iter().enumerate() {
         let Some(entry) = edge(value) else {
             return Err(TextFault::NotWhole(Place::Edge(i as u64)));
         };
-        if found.push(entry).is_err() {
-            return Err(TextFault::NoMemory);
-        }
+        found.push(entry)?;
     }
     Ok(found)
 }
@@ -56,16 +52,12 @@ pub fn virtuals(alloc: Global, values: &[Value]) -> Result<Vec<u64>, TextFault>
     ensures err { IfErr result (λ e. e ≢ TextFault.NoMemory
         → entries_of natural_of Place.Virtual 0 (items_view values.now) ≡ Err e) }
 {
-    let Ok(mut found) = Vec::with_capacity(alloc, values.len()) else {
-        return Err(TextFault::NoMemory);
-    };
+    let mut found = Vec::with_capacity(alloc, values.len())?;
     for (i, value) in values.iter().enumerate() {
         let Some(entry) = value.as_u64() else {
             return Err(TextFault::NotWhole(Place::Virtual(i as u64)));
         };
-        if found.push(entry).is_err() {
-            return Err(TextFault::NoMemory);
-        }
+        found.push(entry)?;
     }
     Ok(found)
 }

@@ -1,7 +1,8 @@
 ghost use Rattle.std.specs.Prelude.{◌≡◌, option_map};
 ghost use Rattle.fb_graph_in.specs.FaultTexts.{fault_name, fault_number, fault_place, member_name, member_of};
 
-use fb_graph::GraphFault;
+use fb_graph::{GraphFault, NoMemory};
+use std::alloc::AllocFailed;
 
 /// Why a text is no decoding graph.
 #[derive(Clone, Copy, Debug, PartialEq, Eq)]
@@ -12,11 +13,11 @@ pub enum TextFault {
     NotJson,
     /// The value is no object, or lacks this member.
     Missing(Member),
-    /// What stands at this place has not the form that it must have.
+    /// The value at this place is not of its form.
     NotWhole(Place),
-    /// The numbers break this rule of a graph. It is never the want of memory.
+    /// The numbers break this rule of a graph, which is never `GraphFault::NoMemory`.
     Graph(GraphFault),
-    /// Want of memory.
+    /// Memory ran out.
     NoMemory,
 }
 
@@ -43,8 +44,31 @@ pub enum Place {
     Virtual(u64),
 }
 
+impl From<NoMemory> for TextFault {
+    ghost use Rattle.std.specs.Prelude.{◌≡◌};
+    ghost use Rattle.fb_graph_in.specs.declared.faults.TextFault.{TextFault};
+
+    ghost from_gives = { λ _ fault. fault ≡ TextFault.NoMemory };
+
+    fn from(_: NoMemory) -> TextFault {
+        TextFault::NoMemory
+    }
+}
+
+/// So that a push's error converts too. The value that was to be pushed is dropped.
+impl<T: Drop> From<AllocFailed<T>> for TextFault {
+    ghost use Rattle.std.specs.Prelude.{◌≡◌};
+    ghost use Rattle.fb_graph_in.specs.declared.faults.TextFault.{TextFault};
+
+    ghost from_gives = { λ _ fault. fault ≡ TextFault.NoMemory };
+
+    fn from(_: AllocFailed<T>) -> TextFault {
+        TextFault::NoMemory
+    }
+}
+
 impl TextFault {
-    /// What it is called where it is printed.
+    /// The name that is printed.
     pub fn name(self) -> &'static str
         ensures { result.now ≡ fault_name self }
     {
@@ -58,7 +82,7 @@ impl TextFault {
         }
     }
 
-    /// The word of its place, where it has one.
+    /// The word of its place, if it has one.
     pub fn place(self) -> Option<&'static str>
         ensures { option_map (λ s. s.now) result ≡ fault_place self }
     {
@@ -70,7 +94,7 @@ impl TextFault {
         }
     }
 
-    /// The number of its place, where it has one: that of an entry, or the one of the rule that is broken.
+    /// The number of its place, if it has one: that of an entry, or that of the rule that is broken.
     pub fn number(self) -> Option<u64>
         ensures { result ≡ fault_number self }
     {

@@ -8,5 +8,4 @@ mod numbers;
 pub mod reader;
 
 pub use faults::{Member, Place, TextFault};
-pub use numbers::MOST_TEXT_BYTES;
 pub use reader::read_graph;

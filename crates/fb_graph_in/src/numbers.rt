@@ -6,11 +6,9 @@ ghost use Rattle.fb_graph_in.specs.GraphText.{numbers_of, numbers_of_text};
 
 use crate::entries::{edges, virtuals};
 use crate::faults::{Member, Place, TextFault};
+use fb_json::{MOST_TEXT_BYTES, NoValue, read_value};
 use serde_json::Value;
 use std::alloc::Global;
-
-/// The most bytes that the text of a graph or of a plan may have.
-pub const MOST_TEXT_BYTES: usize = 1 << 28;
 
 /// The numbers of a graph, before its rules are judged.
 #[derive(Drop)]
@@ -54,7 +52,6 @@ fn numbers_in(alloc: Global, value: &Value) -> Result<Numbers, TextFault>
 
 /// The numbers that a text has, or the first rule that it breaks. The JSON value, several times as large as they, is
 /// gone when they are given.
-#[tactic(auto, using(crate::proofs::Readings::readings))]
 pub fn read_numbers(alloc: Global, bytes: &[u8]) -> Result<Numbers, TextFault>
     ensures ok { IfOk result (λ n. numbers_of_text bytes.now ≡ Ok (n.vertex_num, n.edges.items, n.virtuals.items)) }
     ensures err { IfErr result (λ e. e ≢ TextFault.NoMemory → numbers_of_text bytes.now ≡ Err e) }
@@ -62,9 +59,9 @@ pub fn read_numbers(alloc: Global, bytes: &[u8]) -> Result<Numbers, TextFault>
     if bytes.len() > MOST_TEXT_BYTES {
         return Err(TextFault::TooLong);
     }
-    match Value::from_slice(alloc, bytes) {
+    match read_value(alloc, bytes) {
         Ok(value) => numbers_in(alloc, &value),
-        Err(error) if error.is_memory() => Err(TextFault::NoMemory),
-        Err(_) => Err(TextFault::NotJson),
+        Err(NoValue::NotJson) => Err(TextFault::NotJson),
+        Err(NoValue::NoMemory) => Err(TextFault::NoMemory),
     }
 }

@@ -25,7 +25,7 @@ use Rattle.fb_links.proofs.MovedLinks.{Table}
 abbrev pub firsts : List Match → List ℕ
 firsts ms = map (λ m. m.first) ms
 
--- what stands in two lists of which no number stands in both
+-- a number of the second of two lists without a common number is not in the first
 pub parted_left : (xs ys : List ℕ) (v : ℕ) → AreDistinct (xs ++ ys) → is_in ys v ≡ true → is_in xs v ≡ false
 parted_left xs ys v distinct within =
     false_from_ne_true (is_in xs v) (λ h. both_ways (is_in ys v) (distinct_across xs ys v distinct h) within)

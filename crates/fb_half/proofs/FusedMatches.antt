@@ -1,4 +1,4 @@
--- The matches and the links of a fusion's part as it begins, told by those of the children's parts.
+-- The matches and the links of a fusion's part as it begins, by those of the children's parts.
 use Rattle.std.proofs.Common.{ℕ, ◌≡◌, ◌&&◌, ◌||◌, ◌⊎◌, inl, inr, not, Bool, true, false, cond, List, [], ◌∷◌, ◌++◌, map, flat_map, Option, Some, None, refl, sym, ap, ◌∙◌, subst}
 use Rattle.std.specs.List.{filter}
 use Rattle.std.specs.List.Sorted.{IsPermutation}

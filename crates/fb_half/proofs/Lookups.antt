@@ -11,10 +11,10 @@ use Rattle.fb_half.specs.declared.matches.Match.{Match}
 use Rattle.fb_half.specs.declared.matches.Standing.{Standing}
 use Rattle.fb_half.specs.declared.matches.Standing.TheVariants.{Absent, Unmatched, Matched}
 use Rattle.fb_half.specs.InternalStandings.{AreStanding, has_name, is_name, no_match, standing_of}
-use Rattle.fb_half.specs.Matchings.{IsMatchAt, matched_names, names_of}
+use Rattle.fb_half.specs.Matchings.{matched_names, names_of}
 use Rattle.fb_half.specs.Standings.{is_matched, is_unmatched}
 
--- a name in the list stands at some place of it
+-- a name in the list is at some place in it
 pub place_in : (names : List ℕ) (name : ℕ) → is_in names name ≡ true → (i : ℕ) × (i < length names) × (is_name names i name ≡ true)
 place_in [] name h = absurd (both_ways (is_in [] name) refl h)
 place_in (n ∷ ns) name h = by_cases (place_in ns name) (n == name) refl
@@ -82,15 +82,15 @@ listed_matched matches names table name are = by_standing (standing_of table nam
     by_standing (Unmatched k) at = none (Unmatched k) at (λ i e. cc) (is_in (matched_names matches) name) refl
     by_standing (Matched i) at = let there = are.matched.true_to name i at in match_at matches i name there.0 there.1
 
--- what the table says of a name that is listed
-pub stands_unmatched : (matches : List Match) (names : List ℕ) (table : List Standing) (name : ℕ) → AreStanding matches names table
+-- the place of a listed name, which the table has
+pub unmatched_place : (matches : List Match) (names : List ℕ) (table : List Standing) (name : ℕ) → AreStanding matches names table
     → is_in names name ≡ true → (i : ℕ) × (standing_of table name ≡ Unmatched i)
-stands_unmatched matches names table name are h =
+unmatched_place matches names table name are h =
     let place = place_in names name h in (place.0, are.unmatched.entered name place.0 place.1 place.2)
 
-pub stands_matched : (matches : List Match) (names : List ℕ) (table : List Standing) (name : ℕ) → AreStanding matches names table
+pub matched_place : (matches : List Match) (names : List ℕ) (table : List Standing) (name : ℕ) → AreStanding matches names table
     → is_in (matched_names matches) name ≡ true → (i : ℕ) × (standing_of table name ≡ Matched i)
-stands_matched matches names table name are h =
+matched_place matches names table name are h =
     let place = match_in matches name h in (place.0, are.matched.entered name place.0 place.1 place.2)
 
 -- the table has an entry for each name that is listed
@@ -103,21 +103,8 @@ within_table table name some = by_cases (nat_lt name (length table)) refl
         let past : length table ≤ name = grind (arith, nat_tests) in
         absurd (some (get_or-eq_default table Absent past))
 
-pub is_match_at : (matches : List Match) (m : Match) (i name : ℕ) → i < length matches → m ≡ get_or matches i m
-    → has_name matches i name ≡ true → IsMatchAt matches m name
-is_match_at matches m i name less is has = record {
-  place = i;
-  within = less;
-  there = sym is;
-  matched = subst (λ e. is_in (names_of e) name ≡ true) (get_or_default matches i no_match m less ∙ sym is) has;
-}
-
-pub unlisted_matched : (matches : List Match) (names : List ℕ) (table : List Standing) (name : ℕ) → AreStanding matches names table
-    → (s : Standing) → standing_of table name ≡ s → ((i : ℕ) → s ≢ Matched i) → is_in (matched_names matches) name ≡ false
-unlisted_matched matches names table name are s at other =
-    listed_matched matches names table name are ∙ (ap is_matched at ∙ by_standing s other)
-  where
-    by_standing : (s : Standing) → ((i : ℕ) → s ≢ Matched i) → is_matched s ≡ false
-    by_standing Absent other = refl
-    by_standing (Unmatched i) other = refl
-    by_standing (Matched i) other = absurd (other i refl)
+-- the match at this place has the name
+pub names_of_match_at : (matches : List Match) (m : Match) (i name : ℕ) → i < length matches → m ≡ get_or matches i m
+    → has_name matches i name ≡ true → is_in (names_of m) name ≡ true
+names_of_match_at matches m i name less is has =
+    subst (λ e. is_in (names_of e) name ≡ true) (get_or_default matches i no_match m less ∙ sym is) has

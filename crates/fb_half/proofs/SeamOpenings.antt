@@ -1,4 +1,4 @@
--- What is asked where the seam of a fusion is opened: its defects lie under no node, and the links' ends are vertices of
+-- What is asked as the seam of a fusion is opened: its defects lie under no node, and the links' ends are vertices of
 -- the plan.
 use Rattle.std.proofs.Common.{ℕ, ◌≡◌, ◌≢◌, ◌<◌, ◌||◌, ◌⊎◌, inl, inr, true, false, List, [], ◌∷◌, ◌++◌, map, length, get_or, All, Option, Some, None, is_some, unwrap_or, refl, sym, ap, ◌∙◌, subst, arith}
 use Rattle.std.specs.List.{filter}

@@ -20,11 +20,12 @@ is_name names i name = get_or names i 0 == name
 abbrev pub standing_of : List Standing → ℕ → Standing
 standing_of table name = get_or table name Absent
 
--- The entry of a name is a place exactly where the name stands at that place, of a list with this count of places.
+-- The entry of a name is a place exactly if the list has the name at that place. The list has this count of places.
 pub record IsTable (count : ℕ) (has : ℕ → ℕ → Bool) (place : ℕ → Standing) (entry : ℕ → Standing) : Type 0 where
   pub true_to : (name i : ℕ) → entry name ≡ place i → (i < count) × (has i name ≡ true)
   pub entered : (name i : ℕ) → i < count → has i name ≡ true → entry name ≡ place i
 
+-- The table gives the place of each name among the matches or among the unmatched names, and of no other name.
 pub record AreStanding (matches : List Match) (names : List ℕ) (table : List Standing) : Type 0 where
   pub matched : IsTable (length matches) (has_name matches) Matched (standing_of table)
   pub unmatched : IsTable (length names) (is_name names) Unmatched (standing_of table)

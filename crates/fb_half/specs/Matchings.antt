@@ -1,5 +1,5 @@
 -- Which outer nodes are matched, by which links, and which are not.
-use Rattle.std.specs.Prelude.{ℕ, ◌≡◌, ◌<◌, true, false, List, ◌∷◌, ◌++◌, All, flat_map, map, length, get_or, Option, Some, None, option_to_list}
+use Rattle.std.specs.Prelude.{ℕ, ◌≡◌, true, false, List, ◌∷◌, ◌++◌, All, flat_map, map, Option, Some, None, option_to_list}
 use Rattle.fb_graph.specs.Parity.{is_in}
 use Rattle.fb_graph.specs.Problem.{Problem}
 use Rattle.fb_graph.specs.Certificate.{AreDistinct}
@@ -22,13 +22,6 @@ names_of m = m.first ∷ option_to_list m.second
 
 abbrev pub matched_names : List Match → List ℕ
 matched_names matches = flat_map names_of matches
-
--- one of the matches, which matches the node
-pub record IsMatchAt (matches : List Match) (m : Match) (name : ℕ) : Type 0 where
-  pub place : ℕ
-  pub within : place < length matches
-  pub there : get_or matches place m ≡ m
-  pub matched : is_in (names_of m) name ≡ true
 
 abbrev pub match_links : List Match → List ℕ
 match_links matches = map (λ m. m.link) matches

@@ -1,8 +1,8 @@
-ghost use Rattle.std.specs.Prelude.{◌≡◌, ◌<◌, ◌≤◌, ◌==◌, ℕ, true, false, if◌then◌else◌, [], ◌∷◌, ◌++◌, length, All, OnOk, OnErr, MatchOption};
+ghost use Rattle.std.specs.Prelude.{◌≡◌, ◌<◌, ◌≤◌, ◌==◌, ℕ, true, false, if◌then◌else◌, [], ◌∷◌, ◌++◌, length, All, OnOk, OnErr};
 ghost use Rattle.std.specs.List.Sorted.{IsPermutation};
 ghost use Rattle.fb_graph.specs.Parity.{is_in};
 ghost use Rattle.fb_half.specs.InternalStandings.{standing_of};
-ghost use Rattle.fb_half.specs.Matchings.{IsMatchAt, listed_names, match_links, matched_names, names_of};
+ghost use Rattle.fb_half.specs.Matchings.{listed_names, match_links, matched_names, names_of};
 ghost use Rattle.fb_half.specs.Standings.{is_matched, is_unmatched};
 
 use crate::matches::{Match, Standing};
@@ -93,22 +93,12 @@ impl Matching {
         self.unmatched.as_slice()
     }
 
-    /// Where the matching lists the node.
+    /// Where the matching lists the node. Takes constant time.
     pub fn standing(&self, name: NodeId) -> Standing
         ensures unmatched { is_in self.now.unmatched name ≡ is_unmatched result }
         ensures matched { is_in (matched_names self.now.matches) name ≡ is_matched result }
     {
         standing_in(&self.standings, name)
-    }
-
-    /// The match of the node, if it has one.
-    pub fn match_of(&self, name: NodeId) -> Option<Match>
-        ensures { MatchOption result (is_in (matched_names self.now.matches) name ≡ false) (λ m. IsMatchAt self.now.matches m name) }
-    {
-        match standing_in(&self.standings, name) {
-            Standing::Matched(place) => Some(self.matches[place]),
-            _ => None,
-        }
     }
 
     /// Lists a further node as unmatched.
@@ -143,7 +133,7 @@ impl Matching {
         Ok(())
     }
 
-    /// Takes an unmatched node off the list.
+    /// Removes a node from the unmatched ones.
     pub fn take_unmatched(&mut self, name: NodeId)
         requires { is_in self.old.unmatched name ≡ true }
         ensures matches { self.new.matches ≡ self.old.matches }
@@ -160,7 +150,7 @@ impl Matching {
         }
     }
 
-    /// Takes out the match of a node, so that neither of its nodes is listed any more.
+    /// Removes the match of a node and returns it. Neither of its nodes is listed any more.
     pub fn take_match(&mut self, name: NodeId) -> Match
         requires { is_in (matched_names self.old.matches) name ≡ true }
         ensures name { is_in (names_of result) name ≡ true }

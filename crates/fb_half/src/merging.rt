@@ -99,8 +99,8 @@ fn freed_nodes(
     Ok(freed)
 }
 
-/// Takes the match of each node out that is matched to a vertex which the node of the plan owns, forgets its link, and
-/// lists the node as unmatched.
+/// Removes each match to a vertex that the node of the plan owns, and its link. The node that was matched becomes
+/// unmatched.
 fn free_nodes(
     alloc: Global,
     matching: &mut Matching,
@@ -168,8 +168,8 @@ fn add_leaves(
     Ok(())
 }
 
-/// The part after the vertices that its node owns have become real: the matches to them are forgotten, and their defects
-/// are further nodes.
+/// The part once the vertices that its node owns are real: the matches to them are removed, and their defects are further
+/// nodes.
 pub(crate) fn open_seam<'a>(alloc: Global, parts: Parts<'a>) -> Result<Parts<'a>, NoMemory>
     requires scope { HasScope parts }
     requires beside { IsBeside (part_of parts) }

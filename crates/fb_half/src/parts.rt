@@ -7,8 +7,8 @@ use fb_links::Links;
 use fb_plan::{Job, NodeScope};
 use fb_regions::Regions;
 
-/// The pieces that a half-solved part is made of, so that each can be changed by itself. What they keep together is
-/// said of `Work`.
+/// The pieces that a half-solved part is made of, so that each can be changed by itself. `Work` has what they keep together
+/// as its invariant.
 #[derive(Drop)]
 pub struct Parts<'a> {
     pub regions: Regions<NodeScope<'a>>,
@@ -26,13 +26,6 @@ impl<'a> Parts<'a> {
         ensures { result.now ≡ (part_of self.now).job }
     {
         self.job
-    }
-
-    /// Which shot of the job.
-    pub fn slot(&self) -> u32
-        ensures { result ≡ (part_of self.now).slot }
-    {
-        self.slot
     }
 
     /// Which node of the job's plan.

@@ -23,7 +23,7 @@ use std::alloc::Global;
 use std::marker::Model;
 
 /// A node of a plan with a shot, half solved: its dual state, its blossoms, its links, and which of its nodes are
-/// matched. Each outer node is matched once, or unmatched.
+/// matched. Each outer node is matched once or is unmatched.
 #[derive(Drop)]
 pub struct Work<'a> {
     parts: Parts<'a>,
@@ -208,7 +208,7 @@ impl<'a> Work<'a> {
         Ok(work)
     }
 
-    /// The same, and the room that is left of the right part.
+    /// The same as `merge`. The room that is left of the right part is returned too.
     pub fn merge_with_spare(
         alloc: Global,
         job: &'a Job<'a>,

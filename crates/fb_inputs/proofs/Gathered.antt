@@ -7,13 +7,14 @@ use Rattle.fb_graph.specs.Limits.{DecodingGraph, IsShot, ShotValue}
 use Rattle.fb_ports.specs.Causes.{Opens}
 use Rattle.fb_shots.specs.declared.answer.Format.{Format}
 use Rattle.fb_shots.specs.declared.answer.ShotFault.{ShotFault}
-use Rattle.fb_shots.specs.Shots.{Ending, Shots, all_in_front, at_end, only, refused, still_open}
+use Rattle.fb_shots.specs.Shots.{Ending, Shots, with_first_shots, at_end, only, refused, still_open}
 use Rattle.fb_shots.specs.Formats.{prefix_of}
 use Rattle.fb_shots.specs.Streams.{Stream, follows, fresh}
 use Rattle.fb_shots.specs.Steps.{Ends, FailsToRead, GivesShot, IfKnown, IsReadOut, Refuses}
 use Rattle.fb_shots.proofs.Taking.{later_read_out, open_before, stays_read_out, known_same, known_some, known_then}
 use Rattle.fb_inputs.specs.Taking.{EndsSo, GivesShots}
-use Rattle.fb_inputs.specs.Judging.{FirstFrom, Gathers, GathersFrom, HasFirstShots, HasShots, Holds, IsOpened, IsReadInPart, IsReadOutIfNamed, Named, most_shots, shots_of}
+use Rattle.fb_inputs.specs.Judging.{HasFirstShots, HasShots, Holds, IsReadInPart, IsReadOutIfNamed, Named, most_shots, shots_of}
+use Rattle.fb_inputs.specs.InternalGathers.{FirstFrom, Gathers, GathersFrom, IsOpened}
 use Rattle.fb_inputs.specs.declared.taking.ShotsEnd.{ShotsEnd}
 use Rattle.fb_inputs.specs.declared.taking.ShotsEnd.TheVariants as end
 
@@ -21,10 +22,10 @@ same_shots : (xs ys : List ShotValue) (ending : Ending) → xs ≡ ys
     → ◌≡◌ {A = Shots} (record { shots = xs; ending = ending }) (record { shots = ys; ending = ending })
 same_shots xs ys ending e = cc
 
-front-both : (xs ys : List ShotValue) (r : Shots) → all_in_front xs (all_in_front ys r) ≡ all_in_front (xs ++ ys) r
+front-both : (xs ys : List ShotValue) (r : Shots) → with_first_shots xs (with_first_shots ys r) ≡ with_first_shots (xs ++ ys) r
 front-both xs ys r = same_shots _ _ r.ending (sym (append_assoc xs ys r.shots))
 
-front-only : (shots : List ShotValue) (ending : Ending) → all_in_front shots (only ending) ≡ record { shots = shots; ending = ending }
+front-only : (shots : List ShotValue) (ending : Ending) → with_first_shots shots (only ending) ≡ record { shots = shots; ending = ending }
 front-only shots ending = same_shots _ _ ending (append-nil shots)
 
 -- what follows a stream before its first byte are the shots of what is left
@@ -38,7 +39,7 @@ pub gives_none : (s : Stream) (left : Option (List ℕ)) → GivesShots s s left
 gives_none s left = record {
   piece = [];
   taken = Consumes-nil left;
-  gives = known_same (λ before later. follows s before ≡ all_in_front [] (follows s later)) left (λ text. refl);
+  gives = known_same (λ before later. follows s before ≡ with_first_shots [] (follows s later)) left (λ text. refl);
   settles = λ still more. refl;
   unfinished = λ still. still;
   end = λ still done. not_both s.finished still done;
@@ -78,13 +79,13 @@ pub gives_both : (a b c : Stream) (before middle after : Option (List ℕ)) (xs 
 gives_both a b c before middle after xs ys first second = record {
   piece = first.piece ++ second.piece;
   taken = Consumes-trans before middle after first.piece second.piece first.taken second.taken;
-  gives = known_then (λ x y. follows a x ≡ all_in_front xs (follows b y)) (λ y z. follows b y ≡ all_in_front ys (follows c z))
-      (λ x z. follows a x ≡ all_in_front (xs ++ ys) (follows c z)) before middle after
-      (λ x y z p q. p ∙ ap (all_in_front xs) q ∙ front-both xs ys (follows c z)) first.gives second.gives;
+  gives = known_then (λ x y. follows a x ≡ with_first_shots xs (follows b y)) (λ y z. follows b y ≡ with_first_shots ys (follows c z))
+      (λ x z. follows a x ≡ with_first_shots (xs ++ ys) (follows c z)) before middle after
+      (λ x y z p q. p ∙ ap (with_first_shots xs) q ∙ front-both xs ys (follows c z)) first.gives second.gives;
   settles = λ still more.
       ap (λ (bytes : List ℕ). prefix_of a.format a.graph (a.rest ++ bytes)) (append_assoc first.piece second.piece more)
       ∙ first.settles (second.unfinished still) (second.piece ++ more)
-      ∙ ap (all_in_front xs) (settled still more)
+      ∙ ap (with_first_shots xs) (settled still more)
       ∙ front-both xs ys (prefix_of a.format a.graph (c.rest ++ more));
   unfinished = λ still. first.unfinished (second.unfinished still);
   end = λ still done. ended b.finished refl still done;
@@ -98,9 +99,9 @@ gives_both a b c before middle after xs ys first second = record {
 }
   where
     settled : c.finished ≡ false → (more : List ℕ) → prefix_of a.format a.graph (b.rest ++ (second.piece ++ more))
-        ≡ all_in_front ys (prefix_of a.format a.graph (c.rest ++ more))
+        ≡ with_first_shots ys (prefix_of a.format a.graph (c.rest ++ more))
     settled still more =
-        subst₂ (λ (f : Format) (g : DecodingGraph). prefix_of f g (b.rest ++ (second.piece ++ more)) ≡ all_in_front ys (prefix_of f g (c.rest ++ more)))
+        subst₂ (λ (f : Format) (g : DecodingGraph). prefix_of f g (b.rest ++ (second.piece ++ more)) ≡ with_first_shots ys (prefix_of f g (c.rest ++ more)))
         first.format first.graph (second.settles still more)
 
     ended : (f : Bool) → b.finished ≡ f → a.finished ≡ false → c.finished ≡ true → IsReadOut before after
@@ -143,9 +144,9 @@ module _ (start now : Stream) (before middle : Option (List ℕ)) (shots : List 
   module _ (next : Stream) (after : Option (List ℕ)) where
     -- what a file holds whose bytes were known, by how its shots ended
     pub gathered_all : Ends now next middle after → IfSome before (HasShots start.format start.graph shots at_end)
-    gathered_all ends = known_some (λ x y. follows start x ≡ all_in_front shots (follows now y)) (λ y. follows now y ≡ only at_end)
+    gathered_all ends = known_some (λ x y. follows start x ≡ with_first_shots shots (follows now y)) (λ y. follows now y ≡ only at_end)
         (HasShots start.format start.graph shots at_end) before middle
-        (λ a b p q. sym (whole start is_fresh a) ∙ p ∙ ap (all_in_front shots) q ∙ front-only shots at_end) so_far.gives ends.gives
+        (λ a b p q. sym (whole start is_fresh a) ∙ p ∙ ap (with_first_shots shots) q ∙ front-only shots at_end) so_far.gives ends.gives
 
     pub gathered_to_end : Ends now next middle after → IsReadOut before after
     gathered_to_end ends = by_flag now.finished refl
@@ -157,9 +158,9 @@ module _ (start now : Stream) (before middle : Option (List ℕ)) (shots : List 
     pub gathered_before : (fault : ShotFault) → Refuses now next middle fault
         → IfSome before (HasShots start.format start.graph shots (refused fault.kind)) × (fault.shot ≡ length shots)
     gathered_before fault refuses = (
-      known_some (λ x y. follows start x ≡ all_in_front shots (follows now y)) (λ y. follows now y ≡ only (refused fault.kind))
+      known_some (λ x y. follows start x ≡ with_first_shots shots (follows now y)) (λ y. follows now y ≡ only (refused fault.kind))
           (HasShots start.format start.graph shots (refused fault.kind)) before middle
-          (λ a b p q. sym (whole start is_fresh a) ∙ p ∙ ap (all_in_front shots) q ∙ front-only shots (refused fault.kind)) so_far.gives refuses.gives,
+          (λ a b p q. sym (whole start is_fresh a) ∙ p ∙ ap (with_first_shots shots) q ∙ front-only shots (refused fault.kind)) so_far.gives refuses.gives,
       refuses.number ∙ given_count,
     )
 
@@ -175,11 +176,11 @@ module _ (start now : Stream) (before middle : Option (List ℕ)) (shots : List 
         settled = ap (λ (xs : List ℕ). prefix_of start.format start.graph (xs ++ (so_far.piece ++ fails.takes.piece)))
             (sym (ap (λ (s : Stream). s.rest) is_fresh))
             ∙ so_far.settles (open_before now next middle after fails.takes fails.unfinished) fails.takes.piece
-            ∙ ap (λ (xs : List ℕ). all_in_front shots (prefix_of start.format start.graph xs)) (sym fails.takes.rest)
-            ∙ ap (all_in_front shots) undecided ∙ front-only shots still_open
+            ∙ ap (λ (xs : List ℕ). with_first_shots shots (prefix_of start.format start.graph xs)) (sym fails.takes.rest)
+            ∙ ap (with_first_shots shots) undecided ∙ front-only shots still_open
 
         part : (a b c : Option (List ℕ)) → Consumes a b so_far.piece → Consumes b c fails.takes.piece
-            → IfKnown (λ left later. follows start left ≡ all_in_front shots (follows now later)) a b
+            → IfKnown (λ left later. follows start left ≡ with_first_shots shots (follows now later)) a b
             → IfSome a (IsReadInPart start.format start.graph c shots)
         part None b c first second gives = tt
         part (Some text) None c first second gives = absurd first
@@ -206,7 +207,7 @@ module _ (start now : Stream) (before middle : Option (List ℕ)) (shots : List 
   pub given_first : FirstFrom before start.format start.graph shots
   given_first = go before middle so_far.gives
     where
-      go : (a b : Option (List ℕ)) → IfKnown (λ left later. follows start left ≡ all_in_front shots (follows now later)) a b
+      go : (a b : Option (List ℕ)) → IfKnown (λ left later. follows start left ≡ with_first_shots shots (follows now later)) a b
           → FirstFrom a start.format start.graph shots
       go None b gives = tt
       go (Some text) None gives = absurd gives

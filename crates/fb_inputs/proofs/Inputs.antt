@@ -1,12 +1,12 @@
 -- One read of a named file after another.
 use Rattle.std.proofs.Common.{◌≡◌, ℕ, List, [], ◌∷◌, ◌++◌, Option, Some, None, refl, sym, ap, subst, ◌∙◌, append-nil, lit<}
-use Rattle.fb_ports.specs.Causes.{TellsMore, HasRoom, IsEmptyIfKnown}
+use Rattle.fb_ports.specs.Causes.{GainsIfKnown, HasRoom, IsEmptyIfKnown}
 use Rattle.fb_inputs.specs.Judging.{Asks, AsksPrefix}
 
 some_same : (xs ys : List (List ℕ)) → ◌≡◌ {A = Option (List (List ℕ))} (Some xs) (Some ys) → xs ≡ ys
 some_same xs ys e = cc
 
-pub asks_one : (old new : Option (List (List ℕ))) (name : List ℕ) → TellsMore old new name → Asks old new (name ∷ [])
+pub asks_one : (old new : Option (List (List ℕ))) (name : List ℕ) → GainsIfKnown old new name → Asks old new (name ∷ [])
 asks_one None new name known = known
 asks_one (Some names) new name known = known
 
@@ -14,7 +14,7 @@ pub asks_none : (old new : Option (List (List ℕ))) (wanted : List (List ℕ)) 
 asks_none None new wanted same = ([], wanted, refl, same)
 asks_none (Some names) new wanted same = ([], wanted, refl, same ∙ ap Some (sym (append-nil names)))
 
-pub asks_prefix_one : (old new : Option (List (List ℕ))) (name : List ℕ) → TellsMore old new name → AsksPrefix old new (name ∷ [])
+pub asks_prefix_one : (old new : Option (List (List ℕ))) (name : List ℕ) → GainsIfKnown old new name → AsksPrefix old new (name ∷ [])
 asks_prefix_one old new name known = (name ∷ [], [], refl, asks_one old new name known)
 
 -- ---- the names asked for
@@ -24,7 +24,7 @@ asks_same None new same = same
 asks_same (Some names) new same = same ∙ ap Some (sym (append-nil names))
 
 -- no further name was asked for
-pub asks_kept : (old mid new : Option (List (List ℕ))) (name : List ℕ) → TellsMore old mid name → new ≡ mid → Asks old new (name ∷ [])
+pub asks_kept : (old mid new : Option (List (List ℕ))) (name : List ℕ) → GainsIfKnown old mid name → new ≡ mid → Asks old new (name ∷ [])
 asks_kept old mid new name known same = subst (λ (asked : Option (List (List ℕ))). Asks old asked (name ∷ [])) (sym same) (asks_one old mid name known)
 
 pub room_after : (old mid : Option (List (List ℕ))) (name : List ℕ) → IsEmptyIfKnown old → Asks old mid (name ∷ []) → HasRoom mid 16

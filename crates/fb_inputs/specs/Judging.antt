@@ -1,23 +1,20 @@
 -- Which input is accepted, and which names are asked for.
-use Rattle.std.specs.Prelude.{ℕ, ◌≡◌, ◌^◌, ◌-◌, List, [], ◌++◌, length, Option, Some, None, IfSome, IsSome, Ok, Err, ⊤}
+use Rattle.std.specs.Prelude.{ℕ, ◌≡◌, List, [], ◌++◌, Option, Some, None, Ok, Err, ⊤}
 use Rattle.fb_graph.specs.Limits.{DecodingGraph, ShotValue}
 use Rattle.fb_graph_in.specs.GraphText.{graph_of_text}
 use Rattle.fb_graph_in.specs.declared.faults.TextFault.{TextFault}
-use Rattle.fb_shots.specs.Shots.{Ending, at_end, still_open, refused, Shots}
+use Rattle.fb_shots.specs.Shots.{Ending, still_open, Shots}
 use Rattle.fb_shots.specs.Formats.{prefix_of}
 use Rattle.fb_shots.specs.Streams.{most_bytes, stream_of}
 use Rattle.fb_shots.specs.declared.answer.Format.{Format}
 use Rattle.fb_plan.specs.Plans.{PlanTree}
 use Rattle.fb_plan.specs.declared.faults.PlanFault.{PlanFault}
 use Rattle.fb_plan_in.specs.PlanText.{plan_of_text}
-use Rattle.fb_inputs.specs.declared.plans.NoPlan.{NoPlan}
-use Rattle.fb_inputs.specs.declared.plans.NoPlan.TheVariants as no_plan
-use Rattle.fb_inputs.specs.declared.graphs.NoGraph.{NoGraph}
-use Rattle.fb_inputs.specs.declared.graphs.NoGraph.TheVariants as no_graph
-use Rattle.fb_inputs.specs.declared.taking.ShotsEnd.{ShotsEnd}
-use Rattle.fb_inputs.specs.declared.taking.ShotsEnd.TheVariants as end
+use Rattle.fb_inputs.specs.declared.taking.TheConstants.{MOST_SHOTS}
+use Rattle.fb_inputs.specs.declared.fault.FileFault.{FileFault}
+use Rattle.fb_inputs.specs.declared.fault.FileFault.TheVariants as file_fault
 
--- the bytes of files by their names, where known
+-- the bytes of files by their names, if known
 abbrev pub Named : Type 0
 Named = Option (List ℕ → Option (List ℕ))
 
@@ -42,21 +39,15 @@ IsPlanText g t text = plan_of_text text g ≡ Ok t
 abbrev pub IsNoPlan : DecodingGraph → PlanFault → List ℕ → Type 0
 IsNoPlan g fault text = plan_of_text text g ≡ Err fault
 
--- the fact of the fault, where there is no plan since its text is refused
-abbrev pub IfPlanRefused : (PlanFault → Type 0) → NoPlan → Type 0
-IfPlanRefused P (no_plan.Refused fault) = P fault
-IfPlanRefused P no_plan.ReadFault = ⊤
-IfPlanRefused P no_plan.NoMemory = ⊤
+-- if the text of a file is refused: the property of the reason
+abbrev pub IfRefused : {E : Type 0} → (E → Type 0) → FileFault E → Type 0
+IfRefused P (file_fault.Refused reason) = P reason
+IfRefused P file_fault.ReadFault = ⊤
+IfRefused P file_fault.NoMemory = ⊤
 
--- the fact of the fault, where there is no graph since its text is refused
-abbrev pub IfRefused : (TextFault → Type 0) → NoGraph → Type 0
-IfRefused P (no_graph.Refused fault) = P fault
-IfRefused P no_graph.ReadFault = ⊤
-IfRefused P no_graph.NoMemory = ⊤
-
--- the most shots that are taken
+-- the most shots that are taken from a file
 abbrev pub most_shots : ℕ
-most_shots = 2 ^ 32 - 1
+most_shots = MOST_SHOTS
 
 -- the shots of a text, and how they end
 abbrev pub shots_of : Format → DecodingGraph → List ℕ → Shots
@@ -70,10 +61,6 @@ HasShots format g shots ending text = shots_of format g text ≡ record { shots 
 abbrev pub HasFirstShots : Format → DecodingGraph → List ShotValue → List ℕ → Type 0
 HasFirstShots format g shots text = (more : List ShotValue) × ((shots_of format g text).shots ≡ shots ++ more)
 
--- the first shots of what was left of a file, where known
-abbrev pub FirstFrom : Option (List ℕ) → Format → DecodingGraph → List ShotValue → Type 0
-FirstFrom left format g shots = IfSome left (HasFirstShots format g shots)
-
 -- Of the text all but `left` was read, and what was read settles these shots and nothing more.
 pub record IsReadInPart (format : Format) (g : DecodingGraph) (left : Option (List ℕ)) (shots : List ShotValue) (text : List ℕ) : Type 0 where
   pub given : List ℕ
@@ -83,35 +70,16 @@ pub record IsReadInPart (format : Format) (g : DecodingGraph) (left : Option (Li
   pub settled : prefix_of format g given ≡ record { shots = shots; ending = still_open }
   pub first : HasFirstShots format g shots text
 
--- the shots that were gathered from the bytes of a file, where known, until `left` remained, by how that ended
-abbrev pub GathersFrom : Option (List ℕ) → Format → DecodingGraph → Option (List ℕ) → List ShotValue → ShotsEnd → Type 0
-GathersFrom bytes format g left shots end.End = IfSome bytes (HasShots format g shots at_end)
-GathersFrom bytes format g left shots (end.Refused fault) =
-    IfSome bytes (HasShots format g shots (refused fault.kind)) × (fault.shot ≡ length shots)
-GathersFrom bytes format g left shots end.ReadFault = IfSome bytes (IsReadInPart format g left shots)
-
--- the same of the file of a name
-abbrev pub Gathers : Named → List ℕ → Format → DecodingGraph → Option (List ℕ) → List ShotValue → ShotsEnd → Type 0
-Gathers named name format g left shots end.End = Holds named name (HasShots format g shots at_end)
-Gathers named name format g left shots (end.Refused fault) =
-    Holds named name (HasShots format g shots (refused fault.kind)) × (fault.shot ≡ length shots)
-Gathers named name format g left shots end.ReadFault = Holds named name (IsReadInPart format g left shots)
-
--- the file of the name is current, with all of its bytes left
-abbrev pub IsOpened : Named → List ℕ → Option (List ℕ) → Type 0
-IsOpened None name left = ⊤
-IsOpened (Some named) name left = (left ≡ named name) × IsSome (named name)
-
--- nothing is left of the current file, where files tell what they hold
+-- nothing is left of the current file, if files report what they hold
 abbrev pub IsReadOutIfNamed : Named → Option (List ℕ) → Type 0
 IsReadOutIfNamed None left = ⊤
 IsReadOutIfNamed (Some named) left = left ≡ Some []
 
--- the names asked for since are these, where known
+-- the names asked for since are these, if known
 abbrev pub Asks : Option (List (List ℕ)) → Option (List (List ℕ)) → List (List ℕ) → Type 0
 Asks None new wanted = new ≡ None
 Asks (Some names) new wanted = new ≡ Some (names ++ wanted)
 
--- the names asked for since are a prefix of these, where known
+-- the names asked for since are a prefix of these, if known
 abbrev pub AsksPrefix : Option (List (List ℕ)) → Option (List (List ℕ)) → List (List ℕ) → Type 0
 AsksPrefix old new wanted = (asked more : List (List ℕ)) × (wanted ≡ asked ++ more) × Asks old new asked

@@ -1,4 +1,4 @@
--- What files and standard output tell at a moment of a run, and what reading a file whole does to that.
+-- What files and standard output report at a moment of a run, and what reading a file whole does to that.
 use Rattle.std.specs.Prelude.{ℕ, ◌≡◌, List, [], ◌∷◌, Option}
 use Rattle.fb_inputs.specs.Judging.{Asks, Holds, Named}
 

@@ -3,7 +3,7 @@ use Rattle.std.specs.Prelude.{ℕ, ◌≡◌, ◌+◌, ◌≤◌, true, false, L
 use Rattle.std.specs.List.{All}
 use Rattle.std.specs.Io.KnownBytes.{Consumes}
 use Rattle.fb_graph.specs.Limits.{IsShot, ShotValue}
-use Rattle.fb_shots.specs.Shots.{all_in_front}
+use Rattle.fb_shots.specs.Shots.{with_first_shots}
 use Rattle.fb_shots.specs.Formats.{prefix_of}
 use Rattle.fb_shots.specs.Steps.{Ends, FailsToRead, IfKnown, IsReadOut, Refuses}
 use Rattle.fb_shots.specs.Streams.{Stream, follows}
@@ -14,9 +14,9 @@ use Rattle.fb_inputs.specs.declared.taking.ShotsEnd.TheVariants as end
 pub record GivesShots (old new : Stream) (before after : Option (List ℕ)) (shots : List ShotValue) : Type 0 where
   pub piece : List ℕ
   pub taken : Consumes before after piece
-  pub gives : IfKnown (λ left later. follows old left ≡ all_in_front shots (follows new later)) before after
+  pub gives : IfKnown (λ left later. follows old left ≡ with_first_shots shots (follows new later)) before after
   pub settles : new.finished ≡ false → (more : List ℕ) → prefix_of old.format old.graph (old.rest ++ (piece ++ more))
-      ≡ all_in_front shots (prefix_of old.format old.graph (new.rest ++ more))
+      ≡ with_first_shots shots (prefix_of old.format old.graph (new.rest ++ more))
   pub unfinished : new.finished ≡ false → old.finished ≡ false
   pub end : old.finished ≡ false → new.finished ≡ true → IsReadOut before after
   pub unread : old.finished ≡ true → after ≡ before
@@ -34,7 +34,7 @@ EndsSo old new before after (Some end.End) = Ends old new before after
 EndsSo old new before after (Some (end.Refused fault)) = Refuses old new before fault
 EndsSo old new before after (Some end.ReadFault) = FailsToRead old new before after
 
--- The next shots were taken, so many of them, or fewer where they end.
+-- The next shots were taken: `most` of them, or fewer if they end.
 pub record TakesWindow (most : ℕ) (old new : Stream) (before after : Option (List ℕ)) (shots : List ShotValue) (ending : Option ShotsEnd) : Type 0 where
   pub middle : Stream
   pub between : Option (List ℕ)

@@ -4,21 +4,14 @@ ghost use Rattle.std.specs.Prelude.{◌≡◌, ◌≢◌, ◌<◌, ◌≤◌, �
 ghost use Rattle.fb_ports.specs.Causes.{HasRoom, Rose};
 ghost use Rattle.fb_inputs.specs.Judging.{Asks, AsksPrefix, Holds, IfRefused, IsGraphText, IsNoGraph};
 
+use crate::fault::FileFault;
 use fb_graph::Graph;
-use fb_graph_in::{MOST_TEXT_BYTES, TextFault, read_graph};
+use fb_graph_in::{TextFault, read_graph};
+use fb_json::MOST_TEXT_BYTES;
 use fb_ports::{Files, ReadError, read_whole};
 use std::alloc::Global;
 
-/// Why there is no graph.
-#[derive(Clone, Copy, Debug, PartialEq, Eq)]
-pub enum NoGraph {
-    /// The text is no graph. It is never the want of memory.
-    Refused(TextFault),
-    ReadFault,
-    NoMemory,
-}
-
-/// The bytes of the file of a name, of which there are at most so many.
+/// The bytes of the named file. Returns an error if there are more than `limit`.
 #[tactic(auto, using(crate::proofs::Inputs::asking))]
 pub fn read_named<F: Files>(
     alloc: Global,
@@ -48,27 +41,31 @@ pub fn read_named<F: Files>(
     read_whole(alloc, files, limit)
 }
 
-/// The graph of the file of a name.
-pub fn read_graph_file<F: Files>(alloc: Global, files: &mut F, name: &str) -> Result<Graph, NoGraph>
+/// The graph of the named file.
+pub fn read_graph_file<F: Files>(
+    alloc: Global,
+    files: &mut F,
+    name: &str,
+) -> Result<Graph, FileFault<TextFault>>
     requires { HasRoom (F.asked files.old) 16 }
     ensures asks { AsksPrefix (F.asked files.old) (F.asked files.new) (name.now ∷ []) }
-    ensures asked { result ≢ Err NoGraph.NoMemory → Asks (F.asked files.old) (F.asked files.new) (name.now ∷ []) }
+    ensures asked { result ≢ Err FileFault.NoMemory → Asks (F.asked files.old) (F.asked files.new) (name.now ∷ []) }
     ensures names { F.named files.new ≡ F.named files.old }
     ensures graph { IfOk result (λ g. Holds (F.named files.old) name.now (IsGraphText g)) }
     ensures refused { IfErr result (IfRefused (λ fault. Holds (F.named files.old) name.now (IsNoGraph fault))) }
-    ensures fault { IsErrOf result NoGraph.ReadFault → Rose (F.faults files.old) (F.faults files.new) }
+    ensures fault { IsErrOf result FileFault.ReadFault → Rose (F.faults files.old) (F.faults files.new) }
     ensures never_falls { F.faults files.old ≤ F.faults files.new }
-    ensures reported { F.faults files.old < F.faults files.new → IsErrOf result NoGraph.ReadFault }
-    ensures unchanged { result ≢ Err NoGraph.ReadFault → F.faults files.new ≡ F.faults files.old }
+    ensures reported { F.faults files.old < F.faults files.new → IsErrOf result FileFault.ReadFault }
+    ensures unchanged { result ≢ Err FileFault.ReadFault → F.faults files.new ≡ F.faults files.old }
 {
     match read_named(alloc, files, name, MOST_TEXT_BYTES) {
         Ok(text) => match read_graph(alloc, &text) {
             Ok(graph) => Ok(graph),
-            Err(TextFault::NoMemory) => Err(NoGraph::NoMemory),
-            Err(fault) => Err(NoGraph::Refused(fault)),
+            Err(TextFault::NoMemory) => Err(FileFault::NoMemory),
+            Err(fault) => Err(FileFault::Refused(fault)),
         },
-        Err(ReadError::TooLong) => Err(NoGraph::Refused(TextFault::TooLong)),
-        Err(ReadError::ReadFault) => Err(NoGraph::ReadFault),
-        Err(ReadError::NoMemory) => Err(NoGraph::NoMemory),
+        Err(ReadError::TooLong) => Err(FileFault::Refused(TextFault::TooLong)),
+        Err(ReadError::ReadFault) => Err(FileFault::ReadFault),
+        Err(ReadError::NoMemory) => Err(FileFault::NoMemory),
     }
 }

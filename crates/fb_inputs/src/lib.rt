@@ -2,12 +2,14 @@
 
 #![tactic(auto)]
 
+pub mod fault;
 pub mod graphs;
 pub mod outbox;
 pub mod plans;
 pub mod taking;
 
-pub use graphs::{NoGraph, read_graph_file, read_named};
+pub use fault::FileFault;
+pub use graphs::{read_graph_file, read_named};
 pub use outbox::{Outbox, RowsFault};
-pub use plans::{NoPlan, read_plan_file};
-pub use taking::{ShotsEnd, Taken, take_window};
+pub use plans::read_plan_file;
+pub use taking::{MOST_SHOTS, ShotsEnd, Taken, take_window};

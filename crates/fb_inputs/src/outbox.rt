@@ -1,14 +1,15 @@
 //! Text on its way to a sink, kept until there is enough of it for one write.
 
-ghost use Rattle.std.specs.Prelude.{◌≡◌, ◌<◌, ◌^◌, [], Some, length, OnOk, OnErr};
+ghost use Rattle.std.specs.Prelude.{◌≡◌, ◌<◌, [], Some, length, OnOk, OnErr};
 ghost use Rattle.fb_ports.specs.Causes.{Appends, AppendsPrefix, HasCause};
 ghost use Rattle.fb_inputs.specs.Outboxes.{Moves};
+ghost use Rattle.fb_inputs.specs.declared.outbox.TheConstants.{ENOUGH};
 
 use fb_ports::{Failed, Sink, put_all};
 use std::alloc::Global;
 use std::marker::Model;
 
-/// How much text is kept before it is written.
+/// From this many bytes on, the text is written.
 const ENOUGH: usize = 1 << 16;
 
 /// Why a text was not written.
@@ -18,7 +19,7 @@ pub enum RowsFault {
     NoMemory,
 }
 
-/// Text that is still to be written. As a sink it fails only for want of memory.
+/// Text that is still to be written. It is itself a sink, which fails only for want of memory.
 #[derive(Drop)]
 pub struct Outbox {
     text: Vec<u8>,
@@ -57,10 +58,10 @@ impl Outbox {
         }
     }
 
-    /// Writes the text to a sink where there is enough of it for one write, so that less than that is left.
+    /// Writes the text to a sink if there is enough of it for one write. Afterwards there is less.
     pub fn flush_if_full<O: Sink>(&mut self, out: &mut O) -> Result<(), Failed>
         ensures ok { OnOk result (Moves (O.taken out.old) (O.taken out.new) self.old.text self.new.text) }
-        ensures less { OnOk result (length self.new.text < 2 ^ 16) }
+        ensures less { OnOk result (length self.new.text < ENOUGH) }
         ensures faults { self.new.faults ≡ self.old.faults }
         ensures prefix { OnErr result (AppendsPrefix (O.taken out.old) (O.taken out.new) self.old.text) }
         ensures cause { HasCause (O.faults out.old) (O.faults out.new) result }
@@ -71,7 +72,7 @@ impl Outbox {
         self.flush(out)
     }
 
-    /// Writes all text to a sink. After a fault the text may have been written in part.
+    /// Writes the whole text to a sink. After an error a prefix of it may have been written.
     pub fn flush<O: Sink>(&mut self, out: &mut O) -> Result<(), Failed>
         ensures ok { OnOk result (Appends (O.taken out.old) (O.taken out.new) self.old.text) }
         ensures emptied { OnOk result (self.new.text ≡ []) }

@@ -9,12 +9,15 @@ use fb_ports::Files;
 use fb_shots::{ShotFault, ShotStream, Step};
 use std::alloc::Global;
 
+/// The most shots that are taken from a file. A row has its shot's number as a `u32`.
+pub const MOST_SHOTS: u32 = u32::MAX;
+
 /// How the shots of a file end.
 #[derive(Clone, Copy, Debug, PartialEq, Eq)]
 pub enum ShotsEnd {
     /// The file was read to its end.
     End,
-    /// What stands in the place of the next shot is refused.
+    /// The next record of the file is no shot, and refused.
     Refused(ShotFault),
     /// A read of the file failed.
     ReadFault,
@@ -27,8 +30,8 @@ pub struct Taken {
     pub end: Option<ShotsEnd>,
 }
 
-/// Takes the next shots of a stream: so many, or fewer if they end before. Where reading fails, the shots are those that
-/// the bytes read until then settle.
+/// Takes up to `most` further shots of a stream, fewer only if the shots end. If a read fails, they are those that the
+/// bytes read until then settle.
 pub fn take_window<F: Files>(
     alloc: Global,
     files: &mut F,

@@ -132,7 +132,7 @@ module _ (nodes : List Node) where
       × IsPermutation all (last_of from way ∷ paired_of from way couples)
       × Kept links (matched_on way ++ (grown_on way ++ matched_beside couples))
 
-  -- the same way round, told of its nodes and links in another order
+  -- the same way round, its nodes and links in another order
   ways_moved : (all others : List ℕ) (links more : List Link) (from to : ℕ) → IsPermutation all others → Kept links more → Ways others more from to
       → Ways all links from to
   ways_moved all others links more from to moved kept (way, couples, ends, passed, coupled, permuted, keeps) = (

@@ -148,7 +148,7 @@ positive_packing p nodes dual defects = record {
       omega (arith, h, positive_loads nodes (get_or p.edges i d));
 }
 
--- what a list of cuts weighs at two vertices, told by those that hold both
+-- what a list of cuts weighs at two vertices, from those that hold both
 weigh_both : (cuts : List Cut) (u v : ℕ)
     → load_of cuts (pair u v) + 2 * weigh (λ s. is_in s u && is_in s v) cuts ≡ height_of cuts u + height_of cuts v
 weigh_both [] u v = refl

@@ -262,7 +262,7 @@ matchings_merged left right whole nodes others links more unmatched open_ parts 
         ap (λ cuts. height_of cuts v) (cuts_merged nodes others)
         ∙ omega (arith, none, sum_by-append (λ (c : Cut). cond (is_in c.vertices v) c.value 0) (all_cuts nodes) (all_cuts others))
 
-    -- a name stands on one side only
+    -- a name is on one side only
     one_side : (name i j : ℕ) → i < length nodes → j < length others → (node_at nodes i).name ≡ name → (node_at others j).name ≡ name → ⊥
     one_side name i j less below here there =
         both_ways (is_in (map (λ n. n.name) others) name)

@@ -1,4 +1,4 @@
--- The moves of a nest, told as the laws of searches tell them.
+-- The moves of a nest, in the form that the laws of searches have.
 use Rattle.std.proofs.Common.{ℕ, ◌≡◌, ◌≤◌, ◌⊎◌, inl, inr, Bool, true, false, cond, List, [], ◌∷◌, ◌++◌, map, length, All, Option, Some, None, refl, sym, ap, ◌∙◌, subst, arith}
 use Rattle.std.specs.List.{concat}
 use Rattle.std.specs.Option.{IsSome}

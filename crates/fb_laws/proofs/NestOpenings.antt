@@ -1,5 +1,5 @@
 -- Each cut of a nest lies within a child of a blossom or treats all its children alike.
-use Rattle.std.proofs.Common.{ℕ, zero, suc, ◌≡◌, ◌<◌, ◌==◌, ◌⊎◌, inl, inr, Bool, true, false, List, [], ◌∷◌, map, length, All, get_or, sym, ap, ◌∙◌, subst, arith}
+use Rattle.std.proofs.Common.{ℕ, zero, suc, ◌≡◌, ◌<◌, ◌==◌, ◌⊎◌, inl, inr, true, false, List, [], ◌∷◌, map, length, All, get_or, sym, ap, ◌∙◌, subst, arith}
 use Rattle.std.proofs.lemmas.Bool.{both_ways, eqb-true, false≢true, false_from_ne_true, or_cases}
 use Rattle.std.proofs.lemmas.List.Elements.{All-map, All-filter}
 use Rattle.fb_graph.specs.Parity.{is_in}
@@ -7,7 +7,6 @@ use Rattle.fb_graph.specs.Problem.{Problem}
 use Rattle.fb_graph.specs.Certificate.{AreDistinct}
 use Rattle.fb_graph.specs.Printed.{is_positive}
 use Rattle.fb_graph.specs.Dual.{Node, AreApart, AreGrown, IsWithin, all_cuts, is_live, layers_of, top_at}
-use Rattle.fb_graph.specs.declared.parts.Cut.{Cut}
 use Rattle.fb_graph.proofs.Nodes.{All-flat_map, layers_within}
 use Rattle.fb_graph.proofs.Sets.{All-from_is_in, is_in-All, is_in-head, is_in-tail}
 use Rattle.fb_graph.specs.Ends.{AreAllApart}
@@ -54,9 +53,6 @@ module _ (p : Problem) (nodes : List Node) (n : Node) (a : IsAmong n nodes) (kep
 
   grown : (m : Node) → IsAmong m nodes → AreGrown (layers_of m)
   grown m b = All_among (λ x. AreGrown (layers_of x)) nodes nest.dual.grown m b
-
-  alike : Bool → Cut → Type 0
-  alike b c = All (λ s. (v : ℕ) → is_in s v ≡ true → is_in c.vertices v ≡ b) (map (top_at nodes) paired)
 
   -- a node whose first layer holds the blossom's
   above : (m : Node) → IsAmong m nodes → IsWithin (first_set n) (first_set m)

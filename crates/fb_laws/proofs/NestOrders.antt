@@ -25,7 +25,7 @@ pub record IsStand (nodes : List Node) : Type 0 where
   pub grove : IsGrove nodes
   pub apart : AreOuterApart nodes
 
--- what stands before the last node doesn't join it
+-- what comes before the last node doesn't join it
 last_free : (xs : List Node) (q : Node) → AreJoinedLater (xs ++ q ∷ [])
     → AreJoinedLater xs × All (λ m. is_in m.children q.name ≡ false) xs × (is_in q.children q.name ≡ false)
 last_free [] q joined = (

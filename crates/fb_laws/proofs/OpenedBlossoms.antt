@@ -1,5 +1,5 @@
 -- A blossom of a nest opened in a search.
-use Rattle.std.proofs.Common.{ℕ, ◌≡◌, ◌%◌, ◌==◌, ◌⊎◌, inl, inr, true, false, List, [], ◌∷◌, ◌++◌, length, refl, sym, ap, ◌∙◌, subst, arith}
+use Rattle.std.proofs.Common.{ℕ, ◌≡◌, ◌%◌, ◌==◌, ◌⊎◌, inl, inr, true, false, List, [], ◌∷◌, ◌++◌, length, refl, sym, ◌∙◌, subst, arith}
 use Rattle.std.specs.List.{AllByRecursion, IsDistinct}
 use Rattle.std.specs.List.Sorted.{IsPermutation}
 use Rattle.std.proofs.lemmas.Bool.{both_ways, cases_Bool, false_from_ne_true, or_from, or_parts}
@@ -11,17 +11,18 @@ use Rattle.fb_graph.specs.Certificate.{AreDistinct}
 use Rattle.fb_graph.specs.Laws.{Link}
 use Rattle.fb_graph.specs.Dual.{Node, is_empty}
 use Rattle.fb_graph.proofs.Sets.{equal_sym, is_in-All, is_in_at}
-use Rattle.fb_graph.specs.Nests.{IsNest, IsFormed, AreMany}
+use Rattle.fb_graph.specs.Nests.{IsNest, AreMany}
 use Rattle.fb_graph.specs.Moves.{MaySplit}
 use Rattle.fb_laws.specs.Works.{AreMatchedLinks}
 use Rattle.fb_laws.specs.Trees.{Entry, Connects}
 use Rattle.fb_laws.specs.Searches.{IsSearch}
 use Rattle.fb_laws.specs.SearchOpenings.{IsSplit, IsOpenedTree}
 use Rattle.fb_laws.specs.OpenedCycles.{Pass, Couple, ArePassed, AreCoupled, last_of, paired_of, matched_on, grown_on, matched_beside, opened_tree, IsOpenedCycle, BlossomOpened}
-use Rattle.fb_graph.proofs.Among.{IsAmong, All_among, among_right}
+use Rattle.fb_graph.proofs.Among.{IsAmong, among_right}
 use Rattle.fb_laws.proofs.CycleWays.{way_round}
 use Rattle.fb_laws.proofs.OpenedCycles.{cycle_opened}
 use Rattle.fb_graph.proofs.SplitNests.{nest_split}
+use Rattle.fb_graph.proofs.NestParts.{joins_many, split_is_bare}
 use Rattle.fb_laws.proofs.SplitStates.{split_at, split_off}
 
 -- names that differ do so in any order
@@ -72,15 +73,10 @@ module _ (p : Problem) (before after : List Node) (b : Node) (newer older : List
   there = among_right before (b ∷ after) b (inl refl)
 
   some : is_empty b.children ≡ false
-  some =
-      (All_among (λ n. n.name ≡ b.name → (is_empty n.children ≡ false) × (n.below ≡ []) × (n.top.value ≡ 0)) (before ++ b ∷ after) may.bare b there refl).0
+  some = (split_is_bare (before ++ b ∷ after) b.name may b there refl).0
 
   many : AreMany b.children
-  many = by (All_among IsFormed (before ++ b ∷ after) nest.forest.formed b there)
-    where
-      by : IsFormed b → AreMany b.children
-      by (inl childless) = absurd (both_ways (is_empty b.children) some (ap is_empty childless.none))
-      by (inr is_many) = is_many
+  many = joins_many p (before ++ b ∷ after) nest b there some
 
   pub even : length names % 2 ≡ 0
   even = let size : length (first ∷ names) ≡ length b.children = length_permutation b.children (first ∷ names) round in omega (arith, size, many.odd)

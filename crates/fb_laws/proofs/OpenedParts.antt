@@ -15,12 +15,12 @@ use Rattle.fb_graph.specs.Dual.{Node, AreApart, AreGrown, all_cuts, is_empty, is
 use Rattle.fb_graph.specs.Counts.{as_count}
 use Rattle.fb_graph.specs.Ends.{ends_in, crossing_links, AreAllApart}
 use Rattle.fb_graph.specs.Links.{IsTightLink}
-use Rattle.fb_graph.specs.Nests.{IsNest, IsFormed, IsFilled, AreMany, AreJoinedLater, child_sets, first_set}
+use Rattle.fb_graph.specs.Nests.{IsNest, IsFilled, AreMany, AreJoinedLater, child_sets, first_set}
 use Rattle.fb_graph.proofs.Among.{IsAmong, All_among, among_All, among_either, among_left, among_right, among_live, among_outer, any_among, apart_among, apart_of_two, map_among, name_among, other_name, same_among, top_among, is_in-empty}
 use Rattle.fb_graph.proofs.AppendedNodes.{names_merged}
 use Rattle.fb_graph.proofs.EndSums.{apart_sym, ends_union}
 use Rattle.fb_graph.proofs.Forests.{child_within, first_within}
-use Rattle.fb_graph.proofs.NestParts.{grove_of, top_is_odd}
+use Rattle.fb_graph.proofs.NestParts.{grove_of, joins_many, top_is_odd}
 use Rattle.fb_graph.proofs.Sets.{is_in-All}
 use Rattle.fb_graph.proofs.Sums.{sum_same}
 use Rattle.fb_graph.proofs.Unions.{distinct_append}
@@ -236,11 +236,7 @@ module _ (p : Problem) (nodes : List Node) (cycles : ℕ → List Link) (nest : 
       ∙ level.ends q q_in q_top)
 
   many : is_empty q.children ≡ false → AreMany q.children
-  many some = by (All_among IsFormed nodes nest.forest.formed q q_in)
-    where
-      by : IsFormed q → AreMany q.children
-      by (inl childless) = absurd (both_ways (is_empty q.children) some (ap is_empty childless.none))
-      by (inr is_many) = is_many
+  many = joins_many p nodes nest q q_in
 
   abbrev More : List Link
   More = pair_links links Sets (cycles q.name)

@@ -130,7 +130,7 @@ module _ (p : Problem) (nodes others : List Node) (blossom : ℕ) (children : Li
     at_defects = subst (λ l. EndAtDefects p l links) (sym split.defects) are.at_defects;
   }
 
-  -- a set's ends are told at the defects
+  -- a set's ends follow from the defects
   pub at_ends : (P : ℕ → Type 0) (links : List Link) → EndAtDefects p (leaves nodes) links → ((v : ℕ) → p.is_real v ≡ false → P v)
       → ((v : ℕ) → is_in (leaves nodes) v ≡ true → P v) → All (λ l. P l.from × P l.to) links
   at_ends P links at unreal leaf i d less = (one (get_or links i d).from (at i d less).0, one (get_or links i d).to (at i d less).1)

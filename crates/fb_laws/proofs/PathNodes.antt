@@ -1,4 +1,4 @@
--- The nodes of the two paths that a cycle is made of: no node stands on both, nor twice on the cycle.
+-- The nodes of the two paths that a cycle is made of: no node is on both, nor twice on the cycle.
 use Rattle.std.proofs.Common.{ℕ, ◌≡◌, ◌==◌, ◌||◌, ◌⊎◌, ◌+◌, ◌*◌, inl, inr, Bool, true, false, List, [], ◌∷◌, ◌++◌, length, refl, sym, ap, ◌∙◌, subst, arith}
 use Rattle.std.proofs.lemmas.Bool.{both_ways, false≢true, false_from_ne_true, or_from}
 use Rattle.std.proofs.lemmas.List.{length-append}

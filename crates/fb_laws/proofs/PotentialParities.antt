@@ -26,32 +26,16 @@ spread p nodes r v name dual one cover parity d other leaf under named =
 
 pub met_parity : MetParity
 met_parity p test nodes r e u v name dual one parity leads even full differs over cover =
-    spread p nodes r v name dual one cover (step leads)
+    spread p nodes r v name dual one cover (omega (arith, near, even, full, dual.loads e differs, both leads))
   where
     near : height_of (all_cuts nodes) u % 2 ≡ r
     near = covered_parity p test nodes r u dual parity over
 
-    step : Leads e u v → height_of (all_cuts nodes) v % 2 ≡ r
-    step (inl (first, second)) =
-        omega (
-          arith,
-          near,
-          even,
-          full,
-          dual.loads e differs,
-          ap (height_of (all_cuts nodes)) first,
-          ap (height_of (all_cuts nodes)) second,
-        )
-    step (inr (second, first)) =
-        omega (
-          arith,
-          near,
-          even,
-          full,
-          dual.loads e differs,
-          ap (height_of (all_cuts nodes)) first,
-          ap (height_of (all_cuts nodes)) second,
-        )
+    both : Leads e u v
+        → height_of (all_cuts nodes) e.first + height_of (all_cuts nodes) e.second
+        ≡ height_of (all_cuts nodes) u + height_of (all_cuts nodes) v
+    both (inl (first, second)) = omega (arith, ap (height_of (all_cuts nodes)) first, ap (height_of (all_cuts nodes)) second)
+    both (inr (second, first)) = omega (arith, ap (height_of (all_cuts nodes)) first, ap (height_of (all_cuts nodes)) second)
 
 pub linked_parity : LinkedParity
 linked_parity p test nodes r l name dual one parity even tight differs over cover =

@@ -1,4 +1,4 @@
--- Links round a cycle of outer nodes, told by their names and by their sets.
+-- Links round a cycle of outer nodes, by their names and by their sets.
 use Rattle.std.proofs.Common.{ℕ, ◌≡◌, ◌⊎◌, inl, inr, true, List, [], ◌∷◌, ◌++◌, map, refl, ◌∙◌, subst}
 use Rattle.std.proofs.lemmas.List.{map-append}
 use Rattle.std.proofs.lemmas.Bool.{false≢true}

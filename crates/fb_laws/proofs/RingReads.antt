@@ -180,7 +180,7 @@ beside_by_number table steps r long even low = step (steps % 2 == 0) refl
         (omega (arith, even, length-reverse r.others))
         (omega (arith, not_even steps e, low, length-reverse r.others)) (omega (arith, not_even steps e, even, low)))
 
--- what stands at a place of a round, and after it
+-- what is at a place of a round, and after it
 next_in : {X : Type 0} (first : X) (rest : List X) (k : ℕ) (d : X) → k < length (first ∷ rest)
     → get_or (rest ++ first ∷ []) k d ≡ get_or (first ∷ rest) ((k + 1) % length (first ∷ rest)) d
 next_in {X} first rest k d less = step (cases_Bool (nat_lt k (length rest)))

@@ -176,7 +176,7 @@ not_even n e = step (cases_of (n % 2) (omega arith))
     step (inl none) = absurd (both_ways (n % 2 == 0) e (eq-eqb (n % 2) 0 none))
     step (inr one) = one
 
--- Back, the node stands as many links on as are left of the round.
+-- Back, the node is as many links on as are left of the round.
 back_at : (from : ℕ) (others : List ℕ) (steps : ℕ) → steps % 2 ≡ 1 → steps ≤ length others
     → get_or (from ∷ reverse others) (length others + 1 - steps) from ≡ get_or (from ∷ others) steps from
 back_at from others zero odd low = absurd (omega (arith, odd))

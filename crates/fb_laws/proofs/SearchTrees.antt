@@ -1,4 +1,4 @@
--- What the record of a search tells of its tree.
+-- What the record of a search says of its tree.
 use Rattle.std.proofs.Common.{ℕ, zero, suc, ◌≡◌, ◌+◌, ◌≤◌, ◌<◌, ◌==◌, ◌&&◌, ◌⊎◌, inl, inr, Bool, true, false, cond, List, [], ◌∷◌, ◌++◌, map, length, All, Option, Some, None, refl, sym, ap, ◌∙◌, subst, arith}
 use Rattle.std.specs.List.{find}
 use Rattle.std.specs.List.Sorted.{IsPermutation}
@@ -23,7 +23,7 @@ use Rattle.fb_graph.proofs.Crossings.{found_place, name_in}
 use Rattle.fb_graph.proofs.EndSums.{ends-cons, ends_of_one}
 use Rattle.fb_laws.proofs.PathSums.{paths_joined}
 
--- the node that covers a vertex stands at a place
+-- the node that covers a vertex is at a place
 pub cover_place : (nodes : List Node) (v name : ℕ) → cover_of nodes v ≡ Some name
     → (i : ℕ) × (i < length nodes) × ((node_at nodes i).name ≡ name) × (is_outer nodes name ≡ true)
     × (is_in (node_at nodes i).top.vertices v ≡ true)

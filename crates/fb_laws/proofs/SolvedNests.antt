@@ -6,8 +6,7 @@ use Rattle.std.proofs.lemmas.List.Elements.{All-map}
 use Rattle.fb_graph.specs.Parity.{is_in}
 use Rattle.fb_graph.specs.Certificate.{AreDistinct}
 use Rattle.fb_graph.specs.Laws.{Link, IsSolved, odd_edges}
-use Rattle.fb_graph.specs.Dual.{Node, AreApart, AreGrown, all_cuts, defects_of, is_empty, layers_of, leaves}
-use Rattle.fb_graph.proofs.PrintedCuts.{Fits-same_loads, printed-All, printed-load, printed-total}
+use Rattle.fb_graph.specs.Dual.{Node, AreApart, AreGrown, defects_of, is_empty, layers_of, leaves}
 use Rattle.fb_graph.proofs.Sets.{All-from_is_in, is_in-All}
 use Rattle.fb_graph.proofs.Sums.{sum_same}
 use Rattle.fb_graph.specs.Counts.{as_count}
@@ -19,11 +18,11 @@ use Rattle.fb_graph.specs.Nests.{IsFormed, first_set}
 use Rattle.fb_laws.specs.NestSolutions.{DefectsFirst, LeafLevel, NestResolved, leaf_sets}
 use Rattle.fb_graph.proofs.Among.{IsAmong, All_among, among_All, leaf_among, map_among, is_in-empty}
 use Rattle.fb_graph.proofs.Forests.{defects_first, first_within}
-use Rattle.fb_laws.proofs.HalvesKept.{positive_loads, positive_packing, positive_total}
-use Rattle.fb_laws.proofs.MergedParts.{odd_in}
+use Rattle.fb_laws.proofs.HalvesKept.{positive_loads, positive_packing}
 use Rattle.fb_laws.proofs.NestOrders.{Relates, related}
 use Rattle.fb_graph.proofs.NestParts.{grove_of, top_is_odd}
 use Rattle.fb_laws.proofs.OpenedLevels.{level_solved}
+use Rattle.fb_laws.proofs.SolvedRows.{solved_is_best}
 use Rattle.fb_graph.proofs.Booleans.{same_bool}
 
 -- a node with a defect of its own joins no others
@@ -130,16 +129,8 @@ leaf_level p nodes links nest at_defects level = record {
         (at (is_in-All (λ u. p.is_real u ≡ true) m.top.vertices (top_is_odd p nodes nest m a).real v h)) h)
 
 pub nest_resolved : NestResolved
-nest_resolved p nodes links printed nest defects level tight at_defects are rising = record {
-  edge_set = solved.edge_set;
-  flips = solved.flips;
-  weighs = sym (solved.weighs ∙ positive_total nodes);
-  printed = printed-All p (all_cuts nodes) printed are (odd_in p nodes nest.dual defects);
-  rising = rising;
-  fits = Fits-same_loads p (all_cuts nodes) printed (printed-load (all_cuts nodes) printed are)
-      nest.dual.packing.fits;
-  total = sym (printed-total (all_cuts nodes) printed are);
-}
+nest_resolved p nodes links printed nest defects level tight at_defects are rising =
+    solved_is_best p nodes (odd_edges p links) printed nest defects solved are rising
   where
     solved : IsSolved p (positive_cuts nodes) (odd_edges p links)
     solved =

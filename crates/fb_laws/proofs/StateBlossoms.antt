@@ -52,9 +52,6 @@ links_agree name links cycles (n ∷ ns) other =
     ∙ ap (λ l. links_at cycles n ++ l) (links_agree name links cycles ns (λ m a. other m (inr a)))
 
 module _ (p : Problem) (nodes : List Node) (cycles : ℕ → List Link) (name first : ℕ) (names : List ℕ) (links : List Link) (nest : IsNest p nodes) (fresh : is_live nodes name ≡ false) (live : All (λ c. is_live nodes c ≡ true) (first ∷ names)) where
-  all : List Node
-  all = joined_nodes name (first ∷ names) nodes
-
   no_blossom : (n : Node) → IsAmong n nodes → n.name ≡ name → ⊥
   no_blossom n a same = both_ways (is_live nodes name) fresh (among_live nodes n name a same)
 

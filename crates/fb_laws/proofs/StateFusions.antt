@@ -88,9 +88,6 @@ rings_same nodes some cycles more same rings =
 module _ (left right whole : Problem) (s t : PartState) (parts : AreParts left right whole)
     (covered : (v : ℕ) → whole.is_real v ≡ true → (left.is_real v ≡ true) ⊎ (right.is_real v ≡ true)) (names : HaveOwnNames s.nodes t.nodes)
     (here : IsPartState left s) (there : IsPartState right t) where
-  abbrev both : List Node
-  both = s.nodes ++ t.nodes
-
   not_left : (n : ℕ) → is_live t.nodes n ≡ true → is_live s.nodes n ≡ false
   not_left n live =
       false_from_ne_true (is_live s.nodes n) (λ other. both_ways (is_live t.nodes n) (names n other) live)

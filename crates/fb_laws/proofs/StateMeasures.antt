@@ -4,8 +4,9 @@ use Rattle.std.proofs.lemmas.Bool.{both_ways, false_from_ne_true}
 use Rattle.fb_graph.specs.Parity.{is_in}
 use Rattle.fb_graph.specs.Dual.{is_empty}
 use Rattle.fb_graph.specs.Moves.{split_nodes}
-use Rattle.fb_graph.proofs.Among.{IsAmong, All_among, among_right}
+use Rattle.fb_graph.proofs.Among.{IsAmong, among_right}
 use Rattle.fb_graph.proofs.Places.{IsPlaced, placed}
+use Rattle.fb_graph.proofs.NestParts.{split_is_bare}
 use Rattle.fb_laws.specs.Measures.{IsLower}
 use Rattle.fb_laws.specs.OpenedCycles.{last_of, opened_tree, paired_of}
 use Rattle.fb_laws.specs.SearchLayers.{left_to_do}
@@ -90,5 +91,5 @@ opened_less p s newer older e from way couples free freed tree_is may cycle stat
 
     some : is_empty at.node.children ≡ false
     some =
-        (All_among (λ x. x.name ≡ e.minus → (is_empty x.children ≡ false) × (x.below ≡ []) × (x.top.value ≡ 0)) s.nodes may.bare at.node
+        (split_is_bare s.nodes e.minus may at.node
         (subst (IsAmong at.node) (sym at.whole) (among_right at.before (at.node ∷ at.after) at.node (inl refl))) at.named).0

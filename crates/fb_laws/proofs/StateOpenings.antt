@@ -11,7 +11,7 @@ use Rattle.fb_graph.specs.Laws.{Link}
 use Rattle.fb_graph.specs.Links.{IsTightLink}
 use Rattle.fb_graph.specs.Dual.{Node, all_cuts, cover_of, is_empty, is_live, is_outer, leaves, top_at}
 use Rattle.fb_graph.specs.Moves.{MaySplit, split_nodes}
-use Rattle.fb_graph.specs.Nests.{IsNest, IsFormed, AreMany, child_sets}
+use Rattle.fb_graph.specs.Nests.{IsNest, AreMany, child_sets}
 use Rattle.fb_graph.proofs.Among.{IsAmong, All_among, among_All, among_left, among_live, among_right, live_among, map_among, outer_among, top_among}
 use Rattle.fb_graph.proofs.InsertedCuts.{same_weigh}
 use Rattle.fb_graph.proofs.Nodes.{All-flat_map, All-pieces}
@@ -40,6 +40,7 @@ use Rattle.fb_laws.proofs.SearchTrees.{connects_sym, exclusive_names}
 use Rattle.fb_laws.proofs.SplitStates.{child_covers, end_under_child, is_split}
 use Rattle.fb_laws.proofs.TreePaths.{among_minus, not_both, tree_connects}
 use Rattle.fb_graph.proofs.Floods.{is_in-both}
+use Rattle.fb_graph.proofs.NestParts.{joins_many, split_is_bare}
 
 -- the sets of all nodes but the one that is split
 top_split : (name c : ℕ) → (c ≡ name → ⊥) → (nodes : List Node) → top_at (split_nodes name nodes) c ≡ top_at nodes c
@@ -176,7 +177,7 @@ cycle_freed p nodes cycles name may nest are =
       tight =
           subst (λ m. AreMatchedLinks p nodes (cycles m)) named
           (tight_at p nodes cycles n a
-          (All_among (λ x. x.name ≡ name → (is_empty x.children ≡ false) × (x.below ≡ []) × (x.top.value ≡ 0)) nodes may.bare n a named).0
+          (split_is_bare nodes name may n a named).0
           are);
     })
 
@@ -260,15 +261,7 @@ module _ (p : Problem) (s : SearchState) (e : Entry) (within : IsAmong e s.tree)
       × IsOpenedCycle p s.nodes (split_nodes e.minus s.nodes) e from way couples s.unmatched
 
   many : AreMany b.children
-  many = by (All_among IsFormed s.nodes state.search.nest.forest.formed b there)
-    where
-      some : is_empty b.children ≡ false
-      some =
-          (All_among (λ x. x.name ≡ e.minus → (is_empty x.children ≡ false) × (x.below ≡ []) × (x.top.value ≡ 0)) s.nodes may.bare b there named).0
-
-      by : IsFormed b → AreMany b.children
-      by (inl childless) = absurd (both_ways (is_empty b.children) some (ap is_empty childless.none))
-      by (inr is_many) = is_many
+  many = joins_many p s.nodes state.search.nest b there (split_is_bare s.nodes e.minus may b there named).0
 
   opens : Opens
   opens = by (b.children) refl

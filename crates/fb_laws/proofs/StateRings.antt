@@ -8,11 +8,12 @@ use Rattle.std.proofs.lemmas.List.Sorted.{IsPermutation-sym, IsPermutation-trans
 use Rattle.fb_graph.specs.Parity.{is_in}
 use Rattle.fb_graph.specs.Problem.{Problem}
 use Rattle.fb_graph.specs.Laws.{Link}
-use Rattle.fb_graph.specs.Dual.{Node, cover_of, is_empty, is_live, is_outer, leaves, top_at}
+use Rattle.fb_graph.specs.Dual.{Node, cover_of, is_live, is_outer, leaves, top_at}
 use Rattle.fb_graph.specs.Moves.{MaySplit, split_nodes}
-use Rattle.fb_graph.specs.Nests.{IsFormed, AreMany}
+use Rattle.fb_graph.specs.Nests.{AreMany}
 use Rattle.fb_graph.proofs.Among.{IsAmong, All_among, live_among, top_among}
 use Rattle.fb_graph.proofs.Sets.{is_in-All}
+use Rattle.fb_graph.proofs.NestParts.{joins_many, split_is_bare}
 use Rattle.fb_laws.specs.OpenedCycles.{IsOpenedCycle, last_of, paired_of}
 use Rattle.fb_laws.specs.OpenedLinks.{round_from}
 use Rattle.fb_laws.specs.PartStates.{SearchState, IsSearchState}
@@ -110,16 +111,8 @@ module _ (p : Problem) (s : SearchState) (newer older : List Entry) (e : Entry) 
       (cycle_freed p s.nodes s.cycles e.minus may.may_split state.search.nest state.cycles) b among named
 
   many : AreMany b.children
-  many = by (All_among IsFormed s.nodes state.search.nest.forest.formed b among)
-    where
-      by : IsFormed b → AreMany b.children
-      by (inl childless) =
-          absurd
-          (both_ways (is_empty b.children)
-          (All_among (λ x. x.name ≡ e.minus → (is_empty x.children ≡ false) × (x.below ≡ []) × (x.top.value ≡ 0)) s.nodes
-          may.may_split.bare b among named).0
-          (ap is_empty childless.none))
-      by (inr is_many) = is_many
+  many =
+      joins_many p s.nodes state.search.nest b among (split_is_bare s.nodes e.minus may.may_split b among named).0
 
   begun : IsRoundFrom Others From Ring × IsPermutation (first ∷ names) (From ∷ Ring.others)
   begun =

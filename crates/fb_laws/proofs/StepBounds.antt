@@ -1,4 +1,4 @@
--- How far an alternating tree may step, told by each edge's ends.
+-- How far an alternating tree may step, by each edge's ends.
 use Rattle.std.proofs.Common.{ℕ, ◌≡◌, ◌+◌, ◌*◌, ◌≤◌, ◌<◌, ◌⊎◌, inl, inr, Bool, true, false, List, get_or, refl, sym, ap, arith}
 use Rattle.std.proofs.lemmas.Bool.{false≢true, cases_Bool}
 use Rattle.fb_graph.specs.Problem.{Problem}

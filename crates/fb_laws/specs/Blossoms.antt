@@ -13,12 +13,12 @@ use Rattle.fb_laws.specs.Paths.{Joins, holds, IsWhole}
 abbrev pub IsInside : List ℕ → Link → Type 0
 IsInside set l = (is_in set l.from ≡ true) × (is_in set l.to ≡ true)
 
--- A blossom's matched links are those of its children, but for the inner ones.
+-- A blossom's matched links are those of its children except the inner ones.
 abbrev pub FormedEnds : Type 0
 FormedEnds = (sets : List (List ℕ)) (inner rest : List Link) → AreAllApart sets → All (IsInside (concat sets)) inner
     → ends_in (concat sets) rest + 2 * length inner ≡ sum_by (λ s. ends_in s (inner ++ rest)) sets
 
--- Where all children but the base are matched among one another, the blossom is matched as its base was.
+-- If all children but the base are matched among one another, the blossom is matched as its base was.
 abbrev pub BaseAlone : Type 0
 BaseAlone = (base : List ℕ) (others : List (List ℕ)) (inner rest : List Link) → AreAllApart (base ∷ others)
     → All (IsInside (concat (base ∷ others))) inner → length others ≡ 2 * length inner
@@ -59,19 +59,19 @@ abbrev pub HasRole : Roles → Bool → ℕ → Type 0
 HasRole roles true n = roles.is_plus n ≡ true
 HasRole roles false n = roles.is_minus n ≡ true
 
--- the nodes' roles alternate, the first one as said
+-- the nodes' roles alternate, the first one being given
 abbrev pub AlternateFrom : Roles → Bool → List ℕ → Type 0
 AlternateFrom roles plus [] = Unit {0}
 AlternateFrom roles plus (n ∷ ns) = HasRole roles plus n × AlternateFrom roles (not plus) ns
 
--- The cycle that a link between two plus nodes closes is odd: it goes up from the one to the node where their paths to
--- the root meet, and down to the other.
+-- The cycle that a link between two plus nodes closes is odd: it goes up from the one to the node at which their paths
+-- to the root meet, and down to the other.
 abbrev pub OddCycle : Type 0
 OddCycle = (roles : Roles) (up down tail : List ℕ) (meet : ℕ) → AreExclusive roles
     → AlternateFrom roles true (up ++ meet ∷ tail) → AlternateFrom roles true (down ++ meet ∷ tail)
     → (length up + 1 + length down) % 2 ≡ 1
 
--- Where they meet is a plus node if no minus node has two children: then the blossom's base is plus.
+-- They meet at a plus node if no minus node has two children: then the blossom's base is plus.
 abbrev pub PlusBase : Type 0
 PlusBase = (roles : Roles) (up down tail : List ℕ) (meet : ℕ) → AreExclusive roles
     → AlternateFrom roles true (up ++ meet ∷ tail) → AlternateFrom roles true (down ++ meet ∷ tail) → AreApart up down

@@ -1,4 +1,4 @@
--- How far an alternating tree may step, told by each edge's ends.
+-- How far an alternating tree may step, by each edge's ends.
 use Rattle.std.specs.Prelude.{ℕ, ◌≡◌, ◌+◌, ◌*◌, ◌≤◌, true, false, List, All}
 use Rattle.fb_graph.specs.Problem.{Problem}
 use Rattle.fb_graph.specs.Certificate.{load_of}
@@ -7,8 +7,8 @@ use Rattle.fb_graph.specs.declared.parts.Edge.{Edge}
 use Rattle.fb_graph.specs.Steps.{Roles, AllowShrinking, MayStep}
 use Rattle.fb_graph.specs.Covers.{AreRoles, HasNoObstacle, is_covered_by}
 
--- The edge can bear a step of length k: the length itself where one end is under a plus node and the other under
--- neither a plus nor a minus node, and twice the length where both ends are under plus nodes.
+-- The edge can bear a step of length k: the length itself if one end is under a plus node and the other under neither
+-- a plus nor a minus node, and twice the length if both ends are under plus nodes.
 pub record Bears (roles : Roles) (nodes : List Node) (k : ℕ) (e : Edge) : Type 0 where
   pub first : is_covered_by roles.is_plus nodes e.first ≡ true → is_covered_by roles.is_plus nodes e.second ≡ false
       → is_covered_by roles.is_minus nodes e.second ≡ false → load_of (all_cuts nodes) e + k ≤ e.weight
@@ -32,7 +32,7 @@ abbrev pub StepsBounded : Type 0
 StepsBounded = (p : Problem) (roles : Roles) (nodes : List Node) (k : ℕ) → IsDual p nodes → AreRoles roles nodes
     → MayStep p roles nodes k → IsBounded p roles nodes k
 
--- Where a step of some length is allowed, no obstacle stands.
+-- If a step of some length is allowed, there is no obstacle.
 abbrev pub NoObstacleBefore : Type 0
 NoObstacleBefore = (p : Problem) (roles : Roles) (nodes : List Node) (k : ℕ) → IsDual p nodes → AreRoles roles nodes
     → 1 ≤ k → MayStep p roles nodes k → HasNoObstacle p roles nodes

@@ -5,7 +5,7 @@ use Rattle.fb_graph.specs.Dual.{Node, IsDual}
 use Rattle.fb_graph.specs.Nests.{IsNest}
 use Rattle.fb_graph.specs.SourceWalks.{HaveWalks}
 
--- It is one of the problem just where it is one of the problem with other defects.
+-- It is one of the problem if and only if it is one of the problem with other defects.
 abbrev pub DualExchanged : Type 0
 DualExchanged = (p : Problem) (nodes : List Node) (defects : List ℕ)
     → (IsDual p nodes → IsDual (with_defects p defects) nodes) × (IsDual (with_defects p defects) nodes → IsDual p nodes)

@@ -41,7 +41,7 @@ pub record IsCycle (nodes : List Node) (base : Child) (others : List Child) (inn
   pub matched : All (λ c. is_in unmatched c.name ≡ false) others
   pub parity : HaveParity (is_in (names_of (base ∷ others))) nodes r
 
--- The blossom takes the place of its base: it is unmatched where the base was.
+-- The blossom takes the place of its base: it is unmatched if the base was.
 abbrev pub MatchingFormed : Type 0
 MatchingFormed = (p : Problem) (nodes : List Node) (name : ℕ) (base : Child) (others : List Child)
     (inner rest : List Link) (unmatched remaining : List ℕ) (r : ℕ) → IsCycle nodes base others inner unmatched r

@@ -19,11 +19,11 @@ pub record IsLinkOf (p : Problem) (l : Link) : Type 0 where
   pub moves : l.walk ≢ []
   pub real : All (λ k. has_real_end p (edge_at p.edges k) ≡ true) l.walk
 
--- The order of the two parts doesn't count.
+-- The order of the two parts doesn't matter.
 abbrev pub PartsTurned : Type 0
 PartsTurned = (left right whole : Problem) → AreParts left right whole → AreParts right left whole
 
--- A link of the one part has no end that is real in the other, also where it ends at the boundary.
+-- A link of the one part has no end that is real in the other, also if it ends at the boundary.
 abbrev pub LinkEndsAway : Type 0
 LinkEndsAway = (left right whole : Problem) (l : Link) → AreParts left right whole → IsLinkOf left l
     → (right.is_real l.from ≡ false) × (right.is_real l.to ≡ false)
@@ -63,7 +63,7 @@ abbrev pub SeamParity : Type 0
 SeamParity = (p : Problem) (cuts : List Cut) (l : Link) → AreEven p → All (IsOddCut p) cuts → IsTightLink p cuts l
     → p.is_real l.to ≡ false → height_of cuts l.from % 2 ≡ 0
 
--- Where the whole has no real vertices but those of its parts, their perfect matchings together are one.
+-- If the whole has no real vertices but those of its parts, their perfect matchings together are one.
 abbrev pub FusedPerfect : Type 0
 FusedPerfect = (left right whole : Problem) (cuts more : List Cut) (links others : List Link)
     → AreParts left right whole

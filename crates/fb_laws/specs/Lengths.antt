@@ -19,8 +19,8 @@ pub record IsGreatestStep (p : Problem) (roles : Roles) (nodes : List Node) (k :
 abbrev pub NoLength : Type 0
 NoLength = (p : Problem) (roles : Roles) (nodes : List Node) → IsPacking p (all_cuts nodes) → MayStep p roles nodes 0
 
--- Where a step is allowed, there is a greatest one, so that no tree grows for ever: a minus node bounds it, or, where
--- there is none, an edge that leaves a plus node.
+-- If a step is allowed, there is a greatest one, so that no tree grows for ever: a minus node bounds it or, if there is
+-- none, an edge that leaves a plus node.
 abbrev pub GreatestStep : Type 0
 GreatestStep = (p : Problem) (roles : Roles) (nodes : List Node) (j : ℕ) → AreExclusive roles → HasPlus roles nodes
     → HasNoOddClosed p → IsPacking p (all_cuts nodes) → MayStep p roles nodes j

@@ -9,7 +9,7 @@ use Rattle.fb_laws.specs.Paths.{LeadsOut}
 use Rattle.fb_graph.specs.Singles.{Single, nodes_of, vertices_of}
 use Rattle.fb_laws.specs.Works.{IsMatching, IsSetOf}
 
--- What two parts keep, the whole keeps of both together, where its real vertices are those of the parts. Names may not
+-- What two parts keep, the whole keeps of both together, if its real vertices are those of the parts. Names may not
 -- clash, and the whole's dual state is that of both lists of nodes.
 abbrev pub MatchingsMerged : Type 0
 MatchingsMerged = (left right whole : Problem) (nodes others : List Node) (links more : List Link)

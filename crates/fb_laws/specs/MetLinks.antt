@@ -1,4 +1,4 @@
--- Links made where an outer node meets another one or the boundary over a tight edge: the source walk on either side
+-- Links made when an outer node meets another one or the boundary over a tight edge: the source walk on either side
 -- and the edge (Edmonds 1965; Wu and Zhong 2023). Also links turned round, and joined at a defect without potential.
 use Rattle.std.specs.Prelude.{ℕ, ◌≡◌, ◌<◌, true, false, List, [], ◌∷◌, ◌++◌, reverse, length, All, Some}
 use Rattle.fb_graph.specs.Parity.{is_in}
@@ -37,7 +37,7 @@ pub record IsTightEdge (p : Problem) (nodes : List Node) (k u v : ℕ) : Type 0 
 abbrev pub met_link : ℕ → List ℕ → ℕ → List ℕ → ℕ → Link
 met_link d walk k back c = record { from = d; to = c; walk = walk ++ k ∷ reverse back }
 
--- Where two outer nodes meet over a tight edge, that is a matched link between them.
+-- If two outer nodes meet over a tight edge, that is a matched link between them.
 abbrev pub LinkMet : Type 0
 LinkMet = (p : Problem) (nodes : List Node) (a b : ℕ) (walk back : List ℕ) (k d u v c : ℕ) → IsDual p nodes
     → (a ≡ b → ⊥) → IsSourceUnder p nodes a walk d u → IsSourceUnder p nodes b back c v → IsTightEdge p nodes k u v
@@ -47,7 +47,7 @@ LinkMet = (p : Problem) (nodes : List Node) (a b : ℕ) (walk back : List ℕ) (
 abbrev pub boundary_link : ℕ → List ℕ → ℕ → ℕ → Link
 boundary_link d walk k v = record { from = d; to = v; walk = walk ++ k ∷ [] }
 
--- Where an outer node meets the boundary over a tight edge, that is a matched link from the node to the boundary.
+-- If an outer node meets the boundary over a tight edge, that is a matched link from the node to the boundary.
 abbrev pub LinkToBoundary : Type 0
 LinkToBoundary = (p : Problem) (nodes : List Node) (a : ℕ) (walk : List ℕ) (k d u v : ℕ) → IsDual p nodes
     → p.is_real v ≡ false → IsSourceUnder p nodes a walk d u → IsTightEdge p nodes k u v

@@ -1,4 +1,4 @@
--- The moves of a nest, told as the laws of searches tell them.
+-- The moves of a nest, in the form that the laws of searches have.
 use Rattle.std.specs.Prelude.{ℕ, ◌≡◌, ◌≤◌, Bool, true, false, List, [], ◌∷◌, ◌++◌, map, length, All, None}
 use Rattle.fb_graph.specs.Parity.{is_in}
 use Rattle.fb_graph.specs.Problem.{Problem}
@@ -17,7 +17,7 @@ use Rattle.fb_laws.specs.Searches.{IsSearch}
 use Rattle.fb_graph.specs.Nests.{IsNest}
 use Rattle.fb_graph.specs.Moves.{MayJoin, MayAbsorb, MayUncover, blossom, joined_nodes, absorbed_nodes, uncovered_nodes}
 
--- A blossom told by its children's names and sets is the one told by their names.
+-- The blossom of children given by their names and sets is that of their names.
 abbrev pub BlossomNamed : Type 0
 BlossomNamed = (nodes : List Node) (name : ℕ) (children : List Child) → AreDistinct (map (λ n. n.name) nodes)
     → All (λ c. IsSetOf nodes c.name c.set) children

@@ -12,7 +12,7 @@ use Rattle.fb_graph.specs.Singles.{Single, nodes_of, vertices_of}
 use Rattle.fb_laws.specs.Merging.{Freed, IsSeam, freed_links, freed_names}
 use Rattle.fb_laws.specs.NestedSearches.{IsNestedWork}
 
--- The whole states of two separated parts are one of the whole, where its real vertices are those of the parts.
+-- The whole states of two separated parts are one of the whole, if its real vertices are those of the parts.
 abbrev pub NestedMerged : Type 0
 NestedMerged = (left right whole : Problem) (nodes others : List Node) (links more : List Link)
     (unmatched open_ : List ℕ) → IsWithinLimits whole → AreParts left right whole

@@ -24,7 +24,7 @@ NestOpened = (p : Problem) (nodes : List Node) (name kept : ℕ) (paired : List 
     → is_live nodes name ≡ true → AreChildrenOf nodes name (kept ∷ paired) → ArePaired (map (top_at nodes) paired) links
     → IsOpening (positive_cuts nodes) (top_at nodes name) (top_at nodes kept) (map (top_at nodes) paired) links
 
--- The defects that a node holds lie in its first layer, so under its children where it has any.
+-- The defects that a node holds lie in its first layer, so under its children if it has any.
 abbrev pub DefectsFirst : Type 0
 DefectsFirst = (p : Problem) (nodes : List Node) → IsNest p nodes
     → All

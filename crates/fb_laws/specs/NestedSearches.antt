@@ -52,14 +52,14 @@ NestedSearchBegins = (p : Problem) (nodes : List Node) (links : List Link) (unma
     → IsNestedWork p nodes links unmatched → IsOuterNode nodes root → is_in unmatched root ≡ true
     → IsNestedSearch p nodes [] links unmatched root 0
 
--- No search is stuck: where nothing stands in the tree's way, a free step is allowed, and there is a greatest one.
+-- No search is stuck: if the tree has no obstacle, a free step is allowed, and there is a greatest one.
 abbrev pub NestedFree : Type 0
 NestedFree = (p : Problem) (nodes : List Node) (tree : List Entry) (rest : List Link) (unmatched : List ℕ)
     (root r : ℕ) → AreEven p → HasNoOddClosed p → HasNoObstacle p (roles_of root tree) nodes
     → IsNestedSearch p nodes tree rest unmatched root r
     → (k : ℕ) × (1 ≤ k) × IsGreatestStep p (roles_of root tree) nodes k
 
--- A free step, where no closed set is odd: then an edge leaves each plus node.
+-- A free step, if no closed set is odd: then an edge leaves each plus node.
 abbrev pub NestedStepped : Type 0
 NestedStepped = (p : Problem) (nodes : List Node) (tree : List Entry) (rest : List Link) (unmatched : List ℕ)
     (root r k : ℕ) → IsWithinLimits p → HasNoOddClosed p → MayStep p (roles_of root tree) nodes k

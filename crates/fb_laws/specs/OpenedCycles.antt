@@ -78,7 +78,7 @@ opened_branches parent tree minus (s ∷ ss) matched plus =
     opened_branches s.plus s.tree s.minus ss matched plus
     ++ record { parent = parent; tree = tree; minus = minus; matched = s.matched; plus = s.plus } ∷ []
 
--- they stand in the place of the branch of the blossom
+-- they take the place of the branch of the blossom
 abbrev pub opened_tree : {L : Type 0} → List (EntryOf L) → EntryOf L → List (EntryOf L) → ℕ → List (PassOf L) → List (EntryOf L)
 opened_tree newer e older from way = newer ++ (opened_branches e.parent e.tree from way e.matched e.plus ++ older)
 

@@ -22,7 +22,7 @@ use Rattle.fb_laws.specs.PartStates.{PartState, IsPartState}
 abbrev pub has_end : List Link → List ℕ → Bool
 has_end links set = list_any (λ l. is_in set l.from || is_in set l.to) links
 
--- the place of the first element that passes the test, or the length where none does
+-- the place of the first element that passes the test, or the length if none does
 abbrev pub place_of : {X : Type 0} → (X → Bool) → List X → ℕ
 place_of test [] = 0
 place_of test (x ∷ xs) = if test x then 0 else 1 + place_of test xs

@@ -49,7 +49,7 @@ NextLevel = (cuts : List Cut) (set kept : List ℕ) (paired rest : List (List �
     → IsLevel cuts (set ∷ rest) links → IsOpening cuts set kept paired more → ends_in kept links ≡ 1
     → IsLevel cuts (kept ∷ paired ++ rest) (more ++ links)
 
--- The order of sets and links doesn't count.
+-- The order of sets and links doesn't matter.
 abbrev pub LevelPermuted : Type 0
 LevelPermuted = (cuts : List Cut) (sets more : List (List ℕ)) (links others : List Link) → IsPermutation sets more
     → IsPermutation links others → IsLevel cuts sets links → IsLevel cuts more others

@@ -31,7 +31,7 @@ PartsBelow = (p : Problem) (nodes : List Node) (roles : Roles) (free : Bool) →
 abbrev pub search_rank : Problem → List Node → Roles → Bool → ℕ
 search_rank p nodes roles free = rank_of (p.vertices + 2) (left_to_do p nodes roles free)
 
--- It falls where what is left is less, part by part.
+-- It falls if what is left is less, part by part.
 abbrev pub SearchRankFalls : Type 0
 SearchRankFalls = (p : Problem) (nodes others : List Node) (roles moved : Roles) (free freed : Bool) → IsRealBelow p
     → IsNest p others → AreRoles moved others

@@ -36,7 +36,7 @@ tree_links path = map (λ b. b.tree) path
 abbrev pub matched_links : List Branch → List Link
 matched_links path = map (λ b. b.matched) path
 
--- whether the one set holds the other, told by its first vertex
+-- whether the one set holds the other, by its first vertex
 abbrev pub holds : List ℕ → List ℕ → Bool
 holds set [] = false
 holds set (v ∷ vs) = is_in set v
@@ -48,7 +48,7 @@ IsWhole set part = (v : ℕ) → is_in part v ≡ true → is_in set v ≡ holds
 abbrev pub AreWholeOnPath : List ℕ → List ℕ → List Branch → Type 0
 AreWholeOnPath set root path = IsWhole set root × All (λ b. IsWhole set b.minus × IsWhole set b.plus) path
 
--- A path may go on where another one ends.
+-- A path may go on from the end of another one.
 abbrev pub PathsJoined : Type 0
 PathsJoined = (root : List ℕ) (path more : List Branch) → IsPath root path → IsPath (tip_of root path) more
     → IsPath root (path ++ more)
@@ -68,7 +68,7 @@ Augmented = (set root : List ℕ) (path : List Branch) (out : Link) (v : ℕ) (r
     → ends_in set (tree_links path ++ out ∷ rest)
     ≡ ends_in set (matched_links path ++ rest) + as_count (holds set root) + as_count (is_in set v)
 
--- Where the vertex is in a node that was matched to the boundary, that link goes, and just the root has an end more.
+-- If the vertex is in a node that was matched to the boundary, that link goes, and only the root has an end more.
 abbrev pub AugmentedReleasing : Type 0
 AugmentedReleasing = (set root : List ℕ) (path : List Branch) (out old : Link) (v b : ℕ) (other : List ℕ)
     (rest : List Link)

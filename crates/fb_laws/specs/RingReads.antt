@@ -39,7 +39,7 @@ abbrev pub WayByNumber : Type 0
 WayByNumber = (table : ℕ → Link) (steps : ℕ) (r : Round ℕ)
     → way_to steps (round_by table r) ≡ map (pass_by table) (way_to steps r)
 
--- A round has a link more than nodes beside the one where it begins.
+-- A round has one link more than nodes beside the one at which it begins.
 abbrev pub RoundLength : Type 0
 RoundLength = (nodes : List Node) (from : ℕ) (r : Round Link) → IsRoundFrom nodes from r
     → length r.links ≡ length r.others + 1

@@ -1,5 +1,5 @@
 -- The even way round a blossom's ring between two of its children, and the couples beside it, link by link (Edmonds
--- 1965): what code does where it opens a minus blossom.
+-- 1965): what code does when it opens a minus blossom.
 use Rattle.std.specs.Prelude.{ℕ, ◌≡◌, ◌+◌, ◌-◌, ◌%◌, ◌≤◌, ◌==◌, true, false, List, [], ◌∷◌, ◌++◌, length, take, drop, reverse, get_or, if◌then◌else◌}
 use Rattle.std.specs.List.Sorted.{IsPermutation}
 use Rattle.fb_graph.specs.Parity.{is_in}
@@ -36,7 +36,7 @@ turned_round r = record { others = reverse r.others; links = reverse r.links }
 abbrev pub IsRoundFrom : List Node → ℕ → Round Link → Type 0
 IsRoundFrom nodes from r = AreLinked nodes from (r.others ++ from ∷ []) r.links
 
--- To the node that stands so many links on it is an even number of links on, or else an even number back.
+-- To the node `steps` links on it is an even number of links on, or else an even number back.
 abbrev pub even_round : {L : Type 0} → ℕ → Round L → Round L
 even_round steps r = if steps % 2 == 0 then r else turned_round r
 
@@ -55,7 +55,7 @@ couples_along (first ∷ second ∷ names) (before ∷ link ∷ links) =
     record { first = first; link = link; second = second } ∷ couples_along names links
 couples_along names links = []
 
--- the way to the node that stands so many links on
+-- the way to the node `steps` links on
 abbrev pub way_to : {L : Type 0} → ℕ → Round L → List (PassOf L)
 way_to steps r =
     passes_along (take (even_steps steps r) (even_round steps r).others)

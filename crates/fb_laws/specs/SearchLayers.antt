@@ -13,7 +13,7 @@ use Rattle.fb_laws.specs.Trees.{Entry, roles_of}
 use Rattle.fb_laws.specs.Searches.{IsSearch}
 use Rattle.fb_graph.specs.Alike.{AreAlike}
 
--- One is the state of a search where the other is.
+-- If one is the state of a search, so is the other.
 abbrev pub SearchAlike : Type 0
 SearchAlike = (p : Problem) (nodes others : List Node) (tree : List Entry) (rest : List Link) (unmatched : List ℕ)
     (root r : ℕ) → AreAlike nodes others → IsDual p others → IsSearch p nodes tree rest unmatched root r

@@ -15,8 +15,8 @@ use Rattle.fb_laws.specs.Trees.{Entry, Connects, IsTree, grown_links, paired_lin
 use Rattle.fb_laws.specs.Searches.{IsOuterNode, IsSearch}
 use Rattle.fb_laws.specs.SearchLayers.{left_to_do}
 
--- The state with the blossom and the one without it, told by their defects: those under the blossom are under a child
--- each, all others under the nodes that they were under.
+-- The state with the blossom and the one without it, by their defects: each of those under the blossom is under a child,
+-- all others are under the nodes that they were under.
 pub record IsSplit (nodes others : List Node) (blossom : ℕ) (children : List ℕ) : Type 0 where
   pub defects : leaves others ≡ leaves nodes
   pub loads : (e : Edge) → load_of (all_cuts others) e ≡ load_of (all_cuts nodes) e

@@ -36,7 +36,7 @@ SearchBegins = (p : Problem) (nodes : List Node) (links : List Link) (unmatched 
     → IsWork p nodes links unmatched → IsOuterNode nodes root → is_in unmatched root ≡ true
     → IsSearch p nodes [] links unmatched root 0
 
--- The order of the links beside the tree doesn't count.
+-- The order of the links beside the tree doesn't matter.
 abbrev pub SearchPermuted : Type 0
 SearchPermuted = (p : Problem) (nodes : List Node) (tree : List Entry) (rest more : List Link) (unmatched : List ℕ)
     (root r : ℕ) → IsPermutation rest more → IsSearch p nodes tree rest unmatched root r

@@ -13,7 +13,7 @@ use Rattle.fb_graph.specs.declared.parts.Cut.{Cut}
 abbrev pub negatives : Problem → (ℕ → Bool) → List ℕ
 negatives p is_negative = filter is_negative (range_with_len 0 (length p.edges))
 
--- the problem whose defects are shifted: a vertex changes where an odd number of edges of negative weight end
+-- the problem whose defects are shifted: a vertex changes if an odd number of edges of negative weight end there
 abbrev pub shifted_problem : Problem → (ℕ → Bool) → Problem
 shifted_problem p is_negative =
     record p {
@@ -37,7 +37,7 @@ abbrev pub unshifted_edges : Problem → (ℕ → Bool) → List ℕ → List �
 unshifted_edges p is_negative chosen = filter (λ k. differ (is_in chosen k) (is_negative k))
     (range_with_len 0 (length p.edges))
 
--- Signed weak duality: total - base ≤ added - taken, each term on the side where it has no sign. Other than weak
+-- Signed weak duality: total - base ≤ added - taken, each term on the side on which it has no sign. Unlike weak
 -- duality it needs a choice without repetition, since a negative edge chosen twice would be taken off twice.
 abbrev pub SignedDuality : Type 0
 SignedDuality = (p : Problem) (is_negative : ℕ → Bool) (cuts : List Cut) (chosen : List ℕ)
@@ -65,7 +65,7 @@ SignedLeast = (p : Problem) (is_negative : ℕ → Bool) (cuts : List Cut) (chos
     → added_weight p is_negative chosen + taken_weight p is_negative other
     ≤ added_weight p is_negative other + taken_weight p is_negative chosen
 
--- A component is odd for the shifted defects just where it is for the others, since each edge has both ends in it or
+-- A component is odd for the shifted defects if and only if it is for the others, since each edge has both ends in it or
 -- none.
 abbrev pub SameFirstOdd : Type 0
 SameFirstOdd = (p : Problem) (is_negative : ℕ → Bool) (r : Option ℕ)

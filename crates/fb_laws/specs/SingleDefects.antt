@@ -29,11 +29,11 @@ abbrev pub DefectHeight : Type 0
 DefectHeight = (p : Problem) (nodes : List Node) (name d : ℕ) → IsNest p nodes → IsSingle nodes name
     → IsDefectUnder nodes name d → height_of (all_cuts nodes) d ≡ total_value (layers_at nodes name)
 
--- the link, turned round where it doesn't end at the vertex
+-- the link, turned round if it doesn't end at the vertex
 abbrev pub ending_link : ℕ → Link → Link
 ending_link v l = if v == l.to then l else turned_link l
 
--- the link, turned round where it doesn't begin at the vertex
+-- the link, turned round if it doesn't begin at the vertex
 abbrev pub starting_link : ℕ → Link → Link
 starting_link v l = if v == l.from then l else turned_link l
 
@@ -45,8 +45,8 @@ link_through v l m = joined_link (ending_link v l) (starting_link v m)
 abbrev pub HasEnd : Link → ℕ → Type 0
 HasEnd l v = (l.from ≡ v) ⊎ (l.to ≡ v)
 
--- Where a node of one defect has layers without value alone, two links to it, as its tree link and its matched link,
--- meet at the defect and are one link between the nodes at their other ends.
+-- If a node of one defect has only layers without value, two links to it, as its tree link and its matched link, meet
+-- at the defect and are one link between the nodes at their other ends.
 abbrev pub LinksThrough : Type 0
 LinksThrough = (p : Problem) (nodes : List Node) (l m : Link) (a name b : ℕ) → IsNest p nodes → IsSingle nodes name
     → total_value (layers_at nodes name) ≡ 0 → AreMatchedLinks p nodes (l ∷ m ∷ []) → Connects nodes l a name

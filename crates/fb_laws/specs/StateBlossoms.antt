@@ -44,7 +44,7 @@ pub record MayClose (p : Problem) (s : SearchState) (name a b : ℕ) (closing : 
   pub tight : AreMatchedLinks p s.nodes (closing ∷ [])
   pub fresh : is_live s.nodes name ≡ false
 
--- So the cycle that the link closes may be joined, from the node on where the paths to the two part.
+-- So the cycle that the link closes may be joined, from the node on at which the paths to the two part.
 abbrev pub StateClosed : Type 0
 StateClosed = (p : Problem) (s : SearchState) (name a b : ℕ) (closing : Link) (shared up down : List Entry)
     → MayClose p s name a b closing → ArePaths s.tree a b shared up down → IsSearchState p s

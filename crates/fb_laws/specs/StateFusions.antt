@@ -25,7 +25,7 @@ merged_state s t = record {
   unmatched = s.unmatched ++ t.unmatched;
 }
 
--- They are one part, where the whole has no other real vertices and no name is one of both.
+-- They are one part, if the whole has no other real vertices and no name is one of both.
 abbrev pub StateMerged : Type 0
 StateMerged = (left right whole : Problem) (s t : PartState) → IsWithinLimits whole → AreParts left right whole
     → ((v : ℕ) → whole.is_real v ≡ true → (left.is_real v ≡ true) ⊎ (right.is_real v ≡ true))

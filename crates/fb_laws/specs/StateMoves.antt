@@ -82,7 +82,7 @@ abbrev pub StateUncovered : Type 0
 StateUncovered = (p : Problem) (s : SearchState) (name : ℕ) → MayUncover s.nodes name → IsSearchState p s
     → IsSearchState p (relayered_state (uncovered_nodes name s.nodes) s)
 
--- A branch may be attached where a tight link leads from a plus node to one that is matched to another. (Neither of
+-- A branch may be attached if a tight link leads from a plus node to one that is matched to another. (Neither of
 -- the two is in the tree, since each node has one match.)
 pub record MayAttach (p : Problem) (s : SearchState) (e : Entry) (rest : List Link) : Type 0 where
   pub links : IsPermutation s.rest (e.matched ∷ rest)

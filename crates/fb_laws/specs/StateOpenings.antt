@@ -21,7 +21,7 @@ pub record IsFreed (p : Problem) (nodes : List Node) (children : List ℕ) (name
   pub linked : AreLinkedRound (split_nodes name nodes) children links
   pub tight : AreMatchedLinks p nodes links
 
--- Where a blossom is split its children are outer again, and the links of its cycle lead from each to the next.
+-- When a blossom is split, its children are outer again, and the links of its cycle lead from each to the next.
 abbrev pub CycleFreed : Type 0
 CycleFreed = (p : Problem) (nodes : List Node) (cycles : ℕ → List Link) (name : ℕ) → MaySplit nodes name → IsNest p nodes
     → AreCycles p nodes cycles → All (λ n. n.name ≡ name → IsFreed p nodes n.children name (cycles name)) nodes

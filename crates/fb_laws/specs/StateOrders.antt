@@ -1,4 +1,4 @@
--- What doesn't count in a half-solved part: the order of its links and of its unmatched names, and links that are kept
+-- What doesn't matter in a half-solved part: the order of its links and of its unmatched names, and links that are kept
 -- for names that no node has.
 use Rattle.std.specs.Prelude.{ℕ, ◌≡◌, true, List, ◌∷◌, false}
 use Rattle.std.specs.List.Sorted.{IsPermutation}
@@ -27,7 +27,7 @@ SearchReordered = (p : Problem) (s : SearchState) (cycles : ℕ → List Link) (
     → IsSearchState p s
     → IsSearchState p (record s { cycles = cycles; rest = rest; unmatched = unmatched })
 
--- Where nodes are joined the unmatched ones beside the tree stay as they were. So they do by every other move, and the
+-- When nodes are joined, the unmatched ones beside the tree stay as they were. So they do by every other move, and the
 -- roots of a part's searches may be listed once.
 abbrev pub OthersStay : Type 0
 OthersStay = (p : Problem) (s : SearchState) (name : ℕ) (base : Child) (others : List Child) (links : List Link)

@@ -22,8 +22,8 @@ ChildAtEnd = (p : Problem) (nodes : List Node) (name other child d : ℕ) (l : L
     → All (λ n. n.name ≡ name → is_in n.children child ≡ true) nodes → is_in (top_at nodes child) d ≡ true
     → (d ≡ l.from) ⊎ (d ≡ l.to) → Connects (split_nodes name nodes) l other child
 
--- A minus blossom of the tree with its children. The link of the tree ends at the child at a place, the matched link so
--- many children on.
+-- A minus blossom of the tree with its children. The link of the tree ends at the child at `place`, the matched link
+-- `steps` children on.
 pub record MayOpenAlong (s : SearchState) (newer older : List Entry) (e : Entry) (children : List ℕ) (place steps : ℕ) : Type 0 where
   pub tree : s.tree ≡ newer ++ e ∷ older
   pub may_split : MaySplit s.nodes e.minus

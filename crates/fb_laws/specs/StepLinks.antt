@@ -1,5 +1,5 @@
 -- The link of a walk that is kept step by step, as programs keep it: its two ends, and its edges in their order. A step
--- is any value that tells from where to where it leads and by which edge.
+-- is any value that has a vertex from which it leads, one to which it leads, and an edge.
 use Rattle.std.specs.Prelude.{ℕ, ◌≡◌, ◌≢◌, ◌<◌, ◌==◌, true, List, [], ◌∷◌, ◌++◌, map, reverse, length, All, if◌then◌else◌}
 use Rattle.fb_graph.specs.Problem.{Problem, edge_at}
 use Rattle.fb_graph.specs.Components.{Leads}
@@ -14,17 +14,17 @@ pub record StepParts (S : Type 0) : Type 0 where
   pub to : S → ℕ
   pub edge : S → ℕ
 
--- where the walk begins; 0 where it has no step
+-- the vertex at which the walk begins; 0 if it has no step
 abbrev pub begin_of : {S : Type 0} → StepParts S → List S → ℕ
 begin_of parts [] = 0
 begin_of parts (s ∷ ss) = parts.from s
 
--- where the walk ends; the vertex where it has no step
+-- the vertex at which the walk ends; the given one if it has no step
 abbrev pub end_after : {S : Type 0} → StepParts S → ℕ → List S → ℕ
 end_after parts at [] = at
 end_after parts at (s ∷ ss) = end_after parts (parts.to s) ss
 
--- the walk leads from the one vertex to the other, each step beginning where the one before ended
+-- the walk leads from the one vertex to the other, each step beginning at the end of the one before
 abbrev pub LeadsAlong : {S : Type 0} → StepParts S → List S → ℕ → ℕ → Type 0
 LeadsAlong parts [] from to = from ≡ to
 LeadsAlong parts (s ∷ ss) from to = (parts.from s ≡ from) × LeadsAlong parts ss (parts.to s) to
@@ -73,7 +73,7 @@ abbrev pub StepsJoined : Type 0 → Type 0
 StepsJoined S = (parts : StepParts S) (walk more : List S) → walk ≢ [] → more ≢ []
     → link_of_steps parts (walk ++ more) ≡ joined_link (link_of_steps parts walk) (link_of_steps parts more)
 
--- the walk, gone back where it does not end, or does not begin, at the vertex
+-- the walk, gone back if it does not end, or does not begin, at the vertex
 abbrev pub ending_steps : {S : Type 0} → StepParts S → (S → S) → ℕ → List S → List S
 ending_steps parts turn v walk = if v == end_after parts 0 walk then walk else map turn (reverse walk)
 

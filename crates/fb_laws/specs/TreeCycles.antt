@@ -41,7 +41,7 @@ PartAtOnce [] fs = Unit {0}
 PartAtOnce (e ∷ es) [] = Unit {0}
 PartAtOnce (e ∷ es) (f ∷ fs) = e.minus ≡ f.minus → ⊥
 
--- the paths from the root to two plus nodes: the branches of both, and those of each from where they part
+-- the paths from the root to two plus nodes: the branches of both, and those of each after they part
 pub record ArePaths {L : Type 0} (tree : List (EntryOf L)) (a b : ℕ) (shared up down : List (EntryOf L)) : Type 0 where
   pub first : path_to tree a ≡ shared ++ up
   pub second : path_to tree b ≡ shared ++ down
@@ -52,7 +52,7 @@ abbrev pub PathsPart : Type 0
 PathsPart = (tree : List Entry) (root a b : ℕ) → AreDistinct (tree_names root tree)
     → (shared : List Entry) × (up : List Entry) × (down : List Entry) × ArePaths tree a b shared up down
 
--- The cycle begins at the node where they part. Its other nodes are those down the one path and back up the other.
+-- The cycle begins at the node at which they part. Its other nodes are those down the one path and back up the other.
 abbrev pub cycle_nodes : {L : Type 0} → List (EntryOf L) → List (EntryOf L) → List ℕ
 cycle_nodes up down = nodes_along up ++ nodes_back down
 
@@ -66,7 +66,7 @@ AreLinked nodes from (n ∷ names) (l ∷ links) = Connects nodes l from n × Ar
 AreLinked nodes from (n ∷ names) [] = ⊥
 AreLinked nodes from [] (l ∷ links) = ⊥
 
--- The nodes of the cycle can become a blossom of which the one where the paths part, a plus node, is the base.
+-- The nodes of the cycle can become a blossom of which the one at which the paths part, a plus node, is the base.
 abbrev pub CycleJoining : Type 0
 CycleJoining = (p : Problem) (nodes : List Node) (tree : List Entry) (rest : List Link) (unmatched : List ℕ)
     (root r name a b : ℕ) (shared up down : List Entry) → IsSearch p nodes tree rest unmatched root r
@@ -87,7 +87,7 @@ CycleLinked = (p : Problem) (nodes : List Node) (tree : List Entry) (rest : List
     → AreLinked nodes (last_plus root shared) (cycle_nodes up down ++ last_plus root shared ∷ [])
     (cycle_links up closing down)
 
--- Where the two plus nodes differ, the nodes are an odd number of at least three, each once.
+-- If the two plus nodes differ, the nodes are an odd number of at least three, each once.
 abbrev pub CycleMany : Type 0
 CycleMany = (p : Problem) (nodes : List Node) (tree : List Entry) (rest : List Link) (unmatched : List ℕ)
     (root r a b : ℕ) (shared up down : List Entry) → IsSearch p nodes tree rest unmatched root r

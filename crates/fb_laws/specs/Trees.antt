@@ -1,5 +1,5 @@
--- The alternating tree of a search as a list of its branches, the newest one first, so that the parent of each stands
--- later in the list (Edmonds 1965). Nodes are told by their names.
+-- The alternating tree of a search as a list of its branches, the newest one first, so that the parent of each is
+-- later in the list (Edmonds 1965). Nodes are given by their names.
 use Rattle.std.specs.Prelude.{ℕ, ◌≡◌, ◌==◌, ◌⊎◌, true, List, [], ◌∷◌, ◌++◌, map, Some, if◌then◌else◌}
 use Rattle.fb_graph.specs.Parity.{is_in}
 use Rattle.fb_graph.specs.Laws.{Link}

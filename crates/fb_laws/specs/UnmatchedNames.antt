@@ -11,7 +11,7 @@ use Rattle.fb_graph.specs.Nests.{IsForest}
 abbrev pub AreOuterNames : List Node → List ℕ → Type 0
 AreOuterNames nodes names = (n : ℕ) → is_in names n ≡ true → is_outer nodes n ≡ true
 
--- At the beginning all nodes are outer, and fewer names are outer where more are.
+-- At the beginning all nodes are outer, and names are outer if more names are.
 abbrev pub OuterBegin : Type 0
 OuterBegin = (singles : List Single) → AreOuterNames (nodes_of singles) (map (λ s. s.name) singles)
 
@@ -37,7 +37,7 @@ abbrev pub OuterSplit : Type 0
 OuterSplit = (nodes : List Node) (name : ℕ) (names : List ℕ) → AreOuterNames nodes names
     → AreOuterNames (split_nodes name nodes) names
 
--- Where nodes are joined, their names must not stay among the unmatched ones.
+-- When nodes are joined, their names must not stay among the unmatched ones.
 abbrev pub OuterJoined : Type 0
 OuterJoined = (nodes : List Node) (name : ℕ) (children names remaining : List ℕ)
     → is_outer (joined_nodes name children nodes) name ≡ true
@@ -45,7 +45,7 @@ OuterJoined = (nodes : List Node) (name : ℕ) (children names remaining : List 
     → ((n : ℕ) → is_in children n ≡ false → (n ≡ name → ⊥) → is_in remaining n ≡ is_in names n)
     → AreOuterNames nodes names → AreOuterNames (joined_nodes name children nodes) remaining
 
--- Outer names of either side are outer in both together, where none is that of a node of the other side.
+-- Outer names of either side are outer in both together, if none is that of a node of the other side.
 abbrev pub OuterBeside : Type 0
 OuterBeside = (nodes others : List Node) (names more : List ℕ) → IsForest nodes → IsForest others
     → ((n : ℕ) → is_in more n ≡ true → is_live nodes n ≡ false)

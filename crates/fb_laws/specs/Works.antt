@@ -27,7 +27,7 @@ pub record AreMatchedLinks (p : Problem) (nodes : List Node) (links : List Link)
   pub own : All (IsLinkOf p) links
   pub at_defects : EndAtDefects p (leaves nodes) links
 
--- each outer node has one end of all links, or none where it is unmatched
+-- each outer node has one end of all links, or none if it is unmatched
 abbrev pub AreMatched : List Node → List Link → List ℕ → Type 0
 AreMatched nodes links unmatched =
     All (λ n. is_outer nodes n.name ≡ true → ends_in n.top.vertices links + as_count (is_in unmatched n.name) ≡ 1) nodes
@@ -138,7 +138,7 @@ MatchingReleased = (p : Problem) (nodes : List Node) (name other : ℕ) (root se
     → is_in set v ≡ true → LeadsOut old set b → p.is_real b ≡ false
     → IsMatching p nodes (tree_links path ++ out ∷ rest) (names_without name unmatched)
 
--- the order of the links doesn't count
+-- the order of the links doesn't matter
 abbrev pub MatchingPermuted : Type 0
 MatchingPermuted = (p : Problem) (nodes : List Node) (links more : List Link) (unmatched : List ℕ)
     → IsPermutation links more

@@ -1,8 +1,8 @@
-//! What an edge gains and loses by a step, told by the outer nodes over its ends.
+//! What an edge gains and loses by a step, from the outer nodes over its ends (Edmonds 1965; Wu and Zhong 2023).
 
 ghost use Rattle.fb_graph.specs.Covers.{CrossingsByCover, NoCrossingsWithin, LevelBetween, LevelWithin, LevelOutside, EvenResidue, FreeStep, CoverStepped, LeavesStepped, HeightStepped};
 
-/// An edge crosses just the sets of the outer nodes over its two ends, and none where one node is over both.
+/// Of the outer nodes' sets an edge crosses just those over its two ends, and none if one node is over both.
 pub fn crossings_by_cover()
     ensures apart { CrossingsByCover }
     ensures within { NoCrossingsWithin }
@@ -15,12 +15,13 @@ pub fn links_are_level()
     ensures outside { LevelOutside }
 {}
 
-/// Even weights and one parity of all plus potentials leave an even residue between two plus nodes.
+/// If weights are even and the potentials under plus nodes have one parity, the slack of an edge between two plus nodes
+/// is even: both may grow by half of it.
 pub fn even_residue()
     ensures { EvenResidue }
 {}
 
-/// Where no tight edge and no empty layer stands in its way, a tree may step.
+/// A tree that no tight edge and no empty layer obstructs may step by 1.
 pub fn free_step()
     ensures { FreeStep }
 {}

@@ -1,4 +1,4 @@
-//! The ends of links in sets of vertices.
+//! The ends of matched links in sets of vertices (Edmonds 1965).
 
 ghost use Rattle.fb_graph.specs.Ends.{EndsAppend, EndsPermuted, EndsUnion, EndsByCrossings, CrossedOnce};
 

@@ -1,4 +1,4 @@
-//! Two parts of a problem fused.
+//! Two parts of a problem fused (Wu and Zhong 2023).
 
 ghost use Rattle.fb_laws.specs.Fusion.{PartsTurned, LinkEndsAway, TightFused, TightFusedRight, FusedEnds, BoundaryHeight, HeightFused, Forgotten, SeamParity, FusedPerfect};
 
@@ -11,7 +11,7 @@ pub fn links_fused()
     ensures ends { FusedEnds }
 {}
 
-/// Seam vertices begin without potential, all others keep theirs.
+/// Seam vertices have no potential at first, and all others keep theirs.
 pub fn heights_fused()
     ensures boundary { BoundaryHeight }
     ensures kept { HeightFused }

@@ -1,8 +1,9 @@
-//! Links made, turned and joined, and what keeps them tight.
+//! Links made, turned and joined, and what keeps them tight (Wu and Zhong 2023): a tight link weighs what the cuts
+//! between its ends are worth, which is complementary slackness (Edmonds 1965).
 
 ghost use Rattle.fb_graph.specs.Links.{PartedFromLow, MeetingTight, BoundaryTight, TurnedTight, JoinedTight, EmptyLayerLoads, EmptyLayerHeights, SourceStepped, LinkParity, BoundaryParity, MeetingParity, SourceParity};
 
-/// Where two nodes, or a node and the boundary, meet over a tight edge, the source walks and the edge are a tight link.
+/// If two nodes, or a node and the boundary, meet over a tight edge, the source walks and the edge are a tight link.
 pub fn meeting_is_tight()
     ensures parted { PartedFromLow }
     ensures met { MeetingTight }

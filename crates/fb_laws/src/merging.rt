@@ -1,4 +1,4 @@
-//! The states of two separated parts as one.
+//! The states of two separated parts as one (Wu and Zhong 2023).
 
 ghost use Rattle.fb_laws.specs.Merging.{MatchingsMerged, SeamOpened};
 

@@ -1,4 +1,4 @@
-//! The moves of a dual state with blossoms, and that they keep it.
+//! The moves of a dual state with blossoms, and that they keep it (Edmonds 1965; Wu and Zhong 2023).
 
 ghost use Rattle.fb_graph.specs.Moves.{NestJoined, NestSplit, NestUncovered, NestStepped, NestAbsorbed, NestBegins};
 
@@ -17,12 +17,12 @@ pub fn nest_uncovered()
     ensures { NestUncovered }
 {}
 
-/// A step that every edge and minus node allows keeps the dual state, where some edge leaves each plus node.
+/// A step that every edge and minus node allows keeps the dual state, if some edge leaves each plus node.
 pub fn nest_stepped()
     ensures { NestStepped }
 {}
 
-/// Absorbing the outer end of a tight edge into the node at its other end keeps the dual state, where weights are even.
+/// Absorbing the outer end of a tight edge into the node at its other end keeps the dual state, if weights are even.
 pub fn nest_absorbed()
     ensures { NestAbsorbed }
 {}

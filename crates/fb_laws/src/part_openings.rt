@@ -1,4 +1,4 @@
-//! All blossoms of a part opened at once, once nothing of it is unmatched.
+//! All blossoms of a part opened at once, when nothing of it is unmatched (Edmonds 1965).
 
 ghost use Rattle.fb_laws.specs.OpenedLinks.{OpenedLevel, OpenedPerfect, PartSolved, PartIsBest, RowOfPart, EndAtTurn, OnePlace};
 ghost use Rattle.fb_laws.specs.RingWays.{EvenWayRound, RoundBegun, BlossomOpenedAlong};

@@ -19,7 +19,7 @@ pub fn work_renamed()
     ensures nested { NestedWorkRenamed }
 {}
 
-/// So is the whole state of a part, with the links round each blossom told by its new name. It keeps the same links.
+/// So is the whole state of a part, with the links round each blossom under its new name. It keeps the same links.
 pub fn state_renamed()
     ensures state { StateRenamed }
     ensures links { LiveLinksRenamed }

@@ -1,4 +1,4 @@
-//! From a solved part to the row of a report.
+//! From a solved part to the row of a report (Edmonds and Johnson 1973).
 
 ghost use Rattle.fb_laws.specs.Rows.{OddOnesOnly, OddEdgesOnly, BestOfWhole, SolvedIsBest};
 
@@ -9,8 +9,8 @@ pub fn odd_ones_only()
     ensures edges { OddEdgesOnly }
 {}
 
-/// The correction and the cuts of a solved nest are a best row of its problem, and one of the whole problem where
-/// the part has all its real vertices.
+/// The correction and the cuts of a solved nest are a best row of its problem, and one of the whole problem if the part
+/// has all its real vertices.
 pub fn solved_is_best()
     ensures best { SolvedIsBest }
     ensures whole { BestOfWhole }

@@ -1,4 +1,4 @@
-//! Weights of either sign, by absolute weights and shifted defects.
+//! Weights of either sign, by absolute weights and shifted defects (Edmonds and Johnson 1973).
 
 ghost use Rattle.fb_laws.specs.Signed.{SignedDuality, SignedSolved, SignedLeast, SameFirstOdd, SameNoOddClosed};
 

@@ -1,4 +1,4 @@
-//! Half-solved parts fused.
+//! Half-solved parts fused (Wu and Zhong 2023).
 
 ghost use Rattle.fb_laws.specs.StateFusions.{StateMerged, StateSeamed, StateFused};
 

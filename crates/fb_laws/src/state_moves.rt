@@ -1,4 +1,4 @@
-//! The moves of a half-solved part: each keeps the whole state.
+//! The moves of a half-solved part, each of which keeps the whole state (Edmonds 1965; Wu and Zhong 2023).
 
 ghost use Rattle.fb_laws.specs.StateMoves.{PartBegins, SearchFrom, StateFree, StateStepped, StateAbsorbed, StateUncovered, StateAttached, StateEnded, StateMet, StateReleased};
 
@@ -8,7 +8,7 @@ pub fn state_begins()
     ensures search { SearchFrom }
 {}
 
-/// A free step keeps the state, and there is one where nothing stands in the tree's way.
+/// A free step keeps the state, and there is one if the tree has no obstacle.
 pub fn state_stepped()
     ensures free { StateFree }
     ensures stepped { StateStepped }

@@ -1,4 +1,5 @@
-//! One step of an alternating tree: plus nodes grow and minus nodes shrink by one length.
+//! One step of an alternating tree (Edmonds 1965; Wu and Zhong 2023): plus nodes grow and minus nodes shrink by one
+//! length.
 
 ghost use Rattle.fb_graph.specs.Steps.{LoadStepped, PackingStepped, StepsAdd, StepsSplit, SteppedTwice, TightStepped};
 

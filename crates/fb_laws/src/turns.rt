@@ -11,7 +11,7 @@ pub fn step_in_turns()
     ensures top { TopStepped }
 {}
 
-/// Where the step is allowed, each minus node may shrink in its turn, and then each plus node grow.
+/// If the step is allowed, each minus node may shrink in its turn, and then each plus node grow.
 pub fn turns_allowed()
     ensures grow { GrowthAllowed }
     ensures shrink { ShrinkAllowed }

@@ -1,4 +1,4 @@
-//! Source walks inside the sets of a dual state.
+//! Source walks inside the sets of a dual state (Edmonds 1965; Wu and Zhong 2023).
 
 ghost use Rattle.fb_graph.specs.SourceWalks.{WalksBegin, WalksJoined, WalksSplit, WalksAbsorbed, WalksUncovered, WalksStepped, CoveredWalk};
 

@@ -1,4 +1,4 @@
-//! A part of a problem with some nodes unmatched, and what searches make of it.
+//! A part of a problem with some nodes unmatched, and what searches make of it (Edmonds 1965).
 
 ghost use Rattle.fb_laws.specs.Works.{WorkBegins, MatchingStepped, MatchingPermuted, PositivePacking, PositiveLoads, PositiveTotal, CutUnderOne, HalfLevel, HalfSolved, MatchingAugmented, MatchingMet, MatchingReleased};
 

@@ -8,7 +8,7 @@ use Rattle.std.proofs.lemmas.List.Elements.{All-nil, All-cons, All-get_or, All-h
 use Rattle.fb_links.specs.Lists.{AreDistinct, is_in}
 use Rattle.fb_links.specs.declared.walk.Step.{Step}
 use Rattle.fb_links.specs.Table.{Adds, IsLink, is_live, link_at}
-use Rattle.fb_links.specs.Kept.{IsEntry}
+use Rattle.fb_links.specs.InternalKept.{IsEntry}
 use Rattle.fb_links.specs.Merged.{AreMerged, IsMoved, old_numbers, new_numbers}
 use Rattle.fb_links.specs.InternalMerging.{AreMerging}
 use Rattle.fb_links.proofs.Lists.{AreDistinct-push, is_in-push_other, is_in-push_same, not_in-push, unequal}

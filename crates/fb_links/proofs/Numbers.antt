@@ -9,7 +9,7 @@ use Rattle.std.proofs.lemmas.List.Sums.{sum_by-set}
 use Rattle.fb_links.specs.declared.walk.Step.{Step}
 use Rattle.fb_links.specs.Walks.{walk_weight, share_end, joined_walk}
 use Rattle.fb_links.specs.Table.{IsLink, Adds, is_live, link_at, walk_at}
-use Rattle.fb_links.specs.Kept.{IsEntry, AreFree, IsKept}
+use Rattle.fb_links.specs.InternalKept.{IsEntry, AreFree, IsKept}
 use Rattle.fb_links.proofs.Joins.{walk_joined}
 
 -- a number beyond the table has no link

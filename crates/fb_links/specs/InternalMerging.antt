@@ -3,7 +3,7 @@ use Rattle.std.specs.Prelude.{ℕ, ◌≡◌, ◌<◌, ◌≤◌, false, List, l
 use Rattle.fb_links.specs.Lists.{AreDistinct, is_in}
 use Rattle.fb_links.specs.declared.walk.Step.{Step}
 use Rattle.fb_links.specs.Table.{is_live, link_at}
-use Rattle.fb_links.specs.Kept.{IsEntry}
+use Rattle.fb_links.specs.InternalKept.{IsEntry}
 use Rattle.fb_links.specs.Merged.{IsMoved, old_numbers, new_numbers}
 
 -- `rest` is the beginning of the right table that is still to move; the links after it are moved

@@ -59,7 +59,7 @@ abbrev pub LinksStay : Type 0
 LinksStay = (old new : List (Option (List Step))) (id : ℕ) (walk : List Step) → Adds old new id walk
     → (k : ℕ) (other : List Step) → link_at old k ≡ Some other → link_at new k ≡ Some other
 
--- Where two tables are merged, each link of the left one stays as it is.
+-- If two tables are merged, each link of the left one stays as it is.
 abbrev pub LeftStays : Type 0
 LeftStays = (left right : List (Option (List Step))) (pairs : List (ℕ × ℕ)) (new : List (Option (List Step)))
     → AreMerged left right pairs new → (id : ℕ) (walk : List Step) → link_at left id ≡ Some walk

@@ -1,5 +1,5 @@
+pub mod InternalKept
 pub mod InternalMerging
-pub mod Kept
 pub mod Laws
 pub mod Lists
 pub mod Merged

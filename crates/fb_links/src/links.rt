@@ -22,7 +22,7 @@ pub struct Links {
 impl Model for Links {
     ghost use Rattle.std.specs.Prelude.{List, Option, reverse, vec_capacity};
     ghost use Rattle.fb_links.specs.declared.walk.Step.{Step};
-    ghost use Rattle.fb_links.specs.Kept.{IsKept};
+    ghost use Rattle.fb_links.specs.InternalKept.{IsKept};
 
     ghost Value = { List (Option (List Step)) };
 

@@ -27,7 +27,7 @@ impl Model for Names {
     ghost invariant = { λ n. IsNonDecreasingBy (λ (p : ℕ × ℕ). p.0) n.pairs.items };
 }
 
-/// The second number of each pair by its first one; where several pairs have the same first number, by the first of
+/// The second number of each pair by its first one; if several pairs have the same first number, by the first of
 /// them. Pairs that rise are copied in one pass, and no pairs take no memory.
 pub fn names_of(alloc: Global, pairs: &[(u64, u64)]) -> Result<Names, NoMemory>
     ensures { IfOk result (λ names. (a : ℕ) → name_by names a ≡ name_by pairs.now a) }
@@ -55,7 +55,7 @@ impl Names {
         old.map(|number| self.of(number))
     }
 
-    /// How many pairs have a smaller old number: the place of the first pair that has this one, if any has it.
+    /// The number of pairs that have a smaller old number: the place of the first pair that has this one, if any has it.
     fn place_of(&self, old: u64) -> usize
         ensures { IsPartitionPoint (λ (p : ℕ × ℕ). p.0 < old) (λ (p : ℕ × ℕ). old ≤ p.0) self.now result }
     {

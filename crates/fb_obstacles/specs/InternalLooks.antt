@@ -49,7 +49,7 @@ slack_by ends residue = if is_some (node_by ends.first) && is_some (node_by ends
 abbrev pub cover_at : Problem → (ℕ → Role) → List Node → ℕ → Cover
 cover_at p role_of nodes v = cover_by role_of (p.is_real v) (cover_of nodes v)
 
--- the end beside a plus node; none where no end is under a plus node, or one plus node is over both
+-- the end beside a plus node; none if no end is under a plus node, or one plus node is over both
 abbrev pub far_end : Cover → Cover → Option Cover
 far_end (Plus m) (Plus n) = if m == n then None else Some (Plus n)
 far_end (Plus m) far = Some far
@@ -109,25 +109,25 @@ fits_within (Within bound) slack = nat_le bound (slack / 2)
 fits_within Clear slack = false
 fits_within (Blocked o) slack = false
 
--- the look tells which lengths are allowed, or an obstacle that stands
+-- the look says which lengths are allowed, or names an obstacle that is there
 abbrev pub Limits : (ℕ → Type 0) → (Obstacle → Type 0) → Look → Type 0
-Limits Allowed Stands Clear = (k : ℕ) → Allowed k
-Limits Allowed Stands (Within bound) =
+Limits Allowed Blocks Clear = (k : ℕ) → Allowed k
+Limits Allowed Blocks (Within bound) =
     (1 ≤ bound) × ((k : ℕ) → k ≤ bound → Allowed k) × ((k : ℕ) → Allowed k → k ≤ bound)
-Limits Allowed Stands (Blocked o) = Stands o
+Limits Allowed Blocks (Blocked o) = Blocks o
 
 -- the top layer of the node of this name is at least as thick
 abbrev pub BearsShrinking : List Node → ℕ → ℕ → Type 0
 BearsShrinking nodes j name = j ≤ (node_named nodes name).top.value
 
--- the look tells which lengths these minus nodes and these edges allow, or an obstacle that stands
+-- the look says which lengths these minus nodes and these edges allow, or names an obstacle that is there
 abbrev pub LimitsBoth : Problem → Roles → List Node → List ℕ → List ℕ → Look → Type 0
 LimitsBoth p roles nodes names ks look =
     Limits
     (λ j. All (BearsShrinking nodes j) names × All (λ k. BearsStep roles nodes j (edge_at p.edges k)) ks)
     (Obstructs p roles nodes) look
 
--- one look is counted for each edge up to the one where an obstacle stands
+-- one look is counted for each edge up to the one with an obstacle
 abbrev pub CountsLooked : Look → ℕ → ℕ → ℕ → Type 0
 CountsLooked (Blocked o) count before after = (before ≤ after) × (after ≤ before + count)
 CountsLooked look count before after = after ≡ before + count

@@ -1,4 +1,4 @@
--- What stands in the way of an alternating tree (Wu and Zhong 2023).
+-- What is in the way of an alternating tree (Wu and Zhong 2023).
 use Rattle.std.specs.Prelude.{ℕ, ◌≡◌, ◌+◌, ◌-◌, ◌*◌, ◌<◌, ◌≤◌, ◌⊎◌, ◌&&◌, Bool, true, false, is_some, if◌then◌else◌, List, [], length, All, Some, None}
 use Rattle.fb_graph.specs.Parity.{is_in}
 use Rattle.fb_graph.specs.Problem.{Problem, edge_at}
@@ -38,7 +38,7 @@ abbrev pub residue_at : Problem → List Node → ℕ → ℕ
 residue_at p nodes k = residue_of nodes (edge_at p.edges k)
 
 -- Twice the length of a step that the edge bears, whatever the roles: its residue, of which a step takes at most twice its
--- length, or twice that where no node holds one of the ends, since only the other one can then grow.
+-- length, or twice that if no node holds one of the ends, since only the other one can then grow.
 abbrev pub slack_of : List Node → Edge → ℕ
 slack_of nodes e =
     if is_some (cover_of nodes e.first) && is_some (cover_of nodes e.second) then residue_of nodes e
@@ -71,7 +71,7 @@ pub record IsWatched (p : Problem) (roles : Roles) (nodes : List Node) (edges : 
       ⊎ (is_covered_by roles.is_plus nodes (edge_at p.edges k).second ≡ true)
       → ¬ AreUnderOne nodes (edge_at p.edges k).first (edge_at p.edges k).second → is_in edges k ≡ true
 
--- edge k has no residue, and leads from u, which is under a plus node, to v
+-- edge k is tight, and leads from u, which is under a plus node, to v
 pub record IsTightFrom (p : Problem) (roles : Roles) (nodes : List Node) (k u v : ℕ) : Type 0 where
   pub within : k < length p.edges
   pub leads : Leads (edge_at p.edges k) u v
@@ -108,7 +108,7 @@ pub record IsZeroDefect (nodes : List Node) (name : ℕ) : Type 0 where
   pub outer : is_outer nodes name ≡ true
   pub bare : All (λ n. n.name ≡ name → (n.children ≡ []) × (n.below ≡ []) × (n.top.value ≡ 0)) nodes
 
--- the obstacle stands in the way as named
+-- the obstacle is in the way as named
 abbrev pub Obstructs : Problem → Roles → List Node → Obstacle → Type 0
 Obstructs p roles nodes (Absorb k) = (u v : ℕ) × IsAbsorb p roles nodes k u v
 Obstructs p roles nodes (Boundary k) = (u v : ℕ) × IsBoundary p roles nodes k u v
@@ -130,7 +130,7 @@ IsAtEdge e (BlossomEmpty name) = ⊥
 IsAtEdge e (ZeroMinus name) = ⊥
 IsAtEdge e (Free k) = ⊥
 
--- nothing stands in the way, and the length is the greatest by which the tree may step
+-- nothing is in the way, and the length is the greatest by which the tree may step
 pub record IsFree (p : Problem) (roles : Roles) (nodes : List Node) (k : ℕ) : Type 0 where
   pub none : (o : Obstacle) → ¬ Obstructs p roles nodes o
   pub some : 1 ≤ k
@@ -140,7 +140,7 @@ abbrev pub IsObstacle : Problem → Roles → List Node → Obstacle → Type 0
 IsObstacle p roles nodes (Free k) = IsFree p roles nodes k
 IsObstacle p roles nodes o = Obstructs p roles nodes o
 
--- one look is counted for each edge that was examined: all of them where the tree is free
+-- one look is counted for each edge that was examined: all of them if the tree is free
 abbrev pub CountsLooks : Obstacle → ℕ → ℕ → ℕ → Type 0
 CountsLooks (Free k) count before after = after ≡ before + count
 CountsLooks o count before after = (before ≤ after) × (after ≤ before + count)

@@ -2,7 +2,7 @@
 use Rattle.std.specs.Prelude.{ℕ, ◌<◌, ◌≤◌, List, length, get_or, refl}
 use Rattle.std.specs.Coded.{Coded, code_by, coded×, coded_list, coded_ℕ}
 
--- how many edges the scope has, and the numbers of those that are watched, in any order
+-- the number of edges of the scope, and the numbers of those that are watched, in any order
 pub record Watched : Type 0 where
   pub edge_count : ℕ
   pub edges : List ℕ

@@ -42,7 +42,7 @@ fn with_look(watch: &mut Watch, place: usize, least: Look, look: Look) -> Look
 
 /// A look at all minus nodes and watched edges, up to the first obstacle. Passes over each edge whose bound shows that it
 /// bears what the others allow, and sets the bound of each edge that it looks at to its slack. An edge both of whose ends
-/// one outer node holds never limits the step: where the look finds one, it is watched no longer.
+/// one outer node holds never limits the step: if the look finds one, it is watched no longer.
 ///
 /// Goes from the last edge to the first: the last ones have no bound yet, and mostly limit the step.
 pub fn look_by_bounds<S: Scope, R: MinusNodes, L: Ledger>(

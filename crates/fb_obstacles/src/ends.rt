@@ -60,7 +60,7 @@ impl Ends {
             .saturating_sub(potential_by(self.second))
     }
 
-    /// The slack of the edge, twice the length of a step that it bears: its residue, or twice that where no node holds one
+    /// The slack of the edge, twice the length of a step that it bears: its residue, or twice that if no node holds one
     /// of its ends, since a step then takes at most its length from it.
     pub fn slack(self, residue: u64) -> u64
         requires { residue < 2 ^ 63 }
@@ -122,7 +122,7 @@ fn cover_by<S: Scope, R: Roles>(v: u32, holder: Option<Holder>, scope: &S, roles
     }
 }
 
-/// The end beside a plus node; none where no end is under a plus node, or one plus node is over both.
+/// The end beside a plus node; none if no end is under a plus node, or one plus node is over both.
 pub fn far_end(first: Cover, second: Cover) -> Option<Cover>
     ensures { result ≡ far_end first second }
 {

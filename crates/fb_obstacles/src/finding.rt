@@ -19,7 +19,7 @@ use fb_graph::{Scope, Steps};
 use fb_regions::{Regions, Roles};
 use std::sync::ledger::Ledger;
 
-/// An obstacle that stands in the way of the tree with these roles, or how far the tree may step. Takes no memory, and
+/// An obstacle in the way of the tree with these roles, or how far the tree may step. Takes no memory, and
 /// time for each minus node and each watched edge until it finds an obstacle. Counts a look for each edge that it
 /// examines.
 ///

@@ -1,4 +1,4 @@
-//! What stands in the way of an alternating tree, or how far it may step (Edmonds 1965; Wu and Zhong 2023).
+//! What is in the way of an alternating tree, or how far it may step (Edmonds 1965; Wu and Zhong 2023).
 
 #![tactic(auto)]
 

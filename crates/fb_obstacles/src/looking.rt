@@ -7,14 +7,14 @@ use crate::obstacle::Obstacle;
 use fb_graph::Scope;
 use fb_regions::{Regions, Roles};
 
-/// What a look at an edge or a minus node tells of a step.
+/// What an edge or a minus node allows of a step.
 #[derive(Clone, Copy, PartialEq, Eq)]
 pub enum Look {
     /// It doesn't bound the step.
     Clear,
     /// It bounds the step by this length, at least 1.
     Within(u64),
-    /// An obstacle stands.
+    /// An obstacle is there.
     Blocked(Obstacle),
 }
 
@@ -43,7 +43,7 @@ impl Look {
     }
 }
 
-/// The bound, or the obstacle where it is 0.
+/// The bound, or the obstacle if it is 0.
 fn bounded_look(bound: u64, obstacle: Obstacle) -> Look
     ensures { result ≡ bounded_look bound obstacle }
 {

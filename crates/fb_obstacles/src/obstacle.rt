@@ -1,6 +1,6 @@
 use crate::NodeId;
 
-/// What stands in the way of an alternating tree. An edge is named by its number.
+/// What is in the way of an alternating tree. An edge is named by its number.
 #[derive(Clone, Copy, Debug, PartialEq, Eq)]
 pub enum Obstacle {
     /// A tight edge leads from a plus node to a real vertex that no node holds.
@@ -17,6 +17,6 @@ pub enum Obstacle {
     BlossomEmpty(NodeId),
     /// The only layer of a minus defect has value 0.
     ZeroMinus(NodeId),
-    /// No obstacle stands, and this length is the greatest by which the tree may step.
+    /// There is no obstacle, and this length is the greatest by which the tree may step.
     Free(u64),
 }

@@ -12,7 +12,7 @@ use fb_graph::{Scope, Steps};
 use fb_regions::Regions;
 use std::sync::ledger::Ledger;
 
-/// A look at all watched edges, up to the first where an obstacle stands.
+/// A look at all watched edges, up to the first with an obstacle.
 pub fn look_at_edges<S: Scope, R: Roles, L: Ledger>(
     watch: &Watch,
     scope: &S,

@@ -16,7 +16,7 @@ use fb_regions::Regions;
 pub trait MinusNodes: Roles {
     ghost minus_names: { Self → List ℕ };
 
-    /// How many minus nodes there are.
+    /// The number of minus nodes.
     fn minus_count(&self) -> usize
         ensures { result ≡ length (minus_names self.now) };
 

@@ -13,7 +13,7 @@ use std::marker::Model;
 /// a watch is made once and serves many searches.
 #[derive(Drop)]
 pub struct Watch {
-    /// For each edge of the scope its place in the list of the watched ones. It counts only where that edge stands there.
+    /// For each edge of the scope its place in the list of the watched ones. It counts only if that edge is there.
     places: Vec<u32>,
     /// The watched edges, with room for all edges of the scope.
     edges: Vec<u32>,
@@ -222,7 +222,7 @@ impl Watch {
         self.edges.get(self.limiting).copied()
     }
 
-    /// How many edges are watched.
+    /// The number of watched edges.
     pub fn len(&self) -> usize
         ensures { result ≡ length self.now.edges }
     {

@@ -4,7 +4,7 @@ use Rattle.std.proofs.lemmas.Bool.{both_ways, cases_eq, cases_order, eq-eqb, eqb
 use Rattle.std.proofs.lemmas.List.{get_or-map, get_or-set_same, get_or-set_other, length-map, length-take-le}
 use Rattle.std.proofs.lemmas.List.Folds.{list_any_at, list_any_more}
 use Rattle.fb_plan.specs.Plans.{IsTree, join_at, most_units, names}
-use Rattle.fb_plan.specs.Layout.{tree_of}
+use Rattle.fb_plan.specs.InternalLayout.{tree_of}
 use Rattle.fb_plan.specs.Rules.{is_named, is_out_of_range, is_used_twice, joins_of}
 use Rattle.fb_plan.specs.declared.parts.Join.{Join}
 use Rattle.fb_plan.proofs.Trees.{names_cases}

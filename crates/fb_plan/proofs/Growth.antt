@@ -12,8 +12,8 @@ use Rattle.std.proofs.lemmas.Option.{same_Some}
 use Rattle.fb_graph.specs.Problem.{edge_at, no_edge}
 use Rattle.fb_graph.specs.Limits.{DecodingGraph, is_real_in}
 use Rattle.fb_graph.specs.declared.parts.Edge.{Edge}
-use Rattle.fb_plan.specs.Layout.{given_owner, tree_of}
-use Rattle.fb_plan.specs.Loads.{load_at}
+use Rattle.fb_plan.specs.InternalLayout.{given_owner, tree_of}
+use Rattle.fb_plan.specs.InternalLoads.{load_at}
 use Rattle.fb_plan.specs.Plans.{IsPlan, IsTree, PlanTree, goes_across, most_units, node_count, owner_of}
 use Rattle.fb_plan.specs.Rules.{child_fault, claim_of, claims_from, edge_fault, holds, is_out_of_range, is_owned_twice, is_unowned, is_used_twice, joins_of, owner_in, plan_fault, range_fault, ranges_of, root_fault, seams_of, tree_by, twice_fault, units_fault, unowned_fault, use_fault, or_fault}
 use Rattle.fb_graph.specs.Leasts.{least}

@@ -7,7 +7,7 @@ use Rattle.std.proofs.lemmas.List.FromFn.{get_or-map-range_with_len, length-map-
 use Rattle.fb_graph.specs.Limits.{DecodingGraph, is_real_in}
 use Rattle.fb_plan.specs.Plans.{IsPlan, IsTree, are_unrelated, owner_of, real_owner, single_of}
 use Rattle.fb_plan.proofs.Tables.{one_unit, tree_with_owners}
-use Rattle.fb_plan.specs.Layout.{given_owner, tree_of}
+use Rattle.fb_plan.specs.InternalLayout.{given_owner, tree_of}
 
 pub one_more : (g : DecodingGraph) (n v : ℕ)
     → map (real_owner g n) (range_with_len 0 (v + 1)) ≡ map (real_owner g n) (range_with_len 0 v) ++ real_owner g n v ∷ []

@@ -7,7 +7,7 @@ use Rattle.fb_graph.specs.Certificate.{AreDistinct}
 use Rattle.fb_graph.specs.Limits.{DecodingGraph, is_real_in, most_vertices, no_shot}
 use Rattle.fb_graph.specs.LocalPlaces.{ArePlaces}
 use Rattle.fb_graph.specs.Parity.{is_in}
-use Rattle.fb_plan.specs.Layout.{IsExtent, IsOrdered, extent_at, sorted_by}
+use Rattle.fb_plan.specs.InternalLayout.{IsExtent, IsOrdered, extent_at, sorted_by}
 use Rattle.fb_plan.specs.Plans.{PlanTree, IsTree, IsPlan, is_owned_in, is_owner_within, is_pending, is_within, node_count, owner_of, problem_at, subtrees}
 use Rattle.fb_plan.specs.Vertices.{place_in, vertices_in}
 use Rattle.fb_plan.specs.declared.order.Extent.{Extent}

@@ -2,7 +2,7 @@
 use Rattle.std.proofs.Common.{ℕ, zero, suc, ◌+◌, ◌-◌, ◌<◌, ◌≤◌, ◌≡◌, ◌⊎◌, true, List, [], ◌∷◌, ◌++◌, length, sym, ap, ◌∙◌, subst, inl, inr, arith, length-append}
 use Rattle.std.proofs.lemmas.Bool.{and_from, and_parts, cases_lt, le-leb, leb-true, lt-ltb, ltb-true}
 use Rattle.fb_plan.specs.Plans.{PlanTree, IsTree, join_at, node_count, root_of, is_within, subtrees}
-use Rattle.fb_plan.specs.Layout.{IsPlaced, covers, size_of, span_at}
+use Rattle.fb_plan.specs.InternalLayout.{IsPlaced, covers, size_of, span_at}
 use Rattle.fb_plan.specs.declared.parts.Span.{Span}
 use Rattle.fb_plan.proofs.Trees.{WithinCases, sub_at, subtree_of_fusion, subtree_of_unit, within_cases, within_is_node, within-le}
 use Rattle.fb_plan.proofs.Roots.{below_root}

@@ -3,7 +3,7 @@ use Rattle.std.proofs.Common.{ℕ, ◌+◌, ◌<◌, ◌≡◌, ◌&&◌, ◌||�
 use Rattle.std.specs.Option.{option_or}
 use Rattle.std.proofs.lemmas.Bool.{leb-false, or_parts}
 use Rattle.fb_graph.specs.Limits.{DecodingGraph, is_real_in}
-use Rattle.fb_plan.specs.Loads.{load_at}
+use Rattle.fb_plan.specs.InternalLoads.{load_at}
 use Rattle.fb_plan.specs.Rules.{is_out_of_range, is_owned_twice, is_unowned, joins_of}
 use Rattle.fb_graph.specs.Leasts.{least}
 use Rattle.fb_plan.specs.declared.loads.Measure.TheVariants.{Ranges}

@@ -13,7 +13,7 @@ use Rattle.fb_graph.proofs.Members.{AreDistinct_push, is_in-append}
 use Rattle.fb_graph.proofs.Sets.{distinct_from_rising, is_in-range, length-le_from_within, range_rises}
 use Rattle.fb_graph.proofs.Unions.{distinct_append}
 use Rattle.fb_plan.specs.Plans.{PlanTree, IsTree, is_within, join_at, names, node_count, parent_from, parent_of, subtrees}
-use Rattle.fb_plan.specs.Layout.{IsLaidOut, IsPlaced, IsPlacedFrom, IsSorted, size_of, span_at, tree_of}
+use Rattle.fb_plan.specs.InternalLayout.{IsLaidOut, IsPlaced, IsPlacedFrom, IsSorted, size_of, span_at, tree_of}
 use Rattle.fb_plan.specs.Reaches.{IsReach, reach_at}
 use Rattle.fb_plan.specs.declared.order.Order.{Order}
 use Rattle.fb_plan.specs.declared.parts.Span.{Span}

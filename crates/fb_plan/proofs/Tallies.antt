@@ -6,7 +6,7 @@ use Rattle.std.proofs.lemmas.List.{get_or_append_left, length-take-le, take_more
 use Rattle.std.proofs.lemmas.List.Elements.{All-head, All-tail, All-take}
 use Rattle.std.proofs.lemmas.List.Sums.{sum_by-cons, sum_by_push}
 use Rattle.fb_graph.proofs.Sums.{sum_add, sum_same, sum_zero}
-use Rattle.fb_plan.specs.Loads.{IsClaim, bounded_at, load_at, place_of, weigh, weight_of}
+use Rattle.fb_plan.specs.InternalLoads.{IsClaim, bounded_at, load_at, place_of, weigh, weight_of}
 use Rattle.fb_plan.specs.Rules.{holds}
 use Rattle.fb_plan.specs.declared.loads.Bound.{Bound}
 use Rattle.fb_plan.specs.declared.loads.Bound.TheVariants.{Start, End}

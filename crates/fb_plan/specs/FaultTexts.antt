@@ -1,4 +1,4 @@
--- What a fault of a plan is called where it is printed, and its place: a word, a number, both or neither.
+-- The name of a fault of a plan in the program's output, and its place: a word, a number, both or neither.
 use Rattle.std.specs.Prelude.{ℕ, List, codes, Option, Some, None}
 use Rattle.fb_plan.specs.declared.faults.Member.{Member}
 use Rattle.fb_plan.specs.declared.faults.Member.TheVariants as member

@@ -17,7 +17,7 @@ abbrev pub NodeIsPart : Type 0
 NodeIsPart = (g : DecodingGraph) (t : PlanTree) (n : ℕ) (shot : ShotValue)
     → IsPart (problem_at g t n shot) (problem_of g shot)
 
--- Where a shot's problem has no odd component, no sub-problem of a plan has a closed set with an odd number of defects.
+-- If a shot's problem has no odd component, no sub-problem of a plan has a closed set with an odd number of defects.
 abbrev pub NodeHasNoOddClosed : Type 0
 NodeHasNoOddClosed = (g : DecodingGraph) (t : PlanTree) (n : ℕ) (shot : ShotValue)
     → IsFirstOdd (problem_of g shot) None → HasNoOddClosed (problem_at g t n shot)

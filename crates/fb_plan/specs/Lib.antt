@@ -1,7 +1,7 @@
 pub mod FaultTexts
+pub mod InternalLayout
+pub mod InternalLoads
 pub mod Laws
-pub mod Layout
-pub mod Loads
 pub mod Plans
 pub mod Reaches
 pub mod Rules

@@ -1,8 +1,8 @@
--- Between which vertices the vertices lie that a node owns itself.
+-- The least and the greatest vertex that a node owns itself.
 use Rattle.std.specs.Prelude.{ℕ, ◌≡◌, ◌+◌, ◌-◌, ◌<◌, ◌≤◌, ◌==◌, ◌&&◌, Bool, nat_le, nat_lt, if◌then◌else◌, List, get_or, Option, Some, None}
 use Rattle.fb_plan.specs.declared.reach.Reach.{Reach}
 
--- From the least vertex of node n up to and without the one after its greatest; nothing at all where n owns none.
+-- From the least vertex of node n up to and without the number after its greatest; empty if n owns none.
 pub record IsReach (owners : List (Option ℕ)) (n : ℕ) (r : Reach) : Type 0 where
   pub order : r.first ≤ r.end
   pub least : r.first < r.end → get_or owners r.first None ≡ Some n

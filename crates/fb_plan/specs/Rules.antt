@@ -70,7 +70,7 @@ is_used_twice joins i =
     (join_at joins i).0 == (join_at joins i).1
     || is_named (take i joins) (join_at joins i).0 || is_named (take i joins) (join_at joins i).1
 
--- the plan of the units' ranges, the fusions' children and their seams, where these break no rule
+-- the plan of the units' ranges, the fusions' children and their seams, if these break no rule
 abbrev pub tree_by : DecodingGraph → List (List (ℕ × ℕ)) → List (ℕ × ℕ) → List (List (ℕ × ℕ)) → PlanTree
 tree_by g units joins seams = record {
   units = length units;

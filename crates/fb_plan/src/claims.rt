@@ -2,7 +2,7 @@
 
 ghost use Rattle.std.specs.Prelude.{◌≡◌, ◌≢◌, ◌+◌, ◌<◌, ◌++◌, [], length, map, get_or, if◌then◌else◌, Some, None, true, false, All, IfOk, IfErr, OnOk};
 ghost use Rattle.std.specs.List.{list_any};
-ghost use Rattle.fb_plan.specs.Loads.{IsClaim};
+ghost use Rattle.fb_plan.specs.InternalLoads.{IsClaim};
 ghost use Rattle.fb_plan.specs.Rules.{claim_of, claims_from, is_bad_range, range_fault, ranges_of};
 
 use crate::faults::PlanFault;
@@ -22,7 +22,7 @@ fn ranges_at<'a>(units: &'a [Vec<(u64, u64)>], fusions: &'a [Join], node: usize)
     }
 }
 
-/// A node's range; `None` where it ends before it starts or beyond the vertices.
+/// A node's range; `None` if it ends before it starts or beyond the vertices.
 fn claimed(vertices: u32, node: u64, range: (u64, u64)) -> Option<Claim>
     ensures { result ≡ (if is_bad_range vertices range then None else Some (claim_of node range)) }
 {

@@ -59,7 +59,7 @@ pub enum Place {
 }
 
 impl PlanFault {
-    /// What it is called where it is printed.
+    /// Its name in the program's output.
     pub fn name(self) -> &'static str
         ensures { result.now ≡ fault_name self }
     {
@@ -80,7 +80,7 @@ impl PlanFault {
         }
     }
 
-    /// The word of its place, where it has one.
+    /// The word of its place, if it has one.
     pub fn place(self) -> Option<&'static str>
         ensures { option_map (λ s. s.now) result ≡ fault_place self }
     {
@@ -94,7 +94,7 @@ impl PlanFault {
         }
     }
 
-    /// The number of its place, where it has one: that of an entry, a node, a vertex, a fusion or an edge.
+    /// The number of its place, if it has one: that of an entry, a node, a vertex, a fusion or an edge.
     pub fn number(self) -> Option<u64>
         ensures { result ≡ fault_number self }
     {

@@ -1,8 +1,8 @@
 //! The rules of a plan, each with the first place that breaks it.
 
-ghost use Rattle.std.specs.Prelude.{◌≡◌, ℕ, ◌+◌, ◌<◌, ◌≤◌, ◌^◌, ◌&&◌, ◌||◌, ◌==◌, false, nat_lt, nat_le, not, length, map, get_or, IfOk, None, All};
+ghost use Rattle.std.specs.Prelude.{◌≡◌, ◌+◌, ◌<◌, ◌^◌, ◌&&◌, ◌||◌, ◌==◌, false, nat_lt, nat_le, length, get_or, IfOk, None, All};
 ghost use Rattle.std.specs.Option.{option_or};
-ghost use Rattle.fb_plan.specs.Loads.{IsClaim};
+ghost use Rattle.fb_plan.specs.InternalLoads.{IsClaim};
 ghost use Rattle.fb_graph.specs.Problem.{edge_at};
 ghost use Rattle.fb_graph.specs.Limits.{is_real_in};
 ghost use Rattle.fb_plan.specs.Plans.{are_unrelated, goes_across, owner_of};

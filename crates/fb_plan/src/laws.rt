@@ -4,7 +4,7 @@ ghost use Rattle.fb_plan.specs.Laws.{AllBelowRoot, Ancestors, ChildIsPart, Child
 ghost use Rattle.fb_plan.specs.Seams.{FusionIsParts, SeamIsApart, UnitIsOwn};
 
 /// A node's sub-problem is a part of its parent's (Wu and Zhong 2023) and of the whole, and the root's is the whole.
-/// So where a shot has no odd component, no sub-problem has a closed set with an odd number of defects.
+/// So if a shot has no odd component, no sub-problem has a closed set with an odd number of defects.
 pub fn sub_problems()
     ensures part { NodeIsPart }
     ensures child { ChildIsPart }

@@ -1,7 +1,7 @@
 //! What the ranges that hold a vertex add up to, in time linear in the ranges and vertices.
 
 ghost use Rattle.std.specs.Prelude.{◌≡◌, ℕ, ◌+◌, ◌<◌, ◌≤◌, ◌^◌, length, get_or, All, IfOk, OnOk};
-ghost use Rattle.fb_plan.specs.Loads.{IsClaim, bounded_at, load_at, place_of, weight_of};
+ghost use Rattle.fb_plan.specs.InternalLoads.{IsClaim, bounded_at, load_at, place_of, weight_of};
 
 use crate::parts::Claim;
 use fb_graph::NoMemory;

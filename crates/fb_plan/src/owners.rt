@@ -3,7 +3,7 @@
 ghost use Rattle.std.specs.Prelude.{◌≡◌, ℕ, ◌<◌, ◌^◌, true, length, map, get_or, IfOk, All};
 ghost use Rattle.std.specs.List.{range_with_len};
 ghost use Rattle.fb_graph.specs.Limits.{is_real_in};
-ghost use Rattle.fb_plan.specs.Layout.{given_owner};
+ghost use Rattle.fb_plan.specs.InternalLayout.{given_owner};
 ghost use Rattle.fb_plan.specs.Plans.{real_owner};
 ghost use Rattle.fb_plan.specs.Rules.{joins_of};
 
@@ -69,9 +69,7 @@ pub fn pairs_of(alloc: Global, fusions: &[Join]) -> Result<Vec<(u32, u32)>, NoMe
     let mut joins = Vec::new(alloc);
     for fusion in fusions {
         let join = (fusion.left as u32, fusion.right as u32);
-        if joins.push(join).is_err() {
-            return Err(NoMemory);
-        }
+        joins.push(join)?;
     }
     Ok(joins)
 }

@@ -7,8 +7,8 @@ pub struct Join {
     pub seam: Vec<(u64, u64)>,
 }
 
-/// Where a node's subtree lies when the nodes are listed each after its children's subtrees: the places from `start`
-/// up to and without `end`. The last of them is the node's own.
+/// The places of a node's subtree when each node is listed after its children's subtrees: from `start` up to and
+/// without `end`. The last of them is the node's own.
 #[derive(Clone, Copy, Debug)]
 pub struct Span {
     pub start: u32,

@@ -4,8 +4,8 @@ ghost use Rattle.fb_graph.specs.Certificate.{AreDistinct};
 ghost use Rattle.fb_graph.specs.Limits.{DecodingGraph, is_real_in, most_vertices};
 ghost use Rattle.fb_graph.specs.Parity.{is_in};
 ghost use Rattle.fb_plan.specs.Plans.{IsPlan, IsTree, children_of, is_owned_in, is_pending, is_within, node_count, owner_of, parent_of, root_of, single_of};
-ghost use Rattle.fb_plan.specs.Layout.{tree_of};
-ghost use Rattle.fb_plan.specs.Loads.{IsClaim};
+ghost use Rattle.fb_plan.specs.InternalLayout.{tree_of};
+ghost use Rattle.fb_plan.specs.InternalLoads.{IsClaim};
 ghost use Rattle.fb_plan.specs.Reaches.{IsReach};
 ghost use Rattle.fb_plan.specs.Rules.{holds, joins_of, owner_in, plan_from};
 ghost use Rattle.fb_plan.specs.Vertices.{owned_by, place_in, vertices_in};
@@ -23,11 +23,12 @@ use fb_graph::{Graph, NoMemory};
 use std::alloc::Global;
 use std::marker::Model;
 
-const MOST_UNITS: usize = 1 << 12;
+/// The most units of a plan.
+pub const MOST_UNITS: usize = 1 << 12;
 
 /// A plan of fusion (Wu and Zhong 2023): a binary tree whose leaves are units, and for each real vertex the node that
 /// owns it. Units are numbered from 0, then come the fusions in their order; the root is the last node. A plan has
-/// at most 4,096 units.
+/// at most `MOST_UNITS` units.
 #[derive(Debug, Drop)]
 pub struct Plan {
     units: u32,
@@ -41,7 +42,7 @@ pub struct Plan {
 
 impl Model for Plan {
     ghost use Rattle.fb_plan.specs.Plans.{PlanTree};
-    ghost use Rattle.fb_plan.specs.Layout.{IsLaidOut};
+    ghost use Rattle.fb_plan.specs.InternalLayout.{IsLaidOut};
 
     ghost Value = { PlanTree };
 
@@ -138,9 +139,7 @@ impl Plan {
         ensures { IfOk result (λ p. p ≡ record { units = units; joins = joins.items; owners = owners.items }) }
     {
         let fusions = joins.as_slice();
-        let Ok(parents) = parents_of(alloc, units, fusions) else {
-            return Err(NoMemory);
-        };
+        let parents = parents_of(alloc, units, fusions)?;
         let spans = spans_of(alloc, units, fusions)?;
         let nodes = units as usize + fusions.len();
         let reaches = reaches_of(alloc, nodes, owners.as_slice())?;
@@ -211,7 +210,7 @@ impl Plan {
         self.owners[v as usize]
     }
 
-    /// Where the vertices lie that the node owns itself. Takes constant time.
+    /// The range of the vertices that the node owns itself. Takes constant time.
     pub fn reach(&self, node: u32) -> Reach
         requires { node < node_count self.now }
         ensures { IsReach self.now.owners node result }

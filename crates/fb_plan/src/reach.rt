@@ -1,4 +1,4 @@
-//! Between which vertices the vertices lie that each node owns itself.
+//! The least and the greatest vertex that each node owns itself.
 
 ghost use Rattle.std.specs.Prelude.{◌≡◌, ℕ, ◌+◌, ◌<◌, ◌≤◌, ◌^◌, length, get_or, Some, None, IfOk};
 ghost use Rattle.fb_graph.specs.Limits.{most_vertices};
@@ -7,8 +7,8 @@ ghost use Rattle.fb_plan.specs.Reaches.{IsReach, reach_at, widened_reach};
 use fb_graph::NoMemory;
 use std::alloc::Global;
 
-/// Where the vertices lie that a node owns itself: `first` is the least of them and `end` comes right after the
-/// greatest. Both are equal where it owns none.
+/// The range of the vertices that a node owns itself: `first` is the least of them, `end` the number after the greatest.
+/// Both are equal if it owns none. Vertices of other nodes may lie between them.
 #[derive(Clone, Copy, Debug)]
 pub struct Reach {
     pub first: u32,
@@ -16,7 +16,7 @@ pub struct Reach {
 }
 
 impl Reach {
-    /// With one more vertex, which is greater than all before it.
+    /// The range with one more vertex, which is greater than all before it.
     fn with(self, v: u32) -> Reach
         requires { v + 1 < 2 ^ 32 }
         ensures { result ≡ widened_reach self v }
@@ -30,7 +30,7 @@ impl Reach {
     }
 }
 
-/// Where each node's own vertices lie, the owner of each vertex being given.
+/// The reach of each node, by the owner of each vertex.
 pub fn reaches_of(
     alloc: Global,
     nodes: usize,

@@ -1,8 +1,8 @@
-//! The tables of a tree: the parent of each node, and where its subtree lies.
+//! The tables of a tree: the parent of each node, and the span of its subtree.
 
 ghost use Rattle.std.specs.Prelude.{◌≡◌, ℕ, ◌+◌, ◌<◌, length, get_or, None, IfOk};
-ghost use Rattle.fb_plan.specs.Plans.{IsTree, node_count, parent_of};
-ghost use Rattle.fb_plan.specs.Layout.{IsPlaced, IsPlacedFrom, size_of, span_at, tree_of};
+ghost use Rattle.fb_plan.specs.Plans.{IsTree, parent_of};
+ghost use Rattle.fb_plan.specs.InternalLayout.{IsPlaced, IsPlacedFrom, size_of, span_at, tree_of};
 
 use crate::parts::Span;
 use fb_graph::NoMemory;
@@ -28,7 +28,7 @@ pub fn parents_of(
     Ok(parents)
 }
 
-/// So many ones.
+/// A list of `count` ones.
 fn ones(alloc: Global, count: u32) -> Result<Vec<u32>, NoMemory>
     ensures count { IfOk result (λ s. length s.items ≡ count) }
     ensures each { IfOk result (λ s. (n : ℕ) → n < count → get_or s.items n 0 ≡ 1) }
@@ -37,7 +37,7 @@ fn ones(alloc: Global, count: u32) -> Result<Vec<u32>, NoMemory>
     Ok(ones)
 }
 
-/// How many nodes each subtree has.
+/// The number of nodes of each subtree.
 #[tactic(auto, using(crate::proofs::Tables::unit_size))]
 fn sizes_of(alloc: Global, units: u32, joins: &[(u32, u32)]) -> Result<Vec<u32>, NoMemory>
     requires { IsTree (tree_of units joins.now) }
@@ -53,7 +53,7 @@ fn sizes_of(alloc: Global, units: u32, joins: &[(u32, u32)]) -> Result<Vec<u32>,
     Ok(sizes)
 }
 
-/// Where each subtree lies when the nodes are listed each after its children's subtrees.
+/// The span of each subtree: its places when each node is listed after its children's subtrees.
 pub fn spans_of(alloc: Global, units: u32, joins: &[(u32, u32)]) -> Result<Vec<Span>, NoMemory>
     requires { IsTree (tree_of units joins.now) }
     ensures count { IfOk result (λ s. length s.items ≡ units + length joins.now) }
@@ -63,7 +63,7 @@ pub fn spans_of(alloc: Global, units: u32, joins: &[(u32, u32)]) -> Result<Vec<S
     spans_by(alloc, units, joins, &sizes)
 }
 
-/// Where each subtree lies, the number of its nodes being given.
+/// The span of each subtree, by the number of its nodes.
 #[tactic(auto, using(crate::proofs::Tables::all_placed))]
 fn spans_by(
     alloc: Global,
@@ -97,9 +97,7 @@ fn unplaced(alloc: Global, sizes: &[u32]) -> Result<Vec<Span>, NoMemory>
             start: 0,
             end: *size,
         };
-        if spans.push(span).is_err() {
-            return Err(NoMemory);
-        }
+        spans.push(span)?;
     }
     Ok(spans)
 }

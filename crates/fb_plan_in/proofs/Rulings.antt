@@ -4,7 +4,8 @@ use Rattle.std.proofs.lemmas.Simd.{map-map}
 use Rattle.fb_graph.specs.Limits.{DecodingGraph}
 use Rattle.fb_plan.specs.Rules.{plan_from}
 use Rattle.fb_plan.specs.declared.parts.Join.{Join}
-use Rattle.fb_plan_in.specs.PlanText.{Fusion, fusion_from, plan_of}
+use Rattle.fb_plan_in.specs.PlanText.{Fusion, plan_of}
+use Rattle.fb_plan_in.specs.InternalFusions.{fusion_from}
 
 pub plan_of_joins : (g : DecodingGraph) (units : List (List (ℕ × ℕ))) (joins : List Join)
     → plan_from g units joins ≡ plan_of g units (map fusion_from joins)

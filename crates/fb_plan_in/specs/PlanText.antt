@@ -4,10 +4,9 @@ use Rattle.std.specs.Prelude.{ℕ, nat_lt, if◌then◌else◌, List, [], ◌∷
 use Rattle.serde_json.specs.Data.{Data, Items, no_items, item}
 use Rattle.serde_json.specs.Find.{get, as_array}
 use Rattle.fb_graph.specs.Limits.{DecodingGraph}
-use Rattle.fb_graph_in.specs.JsonText.{most_bytes, with_option, with_result, value_of, natural_of, entries_by}
+use Rattle.fb_json.specs.JsonText.{most_bytes, with_option, with_result, value_of, natural_of, entries_by}
 use Rattle.fb_plan.specs.Plans.{PlanTree}
 use Rattle.fb_plan.specs.Rules.{plan_by}
-use Rattle.fb_plan.specs.declared.parts.Join.{Join}
 use Rattle.fb_plan.specs.declared.faults.Member.TheVariants as member
 use Rattle.fb_plan.specs.declared.faults.Place.{Place}
 use Rattle.fb_plan.specs.declared.faults.Place.TheVariants as place
@@ -29,7 +28,7 @@ abbrev pub after : {A : Type 0} → List A → Option (List A) → Option (List 
 after before None = None
 after before (Some more) = Some (before ++ more)
 
--- the pairs of a list; None where an entry is no pair
+-- the pairs of a list; None if an entry is no pair
 abbrev pub pairs_of : Items → Option (List (ℕ × ℕ))
 pairs_of no_items = Some []
 pairs_of (item d ds) = option_and_then (λ pair. after (pair ∷ []) (pairs_of ds)) (pair_of d)
@@ -72,10 +71,6 @@ abbrev pub parts_of_text : List ℕ → Result (List (List (ℕ × ℕ)) × List
 parts_of_text bytes =
     if nat_lt most_bytes (length bytes) then Err TooLong
     else with_option (value_of bytes) NotJson parts_of
-
--- the fusion that a join is
-abbrev pub fusion_from : Join → Fusion
-fusion_from join = record { left = join.left; right = join.right; seam = join.seam.items }
 
 -- the plan of these ranges and fusions, or the first rule that they break
 unfoldable pub plan_of : DecodingGraph → List (List (ℕ × ℕ)) → List Fusion → Result PlanTree PlanFault

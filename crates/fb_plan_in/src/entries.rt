@@ -2,7 +2,8 @@
 
 ghost use Rattle.std.specs.Prelude.{◌≡◌, ◌≢◌, map, IfOk, IfErr, option_map, Ok, Err};
 ghost use Rattle.serde_json.specs.View.{view, items_view};
-ghost use Rattle.fb_plan_in.specs.PlanText.{pair_of, pairs_of, ranges_of, fusion_of, fusion_from, entries_of};
+ghost use Rattle.fb_plan_in.specs.PlanText.{pair_of, pairs_of, ranges_of, fusion_of, entries_of};
+ghost use Rattle.fb_plan_in.specs.InternalFusions.{fusion_from};
 
 use fb_graph::NoMemory;
 use fb_plan::{Join, Place, PlanFault};
@@ -22,7 +23,7 @@ fn pair(value: &Value) -> Option<(u64, u64)>
     Some((first, second))
 }
 
-/// The pairs of a list; `None` where an entry is no pair.
+/// The pairs of a list; `None` if an entry is no pair.
 fn pairs(alloc: Global, values: &[Value]) -> Result<Option<Vec<(u64, u64)>>, NoMemory>
     ensures { IfOk result (λ o. option_map (λ v. v.items) o ≡ pairs_of (items_view values.now)) }
 {
@@ -31,14 +32,12 @@ fn pairs(alloc: Global, values: &[Value]) -> Result<Option<Vec<(u64, u64)>>, NoM
         let Some(entry) = pair(value) else {
             return Ok(None);
         };
-        if found.push(entry).is_err() {
-            return Err(NoMemory);
-        }
+        found.push(entry)?;
     }
     Ok(Some(found))
 }
 
-/// The ranges of a node; `None` where the value is no list of pairs.
+/// The ranges of a node; `None` if the value is no list of pairs.
 fn ranges(alloc: Global, value: &Value) -> Result<Option<Vec<(u64, u64)>>, NoMemory>
     ensures { IfOk result (λ o. option_map (λ v. v.items) o ≡ ranges_of (view value.now)) }
 {
@@ -48,7 +47,7 @@ fn ranges(alloc: Global, value: &Value) -> Result<Option<Vec<(u64, u64)>>, NoMem
     }
 }
 
-/// A fusion; `None` where the value is none.
+/// A fusion; `None` if the value is none.
 fn fusion(alloc: Global, value: &Value) -> Result<Option<Join>, NoMemory>
     ensures { IfOk result (λ o. option_map fusion_from o ≡ fusion_of (view value.now)) }
 {
@@ -68,7 +67,7 @@ fn fusion(alloc: Global, value: &Value) -> Result<Option<Join>, NoMemory>
     }
 }
 
-/// The ranges of each of `units`, or the place of the first entry that has not its form.
+/// The ranges of each of `units`, or the place of the first entry that is not of its form.
 pub fn units(alloc: Global, values: &[Value]) -> Result<Vec<Vec<(u64, u64)>>, PlanFault>
     ensures ok { IfOk result (λ v. entries_of ranges_of Place.Unit 0 (items_view values.now)
         ≡ Ok (map (λ u. u.items) v.items)) }
@@ -92,7 +91,7 @@ pub fn units(alloc: Global, values: &[Value]) -> Result<Vec<Vec<(u64, u64)>>, Pl
     Ok(found)
 }
 
-/// The joins of `fusions`, or the place of the first entry that has not its form.
+/// The joins of `fusions`, or the place of the first entry that is not of its form.
 pub fn fusions(alloc: Global, values: &[Value]) -> Result<Vec<Join>, PlanFault>
     ensures ok { IfOk result (λ v. entries_of fusion_of Place.Fusion 0 (items_view values.now)
         ≡ Ok (map fusion_from v.items)) }

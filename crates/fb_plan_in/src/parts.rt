@@ -2,10 +2,11 @@
 
 ghost use Rattle.std.specs.Prelude.{◌≡◌, ◌≢◌, map, IfOk, IfErr, Ok, Err};
 ghost use Rattle.serde_json.specs.View.{view};
-ghost use Rattle.fb_plan_in.specs.PlanText.{fusion_from, parts_of, parts_of_text};
+ghost use Rattle.fb_plan_in.specs.PlanText.{parts_of, parts_of_text};
+ghost use Rattle.fb_plan_in.specs.InternalFusions.{fusion_from};
 
 use crate::entries::{fusions, units};
-use fb_graph_in::MOST_TEXT_BYTES;
+use fb_json::{MOST_TEXT_BYTES, NoValue, read_value};
 use fb_plan::{Join, Member, Place, PlanFault};
 use serde_json::Value;
 use std::alloc::Global;
@@ -42,7 +43,6 @@ fn parts_in(alloc: Global, value: &Value) -> Result<Parts, PlanFault>
 }
 
 /// What a text says, or the first rule that it breaks. The JSON value is gone when it is given.
-#[tactic(auto, using(crate::proofs::Readings::readings))]
 pub fn read_parts(alloc: Global, bytes: &[u8]) -> Result<Parts, PlanFault>
     ensures ok { IfOk result (λ p. parts_of_text bytes.now
         ≡ Ok (map (λ u. u.items) p.units.items, map fusion_from p.fusions.items)) }
@@ -51,9 +51,9 @@ pub fn read_parts(alloc: Global, bytes: &[u8]) -> Result<Parts, PlanFault>
     if bytes.len() > MOST_TEXT_BYTES {
         return Err(PlanFault::TooLong);
     }
-    match Value::from_slice(alloc, bytes) {
+    match read_value(alloc, bytes) {
         Ok(value) => parts_in(alloc, &value),
-        Err(error) if error.is_memory() => Err(PlanFault::NoMemory),
-        Err(_) => Err(PlanFault::NotJson),
+        Err(NoValue::NotJson) => Err(PlanFault::NotJson),
+        Err(NoValue::NoMemory) => Err(PlanFault::NoMemory),
     }
 }

@@ -35,14 +35,14 @@ bytes_named (f ∷ fs) name = if bytes_eq f.0 name then Some f.1 else bytes_name
 abbrev pub bytes_at : List (List ℕ × List ℕ) → ℕ → List ℕ
 bytes_at files i = (slice_index_or files i ([], [])).1
 
--- what is left of the current file, of which bytes before place `at` were read; nothing where no file is current
+-- what is left of the current file, of which bytes before place `at` were read; nothing if no file is current
 abbrev pub rest_of : List (List ℕ × List ℕ) → Option ℕ → ℕ → List ℕ
 rest_of files None at = []
 rest_of files (Some i) at = drop at (bytes_at files i)
 
 -- the current file is one of the files, and no byte past its end was read
-abbrev pub StandsIn : List (List ℕ × List ℕ) → Option ℕ → ℕ → Type 0
-StandsIn files current at = ForSome current (λ i. (i < length files) × (at ≤ length (bytes_at files i)))
+abbrev pub IsPlaceIn : List (List ℕ × List ℕ) → Option ℕ → ℕ → Type 0
+IsPlaceIn files current at = ForSome current (λ i. (i < length files) × (at ≤ length (bytes_at files i)))
 
 -- no file, nothing asked for, no call that is to fail
 abbrev pub no_files : ℕ → FilesInMemory
@@ -52,7 +52,7 @@ no_files most = record { files = []; left = []; asked = []; failing = []; calls 
 abbrev pub empty_sink : ℕ → ℕ → SinkInMemory
 empty_sink room most = record { taken = []; room = room; failing = []; calls = 0; most = most; faults = 0 }
 
--- a count after one more; it stands still at the end of a u64
+-- a count after one more; it stays at the greatest number of 64 bits
 abbrev pub one_more : ℕ → ℕ
 one_more n = min (n + 1) (2 ^ 64 - 1)
 

@@ -10,7 +10,7 @@ mod system;
 mod writing;
 
 pub use memory::{MemFiles, MemSink};
-pub use reading::{Files, MOST_ASKED, ReadError, read_whole};
+pub use reading::{Files, MOST_ASKED, ReadError, read_at_most, read_whole};
 pub use system::{OsFiles, OsSink};
 pub use writing::{Sink, put_all, put_parts};
 

@@ -1,5 +1,5 @@
 ghost use Rattle.std.specs.Prelude.{◌≡◌, ℕ, ◌-◌, ◌^◌, ◌<◌, ◌≤◌, min, ◌||◌, List, [], ◌∷◌, ◌++◌, length, map, take, drop, Option, None, Some, IsNone, IfSome, IfOk, OnOk, OnErr, is_err, is_none, IsOk, nat_eq, nat_le, if◌then◌else◌, string_bytes};
-ghost use Rattle.fb_ports.specs.Causes.{HasCause, HasRoom, TellsMore, Opens, ReadsAtMost, ReadConsumes, WritesAtMost, WriteAppends};
+ghost use Rattle.fb_ports.specs.Causes.{HasCause, HasRoom, GainsIfKnown, Opens, ReadsAtMost, ReadConsumes, WritesAtMost, WriteAppends};
 ghost use Rattle.std.specs.Str.{bytes_eq};
 ghost use Rattle.fb_ports.specs.Memory.{bytes_at, bytes_named, no_files, empty_sink, is_to_fail, one_more};
 
@@ -100,7 +100,7 @@ pub struct MemFiles {
 
 impl Model for MemFiles {
     ghost use Rattle.std.specs.Prelude.{◌≤◌, ◌<◌, map, string_bytes, vec_capacity};
-    ghost use Rattle.fb_ports.specs.Memory.{FilesInMemory, rest_of, StandsIn};
+    ghost use Rattle.fb_ports.specs.Memory.{FilesInMemory, rest_of, IsPlaceIn};
 
     ghost Value = { FilesInMemory };
 
@@ -115,7 +115,7 @@ impl Model for MemFiles {
     } };
 
     ghost invariant = { λ m.
-        StandsIn m.files.items m.current m.at
+        IsPlaceIn m.files.items m.current m.at
         × (16 ≤ vec_capacity m.asked)
         × (0 < m.most) };
 }
@@ -189,13 +189,13 @@ impl Files for MemFiles {
 
     fn open_file(&mut self, name: String) -> Result<(), Failed>
         requires { HasRoom (Some self.old.asked) 16 }
-        ensures asks { TellsMore (Some self.old.asked) (Some self.new.asked) (string_bytes name) }
+        ensures asks { GainsIfKnown (Some self.old.asked) (Some self.new.asked) (string_bytes name) }
         ensures names { Some (bytes_named self.new.files) ≡ Some (bytes_named self.old.files) }
         ensures opens { Opens (Some (bytes_named self.old.files)) (Some self.new.left)
             (string_bytes name) result }
         ensures cause { HasCause self.old.faults self.new.faults result }
 
-        // It fails exactly at a call that is to fail and at a name that no file has.
+        // It fails exactly at a call that is to fail or a name that no file has.
         ensures fails { is_err result ≡ (is_to_fail self.old.failing self.old.calls
             || is_none (bytes_named self.old.files (string_bytes name))) }
         ensures others { self.new ≡ record self.old {
@@ -249,7 +249,7 @@ impl Files for MemFiles {
 }
 
 /// A sink in memory, for tests: room for a number of bytes, puts that are to fail, and a greatest
-/// piece for puts. Where it is full a put of a piece that is not empty is a fault.
+/// piece for puts. Once it is full a put of a piece that is not empty is a fault.
 #[derive(Drop)]
 pub struct MemSink {
     taken: Vec<u8>,
@@ -333,7 +333,7 @@ impl Sink for MemSink {
         ensures bytes { WriteAppends (Some self.old.taken) (Some self.new.taken) result piece.now }
         ensures cause { HasCause self.old.faults self.new.faults result }
 
-        // A put of some bytes fails exactly where it is to fail and where the sink is full.
+        // A put of some bytes fails exactly if it is to fail or the sink is full.
         ensures fails { 0 < length piece.now → is_err result ≡ (is_to_fail self.old.failing self.old.calls
             || nat_le self.old.room (length self.old.taken)) }
         ensures piece { IfOk result (λ n. n ≡ min self.old.most

@@ -1,5 +1,5 @@
 ghost use Rattle.std.specs.Prelude.{◌≡◌, ◌≢◌, ℕ, ◌+◌, ◌^◌, ◌<◌, ◌≤◌, Option, List, length, vec_len, string_bytes, OnOk, IfOk, IfSome, IsErrOf};
-ghost use Rattle.fb_ports.specs.Causes.{HasCause, HasRoom, TellsMore, Opens, ReadsAtMost, ReadConsumes, ConsumesAtMost, IsAtEnd, Rose};
+ghost use Rattle.fb_ports.specs.Causes.{HasCause, HasRoom, GainsIfKnown, Opens, ReadsAtMost, ReadConsumes, ConsumesAtMost, IsAtEnd, Rose};
 
 use crate::Failed;
 use std::alloc::Global;
@@ -7,8 +7,8 @@ use std::alloc::Global;
 /// Files that are opened by name and read one at a time.
 ///
 /// The clauses speak of four meanings. `named` (the bytes by name), `left` (what is left of the
-/// current file) and `asked` (the names that `open_file` was asked for, oldest first) are optional:
-/// `None` tells nothing. `faults` counts the faults, and never falls.
+/// current file) and `asked` (the names that `open_file` was asked for, oldest first) are `None` of
+/// files that don't report them. `faults` counts the faults, and never falls.
 pub trait Files {
     ghost named: { Self → Option (List ℕ → Option (List ℕ)) };
 
@@ -22,13 +22,13 @@ pub trait Files {
     /// failure nothing is left. The name is added to those asked for, also after a failure.
     fn open_file(&mut self, name: String) -> Result<(), Failed>
         requires { HasRoom (asked self.old) 16 }
-        ensures asks { TellsMore (asked self.old) (asked self.new) (string_bytes name) }
+        ensures asks { GainsIfKnown (asked self.old) (asked self.new) (string_bytes name) }
         ensures names { named self.new ≡ named self.old }
         ensures opens { Opens (named self.old) (left self.new) (string_bytes name) result }
         ensures cause { HasCause (faults self.old) (faults self.new) result };
 
     /// Reads bytes of the current file into the start of `buf`, and returns how many. Into a buffer
-    /// that is not empty it reads at least one where any is left, so there 0 is the file's end. A
+    /// that is not empty it reads at least one if any is left, so there 0 is the file's end. A
     /// failed read leaves what is left as it was.
     fn read(&mut self, buf: &mut [u8]) -> Result<usize, Failed>
         ensures asks { asked self.new ≡ asked self.old }
@@ -52,8 +52,9 @@ pub enum ReadError {
 /// The most bytes that one read asks for.
 pub const MOST_ASKED: usize = 65_536;
 
-/// Reads at most `most` bytes of the current file into the start of `chunk`.
-fn read_at_most<F: Files>(files: &mut F, chunk: &mut [u8], most: usize) -> Result<usize, Failed>
+/// Reads at most `most` bytes of the current file into the start of `chunk`, and returns how many.
+/// Into a chunk that is not empty 0 is the file's end.
+pub fn read_at_most<F: Files>(files: &mut F, chunk: &mut [u8], most: usize) -> Result<usize, Failed>
     requires { 0 < most }
     ensures asks { F.asked files.new ≡ F.asked files.old }
     ensures names { F.named files.new ≡ F.named files.old }

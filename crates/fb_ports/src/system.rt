@@ -13,8 +13,8 @@ enum Current<F, S> {
     Input(S),
 }
 
-/// The files of the system, by name. The name `-` is standard input. It tells no bytes and no names,
-/// and contracts see it as its count of faults.
+/// The files of the system, by name. The name `-` is standard input. It reports neither bytes nor
+/// names, and contracts see it as its count of faults.
 #[derive(Drop)]
 pub struct OsFiles<'a, R: rt::Files + Input> {
     rt: &'a R,
@@ -31,7 +31,7 @@ impl<'a, R: rt::Files + Input> Model for OsFiles<'a, R> {
 }
 
 impl<'a, R: rt::Files + Input> OsFiles<'a, R> {
-    /// No file is open yet, and no fault came.
+    /// No file is open yet, and no fault has occurred.
     pub fn new(rt: &'a R) -> Self
         ensures { result ≡ 0 }
     {
@@ -83,8 +83,8 @@ impl<R: rt::Files + Input> Files for OsFiles<'_, R> {
     }
 }
 
-/// A stream of the system that takes bytes, as standard output and standard error do. It tells no
-/// bytes, and contracts see it as its count of faults.
+/// A stream of the system that takes bytes, as standard output and standard error do. It doesn't
+/// report them, and contracts see it as its count of faults.
 #[derive(Drop)]
 pub struct OsSink<W: Write + Drop> {
     inner: W,
@@ -100,7 +100,7 @@ impl<W: Write + Drop> Model for OsSink<W> {
 }
 
 impl<W: Write + Drop> OsSink<W> {
-    /// Puts go to `inner`, and no fault came yet.
+    /// Puts go to `inner`, and no fault has occurred yet.
     pub fn new(inner: W) -> Self
         ensures { result ≡ 0 }
     {

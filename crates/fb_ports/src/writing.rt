@@ -5,14 +5,14 @@ use crate::Failed;
 
 /// Something that takes bytes, as standard output does.
 ///
-/// The clauses speak of two meanings. `taken`, the bytes taken so far, is optional: `None` tells
-/// nothing. `faults` counts the faults, and never falls.
+/// The clauses speak of two meanings. `taken`, the bytes taken so far, is `None` of a sink that
+/// doesn't report them. `faults` counts the faults, and never falls.
 pub trait Sink {
     ghost taken: { Self → Option (List ℕ) };
 
     ghost faults: { Self → ℕ };
 
-    /// Takes a prefix of `piece`, and returns its length in bytes: at least 1 where the piece is
+    /// Takes a prefix of `piece`, and returns its length in bytes: at least 1 if the piece is
     /// not empty. A failed put took nothing. A put of an empty piece takes nothing and is Ok.
     fn put(&mut self, piece: &[u8]) -> Result<usize, Failed>
         ensures bound { WritesAtMost result piece.now }

@@ -1,39 +1,16 @@
 -- What a reader answers: by what is read, behind what is skipped, and at the end of a line and of the input.
 use Rattle.std.specs.Prelude.{if◌then◌else◌, IfErr}
-use Rattle.std.proofs.Common.{◌≡◌, ℕ, suc, ◌+◌, Bool, true, false, List, [], ◌∷◌, ◌++◌, length, Some, None, Result, Ok, Err, refl, sym, ap, ◌∙◌, append_assoc, inl, inr, arith}
+use Rattle.std.proofs.Common.{◌≡◌, ℕ, suc, ◌+◌, Bool, true, false, List, [], ◌∷◌, ◌++◌, length, Some, None, Result, Ok, Err, refl, sym, ap, ◌∙◌, append_assoc, arith}
 use Rattle.std.specs.List.{prefix_len}
-use Rattle.std.proofs.lemmas.Bool.{cases_Bool}
 use Rattle.std.proofs.lemmas.List.{append-nil, length-append}
-use Rattle.fb_records.specs.declared.answer.Next.{Next}
-use Rattle.fb_records.specs.declared.answer.Next.TheVariants.{Shot, NotYet, End, Refused}
 use Rattle.fb_records.specs.declared.answer.Stop.{Stop}
 use Rattle.fb_records.specs.declared.answer.Stop.TheVariants as stop
-use Rattle.fb_records.specs.Records.{at_end, refused, Records, only, in_front, Judged, with_line, Reader}
+use Rattle.fb_records.specs.Records.{at_end, refused, Records, only, with_first_shot, Judged, with_line, Reader}
 use Rattle.fb_records.specs.Lines.{holds, lines_of, after_lines, after_first, records_by_lines, prefix_by_lines, Stays}
-use Rattle.fb_records.specs.Answers.{answer_of, reading, Gives, Refuses, Answers, IfRefused, Skips}
+use Rattle.fb_records.specs.Answers.{Gives, Refuses}
+use Rattle.fb_records.specs.InternalSteps.{IfRefused, Skips}
 use Rattle.fb_records.proofs.LineLemmas.{whole_parts_none, last_part_none, whole_parts_one, last_part_one, after_line_one, after_line_none}
 use Rattle.fb_records.proofs.RecordLemmas.{Judge, Begun, records_one, prefix_one, records_none, records_go_on}
-
--- ---- what was read
-
-reading_done : {K C : Type 0} (records prefix : C → List ℕ → Records K) (r : Reader C) → r.finished ≡ true → reading records prefix r ≡ records r.subject r.rest
-reading_done records prefix r e = rw e refl
-
-reading_open : {K C : Type 0} (records prefix : C → List ℕ → Records K) (r : Reader C) → r.finished ≡ false → reading records prefix r ≡ prefix r.subject r.rest
-reading_open records prefix r e = rw e refl
-
--- an answer is the one that the first of what was read gives
-pub answer_from : {K C : Type 0} (records prefix : C → List ℕ → Records K) (after : List ℕ → List ℕ) (old new : Reader C) (a : Next K) → Answers records prefix after old new a → a ≡ answer_of (reading records prefix old)
-answer_from records prefix after old new (Shot shot) h = elim (cases_Bool old.finished) [
-  | inl e ↦ sym (ap answer_of (reading_done records prefix old e ∙ h.0.now))
-  | inr e ↦ sym (ap answer_of (reading_open records prefix old e ∙ h.0.so_far e))
-]
-answer_from records prefix after old new NotYet h = sym (ap answer_of (reading_open records prefix old h.0 ∙ h.1))
-answer_from records prefix after old new End h = sym (ap answer_of (reading_done records prefix old h.0 ∙ h.1))
-answer_from records prefix after old new (Refused kind) h = elim (cases_Bool old.finished) [
-  | inl e ↦ sym (ap answer_of (reading_done records prefix old e ∙ h.0.now))
-  | inr e ↦ sym (ap answer_of (reading_open records prefix old e ∙ h.0.so_far e))
-]
 
 -- ---- what is skipped first
 
@@ -116,7 +93,7 @@ gives_last {K} judge begun old new b line shot done old-is new-is h j = record {
   shorter = omega (arith, ap length old-is, ap length new-is);
   now = ap (records_by_lines judge) old-is ∙ records_none judge b line h
       ∙ ap (λ (given : Judged K). with_line given (only at_end)) j
-      ∙ ap (λ (l : List ℕ). in_front shot (records_by_lines judge l)) (sym new-is);
+      ∙ ap (λ (l : List ℕ). with_first_shot shot (records_by_lines judge l)) (sym new-is);
   so_far = λ f. absurd (false_true old.finished done f);
   later = λ f. absurd (false_true old.finished done f);
   onward = λ f. absurd (false_true old.finished done f);

@@ -1,7 +1,7 @@
 -- What is left of an input without its first record.
 use Rattle.std.proofs.Common.{◌≡◌, ℕ, zero, suc, ◌<◌, false, List, [], ◌∷◌, ◌++◌, length, Some, None, Ok, Err, refl, sym, ap, ◌∙◌, append_assoc, arith}
 use Rattle.std.proofs.lemmas.List.{length-append}
-use Rattle.fb_records.specs.Records.{Ending, Records, only, in_front, Judged, with_line}
+use Rattle.fb_records.specs.Records.{Ending, Records, only, with_first_shot, Judged, with_line}
 use Rattle.fb_records.specs.Lines.{holds, records_by_lines, prefix_by_lines}
 use Rattle.fb_records.specs.Answers.{IsLeft}
 use Rattle.fb_records.specs.Laws.{Leaves}
@@ -30,26 +30,26 @@ first_left {K} (suc fuel) judge begun after leaves bytes shot shots lt e =
         prefix_one judge begun line m h ∙ ap (λ (r : Judged K). with_line r (prefix_by_lines judge begun m)) judged in
         let left = later tt (sym (ap (λ (x : Records K). x.shots) prefix) ∙ e) in
         let skipped = leaves.skips line m h judged in (
-          prefix ∙ left.0 ∙ ap (λ (l : List ℕ). in_front shot (prefix_by_lines judge begun l)) (sym skipped),
+          prefix ∙ left.0 ∙ ap (λ (l : List ℕ). with_first_shot shot (prefix_by_lines judge begun l)) (sym skipped),
           λ more. ap (records_by_lines judge) (append_assoc line (10 ∷ m) more) ∙ records_one judge line (m ++ more) h
               ∙ ap (λ (r : Judged K). with_line r (records_by_lines judge (m ++ more))) judged
-              ∙ left.1 more ∙ ap (λ (l : List ℕ). in_front shot (records_by_lines judge (l ++ more))) (sym skipped),
+              ∙ left.1 more ∙ ap (λ (l : List ℕ). with_first_shot shot (records_by_lines judge (l ++ more))) (sym skipped),
           λ more. ap (prefix_by_lines judge begun) (append_assoc line (10 ∷ m) more) ∙ prefix_one judge begun line (m ++ more) h
               ∙ ap (λ (r : Judged K). with_line r (prefix_by_lines judge begun (m ++ more))) judged
-              ∙ left.2 more ∙ ap (λ (l : List ℕ). in_front shot (prefix_by_lines judge begun (l ++ more))) (sym skipped),
+              ∙ left.2 more ∙ ap (λ (l : List ℕ). with_first_shot shot (prefix_by_lines judge begun (l ++ more))) (sym skipped),
         )
     by_line line m h (Ok (Some first)) judged later e =
-        let prefix : prefix_by_lines judge begun (line ++ 10 ∷ m) ≡ in_front first (prefix_by_lines judge begun m) =
+        let prefix : prefix_by_lines judge begun (line ++ 10 ∷ m) ≡ with_first_shot first (prefix_by_lines judge begun m) =
         prefix_one judge begun line m h ∙ ap (λ (r : Judged K). with_line r (prefix_by_lines judge begun m)) judged in
         let same : first ≡ shot = (let shown : first ∷ (prefix_by_lines judge begun m).shots ≡ shot ∷ shots = sym (ap (λ (x : Records K). x.shots) prefix) ∙ e in cc) in
         let left = leaves.takes line m first h judged in (
-          prefix ∙ ap (λ (l : List ℕ). in_front l (prefix_by_lines judge begun m)) same ∙ ap (λ (l : List ℕ). in_front shot (prefix_by_lines judge begun l)) (sym left),
+          prefix ∙ ap (λ (l : List ℕ). with_first_shot l (prefix_by_lines judge begun m)) same ∙ ap (λ (l : List ℕ). with_first_shot shot (prefix_by_lines judge begun l)) (sym left),
           λ more. ap (records_by_lines judge) (append_assoc line (10 ∷ m) more) ∙ records_one judge line (m ++ more) h
               ∙ ap (λ (r : Judged K). with_line r (records_by_lines judge (m ++ more))) judged
-              ∙ ap (λ (l : List ℕ). in_front l (records_by_lines judge (m ++ more))) same ∙ ap (λ (l : List ℕ). in_front shot (records_by_lines judge (l ++ more))) (sym left),
+              ∙ ap (λ (l : List ℕ). with_first_shot l (records_by_lines judge (m ++ more))) same ∙ ap (λ (l : List ℕ). with_first_shot shot (records_by_lines judge (l ++ more))) (sym left),
           λ more. ap (prefix_by_lines judge begun) (append_assoc line (10 ∷ m) more) ∙ prefix_one judge begun line (m ++ more) h
               ∙ ap (λ (r : Judged K). with_line r (prefix_by_lines judge begun (m ++ more))) judged
-              ∙ ap (λ (l : List ℕ). in_front l (prefix_by_lines judge begun (m ++ more))) same ∙ ap (λ (l : List ℕ). in_front shot (prefix_by_lines judge begun (l ++ more))) (sym left),
+              ∙ ap (λ (l : List ℕ). with_first_shot l (prefix_by_lines judge begun (m ++ more))) same ∙ ap (λ (l : List ℕ). with_first_shot shot (prefix_by_lines judge begun (l ++ more))) (sym left),
         )
 
 pub leaves_first : {K : Type 0} (judge : Judge K) (begun : Begun K) (after : List ℕ → List ℕ) → Leaves judge after → (bytes shot : List ℕ) (shots : List (List ℕ))

@@ -1,6 +1,6 @@
 -- What is read of an input whose records are lines: by its first line, and in two pieces.
 use Rattle.std.proofs.Common.{◌≡◌, ℕ, false, List, [], ◌∷◌, ◌++◌, Some, None, Ok, Err, refl, sym, ap, subst, ◌∙◌, append_assoc}
-use Rattle.fb_records.specs.Records.{Ending, at_end, still_open, refused, Records, only, in_front, ending_as, Judged, with_line, go_down, GoesOn}
+use Rattle.fb_records.specs.Records.{Ending, at_end, still_open, refused, Records, only, with_first_shot, ending_as, Judged, with_line, go_down, GoesOn}
 use Rattle.fb_records.specs.Lines.{holds, whole_parts, last_part, if_not_empty, without_return, bare, lines_of, records_by_lines, prefix_by_lines, Stays}
 use Rattle.fb_records.proofs.LineLemmas.{whole_parts_none, last_part_none, whole_parts_one, last_part_one, without, within, splits, holds_none, parts_of, holds_last, without_return_append}
 
@@ -53,7 +53,7 @@ go_down_goes_on judge (line ∷ lines) more ending ended h = through (judge line
   through : {K : Type 0} (given : Judged K) (prefix all : Records K) → GoesOn prefix all → GoesOn (with_line given prefix) (with_line given all)
   through (Ok (Some shot)) prefix all g = record {
     shots = (g.shots.0, ap (λ (ss : List (List ℕ)). shot ∷ ss) g.shots.1);
-    judged = λ kind e. ap (in_front shot) (g.judged kind e);
+    judged = λ kind e. ap (with_first_shot shot) (g.judged kind e);
   }
   through (Ok None) prefix all g = g
   through (Err kind) prefix all g = record { shots = ([], refl); judged = λ k e. refl }

@@ -2,9 +2,7 @@
 use Rattle.std.specs.Prelude.{◌≡◌, ℕ, ◌<◌, length, true, false, List, [], ◌∷◌, ◌++◌, if◌then◌else◌}
 use Rattle.fb_records.specs.declared.answer.Next.{Next}
 use Rattle.fb_records.specs.declared.answer.Next.TheVariants.{Shot, NotYet, End, Refused}
-use Rattle.fb_records.specs.declared.answer.Stop.{Stop}
-use Rattle.fb_records.specs.declared.answer.Stop.TheVariants as stop
-use Rattle.fb_records.specs.Records.{Ending, at_end, still_open, refused, Records, only, in_front, GoesOn, Reader}
+use Rattle.fb_records.specs.Records.{Ending, at_end, still_open, refused, Records, only, with_first_shot, GoesOn, Reader}
 
 -- the answer that the first of what was read gives
 abbrev pub first_answer : {K : Type 0} → List (List ℕ) → Ending K → Next K
@@ -23,12 +21,12 @@ reading records prefix r = if r.finished then records r.subject r.rest else pref
 -- The shot is the first record of the old rest, and the new rest holds all others, whatever is fed later.
 pub record Gives {K C : Type 0} (records prefix : List ℕ → Records K) (old new : Reader C) (shot : List ℕ) : Type 0 where
   pub shorter : length new.rest < length old.rest
-  pub now : records old.rest ≡ in_front shot (records new.rest)
-  pub so_far : old.finished ≡ false → prefix old.rest ≡ in_front shot (prefix new.rest)
+  pub now : records old.rest ≡ with_first_shot shot (records new.rest)
+  pub so_far : old.finished ≡ false → prefix old.rest ≡ with_first_shot shot (prefix new.rest)
   pub later : old.finished ≡ false → (more : List ℕ)
-      → records (old.rest ++ more) ≡ in_front shot (records (new.rest ++ more))
+      → records (old.rest ++ more) ≡ with_first_shot shot (records (new.rest ++ more))
   pub onward : old.finished ≡ false → (more : List ℕ)
-      → prefix (old.rest ++ more) ≡ in_front shot (prefix (new.rest ++ more))
+      → prefix (old.rest ++ more) ≡ with_first_shot shot (prefix (new.rest ++ more))
 
 -- The rest begins by what is refused, whatever is fed later.
 pub record Refuses {K C : Type 0} (records prefix : List ℕ → Records K) (old : Reader C) (kind : K) : Type 0 where
@@ -48,19 +46,14 @@ Answers records prefix after old new End =
 Answers records prefix after old new (Refused kind) =
     Refuses (records old.subject) (prefix old.subject) old kind × (new ≡ old)
 
--- the fact of the shot, where an answer is one
+-- if the answer is a shot, the fact of it
 abbrev pub IfShot : {K : Type 0} → (List ℕ → Type 0) → Next K → Type 0
 IfShot P (Shot shot) = P shot
 IfShot P NotYet = Unit {0}
 IfShot P End = Unit {0}
 IfShot P (Refused kind) = Unit {0}
 
--- the fact of the kind, where a step is refused
-abbrev pub IfRefused : {K : Type 0} → (K → Type 0) → Stop K → Type 0
-IfRefused P stop.NoMemory = Unit {0}
-IfRefused P (stop.Refused kind) = P kind
-
--- Wherever some bytes are cut in two, what is settled by the first part stands before all that they hold.
+-- Some bytes may be cut in two anywhere: what the first part settles comes first in all that they hold.
 abbrev pub GoesOnAnywhere : {K C : Type 0} → (records prefix : C → List ℕ → Records K) → Type 0
 GoesOnAnywhere {K} {C} records prefix =
     (c : C) (bytes more : List ℕ) → GoesOn (prefix c bytes) (records c (bytes ++ more))
@@ -69,9 +62,9 @@ GoesOnAnywhere {K} {C} records prefix =
 -- These bytes begin by the shot and go on by those left, whatever follows.
 abbrev pub IsLeft : {K : Type 0} → (records prefix : List ℕ → Records K) → (bytes shot left : List ℕ) → Type 0
 IsLeft records prefix bytes shot left =
-    (prefix bytes ≡ in_front shot (prefix left))
-    × ((more : List ℕ) → records (bytes ++ more) ≡ in_front shot (records (left ++ more)))
-    × ((more : List ℕ) → prefix (bytes ++ more) ≡ in_front shot (prefix (left ++ more)))
+    (prefix bytes ≡ with_first_shot shot (prefix left))
+    × ((more : List ℕ) → records (bytes ++ more) ≡ with_first_shot shot (records (left ++ more)))
+    × ((more : List ℕ) → prefix (bytes ++ more) ≡ with_first_shot shot (prefix (left ++ more)))
 
 -- Without the bytes of its first record an input gives the same without its first shot.
 abbrev pub FirstRecordLeaves : {K C : Type 0} → (records prefix : C → List ℕ → Records K) → (C → List ℕ → List ℕ)
@@ -79,10 +72,3 @@ abbrev pub FirstRecordLeaves : {K C : Type 0} → (records prefix : C → List �
 FirstRecordLeaves {K} {C} records prefix after =
     (c : C) (bytes shot : List ℕ) (shots : List (List ℕ)) → (prefix c bytes).shots ≡ shot ∷ shots
     → IsLeft (records c) (prefix c) bytes shot (after c bytes)
-
--- These bytes are skipped, whatever follows.
-pub record Skips {K : Type 0} (records prefix : List ℕ → Records K) (after : List ℕ → List ℕ) (skipped : List ℕ)
-    : Type 0 where
-  pub whole : (more : List ℕ) → records (skipped ++ more) ≡ records more
-  pub so_far : (more : List ℕ) → prefix (skipped ++ more) ≡ prefix more
-  pub left : (more : List ℕ) → after (skipped ++ more) ≡ after more

@@ -4,14 +4,14 @@ use Rattle.fb_records.specs.Records.{Ending, Judged, GoesOn}
 use Rattle.fb_records.specs.Lines.{holds, records_by_lines, prefix_by_lines, Stays}
 use Rattle.fb_records.specs.Answers.{IsLeft}
 
--- Wherever some bytes are cut in two, what is settled by the first part stands before all that they hold.
+-- Some bytes may be cut in two anywhere: what the first part settles comes first in all that they hold.
 abbrev pub LinesGoOn : Type 0 → Type 0
 LinesGoOn K =
     (judge : List ℕ → Judged K) (begun : List ℕ → Ending K) → Stays judge begun → (bytes more : List ℕ)
     → GoesOn (prefix_by_lines judge begun bytes) (records_by_lines judge (bytes ++ more))
     × GoesOn (prefix_by_lines judge begun bytes) (prefix_by_lines judge begun (bytes ++ more))
 
--- What stands after the first record: skipped lines before it change nothing, and its line ends it.
+-- What follows the first record: skipped lines before it change nothing, and its line ends it.
 pub record Leaves {K : Type 0} (judge : List ℕ → Judged K) (after : List ℕ → List ℕ) : Type 0 where
   pub skips : (line more : List ℕ) → holds 10 line ≡ false → judge line ≡ Ok None
       → after (line ++ 10 ∷ more) ≡ after more

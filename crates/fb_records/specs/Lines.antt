@@ -1,13 +1,13 @@
 -- The lines of an input, and what an input holds whose records are lines.
-use Rattle.std.specs.Prelude.{◌≡◌, ℕ, zero, suc, ◌-◌, ◌==◌, Bool, List, [], ◌∷◌, ◌++◌, take, drop, if◌then◌else◌, Err}
+use Rattle.std.specs.Prelude.{◌≡◌, ℕ, zero, suc, ◌==◌, Bool, List, [], ◌∷◌, ◌++◌, if◌then◌else◌, Err}
 use Rattle.std.specs.List.{list_any, prefix_len}
 use Rattle.fb_records.specs.Records.{Ending, at_end, still_open, refused, Records, Judged, go_down}
 
--- whether the byte stands in the bytes
+-- whether the byte is one of the bytes
 abbrev pub holds : ℕ → List ℕ → Bool
 holds b bytes = list_any (λ c. c == b) bytes
 
--- the byte put in front of the first part
+-- the parts, the byte being put before the first of them
 abbrev pub onto_first_part : ℕ → List (List ℕ) → List (List ℕ)
 onto_first_part b [] = []
 onto_first_part b (part ∷ parts) = (b ∷ part) ∷ parts
@@ -18,19 +18,15 @@ whole_parts separator [] = []
 whole_parts separator (b ∷ bytes) =
     if b == separator then [] ∷ whole_parts separator bytes else onto_first_part b (whole_parts separator bytes)
 
--- what stands after the last separator
+-- what follows the last separator
 abbrev pub last_part : ℕ → List ℕ → List ℕ
 last_part separator [] = []
 last_part separator (b ∷ bytes) = if holds separator (b ∷ bytes) then last_part separator bytes else b ∷ bytes
 
--- a part that counts where it isn't empty
+-- a part that counts if it isn't empty
 abbrev pub if_not_empty : List ℕ → List (List ℕ)
 if_not_empty [] = []
 if_not_empty (b ∷ bytes) = (b ∷ bytes) ∷ []
-
--- the part of some bytes from one place up to another
-abbrev pub part_of : List ℕ → ℕ → ℕ → List ℕ
-part_of bytes from to = take (to - from) (drop from bytes)
 
 -- without one carriage return at the end
 abbrev pub without_return : List ℕ → List ℕ
@@ -46,24 +42,25 @@ bare say line = say (without_return line)
 abbrev pub lines_of : List ℕ → List (List ℕ)
 lines_of bytes = whole_parts 10 bytes ++ if_not_empty (last_part 10 bytes)
 
--- what stands after the first newline, or nothing where there is none
+-- what follows the first newline, or nothing if there is none
 abbrev pub after_line : List ℕ → List ℕ
 after_line [] = []
 after_line (b ∷ bytes) = if b == 10 then bytes else after_line bytes
 
+-- what follows the first `count` lines
 abbrev pub after_lines : ℕ → List ℕ → List ℕ
 after_lines zero bytes = bytes
 after_lines (suc count) bytes = after_lines count (after_line bytes)
 
--- what stands after the first line that isn't blank
+-- what follows the first line that isn't blank
 abbrev pub after_first : (List ℕ → Bool) → List ℕ → List ℕ
 after_first is_blank bytes = after_lines (suc (prefix_len is_blank (lines_of bytes))) bytes
 
--- What a whole input holds whose lines are judged so.
+-- What a whole input holds whose lines are judged by `judge`.
 abbrev pub records_by_lines : {K : Type 0} → (List ℕ → Judged K) → List ℕ → Records K
 records_by_lines judge bytes = go_down judge (lines_of bytes) at_end
 
--- What is settled by a prefix of an input, where the line that may go on is judged by begun.
+-- What is settled by a prefix of an input: its whole lines are judged by `judge`, and the line that may go on by `begun`.
 abbrev pub prefix_by_lines : {K : Type 0} → (List ℕ → Judged K) → (List ℕ → Ending K) → List ℕ → Records K
 prefix_by_lines judge begun bytes = go_down judge (whole_parts 10 bytes) (begun (last_part 10 bytes))
 

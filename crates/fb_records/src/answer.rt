@@ -1,4 +1,4 @@
-//! What a reader returns, and why a step of it gives nothing.
+//! What a reader returns, what a step of it finds, and why it gives nothing.
 
 use crate::numbers::Numbers;
 use std::alloc::AllocFailed;
@@ -17,6 +17,17 @@ pub enum Next<K> {
     End,
     /// The next record is refused, and so is each further call.
     Refused(K),
+}
+
+/// What a step of a reader finds at the start of some bytes.
+#[derive(Drop)]
+pub enum Found {
+    /// A shot, and how many bytes it uses.
+    Shot(Numbers, usize),
+    /// No whole record, and more bytes may come.
+    NotYet,
+    /// No record, and no more bytes come.
+    End,
 }
 
 /// Why a step of a reader gives nothing. `K` says why a record is refused.

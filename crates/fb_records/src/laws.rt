@@ -2,9 +2,9 @@
 
 ghost use Rattle.fb_records.specs.Laws.{LinesGoOn, FirstLineLeaves};
 
-/// However an input is cut whose records are lines, the results are the same: what is settled by a prefix are the
-/// first shots of the whole, and what that prefix refuses is refused. Without its first record's bytes it gives the same
-/// without its first shot. `K` says why a line is refused.
+/// An input whose records are lines may be cut anywhere: the shots that a prefix settles are the first shots of the
+/// whole, and what that prefix refuses is refused. Without its first record's bytes the input gives the same without its
+/// first shot. `K` says why a line is refused.
 pub fn goes_on_by_lines<K>()
     ensures whole { LinesGoOn K }
     ensures first { FirstLineLeaves K }

@@ -6,7 +6,7 @@ use crate::answer::NoMemory;
 use std::alloc::Global;
 use std::marker::Model;
 
-/// Bytes that are put in at the end and taken off the front. Contracts see those not yet taken off.
+/// Bytes that are put in at the end and taken off the start. Contracts see those not yet taken off.
 #[derive(Drop)]
 pub struct Pending {
     bytes: Vec<u8>,
@@ -48,14 +48,14 @@ impl Pending {
         ensures err { OnErr result (self.new ≡ self.old) }
     {
         if self.used >= self.bytes.len() - self.used {
-            cut_front(&mut self.bytes, self.used);
+            remove_prefix(&mut self.bytes, self.used);
             self.used = 0;
         }
         self.bytes.extend_from_slice(piece)?;
         Ok(())
     }
 
-    /// Takes bytes off the front.
+    /// Takes `count` bytes off the start.
     pub fn take_off(&mut self, count: usize)
         requires { count ≤ length self.old }
         ensures { self.new ≡ drop count self.old }
@@ -64,7 +64,8 @@ impl Pending {
     }
 }
 
-fn cut_front(bytes: &mut Vec<u8>, count: usize)
+/// Removes the first `count` bytes.
+fn remove_prefix(bytes: &mut Vec<u8>, count: usize)
     requires { count ≤ length bytes.old.items }
     ensures { bytes.new.items ≡ drop count bytes.old.items }
 {

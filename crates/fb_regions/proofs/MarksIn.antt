@@ -9,7 +9,7 @@ use Rattle.fb_graph.specs.Parity.{is_in}
 use Rattle.fb_graph.proofs.Sets.{is_in-All}
 use Rattle.fb_regions.specs.declared.marks.Mark.{Mark}
 use Rattle.fb_regions.specs.InternalNodes.{mark_of, marks_in}
-use Rattle.fb_regions.specs.Sparse.{Sparse, with_value, value_by, value_of}
+use Rattle.fb_regions.specs.InternalTables.{Sparse, with_value, value_by, value_of}
 use Rattle.fb_regions.proofs.SparseValues.{bound_entered, value_entered, value_none}
 
 pub length-marks : (table : Sparse Mark) → length (marks_in table) ≡ table.bound

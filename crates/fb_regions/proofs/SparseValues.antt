@@ -6,7 +6,7 @@ use Rattle.std.specs.List.{swap_remove}
 use Rattle.fb_graph.specs.Parity.{is_in}
 use Rattle.fb_graph.specs.Certificate.{AreDistinct}
 use Rattle.fb_graph.proofs.Sets.{equal_sym, is_in-cases, is_in_at}
-use Rattle.fb_regions.specs.Sparse.{Sparse, with_value, replaced_values, value_by, value_of}
+use Rattle.fb_regions.specs.InternalTables.{Sparse, with_value, replaced_values, value_by, value_of}
 use Rattle.fb_regions.proofs.Stored.{length-swapped, swapped_here, swapped_other}
 
 -- a member's place

@@ -1,4 +1,4 @@
--- What a dual state keeps beside its nodes: by which step each covered vertex came, and which node stands round which.
+-- What a dual state keeps beside its nodes: by which step each covered vertex came, and which node is round which.
 use Rattle.std.specs.Prelude.{ℕ, ◌≡◌, ◌+◌, ◌<◌, ◌==◌, ◌&&◌, Bool, true, List, [], ◌∷◌, length, All, Option, Some, None, IsSome}
 use Rattle.std.specs.List.{list_any}
 use Rattle.fb_graph.specs.Parity.{is_in}
@@ -57,7 +57,7 @@ pub record IsMarked (p : Problem) (nodes : List Node) (regions : List Region) (m
   pub balance : m.distance + height_of (all_cuts nodes) v ≡ radii_from regions m.leaf
   pub came : CameBy p (leaves nodes) marks v m m.by
 
--- the node that joins this one stands later; where there is none, it is outer
+-- the node that joins this one comes later; if there is none, it is outer
 abbrev pub HasParent : List Node → List Region → ℕ → Option ℕ → Type 0
 HasParent nodes later name None = is_outer nodes name ≡ true
 HasParent nodes later name (Some q) = is_in (children_from later q) name ≡ true

@@ -1,4 +1,4 @@
--- The vertices of a node as one list, which the marks keep: each vertex but the first tells the one before it.
+-- The vertices of a node as one list, which the marks keep: the mark of each vertex but the first has the one before it.
 use Rattle.std.specs.Prelude.{ℕ, ◌≡◌, ◌+◌, ◌==◌, List, [], ◌∷◌, ◌++◌, All, set, Option, Some, None, if◌then◌else◌}
 use Rattle.fb_graph.specs.Dual.{Node, top_at}
 use Rattle.fb_regions.specs.declared.listing.Listing.{Listing}
@@ -7,7 +7,7 @@ use Rattle.fb_regions.specs.declared.region.Region.{Region}
 use Rattle.fb_regions.specs.Moves.{BeginsWith}
 use Rattle.fb_regions.specs.InternalNodes.{added_to, chain, first_of, mark_of}
 
--- a node's first vertex is known, and back from its last one stand those that it absorbed and those of its first layer
+-- a node's first vertex is known, and back from its last one come those that it absorbed and those of its first layer
 pub record IsListed (marks : List (Option Mark)) (r : Region) : Type 0 where
   pub first : BeginsWith r.first (first_of marks r)
   pub whole : chain marks (r.base + r.added) r.last ≡ first_of marks r ++ added_to marks r
@@ -33,7 +33,7 @@ abbrev pub marked_behind : ℕ → Option Mark → Option Mark
 marked_behind u None = None
 marked_behind u (Some m) = Some (record m { before = u })
 
--- the marks where another vertex stands before the one, if it has a mark
+-- the marks with another vertex before the one, if it has a mark
 abbrev pub put_behind : List (Option Mark) → ℕ → ℕ → List (Option Mark)
 put_behind marks v u = elim (mark_of marks v) as (λ o. List (Option Mark)) [ None ↦ marks | Some m ↦ set marks v (Some (record m { before = u })) ]
 

@@ -19,12 +19,12 @@ renamed_regions f regions = map (renamed_region f) regions
 abbrev pub renamed_mark : (ℕ → ℕ) → Mark → Mark
 renamed_mark f m = record m { leaf = f m.leaf }
 
--- the renamed mark in place of another, where there is one
+-- the renamed mark in place of another, if there is one
 abbrev pub mark_over : (ℕ → ℕ) → Option Mark → Option Mark → Option Mark
 mark_over f None old = old
 mark_over f (Some m) old = Some (renamed_mark f m)
 
--- each vertex has its mark of the right table, renamed, where it has one there, and else its mark of the left table
+-- each vertex has its mark of the right table, renamed, if it has one there, and else its mark of the left table
 pub record AreMarksOver (f : ℕ → ℕ) (left right both : List (Option Mark)) : Type 0 where
   pub count : length both ≡ length left
   pub marks : (v : ℕ) → mark_of both v ≡ mark_over f (mark_of right v) (mark_of left v)

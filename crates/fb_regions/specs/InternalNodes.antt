@@ -6,7 +6,7 @@ use Rattle.fb_graph.specs.Dual.{Node}
 use Rattle.fb_graph.specs.Parity.{is_in}
 use Rattle.fb_regions.specs.declared.marks.Mark.{Mark}
 use Rattle.fb_regions.specs.declared.region.Region.{Region}
-use Rattle.fb_regions.specs.Sparse.{Sparse, value_of}
+use Rattle.fb_regions.specs.InternalTables.{Sparse, value_of}
 
 -- the mark of each vertex, from a table that has only those that there are
 abbrev pub marks_in : Sparse Mark → List (Option Mark)
@@ -31,7 +31,7 @@ before_of marks v = before_in (mark_of marks v)
 abbrev pub under_of : List (Option Mark) → ℕ → ℕ
 under_of marks v = under_in (mark_of marks v)
 
--- so many vertices back from one, the last one last
+-- a number of vertices back from one, the last one last
 abbrev pub chain : List (Option Mark) → ℕ → ℕ → List ℕ
 chain marks zero v = []
 chain marks (suc k) v = chain marks k (before_of marks v) ++ v ∷ []
@@ -60,7 +60,7 @@ node_of marks r = record {
 abbrev pub nodes_of : List (Option Mark) → List Region → List Node
 nodes_of marks regions = map (node_of marks) regions
 
--- the name of the outer node round the named one, where each node stands before the one that joins it
+-- the name of the outer node round the named one, each node coming before the one that joins it
 abbrev pub root_from : List Region → ℕ → Option ℕ
 root_from [] name = None
 root_from (r ∷ rs) name =

@@ -21,7 +21,7 @@ abbrev pub IsJoinedIn : List Region → Option ℕ → Type 0
 IsJoinedIn regions None = Unit {0}
 IsJoinedIn regions (Some name) = is_in (map (λ r. r.name) regions) name ≡ true
 
--- each node stands before the one that joins it, and no other node has its name
+-- each node comes before the one that joins it, and no other node has its name
 abbrev pub AreJoinedAbove : List Region → Type 0
 AreJoinedAbove [] = Unit {0}
 AreJoinedAbove (r ∷ rs) = IsJoinedIn rs r.parent × (is_in (map (λ s. s.name) rs) r.name ≡ false) × AreJoinedAbove rs

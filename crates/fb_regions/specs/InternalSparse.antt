@@ -1,5 +1,5 @@
--- How a table over few of many numbers is stored: its keys, the value of each, and for each number below the bound the
--- place at which it stands if it is a key.
+-- How a table over few of many numbers is stored: its keys, the value of each, and for each number below the bound its
+-- place among the keys if it is one.
 use Rattle.std.specs.Prelude.{ℕ, ◌≡◌, ◌<◌, ◌≤◌, ◌^◌, List, length, get_or, All}
 
 pub record IsStored (places keys : List ℕ) (count keys_room values_room : ℕ) : Type 0 where

@@ -1,5 +1,5 @@
-pub mod Codes
 pub mod Holders
+pub mod InternalCodes
 pub mod InternalKept
 pub mod InternalListings
 pub mod InternalMerged
@@ -7,8 +7,8 @@ pub mod InternalNodes
 pub mod InternalPages
 pub mod InternalPlaces
 pub mod InternalSparse
+pub mod InternalTables
 pub mod Listed
 pub mod Merged
 pub mod Moves
-pub mod Sparse
 pub mod Walks

@@ -9,7 +9,7 @@ use Rattle.fb_graph.specs.Dual.{Node, all_cuts, leaves, cover_of, height_of, no_
 use Rattle.fb_regions.specs.Walks.{IsWalk}
 use Rattle.fb_links.specs.Walks.{walk_weight}
 
--- the node of this name; one without layers below the top where no node has it
+-- the node of this name; one without layers below the top if no node has it
 abbrev pub node_named : List Node → ℕ → Node
 node_named [] name = no_node
 node_named (n ∷ ns) name = if n.name == name then n else node_named ns name
@@ -19,7 +19,7 @@ abbrev pub BeginsWith : ℕ → List ℕ → Type 0
 BeginsWith v [] = ⊥
 BeginsWith v (u ∷ us) = u ≡ v
 
--- the end of the edge that a node holds: the first one where both are held
+-- the end of the edge that a node holds: the first one if both are held
 abbrev pub inner_end : List Node → Edge → ℕ
 inner_end nodes e = if is_some (cover_of nodes e.first) then e.first else e.second
 

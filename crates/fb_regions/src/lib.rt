@@ -10,10 +10,9 @@ mod places;
 mod region;
 pub mod regions;
 pub mod roles;
-pub mod sparse;
+mod sparse;
 
 pub use fb_graph::Cut as Layer;
 pub use fb_links::{NodeId, Step, Walk};
 pub use regions::{Holder, Regions, SpareRegions};
 pub use roles::{Role, Roles};
-pub use sparse::SparseTable;

@@ -7,7 +7,7 @@ use crate::marks::{Mark, Marks};
 use crate::places::place_of;
 use crate::region::Region;
 
-/// A list of vertices that is kept by their marks, each of which tells the vertex before.
+/// A list of vertices that is kept by their marks, each of which has the vertex before it.
 #[derive(Clone, Copy, Debug, PartialEq, Eq)]
 pub struct Listing {
     pub first: u32,
@@ -27,7 +27,7 @@ pub fn listing_of(region: &Region) -> Listing
     }
 }
 
-/// Tells a marked vertex which one is listed before it.
+/// Sets the vertex that is listed before a marked one.
 fn put_before(marks: &mut Marks, v: u32, before: u32)
     ensures { marks.new ≡ put_behind marks.old v before }
 {

@@ -1,4 +1,4 @@
-ghost use Rattle.std.specs.Prelude.{◌≡◌, ◌<◌, ℕ, get_or, length, is_some, option_and_then, option_map, replicate, set, All, IfOk, None, Some};
+ghost use Rattle.std.specs.Prelude.{◌≡◌, ◌<◌, ℕ, length, is_some, option_and_then, option_map, replicate, set, All, IfOk, None, Some};
 ghost use Rattle.fb_graph.specs.Certificate.{AreDistinct};
 ghost use Rattle.fb_graph.specs.Parity.{is_in};
 ghost use Rattle.fb_regions.specs.InternalNodes.{before_of, mark_of, under_of};
@@ -68,7 +68,7 @@ impl Marks {
         self.table.bound()
     }
 
-    /// The mark of a vertex; none where no node holds it.
+    /// The mark of a vertex; none if no node holds it.
     pub fn at(&self, v: u32) -> Option<&Mark>
         ensures { option_map (λ m. m.now) result ≡ mark_of self.now v }
     {

@@ -1,11 +1,12 @@
 ghost use Rattle.std.specs.Prelude.{◌≡◌, ◌+◌, ◌*◌, ◌<◌, ◌≤◌, ℕ, get_or, length, replicate, set, vec_capacity, IfOk, MatchOption};
 ghost use Rattle.fb_regions.specs.InternalPages.{no_place, number_at, ArePaged};
+ghost use Rattle.fb_regions.specs.declared.paged_numbers.TheConstants.{PAGE};
 
 use fb_graph::NoMemory;
 use std::alloc::Global;
 use std::marker::Model;
 
-/// How many numbers a page has.
+/// The number of numbers of a page.
 const PAGE: usize = 512;
 
 /// The place of a page that isn't filled.
@@ -25,16 +26,17 @@ pub struct PagedNumbers {
 impl Model for PagedNumbers {
     ghost use Rattle.std.specs.Prelude.{List, ℕ, length, vec_capacity, ◌*◌, ◌≤◌};
     ghost use Rattle.fb_regions.specs.InternalPages.{numbers_of, ArePaged};
+    ghost use Rattle.fb_regions.specs.declared.paged_numbers.TheConstants.{PAGE};
 
     ghost Value = { List ℕ };
 
     ghost view = { λ p. numbers_of p.count p.places.items p.numbers.items };
 
-    ghost invariant = { λ p. (p.count ≤ 512 * length p.places.items) × ArePaged p.places.items p.numbers.items (vec_capacity p.numbers) };
+    ghost invariant = { λ p. (p.count ≤ PAGE * length p.places.items) × ArePaged p.places.items p.numbers.items (vec_capacity p.numbers) };
 }
 
 impl PagedNumbers {
-    /// So many numbers, all 0. Takes time for each page.
+    /// `count` numbers, all 0. Takes time for each page.
     pub fn new(alloc: Global, count: u32) -> Result<PagedNumbers, NoMemory>
         ensures { IfOk result (λ numbers. numbers ≡ replicate count 0) }
     {
@@ -48,7 +50,7 @@ impl PagedNumbers {
         })
     }
 
-    /// How many numbers there are.
+    /// The number of numbers.
     pub fn len(&self) -> u32
         ensures { result ≡ length self.now }
     {
@@ -88,7 +90,7 @@ fn filled(places: &mut Vec<u32>, numbers: &mut Vec<u32>, page: usize) -> usize
     ensures paged { ArePaged places.new.items numbers.new.items (vec_capacity numbers.new) }
     ensures pages { length places.new.items ≡ length places.old.items }
     ensures place { result ≡ get_or places.new.items page no_place }
-    ensures within { 512 * result + 512 ≤ length numbers.new.items }
+    ensures within { PAGE * result + PAGE ≤ length numbers.new.items }
     ensures same { (i : ℕ) → number_at places.new.items numbers.new.items i ≡ number_at places.old.items numbers.old.items i }
 {
     let place = places[page];

@@ -1,8 +1,6 @@
-ghost use Rattle.std.specs.Prelude.{◌≡◌, ◌+◌, ◌<◌, ◌^◌, [], ◌∷◌, ◌++◌, length, map, filter, List, IfOk, OnOk, Option, option_map, position, ◌==◌};
-ghost use Rattle.std.specs.List.{concat};
+ghost use Rattle.std.specs.Prelude.{◌≡◌, ◌+◌, ◌<◌, ◌^◌, [], ◌∷◌, ◌++◌, map, filter, IfOk, OnOk, Option, option_map, ◌==◌};
 ghost use Rattle.fb_graph.specs.Dual.{layers_of};
 ghost use Rattle.fb_graph.specs.Printed.{is_positive};
-ghost use Rattle.fb_regions.specs.declared.marks.Mark.{Mark};
 ghost use Rattle.fb_graph.specs.Certificate.{AreDistinct, total_value};
 ghost use Rattle.fb_regions.specs.InternalNodes.{reparented_region, chain, node_of, radii_from, root_from};
 ghost use Rattle.fb_regions.specs.InternalPlaces.{AreJoinedAbove, IsIndex};
@@ -13,7 +11,7 @@ use crate::places::place_of;
 use fb_graph::{Cut, NoMemory, NumberList};
 use std::alloc::Global;
 
-/// What is kept of a node. Its vertices are kept by their marks, in which each tells the one listed before it, and so are
+/// What is kept of a node. Its vertices are kept by their marks, each of which has the one listed before it, and so are
 /// the values of its lower layers.
 #[derive(Drop)]
 pub struct Region {
@@ -37,7 +35,7 @@ pub struct Region {
     pub radius: u64,
 }
 
-/// The name of the outer node round a node; none where no node has the name. Climbs from each node to the one that
+/// The name of the outer node round a node; none if no node has the name. Climbs from each node to the one that
 /// joins it.
 pub fn root_of(places: &[Option<usize>], regions: &[Region], leaf: NodeId) -> Option<NodeId>
     requires index { IsIndex regions.now places.now }
@@ -55,7 +53,7 @@ pub fn root_of(places: &[Option<usize>], regions: &[Region], leaf: NodeId) -> Op
     None
 }
 
-/// Where the climb from a node to the outer one round it ends.
+/// The end of a climb from a node to the outer one round it.
 #[derive(Clone, Copy, Debug, PartialEq, Eq)]
 pub struct Climb {
     /// The name of the outer node.

@@ -1,9 +1,9 @@
-ghost use Rattle.std.specs.Prelude.{◌≡◌, ◌+◌, ◌-◌, ◌<◌, ◌≤◌, ◌==◌, not, true, false, List, [], ◌∷◌, ◌++◌, length, map, filter, get_or, reverse, All, IfOk, OnOk, OnErr, IsSome, None, Some};
-ghost use Rattle.std.specs.List.{concat, last_or};
+ghost use Rattle.std.specs.Prelude.{◌≡◌, ◌+◌, ◌-◌, ◌<◌, ◌≤◌, ◌==◌, not, true, false, [], ◌∷◌, ◌++◌, length, filter, reverse, IfOk, OnOk, OnErr, IsSome, None, Some};
+ghost use Rattle.std.specs.List.{last_or};
 ghost use Rattle.fb_graph.specs.Parity.{is_in};
 ghost use Rattle.fb_graph.specs.Problem.{edge_at};
 ghost use Rattle.fb_graph.specs.Certificate.{load_of};
-ghost use Rattle.fb_graph.specs.Dual.{AreUnderOne, all_cuts, change_at, cover_of, height_of, is_empty, is_live, is_outer, leaf, leaves, no_node, node_at, thicker_node, AllowsGrowth, IsCrossed, layers_at, top_at};
+ghost use Rattle.fb_graph.specs.Dual.{AreUnderOne, all_cuts, change_at, cover_of, height_of, is_empty, is_live, is_outer, leaf, leaves, node_at, thicker_node, AllowsGrowth, IsCrossed, layers_at, top_at};
 ghost use Rattle.fb_graph.specs.NestUnions.{AreParts};
 ghost use Rattle.fb_graph.specs.Printed.{is_positive};
 ghost use Rattle.fb_graph.specs.RenamedNodes.{renamed_nodes};
@@ -95,7 +95,7 @@ impl SpareRegions {
 
 impl<S: Scope> Model for Regions<S> {
     ghost use Rattle.fb_graph.specs.Dual.{Dual};
-    ghost use Rattle.fb_regions.specs.Codes.{dual_code};
+    ghost use Rattle.fb_regions.specs.InternalCodes.{dual_code};
 
     ghost Value = { Dual S };
 
@@ -159,7 +159,7 @@ impl<S: Scope> Regions<S> {
     }
 
     /// The nodes of two separated parts as those of a whole. The left one's names stay, and the right one's nodes get the
-    /// new names that stand beside their old ones in the list. Its time is that of the right one's nodes and vertices.
+    /// new names that the list has beside their old ones. Its time is that of the right one's nodes and vertices.
     pub fn merged(
         alloc: Global,
         left: Regions<S>,
@@ -455,7 +455,7 @@ impl<S: Scope> Regions<S> {
         }
     }
 
-    /// What the edge can still bear where no outer node holds both of its ends: its weight less its load.
+    /// The slack of the edge if no outer node holds both of its ends: its weight less its load.
     pub fn residue(&self, edge: u32) -> u64
         requires { edge < length (S.problem self.now.scope).edges }
         ensures heights { let e = edge_at (S.problem self.now.scope).edges edge in
@@ -479,7 +479,7 @@ impl<S: Scope> Regions<S> {
     }
 
     /// The outer node that holds the vertex, with the vertex's potential; none for an uncovered vertex. Costs one climb,
-    /// where `cover_of` and `potential` cost one each.
+    /// while `cover_of` and `potential` cost one each.
     pub fn holder(&self, v: u32) -> Option<Holder>
         ensures { IsHolder self.now.nodes v result }
     {

@@ -1,8 +1,8 @@
-ghost use Rattle.std.specs.Prelude.{ℕ, ◌≡◌, ◌+◌, ◌<◌, ◌==◌, ◌&&◌, not, false, true, set, [], length, get_or, All, IfOk, MatchOption, option_map, if◌then◌else◌, None};
+ghost use Rattle.std.specs.Prelude.{ℕ, ◌≡◌, ◌+◌, ◌<◌, ◌==◌, ◌&&◌, not, false, true, [], length, get_or, All, IfOk, MatchOption, option_map, if◌then◌else◌, None};
 ghost use Rattle.fb_graph.specs.Certificate.{AreDistinct};
 ghost use Rattle.fb_graph.specs.Counts.{as_count};
 ghost use Rattle.fb_graph.specs.Parity.{is_in};
-ghost use Rattle.fb_regions.specs.Sparse.{with_value, value_of};
+ghost use Rattle.fb_regions.specs.InternalTables.{with_value, value_of};
 
 use crate::paged_numbers::PagedNumbers;
 use fb_graph::NoMemory;
@@ -24,7 +24,7 @@ pub struct SparseTable<T> {
 
 impl<T> Model for SparseTable<T> {
     ghost use Rattle.std.specs.Prelude.{length, vec_capacity};
-    ghost use Rattle.fb_regions.specs.Sparse.{Sparse, sparse_code};
+    ghost use Rattle.fb_regions.specs.InternalTables.{Sparse, sparse_code};
     ghost use Rattle.fb_regions.specs.InternalSparse.{IsStored};
 
     ghost Value = { Sparse T };
@@ -69,7 +69,7 @@ impl<T: Copy> SparseTable<T> {
         self.places.len()
     }
 
-    /// The place of a key among the keys; none where the number is no key.
+    /// The place of a key among the keys; none if the number is no key.
     pub fn place_of(&self, key: u32) -> Option<usize>
         ensures { MatchOption result (is_in self.now.keys key ≡ false)
             (λ i. (i < length self.now.keys) × (get_or self.now.keys i 0 ≡ key) × (is_in self.now.keys key ≡ true)) }
@@ -82,15 +82,8 @@ impl<T: Copy> SparseTable<T> {
         }
     }
 
-    /// The value of a key; none where the number is no key.
-    pub fn get(&self, key: u32) -> Option<T>
-        ensures { result ≡ value_of self.now key }
-    {
-        self.get_ref(key).copied()
-    }
-
-    /// The value of a key, without a copy of it; none where the number is no key.
-    pub(crate) fn get_ref(&self, key: u32) -> Option<&T>
+    /// The value of a key; none if the number is no key.
+    pub fn get_ref(&self, key: u32) -> Option<&T>
         ensures { option_map (λ x. x.now) result ≡ value_of self.now key }
     {
         let place = self.place_of(key)?;
@@ -129,14 +122,6 @@ impl<T: Copy> SparseTable<T> {
         }
     }
 
-    /// Gives the key at a place another value.
-    pub fn set_value(&mut self, place: usize, value: T)
-        requires { place < length self.old.keys }
-        ensures { self.new ≡ record { bound = self.old.bound; keys = self.old.keys; values = set self.old.values place value } }
-    {
-        self.values[place] = value;
-    }
-
     /// Takes all keys away, at the cost of none.
     pub fn clear(&mut self)
         ensures { self.new ≡ record { bound = self.old.bound; keys = []; values = [] } }
@@ -150,12 +135,5 @@ impl<T: Copy> SparseTable<T> {
         ensures { result.now ≡ self.now.keys }
     {
         self.keys.as_slice()
-    }
-
-    /// The values, in the order of their keys.
-    pub fn values(&self) -> &[T]
-        ensures { result.now ≡ self.now.values }
-    {
-        self.values.as_slice()
     }
 }

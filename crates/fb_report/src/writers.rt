@@ -27,7 +27,7 @@ fn event_word(gave: bool) -> &'static [u8]
     if gave { b"gave" } else { b"took" }
 }
 
-/// Puts the trace line `took W K N`, or where `gave` the line `gave W K N`: worker W took node N of the
+/// Puts the trace line `took W K N`, or if `gave` the line `gave W K N`: worker W took node N of the
 /// plan for shot K, or gave what it had made of it.
 #[tactic(auto, unfolding(crate::specs::Texts::trace_line))]
 pub fn write_trace<S: Sink>(

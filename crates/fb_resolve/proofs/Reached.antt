@@ -34,7 +34,7 @@ held_below store x d nested h = at (node_at store x) refl
           inr (r.0.node, ap (λ o. is_on (cycle_of o) r.0.node) e ∙ r.1, r.2)
     ]
 
--- lists that aren't empty are together at least as length_some as they are many
+-- lists that aren't empty are together at least as long as their number
 all_long : (f : ℕ → List ℕ) (ss : List CycleStep) → ((x : ℕ) → is_on ss x ≡ true → f x ≢ [])
     → length ss ≤ length (flat_map (λ s. f s.node) ss)
 all_long f [] some = omega arith

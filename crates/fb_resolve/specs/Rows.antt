@@ -20,7 +20,7 @@ abbrev pub walked_edges : PartValue → List ℕ
 walked_edges w = flat_map (λ id. map (λ s. s.edge) (walk_at w.links id)) (numbers_of w)
 
 -- The edges that lie on an odd number of these walks, and the part's cuts of positive value, are the right row of the
--- part's shot, if the part is the root's and nothing of it is unmatched.
+-- part's shot, if the part is the root's and has nothing unmatched.
 abbrev pub RootIsRight : Type 0
 RootIsRight = (w : PartValue) (edges : List ℕ) (cuts : List Cut) → IsPart w → IsNested w.store
     → w.node ≡ root_of w.job.plan → w.matching.unmatched ≡ [] → IsStrictlyIncreasing edges

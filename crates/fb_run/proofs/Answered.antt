@@ -1,4 +1,4 @@
--- How faulty words end a run.
+-- How an invalid command line ends a run.
 use Rattle.std.proofs.Common.{◌≡◌, ◌≢◌, ◌⊎◌, inl, inr, ℕ, List, Option, Result, Ok, Err, None, Some, refl, sym, subst}
 use Rattle.fb_graph.specs.Limits.{DecodingGraph}
 use Rattle.fb_plan.specs.Plans.{PlanTree, single_of}
@@ -6,8 +6,9 @@ use Rattle.fb_run.specs.Endings.{EndsByPlan, EndsOn}
 use Rattle.fb_inputs.specs.Moments.{Moment}
 use Rattle.fb_check.specs.Ends.{IsReadToItsEnd}
 use Rattle.fb_inputs.specs.Judging.{Named}
-use Rattle.fb_run.specs.RunEndings.{EndsRight, RequestEnds, HasReadOut, ReadsOut, cause_of_fault}
-use Rattle.fb_words.specs.Seen.{usage_of}
+use Rattle.fb_run.specs.RunEndings.{EndsRight, RequestEnds, HasReadOut, ReadsOut}
+use Rattle.fb_run.specs.InternalCauses.{cause_of_words}
+use Rattle.fb_words.specs.PlainRequests.{usage_of}
 use Rattle.fb_words.specs.Words.{Decoding, Request, check, decode, sample}
 use Rattle.fb_endings.specs.declared.ending.Cause.{Cause}
 use Rattle.fb_endings.specs.declared.ending.Cause.TheVariants.{NoMemory, Usage, WriteFault}
@@ -37,7 +38,7 @@ never_by_plan (Some name) decoding g before after kind (inl none) = none
 never_by_plan (Some name) decoding g before after kind (inr with_plan) =
     never_on decoding g with_plan.t with_plan.read after kind with_plan.ends
 
--- a request that was read never ends by faulty words
+-- a request that was read never ends as an invalid command line
 never_usage : (request : Request) (before after : Moment) (kind : UsageKind) → RequestEnds request before after (Usage kind) → ⊥
 never_usage (decode decoding) before after kind (inl none) = none
 never_usage (decode decoding) before after kind (inr with_graph) =
@@ -55,13 +56,13 @@ never_usage (sample sampling) before after kind ends = ends.2
 pub request_not_usage : (request : Request) (before after : Moment) (cause : Cause) (kind : UsageKind) → RequestEnds request before after cause → cause ≢ Usage kind
 request_not_usage request before after cause kind ends e = never_usage request before after kind (subst (RequestEnds request before after) e ends)
 
-pub fault_not_parse : (f : WordsFault) → usage_of f ≢ Some usage.Parse → cause_of_fault f ≢ Usage usage.Parse
+pub fault_not_parse : (f : WordsFault) → usage_of f ≢ Some usage.Parse → cause_of_words f ≢ Usage usage.Parse
 fault_not_parse (fault.Parse text) other e = other refl
 fault_not_parse fault.Format other e = absurd cc
 fault_not_parse fault.TwoInputs other e = absurd cc
 fault_not_parse fault.NoMemory other e = absurd cc
 
-not_to_end : (f : WordsFault) → IsReadToItsEnd (cause_of_fault f) → ⊥
+not_to_end : (f : WordsFault) → IsReadToItsEnd (cause_of_words f) → ⊥
 not_to_end (fault.Parse text) none = none
 not_to_end fault.Format none = none
 not_to_end fault.TwoInputs none = none
@@ -72,8 +73,8 @@ pub out_read : (read : Result Request UsageKind) (request : Request) (named : Na
     → ReadsOut request named left cause → HasReadOut read named left cause
 out_read read request named left cause e out = subst (λ (r : Result Request UsageKind). HasReadOut r named left cause) (sym e) out
 
--- faulty words don't end a run at the end of its input
-pub never_out : (read : Result Request UsageKind) (f : WordsFault) (named : Named) (left : Option (List ℕ)) → HasReadOut read named left (cause_of_fault f)
+-- an invalid command line doesn't end a run at the end of its input
+pub never_out : (read : Result Request UsageKind) (f : WordsFault) (named : Named) (left : Option (List ℕ)) → HasReadOut read named left (cause_of_words f)
 never_out (Ok (decode decoding)) f named left = λ reads. absurd (not_to_end f reads)
 never_out (Ok (check checking)) f named left = λ reads. absurd (not_to_end f reads)
 never_out (Ok (sample sampling)) f named left = tt

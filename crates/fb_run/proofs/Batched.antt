@@ -18,7 +18,7 @@ use Rattle.fb_plan.specs.Plans.{PlanTree}
 use Rattle.fb_run.specs.Decoding.{AnswersBatch, AreBatches, Batch, all_rows, batch_text, batches_text, events_text}
 use Rattle.fb_run.specs.InternalBatches.{AddsCounts}
 use Rattle.fb_run.specs.Rows.{Counts, counts_of, is_odd}
-use Rattle.fb_run.specs.Writes.{tally_with, counts_in}
+use Rattle.fb_run.specs.InternalWrites.{tally_with, counts_in}
 use Rattle.fb_run.specs.declared.batches.Tally.{Tally}
 use Rattle.fb_report.specs.Texts.{rows_text}
 use Rattle.fb_words.specs.Words.{Decoding}

@@ -7,7 +7,8 @@ use Rattle.std.specs.List.{All}
 use Rattle.fb_crew.specs.Windows.{IsShotRow}
 use Rattle.fb_graph.specs.Limits.{DecodingGraph, ShotValue}
 use Rattle.fb_inputs.proofs.Gathered.{ended_read_out, first_of_none, gathered_so, given_few, given_first, gives_both, gives_none}
-use Rattle.fb_inputs.specs.Judging.{FirstFrom, GathersFrom, most_shots}
+use Rattle.fb_inputs.specs.Judging.{most_shots}
+use Rattle.fb_inputs.specs.InternalGathers.{FirstFrom, GathersFrom}
 use Rattle.fb_inputs.specs.Taking.{EndsSo, GivesShots}
 use Rattle.fb_inputs.specs.declared.taking.ShotsEnd.{ShotsEnd}
 use Rattle.fb_inputs.specs.declared.taking.ShotsEnd.TheVariants as end
@@ -18,7 +19,7 @@ use Rattle.fb_run.proofs.Batched.{AddsBatch, adds_batch, counted_rows, counts_ad
 use Rattle.fb_run.specs.Decoding.{AnswersBatch, AreBatches, Batch, all_rows, batch_text, batches_text}
 use Rattle.fb_run.specs.InternalBatches.{AddsCounts, TakesBatch}
 use Rattle.fb_run.specs.Rows.{counts_of}
-use Rattle.fb_run.specs.Writes.{WritesBatches, WritesFirstBatches, counts_in}
+use Rattle.fb_run.specs.InternalWrites.{WritesBatches, WritesFirstBatches, counts_in}
 use Rattle.fb_run.specs.declared.batches.Tally.{Tally}
 use Rattle.fb_shots.specs.declared.answer.Format.{Format}
 use Rattle.fb_shots.specs.Steps.{IsReadOut}

@@ -11,12 +11,13 @@ use Rattle.fb_check.specs.Ends.{IsReadToItsEnd}
 use Rattle.fb_check.specs.TextEnds.{TextEnds, WritesPrefix, WritesWhole}
 use Rattle.fb_inputs.proofs.Gathered.{gathers_opened, holds_opened}
 use Rattle.fb_inputs.proofs.Lists.{holds_more}
-use Rattle.fb_inputs.specs.Judging.{FirstFrom, Gathers, GathersFrom, HasFirstShots, HasShots, IsOpened, Named}
+use Rattle.fb_inputs.specs.Judging.{HasFirstShots, HasShots, Named}
+use Rattle.fb_inputs.specs.InternalGathers.{FirstFrom, Gathers, GathersFrom, IsOpened}
 use Rattle.fb_run.proofs.Batched.{counted_rows}
 use Rattle.fb_run.specs.Decoding.{all_rows, batches_text, cause_of, last_line, report_prefix}
 use Rattle.fb_run.specs.Endings.{decode_account, decode_source}
 use Rattle.fb_run.specs.Rows.{Counts, counts_of}
-use Rattle.fb_run.specs.Writes.{EndsReport, WritesBatches, WritesFirstBatches, counts_in}
+use Rattle.fb_run.specs.InternalWrites.{EndsReport, WritesBatches, WritesFirstBatches, counts_in}
 use Rattle.fb_words.specs.Words.{Decoding}
 use Rattle.fb_endings.specs.declared.ending.Cause.{Cause}
 use Rattle.fb_endings.specs.declared.ending.Cause.TheVariants.{Done, Odd}

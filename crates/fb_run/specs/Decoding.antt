@@ -29,12 +29,12 @@ is_gave Left = false
 abbrev pub event_line : ℕ → Entry → List ℕ
 event_line first e = trace_line (is_gave e.kind) e.worker (first + e.slot) e.node
 
--- the events of a batch, where they are wanted
+-- the events of a batch, if they are wanted
 abbrev pub events_text : Bool → ℕ → List Entry → List ℕ
 events_text false first history = []
 events_text true first history = flat_map (event_line first) history
 
--- the rows of a batch, and then its events, where they are wanted
+-- the rows of a batch, and then its events, if they are wanted
 abbrev pub batch_text : Bool → ℕ → Batch → List ℕ
 batch_text trace first b = rows_text first b.rows ++ events_text trace first b.history
 
@@ -46,7 +46,7 @@ batches_text trace first (b ∷ bs) = batch_text trace first b ++ batches_text t
 abbrev pub all_rows : List Batch → List Row
 all_rows bs = flat_map (λ b. b.rows) bs
 
--- The rows of these shots. Where the history is wanted, it tells how the rows were made.
+-- The rows of these shots. If the history is wanted, it says how the rows were made.
 pub record AnswersBatch (request : Decoding) (g : DecodingGraph) (t : PlanTree) (shots : List ShotValue) (b : Batch) : Type 0 where
   pub rows : AreRows g shots b.rows
   pub history : request.trace ≡ true → IsHistoryOf t request.workers b.rows b.history
@@ -57,7 +57,7 @@ AreBatches request g t shots [] = shots ≡ []
 AreBatches request g t shots (b ∷ bs) = (shots ≢ []) × AnswersBatch request g t (take request.window shots) b
     × AreBatches request g t (drop request.window shots) bs
 
--- the last line after so many rows: each correction counts the plan's units and its fusions
+-- the last line after `rows` rows: each correction counts the plan's units and its fusions
 abbrev pub last_line : PlanTree → ℕ → Counts → List ℕ
 last_line t rows counts = done_text rows counts.odd (counts.best * t.units) (counts.best * length t.joins)
 

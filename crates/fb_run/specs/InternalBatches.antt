@@ -15,7 +15,7 @@ use Rattle.fb_words.specs.Words.{Decoding}
 abbrev pub batch_in : Window → Batch
 batch_in w = record { rows = w.rows.items; history = w.history.items }
 
--- The next shots were taken, as many as the window holds or fewer where they end, and these are their rows.
+-- The next shots were taken, as many as the window holds or fewer if they end, and these are their rows.
 pub record TakesBatch (request : Decoding) (t : PlanTree) (old new : Stream) (before after : Option (List ℕ)) (b : Batch) (ending : Option ShotsEnd) : Type 0 where
   pub shots : List ShotValue
   pub takes : TakesWindow request.window old new before after shots ending

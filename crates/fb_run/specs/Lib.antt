@@ -1,6 +1,7 @@
 pub mod Rows
 pub mod Decoding
-pub mod Writes
+pub mod InternalWrites
+pub mod InternalCauses
 pub mod Endings
 pub mod Samples
 pub mod SampleEndings

@@ -7,7 +7,6 @@ use Rattle.fb_endings.specs.declared.ending.Refusal.TheVariants as refusal
 use Rattle.fb_gen.specs.Lattice.{lattice_of}
 use Rattle.fb_gen.specs.TimePlan.{time_plan_of}
 use Rattle.fb_gen.specs.declared.faults.GenFault.{GenFault}
-use Rattle.fb_gen.specs.declared.faults.GenFault.TheVariants as gen
 use Rattle.fb_graph.specs.Limits.{DecodingGraph}
 use Rattle.fb_plan.specs.Plans.{PlanTree}
 use Rattle.fb_ports.specs.Causes.{Appends, AppendsPrefix}
@@ -37,12 +36,6 @@ IsSampleRefusal s (refusal.Graph fault) = ⊥
 IsSampleRefusal s (refusal.Plan fault) = ⊥
 IsSampleRefusal s (refusal.Report fault) = ⊥
 IsSampleRefusal s (refusal.Shot fault) = ⊥
-
--- how a sample ends whose lattice or plan can't be made
-abbrev pub cause_of_fault : GenFault → Cause
-cause_of_fault gen.LatticeTooLarge = Refused (refusal.Sample gen.LatticeTooLarge)
-cause_of_fault gen.TooFewRounds = Refused (refusal.Sample gen.TooFewRounds)
-cause_of_fault gen.NoMemory = NoMemory
 
 -- How a sample ends: its whole text is written, or a prefix of it and then a fault comes; or nothing is written.
 abbrev pub SampleEnds : Sampling → (old new : Option (List ℕ)) → Cause → Type 0

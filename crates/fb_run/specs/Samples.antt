@@ -29,7 +29,7 @@ weight_in (Odd v) = 0
 abbrev pub weights_in : List Row → ℕ
 weights_in rows = sum_by weight_in rows
 
--- `count` drawn shots have so many defects, and their corrections have this weight
+-- `count` drawn shots have these many defects, and their corrections this weight
 pub record HaveSums (g : DecodingGraph) (rate start count defects weight : ℕ) : Type 0 where
   pub rows : List Row
   pub decoded : AreRows g (drawn_shots g rate start count) rows

@@ -6,18 +6,20 @@ ghost use Rattle.fb_graph.specs.Limits.{IsShot};
 ghost use Rattle.fb_ports.specs.Causes.{Appends, AppendsPrefix, Rose};
 ghost use Rattle.fb_shots.specs.Steps.{IsReadOut};
 ghost use Rattle.fb_shots.specs.Streams.{fresh};
-ghost use Rattle.fb_inputs.specs.Judging.{FirstFrom, GathersFrom, most_shots};
+ghost use Rattle.fb_inputs.specs.Judging.{most_shots};
+ghost use Rattle.fb_inputs.specs.InternalGathers.{FirstFrom, GathersFrom};
 ghost use Rattle.fb_report.specs.Texts.{rows_text};
 ghost use Rattle.fb_crew.specs.Windows.{AreRows, IsHistoryOf};
+ghost use Rattle.fb_crew.specs.declared.window.TheConstants.{MOST_AT_ONCE};
 ghost use Rattle.fb_run.specs.Decoding.{batch_text, cause_of, events_text};
 ghost use Rattle.fb_run.specs.InternalBatches.{AddsCounts, TakesBatch, batch_in};
-ghost use Rattle.fb_run.specs.Writes.{WritesBatches, WritesFirstBatches, tally_with, counts_in};
-ghost use Rattle.fb_words.specs.Seen.{seen_decoding};
+ghost use Rattle.fb_run.specs.InternalWrites.{WritesBatches, WritesFirstBatches, tally_with, counts_in};
+ghost use Rattle.fb_words.specs.PlainRequests.{plain_decoding};
 
 use fb_crew::{Crew, Entry, Gate, Kind, Window};
 use fb_endings::Cause;
 use fb_graph::{CutList, Graph, NoMemory, NumberList, Row, Shot};
-use fb_inputs::{Outbox, RowsFault, ShotsEnd, take_window};
+use fb_inputs::{MOST_SHOTS, Outbox, RowsFault, ShotsEnd, take_window};
 use fb_ports::{Files, Sink};
 use fb_report::{write_row, write_trace};
 use fb_shots::ShotStream;
@@ -101,11 +103,11 @@ pub fn decode_file<F: Files, O: Sink, G: Gate, R: Threads + Wait + Sync>(
     requires graph { crew.graph ≡ graph.now }
     requires workers { crew.workers ≡ request.now.workers }
     requires some { 1 ≤ request.now.window }
-    requires few { request.now.window ≤ 64 }
+    requires few { request.now.window ≤ MOST_AT_ONCE }
     ensures all { IfOk result (λ d. WritesBatches (λ shots. GathersFrom (F.left files.old) request.now.format graph.now (F.left files.new) shots d.end)
-        (seen_decoding request.now) graph.now crew.entry.plan (O.taken out.old) (O.taken out.new) d.tally) }
+        (plain_decoding request.now) graph.now crew.entry.plan (O.taken out.old) (O.taken out.new) d.tally) }
     ensures first { OnErr result (WritesFirstBatches (FirstFrom (F.left files.old) request.now.format graph.now)
-        (seen_decoding request.now) graph.now crew.entry.plan (O.taken out.old) (O.taken out.new)) }
+        (plain_decoding request.now) graph.now crew.entry.plan (O.taken out.old) (O.taken out.new)) }
     ensures few { IfOk result (λ d. d.tally.best + d.tally.odd < 2 ^ 32) }
     ensures at_end { IfOk result (λ d. d.end ≡ ShotsEnd.End → IsReadOut (F.left files.old) (F.left files.new)) }
     ensures asks { F.asked files.new ≡ F.asked files.old }
@@ -116,7 +118,7 @@ pub fn decode_file<F: Files, O: Sink, G: Gate, R: Threads + Wait + Sync>(
     ensures write_never_falls { O.faults out.old ≤ O.faults out.new }
     ensures write_unchanged { result ≢ Err RowsFault.WriteFault → O.faults out.new ≡ O.faults out.old }
 {
-    let Ok(stream) = ShotStream::new(alloc, request.format, graph, u32::MAX) else {
+    let Ok(stream) = ShotStream::new(alloc, request.format, graph, MOST_SHOTS) else {
         return Err(RowsFault::NoMemory);
     };
     let (mut crew, mut stream) = (crew, stream);
@@ -150,12 +152,12 @@ fn decode_stream<F: Files, O: Sink, G: Gate, R: Threads + Wait + Sync>(
     requires graph { crew.old.graph ≡ stream.old.graph }
     requires workers { crew.old.workers ≡ request.now.workers }
     requires some { 1 ≤ request.now.window }
-    requires few { request.now.window ≤ 64 }
+    requires few { request.now.window ≤ MOST_AT_ONCE }
     requires empty { outbox.old.text ≡ [] }
     ensures all { IfOk result (λ d. WritesBatches (λ shots. GathersFrom (F.left files.old) stream.old.format stream.old.graph (F.left files.new) shots d.end)
-        (seen_decoding request.now) stream.old.graph crew.old.plan (O.taken out.old) (O.taken out.new) d.tally) }
+        (plain_decoding request.now) stream.old.graph crew.old.plan (O.taken out.old) (O.taken out.new) d.tally) }
     ensures first { OnErr result (WritesFirstBatches (FirstFrom (F.left files.old) stream.old.format stream.old.graph)
-        (seen_decoding request.now) stream.old.graph crew.old.plan (O.taken out.old) (O.taken out.new)) }
+        (plain_decoding request.now) stream.old.graph crew.old.plan (O.taken out.old) (O.taken out.new)) }
     ensures few { IfOk result (λ d. d.tally.best + d.tally.odd < 2 ^ 32) }
     ensures at_end { IfOk result (λ d. d.end ≡ ShotsEnd.End → IsReadOut (F.left files.old) (F.left files.new)) }
     ensures asks { F.asked files.new ≡ F.asked files.old }
@@ -190,8 +192,8 @@ fn next_batch<F: Files, G: Gate, R: Threads + Wait + Sync>(
 ) -> Result<NextBatch, NoMemory>
     requires graph { crew.old.graph ≡ stream.old.graph }
     requires workers { crew.old.workers ≡ request.now.workers }
-    requires few { request.now.window ≤ 64 }
-    ensures batch { IfOk result (λ n. TakesBatch (seen_decoding request.now) crew.old.plan stream.old stream.new
+    requires few { request.now.window ≤ MOST_AT_ONCE }
+    ensures batch { IfOk result (λ n. TakesBatch (plain_decoding request.now) crew.old.plan stream.old stream.new
         (F.left files.old) (F.left files.new) (batch_in n.batch) n.end) }
     ensures same { crew.new ≡ crew.old }
     ensures asks { F.asked files.new ≡ F.asked files.old }
@@ -207,8 +209,8 @@ fn next_batch<F: Files, G: Gate, R: Threads + Wait + Sync>(
     })
 }
 
-/// The rows of a batch of shots, and where the history is wanted, how they were made. Where it isn't, shots without a
-/// defect need no worker.
+/// The rows of a batch of shots, and if the history is wanted, how they were made. If it isn't, shots without a defect
+/// need no worker.
 fn solve_batch<G: Gate, R: Threads + Wait + Sync>(
     rt: &R,
     alloc: Global,
@@ -218,7 +220,7 @@ fn solve_batch<G: Gate, R: Threads + Wait + Sync>(
     gate: &G,
 ) -> Result<Window, NoMemory>
     requires shots { All (IsShot crew.old.graph) shots.now }
-    requires few { length shots.now ≤ 64 }
+    requires few { length shots.now ≤ MOST_AT_ONCE }
     ensures rows { IfOk result (λ w. AreRows crew.old.graph shots.now w.rows.items) }
     ensures history { trace ≡ true → IfOk result (λ w. IsHistoryOf crew.old.plan crew.old.workers w.rows.items w.history.items) }
     ensures same { crew.new ≡ crew.old }
@@ -236,7 +238,7 @@ fn are_empty(shots: &[Shot]) -> bool
     shots.iter().all(|shot| shot.is_empty())
 }
 
-/// So many rows of shots without a defect.
+/// The rows of `count` shots without a defect.
 fn empty_rows(alloc: Global, count: usize) -> Result<Window, NoMemory>
     ensures { IfOk result (λ w. w.rows.items ≡ replicate count (Row.Best [] 0 [])) }
 {
@@ -254,7 +256,7 @@ fn empty_rows(alloc: Global, count: usize) -> Result<Window, NoMemory>
     })
 }
 
-/// Writes the rows of a batch, which come after those that are counted, and where they are wanted its events. The count
+/// Writes the rows of a batch, which follow those that are counted, and its events if they are wanted. Returns the count
 /// with these rows.
 fn write_batch<O: Sink>(
     batch: &Window,
@@ -285,8 +287,8 @@ fn write_batch<O: Sink>(
     Ok(more)
 }
 
-/// Adds the rows of a batch to the outbox, which come after those that are counted, and where they are wanted its events.
-/// The count with these rows.
+/// Adds the rows of a batch to the outbox, which follow those that are counted, and its events if they are wanted.
+/// Returns the count with these rows.
 fn add_batch(
     outbox: &mut Outbox,
     tally: Tally,
@@ -307,7 +309,7 @@ fn add_batch(
     Ok(tally)
 }
 
-/// Adds rows to the outbox, which come after those that are counted. The count with these.
+/// Adds rows to the outbox, which follow those that are counted. Returns the count with these.
 fn add_rows(outbox: &mut Outbox, tally: Tally, rows: &[Row]) -> Result<Tally, NoMemory>
     requires few { tally.best + tally.odd + length rows.now < 2 ^ 32 }
     ensures text { IfOk result (λ more. outbox.new.text ≡ outbox.old.text ++ rows_text (tally.best + tally.odd) rows.now) }

@@ -7,15 +7,15 @@ ghost use Rattle.fb_check.specs.Ends.{IsReadToItsEnd, MayFollowReadFault};
 ghost use Rattle.fb_inputs.specs.Judging.{IsReadOutIfNamed};
 ghost use Rattle.fb_inputs.specs.Moments.{moment};
 ghost use Rattle.fb_run.specs.Endings.{DecodeEnds, EndsByPlan, EndsOn};
-ghost use Rattle.fb_run.specs.Writes.{EndsReport, counts_in};
+ghost use Rattle.fb_run.specs.InternalWrites.{EndsReport, counts_in};
 ghost use Rattle.fb_words.specs.Ranges.{IsWithin, windows, workers};
-ghost use Rattle.fb_words.specs.Seen.{seen_decoding};
+ghost use Rattle.fb_words.specs.PlainRequests.{plain_decoding};
 
 use crate::batches::{Decoded, decode_file};
 use fb_crew::{Crew, Gate};
 use fb_endings::{Cause, Refusal};
 use fb_graph::Graph;
-use fb_inputs::{NoGraph, NoPlan, RowsFault, ShotsEnd, read_graph_file, read_plan_file};
+use fb_inputs::{FileFault, RowsFault, ShotsEnd, read_graph_file, read_plan_file};
 use fb_plan::Plan;
 use fb_ports::{Files, Sink};
 use fb_report::{write_done, write_head};
@@ -37,22 +37,22 @@ pub fn decode<F: Files, O: Sink, G: Gate, R: Threads + Wait + Sync>(
     requires asked { IsEmptyIfKnown (F.asked files.old) }
     requires workers { IsWithin workers request.now.workers }
     requires window { IsWithin windows request.now.window }
-    ensures ends { DecodeEnds (seen_decoding request.now)
+    ensures ends { DecodeEnds (plain_decoding request.now)
         (moment (F.named files.old) (F.left files.old) (F.asked files.old) (F.faults files.old) (O.taken out.old))
         (moment (F.named files.new) (F.left files.new) (F.asked files.new) (F.faults files.new) (O.taken out.new)) result }
     ensures at_end { IsReadToItsEnd result → IsReadOutIfNamed (F.named files.old) (F.left files.new) }
     ensures read_fault { result ≡ Cause.ReadFault → Rose (F.faults files.old) (F.faults files.new) }
-    ensures read_later { F.faults files.old ≤ F.faults files.new }
-    ensures read_risen { F.faults files.old < F.faults files.new → MayFollowReadFault result }
+    ensures read_never_falls { F.faults files.old ≤ F.faults files.new }
+    ensures read_reported { F.faults files.old < F.faults files.new → MayFollowReadFault result }
     ensures write_fault { result ≡ Cause.WriteFault → Rose (O.faults out.old) (O.faults out.new) }
     ensures write_never_falls { O.faults out.old ≤ O.faults out.new }
     ensures write_unchanged { result ≢ Cause.WriteFault → O.faults out.new ≡ O.faults out.old }
 {
     match read_graph_file(alloc, files, request.graph) {
         Ok(graph) => decode_on(rt, alloc, request, &graph, files, out, gate),
-        Err(NoGraph::Refused(fault)) => Cause::Refused(Refusal::Graph(fault)),
-        Err(NoGraph::ReadFault) => Cause::ReadFault,
-        Err(NoGraph::NoMemory) => Cause::NoMemory,
+        Err(FileFault::Refused(fault)) => Cause::Refused(Refusal::Graph(fault)),
+        Err(FileFault::ReadFault) => Cause::ReadFault,
+        Err(FileFault::NoMemory) => Cause::NoMemory,
     }
 }
 
@@ -69,13 +69,13 @@ fn decode_on<F: Files, O: Sink, G: Gate, R: Threads + Wait + Sync>(
     requires room { HasRoom (F.asked files.old) 15 }
     requires workers { IsWithin workers request.now.workers }
     requires window { IsWithin windows request.now.window }
-    ensures ends { EndsByPlan (seen_decoding request.now).plan (seen_decoding request.now) graph.now
+    ensures ends { EndsByPlan (plain_decoding request.now).plan (plain_decoding request.now) graph.now
         (moment (F.named files.old) (F.left files.old) (F.asked files.old) (F.faults files.old) (O.taken out.old))
         (moment (F.named files.new) (F.left files.new) (F.asked files.new) (F.faults files.new) (O.taken out.new)) result }
     ensures at_end { IsReadToItsEnd result → IsReadOutIfNamed (F.named files.old) (F.left files.new) }
     ensures read_fault { result ≡ Cause.ReadFault → Rose (F.faults files.old) (F.faults files.new) }
-    ensures read_later { F.faults files.old ≤ F.faults files.new }
-    ensures read_risen { F.faults files.old < F.faults files.new → MayFollowReadFault result }
+    ensures read_never_falls { F.faults files.old ≤ F.faults files.new }
+    ensures read_reported { F.faults files.old < F.faults files.new → MayFollowReadFault result }
     ensures write_fault { result ≡ Cause.WriteFault → Rose (O.faults out.old) (O.faults out.new) }
     ensures write_never_falls { O.faults out.old ≤ O.faults out.new }
     ensures write_unchanged { result ≢ Cause.WriteFault → O.faults out.new ≡ O.faults out.old }
@@ -88,9 +88,9 @@ fn decode_on<F: Files, O: Sink, G: Gate, R: Threads + Wait + Sync>(
     };
     match read_plan_file(alloc, files, name, graph) {
         Ok(plan) => decode_by(rt, alloc, request, graph, &plan, files, out, gate),
-        Err(NoPlan::Refused(fault)) => Cause::Refused(Refusal::Plan(fault)),
-        Err(NoPlan::ReadFault) => Cause::ReadFault,
-        Err(NoPlan::NoMemory) => Cause::NoMemory,
+        Err(FileFault::Refused(fault)) => Cause::Refused(Refusal::Plan(fault)),
+        Err(FileFault::ReadFault) => Cause::ReadFault,
+        Err(FileFault::NoMemory) => Cause::NoMemory,
     }
 }
 
@@ -110,13 +110,13 @@ fn decode_by<F: Files, O: Sink, G: Gate, R: Threads + Wait + Sync>(
     requires room { HasRoom (F.asked files.old) 16 }
     requires workers { IsWithin workers request.now.workers }
     requires window { IsWithin windows request.now.window }
-    ensures ends { EndsOn (seen_decoding request.now) graph.now plan.now
+    ensures ends { EndsOn (plain_decoding request.now) graph.now plan.now
         (moment (F.named files.old) (F.left files.old) (F.asked files.old) (F.faults files.old) (O.taken out.old))
         (moment (F.named files.new) (F.left files.new) (F.asked files.new) (F.faults files.new) (O.taken out.new)) result }
     ensures at_end { IsReadToItsEnd result → IsReadOutIfNamed (F.named files.old) (F.left files.new) }
     ensures read_fault { result ≡ Cause.ReadFault → Rose (F.faults files.old) (F.faults files.new) }
-    ensures read_later { F.faults files.old ≤ F.faults files.new }
-    ensures read_risen { F.faults files.old < F.faults files.new → MayFollowReadFault result }
+    ensures read_never_falls { F.faults files.old ≤ F.faults files.new }
+    ensures read_reported { F.faults files.old < F.faults files.new → MayFollowReadFault result }
     ensures write_fault { result ≡ Cause.WriteFault → Rose (O.faults out.old) (O.faults out.new) }
     ensures write_never_falls { O.faults out.old ≤ O.faults out.new }
     ensures write_unchanged { result ≢ Cause.WriteFault → O.faults out.new ≡ O.faults out.old }
@@ -140,7 +140,7 @@ fn decode_by<F: Files, O: Sink, G: Gate, R: Threads + Wait + Sync>(
     }
 }
 
-/// Ends a report by the plan: by its last line where the shots were read to their end.
+/// Ends a report: with its last line, which counts the plan's units and fusions, if the shots were read to their end.
 fn end_report<O: Sink>(plan: &Plan, decoded: Decoded, out: &mut O) -> Cause
     requires few { decoded.tally.best + decoded.tally.odd < 2 ^ 32 }
     ensures end { EndsReport plan.now decoded.end (decoded.tally.best + decoded.tally.odd) (counts_in decoded.tally) (O.taken out.old) (O.taken out.new) result }

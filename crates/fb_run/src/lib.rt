@@ -1,4 +1,4 @@
-//! The top call of `fusion`: from words and files to a report.
+//! The top call of `fusion`: from a command line and files to a report.
 
 #![tactic(auto)]
 
@@ -9,6 +9,6 @@ mod sample_text;
 mod sampling;
 
 pub use fb_crew::{Gate, OpenGate};
-pub use fb_endings::{Cause, Ended, Refusal};
+pub use fb_endings::{Cause, Ended, Refusal, say};
 pub use fb_words::UsageKind;
 pub use running::run;

@@ -5,9 +5,10 @@ ghost use Rattle.fb_ports.specs.Causes.{Appends, AppendsPrefix, IsEmptyIfKnown, 
 ghost use Rattle.fb_endings.specs.Causes.{line_of, status_of};
 ghost use Rattle.fb_check.specs.Ends.{MayFollowReadFault};
 ghost use Rattle.fb_inputs.specs.Moments.{moment};
-ghost use Rattle.fb_run.specs.RunEndings.{EndsRight, RequestEnds, HasReadOut, IfParse, ReadsOut, cause_of_fault};
+ghost use Rattle.fb_run.specs.RunEndings.{EndsRight, RequestEnds, HasReadOut, ReadsOut};
+ghost use Rattle.fb_run.specs.InternalCauses.{IfParse, cause_of_words};
 ghost use Rattle.fb_words.specs.Taken.{is_taken};
-ghost use Rattle.fb_words.specs.Seen.{seen_request};
+ghost use Rattle.fb_words.specs.PlainRequests.{plain_request};
 ghost use Rattle.fb_words.specs.Words.{IsInRanges, request_of};
 
 use crate::decoding::decode;
@@ -22,7 +23,7 @@ use std::sync::Wait;
 use std::thread::Threads;
 
 /// Runs the program on the words of a command line, the program's name first: reads the files that they name, writes
-/// the report to `out`, and says on `err` why it ended, where a report alone doesn't.
+/// the report to `out`, and writes to `err` why it ended if the report doesn't show it.
 pub fn run<F: Files, O: Sink, E: Sink, G: Gate, R: Threads + Wait + Sync>(
     rt: &R,
     alloc: Global,
@@ -44,20 +45,20 @@ pub fn run<F: Files, O: Sink, E: Sink, G: Gate, R: Threads + Wait + Sync>(
     // A fault is returned only if one occurred. If the rows of the shots before a failed read can't be written, or memory
     // runs out for them, that is returned in its place.
     ensures read_fault { result.cause ≡ Cause.ReadFault → Rose (F.faults files.old) (F.faults files.new) }
-    ensures read_risen { F.faults files.old < F.faults files.new → MayFollowReadFault result.cause }
+    ensures read_reported { F.faults files.old < F.faults files.new → MayFollowReadFault result.cause }
     ensures write_fault { result.cause ≡ Cause.WriteFault → Rose (O.faults out.old) (O.faults out.new) }
-    ensures write_risen { O.faults out.old < O.faults out.new → result.cause ≡ Cause.WriteFault }
+    ensures write_reported { O.faults out.old < O.faults out.new → result.cause ≡ Cause.WriteFault }
 
-    // Words that the command line takes aren't refused as a whole.
+    // A command line that is taken isn't refused as invalid.
     ensures takes { is_taken (map string_bytes words.now) ≡ true → result.cause ≢ Cause.Usage UsageKind.Parse }
 
-    // What was written to standard error. Of words that have no reading it is the command line reader's own text.
+    // What was written to standard error. Of an invalid command line it is the text of `clap`.
     ensures reported { result.cause ≢ Cause.Usage UsageKind.Parse
         → AppendsPrefix (E.taken err.old) (E.taken err.new) (line_of result.cause) }
     ensures reported_whole { result.cause ≢ Cause.Usage UsageKind.Parse → E.faults err.old < 2 ^ 64 - 1
         → E.faults err.new ≡ E.faults err.old → Appends (E.taken err.old) (E.taken err.new) (line_of result.cause) }
 {
-    let cause = answer(rt, alloc, words, files, out, err, gate);
+    let cause = run_words(rt, alloc, words, files, out, err, gate);
     say(cause, err);
     Ended {
         status: cause.status(),
@@ -65,8 +66,8 @@ pub fn run<F: Files, O: Sink, E: Sink, G: Gate, R: Threads + Wait + Sync>(
     }
 }
 
-/// Does what the words ask for, or says on `err` what is wrong with words that have no reading.
-fn answer<F: Files, O: Sink, E: Sink, G: Gate, R: Threads + Wait + Sync>(
+/// Does what the words ask for, or writes to `err` what is wrong with an invalid command line.
+fn run_words<F: Files, O: Sink, E: Sink, G: Gate, R: Threads + Wait + Sync>(
     rt: &R,
     alloc: Global,
     words: &[String],
@@ -82,9 +83,9 @@ fn answer<F: Files, O: Sink, E: Sink, G: Gate, R: Threads + Wait + Sync>(
     ensures at_end { HasReadOut (request_of (map string_bytes words.now)) (F.named files.old) (F.left files.new) result }
     ensures takes { is_taken (map string_bytes words.now) ≡ true → result ≢ Cause.Usage UsageKind.Parse }
     ensures read_fault { result ≡ Cause.ReadFault → Rose (F.faults files.old) (F.faults files.new) }
-    ensures read_risen { F.faults files.old < F.faults files.new → MayFollowReadFault result }
+    ensures read_reported { F.faults files.old < F.faults files.new → MayFollowReadFault result }
     ensures write_fault { result ≡ Cause.WriteFault → Rose (O.faults out.old) (O.faults out.new) }
-    ensures write_risen { O.faults out.old < O.faults out.new → result ≡ Cause.WriteFault }
+    ensures write_reported { O.faults out.old < O.faults out.new → result ≡ Cause.WriteFault }
     ensures quiet { result ≢ Cause.Usage UsageKind.Parse → (E.taken err.new ≡ E.taken err.old) × (E.faults err.new ≡ E.faults err.old) }
 {
     match read_words(alloc, words) {
@@ -103,14 +104,14 @@ fn run_request<F: Files, O: Sink, G: Gate, R: Threads + Wait + Sync>(
     gate: &G,
 ) -> Cause
     requires asked { IsEmptyIfKnown (F.asked files.old) }
-    requires ranges { IsInRanges (seen_request request.now) }
-    ensures ends { RequestEnds (seen_request request.now)
+    requires ranges { IsInRanges (plain_request request.now) }
+    ensures ends { RequestEnds (plain_request request.now)
         (moment (F.named files.old) (F.left files.old) (F.asked files.old) (F.faults files.old) (O.taken out.old))
         (moment (F.named files.new) (F.left files.new) (F.asked files.new) (F.faults files.new) (O.taken out.new)) result }
-    ensures at_end { ReadsOut (seen_request request.now) (F.named files.old) (F.left files.new) result }
+    ensures at_end { ReadsOut (plain_request request.now) (F.named files.old) (F.left files.new) result }
     ensures read_fault { result ≡ Cause.ReadFault → Rose (F.faults files.old) (F.faults files.new) }
-    ensures read_later { F.faults files.old ≤ F.faults files.new }
-    ensures read_risen { F.faults files.old < F.faults files.new → MayFollowReadFault result }
+    ensures read_never_falls { F.faults files.old ≤ F.faults files.new }
+    ensures read_reported { F.faults files.old < F.faults files.new → MayFollowReadFault result }
     ensures write_fault { result ≡ Cause.WriteFault → Rose (O.faults out.old) (O.faults out.new) }
     ensures write_never_falls { O.faults out.old ≤ O.faults out.new }
     ensures write_unchanged { result ≢ Cause.WriteFault → O.faults out.new ≡ O.faults out.old }
@@ -122,10 +123,10 @@ fn run_request<F: Files, O: Sink, G: Gate, R: Threads + Wait + Sync>(
     }
 }
 
-/// The cause that tells what is wrong with the words. Where they have no reading, the command line reader's text is
-/// written to a sink, whole unless the sink fails.
+/// The cause that says what is wrong with the words. For an invalid command line the text of `clap` is written to a sink,
+/// whole unless the sink fails.
 fn refuse_words<E: Sink>(fault: &WordsFault, err: &mut E) -> Cause
-    ensures cause { result ≡ cause_of_fault fault.now }
+    ensures cause { result ≡ cause_of_words fault.now }
     ensures text { IfParse (λ text. AppendsPrefix (E.taken err.old) (E.taken err.new) text) fault.now }
     ensures text_whole { E.faults err.old < 2 ^ 64 - 1 → E.faults err.new ≡ E.faults err.old
         → IfParse (λ text. Appends (E.taken err.old) (E.taken err.new) text) fault.now }

@@ -3,7 +3,7 @@
 ghost use Rattle.std.specs.Prelude.{◌≡◌, ◌≢◌, ◌+◌, ◌*◌, ◌++◌, ◌≤◌, [], length, OnOk, Err};
 ghost use Rattle.fb_ports.specs.Causes.{Appends, AppendsPrefix, Rose};
 ghost use Rattle.fb_run.specs.Samples.{sample_head, sample_text, sizes_line, sums_line, work_line};
-ghost use Rattle.fb_words.specs.Seen.{seen_sampling};
+ghost use Rattle.fb_words.specs.PlainRequests.{plain_sampling};
 
 use fb_inputs::{Outbox, RowsFault};
 use fb_plan::Plan;
@@ -29,9 +29,9 @@ pub fn write_sample<O: Sink>(
     out: &mut O,
 ) -> Result<(), RowsFault>
     ensures all { OnOk result (Appends (O.taken out.old) (O.taken out.new)
-        (sample_text (seen_sampling request.now) plan.now sums.defects sums.weight)) }
+        (sample_text (plain_sampling request.now) plan.now sums.defects sums.weight)) }
     ensures prefix { result ≡ Err RowsFault.WriteFault → AppendsPrefix (O.taken out.old) (O.taken out.new)
-        (sample_text (seen_sampling request.now) plan.now sums.defects sums.weight) }
+        (sample_text (plain_sampling request.now) plan.now sums.defects sums.weight) }
     ensures nothing { result ≡ Err RowsFault.NoMemory → Appends (O.taken out.old) (O.taken out.new) [] }
     ensures write_fault { result ≡ Err RowsFault.WriteFault → Rose (O.faults out.old) (O.faults out.new) }
     ensures write_never_falls { O.faults out.old ≤ O.faults out.new }
@@ -56,7 +56,7 @@ fn add_sample(
     sums: Sums,
 ) -> Result<(), Failed>
     ensures { OnOk result (outbox.new.text
-        ≡ outbox.old.text ++ sample_text (seen_sampling request.now) plan.now sums.defects sums.weight) }
+        ≡ outbox.old.text ++ sample_text (plain_sampling request.now) plan.now sums.defects sums.weight) }
 {
     let units = u64::from(plan.units()) * u64::from(request.shots);
     let fusions = u64::from(plan.nodes() - plan.units()) * u64::from(request.shots);
@@ -78,7 +78,7 @@ fn add_head(outbox: &mut Outbox) -> Result<(), Failed>
 /// Adds the line of the lattice, its plan and the draws, `distance D rounds T units U rate R start X`.
 #[tactic(auto, unfolding(crate::specs::Samples::sizes_line))]
 fn add_sizes(outbox: &mut Outbox, request: &Sampling) -> Result<(), Failed>
-    ensures { OnOk result (outbox.new.text ≡ outbox.old.text ++ sizes_line (seen_sampling request.now)) }
+    ensures { OnOk result (outbox.new.text ≡ outbox.old.text ++ sizes_line (plain_sampling request.now)) }
 {
     let mut one = Buffer::new();
     let mut two = Buffer::new();

@@ -1,13 +1,15 @@
 //! The command `sample`.
 
 ghost use Rattle.std.specs.Prelude.{◌≡◌, ◌≢◌, ◌+◌, ◌*◌, ◌^◌, ◌<◌, ◌≤◌, length, All, IfOk, OnOk};
+ghost use Rattle.fb_crew.specs.declared.window.TheConstants.{MOST_AT_ONCE};
 ghost use Rattle.fb_gen.specs.Drawing.{state_after};
-ghost use Rattle.fb_graph.specs.Limits.{IsShot};
+ghost use Rattle.fb_graph.specs.Limits.{IsShot, most_vertices};
 ghost use Rattle.fb_plan.specs.Plans.{IsPlan};
 ghost use Rattle.fb_ports.specs.Causes.{Rose};
-ghost use Rattle.fb_run.specs.SampleEndings.{SampleEnds, cause_of_fault};
+ghost use Rattle.fb_run.specs.SampleEndings.{SampleEnds};
+ghost use Rattle.fb_run.specs.InternalCauses.{cause_of_sample};
 ghost use Rattle.fb_run.specs.Samples.{HaveSums, defects_in, drawn_shots, weight_in, weights_in};
-ghost use Rattle.fb_words.specs.Seen.{seen_sampling};
+ghost use Rattle.fb_words.specs.PlainRequests.{plain_sampling};
 ghost use Rattle.fb_words.specs.Words.{IsSampleInRanges};
 
 use crate::sample_text::{Sums, write_sample};
@@ -32,15 +34,15 @@ pub fn sample<O: Sink, G: Gate, R: Threads + Wait + Sync>(
     out: &mut O,
     gate: &G,
 ) -> Cause
-    requires { IsSampleInRanges (seen_sampling request.now) }
-    ensures ends { SampleEnds (seen_sampling request.now) (O.taken out.old) (O.taken out.new) result }
+    requires { IsSampleInRanges (plain_sampling request.now) }
+    ensures ends { SampleEnds (plain_sampling request.now) (O.taken out.old) (O.taken out.new) result }
     ensures write_fault { result ≡ Cause.WriteFault → Rose (O.faults out.old) (O.faults out.new) }
     ensures write_never_falls { O.faults out.old ≤ O.faults out.new }
     ensures write_unchanged { result ≢ Cause.WriteFault → O.faults out.new ≡ O.faults out.old }
 {
     let graph = match lattice(alloc, request.distance, request.rounds) {
         Ok(graph) => graph,
-        Err(fault) => return cause_of_fault(fault),
+        Err(fault) => return cause_of_sample(fault),
     };
     let plan = match time_plan(
         alloc,
@@ -50,7 +52,7 @@ pub fn sample<O: Sink, G: Gate, R: Threads + Wait + Sync>(
         request.units,
     ) {
         Ok(plan) => plan,
-        Err(fault) => return cause_of_fault(fault),
+        Err(fault) => return cause_of_sample(fault),
     };
     let Ok(sums) = sample_on(rt, alloc, request, &graph, &plan, gate) else {
         return Cause::NoMemory;
@@ -63,8 +65,8 @@ pub fn sample<O: Sink, G: Gate, R: Threads + Wait + Sync>(
 }
 
 /// How a sample ends whose lattice or plan can't be made.
-fn cause_of_fault(fault: GenFault) -> Cause
-    ensures { result ≡ cause_of_fault fault }
+fn cause_of_sample(fault: GenFault) -> Cause
+    ensures { result ≡ cause_of_sample fault }
 {
     match fault {
         GenFault::LatticeTooLarge | GenFault::TooFewRounds => {
@@ -84,7 +86,7 @@ fn sample_on<G: Gate, R: Threads + Wait + Sync>(
     gate: &G,
 ) -> Result<Sums, NoMemory>
     requires plan { IsPlan graph.now plan.now }
-    requires ranges { IsSampleInRanges (seen_sampling request.now) }
+    requires ranges { IsSampleInRanges (plain_sampling request.now) }
     ensures { IfOk result (λ sums. HaveSums graph.now request.now.rate request.now.start request.now.shots sums.defects sums.weight) }
 {
     let mut crew = Crew::new(alloc, graph, plan, request.workers)?;
@@ -127,13 +129,13 @@ fn draw_window(
 impl Sums {
     /// The sums with those of further shots and their rows.
     fn with_window(self, shots: &[Shot], rows: &[Row]) -> Sums
-        requires shots { length shots.now ≤ 64 }
-        requires rows { length rows.now ≤ 64 }
+        requires shots { length shots.now ≤ MOST_AT_ONCE }
+        requires rows { length rows.now ≤ MOST_AT_ONCE }
         requires defects { self.defects ≤ 2 ^ 60 }
         requires weight { self.weight ≤ 2 ^ 100 }
         ensures defects { result.defects ≡ self.defects + defects_in shots.now }
         ensures weight { result.weight ≡ self.weight + weights_in rows.now }
-        ensures few_defects { result.defects ≤ self.defects + 2 ^ 20 * length shots.now }
+        ensures few_defects { result.defects ≤ self.defects + most_vertices * length shots.now }
         ensures low_weight { result.weight ≤ self.weight + 2 ^ 64 * length rows.now }
     {
         Sums {
@@ -145,9 +147,9 @@ impl Sums {
 
 /// How many defects shots have.
 fn count_defects(shots: &[Shot]) -> u64
-    requires { length shots.now ≤ 64 }
+    requires { length shots.now ≤ MOST_AT_ONCE }
     ensures sum { result ≡ defects_in shots.now }
-    ensures limit { result ≤ 2 ^ 20 * length shots.now }
+    ensures limit { result ≤ most_vertices * length shots.now }
 {
     let mut count = 0;
     for shot in shots {
@@ -158,7 +160,7 @@ fn count_defects(shots: &[Shot]) -> u64
 
 /// What the corrections of rows weigh.
 fn add_weights(rows: &[Row]) -> u128
-    requires { length rows.now ≤ 64 }
+    requires { length rows.now ≤ MOST_AT_ONCE }
     ensures sum { result ≡ weights_in rows.now }
     ensures limit { result ≤ 2 ^ 64 * length rows.now }
 {

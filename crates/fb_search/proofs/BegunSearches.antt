@@ -14,8 +14,8 @@ use Rattle.fb_obstacles.specs.Watched.{Watched}
 use Rattle.fb_obstacles.specs.Obstacles.{grows, slack_at}
 use Rattle.fb_regions.specs.declared.roles.Role.TheVariants.{Plus, Minus, Out}
 use Rattle.fb_plan.specs.Plans.{PlanTree, problem_at}
-use Rattle.fb_search.specs.Searching.{IsSearching, SearchValue, roles_in}
-use Rattle.fb_search.specs.Watching.{Watches}
+use Rattle.fb_search.specs.InternalSearching.{IsSearching, SearchValue, roles_in}
+use Rattle.fb_search.specs.InternalWatching.{Watches}
 
 abbrev begun : ℕ → PartValue → Watched → SearchValue
 begun root part watched = record { part = part; tree = bare root; watched = watched }
@@ -91,7 +91,7 @@ begun_searching root part old new are limits within below room empty watched = r
     near k less (inr over) =
         watched.near _ k (under_root root _ part new are over) less (touches_second (problem_in part) k limits less)
 
--- what the scope of the part's node keeps, though it tells no defects
+-- what the scope of the part's node keeps, though its problem has no defects
 pub kept_limits : (part : PartValue) (g : DecodingGraph) (t : PlanTree) (n : ℕ) → g ≡ part.job.graph → t ≡ part.job.plan
     → n ≡ part.node → IsWithinLimits (problem_at g t n no_shot) → IsWithinLimits (problem_in part)
 kept_limits part g t n eg et en limits =

@@ -19,7 +19,7 @@ use Rattle.fb_half.specs.Parts.{kept_links}
 use Rattle.fb_half.specs.Translations.{entry_by}
 use Rattle.fb_trees.specs.Rooted.{IsBranchAt}
 use Rattle.fb_search.specs.InternalOpenings.{EndsAtChild, MayEnter}
-use Rattle.fb_search.specs.Searching.{IsSearching, SearchValue, problem_of, state_at}
+use Rattle.fb_search.specs.InternalSearching.{IsSearching, SearchValue, problem_of, state_at}
 use Rattle.fb_search.proofs.Openings.{Opens}
 use Rattle.fb_graph.proofs.Floods.{is_in-left, is_in-right}
 

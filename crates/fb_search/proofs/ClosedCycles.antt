@@ -33,7 +33,7 @@ use Rattle.fb_trees.proofs.Mapped.{cycle_links_moved, cycle_moved, last_moved, p
 use Rattle.fb_half.specs.Matchings.{listed_names}
 use Rattle.fb_half.specs.Parts.{kept_links}
 use Rattle.fb_half.specs.Translations.{entry_by, link_by}
-use Rattle.fb_search.specs.Searching.{IsSearchingBeside, SearchValue, problem_of, state_at}
+use Rattle.fb_search.specs.InternalSearching.{IsSearchingBeside, SearchValue, problem_of, state_at}
 use Rattle.fb_search.proofs.Agreed.{cycle_odd, cycle_outer, nodes_of}
 use Rattle.fb_search.proofs.Cycles.{cycle_from, paths_of}
 use Rattle.fb_search.proofs.JoinConditions.{nodes_may_join, tree_may_join}

@@ -32,8 +32,8 @@ use Rattle.fb_half.specs.Values.{IsScopeOf}
 use Rattle.fb_obstacles.specs.Obstacles.{slack_at}
 use Rattle.fb_obstacles.specs.Watched.{Watched}
 use Rattle.fb_search.specs.InternalClosings.{IsReplacedBy, WatchesMinus}
-use Rattle.fb_search.specs.Progress.{GoesOn}
-use Rattle.fb_search.specs.Searching.{IsSearching, SearchValue, problem_of, state_at}
+use Rattle.fb_search.specs.InternalProgress.{GoesOn}
+use Rattle.fb_search.specs.InternalSearching.{IsSearching, SearchValue, problem_of, state_at}
 use Rattle.fb_search.proofs.Agreed.{agreed_joined, nodes_of}
 use Rattle.fb_search.proofs.BegunSearches.{kept_limits}
 use Rattle.fb_search.proofs.ClosedCycles.{Closes, many_replaced, may_close, root_unlisted, steps_join}

@@ -176,7 +176,7 @@ module _ (p : Problem) (nodes : List Node) (tree : Grown) (name : ℕ) (children
       (joined_nodes name children nodes) old.edges new.edges was below watches.kept over_before
       (together_joined nodes name children names apart_after outer)
 
--- the same by the scope of the part's node, which tells no defects
+-- the same by the scope of the part's node, whose problem has no defects
 pub watches_minus : (part : PartValue) (g : DecodingGraph) (t : PlanTree) (n : ℕ) (nodes : List Node) (tree : Grown)
     (names : List ℕ) (old new : Watched) → g ≡ part.job.graph
     → WatchesMinus (problem_at g t n no_shot) nodes tree names old new

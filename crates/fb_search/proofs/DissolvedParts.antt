@@ -28,7 +28,7 @@ use Rattle.fb_half.specs.Parts.{AreLinksOf, AreStepsOf, IsPart, PartValue}
 use Rattle.fb_half.specs.Translations.{cycles_by, link_by, link_of, ring_at, ring_links}
 use Rattle.fb_search.specs.InternalEndings.{Forgets, ended_matches}
 use Rattle.fb_search.specs.InternalRounds.{HasEvenRoot}
-use Rattle.fb_search.specs.Searching.{IsSearching, SearchValue, problem_of, searched_links, state_at}
+use Rattle.fb_search.specs.InternalSearching.{IsSearching, SearchValue, problem_of, searched_links, state_at}
 use Rattle.fb_search.proofs.DissolvedStates.{dissolved, state_dissolved}
 use Rattle.fb_search.proofs.DissolvedTrees.{matches_root, names_beside}
 use Rattle.fb_search.proofs.EndedCases.{links_counted}

@@ -6,8 +6,8 @@ use Rattle.fb_graph.specs.Problem.{Problem, edge_at}
 use Rattle.fb_graph.specs.Steps.{Roles}
 use Rattle.fb_graph.specs.declared.parts.Edge.{Edge}
 use Rattle.fb_obstacles.specs.Obstacles.{IsMeet, IsPlusPair}
-use Rattle.fb_search.specs.Meetings.{IsPairOver}
-use Rattle.fb_search.specs.Searching.{SearchValue, problem_of, roles_in}
+use Rattle.fb_search.specs.InternalTightEdges.{IsPairOver}
+use Rattle.fb_search.specs.InternalSearching.{SearchValue, problem_of, roles_in}
 use Rattle.fb_search.proofs.TakenVertices.{plus_over}
 use Rattle.fb_graph.proofs.Walks.{Leads_flip}
 

@@ -23,7 +23,7 @@ use Rattle.fb_half.specs.declared.matches.Match.{Match}
 use Rattle.fb_half.specs.Matchings.{IsMatchOf, IsMatchingOf, match_links}
 use Rattle.fb_half.specs.Parts.{AreLinksOf, AreStepsOf, IsPart, PartValue}
 use Rattle.fb_half.specs.Translations.{cycles_by, entry_by, link_by, link_of, ring_at, ring_links}
-use Rattle.fb_search.specs.Searching.{IsSearching, SearchValue, problem_of, searched_links, state_at}
+use Rattle.fb_search.specs.InternalSearching.{IsSearching, SearchValue, problem_of, searched_links, state_at}
 use Rattle.fb_search.specs.Progress.{IsSearched}
 use Rattle.fb_search.specs.InternalEndings.{Forgets, all_matches, ended_matches}
 use Rattle.fb_search.proofs.EndedLinks.{link_kept, links_kept, links_permuted, new_number}

@@ -17,7 +17,7 @@ use Rattle.fb_trees.proofs.Mapped.{plus_moved}
 use Rattle.fb_half.specs.declared.matches.Match.{Match}
 use Rattle.fb_half.specs.Parts.{AreStepsOf, IsPart}
 use Rattle.fb_half.specs.Translations.{link_by, link_of, ring_links}
-use Rattle.fb_search.specs.Searching.{IsSearching, SearchValue, problem_of, state_at}
+use Rattle.fb_search.specs.InternalSearching.{IsSearching, SearchValue, problem_of, state_at}
 use Rattle.fb_search.specs.InternalEndings.{Forgets}
 use Rattle.fb_search.specs.Progress.{IsSearched}
 use Rattle.fb_search.proofs.EndedCases.{links_counted, taken_at_boundary, taken_with}

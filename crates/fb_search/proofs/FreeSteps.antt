@@ -1,4 +1,4 @@
--- After the greatest free step an obstacle stands, and the search goes on from there.
+-- After the greatest free step there is an obstacle, and the search goes on from there.
 use Rattle.std.proofs.Common.{ℕ, ◌≡◌, ◌+◌, ◌≤◌, true, false, Option, Some, None, sym, ◌∙◌, subst, arith}
 use Rattle.std.specs.Prelude.{MatchOption}
 use Rattle.fb_graph.specs.Parity.{is_in}
@@ -14,12 +14,12 @@ use Rattle.fb_obstacles.specs.declared.obstacle.Obstacle.TheVariants.{Absorb, Bo
 use Rattle.fb_obstacles.specs.Obstacles.{IsFree, IsObstacle, Obstructs}
 use Rattle.fb_obstacles.specs.Watched.{Watched}
 use Rattle.fb_search.specs.declared.advancing.TreeObstacle.{TreeObstacle}
-use Rattle.fb_search.specs.declared.went.Went.{Went}
-use Rattle.fb_search.specs.declared.went.Went.TheVariants.{On, Ended}
+use Rattle.fb_search.specs.declared.outcome.Outcome.{Outcome}
+use Rattle.fb_search.specs.declared.outcome.Outcome.TheVariants.{On, Ended}
 use Rattle.fb_search.specs.InternalTurns.{BlocksTree, HasStepped}
-use Rattle.fb_search.specs.Progress.{GoesOn, HasAdvanced, IsRewatched, rewatched_search, stepped_by, to_do}
-use Rattle.fb_search.specs.Searching.{IsSearching, SearchValue, problem_of, roles_in}
-use Rattle.fb_search.specs.Went.{HasCleared, HasWent}
+use Rattle.fb_search.specs.InternalProgress.{GoesOn, HasAdvanced, IsRewatched, rewatched_search, stepped_by, to_do}
+use Rattle.fb_search.specs.InternalSearching.{IsSearching, SearchValue, problem_of, roles_in}
+use Rattle.fb_search.specs.InternalOutcomes.{HasCleared, HasSteppedAndCleared}
 use Rattle.fb_search.proofs.ExchangedObstacles.{free_exchanged}
 use Rattle.fb_search.proofs.KeptNodes.{beside_stepped}
 use Rattle.fb_search.proofs.Runs.{advanced_by, lower_trans, tree_roles}
@@ -67,9 +67,9 @@ advanced_after w after k are goes = record {
       (free_lowers (problem_of w) w.part.nodes (roles_of w.tree.root w.tree.branches) k);
 }
 
-went_by : (w : SearchValue) (k : ℕ) (o : Went) → IsSearching w → HasCleared (stepped_by k w) o → HasWent w o
-went_by w k (On after) are goes = advanced_after w after k are goes
-went_by w k (Ended part watched) are ends = record {
+outcome_after_step : (w : SearchValue) (k : ℕ) (o : Outcome) → IsSearching w → HasCleared (stepped_by k w) o → HasSteppedAndCleared w o
+outcome_after_step w k (On after) are goes = advanced_after w after k are goes
+outcome_after_step w k (Ended part watched) are ends = record {
   searched = record {
     part = record { job = ends.searched.part.job; slot = ends.searched.part.slot; node = ends.searched.part.node };
     others = ends.searched.others;
@@ -80,23 +80,23 @@ went_by w k (Ended part watched) are ends = record {
   room = ends.room;
 }
 
-went_at_once : (w : SearchValue) (o : Went) → HasCleared w o → HasWent w o
-went_at_once w (On after) goes = advanced_by w after goes
-went_at_once w (Ended part watched) ends = ends
+outcome_at_once : (w : SearchValue) (o : Outcome) → HasCleared w o → HasSteppedAndCleared w o
+outcome_at_once w (On after) goes = advanced_by w after goes
+outcome_at_once w (Ended part watched) ends = ends
 
--- a watch of other edges changes nothing of it
-went_anew : (w : SearchValue) (now : Watched) (o : Went) → now.edge_count ≡ w.watched.edge_count
-    → HasWent (rewatched_search now w) o → HasWent w o
-went_anew w now (On after) room goes = record {
+-- a watch of other edges changes nothing else
+outcome_anew : (w : SearchValue) (now : Watched) (o : Outcome) → now.edge_count ≡ w.watched.edge_count
+    → HasSteppedAndCleared (rewatched_search now w) o → HasSteppedAndCleared w o
+outcome_anew w now (On after) room goes = record {
   part = record { job = goes.part.job; slot = goes.part.slot; node = goes.part.node };
   others = goes.others;
   kept = goes.kept;
   count = goes.count;
   less = goes.less;
 }
-went_anew w now (Ended part watched) room ends = record { searched = ends.searched; room = ends.room ∙ room }
+outcome_anew w now (Ended part watched) room ends = record { searched = ends.searched; room = ends.room ∙ room }
 
-cleared_anew : (w : SearchValue) (now : Watched) (o : Went) → now.edge_count ≡ w.watched.edge_count
+cleared_anew : (w : SearchValue) (now : Watched) (o : Outcome) → now.edge_count ≡ w.watched.edge_count
     → HasCleared (rewatched_search now w) o → HasCleared w o
 cleared_anew w now (On after) room goes = record {
   part = record { job = goes.part.job; slot = goes.part.slot; node = goes.part.node };
@@ -110,21 +110,21 @@ cleared_anew w now (Ended part watched) room ends = record { searched = ends.sea
 -- an obstacle cleared after a free step
 pub stepped_after : (w after : SearchValue) (k : ℕ) → IsSearching w → IsRewatched (stepped_by k w) after → HasStepped w after
 stepped_after w after k are same o cleared =
-    went_by w k o are
+    outcome_after_step w k o are
     (cleared_anew (stepped_by k w) after.watched o same.room (subst (λ s. HasCleared s o) same.same cleared))
 
 -- an obstacle cleared at once
 pub stepped_not : (w : SearchValue) → HasStepped w w
-stepped_not w o cleared = went_at_once w o cleared
+stepped_not w o cleared = outcome_at_once w o cleared
 
--- the same, seen from before the edges that are watched have changed
+-- the same from before the watched edges changed
 pub stepped_anew : (w now after : SearchValue) → IsRewatched w now → HasStepped now after → HasStepped w after
 stepped_anew w now after same stepped_nodes o cleared =
-    went_anew w now.watched o same.room (subst (λ s. HasWent s o) same.same (stepped_nodes o cleared))
+    outcome_anew w now.watched o same.room (subst (λ s. HasSteppedAndCleared s o) same.same (stepped_nodes o cleared))
 
--- what a turn leaves, seen from before it
+-- what a turn leaves, from before it
 pub turned : (w mid after : SearchValue) (left : Option TreeObstacle) → HasStepped w mid
     → MatchOption left (GoesOn mid after) (λ o. BlocksTree after o × (after ≡ mid))
     → MatchOption left (HasAdvanced w after) (λ o. BlocksTree after o × HasStepped w after)
 turned w mid after None stepped_nodes goes = stepped_nodes (On after) goes
-turned w mid after (Some o) stepped_nodes stands = (stands.0, subst (HasStepped w) (sym stands.1) stepped_nodes)
+turned w mid after (Some o) stepped_nodes blocked = (blocked.0, subst (HasStepped w) (sym blocked.1) stepped_nodes)

@@ -12,7 +12,7 @@ use Rattle.fb_graph.specs.Steps.{AllowShrinking, Roles, stepped_nodes}
 use Rattle.fb_graph.proofs.StepHeights.{cover_stepped, height_stepped}
 use Rattle.fb_obstacles.specs.Obstacles.{residue_of, slack_at, slack_of}
 use Rattle.fb_obstacles.specs.Watched.{AreBounded, Watched}
-use Rattle.fb_search.specs.Progress.{lowered_by}
+use Rattle.fb_search.specs.InternalProgress.{lowered_by}
 
 -- bounds are right for greater limits too
 pub bounded_by : (old new : ℕ → ℕ) (watched : Watched) → ((k : ℕ) → old k ≤ new k) → AreBounded old watched

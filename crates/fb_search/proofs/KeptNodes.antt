@@ -12,8 +12,9 @@ use Rattle.fb_laws.proofs.SearchTrees.{minus_in_tree, plus_in_tree}
 use Rattle.fb_regions.specs.Moves.{node_named}
 use Rattle.fb_trees.proofs.Mapped.{minus_moved, plus_moved}
 use Rattle.fb_half.specs.Translations.{link_by}
-use Rattle.fb_search.specs.Progress.{AreKept, stepped_by, unmatched_beside}
-use Rattle.fb_search.specs.Searching.{IsSearching, IsSearchingBeside, SearchValue, problem_of, state_at, unmatched_in}
+use Rattle.fb_search.specs.InternalProgress.{stepped_by, unmatched_beside}
+use Rattle.fb_search.specs.Progress.{AreKept}
+use Rattle.fb_search.specs.InternalSearching.{IsSearching, IsSearchingBeside, SearchValue, problem_of, state_at, unmatched_in}
 
 -- another node is changed
 named_changed : (name n : ℕ) (f : Node → Node) → ((m : Node) → (f m).name ≡ m.name) → n ≢ name → (nodes : List Node)

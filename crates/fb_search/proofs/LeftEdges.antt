@@ -19,7 +19,7 @@ use Rattle.fb_obstacles.specs.InnerEdges.{is_inner}
 use Rattle.fb_obstacles.specs.Watched.{Watched, AreBounded}
 use Rattle.fb_obstacles.proofs.HeldEnds.{same_node}
 use Rattle.fb_plan.specs.Plans.{PlanTree, problem_at}
-use Rattle.fb_search.specs.Watching.{WatchesOuter, WatchesTaken}
+use Rattle.fb_search.specs.InternalWatching.{WatchesOuter, WatchesTaken}
 
 -- an edge whose ends aren't under one node is not inner
 pub outer_edge : (nodes : List Node) (e : Edge) → ¬ AreUnderOne nodes e.first e.second → is_inner nodes e ≡ false
@@ -153,7 +153,7 @@ module _ (p : Problem) (nodes : List Node) (v : ℕ) (old new : Watched) (taken 
       taken.watched k less
       ∙ if_false (touches v (edge_at p.edges k)) (not (is_inner nodes (edge_at p.edges k))) (is_in old.edges k) away
 
--- the same by the problem of the part, though the scope of its node tells no defects
+-- the same by the problem of the part, though that of its node's scope has no defects
 pub kept_taken : (part : PartValue) (g : DecodingGraph) (t : PlanTree) (n taken v : ℕ) (now later nodes : List Node)
     (old new : Watched) → g ≡ part.job.graph → taken ≡ v → now ≡ later → later ≡ nodes
     → WatchesTaken (problem_at g t n no_shot) now taken old new → WatchesTaken (problem_in part) nodes v old new

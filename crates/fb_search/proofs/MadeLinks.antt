@@ -15,7 +15,7 @@ use Rattle.fb_links.specs.Table.{Adds, link_at}
 use Rattle.fb_half.specs.Matchings.{IsMatchOf, match_links}
 use Rattle.fb_half.specs.Parts.{AreLinksOf, AreStepsOf}
 use Rattle.fb_half.specs.Translations.{cycles_by, entry_by, link_by, link_of, ring_at, ring_links}
-use Rattle.fb_search.specs.Searching.{IsSearching, IsSearchingBeside, SearchValue, problem_of, relinked_search, searched_links, state_at}
+use Rattle.fb_search.specs.InternalSearching.{IsSearching, IsSearchingBeside, SearchValue, problem_of, relinked_search, searched_links, state_at}
 use Rattle.fb_search.proofs.EndedMatches.{leads_still}
 use Rattle.fb_search.proofs.EndedParts.{map_same, ring_within}
 use Rattle.fb_search.proofs.Linked.{links_made}

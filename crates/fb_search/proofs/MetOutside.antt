@@ -9,8 +9,8 @@ use Rattle.fb_half.specs.declared.matches.Standing.{Standing}
 use Rattle.fb_half.specs.declared.matches.Standing.TheVariants.{Absent, Unmatched, Matched}
 use Rattle.fb_half.specs.Matchings.{listed_names, matched_names}
 use Rattle.fb_half.specs.Standings.{is_unmatched}
-use Rattle.fb_search.specs.Searching.{IsSearching, SearchValue, unmatched_in}
-use Rattle.fb_search.specs.Meetings.{Meets}
+use Rattle.fb_search.specs.InternalSearching.{IsSearching, SearchValue, unmatched_in}
+use Rattle.fb_search.specs.InternalTightEdges.{Meets}
 use Rattle.fb_search.proofs.SearchRoles.{outer_live, roles_in_tree}
 use Rattle.fb_graph.proofs.Floods.{is_in-both}
 

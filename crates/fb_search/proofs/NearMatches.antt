@@ -23,10 +23,11 @@ use Rattle.fb_half.specs.Matchings.{matched_names}
 use Rattle.fb_half.specs.Parts.{IsPart, PartValue, problem_in}
 use Rattle.fb_search.specs.InternalNear.{HasRoom, IsNearBoundary, alone}
 use Rattle.fb_search.specs.InternalSteps.{IsTreeOver}
-use Rattle.fb_search.specs.Meetings.{LeadsOut}
-use Rattle.fb_search.specs.MetWalks.{IsOut, IsOutWalk}
-use Rattle.fb_search.specs.Progress.{IsSearched, stepped_by}
-use Rattle.fb_search.specs.Searching.{IsSearching, SearchValue, roles_in}
+use Rattle.fb_search.specs.InternalTightEdges.{LeadsOut}
+use Rattle.fb_search.specs.InternalMetWalks.{IsOut, IsOutWalk}
+use Rattle.fb_search.specs.InternalProgress.{stepped_by}
+use Rattle.fb_search.specs.Progress.{IsSearched}
+use Rattle.fb_search.specs.InternalSearching.{IsSearching, SearchValue, roles_in}
 use Rattle.fb_search.proofs.BegunSearches.{kept_limits, touches_first, touches_second}
 use Rattle.fb_search.proofs.EndedParts.{part_after}
 use Rattle.fb_search.proofs.EndedWays.{boundary_match}

@@ -26,10 +26,11 @@ use Rattle.fb_regions.specs.declared.roles.Role.TheVariants.{Plus, Minus, Out}
 use Rattle.fb_search.specs.declared.near.NearPair.{NearPair}
 use Rattle.fb_search.specs.InternalNear.{IsNearPair, alone}
 use Rattle.fb_search.specs.InternalSteps.{IsTreeOver}
-use Rattle.fb_search.specs.Meetings.{Meets}
-use Rattle.fb_search.specs.MetWalks.{IsBetween, IsMetWalk}
-use Rattle.fb_search.specs.Progress.{IsSearched, stepped_by}
-use Rattle.fb_search.specs.Searching.{IsSearching, SearchValue, roles_in}
+use Rattle.fb_search.specs.InternalTightEdges.{Meets}
+use Rattle.fb_search.specs.InternalMetWalks.{IsBetween, IsMetWalk}
+use Rattle.fb_search.specs.InternalProgress.{stepped_by}
+use Rattle.fb_search.specs.Progress.{IsSearched}
+use Rattle.fb_search.specs.InternalSearching.{IsSearching, SearchValue, roles_in}
 use Rattle.fb_search.proofs.EndedParts.{part_after}
 use Rattle.fb_search.proofs.EndedWays.{met_match}
 use Rattle.fb_search.proofs.KeptNodes.{beside_stepped}

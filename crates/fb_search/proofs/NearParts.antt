@@ -14,8 +14,8 @@ use Rattle.fb_trees.specs.Rooted.{bare}
 use Rattle.fb_search.specs.declared.near.Near.{Near}
 use Rattle.fb_search.specs.declared.near.Near.TheVariants.{Boundary, Pair}
 use Rattle.fb_search.specs.InternalNear.{IsNear, IsNearBoundary, IsNearPair, alone}
-use Rattle.fb_search.specs.Progress.{stepped_by}
-use Rattle.fb_search.specs.Searching.{IsSearching, SearchValue}
+use Rattle.fb_search.specs.InternalProgress.{stepped_by}
+use Rattle.fb_search.specs.InternalSearching.{IsSearching, SearchValue}
 use Rattle.fb_search.proofs.DissolvedStates.{even_dissolved}
 use Rattle.fb_search.proofs.SearchRoles.{no_odd_closed}
 use Rattle.fb_search.proofs.SteppedSearches.{searching_stepped}

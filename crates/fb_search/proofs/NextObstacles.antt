@@ -21,8 +21,8 @@ use Rattle.fb_half.specs.Translations.{link_by}
 use Rattle.fb_obstacles.specs.declared.obstacle.Obstacle.{Obstacle}
 use Rattle.fb_obstacles.specs.Obstacles.{HavePlusParity, IsObstacle, IsWatched, ListsMinus, Obstructs, slack_at}
 use Rattle.fb_obstacles.specs.Watched.{AreBounded, Watched}
-use Rattle.fb_search.specs.Progress.{rewatched_search}
-use Rattle.fb_search.specs.Searching.{IsSearching, SearchValue, problem_of, roles_in}
+use Rattle.fb_search.specs.InternalProgress.{rewatched_search}
+use Rattle.fb_search.specs.InternalSearching.{IsSearching, SearchValue, problem_of, roles_in}
 use Rattle.fb_search.proofs.ExchangedObstacles.{obstacle_exchanged, obstructs_exchanged}
 use Rattle.fb_search.proofs.Runs.{tree_roles}
 use Rattle.fb_search.proofs.SearchRoles.{linked_tree, minus_live, no_odd_closed, roles_in_tree}
@@ -64,7 +64,7 @@ module _ (w : SearchValue) (are : IsSearching w) where
             (plus_in_tree w.tree.root (linked_tree w) name (ap (λ l. is_in l name) plus_linked ∙ plus)),
       )
 
-  -- for the scope of the part, whose problem tells no defects
+  -- for the scope of the part, whose problem has no defects
   module _ (g : DecodingGraph) (t : PlanTree) (n : ℕ) (eg : g ≡ w.part.job.graph) (et : t ≡ w.part.job.plan) (en : n ≡ w.part.node) where
     pub next_even : HasNoOddClosed (with_defects (problem_at g t n no_shot) (leaves w.part.nodes))
     next_even =

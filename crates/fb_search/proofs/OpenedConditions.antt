@@ -27,7 +27,7 @@ use Rattle.fb_half.specs.Translations.{children_at, ring_at, ring_links}
 use Rattle.fb_trees.specs.Replacements.{MayOpen, first_node, way_of}
 use Rattle.fb_trees.specs.Rooted.{is_node}
 use Rattle.fb_search.specs.InternalOpenings.{couples_on, links_left, rest_on, second_nodes, way_on}
-use Rattle.fb_search.specs.Searching.{IsSearching, SearchValue, problem_of, unmatched_in}
+use Rattle.fb_search.specs.InternalSearching.{IsSearching, SearchValue, problem_of, unmatched_in}
 use Rattle.fb_search.proofs.Agreed.{nodes_of, on_is_in}
 use Rattle.fb_search.proofs.OpenedAlong.{couples_listed, first_is, links_parted, nodes_parted, plus_listed, way_listed, way_odd}
 use Rattle.fb_search.proofs.OpenedNames.{along_way, names-along}

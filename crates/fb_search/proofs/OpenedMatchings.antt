@@ -28,7 +28,7 @@ use Rattle.fb_trees.specs.Branches.{Grown}
 use Rattle.fb_trees.specs.Replacements.{way_of}
 use Rattle.fb_obstacles.specs.Watched.{Watched}
 use Rattle.fb_search.specs.InternalOpenings.{couples_on}
-use Rattle.fb_search.specs.Searching.{IsSearching, SearchValue, problem_of}
+use Rattle.fb_search.specs.InternalSearching.{IsSearching, SearchValue, problem_of}
 use Rattle.fb_search.proofs.Agreed.{nodes_of}
 use Rattle.fb_search.proofs.OpenedConditions.{children_are, couples_named, cycle, many, nest, not_child, parted, rest, way, way_named}
 use Rattle.fb_search.proofs.OpenedNames.{along_before, along_beside, along_way, names_opened}

@@ -10,7 +10,7 @@ use Rattle.fb_laws.specs.OpenedCycles.{PassOf, last_of, opened_branches, opened_
 use Rattle.fb_laws.specs.TreeCycles.{nodes_along}
 use Rattle.fb_laws.specs.Trees.{EntryOf, tree_names}
 
--- a branch is told by its minus node
+-- a branch is known by its minus node
 pub record IsSameBranch (newer : List (EntryOf ℕ)) (e : EntryOf ℕ) (older newer2 : List (EntryOf ℕ)) (e2 : EntryOf ℕ)
     (older2 : List (EntryOf ℕ)) : Type 0 where
   pub newer_are : newer ≡ newer2

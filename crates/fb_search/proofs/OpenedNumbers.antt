@@ -18,7 +18,7 @@ use Rattle.fb_trees.specs.Replacements.{first_node, way_of}
 use Rattle.fb_trees.proofs.Mapped.{names_moved}
 use Rattle.fb_obstacles.specs.Watched.{Watched}
 use Rattle.fb_search.specs.InternalOpenings.{couples_on, links_left}
-use Rattle.fb_search.specs.Searching.{IsSearching, SearchValue, problem_of, searched_links}
+use Rattle.fb_search.specs.InternalSearching.{IsSearching, SearchValue, problem_of, searched_links}
 use Rattle.fb_search.proofs.Linked.{rings_split}
 use Rattle.fb_search.proofs.OpenedConditions.{nest, rest, ring_parted, way, way_first}
 use Rattle.fb_search.proofs.OpenedLinks.{AreSameLinks, link_stays, links_stay}
@@ -48,7 +48,7 @@ module _ (w : SearchValue) (name : ℕ) (e : EntryOf ℕ) (above below : ℕ) (a
       (subst (λ t. AreDistinct (tree_names w.tree.root t)) has.grown.was
       (subst AreDistinct (names_moved (link_by w.part.links) w.tree.root w.tree.branches) are.state.1.search.search.names))
 
-  -- the branches along the way stand in the place of the blossom's
+  -- the branches along the way take the place of the blossom's
   pub branches_are : tree.branches ≡ opened_tree opens.branch.newer e opens.branch.older above (way_of Way)
   branches_are =
       has.grown.branches

@@ -1,4 +1,4 @@
--- Where the step of a node stands on a cycle, and the same cycle begun there or gone round in the other direction.
+-- The place of a node's step on a cycle, and the same cycle begun there or gone round in the other direction.
 use Rattle.std.proofs.Common.{ℕ, suc, ◌≡◌, ◌+◌, ◌<◌, ◌==◌, ◌||◌, Bool, true, false, List, [], ◌∷◌, ◌++◌, map, length, take, drop, reverse, get_or, refl, sym, ap, ◌∙◌, arith, if◌then◌else◌}
 use Rattle.std.proofs.lemmas.Bool.{false≢true, eqb-true}
 use Rattle.std.proofs.lemmas.List.{length-append, length-map, map-append, reverse-append}
@@ -86,7 +86,7 @@ nodes-append xs ys = map-append (λ s. s.node) xs ys
 pub links-append : (xs ys : List CycleStep) → links_of (xs ++ ys) ≡ links_of xs ++ links_of ys
 links-append xs ys = map-append (λ s. s.link) xs ys
 
--- what stands at a node's place
+-- the step at a node's place
 pub node_at_place : (cycle : List CycleStep) (name : ℕ) → is_in (nodes_of cycle) name ≡ true
     → get_or (nodes_of cycle) (place_on cycle name) 0 ≡ name
 node_at_place cycle name on =

@@ -25,7 +25,7 @@ others_tail : (r : List CycleStep) → others_of r ≡ tail_of (nodes_of r)
 others_tail [] = refl
 others_tail (s ∷ ss) = refl
 
--- the place of a name that stands after others
+-- the place of a name after others
 place_at : (cycle : List CycleStep) (name : ℕ) (xs ys : List ℕ) → nodes_of cycle ≡ xs ++ name ∷ ys → is_in xs name ≡ false
     → place_on cycle name ≡ length xs
 place_at [] name [] ys is out = absurd (let e : [] ≡ name ∷ ys = is in cc)

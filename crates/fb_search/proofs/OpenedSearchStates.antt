@@ -27,7 +27,7 @@ use Rattle.fb_trees.specs.Replacements.{way_of}
 use Rattle.fb_trees.proofs.Mapped.{opened_moved}
 use Rattle.fb_obstacles.specs.Watched.{Watched}
 use Rattle.fb_search.specs.InternalOpenings.{couples_on}
-use Rattle.fb_search.specs.Searching.{IsSearching, SearchValue, problem_of, state_at}
+use Rattle.fb_search.specs.InternalSearching.{IsSearching, SearchValue, problem_of, state_at}
 use Rattle.fb_search.proofs.OpenedConditions.{rest, way}
 use Rattle.fb_search.proofs.OpenedLinks.{entries_same, links_same, ring_among}
 use Rattle.fb_search.proofs.OpenedNumbers.{after, branches_are, links_kept}

@@ -9,8 +9,8 @@ use Rattle.fb_laws.specs.Trees.{EntryOf}
 use Rattle.fb_trees.specs.Branches.{Grown}
 use Rattle.fb_obstacles.specs.Obstacles.{slack_at}
 use Rattle.fb_obstacles.specs.Watched.{Watched}
-use Rattle.fb_search.specs.Progress.{GoesOn}
-use Rattle.fb_search.specs.Searching.{IsSearching, SearchValue, problem_of}
+use Rattle.fb_search.specs.InternalProgress.{GoesOn}
+use Rattle.fb_search.specs.InternalSearching.{IsSearching, SearchValue, problem_of}
 use Rattle.fb_search.proofs.Agreed.{agreed_split}
 use Rattle.fb_search.proofs.KeptBounds.{bounded_still}
 use Rattle.fb_search.proofs.KeptNodes.{beside_split}

@@ -17,7 +17,7 @@ use Rattle.fb_half.specs.Translations.{cycles_by, entry_by, link_by}
 use Rattle.fb_trees.specs.Replacements.{way_of}
 use Rattle.fb_trees.specs.TreeLinks.{map_pass}
 use Rattle.fb_search.specs.InternalOpenings.{couples_on, place_on, round_on}
-use Rattle.fb_search.specs.Searching.{IsSearching, SearchValue, problem_of, state_at}
+use Rattle.fb_search.specs.InternalSearching.{IsSearching, SearchValue, problem_of, state_at}
 use Rattle.fb_search.proofs.Agreed.{nodes_of}
 use Rattle.fb_search.proofs.OpenedAlong.{couples_is, from_is, steps_within, to_is, way_is}
 use Rattle.fb_search.proofs.OpenedConditions.{above_on, below_on, children_are, cycle, many, odd, rest, way}

@@ -20,7 +20,7 @@ use Rattle.fb_trees.specs.Replacements.{way_of}
 use Rattle.fb_obstacles.specs.Obstacles.{IsWatched}
 use Rattle.fb_obstacles.specs.Watched.{Watched}
 use Rattle.fb_search.specs.InternalOpenings.{second_nodes}
-use Rattle.fb_search.specs.Searching.{IsSearching, SearchValue, problem_of, roles_in}
+use Rattle.fb_search.specs.InternalSearching.{IsSearching, SearchValue, problem_of, roles_in}
 use Rattle.fb_search.proofs.Agreed.{nodes_of}
 use Rattle.fb_search.proofs.BegunSearches.{touches_first, touches_second}
 use Rattle.fb_search.proofs.KeptWatches.{IsWatchedAt}

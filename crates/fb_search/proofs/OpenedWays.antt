@@ -45,7 +45,7 @@ couples_are f (s ∷ []) l = refl
 couples_are f (s ∷ t ∷ ss) l =
     ap (λ c. record { first = s.node; link = f s.link; second = t.node } ∷ c) (couples_are f ss (f t.link))
 
--- what stands after the way
+-- the steps after the way
 later_nodes : (before : List CycleStep) (s : CycleStep) (after : List CycleStep)
     → drop (suc (length before)) (nodes_of (before ++ s ∷ after)) ≡ nodes_of after
 later_nodes [] s after = refl
@@ -140,7 +140,7 @@ round_links before s after even rest =
     on : List ℕ
     on = grown_on (way_of (before ++ s ∷ [])) ++ matched_on (way_of (before ++ s ∷ []))
 
--- what is read where the node's step stands an even number of steps on
+-- what is read if the node's step is an even number of steps on
 module _ (r : List CycleStep) (name : ℕ) (at : IsPlacedOn r name) (on : length at.before % 2 ≡ 0) where
   pub placed_nodes : nodes_of r ≡ nodes_of (way_on r name) ++ nodes_of (rest_on r name)
   placed_nodes =

@@ -9,7 +9,7 @@ use Rattle.fb_graph.proofs.Members.{is_in-append}
 use Rattle.fb_graph.proofs.Sets.{is_in-head}
 use Rattle.fb_regions.specs.Listed.{back_from, listed_before}
 use Rattle.fb_obstacles.specs.Watched.{Watched}
-use Rattle.fb_search.specs.Watching.{Enters, Watches}
+use Rattle.fb_search.specs.InternalWatching.{Enters, Watches}
 use Rattle.fb_search.proofs.StepPairs.{watched_none}
 use Rattle.fb_search.proofs.WatchSteps.{watched_more}
 

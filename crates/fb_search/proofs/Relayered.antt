@@ -24,7 +24,7 @@ use Rattle.fb_laws.specs.StateMoves.{relayered_state}
 use Rattle.fb_laws.specs.TreeCycles.{nodes_along}
 use Rattle.fb_obstacles.specs.Obstacles.{IsWatched, slack_at}
 use Rattle.fb_obstacles.specs.Watched.{AreBounded, Watched}
-use Rattle.fb_search.specs.Searching.{IsSearching, SearchValue, problem_of, roles_in, state_at}
+use Rattle.fb_search.specs.InternalSearching.{IsSearching, SearchValue, problem_of, roles_in, state_at}
 use Rattle.fb_graph.proofs.Nodes.{All-right}
 use Rattle.fb_laws.proofs.LayeredSearches.{cover_kept, connects_kept}
 

@@ -1,4 +1,4 @@
--- A search that ends at a node that was matched to the boundary: the node is matched with the tree in the place of it.
+-- A search that ends at a node that was matched to the boundary: the node is matched with the tree instead.
 use Rattle.std.proofs.Common.{ℕ, ◌≡◌, ◌||◌, ◌⊎◌, inl, inr, cond, true, false, All, Bool, List, [], ◌∷◌, ◌++◌, map, Option, None, is_some, refl, sym, ap, subst, ◌∙◌, option_to_list}
 use Rattle.std.specs.List.Sorted.{IsPermutation}
 use Rattle.std.proofs.lemmas.Bool.{both_ways, cases_eq, eq-eqb, ne_eqb}
@@ -22,7 +22,7 @@ use Rattle.fb_search.specs.declared.attaching.Met.{Met}
 use Rattle.fb_search.specs.InternalEndings.{Forgets, all_matches, ended_matches}
 use Rattle.fb_search.specs.InternalMeetings.{HasMet, IsBoundaryMatch, rematched_search}
 use Rattle.fb_search.specs.Progress.{IsSearched}
-use Rattle.fb_search.specs.Searching.{SearchValue, problem_of, searched_links, state_at}
+use Rattle.fb_search.specs.InternalSearching.{SearchValue, problem_of, searched_links, state_at}
 use Rattle.fb_search.proofs.DroppedLinks.{dropped_live, dropped_once}
 use Rattle.fb_search.proofs.EndedCases.{links_counted}
 use Rattle.fb_search.proofs.EndedMatches.{AreTaken}
@@ -174,7 +174,7 @@ module _ (w : SearchValue) (met : Met) (now : SearchValue) (h : HasMet w met now
         (IsPermutation-map (link_by w.part.links) _ _ (IsPermutation-map (λ (m : Match). m.link) _ _ h.matches)) leaves virtual
         h.was.state.1)
 
-    -- The part at the end, and what of it is promised.
+    -- The part at the end, and what is promised for it.
     pub part_released : (mid new : Table) (m : MatchingValue) → Removes now.part.links mid met.taken.link
         → Forgets (links_dropped now.tree.branches met.plus) mid new
         → m ≡ record { matches = all_matches rest.matches now.tree.branches met.plus out_match; unmatched = rest.unmatched }

@@ -1,4 +1,4 @@
--- A search whose tree is given up, seen from where it began.
+-- A search whose tree is given up, from its beginning.
 use Rattle.std.proofs.Common.{ℕ, ◌≡◌, ◌+◌, ◌-◌, ◌*◌, ◌%◌, ◌<◌, true, Some, Option, None, refl, sym, ap, ◌∙◌, subst, arith}
 use Rattle.fb_graph.specs.Parity.{is_in}
 use Rattle.fb_graph.specs.Problem.{Problem, with_defects}
@@ -18,8 +18,8 @@ use Rattle.fb_obstacles.specs.Obstacles.{IsFree}
 use Rattle.fb_obstacles.specs.Watched.{Watched}
 use Rattle.fb_search.specs.InternalRounds.{HasEvenRoot, IsDissolved, IsGivenUp, IsLeft, IsRootPotential}
 use Rattle.fb_search.specs.InternalRuns.{HasBegun}
-use Rattle.fb_search.specs.Progress.{stepped_by}
-use Rattle.fb_search.specs.Searching.{IsSearching, SearchValue, problem_of, roles_in}
+use Rattle.fb_search.specs.InternalProgress.{stepped_by}
+use Rattle.fb_search.specs.InternalSearching.{IsSearching, SearchValue, problem_of, roles_in}
 use Rattle.fb_search.proofs.KeptNodes.{beside_stepped}
 use Rattle.fb_search.proofs.Runs.{ends, tree_roles}
 use Rattle.fb_search.proofs.SearchRoles.{exclusive, plus_live, roles_in_tree}
@@ -83,7 +83,7 @@ given_up w k after watched are is = record {
   count = rw is.unmatched refl;
 }
 
--- it has ended, seen from where it began
+-- it has ended, from its beginning
 pub left_on : (root room : ℕ) (work after : PartValue) (w : SearchValue) (left : Option ℕ) → HasBegun root work room w
     → IsLeft w.tree.root w.part after left → IsLeft root work after left
 left_on root room work after w None begun is = ends root room work after w begun is

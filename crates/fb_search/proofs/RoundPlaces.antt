@@ -1,4 +1,4 @@
--- The nodes of a cycle are those of it gone round from one of them, in either direction; and the link of a node's step.
+-- A cycle gone round from one of its nodes, in either direction, has the same nodes; and the link of a node's step.
 use Rattle.std.proofs.Common.{ℕ, suc, ◌≡◌, ◌+◌, ◌==◌, ◌%◌, ◌||◌, Bool, true, false, List, [], ◌∷◌, ◌++◌, get_or, drop, take, reverse, refl, sym, ap, ◌∙◌, if◌then◌else◌, arith}
 use Rattle.std.proofs.Math.Bool.{or_comm}
 use Rattle.std.proofs.lemmas.Bool.{false≢true}

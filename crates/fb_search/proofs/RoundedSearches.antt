@@ -28,8 +28,8 @@ use Rattle.fb_trees.proofs.Mapped.{plus_moved}
 use Rattle.fb_half.specs.Parts.{kept_links}
 use Rattle.fb_half.specs.Translations.{entry_by, link_by, link_of}
 use Rattle.fb_obstacles.specs.Obstacles.{IsZeroDefect}
-use Rattle.fb_search.specs.Progress.{GoesOn}
-use Rattle.fb_search.specs.Searching.{IsSearching, IsSearchingBeside, SearchValue, problem_of, relinked_search, state_at}
+use Rattle.fb_search.specs.InternalProgress.{GoesOn}
+use Rattle.fb_search.specs.InternalSearching.{IsSearching, IsSearchingBeside, SearchValue, problem_of, relinked_search, state_at}
 use Rattle.fb_search.proofs.MadeLinks.{link_made}
 use Rattle.fb_search.proofs.RoundedLinks.{AreRounded, links_rounded}
 use Rattle.fb_search.proofs.StepWalks.{walk_there}

@@ -14,8 +14,9 @@ use Rattle.fb_laws.proofs.SearchStates.{search_roles}
 use Rattle.fb_trees.proofs.Mapped.{plus_moved, minus_moved}
 use Rattle.fb_half.specs.Parts.{PartValue, problem_in}
 use Rattle.fb_half.specs.Translations.{entry_by, link_by}
-use Rattle.fb_search.specs.Searching.{IsSearching, SearchValue, problem_of, state_at}
-use Rattle.fb_search.specs.Progress.{GoesOn, HasAdvanced, IsSamePart, IsSearched, to_do}
+use Rattle.fb_search.specs.InternalSearching.{IsSearching, SearchValue, problem_of, state_at}
+use Rattle.fb_search.specs.InternalProgress.{GoesOn, HasAdvanced, to_do}
+use Rattle.fb_search.specs.Progress.{IsSamePart, IsSearched}
 use Rattle.fb_search.specs.InternalRuns.{HasBegun, rank_left}
 
 pub lower_trans : (xs ys zs : List ℕ) → IsLower xs ys → IsLower ys zs → IsLower xs zs

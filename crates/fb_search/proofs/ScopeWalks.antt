@@ -1,4 +1,4 @@
--- A scope tells no defects. What is told of walks over it is so of the part's own problem.
+-- The problem of a scope has no defects. What holds of walks over it holds for the part's own problem.
 use Rattle.std.proofs.Common.{ℕ, ◌≡◌, ◌≢◌, ◌⊎◌, inl, inr, List, [], ◌∷◌, Some, true, refl, sym, ap, ◌∙◌, subst}
 use Rattle.std.proofs.lemmas.List.Elements.{All-weaker}
 use Rattle.fb_graph.specs.Components.{Leads}
@@ -18,7 +18,7 @@ use Rattle.fb_regions.specs.Walks.{IsStep}
 use Rattle.fb_half.specs.Parts.{AreStepsOf, PartValue, problem_in, shot_of}
 use Rattle.fb_half.specs.Translations.{link_of}
 use Rattle.fb_half.specs.Values.{IsScopeOf}
-use Rattle.fb_search.specs.MetWalks.{IsBetween, IsMetWalk, IsOut, IsOutWalk, IsTightWalk}
+use Rattle.fb_search.specs.InternalMetWalks.{IsBetween, IsMetWalk, IsOut, IsOutWalk, IsTightWalk}
 use Rattle.fb_search.proofs.BegunSearches.{same_scope}
 use Rattle.fb_laws.proofs.SearchTrees.{connects_sym}
 
@@ -85,7 +85,7 @@ between_them p nodes k u v a b is at_u at_v apart = by is.leads
       apart = λ e. apart (sym e);
     })
 
--- the problem as the scope tells it
+-- the problem of the scope
 abbrev pub scoped : NodeScope → Problem
 scoped s = problem_at s.graph.now s.plan.now s.node no_shot
 

@@ -9,7 +9,7 @@ use Rattle.fb_graph.proofs.Members.{is_in-append}
 use Rattle.fb_links.specs.declared.cycle.CycleStep.{CycleStep}
 use Rattle.fb_obstacles.specs.Watched.{Watched}
 use Rattle.fb_search.specs.InternalOpenings.{between_on, couples_on, second_nodes}
-use Rattle.fb_search.specs.Watching.{Watches}
+use Rattle.fb_search.specs.InternalWatching.{Watches}
 
 -- two elements more
 two_more : {X : Type 0} (xs : List X) (i : ℕ) (d : X) → i + 1 < length xs

@@ -28,8 +28,8 @@ use Rattle.fb_half.specs.Translations.{entry_by, link_by}
 use Rattle.fb_obstacles.specs.Obstacles.{IsWatched}
 use Rattle.fb_plan.specs.Plans.{PlanTree, problem_at}
 use Rattle.fb_search.specs.InternalSteps.{IsTreeOver}
-use Rattle.fb_search.specs.Progress.{stepped_by}
-use Rattle.fb_search.specs.Searching.{IsSearching, SearchValue, problem_of, roles_in, state_at}
+use Rattle.fb_search.specs.InternalProgress.{stepped_by}
+use Rattle.fb_search.specs.InternalSearching.{IsSearching, SearchValue, problem_of, roles_in, state_at}
 use Rattle.fb_search.proofs.KeptBounds.{bounded_stepped}
 use Rattle.fb_search.proofs.Relayered.{agreed_relayered, ring_relayered}
 use Rattle.fb_search.proofs.Runs.{roles_by_numbers, tree_roles}
@@ -144,7 +144,7 @@ length_fits w k are after may =
     (ap (passes roles.is_minus) cover ∙ (tree_roles w are).exclusive w.tree.root plus) (ap (passes roles.is_plus) cover ∙ plus) in
     omega (arith, least, height-le (problem_of w) (stepped_nodes roles k w.part.nodes) d after.state.1.search.nest)
 
--- The scope of the part tells no defects, which a step doesn't ask for.
+-- The problem of the part's scope has no defects; a step doesn't ask for them.
 pub tree_in_scope : (w : SearchValue) (g : DecodingGraph) (t : PlanTree) (n : ℕ) → g ≡ w.part.job.graph
     → IsTreeOver (problem_of w) w.tree w.part.nodes → IsTreeOver (problem_at g t n no_shot) w.tree w.part.nodes
 tree_in_scope w g t n eg over =

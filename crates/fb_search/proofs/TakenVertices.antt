@@ -26,9 +26,9 @@ use Rattle.fb_trees.proofs.Mapped.{plus_moved}
 use Rattle.fb_half.specs.Translations.{link_by}
 use Rattle.fb_obstacles.specs.Obstacles.{IsAbsorb, IsWatched, slack_at, residue_of}
 use Rattle.fb_obstacles.specs.Watched.{Watched}
-use Rattle.fb_search.specs.Progress.{GoesOn}
-use Rattle.fb_search.specs.Searching.{IsSearching, SearchValue, problem_of, roles_in, state_at}
-use Rattle.fb_search.specs.Watching.{WatchesTaken}
+use Rattle.fb_search.specs.InternalProgress.{GoesOn}
+use Rattle.fb_search.specs.InternalSearching.{IsSearching, SearchValue, problem_of, roles_in, state_at}
+use Rattle.fb_search.specs.InternalWatching.{WatchesTaken}
 use Rattle.fb_search.proofs.BegunSearches.{touches_first, touches_second}
 use Rattle.fb_search.proofs.KeptNodes.{beside_taller}
 use Rattle.fb_search.proofs.LeftEdges.{watched_at, watched_elsewhere}

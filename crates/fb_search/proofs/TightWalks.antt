@@ -24,7 +24,7 @@ use Rattle.fb_regions.specs.Moves.{IsOver, IsSourceWalk, IsWalkFrom}
 use Rattle.fb_regions.specs.Walks.{IsStep}
 use Rattle.fb_half.specs.Parts.{AreStepsOf}
 use Rattle.fb_half.specs.Translations.{link_of}
-use Rattle.fb_search.specs.MetWalks.{IsAlong, IsBetween, IsMetWalk, IsOut, IsOutWalk}
+use Rattle.fb_search.specs.InternalMetWalks.{IsAlong, IsBetween, IsMetWalk, IsOut, IsOutWalk}
 use Rattle.fb_search.proofs.TakenVertices.{ends_told}
 use Rattle.fb_search.proofs.SourceSteps.{edges_back, steps_real, walk_under}
 use Rattle.fb_search.proofs.StepWalks.{turned_steps}

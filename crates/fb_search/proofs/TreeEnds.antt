@@ -1,5 +1,4 @@
--- Where a tree meets the boundary or an unmatched node: what the calls that end the search ask for, and that a part is
--- left.
+-- A tree meets the boundary or an unmatched node: what the calls that end the search ask for, and that a part is left.
 use Rattle.std.proofs.Common.{ℕ, ◌≡◌, ◌≢◌, ◌⊎◌, inl, inr, true, All, List, [], ◌∷◌, ◌++◌, map, refl, sym, ap, ◌∙◌, subst, append-nil}
 use Rattle.std.specs.List.Sorted.{IsPermutation}
 use Rattle.std.proofs.lemmas.Bool.{false≢true}
@@ -23,10 +22,10 @@ use Rattle.fb_half.specs.Parts.{IsPart}
 use Rattle.fb_half.specs.Matchings.{matched_names, names_of}
 use Rattle.fb_half.specs.Translations.{entry_by, link_by, ring_links}
 use Rattle.fb_search.specs.InternalEndings.{Forgets, ended_matches}
-use Rattle.fb_search.specs.Meetings.{LeadsOut, Meets}
-use Rattle.fb_search.specs.MetWalks.{IsMetWalk, IsOut, IsOutWalk, IsTightWalk}
+use Rattle.fb_search.specs.InternalTightEdges.{LeadsOut, Meets}
+use Rattle.fb_search.specs.InternalMetWalks.{IsMetWalk, IsOut, IsOutWalk, IsTightWalk}
 use Rattle.fb_search.specs.Progress.{IsSearched}
-use Rattle.fb_search.specs.Searching.{IsSearching, SearchValue, problem_of, roles_in, searched_links}
+use Rattle.fb_search.specs.InternalSearching.{IsSearching, SearchValue, problem_of, roles_in, searched_links}
 use Rattle.fb_search.proofs.DroppedLinks.{dropped_live, dropped_once}
 use Rattle.fb_search.proofs.EndedCases.{links_counted, taken_at_boundary, taken_with}
 use Rattle.fb_search.proofs.EndedLinks.{names_listed}

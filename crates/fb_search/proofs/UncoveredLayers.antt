@@ -21,8 +21,8 @@ use Rattle.fb_laws.proofs.StateMoves.{state_uncovered}
 use Rattle.fb_trees.proofs.Mapped.{minus_moved}
 use Rattle.fb_half.specs.Translations.{link_by}
 use Rattle.fb_obstacles.specs.Obstacles.{IsWatched}
-use Rattle.fb_search.specs.Progress.{GoesOn}
-use Rattle.fb_search.specs.Searching.{IsSearching, SearchValue, problem_of, roles_in, state_at}
+use Rattle.fb_search.specs.InternalProgress.{GoesOn}
+use Rattle.fb_search.specs.InternalSearching.{IsSearching, SearchValue, problem_of, roles_in, state_at}
 use Rattle.fb_search.proofs.KeptNodes.{beside_lower}
 use Rattle.fb_search.proofs.Relayered.{relayered_by, searching_relayered}
 use Rattle.fb_search.proofs.Runs.{roles_by_numbers}

@@ -12,7 +12,7 @@ use Rattle.fb_trees.specs.Branches.{Grown}
 use Rattle.fb_trees.specs.Rooted.{role_in}
 use Rattle.fb_obstacles.specs.Watched.{Watched}
 use Rattle.fb_search.specs.InternalClosings.{WatchesMinus}
-use Rattle.fb_search.specs.Watching.{Enters, Watches}
+use Rattle.fb_search.specs.InternalWatching.{Enters, Watches}
 use Rattle.fb_search.proofs.KeptBounds.{bounded_entered, with_edge}
 use Rattle.fb_graph.proofs.Floods.{is_in-left}
 

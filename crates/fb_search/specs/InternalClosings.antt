@@ -1,4 +1,4 @@
--- What becomes of the watch and of the unmatched nodes where a cycle of a tree becomes a blossom.
+-- What becomes of the watch and of the unmatched nodes as a cycle of a tree becomes a blossom.
 use Rattle.std.specs.Prelude.{ℕ, ◌≡◌, ◌<◌, true, List, ◌∷◌, length}
 use Rattle.std.specs.List.Sorted.{IsPermutation}
 use Rattle.fb_graph.specs.Parity.{is_in}

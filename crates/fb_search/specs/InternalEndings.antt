@@ -1,4 +1,4 @@
--- What becomes of a tree's links where a search ends: which nodes they match then, and which are forgotten.
+-- What becomes of a tree's links as a search ends: which nodes they match then, and which are forgotten.
 use Rattle.std.specs.Prelude.{ℕ, List, [], ◌∷◌, ◌++◌, map, Option, Some, None, if◌then◌else◌, ◌≡◌}
 use Rattle.fb_graph.specs.Parity.{is_in}
 use Rattle.fb_laws.specs.Trees.{EntryOf, branches_beside, path_to}
@@ -6,7 +6,7 @@ use Rattle.fb_links.specs.declared.walk.Step.{Step}
 use Rattle.fb_links.specs.Table.{link_at}
 use Rattle.fb_half.specs.declared.matches.Match.{Match}
 
--- a branch on the path to where the search ends: its parent is matched with its minus node by the link of the tree
+-- a branch on the path to the node at which the search ends: its parent is matched with its minus node by the tree's link
 abbrev pub path_match : EntryOf ℕ → Match
 path_match e = record { link = e.tree; first = e.parent; second = Some e.minus }
 
@@ -18,7 +18,7 @@ beside_match e = record { link = e.matched; first = e.minus; second = Some e.plu
 abbrev pub ended_matches : List (EntryOf ℕ) → ℕ → List Match
 ended_matches tree name = map path_match (path_to tree name) ++ map beside_match (branches_beside tree name)
 
--- what is matched where the search has ended: kept matches, those made of the tree, and the one that ends it
+-- all matches once the search has ended: kept ones, those made of the tree, and the one that ends it
 abbrev pub all_matches : List Match → List (EntryOf ℕ) → ℕ → Match → List Match
 all_matches kept tree name out = kept ++ (ended_matches tree name ++ out ∷ [])
 

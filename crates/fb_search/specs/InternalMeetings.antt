@@ -6,8 +6,8 @@ use Rattle.fb_links.specs.Table.{Adds}
 use Rattle.fb_half.specs.declared.matches.Match.{Match}
 use Rattle.fb_trees.specs.Rooted.{IsPlus}
 use Rattle.fb_search.specs.declared.attaching.Met.{Met}
-use Rattle.fb_search.specs.MetWalks.{IsMetWalk}
-use Rattle.fb_search.specs.Searching.{IsSearching, SearchValue, problem_of}
+use Rattle.fb_search.specs.InternalMetWalks.{IsMetWalk}
+use Rattle.fb_search.specs.InternalSearching.{IsSearching, SearchValue, problem_of}
 
 -- the match is that of these two nodes
 abbrev pub IsCouple : Match → ℕ → ℕ → Type 0
@@ -23,7 +23,7 @@ rematched_search links matches w = record w {
   part = record w.part { links = links; matching = record { matches = matches; unmatched = w.part.matching.unmatched } };
 }
 
--- What has become of the search where its plus node has met the other node.
+-- What has become of the search once its plus node has met the other node.
 pub record HasMet (w : SearchValue) (met : Met) (now : SearchValue) : Type 0 where
   pub was : IsSearching w
   -- all but the links and matches is as it was

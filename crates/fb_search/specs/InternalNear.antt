@@ -16,7 +16,7 @@ use Rattle.fb_search.specs.declared.near.NearPair.{NearPair}
 use Rattle.fb_search.specs.declared.near.Around.{Around}
 use Rattle.fb_search.specs.declared.near.Reach.{Reach}
 
--- the roles where this node alone grows
+-- the roles by which this node alone grows
 abbrev pub alone : ℕ → Roles
 alone name = roles_of {L = ℕ} name []
 
@@ -101,8 +101,8 @@ abbrev pub IsNear : Problem → List Node → List ℕ → ℕ → Near → Type
 IsNear p nodes unmatched root (Boundary edge growth) = IsNearBoundary p nodes root edge growth
 IsNear p nodes unmatched root (Pair pair) = IsNearPair p nodes unmatched root pair
 
--- how much of the residue of an edge between two defects the other one takes: an even length within its room, so much that
--- the first one's part is within its room too
+-- how much of the residue of an edge between two defects the other one takes: an even length within its room that leaves
+-- the first one's part within its own room
 pub record IsShare (residue room other_room share : ℕ) : Type 0 where
   pub even : share % 2 ≡ 0
   pub part : share ≤ residue

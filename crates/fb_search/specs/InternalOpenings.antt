@@ -1,4 +1,4 @@
--- The steps of a blossom's cycle as they are read where it is opened.
+-- The steps of a blossom's cycle as they are read when it is opened.
 use Rattle.std.specs.Prelude.{ℕ, ◌≡◌, ◌≢◌, ◌+◌, ◌==◌, ◌%◌, true, List, [], ◌∷◌, ◌++◌, drop, take, reverse, Some, if◌then◌else◌}
 use Rattle.fb_graph.specs.Moves.{MaySplit, split_nodes}
 use Rattle.fb_graph.specs.Nests.{IsNest}
@@ -12,7 +12,7 @@ use Rattle.fb_half.specs.Parts.{AreAgreed, PartValue, problem_in}
 use Rattle.fb_half.specs.Translations.{link_by}
 use Rattle.fb_trees.specs.TreeSteps.{step}
 
--- the place of the node's step; the number of all steps where it has none
+-- the place of the node's step; the number of all steps if it has none
 abbrev pub place_on : List CycleStep → ℕ → ℕ
 place_on [] name = 0
 place_on (s ∷ ss) name = if s.node == name then 0 else 1 + place_on ss name

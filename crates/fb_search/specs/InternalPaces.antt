@@ -3,11 +3,11 @@ use Rattle.std.specs.Prelude.{ℕ, ◌≡◌}
 use Rattle.fb_graph.specs.Steps.{MayStep}
 use Rattle.fb_search.specs.declared.rounds.Bounded.{Bounded}
 use Rattle.fb_search.specs.declared.rounds.Turn.{Turn}
-use Rattle.fb_search.specs.declared.rounds.Turn.TheVariants.{Cleared, Spent, Stands}
+use Rattle.fb_search.specs.declared.rounds.Turn.TheVariants.{Cleared, Spent, Blocked}
 use Rattle.fb_search.specs.InternalRounds.{HasEvenRoot, IsLeft}
 use Rattle.fb_search.specs.InternalTurns.{BlocksTree, HasStepped}
-use Rattle.fb_search.specs.Progress.{HasAdvanced, IsRewatched, stepped_by}
-use Rattle.fb_search.specs.Searching.{SearchValue, problem_of, roles_in}
+use Rattle.fb_search.specs.InternalProgress.{HasAdvanced, IsRewatched, stepped_by}
+use Rattle.fb_search.specs.InternalSearching.{SearchValue, problem_of, roles_in}
 
 -- The search has ended, or is given up.
 pub record IsEndedWithin (before : SearchValue) (bounded : Bounded) : Type 0 where
@@ -24,4 +24,4 @@ pub record IsSpent (before now : SearchValue) (left : ℕ) : Type 0 where
 abbrev pub HasTurned : SearchValue → SearchValue → ℕ → Turn → Type 0
 HasTurned before now left Cleared = HasAdvanced before now
 HasTurned before now left Spent = IsSpent before now left
-HasTurned before now left (Stands obstacle) = BlocksTree now obstacle × HasStepped before now
+HasTurned before now left (Blocked obstacle) = BlocksTree now obstacle × HasStepped before now

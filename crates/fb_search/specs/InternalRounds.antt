@@ -7,7 +7,7 @@ use Rattle.fb_regions.specs.Moves.{node_named}
 use Rattle.fb_half.specs.Parts.{PartValue}
 use Rattle.fb_obstacles.specs.Watched.{Watched}
 use Rattle.fb_search.specs.Progress.{AreKept, IsSamePart, IsSearched}
-use Rattle.fb_search.specs.Searching.{SearchValue}
+use Rattle.fb_search.specs.InternalSearching.{SearchValue}
 
 -- the potential of a vertex under the root
 abbrev pub IsRootPotential : SearchValue → ℕ → Type 0
@@ -42,8 +42,8 @@ abbrev pub steps_with : Option ℕ → ℕ → ℕ
 steps_with None steps = steps + 1
 steps_with (Some name) steps = steps
 
--- Searches from each of the roots that was still unmatched in its turn, with the counter before and after them, where some
--- were given up and left these names. Any other node that is unmatched then was so before, is none of the roots, and is as it
+-- Searches from each of the roots that was still unmatched in its turn, with the counter before and after them. Some were
+-- given up and left these names. Any other node that is unmatched then was so before, is none of the roots, and is as it
 -- was. The searches that are counted are at most as many as the roots without those left, and as the nodes that are no longer
 -- unmatched, and at least half as many as the latter.
 pub record HasSearchedSome (before : PartValue) (roots : List ℕ) (old new : ℕ) (left : List ℕ) (after : PartValue) : Type 0 where

@@ -5,8 +5,9 @@ use Rattle.fb_laws.specs.PartBounds.{search_rank}
 use Rattle.fb_laws.specs.Trees.{roles_of}
 use Rattle.fb_laws.specs.Works.{names_without}
 use Rattle.fb_half.specs.Parts.{PartValue}
-use Rattle.fb_search.specs.Searching.{SearchValue, problem_of, unmatched_in}
-use Rattle.fb_search.specs.Progress.{AreKept, IsSamePart, unmatched_beside}
+use Rattle.fb_search.specs.InternalSearching.{SearchValue, problem_of, unmatched_in}
+use Rattle.fb_search.specs.InternalProgress.{unmatched_beside}
+use Rattle.fb_search.specs.Progress.{AreKept, IsSamePart}
 
 -- a search of the part that began at the root
 pub record HasBegun (root : ℕ) (work : PartValue) (room : ℕ) (w : SearchValue) : Type 0 where

@@ -1,14 +1,14 @@
 ghost use Rattle.std.specs.Prelude.{◌≡◌, IfOk, IfSome, MatchOption};
 ghost use Rattle.fb_obstacles.specs.Obstacles.{IsObstacle, Obstructs};
 ghost use Rattle.fb_obstacles.specs.declared.obstacle.Obstacle.TheVariants as Obstacle;
-ghost use Rattle.fb_search.specs.Progress.{GoesOn, HasAdvanced, IsRewatched};
-ghost use Rattle.fb_search.specs.Searching.{problem_of, roles_in};
+ghost use Rattle.fb_search.specs.InternalProgress.{GoesOn, HasAdvanced, IsRewatched};
+ghost use Rattle.fb_search.specs.InternalSearching.{problem_of, roles_in};
 ghost use Rattle.fb_search.specs.InternalTurns.{BlocksTree, HasStepped};
-ghost use Rattle.fb_search.specs.Went.{HasCleared};
+ghost use Rattle.fb_search.specs.InternalOutcomes.{HasCleared};
 
+use crate::outcome::Outcome;
 use crate::roles::TreeRoles;
 use crate::searching::Searching;
-use crate::went::Went;
 use fb_graph::{NoMemory, Steps};
 use fb_half::Standing;
 use fb_obstacles::{Obstacle, next_obstacle_by_bounds, obstacle_at};
@@ -32,8 +32,8 @@ pub(crate) enum TreeObstacle {
 }
 
 impl<'a> Searching<'a> {
-    /// Removes what stands in the way of the tree; where nothing does, the tree steps first. An obstacle that only a change
-    /// of the tree or the end of the search removes is returned.
+    /// Removes the obstacle in the tree's way; if there is none, the tree steps first, as far as it may. Returns an obstacle
+    /// that only a change of the tree or the end of the search removes.
     pub(crate) fn turn<L: Ledger>(&mut self, looks: &mut Steps<L>) -> Option<TreeObstacle>
         ensures { MatchOption result (HasAdvanced self.old self.new)
             (λ left. BlocksTree self.new left × HasStepped self.old self.new) }
@@ -43,8 +43,8 @@ impl<'a> Searching<'a> {
         self.remove(obstacle)
     }
 
-    /// What stands in the way of the tree, or how far it may step. Raises the bounds of the edges that are looked at, and
-    /// watches those no longer that it finds inside one outer node.
+    /// The obstacle in the tree's way, or how far the tree may step. Raises the bounds of the edges that it looks at, and
+    /// no longer watches those that it finds inside one outer node.
     pub(crate) fn next<L: Ledger>(&mut self, looks: &mut Steps<L>) -> Obstacle
         ensures obstacle { IsObstacle (problem_of self.new) (roles_in self.new) self.new.part.nodes result }
         ensures same { IsRewatched self.old self.new }
@@ -69,7 +69,7 @@ impl<'a> Searching<'a> {
         )
     }
 
-    /// What stands in the way of the tree after the step that it may take, if nothing stood there before.
+    /// The obstacle that was found; or the one in the tree's way after the step, if a step was found.
     pub(crate) fn step_past<L: Ledger>(&mut self, found: Obstacle, looks: &mut Steps<L>) -> Obstacle
         requires { IsObstacle (problem_of self.old) (roles_in self.old) self.old.part.nodes found }
         ensures obstacle { Obstructs (problem_of self.new) (roles_in self.new) self.new.part.nodes result }
@@ -88,7 +88,7 @@ impl<'a> Searching<'a> {
         }
     }
 
-    /// Removes the obstacle if the tree stays as it is, or else returns it.
+    /// Removes the obstacle if that leaves the tree as it is, or else returns it.
     pub(crate) fn remove(&mut self, obstacle: Obstacle) -> Option<TreeObstacle>
         requires { Obstructs (problem_of self.old) (roles_in self.old) self.old.part.nodes obstacle }
         ensures { MatchOption result (GoesOn self.old self.new)
@@ -113,24 +113,28 @@ impl<'a> Searching<'a> {
     }
 
     /// Changes the tree or ends the search, which removes the obstacle.
-    pub(crate) fn clear(self, alloc: Global, obstacle: TreeObstacle) -> Result<Went<'a>, NoMemory>
+    pub(crate) fn clear(
+        self,
+        alloc: Global,
+        obstacle: TreeObstacle,
+    ) -> Result<Outcome<'a>, NoMemory>
         requires { BlocksTree self obstacle }
         ensures { IfOk result (HasCleared self.entry) }
     {
         match obstacle {
             TreeObstacle::Boundary(edge) => {
                 let (work, scratch) = self.end_at_boundary(alloc, edge)?;
-                Ok(Went::Ended(work, scratch))
+                Ok(Outcome::Ended(work, scratch))
             }
             TreeObstacle::Meet(edge) => self.meet(alloc, edge),
-            TreeObstacle::PlusPair(edge) => Ok(Went::On(self.close(alloc, edge)?)),
-            TreeObstacle::BlossomEmpty(node) => Ok(Went::On(self.open(alloc, node)?)),
-            TreeObstacle::ZeroMinus(node) => Ok(Went::On(self.round(alloc, node)?)),
+            TreeObstacle::PlusPair(edge) => Ok(Outcome::On(self.close(alloc, edge)?)),
+            TreeObstacle::BlossomEmpty(node) => Ok(Outcome::On(self.open(alloc, node)?)),
+            TreeObstacle::ZeroMinus(node) => Ok(Outcome::On(self.round(alloc, node)?)),
         }
     }
 
     /// The tree meets a node outside it over the edge.
-    fn meet(self, alloc: Global, edge: u32) -> Result<Went<'a>, NoMemory>
+    fn meet(self, alloc: Global, edge: u32) -> Result<Outcome<'a>, NoMemory>
         requires { Obstructs (problem_of self) (roles_in self) self.part.nodes (Obstacle.Meet edge) }
         ensures { IfOk result (HasCleared self.entry) }
     {
@@ -138,7 +142,7 @@ impl<'a> Searching<'a> {
         match self.parts.matching.standing(other) {
             Standing::Unmatched(_) => {
                 let (work, scratch) = self.end_at_unmatched(alloc, edge, plus, other)?;
-                Ok(Went::Ended(work, scratch))
+                Ok(Outcome::Ended(work, scratch))
             }
             _ => self.meet_matched(alloc, edge, plus, other),
         }

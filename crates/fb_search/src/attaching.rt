@@ -3,17 +3,17 @@ ghost use Rattle.fb_graph.specs.Parity.{is_in};
 ghost use Rattle.fb_half.specs.Matchings.{matched_names, names_of};
 ghost use Rattle.fb_half.specs.Values.{HasScope};
 ghost use Rattle.fb_search.specs.InternalMeetings.{HasMet, IsBoundaryMatch, IsCouple};
-ghost use Rattle.fb_search.specs.Meetings.{Meets};
-ghost use Rattle.fb_search.specs.Progress.{EndsWith, GoesOn};
-ghost use Rattle.fb_search.specs.Searching.{SearchValue, search_of};
-ghost use Rattle.fb_search.specs.Went.{HasCleared};
+ghost use Rattle.fb_search.specs.InternalTightEdges.{Meets};
+ghost use Rattle.fb_search.specs.InternalProgress.{EndsWith, GoesOn};
+ghost use Rattle.fb_search.specs.InternalSearching.{SearchValue, search_of};
+ghost use Rattle.fb_search.specs.InternalOutcomes.{HasCleared};
 
 use crate::ending::{forget_tree, match_tree};
+use crate::outcome::Outcome;
 use crate::scratch::Scratch;
 use crate::searching::{Pieces, Searching};
 use crate::walks::met_walk;
 use crate::watched::watch_node;
-use crate::went::Went;
 use fb_graph::{NoMemory, Scope};
 use fb_half::{Match, Work};
 use fb_regions::NodeId;
@@ -38,17 +38,17 @@ impl<'a> Searching<'a> {
         edge: u32,
         plus: NodeId,
         other: NodeId,
-    ) -> Result<Went<'a>, NoMemory>
+    ) -> Result<Outcome<'a>, NoMemory>
         requires meets { Meets self edge plus other }
         requires matched { is_in (matched_names self.part.matching.matches) other ≡ true }
         ensures { IfOk result (HasCleared self.entry) }
     {
         let (pieces, met) = self.link_to(alloc, edge, plus, other)?;
         match mate_of(met.taken, met.other) {
-            Some(mate) => Ok(Went::On(attach(alloc, pieces, met, mate)?)),
+            Some(mate) => Ok(Outcome::On(attach(alloc, pieces, met, mate)?)),
             None => {
                 let (work, scratch) = release(alloc, pieces, met)?;
-                Ok(Went::Ended(work, scratch))
+                Ok(Outcome::Ended(work, scratch))
             }
         }
     }

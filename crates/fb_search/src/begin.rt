@@ -1,7 +1,7 @@
 ghost use Rattle.std.specs.Prelude.{◌≡◌, true, IfOk, length};
 ghost use Rattle.fb_graph.specs.Parity.{is_in};
 ghost use Rattle.fb_half.specs.Parts.{problem_in};
-ghost use Rattle.fb_search.specs.Progress.{IsBegunAt};
+ghost use Rattle.fb_search.specs.InternalProgress.{IsBegunAt};
 
 use crate::scratch::Scratch;
 use crate::searching::Searching;
@@ -14,7 +14,7 @@ use std::alloc::Global;
 
 impl<'a> Searching<'a> {
     /// The search whose tree is the root alone. It watches the edges at the root, and no others.
-    pub fn begin(
+    pub(crate) fn begin(
         _alloc: Global,
         work: Work<'a>,
         scratch: Scratch,

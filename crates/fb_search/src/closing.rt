@@ -10,8 +10,8 @@ ghost use Rattle.fb_trees.specs.Rooted.{IsPlus};
 ghost use Rattle.fb_obstacles.specs.Obstacles.{Obstructs};
 ghost use Rattle.fb_obstacles.specs.declared.obstacle.Obstacle.TheVariants.{PlusPair};
 ghost use Rattle.fb_search.specs.InternalClosings.{IsReplacedBy, WatchesMinus};
-ghost use Rattle.fb_search.specs.Progress.{GoesOn};
-ghost use Rattle.fb_search.specs.Searching.{IsSearchingBeside, problem_of, roles_in, search_of};
+ghost use Rattle.fb_search.specs.InternalProgress.{GoesOn};
+ghost use Rattle.fb_search.specs.InternalSearching.{IsSearchingBeside, problem_of, roles_in, search_of};
 
 use crate::searching::{Pieces, Searching};
 use crate::walks::met_walk;
@@ -24,7 +24,7 @@ use fb_trees::{CycleStep, LinkId, Tree};
 use std::alloc::Global;
 
 impl<'a> Searching<'a> {
-    /// Two plus nodes meet over the edge: with the paths to them from where these part they become a blossom.
+    /// Two plus nodes meet over the edge: they become a blossom, with the paths to them from their last common node.
     pub(crate) fn close(self, alloc: Global, edge: u32) -> Result<Searching<'a>, NoMemory>
         requires { Obstructs (problem_of self) (roles_in self) self.part.nodes (PlusPair edge) }
         ensures { IfOk result (GoesOn self.entry) }
@@ -109,7 +109,7 @@ fn replace_unmatched(
     Ok(())
 }
 
-/// Watches the edges at the minus nodes among these, whose vertices are to be under a plus node.
+/// Watches the edges at the minus nodes among these, since a plus node is about to hold their vertices.
 fn watch_minus<S: Scope>(watch: &mut Watch, regions: &Regions<S>, tree: &Tree, nodes: &[NodeId])
     requires live { All (λ n. is_live regions.now.nodes n ≡ true) nodes.now }
     requires room { watch.old.edge_count ≡ length (S.problem regions.now.scope).edges }

@@ -14,7 +14,7 @@ use fb_regions::NodeId;
 use fb_trees::{Branch, Tree};
 use std::alloc::Global;
 
-/// The matches of the tree's nodes where a search ends at the plus node: of all of them but this node.
+/// The matches of the tree's nodes when a search ends at the plus node: of all of them but this node.
 pub(crate) fn matches_at_end(
     alloc: Global,
     tree: &Tree,
@@ -58,7 +58,7 @@ fn beside_matches(alloc: Global, others: &[Branch]) -> Result<Vec<Match>, NoMemo
         .collect(alloc)
 }
 
-/// The links of the tree that match no node where a search ends at the plus node.
+/// The links of the tree that match no node when a search ends at the plus node.
 pub(crate) fn links_at_end(
     alloc: Global,
     tree: &Tree,
@@ -115,8 +115,8 @@ pub(crate) fn forget_all(links: &mut Links, gone: &[LinkId])
     }
 }
 
-/// Matches all nodes of the tree: by its links where a search ends at the first node of this match, and this node by
-/// the match itself.
+/// Matches all nodes of the tree as a search ends at the first node of this match: this node by the match itself, and the
+/// others by links of the tree.
 pub(crate) fn match_tree(
     alloc: Global,
     matching: &mut Matching,
@@ -132,7 +132,7 @@ pub(crate) fn match_tree(
     add_matches(alloc, matching, &matches)
 }
 
-/// Removes the links of the tree that match no node where a search ends at the plus node.
+/// Removes the links of the tree that match no node when a search ends at the plus node.
 pub(crate) fn forget_tree(
     alloc: Global,
     links: &mut Links,

@@ -2,9 +2,9 @@ ghost use Rattle.std.specs.Prelude.{◌≡◌, true, IfOk};
 ghost use Rattle.fb_graph.specs.Parity.{is_in};
 ghost use Rattle.fb_obstacles.specs.Obstacles.{Obstructs};
 ghost use Rattle.fb_obstacles.specs.declared.obstacle.Obstacle.TheVariants.{Boundary};
-ghost use Rattle.fb_search.specs.Meetings.{Meets};
-ghost use Rattle.fb_search.specs.Progress.{EndsWith};
-ghost use Rattle.fb_search.specs.Searching.{problem_of, roles_in, unmatched_in};
+ghost use Rattle.fb_search.specs.InternalTightEdges.{Meets};
+ghost use Rattle.fb_search.specs.InternalProgress.{EndsWith};
+ghost use Rattle.fb_search.specs.InternalSearching.{problem_of, roles_in, unmatched_in};
 
 use crate::ending::{forget_tree, match_tree};
 use crate::scratch::Scratch;

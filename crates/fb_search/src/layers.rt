@@ -3,8 +3,8 @@ ghost use Rattle.fb_graph.specs.Problem.{edge_at};
 ghost use Rattle.fb_regions.specs.Moves.{outer_end};
 ghost use Rattle.fb_obstacles.specs.Obstacles.{Obstructs};
 ghost use Rattle.fb_obstacles.specs.declared.obstacle.Obstacle.TheVariants.{Absorb, LayerEmpty};
-ghost use Rattle.fb_search.specs.Searching.{problem_of, roles_in};
-ghost use Rattle.fb_search.specs.Progress.{GoesOn};
+ghost use Rattle.fb_search.specs.InternalSearching.{problem_of, roles_in};
+ghost use Rattle.fb_search.specs.InternalProgress.{GoesOn};
 
 use crate::searching::Searching;
 use crate::watched::watch_taken;
@@ -12,7 +12,7 @@ use fb_graph::Scope;
 use fb_plan::NodeScope;
 use fb_regions::{NodeId, Regions};
 
-/// The end of the edge that no node holds, where a node holds the other one.
+/// The end of the edge that no node holds, if a node holds the other end.
 fn free_end<S: Scope>(scope: &S, regions: &Regions<S>, edge: u32) -> u32
     requires { edge < length (S.problem scope.now).edges }
     ensures { result ≡ outer_end regions.now.nodes (edge_at (S.problem scope.now).edges edge) }
@@ -28,7 +28,7 @@ fn free_end<S: Scope>(scope: &S, regions: &Regions<S>, edge: u32) -> u32
 impl Searching<'_> {
     /// The plus node absorbs the vertex to which the tight edge leads. The edges of the vertex are watched from now on,
     /// but for those that lead to other vertices of the node.
-    pub fn absorb(&mut self, edge: u32)
+    pub(crate) fn absorb(&mut self, edge: u32)
         requires { Obstructs (problem_of self.old) (roles_in self.old) self.old.part.nodes (Absorb edge) }
         ensures { GoesOn self.old self.new }
     {
@@ -45,8 +45,8 @@ impl Searching<'_> {
         watch.keeps();
     }
 
-    /// The empty top layer of the minus node is taken off. The edges that lead to its last vertex are watched already.
-    pub fn uncover(&mut self, node: NodeId)
+    /// Removes the empty top layer of the minus node. The edges that lead to its last vertex are watched already.
+    pub(crate) fn uncover(&mut self, node: NodeId)
         requires { Obstructs (problem_of self.old) (roles_in self.old) self.old.part.nodes (LayerEmpty node) }
         ensures { GoesOn self.old self.new }
     {

@@ -5,29 +5,26 @@
 
 mod advancing;
 mod attaching;
-pub mod begin;
+mod begin;
 mod closing;
 mod dissolving;
 mod ending;
 mod ends;
-pub mod layers;
+mod layers;
 mod met;
 mod near;
 mod near_ends;
 mod opening;
-pub mod roles;
+mod outcome;
+mod roles;
 mod rounding;
 mod rounds;
 pub mod scratch;
 pub mod searches;
-pub mod searching;
+mod searching;
 mod stepping;
 mod walks;
-pub mod watched;
-pub mod went;
+mod watched;
 
-pub use roles::TreeRoles;
 pub use scratch::Scratch;
 pub use searches::{search, search_each, search_each_from, search_from};
-pub use searching::Searching;
-pub use went::Went;

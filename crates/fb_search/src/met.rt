@@ -3,8 +3,8 @@ ghost use Rattle.fb_graph.specs.Problem.{edge_at};
 ghost use Rattle.fb_graph.specs.Dual.{cover_of};
 ghost use Rattle.fb_obstacles.specs.Obstacles.{Obstructs};
 ghost use Rattle.fb_obstacles.specs.declared.obstacle.Obstacle.TheVariants.{Boundary, Meet, PlusPair};
-ghost use Rattle.fb_search.specs.Meetings.{IsPairOver, LeadsOut, Meets};
-ghost use Rattle.fb_search.specs.Searching.{problem_of, roles_in};
+ghost use Rattle.fb_search.specs.InternalTightEdges.{IsPairOver, LeadsOut, Meets};
+ghost use Rattle.fb_search.specs.InternalSearching.{problem_of, roles_in};
 
 use crate::searching::Searching;
 use fb_graph::Scope;

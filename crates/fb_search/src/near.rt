@@ -23,7 +23,7 @@ pub(crate) struct Reach {
     pub(crate) far_potential: u64,
     /// The outer node that holds this vertex, if any.
     pub(crate) other: Option<NodeId>,
-    /// Its residue.
+    /// Its residue: its weight without the potentials of its ends.
     pub(crate) length: u64,
 }
 
@@ -151,7 +151,7 @@ fn is_nearer(reach: Reach, best: Option<Reach>) -> bool
     }
 }
 
-/// What was found, where a further edge is the best one.
+/// What was found, once a further edge is the best one.
 fn with_best(around: Around, reach: Reach) -> Around
     ensures { result ≡ with_best around reach }
 {
@@ -229,8 +229,8 @@ fn room_beside<S: Scope>(regions: &Regions<S>, v: u32, potential: u64, far: u32)
     room
 }
 
-/// How much of the residue of an edge between two single defects the other one takes, about half of it; none where no
-/// even length leaves both within their room.
+/// How much of the residue of an edge between two single defects the other one takes, about half of the residue; none if
+/// no even length leaves both within their room.
 fn share(residue: u64, room: u64, other_room: u64) -> Option<u64>
     ensures { IfSome result (IsShare residue room other_room) }
 {

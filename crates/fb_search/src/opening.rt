@@ -5,9 +5,9 @@ ghost use Rattle.fb_half.specs.Values.{part_of};
 ghost use Rattle.fb_obstacles.specs.Obstacles.{Obstructs};
 ghost use Rattle.fb_obstacles.specs.declared.obstacle.Obstacle.TheVariants.{BlossomEmpty};
 ghost use Rattle.fb_search.specs.InternalOpenings.{EndsAtChild, MayEnter, between_on, couples_on, even_on, links_left, place_on, rest_on, round_on, second_nodes, turned_on, way_on};
-ghost use Rattle.fb_search.specs.Progress.{GoesOn};
-ghost use Rattle.fb_search.specs.Searching.{problem_of, roles_in};
-ghost use Rattle.fb_search.specs.Watching.{Watches};
+ghost use Rattle.fb_search.specs.InternalProgress.{GoesOn};
+ghost use Rattle.fb_search.specs.InternalSearching.{problem_of, roles_in};
+ghost use Rattle.fb_search.specs.InternalWatching.{Watches};
 
 use crate::ending::{add_matches, forget_all};
 use crate::searching::Searching;

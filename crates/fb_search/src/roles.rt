@@ -6,8 +6,8 @@ use fb_trees::Tree;
 
 /// The roles that a tree gives to nodes, with its minus nodes listed, the newest first.
 #[derive(Clone, Copy)]
-pub struct TreeRoles<'a> {
-    pub tree: &'a Tree,
+pub(crate) struct TreeRoles<'a> {
+    pub(crate) tree: &'a Tree,
 }
 
 impl Roles for TreeRoles<'_> {

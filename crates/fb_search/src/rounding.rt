@@ -1,8 +1,8 @@
 ghost use Rattle.std.specs.Prelude.{◌≡◌, IfOk};
 ghost use Rattle.fb_obstacles.specs.Obstacles.{Obstructs};
 ghost use Rattle.fb_obstacles.specs.declared.obstacle.Obstacle.TheVariants.{ZeroMinus};
-ghost use Rattle.fb_search.specs.Progress.{GoesOn};
-ghost use Rattle.fb_search.specs.Searching.{problem_of, roles_in};
+ghost use Rattle.fb_search.specs.InternalProgress.{GoesOn};
+ghost use Rattle.fb_search.specs.InternalSearching.{problem_of, roles_in};
 
 use crate::closing::close_cycle;
 use crate::searching::{Pieces, Searching};

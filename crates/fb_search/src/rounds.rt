@@ -5,14 +5,14 @@ ghost use Rattle.fb_graph.specs.Steps.{MayStep};
 ghost use Rattle.fb_half.specs.Parts.{problem_in};
 ghost use Rattle.fb_search.specs.InternalPaces.{HasTurned, IsEndedWithin};
 ghost use Rattle.fb_search.specs.InternalRounds.{HasEvenRoot, HasSearchedSome, IsLeft, steps_with};
-ghost use Rattle.fb_search.specs.Progress.{stepped_by};
-ghost use Rattle.fb_search.specs.Searching.{problem_of, roles_in};
+ghost use Rattle.fb_search.specs.InternalProgress.{stepped_by};
+ghost use Rattle.fb_search.specs.InternalSearching.{problem_of, roles_in};
 
 use crate::advancing::TreeObstacle;
 use crate::near_ends::{match_near, near_in};
+use crate::outcome::Outcome;
 use crate::scratch::Scratch;
 use crate::searching::Searching;
-use crate::went::Went;
 use fb_graph::{NoMemory, Scope, Steps};
 use fb_half::{Standing, Work};
 use fb_obstacles::Obstacle;
@@ -21,7 +21,7 @@ use std::alloc::Global;
 use std::marker::Brand;
 use std::sync::ledger::{Blank, Ledger};
 
-/// How many rounds of bounded searches there are at most. The limit doubles from one to the next.
+/// The most rounds of bounded searches. The limit doubles from one round to the next.
 const ROUNDS: u32 = 4;
 
 /// A part after a search whose tree may be given up.
@@ -33,15 +33,15 @@ pub(crate) struct Bounded<'a> {
     pub(crate) left: Option<NodeId>,
 }
 
-/// What stands in the way of a tree that has a limit.
+/// What a turn of a tree with a limit comes to.
 #[derive(Clone, Copy)]
 pub(crate) enum Turn {
-    /// No obstacle that stood there.
+    /// The obstacle in its way is removed.
     Cleared,
-    /// Its limit: it may grow by the length that is left, and is given up then.
+    /// Its limit is reached: it may grow by the length that is left, and is then given up.
     Spent,
-    /// This obstacle.
-    Stands(TreeObstacle),
+    /// This obstacle is in its way. Only a change of the tree or the end of the search removes it.
+    Blocked(TreeObstacle),
 }
 
 /// A part after a round of bounded searches.
@@ -54,9 +54,9 @@ pub(crate) struct Round<'a> {
 }
 
 impl<'a> Searching<'a> {
-    /// Removes what stands in the way of the tree; where nothing does, the tree steps first, which leaves less of the length
-    /// by which it may grow. A tree that would grow by more than is left is to be given up, if the root's potential is even
-    /// after that.
+    /// Removes the obstacle in the tree's way; if there is none, the tree steps first, by which less is left of the length
+    /// that it may grow by. A tree that would grow by more than is left is to be given up, if the root's potential is even
+    /// once it has grown by what is left.
     fn turn_within<L: Ledger>(&mut self, left: &mut u64, looks: &mut Steps<L>) -> Turn
         ensures { HasTurned self.old self.new left.new result }
     {
@@ -71,7 +71,7 @@ impl<'a> Searching<'a> {
         let obstacle = self.step_past(found, looks);
         match self.remove(obstacle) {
             None => Turn::Cleared,
-            Some(obstacle) => Turn::Stands(obstacle),
+            Some(obstacle) => Turn::Blocked(obstacle),
         }
     }
 
@@ -116,14 +116,14 @@ fn finish_within<'a, L: Ledger>(
                 continue;
             }
             Turn::Spent => return search.give_up(alloc, left),
-            Turn::Stands(obstacle) => obstacle,
+            Turn::Blocked(obstacle) => obstacle,
         };
         match search.clear(alloc, obstacle)? {
-            Went::On(next) => {
+            Outcome::On(next) => {
                 next.keeps();
                 search = next;
             }
-            Went::Ended(work, scratch) => {
+            Outcome::Ended(work, scratch) => {
                 return Ok(Bounded {
                     work,
                     scratch,
@@ -134,9 +134,9 @@ fn finish_within<'a, L: Ledger>(
     }
 }
 
-/// Searches from the root until it is matched or its tree is given up: where that would grow by more than the root's
-/// first limit times this factor, if the root's potential is even then. Counts one step if the root is matched, or else
-/// none.
+/// Searches from the root until it is matched or its tree is given up. The tree is given up when it would grow by more
+/// than the root's first limit times this factor, if the root's potential is even then. Counts one step if the root is
+/// matched, or else none.
 fn search_within<'a, L: Ledger>(
     alloc: Global,
     work: Work<'a>,
@@ -229,8 +229,8 @@ fn push_left(left: &mut Vec<NodeId>, name: Option<NodeId>) -> Result<(), NoMemor
     Ok(())
 }
 
-/// Rounds of searches from these nodes, each with twice the limits of the one before, until no root is left unmatched or
-/// the last round is over. So close nodes are matched before a tree grows over many vertices.
+/// Rounds of searches from these nodes, each with twice the limits of the one before, until no root is left unmatched, at
+/// most `ROUNDS` of them. So close nodes are matched before a tree grows over many vertices.
 pub(crate) fn search_rounds<'a, L: Ledger>(
     alloc: Global,
     work: Work<'a>,

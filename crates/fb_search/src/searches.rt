@@ -1,13 +1,14 @@
 ghost use Rattle.std.specs.Prelude.{◌≡◌, ◌+◌, ◌*◌, ◌<◌, ◌≤◌, ℕ, true, false, IfOk, OnErr, length};
 ghost use Rattle.fb_graph.specs.Parity.{is_in};
 ghost use Rattle.fb_half.specs.Parts.{problem_in};
-ghost use Rattle.fb_search.specs.Progress.{EndsWith, HasSearchedEach, IsSearched};
+ghost use Rattle.fb_search.specs.InternalProgress.{EndsWith};
+ghost use Rattle.fb_search.specs.Progress.{HasSearchedEach, IsSearched};
 
 use crate::near_ends::{match_near, near_in};
+use crate::outcome::Outcome;
 use crate::rounds::{Round, search_rounds};
 use crate::scratch::Scratch;
 use crate::searching::Searching;
-use crate::went::Went;
 use fb_graph::{NoMemory, Steps};
 use fb_half::{Standing, Work};
 use fb_plan::NodeScope;
@@ -18,7 +19,7 @@ use std::sync::ledger::{Blank, Ledger};
 
 /// Matches the root: at once if it is a single defect and one of its edges leads to the boundary or to another single
 /// defect and may become tight, else by a tree that grows from it until it meets the boundary or a node that can be
-/// matched with its root (Edmonds 1965). Counts one step, or none where memory runs out. The unmatched nodes after it
+/// matched with its root (Edmonds 1965). Counts one step, or none if memory runs out. The unmatched nodes after it
 /// are those before, without the root and without at most one other node.
 pub fn search<'a, L: Ledger>(
     alloc: Global,
@@ -36,7 +37,7 @@ pub fn search<'a, L: Ledger>(
     Ok(work)
 }
 
-/// The same with scratch space that is lent and given back, so that one serves many searches.
+/// The same as `search`, with scratch space that is lent and returned, so that one serves many searches.
 pub fn search_from<'a, L: Ledger>(
     alloc: Global,
     work: Work<'a>,
@@ -56,7 +57,7 @@ pub fn search_from<'a, L: Ledger>(
     Ok(ended)
 }
 
-/// Matches the root: at once where that is possible, else by a tree that grows from it.
+/// Matches the root: at once if that is possible, else by a tree that grows from it.
 fn match_root<'a>(
     alloc: Global,
     work: Work<'a>,
@@ -95,11 +96,11 @@ fn finish<'a, L: Ledger>(
             continue;
         };
         match search.clear(alloc, obstacle)? {
-            Went::On(next) => {
+            Outcome::On(next) => {
                 next.keeps();
                 search = next;
             }
-            Went::Ended(work, scratch) => return Ok((work, scratch)),
+            Outcome::Ended(work, scratch) => return Ok((work, scratch)),
         }
     }
 }
@@ -122,7 +123,7 @@ pub fn search_each<'a, L: Ledger>(
     Ok(work)
 }
 
-/// The same with scratch space that is lent and given back, so that one serves many parts of a graph.
+/// The same as `search_each`, with scratch space that is lent and returned, so that one serves many parts of a graph.
 pub fn search_each_from<'a, L: Ledger>(
     alloc: Global,
     work: Work<'a>,

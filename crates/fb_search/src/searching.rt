@@ -4,16 +4,16 @@ use fb_trees::Tree;
 use std::marker::Model;
 
 /// A search while its tree grows (Edmonds 1965): the pieces of the half-solved part that it works on, the alternating
-/// tree, and the edges that it looks at. A step that may take memory takes the search and gives it back, so that nothing is
-/// left half done where memory runs out; any other changes it in place.
+/// tree, and the edges that it looks at. A step that may take memory takes the search by value and returns it, so that no
+/// half-done search is left if memory runs out. Any other step changes it in place.
 #[derive(Drop)]
-pub struct Searching<'a> {
+pub(crate) struct Searching<'a> {
     pub(crate) parts: Parts<'a>,
     pub(crate) tree: Tree,
     pub(crate) watch: Watch,
 }
 
-/// What a search is made of, where a step has changed some of it and not yet the rest.
+/// The pieces of a search while a step has changed only some of them.
 #[derive(Drop)]
 pub(crate) struct Pieces<'a> {
     pub(crate) parts: Parts<'a>,
@@ -23,7 +23,7 @@ pub(crate) struct Pieces<'a> {
 
 impl<'a> Model for Searching<'a> {
     ghost use Rattle.fb_half.specs.Values.{HasScope, part_of};
-    ghost use Rattle.fb_search.specs.Searching.{IsSearching, SearchValue};
+    ghost use Rattle.fb_search.specs.InternalSearching.{IsSearching, SearchValue};
 
     ghost Value = { SearchValue };
 
@@ -33,10 +33,10 @@ impl<'a> Model for Searching<'a> {
 }
 
 impl<'a> Searching<'a> {
-    ghost use Rattle.fb_search.specs.Searching.{IsSearching};
+    ghost use Rattle.fb_search.specs.InternalSearching.{IsSearching};
 
     /// Does nothing. Its clause says what every search keeps.
-    pub fn keeps(&self)
+    pub(crate) fn keeps(&self)
         ensures { IsSearching self.now }
     {
         let _tree = &self.tree;

@@ -2,8 +2,8 @@ ghost use Rattle.std.specs.Prelude.{◌≡◌};
 ghost use Rattle.fb_graph.specs.Steps.{MayStep, stepped_nodes};
 ghost use Rattle.fb_laws.specs.Trees.{roles_of};
 ghost use Rattle.fb_search.specs.InternalSteps.{IsTreeOver};
-ghost use Rattle.fb_search.specs.Progress.{stepped_by};
-ghost use Rattle.fb_search.specs.Searching.{problem_of, roles_in};
+ghost use Rattle.fb_search.specs.InternalProgress.{stepped_by};
+ghost use Rattle.fb_search.specs.InternalSearching.{problem_of, roles_in};
 
 use crate::searching::Searching;
 use fb_graph::Scope;
@@ -11,8 +11,8 @@ use fb_regions::Regions;
 use fb_trees::Tree;
 
 impl Searching<'_> {
-    /// Each minus node shrinks by this length, and then each plus node grows by it. The bounds of residues fall by twice
-    /// as much: a residue falls by the length at each end that is under a plus node.
+    /// Each minus node shrinks by this length, and then each plus node grows by it. The bounds fall by twice as much: the
+    /// slack of an edge falls by at most that.
     pub(crate) fn step(&mut self, length: u64)
         requires { MayStep (problem_of self.old) (roles_in self.old) self.old.part.nodes length }
         ensures { self.new ≡ stepped_by length self.old }

@@ -3,7 +3,7 @@
 ghost use Rattle.std.specs.Prelude.{◌≡◌, ◌++◌, ◌<◌, ℕ, length, IfOk, OnOk};
 ghost use Rattle.fb_links.specs.Walks.{turned_walk};
 ghost use Rattle.fb_regions.specs.Moves.{IsOver};
-ghost use Rattle.fb_search.specs.MetWalks.{IsAlong, IsBetween, IsMetWalk, IsOut, IsOutWalk};
+ghost use Rattle.fb_search.specs.InternalMetWalks.{IsAlong, IsBetween, IsMetWalk, IsOut, IsOutWalk};
 
 use fb_graph::{NoMemory, Scope};
 use fb_regions::{Regions, Step, Walk};

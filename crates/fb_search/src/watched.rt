@@ -2,7 +2,7 @@ ghost use Rattle.std.specs.Prelude.{◌≡◌, ◌<◌, true, [], ◌∷◌, All
 ghost use Rattle.fb_graph.specs.Problem.{edge_at};
 ghost use Rattle.fb_graph.specs.Dual.{is_live, top_at};
 ghost use Rattle.fb_obstacles.specs.InnerEdges.{is_inner, is_one_node};
-ghost use Rattle.fb_search.specs.Watching.{Enters, Watches, WatchesOuter, WatchesTaken};
+ghost use Rattle.fb_search.specs.InternalWatching.{Enters, Watches, WatchesOuter, WatchesTaken};
 
 use fb_graph::Scope;
 use fb_obstacles::Watch;
@@ -20,7 +20,7 @@ fn enter_all(watch: &mut Watch, edges: &[u32])
 }
 
 /// Watches the edges at all vertices of the node, the last vertex first. Takes time for each of them, and no memory.
-pub fn watch_node<S: Scope>(watch: &mut Watch, scope: &S, regions: &Regions<S>, node: NodeId)
+pub(crate) fn watch_node<S: Scope>(watch: &mut Watch, scope: &S, regions: &Regions<S>, node: NodeId)
     requires same { S.problem regions.now.scope ≡ S.problem scope.now }
     requires live { is_live regions.now.nodes node ≡ true }
     requires room { watch.old.edge_count ≡ length (S.problem scope.now).edges }
@@ -70,7 +70,7 @@ fn watch_outer<S: Scope>(watch: &mut Watch, scope: &S, regions: &Regions<S>, edg
 
 /// Watches the edges at a vertex that an outer node has absorbed. Those that lead to another vertex of that node are
 /// watched no longer. The slacks of others may be half of what they were, since a node holds the vertex now.
-pub fn watch_taken<S: Scope>(watch: &mut Watch, scope: &S, regions: &Regions<S>, v: u32)
+pub(crate) fn watch_taken<S: Scope>(watch: &mut Watch, scope: &S, regions: &Regions<S>, v: u32)
     requires room { watch.old.edge_count ≡ length (S.problem scope.now).edges }
     requires below { v < (S.problem scope.now).vertices }
     ensures { WatchesTaken (S.problem scope.now) regions.now.nodes v watch.old watch.new }

@@ -6,10 +6,10 @@ use Rattle.fb_graph.specs.Limits.{DecodingGraph, ShotValue}
 use Rattle.fb_shots.specs.declared.answer.Format.{Format}
 use Rattle.fb_shots.specs.declared.answer.Kind.{Kind}
 use Rattle.fb_shots.specs.declared.answer.Kind.TheVariants.{TooManyShots, InputTooLong}
-use Rattle.fb_shots.specs.Shots.{Ending, still_open, refused, Shots, only, in_front, capped_shots}
+use Rattle.fb_shots.specs.Shots.{Ending, still_open, refused, Shots, only, with_first_shot, capped_shots}
 use Rattle.fb_shots.specs.Formats.{records_of, prefix_of}
-use Rattle.fb_shots.specs.Sources.{Source}
-use Rattle.fb_shots.specs.Answers.{Gives, Refuses}
+use Rattle.fb_shots.specs.InternalSources.{Source}
+use Rattle.fb_shots.specs.InternalAnswers.{Gives, Refuses}
 use Rattle.fb_shots.specs.Streams.{cut_off, within_room, Stream, follows}
 
 -- ---- at most so many shots
@@ -17,17 +17,17 @@ use Rattle.fb_shots.specs.Streams.{cut_off, within_room, Stream, follows}
 pub capped_only : (n : ℕ) (ending : Ending) → capped_shots n (only ending) ≡ only ending
 capped_only n ending = cond-true (nat_le 0 n) _ _ (le-leb 0 n (omega arith))
 
-pub capped_shot : (n : ℕ) (shot : ShotValue) (r : Shots) → capped_shots (suc n) (in_front shot r) ≡ in_front shot (capped_shots n r)
+pub capped_shot : (n : ℕ) (shot : ShotValue) (r : Shots) → capped_shots (suc n) (with_first_shot shot r) ≡ with_first_shot shot (capped_shots n r)
 capped_shot n shot r = elim (cases_lt n (length r.shots)) [
   | inl over ↦
       cond-false (nat_le (length (shot ∷ r.shots)) (suc n)) _ _ (lt-leb (length (shot ∷ r.shots)) (suc n) (omega arith))
-      ∙ sym (ap (in_front shot) (cond-false (nat_le (length r.shots) n) _ _ (lt-leb (length r.shots) n over)))
+      ∙ sym (ap (with_first_shot shot) (cond-false (nat_le (length r.shots) n) _ _ (lt-leb (length r.shots) n over)))
   | inr fits ↦
       cond-true (nat_le (length (shot ∷ r.shots)) (suc n)) _ _ (le-leb (length (shot ∷ r.shots)) (suc n) (omega arith))
-      ∙ sym (ap (in_front shot) (cond-true (nat_le (length r.shots) n) _ _ (le-leb (length r.shots) n fits)))
+      ∙ sym (ap (with_first_shot shot) (cond-true (nat_le (length r.shots) n) _ _ (le-leb (length r.shots) n fits)))
 ]
 
-pub capped_none : (shot : ShotValue) (r : Shots) → capped_shots 0 (in_front shot r) ≡ only (refused TooManyShots)
+pub capped_none : (shot : ShotValue) (r : Shots) → capped_shots 0 (with_first_shot shot r) ≡ only (refused TooManyShots)
 capped_none shot r = cond-false (nat_le (length (shot ∷ r.shots)) 0) _ _ (lt-leb (length (shot ∷ r.shots)) 0 (omega arith))
 
 -- ---- at most so many bytes
@@ -52,10 +52,10 @@ held_is f g rest u left =
     ]
 
 pub held_shot : (f : Format) (g : DecodingGraph) (old new : List ℕ) (shot : ShotValue) (u : ℕ) (left : List ℕ) (finished : Bool) → finished ≡ false
-    → Gives (records_of f g) (prefix_of f g) finished old new shot → held f g old u left ≡ in_front shot (held f g new u left)
+    → Gives (records_of f g) (prefix_of f g) finished old new shot → held f g old u left ≡ with_first_shot shot (held f g new u left)
 held_shot f g old new shot u left finished still h = by_test (nat_le (length left) u) where
   by_test : (b : Bool) → (if b then records_of f g (old ++ left) else cut_off (prefix_of f g (old ++ take u left)))
-      ≡ in_front shot (if b then records_of f g (new ++ left) else cut_off (prefix_of f g (new ++ take u left)))
+      ≡ with_first_shot shot (if b then records_of f g (new ++ left) else cut_off (prefix_of f g (new ++ take u left)))
   by_test true = h.later still left
   by_test false = ap cut_off (h.onward still (take u left))
 

@@ -14,10 +14,10 @@ use Rattle.fb_shots.specs.declared.answer.Kind.{Kind}
 use Rattle.fb_shots.specs.declared.answer.Kind.TheVariants as kind
 use Rattle.fb_shots.specs.declared.answer.Format.{Format}
 use Rattle.fb_shots.specs.declared.answer.Format.TheVariants as format
-use Rattle.fb_shots.specs.Shots.{refused, Shots, only, in_front}
+use Rattle.fb_shots.specs.Shots.{refused, Shots, only, with_first_shot}
 use Rattle.fb_shots.specs.Formats.{shot_of_detectors, shot_of_vertices, of_stim, of_json, records_of, prefix_of}
-use Rattle.fb_shots.specs.Sources.{Source}
-use Rattle.fb_shots.specs.Answers.{Answers, answer_as, stim_answer, json_answer}
+use Rattle.fb_shots.specs.InternalSources.{Source}
+use Rattle.fb_shots.specs.InternalAnswers.{Answers, answer_as, stim_answer, json_answer}
 use Rattle.fb_shots.proofs.Detectors.{vertices_are_shot}
 use Rattle.fb_shots.proofs.GoingOn.{goes_on_anywhere}
 
@@ -35,7 +35,7 @@ stays_refused f g bytes more why e =
 
 -- A format's records are seen as shots: each as the shot that its numbers are, each refusal as one of this crate.
 record IsView {K : Type 0} (shot_of : List ℕ → ShotValue) (say : K → Kind) (view : Records K → Shots) : Type 0 where
-  shot : (numbers : List ℕ) (r : Records K) → view (record { shots = numbers ∷ r.shots; ending = r.ending }) ≡ in_front (shot_of numbers) (view r)
+  shot : (numbers : List ℕ) (r : Records K) → view (record { shots = numbers ∷ r.shots; ending = r.ending }) ≡ with_first_shot (shot_of numbers) (view r)
   none : (ending : AnyEnding K) → view (record { shots = []; ending = ending }) ≡ only (ending_as say ending)
 
 -- bytes hold in the format what the reader's definitions say, seen as shots
@@ -51,9 +51,9 @@ reader_right {K} {C} f g shot_of say view records prefix after old new (next.Sho
     let made : Bool → Source = λ b. record { format = f; graph = g; rest = new.rest; finished = b } in (
       record {
         shorter = h.0.shorter;
-        now = is.all old.rest ∙ ap view h.0.now ∙ v.shot numbers _ ∙ ap (in_front (shot_of numbers)) (sym (is.all new.rest));
-        later = λ still more. is.all (old.rest ++ more) ∙ ap view (h.0.later still more) ∙ v.shot numbers _ ∙ ap (in_front (shot_of numbers)) (sym (is.all (new.rest ++ more)));
-        onward = λ still more. is.open_ (old.rest ++ more) ∙ ap view (h.0.onward still more) ∙ v.shot numbers _ ∙ ap (in_front (shot_of numbers)) (sym (is.open_ (new.rest ++ more)));
+        now = is.all old.rest ∙ ap view h.0.now ∙ v.shot numbers _ ∙ ap (with_first_shot (shot_of numbers)) (sym (is.all new.rest));
+        later = λ still more. is.all (old.rest ++ more) ∙ ap view (h.0.later still more) ∙ v.shot numbers _ ∙ ap (with_first_shot (shot_of numbers)) (sym (is.all (new.rest ++ more)));
+        onward = λ still more. is.open_ (old.rest ++ more) ∙ ap view (h.0.onward still more) ∙ v.shot numbers _ ∙ ap (with_first_shot (shot_of numbers)) (sym (is.open_ (new.rest ++ more)));
       },
       shot,
       ap made (ap (λ (r : Reader C). r.finished) h.1),

@@ -8,7 +8,7 @@ use Rattle.fb_shots.specs.declared.answer.Format.{Format}
 use Rattle.fb_shots.specs.declared.answer.ShotFault.{ShotFault}
 use Rattle.fb_shots.specs.declared.answer.Step.{Step}
 use Rattle.fb_shots.specs.declared.answer.Step.TheVariants as step
-use Rattle.fb_shots.specs.Shots.{only, in_front, at_end, refused}
+use Rattle.fb_shots.specs.Shots.{only, with_first_shot, at_end, refused}
 use Rattle.fb_shots.specs.Formats.{prefix_of}
 use Rattle.fb_shots.specs.Streams.{Stream, follows}
 use Rattle.fb_shots.specs.Steps.{IfKnown, IsReadOut, IsReason, OnlyTakes, GivesShot, Ends, Refuses, FailsToRead, Answers, settled_shots}
@@ -130,14 +130,14 @@ then_gives a b c l m r shot p q =
     let limit : b.limit ≡ a.limit = ap (λ (s : Stream). s.limit) p.others in record {
       piece = p.piece ++ q.piece;
       taken = Consumes-trans l m r p.piece q.piece p.taken q.taken;
-      gives = known_then (λ x y. follows a x ≡ follows b y) (λ y z. follows b y ≡ in_front shot (follows c z))
-          (λ x z. follows a x ≡ in_front shot (follows c z)) l m r (λ x y z e f. e ∙ f) p.gives q.gives;
+      gives = known_then (λ x y. follows a x ≡ follows b y) (λ y z. follows b y ≡ with_first_shot shot (follows c z))
+          (λ x z. follows a x ≡ with_first_shot shot (follows c z)) l m r (λ x y z e f. e ∙ f) p.gives q.gives;
       holds = ap (settled_shots c) (joined_pieces a b l m q.piece p) ∙ q.holds;
       unfinished = λ still. open_before a b l m p (q.unfinished still);
       prefix = λ still more.
           ap (prefix_of a.format a.graph) (ap (λ (x : List ℕ). a.rest ++ x) (append_assoc p.piece q.piece more)
           ∙ sym (append_assoc a.rest p.piece (q.piece ++ more)) ∙ ap (λ (x : List ℕ). x ++ (q.piece ++ more)) (sym p.rest))
-          ∙ subst₂ (λ (f : Format) (g : DecodingGraph). prefix_of f g (b.rest ++ (q.piece ++ more)) ≡ in_front shot (prefix_of f g (c.rest ++ more)))
+          ∙ subst₂ (λ (f : Format) (g : DecodingGraph). prefix_of f g (b.rest ++ (q.piece ++ more)) ≡ with_first_shot shot (prefix_of f g (c.rest ++ more)))
           format graph (q.prefix still more);
       end = λ still done. read_out_by a b c l m r q.piece p q.taken (λ still. q.end still done) still;
       unread = unread_by a b l m r p q.unread;

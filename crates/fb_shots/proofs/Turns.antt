@@ -11,14 +11,14 @@ use Rattle.fb_shots.specs.declared.answer.Step.TheVariants as step
 use Rattle.fb_shots.specs.declared.reader.Next.{Next}
 use Rattle.fb_shots.specs.declared.reader.Next.TheVariants as next
 use Rattle.fb_shots.specs.declared.stream.Read.TheVariants as read
-use Rattle.fb_shots.specs.Shots.{Shots, only, in_front, at_end, still_open, refused, capped_shots}
+use Rattle.fb_shots.specs.Shots.{Shots, only, with_first_shot, at_end, still_open, refused, capped_shots}
 use Rattle.fb_shots.specs.Formats.{records_of, prefix_of}
-use Rattle.fb_shots.specs.Sources.{Source}
-use Rattle.fb_shots.specs.Answers.{Gives}
-use Rattle.fb_shots.specs.Answers as reader
-use Rattle.fb_shots.specs.Streams.{most_bytes, Stream, stream_by, stream_of, follows}
-use Rattle.fb_shots.specs.Steps.{OnlyTakes, GivesShot, Ends, IsReason, Refuses, FailsToRead, Answers, may_read}
-use Rattle.fb_shots.specs.Reads.{ReadsOn}
+use Rattle.fb_shots.specs.InternalSources.{Source, stream_by}
+use Rattle.fb_shots.specs.InternalAnswers.{Gives}
+use Rattle.fb_shots.specs.InternalAnswers as reader
+use Rattle.fb_shots.specs.Streams.{most_bytes, Stream, stream_of, follows}
+use Rattle.fb_shots.specs.Steps.{OnlyTakes, GivesShot, Ends, IsReason, Refuses, FailsToRead, Answers}
+use Rattle.fb_shots.specs.InternalReads.{may_read, ReadsOn}
 use Rattle.fb_shots.proofs.Follows.{fed, held, capped_only, capped_shot, capped_none, held_shot, held_refused, held_piece, held_long, follows_open, follows_done}
 use Rattle.fb_shots.proofs.Taking.{Left, known_same, known_taken, each_some, takes_nothing}
 
@@ -32,26 +32,26 @@ when_empty a piece u k l stopped e =
     let made : List ℕ → Stream = λ rest. fed (record a { rest = rest }) u k l stopped in
     ap made (ap (λ (p : List ℕ). a.rest ++ p) e ∙ append-nil a.rest)
 
-capped_onward : (l k : ℕ) (shot : ShotValue) (r : Shots) → k < l → capped_shots (l - k) (in_front shot r) ≡ in_front shot (capped_shots (l - (k + 1)) r)
+capped_onward : (l k : ℕ) (shot : ShotValue) (r : Shots) → k < l → capped_shots (l - k) (with_first_shot shot r) ≡ with_first_shot shot (capped_shots (l - (k + 1)) r)
 capped_onward l k shot r less =
     let one : l - k ≡ suc (l - (k + 1)) = omega arith in
-    ap (λ (n : ℕ). capped_shots n (in_front shot r)) one ∙ capped_shot (l - (k + 1)) shot r
+    ap (λ (n : ℕ). capped_shots n (with_first_shot shot r)) one ∙ capped_shot (l - (k + 1)) shot r
 
 -- ---- a shot
 
 follows_shot : (a : Source) (new : List ℕ) (shot : ShotValue) (u k l : ℕ) (left : List ℕ)
     → Gives (records_of a.format a.graph) (prefix_of a.format a.graph) a.finished a.rest new shot → k < l
-    → follows (fed a u k l None) left ≡ in_front shot (follows (fed (record a { rest = new }) u (k + 1) l None) left)
+    → follows (fed a u k l None) left ≡ with_first_shot shot (follows (fed (record a { rest = new }) u (k + 1) l None) left)
 follows_shot a new shot u k l left h less =
     let b : Source = record a { rest = new } in
     elim (cases_Bool a.finished) [
       | inl done ↦
           follows_done a u k l left done ∙ ap (capped_shots (l - k)) h.now ∙ capped_onward l k shot (records_of a.format a.graph new) less
-          ∙ ap (in_front shot) (sym (follows_done b u (k + 1) l left done))
+          ∙ ap (with_first_shot shot) (sym (follows_done b u (k + 1) l left done))
       | inr still ↦
           follows_open a u k l left still ∙ ap (capped_shots (l - k)) (held_shot a.format a.graph a.rest new shot u left a.finished still h)
           ∙ capped_onward l k shot (held a.format a.graph new u left) less
-          ∙ ap (in_front shot) (sym (follows_open b u (k + 1) l left still))
+          ∙ ap (with_first_shot shot) (sym (follows_open b u (k + 1) l left still))
     ]
 
 -- what the bytes that were fed settle
@@ -59,13 +59,13 @@ abbrev settled_by : Source → List ℕ → Shots
 settled_by a bytes = if a.finished then records_of a.format a.graph bytes else prefix_of a.format a.graph bytes
 
 settled_shot : (a : Source) (new : List ℕ) (shot : ShotValue) → Gives (records_of a.format a.graph) (prefix_of a.format a.graph) a.finished a.rest new shot
-    → settled_by a (a.rest ++ []) ≡ in_front shot (settled_by a new)
+    → settled_by a (a.rest ++ []) ≡ with_first_shot shot (settled_by a new)
 settled_shot a new shot h = by_flag a.finished refl
   where
     by_flag : (f : Bool) → a.finished ≡ f → (if f then records_of a.format a.graph (a.rest ++ []) else prefix_of a.format a.graph (a.rest ++ []))
-        ≡ in_front shot (if f then records_of a.format a.graph new else prefix_of a.format a.graph new)
+        ≡ with_first_shot shot (if f then records_of a.format a.graph new else prefix_of a.format a.graph new)
     by_flag true done = ap (records_of a.format a.graph) (append-nil a.rest) ∙ h.now
-    by_flag false still = h.onward still [] ∙ ap (λ (x : List ℕ). in_front shot (prefix_of a.format a.graph x)) (append-nil new)
+    by_flag false still = h.onward still [] ∙ ap (λ (x : List ℕ). with_first_shot shot (prefix_of a.format a.graph x)) (append-nil new)
 
 settled_refused : (a : Source) (why : Kind) → reader.Refuses (records_of a.format a.graph) (prefix_of a.format a.graph) a.finished a.rest why
     → settled_by a (a.rest ++ []) ≡ only (refused why)
@@ -80,7 +80,7 @@ gives_from : (a : Source) (new : List ℕ) (shot : ShotValue) (u k l : ℕ) (lef
 gives_from a new shot u k l left h less = record {
   piece = [];
   taken = Consumes-nil left;
-  gives = known_same (λ x y. follows (fed a u k l None) x ≡ in_front shot (follows (fed (record a { rest = new }) u (k + 1) l None) y)) left
+  gives = known_same (λ x y. follows (fed a u k l None) x ≡ with_first_shot shot (follows (fed (record a { rest = new }) u (k + 1) l None) y)) left
       (λ x. follows_shot a new shot u k l x h.0 less);
   holds = settled_shot a new shot h.0;
   unfinished = λ still. still;
@@ -135,8 +135,8 @@ follows_too_many : (a : Source) (new : List ℕ) (shot : ShotValue) (u k l : ℕ
     → follows (fed a u k l None) left ≡ only (refused TooManyShots)
 follows_too_many a new shot u k l left h full =
     let none : l - k ≡ 0 = omega arith in
-    let capped_here : (r : Shots) → capped_shots (l - k) (in_front shot r) ≡ only (refused TooManyShots) =
-    λ r. ap (λ (n : ℕ). capped_shots n (in_front shot r)) none ∙ capped_none shot r in
+    let capped_here : (r : Shots) → capped_shots (l - k) (with_first_shot shot r) ≡ only (refused TooManyShots) =
+    λ r. ap (λ (n : ℕ). capped_shots n (with_first_shot shot r)) none ∙ capped_none shot r in
     elim (cases_Bool a.finished) [
       | inl done ↦
           follows_done a u k l left done ∙ ap (capped_shots (l - k)) h.now ∙ capped_here (records_of a.format a.graph new)
@@ -151,8 +151,8 @@ turn_too_many a b shot u k l left h full =
     stops a b u u k l left TooManyShots h.2 refl (inr (inl (record { shot = shot; holds = holds; full = full; kind = refl })))
     (each_some (λ x. follows (fed a u k l None) x ≡ only (refused TooManyShots)) left (λ x. follows_too_many a b.rest shot u k l x h.0 full))
   where
-    holds : settled_by b (a.rest ++ []) ≡ in_front shot (settled_by b b.rest)
-    holds = subst (λ (s : Source). settled_by s (a.rest ++ []) ≡ in_front shot (settled_by s s.rest)) (sym h.2) (settled_shot a b.rest shot h.0)
+    holds : settled_by b (a.rest ++ []) ≡ with_first_shot shot (settled_by b b.rest)
+    holds = subst (λ (s : Source). settled_by s (a.rest ++ []) ≡ with_first_shot shot (settled_by s s.rest)) (sym h.2) (settled_shot a b.rest shot h.0)
 
 follows_refused : (a : Source) (why : Kind) (u k l : ℕ) (left : List ℕ)
     → reader.Refuses (records_of a.format a.graph) (prefix_of a.format a.graph) a.finished a.rest why

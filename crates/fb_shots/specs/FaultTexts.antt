@@ -1,4 +1,4 @@
--- What it is called, where it is printed, why a record is refused or no further one is given.
+-- The names that are printed of why a record is refused or no further one is given.
 use Rattle.std.specs.Prelude.{ℕ, List, codes}
 use Rattle.fb_shots.specs.declared.answer.Kind.{Kind}
 use Rattle.fb_shots.specs.declared.answer.Kind.TheVariants.{Stim, Json, TooManyShots, InputTooLong}

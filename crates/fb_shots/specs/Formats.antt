@@ -47,7 +47,7 @@ prefix_of B8 g bytes = of_stim g (prefix_b8 (length (detectors_of g)) bytes)
 prefix_of Dets g bytes = of_stim g (prefix_dets (length (detectors_of g)) bytes)
 prefix_of Json g bytes = of_json (prefix_json g bytes)
 
--- Wherever some bytes are cut in two, what is settled by the first part stands before all that they hold.
+-- Some bytes may be cut in two anywhere: what the first part settles comes first in all that they hold.
 abbrev pub GoesOnAnywhere : Type 0
 GoesOnAnywhere =
     (format : Format) (g : DecodingGraph) (bytes more : List ℕ)

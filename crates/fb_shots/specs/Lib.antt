@@ -1,9 +1,9 @@
 pub mod Shots
 pub mod Formats
-pub mod Sources
-pub mod Readers
-pub mod Answers
+pub mod InternalReaders
+pub mod InternalAnswers
 pub mod Streams
+pub mod InternalSources
 pub mod Steps
-pub mod Reads
+pub mod InternalReads
 pub mod FaultTexts

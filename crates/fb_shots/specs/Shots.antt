@@ -19,20 +19,20 @@ pub record Shots : Type 0 where
 abbrev pub only : Ending → Shots
 only ending = record { shots = []; ending = ending }
 
--- the shot before all the others
-abbrev pub in_front : ShotValue → Shots → Shots
-in_front shot r = record { shots = shot ∷ r.shots; ending = r.ending }
+-- the shots with this one before all others
+abbrev pub with_first_shot : ShotValue → Shots → Shots
+with_first_shot shot r = record { shots = shot ∷ r.shots; ending = r.ending }
 
--- these shots before all the others
-abbrev pub all_in_front : List ShotValue → Shots → Shots
-all_in_front shots r = record { shots = shots ++ r.shots; ending = r.ending }
+-- the shots with these before all others
+abbrev pub with_first_shots : List ShotValue → Shots → Shots
+with_first_shots shots r = record { shots = shots ++ r.shots; ending = r.ending }
 
--- What a prefix of some bytes settles stands before what all of them hold, and what it refuses is refused.
+-- The shots that a prefix of some bytes settles are the first shots of all of them, and what it refuses is refused.
 pub record GoesOn (prefix all : Shots) : Type 0 where
   pub shots : (more : List ShotValue) × (all.shots ≡ prefix.shots ++ more)
   pub judged : (why : Kind) → prefix.ending ≡ refused why → all ≡ prefix
 
--- at most so many shots: a further good record ends them
+-- at most `limit` shots: a further good record ends them
 abbrev pub capped_shots : ℕ → Shots → Shots
 capped_shots limit r =
     if nat_le (length r.shots) limit then r

@@ -1,4 +1,4 @@
--- What a call of a stream has done, and what its answer says.
+-- What a call of a stream has done, and what its result says.
 use Rattle.std.specs.Prelude.{◌≡◌, ℕ, ◌+◌, ◌<◌, ◌≤◌, ◌⊎◌, true, false, if◌then◌else◌, List, [], ◌++◌, length, Option, None, Some, IfSome, ⊤}
 use Rattle.std.specs.Io.KnownBytes.{Consumes}
 use Rattle.fb_graph.specs.Limits.{IsShot, ShotValue}
@@ -7,21 +7,21 @@ use Rattle.fb_shots.specs.declared.answer.Kind.TheVariants.{InputTooLong, TooMan
 use Rattle.fb_shots.specs.declared.answer.ShotFault.{ShotFault}
 use Rattle.fb_shots.specs.declared.answer.Step.{Step}
 use Rattle.fb_shots.specs.declared.answer.Step.TheVariants as step
-use Rattle.fb_shots.specs.Shots.{at_end, still_open, refused, Shots, only, in_front}
+use Rattle.fb_shots.specs.Shots.{at_end, still_open, refused, Shots, only, with_first_shot}
 use Rattle.fb_shots.specs.Formats.{prefix_of, records_of}
 use Rattle.fb_shots.specs.Streams.{Stream, follows}
 
--- the fact of what was left of a file before and after, where that is known
+-- the fact of what was left of a file before and after, if that is known
 abbrev pub IfKnown : (List ℕ → List ℕ → Type 0) → Option (List ℕ) → Option (List ℕ) → Type 0
 IfKnown P None after = ⊤
 IfKnown P (Some left) None = ⊥
 IfKnown P (Some left) (Some later) = P left later
 
--- nothing is left of the file, where what was left is known
+-- nothing is left of the file, if what was left is known
 abbrev pub IsReadOut : Option (List ℕ) → Option (List ℕ) → Type 0
 IsReadOut before after = IfKnown (λ left later. later ≡ []) before after
 
--- Bytes were taken from those that were left, or the file's end was seen, and no answer has used any.
+-- Bytes were taken from those that were left, or the file's end was seen, and no result has used any.
 pub record OnlyTakes (old new : Stream) (before after : Option (List ℕ)) : Type 0 where
   pub piece : List ℕ
   pub taken : Consumes before after piece
@@ -33,20 +33,20 @@ pub record OnlyTakes (old new : Stream) (before after : Option (List ℕ)) : Typ
   pub unread : old.finished ≡ true → after ≡ before
   pub others : new ≡ record old { rest = new.rest; finished = new.finished; untaken = new.untaken }
 
--- what a stream has settled of these bytes, if nothing else is left: all of their records where the file's end was seen,
+-- what a stream has settled of these bytes, if nothing else is left: all of their records if the file's end was seen,
 -- and otherwise those that stay whatever follows
 abbrev pub settled_shots : Stream → List ℕ → Shots
 settled_shots s bytes = if s.finished then records_of s.format s.graph bytes else prefix_of s.format s.graph bytes
 
--- A shot is given: it stands before all that follows.
+-- A shot is given: it comes before all that follows.
 pub record GivesShot (old new : Stream) (before after : Option (List ℕ)) (shot : ShotValue) : Type 0 where
   pub piece : List ℕ
   pub taken : Consumes before after piece
-  pub gives : IfKnown (λ left later. follows old left ≡ in_front shot (follows new later)) before after
-  pub holds : settled_shots new (old.rest ++ piece) ≡ in_front shot (settled_shots new new.rest)
+  pub gives : IfKnown (λ left later. follows old left ≡ with_first_shot shot (follows new later)) before after
+  pub holds : settled_shots new (old.rest ++ piece) ≡ with_first_shot shot (settled_shots new new.rest)
   pub unfinished : new.finished ≡ false → old.finished ≡ false
   pub prefix : new.finished ≡ false → (more : List ℕ) → prefix_of old.format old.graph (old.rest ++ (piece ++ more))
-      ≡ in_front shot (prefix_of old.format old.graph (new.rest ++ more))
+      ≡ with_first_shot shot (prefix_of old.format old.graph (new.rest ++ more))
   pub end : old.finished ≡ false → new.finished ≡ true → IsReadOut before after
   pub unread : old.finished ≡ true → after ≡ before
   pub is_shot : IsShot old.graph shot
@@ -54,7 +54,7 @@ pub record GivesShot (old new : Stream) (before after : Option (List ℕ)) (shot
   pub below : old.given < old.limit
   pub others : new ≡ record old { rest = new.rest; finished = new.finished; untaken = new.untaken; given = new.given }
 
--- The end is answered: nothing followed, and nothing does.
+-- The end is returned: nothing followed, and nothing does.
 pub record Ends (old new : Stream) (before after : Option (List ℕ)) : Type 0 where
   pub piece : List ℕ
   pub taken : Consumes before after piece
@@ -74,7 +74,7 @@ pub record RefusesFirst (s : Stream) (bytes : List ℕ) (why : Kind) : Type 0 wh
 -- these bytes begin by a good record, and all shots that may be given were given
 pub record HoldsOneMore (s : Stream) (bytes : List ℕ) (why : Kind) : Type 0 where
   pub shot : ShotValue
-  pub holds : settled_shots s bytes ≡ in_front shot (settled_shots s s.rest)
+  pub holds : settled_shots s bytes ≡ with_first_shot shot (settled_shots s s.rest)
   pub full : s.limit ≤ s.given
   pub kind : why ≡ TooManyShots
 
@@ -91,7 +91,7 @@ abbrev pub IsReason : Stream → List ℕ → Kind → Type 0
 IsReason s bytes why = RefusesFirst s bytes why ⊎ (HoldsOneMore s bytes why ⊎ IsCutOff s bytes why)
 
 -- The next record is refused, and so is each further call. It was refused before, or the bytes say why: those that no
--- answer had used, and the piece that was read.
+-- result had used, and the piece that was read.
 pub record Refuses (old new : Stream) (before : Option (List ℕ)) (fault : ShotFault) : Type 0 where
   pub number : fault.shot ≡ old.given
   pub gives : IfSome before (λ left. follows old left ≡ only (refused fault.kind))
@@ -103,20 +103,16 @@ pub record Refuses (old new : Stream) (before : Option (List ℕ)) (fault : Shot
   pub others : new
       ≡ record old { rest = new.rest; finished = new.finished; untaken = new.untaken; stopped = new.stopped }
 
--- A read failed where the bytes taken decide nothing.
+-- A read failed, and the bytes taken decide nothing.
 pub record FailsToRead (old new : Stream) (before after : Option (List ℕ)) : Type 0 where
   pub takes : OnlyTakes old new before after
   pub unfinished : new.finished ≡ false
   pub runs : new.stopped ≡ None
   pub undecided : prefix_of new.format new.graph new.rest ≡ only still_open
 
--- an answer, and what it says
+-- a result, and what it says
 abbrev pub Answers : Stream → Stream → Option (List ℕ) → Option (List ℕ) → Step → Type 0
 Answers old new before after (step.Shot shot) = GivesShot old new before after shot
 Answers old new before after step.End = Ends old new before after
 Answers old new before after (step.Refused fault) = Refuses old new before fault
 Answers old new before after step.ReadFault = FailsToRead old new before after
-
--- how much a stream may still read: bytes, and the file's end
-abbrev pub may_read : Stream → ℕ
-may_read s = s.untaken + (if s.finished then 0 else 1)

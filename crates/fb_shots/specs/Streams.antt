@@ -1,18 +1,18 @@
 -- A stream of shots, and what it gives.
-use Rattle.std.specs.Prelude.{ℕ, ◌+◌, ◌-◌, ◌^◌, nat_le, Bool, false, if◌then◌else◌, List, [], ◌++◌, length, take, Option, Some, None}
+use Rattle.std.specs.Prelude.{ℕ, ◌+◌, ◌-◌, nat_le, Bool, false, if◌then◌else◌, List, [], ◌++◌, length, take, Option, Some, None}
 use Rattle.fb_graph.specs.Limits.{DecodingGraph}
 use Rattle.fb_shots.specs.declared.answer.Format.{Format}
 use Rattle.fb_shots.specs.declared.answer.Kind.{Kind}
 use Rattle.fb_shots.specs.declared.answer.Kind.TheVariants.{InputTooLong}
+use Rattle.fb_shots.specs.declared.stream.TheConstants.{MOST_BYTES}
 use Rattle.fb_shots.specs.Shots.{Ending, at_end, still_open, refused, Shots, only, capped_shots}
 use Rattle.fb_shots.specs.Formats.{records_of, prefix_of}
-use Rattle.fb_shots.specs.Sources.{Source}
 
--- the most bytes that are taken of a file
+-- the most bytes that are taken of a file: 2^62
 abbrev pub most_bytes : ℕ
-most_bytes = 2 ^ 62
+most_bytes = MOST_BYTES
 
--- an ending, where bytes follow that aren't taken
+-- an ending, if bytes follow that aren't taken
 abbrev pub cut_ending : Ending → Ending
 cut_ending at_end = at_end
 cut_ending still_open = refused InputTooLong
@@ -31,7 +31,7 @@ within_room format g room bytes =
 abbrev pub stream_of : Format → DecodingGraph → (limit room : ℕ) → List ℕ → Shots
 stream_of format g limit room bytes = capped_shots limit (within_room format g room bytes)
 
--- A stream: `rest` are the bytes taken that no answer has used, `finished` tells that the file's end was seen,
+-- A stream: `rest` are the bytes taken that no result has used, `finished` says that the file's end was seen,
 -- `untaken` is how many bytes may still be taken, `given` and `limit` count shots, and `stopped` is what it has refused.
 pub record Stream : Type 0 where
   pub format : Format
@@ -56,19 +56,7 @@ fresh format g limit = record {
   stopped = None;
 }
 
--- a stream by its reader and the bytes that were read and not fed yet
-abbrev pub stream_by : Source → (unfed : List ℕ) → (untaken given limit : ℕ) → Option Kind → Stream
-stream_by source unfed untaken given limit stopped = record {
-  format = source.format;
-  graph = source.graph;
-  rest = source.rest ++ unfed;
-  finished = source.finished;
-  untaken = untaken;
-  given = given;
-  limit = limit;
-  stopped = stopped;
-}
-
+-- nothing but the refusal, if there is one
 abbrev pub or_refusal : Option Kind → Shots → Shots
 or_refusal None r = r
 or_refusal (Some kind) r = only (refused kind)

@@ -28,14 +28,14 @@ pub enum Kind {
     Stim(fb_shots_stim::Kind),
     /// A line isn't the JSON value of a shot.
     Json(fb_shots_json::Kind),
-    /// As many shots as the limit says were given, and a good record follows.
+    /// As many shots as the limit allows were given, and a good record follows.
     TooManyShots,
-    /// As many bytes as are read at most, 2^62, don't tell how the next record ends, and a byte follows.
+    /// The most bytes that are read, 2^62, don't settle how the next record ends, and a byte follows.
     InputTooLong,
 }
 
 impl Kind {
-    /// What it is called where it is printed.
+    /// The name that is printed.
     pub fn name(self) -> &'static str
         ensures { result.now ≡ kind_name self }
     {
@@ -48,7 +48,7 @@ impl Kind {
     }
 }
 
-/// A refusal: the number of the record, counted from 0, that it stands in place of, and why.
+/// A refusal in place of a shot: the number of that shot, counted from 0, and why.
 #[derive(Clone, Copy, Debug, PartialEq, Eq)]
 pub struct ShotFault {
     pub shot: u32,
@@ -64,6 +64,6 @@ pub enum Step {
     End,
     /// The next record is refused, and so is each further call.
     Refused(ShotFault),
-    /// A read failed. Asked again, the stream goes on reading.
+    /// A read failed. The next call goes on reading.
     ReadFault,
 }

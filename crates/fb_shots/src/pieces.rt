@@ -2,10 +2,10 @@
 
 ghost use Rattle.std.specs.Prelude.{◌≡◌, ◌<◌, ◌≤◌, ◌==◌, [], length, IfOk, OnErr, MatchResult};
 ghost use Rattle.std.specs.Io.KnownBytes.{Consumes, IsAtEnd, Keeps};
-ghost use Rattle.fb_ports.specs.Causes.{HasCause, ReadsAtMost, ReadConsumes};
+ghost use Rattle.fb_ports.specs.Causes.{HasCause};
 
 use crate::answer::NoMemory;
-use fb_ports::{Failed, Files, MOST_ASKED};
+use fb_ports::{Failed, Files, MOST_ASKED, read_at_most};
 use std::alloc::Global;
 use std::marker::Model;
 
@@ -18,12 +18,13 @@ pub struct Piece {
 
 impl Model for Piece {
     ghost use Rattle.std.specs.Prelude.{◌≡◌, ◌≤◌, List, ℕ, take, vec_len};
+    ghost use Rattle.fb_ports.specs.declared.reading.TheConstants.{MOST_ASKED};
 
     ghost Value = { List ℕ };
 
     ghost view = { λ p. take p.unfed p.room.items };
 
-    ghost invariant = { λ p. (vec_len p.room ≡ 65536) × (p.unfed ≤ 65536) };
+    ghost invariant = { λ p. (vec_len p.room ≡ MOST_ASKED) × (p.unfed ≤ MOST_ASKED) };
 }
 
 impl Piece {
@@ -54,7 +55,7 @@ impl Piece {
         self.unfed = 0;
     }
 
-    /// Reads a piece of the current file, of at most so many bytes, and returns how many they are: none at its end.
+    /// Reads a piece of the current file, of at most `most` bytes, and returns how many they are: none at its end.
     pub fn read<F: Files>(&mut self, files: &mut F, most: usize) -> Result<usize, Failed>
         requires empty { self.old ≡ [] }
         requires some { 0 < most }
@@ -72,18 +73,4 @@ impl Piece {
         self.unfed = count;
         Ok(count)
     }
-}
-
-/// Reads at most `most` bytes of the current file into the start of `room`.
-fn read_at_most<F: Files>(files: &mut F, room: &mut [u8], most: usize) -> Result<usize, Failed>
-    requires { 0 < most }
-    ensures asks { F.asked files.new ≡ F.asked files.old }
-    ensures names { F.named files.new ≡ F.named files.old }
-    ensures bound { ReadsAtMost result room.new }
-    ensures most { IfOk result (λ n. n ≤ most) }
-    ensures bytes { ReadConsumes (F.left files.old) (F.left files.new) result room.new }
-    ensures cause { HasCause (F.faults files.old) (F.faults files.new) result }
-{
-    let asked = most.min(room.len());
-    files.read(&mut room[..asked])
 }

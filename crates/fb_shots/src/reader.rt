@@ -4,9 +4,9 @@ ghost use Rattle.std.specs.Prelude.{◌≡◌, ◌++◌, [], false, true, length
 ghost use Rattle.fb_graph.specs.Limits.{detectors_of, IsShot};
 ghost use Rattle.fb_records.specs.Answers.{IfShot};
 ghost use Rattle.fb_shots_stim.specs.Shots.{IsShotOf};
-ghost use Rattle.fb_shots.specs.Answers.{Answers, stim_answer, json_answer};
+ghost use Rattle.fb_shots.specs.InternalAnswers.{Answers, stim_answer, json_answer};
 ghost use Rattle.fb_shots.specs.Formats.{shot_of_vertices};
-ghost use Rattle.fb_shots.specs.Readers.{source_of, IsReaderOf};
+ghost use Rattle.fb_shots.specs.InternalReaders.{source_of, IsReaderOf};
 
 use crate::answer::{Format, Kind, NoMemory};
 use crate::mapping::shot_of_detectors;
@@ -136,8 +136,8 @@ pub struct Reader<'a> {
 }
 
 impl<'a> Model for Reader<'a> {
-    ghost use Rattle.fb_shots.specs.Sources.{Source};
-    ghost use Rattle.fb_shots.specs.Readers.{source_of, IsReaderOf};
+    ghost use Rattle.fb_shots.specs.InternalSources.{Source};
+    ghost use Rattle.fb_shots.specs.InternalReaders.{source_of, IsReaderOf};
 
     ghost Value = { Source };
 

@@ -3,8 +3,8 @@
 ghost use Rattle.std.specs.Prelude.{◌≡◌, ◌≢◌, ℕ, ◌+◌, ◌-◌, ◌<◌, ◌≤◌, ◌++◌, [], List, true, false, Ok, Some, None, length, IfOk, OnOk, OnErr, MatchOption};
 ghost use Rattle.fb_ports.specs.Causes.{Rose};
 ghost use Rattle.fb_shots.specs.Streams.{Stream, fresh, follows, stream_of, most_bytes};
-ghost use Rattle.fb_shots.specs.Reads.{ReadsOn};
-ghost use Rattle.fb_shots.specs.Steps.{Answers, OnlyTakes, may_read};
+ghost use Rattle.fb_shots.specs.InternalReads.{ReadsOn, may_read};
+ghost use Rattle.fb_shots.specs.Steps.{Answers, OnlyTakes};
 
 use crate::answer::{Format, Kind, NoMemory, ShotFault, Step};
 use crate::pieces::Piece;
@@ -32,7 +32,8 @@ pub struct ShotStream<'a> {
 
 impl<'a> Model for ShotStream<'a> {
     ghost use Rattle.std.specs.Prelude.{◌≡◌, [], true};
-    ghost use Rattle.fb_shots.specs.Streams.{Stream, stream_by};
+    ghost use Rattle.fb_shots.specs.Streams.{Stream};
+    ghost use Rattle.fb_shots.specs.InternalSources.{stream_by};
 
     ghost Value = { Stream };
 
@@ -84,7 +85,7 @@ impl<'a> ShotStream<'a> {
         }
     }
 
-    /// Answers by the bytes taken, or else makes one read.
+    /// Returns a step that the bytes taken decide, or else makes one read.
     fn turn<F: Files>(&mut self, files: &mut F) -> Result<Option<Step>, NoMemory>
         ensures step { IfOk result (λ o. MatchOption o
             (OnlyTakes self.old self.new (F.left files.old) (F.left files.new)
@@ -132,6 +133,7 @@ impl<'a> ShotStream<'a> {
     }
 }
 
+/// The refusal in place of this shot.
 fn refusal(shot: u32, kind: Kind) -> Step
     ensures { result ≡ Step.Refused (record { shot = shot; kind = kind }) }
 {
@@ -153,7 +155,7 @@ fn feed(reader: &mut Reader<'_>, piece: &mut Piece) -> Result<(), NoMemory>
     Ok(())
 }
 
-/// What a read has come to.
+/// The outcome of a read.
 enum Read {
     /// A piece of the file.
     Piece,
@@ -165,7 +167,7 @@ enum Read {
     TooLong,
 }
 
-/// Reads a piece of the file. Its end is told to the reader.
+/// Reads a piece of the file. At the file's end it finishes the reader.
 fn read_on<F: Files>(
     reader: &mut Reader<'_>,
     piece: &mut Piece,

@@ -17,8 +17,8 @@ use Rattle.fb_graph.proofs.Sets.{count_equal-le, distinct_from_rising, is_in-cas
 use Rattle.fb_graph.proofs.Shots.{rising_from_sort}
 use Rattle.fb_shots_json.specs.declared.answer.Kind.{Kind}
 use Rattle.fb_shots_json.specs.declared.answer.Kind.TheVariants.{DefectOutOfRange, DefectOnVirtual, DefectRepeated}
-use Rattle.fb_shots_json.specs.TextJson.{vertex_fault, defect_fault, defects_from, unless, rising}
-use Rattle.fb_shots_json.specs.Entries.{real_prefix, first_fault}
+use Rattle.fb_shots_json.specs.TextJson.{defect_fault, defects_from, unless, rising}
+use Rattle.fb_shots_json.specs.InternalEntries.{vertex_fault, real_prefix, first_fault}
 use Rattle.fb_graph.proofs.Members.{AreDistinct_push}
 
 -- ---- distinct numbers

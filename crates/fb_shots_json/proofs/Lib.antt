@@ -1,4 +1,3 @@
-pub mod Readings
 pub mod Defects
 pub mod TextLemmas
 pub mod PlaceLemmas

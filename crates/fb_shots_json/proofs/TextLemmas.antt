@@ -14,9 +14,10 @@ use Rattle.fb_records.specs.Answers.{Gives}
 use Rattle.fb_records.proofs.LineLemmas.{holds_none}
 use Rattle.fb_records.proofs.RecordLemmas.{prefix_one, prefix_none}
 use Rattle.fb_records.proofs.AnswerLemmas.{skips_nothing, skips_line, skip_gives, skip_refuses, refuses_prefix, refuses_last, gives_line, gives_last, records_end, blank_after, record_after, last_after}
-use Rattle.fb_shots_json.specs.TextJson.{is_blank, is_blank_byte, is_too_long, most_bytes, as_shot, shot_of_line, line_json, begun_json, records_json, prefix_json, after_record}
-use Rattle.fb_shots_json.specs.Places.{IsAt}
-use Rattle.fb_shots_json.specs.Stops.{AnswersTo}
+use Rattle.fb_shots_json.specs.TextJson.{is_blank, is_blank_byte, is_too_long, as_shot, shot_of_line, line_json, begun_json, records_json, prefix_json, after_record}
+use Rattle.fb_json.specs.JsonText.{most_bytes}
+use Rattle.fb_shots_json.specs.InternalPlaces.{IsAt}
+use Rattle.fb_shots_json.specs.InternalStops.{AnswersTo}
 
 -- ---- one line
 

@@ -1,4 +1,4 @@
--- What it is called, where it is printed, why a line is refused.
+-- The names that are printed of why a line is refused.
 use Rattle.std.specs.Prelude.{ℕ, List, codes}
 use Rattle.fb_shots_json.specs.declared.answer.Kind.{Kind}
 use Rattle.fb_shots_json.specs.declared.answer.Kind.TheVariants.{LineTooLong, NotJson, NoDefects, DefectOutOfRange, DefectOnVirtual, DefectRepeated, ErasureNotTaken}

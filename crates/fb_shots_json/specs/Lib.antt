@@ -1,5 +1,5 @@
 pub mod TextJson
-pub mod Entries
-pub mod Places
-pub mod Stops
+pub mod InternalEntries
+pub mod InternalPlaces
+pub mod InternalStops
 pub mod FaultTexts

@@ -1,11 +1,10 @@
 -- Shots as JSON values (RFC 8259), one to a line: the syndrome of Fusion Blossom (Wu and Zhong 2023), an object whose
 -- member `defect_vertices` lists the defects.
-use Rattle.std.specs.Prelude.{ℕ, ◌==◌, ◌^◌, nat_lt, nat_le, Bool, true, false, ◌&&◌, ◌||◌, if◌then◌else◌, List, [], ◌∷◌, ◌++◌, length, filter, codes, Option, Some, None, option_and_then, Result, Ok, Err}
+use Rattle.std.specs.Prelude.{ℕ, ◌==◌, nat_lt, nat_le, Bool, true, false, ◌&&◌, ◌||◌, if◌then◌else◌, List, [], ◌∷◌, ◌++◌, length, filter, codes, Option, Some, None, option_and_then, Result, Ok, Err}
 use Rattle.std.specs.List.{list_all, range_with_len}
-use Rattle.std.specs.Str.{is_utf8}
 use Rattle.serde_json.specs.Data.{Data, null, array, Items, no_items, item}
-use Rattle.serde_json.specs.Find.{get, as_array, as_number, as_u64}
-use Rattle.serde_json.specs.Read.{read}
+use Rattle.serde_json.specs.Find.{get, as_array}
+use Rattle.fb_json.specs.JsonText.{most_bytes, natural_of, value_of, with_option, with_result}
 use Rattle.fb_graph.specs.Parity.{is_in}
 use Rattle.fb_graph.specs.Limits.{DecodingGraph}
 use Rattle.fb_shots_json.specs.declared.answer.Kind.{Kind}
@@ -15,25 +14,17 @@ use Rattle.fb_records.specs.Lines.{without_return, after_first, records_by_lines
 
 -- ---- a value
 
--- the value that bytes are: None where they are no UTF-8 or no JSON
-abbrev pub value_of : List ℕ → Option Data
-value_of bytes = if is_utf8 bytes then read bytes else None
-
--- a whole number of at least 0
-abbrev pub natural_of : Data → Option ℕ
-natural_of d = option_and_then as_u64 (as_number d)
-
 -- numbers before those that are there
 abbrev pub onto : List ℕ → Option (List ℕ) → Option (List ℕ)
 onto before None = None
 onto before (Some more) = Some (before ++ more)
 
--- the entries of a list where all are whole numbers of at least 0
+-- the entries of a list, if all are whole numbers of at least 0
 abbrev pub naturals_of : Items → Option (List ℕ)
 naturals_of no_items = Some []
 naturals_of (item d ds) = option_and_then (λ v. onto (v ∷ []) (naturals_of ds)) (natural_of d)
 
--- the entries of `defect_vertices`, where it is such a list
+-- the entries of `defect_vertices`, if it is such a list
 abbrev pub listed_in : Data → Option (List ℕ)
 listed_in d = option_and_then naturals_of (option_and_then as_array (get (codes "defect_vertices") d))
 
@@ -50,12 +41,7 @@ is_plain d = says_nothing (get (codes "erasures") d) && says_nothing (get (codes
 
 -- ---- a shot
 
--- why a number is no real vertex of the graph
-abbrev pub vertex_fault : DecodingGraph → ℕ → Option Kind
-vertex_fault g v =
-    if nat_le g.vertices v then Some DefectOutOfRange else (if is_in g.virtuals v then Some DefectOnVirtual else None)
-
--- why an entry is no defect, where those before it are `before`
+-- why an entry is no defect; `before` are those before it
 abbrev pub defect_fault : DecodingGraph → List ℕ → ℕ → Option Kind
 defect_fault g before v =
     if nat_le g.vertices v then Some DefectOutOfRange
@@ -67,7 +53,7 @@ abbrev pub unless : {A : Type 0} → Option Kind → Result A Kind → Result A 
 unless (Some kind) r = Err kind
 unless None r = r
 
--- the entries as defects, or why the first entry that is none is refused, where those before them are `before`
+-- the entries as defects, or why the first entry that is none is refused; `before` are those before them
 abbrev pub defects_from : DecodingGraph → List ℕ → List ℕ → Result (List ℕ) Kind
 defects_from g before [] = Ok before
 defects_from g before (v ∷ vs) = unless (defect_fault g before v) (defects_from g (before ++ v ∷ []) vs)
@@ -75,16 +61,6 @@ defects_from g before (v ∷ vs) = unless (defect_fault g before v) (defects_fro
 -- the vertices of the graph that are listed, rising
 abbrev pub rising : DecodingGraph → List ℕ → List ℕ
 rising g listed = filter (is_in listed) (range_with_len 0 g.vertices)
-
--- the next step on a value that is there, else this refusal
-abbrev pub with_option : {A B : Type 0} → Option A → Kind → (A → Result B Kind) → Result B Kind
-with_option None kind next = Err kind
-with_option (Some a) kind next = next a
-
--- the next step on a value, or the refusal that stands in its place
-abbrev pub with_result : {A B : Type 0} → Result A Kind → (A → Result B Kind) → Result B Kind
-with_result (Err kind) next = Err kind
-with_result (Ok a) next = next a
 
 -- the shot that a value says
 abbrev pub shot_in : DecodingGraph → Data → Result (List ℕ) Kind
@@ -94,10 +70,6 @@ shot_in g d =
     if is_plain d then Ok (rising g defects) else Err ErasureNotTaken))
 
 -- ---- a line
-
--- the most bytes of a line that isn't blank, its carriage return counted
-abbrev pub most_bytes : ℕ
-most_bytes = 2 ^ 28
 
 -- a space, a tab or a carriage return
 abbrev pub is_blank_byte : ℕ → Bool
@@ -135,8 +107,8 @@ records_json g = records_by_lines (line_json g)
 abbrev pub prefix_json : DecodingGraph → List ℕ → Records Kind
 prefix_json g = prefix_by_lines (line_json g) begun_json
 
--- ---- what an answer uses
+-- ---- what a result uses
 
--- what stands after the first line that isn't blank
+-- what follows the first line that isn't blank
 abbrev pub after_record : List ℕ → List ℕ
 after_record = after_first is_blank

@@ -23,7 +23,7 @@ pub enum Kind {
 }
 
 impl Kind {
-    /// What it is called where it is printed.
+    /// The name that is printed.
     pub fn name(self) -> &'static str
         ensures { result.now ≡ kind_name self }
     {

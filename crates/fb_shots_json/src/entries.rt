@@ -4,9 +4,9 @@ ghost use Rattle.std.specs.Prelude.{◌≡◌, ◌<◌, ◌^◌, ◌↔◌, [], 
 ghost use Rattle.std.specs.List.Sorted.{IsStrictlyIncreasing};
 ghost use Rattle.fb_graph.specs.Limits.{IsShot};
 ghost use Rattle.serde_json.specs.View.{view, items_view};
-ghost use Rattle.fb_shots_json.specs.TextJson.{naturals_of, vertex_fault, defects_from, rising};
-ghost use Rattle.fb_shots_json.specs.Entries.{real_prefix, first_fault};
-ghost use Rattle.fb_records.specs.Answers.{IfRefused};
+ghost use Rattle.fb_shots_json.specs.TextJson.{naturals_of, defects_from, rising};
+ghost use Rattle.fb_shots_json.specs.InternalEntries.{vertex_fault, real_prefix, first_fault};
+ghost use Rattle.fb_records.specs.InternalSteps.{IfRefused};
 
 use crate::answer::Kind;
 use fb_graph::Graph;
@@ -14,7 +14,7 @@ use fb_records::{NoMemory, Stop};
 use serde_json::Value;
 use std::alloc::Global;
 
-/// The entries of a list where all are whole numbers of at least 0.
+/// The entries of a list, if all are whole numbers of at least 0.
 pub fn naturals(alloc: Global, values: &[Value]) -> Result<Option<Vec<u64>>, NoMemory>
     ensures { IfOk result (λ found. option_map (λ v. v.items) found ≡ naturals_of (items_view values.now)) }
 {
@@ -61,6 +61,7 @@ fn real_prefix(
     Ok((found, None))
 }
 
+/// Whether each number is above the one before it.
 fn is_rising(numbers: &[u32]) -> bool
     ensures { IsTrue result ↔ IsStrictlyIncreasing numbers.now }
 {
@@ -68,7 +69,7 @@ fn is_rising(numbers: &[u32]) -> bool
 }
 
 /// The entries as defects, rising, or why the first entry that is none is refused. An entry that equals an earlier one
-/// stands before the first that is no real vertex, or after it and doesn't count.
+/// comes before the first that is no real vertex, or after it and doesn't count.
 pub fn defects(alloc: Global, graph: &Graph, listed: &[u64]) -> Result<Vec<u32>, Stop<Kind>>
     ensures ok { OnOk result (defects_from graph.now [] listed.now ≡ Ok listed.now) }
     ensures rising { IfOk result (λ v. v.items ≡ rising graph.now listed.now) }

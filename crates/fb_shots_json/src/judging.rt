@@ -4,16 +4,15 @@ ghost use Rattle.std.specs.Prelude.{◌≡◌, IfOk, IfErr, Ok, Err, Some, optio
 ghost use Rattle.fb_graph.specs.Limits.{IsShot};
 ghost use Rattle.serde_json.specs.View.{view};
 ghost use Rattle.fb_shots_json.specs.TextJson.{is_plain, is_too_long, says_nothing, shot_in, shot_of_line};
-ghost use Rattle.fb_records.specs.Answers.{IfRefused};
+ghost use Rattle.fb_records.specs.InternalSteps.{IfRefused};
 
 use crate::answer::Kind;
 use crate::entries::{defects, naturals};
 use fb_graph::Graph;
+use fb_json::{MOST_TEXT_BYTES, NoValue, read_value};
 use fb_records::{Numbers, Stop, without_return};
 use serde_json::Value;
 use std::alloc::Global;
-
-const MOST_BYTES: usize = 1 << 28;
 
 /// Whether a value says nothing: null or an empty list.
 fn is_void(value: &Value) -> bool
@@ -69,11 +68,10 @@ fn shot_in(alloc: Global, graph: &Graph, value: &Value) -> Result<Numbers, Stop<
 pub fn is_too_long(line: &[u8]) -> bool
     ensures { result ≡ is_too_long line.now }
 {
-    line.len() > MOST_BYTES
+    line.len() > MOST_TEXT_BYTES
 }
 
 /// The shot of a line that isn't blank.
-#[tactic(auto, using(crate::proofs::Readings::readings))]
 pub fn shot_of_line(alloc: Global, graph: &Graph, line: &[u8]) -> Result<Numbers, Stop<Kind>>
     ensures ok { IfOk result (λ shot. shot_of_line graph.now line.now ≡ Ok shot) }
     ensures shot { IfOk result (λ shot. IsShot graph.now (record { defects = shot })) }
@@ -82,9 +80,9 @@ pub fn shot_of_line(alloc: Global, graph: &Graph, line: &[u8]) -> Result<Numbers
     if is_too_long(line) {
         return Err(Stop::Refused(Kind::LineTooLong));
     }
-    match Value::from_slice(alloc, without_return(line)) {
+    match read_value(alloc, without_return(line)) {
         Ok(value) => shot_in(alloc, graph, &value),
-        Err(error) if error.is_memory() => Err(Stop::NoMemory),
-        Err(_) => Err(Stop::Refused(Kind::NotJson)),
+        Err(NoValue::NotJson) => Err(Stop::Refused(Kind::NotJson)),
+        Err(NoValue::NoMemory) => Err(Stop::NoMemory),
     }
 }

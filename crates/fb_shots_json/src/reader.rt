@@ -1,13 +1,14 @@
 //! The reader of JSON lines.
 
 ghost use Rattle.std.specs.Prelude.{◌≡◌, ℕ, ◌+◌, ◌-◌, ◌<◌, ◌≤◌, ◌++◌, ◌&&◌, [], Bool, true, false, length, take, drop, slice_index, IfOk, IfErr, IfSome, IfNone, OnOk, OnErr};
-ghost use Rattle.fb_records.specs.Lines.{holds, part_of};
-ghost use Rattle.fb_records.specs.Answers.{answer_of, reading, Answers, IfRefused, IfShot};
+ghost use Rattle.fb_records.specs.Lines.{holds};
+ghost use Rattle.fb_records.specs.InternalSteps.{part_of, IfRefused};
+ghost use Rattle.fb_records.specs.Answers.{answer_of, reading, Answers, IfShot};
 ghost use Rattle.fb_records.specs.declared.answer.Next.TheVariants as next;
 ghost use Rattle.fb_shots_json.specs.TextJson.{is_blank, records_json, prefix_json, after_record};
 ghost use Rattle.fb_graph.specs.Limits.{IsShot};
-ghost use Rattle.fb_shots_json.specs.Places.{IsPlace};
-ghost use Rattle.fb_shots_json.specs.Stops.{AnswersTo, used_of, answer_at};
+ghost use Rattle.fb_shots_json.specs.InternalPlaces.{IsPlace};
+ghost use Rattle.fb_shots_json.specs.InternalStops.{AnswersTo, used_of, answer_at};
 
 use crate::answer::Kind;
 use crate::judging::{is_too_long, shot_of_line};
@@ -41,7 +42,7 @@ struct Place {
 impl<'a> Model for RecordsJson<'a> {
     ghost use Rattle.fb_graph.specs.Limits.{DecodingGraph};
     ghost use Rattle.fb_records.specs.Records.{Reader};
-    ghost use Rattle.fb_shots_json.specs.Places.{IsPlace};
+    ghost use Rattle.fb_shots_json.specs.InternalPlaces.{IsPlace};
 
     ghost Value = { Reader DecodingGraph };
 
@@ -106,7 +107,7 @@ impl<'a> RecordsJson<'a> {
 
 /// Where reading stops.
 enum Step {
-    /// A shot, of which so many bytes are used.
+    /// A shot, and how many bytes it uses.
     Shot(Numbers, usize),
     NotYet,
     End,
@@ -164,7 +165,7 @@ fn see_line(place: Place, bytes: &[u8]) -> Place
     ensures onward { place.seen ≤ result.seen }
     ensures within { result.seen ≤ length bytes.now }
     ensures in_line { holds 10 (part_of bytes.now place.seen result.seen) ≡ false }
-    ensures tells { result.is_blank ≡ (place.is_blank && is_blank (part_of bytes.now place.seen result.seen)) }
+    ensures blank { result.is_blank ≡ (place.is_blank && is_blank (part_of bytes.now place.seen result.seen)) }
     ensures stops { result.seen < length bytes.now → slice_index bytes.now result.seen ≡ 10 }
 {
     let seen = line_end(bytes, place.seen);

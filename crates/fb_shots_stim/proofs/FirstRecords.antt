@@ -3,7 +3,7 @@ use Rattle.std.specs.Prelude.{if◌then◌else◌}
 use Rattle.std.proofs.Common.{◌≡◌, ℕ, zero, suc, ◌≤◌, Bool, true, false, List, [], ◌∷◌, ◌++◌, length, take, drop, Option, Some, None, Result, Ok, Err, refl, sym, ap, ◌∙◌, inl, inr}
 use Rattle.std.specs.List.{list_any}
 use Rattle.std.proofs.lemmas.Bool.{cases_Bool, cases_lt, cond-true, cond-false}
-use Rattle.fb_records.specs.Records.{Records, in_front}
+use Rattle.fb_records.specs.Records.{Records, with_first_shot}
 use Rattle.fb_records.specs.Lines.{without_return, bare, after_line}
 use Rattle.fb_records.specs.Answers.{FirstRecordLeaves}
 use Rattle.fb_records.proofs.LineLemmas.{after_line_one}
@@ -70,17 +70,17 @@ leaves_b8 (suc n) bytes shot shots e = elim (cases_lt (length bytes) (block_len 
 ]
   where
     block_left : (n : ℕ) (bytes shot : List ℕ) (shots : List (List ℕ)) {first : List ℕ} → block_len (suc n) ≤ length bytes
-        → (records_b8 (suc n) bytes ≡ in_front first (records_b8 (suc n) (drop (block_len (suc n)) bytes))) × (prefix_b8 (suc n) bytes ≡ in_front first (prefix_b8 (suc n) (drop (block_len (suc n)) bytes)))
-        × ((more : List ℕ) → records_b8 (suc n) (bytes ++ more) ≡ in_front first (records_b8 (suc n) (drop (block_len (suc n)) bytes ++ more)))
-        × ((more : List ℕ) → prefix_b8 (suc n) (bytes ++ more) ≡ in_front first (prefix_b8 (suc n) (drop (block_len (suc n)) bytes ++ more)))
+        → (records_b8 (suc n) bytes ≡ with_first_shot first (records_b8 (suc n) (drop (block_len (suc n)) bytes))) × (prefix_b8 (suc n) bytes ≡ with_first_shot first (prefix_b8 (suc n) (drop (block_len (suc n)) bytes)))
+        × ((more : List ℕ) → records_b8 (suc n) (bytes ++ more) ≡ with_first_shot first (records_b8 (suc n) (drop (block_len (suc n)) bytes ++ more)))
+        × ((more : List ℕ) → prefix_b8 (suc n) (bytes ++ more) ≡ with_first_shot first (prefix_b8 (suc n) (drop (block_len (suc n)) bytes ++ more)))
         → (prefix_b8 (suc n) bytes).shots ≡ shot ∷ shots
-        → (prefix_b8 (suc n) bytes ≡ in_front shot (prefix_b8 (suc n) (drop (block_len (suc n)) bytes)))
-        × ((more : List ℕ) → records_b8 (suc n) (bytes ++ more) ≡ in_front shot (records_b8 (suc n) (drop (block_len (suc n)) bytes ++ more)))
-        × ((more : List ℕ) → prefix_b8 (suc n) (bytes ++ more) ≡ in_front shot (prefix_b8 (suc n) (drop (block_len (suc n)) bytes ++ more)))
+        → (prefix_b8 (suc n) bytes ≡ with_first_shot shot (prefix_b8 (suc n) (drop (block_len (suc n)) bytes)))
+        × ((more : List ℕ) → records_b8 (suc n) (bytes ++ more) ≡ with_first_shot shot (records_b8 (suc n) (drop (block_len (suc n)) bytes ++ more)))
+        × ((more : List ℕ) → prefix_b8 (suc n) (bytes ++ more) ≡ with_first_shot shot (prefix_b8 (suc n) (drop (block_len (suc n)) bytes ++ more)))
     block_left n bytes shot shots {first} le given e =
         let left = drop (block_len (suc n)) bytes in
         let same : first ≡ shot = (let shown : first ∷ (prefix_b8 (suc n) left).shots ≡ shot ∷ shots = sym (ap (λ (x : Records Kind). x.shots) given.1) ∙ e in cc) in (
-          given.1 ∙ ap (λ (l : List ℕ). in_front l (prefix_b8 (suc n) left)) same,
-          λ more. given.2 more ∙ ap (λ (l : List ℕ). in_front l (records_b8 (suc n) (left ++ more))) same,
-          λ more. given.3 more ∙ ap (λ (l : List ℕ). in_front l (prefix_b8 (suc n) (left ++ more))) same,
+          given.1 ∙ ap (λ (l : List ℕ). with_first_shot l (prefix_b8 (suc n) left)) same,
+          λ more. given.2 more ∙ ap (λ (l : List ℕ). with_first_shot l (records_b8 (suc n) (left ++ more))) same,
+          λ more. given.3 more ∙ ap (λ (l : List ℕ). with_first_shot l (prefix_b8 (suc n) (left ++ more))) same,
         )

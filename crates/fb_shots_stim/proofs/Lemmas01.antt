@@ -16,7 +16,7 @@ use Rattle.fb_shots_stim.specs.Shots.{places_from}
 use Rattle.fb_records.specs.Lines.{holds, without_return, bare, after_line, Stays}
 use Rattle.fb_records.specs.Answers.{Answers}
 use Rattle.fb_shots_stim.specs.Text01.{is_bit, is_one, line_01, begun_01, records_01, prefix_01}
-use Rattle.fb_shots_stim.specs.Step01.{line_end_01, bad_01, step_01}
+use Rattle.fb_shots_stim.specs.InternalStep01.{line_end_01, bad_01, step_01}
 use Rattle.fb_records.proofs.LineLemmas.{after_line_one, after_line_none, holds_none, without_return_end, without_return_at}
 use Rattle.fb_records.proofs.RecordLemmas.{records_none, prefix_one, prefix_none, refused_part, stays_bare}
 use Rattle.fb_records.proofs.AnswerLemmas.{refuses_prefix, refuses_last, gives_line, gives_last}
@@ -274,7 +274,7 @@ step_right n finished bits (b ∷ c ∷ tail) known stop = elim (cases_Bool (eqb
 ]
 
 -- what a reader's next answer is, by the step at the end of the bits that its rest begins with
-rest_right : (n : ℕ) (rest : List ℕ) (finished : Bool) (good : ℕ) (step : Step) → list_all is_bit (take good rest) ≡ true → good ≤ n → good ≤ length rest
+pub rest_right : (n : ℕ) (rest : List ℕ) (finished : Bool) (good : ℕ) (step : Step) → list_all is_bit (take good rest) ≡ true → good ≤ n → good ≤ length rest
     → (good < n → good < length rest → is_bit (get_or rest good 0) ≡ false) → step ≡ step_01 n finished good (take (length rest - good) (drop good rest))
     → Answers records_01 prefix_01 after_line (reader n rest finished) (reader n (left_at rest step) finished) (answer_at (take good rest) step)
 rest_right n rest finished good step bits most within stop is =
@@ -288,15 +288,6 @@ rest_right n rest finished good step bits most within stop is =
     ap (λ (k : ℕ). step_01 n finished k (drop good rest)) len ∙ sym (is ∙ ap (step_01 n finished good) tail) in
     subst (λ (l : List ℕ). Answers records_01 prefix_01 after_line (reader n l finished) (reader n (left_at l step) finished) (answer_at (take good rest) step)) cut
     (subst (IsRight n finished (take good rest) (drop good rest)) step-is right)
-
--- the same, as the code has the rest at hand
-pub next_right : (old : Reader ℕ) (n : ℕ) (rest : List ℕ) (finished : Bool) (slice : List ℕ) (good : ℕ) (step : Step) → reader n rest finished ≡ old → slice ≡ rest → list_all is_bit (take good slice) ≡ true → good ≤ n → good ≤ length slice
-    → (good < n → good < length slice → is_bit (get_or slice good 0) ≡ false) → step ≡ step_01 n finished good (take (length slice - good) (drop good slice))
-    → Answers records_01 prefix_01 after_line old (reader n (left_at rest step) finished) (answer_at (take good slice) step)
-next_right old n rest finished slice good step old-is slice-is bits most within stop is =
-    subst (λ (r : Reader ℕ). Answers records_01 prefix_01 after_line r (reader n (left_at rest step) finished) (answer_at (take good slice) step)) old-is
-    (subst (λ (l : List ℕ). Answers records_01 prefix_01 after_line (reader n l finished) (reader n (left_at l step) finished) (answer_at (take good slice) step)) slice-is
-    (rest_right n slice finished good step bits most within stop is))
 
 -- the bits among the first bytes, and those that the next n bytes begin with
 pub bits_more : (bytes : List ℕ) (i n b : ℕ) → b ≤ n → list_all is_bit (take i bytes) ≡ true

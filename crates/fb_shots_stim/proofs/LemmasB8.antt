@@ -2,21 +2,19 @@
 use Rattle.std.specs.Prelude.{if◌then◌else◌}
 use Rattle.std.proofs.Common.{◌≡◌, ℕ, zero, suc, ◌+◌, ◌-◌, ◌*◌, ◌/◌, ◌%◌, ◌^◌, ◌<◌, ◌≤◌, Bool, true, false, not, eqb, List, [], ◌∷◌, ◌++◌, length, get_or, take, drop, Option, Some, Result, Ok, Err, refl, sym, ap, subst, ◌∙◌, inl, inr, arith, add-one}
 use Rattle.std.specs.List.{list_any}
-use Rattle.std.proofs.Math.Nat.{div-one, div-eq_of_lt, mod-eq_of_lt, div-eq-sub-div, mod-eq-sub-mod}
+use Rattle.std.proofs.Math.Nat.{div-one, div-eq_of_lt, mod-eq_of_lt, div-eq-sub-div, mod-eq-sub-mod, div-mul-le_self}
 use Rattle.std.proofs.lemmas.Bool.{cases_Bool, cases_eq, eq-eqb, ne_eqb, or_parts, cond-true, cond-false}
-use Rattle.std.proofs.lemmas.Nat.{shr-shr, shr_below}
+use Rattle.std.proofs.lemmas.Nat.{shr-shr, shr_below, le-div}
 use Rattle.std.proofs.lemmas.List.{append-nil, length-append, length-take-le, length-drop, take_all, take_more, drop_all, drop_at, drop-drop, take-append-drop, take-append-le, drop-append-le}
 use Rattle.std.proofs.lemmas.List.Concat.{flat_map-append}
-use Rattle.std.proofs.lemmas.Nat.{le-div}
-use Rattle.std.proofs.Math.Nat.{div-mul-le_self}
 use Rattle.fb_shots_stim.specs.declared.answer.Kind.{Kind}
 use Rattle.fb_shots_stim.specs.declared.answer.Kind.TheVariants.{ShortRecord, LongRecord, PaddingBit}
-use Rattle.fb_records.specs.declared.answer.Next.{Next}
 use Rattle.fb_records.specs.declared.answer.Next.TheVariants.{Shot, NotYet, Refused}
-use Rattle.fb_records.specs.Records.{Ending, at_end, still_open, refused, Records, only, with_line, go_down, GoesOn, Reader}
+use Rattle.fb_records.specs.Records.{Ending, at_end, still_open, refused, Records, only, with_line, go_down, GoesOn}
 use Rattle.fb_shots_stim.specs.Shots.{places_from}
-use Rattle.fb_records.specs.Answers.{Answers, GoesOnAnywhere}
+use Rattle.fb_records.specs.Answers.{GoesOnAnywhere}
 use Rattle.fb_shots_stim.specs.BlocksB8.{block_len, low_bits, bits_of, is_set, block_b8, blocks, whole_blocks, records_b8, prefix_b8}
+use Rattle.fb_shots_stim.specs.InternalAnswers.{AnswersB8}
 use Rattle.fb_records.proofs.RecordLemmas.{go_down_goes_on}
 
 -- ---- places
@@ -194,28 +192,22 @@ goes_on_b8 (suc n) bytes more = (blocks_go_on n bytes more _, blocks_go_on n byt
 
 -- ---- answers
 
-abbrev pub reader : ℕ → List ℕ → Bool → Reader ℕ
-reader n rest finished = record { subject = n; rest = rest; finished = finished }
-
-abbrev pub IsRight : ℕ → List ℕ → Bool → List ℕ → Next Kind → Type 0
-IsRight n rest finished left a = Answers records_b8 prefix_b8 (drop (block_len n)) (reader n rest finished) (reader n left finished) a
-
 true_false : {P : Type 0} → true ≡ false → P
 true_false e = absurd cc
 
 -- bytes, and no whole block
-pub none_fits : (n : ℕ) (rest : List ℕ) (finished : Bool) → n ≡ 0 → 0 < length rest → IsRight n rest finished rest (Refused LongRecord)
+pub none_fits : (n : ℕ) (rest : List ℕ) (finished : Bool) → n ≡ 0 → 0 < length rest → AnswersB8 n rest finished rest (Refused LongRecord)
 none_fits zero [] finished e some = absurd (omega arith)
 none_fits zero (b ∷ bytes) finished e some = (record { now = refl; so_far = λ _. refl; later = λ _ more. refl }, refl)
 none_fits (suc n) rest finished e some = absurd (omega arith)
 
-pub short_end : (n : ℕ) (rest : List ℕ) (finished : Bool) → 0 < n → 0 < length rest → length rest < block_len n → finished ≡ true → IsRight n rest finished rest (Refused ShortRecord)
+pub short_end : (n : ℕ) (rest : List ℕ) (finished : Bool) → 0 < n → 0 < length rest → length rest < block_len n → finished ≡ true → AnswersB8 n rest finished rest (Refused ShortRecord)
 short_end zero rest finished some bytes lt e = absurd (omega arith)
 short_end (suc n) [] finished some bytes lt e = absurd (omega arith)
 short_end (suc n) (b ∷ rest) false some bytes lt e = true_false (sym e)
 short_end (suc n) (b ∷ rest) true some bytes lt e = (record { now = records_short n b rest lt; so_far = λ o. true_false o; later = λ o. true_false o }, refl)
 
-pub short_open : (n : ℕ) (rest : List ℕ) (finished : Bool) → 0 < n → length rest < block_len n → finished ≡ false → IsRight n rest finished rest NotYet
+pub short_open : (n : ℕ) (rest : List ℕ) (finished : Bool) → 0 < n → length rest < block_len n → finished ≡ false → AnswersB8 n rest finished rest NotYet
 short_open zero rest finished some lt e = absurd (omega arith)
 short_open (suc n) rest finished some lt e = (e, prefix_short n rest lt, refl)
 
@@ -238,14 +230,14 @@ block_gives n rest finished given le e =
           ∙ ap (λ (g : Result (Option (List ℕ)) Kind). with_line g (prefix_b8 (suc n) (drop size rest ++ more))) e,
     )
 
-pub block_refused : (n : ℕ) (rest : List ℕ) (finished : Bool) → 0 < n → block_len n ≤ length rest → list_any is_set (drop n (bits_of (take (block_len n) rest))) ≡ true → IsRight n rest finished rest (Refused PaddingBit)
+pub block_refused : (n : ℕ) (rest : List ℕ) (finished : Bool) → 0 < n → block_len n ≤ length rest → list_any is_set (drop n (bits_of (take (block_len n) rest))) ≡ true → AnswersB8 n rest finished rest (Refused PaddingBit)
 block_refused zero rest finished some le h = absurd (omega arith)
 block_refused (suc n) rest finished some le h =
     let given = block_gives n rest finished (Err PaddingBit) le (cond-true _ _ _ h) in
     (record { now = given.0; so_far = λ _. given.1; later = λ _ more. given.2 more }, refl)
 
 pub block_shot : (n : ℕ) (rest : List ℕ) (finished : Bool) (shot : List ℕ) → 0 < n → block_len n ≤ length rest → list_any is_set (drop n (bits_of (take (block_len n) rest))) ≡ false
-    → shot ≡ places_from is_set 0 (bits_of (take (block_len n) rest)) → IsRight n rest finished (drop (block_len n) rest) (Shot shot)
+    → shot ≡ places_from is_set 0 (bits_of (take (block_len n) rest)) → AnswersB8 n rest finished (drop (block_len n) rest) (Shot shot)
 block_shot zero rest finished shot some le h e = absurd (omega arith)
 block_shot (suc n) rest finished shot some le h e =
     let size = block_len (suc n) in
@@ -254,17 +246,3 @@ block_shot (suc n) rest finished shot some le h e =
     cond-false _ _ _ h ∙ ap (λ (l : List ℕ). Ok (Some l)) (sym (e ∙ places_of_block (suc n) (bits_of block) h)) in
     let given = block_gives n rest finished (Ok (Some shot)) le judged in
     (record { shorter = omega (arith, length-drop size rest); now = given.0; so_far = λ _. given.1; later = λ _ more. given.2 more; onward = λ _ more. given.3 more }, refl)
-
--- the same, as the code has the rest at hand
-pub next_refused : (old : Reader ℕ) (n : ℕ) (rest : List ℕ) (finished : Bool) (slice : List ℕ) → reader n rest finished ≡ old → slice ≡ rest → 0 < n → block_len n ≤ length slice
-    → list_any is_set (drop n (bits_of (take (block_len n) slice))) ≡ true → Answers records_b8 prefix_b8 (drop (block_len old.subject)) old old (Refused PaddingBit)
-next_refused old n rest finished slice old-is slice-is some le h =
-    subst (λ (r : Reader ℕ). Answers records_b8 prefix_b8 (drop (block_len r.subject)) r r (Refused PaddingBit)) old-is
-    (subst (λ (l : List ℕ). IsRight n l finished l (Refused PaddingBit)) slice-is (block_refused n slice finished some le h))
-
-pub next_shot : (old : Reader ℕ) (n : ℕ) (rest : List ℕ) (finished : Bool) (slice shot : List ℕ) → reader n rest finished ≡ old → slice ≡ rest → 0 < n → block_len n ≤ length slice
-    → list_any is_set (drop n (bits_of (take (block_len n) slice))) ≡ false → shot ≡ places_from is_set 0 (bits_of (take (block_len n) slice))
-    → Answers records_b8 prefix_b8 (drop (block_len old.subject)) old (reader n (drop (block_len n) rest) finished) (Shot shot)
-next_shot old n rest finished slice shot old-is slice-is some le h e =
-    subst (λ (r : Reader ℕ). Answers records_b8 prefix_b8 (drop (block_len r.subject)) r (reader n (drop (block_len n) rest) finished) (Shot shot)) old-is
-    (subst (λ (l : List ℕ). IsRight n l finished (drop (block_len n) l) (Shot shot)) slice-is (block_shot n slice finished shot some le h e))

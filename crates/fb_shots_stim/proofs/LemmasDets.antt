@@ -10,7 +10,7 @@ use Rattle.fb_shots_stim.specs.declared.answer.Kind.TheVariants.{BadToken, Index
 use Rattle.fb_records.specs.Records.{refused}
 use Rattle.fb_records.specs.Lines.{holds, whole_parts, last_part, if_not_empty, without_return, bare, Stays}
 use Rattle.fb_shots_stim.specs.TextDets.{ended_words, words_of, with_word, with_words, with_detector, with_letter, index_of, shot_of, ending_of, line_dets, begun_dets, records_dets, prefix_dets, is_nothing, is_blank, after_record}
-use Rattle.fb_shots_stim.specs.WordsDets.{IsAt}
+use Rattle.fb_shots_stim.specs.InternalWordsDets.{IsAt}
 use Rattle.fb_records.proofs.LineLemmas.{whole_parts_none, whole_parts_one, last_part_none, last_part_one, parts_of, holds_none}
 use Rattle.fb_records.proofs.RecordLemmas.{stays_bare}
 use Rattle.fb_records.proofs.AnswerLemmas.{skips_nothing, skips_line, blank_after}

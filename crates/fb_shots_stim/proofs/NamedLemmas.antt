@@ -12,7 +12,7 @@ use Rattle.std.proofs.lemmas.List.Elements.{All-push, All-head, All-tail}
 use Rattle.std.proofs.lemmas.List.Sums.{sum_by-cons, sum_by_push}
 use Rattle.std.proofs.lemmas.List.Sorted.{All-permutation, IsNonDecreasingBy-from_sort, sum_by-IsPermutation, list_any-IsPermutation}
 use Rattle.fb_shots_stim.specs.TextDets.{is_digit, number_from, rising}
-use Rattle.fb_shots_stim.specs.WordsDets.{times, IsMarked}
+use Rattle.fb_shots_stim.specs.InternalWordsDets.{times, IsMarked}
 
 -- ---- indices
 
@@ -52,8 +52,8 @@ times_last k index named = sum_by_push (λ (y : ℕ). if eqb k y then 1 else 0) 
 pub marked_made : (n : ℕ) (old new : List Bool) (named : List ℕ) → IsMarked n old named → length new ≡ n → (length old ≡ n → new ≡ old) → (length old ≢ n → (k : ℕ) → get_or new k false ≡ false) → IsMarked n new named
 marked_made n old new named m size kept none = record {
   size = λ _. size;
-  tells = λ k lt. elim (cases_eq (length old) n) [
-    | inl e ↦ let same = kept e in ap (λ (l : List Bool). get_or l k false) same ∙ m.tells k (omega (arith, ap length same))
+  marked = λ k lt. elim (cases_eq (length old) n) [
+    | inl e ↦ let same = kept e in ap (λ (l : List Bool). get_or l k false) same ∙ m.marked k (omega (arith, ap length same))
     | inr e ↦ none e k ∙ sym (ap (list_any (eqb k)) (nothing named (λ some. e (m.size some))))
   ];
   once = m.once;
@@ -68,10 +68,10 @@ marked_made n old new named m size kept none = record {
 pub marked_more : (n : ℕ) (marks : List Bool) (named : List ℕ) (index : ℕ) → IsMarked n marks named → length marks ≡ n → index < n → list_any (eqb index) named ≡ false → IsMarked n (set marks index true) (named ++ index ∷ [])
 marked_more n marks named index m size lt new = record {
   size = λ _. length-set marks index true ∙ size;
-  tells = λ k below. elim (cases_eq k index) [
+  marked = λ k below. elim (cases_eq k index) [
     | inl e ↦ subst (λ (j : ℕ). get_or (set marks index true) j false ≡ list_any (eqb j) (named ++ index ∷ [])) (sym e)
         (get_or-set_same marks index true false (omega arith) ∙ sym (any_last index index named ∙ rw (new, eq-eqb index index refl) refl))
-    | inr e ↦ get_or-set_other marks index k true false e ∙ m.tells k (omega (arith, length-set marks index true))
+    | inr e ↦ get_or-set_other marks index k true false e ∙ m.marked k (omega (arith, length-set marks index true))
         ∙ sym (any_last k index named ∙ rw (ne_eqb k index e) (or-false (list_any (eqb k) named)))
   ];
   once = λ k. elim (cases_eq k index) [

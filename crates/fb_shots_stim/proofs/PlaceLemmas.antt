@@ -5,11 +5,11 @@ use Rattle.std.specs.Prelude.{IfOk, IfErr, IfSome, IfNone, OnOk}
 use Rattle.fb_shots_stim.specs.declared.answer.Kind.{Kind}
 use Rattle.fb_records.specs.declared.answer.Stop.{Stop}
 use Rattle.fb_records.specs.declared.answer.Next.TheVariants.{Shot, NotYet, End, Refused}
-use Rattle.fb_records.specs.Lines.{holds, if_not_empty, part_of, without_return}
+use Rattle.fb_records.specs.Lines.{holds, if_not_empty, without_return}
+use Rattle.fb_records.specs.InternalSteps.{part_of, IfRefused}
 use Rattle.fb_shots_stim.specs.TextDets.{with_words, shot_of, rising}
-use Rattle.fb_shots_stim.specs.WordsDets.{RecordSoFar, IsAt, IsPlace}
-use Rattle.fb_shots_stim.specs.StopsDets.{AnswersDets}
-use Rattle.fb_records.specs.Answers.{IfRefused}
+use Rattle.fb_shots_stim.specs.InternalWordsDets.{RecordSoFar, IsAt, IsPlace}
+use Rattle.fb_shots_stim.specs.InternalAnswers.{AnswersDets}
 use Rattle.fb_records.proofs.AnswerLemmas.{refused_then}
 use Rattle.fb_records.proofs.PartLemmas.{part_none, part_two, take_part, part_more}
 use Rattle.fb_shots_stim.proofs.LemmasDets.{Words, never_none, at_start, at_more, at_space, at_newline, shot_none}

@@ -2,13 +2,13 @@
 use Rattle.std.proofs.Common.{◌≡◌, ℕ, Bool, true, false, List, [], ◌∷◌, ◌++◌, Option, Some, None, Ok, Err, refl, sym, ap, ◌∙◌, append_assoc}
 use Rattle.std.proofs.lemmas.List.{append-nil}
 use Rattle.fb_shots_stim.specs.declared.answer.Kind.{Kind}
-use Rattle.fb_records.specs.declared.answer.Next.{Next}
 use Rattle.fb_records.specs.declared.answer.Next.TheVariants.{Shot, NotYet, End, Refused}
 use Rattle.fb_records.specs.Records.{refused, only, with_line, Reader}
-use Rattle.fb_records.specs.Answers.{Gives, Answers}
+use Rattle.fb_records.specs.Answers.{Gives}
 use Rattle.fb_records.specs.Lines.{holds, if_not_empty, without_return, bare}
 use Rattle.fb_shots_stim.specs.TextDets.{ended_words, words_of, with_words, rising, shot_of, ending_of, line_dets, begun_dets, records_dets, prefix_dets, is_blank, after_record}
-use Rattle.fb_shots_stim.specs.WordsDets.{IsAt}
+use Rattle.fb_shots_stim.specs.InternalAnswers.{AnswersDets}
+use Rattle.fb_shots_stim.specs.InternalWordsDets.{IsAt}
 use Rattle.fb_records.proofs.LineLemmas.{holds_none}
 use Rattle.fb_records.proofs.RecordLemmas.{prefix_one, prefix_none, refused_part}
 use Rattle.fb_records.proofs.AnswerLemmas.{skip_gives, skip_refuses, refuses_prefix, refuses_last, gives_line, gives_last, records_end, record_after, last_after}
@@ -16,9 +16,6 @@ use Rattle.fb_shots_stim.proofs.LemmasDets.{Words, stays_dets, whole_line, whole
 
 abbrev pub reader : ℕ → List ℕ → Bool → Reader ℕ
 reader n rest finished = record { subject = n; rest = rest; finished = finished }
-
-abbrev pub IsRight : ℕ → List ℕ → Bool → List ℕ → Next Kind → Type 0
-IsRight n rest finished left a = Answers records_dets prefix_dets after_record (reader n rest finished) (reader n left finished) a
 
 -- ---- the end of a word
 
@@ -37,7 +34,7 @@ part_refused n skipped line word tail so_far kind at e =
     ∙ (refused_part (bare (line_dets n)) (bare (begun_dets n)) (stays_dets n) part tail kind (holds_none 10 line (word ++ 32 ∷ []) at.one_line (holds_none 10 word (32 ∷ []) at.in_line refl)) judged).1
 
 pub space_refused : (n : ℕ) (skipped line word tail : List ℕ) (so_far : Option (List ℕ)) (kind : Kind) (rest : List ℕ) (finished : Bool) → IsAt n skipped line word so_far
-    → with_words n (Ok so_far) (if_not_empty word) ≡ Err kind → rest ≡ skipped ++ (line ++ (word ++ 32 ∷ tail)) → IsRight n rest finished rest (Refused kind)
+    → with_words n (Ok so_far) (if_not_empty word) ≡ Err kind → rest ≡ skipped ++ (line ++ (word ++ 32 ∷ tail)) → AnswersDets n rest finished rest (Refused kind)
 space_refused n skipped line word tail so_far kind rest finished at e cut =
     let here = line ++ (word ++ 32 ∷ tail) in (
       skip_refuses (records_dets n) (prefix_dets n) after_record skipped here (reader n rest finished) kind at.skips cut
@@ -48,7 +45,7 @@ space_refused n skipped line word tail so_far kind rest finished at e cut =
 -- ---- the end of a line
 
 pub newline_refused : (n : ℕ) (skipped line word tail : List ℕ) (so_far : Option (List ℕ)) (kind : Kind) (rest : List ℕ) (finished : Bool) → IsAt n skipped line word so_far
-    → with_words n (Ok so_far) (if_not_empty (without_return word)) ≡ Err kind → rest ≡ skipped ++ ((line ++ word) ++ 10 ∷ tail) → IsRight n rest finished rest (Refused kind)
+    → with_words n (Ok so_far) (if_not_empty (without_return word)) ≡ Err kind → rest ≡ skipped ++ ((line ++ word) ++ 10 ∷ tail) → AnswersDets n rest finished rest (Refused kind)
 newline_refused n skipped line word tail so_far kind rest finished at e cut =
     let here = (line ++ word) ++ 10 ∷ tail in
     let h = one_line_of n skipped line word so_far at in
@@ -60,7 +57,7 @@ newline_refused n skipped line word tail so_far kind rest finished at e cut =
     )
 
 pub newline_shot : (n : ℕ) (skipped line word tail : List ℕ) (so_far : Option (List ℕ)) (named rest : List ℕ) (finished : Bool) → IsAt n skipped line word so_far
-    → with_words n (Ok so_far) (if_not_empty (without_return word)) ≡ Ok (Some named) → rest ≡ skipped ++ ((line ++ word) ++ 10 ∷ tail) → IsRight n rest finished tail (Shot (rising n named))
+    → with_words n (Ok so_far) (if_not_empty (without_return word)) ≡ Ok (Some named) → rest ≡ skipped ++ ((line ++ word) ++ 10 ∷ tail) → AnswersDets n rest finished tail (Shot (rising n named))
 newline_shot n skipped line word tail so_far named rest finished at e cut =
     let here = (line ++ word) ++ 10 ∷ tail in
     let h = one_line_of n skipped line word so_far at in
@@ -74,7 +71,7 @@ newline_shot n skipped line word tail so_far named rest finished at e cut =
 -- ---- the end of what was fed
 
 pub open_so_far : (n : ℕ) (skipped line word : List ℕ) (so_far : Option (List ℕ)) (rest : List ℕ) (finished : Bool) → IsAt n skipped line word so_far → finished ≡ false → rest ≡ skipped ++ (line ++ word)
-    → IsRight n rest finished rest NotYet
+    → AnswersDets n rest finished rest NotYet
 open_so_far n skipped line word so_far rest finished at e cut =
     let words : ended_words (without_return (line ++ word)) ≡ ended_words line =
     ap ended_words (return_stays line word at.ended) ∙ ended_end line (without_return word) at.ended (return_holds 32 word at.in_word) in (
@@ -87,7 +84,7 @@ open_so_far n skipped line word so_far rest finished at e cut =
 -- ---- the end of the input
 
 pub end_refused : (n : ℕ) (skipped line word : List ℕ) (so_far : Option (List ℕ)) (kind : Kind) (rest : List ℕ) (finished : Bool) → IsAt n skipped line word so_far → finished ≡ true
-    → with_words n (Ok so_far) (if_not_empty (without_return word)) ≡ Err kind → rest ≡ skipped ++ (line ++ word) → IsRight n rest finished rest (Refused kind)
+    → with_words n (Ok so_far) (if_not_empty (without_return word)) ≡ Err kind → rest ≡ skipped ++ (line ++ word) → AnswersDets n rest finished rest (Refused kind)
 end_refused n skipped line word so_far kind rest finished at done e cut =
     let here = line ++ word in
     let given : line_dets n (without_return here) ≡ Err kind = whole_line n skipped line word so_far at ∙ ap (shot_of n) e in (
@@ -97,7 +94,7 @@ end_refused n skipped line word so_far kind rest finished at done e cut =
     )
 
 pub end_nothing : (n : ℕ) (skipped line word : List ℕ) (so_far : Option (List ℕ)) (rest : List ℕ) (finished : Bool) → IsAt n skipped line word so_far → finished ≡ true
-    → with_words n (Ok so_far) (if_not_empty (without_return word)) ≡ Ok None → rest ≡ skipped ++ (line ++ word) → IsRight n rest finished rest End
+    → with_words n (Ok so_far) (if_not_empty (without_return word)) ≡ Ok None → rest ≡ skipped ++ (line ++ word) → AnswersDets n rest finished rest End
 end_nothing n skipped line word so_far rest finished at done e cut =
     let here = line ++ word in
     let given : line_dets n (without_return here) ≡ Ok None = whole_line n skipped line word so_far at ∙ ap (shot_of n) e in
@@ -113,7 +110,7 @@ after_last [] h some = absurd cc
 after_last (b ∷ line) h some = last_after (bare is_blank) b line h some
 
 pub end_shot : (n : ℕ) (skipped line word : List ℕ) (so_far : Option (List ℕ)) (named rest : List ℕ) (finished : Bool) → IsAt n skipped line word so_far → finished ≡ true
-    → with_words n (Ok so_far) (if_not_empty (without_return word)) ≡ Ok (Some named) → rest ≡ skipped ++ (line ++ word) → IsRight n rest finished [] (Shot (rising n named))
+    → with_words n (Ok so_far) (if_not_empty (without_return word)) ≡ Ok (Some named) → rest ≡ skipped ++ (line ++ word) → AnswersDets n rest finished [] (Shot (rising n named))
 end_shot n skipped line word so_far named rest finished at done e cut =
     let here = line ++ word in
     let h = one_line_of n skipped line word so_far at in

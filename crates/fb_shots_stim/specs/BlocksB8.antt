@@ -10,11 +10,12 @@ use Rattle.fb_shots_stim.specs.Shots.{places_from}
 abbrev pub block_len : ℕ → ℕ
 block_len n = (n + 7) / 8
 
--- the lowest bits of a number, so many, the least significant first
+-- the `count` lowest bits of a number, the least significant first
 unfoldable pub low_bits : ℕ → ℕ → List ℕ
 low_bits zero b = []
 low_bits (suc count) b = (b % 2) ∷ low_bits count (b / 2)
 
+-- the bits of a block, the first byte's first
 abbrev pub bits_of : List ℕ → List ℕ
 bits_of block = flat_map (low_bits 8) block
 
@@ -27,11 +28,12 @@ block_b8 n block =
     if list_any is_set (drop n (bits_of block)) then Err PaddingBit
     else Ok (Some (places_from is_set 0 (take n (bits_of block))))
 
--- so many blocks of so many bytes, from the first byte on
+-- `count` blocks of `size` bytes each, from the first byte on
 abbrev pub blocks : ℕ → ℕ → List ℕ → List (List ℕ)
 blocks size zero bytes = []
 blocks size (suc count) bytes = take size bytes ∷ blocks size count (drop size bytes)
 
+-- the blocks of which some bytes hold every byte
 abbrev pub whole_blocks : ℕ → List ℕ → List (List ℕ)
 whole_blocks size bytes = blocks size (length bytes / size) bytes
 

@@ -1,4 +1,4 @@
--- What it is called, where it is printed, why a record is refused.
+-- The names that are printed of why a record is refused.
 use Rattle.std.specs.Prelude.{ℕ, List, codes}
 use Rattle.fb_shots_stim.specs.declared.answer.Kind.{Kind}
 use Rattle.fb_shots_stim.specs.declared.answer.Kind.TheVariants.{BadByte, ShortRecord, LongRecord, PaddingBit, BadToken, IndexOutOfRange, RepeatedIndex, MeasurementToken}

@@ -1,8 +1,8 @@
 pub mod Shots
 pub mod Text01
-pub mod Step01
+pub mod InternalStep01
 pub mod BlocksB8
 pub mod TextDets
-pub mod WordsDets
-pub mod StopsDets
+pub mod InternalWordsDets
+pub mod InternalAnswers
 pub mod FaultTexts

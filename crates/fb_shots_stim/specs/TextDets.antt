@@ -88,7 +88,7 @@ records_dets n = records_by_lines (bare (line_dets n))
 abbrev pub prefix_dets : ℕ → List ℕ → Records Kind
 prefix_dets n = prefix_by_lines (bare (line_dets n)) (bare (begun_dets n))
 
--- ---- what an answer uses
+-- ---- what a result uses
 
 abbrev pub is_nothing : List (List ℕ) → Bool
 is_nothing [] = true
@@ -98,6 +98,6 @@ is_nothing (word ∷ words) = false
 abbrev pub is_blank : List ℕ → Bool
 is_blank line = is_nothing (words_of line)
 
--- what stands after the first line that has a word
+-- what follows the first line that has a word
 abbrev pub after_record : List ℕ → List ℕ
 after_record = after_first (bare is_blank)

@@ -6,7 +6,7 @@ ghost use Rattle.fb_shots_stim.specs.FaultTexts.{kind_name};
 /// Why a record is refused.
 #[derive(Clone, Copy, Debug, PartialEq, Eq)]
 pub enum Kind {
-    /// A byte other than `0` and `1` stands where a detector's bit does.
+    /// A detector's bit is a byte other than `0` and `1`.
     BadByte,
     /// A record ends before its last detector.
     ShortRecord,
@@ -20,12 +20,12 @@ pub enum Kind {
     IndexOutOfRange,
     /// A record names a detector twice.
     RepeatedIndex,
-    /// A measurement stands in a record of detectors.
+    /// A record of detectors has a measurement.
     MeasurementToken,
 }
 
 impl Kind {
-    /// What it is called where it is printed.
+    /// The name that is printed.
     pub fn name(self) -> &'static str
         ensures { result.now ≡ kind_name self }
     {

@@ -1,15 +1,13 @@
 //! The format `01`: a line for each shot, a byte `0` or `1` for each detector.
 
-ghost use Rattle.std.specs.Prelude.{◌≡◌, ℕ, ◌+◌, ◌^◌, ◌<◌, ◌≤◌, ◌++◌, [], Bool, true, false, length, replicate, take, slice_index, IfOk, OnOk, OnErr};
+ghost use Rattle.std.specs.Prelude.{◌≡◌, ℕ, ◌+◌, ◌^◌, ◌<◌, ◌≤◌, ◌++◌, [], true, false, length, replicate, take, slice_index, IfOk, OnOk};
 ghost use Rattle.std.specs.List.{list_all};
-ghost use Rattle.fb_records.specs.Lines.{after_line};
-ghost use Rattle.fb_records.specs.Answers.{answer_of, reading, Answers, IfShot};
-ghost use Rattle.fb_shots_stim.specs.Shots.{IsShotOf, places_from};
-ghost use Rattle.fb_shots_stim.specs.Text01.{is_bit, is_one, records_01, prefix_01};
-ghost use Rattle.fb_shots_stim.specs.Step01.{step_01, line_end_01};
+ghost use Rattle.fb_shots_stim.specs.Shots.{places_from};
+ghost use Rattle.fb_shots_stim.specs.Text01.{is_bit, is_one};
+ghost use Rattle.fb_shots_stim.specs.InternalStep01.{step_01, line_end_01};
 
 use crate::answer::Kind;
-use fb_records::{Next, NoMemory, Numbers, Pending};
+use fb_records::{Found, NoMemory, Numbers, RecordFormat, RecordReader, Stop};
 use std::alloc::Global;
 use std::marker::Model;
 
@@ -20,94 +18,85 @@ const WORD_BYTES: usize = 8;
 const ZEROS: u64 = 0x3030_3030_3030_3030;
 
 /// A reader of shots in the format `01`. Contracts see the bytes fed that no result has used, and whether they are all.
+pub type Records01 = RecordReader<Dense>;
+
+/// The format `01` of shots of some detectors. Contracts see the number of them.
 #[derive(Drop)]
-pub struct Records01 {
+pub struct Dense {
     alloc: Global,
     detectors: u32,
-    pending: Pending,
-    /// How far the bytes of the record begun are known to be bits.
-    scanned: usize,
-    finished: bool,
 }
 
-impl Model for Records01 {
-    ghost use Rattle.std.specs.Prelude.{◌≡◌, ℕ, ◌≤◌, true, length, take};
+impl Model for Dense {
+    ghost use Rattle.std.specs.Prelude.{ℕ};
+
+    ghost Value = { ℕ };
+
+    ghost view = { λ f. f.detectors };
+}
+
+impl RecordFormat for Dense {
+    ghost use Rattle.std.specs.Prelude.{◌≡◌, ◌≤◌, true, length, take};
     ghost use Rattle.std.specs.List.{list_all};
-    ghost use Rattle.fb_records.specs.Records.{Reader};
-    ghost use Rattle.fb_shots_stim.specs.Text01.{is_bit};
+    ghost use Rattle.std.proofs.Common.{rules};
+    ghost use Rattle.std.proofs.lemmas.Grind.{common_steps};
+    ghost use Rattle.fb_records.specs.Lines.{after_line};
+    ghost use Rattle.fb_shots_stim.specs.Shots.{IsShotOf};
+    ghost use Rattle.fb_shots_stim.specs.Text01.{is_bit, records_01, prefix_01};
 
-    ghost Value = { Reader ℕ };
+    type Subject = u32;
 
-    ghost view = { λ r. record { subject = r.detectors; rest = r.pending; finished = r.finished } };
+    /// How far the bytes of the record begun are known to be bits.
+    type Begun = usize;
 
-    ghost invariant = { λ r. (r.scanned ≤ length r.pending) × (r.scanned ≤ r.detectors) × (list_all is_bit (take r.scanned r.pending) ≡ true) };
-}
+    type Kind = Kind;
 
-impl Records01 {
-    /// A reader of shots of so many detectors, with no bytes yet.
-    pub fn new(alloc: Global, detectors: u32) -> Self
-        ensures { result ≡ record { subject = detectors; rest = []; finished = false } }
-    {
-        Records01 {
-            alloc,
-            detectors,
-            pending: Pending::new(alloc),
-            scanned: 0,
-            finished: false,
-        }
+    ghost subject_of = { λ n. n };
+
+    ghost records = { records_01 };
+
+    ghost prefix = { prefix_01 };
+
+    ghost after = { λ n. after_line };
+
+    ghost IsShot = { IsShotOf };
+
+    ghost IsBegun = { λ n scanned bytes. (scanned ≤ length bytes) × (scanned ≤ n) × (list_all is_bit (take scanned bytes) ≡ true) };
+
+    fn new(alloc: Global, detectors: u32) -> Self {
+        Dense { alloc, detectors }
     }
 
-    /// Takes the next piece of the input. Without memory nothing is taken.
-    pub fn feed(&mut self, piece: &[u8]) -> Result<(), NoMemory>
-        requires { self.old.finished ≡ false }
-        ensures ok { OnOk result (self.new ≡ record self.old { rest = self.old.rest ++ piece.now }) }
-        ensures err { OnErr result (self.new ≡ self.old) }
-    {
-        self.pending.put(piece)
+    fn start(&self) -> usize {
+        0
     }
 
-    /// Says that the input has no further piece.
-    pub fn finish(&mut self)
-        ensures { self.new ≡ record self.old { finished = true } }
-    {
-        self.finished = true;
-    }
-
-    /// Reads the first record of the bytes that no result has used. A shot uses up its line, and
-    /// nothing else uses any byte.
-    pub fn next(&mut self) -> Result<Next<Kind>, NoMemory>
-        ensures answer { IfOk result (λ a. a ≡ answer_of (reading records_01 prefix_01 self.old)) }
-        ensures meaning { IfOk result (Answers records_01 prefix_01 after_line self.old self.new) }
-        ensures detectors { self.new.subject ≡ self.old.subject }
-        ensures finished { self.new.finished ≡ self.old.finished }
-        ensures shot { IfOk result (IfShot (IsShotOf self.old.subject)) }
-        ensures err { OnErr result (self.new ≡ self.old) }
-    {
-        let rest = self.pending.as_slice();
-        let good = leading_bits(rest, self.scanned, self.detectors as usize);
-        match step_at(self.detectors, self.finished, good, &rest[good..]) {
+    fn advance(
+        &self,
+        scanned: &mut usize,
+        rest: &[u8],
+        finished: bool,
+    ) -> Result<Found, Stop<Kind>> {
+        let good = leading_bits(rest, *scanned, self.detectors as usize);
+        *scanned = good;
+        match step_at(self.detectors, finished, good, &rest[good..]) {
             Step::Line(used) => {
                 let shot = ones(self.alloc, &rest[..good])?;
-                self.pending.take_off(used);
-                self.scanned = 0;
-                Ok(Next::Shot(shot))
+                *scanned = 0;
+                Ok(Found::Shot(shot, used))
             }
-            Step::NotYet => {
-                self.scanned = good;
-                Ok(Next::NotYet)
-            }
-            Step::End => Ok(Next::End),
-            Step::Refused(kind) => {
-                self.scanned = good;
-                Ok(Next::Refused(kind))
-            }
+            Step::NotYet => Ok(Found::NotYet),
+            Step::End => Ok(Found::End),
+            Step::Refused(kind) => Err(Stop::Refused(kind)),
         }
     }
+
+    ghost grows = { λ n scanned bytes more h. Prim.search (rules, common_steps) };
 }
 
 /// What follows the bits that a line begins with.
 enum Step {
-    /// The line's end: so many bytes are the line with its end.
+    /// The line's end; the line and its end have this many bytes.
     Line(usize),
     NotYet,
     End,

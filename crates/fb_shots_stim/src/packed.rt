@@ -1,14 +1,15 @@
 //! The format `b8`: a block of bytes for each shot, a bit for each detector, the least significant first.
 
-ghost use Rattle.std.specs.Prelude.{◌≡◌, ℕ, ◌+◌, ◌*◌, ◌^◌, ◌<◌, ◌≤◌, ◌++◌, [], true, false, length, drop, IfOk, OnOk, OnErr};
+ghost use Rattle.std.specs.Prelude.{◌≡◌, ℕ, ◌+◌, ◌*◌, ◌^◌, ◌<◌, ◌≤◌, ◌++◌, [], length, drop, IfOk, IfErr, OnOk};
 ghost use Rattle.std.specs.List.{list_any};
-ghost use Rattle.fb_records.specs.Records.{Reader};
-ghost use Rattle.fb_records.specs.Answers.{answer_of, reading, Answers, IfShot};
+ghost use Rattle.fb_records.specs.InternalSteps.{IfFound, IfRefused, answer_at, used_of};
+ghost use Rattle.fb_records.specs.declared.answer.Next.TheVariants as next;
 ghost use Rattle.fb_shots_stim.specs.Shots.{IsShotOf, places_from};
 ghost use Rattle.fb_shots_stim.specs.BlocksB8.{block_len, low_bits, bits_of, is_set, records_b8, prefix_b8};
+ghost use Rattle.fb_shots_stim.specs.InternalAnswers.{AnswersB8};
 
 use crate::answer::Kind;
-use fb_records::{Next, NoMemory, Numbers, Pending};
+use fb_records::{Found, NoMemory, Numbers, RecordFormat, RecordReader, Stop};
 use std::alloc::Global;
 use std::marker::Model;
 
@@ -16,91 +17,79 @@ use std::marker::Model;
 const WORD_BYTES: usize = 8;
 
 /// A reader of shots in the format `b8`. Contracts see the bytes fed that no result has used, and whether they are all.
+pub type RecordsB8 = RecordReader<Packed>;
+
+/// The format `b8` of shots of some detectors. Contracts see the number of them.
 #[derive(Drop)]
-pub struct RecordsB8 {
+pub struct Packed {
     alloc: Global,
     detectors: u32,
-    pending: Pending,
-    finished: bool,
 }
 
-impl Model for RecordsB8 {
+impl Model for Packed {
     ghost use Rattle.std.specs.Prelude.{ℕ};
-    ghost use Rattle.fb_records.specs.Records.{Reader};
 
-    ghost Value = { Reader ℕ };
+    ghost Value = { ℕ };
 
-    ghost view = { λ r. record { subject = r.detectors; rest = r.pending; finished = r.finished } };
+    ghost view = { λ f. f.detectors };
 }
 
-impl RecordsB8 {
-    /// A reader of shots of so many detectors, with no bytes yet.
-    pub fn new(alloc: Global, detectors: u32) -> Self
-        ensures { result ≡ record { subject = detectors; rest = []; finished = false } }
-    {
-        RecordsB8 {
-            alloc,
-            detectors,
-            pending: Pending::new(alloc),
-            finished: false,
-        }
+impl RecordFormat for Packed {
+    type Subject = u32;
+
+    type Begun = ();
+
+    type Kind = Kind;
+
+    ghost subject_of = { λ n. n };
+
+    ghost records = { records_b8 };
+
+    ghost prefix = { prefix_b8 };
+
+    ghost after = { λ n. drop (block_len n) };
+
+    ghost IsShot = { IsShotOf };
+
+    ghost IsBegun = { λ n begun bytes. Unit {0} };
+
+    fn new(alloc: Global, detectors: u32) -> Self {
+        Packed { alloc, detectors }
     }
 
-    /// Takes the next piece of the input. Without memory nothing is taken.
-    pub fn feed(&mut self, piece: &[u8]) -> Result<(), NoMemory>
-        requires { self.old.finished ≡ false }
-        ensures ok { OnOk result (self.new ≡ record self.old { rest = self.old.rest ++ piece.now }) }
-        ensures err { OnErr result (self.new ≡ self.old) }
-    {
-        self.pending.put(piece)
-    }
+    fn start(&self) -> () {}
 
-    /// Says that the input has no further piece.
-    pub fn finish(&mut self)
-        ensures { self.new ≡ record self.old { finished = true } }
-    {
-        self.finished = true;
-    }
-
-    /// Reads the first record of the bytes that no result has used. A shot uses up its block, and
-    /// nothing else uses any byte.
-    pub fn next(&mut self) -> Result<Next<Kind>, NoMemory>
-        ensures answer { IfOk result (λ a. a ≡ answer_of (reading records_b8 prefix_b8 self.old)) }
-        ensures meaning { IfOk result (Answers records_b8 prefix_b8 (drop (block_len self.old.subject)) self.old self.new) }
-        ensures detectors { self.new.subject ≡ self.old.subject }
-        ensures finished { self.new.finished ≡ self.old.finished }
-        ensures shot { IfOk result (IfShot (IsShotOf self.old.subject)) }
-        ensures err { OnErr result (self.new ≡ self.old) }
-    {
+    fn advance(&self, _: &mut (), rest: &[u8], finished: bool) -> Result<Found, Stop<Kind>> {
         let size = (self.detectors as usize + 7) / 8;
-        let rest = self.pending.as_slice();
         if size == 0 || rest.len() < size {
-            return Ok(unfilled(self.detectors, self.finished, rest));
+            return unfilled(self.detectors, finished, rest);
         }
         let block = &rest[..size];
         if has_padding(self.detectors, block) {
-            return Ok(Next::Refused(Kind::PaddingBit));
+            return Err(Stop::Refused(Kind::PaddingBit));
         }
-        let shot = set_bits(self.alloc, block)?;
-        self.pending.take_off(size);
-        Ok(Next::Shot(shot))
+        Ok(Found::Shot(set_bits(self.alloc, block)?, size))
     }
+
+    ghost grows = { λ n begun bytes more h. h };
 }
 
 /// The result for bytes that hold no whole block.
-fn unfilled(detectors: u32, finished: bool, rest: &[u8]) -> Next<Kind>
+fn unfilled(detectors: u32, finished: bool, rest: &[u8]) -> Result<Found, Stop<Kind>>
     requires { 0 < detectors → length rest.now < block_len detectors }
-    ensures { let r : Reader ℕ = record { subject = detectors; rest = rest.now; finished = finished } in
-        Answers records_b8 prefix_b8 (drop (block_len detectors)) r r result }
+    ensures ok { IfOk result (λ found. AnswersB8 detectors rest.now finished (drop (used_of found) rest.now) (answer_at found)) }
+    ensures used { IfOk result (λ found. used_of found ≤ length rest.now) }
+    ensures shot { IfOk result (IfFound (IsShotOf detectors)) }
+    ensures refused { IfErr result (IfRefused (λ kind. AnswersB8 detectors rest.now finished rest.now (next.Refused kind))) }
 {
     if rest.is_empty() {
-        if finished { Next::End } else { Next::NotYet }
+        Ok(if finished { Found::End } else { Found::NotYet })
     } else if detectors == 0 {
-        Next::Refused(Kind::LongRecord)
+        Err(Stop::Refused(Kind::LongRecord))
     } else if finished {
-        Next::Refused(Kind::ShortRecord)
+        Err(Stop::Refused(Kind::ShortRecord))
     } else {
-        Next::NotYet
+        Ok(Found::NotYet)
     }
 }
 

@@ -1,27 +1,42 @@
 //! The format `dets`: a line for each shot, the word `shot` and a word for each detector that fired.
 
-ghost use Rattle.std.specs.Prelude.{◌≡◌, ℕ, ◌+◌, ◌-◌, ◌<◌, ◌≤◌, ◌++◌, ◌∷◌, [], List, Bool, true, false, ◌||◌, ◌==◌, length, take, drop, slice_index, Ok, Err, Some, None, IfOk, IfErr, IfSome, IfNone, OnOk, OnErr};
-ghost use Rattle.fb_records.specs.Lines.{holds, if_not_empty, part_of, without_return};
-ghost use Rattle.fb_records.specs.Answers.{answer_of, reading, Answers, IfRefused, IfShot};
+ghost use Rattle.std.specs.Prelude.{◌≡◌, ℕ, ◌+◌, ◌-◌, ◌<◌, ◌≤◌, [], Bool, true, false, ◌==◌, length, take, drop, slice_index, Ok, Err, Some, None, IfOk, IfErr, IfSome, IfNone, OnOk, OnErr};
+ghost use Rattle.fb_records.specs.Lines.{holds, if_not_empty, without_return};
+ghost use Rattle.fb_records.specs.InternalSteps.{part_of, IfRefused};
 ghost use Rattle.fb_records.specs.declared.answer.Next.TheVariants as next;
-ghost use Rattle.fb_shots_stim.specs.Shots.{IsShotOf};
-ghost use Rattle.fb_shots_stim.specs.TextDets.{records_dets, prefix_dets, after_record, shot_of, with_words};
-ghost use Rattle.fb_shots_stim.specs.WordsDets.{IsPlace, is_word_end};
-ghost use Rattle.fb_shots_stim.specs.StopsDets.{AnswersDets, used_of, answer_at};
+ghost use Rattle.fb_shots_stim.specs.TextDets.{shot_of, with_words};
+ghost use Rattle.fb_shots_stim.specs.InternalWordsDets.{IsPlace, is_word_end};
+ghost use Rattle.fb_shots_stim.specs.InternalAnswers.{AnswersDets};
 
 use crate::answer::Kind;
 use crate::words::Words;
-use fb_records::{Next, NoMemory, Numbers, Pending, Stop, without_return};
+use fb_records::{Found, Numbers, RecordFormat, RecordReader, Stop, without_return};
 use std::alloc::Global;
 use std::marker::Model;
 
 /// A reader of shots in the format `dets`. Contracts see the bytes fed that no result has used, and whether they are all.
+pub type RecordsDets = RecordReader<Sparse>;
+
+/// The format `dets` of shots of some detectors. Contracts see the number of them.
 #[derive(Drop)]
-pub struct RecordsDets {
-    pending: Pending,
+pub struct Sparse {
+    alloc: Global,
+    detectors: u32,
+}
+
+impl Model for Sparse {
+    ghost use Rattle.std.specs.Prelude.{ℕ};
+
+    ghost Value = { ℕ };
+
+    ghost view = { λ f. f.detectors };
+}
+
+/// The record begun: its words, and how far a reader has come in the bytes that no result has used.
+#[derive(Drop)]
+pub struct Begun {
     words: Words,
     place: Place,
-    finished: bool,
 }
 
 /// How far a reader has come in the bytes that no result has used.
@@ -35,121 +50,75 @@ struct Place {
     seen: usize,
 }
 
-impl Model for RecordsDets {
-    ghost use Rattle.std.specs.Prelude.{ℕ};
-    ghost use Rattle.fb_records.specs.Records.{Reader};
-    ghost use Rattle.fb_shots_stim.specs.WordsDets.{IsPlace};
-
-    ghost Value = { Reader ℕ };
-
-    ghost view = { λ r. record { subject = r.words.detectors; rest = r.pending; finished = r.finished } };
-
-    ghost invariant = { λ r. IsPlace r.words r.pending r.place.line r.place.word r.place.seen };
-}
-
-impl RecordsDets {
-    /// A reader of shots of so many detectors, with no bytes yet.
-    pub fn new(alloc: Global, detectors: u32) -> Self
-        ensures { result ≡ record { subject = detectors; rest = []; finished = false } }
-    {
-        RecordsDets {
-            pending: Pending::new(alloc),
-            words: Words::new(alloc, detectors),
-            place: START,
-            finished: false,
-        }
-    }
-
-    /// Takes the next piece of the input. Without memory nothing is taken.
-    pub fn feed(&mut self, piece: &[u8]) -> Result<(), NoMemory>
-        requires { self.old.finished ≡ false }
-        ensures ok { OnOk result (self.new ≡ record self.old { rest = self.old.rest ++ piece.now }) }
-        ensures err { OnErr result (self.new ≡ self.old) }
-    {
-        self.pending.put(piece)
-    }
-
-    /// Says that the input has no further piece.
-    pub fn finish(&mut self)
-        ensures { self.new ≡ record self.old { finished = true } }
-    {
-        self.finished = true;
-    }
-
-    /// Reads the first record of the bytes that no result has used. A shot uses up its line and the lines
-    /// without a word before it, and nothing else uses any byte.
-    pub fn next(&mut self) -> Result<Next<Kind>, NoMemory>
-        ensures answer { IfOk result (λ a. a ≡ answer_of (reading records_dets prefix_dets self.old)) }
-        ensures meaning { IfOk result (Answers records_dets prefix_dets after_record self.old self.new) }
-        ensures detectors { self.new.subject ≡ self.old.subject }
-        ensures finished { self.new.finished ≡ self.old.finished }
-        ensures shot { IfOk result (IfShot (IsShotOf self.old.subject)) }
-        ensures err { OnErr result (self.new ≡ self.old) }
-    {
-        let rest = self.pending.as_slice();
-        match advance(&mut self.words, &mut self.place, rest, self.finished) {
-            Ok(Step::Shot(shot, used)) => {
-                self.pending.take_off(used);
-                Ok(Next::Shot(shot))
-            }
-            Ok(Step::NotYet) => Ok(Next::NotYet),
-            Ok(Step::End) => Ok(Next::End),
-            Err(Stop::Refused(kind)) => Ok(Next::Refused(kind)),
-            Err(Stop::NoMemory) => Err(NoMemory),
-        }
-    }
-}
-
-/// Where reading stops.
-enum Step {
-    /// A shot, of which so many bytes are used.
-    Shot(Numbers, usize),
-    NotYet,
-    End,
-}
-
 const START: Place = Place {
     line: 0,
     word: 0,
     seen: 0,
 };
 
-/// Reads words up to the end of a record or of the bytes.
-fn advance(
-    words: &mut Words,
-    place: &mut Place,
-    rest: &[u8],
-    finished: bool,
-) -> Result<Step, Stop<Kind>>
-    requires { IsPlace words.old rest.now place.old.line place.old.word place.old.seen }
-    ensures ok { IfOk result (λ step. AnswersDets words.old.detectors rest.now finished (drop (used_of step) rest.now) (answer_at step)
-        × IsPlace words.new (drop (used_of step) rest.now) place.new.line place.new.word place.new.seen
-        × (words.new.detectors ≡ words.old.detectors)) }
-    ensures used { IfOk result (λ step. used_of step ≤ length rest.now) }
-    ensures refused { IfErr result (IfRefused (λ kind. AnswersDets words.old.detectors rest.now finished rest.now (next.Refused kind))) }
-    ensures err { OnErr result (IsPlace words.new rest.now place.new.line place.new.word place.new.seen
-        × (words.new.detectors ≡ words.old.detectors)) }
-{
-    loop {
-        place.seen = word_end(rest, place.seen);
-        if place.seen == rest.len() {
-            if !finished {
-                return Ok(Step::NotYet);
-            }
-            let Some(shot) = take_last(words, *place, rest)? else {
-                return Ok(Step::End);
-            };
-            *place = START;
-            return Ok(Step::Shot(shot, rest.len()));
-        }
-        let used = place.seen + 1;
-        if rest[place.seen] == b' ' {
-            take_word(words, place, rest)?;
-        } else if let Some(shot) = take_line(words, place, rest)? {
-            *place = START;
-            return Ok(Step::Shot(shot, used));
+impl RecordFormat for Sparse {
+    ghost use Rattle.std.specs.Prelude.{◌≡◌};
+    ghost use Rattle.std.proofs.Common.{rules};
+    ghost use Rattle.std.proofs.lemmas.Grind.{common_steps};
+    ghost use Rattle.fb_shots_stim.specs.Shots.{IsShotOf};
+    ghost use Rattle.fb_shots_stim.specs.TextDets.{records_dets, prefix_dets, after_record};
+    ghost use Rattle.fb_shots_stim.specs.InternalWordsDets.{IsPlace};
+
+    type Subject = u32;
+
+    type Begun = Begun;
+
+    type Kind = Kind;
+
+    ghost subject_of = { λ n. n };
+
+    ghost records = { records_dets };
+
+    ghost prefix = { prefix_dets };
+
+    ghost after = { λ n. after_record };
+
+    ghost IsShot = { IsShotOf };
+
+    ghost IsBegun = { λ n begun bytes. (begun.words.detectors ≡ n)
+        × IsPlace begun.words bytes begun.place.line begun.place.word begun.place.seen };
+
+    fn new(alloc: Global, detectors: u32) -> Self {
+        Sparse { alloc, detectors }
+    }
+
+    fn start(&self) -> Begun {
+        Begun {
+            words: Words::new(self.alloc, self.detectors),
+            place: START,
         }
     }
+
+    /// Reads words up to the end of a record or of the bytes.
+    fn advance(&self, begun: &mut Begun, rest: &[u8], finished: bool) -> Result<Found, Stop<Kind>> {
+        loop {
+            begun.place.seen = word_end(rest, begun.place.seen);
+            if begun.place.seen == rest.len() {
+                if !finished {
+                    return Ok(Found::NotYet);
+                }
+                let Some(shot) = take_last(&mut begun.words, begun.place, rest)? else {
+                    return Ok(Found::End);
+                };
+                begun.place = START;
+                return Ok(Found::Shot(shot, rest.len()));
+            }
+            let used = begun.place.seen + 1;
+            if rest[begun.place.seen] == b' ' {
+                take_word(&mut begun.words, &mut begun.place, rest)?;
+            } else if let Some(shot) = take_line(&mut begun.words, &mut begun.place, rest)? {
+                begun.place = START;
+                return Ok(Found::Shot(shot, used));
+            }
+        }
+    }
+
+    ghost grows = { λ n begun bytes more h. (h.0, Prim.search (rules, common_steps)) };
 }
 
 /// Where the word ends that goes on from a place: at a space, a newline or the end of the bytes.

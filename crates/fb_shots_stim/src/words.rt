@@ -3,9 +3,9 @@
 ghost use Rattle.std.specs.Prelude.{◌≡◌, ◌≢◌, ℕ, ◌+◌, ◌*◌, ◌^◌, ◌<◌, ◌≤◌, ◌∷◌, ◌++◌, [], List, min, nat_eq, Bool, true, false, length, slice_index_or, option_map, IfErr, OnOk, OnErr, Ok, Err, Some, None, All};
 ghost use Rattle.std.specs.List.{list_any};
 ghost use Rattle.fb_records.specs.Lines.{if_not_empty};
-ghost use Rattle.fb_records.specs.Answers.{IfRefused};
+ghost use Rattle.fb_records.specs.InternalSteps.{IfRefused};
 ghost use Rattle.fb_shots_stim.specs.TextDets.{index_of, with_detector, with_words, rising};
-ghost use Rattle.fb_shots_stim.specs.WordsDets.{IsMarked};
+ghost use Rattle.fb_shots_stim.specs.InternalWordsDets.{IsMarked};
 
 use crate::answer::Kind;
 use fb_records::{NoMemory, Numbers, Stop};
@@ -26,7 +26,7 @@ pub struct Words {
 
 impl Model for Words {
     ghost use Rattle.std.specs.Prelude.{◌≡◌, [], false, Some, None, if◌then◌else◌};
-    ghost use Rattle.fb_shots_stim.specs.WordsDets.{RecordSoFar, IsMarked};
+    ghost use Rattle.fb_shots_stim.specs.InternalWordsDets.{RecordSoFar, IsMarked};
 
     ghost Value = { RecordSoFar };
 
@@ -104,7 +104,7 @@ impl Words {
     }
 }
 
-/// The number that the digits write, or `limit` if it is larger; none where they aren't one digit or more.
+/// The number that the digits write, or `limit` if it is larger; `None` unless they are one digit or more.
 fn index_of(digits: &[u8], limit: u32) -> Option<u32>
     ensures { result ≡ option_map (λ k. min k limit) (index_of digits.now) }
 {
@@ -164,7 +164,7 @@ fn make_marks(alloc: Global, detectors: u32, marks: &mut Vec<bool>) -> Result<()
 /// Takes back the marks of the detectors that are named.
 fn clear_marks(marks: &mut [bool], named: &[u32])
     requires size { All (λ k. k < length marks.old) named.now }
-    requires tells { (k : ℕ) → k < length marks.old → slice_index_or marks.old k false ≡ list_any (nat_eq k) named.now }
+    requires marked { (k : ℕ) → k < length marks.old → slice_index_or marks.old k false ≡ list_any (nat_eq k) named.now }
     ensures { (k : ℕ) → k < length marks.new → slice_index_or marks.new k false ≡ false }
 {
     for k in named {

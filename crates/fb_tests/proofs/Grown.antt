@@ -142,7 +142,7 @@ module _ (links : List (Option (List Step))) (nodes : List (Option Node)) (leave
     linked = linked_new nodes new n (blossom nodes cycle) made links fixture.linked linked;
   }
 
--- so many parts with their outer nodes, and steps made of them
+-- parts with their outer nodes, and steps made of them
 pub tops_start : (nodes : List (Option Node)) (parts : List (ℕ × ℕ)) → AreTops nodes parts 0 []
 tops_start nodes parts = record { counted = refl; each = λ k less. absurd (omega arith) }
 

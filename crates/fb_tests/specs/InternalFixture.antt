@@ -32,7 +32,7 @@ IsTop nodes part top = IsOuterWith nodes top part.0 × IsOuterWith nodes top par
 abbrev pub part_at : List (ℕ × ℕ) → ℕ → ℕ × ℕ
 part_at parts k = get_or parts k (0, 0)
 
--- the outer nodes of so many parts
+-- the outer nodes of the first `count` parts
 pub record AreTops (nodes : List (Option Node)) (parts : List (ℕ × ℕ)) (count : ℕ) (tops : List ℕ) : Type 0 where
   pub counted : length tops ≡ count
   pub each : (k : ℕ) → k < count → IsTop nodes (part_at parts k) (get_or tops k 0)
@@ -51,7 +51,7 @@ IsStep links parts tops k step =
     (step.node ≡ get_or tops k 0)
     × (link_at links step.link ≡ Some (edge_walk (part_at parts k).1 (part_at parts (next_place (length parts) k)).0))
 
--- the steps of so many parts
+-- the steps of the first `count` parts
 pub record AreSteps (links : List (Option (List Step))) (parts : List (ℕ × ℕ)) (tops : List ℕ) (count : ℕ) (cycle : List CycleStep) : Type 0 where
   pub counted : length cycle ≡ count
   pub each : (k : ℕ) → k < count → IsStep links parts tops k (step_at cycle k)

@@ -13,7 +13,7 @@ use std::test::Fail;
 
 const SLOTS: u32 = 1_001;
 
-/// What stands for the solution of an item.
+/// A piece for an item that nobody solves.
 #[derive(Drop)]
 struct Solved<'a> {
     job: &'a Job<'a>,
@@ -39,7 +39,7 @@ impl<'a> Piece for Solved<'a> {
     }
 }
 
-/// Adds the shot where it has a correction.
+/// Adds the shot if it has a correction.
 fn add_shot(
     graph: &Graph,
     parts: &mut Components<Whole<'_>>,

@@ -5,7 +5,7 @@ ghost use Rattle.fb_plan.specs.Plans.{IsPlan};
 ghost use Rattle.fb_book.specs.Books.{IsPieceAt, place_of};
 
 use fb_book::{Board, Book, Claim, Permit, Piece, order_of_nodes};
-use fb_crew::{Entry, Gate, Hands, Kind, OpenGate, Worked, work_all, work_here};
+use fb_crew::{Entry, Gate, Hands, Kind, MOST_WORKERS, OpenGate, Worked, work_all, work_here};
 use fb_graph::{Graph, NoMemory, Shot, components, first_odd};
 use fb_plan::{Job, Join, Plan};
 use std::alloc::Global;
@@ -128,10 +128,10 @@ const TURNS: u32 = 2_000_000_000;
 #[derive(Drop)]
 struct Meeting {
     units: AtomicU64,
-    /// 1 where the first unit has waited in vain.
+    /// 1 if the first unit has waited in vain.
     missed: AtomicU64,
     passed: AtomicU64,
-    /// One more than the worker's number, for each node; 0 where nobody came.
+    /// One more than the worker's number, for each node; 0 if nobody came.
     workers: [AtomicU64; 3],
 }
 
@@ -329,7 +329,7 @@ fn one_shot<'a>(alloc: Global, graph: &'a Graph, plan: &'a Plan) -> Result<Job<'
     Ok(Job::new(graph, plan, shots))
 }
 
-/// Lists the nodes of the job by so many workers, by way of the gate.
+/// Lists the nodes of the job by this number of workers, by way of the gate.
 fn list_by<'a, G: Gate, R: Threads + Wait + Sync>(
     rt: &R,
     alloc: Global,
@@ -337,7 +337,7 @@ fn list_by<'a, G: Gate, R: Threads + Wait + Sync>(
     workers: u32,
     gate: &G,
 ) -> Result<Worked<Listed<'a>, u32>, NoMemory>
-    requires { (1 ≤ workers) × (workers ≤ 64) }
+    requires { (1 ≤ workers) × (workers ≤ MOST_WORKERS) }
 {
     let tools = vec![in alloc; 0; workers as usize]?;
     work_all(rt, alloc, hands.job, workers, hands, gate, tools)
@@ -371,7 +371,7 @@ fn list_under_lock<R: Threads + Wait + Sync>(
 }
 
 /// By two workers, each of which makes a unit while the other one does, the root's nodes are made in the order of the tree,
-/// each once, and the history tells who gave which.
+/// each once, and the history has who gave which.
 #[test]
 fn meets_at_the_gate(rt: HostRuntime) -> Result<(), Fail> {
     let pair = Pair::new(rt.alloc())?;
@@ -420,7 +420,7 @@ fn meets_nobody_under_a_lock(rt: HostRuntime) -> Result<(), Fail> {
     Ok(())
 }
 
-/// Where one worker has no memory for a unit, the fusion above it is never asked for.
+/// If one worker has no memory for a unit, the fusion above it is never asked for.
 #[test]
 fn runs_out_of_memory(rt: HostRuntime) -> Result<(), Fail> {
     let pair = Pair::new(rt.alloc())?;

@@ -1,4 +1,4 @@
-//! A run over files and sinks in memory, which the program makes none of. Texts, statuses and faults stand in tests/cases.
+//! A run over files and sinks in memory, of which the program makes none. Texts, statuses and faults are in tests/cases.
 
 ghost use Rattle.std.specs.Prelude.{◌≡◌, [], IfOk};
 

@@ -12,7 +12,7 @@ fn line(alloc: Global) -> Result<Graph, Fail> {
     Ok(Graph::build(alloc, 5, &edges, &[0, 4])?)
 }
 
-/// Whether it is a shot of so many defects.
+/// Whether it is a shot of `count` defects.
 fn has_defects(step: &Result<Step, NoMemory>, count: u32) -> bool {
     match step {
         Ok(Step::Shot(shot)) => shot.len() == count,

@@ -1,4 +1,4 @@
-//! Blossoms formed and opened.
+//! Blossoms formed and opened (Edmonds 1965).
 
 ghost use Rattle.fb_laws.specs.Blossoms.{FormedEnds, BaseAlone, PairedEnds, OpenedOnce, OpenedElsewhere, KeptChild, OddCycle, PlusBase, EvenWay};
 

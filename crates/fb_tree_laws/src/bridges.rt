@@ -1,9 +1,9 @@
-//! The moves of a nest, told as the laws of searches tell them.
+//! The moves of a nest, in the form that the laws of searches have.
 
 ghost use Rattle.fb_laws.specs.NestBridges.{BlossomNamed, JoiningAllowed, BlossomOuter, UncoveredBack, UncoveredLowers, AbsorbedLowers, JoiningLowers};
 
-/// A blossom told by its children's names and sets is the one told by their names, and what may become a blossom of a
-/// tree may be joined.
+/// The blossom of children given by their names and sets is that of their names, and what may become a blossom of a tree
+/// may be joined.
 pub fn blossom_named()
     ensures named { BlossomNamed }
     ensures allowed { JoiningAllowed }

@@ -1,4 +1,4 @@
-//! The cycle that a link between two plus nodes closes in a search's tree.
+//! The cycle that a link between two plus nodes closes in a search's tree (Edmonds 1965).
 
 ghost use Rattle.fb_laws.specs.TreeCycles.{PathsPart, CycleJoining, CycleLinked, CycleMany, CycleMinus};
 ghost use Rattle.fb_laws.specs.OpenedCycles.{CycleOpened, StillPlus, WayRound, SplitOff, EndUnderChild, BlossomOpened};

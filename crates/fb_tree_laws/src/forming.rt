@@ -1,4 +1,4 @@
-//! A cycle of nodes that becomes a blossom.
+//! A cycle of nodes that becomes a blossom (Edmonds 1965).
 
 ghost use Rattle.fb_laws.specs.Forming.{MatchingFormed};
 

@@ -1,4 +1,4 @@
-//! Branches of a search's tree that become a blossom.
+//! Branches of a search's tree that become a blossom (Edmonds 1965).
 
 ghost use Rattle.fb_laws.specs.SearchBlossoms.{ThreeJoining, SearchJoined, JoinedLowers};
 

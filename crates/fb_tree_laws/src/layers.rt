@@ -3,7 +3,7 @@
 ghost use Rattle.fb_laws.specs.SearchLayers.{SearchAlike, FreeLowers, AttachLowers, AbsorbLowers, UncoverLowers};
 ghost use Rattle.fb_graph.specs.Alike.{TallerAlike, TallerCovers, TallerCovered};
 
-/// A search stays one where a vertex is absorbed, or an empty layer taken off; only that vertex changes its node.
+/// A search stays one when a vertex is absorbed, or an empty layer taken off; only that vertex changes its node.
 pub fn search_layers()
     ensures alike { SearchAlike }
     ensures taller { TallerAlike }

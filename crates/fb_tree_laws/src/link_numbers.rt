@@ -1,9 +1,9 @@
-//! Which links of a tree are kept by its moves, told by their numbers.
+//! Which links of a tree its moves keep, by their numbers.
 
 ghost use Rattle.fb_laws.specs.LinkNumbers.{BranchesCounted, CycleCounted, LinksEnded, LinksJoined, LinksOpened};
 
-/// Where a search ends each link of its tree is matched or dropped; where a cycle is joined its links leave the tree,
-/// and where a minus blossom is opened those of the way join it.
+/// When a search ends, each link of its tree is matched or dropped; when a cycle is joined, its links leave the tree; and
+/// when a minus blossom is opened, those of the way join it.
 pub fn links_moved()
     ensures ended { LinksEnded }
     ensures joined { LinksJoined }

@@ -1,5 +1,5 @@
 //! The whole state of a search, which each step keeps: a nest with its source walks, its matched links, its unmatched
-//! nodes and its tree.
+//! nodes and its tree (Edmonds 1965; Wu and Zhong 2023).
 
 ghost use Rattle.fb_laws.specs.NestedSearches.{NestedWorkBegins, NestedSearchBegins, NestedFree, NestedStepped, NestedAbsorbed, NestedUncovered, NestedAttached, NestedJoined, NestedOpened, NestedEnded, NestedMet, NestedReleased};
 
@@ -9,13 +9,13 @@ pub fn nested_begins()
     ensures search { NestedSearchBegins }
 {}
 
-/// No search is stuck: where neither an edge without residue nor an empty layer stands in the tree's way, there is a
-/// greatest free step, of at least 1.
+/// No search is stuck: if neither a tight edge nor an empty layer obstructs the tree, there is a greatest free step, of
+/// at least 1.
 pub fn nested_free()
     ensures { NestedFree }
 {}
 
-/// A free step keeps the state where no closed set is odd, since then an edge leaves each plus node.
+/// A free step keeps the state if no closed set is odd, since then an edge leaves each plus node.
 pub fn nested_stepped()
     ensures { NestedStepped }
 {}

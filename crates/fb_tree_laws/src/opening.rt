@@ -1,4 +1,4 @@
-//! Blossoms opened level by level.
+//! Blossoms opened level by level (Edmonds 1965).
 
 ghost use Rattle.fb_laws.specs.Opening.{WithinOnce, FirstLevel, NextLevel, LevelPermuted, LevelsOpened, LastLevel, LevelSolved};
 

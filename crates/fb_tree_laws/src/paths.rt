@@ -1,4 +1,4 @@
-//! Alternating paths, and what augmenting along one does to the ends of matched links.
+//! Alternating paths, and what augmenting along one does to the ends of matched links (Edmonds 1965).
 
 ghost use Rattle.fb_laws.specs.Paths.{PathsJoined, PathEnds, Augmented, AugmentedReleasing};
 

@@ -8,8 +8,8 @@ pub fn nodes_bounded()
     ensures blossoms { FewBlossoms }
 {}
 
-/// What is left to do in a search stays below the number of vertices and 2, part by part: so one number falls where it
-/// gets less, which a loop can use as its measure.
+/// What is left to do in a search stays below the number of vertices and 2, part by part: so one number falls with it,
+/// which a loop can use as its measure.
 pub fn rank_bounded()
     ensures parts { PartsBelow }
     ensures rank { SearchRankFalls }

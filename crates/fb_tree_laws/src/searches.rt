@@ -1,14 +1,14 @@
-//! The state of a search, which each step keeps until the root is matched.
+//! The state of a search, which each step keeps until the root is matched (Edmonds 1965).
 
 ghost use Rattle.fb_laws.specs.Searches.{SearchBegins, SearchPermuted, SearchRoles, RestOutside, SearchLevel, SearchPath, SearchStepped, SearchAttached, SearchEnded, SearchMet, SearchReleased};
 
-/// A search begins with an unmatched node; the order of links beside the tree doesn't count.
+/// A search begins with an unmatched node; the order of links beside the tree doesn't matter.
 pub fn search_begins()
     ensures begins { SearchBegins }
     ensures permuted { SearchPermuted }
 {}
 
-/// Of the state follow the tree's roles, its paths, and that each link gains as much as it loses by a step.
+/// From the state follow the tree's roles, its paths, and that each link gains as much as it loses by a step.
 pub fn search_tree()
     ensures roles { SearchRoles }
     ensures outside { RestOutside }

@@ -1,4 +1,4 @@
-//! A blossom of a search opened.
+//! A blossom of a search opened (Edmonds 1965).
 
 ghost use Rattle.fb_laws.specs.SearchOpenings.{MatchingOpened, SearchOpened, OpenedLowers};
 

@@ -1,4 +1,4 @@
-//! Blossoms formed in the tree of a half-solved part.
+//! Blossoms formed in the tree of a half-solved part (Edmonds 1965).
 
 ghost use Rattle.fb_laws.specs.StateBlossoms.{StateJoined, StateClosed, StateRounded};
 

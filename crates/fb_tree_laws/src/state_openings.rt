@@ -1,4 +1,4 @@
-//! A minus blossom opened in the tree of a half-solved part.
+//! A minus blossom opened in the tree of a half-solved part (Edmonds 1965).
 
 ghost use Rattle.fb_laws.specs.StateOpenings.{CycleFreed, StateOpened, StateOpens};
 

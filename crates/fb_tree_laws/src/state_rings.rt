@@ -1,4 +1,4 @@
-//! A minus blossom opened along its ring in a half-solved part.
+//! A minus blossom opened along its ring in a half-solved part (Edmonds 1965).
 
 ghost use Rattle.fb_laws.specs.StateRings.{ChildAtEnd, CycleAlong, StateOpenedAlong};
 

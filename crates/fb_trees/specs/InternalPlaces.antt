@@ -1,4 +1,4 @@
--- Where the branch of a node stands, and what a tree keeps.
+-- The place of a node's branch, and what a tree keeps.
 use Rattle.std.specs.Prelude.{ℕ, ◌≡◌, ◌<◌, ◌==◌, ◌||◌, List, [], ◌∷◌, length, Option, Some, None, if◌then◌else◌}
 use Rattle.fb_laws.specs.Trees.{EntryOf}
 use Rattle.fb_trees.specs.declared.branch.Branch.{Branch}

@@ -36,7 +36,7 @@ pub record IsBranchAt (t : Grown) (name : ℕ) (e : EntryOf ℕ) : Type 0 where
 abbrev pub is_node : Grown → ℕ → Bool
 is_node t name = is_in (tree_names t.root t.branches) name
 
--- the role of a node: out where it isn't in the tree
+-- the role of a node: out if it isn't in the tree
 abbrev pub role_in : Grown → ℕ → Role
 role_in t name =
     if is_in (plus_names t.root t.branches) name then Plus

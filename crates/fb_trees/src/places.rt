@@ -54,7 +54,7 @@ fn widen(places: &mut Places, node: NodeId) -> Result<(), NoMemory>
     Ok(())
 }
 
-/// Enters the nodes of the branches, the oldest one first, where no node is entered yet.
+/// Enters the nodes of the branches, the oldest one first. No node is entered yet.
 pub fn enter_all(places: &mut Places, branches: &[Branch])
     requires room { All (IsWithin (length places.old.items)) branches.now }
     requires empty { ArePlaces places.old.items [] }

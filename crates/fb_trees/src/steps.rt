@@ -41,7 +41,7 @@ pub fn branches_beside(
     Ok(others)
 }
 
-/// Where the way to the node goes on below the branch: its parent if the branch leads to the node. Else the branch is
+/// The node to which the way goes on below the branch: its parent if the branch leads to the node. Else the branch is
 /// beside the way, and added to the others.
 fn pass(others: &mut Vec<Branch>, branch: &Branch, node: NodeId) -> Result<NodeId, NoMemory>
     ensures next { IfOk result (λ next. next ≡ (if branch.now.plus == node then branch.now.parent else node)) }

@@ -34,8 +34,8 @@ pub fn solve_unit<'a, L: Ledger>(
 }
 
 /// The solved part of any node of a plan, a fusion's too, solved whole as if the node were a unit, and not from its
-/// children's parts. All real vertices of its sub-problem lie within the given reach. In the room of a part that is no longer
-/// used, if there is one, and with scratch space that is lent and given back, so that one serves many parts of a graph.
+/// children's parts. All real vertices of its sub-problem lie within the given reach. It takes the room of a part that is no
+/// longer used, if there is one, and scratch space that is lent and returned, so that one serves many parts of a graph.
 pub fn solve_within<'a, L: Ledger>(
     alloc: Global,
     job: &'a Job<'a>,

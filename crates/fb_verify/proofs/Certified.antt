@@ -22,7 +22,7 @@ use Rattle.fb_graph.proofs.Duality.{least_weight}
 use Rattle.fb_graph.proofs.OddComponents.{best_has_no_odd, no_correction}
 use Rattle.fb_graph.proofs.ParitySums.{differ_self, same_from_differ}
 use Rattle.fb_graph.proofs.Leasts.{least_none, least_failed}
-use Rattle.fb_verify.specs.Verdicts.{HasPositiveValues, IsLeastWeight, IsOddVerdict, IsVerdict, best_fault, cut_fault, cuts_fault, fault_of_two, fault_where, first_beyond, first_fall, has_wrong_parity, is_overloaded}
+use Rattle.fb_verify.specs.Verdicts.{HasPositiveValues, IsLeastWeight, IsOddVerdict, IsVerdict, best_fault, cut_fault, cuts_fault, fault_of_two, fault_if, first_beyond, first_fall, has_wrong_parity, is_overloaded}
 use Rattle.fb_graph.specs.Leasts.{least}
 use Rattle.fb_verify.specs.declared.verdicts.Verdict.{Verdict}
 use Rattle.fb_verify.specs.declared.verdicts.Verdict.TheVariants.{Good, EdgeOutOfRange, EdgesNotRising, WrongParity, WeightNotSum, CutEmpty, VertexOutOfRange, CutsNotRising, CutHoldsVirtual, CutEven, Overloaded, SumDiffers, OddWrong}
@@ -135,9 +135,9 @@ none-from_cut g shot j before c printed order =
     empty (ap is_some fall) (ap is_lt order) printed.odd.odd beyond virtual
   where
     none_of_six : (a b l o : Bool) (x y : Option ℕ) → a ≡ false → b ≡ false → l ≡ true → o ≡ true → x ≡ None → y ≡ None
-        → option_or (fault_where a (CutEmpty j)) (option_or (option_map VertexOutOfRange x) (option_or (fault_where b (CutsNotRising j))
-        (option_or (fault_where (not l) (CutsNotRising j)) (option_or (option_map CutHoldsVirtual y)
-        (option_or (fault_where (not o) (CutEven j)) None))))) ≡ None
+        → option_or (fault_if a (CutEmpty j)) (option_or (option_map VertexOutOfRange x) (option_or (fault_if b (CutsNotRising j))
+        (option_or (fault_if (not l) (CutsNotRising j)) (option_or (option_map CutHoldsVirtual y)
+        (option_or (fault_if (not o) (CutEven j)) None))))) ≡ None
     none_of_six false false true true None None e f h i u v = refl
     none_of_six true b l o x y e f h i u v = absurd (false≢true (sym e))
     none_of_six false true l o x y e f h i u v = absurd (false≢true (sym f))

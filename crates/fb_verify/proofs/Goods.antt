@@ -17,7 +17,7 @@ use Rattle.fb_graph.specs.declared.parts.Cut.{Cut}
 use Rattle.fb_graph.proofs.Sets.{distinct_from_rising, rising-cons, rising-nil, rising-one, rising-tail}
 use Rattle.fb_graph.proofs.Options.{is_some-none}
 use Rattle.fb_verify.proofs.Marked.{real-below}
-use Rattle.fb_verify.specs.Verdicts.{cut_fault, cuts_fault, fault_of_two, fault_where, first_beyond, first_fall, first_fall_after}
+use Rattle.fb_verify.specs.Verdicts.{cut_fault, cuts_fault, fault_of_two, fault_if, first_beyond, first_fall, first_fall_after}
 use Rattle.fb_verify.specs.declared.verdicts.Verdict.{Verdict}
 use Rattle.fb_verify.specs.declared.verdicts.Verdict.TheVariants.{Good, CutEmpty, VertexOutOfRange, CutsNotRising, CutHoldsVirtual, CutEven}
 use Rattle.fb_verify.proofs.Leasts.{below-from_beyond}
@@ -31,7 +31,7 @@ pub map_none : (f : ℕ → Verdict) (o : Option ℕ) → option_map f o ≡ Non
 map_none f None e = refl
 map_none f (Some v) e = cc
 
-where_none : (b : Bool) (v : Verdict) → fault_where b v ≡ None → b ≡ false
+where_none : (b : Bool) (v : Verdict) → fault_if b v ≡ None → b ≡ false
 where_none true v e = cc
 where_none false v e = refl
 
@@ -51,7 +51,7 @@ pub map_bad : (f : ℕ → Verdict) → ((k : ℕ) → f k ≢ Good) → (o : Op
 map_bad f bad None e = cc
 map_bad f bad (Some k) e = bad k cc
 
-where_bad : (b : Bool) (v : Verdict) → v ≢ Good → fault_where b v ≢ Some Good
+where_bad : (b : Bool) (v : Verdict) → v ≢ Good → fault_if b v ≢ Some Good
 where_bad true v bad e = bad cc
 where_bad false v bad e = cc
 
@@ -64,12 +64,12 @@ two_bad f bad a b e = step (a == b) e
 
 cut_bad : (g : DecodingGraph) (shot : ShotValue) (j : ℕ) (before vertices : List ℕ) → cut_fault g shot j before vertices ≢ Some Good
 cut_bad g shot j before vertices =
-    or_bad (fault_where (length vertices == 0) (CutEmpty j)) _ (where_bad (length vertices == 0) (CutEmpty j) (λ e. cc))
+    or_bad (fault_if (length vertices == 0) (CutEmpty j)) _ (where_bad (length vertices == 0) (CutEmpty j) (λ e. cc))
     (or_bad (option_map VertexOutOfRange (first_beyond g.vertices vertices)) _ (map_bad VertexOutOfRange (λ k e. cc) (first_beyond g.vertices vertices))
-    (or_bad (fault_where (is_some (first_fall vertices)) (CutsNotRising j)) _ (where_bad (is_some (first_fall vertices)) (CutsNotRising j) (λ e. cc))
-    (or_bad (fault_where (not (is_lt (slice_cmp nat_cmp before vertices))) (CutsNotRising j)) _ (where_bad (not (is_lt (slice_cmp nat_cmp before vertices))) (CutsNotRising j) (λ e. cc))
+    (or_bad (fault_if (is_some (first_fall vertices)) (CutsNotRising j)) _ (where_bad (is_some (first_fall vertices)) (CutsNotRising j) (λ e. cc))
+    (or_bad (fault_if (not (is_lt (slice_cmp nat_cmp before vertices))) (CutsNotRising j)) _ (where_bad (not (is_lt (slice_cmp nat_cmp before vertices))) (CutsNotRising j) (λ e. cc))
     (or_bad (option_map CutHoldsVirtual (find (is_in g.virtuals) vertices)) _ (map_bad CutHoldsVirtual (λ k e. cc) (find (is_in g.virtuals) vertices))
-    (or_bad (fault_where (not (is_odd_count (is_in shot.defects) vertices)) (CutEven j)) None (where_bad (not (is_odd_count (is_in shot.defects) vertices)) (CutEven j) (λ e. cc)) (λ e. cc))))))
+    (or_bad (fault_if (not (is_odd_count (is_in shot.defects) vertices)) (CutEven j)) None (where_bad (not (is_odd_count (is_in shot.defects) vertices)) (CutEven j) (λ e. cc)) (λ e. cc))))))
 
 pub cuts_bad : (g : DecodingGraph) (shot : ShotValue) (j : ℕ) (before : List ℕ) (cuts : List Cut) → cuts_fault g shot j before cuts ≢ Some Good
 cuts_bad g shot j before [] = λ e. cc
@@ -137,12 +137,12 @@ cut-from_none : (g : DecodingGraph) (shot : ShotValue) (j : ℕ) (before : List 
     → cut_fault g shot j before c.vertices ≡ None
     → IsListed (problem_of g shot) c × (slice_cmp nat_cmp before c.vertices ≡ Less)
 cut-from_none g shot j before c none =
-    let (empty, others) = or_none (fault_where (length c.vertices == 0) (CutEmpty j)) _ none in
+    let (empty, others) = or_none (fault_if (length c.vertices == 0) (CutEmpty j)) _ none in
     let (beyond, rest) = or_none (option_map VertexOutOfRange (first_beyond g.vertices c.vertices)) _ others in
-    let (fall, rest_2) = or_none (fault_where (is_some (first_fall c.vertices)) (CutsNotRising j)) _ rest in
-    let (order, rest_3) = or_none (fault_where (not (is_lt (slice_cmp nat_cmp before c.vertices))) (CutsNotRising j)) _ rest_2 in
+    let (fall, rest_2) = or_none (fault_if (is_some (first_fall c.vertices)) (CutsNotRising j)) _ rest in
+    let (order, rest_3) = or_none (fault_if (not (is_lt (slice_cmp nat_cmp before c.vertices))) (CutsNotRising j)) _ rest_2 in
     let (virtual, rest_4) = or_none (option_map CutHoldsVirtual (find (is_in g.virtuals) c.vertices)) _ rest_3 in
-    let (even, rest_5) = or_none (fault_where (not (is_odd_count (is_in shot.defects) c.vertices)) (CutEven j)) None rest_4 in
+    let (even, rest_5) = or_none (fault_if (not (is_odd_count (is_in shot.defects) c.vertices)) (CutEven j)) None rest_4 in
     let rising : IsStrictlyIncreasing c.vertices =
     rising-from_fall c.vertices (is_some-none (first_fall c.vertices) (where_none (is_some (first_fall c.vertices)) (CutsNotRising j) fall)) in
     let below = below-from_beyond g.vertices c.vertices (map_none VertexOutOfRange (first_beyond g.vertices c.vertices) beyond) in

@@ -11,7 +11,7 @@ use Rattle.fb_graph.specs.Problem.{touches, edge_at, no_edge}
 use Rattle.fb_graph.specs.Limits.{DecodingGraph, IsEdge, IsGraph, IsShot, ShotValue, is_real_in, problem_of}
 use Rattle.fb_graph.proofs.ParitySums.{differ-false, odd-append, odd_same, odd-flat_map}
 use Rattle.fb_graph.proofs.Sets.{All-from_is_in, is_in-All, distinct_from_rising, odd_equal, equal_sym}
-use Rattle.fb_verify.specs.Marks.{ends_of}
+use Rattle.fb_verify.specs.InternalMarks.{ends_of}
 use Rattle.fb_verify.specs.Verdicts.{has_wrong_parity}
 use Rattle.fb_graph.specs.Leasts.{least}
 use Rattle.fb_verify.proofs.Leasts.{least-from_rising}

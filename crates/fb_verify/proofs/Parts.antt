@@ -2,7 +2,7 @@
 use Rattle.std.proofs.Common.{◌≡◌, ℕ, ◌+◌, ◌<◌, Bool, false, List, [], ◌∷◌, length, take, drop, Some, None, eqb, refl, ap, ◌∙◌, inl, inr, arith, position}
 use Rattle.std.specs.List.{slice_split, onto_first, position_or_len}
 use Rattle.fb_verify.specs.Reports.{words_of}
-use Rattle.fb_verify.specs.WordsLeft.{has_no_word}
+use Rattle.fb_verify.specs.InternalWordsLeft.{has_no_word}
 use Rattle.std.proofs.lemmas.Bool.{cases_Bool, cases_lt, lt-ltb, le-ltb}
 use Rattle.std.proofs.lemmas.List.Splits.{slice_split_first, slice_split_none}
 use Rattle.std.proofs.lemmas.List.Sums.{fails_before_first}

@@ -1,4 +1,4 @@
--- What a fault of a report's text is called where it is printed, and its place: a word, a number or neither.
+-- What is printed of a fault of a report's text: its name, and its place, which is a word, a number or neither.
 use Rattle.std.specs.Prelude.{ℕ, List, codes, Option, Some, None}
 use Rattle.fb_verify.specs.declared.report_faults.ReportFault.{ReportFault}
 use Rattle.fb_verify.specs.declared.report_faults.ReportFault.TheVariants.{BadLine, WrongShot, Unfinished, TooLong, NoMemory}

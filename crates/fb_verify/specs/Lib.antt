@@ -1,9 +1,9 @@
 pub mod FaultTexts
-pub mod Loads
-pub mod Marks
+pub mod InternalLoads
+pub mod InternalMarks
 pub mod ReadBack
 pub mod Readings
 pub mod Reports
 pub mod VerdictTexts
 pub mod Verdicts
-pub mod WordsLeft
+pub mod InternalWordsLeft

@@ -8,14 +8,14 @@ use Rattle.fb_report.specs.Texts.{head_text, row_text, rows_text, trace_line, do
 use Rattle.fb_verify.specs.declared.reports.Report.{Report}
 use Rattle.fb_verify.specs.Reports.{is_odd, report_in}
 
--- an event of a run, as its line tells it: a worker took a node of the plan for a shot, or gave what it had made of it
+-- an event of a run, as its line has it: a worker took a node of the plan for a shot, or gave what it had made of it
 pub record Event : Type 0 where
   pub gave : Bool
   pub worker : ℕ
   pub shot : ℕ
   pub node : ℕ
 
--- a row, and the events that are told after it
+-- a row, and the events that are printed after it
 pub record TracedRow : Type 0 where
   pub row : Row
   pub events : List Event

@@ -1,5 +1,5 @@
--- What a reading of a report comes to, told by the reports that can be printed, and not by how lines are read: the report
--- that was printed; or the first line after which no report goes on like this; or that the text stops before the report does.
+-- The result of reading a text, stated by the reports that can be printed, and not by how lines are read: the report that
+-- was printed; or the first line with which no report begins any more; or that the text stops before the report does.
 use Rattle.std.specs.Prelude.{ℕ, ◌≡◌, ◌≢◌, ◌+◌, ◌<◌, ◌≤◌, ◌^◌, ◌==◌, ◌⊎◌, All, List, [], ◌∷◌, ◌++◌, length, codes, decimal, count_by, Result, Ok, Err}
 use Rattle.fb_report.specs.Texts.{line, head_text}
 use Rattle.fb_verify.specs.declared.report_faults.ReportFault.{ReportFault}
@@ -67,7 +67,7 @@ pub record IsOutOfTurn (prefix here : List ℕ) : Type 0 where
   pub row : BeginsRow shot here
   pub other : shot ≢ length traced
 
--- ---- what a reading comes to
+-- ---- results
 
 -- a report begins with the lines before line n, and none goes on with line n, not as a row out of turn
 pub record IsNoContinuation (n : ℕ) (text : List ℕ) : Type 0 where
@@ -104,7 +104,7 @@ pub record IsCutShort (text : List ℕ) : Type 0 where
   pub begun : BeginsReport prefix
   pub not_whole : ¬ IsReport prefix
 
--- what a reading comes to
+-- the result of reading a text
 abbrev pub IsReadingOf : List ℕ → Result Report ReportFault → Type 0
 IsReadingOf text (Ok report) = IsReportOf report text
 IsReadingOf text (Err (BadLine n)) = IsNoContinuation n text ⊎ IsBehindReport n text

@@ -1,12 +1,13 @@
 -- What the text of a report says to its reader. A line is words parted by one space each, and ends by a newline. The
--- first line is the head, the last one tells how many rows there are; between them stand the rows of the shots, each
+-- first line is the head, the last one says how many rows there are; between them are the rows of the shots, each
 -- of one line or of several, and lines that trace the run. A reading takes the lines one after another, each by what it
--- says and by where it stands.
+-- says and by its place.
 use Rattle.std.specs.Prelude.{ℕ, ◌+◌, ◌*◌, ◌-◌, ◌^◌, ◌==◌, nat_lt, nat_le, Bool, true, false, ◌&&◌, if◌then◌else◌, List, [], ◌∷◌, ◌++◌, length, codes, count_by, Option, Some, None, option_map, option_and_then, Result, Ok, Err}
 use Rattle.std.specs.List.{slice_split}
 use Rattle.std.specs.Str.{bytes_eq}
 use Rattle.fb_graph.specs.declared.parts.Row.{Row}
 use Rattle.fb_graph.specs.declared.parts.Row.TheVariants as row
+use Rattle.fb_verify.specs.declared.report_text.TheConstants.{MOST_REPORT_BYTES}
 use Rattle.fb_verify.specs.declared.report_faults.ReportFault.{ReportFault}
 use Rattle.fb_verify.specs.declared.report_faults.ReportFault.TheVariants.{BadLine, WrongShot, Unfinished, TooLong}
 use Rattle.fb_verify.specs.declared.reports.Report.{Report}
@@ -94,7 +95,7 @@ edges_line words = option_map line.Edges (all_numbers words)
 unfoldable pub weight_line : List (List ℕ) → Option Line
 weight_line words = with_number (2 ^ 64) words (λ w. at_end (line.Weight w))
 
--- a cut of this value, where it is at least 1
+-- a cut of this value, if it is at least 1
 abbrev pub cut_of : ℕ → List ℕ → Option Line
 cut_of value vertices = if value == 0 then None else Some (line.Cut (record { value = value; vertices = vertices }))
 
@@ -141,7 +142,7 @@ abbrev pub has_none : List Row → Bool
 has_none [] = true
 has_none (r ∷ rs) = false
 
--- the rows so far, and where the next line stands
+-- the rows so far, and the place of the next line
 abbrev pub reading : List Row → Place → Reading
 reading rows place = record { rows = rows; place = place }
 
@@ -169,18 +170,18 @@ step n rows (place.Cuts edges weight cuts) said = at_row_end n (rows ++ row.Best
 step n rows place.Between said = at_row_end n rows said
 step n rows place said = Err (BadLine n)
 
--- line n, where it says something
+-- line n, if it says something
 abbrev pub with_line : ℕ → Reading → Option Line → Result Reading ReportFault
 with_line n r None = Err (BadLine n)
 with_line n r (Some said) = step n r.rows r.place said
 
--- the end of the text, where these bytes without a newline are left as line n
+-- the end of the text; these bytes without a newline are left as line n
 abbrev pub ending : ℕ → List Row → Place → List ℕ → Result Report ReportFault
 ending n rows (place.End totals) [] = Ok (record { rows = rows; totals = totals })
 ending n rows (place.End totals) (b ∷ bytes) = Err (BadLine n)
 ending n rows place bytes = Err Unfinished
 
--- what follows where no line has failed yet
+-- what follows if no line has failed yet
 abbrev pub go_on : Result Reading ReportFault → (Reading → Result Report ReportFault) → Result Report ReportFault
 go_on (Ok r) following = following r
 go_on (Err fault) following = Err fault
@@ -195,9 +196,9 @@ read_from n r (text ∷ part ∷ parts) = go_on (with_line n r (line_of (words_o
 abbrev pub report_in : List ℕ → Result Report ReportFault
 report_in text = read_from 1 (reading [] place.Start) (slice_split (λ b. b == 10) text)
 
--- the longest text that is read, in bytes
+-- the most bytes of a text that is read: 1,073,741,824
 abbrev pub most_bytes : ℕ
-most_bytes = 2 ^ 30
+most_bytes = MOST_REPORT_BYTES
 
 -- the report that a text is, or the first line that fails, or that the text is too long
 unfoldable pub report_of_text : List ℕ → Result Report ReportFault

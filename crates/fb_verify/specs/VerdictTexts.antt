@@ -1,11 +1,11 @@
--- What a verdict is called where it is printed, and its numbers.
+-- What is printed of a verdict: its name and its numbers.
 use Rattle.std.specs.Prelude.{ℕ, Bool, true, false, List, [], ◌∷◌, codes}
 use Rattle.fb_verify.specs.declared.verdicts.Numbers.{Numbers}
 use Rattle.fb_verify.specs.declared.verdicts.Numbers.TheVariants.{Nothing, One, Two}
 use Rattle.fb_verify.specs.declared.verdicts.Verdict.{Verdict}
 use Rattle.fb_verify.specs.declared.verdicts.Verdict.TheVariants.{Good, EdgeOutOfRange, EdgesNotRising, WrongParity, WeightNotSum, CutEmpty, VertexOutOfRange, CutsNotRising, CutHoldsVirtual, CutEven, Overloaded, SumDiffers, OddWrong}
 
--- what a verdict is called
+-- the name of a verdict
 abbrev pub verdict_name : Verdict → List ℕ
 verdict_name Good = codes "good"
 verdict_name (EdgeOutOfRange e) = codes "bad EdgeOutOfRange"

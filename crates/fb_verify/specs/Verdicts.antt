@@ -40,11 +40,11 @@ has_wrong_parity p edges v =
 abbrev pub is_overloaded : Problem → List Cut → ℕ → Bool
 is_overloaded p cuts k = nat_lt (edge_at p.edges k).weight (load_of cuts (edge_at p.edges k))
 
--- the fault where the condition holds
-abbrev pub fault_where : Bool → Verdict → Option Verdict
-fault_where holds fault = if holds then Some fault else None
+-- the fault, if the condition holds
+abbrev pub fault_if : Bool → Verdict → Option Verdict
+fault_if holds fault = if holds then Some fault else None
 
--- the fault of two numbers where they differ
+-- the fault of two numbers, if they differ
 abbrev pub fault_of_two : (ℕ → ℕ → Verdict) → ℕ → ℕ → Option Verdict
 fault_of_two fault a b = if a == b then None else Some (fault a b)
 
@@ -53,19 +53,19 @@ abbrev pub first_of : List (Option Verdict) → Option Verdict
 first_of [] = None
 first_of (fault ∷ faults) = option_or fault (first_of faults)
 
--- the first fault of cut j, given the vertices of the cut before it (none before the first: the empty list stands
--- before all others)
+-- the first fault of cut j, given the vertices of the cut before it (none before the first: the empty list is
+-- below all others)
 abbrev pub cut_fault : DecodingGraph → ShotValue → ℕ → List ℕ → List ℕ → Option Verdict
 cut_fault g shot j before vertices = first_of (
-    fault_where (length vertices == 0) (CutEmpty j)
+    fault_if (length vertices == 0) (CutEmpty j)
     ∷ option_map VertexOutOfRange (first_beyond g.vertices vertices)
-    ∷ fault_where (is_some (first_fall vertices)) (CutsNotRising j)
-    ∷ fault_where (not (is_lt (slice_cmp nat_cmp before vertices))) (CutsNotRising j)
+    ∷ fault_if (is_some (first_fall vertices)) (CutsNotRising j)
+    ∷ fault_if (not (is_lt (slice_cmp nat_cmp before vertices))) (CutsNotRising j)
     ∷ option_map CutHoldsVirtual (find (is_in g.virtuals) vertices)
-    ∷ fault_where (not (is_odd_count (is_in shot.defects) vertices)) (CutEven j)
+    ∷ fault_if (not (is_odd_count (is_in shot.defects) vertices)) (CutEven j)
     ∷ [])
 
--- the first fault of the first faulty cut, the cuts being counted from j on
+-- the first fault of the first cut that has one, the cuts being counted from j on
 abbrev pub cuts_fault : DecodingGraph → ShotValue → ℕ → List ℕ → List Cut → Option Verdict
 cuts_fault g shot j before [] = None
 cuts_fault g shot j before (c ∷ cs) =

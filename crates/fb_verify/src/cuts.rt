@@ -9,7 +9,7 @@ use crate::parities::{first_virtual, has_odd_defects};
 use crate::verdicts::Verdict;
 use fb_graph::{Cut, Graph, Shot};
 
-/// The first fault of the first faulty cut.
+/// The first fault of the first cut that has one.
 pub(crate) fn first_cut_fault(graph: &Graph, shot: &Shot, cuts: &[Cut]) -> Option<Verdict>
     ensures { result ≡ cuts_fault graph.now shot.now 0 [] cuts.now }
 {

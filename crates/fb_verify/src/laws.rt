@@ -9,8 +9,8 @@ pub fn reads_back()
     ensures plain { PlainReadsBack }
 {}
 
-/// What a reading comes to, told by the reports that can be printed: exactly those are read. A text is refused at the
-/// first line after which no report goes on like it, or as unfinished where it stops before the report that it begins.
+/// The result of reading a text, stated by the reports that can be printed: exactly those are read. A text is refused at
+/// the first line with which no report begins any more, or as unfinished if it stops before the report that it begins.
 pub fn reads_as_is()
     ensures is { ReadsAsIs }
     ensures alone { IsOneThing }

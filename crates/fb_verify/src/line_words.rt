@@ -2,13 +2,14 @@
 
 ghost use Rattle.std.specs.Prelude.{◌≡◌, ◌+◌, ◌^◌, ◌≤◌, ◌∷◌, [], MatchOption, IfOk, IfSome};
 ghost use Rattle.fb_verify.specs.Reports.{words_of, number_from, number_of, below, first_number, after_word, all_numbers};
-ghost use Rattle.fb_verify.specs.WordsLeft.{has_no_word};
+ghost use Rattle.fb_verify.specs.InternalWordsLeft.{has_no_word};
 
 use crate::splitting::split_once;
 use fb_graph::{NoMemory, NumberList};
 use std::alloc::Global;
 use std::marker::Model;
 
+/// The greatest number of 32 bits.
 const MOST_SMALL: u64 = u32::MAX as u64;
 
 /// Words of a line that are left to read. Contracts see their list.
@@ -20,7 +21,7 @@ pub struct Words<'a> {
 
 impl<'a> Model for Words<'a> {
     ghost use Rattle.std.specs.Prelude.{ℕ, List, option_map};
-    ghost use Rattle.fb_verify.specs.WordsLeft.{words_left};
+    ghost use Rattle.fb_verify.specs.InternalWordsLeft.{words_left};
 
     ghost Value = { List (List ℕ) };
 

@@ -4,7 +4,7 @@ ghost use Rattle.std.specs.Prelude.{◌≡◌, ◌<◌, ◌++◌, All, IfOk, len
 ghost use Rattle.std.specs.List.{find};
 ghost use Rattle.fb_graph.specs.Limits.{IsShot, problem_of};
 ghost use Rattle.fb_graph.specs.Parity.{is_in, is_odd_count};
-ghost use Rattle.fb_verify.specs.Marks.{ends_of};
+ghost use Rattle.fb_verify.specs.InternalMarks.{ends_of};
 ghost use Rattle.fb_verify.specs.Verdicts.{has_wrong_parity};
 ghost use Rattle.fb_graph.specs.Leasts.{least};
 
@@ -34,9 +34,7 @@ fn marks(alloc: Global, graph: &Graph, shot: &Shot, edges: &[u32]) -> Result<Vec
     ensures { IfOk result (λ v. v.items ≡ ends_of graph.now.edges edges.now ++ shot.now.defects) }
 {
     let mut marks = both_ends(alloc, graph, edges)?;
-    let Ok(()) = marks.extend_from_slice(shot.as_slice()) else {
-        return Err(NoMemory);
-    };
+    marks.extend_from_slice(shot.as_slice())?;
     Ok(marks)
 }
 
@@ -48,9 +46,8 @@ fn both_ends(alloc: Global, graph: &Graph, edges: &[u32]) -> Result<Vec<u32>, No
     let mut ends = Vec::new(alloc);
     for edge in edges {
         let (first, second) = graph.ends(*edge);
-        if ends.push(first).is_err() || ends.push(second).is_err() {
-            return Err(NoMemory);
-        }
+        ends.push(first)?;
+        ends.push(second)?;
     }
     Ok(ends)
 }

@@ -8,8 +8,8 @@ use thiserror::Error;
 /// Its texts are for other callers: `fusion` prints a fault's name and number.
 #[derive(Clone, Copy, Debug, PartialEq, Eq, Error)]
 pub enum ReportFault {
-    /// The line is none that may stand there; or it is a done line whose numbers of rows aren't those of the text; or it
-    /// stands after the done line.
+    /// No such line may be there; or it is a done line whose numbers of rows aren't those of the text; or it follows the
+    /// done line.
     #[error("bad line {0}")]
     BadLine(u64),
     /// The line is that of another shot than the next one.
@@ -21,12 +21,13 @@ pub enum ReportFault {
     /// The text has more than 1,073,741,824 bytes.
     #[error("more than 1,073,741,824 bytes")]
     TooLong,
+    /// Memory ran out.
     #[error("out of memory")]
     NoMemory,
 }
 
 impl ReportFault {
-    /// What it is called where it is printed.
+    /// The name that is printed.
     pub fn name(self) -> &'static str
         ensures { result.now ≡ fault_name self }
     {
@@ -39,7 +40,7 @@ impl ReportFault {
         }
     }
 
-    /// The word of its place, where it has one.
+    /// The word of its place, if it has one.
     pub fn place(self) -> Option<&'static str>
         ensures { option_map (λ s. s.now) result ≡ fault_place self }
     {
@@ -49,7 +50,7 @@ impl ReportFault {
         }
     }
 
-    /// The number of its line, where it has one.
+    /// The number of its line, if it has one.
     pub fn number(self) -> Option<u64>
         ensures { result ≡ fault_number self }
     {

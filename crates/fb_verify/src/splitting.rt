@@ -3,7 +3,7 @@
 ghost use Rattle.std.specs.Prelude.{◌≡◌, ◌==◌, ◌<◌, ◌∷◌, [], length, position, MatchOption, IfSome};
 ghost use Rattle.std.specs.List.{slice_split};
 
-/// What stands before the first separator, and what stands after it.
+/// What comes before the first separator, and what follows it; `None` if there is no separator.
 pub fn split_once(bytes: &[u8], separator: u8) -> Option<(&[u8], &[u8])>
     ensures split { MatchOption result (slice_split (λ b. b == separator) bytes.now ≡ bytes.now ∷ [])
         (λ p. slice_split (λ b. b == separator) bytes.now ≡ p.0.now ∷ slice_split (λ b. b == separator) p.1.now) }

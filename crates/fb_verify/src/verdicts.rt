@@ -19,7 +19,7 @@ pub enum Verdict {
     CutEmpty(u64),
     /// A cut's first vertex that the graph doesn't have.
     VertexOutOfRange(u32),
-    /// A cut whose vertices don't strictly rise, or that doesn't stand above the cut before it.
+    /// A cut whose vertices don't strictly rise, or that isn't above the cut before it.
     CutsNotRising(u64),
     /// A cut's first virtual vertex.
     CutHoldsVirtual(u32),
@@ -49,7 +49,7 @@ impl Verdict {
         !matches!(self, Verdict::Good)
     }
 
-    /// What it is called where it is printed: `good`, or `bad` and the rule.
+    /// The name that is printed: `good`, or `bad` and the rule.
     pub fn name(self) -> &'static str
         ensures { result.now ≡ verdict_name self }
     {

@@ -10,7 +10,7 @@ use crate::reports::{Report, RowList, Totals};
 use fb_graph::{Cut, CutList, NumberList, Row};
 use std::alloc::Global;
 
-/// Where the next line stands.
+/// Where in a report the next line is.
 #[derive(Drop)]
 pub enum Place {
     /// It is the first line.
@@ -31,7 +31,7 @@ pub enum Place {
     End(Totals),
 }
 
-/// What came of the lines so far.
+/// What is read of the lines so far.
 #[derive(Drop)]
 pub struct Reading {
     /// The rows that no line can add to.
@@ -66,7 +66,7 @@ impl Reading {
         step(alloc, number, rows, place, said)
     }
 
-    /// Ends the reading, where these bytes are left in the line of this number.
+    /// Ends the reading; `bytes` are left in the line of this number.
     pub fn end(self, number: u64, bytes: &[u8]) -> Result<Report, ReportFault>
         ensures { result ≡ ending number self.rows self.place bytes.now }
     {

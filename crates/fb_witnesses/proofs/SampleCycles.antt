@@ -11,7 +11,7 @@ use Rattle.fb_laws.specs.Blossoms.{IsInside}
 use Rattle.fb_graph.specs.Links.{IsTightLink}
 use Rattle.fb_laws.specs.Fusion.{IsLinkOf}
 use Rattle.fb_laws.specs.Works.{IsSetOf}
-use Rattle.fb_witnesses.specs.Samples.{link, triangle, corner_nodes, corner_singles}
+use Rattle.fb_witnesses.specs.InternalSamples.{link, triangle, corner_nodes, corner_singles}
 use Rattle.fb_witnesses.specs.Witnesses.{FormingWitness}
 use Rattle.fb_witnesses.proofs.SampleLevels.{corners_apart}
 use Rattle.fb_witnesses.proofs.SampleParts.{corner_height, one_height, some_walk}

@@ -1,34 +1,32 @@
 -- The whole states of searches, on small graphs.
 use Rattle.std.proofs.Common.{ℕ, ◌≡◌, ◌%◌, ◌≤◌, ◌<◌, inl, inr, true, false, List, [], ◌∷◌, refl, sym, arith}
 use Rattle.std.proofs.lemmas.Bool.{false≢true}
-use Rattle.std.proofs.lemmas.List.Elements.{All-nil, All-from_recursion}
+use Rattle.std.proofs.lemmas.List.Elements.{All-from_recursion}
 use Rattle.fb_graph.specs.Parity.{is_in, is_odd_count}
-use Rattle.fb_graph.specs.Problem.{Problem, Flips, edge_at, touches}
+use Rattle.fb_graph.specs.Problem.{Flips, edge_at, touches}
 use Rattle.fb_graph.specs.Limits.{IsWithinLimits}
 use Rattle.fb_graph.specs.Laws.{Link, HasNoOddClosed}
-use Rattle.fb_graph.specs.Dual.{Node, AreUnderOne, all_cuts, height_of, is_empty, is_outer, leaves}
+use Rattle.fb_graph.specs.Dual.{AreUnderOne, all_cuts, height_of, is_empty, is_outer, leaves}
 use Rattle.fb_graph.proofs.Sets.{is_in-All}
 use Rattle.fb_graph.specs.Covers.{HasNoObstacle, IsClear}
-use Rattle.fb_laws.specs.Fusion.{IsLinkOf}
-use Rattle.fb_graph.specs.Links.{AreEven, IsTightLink}
+use Rattle.fb_graph.specs.Links.{AreEven}
 use Rattle.fb_graph.specs.Moves.{MaySplit, MayAbsorb, joined_nodes, uncovered_nodes}
 use Rattle.fb_graph.specs.Nests.{IsNest}
 use Rattle.fb_laws.specs.NestedSearches.{IsNestedSearch}
 use Rattle.fb_witnesses.specs.NestedWitnesses.{NestedWitness, EndingWitness, wide_nodes, low_nodes, wide_child, low_children}
-use Rattle.fb_witnesses.specs.Samples.{line, link, pair_nodes, pair_singles}
+use Rattle.fb_witnesses.specs.InternalSamples.{line, link, pair_nodes, pair_singles}
 use Rattle.fb_laws.specs.SearchBlossoms.{IsJoining}
 use Rattle.fb_laws.specs.Searches.{IsSearch}
 use Rattle.fb_witnesses.specs.SearchWitnesses.{chain_branch, chain_nodes, chain_singles}
 use Rattle.fb_graph.specs.Steps.{MayStep}
 use Rattle.fb_laws.specs.Trees.{Entry, roles_of}
-use Rattle.fb_witnesses.specs.TreeWitnesses.{long_line, thin_nodes, thin_branch, crown_nodes}
-use Rattle.fb_laws.specs.Works.{AreMatchedLinks, IsSetOf}
-use Rattle.fb_laws.specs.Opening.{EndsAtDefects}
+use Rattle.fb_witnesses.specs.TreeWitnesses.{long_line, thin_nodes, thin_branch, two_tailed_nodes}
+use Rattle.fb_laws.specs.Works.{IsSetOf}
 use Rattle.fb_graph.proofs.BeginningNests.{singles_are_nest}
 use Rattle.fb_laws.proofs.NestedStates.{nested_stepped, nested_absorbed, nested_uncovered}
 use Rattle.fb_witnesses.proofs.SampleNests.{limits_by_cases}
 use Rattle.fb_witnesses.proofs.SampleOpenings.{closed_nest, closed_walks, splitting_witness}
-use Rattle.fb_witnesses.proofs.SampleParts.{of_two, work_witness}
+use Rattle.fb_witnesses.proofs.SampleParts.{no_links, of_two, work_witness}
 use Rattle.fb_witnesses.proofs.SampleSearches.{search_witness}
 use Rattle.fb_witnesses.proofs.SampleStates.{may_by_cases, no_odd_closed_by, of_three}
 use Rattle.fb_witnesses.proofs.SampleTrees.{elsewhere, even_long, may_thin, one_link, thin_nest, thin_outer, thin_search, thin_walks}
@@ -145,13 +143,13 @@ low_joining = record {
   fresh = refl;
 }
 
-may_open : MaySplit (joined_nodes 5 (0 ∷ 1 ∷ 2 ∷ []) crown_nodes) 5
+may_open : MaySplit (joined_nodes 5 (0 ∷ 1 ∷ 2 ∷ []) two_tailed_nodes) 5
 may_open = record {
   live = refl;
   outer = refl;
   bare =
       All-from_recursion (λ n. n.name ≡ 5 → (is_empty n.children ≡ false) × (n.below ≡ []) × (n.top.value ≡ 0))
-      (joined_nodes 5 (0 ∷ 1 ∷ 2 ∷ []) crown_nodes) (
+      (joined_nodes 5 (0 ∷ 1 ∷ 2 ∷ []) two_tailed_nodes) (
         λ e. absurd cc,
         (
           λ e. absurd cc,
@@ -184,8 +182,8 @@ nested_witness = (
     search = splitting_witness.0;
     walks = closed_walks;
     outer =
-        is_in-All (λ n. is_outer (joined_nodes 5 (0 ∷ 1 ∷ 2 ∷ []) crown_nodes) n ≡ true) (4 ∷ [])
-        (All-from_recursion (λ n. is_outer (joined_nodes 5 (0 ∷ 1 ∷ 2 ∷ []) crown_nodes) n ≡ true) (4 ∷ []) (refl, tt));
+        is_in-All (λ n. is_outer (joined_nodes 5 (0 ∷ 1 ∷ 2 ∷ []) two_tailed_nodes) n ≡ true) (4 ∷ [])
+        (All-from_recursion (λ n. is_outer (joined_nodes 5 (0 ∷ 1 ∷ 2 ∷ []) two_tailed_nodes) n ≡ true) (4 ∷ []) (refl, tt));
   },
 )
 
@@ -197,15 +195,6 @@ chain_nest =
 
 pair_nest : IsNest (line (1 ∷ 2 ∷ [])) pair_nodes
 pair_nest = singles_are_nest (line (1 ∷ 2 ∷ [])) pair_singles (refl, (refl, tt)) work_witness.4.dual
-
-no_grown : (p : Problem) (nodes : List Node) → AreMatchedLinks p nodes []
-no_grown p nodes = record {
-  tight = All-nil (IsTightLink p (all_cuts nodes));
-  own = All-nil (IsLinkOf p);
-  at_defects =
-      All-nil
-      (EndsAtDefects p (leaves nodes));
-}
 
 pair_heights : (d : ℕ) → is_in (leaves pair_nodes) d ≡ true → height_of (all_cuts pair_nodes) d % 2 ≡ 0
 pair_heights = of_two (λ d. height_of (all_cuts pair_nodes) d % 2 ≡ 0) 1 2 refl refl
@@ -219,7 +208,7 @@ two_open = record {
     open_root = refl;
     names = (refl, tt);
     joined = tt;
-    grown = no_grown (line (1 ∷ 2 ∷ [])) pair_nodes;
+    grown = no_links (line (1 ∷ 2 ∷ [])) pair_nodes;
     parity = λ d name leaf cover among. pair_heights d leaf;
     even = λ d name leaf cover among. pair_heights d leaf;
   };
@@ -236,7 +225,7 @@ one_open = record {
     open_root = refl;
     names = (refl, tt);
     joined = tt;
-    grown = no_grown (line (1 ∷ 2 ∷ [])) pair_nodes;
+    grown = no_links (line (1 ∷ 2 ∷ [])) pair_nodes;
     parity = λ d name leaf cover among. pair_heights d leaf;
     even = λ d name leaf cover among. pair_heights d leaf;
   };

@@ -19,7 +19,7 @@ use Rattle.fb_laws.proofs.SearchStates.{links_joined}
 use Rattle.fb_laws.proofs.StepBounds.{no_obstacle_before, steps_bounded}
 use Rattle.fb_witnesses.specs.BoundWitnesses.{BoundWitness, four_nodes, four_roles, four_singles, line_of_four}
 use Rattle.fb_witnesses.specs.MatchWitnesses.{BesideWitness, MatchWitness, first_match, last_match}
-use Rattle.fb_witnesses.specs.Samples.{link}
+use Rattle.fb_witnesses.specs.InternalSamples.{link}
 use Rattle.fb_witnesses.specs.StateWitnesses.{pentagon_leaves}
 use Rattle.fb_witnesses.proofs.SampleParts.{one_height}
 use Rattle.fb_witnesses.proofs.SamplePentagons.{branch_state}

@@ -12,7 +12,7 @@ use Rattle.fb_graph.specs.Links.{AreEven}
 use Rattle.fb_graph.specs.NestUnions.{HaveOwnNames}
 use Rattle.fb_graph.specs.Nests.{IsNest}
 use Rattle.fb_laws.specs.NestedSearches.{IsNestedWork}
-use Rattle.fb_witnesses.specs.Samples.{single, link, line, line_part, end_singles, middle_singles}
+use Rattle.fb_witnesses.specs.InternalSamples.{single, link, line, line_part, end_singles, middle_singles}
 use Rattle.fb_graph.specs.Singles.{Single, nodes_of}
 use Rattle.fb_laws.specs.Works.{IsMatching}
 use Rattle.fb_graph.proofs.Among.{All_among, live_among}

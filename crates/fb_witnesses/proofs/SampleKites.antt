@@ -19,7 +19,7 @@ use Rattle.fb_graph.specs.Links.{IsTightLink}
 use Rattle.fb_graph.specs.Singles.{nodes_of}
 use Rattle.fb_graph.specs.Nests.{IsNest}
 use Rattle.fb_graph.specs.Moves.{MayJoin, MaySplit}
-use Rattle.fb_witnesses.specs.Samples.{link}
+use Rattle.fb_witnesses.specs.InternalSamples.{link}
 use Rattle.fb_laws.specs.Works.{AreMatchedLinks, IsMatching}
 use Rattle.fb_laws.specs.Searches.{IsSearch}
 use Rattle.fb_witnesses.specs.CycleWitnesses.{ClosedWitness, OpenedWitness, kite, kite_singles, kite_leaves, kite_blossom, kite_branch, corner_links}

@@ -9,7 +9,7 @@ use Rattle.fb_graph.proofs.NewLeaves.{nest_leaf_added, walks_leaf_added}
 use Rattle.fb_laws.proofs.ExchangedDefects.{dual_exchanged, nest_exchanged, walks_exchanged}
 use Rattle.fb_witnesses.specs.LeafWitnesses.{ExchangedWitness, LeafWitness, second_line, with_leaf}
 use Rattle.fb_witnesses.specs.NestWitnesses.{wider_nodes}
-use Rattle.fb_witnesses.specs.Samples.{line}
+use Rattle.fb_witnesses.specs.InternalSamples.{line}
 use Rattle.fb_witnesses.proofs.SampleNests.{wider_nest, wider_walks}
 use Rattle.fb_witnesses.proofs.SampleStates.{of_three}
 

@@ -1,5 +1,5 @@
 -- The premises of the laws of fusion and of opening, computed on small graphs.
-use Rattle.std.proofs.Common.{ℕ, ◌≡◌, ◌≢◌, ◌%◌, ◌≤◌, ◌⊎◌, inl, inr, true, false, List, [], ◌∷◌, count_by, refl, arith}
+use Rattle.std.proofs.Common.{ℕ, ◌≡◌, ◌%◌, ◌≤◌, ◌⊎◌, inl, inr, true, false, List, [], ◌∷◌, count_by, refl, arith}
 use Rattle.std.proofs.lemmas.Bool.{false≢true}
 use Rattle.std.proofs.lemmas.List.Elements.{All-nil, All-from_recursion}
 use Rattle.fb_graph.specs.Parity.{is_odd_count, is_in}
@@ -16,7 +16,7 @@ use Rattle.fb_graph.specs.NestUnions.{AreParts}
 use Rattle.fb_graph.specs.InternalSamples.{cut}
 use Rattle.fb_laws.specs.Fusion.{IsLinkOf}
 use Rattle.fb_laws.specs.Opening.{IsWithinOne, IsAlikeOver, single_sets, EndsAtDefects}
-use Rattle.fb_witnesses.specs.Samples.{link, line, line_part, triangle, blossom_cuts}
+use Rattle.fb_witnesses.specs.InternalSamples.{link, line, line_part, triangle, blossom_cuts}
 use Rattle.fb_witnesses.specs.Witnesses.{FusionWitness, OpeningWitness}
 use Rattle.fb_witnesses.proofs.SampleStates.{odd_cut, of_one, of_three, whole_one, apart_ones}
 use Rattle.fb_witnesses.proofs.SampleParts.{some_walk}

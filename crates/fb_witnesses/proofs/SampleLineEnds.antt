@@ -1,31 +1,18 @@
 -- The whole states of two ends of a line, before they are fused.
-use Rattle.std.proofs.Common.{ℕ, true, List, [], ◌∷◌}
+use Rattle.std.proofs.Common.{ℕ, List, [], ◌∷◌}
 use Rattle.std.proofs.lemmas.Bool.{false≢true}
-use Rattle.std.proofs.lemmas.List.Elements.{All-from_recursion, All-nil}
+use Rattle.std.proofs.lemmas.List.Elements.{All-from_recursion}
 use Rattle.fb_graph.specs.Problem.{Problem}
 use Rattle.fb_graph.specs.Laws.{Link}
-use Rattle.fb_graph.specs.Dual.{Node, all_cuts, leaves}
-use Rattle.fb_graph.specs.Links.{IsTightLink}
 use Rattle.fb_graph.specs.Nests.{child_sets}
 use Rattle.fb_graph.specs.Singles.{nodes_of}
-use Rattle.fb_laws.specs.Fusion.{IsLinkOf}
 use Rattle.fb_laws.specs.NestedSearches.{IsNestedWork}
 use Rattle.fb_laws.specs.PartStates.{IsRing, IsPartState}
-use Rattle.fb_witnesses.specs.Samples.{line_part, single}
+use Rattle.fb_witnesses.specs.InternalSamples.{line_part, single}
 use Rattle.fb_witnesses.specs.StateWitnesses.{FusedStateWitness, left_end, right_end}
-use Rattle.fb_laws.specs.Works.{AreMatchedLinks}
-use Rattle.fb_laws.specs.Opening.{EndsAtDefects}
 use Rattle.fb_witnesses.proofs.SampleFusions.{fused_witness}
+use Rattle.fb_witnesses.proofs.SampleParts.{no_links}
 use Rattle.fb_witnesses.proofs.SampleSeamStates.{seam_witness}
-
-no_links : (p : Problem) (nodes : List Node) → AreMatchedLinks p nodes []
-no_links p nodes = record {
-  tight = All-nil (IsTightLink p (all_cuts nodes));
-  own = All-nil (IsLinkOf p);
-  at_defects =
-      All-nil
-      (EndsAtDefects p (leaves nodes));
-}
 
 -- one node, matched
 one_end : (p : Problem) (name v : ℕ) (links : List Link) → IsNestedWork p (nodes_of (single name v 2 ∷ [])) links []

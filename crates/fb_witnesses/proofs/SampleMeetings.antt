@@ -26,7 +26,7 @@ use Rattle.fb_laws.proofs.MetLinks as met
 use Rattle.fb_laws.proofs.SearchStates.{links_joined}
 use Rattle.fb_witnesses.specs.MetWitnesses.{MetWitness, ThroughWitness, lower_link, lower_turned, met_line, met_nodes, upper_link}
 use Rattle.fb_witnesses.specs.NestedWitnesses.{low_nodes}
-use Rattle.fb_witnesses.specs.Samples.{single}
+use Rattle.fb_witnesses.specs.InternalSamples.{single}
 use Rattle.fb_witnesses.specs.TreeWitnesses.{long_line}
 use Rattle.fb_witnesses.proofs.SampleEndings.{low_state}
 use Rattle.fb_witnesses.proofs.SampleNests.{limits_by_cases, stepped_by_cases}

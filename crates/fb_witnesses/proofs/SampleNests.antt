@@ -16,7 +16,7 @@ use Rattle.fb_graph.specs.Singles.{node_of, nodes_of}
 use Rattle.fb_graph.specs.Nests.{IsNest}
 use Rattle.fb_graph.specs.Moves.{MayJoin, MaySplit, MayAbsorb, MayUncover, absorbed_nodes}
 use Rattle.fb_graph.specs.SourceWalks.{HaveWalks}
-use Rattle.fb_witnesses.specs.Samples.{single, line, triangle, corner_nodes, corner_roles, grown_nodes, grown_roles}
+use Rattle.fb_witnesses.specs.InternalSamples.{single, line, triangle, corner_nodes, corner_roles, grown_nodes, grown_roles}
 use Rattle.fb_witnesses.specs.NestWitnesses.{NestWitness, bare_corners, blossom_nodes, blossom_roles, wider_nodes}
 use Rattle.fb_graph.proofs.BeginningNests.{nest_begins}
 use Rattle.fb_graph.proofs.JoinedNests.{nest_joined}

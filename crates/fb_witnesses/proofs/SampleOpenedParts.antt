@@ -18,7 +18,7 @@ use Rattle.fb_laws.specs.NestedSearches.{IsNestedWork}
 use Rattle.fb_witnesses.specs.OpenedWitnesses.{NestedExample, PartWitness, RingExample, triangle_part}
 use Rattle.fb_laws.specs.PartStates.{IsPartState, IsRing}
 use Rattle.fb_witnesses.specs.ResolvedWitnesses.{closed_nodes}
-use Rattle.fb_witnesses.specs.Samples.{link, triangle}
+use Rattle.fb_witnesses.specs.InternalSamples.{link, triangle}
 use Rattle.fb_laws.specs.Works.{AreMatchedLinks, IsMatching}
 use Rattle.fb_laws.specs.Opening.{EndsAtDefects}
 use Rattle.fb_graph.proofs.Sets.{is_in-All}

@@ -4,7 +4,7 @@ use Rattle.std.proofs.lemmas.Bool.{false≢true}
 use Rattle.std.proofs.lemmas.List.Elements.{All-nil, All-from_recursion}
 use Rattle.std.proofs.lemmas.List.Sorted.{IsPermutation-refl}
 use Rattle.fb_graph.specs.Parity.{is_in}
-use Rattle.fb_graph.specs.Problem.{edge_at}
+use Rattle.fb_graph.specs.Problem.{Problem, edge_at}
 use Rattle.fb_graph.specs.Certificate.{IsOddCut}
 use Rattle.fb_graph.specs.Laws.{Link, has_real_end}
 use Rattle.fb_graph.specs.Dual.{Node, IsHeld, all_cuts, leaves, height_of, is_outer}
@@ -17,7 +17,7 @@ use Rattle.fb_laws.specs.Parities.{HaveOneParity}
 use Rattle.fb_graph.specs.Singles.{AreSingles}
 use Rattle.fb_laws.specs.Works.{AreMatchedLinks, IsMatching, outer_sets}
 use Rattle.fb_laws.specs.Opening.{EndsAtDefects}
-use Rattle.fb_witnesses.specs.Samples.{link, line, corner_nodes, bare_singles, young_singles, young_nodes, pair_singles, pair_nodes, pair_roles}
+use Rattle.fb_witnesses.specs.InternalSamples.{link, line, corner_nodes, bare_singles, young_singles, young_nodes, pair_singles, pair_nodes, pair_roles}
 use Rattle.fb_witnesses.specs.Witnesses.{ParityWitness, WorkWitness}
 use Rattle.fb_laws.proofs.HalvesKept.{work_begins}
 use Rattle.fb_witnesses.proofs.SampleStates.{odd_cut, of_three, outer_by_cases}
@@ -85,13 +85,11 @@ AtDefects l =
     (is_in (1 ∷ 2 ∷ 3 ∷ []) l.from ≡ true → is_in (1 ∷ 2 ∷ []) l.from ≡ true)
     × (is_in (1 ∷ 2 ∷ 3 ∷ []) l.to ≡ true → is_in (1 ∷ 2 ∷ []) l.to ≡ true)
 
-no_links : (nodes : List Node) → leaves nodes ≡ 1 ∷ 2 ∷ [] → AreMatchedLinks (line (1 ∷ 2 ∷ [])) nodes []
-no_links nodes are = record {
-  tight = All-nil (IsTightLink (line (1 ∷ 2 ∷ [])) (all_cuts nodes));
-  own = All-nil (IsLinkOf (line (1 ∷ 2 ∷ [])));
-  at_defects =
-      All-nil
-      (EndsAtDefects (line (1 ∷ 2 ∷ [])) (leaves nodes));
+pub no_links : (p : Problem) (nodes : List Node) → AreMatchedLinks p nodes []
+no_links p nodes = record {
+  tight = All-nil (IsTightLink p (all_cuts nodes));
+  own = All-nil (IsLinkOf p);
+  at_defects = All-nil (EndsAtDefects p (leaves nodes));
 }
 
 to_boundary : AreMatchedLinks (line (1 ∷ 2 ∷ [])) pair_nodes (link 1 0 (0 ∷ []) ∷ [])
@@ -163,7 +161,7 @@ work_witness = (
   record {
     dual = singles_are_dual (line (1 ∷ 2 ∷ [])) young_singles young_are_singles;
     defects = λ v real. refl;
-    links_are = no_links young_nodes refl;
+    links_are = no_links (line (1 ∷ 2 ∷ [])) young_nodes;
     matched =
         All-from_recursion
         (λ n. is_outer young_nodes n.name ≡ true → ends_in n.top.vertices [] + as_count (is_in (0 ∷ 1 ∷ []) n.name) ≡ 1) young_nodes
@@ -171,7 +169,7 @@ work_witness = (
     one_parity = one_height young_nodes 1 (of_two (λ d. height_of (all_cuts young_nodes) d % 2 ≡ 1) 1 2 refl refl);
   },
   singles_are_dual (line (1 ∷ 2 ∷ [])) pair_singles pair_are_singles,
-  pair_matching [] (0 ∷ 1 ∷ []) (no_links pair_nodes refl) refl refl,
+  pair_matching [] (0 ∷ 1 ∷ []) (no_links (line (1 ∷ 2 ∷ [])) pair_nodes) refl refl,
   pair_matching (link 1 0 (0 ∷ []) ∷ []) (1 ∷ []) to_boundary refl refl,
   pair_matching (link 2 1 (1 ∷ []) ∷ []) [] one_another refl refl,
   to_boundary,

@@ -24,7 +24,7 @@ use Rattle.fb_laws.specs.Fusion.{IsLinkOf}
 use Rattle.fb_laws.specs.OpenedCycles.{IsOpenedCycle}
 use Rattle.fb_laws.specs.PartStates.{IsRing, IsPartState, IsSearchState, PartState}
 use Rattle.fb_witnesses.specs.MatchWitnesses.{one_branch}
-use Rattle.fb_witnesses.specs.Samples.{link}
+use Rattle.fb_witnesses.specs.InternalSamples.{link}
 use Rattle.fb_laws.specs.StateBlossoms.{MayClose, joined_state}
 use Rattle.fb_laws.specs.StateMoves.{search_from}
 use Rattle.fb_witnesses.specs.StateWitnesses.{ClosedStateWitness, OpenedStateWitness, pentagon, pentagon_singles, pentagon_leaves, blossom_pair, first_branch, second_branch, two_branches, blossom_branch, inner_blossom, pentagon_links, pentagon_way, pentagon_couples}

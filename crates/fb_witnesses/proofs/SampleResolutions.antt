@@ -13,7 +13,7 @@ use Rattle.fb_laws.specs.Opening.{EndAtDefects, IsLevel, single_sets, EndsAtDefe
 use Rattle.fb_laws.specs.Works.{positive_cuts}
 use Rattle.fb_laws.specs.NestSolutions.{AreChildrenOf, leaf_sets}
 use Rattle.fb_witnesses.specs.ResolvedWitnesses.{ResolvedWitness, closed_nodes, opened_links, printed_triangle}
-use Rattle.fb_witnesses.specs.Samples.{blossom_cuts, triangle}
+use Rattle.fb_witnesses.specs.InternalSamples.{blossom_cuts, triangle}
 use Rattle.fb_laws.proofs.OpenedLevels.{level_permuted}
 use Rattle.fb_witnesses.proofs.SampleLevels.{opening_witness}
 use Rattle.fb_witnesses.proofs.SampleNests.{grown_blossom}

@@ -10,7 +10,7 @@ use Rattle.fb_graph.specs.NestUnions.{AreParts}
 use Rattle.fb_laws.specs.FusedStates.{AreFurther, MayMerge}
 use Rattle.fb_witnesses.specs.FusedWitnesses.{SeamWitness, both_ends, freed_end, parted_line}
 use Rattle.fb_laws.specs.Merging.{IsSeam}
-use Rattle.fb_witnesses.specs.Samples.{line, line_part, link, middle_singles, single}
+use Rattle.fb_witnesses.specs.InternalSamples.{line, line_part, link, middle_singles, single}
 use Rattle.fb_graph.specs.Singles.{nodes_of}
 use Rattle.fb_witnesses.proofs.SampleFusions.{own_by_cases, own_ends}
 use Rattle.fb_witnesses.proofs.SampleSeams.{merging_witness}

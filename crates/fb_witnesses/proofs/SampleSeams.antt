@@ -15,7 +15,7 @@ use Rattle.fb_laws.specs.Fusion.{IsLinkOf}
 use Rattle.fb_graph.specs.Singles.{AreSingles, nodes_of}
 use Rattle.fb_laws.specs.Works.{IsMatching, IsSetOf}
 use Rattle.fb_laws.specs.Merging.{Freed}
-use Rattle.fb_witnesses.specs.Samples.{single, link, line, line_part, end_singles, middle_singles}
+use Rattle.fb_witnesses.specs.InternalSamples.{single, link, line, line_part, end_singles, middle_singles}
 use Rattle.fb_witnesses.specs.Witnesses.{MergingWitness}
 use Rattle.fb_laws.proofs.FusedParts.{parts_turned}
 use Rattle.fb_laws.proofs.MergedParts.{matchings_merged}

@@ -10,7 +10,7 @@ use Rattle.fb_graph.specs.Counts.{as_count}
 use Rattle.fb_graph.specs.Ends.{ends_in}
 use Rattle.fb_laws.specs.Fusion.{IsLinkOf}
 use Rattle.fb_graph.specs.Links.{IsTightLink, AreEven}
-use Rattle.fb_witnesses.specs.Samples.{line, link}
+use Rattle.fb_witnesses.specs.InternalSamples.{line, link}
 use Rattle.fb_graph.specs.Singles.{AreSingles}
 use Rattle.fb_laws.specs.Works.{AreMatchedLinks, IsMatching}
 use Rattle.fb_laws.specs.Searches.{IsSearch}

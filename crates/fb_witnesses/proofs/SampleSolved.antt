@@ -9,7 +9,7 @@ use Rattle.fb_graph.specs.Laws.{IsPart, IsSolved}
 use Rattle.fb_laws.specs.Works.{positive_cuts}
 use Rattle.fb_laws.proofs.SolvedRows.{best_of_whole}
 use Rattle.fb_witnesses.specs.ResolvedWitnesses.{closed_nodes, printed_triangle}
-use Rattle.fb_witnesses.specs.Samples.{triangle}
+use Rattle.fb_witnesses.specs.InternalSamples.{triangle}
 use Rattle.fb_witnesses.specs.SolvedWitnesses.{BestWitness, OddWitness, shared_links, whole_triangle}
 use Rattle.fb_witnesses.proofs.SampleOpenedParts.{part_witness}
 use Rattle.fb_witnesses.proofs.SampleResolutions.{resolved_witness}

@@ -1,5 +1,5 @@
 -- Searches on small graphs: a layer taken off, and blossoms formed.
-use Rattle.std.proofs.Common.{ℕ, ◌≡◌, ◌≢◌, ◌+◌, ◌%◌, ◌≤◌, ◌==◌, inl, inr, not, true, false, cond, List, [], ◌∷◌, ◌++◌, length, refl, sym, ap, ◌∙◌, arith}
+use Rattle.std.proofs.Common.{ℕ, ◌≡◌, ◌+◌, ◌%◌, ◌≤◌, ◌==◌, inl, inr, not, true, false, cond, List, [], ◌∷◌, ◌++◌, length, refl, sym, ap, ◌∙◌, arith}
 use Rattle.std.specs.List.{list_all}
 use Rattle.std.proofs.lemmas.Bool.{both_ways, false≢true, false_from_ne_true, eq-eqb, ne_eqb, or_from, or_left}
 use Rattle.std.proofs.lemmas.List.Elements.{All-from_recursion}
@@ -17,7 +17,7 @@ use Rattle.fb_laws.specs.Fusion.{IsLinkOf}
 use Rattle.fb_graph.specs.Links.{IsTightLink, AreEven}
 use Rattle.fb_graph.specs.Moves.{MayAbsorb, MayUncover, uncovered_nodes}
 use Rattle.fb_graph.specs.Nests.{IsNest}
-use Rattle.fb_witnesses.specs.Samples.{link, triangle, corner_nodes}
+use Rattle.fb_witnesses.specs.InternalSamples.{link, triangle, corner_nodes}
 use Rattle.fb_laws.specs.SearchBlossoms.{IsJoining}
 use Rattle.fb_laws.specs.Searches.{IsSearch, IsOuterNode}
 use Rattle.fb_graph.specs.SourceWalks.{HaveWalks}

@@ -1,4 +1,4 @@
--- That the premises of the laws on agreed nodes can be met: the longer line's blossom under other names, and a store of
+-- The premises of the laws on agreed nodes are met: the longer line's blossom under other names, and a store of
 -- blossoms with a free place that holds the same nodes.
 use Rattle.std.specs.Prelude.{ℕ, ◌≡◌, ◌+◌, true, false, List, [], ◌∷◌, Option, Some, None}
 use Rattle.fb_graph.specs.Dual.{Node, is_outer}

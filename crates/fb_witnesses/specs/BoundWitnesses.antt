@@ -1,4 +1,4 @@
--- That the premises of the laws on the bounds of a step can be met: on a line of four defects two are plus, the one
+-- The premises of the laws on the bounds of a step are met: on a line of four defects two are plus, the one
 -- between them minus, and the last one neither.
 use Rattle.std.specs.Prelude.{◌≡◌, ◌+◌, ◌*◌, ◌≤◌, true, false, List, [], ◌∷◌}
 use Rattle.fb_graph.specs.Parity.{is_in}
@@ -10,7 +10,7 @@ use Rattle.fb_graph.specs.Singles.{Single, nodes_of}
 use Rattle.fb_graph.specs.Steps.{MayStep, Roles}
 use Rattle.fb_graph.specs.InternalSamples.{edge}
 use Rattle.fb_laws.specs.Bounds.{IsBounded}
-use Rattle.fb_witnesses.specs.Samples.{single}
+use Rattle.fb_witnesses.specs.InternalSamples.{single}
 
 -- the last edge leads past the second defect
 abbrev pub line_of_four : Problem

@@ -1,4 +1,4 @@
--- That the premises of the laws of cycles can be met: on the line a link closes the cycle of a root and its one branch,
+-- The premises of the laws of cycles are met: on the line a link closes the cycle of a root and its one branch,
 -- and a triangle of defects is the minus blossom between a root and a plus node.
 use Rattle.std.specs.Prelude.{ℕ, ◌≡◌, true, false, List, [], ◌∷◌, ◌++◌, map}
 use Rattle.std.specs.List.Sorted.{IsPermutation}
@@ -13,7 +13,7 @@ use Rattle.fb_graph.specs.Moves.{MaySplit, blossom}
 use Rattle.fb_graph.specs.Singles.{Single, nodes_of}
 use Rattle.fb_graph.specs.InternalSamples.{edge}
 use Rattle.fb_laws.specs.Works.{AreMatchedLinks}
-use Rattle.fb_witnesses.specs.Samples.{line, link, single}
+use Rattle.fb_witnesses.specs.InternalSamples.{line, link, single}
 use Rattle.fb_laws.specs.Trees.{Entry, Connects, plus_names, tree_names}
 use Rattle.fb_laws.specs.Searches.{IsSearch}
 use Rattle.fb_laws.specs.SearchBlossoms.{child_at}

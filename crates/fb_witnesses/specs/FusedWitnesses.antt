@@ -1,4 +1,4 @@
--- That the premises of the laws on nests of two parts can be met: the two ends of a line, each matched in a part of
+-- The premises of the laws on nests of two parts are met: the two ends of a line, each matched in a part of
 -- its own, and the middle vertex, which then becomes real with a defect.
 use Rattle.std.specs.Prelude.{ℕ, ◌≡◌, ◌⊎◌, ◌==◌, true, List, [], ◌∷◌, ◌++◌, map, All}
 use Rattle.std.specs.List.Sorted.{IsPermutation}
@@ -12,7 +12,7 @@ use Rattle.fb_graph.specs.Links.{AreEven}
 use Rattle.fb_graph.specs.NestUnions.{AreParts, HaveOwnNames}
 use Rattle.fb_laws.specs.Merging.{Freed, IsSeam, freed_links}
 use Rattle.fb_laws.specs.NestedSearches.{IsNestedWork}
-use Rattle.fb_witnesses.specs.Samples.{single, link, line, line_part, end_singles, middle_singles}
+use Rattle.fb_witnesses.specs.InternalSamples.{single, link, line, line_part, end_singles, middle_singles}
 use Rattle.fb_graph.specs.Singles.{nodes_of, vertices_of}
 
 -- the right end, whose link leads to the middle vertex

@@ -1,4 +1,4 @@
--- That the premises of the laws on held defects can be met: the tree of the longer line as a blossom, whose set has a
+-- The premises of the laws on held defects are met: the tree of the longer line as a blossom, whose set has a
 -- vertex that is no defect.
 use Rattle.std.specs.Prelude.{ℕ, ◌≡◌, ◌==◌, true, false, List, [], ◌∷◌, Some, if◌then◌else◌}
 use Rattle.fb_graph.specs.Parity.{is_in}

@@ -1,4 +1,4 @@
--- That the premises of the laws on a leaf added and on defects exchanged can be met: beside a node of the line that has
+-- The premises of the laws on a leaf added and on defects exchanged are met: beside a node of the line that has
 -- absorbed a neighbour comes one for a second defect, and then the problem has that defect too.
 use Rattle.std.specs.Prelude.{◌≡◌, List, [], ◌∷◌, ◌++◌, Some}
 use Rattle.fb_graph.specs.Problem.{Problem, with_defects}
@@ -8,7 +8,7 @@ use Rattle.fb_graph.specs.NewLeaves.{MayAddLeaf}
 use Rattle.fb_graph.specs.SourceWalks.{HaveWalks}
 use Rattle.fb_laws.specs.Works.{HasDefects}
 use Rattle.fb_witnesses.specs.NestWitnesses.{wider_nodes}
-use Rattle.fb_witnesses.specs.Samples.{line}
+use Rattle.fb_witnesses.specs.InternalSamples.{line}
 
 -- the node of two vertices, and one for the vertex beside them
 abbrev pub with_leaf : List Node

@@ -3,6 +3,7 @@ pub mod BoundWitnesses
 pub mod CycleWitnesses
 pub mod FusedWitnesses
 pub mod HeldWitnesses
+pub mod InternalSamples
 pub mod LeafWitnesses
 pub mod MatchWitnesses
 pub mod MetWitnesses
@@ -14,7 +15,6 @@ pub mod RankWitnesses
 pub mod RenamedWitnesses
 pub mod ResolvedWitnesses
 pub mod RingWitnesses
-pub mod Samples
 pub mod SeamWitnesses
 pub mod SearchWitnesses
 pub mod SolvedWitnesses

@@ -1,4 +1,4 @@
--- That the premises of the laws on the match of a node can be met: on the line of four defects, and beside a tree of the
+-- The premises of the laws on the match of a node are met: on the line of four defects, and beside a tree of the
 -- pentagon.
 use Rattle.std.specs.Prelude.{◌≡◌, true, false, [], ◌∷◌}
 use Rattle.fb_graph.specs.Parity.{is_in}
@@ -9,7 +9,7 @@ use Rattle.fb_laws.specs.PartStates.{IsSearchState, SearchState}
 use Rattle.fb_laws.specs.Trees.{Connects, tree_names}
 use Rattle.fb_laws.specs.Works.{IsMatching}
 use Rattle.fb_witnesses.specs.BoundWitnesses.{four_nodes, line_of_four}
-use Rattle.fb_witnesses.specs.Samples.{link}
+use Rattle.fb_witnesses.specs.InternalSamples.{link}
 use Rattle.fb_witnesses.specs.StateWitnesses.{first_branch, pentagon, pentagon_leaves}
 
 -- the first two defects matched with one another, the last one with the boundary

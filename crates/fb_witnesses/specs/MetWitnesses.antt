@@ -1,4 +1,4 @@
--- That the premises of the laws on links met can be met: two defects that have absorbed a vertex each meet over a tight
+-- The premises of the laws on links met are met: two defects that have absorbed a vertex each meet over a tight
 -- edge, and one of them the boundary over another; a minus defect that has shrunk to nothing joins its two links.
 use Rattle.std.specs.Prelude.{ℕ, ◌≡◌, false, List, [], ◌∷◌, Some}
 use Rattle.fb_graph.specs.Parity.{is_in}
@@ -15,7 +15,7 @@ use Rattle.fb_laws.specs.SingleDefects.{HasEnd, IsDefectUnder, IsSingle, link_th
 use Rattle.fb_laws.specs.Trees.{Connects}
 use Rattle.fb_laws.specs.Works.{AreMatchedLinks}
 use Rattle.fb_witnesses.specs.NestedWitnesses.{low_nodes}
-use Rattle.fb_witnesses.specs.Samples.{link}
+use Rattle.fb_witnesses.specs.InternalSamples.{link}
 use Rattle.fb_witnesses.specs.TreeWitnesses.{long_line}
 
 -- a line of four real vertices, with an edge to the boundary at the third one as well

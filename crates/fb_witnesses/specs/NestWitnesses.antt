@@ -1,4 +1,4 @@
--- That the premises of the laws on the moves of a nest can be met: the corners of a triangle grow, become a blossom
+-- The premises of the laws on the moves of a nest are met: the corners of a triangle grow, become a blossom
 -- and are split again; a defect of a line absorbs a neighbour and gives it back.
 use Rattle.std.specs.Prelude.{◌≡◌, true, List, [], ◌∷◌, map, All}
 use Rattle.fb_graph.specs.Parity.{is_in}
@@ -12,7 +12,7 @@ use Rattle.fb_graph.specs.Singles.{Single, nodes_of, vertices_of}
 use Rattle.fb_graph.specs.Nests.{IsNest}
 use Rattle.fb_graph.specs.Moves.{MayJoin, MaySplit, MayAbsorb, MayUncover, joined_nodes}
 use Rattle.fb_graph.specs.InternalSamples.{cut}
-use Rattle.fb_witnesses.specs.Samples.{single, line, triangle, corner_nodes, corner_roles, grown_nodes}
+use Rattle.fb_witnesses.specs.InternalSamples.{single, line, triangle, corner_nodes, corner_roles, grown_nodes}
 
 -- the corners of the triangle before they grow
 abbrev pub bare_corners : List Single

@@ -1,4 +1,4 @@
--- That the premises of the laws on the whole state of a search can be met.
+-- The premises of the laws on the whole state of a search are met.
 use Rattle.std.specs.Prelude.{ℕ, ◌≡◌, true, false, List, [], ◌∷◌}
 use Rattle.fb_graph.specs.Parity.{is_in}
 use Rattle.fb_graph.specs.Limits.{IsWithinLimits}
@@ -9,13 +9,13 @@ use Rattle.fb_laws.specs.Forming.{Child}
 use Rattle.fb_graph.specs.Links.{AreEven}
 use Rattle.fb_graph.specs.Moves.{MaySplit, MayAbsorb, MayUncover, joined_nodes, absorbed_nodes, uncovered_nodes}
 use Rattle.fb_laws.specs.NestedSearches.{IsNestedSearch}
-use Rattle.fb_witnesses.specs.Samples.{line, link, pair_nodes}
+use Rattle.fb_witnesses.specs.InternalSamples.{line, link, pair_nodes}
 use Rattle.fb_laws.specs.SearchBlossoms.{IsJoining}
 use Rattle.fb_witnesses.specs.SearchWitnesses.{chain_nodes, chain_branch}
 use Rattle.fb_laws.specs.Searches.{LeavesNode}
 use Rattle.fb_graph.specs.Steps.{MayStep, stepped_nodes}
 use Rattle.fb_laws.specs.Trees.{Connects, plus_names, roles_of}
-use Rattle.fb_witnesses.specs.TreeWitnesses.{long_line, thin_nodes, thin_branch, crown, crown_nodes, closed_branch}
+use Rattle.fb_witnesses.specs.TreeWitnesses.{long_line, thin_nodes, thin_branch, two_tailed_triangle, two_tailed_nodes, closed_branch}
 use Rattle.fb_laws.specs.Works.{AreMatchedLinks}
 
 -- the vertex that the minus node has given up absorbed by the root
@@ -47,8 +47,8 @@ NestedWitness = IsWithinLimits long_line × HasNoOddClosed long_line × AreEven 
     × ((n : ℕ) → is_in (0 ∷ 1 ∷ 2 ∷ []) n ≡ true → is_in (3 ∷ []) n ≡ false)
     × ((n : ℕ) → is_in (0 ∷ 1 ∷ 2 ∷ []) n ≡ false → (n ≡ 3 → ⊥) → is_in (3 ∷ []) n ≡ is_in (0 ∷ []) n)
     × IsNestedSearch long_line low_nodes (thin_branch ∷ []) [] (0 ∷ []) 0 0
-    × MaySplit (joined_nodes 5 (0 ∷ 1 ∷ 2 ∷ []) crown_nodes) 5
-    × IsNestedSearch crown (joined_nodes 5 (0 ∷ 1 ∷ 2 ∷ []) crown_nodes) (closed_branch ∷ []) [] (4 ∷ []) 4 0
+    × MaySplit (joined_nodes 5 (0 ∷ 1 ∷ 2 ∷ []) two_tailed_nodes) 5
+    × IsNestedSearch two_tailed_triangle (joined_nodes 5 (0 ∷ 1 ∷ 2 ∷ []) two_tailed_nodes) (closed_branch ∷ []) [] (4 ∷ []) 4 0
 
 -- On the line two matched nodes are met, and then the boundary. Two neighbours meet, both unmatched or the one
 -- matched to the boundary.

@@ -1,4 +1,4 @@
--- That the premises of the laws on links by their steps and numbers can be met: a walk of three steps, a tree whose
+-- The premises of the laws on links by their steps and numbers are met: a walk of three steps, a tree whose
 -- links have the numbers of a table, and the pentagon's ring by such numbers.
 use Rattle.std.specs.Prelude.{ℕ, ◌≡◌, ◌≢◌, ◌+◌, ◌%◌, ◌≤◌, ◌==◌, List, [], ◌∷◌, ◌++◌, map, length, drop, reverse, All, if◌then◌else◌}
 use Rattle.fb_graph.specs.Parity.{is_in}
@@ -15,7 +15,7 @@ use Rattle.fb_laws.specs.TreeCycles.{ArePaths, cycle_links}
 use Rattle.fb_laws.specs.Trees.{EntryOf, minus_names}
 use Rattle.fb_witnesses.specs.MetWitnesses.{met_line, middle_link}
 use Rattle.fb_witnesses.specs.RingWitnesses.{corners}
-use Rattle.fb_witnesses.specs.Samples.{link}
+use Rattle.fb_witnesses.specs.InternalSamples.{link}
 use Rattle.fb_witnesses.specs.StateWitnesses.{pentagon_links, two_branches}
 
 abbrev pub plain_parts : StepParts PlainStep

@@ -1,5 +1,5 @@
--- That a part with nothing unmatched and a blossom is one to which the laws on its opened links apply; and what the
--- definitions give on a nest of two blossoms and round a ring of five.
+-- A part with nothing unmatched and a blossom to which the laws on opened links apply; and what the definitions give
+-- on a nest of two blossoms and round a ring of five.
 use Rattle.std.specs.Prelude.{ℕ, ◌≡◌, ◌+◌, ◌==◌, List, [], ◌∷◌, map, if◌then◌else◌}
 use Rattle.fb_graph.specs.Certificate.{IsBest}
 use Rattle.fb_graph.specs.Laws.{Link}
@@ -10,7 +10,7 @@ use Rattle.fb_laws.specs.OpenedLinks.{opened_links}
 use Rattle.fb_laws.specs.PartStates.{PartState, IsPartState}
 use Rattle.fb_witnesses.specs.ResolvedWitnesses.{closed_nodes, printed_triangle}
 use Rattle.fb_laws.specs.RingWays.{Round, couples_after, round_at, way_to}
-use Rattle.fb_witnesses.specs.Samples.{link, triangle}
+use Rattle.fb_witnesses.specs.InternalSamples.{link, triangle}
 
 -- the triangle's blossom, matched to the boundary
 abbrev pub triangle_part : PartState

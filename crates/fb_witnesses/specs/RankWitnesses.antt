@@ -1,4 +1,4 @@
--- That the premises of the laws on the rank of a search can be met: the pentagon's minus blossom before and after it is
+-- The premises of the laws on the rank of a search are met: the pentagon's minus blossom before and after it is
 -- opened.
 use Rattle.std.specs.Prelude.{◌≡◌, true, false, not, [], ◌∷◌, length, count_by}
 use Rattle.fb_graph.specs.Covers.{AreRoles}

@@ -1,4 +1,4 @@
--- That the premises of the laws on other names can be met: the pentagon's nodes with a blossom, a match and an unmatched
+-- The premises of the laws on other names are met: the pentagon's nodes with a blossom, a match and an unmatched
 -- node, each under the name of another.
 use Rattle.std.specs.Prelude.{ℕ, ◌≡◌, ◌-◌, true, List, [], ◌∷◌, map, Some, nat_lt, if◌then◌else◌}
 use Rattle.fb_graph.specs.Laws.{Link}

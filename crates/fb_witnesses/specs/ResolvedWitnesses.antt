@@ -1,4 +1,4 @@
--- That the premises of the laws on nests resolved can be met: a triangle's blossom is opened, and its cuts certify the
+-- The premises of the laws on nests resolved are met: a triangle's blossom is opened, and its cuts certify the
 -- correction.
 use Rattle.std.specs.Prelude.{◌≡◌, true, List, [], ◌∷◌, map, All}
 use Rattle.fb_graph.specs.Certificate.{AreRising, IsBest}
@@ -15,7 +15,7 @@ use Rattle.fb_graph.specs.Nests.{IsNest}
 use Rattle.fb_graph.specs.InternalSamples.{cut}
 use Rattle.fb_laws.specs.NestSolutions.{AreChildrenOf, leaf_sets}
 use Rattle.fb_witnesses.specs.NestWitnesses.{blossom_nodes, blossom_roles}
-use Rattle.fb_witnesses.specs.Samples.{link, triangle}
+use Rattle.fb_witnesses.specs.InternalSamples.{link, triangle}
 
 -- the blossom grown to the boundary
 abbrev pub closed_nodes : List Node

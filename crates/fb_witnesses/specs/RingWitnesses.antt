@@ -1,4 +1,4 @@
--- That a minus blossom of a half-solved part can be opened along its ring: the pentagon's, between the corner beside its
+-- A minus blossom of a half-solved part that can be opened along its ring: the pentagon's, between the corner beside its
 -- parent and the one beside its child, three links on, so two back.
 use Rattle.std.specs.Prelude.{ℕ, ◌≡◌, List, [], ◌∷◌}
 use Rattle.fb_laws.specs.PartStates.{IsSearchState}

@@ -1,4 +1,4 @@
--- That the premises of the laws on the seams of a plan can be met: a line of five real vertices in three units, with two
+-- The premises of the laws on the seams of a plan are met: a line of five real vertices in three units, with two
 -- of the vertices as seams.
 use Rattle.std.specs.Prelude.{◌≡◌, ◌<◌, true, false, [], ◌∷◌, Some, None}
 use Rattle.fb_graph.specs.Limits.{DecodingGraph, ShotValue}

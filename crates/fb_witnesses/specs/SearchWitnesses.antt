@@ -1,9 +1,9 @@
--- That the premises of the laws of searches can be met: three defects on a line, of which two are matched and the third
+-- The premises of the laws of searches are met: three defects on a line, of which two are matched and the third
 -- one, the root, meets them.
 use Rattle.std.specs.Prelude.{List, [], ◌∷◌}
 use Rattle.fb_graph.specs.Dual.{Node}
 use Rattle.fb_graph.specs.Singles.{Single, nodes_of}
-use Rattle.fb_witnesses.specs.Samples.{line, link, single}
+use Rattle.fb_witnesses.specs.InternalSamples.{line, link, single}
 use Rattle.fb_laws.specs.Trees.{Entry}
 use Rattle.fb_laws.specs.Searches.{IsSearch}
 

@@ -1,4 +1,4 @@
--- That the premises of the laws on the row of a solved part can be met: two walks of the triangle that share an edge,
+-- The premises of the laws on the row of a solved part are met: two walks of the triangle that share an edge,
 -- and the triangle's blossom as a part of a problem with more vertices.
 use Rattle.std.specs.Prelude.{ℕ, ◌≡◌, ◌<◌, ◌==◌, true, List, [], ◌∷◌, All, flat_map}
 use Rattle.std.specs.List.Sorted.{IsStrictlyIncreasing}
@@ -15,7 +15,7 @@ use Rattle.fb_laws.specs.PartStates.{IsPartState}
 use Rattle.fb_laws.specs.Works.{HasDefects, positive_cuts}
 use Rattle.fb_witnesses.specs.OpenedWitnesses.{triangle_part}
 use Rattle.fb_witnesses.specs.ResolvedWitnesses.{closed_nodes, printed_triangle}
-use Rattle.fb_witnesses.specs.Samples.{link, triangle}
+use Rattle.fb_witnesses.specs.InternalSamples.{link, triangle}
 
 -- both go over edge 2
 abbrev pub shared_links : List Link

@@ -1,4 +1,4 @@
--- That the premises of the laws on whole states can be met: in a pentagon of defects a link closes a cycle of two
+-- The premises of the laws on whole states are met: in a pentagon of defects a link closes a cycle of two
 -- branches, and the blossom of its corners is opened with one couple beside the way; two ends of a line are fused.
 use Rattle.std.specs.Prelude.{◌==◌, List, [], ◌∷◌, ◌++◌}
 use Rattle.std.specs.List.Sorted.{IsPermutation}
@@ -16,7 +16,7 @@ use Rattle.fb_witnesses.specs.FusedWitnesses.{freed_end}
 use Rattle.fb_laws.specs.Merging.{IsSeam, freed_links}
 use Rattle.fb_laws.specs.OpenedCycles.{Couple, IsOpenedCycle, Pass}
 use Rattle.fb_laws.specs.PartStates.{PartState, SearchState, IsPartState, IsSearchState}
-use Rattle.fb_witnesses.specs.Samples.{line, line_part, link, middle_singles, single}
+use Rattle.fb_witnesses.specs.InternalSamples.{line, line_part, link, middle_singles, single}
 use Rattle.fb_laws.specs.StateBlossoms.{MayClose, with_cycle}
 use Rattle.fb_laws.specs.TreeCycles.{ArePaths}
 use Rattle.fb_laws.specs.Trees.{Entry}

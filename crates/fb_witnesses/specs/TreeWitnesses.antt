@@ -1,4 +1,4 @@
--- That the premises of the laws on layers and blossoms in a search can be met.
+-- The premises of the laws on layers and blossoms in a search are met.
 use Rattle.std.specs.Prelude.{ℕ, ◌≡◌, ◌<◌, ◌==◌, true, false, List, [], ◌∷◌, ◌++◌, None}
 use Rattle.fb_graph.specs.Parity.{is_in}
 use Rattle.fb_graph.specs.Problem.{Problem}
@@ -7,7 +7,7 @@ use Rattle.fb_laws.specs.Forming.{Child, blossom_of}
 use Rattle.fb_graph.specs.Moves.{joined_nodes, uncovered_nodes}
 use Rattle.fb_witnesses.specs.NestWitnesses.{blossom_nodes, blossom_roles}
 use Rattle.fb_laws.specs.Opening.{Opened, IsOpenedTo, single_sets}
-use Rattle.fb_witnesses.specs.Samples.{link, single, triangle, corner_nodes}
+use Rattle.fb_witnesses.specs.InternalSamples.{link, single, triangle, corner_nodes}
 use Rattle.fb_laws.specs.SearchBlossoms.{IsJoining, child_at}
 use Rattle.fb_graph.specs.Alike.{AreAlike}
 use Rattle.fb_laws.specs.SearchOpenings.{IsOpenedTree}
@@ -103,19 +103,19 @@ JoiningWitness = IsSearch triangle corner_nodes (corner_branch ∷ []) [] (2 ∷
     ∷ []) 3 ≡ true)
 
 -- a triangle with a defect beside two of its corners, and a boundary beside the third
-abbrev pub crown : Problem
-crown = record {
+abbrev pub two_tailed_triangle : Problem
+two_tailed_triangle = record {
   vertices = 6;
   edges = edge 0 1 20 ∷ edge 1 2 20 ∷ edge 0 2 20 ∷ edge 2 3 14 ∷ edge 0 4 24 ∷ edge 1 5 16 ∷ [];
   is_real = is_in (0 ∷ 1 ∷ 2 ∷ 3 ∷ 4 ∷ []);
   is_defect = is_in (0 ∷ 1 ∷ 2 ∷ 3 ∷ 4 ∷ []);
 }
 
-abbrev pub crown_singles : List Single
-crown_singles = single 0 0 10 ∷ single 1 1 10 ∷ single 2 2 10 ∷ single 3 3 4 ∷ single 4 4 14 ∷ []
+abbrev pub two_tailed_singles : List Single
+two_tailed_singles = single 0 0 10 ∷ single 1 1 10 ∷ single 2 2 10 ∷ single 3 3 4 ∷ single 4 4 14 ∷ []
 
-abbrev pub crown_nodes : List Node
-crown_nodes = nodes_of crown_singles
+abbrev pub two_tailed_nodes : List Node
+two_tailed_nodes = nodes_of two_tailed_singles
 
 -- the blossom of the corners, matched with the one defect and met by the other, before and after it is opened
 abbrev pub closed_branch : Entry
@@ -134,11 +134,11 @@ opened_branches =
 
 -- The opened blossom's even path: two of its corners are matched with one another, the third one keeps its link.
 abbrev pub SplittingWitness : Type 0
-SplittingWitness = IsSearch crown (joined_nodes 5 (0 ∷ 1 ∷ 2 ∷ []) crown_nodes) (closed_branch ∷ []) [] (4 ∷ []) 4 0
-    × IsOpenedTree crown (joined_nodes 5 (0 ∷ 1 ∷ 2 ∷ []) crown_nodes) crown_nodes [] [] opened_branches closed_branch 2
+SplittingWitness = IsSearch two_tailed_triangle (joined_nodes 5 (0 ∷ 1 ∷ 2 ∷ []) two_tailed_nodes) (closed_branch ∷ []) [] (4 ∷ []) 4 0
+    × IsOpenedTree two_tailed_triangle (joined_nodes 5 (0 ∷ 1 ∷ 2 ∷ []) two_tailed_nodes) two_tailed_nodes [] [] opened_branches closed_branch 2
     (0 ∷ 1 ∷ [])
     (link 0 1 (0 ∷ []) ∷ []) [] [] (4 ∷ []) 4
-    × IsDual crown crown_nodes
+    × IsDual two_tailed_triangle two_tailed_nodes
     × ((roles_of 4 (closed_branch ∷ [])).is_plus 5 ≡ false)
     × ((n : ℕ) → (roles_of 4 (closed_branch ∷ [])).is_plus n ≡ true → (roles_of 4 opened_branches).is_plus n ≡ true)
 

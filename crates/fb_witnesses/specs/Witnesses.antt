@@ -1,4 +1,4 @@
--- That the premises of the laws can be met: each of these is what one or more laws ask for, on a small graph.
+-- The premises of the laws are met: each definition states those of one or more laws, on a small graph.
 use Rattle.std.specs.Prelude.{ℕ, ◌≡◌, ◌<◌, ◌⊎◌, ◌==◌, true, false, List, [], ◌∷◌, ◌++◌, map, All}
 use Rattle.std.specs.List.{concat}
 use Rattle.fb_graph.specs.Parity.{is_in}
@@ -27,7 +27,7 @@ use Rattle.fb_graph.specs.Counts.{as_count}
 use Rattle.fb_graph.specs.NestUnions.{AreParts}
 use Rattle.fb_graph.specs.InternalSamples.{cut}
 use Rattle.fb_laws.specs.Forming.{IsCycle}
-use Rattle.fb_witnesses.specs.Samples.{single, end_singles, middle_singles, link, line, triangle, line_singles, line_nodes, line_roles, grown_nodes, grown_roles, corner_nodes, corner_roles, line_part, blossom_cuts, bare_singles, young_nodes, pair_nodes, pair_roles}
+use Rattle.fb_witnesses.specs.InternalSamples.{single, end_singles, middle_singles, link, line, triangle, line_singles, line_nodes, line_roles, grown_nodes, grown_roles, corner_nodes, corner_roles, line_part, blossom_cuts, bare_singles, young_nodes, pair_nodes, pair_roles}
 
 -- A step of a tree on the line: feasible cuts, a tight link between a minus and a plus node, the greatest step, made of
 -- two allowed ones.
@@ -41,7 +41,7 @@ StepWitness = AreExclusive line_roles × IsPacking (line (1 ∷ 2 ∷ 3 ∷ []))
     × IsGreatestStep (line (1 ∷ 2 ∷ 3 ∷ [])) line_roles line_nodes 2
     × HasPlus line_roles line_nodes × HasNoOddClosed (line (1 ∷ 2 ∷ 3 ∷ []))
 
--- Its nodes, one for each defect, are a dual state in which nothing stands in the tree's way.
+-- Its nodes, one for each defect, are a dual state in which the tree has no obstacle.
 abbrev pub DualWitness : Type 0
 DualWitness = AreSingles (line (1 ∷ 2 ∷ 3 ∷ [])) line_singles × IsDual (line (1 ∷ 2 ∷ 3 ∷ [])) line_nodes
     × AreRoles line_roles line_nodes × HaveParity line_roles.is_plus line_nodes 0 × AreEven (line (1 ∷ 2 ∷ 3 ∷ []))
@@ -126,7 +126,7 @@ OpeningWitness = IsPacking triangle blossom_cuts × All (λ c. IsWithinOne c ((0
     × EndAtDefects triangle (2 ∷ 0 ∷ 1 ∷ []) (link 0 1 (0 ∷ []) ∷ link 2 3 (3 ∷ []) ∷ [])
     × ((v : ℕ) → triangle.is_real v ≡ true → triangle.is_defect v ≡ is_in (2 ∷ 0 ∷ 1 ∷ []) v)
 
--- The corners of the triangle have one parity, also told of one corner and the next one that it meets. Of the line's
+-- The corners of the triangle have one parity, also of one corner and the next one that it meets. Of the line's
 -- tree the minus node has shrunk and no plus node has grown yet.
 abbrev pub ParityWitness : Type 0
 ParityWitness = HaveOneParity corner_nodes × HaveParity (λ n. n == 0) corner_nodes 1

@@ -1,5 +1,5 @@
-//! That the premises of the laws of the method can be met: small graphs and their states, on which each law applies. Nothing
-//! that the program does rests on them.
+//! Small graphs and their states that meet the premises of the laws of the method, so that each law applies somewhere.
+//! Nothing that the program does rests on them.
 
 #![tactic(auto)]
 

@@ -1,4 +1,4 @@
-//! That the premises of further laws on nests, their names, steps and rows can be met, on small graphs.
+//! Small graphs that meet the premises of further laws on nests, their names, steps and rows.
 
 ghost use Rattle.fb_witnesses.specs.AgreedWitnesses.{AgreedWitness};
 ghost use Rattle.fb_witnesses.specs.BoundWitnesses.{BoundWitness};
@@ -9,41 +9,43 @@ ghost use Rattle.fb_witnesses.specs.RenamedWitnesses.{RenamedWitness};
 ghost use Rattle.fb_witnesses.specs.SeamWitnesses.{PlanWitness};
 ghost use Rattle.fb_witnesses.specs.SolvedWitnesses.{BestWitness, OddWitness};
 
-/// Of the laws on a leaf added beside a grown node, and on a nest of a problem with other defects, on a line.
+/// Meets the premises of the laws on a leaf added beside a grown node, and on a nest of a problem with other defects,
+/// on a line.
 pub fn leaf_witness()
     ensures added { LeafWitness }
     ensures exchanged { ExchangedWitness }
 {}
 
-/// Of the laws on other names: a blossom, a match and an unmatched node of a pentagon.
+/// Meets the premises of the laws on other names: a blossom, a match and an unmatched node of a pentagon.
 pub fn renamed_witness()
     ensures { RenamedWitness }
 {}
 
-/// Of the laws on the bounds of a step, on a line with plus nodes, a minus node and one that is neither, and on the rank
-/// of a search, in a pentagon with a minus blossom.
+/// Meets the premises of the laws on the bounds of a step, on a line with plus nodes, a minus node and one that is
+/// neither, and on the rank of a search, in a pentagon with a minus blossom.
 pub fn bound_witness()
     ensures steps { BoundWitness }
     ensures ranks { RankWitness }
 {}
 
-/// Of the laws on the defects that a node holds: a blossom that holds three of its four vertices.
+/// Meets the premises of the laws on the defects that a node holds: a blossom that holds three of its four vertices.
 pub fn held_witness()
     ensures { HeldWitness }
 {}
 
-/// Of the laws on the row of a solved part, on a triangle.
+/// Meets the premises of the laws on the row of a solved part, on a triangle.
 pub fn row_witness()
     ensures odd { OddWitness }
     ensures best { BestWitness }
 {}
 
-/// Of the laws on the seams of a plan: the two fusions of three units on a line.
+/// Meets the premises of the laws on the seams of a plan: the two fusions of three units on a line.
 pub fn seam_witness()
     ensures { PlanWitness }
 {}
 
-/// Of the laws on the nodes of a dual state and of a store of blossoms: three leaves and their blossom.
+/// Meets the premises of the laws on the nodes of a dual state and of a store of blossoms: three leaves and their
+/// blossom.
 pub fn agreed_witness()
     ensures { AgreedWitness }
 {}

@@ -25,7 +25,7 @@ use Rattle.fb_words.specs.Command.{decode_app, flag_rule, fusion_app, number_rul
 use Rattle.fb_words.specs.InternalOptions.{HasNumber, HasNumberIfGiven, HasOptions}
 use Rattle.fb_words.specs.Ranges.{Range}
 use Rattle.fb_words.specs.Ranges as ranges
-use Rattle.fb_words.specs.Seen.{IsFaultOf, usage_of}
+use Rattle.fb_words.specs.PlainRequests.{IsFaultOf, usage_of}
 use Rattle.fb_words.specs.Words.{command_request, request_of, request_unless, is_command, is_command_name}
 use Rattle.fb_words.specs.declared.usage.UsageKind.{UsageKind}
 use Rattle.fb_words.specs.declared.usage.UsageKind.TheVariants as usage

@@ -2,5 +2,5 @@ pub mod Ranges
 pub mod Command
 pub mod Words
 pub mod InternalOptions
-pub mod Seen
+pub mod PlainRequests
 pub mod Taken

@@ -64,7 +64,7 @@ is_standard_input name = bytes_eq name (codes "-")
 abbrev pub has_two_inputs : List Text → Bool
 has_two_inputs names = nat_lt 1 (count_by is_standard_input names)
 
--- the format, if it is one, where these inputs are read
+-- the format, if it is one and at most one of these inputs is standard input
 abbrev pub accepted_format : Option Format → List Text → Result Format UsageKind
 accepted_format None names = Err usage.Format
 accepted_format (Some format) names = if has_two_inputs names then Err usage.TwoInputs else Ok format
@@ -74,7 +74,7 @@ abbrev pub request_with : Result Format UsageKind → (Format → Request) → R
 request_with (Ok format) request = Ok (request format)
 request_with (Err kind) request = Err kind
 
--- the value of an option; empty where there is none, as may be of the plan alone
+-- the value of an option; empty if there is none, as may be of the plan alone
 abbrev pub option_of : Text → List Row → Text
 option_of name options = unwrap_or (first_of name options) []
 
@@ -96,7 +96,7 @@ workers_of options = unwrap_or (number_of (codes "workers") options) 1
 abbrev pub window_of : List Row → ℕ
 window_of options = unwrap_or (number_of (codes "window") options) 1
 
--- whether a trace is asked for; clap gives an option without a value the word `true` where it is given, and `false` else
+-- whether a trace is asked for; clap gives an option without a value the word `true` if it is given, and else `false`
 abbrev pub trace_of : List Row → Bool
 trace_of options = option_map_or (λ word. bytes_eq word (codes "true")) (one_of (codes "trace") options) false
 
@@ -156,7 +156,7 @@ command_request (Some command) =
     else (if bytes_eq command.0 (codes "check") then checking_of command.1
     else (if bytes_eq command.0 (codes "sample") then Ok (sample (sampling_of command.1)) else Err usage.Parse))
 
--- the request of a command, where clap finds no fault in the words
+-- the request of a command, if clap finds no fault in the words
 abbrev pub request_unless : Kinds → Option (Text × List Row) → Result Request UsageKind
 request_unless [] command = command_request command
 request_unless (fault ∷ faults) command = Err usage.Parse

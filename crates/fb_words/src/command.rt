@@ -13,14 +13,32 @@ use clap::{Arg, ArgAction, Command};
 use std::alloc::{AllocError, Global};
 use std::ops::RangeInclusive;
 
-/// The version that `--version` tells.
+/// The version that `--version` prints.
 const VERSION: &str = "0.1.0";
 
-/// How many workers there may be.
+/// The most workers that may solve parts side by side.
 const MOST_WORKERS: u64 = 64;
 
-/// How many shots may be solved at once.
+/// The most shots that may be solved at once.
 const MOST_AT_ONCE: u64 = 64;
+
+/// The least distance of a lattice.
+const LEAST_DISTANCE: u64 = 2;
+
+/// The greatest distance of a lattice.
+const MOST_DISTANCE: u64 = 255;
+
+/// The most rounds of a lattice.
+const MOST_ROUNDS: u64 = 1 << 20;
+
+/// The most units of a lattice's plan.
+const MOST_UNITS: u64 = fb_plan::plan::MOST_UNITS as u64;
+
+/// The rate at which an edge is hit by every draw.
+const MOST_RATE: u64 = 1 << 20;
+
+/// The most shots that may be drawn.
+const MOST_DRAWN: u64 = 1_000_000;
 
 /// The whole command line: one command and its options.
 pub fn fusion<'a>(alloc: Global) -> Result<Command<'a>, AllocError>
@@ -240,7 +258,7 @@ fn distance<'a>(alloc: Global) -> Arg<'a>
         alloc,
         "distance",
         "D",
-        2..=255,
+        LEAST_DISTANCE..=MOST_DISTANCE,
         "The distance of the lattice, 2 to 255",
     )
     .required(true)
@@ -255,7 +273,7 @@ fn rounds<'a>(alloc: Global) -> Arg<'a>
         alloc,
         "rounds",
         "T",
-        1..=1_048_576,
+        1..=MOST_ROUNDS,
         "How many rounds the lattice has, 1 to 1048576",
     )
     .required(true)
@@ -270,7 +288,7 @@ fn units<'a>(alloc: Global) -> Arg<'a>
         alloc,
         "units",
         "U",
-        1..=4096,
+        1..=MOST_UNITS,
         "Into how many units the plan splits the rounds, 1 to 4096",
     )
     .required(true)
@@ -285,7 +303,7 @@ fn rate<'a>(alloc: Global) -> Arg<'a>
         alloc,
         "rate",
         "R",
-        0..=1_048_576,
+        0..=MOST_RATE,
         "In how many of 1048576 draws an edge is hit, 0 to 1048576",
     )
     .required(true)
@@ -315,7 +333,7 @@ fn drawn_shots<'a>(alloc: Global) -> Arg<'a>
         alloc,
         "shots",
         "N",
-        1..=1_000_000,
+        1..=MOST_DRAWN,
         "How many shots are drawn, 1 to 1000000",
     )
     .required(true)

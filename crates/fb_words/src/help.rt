@@ -1,4 +1,4 @@
-//! What help tells after the options: what a command reads and writes, an example, and its exit statuses.
+//! What help says after the options: what a command reads and writes, an example, and its exit statuses.
 
 /// Of `fusion` itself.
 pub(crate) const FUSION: &str = "\

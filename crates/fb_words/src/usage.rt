@@ -1,7 +1,7 @@
-/// What is wrong with the words.
+/// What is wrong with a command line.
 #[derive(Clone, Copy, Debug, PartialEq, Eq)]
 pub enum UsageKind {
-    /// They have no reading.
+    /// It is no command with its options, or it asks for help or the version.
     Parse,
     /// The word after `--format` names no format.
     Format,

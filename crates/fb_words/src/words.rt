@@ -6,7 +6,7 @@ ghost use Rattle.fb_words.specs.Command.{fusion_app};
 ghost use Rattle.fb_words.specs.declared.usage.UsageKind.{UsageKind};
 ghost use Rattle.fb_words.specs.InternalOptions.{HasDecodeOptions, HasNumberIfGiven, HasOptions, HasSampleOptions, WritesBelow};
 ghost use Rattle.fb_words.specs.Ranges as ranges;
-ghost use Rattle.fb_words.specs.Seen.{IsFaultOf, seen_request, seen_sampling, usage_of};
+ghost use Rattle.fb_words.specs.PlainRequests.{IsFaultOf, plain_request, plain_sampling, usage_of};
 ghost use Rattle.fb_words.specs.Words.{IsInRanges, accepted_format, checking_of, command_request, decoding_of, request_of, format_of, has_two_inputs, is_command, number_of, option_of, sampling_of, trace_of, window_of, workers_of};
 
 use crate::command::fusion;
@@ -66,7 +66,7 @@ pub struct Sampling {
     pub window: u32,
 }
 
-/// Why the words give no request.
+/// Why a command line is refused.
 #[derive(Debug, Drop)]
 pub enum WordsFault {
     /// They are no command with its options, or they ask for help or the version. The text is for the user, of whole lines.
@@ -81,8 +81,8 @@ pub enum WordsFault {
 
 /// Reads the words of a command line, the program's name first.
 pub fn read_words<'a>(alloc: Global, words: &'a [String]) -> Result<Request<'a>, WordsFault>
-    ensures request { IfOk result (λ e. request_of (map string_bytes words.entry.now) ≡ Ok (seen_request e)) }
-    ensures ranges { IfOk result (λ e. IsInRanges (seen_request e)) }
+    ensures request { IfOk result (λ e. request_of (map string_bytes words.entry.now) ≡ Ok (plain_request e)) }
+    ensures ranges { IfOk result (λ e. IsInRanges (plain_request e)) }
     ensures fault { IfErr result (IsFaultOf (request_of (map string_bytes words.entry.now))) }
 
     // Words that `clap` takes aren't refused as a whole.
@@ -118,7 +118,7 @@ fn parse<'a>(alloc: Global, words: &'a [String]) -> Result<ArgMatches<'a>, Words
 fn read_request<'a>(matches: &ArgMatches<'a>) -> Result<Request<'a>, WordsFault>
     requires command { is_command (subcommand_rows_of matches.now) ≡ true }
     requires options { HasOptions (subcommand_rows_of matches.now) }
-    ensures request { IfOk result (λ e. command_request (subcommand_rows_of matches.now) ≡ Ok (seen_request e)) }
+    ensures request { IfOk result (λ e. command_request (subcommand_rows_of matches.now) ≡ Ok (plain_request e)) }
     ensures fault { IfErr result (IsFaultOf (command_request (subcommand_rows_of matches.now))) }
     ensures parsed { IfErr result (λ f. usage_of f ≢ Some UsageKind.Parse) }
 {
@@ -134,7 +134,7 @@ fn read_request<'a>(matches: &ArgMatches<'a>) -> Result<Request<'a>, WordsFault>
 #[tactic(auto, using(crate::proofs::Commands::rows))]
 fn read_decoding<'a>(options: &ArgMatches<'a>) -> Result<Request<'a>, WordsFault>
     requires { HasDecodeOptions (rows_of (found_of options.now)) }
-    ensures request { IfOk result (λ e. decoding_of (rows_of (found_of options.now)) ≡ Ok (seen_request e)) }
+    ensures request { IfOk result (λ e. decoding_of (rows_of (found_of options.now)) ≡ Ok (plain_request e)) }
     ensures fault { IfErr result (IsFaultOf (decoding_of (rows_of (found_of options.now)))) }
     ensures parsed { IfErr result (λ f. usage_of f ≢ Some UsageKind.Parse) }
 {
@@ -158,7 +158,7 @@ fn read_decoding<'a>(options: &ArgMatches<'a>) -> Result<Request<'a>, WordsFault
 
 /// The request of the command `check` with these options.
 fn read_checking<'a>(options: &ArgMatches<'a>) -> Result<Request<'a>, WordsFault>
-    ensures request { IfOk result (λ e. checking_of (rows_of (found_of options.now)) ≡ Ok (seen_request e)) }
+    ensures request { IfOk result (λ e. checking_of (rows_of (found_of options.now)) ≡ Ok (plain_request e)) }
     ensures fault { IfErr result (IsFaultOf (checking_of (rows_of (found_of options.now)))) }
     ensures parsed { IfErr result (λ f. usage_of f ≢ Some UsageKind.Parse) }
 {
@@ -179,7 +179,7 @@ fn read_checking<'a>(options: &ArgMatches<'a>) -> Result<Request<'a>, WordsFault
 /// What the command `sample` asks for with these options.
 fn read_sampling(options: &ArgMatches<'_>) -> Sampling
     requires { HasSampleOptions (rows_of (found_of options.now)) }
-    ensures { seen_sampling result ≡ sampling_of (rows_of (found_of options.now)) }
+    ensures { plain_sampling result ≡ sampling_of (rows_of (found_of options.now)) }
 {
     Sampling {
         distance: number(options, "distance").unwrap_or(0),
@@ -193,7 +193,7 @@ fn read_sampling(options: &ArgMatches<'_>) -> Sampling
     }
 }
 
-/// The format that a word names, where the inputs of these names are read.
+/// The format that a word names, or why a command that reads inputs of these names is refused.
 fn accepted_format(word: &str, names: &[&str]) -> Result<Format, WordsFault>
     ensures format { IfOk result (λ f. accepted_format (format_of word.now) (map (λ name. name.now) names.now) ≡ Ok f) }
     ensures fault { IfErr result (IsFaultOf (accepted_format (format_of word.now) (map (λ name. name.now) names.now))) }

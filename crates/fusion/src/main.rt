@@ -3,14 +3,10 @@
 #![tactic(auto)]
 
 use fb_ports::{OsFiles, OsSink, put_all};
-use fb_run::{OpenGate, run};
+use fb_run::{Cause, OpenGate, UsageKind, run, say};
 use std::env;
 use std::io::ErrorKind;
 use std::process::ExitCode;
-
-const NO_MEMORY: u8 = 5;
-
-const USAGE: u8 = 6;
 
 /// Why there are no words to run.
 #[derive(Clone, Copy)]
@@ -41,11 +37,11 @@ fn main(rt: HostRuntime) -> ExitCode {
         Ok(words) => words,
         Err(NoWords::NotText) => {
             let _ = put_all(&mut err, b"fusion: usage\n");
-            return ExitCode::from(USAGE);
+            return ExitCode::from(Cause::Usage(UsageKind::Parse).status());
         }
         Err(NoWords::NoMemory) => {
-            let _ = put_all(&mut err, b"fusion: out of memory\n");
-            return ExitCode::from(NO_MEMORY);
+            say(Cause::NoMemory, &mut err);
+            return ExitCode::from(Cause::NoMemory.status());
         }
     };
     let mut files = OsFiles::new(&rt);

@@ -1,5 +1,5 @@
-use Rattle.fb_inputs.specs.Judging.{FirstFrom}
-use Rattle.fb_inputs.specs.Judging.{GathersFrom}
+use Rattle.fb_inputs.specs.InternalGathers.{FirstFrom}
+use Rattle.fb_inputs.specs.InternalGathers.{GathersFrom}
 use Rattle.fb_inputs.proofs.Gathered.{gathered_first}
 use Rattle.fb_check.proofs.Checked.{first_flushed}
 use Rattle.fb_check.proofs.checking.judge.Goals as goal

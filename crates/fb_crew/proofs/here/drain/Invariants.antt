@@ -1,7 +1,7 @@
 use Rattle.std.proofs.Common.{◌-◌, ◌*◌, length}
 use Rattle.fb_book.specs.Board.{item_count}
 use Rattle.fb_book.specs.Books.{course_of}
-use Rattle.fb_crew.specs.Crews.{IsQuiet}
+use Rattle.fb_crew.specs.InternalQuiet.{IsQuiet}
 use Rattle.fb_crew.proofs.here.drain.Given as goal
 
 -- a quiet run stays quiet

@@ -1,5 +1,5 @@
 use Rattle.std.proofs.Common.{◌∙◌, arith}
-use Rattle.fb_gen.specs.TimePlan.{IsShared}
+use Rattle.fb_gen.specs.InternalSharing.{IsShared}
 use Rattle.fb_gen.proofs.Rulings.{seams_below, plan_is_made}
 use Rattle.fb_gen.proofs.plans.time_plan.Goals as goal
 

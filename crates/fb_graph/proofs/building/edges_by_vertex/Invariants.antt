@@ -1,5 +1,5 @@
 use Rattle.std.proofs.Common.{◌≡◌, ℕ, ◌<◌, length, get_or, []}
-use Rattle.fb_graph.specs.Layout.{edges_at}
+use Rattle.fb_graph.specs.Adjacency.{edges_at}
 use Rattle.fb_graph.proofs.building.edges_by_vertex.Given as goal
 
 abbrev pub invariant-loop-k : goal.invariant-loop-k

@@ -1,5 +1,5 @@
 use Rattle.std.proofs.Common.{drop}
-use Rattle.fb_graph.specs.Labelling.{AreOf}
+use Rattle.fb_graph.specs.InternalLabelling.{AreOf}
 use Rattle.fb_graph.proofs.connected.clear_counts.Given as goal
 
 abbrev pub invariant-loop-defect : goal.invariant-loop-defect

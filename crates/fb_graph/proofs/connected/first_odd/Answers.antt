@@ -1,6 +1,6 @@
 use Rattle.std.proofs.Common.{length, ap, arith}
 use Rattle.fb_graph.specs.Limits.{IsShotIn}
-use Rattle.fb_graph.specs.Labelling.{AreOdd}
+use Rattle.fb_graph.specs.InternalLabelling.{AreOdd}
 use Rattle.fb_graph.proofs.LabelSteps.{least_from_reduce, of_odd}
 use Rattle.fb_graph.proofs.OddLabels.{closed_from_first, first_from_least}
 use Rattle.fb_graph.proofs.connected.first_odd.Goals as goal

@@ -1,5 +1,5 @@
 use Rattle.std.proofs.Common.{◌-◌, ◌≤◌, length}
-use Rattle.fb_graph.specs.Flooding.{Grows, IsFlooding}
+use Rattle.fb_graph.specs.InternalFlooding.{Grows, IsFlooding}
 use Rattle.fb_graph.proofs.connecting.flood_component.Given as goal
 
 abbrev pub invariant-loop-place : goal.invariant-loop-place

@@ -1,5 +1,5 @@
 use Rattle.std.proofs.Common.{◌∙◌, length, ap}
-use Rattle.fb_graph.specs.Layout.{edges_at}
+use Rattle.fb_graph.specs.Adjacency.{edges_at}
 use Rattle.fb_graph.proofs.Floods.{neighbours_all, neighbours_more}
 use Rattle.fb_graph.proofs.Ranges.{filter-range_below}
 use Rattle.fb_graph.proofs.connecting.flood_neighbours.Goals as goal

@@ -1,5 +1,5 @@
 use Rattle.std.proofs.Common.{ℕ, ◌≡◌, true, take}
-use Rattle.fb_graph.specs.Flooding.{Grows, IsFlooding, IsSettled}
+use Rattle.fb_graph.specs.InternalFlooding.{Grows, IsFlooding, IsSettled}
 use Rattle.fb_graph.specs.Parity.{is_in}
 use Rattle.fb_graph.specs.Problem.{edge_at}
 use Rattle.fb_graph.proofs.connecting.flood_neighbours.Given as goal

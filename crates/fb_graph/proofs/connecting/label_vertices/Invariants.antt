@@ -1,5 +1,5 @@
 use Rattle.std.proofs.Common.{length}
-use Rattle.fb_graph.specs.Flooding.{IsFlooding}
+use Rattle.fb_graph.specs.InternalFlooding.{IsFlooding}
 use Rattle.fb_graph.proofs.connecting.label_vertices.Given as goal
 
 abbrev pub invariant-loop-v : goal.invariant-loop-v

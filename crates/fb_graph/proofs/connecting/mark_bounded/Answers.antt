@@ -1,5 +1,5 @@
 use Rattle.std.proofs.Common.{◌<◌, ◌≤◌, length, ◌∙◌, not, ap, sym, arith, length-set}
-use Rattle.fb_graph.specs.Labelling.{label_of}
+use Rattle.fb_graph.specs.InternalLabelling.{label_of}
 use Rattle.fb_graph.proofs.Boundaries.{bounded_kept, bounded_set}
 use Rattle.fb_graph.proofs.connecting.mark_bounded.Goals as goal
 use Rattle.fb_graph.proofs.connecting.mark_bounded.Goals.{then-not-is_real, else-not-is_real}

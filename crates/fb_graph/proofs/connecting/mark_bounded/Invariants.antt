@@ -1,5 +1,5 @@
 use Rattle.std.proofs.Common.{ℕ, ◌≡◌, ◌<◌, false, length, get_or}
-use Rattle.fb_graph.specs.Labelling.{has_boundary}
+use Rattle.fb_graph.specs.InternalLabelling.{has_boundary}
 use Rattle.fb_graph.proofs.connecting.mark_bounded.Given as goal
 
 abbrev pub invariant-loop-v : goal.invariant-loop-v

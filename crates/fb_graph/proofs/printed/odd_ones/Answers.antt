@@ -1,7 +1,7 @@
 use Rattle.std.proofs.Common.{◌≡◌, take, arith}
 use Rattle.std.proofs.lemmas.Grind.{common_steps}
 use Rattle.std.proofs.lemmas.List.Sorted.{IsNonDecreasingBy-from_sort}
-use Rattle.fb_graph.specs.Printed.{CancelsTo}
+use Rattle.fb_graph.specs.InternalCancelledPairs.{CancelsTo}
 use Rattle.fb_graph.proofs.CancelledPairs.{cancels-IsPermutation, cancelled-inside}
 use Rattle.fb_graph.proofs.printed.odd_ones.Goals as goal
 

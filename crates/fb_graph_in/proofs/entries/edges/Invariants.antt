@@ -1,7 +1,7 @@
 use Rattle.std.proofs.Common.{◌≡◌, drop}
 use Rattle.serde_json.specs.View.{items_view}
 use Rattle.fb_graph_in.specs.GraphText.{edge_of, entries_of}
-use Rattle.fb_graph_in.specs.JsonText.{onto}
+use Rattle.fb_json.specs.JsonText.{onto}
 use Rattle.fb_graph_in.specs.declared.faults.Place.TheVariants as place
 use Rattle.fb_graph_in.proofs.entries.edges.Given as goal
 

@@ -1,7 +1,7 @@
 use Rattle.std.proofs.Common.{◌≡◌, drop}
 use Rattle.serde_json.specs.View.{items_view}
 use Rattle.fb_graph_in.specs.GraphText.{entries_of}
-use Rattle.fb_graph_in.specs.JsonText.{natural_of, onto}
+use Rattle.fb_json.specs.JsonText.{natural_of, onto}
 use Rattle.fb_graph_in.specs.declared.faults.Place.TheVariants as place
 use Rattle.fb_graph_in.proofs.entries.virtuals.Given as goal
 

@@ -1,6 +1,6 @@
 use Rattle.std.proofs.Common.{◌≡◌, ◌++◌, false, map, take, All}
 use Rattle.std.specs.List.{list_any}
-use Rattle.fb_plan.specs.Loads.{IsClaim}
+use Rattle.fb_plan.specs.InternalLoads.{IsClaim}
 use Rattle.fb_plan.specs.Rules.{claim_of, is_bad_range}
 use Rattle.fb_plan.proofs.claims.add_ranges.Given as goal
 

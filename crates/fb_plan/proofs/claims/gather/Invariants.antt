@@ -1,5 +1,5 @@
 use Rattle.std.proofs.Common.{ℕ, ◌≡◌, ◌<◌, false, map, take, All}
-use Rattle.fb_plan.specs.Loads.{IsClaim}
+use Rattle.fb_plan.specs.InternalLoads.{IsClaim}
 use Rattle.fb_plan.specs.Rules.{claims_from, is_bad_node, ranges_of}
 use Rattle.fb_plan.proofs.claims.gather.Given as goal
 

@@ -1,5 +1,5 @@
 use Rattle.std.proofs.Common.{◌≡◌, ◌+◌, ◌-◌, ◌<◌, ◌^◌, ◌∙◌, [], ◌∷◌, ap, get_or, length, sym, arith, length-append, rules}
-use Rattle.fb_plan.specs.Loads.{bounded_at, load_at}
+use Rattle.fb_plan.specs.InternalLoads.{bounded_at, load_at}
 use Rattle.fb_plan.specs.declared.loads.Bound.TheVariants.{Start, End}
 use Rattle.fb_plan.proofs.Tallies.{closed_less, is_open_at, loads_more, open_first, open_next, opened_more, weigh_fits}
 use Rattle.fb_plan.proofs.loads.loads.Goals as goal

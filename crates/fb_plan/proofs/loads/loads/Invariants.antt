@@ -1,5 +1,5 @@
 use Rattle.std.proofs.Common.{ℕ, ◌≡◌, ◌<◌, length, get_or}
-use Rattle.fb_plan.specs.Loads.{load_at, weigh}
+use Rattle.fb_plan.specs.InternalLoads.{load_at, weigh}
 use Rattle.fb_plan.proofs.Tallies.{is_open_before}
 use Rattle.fb_plan.proofs.loads.loads.Given as goal
 

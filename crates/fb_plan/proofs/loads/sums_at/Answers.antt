@@ -1,6 +1,6 @@
 use Rattle.std.proofs.Common.{◌≡◌, ◌+◌, ◌<◌, ◌≤◌, ◌^◌, ◌∙◌, sym, ap, length, get_or, take, eqb, arith, length-set}
 use Rattle.std.proofs.lemmas.List.{get_or_read_under}
-use Rattle.fb_plan.specs.Loads.{bounded_at, place_of}
+use Rattle.fb_plan.specs.InternalLoads.{bounded_at, place_of}
 use Rattle.fb_plan.specs.declared.parts.Claim.{Claim}
 use Rattle.fb_plan.proofs.Tallies.{place-le, sum_fits, sums_more}
 use Rattle.fb_plan.proofs.loads.sums_at.Goals as goal

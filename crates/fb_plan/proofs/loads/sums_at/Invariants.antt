@@ -1,5 +1,5 @@
 use Rattle.std.proofs.Common.{ℕ, ◌≡◌, ◌+◌, ◌≤◌, length, take, get_or}
-use Rattle.fb_plan.specs.Loads.{bounded_at}
+use Rattle.fb_plan.specs.InternalLoads.{bounded_at}
 use Rattle.fb_plan.proofs.loads.sums_at.Given as goal
 
 abbrev pub invariant-loop-claim : goal.invariant-loop-claim

@@ -1,6 +1,6 @@
 use Rattle.std.proofs.Common.{◌∙◌, ◌++◌, ◌∷◌, [], ap, map, sym}
 use Rattle.std.specs.List.{range_with_len}
-use Rattle.fb_plan.specs.Layout.{given_owner}
+use Rattle.fb_plan.specs.InternalLayout.{given_owner}
 use Rattle.fb_plan.proofs.Ownership.{given_more}
 use Rattle.fb_plan.proofs.owners.owned_by.Goals as goal
 

@@ -1,6 +1,6 @@
 use Rattle.std.proofs.Common.{◌≡◌, map}
 use Rattle.std.specs.List.{range_with_len}
-use Rattle.fb_plan.specs.Layout.{given_owner}
+use Rattle.fb_plan.specs.InternalLayout.{given_owner}
 use Rattle.fb_plan.proofs.owners.owned_by.Given as goal
 
 abbrev pub invariant-loop-v : goal.invariant-loop-v

@@ -1,5 +1,5 @@
 use Rattle.std.proofs.Common.{◌∙◌, length-set, arith}
-use Rattle.fb_plan.specs.Layout.{tree_of}
+use Rattle.fb_plan.specs.InternalLayout.{tree_of}
 use Rattle.fb_plan.proofs.Tables.{parents_more}
 use Rattle.fb_plan.proofs.tree.parents_of.Goals as goal
 

@@ -1,7 +1,7 @@
 use Rattle.std.proofs.Common.{◌+◌, ◌<◌, sym, ap, get_or, arith}
 use Rattle.std.proofs.lemmas.List.{get_or_read_under}
 use Rattle.fb_plan.specs.Plans.{join_at}
-use Rattle.fb_plan.specs.Layout.{tree_of}
+use Rattle.fb_plan.specs.InternalLayout.{tree_of}
 use Rattle.fb_plan.proofs.Tables.{place_more}
 use Rattle.fb_plan.proofs.tree.place_children.Goals as goal
 

@@ -1,7 +1,7 @@
 use Rattle.std.proofs.Common.{◌≡◌, ◌+◌, ◌<◌, ◌∙◌, sym, ap, length, get_or, arith, length-append, [], ◌∷◌}
 use Rattle.std.proofs.lemmas.List.{get_or_read_under}
 use Rattle.fb_plan.specs.Plans.{join_at}
-use Rattle.fb_plan.specs.Layout.{size_of, tree_of}
+use Rattle.fb_plan.specs.InternalLayout.{size_of, tree_of}
 use Rattle.fb_plan.proofs.Tables.{size_fits, sizes_more}
 use Rattle.fb_plan.proofs.tree.sizes_of.Goals as goal
 

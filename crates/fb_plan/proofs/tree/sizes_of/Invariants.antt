@@ -1,5 +1,5 @@
 use Rattle.std.proofs.Common.{ℕ, ◌≡◌, ◌+◌, ◌<◌, length, get_or}
-use Rattle.fb_plan.specs.Layout.{size_of, tree_of}
+use Rattle.fb_plan.specs.InternalLayout.{size_of, tree_of}
 use Rattle.fb_plan.proofs.tree.sizes_of.Given as goal
 
 abbrev pub invariant-loop-join : goal.invariant-loop-join

@@ -1,5 +1,5 @@
 use Rattle.std.proofs.Common.{◌∙◌, arith}
-use Rattle.fb_plan.specs.Layout.{tree_of}
+use Rattle.fb_plan.specs.InternalLayout.{tree_of}
 use Rattle.fb_plan.proofs.Tables.{first_placed}
 use Rattle.fb_plan.proofs.tree.spans_by.Goals as goal
 

@@ -1,5 +1,5 @@
 use Rattle.std.proofs.Common.{◌≤◌, length}
-use Rattle.fb_plan.specs.Layout.{IsPlacedFrom, tree_of}
+use Rattle.fb_plan.specs.InternalLayout.{IsPlacedFrom, tree_of}
 use Rattle.fb_plan.proofs.tree.spans_by.Given as goal
 
 abbrev pub invariant-loop-i : goal.invariant-loop-i

@@ -1,5 +1,5 @@
 use Rattle.std.proofs.Common.{ℕ, ◌≡◌, ◌<◌, length, get_or}
-use Rattle.fb_plan.specs.Layout.{span_at}
+use Rattle.fb_plan.specs.InternalLayout.{span_at}
 use Rattle.fb_plan.proofs.tree.unplaced.Given as goal
 
 abbrev pub invariant-loop-size : goal.invariant-loop-size

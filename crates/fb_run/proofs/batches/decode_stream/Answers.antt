@@ -1,15 +1,15 @@
 use Rattle.std.proofs.Common.{◌∙◌, Result, Ok, Err, OnErr, refl, subst}
-use Rattle.fb_crew.specs.Windows.{CrewValue}
+use Rattle.fb_crew.specs.Crews.{CrewValue}
 use Rattle.fb_run.proofs.Decoded.{all_decoded, all_read_out, decoding_begins, decoding_more, few_decoded, fits_more, more_first, slots_more, so_far_first}
 use Rattle.fb_run.specs.InternalBatches.{TakesBatch, batch_in}
-use Rattle.fb_words.specs.Seen.{seen_decoding}
+use Rattle.fb_words.specs.PlainRequests.{plain_decoding}
 use Rattle.fb_run.proofs.batches.decode_stream.Goals as goal
 use Rattle.fb_run.proofs.batches.decode_stream.Goals.{In-Ok}
 
-taken_at : (g : _) (c : In-Ok g) → TakesBatch (seen_decoding c.args.request.now) c.args.crew.now.plan c.loop-next.stream c.next_batch.new.stream
+taken_at : (g : _) (c : In-Ok g) → TakesBatch (plain_decoding c.args.request.now) c.args.crew.now.plan c.loop-next.stream c.next_batch.new.stream
     (g.F.Files.left c.loop-next.files) (g.F.Files.left c.next_batch.new.files) (batch_in c.in-Ok.next.batch) c.in-Ok.next.end
 taken_at g c =
-    subst (λ (crew : CrewValue). TakesBatch (seen_decoding c.args.request.now) crew.plan c.loop-next.stream c.next_batch.new.stream
+    subst (λ (crew : CrewValue). TakesBatch (plain_decoding c.args.request.now) crew.plan c.loop-next.stream c.next_batch.new.stream
     (g.F.Files.left c.loop-next.files) (g.F.Files.left c.next_batch.new.files) (batch_in c.in-Ok.next.batch) c.in-Ok.next.end)
     c.loop-next.invariant.crew c.in-Ok.ensures.batch
 
@@ -19,7 +19,7 @@ on_err (Err fault) P p = p
 
 pub loop-next-init : goal.loop-next-init
 loop-next-init g c = record {
-  decoding = decoding_begins (seen_decoding c.args.request.now) c.args.crew.now.plan c.args.stream.now (g.F.Files.left c.args.files.now)
+  decoding = decoding_begins (plain_decoding c.args.request.now) c.args.crew.now.plan c.args.stream.now (g.F.Files.left c.args.files.now)
       (g.O.Sink.taken c.args.out.now) _ refl refl;
   crew = refl;
   empty = c.requires.empty;
@@ -30,26 +30,26 @@ loop-next-init g c = record {
 
 pub returns-in_default-clause-first : goal.returns-in_default-clause-first
 returns-in_default-clause-first g c =
-    so_far_first (seen_decoding c.args.request.now) c.args.crew.now.plan c.args.stream.now (g.F.Files.left c.args.files.now) (g.O.Sink.taken c.args.out.now)
+    so_far_first (plain_decoding c.args.request.now) c.args.crew.now.plan c.args.stream.now (g.F.Files.left c.args.files.now) (g.O.Sink.taken c.args.out.now)
     c.requires.fresh c.loop-next.stream (g.F.Files.left c.loop-next.files) (g.O.Sink.taken c.loop-next.out) c.loop-next.tally c.loop-next.invariant.decoding
 
 pub write_batch-requires-clause-few : goal.write_batch-requires-clause-few
 write_batch-requires-clause-few g c =
-    fits_more (seen_decoding c.args.request.now) c.args.crew.now.plan c.args.stream.now (g.F.Files.left c.args.files.now) (g.O.Sink.taken c.args.out.now)
+    fits_more (plain_decoding c.args.request.now) c.args.crew.now.plan c.args.stream.now (g.F.Files.left c.args.files.now) (g.O.Sink.taken c.args.out.now)
     c.requires.fresh c.loop-next.stream (g.F.Files.left c.loop-next.files) (g.O.Sink.taken c.loop-next.out) c.loop-next.tally c.loop-next.invariant.decoding
     c.next_batch.new.stream (g.F.Files.left c.next_batch.new.files) (batch_in c.in-Ok.next.batch) c.in-Ok.next.end
     (taken_at g (goal.at.write_batch-requires-clause-few g c).In-Ok)
 
 pub write_batch-requires-clause-slots : goal.write_batch-requires-clause-slots
 write_batch-requires-clause-slots g c =
-    slots_more (seen_decoding c.args.request.now) c.args.crew.now.plan c.args.stream.now (g.F.Files.left c.args.files.now) (g.O.Sink.taken c.args.out.now)
+    slots_more (plain_decoding c.args.request.now) c.args.crew.now.plan c.args.stream.now (g.F.Files.left c.args.files.now) (g.O.Sink.taken c.args.out.now)
     c.requires.fresh c.loop-next.stream (g.F.Files.left c.loop-next.files) (g.O.Sink.taken c.loop-next.out) c.loop-next.tally c.loop-next.invariant.decoding
     c.next_batch.new.stream (g.F.Files.left c.next_batch.new.files) (batch_in c.in-Ok.next.batch) c.in-Ok.next.end
     (taken_at g (goal.at.write_batch-requires-clause-slots g c).In-Ok)
 
 pub returns-in_err-tally-clause-first : goal.returns-in_err-tally-clause-first
 returns-in_err-tally-clause-first g c = on_err c.from_residual.result _
-    (more_first (seen_decoding c.args.request.now) c.args.crew.now.plan c.args.stream.now (g.F.Files.left c.args.files.now) (g.O.Sink.taken c.args.out.now)
+    (more_first (plain_decoding c.args.request.now) c.args.crew.now.plan c.args.stream.now (g.F.Files.left c.args.files.now) (g.O.Sink.taken c.args.out.now)
     c.requires.fresh c.loop-next.stream (g.F.Files.left c.loop-next.files) (g.O.Sink.taken c.loop-next.out) c.loop-next.tally c.loop-next.invariant.decoding
     c.next_batch.new.stream (g.F.Files.left c.next_batch.new.files) (batch_in c.in-Ok.next.batch) c.in-Ok.next.end
     (taken_at g (goal.at.returns-in_err-tally-clause-first g c).In-Ok)
@@ -57,7 +57,7 @@ returns-in_err-tally-clause-first g c = on_err c.from_residual.result _
 
 pub returns-in-Some-clause-all : goal.returns-in-Some-clause-all
 returns-in-Some-clause-all g c =
-    all_decoded (seen_decoding c.args.request.now) c.args.crew.now.plan c.args.stream.now (g.F.Files.left c.args.files.now) (g.O.Sink.taken c.args.out.now)
+    all_decoded (plain_decoding c.args.request.now) c.args.crew.now.plan c.args.stream.now (g.F.Files.left c.args.files.now) (g.O.Sink.taken c.args.out.now)
     c.requires.fresh c.loop-next.stream (g.F.Files.left c.loop-next.files) (g.O.Sink.taken c.loop-next.out) c.loop-next.tally c.loop-next.invariant.decoding
     c.next_batch.new.stream (g.F.Files.left c.next_batch.new.files) (batch_in c.in-Ok.next.batch) c.in-Ok.next.end
     (taken_at g (goal.at.returns-in-Some-clause-all g c).In-Ok)
@@ -65,7 +65,7 @@ returns-in-Some-clause-all g c =
 
 pub returns-in-Some-clause-few : goal.returns-in-Some-clause-few
 returns-in-Some-clause-few g c =
-    few_decoded (seen_decoding c.args.request.now) c.args.crew.now.plan c.args.stream.now (g.F.Files.left c.args.files.now) (g.O.Sink.taken c.args.out.now)
+    few_decoded (plain_decoding c.args.request.now) c.args.crew.now.plan c.args.stream.now (g.F.Files.left c.args.files.now) (g.O.Sink.taken c.args.out.now)
     c.requires.fresh c.loop-next.stream (g.F.Files.left c.loop-next.files) (g.O.Sink.taken c.loop-next.out) c.loop-next.tally c.loop-next.invariant.decoding
     c.next_batch.new.stream (g.F.Files.left c.next_batch.new.files) (batch_in c.in-Ok.next.batch) c.in-Ok.next.end
     (taken_at g (goal.at.returns-in-Some-clause-few g c).In-Ok)
@@ -73,7 +73,7 @@ returns-in-Some-clause-few g c =
 
 pub loop-next-preserved : goal.loop-next-preserved
 loop-next-preserved g c = record {
-  decoding = decoding_more (seen_decoding c.args.request.now) c.args.crew.now.plan c.args.stream.now (g.F.Files.left c.args.files.now)
+  decoding = decoding_more (plain_decoding c.args.request.now) c.args.crew.now.plan c.args.stream.now (g.F.Files.left c.args.files.now)
       (g.O.Sink.taken c.args.out.now) c.requires.fresh c.loop-next.stream (g.F.Files.left c.loop-next.files) (g.O.Sink.taken c.loop-next.out)
       c.loop-next.tally c.loop-next.invariant.decoding c.next_batch.new.stream (g.F.Files.left c.next_batch.new.files)
       (batch_in c.in-Ok.next.batch) c.in-Ok.next.end (taken_at g (goal.at.loop-next-preserved g c).In-Ok)
@@ -88,7 +88,7 @@ loop-next-preserved g c = record {
 
 pub returns-in-Some-clause-at_end : goal.returns-in-Some-clause-at_end
 returns-in-Some-clause-at_end g c =
-    all_read_out (seen_decoding c.args.request.now) c.args.crew.now.plan c.args.stream.now (g.F.Files.left c.args.files.now) (g.O.Sink.taken c.args.out.now)
+    all_read_out (plain_decoding c.args.request.now) c.args.crew.now.plan c.args.stream.now (g.F.Files.left c.args.files.now) (g.O.Sink.taken c.args.out.now)
     c.requires.fresh c.loop-next.stream (g.F.Files.left c.loop-next.files) (g.O.Sink.taken c.loop-next.out) c.loop-next.tally c.loop-next.invariant.decoding
     c.next_batch.new.stream (g.F.Files.left c.next_batch.new.files) (batch_in c.in-Ok.next.batch) c.in-Ok.next.end
     (taken_at g (goal.at.returns-in-Some-clause-at_end g c).In-Ok)

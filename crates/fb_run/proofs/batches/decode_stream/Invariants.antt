@@ -1,11 +1,11 @@
 use Rattle.std.proofs.Common.{◌≡◌, ◌-◌, []}
 use Rattle.fb_run.proofs.Decoded.{IsDecoding}
-use Rattle.fb_words.specs.Seen.{seen_decoding}
+use Rattle.fb_words.specs.PlainRequests.{plain_decoding}
 use Rattle.fb_run.proofs.batches.decode_stream.Given as goal
 
 abbrev pub invariant-loop-next : goal.invariant-loop-next
 invariant-loop-next g l = record {
-  decoding : IsDecoding (seen_decoding l.request) l.initial.crew.plan l.initial.stream (g.F.Files.left l.initial.files)
+  decoding : IsDecoding (plain_decoding l.request) l.initial.crew.plan l.initial.stream (g.F.Files.left l.initial.files)
       (g.O.Sink.taken l.initial.out) l.stream (g.F.Files.left l.files) (g.O.Sink.taken l.out) l.tally;
   crew : l.crew ≡ l.initial.crew;
   empty : l.outbox.text ≡ [];

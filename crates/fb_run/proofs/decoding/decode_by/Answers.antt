@@ -1,11 +1,11 @@
 use Rattle.std.proofs.Common.{[], inl, inr, refl, sym, append-nil}
 use Rattle.std.proofs.KnownBytes.{Appends-nil}
 use Rattle.fb_report.specs.Texts.{head_text}
-use Rattle.fb_words.specs.Seen.{seen_decoding}
+use Rattle.fb_words.specs.PlainRequests.{plain_decoding}
 use Rattle.fb_inputs.proofs.Inputs.{asks_kept, asks_one, asks_same}
 use Rattle.fb_inputs.proofs.Gathered.{is_opened, is_unopened, read_out_opened}
 use Rattle.fb_run.proofs.Finishing.{ends_on, prefix_of_batches, report_to_end}
-use Rattle.fb_inputs.specs.Judging.{IsOpened}
+use Rattle.fb_inputs.specs.InternalGathers.{IsOpened}
 use Rattle.fb_run.proofs.decoding.decode_by.Goals as goal
 use Rattle.fb_run.proofs.decoding.decode_by.Goals.{In-Ok-open_file}
 
@@ -47,7 +47,7 @@ returns-in-Ok-decode_file-clause-ends g c =
     inr (
       asks_kept (g.F.Files.asked c.args.files.now) (g.F.Files.asked c.open_file.new.self) (g.F.Files.asked c.decode_file.new.files) c.args.request.now.shots.now
           (rw c.in-Ok-from_str.ensures.ok at c.open_file.ensures.asks) c.decode_file.ensures.asks,
-      ends_on (g.F.Files.named c.args.files.now) (seen_decoding c.args.request.now) c.args.graph.now c.args.plan.now (g.F.Files.left c.open_file.new.self)
+      ends_on (g.F.Files.named c.args.files.now) (plain_decoding c.args.request.now) c.args.graph.now c.args.plan.now (g.F.Files.left c.open_file.new.self)
           (g.F.Files.left c.decode_file.new.files) (g.O.Sink.taken c.args.out.now) (g.O.Sink.taken c.write_head.new.sink)
           (g.O.Sink.taken c.decode_file.new.out) (g.O.Sink.taken c.end_report.new.out) c.in-Ok-decode_file.decoded.end c.in-Ok-decode_file.decoded.tally
           c.end_report.result (opened_at g (goal.at.returns-in-Ok-decode_file-clause-ends g c).In-Ok-open_file) c.in-Ok-write_head.ensures.all
@@ -65,7 +65,7 @@ returns-in-Err-WriteFault-clause-ends g c =
     inr (
       asks_kept (g.F.Files.asked c.args.files.now) (g.F.Files.asked c.open_file.new.self) (g.F.Files.asked c.decode_file.new.files) c.args.request.now.shots.now
           (rw c.in-Ok-from_str.ensures.ok at c.open_file.ensures.asks) c.decode_file.ensures.asks,
-      prefix_of_batches (g.F.Files.named c.args.files.now) (seen_decoding c.args.request.now) c.args.graph.now c.args.plan.now (g.F.Files.left c.open_file.new.self)
+      prefix_of_batches (g.F.Files.named c.args.files.now) (plain_decoding c.args.request.now) c.args.graph.now c.args.plan.now (g.F.Files.left c.open_file.new.self)
           (g.O.Sink.taken c.args.out.now) (g.O.Sink.taken c.write_head.new.sink) (g.O.Sink.taken c.decode_file.new.out)
           (opened_at g (goal.at.returns-in-Err-WriteFault-clause-ends g c).In-Ok-open_file) c.in-Ok-write_head.ensures.all
           (rw c.in-Ok.ensures at c.in-Err-WriteFault.ensures.first),
@@ -76,7 +76,7 @@ returns-in-Err-NoMemory-clause-ends g c =
     inr (
       asks_kept (g.F.Files.asked c.args.files.now) (g.F.Files.asked c.open_file.new.self) (g.F.Files.asked c.decode_file.new.files) c.args.request.now.shots.now
           (rw c.in-Ok-from_str.ensures.ok at c.open_file.ensures.asks) c.decode_file.ensures.asks,
-      prefix_of_batches (g.F.Files.named c.args.files.now) (seen_decoding c.args.request.now) c.args.graph.now c.args.plan.now (g.F.Files.left c.open_file.new.self)
+      prefix_of_batches (g.F.Files.named c.args.files.now) (plain_decoding c.args.request.now) c.args.graph.now c.args.plan.now (g.F.Files.left c.open_file.new.self)
           (g.O.Sink.taken c.args.out.now) (g.O.Sink.taken c.write_head.new.sink) (g.O.Sink.taken c.decode_file.new.out)
           (opened_at g (goal.at.returns-in-Err-NoMemory-clause-ends g c).In-Ok-open_file) c.in-Ok-write_head.ensures.all
           (rw c.in-Ok.ensures at c.in-Err-NoMemory.ensures.first),

@@ -1,3 +1,4 @@
+use Rattle.fb_graph.specs.Limits.{most_vertices}
 use Rattle.std.proofs.Common.{◌≡◌, ◌*◌, ◌-◌, ◌^◌, ◌≤◌, length}
 use Rattle.fb_gen.specs.Drawing.{state_after}
 use Rattle.fb_run.specs.Samples.{HaveSums}
@@ -9,7 +10,7 @@ invariant-loop-drawn g l = record {
   state : l.draws ≡ state_after l.request.start (l.drawn * length l.graph.edges);
   crew : l.crew ≡ l.initial.crew;
   drawn : l.drawn ≤ l.request.shots;
-  defects : l.sums.defects ≤ 2 ^ 20 * l.drawn;
+  defects : l.sums.defects ≤ most_vertices * l.drawn;
   weight : l.sums.weight ≤ 2 ^ 64 * l.drawn;
 }
 

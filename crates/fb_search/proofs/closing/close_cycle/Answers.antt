@@ -1,5 +1,5 @@
 use Rattle.std.proofs.Common.{◌≡◌, ◌∙◌, ap, length, sym}
-use Rattle.fb_search.specs.Searching.{SearchValue, search_of}
+use Rattle.fb_search.specs.InternalSearching.{SearchValue, search_of}
 use Rattle.fb_search.proofs.Agreed.{nodes_of}
 use Rattle.fb_search.proofs.ClosedCycles.{closes_by, steps_join, steps_live, steps_odd, steps_outer, steps_replaced, steps_round}
 use Rattle.fb_search.proofs.ClosedSearches.{cycle_made, new_name, root_new}

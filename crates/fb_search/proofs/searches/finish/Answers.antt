@@ -1,10 +1,10 @@
 use Rattle.std.proofs.Common.{◌∙◌, subst}
 use Rattle.std.specs.Prelude.{MatchOption}
-use Rattle.fb_search.specs.declared.went.Went.TheVariants.{Ended, On}
+use Rattle.fb_search.specs.declared.outcome.Outcome.TheVariants.{Ended, On}
 use Rattle.fb_search.specs.InternalTurns.{BlocksTree, HasStepped}
-use Rattle.fb_search.specs.Progress.{EndsWith, HasAdvanced}
-use Rattle.fb_search.specs.Searching.{SearchValue}
-use Rattle.fb_search.specs.Went.{HasCleared}
+use Rattle.fb_search.specs.InternalProgress.{EndsWith, HasAdvanced}
+use Rattle.fb_search.specs.InternalSearching.{SearchValue}
+use Rattle.fb_search.specs.InternalOutcomes.{HasCleared}
 use Rattle.fb_search.proofs.Runs.{ends, goes_on, rank_falls_on}
 use Rattle.fb_search.proofs.searches.finish.Goals as goal
 

@@ -1,5 +1,5 @@
 use Rattle.std.proofs.Common.{take}
-use Rattle.fb_search.specs.Watching.{WatchesOuter}
+use Rattle.fb_search.specs.InternalWatching.{WatchesOuter}
 use Rattle.fb_search.proofs.watched.watch_taken.Given as goal
 
 abbrev pub invariant-loop-edge : goal.invariant-loop-edge

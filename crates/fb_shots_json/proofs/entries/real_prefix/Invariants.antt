@@ -1,5 +1,5 @@
 use Rattle.std.proofs.Common.{◌≡◌, ◌++◌, drop}
-use Rattle.fb_shots_json.specs.Entries.{real_prefix, first_fault}
+use Rattle.fb_shots_json.specs.InternalEntries.{real_prefix, first_fault}
 use Rattle.fb_shots_json.proofs.entries.real_prefix.Given as goal
 
 -- the entries so far, and the rest

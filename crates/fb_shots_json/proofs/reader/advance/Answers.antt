@@ -1,9 +1,9 @@
 use Rattle.std.proofs.Common.{◌≡◌, ◌≢◌, ℕ, ◌+◌, ◌<◌, Bool, true, false, length, drop, Err, sym, subst, ◌∙◌, arith, rules}
 use Rattle.fb_records.specs.declared.answer.Next.TheVariants as next
-use Rattle.fb_records.specs.Lines.{part_of}
+use Rattle.fb_records.specs.InternalSteps.{part_of}
 use Rattle.fb_shots_json.specs.TextJson.{shot_of_line}
-use Rattle.fb_shots_json.specs.Places.{IsPlace}
-use Rattle.fb_shots_json.specs.Stops.{AnswersTo}
+use Rattle.fb_shots_json.specs.InternalPlaces.{IsPlace}
+use Rattle.fb_shots_json.specs.InternalStops.{AnswersTo}
 use Rattle.fb_records.proofs.AnswerLemmas.{refused_by}
 use Rattle.fb_shots_json.proofs.PlaceLemmas.{place_start, place_seen, place_known, place_newline, place_shot, place_last_shot, place_refused, place_long, place_open_blank, place_open_short, place_end}
 use Rattle.fb_shots_json.proofs.reader.advance.Goals as goal
@@ -12,18 +12,18 @@ use Rattle.fb_shots_json.proofs.reader.advance.Goals.{else-not-place-via-then-no
 pub returns-then-is_too_long-clause-refused : goal.returns-then-is_too_long-clause-refused
 returns-then-is_too_long-clause-refused c =
     let s = c.see_line.ensures in
-    let p = place_seen _ _ _ _ _ _ _ _ c.loop-alloc.invariant s.line s.onward s.within s.in_line s.tells in
+    let p = place_seen _ _ _ _ _ _ _ _ c.loop-alloc.invariant s.line s.onward s.within s.in_line s.blank in
     place_long _ _ _ _ c.args.finished (place_known _ _ _ _ _ false p c.if-not-place.true) c.if-is_last.true (sym c.is_too_long.ensures ∙ c.if-is_too_long.true)
 
 pub returns-then-is_too_long-clause-err : goal.returns-then-is_too_long-clause-err
 returns-then-is_too_long-clause-err c =
     let s = c.see_line.ensures in
-    place_seen _ _ _ _ _ _ _ _ c.loop-alloc.invariant s.line s.onward s.within s.in_line s.tells
+    place_seen _ _ _ _ _ _ _ _ c.loop-alloc.invariant s.line s.onward s.within s.in_line s.blank
 
 pub returns-then-not-finished-clause-ok : goal.returns-then-not-finished-clause-ok
 returns-then-not-finished-clause-ok c =
     let s = c.see_line.ensures in
-    let p = place_seen _ _ _ _ _ _ _ _ c.loop-alloc.invariant s.line s.onward s.within s.in_line s.tells in (
+    let p = place_seen _ _ _ _ _ _ _ _ c.loop-alloc.invariant s.line s.onward s.within s.in_line s.blank in (
       elim c.else-not-place.branch [
         | else-not-place-via-then-not-place+else-is_too_long w ↦
             place_open_short _ _ _ _ _ c.args.finished p c.if-is_last.true c.if-not-finished.true (sym w.is_too_long.ensures ∙ w.if-is_too_long.false)
@@ -36,7 +36,7 @@ returns-then-not-finished-clause-ok c =
 pub returns-in_err-shot-clause-refused : goal.returns-in_err-shot-clause-refused
 returns-in_err-shot-clause-refused c =
     let s = c.see_line.ensures in
-    let p = place_seen _ _ _ _ _ _ _ _ c.loop-alloc.invariant s.line s.onward s.within s.in_line s.tells in
+    let p = place_seen _ _ _ _ _ _ _ _ c.loop-alloc.invariant s.line s.onward s.within s.in_line s.blank in
     let at = c.see_line.result in
     let g = c.args.graph.now in
     let rest = c.args.rest.now in
@@ -54,12 +54,12 @@ pub returns-in_err-shot-clause-err : goal.returns-in_err-shot-clause-err
 returns-in_err-shot-clause-err c =
     let s = c.see_line.ensures in
     let again : c.from_residual.result ≡ Err c.in_err-shot.field-0.0 = search rules in
-    rw again (place_seen _ _ _ _ _ _ _ _ c.loop-alloc.invariant s.line s.onward s.within s.in_line s.tells)
+    rw again (place_seen _ _ _ _ _ _ _ _ c.loop-alloc.invariant s.line s.onward s.within s.in_line s.blank)
 
 pub returns-then-not-place-2-clause-ok : goal.returns-then-not-place-2-clause-ok
 returns-then-not-place-2-clause-ok c =
     let s = c.see_line.ensures in
-    let p = place_known _ _ _ _ _ false (place_seen _ _ _ _ _ _ _ _ c.loop-alloc.invariant s.line s.onward s.within s.in_line s.tells) c.if-not-place-2.true in
+    let p = place_known _ _ _ _ _ false (place_seen _ _ _ _ _ _ _ _ c.loop-alloc.invariant s.line s.onward s.within s.in_line s.blank) c.if-not-place-2.true in
     let at = c.see_line.result in
     let g = c.args.graph.now in
     let rest = c.args.rest.now in
@@ -87,7 +87,7 @@ returns-then-not-place-2-clause-ok c =
 pub returns-then-is_last-3-clause-ok : goal.returns-then-is_last-3-clause-ok
 returns-then-is_last-3-clause-ok c =
     let s = c.see_line.ensures in
-    let p = place_seen _ _ _ _ _ _ _ _ c.loop-alloc.invariant s.line s.onward s.within s.in_line s.tells in
+    let p = place_seen _ _ _ _ _ _ _ _ c.loop-alloc.invariant s.line s.onward s.within s.in_line s.blank in
     let all = c.if-is_last-3.true in
     let done : c.args.finished ≡ true =
     elim c.else-is_last.branch [
@@ -102,7 +102,7 @@ loop-alloc-preserved c =
     let at = c.see_line.result in
     let g = c.args.graph.now in
     let rest = c.args.rest.now in
-    let p = place_known _ _ _ _ _ true (place_seen _ _ _ _ _ _ _ _ c.loop-alloc.invariant s.line s.onward s.within s.in_line s.tells) c.if-not-place-2.false in
+    let p = place_known _ _ _ _ _ true (place_seen _ _ _ _ _ _ _ _ c.loop-alloc.invariant s.line s.onward s.within s.in_line s.blank) c.if-not-place-2.false in
     let other : ◌≢◌ at.seen (length rest) = c.if-is_last-3.false in
     let within = s.within in
     let lt : at.seen < length rest = omega arith in

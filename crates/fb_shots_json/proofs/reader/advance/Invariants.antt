@@ -1,5 +1,5 @@
 use Rattle.std.proofs.Common.{◌-◌, length}
-use Rattle.fb_shots_json.specs.Places.{IsPlace}
+use Rattle.fb_shots_json.specs.InternalPlaces.{IsPlace}
 use Rattle.fb_shots_json.proofs.reader.advance.Given as goal
 
 abbrev pub invariant-loop-alloc : goal.invariant-loop-alloc

@@ -1,4 +1,4 @@
-use Rattle.std.proofs.Common.{◌-◌, ◌≤◌, true, drop, arith}
+use Rattle.std.proofs.Common.{◌-◌, ◌≤◌, drop, arith}
 use Rattle.std.proofs.lemmas.List.{length-take}
 use Rattle.fb_shots_stim.proofs.Lemmas01.{bits_more}
 use Rattle.fb_shots_stim.proofs.dense.leading_bits.Goals as goal

@@ -13,6 +13,6 @@ returns-clause-marked c =
     let within : index < length marks = omega (arith, made.size) in
     let m = marked_made c.args.detectors c.args.marks.now.items marks c.args.named.now.items c.requires made.size made.kept made.none in
     let unmarked : get_or marks index false ≡ false = get_or_default marks index false c.index.result.now within ∙ sym c.index.ensures ∙ c.if-index.false in
-    let new : list_any (eqb index) c.args.named.now.items ≡ false = sym (m.tells index within) ∙ unmarked in
+    let new : list_any (eqb index) c.args.named.now.items ≡ false = sym (m.marked index within) ∙ unmarked in
     let pushed = c.in_ok-push.ensures.items in
     rw pushed (marked_more c.args.detectors marks c.args.named.now.items index m made.size lt new)

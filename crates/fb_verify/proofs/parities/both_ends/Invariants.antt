@@ -1,5 +1,5 @@
 use Rattle.std.proofs.Common.{◌≡◌, ◌++◌, drop}
-use Rattle.fb_verify.specs.Marks.{ends_of}
+use Rattle.fb_verify.specs.InternalMarks.{ends_of}
 use Rattle.fb_verify.proofs.parities.both_ends.Given as goal
 
 abbrev pub invariant-loop-edge : goal.invariant-loop-edge

@@ -1,11 +1,11 @@
 use Rattle.std.proofs.lemmas.Result.{IfOk-weaker}
 use Rattle.clap.specs.Words.{subcommand_rows_of}
-use Rattle.fb_words.specs.Seen.{seen_request}
+use Rattle.fb_words.specs.PlainRequests.{plain_request}
 use Rattle.fb_words.proofs.Numbers.{request_in_ranges}
 use Rattle.fb_words.proofs.words.read_words.Goals as goal
 
 pub returns-in-Ok-clause-ranges : goal.returns-in-Ok-clause-ranges
 returns-in-Ok-clause-ranges c =
     IfOk-weaker c.read_request.result _ _
-    (λ e same. request_in_ranges (subcommand_rows_of c.in-Ok.matches) (seen_request e) c.in-Ok.ensures.options same)
+    (λ e same. request_in_ranges (subcommand_rows_of c.in-Ok.matches) (plain_request e) c.in-Ok.ensures.options same)
     c.read_request.ensures.request

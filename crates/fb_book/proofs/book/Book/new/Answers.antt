@@ -1,6 +1,7 @@
 use Rattle.std.proofs.Common.{◌*◌, ◌≤◌, None, length, replicate, vec_capacity, sym, ap, subst, ◌∙◌, rules}
 use Rattle.fb_book.specs.Machine.{IsForest}
-use Rattle.fb_book.specs.Board.{AreParents, children_in, nodes_of}
+use Rattle.fb_book.specs.Board.{children_in, nodes_of}
+use Rattle.fb_book.specs.InternalBoard.{AreParents}
 use Rattle.fb_book.proofs.Beginning.{book_at_first, course_at_first}
 use Rattle.fb_book.proofs.Trees.{forest_of_tree, parents_of_tree}
 use Rattle.fb_book.proofs.book.Book.new.Goals as goal

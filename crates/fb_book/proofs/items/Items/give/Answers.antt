@@ -4,7 +4,8 @@ use Rattle.std.specs.Option.{option_to_list}
 use Rattle.std.specs.List.Sorted.{IsPermutation}
 use Rattle.fb_book.specs.declared.entries.Status.TheVariants.{Given}
 use Rattle.fb_book.specs.Machine.{is_held_by, status_at}
-use Rattle.fb_book.specs.Board.{AreWithin, kids_in, nodes_of, parent_place, ready_parent}
+use Rattle.fb_book.specs.Board.{kids_in, nodes_of}
+use Rattle.fb_book.specs.InternalBoard.{AreWithin, parent_place, ready_parent}
 use Rattle.fb_book.proofs.Giving.{gave_kept, gave_lets, parent_inside, parent_within, place_inside, room_to_let, some_unsolved}
 use Rattle.fb_book.proofs.items.Items.give.Goals as goal
 

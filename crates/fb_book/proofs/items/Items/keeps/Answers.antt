@@ -1,5 +1,5 @@
 use Rattle.std.proofs.Common.{subst}
-use Rattle.fb_book.specs.Board.{IsCourse}
+use Rattle.fb_book.specs.InternalBoard.{IsCourse}
 use Rattle.fb_book.proofs.Turns.{is_course}
 use Rattle.fb_book.proofs.items.Items.keeps.Goals as goal
 

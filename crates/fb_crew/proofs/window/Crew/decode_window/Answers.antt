@@ -1,6 +1,6 @@
 use Rattle.std.proofs.Common.{All, ap, subst, sym}
 use Rattle.fb_graph.specs.Limits.{DecodingGraph, IsShot}
-use Rattle.fb_crew.specs.Windows.{CrewValue}
+use Rattle.fb_crew.specs.Crews.{CrewValue}
 use Rattle.fb_crew.proofs.window.Crew.decode_window.Goals as goal
 
 pub solve_window-requires-clause-shots : goal.solve_window-requires-clause-shots

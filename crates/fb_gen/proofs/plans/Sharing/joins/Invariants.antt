@@ -1,5 +1,5 @@
 use Rattle.std.proofs.Common.{◌≡◌, map, take}
-use Rattle.fb_gen.specs.TimePlan.{plain_join, join_of}
+use Rattle.fb_gen.specs.InternalSharing.{plain_join, join_of}
 use Rattle.fb_gen.proofs.plans.Sharing.joins.Given as goal
 
 abbrev pub invariant-loop-fusion : goal.invariant-loop-fusion

@@ -3,14 +3,14 @@ use Rattle.std.proofs.lemmas.List.{length-map}
 use Rattle.std.proofs.lemmas.List.Sorted.{IsPermutation-swap_remove}
 use Rattle.fb_half.specs.declared.matches.Standing.TheVariants.{Matched}
 use Rattle.fb_half.specs.InternalStandings.{standing_of}
-use Rattle.fb_half.proofs.Lookups.{is_match_at, stands_matched}
+use Rattle.fb_half.proofs.Lookups.{names_of_match_at, matched_place}
 use Rattle.fb_half.proofs.Listings.{links_taken, match_moved, match_taken, moved_names_within, names_within}
 use Rattle.fb_half.proofs.matching.Matching.take_match.Goals as goal
 
 pub unreachable-requires : goal.unreachable-requires
 unreachable-requires c =
     let listed = rw (← c.self.view_is) at c.requires in
-    let place = stands_matched _ _ _ c.args.name c.self.invariant.1 listed in
+    let place = matched_place _ _ _ c.args.name c.self.invariant.1 listed in
     c.in_default.not-Matched place.0 (c.standing_in.ensures ∙ (ap (λ l. standing_of l c.args.name) c.deref.ensures.value ∙ place.1))
 
 pub swap_remove-taken-requires : goal.swap_remove-taken-requires
@@ -60,7 +60,7 @@ pub returns-then-place-len-clause-name : goal.returns-then-place-len-clause-name
 returns-then-place-len-clause-name c =
     let at : standing_of c.self.inside.standings.items c.args.name ≡ Matched c.in-Matched.place = cc in
     let there = c.self.invariant.1.matched.true_to c.args.name c.in-Matched.place at in
-    (is_match_at _ _ c.in-Matched.place c.args.name there.0 c.swap_remove-taken.ensures.value there.1).matched
+    names_of_match_at _ _ c.in-Matched.place c.args.name there.0 c.swap_remove-taken.ensures.value there.1
 
 pub returns-then-place-len-clause-matches : goal.returns-then-place-len-clause-matches
 returns-then-place-len-clause-matches c =
@@ -73,7 +73,7 @@ pub returns-else-place-len-clause-name : goal.returns-else-place-len-clause-name
 returns-else-place-len-clause-name c =
     let at : standing_of c.self.inside.standings.items c.args.name ≡ Matched c.in-Matched.place = cc in
     let there = c.self.invariant.1.matched.true_to c.args.name c.in-Matched.place at in
-    (is_match_at _ _ c.in-Matched.place c.args.name there.0 c.swap_remove-taken.ensures.value there.1).matched
+    names_of_match_at _ _ c.in-Matched.place c.args.name there.0 c.swap_remove-taken.ensures.value there.1
 
 pub returns-else-place-len-clause-matches : goal.returns-else-place-len-clause-matches
 returns-else-place-len-clause-matches c =

@@ -4,14 +4,14 @@ use Rattle.std.proofs.lemmas.List.Sorted.{IsPermutation-swap_remove}
 use Rattle.fb_half.specs.declared.matches.Standing.TheVariants.{Unmatched}
 use Rattle.fb_half.specs.InternalStandings.{standing_of}
 use Rattle.fb_half.proofs.Taken.{same_read}
-use Rattle.fb_half.proofs.Lookups.{stands_unmatched}
+use Rattle.fb_half.proofs.Lookups.{unmatched_place}
 use Rattle.fb_half.proofs.Listings.{moved_name_within, name_within, unmatched_at, unmatched_moved, unmatched_taken}
 use Rattle.fb_half.proofs.matching.Matching.take_unmatched.Goals as goal
 
 pub unreachable-requires : goal.unreachable-requires
 unreachable-requires c =
     let listed = rw (← c.self.view_is) at c.requires in
-    let place = stands_unmatched _ _ _ c.args.name c.self.invariant.1 listed in
+    let place = unmatched_place _ _ _ c.args.name c.self.invariant.1 listed in
     c.in_default.not-Unmatched place.0 (c.standing_in.ensures ∙ (ap (λ l. standing_of l c.args.name) c.deref.ensures.value ∙ place.1))
 
 pub swap_remove-requires : goal.swap_remove-requires

@@ -5,7 +5,7 @@ use Rattle.std.proofs.lemmas.List.{length-map}
 use Rattle.std.proofs.lemmas.List.FromFn.{length-map-range_with_len}
 use Rattle.fb_graph.specs.Problem.{edge_at}
 use Rattle.fb_plan.specs.Plans.{IsPlan, IsTree, goes_across}
-use Rattle.fb_plan.specs.Layout.{tree_of}
+use Rattle.fb_plan.specs.InternalLayout.{tree_of}
 use Rattle.fb_plan.specs.Rules.{claims_from, joins_of, owner_in, range_fault, ranges_of, seams_of, tree_by, twice_fault, unowned_fault}
 use Rattle.fb_graph.specs.Leasts.{least}
 use Rattle.fb_plan.specs.declared.faults.PlanFault.TheVariants.{EdgeAcross}

@@ -1,9 +1,9 @@
 use Rattle.std.proofs.Common.{ℕ, ◌≡◌, ◌+◌, ◌<◌, ◌∙◌, None, ap, get_or, length, subst, sym, arith}
-use Rattle.fb_plan.specs.Loads.{load_at}
+use Rattle.fb_plan.specs.InternalLoads.{load_at}
 use Rattle.fb_plan.specs.declared.loads.Measure.TheVariants.{Nodes}
 use Rattle.std.proofs.lemmas.List.FromFn.{length-map-range_with_len}
 use Rattle.std.proofs.lemmas.Result.{IfOk-weaker}
-use Rattle.fb_plan.specs.Layout.{given_owner}
+use Rattle.fb_plan.specs.InternalLayout.{given_owner}
 use Rattle.fb_plan.proofs.Fusions.{length-joins_of}
 use Rattle.fb_plan.proofs.Growth.{IsGrown, children_small, given_below, given_owner_below, owners_counted, same_tree}
 use Rattle.fb_plan.proofs.plan.Plan.grown.Goals as goal

@@ -2,6 +2,7 @@ use Rattle.std.proofs.Common.{◌≡◌, ◌/◌, ap, sym, ◌∙◌, get_or, ar
 use Rattle.std.proofs.lemmas.Grind.{common_steps}
 use Rattle.std.proofs.lemmas.List.{get_or_read}
 use Rattle.fb_regions.specs.InternalPages.{no_place, number_at}
+use Rattle.fb_regions.specs.declared.paged_numbers.TheConstants.{PAGE}
 use Rattle.fb_regions.proofs.Paged.{filled_within, length-numbers, number_below, number_missing}
 use Rattle.fb_regions.proofs.paged_numbers.PagedNumbers.get.Goals as goal
 
@@ -23,9 +24,9 @@ pub returns : goal.returns
 returns c =
     let places = c.self.inside.places.items in
     let numbers = c.self.inside.numbers.items in
-    let page : c.index-place.result.now ≡ get_or places (c.args.index / 512) no_place =
+    let page : c.index-place.result.now ≡ get_or places (c.args.index / PAGE) no_place =
     get_or_read places _ _ (omega (arith, c.self.invariant.0)) c.index-place.ensures no_place in
-    let filled = filled_within places numbers _ c.self.invariant.1 (c.args.index / 512) (omega (arith, c.self.invariant.0))
+    let filled = filled_within places numbers _ c.self.invariant.1 (c.args.index / PAGE) (omega (arith, c.self.invariant.0))
     (λ none. c.if-place.false (page ∙ none)) in
     let read : c.index.result.now ≡ number_at places numbers c.args.index =
     get_or_read numbers _ _ (omega (arith, page, filled)) c.index.ensures 0

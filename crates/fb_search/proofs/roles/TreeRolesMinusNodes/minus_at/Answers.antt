@@ -1,7 +1,6 @@
 use Rattle.fb_search.proofs.BranchPlaces.{minus_listed}
 use Rattle.fb_search.proofs.roles.TreeRolesMinusNodes.minus_at.Goals as goal
 
--- src/roles.rt:31:5
 pub returns : goal.returns
 returns c =
     let may = rw (← c.branches-branches.ensures) at c.requires in

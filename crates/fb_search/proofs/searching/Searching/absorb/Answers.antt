@@ -2,7 +2,7 @@ use Rattle.std.proofs.Common.{◌∙◌, ap}
 use Rattle.fb_graph.specs.Limits.{IsWithinLimits}
 use Rattle.fb_graph.specs.Moves.{absorbed_nodes}
 use Rattle.fb_half.specs.Values.{part_of}
-use Rattle.fb_search.specs.Searching.{SearchValue, problem_of}
+use Rattle.fb_search.specs.InternalSearching.{SearchValue, problem_of}
 use Rattle.fb_search.proofs.BegunSearches.{kept_limits}
 use Rattle.fb_search.proofs.LeftEdges.{kept_taken}
 use Rattle.fb_search.proofs.TakenVertices.{Absorbs, absorbs_some, end_taken, goes_on_raised, inner_held, nodes_taken, outer_free, searching_raised, taken_below}

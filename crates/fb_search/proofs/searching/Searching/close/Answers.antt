@@ -1,9 +1,9 @@
 use Rattle.std.proofs.lemmas.Result.{IfOk-weaker}
 use Rattle.fb_half.specs.Values.{part_of}
-use Rattle.fb_search.specs.Meetings.{IsPairOver}
-use Rattle.fb_search.specs.MetWalks.{IsMetWalk}
-use Rattle.fb_search.specs.Progress.{GoesOn}
-use Rattle.fb_search.specs.Searching.{SearchValue, problem_of, relinked_search}
+use Rattle.fb_search.specs.InternalTightEdges.{IsPairOver}
+use Rattle.fb_search.specs.InternalMetWalks.{IsMetWalk}
+use Rattle.fb_search.specs.InternalProgress.{GoesOn}
+use Rattle.fb_search.specs.InternalSearching.{SearchValue, problem_of, relinked_search}
 use Rattle.fb_search.proofs.ClosedCycles.{Closes}
 use Rattle.fb_search.proofs.MetPairs.{link_closes, pair_between}
 use Rattle.fb_search.proofs.RoundedSearches.{goes_on_relinked}

@@ -2,7 +2,7 @@ use Rattle.std.proofs.Common.{refl}
 use Rattle.fb_trees.proofs.Names.{root_plus}
 use Rattle.fb_half.specs.Values.{part_of}
 use Rattle.fb_search.specs.InternalRounds.{HasEvenRoot}
-use Rattle.fb_search.specs.Searching.{SearchValue}
+use Rattle.fb_search.specs.InternalSearching.{SearchValue}
 use Rattle.fb_search.proofs.DissolvedParts.{left_apart, left_live, left_once, part_is_left}
 use Rattle.fb_search.proofs.searching.Searching.dissolve.Goals as goal
 

@@ -1,7 +1,7 @@
 use Rattle.std.proofs.Common.{refl}
 use Rattle.fb_half.specs.Values.{part_of}
-use Rattle.fb_search.specs.Meetings.{LeadsOut}
-use Rattle.fb_search.specs.Searching.{SearchValue}
+use Rattle.fb_search.specs.InternalTightEdges.{LeadsOut}
+use Rattle.fb_search.specs.InternalSearching.{SearchValue}
 use Rattle.fb_search.proofs.ScopeWalks.{out_bare, out_scoped}
 use Rattle.fb_search.proofs.TreeEnds.{boundary_apart, boundary_ended, gone_live, gone_once, leads_out}
 use Rattle.fb_search.proofs.searching.Searching.end_at_boundary.Goals as goal

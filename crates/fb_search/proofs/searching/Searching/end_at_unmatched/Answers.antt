@@ -1,7 +1,7 @@
 use Rattle.std.proofs.Common.{◌∙◌, refl}
 use Rattle.fb_half.specs.Values.{part_of}
-use Rattle.fb_search.specs.Meetings.{Meets}
-use Rattle.fb_search.specs.Searching.{SearchValue}
+use Rattle.fb_search.specs.InternalTightEdges.{Meets}
+use Rattle.fb_search.specs.InternalSearching.{SearchValue}
 use Rattle.fb_search.proofs.ScopeWalks.{between_scoped, met_scoped}
 use Rattle.fb_search.proofs.TreeEnds.{gone_live, gone_once, meeting_plus, meets_between, met_apart, met_ended, root_left}
 use Rattle.fb_search.proofs.searching.Searching.end_at_unmatched.Goals as goal

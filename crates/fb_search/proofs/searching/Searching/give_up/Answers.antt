@@ -1,6 +1,6 @@
 use Rattle.std.proofs.Common.{◌≡◌, ◌∙◌, ap, subst, sym}
 use Rattle.fb_search.specs.InternalRounds.{HasEvenRoot, IsDissolved, IsGivenUp}
-use Rattle.fb_search.specs.Progress.{stepped_by}
+use Rattle.fb_search.specs.InternalProgress.{stepped_by}
 use Rattle.fb_search.proofs.RoundPaces.{given_up}
 use Rattle.fb_search.proofs.searching.Searching.give_up.Goals as goal
 

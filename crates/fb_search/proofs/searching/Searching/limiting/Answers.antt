@@ -1,7 +1,7 @@
 use Rattle.std.proofs.Common.{◌∙◌, ◌<◌, length, ap, sym}
 use Rattle.fb_graph.proofs.Sets.{is_in-All}
 use Rattle.fb_half.specs.Values.{part_of}
-use Rattle.fb_search.specs.Searching.{SearchValue}
+use Rattle.fb_search.specs.InternalSearching.{SearchValue}
 use Rattle.fb_search.proofs.NextObstacles.{next_limiting, next_parity, next_roles, next_watched}
 use Rattle.fb_search.proofs.searching.Searching.limiting.Goals as goal
 

@@ -1,6 +1,6 @@
 use Rattle.fb_half.specs.Values.{part_of}
-use Rattle.fb_search.specs.Meetings.{Meets}
-use Rattle.fb_search.specs.Searching.{SearchValue}
+use Rattle.fb_search.specs.InternalTightEdges.{Meets}
+use Rattle.fb_search.specs.InternalSearching.{SearchValue}
 use Rattle.fb_search.proofs.MetMatches.{has_met}
 use Rattle.fb_search.proofs.ScopeWalks.{between_scoped, met_scoped}
 use Rattle.fb_search.proofs.TreeEnds.{meets_between}

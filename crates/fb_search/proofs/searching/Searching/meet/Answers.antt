@@ -1,7 +1,7 @@
 use Rattle.std.proofs.Common.{◌∙◌}
 use Rattle.fb_half.specs.Values.{part_of}
-use Rattle.fb_search.specs.Meetings.{Meets}
-use Rattle.fb_search.specs.Searching.{SearchValue}
+use Rattle.fb_search.specs.InternalTightEdges.{Meets}
+use Rattle.fb_search.specs.InternalSearching.{SearchValue}
 use Rattle.fb_search.proofs.MetOutside.{met_matched, not_unmatched}
 use Rattle.fb_search.proofs.searching.Searching.meet.Goals as goal
 

@@ -1,6 +1,6 @@
 use Rattle.std.proofs.Common.{ap}
 use Rattle.fb_half.specs.Values.{part_of}
-use Rattle.fb_search.specs.Searching.{SearchValue}
+use Rattle.fb_search.specs.InternalSearching.{SearchValue}
 use Rattle.fb_search.proofs.EdgeMeets.{meet_held}
 use Rattle.fb_search.proofs.searching.Searching.met_nodes.Goals as goal
 

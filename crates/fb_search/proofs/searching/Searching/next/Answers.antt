@@ -1,6 +1,6 @@
 use Rattle.std.proofs.Common.{◌∙◌, ap, sym}
 use Rattle.fb_half.specs.Values.{part_of}
-use Rattle.fb_search.specs.Searching.{SearchValue}
+use Rattle.fb_search.specs.InternalSearching.{SearchValue}
 use Rattle.fb_search.proofs.NextObstacles.{next_bounded, next_even, next_is, next_minus, next_parity, next_plus, next_roles, next_watched, searching_rewatched}
 use Rattle.fb_search.proofs.searching.Searching.next.Goals as goal
 

@@ -1,7 +1,7 @@
 use Rattle.std.proofs.Common.{sym}
 use Rattle.fb_trees.proofs.Names.{root_plus}
 use Rattle.fb_half.specs.Values.{part_of}
-use Rattle.fb_search.specs.Searching.{SearchValue}
+use Rattle.fb_search.specs.InternalSearching.{SearchValue}
 use Rattle.fb_search.proofs.RoundPaces.{root_covered}
 use Rattle.fb_search.proofs.SearchRoles.{plus_live}
 use Rattle.fb_search.proofs.searching.Searching.root_potential.Goals as goal

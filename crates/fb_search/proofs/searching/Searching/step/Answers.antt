@@ -3,7 +3,7 @@ use Rattle.fb_graph.specs.Limits.{IsWithinLimits}
 use Rattle.fb_graph.specs.Steps.{MayStep}
 use Rattle.fb_half.specs.Values.{part_of}
 use Rattle.fb_laws.specs.Trees.{roles_of}
-use Rattle.fb_search.specs.Searching.{SearchValue, problem_of, roles_in}
+use Rattle.fb_search.specs.InternalSearching.{SearchValue, problem_of, roles_in}
 use Rattle.fb_search.proofs.BegunSearches.{kept_limits}
 use Rattle.fb_search.proofs.SteppedSearches.{length_fits, searching_stepped, step_by_names, step_in_scope, tree_in_scope}
 use Rattle.fb_search.proofs.SearchRoles.{tree_over}

@@ -1,8 +1,8 @@
 use Rattle.std.proofs.Common.{refl, subst, sym}
 use Rattle.fb_obstacles.specs.Obstacles.{IsFree, IsObstacle}
 use Rattle.fb_search.specs.InternalTurns.{HasStepped}
-use Rattle.fb_search.specs.Progress.{IsRewatched}
-use Rattle.fb_search.specs.Searching.{SearchValue, problem_of, roles_in}
+use Rattle.fb_search.specs.InternalProgress.{IsRewatched}
+use Rattle.fb_search.specs.InternalSearching.{SearchValue, problem_of, roles_in}
 use Rattle.fb_search.proofs.FreeSteps.{obstructs_after, stepped_after, stepped_not}
 use Rattle.fb_search.proofs.searching.Searching.step_past.Goals as goal
 

@@ -2,8 +2,8 @@ use Rattle.std.proofs.Common.{subst}
 use Rattle.std.specs.Prelude.{MatchOption}
 use Rattle.fb_obstacles.specs.Obstacles.{IsFree, IsObstacle}
 use Rattle.fb_search.specs.InternalTurns.{BlocksTree, HasStepped}
-use Rattle.fb_search.specs.Progress.{HasAdvanced}
-use Rattle.fb_search.specs.Searching.{SearchValue, problem_of, roles_in}
+use Rattle.fb_search.specs.InternalProgress.{HasAdvanced}
+use Rattle.fb_search.specs.InternalSearching.{SearchValue, problem_of, roles_in}
 use Rattle.fb_search.proofs.FreeSteps.{stepped_anew, turned}
 use Rattle.fb_search.proofs.RoundPaces.{even_after, shorter}
 use Rattle.fb_search.proofs.searching.Searching.turn_within.Goals as goal

@@ -11,8 +11,8 @@ use Rattle.fb_shots.specs.declared.reader.FormatReader.{FormatReader}
 use Rattle.fb_shots.specs.declared.reader.FormatReader.TheVariants.{Text01, B8, Dets, Json}
 use Rattle.fb_shots.specs.declared.reader.Next.{Next}
 use Rattle.fb_shots.specs.Formats.{shot_of_vertices, of_stim}
-use Rattle.fb_shots.specs.Answers.{Answers}
-use Rattle.fb_shots.specs.Readers.{source_of, IsReaderOf}
+use Rattle.fb_shots.specs.InternalAnswers.{Answers}
+use Rattle.fb_shots.specs.InternalReaders.{source_of, IsReaderOf}
 use Rattle.fb_shots.proofs.Readings.{stim_right, json_right}
 use Rattle.fb_shots.proofs.reader.FormatReader.next.Goals as goal
 

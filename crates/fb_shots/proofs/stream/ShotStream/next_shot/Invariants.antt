@@ -1,5 +1,6 @@
 use Rattle.std.proofs.Common.{◌≡◌}
-use Rattle.fb_shots.specs.Steps.{OnlyTakes, may_read}
+use Rattle.fb_shots.specs.Steps.{OnlyTakes}
+use Rattle.fb_shots.specs.InternalReads.{may_read}
 use Rattle.fb_shots.proofs.stream.ShotStream.next_shot.Given as goal
 
 abbrev pub invariant-loop-step : goal.invariant-loop-step

@@ -1,6 +1,6 @@
 use Rattle.std.proofs.Common.{◌≡◌, length}
 use Rattle.fb_verify.specs.Reports.{all_numbers}
-use Rattle.fb_verify.specs.WordsLeft.{onto_all}
+use Rattle.fb_verify.specs.InternalWordsLeft.{onto_all}
 use Rattle.fb_verify.proofs.line_words.Words.numbers.Given as goal
 
 -- the numbers so far, and those of the rest

@@ -1,0 +1,6 @@
+//! Texts of JSON (RFC 8259), over the meaning that `serde_json` gives them.
+#![tactic(auto)]
+
+pub mod text;
+
+pub use text::{MOST_TEXT_BYTES, NoValue, read_value};

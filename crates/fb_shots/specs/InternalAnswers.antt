@@ -1,0 +1,54 @@
+-- What a result of a reader says of the bytes that it was fed.
+use Rattle.std.specs.Prelude.{◌≡◌, ℕ, ◌<◌, Bool, true, false, List, ◌++◌, length}
+use Rattle.fb_graph.specs.Limits.{DecodingGraph, IsShot, ShotValue}
+use Rattle.fb_records.specs.declared.answer.Next.{Next as NextOf}
+use Rattle.fb_records.specs.declared.answer.Next.TheVariants as next
+use Rattle.fb_shots_stim.specs.declared.answer.Kind.{Kind as StimKind}
+use Rattle.fb_shots_json.specs.declared.answer.Kind.{Kind as JsonKind}
+use Rattle.fb_shots.specs.declared.answer.Kind.{Kind}
+use Rattle.fb_shots.specs.declared.answer.Kind.TheVariants as kind
+use Rattle.fb_shots.specs.declared.reader.Next.{Next}
+use Rattle.fb_shots.specs.declared.reader.Next.TheVariants.{Shot, NotYet, End, Refused}
+use Rattle.fb_shots.specs.Shots.{at_end, still_open, refused, Shots, only, with_first_shot}
+use Rattle.fb_shots.specs.Formats.{shot_of_detectors, shot_of_vertices, records_of, prefix_of}
+use Rattle.fb_shots.specs.InternalSources.{Source}
+
+-- The shot is the first record of the old rest, and the new rest holds all others, whatever is fed later.
+pub record Gives (records prefix : List ℕ → Shots) (finished : Bool) (old new : List ℕ) (shot : ShotValue) : Type 0 where
+  pub shorter : length new < length old
+  pub now : records old ≡ with_first_shot shot (records new)
+  pub later : finished ≡ false → (more : List ℕ) → records (old ++ more) ≡ with_first_shot shot (records (new ++ more))
+  pub onward : finished ≡ false → (more : List ℕ) → prefix (old ++ more) ≡ with_first_shot shot (prefix (new ++ more))
+
+-- The rest begins by what is refused, whatever is fed later.
+pub record Refuses (records prefix : List ℕ → Shots) (finished : Bool) (old : List ℕ) (why : Kind) : Type 0 where
+  pub now : records old ≡ only (refused why)
+  pub later : finished ≡ false → (more : List ℕ) → records (old ++ more) ≡ only (refused why)
+  pub onward : finished ≡ false → (more : List ℕ) → prefix (old ++ more) ≡ only (refused why)
+
+-- a result, what it says of the rest, and what it leaves of it; `records` and `prefix` are what bytes hold
+abbrev pub AnswersIn : (records prefix : List ℕ → Shots) → Source → Source → Next → Type 0
+AnswersIn records prefix old new (Shot shot) =
+    Gives records prefix old.finished old.rest new.rest shot × IsShot old.graph shot
+    × (new ≡ record old { rest = new.rest })
+AnswersIn records prefix old new NotYet = (old.finished ≡ false) × (prefix old.rest ≡ only still_open) × (new ≡ old)
+AnswersIn records prefix old new End = (old.finished ≡ true) × (records old.rest ≡ only at_end) × (new ≡ old)
+AnswersIn records prefix old new (Refused why) = Refuses records prefix old.finished old.rest why × (new ≡ old)
+
+abbrev pub Answers : Source → Source → Next → Type 0
+Answers old new answer = AnswersIn (records_of old.format old.graph) (prefix_of old.format old.graph) old new answer
+
+-- the result of a format's reader: the shot that its numbers are, and the refusal as this crate's
+abbrev pub answer_as : {K : Type 0} → (List ℕ → ShotValue) → (K → Kind) → NextOf K → Next
+answer_as shot_of say (next.Shot numbers) = Shot (shot_of numbers)
+answer_as shot_of say next.NotYet = NotYet
+answer_as shot_of say next.End = End
+answer_as shot_of say (next.Refused why) = Refused (say why)
+
+-- the result of a reader of detectors
+abbrev pub stim_answer : DecodingGraph → NextOf StimKind → Next
+stim_answer g = answer_as (shot_of_detectors g) kind.Stim
+
+-- the result of a reader of vertices
+abbrev pub json_answer : NextOf JsonKind → Next
+json_answer = answer_as shot_of_vertices kind.Json
