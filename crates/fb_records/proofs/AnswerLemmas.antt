@@ -8,7 +8,7 @@ use Rattle.fb_records.specs.declared.answer.Stop.TheVariants as stop
 use Rattle.fb_records.specs.Records.{at_end, refused, Records, only, with_first_shot, Judged, with_line, Reader}
 use Rattle.fb_records.specs.Lines.{holds, lines_of, after_lines, after_first, records_by_lines, prefix_by_lines, Stays}
 use Rattle.fb_records.specs.Answers.{Gives, Refuses}
-use Rattle.fb_records.specs.InternalSteps.{IfRefused, Skips}
+use Rattle.fb_records.specs.Steps.{IfRefused, Skips}
 use Rattle.fb_records.proofs.LineLemmas.{whole_parts_none, last_part_none, whole_parts_one, last_part_one, after_line_one, after_line_none}
 use Rattle.fb_records.proofs.RecordLemmas.{Judge, Begun, records_one, prefix_one, records_none, records_go_on}
 

@@ -3,7 +3,7 @@ use Rattle.std.proofs.Common.{◌≡◌, ℕ, ◌+◌, ◌-◌, ◌<◌, ◌≤�
 use Rattle.std.proofs.lemmas.Bool.{ne_eqb}
 use Rattle.std.proofs.lemmas.List.{drop-drop, drop_more}
 use Rattle.fb_records.specs.Lines.{holds}
-use Rattle.fb_records.specs.InternalSteps.{part_of}
+use Rattle.fb_records.specs.Steps.{part_of}
 use Rattle.fb_records.proofs.LineLemmas.{holds_none}
 
 pub part_none : (xs : List ℕ) (a : ℕ) → part_of xs a a ≡ []

@@ -2,4 +2,4 @@ pub mod Records
 pub mod Lines
 pub mod Answers
 pub mod Laws
-pub mod InternalSteps
+pub mod Steps

@@ -2,7 +2,7 @@
 
 ghost use Rattle.std.specs.Prelude.{◌≡◌, ℕ, ◌≤◌, List, [], ◌++◌, length, drop, IfOk, IfErr, OnErr};
 ghost use Rattle.fb_records.specs.Records.{Records};
-ghost use Rattle.fb_records.specs.InternalSteps.{AnswersRest, IfFound, IfRefused, answer_at, used_of};
+ghost use Rattle.fb_records.specs.Steps.{AnswersRest, IfFound, IfRefused, answer_at, used_of};
 ghost use Rattle.fb_records.specs.declared.answer.Next.TheVariants as next;
 
 use crate::answer::{Found, Stop};

@@ -8,7 +8,7 @@ use Rattle.fb_shots_json.specs.declared.answer.Kind.{Kind}
 use Rattle.fb_shots_json.specs.declared.answer.Kind.TheVariants.{LineTooLong}
 use Rattle.fb_records.specs.declared.answer.Next.TheVariants.{Shot, NotYet, End, Refused}
 use Rattle.fb_records.specs.Lines.{holds}
-use Rattle.fb_records.specs.InternalSteps.{part_of}
+use Rattle.fb_records.specs.Steps.{part_of}
 use Rattle.fb_shots_json.specs.TextJson.{is_blank, is_blank_byte, is_too_long, shot_of_line}
 use Rattle.fb_shots_json.specs.InternalPlaces.{IsAt, IsPlace}
 use Rattle.fb_shots_json.specs.InternalStops.{AnswersTo}

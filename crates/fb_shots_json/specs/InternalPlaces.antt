@@ -2,7 +2,7 @@
 use Rattle.std.specs.Prelude.{◌≡◌, ℕ, ◌≤◌, Bool, false, List, length, take}
 use Rattle.fb_graph.specs.Limits.{DecodingGraph}
 use Rattle.fb_records.specs.Lines.{holds}
-use Rattle.fb_records.specs.InternalSteps.{part_of, Skips}
+use Rattle.fb_records.specs.Steps.{part_of, Skips}
 use Rattle.fb_shots_json.specs.TextJson.{is_blank, records_json, prefix_json, after_record}
 
 -- Lines that are skipped came, and then a prefix of one line.

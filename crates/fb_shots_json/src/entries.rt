@@ -6,7 +6,7 @@ ghost use Rattle.fb_graph.specs.Limits.{IsShot};
 ghost use Rattle.serde_json.specs.View.{view, items_view};
 ghost use Rattle.fb_shots_json.specs.TextJson.{naturals_of, defects_from, rising};
 ghost use Rattle.fb_shots_json.specs.InternalEntries.{vertex_fault, real_prefix, first_fault};
-ghost use Rattle.fb_records.specs.InternalSteps.{IfRefused};
+ghost use Rattle.fb_records.specs.Steps.{IfRefused};
 
 use crate::answer::Kind;
 use fb_graph::Graph;

@@ -4,7 +4,7 @@ ghost use Rattle.std.specs.Prelude.{◌≡◌, IfOk, IfErr, Ok, Err, Some, optio
 ghost use Rattle.fb_graph.specs.Limits.{IsShot};
 ghost use Rattle.serde_json.specs.View.{view};
 ghost use Rattle.fb_shots_json.specs.TextJson.{is_plain, is_too_long, says_nothing, shot_in, shot_of_line};
-ghost use Rattle.fb_records.specs.InternalSteps.{IfRefused};
+ghost use Rattle.fb_records.specs.Steps.{IfRefused};
 
 use crate::answer::Kind;
 use crate::entries::{defects, naturals};

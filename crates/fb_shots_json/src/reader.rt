@@ -2,7 +2,7 @@
 
 ghost use Rattle.std.specs.Prelude.{◌≡◌, ℕ, ◌+◌, ◌-◌, ◌<◌, ◌≤◌, ◌++◌, ◌&&◌, [], Bool, true, false, length, take, drop, slice_index, IfOk, IfErr, IfSome, IfNone, OnOk, OnErr};
 ghost use Rattle.fb_records.specs.Lines.{holds};
-ghost use Rattle.fb_records.specs.InternalSteps.{part_of, IfRefused};
+ghost use Rattle.fb_records.specs.Steps.{part_of, IfRefused};
 ghost use Rattle.fb_records.specs.Answers.{answer_of, reading, Answers, IfShot};
 ghost use Rattle.fb_records.specs.declared.answer.Next.TheVariants as next;
 ghost use Rattle.fb_shots_json.specs.TextJson.{is_blank, records_json, prefix_json, after_record};

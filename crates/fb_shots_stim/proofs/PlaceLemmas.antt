@@ -6,7 +6,7 @@ use Rattle.fb_shots_stim.specs.declared.answer.Kind.{Kind}
 use Rattle.fb_records.specs.declared.answer.Stop.{Stop}
 use Rattle.fb_records.specs.declared.answer.Next.TheVariants.{Shot, NotYet, End, Refused}
 use Rattle.fb_records.specs.Lines.{holds, if_not_empty, without_return}
-use Rattle.fb_records.specs.InternalSteps.{part_of, IfRefused}
+use Rattle.fb_records.specs.Steps.{part_of, IfRefused}
 use Rattle.fb_shots_stim.specs.TextDets.{with_words, shot_of, rising}
 use Rattle.fb_shots_stim.specs.InternalWordsDets.{RecordSoFar, IsAt, IsPlace}
 use Rattle.fb_shots_stim.specs.InternalAnswers.{AnswersDets}

@@ -2,7 +2,7 @@
 use Rattle.std.specs.Prelude.{ℕ, Bool, List, drop}
 use Rattle.fb_records.specs.declared.answer.Next.{Next}
 use Rattle.fb_records.specs.Lines.{after_line}
-use Rattle.fb_records.specs.InternalSteps.{AnswersRest}
+use Rattle.fb_records.specs.Steps.{AnswersRest}
 use Rattle.fb_shots_stim.specs.declared.answer.Kind.{Kind}
 use Rattle.fb_shots_stim.specs.Text01.{records_01, prefix_01}
 use Rattle.fb_shots_stim.specs.BlocksB8.{block_len, records_b8, prefix_b8}

@@ -2,7 +2,7 @@
 use Rattle.std.specs.Prelude.{◌≡◌, ℕ, ◌<◌, ◌≤◌, nat_eq, ◌==◌, ◌||◌, Bool, false, List, [], length, take, if◌then◌else◌, slice_index_or, Option, None, Ok, All}
 use Rattle.std.specs.List.{list_any, sum_by}
 use Rattle.fb_records.specs.Lines.{holds, last_part}
-use Rattle.fb_records.specs.InternalSteps.{part_of, Skips}
+use Rattle.fb_records.specs.Steps.{part_of, Skips}
 use Rattle.fb_shots_stim.specs.TextDets.{ended_words, with_words, records_dets, prefix_dets, after_record}
 
 -- a record so far: nothing, or the detectors that it names

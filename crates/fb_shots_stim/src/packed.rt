@@ -2,7 +2,7 @@
 
 ghost use Rattle.std.specs.Prelude.{◌≡◌, ℕ, ◌+◌, ◌*◌, ◌^◌, ◌<◌, ◌≤◌, ◌++◌, [], length, drop, IfOk, IfErr, OnOk};
 ghost use Rattle.std.specs.List.{list_any};
-ghost use Rattle.fb_records.specs.InternalSteps.{IfFound, IfRefused, answer_at, used_of};
+ghost use Rattle.fb_records.specs.Steps.{IfFound, IfRefused, answer_at, used_of};
 ghost use Rattle.fb_records.specs.declared.answer.Next.TheVariants as next;
 ghost use Rattle.fb_shots_stim.specs.Shots.{IsShotOf, places_from};
 ghost use Rattle.fb_shots_stim.specs.BlocksB8.{block_len, low_bits, bits_of, is_set, records_b8, prefix_b8};

@@ -2,7 +2,7 @@
 
 ghost use Rattle.std.specs.Prelude.{◌≡◌, ℕ, ◌+◌, ◌-◌, ◌<◌, ◌≤◌, [], Bool, true, false, ◌==◌, length, take, drop, slice_index, Ok, Err, Some, None, IfOk, IfErr, IfSome, IfNone, OnOk, OnErr};
 ghost use Rattle.fb_records.specs.Lines.{holds, if_not_empty, without_return};
-ghost use Rattle.fb_records.specs.InternalSteps.{part_of, IfRefused};
+ghost use Rattle.fb_records.specs.Steps.{part_of, IfRefused};
 ghost use Rattle.fb_records.specs.declared.answer.Next.TheVariants as next;
 ghost use Rattle.fb_shots_stim.specs.TextDets.{shot_of, with_words};
 ghost use Rattle.fb_shots_stim.specs.InternalWordsDets.{IsPlace, is_word_end};

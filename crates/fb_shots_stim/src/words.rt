@@ -3,7 +3,7 @@
 ghost use Rattle.std.specs.Prelude.{◌≡◌, ◌≢◌, ℕ, ◌+◌, ◌*◌, ◌^◌, ◌<◌, ◌≤◌, ◌∷◌, ◌++◌, [], List, min, nat_eq, Bool, true, false, length, slice_index_or, option_map, IfErr, OnOk, OnErr, Ok, Err, Some, None, All};
 ghost use Rattle.std.specs.List.{list_any};
 ghost use Rattle.fb_records.specs.Lines.{if_not_empty};
-ghost use Rattle.fb_records.specs.InternalSteps.{IfRefused};
+ghost use Rattle.fb_records.specs.Steps.{IfRefused};
 ghost use Rattle.fb_shots_stim.specs.TextDets.{index_of, with_detector, with_words, rising};
 ghost use Rattle.fb_shots_stim.specs.InternalWordsDets.{IsMarked};
 

@@ -1,6 +1,6 @@
 use Rattle.std.proofs.Common.{◌≡◌, ◌≢◌, ℕ, ◌+◌, ◌<◌, Bool, true, false, length, drop, Err, sym, subst, ◌∙◌, arith, rules}
 use Rattle.fb_records.specs.declared.answer.Next.TheVariants as next
-use Rattle.fb_records.specs.InternalSteps.{part_of}
+use Rattle.fb_records.specs.Steps.{part_of}
 use Rattle.fb_shots_json.specs.TextJson.{shot_of_line}
 use Rattle.fb_shots_json.specs.InternalPlaces.{IsPlace}
 use Rattle.fb_shots_json.specs.InternalStops.{AnswersTo}

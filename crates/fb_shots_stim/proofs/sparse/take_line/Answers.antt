@@ -2,7 +2,7 @@ use Rattle.std.proofs.Common.{◌≡◌, Bool, None, Ok, Err, rules}
 use Rattle.fb_records.specs.declared.answer.Next.TheVariants as next
 use Rattle.fb_records.specs.Lines.{if_not_empty, without_return}
 use Rattle.fb_shots_stim.specs.TextDets.{with_words}
-use Rattle.fb_records.specs.InternalSteps.{part_of}
+use Rattle.fb_records.specs.Steps.{part_of}
 use Rattle.fb_shots_stim.specs.InternalAnswers.{AnswersDets}
 use Rattle.fb_records.proofs.AnswerLemmas.{refused_by}
 use Rattle.fb_shots_stim.proofs.PlaceLemmas.{place_newline, place_newline_shot, place_newline_refused}

@@ -2,7 +2,7 @@ use Rattle.std.proofs.Common.{◌≡◌, Bool, Ok, Err, rules}
 use Rattle.fb_records.specs.declared.answer.Next.TheVariants as next
 use Rattle.fb_records.specs.Lines.{if_not_empty}
 use Rattle.fb_shots_stim.specs.TextDets.{with_words}
-use Rattle.fb_records.specs.InternalSteps.{part_of}
+use Rattle.fb_records.specs.Steps.{part_of}
 use Rattle.fb_shots_stim.specs.InternalAnswers.{AnswersDets}
 use Rattle.fb_records.proofs.AnswerLemmas.{refused_by}
 use Rattle.fb_shots_stim.proofs.PlaceLemmas.{place_space, place_space_refused}

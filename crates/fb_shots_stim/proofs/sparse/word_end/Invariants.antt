@@ -1,6 +1,6 @@
 use Rattle.std.proofs.Common.{◌≡◌, ◌≤◌, ◌-◌, false, length}
 use Rattle.fb_records.specs.Lines.{holds}
-use Rattle.fb_records.specs.InternalSteps.{part_of}
+use Rattle.fb_records.specs.Steps.{part_of}
 use Rattle.fb_shots_stim.proofs.sparse.word_end.Given as goal
 
 abbrev pub invariant-loop-i : goal.invariant-loop-i

@@ -1,7 +1,7 @@
 use Rattle.std.proofs.Common.{◌+◌, ℕ, Bool, drop, subst, ◌∙◌, arith, rules}
 use Rattle.std.specs.Prelude.{IfErr}
 use Rattle.fb_records.specs.declared.answer.Next.TheVariants as next
-use Rattle.fb_records.specs.InternalSteps.{IfRefused}
+use Rattle.fb_records.specs.Steps.{IfRefused}
 use Rattle.fb_shots_stim.specs.Shots.{IsShotOf}
 use Rattle.fb_shots_stim.specs.TextDets.{records_dets, prefix_dets}
 use Rattle.fb_shots_stim.specs.InternalAnswers.{AnswersDets}
