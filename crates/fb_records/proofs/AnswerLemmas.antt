@@ -14,24 +14,24 @@ use Rattle.fb_records.proofs.RecordLemmas.{Judge, Begun, records_one, prefix_one
 
 -- ---- what is skipped first
 
-pub skips_nothing : {K : Type 0} (records prefix : List ℕ → Records K) (after : List ℕ → List ℕ) → Skips records prefix after []
+pub skips_nothing : {A K : Type 0} (records prefix : List ℕ → Records A K) (after : List ℕ → List ℕ) → Skips records prefix after []
 skips_nothing records prefix after = record { whole = λ more. refl; so_far = λ more. refl; left = λ more. refl }
 
 skipped_line : (skipped line more : List ℕ) → (skipped ++ line ++ 10 ∷ []) ++ more ≡ skipped ++ (line ++ 10 ∷ more)
 skipped_line skipped line more = append_assoc (skipped ++ line) (10 ∷ []) more ∙ append_assoc skipped line (10 ∷ more)
 
 -- a newline after a line that is skipped
-pub skips_line : {K : Type 0} (judge : Judge K) (begun : Begun K) (after : List ℕ → List ℕ) (skipped line : List ℕ) → Skips (records_by_lines judge) (prefix_by_lines judge begun) after skipped → holds 10 line ≡ false
+pub skips_line : {A K : Type 0} (judge : Judge A K) (begun : Begun K) (after : List ℕ → List ℕ) (skipped line : List ℕ) → Skips (records_by_lines judge) (prefix_by_lines judge begun) after skipped → holds 10 line ≡ false
     → judge line ≡ Ok None → ((more : List ℕ) → after (line ++ 10 ∷ more) ≡ after more) → Skips (records_by_lines judge) (prefix_by_lines judge begun) after (skipped ++ line ++ 10 ∷ [])
-skips_line {K} judge begun after skipped line skips h given blank = record {
+skips_line {A} {K} judge begun after skipped line skips h given blank = record {
   whole = λ more. ap (records_by_lines judge) (skipped_line skipped line more) ∙ skips.whole (line ++ 10 ∷ more) ∙ records_one judge line more h
-      ∙ ap (λ (r : Judged K). with_line r (records_by_lines judge more)) given;
+      ∙ ap (λ (r : Judged A K). with_line r (records_by_lines judge more)) given;
   so_far = λ more. ap (prefix_by_lines judge begun) (skipped_line skipped line more) ∙ skips.so_far (line ++ 10 ∷ more) ∙ prefix_one judge begun line more h
-      ∙ ap (λ (r : Judged K). with_line r (prefix_by_lines judge begun more)) given;
+      ∙ ap (λ (r : Judged A K). with_line r (prefix_by_lines judge begun more)) given;
   left = λ more. ap after (skipped_line skipped line more) ∙ skips.left (line ++ 10 ∷ more) ∙ blank more;
 }
 
-pub skip_gives : {K C : Type 0} (records prefix : List ℕ → Records K) (after : List ℕ → List ℕ) (skipped rest : List ℕ) (old new : Reader C) (shot : List ℕ) → Skips records prefix after skipped → old.rest ≡ skipped ++ rest
+pub skip_gives : {A K C : Type 0} (records prefix : List ℕ → Records A K) (after : List ℕ → List ℕ) (skipped rest : List ℕ) (old new : Reader C) (shot : A) → Skips records prefix after skipped → old.rest ≡ skipped ++ rest
     → Gives records prefix (record old { rest = rest }) new shot → Gives records prefix old new shot
 skip_gives records prefix after skipped rest old new shot skips cut given = record {
   shorter = (let less = given.shorter in omega (arith, ap length cut, length-append skipped rest));
@@ -41,7 +41,7 @@ skip_gives records prefix after skipped rest old new shot skips cut given = reco
   onward = λ open_ more. ap (λ (l : List ℕ). prefix (l ++ more)) cut ∙ ap prefix (append_assoc skipped rest more) ∙ skips.so_far (rest ++ more) ∙ given.onward open_ more;
 }
 
-pub skip_refuses : {K C : Type 0} (records prefix : List ℕ → Records K) (after : List ℕ → List ℕ) (skipped rest : List ℕ) (old : Reader C) (kind : K) → Skips records prefix after skipped → old.rest ≡ skipped ++ rest
+pub skip_refuses : {A K C : Type 0} (records prefix : List ℕ → Records A K) (after : List ℕ → List ℕ) (skipped rest : List ℕ) (old : Reader C) (kind : K) → Skips records prefix after skipped → old.rest ≡ skipped ++ rest
     → Refuses records prefix (record old { rest = rest }) kind → Refuses records prefix old kind
 skip_refuses records prefix after skipped rest old kind skips cut given = record {
   now = ap records cut ∙ skips.whole rest ∙ given.now;
@@ -55,16 +55,16 @@ false_true : (b : Bool) → b ≡ true → b ≡ false → ⊥
 false_true b t f = cc
 
 -- what may go on and is refused already is refused of all
-pub refuses_prefix : {K C : Type 0} (judge : Judge K) (begun : Begun K) → Stays judge begun → (r : Reader C) (kind : K) → prefix_by_lines judge begun r.rest ≡ only (refused kind) → Refuses (records_by_lines judge) (prefix_by_lines judge begun) r kind
-refuses_prefix {K} judge begun stays r kind e =
-    let go = λ (more : List ℕ). (records_go_on judge begun stays r.rest more).judged kind (ap (λ (x : Records K). x.ending) e) ∙ e in
+pub refuses_prefix : {A K C : Type 0} (judge : Judge A K) (begun : Begun K) → Stays judge begun → (r : Reader C) (kind : K) → prefix_by_lines judge begun r.rest ≡ only (refused kind) → Refuses (records_by_lines judge) (prefix_by_lines judge begun) r kind
+refuses_prefix {A} {K} judge begun stays r kind e =
+    let go = λ (more : List ℕ). (records_go_on judge begun stays r.rest more).judged kind (ap (λ (x : Records A K). x.ending) e) ∙ e in
     record {
       now = ap (records_by_lines judge) (sym (append-nil r.rest)) ∙ go [];
       so_far = λ _. e;
       later = λ _ more. go more;
     }
 
-pub refuses_last : {K C : Type 0} (judge : Judge K) (begun : Begun K) (r : Reader C) (kind : K) → r.finished ≡ true → records_by_lines judge r.rest ≡ only (refused kind) → Refuses (records_by_lines judge) (prefix_by_lines judge begun) r kind
+pub refuses_last : {A K C : Type 0} (judge : Judge A K) (begun : Begun K) (r : Reader C) (kind : K) → r.finished ≡ true → records_by_lines judge r.rest ≡ only (refused kind) → Refuses (records_by_lines judge) (prefix_by_lines judge begun) r kind
 refuses_last judge begun r kind done e = record {
   now = e;
   so_far = λ f. absurd (false_true r.finished done f);
@@ -72,9 +72,9 @@ refuses_last judge begun r kind done e = record {
 }
 
 -- a line that has its newline and is a shot
-pub gives_line : {K C : Type 0} (judge : Judge K) (begun : Begun K) (old new : Reader C) (line shot : List ℕ) → old.rest ≡ line ++ 10 ∷ new.rest → holds 10 line ≡ false → judge line ≡ Ok (Some shot) → Gives (records_by_lines judge) (prefix_by_lines judge begun) old new shot
-gives_line {K} judge begun old new line shot cut h j =
-    let is_shot = λ (r : Records K). ap (λ (given : Judged K). with_line given r) j in
+pub gives_line : {A K C : Type 0} (judge : Judge A K) (begun : Begun K) (old new : Reader C) (line : List ℕ) (shot : A) → old.rest ≡ line ++ 10 ∷ new.rest → holds 10 line ≡ false → judge line ≡ Ok (Some shot) → Gives (records_by_lines judge) (prefix_by_lines judge begun) old new shot
+gives_line {A} {K} judge begun old new line shot cut h j =
+    let is_shot = λ (r : Records A K). ap (λ (given : Judged A K). with_line given r) j in
     record {
       shorter = omega (arith, ap length cut, length-append line (10 ∷ new.rest));
       now = ap (records_by_lines judge) cut ∙ records_one judge line new.rest h ∙ is_shot (records_by_lines judge new.rest);
@@ -88,11 +88,11 @@ gives_line {K} judge begun old new line shot cut h j =
     }
 
 -- the last line of a whole input, which is a shot
-pub gives_last : {K C : Type 0} (judge : Judge K) (begun : Begun K) (old new : Reader C) (b : ℕ) (line shot : List ℕ) → old.finished ≡ true → old.rest ≡ b ∷ line → new.rest ≡ [] → holds 10 (b ∷ line) ≡ false → judge (b ∷ line) ≡ Ok (Some shot) → Gives (records_by_lines judge) (prefix_by_lines judge begun) old new shot
-gives_last {K} judge begun old new b line shot done old-is new-is h j = record {
+pub gives_last : {A K C : Type 0} (judge : Judge A K) (begun : Begun K) (old new : Reader C) (b : ℕ) (line : List ℕ) (shot : A) → old.finished ≡ true → old.rest ≡ b ∷ line → new.rest ≡ [] → holds 10 (b ∷ line) ≡ false → judge (b ∷ line) ≡ Ok (Some shot) → Gives (records_by_lines judge) (prefix_by_lines judge begun) old new shot
+gives_last {A} {K} judge begun old new b line shot done old-is new-is h j = record {
   shorter = omega (arith, ap length old-is, ap length new-is);
   now = ap (records_by_lines judge) old-is ∙ records_none judge b line h
-      ∙ ap (λ (given : Judged K). with_line given (only at_end)) j
+      ∙ ap (λ (given : Judged A K). with_line given (only at_end)) j
       ∙ ap (λ (l : List ℕ). with_first_shot shot (records_by_lines judge l)) (sym new-is);
   so_far = λ f. absurd (false_true old.finished done f);
   later = λ f. absurd (false_true old.finished done f);
@@ -100,9 +100,9 @@ gives_last {K} judge begun old new b line shot done old-is new-is h j = record {
 }
 
 -- a whole input of one line, where no line at all is judged as an empty one
-pub records_end : {K : Type 0} (judge : Judge K) (line : List ℕ) (given : Judged K) → judge [] ≡ Ok None → holds 10 line ≡ false → judge line ≡ given → records_by_lines judge line ≡ with_line given (only at_end)
-records_end {K} judge [] given none h e = ap (λ (r : Judged K). with_line r (only at_end)) (sym none ∙ e)
-records_end {K} judge (b ∷ line) given none h e = records_none judge b line h ∙ ap (λ (r : Judged K). with_line r (only at_end)) e
+pub records_end : {A K : Type 0} (judge : Judge A K) (line : List ℕ) (given : Judged A K) → judge [] ≡ Ok None → holds 10 line ≡ false → judge line ≡ given → records_by_lines judge line ≡ with_line given (only at_end)
+records_end {A} {K} judge [] given none h e = ap (λ (r : Judged A K). with_line r (only at_end)) (sym none ∙ e)
+records_end {A} {K} judge (b ∷ line) given none h e = records_none judge b line h ∙ ap (λ (r : Judged A K). with_line r (only at_end)) e
 
 -- ---- what stands after a line
 

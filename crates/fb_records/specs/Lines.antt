@@ -57,15 +57,15 @@ abbrev pub after_first : (List ℕ → Bool) → List ℕ → List ℕ
 after_first is_blank bytes = after_lines (suc (prefix_len is_blank (lines_of bytes))) bytes
 
 -- What a whole input holds whose lines are judged by `judge`.
-abbrev pub records_by_lines : {K : Type 0} → (List ℕ → Judged K) → List ℕ → Records K
+abbrev pub records_by_lines : {A K : Type 0} → (List ℕ → Judged A K) → List ℕ → Records A K
 records_by_lines judge bytes = go_down judge (lines_of bytes) at_end
 
 -- What is settled by a prefix of an input: its whole lines are judged by `judge`, and the line that may go on by `begun`.
-abbrev pub prefix_by_lines : {K : Type 0} → (List ℕ → Judged K) → (List ℕ → Ending K) → List ℕ → Records K
+abbrev pub prefix_by_lines : {A K : Type 0} → (List ℕ → Judged A K) → (List ℕ → Ending K) → List ℕ → Records A K
 prefix_by_lines judge begun bytes = go_down judge (whole_parts 10 bytes) (begun (last_part 10 bytes))
 
 -- What is refused of a line that may go on is refused of that line, however it goes on.
-pub record Stays {K : Type 0} (judge : List ℕ → Judged K) (begun : List ℕ → Ending K) : Type 0 where
+pub record Stays {A K : Type 0} (judge : List ℕ → Judged A K) (begun : List ℕ → Ending K) : Type 0 where
   pub nothing : begun [] ≡ still_open
   pub line : (part more : List ℕ) (kind : K) → begun part ≡ refused kind → judge (part ++ more) ≡ Err kind
   pub part : (part more : List ℕ) (kind : K) → begun part ≡ refused kind → begun (part ++ more) ≡ refused kind

@@ -1,16 +1,16 @@
 //! What a reader returns, what a step of it finds, and why it gives nothing.
 
-use crate::numbers::Numbers;
 use std::alloc::AllocFailed;
 
 /// There was not enough memory.
 pub use std::alloc::AllocError as NoMemory;
 
-/// The result of asking a reader for its next shot. `K` says why a record is refused.
+/// The result of asking a reader for its next shot. `S` is a shot as the format gives it, and `K` says why a record is
+/// refused.
 #[derive(Debug, Drop)]
-pub enum Next<K> {
-    /// A shot: its detectors, or the vertices that are its defects.
-    Shot(Numbers),
+pub enum Next<S, K> {
+    /// A shot.
+    Shot(S),
     /// The bytes fed hold no further whole record, and more may be fed.
     NotYet,
     /// The input is finished, and no record is left.
@@ -19,11 +19,11 @@ pub enum Next<K> {
     Refused(K),
 }
 
-/// What a step of a reader finds at the start of some bytes.
+/// What a step of a reader finds at the start of some bytes. `S` is a shot as the format gives it.
 #[derive(Drop)]
-pub enum Found {
+pub enum Found<S> {
     /// A shot, and how many bytes it uses.
-    Shot(Numbers, usize),
+    Shot(S, usize),
     /// No whole record, and more bytes may come.
     NotYet,
     /// No record, and no more bytes come.

@@ -16,22 +16,25 @@ pub trait RecordFormat: Drop {
     /// What a reader keeps of a record begun.
     type Begun: Drop;
 
+    /// A shot as the format gives it.
+    type Shot: Drop;
+
     /// Why a record is refused.
     type Kind;
 
     ghost subject_of: { Self.Subject → Self };
 
     /// What a whole input holds.
-    ghost records: { Self → List ℕ → Records Self.Kind };
+    ghost records: { Self → List ℕ → Records Self.Shot Self.Kind };
 
     /// What is settled by a prefix of an input.
-    ghost prefix: { Self → List ℕ → Records Self.Kind };
+    ghost prefix: { Self → List ℕ → Records Self.Shot Self.Kind };
 
     /// What is left of an input without its first record.
     ghost after: { Self → List ℕ → List ℕ };
 
     /// What every shot keeps.
-    ghost IsShot: { Self → List ℕ → Type 0 };
+    ghost IsShot: { Self → Self.Shot → Type 0 };
 
     /// What is known of some bytes when this is kept of them.
     ghost IsBegun: { Self → Self.Begun → List ℕ → Type 0 };
@@ -49,7 +52,7 @@ pub trait RecordFormat: Drop {
         begun: &mut Self::Begun,
         rest: &[u8],
         finished: bool,
-    ) -> Result<Found, Stop<Self::Kind>>
+    ) -> Result<Found<Self::Shot>, Stop<Self::Kind>>
         requires { IsBegun self.now begun.old rest.now }
         ensures ok { IfOk result (λ found. AnswersRest records prefix after self.now rest.now finished
             (drop (used_of found) rest.now) (answer_at found)) }

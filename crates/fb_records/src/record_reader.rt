@@ -65,7 +65,7 @@ impl<F: RecordFormat> RecordReader<F> {
 
     /// Reads the first record of the bytes that no result has used. A shot uses up its record and what the format skips
     /// before it, and nothing else uses any byte.
-    pub fn next(&mut self) -> Result<Next<F::Kind>, NoMemory>
+    pub fn next(&mut self) -> Result<Next<F::Shot, F::Kind>, NoMemory>
         ensures answer { IfOk result (λ a. a ≡ answer_of (reading F.records F.prefix self.old)) }
         ensures meaning { IfOk result (Answers F.records F.prefix (F.after self.old.subject) self.old self.new) }
         ensures subject { self.new.subject ≡ self.old.subject }

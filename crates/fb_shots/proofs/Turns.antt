@@ -8,13 +8,12 @@ use Rattle.fb_shots.specs.declared.answer.Kind.{Kind}
 use Rattle.fb_shots.specs.declared.answer.Kind.TheVariants.{TooManyShots, InputTooLong}
 use Rattle.fb_shots.specs.declared.answer.Step.{Step}
 use Rattle.fb_shots.specs.declared.answer.Step.TheVariants as step
-use Rattle.fb_shots.specs.declared.reader.Next.{Next}
-use Rattle.fb_shots.specs.declared.reader.Next.TheVariants as next
+use Rattle.fb_records.specs.declared.answer.Next.TheVariants as next
 use Rattle.fb_shots.specs.declared.stream.Read.TheVariants as read
 use Rattle.fb_shots.specs.Shots.{Shots, only, with_first_shot, at_end, still_open, refused, capped_shots}
 use Rattle.fb_shots.specs.Formats.{records_of, prefix_of}
 use Rattle.fb_shots.specs.InternalSources.{Source, stream_by}
-use Rattle.fb_shots.specs.InternalAnswers.{Gives}
+use Rattle.fb_shots.specs.InternalAnswers.{Gives, NextShot}
 use Rattle.fb_shots.specs.InternalAnswers as reader
 use Rattle.fb_shots.specs.Streams.{most_bytes, Stream, stream_of, follows}
 use Rattle.fb_shots.specs.Steps.{OnlyTakes, GivesShot, Ends, IsReason, Refuses, FailsToRead, Answers}
@@ -268,22 +267,22 @@ new_gives a b piece l bytes same none still empty =
 -- ---- a turn, as the code has its parts at hand
 
 -- The stream `now` has fed its piece p to its reader a, which is b then, and the reader, t after that, has answered.
-pub record Asked (now : Stream) (a b t : Source) (p q : List ℕ) (u k l : ℕ) (stopped : Option Kind) (answer : Next) : Type 0 where
+pub record Asked (now : Stream) (a b t : Source) (p q : List ℕ) (u k l : ℕ) (stopped : Option Kind) (answer : NextShot) : Type 0 where
   pub view : stream_by a p u k l stopped ≡ now
   pub runs : stopped ≡ None
   pub feeds : (b ≡ record a { rest = a.rest ++ p }) × (q ≡ [])
   pub answers : reader.Answers b t answer
 
-was : (now : Stream) (a b t : Source) (p q : List ℕ) (u k l : ℕ) (stopped : Option Kind) (answer : Next)
+was : (now : Stream) (a b t : Source) (p q : List ℕ) (u k l : ℕ) (stopped : Option Kind) (answer : NextShot)
     → Asked now a b t p q u k l stopped answer → fed b u k l None ≡ now
 was now a b t p q u k l stopped answer h =
     sym (when_fed a b p u k l None h.feeds.0) ∙ ap (λ (o : Option Kind). stream_by a p u k l o) (sym h.runs) ∙ h.view
 
-answered : (now : Stream) (a b t : Source) (p q : List ℕ) (u k l : ℕ) (stopped : Option Kind) (answer given : Next)
+answered : (now : Stream) (a b t : Source) (p q : List ℕ) (u k l : ℕ) (stopped : Option Kind) (answer given : NextShot)
     → Asked now a b t p q u k l stopped answer → answer ≡ given → reader.Answers b t given
-answered now a b t p q u k l stopped answer given h e = subst (λ (n : Next). reader.Answers b t n) e h.answers
+answered now a b t p q u k l stopped answer given h e = subst (λ (n : NextShot). reader.Answers b t n) e h.answers
 
-pub shot_turn : (now : Stream) (a b t : Source) (p q : List ℕ) (u k l : ℕ) (stopped : Option Kind) (answer : Next) (shot : ShotValue) (left : Left)
+pub shot_turn : (now : Stream) (a b t : Source) (p q : List ℕ) (u k l : ℕ) (stopped : Option Kind) (answer : NextShot) (shot : ShotValue) (left : Left)
     → Asked now a b t p q u k l stopped answer → answer ≡ next.Shot shot → k < l
     → GivesShot now (stream_by t q u (k + 1) l stopped) left left shot
 shot_turn now a b t p q u k l stopped answer shot left h e less =
@@ -292,7 +291,7 @@ shot_turn now a b t p q u k l stopped answer shot left h e less =
     subst₂ (λ (x y : Stream). GivesShot x y left left shot) (was now a b t p q u k l stopped answer h) is
     (turn_gives b t shot u k l left (answered now a b t p q u k l stopped answer (next.Shot shot) h e) less)
 
-pub end_turn : (now : Stream) (a b t : Source) (p q : List ℕ) (u k l : ℕ) (stopped : Option Kind) (answer : Next) (left : Left)
+pub end_turn : (now : Stream) (a b t : Source) (p q : List ℕ) (u k l : ℕ) (stopped : Option Kind) (answer : NextShot) (left : Left)
     → Asked now a b t p q u k l stopped answer → answer ≡ next.End → Ends now (stream_by t q u k l stopped) left left
 end_turn now a b t p q u k l stopped answer left h e =
     let is : fed t u k l None ≡ stream_by t q u k l stopped =
@@ -309,7 +308,7 @@ refused_as now old new t q v k l why before after s old-is empty new-is s-is h =
     subst (λ (x : Step). Answers now new before after x) (sym s-is)
     (subst₂ (λ (x y : Stream). Refuses x y before (record { shot = k; kind = why })) old-is is h)
 
-pub too_many_turn : (now new : Stream) (a b t : Source) (p q : List ℕ) (u k l : ℕ) (stopped : Option Kind) (answer : Next) (shot : ShotValue) (left : Left) (s : Step)
+pub too_many_turn : (now new : Stream) (a b t : Source) (p q : List ℕ) (u k l : ℕ) (stopped : Option Kind) (answer : NextShot) (shot : ShotValue) (left : Left) (s : Step)
     → Asked now a b t p q u k l stopped answer → answer ≡ next.Shot shot → l ≤ k
     → new ≡ stream_by t q u k l (Some TooManyShots) → s ≡ step.Refused (record { shot = k; kind = TooManyShots })
     → Answers now new left left s
@@ -317,7 +316,7 @@ too_many_turn now new a b t p q u k l stopped answer shot left s h e full new-is
     refused_as now (fed b u k l None) new t q u k l TooManyShots left left s (was now a b t p q u k l stopped answer h) h.feeds.1 new-is s-is
     (turn_too_many b t shot u k l left (answered now a b t p q u k l stopped answer (next.Shot shot) h e) full)
 
-pub refused_turn : (now new : Stream) (a b t : Source) (p q : List ℕ) (u k l : ℕ) (stopped : Option Kind) (answer : Next) (why : Kind) (left : Left) (s : Step)
+pub refused_turn : (now new : Stream) (a b t : Source) (p q : List ℕ) (u k l : ℕ) (stopped : Option Kind) (answer : NextShot) (why : Kind) (left : Left) (s : Step)
     → Asked now a b t p q u k l stopped answer → answer ≡ next.Refused why
     → new ≡ stream_by t q u k l (Some why) → s ≡ step.Refused (record { shot = k; kind = why })
     → Answers now new left left s
@@ -325,7 +324,7 @@ refused_turn now new a b t p q u k l stopped answer why left s h e new-is s-is =
     refused_as now (fed b u k l None) new t q u k l why left left s (was now a b t p q u k l stopped answer h) h.feeds.1 new-is s-is
     (turn_refuses b t why u k l left (answered now a b t p q u k l stopped answer (next.Refused why) h e))
 
-pub too_long_turn : (now new : Stream) (a b t c : Source) (p q r : List ℕ) (u v k l : ℕ) (stopped : Option Kind) (answer : Next) (before after : Left) (s : Step)
+pub too_long_turn : (now new : Stream) (a b t c : Source) (p q r : List ℕ) (u v k l : ℕ) (stopped : Option Kind) (answer : NextShot) (before after : Left) (s : Step)
     → Asked now a b t p q u k l stopped answer → answer ≡ next.NotYet → ReadsOn t c r u v before after read.TooLong
     → new ≡ stream_by c r v k l (Some InputTooLong) → s ≡ step.Refused (record { shot = k; kind = InputTooLong })
     → Answers now new before after s
@@ -339,7 +338,7 @@ reads_less : (a c : Source) (piece : List ℕ) (u v k l : ℕ) (stopped : Option
 reads_less a c piece u v k l stopped still less =
     omega (arith, cond-false {A = ℕ} a.finished 0 1 still, less)
 
-pub piece_turn : (now : Stream) (a b t c : Source) (p q r : List ℕ) (u v k l : ℕ) (stopped : Option Kind) (answer : Next) (before after : Left)
+pub piece_turn : (now : Stream) (a b t c : Source) (p q r : List ℕ) (u v k l : ℕ) (stopped : Option Kind) (answer : NextShot) (before after : Left)
     → Asked now a b t p q u k l stopped answer → answer ≡ next.NotYet → ReadsOn t c r u v before after read.Piece
     → OnlyTakes now (stream_by c r v k l stopped) before after × (may_read (stream_by c r v k l stopped) < may_read now)
 piece_turn now a b t c p q r u v k l stopped answer before after h e reads =
@@ -354,7 +353,7 @@ piece_turn now a b t c p q r u v k l stopped answer before after h e reads =
           (reads_less b c r u v k l stopped asked.0 (omega (arith, cond-false {A = ℕ} c.finished 0 1 still))),
     )
 
-pub fault_turn : (now : Stream) (a b t c : Source) (p q r : List ℕ) (u v k l : ℕ) (stopped : Option Kind) (answer : Next) (before after : Left)
+pub fault_turn : (now : Stream) (a b t c : Source) (p q r : List ℕ) (u v k l : ℕ) (stopped : Option Kind) (answer : NextShot) (before after : Left)
     → Asked now a b t p q u k l stopped answer → answer ≡ next.NotYet → ReadsOn t c r u v before after read.Fault
     → FailsToRead now (stream_by c r v k l stopped) before after
 fault_turn now a b t c p q r u v k l stopped answer before after h e reads =

@@ -1,7 +1,7 @@
 -- What bytes hold in each format, as shots of a graph's vertices.
 use Rattle.std.specs.Prelude.{ℕ, List, ◌++◌, length, map, slice_index}
 use Rattle.fb_graph.specs.Limits.{DecodingGraph, ShotValue, detectors_of}
-use Rattle.fb_records.specs.Records.{Records, ending_as}
+use Rattle.fb_records.specs.Records.{Records, records_as}
 use Rattle.fb_shots_stim.specs.declared.answer.Kind.{Kind as StimKind}
 use Rattle.fb_shots_stim.specs.Text01.{records_01, prefix_01}
 use Rattle.fb_shots_stim.specs.BlocksB8.{records_b8, prefix_b8}
@@ -26,12 +26,12 @@ abbrev pub shot_of_vertices : List ℕ → ShotValue
 shot_of_vertices vertices = record { defects = vertices }
 
 -- records of detectors, as shots
-abbrev pub of_stim : DecodingGraph → Records StimKind → Shots
-of_stim g r = record { shots = map (shot_of_detectors g) r.shots; ending = ending_as kind.Stim r.ending }
+abbrev pub of_stim : DecodingGraph → Records (List ℕ) StimKind → Shots
+of_stim g = records_as (shot_of_detectors g) kind.Stim
 
 -- records of vertices, as shots
-abbrev pub of_json : Records JsonKind → Shots
-of_json r = record { shots = map shot_of_vertices r.shots; ending = ending_as kind.Json r.ending }
+abbrev pub of_json : Records (List ℕ) JsonKind → Shots
+of_json = records_as shot_of_vertices kind.Json
 
 -- what a whole input holds
 abbrev pub records_of : Format → DecodingGraph → List ℕ → Shots

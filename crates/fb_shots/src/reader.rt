@@ -11,23 +11,11 @@ ghost use Rattle.fb_shots.specs.InternalReaders.{source_of, IsReaderOf};
 use crate::answer::{Format, Kind, NoMemory};
 use crate::mapping::shot_of_detectors;
 use fb_graph::{Graph, Shot};
+use fb_records::{Next, Numbers};
 use fb_shots_json::RecordsJson;
 use fb_shots_stim::{Records01, RecordsB8, RecordsDets};
 use std::alloc::Global;
 use std::marker::Model;
-
-/// The result of asking a reader for its next shot.
-#[derive(Drop)]
-pub enum Next {
-    /// A shot.
-    Shot(Shot),
-    /// The bytes fed hold no further whole record, and more may be fed.
-    NotYet,
-    /// The input is finished, and no record is left.
-    End,
-    /// The next record is refused, and so is each further call.
-    Refused(Kind),
-}
 
 /// The reader of a format.
 #[derive(Drop)]
@@ -82,7 +70,7 @@ impl<'a> FormatReader<'a> {
         }
     }
 
-    fn next(&mut self, graph: &Graph) -> Result<Next, NoMemory>
+    fn next(&mut self, graph: &Graph) -> Result<Next<Shot, Kind>, NoMemory>
         requires { IsReaderOf graph.now self.old }
         ensures meaning { IfOk result (Answers (source_of graph.now self.old) (source_of graph.now self.new)) }
         ensures err { OnErr result (self.new ≡ self.old) }
@@ -98,32 +86,28 @@ impl<'a> FormatReader<'a> {
 }
 
 /// The result of a reader of detectors, as one of vertices.
-fn on_vertices(graph: &Graph, answer: fb_records::Next<fb_shots_stim::Kind>) -> Next
+fn on_vertices(graph: &Graph, answer: Next<Numbers, fb_shots_stim::Kind>) -> Next<Shot, Kind>
     requires { IfShot (IsShotOf (length (detectors_of graph.now))) answer }
     ensures { result ≡ stim_answer graph.now answer }
 {
     match answer {
-        fb_records::Next::Shot(detectors) => {
-            Next::Shot(shot_of_detectors(graph, detectors.into_vec()))
-        }
-        fb_records::Next::NotYet => Next::NotYet,
-        fb_records::Next::End => Next::End,
-        fb_records::Next::Refused(kind) => Next::Refused(Kind::Stim(kind)),
+        Next::Shot(detectors) => { Next::Shot(shot_of_detectors(graph, detectors.into_vec())) }
+        Next::NotYet => Next::NotYet,
+        Next::End => Next::End,
+        Next::Refused(kind) => Next::Refused(Kind::Stim(kind)),
     }
 }
 
 /// The result of a reader of vertices.
-fn of_vertices(graph: &Graph, answer: fb_records::Next<fb_shots_json::Kind>) -> Next
+fn of_vertices(graph: &Graph, answer: Next<Numbers, fb_shots_json::Kind>) -> Next<Shot, Kind>
     requires { IfShot (λ vertices. IsShot graph.now (shot_of_vertices vertices)) answer }
     ensures { result ≡ json_answer answer }
 {
     match answer {
-        fb_records::Next::Shot(vertices) => {
-            Next::Shot(Shot::from_rising(graph, vertices.into_vec()))
-        }
-        fb_records::Next::NotYet => Next::NotYet,
-        fb_records::Next::End => Next::End,
-        fb_records::Next::Refused(kind) => Next::Refused(Kind::Json(kind)),
+        Next::Shot(vertices) => { Next::Shot(Shot::from_rising(graph, vertices.into_vec())) }
+        Next::NotYet => Next::NotYet,
+        Next::End => Next::End,
+        Next::Refused(kind) => Next::Refused(Kind::Json(kind)),
     }
 }
 
@@ -174,7 +158,7 @@ impl<'a> Reader<'a> {
 
     /// Reads the first record of the bytes that no result has used. A shot uses up its record, and nothing else
     /// uses any byte.
-    pub fn next(&mut self) -> Result<Next, NoMemory>
+    pub fn next(&mut self) -> Result<Next<Shot, Kind>, NoMemory>
         ensures meaning { IfOk result (Answers self.old self.new) }
         ensures err { OnErr result (self.new ≡ self.old) }
     {

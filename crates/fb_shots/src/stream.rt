@@ -8,9 +8,10 @@ ghost use Rattle.fb_shots.specs.Steps.{Answers, OnlyTakes};
 
 use crate::answer::{Format, Kind, NoMemory, ShotFault, Step};
 use crate::pieces::Piece;
-use crate::reader::{Next, Reader};
+use crate::reader::Reader;
 use fb_graph::Graph;
 use fb_ports::Files;
+use fb_records::Next;
 use std::alloc::Global;
 use std::marker::Model;
 

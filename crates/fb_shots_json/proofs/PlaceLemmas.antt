@@ -11,7 +11,7 @@ use Rattle.fb_records.specs.Lines.{holds}
 use Rattle.fb_records.specs.Steps.{part_of}
 use Rattle.fb_shots_json.specs.TextJson.{is_blank, is_blank_byte, is_too_long, shot_of_line}
 use Rattle.fb_shots_json.specs.InternalPlaces.{IsAt, IsPlace}
-use Rattle.fb_shots_json.specs.InternalStops.{AnswersTo}
+use Rattle.fb_shots_json.specs.InternalAnswers.{AnswersJson}
 use Rattle.fb_records.proofs.PartLemmas.{part_none, part_two, take_part, part_more}
 use Rattle.fb_shots_json.proofs.TextLemmas as text
 
@@ -76,18 +76,18 @@ place_newline g bytes line seen p lt newline =
 -- ---- answers
 
 pub place_shot : (g : DecodingGraph) (bytes : List ℕ) (line seen : ℕ) (finished : Bool) (shot : List ℕ) → IsPlace g bytes line seen false → seen < length bytes → get_or bytes seen 0 ≡ 10
-    → shot_of_line g (part_of bytes line seen) ≡ Ok shot → AnswersTo g bytes finished (drop (seen + 1) bytes) (Shot shot)
+    → shot_of_line g (part_of bytes line seen) ≡ Ok shot → AnswersJson g bytes finished (drop (seen + 1) bytes) (Shot shot)
 place_shot g bytes line seen finished shot p lt newline e =
     text.newline_shot g (take line bytes) (part_of bytes line seen) (drop (seen + 1) bytes) shot bytes finished p.parts (sym p.blank_so_far) e (newline_cut g bytes line seen false p lt newline)
 
 pub place_last_shot : (g : DecodingGraph) (bytes : List ℕ) (line seen : ℕ) (finished : Bool) (shot : List ℕ) → IsPlace g bytes line seen false → seen ≡ length bytes → finished ≡ true
-    → shot_of_line g (part_of bytes line seen) ≡ Ok shot → AnswersTo g bytes finished (drop seen bytes) (Shot shot)
+    → shot_of_line g (part_of bytes line seen) ≡ Ok shot → AnswersJson g bytes finished (drop seen bytes) (Shot shot)
 place_last_shot g bytes line seen finished shot p all done e =
-    subst (λ (l : List ℕ). AnswersTo g bytes finished l (Shot shot)) (sym (drop_all seen bytes (omega arith)))
+    subst (λ (l : List ℕ). AnswersJson g bytes finished l (Shot shot)) (sym (drop_all seen bytes (omega arith)))
     (text.end_shot g (take line bytes) (part_of bytes line seen) shot bytes finished p.parts done (sym p.blank_so_far) e (end_cut g bytes line seen false p all))
 
 pub place_refused : (g : DecodingGraph) (bytes : List ℕ) (line seen : ℕ) (finished : Bool) (kind : Kind) → IsPlace g bytes line seen false → (seen < length bytes → get_or bytes seen 0 ≡ 10) → (seen ≡ length bytes → finished ≡ true)
-    → shot_of_line g (part_of bytes line seen) ≡ Err kind → AnswersTo g bytes finished bytes (Refused kind)
+    → shot_of_line g (part_of bytes line seen) ≡ Err kind → AnswersJson g bytes finished bytes (Refused kind)
 place_refused g bytes line seen finished kind p newline done e = elim (cases_lt seen (length bytes)) [
   | inl lt ↦ text.newline_refused g (take line bytes) (part_of bytes line seen) (drop (seen + 1) bytes) kind bytes finished p.parts (sym p.blank_so_far) e (newline_cut g bytes line seen false p lt (newline lt))
   | inr ge ↦
@@ -97,19 +97,19 @@ place_refused g bytes line seen finished kind p newline done e = elim (cases_lt 
 ]
 
 pub place_long : (g : DecodingGraph) (bytes : List ℕ) (line seen : ℕ) (finished : Bool) → IsPlace g bytes line seen false → seen ≡ length bytes → is_too_long (part_of bytes line seen) ≡ true
-    → AnswersTo g bytes finished bytes (Refused LineTooLong)
+    → AnswersJson g bytes finished bytes (Refused LineTooLong)
 place_long g bytes line seen finished p all long =
     text.open_refused g (take line bytes) (part_of bytes line seen) bytes finished p.parts (sym p.blank_so_far) long (end_cut g bytes line seen false p all)
 
-pub place_open_blank : (g : DecodingGraph) (bytes : List ℕ) (line seen : ℕ) (finished : Bool) → IsPlace g bytes line seen true → seen ≡ length bytes → finished ≡ false → AnswersTo g bytes finished bytes NotYet
+pub place_open_blank : (g : DecodingGraph) (bytes : List ℕ) (line seen : ℕ) (finished : Bool) → IsPlace g bytes line seen true → seen ≡ length bytes → finished ≡ false → AnswersJson g bytes finished bytes NotYet
 place_open_blank g bytes line seen finished p all e =
     text.open_blank g (take line bytes) (part_of bytes line seen) bytes finished p.parts e (sym p.blank_so_far) (end_cut g bytes line seen true p all)
 
 pub place_open_short : (g : DecodingGraph) (bytes : List ℕ) (line seen : ℕ) (blank finished : Bool) → IsPlace g bytes line seen blank → seen ≡ length bytes → finished ≡ false → is_too_long (part_of bytes line seen) ≡ false
-    → AnswersTo g bytes finished bytes NotYet
+    → AnswersJson g bytes finished bytes NotYet
 place_open_short g bytes line seen blank finished p all e short =
     text.open_short g (take line bytes) (part_of bytes line seen) bytes finished p.parts e short (end_cut g bytes line seen blank p all)
 
-pub place_end : (g : DecodingGraph) (bytes : List ℕ) (line seen : ℕ) (finished : Bool) → IsPlace g bytes line seen true → seen ≡ length bytes → finished ≡ true → AnswersTo g bytes finished bytes End
+pub place_end : (g : DecodingGraph) (bytes : List ℕ) (line seen : ℕ) (finished : Bool) → IsPlace g bytes line seen true → seen ≡ length bytes → finished ≡ true → AnswersJson g bytes finished bytes End
 place_end g bytes line seen finished p all done =
     text.end_nothing g (take line bytes) (part_of bytes line seen) bytes finished p.parts done (sym p.blank_so_far) (end_cut g bytes line seen true p all)

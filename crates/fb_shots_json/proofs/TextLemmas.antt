@@ -17,7 +17,7 @@ use Rattle.fb_records.proofs.AnswerLemmas.{skips_nothing, skips_line, skip_gives
 use Rattle.fb_shots_json.specs.TextJson.{is_blank, is_blank_byte, is_too_long, as_shot, shot_of_line, line_json, begun_json, records_json, prefix_json, after_record}
 use Rattle.fb_json.specs.JsonText.{most_bytes}
 use Rattle.fb_shots_json.specs.InternalPlaces.{IsAt}
-use Rattle.fb_shots_json.specs.InternalStops.{AnswersTo}
+use Rattle.fb_shots_json.specs.InternalAnswers.{AnswersJson}
 
 -- ---- one line
 
@@ -91,18 +91,18 @@ reader g rest finished = record { subject = g; rest = rest; finished = finished 
 -- ---- the end of a line that isn't blank
 
 pub newline_refused : (g : DecodingGraph) (skipped line tail : List ℕ) (kind : Kind) (rest : List ℕ) (finished : Bool) → IsAt g skipped line → is_blank line ≡ false
-    → shot_of_line g line ≡ Err kind → rest ≡ skipped ++ (line ++ 10 ∷ tail) → AnswersTo g rest finished rest (Refused kind)
+    → shot_of_line g line ≡ Err kind → rest ≡ skipped ++ (line ++ 10 ∷ tail) → AnswersJson g rest finished rest (Refused kind)
 newline_refused g skipped line tail kind rest finished at some e cut =
     let here = line ++ 10 ∷ tail in
     let given : line_json g line ≡ Err kind = some_line g line some ∙ ap as_shot e in (
       skip_refuses (records_json g) (prefix_json g) after_record skipped here (reader g rest finished) kind at.skips cut
           (refuses_prefix (line_json g) begun_json (stays_json g) (reader g here finished) kind
-          (prefix_one (line_json g) begun_json line tail at.one_line ∙ ap (λ (r : Judged Kind). with_line r (prefix_json g tail)) given)),
+          (prefix_one (line_json g) begun_json line tail at.one_line ∙ ap (λ (r : Judged (List ℕ) Kind). with_line r (prefix_json g tail)) given)),
       refl,
     )
 
 pub newline_shot : (g : DecodingGraph) (skipped line tail shot rest : List ℕ) (finished : Bool) → IsAt g skipped line → is_blank line ≡ false
-    → shot_of_line g line ≡ Ok shot → rest ≡ skipped ++ (line ++ 10 ∷ tail) → AnswersTo g rest finished tail (Shot shot)
+    → shot_of_line g line ≡ Ok shot → rest ≡ skipped ++ (line ++ 10 ∷ tail) → AnswersJson g rest finished tail (Shot shot)
 newline_shot g skipped line tail shot rest finished at some e cut =
     let here = line ++ 10 ∷ tail in
     let given : line_json g line ≡ Ok (Some shot) = some_line g line some ∙ ap as_shot e in (
@@ -114,7 +114,7 @@ newline_shot g skipped line tail shot rest finished at some e cut =
 -- ---- the end of what was fed
 
 pub open_refused : (g : DecodingGraph) (skipped line rest : List ℕ) (finished : Bool) → IsAt g skipped line → is_blank line ≡ false → is_too_long line ≡ true
-    → rest ≡ skipped ++ line → AnswersTo g rest finished rest (Refused LineTooLong)
+    → rest ≡ skipped ++ line → AnswersJson g rest finished rest (Refused LineTooLong)
 open_refused g skipped line rest finished at some long cut = (
   skip_refuses (records_json g) (prefix_json g) after_record skipped line (reader g rest finished) LineTooLong at.skips cut
       (refuses_prefix (line_json g) begun_json (stays_json g) (reader g line finished) LineTooLong
@@ -123,22 +123,22 @@ open_refused g skipped line rest finished at some long cut = (
 )
 
 open_answer : (g : DecodingGraph) (skipped line rest : List ℕ) (finished : Bool) → IsAt g skipped line → finished ≡ false → begun_json line ≡ still_open
-    → rest ≡ skipped ++ line → AnswersTo g rest finished rest NotYet
+    → rest ≡ skipped ++ line → AnswersJson g rest finished rest NotYet
 open_answer g skipped line rest finished at e begun cut =
     (e, ap (prefix_json g) cut ∙ at.skips.so_far line ∙ prefix_none (line_json g) begun_json line at.one_line ∙ ap only begun, refl)
 
 pub open_blank : (g : DecodingGraph) (skipped line rest : List ℕ) (finished : Bool) → IsAt g skipped line → finished ≡ false → is_blank line ≡ true
-    → rest ≡ skipped ++ line → AnswersTo g rest finished rest NotYet
+    → rest ≡ skipped ++ line → AnswersJson g rest finished rest NotYet
 open_blank g skipped line rest finished at e blank cut = open_answer g skipped line rest finished at e (begun_blank line blank) cut
 
 pub open_short : (g : DecodingGraph) (skipped line rest : List ℕ) (finished : Bool) → IsAt g skipped line → finished ≡ false → is_too_long line ≡ false
-    → rest ≡ skipped ++ line → AnswersTo g rest finished rest NotYet
+    → rest ≡ skipped ++ line → AnswersJson g rest finished rest NotYet
 open_short g skipped line rest finished at e short cut = open_answer g skipped line rest finished at e (begun_short line short) cut
 
 -- ---- the end of the input
 
 pub end_refused : (g : DecodingGraph) (skipped line : List ℕ) (kind : Kind) (rest : List ℕ) (finished : Bool) → IsAt g skipped line → finished ≡ true → is_blank line ≡ false
-    → shot_of_line g line ≡ Err kind → rest ≡ skipped ++ line → AnswersTo g rest finished rest (Refused kind)
+    → shot_of_line g line ≡ Err kind → rest ≡ skipped ++ line → AnswersJson g rest finished rest (Refused kind)
 end_refused g skipped line kind rest finished at done some e cut = (
   skip_refuses (records_json g) (prefix_json g) after_record skipped line (reader g rest finished) kind at.skips cut
       (refuses_last (line_json g) begun_json (reader g line finished) kind done (records_end (line_json g) line (Err kind) refl at.one_line (some_line g line some ∙ ap as_shot e))),
@@ -146,7 +146,7 @@ end_refused g skipped line kind rest finished at done some e cut = (
 )
 
 pub end_nothing : (g : DecodingGraph) (skipped line rest : List ℕ) (finished : Bool) → IsAt g skipped line → finished ≡ true → is_blank line ≡ true
-    → rest ≡ skipped ++ line → AnswersTo g rest finished rest End
+    → rest ≡ skipped ++ line → AnswersJson g rest finished rest End
 end_nothing g skipped line rest finished at done blank cut =
     (done, ap (records_json g) cut ∙ at.skips.whole line ∙ records_end (line_json g) line (Ok None) refl at.one_line (blank_line g line blank), refl)
 
@@ -160,7 +160,7 @@ after_last [] h some = absurd cc
 after_last (b ∷ line) h some = last_after is_blank b line h some
 
 pub end_shot : (g : DecodingGraph) (skipped line shot rest : List ℕ) (finished : Bool) → IsAt g skipped line → finished ≡ true → is_blank line ≡ false
-    → shot_of_line g line ≡ Ok shot → rest ≡ skipped ++ line → AnswersTo g rest finished [] (Shot shot)
+    → shot_of_line g line ≡ Ok shot → rest ≡ skipped ++ line → AnswersJson g rest finished [] (Shot shot)
 end_shot g skipped line shot rest finished at done some e cut = (
   skip_gives (records_json g) (prefix_json g) after_record skipped line (reader g rest finished) (reader g [] finished) shot at.skips cut
       (last_gives g line shot finished done at.one_line some (some_line g line some ∙ ap as_shot e)),

@@ -1,5 +1,5 @@
 pub mod TextJson
 pub mod InternalEntries
 pub mod InternalPlaces
-pub mod InternalStops
+pub mod InternalAnswers
 pub mod FaultTexts

@@ -81,7 +81,7 @@ is_blank line = list_all is_blank_byte line
 abbrev pub is_too_long : List ℕ → Bool
 is_too_long line = nat_lt most_bytes (length line)
 
-abbrev pub as_shot : Result (List ℕ) Kind → Judged Kind
+abbrev pub as_shot : Result (List ℕ) Kind → Judged (List ℕ) Kind
 as_shot (Ok shot) = Ok (Some shot)
 as_shot (Err kind) = Err kind
 
@@ -92,7 +92,7 @@ shot_of_line g line =
     else with_option (value_of (without_return line)) NotJson (shot_in g)
 
 -- A line, without its newline. A blank one is skipped, however long.
-abbrev pub line_json : DecodingGraph → List ℕ → Judged Kind
+abbrev pub line_json : DecodingGraph → List ℕ → Judged (List ℕ) Kind
 line_json g line = if is_blank line then Ok None else as_shot (shot_of_line g line)
 
 -- A line that may go on is judged once it is too long and not blank.
@@ -100,11 +100,11 @@ abbrev pub begun_json : List ℕ → Ending Kind
 begun_json line = if is_blank line then still_open else (if is_too_long line then refused LineTooLong else still_open)
 
 -- what a whole input holds
-abbrev pub records_json : DecodingGraph → List ℕ → Records Kind
+abbrev pub records_json : DecodingGraph → List ℕ → Records (List ℕ) Kind
 records_json g = records_by_lines (line_json g)
 
 -- what is settled by a prefix of an input
-abbrev pub prefix_json : DecodingGraph → List ℕ → Records Kind
+abbrev pub prefix_json : DecodingGraph → List ℕ → Records (List ℕ) Kind
 prefix_json g = prefix_by_lines (line_json g) begun_json
 
 -- ---- what a result uses

@@ -2,18 +2,18 @@
 
 ghost use Rattle.std.specs.Prelude.{◌≡◌, ℕ, ◌+◌, ◌-◌, ◌<◌, ◌≤◌, ◌++◌, ◌&&◌, [], Bool, true, false, length, take, drop, slice_index, IfOk, IfErr, IfSome, IfNone, OnOk, OnErr};
 ghost use Rattle.fb_records.specs.Lines.{holds};
-ghost use Rattle.fb_records.specs.Steps.{part_of, IfRefused};
+ghost use Rattle.fb_records.specs.Steps.{part_of, IfFound, IfRefused, answer_at, used_of};
 ghost use Rattle.fb_records.specs.Answers.{answer_of, reading, Answers, IfShot};
 ghost use Rattle.fb_records.specs.declared.answer.Next.TheVariants as next;
 ghost use Rattle.fb_shots_json.specs.TextJson.{is_blank, records_json, prefix_json, after_record};
 ghost use Rattle.fb_graph.specs.Limits.{IsShot};
 ghost use Rattle.fb_shots_json.specs.InternalPlaces.{IsPlace};
-ghost use Rattle.fb_shots_json.specs.InternalStops.{AnswersTo, used_of, answer_at};
+ghost use Rattle.fb_shots_json.specs.InternalAnswers.{AnswersJson};
 
 use crate::answer::Kind;
 use crate::judging::{is_too_long, shot_of_line};
 use fb_graph::Graph;
-use fb_records::{Next, NoMemory, Numbers, Pending, Stop};
+use fb_records::{Found, Next, NoMemory, Numbers, Pending, Stop};
 use std::alloc::Global;
 use std::marker::Model;
 
@@ -83,7 +83,7 @@ impl<'a> RecordsJson<'a> {
 
     /// Reads the first record of the bytes that no result has used. A shot uses up its line and the blank lines
     /// before it, and nothing else uses any byte.
-    pub fn next(&mut self) -> Result<Next<Kind>, NoMemory>
+    pub fn next(&mut self) -> Result<Next<Numbers, Kind>, NoMemory>
         ensures answer { IfOk result (λ a. a ≡ answer_of (reading records_json prefix_json self.old)) }
         ensures meaning { IfOk result (Answers records_json prefix_json after_record self.old self.new) }
         ensures graph { self.new.subject ≡ self.old.subject }
@@ -93,24 +93,16 @@ impl<'a> RecordsJson<'a> {
     {
         let rest = self.pending.as_slice();
         match advance(self.alloc, self.graph, &mut self.place, rest, self.finished) {
-            Ok(Step::Shot(shot, used)) => {
+            Ok(Found::Shot(shot, used)) => {
                 self.pending.take_off(used);
                 Ok(Next::Shot(shot))
             }
-            Ok(Step::NotYet) => Ok(Next::NotYet),
-            Ok(Step::End) => Ok(Next::End),
+            Ok(Found::NotYet) => Ok(Next::NotYet),
+            Ok(Found::End) => Ok(Next::End),
             Err(Stop::Refused(kind)) => Ok(Next::Refused(kind)),
             Err(Stop::NoMemory) => Err(NoMemory),
         }
     }
-}
-
-/// Where reading stops.
-enum Step {
-    /// A shot, and how many bytes it uses.
-    Shot(Numbers, usize),
-    NotYet,
-    End,
 }
 
 const START: Place = Place {
@@ -126,13 +118,13 @@ fn advance(
     place: &mut Place,
     rest: &[u8],
     finished: bool,
-) -> Result<Step, Stop<Kind>>
+) -> Result<Found<Numbers>, Stop<Kind>>
     requires { IsPlace graph.now rest.now place.old.line place.old.seen place.old.is_blank }
-    ensures ok { IfOk result (λ step. AnswersTo graph.now rest.now finished (drop (used_of step) rest.now) (answer_at step)
-        × IsPlace graph.now (drop (used_of step) rest.now) place.new.line place.new.seen place.new.is_blank) }
-    ensures used { IfOk result (λ step. used_of step ≤ length rest.now) }
-    ensures shot { IfOk result (λ step. IfShot (λ shot. IsShot graph.now (record { defects = shot })) (answer_at step)) }
-    ensures refused { IfErr result (IfRefused (λ kind. AnswersTo graph.now rest.now finished rest.now (next.Refused kind))) }
+    ensures ok { IfOk result (λ found. AnswersJson graph.now rest.now finished (drop (used_of found) rest.now) (answer_at found)
+        × IsPlace graph.now (drop (used_of found) rest.now) place.new.line place.new.seen place.new.is_blank) }
+    ensures used { IfOk result (λ found. used_of found ≤ length rest.now) }
+    ensures shot { IfOk result (IfFound (λ shot. IsShot graph.now (record { defects = shot }))) }
+    ensures refused { IfErr result (IfRefused (λ kind. AnswersJson graph.now rest.now finished rest.now (next.Refused kind))) }
     ensures err { OnErr result (IsPlace graph.now rest.now place.new.line place.new.seen place.new.is_blank) }
 {
     loop {
@@ -142,16 +134,16 @@ fn advance(
             if !place.is_blank && is_too_long(&rest[place.line..place.seen]) {
                 return Err(Stop::Refused(Kind::LineTooLong));
             }
-            return Ok(Step::NotYet);
+            return Ok(Found::NotYet);
         }
         if !place.is_blank {
             let shot = shot_of_line(alloc, graph, &rest[place.line..place.seen])?;
             let used = if is_last { place.seen } else { place.seen + 1 };
             *place = START;
-            return Ok(Step::Shot(shot, used));
+            return Ok(Found::Shot(shot, used));
         }
         if is_last {
-            return Ok(Step::End);
+            return Ok(Found::End);
         }
         place.seen += 1;
         place.line = place.seen;

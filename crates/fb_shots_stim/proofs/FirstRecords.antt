@@ -79,7 +79,7 @@ leaves_b8 (suc n) bytes shot shots e = elim (cases_lt (length bytes) (block_len 
         × ((more : List ℕ) → prefix_b8 (suc n) (bytes ++ more) ≡ with_first_shot shot (prefix_b8 (suc n) (drop (block_len (suc n)) bytes ++ more)))
     block_left n bytes shot shots {first} le given e =
         let left = drop (block_len (suc n)) bytes in
-        let same : first ≡ shot = (let shown : first ∷ (prefix_b8 (suc n) left).shots ≡ shot ∷ shots = sym (ap (λ (x : Records Kind). x.shots) given.1) ∙ e in cc) in (
+        let same : first ≡ shot = (let shown : first ∷ (prefix_b8 (suc n) left).shots ≡ shot ∷ shots = sym (ap (λ (x : Records (List ℕ) Kind). x.shots) given.1) ∙ e in cc) in (
           given.1 ∙ ap (λ (l : List ℕ). with_first_shot l (prefix_b8 (suc n) left)) same,
           λ more. given.2 more ∙ ap (λ (l : List ℕ). with_first_shot l (records_b8 (suc n) (left ++ more))) same,
           λ more. given.3 more ∙ ap (λ (l : List ℕ). with_first_shot l (prefix_b8 (suc n) (left ++ more))) same,

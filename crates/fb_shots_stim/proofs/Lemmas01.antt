@@ -116,7 +116,7 @@ abbrev pub reader : ℕ → List ℕ → Bool → Reader ℕ
 reader n rest finished = record { subject = n; rest = rest; finished = finished }
 
 -- the answer that a step leads to, and what it leaves of the rest
-abbrev pub answer_at : List ℕ → Step → Next Kind
+abbrev pub answer_at : List ℕ → Step → Next (List ℕ) Kind
 answer_at bits (Line used) = answers.Shot (places_from is_one 0 bits)
 answer_at bits NotYet = answers.NotYet
 answer_at bits End = answers.End

@@ -183,10 +183,10 @@ blocks_go_on n a b ending =
 
 pub goes_on_b8 : GoesOnAnywhere records_b8 prefix_b8
 goes_on_b8 zero [] more = (nothing (records_b8 zero more), nothing (prefix_b8 zero more)) where
-  nothing : (all : Records Kind) → GoesOn (only still_open) all
+  nothing : (all : Records (List ℕ) Kind) → GoesOn (only still_open) all
   nothing all = record { shots = (all.shots, refl); judged = λ kind e. absurd cc }
 goes_on_b8 zero (b ∷ bytes) more = (same (only (refused LongRecord)), same (only (refused LongRecord))) where
-  same : (all : Records Kind) → GoesOn all all
+  same : (all : Records (List ℕ) Kind) → GoesOn all all
   same all = record { shots = ([], sym (append-nil all.shots)); judged = λ kind e. refl }
 goes_on_b8 (suc n) bytes more = (blocks_go_on n bytes more _, blocks_go_on n bytes more still_open)
 

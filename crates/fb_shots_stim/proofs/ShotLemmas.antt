@@ -91,7 +91,7 @@ judged_dets n line = by_words n (with_words n (Ok None) (words_of line)) where
 all_judged : (n : ℕ) (judge : List ℕ → Result (Option (List ℕ)) Kind) → ((line : List ℕ) → IfJudged n (judge line)) → (lines : List (List ℕ)) (ending : Ending Kind) → All (IsShotOf n) (go_down judge lines ending).shots
 all_judged n judge h [] ending = All-nil (IsShotOf n)
 all_judged n judge h (line ∷ lines) ending = step n (judge line) (go_down judge lines ending) (h line) (all_judged n judge h lines ending) where
-  step : (n : ℕ) (r : Result (Option (List ℕ)) Kind) (rest : Records Kind) → IfJudged n r → All (IsShotOf n) rest.shots → All (IsShotOf n) (with_line r rest).shots
+  step : (n : ℕ) (r : Result (Option (List ℕ)) Kind) (rest : Records (List ℕ) Kind) → IfJudged n r → All (IsShotOf n) rest.shots → All (IsShotOf n) (with_line r rest).shots
   step n (Ok (Some shot)) rest s all = All-cons (IsShotOf n) shot rest.shots s all
   step n (Ok None) rest s all = all
   step n (Err kind) rest s all = All-nil (IsShotOf n)
@@ -108,6 +108,6 @@ pub shots_dets : (n : ℕ) (bytes : List ℕ) → All (IsShotOf n) (records_dets
 shots_dets n bytes = all_judged n (bare (line_dets n)) (λ line. judged_dets n (without_return line)) (lines_of bytes) at_end
 
 -- a shot that is given is one of the text's
-pub given_shot : (n : ℕ) (records prefix : List ℕ → Records Kind) (old new : Reader ℕ) (shot : List ℕ) → ((bytes : List ℕ) → All (IsShotOf n) (records bytes).shots) → Gives records prefix old new shot → IsShotOf n shot
+pub given_shot : (n : ℕ) (records prefix : List ℕ → Records (List ℕ) Kind) (old new : Reader ℕ) (shot : List ℕ) → ((bytes : List ℕ) → All (IsShotOf n) (records bytes).shots) → Gives records prefix old new shot → IsShotOf n shot
 given_shot n records prefix old new shot shots g =
-    All-head (IsShotOf n) shot (records new.rest).shots (subst (λ (r : Records Kind). All (IsShotOf n) r.shots) g.now (shots old.rest))
+    All-head (IsShotOf n) shot (records new.rest).shots (subst (λ (r : Records (List ℕ) Kind). All (IsShotOf n) r.shots) g.now (shots old.rest))

@@ -23,7 +23,7 @@ abbrev pub is_set : ℕ → Bool
 is_set bit = bit == 1
 
 -- A block of n detectors. The bits after theirs only fill up the last byte.
-abbrev pub block_b8 : ℕ → List ℕ → Judged Kind
+abbrev pub block_b8 : ℕ → List ℕ → Judged (List ℕ) Kind
 block_b8 n block =
     if list_any is_set (drop n (bits_of block)) then Err PaddingBit
     else Ok (Some (places_from is_set 0 (take n (bits_of block))))
@@ -38,7 +38,7 @@ abbrev pub whole_blocks : ℕ → List ℕ → List (List ℕ)
 whole_blocks size bytes = blocks size (length bytes / size) bytes
 
 -- What a whole input holds. A record of no detectors would have no bytes, so none is there, and each byte is one too many.
-abbrev pub records_b8 : ℕ → List ℕ → Records Kind
+abbrev pub records_b8 : ℕ → List ℕ → Records (List ℕ) Kind
 records_b8 zero [] = only at_end
 records_b8 zero (b ∷ bytes) = only (refused LongRecord)
 records_b8 (suc n) bytes =
@@ -46,7 +46,7 @@ records_b8 (suc n) bytes =
     (if length bytes % block_len (suc n) == 0 then at_end else refused ShortRecord)
 
 -- what is settled by a prefix of an input
-abbrev pub prefix_b8 : ℕ → List ℕ → Records Kind
+abbrev pub prefix_b8 : ℕ → List ℕ → Records (List ℕ) Kind
 prefix_b8 zero [] = only still_open
 prefix_b8 zero (b ∷ bytes) = only (refused LongRecord)
 prefix_b8 (suc n) bytes = go_down (block_b8 (suc n)) (whole_blocks (block_len (suc n)) bytes) still_open

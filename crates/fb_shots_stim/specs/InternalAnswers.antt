@@ -9,13 +9,13 @@ use Rattle.fb_shots_stim.specs.BlocksB8.{block_len, records_b8, prefix_b8}
 use Rattle.fb_shots_stim.specs.TextDets.{records_dets, prefix_dets, after_record}
 
 -- the result for a rest of `01`, for `n` detectors, and what it leaves
-abbrev pub Answers01 : ℕ → List ℕ → Bool → List ℕ → Next Kind → Type 0
+abbrev pub Answers01 : ℕ → List ℕ → Bool → List ℕ → Next (List ℕ) Kind → Type 0
 Answers01 = AnswersRest records_01 prefix_01 (λ n. after_line)
 
 -- the same of `b8`
-abbrev pub AnswersB8 : ℕ → List ℕ → Bool → List ℕ → Next Kind → Type 0
+abbrev pub AnswersB8 : ℕ → List ℕ → Bool → List ℕ → Next (List ℕ) Kind → Type 0
 AnswersB8 = AnswersRest records_b8 prefix_b8 (λ n. drop (block_len n))
 
 -- the same of `dets`
-abbrev pub AnswersDets : ℕ → List ℕ → Bool → List ℕ → Next Kind → Type 0
+abbrev pub AnswersDets : ℕ → List ℕ → Bool → List ℕ → Next (List ℕ) Kind → Type 0
 AnswersDets = AnswersRest records_dets prefix_dets (λ n. after_record)

@@ -15,7 +15,7 @@ abbrev pub is_one : ℕ → Bool
 is_one b = b == 49
 
 -- A line of n detectors, without the carriage return at its end. Its bytes are judged in order, and its end after them.
-abbrev pub line_01 : ℕ → List ℕ → Judged Kind
+abbrev pub line_01 : ℕ → List ℕ → Judged (List ℕ) Kind
 line_01 n line =
     if list_all is_bit (take n line)
     then (if nat_lt n (length line) then Err LongRecord else (if nat_lt (length line) n then Err ShortRecord else Ok (Some (places_from is_one 0 line))))
@@ -29,9 +29,9 @@ begun_01 n line =
     else refused BadByte
 
 -- what a whole input holds
-abbrev pub records_01 : ℕ → List ℕ → Records Kind
+abbrev pub records_01 : ℕ → List ℕ → Records (List ℕ) Kind
 records_01 n = records_by_lines (bare (line_01 n))
 
 -- what is settled by a prefix of an input
-abbrev pub prefix_01 : ℕ → List ℕ → Records Kind
+abbrev pub prefix_01 : ℕ → List ℕ → Records (List ℕ) Kind
 prefix_01 n = prefix_by_lines (bare (line_01 n)) (bare (begun_01 n))

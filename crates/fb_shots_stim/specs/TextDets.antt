@@ -33,13 +33,13 @@ index_of (c ∷ digits) = number_from 0 (c ∷ digits)
 -- ---- a record, word by word
 
 -- The detectors named so far, and one more.
-abbrev pub with_detector : ℕ → List ℕ → ℕ → Judged Kind
+abbrev pub with_detector : ℕ → List ℕ → ℕ → Judged (List ℕ) Kind
 with_detector n named k =
     if nat_lt k n then (if list_any (nat_eq k) named then Err RepeatedIndex else Ok (Some (named ++ k ∷ [])))
     else Err IndexOutOfRange
 
 -- A letter with an index: a detector, an observable, which is ignored, or a measurement.
-abbrev pub with_letter : ℕ → List ℕ → ℕ → Option ℕ → Judged Kind
+abbrev pub with_letter : ℕ → List ℕ → ℕ → Option ℕ → Judged (List ℕ) Kind
 with_letter n named letter None = Err BadToken
 with_letter n named letter (Some k) =
     if letter == 68 then with_detector n named k
@@ -47,12 +47,12 @@ with_letter n named letter (Some k) =
     else (if letter == 77 then Err MeasurementToken else Err BadToken))
 
 -- What a record is so far is nothing, or `shot` and the detectors that it names. This is a word of it.
-abbrev pub with_word : ℕ → Option (List ℕ) → List ℕ → Judged Kind
+abbrev pub with_word : ℕ → Option (List ℕ) → List ℕ → Judged (List ℕ) Kind
 with_word n None word = if bytes_eq word (codes "shot") then Ok (Some []) else Err BadToken
 with_word n (Some named) [] = Err BadToken
 with_word n (Some named) (letter ∷ digits) = with_letter n named letter (index_of digits)
 
-abbrev pub with_words : ℕ → Judged Kind → List (List ℕ) → Judged Kind
+abbrev pub with_words : ℕ → Judged (List ℕ) Kind → List (List ℕ) → Judged (List ℕ) Kind
 with_words n (Err kind) words = Err kind
 with_words n (Ok so_far) [] = Ok so_far
 with_words n (Ok so_far) (word ∷ words) = with_words n (with_word n so_far word) words
@@ -63,16 +63,16 @@ rising n named = filter (λ k. list_any (nat_eq k) named) (range_with_len 0 n)
 
 -- ---- a line
 
-abbrev pub shot_of : ℕ → Judged Kind → Judged Kind
+abbrev pub shot_of : ℕ → Judged (List ℕ) Kind → Judged (List ℕ) Kind
 shot_of n (Ok None) = Ok None
 shot_of n (Ok (Some named)) = Ok (Some (rising n named))
 shot_of n (Err kind) = Err kind
 
 -- A line of words, without the carriage return at its end. One without a word is skipped.
-abbrev pub line_dets : ℕ → List ℕ → Judged Kind
+abbrev pub line_dets : ℕ → List ℕ → Judged (List ℕ) Kind
 line_dets n line = shot_of n (with_words n (Ok None) (words_of line))
 
-abbrev pub ending_of : Judged Kind → Ending Kind
+abbrev pub ending_of : Judged (List ℕ) Kind → Ending Kind
 ending_of (Ok so_far) = still_open
 ending_of (Err kind) = refused kind
 
@@ -81,11 +81,11 @@ abbrev pub begun_dets : ℕ → List ℕ → Ending Kind
 begun_dets n line = ending_of (with_words n (Ok None) (ended_words line))
 
 -- what a whole input holds
-abbrev pub records_dets : ℕ → List ℕ → Records Kind
+abbrev pub records_dets : ℕ → List ℕ → Records (List ℕ) Kind
 records_dets n = records_by_lines (bare (line_dets n))
 
 -- what is settled by a prefix of an input
-abbrev pub prefix_dets : ℕ → List ℕ → Records Kind
+abbrev pub prefix_dets : ℕ → List ℕ → Records (List ℕ) Kind
 prefix_dets n = prefix_by_lines (bare (line_dets n)) (bare (begun_dets n))
 
 -- ---- what a result uses

@@ -49,6 +49,8 @@ impl RecordFormat for Dense {
     /// How far the bytes of the record begun are known to be bits.
     type Begun = usize;
 
+    type Shot = Numbers;
+
     type Kind = Kind;
 
     ghost subject_of = { λ n. n };
@@ -76,7 +78,7 @@ impl RecordFormat for Dense {
         scanned: &mut usize,
         rest: &[u8],
         finished: bool,
-    ) -> Result<Found, Stop<Kind>> {
+    ) -> Result<Found<Numbers>, Stop<Kind>> {
         let good = leading_bits(rest, *scanned, self.detectors as usize);
         *scanned = good;
         match step_at(self.detectors, finished, good, &rest[good..]) {

@@ -39,6 +39,8 @@ impl RecordFormat for Packed {
 
     type Begun = ();
 
+    type Shot = Numbers;
+
     type Kind = Kind;
 
     ghost subject_of = { λ n. n };
@@ -59,7 +61,12 @@ impl RecordFormat for Packed {
 
     fn start(&self) -> () {}
 
-    fn advance(&self, _: &mut (), rest: &[u8], finished: bool) -> Result<Found, Stop<Kind>> {
+    fn advance(
+        &self,
+        _: &mut (),
+        rest: &[u8],
+        finished: bool,
+    ) -> Result<Found<Numbers>, Stop<Kind>> {
         let size = (self.detectors as usize + 7) / 8;
         if size == 0 || rest.len() < size {
             return unfilled(self.detectors, finished, rest);
@@ -75,7 +82,7 @@ impl RecordFormat for Packed {
 }
 
 /// The result for bytes that hold no whole block.
-fn unfilled(detectors: u32, finished: bool, rest: &[u8]) -> Result<Found, Stop<Kind>>
+fn unfilled(detectors: u32, finished: bool, rest: &[u8]) -> Result<Found<Numbers>, Stop<Kind>>
     requires { 0 < detectors → length rest.now < block_len detectors }
     ensures ok { IfOk result (λ found. AnswersB8 detectors rest.now finished (drop (used_of found) rest.now) (answer_at found)) }
     ensures used { IfOk result (λ found. used_of found ≤ length rest.now) }

@@ -68,6 +68,8 @@ impl RecordFormat for Sparse {
 
     type Begun = Begun;
 
+    type Shot = Numbers;
+
     type Kind = Kind;
 
     ghost subject_of = { λ n. n };
@@ -95,7 +97,12 @@ impl RecordFormat for Sparse {
     }
 
     /// Reads words up to the end of a record or of the bytes.
-    fn advance(&self, begun: &mut Begun, rest: &[u8], finished: bool) -> Result<Found, Stop<Kind>> {
+    fn advance(
+        &self,
+        begun: &mut Begun,
+        rest: &[u8],
+        finished: bool,
+    ) -> Result<Found<Numbers>, Stop<Kind>> {
         loop {
             begun.place.seen = word_end(rest, begun.place.seen);
             if begun.place.seen == rest.len() {

@@ -3,7 +3,7 @@ use Rattle.fb_records.specs.declared.answer.Next.TheVariants as next
 use Rattle.fb_records.specs.Steps.{part_of}
 use Rattle.fb_shots_json.specs.TextJson.{shot_of_line}
 use Rattle.fb_shots_json.specs.InternalPlaces.{IsPlace}
-use Rattle.fb_shots_json.specs.InternalStops.{AnswersTo}
+use Rattle.fb_shots_json.specs.InternalAnswers.{AnswersJson}
 use Rattle.fb_records.proofs.AnswerLemmas.{refused_by}
 use Rattle.fb_shots_json.proofs.PlaceLemmas.{place_start, place_seen, place_known, place_newline, place_shot, place_last_shot, place_refused, place_long, place_open_blank, place_open_short, place_end}
 use Rattle.fb_shots_json.proofs.reader.advance.Goals as goal
@@ -46,7 +46,7 @@ returns-in_err-shot-clause-refused c =
       | else-is_last-via-else-is_last w ↦ absurd (w.if-is_last.false all)
     ] in
     refused_by c.from_residual.result c.in_err-shot.field-0.0 (λ kind. shot_of_line g (part_of rest at.line at.seen) ≡ Err kind)
-    (λ kind. AnswersTo g rest c.args.finished rest (next.Refused kind))
+    (λ kind. AnswersJson g rest c.args.finished rest (next.Refused kind))
     (λ kind e. place_refused g rest at.line at.seen c.args.finished kind (place_known _ _ _ _ _ false p c.if-not-place-2.true) s.stops done e)
     (search rules) c.in_err-shot.ensures.refused
 
@@ -72,13 +72,13 @@ returns-then-not-place-2-clause-ok c =
       elim c.if-is_last-2.branch [
         | then-is_last-2 w ↦
             let all = w.if-is_last-2.true in
-            subst (λ (used : ℕ). AnswersTo g rest c.args.finished (drop used rest) (next.Shot shot)) (sym w.used-is)
+            subst (λ (used : ℕ). AnswersJson g rest c.args.finished (drop used rest) (next.Shot shot)) (sym w.used-is)
             (place_last_shot g rest at.line at.seen c.args.finished shot p all (done all) c.in_ok-shot.ensures.ok)
         | else-is_last-2 w ↦
             let other : ◌≢◌ at.seen (length rest) = w.if-is_last-2.false in
             let within = s.within in
             let lt : at.seen < length rest = omega arith in
-            subst (λ (used : ℕ). AnswersTo g rest c.args.finished (drop used rest) (next.Shot shot)) (sym w.used-is)
+            subst (λ (used : ℕ). AnswersJson g rest c.args.finished (drop used rest) (next.Shot shot)) (sym w.used-is)
             (place_shot g rest at.line at.seen c.args.finished shot p lt (s.stops lt) c.in_ok-shot.ensures.ok)
       ],
       place_start g (drop c.if-is_last-2.used rest),

@@ -9,9 +9,8 @@ use Rattle.fb_shots_stim.specs.TextDets.{after_record, records_dets, prefix_dets
 use Rattle.fb_shots.specs.declared.answer.Format.TheVariants as format
 use Rattle.fb_shots.specs.declared.reader.FormatReader.{FormatReader}
 use Rattle.fb_shots.specs.declared.reader.FormatReader.TheVariants.{Text01, B8, Dets, Json}
-use Rattle.fb_shots.specs.declared.reader.Next.{Next}
 use Rattle.fb_shots.specs.Formats.{shot_of_vertices, of_stim}
-use Rattle.fb_shots.specs.InternalAnswers.{Answers}
+use Rattle.fb_shots.specs.InternalAnswers.{Answers, NextShot}
 use Rattle.fb_shots.specs.InternalReaders.{source_of, IsReaderOf}
 use Rattle.fb_shots.proofs.Readings.{stim_right, json_right}
 use Rattle.fb_shots.proofs.reader.FormatReader.next.Goals as goal
@@ -22,7 +21,7 @@ returns-in_ok-next-in-Text01-clause-meaning c =
     let old = c.in-Text01.reader in
     let new = c.next.new.self in
     let n : old.subject ≡ length (detectors_of g) = subst (IsReaderOf g) c.in-Text01.is c.requires in
-    subst₂ (λ (r : FormatReader) (a : Next). Answers (source_of g r) (source_of g (Text01 new)) a) (sym c.in-Text01.is) (sym c.on_vertices.ensures)
+    subst₂ (λ (r : FormatReader) (a : NextShot). Answers (source_of g r) (source_of g (Text01 new)) a) (sym c.in-Text01.is) (sym c.on_vertices.ensures)
     (stim_right format.Text01 g records_01 prefix_01 after_line old new c.in_ok-next-in-Text01.field-0
     (λ bytes. ap (λ (m : ℕ). of_stim g (records_01 m bytes)) (sym n)) (λ bytes. ap (λ (m : ℕ). of_stim g (prefix_01 m bytes)) (sym n))
     n c.in_ok-next-in-Text01.ensures.shot c.in_ok-next-in-Text01.ensures.meaning)
@@ -33,7 +32,7 @@ returns-in_ok-next-in-B8-clause-meaning c =
     let old = c.in-B8.reader in
     let new = c.next-in-B8.new.self in
     let n : old.subject ≡ length (detectors_of g) = subst (IsReaderOf g) c.in-B8.is c.requires in
-    subst₂ (λ (r : FormatReader) (a : Next). Answers (source_of g r) (source_of g (B8 new)) a) (sym c.in-B8.is) (sym c.on_vertices-in-B8.ensures)
+    subst₂ (λ (r : FormatReader) (a : NextShot). Answers (source_of g r) (source_of g (B8 new)) a) (sym c.in-B8.is) (sym c.on_vertices-in-B8.ensures)
     (stim_right format.B8 g records_b8 prefix_b8 (drop (block_len old.subject)) old new c.in_ok-next-in-B8.field-0
     (λ bytes. ap (λ (m : ℕ). of_stim g (records_b8 m bytes)) (sym n)) (λ bytes. ap (λ (m : ℕ). of_stim g (prefix_b8 m bytes)) (sym n))
     n c.in_ok-next-in-B8.ensures.shot c.in_ok-next-in-B8.ensures.meaning)
@@ -44,7 +43,7 @@ returns-in_ok-next-in-Dets-clause-meaning c =
     let old = c.in-Dets.reader in
     let new = c.next-in-Dets.new.self in
     let n : old.subject ≡ length (detectors_of g) = subst (IsReaderOf g) c.in-Dets.is c.requires in
-    subst₂ (λ (r : FormatReader) (a : Next). Answers (source_of g r) (source_of g (Dets new)) a) (sym c.in-Dets.is) (sym c.on_vertices-in-Dets.ensures)
+    subst₂ (λ (r : FormatReader) (a : NextShot). Answers (source_of g r) (source_of g (Dets new)) a) (sym c.in-Dets.is) (sym c.on_vertices-in-Dets.ensures)
     (stim_right format.Dets g records_dets prefix_dets after_record old new c.in_ok-next-in-Dets.field-0
     (λ bytes. ap (λ (m : ℕ). of_stim g (records_dets m bytes)) (sym n)) (λ bytes. ap (λ (m : ℕ). of_stim g (prefix_dets m bytes)) (sym n))
     n c.in_ok-next-in-Dets.ensures.shot c.in_ok-next-in-Dets.ensures.meaning)
@@ -55,6 +54,6 @@ returns-in_ok-next-in-Json-clause-meaning c =
     let old = c.in-Json.reader in
     let new = c.next-in-Json.new.self in
     let same : old.subject ≡ g = subst (IsReaderOf g) c.in-Json.is c.requires in
-    subst₂ (λ (r : FormatReader) (a : Next). Answers (source_of g r) (source_of g (Json new)) a) (sym c.in-Json.is) (sym c.of_vertices.ensures)
+    subst₂ (λ (r : FormatReader) (a : NextShot). Answers (source_of g r) (source_of g (Json new)) a) (sym c.in-Json.is) (sym c.of_vertices.ensures)
     (json_right g old new c.in_ok-next-in-Json.field-0 same
     (subst (λ (x : DecodingGraph). IfShot (λ vertices. IsShot x (shot_of_vertices vertices)) c.in_ok-next-in-Json.field-0) same c.in_ok-next-in-Json.ensures.shot) c.in_ok-next-in-Json.ensures.meaning)
