@@ -64,8 +64,8 @@ impl Model for Items {
 }
 
 impl Items {
-    /// A run over `slots` copies of a tree, one for each slot, with nothing taken. The joins are the children of each fusion, and each node
-    /// has its parent.
+    /// A run over `slots` copies of a tree, one for each slot, with nothing taken. The joins are the children of each
+    /// fusion, and each node has its parent.
     pub fn new(
         alloc: Global,
         units: u32,

@@ -6,6 +6,7 @@ pub mod book;
 pub mod entries;
 mod items;
 pub mod laws;
+pub mod limits;
 mod moves;
 mod parking;
 pub mod permit;
@@ -17,4 +18,5 @@ pub use entries::{Entry, Kind, Status};
 pub use laws::{
     complete_history, entries_of_item, items_of_plan, order_of_nodes, progress, renumbered_slots,
 };
+pub use limits::{MOST_AT_ONCE, MOST_WORKERS};
 pub use permit::{Board, Permit, Piece};

@@ -12,7 +12,7 @@ use Rattle.fb_half.specs.Parts.{IsPartOf, PartValue}
 use Rattle.fb_book.specs.Board.{kids_in}
 use Rattle.fb_book.specs.Machine.{IsComplete}
 use Rattle.fb_book.specs.declared.entries.Entry.{Entry}
-use Rattle.fb_crew.specs.declared.window.TheConstants.{MOST_AT_ONCE}
+use Rattle.fb_book.specs.declared.limits.TheConstants.{MOST_AT_ONCE}
 use Rattle.fb_crew.specs.Crews.{IsCompleteOf}
 use Rattle.fb_crew.proofs.EvenPlaces.{as_many_places, slots_within, sorting_laws}
 use Rattle.fb_crew.specs.InternalWindows.{AreOddAt, AreRowsOf, IsSorted, even_of, rows_by, with_places}

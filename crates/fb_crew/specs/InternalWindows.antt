@@ -10,7 +10,7 @@ use Rattle.fb_book.specs.Board.{kids_in}
 use Rattle.fb_book.specs.Machine.{IsComplete}
 use Rattle.fb_book.specs.Laws.{renumbered_entry}
 use Rattle.fb_book.specs.declared.entries.Entry.{Entry}
-use Rattle.fb_crew.specs.declared.crew.TheConstants.{MOST_WORKERS}
+use Rattle.fb_book.specs.declared.limits.TheConstants.{MOST_WORKERS}
 use Rattle.fb_crew.specs.InternalSolved.{SolvedValue, shot_at}
 use Rattle.fb_crew.specs.Windows.{AreRows, IsHistoryOf, IsShotRow}
 

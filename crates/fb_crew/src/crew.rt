@@ -10,7 +10,7 @@ use crate::hands::{Bench, Gate, Hands};
 use crate::here::{Finished, drain, finish, run_here};
 use crate::locked::Locked;
 use crate::seat::Seat;
-use fb_book::{Board, Book, Entry, Piece};
+use fb_book::{Board, Book, Entry, MOST_WORKERS, Piece};
 use fb_graph::NoMemory;
 use fb_plan::Job;
 use std::alloc::Global;
@@ -19,9 +19,6 @@ use std::sync::ledger::{Blank, Share};
 use std::sync::{Wait, ledger};
 use std::thread;
 use std::thread::Threads;
-
-/// The most workers of a crew. The calls that start them are as deep as there are workers.
-pub const MOST_WORKERS: u32 = 64;
 
 /// A job that a crew has finished: the pieces of all slots' roots in the order of the slots, the history of the run, and
 /// the workers' tools in the order in which they were given.

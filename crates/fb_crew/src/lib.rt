@@ -13,8 +13,8 @@ mod solver;
 mod sorting;
 pub mod window;
 
-pub use crew::{MOST_WORKERS, Worked, work_all};
+pub use crew::{Worked, work_all};
 pub use fb_book::{Entry, Kind};
 pub use hands::{Gate, Hands, OpenGate};
 pub use here::{Finished, work_here};
-pub use window::{Crew, MOST_AT_ONCE, Window};
+pub use window::{Crew, Window};

@@ -5,8 +5,7 @@ ghost use Rattle.fb_graph.specs.Components.{IsFirstOdd};
 ghost use Rattle.fb_graph.specs.Limits.{DecodingGraph, IsShot, ShotValue, problem_of};
 ghost use Rattle.fb_crew.specs.InternalWindows.{IsSorted, SortingLaws, rows_by, with_places};
 
-use crate::window::MOST_AT_ONCE;
-use fb_book::Entry;
+use fb_book::{Entry, MOST_AT_ONCE};
 use fb_graph::{Components, NoMemory, Row, Shot, Whole, first_odd};
 use std::alloc::Global;
 

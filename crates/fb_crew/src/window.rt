@@ -6,20 +6,17 @@ ghost use Rattle.fb_plan.specs.Plans.{IsPlan, root_of};
 ghost use Rattle.fb_crew.specs.InternalWindows.{AreRowsOf};
 ghost use Rattle.fb_crew.specs.Windows.{AreRows, IsHistoryOf};
 
-use crate::crew::{MOST_WORKERS, Worked, work_all};
+use crate::crew::{Worked, work_all};
 use crate::hands::Gate;
 use crate::solver::{Solved, Solver, Tools};
 use crate::sorting::{Sorted, join_rows, renumber, sort_out};
-use fb_book::Entry;
+use fb_book::{Entry, MOST_AT_ONCE, MOST_WORKERS};
 use fb_graph::{Components, Graph, NoMemory, Row, Shot, Whole, components};
 use fb_plan::{Job, Plan};
 use std::alloc::Global;
 use std::marker::Model;
 use std::sync::Wait;
 use std::thread::Threads;
-
-/// The most shots of a window.
-pub const MOST_AT_ONCE: usize = 64;
 
 /// The rows of some shots, and which worker took and gave which part of them: an entry's slot is the place of its shot.
 #[derive(Drop)]

@@ -10,7 +10,7 @@ ghost use Rattle.fb_inputs.specs.Judging.{most_shots};
 ghost use Rattle.fb_inputs.specs.InternalGathers.{FirstFrom, GathersFrom};
 ghost use Rattle.fb_report.specs.Texts.{rows_text};
 ghost use Rattle.fb_crew.specs.Windows.{AreRows, IsHistoryOf};
-ghost use Rattle.fb_crew.specs.declared.window.TheConstants.{MOST_AT_ONCE};
+ghost use Rattle.fb_book.specs.declared.limits.TheConstants.{MOST_AT_ONCE};
 ghost use Rattle.fb_run.specs.Decoding.{batch_text, cause_of, events_text};
 ghost use Rattle.fb_run.specs.InternalBatches.{AddsCounts, TakesBatch, batch_in};
 ghost use Rattle.fb_run.specs.InternalWrites.{WritesBatches, WritesFirstBatches, tally_with, counts_in};

@@ -1,7 +1,7 @@
 //! The command `sample`.
 
 ghost use Rattle.std.specs.Prelude.{◌≡◌, ◌≢◌, ◌+◌, ◌*◌, ◌^◌, ◌<◌, ◌≤◌, length, All, IfOk, OnOk};
-ghost use Rattle.fb_crew.specs.declared.window.TheConstants.{MOST_AT_ONCE};
+ghost use Rattle.fb_book.specs.declared.limits.TheConstants.{MOST_AT_ONCE};
 ghost use Rattle.fb_gen.specs.Drawing.{state_after};
 ghost use Rattle.fb_graph.specs.Limits.{IsShot, most_vertices};
 ghost use Rattle.fb_plan.specs.Plans.{IsPlan};

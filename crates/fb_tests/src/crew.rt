@@ -4,8 +4,8 @@ ghost use Rattle.std.specs.Prelude.{◌≡◌, ◌≤◌, None, Some, IfOk};
 ghost use Rattle.fb_plan.specs.Plans.{IsPlan};
 ghost use Rattle.fb_book.specs.Books.{IsPieceAt, place_of};
 
-use fb_book::{Board, Book, Claim, Permit, Piece, order_of_nodes};
-use fb_crew::{Entry, Gate, Hands, Kind, MOST_WORKERS, OpenGate, Worked, work_all, work_here};
+use fb_book::{Board, Book, Claim, MOST_WORKERS, Permit, Piece, order_of_nodes};
+use fb_crew::{Entry, Gate, Hands, Kind, OpenGate, Worked, work_all, work_here};
 use fb_graph::{Graph, NoMemory, Shot, components, first_odd};
 use fb_plan::{Job, Join, Plan};
 use std::alloc::Global;

@@ -17,10 +17,10 @@ use std::ops::RangeInclusive;
 const VERSION: &str = "0.1.0";
 
 /// The most workers that may solve parts side by side.
-const MOST_WORKERS: u64 = 64;
+const MOST_WORKERS: u64 = fb_book::limits::MOST_WORKERS as u64;
 
 /// The most shots that may be solved at once.
-const MOST_AT_ONCE: u64 = 64;
+const MOST_AT_ONCE: u64 = fb_book::limits::MOST_AT_ONCE as u64;
 
 /// The least distance of a lattice.
 const LEAST_DISTANCE: u64 = 2;
