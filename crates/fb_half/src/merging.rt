@@ -7,8 +7,11 @@ ghost use Rattle.fb_graph.specs.Dual.{cover_of, is_live as is_node};
 ghost use Rattle.fb_graph.specs.Limits.{no_shot};
 ghost use Rattle.fb_graph.specs.Parity.{is_in};
 ghost use Rattle.fb_plan.specs.Plans.{node_count, problem_at};
+ghost use Rattle.fb_links.specs.Merged.{AreMerged};
 ghost use Rattle.fb_links.specs.Names.{name_by};
 ghost use Rattle.fb_links.specs.Table.{is_live};
+ghost use Rattle.fb_blossoms.specs.Merged.{AreLeavesApart};
+ghost use Rattle.fb_blossoms.specs.Merged as merged;
 ghost use Rattle.fb_blossoms.specs.Nodes as blossoms;
 ghost use Rattle.fb_half.specs.InternalSeams.{IsBeside, IsFreed, IsOpened, AddsSingles};
 ghost use Rattle.fb_half.specs.Matchings.{listed_names, match_links, matched_names};
@@ -28,6 +31,35 @@ use fb_links::{LinkId, Links, NodeId};
 use fb_plan::{NodeScope, Plan};
 use fb_regions::Regions;
 use std::alloc::Global;
+
+/// The links and the blossoms of two parts as those of one, and the old and new numbers of what was the right part's.
+#[derive(Drop)]
+pub(crate) struct Stores {
+    pub(crate) links: Links,
+    pub(crate) blossoms: Blossoms,
+    pub(crate) link_names: Vec<(LinkId, LinkId)>,
+    pub(crate) names: Vec<(NodeId, NodeId)>,
+}
+
+/// The right part's links and blossoms beside the left one's.
+pub(crate) fn merged_stores(
+    alloc: Global,
+    left: (Links, Blossoms),
+    right: (Links, Blossoms),
+) -> Result<Stores, NoMemory>
+    requires { AreLeavesApart left.1 right.1 }
+    ensures links { IfOk result (λ s. AreMerged left.0 right.0 s.link_names.items s.links) }
+    ensures blossoms { IfOk result (λ s. merged.IsMerged left.1 right.1 s.blossoms s.link_names.items s.names.items) }
+{
+    let (links, link_names) = Links::merged(alloc, left.0, right.0)?;
+    let (blossoms, names) = Blossoms::merged(alloc, left.1, right.1, &link_names)?;
+    Ok(Stores {
+        links,
+        blossoms,
+        link_names,
+        names,
+    })
+}
 
 /// The match with new numbers of its link and of its nodes.
 fn renamed_match(m: Match, links: &Names, nodes: &Names) -> Match

@@ -69,24 +69,46 @@ pub(crate) fn empty_parts<'a>(
     ensures value { IfOk result (λ p. part_of p ≡ empty_part job.now slot node) }
     ensures scope { IfOk result HasScope }
 {
-    let scope = NodeScope {
-        graph: job.graph(),
-        plan: job.plan(),
-        node,
-    };
-    let Some(spare) = spare else {
-        return Ok(Parts {
-            regions: Regions::new(alloc, &scope)?,
-            links: Links::new(alloc)?,
-            blossoms: Blossoms::new(alloc)?,
-            matching: Matching::new(alloc),
-            job,
-            slot,
-            node,
-        });
-    };
+    match spare {
+        Some(spare) => parts_on(alloc, spare, job, slot, node),
+        None => new_parts(alloc, job, slot, node),
+    }
+}
+
+/// The pieces of a part without nodes, in new room.
+fn new_parts<'a>(
+    alloc: Global,
+    job: &'a Job<'a>,
+    slot: u32,
+    node: u32,
+) -> Result<Parts<'a>, NoMemory>
+    ensures value { IfOk result (λ p. part_of p ≡ empty_part job.now slot node) }
+    ensures scope { IfOk result HasScope }
+{
     Ok(Parts {
-        regions: Regions::on(alloc, spare.regions, &scope)?,
+        regions: Regions::new(alloc, &scope_of(job, node))?,
+        links: Links::new(alloc)?,
+        blossoms: Blossoms::new(alloc)?,
+        matching: Matching::new(alloc),
+        job,
+        slot,
+        node,
+    })
+}
+
+/// The pieces of a part without nodes, in the spare's room.
+fn parts_on<'a>(
+    alloc: Global,
+    spare: Spare,
+    job: &'a Job<'a>,
+    slot: u32,
+    node: u32,
+) -> Result<Parts<'a>, NoMemory>
+    ensures value { IfOk result (λ p. part_of p ≡ empty_part job.now slot node) }
+    ensures scope { IfOk result HasScope }
+{
+    Ok(Parts {
+        regions: Regions::on(alloc, spare.regions, &scope_of(job, node))?,
         links: spare.links,
         blossoms: spare.blossoms,
         matching: spare.matching,
@@ -94,4 +116,17 @@ pub(crate) fn empty_parts<'a>(
         slot,
         node,
     })
+}
+
+/// The node's scope.
+fn scope_of<'a>(job: &'a Job<'a>, node: u32) -> NodeScope<'a>
+    ensures graph { result.graph.now ≡ job.now.graph }
+    ensures plan { result.plan.now ≡ job.now.plan }
+    ensures node { result.node ≡ node }
+{
+    NodeScope {
+        graph: job.graph(),
+        plan: job.plan(),
+        node,
+    }
 }

@@ -9,7 +9,7 @@ ghost use Rattle.fb_half.specs.Values.{HasScope, IsScopeOf, part_of};
 
 use crate::half::Half;
 use crate::matching::Matching;
-use crate::merging::{open_seam, take_matches};
+use crate::merging::{merged_stores, open_seam, take_matches};
 use crate::parts::Parts;
 use crate::spare::{Spare, empty_parts};
 use crate::start::{own_defects, start};
@@ -234,18 +234,16 @@ impl<'a> Work<'a> {
             node,
         };
         scope.limits();
-        let (links, link_names) = Links::merged(alloc, left.links, right.links)?;
-        let (blossoms, names) = Blossoms::merged(
+        let stores = merged_stores(
             alloc,
-            left.blossoms,
-            right.blossoms,
-            &link_names,
+            (left.links, left.blossoms),
+            (right.links, right.blossoms),
         )?;
         let (regions, room) = Regions::merged_with_spare(
             alloc,
             left.regions,
             right.regions,
-            &names,
+            &stores.names,
             &scope,
         )?;
         let mut matching = left.matching;
@@ -253,13 +251,13 @@ impl<'a> Work<'a> {
             alloc,
             &mut matching,
             right.matching.matches(),
-            &link_names,
-            &names,
+            &stores.link_names,
+            &stores.names,
         )?;
         let parts = Parts {
             regions,
-            links,
-            blossoms,
+            links: stores.links,
+            blossoms: stores.blossoms,
             matching,
             job,
             slot,
