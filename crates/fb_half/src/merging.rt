@@ -1,11 +1,14 @@
 //! How the solved parts of two children become their parent's part.
 
-ghost use Rattle.std.specs.Prelude.{◌≡◌, ◌≢◌, ◌<◌, ◌++◌, ℕ, true, false, length, map, filter, drop, All, IfOk, OnOk, Some, None, []};
+ghost use Rattle.std.specs.Prelude.{◌≡◌, ◌≢◌, ◌<◌, ◌++◌, ℕ, List, Option, true, false, length, map, filter, drop, All, IfOk, OnOk, Some, None, []};
 ghost use Rattle.std.specs.List.Sorted.{IsStrictlyIncreasing};
 ghost use Rattle.fb_graph.specs.Certificate.{AreDistinct};
 ghost use Rattle.fb_graph.specs.Dual.{cover_of, is_live as is_node};
 ghost use Rattle.fb_graph.specs.Limits.{no_shot};
+ghost use Rattle.fb_graph.specs.NestUnions.{AreParts};
 ghost use Rattle.fb_graph.specs.Parity.{is_in};
+ghost use Rattle.fb_graph.specs.RenamedNodes.{renamed_nodes};
+ghost use Rattle.fb_regions.specs.Merged.{AreNewNames};
 ghost use Rattle.fb_plan.specs.Plans.{node_count, problem_at};
 ghost use Rattle.fb_links.specs.Merged.{AreMerged};
 ghost use Rattle.fb_links.specs.Names.{name_by};
@@ -29,35 +32,61 @@ use fb_graph::NoMemory;
 use fb_links::names::{Names, names_of};
 use fb_links::{LinkId, Links, NodeId};
 use fb_plan::{NodeScope, Plan};
-use fb_regions::Regions;
+use fb_regions::{Regions, SpareRegions};
 use std::alloc::Global;
 
-/// The links and the blossoms of two parts as those of one, and the old and new numbers of what was the right part's.
+/// The dual state, the links and the blossoms of a part.
 #[derive(Drop)]
-pub(crate) struct Stores {
+pub(crate) struct Stores<'a> {
+    pub(crate) regions: Regions<NodeScope<'a>>,
     pub(crate) links: Links,
     pub(crate) blossoms: Blossoms,
-    pub(crate) link_names: Vec<(LinkId, LinkId)>,
-    pub(crate) names: Vec<(NodeId, NodeId)>,
 }
 
-/// The right part's links and blossoms beside the left one's.
-pub(crate) fn merged_stores(
+/// The stores of two parts as those of one, the old and new numbers of what was the right part's, and the room that is left
+/// of that part's dual state.
+#[derive(Drop)]
+pub(crate) struct MergedStores<'a> {
+    pub(crate) stores: Stores<'a>,
+    pub(crate) link_names: Vec<(LinkId, LinkId)>,
+    pub(crate) names: Vec<(NodeId, NodeId)>,
+    pub(crate) room: SpareRegions,
+}
+
+/// The right part's stores beside the left one's, for a scope that has the real vertices of both.
+pub(crate) fn merged_stores<'a>(
     alloc: Global,
-    left: (Links, Blossoms),
-    right: (Links, Blossoms),
-) -> Result<Stores, NoMemory>
-    requires { AreLeavesApart left.1 right.1 }
-    ensures links { IfOk result (λ s. AreMerged left.0 right.0 s.link_names.items s.links) }
-    ensures blossoms { IfOk result (λ s. merged.IsMerged left.1 right.1 s.blossoms s.link_names.items s.names.items) }
+    scope: &NodeScope<'a>,
+    left: Stores<'a>,
+    right: Stores<'a>,
+) -> Result<MergedStores<'a>, NoMemory>
+    requires leaves { AreLeavesApart left.blossoms right.blossoms }
+    requires names { (store : List (Option blossoms.Node)) (links names : List (ℕ × ℕ)) → merged.IsMerged left.blossoms right.blossoms store links names → AreNewNames left.regions.nodes right.regions.nodes (name_by names) }
+    requires parts { AreParts (problem_at left.regions.scope.graph.now left.regions.scope.plan.now left.regions.scope.node no_shot) (problem_at right.regions.scope.graph.now right.regions.scope.plan.now right.regions.scope.node no_shot) (problem_at scope.now.graph.now scope.now.plan.now scope.now.node no_shot) }
+    requires left_vertices { left.regions.scope.graph.now.vertices ≡ scope.now.graph.now.vertices }
+    requires right_vertices { right.regions.scope.graph.now.vertices ≡ scope.now.graph.now.vertices }
+    ensures links { IfOk result (λ m. AreMerged left.entry.links right.entry.links m.link_names.items m.stores.links) }
+    ensures blossoms { IfOk result (λ m. merged.IsMerged left.entry.blossoms right.entry.blossoms m.stores.blossoms m.link_names.items m.names.items) }
+    ensures regions { IfOk result (λ m. m.stores.regions ≡ record { scope = scope.now; nodes = left.entry.regions.nodes ++ renamed_nodes (name_by m.names.items) right.entry.regions.nodes }) }
 {
-    let (links, link_names) = Links::merged(alloc, left.0, right.0)?;
-    let (blossoms, names) = Blossoms::merged(alloc, left.1, right.1, &link_names)?;
-    Ok(Stores {
-        links,
-        blossoms,
+    let (links, link_names) = Links::merged(alloc, left.links, right.links)?;
+    let (blossoms, names) = Blossoms::merged(alloc, left.blossoms, right.blossoms, &link_names)?;
+    let (regions, room) = Regions::merged_with_spare(
+        alloc,
+        left.regions,
+        right.regions,
+        &names,
+        scope,
+    )?;
+    Ok(MergedStores {
+        stores: Stores {
+            regions,
+            links,
+            blossoms,
+        },
         link_names,
         names,
+        room,
     })
 }
 

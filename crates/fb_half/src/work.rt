@@ -9,7 +9,7 @@ ghost use Rattle.fb_half.specs.Values.{HasScope, IsScopeOf, part_of};
 
 use crate::half::Half;
 use crate::matching::Matching;
-use crate::merging::{merged_stores, open_seam, take_matches};
+use crate::merging::{Stores, merged_stores, open_seam, take_matches};
 use crate::parts::Parts;
 use crate::spare::{Spare, empty_parts};
 use crate::start::{own_defects, start};
@@ -234,37 +234,39 @@ impl<'a> Work<'a> {
             node,
         };
         scope.limits();
-        let stores = merged_stores(
+        let both = merged_stores(
             alloc,
-            (left.links, left.blossoms),
-            (right.links, right.blossoms),
-        )?;
-        let (regions, room) = Regions::merged_with_spare(
-            alloc,
-            left.regions,
-            right.regions,
-            &stores.names,
             &scope,
+            Stores {
+                regions: left.regions,
+                links: left.links,
+                blossoms: left.blossoms,
+            },
+            Stores {
+                regions: right.regions,
+                links: right.links,
+                blossoms: right.blossoms,
+            },
         )?;
         let mut matching = left.matching;
         take_matches(
             alloc,
             &mut matching,
             right.matching.matches(),
-            &stores.link_names,
-            &stores.names,
+            &both.link_names,
+            &both.names,
         )?;
         let parts = Parts {
-            regions,
-            links: stores.links,
-            blossoms: stores.blossoms,
+            regions: both.stores.regions,
+            links: both.stores.links,
+            blossoms: both.stores.blossoms,
             matching,
             job,
             slot,
             node,
         };
         let parts = open_seam(alloc, parts)?;
-        let spare = Spare::beside(alloc, room, right.matching)?;
+        let spare = Spare::beside(alloc, both.room, right.matching)?;
         let work = Work { parts };
         Ok((work, spare))
     }

@@ -16,27 +16,26 @@ use Rattle.fb_half.proofs.GivenHalves.{halves_of, pieces_are}
 use Rattle.fb_half.proofs.MergedHalves.{beside, leaves_apart, matches_distinct, scoped_parts}
 use Rattle.fb_half.proofs.work.Work.merge_with_spare.Goals as goal
 
-pub merged_stores-requires : goal.merged_stores-requires
-merged_stores-requires c =
+pub merged_stores-requires-clause-leaves : goal.merged_stores-requires-clause-leaves
+merged_stores-requires-clause-leaves c =
     let h =
     halves_of c.args.job.now c.args.node c.graph.result.now c.plan.result.now (part_of c.into_parts-left.result) (part_of c.into_parts-right.result) c.args.left c.args.right
     c.into_parts-left.ensures.value c.into_parts-right.ensures.value c.requires.left c.requires.right c.requires.slot c.requires.children c.graph.ensures c.plan.ensures
     c.limits.ensures c.keeps-2.ensures.part c.keeps-3.ensures.part c.keeps-2.ensures.matched c.keeps-3.ensures.matched in
     leaves_apart (part_of c.into_parts-left.result) (part_of c.into_parts-right.result) c.args.node h.limits h.children h.one h.two h.matched h.also
 
-pub merged_with_spare-requires-clause-names : goal.merged_with_spare-requires-clause-names
-merged_with_spare-requires-clause-names c =
+pub merged_stores-requires-clause-names : goal.merged_stores-requires-clause-names
+merged_stores-requires-clause-names c =
     let h =
     halves_of c.args.job.now c.args.node c.graph.result.now c.plan.result.now (part_of c.into_parts-left.result) (part_of c.into_parts-right.result) c.args.left c.args.right
     c.into_parts-left.ensures.value c.into_parts-right.ensures.value c.requires.left c.requires.right c.requires.slot c.requires.children c.graph.ensures c.plan.ensures
     c.limits.ensures c.keeps-2.ensures.part c.keeps-3.ensures.part c.keeps-2.ensures.matched c.keeps-3.ensures.matched in
-    let stores = c.in_ok-stores.ensures.blossoms in
-    subst (λ l. AreNewNames c.into_parts-left.result.regions.nodes c.into_parts-right.result.regions.nodes (name_by l)) (sym c.deref.ensures.value)
-    (new_names c.into_parts-left.result.regions.nodes c.into_parts-right.result.regions.nodes c.into_parts-left.result.blossoms c.into_parts-right.result.blossoms
-    c.in_ok-stores.stores.blossoms c.in_ok-stores.stores.link_names.items c.in_ok-stores.stores.names.items h.one.agreed h.two.agreed stores)
+    λ store links names are.
+    new_names c.into_parts-left.result.regions.nodes c.into_parts-right.result.regions.nodes c.into_parts-left.result.blossoms c.into_parts-right.result.blossoms
+    store links names h.one.agreed h.two.agreed are
 
-pub merged_with_spare-requires-clause-parts : goal.merged_with_spare-requires-clause-parts
-merged_with_spare-requires-clause-parts c =
+pub merged_stores-requires-clause-parts : goal.merged_stores-requires-clause-parts
+merged_stores-requires-clause-parts c =
     let h =
     halves_of c.args.job.now c.args.node c.graph.result.now c.plan.result.now (part_of c.into_parts-left.result) (part_of c.into_parts-right.result) c.args.left c.args.right
     c.into_parts-left.ensures.value c.into_parts-right.ensures.value c.requires.left c.requires.right c.requires.slot c.requires.children c.graph.ensures c.plan.ensures
@@ -52,15 +51,15 @@ take_matches-requires c =
     halves_of c.args.job.now c.args.node c.graph.result.now c.plan.result.now (part_of c.into_parts-left.result) (part_of c.into_parts-right.result) c.args.left c.args.right
     c.into_parts-left.ensures.value c.into_parts-right.ensures.value c.requires.left c.requires.right c.requires.slot c.requires.children c.graph.ensures c.plan.ensures
     c.limits.ensures c.keeps-2.ensures.part c.keeps-3.ensures.part c.keeps-2.ensures.matched c.keeps-3.ensures.matched in
-    let stores = c.in_ok-stores.ensures.blossoms in
-    subst (λ l. AreDistinct (listed_names c.into_parts-left.result.matching ++ matched_names (map (renamed_match (name_by l) (name_by c.deref-3.result.now)) c.matches.result.now)))
+    let stores = c.in_ok-both.ensures.blossoms in
+    subst (λ l. AreDistinct (listed_names c.into_parts-left.result.matching ++ matched_names (map (renamed_match (name_by l) (name_by c.deref-2.result.now)) c.matches.result.now)))
+    (sym c.deref.ensures.value)
+    (subst (λ l. AreDistinct (listed_names c.into_parts-left.result.matching ++ matched_names (map (renamed_match (name_by c.in_ok-both.both.link_names.items) (name_by l)) c.matches.result.now)))
     (sym c.deref-2.ensures.value)
-    (subst (λ l. AreDistinct (listed_names c.into_parts-left.result.matching ++ matched_names (map (renamed_match (name_by c.in_ok-stores.stores.link_names.items) (name_by l)) c.matches.result.now)))
-    (sym c.deref-3.ensures.value)
     (subst (λ l. AreDistinct (listed_names c.into_parts-left.result.matching
-    ++ matched_names (map (renamed_match (name_by c.in_ok-stores.stores.link_names.items) (name_by c.in_ok-stores.stores.names.items)) l))) (sym c.matches.ensures)
+    ++ matched_names (map (renamed_match (name_by c.in_ok-both.both.link_names.items) (name_by c.in_ok-both.both.names.items)) l))) (sym c.matches.ensures)
     (matches_distinct (part_of c.into_parts-left.result) (part_of c.into_parts-right.result) c.args.node h.limits h.children h.one h.two h.matched h.also
-    c.in_ok-stores.stores.link_names.items c.in_ok-stores.stores.names.items c.in_ok-stores.stores.links c.in_ok-stores.stores.blossoms c.in_ok-stores.ensures.links stores)))
+    c.in_ok-both.both.link_names.items c.in_ok-both.both.names.items c.in_ok-both.both.stores.links c.in_ok-both.both.stores.blossoms c.in_ok-both.ensures.links stores)))
 
 pub open_seam-requires-clause-beside : goal.open_seam-requires-clause-beside
 open_seam-requires-clause-beside c =
@@ -68,26 +67,25 @@ open_seam-requires-clause-beside c =
     halves_of c.args.job.now c.args.node c.graph.result.now c.plan.result.now (part_of c.into_parts-left.result) (part_of c.into_parts-right.result) c.args.left c.args.right
     c.into_parts-left.ensures.value c.into_parts-right.ensures.value c.requires.left c.requires.right c.requires.slot c.requires.children c.graph.ensures c.plan.ensures
     c.limits.ensures c.keeps-2.ensures.part c.keeps-3.ensures.part c.keeps-2.ensures.matched c.keeps-3.ensures.matched in
-    let stores = c.in_ok-stores.ensures.blossoms in
+    let stores = c.in_ok-both.ensures.blossoms in
     let made : PartValue =
     part_of (record {
-      regions = c.in_ok-regions.regions;
-      links = c.in_ok-stores.stores.links;
-      blossoms = c.in_ok-stores.stores.blossoms;
+      regions = c.in_ok-both.both.stores.regions;
+      links = c.in_ok-both.both.stores.links;
+      blossoms = c.in_ok-both.both.stores.blossoms;
       matching = c.take_matches.new.matching;
       job = c.args.job;
       slot = c.into_parts-left.result.slot;
       node = c.args.node;
     }) in
     let same =
-    pieces_are c.args.job.now (part_of c.into_parts-left.result) (part_of c.into_parts-right.result) made c.args.node c.in_ok-stores.stores.link_names.items c.in_ok-stores.stores.names.items
-    _ _ _ h refl refl refl c.deref-2.ensures.value c.deref-3.ensures.value
-    (ap (λ r. r.nodes) c.in_ok-regions.ensures
-    ∙ ap (λ l. c.into_parts-left.result.regions.nodes ++ renamed_nodes (name_by l) c.into_parts-right.result.regions.nodes) c.deref.ensures.value)
+    pieces_are c.args.job.now (part_of c.into_parts-left.result) (part_of c.into_parts-right.result) made c.args.node c.in_ok-both.both.link_names.items c.in_ok-both.both.names.items
+    _ _ _ h refl refl refl c.deref.ensures.value c.deref-2.ensures.value
+    (ap (λ r. r.nodes) c.in_ok-both.ensures.regions)
     c.matches.ensures c.in_ok-take_matches.ensures in
     subst IsBeside (sym same)
     (beside (part_of c.into_parts-left.result) (part_of c.into_parts-right.result) c.args.node h.limits h.children h.one h.two h.matched h.also
-    c.in_ok-stores.stores.link_names.items c.in_ok-stores.stores.names.items c.in_ok-stores.stores.links c.in_ok-stores.stores.blossoms c.in_ok-stores.ensures.links stores)
+    c.in_ok-both.both.link_names.items c.in_ok-both.both.names.items c.in_ok-both.both.stores.links c.in_ok-both.both.stores.blossoms c.in_ok-both.ensures.links stores)
 
 pub invariant_of-work : goal.invariant_of-work
 invariant_of-work c =
@@ -95,29 +93,28 @@ invariant_of-work c =
     halves_of c.args.job.now c.args.node c.graph.result.now c.plan.result.now (part_of c.into_parts-left.result) (part_of c.into_parts-right.result) c.args.left c.args.right
     c.into_parts-left.ensures.value c.into_parts-right.ensures.value c.requires.left c.requires.right c.requires.slot c.requires.children c.graph.ensures c.plan.ensures
     c.limits.ensures c.keeps-2.ensures.part c.keeps-3.ensures.part c.keeps-2.ensures.matched c.keeps-3.ensures.matched in
-    let stores = c.in_ok-stores.ensures.blossoms in
+    let stores = c.in_ok-both.ensures.blossoms in
     let made : PartValue =
     part_of (record {
-      regions = c.in_ok-regions.regions;
-      links = c.in_ok-stores.stores.links;
-      blossoms = c.in_ok-stores.stores.blossoms;
+      regions = c.in_ok-both.both.stores.regions;
+      links = c.in_ok-both.both.stores.links;
+      blossoms = c.in_ok-both.both.stores.blossoms;
       matching = c.take_matches.new.matching;
       job = c.args.job;
       slot = c.into_parts-left.result.slot;
       node = c.args.node;
     }) in
     let same =
-    pieces_are c.args.job.now (part_of c.into_parts-left.result) (part_of c.into_parts-right.result) made c.args.node c.in_ok-stores.stores.link_names.items c.in_ok-stores.stores.names.items
-    _ _ _ h refl refl refl c.deref-2.ensures.value c.deref-3.ensures.value
-    (ap (λ r. r.nodes) c.in_ok-regions.ensures
-    ∙ ap (λ l. c.into_parts-left.result.regions.nodes ++ renamed_nodes (name_by l) c.into_parts-right.result.regions.nodes) c.deref.ensures.value)
+    pieces_are c.args.job.now (part_of c.into_parts-left.result) (part_of c.into_parts-right.result) made c.args.node c.in_ok-both.both.link_names.items c.in_ok-both.both.names.items
+    _ _ _ h refl refl refl c.deref.ensures.value c.deref-2.ensures.value
+    (ap (λ r. r.nodes) c.in_ok-both.ensures.regions)
     c.matches.ensures c.in_ok-take_matches.ensures in (
       c.in_ok-parts.ensures.scope,
       fused_part (part_of c.into_parts-left.result) (part_of c.into_parts-right.result) c.args.node h.limits h.children h.one h.two h.matched h.also
-          c.in_ok-stores.stores.link_names.items c.in_ok-stores.stores.names.items c.in_ok-stores.stores.links c.in_ok-stores.stores.blossoms c.in_ok-stores.ensures.links stores
+          c.in_ok-both.both.link_names.items c.in_ok-both.both.names.items c.in_ok-both.both.stores.links c.in_ok-both.both.stores.blossoms c.in_ok-both.ensures.links stores
           (drop (length (c.take_matches.new.matching.unmatched ++ freed_in made c.args.node)) c.in_ok-parts.parts.matching.unmatched) (part_of c.in_ok-parts.parts)
           (beside (part_of c.into_parts-left.result) (part_of c.into_parts-right.result) c.args.node h.limits h.children h.one h.two h.matched h.also
-          c.in_ok-stores.stores.link_names.items c.in_ok-stores.stores.names.items c.in_ok-stores.stores.links c.in_ok-stores.stores.blossoms c.in_ok-stores.ensures.links stores)
+          c.in_ok-both.both.link_names.items c.in_ok-both.both.names.items c.in_ok-both.both.stores.links c.in_ok-both.both.stores.blossoms c.in_ok-both.ensures.links stores)
           refl
           (subst (λ x. IsOpened (drop (length (c.take_matches.new.matching.unmatched ++ freed_in made c.args.node)) c.in_ok-parts.parts.matching.unmatched) x (part_of c.in_ok-parts.parts)) same
           c.in_ok-parts.ensures.opened),
@@ -129,31 +126,30 @@ returns c =
     halves_of c.args.job.now c.args.node c.graph.result.now c.plan.result.now (part_of c.into_parts-left.result) (part_of c.into_parts-right.result) c.args.left c.args.right
     c.into_parts-left.ensures.value c.into_parts-right.ensures.value c.requires.left c.requires.right c.requires.slot c.requires.children c.graph.ensures c.plan.ensures
     c.limits.ensures c.keeps-2.ensures.part c.keeps-3.ensures.part c.keeps-2.ensures.matched c.keeps-3.ensures.matched in
-    let stores = c.in_ok-stores.ensures.blossoms in
+    let stores = c.in_ok-both.ensures.blossoms in
     let made : PartValue =
     part_of (record {
-      regions = c.in_ok-regions.regions;
-      links = c.in_ok-stores.stores.links;
-      blossoms = c.in_ok-stores.stores.blossoms;
+      regions = c.in_ok-both.both.stores.regions;
+      links = c.in_ok-both.both.stores.links;
+      blossoms = c.in_ok-both.both.stores.blossoms;
       matching = c.take_matches.new.matching;
       job = c.args.job;
       slot = c.into_parts-left.result.slot;
       node = c.args.node;
     }) in
     let same =
-    pieces_are c.args.job.now (part_of c.into_parts-left.result) (part_of c.into_parts-right.result) made c.args.node c.in_ok-stores.stores.link_names.items c.in_ok-stores.stores.names.items
-    _ _ _ h refl refl refl c.deref-2.ensures.value c.deref-3.ensures.value
-    (ap (λ r. r.nodes) c.in_ok-regions.ensures
-    ∙ ap (λ l. c.into_parts-left.result.regions.nodes ++ renamed_nodes (name_by l) c.into_parts-right.result.regions.nodes) c.deref.ensures.value)
+    pieces_are c.args.job.now (part_of c.into_parts-left.result) (part_of c.into_parts-right.result) made c.args.node c.in_ok-both.both.link_names.items c.in_ok-both.both.names.items
+    _ _ _ h refl refl refl c.deref.ensures.value c.deref-2.ensures.value
+    (ap (λ r. r.nodes) c.in_ok-both.ensures.regions)
     c.matches.ensures c.in_ok-take_matches.ensures in
     subst (λ j. promised.IsMerged j c.args.node c.args.left c.args.right (part_of c.in_ok-parts.parts)) h.job
     (subst (λ x. promised.IsMerged c.into_parts-left.result.job.now c.args.node x c.args.right (part_of c.in_ok-parts.parts)) c.into_parts-left.ensures.value
     (subst (λ x. promised.IsMerged c.into_parts-left.result.job.now c.args.node (part_of c.into_parts-left.result) x (part_of c.in_ok-parts.parts)) c.into_parts-right.ensures.value
     (merged_is (part_of c.into_parts-left.result) (part_of c.into_parts-right.result) c.args.node h.limits h.children h.one h.two h.matched h.also
-    c.in_ok-stores.stores.link_names.items c.in_ok-stores.stores.names.items c.in_ok-stores.stores.links c.in_ok-stores.stores.blossoms c.in_ok-stores.ensures.links stores
+    c.in_ok-both.both.link_names.items c.in_ok-both.both.names.items c.in_ok-both.both.stores.links c.in_ok-both.both.stores.blossoms c.in_ok-both.ensures.links stores
     h.same_job
     (drop (length (c.take_matches.new.matching.unmatched ++ freed_in made c.args.node)) c.in_ok-parts.parts.matching.unmatched) (part_of c.in_ok-parts.parts)
     (beside (part_of c.into_parts-left.result) (part_of c.into_parts-right.result) c.args.node h.limits h.children h.one h.two h.matched h.also
-    c.in_ok-stores.stores.link_names.items c.in_ok-stores.stores.names.items c.in_ok-stores.stores.links c.in_ok-stores.stores.blossoms c.in_ok-stores.ensures.links stores)
+    c.in_ok-both.both.link_names.items c.in_ok-both.both.names.items c.in_ok-both.both.stores.links c.in_ok-both.both.stores.blossoms c.in_ok-both.ensures.links stores)
     (subst (λ x. IsOpened (drop (length (c.take_matches.new.matching.unmatched ++ freed_in made c.args.node)) c.in_ok-parts.parts.matching.unmatched) x (part_of c.in_ok-parts.parts)) same
     c.in_ok-parts.ensures.opened))))
