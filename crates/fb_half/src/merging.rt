@@ -26,6 +26,7 @@ use crate::matches::Match;
 use crate::matching::Matching;
 use crate::parts::Parts;
 use crate::reach::within;
+use crate::spare::Spare;
 use crate::start::add_leaf;
 use fb_blossoms::Blossoms;
 use fb_graph::NoMemory;
@@ -53,6 +54,35 @@ pub(crate) struct MergedStores<'a> {
     pub(crate) room: SpareRegions,
 }
 
+/// The links and the blossoms of two parts as those of one, and the old and new numbers of what was the right part's.
+#[derive(Drop)]
+struct Tables {
+    links: Links,
+    blossoms: Blossoms,
+    link_names: Vec<(LinkId, LinkId)>,
+    names: Vec<(NodeId, NodeId)>,
+}
+
+/// The right part's links and blossoms beside the left one's.
+fn merged_tables(
+    alloc: Global,
+    left: (Links, Blossoms),
+    right: (Links, Blossoms),
+) -> Result<Tables, NoMemory>
+    requires { AreLeavesApart left.1 right.1 }
+    ensures links { IfOk result (λ t. AreMerged left.0 right.0 t.link_names.items t.links) }
+    ensures blossoms { IfOk result (λ t. merged.IsMerged left.1 right.1 t.blossoms t.link_names.items t.names.items) }
+{
+    let (links, link_names) = Links::merged(alloc, left.0, right.0)?;
+    let (blossoms, names) = Blossoms::merged(alloc, left.1, right.1, &link_names)?;
+    Ok(Tables {
+        links,
+        blossoms,
+        link_names,
+        names,
+    })
+}
+
 /// The right part's stores beside the left one's, for a scope that has the real vertices of both.
 pub(crate) fn merged_stores<'a>(
     alloc: Global,
@@ -69,23 +99,26 @@ pub(crate) fn merged_stores<'a>(
     ensures blossoms { IfOk result (λ m. merged.IsMerged left.entry.blossoms right.entry.blossoms m.stores.blossoms m.link_names.items m.names.items) }
     ensures regions { IfOk result (λ m. m.stores.regions ≡ record { scope = scope.now; nodes = left.entry.regions.nodes ++ renamed_nodes (name_by m.names.items) right.entry.regions.nodes }) }
 {
-    let (links, link_names) = Links::merged(alloc, left.links, right.links)?;
-    let (blossoms, names) = Blossoms::merged(alloc, left.blossoms, right.blossoms, &link_names)?;
+    let tables = merged_tables(
+        alloc,
+        (left.links, left.blossoms),
+        (right.links, right.blossoms),
+    )?;
     let (regions, room) = Regions::merged_with_spare(
         alloc,
         left.regions,
         right.regions,
-        &names,
+        &tables.names,
         scope,
     )?;
     Ok(MergedStores {
         stores: Stores {
             regions,
-            links,
-            blossoms,
+            links: tables.links,
+            blossoms: tables.blossoms,
         },
-        link_names,
-        names,
+        link_names: tables.link_names,
+        names: tables.names,
         room,
     })
 }
@@ -231,7 +264,7 @@ fn add_leaves(
 
 /// The part once the vertices that its node owns are real: the matches to them are removed, and their defects are further
 /// nodes.
-pub(crate) fn open_seam<'a>(alloc: Global, parts: Parts<'a>) -> Result<Parts<'a>, NoMemory>
+fn open_seam<'a>(alloc: Global, parts: Parts<'a>) -> Result<Parts<'a>, NoMemory>
     requires scope { HasScope parts }
     requires beside { IsBeside (part_of parts) }
     ensures opened { IfOk result (λ p. IsOpened (drop (length (parts.entry.matching.unmatched ++ freed_in (part_of parts.entry) parts.entry.node)) p.matching.unmatched) (part_of parts.entry) (part_of p)) }
@@ -262,4 +295,21 @@ pub(crate) fn open_seam<'a>(alloc: Global, parts: Parts<'a>) -> Result<Parts<'a>
         slot,
         node,
     })
+}
+
+/// The same, and what is left of the right part as room for another.
+pub(crate) fn open_seam_with_spare<'a>(
+    alloc: Global,
+    parts: Parts<'a>,
+    room: SpareRegions,
+    others: Matching,
+) -> Result<(Parts<'a>, Spare), NoMemory>
+    requires scope { HasScope parts }
+    requires beside { IsBeside (part_of parts) }
+    ensures opened { IfOk result (λ r. IsOpened (drop (length (parts.entry.matching.unmatched ++ freed_in (part_of parts.entry) parts.entry.node)) r.0.matching.unmatched) (part_of parts.entry) (part_of r.0)) }
+    ensures scope { IfOk result (λ r. HasScope r.0) }
+{
+    let parts = open_seam(alloc, parts)?;
+    let spare = Spare::beside(alloc, room, others)?;
+    Ok((parts, spare))
 }

@@ -9,7 +9,7 @@ ghost use Rattle.fb_half.specs.Values.{HasScope, IsScopeOf, part_of};
 
 use crate::half::Half;
 use crate::matching::Matching;
-use crate::merging::{Stores, merged_stores, open_seam, take_matches};
+use crate::merging::{Stores, merged_stores, open_seam_with_spare, take_matches};
 use crate::parts::Parts;
 use crate::spare::{Spare, empty_parts};
 use crate::start::{own_defects, start};
@@ -265,8 +265,7 @@ impl<'a> Work<'a> {
             slot,
             node,
         };
-        let parts = open_seam(alloc, parts)?;
-        let spare = Spare::beside(alloc, both.room, right.matching)?;
+        let (parts, spare) = open_seam_with_spare(alloc, parts, both.room, right.matching)?;
         let work = Work { parts };
         Ok((work, spare))
     }

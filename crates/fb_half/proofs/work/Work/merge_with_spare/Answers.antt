@@ -61,8 +61,8 @@ take_matches-requires c =
     (matches_distinct (part_of c.into_parts-left.result) (part_of c.into_parts-right.result) c.args.node h.limits h.children h.one h.two h.matched h.also
     c.in_ok-both.both.link_names.items c.in_ok-both.both.names.items c.in_ok-both.both.stores.links c.in_ok-both.both.stores.blossoms c.in_ok-both.ensures.links stores)))
 
-pub open_seam-requires-clause-beside : goal.open_seam-requires-clause-beside
-open_seam-requires-clause-beside c =
+pub open_seam_with_spare-requires-clause-beside : goal.open_seam_with_spare-requires-clause-beside
+open_seam_with_spare-requires-clause-beside c =
     let h =
     halves_of c.args.job.now c.args.node c.graph.result.now c.plan.result.now (part_of c.into_parts-left.result) (part_of c.into_parts-right.result) c.args.left c.args.right
     c.into_parts-left.ensures.value c.into_parts-right.ensures.value c.requires.left c.requires.right c.requires.slot c.requires.children c.graph.ensures c.plan.ensures
