@@ -206,10 +206,10 @@ fn judge_file<F: Files, O: Sink>(
     ensures write_never_falls { O.faults out.old ≤ O.faults out.new }
     ensures write_unchanged { result ≢ Err RowsFault.WriteFault → O.faults out.new ≡ O.faults out.old }
 {
-    let Ok(stream) = ShotStream::new(alloc, format, graph, MOST_SHOTS) else {
+    let Ok(mut stream) = ShotStream::new(alloc, format, graph, MOST_SHOTS) else {
         return Err(RowsFault::NoMemory);
     };
-    judge(alloc, graph, rows, files, stream, out)
+    judge(alloc, graph, rows, files, &mut stream, out)
 }
 
 /// Judges rows by the shots of a stream that has read nothing yet, and writes their lines.
@@ -218,15 +218,15 @@ fn judge<F: Files, O: Sink>(
     graph: &Graph,
     rows: &[Row],
     files: &mut F,
-    stream: ShotStream<'_>,
+    stream: &mut ShotStream<'_>,
     out: &mut O,
 ) -> Result<Judged, RowsFault>
-    requires fresh { stream ≡ fresh stream.format stream.graph most_shots }
-    requires graph { stream.graph ≡ graph.now }
+    requires fresh { stream.old ≡ fresh stream.old.format stream.old.graph most_shots }
+    requires graph { stream.old.graph ≡ graph.now }
     requires values { All HasPositiveValues rows.now }
-    ensures all { IfOk result (λ j. JudgesAll (λ shots. GathersFrom (F.left files.old) stream.entry.format stream.entry.graph (F.left files.new) shots j.end)
+    ensures all { IfOk result (λ j. JudgesAll (λ shots. GathersFrom (F.left files.old) stream.old.format stream.old.graph (F.left files.new) shots j.end)
         graph.now rows.now (O.taken out.old) (O.taken out.new) j) }
-    ensures first { OnErr result (JudgesFirst (FirstFrom (F.left files.old) stream.entry.format stream.entry.graph)
+    ensures first { OnErr result (JudgesFirst (FirstFrom (F.left files.old) stream.old.format stream.old.graph)
         graph.now rows.now (O.taken out.old) (O.taken out.new)) }
     ensures at_end { IfOk result (λ j. j.end ≡ ShotsEnd.End → IsReadOut (F.left files.old) (F.left files.new)) }
     ensures asks { F.asked files.new ≡ F.asked files.old }
@@ -252,17 +252,17 @@ fn judge_into<F: Files, O: Sink>(
     graph: &Graph,
     rows: &[Row],
     files: &mut F,
-    mut stream: ShotStream<'_>,
+    stream: &mut ShotStream<'_>,
     outbox: &mut Outbox,
     out: &mut O,
 ) -> Result<Judged, RowsFault>
-    requires fresh { stream ≡ fresh stream.format stream.graph most_shots }
-    requires graph { stream.graph ≡ graph.now }
+    requires fresh { stream.old ≡ fresh stream.old.format stream.old.graph most_shots }
+    requires graph { stream.old.graph ≡ graph.now }
     requires values { All HasPositiveValues rows.now }
     requires empty { outbox.old.text ≡ [] }
-    ensures all { IfOk result (λ j. JudgesInto (λ shots. GathersFrom (F.left files.old) stream.entry.format stream.entry.graph (F.left files.new) shots j.end)
+    ensures all { IfOk result (λ j. JudgesInto (λ shots. GathersFrom (F.left files.old) stream.old.format stream.old.graph (F.left files.new) shots j.end)
         graph.now rows.now (O.taken out.old) (O.taken out.new) outbox.new.text j) }
-    ensures first { OnErr result (JudgesFirst (FirstFrom (F.left files.old) stream.entry.format stream.entry.graph)
+    ensures first { OnErr result (JudgesFirst (FirstFrom (F.left files.old) stream.old.format stream.old.graph)
         graph.now rows.now (O.taken out.old) (O.taken out.new)) }
     ensures at_end { IfOk result (λ j. j.end ≡ ShotsEnd.End → IsReadOut (F.left files.old) (F.left files.new)) }
     ensures asks { F.asked files.new ≡ F.asked files.old }

@@ -12,9 +12,9 @@ cond-le-one true = omega arith
 cond-le-one false = omega arith
 
 -- the shots with one more, and their lines
-given_at : (g : _) (c : In-Ok-judge_next g) → GivesShots c.args.stream c.next_shot.new.self (g.F.Files.left c.args.files.now)
+given_at : (g : _) (c : In-Ok-judge_next g) → GivesShots c.args.stream.now c.next_shot.new.self (g.F.Files.left c.args.files.now)
     (g.F.Files.left c.next_shot.new.files) (c.loop-step.invariant.0.shots ++ c.in-Shot.shot ∷ [])
-given_at g c = gives_next c.args.stream c.loop-step.stream c.next_shot.new.self (g.F.Files.left c.args.files.now) (g.F.Files.left c.loop-step.files)
+given_at g c = gives_next c.args.stream.now c.loop-step.stream c.next_shot.new.self (g.F.Files.left c.args.files.now) (g.F.Files.left c.loop-step.files)
     (g.F.Files.left c.next_shot.new.files) c.loop-step.invariant.0.shots c.in-Shot.shot c.loop-step.invariant.0.gives (rw c.in-Shot.is at c.in-Ok.ensures.step)
 
 judging_at : (g : _) (c : In-Ok-judge_next g) → IsJudging c.args.graph.now c.args.rows.now (g.O.Sink.taken c.args.out.now) (g.O.Sink.taken c.loop-step.out)
@@ -27,14 +27,14 @@ pub loop-step-init : goal.loop-step-init
 loop-step-init g c = (
   record {
     shots = [];
-    gives = gives_none c.args.stream (g.F.Files.left c.args.files.now);
+    gives = gives_none c.args.stream.now (g.F.Files.left c.args.files.now);
     judging = judging_begins c.args.graph.now c.args.rows.now (g.O.Sink.taken c.args.out.now) _ c.requires.empty;
     many = refl;
   },
   omega arith,
   sym (ap (λ (s : Stream). s.given) c.requires.fresh),
-  given_fits c.args.stream c.args.stream (g.F.Files.left c.args.files.now) (g.F.Files.left c.args.files.now) [] c.requires.fresh
-      (gives_none c.args.stream (g.F.Files.left c.args.files.now)),
+  given_fits c.args.stream.now c.args.stream.now (g.F.Files.left c.args.files.now) (g.F.Files.left c.args.files.now) [] c.requires.fresh
+      (gives_none c.args.stream.now (g.F.Files.left c.args.files.now)),
   refl,
   refl,
   refl,
@@ -43,22 +43,22 @@ loop-step-init g c = (
 
 pub returns-in_default-clause-first : goal.returns-in_default-clause-first
 returns-in_default-clause-first g c =
-    judged_first c.args.graph.now c.args.rows.now c.args.stream c.loop-step.stream (g.F.Files.left c.args.files.now) (g.F.Files.left c.loop-step.files)
+    judged_first c.args.graph.now c.args.rows.now c.args.stream.now c.loop-step.stream (g.F.Files.left c.args.files.now) (g.F.Files.left c.loop-step.files)
     (g.O.Sink.taken c.args.out.now) (g.O.Sink.taken c.loop-step.out) c.loop-step.outbox.text c.loop-step.shots c.loop-step.bad c.requires.fresh
     c.loop-step.invariant.0
 
 pub returns-in_default-judge_next-clause-first : goal.returns-in_default-judge_next-clause-first
 returns-in_default-judge_next-clause-first g c =
-    judged_first c.args.graph.now c.args.rows.now c.args.stream c.loop-step.stream (g.F.Files.left c.args.files.now) (g.F.Files.left c.loop-step.files)
+    judged_first c.args.graph.now c.args.rows.now c.args.stream.now c.loop-step.stream (g.F.Files.left c.args.files.now) (g.F.Files.left c.loop-step.files)
     (g.O.Sink.taken c.args.out.now) (g.O.Sink.taken c.loop-step.out) c.loop-step.outbox.text c.loop-step.shots c.loop-step.bad c.requires.fresh
     c.loop-step.invariant.0
 
 pub returns-in_default-flush_if_full-clause-first : goal.returns-in_default-flush_if_full-clause-first
 returns-in_default-flush_if_full-clause-first g c =
     let at = (goal.at.returns-in_default-flush_if_full-clause-first g c).In-Ok-judge_next in
-    judged_at_fault c.args.graph.now c.args.rows.now c.args.stream c.next_shot.new.self (g.F.Files.left c.args.files.now) (g.F.Files.left c.next_shot.new.files)
+    judged_at_fault c.args.graph.now c.args.rows.now c.args.stream.now c.next_shot.new.self (g.F.Files.left c.args.files.now) (g.F.Files.left c.next_shot.new.files)
     (g.O.Sink.taken c.args.out.now) (g.O.Sink.taken c.loop-step.out) (g.O.Sink.taken c.flush_if_full.new.out) c.judge_next.new.outbox.text _ _
-    (given_first c.args.stream c.next_shot.new.self (g.F.Files.left c.args.files.now) (g.F.Files.left c.next_shot.new.files) _ c.requires.fresh
+    (given_first c.args.stream.now c.next_shot.new.self (g.F.Files.left c.args.files.now) (g.F.Files.left c.next_shot.new.files) _ c.requires.fresh
     (given_at g at))
     (judging_at g at) c.in_default-flush_if_full.ensures.prefix
 
@@ -69,8 +69,8 @@ loop-step-preserved g c =
     let shots = c.loop-step.invariant.0.shots ++ c.in-Shot.shot ∷ [] in
     let left = g.F.Files.left c.args.files.now in
     let later = g.F.Files.left c.next_shot.new.files in
-    let fits = given_fits c.args.stream c.next_shot.new.self left later shots c.requires.fresh (given_at g at) in
-    let more = given_count c.args.stream c.next_shot.new.self left later shots c.requires.fresh (given_at g at) in (
+    let fits = given_fits c.args.stream.now c.next_shot.new.self left later shots c.requires.fresh (given_at g at) in
+    let more = given_count c.args.stream.now c.next_shot.new.self left later shots c.requires.fresh (given_at g at) in (
       record {
         shots = c.loop-step.invariant.0.shots ++ c.in-Shot.shot ∷ [];
         gives = given_at g at;
@@ -92,22 +92,22 @@ loop-step-preserved g c =
 
 pub returns-in-End-clause-all : goal.returns-in-End-clause-all
 returns-in-End-clause-all g c =
-    judged_into c.args.graph.now c.args.rows.now c.args.stream c.loop-step.stream (g.F.Files.left c.args.files.now) (g.F.Files.left c.loop-step.files)
+    judged_into c.args.graph.now c.args.rows.now c.args.stream.now c.loop-step.stream (g.F.Files.left c.args.files.now) (g.F.Files.left c.loop-step.files)
     (g.O.Sink.taken c.args.out.now) (g.O.Sink.taken c.loop-step.out) _ c.loop-step.outbox.text _ c.loop-step.invariant.0
-    (gathered_all c.args.stream c.loop-step.stream (g.F.Files.left c.args.files.now) (g.F.Files.left c.loop-step.files) c.loop-step.invariant.0.shots
+    (gathered_all c.args.stream.now c.loop-step.stream (g.F.Files.left c.args.files.now) (g.F.Files.left c.loop-step.files) c.loop-step.invariant.0.shots
     c.requires.fresh c.loop-step.invariant.0.gives c.next_shot.new.self (g.F.Files.left c.next_shot.new.files) (rw c.in-End.is at c.in-Ok.ensures.step))
 
 pub returns-in-Refused-clause-all : goal.returns-in-Refused-clause-all
 returns-in-Refused-clause-all g c =
-    judged_into c.args.graph.now c.args.rows.now c.args.stream c.loop-step.stream (g.F.Files.left c.args.files.now) (g.F.Files.left c.loop-step.files)
+    judged_into c.args.graph.now c.args.rows.now c.args.stream.now c.loop-step.stream (g.F.Files.left c.args.files.now) (g.F.Files.left c.loop-step.files)
     (g.O.Sink.taken c.args.out.now) (g.O.Sink.taken c.loop-step.out) _ c.loop-step.outbox.text _ c.loop-step.invariant.0
-    (gathered_before c.args.stream c.loop-step.stream (g.F.Files.left c.args.files.now) (g.F.Files.left c.loop-step.files) c.loop-step.invariant.0.shots
+    (gathered_before c.args.stream.now c.loop-step.stream (g.F.Files.left c.args.files.now) (g.F.Files.left c.loop-step.files) c.loop-step.invariant.0.shots
     c.requires.fresh c.loop-step.invariant.0.gives c.next_shot.new.self (g.F.Files.left c.next_shot.new.files) c.in-Refused.fault
     (rw c.in-Refused.is at c.in-Ok.ensures.step))
 
 pub returns-in-ReadFault-clause-all : goal.returns-in-ReadFault-clause-all
 returns-in-ReadFault-clause-all g c =
-    judged_into c.args.graph.now c.args.rows.now c.args.stream c.loop-step.stream (g.F.Files.left c.args.files.now) (g.F.Files.left c.loop-step.files)
+    judged_into c.args.graph.now c.args.rows.now c.args.stream.now c.loop-step.stream (g.F.Files.left c.args.files.now) (g.F.Files.left c.loop-step.files)
     (g.O.Sink.taken c.args.out.now) (g.O.Sink.taken c.loop-step.out) _ c.loop-step.outbox.text _ c.loop-step.invariant.0
-    (gathered_part c.args.stream c.loop-step.stream (g.F.Files.left c.args.files.now) (g.F.Files.left c.loop-step.files) c.loop-step.invariant.0.shots
+    (gathered_part c.args.stream.now c.loop-step.stream (g.F.Files.left c.args.files.now) (g.F.Files.left c.loop-step.files) c.loop-step.invariant.0.shots
     c.requires.fresh c.loop-step.invariant.0.gives c.next_shot.new.self (g.F.Files.left c.next_shot.new.files) (rw c.in-ReadFault.is at c.in-Ok.ensures.step))
