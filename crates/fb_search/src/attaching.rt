@@ -1,11 +1,13 @@
-ghost use Rattle.std.specs.Prelude.{◌≡◌, true, IfOk, MatchOption};
+ghost use Rattle.std.specs.Prelude.{◌≡◌, true, IfOk, OnOk, MatchOption};
 ghost use Rattle.fb_graph.specs.Parity.{is_in};
 ghost use Rattle.fb_half.specs.Matchings.{matched_names, names_of};
-ghost use Rattle.fb_half.specs.Values.{HasScope};
+ghost use Rattle.fb_half.specs.Parts.{IsPart};
+ghost use Rattle.fb_half.specs.Values.{HasScope, part_of};
 ghost use Rattle.fb_search.specs.InternalMeetings.{HasMet, IsBoundaryMatch, IsCouple};
 ghost use Rattle.fb_search.specs.InternalTightEdges.{Meets};
 ghost use Rattle.fb_search.specs.InternalProgress.{EndsWith, GoesOn};
-ghost use Rattle.fb_search.specs.InternalSearching.{SearchValue, search_of};
+ghost use Rattle.fb_search.specs.InternalSearching.{IsSearching, SearchValue, search_of};
+ghost use Rattle.fb_search.specs.Progress.{IsSearched};
 ghost use Rattle.fb_search.specs.InternalOutcomes.{HasCleared};
 
 use crate::ending::{forget_tree, match_tree};
@@ -108,11 +110,26 @@ fn attach<'a>(
     requires couple { IsCouple met.taken met.other mate }
     ensures { IfOk result (λ after. (w : SearchValue) → HasMet w met (search_of pieces.entry) → GoesOn w after) }
 {
-    let Pieces {
-        parts,
-        mut tree,
-        mut watch,
-    } = pieces;
+    let mut pieces = pieces;
+    add_couple(alloc, &mut pieces, met, mate)?;
+    let Pieces { parts, tree, watch } = pieces;
+    Ok(Searching { parts, tree, watch })
+}
+
+/// Adds the node and its mate to the tree, as a minus node under the plus node and a plus node under it.
+fn add_couple(
+    alloc: Global,
+    pieces: &mut Pieces<'_>,
+    met: Met,
+    mate: NodeId,
+) -> Result<(), NoMemory>
+    requires scope { HasScope pieces.old.parts }
+    requires met { (w : SearchValue) × HasMet w met (search_of pieces.old) }
+    requires couple { IsCouple met.taken met.other mate }
+    ensures searching { OnOk result (HasScope pieces.new.parts × IsSearching (search_of pieces.new)) }
+    ensures goes_on { OnOk result ((w : SearchValue) → HasMet w met (search_of pieces.old) → GoesOn w (search_of pieces.new)) }
+{
+    let Pieces { parts, tree, watch } = pieces;
     let scope = parts.regions.scope();
     scope.limits();
     let matched = CycleStep {
@@ -120,9 +137,9 @@ fn attach<'a>(
         link: met.taken.link,
     };
     tree.attach(alloc, met.plus, met.link, met.other, matched, &parts.links)?;
-    watch_node(&mut watch, scope, &parts.regions, mate);
+    watch_node(watch, scope, &parts.regions, mate);
     watch.keeps();
-    Ok(Searching { parts, tree, watch })
+    Ok(())
 }
 
 /// The node was matched to the boundary, and is matched with the plus node: the search ends with the root matched.
@@ -132,11 +149,24 @@ fn release<'a>(alloc: Global, pieces: Pieces<'a>, met: Met) -> Result<(Work<'a>,
     requires boundary { IsBoundaryMatch met.taken met.other }
     ensures { IfOk result (λ ended. (w : SearchValue) → HasMet w met (search_of pieces.entry) → EndsWith w ended.0 ended.1) }
 {
-    let Pieces {
-        mut parts,
-        tree,
-        watch,
-    } = pieces;
+    let mut pieces = pieces;
+    match_released(alloc, &mut pieces, met)?;
+    let Pieces { parts, tree, watch } = pieces;
+    Ok((Work::from_parts(parts), Scratch { watch, tree }))
+}
+
+/// Matches the root and its tree, the plus node with the node that was matched to the boundary, and forgets the links that
+/// the tree does not need.
+fn match_released(alloc: Global, pieces: &mut Pieces<'_>, met: Met) -> Result<(), NoMemory>
+    requires scope { HasScope pieces.old.parts }
+    requires met { (w : SearchValue) × HasMet w met (search_of pieces.old) }
+    requires boundary { IsBoundaryMatch met.taken met.other }
+    ensures scope { OnOk result (HasScope pieces.new.parts) }
+    ensures part { OnOk result (IsPart (part_of pieces.new.parts)) }
+    ensures searched { OnOk result ((w : SearchValue) → HasMet w met (search_of pieces.old) → IsSearched w.tree.root w.part (part_of pieces.new.parts)) }
+    ensures watch { pieces.new.watch ≡ pieces.old.watch }
+{
+    let Pieces { parts, tree, .. } = pieces;
     parts.links.forget(met.taken.link);
     parts.matching.take_unmatched(tree.root());
     let out = Match {
@@ -144,7 +174,7 @@ fn release<'a>(alloc: Global, pieces: Pieces<'a>, met: Met) -> Result<(Work<'a>,
         first: met.plus,
         second: Some(met.other),
     };
-    match_tree(alloc, &mut parts.matching, &tree, out)?;
-    forget_tree(alloc, &mut parts.links, &tree, met.plus)?;
-    Ok((Work::from_parts(parts), Scratch { watch, tree }))
+    match_tree(alloc, &mut parts.matching, tree, out)?;
+    forget_tree(alloc, &mut parts.links, tree, met.plus)?;
+    Ok(())
 }

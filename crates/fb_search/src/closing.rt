@@ -11,7 +11,7 @@ ghost use Rattle.fb_obstacles.specs.Obstacles.{Obstructs};
 ghost use Rattle.fb_obstacles.specs.declared.obstacle.Obstacle.TheVariants.{PlusPair};
 ghost use Rattle.fb_search.specs.InternalClosings.{IsReplacedBy, WatchesMinus};
 ghost use Rattle.fb_search.specs.InternalProgress.{GoesOn};
-ghost use Rattle.fb_search.specs.InternalSearching.{IsSearchingBeside, problem_of, roles_in, search_of};
+ghost use Rattle.fb_search.specs.InternalSearching.{IsSearching, IsSearchingBeside, problem_of, roles_in, search_of};
 
 use crate::searching::{Pieces, Searching};
 use crate::walks::met_walk;
@@ -59,20 +59,39 @@ pub(crate) fn close_cycle<'a>(
     requires tight { AreMatchedLinks (problem_of (search_of pieces)) pieces.parts.regions.nodes (link_by pieces.parts.links closing ∷ []) }
     ensures { IfOk result (GoesOn (search_of pieces.entry)) }
 {
-    let Pieces {
-        mut parts,
-        mut tree,
-        mut watch,
-    } = pieces;
+    let mut pieces = pieces;
+    join_cycle(alloc, &mut pieces, first, second, closing)?;
+    let Pieces { parts, tree, watch } = pieces;
+    Ok(Searching { parts, tree, watch })
+}
+
+/// Makes the cycle that the link closes between the two plus nodes a blossom, a plus node.
+fn join_cycle(
+    alloc: Global,
+    pieces: &mut Pieces<'_>,
+    first: NodeId,
+    second: NodeId,
+    closing: LinkId,
+) -> Result<(), NoMemory>
+    requires scope { HasScope pieces.old.parts }
+    requires search { IsSearchingBeside (closing ∷ []) (search_of pieces.old) }
+    requires first { IsPlus pieces.old.tree first }
+    requires second { IsPlus pieces.old.tree second }
+    requires apart { first ≢ second }
+    requires connects { Connects pieces.old.parts.regions.nodes (link_by pieces.old.parts.links closing) first second }
+    requires tight { AreMatchedLinks (problem_of (search_of pieces.old)) pieces.old.parts.regions.nodes (link_by pieces.old.parts.links closing ∷ []) }
+    ensures searching { OnOk result (HasScope pieces.new.parts × IsSearching (search_of pieces.new)) }
+    ensures goes_on { OnOk result (GoesOn (search_of pieces.old) (search_of pieces.new)) }
+{
+    let Pieces { parts, tree, watch } = pieces;
     let cycle = tree.cycle_of(alloc, first, second, closing, &parts.links)?;
     let nodes = nodes_on(alloc, &cycle)?;
     let nodes = nodes.as_slice();
-    watch_minus(&mut watch, &parts.regions, &tree, nodes);
+    watch_minus(watch, &parts.regions, tree, nodes);
     watch.keeps();
-    let held = &mut parts;
-    held.regions.scope().limits();
-    held.blossoms.keeps();
-    let blossom = held.blossoms.form(alloc, cycle, &held.links)?;
+    parts.regions.scope().limits();
+    parts.blossoms.keeps();
+    let blossom = parts.blossoms.form(alloc, cycle, &parts.links)?;
     parts.regions.join_nodes(alloc, blossom, nodes)?;
     let root = tree.root();
     let step = CycleStep {
@@ -81,7 +100,7 @@ pub(crate) fn close_cycle<'a>(
     };
     tree.replace(alloc, nodes, &[step], &parts.links)?;
     replace_unmatched(alloc, &mut parts.matching, root, tree.root())?;
-    Ok(Searching { parts, tree, watch })
+    Ok(())
 }
 
 /// The nodes of the steps.

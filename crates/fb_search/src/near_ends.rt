@@ -1,6 +1,6 @@
 //! The ways in which a single defect is matched at once.
 
-ghost use Rattle.std.specs.Prelude.{◌≡◌, true, IfOk, IfSome};
+ghost use Rattle.std.specs.Prelude.{◌≡◌, true, IfOk, IfSome, OnOk};
 ghost use Rattle.fb_graph.specs.Parity.{is_in};
 ghost use Rattle.fb_graph.specs.Steps.{MayStep, stepped_nodes};
 ghost use Rattle.fb_half.specs.Parts.{IsPart, problem_in};
@@ -42,6 +42,26 @@ fn match_at_boundary<'a>(
     ensures { IfOk result (IsSearched root (part_of parts.entry)) }
 {
     let mut parts = parts;
+    reach_boundary(alloc, &mut parts, root, edge, length)?;
+    Ok(Work::from_parts(parts))
+}
+
+/// Grows the root until the edge to the boundary is tight, and matches it over the edge.
+fn reach_boundary(
+    alloc: Global,
+    parts: &mut Parts<'_>,
+    root: NodeId,
+    edge: u32,
+    length: u64,
+) -> Result<(), NoMemory>
+    requires scope { HasScope parts.old }
+    requires part { IsPart (part_of parts.old) }
+    requires unmatched { is_in parts.old.matching.unmatched root ≡ true }
+    requires near { IsNearBoundary (problem_in (part_of parts.old)) parts.old.regions.nodes root edge length }
+    ensures scope { OnOk result (HasScope parts.new) }
+    ensures part { OnOk result (IsPart (part_of parts.new)) }
+    ensures searched { OnOk result (IsSearched root (part_of parts.old) (part_of parts.new)) }
+{
     parts.regions.scope().limits();
     grow_node(&mut parts.regions, root, length);
     let walk = out_walk(alloc, &parts.regions, edge)?;
@@ -53,7 +73,7 @@ fn match_at_boundary<'a>(
         second: None,
     };
     add_matches(alloc, &mut parts.matching, &[out])?;
-    Ok(Work::from_parts(parts))
+    Ok(())
 }
 
 /// The other defect and the root grow until the edge between them is tight, and are matched over it.
@@ -70,6 +90,25 @@ fn match_pair<'a>(
     ensures { IfOk result (IsSearched root (part_of parts.entry)) }
 {
     let mut parts = parts;
+    join_pair(alloc, &mut parts, root, pair)?;
+    Ok(Work::from_parts(parts))
+}
+
+/// Grows the other defect and the root until the edge between them is tight, and matches them over the edge.
+fn join_pair(
+    alloc: Global,
+    parts: &mut Parts<'_>,
+    root: NodeId,
+    pair: NearPair,
+) -> Result<(), NoMemory>
+    requires scope { HasScope parts.old }
+    requires part { IsPart (part_of parts.old) }
+    requires unmatched { is_in parts.old.matching.unmatched root ≡ true }
+    requires near { IsNearPair (problem_in (part_of parts.old)) parts.old.regions.nodes parts.old.matching.unmatched root pair }
+    ensures scope { OnOk result (HasScope parts.new) }
+    ensures part { OnOk result (IsPart (part_of parts.new)) }
+    ensures searched { OnOk result (IsSearched root (part_of parts.old) (part_of parts.new)) }
+{
     parts.regions.scope().limits();
     grow_node(&mut parts.regions, pair.other, pair.other_length);
     grow_node(&mut parts.regions, root, pair.length);
@@ -83,7 +122,7 @@ fn match_pair<'a>(
         second: Some(pair.other),
     };
     add_matches(alloc, &mut parts.matching, &[out])?;
-    Ok(Work::from_parts(parts))
+    Ok(())
 }
 
 /// How the root can be matched at once, if it can.

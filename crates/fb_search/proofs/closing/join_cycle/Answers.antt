@@ -3,11 +3,11 @@ use Rattle.fb_search.specs.InternalSearching.{SearchValue, search_of}
 use Rattle.fb_search.proofs.Agreed.{nodes_of}
 use Rattle.fb_search.proofs.ClosedCycles.{closes_by, steps_join, steps_live, steps_odd, steps_outer, steps_replaced, steps_round}
 use Rattle.fb_search.proofs.ClosedSearches.{cycle_made, new_name, root_new}
-use Rattle.fb_search.proofs.closing.close_cycle.Goals as goal
+use Rattle.fb_search.proofs.closing.join_cycle.Goals as goal
 
 pub watch_minus-requires-clause-live : goal.watch_minus-requires-clause-live
 watch_minus-requires-clause-live c =
-    let w : SearchValue = search_of c.args.pieces in
+    let w : SearchValue = search_of c.args.pieces.now in
     let closes =
     closes_by w c.args.first c.args.second c.args.closing c.requires.search c.requires.first c.requires.second
     c.requires.apart c.requires.connects c.requires.tight in
@@ -22,7 +22,7 @@ watch_minus-requires-clause-room c =
 
 pub form-requires-clause-cycle : goal.form-requires-clause-cycle
 form-requires-clause-cycle c =
-    let w : SearchValue = search_of c.args.pieces in
+    let w : SearchValue = search_of c.args.pieces.now in
     let closes =
     closes_by w c.args.first c.args.second c.args.closing c.requires.search c.requires.first c.requires.second
     c.requires.apart c.requires.connects c.requires.tight in
@@ -31,7 +31,7 @@ form-requires-clause-cycle c =
 
 pub form-requires-clause-linked : goal.form-requires-clause-linked
 form-requires-clause-linked c =
-    let w : SearchValue = search_of c.args.pieces in
+    let w : SearchValue = search_of c.args.pieces.now in
     let closes =
     closes_by w c.args.first c.args.second c.args.closing c.requires.search c.requires.first c.requires.second
     c.requires.apart c.requires.connects c.requires.tight in
@@ -40,7 +40,7 @@ form-requires-clause-linked c =
 
 pub form-requires-clause-outer : goal.form-requires-clause-outer
 form-requires-clause-outer c =
-    let w : SearchValue = search_of c.args.pieces in
+    let w : SearchValue = search_of c.args.pieces.now in
     let closes =
     closes_by w c.args.first c.args.second c.args.closing c.requires.search c.requires.first c.requires.second
     c.requires.apart c.requires.connects c.requires.tight in
@@ -49,7 +49,7 @@ form-requires-clause-outer c =
 
 pub join_nodes-requires : goal.join_nodes-requires
 join_nodes-requires c =
-    let w : SearchValue = search_of c.args.pieces in
+    let w : SearchValue = search_of c.args.pieces.now in
     let closes =
     closes_by w c.args.first c.args.second c.args.closing c.requires.search c.requires.first c.requires.second
     c.requires.apart c.requires.connects c.requires.tight in
@@ -64,7 +64,7 @@ join_nodes-requires c =
 
 pub replace-requires : goal.replace-requires
 replace-requires c =
-    let w : SearchValue = search_of c.args.pieces in
+    let w : SearchValue = search_of c.args.pieces.now in
     let closes =
     closes_by w c.args.first c.args.second c.args.closing c.requires.search c.requires.first c.requires.second
     c.requires.apart c.requires.connects c.requires.tight in
@@ -84,7 +84,7 @@ replace_unmatched-requires-clause-listed c =
 
 pub replace_unmatched-requires-clause-fresh : goal.replace_unmatched-requires-clause-fresh
 replace_unmatched-requires-clause-fresh c =
-    let w : SearchValue = search_of c.args.pieces in
+    let w : SearchValue = search_of c.args.pieces.now in
     let closes =
     closes_by w c.args.first c.args.second c.args.closing c.requires.search c.requires.first c.requires.second
     c.requires.apart c.requires.connects c.requires.tight in
@@ -96,9 +96,9 @@ replace_unmatched-requires-clause-fresh c =
     c.in_ok-blossom.blossom c.form.new.self c.in_ok-blossom.ensures.ok c.as_slice-nodes.result.now gone c.args.closing
     c.replace.new.self c.in_ok-replace.ensures.ok)
 
-pub invariant_of-result : goal.invariant_of-result
-invariant_of-result c =
-    let w : SearchValue = search_of c.args.pieces in
+pub returns-clause-searching : goal.returns-clause-searching
+returns-clause-searching c =
+    let w : SearchValue = search_of c.args.pieces.now in
     let closes =
     closes_by w c.args.first c.args.second c.args.closing c.requires.search c.requires.first c.requires.second
     c.requires.apart c.requires.connects c.requires.tight in
@@ -109,16 +109,16 @@ invariant_of-result c =
     cycle_made w c.args.first c.args.second c.args.closing closes c.in_ok-cycle.cycle.items is
     c.in_ok-blossom.blossom c.form.new.self c.in_ok-blossom.ensures.ok c.as_slice-nodes.result.now gone c.args.closing
     c.replace.new.self c.in_ok-replace.ensures.ok
-    c.args.pieces.parts.regions.scope c.requires.scope (rw c.scope.ensures at c.limits.ensures)
+    c.args.pieces.now.parts.regions.scope c.requires.scope (rw c.scope.ensures at c.limits.ensures)
     c.replace_unmatched.new.matching
     (rw (c.root-root.ensures, c.root.ensures) at c.in_ok-replace_unmatched.ensures) c.watch_minus.new.watch
     c.watch_minus.ensures c.keeps.ensures.within in
     let scope = c.requires.scope in
     rw c.in_ok-join_nodes.ensures.ok (record { graph = scope.graph; plan = scope.plan; node = scope.node }, both.0)
 
-pub returns : goal.returns
-returns c =
-    let w : SearchValue = search_of c.args.pieces in
+pub returns-clause-goes_on : goal.returns-clause-goes_on
+returns-clause-goes_on c =
+    let w : SearchValue = search_of c.args.pieces.now in
     let closes =
     closes_by w c.args.first c.args.second c.args.closing c.requires.search c.requires.first c.requires.second
     c.requires.apart c.requires.connects c.requires.tight in
@@ -129,7 +129,7 @@ returns c =
     cycle_made w c.args.first c.args.second c.args.closing closes c.in_ok-cycle.cycle.items is
     c.in_ok-blossom.blossom c.form.new.self c.in_ok-blossom.ensures.ok c.as_slice-nodes.result.now gone c.args.closing
     c.replace.new.self c.in_ok-replace.ensures.ok
-    c.args.pieces.parts.regions.scope c.requires.scope (rw c.scope.ensures at c.limits.ensures)
+    c.args.pieces.now.parts.regions.scope c.requires.scope (rw c.scope.ensures at c.limits.ensures)
     c.replace_unmatched.new.matching
     (rw (c.root-root.ensures, c.root.ensures) at c.in_ok-replace_unmatched.ensures) c.watch_minus.new.watch
     c.watch_minus.ensures c.keeps.ensures.within in

@@ -3,52 +3,52 @@ use Rattle.fb_half.specs.Parts.{PartValue, problem_in}
 use Rattle.fb_half.specs.Values.{part_of}
 use Rattle.fb_search.proofs.NearMatches.{limits_scoped}
 use Rattle.fb_search.proofs.NearPairs.{other_step, other_tree, pair_between, pair_listed, pair_matched, pair_root_left, pair_walk, root_step, root_tree}
-use Rattle.fb_search.proofs.near_ends.match_pair.Goals as goal
+use Rattle.fb_search.proofs.near_ends.join_pair.Goals as goal
 
 pub grow_node-requires-clause-tree : goal.grow_node-requires-clause-tree
 grow_node-requires-clause-tree c =
-    let part : PartValue = part_of c.args.parts in
-    let scope = c.args.parts.regions.scope in
+    let part : PartValue = part_of c.args.parts.now in
+    let scope = c.args.parts.now.regions.scope in
     let limits : IsWithinLimits (problem_in part) =
     limits_scoped part scope c.scope.result.now c.scope.ensures c.requires.scope c.limits.ensures in
     other_tree part c.args.root c.args.pair c.requires.part limits c.requires.unmatched c.requires.near scope c.requires.scope
 
 pub grow_node-requires-clause-may : goal.grow_node-requires-clause-may
 grow_node-requires-clause-may c =
-    let part : PartValue = part_of c.args.parts in
-    let scope = c.args.parts.regions.scope in
+    let part : PartValue = part_of c.args.parts.now in
+    let scope = c.args.parts.now.regions.scope in
     let limits : IsWithinLimits (problem_in part) =
     limits_scoped part scope c.scope.result.now c.scope.ensures c.requires.scope c.limits.ensures in
     other_step part c.args.root c.args.pair c.requires.part limits c.requires.unmatched c.requires.near scope c.requires.scope
 
 pub grow_node-requires-2-clause-tree : goal.grow_node-requires-2-clause-tree
 grow_node-requires-2-clause-tree c =
-    let part : PartValue = part_of c.args.parts in
-    let scope = c.args.parts.regions.scope in
+    let part : PartValue = part_of c.args.parts.now in
+    let scope = c.args.parts.now.regions.scope in
     let limits : IsWithinLimits (problem_in part) =
     limits_scoped part scope c.scope.result.now c.scope.ensures c.requires.scope c.limits.ensures in
     rw c.grow_node.ensures (root_tree part c.args.root c.args.pair c.requires.part limits c.requires.unmatched c.requires.near scope c.requires.scope)
 
 pub grow_node-requires-2-clause-may : goal.grow_node-requires-2-clause-may
 grow_node-requires-2-clause-may c =
-    let part : PartValue = part_of c.args.parts in
-    let scope = c.args.parts.regions.scope in
+    let part : PartValue = part_of c.args.parts.now in
+    let scope = c.args.parts.now.regions.scope in
     let limits : IsWithinLimits (problem_in part) =
     limits_scoped part scope c.scope.result.now c.scope.ensures c.requires.scope c.limits.ensures in
     rw c.grow_node.ensures (root_step part c.args.root c.args.pair c.requires.part limits c.requires.unmatched c.requires.near scope c.requires.scope)
 
 pub met_walk-requires : goal.met_walk-requires
 met_walk-requires c =
-    let part : PartValue = part_of c.args.parts in
-    let scope = c.args.parts.regions.scope in
+    let part : PartValue = part_of c.args.parts.now in
+    let scope = c.args.parts.now.regions.scope in
     let limits : IsWithinLimits (problem_in part) =
     limits_scoped part scope c.scope.result.now c.scope.ensures c.requires.scope c.limits.ensures in
     rw (c.grow_node-2.ensures, c.grow_node.ensures) (pair_between part c.args.root c.args.pair c.requires.part limits c.requires.unmatched c.requires.near scope c.requires.scope)
 
 pub make-requires-clause-some : goal.make-requires-clause-some
 make-requires-clause-some c =
-    let part : PartValue = part_of c.args.parts in
-    let scope = c.args.parts.regions.scope in
+    let part : PartValue = part_of c.args.parts.now in
+    let scope = c.args.parts.now.regions.scope in
     let limits : IsWithinLimits (problem_in part) =
     limits_scoped part scope c.scope.result.now c.scope.ensures c.requires.scope c.limits.ensures in
     (pair_walk part c.args.root c.args.pair c.requires.part limits c.requires.unmatched c.requires.near scope c.requires.scope c.in_ok-walk.walk
@@ -56,8 +56,8 @@ make-requires-clause-some c =
 
 pub make-requires-clause-light : goal.make-requires-clause-light
 make-requires-clause-light c =
-    let part : PartValue = part_of c.args.parts in
-    let scope = c.args.parts.regions.scope in
+    let part : PartValue = part_of c.args.parts.now in
+    let scope = c.args.parts.now.regions.scope in
     let limits : IsWithinLimits (problem_in part) =
     limits_scoped part scope c.scope.result.now c.scope.ensures c.requires.scope c.limits.ensures in
     (pair_walk part c.args.root c.args.pair c.requires.part limits c.requires.unmatched c.requires.near scope c.requires.scope c.in_ok-walk.walk
@@ -65,26 +65,26 @@ make-requires-clause-light c =
 
 pub take_unmatched-requires-2 : goal.take_unmatched-requires-2
 take_unmatched-requires-2 c =
-    let part : PartValue = part_of c.args.parts in
-    let scope = c.args.parts.regions.scope in
+    let part : PartValue = part_of c.args.parts.now in
+    let scope = c.args.parts.now.regions.scope in
     let limits : IsWithinLimits (problem_in part) =
     limits_scoped part scope c.scope.result.now c.scope.ensures c.requires.scope c.limits.ensures in
     pair_root_left part c.args.root c.args.pair c.requires.part limits c.requires.unmatched c.requires.near c.take_unmatched.new.self.unmatched c.take_unmatched.ensures.unmatched
 
 pub add_matches-requires : goal.add_matches-requires
 add_matches-requires c =
-    let part : PartValue = part_of c.args.parts in
-    let scope = c.args.parts.regions.scope in
+    let part : PartValue = part_of c.args.parts.now in
+    let scope = c.args.parts.now.regions.scope in
     let limits : IsWithinLimits (problem_in part) =
     limits_scoped part scope c.scope.result.now c.scope.ensures c.requires.scope c.limits.ensures in
     rw (c.take_unmatched-2.ensures.matches, c.take_unmatched.ensures.matches)
     (pair_listed part c.args.root c.args.pair c.requires.part limits c.requires.unmatched c.requires.near c.in_ok-link.link c.take_unmatched.new.self.unmatched
     c.take_unmatched-2.new.self.unmatched c.take_unmatched.ensures.unmatched c.take_unmatched-2.ensures.unmatched)
 
-pub from_parts-requires-clause-part : goal.from_parts-requires-clause-part
-from_parts-requires-clause-part c =
-    let part : PartValue = part_of c.args.parts in
-    let scope = c.args.parts.regions.scope in
+pub returns-clause-part : goal.returns-clause-part
+returns-clause-part c =
+    let part : PartValue = part_of c.args.parts.now in
+    let scope = c.args.parts.now.regions.scope in
     let limits : IsWithinLimits (problem_in part) =
     limits_scoped part scope c.scope.result.now c.scope.ensures c.requires.scope c.limits.ensures in
     rw (c.grow_node-2.ensures, c.grow_node.ensures, c.in_ok-add_matches.ensures, c.take_unmatched-2.ensures.matches, c.take_unmatched.ensures.matches)
@@ -93,13 +93,13 @@ from_parts-requires-clause-part c =
     c.in_ok-walk.walk c.make.new.self (pair_walk part c.args.root c.args.pair c.requires.part limits c.requires.unmatched c.requires.near scope c.requires.scope c.in_ok-walk.walk
     (rw (c.grow_node-2.ensures, c.grow_node.ensures) at c.in_ok-walk.ensures)) c.in_ok-link.ensures.ok).0
 
-pub returns : goal.returns
-returns c =
-    let part : PartValue = part_of c.args.parts in
-    let scope = c.args.parts.regions.scope in
+pub returns-clause-searched : goal.returns-clause-searched
+returns-clause-searched c =
+    let part : PartValue = part_of c.args.parts.now in
+    let scope = c.args.parts.now.regions.scope in
     let limits : IsWithinLimits (problem_in part) =
     limits_scoped part scope c.scope.result.now c.scope.ensures c.requires.scope c.limits.ensures in
-    rw (c.from_parts.ensures, c.grow_node-2.ensures, c.grow_node.ensures, c.in_ok-add_matches.ensures, c.take_unmatched-2.ensures.matches, c.take_unmatched.ensures.matches)
+    rw (c.grow_node-2.ensures, c.grow_node.ensures, c.in_ok-add_matches.ensures, c.take_unmatched-2.ensures.matches, c.take_unmatched.ensures.matches)
     (pair_matched part c.args.root c.args.pair c.requires.part limits c.requires.unmatched c.requires.near c.in_ok-link.link c.take_unmatched.new.self.unmatched
     c.take_unmatched-2.new.self.unmatched c.take_unmatched.ensures.unmatched c.take_unmatched-2.ensures.unmatched
     c.in_ok-walk.walk c.make.new.self (pair_walk part c.args.root c.args.pair c.requires.part limits c.requires.unmatched c.requires.near scope c.requires.scope c.in_ok-walk.walk
