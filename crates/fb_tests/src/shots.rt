@@ -27,28 +27,35 @@ fn is_refusal(step: &Result<Step, NoMemory>, refusal: ShotFault) -> bool {
     }
 }
 
-/// A read fails between two shots; of three shots two are given.
-#[test]
-fn goes_on_after_a_failed_read_and_ends_at_its_limit(rt: HostRuntime) -> Result<(), Fail> {
-    let alloc = rt.alloc();
-    let graph = line(alloc)?;
+/// A file of three shots that is read four bytes at a time, and whose third read fails.
+fn three_shots(alloc: Global) -> Result<MemFiles, Fail> {
     let mut files = MemFiles::new(alloc)?;
     files.add(alloc, "shots", b"000\n101\n000\n")?;
     files.give_at_most(4);
     files.fail_at(vec![in alloc; 3]?);
     files.open_file(String::from_str(alloc, "shots")?)?;
-    let stream = ShotStream::new(alloc, Format::Text01, &graph, 2);
-    assert!(rt; stream.is_ok());
-    if let Ok(mut stream) = stream {
-        assert!(rt; has_defects(&stream.next_shot(&mut files), 0));
-        assert!(rt; matches!(stream.next_shot(&mut files), Ok(Step::ReadFault)));
-        assert!(rt; has_defects(&stream.next_shot(&mut files), 2));
-        let refusal = ShotFault {
-            shot: 2,
-            kind: Kind::TooManyShots,
-        };
-        assert!(rt; is_refusal(&stream.next_shot(&mut files), refusal));
-        assert!(rt; is_refusal(&stream.next_shot(&mut files), refusal));
-    }
+    Ok(files)
+}
+
+/// Whether the stream gives a shot, the failed read and another shot, and then refuses the third one, each time it is asked.
+fn gives_two_shots(stream: &mut ShotStream<'_>, files: &mut MemFiles) -> bool {
+    let refusal = ShotFault {
+        shot: 2,
+        kind: Kind::TooManyShots,
+    };
+    has_defects(&stream.next_shot(files), 0)
+        && matches!(stream.next_shot(files), Ok(Step::ReadFault))
+        && has_defects(&stream.next_shot(files), 2)
+        && is_refusal(&stream.next_shot(files), refusal)
+        && is_refusal(&stream.next_shot(files), refusal)
+}
+
+/// A read fails between two shots; of three shots two are given.
+#[test]
+fn goes_on_after_a_failed_read_and_ends_at_its_limit(rt: HostRuntime) -> Result<(), Fail> {
+    let graph = line(rt.alloc())?;
+    let mut files = three_shots(rt.alloc())?;
+    let mut stream = ShotStream::new(rt.alloc(), Format::Text01, &graph, 2)?;
+    assert!(rt; gives_two_shots(&mut stream, &mut files));
     Ok(())
 }

@@ -25,31 +25,50 @@ fn three_branches(alloc: Global, links: &Links) -> Result<Tree, NoMemory>
     Ok(tree)
 }
 
+/// Whether the path from node 6 leads over both branches to the root.
+fn finds_the_path(alloc: Global, tree: &Tree) -> Result<bool, NoMemory>
+    requires { tree.now ≡ three_branches }
+{
+    let path = tree.path_to_root(alloc, 6)?;
+    Ok(path.as_slice() == [step(6, 15), step(5, 14), step(2, 11), step(1, 10)].as_slice())
+}
+
+/// Whether two branches lead to node 6, and one is beside them.
+fn finds_the_branches(alloc: Global, tree: &Tree) -> Result<bool, NoMemory>
+    requires { tree.now ≡ three_branches }
+{
+    Ok(tree.branches_to(alloc, 6)?.len() == 2 && tree.branches_beside(alloc, 6)?.len() == 1)
+}
+
+/// Whether the cycle that link 20 closes between the nodes 6 and 4 goes from the root to 6 and back over 4.
+fn finds_the_cycle(alloc: Global, tree: &Tree, links: &Links) -> Result<bool, NoMemory>
+    requires { tree.now ≡ three_branches }
+{
+    let cycle = tree.cycle_of(alloc, 6, 4, 20, links)?;
+    Ok(
+        cycle.as_slice()
+            == [
+                step(0, 10),
+                step(1, 11),
+                step(2, 14),
+                step(5, 15),
+                step(6, 20),
+                step(4, 13),
+                step(3, 12),
+            ]
+            .as_slice(),
+    )
+}
+
 #[test]
 fn finds_paths_and_cycles(rt: HostRuntime) -> Result<(), Fail> {
-    let alloc = rt.alloc();
-    let links = Links::new(alloc)?;
-    let tree = three_branches(alloc, &links)?;
-    let path = tree.path_to_root(alloc, 6)?;
-    assert_eq!(rt;
-        path.as_slice(),
-        [step(6, 15), step(5, 14), step(2, 11), step(1, 10)].as_slice()
-    );
-    assert_eq!(rt; tree.branches_to(alloc, 6)?.len(), 2);
-    assert_eq!(rt; tree.branches_beside(alloc, 6)?.len(), 1);
-    let cycle = tree.cycle_of(alloc, 6, 4, 20, &links)?;
-    assert_eq!(rt;
-        cycle.as_slice(),
-        [
-            step(0, 10),
-            step(1, 11),
-            step(2, 14),
-            step(5, 15),
-            step(6, 20),
-            step(4, 13),
-            step(3, 12)
-        ]
-        .as_slice()
+    let links = Links::new(rt.alloc())?;
+    let tree = three_branches(rt.alloc(), &links)?;
+    assert!(rt; finds_the_path(rt.alloc(), &tree)?, "another path");
+    assert!(rt; finds_the_branches(rt.alloc(), &tree)?, "other branches");
+    assert!(rt;
+        finds_the_cycle(rt.alloc(), &tree, &links)?,
+        "another cycle"
     );
     Ok(())
 }
