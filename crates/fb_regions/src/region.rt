@@ -2,7 +2,7 @@ ghost use Rattle.std.specs.Prelude.{◌≡◌, ◌+◌, ◌<◌, ◌^◌, [], �
 ghost use Rattle.fb_graph.specs.Dual.{layers_of};
 ghost use Rattle.fb_graph.specs.Printed.{is_positive};
 ghost use Rattle.fb_graph.specs.Certificate.{AreDistinct, total_value};
-ghost use Rattle.fb_regions.specs.InternalNodes.{reparented_region, chain, node_of, radii_from, root_from};
+ghost use Rattle.fb_regions.specs.InternalNodes.{reparented_region, chain, node_of, radii_from, root_from, stack};
 ghost use Rattle.fb_regions.specs.InternalPlaces.{AreJoinedAbove, IsIndex};
 
 use crate::NodeId;
@@ -124,15 +124,31 @@ pub fn layers(alloc: Global, marks: &Marks, region: &Region) -> Result<Vec<Cut>,
     ensures { IfOk result (λ v. v.items ≡ layers_of (node_of marks.now region.now)) }
 {
     let added = vertices_back(alloc, marks, region.added, region.last)?;
-    let mut layers = Vec::new(alloc);
     let mut set = vertices_back(alloc, marks, region.base, region.base_last)?;
-    for v in added.as_slice() {
+    let mut layers = lower_layers(alloc, marks, added.as_slice(), &mut set)?;
+    let vertices = NumberList::from_vec(set);
+    layers.push(Cut {
+        value: region.top_value,
+        vertices,
+    })?;
+    Ok(layers)
+}
+
+/// A copy of the layers below those that the vertices began, over a first set, behind which it puts the vertices.
+fn lower_layers(
+    alloc: Global,
+    marks: &Marks,
+    vertices: &[u32],
+    set: &mut Vec<u32>,
+) -> Result<Vec<Cut>, NoMemory>
+    ensures { IfOk result (λ v. (v.items ≡ stack marks.now set.old.items vertices.now) × (set.new.items ≡ set.old.items ++ vertices.now)) }
+{
+    let mut layers = Vec::new(alloc);
+    for v in vertices {
         let below = cut(alloc, marks.under(*v), set.as_slice())?;
         layers.push(below)?;
         set.push(*v)?;
     }
-    let top = cut(alloc, region.top_value, set.as_slice())?;
-    layers.push(top)?;
     Ok(layers)
 }
 
@@ -152,11 +168,27 @@ pub fn put_cuts(
     }
     let added = vertices_back(alloc, marks, region.added, region.last)?;
     let mut set = vertices_back(alloc, marks, region.base, region.base_last)?;
-    for v in added.as_slice() {
+    put_lower_cuts(alloc, marks, added.as_slice(), &mut set, cuts)?;
+    put_top(region.top_value, set, cuts)
+}
+
+/// Copies of the layers below those that the vertices began, over a first set, behind which it puts the vertices: those
+/// that have a value, behind those of a list.
+fn put_lower_cuts(
+    alloc: Global,
+    marks: &Marks,
+    vertices: &[u32],
+    set: &mut Vec<u32>,
+    cuts: &mut Vec<Cut>,
+) -> Result<(), NoMemory>
+    ensures { OnOk result ((set.new.items ≡ set.old.items ++ vertices.now)
+        × (cuts.new.items ≡ cuts.old.items ++ filter is_positive (stack marks.now set.old.items vertices.now))) }
+{
+    for v in vertices {
         put_cut(alloc, marks.under(*v), set.as_slice(), cuts)?;
         set.push(*v)?;
     }
-    put_top(region.top_value, set, cuts)
+    Ok(())
 }
 
 /// A layer with a copy of the set, behind those of a list, if it has a value.
