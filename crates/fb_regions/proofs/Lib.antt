@@ -40,3 +40,4 @@ pub mod Stepped
 pub mod Stored
 pub mod Together
 pub mod Turned
+pub mod Unmarked

@@ -1,0 +1,15 @@
+-- The state without nodes.
+use Rattle.std.proofs.Common.{ℕ, ◌≡◌, List, [], replicate, Option, None, arith, rules}
+use Rattle.std.proofs.lemmas.Grind.{common_steps}
+use Rattle.fb_graph.specs.Problem.{Problem}
+use Rattle.fb_regions.specs.declared.marks.Mark.{Mark}
+use Rattle.fb_regions.specs.declared.region.Region.{Region}
+use Rattle.fb_regions.specs.InternalKept.{IsKept}
+use Rattle.fb_regions.specs.InternalPlaces.{IsIndex}
+
+pub kept_none : (p : Problem) (regions : List Region) (marks : List (Option Mark)) → regions ≡ []
+    → marks ≡ replicate p.vertices None → IsKept p regions marks
+kept_none p regions marks none unmarked = rw (none, unmarked) (grind (arith, common_steps))
+
+pub index_none : (regions : List Region) (places : List (Option ℕ)) → regions ≡ [] → places ≡ [] → IsIndex regions places
+index_none regions places none empty = rw (none, empty) (search rules)
