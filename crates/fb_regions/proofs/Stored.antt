@@ -1,5 +1,5 @@
 -- Numbers that are stored in a list, with the place of each.
-use Rattle.std.proofs.Common.{ℕ, zero, suc, ◌≡◌, ◌+◌, ◌-◌, ◌≤◌, ◌<◌, ◌==◌, ◌&&◌, ◌⊎◌, inl, inr, Bool, true, false, not, ◌||◌, sum_by, subst, List, [], ◌∷◌, ◌++◌, length, length-append, get_or, set, All, refl, sym, ap, ◌∙◌, arith}
+use Rattle.std.proofs.Common.{ℕ, zero, suc, ◌≡◌, ◌+◌, ◌-◌, ◌≤◌, ◌<◌, ◌^◌, ◌==◌, ◌&&◌, ◌⊎◌, inl, inr, Bool, true, false, not, ◌||◌, sum_by, subst, List, [], ◌∷◌, ◌++◌, length, length-append, get_or, set, All, refl, sym, ap, ◌∙◌, arith}
 use Rattle.std.proofs.Math.Bool.{and-true, and-false}
 use Rattle.std.proofs.lemmas.Bool.{both_ways, cases_eq, cases_lt, eq-eqb, eqb-true, false_from_ne_true}
 use Rattle.std.proofs.lemmas.List.{get_or-set_same, get_or-set_other, get_or-take, get_or_append_left, get_or_default, get_or_push, length-set, length-take-le}
@@ -271,3 +271,17 @@ rest_distinct places keys count keys_room values_room stored i taken rest less l
     by (inr past) =
         stored_distinct places rest (count - 1) keys_room values_room
         (stored_last places keys count keys_room values_room stored i taken (count - 1) keys_room values_room rest less left refl refl refl past)
+
+-- a table without keys
+pub stored_none : (places keys : List ℕ) (count keys_room values_room : ℕ) → keys ≡ [] → count ≡ 0 → length places ≤ keys_room
+    → length places ≤ values_room → length places < 2 ^ 32 → IsStored places keys count keys_room values_room
+stored_none places keys count keys_room values_room none empty fit suffice few =
+    rw none
+    (record {
+      placed = λ i less. absurd (omega arith);
+      within = λ k d less. absurd (omega arith);
+      values = empty;
+      keys_fit = fit;
+      values_fit = suffice;
+      few = few;
+    })
