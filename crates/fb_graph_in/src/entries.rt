@@ -17,7 +17,6 @@ fn whole(value: &Value) -> Option<i128>
 }
 
 /// An edge: its two ends and its weight.
-#[tactic(auto, using(crate::proofs::Triples::triples))]
 fn edge(value: &Value) -> Option<(u64, u64, i128)>
     ensures { result ≡ edge_of (view value.now) }
 {

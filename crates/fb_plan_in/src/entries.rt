@@ -11,7 +11,6 @@ use serde_json::Value;
 use std::alloc::Global;
 
 /// Two whole numbers of at least 0.
-#[tactic(auto, using(crate::proofs::Pairs::pairs))]
 fn pair(value: &Value) -> Option<(u64, u64)>
     ensures { result ≡ pair_of (view value.now) }
 {
