@@ -16,7 +16,17 @@ pub fn read_graph(alloc: Global, bytes: &[u8]) -> Result<Graph, TextFault>
     let numbers = read_numbers(alloc, bytes)?;
     match Graph::build(alloc, numbers.vertex_num, &numbers.edges, &numbers.virtuals) {
         Ok(graph) => Ok(graph),
-        Err(GraphFault::NoMemory) => Err(TextFault::NoMemory),
-        Err(fault) => Err(TextFault::Graph(fault)),
+        Err(fault) => Err(text_fault(fault)),
+    }
+}
+
+/// The fault of a text whose numbers break a rule of graphs.
+fn text_fault(fault: GraphFault) -> TextFault
+    ensures rule { fault ≢ GraphFault.NoMemory → result ≡ TextFault.Graph fault }
+    ensures memory { fault ≡ GraphFault.NoMemory → result ≡ TextFault.NoMemory }
+{
+    match fault {
+        GraphFault::NoMemory => TextFault::NoMemory,
+        fault => TextFault::Graph(fault),
     }
 }

@@ -18,5 +18,3 @@ plan_of_joins g units joins =
 
     nodes_of : Fusion → ℕ × ℕ
     nodes_of f = (f.left, f.right)
-
-pub ruleset rulings = (plan_of_joins)

@@ -11,7 +11,6 @@ use std::alloc::Global;
 /// object with `units`, for each unit the list of its ranges, and `fusions`, each an object with its two nodes as `of`
 /// and the ranges of its seam as `interface`. A range is a pair: the vertices from its first number up to and without
 /// its second. Other members are ignored.
-#[tactic(auto, using(crate::proofs::Rulings::rulings))]
 pub fn read_plan(alloc: Global, bytes: &[u8], graph: &Graph) -> Result<Plan, PlanFault>
     ensures ok { IfOk result (λ p. plan_of_text bytes.now graph.now ≡ Ok p) }
     ensures valid { IfOk result (IsPlan graph.now) }
