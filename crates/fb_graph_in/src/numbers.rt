@@ -1,8 +1,9 @@
 //! The numbers of a graph, as its text has them.
 
 ghost use Rattle.std.specs.Prelude.{◌≡◌, ◌≢◌, IfOk, IfErr};
-ghost use Rattle.serde_json.specs.View.{view};
+ghost use Rattle.serde_json.specs.View.{view, items_view};
 ghost use Rattle.fb_graph_in.specs.GraphText.{numbers_of, numbers_of_text};
+ghost use Rattle.fb_graph_in.specs.InternalNumbers.{numbers_from};
 
 use crate::entries::{edges, virtuals};
 use crate::faults::{Member, Place, TextFault};
@@ -18,10 +19,19 @@ pub struct Numbers {
     pub virtuals: Vec<u64>,
 }
 
-/// The numbers that a value has, or the first rule that it breaks.
-fn numbers_in(alloc: Global, value: &Value) -> Result<Numbers, TextFault>
-    ensures ok { IfOk result (λ n. numbers_of (view value.now) ≡ Ok (n.vertex_num, n.edges.items, n.virtuals.items)) }
-    ensures err { IfErr result (λ e. e ≢ TextFault.NoMemory → numbers_of (view value.now) ≡ Err e) }
+/// The members of a graph's object.
+#[derive(Clone, Copy)]
+struct Members<'a> {
+    vertex_num: u64,
+    weighted_edges: &'a [Value],
+    virtual_vertices: &'a [Value],
+}
+
+/// The members that a value has, or the first one that is missing or not of its form.
+fn members_of(value: &Value) -> Result<Members<'_>, TextFault>
+    ensures ok { IfOk result (λ m. numbers_of (view value.now)
+        ≡ numbers_from m.vertex_num (items_view m.weighted_edges.now) (items_view m.virtual_vertices.now)) }
+    ensures err { IfErr result (λ e. numbers_of (view value.now) ≡ Err e) }
 {
     let Some(vertex_num) = value.get("vertex_num") else {
         return Err(TextFault::Missing(Member::VertexNum));
@@ -41,10 +51,23 @@ fn numbers_in(alloc: Global, value: &Value) -> Result<Numbers, TextFault>
     let Some(virtual_vertices) = virtual_vertices.as_array() else {
         return Err(TextFault::NotWhole(Place::VirtualVertices));
     };
-    let edges = edges(alloc, weighted_edges)?;
-    let virtuals = virtuals(alloc, virtual_vertices)?;
-    Ok(Numbers {
+    Ok(Members {
         vertex_num,
+        weighted_edges,
+        virtual_vertices,
+    })
+}
+
+/// The numbers that a value has, or the first rule that it breaks.
+fn numbers_in(alloc: Global, value: &Value) -> Result<Numbers, TextFault>
+    ensures ok { IfOk result (λ n. numbers_of (view value.now) ≡ Ok (n.vertex_num, n.edges.items, n.virtuals.items)) }
+    ensures err { IfErr result (λ e. e ≢ TextFault.NoMemory → numbers_of (view value.now) ≡ Err e) }
+{
+    let members = members_of(value)?;
+    let edges = edges(alloc, members.weighted_edges)?;
+    let virtuals = virtuals(alloc, members.virtual_vertices)?;
+    Ok(Numbers {
+        vertex_num: members.vertex_num,
         edges,
         virtuals,
     })
