@@ -3,7 +3,7 @@ use Rattle.fb_records.specs.declared.answer.Next.TheVariants as next
 use Rattle.fb_shots_stim.specs.Shots.{places_from}
 use Rattle.fb_shots_stim.specs.Text01.{is_one, records_01, prefix_01}
 use Rattle.fb_shots_stim.specs.InternalAnswers.{Answers01}
-use Rattle.fb_shots_stim.specs.declared.dense.Step.TheVariants.{Line, NotYet, Refused}
+use Rattle.fb_shots_stim.specs.declared.dense.Step.TheVariants.{Line, NotYet, End, Refused}
 use Rattle.fb_shots_stim.proofs.Lemmas01.{rest_right}
 use Rattle.fb_shots_stim.proofs.ShotLemmas.{shots_01, given_shot}
 use Rattle.fb_shots_stim.proofs.dense.DenseRecordFormat.advance.Goals as goal
@@ -14,6 +14,13 @@ returns-in-NotYet-clause-ok c =
     let rest = c.args.rest.now in
     subst (λ (n : ℕ). Answers01 n rest c.args.finished rest next.NotYet) c.self.view_is
     (rest_right _ _ _ _ NotYet at.bits at.most at.within at.stops (sym c.in-NotYet.is ∙ c.step_at.ensures))
+
+pub returns-in-End-clause-ok : goal.returns-in-End-clause-ok
+returns-in-End-clause-ok c =
+    let at = c.leading_bits-good.ensures in
+    let rest = c.args.rest.now in
+    subst (λ (n : ℕ). Answers01 n rest c.args.finished rest next.End) c.self.view_is
+    (rest_right _ _ _ _ End at.bits at.most at.within at.stops (sym c.in-End.is ∙ c.step_at.ensures))
 
 pub returns-in-Refused-clause-refused : goal.returns-in-Refused-clause-refused
 returns-in-Refused-clause-refused c =
