@@ -13,6 +13,7 @@ use Rattle.fb_graph.specs.InternalLayout.{with_edge}
 use Rattle.fb_graph.specs.Limits.{IsEdge, most_weight}
 use Rattle.fb_graph.specs.GraphRules.{edge_fault, edges_fault, virtuals_fault, edge_from}
 use Rattle.fb_graph.specs.declared.parts.Edge.{Edge}
+use Rattle.fb_graph.specs.declared.faults.GraphFault.{GraphFault}
 use Rattle.fb_graph.specs.declared.faults.GraphFault.TheVariants.{VirtualOutOfRange, VirtualRepeated}
 use Rattle.fb_graph.proofs.Booleans.{or_nothing}
 
@@ -48,6 +49,10 @@ pub edges_fault_more : (n i : ℕ) (es : List (ℕ × ℕ × ℤ)) (d : ℕ × �
     → edge_fault n i (get_or es i d) ≡ None → edges_fault n i (drop i es) ≡ edges_fault n (i + 1) (drop (i + 1) es)
 edges_fault_more n i es d lt good =
     rw (drop-cons es i d lt, good) (ap (λ j. edges_fault n (i + 1) (drop j es)) (sym (add-one i)))
+
+pub edges_fault_stops : (n i : ℕ) (es : List (ℕ × ℕ × ℤ)) (d : ℕ × ℕ × ℤ) (fault : GraphFault) → i < length es
+    → edge_fault n i (get_or es i d) ≡ Some fault → edges_fault n i (drop i es) ≡ Some fault
+edges_fault_stops n i es d fault lt bad = rw (drop-cons es i d lt, bad) refl
 
 pub virtuals_fault_more : (n i : ℕ) (vs : List ℕ) → i < length vs → nat_le n (get_or vs i 0) ≡ false
     → is_in (take i vs) (get_or vs i 0) ≡ false

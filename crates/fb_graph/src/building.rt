@@ -55,7 +55,6 @@ fn checked_edge(n: u32, i: usize, edge: (u64, u64, i128)) -> Result<Edge, GraphF
 }
 
 /// The edges, or the first rule that one of them breaks.
-#[tactic(auto, using(crate::proofs::BuildSteps::edge_steps))]
 pub fn build_edges(
     alloc: Global,
     n: u32,
@@ -75,7 +74,6 @@ pub fn build_edges(
 }
 
 /// A flag for each vertex, set if it is virtual, or the first rule that a virtual vertex breaks.
-#[tactic(auto, using(crate::proofs::BuildSteps::flag_steps))]
 pub fn mark_virtuals(alloc: Global, n: u32, virtuals: &[u64]) -> Result<Vec<bool>, GraphFault>
     ensures good { IfOk result (λ v. virtuals_fault n [] 0 virtuals.now ≡ None) }
     ensures len { IfOk result (λ v. length v.items ≡ n) }

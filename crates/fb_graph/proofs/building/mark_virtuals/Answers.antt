@@ -1,8 +1,18 @@
 use Rattle.std.proofs.Common.{◌≡◌, ℕ, ◌<◌, ◌∙◌, sym, false, length, get_or, arith, length-set}
 use Rattle.std.proofs.lemmas.Bool.{lt-leb}
 use Rattle.std.proofs.lemmas.List.Elements.{All-more}
-use Rattle.fb_graph.proofs.BuildSteps.{flags_more, virtuals_fault_more}
+use Rattle.std.proofs.lemmas.Grind.{common_steps}
+use Rattle.fb_graph.proofs.BuildSteps.{flags_more, virtuals_fault_more, virtuals_fault_repeats, virtuals_fault_stops}
 use Rattle.fb_graph.proofs.building.mark_virtuals.Goals as goal
+
+pub loop-i-init : goal.loop-i-init
+loop-i-init c = grind (arith, common_steps)
+
+pub returns-then-from-vertex-clause-err : goal.returns-then-from-vertex-clause-err
+returns-then-from-vertex-clause-err c = grind (arith, common_steps, virtuals_fault_stops)
+
+pub returns-then-index-clause-err : goal.returns-then-index-clause-err
+returns-then-index-clause-err c = grind (arith, common_steps, virtuals_fault_repeats)
 
 pub loop-i-preserved : goal.loop-i-preserved
 loop-i-preserved c =
@@ -15,3 +25,12 @@ loop-i-preserved c =
       flags_more _ _ _ _ c.loop-i.invariant.0 lt low c.loop-i.invariant.2,
       All-more (λ u. u < c.args.n) _ _ 0 lt c.loop-i.invariant.3 low,
     )
+
+pub returns-clause-good : goal.returns-clause-good
+returns-clause-good c = grind (arith, common_steps)
+
+pub returns-clause-each : goal.returns-clause-each
+returns-clause-each c = grind (arith, common_steps)
+
+pub returns-clause-below : goal.returns-clause-below
+returns-clause-below c = grind (arith, common_steps)

@@ -1,7 +1,11 @@
 use Rattle.std.proofs.Common.{◌≡◌, true, arith}
+use Rattle.std.proofs.lemmas.Grind.{common_steps}
 use Rattle.fb_graph.specs.Parity.{is_in}
 use Rattle.fb_graph.proofs.Floods.{flooding_end, flooding_start, is_in-with_vertex, labelling_from_flood}
 use Rattle.fb_graph.proofs.connecting.label_vertices.Goals as goal
+
+pub flood_component-requires-clause-place : goal.flood_component-requires-clause-place
+flood_component-requires-clause-place g c = grind (arith, common_steps)
 
 pub flood_component-requires-clause-flooding : goal.flood_component-requires-clause-flooding
 flood_component-requires-clause-flooding g c =
