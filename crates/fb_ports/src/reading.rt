@@ -70,7 +70,6 @@ pub fn read_at_most<F: Files>(files: &mut F, chunk: &mut [u8], most: usize) -> R
 /// Reads the current file to its end, or to the first byte past `limit`, and returns its bytes. It
 /// asks for at most 65,536 bytes at a time. After an error a prefix of the file may have been
 /// read.
-#[tactic(auto, using(crate::proofs::Streams::streams))]
 pub fn read_whole<F: Files>(
     alloc: Global,
     files: &mut F,
