@@ -3,7 +3,7 @@ use Rattle.std.proofs.Common.{◌≡◌, ◌≢◌, ℕ, zero, suc, ◌+◌, ◌
 use Rattle.std.specs.List.{range_with_len}
 use Rattle.std.proofs.Math.Seq.{drop-cons}
 use Rattle.std.proofs.lemmas.Bool.{or_parts, or_right, leb-false, ltb-false, eqb-false, cases_eq, eq-eqb, ne_eqb, cond-true, cond-false}
-use Rattle.std.proofs.lemmas.List.{take_more, get_or-set_same, get_or-set_other, map_more}
+use Rattle.std.proofs.lemmas.List.{take_more, get_or-set_same, get_or-set_other}
 use Rattle.std.proofs.lemmas.List.Elements.{filter-append}
 use Rattle.std.proofs.lemmas.List.Folds.{list_any_more}
 use Rattle.fb_graph.specs.Parity.{is_in, differ}
@@ -148,10 +148,6 @@ pub length-with_edge : (adjacent : List (List ℕ)) (e : Edge) (k : ℕ) → len
 length-with_edge adjacent e k =
     length-set (set adjacent e.first (get_or adjacent e.first [] ++ k ∷ [])) e.second (get_or adjacent e.second [] ++ k ∷ [])
     ∙ length-set adjacent e.first (get_or adjacent e.first [] ++ k ∷ [])
-
-pub ruleset edge_steps = (edges_fault_more, map_more, edge_is_good)
-
-pub ruleset flag_steps = (virtuals_fault_more, virtuals_fault_stops, virtuals_fault_repeats, flags_more)
 
 pub ruleset range_steps = (range_more)
 
