@@ -1,8 +1,8 @@
 -- The steps of the loops that build a graph.
-use Rattle.std.proofs.Common.{◌≡◌, ◌≢◌, ℕ, zero, suc, ◌+◌, ◌%◌, ◌<◌, ◌≤◌, Bool, true, false, cond, List, [], ◌∷◌, ◌++◌, length, take, drop, set, get_or, filter, Option, Some, None, ℤ, pos, negsuc, int_lt, unsigned_abs, nat_le, eqb, refl, sym, ap, ◌∙◌, inl, inr, arith, add-one, append-nil, length-set}
+use Rattle.std.proofs.Common.{◌≡◌, ◌≢◌, ℕ, zero, suc, ◌+◌, ◌<◌, Bool, true, false, cond, List, [], ◌∷◌, ◌++◌, length, take, drop, set, get_or, filter, Some, None, ℤ, nat_le, eqb, refl, sym, ap, ◌∙◌, inl, inr, arith, add-one, append-nil, length-set}
 use Rattle.std.specs.List.{range_with_len}
 use Rattle.std.proofs.Math.Seq.{drop-cons}
-use Rattle.std.proofs.lemmas.Bool.{or_parts, or_right, leb-false, ltb-false, eqb-false, cases_eq, eq-eqb, ne_eqb, cond-true, cond-false}
+use Rattle.std.proofs.lemmas.Bool.{or_right, cases_eq, eq-eqb, ne_eqb, cond-true, cond-false}
 use Rattle.std.proofs.lemmas.List.{take_more, get_or-set_same, get_or-set_other}
 use Rattle.std.proofs.lemmas.List.Elements.{filter-append}
 use Rattle.std.proofs.lemmas.List.Folds.{list_any_more}
@@ -10,40 +10,11 @@ use Rattle.fb_graph.specs.Parity.{is_in, differ}
 use Rattle.fb_graph.specs.Problem.{edge_at, touches}
 use Rattle.fb_graph.specs.Adjacency.{edges_at}
 use Rattle.fb_graph.specs.InternalLayout.{with_edge}
-use Rattle.fb_graph.specs.Limits.{IsEdge, most_weight}
-use Rattle.fb_graph.specs.GraphRules.{edge_fault, edges_fault, virtuals_fault, edge_from}
+use Rattle.fb_graph.specs.GraphRules.{edge_fault, edges_fault, virtuals_fault}
 use Rattle.fb_graph.specs.declared.parts.Edge.{Edge}
 use Rattle.fb_graph.specs.declared.faults.GraphFault.{GraphFault}
 use Rattle.fb_graph.specs.declared.faults.GraphFault.TheVariants.{VirtualOutOfRange, VirtualRepeated}
 use Rattle.fb_graph.proofs.Booleans.{or_nothing}
-
--- no fault comes first, so the rest is fine
-none_after : {X : Type 0} (b : Bool) (x : X) (y : Option X) → cond b (Some x) y ≡ None → (b ≡ false) × (y ≡ None)
-none_after true x y e = cc
-none_after false x y e = (refl, e)
-
-even_from : (n : ℕ) → eqb (n % 2) 1 ≡ false → n % 2 ≡ 0
-even_from n e = let odd : n % 2 ≢ 1 = eqb-false (n % 2) 1 e in omega arith
-
-light_from : (w : ℤ) → int_lt (pos most_weight) w ≡ false → int_lt w (pos 0) ≡ false → unsigned_abs w ≤ most_weight
-light_from (pos w) a b = ltb-false most_weight w a
-light_from (negsuc w) a b = cc
-
-pub edge_is_good : (n i : ℕ) (e : ℕ × ℕ × ℤ) → edge_fault n i e ≡ None → IsEdge n (edge_from e)
-edge_is_good n i e h =
-    let range = none_after _ _ _ h in
-    let loop = none_after _ _ _ range.1 in
-    let odd = none_after _ _ _ loop.1 in
-    let large = none_after _ _ _ odd.1 in
-    let negative = none_after _ _ _ large.1 in
-    let ends = or_parts (nat_le n e.0) (nat_le n e.1) range.0 in
-    record {
-      first = leb-false n e.0 ends.0;
-      second = leb-false n e.1 ends.1;
-      loopless = eqb-false e.0 e.1 loop.0;
-      even = even_from (unsigned_abs e.2) odd.0;
-      light = light_from e.2 large.0 negative.0;
-    }
 
 pub edges_fault_more : (n i : ℕ) (es : List (ℕ × ℕ × ℤ)) (d : ℕ × ℕ × ℤ) → i < length es
     → edge_fault n i (get_or es i d) ≡ None → edges_fault n i (drop i es) ≡ edges_fault n (i + 1) (drop (i + 1) es)
