@@ -144,7 +144,6 @@ fn size_of(distance: u32, rounds: u32) -> Size
 }
 
 /// The numbers of a lattice, in no more steps than a graph can have vertices.
-#[tactic(auto, using(crate::proofs::Grids::steps), unfolding(crate::specs::Lattice::lattice_edges, crate::specs::Lattice::lattice_virtuals))]
 fn parts_of(alloc: Global, size: Size) -> Result<Parts, NoMemory>
     requires size { vertex_count size.distance size.rounds ≤ most_vertices }
     requires few { size.rounds ≤ most_vertices }

@@ -1,4 +1,5 @@
 use Rattle.std.proofs.Common.{◌≡◌, ◌+◌, ◌-◌, ◌*◌, ◌<◌, true, ◌++◌, length, set, IfSome, sym, ap, subst, ◌∙◌, arith, rules}
+use Rattle.std.proofs.lemmas.Grind.{common_steps}
 use Rattle.std.proofs.lemmas.List.{length-set}
 use Rattle.std.specs.Option.{option_to_list}
 use Rattle.std.specs.List.Sorted.{IsPermutation}
@@ -17,6 +18,12 @@ holds-requires c =
     subst (λ k. k < length c.as_slice.result.now) (sym c.place_of-place.ensures)
     (subst (λ xs. c.args.slot * c.self.inside.nodes + c.args.node < length xs) (sym c.as_slice.ensures.value)
     (place_inside i c.args.slot c.args.node s n))
+
+pub parent_at-parent-requires-clause-place : goal.parent_at-parent-requires-clause-place
+parent_at-parent-requires-clause-place c = grind (arith, common_steps)
+
+pub let_go-requires-clause-place : goal.let_go-requires-clause-place
+let_go-requires-clause-place c = grind (arith, common_steps)
 
 pub let_go-requires-clause-room : goal.let_go-requires-clause-room
 let_go-requires-clause-room c =
@@ -57,6 +64,12 @@ takeable_parent-parent-requires-clause-kids c =
     (subst (λ l. IfSome (parent_place c.self.inside.nodes c.self.inside.parents.items (c.args.slot * c.self.inside.nodes + c.args.node)) (λ p. AreWithin (kids_in c.self.inside.units c.as_slice-3.result.now p) l)) (sym size)
     (subst (λ js. IfSome (parent_place c.self.inside.nodes c.self.inside.parents.items (c.args.slot * c.self.inside.nodes + c.args.node)) (λ p. AreWithin (kids_in c.self.inside.units js p) (length c.self.inside.statuses.items))) (sym c.as_slice-3.ensures.value)
     (parent_within i c.args.slot c.args.node s n)))
+
+pub push_some-requires : goal.push_some-requires
+push_some-requires c = grind (arith, common_steps)
+
+pub overflow_sub-self : goal.overflow_sub-self
+overflow_sub-self c = grind (arith, common_steps)
 
 pub invariant_of-self : goal.invariant_of-self
 invariant_of-self c =
