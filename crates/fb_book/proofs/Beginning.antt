@@ -1,5 +1,5 @@
 -- A book at first.
-use Rattle.std.proofs.Common.{ℕ, ◌≡◌, ◌<◌, ◌≤◌, is_some, Option, Some, None, List, [], length, get_or, replicate, ◌⊎◌, inl, inr, refl, sym, ap, subst, ◌∙◌}
+use Rattle.std.proofs.Common.{ℕ, ◌≡◌, ◌<◌, ◌≤◌, is_some, Option, Some, None, Result, Ok, Err, IfOk, List, [], length, get_or, replicate, ◌⊎◌, inl, inr, refl, sym, ap, subst, ◌∙◌}
 use Rattle.std.proofs.lemmas.Bool.{cases_lt}
 use Rattle.std.proofs.lemmas.List.{get_or-replicate, get_or_past, length-replicate}
 use Rattle.std.proofs.lemmas.List.Elements.{All-nil}
@@ -16,6 +16,13 @@ course_at_first job u js s u_is js_is s_is c c_is =
     subst (λ x. c ≡ record { units = x; joins = job.plan.joins; slots = length job.shots; history = [] }) u_is
     (subst (λ x. c ≡ record { units = u; joins = x; slots = length job.shots; history = [] }) js_is
     (subst (λ x. c ≡ record { units = u; joins = js; slots = x; history = [] }) s_is c_is))
+
+pub items_at_first : {E : Type 0} (job : JobValue) (u : ℕ) (js : List (ℕ × ℕ)) (s : ℕ) → u ≡ job.plan.units
+    → js ≡ job.plan.joins → s ≡ length job.shots → (made : Result Course E)
+    → IfOk made (λ c. c ≡ record { units = u; joins = js; slots = s; history = [] })
+    → IfOk made (λ c. c ≡ course_of job [])
+items_at_first job u js s u_is js_is s_is (Ok c) c_is = course_at_first job u js s u_is js_is s_is c c_is
+items_at_first job u js s u_is js_is s_is (Err e) c_is = tt
 
 pub none_at_all : {P : Type 0} (n k : ℕ) → ◌≡◌ {A = Option P} (get_or (replicate n None) k None) None
 none_at_all {P} n k = step (cases_lt k n)

@@ -49,6 +49,18 @@ impl<P: Piece, N: Board> Model for Book<P, N> {
         b.parked.items b.roots.items (vec_capacity b.roots) };
 }
 
+/// The items of this job, none of which is taken yet.
+fn items_of(alloc: Global, job: &Job<'_>) -> Result<Items, NoMemory>
+    ensures { IfOk result (λ items. items ≡ course_of job.now []) }
+{
+    let plan = job.plan();
+    job.keeps();
+    plan.keeps();
+    let joins = copy_joins(alloc, plan)?;
+    let parents = copy_parents(alloc, plan)?;
+    Items::new(alloc, plan.units(), joins, parents, job.shots().len())
+}
+
 impl<P: Piece, N: Board> Book<P, N> {
     /// The book of this job for this number of workers, with no entry.
     pub fn new(alloc: Global, job: &Job<'_>, workers: u32) -> Result<Book<P, N>, NoMemory>
@@ -57,14 +69,10 @@ impl<P: Piece, N: Board> Book<P, N> {
         ensures history { IfOk result (λ b. b.0 ≡ []) }
         ensures parked { IfOk result (λ b. b.1 ≡ replicate (item_count (course_of N.job [])) None) }
     {
-        let plan = job.plan();
-        job.keeps();
-        plan.keeps();
         let _workers = workers;
-        let joins = copy_joins(alloc, plan)?;
-        let parents = copy_parents(alloc, plan)?;
-        let slots = job.shots().len();
-        let items = Items::new(alloc, plan.units(), joins, parents, slots)?;
+        let items = items_of(alloc, job)?;
+        items.keeps();
+        let slots = items.slots();
         let parked = empty_places(alloc, slots, items.nodes())?;
         let roots = Vec::with_capacity(alloc, slots)?;
         Ok(Book {
