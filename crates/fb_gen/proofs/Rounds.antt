@@ -1,9 +1,9 @@
 -- Where the units of a plan by time begin, and which node has a round.
-use Rattle.std.proofs.Common.{◌≡◌, ℕ, zero, suc, ◌+◌, ◌*◌, ◌/◌, ◌%◌, ◌<◌, ◌≤◌, ◌⊎◌, inl, inr, min, List, [], ◌∷◌, ◌++◌, map, sym, ap, ◌∙◌, arith, add-one}
+use Rattle.std.proofs.Common.{◌≡◌, ℕ, zero, suc, ◌+◌, ◌*◌, ◌/◌, ◌%◌, ◌<◌, ◌≤◌, ◌⊎◌, inl, inr, min, List, [], ◌∷◌, ◌++◌, length, map, take, get_or, sym, ap, ◌∙◌, arith, add-one}
 use Rattle.std.specs.List.{range_with_len}
 use Rattle.std.proofs.Math.Nat.{div-add-mod}
 use Rattle.std.proofs.lemmas.Bool.{cases_lt, lt-ltb, le-ltb}
-use Rattle.std.proofs.lemmas.List.{map-append}
+use Rattle.std.proofs.lemmas.List.{map-append, map_more}
 use Rattle.fb_graph.proofs.BuildSteps.{range_push}
 use Rattle.fb_gen.specs.TimePlan.{shared_rounds, rounds_of_unit, first_round}
 use Rattle.fb_gen.specs.InternalSharing.{IsShared}
@@ -77,6 +77,15 @@ pushed_more g f n found more x e told is =
     ∙ ap (λ y. map f (range_with_len 0 n) ++ y ∷ []) is
     ∙ sym (map-range_more f n)
 
-pub ruleset firsts = (first_suc, first_bound)
+-- one more element, as one more of a list gives
+pub pushed_after : {X Y A : Type 0} (g : X → A) (f : Y → A) (ys : List Y) (i : ℕ) (d : Y) → i < length ys
+    → (found more : List X) (x : X) → more ≡ found ++ x ∷ [] → map g found ≡ map f (take i ys) → g x ≡ f (get_or ys i d)
+    → map g more ≡ map f (take (i + 1) ys)
+pushed_after g f ys i d less found more x e told is =
+    ap (map g) e
+    ∙ map-append g found (x ∷ [])
+    ∙ ap (λ zs. zs ++ g x ∷ []) told
+    ∙ ap (λ y. map f (take i ys) ++ y ∷ []) is
+    ∙ sym (map_more f ys i d less)
 
 pub ruleset ranges = (first_suc, first_bound, first_within, map-range_more)

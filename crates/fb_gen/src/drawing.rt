@@ -62,7 +62,6 @@ fn turn(flags: &mut Vec<bool>, v: u32)
 }
 
 /// Draws once for each edge. A vertex gets a flag if an odd number of hit edges end there.
-#[tactic(auto, using(crate::proofs::Hits::hits))]
 fn flags_of_hits(
     alloc: Global,
     draws: &mut Draws,

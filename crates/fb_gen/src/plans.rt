@@ -43,7 +43,6 @@ impl Sharing {
     }
 
     /// The first round of each unit, and one more than the last unit's seam round would be.
-    #[tactic(auto, using(crate::proofs::Rounds::firsts))]
     fn first_rounds(self, alloc: Global) -> Result<Vec<u64>, NoMemory>
         requires shared { IsShared self.rounds self.units }
         requires limit { self.rounds < 2 ^ 32 }
@@ -129,7 +128,6 @@ impl Sharing {
     }
 
     /// The joins of all fusions.
-    #[tactic(auto, using(crate::proofs::Rounds::ranges))]
     fn joins(self, alloc: Global, firsts: &[u64], fusions: &[Fusion]) -> Result<Vec<Join>, NoMemory>
         requires shared { IsShared self.rounds self.units }
         requires vertices { vertex_count self.distance self.rounds ≤ most_vertices }
