@@ -51,6 +51,13 @@ pub bad_more : (vertices i : ℕ) (ranges : List (ℕ × ℕ)) (d : ℕ × ℕ) 
 bad_more vertices i ranges d less none here =
     list_any_more (is_bad_range vertices) ranges i d less ∙ ap (λ b. b || is_bad_range vertices (get_or ranges i d)) none ∙ here
 
-pub ruleset adding = (bad_more, map_more)
+-- one more element, made of one more of a list
+pub mapped_more : {X Y : Type 0} (f : X → Y) (xs : List X) (i : ℕ) (d : X) → i < length xs → (made more : List Y) (y : Y)
+    → more ≡ made ++ y ∷ [] → made ≡ map f (take i xs) → y ≡ f (get_or xs i d) → more ≡ map f (take (i + 1) xs)
+mapped_more f xs i d less made more y pushed so_far is =
+    pushed
+    ∙ ap (λ ys. ys ++ y ∷ []) so_far
+    ∙ ap (λ z. map f (take i xs) ++ z ∷ []) is
+    ∙ sym (map_more f xs i d less)
 
 pub ruleset gathering = (claims_more)

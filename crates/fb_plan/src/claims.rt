@@ -39,7 +39,6 @@ fn claimed(vertices: u32, node: u64, range: (u64, u64)) -> Option<Claim>
 }
 
 /// Adds a node's ranges, up to the first bad one.
-#[tactic(auto, using(crate::proofs::Gathering::adding))]
 fn add_ranges(
     claims: &mut Vec<Claim>,
     vertices: u32,
