@@ -1,9 +1,16 @@
 use Rattle.std.proofs.Common.{◌≡◌, ◌<◌, None, is_some, get_or, set, true, refl, sym, ap, subst, ◌∙◌}
+use Rattle.fb_book.specs.declared.book.Claim.TheVariants.{Fusion}
+use Rattle.fb_book.specs.declared.permit.Permit.{Permit}
 use Rattle.fb_book.specs.Board.{TakesUnit}
 use Rattle.fb_book.specs.Books.{HandsOut, course_of}
 use Rattle.fb_book.proofs.Handing.{handed, of_same}
 use Rattle.fb_book.proofs.Keeping.{book_fusion, book_unit, node_of_job, node_of_unit, pieces_wait, slot_of_job, some_inside, told_forest, told_fusion, told_unit}
+use Rattle.fb_book.proofs.book.Book.claim.Given
 use Rattle.fb_book.proofs.book.Book.claim.Goals as goal
+
+same_fusion : (g : Given.Over) (x permit : Permit g.row.N.Denot g.N.Board g.N.Ledger) (y a z b : g.row.P.Denot)
+    → Fusion x y z ≡ Fusion permit a b → (x ≡ permit) × (y ≡ a) × (z ≡ b)
+same_fusion g x permit y a z b e = (cc, cc, cc)
 
 pub new-requires-clause-slot : goal.new-requires-clause-slot
 new-requires-clause-slot g c =
@@ -78,9 +85,7 @@ invariant_of-self-in-Fusion g c =
 pub returns-in-Fusion-clause-fusion : goal.returns-in-Fusion-clause-fusion
 returns-in-Fusion-clause-fusion g c = λ permit a b e.
     let t = c.in-Fusion.ensures.fusion c.in-Fusion.item c.in-Fusion.left c.in-Fusion.right refl in
-    let same : c.new-in-Fusion.result ≡ permit = cc in
-    let first : c.take_out-first.result ≡ a = cc in
-    let second : c.take_out-second.result ≡ b = cc in
+    let (same, first, second) = same_fusion g _ _ _ _ _ _ e in
     let slot = sym (ap (λ p. p.slot) (sym same) ∙ c.new-in-Fusion.ensures.slot) in
     let node = sym (ap (λ p. p.node) (sym same) ∙ c.new-in-Fusion.ensures.node) in
     let rest = c.take_out-second.ensures.rest ∙ ap (λ xs. set xs c.in-Fusion.right None) c.take_out-first.ensures.rest in
@@ -97,9 +102,7 @@ returns-in-Fusion-clause-fusion g c = λ permit a b e.
 
 pub returns-in-Fusion-clause-pieces : goal.returns-in-Fusion-clause-pieces
 returns-in-Fusion-clause-pieces g c = λ permit a b e.
-    let same : c.new-in-Fusion.result ≡ permit = cc in
-    let first : c.take_out-first.result ≡ a = cc in
-    let second : c.take_out-second.result ≡ b = cc in
+    let (same, first, second) = same_fusion g _ _ _ _ _ _ e in
     let slot = sym (ap (λ p. p.slot) (sym same) ∙ c.new-in-Fusion.ensures.slot) in
     let node = sym (ap (λ p. p.node) (sym same) ∙ c.new-in-Fusion.ensures.node) in
     let mine = handed _ _ _ _ g.N.Board.job c.self.invariant.kept (told_forest c.self.invariant c.keeps.ensures)

@@ -1,8 +1,12 @@
-use Rattle.std.proofs.Common.{◌≡◌, ◌+◌, ◌*◌, Some, true, set, ap, subst, ◌∙◌, rules}
+use Rattle.std.proofs.Common.{◌≡◌, ◌+◌, ◌*◌, Some, true, set, ap, subst, ◌∙◌, arith, rules}
+use Rattle.std.proofs.lemmas.Grind.{common_steps}
 use Rattle.fb_book.specs.declared.entries.Kind.TheVariants.{Gave}
 use Rattle.fb_book.specs.Board.{Lets, nodes_of}
 use Rattle.fb_book.proofs.Keeping.{book_given}
 use Rattle.fb_book.proofs.book.Book.post.Goals as goal
+
+pub index_mut-requires : goal.index_mut-requires
+index_mut-requires g c = grind (arith, common_steps)
 
 pub invariant_of-self-2 : goal.invariant_of-self-2
 invariant_of-self-2 g c =
