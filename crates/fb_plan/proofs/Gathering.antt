@@ -1,9 +1,7 @@
 -- The ranges of all nodes, one node after another.
-use Rattle.std.proofs.Common.{ℕ, ◌+◌, ◌-◌, ◌<◌, ◌≤◌, ◌≡◌, ◌||◌, List, [], ◌∷◌, ◌++◌, length, map, take, length-take-le, get_or, sym, ap, ◌∙◌, arith, append_assoc, append-nil, length-append, false}
-use Rattle.std.specs.List.{list_any}
+use Rattle.std.proofs.Common.{ℕ, ◌+◌, ◌-◌, ◌<◌, ◌≤◌, ◌≡◌, List, [], ◌∷◌, ◌++◌, length, map, take, length-take-le, get_or, sym, ap, ◌∙◌, arith, append_assoc, append-nil, length-append}
 use Rattle.std.proofs.lemmas.List.{length-map, get_or_append_left, get_or-append_right, get_or-map, take_more, map_more}
-use Rattle.std.proofs.lemmas.List.Folds.{list_any_more}
-use Rattle.fb_plan.specs.Rules.{claim_of, claims_from, is_bad_range, ranges_of}
+use Rattle.fb_plan.specs.Rules.{claim_of, claims_from, ranges_of}
 use Rattle.fb_plan.specs.declared.parts.Join.{Join}
 
 pub left_list : {X Y : Type 0} (f : X → List (ℕ × ℕ)) (g : Y → List (ℕ × ℕ)) (xs : List X) (ys : List Y) (k : ℕ) (d : X)
@@ -45,12 +43,6 @@ claims_more ranges k less =
     (append-nil (map (claim_of (0 + length (take k ranges))) (get_or ranges k []))
     ∙ ap (λ j. map (claim_of j) (get_or ranges k [])) (omega (arith, length-take-le k ranges)))
 
-pub bad_more : (vertices i : ℕ) (ranges : List (ℕ × ℕ)) (d : ℕ × ℕ) → i < length ranges
-    → list_any (is_bad_range vertices) (take i ranges) ≡ false → is_bad_range vertices (get_or ranges i d) ≡ false
-    → list_any (is_bad_range vertices) (take (i + 1) ranges) ≡ false
-bad_more vertices i ranges d less none here =
-    list_any_more (is_bad_range vertices) ranges i d less ∙ ap (λ b. b || is_bad_range vertices (get_or ranges i d)) none ∙ here
-
 -- one more element, made of one more of a list
 pub mapped_more : {X Y : Type 0} (f : X → Y) (xs : List X) (i : ℕ) (d : X) → i < length xs → (made more : List Y) (y : Y)
     → more ≡ made ++ y ∷ [] → made ≡ map f (take i xs) → y ≡ f (get_or xs i d) → more ≡ map f (take (i + 1) xs)
@@ -59,5 +51,3 @@ mapped_more f xs i d less made more y pushed so_far is =
     ∙ ap (λ ys. ys ++ y ∷ []) so_far
     ∙ ap (λ z. map f (take i xs) ++ z ∷ []) is
     ∙ sym (map_more f xs i d less)
-
-pub ruleset gathering = (claims_more)

@@ -64,7 +64,6 @@ fn add_ranges(
 }
 
 /// The ranges of all nodes, or the first node with a bad range.
-#[tactic(auto, using(crate::proofs::Gathering::gathering))]
 pub fn gather(
     alloc: Global,
     vertices: u32,

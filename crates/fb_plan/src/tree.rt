@@ -38,7 +38,6 @@ fn ones(alloc: Global, count: u32) -> Result<Vec<u32>, NoMemory>
 }
 
 /// The number of nodes of each subtree.
-#[tactic(auto, using(crate::proofs::Tables::unit_size))]
 fn sizes_of(alloc: Global, units: u32, joins: &[(u32, u32)]) -> Result<Vec<u32>, NoMemory>
     requires { IsTree (tree_of units joins.now) }
     ensures count { IfOk result (λ s. length s.items ≡ units + length joins.now) }
