@@ -73,7 +73,6 @@ impl Sharing {
     }
 
     /// The range of a unit.
-    #[tactic(auto, using(crate::proofs::Rounds::ranges))]
     fn unit_range(self, firsts: &[u64], j: u64) -> (u64, u64)
         requires shared { IsShared self.rounds self.units }
         requires vertices { vertex_count self.distance self.rounds ≤ most_vertices }
@@ -107,7 +106,6 @@ impl Sharing {
     }
 
     /// The join of a fusion, by the round before the unit that its seam comes before.
-    #[tactic(auto, using(crate::proofs::Rounds::ranges))]
     fn join(self, alloc: Global, firsts: &[u64], fusion: Fusion) -> Result<Join, NoMemory>
         requires shared { IsShared self.rounds self.units }
         requires vertices { vertex_count self.distance self.rounds ≤ most_vertices }
