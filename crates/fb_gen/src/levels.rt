@@ -35,7 +35,6 @@ fn units_in_order(alloc: Global, units: u64) -> Result<Vec<Part>, NoMemory>
 }
 
 /// Adds the fusions of a level, and gives the level above, whose new nodes are numbered from `next` on.
-#[tactic(auto, using(crate::proofs::Pairings::level_steps))]
 fn join_level(
     alloc: Global,
     level: &[Part],
