@@ -1,3 +1,4 @@
 pub mod PassedRows
 pub mod Commands
 pub mod Numbers
+pub mod Builders

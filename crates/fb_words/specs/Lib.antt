@@ -4,3 +4,4 @@ pub mod Words
 pub mod InternalOptions
 pub mod PlainRequests
 pub mod Taken
+pub mod InternalCommands

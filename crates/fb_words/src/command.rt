@@ -1,9 +1,9 @@
 //! The command line of `fusion`, as `clap` takes it.
 
-ghost use Rattle.std.specs.Prelude.{◌≡◌, IfOk, false, codes};
-ghost use Rattle.clap.specs.Words.{app_of, rule_of};
-ghost use Rattle.clap.specs.declared.builder.Command.TheViews.{out-Command};
-ghost use Rattle.fb_words.specs.Command.{check_app, decode_app, flag_rule, free_rule, fusion_app, number_rule, option_rule, required_number_rule, sample_app, with_draws, with_inputs, with_lattice, with_sizes};
+ghost use Rattle.std.specs.Prelude.{◌≡◌, IfOk, codes};
+ghost use Rattle.clap.specs.Words.{app_of, new_app};
+ghost use Rattle.fb_words.specs.Command.{check_app, decode_app, flag_rule, free_rule, fusion_app, number_rule, option_rule, required_number_rule, sample_app};
+ghost use Rattle.fb_words.specs.InternalCommands.{AreOptions, IsCommand, IsOption, bare_app};
 ghost use Rattle.fb_words.specs.Ranges.{Range};
 ghost use Rattle.fb_words.specs.Ranges as ranges;
 
@@ -47,104 +47,120 @@ pub fn fusion<'a>(alloc: Global) -> Result<Command<'a>, AllocError>
     let decode = decode(alloc)?;
     let check = check(alloc)?;
     let sample = sample(alloc)?;
-    Command::new(alloc, "fusion")
-        .bin_name("fusion")?
-        .version(VERSION)
-        .about("A proved exact decoder for quantum error correction")
-        .after_help(help::FUSION)
-        .subcommand_required(true)
+    program(alloc)?
         .subcommand(decode)?
         .subcommand(check)?
         .subcommand(sample)
 }
 
+/// The program, without its commands.
+fn program<'a>(alloc: Global) -> Result<Command<'a>, AllocError>
+    ensures { IfOk result (IsCommand bare_app) }
+{
+    let command = command(
+        alloc,
+        "fusion",
+        "A proved exact decoder for quantum error correction",
+        help::FUSION,
+    );
+    command
+        .version(VERSION)
+        .subcommand_required(true)
+        .bin_name("fusion")
+}
+
 /// The command `decode`.
 fn decode<'a>(alloc: Global) -> Result<Command<'a>, AllocError>
-    ensures app { IfOk result (λ c. app_of c ≡ decode_app) }
-    ensures local { IfOk result (λ c. (out-Command c).has_globals ≡ false) }
+    ensures { IfOk result (IsCommand decode_app) }
 {
-    let command = Command::new(alloc, "decode")
-        .about("Write a lightest correction of each shot, with cuts that show that none is lighter")
-        .after_help(help::DECODE);
-    let command = with_inputs(alloc, command)?.arg(plan(alloc))?;
-    with_sizes(alloc, command)?.arg(trace(alloc))
+    let options = decode_options(alloc)?;
+    let command = command(
+        alloc,
+        "decode",
+        "Write a lightest correction of each shot, with cuts that show that none is lighter",
+        help::DECODE,
+    );
+    command.args(options)
 }
 
 /// The command `check`.
 fn check<'a>(alloc: Global) -> Result<Command<'a>, AllocError>
-    ensures app { IfOk result (λ c. app_of c ≡ check_app) }
-    ensures local { IfOk result (λ c. (out-Command c).has_globals ≡ false) }
+    ensures { IfOk result (IsCommand check_app) }
 {
-    let command = Command::new(alloc, "check")
-        .about("Check each row of a report against the graph and the shots")
-        .after_help(help::CHECK);
-    with_inputs(alloc, command)?.arg(report(alloc))
+    let options = check_options(alloc)?;
+    let command = command(
+        alloc,
+        "check",
+        "Check each row of a report against the graph and the shots",
+        help::CHECK,
+    );
+    command.args(options)
 }
 
 /// The command `sample`.
 fn sample<'a>(alloc: Global) -> Result<Command<'a>, AllocError>
-    ensures app { IfOk result (λ c. app_of c ≡ sample_app) }
-    ensures local { IfOk result (λ c. (out-Command c).has_globals ≡ false) }
+    ensures { IfOk result (IsCommand sample_app) }
 {
-    let command = Command::new(alloc, "sample")
-        .about(
-            "Draw shots on a lattice, decode them, and sum up how many defects they have and what their corrections weigh",
-        )
-        .after_help(help::SAMPLE);
-    let command = with_lattice(alloc, command)?;
-    let command = with_draws(alloc, command)?;
-    with_sizes(alloc, command)
+    let options = sample_options(alloc)?;
+    let command = command(
+        alloc,
+        "sample",
+        "Draw shots on a lattice, decode them, and sum up how many defects they have and what their corrections weigh",
+        help::SAMPLE,
+    );
+    command.args(options)
 }
 
-/// Adds the options for the graph, the shots and the form of the shots.
-fn with_inputs<'a>(alloc: Global, command: Command<'a>) -> Result<Command<'a>, AllocError>
-    ensures app { IfOk result (λ c. app_of c ≡ with_inputs (app_of command.entry)) }
-    ensures local { (out-Command command.entry).has_globals ≡ false
-        → IfOk result (λ c. (out-Command c).has_globals ≡ false) }
+/// The options of `decode`.
+fn decode_options<'a>(alloc: Global) -> Result<Vec<Arg<'a>>, AllocError>
+    ensures { IfOk result (λ options. AreOptions decode_app.top.rules options.items) }
 {
-    command
-        .arg(graph(alloc))?
-        .arg(shots(alloc))?
-        .arg(format(alloc))
+    Ok(vec![in alloc;
+        graph(alloc),
+        shots(alloc),
+        format(alloc),
+        plan(alloc),
+        workers(alloc),
+        window(alloc),
+        trace(alloc),
+    ]?)
 }
 
-/// Adds the options for how many workers there are, and how many shots are solved at once.
-fn with_sizes<'a>(alloc: Global, command: Command<'a>) -> Result<Command<'a>, AllocError>
-    ensures app { IfOk result (λ c. app_of c ≡ with_sizes (app_of command.entry)) }
-    ensures local { (out-Command command.entry).has_globals ≡ false
-        → IfOk result (λ c. (out-Command c).has_globals ≡ false) }
+/// The options of `check`.
+fn check_options<'a>(alloc: Global) -> Result<Vec<Arg<'a>>, AllocError>
+    ensures { IfOk result (λ options. AreOptions check_app.top.rules options.items) }
 {
-    command.arg(workers(alloc))?.arg(window(alloc))
+    Ok(vec![in alloc; graph(alloc), shots(alloc), format(alloc), report(alloc)]?)
 }
 
-/// Adds the options for a lattice and its plan.
-fn with_lattice<'a>(alloc: Global, command: Command<'a>) -> Result<Command<'a>, AllocError>
-    ensures app { IfOk result (λ c. app_of c ≡ with_lattice (app_of command.entry)) }
-    ensures local { (out-Command command.entry).has_globals ≡ false
-        → IfOk result (λ c. (out-Command c).has_globals ≡ false) }
+/// The options of `sample`.
+fn sample_options<'a>(alloc: Global) -> Result<Vec<Arg<'a>>, AllocError>
+    ensures { IfOk result (λ options. AreOptions sample_app.top.rules options.items) }
 {
-    command
-        .arg(distance(alloc))?
-        .arg(rounds(alloc))?
-        .arg(units(alloc))
+    Ok(vec![in alloc;
+        distance(alloc),
+        rounds(alloc),
+        units(alloc),
+        rate(alloc),
+        start(alloc),
+        drawn_shots(alloc),
+        workers(alloc),
+        window(alloc),
+    ]?)
 }
 
-/// Adds the options for the shots that are drawn.
-fn with_draws<'a>(alloc: Global, command: Command<'a>) -> Result<Command<'a>, AllocError>
-    ensures app { IfOk result (λ c. app_of c ≡ with_draws (app_of command.entry)) }
-    ensures local { (out-Command command.entry).has_globals ≡ false
-        → IfOk result (λ c. (out-Command c).has_globals ≡ false) }
+/// A command without options.
+fn command<'a>(alloc: Global, name: &'a str, about: &'a str, after_help: &'a str) -> Command<'a>
+    ensures { IsCommand (new_app name.entry.now) result }
 {
-    command
-        .arg(rate(alloc))?
-        .arg(start(alloc))?
-        .arg(drawn_shots(alloc))
+    Command::new(alloc, name)
+        .about(about)
+        .after_help(after_help)
 }
 
 /// The option for the graph.
 fn graph<'a>(alloc: Global) -> Arg<'a>
-    ensures rule { rule_of result ≡ option_rule (codes "graph") }
-    ensures local { result.global ≡ false }
+    ensures { IsOption (option_rule (codes "graph")) result }
 {
     option(
         alloc,
@@ -157,8 +173,7 @@ fn graph<'a>(alloc: Global) -> Arg<'a>
 
 /// The option for the plan.
 fn plan<'a>(alloc: Global) -> Arg<'a>
-    ensures rule { rule_of result ≡ free_rule (codes "plan") }
-    ensures local { result.global ≡ false }
+    ensures { IsOption (free_rule (codes "plan")) result }
 {
     option(
         alloc,
@@ -170,8 +185,7 @@ fn plan<'a>(alloc: Global) -> Arg<'a>
 
 /// The option for the shots.
 fn shots<'a>(alloc: Global) -> Arg<'a>
-    ensures rule { rule_of result ≡ option_rule (codes "shots") }
-    ensures local { result.global ≡ false }
+    ensures { IsOption (option_rule (codes "shots")) result }
 {
     option(
         alloc,
@@ -184,8 +198,7 @@ fn shots<'a>(alloc: Global) -> Arg<'a>
 
 /// The option for the form of the shots.
 fn format<'a>(alloc: Global) -> Arg<'a>
-    ensures rule { rule_of result ≡ option_rule (codes "format") }
-    ensures local { result.global ≡ false }
+    ensures { IsOption (option_rule (codes "format")) result }
 {
     option(
         alloc,
@@ -198,8 +211,7 @@ fn format<'a>(alloc: Global) -> Arg<'a>
 
 /// The option for the report.
 fn report<'a>(alloc: Global) -> Arg<'a>
-    ensures rule { rule_of result ≡ option_rule (codes "report") }
-    ensures local { result.global ≡ false }
+    ensures { IsOption (option_rule (codes "report")) result }
 {
     option(
         alloc,
@@ -212,8 +224,7 @@ fn report<'a>(alloc: Global) -> Arg<'a>
 
 /// The option for the number of workers.
 fn workers<'a>(alloc: Global) -> Arg<'a>
-    ensures rule { rule_of result ≡ number_rule (codes "workers") ranges.workers }
-    ensures local { result.global ≡ false }
+    ensures { IsOption (number_rule (codes "workers") ranges.workers) result }
 {
     number(
         alloc,
@@ -226,8 +237,7 @@ fn workers<'a>(alloc: Global) -> Arg<'a>
 
 /// The option for the size of a window.
 fn window<'a>(alloc: Global) -> Arg<'a>
-    ensures rule { rule_of result ≡ number_rule (codes "window") ranges.windows }
-    ensures local { result.global ≡ false }
+    ensures { IsOption (number_rule (codes "window") ranges.windows) result }
 {
     number(
         alloc,
@@ -240,8 +250,7 @@ fn window<'a>(alloc: Global) -> Arg<'a>
 
 /// The flag for a trace.
 fn trace<'a>(alloc: Global) -> Arg<'a>
-    ensures rule { rule_of result ≡ flag_rule (codes "trace") }
-    ensures local { result.global ≡ false }
+    ensures { IsOption (flag_rule (codes "trace")) result }
 {
     Arg::new(alloc, "trace")
         .long("trace")
@@ -251,8 +260,7 @@ fn trace<'a>(alloc: Global) -> Arg<'a>
 
 /// The option for the distance of a lattice.
 fn distance<'a>(alloc: Global) -> Arg<'a>
-    ensures rule { rule_of result ≡ required_number_rule (codes "distance") ranges.distances }
-    ensures local { result.global ≡ false }
+    ensures { IsOption (required_number_rule (codes "distance") ranges.distances) result }
 {
     number(
         alloc,
@@ -266,8 +274,7 @@ fn distance<'a>(alloc: Global) -> Arg<'a>
 
 /// The option for the rounds of a lattice.
 fn rounds<'a>(alloc: Global) -> Arg<'a>
-    ensures rule { rule_of result ≡ required_number_rule (codes "rounds") ranges.rounds }
-    ensures local { result.global ≡ false }
+    ensures { IsOption (required_number_rule (codes "rounds") ranges.rounds) result }
 {
     number(
         alloc,
@@ -281,8 +288,7 @@ fn rounds<'a>(alloc: Global) -> Arg<'a>
 
 /// The option for the units of a lattice's plan.
 fn units<'a>(alloc: Global) -> Arg<'a>
-    ensures rule { rule_of result ≡ required_number_rule (codes "units") ranges.units }
-    ensures local { result.global ≡ false }
+    ensures { IsOption (required_number_rule (codes "units") ranges.units) result }
 {
     number(
         alloc,
@@ -296,8 +302,7 @@ fn units<'a>(alloc: Global) -> Arg<'a>
 
 /// The option for the rate at which edges are hit.
 fn rate<'a>(alloc: Global) -> Arg<'a>
-    ensures rule { rule_of result ≡ required_number_rule (codes "rate") ranges.rates }
-    ensures local { result.global ≡ false }
+    ensures { IsOption (required_number_rule (codes "rate") ranges.rates) result }
 {
     number(
         alloc,
@@ -311,8 +316,7 @@ fn rate<'a>(alloc: Global) -> Arg<'a>
 
 /// The option for the state at which the draws start.
 fn start<'a>(alloc: Global) -> Arg<'a>
-    ensures rule { rule_of result ≡ required_number_rule (codes "start") ranges.starts }
-    ensures local { result.global ≡ false }
+    ensures { IsOption (required_number_rule (codes "start") ranges.starts) result }
 {
     number(
         alloc,
@@ -326,8 +330,7 @@ fn start<'a>(alloc: Global) -> Arg<'a>
 
 /// The option for the number of shots that are drawn.
 fn drawn_shots<'a>(alloc: Global) -> Arg<'a>
-    ensures rule { rule_of result ≡ required_number_rule (codes "shots") ranges.shots }
-    ensures local { result.global ≡ false }
+    ensures { IsOption (required_number_rule (codes "shots") ranges.shots) result }
 {
     number(
         alloc,
@@ -341,8 +344,7 @@ fn drawn_shots<'a>(alloc: Global) -> Arg<'a>
 
 /// An option that may be given, once, as `--name value`.
 fn option<'a>(alloc: Global, name: &'a str, value_name: &'a str, help: &'a str) -> Arg<'a>
-    ensures rule { rule_of result ≡ free_rule name.entry.now }
-    ensures local { result.global ≡ false }
+    ensures { IsOption (free_rule name.entry.now) result }
 {
     Arg::new(alloc, name)
         .long(name)
@@ -359,8 +361,7 @@ fn number<'a>(
     range: RangeInclusive<u64>,
     help: &'a str,
 ) -> Arg<'a>
-    ensures rule { rule_of result ≡ number_rule name.entry.now (record { low = range.start; high = range.end }) }
-    ensures local { result.global ≡ false }
+    ensures { IsOption (number_rule name.entry.now (record { low = range.start; high = range.end })) result }
 {
     let parser = ValueParser::unsigned(*range.start(), *range.end());
     option(alloc, name, value_name, help).value_parser(parser)
