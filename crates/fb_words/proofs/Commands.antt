@@ -13,7 +13,7 @@ use Rattle.clap.specs.Kinds.{HasKind, IsAmong, Kinds, or_else}
 use Rattle.clap.specs.Lexer.{long_of}
 use Rattle.clap.specs.Simple.{built_leaf, filled, inherited, argument_words, built, entered, label_of, names_of, rows_at}
 use Rattle.clap.specs.Walk.{arg_by_id, one_of, Held, Names, Outcome, Step, Waiting, Walk, after_flag, after_step, answers_to, done, finished, idle, is_empty, long_or_other, next, nothing_held, option, plain, plain_word, positional, refused, settled, short_or_plain, stop_after, subcommand, subcommand_met, subcommand_or_other, to_positional, trailing, value, waits, walk, walk_from, walked, walked_from}
-use Rattle.clap.specs.Words.{App, Row, Rule, Shape, Text, fault_of, is_simple, kind_of, matches_of, subcommand_of}
+use Rattle.clap.specs.Words.{App, Row, Rule, Shape, Text, fault_of, is_simple, kind_of, matches_of, subcommand_of, takes}
 use Rattle.clap.specs.declared.error.Error.{Error}
 use Rattle.clap.specs.declared.error.ErrorKind.{ErrorKind}
 use Rattle.clap.specs.declared.error.ErrorKind.TheVariants as kind
@@ -378,5 +378,14 @@ module _ (a : App) (words : List Text) (is : a ≡ fusion_app) where
         (subst (λ (x : App). IsAmong (kind_of e) (fault_of x words)) is among) in
         IfSome_then (usage_of f) parse (λ k same. faulty ∙ ap (λ (u : UsageKind). Err u) (sym same))
   ]
+
+  -- words that clap takes are refused for want of memory alone
+  pub parse_taken : (e : Error) (f : WordsFault) → (takes a words ≡ true → kind_of e ≡ kind.OutOfMemory)
+      → (kind_of e ≡ kind.OutOfMemory → f ≡ fault.NoMemory) → takes fusion_app words ≡ true
+      → usage_of f ≡ Some usage.Parse → ⊥
+  parse_taken e f passes memory taken parse =
+      let out : f ≡ fault.NoMemory = memory (passes (ap (λ (x : App). takes x words) is ∙ taken)) in
+      let bad : usage_of fault.NoMemory ≡ Some usage.Parse = subst (λ (x : WordsFault). usage_of x ≡ Some usage.Parse) out parse in
+      cc
 
 pub ruleset rows = (first_value-rows)

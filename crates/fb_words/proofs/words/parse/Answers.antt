@@ -1,6 +1,6 @@
 use Rattle.std.proofs.Common.{map, string_bytes}
 use Rattle.clap.specs.Words.{app_of, found_of, rows_of, subcommand_rows_of}
-use Rattle.fb_words.proofs.Commands.{parse_failed, parse_passed}
+use Rattle.fb_words.proofs.Commands.{parse_failed, parse_passed, parse_taken}
 use Rattle.fb_words.proofs.words.parse.Goals as goal
 
 pub returns-in-Ok-try_get_matches_from-clause-command : goal.returns-in-Ok-try_get_matches_from-clause-command
@@ -24,3 +24,7 @@ returns-in-Ok-try_get_matches_from-clause-request c =
 pub returns-in-Err-clause-fault : goal.returns-in-Err-clause-fault
 returns-in-Err-clause-fault c = parse_failed (app_of c.in-Ok.command) (map string_bytes c.args.words.now) c.in-Ok.ensures c.in-Err.error
     c.refusal.result c.in-Err.ensures.kinds c.refusal.ensures.memory c.refusal.ensures.parse
+
+pub returns-in-Err-clause-takes : goal.returns-in-Err-clause-takes
+returns-in-Err-clause-takes c = parse_taken (app_of c.in-Ok.command) (map string_bytes c.args.words.now) c.in-Ok.ensures c.in-Err.error
+    c.refusal.result c.in-Err.ensures.passes c.refusal.ensures.memory
