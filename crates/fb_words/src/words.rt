@@ -131,7 +131,6 @@ fn read_request<'a>(matches: &ArgMatches<'a>) -> Result<Request<'a>, WordsFault>
 }
 
 /// The request of the command `decode` with these options.
-#[tactic(auto, using(crate::proofs::Commands::rows))]
 fn read_decoding<'a>(options: &ArgMatches<'a>) -> Result<Request<'a>, WordsFault>
     requires { HasDecodeOptions (rows_of (found_of options.now)) }
     ensures request { IfOk result (λ e. decoding_of (rows_of (found_of options.now)) ≡ Ok (plain_request e)) }
