@@ -1,14 +1,14 @@
 ghost use Rattle.std.specs.Prelude.{◌≡◌, ◌+◌, ◌*◌, ◌≤◌, ◌<◌, IfOk, Some, length};
 ghost use Rattle.std.specs.List.Sorted.{IsPermutation};
-ghost use Rattle.fb_half.specs.Merged.{freed_in, seam_defects};
+ghost use Rattle.fb_half.specs.Merged.{IsMerged, freed_in, seam_defects};
 ghost use Rattle.fb_half.specs.Parts.{IsPartOf};
 ghost use Rattle.fb_plan.specs.Plans.{children_of};
 
-use fb_graph::{NoMemory, Steps, Whole};
+use fb_graph::{NoMemory, Steps};
 use fb_half::{Half, Spare, Work};
 use fb_plan::Job;
 use fb_regions::NodeId;
-use fb_search::{Scratch, search_each_from};
+use fb_search::{Scratch, search_each, search_each_from};
 use std::alloc::Global;
 use std::sync::ledger::Ledger;
 
@@ -34,9 +34,9 @@ pub fn fuse<'a, L: Ledger>(
     ensures least { IfOk result (λ half. (length (freed_in left.entry node) + length (freed_in right.entry node)
         + length (seam_defects job.now left.entry.slot node)) + 2 * steps.old ≤ 2 * steps.new) }
 {
-    let scratch = Scratch::new(alloc, &Whole(job.graph()))?;
-    let (half, _spare, _scratch) = fuse_from(alloc, job, node, left, right, scratch, steps)?;
-    Ok(half)
+    let (work, roots, _spare) = merge(alloc, job, node, left, right)?;
+    let work = search_each(alloc, work, &roots, steps)?;
+    Ok(work.close())
 }
 
 /// The same as `fuse`, with scratch space that is lent and returned, so that one serves many parts of a graph. The room that
@@ -63,10 +63,30 @@ pub fn fuse_from<'a, L: Ledger>(
     ensures least { IfOk result (λ r. (length (freed_in left.entry node) + length (freed_in right.entry node)
         + length (seam_defects job.now left.entry.slot node)) + 2 * steps.old ≤ 2 * steps.new) }
 {
-    let (work, spare) = Work::merge_with_spare(alloc, job, node, left, right)?;
-    let roots = roots_of(alloc, &work)?;
+    let (work, roots, spare) = merge(alloc, job, node, left, right)?;
     let (work, scratch) = search_each_from(alloc, work, &roots, scratch, steps)?;
     Ok((work.close(), spare, scratch))
+}
+
+/// The children's parts put together, the unmatched nodes in rising order of their first vertices, and the room that is left
+/// of the right part.
+fn merge<'a>(
+    alloc: Global,
+    job: &'a Job<'a>,
+    node: u32,
+    left: Half<'a>,
+    right: Half<'a>,
+) -> Result<(Work<'a>, Vec<NodeId>, Spare), NoMemory>
+    requires left { left.job ≡ job.now }
+    requires right { right.job ≡ job.now }
+    requires slot { left.slot ≡ right.slot }
+    requires children { children_of job.now.plan node ≡ Some (left.node, right.node) }
+    ensures merged { IfOk result (λ r. IsMerged job.now node left.entry right.entry r.0) }
+    ensures roots { IfOk result (λ r. IsPermutation r.0.matching.unmatched r.1.items) }
+{
+    let (work, spare) = Work::merge_with_spare(alloc, job, node, left, right)?;
+    let roots = roots_of(alloc, &work)?;
+    Ok((work, roots, spare))
 }
 
 /// An unmatched node, and the first of its vertices.

@@ -1,11 +1,12 @@
 ghost use Rattle.std.specs.Prelude.{◌≡◌, ◌<◌, ◌+◌, ◌*◌, ◌≤◌, IfOk, length};
 ghost use Rattle.fb_graph.specs.Limits.{no_shot};
 ghost use Rattle.fb_plan.specs.Plans.{node_count, problem_at};
-ghost use Rattle.fb_half.specs.Beginnings.{LiesWithin, own_defects};
+ghost use Rattle.fb_half.specs.Beginnings.{IsBegun, LiesWithin, own_defects};
 ghost use Rattle.fb_half.specs.Parts.{IsPartOf};
 
 use fb_graph::{NoMemory, Steps, Whole};
 use fb_half::{Half, Spare, Work};
+use fb_links::NodeId;
 use fb_plan::{Job, Reach};
 use fb_search::{Scratch, search_each_from};
 use std::alloc::Global;
@@ -56,8 +57,27 @@ pub fn solve_within<'a, L: Ledger>(
     ensures steps { IfOk result (λ r. (length (own_defects r.0) + 2 * steps.old ≤ 2 * steps.new)
         × (steps.new ≤ steps.old + length (own_defects r.0))) }
 {
-    let work = Work::begin_within(alloc, job, slot, node, reach, spare)?;
-    let roots = Vec::from_slice(alloc, work.unmatched())?;
+    let (work, roots) = begin(alloc, job, slot, node, reach, spare)?;
     let (work, scratch) = search_each_from(alloc, work, &roots, scratch, steps)?;
     Ok((work.close(), scratch))
+}
+
+/// The part of a node before any search, and its unmatched nodes.
+fn begin<'a>(
+    alloc: Global,
+    job: &'a Job<'a>,
+    slot: u32,
+    node: u32,
+    reach: Reach,
+    spare: Option<Spare>,
+) -> Result<(Work<'a>, Vec<NodeId>), NoMemory>
+    requires slot { slot < length job.now.shots }
+    requires node { node < node_count job.now.plan }
+    requires reach { LiesWithin (problem_at job.now.graph job.now.plan node no_shot) reach }
+    ensures begun { IfOk result (λ r. IsBegun job.now slot node r.0) }
+    ensures roots { IfOk result (λ r. r.1.items ≡ r.0.matching.unmatched) }
+{
+    let work = Work::begin_within(alloc, job, slot, node, reach, spare)?;
+    let roots = Vec::from_slice(alloc, work.unmatched())?;
+    Ok((work, roots))
 }

@@ -9,21 +9,21 @@ pub close-requires : goal.close-requires
 close-requires g c =
     all_matched _ _ _ _ _ c.in_ok-work-2.ensures.searched
     (λ n left.
-    ap (λ l. is_in l n) c.deref.ensures.value ∙ in_permuted _ c.in_ok-roots.roots.items c.in_ok-roots.ensures n left)
+    ap (λ l. is_in l n) c.deref.ensures.value ∙ in_permuted _ c.in_ok-work.roots.items c.in_ok-work.ensures.roots n left)
 
 pub returns-clause-most : goal.returns-clause-most
 returns-clause-most g c =
-    omega (arith, c.in_ok-work-2.ensures.searched.steps, unmatched_counted _ _ _ _ _ c.in_ok-work.ensures)
+    omega (arith, c.in_ok-work-2.ensures.searched.steps, unmatched_counted _ _ _ _ _ c.in_ok-work.ensures.merged)
 
 pub returns-clause-least : goal.returns-clause-least
 returns-clause-least g c =
     let none =
     all_matched _ _ _ _ _ c.in_ok-work-2.ensures.searched
     (λ n left.
-    ap (λ l. is_in l n) c.deref.ensures.value ∙ in_permuted _ c.in_ok-roots.roots.items c.in_ok-roots.ensures n left) in
+    ap (λ l. is_in l n) c.deref.ensures.value ∙ in_permuted _ c.in_ok-work.roots.items c.in_ok-work.ensures.roots n left) in
     omega (
       arith,
       c.in_ok-work-2.ensures.searched.each,
       ap length none,
-      unmatched_counted _ _ _ _ _ c.in_ok-work.ensures,
+      unmatched_counted _ _ _ _ _ c.in_ok-work.ensures.merged,
     )

@@ -7,4 +7,4 @@ pub close-requires : goal.close-requires
 close-requires g c =
     all_matched _ _ _ _ _ c.in_ok-work-2.ensures.searched
     (λ n left.
-    ap (λ l. is_in l n) (c.deref.ensures.value ∙ (c.in_ok-roots.ensures.items ∙ c.unmatched.ensures)) ∙ left)
+    ap (λ l. is_in l n) (c.deref.ensures.value ∙ c.in_ok-work.ensures.roots) ∙ left)
