@@ -44,13 +44,10 @@ const MOST_DRAWN: u64 = 1_000_000;
 pub fn fusion<'a>(alloc: Global) -> Result<Command<'a>, AllocError>
     ensures { IfOk result (λ c. app_of c ≡ fusion_app) }
 {
-    let decode = decode(alloc)?;
-    let check = check(alloc)?;
-    let sample = sample(alloc)?;
     program(alloc)?
-        .subcommand(decode)?
-        .subcommand(check)?
-        .subcommand(sample)
+        .subcommand(decode(alloc)?)?
+        .subcommand(check(alloc)?)?
+        .subcommand(sample(alloc)?)
 }
 
 /// The program, without its commands.
