@@ -3,6 +3,7 @@
 ghost use Rattle.std.specs.Prelude.{◌≡◌, ◌+◌, ◌≤◌, length, All, None, IfOk, OnOk};
 ghost use Rattle.fb_graph.specs.Components.{IsFirstOdd};
 ghost use Rattle.fb_graph.specs.Limits.{IsShot, problem_of};
+ghost use Rattle.fb_plan.specs.Plans.{IsPlan};
 
 use fb_book::{Board, Book, Claim, Permit, Piece};
 use fb_graph::{Components, Graph, NoMemory, Shot, Whole, components, first_odd};
@@ -117,12 +118,19 @@ fn run<'a, N: Board>(alloc: Global, job: &'a Job<'a>) -> Result<(usize, usize), 
     Ok((roots.len(), history.len()))
 }
 
+/// The numbers of roots and of entries of a run with a slot for each of `SLOTS` shots without a defect.
+fn run_slots(alloc: Global, graph: &Graph, plan: &Plan) -> Result<(usize, usize), Fail>
+    requires { IsPlan graph.now plan.now }
+{
+    let shots = shots(alloc, graph, SLOTS)?;
+    let job = Job::new(graph, plan, shots);
+    run::<Brand>(alloc, &job)
+}
+
 #[test]
 fn has_a_slot_for_each_shot(rt: HostRuntime) -> Result<(), Fail> {
     let graph = Graph::build(rt.alloc(), 0, &[], &[])?;
     let plan = Plan::single(rt.alloc(), &graph)?;
-    let shots = shots(rt.alloc(), &graph, SLOTS)?;
-    let job = Job::new(&graph, &plan, shots);
-    assert_eq!(rt; run::<Brand>(rt.alloc(), &job)?, (1_001, 2_002));
+    assert_eq!(rt; run_slots(rt.alloc(), &graph, &plan)?, (1_001, 2_002));
     Ok(())
 }
