@@ -64,11 +64,17 @@ fn finds_the_cycle(alloc: Global, tree: &Tree, links: &Links) -> Result<bool, No
 fn finds_paths_and_cycles(rt: HostRuntime) -> Result<(), Fail> {
     let links = Links::new(rt.alloc())?;
     let tree = three_branches(rt.alloc(), &links)?;
-    assert!(rt; finds_the_path(rt.alloc(), &tree)?, "another path");
-    assert!(rt; finds_the_branches(rt.alloc(), &tree)?, "other branches");
+    assert!(rt;
+        finds_the_path(rt.alloc(), &tree)?,
+        "the path to the root is another"
+    );
+    assert!(rt;
+        finds_the_branches(rt.alloc(), &tree)?,
+        "the branches are others"
+    );
     assert!(rt;
         finds_the_cycle(rt.alloc(), &tree, &links)?,
-        "another cycle"
+        "the cycle is another"
     );
     Ok(())
 }
