@@ -40,10 +40,16 @@ most_searched j n left right before after roots old new merged searched =
     omega (arith, searched.steps, unmatched_counted j n left right before merged)
 
 -- A search matches two of them at most.
-pub least_searched : (j : JobValue) (n : ℕ) (left right before after : PartValue) (roots : List ℕ) (old new : ℕ)
+pub least_searched : (j : JobValue) (n : ℕ) (left right before after : PartValue) (roots read : List ℕ) (old new : ℕ)
     → IsMerged j n left right before
-    → HasSearchedEach before roots old new after
-    → after.matching.unmatched ≡ []
+    → HasSearchedEach before read old new after
+    → read ≡ roots
+    → IsPermutation before.matching.unmatched roots
     → ((length (freed_in left n) + length (freed_in right n)) + length (seam_defects j left.slot n)) + 2 * old ≤ 2 * new
-least_searched j n left right before after roots old new merged searched none =
-    omega (arith, searched.each, ap length none, unmatched_counted j n left right before merged)
+least_searched j n left right before after roots read old new merged searched same moved =
+    omega (
+      arith,
+      searched.each,
+      ap length (none_unmatched before after roots read old new searched same moved),
+      unmatched_counted j n left right before merged,
+    )
