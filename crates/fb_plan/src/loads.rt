@@ -8,14 +8,14 @@ use fb_graph::NoMemory;
 use std::alloc::Global;
 
 /// What is added up: the ranges, or the numbers of their nodes.
-#[derive(Clone, Copy, Debug)]
+#[derive(Clone, Copy)]
 pub enum Measure {
     Ranges,
     Nodes,
 }
 
 /// The vertex where a range starts, or the one where it has ended.
-#[derive(Clone, Copy, Debug)]
+#[derive(Clone, Copy)]
 enum Bound {
     Start,
     End,

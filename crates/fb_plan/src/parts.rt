@@ -9,14 +9,14 @@ pub struct Join {
 
 /// The places of a node's subtree when each node is listed after its children's subtrees: from `start` up to and
 /// without `end`. The last of them is the node's own.
-#[derive(Clone, Copy, Debug)]
+#[derive(Clone, Copy)]
 pub struct Span {
     pub start: u32,
     pub end: u32,
 }
 
 /// A range of a node: the vertices from `start` up to and without `end`.
-#[derive(Clone, Copy, Debug)]
+#[derive(Clone, Copy)]
 pub struct Claim {
     pub node: u64,
     pub start: u32,

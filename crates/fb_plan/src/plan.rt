@@ -29,7 +29,7 @@ pub const MOST_UNITS: usize = 1 << 12;
 /// A plan of fusion (Wu and Zhong 2023): a binary tree whose leaves are units, and for each real vertex the node that
 /// owns it. Units are numbered from 0, then come the fusions in their order; the root is the last node. A plan has
 /// at most `MOST_UNITS` units.
-#[derive(Debug, Drop)]
+#[derive(Drop)]
 pub struct Plan {
     units: u32,
     joins: Vec<(u32, u32)>,
