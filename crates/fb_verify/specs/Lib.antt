@@ -1,4 +1,5 @@
 pub mod FaultTexts
+pub mod InternalLines
 pub mod InternalLoads
 pub mod InternalMarks
 pub mod ReadBack

@@ -2,6 +2,7 @@
 
 ghost use Rattle.std.specs.Prelude.{◌≡◌, IfOk};
 ghost use Rattle.fb_verify.specs.Reports.{words_of, head_line, row_kind, shot_line, edges_line, weight_line, cut_line, trace_line, done_line, line_of, at_end};
+ghost use Rattle.fb_verify.specs.InternalLines.{done_after_rows, line_after_row, line_after_shot};
 
 use crate::line_words::Words;
 use crate::reports::Totals;
@@ -114,6 +115,13 @@ fn done_line(words: Words) -> Option<Line>
 {
     let (rows, words) = words.first_number(u64::MAX)?;
     let (odd, words) = words.after_word(b"odd")?.first_number(u64::MAX)?;
+    done_after_rows(rows, odd, words)
+}
+
+/// The done line of so many rows, after their numbers.
+fn done_after_rows(rows: u64, odd: u64, words: Words) -> Option<Line>
+    ensures { result ≡ done_after_rows rows odd words.entry }
+{
     let (units, words) = words.after_word(b"units")?.first_number(u64::MAX)?;
     let (fusions, words) = words.after_word(b"fusions")?.first_number(u64::MAX)?;
     let totals = Totals {
@@ -137,17 +145,35 @@ pub fn read_line(alloc: Global, text: &[u8]) -> Result<Option<Line>, NoMemory>
         Ok(head_line(words))
     } else if word == b"shot".as_slice() {
         Ok(shot_line(words))
-    } else if word == b"edges".as_slice() {
+    } else {
+        line_after_shot(alloc, word, words)
+    }
+}
+
+/// What a line says after its first word, if it is one of a correction or behind a row.
+fn line_after_shot(alloc: Global, word: &[u8], words: Words) -> Result<Option<Line>, NoMemory>
+    ensures { IfOk result (λ said. said ≡ line_after_shot word.now words.entry) }
+{
+    if word == b"edges".as_slice() {
         edges_line(alloc, words)
     } else if word == b"weight".as_slice() {
         Ok(weight_line(words))
     } else if word == b"cut".as_slice() {
         cut_line(alloc, words)
-    } else if word == b"took".as_slice() || word == b"gave".as_slice() {
-        Ok(trace_line(words))
-    } else if word == b"done".as_slice() {
-        Ok(done_line(words))
     } else {
-        Ok(None)
+        Ok(line_after_row(word, words))
+    }
+}
+
+/// What a line says after its first word, if it traces the run or ends the report.
+fn line_after_row(word: &[u8], words: Words) -> Option<Line>
+    ensures { result ≡ line_after_row word.now words.entry }
+{
+    if word == b"took".as_slice() || word == b"gave".as_slice() {
+        trace_line(words)
+    } else if word == b"done".as_slice() {
+        done_line(words)
+    } else {
+        None
     }
 }

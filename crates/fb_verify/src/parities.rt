@@ -1,6 +1,6 @@
 //! The parity of edges and of defects at vertices.
 
-ghost use Rattle.std.specs.Prelude.{◌≡◌, ◌<◌, ◌++◌, All, IfOk, length, not};
+ghost use Rattle.std.specs.Prelude.{◌≡◌, ◌<◌, ◌++◌, All, IfOk, OnOk, length, not};
 ghost use Rattle.std.specs.List.{find};
 ghost use Rattle.fb_graph.specs.Limits.{IsShot, problem_of};
 ghost use Rattle.fb_graph.specs.Parity.{is_in, is_odd_count};
@@ -33,23 +33,23 @@ fn marks(alloc: Global, graph: &Graph, shot: &Shot, edges: &[u32]) -> Result<Vec
     requires { All (λ k. k < length graph.now.edges) edges.now }
     ensures { IfOk result (λ v. v.items ≡ ends_of graph.now.edges edges.now ++ shot.now.defects) }
 {
-    let mut marks = both_ends(alloc, graph, edges)?;
+    let mut marks = Vec::new(alloc);
+    add_ends(&mut marks, graph, edges)?;
     marks.extend_from_slice(shot.as_slice())?;
     Ok(marks)
 }
 
-/// Both ends of each of the edges.
-fn both_ends(alloc: Global, graph: &Graph, edges: &[u32]) -> Result<Vec<u32>, NoMemory>
+/// Adds both ends of each of the edges.
+fn add_ends(ends: &mut Vec<u32>, graph: &Graph, edges: &[u32]) -> Result<(), NoMemory>
     requires { All (λ k. k < length graph.now.edges) edges.now }
-    ensures { IfOk result (λ v. v.items ≡ ends_of graph.now.edges edges.now) }
+    ensures { OnOk result (ends.new.items ≡ ends.old.items ++ ends_of graph.now.edges edges.now) }
 {
-    let mut ends = Vec::new(alloc);
     for edge in edges {
         let (first, second) = graph.ends(*edge);
         ends.push(first)?;
         ends.push(second)?;
     }
-    Ok(ends)
+    Ok(())
 }
 
 /// The first of the vertices that is real.

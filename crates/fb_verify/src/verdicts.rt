@@ -3,7 +3,7 @@ ghost use Rattle.fb_verify.specs.VerdictTexts.{is_bad, numbers_in, verdict_name,
 
 /// What a check finds of a row: good, or the first rule that it breaks. Edges, vertices and cuts are named by their
 /// numbers, which count from 0.
-#[derive(Clone, Copy, Debug, PartialEq, Eq)]
+#[derive(Clone, Copy)]
 pub enum Verdict {
     /// The row is right.
     Good,
@@ -34,7 +34,7 @@ pub enum Verdict {
 }
 
 /// The numbers that are printed with a verdict.
-#[derive(Clone, Copy, Debug, PartialEq, Eq)]
+#[derive(Clone, Copy)]
 pub enum Numbers {
     Nothing,
     One(u64),
