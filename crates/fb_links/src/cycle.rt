@@ -5,7 +5,7 @@ pub type NodeId = u64;
 pub type LinkId = u64;
 
 /// A node of a cycle or of a path, with the link from it to the next node.
-#[derive(Clone, Copy, Debug, PartialEq, Eq)]
+#[derive(Clone, Copy)]
 pub struct CycleStep {
     pub node: NodeId,
     pub link: LinkId,

@@ -1,4 +1,4 @@
-ghost use Rattle.std.specs.Prelude.{◌≡◌, ◌+◌, ◌<◌, ◌^◌, IfOk};
+ghost use Rattle.std.specs.Prelude.{◌≡◌, ◌+◌, ◌<◌, ◌^◌, ◌++◌, IfOk, OnOk};
 ghost use Rattle.fb_links.specs.Walks.{walk_weight, start_of, end_of, meeting_vertex, ending_at, starting_at, turned_walk, turned_step, is_end, joined_walk};
 
 use crate::{NoMemory, Step};
@@ -42,9 +42,16 @@ pub fn joined_walk(alloc: Global, a: &[Step], b: &[Step]) -> Result<Vec<Step>, N
 {
     let v = meeting_vertex(a, b);
     let mut steps = ending_at(alloc, a, v)?;
-    let rest = starting_at(alloc, b, v)?;
-    steps.extend_from_slice(&rest)?;
+    add_from(alloc, &mut steps, b, v)?;
     Ok(steps)
+}
+
+/// Adds the other walk, reversed if it does not begin at the vertex.
+fn add_from(alloc: Global, steps: &mut Vec<Step>, other: &[Step], v: u32) -> Result<(), NoMemory>
+    ensures { OnOk result (steps.new.items ≡ steps.old.items ++ starting_at v other.now) }
+{
+    let rest = starting_at(alloc, other, v)?;
+    steps.extend_from_slice(&rest)
 }
 
 /// The vertex where the two walks meet, if they share an end.

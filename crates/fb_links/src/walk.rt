@@ -4,7 +4,7 @@ ghost use Rattle.fb_links.specs.Walks.{IsChained};
 use std::marker::Model;
 
 /// One edge of a walk, given by its number, in the direction in which the walk passes it.
-#[derive(Clone, Copy, Debug, PartialEq, Eq)]
+#[derive(Clone, Copy)]
 pub struct Step {
     pub from: u32,
     pub to: u32,
@@ -13,7 +13,7 @@ pub struct Step {
 }
 
 /// A walk: steps, each beginning where the one before it ended. Contracts see it as the list of its steps.
-#[derive(Debug, Drop)]
+#[derive(Drop)]
 pub struct Walk {
     steps: Vec<Step>,
 }
