@@ -209,4 +209,4 @@ plan_is_made d t u e s v p shared wide long many made =
 
 pub ruleset rulings = (plan_is_time_tree)
 
-pub ruleset plans = (lattice_known, seam_bounds)
+pub ruleset plans = (lattice_known)

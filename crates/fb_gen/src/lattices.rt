@@ -11,14 +11,14 @@ const WEIGHT_WITHIN: i128 = 20;
 const WEIGHT_LATER: i128 = 28;
 
 /// How far a lattice reaches.
-#[derive(Clone, Copy, Debug)]
+#[derive(Clone, Copy)]
 struct Size {
     distance: u64,
     rounds: u64,
 }
 
 /// The numbers that a graph is built of.
-#[derive(Debug, Drop)]
+#[derive(Drop)]
 struct Parts {
     edges: Vec<(u64, u64, i128)>,
     virtuals: Vec<u64>,

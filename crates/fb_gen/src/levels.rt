@@ -8,14 +8,14 @@ use fb_graph::NoMemory;
 use std::alloc::Global;
 
 /// A node of a level, with the number of the seam before it, which is that of the first unit below the node.
-#[derive(Clone, Copy, Debug)]
+#[derive(Clone, Copy)]
 pub struct Part {
     pub seam: u64,
     pub node: u64,
 }
 
 /// The fusion of two nodes by a seam.
-#[derive(Clone, Copy, Debug)]
+#[derive(Clone, Copy)]
 pub struct Fusion {
     pub left: u64,
     pub right: u64,

@@ -13,7 +13,7 @@ use fb_plan::{Join, Plan, PlanFault};
 use std::alloc::Global;
 
 /// How the rounds of a lattice are shared out among units.
-#[derive(Clone, Copy, Debug)]
+#[derive(Clone, Copy)]
 struct Sharing {
     distance: u64,
     rounds: u64,
@@ -170,6 +170,44 @@ impl Sharing {
             },
         }
     }
+
+    /// The plan of these fusions, by the first round of each unit.
+    fn plan_of_fusions(
+        self,
+        alloc: Global,
+        graph: &Graph,
+        firsts: &[u64],
+        fusions: &[Fusion],
+    ) -> Result<Plan, NoMemory>
+        requires shared { IsShared self.rounds self.units }
+        requires vertices { vertex_count self.distance self.rounds ≤ most_vertices }
+        requires distance { self.distance < 2 ^ 32 }
+        requires lattice { graph.now ≡ lattice_graph self.distance self.rounds }
+        requires len { length firsts.now ≡ self.units + 1 }
+        requires each { (k : ℕ) → k < self.units + 1 → get_or firsts.now k 0 ≡ first_round self.rounds self.units k }
+        requires fusions { fusions.now ≡ time_fusions self.units }
+        ensures plan { IfOk result (λ p. p ≡ time_tree self.distance self.rounds self.units) }
+        ensures valid { IfOk result (IsPlan graph.now) }
+    {
+        let ranges = self.unit_ranges(alloc, firsts)?;
+        let joins = self.joins(alloc, firsts, fusions)?;
+        self.plan(alloc, graph, &ranges, &joins)
+    }
+
+    /// The plan of the lattice by time.
+    fn plan_by_time(self, alloc: Global, graph: &Graph) -> Result<Plan, NoMemory>
+        requires shared { IsShared self.rounds self.units }
+        requires limit { self.rounds < 2 ^ 32 }
+        requires vertices { vertex_count self.distance self.rounds ≤ most_vertices }
+        requires distance { self.distance < 2 ^ 32 }
+        requires lattice { graph.now ≡ lattice_graph self.distance self.rounds }
+        ensures plan { IfOk result (λ p. p ≡ time_tree self.distance self.rounds self.units) }
+        ensures valid { IfOk result (IsPlan graph.now) }
+    {
+        let firsts = self.first_rounds(alloc)?;
+        let fusions = all_fusions(alloc, self.units)?;
+        self.plan_of_fusions(alloc, graph, &firsts, &fusions)
+    }
 }
 
 /// The plan of a lattice by time: `units` runs of rounds with one round between two of them, which are joined two and
@@ -198,19 +236,7 @@ pub fn time_plan(
         rounds: u64::from(rounds),
         units: u64::from(units),
     };
-    let Ok(firsts) = sharing.first_rounds(alloc) else {
-        return Err(GenFault::NoMemory);
-    };
-    let Ok(fusions) = all_fusions(alloc, u64::from(units)) else {
-        return Err(GenFault::NoMemory);
-    };
-    let Ok(ranges) = sharing.unit_ranges(alloc, &firsts) else {
-        return Err(GenFault::NoMemory);
-    };
-    let Ok(joins) = sharing.joins(alloc, &firsts, &fusions) else {
-        return Err(GenFault::NoMemory);
-    };
-    let Ok(plan) = sharing.plan(alloc, graph, &ranges, &joins) else {
+    let Ok(plan) = sharing.plan_by_time(alloc, graph) else {
         return Err(GenFault::NoMemory);
     };
     Ok(plan)
