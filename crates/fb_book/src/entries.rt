@@ -1,7 +1,7 @@
 //! The items' statuses and what a history is made of.
 
 /// What happened to an item: it was taken, it was given, or it was left for want of memory.
-#[derive(Clone, Copy, PartialEq, Eq, Debug)]
+#[derive(Clone, Copy, PartialEq, Eq)]
 pub enum Kind {
     Took,
     Gave,
@@ -9,7 +9,7 @@ pub enum Kind {
 }
 
 /// One event of a run: what a worker did with the item of this slot and node.
-#[derive(Clone, Copy, PartialEq, Eq, Debug)]
+#[derive(Clone, Copy)]
 pub struct Entry {
     pub kind: Kind,
     pub worker: u32,
@@ -19,7 +19,7 @@ pub struct Entry {
 
 /// The state of an item. It is held by the worker with this number, given once it is solved, and used once the fusion
 /// above it is taken.
-#[derive(Clone, Copy, PartialEq, Eq, Debug)]
+#[derive(Clone, Copy)]
 pub enum Status {
     Idle,
     Held(u32),

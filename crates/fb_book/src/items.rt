@@ -16,14 +16,14 @@ use std::alloc::Global;
 use std::marker::Model;
 
 /// An item by its slot and node.
-#[derive(Clone, Copy, Debug)]
+#[derive(Clone, Copy)]
 pub struct Item {
     pub slot: u32,
     pub node: u32,
 }
 
 /// What a worker may do next. A fusion comes with the places of its two children.
-#[derive(Clone, Copy, Debug)]
+#[derive(Clone, Copy)]
 pub enum Turn {
     Unit(Item),
     Fusion(Item, usize, usize),
