@@ -183,5 +183,3 @@ pub cuts_below : (g : DecodingGraph) (shot : ShotValue) (cuts : List Cut) → cu
     → All (λ c. All (λ v. v < g.vertices) c.vertices) cuts
 cuts_below g shot cuts none k d less i e within =
     real-below g _ (((cuts-from_none g shot 0 [] cuts none).0 k d less).odd.real i e within)
-
-pub ruleset checked = (below-from_beyond, cuts_distinct, cuts_below)

@@ -136,7 +136,6 @@ fn compare_odd(graph: &Graph, shot: &Shot, first: Option<u32>, vertex: u32) -> V
 }
 
 /// What a check finds of a correction with its certificate.
-#[tactic(auto, using(crate::proofs::Goods::checked))]
 fn check_best(
     alloc: Global,
     graph: &Graph,

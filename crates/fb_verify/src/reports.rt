@@ -4,7 +4,7 @@ use fb_graph::{NoMemory, Row};
 use std::marker::Model;
 
 /// What a report says.
-#[derive(Debug, Drop)]
+#[derive(Drop)]
 pub struct Report {
     /// The rows, that of shot 0 first.
     pub rows: RowList,
@@ -12,7 +12,7 @@ pub struct Report {
 }
 
 /// The numbers of a report's last line.
-#[derive(Clone, Copy, Debug, PartialEq, Eq)]
+#[derive(Clone, Copy)]
 pub struct Totals {
     /// How many rows there are.
     pub rows: u64,
@@ -25,7 +25,7 @@ pub struct Totals {
 }
 
 /// Rows, which contracts see as their list.
-#[derive(Debug, Drop)]
+#[derive(Drop)]
 pub struct RowList {
     rows: Vec<Row>,
 }
