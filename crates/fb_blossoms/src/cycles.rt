@@ -6,7 +6,7 @@ ghost use Rattle.fb_blossoms.specs.Links.{link_after, node_after, place_after};
 use crate::{CycleStep, LinkId, NodeId};
 
 /// A way round a cycle to the place `end`. It begins at the place that is `steps` steps from there, onward or back.
-#[derive(Clone, Copy, Debug, PartialEq, Eq)]
+#[derive(Clone, Copy)]
 pub struct Round {
     pub onward: bool,
     pub end: usize,
@@ -14,7 +14,7 @@ pub struct Round {
 }
 
 /// One step of such a way: the link, and the nodes from which and to which it leads.
-#[derive(Clone, Copy, Debug, PartialEq, Eq)]
+#[derive(Clone, Copy)]
 pub struct Crossing {
     pub from: NodeId,
     pub link: LinkId,

@@ -1,23 +1,31 @@
 -- New names that are looked up in another way.
-use Rattle.std.proofs.Common.{ℕ, ◌≡◌, List, map, sym, ap, ◌∙◌}
-use Rattle.fb_graph.specs.Dual.{Node, is_live}
-use Rattle.fb_graph.specs.RenamedNodes.{renamed_node, renamed_nodes}
-use Rattle.fb_graph.proofs.Among.{among_All}
+use Rattle.std.proofs.Common.{ℕ, ◌≡◌, List, map, option_map, Option, Some, None, refl, ap, ◌∙◌}
+use Rattle.std.specs.Vec.{with_items}
 use Rattle.fb_graph.proofs.NestParts.{map_agree}
 use Rattle.fb_graph.proofs.Sets.{All-from_is_in}
-use Rattle.fb_regions.specs.Merged.{AreNewNames}
+use Rattle.fb_regions.specs.declared.marks.Mark.{Mark}
+use Rattle.fb_regions.specs.declared.region.Region.{Region}
+use Rattle.fb_regions.specs.InternalMerged.{AreMarksOver, mark_over, renamed_mark, renamed_region}
+use Rattle.fb_regions.specs.InternalNodes.{mark_of}
 
-pub new_names_by : (left right : List Node) (f g : ℕ → ℕ) → ((a : ℕ) → f a ≡ g a) → AreNewNames left right g → AreNewNames left right f
-new_names_by left right f g same new = record {
-  apart = λ a b h k e. new.apart a b h k (sym (same a) ∙ (e ∙ same b));
-  fresh = λ a h. ap (is_live left) (same a) ∙ new.fresh a h;
-}
+module _ (f g : ℕ → ℕ) (same : (a : ℕ) → f a ≡ g a) where
+  pub region_by : (r : Region) → renamed_region f r ≡ renamed_region g r
+  region_by r =
+      ap (λ a. record r { name = a; children = with_items r.children (map f r.children.items); parent = option_map f r.parent }) (same r.name)
+      ∙ (ap (λ cs. record r { name = g r.name; children = with_items r.children cs; parent = option_map f r.parent })
+      (map_agree f g r.children.items (All-from_is_in (λ c. f c ≡ g c) r.children.items (λ c h. same c)))
+      ∙ ap (λ o. record r { name = g r.name; children = with_items r.children (map g r.children.items); parent = o }) (parent r.parent))
+    where
+      parent : (o : Option ℕ) → option_map f o ≡ option_map g o
+      parent None = refl
+      parent (Some a) = ap Some (same a)
 
-pub renamed_by : (f g : ℕ → ℕ) (nodes : List Node) → ((a : ℕ) → f a ≡ g a) → renamed_nodes f nodes ≡ renamed_nodes g nodes
-renamed_by f g nodes same =
-    map_agree (renamed_node f) (renamed_node g) nodes
-    (among_All (λ n. renamed_node f n ≡ renamed_node g n) nodes
-    (λ n a.
-    ap (λ y. record n { name = y; children = map f n.children }) (same n.name)
-    ∙ ap (λ cs. record n { name = g n.name; children = cs })
-    (map_agree f g n.children (All-from_is_in (λ c. f c ≡ g c) n.children (λ c h. same c)))))
+  pub marks_by : (left right both : List (Option Mark)) → AreMarksOver f left right both → AreMarksOver g left right both
+  marks_by left right both over = record {
+    count = over.count;
+    marks = λ v. over.marks v ∙ by (mark_of right v) (mark_of left v);
+  }
+    where
+      by : (o old : Option Mark) → mark_over f o old ≡ mark_over g o old
+      by None old = refl
+      by (Some m) old = ap (λ a. Some (record m { leaf = a })) (same m.leaf)

@@ -8,7 +8,7 @@ use crate::places::place_of;
 use crate::region::Region;
 
 /// A list of vertices that is kept by their marks, each of which has the vertex before it.
-#[derive(Clone, Copy, Debug, PartialEq, Eq)]
+#[derive(Clone, Copy)]
 pub struct Listing {
     pub first: u32,
     pub count: usize,

@@ -10,14 +10,14 @@ use std::alloc::Global;
 use std::marker::Model;
 
 /// The last step of a vertex's walk: the vertex from which it leads, and the edge over which it leads.
-#[derive(Clone, Copy, Debug, PartialEq, Eq)]
+#[derive(Clone, Copy)]
 pub struct Hop {
     pub from: u32,
     pub edge: u32,
 }
 
 /// How a vertex came to the node that took it up.
-#[derive(Clone, Copy, Debug, PartialEq, Eq)]
+#[derive(Clone, Copy)]
 pub struct Mark {
     /// The defect from which its walk leads.
     pub source: u32,

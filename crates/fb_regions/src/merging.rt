@@ -1,4 +1,4 @@
-ghost use Rattle.std.specs.Prelude.{◌≡◌, ◌≤◌, ◌++◌, ◌∷◌, [], length, map, OnOk};
+ghost use Rattle.std.specs.Prelude.{◌≡◌, ◌≤◌, ◌++◌, ◌∷◌, ℕ, [], length, map, IfOk, OnOk};
 ghost use Rattle.fb_graph.specs.Certificate.{AreDistinct};
 ghost use Rattle.fb_links.specs.Names.{name_by};
 ghost use Rattle.fb_regions.specs.InternalMerged.{AreMarksOver, IsEntered, renamed_region, renamed_regions};
@@ -9,24 +9,29 @@ use crate::marks::{Mark, Marks};
 use crate::places::{set_place, widen};
 use crate::region::Region;
 use fb_graph::NoMemory;
-use fb_links::names::Names;
+use fb_links::names::{Names, names_of};
+use std::alloc::Global;
 
-/// Puts nodes behind the others, one after another, under their new names.
+/// Puts nodes behind the others, one after another, under the new names that the list has beside their old ones. Returns
+/// these names by the old ones.
 pub fn take_nodes(
+    alloc: Global,
     regions: &mut Vec<Region>,
     places: &mut Vec<Option<usize>>,
     others: Vec<Region>,
-    names: &Names,
-) -> Result<(), NoMemory>
-    requires distinct { AreDistinct (map (λ r. r.name) (regions.old.items ++ renamed_regions (name_by names.now) others.items)) }
+    nodes: &[(NodeId, NodeId)],
+) -> Result<Names, NoMemory>
+    requires distinct { AreDistinct (map (λ r. r.name) (regions.old.items ++ renamed_regions (name_by nodes.now) others.items)) }
     requires index { IsIndex regions.old.items places.old.items }
-    ensures nodes { OnOk result (regions.new.items ≡ regions.old.items ++ renamed_regions (name_by names.now) others.items) }
+    ensures names { IfOk result (λ names. (a : ℕ) → name_by names a ≡ name_by nodes.now a) }
+    ensures nodes { OnOk result (regions.new.items ≡ regions.old.items ++ renamed_regions (name_by nodes.now) others.items) }
     ensures index { OnOk result (IsIndex regions.new.items places.new.items) }
 {
+    let names = names_of(alloc, nodes)?;
     for region in others {
-        take_node(regions, places, region, names)?;
+        take_node(regions, places, region, &names)?;
     }
-    Ok(())
+    Ok(names)
 }
 
 /// Puts a node behind the others, under its new name, and with the new names of its children and of the node round it.

@@ -54,7 +54,7 @@ pub fn root_of(places: &[Option<usize>], regions: &[Region], leaf: NodeId) -> Op
 }
 
 /// The end of a climb from a node to the outer one round it.
-#[derive(Clone, Copy, Debug, PartialEq, Eq)]
+#[derive(Clone, Copy)]
 pub struct Climb {
     /// The name of the outer node.
     pub root: NodeId,

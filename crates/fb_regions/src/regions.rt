@@ -24,7 +24,6 @@ use crate::places::{enter_from, place_of, set_place, widen};
 use crate::region::{self, Region, adopt, climb_from, root_of};
 use crate::{Layer, NodeId, Step, Walk};
 use fb_graph::{NoMemory, Scope};
-use fb_links::names::names_of;
 use std::alloc::Global;
 use std::marker::Model;
 
@@ -192,7 +191,6 @@ impl<S: Scope> Regions<S> {
         ensures { IfOk result (λ r. r.0 ≡ record { scope = scope.now; nodes = left.nodes ++ renamed_nodes (name_by nodes.now) right.nodes }) }
     {
         scope.limits();
-        let names = names_of(alloc, nodes)?;
         let Regions {
             scope: _,
             mut regions,
@@ -205,8 +203,8 @@ impl<S: Scope> Regions<S> {
             places: other_places,
             marks: more,
         } = right;
+        let names = take_nodes(alloc, &mut regions, &mut places, others, nodes)?;
         take_marks(&mut marks, &more, &names);
-        take_nodes(&mut regions, &mut places, others, &names)?;
         let spare = SpareRegions::from_used(Vec::new(alloc), other_places, more);
         let merged = Regions {
             scope: *scope,

@@ -9,5 +9,5 @@ abbrev pub invariant-loop-region : goal.invariant-loop-region
 invariant-loop-region l =
     (l.yielded ++ into_iter_items l.region-iterator ≡ into_iter_items l.initial.region-iterator)
     × (into_iter_len l.region-iterator ≡ length (into_iter_items l.region-iterator))
-    × (l.regions.items ≡ l.initial.regions.items ++ renamed_regions (name_by l.names) l.yielded)
+    × (l.regions.items ≡ l.initial.regions.items ++ renamed_regions (name_by l.nodes) l.yielded)
     × IsIndex l.regions.items l.places.items
