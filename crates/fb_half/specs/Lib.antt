@@ -1,6 +1,7 @@
 pub mod Agreements
 pub mod Beginnings
 pub mod InternalBeginnings
+pub mod InternalMerging
 pub mod InternalSeams
 pub mod InternalStandings
 pub mod Matchings

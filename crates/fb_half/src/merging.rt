@@ -16,6 +16,7 @@ ghost use Rattle.fb_links.specs.Table.{is_live};
 ghost use Rattle.fb_blossoms.specs.Merged.{AreLeavesApart};
 ghost use Rattle.fb_blossoms.specs.Merged as merged;
 ghost use Rattle.fb_blossoms.specs.Nodes as blossoms;
+ghost use Rattle.fb_half.specs.InternalMerging.{joined_part};
 ghost use Rattle.fb_half.specs.InternalSeams.{IsBeside, IsFreed, IsOpened, AddsSingles};
 ghost use Rattle.fb_half.specs.Matchings.{listed_names, match_links, matched_names};
 ghost use Rattle.fb_half.specs.Merged.{IsPlanned, ends_at_seam, freed_in, is_owned_by, leads_to_seam, renamed_match};
@@ -26,7 +27,7 @@ use crate::matches::Match;
 use crate::matching::Matching;
 use crate::parts::Parts;
 use crate::reach::within;
-use crate::spare::Spare;
+use crate::spare::EmptyTables;
 use crate::start::add_leaf;
 use fb_blossoms::Blossoms;
 use fb_graph::NoMemory;
@@ -36,21 +37,14 @@ use fb_plan::{NodeScope, Plan};
 use fb_regions::{Regions, SpareRegions};
 use std::alloc::Global;
 
-/// The dual state, the links and the blossoms of a part.
+/// The parts of two children as one, whose matching is still the left part's alone; with the old and new numbers of what was
+/// the right part's, that part's matching, and the room that is left of its dual state.
 #[derive(Drop)]
-pub(crate) struct Stores<'a> {
-    pub(crate) regions: Regions<NodeScope<'a>>,
-    pub(crate) links: Links,
-    pub(crate) blossoms: Blossoms,
-}
-
-/// The stores of two parts as those of one, the old and new numbers of what was the right part's, and the room that is left
-/// of that part's dual state.
-#[derive(Drop)]
-pub(crate) struct MergedStores<'a> {
-    pub(crate) stores: Stores<'a>,
-    pub(crate) link_names: Vec<(LinkId, LinkId)>,
-    pub(crate) names: Vec<(NodeId, NodeId)>,
+pub(crate) struct MergedParts<'a> {
+    pub(crate) parts: Parts<'a>,
+    link_names: Vec<(LinkId, LinkId)>,
+    names: Vec<(NodeId, NodeId)>,
+    pub(crate) others: Matching,
     pub(crate) room: SpareRegions,
 }
 
@@ -66,15 +60,17 @@ struct Tables {
 /// The right part's links and blossoms beside the left one's.
 fn merged_tables(
     alloc: Global,
-    left: (Links, Blossoms),
-    right: (Links, Blossoms),
+    left_links: Links,
+    right_links: Links,
+    left_blossoms: Blossoms,
+    right_blossoms: Blossoms,
 ) -> Result<Tables, NoMemory>
-    requires { AreLeavesApart left.1 right.1 }
-    ensures links { IfOk result (λ t. AreMerged left.0 right.0 t.link_names.items t.links) }
-    ensures blossoms { IfOk result (λ t. merged.IsMerged left.1 right.1 t.blossoms t.link_names.items t.names.items) }
+    requires { AreLeavesApart left_blossoms right_blossoms }
+    ensures links { IfOk result (λ t. AreMerged left_links right_links t.link_names.items t.links) }
+    ensures blossoms { IfOk result (λ t. merged.IsMerged left_blossoms right_blossoms t.blossoms t.link_names.items t.names.items) }
 {
-    let (links, link_names) = Links::merged(alloc, left.0, right.0)?;
-    let (blossoms, names) = Blossoms::merged(alloc, left.1, right.1, &link_names)?;
+    let (links, link_names) = Links::merged(alloc, left_links, right_links)?;
+    let (blossoms, names) = Blossoms::merged(alloc, left_blossoms, right_blossoms, &link_names)?;
     Ok(Tables {
         links,
         blossoms,
@@ -83,26 +79,33 @@ fn merged_tables(
     })
 }
 
-/// The right part's stores beside the left one's, for a scope that has the real vertices of both.
-pub(crate) fn merged_stores<'a>(
+/// The right part's dual state, links and blossoms beside the left one's, for a scope that has the real vertices of both.
+pub(crate) fn merged_parts<'a>(
     alloc: Global,
     scope: &NodeScope<'a>,
-    left: Stores<'a>,
-    right: Stores<'a>,
-) -> Result<MergedStores<'a>, NoMemory>
+    left: Parts<'a>,
+    right: Parts<'a>,
+) -> Result<MergedParts<'a>, NoMemory>
     requires leaves { AreLeavesApart left.blossoms right.blossoms }
     requires names { (store : List (Option blossoms.Node)) (links names : List (ℕ × ℕ)) → merged.IsMerged left.blossoms right.blossoms store links names → AreNewNames left.regions.nodes right.regions.nodes (name_by names) }
     requires parts { AreParts (problem_at left.regions.scope.graph.now left.regions.scope.plan.now left.regions.scope.node no_shot) (problem_at right.regions.scope.graph.now right.regions.scope.plan.now right.regions.scope.node no_shot) (problem_at scope.now.graph.now scope.now.plan.now scope.now.node no_shot) }
     requires left_vertices { left.regions.scope.graph.now.vertices ≡ scope.now.graph.now.vertices }
     requires right_vertices { right.regions.scope.graph.now.vertices ≡ scope.now.graph.now.vertices }
-    ensures links { IfOk result (λ m. AreMerged left.entry.links right.entry.links m.link_names.items m.stores.links) }
-    ensures blossoms { IfOk result (λ m. merged.IsMerged left.entry.blossoms right.entry.blossoms m.stores.blossoms m.link_names.items m.names.items) }
-    ensures regions { IfOk result (λ m. m.stores.regions ≡ record { scope = scope.now; nodes = left.entry.regions.nodes ++ renamed_nodes (name_by m.names.items) right.entry.regions.nodes }) }
+    ensures links { IfOk result (λ m. AreMerged left.entry.links right.entry.links m.link_names.items m.parts.links) }
+    ensures blossoms { IfOk result (λ m. merged.IsMerged left.entry.blossoms right.entry.blossoms m.parts.blossoms m.link_names.items m.names.items) }
+    ensures regions { IfOk result (λ m. m.parts.regions ≡ record { scope = scope.now; nodes = left.entry.regions.nodes ++ renamed_nodes (name_by m.names.items) right.entry.regions.nodes }) }
+    ensures matching { IfOk result (λ m. m.parts.matching ≡ left.entry.matching) }
+    ensures others { IfOk result (λ m. m.others ≡ right.entry.matching) }
+    ensures job { IfOk result (λ m. m.parts.job.now ≡ left.entry.job.now) }
+    ensures slot { IfOk result (λ m. m.parts.slot ≡ left.entry.slot) }
+    ensures node { IfOk result (λ m. m.parts.node ≡ scope.now.node) }
 {
     let tables = merged_tables(
         alloc,
-        (left.links, left.blossoms),
-        (right.links, right.blossoms),
+        left.links,
+        right.links,
+        left.blossoms,
+        right.blossoms,
     )?;
     let (regions, room) = Regions::merged_with_spare(
         alloc,
@@ -111,14 +114,19 @@ pub(crate) fn merged_stores<'a>(
         &tables.names,
         scope,
     )?;
-    Ok(MergedStores {
-        stores: Stores {
+    Ok(MergedParts {
+        parts: Parts {
             regions,
             links: tables.links,
             blossoms: tables.blossoms,
+            matching: left.matching,
+            job: left.job,
+            slot: left.slot,
+            node: scope.node,
         },
         link_names: tables.link_names,
         names: tables.names,
+        others: right.matching,
         room,
     })
 }
@@ -262,19 +270,18 @@ fn add_leaves(
     Ok(())
 }
 
-/// The part once the vertices that its node owns are real: the matches to them are removed, and their defects are further
-/// nodes.
-fn open_seam<'a>(alloc: Global, parts: Parts<'a>) -> Result<Parts<'a>, NoMemory>
-    requires scope { HasScope parts }
-    requires beside { IsBeside (part_of parts) }
-    ensures opened { IfOk result (λ p. IsOpened (drop (length (parts.entry.matching.unmatched ++ freed_in (part_of parts.entry) parts.entry.node)) p.matching.unmatched) (part_of parts.entry) (part_of p)) }
-    ensures scope { IfOk result HasScope }
+/// Makes the vertices that the part's node owns real: removes the matches to them, and makes their defects further nodes.
+fn open_seam(alloc: Global, parts: &mut Parts<'_>) -> Result<(), NoMemory>
+    requires scope { HasScope parts.old }
+    requires beside { IsBeside (part_of parts.old) }
+    ensures opened { OnOk result (IsOpened (drop (length (parts.old.matching.unmatched ++ freed_in (part_of parts.old) parts.old.node)) parts.new.matching.unmatched) (part_of parts.old) (part_of parts.new)) }
+    ensures scope { OnOk result (HasScope parts.new) }
 {
     let Parts {
-        mut regions,
-        mut links,
-        mut blossoms,
-        mut matching,
+        regions,
+        links,
+        blossoms,
+        matching,
         job,
         slot,
         node,
@@ -283,33 +290,33 @@ fn open_seam<'a>(alloc: Global, parts: Parts<'a>) -> Result<Parts<'a>, NoMemory>
     job.graph().limits();
     links.keeps();
     let plan = job.plan();
-    free_nodes(alloc, &mut matching, &mut links, plan, node)?;
-    let own = seam_defects(alloc, plan, node, job.shots()[slot as usize].as_slice())?;
-    add_leaves(alloc, &mut regions, &mut blossoms, &mut matching, &own)?;
-    Ok(Parts {
-        regions,
-        links,
-        blossoms,
-        matching,
-        job,
-        slot,
-        node,
-    })
+    free_nodes(alloc, matching, links, plan, *node)?;
+    let own = seam_defects(alloc, plan, *node, job.shots()[*slot as usize].as_slice())?;
+    add_leaves(alloc, regions, blossoms, matching, &own)
 }
 
-/// The same, and what is left of the right part as room for another.
-pub(crate) fn open_seam_with_spare<'a>(
-    alloc: Global,
-    parts: Parts<'a>,
-    room: SpareRegions,
-    others: Matching,
-) -> Result<(Parts<'a>, Spare), NoMemory>
-    requires scope { HasScope parts }
-    requires beside { IsBeside (part_of parts) }
-    ensures opened { IfOk result (λ r. IsOpened (drop (length (parts.entry.matching.unmatched ++ freed_in (part_of parts.entry) parts.entry.node)) r.0.matching.unmatched) (part_of parts.entry) (part_of r.0)) }
-    ensures scope { IfOk result (λ r. HasScope r.0) }
+/// Takes over the right part's matches, and opens the seam. Returns the tables of a part without nodes.
+pub(crate) fn complete(alloc: Global, merged: &mut MergedParts<'_>) -> Result<EmptyTables, NoMemory>
+    requires scope { HasScope merged.old.parts }
+    requires distinct { AreDistinct (listed_names merged.old.parts.matching ++ matched_names (map (renamed_match (name_by merged.old.link_names.items) (name_by merged.old.names.items)) merged.old.others.matches)) }
+    requires beside { IsBeside (joined_part merged.old) }
+    ensures opened { OnOk result (IsOpened (drop (length ((joined_part merged.old).matching.unmatched ++ freed_in (joined_part merged.old) merged.old.parts.node)) merged.new.parts.matching.unmatched) (joined_part merged.old) (part_of merged.new.parts)) }
+    ensures scope { OnOk result (HasScope merged.new.parts) }
 {
-    let parts = open_seam(alloc, parts)?;
-    let spare = Spare::beside(alloc, room, others)?;
-    Ok((parts, spare))
+    let MergedParts {
+        parts,
+        link_names,
+        names,
+        others,
+        ..
+    } = merged;
+    take_matches(
+        alloc,
+        &mut parts.matching,
+        others.matches(),
+        link_names,
+        names,
+    )?;
+    open_seam(alloc, parts)?;
+    EmptyTables::new(alloc)
 }

@@ -42,18 +42,41 @@ impl Spare {
         }
     }
 
-    /// The room of a part whose links and blossoms another part has taken over: this for its dual state, and its matching,
-    /// emptied.
-    pub(crate) fn beside(
-        alloc: Global,
-        regions: SpareRegions,
-        matching: Matching,
-    ) -> Result<Spare, NoMemory> {
-        Ok(Spare {
+    /// The room of a part whose links and blossoms another part has taken over: this for its dual state, other tables, and its
+    /// matching, emptied.
+    pub(crate) fn beside(regions: SpareRegions, tables: EmptyTables, matching: Matching) -> Spare {
+        Spare {
             regions,
+            links: tables.links,
+            blossoms: tables.blossoms,
+            matching: matching.into_empty(),
+        }
+    }
+}
+
+/// The links and the blossoms of a part without nodes.
+#[derive(Drop)]
+pub(crate) struct EmptyTables {
+    links: Links,
+    blossoms: Blossoms,
+}
+
+impl Model for EmptyTables {
+    ghost use Rattle.std.specs.Prelude.{◌≡◌, []};
+
+    ghost Value = { Unit {0} };
+
+    ghost view = { λ s. tt };
+
+    ghost invariant = { λ s. (s.links ≡ []) × (s.blossoms ≡ []) };
+}
+
+impl EmptyTables {
+    /// New tables.
+    pub(crate) fn new(alloc: Global) -> Result<EmptyTables, NoMemory> {
+        Ok(EmptyTables {
             links: Links::new(alloc)?,
             blossoms: Blossoms::new(alloc)?,
-            matching: matching.into_empty(),
         })
     }
 }
@@ -85,10 +108,11 @@ fn new_parts<'a>(
     ensures value { IfOk result (λ p. part_of p ≡ empty_part job.now slot node) }
     ensures scope { IfOk result HasScope }
 {
+    let EmptyTables { links, blossoms } = EmptyTables::new(alloc)?;
     Ok(Parts {
         regions: Regions::new(alloc, &scope_of(job, node))?,
-        links: Links::new(alloc)?,
-        blossoms: Blossoms::new(alloc)?,
+        links,
+        blossoms,
         matching: Matching::new(alloc),
         job,
         slot,

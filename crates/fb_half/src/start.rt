@@ -1,4 +1,4 @@
-ghost use Rattle.std.specs.Prelude.{◌≡◌, ◌≢◌, ◌<◌, ℕ, true, false, [], ◌∷◌, ◌++◌, length, filter, All, IfOk, Some, None};
+ghost use Rattle.std.specs.Prelude.{◌≡◌, ◌≢◌, ◌<◌, ℕ, true, false, [], ◌∷◌, ◌++◌, length, filter, All, IfOk, OnOk, Some, None};
 ghost use Rattle.std.specs.List.Sorted.{IsStrictlyIncreasing};
 ghost use Rattle.fb_graph.specs.Certificate.{AreDistinct};
 ghost use Rattle.fb_graph.specs.Dual.{cover_of, is_live, leaf};
@@ -69,39 +69,28 @@ pub(crate) fn add_leaf(
     Ok(name)
 }
 
-/// The pieces of a part whose nodes are these defects, none of them matched, made of those of the part without nodes.
-pub(crate) fn start<'a>(alloc: Global, empty: Parts<'a>, own: &[u32]) -> Result<Parts<'a>, NoMemory>
-    requires scope { HasScope empty }
-    requires empty { part_of empty ≡ empty_part empty.job.now empty.slot empty.node }
+/// Makes each of these defects a node of a part without nodes, none of them matched.
+pub(crate) fn start(alloc: Global, parts: &mut Parts<'_>, own: &[u32]) -> Result<(), NoMemory>
+    requires scope { HasScope parts.old }
+    requires empty { part_of parts.old ≡ empty_part parts.old.job.now parts.old.slot parts.old.node }
     requires distinct { AreDistinct own.now }
-    requires real { All (λ v. (problem_at empty.job.now.graph empty.job.now.plan empty.node no_shot).is_real v ≡ true) own.now }
-    ensures started { IfOk result (λ p. IsStarted own.now p.regions.nodes p.blossoms p.matching) }
-    ensures scope { IfOk result HasScope }
-    ensures links { IfOk result (λ p. p.links ≡ []) }
-    ensures job { IfOk result (λ p. p.job.now ≡ empty.entry.job.now) }
-    ensures slot { IfOk result (λ p. p.slot ≡ empty.entry.slot) }
-    ensures node { IfOk result (λ p. p.node ≡ empty.entry.node) }
+    requires real { All (λ v. (problem_at parts.old.job.now.graph parts.old.job.now.plan parts.old.node no_shot).is_real v ≡ true) own.now }
+    ensures started { OnOk result (IsStarted own.now parts.new.regions.nodes parts.new.blossoms parts.new.matching) }
+    ensures scope { OnOk result (HasScope parts.new) }
+    ensures links { OnOk result (parts.new.links ≡ []) }
+    ensures job { OnOk result (parts.new.job.now ≡ parts.old.job.now) }
+    ensures slot { OnOk result (parts.new.slot ≡ parts.old.slot) }
+    ensures node { OnOk result (parts.new.node ≡ parts.old.node) }
 {
     let Parts {
-        mut regions,
-        links,
-        mut blossoms,
-        mut matching,
-        job,
-        slot,
-        node,
-    } = empty;
-    regions.scope().limits();
-    for v in own {
-        add_leaf(alloc, &mut regions, &mut blossoms, &mut matching, *v)?;
-    }
-    Ok(Parts {
         regions,
-        links,
         blossoms,
         matching,
-        job,
-        slot,
-        node,
-    })
+        ..
+    } = parts;
+    regions.scope().limits();
+    for v in own {
+        add_leaf(alloc, regions, blossoms, matching, *v)?;
+    }
+    Ok(())
 }

@@ -9,7 +9,7 @@ ghost use Rattle.fb_half.specs.Values.{HasScope, IsScopeOf, part_of};
 
 use crate::half::Half;
 use crate::matching::Matching;
-use crate::merging::{Stores, merged_stores, open_seam_with_spare, take_matches};
+use crate::merging::{MergedParts, complete, merged_parts};
 use crate::parts::Parts;
 use crate::spare::{Spare, empty_parts};
 use crate::start::{own_defects, start};
@@ -180,8 +180,8 @@ impl<'a> Work<'a> {
             node,
         };
         let own = own_defects(alloc, &scope, reach, job.shots()[slot as usize].as_slice())?;
-        let empty = empty_parts(alloc, job, slot, node, spare)?;
-        let parts = start(alloc, empty, &own)?;
+        let mut parts = empty_parts(alloc, job, slot, node, spare)?;
+        start(alloc, &mut parts, &own)?;
         state_begins();
         Ok(Work { parts })
     }
@@ -204,7 +204,8 @@ impl<'a> Work<'a> {
         requires children { children_of job.now.plan node ≡ Some (left.node, right.node) }
         ensures { IfOk result (λ w. IsMerged job.now node left.entry right.entry w) }
     {
-        let (work, _spare) = Work::merge_with_spare(alloc, job, node, left, right)?;
+        let (work, spare) = Work::merge_with_spare(alloc, job, node, left, right)?;
+        drop(spare);
         Ok(work)
     }
 
@@ -227,46 +228,21 @@ impl<'a> Work<'a> {
         right.keeps();
         let left = left.into_parts();
         let right = right.into_parts();
-        let slot = left.slot;
         let scope = NodeScope {
             graph: job.graph(),
             plan: job.plan(),
             node,
         };
         scope.limits();
-        let both = merged_stores(
-            alloc,
-            &scope,
-            Stores {
-                regions: left.regions,
-                links: left.links,
-                blossoms: left.blossoms,
-            },
-            Stores {
-                regions: right.regions,
-                links: right.links,
-                blossoms: right.blossoms,
-            },
-        )?;
-        let mut matching = left.matching;
-        take_matches(
-            alloc,
-            &mut matching,
-            right.matching.matches(),
-            &both.link_names,
-            &both.names,
-        )?;
-        let parts = Parts {
-            regions: both.stores.regions,
-            links: both.stores.links,
-            blossoms: both.stores.blossoms,
-            matching,
-            job,
-            slot,
-            node,
-        };
-        let (parts, spare) = open_seam_with_spare(alloc, parts, both.room, right.matching)?;
-        let work = Work { parts };
-        Ok((work, spare))
+        let mut merged = merged_parts(alloc, &scope, left, right)?;
+        let tables = complete(alloc, &mut merged)?;
+        let MergedParts {
+            parts,
+            others,
+            room,
+            ..
+        } = merged;
+        let spare = Spare::beside(room, tables, others);
+        Ok((Work { parts }, spare))
     }
 }

@@ -36,7 +36,7 @@ start-requires-clause-distinct c =
 
 pub start-requires-clause-real : goal.start-requires-clause-real
 start-requires-clause-real c =
-    subst (λ w. All (λ v. (problem_at w.job.graph w.job.plan w.node no_shot).is_real v ≡ true) c.deref.result.now) (sym c.in_ok-empty.ensures.value)
+    subst (λ w. All (λ v. (problem_at w.job.graph w.job.plan w.node no_shot).is_real v ≡ true) c.deref.result.now) (sym c.in_ok-parts.ensures.value)
     (subst (All (λ v. (problem_at c.args.job.now.graph c.args.job.now.plan c.args.node no_shot).is_real v ≡ true))
     (sym (own_is c.args.job.now c.args.slot c.args.node _ _ _ _ c.graph.ensures c.plan.ensures
     (shot_read c.args.job.now c.args.slot _ _ _ c.shots.ensures c.requires.slot c.index-shots-slot.is c.as_slice.ensures.defects)
@@ -45,13 +45,13 @@ start-requires-clause-real c =
 
 pub invariant_of-result : goal.invariant_of-result
 invariant_of-result c = (
-  c.in_ok-parts.ensures.scope,
-  begun_of (part_of c.in_ok-parts.parts) c.args.job.now c.args.slot c.args.node c.deref.result.now c.state_begins.ensures.part
-      (c.in_ok-parts.ensures.job ∙ ap (λ w. w.job) c.in_ok-empty.ensures.value)
-      (c.in_ok-parts.ensures.slot ∙ ap (λ w. w.slot) c.in_ok-empty.ensures.value)
-      (c.in_ok-parts.ensures.node ∙ ap (λ w. w.node) c.in_ok-empty.ensures.value) c.keeps.ensures c.requires.slot c.requires.node
+  c.in_ok-start.ensures.scope,
+  begun_of (part_of c.start.new.parts) c.args.job.now c.args.slot c.args.node c.deref.result.now c.state_begins.ensures.part
+      (c.in_ok-start.ensures.job ∙ ap (λ w. w.job) c.in_ok-parts.ensures.value)
+      (c.in_ok-start.ensures.slot ∙ ap (λ w. w.slot) c.in_ok-parts.ensures.value)
+      (c.in_ok-start.ensures.node ∙ ap (λ w. w.node) c.in_ok-parts.ensures.value) c.keeps.ensures c.requires.slot c.requires.node
       (own_is c.args.job.now c.args.slot c.args.node _ _ _ _ c.graph.ensures c.plan.ensures
       (shot_read c.args.job.now c.args.slot _ _ _ c.shots.ensures c.requires.slot c.index-shots-slot.is c.as_slice.ensures.defects)
       (c.deref.ensures.value ∙ c.in_ok-own.ensures))
-      c.in_ok-parts.ensures.started c.in_ok-parts.ensures.links,
+      c.in_ok-start.ensures.started c.in_ok-start.ensures.links,
 )

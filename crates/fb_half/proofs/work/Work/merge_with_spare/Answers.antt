@@ -3,6 +3,7 @@ use Rattle.fb_graph.specs.Certificate.{AreDistinct}
 use Rattle.fb_graph.specs.RenamedNodes.{renamed_nodes}
 use Rattle.fb_links.specs.Names.{name_by}
 use Rattle.fb_regions.specs.Merged.{AreNewNames}
+use Rattle.fb_half.specs.InternalMerging.{joined_part}
 use Rattle.fb_half.specs.InternalSeams.{IsBeside, IsOpened}
 use Rattle.fb_half.specs.Matchings.{listed_names, matched_names}
 use Rattle.fb_half.specs.Merged.{freed_in, renamed_match}
@@ -16,16 +17,16 @@ use Rattle.fb_half.proofs.GivenHalves.{halves_of, pieces_are}
 use Rattle.fb_half.proofs.MergedHalves.{beside, leaves_apart, matches_distinct, scoped_parts}
 use Rattle.fb_half.proofs.work.Work.merge_with_spare.Goals as goal
 
-pub merged_stores-requires-clause-leaves : goal.merged_stores-requires-clause-leaves
-merged_stores-requires-clause-leaves c =
+pub merged_parts-requires-clause-leaves : goal.merged_parts-requires-clause-leaves
+merged_parts-requires-clause-leaves c =
     let h =
     halves_of c.args.job.now c.args.node c.graph.result.now c.plan.result.now (part_of c.into_parts-left.result) (part_of c.into_parts-right.result) c.args.left c.args.right
     c.into_parts-left.ensures.value c.into_parts-right.ensures.value c.requires.left c.requires.right c.requires.slot c.requires.children c.graph.ensures c.plan.ensures
     c.limits.ensures c.keeps-2.ensures.part c.keeps-3.ensures.part c.keeps-2.ensures.matched c.keeps-3.ensures.matched in
     leaves_apart (part_of c.into_parts-left.result) (part_of c.into_parts-right.result) c.args.node h.limits h.children h.one h.two h.matched h.also
 
-pub merged_stores-requires-clause-names : goal.merged_stores-requires-clause-names
-merged_stores-requires-clause-names c =
+pub merged_parts-requires-clause-names : goal.merged_parts-requires-clause-names
+merged_parts-requires-clause-names c =
     let h =
     halves_of c.args.job.now c.args.node c.graph.result.now c.plan.result.now (part_of c.into_parts-left.result) (part_of c.into_parts-right.result) c.args.left c.args.right
     c.into_parts-left.ensures.value c.into_parts-right.ensures.value c.requires.left c.requires.right c.requires.slot c.requires.children c.graph.ensures c.plan.ensures
@@ -34,8 +35,8 @@ merged_stores-requires-clause-names c =
     new_names c.into_parts-left.result.regions.nodes c.into_parts-right.result.regions.nodes c.into_parts-left.result.blossoms c.into_parts-right.result.blossoms
     store links names h.one.agreed h.two.agreed are
 
-pub merged_stores-requires-clause-parts : goal.merged_stores-requires-clause-parts
-merged_stores-requires-clause-parts c =
+pub merged_parts-requires-clause-parts : goal.merged_parts-requires-clause-parts
+merged_parts-requires-clause-parts c =
     let h =
     halves_of c.args.job.now c.args.node c.graph.result.now c.plan.result.now (part_of c.into_parts-left.result) (part_of c.into_parts-right.result) c.args.left c.args.right
     c.into_parts-left.ensures.value c.into_parts-right.ensures.value c.requires.left c.requires.right c.requires.slot c.requires.children c.graph.ensures c.plan.ensures
@@ -45,79 +46,69 @@ merged_stores-requires-clause-parts c =
     c.into_parts-left.ensures.scope.plan (c.into_parts-right.ensures.scope.plan ∙ ap (λ j. j.plan) h.same_job) (c.plan.ensures ∙ ap (λ j. j.plan) (sym h.job))
     c.into_parts-left.ensures.scope.node c.into_parts-right.ensures.scope.node
 
-pub take_matches-requires : goal.take_matches-requires
-take_matches-requires c =
+pub complete-requires-clause-distinct : goal.complete-requires-clause-distinct
+complete-requires-clause-distinct c =
     let h =
     halves_of c.args.job.now c.args.node c.graph.result.now c.plan.result.now (part_of c.into_parts-left.result) (part_of c.into_parts-right.result) c.args.left c.args.right
     c.into_parts-left.ensures.value c.into_parts-right.ensures.value c.requires.left c.requires.right c.requires.slot c.requires.children c.graph.ensures c.plan.ensures
     c.limits.ensures c.keeps-2.ensures.part c.keeps-3.ensures.part c.keeps-2.ensures.matched c.keeps-3.ensures.matched in
-    let stores = c.in_ok-both.ensures.blossoms in
-    subst (λ l. AreDistinct (listed_names c.into_parts-left.result.matching ++ matched_names (map (renamed_match (name_by l) (name_by c.deref-2.result.now)) c.matches.result.now)))
-    (sym c.deref.ensures.value)
-    (subst (λ l. AreDistinct (listed_names c.into_parts-left.result.matching ++ matched_names (map (renamed_match (name_by c.in_ok-both.both.link_names.items) (name_by l)) c.matches.result.now)))
-    (sym c.deref-2.ensures.value)
-    (subst (λ l. AreDistinct (listed_names c.into_parts-left.result.matching
-    ++ matched_names (map (renamed_match (name_by c.in_ok-both.both.link_names.items) (name_by c.in_ok-both.both.names.items)) l))) (sym c.matches.ensures)
+    let m = c.in_ok-merged.merged in
+    subst (λ l. AreDistinct (listed_names l ++ matched_names (map (renamed_match (name_by m.link_names.items) (name_by m.names.items)) m.others.matches)))
+    (sym c.in_ok-merged.ensures.matching)
+    (subst (λ l. AreDistinct (listed_names c.into_parts-left.result.matching ++ matched_names (map (renamed_match (name_by m.link_names.items) (name_by m.names.items)) l.matches)))
+    (sym c.in_ok-merged.ensures.others)
     (matches_distinct (part_of c.into_parts-left.result) (part_of c.into_parts-right.result) c.args.node h.limits h.children h.one h.two h.matched h.also
-    c.in_ok-both.both.link_names.items c.in_ok-both.both.names.items c.in_ok-both.both.stores.links c.in_ok-both.both.stores.blossoms c.in_ok-both.ensures.links stores)))
+    m.link_names.items m.names.items m.parts.links m.parts.blossoms c.in_ok-merged.ensures.links c.in_ok-merged.ensures.blossoms))
 
-pub open_seam_with_spare-requires-clause-beside : goal.open_seam_with_spare-requires-clause-beside
-open_seam_with_spare-requires-clause-beside c =
+pub complete-requires-clause-beside : goal.complete-requires-clause-beside
+complete-requires-clause-beside c =
     let h =
     halves_of c.args.job.now c.args.node c.graph.result.now c.plan.result.now (part_of c.into_parts-left.result) (part_of c.into_parts-right.result) c.args.left c.args.right
     c.into_parts-left.ensures.value c.into_parts-right.ensures.value c.requires.left c.requires.right c.requires.slot c.requires.children c.graph.ensures c.plan.ensures
     c.limits.ensures c.keeps-2.ensures.part c.keeps-3.ensures.part c.keeps-2.ensures.matched c.keeps-3.ensures.matched in
-    let stores = c.in_ok-both.ensures.blossoms in
-    let made : PartValue =
-    part_of (record {
-      regions = c.in_ok-both.both.stores.regions;
-      links = c.in_ok-both.both.stores.links;
-      blossoms = c.in_ok-both.both.stores.blossoms;
-      matching = c.take_matches.new.matching;
-      job = c.args.job;
-      slot = c.into_parts-left.result.slot;
-      node = c.args.node;
-    }) in
+    let stores = c.in_ok-merged.ensures.blossoms in
+    let made : PartValue = joined_part c.in_ok-merged.merged in
     let same =
-    pieces_are c.args.job.now (part_of c.into_parts-left.result) (part_of c.into_parts-right.result) made c.args.node c.in_ok-both.both.link_names.items c.in_ok-both.both.names.items
-    _ _ _ h refl refl refl c.deref.ensures.value c.deref-2.ensures.value
-    (ap (λ r. r.nodes) c.in_ok-both.ensures.regions)
-    c.matches.ensures c.in_ok-take_matches.ensures in
+    pieces_are c.args.job.now (part_of c.into_parts-left.result) (part_of c.into_parts-right.result) made c.args.node c.in_ok-merged.merged.link_names.items c.in_ok-merged.merged.names.items
+    c.in_ok-merged.merged.link_names.items c.in_ok-merged.merged.names.items c.in_ok-merged.merged.others.matches h
+    (c.in_ok-merged.ensures.job ∙ h.job) c.in_ok-merged.ensures.slot c.in_ok-merged.ensures.node refl refl
+    (ap (λ r. r.nodes) c.in_ok-merged.ensures.regions)
+    (ap (λ l. l.matches) c.in_ok-merged.ensures.others)
+    (ap (λ l. record {
+      matches = l.matches ++ map (renamed_match (name_by c.in_ok-merged.merged.link_names.items) (name_by c.in_ok-merged.merged.names.items)) c.in_ok-merged.merged.others.matches;
+      unmatched = l.unmatched;
+    }) c.in_ok-merged.ensures.matching) in
     subst IsBeside (sym same)
     (beside (part_of c.into_parts-left.result) (part_of c.into_parts-right.result) c.args.node h.limits h.children h.one h.two h.matched h.also
-    c.in_ok-both.both.link_names.items c.in_ok-both.both.names.items c.in_ok-both.both.stores.links c.in_ok-both.both.stores.blossoms c.in_ok-both.ensures.links stores)
+    c.in_ok-merged.merged.link_names.items c.in_ok-merged.merged.names.items c.in_ok-merged.merged.parts.links c.in_ok-merged.merged.parts.blossoms c.in_ok-merged.ensures.links stores)
 
-pub invariant_of-work : goal.invariant_of-work
-invariant_of-work c =
+pub invariant_of-result : goal.invariant_of-result
+invariant_of-result c =
     let h =
     halves_of c.args.job.now c.args.node c.graph.result.now c.plan.result.now (part_of c.into_parts-left.result) (part_of c.into_parts-right.result) c.args.left c.args.right
     c.into_parts-left.ensures.value c.into_parts-right.ensures.value c.requires.left c.requires.right c.requires.slot c.requires.children c.graph.ensures c.plan.ensures
     c.limits.ensures c.keeps-2.ensures.part c.keeps-3.ensures.part c.keeps-2.ensures.matched c.keeps-3.ensures.matched in
-    let stores = c.in_ok-both.ensures.blossoms in
-    let made : PartValue =
-    part_of (record {
-      regions = c.in_ok-both.both.stores.regions;
-      links = c.in_ok-both.both.stores.links;
-      blossoms = c.in_ok-both.both.stores.blossoms;
-      matching = c.take_matches.new.matching;
-      job = c.args.job;
-      slot = c.into_parts-left.result.slot;
-      node = c.args.node;
-    }) in
+    let stores = c.in_ok-merged.ensures.blossoms in
+    let made : PartValue = joined_part c.in_ok-merged.merged in
     let same =
-    pieces_are c.args.job.now (part_of c.into_parts-left.result) (part_of c.into_parts-right.result) made c.args.node c.in_ok-both.both.link_names.items c.in_ok-both.both.names.items
-    _ _ _ h refl refl refl c.deref.ensures.value c.deref-2.ensures.value
-    (ap (λ r. r.nodes) c.in_ok-both.ensures.regions)
-    c.matches.ensures c.in_ok-take_matches.ensures in (
-      c.in_ok-parts.ensures.scope,
+    pieces_are c.args.job.now (part_of c.into_parts-left.result) (part_of c.into_parts-right.result) made c.args.node c.in_ok-merged.merged.link_names.items c.in_ok-merged.merged.names.items
+    c.in_ok-merged.merged.link_names.items c.in_ok-merged.merged.names.items c.in_ok-merged.merged.others.matches h
+    (c.in_ok-merged.ensures.job ∙ h.job) c.in_ok-merged.ensures.slot c.in_ok-merged.ensures.node refl refl
+    (ap (λ r. r.nodes) c.in_ok-merged.ensures.regions)
+    (ap (λ l. l.matches) c.in_ok-merged.ensures.others)
+    (ap (λ l. record {
+      matches = l.matches ++ map (renamed_match (name_by c.in_ok-merged.merged.link_names.items) (name_by c.in_ok-merged.merged.names.items)) c.in_ok-merged.merged.others.matches;
+      unmatched = l.unmatched;
+    }) c.in_ok-merged.ensures.matching) in (
+      c.in_ok-tables.ensures.scope,
       fused_part (part_of c.into_parts-left.result) (part_of c.into_parts-right.result) c.args.node h.limits h.children h.one h.two h.matched h.also
-          c.in_ok-both.both.link_names.items c.in_ok-both.both.names.items c.in_ok-both.both.stores.links c.in_ok-both.both.stores.blossoms c.in_ok-both.ensures.links stores
-          (drop (length (c.take_matches.new.matching.unmatched ++ freed_in made c.args.node)) c.in_ok-parts.parts.matching.unmatched) (part_of c.in_ok-parts.parts)
+          c.in_ok-merged.merged.link_names.items c.in_ok-merged.merged.names.items c.in_ok-merged.merged.parts.links c.in_ok-merged.merged.parts.blossoms c.in_ok-merged.ensures.links stores
+          (drop (length (made.matching.unmatched ++ freed_in made c.in_ok-merged.merged.parts.node)) c.complete.new.merged.parts.matching.unmatched) (part_of c.complete.new.merged.parts)
           (beside (part_of c.into_parts-left.result) (part_of c.into_parts-right.result) c.args.node h.limits h.children h.one h.two h.matched h.also
-          c.in_ok-both.both.link_names.items c.in_ok-both.both.names.items c.in_ok-both.both.stores.links c.in_ok-both.both.stores.blossoms c.in_ok-both.ensures.links stores)
+          c.in_ok-merged.merged.link_names.items c.in_ok-merged.merged.names.items c.in_ok-merged.merged.parts.links c.in_ok-merged.merged.parts.blossoms c.in_ok-merged.ensures.links stores)
           refl
-          (subst (λ x. IsOpened (drop (length (c.take_matches.new.matching.unmatched ++ freed_in made c.args.node)) c.in_ok-parts.parts.matching.unmatched) x (part_of c.in_ok-parts.parts)) same
-          c.in_ok-parts.ensures.opened),
+          (subst (λ x. IsOpened (drop (length (made.matching.unmatched ++ freed_in made c.in_ok-merged.merged.parts.node)) c.complete.new.merged.parts.matching.unmatched) x (part_of c.complete.new.merged.parts)) same
+          c.in_ok-tables.ensures.opened),
     )
 
 pub returns : goal.returns
@@ -126,30 +117,26 @@ returns c =
     halves_of c.args.job.now c.args.node c.graph.result.now c.plan.result.now (part_of c.into_parts-left.result) (part_of c.into_parts-right.result) c.args.left c.args.right
     c.into_parts-left.ensures.value c.into_parts-right.ensures.value c.requires.left c.requires.right c.requires.slot c.requires.children c.graph.ensures c.plan.ensures
     c.limits.ensures c.keeps-2.ensures.part c.keeps-3.ensures.part c.keeps-2.ensures.matched c.keeps-3.ensures.matched in
-    let stores = c.in_ok-both.ensures.blossoms in
-    let made : PartValue =
-    part_of (record {
-      regions = c.in_ok-both.both.stores.regions;
-      links = c.in_ok-both.both.stores.links;
-      blossoms = c.in_ok-both.both.stores.blossoms;
-      matching = c.take_matches.new.matching;
-      job = c.args.job;
-      slot = c.into_parts-left.result.slot;
-      node = c.args.node;
-    }) in
+    let stores = c.in_ok-merged.ensures.blossoms in
+    let made : PartValue = joined_part c.in_ok-merged.merged in
     let same =
-    pieces_are c.args.job.now (part_of c.into_parts-left.result) (part_of c.into_parts-right.result) made c.args.node c.in_ok-both.both.link_names.items c.in_ok-both.both.names.items
-    _ _ _ h refl refl refl c.deref.ensures.value c.deref-2.ensures.value
-    (ap (λ r. r.nodes) c.in_ok-both.ensures.regions)
-    c.matches.ensures c.in_ok-take_matches.ensures in
-    subst (λ j. promised.IsMerged j c.args.node c.args.left c.args.right (part_of c.in_ok-parts.parts)) h.job
-    (subst (λ x. promised.IsMerged c.into_parts-left.result.job.now c.args.node x c.args.right (part_of c.in_ok-parts.parts)) c.into_parts-left.ensures.value
-    (subst (λ x. promised.IsMerged c.into_parts-left.result.job.now c.args.node (part_of c.into_parts-left.result) x (part_of c.in_ok-parts.parts)) c.into_parts-right.ensures.value
+    pieces_are c.args.job.now (part_of c.into_parts-left.result) (part_of c.into_parts-right.result) made c.args.node c.in_ok-merged.merged.link_names.items c.in_ok-merged.merged.names.items
+    c.in_ok-merged.merged.link_names.items c.in_ok-merged.merged.names.items c.in_ok-merged.merged.others.matches h
+    (c.in_ok-merged.ensures.job ∙ h.job) c.in_ok-merged.ensures.slot c.in_ok-merged.ensures.node refl refl
+    (ap (λ r. r.nodes) c.in_ok-merged.ensures.regions)
+    (ap (λ l. l.matches) c.in_ok-merged.ensures.others)
+    (ap (λ l. record {
+      matches = l.matches ++ map (renamed_match (name_by c.in_ok-merged.merged.link_names.items) (name_by c.in_ok-merged.merged.names.items)) c.in_ok-merged.merged.others.matches;
+      unmatched = l.unmatched;
+    }) c.in_ok-merged.ensures.matching) in
+    subst (λ j. promised.IsMerged j c.args.node c.args.left c.args.right (part_of c.complete.new.merged.parts)) h.job
+    (subst (λ x. promised.IsMerged c.into_parts-left.result.job.now c.args.node x c.args.right (part_of c.complete.new.merged.parts)) c.into_parts-left.ensures.value
+    (subst (λ x. promised.IsMerged c.into_parts-left.result.job.now c.args.node (part_of c.into_parts-left.result) x (part_of c.complete.new.merged.parts)) c.into_parts-right.ensures.value
     (merged_is (part_of c.into_parts-left.result) (part_of c.into_parts-right.result) c.args.node h.limits h.children h.one h.two h.matched h.also
-    c.in_ok-both.both.link_names.items c.in_ok-both.both.names.items c.in_ok-both.both.stores.links c.in_ok-both.both.stores.blossoms c.in_ok-both.ensures.links stores
+    c.in_ok-merged.merged.link_names.items c.in_ok-merged.merged.names.items c.in_ok-merged.merged.parts.links c.in_ok-merged.merged.parts.blossoms c.in_ok-merged.ensures.links stores
     h.same_job
-    (drop (length (c.take_matches.new.matching.unmatched ++ freed_in made c.args.node)) c.in_ok-parts.parts.matching.unmatched) (part_of c.in_ok-parts.parts)
+    (drop (length (made.matching.unmatched ++ freed_in made c.in_ok-merged.merged.parts.node)) c.complete.new.merged.parts.matching.unmatched) (part_of c.complete.new.merged.parts)
     (beside (part_of c.into_parts-left.result) (part_of c.into_parts-right.result) c.args.node h.limits h.children h.one h.two h.matched h.also
-    c.in_ok-both.both.link_names.items c.in_ok-both.both.names.items c.in_ok-both.both.stores.links c.in_ok-both.both.stores.blossoms c.in_ok-both.ensures.links stores)
-    (subst (λ x. IsOpened (drop (length (c.take_matches.new.matching.unmatched ++ freed_in made c.args.node)) c.in_ok-parts.parts.matching.unmatched) x (part_of c.in_ok-parts.parts)) same
-    c.in_ok-parts.ensures.opened))))
+    c.in_ok-merged.merged.link_names.items c.in_ok-merged.merged.names.items c.in_ok-merged.merged.parts.links c.in_ok-merged.merged.parts.blossoms c.in_ok-merged.ensures.links stores)
+    (subst (λ x. IsOpened (drop (length (made.matching.unmatched ++ freed_in made c.in_ok-merged.merged.parts.node)) c.complete.new.merged.parts.matching.unmatched) x (part_of c.complete.new.merged.parts)) same
+    c.in_ok-tables.ensures.opened))))
