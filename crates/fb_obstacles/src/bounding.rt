@@ -34,8 +34,10 @@ fn with_look(watch: &mut Watch, place: usize, least: Look, look: Look) -> Look
     ensures same { watch.new ≡ watch.old }
 {
     let both = least.and(look);
-    if both != least {
-        watch.set_limiting(place);
+    match (least, both) {
+        (Look::Clear, Look::Clear) => {}
+        (Look::Within(before), Look::Within(now)) if before == now => {}
+        _ => watch.set_limiting(place),
     }
     both
 }

@@ -8,7 +8,7 @@ use fb_graph::Scope;
 use fb_regions::{Regions, Roles};
 
 /// What an edge or a minus node allows of a step.
-#[derive(Clone, Copy, PartialEq, Eq)]
+#[derive(Clone, Copy)]
 pub enum Look {
     /// It doesn't bound the step.
     Clear,

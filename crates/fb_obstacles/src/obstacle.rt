@@ -1,7 +1,7 @@
 use crate::NodeId;
 
 /// What is in the way of an alternating tree. An edge is named by its number.
-#[derive(Clone, Copy, Debug, PartialEq, Eq)]
+#[derive(Clone, Copy)]
 pub enum Obstacle {
     /// A tight edge leads from a plus node to a real vertex that no node holds.
     Absorb(u32),
