@@ -1,7 +1,7 @@
 use fb_links::{LinkId, NodeId};
 
 /// A matched link, the outer node at one of its ends, and the one at its other end; `None` at the boundary.
-#[derive(Clone, Copy, Debug, PartialEq, Eq)]
+#[derive(Clone, Copy)]
 pub struct Match {
     pub link: LinkId,
     pub first: NodeId,
@@ -9,7 +9,7 @@ pub struct Match {
 }
 
 /// Where a matching lists a node.
-#[derive(Clone, Copy, Debug, PartialEq, Eq)]
+#[derive(Clone, Copy)]
 pub enum Standing {
     /// Nowhere.
     Absent,

@@ -1,4 +1,4 @@
-ghost use Rattle.std.specs.Prelude.{◌≡◌, ◌≢◌, ◌<◌, ℕ, true, false, [], ◌∷◌, ◌++◌, length, filter, All, IfOk, OnOk, Some, None};
+ghost use Rattle.std.specs.Prelude.{◌≡◌, ◌≢◌, ◌<◌, ℕ, true, false, [], ◌∷◌, ◌++◌, length, filter, get_or, All, IfOk, OnOk, Some, None};
 ghost use Rattle.std.specs.List.Sorted.{IsStrictlyIncreasing};
 ghost use Rattle.fb_graph.specs.Certificate.{AreDistinct};
 ghost use Rattle.fb_graph.specs.Dual.{cover_of, is_live, leaf};
@@ -17,7 +17,7 @@ use crate::reach::within;
 use fb_blossoms::Blossoms;
 use fb_graph::{NoMemory, Scope};
 use fb_links::NodeId;
-use fb_plan::{NodeScope, Reach};
+use fb_plan::{Job, NodeScope, Reach};
 use fb_regions::Regions;
 use std::alloc::Global;
 
@@ -42,6 +42,28 @@ pub(crate) fn own_defects(
         }
     }
     Ok(own)
+}
+
+/// The defects of a shot of the job at real vertices of a node's sub-problem, in their order. Passes over those within a
+/// reach alone, which has all these vertices.
+pub(crate) fn defects_at(
+    alloc: Global,
+    job: &Job<'_>,
+    slot: u32,
+    node: u32,
+    reach: Reach,
+) -> Result<Vec<u32>, NoMemory>
+    requires slot { slot < length job.now.shots }
+    requires reach { LiesWithin (problem_at job.now.graph job.now.plan node no_shot) reach }
+    ensures { IfOk result (λ own. own.items ≡ filter (problem_at job.now.graph job.now.plan node no_shot).is_real (get_or job.now.shots slot no_shot).defects) }
+{
+    job.keeps();
+    let scope = NodeScope {
+        graph: job.graph(),
+        plan: job.plan(),
+        node,
+    };
+    own_defects(alloc, &scope, reach, job.shots()[slot as usize].as_slice())
 }
 
 /// Makes the vertex a node of radius 0, without a match.

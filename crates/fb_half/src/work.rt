@@ -12,7 +12,7 @@ use crate::matching::Matching;
 use crate::merging::{MergedParts, complete, merged_parts};
 use crate::parts::Parts;
 use crate::spare::{Spare, empty_parts};
-use crate::start::{own_defects, start};
+use crate::start::{defects_at, start};
 use fb_blossoms::Blossoms;
 use fb_graph::{NoMemory, Scope};
 use fb_laws::state_begins;
@@ -174,14 +174,12 @@ impl<'a> Work<'a> {
         ensures { IfOk result (λ w. IsBegun job.now slot node w) }
     {
         job.keeps();
-        let scope = NodeScope {
-            graph: job.graph(),
-            plan: job.plan(),
-            node,
-        };
-        let own = own_defects(alloc, &scope, reach, job.shots()[slot as usize].as_slice())?;
+        let own = defects_at(alloc, job, slot, node, reach)?;
         let mut parts = empty_parts(alloc, job, slot, node, spare)?;
-        start(alloc, &mut parts, &own)?;
+        let Ok(()) = start(alloc, &mut parts, &own) else {
+            drop(parts);
+            return Err(NoMemory);
+        };
         state_begins();
         Ok(Work { parts })
     }
@@ -235,7 +233,10 @@ impl<'a> Work<'a> {
         };
         scope.limits();
         let mut merged = merged_parts(alloc, &scope, left, right)?;
-        let tables = complete(alloc, &mut merged)?;
+        let Ok(tables) = complete(alloc, &mut merged) else {
+            drop(merged);
+            return Err(NoMemory);
+        };
         let MergedParts {
             parts,
             others,

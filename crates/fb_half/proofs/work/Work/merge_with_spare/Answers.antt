@@ -100,7 +100,7 @@ invariant_of-result c =
       matches = l.matches ++ map (renamed_match (name_by c.in_ok-merged.merged.link_names.items) (name_by c.in_ok-merged.merged.names.items)) c.in_ok-merged.merged.others.matches;
       unmatched = l.unmatched;
     }) c.in_ok-merged.ensures.matching) in (
-      c.in_ok-tables.ensures.scope,
+      c.in-Ok.ensures.scope,
       fused_part (part_of c.into_parts-left.result) (part_of c.into_parts-right.result) c.args.node h.limits h.children h.one h.two h.matched h.also
           c.in_ok-merged.merged.link_names.items c.in_ok-merged.merged.names.items c.in_ok-merged.merged.parts.links c.in_ok-merged.merged.parts.blossoms c.in_ok-merged.ensures.links stores
           (drop (length (made.matching.unmatched ++ freed_in made c.in_ok-merged.merged.parts.node)) c.complete.new.merged.parts.matching.unmatched) (part_of c.complete.new.merged.parts)
@@ -108,7 +108,7 @@ invariant_of-result c =
           c.in_ok-merged.merged.link_names.items c.in_ok-merged.merged.names.items c.in_ok-merged.merged.parts.links c.in_ok-merged.merged.parts.blossoms c.in_ok-merged.ensures.links stores)
           refl
           (subst (λ x. IsOpened (drop (length (made.matching.unmatched ++ freed_in made c.in_ok-merged.merged.parts.node)) c.complete.new.merged.parts.matching.unmatched) x (part_of c.complete.new.merged.parts)) same
-          c.in_ok-tables.ensures.opened),
+          c.in-Ok.ensures.opened),
     )
 
 pub returns : goal.returns
@@ -139,4 +139,4 @@ returns c =
     (beside (part_of c.into_parts-left.result) (part_of c.into_parts-right.result) c.args.node h.limits h.children h.one h.two h.matched h.also
     c.in_ok-merged.merged.link_names.items c.in_ok-merged.merged.names.items c.in_ok-merged.merged.parts.links c.in_ok-merged.merged.parts.blossoms c.in_ok-merged.ensures.links stores)
     (subst (λ x. IsOpened (drop (length (made.matching.unmatched ++ freed_in made c.in_ok-merged.merged.parts.node)) c.complete.new.merged.parts.matching.unmatched) x (part_of c.complete.new.merged.parts)) same
-    c.in_ok-tables.ensures.opened))))
+    c.in-Ok.ensures.opened))))

@@ -1,0 +1,25 @@
+use Rattle.std.proofs.Common.{◌<◌, All, sym, subst}
+use Rattle.std.specs.List.Sorted.{IsStrictlyIncreasing}
+use Rattle.fb_graph.specs.Limits.{no_shot}
+use Rattle.fb_plan.specs.Plans.{problem_at}
+use Rattle.fb_half.specs.Beginnings.{LiesWithin}
+use Rattle.fb_half.proofs.BegunParts.{shot_at, shot_below, shot_read}
+use Rattle.fb_half.proofs.start.defects_at.Goals as goal
+
+pub own_defects-requires-clause-reach : goal.own_defects-requires-clause-reach
+own_defects-requires-clause-reach c =
+    subst (λ g. LiesWithin (problem_at g c.plan.result.now c.args.node no_shot) c.args.reach) (sym c.graph.ensures)
+    (subst (λ t. LiesWithin (problem_at c.args.job.now.graph t c.args.node no_shot) c.args.reach) (sym c.plan.ensures) c.requires.reach)
+
+pub own_defects-requires-clause-rising : goal.own_defects-requires-clause-rising
+own_defects-requires-clause-rising c =
+    subst IsStrictlyIncreasing
+    (sym (shot_read c.args.job.now c.args.slot _ _ _ c.shots.ensures c.requires.slot c.index-shots-slot.is c.as_slice.ensures.defects))
+    (shot_at c.args.job.now c.args.slot c.keeps.ensures c.requires.slot).rising
+
+pub own_defects-requires-clause-vertices : goal.own_defects-requires-clause-vertices
+own_defects-requires-clause-vertices c =
+    subst (λ g. All (λ v. v < g.vertices) c.as_slice.result.now) (sym c.graph.ensures)
+    (subst (All (λ v. v < c.args.job.now.graph.vertices))
+    (sym (shot_read c.args.job.now c.args.slot _ _ _ c.shots.ensures c.requires.slot c.index-shots-slot.is c.as_slice.ensures.defects))
+    (shot_below c.args.job.now.graph _ (shot_at c.args.job.now c.args.slot c.keeps.ensures c.requires.slot)))
