@@ -1,7 +1,7 @@
 //! The command line of `fusion`, as `clap` takes it.
 
 ghost use Rattle.std.specs.Prelude.{◌≡◌, IfOk, codes};
-ghost use Rattle.clap.specs.Words.{app_of, new_app};
+ghost use Rattle.clap.specs.Words.{App, app_of, new_app, with_subcommand};
 ghost use Rattle.fb_words.specs.Command.{check_app, decode_app, flag_rule, free_rule, fusion_app, number_rule, option_rule, required_number_rule, sample_app};
 ghost use Rattle.fb_words.specs.InternalCommands.{AreOptions, IsCommand, IsOption, bare_app};
 ghost use Rattle.fb_words.specs.Ranges.{Range};
@@ -44,10 +44,24 @@ const MOST_DRAWN: u64 = 1_000_000;
 pub fn fusion<'a>(alloc: Global) -> Result<Command<'a>, AllocError>
     ensures { IfOk result (λ c. app_of c ≡ fusion_app) }
 {
-    program(alloc)?
-        .subcommand(decode(alloc)?)?
-        .subcommand(check(alloc)?)?
-        .subcommand(sample(alloc)?)
+    let program = program(alloc)?;
+    let program = with_command(program, decode(alloc))?;
+    let program = with_command(program, check(alloc))?;
+    with_command(program, sample(alloc))
+}
+
+/// The program with one command more, if there was enough memory to make that.
+fn with_command<'a>(
+    program: Command<'a>,
+    command: Result<Command<'a>, AllocError>,
+) -> Result<Command<'a>, AllocError>
+    ensures { (app : App) → IfOk command.entry (IsCommand app)
+        → IfOk result (λ c. app_of c ≡ with_subcommand (app_of program.entry) app.top) }
+{
+    match command {
+        Ok(command) => program.subcommand(command),
+        Err(fault) => Err(fault),
+    }
 }
 
 /// The program, without its commands.

@@ -1,17 +1,16 @@
-use Rattle.std.proofs.Common.{◌∙◌, ap, ap₂}
+use Rattle.std.proofs.Common.{◌∙◌, ap}
 use Rattle.std.proofs.lemmas.Result.{IfOk-weaker}
 use Rattle.clap.specs.Words.{App, with_subcommand}
-use Rattle.fb_words.specs.Command.{fusion_app}
+use Rattle.fb_words.specs.Command.{check_app, decode_app, fusion_app, sample_app}
 use Rattle.fb_words.proofs.command.fusion.Goals as goal
 
 pub returns : goal.returns
 unfolding fusion_app
 returns c =
-    let decodes = c.in_ok-subcommand.ensures.shape c.in_ok-decode.ensures.local
-    ∙ ap₂ with_subcommand c.in_ok-program.ensures.shape (ap (λ (a : App). a.top) c.in_ok-decode.ensures.shape) in
-    let checks = c.in_ok-subcommand-2.ensures.shape c.in_ok-check.ensures.local
-    ∙ ap₂ with_subcommand decodes (ap (λ (a : App). a.top) c.in_ok-check.ensures.shape) in
-    IfOk-weaker c.subcommand-3.result _ _
-    (λ r added. added.shape c.in_ok-sample.ensures.local
-    ∙ ap₂ with_subcommand checks (ap (λ (a : App). a.top) c.in_ok-sample.ensures.shape))
-    c.subcommand-3.ensures
+    let decodes = c.in_ok-program-2.ensures decode_app c.decode.ensures
+    ∙ ap (λ (a : App). with_subcommand a decode_app.top) c.in_ok-program.ensures.shape in
+    let checks = c.in_ok-program-3.ensures check_app c.check.ensures
+    ∙ ap (λ (a : App). with_subcommand a check_app.top) decodes in
+    IfOk-weaker c.with_command-3.result _ _
+    (λ r added. added ∙ ap (λ (a : App). with_subcommand a sample_app.top) checks)
+    (c.with_command-3.ensures sample_app c.sample.ensures)
