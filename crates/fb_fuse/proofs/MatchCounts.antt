@@ -1,5 +1,5 @@
 -- A part has fewer than 2^32 matches: each has a node of its own, and nodes are defects or join three others.
-use Rattle.std.proofs.Common.{ℕ, ◌+◌, ◌≤◌, ◌<◌, ◌^◌, ◌++◌, List, [], ◌∷◌, map, length, arith, ◌∙◌}
+use Rattle.std.proofs.Common.{ℕ, ◌≤◌, ◌<◌, ◌^◌, ◌++◌, List, [], ◌∷◌, map, length, arith, ◌∙◌}
 use Rattle.std.proofs.lemmas.List.{length-append, length-map}
 use Rattle.fb_graph.specs.Limits.{IsGraph}
 use Rattle.fb_graph.proofs.NestParts.{names_live}

@@ -1,5 +1,5 @@
 -- How many nodes are unmatched where two parts have been put together.
-use Rattle.std.proofs.Common.{ℕ, List, [], ◌≡◌, ◌≤◌, ◌∙◌, ◌+◌, ◌*◌, ◌++◌, map, length, ap, arith}
+use Rattle.std.proofs.Common.{ℕ, List, [], ◌≡◌, ◌∙◌, ◌+◌, ◌++◌, map, length, ap, arith}
 use Rattle.std.proofs.lemmas.List.{length-append, length-map}
 use Rattle.std.specs.List.Sorted.{IsPermutation}
 use Rattle.fb_graph.specs.Parity.{is_in}
@@ -30,26 +30,3 @@ pub none_unmatched : (before after : PartValue) (roots read : List ℕ) (old new
     → after.matching.unmatched ≡ []
 none_unmatched before after roots read old new searched same moved =
     all_matched _ _ _ _ _ searched (λ n left. ap (λ l. is_in l n) same ∙ in_permuted _ roots moved n left)
-
--- One search at most for each node that the two parts freed, and for each defect of the seam.
-pub most_searched : (j : JobValue) (n : ℕ) (left right before after : PartValue) (roots : List ℕ) (old new : ℕ)
-    → IsMerged j n left right before
-    → HasSearchedEach before roots old new after
-    → new ≤ old + ((length (freed_in left n) + length (freed_in right n)) + length (seam_defects j left.slot n))
-most_searched j n left right before after roots old new merged searched =
-    omega (arith, searched.steps, unmatched_counted j n left right before merged)
-
--- A search matches two of them at most.
-pub least_searched : (j : JobValue) (n : ℕ) (left right before after : PartValue) (roots read : List ℕ) (old new : ℕ)
-    → IsMerged j n left right before
-    → HasSearchedEach before read old new after
-    → read ≡ roots
-    → IsPermutation before.matching.unmatched roots
-    → ((length (freed_in left n) + length (freed_in right n)) + length (seam_defects j left.slot n)) + 2 * old ≤ 2 * new
-least_searched j n left right before after roots read old new merged searched same moved =
-    omega (
-      arith,
-      searched.each,
-      ap length (none_unmatched before after roots read old new searched same moved),
-      unmatched_counted j n left right before merged,
-    )

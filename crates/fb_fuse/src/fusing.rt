@@ -1,14 +1,15 @@
-ghost use Rattle.std.specs.Prelude.{◌≡◌, ◌+◌, ◌*◌, ◌≤◌, ◌<◌, IfOk, Some, length};
+ghost use Rattle.std.specs.Prelude.{◌≡◌, ◌+◌, ◌*◌, ◌≤◌, ◌<◌, IfOk, Some, [], length};
 ghost use Rattle.std.specs.List.Sorted.{IsPermutation};
 ghost use Rattle.fb_half.specs.Merged.{IsMerged, freed_in, seam_defects};
-ghost use Rattle.fb_half.specs.Parts.{IsPartOf};
+ghost use Rattle.fb_half.specs.Parts.{IsPartOf, problem_in};
 ghost use Rattle.fb_plan.specs.Plans.{children_of};
+ghost use Rattle.fb_search.specs.Progress.{IsSamePart};
 
 use fb_graph::{NoMemory, Steps};
 use fb_half::{Half, Spare, Work};
 use fb_plan::Job;
 use fb_regions::NodeId;
-use fb_search::{Scratch, search_each, search_each_from};
+use fb_search::{Scratch, search_each_from};
 use std::alloc::Global;
 use std::sync::ledger::Ledger;
 
@@ -34,8 +35,10 @@ pub fn fuse<'a, L: Ledger>(
     ensures least { IfOk result (λ half. (length (freed_in left.entry node) + length (freed_in right.entry node)
         + length (seam_defects job.now left.entry.slot node)) + 2 * steps.old ≤ 2 * steps.new) }
 {
-    let (work, roots, _spare) = merge(alloc, job, node, left, right)?;
-    let work = search_each(alloc, work, &roots, steps)?;
+    let work = Work::merge(alloc, job, node, left, right)?;
+    let scratch = Scratch::new(alloc, work.regions().scope())?;
+    let (work, scratch) = search_all(alloc, work, scratch, steps)?;
+    drop(scratch);
     Ok(work.close())
 }
 
@@ -63,30 +66,28 @@ pub fn fuse_from<'a, L: Ledger>(
     ensures least { IfOk result (λ r. (length (freed_in left.entry node) + length (freed_in right.entry node)
         + length (seam_defects job.now left.entry.slot node)) + 2 * steps.old ≤ 2 * steps.new) }
 {
-    let (work, roots, spare) = merge(alloc, job, node, left, right)?;
-    let (work, scratch) = search_each_from(alloc, work, &roots, scratch, steps)?;
+    let (work, spare) = Work::merge_with_spare(alloc, job, node, left, right)?;
+    let (work, scratch) = search_all(alloc, work, scratch, steps)?;
     Ok((work.close(), spare, scratch))
 }
 
-/// The children's parts put together, the unmatched nodes in rising order of their first vertices, and the room that is left
-/// of the right part.
-fn merge<'a>(
+/// Searches from each unmatched node, in rising order of their first vertices, until none is left.
+fn search_all<'a, L: Ledger>(
     alloc: Global,
-    job: &'a Job<'a>,
-    node: u32,
-    left: Half<'a>,
-    right: Half<'a>,
-) -> Result<(Work<'a>, Vec<NodeId>, Spare), NoMemory>
-    requires left { left.job ≡ job.now }
-    requires right { right.job ≡ job.now }
-    requires slot { left.slot ≡ right.slot }
-    requires children { children_of job.now.plan node ≡ Some (left.node, right.node) }
-    ensures merged { IfOk result (λ r. IsMerged job.now node left.entry right.entry r.0) }
-    ensures roots { IfOk result (λ r. IsPermutation r.0.matching.unmatched r.1.items) }
+    work: Work<'a>,
+    scratch: Scratch,
+    steps: &mut Steps<L>,
+) -> Result<(Work<'a>, Scratch), NoMemory>
+    requires room { scratch.edge_count ≡ length (problem_in work).edges }
+    ensures part { IfOk result (λ r. IsSamePart work.entry r.0) }
+    ensures none { IfOk result (λ r. r.0.matching.unmatched ≡ []) }
+    ensures room { IfOk result (λ r. r.1.edge_count ≡ scratch.edge_count) }
+    ensures never_falls { steps.old ≤ steps.new }
+    ensures most { IfOk result (λ _. steps.new ≤ steps.old + length work.entry.matching.unmatched) }
+    ensures least { IfOk result (λ _. length work.entry.matching.unmatched + 2 * steps.old ≤ 2 * steps.new) }
 {
-    let (work, spare) = Work::merge_with_spare(alloc, job, node, left, right)?;
     let roots = roots_of(alloc, &work)?;
-    Ok((work, roots, spare))
+    search_each_from(alloc, work, &roots, scratch, steps)
 }
 
 /// An unmatched node, and the first of its vertices.
