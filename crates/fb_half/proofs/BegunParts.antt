@@ -17,7 +17,7 @@ use Rattle.fb_links.specs.declared.walk.Step.{Step}
 use Rattle.fb_blossoms.specs.Nodes as blossoms
 use Rattle.fb_laws.specs.PartStates.{IsPartState}
 use Rattle.fb_laws.specs.StateMoves.{PartBegins, begun_state}
-use Rattle.fb_half.specs.Beginnings.{leaves_by, own_defects}
+use Rattle.fb_half.specs.Beginnings.{IsBegun, leaves_by, own_defects}
 use Rattle.fb_half.specs.InternalBeginnings.{IsStarted}
 use Rattle.fb_half.specs.Matchings.{IsMatchOf, listed_names, match_links, matched_names}
 use Rattle.fb_half.specs.Parts.{AreLinksOf, IsPart, PartValue, kept_links, problem_in, shot_of, state_of}
@@ -192,6 +192,18 @@ begun_of w j s n own begins job slot node is_job some within is started none =
     (subst (λ x. w.slot < length x.shots) (sym job) (subst (λ x. x < length j.shots) (sym slot) some))
     (subst (λ x. w.node < node_count x.plan) (sym job) (subst (λ x. x < node_count j.plan) (sym node) within))
     (subst (λ l. IsStarted l w.nodes w.store w.matching) (own_in w j s n own job slot node is) started) none
+
+pub begun_is : (w : PartValue) (j : JobValue) (s n : ℕ) (own : List ℕ) → w.job ≡ j → w.slot ≡ s → w.node ≡ n → own ≡ own_of j s n
+    → IsStarted own w.nodes w.store w.matching → IsBegun j s n w
+begun_is w j s n own job slot node is started =
+    let same : own ≡ own_defects w = own_in w j s n own job slot node is in record {
+      job = job;
+      slot = slot;
+      node = node;
+      nodes = started.nodes_are ∙ ap (leaves_by w.matching.unmatched) same;
+      count = started.count ∙ ap length same;
+      matches = started.matches;
+    }
 
 pub shot_read : (j : JobValue) (s : ℕ) (shots : List ShotValue) (read : ShotValue) (l : List ℕ) → shots ≡ j.shots → s < length j.shots
     → read ≡ get_or shots s read → l ≡ read.defects → l ≡ (get_or j.shots s no_shot).defects

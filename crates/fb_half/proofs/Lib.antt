@@ -5,6 +5,7 @@ pub mod BesideLinks
 pub mod BesideMatchings
 pub mod BesideNodes
 pub mod Changes
+pub mod DoneSteps
 pub mod FlatPermutations
 pub mod FreedMatches
 pub mod FusedHalves

@@ -2,6 +2,7 @@ ghost use Rattle.std.specs.Prelude.{◌≡◌, IfOk};
 ghost use Rattle.fb_half.specs.InternalBeginnings.{empty_part};
 ghost use Rattle.fb_half.specs.Values.{HasScope, part_of};
 
+use crate::both::both;
 use crate::matching::Matching;
 use crate::parts::Parts;
 use fb_blossoms::Blossoms;
@@ -108,11 +109,12 @@ fn new_parts<'a>(
     ensures value { IfOk result (λ p. part_of p ≡ empty_part job.now slot node) }
     ensures scope { IfOk result HasScope }
 {
-    let EmptyTables { links, blossoms } = EmptyTables::new(alloc)?;
+    let tables = EmptyTables::new(alloc)?;
+    let (regions, tables) = both(Regions::new(alloc, &scope_of(job, node)), tables)?;
     Ok(Parts {
-        regions: Regions::new(alloc, &scope_of(job, node))?,
-        links,
-        blossoms,
+        regions,
+        links: tables.links,
+        blossoms: tables.blossoms,
         matching: Matching::new(alloc),
         job,
         slot,

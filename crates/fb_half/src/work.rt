@@ -7,6 +7,7 @@ ghost use Rattle.fb_half.specs.Matchings.{match_links};
 ghost use Rattle.fb_half.specs.Parts.{IsPart};
 ghost use Rattle.fb_half.specs.Values.{HasScope, IsScopeOf, part_of};
 
+use crate::both::both;
 use crate::half::Half;
 use crate::matching::Matching;
 use crate::merging::{MergedParts, complete, merged_parts};
@@ -176,10 +177,7 @@ impl<'a> Work<'a> {
         job.keeps();
         let own = defects_at(alloc, job, slot, node, reach)?;
         let mut parts = empty_parts(alloc, job, slot, node, spare)?;
-        let Ok(()) = start(alloc, &mut parts, &own) else {
-            drop(parts);
-            return Err(NoMemory);
-        };
+        let parts = start(alloc, &mut parts, &own).and(Ok(parts))?;
         state_begins();
         Ok(Work { parts })
     }
@@ -233,10 +231,7 @@ impl<'a> Work<'a> {
         };
         scope.limits();
         let mut merged = merged_parts(alloc, &scope, left, right)?;
-        let Ok(tables) = complete(alloc, &mut merged) else {
-            drop(merged);
-            return Err(NoMemory);
-        };
+        let (tables, merged) = both(complete(alloc, &mut merged), merged)?;
         let MergedParts {
             parts,
             others,

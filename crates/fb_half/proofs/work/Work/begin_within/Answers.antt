@@ -1,9 +1,13 @@
-use Rattle.std.proofs.Common.{◌≡◌, ◌∙◌, true, All, sym, ap, subst}
+use Rattle.std.proofs.Common.{◌≡◌, ◌∙◌, true, All, [], sym, ap, subst}
+use Rattle.std.specs.Prelude.{OnOk}
 use Rattle.fb_graph.specs.Certificate.{AreDistinct}
 use Rattle.fb_graph.specs.Limits.{no_shot}
 use Rattle.fb_plan.specs.Plans.{problem_at}
-use Rattle.fb_half.specs.Values.{part_of}
-use Rattle.fb_half.proofs.BegunParts.{begun_of, own_distinct, own_real}
+use Rattle.fb_half.specs.declared.parts.Parts.{Parts}
+use Rattle.fb_half.specs.InternalBeginnings.{IsStarted}
+use Rattle.fb_half.specs.Values.{HasScope, part_of}
+use Rattle.fb_half.proofs.BegunParts.{begun_is, begun_of, own_distinct, own_real}
+use Rattle.fb_half.proofs.DoneSteps.{done_with}
 use Rattle.fb_half.proofs.work.Work.begin_within.Goals as goal
 
 pub start-requires-clause-distinct : goal.start-requires-clause-distinct
@@ -20,12 +24,27 @@ start-requires-clause-real c =
     (own_real c.args.job.now c.args.slot c.args.node))
 
 pub invariant_of-result : goal.invariant_of-result
-invariant_of-result c = (
-  c.in-Ok.ensures.scope,
-  begun_of (part_of c.start.new.parts) c.args.job.now c.args.slot c.args.node c.deref.result.now c.state_begins.ensures.part
-      (c.in-Ok.ensures.job ∙ ap (λ w. w.job) c.in_ok-parts.ensures.value)
-      (c.in-Ok.ensures.slot ∙ ap (λ w. w.slot) c.in_ok-parts.ensures.value)
-      (c.in-Ok.ensures.node ∙ ap (λ w. w.node) c.in_ok-parts.ensures.value) c.keeps.ensures c.requires.slot c.requires.node
-      (c.deref.ensures.value ∙ c.in_ok-own.ensures)
-      c.in-Ok.ensures.started c.in-Ok.ensures.links,
-)
+invariant_of-result c =
+    let keeps : (P : Parts → Type 0) → OnOk c.start.result (P c.start.new.parts) → P c.in_ok-parts-2.parts =
+    λ P. done_with P c.start.result c.start.new.parts c.in_ok-parts-2.parts c.in_ok-parts-2.ensures in (
+      keeps HasScope c.start.ensures.scope,
+      begun_of (part_of c.in_ok-parts-2.parts) c.args.job.now c.args.slot c.args.node c.deref.result.now c.state_begins.ensures.part
+          (keeps (λ p. p.job.now ≡ c.in_ok-parts.parts.job.now) c.start.ensures.job ∙ ap (λ w. w.job) c.in_ok-parts.ensures.value)
+          (keeps (λ p. p.slot ≡ c.in_ok-parts.parts.slot) c.start.ensures.slot ∙ ap (λ w. w.slot) c.in_ok-parts.ensures.value)
+          (keeps (λ p. p.node ≡ c.in_ok-parts.parts.node) c.start.ensures.node ∙ ap (λ w. w.node) c.in_ok-parts.ensures.value)
+          c.keeps.ensures c.requires.slot c.requires.node
+          (c.deref.ensures.value ∙ c.in_ok-own.ensures)
+          (keeps (λ p. IsStarted c.deref.result.now p.regions.nodes p.blossoms p.matching) c.start.ensures.started)
+          (keeps (λ p. p.links ≡ []) c.start.ensures.links),
+    )
+
+pub returns : goal.returns
+returns c =
+    let keeps : (P : Parts → Type 0) → OnOk c.start.result (P c.start.new.parts) → P c.in_ok-parts-2.parts =
+    λ P. done_with P c.start.result c.start.new.parts c.in_ok-parts-2.parts c.in_ok-parts-2.ensures in
+    begun_is (part_of c.in_ok-parts-2.parts) c.args.job.now c.args.slot c.args.node c.deref.result.now
+    (keeps (λ p. p.job.now ≡ c.in_ok-parts.parts.job.now) c.start.ensures.job ∙ ap (λ w. w.job) c.in_ok-parts.ensures.value)
+    (keeps (λ p. p.slot ≡ c.in_ok-parts.parts.slot) c.start.ensures.slot ∙ ap (λ w. w.slot) c.in_ok-parts.ensures.value)
+    (keeps (λ p. p.node ≡ c.in_ok-parts.parts.node) c.start.ensures.node ∙ ap (λ w. w.node) c.in_ok-parts.ensures.value)
+    (c.deref.ensures.value ∙ c.in_ok-own.ensures)
+    (keeps (λ p. IsStarted c.deref.result.now p.regions.nodes p.blossoms p.matching) c.start.ensures.started)

@@ -9,8 +9,10 @@ use Rattle.fb_half.specs.Matchings.{listed_names, matched_names}
 use Rattle.fb_half.specs.Merged.{freed_in, renamed_match}
 use Rattle.fb_half.specs.Merged as promised
 use Rattle.fb_half.specs.Parts.{PartValue}
-use Rattle.fb_half.specs.Values.{part_of}
+use Rattle.fb_half.specs.Values.{HasScope, part_of}
+use Rattle.fb_half.specs.declared.merging.MergedParts.{MergedParts}
 use Rattle.fb_half.proofs.BesideNodes.{new_names}
+use Rattle.fb_half.proofs.DoneSteps.{both_with}
 use Rattle.fb_half.proofs.FusedHalves.{fused_part}
 use Rattle.fb_half.proofs.FusedMatches.{merged_is}
 use Rattle.fb_half.proofs.GivenHalves.{halves_of, pieces_are}
@@ -100,15 +102,17 @@ invariant_of-result c =
       matches = l.matches ++ map (renamed_match (name_by c.in_ok-merged.merged.link_names.items) (name_by c.in_ok-merged.merged.names.items)) c.in_ok-merged.merged.others.matches;
       unmatched = l.unmatched;
     }) c.in_ok-merged.ensures.matching) in (
-      c.in-Ok.ensures.scope,
+      both_with (λ (m : MergedParts). HasScope m.parts) c.complete.result c.in_ok-tables.tables c.complete.new.merged c.in_ok-tables.merged
+          c.in_ok-tables.ensures.0 c.in_ok-tables.ensures.1 c.complete.ensures.scope,
       fused_part (part_of c.into_parts-left.result) (part_of c.into_parts-right.result) c.args.node h.limits h.children h.one h.two h.matched h.also
           c.in_ok-merged.merged.link_names.items c.in_ok-merged.merged.names.items c.in_ok-merged.merged.parts.links c.in_ok-merged.merged.parts.blossoms c.in_ok-merged.ensures.links stores
-          (drop (length (made.matching.unmatched ++ freed_in made c.in_ok-merged.merged.parts.node)) c.complete.new.merged.parts.matching.unmatched) (part_of c.complete.new.merged.parts)
+          (drop (length (made.matching.unmatched ++ freed_in made c.in_ok-merged.merged.parts.node)) c.in_ok-tables.merged.parts.matching.unmatched) (part_of c.in_ok-tables.merged.parts)
           (beside (part_of c.into_parts-left.result) (part_of c.into_parts-right.result) c.args.node h.limits h.children h.one h.two h.matched h.also
           c.in_ok-merged.merged.link_names.items c.in_ok-merged.merged.names.items c.in_ok-merged.merged.parts.links c.in_ok-merged.merged.parts.blossoms c.in_ok-merged.ensures.links stores)
           refl
-          (subst (λ x. IsOpened (drop (length (made.matching.unmatched ++ freed_in made c.in_ok-merged.merged.parts.node)) c.complete.new.merged.parts.matching.unmatched) x (part_of c.complete.new.merged.parts)) same
-          c.in-Ok.ensures.opened),
+          (subst (λ x. IsOpened (drop (length (made.matching.unmatched ++ freed_in made c.in_ok-merged.merged.parts.node)) c.in_ok-tables.merged.parts.matching.unmatched) x (part_of c.in_ok-tables.merged.parts)) same
+          (both_with (λ (m : MergedParts). IsOpened (drop (length (made.matching.unmatched ++ freed_in made c.in_ok-merged.merged.parts.node)) m.parts.matching.unmatched) made (part_of m.parts))
+          c.complete.result c.in_ok-tables.tables c.complete.new.merged c.in_ok-tables.merged c.in_ok-tables.ensures.0 c.in_ok-tables.ensures.1 c.complete.ensures.opened)),
     )
 
 pub returns : goal.returns
@@ -129,14 +133,15 @@ returns c =
       matches = l.matches ++ map (renamed_match (name_by c.in_ok-merged.merged.link_names.items) (name_by c.in_ok-merged.merged.names.items)) c.in_ok-merged.merged.others.matches;
       unmatched = l.unmatched;
     }) c.in_ok-merged.ensures.matching) in
-    subst (λ j. promised.IsMerged j c.args.node c.args.left c.args.right (part_of c.complete.new.merged.parts)) h.job
-    (subst (λ x. promised.IsMerged c.into_parts-left.result.job.now c.args.node x c.args.right (part_of c.complete.new.merged.parts)) c.into_parts-left.ensures.value
-    (subst (λ x. promised.IsMerged c.into_parts-left.result.job.now c.args.node (part_of c.into_parts-left.result) x (part_of c.complete.new.merged.parts)) c.into_parts-right.ensures.value
+    subst (λ j. promised.IsMerged j c.args.node c.args.left c.args.right (part_of c.in_ok-tables.merged.parts)) h.job
+    (subst (λ x. promised.IsMerged c.into_parts-left.result.job.now c.args.node x c.args.right (part_of c.in_ok-tables.merged.parts)) c.into_parts-left.ensures.value
+    (subst (λ x. promised.IsMerged c.into_parts-left.result.job.now c.args.node (part_of c.into_parts-left.result) x (part_of c.in_ok-tables.merged.parts)) c.into_parts-right.ensures.value
     (merged_is (part_of c.into_parts-left.result) (part_of c.into_parts-right.result) c.args.node h.limits h.children h.one h.two h.matched h.also
     c.in_ok-merged.merged.link_names.items c.in_ok-merged.merged.names.items c.in_ok-merged.merged.parts.links c.in_ok-merged.merged.parts.blossoms c.in_ok-merged.ensures.links stores
     h.same_job
-    (drop (length (made.matching.unmatched ++ freed_in made c.in_ok-merged.merged.parts.node)) c.complete.new.merged.parts.matching.unmatched) (part_of c.complete.new.merged.parts)
+    (drop (length (made.matching.unmatched ++ freed_in made c.in_ok-merged.merged.parts.node)) c.in_ok-tables.merged.parts.matching.unmatched) (part_of c.in_ok-tables.merged.parts)
     (beside (part_of c.into_parts-left.result) (part_of c.into_parts-right.result) c.args.node h.limits h.children h.one h.two h.matched h.also
     c.in_ok-merged.merged.link_names.items c.in_ok-merged.merged.names.items c.in_ok-merged.merged.parts.links c.in_ok-merged.merged.parts.blossoms c.in_ok-merged.ensures.links stores)
-    (subst (λ x. IsOpened (drop (length (made.matching.unmatched ++ freed_in made c.in_ok-merged.merged.parts.node)) c.complete.new.merged.parts.matching.unmatched) x (part_of c.complete.new.merged.parts)) same
-    c.in-Ok.ensures.opened))))
+    (subst (λ x. IsOpened (drop (length (made.matching.unmatched ++ freed_in made c.in_ok-merged.merged.parts.node)) c.in_ok-tables.merged.parts.matching.unmatched) x (part_of c.in_ok-tables.merged.parts)) same
+    (both_with (λ (m : MergedParts). IsOpened (drop (length (made.matching.unmatched ++ freed_in made c.in_ok-merged.merged.parts.node)) m.parts.matching.unmatched) made (part_of m.parts))
+    c.complete.result c.in_ok-tables.tables c.complete.new.merged c.in_ok-tables.merged c.in_ok-tables.ensures.0 c.in_ok-tables.ensures.1 c.complete.ensures.opened)))))
