@@ -15,6 +15,7 @@ pub mod Cycles
 pub mod DissolvedParts
 pub mod DissolvedStates
 pub mod DissolvedTrees
+mod DoneSteps
 pub mod DroppedLinks
 pub mod EdgeMeets
 pub mod EndSteps

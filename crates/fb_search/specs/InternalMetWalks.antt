@@ -1,6 +1,6 @@
 -- The walks of links that are made over a tight edge (Edmonds 1965; Wu and Zhong 2023): from an outer node to another
 -- one, or to the boundary.
-use Rattle.std.specs.Prelude.{ℕ, ◌≡◌, ◌≢◌, ◌<◌, ◌^◌, false, List, [], ◌∷◌, length, Some}
+use Rattle.std.specs.Prelude.{ℕ, ◌≡◌, ◌≢◌, ◌<◌, ◌^◌, false, List, [], ◌∷◌, length, Option, Some}
 use Rattle.fb_graph.specs.Problem.{Problem, edge_at}
 use Rattle.fb_graph.specs.Certificate.{load_of}
 use Rattle.fb_graph.specs.Components.{Leads}
@@ -9,6 +9,7 @@ use Rattle.fb_laws.specs.Searches.{LeavesNode}
 use Rattle.fb_laws.specs.Trees.{Connects}
 use Rattle.fb_laws.specs.Works.{AreMatchedLinks}
 use Rattle.fb_links.specs.declared.walk.Step.{Step}
+use Rattle.fb_links.specs.Table.{Adds}
 use Rattle.fb_links.specs.Walks.{walk_weight}
 use Rattle.fb_half.specs.Parts.{AreStepsOf}
 use Rattle.fb_half.specs.Translations.{link_of}
@@ -53,3 +54,15 @@ pub record IsMetWalk (p : Problem) (nodes : List Node) (a b : ℕ) (walk : List 
 pub record IsOutWalk (p : Problem) (nodes : List Node) (a v : ℕ) (walk : List Step) : Type 0 where
   pub walk_is : IsTightWalk p nodes walk
   pub leaves : LeavesNode nodes (link_of walk) a v
+
+-- a link of this number is added, by such a walk between the outer nodes over the ends of edge k
+pub record IsLinkedBetween (p : Problem) (nodes : List Node) (k : ℕ) (old new : List (Option (List Step))) (link : ℕ) : Type 0 where
+  pub walk : List Step
+  pub adds : Adds old new link walk
+  pub between : (a b : ℕ) → IsBetween p nodes k a b → IsMetWalk p nodes a b walk
+
+-- a link of this number is added, by such a walk over edge k to the boundary
+pub record IsLinkedOut (p : Problem) (nodes : List Node) (k : ℕ) (old new : List (Option (List Step))) (link : ℕ) : Type 0 where
+  pub walk : List Step
+  pub adds : Adds old new link walk
+  pub out : (a v : ℕ) → IsOut p nodes k a v → IsOutWalk p nodes a v walk

@@ -6,6 +6,7 @@ pub mod InternalNear
 pub mod InternalOpenings
 pub mod InternalOutcomes
 pub mod InternalPaces
+pub mod InternalPieces
 pub mod InternalProgress
 pub mod InternalRounds
 pub mod InternalRuns

@@ -1,20 +1,20 @@
 ghost use Rattle.std.specs.Prelude.{◌≡◌, true, IfOk, OnOk, MatchOption};
 ghost use Rattle.fb_graph.specs.Parity.{is_in};
 ghost use Rattle.fb_half.specs.Matchings.{matched_names, names_of};
-ghost use Rattle.fb_half.specs.Parts.{IsPart};
-ghost use Rattle.fb_half.specs.Values.{HasScope, part_of};
+ghost use Rattle.fb_half.specs.Values.{HasScope};
 ghost use Rattle.fb_search.specs.InternalMeetings.{HasMet, IsBoundaryMatch, IsCouple};
+ghost use Rattle.fb_search.specs.InternalPieces.{AreEnded, AreSearching};
 ghost use Rattle.fb_search.specs.InternalTightEdges.{Meets};
 ghost use Rattle.fb_search.specs.InternalProgress.{EndsWith, GoesOn};
 ghost use Rattle.fb_search.specs.InternalSearching.{IsSearching, SearchValue, search_of};
-ghost use Rattle.fb_search.specs.Progress.{IsSearched};
 ghost use Rattle.fb_search.specs.InternalOutcomes.{HasCleared};
 
 use crate::ending::{forget_tree, match_tree};
 use crate::outcome::Outcome;
+use crate::pieces::{both, into_searching, into_work};
 use crate::scratch::Scratch;
 use crate::searching::{Pieces, Searching};
-use crate::walks::met_walk;
+use crate::walks::link_between;
 use crate::watched::watch_node;
 use fb_graph::{NoMemory, Scope};
 use fb_half::{Match, Work};
@@ -45,46 +45,55 @@ impl<'a> Searching<'a> {
         requires matched { is_in (matched_names self.part.matching.matches) other ≡ true }
         ensures { IfOk result (HasCleared self.entry) }
     {
-        let (pieces, met) = self.link_to(alloc, edge, plus, other)?;
-        match mate_of(met.taken, met.other) {
-            Some(mate) => Ok(Outcome::On(attach(alloc, pieces, met, mate)?)),
-            None => {
-                let (work, scratch) = release(alloc, pieces, met)?;
-                Ok(Outcome::Ended(work, scratch))
-            }
+        let Searching { parts, tree, watch } = self;
+        let mut pieces = Pieces { parts, tree, watch };
+        let linked = link_to(alloc, &mut pieces, edge, plus, other);
+        let (met, pieces) = both(linked, pieces)?;
+        meet_linked(alloc, pieces, met)
+    }
+}
+
+/// The node to which the link was made joins the tree with its mate, or the search ends with the node matched again.
+fn meet_linked<'a>(alloc: Global, pieces: Pieces<'a>, met: Met) -> Result<Outcome<'a>, NoMemory>
+    requires scope { HasScope pieces.parts }
+    requires met { (w : SearchValue) × HasMet w met (search_of pieces) }
+    requires name { is_in (names_of met.taken) met.other ≡ true }
+    ensures { IfOk result (λ outcome. (w : SearchValue) → HasMet w met (search_of pieces.entry) → HasCleared w outcome) }
+{
+    match mate_of(met.taken, met.other) {
+        Some(mate) => Ok(Outcome::On(attach(alloc, pieces, met, mate)?)),
+        None => {
+            let (work, scratch) = release(alloc, pieces, met)?;
+            Ok(Outcome::Ended(work, scratch))
         }
     }
+}
 
-    /// Makes the link from the plus node over the edge to the matched node, and takes out the match of this node.
-    fn link_to(
-        self,
-        alloc: Global,
-        edge: u32,
-        plus: NodeId,
-        other: NodeId,
-    ) -> Result<(Pieces<'a>, Met), NoMemory>
-        requires meets { Meets self edge plus other }
-        requires matched { is_in (matched_names self.part.matching.matches) other ≡ true }
-        ensures scope { IfOk result (λ linked. HasScope linked.0.parts) }
-        ensures met { IfOk result (λ linked. HasMet self.entry linked.1 (search_of linked.0)) }
-        ensures name { IfOk result (λ linked. is_in (names_of linked.1.taken) linked.1.other ≡ true) }
-    {
-        let Searching {
-            mut parts,
-            tree,
-            watch,
-        } = self;
-        let walk = met_walk(alloc, &parts.regions, edge)?;
-        let link = parts.links.make(alloc, walk)?;
-        let taken = parts.matching.take_match(other);
-        let met = Met {
-            plus,
-            other,
-            link,
-            taken,
-        };
-        Ok((Pieces { parts, tree, watch }, met))
-    }
+/// Makes the link from the plus node over the edge to the matched node, and takes out the match of this node.
+fn link_to(
+    alloc: Global,
+    pieces: &mut Pieces<'_>,
+    edge: u32,
+    plus: NodeId,
+    other: NodeId,
+) -> Result<Met, NoMemory>
+    requires scope { HasScope pieces.old.parts }
+    requires search { IsSearching (search_of pieces.old) }
+    requires meets { Meets (search_of pieces.old) edge plus other }
+    requires matched { is_in (matched_names pieces.old.parts.matching.matches) other ≡ true }
+    ensures scope { OnOk result (HasScope pieces.new.parts) }
+    ensures met { IfOk result (λ met. HasMet (search_of pieces.old) met (search_of pieces.new)) }
+    ensures name { IfOk result (λ met. is_in (names_of met.taken) met.other ≡ true) }
+{
+    let Pieces { parts, .. } = pieces;
+    let link = link_between(alloc, &parts.regions, &mut parts.links, edge)?;
+    let taken = parts.matching.take_match(other);
+    Ok(Met {
+        plus,
+        other,
+        link,
+        taken,
+    })
 }
 
 /// The node with which the match matches this one; none at the boundary.
@@ -111,9 +120,8 @@ fn attach<'a>(
     ensures { IfOk result (λ after. (w : SearchValue) → HasMet w met (search_of pieces.entry) → GoesOn w after) }
 {
     let mut pieces = pieces;
-    add_couple(alloc, &mut pieces, met, mate)?;
-    let Pieces { parts, tree, watch } = pieces;
-    Ok(Searching { parts, tree, watch })
+    let done = add_couple(alloc, &mut pieces, met, mate);
+    into_searching(pieces, done)
 }
 
 /// Adds the node and its mate to the tree, as a minus node under the plus node and a plus node under it.
@@ -126,8 +134,7 @@ fn add_couple(
     requires scope { HasScope pieces.old.parts }
     requires met { (w : SearchValue) × HasMet w met (search_of pieces.old) }
     requires couple { IsCouple met.taken met.other mate }
-    ensures searching { OnOk result (HasScope pieces.new.parts × IsSearching (search_of pieces.new)) }
-    ensures goes_on { OnOk result ((w : SearchValue) → HasMet w met (search_of pieces.old) → GoesOn w (search_of pieces.new)) }
+    ensures { OnOk result ((w : SearchValue) → HasMet w met (search_of pieces.old) → AreSearching w pieces.new) }
 {
     let Pieces { parts, tree, watch } = pieces;
     let scope = parts.regions.scope();
@@ -150,9 +157,8 @@ fn release<'a>(alloc: Global, pieces: Pieces<'a>, met: Met) -> Result<(Work<'a>,
     ensures { IfOk result (λ ended. (w : SearchValue) → HasMet w met (search_of pieces.entry) → EndsWith w ended.0 ended.1) }
 {
     let mut pieces = pieces;
-    match_released(alloc, &mut pieces, met)?;
-    let Pieces { parts, tree, watch } = pieces;
-    Ok((Work::from_parts(parts), Scratch { watch, tree }))
+    let done = match_released(alloc, &mut pieces, met);
+    into_work(pieces, done)
 }
 
 /// Matches the root and its tree, the plus node with the node that was matched to the boundary, and forgets the links that
@@ -161,10 +167,7 @@ fn match_released(alloc: Global, pieces: &mut Pieces<'_>, met: Met) -> Result<()
     requires scope { HasScope pieces.old.parts }
     requires met { (w : SearchValue) × HasMet w met (search_of pieces.old) }
     requires boundary { IsBoundaryMatch met.taken met.other }
-    ensures scope { OnOk result (HasScope pieces.new.parts) }
-    ensures part { OnOk result (IsPart (part_of pieces.new.parts)) }
-    ensures searched { OnOk result ((w : SearchValue) → HasMet w met (search_of pieces.old) → IsSearched w.tree.root w.part (part_of pieces.new.parts)) }
-    ensures watch { pieces.new.watch ≡ pieces.old.watch }
+    ensures { OnOk result ((w : SearchValue) → HasMet w met (search_of pieces.old) → AreEnded w pieces.new) }
 {
     let Pieces { parts, tree, .. } = pieces;
     parts.links.forget(met.taken.link);

@@ -10,11 +10,14 @@ ghost use Rattle.fb_trees.specs.Rooted.{IsPlus};
 ghost use Rattle.fb_obstacles.specs.Obstacles.{Obstructs};
 ghost use Rattle.fb_obstacles.specs.declared.obstacle.Obstacle.TheVariants.{PlusPair};
 ghost use Rattle.fb_search.specs.InternalClosings.{IsReplacedBy, WatchesMinus};
+ghost use Rattle.fb_search.specs.InternalPieces.{AreSearching};
 ghost use Rattle.fb_search.specs.InternalProgress.{GoesOn};
 ghost use Rattle.fb_search.specs.InternalSearching.{IsSearching, IsSearchingBeside, problem_of, roles_in, search_of};
+ghost use Rattle.fb_search.specs.InternalTightEdges.{IsPairOver};
 
+use crate::pieces::into_searching;
 use crate::searching::{Pieces, Searching};
-use crate::walks::met_walk;
+use crate::walks::link_between;
 use crate::watched::watch_node;
 use fb_graph::{NoMemory, Scope};
 use fb_half::Matching;
@@ -30,16 +33,29 @@ impl<'a> Searching<'a> {
         ensures { IfOk result (GoesOn self.entry) }
     {
         let (first, second) = self.paired_nodes(edge);
-        let Searching {
-            mut parts,
-            tree,
-            watch,
-        } = self;
-        let walk = met_walk(alloc, &parts.regions, edge)?;
-        let closing = parts.links.make(alloc, walk)?;
-        let pieces = Pieces { parts, tree, watch };
-        close_cycle(alloc, pieces, first, second, closing)
+        let Searching { parts, tree, watch } = self;
+        let mut pieces = Pieces { parts, tree, watch };
+        let done = close_over(alloc, &mut pieces, edge, first, second);
+        into_searching(pieces, done)
     }
+}
+
+/// Makes the link over the edge between the two plus nodes, and the cycle that it closes a blossom, a plus node.
+fn close_over(
+    alloc: Global,
+    pieces: &mut Pieces<'_>,
+    edge: u32,
+    first: NodeId,
+    second: NodeId,
+) -> Result<(), NoMemory>
+    requires scope { HasScope pieces.old.parts }
+    requires search { IsSearching (search_of pieces.old) }
+    requires pair { IsPairOver (search_of pieces.old) edge first second }
+    ensures { OnOk result (AreSearching (search_of pieces.old) pieces.new) }
+{
+    let Pieces { parts, .. } = pieces;
+    let closing = link_between(alloc, &parts.regions, &mut parts.links, edge)?;
+    join_cycle(alloc, pieces, first, second, closing)
 }
 
 /// The cycle that the link closes between the two plus nodes becomes a blossom, a plus node.
@@ -60,9 +76,8 @@ pub(crate) fn close_cycle<'a>(
     ensures { IfOk result (GoesOn (search_of pieces.entry)) }
 {
     let mut pieces = pieces;
-    join_cycle(alloc, &mut pieces, first, second, closing)?;
-    let Pieces { parts, tree, watch } = pieces;
-    Ok(Searching { parts, tree, watch })
+    let done = join_cycle(alloc, &mut pieces, first, second, closing);
+    into_searching(pieces, done)
 }
 
 /// Makes the cycle that the link closes between the two plus nodes a blossom, a plus node.
@@ -80,8 +95,7 @@ fn join_cycle(
     requires apart { first ≢ second }
     requires connects { Connects pieces.old.parts.regions.nodes (link_by pieces.old.parts.links closing) first second }
     requires tight { AreMatchedLinks (problem_of (search_of pieces.old)) pieces.old.parts.regions.nodes (link_by pieces.old.parts.links closing ∷ []) }
-    ensures searching { OnOk result (HasScope pieces.new.parts × IsSearching (search_of pieces.new)) }
-    ensures goes_on { OnOk result (GoesOn (search_of pieces.old) (search_of pieces.new)) }
+    ensures { OnOk result (AreSearching (search_of pieces.old) pieces.new) }
 {
     let Pieces { parts, tree, watch } = pieces;
     let cycle = tree.cycle_of(alloc, first, second, closing, &parts.links)?;

@@ -1,9 +1,13 @@
-ghost use Rattle.std.specs.Prelude.{◌≡◌, IfOk};
+ghost use Rattle.std.specs.Prelude.{◌≡◌, IfOk, OnOk};
+ghost use Rattle.fb_half.specs.Values.{HasScope};
+ghost use Rattle.fb_search.specs.InternalPieces.{AreDissolved};
 ghost use Rattle.fb_search.specs.InternalRounds.{HasEvenRoot, IsDissolved, IsRootPotential};
+ghost use Rattle.fb_search.specs.InternalSearching.{IsSearching, search_of};
 
 use crate::ending::{add_matches, forget_tree, matches_at_end};
+use crate::pieces::into_work;
 use crate::scratch::Scratch;
-use crate::searching::Searching;
+use crate::searching::{Pieces, Searching};
 use fb_graph::NoMemory;
 use fb_half::Work;
 use std::alloc::Global;
@@ -23,15 +27,24 @@ impl<'a> Searching<'a> {
         requires { HasEvenRoot self }
         ensures { IfOk result (λ left. IsDissolved self.entry left.0 left.1) }
     {
-        let Searching {
-            mut parts,
-            tree,
-            watch,
-        } = self;
-        let root = tree.root();
-        let matches = matches_at_end(alloc, &tree, root)?;
-        add_matches(alloc, &mut parts.matching, &matches)?;
-        forget_tree(alloc, &mut parts.links, &tree, root)?;
-        Ok((Work::from_parts(parts), Scratch { watch, tree }))
+        let Searching { parts, tree, watch } = self;
+        let mut pieces = Pieces { parts, tree, watch };
+        let done = dissolve_tree(alloc, &mut pieces);
+        into_work(pieces, done)
     }
+}
+
+/// Matches the minus nodes of the tree with its plus nodes, and removes its other links.
+fn dissolve_tree(alloc: Global, pieces: &mut Pieces<'_>) -> Result<(), NoMemory>
+    requires scope { HasScope pieces.old.parts }
+    requires search { IsSearching (search_of pieces.old) }
+    requires even { HasEvenRoot (search_of pieces.old) }
+    ensures { OnOk result (AreDissolved (search_of pieces.old) pieces.new) }
+{
+    let Pieces { parts, tree, .. } = pieces;
+    let root = tree.root();
+    let matches = matches_at_end(alloc, tree, root)?;
+    add_matches(alloc, &mut parts.matching, &matches)?;
+    forget_tree(alloc, &mut parts.links, tree, root)?;
+    Ok(())
 }

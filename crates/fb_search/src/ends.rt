@@ -1,15 +1,18 @@
-ghost use Rattle.std.specs.Prelude.{◌≡◌, true, IfOk};
+ghost use Rattle.std.specs.Prelude.{◌≡◌, true, IfOk, OnOk};
 ghost use Rattle.fb_graph.specs.Parity.{is_in};
 ghost use Rattle.fb_obstacles.specs.Obstacles.{Obstructs};
 ghost use Rattle.fb_obstacles.specs.declared.obstacle.Obstacle.TheVariants.{Boundary};
-ghost use Rattle.fb_search.specs.InternalTightEdges.{Meets};
+ghost use Rattle.fb_half.specs.Values.{HasScope};
+ghost use Rattle.fb_search.specs.InternalPieces.{AreEnded};
+ghost use Rattle.fb_search.specs.InternalTightEdges.{LeadsOut, Meets};
 ghost use Rattle.fb_search.specs.InternalProgress.{EndsWith};
-ghost use Rattle.fb_search.specs.InternalSearching.{problem_of, roles_in, unmatched_in};
+ghost use Rattle.fb_search.specs.InternalSearching.{IsSearching, problem_of, roles_in, search_of, unmatched_in};
 
 use crate::ending::{forget_tree, match_tree};
+use crate::pieces::into_work;
 use crate::scratch::Scratch;
-use crate::searching::Searching;
-use crate::walks::{met_walk, out_walk};
+use crate::searching::{Pieces, Searching};
+use crate::walks::{link_between, link_out};
 use fb_graph::NoMemory;
 use fb_half::{Match, Work};
 use fb_regions::NodeId;
@@ -26,22 +29,10 @@ impl<'a> Searching<'a> {
         ensures { IfOk result (λ ended. EndsWith self.entry ended.0 ended.1) }
     {
         let plus = self.plus_at_boundary(edge);
-        let Searching {
-            mut parts,
-            tree,
-            watch,
-        } = self;
-        let walk = out_walk(alloc, &parts.regions, edge)?;
-        let link = parts.links.make(alloc, walk)?;
-        parts.matching.take_unmatched(tree.root());
-        let out = Match {
-            link,
-            first: plus,
-            second: None,
-        };
-        match_tree(alloc, &mut parts.matching, &tree, out)?;
-        forget_tree(alloc, &mut parts.links, &tree, plus)?;
-        Ok((Work::from_parts(parts), Scratch { watch, tree }))
+        let Searching { parts, tree, watch } = self;
+        let mut pieces = Pieces { parts, tree, watch };
+        let done = match_out(alloc, &mut pieces, edge, plus);
+        into_work(pieces, done)
     }
 
     /// The plus node meets an unmatched node over the edge: the search ends with this node and the root matched.
@@ -56,22 +47,64 @@ impl<'a> Searching<'a> {
         requires unmatched { is_in (unmatched_in self) other ≡ true }
         ensures { IfOk result (λ ended. EndsWith self.entry ended.0 ended.1) }
     {
-        let Searching {
-            mut parts,
-            tree,
-            watch,
-        } = self;
-        let walk = met_walk(alloc, &parts.regions, edge)?;
-        let link = parts.links.make(alloc, walk)?;
-        parts.matching.take_unmatched(other);
-        parts.matching.take_unmatched(tree.root());
-        let out = Match {
-            link,
-            first: plus,
-            second: Some(other),
-        };
-        match_tree(alloc, &mut parts.matching, &tree, out)?;
-        forget_tree(alloc, &mut parts.links, &tree, plus)?;
-        Ok((Work::from_parts(parts), Scratch { watch, tree }))
+        let Searching { parts, tree, watch } = self;
+        let mut pieces = Pieces { parts, tree, watch };
+        let done = match_over(alloc, &mut pieces, edge, plus, other);
+        into_work(pieces, done)
     }
+}
+
+/// Matches the plus node over the edge to the boundary, and the other nodes of the tree, the root among them, by links of
+/// the tree.
+fn match_out(
+    alloc: Global,
+    pieces: &mut Pieces<'_>,
+    edge: u32,
+    plus: NodeId,
+) -> Result<(), NoMemory>
+    requires scope { HasScope pieces.old.parts }
+    requires search { IsSearching (search_of pieces.old) }
+    requires leads { LeadsOut (search_of pieces.old) edge plus }
+    ensures { OnOk result (AreEnded (search_of pieces.old) pieces.new) }
+{
+    let Pieces { parts, tree, .. } = pieces;
+    let link = link_out(alloc, &parts.regions, &mut parts.links, edge)?;
+    parts.matching.take_unmatched(tree.root());
+    let out = Match {
+        link,
+        first: plus,
+        second: None,
+    };
+    match_tree(alloc, &mut parts.matching, tree, out)?;
+    forget_tree(alloc, &mut parts.links, tree, plus)?;
+    Ok(())
+}
+
+/// Matches the plus node with the unmatched node over the edge, and the other nodes of the tree, the root among them, by
+/// links of the tree.
+fn match_over(
+    alloc: Global,
+    pieces: &mut Pieces<'_>,
+    edge: u32,
+    plus: NodeId,
+    other: NodeId,
+) -> Result<(), NoMemory>
+    requires scope { HasScope pieces.old.parts }
+    requires search { IsSearching (search_of pieces.old) }
+    requires meets { Meets (search_of pieces.old) edge plus other }
+    requires unmatched { is_in (unmatched_in (search_of pieces.old)) other ≡ true }
+    ensures { OnOk result (AreEnded (search_of pieces.old) pieces.new) }
+{
+    let Pieces { parts, tree, .. } = pieces;
+    let link = link_between(alloc, &parts.regions, &mut parts.links, edge)?;
+    parts.matching.take_unmatched(other);
+    parts.matching.take_unmatched(tree.root());
+    let out = Match {
+        link,
+        first: plus,
+        second: Some(other),
+    };
+    match_tree(alloc, &mut parts.matching, tree, out)?;
+    forget_tree(alloc, &mut parts.links, tree, plus)?;
+    Ok(())
 }

@@ -16,6 +16,7 @@ mod near;
 mod near_ends;
 mod opening;
 mod outcome;
+mod pieces;
 mod roles;
 mod rounding;
 mod rounds;

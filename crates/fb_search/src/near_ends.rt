@@ -7,12 +7,13 @@ ghost use Rattle.fb_half.specs.Parts.{IsPart, problem_in};
 ghost use Rattle.fb_half.specs.Values.{HasScope, part_of};
 ghost use Rattle.fb_trees.specs.Rooted.{bare};
 ghost use Rattle.fb_search.specs.InternalNear.{IsNear, IsNearBoundary, IsNearPair, alone};
+ghost use Rattle.fb_search.specs.InternalPieces.{AreSearched};
 ghost use Rattle.fb_search.specs.InternalSteps.{IsTreeOver};
 ghost use Rattle.fb_search.specs.Progress.{IsSearched};
 
 use crate::ending::add_matches;
 use crate::near::{Near, NearPair, near_of};
-use crate::walks::{met_walk, out_walk};
+use crate::walks::{link_between, link_out};
 use fb_graph::{NoMemory, Scope};
 use fb_half::{Match, Parts, Work};
 use fb_regions::{NodeId, Regions};
@@ -27,25 +28,6 @@ fn grow_node<S: Scope>(regions: &mut Regions<S>, node: NodeId, length: u64)
     regions.grow(node, length);
 }
 
-/// The root grows until the edge to the boundary is tight, and is matched over it.
-fn match_at_boundary<'a>(
-    alloc: Global,
-    parts: Parts<'a>,
-    root: NodeId,
-    edge: u32,
-    length: u64,
-) -> Result<Work<'a>, NoMemory>
-    requires scope { HasScope parts }
-    requires part { IsPart (part_of parts) }
-    requires unmatched { is_in parts.matching.unmatched root ≡ true }
-    requires near { IsNearBoundary (problem_in (part_of parts)) parts.regions.nodes root edge length }
-    ensures { IfOk result (IsSearched root (part_of parts.entry)) }
-{
-    let mut parts = parts;
-    reach_boundary(alloc, &mut parts, root, edge, length)?;
-    Ok(Work::from_parts(parts))
-}
-
 /// Grows the root until the edge to the boundary is tight, and matches it over the edge.
 fn reach_boundary(
     alloc: Global,
@@ -58,14 +40,11 @@ fn reach_boundary(
     requires part { IsPart (part_of parts.old) }
     requires unmatched { is_in parts.old.matching.unmatched root ≡ true }
     requires near { IsNearBoundary (problem_in (part_of parts.old)) parts.old.regions.nodes root edge length }
-    ensures scope { OnOk result (HasScope parts.new) }
-    ensures part { OnOk result (IsPart (part_of parts.new)) }
-    ensures searched { OnOk result (IsSearched root (part_of parts.old) (part_of parts.new)) }
+    ensures { OnOk result (AreSearched root (part_of parts.old) parts.new) }
 {
     parts.regions.scope().limits();
     grow_node(&mut parts.regions, root, length);
-    let walk = out_walk(alloc, &parts.regions, edge)?;
-    let link = parts.links.make(alloc, walk)?;
+    let link = link_out(alloc, &parts.regions, &mut parts.links, edge)?;
     parts.matching.take_unmatched(root);
     let out = Match {
         link,
@@ -74,24 +53,6 @@ fn reach_boundary(
     };
     add_matches(alloc, &mut parts.matching, &[out])?;
     Ok(())
-}
-
-/// The other defect and the root grow until the edge between them is tight, and are matched over it.
-fn match_pair<'a>(
-    alloc: Global,
-    parts: Parts<'a>,
-    root: NodeId,
-    pair: NearPair,
-) -> Result<Work<'a>, NoMemory>
-    requires scope { HasScope parts }
-    requires part { IsPart (part_of parts) }
-    requires unmatched { is_in parts.matching.unmatched root ≡ true }
-    requires near { IsNearPair (problem_in (part_of parts)) parts.regions.nodes parts.matching.unmatched root pair }
-    ensures { IfOk result (IsSearched root (part_of parts.entry)) }
-{
-    let mut parts = parts;
-    join_pair(alloc, &mut parts, root, pair)?;
-    Ok(Work::from_parts(parts))
 }
 
 /// Grows the other defect and the root until the edge between them is tight, and matches them over the edge.
@@ -105,15 +66,12 @@ fn join_pair(
     requires part { IsPart (part_of parts.old) }
     requires unmatched { is_in parts.old.matching.unmatched root ≡ true }
     requires near { IsNearPair (problem_in (part_of parts.old)) parts.old.regions.nodes parts.old.matching.unmatched root pair }
-    ensures scope { OnOk result (HasScope parts.new) }
-    ensures part { OnOk result (IsPart (part_of parts.new)) }
-    ensures searched { OnOk result (IsSearched root (part_of parts.old) (part_of parts.new)) }
+    ensures { OnOk result (AreSearched root (part_of parts.old) parts.new) }
 {
     parts.regions.scope().limits();
     grow_node(&mut parts.regions, pair.other, pair.other_length);
     grow_node(&mut parts.regions, root, pair.length);
-    let walk = met_walk(alloc, &parts.regions, pair.edge)?;
-    let link = parts.links.make(alloc, walk)?;
+    let link = link_between(alloc, &parts.regions, &mut parts.links, pair.edge)?;
     parts.matching.take_unmatched(pair.other);
     parts.matching.take_unmatched(root);
     let out = Match {
@@ -123,6 +81,20 @@ fn join_pair(
     };
     add_matches(alloc, &mut parts.matching, &[out])?;
     Ok(())
+}
+
+/// Matches the root in this way.
+fn match_by(alloc: Global, parts: &mut Parts<'_>, root: NodeId, near: Near) -> Result<(), NoMemory>
+    requires scope { HasScope parts.old }
+    requires part { IsPart (part_of parts.old) }
+    requires unmatched { is_in parts.old.matching.unmatched root ≡ true }
+    requires near { IsNear (problem_in (part_of parts.old)) parts.old.regions.nodes parts.old.matching.unmatched root near }
+    ensures { OnOk result (AreSearched root (part_of parts.old) parts.new) }
+{
+    match near {
+        Near::Boundary { edge, length } => reach_boundary(alloc, parts, root, edge, length),
+        Near::Pair(pair) => join_pair(alloc, parts, root, pair),
+    }
 }
 
 /// How the root can be matched at once, if it can.
@@ -146,9 +118,7 @@ pub(crate) fn match_near<'a>(
     ensures { IfOk result (IsSearched root work.entry) }
 {
     work.keeps();
-    let parts = work.into_parts();
-    match near {
-        Near::Boundary { edge, length } => match_at_boundary(alloc, parts, root, edge, length),
-        Near::Pair(pair) => match_pair(alloc, parts, root, pair),
-    }
+    let mut parts = work.into_parts();
+    let parts = match_by(alloc, &mut parts, root, near).and(Ok(parts))?;
+    Ok(Work::from_parts(parts))
 }

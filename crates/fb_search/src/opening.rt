@@ -1,16 +1,18 @@
 ghost use Rattle.std.specs.Prelude.{◌≡◌, ◌≢◌, ◌<◌, ℕ, true, ◌∷◌, All, Some, IfOk, OnOk, flat_map, length};
 ghost use Rattle.fb_graph.specs.Dual.{cover_of, is_live, top_at};
 ghost use Rattle.fb_blossoms.specs.Nodes.{is_on};
-ghost use Rattle.fb_half.specs.Values.{part_of};
+ghost use Rattle.fb_half.specs.Values.{HasScope, part_of};
 ghost use Rattle.fb_obstacles.specs.Obstacles.{Obstructs};
 ghost use Rattle.fb_obstacles.specs.declared.obstacle.Obstacle.TheVariants.{BlossomEmpty};
 ghost use Rattle.fb_search.specs.InternalOpenings.{EndsAtChild, MayEnter, between_on, couples_on, even_on, links_left, place_on, rest_on, round_on, second_nodes, turned_on, way_on};
+ghost use Rattle.fb_search.specs.InternalPieces.{AreSearching};
 ghost use Rattle.fb_search.specs.InternalProgress.{GoesOn};
-ghost use Rattle.fb_search.specs.InternalSearching.{problem_of, roles_in};
+ghost use Rattle.fb_search.specs.InternalSearching.{IsSearching, problem_of, roles_in, search_of};
 ghost use Rattle.fb_search.specs.InternalWatching.{Watches};
 
 use crate::ending::{add_matches, forget_all};
-use crate::searching::Searching;
+use crate::pieces::into_searching;
+use crate::searching::{Pieces, Searching};
 use crate::watched::watch_node;
 use fb_graph::{NoMemory, Scope};
 use fb_half::{Match, Parts};
@@ -26,25 +28,36 @@ impl<'a> Searching<'a> {
         requires { Obstructs (problem_of self) (roles_in self) self.part.nodes (BlossomEmpty node) }
         ensures { IfOk result (GoesOn self.entry) }
     {
-        let Searching {
-            mut parts,
-            mut tree,
-            mut watch,
-        } = self;
-        parts.regions.scope().limits();
-        let branch = tree.branch(node);
-        let above = child_at(&parts, node, branch.tree);
-        let below = child_at(&parts, node, branch.matched);
-        let cycle = parts.blossoms.open_up(node);
-        parts.regions.split_node(node)?;
-        let apart = taken_apart(alloc, &cycle, above, below)?;
-        tree.replace(alloc, &[node], &apart.way, &parts.links)?;
-        add_matches(alloc, &mut parts.matching, &apart.matches)?;
-        forget_all(&mut parts.links, &apart.left);
-        watch_plus(&mut watch, &parts.regions, &apart.way);
-        watch.keeps();
-        Ok(Searching { parts, tree, watch })
+        let Searching { parts, tree, watch } = self;
+        let mut pieces = Pieces { parts, tree, watch };
+        let done = open_node(alloc, &mut pieces, node);
+        into_searching(pieces, done)
     }
+}
+
+/// Opens the minus blossom, puts the children on the even path between its two links in its place in the tree, and
+/// matches the others in pairs.
+fn open_node(alloc: Global, pieces: &mut Pieces<'_>, node: NodeId) -> Result<(), NoMemory>
+    requires scope { HasScope pieces.old.parts }
+    requires search { IsSearching (search_of pieces.old) }
+    requires empty { Obstructs (problem_of (search_of pieces.old)) (roles_in (search_of pieces.old))
+        pieces.old.parts.regions.nodes (BlossomEmpty node) }
+    ensures { OnOk result (AreSearching (search_of pieces.old) pieces.new) }
+{
+    let Pieces { parts, tree, watch } = pieces;
+    parts.regions.scope().limits();
+    let branch = tree.branch(node);
+    let above = child_at(parts, node, branch.tree);
+    let below = child_at(parts, node, branch.matched);
+    let cycle = parts.blossoms.open_up(node);
+    parts.regions.split_node(node)?;
+    let apart = taken_apart(alloc, &cycle, above, below)?;
+    tree.replace(alloc, &[node], &apart.way, &parts.links)?;
+    add_matches(alloc, &mut parts.matching, &apart.matches)?;
+    forget_all(&mut parts.links, &apart.left);
+    watch_plus(watch, &parts.regions, &apart.way);
+    watch.keeps();
+    Ok(())
 }
 
 /// The child of the blossom at which the link ends.

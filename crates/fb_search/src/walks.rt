@@ -1,21 +1,46 @@
-//! The walks of links that are made over a tight edge.
+//! The links that are made over a tight edge, and their walks.
 
 ghost use Rattle.std.specs.Prelude.{◌≡◌, ◌++◌, ◌<◌, ℕ, length, IfOk, OnOk};
 ghost use Rattle.fb_links.specs.Walks.{turned_walk};
 ghost use Rattle.fb_regions.specs.Moves.{IsOver};
-ghost use Rattle.fb_search.specs.InternalMetWalks.{IsAlong, IsBetween, IsMetWalk, IsOut, IsOutWalk};
+ghost use Rattle.fb_search.specs.InternalMetWalks.{IsAlong, IsBetween, IsLinkedBetween, IsLinkedOut, IsMetWalk, IsOut, IsOutWalk};
 
 use fb_graph::{NoMemory, Scope};
+use fb_links::{LinkId, Links};
 use fb_regions::{Regions, Step, Walk};
 use std::alloc::Global;
 
-/// The walk of a tight link between the two outer nodes over the ends of a tight edge: from the source of the edge's
-/// first end, over the edge, and back to the source of its second end.
-pub(crate) fn met_walk<S: Scope>(
+/// Makes the link over a tight edge between two outer nodes.
+pub(crate) fn link_between<S: Scope>(
     alloc: Global,
     regions: &Regions<S>,
+    links: &mut Links,
     edge: u32,
-) -> Result<Walk, NoMemory>
+) -> Result<LinkId, NoMemory>
+    requires { (a b : ℕ) × IsBetween (S.problem regions.now.scope) regions.now.nodes edge a b }
+    ensures { IfOk result (IsLinkedBetween (S.problem regions.now.scope) regions.now.nodes edge links.old links.new) }
+{
+    let walk = met_walk(alloc, regions, edge)?;
+    links.make(alloc, walk)
+}
+
+/// Makes the link over a tight edge from an outer node to the boundary.
+pub(crate) fn link_out<S: Scope>(
+    alloc: Global,
+    regions: &Regions<S>,
+    links: &mut Links,
+    edge: u32,
+) -> Result<LinkId, NoMemory>
+    requires { (a v : ℕ) × IsOut (S.problem regions.now.scope) regions.now.nodes edge a v }
+    ensures { IfOk result (IsLinkedOut (S.problem regions.now.scope) regions.now.nodes edge links.old links.new) }
+{
+    let walk = out_walk(alloc, regions, edge)?;
+    links.make(alloc, walk)
+}
+
+/// The walk of a tight link between the two outer nodes over the ends of a tight edge: from the source of the edge's
+/// first end, over the edge, and back to the source of its second end.
+fn met_walk<S: Scope>(alloc: Global, regions: &Regions<S>, edge: u32) -> Result<Walk, NoMemory>
     requires { (a b : ℕ) × IsBetween (S.problem regions.now.scope) regions.now.nodes edge a b }
     ensures { IfOk result (λ walk. (a b : ℕ) → IsBetween (S.problem regions.now.scope) regions.now.nodes edge a b
         → IsMetWalk (S.problem regions.now.scope) regions.now.nodes a b walk) }
@@ -46,11 +71,7 @@ fn step_along<S: Scope>(regions: &Regions<S>, edge: u32) -> Step
 
 /// The walk of a tight link from the outer node over the inner end of a tight edge to the boundary: from the source of
 /// that end, and over the edge.
-pub(crate) fn out_walk<S: Scope>(
-    alloc: Global,
-    regions: &Regions<S>,
-    edge: u32,
-) -> Result<Walk, NoMemory>
+fn out_walk<S: Scope>(alloc: Global, regions: &Regions<S>, edge: u32) -> Result<Walk, NoMemory>
     requires { (a v : ℕ) × IsOut (S.problem regions.now.scope) regions.now.nodes edge a v }
     ensures { IfOk result (λ walk. (a v : ℕ) → IsOut (S.problem regions.now.scope) regions.now.nodes edge a v
         → IsOutWalk (S.problem regions.now.scope) regions.now.nodes a v walk) }

@@ -18,28 +18,19 @@ attach-requires-clause-apart c = mate_differs c.requires.met.0 c.args.met _ c.re
 pub watch_node-requires-clause-live : goal.watch_node-requires-clause-live
 watch_node-requires-clause-live c = mate_live c.requires.met.0 c.args.met _ c.requires.met.1 c.args.mate c.requires.couple
 
-pub returns-clause-searching : goal.returns-clause-searching
-returns-clause-searching c =
+pub returns : goal.returns
+returns c w met =
     let scope = c.requires.scope in
+    let part = part_of c.args.pieces.now.parts in
     let graph = ap (λ s. s.graph.now) c.scope-scope.ensures ∙ scope.graph in
     let plan = ap (λ s. s.plan.now) c.scope-scope.ensures ∙ scope.plan in
     let node = ap (λ s. s.node) c.scope-scope.ensures ∙ scope.node in
-    let limits : IsWithinLimits (problem_in (part_of c.args.pieces.now.parts)) =
-    kept_limits (part_of c.args.pieces.now.parts) _ _ _ graph plan node c.limits.ensures in
-    rw c.in_ok-attach.ensures.ok (
-      record { graph = scope.graph; plan = scope.plan; node = scope.node },
-      attached_searching c.requires.met.0 c.args.met _ c.requires.met.1 c.args.mate c.requires.couple limits c.watch_node.new.watch
+    let limits : IsWithinLimits (problem_in part) = kept_limits part _ _ _ graph plan node c.limits.ensures in
+    rw c.in_ok-attach.ensures.ok (record {
+      scope = record { graph = scope.graph; plan = scope.plan; node = scope.node };
+      keeps = attached_searching w c.args.met _ met c.args.mate c.requires.couple limits c.watch_node.new.watch
           c.keeps.ensures.within
-          (kept_watches (part_of c.args.pieces.now.parts) _ c.scope-scope.result.now.plan.now c.scope-scope.result.now.node _
-          c.args.pieces.now.watch c.watch_node.new.watch graph c.watch_node.ensures),
-    )
-
-pub returns-clause-goes_on : goal.returns-clause-goes_on
-returns-clause-goes_on c w met =
-    let scope = c.requires.scope in
-    let graph = ap (λ s. s.graph.now) c.scope-scope.ensures ∙ scope.graph in
-    let plan = ap (λ s. s.plan.now) c.scope-scope.ensures ∙ scope.plan in
-    let node = ap (λ s. s.node) c.scope-scope.ensures ∙ scope.node in
-    rw c.in_ok-attach.ensures.ok
-    (attached_goes_on w c.args.met _ met c.args.mate c.requires.couple
-    (kept_limits (part_of c.args.pieces.now.parts) _ _ _ graph plan node c.limits.ensures) c.watch_node.new.watch)
+          (kept_watches part _ c.scope-scope.result.now.plan.now c.scope-scope.result.now.node _ c.args.pieces.now.watch
+          c.watch_node.new.watch graph c.watch_node.ensures);
+      goes_on = attached_goes_on w c.args.met _ met c.args.mate c.requires.couple limits c.watch_node.new.watch;
+    })

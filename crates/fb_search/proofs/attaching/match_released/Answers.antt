@@ -1,4 +1,4 @@
-use Rattle.std.proofs.Common.{◌∷◌, subst}
+use Rattle.std.proofs.Common.{◌∷◌, ap, subst}
 use Rattle.std.specs.List.Sorted.{IsPermutation}
 use Rattle.fb_search.proofs.ReleasedMatches.{dropped_distinct, dropped_still, names_distinct, part_released, taken_live}
 use Rattle.fb_search.proofs.attaching.match_released.Goals as goal
@@ -20,19 +20,17 @@ forget_tree-requires-clause-live c =
 pub forget_tree-requires-clause-distinct : goal.forget_tree-requires-clause-distinct
 forget_tree-requires-clause-distinct c = dropped_distinct c.requires.met.0 c.args.met _ c.requires.met.1 c.requires.boundary
 
-pub returns-clause-part : goal.returns-clause-part
-returns-clause-part c =
-    (part_released c.requires.met.0 c.args.met _ c.requires.met.1 c.requires.boundary c.take_unmatched.new.self
-    c.take_unmatched.ensures.matches
+pub returns : goal.returns
+returns c w met =
+    let scope = c.requires.scope in
+    let released =
+    part_released w c.args.met _ met c.requires.boundary c.take_unmatched.new.self c.take_unmatched.ensures.matches
     (subst (λ n. IsPermutation c.args.pieces.now.parts.matching.unmatched (n ∷ c.take_unmatched.new.self.unmatched)) c.root.ensures
     c.take_unmatched.ensures.unmatched)
     c.forget.new.self c.forget_tree.new.links c.match_tree.new.matching c.forget.ensures c.in_ok-forget_tree.ensures
-    c.in_ok-match_tree.ensures).0
-
-pub returns-clause-searched : goal.returns-clause-searched
-returns-clause-searched c w met =
-    (part_released w c.args.met _ met c.requires.boundary c.take_unmatched.new.self c.take_unmatched.ensures.matches
-    (subst (λ n. IsPermutation c.args.pieces.now.parts.matching.unmatched (n ∷ c.take_unmatched.new.self.unmatched)) c.root.ensures
-    c.take_unmatched.ensures.unmatched)
-    c.forget.new.self c.forget_tree.new.links c.match_tree.new.matching c.forget.ensures c.in_ok-forget_tree.ensures
-    c.in_ok-match_tree.ensures).1
+    c.in_ok-match_tree.ensures in
+    record {
+      scope = record { graph = scope.graph; plan = scope.plan; node = scope.node };
+      part = released.0;
+      ends = record { searched = released.1; room = ap (λ s. s.watched.edge_count) met.is };
+    }

@@ -96,8 +96,8 @@ replace_unmatched-requires-clause-fresh c =
     c.in_ok-blossom.blossom c.form.new.self c.in_ok-blossom.ensures.ok c.as_slice-nodes.result.now gone c.args.closing
     c.replace.new.self c.in_ok-replace.ensures.ok)
 
-pub returns-clause-searching : goal.returns-clause-searching
-returns-clause-searching c =
+pub returns : goal.returns
+returns c =
     let w : SearchValue = search_of c.args.pieces.now in
     let closes =
     closes_by w c.args.first c.args.second c.args.closing c.requires.search c.requires.first c.requires.second
@@ -114,23 +114,8 @@ returns-clause-searching c =
     (rw (c.root-root.ensures, c.root.ensures) at c.in_ok-replace_unmatched.ensures) c.watch_minus.new.watch
     c.watch_minus.ensures c.keeps.ensures.within in
     let scope = c.requires.scope in
-    rw c.in_ok-join_nodes.ensures.ok (record { graph = scope.graph; plan = scope.plan; node = scope.node }, both.0)
-
-pub returns-clause-goes_on : goal.returns-clause-goes_on
-returns-clause-goes_on c =
-    let w : SearchValue = search_of c.args.pieces.now in
-    let closes =
-    closes_by w c.args.first c.args.second c.args.closing c.requires.search c.requires.first c.requires.second
-    c.requires.apart c.requires.connects c.requires.tight in
-    let is = c.in_ok-cycle.ensures.cycle in
-    let gone : c.as_slice-nodes.result.now ≡ nodes_of c.in_ok-cycle.cycle.items =
-    c.as_slice-nodes.ensures.value ∙ c.in_ok-nodes.ensures ∙ ap nodes_of c.deref.ensures.value in
-    let both =
-    cycle_made w c.args.first c.args.second c.args.closing closes c.in_ok-cycle.cycle.items is
-    c.in_ok-blossom.blossom c.form.new.self c.in_ok-blossom.ensures.ok c.as_slice-nodes.result.now gone c.args.closing
-    c.replace.new.self c.in_ok-replace.ensures.ok
-    c.args.pieces.now.parts.regions.scope c.requires.scope (rw c.scope.ensures at c.limits.ensures)
-    c.replace_unmatched.new.matching
-    (rw (c.root-root.ensures, c.root.ensures) at c.in_ok-replace_unmatched.ensures) c.watch_minus.new.watch
-    c.watch_minus.ensures c.keeps.ensures.within in
-    rw c.in_ok-join_nodes.ensures.ok both.1
+    rw c.in_ok-join_nodes.ensures.ok (record {
+      scope = record { graph = scope.graph; plan = scope.plan; node = scope.node };
+      keeps = both.0;
+      goes_on = both.1;
+    })

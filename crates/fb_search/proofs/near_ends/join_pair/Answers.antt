@@ -37,31 +37,13 @@ grow_node-requires-2-clause-may c =
     limits_scoped part scope c.scope.result.now c.scope.ensures c.requires.scope c.limits.ensures in
     rw c.grow_node.ensures (root_step part c.args.root c.args.pair c.requires.part limits c.requires.unmatched c.requires.near scope c.requires.scope)
 
-pub met_walk-requires : goal.met_walk-requires
-met_walk-requires c =
+pub link_between-requires : goal.link_between-requires
+link_between-requires c =
     let part : PartValue = part_of c.args.parts.now in
     let scope = c.args.parts.now.regions.scope in
     let limits : IsWithinLimits (problem_in part) =
     limits_scoped part scope c.scope.result.now c.scope.ensures c.requires.scope c.limits.ensures in
     rw (c.grow_node-2.ensures, c.grow_node.ensures) (pair_between part c.args.root c.args.pair c.requires.part limits c.requires.unmatched c.requires.near scope c.requires.scope)
-
-pub make-requires-clause-some : goal.make-requires-clause-some
-make-requires-clause-some c =
-    let part : PartValue = part_of c.args.parts.now in
-    let scope = c.args.parts.now.regions.scope in
-    let limits : IsWithinLimits (problem_in part) =
-    limits_scoped part scope c.scope.result.now c.scope.ensures c.requires.scope c.limits.ensures in
-    (pair_walk part c.args.root c.args.pair c.requires.part limits c.requires.unmatched c.requires.near scope c.requires.scope c.in_ok-walk.walk
-    (rw (c.grow_node-2.ensures, c.grow_node.ensures) at c.in_ok-walk.ensures)).walk_is.some
-
-pub make-requires-clause-light : goal.make-requires-clause-light
-make-requires-clause-light c =
-    let part : PartValue = part_of c.args.parts.now in
-    let scope = c.args.parts.now.regions.scope in
-    let limits : IsWithinLimits (problem_in part) =
-    limits_scoped part scope c.scope.result.now c.scope.ensures c.requires.scope c.limits.ensures in
-    (pair_walk part c.args.root c.args.pair c.requires.part limits c.requires.unmatched c.requires.near scope c.requires.scope c.in_ok-walk.walk
-    (rw (c.grow_node-2.ensures, c.grow_node.ensures) at c.in_ok-walk.ensures)).walk_is.light
 
 pub take_unmatched-requires-2 : goal.take_unmatched-requires-2
 take_unmatched-requires-2 c =
@@ -81,26 +63,23 @@ add_matches-requires c =
     (pair_listed part c.args.root c.args.pair c.requires.part limits c.requires.unmatched c.requires.near c.in_ok-link.link c.take_unmatched.new.self.unmatched
     c.take_unmatched-2.new.self.unmatched c.take_unmatched.ensures.unmatched c.take_unmatched-2.ensures.unmatched)
 
-pub returns-clause-part : goal.returns-clause-part
-returns-clause-part c =
+pub returns : goal.returns
+returns c =
     let part : PartValue = part_of c.args.parts.now in
     let scope = c.args.parts.now.regions.scope in
+    let own = c.requires.scope in
     let limits : IsWithinLimits (problem_in part) =
-    limits_scoped part scope c.scope.result.now c.scope.ensures c.requires.scope c.limits.ensures in
+    limits_scoped part scope c.scope.result.now c.scope.ensures own c.limits.ensures in
+    let made = rw (c.grow_node-2.ensures, c.grow_node.ensures) at c.in_ok-link.ensures in
+    let matched =
+    pair_matched part c.args.root c.args.pair c.requires.part limits c.requires.unmatched c.requires.near c.in_ok-link.link
+    c.take_unmatched.new.self.unmatched c.take_unmatched-2.new.self.unmatched c.take_unmatched.ensures.unmatched
+    c.take_unmatched-2.ensures.unmatched made.walk c.link_between.new.links
+    (pair_walk part c.args.root c.args.pair c.requires.part limits c.requires.unmatched c.requires.near scope own made.walk
+    made.between) made.adds in
     rw (c.grow_node-2.ensures, c.grow_node.ensures, c.in_ok-add_matches.ensures, c.take_unmatched-2.ensures.matches, c.take_unmatched.ensures.matches)
-    (pair_matched part c.args.root c.args.pair c.requires.part limits c.requires.unmatched c.requires.near c.in_ok-link.link c.take_unmatched.new.self.unmatched
-    c.take_unmatched-2.new.self.unmatched c.take_unmatched.ensures.unmatched c.take_unmatched-2.ensures.unmatched
-    c.in_ok-walk.walk c.make.new.self (pair_walk part c.args.root c.args.pair c.requires.part limits c.requires.unmatched c.requires.near scope c.requires.scope c.in_ok-walk.walk
-    (rw (c.grow_node-2.ensures, c.grow_node.ensures) at c.in_ok-walk.ensures)) c.in_ok-link.ensures.ok).0
-
-pub returns-clause-searched : goal.returns-clause-searched
-returns-clause-searched c =
-    let part : PartValue = part_of c.args.parts.now in
-    let scope = c.args.parts.now.regions.scope in
-    let limits : IsWithinLimits (problem_in part) =
-    limits_scoped part scope c.scope.result.now c.scope.ensures c.requires.scope c.limits.ensures in
-    rw (c.grow_node-2.ensures, c.grow_node.ensures, c.in_ok-add_matches.ensures, c.take_unmatched-2.ensures.matches, c.take_unmatched.ensures.matches)
-    (pair_matched part c.args.root c.args.pair c.requires.part limits c.requires.unmatched c.requires.near c.in_ok-link.link c.take_unmatched.new.self.unmatched
-    c.take_unmatched-2.new.self.unmatched c.take_unmatched.ensures.unmatched c.take_unmatched-2.ensures.unmatched
-    c.in_ok-walk.walk c.make.new.self (pair_walk part c.args.root c.args.pair c.requires.part limits c.requires.unmatched c.requires.near scope c.requires.scope c.in_ok-walk.walk
-    (rw (c.grow_node-2.ensures, c.grow_node.ensures) at c.in_ok-walk.ensures)) c.in_ok-link.ensures.ok).1
+    (record {
+      scope = record { graph = own.graph; plan = own.plan; node = own.node };
+      part = matched.0;
+      searched = matched.1;
+    })

@@ -1,214 +1,27 @@
-use Rattle.std.proofs.Common.{◌≡◌, ◌++◌, true, All, List, sym, subst, ap, ◌∙◌}
-use Rattle.fb_graph.specs.Certificate.{AreDistinct}
-use Rattle.fb_graph.specs.Dual.{is_live}
-use Rattle.fb_graph.specs.Moves.{split_nodes}
-use Rattle.fb_links.specs.Table as table
-use Rattle.fb_links.specs.declared.cycle.CycleStep.{CycleStep}
-use Rattle.fb_blossoms.specs.Nodes.{is_on}
-use Rattle.fb_plan.specs.declared.scope.NodeScope.{NodeScope}
-use Rattle.fb_half.specs.Matchings.{listed_names, matched_names}
+use Rattle.std.proofs.lemmas.Result.{IfOk-weaker}
 use Rattle.fb_half.specs.Values.{part_of}
-use Rattle.fb_trees.specs.Branches.{entry_of}
-use Rattle.fb_trees.specs.Replacements.{IsOpened, MayOpen}
-use Rattle.fb_search.specs.InternalEndings.{Forgets}
-use Rattle.fb_search.specs.InternalOpenings.{couples_on, even_on, links_left, rest_on, round_on, second_nodes, way_on}
+use Rattle.fb_search.specs.InternalPieces.{AreSearching}
+use Rattle.fb_search.specs.InternalProgress.{GoesOn}
 use Rattle.fb_search.specs.InternalSearching.{SearchValue}
-use Rattle.fb_search.proofs.Agreed.{cycle_there, outer_in_store}
-use Rattle.fb_search.proofs.BegunSearches.{kept_limits, kept_watches}
-use Rattle.fb_search.proofs.BranchEnds.{enters_above, enters_below, opens_by}
-use Rattle.fb_search.proofs.OpenedConditions.{couples_fresh, left_distinct, left_live, plus_live, way_opens}
-use Rattle.fb_search.proofs.OpenedSearches.{goes_on_opened, searching_opened}
-use Rattle.fb_search.proofs.Openings.{HasOpened, Opens}
+use Rattle.fb_search.proofs.DoneSteps.{done_weaker}
 use Rattle.fb_search.proofs.searching.Searching.open.Goals as goal
 
-pub child_at-above-requires : goal.child_at-above-requires
-child_at-above-requires c =
+pub open_node-done-requires-clause-empty : goal.open_node-done-requires-clause-empty
+open_node-done-requires-clause-empty c = rw (← c.self.view_is) at c.requires
+
+pub into_searching-requires-clause-scope : goal.into_searching-requires-clause-scope
+into_searching-requires-clause-scope c =
     let w : SearchValue = record { part = part_of c.self.inside.parts; tree = c.self.inside.tree; watched = c.self.inside.watch } in
-    let asked = rw (← c.self.view_is) at c.requires in
-    let e = entry_of c.branch-branch.result in
-    (e.parent, enters_above w c.args.node e c.self.invariant.1 asked.1 c.branch-branch.ensures)
+    IfOk-weaker _ _ _ (λ _ (are : AreSearching w c.open_node-done.new.pieces). are.scope) c.open_node-done.ensures
 
-pub child_at-below-requires : goal.child_at-below-requires
-child_at-below-requires c =
+pub into_searching-requires-clause-search : goal.into_searching-requires-clause-search
+into_searching-requires-clause-search c =
     let w : SearchValue = record { part = part_of c.self.inside.parts; tree = c.self.inside.tree; watched = c.self.inside.watch } in
-    let asked = rw (← c.self.view_is) at c.requires in
-    let e = entry_of c.branch-branch.result in
-    (e.plus, enters_below w c.args.node e c.self.invariant.1 asked.1 c.branch-branch.ensures)
-
-pub open_up-cycle-requires-clause-blossom : goal.open_up-cycle-requires-clause-blossom
-open_up-cycle-requires-clause-blossom c =
-    let asked = rw (← c.self.view_is) at c.requires in
-    cycle_there c.self.inside.parts.regions.nodes c.self.inside.parts.blossoms c.args.node c.self.invariant.1.agreed asked.1
-
-pub open_up-cycle-requires-clause-outer : goal.open_up-cycle-requires-clause-outer
-open_up-cycle-requires-clause-outer c =
-    let asked = rw (← c.self.view_is) at c.requires in
-    outer_in_store c.self.inside.parts.regions.nodes c.self.inside.parts.blossoms c.args.node c.self.invariant.1.agreed
-    asked.1.outer
-
-pub taken_apart-requires-clause-first : goal.taken_apart-requires-clause-first
-taken_apart-requires-clause-first c =
-    let w : SearchValue = record { part = part_of c.self.inside.parts; tree = c.self.inside.tree; watched = c.self.inside.watch } in
-    let asked = rw (← c.self.view_is) at c.requires in
-    let e = entry_of c.branch-branch.result in
-    let opens : Opens w c.args.node e c.child_at-above.result c.child_at-below.result =
-    opens_by w c.args.node e c.child_at-above.result c.child_at-below.result c.self.invariant.1 asked.1
-    c.branch-branch.ensures c.child_at-above.ensures c.child_at-below.ensures in
-    ap (λ l. is_on l c.child_at-above.result) (c.deref.ensures.value ∙ c.open_up-cycle.ensures.cycle)
-    ∙ opens.at_above.on_cycle
-
-pub taken_apart-requires-clause-second : goal.taken_apart-requires-clause-second
-taken_apart-requires-clause-second c =
-    let w : SearchValue = record { part = part_of c.self.inside.parts; tree = c.self.inside.tree; watched = c.self.inside.watch } in
-    let asked = rw (← c.self.view_is) at c.requires in
-    let e = entry_of c.branch-branch.result in
-    let opens : Opens w c.args.node e c.child_at-above.result c.child_at-below.result =
-    opens_by w c.args.node e c.child_at-above.result c.child_at-below.result c.self.invariant.1 asked.1
-    c.branch-branch.ensures c.child_at-above.ensures c.child_at-below.ensures in
-    ap (λ l. is_on l c.child_at-below.result) (c.deref.ensures.value ∙ c.open_up-cycle.ensures.cycle)
-    ∙ opens.at_below.on_cycle
-
-pub replace-requires : goal.replace-requires
-replace-requires c =
-    let w : SearchValue = record { part = part_of c.self.inside.parts; tree = c.self.inside.tree; watched = c.self.inside.watch } in
-    let asked = rw (← c.self.view_is) at c.requires in
-    let e = entry_of c.branch-branch.result in
-    let opens : Opens w c.args.node e c.child_at-above.result c.child_at-below.result =
-    opens_by w c.args.node e c.child_at-above.result c.child_at-below.result c.self.invariant.1 asked.1
-    c.branch-branch.ensures c.child_at-above.ensures c.child_at-below.ensures in
-    let cycle = c.deref.ensures.value ∙ c.open_up-cycle.ensures.cycle in
-    let parts = λ (cycle : List CycleStep). even_on (round_on cycle c.child_at-above.result) c.child_at-below.result in
-    subst (MayOpen w.tree c.args.node) (sym (c.deref-2.ensures.value ∙ c.in_ok-apart.ensures.way
-    ∙ ap (λ l. way_on (parts l) c.child_at-below.result) cycle))
-    (way_opens w c.args.node e c.child_at-above.result c.child_at-below.result c.self.invariant.1 opens)
-
-pub add_matches-requires : goal.add_matches-requires
-add_matches-requires c =
-    let w : SearchValue = record { part = part_of c.self.inside.parts; tree = c.self.inside.tree; watched = c.self.inside.watch } in
-    let asked = rw (← c.self.view_is) at c.requires in
-    let e = entry_of c.branch-branch.result in
-    let opens : Opens w c.args.node e c.child_at-above.result c.child_at-below.result =
-    opens_by w c.args.node e c.child_at-above.result c.child_at-below.result c.self.invariant.1 asked.1
-    c.branch-branch.ensures c.child_at-above.ensures c.child_at-below.ensures in
-    let cycle = c.deref.ensures.value ∙ c.open_up-cycle.ensures.cycle in
-    let parts = λ (cycle : List CycleStep). even_on (round_on cycle c.child_at-above.result) c.child_at-below.result in
-    subst (λ ms. AreDistinct (listed_names w.part.matching ++ matched_names ms))
-    (sym (c.deref-3.ensures.value ∙ c.in_ok-apart.ensures.matches
-    ∙ ap (λ l. couples_on (rest_on (parts l) c.child_at-below.result)) cycle))
-    (couples_fresh w c.args.node e c.child_at-above.result c.child_at-below.result c.self.invariant.1 opens)
-
-pub forget_all-requires-clause-live : goal.forget_all-requires-clause-live
-forget_all-requires-clause-live c =
-    let w : SearchValue = record { part = part_of c.self.inside.parts; tree = c.self.inside.tree; watched = c.self.inside.watch } in
-    let asked = rw (← c.self.view_is) at c.requires in
-    let e = entry_of c.branch-branch.result in
-    let opens : Opens w c.args.node e c.child_at-above.result c.child_at-below.result =
-    opens_by w c.args.node e c.child_at-above.result c.child_at-below.result c.self.invariant.1 asked.1
-    c.branch-branch.ensures c.child_at-above.ensures c.child_at-below.ensures in
-    let cycle = c.deref.ensures.value ∙ c.open_up-cycle.ensures.cycle in
-    let parts = λ (cycle : List CycleStep). even_on (round_on cycle c.child_at-above.result) c.child_at-below.result in
-    subst (All (λ id. table.is_live w.part.links id ≡ true))
-    (sym (c.deref-4.ensures.value ∙ c.in_ok-apart.ensures.left
-    ∙ ap (λ l. links_left (parts l) c.child_at-below.result) cycle))
-    (left_live w c.args.node e c.child_at-above.result c.child_at-below.result c.self.invariant.1 opens)
-
-pub forget_all-requires-clause-distinct : goal.forget_all-requires-clause-distinct
-forget_all-requires-clause-distinct c =
-    let w : SearchValue = record { part = part_of c.self.inside.parts; tree = c.self.inside.tree; watched = c.self.inside.watch } in
-    let asked = rw (← c.self.view_is) at c.requires in
-    let e = entry_of c.branch-branch.result in
-    let opens : Opens w c.args.node e c.child_at-above.result c.child_at-below.result =
-    opens_by w c.args.node e c.child_at-above.result c.child_at-below.result c.self.invariant.1 asked.1
-    c.branch-branch.ensures c.child_at-above.ensures c.child_at-below.ensures in
-    let cycle = c.deref.ensures.value ∙ c.open_up-cycle.ensures.cycle in
-    let parts = λ (cycle : List CycleStep). even_on (round_on cycle c.child_at-above.result) c.child_at-below.result in
-    subst AreDistinct (sym (c.deref-4.ensures.value ∙ c.in_ok-apart.ensures.left
-    ∙ ap (λ l. links_left (parts l) c.child_at-below.result) cycle))
-    (left_distinct w c.args.node e c.child_at-above.result c.child_at-below.result c.self.invariant.1 opens)
-
-pub watch_plus-requires-clause-live : goal.watch_plus-requires-clause-live
-watch_plus-requires-clause-live c =
-    let w : SearchValue = record { part = part_of c.self.inside.parts; tree = c.self.inside.tree; watched = c.self.inside.watch } in
-    let asked = rw (← c.self.view_is) at c.requires in
-    let e = entry_of c.branch-branch.result in
-    let opens : Opens w c.args.node e c.child_at-above.result c.child_at-below.result =
-    opens_by w c.args.node e c.child_at-above.result c.child_at-below.result c.self.invariant.1 asked.1
-    c.branch-branch.ensures c.child_at-above.ensures c.child_at-below.ensures in
-    let cycle = c.deref.ensures.value ∙ c.open_up-cycle.ensures.cycle in
-    let parts = λ (cycle : List CycleStep). even_on (round_on cycle c.child_at-above.result) c.child_at-below.result in
-    rw (c.in_ok-split_node.ensures.ok)
-    (subst (λ l. All (λ n. is_live (split_nodes c.args.node w.part.nodes) n ≡ true) (second_nodes l))
-    (sym (c.deref-5.ensures.value ∙ c.in_ok-apart.ensures.way
-    ∙ ap (λ l. way_on (parts l) c.child_at-below.result) cycle))
-    (plus_live w c.args.node e c.child_at-above.result c.child_at-below.result c.self.invariant.1 opens))
-
-pub invariant_of-result : goal.invariant_of-result
-invariant_of-result c =
-    let w : SearchValue = record { part = part_of c.self.inside.parts; tree = c.self.inside.tree; watched = c.self.inside.watch } in
-    let asked = rw (← c.self.view_is) at c.requires in
-    let e = entry_of c.branch-branch.result in
-    let opens : Opens w c.args.node e c.child_at-above.result c.child_at-below.result =
-    opens_by w c.args.node e c.child_at-above.result c.child_at-below.result c.self.invariant.1 asked.1
-    c.branch-branch.ensures c.child_at-above.ensures c.child_at-below.ensures in
-    let cycle = c.deref.ensures.value ∙ c.open_up-cycle.ensures.cycle in
-    let parts = λ (cycle : List CycleStep). even_on (round_on cycle c.child_at-above.result) c.child_at-below.result in
-    let way = c.in_ok-apart.ensures.way
-    ∙ ap (λ l. way_on (parts l) c.child_at-below.result) cycle in
-    let matches = c.deref-3.ensures.value ∙ c.in_ok-apart.ensures.matches
-    ∙ ap (λ l. couples_on (rest_on (parts l) c.child_at-below.result)) cycle in
-    let watches = rw (c.in_ok-split_node.ensures.ok, c.deref-5.ensures.value ∙ way) at c.watch_plus.ensures in
-    let has : HasOpened w c.args.node c.child_at-above.result c.child_at-below.result c.forget_all.new.links
-    c.open_up-cycle.new.self c.replace.new.self c.watch_plus.new.watch = record {
-      taken_off = c.open_up-cycle.ensures.rest;
-      grown = subst (λ l. IsOpened w.tree c.args.node l c.replace.new.self) (c.deref-2.ensures.value ∙ way)
-          c.in_ok-replace.ensures.ok;
-      forgets = subst (λ l. Forgets l w.part.links c.forget_all.new.links)
-          (c.deref-4.ensures.value ∙ c.in_ok-apart.ensures.left
-          ∙ ap (λ l. links_left (parts l) c.child_at-below.result) cycle) c.forget_all.ensures;
-      within = c.keeps.ensures.within;
-      watches = kept_watches w.part c.self.inside.parts.regions.scope.graph.now c.self.inside.parts.regions.scope.plan.now
-          c.self.inside.parts.regions.scope.node _ w.watched c.watch_plus.new.watch c.self.invariant.0.graph watches;
-    } in
-    let scope = c.self.invariant.0 in
-    let limits = kept_limits w.part c.scope.result.now.graph.now c.scope.result.now.plan.now c.scope.result.now.node
-    (ap (λ (s : NodeScope). s.graph.now) c.scope.ensures ∙ scope.graph)
-    (ap (λ (s : NodeScope). s.plan.now) c.scope.ensures ∙ scope.plan)
-    (ap (λ (s : NodeScope). s.node) c.scope.ensures ∙ scope.node) c.limits.ensures in
-    rw (c.in_ok-split_node.ensures.ok, c.in_ok-add_matches.ensures, matches) (
-      record { graph = scope.graph; plan = scope.plan; node = scope.node },
-      searching_opened w c.args.node e c.child_at-above.result c.child_at-below.result c.self.invariant.1 opens c.forget_all.new.links
-          c.open_up-cycle.new.self c.replace.new.self
-          c.watch_plus.new.watch limits has,
-    )
+    IfOk-weaker _ _ _ (λ _ (are : AreSearching w c.open_node-done.new.pieces). are.keeps) c.open_node-done.ensures
 
 pub returns : goal.returns
 returns c =
     let w : SearchValue = record { part = part_of c.self.inside.parts; tree = c.self.inside.tree; watched = c.self.inside.watch } in
-    let asked = rw (← c.self.view_is) at c.requires in
-    let e = entry_of c.branch-branch.result in
-    let opens : Opens w c.args.node e c.child_at-above.result c.child_at-below.result =
-    opens_by w c.args.node e c.child_at-above.result c.child_at-below.result c.self.invariant.1 asked.1
-    c.branch-branch.ensures c.child_at-above.ensures c.child_at-below.ensures in
-    let cycle = c.deref.ensures.value ∙ c.open_up-cycle.ensures.cycle in
-    let parts = λ (cycle : List CycleStep). even_on (round_on cycle c.child_at-above.result) c.child_at-below.result in
-    let way = c.in_ok-apart.ensures.way
-    ∙ ap (λ l. way_on (parts l) c.child_at-below.result) cycle in
-    let matches = c.deref-3.ensures.value ∙ c.in_ok-apart.ensures.matches
-    ∙ ap (λ l. couples_on (rest_on (parts l) c.child_at-below.result)) cycle in
-    let watches = rw (c.in_ok-split_node.ensures.ok, c.deref-5.ensures.value ∙ way) at c.watch_plus.ensures in
-    let has : HasOpened w c.args.node c.child_at-above.result c.child_at-below.result c.forget_all.new.links
-    c.open_up-cycle.new.self c.replace.new.self c.watch_plus.new.watch = record {
-      taken_off = c.open_up-cycle.ensures.rest;
-      grown = subst (λ l. IsOpened w.tree c.args.node l c.replace.new.self) (c.deref-2.ensures.value ∙ way)
-          c.in_ok-replace.ensures.ok;
-      forgets = subst (λ l. Forgets l w.part.links c.forget_all.new.links)
-          (c.deref-4.ensures.value ∙ c.in_ok-apart.ensures.left
-          ∙ ap (λ l. links_left (parts l) c.child_at-below.result) cycle) c.forget_all.ensures;
-      within = c.keeps.ensures.within;
-      watches = kept_watches w.part c.self.inside.parts.regions.scope.graph.now c.self.inside.parts.regions.scope.plan.now
-          c.self.inside.parts.regions.scope.node _ w.watched c.watch_plus.new.watch c.self.invariant.0.graph watches;
-    } in
-    rw (← c.self.view_is, c.in_ok-split_node.ensures.ok, c.in_ok-add_matches.ensures, matches)
-    (goes_on_opened w c.args.node e c.child_at-above.result c.child_at-below.result c.self.invariant.1 opens c.forget_all.new.links
-    c.open_up-cycle.new.self c.replace.new.self
-    c.watch_plus.new.watch has)
+    rw (← c.self.view_is)
+    (done_weaker (GoesOn w) c.open_node-done.result _ _ c.into_searching.ensures
+    (IfOk-weaker _ _ _ (λ _ (are : AreSearching w c.open_node-done.new.pieces). are.goes_on) c.open_node-done.ensures))

@@ -1,0 +1,21 @@
+use Rattle.fb_search.specs.InternalSearching.{SearchValue, search_of}
+use Rattle.fb_search.proofs.MetMatches.{has_met}
+use Rattle.fb_search.proofs.ScopeWalks.{between_scoped, met_scoped}
+use Rattle.fb_search.proofs.TreeEnds.{meets_between}
+use Rattle.fb_search.proofs.attaching.link_to.Goals as goal
+
+pub link_between-requires : goal.link_between-requires
+link_between-requires c =
+    let w : SearchValue = search_of c.args.pieces.now in
+    between_scoped w.part _ c.requires.scope c.args.edge c.args.plus c.args.other
+    (meets_between w c.args.edge c.args.plus c.args.other c.requires.meets)
+
+pub returns-clause-met : goal.returns-clause-met
+returns-clause-met c =
+    let w : SearchValue = search_of c.args.pieces.now in
+    let made = c.in_ok-link.ensures in
+    has_met w c.args.edge c.args.plus c.args.other c.in_ok-link.link c.take_match-taken.result made.walk
+    c.link_between.new.links c.take_match-taken.new.self c.requires.search c.requires.meets
+    (met_scoped w.part _ c.requires.scope c.args.edge c.args.plus c.args.other made.walk
+    (meets_between w c.args.edge c.args.plus c.args.other c.requires.meets) made.between)
+    made.adds c.take_match-taken.ensures.matches c.take_match-taken.ensures.unmatched

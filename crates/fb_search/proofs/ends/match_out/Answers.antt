@@ -1,0 +1,57 @@
+use Rattle.std.proofs.Common.{refl}
+use Rattle.fb_search.specs.InternalSearching.{SearchValue, search_of}
+use Rattle.fb_search.proofs.ScopeWalks.{out_bare, out_scoped}
+use Rattle.fb_search.proofs.TreeEnds.{boundary_apart, boundary_ended, gone_live, gone_once, leads_out, leaving_plus}
+use Rattle.fb_search.proofs.ends.match_out.Goals as goal
+
+pub link_out-requires : goal.link_out-requires
+link_out-requires c =
+    let w : SearchValue = search_of c.args.pieces.now in
+    let leads = c.requires.leads in (
+      c.args.plus,
+      leads.outer,
+      out_bare w.part _ c.requires.scope c.args.edge c.args.plus leads.outer (leads_out w c.args.edge c.args.plus leads),
+    )
+
+pub match_tree-requires-clause-plus : goal.match_tree-requires-clause-plus
+match_tree-requires-clause-plus c =
+    leaving_plus (search_of c.args.pieces.now) c.args.edge c.args.plus c.requires.leads
+
+pub match_tree-requires-clause-distinct : goal.match_tree-requires-clause-distinct
+match_tree-requires-clause-distinct c =
+    rw c.take_unmatched.ensures.matches
+    (boundary_apart (search_of c.args.pieces.now) c.args.edge c.args.plus c.in_ok-link.link c.take_unmatched.new.self.unmatched
+    c.requires.search c.requires.leads (rw c.root.ensures at c.take_unmatched.ensures.unmatched))
+
+pub forget_tree-requires-clause-plus : goal.forget_tree-requires-clause-plus
+forget_tree-requires-clause-plus c =
+    leaving_plus (search_of c.args.pieces.now) c.args.edge c.args.plus c.requires.leads
+
+pub forget_tree-requires-clause-live : goal.forget_tree-requires-clause-live
+forget_tree-requires-clause-live c =
+    let made = c.in_ok-link.ensures in
+    gone_live (search_of c.args.pieces.now) c.args.plus c.in_ok-link.link made.walk c.link_out.new.links c.requires.search
+    made.adds
+
+pub forget_tree-requires-clause-distinct : goal.forget_tree-requires-clause-distinct
+forget_tree-requires-clause-distinct c =
+    gone_once (search_of c.args.pieces.now) c.args.plus c.in_ok-link.link c.in_ok-link.ensures.walk c.link_out.new.links
+    c.requires.search
+
+pub returns : goal.returns
+returns c =
+    let w : SearchValue = search_of c.args.pieces.now in
+    let scope = c.requires.scope in
+    let leads = c.requires.leads in
+    let made = c.in_ok-link.ensures in
+    let ended =
+    boundary_ended w c.args.edge c.args.plus c.in_ok-link.link c.take_unmatched.new.self.unmatched c.requires.search leads
+    (rw c.root.ensures at c.take_unmatched.ensures.unmatched) made.walk c.link_out.new.links c.forget_tree.new.links
+    (out_scoped w.part _ scope c.args.edge c.args.plus leads.outer made.walk (leads_out w c.args.edge c.args.plus leads)
+    made.out) made.adds c.in_ok-forget_tree.ensures in
+    rw (c.in_ok-match_tree.ensures, c.take_unmatched.ensures.matches)
+    (record {
+      scope = record { graph = scope.graph; plan = scope.plan; node = scope.node };
+      part = ended.0;
+      ends = record { searched = ended.1; room = refl };
+    })

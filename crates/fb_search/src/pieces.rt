@@ -1,0 +1,51 @@
+//! What the pieces of a search are once a step that changes them in place is done.
+
+ghost use Rattle.std.specs.Prelude.{◌≡◌, IfOk, OnOk, Ok};
+ghost use Rattle.std.specs.Result.{result_and};
+ghost use Rattle.fb_half.specs.Parts.{IsPart};
+ghost use Rattle.fb_half.specs.Values.{HasScope, part_of};
+ghost use Rattle.fb_search.specs.InternalSearching.{IsSearching, search_of};
+
+use crate::scratch::Scratch;
+use crate::searching::{Pieces, Searching};
+use fb_graph::NoMemory;
+use fb_half::Work;
+
+/// The search that the pieces are, if the step is done.
+pub(crate) fn into_searching<'a>(
+    pieces: Pieces<'a>,
+    done: Result<(), NoMemory>,
+) -> Result<Searching<'a>, NoMemory>
+    requires scope { OnOk done (HasScope pieces.parts) }
+    requires search { OnOk done (IsSearching (search_of pieces)) }
+    ensures { IfOk result (λ search. Ok search ≡ result_and done (Ok (search_of pieces.entry))) }
+{
+    let pieces = done.and(Ok(pieces))?;
+    let Pieces { parts, tree, watch } = pieces;
+    Ok(Searching { parts, tree, watch })
+}
+
+/// The part that the pieces of an ended search are, and its scratch space, if the last step is done.
+pub(crate) fn into_work<'a>(
+    pieces: Pieces<'a>,
+    done: Result<(), NoMemory>,
+) -> Result<(Work<'a>, Scratch), NoMemory>
+    requires scope { OnOk done (HasScope pieces.parts) }
+    requires part { OnOk done (IsPart (part_of pieces.parts)) }
+    ensures { IfOk result (λ ended. Ok ended ≡ result_and done (Ok (part_of pieces.entry.parts, pieces.entry.watch))) }
+{
+    let pieces = done.and(Ok(pieces))?;
+    let Pieces { parts, tree, watch } = pieces;
+    Ok((Work::from_parts(parts), Scratch { watch, tree }))
+}
+
+/// Both values, if the first was made.
+pub(crate) fn both<A: Drop, B: Drop>(
+    made: Result<A, NoMemory>,
+    value: B,
+) -> Result<(A, B), NoMemory>
+    ensures { IfOk result (λ pair. (made ≡ Ok pair.0) × (value ≡ pair.1)) }
+{
+    let made = made?;
+    Ok((made, value))
+}
