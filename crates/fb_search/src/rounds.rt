@@ -1,4 +1,4 @@
-ghost use Rattle.std.specs.Prelude.{◌≡◌, ◌<◌, ◌∷◌, ◌++◌, ◌≤◌, [], true, IfOk, OnErr, OnOk, length, option_to_list};
+ghost use Rattle.std.specs.Prelude.{◌≡◌, ◌<◌, ◌∷◌, ◌++◌, ◌≤◌, ℕ, List, [], true, IfOk, OnErr, OnOk, length, option_to_list};
 ghost use Rattle.fb_graph.specs.Dual.{is_live};
 ghost use Rattle.fb_graph.specs.Parity.{is_in};
 ghost use Rattle.fb_graph.specs.Steps.{MayStep};
@@ -200,23 +200,46 @@ fn search_round<'a, L: Ledger>(
     ensures room { IfOk result (λ r. r.scratch.edge_count ≡ scratch.edge_count) }
     ensures never_falls { steps.old ≤ steps.new }
 {
-    let mut work = work;
-    let mut scratch = scratch;
-    let mut left = Vec::new(alloc);
-    for root in roots {
-        let Standing::Unmatched(_) = work.matching().standing(*root) else {
-            continue;
-        };
-        let bounded = search_within(alloc, work, *root, factor, scratch, steps)?;
-        work = bounded.work;
-        scratch = bounded.scratch;
-        push_left(&mut left, bounded.left)?;
-    }
-    Ok(Round {
+    let mut round = Round {
         work,
         scratch,
+        left: Vec::new(alloc),
+    };
+    for root in roots {
+        round = search_next(alloc, round, *root, factor, steps)?;
+    }
+    Ok(round)
+}
+
+/// The round with a search from this root, if it is still unmatched.
+fn search_next<'a, L: Ledger>(
+    alloc: Global,
+    round: Round<'a>,
+    root: NodeId,
+    factor: u64,
+    steps: &mut Steps<L>,
+) -> Result<Round<'a>, NoMemory>
+    requires { round.scratch.edge_count ≡ length (problem_in round.work).edges }
+    ensures searched { IfOk result (λ r. (more : List ℕ) × (r.left.items ≡ round.entry.left.items ++ more)
+        × HasSearchedSome round.entry.work (root ∷ []) steps.old steps.new more r.work) }
+    ensures room { IfOk result (λ r. r.scratch.edge_count ≡ round.entry.scratch.edge_count) }
+    ensures never_falls { steps.old ≤ steps.new }
+{
+    let Standing::Unmatched(_) = round.work.matching().standing(root) else {
+        return Ok(round);
+    };
+    let Round {
+        work,
+        scratch,
+        mut left,
+    } = round;
+    let bounded = search_within(alloc, work, root, factor, scratch, steps)?;
+    let noted = push_left(&mut left, bounded.left);
+    noted.and(Ok(Round {
+        work: bounded.work,
+        scratch: bounded.scratch,
         left,
-    })
+    }))
 }
 
 /// Adds the name, if there is one.

@@ -32,9 +32,18 @@ pub fn search<'a, L: Ledger>(
     ensures step { IfOk result (λ after. steps.new ≡ steps.old + 1) }
     ensures kept { OnErr result (steps.new ≡ steps.old) }
 {
-    let scratch = Scratch::new(alloc, work.regions().scope())?;
+    let (work, scratch) = with_scratch(alloc, work)?;
     let (work, _scratch) = search_from(alloc, work, root, scratch, steps)?;
     Ok(work)
+}
+
+/// The part, beside scratch space for searches in it.
+fn with_scratch<'a>(alloc: Global, work: Work<'a>) -> Result<(Work<'a>, Scratch), NoMemory>
+    ensures same { IfOk result (λ both. both.0 ≡ work.entry) }
+    ensures room { IfOk result (λ both. both.1.edge_count ≡ length (problem_in work.entry).edges) }
+{
+    let scratch = Scratch::new(alloc, work.regions().scope())?;
+    Ok((work, scratch))
 }
 
 /// The same as `search`, with scratch space that is lent and returned, so that one serves many searches.
@@ -118,7 +127,7 @@ pub fn search_each<'a, L: Ledger>(
     ensures searched { IfOk result (HasSearchedEach work.entry roots.now steps.old steps.new) }
     ensures never_falls { steps.old ≤ steps.new }
 {
-    let scratch = Scratch::new(alloc, work.regions().scope())?;
+    let (work, scratch) = with_scratch(alloc, work)?;
     let (work, _scratch) = search_each_from(alloc, work, roots, scratch, steps)?;
     Ok(work)
 }

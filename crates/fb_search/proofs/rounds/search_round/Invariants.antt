@@ -5,6 +5,6 @@ use Rattle.fb_search.proofs.rounds.search_round.Given as goal
 
 abbrev pub invariant-loop-root : goal.invariant-loop-root
 invariant-loop-root g l =
-    HasSearchedSome l.fn.work l.roots l.fn.steps l.steps (l.left.items ++ drop l.root-index l.roots) l.work
-    × (l.scratch.edge_count ≡ length (problem_in l.work).edges) × (l.scratch.edge_count ≡ l.fn.scratch.edge_count)
-    × (l.fn.steps ≤ l.steps)
+    HasSearchedSome l.fn.work l.roots l.fn.steps l.steps (l.round.left.items ++ drop l.root-index l.roots) l.round.work
+    × (l.round.scratch.edge_count ≡ length (problem_in l.round.work).edges)
+    × (l.round.scratch.edge_count ≡ l.fn.scratch.edge_count) × (l.fn.steps ≤ l.steps)
