@@ -8,6 +8,11 @@ pub done_with : {T U E : Type 0} (P : U → Type 0) (done : Result T E) (given v
 done_with P (Ok x) given value same has = let h : given ≡ value = cc in subst P h has
 done_with P (Err e) given value same has = absurd (let h : ⊥ = cc in h)
 
+pub and_ok : {T U E : Type 0} (P : U → Type 0) (done : Result T E) (value : U) → OnOk done (P value)
+    → IfOk (result_and done (Ok value)) P
+and_ok P (Ok x) value holds = holds
+and_ok P (Err e) value holds = holds
+
 pub done_weaker : {T U E : Type 0} (P : U → Type 0) (done : Result T E) (given : U) (result : Result U E)
     → IfOk result (λ value. Ok value ≡ result_and done (Ok given)) → OnOk done (P given) → IfOk result P
 done_weaker P done given (Ok value) is has = done_with P done given value is has

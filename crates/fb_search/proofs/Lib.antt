@@ -67,6 +67,7 @@ pub mod OpenedStates
 pub mod OpenedWatches
 pub mod OpenedWays
 pub mod Openings
+mod OutcomeSteps
 pub mod PassedVertices
 pub mod Relayered
 pub mod ReleasedMatches

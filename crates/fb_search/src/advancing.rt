@@ -6,7 +6,7 @@ ghost use Rattle.fb_search.specs.InternalSearching.{problem_of, roles_in};
 ghost use Rattle.fb_search.specs.InternalTurns.{BlocksTree, HasStepped};
 ghost use Rattle.fb_search.specs.InternalOutcomes.{HasCleared};
 
-use crate::outcome::Outcome;
+use crate::outcome::{Outcome, ended, going_on};
 use crate::roles::TreeRoles;
 use crate::searching::Searching;
 use fb_graph::{NoMemory, Steps};
@@ -122,14 +122,11 @@ impl<'a> Searching<'a> {
         ensures { IfOk result (HasCleared self.entry) }
     {
         match obstacle {
-            TreeObstacle::Boundary(edge) => {
-                let (work, scratch) = self.end_at_boundary(alloc, edge)?;
-                Ok(Outcome::Ended(work, scratch))
-            }
+            TreeObstacle::Boundary(edge) => ended(self.end_at_boundary(alloc, edge)),
             TreeObstacle::Meet(edge) => self.meet(alloc, edge),
-            TreeObstacle::PlusPair(edge) => Ok(Outcome::On(self.close(alloc, edge)?)),
-            TreeObstacle::BlossomEmpty(node) => Ok(Outcome::On(self.open(alloc, node)?)),
-            TreeObstacle::ZeroMinus(node) => Ok(Outcome::On(self.round(alloc, node)?)),
+            TreeObstacle::PlusPair(edge) => going_on(self.close(alloc, edge)),
+            TreeObstacle::BlossomEmpty(node) => going_on(self.open(alloc, node)),
+            TreeObstacle::ZeroMinus(node) => going_on(self.round(alloc, node)),
         }
     }
 
@@ -140,10 +137,7 @@ impl<'a> Searching<'a> {
     {
         let (plus, other) = self.met_nodes(edge);
         match self.parts.matching.standing(other) {
-            Standing::Unmatched(_) => {
-                let (work, scratch) = self.end_at_unmatched(alloc, edge, plus, other)?;
-                Ok(Outcome::Ended(work, scratch))
-            }
+            Standing::Unmatched(_) => { ended(self.end_at_unmatched(alloc, edge, plus, other)) }
             _ => self.meet_matched(alloc, edge, plus, other),
         }
     }

@@ -10,7 +10,7 @@ ghost use Rattle.fb_search.specs.InternalSearching.{IsSearching, SearchValue, se
 ghost use Rattle.fb_search.specs.InternalOutcomes.{HasCleared};
 
 use crate::ending::{forget_tree, match_tree};
-use crate::outcome::Outcome;
+use crate::outcome::{Outcome, ended, going_on};
 use crate::pieces::{both, into_searching, into_work};
 use crate::scratch::Scratch;
 use crate::searching::{Pieces, Searching};
@@ -61,11 +61,8 @@ fn meet_linked<'a>(alloc: Global, pieces: Pieces<'a>, met: Met) -> Result<Outcom
     ensures { IfOk result (λ outcome. (w : SearchValue) → HasMet w met (search_of pieces.entry) → HasCleared w outcome) }
 {
     match mate_of(met.taken, met.other) {
-        Some(mate) => Ok(Outcome::On(attach(alloc, pieces, met, mate)?)),
-        None => {
-            let (work, scratch) = release(alloc, pieces, met)?;
-            Ok(Outcome::Ended(work, scratch))
-        }
+        Some(mate) => going_on(attach(alloc, pieces, met, mate)),
+        None => ended(release(alloc, pieces, met)),
     }
 }
 

@@ -11,6 +11,7 @@ ghost use Rattle.fb_search.specs.InternalSearching.{problem_of, roles_in};
 use crate::advancing::TreeObstacle;
 use crate::near_ends::{match_near, near_in};
 use crate::outcome::Outcome;
+use crate::pieces::both;
 use crate::scratch::Scratch;
 use crate::searching::Searching;
 use fb_graph::{NoMemory, Scope, Steps};
@@ -134,9 +135,36 @@ fn finish_within<'a, L: Ledger>(
     }
 }
 
-/// Searches from the root until it is matched or its tree is given up. The tree is given up when it would grow by more
-/// than the root's first limit times this factor, if the root's potential is even then. Counts one step if the root is
-/// matched, or else none.
+/// Matches the root at once if that is possible, or else by a tree that may be given up. The tree is given up when it would
+/// grow by more than the root's first limit times this factor, if the root's potential is even then.
+fn match_within<'a>(
+    alloc: Global,
+    work: Work<'a>,
+    root: NodeId,
+    factor: u64,
+    scratch: Scratch,
+) -> Result<Bounded<'a>, NoMemory>
+    requires unmatched { is_in work.matching.unmatched root ≡ true }
+    requires room { scratch.edge_count ≡ length (problem_in work).edges }
+    ensures left { IfOk result (λ b. IsLeft root work.entry b.work b.left) }
+    ensures room { IfOk result (λ b. b.scratch.edge_count ≡ scratch.edge_count) }
+{
+    if let Some(near) = near_in(&work, root) {
+        let (work, scratch) = both(match_near(alloc, work, root, near), scratch)?;
+        return Ok(Bounded {
+            work,
+            scratch,
+            left: None,
+        });
+    }
+    work.keeps();
+    let limit = first_limit(work.regions(), root).saturating_mul(factor);
+    let search = Searching::begin(work, scratch, root);
+    finish_within::<Brand>(alloc, search, limit, Blank::new(1))
+}
+
+/// Searches from the root until it is matched or its tree is given up. Counts one step if the root is matched, or else
+/// none.
 fn search_within<'a, L: Ledger>(
     alloc: Global,
     work: Work<'a>,
@@ -152,19 +180,7 @@ fn search_within<'a, L: Ledger>(
     ensures room { IfOk result (λ b. b.scratch.edge_count ≡ scratch.edge_count) }
     ensures kept { OnErr result (steps.new ≡ steps.old) }
 {
-    if let Some(near) = near_in(&work, root) {
-        let work = match_near(alloc, work, root, near)?;
-        steps.tick();
-        return Ok(Bounded {
-            work,
-            scratch,
-            left: None,
-        });
-    }
-    work.keeps();
-    let limit = first_limit(work.regions(), root).saturating_mul(factor);
-    let search = Searching::begin(alloc, work, scratch, root)?;
-    let bounded = finish_within::<Brand>(alloc, search, limit, Blank::new(1))?;
+    let bounded = match_within(alloc, work, root, factor, scratch)?;
     if let None = bounded.left {
         steps.tick();
     }

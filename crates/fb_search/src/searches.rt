@@ -6,6 +6,7 @@ ghost use Rattle.fb_search.specs.Progress.{HasSearchedEach, IsSearched};
 
 use crate::near_ends::{match_near, near_in};
 use crate::outcome::Outcome;
+use crate::pieces::both;
 use crate::rounds::{Round, search_rounds};
 use crate::scratch::Scratch;
 use crate::searching::Searching;
@@ -32,18 +33,18 @@ pub fn search<'a, L: Ledger>(
     ensures step { IfOk result (λ after. steps.new ≡ steps.old + 1) }
     ensures kept { OnErr result (steps.new ≡ steps.old) }
 {
-    let (work, scratch) = with_scratch(alloc, work)?;
+    let (scratch, work) = with_scratch(alloc, work)?;
     let (work, _scratch) = search_from(alloc, work, root, scratch, steps)?;
     Ok(work)
 }
 
-/// The part, beside scratch space for searches in it.
-fn with_scratch<'a>(alloc: Global, work: Work<'a>) -> Result<(Work<'a>, Scratch), NoMemory>
-    ensures same { IfOk result (λ both. both.0 ≡ work.entry) }
-    ensures room { IfOk result (λ both. both.1.edge_count ≡ length (problem_in work.entry).edges) }
+/// Scratch space for searches in the part, beside the part.
+fn with_scratch<'a>(alloc: Global, work: Work<'a>) -> Result<(Scratch, Work<'a>), NoMemory>
+    ensures same { IfOk result (λ pair. work.entry ≡ pair.1) }
+    ensures room { IfOk result (λ pair. pair.0.edge_count ≡ length (problem_in work.entry).edges) }
 {
-    let scratch = Scratch::new(alloc, work.regions().scope())?;
-    Ok((work, scratch))
+    let scratch = Scratch::new(alloc, work.regions().scope());
+    both(scratch, work)
 }
 
 /// The same as `search`, with scratch space that is lent and returned, so that one serves many searches.
@@ -79,9 +80,9 @@ fn match_root<'a>(
     ensures room { IfOk result (λ after. after.1.edge_count ≡ scratch.edge_count) }
 {
     if let Some(near) = near_in(&work, root) {
-        return Ok((match_near(alloc, work, root, near)?, scratch));
+        return both(match_near(alloc, work, root, near), scratch);
     }
-    let search = Searching::begin(alloc, work, scratch, root)?;
+    let search = Searching::begin(work, scratch, root);
     finish::<Brand>(alloc, search, Blank::new(1))
 }
 
@@ -127,7 +128,7 @@ pub fn search_each<'a, L: Ledger>(
     ensures searched { IfOk result (HasSearchedEach work.entry roots.now steps.old steps.new) }
     ensures never_falls { steps.old ≤ steps.new }
 {
-    let (work, scratch) = with_scratch(alloc, work)?;
+    let (scratch, work) = with_scratch(alloc, work)?;
     let (work, _scratch) = search_each_from(alloc, work, roots, scratch, steps)?;
     Ok(work)
 }

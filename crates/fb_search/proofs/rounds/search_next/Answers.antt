@@ -1,18 +1,13 @@
 use Rattle.std.proofs.Common.{ℕ, ◌≡◌, ◌∙◌, List, [], ◌∷◌, ◌++◌, ap, sym, arith, append-nil, option_to_list}
 use Rattle.std.proofs.lemmas.Result.{IfOk-weaker}
-use Rattle.std.specs.Prelude.{Result, Ok, Err, IfOk, OnOk}
-use Rattle.std.specs.Result.{result_and}
+use Rattle.std.specs.Prelude.{Result, Ok, Err, OnOk}
 use Rattle.fb_graph.specs.Parity.{is_in}
 use Rattle.fb_half.specs.Parts.{PartValue}
 use Rattle.fb_search.specs.InternalRounds.{HasSearchedSome}
+use Rattle.fb_search.proofs.DoneSteps.{and_ok}
 use Rattle.fb_search.proofs.MetOutside.{not_unmatched}
 use Rattle.fb_search.proofs.RoundSteps.{root_searched, root_skipped}
 use Rattle.fb_search.proofs.rounds.search_next.Goals as goal
-
-and_ok : {T U E : Type 0} (P : U → Type 0) (done : Result T E) (value : U) → OnOk done (P value)
-    → IfOk (result_and done (Ok value)) P
-and_ok P (Ok x) value holds = holds
-and_ok P (Err e) value holds = holds
 
 -- the name that a search left is listed
 noted : {T E : Type 0} (done : Result T E) (old new : ℕ) (before after : PartValue) (root : ℕ) (names left more : List ℕ)
