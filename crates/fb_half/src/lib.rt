@@ -3,7 +3,7 @@
 
 #![tactic(auto)]
 
-mod both;
+pub mod both;
 pub mod half;
 pub mod laws;
 pub mod matches;

@@ -1,12 +1,8 @@
 -- A value beside the result of the step that changed it (`and`): what holds of it if the step is done.
-use Rattle.std.proofs.Common.{◌≡◌, ap, subst}
+use Rattle.std.proofs.Common.{◌≡◌, ap}
 use Rattle.std.specs.Prelude.{Result, Ok, Err, IfOk, OnOk}
 use Rattle.std.specs.Result.{result_and}
-
-pub done_with : {T U E : Type 0} (P : U → Type 0) (done : Result T E) (given value : U)
-    → Ok value ≡ result_and done (Ok given) → OnOk done (P given) → P value
-done_with P (Ok x) given value same has = let h : given ≡ value = cc in subst P h has
-done_with P (Err e) given value same has = absurd (let h : ⊥ = cc in h)
+use Rattle.fb_half.proofs.DoneSteps.{done_with}
 
 pub and_ok : {T U E : Type 0} (P : U → Type 0) (done : Result T E) (value : U) → OnOk done (P value)
     → IfOk (result_and done (Ok value)) P

@@ -11,12 +11,13 @@ ghost use Rattle.fb_search.specs.InternalOutcomes.{HasCleared};
 
 use crate::ending::{forget_tree, match_tree};
 use crate::outcome::{Outcome, ended, going_on};
-use crate::pieces::{both, into_searching, into_work};
+use crate::pieces::{into_searching, into_work};
 use crate::scratch::Scratch;
 use crate::searching::{Pieces, Searching};
 use crate::walks::link_between;
 use crate::watched::watch_node;
 use fb_graph::{NoMemory, Scope};
+use fb_half::both::both;
 use fb_half::{Match, Work};
 use fb_regions::NodeId;
 use fb_trees::{CycleStep, LinkId};

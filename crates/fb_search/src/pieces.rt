@@ -38,14 +38,3 @@ pub(crate) fn into_work<'a>(
     let Pieces { parts, tree, watch } = pieces;
     Ok((Work::from_parts(parts), Scratch { watch, tree }))
 }
-
-/// Both values, if the first was made.
-pub(crate) fn both<A: Drop, B: Drop>(
-    made: Result<A, NoMemory>,
-    value: B,
-) -> Result<(A, B), NoMemory>
-    ensures { IfOk result (λ pair. (made ≡ Ok pair.0) × (value ≡ pair.1)) }
-{
-    let made = made?;
-    Ok((made, value))
-}

@@ -6,11 +6,11 @@ ghost use Rattle.fb_search.specs.Progress.{HasSearchedEach, IsSearched};
 
 use crate::near_ends::{match_near, near_in};
 use crate::outcome::Outcome;
-use crate::pieces::both;
 use crate::rounds::{Round, search_rounds};
 use crate::scratch::Scratch;
 use crate::searching::Searching;
 use fb_graph::{NoMemory, Steps};
+use fb_half::both::both;
 use fb_half::{Standing, Work};
 use fb_plan::NodeScope;
 use fb_regions::NodeId;

@@ -7,7 +7,7 @@ use Rattle.fb_half.specs.Values.{HasScope, part_of}
 use Rattle.fb_search.specs.InternalNear.{IsNear}
 use Rattle.fb_search.specs.InternalPieces.{AreSearched}
 use Rattle.fb_search.specs.Progress.{IsSearched}
-use Rattle.fb_search.proofs.DoneSteps.{done_with}
+use Rattle.fb_half.proofs.DoneSteps.{done_with}
 use Rattle.fb_search.proofs.near_ends.match_near.Goals as goal
 
 pub match_by-requires-clause-part : goal.match_by-requires-clause-part

@@ -1,7 +1,8 @@
 use Rattle.fb_half.specs.Values.{HasScope}
 use Rattle.fb_search.specs.declared.searching.Pieces.{Pieces}
 use Rattle.fb_search.specs.InternalSearching.{IsSearching, search_of}
-use Rattle.fb_search.proofs.DoneSteps.{done_same, done_with}
+use Rattle.fb_half.proofs.DoneSteps.{done_with}
+use Rattle.fb_search.proofs.DoneSteps.{done_same}
 use Rattle.fb_search.proofs.pieces.into_searching.Goals as goal
 
 pub invariant_of-result : goal.invariant_of-result

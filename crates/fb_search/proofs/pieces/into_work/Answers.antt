@@ -1,7 +1,8 @@
 use Rattle.fb_half.specs.Parts.{IsPart}
 use Rattle.fb_half.specs.Values.{HasScope, part_of}
 use Rattle.fb_search.specs.declared.searching.Pieces.{Pieces}
-use Rattle.fb_search.proofs.DoneSteps.{done_same, done_with}
+use Rattle.fb_half.proofs.DoneSteps.{done_with}
+use Rattle.fb_search.proofs.DoneSteps.{done_same}
 use Rattle.fb_search.proofs.pieces.into_work.Goals as goal
 
 pub from_parts-requires-clause-scope : goal.from_parts-requires-clause-scope
