@@ -137,7 +137,7 @@ impl<'a> Searching<'a> {
     {
         let (plus, other) = self.met_nodes(edge);
         match self.parts.matching.standing(other) {
-            Standing::Unmatched(_) => { ended(self.end_at_unmatched(alloc, edge, plus, other)) }
+            Standing::Unmatched(_) => ended(self.end_at_unmatched(alloc, edge, plus, other)),
             _ => self.meet_matched(alloc, edge, plus, other),
         }
     }
