@@ -117,6 +117,11 @@ pub ok_more : {A E : Type 0} (P Q : A → Type 0) (r : Result A E) → IfOk r P 
 ok_more P Q (Ok a) known more = more a known
 ok_more P Q (Err e) known more = tt
 
+-- the item of a part is that of its slot and node
+pub item_of_part : {E : Type 0} (j : JobValue) (s n : ℕ) (p : PartValue) (r : Result SolvedValue E) → IsPartOf j s n p → IfOk r (λ q. q ≡ item_of p)
+    → IfOk r (λ q. q ≡ item_at j s n)
+item_of_part j s n p r is known = ok_more (λ q. q ≡ item_of p) (λ q. q ≡ item_at j s n) r known (λ q e. e ∙ item_is j s n p is)
+
 -- a solved item is a piece at its place
 module _ (job : JobValue) where
   pub piece_at : (slot node : ℕ) → node < node_count job.plan
@@ -129,13 +134,6 @@ module _ (job : JobValue) where
   returns_piece slot node r less known =
       ok_more (λ q. q ≡ item_at job slot node) _ r known (λ q e. subst (IsPieceAt (λ (q : SolvedValue). q.job) (λ q. q.slot) (λ q. q.node) (λ q. None) job (place_of job slot node))
       (sym e) (piece_at slot node less))
-
-  pub returns_part : {E : Type 0} (from slot node : ℕ) (p : PartValue) (r : Result SolvedValue E) → from ≡ slot → node < node_count job.plan
-      → IsPartOf job from node p → IfOk r (λ q. q ≡ item_of p)
-      → IfOk r (IsPieceAt (λ (q : SolvedValue). q.job) (λ q. q.slot) (λ q. q.node) (λ q. None) job (place_of job slot node))
-  returns_part from slot node p r same less is known =
-      returns_piece slot node r less
-      (ok_more (λ q. q ≡ item_of p) (λ q. q ≡ item_at job slot node) r known (λ q e. e ∙ (item_is job from node p is ∙ ap (λ s. item_at job s node) same)))
 
   pub fusion_below : (node left right : ℕ) → children_of job.plan node ≡ Some (left, right) → node < node_count job.plan
   fusion_below node left right told = let (i, less, is, at) = fusion_of job.plan node left right told in omega (arith, less, is)

@@ -1,7 +1,8 @@
 //! All items of a job by workers side by side.
 
 ghost use Rattle.std.specs.Prelude.{◌≡◌, ◌+◌, ◌^◌, ◌<◌, ◌≤◌, length, vec_capacity, All, IfOk, OnOk, []};
-ghost use Rattle.fb_book.specs.Books.{AreRootPieces};
+ghost use Rattle.fb_book.specs.Board.{is_finished};
+ghost use Rattle.fb_book.specs.Books.{AreRootPieces, course_of};
 ghost use Rattle.fb_crew.specs.Crews.{IsCompleteOf};
 ghost use denote.Param.Send.{IsSync};
 
@@ -81,6 +82,24 @@ fn leave_seats<T: Drop, N: Board>(
     made
 }
 
+/// Does the items that are left once the workers have ended, as one more worker. Returns whether every item is done.
+fn do_rest<P: Piece, T, H: Hands<P, T>, G: Gate, N: Board>(
+    bench: &Bench<'_, H, G>,
+    book: &mut Book<P, N>,
+    worker: u32,
+    tools: &mut T,
+) -> Result<bool, NoMemory>
+    requires hands { H.job bench.now.hands.now ≡ N.job }
+    requires worker { worker ≤ N.workers }
+    ensures { IfOk result (λ done. done ≡ is_finished (course_of N.job book.new.0)) }
+{
+    if book.is_starved() {
+        return Err(NoMemory);
+    }
+    drain(bench, book, worker, tools)?;
+    Ok(book.is_done())
+}
+
 /// Does what is left of a job once its workers have ended, as one more worker. If items stay open all the same, does the
 /// whole job anew.
 fn complete<P: Piece, T, H: Hands<P, T>, G: Gate, N: Board>(
@@ -97,13 +116,10 @@ fn complete<P: Piece, T, H: Hands<P, T>, G: Gate, N: Board>(
     ensures history { IfOk result (λ w. IsCompleteOf N.job w.history.items) }
     ensures workers { IfOk result (λ w. All (λ e. e.worker ≤ N.workers) w.history.items) }
 {
-    if book.is_starved() {
-        return Err(NoMemory);
-    }
-    drain(bench, &mut book, workers, tools)?;
-    if book.is_done() {
+    if do_rest(bench, &mut book, workers, tools)? {
         return Ok(finish(book));
     }
+    drop(book);
     run_here::<P, T, H, G, N>(bench, job, workers, tools)
 }
 

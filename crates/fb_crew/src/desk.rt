@@ -41,10 +41,8 @@ impl<P: Piece, N: Board> Desk<P, N> {
         let mut locked = self.locked.lock(rt);
         for _ in rt.forever() {
             match locked.claim(seat) {
-                Claim::Unit(permit) => return Claim::Unit(permit),
-                Claim::Fusion(permit, left, right) => return Claim::Fusion(permit, left, right),
                 Claim::NotYet => locked = self.changed.wait(rt, locked),
-                Claim::Over => return Claim::Over,
+                claim => return claim,
             }
         }
         unreachable!()

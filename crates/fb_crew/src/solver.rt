@@ -52,12 +52,24 @@ impl<'a> Model for Solved<'a> {
 }
 
 impl<'a> Solved<'a> {
-    /// The solved item of this part: at the root the row of its shot, elsewhere the part.
+    /// The solved item of this part: at the root the row of its shot, elsewhere the part. The tools keep the room of the
+    /// root's.
     fn of(alloc: Global, tools: &mut Tools, half: Half<'a>) -> Result<Solved<'a>, NoMemory>
         ensures { IfOk result (λ s. s ≡ item_of half.entry) }
     {
         let (job, slot, node) = (half.job(), half.slot(), half.node());
-        let found = Found::of(alloc, tools, half)?;
+        if node != job.plan().root() {
+            let found = Found::Part(Box::new(alloc, half)?);
+            return Ok(Solved {
+                job,
+                slot,
+                node,
+                found,
+            });
+        }
+        let row = row_of(alloc, &half);
+        tools.keep_root(half);
+        let found = Found::Row(row?);
         Ok(Solved {
             job,
             slot,
@@ -77,11 +89,11 @@ impl<'a> Solved<'a> {
     }
 
     /// The part of a node below the root, solved now if it was deferred.
-    fn into_half(self, alloc: Global, tools: &mut Tools) -> Result<Half<'a>, NoMemory>
+    fn into_part(self, alloc: Global, tools: &mut Tools) -> Result<Box<Half<'a>, Global>, NoMemory>
         requires slot { self.slot < length self.job.shots }
         requires node { self.node < node_count self.job.plan }
         requires below { self.node ≢ root_of self.job.plan }
-        ensures { IfOk result (IsPartOf self.entry.job self.entry.slot self.entry.node) }
+        ensures { IfOk result (λ half. IsPartOf self.entry.job self.entry.slot self.entry.node half.value) }
     {
         let Solved {
             job,
@@ -91,9 +103,10 @@ impl<'a> Solved<'a> {
         } = self;
         match found {
             Found::Deferred(reach) => {
-                whole_by::<Brand>(alloc, job, tools, slot, node, reach, Blank::new(1))
+                let part = whole_by::<Brand>(alloc, job, tools, slot, node, reach, Blank::new(1))?;
+                Ok(Box::new(alloc, part)?)
             }
-            Found::Part(half) => Ok(Box::into_inner(half)),
+            Found::Part(half) => Ok(half),
             Found::Row(_) => unreachable!(),
         }
     }
@@ -111,18 +124,13 @@ impl<'a> Solved<'a> {
     }
 }
 
-impl<'a> Found<'a> {
-    /// What is kept of a solved part. The tools keep the room of the root's.
-    fn of(alloc: Global, tools: &mut Tools, half: Half<'a>) -> Result<Found<'a>, NoMemory>
-        ensures { IfOk result (IsFoundAt (item_of half.entry)) }
-    {
-        if half.node() == half.job().plan().root() {
-            let row = resolve(alloc, &half)?;
-            tools.keep_root(half);
-            return Ok(Found::Row(Box::new(alloc, row)?));
-        }
-        Ok(Found::Part(Box::new(alloc, half)?))
-    }
+/// The row of the shot of a solved root.
+fn row_of(alloc: Global, half: &Half<'_>) -> Result<Box<Row, Global>, NoMemory>
+    requires { half.now.node ≡ root_of half.now.job.plan }
+    ensures { IfOk result (λ row. IsShotRow half.now.job.graph (shot_at (item_of half.now)) row.value) }
+{
+    let row = resolve(alloc, half)?;
+    Ok(Box::new(alloc, row)?)
 }
 
 impl<'a> Piece for Solved<'a> {
@@ -191,6 +199,8 @@ impl Tools {
     {
         if self.spares.len() < MOST_SPARES {
             let _kept = self.spares.push(spare);
+        } else {
+            drop(spare);
         }
     }
 
@@ -270,10 +280,9 @@ impl<'a> Hands<Solved<'a>, Tools> for Solver<'a> {
             let reach = hull(children, self.job.plan().reach(node));
             return solved_within(alloc, self.job, tools, slot, node, reach);
         }
-        let left = left.into_half(alloc, tools)?;
-        let right = right.into_half(alloc, tools)?;
-        let half = fusion_by::<Brand>(alloc, self.job, tools, node, left, right, Blank::new(1))?;
-        Solved::of(alloc, tools, half)
+        let left = left.into_part(alloc, tools)?;
+        let right = right.into_part(alloc, tools)?;
+        fusion_by::<Brand>(alloc, self.job, tools, node, left, right, Blank::new(1))
     }
 }
 
@@ -327,39 +336,41 @@ fn whole_by<'a, L: Ledger>(
     requires reach { Covers job.now node reach }
     ensures { IfOk result (IsPartOf job.now slot node) }
 {
-    let spare = tools.spares.pop();
     let scratch = tools.lend(alloc, job.graph())?;
+    let spare = tools.spares.pop();
     let mut steps = Steps::<L>::new(blank);
     let (half, scratch) = solve_within(alloc, job, slot, node, reach, spare, scratch, &mut steps)?;
     tools.put_back(scratch, job.graph());
     Ok(half)
 }
 
-/// The solved part of a fusion. Its searches are counted, and the count is dropped.
+/// The solved item of a fusion. Its searches are counted, and the count is dropped.
 fn fusion_by<'a, L: Ledger>(
     alloc: Global,
     job: &'a Job<'a>,
     tools: &mut Tools,
     node: u32,
-    left: Half<'a>,
-    right: Half<'a>,
+    left: Box<Half<'a>, Global>,
+    right: Box<Half<'a>, Global>,
     blank: Blank,
-) -> Result<Half<'a>, NoMemory>
+) -> Result<Solved<'a>, NoMemory>
     requires name { blank.name ≡ L.name }
     requires parts { blank.parts ≡ L.parts }
     requires some { 0 < blank.parts }
-    requires left { left.job ≡ job.now }
-    requires right { right.job ≡ job.now }
-    requires slot { left.slot ≡ right.slot }
-    requires children { children_of job.now.plan node ≡ Some (left.node, right.node) }
-    ensures { IfOk result (IsPartOf job.now left.entry.slot node) }
+    requires left { left.value.job ≡ job.now }
+    requires right { right.value.job ≡ job.now }
+    requires slot { left.value.slot ≡ right.value.slot }
+    requires children { children_of job.now.plan node ≡ Some (left.value.node, right.value.node) }
+    ensures { IfOk result (λ s. s ≡ item_at job.now left.entry.value.slot node) }
 {
     let scratch = tools.lend(alloc, job.graph())?;
     let mut steps = Steps::<L>::new(blank);
+    let left = Box::into_inner(left);
+    let right = Box::into_inner(right);
     let (half, spare, scratch) = fuse_from(alloc, job, node, left, right, scratch, &mut steps)?;
     tools.put_back(scratch, job.graph());
     tools.keep(spare);
-    Ok(half)
+    Solved::of(alloc, tools, half)
 }
 
 /// Whether the shot of a part has at most `MOST_KEPT_DEFECTS` defects.
