@@ -1,6 +1,8 @@
 //! A run of more than 1,000 slots, each of one unit.
 
-ghost use Rattle.std.specs.Prelude.{◌≡◌, ◌+◌, ◌≤◌, length, All, None, IfOk, OnOk};
+ghost use Rattle.std.specs.Prelude.{◌≡◌, ◌+◌, ◌≤◌, true, length, All, None, IfOk, OnOk};
+ghost use Rattle.fb_book.specs.Board.{is_finished};
+ghost use Rattle.fb_book.specs.Books.{course_of};
 ghost use Rattle.fb_graph.specs.Components.{IsFirstOdd};
 ghost use Rattle.fb_graph.specs.Limits.{IsShot, problem_of};
 ghost use Rattle.fb_plan.specs.Plans.{IsPlan};
@@ -10,6 +12,7 @@ use fb_graph::{Components, Graph, NoMemory, Shot, Whole, components, first_odd};
 use fb_plan::{Job, Plan};
 use std::alloc::Global;
 use std::marker::Brand;
+use std::process::Abort;
 use std::test::Fail;
 
 const SLOTS: u32 = 1_001;
@@ -66,7 +69,7 @@ fn add_shot(
 }
 
 /// `count` shots without a defect.
-fn shots(alloc: Global, graph: &Graph, count: u32) -> Result<Vec<Shot>, NoMemory>
+pub fn shots(alloc: Global, graph: &Graph, count: u32) -> Result<Vec<Shot>, NoMemory>
     ensures count { IfOk result (λ v. length v.items ≤ count) }
     ensures shots { IfOk result (λ v. All (IsShot graph.now) v.items) }
     ensures even { IfOk result (λ v. All (λ shot. IsFirstOdd (problem_of graph.now shot) None) v.items) }
@@ -99,21 +102,30 @@ fn post<'a, N: Board>(
     }
 }
 
+/// Gives the unit of each slot.
+fn give_all<'a, N: Board>(book: &mut Book<Solved<'a>, N>, job: &'a Job<'a>) -> Result<(), Fail>
+    requires { N.job ≡ job.now }
+    ensures { OnOk result (is_finished (course_of N.job book.new.0) ≡ true) }
+{
+    for _ in 0..SLOTS {
+        let Claim::Unit(permit) = book.claim(0) else {
+            return Err(Fail::from("a unit is idle"));
+        };
+        post(book, job, permit)?;
+    }
+    if !book.is_done() {
+        return Err(Fail::from("every unit is given"));
+    }
+    Ok(())
+}
+
 /// The numbers of roots and of entries of a run by one worker.
 fn run<'a, N: Board>(alloc: Global, job: &'a Job<'a>) -> Result<(usize, usize), Fail>
     requires job { N.job ≡ job.now }
     requires workers { N.workers ≡ 1 }
 {
     let mut book: Book<Solved<'a>, N> = Book::new(alloc, job, 1)?;
-    for _ in 0..SLOTS {
-        let Claim::Unit(permit) = book.claim(0) else {
-            return Err(Fail::from("a unit is idle"));
-        };
-        post(&mut book, job, permit)?;
-    }
-    if !book.is_done() {
-        return Err(Fail::from("every unit is given"));
-    }
+    give_all(&mut book, job)?;
     let (roots, history) = book.take_roots();
     Ok((roots.len(), history.len()))
 }
@@ -127,10 +139,16 @@ fn run_slots(alloc: Global, graph: &Graph, plan: &Plan) -> Result<(usize, usize)
     run::<Brand>(alloc, &job)
 }
 
+fn counts_all<R: Abort>(rt: &R, alloc: Global, graph: &Graph, plan: &Plan) -> Result<(), Fail>
+    requires { IsPlan graph.now plan.now }
+{
+    assert_eq!(rt; run_slots(alloc, graph, plan)?, (1_001, 2_002));
+    Ok(())
+}
+
 #[test]
 fn has_a_slot_for_each_shot(rt: HostRuntime) -> Result<(), Fail> {
     let graph = Graph::build(rt.alloc(), 0, &[], &[])?;
     let plan = Plan::single(rt.alloc(), &graph)?;
-    assert_eq!(rt; run_slots(rt.alloc(), &graph, &plan)?, (1_001, 2_002));
-    Ok(())
+    counts_all(&rt, rt.alloc(), &graph, &plan)
 }

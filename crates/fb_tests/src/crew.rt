@@ -1,15 +1,19 @@
 //! A plan of two units and a fusion, done by hands whose pieces list the nodes that were made for them.
 
-ghost use Rattle.std.specs.Prelude.{◌≡◌, ◌≤◌, None, Some, IfOk};
+ghost use Rattle.std.specs.Prelude.{◌≡◌, ◌≤◌, ◌<◌, ◌^◌, All, None, Some, IfOk, length};
+ghost use Rattle.fb_graph.specs.Components.{IsFirstOdd};
+ghost use Rattle.fb_graph.specs.Limits.{IsShot, problem_of};
 ghost use Rattle.fb_plan.specs.Plans.{IsPlan};
 ghost use Rattle.fb_book.specs.Books.{IsPieceAt, place_of};
 
+use crate::board::shots;
 use fb_book::{Board, Book, Claim, MOST_WORKERS, Permit, Piece, order_of_nodes};
 use fb_crew::{Entry, Gate, Hands, Kind, OpenGate, Worked, work_all, work_here};
-use fb_graph::{Graph, NoMemory, Shot, components, first_odd};
+use fb_graph::{Graph, NoMemory, Shot};
 use fb_plan::{Job, Join, Plan};
 use std::alloc::Global;
 use std::marker::Brand;
+use std::process::Abort;
 use std::sync::atomic::{AtomicU64, Ordering};
 use std::sync::{Mutex, Wait};
 use std::test::Fail;
@@ -278,24 +282,24 @@ fn work_all_under_lock<'a, N: Board + Send + Sync, R: Threads + Wait + Sync>(
     Ok(())
 }
 
-/// A graph without vertices, and its plan of two units and a fusion.
+/// A graph without vertices, its plan of two units and a fusion, and one shot without a defect.
 #[derive(Drop)]
 struct Pair {
     graph: Graph,
     plan: Plan,
+    shots: Vec<Shot>,
     ghost fits: { IsPlan graph plan },
+    ghost few: { length shots.items < 2 ^ 32 },
+    ghost within: { All (IsShot graph) shots.items },
+    ghost even: { All (λ shot. IsFirstOdd (problem_of graph shot) None) shots.items },
 }
 
 impl Pair {
     fn new(alloc: Global) -> Result<Pair, Fail> {
         let graph = Graph::build(alloc, 0, &[], &[])?;
+        let shots = shots(alloc, &graph, 1)?;
         let plan = two_units(alloc, &graph)?;
-        Ok(Pair { graph, plan })
-    }
-
-    /// The job of one shot without a defect.
-    fn job(&self, alloc: Global) -> Result<Job<'_>, Fail> {
-        one_shot(alloc, &self.graph, &self.plan)
+        Ok(Pair { graph, plan, shots })
     }
 }
 
@@ -313,20 +317,6 @@ fn two_units(alloc: Global, graph: &Graph) -> Result<Plan, Fail>
         seam: Vec::new(alloc),
     })?;
     Ok(Plan::build(alloc, graph, &units, &fusions)?)
-}
-
-/// The job of one shot without a defect.
-fn one_shot<'a>(alloc: Global, graph: &'a Graph, plan: &'a Plan) -> Result<Job<'a>, Fail>
-    requires { IsPlan graph.now plan.now }
-{
-    let shot = Shot::from_rising(graph, Vec::new(alloc));
-    let mut parts = components(alloc, graph)?;
-    if first_odd(&mut parts, &shot).is_some() {
-        return Err(Fail::from("a shot without a defect has a correction"));
-    }
-    let mut shots = Vec::new(alloc);
-    shots.push(shot)?;
-    Ok(Job::new(graph, plan, shots))
 }
 
 /// Lists the nodes of the job by this number of workers, by way of the gate.
@@ -374,10 +364,17 @@ fn list_under_lock<R: Threads + Wait + Sync>(
 /// each once, and the history has who gave which.
 #[test]
 fn meets_at_the_gate(rt: HostRuntime) -> Result<(), Fail> {
-    let pair = Pair::new(rt.alloc())?;
-    let job = pair.job(rt.alloc())?;
+    let Pair { graph, plan, shots } = Pair::new(rt.alloc())?;
+    two_meet(&rt, rt.alloc(), &Job::new(&graph, &plan, shots))
+}
+
+fn two_meet<R: Abort + Threads + Wait + Sync>(
+    rt: &R,
+    alloc: Global,
+    job: &Job<'_>,
+) -> Result<(), Fail> {
     let gate = Meeting::new();
-    let worked = list_by(&rt, rt.alloc(), &Lister::new(&job), 2, &gate)?;
+    let worked = list_by(rt, alloc, &Lister::new(job), 2, &gate)?;
     assert!(rt; gate.has_met(), "the units are made one after the other");
     assert!(rt;
         lists_the_tree(&worked),
@@ -393,10 +390,17 @@ fn meets_at_the_gate(rt: HostRuntime) -> Result<(), Fail> {
 /// One worker alone meets nobody at the gate.
 #[test]
 fn meets_nobody_alone(rt: HostRuntime) -> Result<(), Fail> {
-    let pair = Pair::new(rt.alloc())?;
-    let job = pair.job(rt.alloc())?;
+    let Pair { graph, plan, shots } = Pair::new(rt.alloc())?;
+    one_meets_nobody(&rt, rt.alloc(), &Job::new(&graph, &plan, shots))
+}
+
+fn one_meets_nobody<R: Abort + Threads + Wait + Sync>(
+    rt: &R,
+    alloc: Global,
+    job: &Job<'_>,
+) -> Result<(), Fail> {
     let gate = Meeting::new();
-    let worked = list_by(&rt, rt.alloc(), &Lister::new(&job), 1, &gate)?;
+    let worked = list_by(rt, alloc, &Lister::new(job), 1, &gate)?;
     assert!(rt; !gate.has_met(), "one worker met another");
     assert!(rt;
         lists_the_tree(&worked),
@@ -408,10 +412,17 @@ fn meets_nobody_alone(rt: HostRuntime) -> Result<(), Fail> {
 /// Two workers that hold the lock from the claim to the post don't meet at the gate.
 #[test]
 fn meets_nobody_under_a_lock(rt: HostRuntime) -> Result<(), Fail> {
-    let pair = Pair::new(rt.alloc())?;
-    let job = pair.job(rt.alloc())?;
+    let Pair { graph, plan, shots } = Pair::new(rt.alloc())?;
+    locked_meet_nobody(&rt, rt.alloc(), &Job::new(&graph, &plan, shots))
+}
+
+fn locked_meet_nobody<R: Abort + Threads + Wait + Sync>(
+    rt: &R,
+    alloc: Global,
+    job: &Job<'_>,
+) -> Result<(), Fail> {
     let gate = Meeting::new();
-    list_under_lock(&rt, rt.alloc(), &job, &gate)?;
+    list_under_lock(rt, alloc, job, &gate)?;
     assert!(rt; !gate.has_met(), "two workers under one lock met");
     assert!(rt;
         gate.passed.load(Ordering::SeqCst) == 3,
@@ -423,8 +434,8 @@ fn meets_nobody_under_a_lock(rt: HostRuntime) -> Result<(), Fail> {
 /// If one worker has no memory for a unit, the fusion above it is never asked for.
 #[test]
 fn runs_out_of_memory(rt: HostRuntime) -> Result<(), Fail> {
-    let pair = Pair::new(rt.alloc())?;
-    let job = pair.job(rt.alloc())?;
+    let Pair { graph, plan, shots } = Pair::new(rt.alloc())?;
+    let job = Job::new(&graph, &plan, shots);
     let hands = Lister {
         without: Some(1),
         ..Lister::new(&job)
@@ -441,10 +452,13 @@ fn runs_out_of_memory(rt: HostRuntime) -> Result<(), Fail> {
 /// The calling thread does each item once.
 #[test]
 fn works_here(rt: HostRuntime) -> Result<(), Fail> {
-    let pair = Pair::new(rt.alloc())?;
-    let job = pair.job(rt.alloc())?;
+    let Pair { graph, plan, shots } = Pair::new(rt.alloc())?;
+    does_each_once(&rt, rt.alloc(), &Job::new(&graph, &plan, shots))
+}
+
+fn does_each_once<R: Abort>(rt: &R, alloc: Global, job: &Job<'_>) -> Result<(), Fail> {
     let mut items = 0;
-    let finished = work_here(rt.alloc(), &job, &Lister::new(&job), &mut items)?;
+    let finished = work_here(alloc, job, &Lister::new(job), &mut items)?;
     assert!(rt; finished.roots.len() == 1 && items == 3);
     Ok(())
 }
