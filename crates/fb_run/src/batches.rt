@@ -95,19 +95,19 @@ pub fn decode_file<F: Files, O: Sink, G: Gate, R: Threads + Wait + Sync>(
     alloc: Global,
     request: &Decoding<'_>,
     graph: &Graph,
-    crew: Crew<'_>,
+    crew: &mut Crew<'_>,
     files: &mut F,
     out: &mut O,
     gate: &G,
 ) -> Result<Decoded, RowsFault>
-    requires graph { crew.graph ≡ graph.now }
-    requires workers { crew.workers ≡ request.now.workers }
+    requires graph { crew.old.graph ≡ graph.now }
+    requires workers { crew.old.workers ≡ request.now.workers }
     requires some { 1 ≤ request.now.window }
     requires few { request.now.window ≤ MOST_AT_ONCE }
     ensures all { IfOk result (λ d. WritesBatches (λ shots. GathersFrom (F.left files.old) request.now.format graph.now (F.left files.new) shots d.end)
-        (plain_decoding request.now) graph.now crew.entry.plan (O.taken out.old) (O.taken out.new) d.tally) }
+        (plain_decoding request.now) graph.now crew.old.plan (O.taken out.old) (O.taken out.new) d.tally) }
     ensures first { OnErr result (WritesFirstBatches (FirstFrom (F.left files.old) request.now.format graph.now)
-        (plain_decoding request.now) graph.now crew.entry.plan (O.taken out.old) (O.taken out.new)) }
+        (plain_decoding request.now) graph.now crew.old.plan (O.taken out.old) (O.taken out.new)) }
     ensures few { IfOk result (λ d. d.tally.best + d.tally.odd < 2 ^ 32) }
     ensures at_end { IfOk result (λ d. d.end ≡ ShotsEnd.End → IsReadOut (F.left files.old) (F.left files.new)) }
     ensures asks { F.asked files.new ≡ F.asked files.old }
@@ -118,16 +118,15 @@ pub fn decode_file<F: Files, O: Sink, G: Gate, R: Threads + Wait + Sync>(
     ensures write_never_falls { O.faults out.old ≤ O.faults out.new }
     ensures write_unchanged { result ≢ Err RowsFault.WriteFault → O.faults out.new ≡ O.faults out.old }
 {
-    let Ok(stream) = ShotStream::new(alloc, request.format, graph, MOST_SHOTS) else {
+    let Ok(mut stream) = ShotStream::new(alloc, request.format, graph, MOST_SHOTS) else {
         return Err(RowsFault::NoMemory);
     };
-    let (mut crew, mut stream) = (crew, stream);
     let mut outbox = Outbox::new(alloc);
     decode_stream(
         rt,
         alloc,
         request,
-        &mut crew,
+        crew,
         files,
         &mut stream,
         &mut outbox,

@@ -94,8 +94,8 @@ fn decode_on<F: Files, O: Sink, G: Gate, R: Threads + Wait + Sync>(
     }
 }
 
-/// Decodes the shots of the file that is named, for a graph and a plan of it: the head is written, the shots are read, and
-/// their rows are written.
+/// Decodes the shots of the file that is named, for a graph and a plan of it, by a crew for these: the head is written, the
+/// shots are read, and their rows are written.
 fn decode_by<F: Files, O: Sink, G: Gate, R: Threads + Wait + Sync>(
     rt: &R,
     alloc: Global,
@@ -121,9 +121,39 @@ fn decode_by<F: Files, O: Sink, G: Gate, R: Threads + Wait + Sync>(
     ensures write_never_falls { O.faults out.old ≤ O.faults out.new }
     ensures write_unchanged { result ≢ Cause.WriteFault → O.faults out.new ≡ O.faults out.old }
 {
-    let Ok(crew) = Crew::new(alloc, graph, plan, request.workers) else {
+    let Ok(mut crew) = Crew::new(alloc, graph, plan, request.workers) else {
         return Cause::NoMemory;
     };
+    decode_with(rt, alloc, request, graph, plan, &mut crew, files, out, gate)
+}
+
+/// Decodes the shots of the file that is named by a crew for a graph and a plan of it: the head is written, the shots are
+/// read, and their rows are written.
+fn decode_with<F: Files, O: Sink, G: Gate, R: Threads + Wait + Sync>(
+    rt: &R,
+    alloc: Global,
+    request: &Decoding<'_>,
+    graph: &Graph,
+    plan: &Plan,
+    crew: &mut Crew<'_>,
+    files: &mut F,
+    out: &mut O,
+    gate: &G,
+) -> Cause
+    requires crew { crew.old ≡ record { graph = graph.now; plan = plan.now; workers = request.now.workers } }
+    requires room { HasRoom (F.asked files.old) 16 }
+    requires window { IsWithin windows request.now.window }
+    ensures ends { EndsOn (plain_decoding request.now) graph.now plan.now
+        (moment (F.named files.old) (F.left files.old) (F.asked files.old) (F.faults files.old) (O.taken out.old))
+        (moment (F.named files.new) (F.left files.new) (F.asked files.new) (F.faults files.new) (O.taken out.new)) result }
+    ensures at_end { IsReadToItsEnd result → IsReadOutIfNamed (F.named files.old) (F.left files.new) }
+    ensures read_fault { result ≡ Cause.ReadFault → Rose (F.faults files.old) (F.faults files.new) }
+    ensures read_never_falls { F.faults files.old ≤ F.faults files.new }
+    ensures read_reported { F.faults files.old < F.faults files.new → MayFollowReadFault result }
+    ensures write_fault { result ≡ Cause.WriteFault → Rose (O.faults out.old) (O.faults out.new) }
+    ensures write_never_falls { O.faults out.old ≤ O.faults out.new }
+    ensures write_unchanged { result ≢ Cause.WriteFault → O.faults out.new ≡ O.faults out.old }
+{
     let Ok(()) = write_head(out) else {
         return Cause::WriteFault;
     };

@@ -1,8 +1,10 @@
 //! The command `sample`.
 
-ghost use Rattle.std.specs.Prelude.{◌≡◌, ◌≢◌, ◌+◌, ◌*◌, ◌^◌, ◌<◌, ◌≤◌, length, All, IfOk, OnOk};
+ghost use Rattle.std.specs.Prelude.{◌≡◌, ◌≢◌, ◌+◌, ◌*◌, ◌^◌, ◌<◌, ◌≤◌, length, All, IfOk, OnOk, Ok};
 ghost use Rattle.fb_book.specs.declared.limits.TheConstants.{MOST_AT_ONCE};
 ghost use Rattle.fb_gen.specs.Drawing.{state_after};
+ghost use Rattle.fb_gen.specs.Lattice.{lattice_of};
+ghost use Rattle.fb_gen.specs.TimePlan.{time_plan_of};
 ghost use Rattle.fb_graph.specs.Limits.{IsShot, most_vertices};
 ghost use Rattle.fb_plan.specs.Plans.{IsPlan};
 ghost use Rattle.fb_ports.specs.Causes.{Rose};
@@ -40,24 +42,64 @@ pub fn sample<O: Sink, G: Gate, R: Threads + Wait + Sync>(
     ensures write_never_falls { O.faults out.old ≤ O.faults out.new }
     ensures write_unchanged { result ≢ Cause.WriteFault → O.faults out.new ≡ O.faults out.old }
 {
-    let graph = match lattice(alloc, request.distance, request.rounds) {
-        Ok(graph) => graph,
-        Err(fault) => return cause_of_sample(fault),
-    };
-    let plan = match time_plan(
+    match lattice(alloc, request.distance, request.rounds) {
+        Ok(graph) => sample_lattice(rt, alloc, request, &graph, out, gate),
+        Err(fault) => cause_of_sample(fault),
+    }
+}
+
+/// Draws the shots of a sample on its lattice, decodes them by a plan by time, and writes their sums.
+fn sample_lattice<O: Sink, G: Gate, R: Threads + Wait + Sync>(
+    rt: &R,
+    alloc: Global,
+    request: &Sampling,
+    graph: &Graph,
+    out: &mut O,
+    gate: &G,
+) -> Cause
+    requires ranges { IsSampleInRanges (plain_sampling request.now) }
+    requires lattice { lattice_of request.now.distance request.now.rounds ≡ Ok graph.now }
+    ensures ends { SampleEnds (plain_sampling request.now) (O.taken out.old) (O.taken out.new) result }
+    ensures write_fault { result ≡ Cause.WriteFault → Rose (O.faults out.old) (O.faults out.new) }
+    ensures write_never_falls { O.faults out.old ≤ O.faults out.new }
+    ensures write_unchanged { result ≢ Cause.WriteFault → O.faults out.new ≡ O.faults out.old }
+{
+    let plan = time_plan(
         alloc,
-        &graph,
+        graph,
         request.distance,
         request.rounds,
         request.units,
-    ) {
-        Ok(plan) => plan,
-        Err(fault) => return cause_of_sample(fault),
-    };
-    let Ok(sums) = sample_on(rt, alloc, request, &graph, &plan, gate) else {
+    );
+    match plan {
+        Ok(plan) => sample_by(rt, alloc, request, graph, &plan, out, gate),
+        Err(fault) => cause_of_sample(fault),
+    }
+}
+
+/// Draws the shots of a sample on its lattice, decodes them by its plan, and writes their sums.
+fn sample_by<O: Sink, G: Gate, R: Threads + Wait + Sync>(
+    rt: &R,
+    alloc: Global,
+    request: &Sampling,
+    graph: &Graph,
+    plan: &Plan,
+    out: &mut O,
+    gate: &G,
+) -> Cause
+    requires ranges { IsSampleInRanges (plain_sampling request.now) }
+    requires lattice { lattice_of request.now.distance request.now.rounds ≡ Ok graph.now }
+    requires by_time { time_plan_of request.now.distance request.now.rounds request.now.units ≡ Ok plan.now }
+    requires plan { IsPlan graph.now plan.now }
+    ensures ends { SampleEnds (plain_sampling request.now) (O.taken out.old) (O.taken out.new) result }
+    ensures write_fault { result ≡ Cause.WriteFault → Rose (O.faults out.old) (O.faults out.new) }
+    ensures write_never_falls { O.faults out.old ≤ O.faults out.new }
+    ensures write_unchanged { result ≢ Cause.WriteFault → O.faults out.new ≡ O.faults out.old }
+{
+    let Ok(sums) = sample_on(rt, alloc, request, graph, plan, gate) else {
         return Cause::NoMemory;
     };
-    match write_sample(alloc, request, &plan, sums, out) {
+    match write_sample(alloc, request, plan, sums, out) {
         Ok(()) => Cause::Done,
         Err(RowsFault::WriteFault) => Cause::WriteFault,
         Err(RowsFault::NoMemory) => Cause::NoMemory,

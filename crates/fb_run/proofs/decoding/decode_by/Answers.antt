@@ -1,83 +1,9 @@
-use Rattle.std.proofs.Common.{[], inl, inr, refl, sym, append-nil}
+use Rattle.std.proofs.Common.{[], inl, inr, refl}
 use Rattle.std.proofs.KnownBytes.{Appends-nil}
 use Rattle.fb_report.specs.Texts.{head_text}
-use Rattle.fb_words.specs.PlainRequests.{plain_decoding}
-use Rattle.fb_inputs.proofs.Inputs.{asks_kept, asks_one, asks_same}
-use Rattle.fb_inputs.proofs.Gathered.{is_opened, is_unopened, read_out_opened}
-use Rattle.fb_run.proofs.Finishing.{ends_on, prefix_of_batches, report_to_end}
-use Rattle.fb_inputs.specs.InternalGathers.{IsOpened}
+use Rattle.fb_inputs.proofs.Inputs.{asks_same}
 use Rattle.fb_run.proofs.decoding.decode_by.Goals as goal
-use Rattle.fb_run.proofs.decoding.decode_by.Goals.{In-Ok-open_file}
 
 pub returns-in_default-clause-ends : goal.returns-in_default-clause-ends
 returns-in_default-clause-ends g c =
     inl (record { asks = asks_same _ _ refl; unfailing = refl; written = ([], head_text, refl, Appends-nil _); ends = inr refl })
-
-pub returns-in_default-write_head-clause-ends : goal.returns-in_default-write_head-clause-ends
-returns-in_default-write_head-clause-ends g c =
-    inl (record { asks = asks_same _ _ refl; unfailing = refl; written = c.in_default-write_head.ensures.prefix; ends = inl refl })
-
-pub returns-in_default-from_str-clause-ends : goal.returns-in_default-from_str-clause-ends
-returns-in_default-from_str-clause-ends g c =
-    inl (record {
-      asks = asks_same _ _ refl;
-      unfailing = refl;
-      written = (head_text, [], sym (append-nil head_text), c.in-Ok-write_head.ensures.all);
-      ends = inr refl;
-    })
-
-pub returns-in_default-open_file-clause-ends : goal.returns-in_default-open_file-clause-ends
-returns-in_default-open_file-clause-ends g c =
-    inr (
-      asks_one (g.F.Files.asked c.args.files.now) (g.F.Files.asked c.open_file.new.self) c.args.request.now.shots.now (rw c.in-Ok-from_str.ensures.ok at c.open_file.ensures.asks),
-      inl (
-        is_unopened (g.F.Files.named c.args.files.now) c.args.request.now.shots.now (g.F.Files.left c.open_file.new.self) _ refl
-            (rw c.in-Ok-from_str.ensures.ok at c.in_default-open_file.ensures.opens),
-        c.in-Ok-write_head.ensures.all,
-      ),
-    )
-
--- the file of the shots is open
-opened_at : (g : _) (c : In-Ok-open_file g) → IsOpened (g.F.Files.named c.args.files.now) c.args.request.now.shots.now (g.F.Files.left c.open_file.new.self)
-opened_at g c = is_opened (g.F.Files.named c.args.files.now) c.args.request.now.shots.now (g.F.Files.left c.open_file.new.self) _ refl
-    (rw c.in-Ok-from_str.ensures.ok at c.in-Ok-open_file.ensures.opens)
-
-pub returns-in-Ok-decode_file-clause-ends : goal.returns-in-Ok-decode_file-clause-ends
-returns-in-Ok-decode_file-clause-ends g c =
-    inr (
-      asks_kept (g.F.Files.asked c.args.files.now) (g.F.Files.asked c.open_file.new.self) (g.F.Files.asked c.decode_file.new.files) c.args.request.now.shots.now
-          (rw c.in-Ok-from_str.ensures.ok at c.open_file.ensures.asks) c.decode_file.ensures.asks,
-      ends_on (g.F.Files.named c.args.files.now) (plain_decoding c.args.request.now) c.args.graph.now c.args.plan.now (g.F.Files.left c.open_file.new.self)
-          (g.F.Files.left c.decode_file.new.files) (g.O.Sink.taken c.args.out.now) (g.O.Sink.taken c.write_head.new.sink)
-          (g.O.Sink.taken c.decode_file.new.out) (g.O.Sink.taken c.end_report.new.out) c.in-Ok-decode_file.decoded.end c.in-Ok-decode_file.decoded.tally
-          c.end_report.result (opened_at g (goal.at.returns-in-Ok-decode_file-clause-ends g c).In-Ok-open_file) c.in-Ok-write_head.ensures.all
-          (rw c.in-Ok.ensures at c.in-Ok-decode_file.ensures.all) c.end_report.ensures.end,
-    )
-
-pub returns-in-Ok-decode_file-clause-at_end : goal.returns-in-Ok-decode_file-clause-at_end
-returns-in-Ok-decode_file-clause-at_end g c reads =
-    read_out_opened (g.F.Files.named c.args.files.now) c.args.request.now.shots.now (g.F.Files.left c.open_file.new.self) (g.F.Files.left c.decode_file.new.files)
-    (opened_at g (goal.at.returns-in-Ok-decode_file-clause-at_end g c).In-Ok-open_file)
-    (c.in-Ok-decode_file.ensures.at_end (report_to_end c.args.plan.now c.in-Ok-decode_file.decoded.end _ _ _ _ _ c.end_report.ensures.end reads))
-
-pub returns-in-Err-WriteFault-clause-ends : goal.returns-in-Err-WriteFault-clause-ends
-returns-in-Err-WriteFault-clause-ends g c =
-    inr (
-      asks_kept (g.F.Files.asked c.args.files.now) (g.F.Files.asked c.open_file.new.self) (g.F.Files.asked c.decode_file.new.files) c.args.request.now.shots.now
-          (rw c.in-Ok-from_str.ensures.ok at c.open_file.ensures.asks) c.decode_file.ensures.asks,
-      prefix_of_batches (g.F.Files.named c.args.files.now) (plain_decoding c.args.request.now) c.args.graph.now c.args.plan.now (g.F.Files.left c.open_file.new.self)
-          (g.O.Sink.taken c.args.out.now) (g.O.Sink.taken c.write_head.new.sink) (g.O.Sink.taken c.decode_file.new.out)
-          (opened_at g (goal.at.returns-in-Err-WriteFault-clause-ends g c).In-Ok-open_file) c.in-Ok-write_head.ensures.all
-          (rw c.in-Ok.ensures at c.in-Err-WriteFault.ensures.first),
-    )
-
-pub returns-in-Err-NoMemory-clause-ends : goal.returns-in-Err-NoMemory-clause-ends
-returns-in-Err-NoMemory-clause-ends g c =
-    inr (
-      asks_kept (g.F.Files.asked c.args.files.now) (g.F.Files.asked c.open_file.new.self) (g.F.Files.asked c.decode_file.new.files) c.args.request.now.shots.now
-          (rw c.in-Ok-from_str.ensures.ok at c.open_file.ensures.asks) c.decode_file.ensures.asks,
-      prefix_of_batches (g.F.Files.named c.args.files.now) (plain_decoding c.args.request.now) c.args.graph.now c.args.plan.now (g.F.Files.left c.open_file.new.self)
-          (g.O.Sink.taken c.args.out.now) (g.O.Sink.taken c.write_head.new.sink) (g.O.Sink.taken c.decode_file.new.out)
-          (opened_at g (goal.at.returns-in-Err-NoMemory-clause-ends g c).In-Ok-open_file) c.in-Ok-write_head.ensures.all
-          (rw c.in-Ok.ensures at c.in-Err-NoMemory.ensures.first),
-    )
