@@ -17,16 +17,21 @@ fn wrap(alloc: Global, fixture: &mut Fixture, last: u32) -> Result<u32, Refused>
     Ok(first)
 }
 
-#[test]
-fn a_path_goes_through_many_levels(rt: HostRuntime) -> Result<(), Fail> {
-    let alloc = rt.alloc();
-    let mut fixture = Fixture::new(alloc)?;
+/// The length of the path in the outermost of `LEVELS` blossoms, each of which lies in the next: from the first leaf of the
+/// outermost one to the leaf that lies in all.
+fn length_of_path(alloc: Global, fixture: &mut Fixture) -> Result<usize, Refused> {
     let deepest = fixture.leaf(alloc)?;
     let mut last = deepest;
     for _ in 0..LEVELS {
-        last = wrap(alloc, &mut fixture, last)?;
+        last = wrap(alloc, fixture, last)?;
     }
+    Ok(fixture.path(alloc, last, deepest)?.len())
+}
+
+#[test]
+fn a_path_goes_through_many_levels(rt: HostRuntime) -> Result<(), Fail> {
+    let mut fixture = Fixture::new(rt.alloc())?;
     // At each level from the first leaf over the second one to the node inside.
-    assert_eq!(rt; fixture.path(alloc, last, deepest)?.len(), 40_000);
+    assert_eq!(rt; length_of_path(rt.alloc(), &mut fixture)?, 40_000);
     Ok(())
 }

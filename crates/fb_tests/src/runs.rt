@@ -5,6 +5,7 @@ ghost use Rattle.std.specs.Prelude.{◌≡◌, [], IfOk};
 use fb_ports::{MemFiles, MemSink, NoMemory};
 use fb_run::{Cause, OpenGate, run};
 use std::alloc::Global;
+use std::process::Abort;
 use std::sync::Wait;
 use std::test::Fail;
 use std::thread::Threads;
@@ -28,19 +29,25 @@ struct Outside {
     err: MemSink,
 }
 
+/// The graph and these shots as files.
+fn two_files(alloc: Global, shots: &str) -> Result<MemFiles, NoMemory>
+    ensures { IfOk result (λ files. files.asked ≡ []) }
+{
+    let mut files = MemFiles::new(alloc)?;
+    files.add(alloc, "g", GRAPH.as_bytes())?;
+    files.add(alloc, "s", shots.as_bytes())?;
+    Ok(files)
+}
+
 impl Outside {
-    /// The graph and these shots.
+    /// The graph and these shots as files, and two sinks that have taken nothing.
     fn new(alloc: Global, shots: &str) -> Result<Outside, NoMemory>
         ensures { IfOk result (λ o. o.files.asked ≡ []) }
     {
-        let mut files = MemFiles::new(alloc)?;
-        files.add(alloc, "g", GRAPH.as_bytes())?;
-        files.add(alloc, "s", shots.as_bytes())?;
-        Ok(Outside {
-            files,
-            out: MemSink::new(alloc, 1024)?,
-            err: MemSink::new(alloc, 1024)?,
-        })
+        let out = MemSink::new(alloc, 1024)?;
+        let err = MemSink::new(alloc, 1024)?;
+        let files = two_files(alloc, shots)?;
+        Ok(Outside { files, out, err })
     }
 
     fn run<R: Threads + Wait + Sync>(
@@ -73,12 +80,23 @@ impl Outside {
     }
 }
 
+/// Asserts that a decode of one shot, read and written in single bytes, reports it.
+fn runs_in_single_bytes<R: Abort + Threads + Wait + Sync>(
+    rt: &R,
+    alloc: Global,
+    outside: &mut Outside,
+) -> Result<(), Fail>
+    requires { outside.old.files.asked ≡ [] }
+{
+    outside.files.give_at_most(1);
+    outside.out.take_at_most(1);
+    assert_eq!(rt; outside.run(rt, alloc, &DECODE)?, Cause::Done);
+    assert!(rt; outside.holds(REPORT_OF_100, ""));
+    Ok(())
+}
+
 #[test]
 fn files_and_output_in_single_bytes(rt: HostRuntime) -> Result<(), Fail> {
     let mut outside = Outside::new(rt.alloc(), "100\n")?;
-    outside.files.give_at_most(1);
-    outside.out.take_at_most(1);
-    assert_eq!(rt; outside.run(&rt, rt.alloc(), &DECODE)?, Cause::Done);
-    assert!(rt; outside.holds(REPORT_OF_100, ""));
-    Ok(())
+    runs_in_single_bytes(&rt, rt.alloc(), &mut outside)
 }

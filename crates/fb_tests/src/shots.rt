@@ -4,6 +4,7 @@ use fb_graph::Graph;
 use fb_ports::{Files, MemFiles};
 use fb_shots::{Format, Kind, NoMemory, ShotFault, ShotStream, Step};
 use std::alloc::Global;
+use std::process::Abort;
 use std::test::Fail;
 
 /// A line of five vertices, of which 0 and 4 are virtual.
@@ -50,12 +51,22 @@ fn gives_two_shots(stream: &mut ShotStream<'_>, files: &mut MemFiles) -> bool {
         && is_refusal(&stream.next_shot(files), refusal)
 }
 
+/// Asserts that two of the three shots are given, although a read fails between them.
+fn goes_on<R: Abort>(
+    rt: &R,
+    alloc: Global,
+    graph: &Graph,
+    files: &mut MemFiles,
+) -> Result<(), Fail> {
+    let mut stream = ShotStream::new(alloc, Format::Text01, graph, 2)?;
+    assert!(rt; gives_two_shots(&mut stream, files));
+    Ok(())
+}
+
 /// A read fails between two shots; of three shots two are given.
 #[test]
 fn goes_on_after_a_failed_read_and_ends_at_its_limit(rt: HostRuntime) -> Result<(), Fail> {
     let graph = line(rt.alloc())?;
     let mut files = three_shots(rt.alloc())?;
-    let mut stream = ShotStream::new(rt.alloc(), Format::Text01, &graph, 2)?;
-    assert!(rt; gives_two_shots(&mut stream, &mut files));
-    Ok(())
+    goes_on(&rt, rt.alloc(), &graph, &mut files)
 }

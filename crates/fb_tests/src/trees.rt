@@ -6,6 +6,7 @@ ghost use Rattle.fb_tests.specs.InternalSamples.{three_branches};
 
 use fb_trees::{CycleStep, LinkId, Links, NoMemory, NodeId, Tree};
 use std::alloc::Global;
+use std::process::Abort;
 use std::test::Fail;
 
 fn step(node: NodeId, link: LinkId) -> CycleStep
@@ -60,21 +61,25 @@ fn finds_the_cycle(alloc: Global, tree: &Tree, links: &Links) -> Result<bool, No
     )
 }
 
+/// Asserts that the path, the branches and the cycle of a tree of three branches are found.
+fn finds_all<R: Abort>(rt: &R, alloc: Global, tree: &Tree, links: &Links) -> Result<(), Fail>
+    requires { tree.now ≡ three_branches }
+{
+    assert!(rt;
+        finds_the_path(alloc, tree)?,
+        "the path to the root is another"
+    );
+    assert!(rt; finds_the_branches(alloc, tree)?, "the branches are others");
+    assert!(rt;
+        finds_the_cycle(alloc, tree, links)?,
+        "the cycle is another"
+    );
+    Ok(())
+}
+
 #[test]
 fn finds_paths_and_cycles(rt: HostRuntime) -> Result<(), Fail> {
     let links = Links::new(rt.alloc())?;
     let tree = three_branches(rt.alloc(), &links)?;
-    assert!(rt;
-        finds_the_path(rt.alloc(), &tree)?,
-        "the path to the root is another"
-    );
-    assert!(rt;
-        finds_the_branches(rt.alloc(), &tree)?,
-        "the branches are others"
-    );
-    assert!(rt;
-        finds_the_cycle(rt.alloc(), &tree, &links)?,
-        "the cycle is another"
-    );
-    Ok(())
+    finds_all(&rt, rt.alloc(), &tree, &links)
 }
