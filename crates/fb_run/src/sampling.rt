@@ -132,6 +132,22 @@ fn sample_on<G: Gate, R: Threads + Wait + Sync>(
     ensures { IfOk result (λ sums. HaveSums graph.now request.now.rate request.now.start request.now.shots sums.defects sums.weight) }
 {
     let mut crew = Crew::new(alloc, graph, plan, request.workers)?;
+    sample_with(rt, alloc, request, graph, &mut crew, gate)
+}
+
+/// Draws the shots on the graph and decodes them by a crew for it, a window at a time.
+fn sample_with<G: Gate, R: Threads + Wait + Sync>(
+    rt: &R,
+    alloc: Global,
+    request: &Sampling,
+    graph: &Graph,
+    crew: &mut Crew<'_>,
+    gate: &G,
+) -> Result<Sums, NoMemory>
+    requires crew { crew.old.graph ≡ graph.now }
+    requires ranges { IsSampleInRanges (plain_sampling request.now) }
+    ensures { IfOk result (λ sums. HaveSums graph.now request.now.rate request.now.start request.now.shots sums.defects sums.weight) }
+{
     let mut draws = Draws::new(request.start);
     let mut sums = Sums {
         defects: 0,

@@ -4,11 +4,11 @@ use Rattle.fb_crew.specs.Windows.{AreRows, IsShotRow}
 use Rattle.fb_graph.specs.Limits.{IsShot}
 use Rattle.fb_run.specs.Samples.{defects_in, weights_in}
 use Rattle.fb_run.proofs.Sampled.{more_sums, state_of_more}
-use Rattle.fb_run.proofs.sampling.sample_on.Goals as goal
+use Rattle.fb_run.proofs.sampling.sample_with.Goals as goal
 
 pub decode_window-requires-clause-shots : goal.decode_window-requires-clause-shots
 decode_window-requires-clause-shots g c κs within =
-    let graph = ap (λ crew. crew.graph) (c.loop-drawn.invariant.crew ∙ c.in_ok-crew.ensures) in
+    let graph = ap (λ crew. crew.graph) c.loop-drawn.invariant.crew ∙ c.requires.crew in
     let all : All (IsShot c.loop-drawn.crew.graph) c.as_slice.result.now = rw (graph, c.as_slice.ensures.value) c.in_ok-shots.ensures.each in
     all
 
@@ -31,7 +31,7 @@ loop-drawn-preserved g c =
     let count = c.min-count.result in
     let shots = c.in_ok-shots.shots.items in
     let rows = c.in_ok-window.window.rows.items in
-    let graph = ap (λ crew. crew.graph) (c.loop-drawn.invariant.crew ∙ c.in_ok-crew.ensures) in
+    let graph = ap (λ crew. crew.graph) c.loop-drawn.invariant.crew ∙ c.requires.crew in
     let decoded : AreRows c.args.graph.now shots rows = rw (sym graph, sym c.as_slice.ensures.value) c.in_ok-window.ensures.rows in
     let as_many = AllZip-long (IsShotRow c.args.graph.now) shots rows decoded in record {
       sums = more_sums c.args.graph.now c.args.request.now.rate start c.loop-drawn.draws drawn count c.loop-drawn.sums.defects

@@ -2,7 +2,7 @@ use Rattle.fb_graph.specs.Limits.{most_vertices}
 use Rattle.std.proofs.Common.{◌≡◌, ◌*◌, ◌-◌, ◌^◌, ◌≤◌, length}
 use Rattle.fb_gen.specs.Drawing.{state_after}
 use Rattle.fb_run.specs.Samples.{HaveSums}
-use Rattle.fb_run.proofs.sampling.sample_on.Given as goal
+use Rattle.fb_run.proofs.sampling.sample_with.Given as goal
 
 abbrev pub invariant-loop-drawn : goal.invariant-loop-drawn
 invariant-loop-drawn g l = record {
