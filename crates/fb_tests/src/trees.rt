@@ -26,12 +26,27 @@ fn three_branches(alloc: Global, links: &Links) -> Result<Tree, NoMemory>
     Ok(tree)
 }
 
+/// Whether the steps lead over these nodes and links.
+fn are_alike(steps: &[CycleStep], wanted: &[CycleStep]) -> bool {
+    let mut others = wanted.iter();
+    for step in steps {
+        match others.next() {
+            Some(other) if other.node == step.node && other.link == step.link => {}
+            _ => return false,
+        }
+    }
+    others.next().is_none()
+}
+
 /// Whether the path from node 6 leads over both branches to the root.
 fn finds_the_path(alloc: Global, tree: &Tree) -> Result<bool, NoMemory>
     requires { tree.now ≡ three_branches }
 {
     let path = tree.path_to_root(alloc, 6)?;
-    Ok(path.as_slice() == [step(6, 15), step(5, 14), step(2, 11), step(1, 10)].as_slice())
+    Ok(are_alike(
+        path.as_slice(),
+        [step(6, 15), step(5, 14), step(2, 11), step(1, 10)].as_slice(),
+    ))
 }
 
 /// Whether two branches lead to node 6, and one is beside them.
@@ -46,19 +61,19 @@ fn finds_the_cycle(alloc: Global, tree: &Tree, links: &Links) -> Result<bool, No
     requires { tree.now ≡ three_branches }
 {
     let cycle = tree.cycle_of(alloc, 6, 4, 20, links)?;
-    Ok(
-        cycle.as_slice()
-            == [
-                step(0, 10),
-                step(1, 11),
-                step(2, 14),
-                step(5, 15),
-                step(6, 20),
-                step(4, 13),
-                step(3, 12),
-            ]
-            .as_slice(),
-    )
+    Ok(are_alike(
+        cycle.as_slice(),
+        [
+            step(0, 10),
+            step(1, 11),
+            step(2, 14),
+            step(5, 15),
+            step(6, 20),
+            step(4, 13),
+            step(3, 12),
+        ]
+        .as_slice(),
+    ))
 }
 
 /// Asserts that the path, the branches and the cycle of a tree of three branches are found.
