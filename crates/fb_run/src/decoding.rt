@@ -141,8 +141,8 @@ fn decode_with<F: Files, O: Sink, G: Gate, R: Threads + Wait + Sync>(
     gate: &G,
 ) -> Cause
     requires crew { crew.old ≡ record { graph = graph.now; plan = plan.now; workers = request.now.workers } }
-    requires room { HasRoom (F.asked files.old) 16 }
     requires window { IsWithin windows request.now.window }
+    requires room { HasRoom (F.asked files.old) 16 }
     ensures ends { EndsOn (plain_decoding request.now) graph.now plan.now
         (moment (F.named files.old) (F.left files.old) (F.asked files.old) (F.faults files.old) (O.taken out.old))
         (moment (F.named files.new) (F.left files.new) (F.asked files.new) (F.faults files.new) (O.taken out.new)) result }
