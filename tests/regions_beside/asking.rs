@@ -5,11 +5,11 @@ use crate::closed::has_no_odd_closed;
 use crate::draws::Draws;
 use crate::game::Game;
 use crate::moves::Move;
-use crate::obstacles::{Expected, Scan};
+use crate::obstacles::{Expected, Found, Scan};
 use crate::roles::DrawnRoles;
 use crate::stopped::Stopped;
 use fb_graph::Steps;
-use fb_obstacles::{Obstacle, next_obstacle, next_obstacle_by_bounds};
+use fb_obstacles::{next_obstacle, next_obstacle_by_bounds};
 use std::alloc::{AllocError, Global};
 use std::marker::Brand;
 use std::sync::ledger::{Blank, Ledger};
@@ -27,16 +27,16 @@ pub const KINDS: [&str; 8] = [
 ];
 
 /// The place of the answer's kind in `KINDS`.
-fn kind_of(answer: Obstacle) -> usize {
+fn kind_of(answer: Found) -> usize {
     match answer {
-        Obstacle::Absorb(_) => 0,
-        Obstacle::Boundary(_) => 1,
-        Obstacle::Meet(_) => 2,
-        Obstacle::PlusPair(_) => 3,
-        Obstacle::LayerEmpty(_) => 4,
-        Obstacle::BlossomEmpty(_) => 5,
-        Obstacle::ZeroMinus(_) => 6,
-        Obstacle::Free(_) => 7,
+        Found::Absorb(_) => 0,
+        Found::Boundary(_) => 1,
+        Found::Meet(_) => 2,
+        Found::PlusPair(_) => 3,
+        Found::LayerEmpty(_) => 4,
+        Found::BlossomEmpty(_) => 5,
+        Found::ZeroMinus(_) => 6,
+        Found::Free(_) => 7,
     }
 }
 
@@ -76,7 +76,7 @@ impl Asker {
         let mut drawn = game.draw_roles(alloc, draws)?;
         while let Some(roles) = drawn {
             game.renew_watch(alloc, draws, &roles)?;
-            if let Obstacle::Free(length) = self.compare_answers(game, &roles)? {
+            if let Found::Free(length) = self.compare_answers(game, &roles)? {
                 if draws.happens(50) {
                     step(alloc, game, &roles, draw_length(draws, length))?;
                 }
@@ -97,7 +97,7 @@ impl Asker {
         &mut self,
         game: &mut Game<'_>,
         roles: &DrawnRoles,
-    ) -> Result<Obstacle, Stopped> {
+    ) -> Result<Found, Stopped> {
         if !may_ask(game, roles) {
             let plus = &roles.plus;
             let text = format!(in self.alloc; "no call is allowed for plus nodes {plus:?}")?;
@@ -124,7 +124,7 @@ impl Asker {
         &self,
         call: &str,
         roles: &DrawnRoles,
-        answer: Obstacle,
+        answer: Found,
         expected: &Expected,
     ) -> Result<(), Stopped> {
         if expected.allows(answer) {
@@ -149,14 +149,14 @@ fn both_answers<L: Ledger>(
     game: &mut Game<'_>,
     roles: &DrawnRoles,
     looks: Blank,
-) -> (Obstacle, Obstacle) {
+) -> (Found, Found) {
     let mut looks = Steps::<L>::new(looks);
     let regions = &game.regions;
     let watch = &mut game.watched.watch;
     let scope = regions.scope();
     let answer = next_obstacle(watch, scope, regions, roles, &mut looks);
     let by_bounds = next_obstacle_by_bounds(watch, scope, regions, roles, &mut looks);
-    (answer, by_bounds)
+    (Found::of(answer), Found::of(by_bounds))
 }
 
 /// Each minus node shrinks by this length, and then each plus node grows by it. No residue falls by more than twice as much.

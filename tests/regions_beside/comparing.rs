@@ -57,7 +57,7 @@ impl Comparison<'_, '_> {
         if cover.is_some() {
             let walk = self.regions.source_walk(self.alloc, v)?;
             if !self.is_source_walk(walk.steps(), v) {
-                let text = format!(in self.alloc; "source_walk({v}) is no such walk: {walk:?}")?;
+                let text = format!(in self.alloc; "source_walk({v}) is no such walk")?;
                 return Err(Stopped::Differ(text));
             }
         }

@@ -3,10 +3,11 @@
 use crate::asking::{Asker, step};
 use crate::game::Game;
 use crate::moves::Move;
+use crate::obstacles::Found;
 use crate::roles::DrawnRoles;
 use crate::stopped::Stopped;
 use fb_graph::Graph;
-use fb_obstacles::{NodeId, Obstacle};
+use fb_obstacles::NodeId;
 use std::alloc::Global;
 
 const EDGES: [(u64, u64, i128); 6] = [
@@ -40,13 +41,13 @@ pub fn play_first_search(alloc: Global, asker: &mut Asker) -> Result<(), Stopped
     }
 
     let answer = asker.compare_answers(&mut game, &roles)?;
-    if answer != Obstacle::Free(20) {
+    if answer != Found::Free(20) {
         let text = format!(in alloc; "{answer:?} is in the way of a first step, expected Free(20)")?;
         return Err(Stopped::Differ(text));
     }
     step(alloc, &mut game, &roles, 20)?;
     let answer = asker.compare_answers(&mut game, &roles)?;
-    if answer != Obstacle::Meet(0) && answer != Obstacle::Meet(2) {
+    if answer != Found::Meet(0) && answer != Found::Meet(2) {
         let text = format!(in alloc; "{answer:?} is in the way after 20, expected Meet(0) or Meet(2)")?;
         return Err(Stopped::Differ(text));
     }

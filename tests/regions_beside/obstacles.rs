@@ -6,20 +6,49 @@ use crate::roles::DrawnRoles;
 use fb_obstacles::{Obstacle, Role, Roles};
 use std::alloc::{AllocError, Global};
 
+/// What is in the way of a tree, as an `Obstacle` that can be compared and printed.
+#[derive(Clone, Copy, Debug, PartialEq, Eq)]
+pub enum Found {
+    Absorb(u32),
+    Boundary(u32),
+    Meet(u32),
+    PlusPair(u32),
+    LayerEmpty(u64),
+    BlossomEmpty(u64),
+    ZeroMinus(u64),
+    Free(u64),
+}
+
+impl Found {
+    /// The same as an answer of the crate.
+    pub fn of(answer: Obstacle) -> Found {
+        match answer {
+            Obstacle::Absorb(edge) => Found::Absorb(edge),
+            Obstacle::Boundary(edge) => Found::Boundary(edge),
+            Obstacle::Meet(edge) => Found::Meet(edge),
+            Obstacle::PlusPair(edge) => Found::PlusPair(edge),
+            Obstacle::LayerEmpty(node) => Found::LayerEmpty(node),
+            Obstacle::BlossomEmpty(node) => Found::BlossomEmpty(node),
+            Obstacle::ZeroMinus(node) => Found::ZeroMinus(node),
+            Obstacle::Free(length) => Found::Free(length),
+        }
+    }
+}
+
 /// What may be said of a tree.
 #[derive(Debug, Drop)]
 pub struct Expected {
     /// All obstacles that stand.
-    standing: Vec<Obstacle>,
+    standing: Vec<Found>,
     /// The greatest length by which the tree may step; none if nothing limits it.
     greatest: Option<u64>,
 }
 
 impl Expected {
     /// Whether the answer is one of the obstacles that there are; if there is none, the greatest length.
-    pub fn allows(&self, answer: Obstacle) -> bool {
+    pub fn allows(&self, answer: Found) -> bool {
         match answer {
-            Obstacle::Free(length) => {
+            Found::Free(length) => {
                 self.standing.is_empty() && length > 0 && self.greatest == Some(length)
             }
             _ => self.standing.contains(&answer),
@@ -45,7 +74,7 @@ impl Scan<'_, '_> {
     }
 
     /// All obstacles that stand.
-    fn standing(&self) -> Result<Vec<Obstacle>, AllocError> {
+    fn standing(&self) -> Result<Vec<Found>, AllocError> {
         let graph = self.plain.graph;
         let mut standing = Vec::new(self.alloc);
         for edge in 0..graph.edge_count() {
@@ -68,18 +97,18 @@ impl Scan<'_, '_> {
     }
 
     /// The obstacle if a plus node holds the first of these ends of a tight edge.
-    fn obstacle_over(&self, edge: u32, from: u32, to: u32) -> Option<Obstacle> {
+    fn obstacle_over(&self, edge: u32, from: u32, to: u32) -> Option<Found> {
         let (near, far) = (self.readings.cover_of(from), self.readings.cover_of(to));
         if self.roles.over(near) != Some(Role::Plus) {
             return None;
         }
         if self.plain.graph.is_virtual(to) {
-            return Some(Obstacle::Boundary(edge));
+            return Some(Found::Boundary(edge));
         }
         match self.roles.over(far) {
-            None => Some(Obstacle::Absorb(edge)),
-            Some(Role::Out) => Some(Obstacle::Meet(edge)),
-            Some(Role::Plus) if near != far => Some(Obstacle::PlusPair(edge)),
+            None => Some(Found::Absorb(edge)),
+            Some(Role::Out) => Some(Found::Meet(edge)),
+            Some(Role::Plus) if near != far => Some(Found::PlusPair(edge)),
             _ => None,
         }
     }
@@ -125,12 +154,12 @@ impl Scan<'_, '_> {
 }
 
 /// What a minus node is whose top layer has value 0.
-fn empty_layer(node: &PlainNode) -> Obstacle {
+fn empty_layer(node: &PlainNode) -> Found {
     if node.layers.len() > 1 {
-        Obstacle::LayerEmpty(node.name)
+        Found::LayerEmpty(node.name)
     } else if node.children.is_empty() {
-        Obstacle::ZeroMinus(node.name)
+        Found::ZeroMinus(node.name)
     } else {
-        Obstacle::BlossomEmpty(node.name)
+        Found::BlossomEmpty(node.name)
     }
 }
