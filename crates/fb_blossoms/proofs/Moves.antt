@@ -116,9 +116,6 @@ module _ (old mid new : Slab Item) (leaves : ℕ → Option ℕ) (made : ℕ) (k
   pub opens : TakesOff (nodes_of old.slots) (nodes_of new.slots) key
   opens = takes_off old.slots new.slots leaves made kept key (outer_from old.slots made kept.forest key outer) some_steps gone still
 
-  pub handed : i.cycle ≡ cycle_at (nodes_of old.slots) key
-  handed = sym steps ∙ sym (cycle_from old.slots key)
-
 -- what is told of the slab with more room holds of the slab
 pub vacant_from : (old roomy : Slab Item) (capacity key : ℕ) → roomy ≡ record old { capacity = capacity } → get roomy key ≡ None → get old key ≡ None
 vacant_from old roomy capacity key e h = ap (λ s. get s key) (sym e) ∙ h

@@ -226,17 +226,6 @@ pub record IsUnderWay (links : List (Option (List Step))) (nodes : List (Option 
   pub become : (q : List ℕ) → AllBecome links nodes todo q → IsEvenPath links nodes name from to (path ++ q)
 
 module _ (links : List (Option (List Step))) (nodes : List (Option Node)) (name from to : ℕ) where
-  pub way_begins : (todo : List Leg) (ends : Ends) → IsLeg nodes (Inside name ends) → ends.from.defect ≡ from → ends.to.defect ≡ to
-      → todo ≡ [] ++ Inside name ends ∷ [] → IsUnderWay links nodes name from to todo []
-  way_begins todo ends leg f t e =
-      let P : List Leg → Type 0 = λ t. IsUnderWay links nodes name from to t [] in
-      let Q : ℕ → List ℕ → Type 0 = λ d q. IsEvenPath links nodes name d to q in
-      let R : ℕ → List ℕ → Type 0 = λ d q. IsEvenPath links nodes name ends.from.defect d q in
-      subst P (sym e)
-      (record {
-        valid = (leg, tt);
-        become = λ q h. subst (λ d. Q d q) f (subst (λ d. R d q) t (become_one links nodes (Inside name ends) q h));
-      })
 
   pub way_goes_on : (todo before after : List Leg) (leg : Leg) (old new : List ℕ) → IsUnderWay links nodes name from to todo old → todo ≡ before ++ leg ∷ []
       → GoesOn links nodes before leg old after new → IsUnderWay links nodes name from to after new

@@ -14,7 +14,7 @@ use Rattle.fb_book.specs.declared.entries.Status.{Status}
 use Rattle.fb_book.specs.declared.entries.Status.TheVariants.{Given, Left as Lost}
 use Rattle.fb_book.specs.Machine.{is_child, status_at, is_held_by, can_take, replay, all_idle}
 use Rattle.fb_book.specs.Board.{Course, kids_of, nodes_of, item_count, place_in, item_status, with_entry, Lets}
-use Rattle.fb_book.specs.InternalBoard.{is_ready, ready_parent, parent_place, AreWithin, IsBoard, IsItems, LetsNot, unsolved_of}
+use Rattle.fb_book.specs.InternalBoard.{is_ready, ready_parent, parent_place, AreWithin, IsBoard, IsItems, unsolved_of}
 use Rattle.fb_book.proofs.Statuses.{held_is}
 use Rattle.fb_book.proofs.Letting.{Letting, replay_gave, replay_left, kept_gave, kept_left, unsolved_held}
 use Rattle.fb_book.proofs.Choosing.{statuses_are, is_run, places_forest, status_count, history_room, length_by_ones}
@@ -298,7 +298,3 @@ module _ {c : Course} {nodes : ℕ} {parents : List (Option ℕ)} {st : List Sta
         };
         held = status_is w ∙ held;
       }))
-
-  pub lets_not : (w : ℕ) → is_held_by w (status_at st at_place) ≡ false → (old : Course) → c ≡ old
-      → LetsNot old old w slot node
-  lets_not w unheld old same = subst (λ x. LetsNot x x w slot node) same (record { same = refl; unheld = status_is w ∙ unheld })

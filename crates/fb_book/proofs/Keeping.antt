@@ -8,10 +8,10 @@ use Rattle.fb_book.specs.declared.entries.Kind.{Kind}
 use Rattle.fb_book.specs.declared.entries.Kind.TheVariants.{Took, Gave, Left}
 use Rattle.fb_book.specs.declared.entries.Status.{Status}
 use Rattle.fb_book.specs.declared.entries.Status.TheVariants.{Idle, Held, Given, Used, Left as Lost}
-use Rattle.fb_book.specs.Machine.{IsForest, is_child, is_given, is_held_by, is_over, status_at}
-use Rattle.fb_book.specs.Board.{Course, IsRun, nodes_of, item_count, place_in, item_status, Adds, Lets, MustWait, TakesUnit, TakesFusion, is_finished, is_fusion, is_starved, kids_of, statuses_of}
-use Rattle.fb_book.specs.InternalBoard.{IsBook, IsCourse, LetsNot}
-use Rattle.fb_book.specs.Books.{course_of, AreRootPieces, HandsOut, IsPieceAt, holds, place_of}
+use Rattle.fb_book.specs.Machine.{IsForest, is_child, is_given, is_over, status_at}
+use Rattle.fb_book.specs.Board.{Course, nodes_of, item_count, place_in, Adds, Lets, TakesUnit, TakesFusion, is_finished, is_fusion, kids_of, statuses_of}
+use Rattle.fb_book.specs.InternalBoard.{IsBook, IsCourse}
+use Rattle.fb_book.specs.Books.{course_of, AreRootPieces, HandsOut, IsPieceAt, place_of}
 use Rattle.fb_plan.specs.Plans.{JobValue, node_count}
 use Rattle.fb_book.proofs.History.{all_at, two_each, used_by_parent}
 use Rattle.fb_book.proofs.Places.{child_at, unit_below}
@@ -28,22 +28,8 @@ module _ {P : Type 0} {job_of : P → JobValue} {slot_of node_of : P → ℕ} {m
   pub node_of_job : (n : ℕ) → n < nodes_of old → n < node_count job.plan
   node_of_job n less = subst (λ c. n < nodes_of c) b.course less
 
-  pub slot_of_run : (s : ℕ) → s < length job.shots → s < old.slots
-  slot_of_run s less = subst (λ c. s < c.slots) (sym b.course) less
-
-  pub node_of_run : (n : ℕ) → n < node_count job.plan → n < nodes_of old
-  node_of_run n less = subst (λ c. n < nodes_of c) (sym b.course) less
-
   pub place_same : (s n : ℕ) → place_of job s n ≡ place_in old s n
   place_same s n = ap (λ c. place_in c s n) (sym b.course)
-
-  pub place_parked : (s n : ℕ) → s < length job.shots → n < node_count job.plan → place_in old s n < length parked
-  place_parked s n slot node =
-      let less : s * nodes_of old + n < nodes_of old * old.slots =
-      mul-add-lt s (nodes_of old) n old.slots (slot_of_run s slot) (node_of_run n node) in
-      let count : length parked ≡ item_count (course_of job old.history) = b.kept.count in
-      let items : item_count old ≡ item_count (course_of job old.history) = ap item_count b.course in
-      omega (arith, less, count, items)
 
   module _ (new : Course) (w s n : ℕ) where
     course_new : (kind : Kind) → Adds old new kind w s n → new ≡ course_of job new.history
@@ -118,29 +104,8 @@ module _ {P : Type 0} {job_of : P → JobValue} {slot_of node_of : P → ℕ} {m
       roots_room = b.roots_room;
     }
 
-    pub told_lets : (kind : Kind) → Lets old new kind w s n → Lets (course_of job old.history) (course_of job new.history) kind w s n
-    told_lets kind l =
-        subst (λ c. Lets c (course_of job new.history) kind w s n) b.course
-        (subst (λ c. Lets old c kind w s n) (course_new kind l.adds) l)
-
-    pub told_unheld : LetsNot old new w s n → holds job old.history w s n ≡ false
-    told_unheld l = ap (λ c. is_held_by w (item_status c s n)) (sym b.course) ∙ l.unheld
-
-  pub told_wait : MustWait old → MustWait (course_of job old.history)
-  told_wait m = subst MustWait b.course m
-
-  pub told_over : (is_starved old ≡ true) ⊎ (is_finished old ≡ true)
-      → (is_starved (course_of job old.history) ≡ true) ⊎ (is_finished (course_of job old.history) ≡ true)
-  told_over o = subst (λ c. (is_starved c ≡ true) ⊎ (is_finished c ≡ true)) b.course o
-
-  pub told_done : is_finished old ≡ is_finished (course_of job old.history)
-  told_done = ap is_finished b.course
-
   pub told_forest : IsForest (kids_of (course_of job old.history))
   told_forest = subst (λ c. IsForest (kids_of c)) b.course i.forest
-
-  pub told_run : IsRun (course_of job old.history)
-  told_run = subst IsRun b.course i.run
 
   pub told_few : item_count (course_of job old.history) ≤ 2 ^ 45
   told_few = subst (λ c. item_count c ≤ 2 ^ 45) b.course (small_product old.slots (nodes_of old) i.few_slots i.few_nodes)

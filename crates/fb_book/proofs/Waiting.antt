@@ -89,10 +89,6 @@ module _ {P : Type 0} (job_of : P → JobValue) (slot_of node_of : P → ℕ) (m
       subst (λ c. All (λ e. e.worker ≤ workers) c.history) (sym a.entry)
       (All-push (λ e. e.worker ≤ workers) old.history (record { kind = kind; worker = w; slot = slot; node = node }) k.by few)
 
-  count_new : (kind : Kind) (w slot node : ℕ) → Adds old new kind w slot node
-      → item_count (course_of job old.history) ≡ item_count (course_of job new.history)
-  count_new kind w slot node a = refl
-
   -- the same book after an entry, where pieces are told place by place
   pub kept_by : (kind : Kind) (w slot node : ℕ) → w ≤ workers → (a : Adds old new kind w slot node)
       → (left : List (Option P)) → length left ≡ length parked

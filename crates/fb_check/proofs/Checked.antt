@@ -4,7 +4,7 @@ use Rattle.std.proofs.KnownBytes.{Appends-nil, Appends-trans}
 use Rattle.fb_graph.specs.Limits.{DecodingGraph, ShotValue}
 use Rattle.fb_graph.specs.declared.parts.Row.{Row}
 use Rattle.fb_ports.specs.Causes.{Appends, AppendsPrefix}
-use Rattle.fb_ports.proofs.Onward.{prefix_first, prefix_second}
+use Rattle.fb_ports.proofs.Onward.{prefix_second}
 use Rattle.fb_shots.specs.Shots.{at_end}
 use Rattle.fb_shots.specs.declared.answer.Format.{Format}
 use Rattle.fb_shots.specs.Streams.{Stream, fresh}
@@ -71,16 +71,6 @@ module _ (g : DecodingGraph) (rows : List Row) (start now : Stream) (before afte
   }
 
 module _ (Input : List ShotValue → Type 0) (g : DecodingGraph) (rows : List Row) (out mid new : Option (List ℕ)) (pending : List ℕ) (j : Judged) where
-  pub all_flushed : JudgesInto Input g rows out mid pending j → Appends mid new pending → JudgesAll Input g rows out new j
-  all_flushed into all = record {
-    shots = into.shots;
-    input = into.input;
-    many = into.many;
-    verdicts = into.verdicts;
-    answers = into.answers;
-    bad = into.bad;
-    written = subst (Appends out new) into.text (Appends-trans out mid new into.flushed pending into.appended all);
-  }
 
   pub first_flushed : (First : List ShotValue → Type 0) → ((shots : List ShotValue) → Input shots → First shots)
       → JudgesInto Input g rows out mid pending j → AppendsPrefix mid new pending → JudgesFirst First g rows out new
@@ -141,18 +131,6 @@ never_memory (end.Refused fault) lines shots bad old new cause (same, is) e = cc
 never_memory end.ReadFault lines shots bad old new cause (same, is) e = cc
 
 module _ (named : Named) (request : Checking) (g : DecodingGraph) (rows : List Row) where
-  pub checks_head : (old new : Option (List ℕ)) → AppendsPrefix old new check_head → WritesPrefix (check_account g rows) named (check_source request g) old new
-  checks_head old new prefix = record {
-    shots = [];
-    input = inl refl;
-    answers = [];
-    right = tt;
-    written = inl (prefix_first old new check_head [] prefix);
-  }
-
-  -- want of memory after the head
-  pub checks_after_head : (old new : Option (List ℕ)) → Appends old new check_head → WritesPrefix (check_account g rows) named (check_source request g) old new
-  checks_after_head old new all = checks_head old new (check_head, [], sym (append-nil check_head), all)
 
   pub checks_first : (old mid new : Option (List ℕ)) → Appends old mid check_head
       → JudgesFirst (FirstOf named request.shots request.format g) g rows mid new → WritesPrefix (check_account g rows) named (check_source request g) old new

@@ -105,9 +105,6 @@ module _ (g : DecodingGraph) where
   places_some k u (Some v ∷ vs) = places_some (k + 1) u vs
   places_some k u (None ∷ vs) = ap (λ xs. k ∷ xs) (places_some (k + 1) u vs)
 
-  pub sorted_first : IsSorted g [] [] [] []
-  sorted_first = record { each = tt; even_are = refl; places_are = refl }
-
   module _ (shots : List ShotValue) (odd : List (Option ℕ)) (even : List ShotValue) (places : List ℕ) (sorted : IsSorted g shots odd even places) (shot : ShotValue) where
     pub sorted_even : IsFirstOdd (problem_of g shot) None
         → IsSorted g (shots ++ shot ∷ []) (odd ++ None ∷ []) (even ++ shot ∷ []) (places ++ length shots ∷ [])

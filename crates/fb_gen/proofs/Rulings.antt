@@ -1,7 +1,7 @@
 -- The ranges and joins of a plan by time make that plan.
-use Rattle.std.proofs.Common.{◌≡◌, ℕ, zero, suc, ◌+◌, ◌-◌, ◌*◌, ◌<◌, ◌≤◌, ◌⊎◌, inl, inr, Bool, true, false, List, [], ◌∷◌, length, map, take, get_or, All, refl, sym, ap, ◌∙◌, arith}
+use Rattle.std.proofs.Common.{◌≡◌, ℕ, ◌+◌, ◌-◌, ◌*◌, ◌<◌, ◌≤◌, ◌⊎◌, inl, inr, true, false, List, [], ◌∷◌, length, map, take, get_or, All, refl, sym, ap, ◌∙◌, arith}
 use Rattle.std.proofs.Math.Bool.{and-false}
-use Rattle.std.specs.Prelude.{Option, None, find, option_map, Ok}
+use Rattle.std.specs.Prelude.{Option, None, option_map, Ok}
 use Rattle.std.specs.List.{range_with_len, list_any}
 use Rattle.std.proofs.Math.Nat.{mul-le-mul_right}
 use Rattle.std.proofs.lemmas.Bool.{cases_lt, eq-eqb, ne_eqb, lt-ltb, le-ltb, lt-leb, false_from_ne_true}
@@ -27,12 +27,6 @@ use Rattle.fb_gen.proofs.Fusions.{no_fusion, length-fusions, fusion_is_later}
 use Rattle.fb_gen.proofs.Owners.{time_claims, covered_once, no_edge_across, seam_bounds}
 use Rattle.fb_gen.proofs.Rounds.{first_later, first_within, first_bound}
 use Rattle.fb_graph.proofs.Leasts.{least_none}
-
--- no number below n passes
-none_from : (test : ℕ → Bool) (a n : ℕ) → ((k : ℕ) → a ≤ k → k < a + n → test k ≡ false) → find test (range_with_len a n) ≡ None
-none_from test a zero each = refl
-none_from test a (suc n) each =
-    rw (each a (omega arith) (omega arith)) (none_from test (a + 1) n (λ k low high. each k (omega arith) (omega arith)))
 
 no_units_fault : (t u : ℕ) (units : List (List (ℕ × ℕ))) → IsShared t u → length units ≡ u → units_fault units ≡ None
 no_units_fault t u units shared count = let few : length units ≤ most_units = omega (arith, shared.limit) in rw (le-ltb most_units (length units) few) refl

@@ -12,7 +12,6 @@ pub mod Crossings
 pub mod CutSums
 pub mod Duality
 pub mod EndSums
-pub mod Examples
 pub mod Floods
 pub mod Forests
 pub mod InsertedCuts

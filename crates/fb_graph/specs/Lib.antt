@@ -13,7 +13,6 @@ pub mod InternalCancelledPairs
 pub mod InternalFlooding
 pub mod InternalLabelling
 pub mod InternalLayout
-pub mod InternalSamples
 pub mod Laws
 pub mod Leasts
 pub mod Limits

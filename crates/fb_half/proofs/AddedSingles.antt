@@ -104,9 +104,6 @@ module _ (names done : List ℕ) (nodes new_nodes : List Node) (store new_store 
       ∙ or_from (is_in (before.unmatched ++ names) name) (is_in (matched_names before.matches) name)
       (is_in-append before.unmatched names name ∙ or_from (is_in before.unmatched name) (is_in names name) old.0 both.0) old.1)
 
-  pub own_names : drop (length before.unmatched) after.unmatched ≡ names
-  own_names = ap (λ m. drop (length before.unmatched) m.unmatched) s.matching ∙ drop_front before.unmatched names
-
   pub singles_added_more : (name v : ℕ) (more : List Node) (larger : Store) (later : MatchingValue) → blossoms.Adds new_store larger name (blossoms.leaf v)
       → more ≡ new_nodes ++ leaf name v ∷ [] → later ≡ record { matches = after.matches; unmatched = after.unmatched ++ name ∷ [] }
       → AddsSingles (names ++ name ∷ []) (done ++ v ∷ []) nodes more store larger before later

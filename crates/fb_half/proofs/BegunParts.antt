@@ -11,7 +11,7 @@ use Rattle.fb_graph.specs.Limits.{DecodingGraph, IsShot, ShotValue, no_shot}
 use Rattle.fb_graph.specs.Dual.{Node, defects_of, is_empty, is_live, is_outer, leaf}
 use Rattle.fb_graph.specs.Singles.{nodes_of, vertices_of}
 use Rattle.fb_graph.proofs.Sets.{distinct-filter, distinct_from_rising, is_in-filter, All-from_is_in}
-use Rattle.fb_plan.specs.Plans.{JobValue, PlanTree, node_count, problem_at}
+use Rattle.fb_plan.specs.Plans.{JobValue, node_count, problem_at}
 use Rattle.fb_plan.specs.Laws.{IsJob}
 use Rattle.fb_links.specs.declared.walk.Step.{Step}
 use Rattle.fb_blossoms.specs.Nodes as blossoms
@@ -164,13 +164,6 @@ own_of j s n = filter (problem_at j.graph j.plan n no_shot).is_real (get_or j.sh
 
 pub shot_at : (j : JobValue) (s : ℕ) → IsJob j → s < length j.shots → IsShot j.graph (get_or j.shots s no_shot)
 shot_at j s job less = job.shots s no_shot less
-
-pub own_is : (j : JobValue) (s n : ℕ) (g : DecodingGraph) (t : PlanTree) (l own : List ℕ) → g ≡ j.graph → t ≡ j.plan → l ≡ (get_or j.shots s no_shot).defects
-    → own ≡ filter (problem_at g t n no_shot).is_real l → own ≡ own_of j s n
-own_is j s n g t l own graph plan shot is =
-    is
-    ∙ (ap (λ x. filter (problem_at x t n no_shot).is_real l) graph
-    ∙ (ap (λ x. filter (problem_at j.graph x n no_shot).is_real l) plan ∙ ap (filter (problem_at j.graph j.plan n no_shot).is_real) shot))
 
 pub own_distinct : (j : JobValue) (s n : ℕ) → IsJob j → s < length j.shots → AreDistinct (own_of j s n)
 own_distinct j s n job less =

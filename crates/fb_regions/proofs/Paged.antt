@@ -138,20 +138,6 @@ module _ (places numbers : List ℕ) (room : ℕ) (paged : ArePaged places numbe
             both (inl within) = paged.apart i j within (sym (slot_other i other) ∙ (same ∙ slot_other j another))
             both (inr past) = absurd (omega (arith, past, below, slot_other i other, long, room_for_page))
 
-  -- what the paging is says nothing of the numbers themselves
-  pub paged_alike : (others : List ℕ) (more : ℕ) → length others ≡ length numbers → room ≤ more → ArePaged places others more
-  paged_alike others more long fits = record {
-    within = λ p d below. by (get_or places p d) (paged.within p d below);
-    apart = λ i j below same. paged.apart i j (omega (arith, below, long)) same;
-    counted = omega (arith, paged.counted, long);
-    fits = omega (arith, paged.fits, fits);
-    few = paged.few;
-  }
-    where
-      by : (q : ℕ) → (q ≡ no_place) ⊎ (PAGE * q + PAGE ≤ length numbers) → (q ≡ no_place) ⊎ (PAGE * q + PAGE ≤ length others)
-      by q (inl none) = inl none
-      by q (inr within) = inr (omega (arith, within, long))
-
   -- a number set in its page
   pub number_set : (count i n s : ℕ) (first before : List ℕ) → ((k : ℕ) → number_at places numbers k ≡ number_at first before k) → i < count
       → s ≡ slot places i → s < length numbers → numbers_of count places (set numbers s n) ≡ set (numbers_of count first before) i n

@@ -1,5 +1,4 @@
 pub mod Halves
-pub mod Layers
 pub mod Marking
 pub mod NumberedLinks
 pub mod Openings

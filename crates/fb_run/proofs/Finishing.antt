@@ -4,7 +4,7 @@ use Rattle.std.proofs.KnownBytes.{Appends-trans}
 use Rattle.fb_graph.specs.Limits.{DecodingGraph, ShotValue}
 use Rattle.fb_plan.specs.Plans.{PlanTree}
 use Rattle.fb_ports.specs.Causes.{Appends, AppendsPrefix}
-use Rattle.fb_ports.proofs.Onward.{prefix_first, prefix_second}
+use Rattle.fb_ports.proofs.Onward.{prefix_second}
 use Rattle.fb_report.specs.Texts.{head_text}
 use Rattle.fb_shots.specs.Shots.{Ending, at_end}
 use Rattle.fb_check.specs.Ends.{IsReadToItsEnd}
@@ -35,20 +35,6 @@ report_to_end t end.ReadFault rows counts old new cause (same, is) reads = absur
 module _ (named : Named) (request : Decoding) (g : DecodingGraph) (t : PlanTree) where
   are_first : (shots : List ShotValue) (ending : Ending) (text : List ℕ) → HasShots request.format g shots ending text → HasFirstShots request.format g shots text
   are_first shots ending text e = ([], ap (λ r. r.shots) e ∙ sym (append-nil shots))
-
-  -- a fault before any row
-  prefix_of_head : (old new : Option (List ℕ)) → AppendsPrefix old new head_text → WritesPrefix (decode_account request g t) named (decode_source request g) old new
-  prefix_of_head old new prefix = record {
-    shots = [];
-    input = inl refl;
-    answers = [];
-    right = refl;
-    written = inl (prefix_first old new head_text [] prefix);
-  }
-
-  -- want of memory after the head
-  pub prefix_after_head : (old new : Option (List ℕ)) → Appends old new head_text → WritesPrefix (decode_account request g t) named (decode_source request g) old new
-  prefix_after_head old new all = prefix_of_head old new (head_text, [], sym (append-nil head_text), all)
 
   -- a fault while the rows are written
   pub prefix_of_batches : (left old mid new : Option (List ℕ)) → IsOpened named request.shots left → Appends old mid head_text

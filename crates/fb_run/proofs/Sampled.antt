@@ -1,5 +1,5 @@
 -- Shots that are drawn one after another, with their rows.
-use Rattle.std.proofs.Common.{◌≡◌, ℕ, zero, suc, ◌+◌, ◌*◌, List, [], ◌∷◌, ◌++◌, length, refl, sym, ap, subst, ◌∙◌, arith}
+use Rattle.std.proofs.Common.{◌≡◌, ℕ, zero, suc, ◌+◌, ◌*◌, List, [], ◌∷◌, ◌++◌, length, sym, ap, subst, ◌∙◌, arith}
 use Rattle.std.proofs.Math.Nat.{add-mul, suc-mul}
 use Rattle.std.proofs.lemmas.List.Sums.{sum_by-append}
 use Rattle.fb_crew.specs.Windows.{AreRows}
@@ -67,10 +67,6 @@ module _ (g : DecodingGraph) (rate : ℕ) where
   rows_append [] more (r ∷ rows) added none next = absurd none
   rows_append (s ∷ shots) more [] added none next = absurd none
   rows_append (s ∷ shots) more (r ∷ rows) added (first, rest) next = (first, rows_append shots more rows added rest next)
-
-  -- no shot is drawn yet
-  pub no_sums : (x : ℕ) → HaveSums g rate x 0 0 0
-  no_sums x = record { rows = []; decoded = tt; defects_of = refl; weight_of = refl }
 
   -- the sums with those of further shots
   pub more_sums : (x state a b defects weight more_defects more_weight : ℕ) (more : List ShotValue) (added : List Row)

@@ -1,8 +1,8 @@
 -- Which numbers of links are live after a link is made or forgotten, and which links lead round the blossoms after nodes
 -- are joined or a blossom is opened.
-use Rattle.std.proofs.Common.{ℕ, ◌≡◌, ◌≢◌, ◌==◌, ◌||◌, ◌⊎◌, inl, inr, Bool, true, false, List, [], ◌∷◌, ◌++◌, map, Option, Some, is_some, unwrap_or, refl, sym, ap, ◌∙◌, subst, append_assoc}
+use Rattle.std.proofs.Common.{ℕ, ◌≡◌, ◌≢◌, ◌==◌, ◌||◌, ◌⊎◌, inl, inr, Bool, true, false, List, [], ◌∷◌, ◌++◌, map, Option, Some, is_some, refl, sym, ap, ◌∙◌, subst, append_assoc}
 use Rattle.std.specs.List.Sorted.{IsPermutation}
-use Rattle.std.proofs.lemmas.Bool.{both_ways, cases_eq, eqb-false, eqb-true, false_from_ne_true, or_parts}
+use Rattle.std.proofs.lemmas.Bool.{both_ways, cases_eq, eqb-true, false_from_ne_true}
 use Rattle.std.proofs.lemmas.List.{append-nil}
 use Rattle.std.proofs.lemmas.List.Concat.{flat_map-append}
 use Rattle.std.proofs.lemmas.List.Sorted.{IsPermutation-append_comm, IsPermutation-append_left, IsPermutation-append_right, IsPermutation-trans}
@@ -22,7 +22,7 @@ use Rattle.fb_blossoms.specs.Nodes as blossoms
 use Rattle.fb_blossoms.proofs.Climbs.{same_some}
 use Rattle.fb_laws.proofs.OpenedBlossoms.{distinct_permuted, same_permuted}
 use Rattle.fb_half.specs.Parts.{AreLinksOf, AreStepsOf}
-use Rattle.fb_half.specs.Translations.{link_by, link_of, ring_at, ring_links}
+use Rattle.fb_half.specs.Translations.{ring_at, ring_links}
 use Rattle.fb_search.proofs.Agreed.{nodes_of}
 
 -- another number is in the longer list where it is in the shorter one
@@ -59,22 +59,6 @@ links_reordered p links ids others moved are = record {
   live = λ id. are.live id ∙ sym (same_permuted ids others moved id);
   steps = are.steps;
 }
-
--- the links of other numbers stay as they were
-abbrev pub AreSameBeside : List (Option (List Step)) → List (Option (List Step)) → ℕ → Type 0
-AreSameBeside old new id = (k : ℕ) → k ≢ id → table.link_at new k ≡ table.link_at old k
-
-pub link_kept : (old new : List (Option (List Step))) (id k : ℕ) → AreSameBeside old new id → k ≢ id
-    → link_by new k ≡ link_by old k
-link_kept old new id k same differ = ap (λ o. link_of (unwrap_or o [])) (same k differ)
-
-pub links_kept : (old new : List (Option (List Step))) (id : ℕ) (ids : List ℕ) → AreSameBeside old new id
-    → is_in ids id ≡ false → map (link_by new) ids ≡ map (link_by old) ids
-links_kept old new id [] same out = refl
-links_kept old new id (k ∷ ks) same out =
-    let parts = or_parts (k == id) (is_in ks id) out in
-    ap (λ l. l ∷ map (link_by new) ks) (link_kept old new id k same (eqb-false k id parts.0))
-    ∙ ap (λ ls. link_by old k ∷ ls) (links_kept old new id ks same parts.1)
 
 rings_same : (old new : List (Option blossoms.Node)) (nodes : List Node)
     → ((n : Node) → IsAmong n nodes → node_at new n.name ≡ node_at old n.name)

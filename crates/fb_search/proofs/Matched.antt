@@ -44,9 +44,6 @@ module _ (p : Problem) (nodes : List Node) (name : ℕ) (children : List ℕ) (l
   made : Node
   made = blossom name children nodes
 
-  after_nodes : List Node
-  after_nodes = joined_nodes name children nodes
-
   distinct_before : AreDistinct (outside ++ before)
   distinct_before = distinct_permuted (listed_names m ++ others) (outside ++ before) old_names was.distinct
 

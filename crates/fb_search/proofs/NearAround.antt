@@ -70,13 +70,6 @@ pub record IsAround (p : Problem) (nodes : List Node) (unmatched : List ℕ) (v 
   pub others : (k : ℕ) → is_in items k ≡ true → IsBest a.best k ⊎ (a.room ≤ residue_of nodes (edge_at p.edges k))
 
 module _ (p : Problem) (nodes : List Node) (unmatched : List ℕ) (v : ℕ) where
-  pub around_none : (a : Around) → a.best ≡ None → IsAround p nodes unmatched v [] a
-  around_none a none = record {
-    reach = subst (λ b. IfSome b (IsReach p nodes v)) (sym none) tt;
-    target = subst (λ b. IfSome b (λ r. is_target p nodes unmatched r.far r.other ≡ true)) (sym none) tt;
-    least = λ k f in_none. absurd (false≢true in_none);
-    others = λ k in_none. absurd (false≢true in_none);
-  }
 
   module _ (r : Reach) (is : IsReach p nodes v r) where
     -- a target at the end of this edge is one that it reaches

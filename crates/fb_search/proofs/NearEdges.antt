@@ -18,7 +18,7 @@ use Rattle.fb_graph.proofs.Sets.{is_in-cases}
 use Rattle.fb_regions.specs.Moves.{BeginsWith, node_named}
 use Rattle.fb_obstacles.specs.Obstacles.{residue_of}
 use Rattle.fb_search.specs.declared.near.Near.{Near}
-use Rattle.fb_search.specs.declared.near.Near.TheVariants.{Boundary, Pair}
+use Rattle.fb_search.specs.declared.near.Near.TheVariants.{Pair}
 use Rattle.fb_search.specs.declared.near.Reach.{Reach}
 use Rattle.fb_search.proofs.TopLayers.{top_real}
 use Rattle.fb_search.specs.InternalNear.{HasRoom, IsNear, IsReach, IsShare, IsSingleAt, IsTarget, is_single, is_target}
@@ -166,20 +166,6 @@ both_rooms edges nodes v far between room other_room has other k less at =
 module _ (p : Problem) (nodes : List Node) (unmatched : List ℕ) (root v : ℕ) (r : Reach) (top : top_at nodes root ≡ v ∷ [])
     (is : IsReach p nodes v r) (target : IsTarget p nodes unmatched r.far r.other) (room : ℕ)
     (has : HasRoom p.edges nodes v r.far r.length room) where
-  pub boundary_is_near : (near : Near) → r.other ≡ None → r.length ≤ room → near ≡ Boundary r.edge r.length
-      → IsNear p nodes unmatched root near
-  boundary_is_near near none within same =
-      subst (IsNear p nodes unmatched root) (sym same)
-      (record {
-        inner = v;
-        outer = r.far;
-        within = is.within;
-        leads = is.leads;
-        top = top;
-        boundary = subst (λ o. IsTarget p nodes unmatched r.far o) none target;
-        residue = is.residue;
-        room = narrowed p.edges nodes v r.far r.length room r.length within has;
-      })
 
   pub pair_is_near : (near : Near) (other share other_room : ℕ) → r.other ≡ Some other
       → HasRoom p.edges nodes r.far v 0 other_room → IsShare r.length room other_room share

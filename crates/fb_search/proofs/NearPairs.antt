@@ -171,8 +171,6 @@ module _ (part : PartValue) (root : ℕ) (pair : NearPair) (are : IsPart part) (
 
   -- what the code asks of the scope
   module _ (s : NodeScope) (own : IsScopeOf s part) where
-    mid_own : IsScopeOf s mid
-    mid_own = record { graph = own.graph; plan = own.plan; node = own.node }
 
     last_own : IsScopeOf s last.part
     last_own = record { graph = own.graph; plan = own.plan; node = own.node }

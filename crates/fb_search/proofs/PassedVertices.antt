@@ -1,5 +1,5 @@
 -- A node's vertices passed over from the last one back, and the edges at them watched.
-use Rattle.std.proofs.Common.{ℕ, ◌≡◌, true, List, [], ◌∷◌, ◌++◌, length, filter, reverse, Option, Some, None, sym, ap, ◌∙◌, subst, append-nil, append_assoc}
+use Rattle.std.proofs.Common.{ℕ, ◌≡◌, true, List, [], ◌∷◌, ◌++◌, length, filter, reverse, Option, Some, sym, ap, ◌∙◌, append-nil, append_assoc}
 use Rattle.std.specs.List.{range_with_len}
 use Rattle.std.proofs.lemmas.Bool.{or_right}
 use Rattle.std.proofs.lemmas.List.{reverse-append, reverse-reverse}
@@ -52,7 +52,3 @@ module _ (p : Problem) (vs : List ℕ) where
         ∙ (ap (λ o. reverse (back_from vs o) ++ before.passed) (sym is) ∙ before.whole));
     watched = watched_more p before.passed v es a b c e before.watched more;
   }
-
-  pub all_passed : (next : Option ℕ) (a b : Watched) → next ≡ None → ArePassed p vs next a b → Watches p vs a b
-  all_passed next a b is before =
-      subst (λ l. Watches p l a b) (ap (λ o. reverse (back_from vs o) ++ before.passed) (sym is) ∙ before.whole) before.watched

@@ -47,10 +47,6 @@ kept_names joins name root (e ∷ es) inner n there out =
     rest : List ℕ
     rest = tree_names (renamed_name joins name root) (joined_tree joins name es)
 
-    Later : Type 0
-    Later = is_in (tree_names root es) n ≡ true → joins n ≡ false
-        → is_in (tree_names (renamed_name joins name root) (joined_tree joins name es)) n ≡ true
-
     put : (b : Bool) → joins e.minus ≡ b
         → (is_in (tree_names root es) n ≡ true → joins n ≡ false
         → is_in (tree_names (renamed_name joins name root) (joined_tree joins name es)) n ≡ true)

@@ -26,12 +26,6 @@ plus_in_tree root tree n plus =
     ap (λ l. is_in l n) (sym (names_moved no_link root tree))
     ∙ laws.plus_in_tree root (linked tree) n (ap (λ l. is_in l n) (plus_moved no_link root tree) ∙ plus)
 
-pub minus_in_tree : (root : ℕ) (tree : List (EntryOf ℕ)) (n : ℕ) → is_in (minus_names tree) n ≡ true
-    → is_in (tree_names root tree) n ≡ true
-minus_in_tree root tree n minus =
-    ap (λ l. is_in l n) (sym (names_moved no_link root tree))
-    ∙ laws.minus_in_tree root (linked tree) n (ap (λ l. is_in l n) (minus_moved no_link tree) ∙ minus)
-
 -- none is both plus and minus
 pub exclusive_names : (root : ℕ) (tree : List (EntryOf ℕ)) → AreDistinct (tree_names root tree) → (n : ℕ)
     → is_in (plus_names root tree) n ≡ true → is_in (minus_names tree) n ≡ false

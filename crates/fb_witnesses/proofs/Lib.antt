@@ -1,3 +1,4 @@
+pub mod ByCases
 pub mod SampleAgreed
 pub mod SampleCycles
 pub mod SampleEndings

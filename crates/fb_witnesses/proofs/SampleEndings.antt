@@ -31,7 +31,7 @@ use Rattle.fb_witnesses.proofs.SampleSearches.{search_witness}
 use Rattle.fb_witnesses.proofs.SampleStates.{may_by_cases, no_odd_closed_by, of_three}
 use Rattle.fb_witnesses.proofs.SampleTrees.{elsewhere, even_long, may_thin, one_link, thin_nest, thin_outer, thin_search, thin_walks}
 use Rattle.fb_graph.proofs.SourceWalks.{walks_begin}
-use Rattle.fb_graph.proofs.Examples.{below_by_cases}
+use Rattle.fb_witnesses.proofs.ByCases.{below_by_cases}
 use Rattle.fb_graph.proofs.SingleStates.{all_outer}
 
 -- four members, one after another

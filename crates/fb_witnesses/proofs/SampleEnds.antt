@@ -2,7 +2,7 @@
 use Rattle.std.proofs.Common.{◌<◌, inl, inr, [], ◌∷◌, refl, arith, le_refl}
 use Rattle.std.proofs.lemmas.List.Elements.{All-from_recursion}
 use Rattle.fb_graph.specs.Certificate.{AreDistinct}
-use Rattle.fb_graph.specs.InternalSamples.{cut}
+use Rattle.fb_witnesses.specs.InternalSamples.{cut}
 use Rattle.fb_witnesses.specs.Witnesses.{EndWitness}
 
 pub end_witness : EndWitness

@@ -25,7 +25,7 @@ use Rattle.fb_witnesses.proofs.SampleParts.{one_height}
 use Rattle.fb_witnesses.proofs.SamplePentagons.{branch_state}
 use Rattle.fb_witnesses.proofs.SampleStates.{may_by_cases, odd_cut, outer_by_cases}
 use Rattle.fb_witnesses.proofs.SampleTrees.{one_link}
-use Rattle.fb_graph.proofs.Examples.{fits_by_cases}
+use Rattle.fb_witnesses.proofs.ByCases.{fits_by_cases}
 
 four_are_singles : AreSingles line_of_four four_singles
 four_are_singles = record {

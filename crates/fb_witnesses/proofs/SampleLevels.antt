@@ -13,14 +13,13 @@ use Rattle.fb_graph.proofs.Sets.{is_in-All}
 use Rattle.fb_graph.specs.Ends.{ends_in, AreAllApart, crossing_links}
 use Rattle.fb_graph.specs.Links.{IsTightLink}
 use Rattle.fb_graph.specs.NestUnions.{AreParts}
-use Rattle.fb_graph.specs.InternalSamples.{cut}
 use Rattle.fb_laws.specs.Fusion.{IsLinkOf}
 use Rattle.fb_laws.specs.Opening.{IsWithinOne, IsAlikeOver, single_sets, EndsAtDefects}
-use Rattle.fb_witnesses.specs.InternalSamples.{link, line, line_part, triangle, blossom_cuts}
+use Rattle.fb_witnesses.specs.InternalSamples.{cut, link, line, line_part, triangle, blossom_cuts}
 use Rattle.fb_witnesses.specs.Witnesses.{FusionWitness, OpeningWitness}
 use Rattle.fb_witnesses.proofs.SampleStates.{odd_cut, of_one, of_three, whole_one, apart_ones}
 use Rattle.fb_witnesses.proofs.SampleParts.{some_walk}
-use Rattle.fb_graph.proofs.Examples.{fits_by_cases}
+use Rattle.fb_witnesses.proofs.ByCases.{fits_by_cases}
 
 part_of_line : (vertices : List ℕ) → ((v : ℕ) → is_in vertices v ≡ true → is_in (1 ∷ 3 ∷ []) v ≡ true)
     → IsPart (line_part vertices) (line_part (1 ∷ 3 ∷ []))

@@ -32,7 +32,7 @@ use Rattle.fb_witnesses.proofs.SampleEndings.{low_state}
 use Rattle.fb_witnesses.proofs.SampleNests.{limits_by_cases, stepped_by_cases}
 use Rattle.fb_witnesses.proofs.SampleStates.{odd_cut, outer_by_cases}
 use Rattle.fb_witnesses.proofs.SampleTrees.{one_link}
-use Rattle.fb_graph.proofs.Examples.{fits_by_cases}
+use Rattle.fb_witnesses.proofs.ByCases.{fits_by_cases}
 
 -- before they absorb a vertex, in between, and before the last step
 

@@ -12,13 +12,12 @@ use Rattle.fb_graph.specs.Ends.{ends_in}
 use Rattle.fb_graph.specs.Moves.{MayJoin, joined_nodes}
 use Rattle.fb_graph.specs.Nests.{IsNest}
 use Rattle.fb_witnesses.specs.NestWitnesses.{blossom_nodes, blossom_roles}
-use Rattle.fb_witnesses.specs.InternalSamples.{link, triangle}
+use Rattle.fb_witnesses.specs.InternalSamples.{cut, link, triangle}
 use Rattle.fb_laws.specs.SearchOpenings.{IsOpenedTree, IsSplit}
 use Rattle.fb_laws.specs.Searches.{IsSearch}
 use Rattle.fb_graph.specs.SourceWalks.{HaveWalks}
 use Rattle.fb_graph.specs.Singles.{AreSingles}
 use Rattle.fb_graph.specs.Steps.{stepped_nodes}
-use Rattle.fb_graph.specs.InternalSamples.{cut}
 use Rattle.fb_witnesses.specs.TreeWitnesses.{SplittingWitness, LevelWitness, two_tailed_triangle, two_tailed_singles, two_tailed_nodes, closed_branch, opened_branches}
 use Rattle.fb_laws.specs.Works.{IsMatching}
 use Rattle.fb_graph.proofs.BeginningNests.{singles_are_nest}
@@ -32,7 +31,7 @@ use Rattle.fb_laws.proofs.SearchStates.{links_joined}
 use Rattle.fb_graph.proofs.SourceWalks.{walks_begin, walks_joined}
 use Rattle.fb_graph.proofs.SingleStates.{singles_are_dual}
 use Rattle.fb_graph.proofs.TightLinks.{empty_layer_loads, empty_layer_heights}
-use Rattle.fb_graph.proofs.Examples.{fits_by_cases}
+use Rattle.fb_witnesses.proofs.ByCases.{fits_by_cases}
 
 two_tailed_are_singles : AreSingles two_tailed_triangle two_tailed_singles
 two_tailed_are_singles = record {

@@ -22,7 +22,7 @@ use Rattle.fb_witnesses.specs.Witnesses.{ParityWitness, WorkWitness}
 use Rattle.fb_laws.proofs.HalvesKept.{work_begins}
 use Rattle.fb_witnesses.proofs.SampleStates.{odd_cut, of_three, outer_by_cases}
 use Rattle.fb_graph.proofs.SingleStates.{singles_are_dual}
-use Rattle.fb_graph.proofs.Examples.{fits_by_cases}
+use Rattle.fb_witnesses.proofs.ByCases.{fits_by_cases}
 
 pub corner_height : (d : ℕ) → is_in (leaves corner_nodes) d ≡ true → height_of (all_cuts corner_nodes) d % 2 ≡ 1
 corner_height = of_three (λ d. height_of (all_cuts corner_nodes) d % 2 ≡ 1) 0 1 2 refl refl refl

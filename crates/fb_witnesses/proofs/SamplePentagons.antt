@@ -39,7 +39,7 @@ use Rattle.fb_laws.proofs.SplitStates.{is_split}
 use Rattle.fb_laws.proofs.StateBlossoms.{state_closed}
 use Rattle.fb_laws.proofs.StateMoves.{search_from_root, state_attached, state_met}
 use Rattle.fb_laws.proofs.UnmatchedNames.{outer_begin}
-use Rattle.fb_graph.proofs.Examples.{fits_by_cases}
+use Rattle.fb_witnesses.proofs.ByCases.{fits_by_cases}
 
 -- a link over one edge
 pub one_link : (p : Problem) (nodes : List Node) (u v k : ℕ) → k < length p.edges → Leads (edge_at p.edges k) u v

@@ -8,12 +8,11 @@ use Rattle.fb_graph.specs.Parity.{is_in}
 use Rattle.fb_graph.specs.Printed.{HasPositiveCuts, IsResorted}
 use Rattle.fb_graph.specs.Dual.{all_cuts, leaves}
 use Rattle.fb_graph.specs.declared.parts.Cut.{Cut}
-use Rattle.fb_graph.specs.InternalSamples.{cut}
 use Rattle.fb_laws.specs.Opening.{EndAtDefects, IsLevel, single_sets, EndsAtDefects}
 use Rattle.fb_laws.specs.Works.{positive_cuts}
 use Rattle.fb_laws.specs.NestSolutions.{AreChildrenOf, leaf_sets}
 use Rattle.fb_witnesses.specs.ResolvedWitnesses.{ResolvedWitness, closed_nodes, opened_links, printed_triangle}
-use Rattle.fb_witnesses.specs.InternalSamples.{blossom_cuts, triangle}
+use Rattle.fb_witnesses.specs.InternalSamples.{cut, blossom_cuts, triangle}
 use Rattle.fb_laws.proofs.OpenedLevels.{level_permuted}
 use Rattle.fb_witnesses.proofs.SampleLevels.{opening_witness}
 use Rattle.fb_witnesses.proofs.SampleNests.{grown_blossom}

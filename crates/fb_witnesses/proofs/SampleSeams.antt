@@ -23,7 +23,7 @@ use Rattle.fb_witnesses.proofs.SampleLevels.{two_parts, either_end, left_link, r
 use Rattle.fb_witnesses.proofs.SampleParts.{one_height, of_two}
 use Rattle.fb_witnesses.proofs.SampleStates.{odd_cut, of_one}
 use Rattle.fb_graph.proofs.SingleStates.{singles_are_dual}
-use Rattle.fb_graph.proofs.Examples.{fits_by_cases}
+use Rattle.fb_witnesses.proofs.ByCases.{fits_by_cases}
 
 turned_parts : AreParts (line_part (3 ∷ [])) (line_part (1 ∷ [])) (line_part (1 ∷ 3 ∷ []))
 turned_parts = parts_turned (line_part (1 ∷ [])) (line_part (3 ∷ [])) (line_part (1 ∷ 3 ∷ [])) two_parts

@@ -19,7 +19,7 @@ use Rattle.fb_witnesses.proofs.SampleParts.{one_height, some_walk}
 use Rattle.fb_witnesses.proofs.SampleStates.{odd_cut, of_three}
 use Rattle.fb_laws.proofs.SearchStates.{search_attached}
 use Rattle.fb_graph.proofs.SingleStates.{singles_are_dual}
-use Rattle.fb_graph.proofs.Examples.{fits_by_cases}
+use Rattle.fb_witnesses.proofs.ByCases.{fits_by_cases}
 
 chain_are_singles : AreSingles (line (1 ∷ 2 ∷ 3 ∷ [])) chain_singles
 chain_are_singles = record {

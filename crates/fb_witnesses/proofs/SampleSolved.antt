@@ -14,7 +14,7 @@ use Rattle.fb_witnesses.specs.SolvedWitnesses.{BestWitness, OddWitness, shared_l
 use Rattle.fb_witnesses.proofs.SampleOpenedParts.{part_witness}
 use Rattle.fb_witnesses.proofs.SampleResolutions.{resolved_witness}
 use Rattle.fb_witnesses.proofs.SampleStates.{of_three}
-use Rattle.fb_graph.proofs.Examples.{below_by_cases}
+use Rattle.fb_witnesses.proofs.ByCases.{below_by_cases}
 
 chosen_rise : IsStrictlyIncreasing (0 ∷ 3 ∷ [])
 chosen_rise = resolved_witness.10.edge_set.rising

@@ -21,11 +21,10 @@ use Rattle.fb_graph.specs.Ends.{ends_in}
 use Rattle.fb_laws.specs.Paths.{IsWhole}
 use Rattle.fb_laws.specs.Blossoms.{IsInside}
 use Rattle.fb_graph.specs.Singles.{AreSingles}
-use Rattle.fb_graph.specs.InternalSamples.{cut}
-use Rattle.fb_witnesses.specs.InternalSamples.{link, line, triangle, line_singles, line_nodes, line_roles, grown_nodes, grown_roles, corner_singles, corner_nodes, corner_roles}
+use Rattle.fb_witnesses.specs.InternalSamples.{cut, link, line, triangle, line_singles, line_nodes, line_roles, grown_nodes, grown_roles, corner_singles, corner_nodes, corner_roles}
 use Rattle.fb_witnesses.specs.Witnesses.{StepWitness, DualWitness, CoverWitness, SignedWitness, LinkWitness, PathWitness, BlossomWitness, line_path}
 use Rattle.fb_graph.proofs.SingleStates.{singles_are_dual}
-use Rattle.fb_graph.proofs.Examples.{fits_by_cases, below_by_cases}
+use Rattle.fb_witnesses.proofs.ByCases.{fits_by_cases, below_by_cases}
 
 -- a problem with a correction has no odd closed set, since no chosen edge crosses one
 pub no_odd_closed_by : (p : Problem) (chosen : List ℕ) → All (λ k. k < length p.edges) chosen → Flips p chosen → HasNoOddClosed p

@@ -39,7 +39,7 @@ use Rattle.fb_witnesses.proofs.SampleStates.{odd_cut, of_three}
 use Rattle.fb_graph.proofs.SourceWalks.{walks_begin, walks_absorbed}
 use Rattle.fb_graph.proofs.SingleStates.{singles_are_dual, all_outer}
 use Rattle.fb_laws.proofs.UnmatchedNames.{outer_absorbed}
-use Rattle.fb_graph.proofs.Examples.{fits_by_cases}
+use Rattle.fb_witnesses.proofs.ByCases.{fits_by_cases}
 
 -- one link whose walk begins with an edge
 pub one_link : (p : Problem) (nodes : List Node) (u v k : ℕ) (ks : List ℕ) → IsWalkBy p (k ∷ ks) u v

@@ -8,9 +8,8 @@ use Rattle.fb_graph.specs.Dual.{Node, IsDual, all_cuts}
 use Rattle.fb_graph.specs.Covers.{AreRoles, HasNoObstacle, is_covered_by}
 use Rattle.fb_graph.specs.Singles.{Single, nodes_of}
 use Rattle.fb_graph.specs.Steps.{MayStep, Roles}
-use Rattle.fb_graph.specs.InternalSamples.{edge}
 use Rattle.fb_laws.specs.Bounds.{IsBounded}
-use Rattle.fb_witnesses.specs.InternalSamples.{single}
+use Rattle.fb_witnesses.specs.InternalSamples.{edge, single}
 
 -- the last edge leads past the second defect
 abbrev pub line_of_four : Problem

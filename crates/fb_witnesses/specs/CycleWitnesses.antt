@@ -11,9 +11,8 @@ use Rattle.fb_laws.specs.Forming.{blossom_of}
 use Rattle.fb_graph.specs.Nests.{IsNest}
 use Rattle.fb_graph.specs.Moves.{MaySplit, blossom}
 use Rattle.fb_graph.specs.Singles.{Single, nodes_of}
-use Rattle.fb_graph.specs.InternalSamples.{edge}
 use Rattle.fb_laws.specs.Works.{AreMatchedLinks}
-use Rattle.fb_witnesses.specs.InternalSamples.{line, link, single}
+use Rattle.fb_witnesses.specs.InternalSamples.{edge, line, link, single}
 use Rattle.fb_laws.specs.Trees.{Entry, Connects, plus_names, tree_names}
 use Rattle.fb_laws.specs.Searches.{IsSearch}
 use Rattle.fb_laws.specs.SearchBlossoms.{child_at}

@@ -7,7 +7,13 @@ use Rattle.fb_graph.specs.Dual.{Node}
 use Rattle.fb_graph.specs.declared.parts.Cut.{Cut}
 use Rattle.fb_graph.specs.Steps.{Roles}
 use Rattle.fb_graph.specs.Singles.{Single, nodes_of}
-use Rattle.fb_graph.specs.InternalSamples.{cut, edge}
+use Rattle.fb_graph.specs.declared.parts.Edge.{Edge}
+
+abbrev pub edge : ℕ → ℕ → ℕ → Edge
+edge u v w = record { first = u; second = v; weight = w }
+
+abbrev pub cut : ℕ → List ℕ → Cut
+cut y vs = record { value = y; vertices = vs }
 
 abbrev pub link : ℕ → ℕ → List ℕ → Link
 link u v ks = record { from = u; to = v; walk = ks }

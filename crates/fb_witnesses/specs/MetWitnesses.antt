@@ -8,14 +8,13 @@ use Rattle.fb_graph.specs.Laws.{Link}
 use Rattle.fb_graph.specs.Dual.{Node, all_cuts, cover_of, height_of, layers_at}
 use Rattle.fb_graph.specs.Nests.{IsNest}
 use Rattle.fb_graph.specs.SourceWalks.{HaveWalks}
-use Rattle.fb_graph.specs.InternalSamples.{cut, edge}
 use Rattle.fb_laws.specs.MetLinks.{IsSourceUnder, IsTightEdge, boundary_link, joined_link, met_link, turned_link}
 use Rattle.fb_laws.specs.Searches.{LeavesNode}
 use Rattle.fb_laws.specs.SingleDefects.{HasEnd, IsDefectUnder, IsSingle, link_through}
 use Rattle.fb_laws.specs.Trees.{Connects}
 use Rattle.fb_laws.specs.Works.{AreMatchedLinks}
 use Rattle.fb_witnesses.specs.NestedWitnesses.{low_nodes}
-use Rattle.fb_witnesses.specs.InternalSamples.{link}
+use Rattle.fb_witnesses.specs.InternalSamples.{cut, edge, link}
 use Rattle.fb_witnesses.specs.TreeWitnesses.{long_line}
 
 -- a line of four real vertices, with an edge to the boundary at the third one as well

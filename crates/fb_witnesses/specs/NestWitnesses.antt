@@ -11,8 +11,7 @@ use Rattle.fb_graph.specs.Links.{AreEven}
 use Rattle.fb_graph.specs.Singles.{Single, nodes_of, vertices_of}
 use Rattle.fb_graph.specs.Nests.{IsNest}
 use Rattle.fb_graph.specs.Moves.{MayJoin, MaySplit, MayAbsorb, MayUncover, joined_nodes}
-use Rattle.fb_graph.specs.InternalSamples.{cut}
-use Rattle.fb_witnesses.specs.InternalSamples.{single, line, triangle, corner_nodes, corner_roles, grown_nodes}
+use Rattle.fb_witnesses.specs.InternalSamples.{cut, single, line, triangle, corner_nodes, corner_roles, grown_nodes}
 
 -- the corners of the triangle before they grow
 abbrev pub bare_corners : List Single

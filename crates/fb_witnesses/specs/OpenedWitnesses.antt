@@ -4,13 +4,12 @@ use Rattle.std.specs.Prelude.{ℕ, ◌≡◌, ◌+◌, ◌==◌, List, [], ◌�
 use Rattle.fb_graph.specs.Certificate.{IsBest}
 use Rattle.fb_graph.specs.Laws.{Link}
 use Rattle.fb_graph.specs.Dual.{Node, leaf}
-use Rattle.fb_graph.specs.InternalSamples.{cut}
 use Rattle.fb_laws.specs.OpenedCycles.{Couple, Pass}
 use Rattle.fb_laws.specs.OpenedLinks.{opened_links}
 use Rattle.fb_laws.specs.PartStates.{PartState, IsPartState}
 use Rattle.fb_witnesses.specs.ResolvedWitnesses.{closed_nodes, printed_triangle}
 use Rattle.fb_laws.specs.RingWays.{Round, couples_after, round_at, way_to}
-use Rattle.fb_witnesses.specs.InternalSamples.{link, triangle}
+use Rattle.fb_witnesses.specs.InternalSamples.{cut, link, triangle}
 
 -- the triangle's blossom, matched to the boundary
 abbrev pub triangle_part : PartState

@@ -12,10 +12,9 @@ use Rattle.fb_laws.specs.Blossoms.{ArePaired}
 use Rattle.fb_laws.specs.Opening.{EndAtDefects, IsLevel}
 use Rattle.fb_laws.specs.Works.{HasDefects, positive_cuts}
 use Rattle.fb_graph.specs.Nests.{IsNest}
-use Rattle.fb_graph.specs.InternalSamples.{cut}
 use Rattle.fb_laws.specs.NestSolutions.{AreChildrenOf, leaf_sets}
 use Rattle.fb_witnesses.specs.NestWitnesses.{blossom_nodes, blossom_roles}
-use Rattle.fb_witnesses.specs.InternalSamples.{link, triangle}
+use Rattle.fb_witnesses.specs.InternalSamples.{cut, link, triangle}
 
 -- the blossom grown to the boundary
 abbrev pub closed_nodes : List Node

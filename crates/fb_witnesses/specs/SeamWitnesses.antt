@@ -2,7 +2,7 @@
 -- of the vertices as seams.
 use Rattle.std.specs.Prelude.{◌≡◌, ◌<◌, true, false, [], ◌∷◌, Some, None}
 use Rattle.fb_graph.specs.Limits.{DecodingGraph, ShotValue}
-use Rattle.fb_graph.specs.InternalSamples.{edge}
+use Rattle.fb_witnesses.specs.InternalSamples.{edge}
 use Rattle.fb_plan.specs.Plans.{IsPlan, PlanTree, children_of, problem_at}
 use Rattle.fb_plan.specs.Seams.{is_own}
 

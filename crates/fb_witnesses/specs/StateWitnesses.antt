@@ -10,13 +10,12 @@ use Rattle.fb_graph.specs.Dual.{Node}
 use Rattle.fb_graph.specs.Moves.{MaySplit, joined_nodes, split_nodes}
 use Rattle.fb_graph.specs.NestUnions.{AreParts, HaveOwnNames}
 use Rattle.fb_graph.specs.Singles.{Single, nodes_of}
-use Rattle.fb_graph.specs.InternalSamples.{edge}
 use Rattle.fb_laws.specs.FusedStates.{AreFurther, without_seam}
 use Rattle.fb_witnesses.specs.FusedWitnesses.{freed_end}
 use Rattle.fb_laws.specs.Merging.{IsSeam, freed_links}
 use Rattle.fb_laws.specs.OpenedCycles.{Couple, IsOpenedCycle, Pass}
 use Rattle.fb_laws.specs.PartStates.{PartState, SearchState, IsPartState, IsSearchState}
-use Rattle.fb_witnesses.specs.InternalSamples.{line, line_part, link, middle_singles, single}
+use Rattle.fb_witnesses.specs.InternalSamples.{edge, line, line_part, link, middle_singles, single}
 use Rattle.fb_laws.specs.StateBlossoms.{MayClose, with_cycle}
 use Rattle.fb_laws.specs.TreeCycles.{ArePaths}
 use Rattle.fb_laws.specs.Trees.{Entry}

@@ -7,14 +7,13 @@ use Rattle.fb_laws.specs.Forming.{Child, blossom_of}
 use Rattle.fb_graph.specs.Moves.{joined_nodes, uncovered_nodes}
 use Rattle.fb_witnesses.specs.NestWitnesses.{blossom_nodes, blossom_roles}
 use Rattle.fb_laws.specs.Opening.{Opened, IsOpenedTo, single_sets}
-use Rattle.fb_witnesses.specs.InternalSamples.{link, single, triangle, corner_nodes}
+use Rattle.fb_witnesses.specs.InternalSamples.{cut, edge, link, single, triangle, corner_nodes}
 use Rattle.fb_laws.specs.SearchBlossoms.{IsJoining, child_at}
 use Rattle.fb_graph.specs.Alike.{AreAlike}
 use Rattle.fb_laws.specs.SearchOpenings.{IsOpenedTree}
 use Rattle.fb_laws.specs.Searches.{IsSearch}
 use Rattle.fb_graph.specs.Singles.{Single, node_of, nodes_of}
 use Rattle.fb_graph.specs.Steps.{stepped_nodes}
-use Rattle.fb_graph.specs.InternalSamples.{cut, edge}
 use Rattle.fb_laws.specs.Trees.{Entry, minus_names, roles_of}
 use Rattle.fb_laws.specs.Works.{IsMatching, positive_cuts, outer_sets}
 

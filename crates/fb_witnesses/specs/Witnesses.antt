@@ -25,9 +25,8 @@ use Rattle.fb_laws.specs.Measures.{IsLower}
 use Rattle.fb_laws.specs.Merging.{IsSeam, freed_links}
 use Rattle.fb_graph.specs.Counts.{as_count}
 use Rattle.fb_graph.specs.NestUnions.{AreParts}
-use Rattle.fb_graph.specs.InternalSamples.{cut}
 use Rattle.fb_laws.specs.Forming.{IsCycle}
-use Rattle.fb_witnesses.specs.InternalSamples.{single, end_singles, middle_singles, link, line, triangle, line_singles, line_nodes, line_roles, grown_nodes, grown_roles, corner_nodes, corner_roles, line_part, blossom_cuts, bare_singles, young_nodes, pair_nodes, pair_roles}
+use Rattle.fb_witnesses.specs.InternalSamples.{cut, single, end_singles, middle_singles, link, line, triangle, line_singles, line_nodes, line_roles, grown_nodes, grown_roles, corner_nodes, corner_roles, line_part, blossom_cuts, bare_singles, young_nodes, pair_nodes, pair_roles}
 
 -- A step of a tree on the line: feasible cuts, a tight link between a minus and a plus node, the greatest step, made of
 -- two allowed ones.
