@@ -6,7 +6,7 @@ ghost use Rattle.fb_graph.specs.Limits.{IsShot, problem_of};
 ghost use Rattle.fb_plan.specs.Plans.{IsPlan};
 ghost use Rattle.fb_book.specs.Books.{IsPieceAt, place_of};
 
-use crate::board::shots;
+use crate::samples::one_shot;
 use fb_book::{Board, Book, Claim, MOST_WORKERS, Permit, Piece, order_of_nodes};
 use fb_crew::{Entry, Gate, Hands, Kind, OpenGate, Worked, work_all, work_here};
 use fb_graph::{Graph, NoMemory, Shot};
@@ -297,7 +297,7 @@ struct Pair {
 impl Pair {
     fn new(alloc: Global) -> Result<Pair, Fail> {
         let graph = Graph::build(alloc, 0, &[], &[])?;
-        let shots = shots(alloc, &graph, 1)?;
+        let shots = one_shot(alloc, &graph)?;
         let plan = two_units(alloc, &graph)?;
         Ok(Pair { graph, plan, shots })
     }

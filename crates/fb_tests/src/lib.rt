@@ -3,14 +3,8 @@
 #![tactic(auto)]
 
 #[cfg(test)]
-mod blossoms;
-#[cfg(test)]
-mod board;
-#[cfg(test)]
 mod crew;
 #[cfg(test)]
 mod runs;
 #[cfg(test)]
-mod shots;
-#[cfg(test)]
-mod trees;
+mod samples;

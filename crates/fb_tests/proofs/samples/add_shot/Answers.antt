@@ -3,7 +3,7 @@ use Rattle.std.proofs.lemmas.List.Elements.{All-push}
 use Rattle.fb_graph.specs.Components.{IsFirstOdd}
 use Rattle.fb_graph.specs.Limits.{IsShot, ShotValue, problem_of}
 use Rattle.fb_graph.proofs.Options.{is_some-none}
-use Rattle.fb_tests.proofs.board.add_shot.Goals as goal
+use Rattle.fb_tests.proofs.samples.add_shot.Goals as goal
 
 pub returns-clause-shots : goal.returns-clause-shots
 returns-clause-shots c =

@@ -1,2 +1,0 @@
-pub mod InternalFixture
-pub mod InternalSamples

@@ -1,0 +1,34 @@
+//! Calls that no run of the program makes, on samples whose answers are known: of blossoms, trees and a board. It prints what
+//! differs, and how many samples passed.
+
+#![tactic(auto)]
+
+mod board;
+mod branches;
+mod nests;
+mod streams;
+mod stopped;
+
+use std::io;
+use stopped::Stopped;
+
+fn main(rt: HostRuntime) -> io::Result<()> {
+    let alloc = rt.alloc();
+    let answers = [
+        ("a path goes through many levels", nests::goes_through_levels(alloc)),
+        ("paths and cycles in a tree", branches::finds_paths_and_cycles(alloc)),
+        ("a board has a slot for each shot", board::has_a_slot_for_each_shot(alloc)),
+        ("a stream goes on after a failed read", streams::goes_on_after_a_failed_read(alloc)),
+    ];
+    let (mut passed, mut failed) = (0, 0);
+    for (name, answer) in answers {
+        match answer {
+            Ok(()) => passed += 1,
+            Err(stopped) => {
+                println!(rt; "{name}: {stopped}")?;
+                failed += 1;
+            }
+        }
+    }
+    println!(rt; "{passed} passed, {failed} failed")
+}
