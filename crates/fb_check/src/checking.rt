@@ -239,7 +239,8 @@ fn judge<F: Files, O: Sink>(
     ensures write_unchanged { result ≢ Err RowsFault.WriteFault → O.faults out.new ≡ O.faults out.old }
 {
     let mut outbox = Outbox::new(alloc);
-    let judged = judge_into(alloc, graph, rows, files, stream, &mut outbox, out)?;
+    let mut judge = Judge::new(graph);
+    let judged = judge_into(alloc, &mut judge, rows, files, stream, &mut outbox, out)?;
     let Ok(()) = outbox.flush(out) else {
         return Err(RowsFault::WriteFault);
     };
@@ -249,7 +250,7 @@ fn judge<F: Files, O: Sink>(
 /// Judges rows by the shots of a stream that has read nothing yet. Lines wait in the outbox.
 fn judge_into<F: Files, O: Sink>(
     alloc: Global,
-    graph: &Graph,
+    judge: &mut Judge<'_>,
     rows: &[Row],
     files: &mut F,
     stream: &mut ShotStream<'_>,
@@ -257,13 +258,13 @@ fn judge_into<F: Files, O: Sink>(
     out: &mut O,
 ) -> Result<Judged, RowsFault>
     requires fresh { stream.old ≡ fresh stream.old.format stream.old.graph most_shots }
-    requires graph { stream.old.graph ≡ graph.now }
+    requires graph { stream.old.graph ≡ judge.old }
     requires values { All HasPositiveValues rows.now }
     requires empty { outbox.old.text ≡ [] }
     ensures all { IfOk result (λ j. JudgesInto (λ shots. GathersFrom (F.left files.old) stream.old.format stream.old.graph (F.left files.new) shots j.end)
-        graph.now rows.now (O.taken out.old) (O.taken out.new) outbox.new.text j) }
+        judge.old rows.now (O.taken out.old) (O.taken out.new) outbox.new.text j) }
     ensures first { OnErr result (JudgesFirst (FirstFrom (F.left files.old) stream.old.format stream.old.graph)
-        graph.now rows.now (O.taken out.old) (O.taken out.new)) }
+        judge.old rows.now (O.taken out.old) (O.taken out.new)) }
     ensures at_end { IfOk result (λ j. j.end ≡ ShotsEnd.End → IsReadOut (F.left files.old) (F.left files.new)) }
     ensures asks { F.asked files.new ≡ F.asked files.old }
     ensures fault { IfOk result (λ j. j.end ≡ ShotsEnd.ReadFault → Rose (F.faults files.old) (F.faults files.new)) }
@@ -274,7 +275,6 @@ fn judge_into<F: Files, O: Sink>(
     ensures write_never_falls { O.faults out.old ≤ O.faults out.new }
     ensures write_unchanged { result ≢ Err RowsFault.WriteFault → O.faults out.new ≡ O.faults out.old }
 {
-    let mut judge = Judge::new(graph);
     let mut shots: u64 = 0;
     let mut bad: u64 = 0;
     loop {
@@ -283,7 +283,7 @@ fn judge_into<F: Files, O: Sink>(
         };
         match step {
             Step::Shot(shot) => {
-                let Ok(is_bad) = judge_next(alloc, &mut judge, rows, shots, &shot, outbox) else {
+                let Ok(is_bad) = judge_next(alloc, judge, rows, shots, &shot, outbox) else {
                     return Err(RowsFault::NoMemory);
                 };
                 bad += one_if(is_bad);

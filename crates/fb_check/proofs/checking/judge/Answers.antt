@@ -12,4 +12,4 @@ returns-in_default-clause-first g c =
     c.judge_into.new.outbox.text c.in_ok-judged.judged (FirstFrom (g.F.Files.left c.args.files.now) c.args.stream.now.format c.args.stream.now.graph)
     (λ shots held. gathered_first (g.F.Files.left c.args.files.now) c.args.stream.now.format c.args.stream.now.graph (g.F.Files.left c.judge_into.new.files) shots
     c.in_ok-judged.judged.end held)
-    c.in_ok-judged.ensures.all c.in_default.ensures.prefix
+    (rw c.new-judge.ensures at c.in_ok-judged.ensures.all) c.in_default.ensures.prefix

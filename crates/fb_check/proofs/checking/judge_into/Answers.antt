@@ -17,9 +17,9 @@ given_at : (g : _) (c : In-Ok-judge_next g) → GivesShots c.args.stream.now c.n
 given_at g c = gives_next c.args.stream.now c.loop-step.stream c.next_shot.new.self (g.F.Files.left c.args.files.now) (g.F.Files.left c.loop-step.files)
     (g.F.Files.left c.next_shot.new.files) c.loop-step.invariant.0.shots c.in-Shot.shot c.loop-step.invariant.0.gives (rw c.in-Shot.is at c.in-Ok.ensures.step)
 
-judging_at : (g : _) (c : In-Ok-judge_next g) → IsJudging c.args.graph.now c.args.rows.now (g.O.Sink.taken c.args.out.now) (g.O.Sink.taken c.loop-step.out)
+judging_at : (g : _) (c : In-Ok-judge_next g) → IsJudging c.args.judge.now c.args.rows.now (g.O.Sink.taken c.args.out.now) (g.O.Sink.taken c.loop-step.out)
     c.judge_next.new.outbox.text (c.loop-step.invariant.0.shots ++ c.in-Shot.shot ∷ []) (c.loop-step.bad + cond c.in-Ok-judge_next.is_bad 1 0)
-judging_at g c = judging_next c.args.graph.now c.args.rows.now (g.O.Sink.taken c.args.out.now) (g.O.Sink.taken c.loop-step.out) c.loop-step.outbox.text
+judging_at g c = judging_next c.args.judge.now c.args.rows.now (g.O.Sink.taken c.args.out.now) (g.O.Sink.taken c.loop-step.out) c.loop-step.outbox.text
     c.judge_next.new.outbox.text c.loop-step.invariant.0.shots c.loop-step.shots c.loop-step.bad c.in-Shot.shot c.in-Ok-judge_next.is_bad
     c.loop-step.invariant.0.many c.loop-step.invariant.0.judging (rw c.loop-step.invariant.7 at c.in-Ok-judge_next.ensures.line)
 
@@ -28,7 +28,7 @@ loop-step-init g c = (
   record {
     shots = [];
     gives = gives_none c.args.stream.now (g.F.Files.left c.args.files.now);
-    judging = judging_begins c.args.graph.now c.args.rows.now (g.O.Sink.taken c.args.out.now) _ c.requires.empty;
+    judging = judging_begins c.args.judge.now c.args.rows.now (g.O.Sink.taken c.args.out.now) _ c.requires.empty;
     many = refl;
   },
   omega arith,
@@ -38,25 +38,25 @@ loop-step-init g c = (
   refl,
   refl,
   refl,
-  c.new-judge.ensures,
+  refl,
 )
 
 pub returns-in_default-clause-first : goal.returns-in_default-clause-first
 returns-in_default-clause-first g c =
-    judged_first c.args.graph.now c.args.rows.now c.args.stream.now c.loop-step.stream (g.F.Files.left c.args.files.now) (g.F.Files.left c.loop-step.files)
+    judged_first c.args.judge.now c.args.rows.now c.args.stream.now c.loop-step.stream (g.F.Files.left c.args.files.now) (g.F.Files.left c.loop-step.files)
     (g.O.Sink.taken c.args.out.now) (g.O.Sink.taken c.loop-step.out) c.loop-step.outbox.text c.loop-step.shots c.loop-step.bad c.requires.fresh
     c.loop-step.invariant.0
 
 pub returns-in_default-judge_next-clause-first : goal.returns-in_default-judge_next-clause-first
 returns-in_default-judge_next-clause-first g c =
-    judged_first c.args.graph.now c.args.rows.now c.args.stream.now c.loop-step.stream (g.F.Files.left c.args.files.now) (g.F.Files.left c.loop-step.files)
+    judged_first c.args.judge.now c.args.rows.now c.args.stream.now c.loop-step.stream (g.F.Files.left c.args.files.now) (g.F.Files.left c.loop-step.files)
     (g.O.Sink.taken c.args.out.now) (g.O.Sink.taken c.loop-step.out) c.loop-step.outbox.text c.loop-step.shots c.loop-step.bad c.requires.fresh
     c.loop-step.invariant.0
 
 pub returns-in_default-flush_if_full-clause-first : goal.returns-in_default-flush_if_full-clause-first
 returns-in_default-flush_if_full-clause-first g c =
     let at = (goal.at.returns-in_default-flush_if_full-clause-first g c).In-Ok-judge_next in
-    judged_at_fault c.args.graph.now c.args.rows.now c.args.stream.now c.next_shot.new.self (g.F.Files.left c.args.files.now) (g.F.Files.left c.next_shot.new.files)
+    judged_at_fault c.args.judge.now c.args.rows.now c.args.stream.now c.next_shot.new.self (g.F.Files.left c.args.files.now) (g.F.Files.left c.next_shot.new.files)
     (g.O.Sink.taken c.args.out.now) (g.O.Sink.taken c.loop-step.out) (g.O.Sink.taken c.flush_if_full.new.out) c.judge_next.new.outbox.text _ _
     (given_first c.args.stream.now c.next_shot.new.self (g.F.Files.left c.args.files.now) (g.F.Files.left c.next_shot.new.files) _ c.requires.fresh
     (given_at g at))
@@ -74,9 +74,9 @@ loop-step-preserved g c =
       record {
         shots = c.loop-step.invariant.0.shots ++ c.in-Shot.shot ∷ [];
         gives = given_at g at;
-        judging = subst (λ (n : ℕ). IsJudging c.args.graph.now c.args.rows.now (g.O.Sink.taken c.args.out.now) (g.O.Sink.taken c.flush_if_full.new.out)
+        judging = subst (λ (n : ℕ). IsJudging c.args.judge.now c.args.rows.now (g.O.Sink.taken c.args.out.now) (g.O.Sink.taken c.flush_if_full.new.out)
             c.flush_if_full.new.self.text (c.loop-step.invariant.0.shots ++ c.in-Shot.shot ∷ []) (c.loop-step.bad + n)) (sym c.one_if-bad.ensures)
-            (judging_moved c.args.graph.now c.args.rows.now (g.O.Sink.taken c.args.out.now) (g.O.Sink.taken c.loop-step.out)
+            (judging_moved c.args.judge.now c.args.rows.now (g.O.Sink.taken c.args.out.now) (g.O.Sink.taken c.loop-step.out)
             (g.O.Sink.taken c.flush_if_full.new.out) c.judge_next.new.outbox.text c.flush_if_full.new.self.text (c.loop-step.invariant.0.shots ++ c.in-Shot.shot ∷ [])
             (c.loop-step.bad + cond c.in-Ok-judge_next.is_bad 1 0) (judging_at g at) c.in-Ok-flush_if_full.ensures.ok);
         many = ap (λ (n : ℕ). n + 1) (c.loop-step.invariant.2) ∙ sym (rw c.in-Shot.is at c.in-Ok.ensures.step).counts ∙ more;
@@ -92,14 +92,14 @@ loop-step-preserved g c =
 
 pub returns-in-End-clause-all : goal.returns-in-End-clause-all
 returns-in-End-clause-all g c =
-    judged_into c.args.graph.now c.args.rows.now c.args.stream.now c.loop-step.stream (g.F.Files.left c.args.files.now) (g.F.Files.left c.loop-step.files)
+    judged_into c.args.judge.now c.args.rows.now c.args.stream.now c.loop-step.stream (g.F.Files.left c.args.files.now) (g.F.Files.left c.loop-step.files)
     (g.O.Sink.taken c.args.out.now) (g.O.Sink.taken c.loop-step.out) _ c.loop-step.outbox.text _ c.loop-step.invariant.0
     (gathered_all c.args.stream.now c.loop-step.stream (g.F.Files.left c.args.files.now) (g.F.Files.left c.loop-step.files) c.loop-step.invariant.0.shots
     c.requires.fresh c.loop-step.invariant.0.gives c.next_shot.new.self (g.F.Files.left c.next_shot.new.files) (rw c.in-End.is at c.in-Ok.ensures.step))
 
 pub returns-in-Refused-clause-all : goal.returns-in-Refused-clause-all
 returns-in-Refused-clause-all g c =
-    judged_into c.args.graph.now c.args.rows.now c.args.stream.now c.loop-step.stream (g.F.Files.left c.args.files.now) (g.F.Files.left c.loop-step.files)
+    judged_into c.args.judge.now c.args.rows.now c.args.stream.now c.loop-step.stream (g.F.Files.left c.args.files.now) (g.F.Files.left c.loop-step.files)
     (g.O.Sink.taken c.args.out.now) (g.O.Sink.taken c.loop-step.out) _ c.loop-step.outbox.text _ c.loop-step.invariant.0
     (gathered_before c.args.stream.now c.loop-step.stream (g.F.Files.left c.args.files.now) (g.F.Files.left c.loop-step.files) c.loop-step.invariant.0.shots
     c.requires.fresh c.loop-step.invariant.0.gives c.next_shot.new.self (g.F.Files.left c.next_shot.new.files) c.in-Refused.fault
@@ -107,7 +107,7 @@ returns-in-Refused-clause-all g c =
 
 pub returns-in-ReadFault-clause-all : goal.returns-in-ReadFault-clause-all
 returns-in-ReadFault-clause-all g c =
-    judged_into c.args.graph.now c.args.rows.now c.args.stream.now c.loop-step.stream (g.F.Files.left c.args.files.now) (g.F.Files.left c.loop-step.files)
+    judged_into c.args.judge.now c.args.rows.now c.args.stream.now c.loop-step.stream (g.F.Files.left c.args.files.now) (g.F.Files.left c.loop-step.files)
     (g.O.Sink.taken c.args.out.now) (g.O.Sink.taken c.loop-step.out) _ c.loop-step.outbox.text _ c.loop-step.invariant.0
     (gathered_part c.args.stream.now c.loop-step.stream (g.F.Files.left c.args.files.now) (g.F.Files.left c.loop-step.files) c.loop-step.invariant.0.shots
     c.requires.fresh c.loop-step.invariant.0.gives c.next_shot.new.self (g.F.Files.left c.next_shot.new.files) (rw c.in-ReadFault.is at c.in-Ok.ensures.step))
