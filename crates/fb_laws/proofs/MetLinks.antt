@@ -31,7 +31,7 @@ All-reverse P (x ∷ xs) h =
 pub covered_real : (p : Problem) (nodes : List Node) (v name : ℕ) → IsDual p nodes → cover_of nodes v ≡ Some name → p.is_real v ≡ true
 covered_real p nodes v name dual cover = dual.real v (subst IsSome (sym cover) refl)
 
-first_real : (p : Problem) (e : Edge) (u v : ℕ) → Leads e u v → p.is_real u ≡ true → has_real_end p e ≡ true
+pub first_real : (p : Problem) (e : Edge) (u v : ℕ) → Leads e u v → p.is_real u ≡ true → has_real_end p e ≡ true
 first_real p e u v (inl (from, to)) real = or_left (p.is_real e.first) (p.is_real e.second) (ap p.is_real from ∙ real)
 first_real p e u v (inr (from, to)) real = or_right (p.is_real e.first) (p.is_real e.second) (ap p.is_real from ∙ real)
 
@@ -99,13 +99,16 @@ link_met p nodes a b walk back k d u v c dual other source target edge =
     real : ℕ → Type 0
     real j = has_real_end p (edge_at p.edges j) ≡ true
 
--- no set holds a boundary vertex
-no_height : (p : Problem) (nodes : List Node) (v : ℕ) → IsDual p nodes → p.is_real v ≡ false → height_of (all_cuts nodes) v ≡ 0
-no_height p nodes v dual unreal = dual.uncovered v (step (cover_of nodes v) refl)
+-- no node holds a boundary vertex, and no set does
+pub uncovered_real : (p : Problem) (nodes : List Node) (v : ℕ) → IsDual p nodes → p.is_real v ≡ false → cover_of nodes v ≡ None
+uncovered_real p nodes v dual unreal = step (cover_of nodes v) refl
   where
     step : (o : Option ℕ) → cover_of nodes v ≡ o → o ≡ None
     step None e = refl
     step (Some name) e = absurd (both_ways (p.is_real v) unreal (covered_real p nodes v name dual e))
+
+no_height : (p : Problem) (nodes : List Node) (v : ℕ) → IsDual p nodes → p.is_real v ≡ false → height_of (all_cuts nodes) v ≡ 0
+no_height p nodes v dual unreal = dual.uncovered v (uncovered_real p nodes v dual unreal)
 
 pub link_to_boundary : LinkToBoundary
 link_to_boundary p nodes a walk k d u v dual unreal source edge =

@@ -1,5 +1,5 @@
 -- What the looks at all minus nodes and all watched edges tell of the tree.
-use Rattle.std.proofs.Common.{ℕ, ◌≡◌, ◌+◌, ◌≤◌, ◌<◌, ◌⊎◌, inl, inr, true, false, List, length, get_or, Option, Some, None, is_some, All, refl, sym, ap, ◌∙◌, subst, arith}
+use Rattle.std.proofs.Common.{ℕ, ◌≡◌, ◌+◌, ◌≤◌, ◌<◌, ◌⊎◌, inl, inr, true, false, List, length, get_or, None, All, sym, ap, ◌∙◌, subst, arith}
 use Rattle.std.proofs.lemmas.Bool.{both_ways, cases_Bool}
 use Rattle.std.proofs.lemmas.List.Elements.{All-from_get_or}
 use Rattle.fb_graph.specs.Parity.{is_in}
@@ -14,6 +14,7 @@ use Rattle.fb_graph.specs.declared.parts.Edge.{Edge}
 use Rattle.fb_graph.proofs.Crossings.{exclusive_over, under_or_not}
 use Rattle.fb_graph.proofs.Sets.{All-from_is_in, is_in-All}
 use Rattle.fb_laws.specs.Lengths.{HasPlus}
+use Rattle.fb_laws.proofs.MetLinks.{uncovered_real}
 use Rattle.fb_laws.proofs.StepBounds.{edge_allows, edge_within_allows, no_obstacle_before}
 use Rattle.fb_laws.proofs.StepLengths.{no_length, greatest_step}
 use Rattle.fb_obstacles.specs.declared.obstacle.Obstacle.{Obstacle}
@@ -117,14 +118,6 @@ tight_is_not_clear p roles nodes k u v clear edge differs free = by edge.leads
         let less = here.second (subst (λ x. is_covered_by roles.is_plus nodes x ≡ true) (sym second) edge.plus)
         (subst (λ x. is_covered_by roles.is_minus nodes x ≡ false) (sym first) free) in
         absurd (omega (arith, less, edge.tight))
-
-pub uncovered_real : (p : Problem) (nodes : List Node) (v : ℕ) → IsDual p nodes → p.is_real v ≡ false → cover_of nodes v ≡ None
-uncovered_real p nodes v dual boundary = step (cover_of nodes v) refl
-  where
-    step : (o : Option ℕ) → cover_of nodes v ≡ o → o ≡ None
-    step None is = refl
-    step (Some n) is =
-        absurd (both_ways (p.is_real v) boundary (dual.real v (ap is_some is)))
 
 minus_is_thick : (p : Problem) (roles : Roles) (nodes : List Node) (name : ℕ) → HasNoObstacle p roles nodes
     → is_live nodes name ≡ true → roles.is_minus name ≡ true → All (λ n. n.name ≡ name → n.top.value ≡ 0) nodes → ⊥

@@ -2,10 +2,14 @@ pub mod BoundedScans
 pub mod Conclusions
 pub mod EdgeLooks
 pub mod EdgeScans
+pub mod HalvedBounds
 pub mod HeldEnds
+pub mod LeftEdges
 pub mod LookLimits
 pub mod LookPlaces
 pub mod NodeLooks
-pub mod HalvedBounds
 pub mod RaisedBounds
+pub mod SingleEdges
 pub mod StoredEdges
+pub mod TopLayers
+pub mod WatchSteps

@@ -4,15 +4,21 @@
 
 mod bounding;
 mod ends;
+pub mod entering;
 pub mod finding;
 mod looking;
 pub mod obstacle;
 mod scanning;
 pub mod shrinking;
+pub mod singles;
 pub mod watching;
 
+pub use entering::{free_end, watch_node, watch_taken};
 pub use fb_regions::{NodeId, Role, Roles};
 pub use finding::{next_obstacle, next_obstacle_by_bounds, obstacle_at};
 pub use obstacle::Obstacle;
 pub use shrinking::MinusNodes;
+pub use singles::{
+    Around, Reach, is_nearer, is_single, reach_over, room_beside, share, single_vertex, with_best,
+};
 pub use watching::Watch;

@@ -24,7 +24,7 @@ use Rattle.fb_trees.specs.Rooted.{attached_grown, role_in}
 use Rattle.fb_half.specs.Translations.{link_by}
 use Rattle.fb_search.specs.InternalProgress.{to_do}
 use Rattle.fb_search.specs.InternalSearching.{IsSearchingBeside, SearchValue, problem_of, state_at}
-use Rattle.fb_search.specs.InternalWatching.{Watches}
+use Rattle.fb_obstacles.specs.InternalWatching.{Watches}
 use Rattle.fb_search.proofs.BegunSearches.{touches_first, touches_second}
 use Rattle.fb_search.proofs.TakenVertices.{plus_over}
 use Rattle.fb_search.proofs.RolesInTree.{plus_in_tree}

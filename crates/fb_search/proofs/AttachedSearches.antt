@@ -24,7 +24,7 @@ use Rattle.fb_search.specs.declared.attaching.Met.{Met}
 use Rattle.fb_search.specs.InternalMeetings.{HasMet, IsCouple, rematched_search}
 use Rattle.fb_search.specs.InternalProgress.{GoesOn}
 use Rattle.fb_search.specs.InternalSearching.{IsSearching, IsSearchingBeside, SearchValue, problem_of, relinked_search, searched_links, state_at}
-use Rattle.fb_search.specs.InternalWatching.{Watches}
+use Rattle.fb_obstacles.specs.InternalWatching.{Watches}
 use Rattle.fb_search.proofs.AttachedBranches.{less_attached, watch_attached}
 use Rattle.fb_search.proofs.AttachedMatches.{matching_attached}
 use Rattle.fb_search.proofs.Linked.{links_reordered}

@@ -15,7 +15,7 @@ use Rattle.fb_obstacles.specs.Obstacles.{grows, slack_at}
 use Rattle.fb_regions.specs.declared.roles.Role.TheVariants.{Plus, Minus, Out}
 use Rattle.fb_plan.specs.Plans.{PlanTree, problem_at}
 use Rattle.fb_search.specs.InternalSearching.{IsSearching, SearchValue, roles_in}
-use Rattle.fb_search.specs.InternalWatching.{Watches}
+use Rattle.fb_obstacles.specs.InternalWatching.{Watches}
 
 abbrev begun : ℕ → PartValue → Watched → SearchValue
 begun root part watched = record { part = part; tree = bare root; watched = watched }

@@ -1,5 +1,5 @@
 -- The watch of a search after a cycle of its tree becomes a blossom: the minus nodes of the cycle are plus now.
-use Rattle.std.proofs.Common.{ℕ, ◌≡◌, ◌≢◌, ◌<◌, ◌⊎◌, inl, inr, not, cond, Bool, true, false, List, [], ◌∷◌, map, length, All, Some, refl, sym, ap, ◌∙◌, subst, if◌then◌else◌}
+use Rattle.std.proofs.Common.{ℕ, ◌≡◌, ◌≢◌, ◌+◌, ◌<◌, ◌⊎◌, inl, inr, not, cond, Bool, true, false, List, [], ◌∷◌, map, length, take, get_or, All, Some, refl, sym, ap, ◌∙◌, subst, if◌then◌else◌}
 use Rattle.std.proofs.lemmas.Bool.{both_ways, false≢true}
 use Rattle.fb_graph.specs.Parity.{is_in}
 use Rattle.fb_graph.specs.Problem.{Problem, edge_at, touches}
@@ -9,12 +9,14 @@ use Rattle.fb_graph.specs.Dual.{AreOuterApart, Node, cover_of, is_live, is_outer
 use Rattle.fb_graph.specs.Covers.{is_covered_by, passes}
 use Rattle.fb_graph.specs.Moves.{MayJoin, joined_nodes}
 use Rattle.fb_graph.proofs.Among.{among_live, cover_among, top_among}
+use Rattle.fb_graph.proofs.Members.{is_in-take_more}
 use Rattle.fb_graph.proofs.Sets.{is_in-cases, is_in-head, is_in-tail}
 use Rattle.fb_regions.specs.declared.roles.Role.TheVariants.{Plus, Minus, Out}
 use Rattle.fb_laws.specs.SearchBlossoms.{joined_tree, outer_branches, renamed_name, renamed_entry}
 use Rattle.fb_laws.specs.Trees.{EntryOf, minus_names, plus_names, tree_names}
 use Rattle.fb_plan.specs.Plans.{PlanTree, problem_at}
 use Rattle.fb_half.specs.Parts.{PartValue, problem_in}
+use Rattle.fb_obstacles.specs.InternalWatching.{Watches}
 use Rattle.fb_obstacles.specs.Obstacles.{IsWatched, grows, roles_by}
 use Rattle.fb_obstacles.specs.Watched.{Watched}
 use Rattle.fb_trees.specs.Branches.{Grown}
@@ -27,6 +29,41 @@ use Rattle.fb_search.proofs.CoversBefore.{cover_before}
 use Rattle.fb_search.proofs.KeptWatches.{IsWatchedAt, together_joined, watch_kept}
 use Rattle.fb_search.proofs.RolesInTree.{plus_in_tree}
 use Rattle.fb_search.proofs.TakenVertices.{plus_over}
+
+-- the edges at one minus node more
+pub minus_on : (p : Problem) (nodes : List Node) (tree : Grown) (names : List ℕ) (i : ℕ) (a b c : Watched) → i < length names
+    → WatchesMinus p nodes tree (take i names) a b → Watches p (top_at nodes (get_or names i 0)) b c
+    → WatchesMinus p nodes tree (take (i + 1) names) a c
+minus_on p nodes tree names i a b c lt before more = record {
+  room = more.room ∙ before.room;
+  kept = λ k h. more.kept k (before.kept k h);
+  near = λ name v k mem minus held less touch. by name v k minus held less touch (is_in-take_more names i name lt mem);
+  bounds = λ limit right. more.bounds limit (before.bounds limit right);
+}
+  where
+    by : (name v k : ℕ) → role_in tree name ≡ Minus → is_in (top_at nodes name) v ≡ true → k < length p.edges
+        → touches v (edge_at p.edges k) ≡ true → (is_in (take i names) name ≡ true) ⊎ (get_or names i 0 ≡ name)
+        → is_in c.edges k ≡ true
+    by name v k minus held less touch (inl old) = more.kept k (before.near name v k old minus held less touch)
+    by name v k minus held less touch (inr same) =
+        more.near v k (ap (λ n. is_in (top_at nodes n) v) same ∙ held) less touch
+
+-- a node that isn't minus brings no edges
+pub minus_past : (p : Problem) (nodes : List Node) (tree : Grown) (names : List ℕ) (i : ℕ) (a b : Watched) → i < length names
+    → ¬ (role_in tree (get_or names i 0) ≡ Minus) → WatchesMinus p nodes tree (take i names) a b
+    → WatchesMinus p nodes tree (take (i + 1) names) a b
+minus_past p nodes tree names i a b lt other before = record {
+  room = before.room;
+  kept = before.kept;
+  near = λ name v k mem minus held less touch. by name v k minus held less touch (is_in-take_more names i name lt mem);
+  bounds = before.bounds;
+}
+  where
+    by : (name v k : ℕ) → role_in tree name ≡ Minus → is_in (top_at nodes name) v ≡ true → k < length p.edges
+        → touches v (edge_at p.edges k) ≡ true → (is_in (take i names) name ≡ true) ⊎ (get_or names i 0 ≡ name)
+        → is_in b.edges k ≡ true
+    by name v k minus held less touch (inl old) = before.near name v k old minus held less touch
+    by name v k minus held less touch (inr same) = absurd (other (ap (role_in tree) same ∙ minus))
 
 -- a plus node of the tree with the blossom in it, other than the blossom, was plus
 plus_before : {L : Type 0} (joins : ℕ → Bool) (name root : ℕ) (tree : List (EntryOf L)) (n : ℕ) → n ≢ name

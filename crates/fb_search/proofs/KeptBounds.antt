@@ -1,8 +1,7 @@
 -- Bounds of slacks stay right while a search goes on.
-use Rattle.std.proofs.Common.{ℕ, ◌≡◌, ◌+◌, ◌-◌, ◌*◌, ◌<◌, ◌≤◌, ◌⊎◌, inl, inr, ◌&&◌, Bool, true, false, cond, Option, Some, None, is_some, List, [], ◌∷◌, ◌++◌, length, length-append, map, get_or, refl, ap, subst, arith}
+use Rattle.std.proofs.Common.{ℕ, ◌≡◌, ◌+◌, ◌-◌, ◌*◌, ◌≤◌, ◌&&◌, Bool, true, false, cond, Option, Some, None, is_some, List, map, get_or, refl, ap, subst, arith}
 use Rattle.std.proofs.Math.ListN.{get_or-map}
-use Rattle.std.proofs.lemmas.Bool.{cases_lt, false≢true}
-use Rattle.std.proofs.lemmas.List.{get_or_append_left, get_or_push}
+use Rattle.std.proofs.lemmas.Bool.{false≢true}
 use Rattle.fb_graph.specs.Counts.{as_count}
 use Rattle.fb_graph.specs.Problem.{Problem, edge_at}
 use Rattle.fb_graph.specs.declared.parts.Edge.{Edge}
@@ -12,13 +11,8 @@ use Rattle.fb_graph.specs.Steps.{AllowShrinking, Roles, stepped_nodes}
 use Rattle.fb_graph.proofs.StepHeights.{cover_stepped, height_stepped}
 use Rattle.fb_obstacles.specs.Obstacles.{residue_of, slack_at, slack_of}
 use Rattle.fb_obstacles.specs.Watched.{AreBounded, Watched}
+use Rattle.fb_obstacles.proofs.WatchSteps.{bounded_by}
 use Rattle.fb_search.specs.InternalProgress.{lowered_by}
-
--- bounds are right for greater limits too
-pub bounded_by : (old new : ℕ → ℕ) (watched : Watched) → ((k : ℕ) → old k ≤ new k) → AreBounded old watched
-    → AreBounded new watched
-bounded_by old new watched more bounds i less =
-    omega (arith, bounds i less, more (get_or watched.edges i 0))
 
 -- no slack falls where all potentials stay, and no node comes to hold a vertex
 slack_still : (old new : List Node) (e : Edge)
@@ -108,19 +102,3 @@ module _ (roles : Roles) (nodes : List Node) (k : ℕ) (apart : AreOuterApart no
       subst (λ d. get_or (map (λ b. b - 2 * k) watched.bounds) i d ≡ get_or watched.bounds i 0 - 2 * k) none
       (get_or-map (λ b. b - 2 * k) watched.bounds i 0) in
       omega (arith, bound, bounds i less, slack_stepped e)
-
--- the watched edges with one more, which has no bound yet
-abbrev pub with_edge : Watched → ℕ → Watched
-with_edge w edge = record { edge_count = w.edge_count; edges = w.edges ++ edge ∷ []; bounds = w.bounds ++ 0 ∷ [] }
-
-pub bounded_entered : (limit : ℕ → ℕ) (w : Watched) (edge : ℕ) → length w.bounds ≡ length w.edges → AreBounded limit w
-    → AreBounded limit (with_edge w edge)
-bounded_entered limit w edge even bounds i less = by (cases_lt i (length w.edges))
-  where
-    by : (i < length w.edges) ⊎ (length w.edges ≤ i) → get_or (w.bounds ++ 0 ∷ []) i 0 ≤ limit (get_or (w.edges ++ edge ∷ []) i 0)
-    by (inl before) =
-        let here : i < length w.bounds = omega (arith, even) in
-        rw (get_or_append_left w.bounds (0 ∷ []) 0 i here, get_or_append_left w.edges (edge ∷ []) 0 i before) (bounds i before)
-    by (inr after) =
-        let last : length w.bounds ≡ i = omega (arith, even, length-append w.edges (edge ∷ [])) in
-        omega (arith, get_or_push w.bounds 0 0 i last)

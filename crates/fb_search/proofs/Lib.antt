@@ -4,9 +4,7 @@ pub mod AttachedMatches
 pub mod AttachedSearches
 pub mod BegunSearches
 pub mod BranchEnds
-pub mod BranchNames
 pub mod BranchPlaces
-pub mod BranchTurns
 pub mod ClosedCycles
 pub mod ClosedSearches
 pub mod ClosedWatches
@@ -36,7 +34,6 @@ pub mod JoinStates
 pub mod KeptBounds
 pub mod KeptNodes
 pub mod KeptWatches
-pub mod LeftEdges
 pub mod Linked
 pub mod LinkedSteps
 pub mod MadeLinks
@@ -51,7 +48,6 @@ pub mod NearMatches
 pub mod NearPairs
 pub mod NearParts
 pub mod NextObstacles
-pub mod NodeTurns
 pub mod OpenedAlong
 pub mod OpenedConditions
 pub mod OpenedLinks
@@ -68,7 +64,6 @@ pub mod OpenedWatches
 pub mod OpenedWays
 pub mod Openings
 mod OutcomeSteps
-pub mod PassedVertices
 pub mod Relayered
 pub mod ReleasedMatches
 pub mod Renamed
@@ -83,14 +78,10 @@ pub mod Runs
 pub mod ScopeWalks
 pub mod SearchRoles
 pub mod SearchedEach
-pub mod SourceSteps
 pub mod StepPairs
 pub mod StepWalks
 pub mod SteppedSearches
 pub mod TakenNames
 pub mod TakenVertices
-pub mod TightWalks
-pub mod TopLayers
 pub mod TreeEnds
 pub mod UncoveredLayers
-pub mod WatchSteps

@@ -23,7 +23,7 @@ use Rattle.fb_half.specs.Translations.{link_by}
 use Rattle.fb_trees.specs.Rooted.{is_node}
 use Rattle.fb_search.specs.InternalMeetings.{HasMet, IsBoundaryMatch, IsCouple}
 use Rattle.fb_search.specs.InternalTightEdges.{Meets}
-use Rattle.fb_search.specs.InternalMetWalks.{IsMetWalk}
+use Rattle.fb_trees.specs.InternalMetWalks.{IsMetWalk}
 use Rattle.fb_search.specs.InternalSearching.{IsSearching, IsSearchingBeside, SearchValue, problem_of}
 use Rattle.fb_half.proofs.FlatPermutations.{flat_permuted}
 use Rattle.fb_search.proofs.Renamed.{tree_listed}

@@ -16,9 +16,10 @@ use Rattle.fb_graph.specs.declared.parts.Edge.{Edge}
 use Rattle.fb_graph.proofs.Members.{is_in-append}
 use Rattle.fb_graph.proofs.Ranges.{is_in-filter-range}
 use Rattle.fb_obstacles.specs.Obstacles.{residue_of}
-use Rattle.fb_search.specs.declared.near.Around.{Around}
-use Rattle.fb_search.specs.declared.near.Reach.{Reach}
-use Rattle.fb_search.specs.InternalNear.{HasRoom, IsReach, IsTarget, is_nearer, is_target, room_with, with_best, with_reach}
+use Rattle.fb_obstacles.specs.declared.singles.Around.{Around}
+use Rattle.fb_obstacles.specs.declared.singles.Reach.{Reach}
+use Rattle.fb_obstacles.specs.InternalSingles.{HasRoom, IsReach, is_nearer, room_with, with_best}
+use Rattle.fb_search.specs.InternalNear.{IsTarget, is_target, with_reach}
 use Rattle.fb_search.proofs.NearEdges.{target_is}
 use Rattle.fb_search.proofs.NearMatches.{leads_apart, touches_from}
 use Rattle.fb_graph.proofs.Walks.{Leads_flip}
@@ -70,7 +71,6 @@ pub record IsAround (p : Problem) (nodes : List Node) (unmatched : List ℕ) (v 
   pub others : (k : ℕ) → is_in items k ≡ true → IsBest a.best k ⊎ (a.room ≤ residue_of nodes (edge_at p.edges k))
 
 module _ (p : Problem) (nodes : List Node) (unmatched : List ℕ) (v : ℕ) where
-
   module _ (r : Reach) (is : IsReach p nodes v r) where
     -- a target at the end of this edge is one that it reaches
     same_target : (k f : ℕ) → r.edge ≡ k → Leads (edge_at p.edges k) v f

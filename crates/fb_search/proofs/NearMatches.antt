@@ -21,10 +21,11 @@ use Rattle.fb_plan.specs.declared.scope.NodeScope.{NodeScope}
 use Rattle.fb_half.specs.Values.{IsScopeOf}
 use Rattle.fb_half.specs.Matchings.{matched_names}
 use Rattle.fb_half.specs.Parts.{IsPart, PartValue, problem_in}
-use Rattle.fb_search.specs.InternalNear.{HasRoom, IsNearBoundary, alone}
-use Rattle.fb_search.specs.InternalSteps.{IsTreeOver}
+use Rattle.fb_obstacles.specs.InternalSingles.{HasRoom}
+use Rattle.fb_search.specs.InternalNear.{IsNearBoundary, alone}
+use Rattle.fb_trees.specs.InternalSteps.{IsTreeOver}
 use Rattle.fb_search.specs.InternalTightEdges.{LeadsOut}
-use Rattle.fb_search.specs.InternalMetWalks.{IsOut, IsOutWalk}
+use Rattle.fb_trees.specs.InternalMetWalks.{IsOut, IsOutWalk}
 use Rattle.fb_search.specs.InternalProgress.{stepped_by}
 use Rattle.fb_search.specs.Progress.{IsSearched}
 use Rattle.fb_search.specs.InternalSearching.{IsSearching, SearchValue, roles_in}

@@ -25,9 +25,9 @@ use Rattle.fb_obstacles.specs.Obstacles.{grows, shrinks}
 use Rattle.fb_regions.specs.declared.roles.Role.TheVariants.{Plus, Minus, Out}
 use Rattle.fb_search.specs.declared.near.NearPair.{NearPair}
 use Rattle.fb_search.specs.InternalNear.{IsNearPair, alone}
-use Rattle.fb_search.specs.InternalSteps.{IsTreeOver}
+use Rattle.fb_trees.specs.InternalSteps.{IsTreeOver}
 use Rattle.fb_search.specs.InternalTightEdges.{Meets}
-use Rattle.fb_search.specs.InternalMetWalks.{IsBetween, IsMetWalk}
+use Rattle.fb_trees.specs.InternalMetWalks.{IsBetween, IsMetWalk}
 use Rattle.fb_search.specs.InternalProgress.{stepped_by}
 use Rattle.fb_search.specs.Progress.{IsSearched}
 use Rattle.fb_search.specs.InternalSearching.{IsSearching, SearchValue, roles_in}
@@ -171,7 +171,6 @@ module _ (part : PartValue) (root : ℕ) (pair : NearPair) (are : IsPart part) (
 
   -- what the code asks of the scope
   module _ (s : NodeScope) (own : IsScopeOf s part) where
-
     last_own : IsScopeOf s last.part
     last_own = record { graph = own.graph; plan = own.plan; node = own.node }
 

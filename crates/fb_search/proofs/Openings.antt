@@ -15,7 +15,7 @@ use Rattle.fb_obstacles.specs.Watched.{Watched}
 use Rattle.fb_search.specs.InternalEndings.{Forgets}
 use Rattle.fb_search.specs.InternalOpenings.{EndsAtChild, couples_on, even_on, links_left, round_on, second_nodes, way_on}
 use Rattle.fb_search.specs.InternalSearching.{SearchValue, problem_of}
-use Rattle.fb_search.specs.InternalWatching.{Watches}
+use Rattle.fb_obstacles.specs.InternalWatching.{Watches}
 
 -- the round from the one child by the way on which the other is an even number of links on
 abbrev pub round_in : PartValue → ℕ → ℕ → ℕ → List CycleStep

@@ -1,9 +1,9 @@
 -- The problem of a scope has no defects. What holds of walks over it holds for the part's own problem.
-use Rattle.std.proofs.Common.{ℕ, ◌≡◌, ◌≢◌, ◌⊎◌, inl, inr, List, [], ◌∷◌, Some, true, refl, sym, ap, ◌∙◌, subst}
+use Rattle.std.proofs.Common.{ℕ, ◌≡◌, ◌≢◌, ◌⊎◌, inl, inr, List, [], ◌∷◌, Some, refl, sym, ap, ◌∙◌, subst}
 use Rattle.std.proofs.lemmas.List.Elements.{All-weaker}
 use Rattle.fb_graph.specs.Components.{Leads}
 use Rattle.fb_graph.specs.Dual.{Node, all_cuts, cover_of}
-use Rattle.fb_graph.specs.Laws.{Link, has_real_end}
+use Rattle.fb_graph.specs.Laws.{Link}
 use Rattle.fb_graph.specs.Links.{IsTightLink}
 use Rattle.fb_graph.specs.Limits.{no_shot}
 use Rattle.fb_graph.specs.Problem.{Problem, edge_at, with_defects}
@@ -14,11 +14,10 @@ use Rattle.fb_graph.proofs.Walks.{walk_same}
 use Rattle.fb_links.specs.declared.walk.Step.{Step}
 use Rattle.fb_plan.specs.Plans.{problem_at}
 use Rattle.fb_plan.specs.declared.scope.NodeScope.{NodeScope}
-use Rattle.fb_regions.specs.Walks.{IsStep}
 use Rattle.fb_half.specs.Parts.{AreStepsOf, PartValue, problem_in, shot_of}
 use Rattle.fb_half.specs.Translations.{link_of}
 use Rattle.fb_half.specs.Values.{IsScopeOf}
-use Rattle.fb_search.specs.InternalMetWalks.{IsBetween, IsMetWalk, IsOut, IsOutWalk, IsTightWalk}
+use Rattle.fb_trees.specs.InternalMetWalks.{IsBetween, IsMetWalk, IsOut, IsOutWalk, IsRealStep, IsTightWalk}
 use Rattle.fb_search.proofs.BegunSearches.{same_scope}
 use Rattle.fb_laws.proofs.SearchTrees.{connects_sym}
 
@@ -43,8 +42,7 @@ module _ (p : Problem) (defects : List ℕ) (nodes : List Node) where
 
   pub steps_with : (walk : List Step) → AreStepsOf p walk → AreStepsOf (with_defects p defects) walk
   steps_with walk are =
-      All-weaker (λ s. IsStep p s × (has_real_end p (edge_at p.edges s.edge) ≡ true))
-      (λ s. IsStep (with_defects p defects) s × (has_real_end p (edge_at p.edges s.edge) ≡ true))
+      All-weaker (IsRealStep p) (IsRealStep (with_defects p defects))
       (λ s is. (record { within = is.0.within; leads = is.0.leads; weighs = is.0.weighs }, is.1)) walk are
 
   walk_with : (walk : List Step) → IsTightWalk p nodes walk → IsTightWalk (with_defects p defects) nodes walk

@@ -23,7 +23,7 @@ use Rattle.fb_trees.proofs.Mapped as mapped
 use Rattle.fb_half.specs.Translations.{entry_by, link_by}
 use Rattle.fb_obstacles.specs.Obstacles.{grows, shrinks}
 use Rattle.fb_search.specs.InternalSearching.{IsSearching, SearchValue, problem_of, roles_in, state_at}
-use Rattle.fb_search.specs.InternalSteps.{IsTreeOver}
+use Rattle.fb_trees.specs.InternalSteps.{IsTreeOver}
 use Rattle.fb_search.proofs.Runs.{tree_roles}
 
 -- the tree with its links in the place of their numbers

@@ -1,6 +1,6 @@
 -- The steps of a round read one after another, or two by two.
 use Rattle.std.proofs.Common.{ℕ, ◌≡◌, ◌+◌, ◌<◌, ◌≤◌, ◌⊎◌, inl, inr, true, All, List, [], ◌∷◌, ◌++◌, length, get_or, drop, flat_map, refl, sym, ap, ◌∙◌, subst, append_assoc, arith}
-use Rattle.std.proofs.lemmas.Bool.{false≢true, or_cases}
+use Rattle.std.proofs.lemmas.Bool.{or_cases}
 use Rattle.std.proofs.lemmas.List.{drop_more, length-drop}
 use Rattle.std.proofs.lemmas.List.Elements.{All-head, All-tail}
 use Rattle.fb_graph.specs.Parity.{is_in}
@@ -9,7 +9,7 @@ use Rattle.fb_graph.proofs.Members.{is_in-append}
 use Rattle.fb_links.specs.declared.cycle.CycleStep.{CycleStep}
 use Rattle.fb_obstacles.specs.Watched.{Watched}
 use Rattle.fb_search.specs.InternalOpenings.{between_on, couples_on, second_nodes}
-use Rattle.fb_search.specs.InternalWatching.{Watches}
+use Rattle.fb_obstacles.specs.InternalWatching.{Watches}
 
 -- two elements more
 two_more : {X : Type 0} (xs : List X) (i : ℕ) (d : X) → i + 1 < length xs
@@ -102,11 +102,3 @@ seconds_hold P way i d lt all =
       All-head P (get_or way (i + 1) d).node (second_nodes (drop (i + 2) way)) both,
       All-tail P (get_or way (i + 1) d).node (second_nodes (drop (i + 2) way)) both,
     )
-
-pub watched_none : (p : Problem) (w : Watched) → Watches p [] w w
-watched_none p w = record {
-  room = refl;
-  kept = λ k h. h;
-  near = λ v k mem below touch. absurd (false≢true mem);
-  bounds = λ limit right. right;
-}

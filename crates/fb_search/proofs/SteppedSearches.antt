@@ -27,7 +27,7 @@ use Rattle.fb_half.specs.Parts.{AreLinksOf}
 use Rattle.fb_half.specs.Translations.{entry_by, link_by}
 use Rattle.fb_obstacles.specs.Obstacles.{IsWatched}
 use Rattle.fb_plan.specs.Plans.{PlanTree, problem_at}
-use Rattle.fb_search.specs.InternalSteps.{IsTreeOver}
+use Rattle.fb_trees.specs.InternalSteps.{IsTreeOver}
 use Rattle.fb_search.specs.InternalProgress.{stepped_by}
 use Rattle.fb_search.specs.InternalSearching.{IsSearching, SearchValue, problem_of, roles_in, state_at}
 use Rattle.fb_search.proofs.KeptBounds.{bounded_stepped}

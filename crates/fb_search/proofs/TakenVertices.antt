@@ -2,12 +2,10 @@
 use Rattle.std.proofs.Common.{ℕ, ◌≡◌, ◌==◌, ◌<◌, ◌⊎◌, inl, inr, Bool, true, false, List, length, All, Option, Some, None, IsSome, is_some, refl, sym, ap, ◌∙◌, subst, if◌then◌else◌, ◌≤◌, ◌/◌, ◌*◌, ◌&&◌, cond, arith}
 use Rattle.std.proofs.lemmas.Bool.{false≢true, eqb-true, cases_lt}
 use Rattle.std.proofs.lemmas.List.{get_or_past}
-use Rattle.fb_search.proofs.KeptBounds.{bounded_by}
 use Rattle.fb_graph.specs.Parity.{is_in, differ}
 use Rattle.fb_graph.specs.Problem.{Problem, edge_at, touches, no_edge}
-use Rattle.fb_graph.specs.Components.{Leads}
 use Rattle.fb_graph.specs.declared.parts.Edge.{Edge}
-use Rattle.fb_graph.specs.Limits.{IsWithinLimits}
+use Rattle.fb_graph.specs.Limits.{DecodingGraph, IsWithinLimits, no_shot}
 use Rattle.fb_graph.specs.Covers.{is_covered_by, passes}
 use Rattle.fb_graph.specs.Dual.{AreUnderOne, Node, cover_of, is_outer, taller_node, all_cuts, height_of}
 use Rattle.fb_graph.specs.Moves.{MayAbsorb, absorbed_nodes}
@@ -23,32 +21,22 @@ use Rattle.fb_laws.proofs.StateMeasures.{absorbed_less}
 use Rattle.fb_laws.proofs.StateMoves.{state_absorbed}
 use Rattle.fb_regions.specs.Moves.{absorbed_over, inner_end, outer_end}
 use Rattle.fb_trees.proofs.Mapped.{plus_moved}
+use Rattle.fb_trees.proofs.TightWalks.{ends_told}
+use Rattle.fb_plan.specs.Plans.{PlanTree, problem_at}
+use Rattle.fb_half.specs.Parts.{PartValue, problem_in}
 use Rattle.fb_half.specs.Translations.{link_by}
 use Rattle.fb_obstacles.specs.Obstacles.{IsAbsorb, IsWatched, slack_at, residue_of}
+use Rattle.fb_obstacles.specs.InternalWatching.{WatchesTaken}
 use Rattle.fb_obstacles.specs.Watched.{Watched}
+use Rattle.fb_obstacles.proofs.LeftEdges.{watched_at, watched_elsewhere}
+use Rattle.fb_obstacles.proofs.WatchSteps.{bounded_by}
 use Rattle.fb_search.specs.InternalProgress.{GoesOn}
 use Rattle.fb_search.specs.InternalSearching.{IsSearching, SearchValue, problem_of, roles_in, state_at}
-use Rattle.fb_search.specs.InternalWatching.{WatchesTaken}
 use Rattle.fb_search.proofs.BegunSearches.{touches_first, touches_second}
 use Rattle.fb_search.proofs.KeptNodes.{beside_taller}
-use Rattle.fb_search.proofs.LeftEdges.{watched_at, watched_elsewhere}
 use Rattle.fb_search.proofs.Relayered.{relayered_by, searching_relayered}
 use Rattle.fb_search.proofs.Runs.{roles_by_numbers}
 use Rattle.fb_search.proofs.RolesInTree.{plus_in_tree}
-
--- an edge from a covered vertex to an uncovered one
-pub ends_told : (nodes : List Node) (e : Edge) (u v name : ℕ) → Leads e u v → cover_of nodes u ≡ Some name → cover_of nodes v ≡ None
-    → (inner_end nodes e ≡ u) × (outer_end nodes e ≡ v)
-ends_told nodes e u v name (inl (first, second)) covered free =
-    let at : is_some (cover_of nodes e.first) ≡ true = ap (λ x. is_some (cover_of nodes x)) first ∙ ap (λ (o : Option ℕ). is_some o) covered in (
-      ap (λ b. if b then e.first else e.second) at ∙ first,
-      ap (λ b. if b then e.second else e.first) at ∙ second,
-    )
-ends_told nodes e u v name (inr (second, first)) covered free =
-    let at : is_some (cover_of nodes e.first) ≡ false = ap (λ x. is_some (cover_of nodes x)) first ∙ ap (λ (o : Option ℕ). is_some o) free in (
-      ap (λ b. if b then e.first else e.second) at ∙ second,
-      ap (λ b. if b then e.second else e.first) at ∙ first,
-    )
 
 pub plus_over : (test : ℕ → Bool) (nodes : List Node) (u : ℕ) → is_covered_by test nodes u ≡ true
     → (name : ℕ) × (cover_of nodes u ≡ Some name) × (test name ≡ true)
@@ -250,3 +238,11 @@ taken_below w k a taken vertices limits at same = rw (at, same) (limits.real_bel
 
 pub absorbs_some : (w : SearchValue) (k : ℕ) → ((u v : ℕ) × IsAbsorb (problem_of w) (roles_in w) w.part.nodes k u v) → Absorbs w k
 absorbs_some w k (u, v, is) = absorbs w k u v is
+
+-- what is watched by the problem of the part, though that of its node's scope has no defects
+pub kept_taken : (part : PartValue) (g : DecodingGraph) (t : PlanTree) (n taken v : ℕ) (now later nodes : List Node)
+    (old new : Watched) → g ≡ part.job.graph → taken ≡ v → now ≡ later → later ≡ nodes
+    → WatchesTaken (problem_at g t n no_shot) now taken old new → WatchesTaken (problem_in part) nodes v old new
+kept_taken part g t n taken v now later nodes old new eg at same is watches =
+    let w : WatchesTaken (problem_at part.job.graph t n no_shot) nodes v old new = rw (← eg, ← at, ← is, ← same) watches in
+    record { room = w.room; watched = w.watched; bounds = w.bounds }

@@ -23,7 +23,7 @@ use Rattle.fb_half.specs.Matchings.{matched_names, names_of}
 use Rattle.fb_half.specs.Translations.{entry_by, link_by, ring_links}
 use Rattle.fb_search.specs.InternalEndings.{Forgets, ended_matches}
 use Rattle.fb_search.specs.InternalTightEdges.{LeadsOut, Meets}
-use Rattle.fb_search.specs.InternalMetWalks.{IsMetWalk, IsOut, IsOutWalk, IsTightWalk}
+use Rattle.fb_trees.specs.InternalMetWalks.{IsMetWalk, IsOut, IsOutWalk, IsTightWalk}
 use Rattle.fb_search.specs.Progress.{IsSearched}
 use Rattle.fb_search.specs.InternalSearching.{IsSearching, SearchValue, problem_of, roles_in, searched_links}
 use Rattle.fb_search.proofs.DroppedLinks.{dropped_live, dropped_once}

@@ -6,7 +6,7 @@ use Rattle.fb_links.specs.Table.{Adds}
 use Rattle.fb_half.specs.declared.matches.Match.{Match}
 use Rattle.fb_trees.specs.Rooted.{IsPlus}
 use Rattle.fb_search.specs.declared.attaching.Met.{Met}
-use Rattle.fb_search.specs.InternalMetWalks.{IsMetWalk}
+use Rattle.fb_trees.specs.InternalMetWalks.{IsMetWalk}
 use Rattle.fb_search.specs.InternalSearching.{IsSearching, SearchValue, problem_of}
 
 -- the match is that of these two nodes

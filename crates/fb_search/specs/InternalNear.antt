@@ -1,20 +1,19 @@
 -- An edge over which an unmatched node that is a single defect can be matched at once: to the boundary, or with another
 -- such node.
-use Rattle.std.specs.Prelude.{ℕ, ◌≡◌, ◌+◌, ◌%◌, ◌<◌, ◌≤◌, ◌==◌, ◌&&◌, nat_lt, min, not, Bool, true, false, List, [], ◌∷◌, length, Option, Some, None, if◌then◌else◌}
-use Rattle.fb_graph.specs.declared.parts.Edge.{Edge}
+use Rattle.std.specs.Prelude.{ℕ, ◌≡◌, ◌+◌, ◌%◌, ◌<◌, ◌&&◌, min, not, Bool, true, false, List, [], ◌∷◌, length, Option, Some, None, if◌then◌else◌}
 use Rattle.fb_graph.specs.Parity.{is_in}
 use Rattle.fb_graph.specs.Components.{Leads}
-use Rattle.fb_graph.specs.Problem.{Problem, edge_at, touches}
-use Rattle.fb_graph.specs.Dual.{Node, all_cuts, cover_of, height_of, is_empty, layers_at, top_at}
+use Rattle.fb_graph.specs.Problem.{Problem, edge_at}
+use Rattle.fb_graph.specs.Dual.{Node, cover_of, top_at}
 use Rattle.fb_graph.specs.Steps.{Roles}
 use Rattle.fb_laws.specs.Trees.{roles_of}
 use Rattle.fb_obstacles.specs.Obstacles.{residue_of}
-use Rattle.fb_regions.specs.Moves.{node_named}
+use Rattle.fb_obstacles.specs.declared.singles.Around.{Around}
+use Rattle.fb_obstacles.specs.declared.singles.Reach.{Reach}
+use Rattle.fb_obstacles.specs.InternalSingles.{HasRoom, is_nearer, is_single, with_best}
 use Rattle.fb_search.specs.declared.near.Near.{Near}
 use Rattle.fb_search.specs.declared.near.Near.TheVariants.{Boundary, Pair}
 use Rattle.fb_search.specs.declared.near.NearPair.{NearPair}
-use Rattle.fb_search.specs.declared.near.Around.{Around}
-use Rattle.fb_search.specs.declared.near.Reach.{Reach}
 
 -- the roles by which this node alone grows
 abbrev pub alone : ℕ → Roles
@@ -31,46 +30,16 @@ abbrev pub IsTarget : Problem → List Node → List ℕ → ℕ → Option ℕ 
 IsTarget p nodes unmatched v None = p.is_real v ≡ false
 IsTarget p nodes unmatched v (Some name) = IsSingleAt nodes unmatched v name
 
--- an edge from the vertex, with what it reaches and its residue
-pub record IsReach (p : Problem) (nodes : List Node) (v : ℕ) (r : Reach) : Type 0 where
-  pub within : r.edge < length p.edges
-  pub leads : Leads (edge_at p.edges r.edge) v r.far
-  pub potential : r.far_potential ≡ height_of (all_cuts nodes) r.far
-  pub covered : r.other ≡ cover_of nodes r.far
-  pub residue : r.length ≡ residue_of nodes (edge_at p.edges r.edge)
-
--- a node that joins no others and has one layer
-abbrev pub is_single : List Node → ℕ → Bool
-is_single nodes name = if not (is_empty (node_named nodes name).children) then false else (length (layers_at nodes name) == 1)
-
 -- whether a defect can be matched at a vertex that is under this outer node, or under none
 abbrev pub is_target : Problem → List Node → List ℕ → ℕ → Option ℕ → Bool
 is_target p nodes unmatched v None = not (p.is_real v)
 is_target p nodes unmatched v (Some name) = if is_in unmatched name then is_single nodes name else false
-
--- the edge has less residue than the best one so far
-abbrev pub is_nearer : Reach → Option Reach → Bool
-is_nearer reach None = true
-is_nearer reach (Some best) = nat_lt reach.length best.length
-
--- the room beside a further edge, which is the best one
-abbrev pub room_with : Option Reach → ℕ → ℕ
-room_with None room = room
-room_with (Some best) room = min room best.length
-
-abbrev pub with_best : Around → Reach → Around
-with_best around reach = record { best = Some reach; room = room_with around.best around.room }
 
 -- what was found, with a further edge
 abbrev pub with_reach : Problem → List Node → List ℕ → Around → Reach → Around
 with_reach p nodes unmatched around reach =
     if is_nearer reach around.best && is_target p nodes unmatched reach.far reach.other then with_best around reach
     else record { best = around.best; room = min around.room reach.length }
-
--- Each edge at the vertex has at least the residue `room`, but for those that lead to `far`, which have at least `between`.
-abbrev pub HasRoom : List Edge → List Node → ℕ → ℕ → ℕ → ℕ → Type 0
-HasRoom edges nodes v far between room = (k : ℕ) → k < length edges → touches v (edge_at edges k) ≡ true
-    → (if touches far (edge_at edges k) then between else room) ≤ residue_of nodes (edge_at edges k)
 
 -- the edge leads from a single defect to the boundary, and the defect may grow by all its residue
 pub record IsNearBoundary (p : Problem) (nodes : List Node) (root edge growth : ℕ) : Type 0 where
@@ -100,11 +69,3 @@ pub record IsNearPair (p : Problem) (nodes : List Node) (unmatched : List ℕ) (
 abbrev pub IsNear : Problem → List Node → List ℕ → ℕ → Near → Type 0
 IsNear p nodes unmatched root (Boundary edge growth) = IsNearBoundary p nodes root edge growth
 IsNear p nodes unmatched root (Pair pair) = IsNearPair p nodes unmatched root pair
-
--- how much of the residue of an edge between two defects the other one takes: an even length within its room that leaves
--- the first one's part within its own room
-pub record IsShare (residue room other_room share : ℕ) : Type 0 where
-  pub even : share % 2 ≡ 0
-  pub part : share ≤ residue
-  pub within : share ≤ other_room
-  pub left : residue ≤ room + share

@@ -1,7 +1,6 @@
 pub mod InternalClosings
 pub mod InternalEndings
 pub mod InternalMeetings
-pub mod InternalMetWalks
 pub mod InternalNear
 pub mod InternalOpenings
 pub mod InternalOutcomes
@@ -11,8 +10,6 @@ pub mod InternalProgress
 pub mod InternalRounds
 pub mod InternalRuns
 pub mod InternalSearching
-pub mod InternalSteps
 pub mod InternalTightEdges
 pub mod InternalTurns
-pub mod InternalWatching
 pub mod Progress

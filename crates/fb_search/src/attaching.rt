@@ -14,13 +14,12 @@ use crate::outcome::{Outcome, ended, going_on};
 use crate::pieces::{into_searching, into_work};
 use crate::scratch::Scratch;
 use crate::searching::{Pieces, Searching};
-use crate::walks::link_between;
-use crate::watched::watch_node;
 use fb_graph::{NoMemory, Scope};
 use fb_half::both::both;
 use fb_half::{Match, Work};
+use fb_obstacles::watch_node;
 use fb_regions::NodeId;
-use fb_trees::{CycleStep, LinkId};
+use fb_trees::{CycleStep, LinkId, link_between};
 use std::alloc::Global;
 
 /// A link that is made from a plus node to a matched one, whose match is taken out.

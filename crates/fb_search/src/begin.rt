@@ -5,9 +5,9 @@ ghost use Rattle.fb_search.specs.InternalProgress.{IsBegunAt};
 
 use crate::scratch::Scratch;
 use crate::searching::Searching;
-use crate::watched::watch_node;
 use fb_graph::Scope;
 use fb_half::Work;
+use fb_obstacles::watch_node;
 use fb_plan::NodeScope;
 use fb_regions::NodeId;
 

@@ -17,13 +17,11 @@ ghost use Rattle.fb_search.specs.InternalTightEdges.{IsPairOver};
 
 use crate::pieces::into_searching;
 use crate::searching::{Pieces, Searching};
-use crate::walks::link_between;
-use crate::watched::watch_node;
 use fb_graph::{NoMemory, Scope};
 use fb_half::Matching;
-use fb_obstacles::Watch;
+use fb_obstacles::{Watch, watch_node};
 use fb_regions::{NodeId, Regions, Role};
-use fb_trees::{CycleStep, LinkId, Tree};
+use fb_trees::{CycleStep, LinkId, Tree, link_between};
 use std::alloc::Global;
 
 impl<'a> Searching<'a> {

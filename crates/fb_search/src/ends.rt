@@ -12,10 +12,10 @@ use crate::ending::{forget_tree, match_tree};
 use crate::pieces::into_work;
 use crate::scratch::Scratch;
 use crate::searching::{Pieces, Searching};
-use crate::walks::{link_between, link_out};
 use fb_graph::NoMemory;
 use fb_half::{Match, Work};
 use fb_regions::NodeId;
+use fb_trees::{link_between, link_out};
 use std::alloc::Global;
 
 impl<'a> Searching<'a> {

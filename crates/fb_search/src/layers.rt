@@ -1,29 +1,13 @@
-ghost use Rattle.std.specs.Prelude.{◌≡◌, ◌<◌, length};
-ghost use Rattle.fb_graph.specs.Problem.{edge_at};
-ghost use Rattle.fb_regions.specs.Moves.{outer_end};
 ghost use Rattle.fb_obstacles.specs.Obstacles.{Obstructs};
 ghost use Rattle.fb_obstacles.specs.declared.obstacle.Obstacle.TheVariants.{Absorb, LayerEmpty};
 ghost use Rattle.fb_search.specs.InternalSearching.{problem_of, roles_in};
 ghost use Rattle.fb_search.specs.InternalProgress.{GoesOn};
 
 use crate::searching::Searching;
-use crate::watched::watch_taken;
 use fb_graph::Scope;
+use fb_obstacles::{free_end, watch_taken};
 use fb_plan::NodeScope;
-use fb_regions::{NodeId, Regions};
-
-/// The end of the edge that no node holds, if a node holds the other end.
-fn free_end<S: Scope>(scope: &S, regions: &Regions<S>, edge: u32) -> u32
-    requires { edge < length (S.problem scope.now).edges }
-    ensures { result ≡ outer_end regions.now.nodes (edge_at (S.problem scope.now).edges edge) }
-{
-    let (first, second) = scope.ends(edge);
-    if regions.cover_of(first).is_some() {
-        second
-    } else {
-        first
-    }
-}
+use fb_regions::NodeId;
 
 impl Searching<'_> {
     /// The plus node absorbs the vertex to which the tight edge leads. The edges of the vertex are watched from now on,

@@ -24,8 +24,6 @@ pub mod scratch;
 pub mod searches;
 mod searching;
 mod stepping;
-mod walks;
-mod watched;
 
 pub use scratch::Scratch;
 pub use searches::{search, search_each, search_each_from, search_from};

@@ -1,40 +1,17 @@
 //! Edges over which a single defect can be matched at once, without a search: to the boundary, or with another single
 //! defect. Where noise is low most defects have one.
 
-ghost use Rattle.std.specs.Prelude.{◌≡◌, ◌≢◌, ◌+◌, ◌-◌, ◌<◌, ◌∷◌, [], ◌⊎◌, ℕ, true, IfSome, length};
-ghost use Rattle.fb_graph.specs.Components.{Leads};
-ghost use Rattle.fb_graph.specs.Dual.{all_cuts, cover_of, height_of, is_live, top_at};
-ghost use Rattle.fb_graph.specs.Parity.{is_in};
-ghost use Rattle.fb_graph.specs.Problem.{edge_at, touches};
-ghost use Rattle.fb_search.specs.InternalNear.{HasRoom, IsNear, IsReach, IsShare, IsTarget, is_nearer, is_single, is_target, with_best, with_reach};
+ghost use Rattle.std.specs.Prelude.{◌≡◌, ◌<◌, true, IfSome};
+ghost use Rattle.fb_graph.specs.Dual.{cover_of, is_live};
+ghost use Rattle.fb_obstacles.specs.InternalSingles.{HasRoom, IsReach};
+ghost use Rattle.fb_search.specs.InternalNear.{IsNear, IsTarget, is_target, with_reach};
 
 use fb_graph::Scope;
 use fb_half::{Matching, Standing};
+use fb_obstacles::{
+    Around, Reach, is_nearer, is_single, reach_over, room_beside, share, single_vertex, with_best,
+};
 use fb_regions::{NodeId, Regions};
-
-/// An edge at a single defect, with what it reaches.
-#[derive(Clone, Copy)]
-pub(crate) struct Reach {
-    /// Its number.
-    pub(crate) edge: u32,
-    /// The vertex at its other end.
-    pub(crate) far: u32,
-    /// This vertex's potential.
-    pub(crate) far_potential: u64,
-    /// The outer node that holds this vertex, if any.
-    pub(crate) other: Option<NodeId>,
-    /// Its residue: its weight without the potentials of its ends.
-    pub(crate) length: u64,
-}
-
-/// The edges at a single defect that were looked at.
-#[derive(Clone, Copy)]
-pub(crate) struct Around {
-    /// Of those to the boundary or to another unmatched single defect, one with the least residue.
-    pub(crate) best: Option<Reach>,
-    /// The least residue of the others.
-    pub(crate) room: u64,
-}
 
 /// How a single defect can be matched at once.
 #[derive(Clone, Copy)]
@@ -58,73 +35,6 @@ pub(crate) struct NearPair {
     pub(crate) other_length: u64,
 }
 
-/// Whether a node is a defect and holds no other vertex.
-fn is_single<S: Scope>(regions: &Regions<S>, node: NodeId) -> bool
-    requires { is_live regions.now.nodes node ≡ true }
-    ensures { result ≡ is_single regions.now.nodes node }
-{
-    if regions.is_joined(node) {
-        return false;
-    }
-    regions.layer_count(node) == 1
-}
-
-/// The vertex of a node that is a defect and holds no other vertex.
-fn single_vertex<S: Scope>(regions: &Regions<S>, node: NodeId) -> Option<u32>
-    requires { is_live regions.now.nodes node ≡ true }
-    ensures { IfSome result (λ v. top_at regions.now.nodes node ≡ v ∷ []) }
-{
-    regions.keeps();
-    if !is_single(regions, node) {
-        return None;
-    }
-    Some(regions.first_vertex(node))
-}
-
-/// The other end of an edge at this vertex.
-fn other_end<S: Scope>(scope: &S, edge: u32, v: u32) -> u32
-    requires within { edge < length (S.problem scope.now).edges }
-    requires touches { touches v (edge_at (S.problem scope.now).edges edge) ≡ true }
-    ensures { Leads (edge_at (S.problem scope.now).edges edge) v result }
-{
-    let (first, second) = scope.ends(edge);
-    if first == v { second } else { first }
-}
-
-/// The residue of an edge whose ends have these potentials.
-fn residue_between<S: Scope>(scope: &S, edge: u32, potential: u64, far_potential: u64) -> u64
-    requires { edge < length (S.problem scope.now).edges }
-    ensures { result ≡ (edge_at (S.problem scope.now).edges edge).weight - (potential + far_potential) }
-{
-    scope
-        .weight(edge)
-        .saturating_sub(potential)
-        .saturating_sub(far_potential)
-}
-
-/// The edge at a single defect of this potential, with what it reaches.
-fn reach_over<S: Scope>(regions: &Regions<S>, v: u32, potential: u64, edge: u32) -> Reach
-    requires within { edge < length (S.problem regions.now.scope).edges }
-    requires touches { touches v (edge_at (S.problem regions.now.scope).edges edge) ≡ true }
-    requires potential { potential ≡ height_of (all_cuts regions.now.nodes) v }
-    ensures edge { result.edge ≡ edge }
-    ensures below { result.far < (S.problem regions.now.scope).vertices }
-    ensures reach { IsReach (S.problem regions.now.scope) regions.now.nodes v result }
-{
-    let scope = regions.scope();
-    scope.limits();
-    let far = other_end(scope, edge, v);
-    let holder = regions.holder(far);
-    let far_potential = holder.map_or(0, |holder| holder.potential);
-    Reach {
-        edge,
-        far,
-        far_potential,
-        other: holder.map(|holder| holder.node),
-        length: residue_between(scope, edge, potential, far_potential),
-    }
-}
-
 /// Whether the edge leads to the boundary or to another unmatched single defect.
 fn is_target<S: Scope>(regions: &Regions<S>, matching: &Matching, reach: Reach) -> bool
     requires below { reach.far < (S.problem regions.now.scope).vertices }
@@ -139,30 +49,6 @@ fn is_target<S: Scope>(regions: &Regions<S>, matching: &Matching, reach: Reach) 
         return false;
     };
     is_single(regions, node)
-}
-
-/// Whether the edge has less residue than the best one so far.
-fn is_nearer(reach: Reach, best: Option<Reach>) -> bool
-    ensures { result ≡ is_nearer reach best }
-{
-    match best {
-        Some(best) => reach.length < best.length,
-        None => true,
-    }
-}
-
-/// What was found, once a further edge is the best one.
-fn with_best(around: Around, reach: Reach) -> Around
-    ensures { result ≡ with_best around reach }
-{
-    let room = match around.best {
-        Some(best) => around.room.min(best.length),
-        None => around.room,
-    };
-    Around {
-        best: Some(reach),
-        room,
-    }
 }
 
 /// What was found, with a further edge.
@@ -208,37 +94,6 @@ fn around_vertex<S: Scope>(regions: &Regions<S>, matching: &Matching, v: u32) ->
         around = with_reach(regions, matching, around, reach);
     }
     around
-}
-
-/// The least residue of the edges at a vertex of this potential, but for those to the far one.
-fn room_beside<S: Scope>(regions: &Regions<S>, v: u32, potential: u64, far: u32) -> u64
-    requires below { v < (S.problem regions.now.scope).vertices }
-    requires apart { v ≢ far }
-    requires potential { potential ≡ height_of (all_cuts regions.now.nodes) v }
-    ensures { HasRoom (S.problem regions.now.scope).edges regions.now.nodes v far 0 result }
-{
-    let scope = regions.scope();
-    let mut room = u64::MAX;
-    for edge in scope.edges_at(v) {
-        let end = other_end(scope, *edge, v);
-        if end != far {
-            let residue = residue_between(scope, *edge, potential, regions.potential(end));
-            room = room.min(residue);
-        }
-    }
-    room
-}
-
-/// How much of the residue of an edge between two single defects the other one takes, about half of the residue; none if
-/// no even length leaves both within their room.
-fn share(residue: u64, room: u64, other_room: u64) -> Option<u64>
-    ensures { IfSome result (IsShare residue room other_room) }
-{
-    let least = residue.saturating_sub(room - room % 2);
-    let most = residue.min(other_room);
-    let about = (residue / 2).max(least).min(most);
-    let share = about - about % 2;
-    if least <= share { Some(share) } else { None }
 }
 
 /// How the root can be matched at once, if it is a single defect: it grows until the edge to the boundary is tight, or it

@@ -8,15 +8,15 @@ ghost use Rattle.fb_half.specs.Values.{HasScope, part_of};
 ghost use Rattle.fb_trees.specs.Rooted.{bare};
 ghost use Rattle.fb_search.specs.InternalNear.{IsNear, IsNearBoundary, IsNearPair, alone};
 ghost use Rattle.fb_search.specs.InternalPieces.{AreSearched};
-ghost use Rattle.fb_search.specs.InternalSteps.{IsTreeOver};
+ghost use Rattle.fb_trees.specs.InternalSteps.{IsTreeOver};
 ghost use Rattle.fb_search.specs.Progress.{IsSearched};
 
 use crate::ending::add_matches;
 use crate::near::{Near, NearPair, near_of};
-use crate::walks::{link_between, link_out};
 use fb_graph::{NoMemory, Scope};
 use fb_half::{Match, Parts, Work};
 use fb_regions::{NodeId, Regions};
+use fb_trees::{link_between, link_out};
 use std::alloc::Global;
 
 /// The outer node grows by this length.

@@ -8,15 +8,14 @@ ghost use Rattle.fb_search.specs.InternalOpenings.{EndsAtChild, MayEnter, betwee
 ghost use Rattle.fb_search.specs.InternalPieces.{AreSearching};
 ghost use Rattle.fb_search.specs.InternalProgress.{GoesOn};
 ghost use Rattle.fb_search.specs.InternalSearching.{IsSearching, problem_of, roles_in, search_of};
-ghost use Rattle.fb_search.specs.InternalWatching.{Watches};
+ghost use Rattle.fb_obstacles.specs.InternalWatching.{Watches};
 
 use crate::ending::{add_matches, forget_all};
 use crate::pieces::into_searching;
 use crate::searching::{Pieces, Searching};
-use crate::watched::watch_node;
 use fb_graph::{NoMemory, Scope};
 use fb_half::{Match, Parts};
-use fb_obstacles::Watch;
+use fb_obstacles::{Watch, watch_node};
 use fb_regions::{NodeId, Regions};
 use fb_trees::{CycleStep, LinkId};
 use std::alloc::Global;

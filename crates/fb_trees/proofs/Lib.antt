@@ -1,11 +1,15 @@
+pub mod BranchTurns
 pub mod Cycles
 pub mod Emptying
 pub mod Lookups
 pub mod Mapped
 pub mod Names
+pub mod NodeTurns
 pub mod Opening
 pub mod Paths
 pub mod Replaced
 pub mod Replacing
+pub mod SourceSteps
 pub mod StepLists
 pub mod Taken
+pub mod TightWalks

@@ -1,7 +1,9 @@
 pub mod Branches
+pub mod InternalMetWalks
 pub mod InternalNames
 pub mod InternalPaths
 pub mod InternalPlaces
+pub mod InternalSteps
 pub mod Replacements
 pub mod Rooted
 pub mod TreeLinks

@@ -6,12 +6,16 @@ pub mod branch;
 mod changes;
 pub mod laws;
 mod places;
+pub mod stepping;
 mod steps;
 pub mod tree;
+pub mod walks;
 
 pub use branch::Branch;
 pub use fb_graph::NoMemory;
 pub use fb_links::{CycleStep, LinkId, Links, NodeId};
 pub use fb_regions::{Role, Roles};
 pub use laws::{changes_by_number, links_by_number, paths_listed};
+pub use stepping::step_nodes;
 pub use tree::Tree;
+pub use walks::{link_between, link_out};

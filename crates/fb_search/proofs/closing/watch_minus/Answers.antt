@@ -5,8 +5,8 @@ use Rattle.fb_graph.specs.Dual.{top_at}
 use Rattle.fb_regions.specs.contracts.roles.Role.{the_type}
 use Rattle.fb_regions.specs.declared.roles.Role.TheVariants.{Minus}
 use Rattle.fb_search.specs.InternalClosings.{WatchesMinus}
-use Rattle.fb_search.specs.InternalWatching.{Watches}
-use Rattle.fb_search.proofs.WatchSteps.{minus_on, minus_past}
+use Rattle.fb_obstacles.specs.InternalWatching.{Watches}
+use Rattle.fb_search.proofs.ClosedWatches.{minus_on, minus_past}
 use Rattle.fb_search.proofs.closing.watch_minus.Goals as goal
 use Rattle.fb_search.proofs.closing.watch_minus.Goals.{then-eq, else-eq}
 

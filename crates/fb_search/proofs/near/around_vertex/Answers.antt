@@ -1,5 +1,5 @@
+use Rattle.fb_obstacles.proofs.SingleEdges.{listed_below, listed_touch}
 use Rattle.fb_search.proofs.NearAround.{around_all, around_more}
-use Rattle.fb_search.proofs.NearEdges.{listed_below, listed_touch}
 use Rattle.fb_search.proofs.near.around_vertex.Goals as goal
 
 pub reach_over-reach-requires-clause-within : goal.reach_over-reach-requires-clause-within

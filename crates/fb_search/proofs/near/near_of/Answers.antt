@@ -3,7 +3,7 @@ use Rattle.std.specs.Prelude.{IfSome, Option}
 use Rattle.fb_search.specs.declared.near.Near.{Near}
 use Rattle.fb_search.specs.declared.near.Near.TheVariants.{Pair}
 use Rattle.fb_search.specs.declared.near.NearPair.{NearPair}
-use Rattle.fb_search.specs.InternalNear.{IsShare}
+use Rattle.fb_obstacles.specs.InternalSingles.{IsShare}
 use Rattle.fb_search.proofs.NearEdges.{pair_found, vertex_below}
 use Rattle.fb_search.proofs.near.near_of.Goals as goal
 

@@ -2,8 +2,9 @@ use Rattle.std.proofs.Common.{◌≡◌, ◌<◌, ◌+◌, true, length, flat_ma
 use Rattle.fb_graph.specs.Dual.{is_live, top_at}
 use Rattle.fb_links.specs.declared.cycle.CycleStep.{CycleStep}
 use Rattle.fb_trees.specs.TreeSteps.{step}
-use Rattle.fb_search.specs.InternalWatching.{Watches}
-use Rattle.fb_search.proofs.StepPairs.{seconds_done, seconds_hold, watched_none, watched_onward}
+use Rattle.fb_obstacles.specs.InternalWatching.{Watches}
+use Rattle.fb_obstacles.proofs.WatchSteps.{watched_none}
+use Rattle.fb_search.proofs.StepPairs.{seconds_done, seconds_hold, watched_onward}
 use Rattle.fb_search.proofs.opening.watch_plus.Goals as goal
 
 abbrev no_step : CycleStep

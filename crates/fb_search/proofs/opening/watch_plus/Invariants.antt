@@ -2,7 +2,7 @@ use Rattle.std.proofs.Common.{◌≡◌, ◌-◌, ◌≤◌, true, All, flat_map
 use Rattle.fb_graph.specs.Dual.{is_live, top_at}
 use Rattle.fb_obstacles.specs.Watched.{Watched}
 use Rattle.fb_search.specs.InternalOpenings.{second_nodes}
-use Rattle.fb_search.specs.InternalWatching.{Watches}
+use Rattle.fb_obstacles.specs.InternalWatching.{Watches}
 use Rattle.fb_search.proofs.opening.watch_plus.Given as goal
 
 abbrev pub invariant-loop-i : goal.invariant-loop-i

@@ -3,7 +3,7 @@ use Rattle.std.proofs.lemmas.List.Elements.{All-head}
 use Rattle.fb_graph.specs.Dual.{top_at}
 use Rattle.fb_graph.proofs.Ranges.{filter-range_below}
 use Rattle.fb_regions.specs.Moves.{BeginsWith}
-use Rattle.fb_search.proofs.TopLayers.{top_real}
+use Rattle.fb_obstacles.proofs.TopLayers.{top_real}
 use Rattle.fb_search.proofs.rounds.first_limit.Goals as goal
 
 first_of : (P : ℕ → Type 0) (v : ℕ) (vs : List ℕ) → BeginsWith v vs → All P vs → P v

@@ -4,8 +4,7 @@ use Rattle.fb_graph.specs.Moves.{absorbed_nodes}
 use Rattle.fb_half.specs.Values.{part_of}
 use Rattle.fb_search.specs.InternalSearching.{SearchValue, problem_of}
 use Rattle.fb_search.proofs.BegunSearches.{kept_limits}
-use Rattle.fb_search.proofs.LeftEdges.{kept_taken}
-use Rattle.fb_search.proofs.TakenVertices.{Absorbs, absorbs_some, end_taken, goes_on_raised, inner_held, nodes_taken, outer_free, searching_raised, taken_below}
+use Rattle.fb_search.proofs.TakenVertices.{Absorbs, absorbs_some, end_taken, goes_on_raised, inner_held, kept_taken, nodes_taken, outer_free, searching_raised, taken_below}
 use Rattle.fb_search.proofs.searching.Searching.absorb.Goals as goal
 
 pub absorb-requires-clause-inner : goal.absorb-requires-clause-inner

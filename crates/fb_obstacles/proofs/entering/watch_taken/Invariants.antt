@@ -1,0 +1,7 @@
+use Rattle.std.proofs.Common.{take}
+use Rattle.fb_obstacles.specs.InternalWatching.{WatchesOuter}
+use Rattle.fb_obstacles.proofs.entering.watch_taken.Given as goal
+
+abbrev pub invariant-loop-edge : goal.invariant-loop-edge
+invariant-loop-edge g l =
+    WatchesOuter (g.S.Scope.problem l.scope) l.regions.nodes (take l.edge-index l.edge-items) l.initial.watch l.watch

@@ -1,8 +1,0 @@
-use Rattle.std.proofs.Common.{◌∙◌, sym}
-use Rattle.fb_search.proofs.LeftEdges.{watched_left}
-use Rattle.fb_search.proofs.watched.watch_outer.Goals as goal
-
-pub returns-then-is_inner : goal.returns-then-is_inner
-returns-then-is_inner g c =
-    watched_left (g.S.Scope.problem c.args.scope.now) c.args.regions.now.nodes c.args.edge c.args.watch.now c.leave.new.self
-    (sym c.is_inner.ensures ∙ c.if-is_inner.true) c.leave.ensures.count c.leave.ensures.edges c.leave.ensures.bounds

@@ -1,7 +1,0 @@
-use Rattle.std.proofs.Common.{take}
-use Rattle.fb_search.specs.InternalWatching.{WatchesOuter}
-use Rattle.fb_search.proofs.watched.watch_taken.Given as goal
-
-abbrev pub invariant-loop-edge : goal.invariant-loop-edge
-invariant-loop-edge g l =
-    WatchesOuter (g.S.Scope.problem l.scope) l.regions.nodes (take l.edge-index l.edge-items) l.initial.watch l.watch

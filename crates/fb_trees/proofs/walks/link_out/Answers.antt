@@ -1,0 +1,16 @@
+use Rattle.std.proofs.lemmas.Result.{IfOk-weaker}
+use Rattle.fb_trees.specs.InternalMetWalks.{IsLinkedOut}
+use Rattle.fb_trees.proofs.walks.link_out.Goals as goal
+
+pub make-requires-clause-some : goal.make-requires-clause-some
+make-requires-clause-some g c = (c.in_ok-walk.ensures c.requires.0 c.requires.1 c.requires.2).walk_is.some
+
+pub make-requires-clause-light : goal.make-requires-clause-light
+make-requires-clause-light g c = (c.in_ok-walk.ensures c.requires.0 c.requires.1 c.requires.2).walk_is.light
+
+pub returns : goal.returns
+returns g c =
+    IfOk-weaker _ _
+    (IsLinkedOut (g.S.Scope.problem c.args.regions.now.scope) c.args.regions.now.nodes c.args.edge c.args.links.now
+    c.make.new.self)
+    (λ link adds. record { walk = c.in_ok-walk.walk; adds = adds; out = c.in_ok-walk.ensures }) c.make.ensures.ok

@@ -1,0 +1,127 @@
+//! The links that are made over a tight edge, and their walks.
+
+ghost use Rattle.std.specs.Prelude.{◌≡◌, ◌++◌, ◌<◌, ℕ, length, IfOk, OnOk};
+ghost use Rattle.fb_links.specs.Walks.{turned_walk};
+ghost use Rattle.fb_regions.specs.Moves.{IsOver};
+ghost use Rattle.fb_trees.specs.InternalMetWalks.{IsAlong, IsBetween, IsLinkedBetween, IsLinkedOut, IsMetWalk, IsOut, IsOutWalk};
+
+use fb_graph::{NoMemory, Scope};
+use fb_links::{LinkId, Links};
+use fb_regions::{Regions, Step, Walk};
+use std::alloc::Global;
+
+/// Makes the link over a tight edge between two outer nodes, along the source walks of its ends, and returns its number.
+pub fn link_between<S: Scope>(
+    alloc: Global,
+    regions: &Regions<S>,
+    links: &mut Links,
+    edge: u32,
+) -> Result<LinkId, NoMemory>
+    requires { (a b : ℕ) × IsBetween (S.problem regions.now.scope) regions.now.nodes edge a b }
+    ensures { IfOk result (IsLinkedBetween (S.problem regions.now.scope) regions.now.nodes edge links.old links.new) }
+{
+    let walk = met_walk(alloc, regions, edge)?;
+    links.make(alloc, walk)
+}
+
+/// Makes the link over a tight edge from an outer node to the boundary, along the source walk of its inner end, and returns
+/// its number.
+pub fn link_out<S: Scope>(
+    alloc: Global,
+    regions: &Regions<S>,
+    links: &mut Links,
+    edge: u32,
+) -> Result<LinkId, NoMemory>
+    requires { (a v : ℕ) × IsOut (S.problem regions.now.scope) regions.now.nodes edge a v }
+    ensures { IfOk result (IsLinkedOut (S.problem regions.now.scope) regions.now.nodes edge links.old links.new) }
+{
+    let walk = out_walk(alloc, regions, edge)?;
+    links.make(alloc, walk)
+}
+
+/// The walk of a tight link between the two outer nodes over the ends of a tight edge: from the source of the edge's
+/// first end, over the edge, and back to the source of its second end.
+fn met_walk<S: Scope>(alloc: Global, regions: &Regions<S>, edge: u32) -> Result<Walk, NoMemory>
+    requires { (a b : ℕ) × IsBetween (S.problem regions.now.scope) regions.now.nodes edge a b }
+    ensures { IfOk result (λ walk. (a b : ℕ) → IsBetween (S.problem regions.now.scope) regions.now.nodes edge a b
+        → IsMetWalk (S.problem regions.now.scope) regions.now.nodes a b walk) }
+{
+    regions.keeps();
+    let step = step_along(regions, edge);
+    let mut steps = regions.source_walk(alloc, step.from)?.into_vec();
+    steps.push(step)?;
+    let back = regions.source_walk(alloc, step.to)?;
+    push_turned(&mut steps, back.steps())?;
+    Ok(Walk::from_vec(steps))
+}
+
+/// The step over the edge from its first end to its second.
+fn step_along<S: Scope>(regions: &Regions<S>, edge: u32) -> Step
+    requires { edge < length (S.problem regions.now.scope).edges }
+    ensures { IsAlong (S.problem regions.now.scope) edge result }
+{
+    let scope = regions.scope();
+    let (from, to) = scope.ends(edge);
+    Step {
+        from,
+        to,
+        edge,
+        weight: scope.weight(edge),
+    }
+}
+
+/// The walk of a tight link from the outer node over the inner end of a tight edge to the boundary: from the source of
+/// that end, and over the edge.
+fn out_walk<S: Scope>(alloc: Global, regions: &Regions<S>, edge: u32) -> Result<Walk, NoMemory>
+    requires { (a v : ℕ) × IsOut (S.problem regions.now.scope) regions.now.nodes edge a v }
+    ensures { IfOk result (λ walk. (a v : ℕ) → IsOut (S.problem regions.now.scope) regions.now.nodes edge a v
+        → IsOutWalk (S.problem regions.now.scope) regions.now.nodes a v walk) }
+{
+    regions.keeps();
+    let step = step_out(regions, edge);
+    let mut steps = regions.source_walk(alloc, step.from)?.into_vec();
+    steps.push(step)?;
+    Ok(Walk::from_vec(steps))
+}
+
+/// The step over the edge from the end that a node holds to the other end.
+fn step_out<S: Scope>(regions: &Regions<S>, edge: u32) -> Step
+    requires { edge < length (S.problem regions.now.scope).edges }
+    ensures { IsOver (S.problem regions.now.scope) regions.now.nodes edge result }
+{
+    let scope = regions.scope();
+    let (first, second) = scope.ends(edge);
+    let weight = scope.weight(edge);
+    if regions.cover_of(first).is_some() {
+        Step {
+            from: first,
+            to: second,
+            edge,
+            weight,
+        }
+    } else {
+        Step {
+            from: second,
+            to: first,
+            edge,
+            weight,
+        }
+    }
+}
+
+/// Adds the steps of a walk gone back.
+fn push_turned(steps: &mut Vec<Step>, walk: &[Step]) -> Result<(), NoMemory>
+    ensures { OnOk result (steps.new.items ≡ steps.old.items ++ turned_walk walk.now) }
+{
+    let mut left = walk.len();
+    while left > 0 {
+        left -= 1;
+        let step = walk[left];
+        steps.push(Step {
+            from: step.to,
+            to: step.from,
+            ..step
+        })?;
+    }
+    Ok(())
+}
