@@ -1,5 +1,5 @@
 -- What a part keeps when its defects have become nodes.
-use Rattle.std.proofs.Common.{ℕ, ◌≡◌, ◌<◌, ◌&&◌, Bool, true, false, List, [], ◌∷◌, ◌++◌, map, flat_map, length, get_or, All, Some, None, is_some, nat_lt, not, refl, sym, ap, ◌∙◌, subst}
+use Rattle.std.proofs.Common.{ℕ, ◌≡◌, ◌<◌, ◌&&◌, Bool, true, false, List, [], ◌∷◌, ◌++◌, map, flat_map, length, get_or, All, Option, Some, None, is_some, nat_lt, not, refl, sym, ap, ◌∙◌, subst}
 use Rattle.std.proofs.Math.Bool.{and-true}
 use Rattle.std.proofs.lemmas.Bool.{ltb-true}
 use Rattle.std.proofs.lemmas.List.{append-nil, get_or_default}
@@ -18,8 +18,8 @@ use Rattle.fb_blossoms.specs.Nodes as blossoms
 use Rattle.fb_laws.specs.PartStates.{IsPartState}
 use Rattle.fb_laws.specs.StateMoves.{PartBegins, begun_state}
 use Rattle.fb_half.specs.Beginnings.{IsBegun, leaves_by, own_defects}
-use Rattle.fb_half.specs.InternalBeginnings.{IsStarted}
-use Rattle.fb_half.specs.Matchings.{IsMatchOf, listed_names, match_links, matched_names}
+use Rattle.fb_half.specs.InternalBeginnings.{IsStarted, empty_part}
+use Rattle.fb_half.specs.Matchings.{IsMatchOf, MatchingValue, listed_names, match_links, matched_names}
 use Rattle.fb_half.specs.Parts.{AreLinksOf, IsPart, PartValue, kept_links, problem_in, shot_of, state_of}
 use Rattle.fb_half.specs.Translations.{children_at, cycles_by, link_by, ring_at, ring_links}
 use Rattle.fb_half.proofs.Begun.{held_in, leaf_cycle, leaf_live, live_leaves, outer_leaves, single_names, single_nodes, single_values, single_vertices, singles_by}
@@ -177,6 +177,11 @@ own_in : (w : PartValue) (j : JobValue) (s n : ℕ) (own : List ℕ) → w.job �
 own_in w j s n own job slot node is =
     is
     ∙ sym (ap (λ x. own_of x w.slot w.node) job ∙ (ap (λ x. own_of j x w.node) slot ∙ ap (λ x. own_of j s x) node))
+
+pub empty_is : (j : JobValue) (s n : ℕ) (nodes : List Node) (links : List (Option (List Step))) (store : List (Option blossoms.Node)) (m : MatchingValue)
+    → nodes ≡ [] → links ≡ [] → store ≡ [] → m ≡ record { matches = []; unmatched = [] }
+    → record { job = j; slot = s; node = n; nodes = nodes; links = links; store = store; matching = m } ≡ empty_part j s n
+empty_is j s n nodes links store m bare none blank free = rw (bare, none, blank, free)
 
 pub begun_of : (w : PartValue) (j : JobValue) (s n : ℕ) (own : List ℕ) → PartBegins → w.job ≡ j → w.slot ≡ s → w.node ≡ n
     → IsJob j → s < length j.shots → n < node_count j.plan → own ≡ own_of j s n → IsStarted own w.nodes w.store w.matching → w.links ≡ [] → IsPart w

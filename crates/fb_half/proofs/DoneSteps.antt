@@ -1,6 +1,6 @@
 -- A value beside the result of the step that changed it (`and`, `both`): what holds of it if the step is done.
 use Rattle.std.proofs.Common.{◌≡◌, subst}
-use Rattle.std.specs.Prelude.{Result, Ok, Err, OnOk}
+use Rattle.std.specs.Prelude.{Result, Ok, Err, IfOk, OnOk}
 use Rattle.std.specs.Result.{result_and}
 
 pub done_with : {T U E : Type 0} (P : U → Type 0) (done : Result T E) (given value : U)
@@ -11,3 +11,6 @@ done_with P (Err e) given value same has = absurd (let h : ⊥ = cc in h)
 pub both_with : {T U E : Type 0} (P : U → Type 0) (done : Result T E) (made : T) (given value : U) → done ≡ Ok made → given ≡ value
     → OnOk done (P given) → P value
 both_with P done made given value is same has = subst P same (subst (λ r. OnOk r (P given)) is has)
+
+pub made_holds : {T E : Type 0} (P : T → Type 0) (done : Result T E) (made : T) → done ≡ Ok made → IfOk done P → P made
+made_holds P done made is has = subst (λ r. IfOk r P) is has

@@ -1,10 +1,11 @@
 -- The defects of a shot within a node's reach: these alone may be the node's own.
-use Rattle.std.proofs.Common.{ℕ, ◌≡◌, ◌+◌, ◌<◌, Bool, true, false, cond, List, [], ◌∷◌, ◌++◌, length, take, drop, All, Option, Some, None, nat_le, nat_lt, refl, sym, ap, ◌∙◌, subst, arith, length-take, length-drop, ◌≤◌, ◌-◌, min, max}
+use Rattle.std.proofs.Common.{ℕ, ◌≡◌, ◌+◌, ◌<◌, Bool, true, false, cond, List, [], ◌∷◌, ◌++◌, length, get_or, take, drop, nat_eq, All, Option, Some, None, nat_le, nat_lt, refl, sym, ap, ◌∙◌, subst, arith, length-take, length-drop, ◌≤◌, ◌-◌, min, max}
 use Rattle.std.specs.List.{AllWithin, filter}
+use Rattle.std.specs.Option.{option_eq}
 use Rattle.std.specs.List.Sorted.{IsNonDecreasingBy, IsPartitionPoint, IsStrictlyIncreasing}
 use Rattle.std.proofs.lemmas.Bool.{and_from, and_left, and_right, eqb-true, false≢true, le-leb, lt-leb, lt-ltb, ltb-false, ltb-true, and_parts, leb-true}
 use Rattle.std.proofs.lemmas.List.{append-nil, get_or-drop, get_or-take, get_or_default, take-append-drop}
-use Rattle.std.proofs.lemmas.List.Elements.{All-take, filter-append}
+use Rattle.std.proofs.lemmas.List.Elements.{All-take, filter-append, filter_more}
 use Rattle.std.proofs.lemmas.List.Sorted.{IsNonDecreasingBy-from_all_adjacent}
 use Rattle.fb_graph.specs.Limits.{DecodingGraph, no_shot}
 use Rattle.fb_graph.specs.Problem.{Problem}
@@ -34,6 +35,15 @@ filter_twice {X} test wide under (x ∷ xs) = step (wide x) refl (filter_twice t
     step true is rest = ap (λ l. cond (test x) (x ∷ l) l) rest
     step false is rest = rest ∙ sym (off (test x) refl is)
 
+-- one element more
+pub filter_pushed : {X : Type 0} (test : X → Bool) (xs : List X) (i : ℕ) (d : X) (had now : List X) (passes : Bool)
+    → i < length xs → had ≡ filter test (take i xs) → passes ≡ test (get_or xs i d) → now ≡ had ++ cond passes (get_or xs i d ∷ []) []
+    → now ≡ filter test (take (i + 1) xs)
+filter_pushed test xs i d had now passes less was is added =
+    added
+    ∙ (ap (λ b. had ++ cond b (get_or xs i d ∷ []) []) is
+    ∙ (ap (λ l. l ++ cond (test (get_or xs i d)) (get_or xs i d ∷ []) []) was ∙ sym (filter_more test xs i d less)))
+
 -- what a reach is, by its ends
 pub reached_parts : (r : Reach) (v : ℕ) → is_reached r v ≡ true → (r.first ≤ v) × (v < r.end)
 reached_parts r v reached =
@@ -42,6 +52,10 @@ reached_parts r v reached =
 
 pub reached_between : (r : Reach) (v : ℕ) → r.first ≤ v → v < r.end → is_reached r v ≡ true
 reached_between r v above below = and_from (nat_le r.first v) (nat_lt v r.end) (le-leb r.first v above) (lt-ltb v r.end below)
+
+pub owner_read : (n : ℕ) (o : Option ℕ) → option_eq nat_eq o (Some n) ≡ is_node n o
+owner_read n None = refl
+owner_read n (Some m) = refl
 
 -- who is the owner by the test is the owner
 owner_named : (n : ℕ) (o : Option ℕ) → is_node n o ≡ true → o ≡ Some n

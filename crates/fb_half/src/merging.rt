@@ -23,6 +23,7 @@ ghost use Rattle.fb_half.specs.Merged.{IsPlanned, ends_at_seam, freed_in, is_own
 ghost use Rattle.fb_half.specs.Translations.{link_by};
 ghost use Rattle.fb_half.specs.Values.{HasScope, part_of};
 
+use crate::both::both;
 use crate::matches::Match;
 use crate::matching::Matching;
 use crate::parts::Parts;
@@ -30,7 +31,7 @@ use crate::reach::within;
 use crate::spare::EmptyTables;
 use crate::start::add_leaf;
 use fb_blossoms::Blossoms;
-use fb_graph::NoMemory;
+use fb_graph::{NoMemory, NumberList};
 use fb_links::names::{Names, names_of};
 use fb_links::{LinkId, Links, NodeId};
 use fb_plan::{NodeScope, Plan};
@@ -100,33 +101,36 @@ pub(crate) fn merged_parts<'a>(
     ensures slot { IfOk result (λ m. m.parts.slot ≡ left.entry.slot) }
     ensures node { IfOk result (λ m. m.parts.node ≡ scope.now.node) }
 {
-    let tables = merged_tables(
-        alloc,
-        left.links,
-        right.links,
-        left.blossoms,
-        right.blossoms,
+    let (tables, (regions, matchings)) = both(
+        merged_tables(
+            alloc,
+            left.links,
+            right.links,
+            left.blossoms,
+            right.blossoms,
+        ),
+        (
+            (left.regions, right.regions),
+            (left.matching, right.matching),
+        ),
     )?;
-    let (regions, room) = Regions::merged_with_spare(
-        alloc,
-        left.regions,
-        right.regions,
-        &tables.names,
-        scope,
+    let ((regions, room), (tables, matchings)) = both(
+        Regions::merged_with_spare(alloc, regions.0, regions.1, &tables.names, scope),
+        (tables, matchings),
     )?;
     Ok(MergedParts {
         parts: Parts {
             regions,
             links: tables.links,
             blossoms: tables.blossoms,
-            matching: left.matching,
+            matching: matchings.0,
             job: left.job,
             slot: left.slot,
             node: scope.node,
         },
         link_names: tables.link_names,
         names: tables.names,
-        others: right.matching,
+        others: matchings.1,
         room,
     })
 }
@@ -238,13 +242,12 @@ fn seam_defects(
     ensures { IfOk result (λ own. own.items ≡ filter (is_owned_by plan.now node) defects.now) }
 {
     let reached = within(defects, plan.reach(node));
-    let mut own = Vec::new(alloc);
+    let mut own = NumberList::from_vec(Vec::new(alloc));
     for v in reached {
-        if plan.owner(*v) == Some(node) {
-            own.push(*v)?;
-        }
+        let is_owned = plan.owner(*v) == Some(node);
+        own.push_if(is_owned, *v)?;
     }
-    Ok(own)
+    Ok(own.into_vec())
 }
 
 /// Makes each of the vertices a node of radius 0, without a match.

@@ -15,7 +15,7 @@ use crate::matching::Matching;
 use crate::parts::Parts;
 use crate::reach::within;
 use fb_blossoms::Blossoms;
-use fb_graph::{NoMemory, Scope};
+use fb_graph::{NoMemory, NumberList, Scope};
 use fb_links::NodeId;
 use fb_plan::{Job, NodeScope, Reach};
 use fb_regions::Regions;
@@ -35,13 +35,11 @@ pub(crate) fn own_defects(
     ensures { IfOk result (λ own. own.items ≡ filter (problem_at scope.now.graph.now scope.now.plan.now scope.now.node no_shot).is_real defects.now) }
 {
     let reached = within(defects, reach);
-    let mut own = Vec::new(alloc);
+    let mut own = NumberList::from_vec(Vec::new(alloc));
     for v in reached {
-        if scope.is_real(*v) {
-            own.push(*v)?;
-        }
+        own.push_if(scope.is_real(*v), *v)?;
     }
-    Ok(own)
+    Ok(own.into_vec())
 }
 
 /// The defects of a shot of the job at real vertices of a node's sub-problem, in their order. Passes over those within a

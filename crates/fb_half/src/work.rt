@@ -175,7 +175,7 @@ impl<'a> Work<'a> {
         ensures { IfOk result (λ w. IsBegun job.now slot node w) }
     {
         job.keeps();
-        let own = defects_at(alloc, job, slot, node, reach)?;
+        let (own, spare) = both(defects_at(alloc, job, slot, node, reach), spare)?;
         let mut parts = empty_parts(alloc, job, slot, node, spare)?;
         let parts = start(alloc, &mut parts, &own).and(Ok(parts))?;
         state_begins();

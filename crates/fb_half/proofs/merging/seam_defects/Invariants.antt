@@ -4,4 +4,4 @@ use Rattle.fb_half.specs.Merged.{is_owned_by}
 use Rattle.fb_half.proofs.merging.seam_defects.Given as goal
 
 abbrev pub invariant-loop-v : goal.invariant-loop-v
-invariant-loop-v l = l.own.items ≡ filter (is_owned_by l.plan l.node) (take l.v-index l.reached)
+invariant-loop-v l = l.own ≡ filter (is_owned_by l.plan l.node) (take l.v-index l.reached)

@@ -6,4 +6,4 @@ use Rattle.fb_half.proofs.start.own_defects.Given as goal
 
 abbrev pub invariant-loop-v : goal.invariant-loop-v
 invariant-loop-v l =
-    l.own.items ≡ filter (problem_at l.scope.graph.now l.scope.plan.now l.scope.node no_shot).is_real (take l.v-index l.reached)
+    l.own ≡ filter (problem_at l.scope.graph.now l.scope.plan.now l.scope.node no_shot).is_real (take l.v-index l.reached)

@@ -7,20 +7,20 @@ use Rattle.fb_half.specs.declared.parts.Parts.{Parts}
 use Rattle.fb_half.specs.InternalBeginnings.{IsStarted}
 use Rattle.fb_half.specs.Values.{HasScope, part_of}
 use Rattle.fb_half.proofs.BegunParts.{begun_is, begun_of, own_distinct, own_real}
-use Rattle.fb_half.proofs.DoneSteps.{done_with}
+use Rattle.fb_half.proofs.DoneSteps.{done_with, made_holds}
 use Rattle.fb_half.proofs.work.Work.begin_within.Goals as goal
 
 pub start-requires-clause-distinct : goal.start-requires-clause-distinct
 start-requires-clause-distinct c =
     subst AreDistinct
-    (sym (c.deref.ensures.value ∙ c.in_ok-own.ensures))
+    (sym (c.deref.ensures.value ∙ made_holds _ _ _ c.in_ok-own.ensures.0 c.defects_at.ensures))
     (own_distinct c.args.job.now c.args.slot c.args.node c.keeps.ensures c.requires.slot)
 
 pub start-requires-clause-real : goal.start-requires-clause-real
 start-requires-clause-real c =
     subst (λ w. All (λ v. (problem_at w.job.graph w.job.plan w.node no_shot).is_real v ≡ true) c.deref.result.now) (sym c.in_ok-parts.ensures.value)
     (subst (All (λ v. (problem_at c.args.job.now.graph c.args.job.now.plan c.args.node no_shot).is_real v ≡ true))
-    (sym (c.deref.ensures.value ∙ c.in_ok-own.ensures))
+    (sym (c.deref.ensures.value ∙ made_holds _ _ _ c.in_ok-own.ensures.0 c.defects_at.ensures))
     (own_real c.args.job.now c.args.slot c.args.node))
 
 pub invariant_of-result : goal.invariant_of-result
@@ -33,7 +33,7 @@ invariant_of-result c =
           (keeps (λ p. p.slot ≡ c.in_ok-parts.parts.slot) c.start.ensures.slot ∙ ap (λ w. w.slot) c.in_ok-parts.ensures.value)
           (keeps (λ p. p.node ≡ c.in_ok-parts.parts.node) c.start.ensures.node ∙ ap (λ w. w.node) c.in_ok-parts.ensures.value)
           c.keeps.ensures c.requires.slot c.requires.node
-          (c.deref.ensures.value ∙ c.in_ok-own.ensures)
+          (c.deref.ensures.value ∙ made_holds _ _ _ c.in_ok-own.ensures.0 c.defects_at.ensures)
           (keeps (λ p. IsStarted c.deref.result.now p.regions.nodes p.blossoms p.matching) c.start.ensures.started)
           (keeps (λ p. p.links ≡ []) c.start.ensures.links),
     )
@@ -46,5 +46,5 @@ returns c =
     (keeps (λ p. p.job.now ≡ c.in_ok-parts.parts.job.now) c.start.ensures.job ∙ ap (λ w. w.job) c.in_ok-parts.ensures.value)
     (keeps (λ p. p.slot ≡ c.in_ok-parts.parts.slot) c.start.ensures.slot ∙ ap (λ w. w.slot) c.in_ok-parts.ensures.value)
     (keeps (λ p. p.node ≡ c.in_ok-parts.parts.node) c.start.ensures.node ∙ ap (λ w. w.node) c.in_ok-parts.ensures.value)
-    (c.deref.ensures.value ∙ c.in_ok-own.ensures)
+    (c.deref.ensures.value ∙ made_holds _ _ _ c.in_ok-own.ensures.0 c.defects_at.ensures)
     (keeps (λ p. IsStarted c.deref.result.now p.regions.nodes p.blossoms p.matching) c.start.ensures.started)

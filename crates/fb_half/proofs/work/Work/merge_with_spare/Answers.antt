@@ -1,8 +1,6 @@
 use Rattle.std.proofs.Common.{◌∙◌, ◌++◌, drop, length, map, refl, sym, ap, subst}
 use Rattle.fb_graph.specs.Certificate.{AreDistinct}
-use Rattle.fb_graph.specs.RenamedNodes.{renamed_nodes}
 use Rattle.fb_links.specs.Names.{name_by}
-use Rattle.fb_regions.specs.Merged.{AreNewNames}
 use Rattle.fb_half.specs.InternalMerging.{joined_part}
 use Rattle.fb_half.specs.InternalSeams.{IsBeside, IsOpened}
 use Rattle.fb_half.specs.Matchings.{listed_names, matched_names}
