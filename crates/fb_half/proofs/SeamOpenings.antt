@@ -1,7 +1,8 @@
 -- What is asked as the seam of a fusion is opened: its defects lie under no node, and the links' ends are vertices of
 -- the plan.
-use Rattle.std.proofs.Common.{ℕ, ◌≡◌, ◌≢◌, ◌<◌, ◌||◌, ◌⊎◌, inl, inr, true, false, List, [], ◌∷◌, ◌++◌, map, length, get_or, All, Option, Some, None, is_some, unwrap_or, refl, sym, ap, ◌∙◌, subst, arith}
+use Rattle.std.proofs.Common.{ℕ, ◌≡◌, ◌≢◌, ◌<◌, ◌||◌, ◌⊎◌, inl, inr, true, false, List, [], ◌∷◌, ◌++◌, map, length, drop, get_or, All, Option, Some, None, is_some, unwrap_or, refl, sym, ap, ◌∙◌, subst, arith}
 use Rattle.std.specs.List.{filter}
+use Rattle.std.specs.Prelude.{Result, Ok, Err, OnOk}
 use Rattle.std.specs.List.Sorted.{IsStrictlyIncreasing}
 use Rattle.std.proofs.lemmas.Bool.{both_ways, false_from_ne_true, false≢true, or_cases, or_left, or_right}
 use Rattle.std.proofs.lemmas.Grind.{flat_map-append}
@@ -23,9 +24,9 @@ use Rattle.fb_links.specs.Table.{IsLink, is_live as is_link, link_at, walk_at}
 use Rattle.fb_links.specs.Walks.{end_from, end_of, start_of}
 use Rattle.fb_blossoms.specs.Nodes as blossoms
 use Rattle.fb_half.specs.declared.matches.Match.{Match}
-use Rattle.fb_half.specs.InternalSeams.{IsBeside, IsFreed}
+use Rattle.fb_half.specs.InternalSeams.{AddsSingles, IsBeside, IsFreed, IsOpened}
 use Rattle.fb_half.specs.Matchings.{MatchingValue, listed_names, match_links, matched_names, names_of}
-use Rattle.fb_half.specs.Merged.{IsPlanned, is_owned_by}
+use Rattle.fb_half.specs.Merged.{IsPlanned, freed_in, is_owned_by, leads_to_seam, seam_defects, seam_matches}
 use Rattle.fb_half.specs.Parts.{AreAgreed, PartValue, problem_in, shot_of}
 use Rattle.fb_half.specs.Translations.{children_at, link_by, ring_links}
 use Rattle.fb_half.proofs.BegunParts.{kept_real, shot_below}
@@ -85,6 +86,29 @@ pub seam_read : (t plan : PlanTree) (n : ℕ) (l shot own read : List ℕ) → t
     → read ≡ filter (is_owned_by plan n) shot
 seam_read t plan n l shot own read same same_shot is read_is =
     read_is ∙ (is ∙ (ap (λ x. filter (is_owned_by x n) l) same ∙ ap (filter (is_owned_by plan n)) same_shot))
+
+-- the matches to the seam forgotten, then its defects added
+pub seam_opened : {U E : Type 0} (r : Result U E) (before : PartValue) (mid m : MatchingValue) (links : Table) (nodes : List Node)
+    (store : List (Option blossoms.Node)) (plan : PlanTree) (read : List ℕ) → plan ≡ before.job.plan → read ≡ seam_defects before.job before.slot before.node
+    → IsFreed (filter (leads_to_seam plan before.node before.links) before.matching.matches) before.matching mid before.links links
+    → OnOk r (AddsSingles (drop (length mid.unmatched) m.unmatched) read before.nodes nodes before.store store mid m)
+    → OnOk r (IsOpened (drop (length (before.matching.unmatched ++ freed_in before before.node)) m.unmatched) before
+    (record { job = before.job; slot = before.slot; node = before.node; nodes = nodes; links = links; store = store; matching = m }))
+seam_opened (Err e) before mid m links nodes store plan read same is freed added = tt
+seam_opened (Ok x) before mid m links nodes store plan read same is freed added =
+    let taken = subst (λ t. IsFreed (filter (leads_to_seam t before.node before.links) before.matching.matches) before.matching mid before.links links) same freed in
+    let after : MatchingValue = record { matches = m.matches; unmatched = before.matching.unmatched ++ freed_in before before.node } in
+    let mid_is : mid ≡ after =
+    ap (λ ms. record { matches = ms; unmatched = mid.unmatched }) (sym (ap (λ n. n.matches) added.matching))
+    ∙ ap (λ names. record { matches = m.matches; unmatched = names }) taken.unmatched in record {
+      job = refl;
+      slot = refl;
+      node = refl;
+      freed = subst (λ n. IsFreed (seam_matches before before.node) before.matching n before.links links) mid_is taken;
+      singles_added =
+          subst (λ n. AddsSingles (drop (length n.unmatched) m.unmatched) (seam_defects before.job before.slot before.node) before.nodes nodes before.store store n m) mid_is
+          (subst (λ l. AddsSingles (drop (length mid.unmatched) m.unmatched) l before.nodes nodes before.store store mid m) is added);
+    }
 
 module _ (w : PartValue) (job : IsJob w.job) (graph : IsGraph w.job.graph) (b : IsBeside w) where
   pub own_links : AreDistinct (match_links w.matching.matches)

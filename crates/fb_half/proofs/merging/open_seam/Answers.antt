@@ -9,7 +9,7 @@ use Rattle.fb_half.specs.Merged.{IsPlanned}
 use Rattle.fb_half.specs.Translations.{link_by}
 use Rattle.fb_half.specs.Values.{part_of}
 use Rattle.fb_half.proofs.BegunParts.{shot_read}
-use Rattle.fb_half.proofs.SeamOpenings.{freed_unlisted, live_matches, own_links, planned, seam_bare, seam_distinct, seam_leafless, seam_read, seam_real, shot_planned, shot_rises}
+use Rattle.fb_half.proofs.SeamOpenings.{freed_unlisted, live_matches, own_links, planned, seam_bare, seam_distinct, seam_leafless, seam_read, seam_opened, seam_real, shot_planned, shot_rises}
 use Rattle.fb_half.proofs.merging.open_seam.Goals as goal
 
 pub free_nodes-requires-clause-links : goal.free_nodes-requires-clause-links
@@ -68,3 +68,9 @@ add_leaves-requires-clause-leafless c =
 
 pub add_leaves-requires-clause-listed : goal.add_leaves-requires-clause-listed
 add_leaves-requires-clause-listed c = freed_unlisted (part_of c.args.parts.now) c.keeps.ensures (subst IsGraph c.graph.ensures c.limits.ensures) c.requires.beside _ _ _ c.in_ok-free_nodes.ensures
+
+pub returns-clause-opened : goal.returns-clause-opened
+returns-clause-opened c =
+    seam_opened _ (part_of c.args.parts.now) _ _ _ _ _ _ _ c.plan-plan.ensures
+    (seam_read _ _ _ _ _ _ _ c.plan-plan.ensures (shot_read c.args.parts.now.job.now c.args.parts.now.slot _ _ _ c.shots.ensures c.requires.beside.slot c.index-shots-slot.is c.as_slice.ensures.defects) c.in_ok-own.ensures c.deref.ensures.value)
+    c.in_ok-free_nodes.ensures c.add_leaves.ensures.singles_added
