@@ -1,6 +1,6 @@
 //! The command line of `fusion`, as `clap` takes it.
 
-ghost use Rattle.std.specs.Prelude.{◌≡◌, IfOk, codes};
+ghost use Rattle.std.specs.Prelude.{◌≡◌, IfOk, Ok, codes};
 ghost use Rattle.clap.specs.Words.{App, app_of, new_app, with_subcommand};
 ghost use Rattle.fb_words.specs.Command.{check_app, decode_app, flag_rule, free_rule, fusion_app, number_rule, option_rule, required_number_rule, sample_app};
 ghost use Rattle.fb_words.specs.InternalCommands.{AreOptions, IsCommand, IsOption, bare_app};
@@ -44,24 +44,32 @@ const MOST_DRAWN: u64 = 1_000_000;
 pub fn fusion<'a>(alloc: Global) -> Result<Command<'a>, AllocError>
     ensures { IfOk result (λ c. app_of c ≡ fusion_app) }
 {
-    let program = program(alloc)?;
-    let program = with_command(program, decode(alloc))?;
-    let program = with_command(program, check(alloc))?;
+    let program = with_command(program(alloc), decode(alloc));
+    let program = with_command(program, check(alloc));
     with_command(program, sample(alloc))
 }
 
-/// The program with one command more, if there was enough memory to make that.
+/// The program with one command more, if there was enough memory to make both.
 fn with_command<'a>(
-    program: Command<'a>,
+    program: Result<Command<'a>, AllocError>,
     command: Result<Command<'a>, AllocError>,
 ) -> Result<Command<'a>, AllocError>
-    ensures { (app : App) → IfOk command.entry (IsCommand app)
-        → IfOk result (λ c. app_of c ≡ with_subcommand (app_of program.entry) app.top) }
+    ensures { (whole app : App) → IfOk program.entry (λ c. app_of c ≡ whole) → IfOk command.entry (IsCommand app)
+        → IfOk result (λ c. app_of c ≡ with_subcommand whole app.top) }
 {
-    match command {
-        Ok(command) => program.subcommand(command),
-        Err(fault) => Err(fault),
-    }
+    let (program, command) = both(program, command)?;
+    program.subcommand(command)
+}
+
+/// Both values, if both were made.
+fn both<A: Drop, B: Drop>(
+    first: Result<A, AllocError>,
+    second: Result<B, AllocError>,
+) -> Result<(A, B), AllocError>
+    ensures { IfOk result (λ pair. (first ≡ Ok pair.0) × (second ≡ Ok pair.1)) }
+{
+    let first = first?;
+    Ok((first, second?))
 }
 
 /// The program, without its commands.
@@ -126,7 +134,7 @@ fn sample<'a>(alloc: Global) -> Result<Command<'a>, AllocError>
 fn decode_options<'a>(alloc: Global) -> Result<Vec<Arg<'a>>, AllocError>
     ensures { IfOk result (λ options. AreOptions decode_app.top.rules options.items) }
 {
-    Ok(vec![in alloc;
+    let options = [
         graph(alloc),
         shots(alloc),
         format(alloc),
@@ -134,21 +142,23 @@ fn decode_options<'a>(alloc: Global) -> Result<Vec<Arg<'a>>, AllocError>
         workers(alloc),
         window(alloc),
         trace(alloc),
-    ]?)
+    ];
+    list_of(alloc, options)
 }
 
 /// The options of `check`.
 fn check_options<'a>(alloc: Global) -> Result<Vec<Arg<'a>>, AllocError>
     ensures { IfOk result (λ options. AreOptions check_app.top.rules options.items) }
 {
-    Ok(vec![in alloc; graph(alloc), shots(alloc), format(alloc), report(alloc)]?)
+    let options = [graph(alloc), shots(alloc), format(alloc), report(alloc)];
+    list_of(alloc, options)
 }
 
 /// The options of `sample`.
 fn sample_options<'a>(alloc: Global) -> Result<Vec<Arg<'a>>, AllocError>
     ensures { IfOk result (λ options. AreOptions sample_app.top.rules options.items) }
 {
-    Ok(vec![in alloc;
+    let options = [
         distance(alloc),
         rounds(alloc),
         units(alloc),
@@ -157,7 +167,15 @@ fn sample_options<'a>(alloc: Global) -> Result<Vec<Arg<'a>>, AllocError>
         drawn_shots(alloc),
         workers(alloc),
         window(alloc),
-    ]?)
+    ];
+    list_of(alloc, options)
+}
+
+/// The list of these items.
+fn list_of<T: Drop, const N: usize>(alloc: Global, items: [T; N]) -> Result<Vec<T>, AllocError>
+    ensures { IfOk result (λ list. list.items ≡ items) }
+{
+    Ok(Vec::from_array(alloc, items)?)
 }
 
 /// A command without options.

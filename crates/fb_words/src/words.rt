@@ -208,7 +208,6 @@ fn accepted_format(word: &str, names: &[&str]) -> Result<Format, WordsFault>
 }
 
 /// The value of an option.
-#[tactic(auto, using(crate::proofs::Commands::rows))]
 fn option<'a>(options: &ArgMatches<'a>, name: &str) -> &'a str
     ensures { result.now ≡ option_of name.now (rows_of (found_of options.now)) }
 {
