@@ -1,11 +1,12 @@
-//! Calls that no run of the program makes, on samples whose answers are known: of blossoms, trees and a board. It prints what
-//! differs, and how many samples passed.
+//! Calls that no run of the program makes, on samples whose answers are known: of blossoms, trees, a board, and files and sinks in
+//! memory. It prints what differs, and how many samples passed.
 
 #![tactic(auto)]
 
 mod board;
 mod branches;
 mod nests;
+mod sinks;
 mod streams;
 mod stopped;
 
@@ -19,6 +20,7 @@ fn main(rt: HostRuntime) -> io::Result<()> {
         ("paths and cycles in a tree", branches::finds_paths_and_cycles(alloc)),
         ("a board has a slot for each shot", board::has_a_slot_for_each_shot(alloc)),
         ("a stream goes on after a failed read", streams::goes_on_after_a_failed_read(alloc)),
+        ("a sink takes a byte at a time", sinks::takes_a_byte_at_a_time(alloc)),
     ];
     let (mut passed, mut failed) = (0, 0);
     for (name, answer) in answers {
