@@ -1,5 +1,5 @@
 -- How a check of rows ends.
-use Rattle.std.proofs.Common.{◌≡◌, ℕ, ◌==◌, ◌&&◌, inl, inr, Bool, true, false, if◌then◌else◌, ◌≢◌, List, [], length, Option, IfSome, refl, sym, ap, subst, ◌∙◌, append-nil}
+use Rattle.std.proofs.Common.{◌≡◌, ℕ, ◌==◌, ◌&&◌, inl, inr, Bool, true, false, if◌then◌else◌, ◌≢◌, ◌<◌, List, [], length, Option, IfSome, refl, sym, ap, subst, ◌∙◌, append-nil, arith}
 use Rattle.std.proofs.KnownBytes.{Appends-nil, Appends-trans}
 use Rattle.fb_graph.specs.Limits.{DecodingGraph, ShotValue}
 use Rattle.fb_graph.specs.declared.parts.Row.{Row}
@@ -11,14 +11,14 @@ use Rattle.fb_shots.specs.Streams.{Stream, fresh}
 use Rattle.fb_check.specs.CheckEndings.{check_account, check_source}
 use Rattle.fb_check.specs.TextEnds.{FirstOf, TextEnds, WritesPrefix, WritesWhole}
 use Rattle.fb_check.specs.Checks.{bad_count, check_cause, check_prefix, check_head, check_last, verdict_lines}
-use Rattle.fb_check.specs.Ends.{IsReadToItsEnd}
+use Rattle.fb_check.specs.Ends.{IsReadToItsEnd, MayFollowReadFault}
 use Rattle.fb_check.specs.InternalJudges.{EndsCheck, JudgesAll, JudgesFirst, JudgesInto}
 use Rattle.fb_inputs.specs.Judging.{HasFirstShots, HasShots, Named, most_shots}
 use Rattle.fb_inputs.specs.InternalGathers.{FirstFrom, Gathers, GathersFrom, IsOpened}
 use Rattle.fb_words.specs.Words.{Checking}
 use Rattle.fb_check.specs.declared.checking.Judged.{Judged}
 use Rattle.fb_endings.specs.declared.ending.Cause.{Cause}
-use Rattle.fb_endings.specs.declared.ending.Cause.TheVariants.{Bad, Done, NoMemory}
+use Rattle.fb_endings.specs.declared.ending.Cause.TheVariants.{Bad, Done, NoMemory, ReadFault}
 use Rattle.fb_inputs.specs.declared.taking.ShotsEnd.{ShotsEnd}
 use Rattle.fb_inputs.specs.declared.taking.ShotsEnd.TheVariants as end
 use Rattle.fb_inputs.proofs.Lists.{holds_more}
@@ -71,7 +71,6 @@ module _ (g : DecodingGraph) (rows : List Row) (start now : Stream) (before afte
   }
 
 module _ (Input : List ShotValue → Type 0) (g : DecodingGraph) (rows : List Row) (out mid new : Option (List ℕ)) (pending : List ℕ) (j : Judged) where
-
   pub first_flushed : (First : List ShotValue → Type 0) → ((shots : List ShotValue) → Input shots → First shots)
       → JudgesInto Input g rows out mid pending j → AppendsPrefix mid new pending → JudgesFirst First g rows out new
   first_flushed First more into part = record {
@@ -80,6 +79,17 @@ module _ (Input : List ShotValue → Type 0) (g : DecodingGraph) (rows : List Ro
     verdicts = into.verdicts;
     answers = into.answers;
     written = subst (AppendsPrefix out new) into.text (prefix_second out mid new into.flushed pending into.appended part);
+  }
+
+  pub all_flushed : JudgesInto Input g rows out mid pending j → Appends mid new pending → JudgesAll Input g rows out new j
+  all_flushed into rest = record {
+    shots = into.shots;
+    input = into.input;
+    many = into.many;
+    verdicts = into.verdicts;
+    answers = into.answers;
+    bad = into.bad;
+    written = subst (Appends out new) into.text (Appends-trans out mid new into.flushed pending into.appended rest);
   }
 
 -- by another input
@@ -130,8 +140,26 @@ never_memory end.End lines shots bad old new cause (inr (part, is)) e = cc
 never_memory (end.Refused fault) lines shots bad old new cause (same, is) e = cc
 never_memory end.ReadFault lines shots bad old new cause (same, is) e = cc
 
-module _ (named : Named) (request : Checking) (g : DecodingGraph) (rows : List Row) where
+-- a check ends by a fault of a read only if its shots did
+pub check_read_fault : (ended : ShotsEnd) (lines shots bad : ℕ) (old new : Option (List ℕ)) (cause : Cause) → EndsCheck ended lines shots bad old new cause
+    → cause ≡ ReadFault → ended ≡ end.ReadFault
+check_read_fault end.End lines shots bad old new cause (inl (whole, is)) e = by_both (bad == 0 && lines == shots) is
+  where
+    by_both : (good : Bool) → cause ≡ (if good then Done else Bad bad) → end.End ≡ end.ReadFault
+    by_both true is = absurd cc
+    by_both false is = absurd cc
+check_read_fault end.End lines shots bad old new cause (inr (part, is)) e = absurd cc
+check_read_fault (end.Refused fault) lines shots bad old new cause (same, is) e = absurd cc
+check_read_fault end.ReadFault lines shots bad old new cause (same, is) e = refl
 
+-- files fail only in a check that says so
+pub check_reported : (ended : ShotsEnd) (lines shots bad : ℕ) (old new : Option (List ℕ)) (cause : Cause) → EndsCheck ended lines shots bad old new cause
+    → (before now : ℕ) → (ended ≢ end.ReadFault → now ≡ before) → before < now → MayFollowReadFault cause
+check_reported end.End lines shots bad old new cause ends before now kept rose = absurd (omega (arith, kept (λ e. absurd cc), rose))
+check_reported (end.Refused fault) lines shots bad old new cause ends before now kept rose = absurd (omega (arith, kept (λ e. absurd cc), rose))
+check_reported end.ReadFault lines shots bad old new cause (same, is) before now kept rose = subst MayFollowReadFault (sym is) tt
+
+module _ (named : Named) (request : Checking) (g : DecodingGraph) (rows : List Row) where
   pub checks_first : (old mid new : Option (List ℕ)) → Appends old mid check_head
       → JudgesFirst (FirstOf named request.shots request.format g) g rows mid new → WritesPrefix (check_account g rows) named (check_source request g) old new
   checks_first old mid new head first = record {
