@@ -3,6 +3,7 @@ use Rattle.std.proofs.Common.{ℕ, ◌≡◌, ◌+◌, ◌<◌, Bool, true, fals
 use Rattle.std.proofs.lemmas.Bool.{eq-eqb, false≢true, true≢false}
 use Rattle.std.proofs.lemmas.List.{length-append, length-replicate}
 use Rattle.std.specs.List.{list_any}
+use Rattle.std.specs.Prelude.{Result, Ok, OnOk}
 use Rattle.fb_plan.specs.Plans.{JobValue}
 use Rattle.fb_book.specs.declared.entries.Kind.{Kind}
 use Rattle.fb_book.specs.declared.entries.Kind.TheVariants.{Took, Gave}
@@ -87,6 +88,10 @@ module _ (job : JobValue) {first second : List Entry} {w s n : ℕ} (run : IsRun
         let a : length second ≡ length first + 1 = one_more job first second Took w s n took in
         let b : length third ≡ length second + 1 = one_more job second third Gave w s n gave.adds in
         omega (arith, a, b)
+
+-- what holds if a step is done, once it is
+pub once_done : {T E P : Type 0} (r : Result T E) (x : T) → r ≡ Ok x → OnOk r P → P
+once_done {P = P} r x done held = subst (λ s. OnOk s P) done held
 
 -- Without an entry a run is quiet.
 pub quiet_at_first : (job : JobValue) (history : List Entry) → history ≡ [] → IsQuiet (course_of job history)

@@ -13,6 +13,7 @@ use crate::locked::Locked;
 use crate::seat::Seat;
 use fb_book::{Board, Book, Entry, MOST_WORKERS, Piece};
 use fb_graph::NoMemory;
+use fb_half::both::both;
 use fb_plan::Job;
 use std::alloc::Global;
 use std::marker::Brand;
@@ -116,7 +117,8 @@ fn complete<P: Piece, T, H: Hands<P, T>, G: Gate, N: Board>(
     ensures history { IfOk result (λ w. IsCompleteOf N.job w.history.items) }
     ensures workers { IfOk result (λ w. All (λ e. e.worker ≤ N.workers) w.history.items) }
 {
-    if do_rest(bench, &mut book, workers, tools)? {
+    let (done, book) = both(do_rest(bench, &mut book, workers, tools), book)?;
+    if done {
         return Ok(finish(book));
     }
     drop(book);
@@ -194,8 +196,9 @@ fn join_workers<
 {
     let (events, mut all) = blank.open::<N>();
     let count = book.item_count().clamp(1, tools.len());
-    let seats = take_seats(bench.alloc, &mut tools, &mut all, count as u32)?;
     let desk = Desk::new(book, events);
+    let seats = take_seats(bench.alloc, &mut tools, &mut all, count as u32);
+    let (seats, (desk, mut tools, mut all)) = both(seats, (desk, tools, all))?;
     let seats = work_each(rt, &desk, bench, seats);
     let Locked { book, mut events } = desk.into_locked();
     book.keeps();
@@ -231,7 +234,7 @@ fn run_all<
     ensures tools { IfOk result (λ w. length w.tools.items ≡ N.workers) }
 {
     let workers = tools.len() as u32;
-    let book: Book<P, N> = Book::new(bench.alloc, job, workers)?;
+    let (book, tools) = both(Book::<P, N>::new(bench.alloc, job, workers), tools)?;
     let Joined {
         book,
         mut tools,
@@ -240,7 +243,10 @@ fn run_all<
     let Some(spare) = tools.last_mut() else {
         unreachable!()
     };
-    let Finished { roots, history } = complete(bench, job, workers, book, spare)?;
+    let (Finished { roots, history }, tools) = both(
+        complete(bench, job, workers, book, spare),
+        tools,
+    )?;
     Ok(Worked {
         roots,
         history,
@@ -271,12 +277,8 @@ pub fn work_all<P: Piece + Send, T: Send + Drop, H: Hands<P, T>, G: Gate, R: Thr
         let blank = Blank::new(u64::from(workers) + 1);
         return run_all::<P, T, H, G, Brand, R>(rt, &bench, job, blank, tools);
     }
-    let Finished { roots, history } = run_here::<P, T, H, G, Brand>(
-        &bench,
-        job,
-        workers,
-        &mut tools[0],
-    )?;
+    let finished = run_here::<P, T, H, G, Brand>(&bench, job, workers, &mut tools[0]);
+    let (Finished { roots, history }, tools) = both(finished, tools)?;
     Ok(Worked {
         roots,
         history,

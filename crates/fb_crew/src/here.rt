@@ -22,22 +22,29 @@ pub struct Finished<P: Piece> {
 }
 
 /// Whether a turn did an item, or found none that can be taken.
-#[derive(Clone, Copy, Debug)]
+#[derive(Clone, Copy)]
 pub(crate) enum Turn {
     Done,
     NoItem,
 }
 
-/// Posts the piece of an item that the permit's worker holds.
-fn give<P: Piece, N: Board>(book: &mut Book<P, N>, permit: Permit<N>, piece: P)
-    requires piece { IsPieceAt P.job_of P.slot_of P.node_of P.made_of N.job
-        (place_of N.job permit.slot permit.node) piece }
+/// Posts the piece of an item that the permit's worker holds, if it was made.
+fn give<P: Piece, N: Board>(
+    book: &mut Book<P, N>,
+    permit: Permit<N>,
+    piece: Result<P, NoMemory>,
+) -> Result<Turn, NoMemory>
+    requires piece { IfOk piece (IsPieceAt P.job_of P.slot_of P.node_of P.made_of N.job
+        (place_of N.job permit.slot permit.node)) }
     requires held { holds N.job book.old.0 permit.worker permit.slot permit.node ≡ true }
-    ensures { Lets (course_of N.job book.old.0) (course_of N.job book.new.0) Gave permit.worker permit.slot permit.node }
+    ensures done { IfOk result (λ turn. turn ≡ Turn.Done) }
+    ensures gave { OnOk result (Lets (course_of N.job book.old.0) (course_of N.job book.new.0)
+        Gave permit.worker permit.slot permit.node) }
 {
-    let Ok(()) = book.post(permit, piece) else {
+    let Ok(()) = book.post(permit, piece?) else {
         unreachable!()
     };
+    Ok(Turn::Done)
 }
 
 /// Does the next item that can be taken, if there is one.
@@ -57,14 +64,12 @@ pub(crate) fn next_item<P: Piece, T, H: Hands<P, T>, G: Gate, N: Board>(
     book.keeps();
     match book.claim(worker) {
         Claim::Unit(permit) => {
-            let piece = bench.unit(tools, &permit)?;
-            give(book, permit, piece);
-            Ok(Turn::Done)
+            let piece = bench.unit(tools, &permit);
+            give(book, permit, piece)
         }
         Claim::Fusion(permit, left, right) => {
-            let piece = bench.fusion(tools, &permit, left, right)?;
-            give(book, permit, piece);
-            Ok(Turn::Done)
+            let piece = bench.fusion(tools, &permit, left, right);
+            give(book, permit, piece)
         }
         Claim::NotYet => Ok(Turn::NoItem),
         Claim::Over => Ok(Turn::NoItem),
@@ -118,7 +123,7 @@ pub(crate) fn run_here<P: Piece, T, H: Hands<P, T>, G: Gate, N: Board>(
     ensures workers { IfOk result (λ w. All (λ e. e.worker ≤ N.workers) w.history.items) }
 {
     let mut book: Book<P, N> = Book::new(bench.alloc, job, workers)?;
-    drain(bench, &mut book, 0, tools)?;
+    let book = drain(bench, &mut book, 0, tools).and(Ok(book))?;
     Ok(finish(book))
 }
 
