@@ -22,9 +22,3 @@ returns-clause-regions c =
     ∙ (ap (λ rs. record { scope = c.args.scope.now; nodes = rs.0.nodes ++ renamed_nodes (name_by c.deref.result.now) rs.1.nodes }) (sym (ap (λ p. p.0) c.in_ok-tables.ensures.1))
     ∙ ap (λ l. record { scope = c.args.scope.now; nodes = c.args.left.regions.nodes ++ renamed_nodes (name_by l) c.args.right.regions.nodes })
     (c.deref.ensures.value ∙ ap (λ p. p.0.names.items) c.in_ok-regions.ensures.1))
-
-pub returns-clause-matching : goal.returns-clause-matching
-returns-clause-matching c = sym (ap (λ p. p.1.0) c.in_ok-tables.ensures.1 ∙ ap (λ p. p.1.0) c.in_ok-regions.ensures.1)
-
-pub returns-clause-others : goal.returns-clause-others
-returns-clause-others c = sym (ap (λ p. p.1.1) c.in_ok-tables.ensures.1 ∙ ap (λ p. p.1.1) c.in_ok-regions.ensures.1)
