@@ -17,7 +17,7 @@ use Rattle.fb_laws.specs.PartStates.{SearchState}
 use Rattle.fb_laws.specs.SearchBlossoms.{joined_tree, renamed_name}
 use Rattle.fb_laws.specs.StateBlossoms.{MayClose}
 use Rattle.fb_laws.specs.TreeCycles.{AreLinked, ArePaths, cycle_links, cycle_nodes, last_plus, nodes_along}
-use Rattle.fb_laws.specs.Trees.{Connects, Entry, EntryOf, grown_links, paired_links, tree_names}
+use Rattle.fb_laws.specs.Trees.{Entry, EntryOf, grown_links, paired_links, tree_names}
 use Rattle.fb_laws.specs.Works.{AreMatchedLinks}
 use Rattle.fb_laws.proofs.OpenedBlossoms.{same_permuted}
 use Rattle.fb_laws.proofs.RingLinks.{cycle_link_in, links_among}
@@ -27,13 +27,13 @@ use Rattle.fb_laws.proofs.TreePaths.{path_among}
 use Rattle.fb_trees.specs.Branches.{Grown}
 use Rattle.fb_trees.specs.Replacements.{IsReplaced, MayReplace}
 use Rattle.fb_trees.specs.Replacements as replacements
-use Rattle.fb_trees.specs.Rooted.{IsPlus}
 use Rattle.fb_trees.specs.TreeSteps.{IsCycle}
 use Rattle.fb_trees.proofs.Mapped.{cycle_links_moved, cycle_moved, last_moved, plus_moved}
 use Rattle.fb_half.specs.Matchings.{listed_names}
 use Rattle.fb_half.specs.Parts.{kept_links}
 use Rattle.fb_half.specs.Translations.{entry_by, link_by}
-use Rattle.fb_search.specs.InternalSearching.{IsSearchingBeside, SearchValue, problem_of, state_at}
+use Rattle.fb_search.specs.InternalClosings.{Closes}
+use Rattle.fb_search.specs.InternalSearching.{SearchValue, problem_of, state_at}
 use Rattle.fb_search.proofs.Agreed.{cycle_odd, cycle_outer, nodes_of}
 use Rattle.fb_search.proofs.Cycles.{cycle_from, paths_of}
 use Rattle.fb_search.proofs.JoinConditions.{nodes_may_join, tree_may_join}
@@ -41,28 +41,6 @@ use Rattle.fb_search.proofs.JoinLinks.{numbers_joined}
 use Rattle.fb_search.proofs.LinkedSteps.{steps_linked}
 use Rattle.fb_search.proofs.Renamed.{along_names}
 use Rattle.fb_graph.proofs.Floods.{is_in-both, is_in-left, is_in-right}
-
--- The link, which the search keeps beside its own, is tight and leads between two plus nodes.
-pub record Closes (w : SearchValue) (a b closing : ℕ) : Type 0 where
-  pub search : IsSearchingBeside (closing ∷ []) w
-  pub first : IsPlus w.tree a
-  pub second : IsPlus w.tree b
-  pub apart : a ≢ b
-  pub connects : Connects w.part.nodes (link_by w.part.links closing) a b
-  pub tight : AreMatchedLinks (problem_of w) w.part.nodes (link_by w.part.links closing ∷ [])
-
-pub closes_by : (w : SearchValue) (a b closing : ℕ) → IsSearchingBeside (closing ∷ []) w → IsPlus w.tree a
-    → IsPlus w.tree b
-    → a ≢ b → Connects w.part.nodes (link_by w.part.links closing) a b
-    → AreMatchedLinks (problem_of w) w.part.nodes (link_by w.part.links closing ∷ []) → Closes w a b closing
-closes_by w a b closing search first second apart connects tight = record {
-  search = search;
-  first = first;
-  second = second;
-  apart = apart;
-  connects = connects;
-  tight = tight;
-}
 
 -- several nodes may give way to one
 one_for_many : (t : Grown) (gone : List ℕ) (s : CycleStep) → 3 ≤ length gone → replacements.MayJoin t gone s.node

@@ -31,12 +31,12 @@ use Rattle.fb_half.specs.Translations.{link_by}
 use Rattle.fb_half.specs.Values.{IsScopeOf}
 use Rattle.fb_obstacles.specs.Obstacles.{slack_at}
 use Rattle.fb_obstacles.specs.Watched.{Watched}
-use Rattle.fb_search.specs.InternalClosings.{IsReplacedBy, WatchesMinus}
+use Rattle.fb_search.specs.InternalClosings.{Closes, IsReplacedBy, WatchesMinus}
 use Rattle.fb_search.specs.InternalProgress.{GoesOn}
 use Rattle.fb_search.specs.InternalSearching.{IsSearching, SearchValue, problem_of, state_at}
 use Rattle.fb_search.proofs.Agreed.{agreed_joined, nodes_of}
 use Rattle.fb_search.proofs.BegunSearches.{kept_limits}
-use Rattle.fb_search.proofs.ClosedCycles.{Closes, many_replaced, may_close, root_unlisted, steps_join}
+use Rattle.fb_search.proofs.ClosedCycles.{many_replaced, may_close, root_unlisted, steps_join}
 use Rattle.fb_search.proofs.ClosedWatches.{watch_closed, watches_minus}
 use Rattle.fb_search.proofs.Cycles.{cycle_from}
 use Rattle.fb_search.proofs.JoinConditions.{cycle_within, outer_made}

@@ -8,10 +8,10 @@ use Rattle.fb_links.specs.declared.walk.Step.{Step}
 use Rattle.fb_links.specs.Table.{Adds}
 use Rattle.fb_half.specs.Translations.{link_by, link_of}
 use Rattle.fb_trees.specs.Rooted.{IsPlus}
+use Rattle.fb_search.specs.InternalClosings.{Closes}
 use Rattle.fb_search.specs.InternalTightEdges.{IsPairOver}
 use Rattle.fb_trees.specs.InternalMetWalks.{IsMetWalk}
 use Rattle.fb_search.specs.InternalSearching.{IsSearching, SearchValue, problem_of, relinked_search, roles_in}
-use Rattle.fb_search.proofs.ClosedCycles.{Closes}
 use Rattle.fb_search.proofs.MadeLinks.{link_made}
 use Rattle.fb_search.proofs.RolesInTree.{plus_in_tree}
 use Rattle.fb_search.proofs.ScopeWalks.{IsBetweenThem, between_them}

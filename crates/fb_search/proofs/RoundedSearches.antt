@@ -28,8 +28,9 @@ use Rattle.fb_trees.proofs.Mapped.{plus_moved}
 use Rattle.fb_half.specs.Parts.{kept_links}
 use Rattle.fb_half.specs.Translations.{entry_by, link_by, link_of}
 use Rattle.fb_obstacles.specs.Obstacles.{IsZeroDefect}
+use Rattle.fb_search.specs.InternalClosings.{Closes}
 use Rattle.fb_search.specs.InternalProgress.{GoesOn}
-use Rattle.fb_search.specs.InternalSearching.{IsSearching, IsSearchingBeside, SearchValue, problem_of, relinked_search, state_at}
+use Rattle.fb_search.specs.InternalSearching.{IsSearching, SearchValue, problem_of, relinked_search, state_at}
 use Rattle.fb_search.proofs.MadeLinks.{link_made}
 use Rattle.fb_search.proofs.RoundedLinks.{AreRounded, links_rounded}
 use Rattle.fb_search.proofs.StepWalks.{walk_there}
@@ -151,17 +152,18 @@ module _ (w : SearchValue) (e : EntryOf ℕ) (id : ℕ) (new : List (Option (Lis
   made : link_of (joined_walk (walk_at w.part.links e.tree) (walk_at w.part.links e.matched)) ≡ link_by new id
   made = ap (λ o. link_of (unwrap_or o [])) (sym adds.added)
 
-  pub rounded_connects : Connects w.part.nodes (link_by new id) e.plus e.parent
-  rounded_connects =
-      connects_sym w.part.nodes (link_by new id) e.parent e.plus
-      (subst (λ l. Connects w.part.nodes l e.parent e.plus) made is.links.connects)
-
-  pub rounded_matched : AreMatchedLinks (problem_of w) w.part.nodes (link_by new id ∷ [])
-  rounded_matched = subst (λ l. AreMatchedLinks (problem_of w) w.part.nodes (l ∷ [])) made is.links.matched
-
-  pub rounded_search : IsSearching w → IsSearchingBeside (id ∷ []) (relinked_search new w)
-  rounded_search are =
-      link_made w id (joined_walk (walk_at w.part.links e.tree) (walk_at w.part.links e.matched)) new are adds is.links.steps
+  -- closes a cycle
+  pub rounded_closes : IsSearching w → Closes (relinked_search new w) e.plus e.parent id
+  rounded_closes are = record {
+    search = link_made w id (joined_walk (walk_at w.part.links e.tree) (walk_at w.part.links e.matched)) new are adds
+        is.links.steps;
+    first = is.plus;
+    second = is.parent;
+    apart = is.apart;
+    connects = connects_sym w.part.nodes (link_by new id) e.parent e.plus
+        (subst (λ l. Connects w.part.nodes l e.parent e.plus) made is.links.connects);
+    tight = subst (λ l. AreMatchedLinks (problem_of w) w.part.nodes (l ∷ [])) made is.links.matched;
+  }
 
 -- what is left to do does not depend on links
 pub goes_on_relinked : (w after : SearchValue) (new : List (Option (List Step))) → GoesOn (relinked_search new w) after

@@ -1,14 +1,33 @@
--- What becomes of the watch and of the unmatched nodes as a cycle of a tree becomes a blossom.
-use Rattle.std.specs.Prelude.{ℕ, ◌≡◌, ◌<◌, true, List, ◌∷◌, length}
+-- The cycle of a tree that a link closes, and what becomes of the watch and of the unmatched nodes as it becomes a blossom.
+use Rattle.std.specs.Prelude.{ℕ, ◌≡◌, ◌≢◌, ◌<◌, true, List, [], ◌∷◌, length}
 use Rattle.std.specs.List.Sorted.{IsPermutation}
 use Rattle.fb_graph.specs.Parity.{is_in}
 use Rattle.fb_graph.specs.Problem.{Problem, edge_at, touches}
 use Rattle.fb_graph.specs.Dual.{Node, top_at}
+use Rattle.fb_links.specs.declared.cycle.CycleStep.{CycleStep}
+use Rattle.fb_laws.specs.Trees.{Connects}
+use Rattle.fb_laws.specs.Works.{AreMatchedLinks}
 use Rattle.fb_regions.specs.declared.roles.Role.TheVariants.{Minus}
 use Rattle.fb_half.specs.Matchings.{MatchingValue}
+use Rattle.fb_half.specs.Translations.{link_by}
 use Rattle.fb_obstacles.specs.Watched.{AreBounded, Watched}
 use Rattle.fb_trees.specs.Branches.{Grown}
-use Rattle.fb_trees.specs.Rooted.{role_in}
+use Rattle.fb_trees.specs.Rooted.{IsPlus, role_in}
+use Rattle.fb_trees.specs.TreeSteps.{IsCycle}
+use Rattle.fb_search.specs.InternalSearching.{IsSearchingBeside, SearchValue, problem_of}
+
+-- The link, which the search keeps beside its own, is tight and leads between two plus nodes.
+pub record Closes (w : SearchValue) (a b closing : ℕ) : Type 0 where
+  pub search : IsSearchingBeside (closing ∷ []) w
+  pub first : IsPlus w.tree a
+  pub second : IsPlus w.tree b
+  pub apart : a ≢ b
+  pub connects : Connects w.part.nodes (link_by w.part.links closing) a b
+  pub tight : AreMatchedLinks (problem_of w) w.part.nodes (link_by w.part.links closing ∷ [])
+
+-- the steps of the cycle that the link closes
+abbrev pub IsClosedBy : SearchValue → ℕ → List CycleStep → Type 0
+IsClosedBy w closing steps = (a b : ℕ) × Closes w a b closing × IsCycle w.tree a b closing steps
 
 -- The edges at each minus node among these are watched, and all that were watched before. Bounds that are right stay so.
 pub record WatchesMinus (p : Problem) (nodes : List Node) (tree : Grown) (names : List ℕ) (old new : Watched) : Type 0 where

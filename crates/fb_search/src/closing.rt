@@ -1,18 +1,14 @@
-ghost use Rattle.std.specs.Prelude.{◌≡◌, ◌≢◌, ◌∷◌, [], true, false, All, IfOk, OnOk, length, map};
+ghost use Rattle.std.specs.Prelude.{◌≡◌, ◌≢◌, true, false, All, IfOk, OnOk, length, map};
 ghost use Rattle.fb_graph.specs.Dual.{is_live};
 ghost use Rattle.fb_graph.specs.Parity.{is_in};
-ghost use Rattle.fb_laws.specs.Trees.{Connects};
-ghost use Rattle.fb_laws.specs.Works.{AreMatchedLinks};
 ghost use Rattle.fb_half.specs.Matchings.{listed_names};
-ghost use Rattle.fb_half.specs.Translations.{link_by};
 ghost use Rattle.fb_half.specs.Values.{HasScope};
-ghost use Rattle.fb_trees.specs.Rooted.{IsPlus};
 ghost use Rattle.fb_obstacles.specs.Obstacles.{Obstructs};
 ghost use Rattle.fb_obstacles.specs.declared.obstacle.Obstacle.TheVariants.{PlusPair};
-ghost use Rattle.fb_search.specs.InternalClosings.{IsReplacedBy, WatchesMinus};
+ghost use Rattle.fb_search.specs.InternalClosings.{Closes, IsClosedBy, IsReplacedBy, WatchesMinus};
 ghost use Rattle.fb_search.specs.InternalPieces.{AreSearching};
 ghost use Rattle.fb_search.specs.InternalProgress.{GoesOn};
-ghost use Rattle.fb_search.specs.InternalSearching.{IsSearching, IsSearchingBeside, problem_of, roles_in, search_of};
+ghost use Rattle.fb_search.specs.InternalSearching.{IsSearching, problem_of, roles_in, search_of};
 ghost use Rattle.fb_search.specs.InternalTightEdges.{IsPairOver};
 
 use crate::pieces::into_searching;
@@ -56,30 +52,8 @@ fn close_over(
     join_cycle(alloc, pieces, first, second, closing)
 }
 
-/// The cycle that the link closes between the two plus nodes becomes a blossom, a plus node.
-pub(crate) fn close_cycle<'a>(
-    alloc: Global,
-    pieces: Pieces<'a>,
-    first: NodeId,
-    second: NodeId,
-    closing: LinkId,
-) -> Result<Searching<'a>, NoMemory>
-    requires scope { HasScope pieces.parts }
-    requires search { IsSearchingBeside (closing ∷ []) (search_of pieces) }
-    requires first { IsPlus pieces.tree first }
-    requires second { IsPlus pieces.tree second }
-    requires apart { first ≢ second }
-    requires connects { Connects pieces.parts.regions.nodes (link_by pieces.parts.links closing) first second }
-    requires tight { AreMatchedLinks (problem_of (search_of pieces)) pieces.parts.regions.nodes (link_by pieces.parts.links closing ∷ []) }
-    ensures { IfOk result (GoesOn (search_of pieces.entry)) }
-{
-    let mut pieces = pieces;
-    let done = join_cycle(alloc, &mut pieces, first, second, closing);
-    into_searching(pieces, done)
-}
-
 /// Makes the cycle that the link closes between the two plus nodes a blossom, a plus node.
-fn join_cycle(
+pub(crate) fn join_cycle(
     alloc: Global,
     pieces: &mut Pieces<'_>,
     first: NodeId,
@@ -87,18 +61,29 @@ fn join_cycle(
     closing: LinkId,
 ) -> Result<(), NoMemory>
     requires scope { HasScope pieces.old.parts }
-    requires search { IsSearchingBeside (closing ∷ []) (search_of pieces.old) }
-    requires first { IsPlus pieces.old.tree first }
-    requires second { IsPlus pieces.old.tree second }
-    requires apart { first ≢ second }
-    requires connects { Connects pieces.old.parts.regions.nodes (link_by pieces.old.parts.links closing) first second }
-    requires tight { AreMatchedLinks (problem_of (search_of pieces.old)) pieces.old.parts.regions.nodes (link_by pieces.old.parts.links closing ∷ []) }
+    requires closes { Closes (search_of pieces.old) first second closing }
+    ensures { OnOk result (AreSearching (search_of pieces.old) pieces.new) }
+{
+    let Pieces { parts, tree, .. } = pieces;
+    let cycle = tree.cycle_of(alloc, first, second, closing, &parts.links)?;
+    let nodes = nodes_on(alloc, &cycle)?;
+    join_steps(alloc, pieces, closing, cycle, &nodes)
+}
+
+/// Makes the cycle of these steps and nodes, which the link closes, a blossom, a plus node.
+fn join_steps(
+    alloc: Global,
+    pieces: &mut Pieces<'_>,
+    closing: LinkId,
+    cycle: Vec<CycleStep>,
+    nodes: &[NodeId],
+) -> Result<(), NoMemory>
+    requires scope { HasScope pieces.old.parts }
+    requires cycle { IsClosedBy (search_of pieces.old) closing cycle.items }
+    requires nodes { nodes.now ≡ map (λ s. s.node) cycle.items }
     ensures { OnOk result (AreSearching (search_of pieces.old) pieces.new) }
 {
     let Pieces { parts, tree, watch } = pieces;
-    let cycle = tree.cycle_of(alloc, first, second, closing, &parts.links)?;
-    let nodes = nodes_on(alloc, &cycle)?;
-    let nodes = nodes.as_slice();
     watch_minus(watch, &parts.regions, tree, nodes);
     watch.keeps();
     parts.regions.scope().limits();
@@ -111,8 +96,7 @@ fn join_cycle(
         link: closing,
     };
     tree.replace(alloc, nodes, &[step], &parts.links)?;
-    replace_unmatched(alloc, &mut parts.matching, root, tree.root())?;
-    Ok(())
+    replace_unmatched(alloc, &mut parts.matching, root, tree.root())
 }
 
 /// The nodes of the steps.

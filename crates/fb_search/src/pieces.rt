@@ -16,8 +16,7 @@ pub(crate) fn into_searching<'a>(
     pieces: Pieces<'a>,
     done: Result<(), NoMemory>,
 ) -> Result<Searching<'a>, NoMemory>
-    requires scope { OnOk done (HasScope pieces.parts) }
-    requires search { OnOk done (IsSearching (search_of pieces)) }
+    requires { OnOk done (HasScope pieces.parts × IsSearching (search_of pieces)) }
     ensures { IfOk result (λ search. Ok search ≡ result_and done (Ok (search_of pieces.entry))) }
 {
     let pieces = done.and(Ok(pieces))?;
@@ -30,8 +29,7 @@ pub(crate) fn into_work<'a>(
     pieces: Pieces<'a>,
     done: Result<(), NoMemory>,
 ) -> Result<(Work<'a>, Scratch), NoMemory>
-    requires scope { OnOk done (HasScope pieces.parts) }
-    requires part { OnOk done (IsPart (part_of pieces.parts)) }
+    requires { OnOk done (HasScope pieces.parts × IsPart (part_of pieces.parts)) }
     ensures { IfOk result (λ ended. Ok ended ≡ result_and done (Ok (part_of pieces.entry.parts, pieces.entry.watch))) }
 {
     let pieces = done.and(Ok(pieces))?;

@@ -12,17 +12,11 @@ use Rattle.fb_search.proofs.attaching.attach.Goals as goal
 abbrev AreAttached : Met → Pieces → Pieces → Type 0
 AreAttached met before after = (w : SearchValue) → HasMet w met (search_of before) → AreSearching w after
 
-pub into_searching-requires-clause-scope : goal.into_searching-requires-clause-scope
-into_searching-requires-clause-scope c =
+pub into_searching-requires : goal.into_searching-requires
+into_searching-requires c =
     IfOk-weaker _ _ _
     (λ _ (are : AreAttached c.args.met c.args.pieces c.add_couple-done.new.pieces).
-    (are c.requires.met.0 c.requires.met.1).scope) c.add_couple-done.ensures
-
-pub into_searching-requires-clause-search : goal.into_searching-requires-clause-search
-into_searching-requires-clause-search c =
-    IfOk-weaker _ _ _
-    (λ _ (are : AreAttached c.args.met c.args.pieces c.add_couple-done.new.pieces).
-    (are c.requires.met.0 c.requires.met.1).keeps) c.add_couple-done.ensures
+    let has = are c.requires.met.0 c.requires.met.1 in (has.scope, has.keeps)) c.add_couple-done.ensures
 
 pub returns : goal.returns
 returns c =

@@ -15,17 +15,11 @@ use Rattle.fb_search.proofs.attaching.release.Goals as goal
 abbrev AreReleased : Met → Pieces → Pieces → Type 0
 AreReleased met before after = (w : SearchValue) → HasMet w met (search_of before) → AreEnded w after
 
-pub into_work-requires-clause-scope : goal.into_work-requires-clause-scope
-into_work-requires-clause-scope c =
+pub into_work-requires : goal.into_work-requires
+into_work-requires c =
     IfOk-weaker _ _ _
     (λ _ (are : AreReleased c.args.met c.args.pieces c.match_released-done.new.pieces).
-    (are c.requires.met.0 c.requires.met.1).scope) c.match_released-done.ensures
-
-pub into_work-requires-clause-part : goal.into_work-requires-clause-part
-into_work-requires-clause-part c =
-    IfOk-weaker _ _ _
-    (λ _ (are : AreReleased c.args.met c.args.pieces c.match_released-done.new.pieces).
-    (are c.requires.met.0 c.requires.met.1).part) c.match_released-done.ensures
+    let has = are c.requires.met.0 c.requires.met.1 in (has.scope, has.part)) c.match_released-done.ensures
 
 pub returns : goal.returns
 returns c =

@@ -1,7 +1,6 @@
 use Rattle.std.proofs.lemmas.Result.{IfOk-weaker}
 use Rattle.fb_search.specs.InternalPieces.{AreSearching}
 use Rattle.fb_search.specs.InternalSearching.{SearchValue, relinked_search, search_of}
-use Rattle.fb_search.proofs.ClosedCycles.{Closes}
 use Rattle.fb_search.proofs.MetPairs.{link_closes, pair_between}
 use Rattle.fb_search.proofs.RoundedSearches.{goes_on_relinked}
 use Rattle.fb_search.proofs.ScopeWalks.{between_scoped, met_scoped}
@@ -18,19 +17,12 @@ join_cycle-requires c =
     let w : SearchValue = search_of c.args.pieces.now in
     let scope = c.requires.scope in
     let made = c.in_ok-closing.ensures in
-    let closes : Closes (relinked_search c.link_between.new.links w) c.args.first c.args.second c.in_ok-closing.closing =
-    link_closes w c.args.edge c.args.first c.args.second c.requires.pair made.walk c.in_ok-closing.closing
-    c.link_between.new.links c.requires.search made.adds
-    (met_scoped w.part _ scope c.args.edge c.args.first c.args.second made.walk
-    (pair_between w c.args.edge c.args.first c.args.second c.requires.pair) made.between) in
     record {
       scope = record { graph = scope.graph; plan = scope.plan; node = scope.node };
-      search = closes.search;
-      first = closes.first;
-      second = closes.second;
-      apart = closes.apart;
-      connects = closes.connects;
-      tight = closes.tight;
+      closes = link_closes w c.args.edge c.args.first c.args.second c.requires.pair made.walk c.in_ok-closing.closing
+          c.link_between.new.links c.requires.search made.adds
+          (met_scoped w.part _ scope c.args.edge c.args.first c.args.second made.walk
+          (pair_between w c.args.edge c.args.first c.args.second c.requires.pair) made.between);
     }
 
 pub returns : goal.returns

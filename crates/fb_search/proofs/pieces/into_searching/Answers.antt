@@ -6,12 +6,9 @@ use Rattle.fb_search.proofs.DoneSteps.{done_same}
 use Rattle.fb_search.proofs.pieces.into_searching.Goals as goal
 
 pub invariant_of-result : goal.invariant_of-result
-invariant_of-result c = (
-  done_with (λ (p : Pieces). HasScope p.parts) c.args.done c.args.pieces c.in_ok-pieces.pieces c.in_ok-pieces.ensures
-      c.requires.scope,
-  done_with (λ p. IsSearching (search_of p)) c.args.done c.args.pieces c.in_ok-pieces.pieces c.in_ok-pieces.ensures
-      c.requires.search,
-)
+invariant_of-result c =
+    done_with (λ (p : Pieces). HasScope p.parts × IsSearching (search_of p)) c.args.done c.args.pieces c.in_ok-pieces.pieces
+    c.in_ok-pieces.ensures c.requires
 
 pub returns : goal.returns
 returns c = done_same search_of c.args.done c.args.pieces c.in_ok-pieces.pieces c.in_ok-pieces.ensures

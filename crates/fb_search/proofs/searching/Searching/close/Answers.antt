@@ -9,15 +9,10 @@ use Rattle.fb_search.proofs.searching.Searching.close.Goals as goal
 pub close_over-done-requires-clause-pair : goal.close_over-done-requires-clause-pair
 close_over-done-requires-clause-pair c = rw (← c.self.view_is) at c.paired_nodes-first.ensures
 
-pub into_searching-requires-clause-scope : goal.into_searching-requires-clause-scope
-into_searching-requires-clause-scope c =
+pub into_searching-requires : goal.into_searching-requires
+into_searching-requires c =
     let w : SearchValue = record { part = part_of c.self.inside.parts; tree = c.self.inside.tree; watched = c.self.inside.watch } in
-    IfOk-weaker _ _ _ (λ _ (are : AreSearching w c.close_over-done.new.pieces). are.scope) c.close_over-done.ensures
-
-pub into_searching-requires-clause-search : goal.into_searching-requires-clause-search
-into_searching-requires-clause-search c =
-    let w : SearchValue = record { part = part_of c.self.inside.parts; tree = c.self.inside.tree; watched = c.self.inside.watch } in
-    IfOk-weaker _ _ _ (λ _ (are : AreSearching w c.close_over-done.new.pieces). are.keeps) c.close_over-done.ensures
+    IfOk-weaker _ _ _ (λ _ (are : AreSearching w c.close_over-done.new.pieces). (are.scope, are.keeps)) c.close_over-done.ensures
 
 pub returns : goal.returns
 returns c =

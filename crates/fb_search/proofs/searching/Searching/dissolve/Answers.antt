@@ -11,15 +11,10 @@ use Rattle.fb_search.proofs.searching.Searching.dissolve.Goals as goal
 pub dissolve_tree-done-requires-clause-even : goal.dissolve_tree-done-requires-clause-even
 dissolve_tree-done-requires-clause-even c = rw (← c.self.view_is) at c.requires
 
-pub into_work-requires-clause-scope : goal.into_work-requires-clause-scope
-into_work-requires-clause-scope c =
+pub into_work-requires : goal.into_work-requires
+into_work-requires c =
     let w : SearchValue = record { part = part_of c.self.inside.parts; tree = c.self.inside.tree; watched = c.self.inside.watch } in
-    IfOk-weaker _ _ _ (λ _ (are : AreDissolved w c.dissolve_tree-done.new.pieces). are.scope) c.dissolve_tree-done.ensures
-
-pub into_work-requires-clause-part : goal.into_work-requires-clause-part
-into_work-requires-clause-part c =
-    let w : SearchValue = record { part = part_of c.self.inside.parts; tree = c.self.inside.tree; watched = c.self.inside.watch } in
-    IfOk-weaker _ _ _ (λ _ (are : AreDissolved w c.dissolve_tree-done.new.pieces). are.part) c.dissolve_tree-done.ensures
+    IfOk-weaker _ _ _ (λ _ (are : AreDissolved w c.dissolve_tree-done.new.pieces). (are.scope, are.part)) c.dissolve_tree-done.ensures
 
 pub returns : goal.returns
 returns c =

@@ -11,15 +11,10 @@ use Rattle.fb_search.proofs.searching.Searching.end_at_boundary.Goals as goal
 pub match_out-done-requires-clause-leads : goal.match_out-done-requires-clause-leads
 match_out-done-requires-clause-leads c = rw (← c.self.view_is) at c.plus_at_boundary-plus.ensures
 
-pub into_work-requires-clause-scope : goal.into_work-requires-clause-scope
-into_work-requires-clause-scope c =
+pub into_work-requires : goal.into_work-requires
+into_work-requires c =
     let w : SearchValue = record { part = part_of c.self.inside.parts; tree = c.self.inside.tree; watched = c.self.inside.watch } in
-    IfOk-weaker _ _ _ (λ _ (are : AreEnded w c.match_out-done.new.pieces). are.scope) c.match_out-done.ensures
-
-pub into_work-requires-clause-part : goal.into_work-requires-clause-part
-into_work-requires-clause-part c =
-    let w : SearchValue = record { part = part_of c.self.inside.parts; tree = c.self.inside.tree; watched = c.self.inside.watch } in
-    IfOk-weaker _ _ _ (λ _ (are : AreEnded w c.match_out-done.new.pieces). are.part) c.match_out-done.ensures
+    IfOk-weaker _ _ _ (λ _ (are : AreEnded w c.match_out-done.new.pieces). (are.scope, are.part)) c.match_out-done.ensures
 
 pub returns : goal.returns
 returns c =

@@ -14,15 +14,10 @@ match_over-done-requires-clause-meets c = rw (← c.self.view_is) at c.requires.
 pub match_over-done-requires-clause-unmatched : goal.match_over-done-requires-clause-unmatched
 match_over-done-requires-clause-unmatched c = rw (← c.self.view_is) at c.requires.unmatched
 
-pub into_work-requires-clause-scope : goal.into_work-requires-clause-scope
-into_work-requires-clause-scope c =
+pub into_work-requires : goal.into_work-requires
+into_work-requires c =
     let w : SearchValue = record { part = part_of c.self.inside.parts; tree = c.self.inside.tree; watched = c.self.inside.watch } in
-    IfOk-weaker _ _ _ (λ _ (are : AreEnded w c.match_over-done.new.pieces). are.scope) c.match_over-done.ensures
-
-pub into_work-requires-clause-part : goal.into_work-requires-clause-part
-into_work-requires-clause-part c =
-    let w : SearchValue = record { part = part_of c.self.inside.parts; tree = c.self.inside.tree; watched = c.self.inside.watch } in
-    IfOk-weaker _ _ _ (λ _ (are : AreEnded w c.match_over-done.new.pieces). are.part) c.match_over-done.ensures
+    IfOk-weaker _ _ _ (λ _ (are : AreEnded w c.match_over-done.new.pieces). (are.scope, are.part)) c.match_over-done.ensures
 
 pub returns : goal.returns
 returns c =

@@ -9,15 +9,10 @@ use Rattle.fb_search.proofs.searching.Searching.open.Goals as goal
 pub open_node-done-requires-clause-empty : goal.open_node-done-requires-clause-empty
 open_node-done-requires-clause-empty c = rw (← c.self.view_is) at c.requires
 
-pub into_searching-requires-clause-scope : goal.into_searching-requires-clause-scope
-into_searching-requires-clause-scope c =
+pub into_searching-requires : goal.into_searching-requires
+into_searching-requires c =
     let w : SearchValue = record { part = part_of c.self.inside.parts; tree = c.self.inside.tree; watched = c.self.inside.watch } in
-    IfOk-weaker _ _ _ (λ _ (are : AreSearching w c.open_node-done.new.pieces). are.scope) c.open_node-done.ensures
-
-pub into_searching-requires-clause-search : goal.into_searching-requires-clause-search
-into_searching-requires-clause-search c =
-    let w : SearchValue = record { part = part_of c.self.inside.parts; tree = c.self.inside.tree; watched = c.self.inside.watch } in
-    IfOk-weaker _ _ _ (λ _ (are : AreSearching w c.open_node-done.new.pieces). are.keeps) c.open_node-done.ensures
+    IfOk-weaker _ _ _ (λ _ (are : AreSearching w c.open_node-done.new.pieces). (are.scope, are.keeps)) c.open_node-done.ensures
 
 pub returns : goal.returns
 returns c =

@@ -1,54 +1,22 @@
 use Rattle.std.proofs.lemmas.Result.{IfOk-weaker}
-use Rattle.fb_search.proofs.RoundedSearches.{goes_on_relinked, rounded_connects, rounded_matched, rounded_search, rounding}
+use Rattle.fb_half.specs.Values.{part_of}
+use Rattle.fb_search.specs.InternalPieces.{AreSearching}
+use Rattle.fb_search.specs.InternalProgress.{GoesOn}
+use Rattle.fb_search.specs.InternalSearching.{SearchValue}
+use Rattle.fb_search.proofs.DoneSteps.{done_weaker}
 use Rattle.fb_search.proofs.searching.Searching.round.Goals as goal
 
-pub join_ends-requires-clause-first : goal.join_ends-requires-clause-first
-join_ends-requires-clause-first c =
-    (rounding _ _ _ c.self.invariant.1 (rw (← c.self.view_is) at c.requires).1 c.branch-branch.ensures).first
+pub round_node-done-requires-clause-zero : goal.round_node-done-requires-clause-zero
+round_node-done-requires-clause-zero c = rw (← c.self.view_is) at c.requires
 
-pub join_ends-requires-clause-second : goal.join_ends-requires-clause-second
-join_ends-requires-clause-second c =
-    (rounding _ _ _ c.self.invariant.1 (rw (← c.self.view_is) at c.requires).1 c.branch-branch.ensures).second
-
-pub join_ends-requires-clause-meet : goal.join_ends-requires-clause-meet
-join_ends-requires-clause-meet c =
-    (rounding _ _ _ c.self.invariant.1 (rw (← c.self.view_is) at c.requires).1 c.branch-branch.ensures).links.meet
-
-pub join_ends-requires-clause-light : goal.join_ends-requires-clause-light
-join_ends-requires-clause-light c =
-    (rounding _ _ _ c.self.invariant.1 (rw (← c.self.view_is) at c.requires).1 c.branch-branch.ensures).links.light
-
-pub close_cycle-requires-clause-search : goal.close_cycle-requires-clause-search
-close_cycle-requires-clause-search c =
-    rounded_search _ _ _ _
-    (rounding _ _ _ c.self.invariant.1 (rw (← c.self.view_is) at c.requires).1 c.branch-branch.ensures)
-    c.in_ok-closing.ensures.ok c.self.invariant.1
-
-pub close_cycle-requires-clause-first : goal.close_cycle-requires-clause-first
-close_cycle-requires-clause-first c =
-    (rounding _ _ _ c.self.invariant.1 (rw (← c.self.view_is) at c.requires).1 c.branch-branch.ensures).plus
-
-pub close_cycle-requires-clause-second : goal.close_cycle-requires-clause-second
-close_cycle-requires-clause-second c =
-    (rounding _ _ _ c.self.invariant.1 (rw (← c.self.view_is) at c.requires).1 c.branch-branch.ensures).parent
-
-pub close_cycle-requires-clause-apart : goal.close_cycle-requires-clause-apart
-close_cycle-requires-clause-apart c =
-    (rounding _ _ _ c.self.invariant.1 (rw (← c.self.view_is) at c.requires).1 c.branch-branch.ensures).apart
-
-pub close_cycle-requires-clause-connects : goal.close_cycle-requires-clause-connects
-close_cycle-requires-clause-connects c =
-    rounded_connects _ _ _ _
-    (rounding _ _ _ c.self.invariant.1 (rw (← c.self.view_is) at c.requires).1 c.branch-branch.ensures)
-    c.in_ok-closing.ensures.ok
-
-pub close_cycle-requires-clause-tight : goal.close_cycle-requires-clause-tight
-close_cycle-requires-clause-tight c =
-    rounded_matched _ _ _ _
-    (rounding _ _ _ c.self.invariant.1 (rw (← c.self.view_is) at c.requires).1 c.branch-branch.ensures)
-    c.in_ok-closing.ensures.ok
+pub into_searching-requires : goal.into_searching-requires
+into_searching-requires c =
+    let w : SearchValue = record { part = part_of c.self.inside.parts; tree = c.self.inside.tree; watched = c.self.inside.watch } in
+    IfOk-weaker _ _ _ (λ _ (are : AreSearching w c.round_node-done.new.pieces). (are.scope, are.keeps)) c.round_node-done.ensures
 
 pub returns : goal.returns
 returns c =
+    let w : SearchValue = record { part = part_of c.self.inside.parts; tree = c.self.inside.tree; watched = c.self.inside.watch } in
     rw (← c.self.view_is)
-    (IfOk-weaker _ _ _ (λ after. goes_on_relinked _ after c.join_ends.new.self) c.close_cycle.ensures)
+    (done_weaker (GoesOn w) c.round_node-done.result _ _ c.into_searching.ensures
+    (IfOk-weaker _ _ _ (λ _ (are : AreSearching w c.round_node-done.new.pieces). are.goes_on) c.round_node-done.ensures))
