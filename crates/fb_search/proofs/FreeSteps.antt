@@ -1,6 +1,5 @@
 -- After the greatest free step there is an obstacle, and the search goes on from there.
-use Rattle.std.proofs.Common.{ℕ, ◌≡◌, ◌+◌, ◌≤◌, true, false, Option, Some, None, sym, ◌∙◌, subst, arith}
-use Rattle.std.specs.Prelude.{MatchOption}
+use Rattle.std.proofs.Common.{ℕ, ◌≡◌, ◌+◌, ◌≤◌, true, false, ◌∙◌, subst, arith}
 use Rattle.fb_graph.specs.Parity.{is_in}
 use Rattle.fb_graph.specs.Problem.{Problem, with_defects}
 use Rattle.fb_graph.specs.Dual.{leaves}
@@ -13,10 +12,9 @@ use Rattle.fb_obstacles.specs.declared.obstacle.Obstacle.{Obstacle}
 use Rattle.fb_obstacles.specs.declared.obstacle.Obstacle.TheVariants.{Absorb, Boundary, Meet, PlusPair, LayerEmpty, BlossomEmpty, ZeroMinus, Free}
 use Rattle.fb_obstacles.specs.Obstacles.{IsFree, IsObstacle, Obstructs}
 use Rattle.fb_obstacles.specs.Watched.{Watched}
-use Rattle.fb_search.specs.declared.advancing.TreeObstacle.{TreeObstacle}
 use Rattle.fb_search.specs.declared.outcome.Outcome.{Outcome}
 use Rattle.fb_search.specs.declared.outcome.Outcome.TheVariants.{On, Ended}
-use Rattle.fb_search.specs.InternalTurns.{BlocksTree, HasStepped}
+use Rattle.fb_search.specs.InternalTurns.{HasStepped}
 use Rattle.fb_search.specs.InternalProgress.{GoesOn, HasAdvanced, IsRewatched, rewatched_search, stepped_by, to_do}
 use Rattle.fb_search.specs.InternalSearching.{IsSearching, SearchValue, problem_of, roles_in}
 use Rattle.fb_search.specs.InternalOutcomes.{HasCleared, HasSteppedAndCleared}
@@ -117,14 +115,8 @@ stepped_after w after k are same o cleared =
 pub stepped_not : (w : SearchValue) → HasStepped w w
 stepped_not w o cleared = outcome_at_once w o cleared
 
--- the same from before the watched edges changed
-pub stepped_anew : (w now after : SearchValue) → IsRewatched w now → HasStepped now after → HasStepped w after
-stepped_anew w now after same stepped_nodes o cleared =
-    outcome_anew w now.watched o same.room (subst (λ s. HasSteppedAndCleared s o) same.same (stepped_nodes o cleared))
-
--- what a turn leaves, from before it
-pub turned : (w mid after : SearchValue) (left : Option TreeObstacle) → HasStepped w mid
-    → MatchOption left (GoesOn mid after) (λ o. BlocksTree after o × (after ≡ mid))
-    → MatchOption left (HasAdvanced w after) (λ o. BlocksTree after o × HasStepped w after)
-turned w mid after None stepped_nodes goes = stepped_nodes (On after) goes
-turned w mid after (Some o) stepped_nodes blocked = (blocked.0, subst (HasStepped w) (sym blocked.1) stepped_nodes)
+-- an advance from before the watched edges changed
+pub advanced_anew : (w now : SearchValue) (o : Outcome) → IsRewatched w now → HasSteppedAndCleared now o
+    → HasSteppedAndCleared w o
+advanced_anew w now o same advanced =
+    outcome_anew w now.watched o same.room (subst (λ s. HasSteppedAndCleared s o) same.same advanced)

@@ -1,5 +1,7 @@
 -- A search whose tree is given up, from its beginning.
 use Rattle.std.proofs.Common.{ℕ, ◌≡◌, ◌+◌, ◌-◌, ◌*◌, ◌%◌, ◌<◌, true, Some, Option, None, refl, sym, ap, ◌∙◌, subst, arith}
+use Rattle.std.specs.Prelude.{Result, IfOk}
+use Rattle.std.proofs.lemmas.Result.{IfOk-weaker}
 use Rattle.fb_graph.specs.Parity.{is_in}
 use Rattle.fb_graph.specs.Problem.{Problem, with_defects}
 use Rattle.fb_graph.specs.Covers.{is_covered_by, passes}
@@ -18,7 +20,9 @@ use Rattle.fb_obstacles.specs.Obstacles.{IsFree}
 use Rattle.fb_obstacles.specs.Watched.{Watched}
 use Rattle.fb_search.specs.InternalRounds.{HasEvenRoot, IsDissolved, IsGivenUp, IsLeft, IsRootPotential}
 use Rattle.fb_search.specs.InternalRuns.{HasBegun}
-use Rattle.fb_search.specs.InternalProgress.{stepped_by}
+use Rattle.fb_search.specs.InternalPaces.{IsEndedWithin}
+use Rattle.fb_search.specs.declared.rounds.Bounded.{Bounded}
+use Rattle.fb_search.specs.InternalProgress.{IsRewatched, stepped_by}
 use Rattle.fb_search.specs.InternalSearching.{IsSearching, SearchValue, problem_of, roles_in}
 use Rattle.fb_search.proofs.KeptNodes.{beside_stepped}
 use Rattle.fb_search.proofs.Runs.{ends, tree_roles}
@@ -97,3 +101,17 @@ left_on root room work after w (Some name) begun is = record {
   kept = λ n beside. is.kept n (begun.others n ∙ beside) ∙ begun.kept n beside;
   count = is.count ∙ begun.count;
 }
+
+-- A search that is given up is so from its beginning, and has a limit.
+pub spent_on : {E : Type 0} (limit : Option ℕ) (root room : ℕ) (work : PartValue) (w now : SearchValue) (length : ℕ)
+    (result : Result Bounded E) → HasBegun root work room w → IsRewatched w now → (limit ≡ None → Some length ≡ None)
+    → IfOk result (IsEndedWithin (Some length) now.tree.root now.part now.watched.edge_count)
+    → IfOk result (IsEndedWithin limit root work room)
+spent_on limit root room work w now length result begun same has is =
+    IfOk-weaker result _ (IsEndedWithin limit root work room)
+    (λ b (ended : IsEndedWithin (Some length) w.tree.root w.part now.watched.edge_count b). record {
+      left = left_on root room work b.work w b.left begun ended.left;
+      room = ended.room ∙ (same.room ∙ begun.edges);
+      without_limit = λ none. ended.without_limit (has none);
+    })
+    (subst (λ s. IfOk result (IsEndedWithin (Some length) s.tree.root s.part now.watched.edge_count)) same.same is)

@@ -10,7 +10,7 @@ use Rattle.fb_laws.proofs.StateMoves.{kept_without}
 use Rattle.fb_regions.specs.Moves.{node_named}
 use Rattle.fb_half.specs.Parts.{PartValue, problem_in}
 use Rattle.fb_search.specs.InternalRounds.{HasSearchedSome, IsLeft, steps_with}
-use Rattle.fb_search.specs.Progress.{IsSamePart}
+use Rattle.fb_search.specs.Progress.{HasSearchedEach, IsSamePart}
 use Rattle.fb_search.proofs.Runs.{same_problem}
 use Rattle.fb_search.proofs.SearchedEach.{gone}
 
@@ -118,6 +118,24 @@ rounds_on before now after roots left more start old new was is = record {
   each = omega (arith, was.each, is.each);
   few = omega (arith, was.few, is.few);
 }
+
+-- and a round that leaves none
+pub each_searched : (before now after : PartValue) (roots left from rest : List ℕ) (start old new : ℕ)
+    → HasSearchedSome before roots start old left now → from ≡ left → rest ≡ [] → HasSearchedSome now from old new rest after
+    → HasSearchedEach before roots start new after
+each_searched before now after roots left from rest start old new was same none is =
+    let all : HasSearchedSome before roots start new [] after =
+    subst (λ l. HasSearchedSome before roots start new l after) none
+    (rounds_on before now after roots left rest start old new was
+    (subst (λ l. HasSearchedSome now l old new rest after) same is)) in
+    record {
+      part = all.part;
+      matched = λ n there. let old = all.others n there refl in (old.0, old.1);
+      kept = λ n there. (all.others n there refl).2;
+      steps = all.steps;
+      each = all.each;
+      few = omega (arith, all.few);
+    }
 
 -- the watch has room for the edges still
 pub room_after : (before after : PartValue) (roots left : List ℕ) (old new count room : ℕ)

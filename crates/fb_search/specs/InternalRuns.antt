@@ -1,5 +1,5 @@
 -- How far a search has come since it began.
-use Rattle.std.specs.Prelude.{ℕ, ◌≡◌, true, false, List, length}
+use Rattle.std.specs.Prelude.{ℕ, ◌≡◌, true, length}
 use Rattle.fb_graph.specs.Parity.{is_in}
 use Rattle.fb_laws.specs.PartBounds.{search_rank}
 use Rattle.fb_laws.specs.Trees.{roles_of}
@@ -20,10 +20,3 @@ pub record HasBegun (root : ℕ) (work : PartValue) (room : ℕ) (w : SearchValu
 -- what is left to do as one number
 abbrev pub rank_left : SearchValue → ℕ
 rank_left w = search_rank (problem_of w) w.part.nodes (roles_of w.tree.root w.tree.branches) true
-
--- the part after a search from each of these nodes that was still unmatched in its turn
-pub record HasSearched (before : PartValue) (roots : List ℕ) (after : PartValue) : Type 0 where
-  pub part : IsSamePart before after
-  pub matched : (n : ℕ) → is_in after.matching.unmatched n ≡ true
-      → (is_in before.matching.unmatched n ≡ true) × (is_in roots n ≡ false)
-  pub kept : AreKept after.matching.unmatched before.nodes after.nodes

@@ -1,10 +1,10 @@
 ghost use Rattle.std.specs.Prelude.{◌≡◌, IfOk, IfSome, MatchOption};
 ghost use Rattle.fb_obstacles.specs.Obstacles.{IsObstacle, Obstructs};
 ghost use Rattle.fb_obstacles.specs.declared.obstacle.Obstacle.TheVariants as Obstacle;
-ghost use Rattle.fb_search.specs.InternalProgress.{GoesOn, HasAdvanced, IsRewatched};
+ghost use Rattle.fb_search.specs.InternalProgress.{GoesOn, IsRewatched};
 ghost use Rattle.fb_search.specs.InternalSearching.{problem_of, roles_in};
 ghost use Rattle.fb_search.specs.InternalTurns.{BlocksTree, HasStepped};
-ghost use Rattle.fb_search.specs.InternalOutcomes.{HasCleared};
+ghost use Rattle.fb_search.specs.InternalOutcomes.{HasCleared, HasSteppedAndCleared};
 
 use crate::outcome::{Outcome, ended, going_on};
 use crate::roles::TreeRoles;
@@ -32,17 +32,6 @@ pub(crate) enum TreeObstacle {
 }
 
 impl<'a> Searching<'a> {
-    /// Removes the obstacle in the tree's way; if there is none, the tree steps first, as far as it may. Returns an obstacle
-    /// that only a change of the tree or the end of the search removes.
-    pub(crate) fn turn<L: Ledger>(&mut self, looks: &mut Steps<L>) -> Option<TreeObstacle>
-        ensures { MatchOption result (HasAdvanced self.old self.new)
-            (λ left. BlocksTree self.new left × HasStepped self.old self.new) }
-    {
-        let found = self.next(looks);
-        let obstacle = self.step_past(found, looks);
-        self.remove(obstacle)
-    }
-
     /// The obstacle in the tree's way, or how far the tree may step. Raises the bounds of the edges that it looks at, and
     /// no longer watches those that it finds inside one outer node.
     pub(crate) fn next<L: Ledger>(&mut self, looks: &mut Steps<L>) -> Obstacle
@@ -69,8 +58,26 @@ impl<'a> Searching<'a> {
         )
     }
 
+    /// Removes the obstacle that was found; if a step was found, the tree steps first, and the obstacle that is then in its
+    /// way is removed.
+    pub(crate) fn advance<L: Ledger>(
+        mut self,
+        alloc: Global,
+        found: Obstacle,
+        looks: &mut Steps<L>,
+    ) -> Result<Outcome<'a>, NoMemory>
+        requires { IsObstacle (problem_of self) (roles_in self) self.part.nodes found }
+        ensures { IfOk result (HasSteppedAndCleared self.entry) }
+    {
+        let obstacle = self.step_past(found, looks);
+        match self.remove(obstacle) {
+            None => Ok(Outcome::On(self)),
+            Some(obstacle) => self.clear(alloc, obstacle),
+        }
+    }
+
     /// The obstacle that was found; or the one in the tree's way after the step, if a step was found.
-    pub(crate) fn step_past<L: Ledger>(&mut self, found: Obstacle, looks: &mut Steps<L>) -> Obstacle
+    fn step_past<L: Ledger>(&mut self, found: Obstacle, looks: &mut Steps<L>) -> Obstacle
         requires { IsObstacle (problem_of self.old) (roles_in self.old) self.old.part.nodes found }
         ensures obstacle { Obstructs (problem_of self.new) (roles_in self.new) self.new.part.nodes result }
         ensures stepped { HasStepped self.old self.new }
@@ -89,7 +96,7 @@ impl<'a> Searching<'a> {
     }
 
     /// Removes the obstacle if that leaves the tree as it is, or else returns it.
-    pub(crate) fn remove(&mut self, obstacle: Obstacle) -> Option<TreeObstacle>
+    fn remove(&mut self, obstacle: Obstacle) -> Option<TreeObstacle>
         requires { Obstructs (problem_of self.old) (roles_in self.old) self.old.part.nodes obstacle }
         ensures { MatchOption result (GoesOn self.old self.new)
             (λ left. BlocksTree self.new left × (self.new ≡ self.old)) }
@@ -113,11 +120,7 @@ impl<'a> Searching<'a> {
     }
 
     /// Changes the tree or ends the search, which removes the obstacle.
-    pub(crate) fn clear(
-        self,
-        alloc: Global,
-        obstacle: TreeObstacle,
-    ) -> Result<Outcome<'a>, NoMemory>
+    fn clear(self, alloc: Global, obstacle: TreeObstacle) -> Result<Outcome<'a>, NoMemory>
         requires { BlocksTree self obstacle }
         ensures { IfOk result (HasCleared self.entry) }
     {

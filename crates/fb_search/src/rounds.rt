@@ -1,14 +1,12 @@
-ghost use Rattle.std.specs.Prelude.{◌≡◌, ◌<◌, ◌∷◌, ◌++◌, ◌≤◌, ℕ, List, [], true, IfOk, OnErr, OnOk, length, option_to_list};
+ghost use Rattle.std.specs.Prelude.{◌≡◌, ◌<◌, ◌∷◌, ◌++◌, ◌≤◌, ℕ, List, [], true, None, Some, IfOk, IfSome, OnErr, OnOk, length, option_to_list};
 ghost use Rattle.fb_graph.specs.Dual.{is_live};
 ghost use Rattle.fb_graph.specs.Parity.{is_in};
-ghost use Rattle.fb_graph.specs.Steps.{MayStep};
 ghost use Rattle.fb_half.specs.Parts.{problem_in};
-ghost use Rattle.fb_search.specs.InternalPaces.{HasTurned, IsEndedWithin};
-ghost use Rattle.fb_search.specs.InternalRounds.{HasEvenRoot, HasSearchedSome, IsLeft, steps_with};
-ghost use Rattle.fb_search.specs.InternalProgress.{stepped_by};
+ghost use Rattle.fb_obstacles.specs.Obstacles.{IsObstacle};
+ghost use Rattle.fb_search.specs.InternalPaces.{IsEndedWithin, IsSpent};
+ghost use Rattle.fb_search.specs.InternalRounds.{HasSearchedSome, steps_with};
 ghost use Rattle.fb_search.specs.InternalSearching.{problem_of, roles_in};
 
-use crate::advancing::TreeObstacle;
 use crate::near_ends::{match_near, near_in};
 use crate::outcome::Outcome;
 use crate::scratch::Scratch;
@@ -34,17 +32,6 @@ pub(crate) struct Bounded<'a> {
     pub(crate) left: Option<NodeId>,
 }
 
-/// What a turn of a tree with a limit comes to.
-#[derive(Clone, Copy)]
-pub(crate) enum Turn {
-    /// The obstacle in its way is removed.
-    Cleared,
-    /// Its limit is reached: it may grow by the length that is left, and is then given up.
-    Spent,
-    /// This obstacle is in its way. Only a change of the tree or the end of the search removes it.
-    Blocked(TreeObstacle),
-}
-
 /// A part after a round of bounded searches.
 #[derive(Drop)]
 pub(crate) struct Round<'a> {
@@ -55,32 +42,30 @@ pub(crate) struct Round<'a> {
 }
 
 impl<'a> Searching<'a> {
-    /// Removes the obstacle in the tree's way; if there is none, the tree steps first, by which less is left of the length
-    /// that it may grow by. A tree that would grow by more than is left is to be given up, if the root's potential is even
-    /// once it has grown by what is left.
-    fn turn_within<L: Ledger>(&mut self, left: &mut u64, looks: &mut Steps<L>) -> Turn
-        ensures { HasTurned self.old self.new left.new result }
+    /// The length by which the tree is to grow before it is given up: what is left of its limit, if it would grow by more,
+    /// and the root's potential is even then. If the tree is not to be given up, less is left after the step that was
+    /// found. A tree with no limit is not given up.
+    fn spent(&self, found: Obstacle, left: &mut Option<u64>) -> Option<u64>
+        requires { IsObstacle (problem_of self.now) (roles_in self.now) self.now.part.nodes found }
+        ensures spent { IfSome result (IsSpent self.now) }
+        ensures without_limit { left.old ≡ None → (result ≡ None) × (left.new ≡ None) }
     {
-        let found = self.next(looks);
         self.keeps();
-        if let Obstacle::Free(length) = found {
-            if length > *left && self.root_potential() % 2 == *left % 2 {
-                return Turn::Spent;
-            }
-            *left = left.saturating_sub(length);
+        let Obstacle::Free(length) = found else {
+            return None;
+        };
+        let rest = (*left)?;
+        if length > rest && self.root_potential() % 2 == rest % 2 {
+            return Some(rest);
         }
-        let obstacle = self.step_past(found, looks);
-        match self.remove(obstacle) {
-            None => Turn::Cleared,
-            Some(obstacle) => Turn::Blocked(obstacle),
-        }
+        *left = Some(rest.saturating_sub(length));
+        None
     }
 
     /// The tree grows by this length and is given up.
     fn give_up(mut self, alloc: Global, length: u64) -> Result<Bounded<'a>, NoMemory>
-        requires may { MayStep (problem_of self) (roles_in self) self.part.nodes length }
-        requires even { HasEvenRoot (stepped_by length self) }
-        ensures { IfOk result (IsEndedWithin self.entry) }
+        requires { IsSpent self length }
+        ensures { IfOk result (IsEndedWithin (Some length) self.entry.tree.root self.entry.part self.entry.watched.edge_count) }
     {
         self.keeps();
         self.step(length);
@@ -94,32 +79,29 @@ impl<'a> Searching<'a> {
     }
 }
 
-/// Removes one obstacle after another until the search has ended or its tree has grown by the limit.
+/// Removes one obstacle after another until the search has ended or its tree has grown by the limit, if there is one. The
+/// looks at edges are counted by themselves.
 fn finish_within<'a, L: Ledger>(
     alloc: Global,
     search: Searching<'a>,
-    limit: u64,
+    limit: Option<u64>,
     looks: Blank,
 ) -> Result<Bounded<'a>, NoMemory>
     requires name { looks.name ≡ L.name }
     requires parts { looks.parts ≡ L.parts }
     requires some { 0 < looks.parts }
-    ensures { IfOk result (IsEndedWithin search.entry) }
+    ensures { IfOk result (IsEndedWithin limit search.entry.tree.root search.entry.part search.entry.watched.edge_count) }
 {
     let mut looks = Steps::<L>::new(looks);
     let mut search = search;
     let mut left = limit;
     loop {
         search.keeps();
-        let obstacle = match search.turn_within(&mut left, &mut looks) {
-            Turn::Cleared => {
-                search.keeps();
-                continue;
-            }
-            Turn::Spent => return search.give_up(alloc, left),
-            Turn::Blocked(obstacle) => obstacle,
-        };
-        match search.clear(alloc, obstacle)? {
+        let found = search.next(&mut looks);
+        if let Some(length) = search.spent(found, &mut left) {
+            return search.give_up(alloc, length);
+        }
+        match search.advance(alloc, found, &mut looks)? {
             Outcome::On(next) => {
                 next.keeps();
                 search = next;
@@ -135,19 +117,18 @@ fn finish_within<'a, L: Ledger>(
     }
 }
 
-/// Matches the root at once if that is possible, or else by a tree that may be given up. The tree is given up when it would
-/// grow by more than the root's first limit times this factor, if the root's potential is even then.
-fn match_within<'a>(
+/// Matches the root at once if that is possible, or else by a tree that grows from it. With a factor the tree is given up
+/// when it would grow by more than the root's first limit times the factor, if the root's potential is even then.
+pub(crate) fn match_within<'a>(
     alloc: Global,
     work: Work<'a>,
     root: NodeId,
-    factor: u64,
+    factor: Option<u64>,
     scratch: Scratch,
 ) -> Result<Bounded<'a>, NoMemory>
     requires unmatched { is_in work.matching.unmatched root ≡ true }
     requires room { scratch.edge_count ≡ length (problem_in work).edges }
-    ensures left { IfOk result (λ b. IsLeft root work.entry b.work b.left) }
-    ensures room { IfOk result (λ b. b.scratch.edge_count ≡ scratch.edge_count) }
+    ensures { IfOk result (IsEndedWithin factor root work.entry scratch.edge_count) }
 {
     if let Some(near) = near_in(&work, root) {
         let (work, scratch) = both(match_near(alloc, work, root, near), scratch)?;
@@ -158,9 +139,17 @@ fn match_within<'a>(
         });
     }
     work.keeps();
-    let limit = first_limit(work.regions(), root).saturating_mul(factor);
+    let limit = limit_by(work.regions(), root, factor);
     let search = Searching::begin(work, scratch, root);
     finish_within::<Brand>(alloc, search, limit, Blank::new(1))
+}
+
+/// The node's first limit times the factor, if there is one.
+fn limit_by<S: Scope>(regions: &Regions<S>, node: NodeId, factor: Option<u64>) -> Option<u64>
+    requires { is_live regions.now.nodes node ≡ true }
+    ensures { factor ≡ None → result ≡ None }
+{
+    Some(first_limit(regions, node).saturating_mul(factor?))
 }
 
 /// Searches from the root until it is matched or its tree is given up. Counts one step if the root is matched, or else
@@ -169,15 +158,14 @@ fn search_within<'a, L: Ledger>(
     alloc: Global,
     work: Work<'a>,
     root: NodeId,
-    factor: u64,
+    factor: Option<u64>,
     scratch: Scratch,
     steps: &mut Steps<L>,
 ) -> Result<Bounded<'a>, NoMemory>
     requires unmatched { is_in work.matching.unmatched root ≡ true }
     requires room { scratch.edge_count ≡ length (problem_in work).edges }
-    ensures left { IfOk result (λ b. IsLeft root work.entry b.work b.left) }
+    ensures ended { IfOk result (IsEndedWithin factor root work.entry scratch.edge_count) }
     ensures step { IfOk result (λ b. steps.new ≡ steps_with b.left steps.old) }
-    ensures room { IfOk result (λ b. b.scratch.edge_count ≡ scratch.edge_count) }
     ensures kept { OnErr result (steps.new ≡ steps.old) }
 {
     let bounded = match_within(alloc, work, root, factor, scratch)?;
@@ -201,18 +189,19 @@ fn first_limit<S: Scope>(regions: &Regions<S>, node: NodeId) -> u64
     2 * (heaviest / 4).max(1)
 }
 
-/// A search from each of the nodes that is still unmatched when its turn comes, within its first limit times this
-/// factor.
-fn search_round<'a, L: Ledger>(
+/// A search from each of the nodes that is still unmatched when its turn comes, within its first limit times the factor,
+/// if there is one.
+pub(crate) fn search_round<'a, L: Ledger>(
     alloc: Global,
     work: Work<'a>,
     roots: &[NodeId],
-    factor: u64,
+    factor: Option<u64>,
     scratch: Scratch,
     steps: &mut Steps<L>,
 ) -> Result<Round<'a>, NoMemory>
     requires room { scratch.edge_count ≡ length (problem_in work).edges }
     ensures searched { IfOk result (λ r. HasSearchedSome work.entry roots.now steps.old steps.new r.left.items r.work) }
+    ensures without_limit { factor ≡ None → IfOk result (λ r. r.left.items ≡ []) }
     ensures room { IfOk result (λ r. r.scratch.edge_count ≡ scratch.edge_count) }
     ensures never_falls { steps.old ≤ steps.new }
 {
@@ -232,12 +221,12 @@ fn search_next<'a, L: Ledger>(
     alloc: Global,
     round: Round<'a>,
     root: NodeId,
-    factor: u64,
+    factor: Option<u64>,
     steps: &mut Steps<L>,
 ) -> Result<Round<'a>, NoMemory>
     requires { round.scratch.edge_count ≡ length (problem_in round.work).edges }
     ensures searched { IfOk result (λ r. (more : List ℕ) × (r.left.items ≡ round.entry.left.items ++ more)
-        × HasSearchedSome round.entry.work (root ∷ []) steps.old steps.new more r.work) }
+        × HasSearchedSome round.entry.work (root ∷ []) steps.old steps.new more r.work × (factor ≡ None → more ≡ [])) }
     ensures room { IfOk result (λ r. r.scratch.edge_count ≡ round.entry.scratch.edge_count) }
     ensures never_falls { steps.old ≤ steps.new }
 {
@@ -282,7 +271,7 @@ pub(crate) fn search_rounds<'a, L: Ledger>(
     ensures room { IfOk result (λ r. r.scratch.edge_count ≡ scratch.edge_count) }
     ensures never_falls { steps.old ≤ steps.new }
 {
-    let mut round = search_round(alloc, work, roots, 1, scratch, steps)?;
+    let mut round = search_round(alloc, work, roots, Some(1), scratch, steps)?;
     let mut factor: u64 = 1;
     for _ in 1..ROUNDS {
         if round.left.is_empty() {
@@ -294,7 +283,7 @@ pub(crate) fn search_rounds<'a, L: Ledger>(
             scratch,
             left,
         } = round;
-        round = search_round(alloc, work, &left, factor, scratch, steps)?;
+        round = search_round(alloc, work, &left, Some(factor), scratch, steps)?;
     }
     Ok(round)
 }

@@ -1,22 +1,16 @@
-ghost use Rattle.std.specs.Prelude.{◌≡◌, ◌+◌, ◌*◌, ◌<◌, ◌≤◌, ℕ, true, false, IfOk, OnErr, length};
+ghost use Rattle.std.specs.Prelude.{◌≡◌, ◌+◌, ◌≤◌, true, IfOk, OnErr, length};
 ghost use Rattle.fb_graph.specs.Parity.{is_in};
 ghost use Rattle.fb_half.specs.Parts.{problem_in};
-ghost use Rattle.fb_search.specs.InternalProgress.{EndsWith};
 ghost use Rattle.fb_search.specs.Progress.{HasSearchedEach, IsSearched};
 
-use crate::near_ends::{match_near, near_in};
-use crate::outcome::Outcome;
-use crate::rounds::{Round, search_rounds};
+use crate::rounds::{Round, match_within, search_round, search_rounds};
 use crate::scratch::Scratch;
-use crate::searching::Searching;
 use fb_graph::{NoMemory, Steps};
+use fb_half::Work;
 use fb_half::both::both;
-use fb_half::{Standing, Work};
-use fb_plan::NodeScope;
 use fb_regions::NodeId;
 use std::alloc::Global;
-use std::marker::Brand;
-use std::sync::ledger::{Blank, Ledger};
+use std::sync::ledger::Ledger;
 
 /// Matches the root: at once if it is a single defect and one of its edges leads to the boundary or to another single
 /// defect and may become tight, else by a tree that grows from it until it meets the boundary or a node that can be
@@ -62,57 +56,9 @@ pub fn search_from<'a, L: Ledger>(
     ensures step { IfOk result (λ after. steps.new ≡ steps.old + 1) }
     ensures kept { OnErr result (steps.new ≡ steps.old) }
 {
-    let ended = match_root(alloc, work, root, scratch)?;
+    let bounded = match_within(alloc, work, root, None, scratch)?;
     steps.tick();
-    Ok(ended)
-}
-
-/// Matches the root: at once if that is possible, else by a tree that grows from it.
-fn match_root<'a>(
-    alloc: Global,
-    work: Work<'a>,
-    root: NodeId,
-    scratch: Scratch,
-) -> Result<(Work<'a>, Scratch), NoMemory>
-    requires unmatched { is_in work.matching.unmatched root ≡ true }
-    requires room { scratch.edge_count ≡ length (problem_in work).edges }
-    ensures searched { IfOk result (λ after. IsSearched root work.entry after.0) }
-    ensures room { IfOk result (λ after. after.1.edge_count ≡ scratch.edge_count) }
-{
-    if let Some(near) = near_in(&work, root) {
-        return both(match_near(alloc, work, root, near), scratch);
-    }
-    let search = Searching::begin(work, scratch, root);
-    finish::<Brand>(alloc, search, Blank::new(1))
-}
-
-/// Removes one obstacle after another until the search has ended. The looks at edges are counted by themselves.
-fn finish<'a, L: Ledger>(
-    alloc: Global,
-    search: Searching<'a>,
-    looks: Blank,
-) -> Result<(Work<'a>, Scratch), NoMemory>
-    requires name { looks.name ≡ L.name }
-    requires parts { looks.parts ≡ L.parts }
-    requires some { 0 < looks.parts }
-    ensures { IfOk result (λ ended. EndsWith search.entry ended.0 ended.1) }
-{
-    let mut looks = Steps::<L>::new(looks);
-    let mut search = search;
-    loop {
-        search.keeps();
-        let Some(obstacle) = search.turn(&mut looks) else {
-            search.keeps();
-            continue;
-        };
-        match search.clear(alloc, obstacle)? {
-            Outcome::On(next) => {
-                next.keeps();
-                search = next;
-            }
-            Outcome::Ended(work, scratch) => return Ok((work, scratch)),
-        }
-    }
+    Ok((bounded.work, bounded.scratch))
 }
 
 /// Searches from the nodes that are still unmatched when their turn comes, in rounds. Trees are kept small in the first
@@ -154,28 +100,6 @@ pub fn search_each_from<'a, L: Ledger>(
         scratch,
         left,
     } = search_rounds(alloc, work, roots, scratch, steps)?;
-    search_all(alloc, work, &left, scratch, steps)
-}
-
-/// Searches from each of the nodes that is still unmatched when its turn comes, without a limit.
-fn search_all<'a, L: Ledger>(
-    alloc: Global,
-    work: Work<'a>,
-    roots: &[NodeId],
-    scratch: Scratch,
-    steps: &mut Steps<L>,
-) -> Result<(Work<'a>, Scratch), NoMemory>
-    requires room { scratch.edge_count ≡ length (problem_in work).edges }
-    ensures searched { IfOk result (λ after. HasSearchedEach work.entry roots.now steps.old steps.new after.0) }
-    ensures room { IfOk result (λ after. after.1.edge_count ≡ scratch.edge_count) }
-    ensures never_falls { steps.old ≤ steps.new }
-{
-    let mut work = work;
-    let mut scratch = scratch;
-    for root in roots {
-        if let Standing::Unmatched(_) = work.matching().standing(*root) {
-            (work, scratch) = search_from(alloc, work, *root, scratch, steps)?;
-        }
-    }
-    Ok((work, scratch))
+    let last = search_round(alloc, work, &left, None, scratch, steps)?;
+    Ok((last.work, last.scratch))
 }

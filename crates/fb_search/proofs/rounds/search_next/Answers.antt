@@ -1,4 +1,4 @@
-use Rattle.std.proofs.Common.{ℕ, ◌≡◌, ◌∙◌, List, [], ◌∷◌, ◌++◌, ap, sym, arith, append-nil, option_to_list}
+use Rattle.std.proofs.Common.{ℕ, ◌≡◌, ◌∙◌, List, [], ◌∷◌, ◌++◌, Option, None, ap, refl, sym, arith, append-nil, option_to_list}
 use Rattle.std.proofs.lemmas.Result.{IfOk-weaker}
 use Rattle.std.specs.Prelude.{Result, Ok, Err, OnOk}
 use Rattle.fb_graph.specs.Parity.{is_in}
@@ -11,10 +11,12 @@ use Rattle.fb_search.proofs.rounds.search_next.Goals as goal
 
 -- the name that a search left is listed
 noted : {T E : Type 0} (done : Result T E) (old new : ℕ) (before after : PartValue) (root : ℕ) (names left more : List ℕ)
-    → OnOk done (names ≡ left ++ more) → HasSearchedSome before (root ∷ []) old new more after
-    → OnOk done ((rest : List ℕ) × (names ≡ left ++ rest) × HasSearchedSome before (root ∷ []) old new rest after)
-noted (Ok x) old new before after root names left more is searched = (more, is, searched)
-noted (Err e) old new before after root names left more is searched = is
+    (factor : Option ℕ) → OnOk done (names ≡ left ++ more) → HasSearchedSome before (root ∷ []) old new more after
+    → (factor ≡ None → more ≡ [])
+    → OnOk done ((rest : List ℕ) × (names ≡ left ++ rest) × HasSearchedSome before (root ∷ []) old new rest after
+    × (factor ≡ None → rest ≡ []))
+noted (Ok x) old new before after root names left more factor is searched whole = (more, is, searched, whole)
+noted (Err e) old new before after root names left more factor is searched whole = is
 
 pub returns-in_default-clause-searched : goal.returns-in_default-clause-searched
 returns-in_default-clause-searched g c = (
@@ -23,6 +25,7 @@ returns-in_default-clause-searched g c = (
   root_skipped c.args.round.work c.args.root c.args.steps.now
       (ap (λ m. is_in m.unmatched c.args.root) (sym c.matching.ensures)
       ∙ (c.standing.ensures.unmatched ∙ not_unmatched c.standing.result c.in_default.not-Unmatched)),
+  λ none. refl,
 )
 
 pub returns-clause-searched : goal.returns-clause-searched
@@ -30,18 +33,19 @@ returns-clause-searched g c =
     rw c.and.ensures
     (and_ok _ c.push_left-noted.result _
     (noted c.push_left-noted.result c.args.steps.now c.search_within.new.steps c.args.round.work c.in_ok-bounded.bounded.work
-    c.args.root _ _ (option_to_list c.in_ok-bounded.bounded.left) c.push_left-noted.ensures
+    c.args.root _ _ (option_to_list c.in_ok-bounded.bounded.left) c.args.factor c.push_left-noted.ensures
     (root_searched c.args.root c.args.round.work c.in_ok-bounded.bounded.work c.args.steps.now c.search_within.new.steps
-    c.in_ok-bounded.bounded.left c.in_ok-bounded.ensures.left c.in_ok-bounded.ensures.step)))
+    c.in_ok-bounded.bounded.left c.in_ok-bounded.ensures.ended.left c.in_ok-bounded.ensures.step)
+    (λ none. ap option_to_list (c.in_ok-bounded.ensures.ended.without_limit none))))
 
 pub returns-clause-room : goal.returns-clause-room
 returns-clause-room g c =
     rw c.and.ensures
-    (and_ok _ c.push_left-noted.result _ (IfOk-weaker _ _ _ (λ _ _. c.in_ok-bounded.ensures.room) c.push_left-noted.ensures))
+    (and_ok _ c.push_left-noted.result _ (IfOk-weaker _ _ _ (λ _ _. c.in_ok-bounded.ensures.ended.room) c.push_left-noted.ensures))
 
 pub returns-clause-never_falls : goal.returns-clause-never_falls
 returns-clause-never_falls g c =
     let searched : HasSearchedSome c.args.round.work (c.args.root ∷ []) c.args.steps.now c.search_within.new.steps (option_to_list c.in_ok-bounded.bounded.left) c.in_ok-bounded.bounded.work =
     root_searched c.args.root c.args.round.work c.in_ok-bounded.bounded.work c.args.steps.now c.search_within.new.steps
-    c.in_ok-bounded.bounded.left c.in_ok-bounded.ensures.left c.in_ok-bounded.ensures.step in
+    c.in_ok-bounded.bounded.left c.in_ok-bounded.ensures.ended.left c.in_ok-bounded.ensures.step in
     omega (arith, searched.steps, searched.each)

@@ -17,4 +17,5 @@ returns c =
       left = subst (λ n. IsGivenUp c.args.self.tree.root n c.args.self.part c.in_ok-work.work) (sym name)
           (given_up c.args.self c.args.length c.in_ok-work.work c.in_ok-work.scratch c.keeps.ensures is);
       room = is.room;
+      without_limit = λ none. absurd (let h : ⊥ = cc in h);
     }
