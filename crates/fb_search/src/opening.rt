@@ -48,15 +48,14 @@ fn open_node(alloc: Global, pieces: &mut Pieces<'_>, node: NodeId) -> Result<(),
     let branch = tree.branch(node);
     let above = child_at(parts, node, branch.tree);
     let below = child_at(parts, node, branch.matched);
-    let cycle = parts.blossoms.open_up(node);
     parts.regions.split_node(node)?;
+    let cycle = parts.blossoms.open_up(node);
     let apart = taken_apart(alloc, &cycle, above, below)?;
     tree.replace(alloc, &[node], &apart.way, &parts.links)?;
-    add_matches(alloc, &mut parts.matching, &apart.matches)?;
     forget_all(&mut parts.links, &apart.left);
     watch_plus(watch, &parts.regions, &apart.way);
     watch.keeps();
-    Ok(())
+    add_matches(alloc, &mut parts.matching, &apart.matches)
 }
 
 /// The child of the blossom at which the link ends.

@@ -1,4 +1,5 @@
 use Rattle.std.proofs.Common.{◌≡◌, ◌++◌, true, All, List, sym, subst, ap, ◌∙◌}
+use Rattle.std.proofs.lemmas.Result.{IfOk-weaker}
 use Rattle.fb_graph.specs.Certificate.{AreDistinct}
 use Rattle.fb_graph.specs.Dual.{is_live}
 use Rattle.fb_graph.specs.Moves.{split_nodes}
@@ -84,7 +85,7 @@ add_matches-requires c =
     let cycle = c.deref.ensures.value ∙ c.open_up-cycle.ensures.cycle in
     let parts = λ (cycle : List CycleStep). even_on (round_on cycle c.child_at-above.result) c.child_at-below.result in
     subst (λ ms. AreDistinct (listed_names w.part.matching ++ matched_names ms))
-    (sym (c.deref-3.ensures.value ∙ c.in_ok-apart.ensures.matches
+    (sym (c.deref-5.ensures.value ∙ c.in_ok-apart.ensures.matches
     ∙ ap (λ l. couples_on (rest_on (parts l) c.child_at-below.result)) cycle))
     (couples_fresh w c.args.node e c.child_at-above.result c.child_at-below.result c.requires.search opens)
 
@@ -98,7 +99,7 @@ forget_all-requires-clause-live c =
     let cycle = c.deref.ensures.value ∙ c.open_up-cycle.ensures.cycle in
     let parts = λ (cycle : List CycleStep). even_on (round_on cycle c.child_at-above.result) c.child_at-below.result in
     subst (All (λ id. table.is_live w.part.links id ≡ true))
-    (sym (c.deref-4.ensures.value ∙ c.in_ok-apart.ensures.left
+    (sym (c.deref-3.ensures.value ∙ c.in_ok-apart.ensures.left
     ∙ ap (λ l. links_left (parts l) c.child_at-below.result) cycle))
     (left_live w c.args.node e c.child_at-above.result c.child_at-below.result c.requires.search opens)
 
@@ -111,7 +112,7 @@ forget_all-requires-clause-distinct c =
     c.branch-branch.ensures c.child_at-above.ensures c.child_at-below.ensures in
     let cycle = c.deref.ensures.value ∙ c.open_up-cycle.ensures.cycle in
     let parts = λ (cycle : List CycleStep). even_on (round_on cycle c.child_at-above.result) c.child_at-below.result in
-    subst AreDistinct (sym (c.deref-4.ensures.value ∙ c.in_ok-apart.ensures.left
+    subst AreDistinct (sym (c.deref-3.ensures.value ∙ c.in_ok-apart.ensures.left
     ∙ ap (λ l. links_left (parts l) c.child_at-below.result) cycle))
     (left_distinct w c.args.node e c.child_at-above.result c.child_at-below.result c.requires.search opens)
 
@@ -126,7 +127,7 @@ watch_plus-requires-clause-live c =
     let parts = λ (cycle : List CycleStep). even_on (round_on cycle c.child_at-above.result) c.child_at-below.result in
     rw (c.in_ok-split_node.ensures.ok)
     (subst (λ l. All (λ n. is_live (split_nodes c.args.node w.part.nodes) n ≡ true) (second_nodes l))
-    (sym (c.deref-5.ensures.value ∙ c.in_ok-apart.ensures.way
+    (sym (c.deref-4.ensures.value ∙ c.in_ok-apart.ensures.way
     ∙ ap (λ l. way_on (parts l) c.child_at-below.result) cycle))
     (plus_live w c.args.node e c.child_at-above.result c.child_at-below.result c.requires.search opens))
 
@@ -141,16 +142,16 @@ returns c =
     let parts = λ (cycle : List CycleStep). even_on (round_on cycle c.child_at-above.result) c.child_at-below.result in
     let way = c.in_ok-apart.ensures.way
     ∙ ap (λ l. way_on (parts l) c.child_at-below.result) cycle in
-    let matches = c.deref-3.ensures.value ∙ c.in_ok-apart.ensures.matches
+    let matches = c.deref-5.ensures.value ∙ c.in_ok-apart.ensures.matches
     ∙ ap (λ l. couples_on (rest_on (parts l) c.child_at-below.result)) cycle in
-    let watches = rw (c.in_ok-split_node.ensures.ok, c.deref-5.ensures.value ∙ way) at c.watch_plus.ensures in
+    let watches = rw (c.in_ok-split_node.ensures.ok, c.deref-4.ensures.value ∙ way) at c.watch_plus.ensures in
     let has : HasOpened w c.args.node c.child_at-above.result c.child_at-below.result c.forget_all.new.links
     c.open_up-cycle.new.self c.replace.new.self c.watch_plus.new.watch = record {
       taken_off = c.open_up-cycle.ensures.rest;
       grown = subst (λ l. IsOpened w.tree c.args.node l c.replace.new.self) (c.deref-2.ensures.value ∙ way)
           c.in_ok-replace.ensures.ok;
       forgets = subst (λ l. Forgets l w.part.links c.forget_all.new.links)
-          (c.deref-4.ensures.value ∙ c.in_ok-apart.ensures.left
+          (c.deref-3.ensures.value ∙ c.in_ok-apart.ensures.left
           ∙ ap (λ l. links_left (parts l) c.child_at-below.result) cycle) c.forget_all.ensures;
       within = c.keeps.ensures.within;
       watches = kept_watches w.part c.args.pieces.now.parts.regions.scope.graph.now c.args.pieces.now.parts.regions.scope.plan.now
@@ -161,10 +162,15 @@ returns c =
     (ap (λ (s : NodeScope). s.graph.now) c.scope.ensures ∙ scope.graph)
     (ap (λ (s : NodeScope). s.plan.now) c.scope.ensures ∙ scope.plan)
     (ap (λ (s : NodeScope). s.node) c.scope.ensures ∙ scope.node) c.limits.ensures in
-    rw (c.in_ok-split_node.ensures.ok, c.in_ok-add_matches.ensures, matches) (record {
+    rw c.in_ok-split_node.ensures.ok
+    (IfOk-weaker _ _ _
+    (λ _
+    (added : c.add_matches.new.matching
+    ≡ record { matches = w.part.matching.matches ++ c.deref-5.result.now; unmatched = w.part.matching.unmatched }).
+    rw (added, matches) (record {
       scope = record { graph = scope.graph; plan = scope.plan; node = scope.node };
       keeps = searching_opened w c.args.node e c.child_at-above.result c.child_at-below.result c.requires.search opens
           c.forget_all.new.links c.open_up-cycle.new.self c.replace.new.self c.watch_plus.new.watch limits has;
       goes_on = goes_on_opened w c.args.node e c.child_at-above.result c.child_at-below.result c.requires.search opens
           c.forget_all.new.links c.open_up-cycle.new.self c.replace.new.self c.watch_plus.new.watch has;
-    })
+    })) c.add_matches.ensures)
