@@ -1,8 +1,9 @@
-use Rattle.std.proofs.Common.{◌∙◌, ◌≤◌, ◌^◌, ap, arith, refl}
+use Rattle.std.proofs.Common.{◌≡◌, ◌∙◌, ◌≤◌, ◌^◌, ap, arith, refl}
 use Rattle.fb_graph.specs.Limits.{IsWithinLimits}
 use Rattle.fb_graph.specs.Steps.{MayStep}
 use Rattle.fb_half.specs.Values.{part_of}
 use Rattle.fb_laws.specs.Trees.{roles_of}
+use Rattle.fb_search.specs.InternalProgress.{lowered_by}
 use Rattle.fb_search.specs.InternalSearching.{SearchValue, problem_of, roles_in}
 use Rattle.fb_search.proofs.BegunSearches.{kept_limits}
 use Rattle.fb_search.proofs.SteppedSearches.{length_fits, searching_stepped, step_by_names, step_in_scope, tree_in_scope}
@@ -45,7 +46,8 @@ invariant_of-self c =
     kept_limits w.part c.scope.result.now.graph.now c.scope.result.now.plan.now c.scope.result.now.node
     (ap (λ s. s.graph.now) c.scope.ensures ∙ scope.graph) (ap (λ s. s.plan.now) c.scope.ensures ∙ scope.plan)
     (ap (λ s. s.node) c.scope.ensures ∙ scope.node) c.limits.ensures in
-    rw (c.step_nodes.ensures, c.lower.ensures) (
+    let lowered : c.lower.new.self ≡ lowered_by c.args.length w.watched = c.lower.ensures in
+    rw (c.step_nodes.ensures, lowered) (
       record { graph = scope.graph; plan = scope.plan; node = scope.node },
       searching_stepped w c.args.length c.self.invariant.1 limits may,
     )
