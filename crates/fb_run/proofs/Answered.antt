@@ -1,17 +1,19 @@
 -- How an invalid command line ends a run.
-use Rattle.std.proofs.Common.{◌≡◌, ◌≢◌, ◌⊎◌, inl, inr, ℕ, List, Option, Result, Ok, Err, None, Some, refl, sym, subst}
+use Rattle.std.proofs.Common.{◌≡◌, ◌≢◌, ◌<◌, ◌⊎◌, inl, inr, ℕ, List, [], ◌∷◌, Option, Result, Ok, Err, None, Some, refl, sym, subst, arith}
+use Rattle.std.proofs.KnownBytes.{Appends-nil}
 use Rattle.fb_graph.specs.Limits.{DecodingGraph}
 use Rattle.fb_plan.specs.Plans.{PlanTree, single_of}
 use Rattle.fb_run.specs.Endings.{EndsByPlan, EndsOn}
+use Rattle.fb_inputs.proofs.Inputs.{asks_none, asks_same}
 use Rattle.fb_inputs.specs.Moments.{Moment}
 use Rattle.fb_check.specs.Ends.{IsReadToItsEnd}
 use Rattle.fb_inputs.specs.Judging.{Named}
 use Rattle.fb_run.specs.RunEndings.{EndsRight, RequestEnds, HasReadOut, ReadsOut}
 use Rattle.fb_run.specs.InternalCauses.{cause_of_words}
-use Rattle.fb_words.specs.PlainRequests.{usage_of}
+use Rattle.fb_words.specs.PlainRequests.{IsFaultOf, usage_of}
 use Rattle.fb_words.specs.Words.{Decoding, Request, check, decode, sample}
 use Rattle.fb_endings.specs.declared.ending.Cause.{Cause}
-use Rattle.fb_endings.specs.declared.ending.Cause.TheVariants.{NoMemory, Usage, WriteFault}
+use Rattle.fb_endings.specs.declared.ending.Cause.TheVariants.{Bad, Done, NoMemory, Odd, ReadFault, Refused, Usage, WriteFault}
 use Rattle.fb_words.specs.declared.usage.UsageKind.{UsageKind}
 use Rattle.fb_words.specs.declared.usage.UsageKind.TheVariants as usage
 use Rattle.fb_words.specs.declared.words.WordsFault.{WordsFault}
@@ -79,3 +81,28 @@ never_out (Ok (decode decoding)) f named left = λ reads. absurd (not_to_end f r
 never_out (Ok (check checking)) f named left = λ reads. absurd (not_to_end f reads)
 never_out (Ok (sample sampling)) f named left = tt
 never_out (Err kind) f named left = tt
+
+-- a command line that is refused does nothing
+ends_invalid : (read : Result Request UsageKind) (kind : UsageKind) (m : Moment) → read ≡ Err kind → EndsRight read m m (Usage kind)
+ends_invalid read kind m e = subst (λ (r : Result Request UsageKind). EndsRight r m m (Usage kind)) (sym e)
+    (inl refl, asks_same m.asked m.asked refl, refl, Appends-nil m.written)
+
+pub ends_refused : (read : Result Request UsageKind) (f : WordsFault) (m : Moment) → IsFaultOf read f → EndsRight read m m (cause_of_words f)
+ends_refused read (fault.Parse text) m e = ends_invalid read usage.Parse m e
+ends_refused read fault.Format m e = ends_invalid read usage.Format m e
+ends_refused read fault.TwoInputs m e = ends_invalid read usage.TwoInputs m e
+ends_refused (Ok (decode decoding)) fault.NoMemory m e = inl (asks_none m.asked m.asked (decoding.graph ∷ []) refl, refl, Appends-nil m.written)
+ends_refused (Ok (check checking)) fault.NoMemory m e = inl (asks_none m.asked m.asked (checking.graph ∷ []) refl, refl, Appends-nil m.written)
+ends_refused (Ok (sample sampling)) fault.NoMemory m e = (asks_same m.asked m.asked refl, refl, Appends-nil m.written)
+ends_refused (Err kind) fault.NoMemory m e = (inr refl, asks_same m.asked m.asked refl, refl, Appends-nil m.written)
+
+-- a sink fails only in a run that says so
+pub only_write_fault : (cause : Cause) (before now : ℕ) → (cause ≢ WriteFault → now ≡ before) → before < now → cause ≡ WriteFault
+only_write_fault WriteFault before now same rose = refl
+only_write_fault Done before now same rose = absurd (omega (arith, same (λ e. absurd cc), rose))
+only_write_fault Odd before now same rose = absurd (omega (arith, same (λ e. absurd cc), rose))
+only_write_fault (Bad count) before now same rose = absurd (omega (arith, same (λ e. absurd cc), rose))
+only_write_fault (Refused refusal) before now same rose = absurd (omega (arith, same (λ e. absurd cc), rose))
+only_write_fault ReadFault before now same rose = absurd (omega (arith, same (λ e. absurd cc), rose))
+only_write_fault NoMemory before now same rose = absurd (omega (arith, same (λ e. absurd cc), rose))
+only_write_fault (Usage kind) before now same rose = absurd (omega (arith, same (λ e. absurd cc), rose))

@@ -1,5 +1,5 @@
 -- How the report of a graph's shots ends.
-use Rattle.std.proofs.Common.{◌≡◌, ℕ, ◌+◌, ◌==◌, inl, inr, Bool, true, false, if◌then◌else◌, List, [], length, Option, refl, sym, ap, subst, ◌∙◌, append-nil}
+use Rattle.std.proofs.Common.{◌≡◌, ℕ, ◌+◌, ◌==◌, ◌≢◌, ◌<◌, inl, inr, Bool, true, false, if◌then◌else◌, List, [], length, Option, refl, sym, ap, subst, ◌∙◌, append-nil, arith}
 use Rattle.std.proofs.KnownBytes.{Appends-trans}
 use Rattle.fb_graph.specs.Limits.{DecodingGraph, ShotValue}
 use Rattle.fb_plan.specs.Plans.{PlanTree}
@@ -7,7 +7,7 @@ use Rattle.fb_ports.specs.Causes.{Appends, AppendsPrefix}
 use Rattle.fb_ports.proofs.Onward.{prefix_second}
 use Rattle.fb_report.specs.Texts.{head_text}
 use Rattle.fb_shots.specs.Shots.{Ending, at_end}
-use Rattle.fb_check.specs.Ends.{IsReadToItsEnd}
+use Rattle.fb_check.specs.Ends.{IsReadToItsEnd, MayFollowReadFault}
 use Rattle.fb_check.specs.TextEnds.{TextEnds, WritesPrefix, WritesWhole}
 use Rattle.fb_inputs.proofs.Gathered.{gathers_opened, holds_opened}
 use Rattle.fb_inputs.proofs.Lists.{holds_more}
@@ -20,7 +20,7 @@ use Rattle.fb_run.specs.Rows.{Counts, counts_of}
 use Rattle.fb_run.specs.InternalWrites.{EndsReport, WritesBatches, WritesFirstBatches, counts_in}
 use Rattle.fb_words.specs.Words.{Decoding}
 use Rattle.fb_endings.specs.declared.ending.Cause.{Cause}
-use Rattle.fb_endings.specs.declared.ending.Cause.TheVariants.{Done, Odd}
+use Rattle.fb_endings.specs.declared.ending.Cause.TheVariants.{Done, Odd, ReadFault}
 use Rattle.fb_run.specs.declared.batches.Tally.{Tally}
 use Rattle.fb_inputs.specs.declared.taking.ShotsEnd.{ShotsEnd}
 use Rattle.fb_inputs.specs.declared.taking.ShotsEnd.TheVariants as end
@@ -31,6 +31,25 @@ pub report_to_end : (t : PlanTree) (ended : ShotsEnd) (rows : ℕ) (counts : Cou
 report_to_end t end.End rows counts old new cause ends reads = refl
 report_to_end t (end.Refused fault) rows counts old new cause (same, is) reads = absurd (subst IsReadToItsEnd is reads)
 report_to_end t end.ReadFault rows counts old new cause (same, is) reads = absurd (subst IsReadToItsEnd is reads)
+
+-- a report ends by a fault of a read only if its shots did
+pub report_read_fault : (t : PlanTree) (ended : ShotsEnd) (rows : ℕ) (counts : Counts) (old new : Option (List ℕ)) (cause : Cause)
+    → EndsReport t ended rows counts old new cause → cause ≡ ReadFault → ended ≡ end.ReadFault
+report_read_fault t end.End rows counts old new cause (inl (whole, is)) e = by_both (counts.odd == 0) is
+  where
+    by_both : (good : Bool) → cause ≡ (if good then Done else Odd) → end.End ≡ end.ReadFault
+    by_both true is = absurd cc
+    by_both false is = absurd cc
+report_read_fault t end.End rows counts old new cause (inr (part, is)) e = absurd cc
+report_read_fault t (end.Refused fault) rows counts old new cause (same, is) e = absurd cc
+report_read_fault t end.ReadFault rows counts old new cause (same, is) e = refl
+
+-- files fail only in a decode that says so
+pub report_reported : (t : PlanTree) (ended : ShotsEnd) (rows : ℕ) (counts : Counts) (old new : Option (List ℕ)) (cause : Cause)
+    → EndsReport t ended rows counts old new cause → (before now : ℕ) → (ended ≢ end.ReadFault → now ≡ before) → before < now → MayFollowReadFault cause
+report_reported t end.End rows counts old new cause ends before now kept rose = absurd (omega (arith, kept (λ e. absurd cc), rose))
+report_reported t (end.Refused fault) rows counts old new cause ends before now kept rose = absurd (omega (arith, kept (λ e. absurd cc), rose))
+report_reported t end.ReadFault rows counts old new cause (same, is) before now kept rose = subst MayFollowReadFault (sym is) tt
 
 module _ (named : Named) (request : Decoding) (g : DecodingGraph) (t : PlanTree) where
   are_first : (shots : List ShotValue) (ending : Ending) (text : List ℕ) → HasShots request.format g shots ending text → HasFirstShots request.format g shots text

@@ -1,9 +1,10 @@
-use Rattle.std.proofs.Common.{[], inl, inr, refl, sym, append-nil}
+use Rattle.std.proofs.Common.{◌<◌, ℕ, [], inl, inr, refl, sym, subst, append-nil}
+use Rattle.fb_ports.specs.Causes.{Rose}
 use Rattle.fb_report.specs.Texts.{head_text}
 use Rattle.fb_words.specs.PlainRequests.{plain_decoding}
 use Rattle.fb_inputs.proofs.Inputs.{asks_kept, asks_one, asks_same}
 use Rattle.fb_inputs.proofs.Gathered.{is_opened, is_unopened, read_out_opened}
-use Rattle.fb_run.proofs.Finishing.{ends_on, prefix_of_batches, report_to_end}
+use Rattle.fb_run.proofs.Finishing.{ends_on, prefix_of_batches, report_read_fault, report_reported, report_to_end}
 use Rattle.fb_inputs.specs.InternalGathers.{IsOpened}
 use Rattle.fb_run.proofs.decoding.decode_with.Goals as goal
 use Rattle.fb_run.proofs.decoding.decode_with.Goals.{In-Ok-open_file}
@@ -76,3 +77,13 @@ returns-in-Err-NoMemory-clause-ends g c =
           (opened_at g (goal.at.returns-in-Err-NoMemory-clause-ends g c).In-Ok-open_file) c.in-Ok.ensures.all
           (rw c.requires.crew at c.in-Err-NoMemory.ensures.first),
     )
+
+pub returns-in-Ok-decode_file-clause-read_fault : goal.returns-in-Ok-decode_file-clause-read_fault
+returns-in-Ok-decode_file-clause-read_fault g c e =
+    subst (λ (n : ℕ). Rose n (g.F.Files.faults c.decode_file.new.files)) c.in-Ok-open_file.ensures.cause
+    (c.in-Ok-decode_file.ensures.fault (report_read_fault c.args.plan.now c.in-Ok-decode_file.decoded.end _ _ _ _ _ c.end_report.ensures.end e))
+
+pub returns-in-Ok-decode_file-clause-read_reported : goal.returns-in-Ok-decode_file-clause-read_reported
+returns-in-Ok-decode_file-clause-read_reported g c rose =
+    report_reported c.args.plan.now c.in-Ok-decode_file.decoded.end _ _ _ _ _ c.end_report.ensures.end (g.F.Files.faults c.open_file.new.self) _
+    c.in-Ok-decode_file.ensures.unchanged (subst (λ (n : ℕ). n < g.F.Files.faults c.decode_file.new.files) (sym c.in-Ok-open_file.ensures.cause) rose)

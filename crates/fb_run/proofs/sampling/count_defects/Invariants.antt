@@ -1,5 +1,5 @@
 use Rattle.fb_graph.specs.Limits.{most_vertices}
-use Rattle.std.proofs.Common.{◌≡◌, ◌*◌, ◌^◌, ◌≤◌, take}
+use Rattle.std.proofs.Common.{◌≡◌, ◌*◌, ◌≤◌, take}
 use Rattle.fb_run.specs.Samples.{defects_in}
 use Rattle.fb_run.proofs.sampling.count_defects.Given as goal
 
