@@ -118,7 +118,7 @@ fn done_line(words: Words) -> Option<Line>
     done_after_rows(rows, odd, words)
 }
 
-/// The done line of so many rows, after their numbers.
+/// The done line of these counts, after their numbers.
 fn done_after_rows(rows: u64, odd: u64, words: Words) -> Option<Line>
     ensures { result ≡ done_after_rows rows odd words.entry }
 {
