@@ -1,5 +1,6 @@
 -- After the greatest free step there is an obstacle, and the search goes on from there.
-use Rattle.std.proofs.Common.{ℕ, ◌≡◌, ◌+◌, ◌≤◌, true, false, ◌∙◌, subst, arith}
+use Rattle.std.proofs.Common.{ℕ, ◌≡◌, ◌+◌, ◌≤◌, true, false, Option, Some, None, sym, ◌∙◌, subst, arith}
+use Rattle.std.specs.Prelude.{MatchOption}
 use Rattle.fb_graph.specs.Parity.{is_in}
 use Rattle.fb_graph.specs.Problem.{Problem, with_defects}
 use Rattle.fb_graph.specs.Dual.{leaves}
@@ -12,9 +13,10 @@ use Rattle.fb_obstacles.specs.declared.obstacle.Obstacle.{Obstacle}
 use Rattle.fb_obstacles.specs.declared.obstacle.Obstacle.TheVariants.{Absorb, Boundary, Meet, PlusPair, LayerEmpty, BlossomEmpty, ZeroMinus, Free}
 use Rattle.fb_obstacles.specs.Obstacles.{IsFree, IsObstacle, Obstructs}
 use Rattle.fb_obstacles.specs.Watched.{Watched}
+use Rattle.fb_search.specs.declared.advancing.TreeObstacle.{TreeObstacle}
 use Rattle.fb_search.specs.declared.outcome.Outcome.{Outcome}
 use Rattle.fb_search.specs.declared.outcome.Outcome.TheVariants.{On, Ended}
-use Rattle.fb_search.specs.InternalTurns.{HasStepped}
+use Rattle.fb_search.specs.InternalTurns.{BlocksTree, HasStepped}
 use Rattle.fb_search.specs.InternalProgress.{GoesOn, HasAdvanced, IsRewatched, rewatched_search, stepped_by, to_do}
 use Rattle.fb_search.specs.InternalSearching.{IsSearching, SearchValue, problem_of, roles_in}
 use Rattle.fb_search.specs.InternalOutcomes.{HasCleared, HasSteppedAndCleared}
@@ -116,7 +118,22 @@ pub stepped_not : (w : SearchValue) → HasStepped w w
 stepped_not w o cleared = outcome_at_once w o cleared
 
 -- an advance from before the watched edges changed
-pub advanced_anew : (w now : SearchValue) (o : Outcome) → IsRewatched w now → HasSteppedAndCleared now o
+advanced_anew : (w now : SearchValue) (o : Outcome) → IsRewatched w now → HasSteppedAndCleared now o
     → HasSteppedAndCleared w o
 advanced_anew w now o same advanced =
     outcome_anew w now.watched o same.room (subst (λ s. HasSteppedAndCleared s o) same.same advanced)
+
+-- what a turn leaves, from before its step
+pub turned : (w mid after : SearchValue) (left : Option TreeObstacle) → HasStepped w mid
+    → MatchOption left (GoesOn mid after) (λ o. BlocksTree after o × (after ≡ mid))
+    → MatchOption left (HasAdvanced w after) (λ o. BlocksTree after o × HasStepped w after)
+turned w mid after None stepped_nodes goes = stepped_nodes (On after) goes
+turned w mid after (Some o) stepped_nodes blocked = (blocked.0, subst (HasStepped w) (sym blocked.1) stepped_nodes)
+
+-- what a turn leaves, from before the watched edges changed
+pub turned_anew : (w now after : SearchValue) (left : Option TreeObstacle) → IsRewatched w now
+    → MatchOption left (HasAdvanced now after) (λ o. BlocksTree after o × HasStepped now after)
+    → MatchOption left (HasAdvanced w after) (λ o. BlocksTree after o × HasStepped w after)
+turned_anew w now after None same advanced = advanced_anew w now (On after) same advanced
+turned_anew w now after (Some o) same blocked =
+    (blocked.0, λ outcome cleared. advanced_anew w now outcome same (blocked.1 outcome cleared))

@@ -1,10 +1,10 @@
 ghost use Rattle.std.specs.Prelude.{◌≡◌, IfOk, IfSome, MatchOption};
 ghost use Rattle.fb_obstacles.specs.Obstacles.{IsObstacle, Obstructs};
 ghost use Rattle.fb_obstacles.specs.declared.obstacle.Obstacle.TheVariants as Obstacle;
-ghost use Rattle.fb_search.specs.InternalProgress.{GoesOn, IsRewatched};
+ghost use Rattle.fb_search.specs.InternalProgress.{GoesOn, HasAdvanced, IsRewatched};
 ghost use Rattle.fb_search.specs.InternalSearching.{problem_of, roles_in};
 ghost use Rattle.fb_search.specs.InternalTurns.{BlocksTree, HasStepped};
-ghost use Rattle.fb_search.specs.InternalOutcomes.{HasCleared, HasSteppedAndCleared};
+ghost use Rattle.fb_search.specs.InternalOutcomes.{HasCleared};
 
 use crate::outcome::{Outcome, ended, going_on};
 use crate::roles::TreeRoles;
@@ -59,21 +59,18 @@ impl<'a> Searching<'a> {
     }
 
     /// Removes the obstacle that was found; if a step was found, the tree steps first, and the obstacle that is then in its
-    /// way is removed.
-    pub(crate) fn advance<L: Ledger>(
-        mut self,
-        alloc: Global,
+    /// way is removed. Returns an obstacle that only a change of the tree or the end of the search removes.
+    pub(crate) fn turn<L: Ledger>(
+        &mut self,
         found: Obstacle,
         looks: &mut Steps<L>,
-    ) -> Result<Outcome<'a>, NoMemory>
-        requires { IsObstacle (problem_of self) (roles_in self) self.part.nodes found }
-        ensures { IfOk result (HasSteppedAndCleared self.entry) }
+    ) -> Option<TreeObstacle>
+        requires { IsObstacle (problem_of self.old) (roles_in self.old) self.old.part.nodes found }
+        ensures { MatchOption result (HasAdvanced self.old self.new)
+            (λ left. BlocksTree self.new left × HasStepped self.old self.new) }
     {
         let obstacle = self.step_past(found, looks);
-        match self.remove(obstacle) {
-            None => Ok(Outcome::On(self)),
-            Some(obstacle) => self.clear(alloc, obstacle),
-        }
+        self.remove(obstacle)
     }
 
     /// The obstacle that was found; or the one in the tree's way after the step, if a step was found.
@@ -120,7 +117,11 @@ impl<'a> Searching<'a> {
     }
 
     /// Changes the tree or ends the search, which removes the obstacle.
-    fn clear(self, alloc: Global, obstacle: TreeObstacle) -> Result<Outcome<'a>, NoMemory>
+    pub(crate) fn clear(
+        self,
+        alloc: Global,
+        obstacle: TreeObstacle,
+    ) -> Result<Outcome<'a>, NoMemory>
         requires { BlocksTree self obstacle }
         ensures { IfOk result (HasCleared self.entry) }
     {

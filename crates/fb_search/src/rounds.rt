@@ -101,7 +101,11 @@ fn finish_within<'a, L: Ledger>(
         if let Some(length) = search.spent(found, &mut left) {
             return search.give_up(alloc, length);
         }
-        match search.advance(alloc, found, &mut looks)? {
+        let Some(obstacle) = search.turn(found, &mut looks) else {
+            search.keeps();
+            continue;
+        };
+        match search.clear(alloc, obstacle)? {
             Outcome::On(next) => {
                 next.keeps();
                 search = next;
@@ -149,7 +153,8 @@ fn limit_by<S: Scope>(regions: &Regions<S>, node: NodeId, factor: Option<u64>) -
     requires { is_live regions.now.nodes node ≡ true }
     ensures { factor ≡ None → result ≡ None }
 {
-    Some(first_limit(regions, node).saturating_mul(factor?))
+    let factor = factor?;
+    Some(first_limit(regions, node).saturating_mul(factor))
 }
 
 /// Searches from the root until it is matched or its tree is given up. Counts one step if the root is matched, or else

@@ -1,29 +1,56 @@
 use Rattle.std.proofs.Common.{◌∙◌, None, refl, sym, subst}
+use Rattle.std.specs.Prelude.{MatchOption}
 use Rattle.fb_search.specs.declared.outcome.Outcome.TheVariants.{Ended, On}
+use Rattle.fb_search.specs.InternalTurns.{BlocksTree, HasStepped}
 use Rattle.fb_search.specs.InternalProgress.{EndsWith, HasAdvanced}
 use Rattle.fb_search.specs.InternalSearching.{SearchValue}
-use Rattle.fb_search.specs.InternalOutcomes.{HasSteppedAndCleared}
-use Rattle.fb_search.proofs.FreeSteps.{advanced_anew}
+use Rattle.fb_search.specs.InternalOutcomes.{HasCleared}
+use Rattle.fb_search.proofs.FreeSteps.{turned_anew}
 use Rattle.fb_search.proofs.RoundPaces.{left_on, spent_on}
 use Rattle.fb_search.proofs.Runs.{goes_on, rank_falls_on}
 use Rattle.fb_search.proofs.rounds.finish_within.Goals as goal
 
+pub loop-length-smaller-in_default-turn : goal.loop-length-smaller-in_default-turn
+loop-length-smaller-in_default-turn g c =
+    let before : SearchValue = c.loop-length.search in
+    let now : SearchValue = c.turn.new.self in
+    let goes : HasAdvanced before now =
+    subst (λ left. MatchOption left (HasAdvanced before now) (λ o. BlocksTree now o × HasStepped before now)) c.in_default-turn.is
+    (turned_anew before c.next-found.new.self now c.turn.result c.next-found.ensures.same c.turn.ensures) in
+    rank_falls_on before now c.keeps-in_default-turn.ensures goes
+
+pub loop-length-preserved-in_default-turn : goal.loop-length-preserved-in_default-turn
+loop-length-preserved-in_default-turn g c =
+    let before : SearchValue = c.loop-length.search in
+    let now : SearchValue = c.turn.new.self in
+    let goes : HasAdvanced before now =
+    subst (λ left. MatchOption left (HasAdvanced before now) (λ o. BlocksTree now o × HasStepped before now)) c.in_default-turn.is
+    (turned_anew before c.next-found.new.self now c.turn.result c.next-found.ensures.same c.turn.ensures) in (
+      goes_on c.args.search.tree.root c.args.search.watched.edge_count c.args.search.part before now
+          c.loop-length.invariant.0 c.keeps.ensures c.keeps-in_default-turn.ensures goes,
+      λ none. (c.spent.ensures.without_limit (c.loop-length.invariant.1 none)).1,
+    )
+
 pub loop-length-smaller : goal.loop-length-smaller
 loop-length-smaller g c =
     let before : SearchValue = c.loop-length.search in
-    let now : SearchValue = c.next-found.new.self in
+    let now : SearchValue = c.turn.new.self in
+    let stands : BlocksTree now c.in-Some-turn.obstacle × HasStepped before now =
+    subst (λ left. MatchOption left (HasAdvanced before now) (λ o. BlocksTree now o × HasStepped before now)) c.in-Some-turn.is
+    (turned_anew before c.next-found.new.self now c.turn.result c.next-found.ensures.same c.turn.ensures) in
     let goes : HasAdvanced before c.in-On.next =
-    advanced_anew before now (On c.in-On.next) c.next-found.ensures.same
-    (subst (HasSteppedAndCleared now) c.in-On.is c.in_ok-next.ensures) in
+    stands.1 (On c.in-On.next) (subst (HasCleared now) c.in-On.is c.in_ok-next.ensures) in
     rank_falls_on before c.in-On.next c.keeps-in-On.ensures goes
 
 pub loop-length-preserved : goal.loop-length-preserved
 loop-length-preserved g c =
     let before : SearchValue = c.loop-length.search in
-    let now : SearchValue = c.next-found.new.self in
+    let now : SearchValue = c.turn.new.self in
+    let stands : BlocksTree now c.in-Some-turn.obstacle × HasStepped before now =
+    subst (λ left. MatchOption left (HasAdvanced before now) (λ o. BlocksTree now o × HasStepped before now)) c.in-Some-turn.is
+    (turned_anew before c.next-found.new.self now c.turn.result c.next-found.ensures.same c.turn.ensures) in
     let goes : HasAdvanced before c.in-On.next =
-    advanced_anew before now (On c.in-On.next) c.next-found.ensures.same
-    (subst (HasSteppedAndCleared now) c.in-On.is c.in_ok-next.ensures) in (
+    stands.1 (On c.in-On.next) (subst (HasCleared now) c.in-On.is c.in_ok-next.ensures) in (
       goes_on c.args.search.tree.root c.args.search.watched.edge_count c.args.search.part before c.in-On.next
           c.loop-length.invariant.0 c.keeps.ensures c.keeps-in-On.ensures goes,
       λ none. (c.spent.ensures.without_limit (c.loop-length.invariant.1 none)).1,
@@ -38,10 +65,12 @@ returns-in-Some g c =
 pub returns-in-Ended : goal.returns-in-Ended
 returns-in-Ended g c =
     let before : SearchValue = c.loop-length.search in
-    let now : SearchValue = c.next-found.new.self in
+    let now : SearchValue = c.turn.new.self in
+    let stands : BlocksTree now c.in-Some-turn.obstacle × HasStepped before now =
+    subst (λ left. MatchOption left (HasAdvanced before now) (λ o. BlocksTree now o × HasStepped before now)) c.in-Some-turn.is
+    (turned_anew before c.next-found.new.self now c.turn.result c.next-found.ensures.same c.turn.ensures) in
     let ended : EndsWith before c.in-Ended.work c.in-Ended.scratch =
-    advanced_anew before now (Ended c.in-Ended.work c.in-Ended.scratch) c.next-found.ensures.same
-    (subst (HasSteppedAndCleared now) c.in-Ended.is c.in_ok-next.ensures) in
+    stands.1 (Ended c.in-Ended.work c.in-Ended.scratch) (subst (HasCleared now) c.in-Ended.is c.in_ok-next.ensures) in
     record {
       left = left_on c.args.search.tree.root c.args.search.watched.edge_count c.args.search.part c.in-Ended.work before None
           c.loop-length.invariant.0 ended.searched;
