@@ -226,7 +226,6 @@ pub record IsUnderWay (links : List (Option (List Step))) (nodes : List (Option 
   pub become : (q : List ℕ) → AllBecome links nodes todo q → IsEvenPath links nodes name from to (path ++ q)
 
 module _ (links : List (Option (List Step))) (nodes : List (Option Node)) (name from to : ℕ) where
-
   pub way_goes_on : (todo before after : List Leg) (leg : Leg) (old new : List ℕ) → IsUnderWay links nodes name from to todo old → todo ≡ before ++ leg ∷ []
       → GoesOn links nodes before leg old after new → IsUnderWay links nodes name from to after new
   way_goes_on todo before after leg old new way popped h =
