@@ -202,16 +202,3 @@ pub fresh_listed : (done : List ℕ) (nodes : List Node) (store : List (Option b
 fresh_listed done nodes store m name s none =
     ap (λ l. is_in (m.unmatched ++ matched_names l) name) s.matches
     ∙ (is_in-append m.unmatched [] name ∙ (or-false (is_in m.unmatched name) ∙ fresh_name done nodes store m name s none))
-
--- a distinct list has no element twice
-pub not_before : (xs : List ℕ) (i : ℕ) → AreDistinct xs → i < length xs → is_in (take i xs) (get_or xs i 0) ≡ false
-not_before [] i distinct less = absurd (omega arith)
-not_before (x ∷ xs) zero distinct less = refl
-not_before (x ∷ xs) (suc i) distinct less = by_cases (not_before xs i distinct.1 (omega arith)) (x == get_or xs i 0) refl
-  where
-    by_cases : is_in (take i xs) (get_or xs i 0) ≡ false → (b : Bool) → (x == get_or xs i 0) ≡ b
-        → ((x == get_or xs i 0) || is_in (take i xs) (get_or xs i 0)) ≡ false
-    by_cases rest false is = ap (λ b. b || is_in (take i xs) (get_or xs i 0)) is ∙ rest
-    by_cases rest true is =
-        absurd (both_ways (is_in xs x) distinct.0
-        (in_at xs i x (omega arith) (eq-eqb (get_or xs i 0) x (sym (eqb-true x (get_or xs i 0) is)))))

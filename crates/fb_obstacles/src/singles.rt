@@ -1,6 +1,6 @@
 //! Single defects, and the edges at one: what each reaches, and how much room the others leave.
 
-ghost use Rattle.std.specs.Prelude.{◌≡◌, ◌≢◌, ◌+◌, ◌-◌, ◌<◌, ◌∷◌, [], true, IfSome, length};
+ghost use Rattle.std.specs.Prelude.{◌≡◌, ◌≢◌, ◌+◌, ◌-◌, ◌<◌, ◌%◌, ◌∷◌, [], ℕ, false, true, length, MatchOption};
 ghost use Rattle.fb_graph.specs.Components.{Leads};
 ghost use Rattle.fb_graph.specs.Dual.{all_cuts, height_of, is_live, top_at};
 ghost use Rattle.fb_graph.specs.Problem.{edge_at, touches};
@@ -47,7 +47,7 @@ pub fn is_single<S: Scope>(regions: &Regions<S>, node: NodeId) -> bool
 /// The vertex of a node that is a defect and holds no other vertex; none for any other node.
 pub fn single_vertex<S: Scope>(regions: &Regions<S>, node: NodeId) -> Option<u32>
     requires { is_live regions.now.nodes node ≡ true }
-    ensures { IfSome result (λ v. top_at regions.now.nodes node ≡ v ∷ []) }
+    ensures { MatchOption result (is_single regions.now.nodes node ≡ false) (λ v. top_at regions.now.nodes node ≡ v ∷ []) }
 {
     regions.keeps();
     if !is_single(regions, node) {
@@ -145,9 +145,11 @@ pub fn room_beside<S: Scope>(regions: &Regions<S>, v: u32, potential: u64, far: 
 }
 
 /// How much of the residue of an edge between two single defects the other one takes, about half of the residue: an even
-/// length within its room, which leaves the rest within the first one's room; none if there is no such length.
+/// length within its room, which leaves the rest within the first one's room. Of an even residue, none is returned only if
+/// there is no such length.
 pub fn share(residue: u64, room: u64, other_room: u64) -> Option<u64>
-    ensures { IfSome result (IsShare residue room other_room) }
+    ensures { MatchOption result (residue % 2 ≡ 0 → (share : ℕ) → ¬ IsShare residue room other_room share)
+        (IsShare residue room other_room) }
 {
     let least = residue.saturating_sub(room - room % 2);
     let most = residue.min(other_room);

@@ -1,8 +1,8 @@
 -- A list passed over from its last number to its first.
-use Rattle.std.proofs.Common.{ℕ, ◌≡◌, ◌==◌, ◌||◌, ◌⊎◌, inl, inr, Bool, cond, not, true, false, List, [], ◌∷◌, ◌++◌, reverse, Option, Some, None, refl, sym, ap, ◌∙◌, subst, append_assoc}
+use Rattle.std.proofs.Common.{ℕ, ◌≡◌, ◌+◌, ◌<◌, ◌==◌, ◌||◌, ◌⊎◌, inl, inr, Bool, cond, not, true, false, List, [], ◌∷◌, ◌++◌, length, take, drop, get_or, reverse, Option, Some, None, refl, sym, ap, ◌∙◌, subst, append_assoc}
 use Rattle.std.specs.List.{last_or}
 use Rattle.std.proofs.lemmas.Bool.{both_ways, eq-eqb, eqb-true, or_left, or_parts, or_right}
-use Rattle.std.proofs.lemmas.List.{reverse-append}
+use Rattle.std.proofs.lemmas.List.{drop_more, reverse-append, take-append-drop}
 use Rattle.std.proofs.lemmas.List.Sums.{take_while-cons}
 use Rattle.fb_graph.specs.Certificate.{AreDistinct}
 use Rattle.fb_graph.specs.Parity.{is_in}
@@ -42,6 +42,11 @@ distinct_before (x ∷ xs) ys v distinct = by (x == v) refl (distinct_before xs 
         (is_in-append xs (v ∷ ys) x
         ∙ or_right (is_in xs x) (is_in (v ∷ ys) x) (or_left (v == x) (is_in ys x) (eq-eqb v x (sym (eqb-true x v e))))))
     by false e rest = ap (λ b. b || is_in xs v) e ∙ rest
+
+pub not_before : (xs : List ℕ) (i : ℕ) → AreDistinct xs → i < length xs → is_in (take i xs) (get_or xs i 0) ≡ false
+not_before xs i distinct less =
+    distinct_before (take i xs) (drop (i + 1) xs) (get_or xs i 0)
+    (subst AreDistinct (sym (take-append-drop i xs) ∙ ap (λ l. take i xs ++ l) (drop_more xs i 0 less)) distinct)
 
 -- what is listed before a number, where it isn't listed earlier
 pub before_here : (xs ys : List ℕ) (v : ℕ) → is_in xs v ≡ false → listed_before (xs ++ v ∷ ys) v ≡ xs

@@ -419,8 +419,9 @@ impl<S: Scope> Regions<S> {
         self.marks.take(last);
     }
 
-    /// The step over the edge from its inner end to its outer one.
-    fn step_over(&self, edge: u32) -> Step
+    /// The step over an edge from its end that an outer node holds: from the first one, if both are held, and from the second,
+    /// if neither is.
+    pub fn step_over(&self, edge: u32) -> Step
         requires { edge < length (S.problem self.now.scope).edges }
         ensures { IsOver (S.problem self.now.scope) self.now.nodes edge result }
     {

@@ -23,18 +23,16 @@ use Rattle.fb_laws.specs.Trees.{EntryOf, minus_names, plus_names, roles_of}
 use Rattle.fb_laws.proofs.StateBlossoms.{state_closed}
 use Rattle.fb_laws.proofs.StateMeasures.{closed_less}
 use Rattle.fb_laws.proofs.StateOrders.{search_reordered}
+use Rattle.fb_trees.specs.InternalSteps.{roles_by_names}
 use Rattle.fb_trees.proofs.Mapped.{cycle_links_moved, joined_moved, minus_moved, plus_moved}
 use Rattle.fb_half.specs.Translations.{cycles_by, entry_by, link_by}
 use Rattle.fb_search.proofs.Cycles.{cycle_from, same_cycle, paths_of}
 
-abbrev roles_from : List ℕ → List ℕ → Roles
-roles_from plus minus = record { is_plus = is_in plus; is_minus = is_in minus }
-
 roles_moved : (links : List (Option (List Step))) (root : ℕ) (branches : List (EntryOf ℕ))
     → roles_of root (map (entry_by links) branches) ≡ roles_of root branches
 roles_moved links root branches =
-    ap (λ ps. roles_from ps (minus_names (map (entry_by links) branches))) (plus_moved (link_by links) root branches)
-    ∙ ap (roles_from (plus_names root branches)) (minus_moved (link_by links) branches)
+    ap (λ ps. roles_by_names ps (minus_names (map (entry_by links) branches))) (plus_moved (link_by links) root branches)
+    ∙ ap (roles_by_names (plus_names root branches)) (minus_moved (link_by links) branches)
 
 same_names : (joins : ℕ → Bool) (name : ℕ) (ns : List ℕ) → ((n : ℕ) → is_in ns n ≡ true → joins n ≡ false)
     → map (renamed_name joins name) ns ≡ ns

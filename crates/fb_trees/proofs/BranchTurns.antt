@@ -1,7 +1,7 @@
 -- The branches of a tree in their turns: each minus node shrinks, then the root and each other plus node grow.
 use Rattle.std.proofs.Common.{ℕ, suc, ◌≡◌, ◌+◌, ◌<◌, ◌≤◌, ◌⊎◌, inl, inr, true, false, List, [], ◌∷◌, ◌++◌, length, take, drop, get_or, refl, sym, ap, ◌∙◌, subst, arith, map, reverse}
 use Rattle.std.proofs.lemmas.Bool.{false≢true}
-use Rattle.std.proofs.lemmas.List.{drop_more, get_or-map, length-map, map_more, take-append-drop, take-map, take_all}
+use Rattle.std.proofs.lemmas.List.{get_or-map, length-map, map_more, take-append-drop, take-map, take_all}
 use Rattle.std.proofs.lemmas.List.Sorted.{IsPermutation-sym, IsPermutation-append_comm, IsPermutation-cons, IsPermutation-map, IsPermutation-reverse, IsPermutation-trans}
 use Rattle.fb_graph.specs.Parity.{is_in}
 use Rattle.fb_graph.specs.Problem.{Problem}
@@ -14,7 +14,7 @@ use Rattle.fb_graph.proofs.StepTurns.{no_turn, same_roles}
 use Rattle.fb_laws.specs.Trees.{minus_names, plus_names, roles_of}
 use Rattle.fb_laws.proofs.OpenedBlossoms.{distinct_permuted, same_permuted}
 use Rattle.fb_regions.specs.Moves.{node_named}
-use Rattle.fb_regions.proofs.Listed.{distinct_before}
+use Rattle.fb_regions.proofs.Listed.{not_before}
 use Rattle.fb_trees.specs.Branches.{Grown, entries_of, entry_of}
 use Rattle.fb_trees.specs.declared.branch.Branch.{Branch}
 use Rattle.fb_trees.specs.InternalSteps.{IsTreeOver, roles_by_names}
@@ -54,11 +54,6 @@ plus_moved root bs =
 before_is_in : (xs : List ℕ) (i n : ℕ) → is_in (take i xs) n ≡ true → is_in xs n ≡ true
 before_is_in xs i n within =
     subst (λ l. is_in l n ≡ true) (take-append-drop i xs) (is_in-left (take i xs) (drop i xs) n within)
-
-new_at : (xs : List ℕ) (i : ℕ) → AreDistinct xs → i < length xs → is_in (take i xs) (get_or xs i 0) ≡ false
-new_at xs i distinct less =
-    distinct_before (take i xs) (drop (i + 1) xs) (get_or xs i 0)
-    (subst AreDistinct (sym (take-append-drop i xs) ∙ ap (λ l. take i xs ++ l) (drop_more xs i 0 less)) distinct)
 
 module _ (p : Problem) (t : Grown) (nodes : List Node) (are : IsTreeOver p t nodes) (k : ℕ)
     (may : MayStep p (roles_of t.root t.branches) nodes k) (bs : List Branch) (read : entries_of bs ≡ t.branches) where
@@ -107,13 +102,13 @@ module _ (p : Problem) (t : Grown) (nodes : List Node) (are : IsTreeOver p t nod
   new_minus i d less =
       subst (λ l. is_in l (get_or bs i d).minus ≡ false) (take-map (λ b. b.minus) i bs)
       (subst (λ n. is_in (take i (minus_of bs)) n ≡ false) (minus_at i d less)
-      (new_at (minus_of bs) i distinct_minus (omega (arith, less, length-map bs (λ b. b.minus)))))
+      (not_before (minus_of bs) i distinct_minus (omega (arith, less, length-map bs (λ b. b.minus)))))
 
   new_plus : (i : ℕ) (d : Branch) → i < length bs → is_in (t.root ∷ plus_of (take i bs)) (get_or bs i d).plus ≡ false
   new_plus i d less =
       subst (λ l. is_in (t.root ∷ l) (get_or bs i d).plus ≡ false) (take-map (λ b. b.plus) i bs)
       (subst (λ n. is_in (t.root ∷ take i (plus_of bs)) n ≡ false) (plus_at i d less)
-      (new_at (t.root ∷ plus_of bs) (suc i) distinct_plus (omega (arith, less, length-map bs (λ b. b.plus)))))
+      (not_before (t.root ∷ plus_of bs) (suc i) distinct_plus (omega (arith, less, length-map bs (λ b. b.plus)))))
 
   plus_before : (i n : ℕ) → is_in (t.root ∷ plus_of (take i bs)) n ≡ true → is_in (plus_names t.root t.branches) n ≡ true
   plus_before i n within = sym (same_plus n) ∙ by (is_in-cases t.root (plus_of (take i bs)) n within)

@@ -1,8 +1,7 @@
 //! The links that are made over a tight edge, and their walks.
 
-ghost use Rattle.std.specs.Prelude.{◌≡◌, ◌++◌, ◌<◌, ℕ, length, IfOk, OnOk};
+ghost use Rattle.std.specs.Prelude.{◌≡◌, ◌++◌, ◌<◌, ℕ, length, IfOk, OnOk, MatchResult};
 ghost use Rattle.fb_links.specs.Walks.{turned_walk};
-ghost use Rattle.fb_regions.specs.Moves.{IsOver};
 ghost use Rattle.fb_trees.specs.InternalMetWalks.{IsAlong, IsBetween, IsLinkedBetween, IsLinkedOut, IsMetWalk, IsOut, IsOutWalk};
 
 use fb_graph::{NoMemory, Scope};
@@ -18,7 +17,8 @@ pub fn link_between<S: Scope>(
     edge: u32,
 ) -> Result<LinkId, NoMemory>
     requires { (a b : ℕ) × IsBetween (S.problem regions.now.scope) regions.now.nodes edge a b }
-    ensures { IfOk result (IsLinkedBetween (S.problem regions.now.scope) regions.now.nodes edge links.old links.new) }
+    ensures { MatchResult result (IsLinkedBetween (S.problem regions.now.scope) regions.now.nodes edge links.old links.new)
+        (λ _. links.new ≡ links.old) }
 {
     let walk = met_walk(alloc, regions, edge)?;
     links.make(alloc, walk)
@@ -33,7 +33,8 @@ pub fn link_out<S: Scope>(
     edge: u32,
 ) -> Result<LinkId, NoMemory>
     requires { (a v : ℕ) × IsOut (S.problem regions.now.scope) regions.now.nodes edge a v }
-    ensures { IfOk result (IsLinkedOut (S.problem regions.now.scope) regions.now.nodes edge links.old links.new) }
+    ensures { MatchResult result (IsLinkedOut (S.problem regions.now.scope) regions.now.nodes edge links.old links.new)
+        (λ _. links.new ≡ links.old) }
 {
     let walk = out_walk(alloc, regions, edge)?;
     links.make(alloc, walk)
@@ -78,35 +79,10 @@ fn out_walk<S: Scope>(alloc: Global, regions: &Regions<S>, edge: u32) -> Result<
         → IsOutWalk (S.problem regions.now.scope) regions.now.nodes a v walk) }
 {
     regions.keeps();
-    let step = step_out(regions, edge);
+    let step = regions.step_over(edge);
     let mut steps = regions.source_walk(alloc, step.from)?.into_vec();
     steps.push(step)?;
     Ok(Walk::from_vec(steps))
-}
-
-/// The step over the edge from the end that a node holds to the other end.
-fn step_out<S: Scope>(regions: &Regions<S>, edge: u32) -> Step
-    requires { edge < length (S.problem regions.now.scope).edges }
-    ensures { IsOver (S.problem regions.now.scope) regions.now.nodes edge result }
-{
-    let scope = regions.scope();
-    let (first, second) = scope.ends(edge);
-    let weight = scope.weight(edge);
-    if regions.cover_of(first).is_some() {
-        Step {
-            from: first,
-            to: second,
-            edge,
-            weight,
-        }
-    } else {
-        Step {
-            from: second,
-            to: first,
-            edge,
-            weight,
-        }
-    }
 }
 
 /// Adds the steps of a walk gone back.

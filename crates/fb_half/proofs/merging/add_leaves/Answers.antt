@@ -1,7 +1,7 @@
 use Rattle.std.proofs.Common.{◌∙◌, ◌+◌, ◌++◌, ◌∷◌, [], length, get_or, drop, take, sym, subst}
 use Rattle.std.proofs.lemmas.List.{take_more}
 use Rattle.fb_half.specs.InternalSeams.{AddsSingles}
-use Rattle.fb_half.proofs.Begun.{not_before}
+use Rattle.fb_regions.proofs.Listed.{not_before}
 use Rattle.fb_half.proofs.AddedSingles.{names_more, singles_added_more, still_leafless, still_listed, still_live, still_uncovered}
 use Rattle.fb_half.proofs.merging.add_leaves.Goals as goal
 

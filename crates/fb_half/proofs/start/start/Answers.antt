@@ -2,7 +2,8 @@ use Rattle.std.proofs.Common.{◌<◌, ◌∙◌, length, get_or, take, arith, s
 use Rattle.std.proofs.lemmas.List.{take_more}
 use Rattle.fb_graph.specs.Dual.{cover_of, is_live}
 use Rattle.fb_half.specs.InternalBeginnings.{IsStarted}
-use Rattle.fb_half.proofs.Begun.{fresh_listed, fresh_name, live_leaves, no_leaf, not_before, started_more, uncovered}
+use Rattle.fb_regions.proofs.Listed.{not_before}
+use Rattle.fb_half.proofs.Begun.{fresh_listed, fresh_name, live_leaves, no_leaf, started_more, uncovered}
 use Rattle.fb_half.proofs.start.start.Goals as goal
 
 pub add_leaf-requires-clause-uncovered : goal.add_leaf-requires-clause-uncovered
