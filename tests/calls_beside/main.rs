@@ -1,5 +1,5 @@
-//! Calls that no run of the program makes, on samples whose answers are known: of blossoms, trees, a board, and files and sinks in
-//! memory. It prints what differs, and how many samples passed.
+//! Calls that no run of the program makes, on samples whose answers are known: of blossoms, trees, a board, workers, and files
+//! and sinks in memory. It prints what differs, and how many samples passed.
 
 #![tactic(auto)]
 
@@ -9,6 +9,7 @@ mod nests;
 mod sinks;
 mod streams;
 mod stopped;
+mod workers;
 
 use std::io;
 use stopped::Stopped;
@@ -21,6 +22,11 @@ fn main(rt: HostRuntime) -> io::Result<()> {
         ("a board has a slot for each shot", board::has_a_slot_for_each_shot(alloc)),
         ("a stream goes on after a failed read", streams::goes_on_after_a_failed_read(alloc)),
         ("a sink takes a byte at a time", sinks::takes_a_byte_at_a_time(alloc)),
+        ("two workers meet at the gate", workers::meet_at_the_gate(&rt, alloc)),
+        ("one worker meets nobody", workers::meet_nobody_alone(&rt, alloc)),
+        ("workers under a lock meet nobody", workers::meet_nobody_under_a_lock(&rt, alloc)),
+        ("without memory no fusion is asked for", workers::ask_for_no_fusion(&rt, alloc)),
+        ("the calling thread does each item once", workers::work_on_the_calling_thread(alloc)),
     ];
     let (mut passed, mut failed) = (0, 0);
     for (name, answer) in answers {

@@ -1,4 +1,5 @@
 use fb_graph::GraphFault;
+use fb_plan::PlanFault;
 use std::alloc::{AllocError, AllocFailed};
 use std::fmt;
 
@@ -8,6 +9,7 @@ pub enum Stopped {
     /// This was another than it should be.
     Differs(&'static str),
     NoGraph,
+    NoPlan,
     NoMemory,
 }
 
@@ -30,6 +32,12 @@ impl<T: Drop> From<AllocFailed<T>> for Stopped {
     }
 }
 
+impl From<PlanFault> for Stopped {
+    fn from(_: PlanFault) -> Stopped {
+        Stopped::NoPlan
+    }
+}
+
 impl From<GraphFault> for Stopped {
     fn from(_: GraphFault) -> Stopped {
         Stopped::NoGraph
@@ -41,6 +49,7 @@ impl fmt::Display for Stopped {
         match self {
             Stopped::Differs(what) => write!(f, "{what} differs"),
             Stopped::NoGraph => write!(f, "no graph"),
+            Stopped::NoPlan => write!(f, "no plan"),
             Stopped::NoMemory => write!(f, "out of memory"),
         }
     }

@@ -1,4 +1,5 @@
-use Rattle.std.proofs.lemmas.Result.{IfOk-weaker}
+use Rattle.std.proofs.Common.{◌≡◌}
+use Rattle.std.proofs.lemmas.Result.{IfOk-weaker, MatchResult-from_both}
 use Rattle.fb_trees.specs.InternalMetWalks.{IsLinkedBetween}
 use Rattle.fb_trees.proofs.walks.link_between.Goals as goal
 
@@ -10,7 +11,8 @@ make-requires-clause-light g c = (c.in_ok-walk.ensures c.requires.0 c.requires.1
 
 pub returns : goal.returns
 returns g c =
-    IfOk-weaker _ _
-    (IsLinkedBetween (g.S.Scope.problem c.args.regions.now.scope) c.args.regions.now.nodes c.args.edge c.args.links.now
-    c.make.new.self)
-    (λ link adds. record { walk = c.in_ok-walk.walk; adds = adds; between = c.in_ok-walk.ensures }) c.make.ensures.ok
+    let linked = IsLinkedBetween (g.S.Scope.problem c.args.regions.now.scope) c.args.regions.now.nodes c.args.edge c.args.links.now c.make.new.self in
+    MatchResult-from_both c.make.result linked (λ _. c.make.new.self ≡ c.args.links.now)
+    (IfOk-weaker _ _ linked
+    (λ link adds. record { walk = c.in_ok-walk.walk; adds = adds; between = c.in_ok-walk.ensures }) c.make.ensures.ok)
+    c.make.ensures.err

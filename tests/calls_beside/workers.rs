@@ -1,22 +1,16 @@
-//! A plan of two units and a fusion, done by hands whose pieces list the nodes that were made for them.
+//! Workers at a plan of two units and a fusion, whose pieces list the nodes that were made for them.
 
-ghost use Rattle.std.specs.Prelude.{◌≡◌, ◌≤◌, ◌<◌, ◌^◌, All, None, Some, IfOk, length};
-ghost use Rattle.fb_graph.specs.Components.{IsFirstOdd};
-ghost use Rattle.fb_graph.specs.Limits.{IsShot, problem_of};
-ghost use Rattle.fb_plan.specs.Plans.{IsPlan};
-ghost use Rattle.fb_book.specs.Books.{IsPieceAt, place_of};
+ghost use Rattle.std.specs.Prelude.{Some};
 
-use crate::samples::one_shot;
-use fb_book::{Board, Book, Claim, MOST_WORKERS, Permit, Piece, order_of_nodes};
+use crate::stopped::Stopped;
+use fb_book::{Board, Book, Claim, Permit, Piece};
 use fb_crew::{Entry, Gate, Hands, Kind, OpenGate, Worked, work_all, work_here};
 use fb_graph::{Graph, NoMemory, Shot};
 use fb_plan::{Job, Join, Plan};
 use std::alloc::Global;
 use std::marker::Brand;
-use std::process::Abort;
 use std::sync::atomic::{AtomicU64, Ordering};
 use std::sync::{Mutex, Wait};
-use std::test::Fail;
 use std::thread;
 use std::thread::Threads;
 
@@ -30,8 +24,6 @@ struct Listed<'a> {
 }
 
 impl<'a> Piece for Listed<'a> {
-    ghost use Rattle.std.specs.Prelude.{Some};
-
     ghost job_of = { λ p. p.job.now };
 
     ghost slot_of = { λ p. p.slot };
@@ -60,9 +52,7 @@ struct Lister<'a> {
 
 impl<'a> Lister<'a> {
     /// Hands with memory for all nodes of the job.
-    fn new(job: &'a Job<'a>) -> Lister<'a>
-        ensures { result.job.now ≡ job.entry.now }
-    {
+    fn new(job: &'a Job<'a>) -> Lister<'a> {
         Lister {
             job,
             without: None,
@@ -74,19 +64,11 @@ impl<'a> Lister<'a> {
 impl<'a> Hands<Listed<'a>, u32> for Lister<'a> {
     ghost job = { λ h. h.job.now };
 
-    fn unit(
-        &self,
-        alloc: Global,
-        tools: &mut u32,
-        slot: u32,
-        node: u32,
-    ) -> Result<Listed<'a>, NoMemory> {
+    fn unit(&self, alloc: Global, tools: &mut u32, slot: u32, node: u32) -> Result<Listed<'a>, NoMemory> {
         if self.without == Some(node) {
             return Err(NoMemory);
         }
         *tools = tools.saturating_add(1);
-        self.job.keeps();
-        order_of_nodes();
         let mut made = Vec::new(alloc);
         made.push(node)?;
         Ok(Listed {
@@ -108,8 +90,6 @@ impl<'a> Hands<Listed<'a>, u32> for Lister<'a> {
     ) -> Result<Listed<'a>, NoMemory> {
         self.fusions.fetch_add(1, Ordering::SeqCst);
         *tools = tools.saturating_add(1);
-        self.job.keeps();
-        order_of_nodes();
         let Listed { mut made, .. } = left;
         let Listed { made: mut rest, .. } = right;
         made.append(&mut rest)?;
@@ -123,9 +103,9 @@ impl<'a> Hands<Listed<'a>, u32> for Lister<'a> {
     }
 }
 
-/// How often a unit looks for another one at the gate: about a second, so that a second thread is there in time on a busy
+/// How often a unit looks for another one at the gate: some seconds, so that a second thread is there in time on a busy
 /// machine too.
-const TURNS: u32 = 2_000_000_000;
+const TURNS: u32 = 20_000_000;
 
 /// A gate at which the first unit waits, for a limited number of turns, until another one is there too. It notes who
 /// came with which item of the first slot.
@@ -175,8 +155,7 @@ impl Meeting {
     /// Whether an entry's worker came with its item.
     fn has_noted(&self, entry: &Entry) -> bool {
         match self.workers.as_slice().get(entry.node as usize) {
-            Some(worker) => entry.slot == 0
-                && worker.load(Ordering::SeqCst) == u64::from(entry.worker) + 1,
+            Some(worker) => entry.slot == 0 && worker.load(Ordering::SeqCst) == u64::from(entry.worker) + 1,
             None => false,
         }
     }
@@ -202,10 +181,7 @@ fn post<'a, N: Board>(
     book: &mut Book<Listed<'a>, N>,
     permit: Permit<N>,
     piece: Listed<'a>,
-) -> bool
-    requires { IsPieceAt (λ p. p.job.now) (λ p. p.slot) (λ p. p.node) (λ p. Some p.made.items) N.job
-        (place_of N.job permit.slot permit.node) piece }
-{
+) -> bool {
     gate.before_post(permit.worker(), permit.slot(), permit.node());
     book.post(permit, piece).is_ok()
 }
@@ -217,10 +193,7 @@ fn do_next<'a, N: Board>(
     gate: &Meeting,
     book: &mut Book<Listed<'a>, N>,
     worker: u32,
-) -> Result<bool, NoMemory>
-    requires job { hands.now.job.now ≡ N.job }
-    requires worker { worker ≤ N.workers }
-{
+) -> Result<bool, NoMemory> {
     let mut items = 0;
     match book.claim(worker) {
         Claim::Unit(permit) => {
@@ -245,10 +218,7 @@ fn work_under_lock<'a, N: Board, R: Wait>(
     gate: &Meeting,
     book: &Mutex<Book<Listed<'a>, N>>,
     worker: u32,
-)
-    requires job { hands.now.job.now ≡ N.job }
-    requires worker { worker ≤ N.workers }
-{
+) {
     for _ in rt.forever() {
         let mut held = book.lock(rt);
         let Ok(true) = do_next(alloc, hands, gate, &mut held, worker) else {
@@ -263,21 +233,14 @@ fn work_all_under_lock<'a, N: Board + Send + Sync, R: Threads + Wait + Sync>(
     alloc: Global,
     hands: &Lister<'a>,
     gate: &Meeting,
-) -> Result<(), NoMemory>
-    requires job { hands.now.job.now ≡ N.job }
-    requires workers { N.workers ≡ 2 }
-{
+) -> Result<(), NoMemory> {
     let book: Book<Listed<'a>, N> = Book::new(alloc, hands.job, 2)?;
     let desk = Mutex::new(book);
     let at = &desk;
     thread::join(
         rt,
-        move ||
-            requires { (hands.now.job.now ≡ N.job) × (N.workers ≡ 2) }
-        { work_under_lock(rt, alloc, hands, gate, at, 0) },
-        move ||
-            requires { (hands.now.job.now ≡ N.job) × (N.workers ≡ 2) }
-        { work_under_lock(rt, alloc, hands, gate, at, 1) },
+        move || work_under_lock(rt, alloc, hands, gate, at, 0),
+        move || work_under_lock(rt, alloc, hands, gate, at, 1),
     );
     Ok(())
 }
@@ -288,35 +251,25 @@ struct Pair {
     graph: Graph,
     plan: Plan,
     shots: Vec<Shot>,
-    ghost fits: { IsPlan graph plan },
-    ghost few: { length shots.items < 2 ^ 32 },
-    ghost within: { All (IsShot graph) shots.items },
-    ghost even: { All (λ shot. IsFirstOdd (problem_of graph shot) None) shots.items },
 }
 
 impl Pair {
-    fn new(alloc: Global) -> Result<Pair, Fail> {
+    fn new(alloc: Global) -> Result<Pair, Stopped> {
         let graph = Graph::build(alloc, 0, &[], &[])?;
-        let shots = one_shot(alloc, &graph)?;
-        let plan = two_units(alloc, &graph)?;
+        let mut units = Vec::new(alloc);
+        units.push(Vec::new(alloc))?;
+        units.push(Vec::new(alloc))?;
+        let mut fusions = Vec::new(alloc);
+        fusions.push(Join {
+            left: 0,
+            right: 1,
+            seam: Vec::new(alloc),
+        })?;
+        let plan = Plan::build(alloc, &graph, &units, &fusions)?;
+        let mut shots = Vec::new(alloc);
+        shots.push(Shot::from_rising(&graph, Vec::new(alloc)))?;
         Ok(Pair { graph, plan, shots })
     }
-}
-
-/// The plan of two units and a fusion, of a graph without vertices.
-fn two_units(alloc: Global, graph: &Graph) -> Result<Plan, Fail>
-    ensures { IfOk result (IsPlan graph.now) }
-{
-    let mut units = Vec::new(alloc);
-    units.push(Vec::new(alloc))?;
-    units.push(Vec::new(alloc))?;
-    let mut fusions = Vec::new(alloc);
-    fusions.push(Join {
-        left: 0,
-        right: 1,
-        seam: Vec::new(alloc),
-    })?;
-    Ok(Plan::build(alloc, graph, &units, &fusions)?)
 }
 
 /// Lists the nodes of the job by this number of workers, by way of the gate.
@@ -326,139 +279,74 @@ fn list_by<'a, G: Gate, R: Threads + Wait + Sync>(
     hands: &Lister<'a>,
     workers: u32,
     gate: &G,
-) -> Result<Worked<Listed<'a>, u32>, NoMemory>
-    requires { (1 ≤ workers) × (workers ≤ MOST_WORKERS) }
-{
+) -> Result<Worked<Listed<'a>, u32>, NoMemory> {
     let tools = vec![in alloc; 0; workers as usize]?;
     work_all(rt, alloc, hands.job, workers, hands, gate, tools)
 }
 
-/// Whether one root's piece lists its nodes in the order of the tree, and the tools count each once.
-fn lists_the_tree(worked: &Worked<Listed<'_>, u32>) -> bool {
+/// One root's piece lists its nodes in the order of the tree, and the tools count each once.
+fn lists_the_tree(worked: &Worked<Listed<'_>, u32>) -> Result<(), Stopped> {
     let [root] = worked.roots.as_slice() else {
-        return false;
+        return Err(Stopped::Differs("the number of roots"));
     };
-    root.made.as_slice() == [0, 1, 2].as_slice() && count_all(&worked.tools) == 3
-}
-
-/// The sum of the counts.
-fn count_all(counts: &[u32]) -> u32 {
-    let mut sum: u32 = 0;
-    for count in counts {
-        sum = sum.saturating_add(*count);
+    Stopped::unless(root.made.as_slice() == [0, 1, 2].as_slice(), "the order of the nodes")?;
+    let mut items = 0;
+    for count in &worked.tools {
+        items += *count;
     }
-    sum
-}
-
-/// Lists the nodes of the job by two workers, each of which holds the lock from each claim to the post.
-fn list_under_lock<R: Threads + Wait + Sync>(
-    rt: &R,
-    alloc: Global,
-    job: &Job<'_>,
-    gate: &Meeting,
-) -> Result<(), NoMemory> {
-    work_all_under_lock::<Brand, R>(rt, alloc, &Lister::new(job), gate)
+    Stopped::unless(items == 3, "how many items the tools count")
 }
 
 /// By two workers, each of which makes a unit while the other one does, the root's nodes are made in the order of the tree,
 /// each once, and the history has who gave which.
-#[test]
-fn meets_at_the_gate(rt: HostRuntime) -> Result<(), Fail> {
-    let Pair { graph, plan, shots } = Pair::new(rt.alloc())?;
-    two_meet(&rt, rt.alloc(), &Job::new(&graph, &plan, shots))
-}
-
-fn two_meet<R: Abort + Threads + Wait + Sync>(
-    rt: &R,
-    alloc: Global,
-    job: &Job<'_>,
-) -> Result<(), Fail> {
+pub fn meet_at_the_gate<R: Threads + Wait + Sync>(rt: &R, alloc: Global) -> Result<(), Stopped> {
+    let Pair { graph, plan, shots } = Pair::new(alloc)?;
+    let job = Job::new(&graph, &plan, shots);
     let gate = Meeting::new();
-    let worked = list_by(rt, alloc, &Lister::new(job), 2, &gate)?;
-    assert!(rt; gate.has_met(), "the units are made one after the other");
-    assert!(rt;
-        lists_the_tree(&worked),
-        "the nodes are listed in another order"
-    );
-    assert!(rt;
-        gate.has_seen(&worked.history),
-        "the gate saw other items than were given"
-    );
-    Ok(())
+    let worked = list_by(rt, alloc, &Lister::new(&job), 2, &gate)?;
+    Stopped::unless(gate.has_met(), "whether two units meet")?;
+    lists_the_tree(&worked)?;
+    Stopped::unless(gate.has_seen(&worked.history), "who came to the gate")
 }
 
 /// One worker alone meets nobody at the gate.
-#[test]
-fn meets_nobody_alone(rt: HostRuntime) -> Result<(), Fail> {
-    let Pair { graph, plan, shots } = Pair::new(rt.alloc())?;
-    one_meets_nobody(&rt, rt.alloc(), &Job::new(&graph, &plan, shots))
-}
-
-fn one_meets_nobody<R: Abort + Threads + Wait + Sync>(
-    rt: &R,
-    alloc: Global,
-    job: &Job<'_>,
-) -> Result<(), Fail> {
+pub fn meet_nobody_alone<R: Threads + Wait + Sync>(rt: &R, alloc: Global) -> Result<(), Stopped> {
+    let Pair { graph, plan, shots } = Pair::new(alloc)?;
+    let job = Job::new(&graph, &plan, shots);
     let gate = Meeting::new();
-    let worked = list_by(rt, alloc, &Lister::new(job), 1, &gate)?;
-    assert!(rt; !gate.has_met(), "one worker met another");
-    assert!(rt;
-        lists_the_tree(&worked),
-        "the nodes are listed in another order"
-    );
-    Ok(())
+    let worked = list_by(rt, alloc, &Lister::new(&job), 1, &gate)?;
+    Stopped::unless(!gate.has_met(), "whether one worker meets another")?;
+    lists_the_tree(&worked)
 }
 
 /// Two workers that hold the lock from the claim to the post don't meet at the gate.
-#[test]
-fn meets_nobody_under_a_lock(rt: HostRuntime) -> Result<(), Fail> {
-    let Pair { graph, plan, shots } = Pair::new(rt.alloc())?;
-    locked_meet_nobody(&rt, rt.alloc(), &Job::new(&graph, &plan, shots))
-}
-
-fn locked_meet_nobody<R: Abort + Threads + Wait + Sync>(
-    rt: &R,
-    alloc: Global,
-    job: &Job<'_>,
-) -> Result<(), Fail> {
+pub fn meet_nobody_under_a_lock<R: Threads + Wait + Sync>(rt: &R, alloc: Global) -> Result<(), Stopped> {
+    let Pair { graph, plan, shots } = Pair::new(alloc)?;
+    let job = Job::new(&graph, &plan, shots);
     let gate = Meeting::new();
-    list_under_lock(rt, alloc, job, &gate)?;
-    assert!(rt; !gate.has_met(), "two workers under one lock met");
-    assert!(rt;
-        gate.passed.load(Ordering::SeqCst) == 3,
-        "an item didn't pass the gate"
-    );
-    Ok(())
+    work_all_under_lock::<Brand, R>(rt, alloc, &Lister::new(&job), &gate)?;
+    Stopped::unless(!gate.has_met(), "whether two workers under one lock meet")?;
+    Stopped::unless(gate.passed.load(Ordering::SeqCst) == 3, "how many items pass the gate")
 }
 
 /// If one worker has no memory for a unit, the fusion above it is never asked for.
-#[test]
-fn runs_out_of_memory(rt: HostRuntime) -> Result<(), Fail> {
-    let Pair { graph, plan, shots } = Pair::new(rt.alloc())?;
+pub fn ask_for_no_fusion<R: Threads + Wait + Sync>(rt: &R, alloc: Global) -> Result<(), Stopped> {
+    let Pair { graph, plan, shots } = Pair::new(alloc)?;
     let job = Job::new(&graph, &plan, shots);
     let hands = Lister {
         without: Some(1),
         ..Lister::new(&job)
     };
-    let worked = list_by(&rt, rt.alloc(), &hands, 2, &OpenGate);
-    assert!(rt; worked.is_err(), "no memory for node 1");
-    assert!(rt;
-        hands.fusions.load(Ordering::SeqCst) == 0,
-        "a fusion was asked for"
-    );
-    Ok(())
+    let worked = list_by(rt, alloc, &hands, 2, &OpenGate);
+    Stopped::unless(worked.is_err(), "work without memory")?;
+    Stopped::unless(hands.fusions.load(Ordering::SeqCst) == 0, "how many fusions are asked for")
 }
 
 /// The calling thread does each item once.
-#[test]
-fn works_here(rt: HostRuntime) -> Result<(), Fail> {
-    let Pair { graph, plan, shots } = Pair::new(rt.alloc())?;
-    does_each_once(&rt, rt.alloc(), &Job::new(&graph, &plan, shots))
-}
-
-fn does_each_once<R: Abort>(rt: &R, alloc: Global, job: &Job<'_>) -> Result<(), Fail> {
+pub fn work_on_the_calling_thread(alloc: Global) -> Result<(), Stopped> {
+    let Pair { graph, plan, shots } = Pair::new(alloc)?;
+    let job = Job::new(&graph, &plan, shots);
     let mut items = 0;
-    let finished = work_here(alloc, job, &Lister::new(job), &mut items)?;
-    assert!(rt; finished.roots.len() == 1 && items == 3);
-    Ok(())
+    let finished = work_here(alloc, &job, &Lister::new(&job), &mut items)?;
+    Stopped::unless(finished.roots.len() == 1 && items == 3, "the items of the calling thread")
 }

@@ -1,8 +1,0 @@
-//! The tests that are proved, of workers. It gives nothing.
-
-#![tactic(auto)]
-
-#[cfg(test)]
-mod crew;
-#[cfg(test)]
-mod samples;
