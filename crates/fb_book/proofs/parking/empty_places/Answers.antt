@@ -2,6 +2,9 @@ use Rattle.std.proofs.Common.{None, replicate, ap, ◌∙◌, arith}
 use Rattle.std.proofs.lemmas.Grind.{common_steps}
 use Rattle.fb_book.proofs.parking.empty_places.Goals as goal
 
+pub loop-init : goal.loop-init
+loop-init g c = (c.in_ok-places.ensures.items, c.in_ok-places.ensures.capacity)
+
 pub push_reserved-requires : goal.push_reserved-requires
 push_reserved-requires g c = grind (arith, common_steps)
 
