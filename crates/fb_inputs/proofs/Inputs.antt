@@ -43,6 +43,4 @@ pub room_at_first : (old : Option (List (List ℕ))) → IsEmptyIfKnown old → 
 room_at_first None empty = tt
 room_at_first (Some names) empty = rw empty (lit< tt)
 
-pub ruleset asking = (asks_one, asks_none, asks_prefix_one)
-
 pub ruleset asking_on = (room_after, room_at_first)

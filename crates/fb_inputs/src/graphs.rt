@@ -12,7 +12,6 @@ use fb_ports::{Files, ReadError, read_whole};
 use std::alloc::Global;
 
 /// The bytes of the named file. Returns an error if there are more than `limit`.
-#[tactic(auto, using(crate::proofs::Inputs::asking))]
 pub fn read_named<F: Files>(
     alloc: Global,
     files: &mut F,
