@@ -92,7 +92,6 @@ pub fn check<F: Files, O: Sink>(
 }
 
 /// Checks the report that is named, for a graph.
-#[tactic(auto, using(fb_inputs::proofs::Inputs::asking_on))]
 fn check_report<F: Files, O: Sink>(
     alloc: Global,
     request: &Checking<'_>,

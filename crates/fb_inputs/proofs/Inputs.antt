@@ -1,10 +1,7 @@
 -- One read of a named file after another.
-use Rattle.std.proofs.Common.{◌≡◌, ℕ, List, [], ◌∷◌, ◌++◌, Option, Some, None, refl, sym, ap, subst, ◌∙◌, append-nil, lit<}
-use Rattle.fb_ports.specs.Causes.{GainsIfKnown, HasRoom, IsEmptyIfKnown}
+use Rattle.std.proofs.Common.{◌≡◌, ℕ, List, [], ◌∷◌, Option, Some, None, refl, sym, ap, subst, ◌∙◌, append-nil}
+use Rattle.fb_ports.specs.Causes.{GainsIfKnown}
 use Rattle.fb_inputs.specs.Judging.{Asks, AsksPrefix}
-
-some_same : (xs ys : List (List ℕ)) → ◌≡◌ {A = Option (List (List ℕ))} (Some xs) (Some ys) → xs ≡ ys
-some_same xs ys e = cc
 
 pub asks_one : (old new : Option (List (List ℕ))) (name : List ℕ) → GainsIfKnown old new name → Asks old new (name ∷ [])
 asks_one None new name known = known
@@ -26,21 +23,3 @@ asks_same (Some names) new same = same ∙ ap Some (sym (append-nil names))
 -- no further name was asked for
 pub asks_kept : (old mid new : Option (List (List ℕ))) (name : List ℕ) → GainsIfKnown old mid name → new ≡ mid → Asks old new (name ∷ [])
 asks_kept old mid new name known same = subst (λ (asked : Option (List (List ℕ))). Asks old asked (name ∷ [])) (sym same) (asks_one old mid name known)
-
-pub room_after : (old mid : Option (List (List ℕ))) (name : List ℕ) → IsEmptyIfKnown old → Asks old mid (name ∷ []) → HasRoom mid 16
-room_after None mid name empty asked = go mid asked
-  where
-    go : (m : Option (List (List ℕ))) → m ≡ None → HasRoom m 16
-    go None e = tt
-    go (Some xs) e = cc
-room_after (Some names) mid name empty asked = go mid (asked ∙ ap (λ xs. Some (xs ++ name ∷ [])) empty)
-  where
-    go : (m : Option (List (List ℕ))) → m ≡ Some (name ∷ []) → HasRoom m 16
-    go None e = tt
-    go (Some xs) e = rw (some_same xs (name ∷ []) e) (lit< tt)
-
-pub room_at_first : (old : Option (List (List ℕ))) → IsEmptyIfKnown old → HasRoom old 16
-room_at_first None empty = tt
-room_at_first (Some names) empty = rw empty (lit< tt)
-
-pub ruleset asking_on = (room_after, room_at_first)
