@@ -1,6 +1,12 @@
-use Rattle.std.proofs.Common.{arith}
+use Rattle.std.proofs.Common.{arith, refl}
 use Rattle.std.proofs.lemmas.Grind.{common_steps}
 use Rattle.fb_ports.proofs.reading.read_whole.Goals as goal
+
+pub returns-in_default-read_at_most-clause-reported : goal.returns-in_default-read_at_most-clause-reported
+returns-in_default-read_at_most-clause-reported g c = λ rises. refl
+
+pub returns-in_default-read_at_most-clause-unchanged : goal.returns-in_default-read_at_most-clause-unchanged
+returns-in_default-read_at_most-clause-unchanged g c = λ other. absurd (other refl)
 
 pub returns-in_default-read_at_most-clause-taken : goal.returns-in_default-read_at_most-clause-taken
 returns-in_default-read_at_most-clause-taken g c = grind (arith, common_steps)
