@@ -33,7 +33,6 @@ pub struct Judged {
 }
 
 /// The report of the named file.
-#[tactic(auto, using(crate::proofs::Reported::no_report))]
 fn read_report_file<F: Files>(
     alloc: Global,
     files: &mut F,
