@@ -306,6 +306,7 @@ pub fn meet_at_the_gate<R: Threads + Wait + Sync>(rt: &R, alloc: Global) -> Resu
     let worked = list_by(rt, alloc, &Lister::new(&job), 2, &gate)?;
     Stopped::unless(gate.has_met(), "whether two units meet")?;
     lists_the_tree(&worked)?;
+    Stopped::unless(worked.history.len() == 6, "the length of the history")?;
     Stopped::unless(gate.has_seen(&worked.history), "who came to the gate")
 }
 
