@@ -23,3 +23,23 @@ loop-stream-preserved g c =
       names = c.in-Ok.ensures.names ∙ c.loop-stream.invariant.names;
       asks = c.in-Ok.ensures.asks ∙ c.loop-stream.invariant.asks;
     }
+
+pub returns-clause-takes : goal.returns-clause-takes
+returns-clause-takes g c = record {
+  middle = c.loop-stream.stream;
+  between = g.F.Files.left c.loop-stream.files;
+  gives = c.loop-stream.invariant.gives;
+  ends = (refl, refl);
+  few = c.loop-stream.invariant.few;
+  full = λ none. omega (arith, c.loop-stream.invariant.few, c.loop-stream-test.false);
+}
+
+pub returns-in-ReadFault-clause-takes : goal.returns-in-ReadFault-clause-takes
+returns-in-ReadFault-clause-takes g c = rw (c.ended-in-ReadFault.ensures.shots, c.ended-in-ReadFault.ensures.end) (record {
+  middle = c.loop-stream.stream;
+  between = g.F.Files.left c.loop-stream.files;
+  gives = c.loop-stream.invariant.gives;
+  ends = rw c.in-ReadFault.is at c.in-Ok.ensures.step;
+  few = c.loop-stream.invariant.few;
+  full = λ none. cc;
+})
