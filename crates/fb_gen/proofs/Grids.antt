@@ -14,7 +14,7 @@ use Rattle.fb_graph.proofs.Ranges.{not_in_below}
 use Rattle.fb_graph.proofs.Sets.{All-from_is_in, is_in-All, range_below}
 use Rattle.fb_gen.specs.Lattice.{vertex_at, vertex_count, weight_within, weight_later, entry_if, is_inner, edges_from, edges_of_row, edges_of_round, lattice_edges, virtuals_of_row, virtuals_of_round, lattice_virtuals, lattice_graph}
 
-pub flat_map-range_more : {A : Type 0} (f : ℕ → List A) (n : ℕ)
+flat_map-range_more : {A : Type 0} (f : ℕ → List A) (n : ℕ)
     → flat_map f (range_with_len 0 (n + 1)) ≡ flat_map f (range_with_len 0 n) ++ f n
 flat_map-range_more f n =
     ap (λ m. flat_map f (range_with_len 0 m)) (add-one n)
@@ -24,13 +24,17 @@ flat_map-range_more f n =
     ∙ ap (λ m. flat_map f (range_with_len 0 n) ++ f m) (omega arith)
 
 -- one piece more, after what was there before
-pub pieces_more : {A : Type 0} (before : List A) (f : ℕ → List A) (n : ℕ)
+pieces_more : {A : Type 0} (before : List A) (f : ℕ → List A) (n : ℕ)
     → before ++ flat_map f (range_with_len 0 (n + 1)) ≡ (before ++ flat_map f (range_with_len 0 n)) ++ f n
 pieces_more before f n =
     ap (λ xs. before ++ xs) (flat_map-range_more f n)
     ∙ sym (append_assoc before (flat_map f (range_with_len 0 n)) (f n))
 
-pub ruleset steps = (flat_map-range_more, pieces_more)
+-- a piece added to those so far
+pub piece_added : {A : Type 0} (before so_far more : List A) (f : ℕ → List A) (n : ℕ)
+    → so_far ≡ before ++ flat_map f (range_with_len 0 n) → more ≡ so_far ++ f n
+    → more ≡ before ++ flat_map f (range_with_len 0 (n + 1))
+piece_added before so_far more f n told grown = grown ∙ ap (λ xs. xs ++ f n) told ∙ sym (pieces_more before f n)
 
 pieces_suc : {A : Type 0} (f : ℕ → List A) (n : ℕ)
     → flat_map f (range_with_len 0 (suc n)) ≡ flat_map f (range_with_len 0 n) ++ f n

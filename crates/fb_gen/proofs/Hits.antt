@@ -1,16 +1,15 @@
 -- The steps of the loop that draws for each edge, and what the drawn shot is.
-use Rattle.std.proofs.Common.{◌≡◌, ℕ, ◌+◌, ◌*◌, ◌%◌, ◌^◌, ◌<◌, ◌&&◌, Bool, true, false, not, cond, nat_lt, ◌==◌, ◌≤◌, set, inl, inr, append-nil, List, [], ◌∷◌, ◌++◌, length, get_or, filter, None, refl, sym, ap, ◌∙◌, add-one}
+use Rattle.std.proofs.Common.{◌≡◌, ℕ, ◌+◌, ◌*◌, ◌%◌, ◌^◌, ◌<◌, ◌&&◌, Bool, true, false, not, cond, nat_lt, ◌≤◌, append-nil, List, [], ◌∷◌, ◌++◌, length, get_or, filter, None, refl, sym, ap, ◌∙◌, add-one}
 use Rattle.std.specs.List.{range_with_len}
 use Rattle.std.proofs.Math.Nat.{mod-add-mod}
-use Rattle.std.proofs.lemmas.Bool.{cases_eq, eq-eqb, ne_eqb, lt-ltb, le-ltb, ltb-true, and_parts}
-use Rattle.std.proofs.lemmas.List.{get_or-set_same, get_or-set_other}
+use Rattle.std.proofs.lemmas.Bool.{lt-ltb, le-ltb, ltb-true, and_parts}
 use Rattle.fb_graph.specs.Components.{IsFirstOdd}
 use Rattle.fb_graph.specs.Limits.{DecodingGraph, IsShot, ShotValue, is_real_in, problem_of}
 use Rattle.fb_graph.specs.Parity.{differ, is_in, is_odd_count}
 use Rattle.fb_graph.specs.Problem.{IsEdgeSet, Flips, edge_at, touches}
 use Rattle.fb_graph.proofs.BuildSteps.{range_more}
 use Rattle.fb_graph.proofs.OddComponents.{no_correction}
-use Rattle.fb_graph.proofs.ParitySums.{odd-append, differ-false, false-differ, differ_comm}
+use Rattle.fb_graph.proofs.ParitySums.{odd-append, differ-false, differ_comm}
 use Rattle.fb_graph.proofs.Ranges.{filter-range_same, filter-range_rises, filter-range_below, is_in-filter-range}
 use Rattle.fb_graph.proofs.Sets.{All-from_is_in, is_in-filter}
 use Rattle.fb_gen.specs.Drawing.{next_state, state_after, drawn_after, hits_of, defects_from, shot_from}
@@ -19,30 +18,6 @@ pub next_state-wrapping : (x : ℕ)
     → (((x * 6364136223846793005) % 2 ^ 64) + 1442695040888963407) % 2 ^ 64 ≡ next_state x
 unfolding next_state
 next_state-wrapping x = mod-add-mod (x * 6364136223846793005) (2 ^ 64) 1442695040888963407
-
-pub ruleset states = (next_state-wrapping)
-
--- a flag turned round
-pub turned : (flags : List Bool) (v : ℕ) → v < length flags → (u : ℕ)
-    → get_or (set flags v (not (get_or flags v false))) u false ≡ differ (u == v) (get_or flags u false)
-turned flags v lt u = elim (cases_eq u v) [
-  | inl same ↦ ap (λ j. get_or (set flags v (not (get_or flags v false))) j false) same
-      ∙ get_or-set_same flags v (not (get_or flags v false)) false lt
-      ∙ sym (differ_from (u == v) true (get_or flags u false) (get_or flags v false) (eq-eqb u v same)
-      (ap (λ j. get_or flags j false) same) ∙ true-differ (get_or flags v false))
-  | inr other ↦ get_or-set_other flags v u (not (get_or flags v false)) false other
-      ∙ sym (differ_from (u == v) false (get_or flags u false) (get_or flags u false) (ne_eqb u v other) refl
-      ∙ false-differ (get_or flags u false))
-]
-  where
-    differ_from : (a x b y : Bool) → a ≡ x → b ≡ y → differ a b ≡ differ x y
-    differ_from a x b y e f = rw (e, f) refl
-
-    true-differ : (b : Bool) → differ true b ≡ not b
-    true-differ true = refl
-    true-differ false = refl
-
-pub ruleset turns = (turned)
 
 -- the edges hit among one more
 pub hits_more : (x rate n : ℕ) → hits_of x rate (n + 1) ≡ hits_of x rate n ++ cond (nat_lt (drawn_after x n) rate) (n ∷ []) []
@@ -66,8 +41,6 @@ pub state_more : (x n : ℕ) → state_after x (n + 1) ≡ next_state (state_aft
 state_more x n = ap (state_after x) (add-one n)
 
 pub ruleset hits = (hits_hit, hits_missed, state_more)
-
-pub ruleset kept = (range_more)
 
 -- The real vertices with a flag are the defects, where the flags tell of the chosen edges' ends.
 pub kept_as_defects : (g : DecodingGraph) (flags : List Bool) (chosen : List ℕ)

@@ -19,8 +19,6 @@ first_level_more n =
     part : ℕ → Part
     part j = record { seam = j; node = j }
 
-pub ruleset first_steps = (first_level_more)
-
 -- two more of a level's parts
 drop_two : (level : List Part) (i : ℕ) (d : Part) → i + 1 < length level
     → drop i level ≡ get_or level i d ∷ get_or level (i + 1) d ∷ drop (i + 2) level
@@ -66,7 +64,7 @@ length-level next (a ∷ []) = refl
 length-level next (a ∷ b ∷ more) = omega (arith, length-level (next + 1) more)
 
 -- no level has fusions above one of at most one node
-pub fusions_from_one : (levels next : ℕ) (level : List Part) → length level ≤ 1 → fusions_from levels next level ≡ []
+fusions_from_one : (levels next : ℕ) (level : List Part) → length level ≤ 1 → fusions_from levels next level ≡ []
 fusions_from_one zero next level few = refl
 fusions_from_one (suc levels) next level few =
     rw (fusions_of_one level few, above_of_one next level few)
@@ -94,6 +92,14 @@ unfolding time_fusions
 turn_ends units turn made level few so_far =
     sym (so_far ∙ ap (λ xs. made ++ xs) (fusions_from_one (units - turn) (units + length made) level few) ∙ append-nil made)
 
+pub turns_over : (units turn : ℕ) (made : List Fusion) (level : List Part) → units ≤ turn
+    → fusions_from units units (first_level units) ≡ made ++ fusions_from (units - turn) (units + length made) level
+    → made ≡ time_fusions units
+unfolding time_fusions
+turns_over units turn made level past so_far =
+    let none : units - turn ≡ 0 = omega arith in
+    sym (so_far ∙ ap (λ n. made ++ fusions_from n (units + length made) level) none ∙ append-nil made)
+
 pub turn_more : (units turn next : ℕ) (made more : List Fusion) (level above : List Part) → turn < units
     → next ≡ units + length made → more ≡ made ++ fusions_of_level level → above ≡ level_above next level
     → length made + length level ≤ units
@@ -111,5 +117,3 @@ turn_more units turn next made more level above less numbered grown raised few s
           ∙ sym (append_assoc made here (fusions_from (units - (turn + 1)) (units + length made + length here) (level_above (units + length made) level)))
           ∙ ap (λ n. (made ++ here) ++ fusions_from (units - (turn + 1)) n (level_above (units + length made) level)) count,
     )
-
-pub ruleset turn_steps = (length-level, fusions_from_one)

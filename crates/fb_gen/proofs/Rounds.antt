@@ -60,7 +60,7 @@ first_bound t u j shared le = elim (cases_lt j u) [
   | inr last ↦ let same : j ≡ u = omega arith in rw same (omega (arith, first_after_all t u shared))
 ]
 
-pub map-range_more : {A : Type 0} (f : ℕ → A) (n : ℕ) → map f (range_with_len 0 (n + 1)) ≡ map f (range_with_len 0 n) ++ f n ∷ []
+map-range_more : {A : Type 0} (f : ℕ → A) (n : ℕ) → map f (range_with_len 0 (n + 1)) ≡ map f (range_with_len 0 n) ++ f n ∷ []
 map-range_more f n =
     ap (λ m. map f (range_with_len 0 m)) (add-one n)
     ∙ ap (map f) (range_push 0 n)
@@ -87,5 +87,3 @@ pushed_after g f ys i d less found more x e told is =
     ∙ ap (λ zs. zs ++ g x ∷ []) told
     ∙ ap (λ y. map f (take i ys) ++ y ∷ []) is
     ∙ sym (map_more f ys i d less)
-
-pub ruleset ranges = (first_suc, first_bound, first_within, map-range_more)

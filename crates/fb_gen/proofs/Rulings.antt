@@ -1,16 +1,16 @@
 -- The ranges and joins of a plan by time make that plan.
-use Rattle.std.proofs.Common.{◌≡◌, ℕ, ◌+◌, ◌-◌, ◌*◌, ◌<◌, ◌≤◌, ◌⊎◌, inl, inr, true, false, List, [], ◌∷◌, length, map, take, get_or, All, refl, sym, ap, ◌∙◌, arith}
+use Rattle.std.proofs.Common.{◌≡◌, ℕ, ◌+◌, ◌-◌, ◌*◌, ◌<◌, ◌≤◌, true, false, List, [], ◌∷◌, length, map, take, get_or, All, refl, sym, ap, ◌∙◌, arith}
 use Rattle.std.proofs.Math.Bool.{and-false}
 use Rattle.std.specs.Prelude.{Option, None, option_map, Ok}
 use Rattle.std.specs.List.{range_with_len, list_any}
 use Rattle.std.proofs.Math.Nat.{mul-le-mul_right}
-use Rattle.std.proofs.lemmas.Bool.{cases_lt, eq-eqb, ne_eqb, lt-ltb, le-ltb, lt-leb, false_from_ne_true}
+use Rattle.std.proofs.lemmas.Bool.{eq-eqb, ne_eqb, le-ltb, lt-leb, false_from_ne_true}
 use Rattle.std.proofs.lemmas.List.{length-map, length-take, get_or-take, get_or_default}
 use Rattle.std.proofs.lemmas.List.Elements.{All-append, All-map}
 use Rattle.std.proofs.lemmas.List.Folds.{list_any_none}
 use Rattle.std.proofs.lemmas.List.FromFn.{length-range_with_len}
 use Rattle.std.proofs.lemmas.Simd.{map-map}
-use Rattle.fb_graph.specs.Limits.{DecodingGraph, is_real_in, most_vertices}
+use Rattle.fb_graph.specs.Limits.{DecodingGraph, is_real_in}
 use Rattle.fb_graph.specs.Problem.{edge_at, no_edge}
 use Rattle.fb_graph.proofs.Sets.{range_below}
 use Rattle.fb_plan.specs.Plans.{PlanTree, names, join_at, goes_across, most_units}
@@ -18,7 +18,7 @@ use Rattle.fb_plan.specs.Rules.{claims_from, joins_of, seams_of, ranges_of, tree
 use Rattle.fb_plan.specs.declared.parts.Join.{Join}
 use Rattle.fb_plan.specs.declared.faults.PlanFault.{PlanFault}
 use Rattle.fb_plan.proofs.Trees.{names_left, names_right}
-use Rattle.fb_gen.specs.Lattice.{vertex_count, lattice_graph, lattice_of}
+use Rattle.fb_gen.specs.Lattice.{vertex_count, lattice_graph}
 use Rattle.fb_gen.specs.TimePlan.{first_round, unit_range, seam_range, time_fusions, time_ranges, time_tree, time_plan_of}
 use Rattle.fb_gen.specs.InternalSharing.{IsShared, plain_join, join_of}
 use Rattle.fb_gen.specs.declared.levels.Fusion.{Fusion}
@@ -174,15 +174,6 @@ plan_is_time_tree d t u g units joins shared lattice made joined =
     tree : tree_by (lattice_graph d t) units (joins_of joins) (seams_of joins) ≡ time_tree d t u
     tree = rw (count, nodes, ranges) refl
 
--- what a lattice's graph is
-pub lattice_known : (d t : ℕ) (g : DecodingGraph) → lattice_of d t ≡ Ok g → (vertex_count d t ≤ most_vertices) × (g ≡ lattice_graph d t)
-lattice_known d t g e = step (cases_lt most_vertices (vertex_count d t)) e
-  where
-    step : (most_vertices < vertex_count d t) ⊎ (vertex_count d t ≤ most_vertices) → lattice_of d t ≡ Ok g
-        → (vertex_count d t ≤ most_vertices) × (g ≡ lattice_graph d t)
-    step (inl large) f = let refused = rw (lt-ltb most_vertices (vertex_count d t) large) at f in cc
-    step (inr small) f = let made = rw (le-ltb most_vertices (vertex_count d t) small) at f in (small, cc)
-
 -- the seams of all fusions are units' numbers
 pub seams_below : (t n u v : ℕ) (fusions : List Fusion) → IsShared t n → u ≡ n → v ≡ n → fusions ≡ time_fusions v
     → All (λ f. f.seam < u) fusions
@@ -200,7 +191,3 @@ plan_is_made d t u e s v p shared wide long many made =
     let enough : 2 * u - 1 ≤ t = omega (arith, shared.enough) in
     rw (le-ltb t (2 * u - 1) enough)
     (ap Ok (sym (made ∙ ap (λ x. time_tree x s v) wide ∙ ap (λ x. time_tree d x v) long ∙ ap (λ x. time_tree d t x) many)))
-
-pub ruleset rulings = (plan_is_time_tree)
-
-pub ruleset plans = (lattice_known)

@@ -39,7 +39,6 @@ impl Draws {
     }
 
     /// The next number, from 0 to 1,048,575: the upper 20 bits of the next state.
-    #[tactic(auto, using(crate::proofs::Hits::states))]
     fn next_number(&mut self) -> u64
         ensures state { self.new ≡ next_state self.old }
         ensures number { result ≡ drawn_after self.old 0 }
@@ -50,7 +49,6 @@ impl Draws {
 }
 
 /// Turns the flag of a vertex round.
-#[tactic(auto, using(crate::proofs::Hits::turns))]
 fn turn(flags: &mut Vec<bool>, v: u32)
     requires { v < vec_len flags.old }
     ensures len { vec_len flags.new ≡ vec_len flags.old }
@@ -95,7 +93,6 @@ fn is_real_flagged(graph: &Graph, flags: &[bool], v: u32) -> bool
 }
 
 /// The real vertices with a flag, rising.
-#[tactic(auto, using(crate::proofs::Hits::kept))]
 fn real_flagged(alloc: Global, graph: &Graph, flags: &[bool]) -> Result<Vec<u32>, NoMemory>
     requires { length flags.now ≡ graph.now.vertices }
     ensures { IfOk result (λ vs. vs.items ≡ filter (λ v. not (is_in graph.now.virtuals v) && get_or flags.now v false)

@@ -94,7 +94,6 @@ impl Parts {
     }
 
     /// Adds the edges and the virtual vertices of a row.
-    #[tactic(auto, using(crate::proofs::Grids::steps))]
     fn push_row(&mut self, size: Size, round: u64, row: u64) -> Result<(), NoMemory>
         requires size { vertex_count size.distance size.rounds ≤ most_vertices }
         requires round { round < size.rounds }
@@ -112,7 +111,6 @@ impl Parts {
     }
 
     /// Adds those of a round.
-    #[tactic(auto, using(crate::proofs::Grids::steps))]
     fn push_round(&mut self, size: Size, round: u64) -> Result<(), NoMemory>
         requires size { vertex_count size.distance size.rounds ≤ most_vertices }
         requires round { round < size.rounds }

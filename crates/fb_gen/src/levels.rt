@@ -23,7 +23,6 @@ pub struct Fusion {
 }
 
 /// The units, each with its own number as that of the seam before it.
-#[tactic(auto, using(crate::proofs::Pairings::first_steps))]
 fn units_in_order(alloc: Global, units: u64) -> Result<Vec<Part>, NoMemory>
     ensures { IfOk result (λ v. v.items ≡ first_level units) }
 {
@@ -69,7 +68,6 @@ fn join_level(
 }
 
 /// All fusions of a plan of `units` units, in the order in which they are made.
-#[tactic(auto, using(crate::proofs::Pairings::turn_steps), unfolding(crate::specs::TimePlan::time_fusions))]
 pub fn all_fusions(alloc: Global, units: u64) -> Result<Vec<Fusion>, NoMemory>
     requires { units ≤ most_units }
     ensures { IfOk result (λ v. v.items ≡ time_fusions units) }

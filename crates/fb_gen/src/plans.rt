@@ -86,7 +86,6 @@ impl Sharing {
     }
 
     /// The ranges of each unit.
-    #[tactic(auto, using(crate::proofs::Rounds::ranges))]
     fn unit_ranges(self, alloc: Global, firsts: &[u64]) -> Result<Vec<Vec<(u64, u64)>>, NoMemory>
         requires shared { IsShared self.rounds self.units }
         requires vertices { vertex_count self.distance self.rounds ≤ most_vertices }
@@ -145,7 +144,6 @@ impl Sharing {
     }
 
     /// The plan of these ranges and joins, which breaks no rule.
-    #[tactic(auto, using(crate::proofs::Rulings::rulings))]
     fn plan(
         self,
         alloc: Global,
@@ -213,7 +211,6 @@ impl Sharing {
 /// The plan of a lattice by time: `units` runs of rounds with one round between two of them, which are joined two and
 /// two, level by level, by the rounds between them. A run is as long as another or one round longer, the longer ones
 /// first. The graph is the lattice of this distance and number of rounds; a plan has 1 to 4,096 units.
-#[tactic(auto, using(crate::proofs::Rulings::plans))]
 pub fn time_plan(
     alloc: Global,
     graph: &Graph,

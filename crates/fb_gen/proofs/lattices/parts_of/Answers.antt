@@ -1,17 +1,15 @@
-use Rattle.std.proofs.Common.{◌∙◌, ap, sym, ◌++◌, arith}
+use Rattle.std.proofs.Common.{◌∙◌, [], ap, arith}
 use Rattle.std.specs.List.{flat_map, range_with_len}
 use Rattle.fb_gen.specs.Lattice.{edges_of_round, lattice_edges, lattice_virtuals, virtuals_of_round}
-use Rattle.fb_gen.proofs.Grids.{flat_map-range_more}
+use Rattle.fb_gen.proofs.Grids.{piece_added}
 use Rattle.fb_gen.proofs.lattices.parts_of.Goals as goal
 
 pub loop-round-preserved : goal.loop-round-preserved
 loop-round-preserved c = (
-  c.in_ok-push_round.ensures.edges
-      ∙ ap (λ xs. xs ++ edges_of_round c.args.size.distance c.args.size.rounds c.loop-round.round) c.loop-round.invariant.0
-      ∙ sym (flat_map-range_more (edges_of_round c.args.size.distance c.args.size.rounds) c.loop-round.round),
-  c.in_ok-push_round.ensures.virtuals
-      ∙ ap (λ xs. xs ++ virtuals_of_round c.args.size.distance c.loop-round.round) c.loop-round.invariant.1
-      ∙ sym (flat_map-range_more (virtuals_of_round c.args.size.distance) c.loop-round.round),
+  piece_added [] _ _ (edges_of_round c.args.size.distance c.args.size.rounds) c.loop-round.round
+      c.loop-round.invariant.0 c.in_ok-push_round.ensures.edges,
+  piece_added [] _ _ (virtuals_of_round c.args.size.distance) c.loop-round.round
+      c.loop-round.invariant.1 c.in_ok-push_round.ensures.virtuals,
 )
 
 pub returns-clause-edges : goal.returns-clause-edges

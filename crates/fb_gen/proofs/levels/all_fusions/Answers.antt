@@ -1,6 +1,6 @@
 use Rattle.std.proofs.Common.{◌≤◌, ◌≡◌, ◌+◌, ◌++◌, ◌∙◌, ap, length, arith}
 use Rattle.fb_gen.specs.TimePlan.{fusions_of_level, level_above}
-use Rattle.fb_gen.proofs.Pairings.{turn_begins, turn_ends, turn_more}
+use Rattle.fb_gen.proofs.Pairings.{turn_begins, turn_ends, turn_more, turns_over}
 use Rattle.fb_gen.proofs.levels.all_fusions.Goals as goal
 
 pub loop-turn-init : goal.loop-turn-init
@@ -21,3 +21,6 @@ loop-turn-preserved c =
     (c.in_ok-above.ensures.above
     ∙ ap (λ xs. level_above (c.args.units + c.len-in-loop-turn.result) xs) c.deref.ensures.value)
     c.loop-turn.invariant.0 c.loop-turn.invariant.1
+
+pub returns : goal.returns
+returns c = turns_over _ _ _ _ (omega arith) c.loop-turn.invariant.1
