@@ -1,6 +1,6 @@
-use Rattle.std.proofs.Common.{◌≡◌, ◌∙◌, List, ℕ, length, map, ap, sym, subst, arith}
+use Rattle.std.proofs.Common.{◌≡◌, ◌∙◌, ◌++◌, ◌∷◌, [], List, ℕ, get_or, length, map, ap, sym, subst, arith}
 use Rattle.std.specs.List.Sorted.{IsPermutation}
-use Rattle.std.proofs.lemmas.List.{take_all}
+use Rattle.std.proofs.lemmas.List.{map_more, take_all}
 use Rattle.std.proofs.lemmas.List.Sorted.{IsPermutation-map}
 use Rattle.fb_fuse.specs.declared.fusing.Root.{Root}
 use Rattle.fb_fuse.proofs.fusing.roots_of.Goals as goal
@@ -19,3 +19,11 @@ returns c =
     subst (IsPermutation unmatched) (sym to)
     (subst (λ xs. IsPermutation xs (map node sorted)) from
     (IsPermutation-map node c.loop-node.found.items sorted c.sort_unstable_by_key.ensures.permutation))
+
+pub loop-root-preserved : goal.loop-root-preserved
+loop-root-preserved c =
+    let none : Root = record { node = 0; vertex = 0 } in
+    let sorted : List Root = c.deref-root-items.result.now in
+    c.in_ok-push-2.ensures.items
+    ∙ (ap (λ l. l ++ (get_or sorted c.loop-root.root-index none).node ∷ []) c.loop-root.invariant
+    ∙ sym (map_more (λ (r : Root). r.node) sorted c.loop-root.root-index none c.loop-root-test.true))
