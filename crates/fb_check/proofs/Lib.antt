@@ -1,3 +1,4 @@
+pub mod AtFiles
 pub mod Lines
 pub mod Checked
 pub mod Reported

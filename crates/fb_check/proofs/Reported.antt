@@ -3,13 +3,7 @@ use Rattle.std.proofs.Common.{◌≡◌, ℕ, ◌<◌, List, length, Err}
 use Rattle.std.proofs.lemmas.Bool.{cond-true, lt-ltb}
 use Rattle.fb_verify.specs.Reports.{most_bytes, report_of_text}
 use Rattle.fb_verify.specs.declared.report_faults.ReportFault.TheVariants.{TooLong}
-use Rattle.fb_check.specs.CheckEndings.{IsNoReport}
-use Rattle.fb_inputs.specs.Judging.{Holds, Named}
-use Rattle.fb_inputs.proofs.Lists.{holds_more}
 
-too_long : (text : List ℕ) → most_bytes < length text → report_of_text text ≡ Err TooLong
+pub too_long : (text : List ℕ) → most_bytes < length text → report_of_text text ≡ Err TooLong
 unfolding report_of_text
 too_long text long = cond-true _ _ _ (lt-ltb most_bytes (length text) long)
-
-pub no_report : (named : Named) (name : List ℕ) → Holds named name (λ text. most_bytes < length text) → Holds named name (IsNoReport TooLong)
-no_report named name held = holds_more named name (λ text. most_bytes < length text) (IsNoReport TooLong) too_long held

@@ -15,10 +15,11 @@ ghost use Rattle.fb_inputs.specs.Moments.{moment};
 ghost use Rattle.fb_words.specs.PlainRequests.{plain_checking};
 
 use crate::check_text::{put_check_head, put_check_last, put_verdict};
+use crate::file_causes::{cause_of_report, graph_or_cause};
 use fb_endings::{Cause, Refusal};
 use fb_graph::{Graph, NoMemory, Row, Shot};
-use fb_inputs::{FileFault, MOST_SHOTS, Outbox, RowsFault, ShotsEnd, read_graph_file, read_named};
-use fb_ports::{Files, ReadError, Sink};
+use fb_inputs::{FileFault, MOST_SHOTS, Outbox, RowsFault, ShotsEnd, read_named};
+use fb_ports::{Files, Sink};
 use fb_shots::{Format, ShotStream, Step};
 use fb_verify::{Judge, MOST_REPORT_BYTES, Report, ReportFault, read_report};
 use fb_words::Checking;
@@ -48,17 +49,14 @@ fn read_report_file<F: Files>(
     ensures refused { IfErr result (IfRefused (λ fault. Holds (F.named files.old) name.now (IsNoReport fault))) }
     ensures fault { IsErrOf result FileFault.ReadFault → Rose (F.faults files.old) (F.faults files.new) }
     ensures never_falls { F.faults files.old ≤ F.faults files.new }
+    ensures reported { F.faults files.old < F.faults files.new → IsErrOf result FileFault.ReadFault }
     ensures unchanged { result ≢ Err FileFault.ReadFault → F.faults files.new ≡ F.faults files.old }
 {
-    match read_named(alloc, files, name, MOST_REPORT_BYTES) {
-        Ok(text) => match read_report(alloc, &text) {
-            Ok(report) => Ok(report),
-            Err(ReportFault::NoMemory) => Err(FileFault::NoMemory),
-            Err(fault) => Err(FileFault::Refused(fault)),
-        },
-        Err(ReadError::TooLong) => Err(FileFault::Refused(ReportFault::TooLong)),
-        Err(ReadError::ReadFault) => Err(FileFault::ReadFault),
-        Err(ReadError::NoMemory) => Err(FileFault::NoMemory),
+    let text = read_named(alloc, files, name, MOST_REPORT_BYTES, ReportFault::TooLong)?;
+    match read_report(alloc, &text) {
+        Ok(report) => Ok(report),
+        Err(ReportFault::NoMemory) => Err(FileFault::NoMemory),
+        Err(fault) => Err(FileFault::Refused(fault)),
     }
 }
 
@@ -82,11 +80,9 @@ pub fn check<F: Files, O: Sink>(
     ensures write_never_falls { O.faults out.old ≤ O.faults out.new }
     ensures write_unchanged { result ≢ Cause.WriteFault → O.faults out.new ≡ O.faults out.old }
 {
-    match read_graph_file(alloc, files, request.graph) {
+    match graph_or_cause(alloc, files, request.graph) {
         Ok(graph) => check_report(alloc, request, &graph, files, out),
-        Err(FileFault::Refused(fault)) => Cause::Refused(Refusal::Graph(fault)),
-        Err(FileFault::ReadFault) => Cause::ReadFault,
-        Err(FileFault::NoMemory) => Cause::NoMemory,
+        Err(cause) => cause,
     }
 }
 
@@ -112,9 +108,7 @@ fn check_report<F: Files, O: Sink>(
 {
     match read_report_file(alloc, files, request.report) {
         Ok(report) => check_rows(alloc, request, graph, report.rows.as_slice(), files, out),
-        Err(FileFault::Refused(fault)) => Cause::Refused(Refusal::Report(fault)),
-        Err(FileFault::ReadFault) => Cause::ReadFault,
-        Err(FileFault::NoMemory) => Cause::NoMemory,
+        Err(fault) => cause_of_report(fault),
     }
 }
 

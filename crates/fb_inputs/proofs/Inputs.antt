@@ -23,3 +23,7 @@ asks_same (Some names) new same = same ∙ ap Some (sym (append-nil names))
 -- no further name was asked for
 pub asks_kept : (old mid new : Option (List (List ℕ))) (name : List ℕ) → GainsIfKnown old mid name → new ≡ mid → Asks old new (name ∷ [])
 asks_kept old mid new name known same = subst (λ (asked : Option (List (List ℕ))). Asks old asked (name ∷ [])) (sym same) (asks_one old mid name known)
+
+-- one name was asked for, and then no other
+pub asks_prefix_kept : (old mid new : Option (List (List ℕ))) (name : List ℕ) → GainsIfKnown old mid name → new ≡ mid → AsksPrefix old new (name ∷ [])
+asks_prefix_kept old mid new name known same = (name ∷ [], [], refl, asks_kept old mid new name known same)

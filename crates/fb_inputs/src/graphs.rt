@@ -11,33 +11,39 @@ use fb_json::MOST_TEXT_BYTES;
 use fb_ports::{Files, ReadError, read_whole};
 use std::alloc::Global;
 
-/// The bytes of the named file. Returns an error if there are more than `limit`.
-pub fn read_named<F: Files>(
+/// The bytes of the named file. If there are more than `limit`, they are refused as `too_long`.
+pub fn read_named<F: Files, E: Copy>(
     alloc: Global,
     files: &mut F,
     name: &str,
     limit: usize,
-) -> Result<Vec<u8>, ReadError>
+    too_long: E,
+) -> Result<Vec<u8>, FileFault<E>>
     requires few { limit < 2 ^ 32 }
     requires room { HasRoom (F.asked files.old) 16 }
     ensures asks { AsksPrefix (F.asked files.old) (F.asked files.new) (name.now ∷ []) }
-    ensures asked { result ≢ Err ReadError.NoMemory → Asks (F.asked files.old) (F.asked files.new) (name.now ∷ []) }
+    ensures asked { result ≢ Err FileFault.NoMemory → Asks (F.asked files.old) (F.asked files.new) (name.now ∷ []) }
     ensures names { F.named files.new ≡ F.named files.old }
     ensures bytes { IfOk result (λ v. Holds (F.named files.old) name.now (λ text. text ≡ v.items)) }
     ensures short { IfOk result (λ v. length v.items ≤ limit) }
-    ensures long { IsErrOf result ReadError.TooLong → Holds (F.named files.old) name.now (λ text. limit < length text) }
-    ensures fault { IsErrOf result ReadError.ReadFault → Rose (F.faults files.old) (F.faults files.new) }
+    ensures refused { IfErr result (IfRefused (λ fault. (fault ≡ too_long) × Holds (F.named files.old) name.now (λ text. limit < length text))) }
+    ensures fault { IsErrOf result FileFault.ReadFault → Rose (F.faults files.old) (F.faults files.new) }
     ensures never_falls { F.faults files.old ≤ F.faults files.new }
-    ensures reported { F.faults files.old < F.faults files.new → IsErrOf result ReadError.ReadFault }
-    ensures unchanged { result ≢ Err ReadError.ReadFault → F.faults files.new ≡ F.faults files.old }
+    ensures reported { F.faults files.old < F.faults files.new → IsErrOf result FileFault.ReadFault }
+    ensures unchanged { result ≢ Err FileFault.ReadFault → F.faults files.new ≡ F.faults files.old }
 {
     let Ok(name) = String::from_str(alloc, name) else {
-        return Err(ReadError::NoMemory);
+        return Err(FileFault::NoMemory);
     };
     if files.open_file(name).is_err() {
-        return Err(ReadError::ReadFault);
+        return Err(FileFault::ReadFault);
     }
-    read_whole(alloc, files, limit)
+    match read_whole(alloc, files, limit) {
+        Ok(text) => Ok(text),
+        Err(ReadError::TooLong) => Err(FileFault::Refused(too_long)),
+        Err(ReadError::ReadFault) => Err(FileFault::ReadFault),
+        Err(ReadError::NoMemory) => Err(FileFault::NoMemory),
+    }
 }
 
 /// The graph of the named file.
@@ -57,14 +63,10 @@ pub fn read_graph_file<F: Files>(
     ensures reported { F.faults files.old < F.faults files.new → IsErrOf result FileFault.ReadFault }
     ensures unchanged { result ≢ Err FileFault.ReadFault → F.faults files.new ≡ F.faults files.old }
 {
-    match read_named(alloc, files, name, MOST_TEXT_BYTES) {
-        Ok(text) => match read_graph(alloc, &text) {
-            Ok(graph) => Ok(graph),
-            Err(TextFault::NoMemory) => Err(FileFault::NoMemory),
-            Err(fault) => Err(FileFault::Refused(fault)),
-        },
-        Err(ReadError::TooLong) => Err(FileFault::Refused(TextFault::TooLong)),
-        Err(ReadError::ReadFault) => Err(FileFault::ReadFault),
-        Err(ReadError::NoMemory) => Err(FileFault::NoMemory),
+    let text = read_named(alloc, files, name, MOST_TEXT_BYTES, TextFault::TooLong)?;
+    match read_graph(alloc, &text) {
+        Ok(graph) => Ok(graph),
+        Err(TextFault::NoMemory) => Err(FileFault::NoMemory),
+        Err(fault) => Err(FileFault::Refused(fault)),
     }
 }

@@ -11,7 +11,7 @@ use fb_graph::Graph;
 use fb_json::MOST_TEXT_BYTES;
 use fb_plan::{Plan, PlanFault};
 use fb_plan_in::read_plan;
-use fb_ports::{Files, ReadError};
+use fb_ports::Files;
 use std::alloc::Global;
 
 /// The plan of the graph in the named file.
@@ -33,14 +33,10 @@ pub fn read_plan_file<F: Files>(
     ensures reported { F.faults files.old < F.faults files.new → IsErrOf result FileFault.ReadFault }
     ensures unchanged { result ≢ Err FileFault.ReadFault → F.faults files.new ≡ F.faults files.old }
 {
-    match read_named(alloc, files, name, MOST_TEXT_BYTES) {
-        Ok(text) => match read_plan(alloc, &text, graph) {
-            Ok(plan) => Ok(plan),
-            Err(PlanFault::NoMemory) => Err(FileFault::NoMemory),
-            Err(fault) => Err(FileFault::Refused(fault)),
-        },
-        Err(ReadError::TooLong) => Err(FileFault::Refused(PlanFault::TooLong)),
-        Err(ReadError::ReadFault) => Err(FileFault::ReadFault),
-        Err(ReadError::NoMemory) => Err(FileFault::NoMemory),
+    let text = read_named(alloc, files, name, MOST_TEXT_BYTES, PlanFault::TooLong)?;
+    match read_plan(alloc, &text, graph) {
+        Ok(plan) => Ok(plan),
+        Err(PlanFault::NoMemory) => Err(FileFault::NoMemory),
+        Err(fault) => Err(FileFault::Refused(fault)),
     }
 }

@@ -12,10 +12,11 @@ ghost use Rattle.fb_words.specs.Ranges.{IsWithin, windows, workers};
 ghost use Rattle.fb_words.specs.PlainRequests.{plain_decoding};
 
 use crate::batches::{Decoded, decode_file};
+use fb_check::{cause_of_plan, graph_or_cause};
 use fb_crew::{Crew, Gate};
 use fb_endings::{Cause, Refusal};
 use fb_graph::Graph;
-use fb_inputs::{FileFault, RowsFault, ShotsEnd, read_graph_file, read_plan_file};
+use fb_inputs::{RowsFault, ShotsEnd, read_plan_file};
 use fb_plan::Plan;
 use fb_ports::{Files, Sink};
 use fb_report::{write_done, write_head};
@@ -48,11 +49,9 @@ pub fn decode<F: Files, O: Sink, G: Gate, R: Threads + Wait + Sync>(
     ensures write_never_falls { O.faults out.old ≤ O.faults out.new }
     ensures write_unchanged { result ≢ Cause.WriteFault → O.faults out.new ≡ O.faults out.old }
 {
-    match read_graph_file(alloc, files, request.graph) {
+    match graph_or_cause(alloc, files, request.graph) {
         Ok(graph) => decode_on(rt, alloc, request, &graph, files, out, gate),
-        Err(FileFault::Refused(fault)) => Cause::Refused(Refusal::Graph(fault)),
-        Err(FileFault::ReadFault) => Cause::ReadFault,
-        Err(FileFault::NoMemory) => Cause::NoMemory,
+        Err(cause) => cause,
     }
 }
 
@@ -88,9 +87,7 @@ fn decode_on<F: Files, O: Sink, G: Gate, R: Threads + Wait + Sync>(
     };
     match read_plan_file(alloc, files, name, graph) {
         Ok(plan) => decode_by(rt, alloc, request, graph, &plan, files, out, gate),
-        Err(FileFault::Refused(fault)) => Cause::Refused(Refusal::Plan(fault)),
-        Err(FileFault::ReadFault) => Cause::ReadFault,
-        Err(FileFault::NoMemory) => Cause::NoMemory,
+        Err(fault) => cause_of_plan(fault),
     }
 }
 

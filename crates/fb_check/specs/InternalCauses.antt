@@ -1,0 +1,12 @@
+-- How a command ends for which nothing could be made of a file.
+use Rattle.fb_endings.specs.declared.ending.Cause.{Cause}
+use Rattle.fb_endings.specs.declared.ending.Cause.TheVariants.{NoMemory, ReadFault, Refused}
+use Rattle.fb_endings.specs.declared.ending.Refusal.{Refusal}
+use Rattle.fb_inputs.specs.declared.fault.FileFault.{FileFault}
+use Rattle.fb_inputs.specs.declared.fault.FileFault.TheVariants as file_fault
+
+-- the cause, where this is what a refused text is called
+abbrev pub cause_at_file : {E : Type 0} → (E → Refusal) → FileFault E → Cause
+cause_at_file refusal (file_fault.Refused fault) = Refused (refusal fault)
+cause_at_file refusal file_fault.ReadFault = ReadFault
+cause_at_file refusal file_fault.NoMemory = NoMemory

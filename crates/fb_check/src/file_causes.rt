@@ -1,0 +1,73 @@
+//! How a command ends for which nothing could be made of a named file.
+
+ghost use Rattle.std.specs.Prelude.{◌≡◌, ◌≢◌, ◌<◌, ◌≤◌, [], ◌∷◌, ℕ, List, Option, IfOk, IfErr, OnOk};
+ghost use Rattle.fb_ports.specs.Causes.{HasRoom, Rose};
+ghost use Rattle.fb_check.specs.Ends.{EndsAtFile, IsGraphRefusal, IsReadToItsEnd, MayFollowReadFault};
+ghost use Rattle.fb_check.specs.InternalCauses.{cause_at_file};
+ghost use Rattle.fb_inputs.specs.Judging.{Asks, Holds, IsGraphText};
+ghost use Rattle.fb_inputs.specs.Moments.{moment};
+ghost use Rattle.fb_endings.specs.declared.ending.Refusal.TheVariants as refusal;
+
+use fb_endings::{Cause, Refusal};
+use fb_graph::Graph;
+use fb_graph_in::TextFault;
+use fb_inputs::{FileFault, read_graph_file};
+use fb_plan::PlanFault;
+use fb_ports::Files;
+use fb_verify::ReportFault;
+use std::alloc::Global;
+
+/// The graph of the named file, or how a command ends that needs it.
+pub fn graph_or_cause<F: Files>(alloc: Global, files: &mut F, name: &str) -> Result<Graph, Cause>
+    requires { HasRoom (F.asked files.old) 16 }
+    ensures names { F.named files.new ≡ F.named files.old }
+    ensures graph { IfOk result (λ g. Holds (F.named files.old) name.now (IsGraphText g)) }
+    ensures asked { OnOk result (Asks (F.asked files.old) (F.asked files.new) (name.now ∷ [])) }
+    ensures unfailing { OnOk result (F.faults files.new ≡ F.faults files.old) }
+    ensures ends { IfErr result (λ cause. (written : Option (List ℕ)) → EndsAtFile (IsGraphRefusal (F.named files.old) name.now) name.now
+        (moment (F.named files.old) (F.left files.old) (F.asked files.old) (F.faults files.old) written)
+        (moment (F.named files.new) (F.left files.new) (F.asked files.new) (F.faults files.new) written) cause) }
+    ensures early { IfErr result (λ cause. IsReadToItsEnd cause → ⊥) }
+    ensures read_fault { IfErr result (λ cause. cause ≡ Cause.ReadFault → Rose (F.faults files.old) (F.faults files.new)) }
+    ensures read_never_falls { F.faults files.old ≤ F.faults files.new }
+    ensures read_reported { IfErr result (λ cause. F.faults files.old < F.faults files.new → MayFollowReadFault cause) }
+    ensures unwritten { IfErr result (λ cause. cause ≢ Cause.WriteFault) }
+{
+    match read_graph_file(alloc, files, name) {
+        Ok(graph) => Ok(graph),
+        Err(fault) => Err(cause_of_graph(fault)),
+    }
+}
+
+/// How it ends at the file of a graph.
+fn cause_of_graph(fault: FileFault<TextFault>) -> Cause
+    ensures { result ≡ cause_at_file refusal.Graph fault }
+{
+    match fault {
+        FileFault::Refused(fault) => Cause::Refused(Refusal::Graph(fault)),
+        FileFault::ReadFault => Cause::ReadFault,
+        FileFault::NoMemory => Cause::NoMemory,
+    }
+}
+
+/// How it ends at the file of a plan.
+pub fn cause_of_plan(fault: FileFault<PlanFault>) -> Cause
+    ensures { result ≡ cause_at_file refusal.Plan fault }
+{
+    match fault {
+        FileFault::Refused(fault) => Cause::Refused(Refusal::Plan(fault)),
+        FileFault::ReadFault => Cause::ReadFault,
+        FileFault::NoMemory => Cause::NoMemory,
+    }
+}
+
+/// How it ends at the file of a report.
+pub(crate) fn cause_of_report(fault: FileFault<ReportFault>) -> Cause
+    ensures { result ≡ cause_at_file refusal.Report fault }
+{
+    match fault {
+        FileFault::Refused(fault) => Cause::Refused(Refusal::Report(fault)),
+        FileFault::ReadFault => Cause::ReadFault,
+        FileFault::NoMemory => Cause::NoMemory,
+    }
+}
