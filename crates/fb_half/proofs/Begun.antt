@@ -1,5 +1,5 @@
 -- The nodes of a part that begins: each defect a leaf with the name at its place.
-use Rattle.std.proofs.Common.{ℕ, zero, suc, ◌≡◌, ◌≢◌, ◌+◌, ◌<◌, get_or, take, ◌==◌, ◌&&◌, ◌||◌, Bool, true, false, cond, List, [], ◌∷◌, ◌++◌, map, length, All, Option, Some, None, is_some, option_map, arith, refl, sym, ap, ◌∙◌, subst, length-append, if◌then◌else◌}
+use Rattle.std.proofs.Common.{ℕ, ◌≡◌, ◌≢◌, ◌+◌, ◌==◌, ◌&&◌, ◌||◌, Bool, true, false, cond, List, [], ◌∷◌, ◌++◌, map, length, All, Option, Some, None, is_some, option_map, arith, refl, sym, ap, ◌∙◌, subst, length-append, if◌then◌else◌}
 use Rattle.std.proofs.Math.Bool.{or-false}
 use Rattle.std.specs.List.{find}
 use Rattle.std.proofs.lemmas.Bool.{both_ways, eqb-true, eq-eqb, or_right, or_parts, and_right}
@@ -13,7 +13,6 @@ use Rattle.fb_blossoms.specs.Nodes as blossoms
 use Rattle.fb_half.specs.Beginnings.{leaves_by}
 use Rattle.fb_half.specs.InternalBeginnings.{IsStarted, leaf_at}
 use Rattle.fb_half.specs.Matchings.{MatchingValue, listed_names, matched_names}
-use Rattle.fb_half.proofs.Lookups.{in_at}
 
 abbrev pub singles_by : List ℕ → List ℕ → List Single
 singles_by [] defects = []

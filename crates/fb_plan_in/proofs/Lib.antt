@@ -1,3 +1,4 @@
+pub mod FaultyEntries
 pub mod Pairs
 pub mod Readings
 pub mod Rulings

@@ -2,3 +2,5 @@ pub mod PassedRows
 pub mod Commands
 pub mod Numbers
 pub mod Builders
+pub mod RefusedFormats
+pub mod TextOptions

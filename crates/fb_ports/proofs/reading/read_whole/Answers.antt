@@ -2,6 +2,15 @@ use Rattle.std.proofs.Common.{arith, refl}
 use Rattle.std.proofs.lemmas.Grind.{common_steps}
 use Rattle.fb_ports.proofs.reading.read_whole.Goals as goal
 
+pub returns-in_default-read_at_most-clause-bytes : goal.returns-in_default-read_at_most-clause-bytes
+returns-in_default-read_at_most-clause-bytes g c = tt
+
+pub returns-in_default-read_at_most-clause-short : goal.returns-in_default-read_at_most-clause-short
+returns-in_default-read_at_most-clause-short g c = tt
+
+pub returns-in_default-read_at_most-clause-end : goal.returns-in_default-read_at_most-clause-end
+returns-in_default-read_at_most-clause-end g c = tt
+
 pub returns-in_default-read_at_most-clause-reported : goal.returns-in_default-read_at_most-clause-reported
 returns-in_default-read_at_most-clause-reported g c = λ rises. refl
 

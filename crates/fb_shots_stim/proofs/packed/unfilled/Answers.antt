@@ -14,6 +14,9 @@ returns-then-finished-2-clause-refused c =
     let any : 0 < c.args.detectors = omega arith in
     short_end c.args.detectors c.args.rest.now c.args.finished any (omega arith) (c.requires any) c.if-finished-2.true
 
+pub returns-then-finished-2-clause-ok : goal.returns-then-finished-2-clause-ok
+returns-then-finished-2-clause-ok c = tt
+
 pub returns-else-finished-2-clause-ok : goal.returns-else-finished-2-clause-ok
 returns-else-finished-2-clause-ok c =
     let any : 0 < c.args.detectors = omega arith in

@@ -99,7 +99,7 @@ pub returns-clause-not_yet : goal.returns-clause-not_yet
 returns-clause-not_yet c =
     let i = c.self.invariant in
     let e : (c.self.inside.unsolved == 0) ≡ false = search rules in
-    let more : length c.self.inside.statuses.items ≤ c.self.inside.next = search rules in
+    let more : length c.self.inside.statuses.items ≤ c.self.inside.next = rw c.as_slice-2.ensures.value at c.if-place-as_slice.false in
     λ _. (
       c.self.view_is,
       subst MustWait c.self.view_is

@@ -14,3 +14,6 @@ invariant_of-result c = let shot = is_shot c in (shot.rising, length-shot c.args
 
 pub returns-clause-shot : goal.returns-clause-shot
 returns-clause-shot c = is_shot c
+
+pub returns-clause-members : goal.returns-clause-members
+returns-clause-members c = rw c.from_vec.ensures c.sort.ensures.permutation

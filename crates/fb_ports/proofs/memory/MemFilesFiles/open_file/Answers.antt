@@ -8,5 +8,8 @@ unreachable-requires c = grind (arith, common_steps)
 pub returns-then-is_none-clause-asks : goal.returns-then-is_none-clause-asks
 returns-then-is_none-clause-asks c = grind (arith, common_steps)
 
+pub returns-then-is_none-clause-cause : goal.returns-then-is_none-clause-cause
+returns-then-is_none-clause-cause c = rw (← c.self.view_is) (omega arith, omega arith)
+
 pub returns-clause-asks : goal.returns-clause-asks
 returns-clause-asks c = grind (arith, common_steps)
