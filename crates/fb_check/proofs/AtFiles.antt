@@ -1,4 +1,4 @@
--- What holds of a command that ends at a file of which nothing could be made.
+-- What holds of a command that ends because a file can't be used.
 use Rattle.std.proofs.Common.{◌≡◌, ℕ, List, [], ◌∷◌, Result, Err}
 use Rattle.fb_ports.specs.Causes.{Appends, Rose}
 use Rattle.fb_inputs.specs.Judging.{Asks, AsksPrefix, IfRefused}

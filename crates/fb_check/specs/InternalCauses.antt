@@ -1,4 +1,4 @@
--- How a command ends for which nothing could be made of a file.
+-- How a command ends if a file that it needs can't be used.
 use Rattle.fb_endings.specs.declared.ending.Cause.{Cause}
 use Rattle.fb_endings.specs.declared.ending.Cause.TheVariants.{NoMemory, ReadFault, Refused}
 use Rattle.fb_endings.specs.declared.ending.Refusal.{Refusal}

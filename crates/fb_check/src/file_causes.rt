@@ -1,4 +1,4 @@
-//! How a command ends for which nothing could be made of a named file.
+//! How a command ends if a file that it needs can't be used.
 
 ghost use Rattle.std.specs.Prelude.{◌≡◌, ◌≢◌, ◌<◌, ◌≤◌, [], ◌∷◌, ℕ, List, Option, IfOk, IfErr, OnOk};
 ghost use Rattle.fb_ports.specs.Causes.{HasRoom, Rose};
@@ -17,7 +17,8 @@ use fb_ports::Files;
 use fb_verify::ReportFault;
 use std::alloc::Global;
 
-/// The graph of the named file, or how a command ends that needs it.
+/// The graph of the named file. Returns an error if its text is refused, it can't be opened or read, or memory runs out: the
+/// cause with which a command ends that needs the graph.
 pub fn graph_or_cause<F: Files>(alloc: Global, files: &mut F, name: &str) -> Result<Graph, Cause>
     requires { HasRoom (F.asked files.old) 16 }
     ensures names { F.named files.new ≡ F.named files.old }
@@ -39,7 +40,7 @@ pub fn graph_or_cause<F: Files>(alloc: Global, files: &mut F, name: &str) -> Res
     }
 }
 
-/// How it ends at the file of a graph.
+/// The cause of a command's end, by the fault of its graph's file.
 fn cause_of_graph(fault: FileFault<TextFault>) -> Cause
     ensures { result ≡ cause_at_file refusal.Graph fault }
 {
@@ -50,7 +51,7 @@ fn cause_of_graph(fault: FileFault<TextFault>) -> Cause
     }
 }
 
-/// How it ends at the file of a plan.
+/// The cause of a command's end, by the fault of its plan's file.
 pub fn cause_of_plan(fault: FileFault<PlanFault>) -> Cause
     ensures { result ≡ cause_at_file refusal.Plan fault }
 {
@@ -61,7 +62,7 @@ pub fn cause_of_plan(fault: FileFault<PlanFault>) -> Cause
     }
 }
 
-/// How it ends at the file of a report.
+/// The cause of a command's end, by the fault of its report's file.
 pub(crate) fn cause_of_report(fault: FileFault<ReportFault>) -> Cause
     ensures { result ≡ cause_at_file refusal.Report fault }
 {

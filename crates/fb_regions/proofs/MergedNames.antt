@@ -5,7 +5,7 @@ use Rattle.fb_graph.proofs.NestParts.{map_agree}
 use Rattle.fb_graph.proofs.Sets.{All-from_is_in}
 use Rattle.fb_regions.specs.declared.marks.Mark.{Mark}
 use Rattle.fb_regions.specs.declared.region.Region.{Region}
-use Rattle.fb_regions.specs.InternalMerged.{AreMarksOver, mark_over, renamed_mark, renamed_region}
+use Rattle.fb_regions.specs.InternalMerged.{AreMarksOver, mark_over, renamed_region}
 use Rattle.fb_regions.specs.InternalNodes.{mark_of}
 
 module _ (f g : ℕ → ℕ) (same : (a : ℕ) → f a ≡ g a) where

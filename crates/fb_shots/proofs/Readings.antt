@@ -1,5 +1,5 @@
 -- The answers of the readers of the formats, seen alike.
-use Rattle.std.proofs.Common.{◌≡◌, ℕ, ◌<◌, List, ◌++◌, Bool, length, All, refl, sym, ap, subst, ◌∙◌}
+use Rattle.std.proofs.Common.{◌≡◌, ℕ, ◌<◌, List, ◌++◌, Bool, length, All, sym, ap, subst, ◌∙◌}
 use Rattle.fb_graph.specs.Limits.{DecodingGraph, IsShot, ShotValue, detectors_of}
 use Rattle.fb_records.specs.declared.answer.Next.{Next}
 use Rattle.fb_records.specs.declared.answer.Next.TheVariants as next

@@ -10,6 +10,7 @@ use fb_regions::{Regions, Step, Walk};
 use std::alloc::Global;
 
 /// Makes the link over a tight edge between two outer nodes, along the source walks of its ends, and returns its number.
+/// Returns an error if memory runs out; no link is made then.
 pub fn link_between<S: Scope>(
     alloc: Global,
     regions: &Regions<S>,
@@ -25,7 +26,7 @@ pub fn link_between<S: Scope>(
 }
 
 /// Makes the link over a tight edge from an outer node to the boundary, along the source walk of its inner end, and returns
-/// its number.
+/// its number. Returns an error if memory runs out; no link is made then.
 pub fn link_out<S: Scope>(
     alloc: Global,
     regions: &Regions<S>,

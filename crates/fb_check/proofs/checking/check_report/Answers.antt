@@ -22,9 +22,12 @@ returns-in-Ok-clause-ends g c = inr (record {
 
 pub returns-in-Err-clause-ends : goal.returns-in-Err-clause-ends
 returns-in-Err-clause-ends g c = rw c.cause_of_report.ensures (inl (ends_at_file refusal.Report _ _
-    (moment (g.F.Files.named c.args.files.now) (g.F.Files.left c.args.files.now) (g.F.Files.asked c.args.files.now) (g.F.Files.faults c.args.files.now) (g.O.Sink.taken c.args.out.now))
-    (moment (g.F.Files.named c.read_report_file.new.files) (g.F.Files.left c.read_report_file.new.files) (g.F.Files.asked c.read_report_file.new.files) (g.F.Files.faults c.read_report_file.new.files) (g.O.Sink.taken c.args.out.now))
-    _ c.in-Err.fault refl c.in-Err.ensures.refused c.in-Err.ensures.asks c.in-Err.ensures.asked c.in-Err.ensures.fault c.in-Err.ensures.unchanged (Appends-nil _)))
+    (moment (g.F.Files.named c.args.files.now) (g.F.Files.left c.args.files.now) (g.F.Files.asked c.args.files.now)
+    (g.F.Files.faults c.args.files.now) (g.O.Sink.taken c.args.out.now))
+    (moment (g.F.Files.named c.read_report_file.new.files) (g.F.Files.left c.read_report_file.new.files) (g.F.Files.asked c.read_report_file.new.files)
+    (g.F.Files.faults c.read_report_file.new.files) (g.O.Sink.taken c.args.out.now))
+    _ c.in-Err.fault refl c.in-Err.ensures.refused c.in-Err.ensures.asks c.in-Err.ensures.asked c.in-Err.ensures.fault
+    c.in-Err.ensures.unchanged (Appends-nil _)))
 
 pub returns-in-Err-clause-at_end : goal.returns-in-Err-clause-at_end
 returns-in-Err-clause-at_end g c reads = absurd (not_to_the_end refusal.Report c.in-Err.fault (rw c.cause_of_report.ensures at reads))
@@ -33,7 +36,8 @@ pub returns-in-Err-clause-read_fault : goal.returns-in-Err-clause-read_fault
 returns-in-Err-clause-read_fault g c is = rose_at_file refusal.Report _ _ _ c.in-Err.fault refl c.in-Err.ensures.fault (rw c.cause_of_report.ensures at is)
 
 pub returns-in-Err-clause-read_reported : goal.returns-in-Err-clause-read_reported
-returns-in-Err-clause-read_reported g c rose = rw c.cause_of_report.ensures (reported_at_file refusal.Report _ c.in-Err.fault refl (c.in-Err.ensures.reported rose))
+returns-in-Err-clause-read_reported g c rose = rw c.cause_of_report.ensures
+    (reported_at_file refusal.Report _ c.in-Err.fault refl (c.in-Err.ensures.reported rose))
 
 pub returns-in-Err-clause-write_fault : goal.returns-in-Err-clause-write_fault
 returns-in-Err-clause-write_fault g c is = absurd (not_by_writing refusal.Report c.in-Err.fault (rw c.cause_of_report.ensures at is))

@@ -1,4 +1,4 @@
-use Rattle.std.proofs.Common.{ℕ, ◌≡◌, ◌∙◌, ◌++◌, ◌∷◌, [], List, flat_map, get_or, map, take, sym, ap}
+use Rattle.std.proofs.Common.{ℕ, ◌∙◌, ◌++◌, [], List, flat_map, get_or, map, take, sym, ap}
 use Rattle.std.proofs.lemmas.List.{flat_map_more, take_more}
 use Rattle.fb_links.specs.Table.{walk_at}
 use Rattle.fb_resolve.proofs.rows.edges_of.Goals as goal

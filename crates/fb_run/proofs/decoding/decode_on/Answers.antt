@@ -44,19 +44,27 @@ returns-in-Ok-read_plan_file-clause-ends g c = by_name _ _ _ _ _ _ _ (ap (option
 }))
 
 pub returns-in-Err-read_plan_file-clause-ends : goal.returns-in-Err-read_plan_file-clause-ends
-returns-in-Err-read_plan_file-clause-ends g c = rw c.cause_of_plan.ensures (by_name _ _ _ _ _ _ _ (ap (option_map (λ name. name.now)) c.in-Some.is) (inl (ends_at_file refusal.Plan _ _
-    (moment (g.F.Files.named c.args.files.now) (g.F.Files.left c.args.files.now) (g.F.Files.asked c.args.files.now) (g.F.Files.faults c.args.files.now) (g.O.Sink.taken c.args.out.now))
-    (moment (g.F.Files.named c.read_plan_file.new.files) (g.F.Files.left c.read_plan_file.new.files) (g.F.Files.asked c.read_plan_file.new.files) (g.F.Files.faults c.read_plan_file.new.files) (g.O.Sink.taken c.args.out.now))
-    _ c.in-Err-read_plan_file.fault refl c.in-Err-read_plan_file.ensures.refused c.in-Err-read_plan_file.ensures.asks c.in-Err-read_plan_file.ensures.asked c.in-Err-read_plan_file.ensures.fault c.in-Err-read_plan_file.ensures.unchanged (Appends-nil _))))
+returns-in-Err-read_plan_file-clause-ends g c = rw c.cause_of_plan.ensures (by_name _ _ _ _ _ _ _
+    (ap (option_map (λ name. name.now)) c.in-Some.is) (inl (ends_at_file refusal.Plan _ _
+    (moment (g.F.Files.named c.args.files.now) (g.F.Files.left c.args.files.now) (g.F.Files.asked c.args.files.now)
+    (g.F.Files.faults c.args.files.now) (g.O.Sink.taken c.args.out.now))
+    (moment (g.F.Files.named c.read_plan_file.new.files) (g.F.Files.left c.read_plan_file.new.files) (g.F.Files.asked c.read_plan_file.new.files)
+    (g.F.Files.faults c.read_plan_file.new.files) (g.O.Sink.taken c.args.out.now))
+    _ c.in-Err-read_plan_file.fault refl c.in-Err-read_plan_file.ensures.refused c.in-Err-read_plan_file.ensures.asks
+    c.in-Err-read_plan_file.ensures.asked c.in-Err-read_plan_file.ensures.fault c.in-Err-read_plan_file.ensures.unchanged (Appends-nil _))))
 
 pub returns-in-Err-read_plan_file-clause-at_end : goal.returns-in-Err-read_plan_file-clause-at_end
-returns-in-Err-read_plan_file-clause-at_end g c reads = absurd (not_to_the_end refusal.Plan c.in-Err-read_plan_file.fault (rw c.cause_of_plan.ensures at reads))
+returns-in-Err-read_plan_file-clause-at_end g c reads =
+    absurd (not_to_the_end refusal.Plan c.in-Err-read_plan_file.fault (rw c.cause_of_plan.ensures at reads))
 
 pub returns-in-Err-read_plan_file-clause-read_fault : goal.returns-in-Err-read_plan_file-clause-read_fault
-returns-in-Err-read_plan_file-clause-read_fault g c is = rose_at_file refusal.Plan _ _ _ c.in-Err-read_plan_file.fault refl c.in-Err-read_plan_file.ensures.fault (rw c.cause_of_plan.ensures at is)
+returns-in-Err-read_plan_file-clause-read_fault g c is =
+    rose_at_file refusal.Plan _ _ _ c.in-Err-read_plan_file.fault refl c.in-Err-read_plan_file.ensures.fault (rw c.cause_of_plan.ensures at is)
 
 pub returns-in-Err-read_plan_file-clause-read_reported : goal.returns-in-Err-read_plan_file-clause-read_reported
-returns-in-Err-read_plan_file-clause-read_reported g c rose = rw c.cause_of_plan.ensures (reported_at_file refusal.Plan _ c.in-Err-read_plan_file.fault refl (c.in-Err-read_plan_file.ensures.reported rose))
+returns-in-Err-read_plan_file-clause-read_reported g c rose = rw c.cause_of_plan.ensures
+    (reported_at_file refusal.Plan _ c.in-Err-read_plan_file.fault refl (c.in-Err-read_plan_file.ensures.reported rose))
 
 pub returns-in-Err-read_plan_file-clause-write_fault : goal.returns-in-Err-read_plan_file-clause-write_fault
-returns-in-Err-read_plan_file-clause-write_fault g c is = absurd (not_by_writing refusal.Plan c.in-Err-read_plan_file.fault (rw c.cause_of_plan.ensures at is))
+returns-in-Err-read_plan_file-clause-write_fault g c is =
+    absurd (not_by_writing refusal.Plan c.in-Err-read_plan_file.fault (rw c.cause_of_plan.ensures at is))
