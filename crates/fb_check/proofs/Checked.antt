@@ -3,7 +3,7 @@ use Rattle.std.proofs.Common.{◌≡◌, ℕ, ◌==◌, ◌&&◌, inl, inr, Bool
 use Rattle.std.proofs.KnownBytes.{Appends-nil, Appends-trans}
 use Rattle.fb_graph.specs.Limits.{DecodingGraph, ShotValue}
 use Rattle.fb_graph.specs.declared.parts.Row.{Row}
-use Rattle.fb_ports.specs.Causes.{Appends, AppendsPrefix}
+use Rattle.fb_ports.specs.Causes.{Appends, AppendsPrefix, CountsFault}
 use Rattle.fb_ports.proofs.Onward.{prefix_second}
 use Rattle.fb_shots.specs.Shots.{at_end}
 use Rattle.fb_shots.specs.declared.answer.Format.{Format}
@@ -11,7 +11,7 @@ use Rattle.fb_shots.specs.Streams.{Stream, fresh}
 use Rattle.fb_check.specs.CheckEndings.{check_account, check_source}
 use Rattle.fb_check.specs.TextEnds.{FirstOf, TextEnds, WritesPrefix, WritesWhole}
 use Rattle.fb_check.specs.Checks.{bad_count, check_cause, check_prefix, check_head, check_last, verdict_lines}
-use Rattle.fb_check.specs.Ends.{IsReadToItsEnd, MayFollowReadFault}
+use Rattle.fb_check.specs.Ends.{CountsReadFault, IsReadToItsEnd, MayFollowReadFault}
 use Rattle.fb_check.specs.InternalJudges.{EndsCheck, JudgesAll, JudgesFirst, JudgesInto}
 use Rattle.fb_inputs.specs.Judging.{HasFirstShots, HasShots, Named, most_shots}
 use Rattle.fb_inputs.specs.InternalGathers.{FirstFrom, Gathers, GathersFrom, IsOpened}
@@ -141,7 +141,7 @@ never_memory (end.Refused fault) lines shots bad old new cause (same, is) e = cc
 never_memory end.ReadFault lines shots bad old new cause (same, is) e = cc
 
 -- a check ends by a fault of a read only if its shots did
-pub check_read_fault : (ended : ShotsEnd) (lines shots bad : ℕ) (old new : Option (List ℕ)) (cause : Cause) → EndsCheck ended lines shots bad old new cause
+check_read_fault : (ended : ShotsEnd) (lines shots bad : ℕ) (old new : Option (List ℕ)) (cause : Cause) → EndsCheck ended lines shots bad old new cause
     → cause ≡ ReadFault → ended ≡ end.ReadFault
 check_read_fault end.End lines shots bad old new cause (inl (whole, is)) e = by_both (bad == 0 && lines == shots) is
   where
@@ -153,11 +153,19 @@ check_read_fault (end.Refused fault) lines shots bad old new cause (same, is) e 
 check_read_fault end.ReadFault lines shots bad old new cause (same, is) e = refl
 
 -- files fail only in a check that says so
-pub check_reported : (ended : ShotsEnd) (lines shots bad : ℕ) (old new : Option (List ℕ)) (cause : Cause) → EndsCheck ended lines shots bad old new cause
+check_reported : (ended : ShotsEnd) (lines shots bad : ℕ) (old new : Option (List ℕ)) (cause : Cause) → EndsCheck ended lines shots bad old new cause
     → (before now : ℕ) → (ended ≢ end.ReadFault → now ≡ before) → before < now → MayFollowReadFault cause
 check_reported end.End lines shots bad old new cause ends before now kept rose = absurd (omega (arith, kept (λ e. absurd cc), rose))
 check_reported (end.Refused fault) lines shots bad old new cause ends before now kept rose = absurd (omega (arith, kept (λ e. absurd cc), rose))
 check_reported end.ReadFault lines shots bad old new cause (same, is) before now kept rose = subst MayFollowReadFault (sym is) tt
+
+pub check_counted : (ended : ShotsEnd) (lines shots bad : ℕ) (old new : Option (List ℕ)) (cause : Cause) → EndsCheck ended lines shots bad old new cause
+    → (before now : ℕ) → CountsFault (ended ≡ end.ReadFault) before now → CountsReadFault cause before now
+check_counted ended lines shots bad old new cause ends before now counts = (
+  λ is. counts.0 (check_read_fault ended lines shots bad old new cause ends is),
+  counts.1,
+  check_reported ended lines shots bad old new cause ends before now counts.2,
+)
 
 module _ (named : Named) (request : Checking) (g : DecodingGraph) (rows : List Row) where
   pub checks_first : (old mid new : Option (List ℕ)) → Appends old mid check_head

@@ -1,5 +1,5 @@
 -- The ends that the commands have in common: at a file, in the first text, and what an end says of the input.
-use Rattle.std.specs.Prelude.{ℕ, ◌≡◌, ◌⊎◌, List, [], ◌∷◌, ⊤}
+use Rattle.std.specs.Prelude.{ℕ, ◌≡◌, ◌<◌, ◌≤◌, ◌⊎◌, List, [], ◌∷◌, ⊤}
 use Rattle.fb_ports.specs.Causes.{Appends, AppendsPrefix, Rose}
 use Rattle.fb_inputs.specs.Judging.{Asks, AsksPrefix, Holds, IsNoGraph, Named}
 use Rattle.fb_inputs.specs.Moments.{Moment}
@@ -62,3 +62,8 @@ MayFollowReadFault Odd = ⊥
 MayFollowReadFault (Bad count) = ⊥
 MayFollowReadFault (Refused r) = ⊥
 MayFollowReadFault (Usage kind) = ⊥
+
+-- The count of the files' faults rose if a read fault ended the run, and never falls. If it rose, a read fault ended the run,
+-- or what came while the rows before it were written.
+abbrev pub CountsReadFault : Cause → ℕ → ℕ → Type 0
+CountsReadFault cause before now = (cause ≡ ReadFault → Rose before now) × (before ≤ now) × (before < now → MayFollowReadFault cause)

@@ -2,12 +2,12 @@
 
 ghost use Rattle.std.specs.Prelude.{◌≡◌, ◌≢◌, ◌^◌, ◌<◌, ◌≤◌, [], ◌∷◌, length, All, IfOk, IfErr, OnErr, IsErrOf, Err, if◌then◌else◌};
 ghost use Rattle.fb_graph.specs.Limits.{IsShot};
-ghost use Rattle.fb_ports.specs.Causes.{HasRoom, IsEmptyIfKnown, Rose};
+ghost use Rattle.fb_ports.specs.Causes.{HasRoom, IsEmptyIfKnown, CountsFault};
 ghost use Rattle.fb_shots.specs.Steps.{IsReadOut};
 ghost use Rattle.fb_shots.specs.Streams.{fresh};
 ghost use Rattle.fb_verify.specs.Verdicts.{HasPositiveValues};
 ghost use Rattle.fb_check.specs.CheckEndings.{CheckEnds, ChecksOn, IsNoReport, IsReportText, ReportEnds};
-ghost use Rattle.fb_check.specs.Ends.{IsReadToItsEnd, MayFollowReadFault};
+ghost use Rattle.fb_check.specs.Ends.{CountsReadFault, IsReadToItsEnd};
 ghost use Rattle.fb_check.specs.InternalJudges.{EndsCheck, JudgesAll, JudgesFirst, JudgesInto, JudgesNext};
 ghost use Rattle.fb_inputs.specs.Judging.{Asks, AsksPrefix, Holds, IfRefused, IsReadOutIfNamed, most_shots};
 ghost use Rattle.fb_inputs.specs.InternalGathers.{FirstFrom, GathersFrom};
@@ -47,10 +47,8 @@ fn read_report_file<F: Files>(
     ensures values { IfOk result (λ r. All HasPositiveValues r.rows) }
     ensures count { IfOk result (λ r. length r.rows < 2 ^ 32) }
     ensures refused { IfErr result (IfRefused (λ fault. Holds (F.named files.old) name.now (IsNoReport fault))) }
-    ensures fault { IsErrOf result FileFault.ReadFault → Rose (F.faults files.old) (F.faults files.new) }
-    ensures never_falls { F.faults files.old ≤ F.faults files.new }
+    ensures faults { CountsFault (IsErrOf result FileFault.ReadFault) (F.faults files.old) (F.faults files.new) }
     ensures reported { F.faults files.old < F.faults files.new → IsErrOf result FileFault.ReadFault }
-    ensures unchanged { result ≢ Err FileFault.ReadFault → F.faults files.new ≡ F.faults files.old }
 {
     let text = read_named(alloc, files, name, MOST_REPORT_BYTES, ReportFault::TooLong)?;
     match read_report(alloc, &text) {
@@ -73,12 +71,8 @@ pub fn check<F: Files, O: Sink>(
         (moment (F.named files.old) (F.left files.old) (F.asked files.old) (F.faults files.old) (O.taken out.old))
         (moment (F.named files.new) (F.left files.new) (F.asked files.new) (F.faults files.new) (O.taken out.new)) result }
     ensures at_end { IsReadToItsEnd result → IsReadOutIfNamed (F.named files.old) (F.left files.new) }
-    ensures read_fault { result ≡ Cause.ReadFault → Rose (F.faults files.old) (F.faults files.new) }
-    ensures read_never_falls { F.faults files.old ≤ F.faults files.new }
-    ensures read_reported { F.faults files.old < F.faults files.new → MayFollowReadFault result }
-    ensures write_fault { result ≡ Cause.WriteFault → Rose (O.faults out.old) (O.faults out.new) }
-    ensures write_never_falls { O.faults out.old ≤ O.faults out.new }
-    ensures write_unchanged { result ≢ Cause.WriteFault → O.faults out.new ≡ O.faults out.old }
+    ensures reads { CountsReadFault result (F.faults files.old) (F.faults files.new) }
+    ensures writes { CountsFault (result ≡ Cause.WriteFault) (O.faults out.old) (O.faults out.new) }
 {
     match graph_or_cause(alloc, files, request.graph) {
         Ok(graph) => check_report(alloc, request, &graph, files, out),
@@ -99,12 +93,8 @@ fn check_report<F: Files, O: Sink>(
         (moment (F.named files.old) (F.left files.old) (F.asked files.old) (F.faults files.old) (O.taken out.old))
         (moment (F.named files.new) (F.left files.new) (F.asked files.new) (F.faults files.new) (O.taken out.new)) result }
     ensures at_end { IsReadToItsEnd result → IsReadOutIfNamed (F.named files.old) (F.left files.new) }
-    ensures read_fault { result ≡ Cause.ReadFault → Rose (F.faults files.old) (F.faults files.new) }
-    ensures read_never_falls { F.faults files.old ≤ F.faults files.new }
-    ensures read_reported { F.faults files.old < F.faults files.new → MayFollowReadFault result }
-    ensures write_fault { result ≡ Cause.WriteFault → Rose (O.faults out.old) (O.faults out.new) }
-    ensures write_never_falls { O.faults out.old ≤ O.faults out.new }
-    ensures write_unchanged { result ≢ Cause.WriteFault → O.faults out.new ≡ O.faults out.old }
+    ensures reads { CountsReadFault result (F.faults files.old) (F.faults files.new) }
+    ensures writes { CountsFault (result ≡ Cause.WriteFault) (O.faults out.old) (O.faults out.new) }
 {
     match read_report_file(alloc, files, request.report) {
         Ok(report) => check_rows(alloc, request, graph, report.rows.as_slice(), files, out),
@@ -128,12 +118,8 @@ fn check_rows<F: Files, O: Sink>(
         (moment (F.named files.old) (F.left files.old) (F.asked files.old) (F.faults files.old) (O.taken out.old))
         (moment (F.named files.new) (F.left files.new) (F.asked files.new) (F.faults files.new) (O.taken out.new)) result }
     ensures at_end { IsReadToItsEnd result → IsReadOutIfNamed (F.named files.old) (F.left files.new) }
-    ensures read_fault { result ≡ Cause.ReadFault → Rose (F.faults files.old) (F.faults files.new) }
-    ensures read_never_falls { F.faults files.old ≤ F.faults files.new }
-    ensures read_reported { F.faults files.old < F.faults files.new → MayFollowReadFault result }
-    ensures write_fault { result ≡ Cause.WriteFault → Rose (O.faults out.old) (O.faults out.new) }
-    ensures write_never_falls { O.faults out.old ≤ O.faults out.new }
-    ensures write_unchanged { result ≢ Cause.WriteFault → O.faults out.new ≡ O.faults out.old }
+    ensures reads { CountsReadFault result (F.faults files.old) (F.faults files.new) }
+    ensures writes { CountsFault (result ≡ Cause.WriteFault) (O.faults out.old) (O.faults out.new) }
 {
     let Ok(()) = put_check_head(out) else {
         return Cause::WriteFault;
@@ -154,9 +140,7 @@ fn check_rows<F: Files, O: Sink>(
 /// Ends the text of a check: with its last line if the shots were read to their end.
 fn end_check<O: Sink>(end: ShotsEnd, rows: u64, shots: u64, bad: u64, out: &mut O) -> Cause
     ensures end { EndsCheck end rows shots bad (O.taken out.old) (O.taken out.new) result }
-    ensures write_fault { result ≡ Cause.WriteFault → Rose (O.faults out.old) (O.faults out.new) }
-    ensures write_never_falls { O.faults out.old ≤ O.faults out.new }
-    ensures write_unchanged { result ≢ Cause.WriteFault → O.faults out.new ≡ O.faults out.old }
+    ensures writes { CountsFault (result ≡ Cause.WriteFault) (O.faults out.old) (O.faults out.new) }
 {
     match end {
         ShotsEnd::End => {
@@ -190,13 +174,10 @@ fn judge_file<F: Files, O: Sink>(
         graph.now rows.now (O.taken out.old) (O.taken out.new)) }
     ensures at_end { IfOk result (λ j. j.end ≡ ShotsEnd.End → IsReadOut (F.left files.old) (F.left files.new)) }
     ensures asks { F.asked files.new ≡ F.asked files.old }
-    ensures fault { IfOk result (λ j. j.end ≡ ShotsEnd.ReadFault → Rose (F.faults files.old) (F.faults files.new)) }
+    ensures reads { IfOk result (λ j. CountsFault (j.end ≡ ShotsEnd.ReadFault) (F.faults files.old) (F.faults files.new)) }
     ensures never_falls { F.faults files.old ≤ F.faults files.new }
-    ensures unchanged { IfOk result (λ j. j.end ≢ ShotsEnd.ReadFault → F.faults files.new ≡ F.faults files.old) }
     ensures unread { result ≡ Err RowsFault.NoMemory → F.faults files.new ≡ F.faults files.old }
-    ensures write_fault { result ≡ Err RowsFault.WriteFault → Rose (O.faults out.old) (O.faults out.new) }
-    ensures write_never_falls { O.faults out.old ≤ O.faults out.new }
-    ensures write_unchanged { result ≢ Err RowsFault.WriteFault → O.faults out.new ≡ O.faults out.old }
+    ensures writes { CountsFault (result ≡ Err RowsFault.WriteFault) (O.faults out.old) (O.faults out.new) }
 {
     let Ok(mut stream) = ShotStream::new(alloc, format, graph, MOST_SHOTS) else {
         return Err(RowsFault::NoMemory);
@@ -222,13 +203,10 @@ fn judge<F: Files, O: Sink>(
         graph.now rows.now (O.taken out.old) (O.taken out.new)) }
     ensures at_end { IfOk result (λ j. j.end ≡ ShotsEnd.End → IsReadOut (F.left files.old) (F.left files.new)) }
     ensures asks { F.asked files.new ≡ F.asked files.old }
-    ensures fault { IfOk result (λ j. j.end ≡ ShotsEnd.ReadFault → Rose (F.faults files.old) (F.faults files.new)) }
+    ensures reads { IfOk result (λ j. CountsFault (j.end ≡ ShotsEnd.ReadFault) (F.faults files.old) (F.faults files.new)) }
     ensures never_falls { F.faults files.old ≤ F.faults files.new }
-    ensures unchanged { IfOk result (λ j. j.end ≢ ShotsEnd.ReadFault → F.faults files.new ≡ F.faults files.old) }
     ensures unread { result ≡ Err RowsFault.NoMemory → F.faults files.new ≡ F.faults files.old }
-    ensures write_fault { result ≡ Err RowsFault.WriteFault → Rose (O.faults out.old) (O.faults out.new) }
-    ensures write_never_falls { O.faults out.old ≤ O.faults out.new }
-    ensures write_unchanged { result ≢ Err RowsFault.WriteFault → O.faults out.new ≡ O.faults out.old }
+    ensures writes { CountsFault (result ≡ Err RowsFault.WriteFault) (O.faults out.old) (O.faults out.new) }
 {
     let mut outbox = Outbox::new(alloc);
     let mut judge = Judge::new(graph);
@@ -259,13 +237,10 @@ fn judge_into<F: Files, O: Sink>(
         judge.old rows.now (O.taken out.old) (O.taken out.new)) }
     ensures at_end { IfOk result (λ j. j.end ≡ ShotsEnd.End → IsReadOut (F.left files.old) (F.left files.new)) }
     ensures asks { F.asked files.new ≡ F.asked files.old }
-    ensures fault { IfOk result (λ j. j.end ≡ ShotsEnd.ReadFault → Rose (F.faults files.old) (F.faults files.new)) }
+    ensures reads { IfOk result (λ j. CountsFault (j.end ≡ ShotsEnd.ReadFault) (F.faults files.old) (F.faults files.new)) }
     ensures never_falls { F.faults files.old ≤ F.faults files.new }
-    ensures unchanged { IfOk result (λ j. j.end ≢ ShotsEnd.ReadFault → F.faults files.new ≡ F.faults files.old) }
     ensures unread { OnErr result (F.faults files.new ≡ F.faults files.old) }
-    ensures write_fault { result ≡ Err RowsFault.WriteFault → Rose (O.faults out.old) (O.faults out.new) }
-    ensures write_never_falls { O.faults out.old ≤ O.faults out.new }
-    ensures write_unchanged { result ≢ Err RowsFault.WriteFault → O.faults out.new ≡ O.faults out.old }
+    ensures writes { CountsFault (result ≡ Err RowsFault.WriteFault) (O.faults out.old) (O.faults out.new) }
 {
     let mut shots: u64 = 0;
     let mut bad: u64 = 0;

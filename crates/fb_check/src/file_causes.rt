@@ -1,8 +1,8 @@
 //! How a command ends if a file that it needs can't be used.
 
-ghost use Rattle.std.specs.Prelude.{◌≡◌, ◌≢◌, ◌<◌, ◌≤◌, [], ◌∷◌, ℕ, List, Option, IfOk, IfErr, OnOk};
-ghost use Rattle.fb_ports.specs.Causes.{HasRoom, Rose};
-ghost use Rattle.fb_check.specs.Ends.{EndsAtFile, IsGraphRefusal, IsReadToItsEnd, MayFollowReadFault};
+ghost use Rattle.std.specs.Prelude.{◌≡◌, ◌≢◌, ◌<◌, [], ◌∷◌, ℕ, List, Option, IfOk, IfErr, OnOk};
+ghost use Rattle.fb_ports.specs.Causes.{HasRoom};
+ghost use Rattle.fb_check.specs.Ends.{CountsReadFault, EndsAtFile, IsGraphRefusal, IsReadToItsEnd};
 ghost use Rattle.fb_check.specs.InternalCauses.{cause_at_file};
 ghost use Rattle.fb_inputs.specs.Judging.{Asks, Holds, IsGraphText};
 ghost use Rattle.fb_inputs.specs.Moments.{moment};
@@ -29,9 +29,7 @@ pub fn graph_or_cause<F: Files>(alloc: Global, files: &mut F, name: &str) -> Res
         (moment (F.named files.old) (F.left files.old) (F.asked files.old) (F.faults files.old) written)
         (moment (F.named files.new) (F.left files.new) (F.asked files.new) (F.faults files.new) written) cause) }
     ensures early { IfErr result (λ cause. IsReadToItsEnd cause → ⊥) }
-    ensures read_fault { IfErr result (λ cause. cause ≡ Cause.ReadFault → Rose (F.faults files.old) (F.faults files.new)) }
-    ensures read_never_falls { F.faults files.old ≤ F.faults files.new }
-    ensures read_reported { IfErr result (λ cause. F.faults files.old < F.faults files.new → MayFollowReadFault cause) }
+    ensures reads { IfErr result (λ cause. CountsReadFault cause (F.faults files.old) (F.faults files.new)) }
     ensures unwritten { IfErr result (λ cause. cause ≢ Cause.WriteFault) }
 {
     match read_graph_file(alloc, files, name) {

@@ -1,7 +1,7 @@
 //! The graph of a file.
 
 ghost use Rattle.std.specs.Prelude.{◌≡◌, ◌≢◌, ◌<◌, ◌≤◌, ◌^◌, [], ◌∷◌, length, IfOk, IfErr, IsErrOf, Err};
-ghost use Rattle.fb_ports.specs.Causes.{HasRoom, Rose};
+ghost use Rattle.fb_ports.specs.Causes.{HasRoom, CountsFault};
 ghost use Rattle.fb_inputs.specs.Judging.{Asks, AsksPrefix, Holds, IfRefused, IsGraphText, IsNoGraph};
 
 use crate::fault::FileFault;
@@ -27,10 +27,8 @@ pub fn read_named<F: Files, E: Copy>(
     ensures bytes { IfOk result (λ v. Holds (F.named files.old) name.now (λ text. text ≡ v.items)) }
     ensures short { IfOk result (λ v. length v.items ≤ limit) }
     ensures refused { IfErr result (IfRefused (λ fault. (fault ≡ too_long) × Holds (F.named files.old) name.now (λ text. limit < length text))) }
-    ensures fault { IsErrOf result FileFault.ReadFault → Rose (F.faults files.old) (F.faults files.new) }
-    ensures never_falls { F.faults files.old ≤ F.faults files.new }
+    ensures faults { CountsFault (IsErrOf result FileFault.ReadFault) (F.faults files.old) (F.faults files.new) }
     ensures reported { F.faults files.old < F.faults files.new → IsErrOf result FileFault.ReadFault }
-    ensures unchanged { result ≢ Err FileFault.ReadFault → F.faults files.new ≡ F.faults files.old }
 {
     let Ok(name) = String::from_str(alloc, name) else {
         return Err(FileFault::NoMemory);
@@ -58,10 +56,8 @@ pub fn read_graph_file<F: Files>(
     ensures names { F.named files.new ≡ F.named files.old }
     ensures graph { IfOk result (λ g. Holds (F.named files.old) name.now (IsGraphText g)) }
     ensures refused { IfErr result (IfRefused (λ fault. Holds (F.named files.old) name.now (IsNoGraph fault))) }
-    ensures fault { IsErrOf result FileFault.ReadFault → Rose (F.faults files.old) (F.faults files.new) }
-    ensures never_falls { F.faults files.old ≤ F.faults files.new }
+    ensures faults { CountsFault (IsErrOf result FileFault.ReadFault) (F.faults files.old) (F.faults files.new) }
     ensures reported { F.faults files.old < F.faults files.new → IsErrOf result FileFault.ReadFault }
-    ensures unchanged { result ≢ Err FileFault.ReadFault → F.faults files.new ≡ F.faults files.old }
 {
     let text = read_named(alloc, files, name, MOST_TEXT_BYTES, TextFault::TooLong)?;
     match read_graph(alloc, &text) {

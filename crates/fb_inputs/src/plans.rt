@@ -1,8 +1,8 @@
 //! The plan by which a graph is decoded.
 
-ghost use Rattle.std.specs.Prelude.{◌≡◌, ◌≢◌, ◌<◌, ◌≤◌, [], ◌∷◌, IfOk, IfErr, IsErrOf, Err};
+ghost use Rattle.std.specs.Prelude.{◌≡◌, ◌≢◌, ◌<◌, [], ◌∷◌, IfOk, IfErr, IsErrOf, Err};
 ghost use Rattle.fb_plan.specs.Plans.{IsPlan};
-ghost use Rattle.fb_ports.specs.Causes.{HasRoom, Rose};
+ghost use Rattle.fb_ports.specs.Causes.{HasRoom, CountsFault};
 ghost use Rattle.fb_inputs.specs.Judging.{Asks, AsksPrefix, Holds, IfRefused, IsNoPlan, IsPlanText};
 
 use crate::fault::FileFault;
@@ -28,10 +28,8 @@ pub fn read_plan_file<F: Files>(
     ensures plan { IfOk result (λ t. Holds (F.named files.old) name.now (IsPlanText graph.now t)) }
     ensures valid { IfOk result (IsPlan graph.now) }
     ensures refused { IfErr result (IfRefused (λ fault. Holds (F.named files.old) name.now (IsNoPlan graph.now fault))) }
-    ensures fault { IsErrOf result FileFault.ReadFault → Rose (F.faults files.old) (F.faults files.new) }
-    ensures never_falls { F.faults files.old ≤ F.faults files.new }
+    ensures faults { CountsFault (IsErrOf result FileFault.ReadFault) (F.faults files.old) (F.faults files.new) }
     ensures reported { F.faults files.old < F.faults files.new → IsErrOf result FileFault.ReadFault }
-    ensures unchanged { result ≢ Err FileFault.ReadFault → F.faults files.new ≡ F.faults files.old }
 {
     let text = read_named(alloc, files, name, MOST_TEXT_BYTES, PlanFault::TooLong)?;
     match read_plan(alloc, &text, graph) {

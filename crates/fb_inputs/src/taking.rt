@@ -1,7 +1,7 @@
 //! The shots of a file, some at a time.
 
-ghost use Rattle.std.specs.Prelude.{◌≡◌, ◌≢◌, ◌<◌, ◌≤◌, Some, IfOk, OnErr};
-ghost use Rattle.fb_ports.specs.Causes.{Rose};
+ghost use Rattle.std.specs.Prelude.{◌≡◌, ◌<◌, ◌≤◌, Some, IfOk, OnErr};
+ghost use Rattle.fb_ports.specs.Causes.{CountsFault};
 ghost use Rattle.fb_inputs.specs.Taking.{TakesWindow};
 
 use fb_graph::{NoMemory, Shot};
@@ -41,9 +41,8 @@ pub fn take_window<F: Files>(
     ensures takes { IfOk result (λ t. TakesWindow most stream.old stream.new (F.left files.old) (F.left files.new) t.shots.items t.end) }
     ensures asks { F.asked files.new ≡ F.asked files.old }
     ensures names { F.named files.new ≡ F.named files.old }
-    ensures fault { IfOk result (λ t. t.end ≡ Some ShotsEnd.ReadFault → Rose (F.faults files.old) (F.faults files.new)) }
+    ensures faults { IfOk result (λ t. CountsFault (t.end ≡ Some ShotsEnd.ReadFault) (F.faults files.old) (F.faults files.new)) }
     ensures never_falls { F.faults files.old ≤ F.faults files.new }
-    ensures unchanged { IfOk result (λ t. t.end ≢ Some ShotsEnd.ReadFault → F.faults files.new ≡ F.faults files.old) }
     ensures unread { OnErr result (F.faults files.new ≡ F.faults files.old) }
 {
     let mut shots = Vec::with_capacity(alloc, most)?;

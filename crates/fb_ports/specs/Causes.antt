@@ -15,6 +15,10 @@ Rose before now = min (before + 1) (2 ^ 64 - 1) ≤ now
 abbrev pub HasCause : {T E : Type 0} → ℕ → ℕ → Result T E → Type 0
 HasCause before now r = MatchResult r (λ _. now ≡ before) (λ _. Rose before now × (before ≤ now))
 
+-- the count of faults rose if a fault ended the call, is as it was if none did, and never falls
+abbrev pub CountsFault : Type 0 → ℕ → ℕ → Type 0
+CountsFault IsFault before now = (IsFault → Rose before now) × (before ≤ now) × ((IsFault → ⊥) → now ≡ before)
+
 -- a list that is known has gained x at its end; one that isn't stays unknown
 abbrev pub GainsIfKnown : {X : Type 0} → Option (List X) → Option (List X) → X → Type 0
 GainsIfKnown None new x = new ≡ None

@@ -1,5 +1,5 @@
-ghost use Rattle.std.specs.Prelude.{◌≡◌, ◌≢◌, ℕ, ◌+◌, ◌^◌, ◌<◌, ◌≤◌, Option, List, length, vec_len, string_bytes, OnOk, IfOk, IfSome, IsErrOf};
-ghost use Rattle.fb_ports.specs.Causes.{HasCause, HasRoom, GainsIfKnown, Opens, ReadsAtMost, ReadConsumes, ConsumesAtMost, IsAtEnd, Rose};
+ghost use Rattle.std.specs.Prelude.{◌≡◌, ℕ, ◌+◌, ◌^◌, ◌<◌, ◌≤◌, Option, List, length, vec_len, string_bytes, OnOk, IfOk, IfSome, IsErrOf};
+ghost use Rattle.fb_ports.specs.Causes.{HasCause, HasRoom, GainsIfKnown, Opens, ReadsAtMost, ReadConsumes, ConsumesAtMost, IsAtEnd, CountsFault};
 
 use crate::Failed;
 use std::alloc::Global;
@@ -85,10 +85,8 @@ pub fn read_whole<F: Files>(
     ensures taken { ConsumesAtMost (F.left files.old) (F.left files.new) (limit + 1) }
 
     // The result is an error exactly if one occurred.
-    ensures fault { IsErrOf result ReadError.ReadFault → Rose (F.faults files.old) (F.faults files.new) }
-    ensures never_falls { F.faults files.old ≤ F.faults files.new }
+    ensures faults { CountsFault (IsErrOf result ReadError.ReadFault) (F.faults files.old) (F.faults files.new) }
     ensures reported { F.faults files.old < F.faults files.new → IsErrOf result ReadError.ReadFault }
-    ensures unchanged { result ≢ Err ReadError.ReadFault → F.faults files.new ≡ F.faults files.old }
 
     ensures names { F.named files.new ≡ F.named files.old }
     ensures asks { F.asked files.new ≡ F.asked files.old }

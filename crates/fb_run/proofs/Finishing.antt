@@ -3,11 +3,11 @@ use Rattle.std.proofs.Common.{◌≡◌, ℕ, ◌+◌, ◌==◌, ◌≢◌, ◌<
 use Rattle.std.proofs.KnownBytes.{Appends-trans}
 use Rattle.fb_graph.specs.Limits.{DecodingGraph, ShotValue}
 use Rattle.fb_plan.specs.Plans.{PlanTree}
-use Rattle.fb_ports.specs.Causes.{Appends, AppendsPrefix}
+use Rattle.fb_ports.specs.Causes.{Appends, AppendsPrefix, CountsFault}
 use Rattle.fb_ports.proofs.Onward.{prefix_second}
 use Rattle.fb_report.specs.Texts.{head_text}
 use Rattle.fb_shots.specs.Shots.{Ending, at_end}
-use Rattle.fb_check.specs.Ends.{IsReadToItsEnd, MayFollowReadFault}
+use Rattle.fb_check.specs.Ends.{CountsReadFault, IsReadToItsEnd, MayFollowReadFault}
 use Rattle.fb_check.specs.TextEnds.{TextEnds, WritesPrefix, WritesWhole}
 use Rattle.fb_inputs.proofs.Gathered.{gathers_opened, holds_opened}
 use Rattle.fb_inputs.proofs.Lists.{holds_more}
@@ -33,7 +33,7 @@ report_to_end t (end.Refused fault) rows counts old new cause (same, is) reads =
 report_to_end t end.ReadFault rows counts old new cause (same, is) reads = absurd (subst IsReadToItsEnd is reads)
 
 -- a report ends by a fault of a read only if its shots did
-pub report_read_fault : (t : PlanTree) (ended : ShotsEnd) (rows : ℕ) (counts : Counts) (old new : Option (List ℕ)) (cause : Cause)
+report_read_fault : (t : PlanTree) (ended : ShotsEnd) (rows : ℕ) (counts : Counts) (old new : Option (List ℕ)) (cause : Cause)
     → EndsReport t ended rows counts old new cause → cause ≡ ReadFault → ended ≡ end.ReadFault
 report_read_fault t end.End rows counts old new cause (inl (whole, is)) e = by_both (counts.odd == 0) is
   where
@@ -45,11 +45,19 @@ report_read_fault t (end.Refused fault) rows counts old new cause (same, is) e =
 report_read_fault t end.ReadFault rows counts old new cause (same, is) e = refl
 
 -- files fail only in a decode that says so
-pub report_reported : (t : PlanTree) (ended : ShotsEnd) (rows : ℕ) (counts : Counts) (old new : Option (List ℕ)) (cause : Cause)
+report_reported : (t : PlanTree) (ended : ShotsEnd) (rows : ℕ) (counts : Counts) (old new : Option (List ℕ)) (cause : Cause)
     → EndsReport t ended rows counts old new cause → (before now : ℕ) → (ended ≢ end.ReadFault → now ≡ before) → before < now → MayFollowReadFault cause
 report_reported t end.End rows counts old new cause ends before now kept rose = absurd (omega (arith, kept (λ e. absurd cc), rose))
 report_reported t (end.Refused fault) rows counts old new cause ends before now kept rose = absurd (omega (arith, kept (λ e. absurd cc), rose))
 report_reported t end.ReadFault rows counts old new cause (same, is) before now kept rose = subst MayFollowReadFault (sym is) tt
+
+pub report_counted : (t : PlanTree) (ended : ShotsEnd) (rows : ℕ) (counts : Counts) (old new : Option (List ℕ)) (cause : Cause)
+    → EndsReport t ended rows counts old new cause → (before now : ℕ) → CountsFault (ended ≡ end.ReadFault) before now → CountsReadFault cause before now
+report_counted t ended rows counts old new cause ends before now faults = (
+  λ is. faults.0 (report_read_fault t ended rows counts old new cause ends is),
+  faults.1,
+  report_reported t ended rows counts old new cause ends before now faults.2,
+)
 
 module _ (named : Named) (request : Decoding) (g : DecodingGraph) (t : PlanTree) where
   are_first : (shots : List ShotValue) (ending : Ending) (text : List ℕ) → HasShots request.format g shots ending text → HasFirstShots request.format g shots text

@@ -1,9 +1,9 @@
 //! The shots of a file, decoded batch by batch.
 
-ghost use Rattle.std.specs.Prelude.{◌≡◌, ◌≢◌, ◌+◌, ◌++◌, ◌^◌, ◌<◌, ◌≤◌, ◌==◌, [], true, length, replicate, All, Some, IfOk, OnOk, OnErr, Err};
+ghost use Rattle.std.specs.Prelude.{◌≡◌, ◌+◌, ◌++◌, ◌^◌, ◌<◌, ◌≤◌, ◌==◌, [], true, length, replicate, All, Some, IfOk, OnOk, OnErr, Err};
 ghost use Rattle.std.specs.List.{list_all};
 ghost use Rattle.fb_graph.specs.Limits.{IsShot};
-ghost use Rattle.fb_ports.specs.Causes.{Appends, AppendsPrefix, Rose};
+ghost use Rattle.fb_ports.specs.Causes.{Appends, AppendsPrefix, CountsFault};
 ghost use Rattle.fb_shots.specs.Steps.{IsReadOut};
 ghost use Rattle.fb_shots.specs.Streams.{fresh};
 ghost use Rattle.fb_inputs.specs.Judging.{most_shots};
@@ -13,7 +13,7 @@ ghost use Rattle.fb_crew.specs.Windows.{AreRows, IsHistoryOf};
 ghost use Rattle.fb_book.specs.declared.limits.TheConstants.{MOST_AT_ONCE};
 ghost use Rattle.fb_run.specs.Decoding.{batch_text, cause_of, events_text};
 ghost use Rattle.fb_run.specs.InternalBatches.{AddsCounts, TakesBatch, batch_in};
-ghost use Rattle.fb_run.specs.InternalWrites.{WritesBatches, WritesFirstBatches, tally_with, counts_in};
+ghost use Rattle.fb_run.specs.InternalWrites.{WritesBatches, WritesFirstBatches, counts_in, tally_with};
 ghost use Rattle.fb_words.specs.PlainRequests.{plain_decoding};
 
 use fb_crew::{Crew, Entry, Gate, Kind, Window};
@@ -111,12 +111,9 @@ pub fn decode_file<F: Files, O: Sink, G: Gate, R: Threads + Wait + Sync>(
     ensures few { IfOk result (λ d. d.tally.best + d.tally.odd < 2 ^ 32) }
     ensures at_end { IfOk result (λ d. d.end ≡ ShotsEnd.End → IsReadOut (F.left files.old) (F.left files.new)) }
     ensures asks { F.asked files.new ≡ F.asked files.old }
-    ensures fault { IfOk result (λ d. d.end ≡ ShotsEnd.ReadFault → Rose (F.faults files.old) (F.faults files.new)) }
+    ensures reads { IfOk result (λ d. CountsFault (d.end ≡ ShotsEnd.ReadFault) (F.faults files.old) (F.faults files.new)) }
     ensures never_falls { F.faults files.old ≤ F.faults files.new }
-    ensures unchanged { IfOk result (λ d. d.end ≢ ShotsEnd.ReadFault → F.faults files.new ≡ F.faults files.old) }
-    ensures write_fault { result ≡ Err RowsFault.WriteFault → Rose (O.faults out.old) (O.faults out.new) }
-    ensures write_never_falls { O.faults out.old ≤ O.faults out.new }
-    ensures write_unchanged { result ≢ Err RowsFault.WriteFault → O.faults out.new ≡ O.faults out.old }
+    ensures writes { CountsFault (result ≡ Err RowsFault.WriteFault) (O.faults out.old) (O.faults out.new) }
 {
     let Ok(mut stream) = ShotStream::new(alloc, request.format, graph, MOST_SHOTS) else {
         return Err(RowsFault::NoMemory);
@@ -160,12 +157,9 @@ fn decode_stream<F: Files, O: Sink, G: Gate, R: Threads + Wait + Sync>(
     ensures few { IfOk result (λ d. d.tally.best + d.tally.odd < 2 ^ 32) }
     ensures at_end { IfOk result (λ d. d.end ≡ ShotsEnd.End → IsReadOut (F.left files.old) (F.left files.new)) }
     ensures asks { F.asked files.new ≡ F.asked files.old }
-    ensures fault { IfOk result (λ d. d.end ≡ ShotsEnd.ReadFault → Rose (F.faults files.old) (F.faults files.new)) }
+    ensures reads { IfOk result (λ d. CountsFault (d.end ≡ ShotsEnd.ReadFault) (F.faults files.old) (F.faults files.new)) }
     ensures never_falls { F.faults files.old ≤ F.faults files.new }
-    ensures unchanged { IfOk result (λ d. d.end ≢ ShotsEnd.ReadFault → F.faults files.new ≡ F.faults files.old) }
-    ensures write_fault { result ≡ Err RowsFault.WriteFault → Rose (O.faults out.old) (O.faults out.new) }
-    ensures write_never_falls { O.faults out.old ≤ O.faults out.new }
-    ensures write_unchanged { result ≢ Err RowsFault.WriteFault → O.faults out.new ≡ O.faults out.old }
+    ensures writes { CountsFault (result ≡ Err RowsFault.WriteFault) (O.faults out.old) (O.faults out.new) }
 {
     let mut tally = Tally { best: 0, odd: 0 };
     loop {
@@ -196,9 +190,8 @@ fn next_batch<F: Files, G: Gate, R: Threads + Wait + Sync>(
         (F.left files.old) (F.left files.new) (batch_in n.batch) n.end) }
     ensures same { crew.new ≡ crew.old }
     ensures asks { F.asked files.new ≡ F.asked files.old }
-    ensures fault { IfOk result (λ n. n.end ≡ Some ShotsEnd.ReadFault → Rose (F.faults files.old) (F.faults files.new)) }
+    ensures reads { IfOk result (λ n. CountsFault (n.end ≡ Some ShotsEnd.ReadFault) (F.faults files.old) (F.faults files.new)) }
     ensures never_falls { F.faults files.old ≤ F.faults files.new }
-    ensures unchanged { IfOk result (λ n. n.end ≢ Some ShotsEnd.ReadFault → F.faults files.new ≡ F.faults files.old) }
 {
     let taken = take_window(alloc, files, stream, request.window as usize)?;
     let batch = solve_batch(rt, alloc, crew, request.trace, taken.shots.as_slice(), gate)?;
@@ -273,9 +266,7 @@ fn write_batch<O: Sink>(
         (batch_text trace (tally.best + tally.odd) (batch_in batch.now))) }
     ensures counts { IfOk result (λ more. AddsCounts tally more batch.now.rows.items) }
     ensures emptied { OnOk result (outbox.new.text ≡ []) }
-    ensures write_fault { result ≡ Err RowsFault.WriteFault → Rose (O.faults out.old) (O.faults out.new) }
-    ensures write_never_falls { O.faults out.old ≤ O.faults out.new }
-    ensures write_unchanged { result ≢ Err RowsFault.WriteFault → O.faults out.new ≡ O.faults out.old }
+    ensures writes { CountsFault (result ≡ Err RowsFault.WriteFault) (O.faults out.old) (O.faults out.new) }
 {
     let Ok(more) = add_batch(outbox, tally, trace, batch) else {
         return Err(RowsFault::NoMemory);

@@ -1,9 +1,9 @@
 //! The command `decode`.
 
-ghost use Rattle.std.specs.Prelude.{◌≡◌, ◌≢◌, ◌+◌, ◌<◌, ◌≤◌, ◌^◌};
+ghost use Rattle.std.specs.Prelude.{◌≡◌, ◌+◌, ◌<◌, ◌^◌};
 ghost use Rattle.fb_plan.specs.Plans.{IsPlan};
-ghost use Rattle.fb_ports.specs.Causes.{HasRoom, IsEmptyIfKnown, Rose};
-ghost use Rattle.fb_check.specs.Ends.{IsReadToItsEnd, MayFollowReadFault};
+ghost use Rattle.fb_ports.specs.Causes.{HasRoom, IsEmptyIfKnown, CountsFault};
+ghost use Rattle.fb_check.specs.Ends.{CountsReadFault, IsReadToItsEnd};
 ghost use Rattle.fb_inputs.specs.Judging.{IsReadOutIfNamed};
 ghost use Rattle.fb_inputs.specs.Moments.{moment};
 ghost use Rattle.fb_run.specs.Endings.{DecodeEnds, EndsByPlan, EndsOn};
@@ -42,12 +42,8 @@ pub fn decode<F: Files, O: Sink, G: Gate, R: Threads + Wait + Sync>(
         (moment (F.named files.old) (F.left files.old) (F.asked files.old) (F.faults files.old) (O.taken out.old))
         (moment (F.named files.new) (F.left files.new) (F.asked files.new) (F.faults files.new) (O.taken out.new)) result }
     ensures at_end { IsReadToItsEnd result → IsReadOutIfNamed (F.named files.old) (F.left files.new) }
-    ensures read_fault { result ≡ Cause.ReadFault → Rose (F.faults files.old) (F.faults files.new) }
-    ensures read_never_falls { F.faults files.old ≤ F.faults files.new }
-    ensures read_reported { F.faults files.old < F.faults files.new → MayFollowReadFault result }
-    ensures write_fault { result ≡ Cause.WriteFault → Rose (O.faults out.old) (O.faults out.new) }
-    ensures write_never_falls { O.faults out.old ≤ O.faults out.new }
-    ensures write_unchanged { result ≢ Cause.WriteFault → O.faults out.new ≡ O.faults out.old }
+    ensures reads { CountsReadFault result (F.faults files.old) (F.faults files.new) }
+    ensures writes { CountsFault (result ≡ Cause.WriteFault) (O.faults out.old) (O.faults out.new) }
 {
     match graph_or_cause(alloc, files, request.graph) {
         Ok(graph) => decode_on(rt, alloc, request, &graph, files, out, gate),
@@ -72,12 +68,8 @@ fn decode_on<F: Files, O: Sink, G: Gate, R: Threads + Wait + Sync>(
         (moment (F.named files.old) (F.left files.old) (F.asked files.old) (F.faults files.old) (O.taken out.old))
         (moment (F.named files.new) (F.left files.new) (F.asked files.new) (F.faults files.new) (O.taken out.new)) result }
     ensures at_end { IsReadToItsEnd result → IsReadOutIfNamed (F.named files.old) (F.left files.new) }
-    ensures read_fault { result ≡ Cause.ReadFault → Rose (F.faults files.old) (F.faults files.new) }
-    ensures read_never_falls { F.faults files.old ≤ F.faults files.new }
-    ensures read_reported { F.faults files.old < F.faults files.new → MayFollowReadFault result }
-    ensures write_fault { result ≡ Cause.WriteFault → Rose (O.faults out.old) (O.faults out.new) }
-    ensures write_never_falls { O.faults out.old ≤ O.faults out.new }
-    ensures write_unchanged { result ≢ Cause.WriteFault → O.faults out.new ≡ O.faults out.old }
+    ensures reads { CountsReadFault result (F.faults files.old) (F.faults files.new) }
+    ensures writes { CountsFault (result ≡ Cause.WriteFault) (O.faults out.old) (O.faults out.new) }
 {
     let Some(name) = request.plan else {
         return match Plan::single(alloc, graph) {
@@ -111,12 +103,8 @@ fn decode_by<F: Files, O: Sink, G: Gate, R: Threads + Wait + Sync>(
         (moment (F.named files.old) (F.left files.old) (F.asked files.old) (F.faults files.old) (O.taken out.old))
         (moment (F.named files.new) (F.left files.new) (F.asked files.new) (F.faults files.new) (O.taken out.new)) result }
     ensures at_end { IsReadToItsEnd result → IsReadOutIfNamed (F.named files.old) (F.left files.new) }
-    ensures read_fault { result ≡ Cause.ReadFault → Rose (F.faults files.old) (F.faults files.new) }
-    ensures read_never_falls { F.faults files.old ≤ F.faults files.new }
-    ensures read_reported { F.faults files.old < F.faults files.new → MayFollowReadFault result }
-    ensures write_fault { result ≡ Cause.WriteFault → Rose (O.faults out.old) (O.faults out.new) }
-    ensures write_never_falls { O.faults out.old ≤ O.faults out.new }
-    ensures write_unchanged { result ≢ Cause.WriteFault → O.faults out.new ≡ O.faults out.old }
+    ensures reads { CountsReadFault result (F.faults files.old) (F.faults files.new) }
+    ensures writes { CountsFault (result ≡ Cause.WriteFault) (O.faults out.old) (O.faults out.new) }
 {
     let Ok(mut crew) = Crew::new(alloc, graph, plan, request.workers) else {
         return Cause::NoMemory;
@@ -144,12 +132,8 @@ fn decode_with<F: Files, O: Sink, G: Gate, R: Threads + Wait + Sync>(
         (moment (F.named files.old) (F.left files.old) (F.asked files.old) (F.faults files.old) (O.taken out.old))
         (moment (F.named files.new) (F.left files.new) (F.asked files.new) (F.faults files.new) (O.taken out.new)) result }
     ensures at_end { IsReadToItsEnd result → IsReadOutIfNamed (F.named files.old) (F.left files.new) }
-    ensures read_fault { result ≡ Cause.ReadFault → Rose (F.faults files.old) (F.faults files.new) }
-    ensures read_never_falls { F.faults files.old ≤ F.faults files.new }
-    ensures read_reported { F.faults files.old < F.faults files.new → MayFollowReadFault result }
-    ensures write_fault { result ≡ Cause.WriteFault → Rose (O.faults out.old) (O.faults out.new) }
-    ensures write_never_falls { O.faults out.old ≤ O.faults out.new }
-    ensures write_unchanged { result ≢ Cause.WriteFault → O.faults out.new ≡ O.faults out.old }
+    ensures reads { CountsReadFault result (F.faults files.old) (F.faults files.new) }
+    ensures writes { CountsFault (result ≡ Cause.WriteFault) (O.faults out.old) (O.faults out.new) }
 {
     let Ok(()) = write_head(out) else {
         return Cause::WriteFault;
@@ -171,9 +155,7 @@ fn decode_with<F: Files, O: Sink, G: Gate, R: Threads + Wait + Sync>(
 fn end_report<O: Sink>(plan: &Plan, decoded: Decoded, out: &mut O) -> Cause
     requires few { decoded.tally.best + decoded.tally.odd < 2 ^ 32 }
     ensures end { EndsReport plan.now decoded.end (decoded.tally.best + decoded.tally.odd) (counts_in decoded.tally) (O.taken out.old) (O.taken out.new) result }
-    ensures write_fault { result ≡ Cause.WriteFault → Rose (O.faults out.old) (O.faults out.new) }
-    ensures write_never_falls { O.faults out.old ≤ O.faults out.new }
-    ensures write_unchanged { result ≢ Cause.WriteFault → O.faults out.new ≡ O.faults out.old }
+    ensures writes { CountsFault (result ≡ Cause.WriteFault) (O.faults out.old) (O.faults out.new) }
 {
     let tally = decoded.tally;
     match decoded.end {

@@ -1,11 +1,11 @@
 //! The top call.
 
-ghost use Rattle.std.specs.Prelude.{◌≡◌, ◌≢◌, ◌<◌, ◌≤◌, ◌^◌, ◌-◌, map, string_bytes, true};
-ghost use Rattle.fb_ports.specs.Causes.{Appends, AppendsPrefix, IsEmptyIfKnown, Rose};
+ghost use Rattle.std.specs.Prelude.{◌≡◌, ◌≢◌, ◌<◌, ◌^◌, ◌-◌, map, string_bytes, true};
+ghost use Rattle.fb_ports.specs.Causes.{Appends, AppendsPrefix, IsEmptyIfKnown, Rose, CountsFault};
 ghost use Rattle.fb_endings.specs.Causes.{line_of, status_of};
-ghost use Rattle.fb_check.specs.Ends.{MayFollowReadFault};
+ghost use Rattle.fb_check.specs.Ends.{CountsReadFault, MayFollowReadFault};
 ghost use Rattle.fb_inputs.specs.Moments.{moment};
-ghost use Rattle.fb_run.specs.RunEndings.{EndsRight, RequestEnds, HasReadOut, ReadsOut};
+ghost use Rattle.fb_run.specs.RunEndings.{EndsRight, HasReadOut, ReadsOut, RequestEnds};
 ghost use Rattle.fb_run.specs.InternalCauses.{IfParse, cause_of_words};
 ghost use Rattle.fb_words.specs.Taken.{is_taken};
 ghost use Rattle.fb_words.specs.PlainRequests.{plain_request};
@@ -82,10 +82,8 @@ fn run_words<F: Files, O: Sink, E: Sink, G: Gate, R: Threads + Wait + Sync>(
         (moment (F.named files.new) (F.left files.new) (F.asked files.new) (F.faults files.new) (O.taken out.new)) result }
     ensures at_end { HasReadOut (request_of (map string_bytes words.now)) (F.named files.old) (F.left files.new) result }
     ensures takes { is_taken (map string_bytes words.now) ≡ true → result ≢ Cause.Usage UsageKind.Parse }
-    ensures read_fault { result ≡ Cause.ReadFault → Rose (F.faults files.old) (F.faults files.new) }
-    ensures read_reported { F.faults files.old < F.faults files.new → MayFollowReadFault result }
-    ensures write_fault { result ≡ Cause.WriteFault → Rose (O.faults out.old) (O.faults out.new) }
-    ensures write_reported { O.faults out.old < O.faults out.new → result ≡ Cause.WriteFault }
+    ensures reads { CountsReadFault result (F.faults files.old) (F.faults files.new) }
+    ensures writes { CountsFault (result ≡ Cause.WriteFault) (O.faults out.old) (O.faults out.new) }
     ensures quiet { result ≢ Cause.Usage UsageKind.Parse → (E.taken err.new ≡ E.taken err.old) × (E.faults err.new ≡ E.faults err.old) }
 {
     match read_words(alloc, words) {
@@ -109,12 +107,8 @@ fn run_request<F: Files, O: Sink, G: Gate, R: Threads + Wait + Sync>(
         (moment (F.named files.old) (F.left files.old) (F.asked files.old) (F.faults files.old) (O.taken out.old))
         (moment (F.named files.new) (F.left files.new) (F.asked files.new) (F.faults files.new) (O.taken out.new)) result }
     ensures at_end { ReadsOut (plain_request request.now) (F.named files.old) (F.left files.new) result }
-    ensures read_fault { result ≡ Cause.ReadFault → Rose (F.faults files.old) (F.faults files.new) }
-    ensures read_never_falls { F.faults files.old ≤ F.faults files.new }
-    ensures read_reported { F.faults files.old < F.faults files.new → MayFollowReadFault result }
-    ensures write_fault { result ≡ Cause.WriteFault → Rose (O.faults out.old) (O.faults out.new) }
-    ensures write_never_falls { O.faults out.old ≤ O.faults out.new }
-    ensures write_unchanged { result ≢ Cause.WriteFault → O.faults out.new ≡ O.faults out.old }
+    ensures reads { CountsReadFault result (F.faults files.old) (F.faults files.new) }
+    ensures writes { CountsFault (result ≡ Cause.WriteFault) (O.faults out.old) (O.faults out.new) }
 {
     match request {
         Request::Decode(decoding) => decode(rt, alloc, decoding, files, out, gate),

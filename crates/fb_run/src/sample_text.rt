@@ -1,7 +1,7 @@
 //! The text of a sample.
 
-ghost use Rattle.std.specs.Prelude.{◌≡◌, ◌≢◌, ◌+◌, ◌*◌, ◌++◌, ◌≤◌, [], length, OnOk, Err};
-ghost use Rattle.fb_ports.specs.Causes.{Appends, AppendsPrefix, Rose};
+ghost use Rattle.std.specs.Prelude.{◌≡◌, ◌+◌, ◌*◌, ◌++◌, [], OnOk, Err};
+ghost use Rattle.fb_ports.specs.Causes.{Appends, AppendsPrefix, CountsFault};
 ghost use Rattle.fb_run.specs.Samples.{sample_head, sample_text, sizes_line, sums_line, work_line};
 ghost use Rattle.fb_words.specs.PlainRequests.{plain_sampling};
 
@@ -33,9 +33,7 @@ pub fn write_sample<O: Sink>(
     ensures prefix { result ≡ Err RowsFault.WriteFault → AppendsPrefix (O.taken out.old) (O.taken out.new)
         (sample_text (plain_sampling request.now) plan.now sums.defects sums.weight) }
     ensures nothing { result ≡ Err RowsFault.NoMemory → Appends (O.taken out.old) (O.taken out.new) [] }
-    ensures write_fault { result ≡ Err RowsFault.WriteFault → Rose (O.faults out.old) (O.faults out.new) }
-    ensures write_never_falls { O.faults out.old ≤ O.faults out.new }
-    ensures write_unchanged { result ≢ Err RowsFault.WriteFault → O.faults out.new ≡ O.faults out.old }
+    ensures writes { CountsFault (result ≡ Err RowsFault.WriteFault) (O.faults out.old) (O.faults out.new) }
 {
     let mut outbox = Outbox::new(alloc);
     let Ok(()) = add_sample(&mut outbox, request, plan, sums) else {

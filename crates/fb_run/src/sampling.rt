@@ -1,13 +1,13 @@
 //! The command `sample`.
 
-ghost use Rattle.std.specs.Prelude.{◌≡◌, ◌≢◌, ◌+◌, ◌*◌, ◌^◌, ◌<◌, ◌≤◌, length, All, IfOk, OnOk, Ok};
+ghost use Rattle.std.specs.Prelude.{◌≡◌, ◌+◌, ◌*◌, ◌^◌, ◌<◌, ◌≤◌, length, All, IfOk, OnOk, Ok};
 ghost use Rattle.fb_book.specs.declared.limits.TheConstants.{MOST_AT_ONCE};
 ghost use Rattle.fb_gen.specs.Drawing.{state_after};
 ghost use Rattle.fb_gen.specs.Lattice.{lattice_of};
 ghost use Rattle.fb_gen.specs.TimePlan.{time_plan_of};
 ghost use Rattle.fb_graph.specs.Limits.{IsShot, most_vertices};
 ghost use Rattle.fb_plan.specs.Plans.{IsPlan};
-ghost use Rattle.fb_ports.specs.Causes.{Rose};
+ghost use Rattle.fb_ports.specs.Causes.{CountsFault};
 ghost use Rattle.fb_run.specs.SampleEndings.{SampleEnds};
 ghost use Rattle.fb_run.specs.InternalCauses.{cause_of_sample};
 ghost use Rattle.fb_run.specs.Samples.{HaveSums, defects_in, drawn_shots, weight_in, weights_in};
@@ -38,9 +38,7 @@ pub fn sample<O: Sink, G: Gate, R: Threads + Wait + Sync>(
 ) -> Cause
     requires { IsSampleInRanges (plain_sampling request.now) }
     ensures ends { SampleEnds (plain_sampling request.now) (O.taken out.old) (O.taken out.new) result }
-    ensures write_fault { result ≡ Cause.WriteFault → Rose (O.faults out.old) (O.faults out.new) }
-    ensures write_never_falls { O.faults out.old ≤ O.faults out.new }
-    ensures write_unchanged { result ≢ Cause.WriteFault → O.faults out.new ≡ O.faults out.old }
+    ensures writes { CountsFault (result ≡ Cause.WriteFault) (O.faults out.old) (O.faults out.new) }
 {
     match lattice(alloc, request.distance, request.rounds) {
         Ok(graph) => sample_lattice(rt, alloc, request, &graph, out, gate),
@@ -60,9 +58,7 @@ fn sample_lattice<O: Sink, G: Gate, R: Threads + Wait + Sync>(
     requires ranges { IsSampleInRanges (plain_sampling request.now) }
     requires lattice { lattice_of request.now.distance request.now.rounds ≡ Ok graph.now }
     ensures ends { SampleEnds (plain_sampling request.now) (O.taken out.old) (O.taken out.new) result }
-    ensures write_fault { result ≡ Cause.WriteFault → Rose (O.faults out.old) (O.faults out.new) }
-    ensures write_never_falls { O.faults out.old ≤ O.faults out.new }
-    ensures write_unchanged { result ≢ Cause.WriteFault → O.faults out.new ≡ O.faults out.old }
+    ensures writes { CountsFault (result ≡ Cause.WriteFault) (O.faults out.old) (O.faults out.new) }
 {
     let plan = time_plan(
         alloc,
@@ -92,9 +88,7 @@ fn sample_by<O: Sink, G: Gate, R: Threads + Wait + Sync>(
     requires by_time { time_plan_of request.now.distance request.now.rounds request.now.units ≡ Ok plan.now }
     requires plan { IsPlan graph.now plan.now }
     ensures ends { SampleEnds (plain_sampling request.now) (O.taken out.old) (O.taken out.new) result }
-    ensures write_fault { result ≡ Cause.WriteFault → Rose (O.faults out.old) (O.faults out.new) }
-    ensures write_never_falls { O.faults out.old ≤ O.faults out.new }
-    ensures write_unchanged { result ≢ Cause.WriteFault → O.faults out.new ≡ O.faults out.old }
+    ensures writes { CountsFault (result ≡ Cause.WriteFault) (O.faults out.old) (O.faults out.new) }
 {
     let Ok(sums) = sample_on(rt, alloc, request, graph, plan, gate) else {
         return Cause::NoMemory;

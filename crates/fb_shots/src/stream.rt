@@ -1,8 +1,8 @@
 //! The shots of a file, one after another.
 
-ghost use Rattle.std.specs.Prelude.{◌≡◌, ◌≢◌, ℕ, ◌+◌, ◌-◌, ◌<◌, ◌≤◌, ◌++◌, [], List, true, false, Ok, Some, None, length, IfOk, OnOk, OnErr, MatchOption};
-ghost use Rattle.fb_ports.specs.Causes.{Rose};
-ghost use Rattle.fb_shots.specs.Streams.{Stream, fresh, follows, stream_of, most_bytes};
+ghost use Rattle.std.specs.Prelude.{◌≡◌, ℕ, ◌+◌, ◌-◌, ◌<◌, ◌++◌, [], List, true, Ok, Some, None, IfOk, OnOk, OnErr, MatchOption};
+ghost use Rattle.fb_ports.specs.Causes.{CountsFault};
+ghost use Rattle.fb_shots.specs.Streams.{Stream, follows, fresh, most_bytes, stream_of};
 ghost use Rattle.fb_shots.specs.InternalReads.{ReadsOn, may_read};
 ghost use Rattle.fb_shots.specs.Steps.{Answers, OnlyTakes};
 
@@ -72,9 +72,7 @@ impl<'a> ShotStream<'a> {
         ensures kept { OnErr result (OnlyTakes self.old self.new (F.left files.old) (F.left files.new)) }
 
         // The result is an error exactly if one occurred.
-        ensures fault { result ≡ Ok Step.ReadFault → Rose (F.faults files.old) (F.faults files.new) }
-        ensures never_falls { F.faults files.old ≤ F.faults files.new }
-        ensures unchanged { result ≢ Ok Step.ReadFault → F.faults files.new ≡ F.faults files.old }
+        ensures faults { CountsFault (result ≡ Ok Step.ReadFault) (F.faults files.old) (F.faults files.new) }
 
         ensures names { F.named files.new ≡ F.named files.old }
         ensures asks { F.asked files.new ≡ F.asked files.old }
@@ -93,9 +91,7 @@ impl<'a> ShotStream<'a> {
             × (may_read self.new < may_read self.old))
             (Answers self.old self.new (F.left files.old) (F.left files.new))) }
         ensures kept { OnErr result ((self.new ≡ self.old) × (F.left files.new ≡ F.left files.old)) }
-        ensures fault { result ≡ Ok (Some Step.ReadFault) → Rose (F.faults files.old) (F.faults files.new) }
-        ensures never_falls { F.faults files.old ≤ F.faults files.new }
-        ensures unchanged { result ≢ Ok (Some Step.ReadFault) → F.faults files.new ≡ F.faults files.old }
+        ensures faults { CountsFault (result ≡ Ok (Some Step.ReadFault)) (F.faults files.old) (F.faults files.new) }
         ensures names { F.named files.new ≡ F.named files.old }
         ensures asks { F.asked files.new ≡ F.asked files.old }
     {
@@ -178,9 +174,7 @@ fn read_on<F: Files>(
     requires { piece.old ≡ [] }
     ensures reads { ReadsOn reader.old reader.new piece.new untaken.old untaken.new
         (F.left files.old) (F.left files.new) result }
-    ensures fault { result ≡ Read.Fault → Rose (F.faults files.old) (F.faults files.new) }
-    ensures never_falls { F.faults files.old ≤ F.faults files.new }
-    ensures unchanged { result ≢ Read.Fault → F.faults files.new ≡ F.faults files.old }
+    ensures faults { CountsFault (result ≡ Read.Fault) (F.faults files.old) (F.faults files.new) }
     ensures names { F.named files.new ≡ F.named files.old }
     ensures asks { F.asked files.new ≡ F.asked files.old }
 {

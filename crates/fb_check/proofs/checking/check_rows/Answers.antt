@@ -1,10 +1,10 @@
-use Rattle.std.proofs.Common.{◌∙◌, ◌<◌, ℕ, [], inl, inr, refl, sym, subst, append-nil}
-use Rattle.fb_ports.specs.Causes.{Rose}
+use Rattle.std.proofs.Common.{◌∙◌, ℕ, [], inl, inr, refl, sym, subst, append-nil}
 use Rattle.fb_words.specs.PlainRequests.{plain_checking}
 use Rattle.fb_check.specs.Checks.{check_head}
+use Rattle.fb_check.specs.Ends.{CountsReadFault}
 use Rattle.fb_inputs.proofs.Inputs.{asks_kept, asks_one, asks_same}
 use Rattle.fb_inputs.proofs.Gathered.{is_opened, is_unopened, read_out_opened}
-use Rattle.fb_check.proofs.Checked.{check_read_fault, check_reported, check_to_end, checks_first, checks_on, first_opened, judged_opened, never_memory}
+use Rattle.fb_check.proofs.Checked.{check_counted, check_to_end, checks_first, checks_on, first_opened, judged_opened, never_memory}
 use Rattle.fb_check.proofs.checking.check_rows.Goals as goal
 
 pub returns-in_default-clause-ends : goal.returns-in_default-clause-ends
@@ -87,14 +87,8 @@ returns-in-Ok-judge_file-clause-at_end g c reads =
     (rw c.in-Ok-from_str.ensures.ok at c.in-Ok-open_file.ensures.opens))
     (c.in-Ok-judge_file.ensures.at_end (check_to_end c.in-Ok-judge_file.judged.end _ c.in-Ok-judge_file.judged.shots c.in-Ok-judge_file.judged.bad _ _ _ c.end_check.ensures.end reads))
 
-pub returns-in-Ok-judge_file-clause-read_fault : goal.returns-in-Ok-judge_file-clause-read_fault
-returns-in-Ok-judge_file-clause-read_fault g c e =
+pub returns-in-Ok-judge_file-clause-reads : goal.returns-in-Ok-judge_file-clause-reads
+returns-in-Ok-judge_file-clause-reads g c =
     let judged = c.in-Ok-judge_file.judged in
-    subst (λ (n : ℕ). Rose n (g.F.Files.faults c.judge_file.new.files)) c.in-Ok-open_file.ensures.cause
-    (c.in-Ok-judge_file.ensures.fault (check_read_fault judged.end _ judged.shots judged.bad _ _ _ c.end_check.ensures.end e))
-
-pub returns-in-Ok-judge_file-clause-read_reported : goal.returns-in-Ok-judge_file-clause-read_reported
-returns-in-Ok-judge_file-clause-read_reported g c rose =
-    let judged = c.in-Ok-judge_file.judged in
-    check_reported judged.end _ judged.shots judged.bad _ _ _ c.end_check.ensures.end (g.F.Files.faults c.open_file.new.self) _
-    c.in-Ok-judge_file.ensures.unchanged (subst (λ (n : ℕ). n < g.F.Files.faults c.judge_file.new.files) (sym c.in-Ok-open_file.ensures.cause) rose)
+    subst (λ (n : ℕ). CountsReadFault c.end_check.result n (g.F.Files.faults c.judge_file.new.files)) c.in-Ok-open_file.ensures.cause
+    (check_counted judged.end _ judged.shots judged.bad _ _ _ c.end_check.ensures.end _ _ c.in-Ok-judge_file.ensures.reads)

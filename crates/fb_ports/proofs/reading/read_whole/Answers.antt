@@ -14,9 +14,6 @@ returns-in_default-read_at_most-clause-end g c = tt
 pub returns-in_default-read_at_most-clause-reported : goal.returns-in_default-read_at_most-clause-reported
 returns-in_default-read_at_most-clause-reported g c = λ rises. refl
 
-pub returns-in_default-read_at_most-clause-unchanged : goal.returns-in_default-read_at_most-clause-unchanged
-returns-in_default-read_at_most-clause-unchanged g c = λ other. absurd (other refl)
-
 pub returns-in_default-read_at_most-clause-taken : goal.returns-in_default-read_at_most-clause-taken
 returns-in_default-read_at_most-clause-taken g c = grind (arith, common_steps)
 

@@ -82,8 +82,8 @@ loop-next-preserved g c = record {
   crew = c.in-Ok.ensures.same ∙ c.loop-next.invariant.crew;
   empty = c.in_ok-tally.ensures.emptied;
   asks = c.in-Ok.ensures.asks ∙ c.loop-next.invariant.asks;
-  unread = c.in-Ok.ensures.unchanged (λ e. c.in_default-end.not-Some _ e) ∙ c.loop-next.invariant.unread;
-  unwritten = c.in_ok-tally.ensures.write_unchanged (λ e. absurd cc) ∙ c.loop-next.invariant.unwritten;
+  unread = c.in-Ok.ensures.reads.2 (λ e. c.in_default-end.not-Some _ e) ∙ c.loop-next.invariant.unread;
+  unwritten = c.in_ok-tally.ensures.writes.2 (λ e. absurd cc) ∙ c.loop-next.invariant.unwritten;
 }
 
 pub returns-in-Some-clause-at_end : goal.returns-in-Some-clause-at_end

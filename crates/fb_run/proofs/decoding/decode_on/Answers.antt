@@ -1,4 +1,4 @@
-use Rattle.std.proofs.Common.{◌≡◌, ◌⊎◌, inl, inr, ℕ, List, Option, None, Some, option_map, refl, sym, ap, subst}
+use Rattle.std.proofs.Common.{◌≡◌, ◌⊎◌, inl, inr, ℕ, List, Option, None, Some, option_map, refl, sym, ap, subst, arith}
 use Rattle.std.proofs.KnownBytes.{Appends-nil}
 use Rattle.fb_graph.specs.Limits.{DecodingGraph}
 use Rattle.fb_plan.specs.Plans.{PlanTree, single_of}
@@ -8,7 +8,7 @@ use Rattle.fb_inputs.specs.Moments.{Moment, moment}
 use Rattle.fb_words.specs.Words.{Decoding}
 use Rattle.fb_endings.specs.declared.ending.Cause.{Cause}
 use Rattle.fb_endings.specs.declared.ending.Refusal.TheVariants as refusal
-use Rattle.fb_check.proofs.AtFiles.{ends_at_file, not_by_writing, not_to_the_end, reported_at_file, rose_at_file}
+use Rattle.fb_check.proofs.AtFiles.{counted_at_file, ends_at_file, not_by_writing, not_to_the_end}
 use Rattle.fb_run.proofs.decoding.decode_on.Goals as goal
 
 -- the end of a decode for which a plan is named
@@ -37,7 +37,7 @@ returns-in-Ok-read_plan_file-clause-ends g c = by_name _ _ _ _ _ _ _ (ap (option
     named = c.in-Ok-read_plan_file.ensures.names;
     text = c.in-Ok-read_plan_file.ensures.plan;
     asks = c.in-Ok-read_plan_file.ensures.asked (λ e. cc);
-    unfailing = c.in-Ok-read_plan_file.ensures.unchanged (λ e. cc);
+    unfailing = c.in-Ok-read_plan_file.ensures.faults.2 (λ e. cc);
     written = refl;
   };
   ends = c.decode_by-in-Ok-read_plan_file.ensures.ends;
@@ -51,20 +51,16 @@ returns-in-Err-read_plan_file-clause-ends g c = rw c.cause_of_plan.ensures (by_n
     (moment (g.F.Files.named c.read_plan_file.new.files) (g.F.Files.left c.read_plan_file.new.files) (g.F.Files.asked c.read_plan_file.new.files)
     (g.F.Files.faults c.read_plan_file.new.files) (g.O.Sink.taken c.args.out.now))
     _ c.in-Err-read_plan_file.fault refl c.in-Err-read_plan_file.ensures.refused c.in-Err-read_plan_file.ensures.asks
-    c.in-Err-read_plan_file.ensures.asked c.in-Err-read_plan_file.ensures.fault c.in-Err-read_plan_file.ensures.unchanged (Appends-nil _))))
+    c.in-Err-read_plan_file.ensures.asked c.in-Err-read_plan_file.ensures.faults (Appends-nil _))))
 
 pub returns-in-Err-read_plan_file-clause-at_end : goal.returns-in-Err-read_plan_file-clause-at_end
 returns-in-Err-read_plan_file-clause-at_end g c reads =
     absurd (not_to_the_end refusal.Plan c.in-Err-read_plan_file.fault (rw c.cause_of_plan.ensures at reads))
 
-pub returns-in-Err-read_plan_file-clause-read_fault : goal.returns-in-Err-read_plan_file-clause-read_fault
-returns-in-Err-read_plan_file-clause-read_fault g c is =
-    rose_at_file refusal.Plan _ _ _ c.in-Err-read_plan_file.fault refl c.in-Err-read_plan_file.ensures.fault (rw c.cause_of_plan.ensures at is)
+pub returns-in-Err-read_plan_file-clause-reads : goal.returns-in-Err-read_plan_file-clause-reads
+returns-in-Err-read_plan_file-clause-reads g c = rw c.cause_of_plan.ensures
+    (counted_at_file refusal.Plan _ _ _ c.in-Err-read_plan_file.fault refl c.in-Err-read_plan_file.ensures.faults c.in-Err-read_plan_file.ensures.reported)
 
-pub returns-in-Err-read_plan_file-clause-read_reported : goal.returns-in-Err-read_plan_file-clause-read_reported
-returns-in-Err-read_plan_file-clause-read_reported g c rose = rw c.cause_of_plan.ensures
-    (reported_at_file refusal.Plan _ c.in-Err-read_plan_file.fault refl (c.in-Err-read_plan_file.ensures.reported rose))
-
-pub returns-in-Err-read_plan_file-clause-write_fault : goal.returns-in-Err-read_plan_file-clause-write_fault
-returns-in-Err-read_plan_file-clause-write_fault g c is =
-    absurd (not_by_writing refusal.Plan c.in-Err-read_plan_file.fault (rw c.cause_of_plan.ensures at is))
+pub returns-in-Err-read_plan_file-clause-writes : goal.returns-in-Err-read_plan_file-clause-writes
+returns-in-Err-read_plan_file-clause-writes g c =
+    (λ is. absurd (not_by_writing refusal.Plan c.in-Err-read_plan_file.fault (rw c.cause_of_plan.ensures at is)), omega arith, λ other. refl)

@@ -1,10 +1,10 @@
-use Rattle.std.proofs.Common.{◌<◌, ℕ, [], inl, inr, refl, sym, subst, append-nil}
-use Rattle.fb_ports.specs.Causes.{Rose}
+use Rattle.std.proofs.Common.{ℕ, [], inl, inr, refl, sym, subst, append-nil}
 use Rattle.fb_report.specs.Texts.{head_text}
+use Rattle.fb_check.specs.Ends.{CountsReadFault}
 use Rattle.fb_words.specs.PlainRequests.{plain_decoding}
 use Rattle.fb_inputs.proofs.Inputs.{asks_kept, asks_one, asks_same}
 use Rattle.fb_inputs.proofs.Gathered.{is_opened, is_unopened, read_out_opened}
-use Rattle.fb_run.proofs.Finishing.{ends_on, prefix_of_batches, report_read_fault, report_reported, report_to_end}
+use Rattle.fb_run.proofs.Finishing.{ends_on, prefix_of_batches, report_counted, report_to_end}
 use Rattle.fb_inputs.specs.InternalGathers.{IsOpened}
 use Rattle.fb_run.proofs.decoding.decode_with.Goals as goal
 use Rattle.fb_run.proofs.decoding.decode_with.Goals.{In-Ok-open_file}
@@ -78,12 +78,7 @@ returns-in-Err-NoMemory-clause-ends g c =
           (rw c.requires.crew at c.in-Err-NoMemory.ensures.first),
     )
 
-pub returns-in-Ok-decode_file-clause-read_fault : goal.returns-in-Ok-decode_file-clause-read_fault
-returns-in-Ok-decode_file-clause-read_fault g c e =
-    subst (λ (n : ℕ). Rose n (g.F.Files.faults c.decode_file.new.files)) c.in-Ok-open_file.ensures.cause
-    (c.in-Ok-decode_file.ensures.fault (report_read_fault c.args.plan.now c.in-Ok-decode_file.decoded.end _ _ _ _ _ c.end_report.ensures.end e))
-
-pub returns-in-Ok-decode_file-clause-read_reported : goal.returns-in-Ok-decode_file-clause-read_reported
-returns-in-Ok-decode_file-clause-read_reported g c rose =
-    report_reported c.args.plan.now c.in-Ok-decode_file.decoded.end _ _ _ _ _ c.end_report.ensures.end (g.F.Files.faults c.open_file.new.self) _
-    c.in-Ok-decode_file.ensures.unchanged (subst (λ (n : ℕ). n < g.F.Files.faults c.decode_file.new.files) (sym c.in-Ok-open_file.ensures.cause) rose)
+pub returns-in-Ok-decode_file-clause-reads : goal.returns-in-Ok-decode_file-clause-reads
+returns-in-Ok-decode_file-clause-reads g c =
+    subst (λ (n : ℕ). CountsReadFault c.end_report.result n (g.F.Files.faults c.decode_file.new.files)) c.in-Ok-open_file.ensures.cause
+    (report_counted c.args.plan.now c.in-Ok-decode_file.decoded.end _ _ _ _ _ c.end_report.ensures.end _ _ c.in-Ok-decode_file.ensures.reads)

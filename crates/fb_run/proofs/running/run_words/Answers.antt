@@ -2,7 +2,7 @@ use Rattle.std.proofs.Common.{map, string_bytes}
 use Rattle.fb_words.specs.PlainRequests.{plain_request}
 use Rattle.fb_words.specs.Words.{request_of}
 use Rattle.fb_words.specs.declared.usage.UsageKind.TheVariants as usage
-use Rattle.fb_run.proofs.Answered.{ends_read, ends_refused, request_not_usage, fault_not_parse, never_out, only_write_fault, out_read}
+use Rattle.fb_run.proofs.Answered.{ends_read, ends_refused, request_not_usage, fault_not_parse, never_out, out_read}
 use Rattle.fb_run.proofs.running.run_words.Goals as goal
 
 pub returns-in-Ok-clause-ends : goal.returns-in-Ok-clause-ends
@@ -26,6 +26,3 @@ returns-in-Err-clause-at_end g c =
 pub returns-in-Err-clause-ends : goal.returns-in-Err-clause-ends
 returns-in-Err-clause-ends g c =
     rw c.refuse_words.ensures.cause (ends_refused (request_of (map string_bytes c.args.words.now)) c.in-Err.fault _ c.in-Err.ensures.fault)
-
-pub returns-in-Ok-clause-write_reported : goal.returns-in-Ok-clause-write_reported
-returns-in-Ok-clause-write_reported g c = only_write_fault c.run_request.result _ _ c.run_request.ensures.write_unchanged
