@@ -1,6 +1,6 @@
-//! Why a file does not hold what is wanted of it.
+//! The fault of a named file.
 
-/// Why nothing was made of a named file. `E` says why its text is refused.
+/// Why a named file can't be used. `E` is the fault of a text that is refused.
 #[derive(Clone, Copy, Debug, PartialEq, Eq)]
 pub enum FileFault<E> {
     /// The text is refused. The fault is never want of memory.

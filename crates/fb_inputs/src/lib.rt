@@ -4,12 +4,14 @@
 
 pub mod fault;
 pub mod graphs;
+pub mod named;
 pub mod outbox;
 pub mod plans;
 pub mod taking;
 
 pub use fault::FileFault;
-pub use graphs::{read_graph_file, read_named};
+pub use graphs::read_graph_file;
+pub use named::read_named;
 pub use outbox::{Outbox, RowsFault};
 pub use plans::read_plan_file;
 pub use taking::{MOST_SHOTS, ShotsEnd, Taken, take_window};

@@ -6,7 +6,7 @@ ghost use Rattle.fb_ports.specs.Causes.{HasRoom, CountsFault};
 ghost use Rattle.fb_inputs.specs.Judging.{Asks, AsksPrefix, Holds, IfRefused, IsNoPlan, IsPlanText};
 
 use crate::fault::FileFault;
-use crate::graphs::read_named;
+use crate::named::read_named;
 use fb_graph::Graph;
 use fb_json::MOST_TEXT_BYTES;
 use fb_plan::{Plan, PlanFault};
@@ -14,7 +14,8 @@ use fb_plan_in::read_plan;
 use fb_ports::Files;
 use std::alloc::Global;
 
-/// The plan of the graph in the named file.
+/// The plan of the graph in the named file. Returns an error if its text is refused, the file can't be opened or read, or memory
+/// runs out.
 pub fn read_plan_file<F: Files>(
     alloc: Global,
     files: &mut F,

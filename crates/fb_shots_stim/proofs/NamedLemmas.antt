@@ -6,7 +6,7 @@ use Rattle.std.specs.Ordering.{nat_cmp}
 use Rattle.std.specs.List.{list_any, filter, range_with_len}
 use Rattle.std.specs.List.Sorted.{IsPermutation, IsSorted, IsNonDecreasingBy}
 use Rattle.std.proofs.lemmas.Bool.{cases_Bool, cases_eq, eq-eqb, ne_eqb, or_parts}
-use Rattle.std.proofs.lemmas.List.{at_drop_more, length-set, get_or-set_same, get_or-set_other}
+use Rattle.std.proofs.lemmas.List.{at_drop_more, length-set, get_or_default, get_or-set_same, get_or-set_other}
 use Rattle.std.proofs.lemmas.List.Folds.{list_any-append}
 use Rattle.std.proofs.lemmas.List.Elements.{All-push, All-head, All-tail}
 use Rattle.std.proofs.lemmas.List.Sums.{sum_by-cons, sum_by_push}
@@ -63,6 +63,13 @@ marked_made n old new named m size kept none = record {
     nothing : (named : List ℕ) → (0 < length named → ⊥) → named ≡ []
     nothing [] h = refl
     nothing (x ∷ named) h = absurd (h (omega arith))
+
+-- once the marks are made, the one at an index says whether it is named
+pub named_as_marked : (n : ℕ) (new : List Bool) (named : List ℕ) (index : ℕ) (mark : Bool) → IsMarked n new named → length new ≡ n → index < n
+    → mark ≡ get_or new index mark → list_any (eqb index) named ≡ mark
+named_as_marked n new named index mark m size lt is =
+    let within : index < length new = omega (arith, size) in
+    sym (m.marked index within) ∙ (get_or_default new index false mark within ∙ sym is)
 
 -- one more is named and marked
 pub marked_more : (n : ℕ) (marks : List Bool) (named : List ℕ) (index : ℕ) → IsMarked n marks named → length marks ≡ n → index < n → list_any (eqb index) named ≡ false → IsMarked n (set marks index true) (named ++ index ∷ [])

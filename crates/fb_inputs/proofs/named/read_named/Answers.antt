@@ -1,5 +1,5 @@
 use Rattle.fb_inputs.proofs.Inputs.{asks_prefix_kept, asks_prefix_one}
-use Rattle.fb_inputs.proofs.graphs.read_named.Goals as goal
+use Rattle.fb_inputs.proofs.named.read_named.Goals as goal
 
 pub returns-then-is_err-clause-asks : goal.returns-then-is_err-clause-asks
 returns-then-is_err-clause-asks g c = asks_prefix_one _ _ _ (rw c.in-Ok.ensures.ok at c.open_file.ensures.asks)
