@@ -4,18 +4,17 @@ use Rattle.std.specs.List.{range_with_len}
 use Rattle.std.specs.List.Sorted.{IsStrictlyIncreasing}
 use Rattle.fb_graph.specs.Parity.{is_in}
 use Rattle.fb_graph.specs.Problem.{Problem, with_defects}
-use Rattle.fb_graph.specs.declared.graph.TheConstants.{MOST_VERTICES, MOST_EDGES, MOST_WEIGHT}
 use Rattle.fb_graph.specs.declared.parts.Edge.{Edge}
 
--- the most vertices and edges of a graph, and the greatest weight: the constants that `Graph::build` tests
+-- the most vertices and edges of a graph, and the greatest weight: 2^20, 2^22 and 2^30
 abbrev pub most_vertices : ℕ
-most_vertices = MOST_VERTICES
+most_vertices = 1048576
 
 abbrev pub most_edges : ℕ
-most_edges = MOST_EDGES
+most_edges = 4194304
 
 abbrev pub most_weight : ℕ
-most_weight = MOST_WEIGHT
+most_weight = 1073741824
 
 -- two different ends in range, and an even weight within its limit
 pub record IsEdge (vertices : ℕ) (e : Edge) : Type 0 where

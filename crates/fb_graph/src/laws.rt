@@ -1,6 +1,16 @@
 //! What follows from the definitions alone. Each function does nothing: its clauses are the law.
 
+ghost use Rattle.std.specs.Prelude.{◌≡◌};
+ghost use Rattle.fb_graph.specs.Limits.{most_edges, most_vertices, most_weight};
+ghost use Rattle.fb_graph.specs.declared.graph.TheConstants.{MOST_VERTICES, MOST_EDGES, MOST_WEIGHT};
 ghost use Rattle.fb_graph.specs.Laws.{WeakDuality, LeastWeight, EqualWeights, NoCorrection, BestHasNoOdd, ClosedIsOdd, LeastIsFirstOdd, SomeIsFirstOdd, PartHasNoOddClosed, EdgeLeaves, PackingOfPart, PackingsJoined, WalkParity, OddOnesRise, OddOnesCount, OddOnesWeigh, Resolving, NoOddComponent, NoOddClosedSet};
+
+/// The limits that `Graph::build` tests are those of the definitions.
+pub fn limits_of_graphs()
+    ensures vertices { MOST_VERTICES ≡ most_vertices }
+    ensures edges { MOST_EDGES ≡ most_edges }
+    ensures weight { MOST_WEIGHT ≡ most_weight }
+{}
 
 /// Weak duality (Edmonds and Johnson 1973): feasible odd cuts add up to at most what any correction weighs.
 pub fn weak_duality()

@@ -10,7 +10,6 @@ use Rattle.fb_shots.specs.declared.answer.Format.{Format}
 use Rattle.fb_plan.specs.Plans.{PlanTree}
 use Rattle.fb_plan.specs.declared.faults.PlanFault.{PlanFault}
 use Rattle.fb_plan_in.specs.PlanText.{plan_of_text}
-use Rattle.fb_inputs.specs.declared.taking.TheConstants.{MOST_SHOTS}
 use Rattle.fb_inputs.specs.declared.fault.FileFault.{FileFault}
 use Rattle.fb_inputs.specs.declared.fault.FileFault.TheVariants as file_fault
 
@@ -45,9 +44,9 @@ IfRefused P (file_fault.Refused reason) = P reason
 IfRefused P file_fault.ReadFault = ⊤
 IfRefused P file_fault.NoMemory = ⊤
 
--- the most shots that are taken from a file
+-- the most shots that are taken from a file: 2^32 - 1
 abbrev pub most_shots : ℕ
-most_shots = MOST_SHOTS
+most_shots = 4294967295
 
 -- the shots of a text, and how they end
 abbrev pub shots_of : Format → DecodingGraph → List ℕ → Shots

@@ -4,6 +4,7 @@
 
 pub mod fault;
 pub mod graphs;
+pub mod laws;
 pub mod named;
 pub mod outbox;
 pub mod plans;

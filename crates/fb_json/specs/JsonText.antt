@@ -4,11 +4,10 @@ use Rattle.std.specs.Str.{is_utf8}
 use Rattle.serde_json.specs.Data.{Data, Items, no_items, item}
 use Rattle.serde_json.specs.Find.{as_number, as_u64}
 use Rattle.serde_json.specs.Read.{read}
-use Rattle.fb_json.specs.declared.text.TheConstants.{MOST_TEXT_BYTES}
 
--- the most bytes of the text of a graph or of a plan, and of a line with a shot
+-- the most bytes of the text of a graph or of a plan, and of a line with a shot: 2^28
 abbrev pub most_bytes : ℕ
-most_bytes = MOST_TEXT_BYTES
+most_bytes = 268435456
 
 -- the next step on a value that is there, else this fault
 abbrev pub with_option : {A B F : Type 0} → Option A → F → (A → Result B F) → Result B F

@@ -1,6 +1,7 @@
 //! Texts of JSON (RFC 8259), over the meaning that `serde_json` gives them.
 #![tactic(auto)]
 
+pub mod laws;
 pub mod text;
 
 pub use text::{MOST_TEXT_BYTES, NoValue, read_value};

@@ -6,7 +6,6 @@ use Rattle.fb_graph.specs.Parity.{is_in}
 use Rattle.fb_graph.specs.Problem.{Problem}
 use Rattle.fb_graph.specs.Limits.{DecodingGraph, ShotValue, is_real_in, problem_of}
 use Rattle.fb_graph.specs.declared.parts.Edge.{Edge}
-use Rattle.fb_plan.specs.declared.plan.TheConstants.{MOST_UNITS}
 
 -- a plan as contracts see it
 pub record PlanTree : Type 0 where
@@ -18,7 +17,7 @@ pub record PlanTree : Type 0 where
 
 -- the most units of a plan
 abbrev pub most_units : ℕ
-most_units = MOST_UNITS
+most_units = 4096
 
 abbrev pub node_count : PlanTree → ℕ
 node_count t = t.units + length t.joins

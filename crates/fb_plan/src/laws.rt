@@ -1,7 +1,15 @@
 //! What follows from the definitions alone. Each function does nothing: its clauses are the law.
 
+ghost use Rattle.std.specs.Prelude.{◌≡◌};
+ghost use Rattle.fb_plan.specs.Plans.{most_units};
+ghost use Rattle.fb_plan.specs.declared.plan.TheConstants.{MOST_UNITS};
 ghost use Rattle.fb_plan.specs.Laws.{AllBelowRoot, Ancestors, ChildIsPart, ChildrenAreSeparated, CountOfNodes, Nesting, NodeHasNoOddClosed, NodeIsPart, OneParent, RootIsWhole};
 ghost use Rattle.fb_plan.specs.Seams.{FusionIsParts, SeamIsApart, UnitIsOwn};
+
+/// The limit that `Plan::build` tests is that of the definitions.
+pub fn limit_of_plans()
+    ensures { MOST_UNITS ≡ most_units }
+{}
 
 /// A node's sub-problem is a part of its parent's (Wu and Zhong 2023) and of the whole, and the root's is the whole.
 /// So if a shot has no odd component, no sub-problem has a closed set with an odd number of defects.

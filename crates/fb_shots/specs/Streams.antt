@@ -4,13 +4,12 @@ use Rattle.fb_graph.specs.Limits.{DecodingGraph}
 use Rattle.fb_shots.specs.declared.answer.Format.{Format}
 use Rattle.fb_shots.specs.declared.answer.Kind.{Kind}
 use Rattle.fb_shots.specs.declared.answer.Kind.TheVariants.{InputTooLong}
-use Rattle.fb_shots.specs.declared.stream.TheConstants.{MOST_BYTES}
 use Rattle.fb_shots.specs.Shots.{Ending, at_end, still_open, refused, Shots, only, capped_shots}
 use Rattle.fb_shots.specs.Formats.{records_of, prefix_of}
 
 -- the most bytes that are taken of a file: 2^62
 abbrev pub most_bytes : ℕ
-most_bytes = MOST_BYTES
+most_bytes = 4611686018427387904
 
 -- an ending, if bytes follow that aren't taken
 abbrev pub cut_ending : Ending → Ending

@@ -7,7 +7,6 @@ use Rattle.std.specs.List.{slice_split}
 use Rattle.std.specs.Str.{bytes_eq}
 use Rattle.fb_graph.specs.declared.parts.Row.{Row}
 use Rattle.fb_graph.specs.declared.parts.Row.TheVariants as row
-use Rattle.fb_verify.specs.declared.report_text.TheConstants.{MOST_REPORT_BYTES}
 use Rattle.fb_verify.specs.declared.report_faults.ReportFault.{ReportFault}
 use Rattle.fb_verify.specs.declared.report_faults.ReportFault.TheVariants.{BadLine, WrongShot, Unfinished, TooLong}
 use Rattle.fb_verify.specs.declared.reports.Report.{Report}
@@ -198,7 +197,7 @@ report_in text = read_from 1 (reading [] place.Start) (slice_split (λ b. b == 1
 
 -- the most bytes of a text that is read: 1,073,741,824
 abbrev pub most_bytes : ℕ
-most_bytes = MOST_REPORT_BYTES
+most_bytes = 1073741824
 
 -- the report that a text is, or the first line that fails, or that the text is too long
 unfoldable pub report_of_text : List ℕ → Result Report ReportFault

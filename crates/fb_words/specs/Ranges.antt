@@ -1,6 +1,5 @@
 -- The numbers that each option takes, from the least to the greatest.
 use Rattle.std.specs.Prelude.{ℕ, ◌≤◌}
-use Rattle.fb_words.specs.declared.command.TheConstants.{LEAST_DISTANCE, MOST_AT_ONCE, MOST_DISTANCE, MOST_DRAWN, MOST_RATE, MOST_ROUNDS, MOST_UNITS, MOST_WORKERS}
 
 pub record Range : Type 0 where
   pub low : ℕ
@@ -11,27 +10,27 @@ IsWithin range number = (range.low ≤ number) × (number ≤ range.high)
 
 -- how many workers: 1 to 64
 abbrev pub workers : Range
-workers = record { low = 1; high = MOST_WORKERS }
+workers = record { low = 1; high = 64 }
 
 -- how many shots are solved at once: 1 to 64
 abbrev pub windows : Range
-windows = record { low = 1; high = MOST_AT_ONCE }
+windows = record { low = 1; high = 64 }
 
 -- the distance of a lattice: 2 to 255
 abbrev pub distances : Range
-distances = record { low = LEAST_DISTANCE; high = MOST_DISTANCE }
+distances = record { low = 2; high = 255 }
 
 -- its rounds: 1 to 1,048,576
 abbrev pub rounds : Range
-rounds = record { low = 1; high = MOST_ROUNDS }
+rounds = record { low = 1; high = 1048576 }
 
 -- the units of its plan: 1 to 4,096
 abbrev pub units : Range
-units = record { low = 1; high = MOST_UNITS }
+units = record { low = 1; high = 4096 }
 
 -- in how many of 1,048,576 draws an edge is hit: 0 to 1,048,576
 abbrev pub rates : Range
-rates = record { low = 0; high = MOST_RATE }
+rates = record { low = 0; high = 1048576 }
 
 -- the state at which the draws start: any number of 64 bits
 abbrev pub starts : Range
@@ -39,4 +38,4 @@ starts = record { low = 0; high = 18446744073709551615 }
 
 -- how many shots are drawn: 1 to 1,000,000
 abbrev pub shots : Range
-shots = record { low = 1; high = MOST_DRAWN }
+shots = record { low = 1; high = 1000000 }
