@@ -35,6 +35,15 @@ def copy_repository(folder):
     """Copies the scripts and the examples to a folder, beside the program where `bin/fusion` looks for it."""
     for part in ["bin", "examples"]:
         shutil.copytree(ROOT / part, folder / part, ignore=shutil.ignore_patterns("__pycache__"))
+    shutil.copy(ROOT / "crates.txt", folder)
     built = folder / "crates/fusion/out"
     built.mkdir(parents=True)
     (built / "fusion").symlink_to(FUSION)
+    record(folder)
+
+
+def record(folder):
+    """Has the scripts of a copy take the program that is there for the one that was built there."""
+    build, streams = folder / "bin/build-program", {"check": True, "stdout": subprocess.PIPE, "text": True}
+    checksum = subprocess.run([build, "--checksum"], **streams).stdout.strip()
+    subprocess.run([build, "--record", checksum], **streams)
