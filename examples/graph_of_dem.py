@@ -13,6 +13,7 @@ observables become one edge. The member `observables` lists for each edge the ob
 import json
 import math
 import re
+import signal
 import sys
 
 ERROR = re.compile(r"error(?:\[.*?\])?\(([^)]*)\)(.*)")
@@ -45,6 +46,7 @@ def read_rates(lines):
 
 
 def main():
+    signal.signal(signal.SIGPIPE, signal.SIG_DFL)
     scale = float(sys.argv[1]) if len(sys.argv) > 1 else 1000
     boundary, rates = read_rates(sys.stdin)
     edges, observables = [], []

@@ -8,11 +8,14 @@ without correction gets a line of 0.
 """
 
 import json
+import signal
 import sys
 
 from read_report import read_rows
 
 if __name__ == "__main__":
+    # A reader that leaves early ends the script, as it ends any filter.
+    signal.signal(signal.SIGPIPE, signal.SIG_DFL)
     with open(sys.argv[1]) as file:
         observables = json.load(file)["observables"]
     count = 1 + max((observable for each in observables for observable in each), default=-1)

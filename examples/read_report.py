@@ -1,6 +1,7 @@
 #!/usr/bin/env python3
 """Reads a report from standard input, and prints a line for each shot."""
 
+import signal
 import sys
 
 
@@ -27,6 +28,8 @@ def read_rows(lines):
 
 
 if __name__ == "__main__":
+    # A reader that leaves early ends the script, as it ends any filter.
+    signal.signal(signal.SIGPIPE, signal.SIG_DFL)
     for shot, row in enumerate(read_rows(sys.stdin)):
         text = "no correction" if row["odd"] is not None else f"weight {row['weight']}, edges {row['edges']}"
         print(f"shot {shot}: {text}, {len(row['cuts'])} cuts")

@@ -54,6 +54,11 @@ version)
     fusion/out/fusion --version
     exit 6
     ;;
+"try "*)
+    echo "${PWD##*/}"
+    echo "what rt says of it" >&2
+    [ ! -e "$0.broken" ] || exit 2
+    ;;
 *)
     exit 2
     ;;
@@ -194,8 +199,8 @@ def edits(place):
         (place.folder / "kit/new").chmod(0o755)
         (place.folder / "kit/new").rename(place.rt)
 
-    yield "another text", lambda: source.write_text("low 2 longer\n"), ["low 2 longer", *FIRST[1:]], sources
     yield "a text of that size and time", write_at_same_time, ["low 3", *FIRST[1:]], sources
+    yield "another text", lambda: source.write_text("low 2 longer\n"), ["low 2 longer", *FIRST[1:]], sources
     yield "an older file", replace_by_older, FIRST, sources
     yield "a new file", lambda: place.write("crates/other/specs/S.antt", "S\n"), FIRST, sources
     yield "a file less", other.unlink, FIRST, sources
@@ -225,7 +230,7 @@ def test_stale(_):
             yield f"{edit}: nor checked", place.run("bin/check-part", *part[1:]) == refused
             yield f"{edit}: nothing is built for it", place.builds() == before
             status, said, lines = place.start()
-            yield f"{edit}: built anew", (status, said, lines[0]) == (0, place.prints(*crates), f"bin/fusion: {reason}")
+            yield f"{edit}: built anew", (status, said, lines[:1]) == (0, place.prints(*crates), [f"bin/fusion: {reason}"])
             yield f"{edit}: once", place.builds() == before + 1 and place.start() == (0, said, [])
         before = place.calls()
         for name in ["crates/low/out/new", "crates/low/new.log", "crates/low/__pycache__/new", "docs/new", "new"]:
@@ -339,6 +344,29 @@ def test_record(_):
         yield "record: the program runs", place.start() == (0, place.prints(*FIRST), []) and place.builds() == 1
 
 
+def test_try(_):
+    """`bin/try` runs `rt try` on the files of examples/line, and says that it is unproved; nothing else calls `rt try`."""
+    with tempfile.TemporaryDirectory() as name:
+        place = Clone(name)
+        line, files = f"{place.folder}/examples/line", "--graph graph.json --shots shots.01 --format 01"
+        status, said, lines = place.run("bin/try")
+        yield "try: status and output", (status, said) == (0, "fusion\n")
+        data = f"--data graph.json={line}/graph.json --data shots.01={line}/shots.01"
+        yield "try: what it asks for", place.calls() == [f"try --steps 1 {data} -- decode {files}"]
+        yield "try: unproved", len(lines) == 3 and all(each.startswith("bin/try: UNPROVED: ") for each in lines[:2])
+        shown = "bin/fusion decode --graph examples/line/graph.json --shots examples/line/shots.01 --format 01"
+        yield "try: what to run next", lines[2].split(maxsplit=1)[1] == shown and shown in (program.ROOT / "README.md").read_text()
+        yield "try: with words", place.run("bin/try", "decode")[:2] == (6, "") and len(place.calls()) == 1
+        no_kit = ["bin/try: there is no command rt: the kit isn't installed, or isn't on the PATH"]
+        yield "try: without the kit", place.run("bin/try", kit="none") == (125, "", no_kit)
+        place.write("kit/rt.broken", "")
+        status, said, lines = place.run("bin/try")
+        yield "try: that fails", status == 2 and lines[1:] == ["what rt says of it", "bin/try: rt try failed, with status 2"]
+        (place.folder / "kit/rt.broken").unlink()
+        place.start()
+        yield "try: nothing else", sum(call.startswith("try") for call in place.calls()) == 2
+
+
 TESTS = [
     test_first_start,
     test_stale,
@@ -347,4 +375,5 @@ TESTS = [
     test_edit_while_building,
     test_version,
     test_record,
+    test_try,
 ]
