@@ -9,24 +9,30 @@ from readers import MOST_VERTICES, Graph, Refused
 FACTOR, INCREMENT = 6364136223846793005, 1442695040888963407
 
 
-def lattice(distance, rounds):
-    """Rounds of a square of rows and columns, of which the first and the last column are virtual."""
-    width = distance + 1
-    if rounds * distance * width > MOST_VERTICES:
-        raise Refused("LatticeTooLarge")
+def sheets(rows, columns, rounds, weight, weight_of_time):
+    """A sheet of rows and columns for each round, with an edge from each real vertex to the next sheet's. The first and the
+    last column are virtual."""
+    size = rows * columns
     edges, virtuals = [], []
-    for v in range(rounds * distance * width):
-        row, column = v // width % distance, v % width
-        inner = 1 <= column <= distance - 1
+    for v in range(rounds * size):
+        row, column = divmod(v % size, columns)
+        inner = 0 < column < columns - 1
         if not inner:
             virtuals.append(v)
-        if column < distance:
-            edges.append((v, v + 1, 20))
-        if inner and row + 1 < distance:
-            edges.append((v, v + width, 20))
-        if inner and v // (width * distance) + 1 < rounds:
-            edges.append((v, v + width * distance, 28))
-    return Graph(rounds * distance * width, edges, virtuals)
+        if column + 1 < columns:
+            edges.append((v, v + 1, weight))
+        if inner and row + 1 < rows:
+            edges.append((v, v + columns, weight))
+        if inner and v + size < rounds * size:
+            edges.append((v, v + size, weight_of_time))
+    return Graph(rounds * size, edges, virtuals)
+
+
+def lattice(distance, rounds):
+    """The lattice of `sample`."""
+    if rounds * distance * (distance + 1) > MOST_VERTICES:
+        raise Refused("LatticeTooLarge")
+    return sheets(distance, distance + 1, rounds, 20, 28)
 
 
 def fusions_of(rounds, units):
