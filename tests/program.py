@@ -16,7 +16,7 @@ Answer = namedtuple("Answer", "stdout stderr status")
 def demand():
     """Ends the script where the program isn't built."""
     if not FUSION.is_file():
-        raise SystemExit(f"{FUSION} isn't built: run `rt ci`, or `rt run` in crates/fusion")
+        raise SystemExit(f"{FUSION} isn't built: run `.ci/run`, or `bin/build-program`")
 
 
 def answer(words, folder, stdin=b""):

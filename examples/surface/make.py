@@ -1,5 +1,6 @@
 #!/usr/bin/env python3
-"""Makes the files of this folder, but for the report: a surface code of distance 5, a plan, and shots of five rounds.
+"""Makes the files of this folder, but for the report and the drawing: a surface code of distance 5, a plan, where its vertices
+are drawn, and shots of five rounds.
 
 usage: examples/surface/make.py FOLDER
 
@@ -67,7 +68,9 @@ def main():
         "units": [[[0, first]], [[last, vertices]]],
         "fusions": [{"of": [0, 1], "interface": [[first, last]]}],
     }
-    for name, value in [("graph.json", graph), ("plan.json", plan)]:
+    # Column, row and sheet of each vertex.
+    positions = [[v % COLUMNS, v // COLUMNS % DISTANCE, v // sheet] for v in range(vertices)]
+    for name, value in [("graph.json", graph), ("plan.json", plan), ("positions.json", positions)]:
         (folder / name).write_text(json.dumps(value, separators=(",", ":")) + "\n")
 
     draw = random.Random(1)
