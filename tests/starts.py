@@ -6,6 +6,8 @@ import signal
 import subprocess
 import tempfile
 import time
+from importlib.machinery import SourceFileLoader
+from importlib.util import module_from_spec, spec_from_loader
 from pathlib import Path
 
 import program
@@ -367,7 +369,16 @@ def test_try(_):
         yield "try: nothing else", sum(call.startswith("try") for call in place.calls()) == 2
 
 
+def test_costs(_):
+    """The progress knows what each crate costs."""
+    loader = SourceFileLoader("build_program", str(program.ROOT / "bin/build-program"))
+    build = module_from_spec(spec_from_loader(loader.name, loader))
+    loader.exec_module(build)
+    yield "costs in docs/crates.md", build.costs().keys() >= build.crates_used().keys()
+
+
 TESTS = [
+    test_costs,
     test_first_start,
     test_stale,
     test_copied_clone,
