@@ -3,13 +3,14 @@
 
 usage: examples/logical_flips.py GRAPH
 
-The graph's member `observables`, which `fusion` ignores, lists for each edge the observables that it flips. A shot
+The graph's member `observables`, which `fusion` ignores, lists for each observable the edges that flip it. A shot
 without correction gets a line of 0.
 """
 
 import json
 import signal
 import sys
+from collections import defaultdict
 
 from read_report import read_rows
 
@@ -18,7 +19,13 @@ if __name__ == "__main__":
     signal.signal(signal.SIGPIPE, signal.SIG_DFL)
     with open(sys.argv[1]) as file:
         observables = json.load(file)["observables"]
-    count = 1 + max((observable for each in observables for observable in each), default=-1)
+    flips = defaultdict(list)
+    for observable, edges in enumerate(observables):
+        for edge in edges:
+            flips[edge].append(observable)
     for row in read_rows(sys.stdin):
-        flipped = [observable for edge in row["edges"] for observable in observables[edge]]
-        print("".join(str(flipped.count(observable) % 2) for observable in range(count)))
+        flipped = [0] * len(observables)
+        for edge in row["edges"]:
+            for observable in flips.get(edge, []):
+                flipped[observable] ^= 1
+        print(*flipped, sep="")

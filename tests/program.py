@@ -32,8 +32,8 @@ def fusion(words, folder, stdin=b""):
 
 
 def copy_repository(folder):
-    """Copies the scripts and the examples to a folder, beside the program where `bin/fusion` looks for it."""
-    for part in ["bin", "examples"]:
+    """Copies the scripts, the package and the examples to a folder, beside the program where `bin/fusion` looks for it."""
+    for part in ["bin", "examples", "python"]:
         shutil.copytree(ROOT / part, folder / part, ignore=shutil.ignore_patterns("__pycache__"))
     shutil.copy(ROOT / "crates.txt", folder)
     built = folder / "crates/fusion/out"

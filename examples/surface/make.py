@@ -55,12 +55,12 @@ def main():
     virtuals = [v for v in range(vertices) if is_virtual(v)]
     all_edges = list(edges())
     # The logical observable is flipped by the edges at the first column. `fusion` ignores this member.
-    observables = [[0] if u % COLUMNS == 0 else [] for u, _, _ in all_edges]
+    flipping = [e for e, (u, _, _) in enumerate(all_edges) if u % COLUMNS == 0]
     graph = {
         "vertex_num": vertices,
         "weighted_edges": [[u, v, even_weight(rate)] for u, v, rate in all_edges],
         "virtual_vertices": virtuals,
-        "observables": observables,
+        "observables": [flipping],
     }
     sheet = vertices // ROUNDS
     first, last = ROUNDS // 2 * sheet, (ROUNDS // 2 + 1) * sheet
@@ -82,7 +82,7 @@ def main():
         fired = [k for k, v in enumerate(detectors) if ends.count(v) % 2 == 1]
         packed += sum(1 << k for k in fired).to_bytes((len(detectors) + 7) // 8, "little")
         lines.append(" ".join(["shot", *(f"D{k}" for k in fired)]) + "\n")
-        flips.append(f"{sum(len(observables[e]) for e in hit) % 2}\n")
+        flips.append(f"{len(set(hit) & set(flipping)) % 2}\n")
     (folder / "shots.b8").write_bytes(packed)
     (folder / "few.dets").write_text("".join(lines[:FEW_SHOTS]))
     (folder / "flips.01").write_text("".join(flips))
