@@ -33,7 +33,7 @@ def main():
     except ModelError as error:
         sys.exit(f"graph_of_dem.py: {error}")
     if model.skipped:
-        print(f"graph_of_dem.py: {model.skipped} parts of more than two detectors were skipped", file=sys.stderr)
+        print(f"graph_of_dem.py: skipped parts of more than two detectors: {model.skipped}", file=sys.stderr)
     sys.stdout.write(text)
 
 

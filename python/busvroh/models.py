@@ -262,8 +262,8 @@ class Reader:
         block = self.blocks[-1]
         if len(ends) > 2 and not self.skip_hyperedges:
             raise self.error(
-                f"a part of {len(ends)} detectors: decompose errors by `stim analyze_errors --decompose_errors`, or skip "
-                "such parts (skip_hyperedges)"
+                f"a part of {len(ends)} detectors: use stim analyze_errors --decompose_errors, or skip such parts "
+                "(skip_hyperedges)"
             )
         if len(ends) > 2:
             block.skipped += 1
