@@ -24,13 +24,13 @@ def add_sample(commands):
 
 
 def whole_number(least):
-    def number_of(text):
-        number = int(text)
-        if number < least:
-            raise argparse.ArgumentTypeError(f"{number} is below {least}")
-        return number
+    def number(text):
+        value = int(text)
+        if value < least:
+            raise argparse.ArgumentTypeError(f"{value} is below {least}")
+        return value
 
-    return number_of
+    return number
 
 
 def rate(text):

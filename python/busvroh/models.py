@@ -76,7 +76,8 @@ class Model:
         """Each edge: its detectors, one or two, the observables that it flips, its rate, and the line of its first error."""
         for (key, rate), line in zip(self._block.rates.items(), self._block.lines):
             low, high = key >> BITS & DETECTOR_MASK, key & DETECTOR_MASK
-            yield (low,) if low == high else (low, high), self._flips[key >> 2 * BITS], rate, line
+            if rate > 0:
+                yield (low,) if low == high else (low, high), self._flips[key >> 2 * BITS], rate, line
 
     def graph(self, scale=DEFAULT_SCALE):
         """The graph as `fusion` reads it, whose member `observables` lists the edges of each observable.
@@ -126,7 +127,8 @@ class Block:
     def count_detector(self, detector, line):
         if detector >= self.detectors:
             if detector >= MOST_DETECTORS:
-                raise too_many_detectors(line)
+                limit = f"a graph has at most {MOST_VERTICES} vertices with the boundary"
+                raise error_at(line, f"more than {MOST_DETECTORS} detectors: {limit}")
             self.detectors = detector + 1
 
     def add(self, key, rate, line):
@@ -163,10 +165,6 @@ class Block:
         step = (self.shift + shift) * ONE_LATER
         for (key, rate), line in zip(body.rates.items(), body.lines):
             self.add(key + step, repeated_rate(rate, count), line)
-
-
-def too_many_detectors(line):
-    return error_at(line, f"more than {MOST_DETECTORS} detectors: a graph has at most {MOST_VERTICES} vertices with the boundary")
 
 
 class Reader:
