@@ -8,9 +8,9 @@ use Rattle.fb_regions.specs.declared.marks.Mark.{Mark}
 use Rattle.fb_regions.specs.declared.region.Region.{Region}
 use Rattle.fb_regions.specs.InternalTables.{Sparse, value_of}
 
--- the mark of each vertex, from a table that has only those that there are
-abbrev pub marks_in : Sparse Mark → List (Option Mark)
-marks_in table = map (value_of table) (range_with_len 0 table.bound)
+-- the marks of so many vertices, from a table that has only those that there are
+abbrev pub marks_in : ℕ → Sparse Mark → List (Option Mark)
+marks_in count table = map (value_of table) (range_with_len 0 count)
 
 abbrev pub mark_of : List (Option Mark) → ℕ → Option Mark
 mark_of marks v = get_or marks v None

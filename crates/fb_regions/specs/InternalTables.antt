@@ -1,5 +1,5 @@
 -- Tables over few of many numbers.
-use Rattle.std.specs.Prelude.{ℕ, ◌==◌, if◌then◌else◌, List, [], ◌∷◌, ◌++◌, Option, Some, None, refl}
+use Rattle.std.specs.Prelude.{ℕ, ◌≡◌, ◌<◌, ◌≤◌, length, ◌==◌, if◌then◌else◌, List, [], ◌∷◌, ◌++◌, Option, Some, None, refl}
 use Rattle.std.specs.Coded.{Coded, code_by, coded×, coded_list, coded_ℕ}
 use Rattle.fb_graph.specs.Parity.{is_in}
 
@@ -8,6 +8,11 @@ pub record Sparse (T : Type 0) : Type 0 where
   pub bound : ℕ
   pub keys : List ℕ
   pub values : List T
+
+-- the table has room for each number below the bound once it has a key
+pub record HasRoomFor {T : Type 0} (bound : ℕ) (s : Sparse T) : Type 0 where
+  pub within : s.bound ≤ bound
+  pub ready : 0 < length s.keys → s.bound ≡ bound
 
 -- the value of the first such key
 abbrev pub value_by : {T : Type 0} → List ℕ → List T → ℕ → Option T

@@ -33,7 +33,7 @@ fn put_before(marks: &mut Marks, v: u32, before: u32)
 {
     if let Some(mark) = marks.at(v) {
         let behind = Mark { before, ..*mark };
-        marks.put(v, behind);
+        marks.put_beside(v, v, behind);
     }
 }
 

@@ -1,7 +1,8 @@
-ghost use Rattle.std.specs.Prelude.{◌≡◌, ◌<◌, ℕ, length, is_some, option_and_then, option_map, replicate, set, All, IfOk, None, Some};
+ghost use Rattle.std.specs.Prelude.{◌≡◌, ◌<◌, ℕ, length, is_some, option_and_then, option_map, replicate, set, All, IsSome, OnErr, OnOk, None, Some};
 ghost use Rattle.fb_graph.specs.Certificate.{AreDistinct};
 ghost use Rattle.fb_graph.specs.Parity.{is_in};
 ghost use Rattle.fb_regions.specs.InternalNodes.{before_of, mark_of, under_of};
+ghost use Rattle.fb_regions.specs.InternalTables.{HasRoomFor, value_of};
 
 use crate::NodeId;
 use crate::sparse::SparseTable;
@@ -35,10 +36,13 @@ pub struct Mark {
     pub under: u64,
 }
 
-/// The marks of the vertices that nodes hold, which contracts see as a list with an entry for each vertex. Only `new` takes
-/// memory, room for a mark of each vertex, of which it touches none.
+/// The marks of the vertices that nodes hold, which contracts see as a list with an entry for each vertex. The first mark
+/// takes room for a mark of each vertex, of which it touches none; nothing else takes memory.
 #[derive(Drop)]
 pub struct Marks {
+    /// The number of vertices, with or without a mark.
+    vertices: u32,
+    /// The marks that there are. Until the first one it has no room.
     table: SparseTable<Mark>,
 }
 
@@ -46,26 +50,31 @@ impl Model for Marks {
     ghost use Rattle.std.specs.Prelude.{List, Option};
     ghost use Rattle.fb_regions.specs.declared.marks.Mark.{Mark};
     ghost use Rattle.fb_regions.specs.InternalNodes.{marks_in};
+    ghost use Rattle.fb_regions.specs.InternalTables.{HasRoomFor};
 
     ghost Value = { List (Option Mark) };
 
-    ghost view = { λ m. marks_in m.table };
+    ghost view = { λ m. marks_in m.vertices m.table };
+
+    ghost invariant = { λ m. HasRoomFor m.vertices m.table };
 }
 
 impl Marks {
-    /// No vertex has a mark.
-    pub fn new(alloc: Global, vertices: u32) -> Result<Marks, NoMemory>
-        ensures { IfOk result (λ m. m ≡ replicate vertices None) }
+    /// No vertex has a mark. Takes no memory.
+    pub fn new(alloc: Global, vertices: u32) -> Marks
+        ensures { result ≡ replicate vertices None }
     {
-        let table = SparseTable::new(alloc, vertices)?;
-        Ok(Marks { table })
+        Marks {
+            vertices,
+            table: SparseTable::empty(alloc),
+        }
     }
 
     /// The number of vertices, with or without a mark.
     pub fn vertices(&self) -> u32
         ensures { result ≡ length self.now }
     {
-        self.table.bound()
+        self.vertices
     }
 
     /// The mark of a vertex; none if no node holds it.
@@ -103,9 +112,23 @@ impl Marks {
         }
     }
 
-    /// Gives the vertex the mark.
-    pub fn put(&mut self, v: u32, mark: Mark)
+    /// Gives the vertex the mark. Takes memory only if no vertex had one yet.
+    pub fn put(&mut self, alloc: Global, v: u32, mark: Mark) -> Result<(), NoMemory>
         requires { v < length self.old }
+        ensures ok { OnOk result (self.new ≡ set self.old v (Some mark)) }
+        ensures err { OnErr result (self.new ≡ self.old) }
+    {
+        self.table.keeps();
+        make_room(alloc, &mut self.table, self.vertices)?;
+        self.table.keeps();
+        self.table.enter(v, mark);
+        Ok(())
+    }
+
+    /// Gives the vertex the mark. Another vertex, or this one, has one already, so it takes no memory.
+    pub fn put_beside(&mut self, other: u32, v: u32, mark: Mark)
+        requires below { v < length self.old }
+        requires other { IsSome (mark_of self.old other) }
         ensures { self.new ≡ set self.old v (Some mark) }
     {
         self.table.keeps();
@@ -135,4 +158,17 @@ impl Marks {
         self.table.keeps();
         self.table.keys()
     }
+}
+
+/// Gives the table room for each number below the bound, if it has none yet.
+fn make_room(alloc: Global, table: &mut SparseTable<Mark>, bound: u32) -> Result<(), NoMemory>
+    requires { HasRoomFor bound table.old }
+    ensures room { OnOk result (table.new.bound ≡ bound) }
+    ensures values { (k : ℕ) → value_of table.new k ≡ value_of table.old k }
+    ensures err { OnErr result (table.new ≡ table.old) }
+{
+    if table.bound() < bound {
+        *table = SparseTable::new(alloc, bound)?;
+    }
+    Ok(())
 }

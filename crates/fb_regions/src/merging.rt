@@ -64,14 +64,20 @@ fn rename_all(nodes: &mut [NodeId], names: &Names)
 }
 
 /// Gives each vertex that has a mark in the other table that mark, with the new name of its defect's node.
-pub fn take_marks(marks: &mut Marks, others: &Marks, names: &Names)
+pub fn take_marks(
+    alloc: Global,
+    marks: &mut Marks,
+    others: &Marks,
+    names: &Names,
+) -> Result<(), NoMemory>
     requires { length others.now ≤ length marks.old }
-    ensures { AreMarksOver (name_by names.now) marks.old others.now marks.new }
+    ensures { OnOk result (AreMarksOver (name_by names.now) marks.old others.now marks.new) }
 {
     for v in others.marked() {
         if let Some(mark) = others.at(*v) {
             let leaf = names.of(mark.leaf);
-            marks.put(*v, Mark { leaf, ..*mark });
+            marks.put(alloc, *v, Mark { leaf, ..*mark })?;
         }
     }
+    Ok(())
 }

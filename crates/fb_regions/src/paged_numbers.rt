@@ -1,4 +1,4 @@
-ghost use Rattle.std.specs.Prelude.{◌≡◌, ◌+◌, ◌*◌, ◌<◌, ◌≤◌, ℕ, get_or, length, replicate, set, vec_capacity, IfOk, MatchOption};
+ghost use Rattle.std.specs.Prelude.{◌≡◌, ◌+◌, ◌*◌, ◌<◌, ◌≤◌, ℕ, [], get_or, length, replicate, set, vec_capacity, IfOk, MatchOption};
 ghost use Rattle.fb_regions.specs.InternalPages.{no_place, number_at, ArePaged};
 ghost use Rattle.fb_regions.specs.declared.paged_numbers.TheConstants.{PAGE};
 
@@ -36,6 +36,17 @@ impl Model for PagedNumbers {
 }
 
 impl PagedNumbers {
+    /// No numbers. Takes no memory.
+    pub fn empty(alloc: Global) -> PagedNumbers
+        ensures { result ≡ [] }
+    {
+        PagedNumbers {
+            count: 0,
+            places: Vec::new(alloc),
+            numbers: Vec::new(alloc),
+        }
+    }
+
     /// `count` numbers, all 0. Takes time for each page.
     pub fn new(alloc: Global, count: u32) -> Result<PagedNumbers, NoMemory>
         ensures { IfOk result (λ numbers. numbers ≡ replicate count 0) }

@@ -111,20 +111,21 @@ impl<S: Scope> Model for Regions<S> {
 }
 
 impl<S: Scope> Regions<S> {
-    /// The state without nodes. Takes room for a mark of each vertex of the scope, and time for each 512 vertices.
+    /// The state without nodes. Takes no memory: the first node takes room for a mark of each vertex of the scope, and time
+    /// for each 512 vertices.
     pub fn new(alloc: Global, scope: &S) -> Result<Regions<S>, NoMemory>
         ensures { IfOk result (λ r. r ≡ record { scope = scope.now; nodes = [] }) }
     {
-        let marks = Marks::new(alloc, scope.vertices())?;
         Ok(Regions {
             scope: *scope,
             regions: Vec::new(alloc),
             places: Vec::new(alloc),
-            marks,
+            marks: Marks::new(alloc, scope.vertices()),
         })
     }
 
-    /// The state without nodes, in the room of another one if that was over as many vertices, else in new room.
+    /// The state without nodes, in the room of another one if that was over as many vertices, else without room. Takes no
+    /// memory.
     pub fn on(alloc: Global, spare: SpareRegions, scope: &S) -> Result<Regions<S>, NoMemory>
         ensures { IfOk result (λ r. r ≡ record { scope = scope.now; nodes = [] }) }
     {
@@ -204,7 +205,7 @@ impl<S: Scope> Regions<S> {
             marks: more,
         } = right;
         let names = take_nodes(alloc, &mut regions, &mut places, others, nodes)?;
-        take_marks(&mut marks, &more, &names);
+        take_marks(alloc, &mut marks, &more, &names)?;
         let spare = SpareRegions::from_used(Vec::new(alloc), other_places, more);
         let merged = Regions {
             scope: *scope,
@@ -230,7 +231,8 @@ impl<S: Scope> Regions<S> {
         &self.scope
     }
 
-    /// Makes the vertex a defect: a node of its own with one layer of value 0.
+    /// Makes the vertex a defect: a node of its own with one layer of value 0. The first one takes room for a mark of each
+    /// vertex of the scope, if there is none.
     pub fn open_leaf(&mut self, alloc: Global, node: NodeId, v: u32) -> Result<(), NoMemory>
         requires below { v < (S.problem self.old.scope).vertices }
         requires real { (S.problem self.old.scope).is_real v ≡ true }
@@ -241,6 +243,16 @@ impl<S: Scope> Regions<S> {
     {
         self.regions.reserve(1)?;
         widen(&mut self.places, node)?;
+        let mark = Mark {
+            source: v,
+            leaf: node,
+            distance: 0,
+            rank: 0,
+            by: None,
+            before: v,
+            under: 0,
+        };
+        self.marks.put(alloc, v, mark)?;
         let place = self.regions.len();
         set_place(&mut self.places, node, Some(place));
         self.regions.push_reserved(Region {
@@ -255,18 +267,6 @@ impl<S: Scope> Regions<S> {
             top_value: 0,
             radius: 0,
         });
-        self.marks.put(
-            v,
-            Mark {
-                source: v,
-                leaf: node,
-                distance: 0,
-                rank: 0,
-                by: None,
-                before: v,
-                under: 0,
-            },
-        );
         Ok(())
     }
 
@@ -396,7 +396,7 @@ impl<S: Scope> Regions<S> {
         region.added += 1;
         region.last = step.to;
         region.top_value = 0;
-        self.marks.put(step.to, taken);
+        self.marks.put_beside(step.from, step.to, taken);
     }
 
     /// Takes off the top layer, of value 0, of an outer node that has more than one, so that its last vertex is

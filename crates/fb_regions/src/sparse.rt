@@ -37,6 +37,17 @@ impl<T> Model for SparseTable<T> {
 }
 
 impl<T: Copy> SparseTable<T> {
+    /// A table that no number can enter. Takes no memory.
+    pub fn empty(alloc: Global) -> SparseTable<T>
+        ensures { result ≡ record { bound = 0; keys = []; values = [] } }
+    {
+        SparseTable {
+            places: PagedNumbers::empty(alloc),
+            keys: Vec::new(alloc),
+            values: Vec::new(alloc),
+        }
+    }
+
     /// A table without keys. It takes room for each number below the bound and its value, and time for each page of 512
     /// numbers.
     pub fn new(alloc: Global, bound: u32) -> Result<SparseTable<T>, NoMemory>

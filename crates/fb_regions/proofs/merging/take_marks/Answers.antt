@@ -4,7 +4,7 @@ use Rattle.fb_links.specs.Names.{name_by}
 use Rattle.fb_regions.specs.declared.marks.Mark.{Mark}
 use Rattle.fb_regions.specs.InternalMerged.{AreMarksOverIn, renamed_mark}
 use Rattle.fb_regions.specs.InternalNodes.{mark_of}
-use Rattle.fb_regions.proofs.merging.take_marks.Goals.{in-Some, in_default}
+use Rattle.fb_regions.proofs.merging.take_marks.Goals.{in-Some+in_ok-put, in_default}
 use Rattle.fb_regions.proofs.merging.take_marks.Goals as goal
 
 -- the next vertex of the list has a mark
@@ -24,11 +24,11 @@ loop-v-preserved c =
     let vs = c.marked-v-items.result.now in
     let i = c.loop-v.v-index in
     elim c.match-at.branch [
-      | in-Some w ↦
+      | in-Some+in_ok-put w ↦
           marks_more (name_by c.args.names.now) vs i c.args.marks.now c.args.others.now c.loop-v.marks c.match-at.marks w.in-Some.mark.now
           c.loop-v-test.true
           (omega (arith, c.marked-v-items.ensures.within i 0 c.loop-v-test.true, c.loop-v.invariant.count, c.requires))
-          c.loop-v.invariant (sym w.in-Some.ensures) (w.marks-is ∙ rw w.of-leaf.ensures at w.put.ensures)
+          c.loop-v.invariant (sym w.in-Some.ensures) (w.marks-is ∙ rw w.of-leaf.ensures at w.in_ok-put.ensures.ok)
       | in_default w ↦
           rw w.marks-is
           (marks_same (name_by c.args.names.now) vs i c.args.marks.now c.args.others.now c.loop-v.marks c.loop-v-test.true c.loop-v.invariant

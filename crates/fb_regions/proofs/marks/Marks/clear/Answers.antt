@@ -6,5 +6,6 @@ use Rattle.fb_regions.proofs.marks.Marks.clear.Goals as goal
 pub returns : goal.returns
 returns c =
     rw (← c.self.view_is)
-    (ap marks_in c.clear.ensures
-    ∙ (marks_none c.self.inside.table.bound ∙ ap (λ n. replicate n None) (sym (length-marks c.self.inside.table))))
+    (ap (marks_in c.self.inside.vertices) c.clear.ensures
+    ∙ (marks_none c.self.inside.table.bound c.self.inside.vertices
+    ∙ ap (λ n. replicate n None) (sym (length-marks c.self.inside.vertices c.self.inside.table))))

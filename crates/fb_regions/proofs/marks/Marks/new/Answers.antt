@@ -4,4 +4,4 @@ use Rattle.fb_regions.proofs.MarksIn.{marks_none}
 use Rattle.fb_regions.proofs.marks.Marks.new.Goals as goal
 
 pub returns : goal.returns
-returns c = ap marks_in c.in_ok-table.ensures ∙ marks_none c.args.vertices
+returns c = ap (marks_in c.args.vertices) c.empty.ensures ∙ marks_none 0 c.args.vertices

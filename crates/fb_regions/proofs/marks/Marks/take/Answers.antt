@@ -3,4 +3,4 @@ use Rattle.fb_regions.proofs.marks.Marks.take.Goals as goal
 
 pub returns : goal.returns
 returns c =
-    rw (← c.self.view_is) (marks_left c.self.inside.table c.leave.new.self c.args.v c.leave.ensures.bound c.leave.ensures.values)
+    rw (← c.self.view_is) (marks_left c.self.inside.vertices c.self.inside.table c.leave.new.self c.args.v c.leave.ensures.values)

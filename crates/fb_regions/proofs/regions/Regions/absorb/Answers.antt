@@ -70,7 +70,7 @@ invariant_of-self g c =
     c.index_mut-region.result.now (sym c.in-Some.ensures)
     (read_root c.self.inside.regions.items _ _ _ c.deref-2.ensures.value c.in-Some-root_of.ensures)
     (read_place c.self.inside.regions.items _ _ _ _ c.self.invariant.1 c.deref-3.ensures.value c.in-Some-place_of.ensures) c.index_mut-region.ensures.value in (
-      rw c.put.ensures is.kept,
+      rw c.put_beside.ensures is.kept,
       index_changed _ _ _ c.in-Some-root_of.node c.in-Some-place_of.place c.index_mut-region.result.now _ c.self.invariant.1
           c.deref-3.ensures.value c.in-Some-place_of.ensures c.index_mut-region.ensures.value refl,
     )
@@ -84,7 +84,7 @@ returns g c =
     c.index_mut-region.result.now (sym c.in-Some.ensures)
     (read_root c.self.inside.regions.items _ _ _ c.deref-2.ensures.value c.in-Some-root_of.ensures)
     (read_place c.self.inside.regions.items _ _ _ _ c.self.invariant.1 c.deref-3.ensures.value c.in-Some-place_of.ensures) c.index_mut-region.ensures.value in
-    rw (← c.self.view_is, c.put.ensures) (ap (λ ns. record { scope = c.self.inside.scope; nodes = ns }) is.change)
+    rw (← c.self.view_is, c.put_beside.ensures) (ap (λ ns. record { scope = c.self.inside.scope; nodes = ns }) is.change)
 
 pub root_of-requires-clause-index : goal.root_of-requires-clause-index
 root_of-requires-clause-index g c = rw (c.deref.ensures.value, c.deref-2.ensures.value) c.self.invariant.1

@@ -23,7 +23,7 @@ invariant_of-merged g c = (
   rw c.in_ok-names.ensures.nodes
       (kept_both _ _ _ _ _ _ _ _ c.limits.ensures (rw (← c.left.view_is, ← c.right.view_is) at c.requires.parts)
       c.left.invariant.0 c.right.invariant.0 (rw (← c.left.view_is, ← c.right.view_is) at c.requires.names)
-      _ (marks_by _ _ c.in_ok-names.ensures.names _ _ _ c.take_marks.ensures) (rw (← c.left.view_is) at c.requires.left_vertices)),
+      _ (marks_by _ _ c.in_ok-names.ensures.names _ _ _ c.in_ok-take_marks.ensures) (rw (← c.left.view_is) at c.requires.left_vertices)),
   c.in_ok-names.ensures.index,
 )
 
@@ -33,4 +33,4 @@ returns g c =
     (ap (λ ns. record { scope = c.args.scope.now; nodes = ns })
     (nodes_both _ _ _ _ _ _ _ _ c.limits.ensures (rw (← c.left.view_is, ← c.right.view_is) at c.requires.parts)
     c.left.invariant.0 c.right.invariant.0 (rw (← c.left.view_is, ← c.right.view_is) at c.requires.names)
-    _ (marks_by _ _ c.in_ok-names.ensures.names _ _ _ c.take_marks.ensures)))
+    _ (marks_by _ _ c.in_ok-names.ensures.names _ _ _ c.in_ok-take_marks.ensures)))

@@ -4,7 +4,7 @@ use Rattle.fb_regions.proofs.regions.Regions.new.Goals as goal
 
 pub invariant_of-result : goal.invariant_of-result
 invariant_of-result g c = (
-  kept_none (g.S.Scope.problem c.args.scope.now) _ _ c.new-2.ensures.items
-      (c.in_ok-marks.ensures ∙ ap (λ n. replicate n None) c.vertices.ensures),
-  index_none _ _ c.new-2.ensures.items c.new-3.ensures.items,
+  kept_none (g.S.Scope.problem c.args.scope.now) _ _ c.new.ensures.items
+      (c.new-3.ensures ∙ ap (λ n. replicate n None) c.vertices.ensures),
+  index_none _ _ c.new.ensures.items c.new-2.ensures.items,
 )

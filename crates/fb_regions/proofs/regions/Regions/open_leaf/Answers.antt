@@ -13,7 +13,7 @@ pub invariant_of-self-2 : goal.invariant_of-self-2
 invariant_of-self-2 g c =
     let below : c.args.v < length c.self.inside.marks = rw c.self.invariant.0.room (rw (← c.self.view_is) at c.requires.below) in
     let count : c.len-place.result ≡ length c.self.inside.regions.items = c.len-place.ensures ∙ (c.reserve.new.self.ok.0 ∙ ap length c.in_ok-reserve.ensures.items) in (
-      rw (c.put.ensures, c.push_reserved.ensures.items, c.in_ok-reserve.ensures.items)
+      rw (c.in_ok-put.ensures.ok, c.push_reserved.ensures.items, c.in_ok-reserve.ensures.items)
           (kept_opened _ _ _ c.self.invariant.0 c.args.node c.args.v _ _
           (record {
             name_is = refl;
@@ -37,7 +37,7 @@ invariant_of-self-2 g c =
 pub returns-clause-ok : goal.returns-clause-ok
 returns-clause-ok g c =
     let below : c.args.v < length c.self.inside.marks = rw c.self.invariant.0.room (rw (← c.self.view_is) at c.requires.below) in
-    rw (← c.self.view_is, c.put.ensures, c.push_reserved.ensures.items, c.in_ok-reserve.ensures.items)
+    rw (← c.self.view_is, c.in_ok-put.ensures.ok, c.push_reserved.ensures.items, c.in_ok-reserve.ensures.items)
     (ap (λ ns. record { scope = c.self.inside.scope; nodes = ns })
     (opened_nodes _ _ _ c.self.invariant.0 c.args.node c.args.v _ _
     (record {
