@@ -208,16 +208,6 @@ impl Blossoms {
         parent_of(&self.nodes, node)
     }
 
-    /// Whether the one node is in the cycle of the other.
-    pub fn is_child(&self, node: NodeId, child: NodeId) -> bool
-        ensures { result ≡ is_on (cycle_at self.now node) child }
-    {
-        let Some(parent) = parent_of(&self.nodes, child) else {
-            return false;
-        };
-        parent == node
-    }
-
     /// The steps of the blossom's cycle; none for a leaf.
     pub fn cycle(&self, node: NodeId) -> &[CycleStep]
         ensures { result.now ≡ cycle_at self.now node }
