@@ -1,6 +1,6 @@
 -- The walks of links that are made over a tight edge (Edmonds 1965; Wu and Zhong 2023): from an outer node to another
 -- one, or to the boundary.
-use Rattle.std.specs.Prelude.{ℕ, ◌≡◌, ◌≢◌, ◌<◌, ◌^◌, true, false, List, [], ◌∷◌, length, All, Option, Some}
+use Rattle.std.specs.Prelude.{ℕ, ◌≡◌, ◌≢◌, ◌<◌, ◌^◌, true, false, List, [], ◌∷◌, ◌++◌, length, All, Option, Some}
 use Rattle.fb_graph.specs.Problem.{Problem, edge_at}
 use Rattle.fb_graph.specs.Certificate.{load_of}
 use Rattle.fb_graph.specs.Components.{Leads}
@@ -12,7 +12,8 @@ use Rattle.fb_laws.specs.Trees.{Connects}
 use Rattle.fb_laws.specs.Works.{AreMatchedLinks}
 use Rattle.fb_links.specs.declared.walk.Step.{Step}
 use Rattle.fb_links.specs.Table.{Adds}
-use Rattle.fb_links.specs.Walks.{walk_weight}
+use Rattle.fb_links.specs.Walks.{turned_walk, walk_weight}
+use Rattle.fb_regions.specs.Moves.{IsOver, IsSourceWalk}
 use Rattle.fb_regions.specs.Walks.{IsStep}
 
 -- edge k is tight, and its two ends are under these two different outer nodes
@@ -64,14 +65,35 @@ pub record IsOutWalk (p : Problem) (nodes : List Node) (a v : ℕ) (walk : List 
   pub walk_is : IsTightWalk p nodes walk
   pub leaves : LeavesNode nodes (link_of_steps step_parts walk) a v
 
+-- the walk leads from the source of the edge's first end to that end, over the edge, and from its second end back to the
+-- source of that one
+pub record IsOverSources (p : Problem) (nodes : List Node) (k : ℕ) (walk : List Step) : Type 0 where
+  pub up : List Step
+  pub step : Step
+  pub down : List Step
+  pub joined : walk ≡ (up ++ step ∷ []) ++ turned_walk down
+  pub over : IsAlong p k step
+  pub first : IsSourceWalk p nodes step.from up
+  pub second : IsSourceWalk p nodes step.to down
+
+-- the walk leads from the source of the edge's inner end to that end, and over the edge
+pub record IsOverSource (p : Problem) (nodes : List Node) (k : ℕ) (walk : List Step) : Type 0 where
+  pub up : List Step
+  pub step : Step
+  pub joined : walk ≡ up ++ step ∷ []
+  pub over : IsOver p nodes k step
+  pub inner : IsSourceWalk p nodes step.from up
+
 -- a link of this number is added, by such a walk between the outer nodes over the ends of edge k
 pub record IsLinkedBetween (p : Problem) (nodes : List Node) (k : ℕ) (old new : List (Option (List Step))) (link : ℕ) : Type 0 where
   pub walk : List Step
   pub adds : Adds old new link walk
+  pub sources : IsOverSources p nodes k walk
   pub between : (a b : ℕ) → IsBetween p nodes k a b → IsMetWalk p nodes a b walk
 
 -- a link of this number is added, by such a walk over edge k to the boundary
 pub record IsLinkedOut (p : Problem) (nodes : List Node) (k : ℕ) (old new : List (Option (List Step))) (link : ℕ) : Type 0 where
   pub walk : List Step
   pub adds : Adds old new link walk
+  pub source : IsOverSource p nodes k walk
   pub out : (a v : ℕ) → IsOut p nodes k a v → IsOutWalk p nodes a v walk

@@ -2,7 +2,7 @@
 
 ghost use Rattle.std.specs.Prelude.{◌≡◌, ◌++◌, ◌<◌, ℕ, length, IfOk, OnOk, MatchResult};
 ghost use Rattle.fb_links.specs.Walks.{turned_walk};
-ghost use Rattle.fb_trees.specs.InternalMetWalks.{IsAlong, IsBetween, IsLinkedBetween, IsLinkedOut, IsMetWalk, IsOut, IsOutWalk};
+ghost use Rattle.fb_trees.specs.InternalMetWalks.{IsAlong, IsBetween, IsLinkedBetween, IsLinkedOut, IsMetWalk, IsOut, IsOutWalk, IsOverSource, IsOverSources};
 
 use fb_graph::{NoMemory, Scope};
 use fb_links::{LinkId, Links};
@@ -45,7 +45,8 @@ pub fn link_out<S: Scope>(
 /// first end, over the edge, and back to the source of its second end.
 fn met_walk<S: Scope>(alloc: Global, regions: &Regions<S>, edge: u32) -> Result<Walk, NoMemory>
     requires { (a b : ℕ) × IsBetween (S.problem regions.now.scope) regions.now.nodes edge a b }
-    ensures { IfOk result (λ walk. (a b : ℕ) → IsBetween (S.problem regions.now.scope) regions.now.nodes edge a b
+    ensures sources { IfOk result (IsOverSources (S.problem regions.now.scope) regions.now.nodes edge) }
+    ensures between { IfOk result (λ walk. (a b : ℕ) → IsBetween (S.problem regions.now.scope) regions.now.nodes edge a b
         → IsMetWalk (S.problem regions.now.scope) regions.now.nodes a b walk) }
 {
     regions.keeps();
@@ -76,7 +77,8 @@ fn step_along<S: Scope>(regions: &Regions<S>, edge: u32) -> Step
 /// that end, and over the edge.
 fn out_walk<S: Scope>(alloc: Global, regions: &Regions<S>, edge: u32) -> Result<Walk, NoMemory>
     requires { (a v : ℕ) × IsOut (S.problem regions.now.scope) regions.now.nodes edge a v }
-    ensures { IfOk result (λ walk. (a v : ℕ) → IsOut (S.problem regions.now.scope) regions.now.nodes edge a v
+    ensures source { IfOk result (IsOverSource (S.problem regions.now.scope) regions.now.nodes edge) }
+    ensures out { IfOk result (λ walk. (a v : ℕ) → IsOut (S.problem regions.now.scope) regions.now.nodes edge a v
         → IsOutWalk (S.problem regions.now.scope) regions.now.nodes a v walk) }
 {
     regions.keeps();

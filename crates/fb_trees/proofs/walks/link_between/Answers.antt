@@ -4,15 +4,15 @@ use Rattle.fb_trees.specs.InternalMetWalks.{IsLinkedBetween}
 use Rattle.fb_trees.proofs.walks.link_between.Goals as goal
 
 pub make-requires-clause-some : goal.make-requires-clause-some
-make-requires-clause-some g c = (c.in_ok-walk.ensures c.requires.0 c.requires.1 c.requires.2).walk_is.some
+make-requires-clause-some g c = (c.in_ok-walk.ensures.between c.requires.0 c.requires.1 c.requires.2).walk_is.some
 
 pub make-requires-clause-light : goal.make-requires-clause-light
-make-requires-clause-light g c = (c.in_ok-walk.ensures c.requires.0 c.requires.1 c.requires.2).walk_is.light
+make-requires-clause-light g c = (c.in_ok-walk.ensures.between c.requires.0 c.requires.1 c.requires.2).walk_is.light
 
 pub returns : goal.returns
 returns g c =
     let linked = IsLinkedBetween (g.S.Scope.problem c.args.regions.now.scope) c.args.regions.now.nodes c.args.edge c.args.links.now c.make.new.self in
     MatchResult-from_both c.make.result linked (λ _. c.make.new.self ≡ c.args.links.now)
     (IfOk-weaker _ _ linked
-    (λ link adds. record { walk = c.in_ok-walk.walk; adds = adds; between = c.in_ok-walk.ensures }) c.make.ensures.ok)
+    (λ link adds. record { walk = c.in_ok-walk.walk; adds = adds; sources = c.in_ok-walk.ensures.sources; between = c.in_ok-walk.ensures.between }) c.make.ensures.ok)
     c.make.ensures.err
