@@ -1,11 +1,27 @@
 //! Paths and cycles in a tree of three branches.
 
 use crate::stopped::Stopped;
+use fb_links::{Step, Walk};
 use fb_trees::{CycleStep, LinkId, Links, NodeId, Tree};
 use std::alloc::Global;
 
 fn step(node: NodeId, link: LinkId) -> CycleStep {
     CycleStep { node, link }
+}
+
+/// Links of one step each, under the numbers 0 to 20.
+fn some_links(alloc: Global) -> Result<Links, Stopped> {
+    let mut links = Links::new(alloc)?;
+    for number in 0..21 {
+        let step = Step {
+            from: number,
+            to: number + 1,
+            edge: number,
+            weight: 2,
+        };
+        links.make(alloc, Walk::from_vec(vec![in alloc; step]?))?;
+    }
+    Ok(links)
 }
 
 /// Below the root 0 the branches 1, 2 and 3, 4, and below 2 the branch 5, 6. The links are 10 to 15 in that order.
@@ -29,7 +45,7 @@ fn are_alike(steps: &[CycleStep], wanted: &[(NodeId, LinkId)]) -> bool {
 /// The path from node 6 leads over both branches to the root; two branches lead to that node, and one is beside them. The
 /// cycle that link 20 closes between the nodes 6 and 4 goes from the root to 6 and back over 4.
 pub fn finds_paths_and_cycles(alloc: Global) -> Result<(), Stopped> {
-    let links = Links::new(alloc)?;
+    let links = some_links(alloc)?;
     let tree = three_branches(alloc, &links)?;
     let path = tree.path_to_root(alloc, 6)?;
     let wanted = [(6, 15), (5, 14), (2, 11), (1, 10)];

@@ -1,5 +1,5 @@
-//! Calls that no run of the program makes, on samples whose answers are known: of blossoms, trees, a board, workers, and files
-//! and sinks in memory. It prints what differs, and how many samples passed.
+//! Calls that no run of the program makes, on samples whose answers are known: of links, blossoms, trees, a board, workers, and
+//! files and sinks in memory. It prints what differs, and how many samples passed.
 
 #![tactic(auto)]
 
@@ -9,6 +9,7 @@ mod nests;
 mod sinks;
 mod streams;
 mod stopped;
+mod walks;
 mod workers;
 
 use std::io;
@@ -17,6 +18,8 @@ use stopped::Stopped;
 fn main(rt: HostRuntime) -> io::Result<()> {
     let alloc = rt.alloc();
     let answers = [
+        ("walks are copied", walks::are_copied(alloc)),
+        ("outer nodes are found", nests::finds_outer_nodes(alloc)),
         ("a path goes through many levels", nests::goes_through_levels(alloc)),
         ("paths and cycles in a tree", branches::finds_paths_and_cycles(alloc)),
         ("a board has a slot for each shot", board::has_a_slot_for_each_shot(alloc)),
