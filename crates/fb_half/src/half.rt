@@ -1,4 +1,5 @@
 ghost use Rattle.std.specs.Prelude.{◌≡◌, []};
+ghost use Rattle.fb_graph.specs.Certificate.{IsPacking};
 ghost use Rattle.fb_graph.specs.Laws.{IsSolved, odd_edges};
 ghost use Rattle.fb_laws.specs.OpenedLinks.{opened_links};
 ghost use Rattle.fb_laws.specs.Works.{positive_cuts};
@@ -10,7 +11,7 @@ use crate::matching::Matching;
 use crate::parts::Parts;
 use crate::spare::Spare;
 use fb_blossoms::Blossoms;
-use fb_laws::part_solved;
+use fb_laws::{half_opened, part_solved};
 use fb_links::{LinkId, Links};
 use fb_plan::{Job, NodeScope};
 use fb_regions::Regions;
@@ -35,14 +36,17 @@ impl<'a> Model for Half<'a> {
 }
 
 impl<'a> Half<'a> {
-    /// Does nothing. Its clauses say what every solved part keeps. The cuts of its nodes that have a value, and the
-    /// edges that lie on an odd number of its links once all blossoms are opened, solve the sub-problem of its node.
+    /// Does nothing. Its clauses say what every solved part keeps. The cuts of its nodes that have a value are odd cuts of
+    /// the sub-problem of its node, within the weights of all edges; with them the edges that lie on an odd number of its
+    /// links once all blossoms are opened solve the sub-problem.
     pub fn keeps(&self)
         ensures part { IsPart self.now }
         ensures matched { self.now.matching.unmatched ≡ [] }
+        ensures packing { IsPacking (problem_in self.now) (positive_cuts self.now.nodes) }
         ensures solved { IsSolved (problem_in self.now) (positive_cuts self.now.nodes) (odd_edges (problem_in self.now) (opened_links (state_of self.now))) }
     {
         let _parts = &self.parts;
+        half_opened();
         part_solved();
     }
 
