@@ -1,11 +1,15 @@
 -- A search whose tree has taken in a node that it has met and this node's mate keeps what every search keeps.
 use Rattle.std.proofs.Common.{ℕ, ◌≡◌, ◌≢◌, ◌<◌, true, false, All, List, [], ◌∷◌, ◌++◌, map, unwrap_or, refl, sym, ap, subst, ◌∙◌}
 use Rattle.std.specs.List.Sorted.{IsPermutation}
+use Rattle.std.specs.Option.{is_some}
 use Rattle.std.proofs.lemmas.List.Sorted.{IsPermutation-append_left, IsPermutation-append_right, IsPermutation-cons, IsPermutation-map, IsPermutation-middle, IsPermutation-sym, IsPermutation-trans}
 use Rattle.fb_graph.specs.Parity.{is_in}
 use Rattle.fb_graph.specs.Dual.{is_live, top_at}
 use Rattle.fb_graph.specs.Laws.{Link}
 use Rattle.fb_graph.specs.Limits.{IsWithinLimits}
+use Rattle.fb_graph.proofs.Floods.{is_in-left, is_in-right}
+use Rattle.fb_graph.proofs.Sets.{is_in-head}
+use Rattle.fb_links.specs.Table as table
 use Rattle.fb_laws.specs.LinkNumbers.{tree_links}
 use Rattle.fb_laws.specs.StateMoves.{MayAttach}
 use Rattle.fb_laws.specs.TreeCycles.{nodes_along}
@@ -89,6 +93,17 @@ module _ (w : SearchValue) (met : Met) (now : SearchValue) (h : HasMet w met now
         (numbers_attached met.link met.taken.link (grown_links w.tree.branches) (paired_links w.tree.branches)
         (match_links w.part.matching.matches) (match_links now.part.matching.matches) (ring_links w.part.nodes w.part.store)
         (IsPermutation-map (λ (m : Match). m.link) _ _ h.matches)) made.links
+
+    pub link_live : table.is_live now.part.links met.link ≡ true
+    link_live = ap is_some h.adds.added
+
+    pub taken_live : table.is_live now.part.links met.taken.link ≡ true
+    taken_live =
+        links.live met.taken.link
+        ∙ is_in-left (tree_links (branch_met met mate ∷ w.tree.branches))
+        (match_links now.part.matching.matches ++ ring_links w.part.nodes w.part.store) met.taken.link
+        (is_in-right (met.link ∷ grown_links w.tree.branches) (met.taken.link ∷ paired_links w.tree.branches) met.taken.link
+        (is_in-head met.taken.link (paired_links w.tree.branches)))
 
     module _ (limits : IsWithinLimits (problem_of w)) (new : Watched) where
       rematched_searching : All (λ j. j < new.edge_count) new.edges → Watches (problem_of w) (top_at w.part.nodes mate) w.watched new

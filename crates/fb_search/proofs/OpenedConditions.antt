@@ -1,7 +1,7 @@
 -- What the calls that open a minus blossom ask for.
-use Rattle.std.proofs.Common.{ℕ, ◌≡◌, ◌%◌, ◌⊎◌, inl, inr, All, true, false, List, [], ◌∷◌, ◌++◌, map, length, sym, ap, ◌∙◌, subst}
+use Rattle.std.proofs.Common.{ℕ, ◌≡◌, ◌%◌, ◌⊎◌, inl, inr, All, true, false, List, [], ◌∷◌, ◌++◌, map, length, Option, sym, ap, ◌∙◌, subst, arith}
 use Rattle.std.specs.List.Sorted.{IsPermutation}
-use Rattle.std.proofs.lemmas.Bool.{both_ways, false_from_ne_true, false≢true}
+use Rattle.std.proofs.lemmas.Bool.{both_ways, false_from_ne_true, false≢true, or_cases}
 use Rattle.std.proofs.lemmas.List.{length-map, map-append}
 use Rattle.std.proofs.lemmas.List.Concat.{flat_map-append}
 use Rattle.fb_graph.specs.Parity.{is_in}
@@ -14,6 +14,7 @@ use Rattle.fb_graph.proofs.Places.{IsPlaced, placed}
 use Rattle.fb_graph.proofs.Sets.{All-from_is_in, is_in-cases, is_in-head, is_in-tail}
 use Rattle.fb_graph.proofs.Unions.{distinct_append}
 use Rattle.fb_links.specs.declared.cycle.CycleStep.{CycleStep}
+use Rattle.fb_links.specs.declared.walk.Step.{Step}
 use Rattle.fb_links.specs.Table as table
 use Rattle.fb_blossoms.specs.Nodes.{cycle_at}
 use Rattle.fb_laws.specs.LinkNumbers.{tree_links}
@@ -24,7 +25,7 @@ use Rattle.fb_laws.proofs.OpenedBlossoms.{distinct_permuted, same_permuted}
 use Rattle.fb_laws.proofs.TreePaths.{distinct_right}
 use Rattle.fb_half.specs.Matchings.{listed_names, match_links, matched_names}
 use Rattle.fb_half.specs.Translations.{children_at, ring_at, ring_links}
-use Rattle.fb_trees.specs.Replacements.{MayOpen, first_node, way_of}
+use Rattle.fb_trees.specs.Replacements.{AreLinkedOn, MayOpen, first_node, way_from, way_of}
 use Rattle.fb_trees.specs.Rooted.{is_node}
 use Rattle.fb_search.specs.InternalOpenings.{couples_on, links_left, rest_on, second_nodes, way_on}
 use Rattle.fb_search.specs.InternalSearching.{IsSearching, SearchValue, problem_of, unmatched_in}
@@ -34,7 +35,7 @@ use Rattle.fb_search.proofs.OpenedNames.{along_way, names-along}
 use Rattle.fb_search.proofs.OpenedSplits.{child_live, child_was_inner, children_many}
 use Rattle.fb_search.proofs.Openings.{Opens, round_in}
 use Rattle.fb_graph.proofs.Floods.{is_in-both, is_in-left, is_in-right}
-use Rattle.fb_graph.proofs.Members.{distinct_left}
+use Rattle.fb_graph.proofs.Members.{distinct_left, is_in-append}
 
 seconds_within : (steps : List CycleStep) (n : ℕ) → is_in (second_nodes steps) n ≡ true → is_in (nodes_of steps) n ≡ true
 seconds_within [] n there = absurd (false≢true there)
@@ -48,6 +49,36 @@ seconds_within (s ∷ t ∷ ss) n there = by (is_in-cases t.node (second_nodes s
         (is_in-tail s.node (nodes_of (t ∷ ss)) t.node (is_in-head t.node (nodes_of ss)))
     by (inr h) later =
         is_in-tail s.node (nodes_of (t ∷ ss)) n (is_in-tail t.node (nodes_of ss) n (later h))
+
+in_front : (t s : ℕ) (grown matched : List ℕ) (id : ℕ) → is_in (grown ++ matched) id ≡ true → is_in ((t ∷ grown) ++ (s ∷ matched)) id ≡ true
+in_front t s grown matched id there = by (or_cases (is_in grown id) (is_in matched id) (sym (is_in-append grown matched id) ∙ there))
+  where
+    by : (is_in grown id ≡ true) ⊎ (is_in matched id ≡ true) → is_in ((t ∷ grown) ++ (s ∷ matched)) id ≡ true
+    by (inl h) = is_in-left (t ∷ grown) (s ∷ matched) id (is_in-tail t grown id h)
+    by (inr h) = is_in-right (t ∷ grown) (s ∷ matched) id (is_in-tail s matched id h)
+
+-- the links that lead over an odd number of steps are those of the branches that the steps make
+linked_on : (links : List (Option (List Step))) (s : CycleStep) (ss : List CycleStep) → length (s ∷ ss) % 2 ≡ 1
+    → ((id : ℕ) → is_in (grown_on (way_from s ss) ++ matched_on (way_from s ss)) id ≡ true → table.is_live links id ≡ true)
+    → AreLinkedOn links (s ∷ ss)
+linked_on links s [] odd live = tt
+linked_on links s (t ∷ []) odd live = absurd (omega (arith, odd))
+linked_on links s (t ∷ u ∷ us) odd live = (
+  live s.link
+      (is_in-right (t.link ∷ grown_on (way_from u us)) (s.link ∷ matched_on (way_from u us)) s.link (is_in-head s.link (matched_on (way_from u us)))),
+  (
+    live t.link
+        (is_in-left (t.link ∷ grown_on (way_from u us)) (s.link ∷ matched_on (way_from u us)) t.link (is_in-head t.link (grown_on (way_from u us)))),
+    linked_on links u us (omega (arith, odd))
+        (λ id there. live id (in_front t.link s.link (grown_on (way_from u us)) (matched_on (way_from u us)) id there)),
+  ),
+)
+
+linked_way : (links : List (Option (List Step))) (steps : List CycleStep) → length steps % 2 ≡ 1
+    → ((id : ℕ) → is_in (grown_on (way_of steps) ++ matched_on (way_of steps)) id ≡ true → table.is_live links id ≡ true)
+    → AreLinkedOn links steps
+linked_way links [] odd live = tt
+linked_way links (s ∷ ss) odd live = linked_on links s ss odd live
 
 module _ (w : SearchValue) (name : ℕ) (e : EntryOf ℕ) (above below : ℕ) (are : IsSearching w)
     (opens : Opens w name e above below) where
@@ -205,20 +236,33 @@ module _ (w : SearchValue) (name : ℕ) (e : EntryOf ℕ) (above below : ℕ) (a
       (distinct_permuted (ring_at w.part.store name) _ ring_parted
       (distinct_left (ring_at w.part.store name) back (distinct_right front (ring_at w.part.store name ++ back) rings_distinct))))
 
-  pub left_live : All (λ id. table.is_live w.part.links id ≡ true) (links_left (round_in w.part name above below) below)
-  left_live =
-      All-from_is_in (λ id. table.is_live w.part.links id ≡ true) (links_left (round_in w.part name above below) below)
-      (λ id there.
+  -- a link round the blossom is one of the search's
+  ring_live : (id : ℕ) → is_in (ring_at w.part.store name) id ≡ true → table.is_live w.part.links id ≡ true
+  ring_live id there =
       are.links.live id
       ∙ is_in-right (tree_links w.tree.branches) (match_links w.part.matching.matches ++ ring_links w.part.nodes w.part.store) id
       (is_in-right (match_links w.part.matching.matches) (ring_links w.part.nodes w.part.store) id
       (ap (λ l. is_in l id) rings_are
-      ∙ is_in-right front (ring_at w.part.store name ++ back) id
-      (is_in-left (ring_at w.part.store name) back id
+      ∙ is_in-right front (ring_at w.part.store name ++ back) id (is_in-left (ring_at w.part.store name) back id there)))
+
+  pub way_linked : AreLinkedOn w.part.links way
+  way_linked =
+      linked_way w.part.links way (way_odd cycle above below many.distinct odd above_on below_on)
+      (λ id there.
+      ring_live id
+      (sym (same_permuted (ring_at w.part.store name) _ ring_parted id)
+      ∙ is_in-left (grown_on (way_of way) ++ matched_on (way_of way))
+      (match_links (couples_on rest) ++ links_left (round_in w.part name above below) below) id there))
+
+  pub left_live : All (λ id. table.is_live w.part.links id ≡ true) (links_left (round_in w.part name above below) below)
+  left_live =
+      All-from_is_in (λ id. table.is_live w.part.links id ≡ true) (links_left (round_in w.part name above below) below)
+      (λ id there.
+      ring_live id
       (sym (same_permuted (ring_at w.part.store name) _ ring_parted id)
       ∙ is_in-right (grown_on (way_of way) ++ matched_on (way_of way))
       (match_links (couples_on rest) ++ links_left (round_in w.part name above below) below) id
-      (is_in-right (match_links (couples_on rest)) (links_left (round_in w.part name above below) below) id there))))))
+      (is_in-right (match_links (couples_on rest)) (links_left (round_in w.part name above below) below) id there)))
 
   pub plus_live : All (λ n. is_live (split_nodes name w.part.nodes) n ≡ true) (second_nodes way)
   plus_live =

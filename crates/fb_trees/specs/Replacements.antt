@@ -1,9 +1,11 @@
 -- Nodes of a tree in the place of others: a blossom in that of its cycle, or some children of a minus blossom in that of
 -- the blossom (Edmonds 1965).
-use Rattle.std.specs.Prelude.{ℕ, ◌≡◌, ◌%◌, true, false, List, [], ◌∷◌, ◌++◌, map, length}
+use Rattle.std.specs.Prelude.{ℕ, ◌≡◌, ◌%◌, true, false, List, [], ◌∷◌, ◌++◌, map, length, Option}
 use Rattle.fb_graph.specs.Parity.{is_in}
 use Rattle.fb_graph.specs.Certificate.{AreDistinct}
 use Rattle.fb_links.specs.declared.cycle.CycleStep.{CycleStep}
+use Rattle.fb_links.specs.declared.walk.Step.{Step}
+use Rattle.fb_links.specs.Table.{is_live}
 use Rattle.fb_laws.specs.Trees.{EntryOf}
 use Rattle.fb_laws.specs.SearchBlossoms.{joined_tree, renamed_name}
 use Rattle.fb_laws.specs.OpenedCycles.{PassOf, opened_tree}
@@ -35,6 +37,12 @@ way_from s (t ∷ u ∷ us) =
 abbrev pub way_of : List CycleStep → List (PassOf ℕ)
 way_of [] = []
 way_of (s ∷ ss) = way_from s ss
+
+-- there is a link from each step to the next one. That of the last step doesn't count
+abbrev pub AreLinkedOn : List (Option (List Step)) → List CycleStep → Type 0
+AreLinkedOn links [] = Unit {0}
+AreLinkedOn links (s ∷ []) = Unit {0}
+AreLinkedOn links (s ∷ t ∷ ts) = (is_live links s.link ≡ true) × AreLinkedOn links (t ∷ ts)
 
 -- the node of the first step
 abbrev pub first_node : List CycleStep → ℕ

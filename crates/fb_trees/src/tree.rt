@@ -4,7 +4,8 @@ ghost use Rattle.fb_graph.specs.Nests.{AreMany};
 ghost use Rattle.fb_laws.specs.Trees.{branches_beside, path_to};
 ghost use Rattle.fb_trees.specs.Branches.{Grown, entries_of, entry_of};
 ghost use Rattle.fb_trees.specs.Rooted.{IsBranchAt, IsMinus, IsPlus, IsRooted, attached_grown, bare, is_node, role_in};
-ghost use Rattle.fb_trees.specs.Replacements.{IsOpened, IsReplaced, MayJoin, MayOpen, MayReplace, joined_grown};
+ghost use Rattle.fb_links.specs.Table.{is_live};
+ghost use Rattle.fb_trees.specs.Replacements.{AreLinkedOn, IsOpened, IsReplaced, MayJoin, MayOpen, MayReplace, joined_grown};
 ghost use Rattle.fb_trees.specs.TreeSteps.{IsCycle, path_up, steps_up};
 ghost use Rattle.fb_trees.specs.InternalPlaces.{branch_at};
 
@@ -87,8 +88,10 @@ impl Tree {
         link: LinkId,
         minus: NodeId,
         matched: CycleStep,
-        _links: &Links,
+        links: &Links,
     ) -> Result<(), NoMemory>
+        requires link { is_live links.now link ≡ true }
+        requires matched_link { is_live links.now matched.link ≡ true }
         requires plus { IsPlus self.old plus }
         requires minus { is_node self.old minus ≡ false }
         requires matched { is_node self.old matched.node ≡ false }
@@ -96,6 +99,7 @@ impl Tree {
         ensures ok { OnOk result (self.new ≡ attached_grown self.old (record { parent = plus; tree = link; minus = minus; matched = matched.link; plus = matched.node })) }
         ensures err { OnErr result (self.new ≡ self.old) }
     {
+        let _ = links;
         let branch = Branch {
             parent: plus,
             tree: link,
@@ -176,14 +180,16 @@ impl Tree {
         a: NodeId,
         b: NodeId,
         closing: LinkId,
-        _links: &Links,
+        links: &Links,
     ) -> Result<Vec<CycleStep>, NoMemory>
+        requires closing { is_live links.now closing ≡ true }
         requires first { IsPlus self.now a }
         requires second { IsPlus self.now b }
         requires apart { a ≢ b }
         ensures cycle { IfOk result (λ cycle. IsCycle self.now a b closing cycle.items) }
         ensures many { IfOk result (λ cycle. AreMany (map (λ s. s.node) cycle.items)) }
     {
+        let _ = links;
         let up = self.branches_to(alloc, a)?;
         let down = self.branches_to(alloc, b)?;
         let shared = shared_count(&up, &down);
@@ -241,12 +247,14 @@ impl Tree {
         alloc: Global,
         gone: &[NodeId],
         path: &[CycleStep],
-        _links: &Links,
+        links: &Links,
     ) -> Result<(), NoMemory>
-        requires { MayReplace self.old gone.now path.now }
+        requires replace { MayReplace self.old gone.now path.now }
+        requires links { AreLinkedOn links.now path.now }
         ensures ok { OnOk result (IsReplaced self.old gone.now path.now self.new) }
         ensures err { OnErr result (self.new ≡ self.old) }
     {
+        let _ = links;
         match (gone, path) {
             ([blossom], _) => self.open(alloc, *blossom, path),
             ([_, _, ..], [blossom]) => self.join(alloc, gone, blossom.node),

@@ -3,8 +3,14 @@ use Rattle.fb_graph.specs.Limits.{IsWithinLimits}
 use Rattle.fb_half.specs.Parts.{problem_in}
 use Rattle.fb_half.specs.Values.{part_of}
 use Rattle.fb_search.proofs.BegunSearches.{kept_limits, kept_watches}
-use Rattle.fb_search.proofs.AttachedSearches.{attached_goes_on, attached_searching, mate_differs, mate_live, mate_outside, other_outside}
+use Rattle.fb_search.proofs.AttachedSearches.{attached_goes_on, attached_searching, link_live, mate_differs, mate_live, mate_outside, other_outside, taken_live}
 use Rattle.fb_search.proofs.attaching.add_couple.Goals as goal
+
+pub attach-requires-clause-link : goal.attach-requires-clause-link
+attach-requires-clause-link c = link_live c.requires.met.0 c.args.met _ c.requires.met.1 c.args.mate c.requires.couple
+
+pub attach-requires-clause-matched_link : goal.attach-requires-clause-matched_link
+attach-requires-clause-matched_link c = taken_live c.requires.met.0 c.args.met _ c.requires.met.1 c.args.mate c.requires.couple
 
 pub attach-requires-clause-minus : goal.attach-requires-clause-minus
 attach-requires-clause-minus c = other_outside c.requires.met.0 c.args.met _ c.requires.met.1 c.args.mate c.requires.couple

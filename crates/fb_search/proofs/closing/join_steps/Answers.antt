@@ -44,8 +44,8 @@ join_nodes-requires c =
     rw c.requires.nodes (steps_join w a b c.args.closing closes c.args.cycle.items is
     c.in_ok-blossom.blossom fresh)
 
-pub replace-requires : goal.replace-requires
-replace-requires c =
+pub replace-requires-clause-replace : goal.replace-requires-clause-replace
+replace-requires-clause-replace c =
     let w : SearchValue = search_of c.args.pieces.now in
     let (a, b, closes, is) = c.requires.cycle in
     let fresh =

@@ -9,14 +9,14 @@ use Rattle.fb_blossoms.specs.Nodes.{is_on}
 use Rattle.fb_plan.specs.declared.scope.NodeScope.{NodeScope}
 use Rattle.fb_half.specs.Matchings.{listed_names, matched_names}
 use Rattle.fb_trees.specs.Branches.{entry_of}
-use Rattle.fb_trees.specs.Replacements.{IsOpened, MayOpen}
+use Rattle.fb_trees.specs.Replacements.{AreLinkedOn, IsOpened, MayOpen}
 use Rattle.fb_search.specs.InternalEndings.{Forgets}
 use Rattle.fb_search.specs.InternalOpenings.{couples_on, even_on, links_left, rest_on, round_on, second_nodes, way_on}
 use Rattle.fb_search.specs.InternalSearching.{SearchValue, search_of}
 use Rattle.fb_search.proofs.Agreed.{cycle_there, outer_in_store}
 use Rattle.fb_search.proofs.BegunSearches.{kept_limits, kept_watches}
 use Rattle.fb_search.proofs.BranchEnds.{enters_above, enters_below, opens_by}
-use Rattle.fb_search.proofs.OpenedConditions.{couples_fresh, left_distinct, left_live, plus_live, way_opens}
+use Rattle.fb_search.proofs.OpenedConditions.{couples_fresh, left_distinct, left_live, plus_live, way_linked, way_opens}
 use Rattle.fb_search.proofs.OpenedSearches.{goes_on_opened, searching_opened}
 use Rattle.fb_search.proofs.Openings.{HasOpened, Opens}
 use Rattle.fb_search.proofs.opening.open_node.Goals as goal
@@ -62,8 +62,8 @@ taken_apart-requires-clause-second c =
     ap (λ l. is_on l c.child_at-below.result) (c.deref.ensures.value ∙ c.open_up-cycle.ensures.cycle)
     ∙ opens.at_below.on_cycle
 
-pub replace-requires : goal.replace-requires
-replace-requires c =
+pub replace-requires-clause-replace : goal.replace-requires-clause-replace
+replace-requires-clause-replace c =
     let w : SearchValue = search_of c.args.pieces.now in
     let e = entry_of c.branch-branch.result in
     let opens : Opens w c.args.node e c.child_at-above.result c.child_at-below.result =
@@ -74,6 +74,19 @@ replace-requires c =
     subst (MayOpen w.tree c.args.node) (sym (c.deref-2.ensures.value ∙ c.in_ok-apart.ensures.way
     ∙ ap (λ l. way_on (parts l) c.child_at-below.result) cycle))
     (way_opens w c.args.node e c.child_at-above.result c.child_at-below.result c.requires.search opens)
+
+pub replace-requires-clause-links : goal.replace-requires-clause-links
+replace-requires-clause-links c =
+    let w : SearchValue = search_of c.args.pieces.now in
+    let e = entry_of c.branch-branch.result in
+    let opens : Opens w c.args.node e c.child_at-above.result c.child_at-below.result =
+    opens_by w c.args.node e c.child_at-above.result c.child_at-below.result c.requires.search c.requires.empty.1
+    c.branch-branch.ensures c.child_at-above.ensures c.child_at-below.ensures in
+    let cycle = c.deref.ensures.value ∙ c.open_up-cycle.ensures.cycle in
+    let parts = λ (cycle : List CycleStep). even_on (round_on cycle c.child_at-above.result) c.child_at-below.result in
+    subst (AreLinkedOn w.part.links) (sym (c.deref-2.ensures.value ∙ c.in_ok-apart.ensures.way
+    ∙ ap (λ l. way_on (parts l) c.child_at-below.result) cycle))
+    (way_linked w c.args.node e c.child_at-above.result c.child_at-below.result c.requires.search opens)
 
 pub add_matches-requires : goal.add_matches-requires
 add_matches-requires c =
